@@ -1,0 +1,12 @@
+pub mod After
+pub mod Code
+pub mod Dual
+pub mod FileAt
+pub mod FileView
+pub mod ItemCount
+pub mod Place
+pub mod PlaceCode
+pub mod Sizes
+pub mod Term
+pub mod View
+pub mod Words
