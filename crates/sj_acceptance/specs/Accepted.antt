@@ -1,0 +1,59 @@
+-- Accepted files.
+use Rattle.std.specs.Prelude.{◌≡◌, ◌≢◌, ℕ, ◌==◌, ◌<◌, ◌≤◌, List, [], ◌∷◌, Some, None, slice_get, length, ◌++◌, All, AllPairs, if◌then◌else◌}
+use Rattle.sj_lang.specs.Place.{Place}
+use Rattle.sj_lang.specs.Dual.{dual_of}
+use Rattle.sj_lang.specs.ItemCount.{item_count}
+use Rattle.sj_lang.specs.FileAt.{FileAt, PartyAt, ConnectAt, DeclAt, named, protocol_named, body_named, party_named}
+use Rattle.sj_acceptance.specs.Environment.{Env}
+use Rattle.sj_acceptance.specs.Follows.{Follows}
+use Rattle.sj_acceptance.specs.Labels.{NamesOnce}
+
+-- at most 256 protocols of at most 1,024 items each, inner ones counted, 16 parties and 64 connections
+pub record IsWithinLimits (file : FileAt) : Type 0 where
+  pub protocols : length file.protocols ≤ 256
+  pub items : All (λ p. item_count p.body ≤ 1024) file.protocols
+  pub parties : length file.parties ≤ 16
+  pub connections : length file.connects ≤ 64
+
+-- the end's place by its name, where it belongs to the party
+abbrev pub place_of_party : FileAt → ℕ → DeclAt → List (ℕ × Place)
+place_of_party file p d =
+    if party_named file.parties d.party == p then (d.name, body_named file.protocols d.protocol) ∷ [] else []
+
+-- the places of the ends that connections give the party
+abbrev pub places_from : FileAt → ℕ → List ConnectAt → List (ℕ × Place)
+places_from file p [] = []
+places_from file p (c ∷ cs) = place_of_party file p c.first ++ place_of_party file p c.second ++ places_from file p cs
+
+-- the party's connected ends, and no variable
+abbrev pub start_env : FileAt → ℕ → Env
+start_env file p = record { places = named (places_from file p file.connects); kinds = λ n. None }
+
+-- the party exists, and the protocol does and has that body
+pub record IsDeclared (file : FileAt) (d : DeclAt) (body : Place) : Type 0 where
+  pub party : party_named file.parties d.party < length file.parties
+  pub protocol : protocol_named file.protocols d.protocol ≡ Some body
+
+-- both ends of the connection exist, with dual protocols
+pub record IsConnection (file : FileAt) (c : ConnectAt) : Type 0 where
+  pub one : Place
+  pub other : Place
+  pub first : IsDeclared file c.first one
+  pub second : IsDeclared file c.second other
+  pub dual : one ≡ dual_of other
+
+-- the party's code leads from its connected ends to no live end
+pub record EndsWell (file : FileAt) (p : ℕ) (q : PartyAt) : Type 0 where
+  pub last : Env
+  pub follows : Follows file.protocols q.code (start_env file p) last
+  pub no_end : (n : ℕ) → last.places n ≡ None
+
+-- what is named once, what exists, and where each party's code leads
+pub record IsAccepted (file : FileAt) : Type 0 where
+  pub within : IsWithinLimits file
+  pub protocols_once : AllPairs (λ p q. p.name ≢ q.name) file.protocols
+  pub labels_once : All (λ p. NamesOnce p.body) file.protocols
+  pub parties_once : AllPairs (λ p q. p.name ≢ q.name) file.parties
+  pub connections : All (IsConnection file) file.connects
+  pub ends_once : (p : ℕ) → AllPairs (λ b c. b.0 ≢ c.0) (places_from file p file.connects)
+  pub bodies : (p : ℕ) (q : PartyAt) → slice_get file.parties p ≡ Some q → EndsWell file p q

@@ -1,0 +1,2 @@
+//! Which files are accepted: definitions alone.
+#![tactic(auto)]
