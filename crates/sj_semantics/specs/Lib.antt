@@ -1,0 +1,13 @@
+pub mod Acts
+pub mod Balanced
+pub mod Ends
+pub mod Program
+pub mod Run
+pub mod Start
+pub mod State
+pub mod Steps
+pub mod Transcript
+pub mod Uses
+pub mod Value
+pub mod Wants
+pub mod World

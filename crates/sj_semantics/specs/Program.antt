@@ -1,0 +1,25 @@
+-- A plain party: what it still has to do, and what it knows.
+use Rattle.std.specs.Prelude.{ℕ, Bool, List, ◌∷◌}
+use Rattle.sj_base.specs.declared.EndId.{EndId}
+use Rattle.sj_lang.specs.Code.{Code, Act, no_step, step_then, at}
+use Rattle.sj_semantics.specs.Value.{Value}
+
+-- a thing to do
+pub data Thing : Type 0 where
+  statement : Act → Thing
+  -- an `outwhile` on this end that still has so many turns
+  turns : ℕ → ℕ → Code → Thing
+  -- a `relay` between these ends that has taken more or stop and not yet passed it on
+  passing : ℕ → ℕ → Bool → Code → Thing
+
+-- what is left to do, the values of variables, the ends bound to names, and the steps done
+pub record Program : Type 0 where
+  pub todo : List Thing
+  pub vars : List (ℕ × Value)
+  pub ends : List (ℕ × EndId)
+  pub steps : ℕ
+
+-- the statements of a block, in order, and then the rest
+abbrev pub block : Code → List Thing → List Thing
+block no_step rest = rest
+block (step_then (at line act) code) rest = statement act ∷ block code rest

@@ -1,0 +1,41 @@
+-- What a step does to the ends that it uses.
+use Rattle.std.specs.Prelude.{ℕ, zero, suc, ◌+◌, List, [], ◌∷◌, ◌++◌, unwrap_or}
+use Rattle.sj_base.specs.declared.EndId.{EndId}
+use Rattle.sj_base.specs.declared.Msg.{Msg}
+use Rattle.sj_lang.specs.declared.proto.Way.{Way}
+use Rattle.sj_lang.specs.declared.proto.Way.TheVariants.{Out, Into}
+use Rattle.sj_lang.specs.Place.{Place}
+use Rattle.sj_lang.specs.After.{after_place}
+use Rattle.sj_semantics.specs.Ends.{EndAt, Session}
+
+-- a message is sent on the end or taken from it, or the end is handed on
+pub data Use : Type 0 where
+  sends : Msg → Use
+  takes : Msg → Use
+  hands_on : Use
+
+-- the place after the message; it stays where there is none
+abbrev pub moved : Place → Way → Msg → Place
+moved place way m = unwrap_or (after_place place way m) place
+
+-- the end after the party's use of it
+abbrev pub used : ℕ → Use → EndAt → EndAt
+used p (sends m) e = record { place = moved e.place Out m; sent = e.sent ++ record { msg = m; by = p } ∷ []; takers = e.takers; hops = e.hops }
+used p (takes m) e = record { place = moved e.place Into m; sent = e.sent; takers = e.takers ++ p ∷ []; hops = e.hops }
+used p hands_on e = record { place = e.place; sent = e.sent; takers = e.takers; hops = e.hops + 1 }
+
+-- the list with what f makes of the element at that place
+abbrev pub altered : {X : Type 0} → List X → ℕ → (X → X) → List X
+altered [] i f = []
+altered (x ∷ xs) zero f = f x ∷ xs
+altered (x ∷ xs) (suc i) f = x ∷ altered xs i f
+
+-- the session with what f makes of the end of that side
+abbrev pub on_side : ℕ → (EndAt → EndAt) → Session → Session
+on_side zero f z = record { first = f z.first; second = z.second }
+on_side (suc n) f z = record { first = z.first; second = f z.second }
+
+-- the sessions after the party's uses of ends, one after another
+abbrev pub after_uses : ℕ → List (EndId × Use) → List Session → List Session
+after_uses p [] zs = zs
+after_uses p (u ∷ us) zs = after_uses p us (altered zs u.0.sess (on_side u.0.side (used p u.1)))

@@ -1,0 +1,92 @@
+-- Values of variables, and what an expression is worth.
+use Rattle.std.specs.Prelude.{ℕ, min, ◌==◌, Bool, true, false, not, ◌&&◌, List, [], ◌∷◌, ◌++◌, ℤ, pos, negsuc, int_lt, int_le, Option, Some, None, option_and_then, filter}
+use Rattle.std.specs.Int.{int_wrapping_add, int_wrapping_sub, int_wrapping_mul, w64}
+use Rattle.sj_base.specs.declared.Msg.{Msg}
+use Rattle.sj_base.specs.declared.Msg.TheVariants as msgs
+use Rattle.sj_lang.specs.declared.party.Op.{Op}
+use Rattle.sj_lang.specs.declared.party.Op.TheVariants.{Add, Sub, Mul, Less, LessEq, Equal}
+use Rattle.sj_lang.specs.declared.party.Scalar.{Scalar}
+use Rattle.sj_lang.specs.declared.party.Scalar.TheVariants as kinds
+use Rattle.sj_lang.specs.FileAt.{named}
+use Rattle.sj_lang.specs.Term.{Term}
+use Rattle.sj_lang.specs.Term as terms
+
+-- what a variable holds
+pub data Value : Type 0 where
+  int : ℤ → Value
+  boolean : Bool → Value
+  text : ℕ → Value
+
+-- the message that carries the value
+abbrev pub message_of : Value → Msg
+message_of (int n) = msgs.Int n
+message_of (boolean b) = msgs.Bool b
+message_of (text n) = msgs.Text n
+
+-- the value that a message carries
+abbrev pub value_of : Msg → Option Value
+value_of (msgs.Int n) = Some (int n)
+value_of (msgs.Bool b) = Some (boolean b)
+value_of (msgs.Text n) = Some (text n)
+value_of _ = None
+
+-- the message carries a value of that kind
+abbrev pub is_of_kind : Scalar → Msg → Bool
+is_of_kind kinds.Int (msgs.Int n) = true
+is_of_kind kinds.Boolean (msgs.Bool b) = true
+is_of_kind kinds.Text (msgs.Text n) = true
+is_of_kind _ _ = false
+
+-- the list without that name
+abbrev pub without : {X : Type 0} → List (ℕ × X) → ℕ → List (ℕ × X)
+without bs n = filter (λ b. not (b.0 == n)) bs
+
+-- the list in which the name stands for x
+abbrev pub bound : {X : Type 0} → List (ℕ × X) → ℕ → X → List (ℕ × X)
+bound bs n x = without bs n ++ (n, x) ∷ []
+
+-- the two numbers are one
+abbrev pub is_same_int : ℤ → ℤ → Bool
+is_same_int a b = int_le a b && int_le b a
+
+-- the two truth values are one
+abbrev pub is_same_bool : Bool → Bool → Bool
+is_same_bool true b = b
+is_same_bool false b = not b
+
+-- the result of an operator, where its operands are of its kinds: sums, differences and products wrap at 64 bits
+abbrev pub result_of : Op → Value → Value → Option Value
+result_of Add (int a) (int b) = Some (int (int_wrapping_add w64 a b))
+result_of Sub (int a) (int b) = Some (int (int_wrapping_sub w64 a b))
+result_of Mul (int a) (int b) = Some (int (int_wrapping_mul w64 a b))
+result_of Less (int a) (int b) = Some (boolean (int_lt a b))
+result_of LessEq (int a) (int b) = Some (boolean (int_le a b))
+result_of Equal (int a) (int b) = Some (boolean (is_same_int a b))
+result_of Equal (boolean a) (boolean b) = Some (boolean (is_same_bool a b))
+result_of Equal (text a) (text b) = Some (boolean (a == b))
+result_of _ _ _ = None
+
+-- the other truth value
+abbrev pub negation_of : Value → Option Value
+negation_of (boolean b) = Some (boolean (not b))
+negation_of _ = None
+
+-- what an expression is worth, where each variable is known and each operand is of its kind
+abbrev pub worth : List (ℕ × Value) → Term → Option Value
+worth vars (terms.int n) = Some (int n)
+worth vars (terms.boolean b) = Some (boolean b)
+worth vars (terms.text n) = Some (text n)
+worth vars (terms.var n) = named vars n
+worth vars (terms.not e) = option_and_then negation_of (worth vars e)
+worth vars (terms.two op e f) = option_and_then (λ a. option_and_then (result_of op a) (worth vars f)) (worth vars e)
+
+-- how often a loop with that count turns: 0 to 1,000 times
+abbrev pub turns_of : Value → Option ℕ
+turns_of (int (pos n)) = Some (min n 1000)
+turns_of (int (negsuc n)) = Some 0
+turns_of _ = None
+
+-- whether a condition of that value holds
+abbrev pub truth_of : Value → Option Bool
+truth_of (boolean b) = Some b
+truth_of _ = None

@@ -1,0 +1,59 @@
+-- The plain world, and the act of a party.
+use Rattle.std.specs.Prelude.{ℕ, nat_lt, List, [], ◌∷◌, slice_get, Option, Some, None, option_map, option_and_then, if◌then◌else◌}
+use Rattle.sj_base.specs.declared.EndId.{EndId}
+use Rattle.sj_base.specs.declared.Msg.{Msg}
+use Rattle.sj_base.specs.declared.Msg.TheVariants as msgs
+use Rattle.sj_semantics.specs.declared.Want.{Want}
+use Rattle.sj_semantics.specs.declared.Want.TheVariants as wants
+use Rattle.sj_semantics.specs.declared.Passed.{Passed}
+use Rattle.sj_semantics.specs.Program.{Program}
+use Rattle.sj_semantics.specs.Wants.{want_of}
+use Rattle.sj_semantics.specs.Steps.{local_of, sent_of, took_of, closed_of}
+use Rattle.sj_semantics.specs.Ends.{Session, end_at, next_for}
+use Rattle.sj_semantics.specs.Uses.{Use, sends, takes, hands_on, altered, after_uses}
+
+-- the parties by their numbers, and the sessions by theirs
+pub record World : Type 0 where
+  pub parties : List Program
+  pub sessions : List Session
+
+-- what an act changes: the party's program, and the ends that it uses
+pub record Change : Type 0 where
+  pub program : Program
+  pub uses : List (EndId × Use)
+
+-- the message that hands the end on
+abbrev pub session_message : EndId → ℕ → Msg
+session_message e keeper = msgs.Sess e.sess e.side keeper
+
+-- the change that taking the message makes
+abbrev pub change_by_taking : Program → EndId → Passed → Change
+change_by_taking g e x = record { program = took_of g x.msg; uses = (e, takes x.msg) ∷ [] }
+
+-- the change that the step makes, where the party can do it now
+abbrev pub change_by : List Session → ℕ → Program → Want → Option Change
+change_by zs p g wants.Ended = None
+change_by zs p g wants.Local = Some (record { program = local_of g; uses = [] })
+change_by zs p g (wants.Send e m) = Some (record { program = sent_of g; uses = (e, sends m) ∷ [] })
+change_by zs p g (wants.Delegate e y) =
+    if nat_lt (end_at zs y).hops 100
+    then Some (record { program = sent_of g; uses = (y, hands_on) ∷ (e, sends (session_message y p)) ∷ [] })
+    else None
+change_by zs p g (wants.Take e a) = option_map (change_by_taking g e) (next_for zs e)
+change_by zs p g (wants.Close e) = Some (record { program = closed_of g; uses = [] })
+
+-- the change that the program's next step makes, with 10,000 steps at most
+abbrev pub change_of_program : List Session → ℕ → Program → Option Change
+change_of_program zs p g = if nat_lt g.steps 10000 then option_and_then (change_by zs p g) (want_of g) else None
+
+-- the change that the party's next step makes
+abbrev pub change_of : World → ℕ → Option Change
+change_of w p = option_and_then (change_of_program w.sessions p) (slice_get w.parties p)
+
+-- the world in which the party has made that change
+abbrev pub changed : World → ℕ → Change → World
+changed w p c = record { parties = altered w.parties p (λ g. c.program); sessions = after_uses p c.uses w.sessions }
+
+-- the world after the next step of the party, where it is ready
+abbrev pub act_of : World → ℕ → Option World
+act_of w p = option_map (changed w p) (change_of w p)
