@@ -1,0 +1,5 @@
+pub mod AgencySamples
+pub mod Bound
+pub mod HandoverSamples
+pub mod Samples
+pub mod Unshared

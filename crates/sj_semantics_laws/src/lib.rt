@@ -1,0 +1,18 @@
+//! Laws of the plain world: the order in which parties act doesn't matter, and an end has one holder.
+#![tactic(auto)]
+
+mod laws;
+mod samples;
+
+pub use laws::{
+    a_closed_end_is_bound_nowhere, a_party_stays_ready, acts_commute, acts_keep_ends_unshared,
+    acts_use_bound_ends, an_end_has_one_holder, an_end_on_its_way_is_bound_nowhere,
+    claims_never_grow, each_run_goes_on_to_the_end, ends_are_unshared_at_the_start,
+    lists_are_those_of_the_acts, nobody_takes_more_than_was_sent, ready_parties_can_act,
+    settled_runs_meet, steps_name_bound_ends, taken_is_a_front_of_sent, the_end_is_settled,
+    what_acts_is_ready,
+};
+pub use samples::{
+    agencies_end_so, handovers_end_so, loop_counts_are_clamped, numbers_wrap,
+    opposite_orders_block, short_sessions_end_so,
+};

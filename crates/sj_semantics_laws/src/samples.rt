@@ -1,0 +1,63 @@
+//! Definitions tried on files whose transcripts are known; each clause computes.
+//!
+//! - `short_sessions_end_so`, `handovers_end_so`, `agencies_end_so`: whole transcripts.
+//! - `opposite_orders_block`: two sessions that are taken in opposite order.
+//! - `numbers_wrap`, `loop_counts_are_clamped`: expressions and counts.
+
+ghost use Rattle.std.specs.Prelude.{◌≡◌, [], Some, negsuc, pos};
+ghost use Rattle.sj_lang.specs.Term as terms;
+ghost use Rattle.sj_lang.specs.declared.party.Op.TheVariants.{Add, Mul, Sub};
+ghost use Rattle.sj_semantics.specs.Run.{end_of};
+ghost use Rattle.sj_semantics.specs.State.{verdict_of};
+ghost use Rattle.sj_semantics.specs.Transcript.{transcript_of};
+ghost use Rattle.sj_semantics.specs.Value.{int, turns_of, worth};
+ghost use Rattle.sj_semantics.specs.declared.Verdict.TheVariants.{Blocked};
+ghost use Rattle.sj_semantics_laws.specs.AgencySamples.{agency, agency_text, refused_text};
+ghost use Rattle.sj_semantics_laws.specs.HandoverSamples.{both_moved, both_moved_text, handed_over, handed_over_text, returning, returning_text, to_its_peer, to_its_peer_text, to_itself, to_itself_text};
+ghost use Rattle.sj_semantics_laws.specs.Samples.{crossed, crossed_text, greeting, greeting_text, silent, silent_text, turning, turnless_text, wrapping, wrapping_text};
+
+/// A number, a number that wraps, nothing, two sessions that block, and a loop that sends `stop` alone.
+pub fn short_sessions_end_so()
+    ensures greeting { transcript_of greeting (end_of greeting) ≡ greeting_text }
+    ensures wrapping { transcript_of wrapping (end_of wrapping) ≡ wrapping_text }
+    ensures silent { transcript_of silent (end_of silent) ≡ silent_text }
+    ensures crossed { transcript_of crossed (end_of crossed) ≡ crossed_text }
+    ensures turnless { transcript_of (turning 0) (end_of (turning 0)) ≡ turnless_text }
+{}
+
+/// Ends that go on, come back, move at once, and go to the other end's holder or to their own.
+pub fn handovers_end_so()
+    ensures handed_over { transcript_of handed_over (end_of handed_over) ≡ handed_over_text }
+    ensures returning { transcript_of returning (end_of returning) ≡ returning_text }
+    ensures both_moved { transcript_of both_moved (end_of both_moved) ≡ both_moved_text }
+    ensures to_its_peer { transcript_of to_its_peer (end_of to_its_peer) ≡ to_its_peer_text }
+    ensures to_itself { transcript_of to_itself (end_of to_itself) ≡ to_itself_text }
+{}
+
+/// The agency delegates to the supplier where the customer takes at most 400, and not at most 200.
+pub fn agencies_end_so()
+    ensures agency { transcript_of (agency 400) (end_of (agency 400)) ≡ agency_text }
+    ensures refused { transcript_of (agency 200) (end_of (agency 200)) ≡ refused_text }
+{}
+
+/// Two parties that take two sessions in opposite order wait for each other.
+pub fn opposite_orders_block()
+    ensures { verdict_of (end_of crossed) ≡ Blocked }
+{}
+
+/// A sum, a product and a difference beyond 64 bits wrap.
+pub fn numbers_wrap()
+    ensures sum { worth [] (terms.two Add (terms.int (pos 9223372036854775807)) (terms.int (pos 1)))
+        ≡ Some (int (negsuc 9223372036854775807)) }
+    ensures product { worth [] (terms.two Mul (terms.int (negsuc 9223372036854775807)) (terms.int (negsuc 0)))
+        ≡ Some (int (negsuc 9223372036854775807)) }
+    ensures difference { worth [] (terms.two Sub (terms.int (negsuc 9223372036854775807)) (terms.int (pos 1)))
+        ≡ Some (int (pos 9223372036854775807)) }
+{}
+
+/// Counts are clamped to 0 to 1,000.
+pub fn loop_counts_are_clamped()
+    ensures largest { turns_of (int (pos 1000)) ≡ Some 1000 }
+    ensures above { turns_of (int (pos 1001)) ≡ Some 1000 }
+    ensures below { turns_of (int (negsuc 0)) ≡ Some 0 }
+{}
