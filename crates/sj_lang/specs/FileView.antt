@@ -1,5 +1,5 @@
 -- A file as contracts see it, apart from how it lies in memory.
-use Rattle.std.specs.Prelude.{List, map}
+use Rattle.std.specs.Prelude.{map}
 use Rattle.sj_lang.specs.declared.file.ProtocolDef.{ProtocolDef}
 use Rattle.sj_lang.specs.declared.file.Party.{Party}
 use Rattle.sj_lang.specs.declared.file.EndDecl.{EndDecl}
