@@ -1,6 +1,15 @@
 pub mod Accepted
+pub mod Arms
 pub mod Environment
+pub mod Faults
+pub mod FileTests
+pub mod FirstItem
 pub mod Follows
+pub mod KindTests
 pub mod Kinds
+pub mod Known
+pub mod LabelTests
 pub mod Labels
+pub mod Sameness
 pub mod Statements
+pub mod Tests
