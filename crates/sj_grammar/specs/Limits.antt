@@ -1,0 +1,21 @@
+-- How much a file may have.
+use Rattle.std.specs.Prelude.{ℕ}
+
+pub record Limits : Type 0 where
+  pub protocols : ℕ
+  pub parties : ℕ
+  pub connects : ℕ
+  -- in a protocol, inner ones counted
+  pub items : ℕ
+  -- of a protocol, of blocks and of an expression, each on its own
+  pub nesting : ℕ
+  -- in a choice
+  pub labels : ℕ
+  -- numbers, texts, names, `true` and `false` in an expression
+  pub operands : ℕ
+  -- bytes
+  pub name : ℕ
+  pub text : ℕ
+
+abbrev pub limits : Limits
+limits = record { protocols = 256; parties = 16; connects = 64; items = 1024; nesting = 32; labels = 16; operands = 256; name = 64; text = 255 }

@@ -1,0 +1,46 @@
+//! Tokens and faults, as readers answer them.
+
+/// What a token is.
+#[derive(Clone, Copy, Debug, PartialEq, Eq)]
+pub enum What {
+    Word,
+    /// At most 2^63.
+    Number(u64),
+    Text,
+    Symbol,
+    /// Nothing but blanks and comments is left.
+    End,
+}
+
+/// Why a text is outside the grammar.
+#[derive(Clone, Copy, Debug, PartialEq, Eq)]
+pub enum Rule {
+    /// No text of the grammar goes on with this token, or ends here.
+    P1,
+    /// A byte that may not stand there.
+    P2,
+    /// A number with a leading zero, or out of its range.
+    P3,
+    /// A token that passes a limit.
+    P4,
+    /// A text literal without its closing quote on its line.
+    P5,
+}
+
+/// The first fault of a text. Lines and columns count from 1; a column is a byte.
+#[derive(Clone, Copy, Debug, PartialEq, Eq)]
+pub struct Fault {
+    pub rule: Rule,
+    pub line: u32,
+    pub column: u32,
+}
+
+/// A token, the places of its bytes from `from` up to `to`, and where it begins.
+#[derive(Clone, Copy, Debug, PartialEq, Eq)]
+pub struct Token {
+    pub what: What,
+    pub from: usize,
+    pub to: usize,
+    pub line: u32,
+    pub column: u32,
+}
