@@ -56,15 +56,6 @@ expression_may_be_none (compare o) = true
 expression_may_be_none after_minus = false
 expression_may_be_none (fixed p) = false
 
-abbrev pub awaits_largest : ExpressionDue → Bool
-awaits_largest whole = false
-awaits_largest (factor o) = false
-awaits_largest (times o) = false
-awaits_largest (plus o) = false
-awaits_largest (compare o) = false
-awaits_largest after_minus = true
-awaits_largest (fixed p) = false
-
 -- operands are counted in the whole expression
 abbrev pub expression_counted : ℕ → ExpressionDue → List ℕ → ℕ
 expression_counted n whole s = if is_operand s then 1 else 0
@@ -95,4 +86,4 @@ expression_passes L n after_minus s = nat_le L.operands n
 expression_passes L n (fixed p) s = false
 
 abbrev pub expression_layer : Layer ExpressionDue
-expression_layer = record { follow = expression_follow; may_be_none = expression_may_be_none; takes_largest = awaits_largest; counted = expression_counted; passes = expression_passes }
+expression_layer = record { follow = expression_follow; may_be_none = expression_may_be_none; counted = expression_counted; passes = expression_passes }

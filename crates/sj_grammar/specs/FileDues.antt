@@ -5,7 +5,7 @@ use Rattle.sj_grammar.specs.Limits.{Limits}
 use Rattle.sj_grammar.specs.Names.{is_name}
 use Rattle.sj_grammar.specs.Layers.{Layer}
 use Rattle.sj_grammar.specs.ProtocolDues.{ProtocolDue, body, protocol_follow, protocol_may_be_none, protocol_counted, protocol_passes}
-use Rattle.sj_grammar.specs.ExpressionDues.{ExpressionDue, whole, expression_follow, expression_may_be_none, awaits_largest, expression_counted, expression_passes}
+use Rattle.sj_grammar.specs.ExpressionDues.{ExpressionDue, whole, expression_follow, expression_may_be_none, expression_counted, expression_passes}
 
 pub data Due : Type 0 where
   -- more protocols, parties, connections, with so many before them; there may be none
@@ -77,10 +77,6 @@ file_may_be_none (fixed p) = false
 file_may_be_none (proto d) = protocol_may_be_none d
 file_may_be_none (expr d) = expression_may_be_none d
 
-abbrev pub file_takes_largest : Due → Bool
-file_takes_largest (expr d) = awaits_largest d
-file_takes_largest _ = false
-
 abbrev pub file_counted : ℕ → Due → List ℕ → ℕ
 file_counted n (proto d) s = protocol_counted n d s
 file_counted n (expr d) s = expression_counted n d s
@@ -101,7 +97,7 @@ file_passes L n (proto d) s = protocol_passes L n d s
 file_passes L n (expr d) s = expression_passes L n d s
 
 abbrev pub file_layer : Layer Due
-file_layer = record { follow = file_follow; may_be_none = file_may_be_none; takes_largest = file_takes_largest; counted = file_counted; passes = file_passes }
+file_layer = record { follow = file_follow; may_be_none = file_may_be_none; counted = file_counted; passes = file_passes }
 
 -- what is due at the beginning of a file
 abbrev pub file_due : List Due

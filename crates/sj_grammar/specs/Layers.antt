@@ -1,5 +1,5 @@
--- What is due at a token, as a list: the first of it comes first. Tokens take it away, and put other dues in its place.
-use Rattle.std.specs.Prelude.{ℕ, Bool, true, false, not, ◌&&◌, List, [], ◌∷◌, ◌++◌, Option, Some, None, if◌then◌else◌}
+-- What is due at a token, as a list: the first of it comes first. A token takes a due away, and puts others in its place.
+use Rattle.std.specs.Prelude.{ℕ, Bool, true, ◌&&◌, List, [], ◌∷◌, ◌++◌, Option, Some, None, if◌then◌else◌}
 use Rattle.sj_grammar.specs.declared.tokens.Rule.{Rule}
 use Rattle.sj_grammar.specs.declared.tokens.Rule.TheVariants.{P1, P3, P4}
 use Rattle.sj_grammar.specs.Limits.{Limits}
@@ -12,11 +12,9 @@ pub record Layer (D : Type 0) : Type 0 where
   pub follow : D → List ℕ → Option (List D)
   -- nothing may stand in its place
   pub may_be_none : D → Bool
-  -- 2^63 may stand there
-  pub takes_largest : D → Bool
-  -- how many items of the protocol, or operands of the expression, there are behind the token
+  -- how many items of the protocol, or operands of the expression, there are behind a token that the due takes
   pub counted : ℕ → D → List ℕ → ℕ
-  -- the token, which the due takes, is one too many, too deep or too long
+  -- that token is one too many, too deep or too long
   pub passes : Limits → ℕ → D → List ℕ → Bool
 
 -- where a token leads
@@ -25,39 +23,35 @@ pub data Step (D : Type 0) : Type 0 where
   goes : ℕ → List D → Step D
   stops : Rule → Step D
 
-module _ {D : Type 0} (G : Layer D) where
-  -- nothing more need stand there
-  abbrev pub may_end : List D → Bool
-  may_end [] = true
-  may_end (d ∷ ds) = G.may_be_none d && may_end ds
+abbrev pub rule_of : {D : Type 0} → Step D → Option Rule
+rule_of (goes n es) = None
+rule_of (stops rule) = Some rule
 
-  abbrev pub largest_due : List D → Bool
-  largest_due [] = false
-  largest_due (d ∷ ds) = G.takes_largest d
+-- the rule that a token breaks where no due takes it
+abbrev pub misfit : List ℕ → Rule
+misfit s = if is_largest s then P3 else P1
 
--- an answer of a due to a token, or what those behind it answer
+-- where a due doesn't take a token, the others are asked
 abbrev pub instead : {D : Type 0} → Option (List D) → Bool → ℕ → List D → Step D → Step D
-instead None over n ds other = other
-instead (Some es) over n ds other = if over then stops P4 else goes n (es ++ ds)
+instead None over n ds others = others
+instead (Some es) over n ds others = if over then stops P4 else goes n (es ++ ds)
 
 abbrev pub onward : {D : Type 0} → Step D → (ℕ → List D → Step D) → Step D
 onward (goes n es) f = f n es
 onward (stops rule) f = stops rule
 
-abbrev pub rule_of : {D : Type 0} → Step D → Option Rule
-rule_of (goes n es) = None
-rule_of (stops rule) = Some rule
-
 module _ {D : Type 0} (G : Layer D) (L : Limits) where
-  -- the first due that takes the token; those before it must be such that may be none
-  abbrev pub taken : ℕ → List D → List ℕ → Step D
-  taken n [] s = stops P1
-  taken n (d ∷ ds) s = instead (G.follow d s) (G.passes L n d s) (G.counted n d s) ds (if G.may_be_none d then taken n ds s else stops P1)
-
+  -- the first due that takes the token; in place of those before it nothing may stand
   abbrev pub step : ℕ → List D → List ℕ → Step D
-  step n ds s = if is_largest s && not (largest_due G ds) then stops P3 else taken n ds s
+  step n [] s = stops (misfit s)
+  step n (d ∷ ds) s = instead (G.follow d s) (G.passes L n d s) (G.counted n d s) ds (if G.may_be_none d then step n ds s else stops (misfit s))
 
   -- tokens one after another
   abbrev pub run : ℕ → List D → Pieces → Step D
   run n ds [] = goes n ds
   run n ds (s ∷ ps) = onward (step n ds s) (λ m es. run m es ps)
+
+-- the text may end there
+abbrev pub may_end : {D : Type 0} → Layer D → List D → Bool
+may_end G [] = true
+may_end G (d ∷ ds) = G.may_be_none d && may_end G ds

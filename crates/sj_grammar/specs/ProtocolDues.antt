@@ -90,4 +90,4 @@ protocol_passes L n (arms o k) s = false
 protocol_passes L n (fixed p) s = false
 
 abbrev pub protocol_layer : Layer ProtocolDue
-protocol_layer = record { follow = protocol_follow; may_be_none = protocol_may_be_none; takes_largest = λ d. false; counted = protocol_counted; passes = protocol_passes }
+protocol_layer = record { follow = protocol_follow; may_be_none = protocol_may_be_none; counted = protocol_counted; passes = protocol_passes }
