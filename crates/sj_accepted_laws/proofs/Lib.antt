@@ -1,0 +1,16 @@
+pub mod KnownLemmas
+pub mod DualPlaceLemmas
+pub mod AgreeLemmas
+pub mod TypedLemmas
+pub mod StepLemmas
+pub mod PairLemmas
+pub mod SoundLemmas
+pub mod AcceptedLemmas
+pub mod LocatedLemmas
+pub mod DepthLemmas
+pub mod DoneLemmas
+pub mod WhereLemmas
+pub mod EndedLemmas
+pub mod PlacedLemmas
+pub mod GreetingLemmas
+pub mod FittingLemmas

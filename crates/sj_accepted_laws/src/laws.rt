@@ -1,0 +1,100 @@
+//! Laws over runs of accepted files; each is the one clause of a function that does nothing.
+//!
+//! - `the_greeting_is_accepted`: there is such a file.
+//! - `sessions_stay_balanced`: the two places and the two lists of untaken messages.
+//! - `no_program_is_stuck`, `steps_fit_the_places`: the next step of a party.
+//! - `the_next_message_fits`, `the_next_message_has_a_place_after_it`, `a_taken_end_is_at_the_body`:
+//!   the next message of an end.
+//! - `done_leaves_nothing_untaken`, `done_takes_all_that_was_sent`: where all is done.
+
+ghost use Rattle.std.specs.Prelude.{◌≡◌, ◌<◌, ℕ, List, [], length, map, Some, slice_get, true};
+ghost use Rattle.sj_acceptance.specs.Accepted.{IsAccepted};
+ghost use Rattle.sj_accepted_laws.specs.Fitting.{FitsPlaces};
+ghost use Rattle.sj_base.specs.declared.EndId.{EndId};
+ghost use Rattle.sj_base.specs.declared.Msg.TheVariants.{Sess};
+ghost use Rattle.sj_lang.specs.After.{after_place};
+ghost use Rattle.sj_lang.specs.FileAt.{FileAt, protocol_named};
+ghost use Rattle.sj_lang.specs.Place.{Place};
+ghost use Rattle.sj_lang.specs.declared.proto.Way.TheVariants.{Into};
+ghost use Rattle.sj_semantics.specs.Acts.{acts_from, sent_on, taken_on};
+ghost use Rattle.sj_semantics.specs.Balanced.{FitsNext, IsBalanced};
+ghost use Rattle.sj_semantics.specs.Ends.{end_at, next_for, other_end, untaken_for};
+ghost use Rattle.sj_semantics.specs.Program.{Program};
+ghost use Rattle.sj_semantics.specs.Run.{IsRun};
+ghost use Rattle.sj_semantics.specs.Start.{start_of};
+ghost use Rattle.sj_semantics.specs.State.{verdict_of};
+ghost use Rattle.sj_semantics.specs.Wants.{fits, want_of};
+ghost use Rattle.sj_semantics.specs.World.{World};
+ghost use Rattle.sj_semantics.specs.declared.Awaits.{Awaits};
+ghost use Rattle.sj_semantics.specs.declared.Awaits.TheVariants.{Session};
+ghost use Rattle.sj_semantics.specs.declared.Passed.{Passed};
+ghost use Rattle.sj_semantics.specs.declared.Verdict.TheVariants.{Done};
+ghost use Rattle.sj_semantics.specs.declared.Want.TheVariants.{Take};
+ghost use Rattle.sj_semantics.specs.declared.Want.{Want};
+ghost use Rattle.sj_semantics_laws.specs.Samples.{greeting};
+
+/// The file in which one number is sent is accepted.
+pub fn the_greeting_is_accepted()
+    ensures { IsAccepted greeting }
+{}
+
+/// In every run each session is balanced.
+pub fn sessions_stay_balanced()
+    ensures { (file : FileAt) (ps : List ℕ) (w : World) → IsAccepted file → IsRun file ps w →
+        (s : ℕ) → IsBalanced w.sessions s }
+{}
+
+/// Each program has a next step.
+pub fn no_program_is_stuck()
+    ensures { (file : FileAt) (ps : List ℕ) (w : World) (p : ℕ) (g : Program) → IsAccepted file →
+        IsRun file ps w → slice_get w.parties p ≡ Some g →
+        (want : Want) × (want_of g ≡ Some want) }
+{}
+
+/// A place follows what the step sends, an end that it hands on is at the carried place, and an
+/// end that it closes is at its end.
+pub fn steps_fit_the_places()
+    ensures { (file : FileAt) (ps : List ℕ) (w : World) (p : ℕ) (g : Program) (want : Want) →
+        IsAccepted file → IsRun file ps w → slice_get w.parties p ≡ Some g →
+        want_of g ≡ Some want → FitsPlaces w.sessions want }
+{}
+
+/// The next message is one that the taker's statement can take.
+pub fn the_next_message_fits()
+    ensures { (file : FileAt) (ps : List ℕ) (w : World) (p : ℕ) (g : Program) (e : EndId)
+        (a : Awaits) (x : Passed) → IsAccepted file → IsRun file ps w →
+        slice_get w.parties p ≡ Some g → want_of g ≡ Some (Take e a) →
+        next_for w.sessions e ≡ Some x → fits g x.msg ≡ true }
+{}
+
+/// A place follows the next message of an end, and an end that it names is at the carried place.
+pub fn the_next_message_has_a_place_after_it()
+    ensures { (file : FileAt) (ps : List ℕ) (w : World) (e : EndId) (x : Passed) →
+        IsAccepted file → IsRun file ps w → next_for w.sessions e ≡ Some x →
+        (next : Place) × (after_place (end_at w.sessions e).place Into x.msg ≡ Some next)
+        × FitsNext w.sessions (end_at w.sessions e).place x.msg }
+{}
+
+/// An end that is taken is at the body of the protocol that the statement names.
+pub fn a_taken_end_is_at_the_body()
+    ensures { (file : FileAt) (ps : List ℕ) (w : World) (p q : ℕ) (g : Program) (e : EndId)
+        (x : Passed) (s d k : ℕ) → IsAccepted file → IsRun file ps w →
+        slice_get w.parties p ≡ Some g → want_of g ≡ Some (Take e (Session q)) →
+        next_for w.sessions e ≡ Some x → x.msg ≡ Sess s d k →
+        protocol_named file.protocols q
+        ≡ Some (end_at w.sessions (record { sess = s; side = d })).place }
+{}
+
+/// Where a run ends done, nothing is untaken.
+pub fn done_leaves_nothing_untaken()
+    ensures { (file : FileAt) (ps : List ℕ) (w : World) → IsAccepted file → IsRun file ps w →
+        verdict_of w ≡ Done → (e : EndId) → untaken_for w.sessions e ≡ [] }
+{}
+
+/// And what was taken on an end is all that was sent on the other one, in order.
+pub fn done_takes_all_that_was_sent()
+    ensures { (file : FileAt) (ps : List ℕ) (w : World) (e : EndId) → IsAccepted file →
+        IsRun file ps w → verdict_of w ≡ Done → e.sess < length file.connects →
+        map (λ x. x.msg) (taken_on e (acts_from (start_of file) ps))
+        ≡ map (λ x. x.msg) (sent_on (other_end e) (acts_from (start_of file) ps)) }
+{}
