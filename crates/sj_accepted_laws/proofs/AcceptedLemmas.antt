@@ -20,11 +20,12 @@ use Rattle.sj_semantics.specs.Run.{after_acts, IsRun}
 use Rattle.sj_semantics_laws.proofs.RunLemmas.{between}
 use Rattle.sj_semantics_laws.proofs.StartLemmas.{start_is_unshared}
 use Rattle.sj_accepted_laws.proofs.KnownLemmas.{forgets_none}
-use Rattle.sj_accepted_laws.proofs.AgreeLemmas.{Agrees}
+use Rattle.sj_accepted_laws.proofs.NameLemmas.{Agrees}
 use Rattle.sj_accepted_laws.proofs.TypedLemmas.{FitsProgram, continues_fit, block_continues}
 use Rattle.sj_accepted_laws.proofs.StepLemmas.{fits_step}
-use Rattle.sj_accepted_laws.proofs.PairLemmas.{Ahead, Pair, pair_taking}
-use Rattle.sj_accepted_laws.proofs.SoundLemmas.{side, PairAt, Sound, pair_of, act_keeps_sound, fits_want}
+use Rattle.sj_accepted_laws.proofs.LeadLemmas.{Ahead, Pair, pair_taking}
+use Rattle.sj_accepted_laws.proofs.TouchedLemmas.{side, PairAt, Sound, pair_of}
+use Rattle.sj_accepted_laws.proofs.SoundLemmas.{act_keeps_sound, fits_want}
 
 -- ---- the start
 

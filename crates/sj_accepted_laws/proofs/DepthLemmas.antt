@@ -11,7 +11,7 @@ use Rattle.sj_lang.specs.After.{followed_by, at_label, carries, goes, after_mess
 use Rattle.sj_semantics.specs.declared.Passed.{Passed}
 use Rattle.sj_semantics.specs.Balanced.{Fits, FitsNext, LeadsTaker}
 use Rattle.sj_semantics.specs.Ends.{Session, end_at}
-use Rattle.sj_accepted_laws.proofs.SoundLemmas.{side}
+use Rattle.sj_accepted_laws.proofs.TouchedLemmas.{side}
 
 abbrev mutual
   pub depth_of : Place → ℕ

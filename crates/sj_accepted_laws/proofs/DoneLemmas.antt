@@ -16,8 +16,8 @@ use Rattle.sj_semantics.specs.Ends.{Session, EndAt, end_on, other_end, nowhere, 
 use Rattle.sj_semantics_laws.specs.Unshared.{names_end}
 use Rattle.sj_semantics_laws.proofs.AlteredLemmas.{one-le-sum_by}
 use Rattle.sj_accepted_laws.proofs.DepthLemmas.{depth_of, named_depth}
-use Rattle.sj_accepted_laws.proofs.PairLemmas.{coming, Ahead}
-use Rattle.sj_accepted_laws.proofs.SoundLemmas.{side, Sound, pair_of}
+use Rattle.sj_accepted_laws.proofs.LeadLemmas.{coming, Ahead}
+use Rattle.sj_accepted_laws.proofs.TouchedLemmas.{side, Sound, pair_of}
 
 -- an end that is named by a message on its way to f
 pub record IsComing (zs : List Session) (e f : EndId) : Type 0 where

@@ -22,10 +22,12 @@ use Rattle.sj_semantics.specs.Wants.{want_send, want_delegate, want_take, more_t
 use Rattle.sj_semantics.specs.Ends.{Session, end_at, other_end, next_for}
 use Rattle.sj_semantics.specs.World.{World}
 use Rattle.sj_accepted_laws.specs.Fitting.{FitsPlaces}
-use Rattle.sj_accepted_laws.proofs.AgreeLemmas.{Agrees, bound_at}
+use Rattle.sj_accepted_laws.proofs.NameLemmas.{Agrees}
+use Rattle.sj_accepted_laws.proofs.AgreeLemmas.{bound_at}
 use Rattle.sj_accepted_laws.proofs.TypedLemmas.{DoesTodo, StepFits}
-use Rattle.sj_accepted_laws.proofs.PairLemmas.{pair_taking}
-use Rattle.sj_accepted_laws.proofs.SoundLemmas.{Sound, pair_of, fits_want}
+use Rattle.sj_accepted_laws.proofs.LeadLemmas.{pair_taking}
+use Rattle.sj_accepted_laws.proofs.TouchedLemmas.{Sound, pair_of}
+use Rattle.sj_accepted_laws.proofs.SoundLemmas.{fits_want}
 
 fits_places : (ps : List ProtocolAt) (zs : List Session) (g : Program) (want : Want) → StepFits ps zs g want → FitsPlaces zs want
 fits_places ps zs g (wants.Send e m) s = (s.next, s.after)

@@ -5,7 +5,7 @@ use Rattle.sj_lang.specs.declared.party.Scalar.{Scalar}
 use Rattle.sj_lang.specs.Place.{Place, Choices}
 use Rattle.sj_lang.specs.Code.{Code, Act, Branches, no_step, step_then, at, send, delegate, take_value, take_end, outbranch, inbranch, outwhile, inwhile, relay, if_else, let_be, close, no_branch, branch}
 use Rattle.sj_lang.specs.FileAt.{ProtocolAt}
-use Rattle.sj_acceptance.specs.Environment.{Env, put, with_kind, IsFreeFor, SameEnds}
+use Rattle.sj_acceptance.specs.Environment.{Env, with_kind, IsFreeFor, SameEnds}
 use Rattle.sj_acceptance.specs.Follows.{Follows, Does, EachArm}
 
 -- each variable that the one knows, the other knows at the same kind

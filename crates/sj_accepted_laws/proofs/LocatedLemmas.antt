@@ -17,9 +17,9 @@ use Rattle.sj_semantics.specs.Program.{Thing, statement, turns, passing, Program
 use Rattle.sj_semantics.specs.Wants.{want_send, want_delegate, want_take, more_turns, want_of_act, want_of_todo, want_of, names_arm, fits_todo}
 use Rattle.sj_semantics.specs.Steps.{ends_after_sent, ends_after_took, ends_after_closed}
 use Rattle.sj_semantics.specs.Ends.{Session, end_at}
-use Rattle.sj_accepted_laws.proofs.AgreeLemmas.{Agrees, named-bound_same, named-bound_other}
+use Rattle.sj_accepted_laws.proofs.NameLemmas.{Agrees, named-bound_same, named-bound_other}
 use Rattle.sj_accepted_laws.proofs.TypedLemmas.{DoesTodo}
-use Rattle.sj_accepted_laws.proofs.SoundLemmas.{side}
+use Rattle.sj_accepted_laws.proofs.TouchedLemmas.{side}
 
 -- what a step does to the names of ends, by what it wants
 abbrev pub EndsGo : List (ℕ × EndId) → List Thing → Want → Type 0

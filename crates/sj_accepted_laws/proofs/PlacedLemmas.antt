@@ -13,9 +13,12 @@ use Rattle.sj_semantics.specs.World.{World, act_of}
 use Rattle.sj_semantics.specs.Ends.{Session, untaken_for, is_same_side, is_end}
 use Rattle.sj_semantics.specs.Start.{session_of, program_of, programs_from, start_of}
 use Rattle.sj_semantics_laws.proofs.RunLemmas.{between}
-use Rattle.sj_accepted_laws.proofs.SoundLemmas.{side, Sound, exists_at, act_keeps_sound}
+use Rattle.sj_accepted_laws.proofs.TouchedLemmas.{side, Sound, exists_at}
+use Rattle.sj_accepted_laws.proofs.SoundLemmas.{act_keeps_sound}
 use Rattle.sj_accepted_laws.proofs.AcceptedLemmas.{places_shown, all_shown, start_is_sound, run_is_sound}
-use Rattle.sj_accepted_laws.proofs.EndedLemmas.{Is_at, held, AllLocated, act_keeps_located, done_is_taken}
+use Rattle.sj_accepted_laws.proofs.GoesLemmas.{Is_at, held, AllLocated}
+use Rattle.sj_accepted_laws.proofs.GoingLemmas.{act_keeps_located}
+use Rattle.sj_accepted_laws.proofs.EndedLemmas.{done_is_taken}
 
 -- the list has the end under the name
 abbrev Has : List (ℕ × EndId) → ℕ → EndId → Type 0

@@ -1,5 +1,5 @@
 -- A program that fits an environment has a next step, and fits one again after it.
-use Rattle.std.proofs.Common.{◌≡◌, ◌≢◌, ℕ, Bool, true, cond, List, [], ◌∷◌, Some, None, refl, sym, subst}
+use Rattle.std.proofs.Common.{◌≡◌, ◌≢◌, ℕ, Bool, true, cond, List, [], ◌∷◌, Some, None, sym, subst}
 use Rattle.std.specs.Bool.{⊤}
 use Rattle.sj_base.specs.declared.EndId.{EndId}
 use Rattle.sj_base.specs.declared.Msg.{Msg}
@@ -21,7 +21,8 @@ use Rattle.sj_acceptance.specs.Follows.{Follows, Does}
 use Rattle.sj_semantics.specs.Balanced.{FitsNext}
 use Rattle.sj_semantics.specs.Ends.{Session, end_at}
 use Rattle.sj_accepted_laws.proofs.KnownLemmas.{Forgets, forgets_none}
-use Rattle.sj_accepted_laws.proofs.AgreeLemmas.{Agrees, MovesTo, agrees_forgetting}
+use Rattle.sj_accepted_laws.proofs.NameLemmas.{Agrees}
+use Rattle.sj_accepted_laws.proofs.AgreeLemmas.{MovesTo, agrees_forgetting}
 
 -- ---- what is left to do leads to no live end
 

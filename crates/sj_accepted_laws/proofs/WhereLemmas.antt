@@ -1,83 +1,17 @@
--- Each open end stays bound somewhere, or on its way.
-use Rattle.std.proofs.Common.{◌≡◌, ℕ, zero, suc, ◌+◌, ◌≤◌, ◌==◌, true, List, [], ◌∷◌, ◌++◌, length, drop, slice_get, Option, Some, None, option_map, unwrap_or, refl, ap, sym, ◌∙◌, arith, subst, inl, inr}
-use Rattle.std.specs.Bool.{⊤}
-use Rattle.std.proofs.lemmas.Bool.{cases_eq, cases_Bool, and_parts, and_from, eq-eqb}
+-- What is on its way after a use.
+use Rattle.std.proofs.Common.{◌≡◌, ℕ, zero, suc, ◌+◌, ◌≤◌, ◌==◌, true, List, [], ◌∷◌, ◌++◌, length, drop, slice_get, Some, refl, ap, sym, ◌∙◌, arith, inl, inr}
+use Rattle.std.proofs.lemmas.Bool.{cases_Bool, and_parts, and_from, eq-eqb}
 use Rattle.sj_base.specs.declared.EndId.{EndId}
 use Rattle.sj_base.specs.declared.Msg.{Msg}
-use Rattle.sj_lang.specs.declared.proto.Way.TheVariants.{Out, Into}
-use Rattle.sj_lang.specs.Place.{done}
-use Rattle.sj_lang.specs.After.{after_place}
 use Rattle.sj_semantics.specs.declared.Passed.{Passed}
-use Rattle.sj_semantics.specs.Ends.{Session, EndAt, end_on, other_side, other_end, nowhere, end_at, next_for, is_same_side, is_end}
-use Rattle.sj_semantics.specs.Uses.{Use, sends, takes, hands_on, used, on_side}
+use Rattle.sj_semantics.specs.Ends.{Session, EndAt, other_side, other_end, end_at, next_for, is_same_side, is_end}
+use Rattle.sj_semantics.specs.Uses.{Use, sends, takes}
 use Rattle.sj_semantics_laws.specs.Unshared.{names_end}
-use Rattle.sj_semantics_laws.proofs.AlteredLemmas.{slice_get-altered, slice_get-altered_other}
 use Rattle.sj_semantics_laws.proofs.EndLemmas.{touched, end_at-touched_other, Extends, end_at-after_uses_extends}
 use Rattle.sj_accepted_laws.proofs.DoneLemmas.{IsComing, same_end_at}
-use Rattle.sj_accepted_laws.proofs.PairLemmas.{coming, drop_push, length-push}
-use Rattle.sj_accepted_laws.proofs.SoundLemmas.{touched_here}
-
--- ---- a closed end stays closed
-
-used_done : (p : ℕ) (u : Use) (a : EndAt) → a.place ≡ done → (used p u a).place ≡ done
-used_done p (sends m) a h = ap (λ q. unwrap_or (after_place q Out m) q) h
-used_done p (takes m) a h = ap (λ q. unwrap_or (after_place q Into m) q) h
-used_done p hands_on a h = h
-
-side_done : (p : ℕ) (u : Use) (c d : ℕ) (z : Session) → (end_on d z).place ≡ done → (end_on d (on_side c (used p u) z)).place ≡ done
-side_done p u zero zero z h = used_done p u z.first h
-side_done p u zero (suc d) z h = h
-side_done p u (suc c) zero z h = h
-side_done p u (suc c) (suc d) z h = used_done p u z.second h
-
-option_done : (p : ℕ) (u : Use) (c d : ℕ) (o : Option Session) → (unwrap_or (option_map (end_on d) o) nowhere).place ≡ done → (unwrap_or (option_map (end_on d) (option_map (on_side c (used p u)) o)) nowhere).place ≡ done
-option_done p u c d None h = refl
-option_done p u c d (Some z) h = side_done p u c d z h
-
-pub stays_done : (p : ℕ) (zs : List Session) (k : EndId) (u : Use) (e : EndId) → (end_at zs e).place ≡ done → (end_at (touched p zs (k, u)) e).place ≡ done
-stays_done p zs k u e h =
-    elim (cases_eq k.sess e.sess) [
-      | inl it ↦
-          ap (λ o. (unwrap_or (option_map (end_on e.side) o) nowhere).place)
-          (subst (λ (t : ℕ). slice_get (touched p zs (k, u)) t ≡ option_map (on_side k.side (used p u)) (slice_get zs t)) it (slice_get-altered zs k.sess (on_side k.side (used p u))))
-          ∙ option_done p u k.side e.side (slice_get zs e.sess) h
-      | inr other ↦ ap (λ o. (unwrap_or (option_map (end_on e.side) o) nowhere).place) (slice_get-altered_other zs k.sess e.sess (on_side k.side (used p u)) other) ∙ h
-    ]
-
--- ---- who took stays, but at a take
-
--- a use that takes nothing
-abbrev pub TakesNothing : Use → Type 0
-TakesNothing (sends m) = ⊤
-TakesNothing (takes m) = ⊥
-TakesNothing hands_on = ⊤
-
-used_takers : (p : ℕ) (u : Use) (a : EndAt) → TakesNothing u → (used p u a).takers ≡ a.takers
-used_takers p (sends m) a h = refl
-used_takers p (takes m) a h = absurd h
-used_takers p hands_on a h = refl
-
-side_takers : (p : ℕ) (u : Use) (c d : ℕ) (z : Session) → TakesNothing u → (end_on d (on_side c (used p u) z)).takers ≡ (end_on d z).takers
-side_takers p u zero zero z h = used_takers p u z.first h
-side_takers p u zero (suc d) z h = refl
-side_takers p u (suc c) zero z h = refl
-side_takers p u (suc c) (suc d) z h = used_takers p u z.second h
-
-option_takers : (p : ℕ) (u : Use) (c d : ℕ) (o : Option Session) → TakesNothing u → (unwrap_or (option_map (end_on d) (option_map (on_side c (used p u)) o)) nowhere).takers ≡ (unwrap_or (option_map (end_on d) o) nowhere).takers
-option_takers p u c d None h = refl
-option_takers p u c d (Some z) h = side_takers p u c d z h
-
-takers_stay : (p : ℕ) (zs : List Session) (k : EndId) (u : Use) (e : EndId) → TakesNothing u → (end_at (touched p zs (k, u)) e).takers ≡ (end_at zs e).takers
-takers_stay p zs k u e h =
-    elim (cases_eq k.sess e.sess) [
-      | inl it ↦
-          ap (λ o. (unwrap_or (option_map (end_on e.side) o) nowhere).takers)
-          (subst (λ (t : ℕ). slice_get (touched p zs (k, u)) t ≡ option_map (on_side k.side (used p u)) (slice_get zs t)) it (slice_get-altered zs k.sess (on_side k.side (used p u))))
-          ∙ option_takers p u k.side e.side (slice_get zs e.sess) h
-      | inr other ↦ ap (λ o. (unwrap_or (option_map (end_on e.side) o) nowhere).takers) (slice_get-altered_other zs k.sess e.sess (on_side k.side (used p u)) other)
-    ]
-
--- ---- what is on its way
+use Rattle.sj_accepted_laws.proofs.LeadLemmas.{coming, drop_push, length-push}
+use Rattle.sj_accepted_laws.proofs.TouchedLemmas.{touched_here}
+use Rattle.sj_accepted_laws.proofs.ClosedLemmas.{TakesNothing, takers_stay}
 
 drop_get : (k j n : ℕ) (xs : List Passed) → k + j ≡ n → slice_get (drop k xs) j ≡ slice_get xs n
 drop_get zero j n xs e = ap (slice_get xs) (let i : j ≡ n = omega (arith, e) in i)

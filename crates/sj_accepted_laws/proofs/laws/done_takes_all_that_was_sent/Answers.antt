@@ -1,4 +1,4 @@
-use Rattle.std.proofs.Common.{◌≡◌, ◌∙◌, ◌++◌, append-nil, ap, map, sym}
+use Rattle.std.proofs.Common.{◌∙◌, ◌++◌, append-nil, ap, map, sym}
 use Rattle.sj_semantics.specs.Acts.{acts_from, taken_on}
 use Rattle.sj_semantics.specs.Start.{start_of}
 use Rattle.sj_semantics_laws.proofs.TakenLemmas.{run_untaken}
