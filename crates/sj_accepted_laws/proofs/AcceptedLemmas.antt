@@ -10,6 +10,7 @@ use Rattle.sj_semantics.specs.declared.Awaits.{Awaits}
 use Rattle.sj_semantics.specs.declared.Passed.{Passed}
 use Rattle.sj_lang.specs.FileAt.{FileAt, ProtocolAt, PartyAt, DeclAt, ConnectAt, body_named, party_named, end_of_party, ends_from, named}
 use Rattle.sj_acceptance.specs.Accepted.{place_of_party, places_from, start_env, IsConnection, EndsWell, IsAccepted}
+use Rattle.sj_semantics.specs.Value.{no_vars}
 use Rattle.sj_semantics.specs.Balanced.{IsBalanced}
 use Rattle.sj_semantics.specs.Program.{Program, block}
 use Rattle.sj_semantics.specs.Wants.{fits, want_of}
@@ -90,7 +91,7 @@ all_shown file p n (c ∷ cs) there =
     ∙ ap (λ t. (place_of_party file p c.first ++ place_of_party file p c.second) ++ t)
     (all_shown file p (n + 1) cs (λ i d h. subst (λ (t : ℕ). slice_get file.connects t ≡ Some d) (let e : n + suc i ≡ n + 1 + i = omega arith in e) (there (suc i) d h)))
 
-start_agrees : (file : FileAt) (p : ℕ) → Agrees (start_of file).sessions (ends_from file p 0 file.connects) [] (start_env file p)
+start_agrees : (file : FileAt) (p : ℕ) → Agrees (start_of file).sessions (ends_from file p 0 file.connects) no_vars (start_env file p)
 start_agrees file p = record {
   places = λ n. named-map (start_of file).sessions (ends_from file p 0 file.connects) n
       ∙ ap (λ t. named t n) (all_shown file p 0 file.connects (λ i c h. subst (λ (t : ℕ). slice_get file.connects t ≡ Some c) (let e : i ≡ 0 + i = omega arith in e) h));
@@ -99,7 +100,7 @@ start_agrees file p = record {
 
 start_fits : (file : FileAt) (p : ℕ) (q : PartyAt) → EndsWell file p q → FitsProgram file.protocols (start_of file).sessions (program_of file p q)
 start_fits file p q ends =
-    continues_fit file.protocols (start_of file).sessions (block q.code []) [] (ends_from file p 0 file.connects) (start_env file p) (start_agrees file p)
+    continues_fit file.protocols (start_of file).sessions (block q.code []) no_vars (ends_from file p 0 file.connects) (start_env file p) (start_agrees file p)
     (block_continues file.protocols q.code [] (start_env file p) ends.last ends.follows (record { next = ends.last; forgets = forgets_none ends.last; does = ends.no_end }))
 
 -- a party of the file, and its program

@@ -10,7 +10,7 @@ use Rattle.sj_lang.specs.Code.{Code, Branches, no_step, inbranch}
 use Rattle.sj_semantics.specs.declared.Want.TheVariants as wants
 use Rattle.sj_semantics.specs.declared.Awaits.TheVariants as awaits
 use Rattle.sj_lang.specs.FileAt.{ProtocolAt}
-use Rattle.sj_semantics.specs.Value.{Value}
+use Rattle.sj_semantics.specs.Value.{Vars}
 use Rattle.sj_semantics.specs.Program.{Thing, statement, Program, block}
 use Rattle.sj_semantics.specs.Wants.{want_take}
 use Rattle.sj_acceptance.specs.Environment.{Env, at_place}
@@ -22,7 +22,7 @@ use Rattle.sj_accepted_laws.proofs.AgreeLemmas.{Bound, bound_at, agrees_moved}
 use Rattle.sj_accepted_laws.proofs.TypedLemmas.{Continues, FitsTodo, continues_fit, block_continues, TakeFits, StepOf}
 use Rattle.sj_accepted_laws.proofs.ArmLemmas.{at_label_contained, arm_found, common_forgets, arm_taken_at}
 
-module _ (ps : List ProtocolAt) (zs : List Session) (vars : List (ℕ × Value)) (ends : List (ℕ × EndId)) (steps : ℕ) (rest : List Thing) (env : Env) (a : Agrees zs ends vars env) where
+module _ (ps : List ProtocolAt) (zs : List Session) (vars : Vars) (ends : List (ℕ × EndId)) (steps : ℕ) (rest : List Thing) (env : Env) (a : Agrees zs ends vars env) where
   abbrev pub going : List Thing → Program
   going todo = record { todo = todo; vars = vars; ends = ends; steps = steps }
 

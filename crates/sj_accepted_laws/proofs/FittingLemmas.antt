@@ -16,7 +16,7 @@ use Rattle.sj_semantics.specs.declared.Awaits.{Awaits}
 use Rattle.sj_semantics.specs.declared.Awaits.TheVariants as awaits
 use Rattle.sj_semantics.specs.declared.Passed.{Passed}
 use Rattle.sj_semantics.specs.Balanced.{FitsNext}
-use Rattle.sj_semantics.specs.Value.{Value, message_of, worth, turns_of, truth_of}
+use Rattle.sj_semantics.specs.Value.{Vars, message_of, worth, turns_of, truth_of}
 use Rattle.sj_semantics.specs.Program.{Program, Thing, statement, turns, passing}
 use Rattle.sj_semantics.specs.Wants.{want_send, want_delegate, want_take, more_turns, want_of_act, want_of_todo, want_of}
 use Rattle.sj_semantics.specs.Ends.{Session, end_at, other_end, next_for}
@@ -83,7 +83,7 @@ module _ (f : EndId) (q : ℕ) (ends : List (ℕ × EndId)) where
   take_end_takes x y p rest None h = tt
   take_end_takes x y p rest (Some e) h = λ same. (x, y, rest, ap (λ n. statement (take_end x y n) ∷ rest) same.1, h ∙ ap Some same.0)
 
-  act_takes_end : (vars : List (ℕ × Value)) (act : Act) (rest : List Thing) → TakesEndIf f q ends (statement act ∷ rest) (want_of_act vars ends act)
+  act_takes_end : (vars : Vars) (act : Act) (rest : List Thing) → TakesEndIf f q ends (statement act ∷ rest) (want_of_act vars ends act)
   act_takes_end vars (send x v) rest = send_takes_no_end (statement (send x v) ∷ rest) (named ends x) (option_map message_of (worth vars v))
   act_takes_end vars (delegate x y) rest = delegate_takes_no_end (statement (delegate x y) ∷ rest) (named ends x) (named ends y)
   act_takes_end vars (take_value x n k) rest = take_takes_no_end (statement (take_value x n k) ∷ rest) (named ends x) (awaits.Value k) (λ e. tt)
@@ -97,14 +97,14 @@ module _ (f : EndId) (q : ℕ) (ends : List (ℕ × EndId)) where
   act_takes_end vars (let_be n v) rest = option_takes_no_end (statement (let_be n v) ∷ rest) (λ b. wants.Local) (worth vars v) (λ b. tt)
   act_takes_end vars (close x) rest = option_takes_no_end (statement (close x) ∷ rest) wants.Close (named ends x) (λ e. tt)
 
-  todo_takes_end : (vars : List (ℕ × Value)) (todo : List Thing) → TakesEndIf f q ends todo (want_of_todo vars ends todo)
+  todo_takes_end : (vars : Vars) (todo : List Thing) → TakesEndIf f q ends todo (want_of_todo vars ends todo)
   todo_takes_end vars [] = tt
   todo_takes_end vars (statement act ∷ rest) = act_takes_end vars act rest
   todo_takes_end vars (turns x n body ∷ rest) = send_takes_no_end (turns x n body ∷ rest) (named ends x) (Some (more_turns n))
   todo_takes_end vars (passing x y more body ∷ rest) = send_takes_no_end (passing x y more body ∷ rest) (named ends y) (Some (msgs.More more))
 
 -- the end that the next message names is at the body of the protocol that the statement names
-at_body : (ps : List ProtocolAt) (zs : List Session) (vars : List (ℕ × Value)) (ends : List (ℕ × EndId)) (env : Env) (x y q : ℕ) (rest : List Thing) (e : EndId) (s d k : ℕ) → Agrees zs ends vars env
+at_body : (ps : List ProtocolAt) (zs : List Session) (vars : Vars) (ends : List (ℕ × EndId)) (env : Env) (x y q : ℕ) (rest : List Thing) (e : EndId) (s d k : ℕ) → Agrees zs ends vars env
     → DoesTodo ps (statement (take_end x y q) ∷ rest) env → named ends x ≡ Some e → FitsNext zs (end_at zs e).place (msgs.Sess s d k) → protocol_named ps q ≡ Some (end_at zs (record { sess = s; side = d })).place
 at_body ps zs vars ends env x y q rest e s d k agrees does it fit =
     let t = does.1.0 in

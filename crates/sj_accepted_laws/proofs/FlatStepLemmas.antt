@@ -11,8 +11,8 @@ use Rattle.sj_lang.specs.Term.{Term}
 use Rattle.sj_lang.specs.Code.{Code, outbranch, if_else, let_be, close}
 use Rattle.sj_semantics.specs.declared.Want.TheVariants as wants
 use Rattle.sj_lang.specs.FileAt.{ProtocolAt}
-use Rattle.sj_semantics.specs.Value.{Value, without, bound, worth}
-use Rattle.sj_semantics.specs.Program.{Thing, statement, Program, block}
+use Rattle.sj_semantics.specs.Value.{with_value, Vars, Value, worth}
+use Rattle.sj_semantics.specs.Program.{Thing, statement, Program, block, without}
 use Rattle.sj_semantics.specs.Steps.{assigned}
 use Rattle.sj_semantics.specs.Wants.{want_send}
 use Rattle.sj_acceptance.specs.Statements.{IsSelect, IsClose, IsLet}
@@ -28,7 +28,7 @@ use Rattle.sj_accepted_laws.proofs.TypedLemmas.{Continues, FitsTodo, continues_f
 use Rattle.sj_accepted_laws.proofs.ValueStepLemmas.{truth_in}
 use Rattle.sj_accepted_laws.proofs.ArmLemmas.{common_forgets}
 
-module _ (ps : List ProtocolAt) (zs : List Session) (vars : List (ℕ × Value)) (ends : List (ℕ × EndId)) (steps : ℕ) (rest : List Thing) (env : Env) (a : Agrees zs ends vars env) where
+module _ (ps : List ProtocolAt) (zs : List Session) (vars : Vars) (ends : List (ℕ × EndId)) (steps : ℕ) (rest : List Thing) (env : Env) (a : Agrees zs ends vars env) where
   abbrev pub going : List Thing → Program
   going todo = record { todo = todo; vars = vars; ends = ends; steps = steps }
 
@@ -64,7 +64,7 @@ module _ (ps : List ProtocolAt) (zs : List Session) (vars : List (ℕ × Value))
         want = wants.Local;
         wants_it = ap (option_map (λ v. wants.Local)) w.it_is;
         step_fits = subst (λ (o : Option Value). FitsTodo ps zs rest (assigned vars n o) ends) (sym w.it_is)
-            (continues_fit ps zs rest (bound vars n w.value) ends (with_kind env n s.kind) (agrees_assigned zs ends vars env n w.value s.kind a w.kind) (subst (Continues ps rest) s.leaves c));
+            (continues_fit ps zs rest (with_value vars n w.value) ends (with_kind env n s.kind) (agrees_assigned zs ends vars env n w.value s.kind a w.kind) (subst (Continues ps rest) s.leaves c));
       }
 
   pub if_fits : (b : Bool) (first second : Code) → Continues ps (block first rest) env → Continues ps (block second rest) env → FitsTodo ps zs (cond b (block first rest) (block second rest)) vars ends

@@ -8,8 +8,7 @@ use Rattle.sj_lang.specs.Place.{done}
 use Rattle.sj_semantics.specs.declared.Want.TheVariants as wants
 use Rattle.sj_semantics.specs.declared.Passed.{Passed}
 use Rattle.sj_lang.specs.FileAt.{ProtocolAt, named}
-use Rattle.sj_semantics.specs.Value.{without}
-use Rattle.sj_semantics.specs.Program.{Program}
+use Rattle.sj_semantics.specs.Program.{Program, without}
 use Rattle.sj_semantics.specs.Wants.{fits}
 use Rattle.sj_semantics.specs.Steps.{local_of, sent_of, took_of, closed_of, ends_after_took}
 use Rattle.sj_semantics.specs.World.{World, session_message}

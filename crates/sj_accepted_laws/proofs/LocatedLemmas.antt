@@ -11,9 +11,9 @@ use Rattle.sj_semantics.specs.declared.Want.{Want}
 use Rattle.sj_semantics.specs.declared.Want.TheVariants as wants
 use Rattle.sj_semantics.specs.declared.Awaits.{Awaits}
 use Rattle.sj_lang.specs.FileAt.{ProtocolAt, named}
-use Rattle.sj_semantics.specs.Value.{Value, message_of, is_of_kind, without, worth, truth_of, turns_of}
+use Rattle.sj_semantics.specs.Value.{Vars, message_of, is_of_kind, worth, truth_of, turns_of}
 use Rattle.sj_acceptance.specs.Environment.{Env}
-use Rattle.sj_semantics.specs.Program.{Thing, statement, turns, passing, Program}
+use Rattle.sj_semantics.specs.Program.{Thing, statement, turns, passing, Program, without}
 use Rattle.sj_semantics.specs.Wants.{want_send, want_delegate, want_take, more_turns, want_of_act, want_of_todo, want_of, names_arm, fits_todo}
 use Rattle.sj_semantics.specs.Steps.{ends_after_sent, ends_after_took, ends_after_closed}
 use Rattle.sj_semantics.specs.Ends.{Session, end_at}
@@ -57,7 +57,7 @@ delegate_go ends x y rest (Some e) (Some f) h = (y, h, refl)
 delegate_go ends x y rest (Some e) None h = tt
 delegate_go ends x y rest None q h = tt
 
-act_go : (vars : List (ℕ × Value)) (ends : List (ℕ × EndId)) (act : Act) (rest : List Thing) → EndsGoIf ends (statement act ∷ rest) (want_of_act vars ends act)
+act_go : (vars : Vars) (ends : List (ℕ × EndId)) (act : Act) (rest : List Thing) → EndsGoIf ends (statement act ∷ rest) (want_of_act vars ends act)
 act_go vars ends (send x v) rest = send_go ends (statement (send x v) ∷ rest) (named ends x) (option_map message_of (worth vars v)) refl
 act_go vars ends (delegate x y) rest = delegate_go ends x y rest (named ends x) (named ends y) refl
 act_go vars ends (take_value x n k) rest = take_go ends (statement (take_value x n k) ∷ rest) (named ends x) _
@@ -71,7 +71,7 @@ act_go vars ends (if_else v first second) rest = local_go ends (statement (if_el
 act_go vars ends (let_be n v) rest = local_go ends (statement (let_be n v) ∷ rest) (worth vars v)
 act_go vars ends (close x) rest = close_go ends x rest (named ends x) refl
 
-todo_go : (vars : List (ℕ × Value)) (ends : List (ℕ × EndId)) (todo : List Thing) → EndsGoIf ends todo (want_of_todo vars ends todo)
+todo_go : (vars : Vars) (ends : List (ℕ × EndId)) (todo : List Thing) → EndsGoIf ends todo (want_of_todo vars ends todo)
 todo_go vars ends [] = refl
 todo_go vars ends (statement act ∷ rest) = act_go vars ends act rest
 todo_go vars ends (turns x n body ∷ rest) = send_go ends (turns x n body ∷ rest) (named ends x) (Some (more_turns n)) refl
@@ -95,7 +95,7 @@ took_end_keeps zs ends x y p rest (msgs.Text k) n f free h = h
 took_end_keeps zs ends x y p rest (msgs.Label k) n f free h = h
 took_end_keeps zs ends x y p rest (msgs.More k) n f free h = h
 
-pub took_keeps : (ps : List ProtocolAt) (zs : List Session) (ends : List (ℕ × EndId)) (vars : List (ℕ × Value)) (env : Env) → Agrees zs ends vars env → (todo : List Thing) → DoesTodo ps todo env
+pub took_keeps : (ps : List ProtocolAt) (zs : List Session) (ends : List (ℕ × EndId)) (vars : Vars) (env : Env) → Agrees zs ends vars env → (todo : List Thing) → DoesTodo ps todo env
     → (m : Msg) (n : ℕ) (f : EndId) → named ends n ≡ Some f → named (ends_after_took ends todo m) n ≡ Some f
 took_keeps ps zs ends vars env a [] d m n f h = h
 took_keeps ps zs ends vars env a (statement (send x v) ∷ rest) d m n f h = h

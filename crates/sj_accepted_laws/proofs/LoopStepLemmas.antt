@@ -13,7 +13,7 @@ use Rattle.sj_lang.specs.Code.{Code, outwhile, inwhile}
 use Rattle.sj_semantics.specs.declared.Want.TheVariants as wants
 use Rattle.sj_semantics.specs.declared.Awaits.TheVariants as awaits
 use Rattle.sj_lang.specs.FileAt.{ProtocolAt}
-use Rattle.sj_semantics.specs.Value.{Value, worth, turns_of}
+use Rattle.sj_semantics.specs.Value.{Vars, worth, turns_of}
 use Rattle.sj_semantics.specs.Program.{Thing, statement, turns, Program, block}
 use Rattle.sj_semantics.specs.Steps.{turned}
 use Rattle.sj_semantics.specs.Wants.{want_send, want_take, more_turns}
@@ -28,7 +28,7 @@ use Rattle.sj_accepted_laws.proofs.WorthLemmas.{worth_of_kind}
 use Rattle.sj_accepted_laws.proofs.TypedLemmas.{IsTurning, Continues, FitsTodo, continues_fit, block_continues, TakeFits, StepOf}
 use Rattle.sj_accepted_laws.proofs.ValueStepLemmas.{turned_place, turned_after, count_of}
 
-module _ (ps : List ProtocolAt) (zs : List Session) (vars : List (ℕ × Value)) (ends : List (ℕ × EndId)) (steps : ℕ) (rest : List Thing) (env : Env) (a : Agrees zs ends vars env) where
+module _ (ps : List ProtocolAt) (zs : List Session) (vars : Vars) (ends : List (ℕ × EndId)) (steps : ℕ) (rest : List Thing) (env : Env) (a : Agrees zs ends vars env) where
   abbrev pub going : List Thing → Program
   going todo = record { todo = todo; vars = vars; ends = ends; steps = steps }
 

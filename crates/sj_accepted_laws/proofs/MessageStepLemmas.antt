@@ -13,8 +13,8 @@ use Rattle.sj_lang.specs.Code.{send, delegate, take_value, take_end}
 use Rattle.sj_semantics.specs.declared.Want.TheVariants as wants
 use Rattle.sj_semantics.specs.declared.Awaits.TheVariants as awaits
 use Rattle.sj_lang.specs.FileAt.{ProtocolAt, protocol_named, named}
-use Rattle.sj_semantics.specs.Value.{Value, message_of, without, bound, worth}
-use Rattle.sj_semantics.specs.Program.{Thing, statement, Program}
+use Rattle.sj_semantics.specs.Value.{with_value, Vars, Value, message_of, worth}
+use Rattle.sj_semantics.specs.Program.{Thing, statement, Program, without, bound}
 use Rattle.sj_semantics.specs.Steps.{assigned}
 use Rattle.sj_semantics.specs.Wants.{want_send, want_delegate, want_take}
 use Rattle.sj_acceptance.specs.Statements.{IsSend, IsDelegate, IsTakeValue, IsTakeEnd}
@@ -28,7 +28,7 @@ use Rattle.sj_accepted_laws.proofs.WorthLemmas.{worth_of_kind}
 use Rattle.sj_accepted_laws.proofs.TypedLemmas.{Continues, FitsTodo, continues_fit, TakeFits, StepOf}
 use Rattle.sj_accepted_laws.proofs.ValueStepLemmas.{value_after, value_fits, takes_value}
 
-module _ (ps : List ProtocolAt) (zs : List Session) (vars : List (ℕ × Value)) (ends : List (ℕ × EndId)) (steps : ℕ) (rest : List Thing) (env : Env) (a : Agrees zs ends vars env) where
+module _ (ps : List ProtocolAt) (zs : List Session) (vars : Vars) (ends : List (ℕ × EndId)) (steps : ℕ) (rest : List Thing) (env : Env) (a : Agrees zs ends vars env) where
   abbrev pub going : List Thing → Program
   going todo = record { todo = todo; vars = vars; ends = ends; steps = steps }
 
@@ -83,7 +83,7 @@ module _ (ps : List ProtocolAt) (zs : List Session) (vars : List (ℕ × Value))
               is_named = b.it_is;
               can_take = t.can_take;
               onward = λ new mv kept. subst (λ (o : Option Value). FitsTodo ps new rest (assigned vars n o) ends) (sym t.carried)
-                  (continues_fit ps new rest (bound vars n t.value) ends (with_kind (at_place env x nx) n k)
+                  (continues_fit ps new rest (with_value vars n t.value) ends (with_kind (at_place env x nx) n k)
                   (agrees_assigned new ends vars (at_place env x nx) n t.value k (agrees_moved zs new ends vars env x b.end nx a b.it_is mv) t.kind)
                   (subst (λ (p : Place). Continues ps rest (with_kind (at_place env x p) n k)) t.same (subst (Continues ps rest) s.leaves c)));
             };

@@ -1,11 +1,12 @@
--- Values of a kind, and lists of names with one more or one less.
+-- Values of a kind, and ends under names with one more or one less.
 use Rattle.std.proofs.Common.{◌≡◌, ℕ, ◌==◌, Bool, not, cond, List, [], ◌∷◌, ◌++◌, Option, Some, None, option_map, refl, ap, sym, ◌∙◌, inl, inr}
 use Rattle.std.specs.Bool.{⊤}
 use Rattle.std.proofs.lemmas.Bool.{cases_Bool, eqb-true, eq-eqb, ne_eqb}
 use Rattle.sj_base.specs.declared.EndId.{EndId}
 use Rattle.sj_lang.specs.declared.party.Scalar.{Scalar}
 use Rattle.sj_lang.specs.declared.party.Scalar.TheVariants as kinds
-use Rattle.sj_semantics.specs.Value.{Value, int, boolean, text, without, bound}
+use Rattle.sj_semantics.specs.Program.{without, bound}
+use Rattle.sj_semantics.specs.Value.{Vars, Value, int, boolean, text}
 use Rattle.sj_lang.specs.FileAt.{named}
 use Rattle.sj_acceptance.specs.Environment.{Env, put}
 use Rattle.sj_semantics.specs.Ends.{Session, end_at}
@@ -23,9 +24,9 @@ pub record Worth (o : Option Value) (k : Scalar) : Type 0 where
   pub it_is : o ≡ Some value
   pub kind : IsA k value
 
-pub record Agrees (zs : List Session) (ends : List (ℕ × EndId)) (vars : List (ℕ × Value)) (env : Env) : Type 0 where
+pub record Agrees (zs : List Session) (ends : List (ℕ × EndId)) (vars : Vars) (env : Env) : Type 0 where
   pub places : (n : ℕ) → option_map (λ e. (end_at zs e).place) (named ends n) ≡ env.places n
-  pub kinds : (n : ℕ) (k : Scalar) → env.kinds n ≡ Some k → Worth (named vars n) k
+  pub kinds : (n : ℕ) (k : Scalar) → env.kinds n ≡ Some k → Worth (vars n) k
 
 -- ---- names
 
@@ -51,7 +52,7 @@ named-append_some (b ∷ bs) cs n x h =
           ap (λ (t : Bool). cond t (Some b.1) (named (bs ++ cs) n)) miss ∙ named-append_some bs cs n x later
     ]
 
-pub named-without_same : {X : Type 0} (bs : List (ℕ × X)) (n : ℕ) → named (without bs n) n ≡ None
+pub named-without_same : (bs : List (ℕ × EndId)) (n : ℕ) → named (without bs n) n ≡ None
 named-without_same [] n = refl
 named-without_same (b ∷ bs) n =
     elim (cases_Bool (b.0 == n)) [
@@ -59,7 +60,7 @@ named-without_same (b ∷ bs) n =
       | inr miss ↦ ap (λ (t : Bool). named (cond (not t) (b ∷ without bs n) (without bs n)) n) miss ∙ ap (λ (t : Bool). cond t (Some b.1) (named (without bs n) n)) miss ∙ named-without_same bs n
     ]
 
-pub named-without_other : {X : Type 0} (bs : List (ℕ × X)) (n m : ℕ) → (m ≡ n → ⊥) → named (without bs n) m ≡ named bs m
+pub named-without_other : (bs : List (ℕ × EndId)) (n m : ℕ) → (m ≡ n → ⊥) → named (without bs n) m ≡ named bs m
 named-without_other [] n m ne = refl
 named-without_other (b ∷ bs) n m ne =
     elim (cases_Bool (b.0 == n)) [
@@ -69,17 +70,17 @@ named-without_other (b ∷ bs) n m ne =
       | inr miss ↦ ap (λ (t : Bool). named (cond (not t) (b ∷ without bs n) (without bs n)) m) miss ∙ ap (cond (b.0 == m) (Some b.1)) (named-without_other bs n m ne)
     ]
 
-pub named-bound_same : {X : Type 0} (bs : List (ℕ × X)) (n : ℕ) (x : X) → named (bound bs n x) n ≡ Some x
+pub named-bound_same : (bs : List (ℕ × EndId)) (n : ℕ) (x : EndId) → named (bound bs n x) n ≡ Some x
 named-bound_same bs n x = named-append (without bs n) ((n, x) ∷ []) n (named-without_same bs n) ∙ ap (λ (t : Bool). cond t (Some x) None) (eq-eqb n n refl)
 
-pub named-one_other : {X : Type 0} (n m : ℕ) (x : X) → (m ≡ n → ⊥) → named ((n, x) ∷ []) m ≡ None
+pub named-one_other : (n m : ℕ) (x : EndId) → (m ≡ n → ⊥) → named ((n, x) ∷ []) m ≡ None
 named-one_other n m x ne = ap (λ (t : Bool). cond t (Some x) None) (ne_eqb n m (λ e. ne (sym e)))
 
-pub named-bound_by : {X : Type 0} (bs : List (ℕ × X)) (n m : ℕ) (x : X) (o : Option X) → named (without bs n) m ≡ o → (m ≡ n → ⊥) → named (bound bs n x) m ≡ o
+pub named-bound_by : (bs : List (ℕ × EndId)) (n m : ℕ) (x : EndId) (o : Option EndId) → named (without bs n) m ≡ o → (m ≡ n → ⊥) → named (bound bs n x) m ≡ o
 named-bound_by bs n m x None h ne = named-append (without bs n) ((n, x) ∷ []) m h ∙ named-one_other n m x ne
 named-bound_by bs n m x (Some y) h ne = named-append_some (without bs n) ((n, x) ∷ []) m y h
 
-pub named-bound_other : {X : Type 0} (bs : List (ℕ × X)) (n m : ℕ) (x : X) → (m ≡ n → ⊥) → named (bound bs n x) m ≡ named bs m
+pub named-bound_other : (bs : List (ℕ × EndId)) (n m : ℕ) (x : EndId) → (m ≡ n → ⊥) → named (bound bs n x) m ≡ named bs m
 named-bound_other bs n m x ne = named-bound_by bs n m x (named bs m) (named-without_other bs n m ne) ne
 
 pub put_same : {X : Type 0} (f : ℕ → Option X) (n : ℕ) (o : Option X) → put f n o n ≡ o

@@ -4,7 +4,7 @@ use Rattle.sj_base.specs.declared.EndId.{EndId}
 use Rattle.sj_lang.specs.Code.{Act, send, delegate, take_value, take_end, outbranch, inbranch, outwhile, inwhile, relay, if_else, let_be, close}
 use Rattle.sj_semantics.specs.declared.Want.TheVariants as wants
 use Rattle.sj_lang.specs.FileAt.{ProtocolAt}
-use Rattle.sj_semantics.specs.Value.{Value}
+use Rattle.sj_semantics.specs.Value.{Vars}
 use Rattle.sj_semantics.specs.Program.{Thing, statement, turns, passing, Program}
 use Rattle.sj_acceptance.specs.Environment.{Env}
 use Rattle.sj_acceptance.specs.Follows.{Does}
@@ -21,7 +21,7 @@ use Rattle.sj_accepted_laws.proofs.RelayStepLemmas.{relay_step, passing_step}
 going_on : (ps : List ProtocolAt) (rest : List Thing) (mid next : Env) → Forgets mid next → DoesTodo ps rest next → Continues ps rest mid
 going_on ps rest mid next f d = record { next = next; forgets = f; does = d }
 
-act_step : (ps : List ProtocolAt) (zs : List Session) (vars : List (ℕ × Value)) (ends : List (ℕ × EndId)) (steps : ℕ) (rest : List Thing) (env : Env) → (a : Agrees zs ends vars env)
+act_step : (ps : List ProtocolAt) (zs : List Session) (vars : Vars) (ends : List (ℕ × EndId)) (steps : ℕ) (rest : List Thing) (env : Env) → (a : Agrees zs ends vars env)
     → (act : Act) (mid : Env) → Does ps act env mid → Continues ps rest mid → StepOf ps zs (record { todo = statement act ∷ rest; vars = vars; ends = ends; steps = steps })
 act_step ps zs vars ends steps rest env a (send x e) mid s c = send_step ps zs vars ends steps rest env a x e mid s c
 act_step ps zs vars ends steps rest env a (delegate x y) mid s c = delegate_step ps zs vars ends steps rest env a x y mid s c
@@ -36,7 +36,7 @@ act_step ps zs vars ends steps rest env a (if_else e first second) mid s c = if_
 act_step ps zs vars ends steps rest env a (let_be n e) mid s c = let_step ps zs vars ends steps rest env a n e mid s c
 act_step ps zs vars ends steps rest env a (close x) mid s c = close_step ps zs vars ends steps rest env a x mid s c
 
-todo_step : (ps : List ProtocolAt) (zs : List Session) (vars : List (ℕ × Value)) (ends : List (ℕ × EndId)) (steps : ℕ) (env : Env) → (a : Agrees zs ends vars env)
+todo_step : (ps : List ProtocolAt) (zs : List Session) (vars : Vars) (ends : List (ℕ × EndId)) (steps : ℕ) (env : Env) → (a : Agrees zs ends vars env)
     → (todo : List Thing) → DoesTodo ps todo env → StepOf ps zs (record { todo = todo; vars = vars; ends = ends; steps = steps })
 todo_step ps zs vars ends steps env a [] d = record { want = wants.Ended; wants_it = refl; step_fits = tt }
 todo_step ps zs vars ends steps env a (statement act ∷ rest) d = act_step ps zs vars ends steps rest env a act d.0 d.1.0 (going_on ps rest d.0 d.1.1.0 d.1.1.1.0 d.1.1.1.1)

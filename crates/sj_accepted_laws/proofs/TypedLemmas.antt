@@ -12,7 +12,7 @@ use Rattle.sj_lang.specs.Code.{Code, no_step, step_then, at}
 use Rattle.sj_semantics.specs.declared.Want.{Want}
 use Rattle.sj_semantics.specs.declared.Want.TheVariants as wants
 use Rattle.sj_lang.specs.FileAt.{ProtocolAt, named}
-use Rattle.sj_semantics.specs.Value.{Value}
+use Rattle.sj_semantics.specs.Value.{Vars}
 use Rattle.sj_semantics.specs.Program.{Thing, statement, turns, passing, Program, block}
 use Rattle.sj_semantics.specs.Wants.{want_of, fits}
 use Rattle.sj_semantics.specs.Steps.{local_of, sent_of, took_of, closed_of}
@@ -61,7 +61,7 @@ pub record Continues (ps : List ProtocolAt) (todo : List Thing) (env : Env) : Ty
   pub forgets : Forgets env next
   pub does : DoesTodo ps todo next
 
-pub record FitsTodo (ps : List ProtocolAt) (zs : List Session) (todo : List Thing) (vars : List (ℕ × Value)) (ends : List (ℕ × EndId)) : Type 0 where
+pub record FitsTodo (ps : List ProtocolAt) (zs : List Session) (todo : List Thing) (vars : Vars) (ends : List (ℕ × EndId)) : Type 0 where
   pub env : Env
   pub agrees : Agrees zs ends vars env
   pub does : DoesTodo ps todo env
@@ -69,7 +69,7 @@ pub record FitsTodo (ps : List ProtocolAt) (zs : List Session) (todo : List Thin
 abbrev pub FitsProgram : List ProtocolAt → List Session → Program → Type 0
 FitsProgram ps zs g = FitsTodo ps zs g.todo g.vars g.ends
 
-pub continues_fit : (ps : List ProtocolAt) (zs : List Session) (todo : List Thing) (vars : List (ℕ × Value)) (ends : List (ℕ × EndId)) (env : Env) → Agrees zs ends vars env → Continues ps todo env → FitsTodo ps zs todo vars ends
+pub continues_fit : (ps : List ProtocolAt) (zs : List Session) (todo : List Thing) (vars : Vars) (ends : List (ℕ × EndId)) (env : Env) → Agrees zs ends vars env → Continues ps todo env → FitsTodo ps zs todo vars ends
 continues_fit ps zs todo vars ends env a c = record { env = c.next; agrees = agrees_forgetting zs ends vars env c.next a c.forgets; does = c.does }
 
 pub block_continues : (ps : List ProtocolAt) (code : Code) (rest : List Thing) (env last : Env) → Follows ps code env last → Continues ps rest last → Continues ps (block code rest) env

@@ -7,8 +7,8 @@ use Rattle.sj_base.specs.declared.Msg.TheVariants as msgs
 use Rattle.sj_lang.specs.Place.{Place}
 use Rattle.sj_semantics.specs.declared.Passed.{Passed}
 use Rattle.sj_lang.specs.FileAt.{ProtocolAt, named}
-use Rattle.sj_semantics.specs.Value.{Value, without}
-use Rattle.sj_semantics.specs.Program.{Thing, Program}
+use Rattle.sj_semantics.specs.Value.{Vars}
+use Rattle.sj_semantics.specs.Program.{Thing, Program, without}
 use Rattle.sj_semantics.specs.World.{World}
 use Rattle.sj_semantics.specs.Ends.{Session, end_on, other_side, other_end, nowhere, end_at, is_end}
 use Rattle.sj_semantics.specs.Uses.{Use}
@@ -68,7 +68,7 @@ pairs_kept w p g e u one there b pairs s =
 
 -- ---- programs
 
-pub todo_kept : (ps : List ProtocolAt) (old new : List Session) (todo : List Thing) (vars : List (ℕ × Value)) (ends : List (ℕ × EndId)) → ((e : EndId) → IsBound e ends → (end_at new e).place ≡ (end_at old e).place)
+pub todo_kept : (ps : List ProtocolAt) (old new : List Session) (todo : List Thing) (vars : Vars) (ends : List (ℕ × EndId)) → ((e : EndId) → IsBound e ends → (end_at new e).place ≡ (end_at old e).place)
     → FitsTodo ps old todo vars ends → FitsTodo ps new todo vars ends
 todo_kept ps old new todo vars ends same f = record {
   env = f.env;

@@ -1,13 +1,12 @@
 -- An expression of a kind is worth a value of that kind.
-use Rattle.std.proofs.Common.{◌≡◌, ℕ, not, List, Option, Some, option_and_then, refl, ap, sym, ◌∙◌, subst}
+use Rattle.std.proofs.Common.{◌≡◌, ℕ, not, Option, Some, option_and_then, refl, ap, sym, ◌∙◌, subst}
 use Rattle.sj_lang.specs.declared.party.Op.{Op}
 use Rattle.sj_lang.specs.declared.party.Op.TheVariants.{Add, Sub, Mul, Less, LessEq, Equal}
 use Rattle.sj_lang.specs.declared.party.Scalar.{Scalar}
 use Rattle.sj_lang.specs.declared.party.Scalar.TheVariants as kinds
 use Rattle.sj_lang.specs.Term.{Term}
 use Rattle.sj_lang.specs.Term as terms
-use Rattle.sj_semantics.specs.Value.{Value, int, boolean, text, result_of, negation_of, worth}
-use Rattle.sj_lang.specs.FileAt.{named}
+use Rattle.sj_semantics.specs.Value.{Vars, Value, int, boolean, text, result_of, negation_of, worth}
 use Rattle.sj_acceptance.specs.Kinds.{HasKind, Takes, given_by}
 use Rattle.sj_accepted_laws.proofs.NameLemmas.{IsA, Worth}
 
@@ -91,7 +90,7 @@ two_worth op i j k o q results u v =
     let r = results u.value v.value u.kind v.kind in
     record { value = r.value; it_is = ap (option_and_then (λ a. option_and_then (result_of op a) q)) u.it_is ∙ ap (option_and_then (result_of op u.value)) v.it_is ∙ r.it_is; kind = r.kind }
 
-module _ (kinds_of : ℕ → Option Scalar) (vars : List (ℕ × Value)) (known : (n : ℕ) (k : Scalar) → kinds_of n ≡ Some k → Worth (named vars n) k) where
+module _ (kinds_of : ℕ → Option Scalar) (vars : Vars) (known : (n : ℕ) (k : Scalar) → kinds_of n ≡ Some k → Worth (vars n) k) where
   pub at_kind : (o : Option Value) (j k : Scalar) → k ≡ j → Worth o j → Worth o k
   at_kind o j k e w = subst (Worth o) (sym e) w
 

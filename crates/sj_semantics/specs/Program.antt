@@ -1,8 +1,8 @@
 -- A plain party: what it still has to do, and what it knows.
-use Rattle.std.specs.Prelude.{ℕ, Bool, List, ◌∷◌}
+use Rattle.std.specs.Prelude.{ℕ, ◌==◌, Bool, not, List, [], ◌∷◌, ◌++◌, filter}
 use Rattle.sj_base.specs.declared.EndId.{EndId}
 use Rattle.sj_lang.specs.Code.{Code, Act, no_step, step_then, at}
-use Rattle.sj_semantics.specs.Value.{Value}
+use Rattle.sj_semantics.specs.Value.{Vars}
 
 -- a thing to do
 pub data Thing : Type 0 where
@@ -15,7 +15,7 @@ pub data Thing : Type 0 where
 -- what is left to do, the values of variables, the ends bound to names, and the steps done
 pub record Program : Type 0 where
   pub todo : List Thing
-  pub vars : List (ℕ × Value)
+  pub vars : Vars
   pub ends : List (ℕ × EndId)
   pub steps : ℕ
 
@@ -23,3 +23,11 @@ pub record Program : Type 0 where
 abbrev pub block : Code → List Thing → List Thing
 block no_step rest = rest
 block (step_then (at line act) code) rest = statement act ∷ block code rest
+
+-- the ends without the one under that name
+abbrev pub without : List (ℕ × EndId) → ℕ → List (ℕ × EndId)
+without bs n = filter (λ b. not (b.0 == n)) bs
+
+-- the ends with this one under that name
+abbrev pub bound : List (ℕ × EndId) → ℕ → EndId → List (ℕ × EndId)
+bound bs n x = without bs n ++ (n, x) ∷ []

@@ -2,6 +2,7 @@
 use Rattle.std.specs.Prelude.{ℕ, ◌+◌, List, [], ◌∷◌, map}
 use Rattle.sj_lang.specs.Place.{Place}
 use Rattle.sj_lang.specs.FileAt.{FileAt, PartyAt, ConnectAt, body_named, ends_from}
+use Rattle.sj_semantics.specs.Value.{no_vars}
 use Rattle.sj_semantics.specs.Program.{Program, block}
 use Rattle.sj_semantics.specs.Ends.{EndAt, Session}
 use Rattle.sj_semantics.specs.World.{World}
@@ -19,7 +20,7 @@ session_of file c = record {
 
 -- the party with its whole code to do and its connected ends
 abbrev pub program_of : FileAt → ℕ → PartyAt → Program
-program_of file p q = record { todo = block q.code []; vars = []; ends = ends_from file p 0 file.connects; steps = 0 }
+program_of file p q = record { todo = block q.code []; vars = no_vars; ends = ends_from file p 0 file.connects; steps = 0 }
 
 -- the programs of parties, the first of them with number p
 abbrev pub programs_from : FileAt → ℕ → List PartyAt → List Program

@@ -4,25 +4,25 @@ use Rattle.sj_base.specs.declared.EndId.{EndId}
 use Rattle.sj_base.specs.declared.Msg.{Msg}
 use Rattle.sj_base.specs.declared.Msg.TheVariants as msgs
 use Rattle.sj_lang.specs.Code.{Code, Branches, no_step, delegate, take_value, take_end, inbranch, outwhile, inwhile, relay, if_else, let_be, close, no_branch, branch}
-use Rattle.sj_semantics.specs.Value.{Value, value_of, without, bound, worth, turns_of, truth_of}
-use Rattle.sj_semantics.specs.Program.{Thing, statement, turns, passing, Program, block}
+use Rattle.sj_semantics.specs.Value.{Value, Vars, with_value, value_of, worth, turns_of, truth_of}
+use Rattle.sj_semantics.specs.Program.{Thing, statement, turns, passing, Program, block, without, bound}
 
 -- ---- a step without a message
 
 -- the arm of an `if`, and then the rest
-abbrev pub todo_after_local : List (ℕ × Value) → List Thing → List Thing
+abbrev pub todo_after_local : Vars → List Thing → List Thing
 todo_after_local vars (statement (if_else e first second) ∷ rest) =
     if unwrap_or (option_and_then truth_of (worth vars e)) false then block first rest else block second rest
 todo_after_local vars (t ∷ rest) = rest
 todo_after_local vars [] = []
 
 -- the variables with that value under the name, where there is one
-abbrev pub assigned : List (ℕ × Value) → ℕ → Option Value → List (ℕ × Value)
+abbrev pub assigned : Vars → ℕ → Option Value → Vars
 assigned vars n None = vars
-assigned vars n (Some v) = bound vars n v
+assigned vars n (Some v) = with_value vars n v
 
 -- a `let` gives its variable the value
-abbrev pub vars_after_local : List (ℕ × Value) → List Thing → List (ℕ × Value)
+abbrev pub vars_after_local : Vars → List Thing → Vars
 vars_after_local vars (statement (let_be n e) ∷ rest) = assigned vars n (worth vars e)
 vars_after_local vars _ = vars
 
@@ -38,7 +38,7 @@ turned x zero body rest = rest
 turned x (suc n) body rest = block body (turns x n body ∷ rest)
 
 -- a loop has one turn less; a relay that passed on more has its body and then itself to do
-abbrev pub todo_after_sent : List (ℕ × Value) → List Thing → List Thing
+abbrev pub todo_after_sent : Vars → List Thing → List Thing
 todo_after_sent vars (statement (outwhile x e body) ∷ rest) = turned x (unwrap_or (option_and_then turns_of (worth vars e)) 0) body rest
 todo_after_sent vars (turns x n body ∷ rest) = turned x n body rest
 todo_after_sent vars (passing x y more body ∷ rest) = if more then block body (statement (relay x y body) ∷ rest) else rest
@@ -80,7 +80,7 @@ todo_after_took (t ∷ rest) m = rest
 todo_after_took [] m = []
 
 -- a value goes into its variable
-abbrev pub vars_after_took : List (ℕ × Value) → List Thing → Msg → List (ℕ × Value)
+abbrev pub vars_after_took : Vars → List Thing → Msg → Vars
 vars_after_took vars (statement (take_value x n k) ∷ rest) m = assigned vars n (value_of m)
 vars_after_took vars _ m = vars
 

@@ -1,5 +1,5 @@
 -- Values of variables, and what an expression is worth.
-use Rattle.std.specs.Prelude.{ℕ, min, ◌==◌, Bool, true, false, not, ◌&&◌, List, [], ◌∷◌, ◌++◌, ℤ, pos, negsuc, int_lt, int_le, Option, Some, None, option_and_then, filter}
+use Rattle.std.specs.Prelude.{ℕ, min, ◌==◌, Bool, true, false, not, ◌&&◌, ℤ, pos, negsuc, int_lt, int_le, Option, Some, None, option_and_then, if◌then◌else◌}
 use Rattle.std.specs.Int.{int_wrapping_add, int_wrapping_sub, int_wrapping_mul, w64}
 use Rattle.sj_base.specs.declared.Msg.{Msg}
 use Rattle.sj_base.specs.declared.Msg.TheVariants as msgs
@@ -7,7 +7,6 @@ use Rattle.sj_lang.specs.declared.party.Op.{Op}
 use Rattle.sj_lang.specs.declared.party.Op.TheVariants.{Add, Sub, Mul, Less, LessEq, Equal}
 use Rattle.sj_lang.specs.declared.party.Scalar.{Scalar}
 use Rattle.sj_lang.specs.declared.party.Scalar.TheVariants as kinds
-use Rattle.sj_lang.specs.FileAt.{named}
 use Rattle.sj_lang.specs.Term.{Term}
 use Rattle.sj_lang.specs.Term as terms
 
@@ -16,6 +15,18 @@ pub data Value : Type 0 where
   int : ℤ → Value
   boolean : Bool → Value
   text : ℕ → Value
+
+-- the values of variables, by their names
+abbrev pub Vars : Type 0
+Vars = ℕ → Option Value
+
+-- no variable is known
+abbrev pub no_vars : Vars
+no_vars n = None
+
+-- the variable has that value
+abbrev pub with_value : Vars → ℕ → Value → Vars
+with_value vars n v m = if m == n then Some v else vars m
 
 -- the message that carries the value
 abbrev pub message_of : Value → Msg
@@ -36,14 +47,6 @@ is_of_kind kinds.Int (msgs.Int n) = true
 is_of_kind kinds.Boolean (msgs.Bool b) = true
 is_of_kind kinds.Text (msgs.Text n) = true
 is_of_kind _ _ = false
-
--- the list without that name
-abbrev pub without : {X : Type 0} → List (ℕ × X) → ℕ → List (ℕ × X)
-without bs n = filter (λ b. not (b.0 == n)) bs
-
--- the list in which the name stands for x
-abbrev pub bound : {X : Type 0} → List (ℕ × X) → ℕ → X → List (ℕ × X)
-bound bs n x = without bs n ++ (n, x) ∷ []
 
 -- the two numbers are one
 abbrev pub is_same_int : ℤ → ℤ → Bool
@@ -72,11 +75,11 @@ negation_of (boolean b) = Some (boolean (not b))
 negation_of _ = None
 
 -- what an expression is worth, where each variable is known and each operand is of its kind
-abbrev pub worth : List (ℕ × Value) → Term → Option Value
+abbrev pub worth : Vars → Term → Option Value
 worth vars (terms.int n) = Some (int n)
 worth vars (terms.boolean b) = Some (boolean b)
 worth vars (terms.text n) = Some (text n)
-worth vars (terms.var n) = named vars n
+worth vars (terms.var n) = vars n
 worth vars (terms.not e) = option_and_then negation_of (worth vars e)
 worth vars (terms.two op e f) = option_and_then (λ a. option_and_then (result_of op a) (worth vars f)) (worth vars e)
 

@@ -9,7 +9,7 @@ use Rattle.sj_semantics.specs.declared.Want.{Want}
 use Rattle.sj_semantics.specs.declared.Want.TheVariants as wants
 use Rattle.sj_semantics.specs.declared.Awaits.{Awaits}
 use Rattle.sj_semantics.specs.declared.Awaits.TheVariants as awaits
-use Rattle.sj_semantics.specs.Value.{Value, message_of, is_of_kind, worth, turns_of, truth_of}
+use Rattle.sj_semantics.specs.Value.{Vars, message_of, is_of_kind, worth, turns_of, truth_of}
 use Rattle.sj_semantics.specs.Program.{Thing, statement, turns, passing, Program}
 
 -- a send, where the end and the message are there
@@ -33,7 +33,7 @@ more_turns zero = msgs.More false
 more_turns (suc n) = msgs.More true
 
 -- what a statement does first
-abbrev pub want_of_act : List (ℕ × Value) → List (ℕ × EndId) → Act → Option Want
+abbrev pub want_of_act : Vars → List (ℕ × EndId) → Act → Option Want
 want_of_act vars ends (send x e) = want_send (named ends x) (option_map message_of (worth vars e))
 want_of_act vars ends (delegate x y) = want_delegate (named ends x) (named ends y)
 want_of_act vars ends (take_value x n k) = want_take (named ends x) (awaits.Value k)
@@ -49,7 +49,7 @@ want_of_act vars ends (let_be n e) = option_map (λ v. wants.Local) (worth vars 
 want_of_act vars ends (close x) = option_map wants.Close (named ends x)
 
 -- what the first thing to do does next
-abbrev pub want_of_todo : List (ℕ × Value) → List (ℕ × EndId) → List Thing → Option Want
+abbrev pub want_of_todo : Vars → List (ℕ × EndId) → List Thing → Option Want
 want_of_todo vars ends [] = Some wants.Ended
 want_of_todo vars ends (statement act ∷ rest) = want_of_act vars ends act
 want_of_todo vars ends (turns x n body ∷ rest) = want_send (named ends x) (Some (more_turns n))

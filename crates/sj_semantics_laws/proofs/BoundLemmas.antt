@@ -9,7 +9,7 @@ use Rattle.sj_lang.specs.Code.{Act, send, delegate, take_value, take_end, outbra
 use Rattle.sj_semantics.specs.declared.Want.{Want}
 use Rattle.sj_semantics.specs.declared.Want.TheVariants as wants
 use Rattle.sj_semantics.specs.declared.Awaits.{Awaits}
-use Rattle.sj_semantics.specs.Value.{Value, worth, truth_of}
+use Rattle.sj_semantics.specs.Value.{Vars, worth, truth_of}
 use Rattle.sj_lang.specs.FileAt.{named}
 use Rattle.sj_semantics.specs.Program.{Program, Thing, statement, turns, passing}
 use Rattle.sj_semantics.specs.Wants.{want_send, want_delegate, want_take, want_of_act, want_of_todo, want_of}
@@ -109,7 +109,7 @@ bound_if ends (Some e) h = h e refl
 named_bound_if : (ends : List (ℕ × EndId)) (x : ℕ) → BoundIf ends (named ends x)
 named_bound_if ends x = bound_if ends (named ends x) (named_is_bound ends x)
 
-act_bound : (vars : List (ℕ × Value)) (ends : List (ℕ × EndId)) (act : Act) → AreBoundIf ends (want_of_act vars ends act)
+act_bound : (vars : Vars) (ends : List (ℕ × EndId)) (act : Act) → AreBoundIf ends (want_of_act vars ends act)
 act_bound vars ends (send x e) = send_bound ends (named ends x) _ (named_bound_if ends x)
 act_bound vars ends (delegate x y) = delegate_bound ends (named ends x) (named ends y) (named_bound_if ends x) (named_bound_if ends y)
 act_bound vars ends (take_value x n k) = take_bound ends (named ends x) _ (named_bound_if ends x)
@@ -123,7 +123,7 @@ act_bound vars ends (if_else e first second) = local_bound ends (option_and_then
 act_bound vars ends (let_be n e) = local_bound ends (worth vars e)
 act_bound vars ends (close x) = close_bound ends (named ends x) (named_bound_if ends x)
 
-todo_bound : (vars : List (ℕ × Value)) (ends : List (ℕ × EndId)) (todo : List Thing) → AreBoundIf ends (want_of_todo vars ends todo)
+todo_bound : (vars : Vars) (ends : List (ℕ × EndId)) (todo : List Thing) → AreBoundIf ends (want_of_todo vars ends todo)
 todo_bound vars ends [] = tt
 todo_bound vars ends (statement act ∷ rest) = act_bound vars ends act
 todo_bound vars ends (turns x n body ∷ rest) = send_bound ends (named ends x) _ (named_bound_if ends x)

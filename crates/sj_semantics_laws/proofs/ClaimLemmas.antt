@@ -4,9 +4,9 @@ use Rattle.std.proofs.lemmas.Bool.{cases_Bool}
 use Rattle.std.proofs.lemmas.List.Sums.{sum_by-cons, sum_by_push}
 use Rattle.sj_base.specs.declared.EndId.{EndId}
 use Rattle.sj_base.specs.declared.Msg.{Msg}
+use Rattle.sj_semantics.specs.Program.{without, bound}
 use Rattle.sj_semantics.specs.declared.Passed.{Passed}
 use Rattle.sj_lang.specs.FileAt.{named}
-use Rattle.sj_semantics.specs.Value.{without, bound}
 use Rattle.sj_semantics.specs.Ends.{Session, end_on, other_side, nowhere, next_for, is_end}
 use Rattle.sj_semantics.specs.Uses.{sends, takes, hands_on, used, on_side}
 use Rattle.sj_semantics_laws.specs.Unshared.{bindings_of, names_end, carried_in}

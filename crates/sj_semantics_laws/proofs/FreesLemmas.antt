@@ -7,7 +7,7 @@ use Rattle.sj_lang.specs.Code.{Act, send, delegate, take_value, take_end, outbra
 use Rattle.sj_semantics.specs.declared.Want.{Want}
 use Rattle.sj_semantics.specs.declared.Want.TheVariants as wants
 use Rattle.sj_semantics.specs.declared.Awaits.{Awaits}
-use Rattle.sj_semantics.specs.Value.{Value, int, boolean, text, message_of, worth, truth_of, turns_of}
+use Rattle.sj_semantics.specs.Value.{Vars, Value, int, boolean, text, message_of, worth, truth_of, turns_of}
 use Rattle.sj_lang.specs.FileAt.{named}
 use Rattle.sj_semantics.specs.Program.{Program, Thing, statement, turns, passing}
 use Rattle.sj_semantics.specs.Wants.{want_send, want_delegate, want_take, more_turns, want_of_act, want_of_todo, want_of}
@@ -71,7 +71,7 @@ delegate_frees e ends x y rest (Some f) (Some g) h = bindings_of-without e ends 
 delegate_frees e ends x y rest (Some f) None h = tt
 delegate_frees e ends x y rest None q h = tt
 
-act_frees : (e : EndId) (vars : List (ℕ × Value)) (ends : List (ℕ × EndId)) (act : Act) (rest : List Thing) → FreesIf e ends (statement act ∷ rest) (want_of_act vars ends act)
+act_frees : (e : EndId) (vars : Vars) (ends : List (ℕ × EndId)) (act : Act) (rest : List Thing) → FreesIf e ends (statement act ∷ rest) (want_of_act vars ends act)
 act_frees e vars ends (send x v) rest = send_value_frees e ends (statement (send x v) ∷ rest) (named ends x) (worth vars v)
 act_frees e vars ends (delegate x y) rest = delegate_frees e ends x y rest (named ends x) (named ends y) refl
 act_frees e vars ends (take_value x n k) rest = take_frees e ends (statement (take_value x n k) ∷ rest) (named ends x) _
@@ -85,7 +85,7 @@ act_frees e vars ends (if_else v first second) rest = local_frees e ends (statem
 act_frees e vars ends (let_be n v) rest = local_frees e ends (statement (let_be n v) ∷ rest) (worth vars v)
 act_frees e vars ends (close x) rest = close_frees e ends x rest (named ends x) refl
 
-todo_frees : (e : EndId) (vars : List (ℕ × Value)) (ends : List (ℕ × EndId)) (todo : List Thing) → FreesIf e ends todo (want_of_todo vars ends todo)
+todo_frees : (e : EndId) (vars : Vars) (ends : List (ℕ × EndId)) (todo : List Thing) → FreesIf e ends todo (want_of_todo vars ends todo)
 todo_frees e vars ends [] = tt
 todo_frees e vars ends (statement act ∷ rest) = act_frees e vars ends act rest
 todo_frees e vars ends (turns x n body ∷ rest) = send_frees e ends (turns x n body ∷ rest) (named ends x) _ (turns_name_none e n)

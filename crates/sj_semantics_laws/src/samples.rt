@@ -4,13 +4,13 @@
 //! - `opposite_orders_block`: two sessions that are taken in opposite order.
 //! - `numbers_wrap`, `loop_counts_are_clamped`: expressions and counts.
 
-ghost use Rattle.std.specs.Prelude.{◌≡◌, [], Some, negsuc, pos};
+ghost use Rattle.std.specs.Prelude.{◌≡◌, Some, negsuc, pos};
 ghost use Rattle.sj_lang.specs.Term as terms;
 ghost use Rattle.sj_lang.specs.declared.party.Op.TheVariants.{Add, Mul, Sub};
 ghost use Rattle.sj_semantics.specs.Run.{end_of};
 ghost use Rattle.sj_semantics.specs.State.{verdict_of};
 ghost use Rattle.sj_semantics.specs.Transcript.{transcript_of};
-ghost use Rattle.sj_semantics.specs.Value.{int, turns_of, worth};
+ghost use Rattle.sj_semantics.specs.Value.{int, no_vars, turns_of, worth};
 ghost use Rattle.sj_semantics.specs.declared.Verdict.TheVariants.{Blocked};
 ghost use Rattle.sj_semantics_laws.specs.AgencySamples.{agency, agency_text, refused_text};
 ghost use Rattle.sj_semantics_laws.specs.HandoverSamples.{both_moved, both_moved_text, handed_over, handed_over_text, returning, returning_text, to_its_peer, to_its_peer_text, to_itself, to_itself_text};
@@ -47,11 +47,11 @@ pub fn opposite_orders_block()
 
 /// A sum, a product and a difference beyond 64 bits wrap.
 pub fn numbers_wrap()
-    ensures sum { worth [] (terms.two Add (terms.int (pos 9223372036854775807)) (terms.int (pos 1)))
+    ensures sum { worth no_vars (terms.two Add (terms.int (pos 9223372036854775807)) (terms.int (pos 1)))
         ≡ Some (int (negsuc 9223372036854775807)) }
-    ensures product { worth [] (terms.two Mul (terms.int (negsuc 9223372036854775807)) (terms.int (negsuc 0)))
+    ensures product { worth no_vars (terms.two Mul (terms.int (negsuc 9223372036854775807)) (terms.int (negsuc 0)))
         ≡ Some (int (negsuc 9223372036854775807)) }
-    ensures difference { worth [] (terms.two Sub (terms.int (negsuc 9223372036854775807)) (terms.int (pos 1)))
+    ensures difference { worth no_vars (terms.two Sub (terms.int (negsuc 9223372036854775807)) (terms.int (pos 1)))
         ≡ Some (int (pos 9223372036854775807)) }
 {}
 
