@@ -1,6 +1,7 @@
 -- Dues of one layer as dues of another.
-use Rattle.std.proofs.Common.{◌≡◌, ℕ, Bool, true, false, List, [], ◌∷◌, ◌++◌, Option, Some, None, refl, ap, sym}
+use Rattle.std.proofs.Common.{◌≡◌, ℕ, Bool, true, false, List, [], ◌∷◌, Option, Some, None, refl, ap, sym}
 use Rattle.std.specs.Prelude.{map, option_map, if◌then◌else◌}
+use Rattle.std.proofs.lemmas.List.{map-append}
 use Rattle.sj_grammar.specs.Limits.{Limits}
 use Rattle.sj_grammar.specs.Places.{Pieces}
 use Rattle.sj_grammar.specs.Layers.{Layer, Step, goes, stops, misfit, instead, onward, step, run, may_end}
@@ -15,10 +16,6 @@ pub record IsEmbedded {D E : Type 0} (G : Layer D) (H : Layer E) (f : D → E) :
   pub nones : (d : D) → H.may_be_none (f d) ≡ G.may_be_none d
   pub counts : (n : ℕ) (d : D) (s : List ℕ) → H.counted n (f d) s ≡ G.counted n d s
   pub limits : (L : Limits) (n : ℕ) (d : D) (s : List ℕ) → H.passes L n (f d) s ≡ G.passes L n d s
-
-map-append : {D E : Type 0} (f : D → E) (xs ys : List D) → map f (xs ++ ys) ≡ map f xs ++ map f ys
-map-append f [] ys = refl
-map-append f (x ∷ xs) ys = ap (λ t. f x ∷ t) (map-append f xs ys)
 
 module _ {D E : Type 0} (G : Layer D) (H : Layer E) (f : D → E) (is : IsEmbedded G H f) (L : Limits) where
   pub step_embedded : (n : ℕ) (ds : List D) (s : List ℕ) → step H L n (map f ds) s ≡ step_map f (step G L n ds s)

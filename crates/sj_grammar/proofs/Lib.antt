@@ -1,3 +1,4 @@
 pub mod Embedding
+pub mod Framing
 pub mod Steps
 pub mod Stuckness

@@ -44,7 +44,7 @@ module _ {D : Type 0} (G : Layer D) (L : Limits) where
       (r.0, r.1, ap (λ (t : Step D). onward t (λ j gs. run G L j gs a)) x.2 ∙ r.2, r.3)
 
 module _ {D : Type 0} (G : Layer D) where
-  abbrev or_else : Option (List D) → List D → Option (List D) → Option (List D)
+  abbrev pub or_else : Option (List D) → List D → Option (List D) → Option (List D)
   or_else None ds others = others
   or_else (Some es) ds others = Some (es ++ ds)
 

@@ -1,5 +1,5 @@
 -- The first fault of a text.
-use Rattle.std.specs.Prelude.{◌≡◌, ℕ, List, Option, Some, None, if◌then◌else◌}
+use Rattle.std.specs.Prelude.{◌≡◌, ℕ, false, List, Option, Some, None, if◌then◌else◌}
 use Rattle.sj_grammar.specs.declared.tokens.Rule.{Rule}
 use Rattle.sj_grammar.specs.declared.tokens.Rule.TheVariants.{P1, P3}
 use Rattle.sj_grammar.specs.declared.tokens.Fault.{Fault}
@@ -44,6 +44,11 @@ module _ {D : Type 0} (G : Layer D) (L : Limits) where
     pub front : Begins a pieces there
     pub fits : run G L n ds pieces ≡ goes count due
     pub halts : Halts count there due f
+
+  -- and what is due there can't be left out, so that what is due behind doesn't matter
+  pub record StuckInside (n : ℕ) (a : At) (ds : List D) (f : Fault) : Type 0 where
+    pub stuck : Stuck n a ds f
+    pub inside : may_end G stuck.due ≡ false
 
 -- where the refusal is a fault
 abbrev pub OnFault : (Fault → Type 0) → ParseRefusal → Type 0
