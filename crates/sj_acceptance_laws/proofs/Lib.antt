@@ -1,0 +1,12 @@
+pub mod CodeLaws
+pub mod FaultLemmas
+pub mod HandLaws
+pub mod JoinLaws
+pub mod KindLaws
+pub mod LabelLaws
+pub mod LoopLaws
+pub mod PairLemmas
+pub mod SamenessLemmas
+pub mod SeenLemmas
+pub mod SendLaws
+pub mod TakeLaws

@@ -1,0 +1,162 @@
+-- The tests of a loop all pass exactly where an environment follows it, where its body's do, and then that one.
+use Rattle.std.proofs.Common.{◌≡◌, ℕ, List, [], ◌∷◌, ◌++◌, Option, Some, None, true, cond, is_some, unwrap_or, refl, ap, sym, ◌∙◌, subst}
+use Rattle.std.specs.FinMap.{get}
+use Rattle.sj_lang.specs.declared.proto.Way.TheVariants.{Out, Into}
+use Rattle.sj_lang.specs.declared.party.Scalar.TheVariants.{Int}
+use Rattle.sj_lang.specs.Term.{Term}
+use Rattle.sj_lang.specs.Place.{Place, done, message, choice, repeat}
+use Rattle.sj_lang.specs.After.{followed_by}
+use Rattle.sj_lang.specs.Code.{Code, outwhile, inwhile, relay}
+use Rattle.sj_lang.specs.FileAt.{ProtocolAt}
+use Rattle.sj_acceptance.specs.Environment.{Env, at_place, SameEnds}
+use Rattle.sj_acceptance.specs.Known.{Known, seen, moved}
+use Rattle.sj_acceptance.specs.Kinds.{HasKind}
+use Rattle.sj_acceptance.specs.Follows.{Follows, Does}
+use Rattle.sj_acceptance.specs.Faults.{Test, first_fault}
+use Rattle.sj_acceptance.specs.KindTests.{kind_of, term_tests}
+use Rattle.sj_acceptance.specs.Sameness.{is_same_kind, is_same_ends}
+use Rattle.sj_acceptance.specs.FirstItem.{is_loop, turn_of, rest_of}
+use Rattle.sj_acceptance.specs.Tests.{act_tests, after_act, code_tests, after_code}
+use Rattle.sj_acceptance_laws.proofs.FaultLemmas.{first_passes, all_pass, pass_both}
+use Rattle.sj_acceptance_laws.proofs.KindLaws.{same_kind, has_kind, kind_passes}
+use Rattle.sj_acceptance_laws.proofs.SamenessLemmas.{is_same_ends-Decides}
+use Rattle.sj_acceptance_laws.proofs.SeenLemmas.{seen-moved, same_from_get}
+
+-- the test of the ends says whether they are the same
+same_ends : (old new : Known) → is_same_ends old.ends new.ends ≡ true → SameEnds (seen old) (seen new)
+same_ends old new h n = ap (λ m. get m n) (sym ((is_same_ends-Decides old.ends new.ends).0 h))
+
+ends_same : (old new : Known) (next : Env) → next ≡ seen new → SameEnds (seen old) next → is_same_ends old.ends new.ends ≡ true
+ends_same old new next e h = (is_same_ends-Decides old.ends new.ends).1 (same_from_get old.ends new.ends (λ n. sym (h n) ∙ ap (λ (v : Env). v.places n) e))
+
+-- what follows a body that begins where it is seen to begin
+abbrev pub Leads : List ProtocolAt → Code → Type 0
+Leads ps body = (v : Known) → first_fault (code_tests ps v body) ≡ None → Follows ps body (seen v) (seen (after_code ps v body))
+
+abbrev pub Passes : List ProtocolAt → Code → Type 0
+Passes ps body = (v : Known) (next : Env) → Follows ps body (seen v) next → (first_fault (code_tests ps v body) ≡ None) × (next ≡ seen (after_code ps v body))
+
+module _ (ps : List ProtocolAt) (line : ℕ) (env : Known) (x : ℕ) (body : Code) where
+  abbrev loop_tests : Option Place → List Test
+  loop_tests o = (5, line, is_some o) ∷ (6, line, is_loop Into (unwrap_or o done)) ∷ code_tests ps (moved env x (turn_of (unwrap_or o done))) body
+      ++ (10, line, is_same_ends env.ends (after_code ps (moved env x (turn_of (unwrap_or o done))) body).ends) ∷ []
+
+  module _ (leads : Leads ps body) where
+    loop_from : (o : Option Place) → get env.ends x ≡ o → first_fault (loop_tests o) ≡ None → Does ps (inwhile x body) (seen env) (seen (moved env x (rest_of (unwrap_or o done))))
+    loop_from None g h = absurd (cc)
+    loop_from (Some done) g h = absurd (cc)
+    loop_from (Some (message w k rest)) g h = absurd (cc)
+    loop_from (Some (choice w arms rest)) g h = absurd (cc)
+    loop_from (Some (repeat Out turn rest)) g h = absurd (cc)
+    loop_from (Some (repeat Into turn rest)) g h =
+        let t = followed_by turn (repeat Into turn rest) in
+        let start = moved env x t in
+        let p = all_pass (code_tests ps start body) _ h in
+        let follows : Follows ps body (at_place (seen env) x t) (seen (after_code ps start body)) = subst (λ (v : Env). Follows ps body v (seen (after_code ps start body))) (seen-moved env x t) (leads start p.0) in
+        (turn, rest, g, seen (after_code ps start body), follows, same_ends env (after_code ps start body) (first_passes 10 line _ [] p.1).0, seen-moved env x rest)
+
+    pub inwhile_follows : first_fault (act_tests ps line env (inwhile x body)) ≡ None → Does ps (inwhile x body) (seen env) (seen (after_act ps env (inwhile x body)))
+    inwhile_follows h = loop_from (get env.ends x) refl h
+
+  module _ (passes : Passes ps body) where
+    pub inwhile_passes : (next : Env) → Does ps (inwhile x body) (seen env) next → (first_fault (act_tests ps line env (inwhile x body)) ≡ None) × (next ≡ seen (after_act ps env (inwhile x body)))
+    inwhile_passes next d =
+        let t = followed_by d.0 (repeat Into d.0 d.1) in
+        let start = moved env x t in
+        let p = passes start d.3 (subst (λ (v : Env). Follows ps body v d.3) (sym (seen-moved env x t)) d.4) in
+        let same = ends_same env (after_code ps start body) d.3 p.1 d.5 in (
+          ap (λ o. first_fault (loop_tests o)) d.2 ∙ pass_both (code_tests ps start body) _ p.0 (ap (λ b. cond b None (Some (10, line))) same),
+          d.6 ∙ sym (seen-moved env x d.1) ∙ ap (λ (o : Option Place). seen (moved env x (rest_of (unwrap_or o done)))) (sym d.2),
+        )
+
+module _ (ps : List ProtocolAt) (line : ℕ) (env : Known) (x : ℕ) (e : Term) (body : Code) where
+  abbrev counted_tests : Option Place → List Test
+  counted_tests o = (5, line, is_some o) ∷ (6, line, is_loop Out (unwrap_or o done)) ∷ term_tests line env.variables e
+      ++ (7, line, is_same_kind (kind_of env.variables e) Int) ∷ code_tests ps (moved env x (turn_of (unwrap_or o done))) body
+      ++ (10, line, is_same_ends env.ends (after_code ps (moved env x (turn_of (unwrap_or o done))) body).ends) ∷ []
+
+  module _ (leads : Leads ps body) where
+    counted_from : (o : Option Place) → get env.ends x ≡ o → first_fault (counted_tests o) ≡ None → Does ps (outwhile x e body) (seen env) (seen (moved env x (rest_of (unwrap_or o done))))
+    counted_from None g h = absurd (cc)
+    counted_from (Some done) g h = absurd (cc)
+    counted_from (Some (message w k rest)) g h = absurd (cc)
+    counted_from (Some (choice w arms rest)) g h = absurd (cc)
+    counted_from (Some (repeat Into turn rest)) g h = absurd (cc)
+    counted_from (Some (repeat Out turn rest)) g h =
+        let t = followed_by turn (repeat Out turn rest) in
+        let start = moved env x t in
+        let last = after_code ps start body in
+        let a = all_pass (term_tests line env.variables e ++ (7, line, is_same_kind (kind_of env.variables e) Int) ∷ code_tests ps start body) _ h in
+        let b = all_pass (term_tests line env.variables e) ((7, line, is_same_kind (kind_of env.variables e) Int) ∷ code_tests ps start body) a.0 in
+        let c = first_passes 7 line (is_same_kind (kind_of env.variables e) Int) (code_tests ps start body) b.1 in
+        let kind : HasKind (seen env).kinds e Int = subst (HasKind (seen env).kinds e) (same_kind (kind_of env.variables e) Int c.0) (has_kind line env.variables e b.0) in
+        let follows : Follows ps body (at_place (seen env) x t) (seen last) = subst (λ (v : Env). Follows ps body v (seen last)) (seen-moved env x t) (leads start c.1) in
+        (turn, rest, g, kind, seen last, follows, same_ends env last (first_passes 10 line _ [] a.1).0, seen-moved env x rest)
+
+    pub outwhile_follows : first_fault (act_tests ps line env (outwhile x e body)) ≡ None → Does ps (outwhile x e body) (seen env) (seen (after_act ps env (outwhile x e body)))
+    outwhile_follows h = counted_from (get env.ends x) refl h
+
+  module _ (passes : Passes ps body) where
+    pub outwhile_passes : (next : Env) → Does ps (outwhile x e body) (seen env) next → (first_fault (act_tests ps line env (outwhile x e body)) ≡ None) × (next ≡ seen (after_act ps env (outwhile x e body)))
+    outwhile_passes next d =
+        let t = followed_by d.0 (repeat Out d.0 d.1) in
+        let start = moved env x t in
+        let k = kind_passes line env.variables e Int d.3 in
+        let p = passes start d.4 (subst (λ (v : Env). Follows ps body v d.4) (sym (seen-moved env x t)) d.5) in
+        let same = ends_same env (after_code ps start body) d.4 p.1 d.6 in
+        let kind : is_same_kind (kind_of env.variables e) Int ≡ true = ap (λ j. is_same_kind j Int) (sym k.1) in (
+          ap (λ o. first_fault (counted_tests o)) d.2
+              ∙ pass_both (term_tests line env.variables e ++ (7, line, is_same_kind (kind_of env.variables e) Int) ∷ code_tests ps start body) _
+              (pass_both (term_tests line env.variables e) _ k.0 (ap (λ b. cond b (first_fault (code_tests ps start body)) (Some (7, line))) kind ∙ p.0))
+              (ap (λ b. cond b None (Some (10, line))) same),
+          d.7 ∙ sym (seen-moved env x d.1) ∙ ap (λ (o : Option Place). seen (moved env x (rest_of (unwrap_or o done)))) (sym d.2),
+        )
+
+module _ (ps : List ProtocolAt) (line : ℕ) (env : Known) (x y : ℕ) (body : Code) where
+  abbrev both_moved : Place → Place → Known
+  both_moved p q = moved (moved env x p) y q
+
+  seen-both : (p q : Place) → seen (both_moved p q) ≡ at_place (at_place (seen env) x p) y q
+  seen-both p q = seen-moved (moved env x p) y q ∙ ap (λ (v : Env). at_place v y q) (seen-moved env x p)
+
+  abbrev begun : Option Place → Option Place → Known
+  begun o q = both_moved (turn_of (unwrap_or o done)) (turn_of (unwrap_or q done))
+
+  abbrev relay_tests : Option Place → Option Place → List Test
+  relay_tests o q = (5, line, is_some o) ∷ (5, line, is_some q) ∷ (6, line, is_loop Into (unwrap_or o done)) ∷ (6, line, is_loop Out (unwrap_or q done))
+      ∷ code_tests ps (begun o q) body ++ (10, line, is_same_ends env.ends (after_code ps (begun o q) body).ends) ∷ []
+
+  module _ (leads : Leads ps body) where
+    relay_from : (o q : Option Place) → get env.ends x ≡ o → get env.ends y ≡ q → first_fault (relay_tests o q) ≡ None
+        → Does ps (relay x y body) (seen env) (seen (both_moved (rest_of (unwrap_or o done)) (rest_of (unwrap_or q done))))
+    relay_from None q g f h = absurd (cc)
+    relay_from (Some p) None g f h = absurd (cc)
+    relay_from (Some done) (Some r) g f h = absurd (cc)
+    relay_from (Some (message w k rest)) (Some r) g f h = absurd (cc)
+    relay_from (Some (choice w arms rest)) (Some r) g f h = absurd (cc)
+    relay_from (Some (repeat Out t rest)) (Some r) g f h = absurd (cc)
+    relay_from (Some (repeat Into t rest)) (Some done) g f h = absurd (cc)
+    relay_from (Some (repeat Into t rest)) (Some (message w k r)) g f h = absurd (cc)
+    relay_from (Some (repeat Into t rest)) (Some (choice w k r)) g f h = absurd (cc)
+    relay_from (Some (repeat Into t rest)) (Some (repeat Into u r)) g f h = absurd (cc)
+    relay_from (Some (repeat Into t rest)) (Some (repeat Out u r)) g f h =
+        let one = followed_by t (repeat Into t rest) in
+        let other = followed_by u (repeat Out u r) in
+        let last = after_code ps (both_moved one other) body in
+        let a = all_pass (code_tests ps (both_moved one other) body) _ h in
+        let follows : Follows ps body (at_place (at_place (seen env) x one) y other) (seen last) = subst (λ (v : Env). Follows ps body v (seen last)) (seen-both one other) (leads (both_moved one other) a.0) in
+        (t, rest, u, r, g, f, seen last, follows, same_ends env last (first_passes 10 line _ [] a.1).0, seen-both rest r)
+
+    pub relay_follows : first_fault (act_tests ps line env (relay x y body)) ≡ None → Does ps (relay x y body) (seen env) (seen (after_act ps env (relay x y body)))
+    relay_follows h = relay_from (get env.ends x) (get env.ends y) refl refl h
+
+  module _ (passes : Passes ps body) where
+    pub relay_passes : (next : Env) → Does ps (relay x y body) (seen env) next → (first_fault (act_tests ps line env (relay x y body)) ≡ None) × (next ≡ seen (after_act ps env (relay x y body)))
+    relay_passes next d =
+        let one = followed_by d.0 (repeat Into d.0 d.1) in
+        let other = followed_by d.2 (repeat Out d.2 d.3) in
+        let p = passes (both_moved one other) d.6 (subst (λ (v : Env). Follows ps body v d.6) (sym (seen-both one other)) d.7) in
+        let same = ends_same env (after_code ps (both_moved one other) body) d.6 p.1 d.8 in (
+          (λ i. first_fault (relay_tests (d.4 i) (d.5 i))) ∙ pass_both (code_tests ps (both_moved one other) body) _ p.0 (ap (λ b. cond b None (Some (10, line))) same),
+          d.9 ∙ sym (seen-both d.1 d.3) ∙ (λ i. seen (both_moved (rest_of (unwrap_or (sym d.4 i) done)) (rest_of (unwrap_or (sym d.5 i) done)))),
+        )
