@@ -1,11 +1,17 @@
+pub mod BodyLaws
 pub mod CodeLaws
+pub mod ConnectLaws
+pub mod EndLaws
 pub mod FaultLemmas
+pub mod FileLaws
 pub mod HandLaws
 pub mod JoinLaws
 pub mod KindLaws
 pub mod LabelLaws
 pub mod LoopLaws
+pub mod NameLaws
 pub mod PairLemmas
+pub mod PartyLemmas
 pub mod SamenessLemmas
 pub mod SeenLemmas
 pub mod SendLaws

@@ -1,5 +1,5 @@
 -- Facts of each element and of each two elements of a list, by recursion.
-use Rattle.std.proofs.Common.{◌≡◌, ℕ, zero, suc, ◌<◌, List, [], ◌∷◌, ◌++◌, length, get_or, refl, sym, ◌∙◌, subst, arith}
+use Rattle.std.proofs.Common.{◌≡◌, ℕ, zero, suc, ◌<◌, List, [], ◌∷◌, ◌++◌, length, get_or, refl, sym, ◌∙◌, subst, append_assoc, append-nil, arith}
 use Rattle.std.specs.List.{All, AllPairs, AllByRecursion}
 use Rattle.std.proofs.lemmas.List.Elements.{All-from_recursion, recursion_from_All}
 
@@ -41,3 +41,39 @@ each_along P Q f (x ∷ xs) h = (f x h.0, each_along P Q f xs h.1)
 pub pairs_along : {X : Type 0} (R S : X → X → Type 0) → ((x y : X) → R x y → S x y) → (xs : List X) → Pairs R xs → Pairs S xs
 pairs_along R S f [] h = tt
 pairs_along R S f (x ∷ xs) h = (each_along (R x) (S x) (f x) xs h.0, pairs_along R S f xs h.1)
+
+-- where D holds of each element, S may rest on it
+pub pairs_with : {X : Type 0} (D : X → Type 0) (R S : X → X → Type 0) → ((x y : X) → D x → D y → R x y → S x y) → (xs : List X) → AllByRecursion D xs → Pairs R xs → Pairs S xs
+pairs_with {X} D R S f [] d h = tt
+pairs_with {X} D R S f (x ∷ xs) d h = (each x d.0 xs d.1 h.0, pairs_with D R S f xs d.1 h.1)
+  where
+    each : (u : X) → D u → (vs : List X) → AllByRecursion D vs → AllByRecursion (R u) vs → AllByRecursion (S u) vs
+    each u e [] ds r = tt
+    each u e (v ∷ vs) ds r = (f u v e ds.0 r.0, each u e vs ds.1 r.1)
+
+pub pairs_join : {X : Type 0} (R : X → X → Type 0) (xs ys : List X) → Pairs R xs → Pairs R ys → AllByRecursion (λ x. AllByRecursion (R x) ys) xs → Pairs R (xs ++ ys)
+pairs_join {X} R [] ys h k e = k
+pairs_join {X} R (x ∷ xs) ys h k e = (both (R x) xs ys h.0 e.0, pairs_join R xs ys h.1 k e.1)
+  where
+    both : (P : X → Type 0) (us vs : List X) → AllByRecursion P us → AllByRecursion P vs → AllByRecursion P (us ++ vs)
+    both P [] vs g h' = h'
+    both P (u ∷ us) vs g h' = (g.0, both P us vs g.1 h')
+
+-- each behind the earlier ones
+abbrev pub EachNew : {X : Type 0} → (X → X → Type 0) → List X → List X → Type 0
+EachNew R earlier [] = Unit {0}
+EachNew R earlier (y ∷ ys) = AllByRecursion (λ x. R x y) earlier × EachNew R (earlier ++ y ∷ []) ys
+
+module _ {X : Type 0} (R : X → X → Type 0) where
+  pub pairs_from_new : (earlier ys : List X) → Pairs R earlier → EachNew R earlier ys → Pairs R (earlier ++ ys)
+  pairs_from_new earlier [] p h = subst (Pairs R) (sym (append-nil earlier)) p
+  pairs_from_new earlier (y ∷ ys) p h =
+      let one = pairs_join R earlier (y ∷ []) p (tt, tt) (each_along (λ x. R x y) (λ x. AllByRecursion (R x) (y ∷ [])) (λ x r. (r, tt)) earlier h.0) in
+      subst (Pairs R) (append_assoc earlier (y ∷ []) ys) (pairs_from_new (earlier ++ y ∷ []) ys one h.1)
+
+  pub new_from_pairs : (earlier ys : List X) → Pairs R (earlier ++ ys) → EachNew R earlier ys
+  new_from_pairs earlier [] p = tt
+  new_from_pairs earlier (y ∷ ys) p = (
+    each_along (λ x. AllByRecursion (R x) (y ∷ ys)) (λ x. R x y) (λ x r. r.0) earlier (pairs_split R earlier (y ∷ ys) p).2,
+    new_from_pairs (earlier ++ y ∷ []) ys (subst (Pairs R) (sym (append_assoc earlier (y ∷ []) ys)) p),
+  )

@@ -8,7 +8,7 @@ use Rattle.sj_lang.specs.Place.{Place}
 use Rattle.sj_acceptance.specs.Environment.{Env, put, at_place, without_end, with_kind, SameEnds}
 use Rattle.sj_acceptance.specs.Known.{Known, seen, moved, without, knowing}
 
-put_here : {X : Type 0} (m : FinMap nat_cmp X) (k : ℕ) (v : X) (q : ℕ) → get (insert m k v) q ≡ put (λ n. get m n) k (Some v) q
+pub put_here : {X : Type 0} (m : FinMap nat_cmp X) (k : ℕ) (v : X) (q : ℕ) → get (insert m k v) q ≡ put (λ n. get m n) k (Some v) q
 put_here m k v q = get-insert nat_cmp_total m k v q ∙ ap (λ b. cond b (Some v) (get m q)) (unsigned_tied q k)
 
 put_none : {X : Type 0} (m : FinMap nat_cmp X) (k q : ℕ) → get (remove m k) q ≡ put (λ n. get m n) k None q
