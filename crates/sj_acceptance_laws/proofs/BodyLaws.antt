@@ -1,5 +1,5 @@
 -- The tests of the parties' bodies.
-use Rattle.std.proofs.Common.{◌≡◌, ℕ, zero, suc, List, [], ◌∷◌, ◌++◌, ◌==◌, Option, Some, None, Bool, true, false, cond, if◌then◌else◌, refl, ap, sym, ◌∙◌, subst, append_assoc}
+use Rattle.std.proofs.Common.{◌≡◌, ℕ, zero, suc, List, [], ◌∷◌, ◌++◌, ◌==◌, Option, Some, None, true, false, cond, if◌then◌else◌, refl, ap, sym, ◌∙◌, subst, append_assoc}
 use Rattle.std.specs.Ordering.{nat_cmp}
 use Rattle.std.specs.List.{slice_get}
 use Rattle.std.specs.FinMap.{FinMap, get, insert, empty, get-empty}
@@ -10,7 +10,7 @@ use Rattle.sj_acceptance.specs.Environment.{Env, put}
 use Rattle.sj_acceptance.specs.Known.{Known, seen}
 use Rattle.sj_acceptance.specs.Follows.{Follows}
 use Rattle.sj_acceptance.specs.Accepted.{place_of_party, places_from, start_env, EndsWell}
-use Rattle.sj_acceptance.specs.Faults.{Test, first_fault}
+use Rattle.sj_acceptance.specs.Faults.{first_fault}
 use Rattle.sj_acceptance.specs.Sameness.{is_same_ends}
 use Rattle.sj_acceptance.specs.Tests.{code_tests, after_code}
 use Rattle.sj_acceptance.specs.FileTests.{bound, held, at_start, one_body_tests, body_tests}

@@ -1,119 +1,27 @@
 -- The tests of a block all pass exactly where it leads to an environment, and then to that one.
-use Rattle.std.proofs.Common.{◌≡◌, ℕ, List, [], ◌∷◌, ◌++◌, ◌==◌, ◌&&◌, ◌||◌, Option, Some, None, Bool, true, false, cond, is_some, map, unwrap_or, refl, ap, sym, subst, ◌∙◌}
+use Rattle.std.proofs.Common.{◌≡◌, ℕ, List, [], ◌∷◌, ◌++◌, Some, None, true, cond, map, refl, ap, sym, subst, ◌∙◌}
 use Rattle.std.specs.FinMap.{get}
-use Rattle.std.proofs.lemmas.Bool.Decides.{Decides-eqb}
-use Rattle.sj_lang.specs.declared.proto.Way.TheVariants.{Out, Into}
-use Rattle.sj_lang.specs.declared.party.Scalar.TheVariants.{Boolean}
-use Rattle.sj_lang.specs.Term.{Term}
-use Rattle.sj_lang.specs.Place.{Place, Choices, done, message, choice, repeat, no_choice, arm}
-use Rattle.sj_lang.specs.After.{followed_by, at_label}
-use Rattle.sj_lang.specs.Code.{Code, Step, Act, Branches, no_step, step_then, at, send, delegate, take_value, take_end, outbranch, inbranch, outwhile, inwhile, relay, if_else, let_be, close, no_branch, branch}
+use Rattle.sj_lang.specs.declared.proto.Way.TheVariants.{Into}
+use Rattle.sj_lang.specs.Place.{Place, Choices, choice}
+use Rattle.sj_lang.specs.Code.{Code, Act, Branches, no_step, step_then, at, send, delegate, take_value, take_end, outbranch, inbranch, outwhile, inwhile, relay, if_else, let_be, close, no_branch, branch}
 use Rattle.sj_lang.specs.FileAt.{ProtocolAt}
-use Rattle.sj_acceptance.specs.Environment.{Env, at_place, IsCommon}
+use Rattle.sj_acceptance.specs.Environment.{Env}
 use Rattle.sj_acceptance.specs.Known.{Known, seen, moved, place_at}
-use Rattle.sj_acceptance.specs.Kinds.{HasKind}
-use Rattle.sj_acceptance.specs.Labels.{labels_of, branch_labels, AreItsArms}
+use Rattle.sj_acceptance.specs.Labels.{labels_of, branch_labels}
 use Rattle.sj_acceptance.specs.Follows.{Follows, Does, EachArm}
-use Rattle.sj_acceptance.specs.Faults.{Test, first_fault}
-use Rattle.sj_acceptance.specs.KindTests.{kind_of, term_tests}
-use Rattle.sj_acceptance.specs.LabelTests.{is_among, are_among, are_labels_of}
-use Rattle.sj_acceptance.specs.Sameness.{is_same_kind, is_same_ends}
-use Rattle.sj_acceptance.specs.FirstItem.{is_choice, choices, arm_place}
-use Rattle.sj_acceptance.specs.Arms.{joined, is_one}
-use Rattle.sj_acceptance.specs.Tests.{act_tests, after_act, step_tests, after_step, code_tests, after_code, branches_tests, after_branches, branching_tests, condition_tests}
+use Rattle.sj_acceptance.specs.Faults.{first_fault}
+use Rattle.sj_acceptance.specs.LabelTests.{is_among, are_among}
+use Rattle.sj_acceptance.specs.FirstItem.{arm_place}
+use Rattle.sj_acceptance.specs.Tests.{act_tests, after_act, code_tests, after_code, branches_tests, after_branches, branching_tests}
 use Rattle.sj_acceptance_laws.proofs.FaultLemmas.{all_pass, pass_both, first_passes, both_true}
-use Rattle.sj_acceptance_laws.proofs.KindLaws.{same_kind, has_kind, kind_passes}
 use Rattle.sj_acceptance_laws.proofs.LabelLaws.{four_pass, its_arms_from, its_arms_to}
-use Rattle.sj_acceptance_laws.proofs.SeenLemmas.{seen-moved}
 use Rattle.sj_acceptance_laws.proofs.SendLaws.{send_follows, send_passes, close_follows, close_passes, let_follows, let_passes}
 use Rattle.sj_acceptance_laws.proofs.TakeLaws.{take_follows, take_passes, take_end_follows, take_end_passes}
 use Rattle.sj_acceptance_laws.proofs.HandLaws.{select_follows, select_passes, delegate_follows, delegate_passes}
-use Rattle.sj_acceptance_laws.proofs.LoopLaws.{Leads, Passes, inwhile_follows, inwhile_passes, outwhile_follows, outwhile_passes, relay_follows, relay_passes}
-use Rattle.sj_acceptance_laws.proofs.JoinLaws.{joins, joined-is}
-
-and_true : (b : Bool) → b ≡ true → (b && true) ≡ true
-and_true b h = ap (λ c. c && true) h
-
--- `if`, where its arms are known
-module _ (ps : List ProtocolAt) (line : ℕ) (env : Known) (e : Term) (first second : Code) where
-  pub if_follows : Leads ps first → Leads ps second → first_fault (act_tests ps line env (if_else e first second)) ≡ None
-      → Does ps (if_else e first second) (seen env) (seen (after_act ps env (if_else e first second)))
-  if_follows l m h =
-      let a = all_pass (condition_tests line env e ++ code_tests ps env first ++ code_tests ps env second) _ h in
-      let b = all_pass (condition_tests line env e ++ code_tests ps env first) (code_tests ps env second) a.0 in
-      let c = all_pass (condition_tests line env e) (code_tests ps env first) b.0 in
-      let d = all_pass (term_tests line env.variables e) _ c.0 in
-      let kind : HasKind (seen env).kinds e Boolean = subst (HasKind (seen env).kinds e) (same_kind (kind_of env.variables e) Boolean (first_passes 7 line (is_same_kind (kind_of env.variables e) Boolean) [] d.1).0) (has_kind line env.variables e d.0) in
-      let one = after_code ps env first in
-      let other = after_code ps env second in
-      (kind, seen one, l env c.1, seen other, m env b.1, joins one (other ∷ []) (and_true (is_same_ends one.ends other.ends) (first_passes 9 line _ [] a.1).0))
-
-  pub if_passes : Passes ps first → Passes ps second → (next : Env) → Does ps (if_else e first second) (seen env) next
-      → (first_fault (act_tests ps line env (if_else e first second)) ≡ None) × (next ≡ seen (after_act ps env (if_else e first second)))
-  if_passes l m next d =
-      let k = kind_passes line env.variables e Boolean d.0 in
-      let p = l env d.1 d.2 in
-      let q = m env d.3 d.4 in
-      let one = after_code ps env first in
-      let other = after_code ps env second in
-      let common : IsCommon (seen one ∷ seen other ∷ []) next = subst (λ (es : List Env). IsCommon es next) (λ i. p.1 i ∷ q.1 i ∷ []) d.5 in
-      let j = joined-is one (other ∷ []) next common in (
-        pass_both (condition_tests line env e ++ code_tests ps env first ++ code_tests ps env second) _
-            (pass_both (condition_tests line env e ++ code_tests ps env first) (code_tests ps env second)
-            (pass_both (condition_tests line env e) (code_tests ps env first)
-            (pass_both (term_tests line env.variables e) _ k.0 (ap (λ j. cond (is_same_kind j Boolean) None (Some (7, line))) (sym k.1))) p.0) q.0)
-            (ap (λ b. cond b None (Some (9, line))) (both_true (is_same_ends one.ends other.ends) true j.0).0),
-        j.1,
-      )
-
--- a label of the choice has its arm
-label_there : (l : ℕ) (arms : Choices) → is_among l (labels_of arms) ≡ true → (p : Place) × (at_label l arms ≡ Some p)
-label_there l no_choice h = absurd (cc)
-label_there l (arm m p arms) h =
-    elim (l == m) as (λ b. (l == m) ≡ b → (q : Place) × (cond b (Some p) (at_label l arms) ≡ Some q)) [
-      | true ↦ λ e. (p, refl)
-      | false ↦ λ e. label_there l arms (other (m == l) e h)
-    ] refl
-  where
-    other : (b : Bool) → (l == m) ≡ false → ((m == l) || is_among l (labels_of arms)) ≡ true → is_among l (labels_of arms) ≡ true
-    other b e g = elim (m == l) as (λ c. (m == l) ≡ c → (c || is_among l (labels_of arms)) ≡ true → is_among l (labels_of arms) ≡ true) [
-      | true ↦ λ f t. let back : (l == m) ≡ true = (Decides-eqb l m).1 (sym ((Decides-eqb m l).0 f)) in absurd (cc)
-      | false ↦ λ f t. t
-    ] refl g
-
--- where the end stands at a choice, each arm begins at its place
-arm_start : (env : Known) (x l : ℕ) (arms : Choices) (rest p : Place) → get env.ends x ≡ Some (choice Into arms rest) → at_label l arms ≡ Some p
-    → seen (moved env x (arm_place l (place_at env x))) ≡ at_place (seen env) x (followed_by p rest)
-arm_start env x l arms rest p g e =
-    ap (λ (o : Option Place). seen (moved env x (arm_place l (unwrap_or o done)))) g ∙ ap (λ (o : Option Place). seen (moved env x (followed_by (unwrap_or o done) rest))) e
-    ∙ seen-moved env x (followed_by p rest)
-
-abbrev branching_at : ℕ → ℕ → Known → Branches → Option Place → List Test
-branching_at line x env bs o = (5, line, is_some o) ∷ (6, line, is_choice Into (unwrap_or o done)) ∷ (14, line, are_labels_of (choices (unwrap_or o done)) (branch_labels bs)) ∷ []
-
-choice_at : (line : ℕ) (x : ℕ) (env : Known) (bs : Branches) (o : Option Place) → get env.ends x ≡ o → first_fault (branching_at line x env bs o) ≡ None
-    → (arms : Choices) × (rest : Place) × (get env.ends x ≡ Some (choice Into arms rest)) × (are_labels_of arms (branch_labels bs) ≡ true)
-choice_at line x env bs None g h = absurd (cc)
-choice_at line x env bs (Some done) g h = absurd (cc)
-choice_at line x env bs (Some (message w c rest)) g h = absurd (cc)
-choice_at line x env bs (Some (repeat w c rest)) g h = absurd (cc)
-choice_at line x env bs (Some (choice Out arms rest)) g h = absurd (cc)
-choice_at line x env bs (Some (choice Into arms rest)) g h = (arms, rest, g, (first_passes 14 line (are_labels_of arms (branch_labels bs)) [] h).0)
-
-branching_passes : (line : ℕ) (x : ℕ) (env : Known) (bs : Branches) (arms : Choices) (rest : Place) → get env.ends x ≡ Some (choice Into arms rest) → are_labels_of arms (branch_labels bs) ≡ true
-    → first_fault (branching_tests line env x bs) ≡ None
-branching_passes line x env bs arms rest g h = ap (λ o. first_fault (branching_at line x env bs o)) g ∙ ap (λ b. cond b None (Some (14, line))) h
-
--- there is an arm, so there is what the arms leave together
-joins_all : (ps : List ProtocolAt) (env : Known) (x : ℕ) (arms : Choices) (bs : Branches) → are_labels_of arms (branch_labels bs) ≡ true → is_one (after_branches ps env x bs) ≡ true
-    → IsCommon (map seen (after_branches ps env x bs)) (seen (joined (after_branches ps env x bs)))
-joins_all ps env x arms no_branch h k = absurd (cc)
-joins_all ps env x arms (branch l c bs) h k = joins _ (after_branches ps env x bs) k
-
-one_and_joined : (arms : Choices) (bs : Branches) (lasts : List Env) (next : Env) (ps : List ProtocolAt) (env : Known) (x : ℕ) → are_labels_of arms (branch_labels bs) ≡ true
-    → lasts ≡ map seen (after_branches ps env x bs) → IsCommon lasts next → (is_one (after_branches ps env x bs) ≡ true) × (next ≡ seen (joined (after_branches ps env x bs)))
-one_and_joined arms no_branch lasts next ps env x h e j = absurd (cc)
-one_and_joined arms (branch l c bs) lasts next ps env x h e j = joined-is _ (after_branches ps env x bs) next (subst (λ (es : List Env). IsCommon es next) e j)
+use Rattle.sj_acceptance_laws.proofs.LoopLaws.{inwhile_follows, inwhile_passes, outwhile_follows, outwhile_passes}
+use Rattle.sj_acceptance_laws.proofs.RelayLaws.{relay_follows, relay_passes}
+use Rattle.sj_acceptance_laws.proofs.IfLaws.{if_follows, if_passes}
+use Rattle.sj_acceptance_laws.proofs.ArmLaws.{label_there, arm_start, choice_at, branching_passes, joins_all, one_and_joined}
 
 mutual
   pub follows_code : (ps : List ProtocolAt) (c : Code) (env : Known) → first_fault (code_tests ps env c) ≡ None → Follows ps c (seen env) (seen (after_code ps env c))

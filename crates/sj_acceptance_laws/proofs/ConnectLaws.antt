@@ -4,7 +4,7 @@ use Rattle.std.proofs.Common as common
 use Rattle.std.specs.List.{AllByRecursion}
 use Rattle.sj_lang.specs.Place.{Place, done}
 use Rattle.sj_lang.specs.Dual.{dual_of}
-use Rattle.sj_lang.specs.FileAt.{FileAt, ConnectAt, DeclAt, party_named, protocol_named, body_named}
+use Rattle.sj_lang.specs.FileAt.{FileAt, ConnectAt, DeclAt, protocol_named, body_named}
 use Rattle.sj_acceptance.specs.Accepted.{IsDeclared, IsConnection}
 use Rattle.sj_acceptance.specs.Faults.{Test, first_fault}
 use Rattle.sj_acceptance.specs.LabelTests.{is_among}

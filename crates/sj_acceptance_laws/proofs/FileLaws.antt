@@ -1,5 +1,5 @@
 -- A file within the limits is accepted exactly where all its tests pass.
-use Rattle.std.proofs.Common.{◌≡◌, List, [], ◌∷◌, ◌++◌, None}
+use Rattle.std.proofs.Common.{◌≡◌, List, [], ◌++◌, None}
 use Rattle.std.proofs.lemmas.List.Elements.{All-from_recursion, recursion_from_All}
 use Rattle.sj_lang.specs.FileAt.{FileAt}
 use Rattle.sj_acceptance.specs.Labels.{NamesOnce}
@@ -7,9 +7,9 @@ use Rattle.sj_acceptance.specs.Accepted.{IsAccepted, IsWithinLimits, IsConnectio
 use Rattle.sj_acceptance.specs.Faults.{Test, first_fault}
 use Rattle.sj_acceptance.specs.FileTests.{party_names, protocol_tests, party_tests, connect_tests, body_tests, tests_of}
 use Rattle.sj_acceptance_laws.proofs.FaultLemmas.{all_pass, pass_both}
-use Rattle.sj_acceptance_laws.proofs.PairLemmas.{Pairs, EachNew, pairs_from_all, all_from_pairs, pairs_from_new, new_from_pairs}
+use Rattle.sj_acceptance_laws.proofs.PairLemmas.{pairs_from_all, all_from_pairs, pairs_from_new, new_from_pairs}
 use Rattle.sj_acceptance_laws.proofs.NameLaws.{OtherProtocol, OtherParty, protocols_from, protocols_to, parties_from, parties_to}
-use Rattle.sj_acceptance_laws.proofs.EndLaws.{decls, OtherEnd, names_once_of, none_taken}
+use Rattle.sj_acceptance_laws.proofs.EndLaws.{names_once_of, none_taken}
 use Rattle.sj_acceptance_laws.proofs.ConnectLaws.{connects_from, connects_to, have_parties}
 use Rattle.sj_acceptance_laws.proofs.BodyLaws.{body_from, body_to, each_body, all_bodies}
 

@@ -1,5 +1,5 @@
 -- An expression passes its tests exactly where it has a kind, and then that one.
-use Rattle.std.proofs.Common.{◌≡◌, ℕ, List, [], ◌∷◌, ◌++◌, Option, Some, None, Bool, true, false, ◌&&◌, cond, is_some, unwrap_or, refl, ap, sym, ◌∙◌, subst}
+use Rattle.std.proofs.Common.{◌≡◌, ℕ, [], ◌++◌, Option, Some, None, true, ◌&&◌, cond, is_some, unwrap_or, refl, ap, sym, ◌∙◌, subst}
 use Rattle.std.specs.Ordering.{nat_cmp}
 use Rattle.std.specs.FinMap.{FinMap, get}
 use Rattle.sj_lang.specs.declared.party.Scalar.{Scalar}
@@ -9,8 +9,8 @@ use Rattle.sj_lang.specs.declared.party.Op.TheVariants.{Add, Sub, Mul, Less, Les
 use Rattle.sj_lang.specs.Term.{Term, int, boolean, text, var, not, two}
 use Rattle.sj_lang.specs.Place.{Carried}
 use Rattle.sj_lang.specs.Place as place
-use Rattle.sj_acceptance.specs.Faults.{Test, first_fault}
-use Rattle.sj_acceptance.specs.Kinds.{HasKind, Takes, given_by, carried_by}
+use Rattle.sj_acceptance.specs.Faults.{first_fault}
+use Rattle.sj_acceptance.specs.Kinds.{HasKind, Takes, carried_by}
 use Rattle.sj_acceptance.specs.KindTests.{takes, kind_of, term_tests, is_free_for}
 use Rattle.sj_acceptance.specs.Sameness.{is_same_kind}
 use Rattle.sj_acceptance.specs.FirstItem.{is_carried_as}

@@ -1,3 +1,4 @@
+pub mod ArmLaws
 pub mod BodyLaws
 pub mod CodeLaws
 pub mod ConnectLaws
@@ -5,13 +6,16 @@ pub mod EndLaws
 pub mod FaultLemmas
 pub mod FileLaws
 pub mod HandLaws
+pub mod IfLaws
 pub mod JoinLaws
 pub mod KindLaws
 pub mod LabelLaws
 pub mod LoopLaws
 pub mod NameLaws
+pub mod OnceLaws
 pub mod PairLemmas
 pub mod PartyLemmas
+pub mod RelayLaws
 pub mod SamenessLemmas
 pub mod SeenLemmas
 pub mod SendLaws

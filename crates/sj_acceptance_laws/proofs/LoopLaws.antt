@@ -6,7 +6,7 @@ use Rattle.sj_lang.specs.declared.party.Scalar.TheVariants.{Int}
 use Rattle.sj_lang.specs.Term.{Term}
 use Rattle.sj_lang.specs.Place.{Place, done, message, choice, repeat}
 use Rattle.sj_lang.specs.After.{followed_by}
-use Rattle.sj_lang.specs.Code.{Code, outwhile, inwhile, relay}
+use Rattle.sj_lang.specs.Code.{Code, outwhile, inwhile}
 use Rattle.sj_lang.specs.FileAt.{ProtocolAt}
 use Rattle.sj_acceptance.specs.Environment.{Env, at_place, SameEnds}
 use Rattle.sj_acceptance.specs.Known.{Known, seen, moved}
@@ -23,10 +23,10 @@ use Rattle.sj_acceptance_laws.proofs.SamenessLemmas.{is_same_ends-Decides}
 use Rattle.sj_acceptance_laws.proofs.SeenLemmas.{seen-moved, same_from_get}
 
 -- the test of the ends says whether they are the same
-same_ends : (old new : Known) → is_same_ends old.ends new.ends ≡ true → SameEnds (seen old) (seen new)
+pub same_ends : (old new : Known) → is_same_ends old.ends new.ends ≡ true → SameEnds (seen old) (seen new)
 same_ends old new h n = ap (λ m. get m n) (sym ((is_same_ends-Decides old.ends new.ends).0 h))
 
-ends_same : (old new : Known) (next : Env) → next ≡ seen new → SameEnds (seen old) next → is_same_ends old.ends new.ends ≡ true
+pub ends_same : (old new : Known) (next : Env) → next ≡ seen new → SameEnds (seen old) next → is_same_ends old.ends new.ends ≡ true
 ends_same old new next e h = (is_same_ends-Decides old.ends new.ends).1 (same_from_get old.ends new.ends (λ n. sym (h n) ∙ ap (λ (v : Env). v.places n) e))
 
 -- what follows a body that begins where it is seen to begin
@@ -110,53 +110,4 @@ module _ (ps : List ProtocolAt) (line : ℕ) (env : Known) (x : ℕ) (e : Term) 
               (pass_both (term_tests line env.variables e) _ k.0 (ap (λ b. cond b (first_fault (code_tests ps start body)) (Some (7, line))) kind ∙ p.0))
               (ap (λ b. cond b None (Some (10, line))) same),
           d.7 ∙ sym (seen-moved env x d.1) ∙ ap (λ (o : Option Place). seen (moved env x (rest_of (unwrap_or o done)))) (sym d.2),
-        )
-
-module _ (ps : List ProtocolAt) (line : ℕ) (env : Known) (x y : ℕ) (body : Code) where
-  abbrev both_moved : Place → Place → Known
-  both_moved p q = moved (moved env x p) y q
-
-  seen-both : (p q : Place) → seen (both_moved p q) ≡ at_place (at_place (seen env) x p) y q
-  seen-both p q = seen-moved (moved env x p) y q ∙ ap (λ (v : Env). at_place v y q) (seen-moved env x p)
-
-  abbrev begun : Option Place → Option Place → Known
-  begun o q = both_moved (turn_of (unwrap_or o done)) (turn_of (unwrap_or q done))
-
-  abbrev relay_tests : Option Place → Option Place → List Test
-  relay_tests o q = (5, line, is_some o) ∷ (5, line, is_some q) ∷ (6, line, is_loop Into (unwrap_or o done)) ∷ (6, line, is_loop Out (unwrap_or q done))
-      ∷ code_tests ps (begun o q) body ++ (10, line, is_same_ends env.ends (after_code ps (begun o q) body).ends) ∷ []
-
-  module _ (leads : Leads ps body) where
-    relay_from : (o q : Option Place) → get env.ends x ≡ o → get env.ends y ≡ q → first_fault (relay_tests o q) ≡ None
-        → Does ps (relay x y body) (seen env) (seen (both_moved (rest_of (unwrap_or o done)) (rest_of (unwrap_or q done))))
-    relay_from None q g f h = absurd (cc)
-    relay_from (Some p) None g f h = absurd (cc)
-    relay_from (Some done) (Some r) g f h = absurd (cc)
-    relay_from (Some (message w k rest)) (Some r) g f h = absurd (cc)
-    relay_from (Some (choice w arms rest)) (Some r) g f h = absurd (cc)
-    relay_from (Some (repeat Out t rest)) (Some r) g f h = absurd (cc)
-    relay_from (Some (repeat Into t rest)) (Some done) g f h = absurd (cc)
-    relay_from (Some (repeat Into t rest)) (Some (message w k r)) g f h = absurd (cc)
-    relay_from (Some (repeat Into t rest)) (Some (choice w k r)) g f h = absurd (cc)
-    relay_from (Some (repeat Into t rest)) (Some (repeat Into u r)) g f h = absurd (cc)
-    relay_from (Some (repeat Into t rest)) (Some (repeat Out u r)) g f h =
-        let one = followed_by t (repeat Into t rest) in
-        let other = followed_by u (repeat Out u r) in
-        let last = after_code ps (both_moved one other) body in
-        let a = all_pass (code_tests ps (both_moved one other) body) _ h in
-        let follows : Follows ps body (at_place (at_place (seen env) x one) y other) (seen last) = subst (λ (v : Env). Follows ps body v (seen last)) (seen-both one other) (leads (both_moved one other) a.0) in
-        (t, rest, u, r, g, f, seen last, follows, same_ends env last (first_passes 10 line _ [] a.1).0, seen-both rest r)
-
-    pub relay_follows : first_fault (act_tests ps line env (relay x y body)) ≡ None → Does ps (relay x y body) (seen env) (seen (after_act ps env (relay x y body)))
-    relay_follows h = relay_from (get env.ends x) (get env.ends y) refl refl h
-
-  module _ (passes : Passes ps body) where
-    pub relay_passes : (next : Env) → Does ps (relay x y body) (seen env) next → (first_fault (act_tests ps line env (relay x y body)) ≡ None) × (next ≡ seen (after_act ps env (relay x y body)))
-    relay_passes next d =
-        let one = followed_by d.0 (repeat Into d.0 d.1) in
-        let other = followed_by d.2 (repeat Out d.2 d.3) in
-        let p = passes (both_moved one other) d.6 (subst (λ (v : Env). Follows ps body v d.6) (sym (seen-both one other)) d.7) in
-        let same = ends_same env (after_code ps (both_moved one other) body) d.6 p.1 d.8 in (
-          (λ i. first_fault (relay_tests (d.4 i) (d.5 i))) ∙ pass_both (code_tests ps (both_moved one other) body) _ p.0 (ap (λ b. cond b None (Some (10, line))) same),
-          d.9 ∙ sym (seen-both d.1 d.3) ∙ (λ i. seen (both_moved (rest_of (unwrap_or (sym d.4 i) done)) (rest_of (unwrap_or (sym d.5 i) done)))),
         )

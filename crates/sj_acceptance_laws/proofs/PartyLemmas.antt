@@ -1,7 +1,6 @@
 -- The number of a party and its name.
-use Rattle.std.proofs.Common.{◌≡◌, ◌≢◌, ℕ, zero, suc, ◌<◌, ◌+◌, List, [], ◌∷◌, ◌==◌, ◌||◌, Option, Some, None, Bool, true, false, cond, length, map, refl, ap, sym, ◌∙◌, subst, arith}
+use Rattle.std.proofs.Common.{◌≡◌, ◌≢◌, ℕ, zero, suc, ◌<◌, ◌+◌, List, [], ◌∷◌, ◌==◌, ◌||◌, Some, Bool, true, false, cond, length, refl, ap, sym, ◌∙◌, subst, arith}
 use Rattle.std.specs.List.{AllByRecursion, slice_get}
-use Rattle.std.specs.Bool.{Decides}
 use Rattle.std.proofs.lemmas.Bool.Decides.{Decides-eqb, same_from_decides, Decides-like}
 use Rattle.sj_lang.specs.FileAt.{PartyAt, party_named}
 use Rattle.sj_acceptance.specs.LabelTests.{is_among}

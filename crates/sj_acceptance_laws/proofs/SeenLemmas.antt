@@ -1,11 +1,11 @@
 -- Changes of the finite maps are changes of the environment that they are seen as.
-use Rattle.std.proofs.Common.{◌≡◌, ℕ, ◌==◌, Option, Some, None, cond, refl, ap, sym, ◌∙◌}
+use Rattle.std.proofs.Common.{◌≡◌, ℕ, Some, None, cond, ap, ◌∙◌}
 use Rattle.std.specs.Ordering.{nat_cmp}
 use Rattle.std.specs.Cmp.{nat_cmp_total, unsigned_tied}
 use Rattle.std.specs.FinMap.{FinMap, get, insert, remove, same_map, get-insert, get-remove, nat_cmp-IsAntisymmetric}
 use Rattle.sj_lang.specs.declared.party.Scalar.{Scalar}
 use Rattle.sj_lang.specs.Place.{Place}
-use Rattle.sj_acceptance.specs.Environment.{Env, put, at_place, without_end, with_kind, SameEnds}
+use Rattle.sj_acceptance.specs.Environment.{Env, put, at_place, without_end, with_kind}
 use Rattle.sj_acceptance.specs.Known.{Known, seen, moved, without, knowing}
 
 pub put_here : {X : Type 0} (m : FinMap nat_cmp X) (k : ℕ) (v : X) (q : ℕ) → get (insert m k v) q ≡ put (λ n. get m n) k (Some v) q

@@ -7,7 +7,7 @@ use Rattle.sj_lang.specs.Term.{Term}
 use Rattle.sj_lang.specs.Place.{Place, done, message, choice, repeat}
 use Rattle.sj_lang.specs.Code.{send, close, let_be}
 use Rattle.sj_lang.specs.FileAt.{ProtocolAt}
-use Rattle.sj_acceptance.specs.Environment.{Env, at_place, without_end, with_kind}
+use Rattle.sj_acceptance.specs.Environment.{Env}
 use Rattle.sj_acceptance.specs.Known.{Known, seen, moved, without, knowing}
 use Rattle.sj_acceptance.specs.Kinds.{carried_by}
 use Rattle.sj_acceptance.specs.Statements.{IsSend, IsClose, IsLet}

@@ -2,28 +2,25 @@
 use Rattle.std.proofs.Common.{◌≡◌, ◌≢◌, ℕ, List, [], ◌∷◌, ◌++◌, ◌==◌, ◌||◌, Option, Some, None, Bool, true, false, cond, is_some, unwrap_or, refl, ap, sym, ◌∙◌}
 use Rattle.std.proofs.Common as common
 use Rattle.std.specs.FinMap.{get}
-use Rattle.std.proofs.lemmas.Bool.Decides.{Decides-eqb}
 use Rattle.sj_lang.specs.declared.proto.Way.TheVariants.{Out, Into}
 use Rattle.sj_lang.specs.declared.party.Scalar.{Scalar}
 use Rattle.sj_lang.specs.Place.{Place, Choices, done, message, choice, repeat, session}
 use Rattle.sj_lang.specs.Place as place
-use Rattle.sj_lang.specs.After.{followed_by, at_label}
-use Rattle.sj_lang.specs.Code.{take_value, take_end, outbranch, delegate}
+use Rattle.sj_lang.specs.Code.{take_value, take_end}
 use Rattle.sj_lang.specs.FileAt.{ProtocolAt, protocol_named}
-use Rattle.sj_acceptance.specs.Environment.{Env, at_place, without_end, with_kind}
-use Rattle.sj_acceptance.specs.Known.{Known, seen, moved, without, knowing}
-use Rattle.sj_acceptance.specs.Kinds.{carried_by}
-use Rattle.sj_acceptance.specs.Statements.{IsTakeValue, IsTakeEnd, IsSelect, IsDelegate}
+use Rattle.sj_acceptance.specs.Environment.{Env, at_place, with_kind}
+use Rattle.sj_acceptance.specs.Known.{Known, seen, moved, knowing}
+use Rattle.sj_acceptance.specs.Statements.{IsTakeValue, IsTakeEnd}
 use Rattle.sj_acceptance.specs.Faults.{Test, first_fault}
 use Rattle.sj_acceptance.specs.KindTests.{is_free_for}
 use Rattle.sj_acceptance.specs.Sameness.{is_same_place}
-use Rattle.sj_acceptance.specs.FirstItem.{is_message, is_choice, is_done, is_session, is_session_of, carried, choices, rest_of, arm_place, is_carried_as}
+use Rattle.sj_acceptance.specs.FirstItem.{is_message, is_session_of, carried, rest_of, is_carried_as}
 use Rattle.sj_acceptance.specs.Tests.{act_tests, after_act}
 use Rattle.sj_acceptance_laws.proofs.FaultLemmas.{first_passes}
 use Rattle.sj_acceptance_laws.proofs.KindLaws.{carried_is, carried_by-passes, free_kind, free_passes}
 use Rattle.sj_acceptance_laws.proofs.SamenessLemmas.{is_same_place-Decides}
 use Rattle.sj_acceptance_laws.proofs.SendLaws.{no_end}
-use Rattle.sj_acceptance_laws.proofs.SeenLemmas.{seen-moved, seen-without, seen-knowing}
+use Rattle.sj_acceptance_laws.proofs.SeenLemmas.{seen-moved, seen-knowing}
 
 module _ (ps : List ProtocolAt) (line : ℕ) (env : Known) (x : ℕ) where
   module _ (n : ℕ) (k : Scalar) where

@@ -1,0 +1,110 @@
+-- Entries that are inserted in turn, and entries that both have.
+use Rattle.std.proofs.Common.{◌≡◌, ℕ, List, [], ◌∷◌, Option, Some, None, Bool, true, false, ◌&&◌, ◌==◌, cond, refl, ap, sym, ◌∙◌}
+use Rattle.std.specs.Ordering.{nat_cmp, eq_by_cmp}
+use Rattle.std.specs.Cmp.{nat_cmp_total, eq_by_cmp_equiv, unsigned_tied}
+use Rattle.std.specs.Bool.{Decides}
+use Rattle.std.specs.Map.{lookup, update_all, keys_of}
+use Rattle.std.specs.List.{AllByRecursion}
+use Rattle.std.specs.List.Sorted.{IsStrictlySortedBy}
+use Rattle.std.specs.BTreeMap.{BTreeMap, is_at, IsOrdered}
+use Rattle.std.specs.FinMap.{FinMap, get, entries, same_map, same_entries_map, nat_cmp-IsAntisymmetric}
+use Rattle.std.proofs.lemmas.Map.Made.{update_all_none}
+use Rattle.std.proofs.lemmas.Map.Keys.{IsDistinct-from_sorted}
+use Rattle.std.proofs.lemmas.Map.Views.{All-found}
+use Rattle.std.proofs.lemmas.List.Elements.{recursion_from_All}
+use Rattle.std.proofs.lemmas.Bool.Decides.{Decides-eqb, Decides-and, Decides-like, same_from_decides}
+use Rattle.sj_lang.specs.Place.{Place}
+use Rattle.sj_acceptance.specs.Sameness.{is_same_place, is_same_list, is_same_ends}
+use Rattle.sj_check.specs.Maps.{map_at}
+use Rattle.sj_check.specs.Within.{is_that, within}
+use Rattle.sj_check.proofs.MapLemmas.{get-map_at}
+use Rattle.sj_acceptance_laws.proofs.SamenessLemmas.{is_same_place-Decides}
+
+-- what the entries give at a key
+abbrev pub there : {X : Type 0} → List (ℕ × X) → ℕ → Option X
+there es q = lookup (is_at (nat_cmp q)) es
+
+-- the rest, inserted in turn, gives what all of them give
+abbrev pub Completes : {X : Type 0} → List (ℕ × X) → List (ℕ × X) → List (ℕ × X) → Type 0
+Completes {X} all es rest = (q : ℕ) → update_all (eq_by_cmp nat_cmp) (there es) rest q ≡ update_all (eq_by_cmp nat_cmp) (λ _. None) all q
+
+pub completes_more : {X : Type 0} (all es fs rest t : List (ℕ × X)) (k : ℕ) (v w : X) → rest ≡ (k, v) ∷ t → w ≡ v
+    → ((q : ℕ) → there fs q ≡ cond (is_at (nat_cmp k) q) (Some w) (there es q)) → Completes all es rest → Completes all fs t
+completes_more {X} all es fs rest t k v w r e h c q =
+    let step : (q : ℕ) → there fs q ≡ cond (is_at (nat_cmp k) q) (Some v) (there es q) = λ j. h j ∙ ap (λ (x : X). cond (is_at (nat_cmp k) j) (Some x) (there es j)) e in
+    ap (λ (f : ℕ → Option X). update_all (eq_by_cmp nat_cmp) f t q) (λ i j. step j i)
+    ∙ ap (λ (xs : List (ℕ × X)). update_all (eq_by_cmp nat_cmp) (there es) xs q) (sym r) ∙ c q
+
+pub completed : {X : Type 0} (all es rest : List (ℕ × X)) → rest ≡ [] → IsStrictlySortedBy nat_cmp (keys_of all) → Completes all es rest → map_at es ≡ map_at all
+completed {X} all es rest r o c = same_map nat_cmp_total nat_cmp-IsAntisymmetric _ _ (λ q.
+    get-map_at es q ∙ ap (λ (xs : List (ℕ × X)). update_all (eq_by_cmp nat_cmp) (there es) xs q) (sym r) ∙ c q
+    ∙ update_all_none (eq_by_cmp_equiv nat_cmp_total) (eq_by_cmp nat_cmp) (λ _ _. refl) all q (IsDistinct-from_sorted nat_cmp (keys_of all) o)
+    ∙ sym (get-map_at all q))
+
+both : (x y : Bool) → (x && y) ≡ true → (x ≡ true) × (y ≡ true)
+both x y = (Decides-and x y (λ e. e, λ e. e) (λ e. e, λ e. e)).0
+
+is_that-Decides : (p : Place) (o : Option Place) → Decides (is_that p o) (o ≡ Some p)
+is_that-Decides p None = (λ e. absurd (cc), λ e. absurd (cc))
+is_that-Decides p (Some q) = Decides-like (is_same_place p q) (λ e. ap Some (sym e)) (λ e. cc) (is_same_place-Decides p q)
+
+kept : (es os : List (ℕ × Place)) → within es os ≡ true → (q : ℕ) (p : Place) → there es q ≡ Some p → there os q ≡ Some p
+kept [] os h q p e = absurd (cc)
+kept (x ∷ es) os h q p e =
+    let parts = both (is_that x.1 (there os x.0)) (within es os) h in
+    elim (eq_by_cmp nat_cmp q x.0) as (λ b. eq_by_cmp nat_cmp q x.0 ≡ b → cond b (Some x.1) (there es q) ≡ Some p → there os q ≡ Some p) [
+      | true ↦ λ b f. ap (there os) ((Decides-eqb q x.0).0 (sym (unsigned_tied q x.0) ∙ b)) ∙ (is_that-Decides x.1 (there os x.0)).0 parts.0 ∙ f
+      | false ↦ λ b f. kept es os parts.1 q p f
+    ] refl e
+
+all_there : (es os : List (ℕ × Place)) → AllByRecursion (λ e. there os e.0 ≡ Some e.1) es → within es os ≡ true
+all_there [] os h = refl
+all_there (x ∷ es) os h = (Decides-and (is_that x.1 (there os x.0)) (within es os) (is_that-Decides x.1 (there os x.0)) (λ e. e, λ e. e)).1 (h.0, all_there es os h.1)
+
+-- what each has the other has
+same_there : (o p : Option Place) → ((v : Place) → o ≡ Some v → p ≡ Some v) → ((v : Place) → p ≡ Some v → o ≡ Some v) → o ≡ p
+same_there None None h k = refl
+same_there None (Some v) h k = k v refl
+same_there (Some v) p h k = sym (h v refl)
+
+module _ (a b : BTreeMap ℕ Place) (oa : IsOrdered nat_cmp a) (ob : IsOrdered nat_cmp b) where
+  contents : map_at a.entries ≡ map_at b.entries → (q : ℕ) → there a.entries q ≡ there b.entries q
+  contents e q = sym (get-map_at a.entries q) ∙ ap (λ m. get m q) e ∙ get-map_at b.entries q
+
+  within-Decides : Decides (within a.entries b.entries && within b.entries a.entries) (map_at a.entries ≡ map_at b.entries)
+  within-Decides = (
+    (λ h. let parts = both _ _ h in
+        same_map nat_cmp_total nat_cmp-IsAntisymmetric _ _ (λ q. get-map_at a.entries q
+        ∙ same_there (there a.entries q) (there b.entries q) (kept a.entries b.entries parts.0 q) (kept b.entries a.entries parts.1 q) ∙ sym (get-map_at b.entries q))),
+    (λ e. (Decides-and (within a.entries b.entries) (within b.entries a.entries) (λ t. t, λ t. t) (λ t. t, λ t. t)).1 (
+      all_there a.entries b.entries (recursion_from_All _ a.entries (λ k d l. sym (contents e _) ∙ All-found nat_cmp_total a oa k d l)),
+      all_there b.entries a.entries (recursion_from_All _ b.entries (λ k d l. contents e _ ∙ All-found nat_cmp_total b ob k d l)),
+    )),
+  )
+
+abbrev first_or : ℕ × Place → List (ℕ × Place) → ℕ × Place
+first_or d [] = d
+first_or d (x ∷ xs) = x
+
+abbrev rest_or : List (ℕ × Place) → List (ℕ × Place)
+rest_or [] = []
+rest_or (x ∷ xs) = xs
+
+is_same_list-Decides : (xs ys : List (ℕ × Place)) → Decides (is_same_list xs ys) (xs ≡ ys)
+is_same_list-Decides [] [] = (λ _. refl, λ _. refl)
+is_same_list-Decides [] (y ∷ ys) = (λ e. absurd (cc), λ e. absurd (cc))
+is_same_list-Decides (x ∷ xs) [] = (λ e. absurd (cc), λ e. absurd (cc))
+is_same_list-Decides (x ∷ xs) (y ∷ ys) =
+    Decides-like ((x.0 == y.0) && is_same_place x.1 y.1 && is_same_list xs ys)
+    (λ (p : ((x.0 ≡ y.0) × (x.1 ≡ y.1)) × (xs ≡ ys)) i. (p.0.0 i, p.0.1 i) ∷ p.1 i)
+    (λ e. ((ap (λ zs. (first_or x zs).0) e, ap (λ zs. (first_or x zs).1) e), ap rest_or e))
+    (Decides-and ((x.0 == y.0) && is_same_place x.1 y.1) (is_same_list xs ys)
+    (Decides-and (x.0 == y.0) (is_same_place x.1 y.1) (Decides-eqb x.0 y.0) (is_same_place-Decides x.1 y.1)) (is_same_list-Decides xs ys))
+
+pub is_same_ends-Decides : (m n : FinMap nat_cmp Place) → Decides (is_same_ends m n) (m ≡ n)
+unfolding is_same_ends
+is_same_ends-Decides m n = Decides-like (is_same_list (entries m) (entries n)) (same_entries_map m n) (ap entries) (is_same_list-Decides (entries m) (entries n))
+
+-- the two tests together are the test of sameness
+pub within-both : (a b : BTreeMap ℕ Place) → IsOrdered nat_cmp a → IsOrdered nat_cmp b → (within a.entries b.entries && within b.entries a.entries) ≡ is_same_ends (map_at a.entries) (map_at b.entries)
+within-both a b oa ob = same_from_decides _ _ (within-Decides a b oa ob) (is_same_ends-Decides (map_at a.entries) (map_at b.entries))

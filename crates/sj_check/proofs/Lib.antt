@@ -1,0 +1,11 @@
+pub mod ArmLemmas
+pub mod BodyLemmas
+pub mod CommonLemmas
+pub mod CopyLemmas
+pub mod FaultLemmas
+pub mod IfLemmas
+pub mod MapLemmas
+pub mod OnceLemmas
+pub mod PlaceLemmas
+pub mod TermLemmas
+pub mod WalkLemmas

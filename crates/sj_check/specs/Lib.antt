@@ -1,0 +1,5 @@
+pub mod Held
+pub mod Maps
+pub mod Told
+pub mod Views
+pub mod Within

@@ -1,0 +1,33 @@
+-- Environments as maps of std.
+use Rattle.std.specs.Prelude.{◌≡◌, ℕ, ◌==◌, if◌then◌else◌, List, refl}
+use Rattle.std.specs.Coded.{Coded, code_by, coded×, coded_ℕ}
+use Rattle.std.specs.Ordering.{nat_cmp}
+use Rattle.std.specs.FinMap as map
+use Rattle.std.specs.FinMap.{FinMap}
+use Rattle.sj_lang.specs.declared.party.Scalar.{Scalar}
+use Rattle.sj_lang.specs.declared.party.Scalar.TheVariants.{Int, Boolean, Text}
+use Rattle.sj_lang.specs.Place.{Place}
+use Rattle.sj_lang.specs.PlaceCode.{coded_place}
+use Rattle.sj_acceptance.specs.Known.{Known}
+
+-- the finite map of some entries
+abbrev pub map_at : {X : Type 0} → List (ℕ × X) → FinMap nat_cmp X
+map_at es = map.from_entries es
+
+abbrev pub scalar_number : Scalar → ℕ
+scalar_number Int = 0
+scalar_number Boolean = 1
+scalar_number Text = 2
+
+abbrev pub scalar_at : ℕ → Scalar
+scalar_at n = if n == 0 then Int else (if n == 1 then Boolean else Text)
+
+pub scalar_again : (k : Scalar) → scalar_at (scalar_number k) ≡ k
+scalar_again Int = refl
+scalar_again Boolean = refl
+scalar_again Text = refl
+
+abbrev pub coded_known : Coded Known
+coded_known =
+    code_by (FinMap nat_cmp Place × FinMap nat_cmp Scalar) (coded× (map.code coded_ℕ coded_place) (map.code coded_ℕ (code_by ℕ coded_ℕ scalar_number scalar_at scalar_again)))
+    (λ e. (e.ends, e.variables)) (λ p. record { ends = p.0; variables = p.1 }) (λ _. refl)

@@ -1,0 +1,30 @@
+//! The checker of a whole file.
+ghost use Rattle.std.specs.Prelude.{◌≡◌, ◌≢◌, IfOk, OnOk, IfErr};
+ghost use Rattle.sj_lang.specs.FileView.{file_of};
+ghost use Rattle.sj_acceptance.specs.Accepted.{IsAccepted, IsWithinLimits};
+ghost use Rattle.sj_acceptance.specs.Faults.{first_fault};
+ghost use Rattle.sj_acceptance.specs.FileTests.{tests_of};
+ghost use Rattle.sj_check.specs.Held.{file_in};
+ghost use Rattle.sj_check.specs.Told.{Tells};
+
+use crate::files::walked;
+use crate::{Accepted, CheckRefusal};
+use sj_lang::File;
+use std::alloc::Global;
+
+/// Accepts the file, or gives it back with its first fault.
+pub fn check(alloc: Global, file: File) -> Result<Accepted, (File, CheckRefusal)>
+    requires { IsWithinLimits (file_of file) }
+
+    ensures ok { IfOk result (λ a. file_in a ≡ file) }
+    ensures accepted { OnOk result (IsAccepted (file_of file)) }
+
+    ensures back { IfErr result (λ e. e.0 ≡ file) }
+    ensures fault { IfErr result (λ e. Tells (first_fault (tests_of (file_of file))) e.1) }
+    ensures refused { IfErr result (λ e. e.1 ≢ CheckRefusal.NoMemory → ¬ IsAccepted (file_of file)) }
+{
+    match walked(alloc, &file) {
+        Ok(()) => Ok(Accepted { file }),
+        Err(refusal) => Err((file, refusal)),
+    }
+}

@@ -1,0 +1,253 @@
+//! What a party knows at a statement.
+#![tactic(auto, using(crate::proofs::MapLemmas::maps))]
+
+ghost use Rattle.std.specs.Prelude.{◌≡◌, IfOk, OnOk};
+ghost use Rattle.std.specs.Option.{option_copied};
+ghost use Rattle.std.specs.Ordering.{nat_cmp};
+ghost use Rattle.std.specs.BTreeMap.{IsOrdered};
+ghost use Rattle.sj_check.specs.Within.{within};
+ghost use Rattle.sj_check.specs.Maps.{map_at};
+ghost use Rattle.std.specs.FinMap as map;
+ghost use Rattle.sj_acceptance.specs.Known.{nothing, moved, without, knowing};
+ghost use Rattle.sj_acceptance.specs.Sameness.{is_same_ends};
+ghost use Rattle.sj_acceptance.specs.Known.{is_live, is_known, place_at};
+ghost use Rattle.sj_acceptance.specs.Arms.{common, agree};
+ghost use Rattle.sj_acceptance.specs.FirstItem.{turn_of, rest_of, arm_place};
+
+use crate::kinds::same_kind;
+use crate::places::{arm_place, is_same, rest, turn};
+use sj_base::NoMemory;
+use sj_lang::{Proto, Scalar, copied};
+use std::alloc::Global;
+use std::collections::BTreeMap;
+use std::marker::Model;
+
+/// The place of each live end, and the kind of each variable.
+#[derive(Drop)]
+pub struct Env {
+    alloc: Global,
+    places: BTreeMap<u16, Proto>,
+    kinds: BTreeMap<u16, Scalar>,
+}
+
+impl Model for Env {
+    ghost use Rattle.sj_acceptance.specs.Known.{Known};
+    ghost use Rattle.sj_check.specs.Maps.{coded_known, map_at};
+
+    ghost Value = { Known };
+
+    ghost coded = { coded_known };
+
+    ghost view = { λ e. record { ends = map_at e.places.entries; variables = map_at e.kinds.entries } };
+}
+
+impl Env {
+    pub fn new(alloc: Global) -> Env
+        ensures { result ≡ nothing }
+    {
+        Env {
+            alloc,
+            places: BTreeMap::new(alloc),
+            kinds: BTreeMap::new(alloc),
+        }
+    }
+
+    /// The place of a live end.
+    pub fn place(&self, end: u16) -> Option<&Proto>
+        ensures { option_copied result ≡ map.get self.now.ends end }
+    {
+        self.places.get(&end)
+    }
+
+    /// Takes the end out, with its place.
+    pub fn take_place(&mut self, end: u16) -> Option<Proto>
+        ensures value { result ≡ map.get self.old.ends end }
+        ensures after { self.new ≡ without self.old end }
+    {
+        self.places.remove(&end)
+    }
+
+    /// The end moves on to this place, or begins there.
+    pub fn put_place(&mut self, end: u16, place: Proto) -> Result<(), NoMemory>
+        ensures { OnOk result (self.new ≡ moved self.old end place) }
+    {
+        self.places.insert(end, place)?;
+        Ok(())
+    }
+
+    /// The kind of a variable.
+    pub fn kind(&self, name: u16) -> Option<Scalar>
+        ensures { result ≡ map.get self.now.variables name }
+    {
+        self.kinds.get(&name).copied()
+    }
+
+    /// The variable is known at this kind from now on.
+    pub fn put_kind(&mut self, name: u16, kind: Scalar) -> Result<(), NoMemory>
+        ensures { OnOk result (self.new ≡ knowing self.old name kind) }
+    {
+        self.kinds.insert(name, kind)?;
+        Ok(())
+    }
+
+    pub fn is_live(&self, end: u16) -> bool
+        ensures { result ≡ is_live self.now end }
+    {
+        self.place(end).is_some()
+    }
+
+    pub fn is_known(&self, name: u16) -> bool
+        ensures { result ≡ is_known self.now name }
+    {
+        self.kind(name).is_some()
+    }
+
+    pub fn allocator(&self) -> Global {
+        self.alloc
+    }
+
+    /// An equal environment.
+    pub fn copied(&self) -> Result<Env, NoMemory>
+        ensures { IfOk result (λ e. e ≡ self.now) }
+    {
+        let places = copied_places(self.alloc, &self.places)?;
+        let kinds = copied_kinds(self.alloc, &self.kinds)?;
+        Ok(Env {
+            alloc: self.alloc,
+            places,
+            kinds,
+        })
+    }
+
+    /// Whether both have the same live ends at the same places.
+    pub fn has_same_ends(&self, other: &Env) -> bool
+        ensures { result ≡ is_same_ends self.now.ends other.now.ends }
+    {
+        let kept = is_within(&self.places, &other.places);
+        let no_more = is_within(&other.places, &self.places);
+        kept && no_more
+    }
+
+    /// Keeps the variables that the other knows at the same kind.
+    pub fn keep_common(&mut self, other: &Env) -> Result<(), NoMemory>
+        ensures { OnOk result (self.new ≡ record self.old { variables = common self.old.variables other.now.variables }) }
+    {
+        self.kinds = common_kinds(self.alloc, &self.kinds, &other.kinds)?;
+        Ok(())
+    }
+
+    /// Puts the beginning of a turn at the end's loop into `inner`.
+    pub fn enter(&self, inner: &mut Env, end: u16) -> Result<(), NoMemory>
+        ensures { OnOk result (inner.new ≡ moved inner.old end (turn_of (place_at self.now end))) }
+    {
+        if let Some(place) = self.place(end) {
+            inner.put_place(end, turn(self.alloc, place)?)?;
+            return Ok(());
+        }
+        inner.put_place(
+            end,
+            Proto {
+                items: Vec::new(self.alloc),
+            },
+        )
+    }
+
+    /// A copy in which the end stands at the arm of that label.
+    pub fn at_arm(&self, end: u16, label: u16) -> Result<Env, NoMemory>
+        ensures { IfOk result (λ e. e ≡ moved self.now end (arm_place label (place_at self.now end))) }
+    {
+        let mut inner = self.copied()?;
+        let place = match self.place(end) {
+            Some(place) => arm_place(self.alloc, place, label)?,
+            None => Proto {
+                items: Vec::new(self.alloc),
+            },
+        };
+        inner.put_place(end, place)?;
+        Ok(inner)
+    }
+
+    /// Leaves the first item of the end's place behind.
+    pub fn pass(&mut self, end: u16) -> Result<(), NoMemory>
+        ensures { OnOk result (self.new ≡ moved self.old end (rest_of (place_at self.old end))) }
+    {
+        let alloc = self.alloc;
+        let rest = match self.take_place(end) {
+            Some(place) => rest(place),
+            None => Proto {
+                items: Vec::new(alloc),
+            },
+        };
+        self.put_place(end, rest)
+    }
+}
+
+// Whether the second has each entry of the first.
+fn is_within(a: &BTreeMap<u16, Proto>, b: &BTreeMap<u16, Proto>) -> bool
+    ensures value { result ≡ within a.now.entries b.now.entries }
+    ensures ordered { IsOrdered nat_cmp a.now }
+{
+    for (end, place) in a {
+        match b.get(end) {
+            Some(other) => {
+                if !is_same(place, other) {
+                    return false;
+                }
+            }
+            None => return false,
+        }
+    }
+    true
+}
+
+fn copied_places(
+    alloc: Global,
+    places: &BTreeMap<u16, Proto>,
+) -> Result<BTreeMap<u16, Proto>, NoMemory>
+    ensures { IfOk result (λ m. map_at m.entries ≡ map_at places.now.entries) }
+{
+    let mut copies = BTreeMap::new(alloc);
+    for (end, place) in places {
+        copies.insert(*end, copied(alloc, place)?)?;
+    }
+    Ok(copies)
+}
+
+fn copied_kinds(
+    alloc: Global,
+    kinds: &BTreeMap<u16, Scalar>,
+) -> Result<BTreeMap<u16, Scalar>, NoMemory>
+    ensures { IfOk result (λ m. map_at m.entries ≡ map_at kinds.now.entries) }
+{
+    let mut copies = BTreeMap::new(alloc);
+    for (name, kind) in kinds {
+        copies.insert(*name, *kind)?;
+    }
+    Ok(copies)
+}
+
+// The variables that both know at one kind.
+fn common_kinds(
+    alloc: Global,
+    a: &BTreeMap<u16, Scalar>,
+    b: &BTreeMap<u16, Scalar>,
+) -> Result<BTreeMap<u16, Scalar>, NoMemory>
+    ensures { IfOk result (λ m. map_at m.entries ≡ common (map_at a.now.entries) (map_at b.now.entries)) }
+{
+    let mut both = BTreeMap::new(alloc);
+    for (name, kind) in a {
+        if is_known_as(b.get(name).copied(), *kind) {
+            both.insert(*name, *kind)?;
+        }
+    }
+    Ok(both)
+}
+
+fn is_known_as(known: Option<Scalar>, kind: Scalar) -> bool
+    ensures { result ≡ agree (Some kind) known }
+{
+    match known {
+        Some(other) => same_kind(kind, other),
+        None => false,
+    }
+}

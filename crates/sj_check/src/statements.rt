@@ -1,0 +1,181 @@
+//! The statements without a block.
+#![tactic(auto, using(crate::proofs::FaultLemmas::faults))]
+
+ghost use Rattle.std.specs.Prelude.{◌≡◌, [], None, IfOk, OnOk, IfErr};
+ghost use Rattle.sj_lang.specs.Term.{term_of};
+ghost use Rattle.sj_lang.specs.Code as code;
+ghost use Rattle.sj_acceptance.specs.Faults.{first_fault};
+ghost use Rattle.sj_check.specs.Views.{protocols_of};
+ghost use Rattle.sj_acceptance.specs.Tests.{act_tests, after_act};
+ghost use Rattle.sj_check.specs.Told.{Tells};
+
+use crate::CheckRefusal;
+use crate::env::Env;
+use crate::kinds::{carries_as, expr_kind, is_free_for};
+use crate::places::{
+    arm_of, body_named, is_done, is_session, is_session_of, joined, selecting, sending, taking,
+};
+use sj_lang::{Expr, ProtocolDef, Scalar, copied};
+
+pub fn send(env: &mut Env, line: u32, end: u16, value: &Expr) -> Result<(), CheckRefusal>
+    ensures passes { OnOk result (first_fault (act_tests [] line env.old (code.send end (term_of value.now))) ≡ None) }
+    ensures after { OnOk result (env.new ≡ after_act [] env.old (code.send end (term_of value.now))) }
+    ensures fault { IfErr result (Tells (first_fault (act_tests [] line env.old (code.send end (term_of value.now))))) }
+{
+    let Some(place) = env.take_place(end) else {
+        return Err(CheckRefusal::At { rule: 5, line });
+    };
+    let Some((wanted, rest)) = sending(place) else {
+        return Err(CheckRefusal::At { rule: 6, line });
+    };
+    let kind = expr_kind(env, line, value)?;
+    if !carries_as(kind, &wanted) {
+        return Err(CheckRefusal::At { rule: 7, line });
+    }
+    env.put_place(end, rest)?;
+    Ok(())
+}
+
+pub fn close(env: &mut Env, line: u32, end: u16) -> Result<(), CheckRefusal>
+    ensures passes { OnOk result (first_fault (act_tests [] line env.old (code.close end)) ≡ None) }
+    ensures after { OnOk result (env.new ≡ after_act [] env.old (code.close end)) }
+    ensures fault { IfErr result (Tells (first_fault (act_tests [] line env.old (code.close end)))) }
+{
+    let Some(place) = env.take_place(end) else {
+        return Err(CheckRefusal::At { rule: 5, line });
+    };
+    if !is_done(&place) {
+        return Err(CheckRefusal::At { rule: 11, line });
+    }
+    Ok(())
+}
+
+pub fn delegate(env: &mut Env, line: u32, end: u16, sent: u16) -> Result<(), CheckRefusal>
+    ensures passes { OnOk result (first_fault (act_tests [] line env.old (code.delegate end sent)) ≡ None) }
+    ensures after { OnOk result (env.new ≡ after_act [] env.old (code.delegate end sent)) }
+    ensures fault { IfErr result (Tells (first_fault (act_tests [] line env.old (code.delegate end sent)))) }
+{
+    if !env.is_live(end) || !env.is_live(sent) {
+        return Err(CheckRefusal::At { rule: 5, line });
+    }
+    if end == sent {
+        return Err(CheckRefusal::At { rule: 13, line });
+    }
+    let Some(given) = env.take_place(sent) else {
+        return Err(CheckRefusal::At { rule: 5, line });
+    };
+    let Some(place) = env.take_place(end) else {
+        return Err(CheckRefusal::At { rule: 5, line });
+    };
+    let Some((wanted, rest)) = sending(place) else {
+        return Err(CheckRefusal::At { rule: 6, line });
+    };
+    if !is_session(&wanted) {
+        return Err(CheckRefusal::At { rule: 7, line });
+    }
+    if is_done(&given) {
+        return Err(CheckRefusal::At { rule: 13, line });
+    }
+    if !is_session_of(&given, &wanted) {
+        return Err(CheckRefusal::At { rule: 7, line });
+    }
+    env.put_place(end, rest)?;
+    Ok(())
+}
+
+pub fn take_value(
+    env: &mut Env,
+    line: u32,
+    end: u16,
+    into: u16,
+    kind: Scalar,
+) -> Result<(), CheckRefusal>
+    ensures passes { OnOk result (first_fault (act_tests [] line env.old (code.take_value end into kind)) ≡ None) }
+    ensures after { OnOk result (env.new ≡ after_act [] env.old (code.take_value end into kind)) }
+    ensures fault { IfErr result (Tells (first_fault (act_tests [] line env.old (code.take_value end into kind)))) }
+{
+    let Some(place) = env.take_place(end) else {
+        return Err(CheckRefusal::At { rule: 5, line });
+    };
+    let Some((wanted, rest)) = taking(place) else {
+        return Err(CheckRefusal::At { rule: 6, line });
+    };
+    if !carries_as(kind, &wanted) {
+        return Err(CheckRefusal::At { rule: 7, line });
+    }
+    if into == end || env.is_live(into) {
+        return Err(CheckRefusal::At { rule: 3, line });
+    }
+    if !is_free_for(env.kind(into), kind) {
+        return Err(CheckRefusal::At { rule: 7, line });
+    }
+    env.put_place(end, rest)?;
+    env.put_kind(into, kind)?;
+    Ok(())
+}
+
+pub fn take_end(
+    env: &mut Env,
+    protocols: &[ProtocolDef],
+    line: u32,
+    end: u16,
+    into: u16,
+    protocol: u16,
+) -> Result<(), CheckRefusal>
+    ensures passes { OnOk result (first_fault (act_tests (protocols_of protocols.now) line env.old (code.take_end end into protocol)) ≡ None) }
+    ensures after { OnOk result (env.new ≡ after_act (protocols_of protocols.now) env.old (code.take_end end into protocol)) }
+    ensures fault { IfErr result (Tells (first_fault (act_tests (protocols_of protocols.now) line env.old (code.take_end end into protocol)))) }
+{
+    let Some(place) = env.take_place(end) else {
+        return Err(CheckRefusal::At { rule: 5, line });
+    };
+    let Some(body) = body_named(protocols, protocol) else {
+        return Err(CheckRefusal::At { rule: 1, line });
+    };
+    let Some((wanted, rest)) = taking(place) else {
+        return Err(CheckRefusal::At { rule: 6, line });
+    };
+    if !is_session_of(body, &wanted) {
+        return Err(CheckRefusal::At { rule: 7, line });
+    }
+    if into == end || env.is_live(into) || env.is_known(into) {
+        return Err(CheckRefusal::At { rule: 3, line });
+    }
+    env.put_place(end, rest)?;
+    env.put_place(into, copied(env.allocator(), body)?)?;
+    Ok(())
+}
+
+pub fn select(env: &mut Env, line: u32, end: u16, label: u16) -> Result<(), CheckRefusal>
+    ensures passes { OnOk result (first_fault (act_tests [] line env.old (code.outbranch end label)) ≡ None) }
+    ensures after { OnOk result (env.new ≡ after_act [] env.old (code.outbranch end label)) }
+    ensures fault { IfErr result (Tells (first_fault (act_tests [] line env.old (code.outbranch end label)))) }
+{
+    let Some(place) = env.take_place(end) else {
+        return Err(CheckRefusal::At { rule: 5, line });
+    };
+    let Some((arms, rest)) = selecting(place) else {
+        return Err(CheckRefusal::At { rule: 6, line });
+    };
+    let Some(arm) = arm_of(arms, label) else {
+        return Err(CheckRefusal::At { rule: 8, line });
+    };
+    env.put_place(end, joined(arm, rest)?)?;
+    Ok(())
+}
+
+pub fn let_be(env: &mut Env, line: u32, name: u16, value: &Expr) -> Result<(), CheckRefusal>
+    ensures passes { OnOk result (first_fault (act_tests [] line env.old (code.let_be name (term_of value.now))) ≡ None) }
+    ensures after { OnOk result (env.new ≡ after_act [] env.old (code.let_be name (term_of value.now))) }
+    ensures fault { IfErr result (Tells (first_fault (act_tests [] line env.old (code.let_be name (term_of value.now))))) }
+{
+    let kind = expr_kind(env, line, value)?;
+    if env.is_live(name) {
+        return Err(CheckRefusal::At { rule: 3, line });
+    }
+    if !is_free_for(env.kind(name), kind) {
+        return Err(CheckRefusal::At { rule: 7, line });
+    }
+    env.put_kind(name, kind)?;
+    Ok(())
+}
