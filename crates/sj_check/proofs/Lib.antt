@@ -4,6 +4,7 @@ pub mod CommonLemmas
 pub mod CopyLemmas
 pub mod FaultLemmas
 pub mod IfLemmas
+pub mod ItemLemmas
 pub mod MapLemmas
 pub mod OnceLemmas
 pub mod PlaceLemmas

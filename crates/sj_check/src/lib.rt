@@ -7,6 +7,7 @@ mod env;
 mod files;
 mod kinds;
 mod labels;
+mod limits;
 mod once;
 mod places;
 mod refusal;
@@ -15,4 +16,5 @@ mod walk;
 
 pub use accepted::Accepted;
 pub use checking::check;
+pub use limits::is_within_limits;
 pub use refusal::CheckRefusal;
