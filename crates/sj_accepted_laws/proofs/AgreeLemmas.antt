@@ -5,7 +5,8 @@ use Rattle.sj_base.specs.declared.EndId.{EndId}
 use Rattle.sj_lang.specs.declared.party.Scalar.{Scalar}
 use Rattle.sj_lang.specs.Place.{Place}
 use Rattle.sj_semantics.specs.Program.{without, bound}
-use Rattle.sj_semantics.specs.Value.{with_value, Vars, Value}
+use Rattle.sj_semantics.specs.declared.Value.{Value}
+use Rattle.sj_semantics.specs.Value.{with_value, Vars}
 use Rattle.sj_lang.specs.FileAt.{named}
 use Rattle.sj_acceptance.specs.Environment.{Env, put, at_place, without_end, with_kind}
 use Rattle.sj_semantics.specs.Ends.{Session, end_at}

@@ -11,7 +11,8 @@ use Rattle.sj_lang.specs.Term.{Term}
 use Rattle.sj_lang.specs.Code.{Code, outbranch, if_else, let_be, close}
 use Rattle.sj_semantics.specs.declared.Want.TheVariants as wants
 use Rattle.sj_lang.specs.FileAt.{ProtocolAt}
-use Rattle.sj_semantics.specs.Value.{with_value, Vars, Value, worth}
+use Rattle.sj_semantics.specs.declared.Value.{Value}
+use Rattle.sj_semantics.specs.Value.{with_value, Vars, worth}
 use Rattle.sj_semantics.specs.Program.{Thing, statement, Program, block, without}
 use Rattle.sj_semantics.specs.Steps.{assigned}
 use Rattle.sj_semantics.specs.Wants.{want_send}

@@ -13,7 +13,8 @@ use Rattle.sj_lang.specs.Code.{send, delegate, take_value, take_end}
 use Rattle.sj_semantics.specs.declared.Want.TheVariants as wants
 use Rattle.sj_semantics.specs.declared.Awaits.TheVariants as awaits
 use Rattle.sj_lang.specs.FileAt.{ProtocolAt, protocol_named, named}
-use Rattle.sj_semantics.specs.Value.{with_value, Vars, Value, message_of, worth}
+use Rattle.sj_semantics.specs.declared.Value.{Value}
+use Rattle.sj_semantics.specs.Value.{with_value, Vars, message_of, worth}
 use Rattle.sj_semantics.specs.Program.{Thing, statement, Program, without, bound}
 use Rattle.sj_semantics.specs.Steps.{assigned}
 use Rattle.sj_semantics.specs.Wants.{want_send, want_delegate, want_take}

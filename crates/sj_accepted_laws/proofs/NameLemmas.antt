@@ -6,16 +6,18 @@ use Rattle.sj_base.specs.declared.EndId.{EndId}
 use Rattle.sj_lang.specs.declared.party.Scalar.{Scalar}
 use Rattle.sj_lang.specs.declared.party.Scalar.TheVariants as kinds
 use Rattle.sj_semantics.specs.Program.{without, bound}
-use Rattle.sj_semantics.specs.Value.{Vars, Value, int, boolean, text}
+use Rattle.sj_semantics.specs.declared.Value.{Value}
+use Rattle.sj_semantics.specs.declared.Value.TheVariants.{Int, Boolean, Text}
+use Rattle.sj_semantics.specs.Value.{Vars}
 use Rattle.sj_lang.specs.FileAt.{named}
 use Rattle.sj_acceptance.specs.Environment.{Env, put}
 use Rattle.sj_semantics.specs.Ends.{Session, end_at}
 
 -- the value is of that kind
 abbrev pub IsA : Scalar → Value → Type 0
-IsA kinds.Int (int n) = ⊤
-IsA kinds.Boolean (boolean b) = ⊤
-IsA kinds.Text (text n) = ⊤
+IsA kinds.Int (Int n) = ⊤
+IsA kinds.Boolean (Boolean b) = ⊤
+IsA kinds.Text (Text n) = ⊤
 IsA _ _ = ⊥
 
 -- a value of that kind

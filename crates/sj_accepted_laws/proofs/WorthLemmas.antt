@@ -6,7 +6,9 @@ use Rattle.sj_lang.specs.declared.party.Scalar.{Scalar}
 use Rattle.sj_lang.specs.declared.party.Scalar.TheVariants as kinds
 use Rattle.sj_lang.specs.Term.{Term}
 use Rattle.sj_lang.specs.Term as terms
-use Rattle.sj_semantics.specs.Value.{Vars, Value, int, boolean, text, result_of, negation_of, worth}
+use Rattle.sj_semantics.specs.declared.Value.{Value}
+use Rattle.sj_semantics.specs.declared.Value.TheVariants.{Int, Boolean, Text}
+use Rattle.sj_semantics.specs.Value.{Vars, result_of, negation_of, worth}
 use Rattle.sj_acceptance.specs.Kinds.{HasKind, Takes, given_by}
 use Rattle.sj_accepted_laws.proofs.NameLemmas.{IsA, Worth}
 
@@ -14,65 +16,65 @@ pub not_worth : (o : Option Value) → Worth o kinds.Boolean → Worth (option_a
 not_worth o w = by w.value w.it_is w.kind
   where
     by : (v : Value) → o ≡ Some v → IsA kinds.Boolean v → Worth (option_and_then negation_of o) kinds.Boolean
-    by (boolean b) h a = record { value = boolean (not b); it_is = ap (option_and_then negation_of) h; kind = tt }
-    by (int n) h a = absurd a
-    by (text n) h a = absurd a
+    by (Boolean b) h a = record { value = Boolean (not b); it_is = ap (option_and_then negation_of) h; kind = tt }
+    by (Int n) h a = absurd a
+    by (Text n) h a = absurd a
 
 -- the result of an operator on such values
 abbrev pub Results : Op → Scalar → Scalar → Scalar → Type 0
 Results op i j k = (a b : Value) → IsA i a → IsA j b → Worth (result_of op a b) k
 
 pub add_results : Results Add kinds.Int kinds.Int kinds.Int
-add_results (int a) (int b) h k = record { value = _; it_is = refl; kind = tt }
-add_results (int a) (boolean b) h k = absurd k
-add_results (int a) (text b) h k = absurd k
-add_results (boolean a) b h k = absurd h
-add_results (text a) b h k = absurd h
+add_results (Int a) (Int b) h k = record { value = _; it_is = refl; kind = tt }
+add_results (Int a) (Boolean b) h k = absurd k
+add_results (Int a) (Text b) h k = absurd k
+add_results (Boolean a) b h k = absurd h
+add_results (Text a) b h k = absurd h
 
 pub sub_results : Results Sub kinds.Int kinds.Int kinds.Int
-sub_results (int a) (int b) h k = record { value = _; it_is = refl; kind = tt }
-sub_results (int a) (boolean b) h k = absurd k
-sub_results (int a) (text b) h k = absurd k
-sub_results (boolean a) b h k = absurd h
-sub_results (text a) b h k = absurd h
+sub_results (Int a) (Int b) h k = record { value = _; it_is = refl; kind = tt }
+sub_results (Int a) (Boolean b) h k = absurd k
+sub_results (Int a) (Text b) h k = absurd k
+sub_results (Boolean a) b h k = absurd h
+sub_results (Text a) b h k = absurd h
 
 pub mul_results : Results Mul kinds.Int kinds.Int kinds.Int
-mul_results (int a) (int b) h k = record { value = _; it_is = refl; kind = tt }
-mul_results (int a) (boolean b) h k = absurd k
-mul_results (int a) (text b) h k = absurd k
-mul_results (boolean a) b h k = absurd h
-mul_results (text a) b h k = absurd h
+mul_results (Int a) (Int b) h k = record { value = _; it_is = refl; kind = tt }
+mul_results (Int a) (Boolean b) h k = absurd k
+mul_results (Int a) (Text b) h k = absurd k
+mul_results (Boolean a) b h k = absurd h
+mul_results (Text a) b h k = absurd h
 
 pub less_results : Results Less kinds.Int kinds.Int kinds.Boolean
-less_results (int a) (int b) h k = record { value = _; it_is = refl; kind = tt }
-less_results (int a) (boolean b) h k = absurd k
-less_results (int a) (text b) h k = absurd k
-less_results (boolean a) b h k = absurd h
-less_results (text a) b h k = absurd h
+less_results (Int a) (Int b) h k = record { value = _; it_is = refl; kind = tt }
+less_results (Int a) (Boolean b) h k = absurd k
+less_results (Int a) (Text b) h k = absurd k
+less_results (Boolean a) b h k = absurd h
+less_results (Text a) b h k = absurd h
 
 pub less_eq_results : Results LessEq kinds.Int kinds.Int kinds.Boolean
-less_eq_results (int a) (int b) h k = record { value = _; it_is = refl; kind = tt }
-less_eq_results (int a) (boolean b) h k = absurd k
-less_eq_results (int a) (text b) h k = absurd k
-less_eq_results (boolean a) b h k = absurd h
-less_eq_results (text a) b h k = absurd h
+less_eq_results (Int a) (Int b) h k = record { value = _; it_is = refl; kind = tt }
+less_eq_results (Int a) (Boolean b) h k = absurd k
+less_eq_results (Int a) (Text b) h k = absurd k
+less_eq_results (Boolean a) b h k = absurd h
+less_eq_results (Text a) b h k = absurd h
 
 pub equal_results : (j : Scalar) → Results Equal j j kinds.Boolean
-equal_results kinds.Int (int a) (int b) h k = record { value = _; it_is = refl; kind = tt }
-equal_results kinds.Int (int a) (boolean b) h k = absurd k
-equal_results kinds.Int (int a) (text b) h k = absurd k
-equal_results kinds.Int (boolean a) b h k = absurd h
-equal_results kinds.Int (text a) b h k = absurd h
-equal_results kinds.Boolean (boolean a) (boolean b) h k = record { value = _; it_is = refl; kind = tt }
-equal_results kinds.Boolean (boolean a) (int b) h k = absurd k
-equal_results kinds.Boolean (boolean a) (text b) h k = absurd k
-equal_results kinds.Boolean (int a) b h k = absurd h
-equal_results kinds.Boolean (text a) b h k = absurd h
-equal_results kinds.Text (text a) (text b) h k = record { value = _; it_is = refl; kind = tt }
-equal_results kinds.Text (text a) (int b) h k = absurd k
-equal_results kinds.Text (text a) (boolean b) h k = absurd k
-equal_results kinds.Text (int a) b h k = absurd h
-equal_results kinds.Text (boolean a) b h k = absurd h
+equal_results kinds.Int (Int a) (Int b) h k = record { value = _; it_is = refl; kind = tt }
+equal_results kinds.Int (Int a) (Boolean b) h k = absurd k
+equal_results kinds.Int (Int a) (Text b) h k = absurd k
+equal_results kinds.Int (Boolean a) b h k = absurd h
+equal_results kinds.Int (Text a) b h k = absurd h
+equal_results kinds.Boolean (Boolean a) (Boolean b) h k = record { value = _; it_is = refl; kind = tt }
+equal_results kinds.Boolean (Boolean a) (Int b) h k = absurd k
+equal_results kinds.Boolean (Boolean a) (Text b) h k = absurd k
+equal_results kinds.Boolean (Int a) b h k = absurd h
+equal_results kinds.Boolean (Text a) b h k = absurd h
+equal_results kinds.Text (Text a) (Text b) h k = record { value = _; it_is = refl; kind = tt }
+equal_results kinds.Text (Text a) (Int b) h k = absurd k
+equal_results kinds.Text (Text a) (Boolean b) h k = absurd k
+equal_results kinds.Text (Int a) b h k = absurd h
+equal_results kinds.Text (Boolean a) b h k = absurd h
 
 pub int_results : (op : Op) (i j : Scalar) → Results op kinds.Int kinds.Int (given_by op) → (i ≡ kinds.Int) × (j ≡ kinds.Int) → Results op i j (given_by op)
 int_results op i j r t = subst (λ (k : Scalar). Results op k j (given_by op)) (sym t.0) (subst (λ (k : Scalar). Results op kinds.Int k (given_by op)) (sym t.1) r)
@@ -95,9 +97,9 @@ module _ (kinds_of : ℕ → Option Scalar) (vars : Vars) (known : (n : ℕ) (k 
   at_kind o j k e w = subst (Worth o) (sym e) w
 
   pub worth_of_kind : (e : Term) (k : Scalar) → HasKind kinds_of e k → Worth (worth vars e) k
-  worth_of_kind (terms.int n) k h = at_kind (Some (int n)) kinds.Int k h (record { value = int n; it_is = refl; kind = tt })
-  worth_of_kind (terms.boolean b) k h = at_kind (Some (boolean b)) kinds.Boolean k h (record { value = boolean b; it_is = refl; kind = tt })
-  worth_of_kind (terms.text n) k h = at_kind (Some (text n)) kinds.Text k h (record { value = text n; it_is = refl; kind = tt })
+  worth_of_kind (terms.int n) k h = at_kind (Some (Int n)) kinds.Int k h (record { value = Int n; it_is = refl; kind = tt })
+  worth_of_kind (terms.boolean b) k h = at_kind (Some (Boolean b)) kinds.Boolean k h (record { value = Boolean b; it_is = refl; kind = tt })
+  worth_of_kind (terms.text n) k h = at_kind (Some (Text n)) kinds.Text k h (record { value = Text n; it_is = refl; kind = tt })
   worth_of_kind (terms.var n) k h = known n k h
   worth_of_kind (terms.not e) k h = at_kind (worth vars (terms.not e)) kinds.Boolean k h.1 (not_worth (worth vars e) (worth_of_kind e kinds.Boolean h.0))
   worth_of_kind (terms.two op e f) k h =

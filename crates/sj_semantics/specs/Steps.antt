@@ -4,7 +4,8 @@ use Rattle.sj_base.specs.declared.EndId.{EndId}
 use Rattle.sj_base.specs.declared.Msg.{Msg}
 use Rattle.sj_base.specs.declared.Msg.TheVariants as msgs
 use Rattle.sj_lang.specs.Code.{Code, Branches, no_step, delegate, take_value, take_end, inbranch, outwhile, inwhile, relay, if_else, let_be, close, no_branch, branch}
-use Rattle.sj_semantics.specs.Value.{Value, Vars, with_value, value_of, worth, turns_of, truth_of}
+use Rattle.sj_semantics.specs.declared.Value.{Value}
+use Rattle.sj_semantics.specs.Value.{Vars, with_value, value_of, worth, turns_of, truth_of}
 use Rattle.sj_semantics.specs.Program.{Thing, statement, turns, passing, Program, block, without, bound}
 
 -- ---- a step without a message

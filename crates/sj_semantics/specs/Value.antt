@@ -9,12 +9,8 @@ use Rattle.sj_lang.specs.declared.party.Scalar.{Scalar}
 use Rattle.sj_lang.specs.declared.party.Scalar.TheVariants as kinds
 use Rattle.sj_lang.specs.Term.{Term}
 use Rattle.sj_lang.specs.Term as terms
-
--- what a variable holds
-pub data Value : Type 0 where
-  int : ℤ → Value
-  boolean : Bool → Value
-  text : ℕ → Value
+use Rattle.sj_semantics.specs.declared.Value.{Value}
+use Rattle.sj_semantics.specs.declared.Value.TheVariants.{Int, Boolean, Text}
 
 -- the values of variables, by their names
 abbrev pub Vars : Type 0
@@ -30,15 +26,15 @@ with_value vars n v m = if m == n then Some v else vars m
 
 -- the message that carries the value
 abbrev pub message_of : Value → Msg
-message_of (int n) = msgs.Int n
-message_of (boolean b) = msgs.Bool b
-message_of (text n) = msgs.Text n
+message_of (Int n) = msgs.Int n
+message_of (Boolean b) = msgs.Bool b
+message_of (Text n) = msgs.Text n
 
 -- the value that a message carries
 abbrev pub value_of : Msg → Option Value
-value_of (msgs.Int n) = Some (int n)
-value_of (msgs.Bool b) = Some (boolean b)
-value_of (msgs.Text n) = Some (text n)
+value_of (msgs.Int n) = Some (Int n)
+value_of (msgs.Bool b) = Some (Boolean b)
+value_of (msgs.Text n) = Some (Text n)
 value_of _ = None
 
 -- the message carries a value of that kind
@@ -59,37 +55,37 @@ is_same_bool false b = not b
 
 -- the result of an operator, where its operands are of its kinds: sums, differences and products wrap at 64 bits
 abbrev pub result_of : Op → Value → Value → Option Value
-result_of Add (int a) (int b) = Some (int (int_wrapping_add w64 a b))
-result_of Sub (int a) (int b) = Some (int (int_wrapping_sub w64 a b))
-result_of Mul (int a) (int b) = Some (int (int_wrapping_mul w64 a b))
-result_of Less (int a) (int b) = Some (boolean (int_lt a b))
-result_of LessEq (int a) (int b) = Some (boolean (int_le a b))
-result_of Equal (int a) (int b) = Some (boolean (is_same_int a b))
-result_of Equal (boolean a) (boolean b) = Some (boolean (is_same_bool a b))
-result_of Equal (text a) (text b) = Some (boolean (a == b))
+result_of Add (Int a) (Int b) = Some (Int (int_wrapping_add w64 a b))
+result_of Sub (Int a) (Int b) = Some (Int (int_wrapping_sub w64 a b))
+result_of Mul (Int a) (Int b) = Some (Int (int_wrapping_mul w64 a b))
+result_of Less (Int a) (Int b) = Some (Boolean (int_lt a b))
+result_of LessEq (Int a) (Int b) = Some (Boolean (int_le a b))
+result_of Equal (Int a) (Int b) = Some (Boolean (is_same_int a b))
+result_of Equal (Boolean a) (Boolean b) = Some (Boolean (is_same_bool a b))
+result_of Equal (Text a) (Text b) = Some (Boolean (a == b))
 result_of _ _ _ = None
 
 -- the other truth value
 abbrev pub negation_of : Value → Option Value
-negation_of (boolean b) = Some (boolean (not b))
+negation_of (Boolean b) = Some (Boolean (not b))
 negation_of _ = None
 
 -- what an expression is worth, where each variable is known and each operand is of its kind
 abbrev pub worth : Vars → Term → Option Value
-worth vars (terms.int n) = Some (int n)
-worth vars (terms.boolean b) = Some (boolean b)
-worth vars (terms.text n) = Some (text n)
+worth vars (terms.int n) = Some (Int n)
+worth vars (terms.boolean b) = Some (Boolean b)
+worth vars (terms.text n) = Some (Text n)
 worth vars (terms.var n) = vars n
 worth vars (terms.not e) = option_and_then negation_of (worth vars e)
 worth vars (terms.two op e f) = option_and_then (λ a. option_and_then (result_of op a) (worth vars f)) (worth vars e)
 
 -- how often a loop with that count turns: 0 to 1,000 times
 abbrev pub turns_of : Value → Option ℕ
-turns_of (int (pos n)) = Some (min n 1000)
-turns_of (int (negsuc n)) = Some 0
+turns_of (Int (pos n)) = Some (min n 1000)
+turns_of (Int (negsuc n)) = Some 0
 turns_of _ = None
 
 -- whether a condition of that value holds
 abbrev pub truth_of : Value → Option Bool
-truth_of (boolean b) = Some b
+truth_of (Boolean b) = Some b
 truth_of _ = None

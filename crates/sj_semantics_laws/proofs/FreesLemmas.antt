@@ -7,7 +7,9 @@ use Rattle.sj_lang.specs.Code.{Act, send, delegate, take_value, take_end, outbra
 use Rattle.sj_semantics.specs.declared.Want.{Want}
 use Rattle.sj_semantics.specs.declared.Want.TheVariants as wants
 use Rattle.sj_semantics.specs.declared.Awaits.{Awaits}
-use Rattle.sj_semantics.specs.Value.{Vars, Value, int, boolean, text, message_of, worth, truth_of, turns_of}
+use Rattle.sj_semantics.specs.declared.Value.{Value}
+use Rattle.sj_semantics.specs.declared.Value.TheVariants.{Int, Boolean, Text}
+use Rattle.sj_semantics.specs.Value.{Vars, message_of, worth, truth_of, turns_of}
 use Rattle.sj_lang.specs.FileAt.{named}
 use Rattle.sj_semantics.specs.Program.{Program, Thing, statement, turns, passing}
 use Rattle.sj_semantics.specs.Wants.{want_send, want_delegate, want_take, more_turns, want_of_act, want_of_todo, want_of}
@@ -30,9 +32,9 @@ FreesIf e ends todo None = ⊤
 FreesIf e ends todo (Some want) = Frees e ends todo want
 
 value_names_none : (e : EndId) (v : Value) → names_end e (message_of v) ≡ false
-value_names_none e (int n) = refl
-value_names_none e (boolean b) = refl
-value_names_none e (text n) = refl
+value_names_none e (Int n) = refl
+value_names_none e (Boolean b) = refl
+value_names_none e (Text n) = refl
 
 turns_name_none : (e : EndId) (n : ℕ) → names_end e (more_turns n) ≡ false
 turns_name_none e zero = refl

@@ -10,7 +10,8 @@ ghost use Rattle.sj_lang.specs.declared.party.Op.TheVariants.{Add, Mul, Sub};
 ghost use Rattle.sj_semantics.specs.Run.{end_of};
 ghost use Rattle.sj_semantics.specs.State.{verdict_of};
 ghost use Rattle.sj_semantics.specs.Transcript.{transcript_of};
-ghost use Rattle.sj_semantics.specs.Value.{int, no_vars, turns_of, worth};
+ghost use Rattle.sj_semantics.specs.declared.Value.TheVariants.{Int};
+ghost use Rattle.sj_semantics.specs.Value.{no_vars, turns_of, worth};
 ghost use Rattle.sj_semantics.specs.declared.Verdict.TheVariants.{Blocked};
 ghost use Rattle.sj_semantics_laws.specs.AgencySamples.{agency, agency_text, refused_text};
 ghost use Rattle.sj_semantics_laws.specs.HandoverSamples.{both_moved, both_moved_text, handed_over, handed_over_text, returning, returning_text, to_its_peer, to_its_peer_text, to_itself, to_itself_text};
@@ -48,16 +49,16 @@ pub fn opposite_orders_block()
 /// A sum, a product and a difference beyond 64 bits wrap.
 pub fn numbers_wrap()
     ensures sum { worth no_vars (terms.two Add (terms.int (pos 9223372036854775807)) (terms.int (pos 1)))
-        ≡ Some (int (negsuc 9223372036854775807)) }
+        ≡ Some (Int (negsuc 9223372036854775807)) }
     ensures product { worth no_vars (terms.two Mul (terms.int (negsuc 9223372036854775807)) (terms.int (negsuc 0)))
-        ≡ Some (int (negsuc 9223372036854775807)) }
+        ≡ Some (Int (negsuc 9223372036854775807)) }
     ensures difference { worth no_vars (terms.two Sub (terms.int (negsuc 9223372036854775807)) (terms.int (pos 1)))
-        ≡ Some (int (pos 9223372036854775807)) }
+        ≡ Some (Int (pos 9223372036854775807)) }
 {}
 
 /// Counts are clamped to 0 to 1,000.
 pub fn loop_counts_are_clamped()
-    ensures largest { turns_of (int (pos 1000)) ≡ Some 1000 }
-    ensures above { turns_of (int (pos 1001)) ≡ Some 1000 }
-    ensures below { turns_of (int (negsuc 0)) ≡ Some 0 }
+    ensures largest { turns_of (Int (pos 1000)) ≡ Some 1000 }
+    ensures above { turns_of (Int (pos 1001)) ≡ Some 1000 }
+    ensures below { turns_of (Int (negsuc 0)) ≡ Some 0 }
 {}
