@@ -1,4 +1,5 @@
 pub mod Embedding
-pub mod Framing
+pub mod Inside
+pub mod Spellings
 pub mod Steps
 pub mod Stuckness

@@ -1,6 +1,7 @@
 -- Pieces one after another, and what is due behind them.
-use Rattle.std.proofs.Common.{◌≡◌, ℕ, Bool, true, false, List, [], ◌∷◌, ◌++◌, Option, Some, None, refl, ap, sym, subst, ◌∙◌, append_assoc, ◌⊎◌, inl, inr}
+use Rattle.std.proofs.Common.{◌≡◌, ◌≢◌, ℕ, Bool, true, false, List, [], ◌∷◌, ◌++◌, Option, Some, None, refl, ap, sym, subst, ◌∙◌, append_assoc, ◌⊎◌, inl, inr}
 use Rattle.std.specs.Prelude.{if◌then◌else◌}
+use Rattle.sj_grammar.specs.declared.tokens.Rule.{Rule}
 use Rattle.sj_grammar.specs.declared.tokens.Rule.TheVariants.{P1, P3, P4}
 use Rattle.sj_grammar.specs.Limits.{Limits}
 use Rattle.sj_grammar.specs.Literals.{is_largest}
@@ -81,13 +82,17 @@ module _ {D : Type 0} (G : Layer D) where
       by_due (Some gs) t (inl i) e = let none : ⊥ = cc in absurd none
       by_due (Some gs) t (inr i) e = let going = i.1 in cc
 
-  pub step_none : (L : Limits) (n : ℕ) (ds : List D) (s : List ℕ) → rule_of (step G L n ds s) ≡ Some P1 → due_behind ds s ≡ None
-  step_none L n ds s e = by_due (due_behind ds s) (step G L n ds s) (step_is L n ds s) e
+  -- where it breaks a rule other than a limit, nothing is due
+  pub step_refused : (L : Limits) (n : ℕ) (ds : List D) (s : List ℕ) (r : Rule) → rule_of (step G L n ds s) ≡ Some r → r ≢ P4 → due_behind ds s ≡ None
+  step_refused L n ds s r e other = by_due (due_behind ds s) (step G L n ds s) (step_is L n ds s) e
     where
-      by_due : (x : Option (List D)) (t : Step D) → IsStep L n ds s x t → rule_of t ≡ Some P1 → x ≡ None
+      by_due : (x : Option (List D)) (t : Step D) → IsStep L n ds s x t → rule_of t ≡ Some r → x ≡ None
       by_due None t i e = refl
-      by_due (Some gs) t (inl i) e = let other : Some P4 ≡ Some P1 = sym (ap rule_of i) ∙ e in let none : ⊥ = cc in absurd none
-      by_due (Some gs) t (inr i) e = let other : None ≡ Some P1 = sym (ap rule_of i.1) ∙ e in let none : ⊥ = cc in absurd none
+      by_due (Some gs) t (inl i) e = let limit : Some P4 ≡ Some r = sym (ap rule_of i) ∙ e in let same : P4 ≡ r = cc in absurd (other (sym same))
+      by_due (Some gs) t (inr i) e = let none : None ≡ Some r = sym (ap rule_of i.1) ∙ e in let no : ⊥ = cc in absurd no
+
+  pub step_none : (L : Limits) (n : ℕ) (ds : List D) (s : List ℕ) → rule_of (step G L n ds s) ≡ Some P1 → due_behind ds s ≡ None
+  step_none L n ds s e = step_refused L n ds s P1 e (λ same. cc)
 
   pub step_over : (L : Limits) (n : ℕ) (ds : List D) (s : List ℕ) → rule_of (step G L n ds s) ≡ Some P4 → (es : List D) × (due_behind ds s ≡ Some es)
   step_over L n ds s e = by_due (due_behind ds s) (step G L n ds s) (step_is L n ds s) e
