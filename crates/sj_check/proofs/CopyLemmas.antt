@@ -1,5 +1,5 @@
 -- Entries that are inserted in turn, and entries that both have.
-use Rattle.std.proofs.Common.{◌≡◌, ℕ, List, [], ◌∷◌, Option, Some, None, Bool, true, false, ◌&&◌, ◌==◌, cond, refl, ap, sym, ◌∙◌}
+use Rattle.std.proofs.Common.{◌≡◌, ℕ, List, [], ◌∷◌, Option, Some, None, is_some, Bool, true, false, ◌&&◌, ◌==◌, cond, refl, ap, sym, ◌∙◌}
 use Rattle.std.specs.Ordering.{nat_cmp, eq_by_cmp}
 use Rattle.std.specs.Cmp.{nat_cmp_total, eq_by_cmp_equiv, unsigned_tied}
 use Rattle.std.specs.Bool.{Decides}
@@ -16,9 +16,9 @@ use Rattle.std.proofs.lemmas.Bool.Decides.{Decides-eqb, Decides-and, Decides-lik
 use Rattle.sj_lang.specs.Place.{Place}
 use Rattle.sj_acceptance.specs.Sameness.{is_same_place, is_same_list, is_same_ends}
 use Rattle.sj_check.specs.Maps.{map_at}
-use Rattle.sj_check.specs.Within.{is_that, within}
+use Rattle.sj_check.specs.Within.{is_that, within, keys_within}
 use Rattle.sj_check.proofs.MapLemmas.{get-map_at}
-use Rattle.sj_acceptance_laws.proofs.SamenessLemmas.{is_same_place-Decides}
+use Rattle.sj_acceptance_laws.proofs.SamenessLemmas.{is_same_place-Decides, is_same_ends-Decides}
 
 -- what the entries give at a key
 abbrev pub there : {X : Type 0} → List (ℕ × X) → ℕ → Option X
@@ -61,50 +61,43 @@ all_there : (es os : List (ℕ × Place)) → AllByRecursion (λ e. there os e.0
 all_there [] os h = refl
 all_there (x ∷ es) os h = (Decides-and (is_that x.1 (there os x.0)) (within es os) (is_that-Decides x.1 (there os x.0)) (λ e. e, λ e. e)).1 (h.0, all_there es os h.1)
 
--- what each has the other has
-same_there : (o p : Option Place) → ((v : Place) → o ≡ Some v → p ≡ Some v) → ((v : Place) → p ≡ Some v → o ≡ Some v) → o ≡ p
-same_there None None h k = refl
-same_there None (Some v) h k = k v refl
-same_there (Some v) p h k = sym (h v refl)
+keys_kept : (es os : List (ℕ × Place)) → keys_within es os ≡ true → (q : ℕ) (p : Place) → there es q ≡ Some p → is_some (there os q) ≡ true
+keys_kept [] os h q p e = absurd (cc)
+keys_kept (x ∷ es) os h q p e =
+    let parts = both (is_some (there os x.0)) (keys_within es os) h in
+    elim (eq_by_cmp nat_cmp q x.0) as (λ b. eq_by_cmp nat_cmp q x.0 ≡ b → cond b (Some x.1) (there es q) ≡ Some p → is_some (there os q) ≡ true) [
+      | true ↦ λ b f. ap (λ k. is_some (there os k)) ((Decides-eqb q x.0).0 (sym (unsigned_tied q x.0) ∙ b)) ∙ parts.0
+      | false ↦ λ b f. keys_kept es os parts.1 q p f
+    ] refl e
+
+all_keys : (es os : List (ℕ × Place)) → within es os ≡ true → keys_within es os ≡ true
+all_keys [] os h = refl
+all_keys (x ∷ es) os h =
+    let parts = both (is_that x.1 (there os x.0)) (within es os) h in
+    let here : is_some (there os x.0) ≡ true = ap is_some ((is_that-Decides x.1 (there os x.0)).0 parts.0) in
+    λ i. here i && all_keys es os parts.1 i
+
+-- what the one has the other has, and the other has no more
+same_at : (o p : Option Place) → ((v : Place) → o ≡ Some v → p ≡ Some v) → ((v : Place) → p ≡ Some v → is_some o ≡ true) → o ≡ p
+same_at None None h k = refl
+same_at None (Some v) h k = let e = k v refl in absurd (cc)
+same_at (Some v) p h k = sym (h v refl)
 
 module _ (a b : BTreeMap ℕ Place) (oa : IsOrdered nat_cmp a) (ob : IsOrdered nat_cmp b) where
   contents : map_at a.entries ≡ map_at b.entries → (q : ℕ) → there a.entries q ≡ there b.entries q
   contents e q = sym (get-map_at a.entries q) ∙ ap (λ m. get m q) e ∙ get-map_at b.entries q
 
-  within-Decides : Decides (within a.entries b.entries && within b.entries a.entries) (map_at a.entries ≡ map_at b.entries)
+  within-Decides : Decides (within a.entries b.entries && keys_within b.entries a.entries) (map_at a.entries ≡ map_at b.entries)
   within-Decides = (
     (λ h. let parts = both _ _ h in
         same_map nat_cmp_total nat_cmp-IsAntisymmetric _ _ (λ q. get-map_at a.entries q
-        ∙ same_there (there a.entries q) (there b.entries q) (kept a.entries b.entries parts.0 q) (kept b.entries a.entries parts.1 q) ∙ sym (get-map_at b.entries q))),
-    (λ e. (Decides-and (within a.entries b.entries) (within b.entries a.entries) (λ t. t, λ t. t) (λ t. t, λ t. t)).1 (
+        ∙ same_at (there a.entries q) (there b.entries q) (kept a.entries b.entries parts.0 q) (keys_kept b.entries a.entries parts.1 q) ∙ sym (get-map_at b.entries q))),
+    (λ e. (Decides-and (within a.entries b.entries) (keys_within b.entries a.entries) (λ t. t, λ t. t) (λ t. t, λ t. t)).1 (
       all_there a.entries b.entries (recursion_from_All _ a.entries (λ k d l. sym (contents e _) ∙ All-found nat_cmp_total a oa k d l)),
-      all_there b.entries a.entries (recursion_from_All _ b.entries (λ k d l. contents e _ ∙ All-found nat_cmp_total b ob k d l)),
+      all_keys b.entries a.entries (all_there b.entries a.entries (recursion_from_All _ b.entries (λ k d l. contents e _ ∙ All-found nat_cmp_total b ob k d l))),
     )),
   )
 
-abbrev first_or : ℕ × Place → List (ℕ × Place) → ℕ × Place
-first_or d [] = d
-first_or d (x ∷ xs) = x
-
-abbrev rest_or : List (ℕ × Place) → List (ℕ × Place)
-rest_or [] = []
-rest_or (x ∷ xs) = xs
-
-is_same_list-Decides : (xs ys : List (ℕ × Place)) → Decides (is_same_list xs ys) (xs ≡ ys)
-is_same_list-Decides [] [] = (λ _. refl, λ _. refl)
-is_same_list-Decides [] (y ∷ ys) = (λ e. absurd (cc), λ e. absurd (cc))
-is_same_list-Decides (x ∷ xs) [] = (λ e. absurd (cc), λ e. absurd (cc))
-is_same_list-Decides (x ∷ xs) (y ∷ ys) =
-    Decides-like ((x.0 == y.0) && is_same_place x.1 y.1 && is_same_list xs ys)
-    (λ (p : ((x.0 ≡ y.0) × (x.1 ≡ y.1)) × (xs ≡ ys)) i. (p.0.0 i, p.0.1 i) ∷ p.1 i)
-    (λ e. ((ap (λ zs. (first_or x zs).0) e, ap (λ zs. (first_or x zs).1) e), ap rest_or e))
-    (Decides-and ((x.0 == y.0) && is_same_place x.1 y.1) (is_same_list xs ys)
-    (Decides-and (x.0 == y.0) (is_same_place x.1 y.1) (Decides-eqb x.0 y.0) (is_same_place-Decides x.1 y.1)) (is_same_list-Decides xs ys))
-
-pub is_same_ends-Decides : (m n : FinMap nat_cmp Place) → Decides (is_same_ends m n) (m ≡ n)
-unfolding is_same_ends
-is_same_ends-Decides m n = Decides-like (is_same_list (entries m) (entries n)) (same_entries_map m n) (ap entries) (is_same_list-Decides (entries m) (entries n))
-
 -- the two tests together are the test of sameness
-pub within-both : (a b : BTreeMap ℕ Place) → IsOrdered nat_cmp a → IsOrdered nat_cmp b → (within a.entries b.entries && within b.entries a.entries) ≡ is_same_ends (map_at a.entries) (map_at b.entries)
+pub within-both : (a b : BTreeMap ℕ Place) → IsOrdered nat_cmp a → IsOrdered nat_cmp b → (within a.entries b.entries && keys_within b.entries a.entries) ≡ is_same_ends (map_at a.entries) (map_at b.entries)
 within-both a b oa ob = same_from_decides _ _ (within-Decides a b oa ob) (is_same_ends-Decides (map_at a.entries) (map_at b.entries))

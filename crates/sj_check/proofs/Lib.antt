@@ -1,6 +1,5 @@
 pub mod ArmLemmas
 pub mod BodyLemmas
-pub mod CommonLemmas
 pub mod CopyLemmas
 pub mod FaultLemmas
 pub mod IfLemmas
@@ -8,5 +7,6 @@ pub mod ItemLemmas
 pub mod MapLemmas
 pub mod OnceLemmas
 pub mod PlaceLemmas
+pub mod TableLemmas
 pub mod TermLemmas
 pub mod WalkLemmas

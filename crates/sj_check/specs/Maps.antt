@@ -27,7 +27,11 @@ scalar_again Int = refl
 scalar_again Boolean = refl
 scalar_again Text = refl
 
+-- finite maps of kinds, and what a party knows, as codes
+abbrev pub coded_kinds : Coded (FinMap nat_cmp Scalar)
+coded_kinds = map.code coded_ℕ (code_by ℕ coded_ℕ scalar_number scalar_at scalar_again)
+
 abbrev pub coded_known : Coded Known
 coded_known =
-    code_by (FinMap nat_cmp Place × FinMap nat_cmp Scalar) (coded× (map.code coded_ℕ coded_place) (map.code coded_ℕ (code_by ℕ coded_ℕ scalar_number scalar_at scalar_again)))
+    code_by (FinMap nat_cmp Place × FinMap nat_cmp Scalar) (coded× (map.code coded_ℕ coded_place) coded_kinds)
     (λ e. (e.ends, e.variables)) (λ p. record { ends = p.0; variables = p.1 }) (λ _. refl)

@@ -5,17 +5,17 @@ ghost use Rattle.std.specs.Prelude.{◌≡◌, IfOk, OnOk};
 ghost use Rattle.std.specs.Option.{option_copied};
 ghost use Rattle.std.specs.Ordering.{nat_cmp};
 ghost use Rattle.std.specs.BTreeMap.{IsOrdered};
-ghost use Rattle.sj_check.specs.Within.{within};
+ghost use Rattle.sj_check.specs.Within.{within, keys_within};
 ghost use Rattle.sj_check.specs.Maps.{map_at};
 ghost use Rattle.std.specs.FinMap as map;
 ghost use Rattle.sj_acceptance.specs.Known.{nothing, moved, without, knowing};
 ghost use Rattle.sj_acceptance.specs.Sameness.{is_same_ends};
 ghost use Rattle.sj_acceptance.specs.Known.{is_live, is_known, place_at};
-ghost use Rattle.sj_acceptance.specs.Arms.{common, agree};
+ghost use Rattle.sj_acceptance.specs.Arms.{common};
 ghost use Rattle.sj_acceptance.specs.FirstItem.{turn_of, rest_of, arm_place};
 
-use crate::kinds::same_kind;
 use crate::places::{arm_place, is_same, rest, turn};
+use crate::variables::Variables;
 use sj_base::NoMemory;
 use sj_lang::{Proto, Scalar, copied};
 use std::alloc::Global;
@@ -27,7 +27,7 @@ use std::marker::Model;
 pub struct Env {
     alloc: Global,
     places: BTreeMap<u16, Proto>,
-    kinds: BTreeMap<u16, Scalar>,
+    kinds: Variables,
 }
 
 impl Model for Env {
@@ -38,7 +38,7 @@ impl Model for Env {
 
     ghost coded = { coded_known };
 
-    ghost view = { λ e. record { ends = map_at e.places.entries; variables = map_at e.kinds.entries } };
+    ghost view = { λ e. record { ends = map_at e.places.entries; variables = e.kinds } };
 }
 
 impl Env {
@@ -48,7 +48,7 @@ impl Env {
         Env {
             alloc,
             places: BTreeMap::new(alloc),
-            kinds: BTreeMap::new(alloc),
+            kinds: Variables::new(alloc),
         }
     }
 
@@ -79,14 +79,14 @@ impl Env {
     pub fn kind(&self, name: u16) -> Option<Scalar>
         ensures { result ≡ map.get self.now.variables name }
     {
-        self.kinds.get(&name).copied()
+        self.kinds.kind(name)
     }
 
     /// The variable is known at this kind from now on.
     pub fn put_kind(&mut self, name: u16, kind: Scalar) -> Result<(), NoMemory>
         ensures { OnOk result (self.new ≡ knowing self.old name kind) }
     {
-        self.kinds.insert(name, kind)?;
+        self.kinds.put(name, kind)?;
         Ok(())
     }
 
@@ -111,7 +111,7 @@ impl Env {
         ensures { IfOk result (λ e. e ≡ self.now) }
     {
         let places = copied_places(self.alloc, &self.places)?;
-        let kinds = copied_kinds(self.alloc, &self.kinds)?;
+        let kinds = self.kinds.copied(self.alloc)?;
         Ok(Env {
             alloc: self.alloc,
             places,
@@ -124,16 +124,18 @@ impl Env {
         ensures { result ≡ is_same_ends self.now.ends other.now.ends }
     {
         let kept = is_within(&self.places, &other.places);
-        let no_more = is_within(&other.places, &self.places);
+        let no_more = has_ends_of(&self.places, &other.places);
         kept && no_more
     }
 
     /// Keeps the variables that the other knows at the same kind.
-    pub fn keep_common(&mut self, other: &Env) -> Result<(), NoMemory>
-        ensures { OnOk result (self.new ≡ record self.old { variables = common self.old.variables other.now.variables }) }
+    pub fn keep_common(&mut self, other: &Env)
+        ensures {
+            let known = common self.old.variables other.now.variables in
+            self.new ≡ record self.old { variables = known }
+        }
     {
-        self.kinds = common_kinds(self.alloc, &self.kinds, &other.kinds)?;
-        Ok(())
+        self.kinds.keep_common(&other.kinds);
     }
 
     /// Puts the beginning of a turn at the end's loop into `inner`.
@@ -200,6 +202,19 @@ fn is_within(a: &BTreeMap<u16, Proto>, b: &BTreeMap<u16, Proto>) -> bool
     true
 }
 
+// Whether the first has each end of the second.
+fn has_ends_of(a: &BTreeMap<u16, Proto>, b: &BTreeMap<u16, Proto>) -> bool
+    ensures value { result ≡ keys_within b.now.entries a.now.entries }
+    ensures ordered { IsOrdered nat_cmp b.now }
+{
+    for (end, _) in b {
+        if !a.contains_key(end) {
+            return false;
+        }
+    }
+    true
+}
+
 fn copied_places(
     alloc: Global,
     places: &BTreeMap<u16, Proto>,
@@ -211,43 +226,4 @@ fn copied_places(
         copies.insert(*end, copied(alloc, place)?)?;
     }
     Ok(copies)
-}
-
-fn copied_kinds(
-    alloc: Global,
-    kinds: &BTreeMap<u16, Scalar>,
-) -> Result<BTreeMap<u16, Scalar>, NoMemory>
-    ensures { IfOk result (λ m. map_at m.entries ≡ map_at kinds.now.entries) }
-{
-    let mut copies = BTreeMap::new(alloc);
-    for (name, kind) in kinds {
-        copies.insert(*name, *kind)?;
-    }
-    Ok(copies)
-}
-
-// The variables that both know at one kind.
-fn common_kinds(
-    alloc: Global,
-    a: &BTreeMap<u16, Scalar>,
-    b: &BTreeMap<u16, Scalar>,
-) -> Result<BTreeMap<u16, Scalar>, NoMemory>
-    ensures { IfOk result (λ m. map_at m.entries ≡ common (map_at a.now.entries) (map_at b.now.entries)) }
-{
-    let mut both = BTreeMap::new(alloc);
-    for (name, kind) in a {
-        if is_known_as(b.get(name).copied(), *kind) {
-            both.insert(*name, *kind)?;
-        }
-    }
-    Ok(both)
-}
-
-fn is_known_as(known: Option<Scalar>, kind: Scalar) -> bool
-    ensures { result ≡ agree (Some kind) known }
-{
-    match known {
-        Some(other) => same_kind(kind, other),
-        None => false,
-    }
 }

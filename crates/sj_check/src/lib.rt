@@ -12,6 +12,7 @@ mod once;
 mod places;
 mod refusal;
 mod statements;
+mod variables;
 mod walk;
 
 pub use accepted::Accepted;

@@ -195,7 +195,7 @@ fn all_arms(
         let mut inner = env.at_arm(end, arm.label)?;
         block(protocols, &mut inner, &arm.body)?;
         agree = both(agree, left.has_same_ends(&inner));
-        left.keep_common(&inner)?;
+        left.keep_common(&inner);
     }
     Ok((left, agree))
 }
@@ -245,6 +245,6 @@ fn joined(env: &mut Env, line: u32, other: &Env) -> Result<(), CheckRefusal>
     if !env.has_same_ends(other) {
         return Err(CheckRefusal::At { rule: 9, line });
     }
-    env.keep_common(other)?;
+    env.keep_common(other);
     Ok(())
 }

@@ -104,7 +104,7 @@ all_arms-loop-i-preserved t c =
     let left = c.loop-i.left in
     let rest = after_branches ps env c.args.end (from c.args.arms.now (c.loop-i.i + 1)) in
     let after : after_branches ps env c.args.end (from c.args.arms.now c.loop-i.i) ≡ out ∷ rest = arm-after (protocols_of c.args.protocols.now) c.args.env.now c.args.end c.args.arms.now c.loop-i.i c.index-arms-i.result c.loop-i-test.true c.index-arms-i.is c.deref-in-loop-i.result.now c.deref-in-loop-i.ensures.value c.in_ok-inner.inner c.in_ok-inner.ensures out c.in_ok-block-2.ensures.after in
-    let kept = c.in_ok-keep_common.ensures in
+    let kept = c.keep_common.ensures in
     record {
       tests = arm-tests (protocols_of c.args.protocols.now) c.args.env.now c.args.end c.args.arms.now c.loop-i.i c.index-arms-i.result c.loop-i-test.true c.index-arms-i.is c.deref-in-loop-i.result.now c.deref-in-loop-i.ensures.value c.in_ok-inner.inner c.in_ok-inner.ensures c.in_ok-block-2.ensures.passes ∙ c.loop-i.invariant.tests;
       ends = ap (λ (e : Known). e.ends) kept ∙ c.loop-i.invariant.ends;

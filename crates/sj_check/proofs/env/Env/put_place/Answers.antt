@@ -7,4 +7,4 @@ use Rattle.sj_check.proofs.env.Env.put_place.Goals as goal
 pub returns : goal.returns
 returns c =
     let step = map_at-updated c.self.inside.places.entries c.insert.new.self.entries c.args.end c.args.place c.in_ok-insert.ensures.updates.0 in
-    ap (λ m. record { ends = m; variables = map_at c.self.inside.kinds.entries }) step ∙ ap (λ (e : Known). moved e c.args.end c.args.place) c.self.view_is
+    ap (λ m. record { ends = m; variables = c.self.inside.kinds }) step ∙ ap (λ (e : Known). moved e c.args.end c.args.place) c.self.view_is

@@ -11,4 +11,4 @@ returns-clause-value c = c.remove.ensures.value ∙ sym (get-map_at c.self.insid
 pub returns-clause-after : goal.returns-clause-after
 returns-clause-after c =
     let step = map_at-removed c.self.inside.places.entries c.remove.new.self.entries c.args.end c.remove.ensures.updates.0 in
-    ap (λ m. record { ends = m; variables = map_at c.self.inside.kinds.entries }) step ∙ ap (λ (e : Known). without e c.args.end) c.self.view_is
+    ap (λ m. record { ends = m; variables = c.self.inside.kinds }) step ∙ ap (λ (e : Known). without e c.args.end) c.self.view_is
