@@ -114,4 +114,3 @@ free_kind (Some i) k h j e = let f = same_kind i k h in cc
 pub free_passes : (o : Option Scalar) (k : Scalar) → ((j : Scalar) → o ≡ Some j → j ≡ k) → is_free_for o k ≡ true
 free_passes None k h = refl
 free_passes (Some i) k h = ap (λ j. is_same_kind j k) (h i refl) ∙ same_kind_refl k
-

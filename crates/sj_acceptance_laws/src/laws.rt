@@ -15,16 +15,12 @@ ghost use Rattle.sj_acceptance.specs.Accepted.{IsAccepted, IsWithinLimits};
 
 /// A block leads to an environment exactly where its tests pass, and then to the one that it leaves.
 pub fn a_block_leads_where_its_tests_pass()
-    ensures {
-        (ps : List ProtocolAt) (code : Code) (env : Known) (next : Env)
+    ensures { (ps : List ProtocolAt) (code : Code) (env : Known) (next : Env)
         → Follows ps code (seen env) next
-        ↔ ((first_fault (code_tests ps env code) ≡ None) × (next ≡ seen (after_code ps env code)))
-    }
+        ↔ ((first_fault (code_tests ps env code) ≡ None) × (next ≡ seen (after_code ps env code))) }
 {}
 
 /// A file is accepted exactly where it is within the limits and none of its tests fails.
 pub fn a_file_is_accepted_where_it_has_no_fault()
-    ensures {
-        (f : FileAt) → IsAccepted f ↔ (IsWithinLimits f × (first_fault (tests_of f) ≡ None))
-    }
+    ensures { (f : FileAt) → IsAccepted f ↔ (IsWithinLimits f × (first_fault (tests_of f) ≡ None)) }
 {}
