@@ -130,10 +130,8 @@ impl Env {
 
     /// Keeps the variables that the other knows at the same kind.
     pub fn keep_common(&mut self, other: &Env)
-        ensures {
-            let known = common self.old.variables other.now.variables in
-            self.new ≡ record self.old { variables = known }
-        }
+        ensures { let known = common self.old.variables other.now.variables in
+            self.new ≡ record self.old { variables = known } }
     {
         self.kinds.keep_common(&other.kinds);
     }

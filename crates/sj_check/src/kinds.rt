@@ -18,8 +18,10 @@ use sj_lang::{Expr, Kind, Op, Scalar};
 /// The kind of an expression. Operands come before their operator.
 pub fn expr_kind(env: &Env, line: u32, value: &Expr) -> Result<Scalar, CheckRefusal>
     ensures ok { IfOk result (λ k. k ≡ kinds.kind_of env.now.variables (term_of value.now)) }
-    ensures passes { OnOk result (first_fault (kinds.term_tests line env.now.variables (term_of value.now)) ≡ None) }
-    ensures fault { IfErr result (Tells (first_fault (kinds.term_tests line env.now.variables (term_of value.now)))) }
+    ensures passes { let tests = kinds.term_tests line env.now.variables (term_of value.now) in
+        OnOk result (first_fault tests ≡ None) }
+    ensures fault { let tests = kinds.term_tests line env.now.variables (term_of value.now) in
+        IfErr result (Tells (first_fault tests)) }
 {
     match value {
         Expr::Int(_) => Ok(Scalar::Int),

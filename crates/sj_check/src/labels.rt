@@ -11,7 +11,8 @@ use std::alloc::Global;
 
 /// Whether the arms are those of the choice that stands first, each once, and at least one.
 pub fn are_arms_of(alloc: Global, place: &Proto, arms: &[StmtArm]) -> Result<bool, NoMemory>
-    ensures { IfOk result (λ r. r ≡ labels.are_labels_of (choices place.now) (branch_labels (branches_of (map arm_of arms.now)))) }
+    ensures { let bs = branches_of (map arm_of arms.now) in
+        IfOk result (λ r. r ≡ labels.are_labels_of (choices place.now) (branch_labels bs)) }
 {
     let named = arm_labels(alloc, arms)?;
     let wanted = match place.items.first() {

@@ -3,8 +3,10 @@
 
 mod accepted;
 mod checking;
+mod ends;
 mod env;
 mod files;
+mod joins;
 mod kinds;
 mod labels;
 mod limits;

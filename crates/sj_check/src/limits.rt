@@ -12,8 +12,8 @@ ghost use Rattle.sj_check.specs.Views.{protocols_of};
 
 use sj_lang::{Arm, Arms, File, Item, Kind, Proto, ProtocolDef};
 
-/// Whether the file has at most 256 protocols of at most 1,024 items each, inner ones counted, 16 parties and
-/// 64 connections.
+/// Whether the file has at most 256 protocols of at most 1,024 items each, inner ones counted,
+/// 16 parties and 64 connections.
 pub fn is_within_limits(file: &File) -> bool
     ensures { IsTrue result ↔ IsWithinLimits (file_of file.now) }
 {
@@ -50,10 +50,8 @@ fn room_behind(p: &Proto, room: u32) -> Option<u32>
 
 #[cycle(room)]
 fn room_behind_items(items: &[Item], room: u32) -> Option<u32>
-    ensures {
-        let count = item_count (place_of items.now) in
-        MatchOption result (room < count) (λ left. left + count ≡ room)
-    }
+    ensures { let count = item_count (place_of items.now) in
+        MatchOption result (room < count) (λ left. left + count ≡ room) }
 {
     let mut left = room;
     for item in items {
@@ -64,10 +62,8 @@ fn room_behind_items(items: &[Item], room: u32) -> Option<u32>
 
 #[cycle(room)]
 fn room_behind_item(item: &Item, room: u32) -> Option<u32>
-    ensures {
-        let count = item_count (followed item.now done) in
-        MatchOption result (room < count) (λ left. left + count ≡ room)
-    }
+    ensures { let count = item_count (followed item.now done) in
+        MatchOption result (room < count) (λ left. left + count ≡ room) }
 {
     if room == 0 {
         return None;
@@ -85,10 +81,8 @@ fn room_behind_item(item: &Item, room: u32) -> Option<u32>
 
 #[cycle(room)]
 fn room_behind_kind(kind: &Kind, room: u32) -> Option<u32>
-    ensures {
-        let count = kind_items (carried_of kind.now) in
-        MatchOption result (room < count) (λ left. left + count ≡ room)
-    }
+    ensures { let count = kind_items (carried_of kind.now) in
+        MatchOption result (room < count) (λ left. left + count ≡ room) }
 {
     match kind {
         Kind::Session(p) => room_behind(p, room),
@@ -98,17 +92,16 @@ fn room_behind_kind(kind: &Kind, room: u32) -> Option<u32>
 
 #[cycle(room)]
 fn room_behind_choice(choice: &Arms, room: u32) -> Option<u32>
-    ensures { MatchOption result (room < arm_items choice.now) (λ left. left + arm_items choice.now ≡ room) }
+    ensures { let count = arm_items choice.now in
+        MatchOption result (room < count) (λ left. left + count ≡ room) }
 {
     room_behind_arms(&choice.arms, room)
 }
 
 #[cycle(room)]
 fn room_behind_arms(arms: &[Arm], room: u32) -> Option<u32>
-    ensures {
-        let count = arm_items (choices_of arms.now) in
-        MatchOption result (room < count) (λ left. left + count ≡ room)
-    }
+    ensures { let count = arm_items (choices_of arms.now) in
+        MatchOption result (room < count) (λ left. left + count ≡ room) }
 {
     let mut left = room;
     for arm in arms {

@@ -35,7 +35,8 @@ pub fn is_done(place: &Proto) -> bool
 
 /// What is to be sent next, and what follows.
 pub fn sending(place: Proto) -> Option<(Kind, Proto)>
-    ensures { MatchOption result (places.is_message ways.Out place ≡ false) (λ p. place ≡ message ways.Out (carried_of p.0) p.1) }
+    ensures { let Other = places.is_message ways.Out place ≡ false in
+        MatchOption result Other (λ p. place ≡ message ways.Out (carried_of p.0) p.1) }
 {
     let (item, rest) = first_item(place)?;
     match item {
@@ -46,7 +47,8 @@ pub fn sending(place: Proto) -> Option<(Kind, Proto)>
 
 /// What is to be taken next, and what follows.
 pub fn taking(place: Proto) -> Option<(Kind, Proto)>
-    ensures { MatchOption result (places.is_message ways.Into place ≡ false) (λ p. place ≡ message ways.Into (carried_of p.0) p.1) }
+    ensures { let Other = places.is_message ways.Into place ≡ false in
+        MatchOption result Other (λ p. place ≡ message ways.Into (carried_of p.0) p.1) }
 {
     let (item, rest) = first_item(place)?;
     match item {
@@ -57,7 +59,8 @@ pub fn taking(place: Proto) -> Option<(Kind, Proto)>
 
 /// The arms of which one is to be chosen next, and what follows.
 pub fn selecting(place: Proto) -> Option<(Arms, Proto)>
-    ensures { MatchOption result (places.is_choice ways.Out place ≡ false) (λ p. place ≡ choice ways.Out p.0 p.1) }
+    ensures { let Other = places.is_choice ways.Out place ≡ false in
+        MatchOption result Other (λ p. place ≡ choice ways.Out p.0 p.1) }
 {
     let (item, rest) = first_item(place)?;
     match item {

@@ -18,9 +18,11 @@ use crate::places::{
 use sj_lang::{Expr, ProtocolDef, Scalar, copied};
 
 pub fn send(env: &mut Env, line: u32, end: u16, value: &Expr) -> Result<(), CheckRefusal>
-    ensures passes { OnOk result (first_fault (act_tests [] line env.old (code.send end (term_of value.now))) ≡ None) }
+    ensures passes { let tests = act_tests [] line env.old (code.send end (term_of value.now)) in
+        OnOk result (first_fault tests ≡ None) }
     ensures after { OnOk result (env.new ≡ after_act [] env.old (code.send end (term_of value.now))) }
-    ensures fault { IfErr result (Tells (first_fault (act_tests [] line env.old (code.send end (term_of value.now))))) }
+    ensures fault { let tests = act_tests [] line env.old (code.send end (term_of value.now)) in
+        IfErr result (Tells (first_fault tests)) }
 {
     let Some(place) = env.take_place(end) else {
         return Err(CheckRefusal::At { rule: 5, line });
@@ -39,7 +41,8 @@ pub fn send(env: &mut Env, line: u32, end: u16, value: &Expr) -> Result<(), Chec
 pub fn close(env: &mut Env, line: u32, end: u16) -> Result<(), CheckRefusal>
     ensures passes { OnOk result (first_fault (act_tests [] line env.old (code.close end)) ≡ None) }
     ensures after { OnOk result (env.new ≡ after_act [] env.old (code.close end)) }
-    ensures fault { IfErr result (Tells (first_fault (act_tests [] line env.old (code.close end)))) }
+    ensures fault { let tests = act_tests [] line env.old (code.close end) in
+        IfErr result (Tells (first_fault tests)) }
 {
     let Some(place) = env.take_place(end) else {
         return Err(CheckRefusal::At { rule: 5, line });
@@ -51,9 +54,11 @@ pub fn close(env: &mut Env, line: u32, end: u16) -> Result<(), CheckRefusal>
 }
 
 pub fn delegate(env: &mut Env, line: u32, end: u16, sent: u16) -> Result<(), CheckRefusal>
-    ensures passes { OnOk result (first_fault (act_tests [] line env.old (code.delegate end sent)) ≡ None) }
+    ensures passes { let tests = act_tests [] line env.old (code.delegate end sent) in
+        OnOk result (first_fault tests ≡ None) }
     ensures after { OnOk result (env.new ≡ after_act [] env.old (code.delegate end sent)) }
-    ensures fault { IfErr result (Tells (first_fault (act_tests [] line env.old (code.delegate end sent)))) }
+    ensures fault { let tests = act_tests [] line env.old (code.delegate end sent) in
+        IfErr result (Tells (first_fault tests)) }
 {
     if !env.is_live(end) || !env.is_live(sent) {
         return Err(CheckRefusal::At { rule: 5, line });
@@ -90,9 +95,11 @@ pub fn take_value(
     into: u16,
     kind: Scalar,
 ) -> Result<(), CheckRefusal>
-    ensures passes { OnOk result (first_fault (act_tests [] line env.old (code.take_value end into kind)) ≡ None) }
+    ensures passes { let tests = act_tests [] line env.old (code.take_value end into kind) in
+        OnOk result (first_fault tests ≡ None) }
     ensures after { OnOk result (env.new ≡ after_act [] env.old (code.take_value end into kind)) }
-    ensures fault { IfErr result (Tells (first_fault (act_tests [] line env.old (code.take_value end into kind)))) }
+    ensures fault { let tests = act_tests [] line env.old (code.take_value end into kind) in
+        IfErr result (Tells (first_fault tests)) }
 {
     let Some(place) = env.take_place(end) else {
         return Err(CheckRefusal::At { rule: 5, line });
@@ -122,9 +129,14 @@ pub fn take_end(
     into: u16,
     protocol: u16,
 ) -> Result<(), CheckRefusal>
-    ensures passes { OnOk result (first_fault (act_tests (protocols_of protocols.now) line env.old (code.take_end end into protocol)) ≡ None) }
-    ensures after { OnOk result (env.new ≡ after_act (protocols_of protocols.now) env.old (code.take_end end into protocol)) }
-    ensures fault { IfErr result (Tells (first_fault (act_tests (protocols_of protocols.now) line env.old (code.take_end end into protocol)))) }
+    ensures passes { let ps = protocols_of protocols.now in
+        let tests = act_tests ps line env.old (code.take_end end into protocol) in
+        OnOk result (first_fault tests ≡ None) }
+    ensures after { let ps = protocols_of protocols.now in
+        OnOk result (env.new ≡ after_act ps env.old (code.take_end end into protocol)) }
+    ensures fault { let ps = protocols_of protocols.now in
+        let tests = act_tests ps line env.old (code.take_end end into protocol) in
+        IfErr result (Tells (first_fault tests)) }
 {
     let Some(place) = env.take_place(end) else {
         return Err(CheckRefusal::At { rule: 5, line });
@@ -147,9 +159,11 @@ pub fn take_end(
 }
 
 pub fn select(env: &mut Env, line: u32, end: u16, label: u16) -> Result<(), CheckRefusal>
-    ensures passes { OnOk result (first_fault (act_tests [] line env.old (code.outbranch end label)) ≡ None) }
+    ensures passes { let tests = act_tests [] line env.old (code.outbranch end label) in
+        OnOk result (first_fault tests ≡ None) }
     ensures after { OnOk result (env.new ≡ after_act [] env.old (code.outbranch end label)) }
-    ensures fault { IfErr result (Tells (first_fault (act_tests [] line env.old (code.outbranch end label)))) }
+    ensures fault { let tests = act_tests [] line env.old (code.outbranch end label) in
+        IfErr result (Tells (first_fault tests)) }
 {
     let Some(place) = env.take_place(end) else {
         return Err(CheckRefusal::At { rule: 5, line });
@@ -165,9 +179,11 @@ pub fn select(env: &mut Env, line: u32, end: u16, label: u16) -> Result<(), Chec
 }
 
 pub fn let_be(env: &mut Env, line: u32, name: u16, value: &Expr) -> Result<(), CheckRefusal>
-    ensures passes { OnOk result (first_fault (act_tests [] line env.old (code.let_be name (term_of value.now))) ≡ None) }
+    ensures passes { let tests = act_tests [] line env.old (code.let_be name (term_of value.now)) in
+        OnOk result (first_fault tests ≡ None) }
     ensures after { OnOk result (env.new ≡ after_act [] env.old (code.let_be name (term_of value.now))) }
-    ensures fault { IfErr result (Tells (first_fault (act_tests [] line env.old (code.let_be name (term_of value.now))))) }
+    ensures fault { let tests = act_tests [] line env.old (code.let_be name (term_of value.now)) in
+        IfErr result (Tells (first_fault tests)) }
 {
     let kind = expr_kind(env, line, value)?;
     if env.is_live(name) {

@@ -1,5 +1,6 @@
 //! The kinds of a party's variables.
-ghost use Rattle.std.specs.Prelude.{◌≡◌, ℕ, ◌≤◌, None, length, slice_index_or, if◌then◌else◌, IfOk, OnOk};
+ghost use Rattle.std.specs.Prelude.{◌≡◌, ℕ, ◌≤◌, None, length, slice_index_or, if◌then◌else◌};
+ghost use Rattle.std.specs.Prelude.{IfOk, OnOk};
 ghost use Rattle.std.specs.FinMap as map;
 ghost use Rattle.sj_acceptance.specs.Arms.{agree, common};
 
@@ -9,7 +10,8 @@ use sj_lang::Scalar;
 use std::alloc::Global;
 use std::marker::Model;
 
-/// The kind of each variable, in a table by the number of its name, so that a copy is one of a flat list.
+/// The kind of each variable, in a table by the number of its name, so that a copy is one of a flat
+/// list.
 #[derive(Drop)]
 pub struct Variables {
     table: Vec<Option<Scalar>>,
@@ -82,9 +84,7 @@ fn kind_at(table: &[Option<Scalar>], n: usize) -> Option<Scalar>
 // Makes room for numbers below `len`.
 fn grow(table: &mut Vec<Option<Scalar>>, len: usize) -> Result<(), NoMemory>
     ensures room { OnOk result (len ≤ length table.new.items) }
-    ensures kept {
-        (q : ℕ) → slice_index_or table.new.items q None ≡ slice_index_or table.old.items q None
-    }
+    ensures kept { (q : ℕ) → slice_index_or table.new.items q None ≡ slice_index_or table.old.items q None }
 {
     while table.len() < len {
         table.push(None)?;
@@ -93,12 +93,10 @@ fn grow(table: &mut Vec<Option<Scalar>>, len: usize) -> Result<(), NoMemory>
 }
 
 fn keep(table: &mut Vec<Option<Scalar>>, other: &[Option<Scalar>])
-    ensures {
-        (q : ℕ)
+    ensures { (q : ℕ)
         → let old = slice_index_or table.old.items q None in
         slice_index_or table.new.items q None
-        ≡ (if agree old (slice_index_or other.now q None) then old else None)
-    }
+        ≡ (if agree old (slice_index_or other.now q None) then old else None) }
 {
     for n in 0..table.len() {
         if !agrees(table[n], kind_at(other, n)) {

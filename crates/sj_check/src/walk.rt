@@ -1,32 +1,34 @@
 //! The walk through a body, statement by statement.
 #![tactic(auto, using(crate::proofs::FaultLemmas::faults))]
 
-ghost use Rattle.std.specs.Prelude.{◌≡◌, ◌&&◌, map, Some, None, true, if◌then◌else◌, IfOk, OnOk, IfErr};
-ghost use Rattle.sj_acceptance.specs.Sameness.{is_same_ends};
+ghost use Rattle.std.specs.Prelude.{◌≡◌, map, None, IfOk, OnOk, IfErr};
 ghost use Rattle.sj_lang.specs.Term.{term_of};
 ghost use Rattle.sj_lang.specs.Code.{code_of, stmt_of, arm_of, branches_of};
 ghost use Rattle.sj_lang.specs.Code as code;
 ghost use Rattle.sj_acceptance.specs.Faults.{first_fault};
 ghost use Rattle.sj_check.specs.Views.{protocols_of};
-ghost use Rattle.sj_acceptance.specs.Tests.{act_tests, after_act, step_tests, after_step, code_tests, after_code, condition_tests, branches_tests, after_branches, branching_tests};
-ghost use Rattle.sj_acceptance.specs.Arms.{common, is_one};
+ghost use Rattle.sj_acceptance.specs.Tests.{act_tests, after_act, branches_tests, after_branches};
+ghost use Rattle.sj_acceptance.specs.Tests.{step_tests, after_step, code_tests, after_code};
+ghost use Rattle.sj_acceptance.specs.Arms.{is_one};
 ghost use Rattle.sj_acceptance.specs.Arms as together;
 ghost use Rattle.sj_check.specs.Told.{Tells};
 
 use crate::CheckRefusal;
 use crate::env::Env;
+use crate::joins::{both, branching, joined, tested};
 use crate::kinds::{expr_kind, same_kind};
-use crate::labels::are_arms_of;
-use crate::places::{is_branching, is_loop};
+use crate::places::is_loop;
 use crate::statements::{close, delegate, let_be, select, send, take_end, take_value};
 use sj_lang::{Deed, Expr, ProtocolDef, Scalar, Stmt, StmtArm, Way};
 
 /// Statements in order.
 #[cycle(walk)]
 pub fn block(protocols: &[ProtocolDef], env: &mut Env, stmts: &[Stmt]) -> Result<(), CheckRefusal>
-    ensures passes { OnOk result (first_fault (code_tests (protocols_of protocols.now) env.old (code_of stmts.now)) ≡ None) }
+    ensures passes { let tests = code_tests (protocols_of protocols.now) env.old (code_of stmts.now) in
+        OnOk result (first_fault tests ≡ None) }
     ensures after { OnOk result (env.new ≡ after_code (protocols_of protocols.now) env.old (code_of stmts.now)) }
-    ensures fault { IfErr result (Tells (first_fault (code_tests (protocols_of protocols.now) env.old (code_of stmts.now)))) }
+    ensures fault { let tests = code_tests (protocols_of protocols.now) env.old (code_of stmts.now) in
+        IfErr result (Tells (first_fault tests)) }
 {
     for stmt in stmts {
         step(protocols, env, stmt)?;
@@ -36,9 +38,11 @@ pub fn block(protocols: &[ProtocolDef], env: &mut Env, stmts: &[Stmt]) -> Result
 
 #[cycle(walk)]
 fn step(protocols: &[ProtocolDef], env: &mut Env, stmt: &Stmt) -> Result<(), CheckRefusal>
-    ensures passes { OnOk result (first_fault (step_tests (protocols_of protocols.now) env.old (stmt_of stmt.now)) ≡ None) }
+    ensures passes { let tests = step_tests (protocols_of protocols.now) env.old (stmt_of stmt.now) in
+        OnOk result (first_fault tests ≡ None) }
     ensures after { OnOk result (env.new ≡ after_step (protocols_of protocols.now) env.old (stmt_of stmt.now)) }
-    ensures fault { IfErr result (Tells (first_fault (step_tests (protocols_of protocols.now) env.old (stmt_of stmt.now)))) }
+    ensures fault { let tests = step_tests (protocols_of protocols.now) env.old (stmt_of stmt.now) in
+        IfErr result (Tells (first_fault tests)) }
 {
     let line = stmt.line;
     match &stmt.deed {
@@ -83,9 +87,17 @@ fn out_while(
     body: &[Stmt],
     count: &Expr,
 ) -> Result<(), CheckRefusal>
-    ensures passes { OnOk result (first_fault (act_tests (protocols_of protocols.now) line env.old (code.outwhile end (term_of count.now) (code_of body.now))) ≡ None) }
-    ensures after { OnOk result (env.new ≡ after_act (protocols_of protocols.now) env.old (code.outwhile end (term_of count.now) (code_of body.now))) }
-    ensures fault { IfErr result (Tells (first_fault (act_tests (protocols_of protocols.now) line env.old (code.outwhile end (term_of count.now) (code_of body.now))))) }
+    ensures passes { let ps = protocols_of protocols.now in
+        let act = code.outwhile end (term_of count.now) (code_of body.now) in
+        let tests = act_tests ps line env.old act in
+        OnOk result (first_fault tests ≡ None) }
+    ensures after { let ps = protocols_of protocols.now in
+        let act = code.outwhile end (term_of count.now) (code_of body.now) in
+        OnOk result (env.new ≡ after_act ps env.old act) }
+    ensures fault { let ps = protocols_of protocols.now in
+        let act = code.outwhile end (term_of count.now) (code_of body.now) in
+        let tests = act_tests ps line env.old act in
+        IfErr result (Tells (first_fault tests)) }
 {
     let Some(place) = env.place(end) else {
         return Err(CheckRefusal::At { rule: 5, line });
@@ -115,9 +127,14 @@ fn in_while(
     end: u16,
     body: &[Stmt],
 ) -> Result<(), CheckRefusal>
-    ensures passes { OnOk result (first_fault (act_tests (protocols_of protocols.now) line env.old (code.inwhile end (code_of body.now))) ≡ None) }
-    ensures after { OnOk result (env.new ≡ after_act (protocols_of protocols.now) env.old (code.inwhile end (code_of body.now))) }
-    ensures fault { IfErr result (Tells (first_fault (act_tests (protocols_of protocols.now) line env.old (code.inwhile end (code_of body.now))))) }
+    ensures passes { let ps = protocols_of protocols.now in
+        let tests = act_tests ps line env.old (code.inwhile end (code_of body.now)) in
+        OnOk result (first_fault tests ≡ None) }
+    ensures after { let ps = protocols_of protocols.now in
+        OnOk result (env.new ≡ after_act ps env.old (code.inwhile end (code_of body.now))) }
+    ensures fault { let ps = protocols_of protocols.now in
+        let tests = act_tests ps line env.old (code.inwhile end (code_of body.now)) in
+        IfErr result (Tells (first_fault tests)) }
 {
     let Some(place) = env.place(end) else {
         return Err(CheckRefusal::At { rule: 5, line });
@@ -144,9 +161,14 @@ fn relay(
     to: u16,
     body: &[Stmt],
 ) -> Result<(), CheckRefusal>
-    ensures passes { OnOk result (first_fault (act_tests (protocols_of protocols.now) line env.old (code.relay from to (code_of body.now))) ≡ None) }
-    ensures after { OnOk result (env.new ≡ after_act (protocols_of protocols.now) env.old (code.relay from to (code_of body.now))) }
-    ensures fault { IfErr result (Tells (first_fault (act_tests (protocols_of protocols.now) line env.old (code.relay from to (code_of body.now))))) }
+    ensures passes { let ps = protocols_of protocols.now in
+        let tests = act_tests ps line env.old (code.relay from to (code_of body.now)) in
+        OnOk result (first_fault tests ≡ None) }
+    ensures after { let ps = protocols_of protocols.now in
+        OnOk result (env.new ≡ after_act ps env.old (code.relay from to (code_of body.now))) }
+    ensures fault { let ps = protocols_of protocols.now in
+        let tests = act_tests ps line env.old (code.relay from to (code_of body.now)) in
+        IfErr result (Tells (first_fault tests)) }
 {
     let Some(source) = env.place(from) else {
         return Err(CheckRefusal::At { rule: 5, line });
@@ -169,8 +191,8 @@ fn relay(
     Ok(())
 }
 
-// Walks through the arms of an `inbranch`. Answers what they leave together, and whether all leave the
-// same live ends and places.
+// Walks through the arms of an `inbranch`. Answers what they leave together, and whether all leave
+// the same live ends and places.
 #[cycle(walk)]
 fn all_arms(
     protocols: &[ProtocolDef],
@@ -178,10 +200,20 @@ fn all_arms(
     end: u16,
     arms: &[StmtArm],
 ) -> Result<(Env, bool), CheckRefusal>
-    ensures passes { OnOk result (first_fault (branches_tests (protocols_of protocols.now) env.now end (branches_of (map arm_of arms.now))) ≡ None) }
-    ensures joined { IfOk result (λ r. r.0 ≡ together.joined (after_branches (protocols_of protocols.now) env.now end (branches_of (map arm_of arms.now)))) }
-    ensures agree { IfOk result (λ r. r.1 ≡ is_one (after_branches (protocols_of protocols.now) env.now end (branches_of (map arm_of arms.now)))) }
-    ensures fault { IfErr result (Tells (first_fault (branches_tests (protocols_of protocols.now) env.now end (branches_of (map arm_of arms.now))))) }
+    ensures passes { let ps = protocols_of protocols.now in
+        let bs = branches_of (map arm_of arms.now) in
+        let tests = branches_tests ps env.now end bs in
+        OnOk result (first_fault tests ≡ None) }
+    ensures joined { let ps = protocols_of protocols.now in
+        let bs = branches_of (map arm_of arms.now) in
+        IfOk result (λ r. r.0 ≡ together.joined (after_branches ps env.now end bs)) }
+    ensures agree { let ps = protocols_of protocols.now in
+        let bs = branches_of (map arm_of arms.now) in
+        IfOk result (λ r. r.1 ≡ is_one (after_branches ps env.now end bs)) }
+    ensures fault { let ps = protocols_of protocols.now in
+        let bs = branches_of (map arm_of arms.now) in
+        let tests = branches_tests ps env.now end bs in
+        IfErr result (Tells (first_fault tests)) }
 {
     if arms.is_empty() {
         return Ok((Env::new(env.allocator()), true));
@@ -198,53 +230,4 @@ fn all_arms(
         left.keep_common(&inner);
     }
     Ok((left, agree))
-}
-
-// What `inbranch` asks before its arms.
-fn branching(env: &Env, line: u32, end: u16, arms: &[StmtArm]) -> Result<(), CheckRefusal>
-    ensures passes { OnOk result (first_fault (branching_tests line env.now end (branches_of (map arm_of arms.now))) ≡ None) }
-    ensures fault { IfErr result (Tells (first_fault (branching_tests line env.now end (branches_of (map arm_of arms.now))))) }
-{
-    let Some(place) = env.place(end) else {
-        return Err(CheckRefusal::At { rule: 5, line });
-    };
-    if !is_branching(place) {
-        return Err(CheckRefusal::At { rule: 6, line });
-    }
-    if !are_arms_of(env.allocator(), place, arms)? {
-        return Err(CheckRefusal::At { rule: 14, line });
-    }
-    Ok(())
-}
-
-fn both(first: bool, second: bool) -> bool
-    ensures { result ≡ (first && second) }
-{
-    first && second
-}
-
-/// Tests the condition, and answers the environment for the second arm.
-fn tested(env: &Env, line: u32, test: &Expr) -> Result<Env, CheckRefusal>
-    ensures ok { IfOk result (λ e. e ≡ env.now) }
-    ensures passes { OnOk result (first_fault (condition_tests line env.now (term_of test.now)) ≡ None) }
-    ensures fault { IfErr result (Tells (first_fault (condition_tests line env.now (term_of test.now)))) }
-{
-    let kind = expr_kind(env, line, test)?;
-    if !same_kind(kind, Scalar::Boolean) {
-        return Err(CheckRefusal::At { rule: 7, line });
-    }
-    Ok(env.copied()?)
-}
-
-/// What two arms leave together.
-fn joined(env: &mut Env, line: u32, other: &Env) -> Result<(), CheckRefusal>
-    ensures passes { OnOk result (is_same_ends env.old.ends other.now.ends ≡ true) }
-    ensures after { OnOk result (env.new ≡ record env.old { variables = common env.old.variables other.now.variables }) }
-    ensures fault { IfErr result (Tells (if is_same_ends env.old.ends other.now.ends then None else Some (9, line))) }
-{
-    if !env.has_same_ends(other) {
-        return Err(CheckRefusal::At { rule: 9, line });
-    }
-    env.keep_common(other);
-    Ok(())
 }

@@ -1,7 +1,7 @@
 use Rattle.std.proofs.Common.{◌≡◌, drop}
 use Rattle.sj_acceptance.specs.FileTests.{at_start}
 use Rattle.sj_check.specs.Views.{protocols_of, connects_of}
-use Rattle.sj_check.proofs.files.at_start.Given as goal
+use Rattle.sj_check.proofs.ends.at_start.Given as goal
 
 -- the ends of the connections from there on are bound
 abbrev pub invariant-loop-i : goal.invariant-loop-i

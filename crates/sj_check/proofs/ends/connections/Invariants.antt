@@ -2,7 +2,7 @@ use Rattle.std.proofs.Common.{◌≡◌, [], take, drop}
 use Rattle.sj_acceptance.specs.Faults.{first_fault}
 use Rattle.sj_acceptance.specs.FileTests.{party_names, connect_tests}
 use Rattle.sj_check.specs.Views.{protocols_of, parties_of, connects_of}
-use Rattle.sj_check.proofs.files.connections.Given as goal
+use Rattle.sj_check.proofs.ends.connections.Given as goal
 
 abbrev pub invariant-loop-i : goal.invariant-loop-i
 invariant-loop-i l =

@@ -1,0 +1,172 @@
+//! Connections, and the ends that they give a party.
+#![tactic(auto, using(crate::proofs::FaultLemmas::faults))]
+
+ghost use Rattle.std.specs.Prelude.{◌≡◌, ◌||◌, ◌++◌, ◌∷◌, [], None, is_some, unwrap_or};
+ghost use Rattle.std.specs.Prelude.{IfOk, OnOk, IfErr};
+ghost use Rattle.std.specs.FinMap as map;
+ghost use Rattle.sj_lang.specs.Place.{done};
+ghost use Rattle.sj_lang.specs.FileAt.{protocol_named};
+ghost use Rattle.sj_lang.specs.FileView.{connect_of, decl_of};
+ghost use Rattle.sj_acceptance.specs.Faults.{first_fault};
+ghost use Rattle.sj_acceptance.specs.FileTests as tests;
+ghost use Rattle.sj_acceptance.specs.FileTests.{party_names};
+ghost use Rattle.sj_check.specs.Views.{protocols_of, parties_of, connects_of};
+ghost use Rattle.sj_check.specs.Told.{Tells};
+
+use crate::CheckRefusal;
+use crate::env::Env;
+use crate::files::is_party;
+use crate::places::{body_named, is_same};
+use sj_base::NoMemory;
+use sj_lang::{Connect, EndDecl, Party, Proto, ProtocolDef, copied, dual};
+use std::alloc::Global;
+
+/// The connections, in order.
+pub fn connections(
+    alloc: Global,
+    parties: &[Party],
+    protocols: &[ProtocolDef],
+    connects: &[Connect],
+) -> Result<(), CheckRefusal>
+    ensures passes { let ps = protocols_of protocols.now in
+        let names = party_names (parties_of parties.now) in
+        let cs = connects_of connects.now in
+        let tests = tests.connect_tests names ps [] cs in
+        OnOk result (first_fault tests ≡ None) }
+    ensures fault { let ps = protocols_of protocols.now in
+        let names = party_names (parties_of parties.now) in
+        let cs = connects_of connects.now in
+        let tests = tests.connect_tests names ps [] cs in
+        IfErr result (Tells (first_fault tests)) }
+{
+    for i in 0..connects.len() {
+        connection(alloc, parties, protocols, &connects[..i], &connects[i])?;
+    }
+    Ok(())
+}
+
+fn connection(
+    alloc: Global,
+    parties: &[Party],
+    protocols: &[ProtocolDef],
+    earlier: &[Connect],
+    connect: &Connect,
+) -> Result<(), CheckRefusal>
+    ensures passes { let ps = protocols_of protocols.now in
+        let names = party_names (parties_of parties.now) in
+        let former = connects_of earlier.now in
+        let tests = tests.connection_tests names ps former (connect_of connect.now) in
+        OnOk result (first_fault tests ≡ None) }
+    ensures fault { let ps = protocols_of protocols.now in
+        let names = party_names (parties_of parties.now) in
+        let former = connects_of earlier.now in
+        let tests = tests.connection_tests names ps former (connect_of connect.now) in
+        IfErr result (Tells (first_fault tests)) }
+{
+    let line = connect.line;
+    let first = connected(
+        parties,
+        protocols,
+        line,
+        is_taken(earlier, &connect.first),
+        &connect.first,
+    )?;
+    let taken = is_taken(earlier, &connect.second) || is_same_end(&connect.first, &connect.second);
+    let second = connected(parties, protocols, line, taken, &connect.second)?;
+    if !is_same(first, &dual(alloc, second)?) {
+        return Err(CheckRefusal::At { rule: 4, line });
+    }
+    Ok(())
+}
+
+// The body of the end's protocol.
+fn connected<'a>(
+    parties: &[Party],
+    protocols: &'a [ProtocolDef],
+    line: u32,
+    taken: bool,
+    end: &EndDecl,
+) -> Result<&'a Proto, CheckRefusal>
+    ensures body { let ps = protocols_of protocols.now in
+        IfOk result (λ p. p.now ≡ unwrap_or (protocol_named ps end.now.protocol) done) }
+    ensures passes { let ps = protocols_of protocols.now in
+        let names = party_names (parties_of parties.now) in
+        let tests = tests.end_tests names ps line taken (decl_of end.now) in
+        OnOk result (first_fault tests ≡ None) }
+    ensures fault { let ps = protocols_of protocols.now in
+        let names = party_names (parties_of parties.now) in
+        let tests = tests.end_tests names ps line taken (decl_of end.now) in
+        IfErr result (Tells (first_fault tests)) }
+{
+    if !is_party(parties, end.party) {
+        return Err(CheckRefusal::At { rule: 2, line });
+    }
+    let Some(body) = body_named(protocols, end.protocol) else {
+        return Err(CheckRefusal::At { rule: 1, line });
+    };
+    if taken {
+        return Err(CheckRefusal::At { rule: 3, line });
+    }
+    Ok(body)
+}
+
+fn is_same_end(first: &EndDecl, second: &EndDecl) -> bool
+    ensures { result ≡ tests.is_same_end (decl_of first.now) (decl_of second.now) }
+{
+    first.party == second.party && first.name == second.name
+}
+
+fn is_taken(earlier: &[Connect], end: &EndDecl) -> bool
+    ensures { result ≡ tests.is_taken (decl_of end.now) (connects_of earlier.now) }
+{
+    for connect in earlier {
+        if is_same_end(&connect.first, end) || is_same_end(&connect.second, end) {
+            return true;
+        }
+    }
+    false
+}
+
+/// The ends that the party holds at the start. The last connections come first, so that of two ends
+/// with one name the former stays.
+pub fn at_start(
+    alloc: Global,
+    protocols: &[ProtocolDef],
+    connects: &[Connect],
+    party: u16,
+) -> Result<Env, NoMemory>
+    ensures { let ps = protocols_of protocols.now in
+        let cs = connects_of connects.now in
+        IfOk result (λ e. e ≡ tests.at_start ps cs party) }
+{
+    let mut env = Env::new(alloc);
+    for i in (0..connects.len()).rev() {
+        let connect = &connects[i];
+        bind(alloc, protocols, &mut env, party, &connect.second)?;
+        bind(alloc, protocols, &mut env, party, &connect.first)?;
+    }
+    Ok(env)
+}
+
+fn bind(
+    alloc: Global,
+    protocols: &[ProtocolDef],
+    env: &mut Env,
+    party: u16,
+    end: &EndDecl,
+) -> Result<(), NoMemory>
+    ensures { let ps = protocols_of protocols.now in
+        let ends = tests.bound ps party (decl_of end.now) env.old.ends in
+        OnOk result (env.new ≡ record env.old { ends = ends }) }
+{
+    if end.party != party {
+        return Ok(());
+    }
+    let place = match body_named(protocols, end.protocol) {
+        Some(body) => copied(alloc, body)?,
+        None => Proto {
+            items: Vec::new(alloc),
+        },
+    };
+    env.put_place(end.name, place)
+}
