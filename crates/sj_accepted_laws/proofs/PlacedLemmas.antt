@@ -11,7 +11,8 @@ use Rattle.sj_semantics.specs.State.{verdict_of}
 use Rattle.sj_semantics.specs.Run.{after_acts, IsRun}
 use Rattle.sj_semantics.specs.World.{World, act_of}
 use Rattle.sj_semantics.specs.Ends.{Session, untaken_for, is_same_side, is_end}
-use Rattle.sj_semantics.specs.Start.{session_of, program_of, programs_from, start_of}
+use Rattle.sj_semantics.specs.Start.{session_of, program_of, start_of}
+use Rattle.sj_semantics.proofs.StartLemmas.{program_at_start}
 use Rattle.sj_semantics_laws.proofs.RunLemmas.{between}
 use Rattle.sj_accepted_laws.proofs.TouchedLemmas.{side, Sound, exists_at}
 use Rattle.sj_accepted_laws.proofs.SoundLemmas.{act_keeps_sound}
@@ -94,11 +95,6 @@ has_named zs (b ∷ bs) n e once (inr h) =
 
 -- ---- the start
 
-programs_at : (file : FileAt) (k p : ℕ) (qs : List PartyAt) (q : PartyAt) → slice_get qs p ≡ Some q → slice_get (programs_from file k qs) p ≡ Some (program_of file (k + p) q)
-programs_at file k p [] q h = cc
-programs_at file k zero (b ∷ qs) q h = let it : b ≡ q = cc in ap (λ t. Some (program_of file k t)) it ∙ ap (λ n. Some (program_of file n q)) (let e : k ≡ k + 0 = omega arith in e)
-programs_at file k (suc p) (b ∷ qs) q h = programs_at file (k + 1) p qs q h ∙ ap (λ n. Some (program_of file n q)) (let e : k + 1 + p ≡ k + suc p = omega arith in e)
-
 record PartyThere (qs : List PartyAt) (p : ℕ) : Type 0 where
   party : PartyAt
   there : slice_get qs p ≡ Some party
@@ -133,7 +129,7 @@ located_by file accepted e (Some c) z at h =
     let has : Has (ends_from file p 0 file.connects) d.name (side e.sess (one_side e.side)) =
     subst (λ (t : ℕ). Has (ends_from file p 0 file.connects) d.name (side t (one_side e.side))) (let s : 0 + e.sess ≡ e.sess = omega arith in s)
     (has_declared file p 0 e.side file.connects e.sess c at refl) in
-    held p (program_of file p q.party) (programs_at file 0 p file.parties q.party q.there ∙ ap (λ n. Some (program_of file n q.party)) (let s : 0 + p ≡ p = omega arith in s))
+    held p (program_of file p q.party) (program_at_start file p q.party q.there)
     (record { name = d.name; end = side e.sess (one_side e.side); is_named = has_named zs (ends_from file p 0 file.connects) d.name (side e.sess (one_side e.side)) once has; it_is = canonical e })
 
 start_is_located : (file : FileAt) → IsAccepted file → AllLocated (start_of file).parties (start_of file).sessions

@@ -61,11 +61,15 @@ want_of g = want_of_todo g.vars g.ends g.todo
 
 -- ---- messages that it can take
 
+-- an arm has that label
+abbrev pub has_label : Branches → ℕ → Bool
+has_label no_branch l = false
+has_label (branch m code arms) l = if m == l then true else has_label arms l
+
 -- the message is the label of an arm
 abbrev pub names_arm : Branches → Msg → Bool
-names_arm no_branch m = false
-names_arm (branch n code arms) (msgs.Label l) = if n == l then true else names_arm arms (msgs.Label l)
-names_arm (branch n code arms) _ = false
+names_arm arms (msgs.Label l) = has_label arms l
+names_arm arms _ = false
 
 -- the message says more or stop
 abbrev pub is_more : Msg → Bool

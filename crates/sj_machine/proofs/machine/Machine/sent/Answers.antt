@@ -1,0 +1,12 @@
+use Rattle.std.proofs.Common.{arith}
+use Rattle.sj_machine.proofs.machine.Machine.sent.Goals as goal
+
+pub invariant_of-self : goal.invariant_of-self
+invariant_of-self c = record {
+  back = c.self.invariant.back;
+  fits = c.sent.ensures.fits;
+  frames_room = omega arith;
+  named = c.self.invariant.named;
+  once = c.sent.ensures.once _ c.self.invariant.once;
+  names_room = omega arith;
+}

@@ -1,0 +1,5 @@
+pub mod Arena
+pub mod Frames
+pub mod Names
+pub mod Sound
+pub mod Table

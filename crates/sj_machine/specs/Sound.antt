@@ -1,0 +1,24 @@
+-- What is true of every machine, and the party that it stands for.
+use Rattle.std.specs.Prelude.{ℕ, ◌<◌, ◌≤◌, List, [], Option, length}
+use Rattle.sj_base.specs.declared.EndId.{EndId}
+use Rattle.sj_semantics.specs.declared.Value.{Value}
+use Rattle.sj_semantics.specs.Program.{Program}
+use Rattle.sj_machine.specs.declared.arena.Node.{Node}
+use Rattle.sj_machine.specs.declared.stack.Frame.{Frame}
+use Rattle.sj_machine.specs.Arena.{IsBackward}
+use Rattle.sj_machine.specs.Frames.{Fits, todo_in}
+use Rattle.sj_machine.specs.Names.{AllBindBelow, AreNamedOnce}
+use Rattle.sj_machine.specs.Table.{vars_in}
+
+-- nodes name only nodes before them, there is room for each step's frames, and for each name that is bound
+pub record IsSound (nodes : List Node) (frames : List Frame) (room names : ℕ) (ends : List (ℕ × EndId)) (ends_room : ℕ) : Type 0 where
+  pub back : IsBackward 0 nodes
+  pub fits : Fits (length nodes) 0 frames
+  pub frames_room : length nodes < room
+  pub named : AllBindBelow names nodes
+  pub once : AreNamedOnce names ends
+  pub names_room : names ≤ ends_room
+
+-- the party that nodes, frames and their room, variables, ends and steps stand for
+abbrev pub program_at : List Node × (List Frame × ℕ) × List (Option Value) × List (ℕ × EndId) × ℕ → Program
+program_at m = record { todo = todo_in m.0 m.1.0; vars = vars_in m.2; ends = m.3; steps = m.4 }

@@ -1,0 +1,17 @@
+//! A party's program, run by positions.
+#![tactic(auto)]
+
+mod arena;
+mod building;
+mod ends;
+mod knowing;
+mod leads;
+mod machine;
+mod stack;
+mod starting;
+mod steps;
+mod values;
+mod wanting;
+
+pub use machine::Machine;
+pub use sj_semantics::{Awaits, Want};

@@ -1,0 +1,151 @@
+//! A party as it runs.
+ghost use Rattle.std.specs.Prelude.{◌≡◌, ◌<◌, IfOk, Some, length, slice_get, unwrap_or};
+ghost use Rattle.sj_acceptance.specs.Accepted.{IsAccepted};
+ghost use Rattle.sj_lang.specs.FileView.{file_of};
+ghost use Rattle.sj_machine.specs.Sound.{program_at};
+ghost use Rattle.sj_semantics.specs.Start.{start_of};
+ghost use Rattle.sj_semantics.specs.declared.Want.TheVariants.{Ended};
+ghost use Rattle.sj_semantics.specs.Steps.{closed_of, local_of, sent_of, took_of};
+ghost use Rattle.sj_semantics.specs.Wants.{fits, want_of};
+
+use crate::arena::Node;
+use crate::building::add_block;
+use crate::stack::Stack;
+use crate::starting::{connected_ends, names_above, unknown, with_room};
+use crate::steps::{closed, local, sent, took};
+use crate::wanting::{fits_at, want_at};
+use sj_base::{EndId, Msg, NoMemory};
+use sj_lang::File;
+use sj_semantics::{Value, Want};
+use std::alloc::Global;
+use std::marker::Model;
+
+/// A party's program, where it is in it, and what it knows.
+#[derive(Drop)]
+pub struct Machine {
+    nodes: Vec<Node>,
+    stack: Stack,
+    vars: Vec<Option<Value>>,
+    ends: Vec<(u16, EndId)>,
+    steps: u32,
+}
+
+impl Model for Machine {
+    ghost use Rattle.std.specs.Prelude.{ℕ, List, Option, length, vec_capacity};
+    ghost use Rattle.sj_base.specs.declared.EndId.{EndId};
+    ghost use Rattle.sj_semantics.specs.declared.Value.{Value as Known};
+    ghost use Rattle.sj_machine.specs.declared.arena.Node.{Node};
+    ghost use Rattle.sj_machine.specs.declared.stack.Frame.{Frame};
+    ghost use Rattle.sj_machine.specs.Sound.{IsSound};
+    ghost use Rattle.sj_lang.specs.contracts.party.Expr as e;
+    ghost use Rattle.std.specs.Coded.{codes};
+
+    ghost Value = { List Node × (List Frame × ℕ) × List (Option Known) × List (ℕ × EndId) × ℕ };
+
+    ghost coded = { Prim.hlevel (codes, e.the_row.coded) };
+
+    ghost view = { λ m. (m.nodes.items, m.stack, m.vars.items, m.ends.items, m.steps) };
+
+    ghost invariant = { λ m. IsSound m.nodes.items m.stack.0 m.stack.1
+        (length m.vars.items) m.ends.items (vec_capacity m.ends) };
+}
+
+impl Machine {
+    /// The party of that number at the start of the file. Takes all the memory that its steps need.
+    pub fn start(alloc: Global, file: &File, party: u16) -> Result<Machine, NoMemory>
+        requires accepted { IsAccepted (file_of file.now) }
+        requires party { party < length (file_of file.now).parties }
+        ensures { IfOk result (λ m.
+            slice_get (start_of (file_of file.now)).parties party ≡ Some (program_at m)) }
+    {
+        let mut nodes = Vec::new(alloc);
+        let first = add_block(alloc, &mut nodes, &file.parties[party as usize].body)?;
+        let connected = connected_ends(alloc, file, party)?;
+        let names = names_above(&nodes, &connected);
+        let ends = with_room(alloc, &connected, names)?;
+        let vars = unknown(alloc, names)?;
+        let mut stack = Stack::new(alloc, nodes.len() + 1)?;
+        stack.enter(first);
+        Ok(Machine {
+            nodes,
+            stack,
+            vars,
+            ends,
+            steps: 0,
+        })
+    }
+
+    /// The next step of the program. A program that names what isn't there does nothing more.
+    pub fn wants(&self) -> Want
+        ensures { result ≡ unwrap_or (want_of (program_at self.now)) Ended }
+    {
+        match self.stack.top() {
+            Some(frame) => want_at(
+                &self.vars,
+                &self.ends,
+                frame.stage,
+                &self.nodes[frame.at].op,
+            ),
+            None => Want::Ended,
+        }
+    }
+
+    /// Whether the next step takes, and can take this message.
+    pub fn fits(&self, msg: &Msg) -> bool
+        ensures { result ≡ fits (program_at self.now) msg.now }
+    {
+        match self.stack.top() {
+            Some(frame) => fits_at(frame.stage, &self.nodes[frame.at].op, msg),
+            None => false,
+        }
+    }
+
+    /// Does the next step, one without a message.
+    pub fn local(&mut self)
+        requires { (program_at self.old).steps < 10000 }
+        ensures { program_at self.new ≡ local_of (program_at self.old) }
+    {
+        local(&self.nodes, &mut self.stack, &mut self.vars);
+        self.steps += 1;
+    }
+
+    /// Does the next step, one that sends a message or hands an end on.
+    pub fn sent(&mut self)
+        requires { (program_at self.old).steps < 10000 }
+        ensures { program_at self.new ≡ sent_of (program_at self.old) }
+    {
+        sent(&self.nodes, &mut self.stack, &self.vars, &mut self.ends);
+        self.steps += 1;
+    }
+
+    /// Does the next step, one that takes the message.
+    pub fn took(&mut self, msg: Msg)
+        requires { (program_at self.old).steps < 10000 }
+        ensures { program_at self.new ≡ took_of (program_at self.old) msg }
+    {
+        took(
+            &self.nodes,
+            &mut self.stack,
+            &mut self.vars,
+            &mut self.ends,
+            msg,
+        );
+        self.steps += 1;
+    }
+
+    /// Does the next step, one that closes an end.
+    pub fn closed(&mut self)
+        requires { (program_at self.old).steps < 10000 }
+        ensures { program_at self.new ≡ closed_of (program_at self.old) }
+    {
+        closed(&self.nodes, &mut self.stack, &mut self.ends);
+        self.steps += 1;
+    }
+
+    /// How many steps it has done.
+    pub fn steps(&self) -> u32
+        ensures { result ≡ (program_at self.now).steps }
+    {
+        self.steps
+    }
+}
