@@ -1,5 +1,5 @@
 pub mod Embedding
-pub mod Inside
+pub mod Framing
 pub mod Spellings
 pub mod Steps
 pub mod Stuckness
