@@ -1,5 +1,5 @@
 -- Dues of one layer, with others behind them, as dues of another.
-use Rattle.std.proofs.Common.{◌≡◌, ℕ, Bool, true, false, List, [], ◌∷◌, ◌++◌, Option, Some, None, refl, ap, sym, ◌∙◌, append_assoc}
+use Rattle.std.proofs.Common.{◌≡◌, ℕ, Bool, true, false, List, [], ◌∷◌, ◌++◌, Option, Some, None, refl, ap, sym, subst, ◌∙◌, append_assoc}
 use Rattle.std.specs.Prelude.{map, option_map, if◌then◌else◌, ◌&&◌}
 use Rattle.sj_grammar.specs.declared.tokens.Rule.{Rule}
 use Rattle.sj_grammar.specs.declared.tokens.Fault.{Fault}
@@ -10,7 +10,7 @@ use Rattle.sj_grammar.specs.Layers.{Layer, Step, goes, stops, misfit, instead, o
 use Rattle.sj_grammar.specs.Faults.{broken, Stuck, StuckInside}
 use Rattle.sj_grammar.proofs.Steps.{onward_goes, or_else, due_behind}
 use Rattle.sj_grammar.proofs.Embedding.{IsEmbedded}
-use Rattle.std.proofs.lemmas.List.{map-append}
+use Rattle.std.proofs.lemmas.List.{map-append, map-id}
 
 module _ {D E : Type 0} (G : Layer D) (H : Layer E) (f : D → E) (is : IsEmbedded G H f) (L : Limits) (rest : List E) where
   abbrev pub framed : List D → List E
@@ -74,20 +74,26 @@ module _ {D E : Type 0} (G : Layer D) (H : Layer E) (f : D → E) (is : IsEmbedd
       by_step (stops q) h k = ap rule_of (stop_framed n ds s q full h) ∙ k
 
   -- a text that is stuck inside is stuck whatever is due behind
-  pub stuck_framed : (n : ℕ) (a : At) (ds : List D) (flt : Fault) → StuckInside G L n a ds flt → Stuck H L n a (framed ds) flt
-  stuck_framed n a ds flt st = let s = st.stuck in record {
-    pieces = s.pieces;
-    there = s.there;
-    count = s.count;
-    due = framed s.due;
-    front = s.front;
-    fits = run_framed s.pieces n s.count ds s.due s.fits;
-    halts = record {
-      rule = s.halts.rule;
-      breaks = broken_framed s.count s.due (next_of s.there.text.ahead) s.halts.rule st.inside s.halts.breaks;
-      fault = s.halts.fault;
+  pub inside_framed : (n : ℕ) (a : At) (ds : List D) (flt : Fault) → StuckInside G L n a ds flt → StuckInside H L n a (framed ds) flt
+  inside_framed n a ds flt st = let s = st.stuck in record {
+    stuck = record {
+      pieces = s.pieces;
+      there = s.there;
+      count = s.count;
+      due = framed s.due;
+      front = s.front;
+      fits = run_framed s.pieces n s.count ds s.due s.fits;
+      halts = record {
+        rule = s.halts.rule;
+        breaks = broken_framed s.count s.due (next_of s.there.text.ahead) s.halts.rule st.inside s.halts.breaks;
+        fault = s.halts.fault;
+      };
     };
+    inside = end_framed s.due st.inside;
   }
+
+  pub stuck_framed : (n : ℕ) (a : At) (ds : List D) (flt : Fault) → StuckInside G L n a ds flt → Stuck H L n a (framed ds) flt
+  stuck_framed n a ds flt st = (inside_framed n a ds flt st).stuck
 
   -- dues that may be none, and don't take the token, leave it to those behind
   pub skip_framed : (n : ℕ) (ds : List D) (s : List ℕ) → may_end G ds ≡ true → due_behind G ds s ≡ None → step H L n (framed ds) s ≡ step H L n rest s
@@ -108,3 +114,20 @@ module _ {D E : Type 0} (G : Layer D) (H : Layer E) (f : D → E) (is : IsEmbedd
       by_none : (may_end G ds ≡ true → may_end H (framed ds) ≡ may_end H rest) → (b : Bool) → (b && may_end G ds) ≡ true → (b && may_end H (framed ds)) ≡ may_end H rest
       by_none later true ends = later ends
       by_none later false ends = let none : ⊥ = cc in absurd none
+
+-- dues of one layer, and others of it behind them
+module _ {D : Type 0} (G : Layer D) (L : Limits) where
+  itself : IsEmbedded G G (λ d. d)
+  itself = record {
+    follows = λ d s. sym (option_map-id (G.follow d s));
+    nones = λ d. refl;
+    counts = λ n d s. refl;
+    limits = λ M n d s. refl;
+  }
+    where
+      option_map-id : (x : Option (List D)) → option_map (map (λ d. d)) x ≡ x
+      option_map-id None = refl
+      option_map-id (Some ds) = ap Some (map-id ds)
+
+  pub inside_before : (rest : List D) (n : ℕ) (a : At) (ds : List D) (flt : Fault) → StuckInside G L n a ds flt → StuckInside G L n a (ds ++ rest) flt
+  inside_before rest n a ds flt st = subst (λ (es : List D). StuckInside G L n a (es ++ rest) flt) (map-id ds) (inside_framed G G (λ d. d) itself L rest n a ds flt st)

@@ -1,5 +1,6 @@
 pub mod Embedding
 pub mod Framing
+pub mod Inside
 pub mod Spellings
 pub mod Steps
 pub mod Stuckness

@@ -29,13 +29,17 @@ module _ {D : Type 0} (G : Layer D) (L : Limits) where
   refused_breaks p n ds rule (token what s rest) full h e = h s rule e
 
   -- what a reader refuses is what is due refuses
-  pub refuses_stuck : (p : List ℕ → Option Rule) (n : ℕ) (a : At) (ds : List D) (f : Fault) → may_end G ds ≡ false
-      → ((s : List ℕ) (r : Rule) → (if is_largest s then Some P3 else p s) ≡ Some r → rule_of (step G L n ds s) ≡ Some r) → Refuses p a.text f → Stuck G L n a ds f
-  refuses_stuck p n a ds f full h r = halts_stuck n a ds f (record {
+  pub refuses_halts : (p : List ℕ → Option Rule) (n : ℕ) (a : At) (ds : List D) (f : Fault) → may_end G ds ≡ false
+      → ((s : List ℕ) (r : Rule) → (if is_largest s then Some P3 else p s) ≡ Some r → rule_of (step G L n ds s) ≡ Some r) → Refuses p a.text f → Halts G L n a ds f
+  refuses_halts p n a ds f full h r = record {
     rule = r.rule;
     breaks = refused_breaks p n ds r.rule (next_of a.text.ahead) full h r.refused;
     fault = r.fault;
-  })
+  }
+
+  pub refuses_stuck : (p : List ℕ → Option Rule) (n : ℕ) (a : At) (ds : List D) (f : Fault) → may_end G ds ≡ false
+      → ((s : List ℕ) (r : Rule) → (if is_largest s then Some P3 else p s) ≡ Some r → rule_of (step G L n ds s) ≡ Some r) → Refuses p a.text f → Stuck G L n a ds f
+  refuses_stuck p n a ds f full h r = halts_stuck n a ds f (refuses_halts p n a ds f full h r)
 
   -- behind a token
   pub stuck_cons : (n k : ℕ) (a m : At) (s : List ℕ) (ds es : List D) (f : Fault) → Takes a s m → step G L n ds s ≡ goes k es → Stuck G L k m es f → Stuck G L n a ds f
@@ -95,6 +99,13 @@ module _ {D : Type 0} (G : Layer D) (L : Limits) where
   passed_token d at_end what s rest p e = cc
   passed_token d (bad r t) what s rest p e = cc
   passed_token d (token w t u) what s rest p e = let same : t ≡ s = cc in subst (λ (v : List ℕ). G.follow d v ≡ None) same p
+
+  pub halts_skip : (n : ℕ) (a : At) (d : D) (ds : List D) (f : Fault) → G.may_be_none d ≡ true → Passes G d (next_of a.text.ahead) → Halts G L n a ds f → Halts G L n a (d ∷ ds) f
+  halts_skip n a d ds f none p h = record {
+    rule = h.rule;
+    breaks = broken_like n n ds (d ∷ ds) (next_of a.text.ahead) (rw none refl) (λ what s rest e. rw (passed_token d (next_of a.text.ahead) what s rest p e, none) refl) ∙ h.breaks;
+    fault = h.fault;
+  }
 
   -- nothing stands for a due that may be none
   pub skip : (n : ℕ) (a : At) (d : D) (ds : List D) (f : Fault) → G.may_be_none d ≡ true → Passes G d (next_of a.text.ahead) → Stuck G L n a ds f → Stuck G L n a (d ∷ ds) f
