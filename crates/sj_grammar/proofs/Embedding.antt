@@ -1,10 +1,13 @@
 -- Dues of one layer as dues of another.
-use Rattle.std.proofs.Common.{◌≡◌, ℕ, Bool, true, false, List, [], ◌∷◌, Option, Some, None, refl, ap, sym}
+use Rattle.std.proofs.Common.{◌≡◌, ℕ, Bool, true, false, List, [], ◌∷◌, Option, Some, None, refl, ap, sym, ◌∙◌}
 use Rattle.std.specs.Prelude.{map, option_map, if◌then◌else◌}
 use Rattle.std.proofs.lemmas.List.{map-append}
 use Rattle.sj_grammar.specs.Limits.{Limits}
-use Rattle.sj_grammar.specs.Places.{Pieces}
-use Rattle.sj_grammar.specs.Layers.{Layer, Step, goes, stops, misfit, instead, onward, step, run, may_end}
+use Rattle.sj_grammar.specs.declared.tokens.Fault.{Fault}
+use Rattle.sj_grammar.specs.Lexis.{Ahead, at_end, bad, token, next_of}
+use Rattle.sj_grammar.specs.Places.{Pieces, At}
+use Rattle.sj_grammar.specs.Faults.{broken, Stuck}
+use Rattle.sj_grammar.specs.Layers.{Layer, Step, goes, stops, misfit, instead, onward, rule_of, step, run, may_end}
 
 abbrev pub step_map : {D E : Type 0} → (D → E) → Step D → Step E
 step_map f (goes n ds) = goes n (map f ds)
@@ -42,3 +45,35 @@ module _ {D E : Type 0} (G : Layer D) (H : Layer E) (f : D → E) (is : IsEmbedd
 pub may_end_embedded : {D E : Type 0} (G : Layer D) (H : Layer E) (f : D → E) → IsEmbedded G H f → (ds : List D) → may_end H (map f ds) ≡ may_end G ds
 may_end_embedded G H f is [] = refl
 may_end_embedded G H f is (d ∷ ds) = rw (is.nones d, may_end_embedded G H f is ds) refl
+
+-- where a text is stuck in the layer above, it is stuck in its own
+module _ {D E : Type 0} (G : Layer D) (H : Layer E) (f : D → E) (is : IsEmbedded G H f) (L : Limits) where
+  mapped_goes : (x : Step D) (m : ℕ) (es : List E) → step_map f x ≡ goes m es → (ds : List D) × (x ≡ goes m ds) × (map f ds ≡ es)
+  mapped_goes (goes n ds) m es e = let count : n ≡ m = cc in let due : map f ds ≡ es = cc in (ds, ap (λ (k : ℕ). goes k ds) count, due)
+  mapped_goes (stops rule) m es e = let none : ⊥ = cc in absurd none
+
+  mapped_rule : (x : Step D) → rule_of (step_map f x) ≡ rule_of x
+  mapped_rule (goes n ds) = refl
+  mapped_rule (stops rule) = refl
+
+  broken_embedded : (n : ℕ) (ds : List D) (x : Ahead) → broken H L n (map f ds) x ≡ broken G L n ds x
+  broken_embedded n ds at_end = rw (may_end_embedded G H f is ds) refl
+  broken_embedded n ds (bad rule rest) = refl
+  broken_embedded n ds (token what s rest) = rw (step_embedded G H f is L n ds s) (mapped_rule (step G L n ds s))
+
+  pub stuck_embedded : (n : ℕ) (a : At) (ds : List D) (g : Fault) → Stuck H L n a (map f ds) g → Stuck G L n a ds g
+  stuck_embedded n a ds g st =
+      let x = mapped_goes (run G L n ds st.pieces) st.count st.due (sym (run_embedded G H f is L st.pieces n ds) ∙ st.fits) in
+      record {
+        pieces = st.pieces;
+        there = st.there;
+        count = st.count;
+        due = x.0;
+        front = st.front;
+        fits = x.1;
+        halts = record {
+          rule = st.halts.rule;
+          breaks = sym (broken_embedded st.count x.0 (next_of st.there.text.ahead)) ∙ ap (λ (es : List E). broken H L st.count es (next_of st.there.text.ahead)) x.2 ∙ st.halts.breaks;
+          fault = st.halts.fault;
+        };
+      }

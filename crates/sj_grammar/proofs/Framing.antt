@@ -131,3 +131,14 @@ module _ {D : Type 0} (G : Layer D) (L : Limits) where
 
   pub inside_before : (rest : List D) (n : ℕ) (a : At) (ds : List D) (flt : Fault) → StuckInside G L n a ds flt → StuckInside G L n a (ds ++ rest) flt
   inside_before rest n a ds flt st = subst (λ (es : List D). StuckInside G L n a (es ++ rest) flt) (map-id ds) (inside_framed G G (λ d. d) itself L rest n a ds flt st)
+
+  -- a token that the dues take, and several, whatever is due behind
+  pub step_before : (n m : ℕ) (ds es rest : List D) (s : List ℕ) → step G L n ds s ≡ goes m es → step G L n (ds ++ rest) s ≡ goes m (es ++ rest)
+  step_before n m ds es rest s e =
+      ap (λ (xs : List D). step G L n (xs ++ rest) s) (sym (map-id ds)) ∙ step_framed G G (λ d. d) itself L rest n m ds es s e
+      ∙ ap (λ (ys : List D). goes m (ys ++ rest)) (map-id es)
+
+  pub run_before : (ps : Pieces) (n m : ℕ) (ds es rest : List D) → run G L n ds ps ≡ goes m es → run G L n (ds ++ rest) ps ≡ goes m (es ++ rest)
+  run_before ps n m ds es rest e =
+      ap (λ (xs : List D). run G L n (xs ++ rest) ps) (sym (map-id ds)) ∙ run_framed G G (λ d. d) itself L rest ps n m ds es e
+      ∙ ap (λ (ys : List D). goes m (ys ++ rest)) (map-id es)

@@ -1,6 +1,9 @@
 pub mod Embedding
 pub mod Framing
 pub mod Inside
+pub mod Positions
+pub mod Readings
 pub mod Spellings
+pub mod Splits
 pub mod Steps
 pub mod Stuckness

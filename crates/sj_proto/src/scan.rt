@@ -82,7 +82,9 @@ fn digits_number(digits: &[u8]) -> Option<u64>
 fn number_at(bytes: &[u8], from: usize) -> Found
     requires within { from < length bytes.now }
     requires digit { IsTrue (in_class classes.Digit (slice_index bytes.now from)) }
-    ensures found { found_of bytes.now result ≡ number_of (take_while (in_class classes.Digit) (drop from bytes.now)) (drop from bytes.now) }
+    ensures found { found_of bytes.now result
+        ≡ number_of (take_while (in_class classes.Digit) (drop from bytes.now))
+        (drop from bytes.now) }
     ensures ahead { IsAhead from bytes.now result }
 {
     let to = run_end(bytes, from, Class::Digit);
@@ -99,7 +101,9 @@ fn number_at(bytes: &[u8], from: usize) -> Found
 fn text_at(bytes: &[u8], quote: usize) -> Found
     requires within { quote < length bytes.now }
     requires quote { slice_index bytes.now quote ≡ 34 }
-    ensures found { found_of bytes.now result ≡ text_of (prefix_len (in_class classes.Inside) (drop (quote + 1) bytes.now)) (drop (quote + 1) bytes.now) }
+    ensures found { found_of bytes.now result
+        ≡ text_of (prefix_len (in_class classes.Inside) (drop (quote + 1) bytes.now))
+        (drop (quote + 1) bytes.now) }
     ensures ahead { IsAhead quote bytes.now result }
 {
     let to = run_end(bytes, quote + 1, Class::Inside);

@@ -5,6 +5,7 @@ ghost use Rattle.sj_grammar.specs.Lexis.{next_of, at_end};
 ghost use Rattle.sj_grammar.specs.Names.{is_name};
 ghost use Rattle.sj_grammar.specs.Reading.{answer_to, reading_after, line_at, before_next};
 ghost use Rattle.sj_grammar.specs.Faults.{fault_next};
+ghost use Rattle.sj_proto.specs.Protocols.{IsReadable, IsUnreadable};
 ghost use Rattle.sj_grammar.specs.Asked.{TakesText, is_next, spelled_next, Refuses, but, but_name};
 
 use crate::reserved::is_name_text;
@@ -52,6 +53,13 @@ impl<'a> Tokens<'a> {
             line: 1,
             column: 1,
         }
+    }
+
+    /// Tells the caller that the whole text has at most 65,536 bytes; it does nothing.
+    pub fn stays_short(&self)
+        ensures { length self.now.before + length self.now.ahead ≤ 65536 }
+    {
+        let _bytes = self.bytes;
     }
 
     /// The next token. At the end, and after a fault, it answers the same again.
@@ -141,8 +149,8 @@ impl<'a> Tokens<'a> {
         self.fault(Rule::P1).line
     }
 
-    /// The fault that the next token breaks the rule. Where no token can be read, and at 2^63, it is
-    /// the fault of that.
+    /// The fault that the next token breaks the rule. Where no token can be read, and at 2^63, it
+    /// is the fault of that.
     pub fn fault(&self, rule: Rule) -> Fault
         ensures { result ≡ fault_next self.now rule (next_of self.now.ahead) }
     {
@@ -186,6 +194,18 @@ impl<'a> Tokens<'a> {
         }
         self.expect(word)?;
         Ok(word)
+    }
+
+    /// Refuses what comes next where it is no token and not the end.
+    pub fn readable(&self) -> Result<(), Fault>
+        ensures ok { OnOk result (IsReadable (next_of self.now.ahead)) }
+        ensures fault { IfErr result (IsUnreadable self.now (next_of self.now.ahead)) }
+    {
+        match find(self.bytes, self.at) {
+            Found::Nothing => Ok(()),
+            Found::Bad(_, _) => Err(self.fault(Rule::P1)),
+            Found::Piece(_, _, _) => Ok(()),
+        }
     }
 
     /// Refuses what is left, but for blanks and comments.

@@ -1,0 +1,43 @@
+-- What a call of a parser read, where it went wrong, and what it did to the tables.
+use Rattle.std.specs.Prelude.{◌≡◌, ℕ, ◌+◌, ◌*◌, ◌≤◌, List, ◌++◌, length}
+use Rattle.sj_lang.specs.declared.file.Names.{Names}
+use Rattle.sj_grammar.specs.declared.refusal.ParseRefusal.{ParseRefusal}
+use Rattle.sj_grammar.specs.Limits.{limits}
+use Rattle.sj_grammar.specs.Reading.{Reading}
+use Rattle.sj_grammar.specs.Tables.{Spelling, Spells}
+use Rattle.sj_grammar.specs.Places.{Pieces, Piece, At, at, Begins, BeginsOnLines}
+use Rattle.sj_grammar.specs.FileDues.{Due, file_layer}
+use Rattle.sj_grammar.specs.Faults.{Stuck, OnFault}
+
+-- where the reader stands with these tables
+abbrev pub standing : Reading → Names → At
+standing r names = at r names.words names.texts
+
+-- from here to there the text is spelled so, by each spelling that agrees with the table there
+abbrev pub Gives : At → At → ((ℕ → List ℕ) → Pieces) → ((ℕ → List ℕ) → Type 0) → Type 0
+Gives a b pieces Fits = (word : ℕ → List ℕ) → Spells word b.words → Begins a (pieces word) b × Fits word
+
+-- the same, where some pieces stand on a line
+abbrev pub GivesOnLines : At → At → (Spelling → List Piece) → (Spelling → Type 0) → Type 0
+GivesOnLines a b pieces Fits = (names : Spelling) → Spells names.word b.words → BeginsOnLines a (pieces names) b × Fits names
+
+-- the fault is the first one, whatever is due behind
+abbrev pub Stops : (List Due → List Due) → ℕ → At → ParseRefusal → Type 0
+Stops due n a = OnFault (λ f. (ds : List Due) → Stuck file_layer limits n a (due ds) f)
+
+-- the first table, and then more
+pub record Extends (old new : List (List ℕ)) : Type 0 where
+  pub more : List (List ℕ)
+  pub whole : new ≡ old ++ more
+
+-- names are added behind the old ones; the texts stay
+pub record Keeps (old new : Names) : Type 0 where
+  pub words : Extends old.words new.words
+  pub texts : new.texts ≡ old.texts
+
+-- what names may still come: each new one takes two bytes, so that its number stays below 65,536
+abbrev pub need : List (List ℕ) → Reading → ℕ
+need words r = 2 * length words + length r.ahead
+
+abbrev pub HasRoom : Names → Reading → Type 0
+HasRoom names r = need names.words r ≤ 131072

@@ -1,0 +1,44 @@
+//! Protocols from their `begin` on.
+ghost use Rattle.std.specs.Prelude.{◌≡◌, ℕ, ◌≤◌, List, [], ◌∷◌, IfOk, IfErr, length};
+ghost use Rattle.sj_grammar.specs.Limits.{limits};
+ghost use Rattle.sj_grammar.specs.Lexis.{next_of};
+ghost use Rattle.sj_grammar.specs.Protocols.{body_pieces, IsBody};
+ghost use Rattle.sj_grammar.specs.ProtocolDues.{more, body as body_due};
+ghost use Rattle.sj_grammar.specs.FileDues.{Due, proto, file_layer};
+ghost use Rattle.sj_grammar.specs.Faults.{Stuck, OnFault};
+ghost use Rattle.sj_grammar.specs.Asked.{Passes};
+ghost use Rattle.sj_proto.specs.Parsed.{standing, Gives, Keeps, HasRoom, need};
+
+use crate::parse::seq;
+use crate::tokens::Tokens;
+use sj_grammar::ParseRefusal;
+use sj_lang::{Names, Proto};
+use std::alloc::Global;
+
+/// A protocol from its `begin` on, up to the first token that can't be more of it. Its labels are
+/// words of `names`. Whatever stands behind a protocol is due after it, so a file's reader calls
+/// this for each of its protocols.
+pub fn body(alloc: Global, tokens: &mut Tokens, names: &mut Names) -> Result<Proto, ParseRefusal>
+    requires { HasRoom names.old tokens.old }
+    ensures reads { IfOk result (λ p.
+        Gives (standing tokens.old names.old) (standing tokens.new names.new)
+        (λ word. body_pieces word p) (λ word. IsBody limits word p)) }
+    ensures ends { IfOk result (λ _.
+        Passes file_layer (proto (more 0)) (next_of tokens.new.ahead)) }
+    ensures room { IfOk result (λ _.
+        need names.new.words tokens.new ≤ need names.old.words tokens.old) }
+    ensures shorter { IfOk result (λ _. length tokens.new.ahead ≤ length tokens.old.ahead) }
+    ensures kept { Keeps names.old names.new }
+    ensures fault { IfErr result (OnFault (λ f. (n : ℕ) (ds : List Due)
+        → Stuck file_layer limits n (standing tokens.old names.old) (proto body_due ∷ ds) f)) }
+{
+    tokens.expect(b"begin")?;
+    if tokens.accept(b".") {
+        let mut items = 0;
+        let p = seq(alloc, tokens, names, &mut items, 0)?;
+        return Ok(p);
+    }
+    Ok(Proto {
+        items: Vec::new(alloc),
+    })
+}
