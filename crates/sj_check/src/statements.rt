@@ -72,7 +72,7 @@ pub fn delegate(env: &mut Env, line: u32, end: u16, sent: u16) -> Result<(), Che
     let Some(place) = env.take_place(end) else {
         return Err(CheckRefusal::At { rule: 5, line });
     };
-    let Some((wanted, rest)) = sending(place) else {
+    let Some((wanted, follows)) = sending(place) else {
         return Err(CheckRefusal::At { rule: 6, line });
     };
     if !is_session(&wanted) {
@@ -84,7 +84,7 @@ pub fn delegate(env: &mut Env, line: u32, end: u16, sent: u16) -> Result<(), Che
     if !is_session_of(&given, &wanted) {
         return Err(CheckRefusal::At { rule: 7, line });
     }
-    env.put_place(end, rest)?;
+    env.put_place(end, follows)?;
     Ok(())
 }
 

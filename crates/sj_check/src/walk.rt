@@ -142,10 +142,10 @@ fn in_while(
     if !is_loop(Way::Into, place) {
         return Err(CheckRefusal::At { rule: 6, line });
     }
-    let mut inner = env.copied()?;
-    env.enter(&mut inner, end)?;
-    block(protocols, &mut inner, body)?;
-    if !env.has_same_ends(&inner) {
+    let mut turn = env.copied()?;
+    env.enter(&mut turn, end)?;
+    block(protocols, &mut turn, body)?;
+    if !env.has_same_ends(&turn) {
         return Err(CheckRefusal::At { rule: 10, line });
     }
     env.pass(end)?;
