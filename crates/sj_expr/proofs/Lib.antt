@@ -1,0 +1,10 @@
+pub mod Completed
+pub mod NumberLemmas
+pub mod Readings
+pub mod Runs
+pub mod Shapes
+pub mod TokenLemmas
+pub mod Unfollowed
+pub mod Unique
+pub mod Viability
+pub mod Writes
