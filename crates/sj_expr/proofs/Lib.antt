@@ -1,8 +1,15 @@
 pub mod Completed
+pub mod Exits
+pub mod FactorLemmas
+pub mod InFiles
+pub mod LevelLemmas
 pub mod NumberLemmas
+pub mod ReadLemmas
 pub mod Readings
 pub mod Runs
 pub mod Shapes
+pub mod StuckLemmas
+pub mod TextLemmas
 pub mod TokenLemmas
 pub mod Unfollowed
 pub mod Unique

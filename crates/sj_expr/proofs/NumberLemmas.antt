@@ -1,6 +1,6 @@
 -- 2^63 is written in one way, and each other number is below it.
-use Rattle.std.proofs.Common.{◌≡◌, ℕ, ◌<◌, ◌≤◌, Bool, true, false, List, [], ◌∷◌, length, get_or, refl, ap, sym, subst, ◌∙◌, arith, inl, inr}
-use Rattle.std.specs.Prelude.{codes, ◌&&◌, not, nat_le, nat_lt, nat_eq}
+use Rattle.std.proofs.Common.{◌≡◌, ℕ, ◌<◌, ◌≤◌, Bool, true, false, Option, Some, None, List, [], ◌∷◌, length, get_or, refl, ap, sym, subst, ◌∙◌, arith, inl, inr}
+use Rattle.std.specs.Prelude.{codes, if◌then◌else◌, ◌&&◌, not, nat_le, nat_lt, nat_eq}
 use Rattle.std.specs.List.{list_all}
 use Rattle.std.specs.Fmt.{decimal}
 use Rattle.std.specs.Str.Parse.{AllDigits, digits_value}
@@ -54,7 +54,7 @@ module _ (s : List ℕ) (t : is_number s ≡ true) where
       decimal-digits_value (numerals_by_value (AllDigits 10) tells_digits) s (all_digits s digits_are) some_is
       (λ e. no_zero s (and_first (not (has_leading_zero s)) _ tail_is) e some_is) (let most_is = number_most in omega arith)
 
-largest_number : is_number (codes "9223372036854775808") ≡ true
+pub largest_number : is_number (codes "9223372036854775808") ≡ true
 largest_number = refl
 
 pub small_number : (s : List ℕ) → is_number s ≡ true → is_largest s ≡ false → digits_value 10 s < most
@@ -66,3 +66,18 @@ small_number s t f = elim (cases_order (digits_value 10 s) most) [
   | inr (inl below) ↦ below
   | inr (inr above) ↦ let most_is = number_most s t in absurd (omega arith)
 ]
+
+-- what the reader of numbers answered
+pub some_number : (s : List ℕ) (r : Option ℕ) (v : ℕ) → r ≡ (if is_number s then Some (digits_value 10 s) else None) → r ≡ Some v → (is_number s ≡ true) × (v ≡ digits_value 10 s)
+some_number s r v e f = by_test (is_number s) refl (sym f ∙ e)
+  where
+    by_test : (b : Bool) → is_number s ≡ b → Some v ≡ (if b then Some (digits_value 10 s) else None) → (is_number s ≡ true) × (v ≡ digits_value 10 s)
+    by_test true eb h = (eb, cc)
+    by_test false eb h = let none : ⊥ = cc in absurd none
+
+pub no_number : (s : List ℕ) (r : Option ℕ) → r ≡ (if is_number s then Some (digits_value 10 s) else None) → ((v : ℕ) → r ≡ Some v → ⊥) → is_number s ≡ false
+no_number s r e none = by_test (is_number s) refl e
+  where
+    by_test : (b : Bool) → is_number s ≡ b → r ≡ (if b then Some (digits_value 10 s) else None) → is_number s ≡ false
+    by_test true eb h = absurd (none (digits_value 10 s) h)
+    by_test false eb h = eb

@@ -60,11 +60,11 @@ module _ (L : Limits) where
   added c o a b n i j ds e r q =
       two_run c a b n (n + i) (n + (i + j)) _ (times o ∷ plus o ∷ ds) (factor o ∷ times o ∷ plus o ∷ ds) (times o ∷ plus o ∷ ds) r e (Runs-to expression_layer L _ _ _ _ _ b (omega arith) q)
 
-  compared : (c : List ℕ) (o : ℕ) (a b : Pieces) (n i j : ℕ) (ds : List ExpressionDue) → At (n + i) (times o ∷ plus o ∷ compare o ∷ ds) c ≡ goes (n + i) (factor o ∷ times o ∷ plus o ∷ ds)
+  pub compared_run : (c : List ℕ) (o : ℕ) (a b : Pieces) (n i j : ℕ) (ds : List ExpressionDue) → At (n + i) (times o ∷ plus o ∷ compare o ∷ ds) c ≡ goes (n + i) (factor o ∷ times o ∷ plus o ∷ ds)
       → Goes n (expression_at o ++ ds) a (n + i) (times o ∷ plus o ∷ compare o ∷ ds) → Goes (n + i) (factor o ∷ times o ∷ plus o ∷ ds) b (n + i + j) (times o ∷ plus o ∷ ds)
-      → Goes n (expression_at o ++ ds) (a ++ c ∷ b) (n + (i + j)) (times o ∷ plus o ∷ compare o ∷ ds) ⊎ Goes n (expression_at o ++ ds) (a ++ c ∷ b) (n + (i + j)) (times o ∷ plus o ∷ ds)
-  compared c o a b n i j ds e r q =
-      inr (two_run c a b n (n + i) (n + (i + j)) _ (times o ∷ plus o ∷ compare o ∷ ds) (factor o ∷ times o ∷ plus o ∷ ds) (times o ∷ plus o ∷ ds) r e (Runs-to expression_layer L _ _ _ _ _ b (omega arith) q))
+      → Goes n (expression_at o ++ ds) (a ++ c ∷ b) (n + (i + j)) (times o ∷ plus o ∷ ds)
+  compared_run c o a b n i j ds e r q =
+      two_run c a b n (n + i) (n + (i + j)) _ (times o ∷ plus o ∷ compare o ∷ ds) (factor o ∷ times o ∷ plus o ∷ ds) (times o ∷ plus o ∷ ds) r e (Runs-to expression_layer L _ _ _ _ _ b (omega arith) q)
 
   -- what is due behind an expression of that level; behind a comparison there is no other one
   abbrev pub Leaves : Level → ℕ → Pieces → ℕ → ℕ → List ExpressionDue → Type 0
@@ -103,9 +103,9 @@ module _ (L : Limits) where
     runs (level.of_addition {o} {t} {u} {a} {b} r q) n ds few = added (codes "+") o a b n (operand_count t) (operand_count u) ds refl (runs r n ds (omega arith)) (runs q (n + operand_count t) (plus o ∷ ds) (omega arith))
     runs (level.of_difference {o} {t} {u} {a} {b} r q) n ds few = added (codes "-") o a b n (operand_count t) (operand_count u) ds refl (runs r n ds (omega arith)) (runs q (n + operand_count t) (plus o ∷ ds) (omega arith))
     runs (level.of_sum {o} r) n ds few = inl (runs r n (compare o ∷ ds) few)
-    runs (level.of_less {o} {t} {u} {a} {b} r q) n ds few = compared (codes "<") o a b n (operand_count t) (operand_count u) ds refl (runs r n (compare o ∷ ds) (omega arith)) (runs q (n + operand_count t) ds (omega arith))
-    runs (level.of_less_eq {o} {t} {u} {a} {b} r q) n ds few = compared (codes "<=") o a b n (operand_count t) (operand_count u) ds refl (runs r n (compare o ∷ ds) (omega arith)) (runs q (n + operand_count t) ds (omega arith))
-    runs (level.of_equal {o} {t} {u} {a} {b} r q) n ds few = compared (codes "==") o a b n (operand_count t) (operand_count u) ds refl (runs r n (compare o ∷ ds) (omega arith)) (runs q (n + operand_count t) ds (omega arith))
+    runs (level.of_less {o} {t} {u} {a} {b} r q) n ds few = inr (compared_run (codes "<") o a b n (operand_count t) (operand_count u) ds refl (runs r n (compare o ∷ ds) (omega arith)) (runs q (n + operand_count t) ds (omega arith)))
+    runs (level.of_less_eq {o} {t} {u} {a} {b} r q) n ds few = inr (compared_run (codes "<=") o a b n (operand_count t) (operand_count u) ds refl (runs r n (compare o ∷ ds) (omega arith)) (runs q (n + operand_count t) ds (omega arith)))
+    runs (level.of_equal {o} {t} {u} {a} {b} r q) n ds few = inr (compared_run (codes "==") o a b n (operand_count t) (operand_count u) ds refl (runs r n (compare o ∷ ds) (omega arith)) (runs q (n + operand_count t) ds (omega arith)))
 
 longer : {a : Pieces} (b : Pieces) → (s : List ℕ) × (ps : Pieces) × (a ≡ s ∷ ps) → (s : List ℕ) × (ps : Pieces) × (a ++ b ≡ s ∷ ps)
 longer b x = (x.0, x.1 ++ b, ap (λ y. y ++ b) x.2)

@@ -104,7 +104,7 @@ take_all : (t rest : List ℕ) → take (length t) (t ++ rest) ≡ t
 take_all [] rest = refl
 take_all (b ∷ t) rest = ap (λ x. b ∷ x) (take_all t rest)
 
-long_by_one : (t : List ℕ) (b : ℕ) → length (t ++ b ∷ []) ≡ suc (length t)
+pub long_by_one : (t : List ℕ) (b : ℕ) → length (t ++ b ∷ []) ≡ suc (length t)
 long_by_one [] b = refl
 long_by_one (c ∷ t) b = ap (λ x. suc x) (long_by_one t b)
 
@@ -189,3 +189,10 @@ true_no_name = refl
 pub false_no_name : is_name (codes "false") ≡ false
 unfolding is_reserved
 false_no_name = refl
+
+pub text_no_name : (s : List ℕ) → is_text s ≡ true → is_name s ≡ false
+text_no_name s t = subst (λ (u : List ℕ). is_name u ≡ false) (sym (text_quoted s t).0) refl
+
+pub not_no_name : is_name (codes "not") ≡ false
+unfolding is_reserved
+not_no_name = refl

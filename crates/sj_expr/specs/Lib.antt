@@ -1,3 +1,7 @@
 pub mod Ends
 pub mod Laws
+pub mod Openings
+pub mod Operands
+pub mod Read
+pub mod Signs
 pub mod Viable

@@ -1,0 +1,141 @@
+//! What a token is as an operand of an expression.
+ghost use Rattle.std.specs.Prelude.{◌≡◌, ◌+◌, ◌*◌, ◌-◌, ◌<◌, ◌≤◌, ◌^◌, IsTrue, All, length, nat_lt, nat_le, not, ◌&&◌, if◌then◌else◌, Some, None, IfSome, IfNone, false, true, codes};
+ghost use Rattle.std.specs.List.{list_all};
+ghost use Rattle.std.specs.Str.{bytes_eq};
+ghost use Rattle.std.specs.Str.Parse.{digits_value};
+ghost use Rattle.sj_grammar.specs.Bytes.{is_digit, is_printable};
+ghost use Rattle.sj_grammar.specs.Lexis.{has_leading_zero, most};
+ghost use Rattle.sj_grammar.specs.Literals.{is_number, is_largest, is_text, inner, quoted};
+ghost use Rattle.sj_grammar.specs.ExpressionDues.{is_operand};
+ghost use Rattle.sj_proto.specs.Found.{value_of};
+ghost use Rattle.sj_expr.specs.Operands.{IsOperandOf, is_plain};
+
+use sj_proto::is_name_text;
+
+/// What an operand is.
+#[derive(Clone, Copy, Debug, PartialEq, Eq)]
+pub enum Operand {
+    /// Below 2^63.
+    Number(u64),
+    Text,
+    Name,
+    True,
+    False,
+}
+
+/// 2^63, which stands behind a factor's own minus alone.
+const LARGEST: &[u8] = b"9223372036854775808";
+
+const MOST: u128 = 1 << 63;
+
+fn all_digits(bytes: &[u8]) -> bool
+    ensures { result ≡ list_all is_digit bytes.now }
+{
+    bytes.iter().all(|b| b.is_ascii_digit())
+}
+
+fn all_printable(bytes: &[u8]) -> bool
+    ensures { result ≡ list_all is_printable bytes.now }
+{
+    bytes
+        .iter()
+        .all(|b| *b >= 32 && *b <= 126 && *b != b'"' && *b != b'\\')
+}
+
+// Digits, of which none is a leading zero.
+fn is_plain_digits(piece: &[u8]) -> bool
+    ensures { result ≡ is_plain piece.now }
+{
+    if piece.is_empty() {
+        return false;
+    }
+    if piece[0] == b'0' {
+        return piece.len() == 1;
+    }
+    all_digits(piece)
+}
+
+// The number that digits write, up to 2^63.
+#[tactic(auto, using(sj_proto::proofs::Digits::digits))]
+fn value_of_digits(digits: &[u8]) -> Option<u64>
+    requires { All (λ b. is_digit b ≡ true) digits.now }
+    ensures { result ≡ value_of digits.now }
+{
+    let mut value = 0u128;
+    for b in digits {
+        value = value * 10 + u128::from(*b - b'0');
+        if value > MOST {
+            return None;
+        }
+    }
+    Some(value as u64)
+}
+
+/// The number that the piece writes, up to 2^63.
+pub fn number_in(piece: &[u8]) -> Option<u64>
+    ensures { result ≡ (if is_number piece.now then Some (digits_value 10 piece.now) else None) }
+{
+    if !is_plain_digits(piece) {
+        return None;
+    }
+    value_of_digits(piece)
+}
+
+// Whether the piece begins and ends with a quote.
+fn is_quoted(piece: &[u8]) -> bool
+    ensures quotes { result ≡ bytes_eq piece.now (quoted (inner piece.now)) }
+    ensures long { IsTrue result → 2 ≤ length piece.now }
+{
+    let n = piece.len();
+    if n < 2 {
+        return false;
+    }
+    if piece[0] != b'"' {
+        return false;
+    }
+    piece[n - 1] == b'"'
+}
+
+/// The bytes of a text between its quotes.
+pub fn inner_of(piece: &[u8]) -> &[u8]
+    requires { 2 ≤ length piece.now }
+    ensures { result.now ≡ inner piece.now }
+{
+    &piece[1..piece.len() - 1]
+}
+
+// Whether the piece is a text with its quotes.
+fn is_text_piece(piece: &[u8]) -> bool
+    ensures { result ≡ is_text piece.now }
+{
+    if !is_quoted(piece) {
+        return false;
+    }
+    all_printable(inner_of(piece))
+}
+
+/// What the piece is as an operand.
+pub fn operand_in(piece: &[u8]) -> Option<Operand>
+    ensures some { IfSome result (λ o. IsOperandOf o piece.now) }
+    ensures none { IfNone result (is_operand piece.now ≡ false) }
+{
+    if let Some(value) = number_in(piece) {
+        if piece == LARGEST {
+            return None;
+        }
+        return Some(Operand::Number(value));
+    }
+    if is_text_piece(piece) {
+        return Some(Operand::Text);
+    }
+    if is_name_text(piece) {
+        return Some(Operand::Name);
+    }
+    if piece == b"true".as_slice() {
+        return Some(Operand::True);
+    }
+    if piece == b"false".as_slice() {
+        return Some(Operand::False);
+    }
+    None
+}
