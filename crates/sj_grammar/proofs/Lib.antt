@@ -1,3 +1,4 @@
+pub mod Completion
 pub mod Embedding
 pub mod Framing
 pub mod Inside

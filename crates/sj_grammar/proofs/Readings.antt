@@ -52,7 +52,7 @@ module _ {D : Type 0} (G : Layer D) (L : Limits) where
   no_step (goes k gs) f m es r h e = cc
   no_step (stops q) f m es r h e = cc
 
-  halts_at_token : (n : ℕ) (a b : At) (ds : List D) (f : Fault) (s : List ℕ) → Halts G L n a ds f → Takes a s b → (r : Rule) × (rule_of (step G L n ds s) ≡ Some r)
+  pub halts_at_token : (n : ℕ) (a b : At) (ds : List D) (f : Fault) (s : List ℕ) → Halts G L n a ds f → Takes a s b → (r : Rule) × (rule_of (step G L n ds s) ≡ Some r)
   halts_at_token n a b ds f s h t = (h.rule, rw t.token at h.breaks)
 
   pub halts_there : (n m : ℕ) (a b : At) (ds es : List D) (qs : Pieces) (f : Fault) → Stuck G L n a ds f → Begins a qs b → run G L n ds qs ≡ goes m es

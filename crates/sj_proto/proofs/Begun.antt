@@ -17,7 +17,7 @@ use Rattle.sj_grammar.proofs.Stuckness.{stuck_cons}
 use Rattle.sj_proto.specs.Parsed.{standing}
 use Rattle.sj_proto.proofs.Exits.{plain}
 
-no_name_begin : is_name (codes "begin") ≡ false
+pub no_name_begin : is_name (codes "begin") ≡ false
 unfolding is_reserved
 no_name_begin = refl
 

@@ -85,7 +85,7 @@ pub label_stuck : (a m : At) (l k n : ℕ) (ds : List Due) (f : Fault) → Gives
 label_stuck a m l k n ds f gives room st =
     let whole = gives (entry_of m.words) (itself m.words) in
     stuck_block file_layer limits n n a m (entry_of m.words l ∷ []) (proto (label k) ∷ ds) ds f whole.0
-    (in_file limits n n (label k ∷ []) [] ds _ (Runs-cons protocol_layer limits n n n (label k ∷ []) [] [] (entry_of m.words l) [] (label_step limits (entry_of m.words) l k n [] room whole.1) (Runs-none protocol_layer limits n []))) st
+    (in_file limits n n (label k ∷ []) [] ds _ (Runs-cons protocol_layer limits n n n (label k ∷ []) [] [] (entry_of m.words l) [] (label_step limits (entry_of m.words l) k n [] room (record { name = whole.1.name; short = whole.1.short })) (Runs-none protocol_layer limits n []))) st
 
 -- behind a label, the colon and its items
 pub arm_stuck : (a m : At) (l : ℕ) (p : Place) (o k n j : ℕ) (ds : List Due) (f : Fault) → Gives a m (λ word. word l ∷ codes ":" ∷ seq_pieces word p) (λ word. AreGiven limits word o k (arm l p no_choice))
@@ -97,6 +97,6 @@ arm_stuck a m l p o k n j ds f gives count few passes st =
     let x = whole.0.0 in
     let y = whole.0.2.0 in
     stuck_cons file_layer limits n n a x (word l) (proto (label k) ∷ proto (fixed (codes ":")) ∷ proto (maybe o) ∷ ds) (proto (fixed (codes ":")) ∷ proto (maybe o) ∷ ds) f whole.0.1
-    (step_in_file n n (label k ∷ []) [] (proto (fixed (codes ":")) ∷ proto (maybe o) ∷ ds) (word l) (label_step limits word l k n [] whole.1.0 whole.1.1))
+    (step_in_file n n (label k ∷ []) [] (proto (fixed (codes ":")) ∷ proto (maybe o) ∷ ds) (word l) (label_step limits (word l) k n [] whole.1.0 (record { name = whole.1.1.name; short = whole.1.1.short })))
     (stuck_cons file_layer limits n n x y (codes ":") (proto (fixed (codes ":")) ∷ proto (maybe o) ∷ ds) (proto (maybe o) ∷ ds) f whole.0.2.1 refl
     (behind_maybe word y m p o n j ds f whole.0.2.2 whole.1.2 count few passes st))

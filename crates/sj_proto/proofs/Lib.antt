@@ -1,7 +1,10 @@
-pub mod Behind
 pub mod Begun
+pub mod Behind
+pub mod Completed
+pub mod Counts
 pub mod Defs
 pub mod Digits
+pub mod Ends
 pub mod Exits
 pub mod Fronts
 pub mod Given
@@ -18,4 +21,7 @@ pub mod Runs
 pub mod Tables
 pub mod Texts
 pub mod Unique
+pub mod Viable
 pub mod Wholes
+pub mod WrongLemmas
+pub mod Within

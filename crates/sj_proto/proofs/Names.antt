@@ -18,10 +18,10 @@ first_holds true y t = refl
 first_holds false y t = t
 
 -- a letter is no other byte
-letter_other : (b c : ℕ) → IsTrue (is_letter b) → is_letter c ≡ false → nat_eq b c ≡ false
+pub letter_other : (b c : ℕ) → IsTrue (is_letter b) → is_letter c ≡ false → nat_eq b c ≡ false
 letter_other b c t f = ne_eqb b c (λ e. let was : is_letter b ≡ is_letter c = ap is_letter e in cc)
 
-first_letter : (b : ℕ) (bs : List ℕ) → IsTrue (is_name (b ∷ bs)) → IsTrue (is_letter b)
+pub first_letter : (b : ℕ) (bs : List ℕ) → IsTrue (is_name (b ∷ bs)) → IsTrue (is_letter b)
 first_letter b bs t = first_holds (is_letter b) (list_all is_word_byte bs) (first_holds (is_word (b ∷ bs)) (not (is_reserved (b ∷ bs))) t)
 
 -- a name is no `!` or `?`

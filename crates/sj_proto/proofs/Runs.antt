@@ -8,13 +8,13 @@ use Rattle.sj_lang.specs.declared.proto.Way.TheVariants.{Out, Into}
 use Rattle.sj_lang.specs.Place.{Place, Choices, done, message, choice, repeat, no_choice, arm}
 use Rattle.sj_grammar.specs.Limits.{Limits}
 use Rattle.sj_grammar.specs.Names.{is_name}
-use Rattle.sj_grammar.specs.Tables.{IsNamed}
 use Rattle.sj_grammar.specs.Places.{Pieces}
 use Rattle.sj_grammar.specs.Protocols.{way_piece, open_piece, close_piece, dotted, kind_pieces, listed}
 use Rattle.sj_grammar.specs.Layers.{Step, goes, onward, step, run}
 use Rattle.sj_grammar.specs.ProtocolDues.{ProtocolDue, more, seq, maybe, behind, kind, label, arms, fixed, protocol_layer}
 use Rattle.sj_grammar.proofs.Steps.{Runs, Runs-cons}
 use Rattle.sj_proto.specs.Left.{left}
+use Rattle.sj_proto.proofs.Within.{IsLabel}
 
 module _ (L : Limits) where
   abbrev pub Reads : ℕ → List ProtocolDue → Pieces → ℕ → List ProtocolDue → Type 0
@@ -38,11 +38,11 @@ module _ (L : Limits) where
   turns_step Out o n ds h = rw (lt-leb L.nesting o h) refl
   turns_step Into o n ds h = rw (lt-leb L.nesting o h) refl
 
-  pub label_step : (word : ℕ → List ℕ) (l k n : ℕ) (ds : List ProtocolDue) → k < L.labels → IsNamed L word l → step protocol_layer L n (label k ∷ ds) (word l) ≡ goes n ds
-  label_step word l k n ds room is =
-      let name : IsTrue (is_name (word l)) = is.name in
-      let named : is_name (word l) ≡ true = grind (arith, nat_tests) in
-      rw (named, le-ltb L.name (length (word l)) is.short, lt-leb L.labels k room) refl
+  pub label_step : (s : List ℕ) (k n : ℕ) (ds : List ProtocolDue) → k < L.labels → IsLabel L s → step protocol_layer L n (label k ∷ ds) s ≡ goes n ds
+  label_step s k n ds room is =
+      let name : IsTrue (is_name s) = is.name in
+      let named : is_name s ≡ true = grind (arith, nat_tests) in
+      rw (named, le-ltb L.name (length s) is.short, lt-leb L.labels k room) refl
 
   pub close_run : (w : Way) (n : ℕ) (ds : List ProtocolDue) → Reads n (fixed (close_piece w) ∷ ds) (close_piece w ∷ []) n ds
   close_run Out n ds = record { steps = refl }

@@ -5,3 +5,5 @@ pub mod Items
 pub mod Left
 pub mod Parsed
 pub mod Protocols
+pub mod Writable
+pub mod Wrong

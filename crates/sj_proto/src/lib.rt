@@ -4,6 +4,7 @@
 mod bodies;
 mod bytes;
 mod choices;
+mod laws;
 mod naming;
 mod parse;
 mod protocols;
@@ -14,6 +15,11 @@ mod tokens;
 
 pub use bodies::body;
 pub use choices::take_first;
+pub use laws::{
+    a_fault_comes_again, first_faults_go_wrong, no_list_in_front_has_a_fault,
+    no_protocol_has_a_fault, one_fault_a_text, one_list_in_front, one_protocol_a_text,
+    only_the_end_is_the_end, the_end_comes_again, what_goes_wrong_is_the_first_fault,
+};
 pub use naming::take_name;
 pub use protocols::{parse_protocol, parse_protocols};
 pub use reserved::is_name_text;

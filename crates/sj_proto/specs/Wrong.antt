@@ -1,0 +1,73 @@
+-- Where the text of a protocol goes wrong, in the grammar's own words.
+use Rattle.std.specs.Prelude.{◌≡◌, ℕ, suc, Bool, false, ◌||◌, nat_le, nat_lt, IsTrue, ◌⊎◌, List, [], ◌∷◌, ◌++◌, length, drop, codes, if◌then◌else◌}
+use Rattle.std.specs.List.{fold}
+use Rattle.std.specs.Str.{bytes_eq}
+use Rattle.sj_lang.specs.declared.file.Names.{Names}
+use Rattle.sj_grammar.specs.declared.tokens.Rule.{Rule}
+use Rattle.sj_grammar.specs.declared.tokens.Rule.TheVariants.{P1, P4}
+use Rattle.sj_grammar.specs.declared.tokens.Fault.{Fault}
+use Rattle.sj_grammar.specs.Limits.{Limits, limits}
+use Rattle.sj_grammar.specs.Lexis.{Ahead, at_end, bad, token, next_of}
+use Rattle.sj_grammar.specs.Reading.{before_next, fault_at}
+use Rattle.sj_grammar.specs.Names.{is_name}
+use Rattle.sj_grammar.specs.Places.{Pieces, At, start, Begins}
+use Rattle.sj_grammar.specs.Layers.{misfit}
+use Rattle.sj_grammar.specs.ProtocolDues.{is_way}
+use Rattle.sj_proto.specs.Writable.{IsViable, IsWhole}
+
+abbrev pub is_open : List ℕ → Bool
+is_open s = bytes_eq s (codes "<") || (bytes_eq s (codes "(") || (bytes_eq s (codes "{") || bytes_eq s (codes "[")))
+
+abbrev pub is_close : List ℕ → Bool
+is_close s = bytes_eq s (codes ">") || (bytes_eq s (codes ")") || (bytes_eq s (codes "}") || bytes_eq s (codes "]")))
+
+abbrev pub one_more : List ℕ → List ℕ
+one_more [] = []
+one_more (n ∷ ns) = suc n ∷ ns
+
+-- the open brackets behind a piece, innermost first: for each the commas in it
+abbrev pub brackets_behind : List ℕ → List ℕ → List ℕ
+brackets_behind ns s = if is_open s then 0 ∷ ns else (if is_close s then drop 1 ns else (if bytes_eq s (codes ",") then one_more ns else ns))
+
+abbrev pub brackets_in : Pieces → List ℕ
+brackets_in ps = fold brackets_behind [] ps
+
+-- an item begins with a `!` or a `?`
+abbrev pub items_behind : ℕ → List ℕ → ℕ
+items_behind n s = if is_way s then suc n else n
+
+abbrev pub items_in : Pieces → ℕ
+items_in ps = fold items_behind 0 ps
+
+-- the arms before the next one in the innermost bracket
+abbrev pub arms_in : List ℕ → ℕ
+arms_in [] = 0
+arms_in (n ∷ ns) = n
+
+-- with so many items and these brackets before it, the piece is one item too many, a bracket too deep, or a label too many or too long
+abbrev pub is_over : Limits → ℕ → List ℕ → List ℕ → Bool
+is_over L n ns s =
+    if is_way s then nat_le L.items n
+    else (if is_open s then nat_le L.nesting (length ns)
+    else (if is_name s then nat_le L.labels (arms_in ns) || nat_lt L.name (length s) else false))
+
+-- behind these pieces it passes a limit
+abbrev pub passes_limit : Pieces → List ℕ → Bool
+passes_limit ps s = is_over limits (items_in ps) (brackets_in ps) s
+
+-- what comes next breaks that rule: where no protocol goes on so, where a limit is passed, or where the protocol isn't whole
+abbrev pub IsWrongNext : Pieces → Ahead → Rule → Type 0
+IsWrongNext ps at_end rule = (rule ≡ P1) × (IsWhole ps → ⊥)
+IsWrongNext ps (bad lexical rest) rule = rule ≡ lexical
+IsWrongNext ps (token what s rest) rule =
+    ((rule ≡ misfit s) × (IsViable (ps ++ s ∷ []) → ⊥)) ⊎ ((rule ≡ P4) × IsViable (ps ++ s ∷ []) × IsTrue (passes_limit ps s))
+
+-- The text goes wrong there: up to there a protocol can go on so, and no piece passes a limit.
+pub record GoesWrong (bytes : List ℕ) (names : Names) (f : Fault) : Type 0 where
+  pub pieces : Pieces
+  pub there : At
+  pub front : Begins (start bytes names.words names.texts) pieces there
+  pub viable : IsViable pieces
+  pub within : (before later : Pieces) (s : List ℕ) → pieces ≡ before ++ s ∷ later → passes_limit before s ≡ false
+  pub wrong : IsWrongNext pieces (next_of there.text.ahead) f.rule
+  pub place : f ≡ fault_at (before_next there.text (next_of there.text.ahead)) f.rule
