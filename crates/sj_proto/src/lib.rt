@@ -11,6 +11,8 @@ mod protocols;
 mod reserved;
 mod scan;
 mod shapes;
+#[cfg(test)]
+mod tests;
 mod tokens;
 
 pub use bodies::body;
