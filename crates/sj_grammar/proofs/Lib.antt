@@ -1,7 +1,10 @@
+pub mod CanonicalText
 pub mod Completion
 pub mod Embedding
 pub mod Framing
 pub mod Inside
+pub mod LexedTables
+pub mod Lexing
 pub mod Positions
 pub mod Readings
 pub mod Spellings

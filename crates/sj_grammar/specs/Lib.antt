@@ -1,5 +1,6 @@
 pub mod Asked
 pub mod Bytes
+pub mod Canonical
 pub mod Examples
 pub mod ExpressionDues
 pub mod Expressions

@@ -16,12 +16,15 @@ pub mod OneFront
 pub mod Passed
 pub mod Pieced
 pub mod Pieces
+pub mod Printed
+pub mod Readings
 pub mod Rules
 pub mod Runs
+pub mod Standing
 pub mod Tables
 pub mod Texts
 pub mod Unique
 pub mod Viable
 pub mod Wholes
-pub mod WrongLemmas
 pub mod Within
+pub mod WrongLemmas

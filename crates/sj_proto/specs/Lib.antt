@@ -4,6 +4,7 @@ pub mod Found
 pub mod Items
 pub mod Left
 pub mod Parsed
+pub mod Printed
 pub mod Protocols
 pub mod Writable
 pub mod Wrong

@@ -1,0 +1,6 @@
+use Rattle.std.proofs.Common.{◌++◌, ap, sym, ◌∙◌, append-nil}
+use Rattle.sj_proto.proofs.Printed.{no_word_at}
+use Rattle.sj_proto.proofs.printing.put_word.Goals as goal
+
+pub returns-in-None-clause-ok : goal.returns-in-None-clause-ok
+returns-in-None-clause-ok c = sym (ap (λ xs. c.args.text.now.items ++ xs) (no_word_at c.args.names.now.words c.args.n c.in-None.ensures) ∙ append-nil c.args.text.now.items)
