@@ -17,7 +17,6 @@ pub mod Passed
 pub mod Pieced
 pub mod Pieces
 pub mod Printed
-pub mod Readings
 pub mod Rules
 pub mod Runs
 pub mod Standing

@@ -1,15 +1,14 @@
 -- A text that is being printed.
-use Rattle.std.proofs.Common.{◌≡◌, ℕ, ◌+◌, ◌<◌, ◌≤◌, ◌==◌, Bool, true, false, List, [], ◌∷◌, ◌++◌, length, drop, get_or, Result, Ok, Err, OnOk, OnErr, refl, ap, sym, ◌∙◌, append_assoc, append-nil, arith, add-one, zero, suc, None}
+use Rattle.std.proofs.Common.{◌≡◌, ℕ, ◌+◌, ◌<◌, ◌==◌, Bool, true, false, List, [], ◌∷◌, ◌++◌, length, drop, get_or, Result, Ok, Err, OnOk, OnErr, refl, ap, sym, ◌∙◌, append_assoc, append-nil, arith, add-one, zero, suc, None}
 use Rattle.std.specs.Prelude.{codes, nat_lt, if◌then◌else◌}
 use Rattle.std.specs.List.{slice_get}
 use Rattle.std.proofs.Math.Seq.{drop-cons}
 use Rattle.std.proofs.lemmas.Bool.{lt-ltb}
 use Rattle.std.proofs.lemmas.Bool.Decides.{nat_tests}
-use Rattle.std.proofs.lemmas.List.{drop_all}
 use Rattle.sj_lang.specs.declared.proto.Item.{Item}
 use Rattle.sj_lang.specs.declared.proto.Item.TheVariants.{Send, Recv, Select, Branch, OutLoop, InLoop}
 use Rattle.sj_lang.specs.declared.proto.Arm.{Arm}
-use Rattle.sj_lang.specs.Place.{Place, done, message, choice, repeat, no_choice}
+use Rattle.sj_lang.specs.Place.{Place, done, message, choice, repeat}
 use Rattle.sj_lang.specs.View.{place_of, choices_of, followed}
 use Rattle.sj_grammar.specs.Tables.{entry_of}
 use Rattle.sj_grammar.specs.Canonical.{dotted_text, listed_text, seq_text, arm_text, gap_before}

@@ -31,3 +31,6 @@ pub use protocols::{parse_protocol, parse_protocols};
 pub use reserved::is_name_text;
 pub use sj_grammar::{Fault, ParseRefusal, Rule, Token, What};
 pub use tokens::Tokens;
+
+#[cfg(test)]
+mod printing_tests;

@@ -110,8 +110,8 @@ fn put_message(
     kind: &Kind,
     closing: &[u8],
 ) -> Result<(), NoMemory>
-    ensures ok { OnOk result (text.new.items ≡ text.old.items
-        ++ (opening.now ++ (kind_text (entry_of names.now.words) (carried_of kind.now) ++ closing.now))) }
+    ensures ok { OnOk result (text.new.items ≡ text.old.items ++ (opening.now
+        ++ (kind_text (entry_of names.now.words) (carried_of kind.now) ++ closing.now))) }
     ensures err { OnErr result (IsCutShort text.old.items
         (opening.now ++ (kind_text (entry_of names.now.words) (carried_of kind.now) ++ closing.now))
         text.new.items) }
@@ -146,7 +146,8 @@ fn put_choice(
     ensures ok { OnOk result (text.new.items ≡ text.old.items
         ++ (opening.now ++ (arms_text (entry_of names.now.words) choice.now ++ codes "}"))) }
     ensures err { OnErr result (IsCutShort text.old.items
-        (opening.now ++ (arms_text (entry_of names.now.words) choice.now ++ codes "}")) text.new.items) }
+        (opening.now ++ (arms_text (entry_of names.now.words) choice.now ++ codes "}"))
+        text.new.items) }
 {
     put(text, opening)?;
     for (i, arm) in choice.arms.iter().enumerate() {
@@ -173,7 +174,8 @@ fn put_loop(text: &mut Vec<u8>, names: &Names, opening: &[u8], body: &Proto) -> 
     ensures ok { OnOk result (text.new.items ≡ text.old.items
         ++ (opening.now ++ (seq_text (entry_of names.now.words) body.now ++ codes "]*"))) }
     ensures err { OnErr result (IsCutShort text.old.items
-        (opening.now ++ (seq_text (entry_of names.now.words) body.now ++ codes "]*")) text.new.items) }
+        (opening.now ++ (seq_text (entry_of names.now.words) body.now ++ codes "]*"))
+        text.new.items) }
 {
     put(text, opening)?;
     put_items(text, names, &body.items)?;

@@ -1,12 +1,10 @@
-use Rattle.std.proofs.Common.{◌≡◌, ◌+◌, ◌++◌, [], drop, refl, ap, sym, ◌∙◌, append_assoc, vec_len}
+use Rattle.std.proofs.Common.{◌≡◌, ◌+◌, ◌++◌, [], drop, ap, sym, ◌∙◌, vec_len}
 use Rattle.std.specs.Prelude.{codes, if◌then◌else◌, nat_lt}
 use Rattle.sj_lang.specs.View.{place_of, choices_of, carried_of, followed}
 use Rattle.sj_lang.specs.Place.{done}
-use Rattle.sj_lang.proofs.Within.{item_within}
 use Rattle.sj_grammar.specs.Tables.{entry_of}
 use Rattle.sj_grammar.specs.Canonical.{seq_text, arms_text, arm_text, kind_text, gap_before}
-use Rattle.sj_proto.specs.Printed.{IsCutShort}
-use Rattle.sj_proto.proofs.Printed.{StillTo, none_yet, one_more, ahead_is, all_there, cut_here, cut_within, on_err, last_ok, last_cut, items_ahead, arms_ahead, items_step, arms_on, behind_put}
+use Rattle.sj_proto.proofs.Printed.{none_yet, one_more, ahead_is, cut_here, cut_within, on_err, last_ok, last_cut, items_ahead, arms_ahead, items_step, arms_on, behind_put}
 use Rattle.sj_proto.proofs.printing.+printing.Goals as goal
 
 -- before an item
