@@ -80,9 +80,7 @@ fn repeated(alloc: Global, part: &[u8], times: usize, tail: &[u8]) -> Result<Vec
 }
 
 #[test]
-fn operators_group_to_the_left_and_parentheses_leave_no_trace(
-    rt: HostRuntime,
-) -> Result<(), Fail> {
+fn operators_group_to_the_left_and_parentheses_leave_no_trace(rt: HostRuntime) -> Result<(), Fail> {
     let alloc = rt.alloc();
     for (text, want) in [
         ("1 - 2 - 3", "((1 - 2) - 3)"),
@@ -167,26 +165,50 @@ fn each_limit_is_passed_by_one_token(rt: HostRuntime) -> Result<(), Fail> {
     let full = repeated(alloc, b"1+", 255, b"(((1)))")?;
     assert_eq!(rt; fault_of(alloc, &full)?, None, "256 operands");
     let more = repeated(alloc, b"1+", 256, b"not \"\"")?;
-    assert_eq!(rt; fault_of(alloc, &more)?, Some((Rule::P4, 517)), "257 operands");
+    assert_eq!(rt;
+        fault_of(alloc, &more)?,
+        Some((Rule::P4, 517)),
+        "257 operands"
+    );
     let most = repeated(alloc, b"1+", 256, b"-9223372036854775808")?;
-    assert_eq!(rt; fault_of(alloc, &most)?, Some((Rule::P4, 514)), "2^63 as the 257th");
+    assert_eq!(rt;
+        fault_of(alloc, &most)?,
+        Some((Rule::P4, 514)),
+        "2^63 as the 257th"
+    );
     let other = repeated(alloc, b"1+", 256, b"-x")?;
-    assert_eq!(rt; fault_of(alloc, &other)?, Some((Rule::P1, 514)), "no number, and 257 operands");
+    assert_eq!(rt;
+        fault_of(alloc, &other)?,
+        Some((Rule::P1, 514)),
+        "no number, and 257 operands"
+    );
     let nots = repeated(alloc, b"not ", 32, b"a * not b")?;
     assert_eq!(rt; fault_of(alloc, &nots)?, None, "32 open");
     let deep = repeated(alloc, b"not ", 32, b"(a)")?;
     assert_eq!(rt; fault_of(alloc, &deep)?, Some((Rule::P4, 129)), "33 open");
     let inside = repeated(alloc, b"(", 32, b"1 + not a")?;
-    assert_eq!(rt; fault_of(alloc, &inside)?, Some((Rule::P4, 37)), "33 open, behind a sum");
+    assert_eq!(rt;
+        fault_of(alloc, &inside)?,
+        Some((Rule::P4, 37)),
+        "33 open, behind a sum"
+    );
     let name = repeated(alloc, b"n", 64, b" ")?;
     assert_eq!(rt; fault_of(alloc, &name)?, None, "a name of 64 bytes");
     let long = repeated(alloc, b"n", 65, b" ")?;
-    assert_eq!(rt; fault_of(alloc, &long)?, Some((Rule::P4, 1)), "a name of 65 bytes");
+    assert_eq!(rt;
+        fault_of(alloc, &long)?,
+        Some((Rule::P4, 1)),
+        "a name of 65 bytes"
+    );
     let mut text = repeated(alloc, b"\"", 1, b"")?;
     text.extend_from_slice(&repeated(alloc, b" ", 255, b"\"")?)?;
     assert_eq!(rt; fault_of(alloc, &text)?, None, "a text of 255 bytes");
     text.pop();
     text.extend_from_slice(b" \"")?;
-    assert_eq!(rt; fault_of(alloc, &text)?, Some((Rule::P4, 1)), "a text of 256 bytes");
+    assert_eq!(rt;
+        fault_of(alloc, &text)?,
+        Some((Rule::P4, 1)),
+        "a text of 256 bytes"
+    );
     Ok(())
 }
