@@ -1,5 +1,5 @@
 //! Sessions: what was sent from each end, and who took it.
-use sj_base::{EndId, NoMemory};
+use sj_base::NoMemory;
 use sj_lang::{Connect, EndDecl, Item, Proto, ProtocolDef, copied};
 use sj_semantics::Passed;
 use std::alloc::Global;

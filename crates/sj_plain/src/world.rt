@@ -1,5 +1,5 @@
 //! The plain world.
-ghost use Rattle.std.specs.Prelude.{◌≡◌, ◌+◌, ◌<◌, ◌≤◌, vec_len, IfOk, IfSome, OnErr, OnOk, IsErrOf, slice_get, Some};
+ghost use Rattle.std.specs.Prelude.{◌≡◌, ◌+◌, ◌<◌, ◌≤◌, vec_len, IfOk, IfSome, OnErr, OnOk, IsErrOf};
 
 use crate::parties::{MAX_STEPS, Party};
 use crate::sessions::Session;

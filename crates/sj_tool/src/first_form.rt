@@ -5,7 +5,7 @@ ghost use Rattle.std.specs.Prelude.{◌≡◌, vec_len, IfOk};
 
 use crate::reader::{Reader, Refusal};
 use sj_lang::{
-    Connect, Deed, EndDecl, Expr, File, Item, Kind, Names, Party, Proto, ProtocolDef, Scalar, Stmt,
+    Connect, Deed, EndDecl, Expr, File, Item, Kind, Party, Proto, ProtocolDef, Scalar, Stmt,
 };
 use std::alloc::Global;
 

@@ -1,4 +1,5 @@
-//! What no clause says: which files are of the first form, the texts, and that each answer can come.
+//! What no clause says: which files are of the first form, what is printed, and that each answer
+//! can come.
 use crate::sj;
 use sj_base::{MemSink, MemSource};
 use std::alloc::Global;
@@ -113,11 +114,14 @@ fn a_failed_read_is_a_read_fault(rt: HostRuntime) -> Result<(), Fail> {
 
 #[test]
 fn a_failed_write_leaves_a_front_of_the_text(rt: HostRuntime) -> Result<(), Fail> {
-    for (call, front) in [
-        (0, ""),
-        (1, "session 0 a x b "),
-        (2, "session 0 a x b y\n0.0 0 a b int "),
-    ] {
+    let fronts = [
+        "",
+        "session 0 a x b ",
+        "session 0 a x b y\n0.0 0 a b int ",
+        "session 0 a x b y\n0.0 0 a b int 5\nparty a ended ",
+        "session 0 a x b y\n0.0 0 a b int 5\nparty a ended 2\nparty b ended ",
+    ];
+    for (call, front) in [0, 1, 2, 3, 4].into_iter().zip(fronts) {
         let file = text_of(rt.alloc(), &[P, Q, A, B, TO])?;
         let (status, out) = answer(rt.alloc(), &["run"], file, &[], &[call])?;
         assert_eq!(rt; out.text(), front.as_bytes(), "at call {call}");

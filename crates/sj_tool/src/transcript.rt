@@ -1,7 +1,7 @@
 //! The transcript of a settled world.
 //!
 //! After want of memory the text has only a front of what was to be put behind it.
-ghost use Rattle.std.specs.Prelude.{◌≡◌, ◌++◌, ◌∷◌, [], ◌<◌, ◌≤◌, vec_len, OnOk, decimal};
+ghost use Rattle.std.specs.Prelude.{◌≡◌, ◌++◌, ◌∷◌, ◌<◌, ◌≤◌, vec_len, OnOk, decimal};
 ghost use Rattle.sj_plain.specs.Plain.{party_count, session_count};
 
 use itoa::Buffer;
