@@ -12,9 +12,10 @@ use Rattle.sj_grammar.specs.Places.{Pieces}
 use Rattle.sj_grammar.specs.Expressions as level
 use Rattle.sj_grammar.specs.ExpressionDues.{ExpressionDue, whole, factor, times, plus, compare, after_minus, fixed, expression_at, is_operand, factor_follow}
 use Rattle.sj_grammar.proofs.Spellings.{IsHeld}
-use Rattle.sj_expr.proofs.TokenLemmas.{bytes_same, text_quoted}
+use Rattle.sj_expr.proofs.TokenLemmas.{text_quoted}
 use Rattle.sj_expr.proofs.NumberLemmas.{small_number}
 use Rattle.sj_expr.proofs.Writes.{Writes, w_as, w_number, w_minus, w_true, w_false, w_text, w_name, w_not, w_parens, w_factor, w_term}
+use Rattle.sj_expr.proofs.TestLemmas.{bytes_same}
 
 module _ (names : Spelling) where
   -- the pieces are what is due; what may follow goes on what stands before it

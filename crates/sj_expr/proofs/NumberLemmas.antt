@@ -12,7 +12,7 @@ use Rattle.std.proofs.lemmas.Fmt.{decimal-digits_value}
 use Rattle.sj_grammar.specs.Bytes.{is_digit}
 use Rattle.sj_grammar.specs.Lexis.{most, has_leading_zero}
 use Rattle.sj_grammar.specs.Literals.{is_number, is_largest}
-use Rattle.sj_expr.proofs.TokenLemmas.{and_first, and_second, bytes_are}
+use Rattle.sj_expr.proofs.TestLemmas.{and_first, and_second, bytes_are}
 
 digit_is : (c : ℕ) → is_digit c ≡ true → (48 ≤ c) × (c ≤ 57)
 digit_is c t = (grind (arith, nat_tests), grind (arith, nat_tests))

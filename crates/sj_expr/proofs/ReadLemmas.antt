@@ -1,8 +1,7 @@
 -- What was read, one part after another.
-use Rattle.std.proofs.Common.{◌≡◌, ℕ, ◌<◌, ◌≤◌, Bool, true, false, List, [], ◌∷◌, ◌++◌, length, Some, refl, ap, sym, subst, ◌∙◌, arith}
-use Rattle.std.specs.Prelude.{codes, if◌then◌else◌}
-use Rattle.std.specs.List.{list_any, list_all}
-use Rattle.std.specs.Str.{bytes_eq}
+use Rattle.std.proofs.Common.{◌≡◌, ℕ, ◌<◌, ◌≤◌, true, false, List, [], ◌∷◌, ◌++◌, length, Some, refl, ap, sym, subst, ◌∙◌, arith}
+use Rattle.std.specs.Prelude.{codes}
+use Rattle.std.specs.List.{list_all}
 use Rattle.std.proofs.lemmas.Option.{slice_get-get_or}
 use Rattle.sj_lang.specs.Words.{IsFirstPlace}
 use Rattle.sj_lang.specs.declared.party.Op.{Op}
@@ -22,19 +21,11 @@ use Rattle.sj_grammar.specs.Expressions.{Level, Spelt}
 use Rattle.sj_grammar.specs.Expressions as level
 use Rattle.sj_grammar.proofs.Stuckness.{Begins-append}
 use Rattle.sj_proto.specs.Parsed.{Gives, Extends}
-use Rattle.sj_proto.proofs.Given.{Extends-refl, Extends-trans, Begins-grows, spells_less, took_plain}
+use Rattle.sj_proto.proofs.Given.{grows_one, Extends-refl, Extends-trans, Begins-grows, spells_less, took_plain}
 use Rattle.sj_proto.proofs.Tables.{within_is, here_is}
 use Rattle.sj_expr.specs.Read.{Agrees, Reads, ReadsLevel, TextSpelled, Grows, StaysWithin}
 use Rattle.sj_expr.specs.Signs.{op_piece}
 use Rattle.sj_expr.proofs.TokenLemmas.{text_quoted}
-
-grows_one : (ws : List (List ℕ)) (s : List ℕ) (b : Bool) → Extends ws (if b then with_entry ws s else ws)
-grows_one ws s false = Extends-refl ws
-grows_one ws s true = by_test (list_any (λ w. bytes_eq w s) ws)
-  where
-    by_test : (b : Bool) → Extends ws (if b then ws else ws ++ s ∷ [])
-    by_test true = Extends-refl ws
-    by_test false = record { more = s ∷ []; whole = refl }
 
 texts_grow : (ps : Pieces) (a b : At) → Begins a ps b → Extends a.texts b.texts
 texts_grow [] a b h = subst (λ (x : At). Extends a.texts x.texts) h (Extends-refl a.texts)

@@ -6,7 +6,8 @@ use Rattle.std.specs.Str.{bytes_eq}
 use Rattle.std.proofs.Math.Seq.{get_or-append_seam}
 use Rattle.std.proofs.lemmas.List.{take-append-drop}
 use Rattle.sj_grammar.specs.Literals.{quoted, inner}
-use Rattle.sj_expr.proofs.TokenLemmas.{bytes_same, bytes_are, long_by_one}
+use Rattle.sj_expr.proofs.TokenLemmas.{long_by_one}
+use Rattle.sj_expr.proofs.TestLemmas.{bytes_same, bytes_are}
 
 none_left : (t : List ℕ) → length t ≡ 0 → t ≡ []
 none_left [] e = refl

@@ -1,40 +1,16 @@
--- Which tokens are operands.
-use Rattle.std.proofs.Common.{◌≡◌, ℕ, suc, ◌-◌, ◌<◌, ◌≤◌, Bool, true, false, List, [], ◌∷◌, ◌++◌, length, take, drop, refl, ap, sym, subst, ◌∙◌, arith}
-use Rattle.std.specs.Prelude.{codes, ◌||◌, ◌&&◌, not, nat_lt, nat_eq}
+-- Numbers, names and texts are different tokens.
+use Rattle.std.proofs.Common.{◌≡◌, ℕ, suc, ◌-◌, ◌<◌, Bool, true, false, List, [], ◌∷◌, ◌++◌, length, take, drop, refl, ap, sym, subst, ◌∙◌, arith}
+use Rattle.std.specs.Prelude.{codes, ◌&&◌, not, nat_lt, nat_eq}
 use Rattle.std.specs.List.{list_all}
 use Rattle.std.specs.Str.{bytes_eq}
 use Rattle.std.specs.Str.Parse.{digits_value}
-use Rattle.std.proofs.lemmas.Bool.{le-ltb, ne_eqb}
+use Rattle.std.proofs.lemmas.Bool.{ne_eqb}
 use Rattle.std.proofs.lemmas.Bool.Decides.{nat_tests}
-use Rattle.std.proofs.lemmas.Slice.Eq.{bytes_eq-Decides}
 use Rattle.sj_grammar.specs.Bytes.{is_letter, is_word_byte, is_digit, is_printable}
-use Rattle.sj_grammar.specs.Limits.{Limits}
 use Rattle.sj_grammar.specs.Lexis.{most}
 use Rattle.sj_grammar.specs.Names.{is_name, is_reserved}
 use Rattle.sj_grammar.specs.Literals.{is_number, is_largest, is_text, quoted, inner}
-use Rattle.sj_grammar.specs.ExpressionDues.{is_operand, is_long}
-
-pub and_first : (x y : Bool) → (x && y) ≡ true → x ≡ true
-and_first true y t = refl
-and_first false y t = t
-
-pub and_second : (x y : Bool) → (x && y) ≡ true → y ≡ true
-and_second true y t = t
-and_second false y t = let no : ⊥ = cc in absurd no
-
-pub and_both : (x y : Bool) → x ≡ true → y ≡ true → (x && y) ≡ true
-and_both true y t u = u
-and_both false y t u = t
-
-and_none : (x : Bool) → (x && false) ≡ false
-and_none true = refl
-and_none false = refl
-
-pub bytes_same : (a b : List ℕ) → bytes_eq a b ≡ true → a ≡ b
-bytes_same a b e = (bytes_eq-Decides a b).0 e
-
-pub bytes_are : (a b : List ℕ) → a ≡ b → bytes_eq a b ≡ true
-bytes_are a b e = (bytes_eq-Decides a b).1 e
+use Rattle.sj_expr.proofs.TestLemmas.{bytes_same, bytes_are, and_first, and_second, and_both, and_none}
 
 -- a digit is no letter
 digit_no_letter : (b : ℕ) → is_digit b ≡ true → is_letter b ≡ false
@@ -85,11 +61,6 @@ name_no_number s t =
     let x = name_byte s t in
     subst (λ (u : List ℕ). is_number u ≡ false) (sym x.2) (no_number_at x.0 x.1 (letter_no_digit x.0 x.3))
 
-pub name_no_text : (s : List ℕ) → is_name s ≡ true → is_text s ≡ false
-name_no_text s t =
-    let x = name_byte s t in
-    subst (λ (u : List ℕ). is_text u ≡ false) (sym x.2) (no_text_at x.0 x.1 (letter_other x.0 34 x.3 refl))
-
 -- the largest number is the one that is too large elsewhere
 pub no_largest : (s : List ℕ) → digits_value 10 s < most → is_largest s ≡ false
 no_largest s h = by_test (is_largest s) refl
@@ -124,75 +95,5 @@ text_quoted s t = (bytes_same s (quoted (inner s)) (and_first _ _ t), and_second
 pub text_no_number : (t : List ℕ) → is_number (quoted t) ≡ false
 text_no_number t = no_number_at 34 (t ++ 34 ∷ []) refl
 
--- each kind of operand is one
-or_first : (x y : Bool) → x ≡ true → (x || y) ≡ true
-or_first true y e = refl
-or_first false y e = let no : ⊥ = cc in absurd no
-
-pub number_operand : (s : List ℕ) → is_number s ≡ true → is_largest s ≡ false → is_operand s ≡ true
-number_operand s t f = rw (t, f) refl
-
-pub text_operand : (s : List ℕ) → is_text s ≡ true → is_operand s ≡ true
-text_operand s t = by_test (is_number s && not (is_largest s))
-  where
-    by_test : (b : Bool) → (b || (is_text s || (is_name s || (bytes_eq s (codes "true") || bytes_eq s (codes "false"))))) ≡ true
-    by_test true = refl
-    by_test false = rw t refl
-
-pub name_operand : (s : List ℕ) → is_name s ≡ true → is_operand s ≡ true
-name_operand s t = rw (name_no_number s t, name_no_text s t, t) refl
-
-pub true_operand : is_operand (codes "true") ≡ true
-unfolding is_reserved
-true_operand = refl
-
-pub false_operand : is_operand (codes "false") ≡ true
-unfolding is_reserved
-false_operand = refl
-
--- and none of these is too long
-pub number_short : (L : Limits) (s : List ℕ) → is_number s ≡ true → is_long L s ≡ false
-number_short L s t = rw (number_no_text s t, number_no_name s t) refl
-
-pub text_short : (L : Limits) (t : List ℕ) → length t ≤ L.text → is_long L (quoted t) ≡ false
-text_short L t h = rw (inner_quoted t, le-ltb L.text (length t) h) (no_part _)
-  where
-    no_part : (b : Bool) → ((b && false) || false) ≡ false
-    no_part true = refl
-    no_part false = refl
-
-pub name_short : (L : Limits) (s : List ℕ) → is_name s ≡ true → length s ≤ L.name → is_long L s ≡ false
-name_short L s t h = rw (name_no_text s t, t, le-ltb L.name (length s) h) refl
-
-pub true_short : (L : Limits) → is_long L (codes "true") ≡ false
-unfolding is_reserved
-true_short L = refl
-
-pub false_short : (L : Limits) → is_long L (codes "false") ≡ false
-unfolding is_reserved
-false_short L = refl
-
-pub minus_no_operand : is_operand (codes "-") ≡ false
-minus_no_operand = refl
-
-pub not_no_operand : is_operand (codes "not") ≡ false
-unfolding is_reserved
-not_no_operand = refl
-
-pub open_no_operand : is_operand (codes "(") ≡ false
-open_no_operand = refl
-
-pub true_no_name : is_name (codes "true") ≡ false
-unfolding is_reserved
-true_no_name = refl
-
-pub false_no_name : is_name (codes "false") ≡ false
-unfolding is_reserved
-false_no_name = refl
-
 pub text_no_name : (s : List ℕ) → is_text s ≡ true → is_name s ≡ false
 text_no_name s t = subst (λ (u : List ℕ). is_name u ≡ false) (sym (text_quoted s t).0) refl
-
-pub not_no_name : is_name (codes "not") ≡ false
-unfolding is_reserved
-not_no_name = refl

@@ -14,9 +14,11 @@ use Rattle.sj_grammar.specs.Expressions.{Spelt}
 use Rattle.sj_grammar.specs.Expressions as level
 use Rattle.sj_grammar.proofs.Spellings.{same_first}
 use Rattle.sj_expr.specs.Ends.{Ends}
-use Rattle.sj_expr.proofs.Shapes.{Shape, leaf, minus, negated, joined, wants, has, moved, Sign, sign_by, sign_of, by_term, reading, leaf_by, IsShapeOf}
+use Rattle.sj_expr.proofs.Shapes.{Shape, leaf, minus, negated, joined, wants, has, moved, Sign, sign_by, sign_of, by_term, reading}
 use Rattle.sj_expr.proofs.Shapes
-use Rattle.sj_expr.proofs.Readings.{IsEnd, First, reads}
+use Rattle.sj_expr.proofs.Readings.{reads}
+use Rattle.sj_expr.proofs.FrameLemmas.{IsEnd, First}
+use Rattle.sj_expr.proofs.ShapeTerms.{leaf_by, IsShapeOf}
 
 module _ (L : Limits) (names : Spelling) where
   one_leaf : (a b c d : Bool) (s : List ℕ) (t u : Term) → leaf_by L names a b c d s t → leaf_by L names a b c d s u → t ≡ u

@@ -11,10 +11,11 @@ use Rattle.sj_grammar.specs.ExpressionDues.{ExpressionDue, whole, expression_fol
 use Rattle.sj_grammar.proofs.Steps.{or_else, due_behind, onward_goes, step_due, step_refused, step_over, one_due, run_split}
 use Rattle.sj_grammar.proofs.Spellings.{IsHeld, AllHeld, spelling_of, held_at, all_held}
 use Rattle.sj_expr.specs.Viable.{IsWhole, IsViable, GoesWrong}
-use Rattle.sj_expr.proofs.Runs.{IsWithin, expression_runs}
+use Rattle.sj_expr.proofs.Runs.{IsWithin}
 use Rattle.sj_expr.proofs.Writes.{w_as}
 use Rattle.sj_expr.proofs.Completed.{Alls, alls_split, done}
 use Rattle.sj_expr.proofs.Unfollowed.{unfollow, none_spelled, some_spelled}
+use Rattle.sj_expr.proofs.WholeRuns.{expression_runs}
 
 module _ (names : Spelling) where
   due_back : (ds es : List ExpressionDue) (s : List ℕ) (ts : Pieces) → IsHeld names s → due_behind expression_layer ds s ≡ Some es → Alls names es ts → Alls names ds (s ∷ ts)

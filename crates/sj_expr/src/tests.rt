@@ -1,15 +1,35 @@
 //! Expressions as texts, their trees and their faults.
+ghost use Rattle.std.specs.Prelude.{◌≡◌, []};
+
 use crate::parse_expression;
 use sj_lang::{Expr, Names, Op, Words};
 use sj_proto::{ParseRefusal, Rule, Tokens};
 use std::alloc::Global;
 use std::test::Fail;
 
-fn no_names(alloc: Global) -> Names {
+fn no_names(alloc: Global) -> Names
+    ensures words { result.words ≡ [] }
+    ensures texts { result.texts ≡ [] }
+{
     Names {
         words: Words::new(alloc),
         texts: Words::new(alloc),
     }
+}
+
+// The expression at the front, or why there is none; and whether that token comes next.
+fn parsed(
+    alloc: Global,
+    text: &[u8],
+    next: &[u8],
+) -> Result<(Result<Expr, ParseRefusal>, bool), Fail> {
+    if text.len() > Tokens::MOST_BYTES {
+        return Err(Fail::from("too long"));
+    }
+    let mut names = no_names(alloc);
+    let mut tokens = Tokens::over(text);
+    let answer = parse_expression(alloc, &mut tokens, &mut names);
+    Ok((answer, tokens.sees(next)))
 }
 
 fn sign_of(op: Op) -> &'static str {
@@ -44,12 +64,7 @@ fn tree_of(alloc: Global, value: &Expr) -> Result<String, Fail> {
 
 // The tree of the expression at the front.
 fn read(alloc: Global, text: &[u8]) -> Result<String, Fail> {
-    if text.len() > Tokens::MOST_BYTES {
-        return Err(Fail::from("too long"));
-    }
-    let mut names = no_names(alloc);
-    let mut tokens = Tokens::over(text);
-    match parse_expression(alloc, &mut tokens, &mut names) {
+    match parsed(alloc, text, b"")?.0 {
         Ok(value) => tree_of(alloc, &value),
         Err(_) => Err(Fail::from("refused")),
     }
@@ -57,12 +72,7 @@ fn read(alloc: Global, text: &[u8]) -> Result<String, Fail> {
 
 // The rule and the column of the fault; None where an expression stands at the front.
 fn fault_of(alloc: Global, text: &[u8]) -> Result<Option<(Rule, u32)>, Fail> {
-    if text.len() > Tokens::MOST_BYTES {
-        return Err(Fail::from("too long"));
-    }
-    let mut names = no_names(alloc);
-    let mut tokens = Tokens::over(text);
-    match parse_expression(alloc, &mut tokens, &mut names) {
+    match parsed(alloc, text, b"")?.0 {
         Ok(_) => Ok(None),
         Err(ParseRefusal::At(fault)) => Ok(Some((fault.rule, fault.column))),
         Err(ParseRefusal::NoMemory) => Err(Fail::from("memory")),
@@ -122,13 +132,8 @@ fn an_expression_ends_before_what_goes_on_with_none(rt: HostRuntime) -> Result<(
         ("(a) b", "b"),
         ("1 ; +", ";"),
     ] {
-        let mut names = no_names(alloc);
-        let bytes = text.as_bytes();
-        assert!(rt; bytes.len() <= 65_536);
-        let mut tokens = Tokens::over(bytes);
-        let read = parse_expression(alloc, &mut tokens, &mut names).is_ok();
-        assert!(rt; read, "at {text}");
-        assert!(rt; tokens.sees(next.as_bytes()), "behind {text}");
+        let (answer, sees) = parsed(alloc, text.as_bytes(), next.as_bytes())?;
+        assert!(rt; answer.is_ok() && sees, "at {text}");
     }
     Ok(())
 }

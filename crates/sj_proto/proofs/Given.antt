@@ -31,7 +31,7 @@ Extends-trans a b c h k = record { more = h.more ++ k.more; whole = k.whole ∙ 
 pub kept_on : {a b c : Names} → Keeps a b → Keeps b c → Keeps a c
 kept_on {a} {b} {c} h k = record { words = Extends-trans a.words b.words c.words h.words k.words; texts = k.texts ∙ h.texts }
 
-grows_one : (ws : List (List ℕ)) (s : List ℕ) (named : Bool) → Extends ws (if named then with_entry ws s else ws)
+pub grows_one : (ws : List (List ℕ)) (s : List ℕ) (named : Bool) → Extends ws (if named then with_entry ws s else ws)
 grows_one ws s false = Extends-refl ws
 grows_one ws s true = by_test (list_any (λ w. bytes_eq w s) ws)
   where

@@ -11,8 +11,9 @@ use Rattle.sj_grammar.specs.Asked.{spelled_next}
 use Rattle.sj_grammar.specs.Expressions as level
 use Rattle.sj_expr.specs.Read.{ReadsLevel}
 use Rattle.sj_expr.proofs.NumberLemmas.{no_number, some_number}
-use Rattle.sj_expr.proofs.FactorLemmas.{no_number_inside, full_number_inside, minus_reads}
 use Rattle.sj_expr.proofs.taking.take_negative.Goals as goal
+use Rattle.sj_expr.proofs.FactorReads.{minus_reads}
+use Rattle.sj_expr.proofs.FactorFaults.{no_number_inside, full_number_inside}
 
 pub returns-in_default-clause-fault : goal.returns-in_default-clause-fault
 returns-in_default-clause-fault c = λ o words texts.
@@ -37,4 +38,4 @@ returns-clause-reads c = λ o words texts.
     let value = parts.1 ∙ ap (digits_value 10) same in
     let term_is = term_of-Int _ ∙ ap term.int (to_z-of_z c.negative_of.ensures.fits ∙ c.negative_of.ensures.value ∙ ap (λ (v : ℕ). neg_ℤ (pos v)) value) in
     subst (λ (t : Term). ReadsLevel level.factor o (at c.args.tokens.now words texts) (at c.take_piece.new.tokens words texts) t) (sym term_is)
-    (minus_reads c.args.count.now o c.args.tokens.now q words texts (c.accept-minus.ensures.taken (c.accept-minus.ensures.answer ∙ c.requires.minus)) c.take_piece.new.tokens s is c.take_piece.ensures.taken)
+    (minus_reads o c.args.tokens.now q c.take_piece.new.tokens words texts s (c.accept-minus.ensures.taken (c.accept-minus.ensures.answer ∙ c.requires.minus)) is c.take_piece.ensures.taken)

@@ -13,9 +13,10 @@ use Rattle.sj_expr.specs.Operands.{IsOperandOf, IsSmall}
 use Rattle.sj_expr.specs.Read.{ReadsLevel}
 use Rattle.sj_expr.proofs.NumberLemmas.{small_number}
 use Rattle.sj_expr.proofs.ReadLemmas.{name_read}
-use Rattle.sj_expr.proofs.FactorLemmas.{is_an_operand, full_inside, text_inside, name_inside, number_reads, true_reads, false_reads, text_factor}
 use Rattle.sj_expr.proofs.Exits.{err_fault}
 use Rattle.sj_expr.proofs.taking.take_operand.Goals as goal
+use Rattle.sj_expr.proofs.FactorReads.{number_reads, true_reads, false_reads, text_factor}
+use Rattle.sj_expr.proofs.FactorFaults.{is_an_operand, full_inside, text_inside, name_inside}
 
 pub returns-then-count-ge-MOST_OPERANDS-clause-fault : goal.returns-then-count-ge-MOST_OPERANDS-clause-fault
 returns-then-count-ge-MOST_OPERANDS-clause-fault c = λ o.
@@ -42,7 +43,7 @@ returns-in-Number-clause-reads c = λ o.
     let below : c.in-Number.value < 2 ^ 63 = subst (λ (v : ℕ). v < 2 ^ 63) (sym small.value) (small_number s small.number small.other) in
     let term_is = term_of-Int _ ∙ ap term.int (to_z_pos w64 below ∙ ap pos small.value) in
     subst (λ (t : Term). ReadsLevel level.factor o (standing c.args.tokens.now c.args.names.now) (standing c.take_piece.new.tokens c.args.names.now) t) (sym term_is)
-    (number_reads c.args.count.now o c.args.tokens.now c.take_piece.new.tokens c.args.names.now.words c.args.names.now.texts s small.number small.other c.take_piece.ensures.taken)
+    (number_reads o c.args.tokens.now c.take_piece.new.tokens c.args.names.now.words c.args.names.now.texts s small.number small.other c.take_piece.ensures.taken)
 
 pub returns-in_ok-n-in-Text-clause-reads : goal.returns-in_ok-n-in-Text-clause-reads
 returns-in_ok-n-in-Text-clause-reads c = λ o.
@@ -58,12 +59,12 @@ pub returns-in-True-clause-reads : goal.returns-in-True-clause-reads
 returns-in-True-clause-reads c = λ o.
     let is = c.take_piece-in-True.ensures.piece ∙ subst (λ (o : Operand). IsOperandOf o (spelled_next (next_of c.args.tokens.now.ahead))) c.in-True.is c.requires.stands in
     subst (λ (t : Term). ReadsLevel level.factor o (standing c.args.tokens.now c.args.names.now) (standing c.take_piece-in-True.new.tokens c.args.names.now) t) (sym (term_of-Bool true))
-    (true_reads c.args.count.now o c.args.tokens.now c.take_piece-in-True.new.tokens c.args.names.now.words c.args.names.now.texts
+    (true_reads o c.args.tokens.now c.take_piece-in-True.new.tokens c.args.names.now.words c.args.names.now.texts
     (subst (λ (x : List ℕ). TakesText c.args.tokens.now x c.take_piece-in-True.new.tokens) is c.take_piece-in-True.ensures.taken))
 
 pub returns-in-False-clause-reads : goal.returns-in-False-clause-reads
 returns-in-False-clause-reads c = λ o.
     let is = c.take_piece-in-False.ensures.piece ∙ subst (λ (o : Operand). IsOperandOf o (spelled_next (next_of c.args.tokens.now.ahead))) c.in-False.is c.requires.stands in
     subst (λ (t : Term). ReadsLevel level.factor o (standing c.args.tokens.now c.args.names.now) (standing c.take_piece-in-False.new.tokens c.args.names.now) t) (sym (term_of-Bool false))
-    (false_reads c.args.count.now o c.args.tokens.now c.take_piece-in-False.new.tokens c.args.names.now.words c.args.names.now.texts
+    (false_reads o c.args.tokens.now c.take_piece-in-False.new.tokens c.args.names.now.words c.args.names.now.texts
     (subst (λ (x : List ℕ). TakesText c.args.tokens.now x c.take_piece-in-False.new.tokens) is c.take_piece-in-False.ensures.taken))

@@ -1,10 +1,7 @@
--- The first tokens of a factor: what was read, and where a fault is.
+-- Faults at the first tokens of a factor.
 use Rattle.std.proofs.Common.{◌≡◌, ℕ, ◌≤◌, Bool, true, false, List, [], ◌∷◌, length, Option, Some, None, refl, ap, sym, subst, ◌∙◌}
-use Rattle.std.specs.Prelude.{codes, if◌then◌else◌, ◌||◌, nat_le, nat_lt, pos, neg_ℤ}
-use Rattle.std.specs.Str.Parse.{digits_value}
+use Rattle.std.specs.Prelude.{codes, if◌then◌else◌, ◌||◌, nat_le, nat_lt}
 use Rattle.std.proofs.lemmas.Bool.{le-leb}
-use Rattle.sj_lang.specs.Term.{Term}
-use Rattle.sj_lang.specs.Term as term
 use Rattle.sj_grammar.specs.declared.tokens.Rule.{Rule}
 use Rattle.sj_grammar.specs.declared.tokens.Rule.TheVariants.{P1, P4}
 use Rattle.sj_grammar.specs.declared.tokens.Fault.{Fault}
@@ -13,10 +10,9 @@ use Rattle.sj_grammar.specs.Lexis.{Ahead, at_end, bad, token, next_of}
 use Rattle.sj_grammar.specs.Reading.{Reading, before_next, fault_at}
 use Rattle.sj_grammar.specs.Names.{is_name}
 use Rattle.sj_grammar.specs.Literals.{is_number, is_largest, is_text, inner}
-use Rattle.sj_grammar.specs.Places.{Pieces, At, at, Takes}
+use Rattle.sj_grammar.specs.Places.{At, at, Takes}
 use Rattle.sj_grammar.specs.Faults.{broken, StuckInside, fault_next, first_rule}
 use Rattle.sj_grammar.specs.Asked.{TakesText, spelled_next, Refuses, refused, but_name}
-use Rattle.sj_grammar.specs.Expressions as level
 use Rattle.sj_grammar.specs.ExpressionDues.{factor, after_minus, is_operand, is_long, expression_layer}
 use Rattle.sj_grammar.proofs.Inside.{inside_here, inside_cons}
 use Rattle.sj_proto.proofs.Given.{took_plain}
@@ -24,11 +20,12 @@ use Rattle.sj_expr.specs.Operands.{IsOperandOf}
 use Rattle.sj_expr.specs.declared.operands.Operand.{Operand}
 use Rattle.sj_expr.specs.declared.operands.Operand.TheVariants as operands
 use Rattle.sj_expr.specs.Openings.{but_text}
-use Rattle.sj_expr.specs.Read.{Reads, ReadsLevel, TextSpelled}
-use Rattle.sj_expr.proofs.TokenLemmas.{bytes_same, number_operand, text_operand, name_operand, true_operand, false_operand, number_no_name, number_no_text, name_no_text, true_no_name, false_no_name}
-use Rattle.sj_expr.proofs.NumberLemmas.{largest_number, small_number}
+use Rattle.sj_expr.proofs.TokenLemmas.{number_no_text, name_no_number}
+use Rattle.sj_expr.proofs.NumberLemmas.{largest_number}
 use Rattle.sj_expr.proofs.Runs.{minus_step}
-use Rattle.sj_expr.proofs.ReadLemmas.{reads_one, reads_cons, reads_as}
+use Rattle.sj_proto.proofs.Names.{name_no_text}
+use Rattle.sj_expr.proofs.OperandLemmas.{number_operand, text_operand, name_operand, true_operand, false_operand}
+use Rattle.sj_expr.proofs.TestLemmas.{bytes_same}
 
 pub is_an_operand : (o : Operand) (s : List ℕ) → IsOperandOf o s → is_operand s ≡ true
 is_an_operand (operands.Number v) s h = number_operand s h.number h.other
@@ -79,25 +76,18 @@ module _ (n o : ℕ) where
           let none : ⊥ = cc in absurd none
       by_test false e = refl
 
-  text_no_number : (s : List ℕ) → is_text s ≡ true → is_number s ≡ false
-  text_no_number s t = by_test (is_number s) refl
+  text_is_no_number : (s : List ℕ) → is_text s ≡ true → is_number s ≡ false
+  text_is_no_number s t = by_test (is_number s) refl
     where
       by_test : (b : Bool) → is_number s ≡ b → b ≡ false
       by_test true e = let other = number_no_text s e in let none : ⊥ = cc in absurd none
-      by_test false e = refl
-
-  name_no_number : (s : List ℕ) → is_name s ≡ true → is_number s ≡ false
-  name_no_number s t = by_test (is_number s) refl
-    where
-      by_test : (b : Bool) → is_number s ≡ b → b ≡ false
-      by_test true e = let other = number_no_name s e in let none : ⊥ = cc in absurd none
       by_test false e = refl
 
   pub text_inside : (a : At) (f : Fault) → is_text (spelled_next (next_of a.text.ahead)) ≡ true → Refuses but_text a.text f → StuckInside expression_layer limits n a (factor o ∷ []) f
   text_inside a f t r =
       let x = next_of a.text.ahead in
       let s = spelled_next x in
-      let is = limit_is but_text x r.rule (nat_lt 255 (length (inner s))) (text_operand s t) (not_largest s (text_no_number s t)) refl r.refused in
+      let is = limit_is but_text x r.rule (nat_lt 255 (length (inner s))) (text_operand s t) (not_largest s (text_is_no_number s t)) refl r.refused in
       long_inside a f (text_operand s t) (rw (t, is.0) refl) (r.fault ∙ ap (fault_at (before_next a.text x)) is.1)
 
   pub name_inside : (a : At) (f : Fault) → is_name (spelled_next (next_of a.text.ahead)) ≡ true → Refuses (but_name false) a.text f → StuckInside expression_layer limits n a (factor o ∷ []) f
@@ -109,7 +99,7 @@ module _ (n o : ℕ) where
 
   -- behind a minus
   module _ (r q : Reading) (ws ts : List (List ℕ)) (minus : TakesText r (codes "-") q) where
-    minus_taken : Takes (at r ws ts) (codes "-") (at q ws ts)
+    pub minus_taken : Takes (at r ws ts) (codes "-") (at q ws ts)
     minus_taken = took_plain r q ws ts (codes "-") refl refl minus
 
     behind_minus : (f : Fault) (rule : Rule) → broken expression_layer limits n (after_minus ∷ []) (next_of q.ahead) ≡ Some rule → f ≡ fault_at (before_next q (next_of q.ahead)) rule
@@ -133,23 +123,3 @@ module _ (n o : ℕ) where
 
     pub full_number_inside : (f : Fault) → is_number (spelled_next (next_of q.ahead)) ≡ true → 256 ≤ n → f ≡ fault_at (before_next q (next_of q.ahead)) P4 → StuckInside expression_layer limits n (at r ws ts) (factor o ∷ []) f
     full_number_inside f t h same = behind_minus f P4 (full_breaks (next_of q.ahead) t h) same
-
-    pub minus_reads : (u : Reading) (s : List ℕ) → is_number s ≡ true → TakesText q s u → ReadsLevel level.factor o (at r ws ts) (at u ws ts) (term.int (neg_ℤ (pos (digits_value 10 s))))
-    minus_reads u s t number =
-        reads_cons (at r ws ts) (at q ws ts) (at u ws ts) (codes "-") (λ names ps. ps ≡ s ∷ []) (λ names ps. level.Spelt limits names level.factor o (term.int (neg_ℤ (pos (digits_value 10 s)))) ps) minus_taken
-        (λ names ps same. subst (λ (qs : Pieces). level.Spelt limits names level.factor o (term.int (neg_ℤ (pos (digits_value 10 s)))) (codes "-" ∷ qs)) (sym same) (level.of_minus t))
-        (reads_one (at q ws ts) (at u ws ts) s (λ names ps. ps ≡ s ∷ []) (took_plain q u ws ts s (number_no_name s t) (number_no_text s t) number) (λ names g. refl))
-
-  -- operands that get no number
-  pub number_reads : (r q : Reading) (ws ts : List (List ℕ)) (s : List ℕ) → is_number s ≡ true → is_largest s ≡ false → TakesText r s q → ReadsLevel level.factor o (at r ws ts) (at q ws ts) (term.int (pos (digits_value 10 s)))
-  number_reads r q ws ts s t small taken =
-      reads_one (at r ws ts) (at q ws ts) s _ (took_plain r q ws ts s (number_no_name s t) (number_no_text s t) taken) (λ names g. level.of_number t (small_number s t small))
-
-  pub true_reads : (r q : Reading) (ws ts : List (List ℕ)) → TakesText r (codes "true") q → ReadsLevel level.factor o (at r ws ts) (at q ws ts) (term.boolean true)
-  true_reads r q ws ts taken = reads_one (at r ws ts) (at q ws ts) (codes "true") _ (took_plain r q ws ts (codes "true") true_no_name refl taken) (λ names g. level.of_true)
-
-  pub false_reads : (r q : Reading) (ws ts : List (List ℕ)) → TakesText r (codes "false") q → ReadsLevel level.factor o (at r ws ts) (at q ws ts) (term.boolean false)
-  false_reads r q ws ts taken = reads_one (at r ws ts) (at q ws ts) (codes "false") _ (took_plain r q ws ts (codes "false") false_no_name refl taken) (λ names g. level.of_false)
-
-pub text_factor : (o : ℕ) (a b : At) (n : ℕ) → Reads a b (TextSpelled n) → ReadsLevel level.factor o a b (term.text n)
-text_factor o a b n r = reads_as a b (TextSpelled n) _ (λ names ps h. subst (λ (qs : Pieces). level.Spelt limits names level.factor o (term.text n) qs) (sym h.1) (level.of_text h.0)) r
