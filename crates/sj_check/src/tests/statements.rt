@@ -15,7 +15,7 @@ enum Value {
     TextLessNumber,
 }
 
-fn value(alloc: Global, v: Value) -> Result<Expr, Fail> {
+fn value_at(alloc: Global, v: Value) -> Result<Expr, Fail> {
     match v {
         Value::Number => Ok(Expr::Int(1)),
         Value::Truth => Ok(Expr::Bool(true)),
@@ -42,7 +42,7 @@ enum Body {
     SendsOnX,
 }
 
-fn body(alloc: Global, b: Body) -> Result<Vec<Stmt>, Fail> {
+fn body_at(alloc: Global, b: Body) -> Result<Vec<Stmt>, Fail> {
     match b {
         Body::Empty => Ok(Vec::new(alloc)),
         Body::Closes(end, line) => block(alloc, line, Deed::Close { end }),
@@ -75,7 +75,7 @@ fn send_asks_for_end_action_value_and_kind(rt: HostRuntime) -> Result<(), Fail> 
         (Ahead::Sends, X, Value::Truth, 7, "another kind"),
         (Ahead::Sends, X, Value::Known, 12, "a number"),
     ] {
-        let value = value(alloc, v)?;
+        let value = value_at(alloc, v)?;
         let found = fault_at(alloc, x, Ahead::Sends, Deed::Send { end, value })?;
         assert_eq!(rt; found, told(rule), "{shows}");
     }
@@ -209,7 +209,7 @@ fn branching(alloc: Global, labels: [u16; 3], first: Body) -> Result<Deed, Fail>
     let mut next = first;
     for label in labels {
         if label > 0 {
-            let body = body(alloc, next)?;
+            let body = body_at(alloc, next)?;
             arms.push(StmtArm { label, body })?;
             next = Body::Empty;
         }
@@ -305,8 +305,8 @@ fn outwhile_asks_for_action_count_and_body(rt: HostRuntime) -> Result<(), Fail> 
     ] {
         let deed = Deed::OutWhile {
             end: X,
-            count: value(alloc, v)?,
-            body: body(alloc, turn)?,
+            count: value_at(alloc, v)?,
+            body: body_at(alloc, turn)?,
         };
         assert_eq!(rt;
             fault_at(alloc, x, Ahead::Sends, deed)?,
@@ -341,7 +341,7 @@ fn inwhile_comes_back_to_its_beginning(rt: HostRuntime) -> Result<(), Fail> {
         ),
         (Ahead::Repeats, Body::Empty, 12, "the end comes back"),
     ] {
-        let body = body(alloc, turn)?;
+        let body = body_at(alloc, turn)?;
         let found = fault_at(alloc, x, Ahead::Nothing, Deed::InWhile { end: X, body })?;
         assert_eq!(rt; found, told(rule), "{shows}");
     }
@@ -393,7 +393,7 @@ fn relay_asks_for_both_ends_and_both_loops(rt: HostRuntime) -> Result<(), Fail> 
             "both come back",
         ),
     ] {
-        let body = body(alloc, turn)?;
+        let body = body_at(alloc, turn)?;
         let found = fault_at(alloc, x, w, Deed::Relay { from: X, to, body })?;
         assert_eq!(rt; found, told(rule), "{shows}");
     }
@@ -441,9 +441,9 @@ fn if_asks_for_test_arms_and_one_outcome(rt: HostRuntime) -> Result<(), Fail> {
         ),
     ] {
         let deed = Deed::If {
-            test: value(alloc, v)?,
-            yes: body(alloc, first)?,
-            no: body(alloc, second)?,
+            test: value_at(alloc, v)?,
+            yes: body_at(alloc, first)?,
+            no: body_at(alloc, second)?,
         };
         let found = fault_at(alloc, Ahead::Nothing, Ahead::Sends, deed)?;
         assert_eq!(rt; found, told(rule), "{shows}");
@@ -460,7 +460,7 @@ fn let_asks_for_value_and_name(rt: HostRuntime) -> Result<(), Fail> {
         (N, Value::Truth, 7, "a variable of another kind"),
         (N, Value::Known, 12, "a variable of that kind"),
     ] {
-        let value = value(alloc, v)?;
+        let value = value_at(alloc, v)?;
         let found = fault_at(alloc, Ahead::Sends, Ahead::Sends, Deed::Let { name, value })?;
         assert_eq!(rt; found, told(rule), "{shows}");
     }
