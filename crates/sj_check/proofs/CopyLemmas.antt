@@ -1,5 +1,5 @@
 -- Entries that are inserted in turn, and entries that both have.
-use Rattle.std.proofs.Common.{◌≡◌, ℕ, List, [], ◌∷◌, Option, Some, None, is_some, Bool, true, false, ◌&&◌, ◌==◌, cond, refl, ap, sym, ◌∙◌}
+use Rattle.std.proofs.Common.{◌≡◌, ℕ, List, [], ◌∷◌, Option, Some, None, is_some, Bool, true, false, ◌&&◌, cond, refl, ap, sym, ◌∙◌}
 use Rattle.std.specs.Ordering.{nat_cmp, eq_by_cmp}
 use Rattle.std.specs.Cmp.{nat_cmp_total, eq_by_cmp_equiv, unsigned_tied}
 use Rattle.std.specs.Bool.{Decides}
@@ -7,14 +7,14 @@ use Rattle.std.specs.Map.{lookup, update_all, keys_of}
 use Rattle.std.specs.List.{AllByRecursion}
 use Rattle.std.specs.List.Sorted.{IsStrictlySortedBy}
 use Rattle.std.specs.BTreeMap.{BTreeMap, is_at, IsOrdered}
-use Rattle.std.specs.FinMap.{FinMap, get, entries, same_map, same_entries_map, nat_cmp-IsAntisymmetric}
+use Rattle.std.specs.FinMap.{get, same_map, nat_cmp-IsAntisymmetric}
 use Rattle.std.proofs.lemmas.Map.Made.{update_all_none}
 use Rattle.std.proofs.lemmas.Map.Keys.{IsDistinct-from_sorted}
 use Rattle.std.proofs.lemmas.Map.Views.{All-found}
 use Rattle.std.proofs.lemmas.List.Elements.{recursion_from_All}
 use Rattle.std.proofs.lemmas.Bool.Decides.{Decides-eqb, Decides-and, Decides-like, same_from_decides}
 use Rattle.sj_lang.specs.Place.{Place}
-use Rattle.sj_acceptance.specs.Sameness.{is_same_place, is_same_list, is_same_ends}
+use Rattle.sj_acceptance.specs.Sameness.{is_same_place, is_same_ends}
 use Rattle.sj_check.specs.Maps.{map_at}
 use Rattle.sj_check.specs.Within.{is_that, within, keys_within}
 use Rattle.sj_check.proofs.MapLemmas.{get-map_at}

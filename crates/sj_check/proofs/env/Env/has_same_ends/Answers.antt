@@ -1,7 +1,7 @@
 use Rattle.std.proofs.Common.{◌≡◌, ◌∙◌, ◌&&◌, ap, sym}
 use Rattle.sj_acceptance.specs.Known.{Known}
 use Rattle.sj_acceptance.specs.Sameness.{is_same_ends}
-use Rattle.sj_check.specs.Within.{within, keys_within}
+use Rattle.sj_check.specs.Within.{keys_within}
 use Rattle.sj_check.proofs.CopyLemmas.{within-both}
 use Rattle.sj_check.proofs.env.Env.has_same_ends.Goals as goal
 

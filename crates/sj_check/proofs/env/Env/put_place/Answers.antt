@@ -1,6 +1,5 @@
 use Rattle.std.proofs.Common.{ap, ◌∙◌}
 use Rattle.sj_acceptance.specs.Known.{Known, moved}
-use Rattle.sj_check.specs.Maps.{map_at}
 use Rattle.sj_check.proofs.MapLemmas.{map_at-updated}
 use Rattle.sj_check.proofs.env.Env.put_place.Goals as goal
 

@@ -1,7 +1,6 @@
 use Rattle.std.proofs.Common.{ap, sym, ◌∙◌}
 use Rattle.std.specs.FinMap as map
 use Rattle.sj_acceptance.specs.Known.{Known, without}
-use Rattle.sj_check.specs.Maps.{map_at}
 use Rattle.sj_check.proofs.MapLemmas.{get-map_at, map_at-removed}
 use Rattle.sj_check.proofs.env.Env.take_place.Goals as goal
 
