@@ -5,7 +5,7 @@ use Rattle.sj_base.specs.declared.EndId.{EndId}
 use Rattle.sj_semantics.specs.Program.{without, bound}
 use Rattle.sj_machine.specs.declared.arena.Op.{Op}
 use Rattle.sj_machine.specs.declared.arena.Op.TheVariants.{Send, Delegate, Take, TakeEnd, Select, Branch, OutWhile, InWhile, Relay, If, Let, Close}
-use Rattle.sj_machine.specs.Names.{BindsBelow, Lacks, AreNamedOnce}
+use Rattle.sj_machine.specs.Names.{BindsBelow, Lacks, NamesDiffer, AreBelowName, AreNamedOnce}
 
 without_hit : (e : ℕ × EndId) (es : List (ℕ × EndId)) (n : ℕ) → e.0 == n ≡ true → without (e ∷ es) n ≡ without es n
 without_hit e es n h = ap (λ (t : Bool). cond (not t) (e ∷ without es n) (without es n)) h
@@ -99,3 +99,7 @@ binds_more a b (Relay x y body) l h = tt
 binds_more a b (If e first second) l h = tt
 binds_more a b (Let n e) l h = omega arith
 binds_more a b (Close x) l h = tt
+
+pub once_from : (size : ℕ) (es : List (ℕ × EndId)) → NamesDiffer es → AreBelowName size es → AreNamedOnce size es
+once_from size [] h b = tt
+once_from size (e ∷ es) h b = (b.0, h.0, once_from size es h.1 b.1)

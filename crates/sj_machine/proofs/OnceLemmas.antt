@@ -6,7 +6,7 @@ use Rattle.sj_base.specs.declared.EndId.{EndId}
 use Rattle.sj_lang.specs.FileAt.{FileAt, ConnectAt, party_named, body_named, end_of_party, ends_from}
 use Rattle.sj_lang.specs.Place.{Place}
 use Rattle.sj_acceptance.specs.Accepted.{place_of_party, places_from, IsAccepted}
-use Rattle.sj_machine.specs.Names.{Lacks, AreBelowName, AreNamedOnce}
+use Rattle.sj_machine.specs.Names.{Lacks, NamesDiffer}
 
 abbrev end_names : List (ℕ × EndId) → List ℕ
 end_names es = map (λ (b : ℕ × EndId). b.0) es
@@ -54,10 +54,10 @@ lacks_name : (n : ℕ) (es : List (ℕ × EndId)) → LacksName n (end_names es)
 lacks_name n [] h = tt
 lacks_name n (e ∷ es) h = (h.0, lacks_name n es h.1)
 
-named_once : (size : ℕ) (es : List (ℕ × EndId)) → StandOnce (end_names es) → AreBelowName size es → AreNamedOnce size es
-named_once size [] h b = tt
-named_once size (e ∷ es) h b = (b.0, lacks_name e.0 es h.0, named_once size es h.1 b.1)
+names_differ : (es : List (ℕ × EndId)) → StandOnce (end_names es) → NamesDiffer es
+names_differ [] h = tt
+names_differ (e ∷ es) h = (lacks_name e.0 es h.0, names_differ es h.1)
 
-pub connected_once : (file : FileAt) (p size : ℕ) (es : List (ℕ × EndId)) → IsAccepted file → es ≡ ends_from file p 0 file.connects → AreBelowName size es → AreNamedOnce size es
-connected_once file p size es accepted e below =
-    named_once size es (subst StandOnce (sym (ap end_names e ∙ same_names file p 0 file.connects)) (once_each (places_from file p file.connects) (accepted.ends_once p))) below
+pub connected_differ : (file : FileAt) (p : ℕ) → IsAccepted file → NamesDiffer (ends_from file p 0 file.connects)
+connected_differ file p accepted =
+    names_differ (ends_from file p 0 file.connects) (subst StandOnce (sym (same_names file p 0 file.connects)) (once_each (places_from file p file.connects) (accepted.ends_once p)))

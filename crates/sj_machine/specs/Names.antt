@@ -21,7 +21,12 @@ abbrev pub Lacks : ℕ → List (ℕ × EndId) → Type 0
 Lacks n [] = ⊤
 Lacks n (e ∷ es) = (e.0 ≢ n) × Lacks n es
 
--- no two ends have one name, and each name is below that number
+-- no two ends have one name
+abbrev pub NamesDiffer : List (ℕ × EndId) → Type 0
+NamesDiffer [] = ⊤
+NamesDiffer (e ∷ es) = Lacks e.0 es × NamesDiffer es
+
+-- and each name is below that number
 abbrev pub AreNamedOnce : ℕ → List (ℕ × EndId) → Type 0
 AreNamedOnce size [] = ⊤
 AreNamedOnce size (e ∷ es) = (e.0 < size) × Lacks e.0 es × AreNamedOnce size es

@@ -1,8 +1,11 @@
 -- What is true of every machine, and the party that it stands for.
 use Rattle.std.specs.Prelude.{ℕ, ◌<◌, ◌≤◌, List, [], Option, length}
 use Rattle.sj_base.specs.declared.EndId.{EndId}
+use Rattle.sj_lang.specs.declared.party.Stmt.{Stmt}
+use Rattle.sj_lang.specs.Code.{code_of}
 use Rattle.sj_semantics.specs.declared.Value.{Value}
-use Rattle.sj_semantics.specs.Program.{Program}
+use Rattle.sj_semantics.specs.Program.{Program, block}
+use Rattle.sj_semantics.specs.Value.{no_vars}
 use Rattle.sj_machine.specs.declared.arena.Node.{Node}
 use Rattle.sj_machine.specs.declared.stack.Frame.{Frame}
 use Rattle.sj_machine.specs.Arena.{IsBackward}
@@ -22,3 +25,7 @@ pub record IsSound (nodes : List Node) (frames : List Frame) (room names : ℕ) 
 -- the party that nodes, frames and their room, variables, ends and steps stand for
 abbrev pub program_at : List Node × (List Frame × ℕ) × List (Option Value) × List (ℕ × EndId) × ℕ → Program
 program_at m = record { todo = todo_in m.0 m.1.0; vars = vars_in m.2; ends = m.3; steps = m.4 }
+
+-- a party with these statements to do, these ends, and no variable
+abbrev pub first_program : List Stmt → List (ℕ × EndId) → Program
+first_program body ends = record { todo = block (code_of body) []; vars = no_vars; ends = ends; steps = 0 }

@@ -5,6 +5,7 @@ ghost use Rattle.sj_lang.specs.Term.{term_of};
 ghost use Rattle.sj_machine.specs.Arena.{AreBelow, IsBelow, IsOpBelow, act_in, arms_in, code_in};
 ghost use Rattle.sj_machine.specs.Frames.{LeadsBelow, thing_at, todo_after, turn_with, turns_at};
 ghost use Rattle.sj_machine.specs.Table.{vars_in};
+ghost use Rattle.sj_machine.specs.declared.stack.Stage.{Stage};
 ghost use Rattle.sj_semantics.specs.Program.{Thing};
 ghost use Rattle.sj_semantics.specs.Steps.{arm_taken, todo_after_local, todo_after_sent, todo_after_took};
 
@@ -16,8 +17,8 @@ use sj_lang::Expr;
 use sj_semantics::Value;
 
 /// After a step without a message.
-pub fn after_local(vars: &[Option<Value>], stage: Stage, op: &Op) -> After
-    ensures todo { (codes : List Code) (rest : List Thing) →
+pub fn after_local(vars: &[Option<Value>], op: &Op) -> After
+    ensures todo { (codes : List Code) (stage : Stage) (rest : List Thing) →
         todo_after_local (vars_in vars.now) (thing_at stage (act_in codes op.now) ∷ rest)
         ≡ todo_after codes (act_in codes op.now) result rest }
     ensures below { (k : ℕ) → IsOpBelow k op.now → LeadsBelow k result }

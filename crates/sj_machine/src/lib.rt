@@ -15,3 +15,6 @@ mod wanting;
 
 pub use machine::Machine;
 pub use sj_semantics::{Awaits, Want};
+
+#[cfg(test)]
+mod tests;

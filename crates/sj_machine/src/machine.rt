@@ -2,7 +2,8 @@
 ghost use Rattle.std.specs.Prelude.{◌≡◌, ◌<◌, IfOk, Some, length, slice_get, unwrap_or};
 ghost use Rattle.sj_acceptance.specs.Accepted.{IsAccepted};
 ghost use Rattle.sj_lang.specs.FileView.{file_of};
-ghost use Rattle.sj_machine.specs.Sound.{program_at};
+ghost use Rattle.sj_machine.specs.Names.{NamesDiffer};
+ghost use Rattle.sj_machine.specs.Sound.{first_program, program_at};
 ghost use Rattle.sj_semantics.specs.Start.{start_of};
 ghost use Rattle.sj_semantics.specs.declared.Want.TheVariants.{Ended};
 ghost use Rattle.sj_semantics.specs.Steps.{closed_of, local_of, sent_of, took_of};
@@ -15,7 +16,7 @@ use crate::starting::{connected_ends, names_above, unknown, with_room};
 use crate::steps::{closed, local, sent, took};
 use crate::wanting::{fits_at, want_at};
 use sj_base::{EndId, Msg, NoMemory};
-use sj_lang::File;
+use sj_lang::{File, Stmt};
 use sj_semantics::{Value, Want};
 use std::alloc::Global;
 use std::marker::Model;
@@ -58,11 +59,24 @@ impl Machine {
         ensures { IfOk result (λ m.
             slice_get (start_of (file_of file.now)).parties party ≡ Some (program_at m)) }
     {
-        let mut nodes = Vec::new(alloc);
-        let first = add_block(alloc, &mut nodes, &file.parties[party as usize].body)?;
         let connected = connected_ends(alloc, file, party)?;
-        let names = names_above(&nodes, &connected);
-        let ends = with_room(alloc, &connected, names)?;
+        let machine = Machine::over(alloc, &file.parties[party as usize].body, &connected)?;
+        Ok(machine)
+    }
+
+    /// A party with these statements to do, these ends, and no variable.
+    pub(crate) fn over(
+        alloc: Global,
+        body: &[Stmt],
+        connected: &[(u16, EndId)],
+    ) -> Result<Machine, NoMemory>
+        requires { NamesDiffer connected.now }
+        ensures { IfOk result (λ m. program_at m ≡ first_program body.now connected.now) }
+    {
+        let mut nodes = Vec::new(alloc);
+        let first = add_block(alloc, &mut nodes, body)?;
+        let names = names_above(&nodes, connected);
+        let ends = with_room(alloc, connected, names)?;
         let vars = unknown(alloc, names)?;
         let mut stack = Stack::new(alloc, nodes.len() + 1)?;
         stack.enter(first);

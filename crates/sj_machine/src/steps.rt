@@ -28,7 +28,7 @@ pub fn local(nodes: &Vec<Node>, stack: &mut Stack, vars: &mut [Option<Value>])
 {
     if let Some(frame) = stack.pop() {
         let node = &nodes[frame.at];
-        let after = after_local(vars, frame.stage, &node.op);
+        let after = after_local(vars, &node.op);
         stack.leave(frame, node.next, after);
         vars_local(vars, &node.op);
     }

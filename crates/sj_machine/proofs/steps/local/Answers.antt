@@ -15,7 +15,7 @@ pub vars_local-requires : goal.vars_local-requires
 vars_local-requires c = step_binds _ _ _ _ _ c.in-Some.ensures.some c.requires.back c.requires.fits c.index-node.ensures _ c.requires.named
 
 pub returns-in-Some-clause-todo : goal.returns-in-Some-clause-todo
-returns-in-Some-clause-todo c = step_todo _ _ _ _ _ c.in-Some.ensures.some c.requires.back c.requires.fits c.index-node.ensures c.leave.new.self.0 c.after_local-after.result (todo_after_local (vars_in c.args.vars.now)) c.leave.ensures.left (c.after_local-after.ensures.todo _)
+returns-in-Some-clause-todo c = step_todo _ _ _ _ _ c.in-Some.ensures.some c.requires.back c.requires.fits c.index-node.ensures c.leave.new.self.0 c.after_local-after.result (todo_after_local (vars_in c.args.vars.now)) c.leave.ensures.left (c.after_local-after.ensures.todo _ _)
 
 pub returns-in-Some-clause-vars : goal.returns-in-Some-clause-vars
 returns-in-Some-clause-vars c = step_makes _ _ _ _ _ c.in-Some.ensures.some c.requires.back c.requires.fits c.index-node.ensures _ (vars_after_local (vars_in c.args.vars.now)) (c.vars_local.ensures _ _)
