@@ -116,7 +116,7 @@ impl Machine {
 
     /// Does the next step, one without a message.
     pub fn local(&mut self)
-        requires { (program_at self.old).steps < 10000 }
+        requires { (program_at self.old).steps < 4294967295 }
         ensures { program_at self.new ≡ local_of (program_at self.old) }
     {
         local(&self.nodes, &mut self.stack, &mut self.vars);
@@ -125,7 +125,7 @@ impl Machine {
 
     /// Does the next step, one that sends a message or hands an end on.
     pub fn sent(&mut self)
-        requires { (program_at self.old).steps < 10000 }
+        requires { (program_at self.old).steps < 4294967295 }
         ensures { program_at self.new ≡ sent_of (program_at self.old) }
     {
         sent(&self.nodes, &mut self.stack, &self.vars, &mut self.ends);
@@ -134,7 +134,7 @@ impl Machine {
 
     /// Does the next step, one that takes the message.
     pub fn took(&mut self, msg: Msg)
-        requires { (program_at self.old).steps < 10000 }
+        requires { (program_at self.old).steps < 4294967295 }
         ensures { program_at self.new ≡ took_of (program_at self.old) msg }
     {
         took(
@@ -149,7 +149,7 @@ impl Machine {
 
     /// Does the next step, one that closes an end.
     pub fn closed(&mut self)
-        requires { (program_at self.old).steps < 10000 }
+        requires { (program_at self.old).steps < 4294967295 }
         ensures { program_at self.new ≡ closed_of (program_at self.old) }
     {
         closed(&self.nodes, &mut self.stack, &mut self.ends);
