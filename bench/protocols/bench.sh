@@ -1,0 +1,87 @@
+#!/usr/bin/env bash
+# Times the reading of protocols: builds crates/bench_protocols once, writes texts of three sizes and
+# three kinds, and prints the best and the median time of many runs on each, beyond those on an empty
+# text. `RUNS=20 bench/protocols/bench.sh` makes fewer runs than 200.
+set -euo pipefail
+runs=${RUNS:-200}
+top=$(cd "$(dirname "$0")/../.." && pwd)
+folder=$(mktemp -d)
+trap 'rm -rf "$folder"' EXIT
+
+# Up to 256 protocols of about 250 bytes, each with 48 labels that stand nowhere else.
+words() {
+    awk -v size="$1" 'BEGIN {
+        letters = "abcdefghijklmnopqrstuvwxyzABCDEFGHIJKLMNOPQRSTUVWXYZ_"
+        for (p = 0; p < 256; p++) {
+            line = "protocol p" p " { begin"
+            for (c = 0; c < 3; c++) {
+                arms = ""
+                for (l = 0; l < 16; l++) {
+                    n++
+                    word = substr(letters, n % 53 + 1, 1) substr(letters, int(n / 53) % 53 + 1, 1) int(n / 2809)
+                    arms = arms (l ? "," : "") word ":"
+                }
+                line = line ".!{" arms "}"
+            }
+            line = line " }\n"
+            if (used + length(line) > size) break
+            printf "%s", line
+            used += length(line)
+        }
+        while (used < size) { printf " "; used++ }
+    }'
+}
+
+# One protocol of 1,024 items, each as long as the size asks.
+items() {
+    awk -v size="$1" 'BEGIN {
+        printf "protocol p { begin"
+        used = 18
+        label = ""
+        while (length(label) < size / 1024 - 6) label = label "L"
+        for (i = 0; i < 1024; i++) { item = (i % 2 ? ".!{" : ".?{") label ":}"; printf "%s", item; used += length(item) }
+        printf " }"
+        for (used += 2; used < size; used++) printf " "
+    }'
+}
+
+# A comment of about 50 bytes behind each token.
+comments() {
+    awk -v size="$1" 'BEGIN {
+        tokens = split("protocol p { begin . ! < int > }", token, " ")
+        while (1) {
+            text = ""
+            for (t = 1; t <= tokens; t++) text = text token[t] " // a remark that says nothing of use to a reader\n"
+            if (used + length(text) > size) break
+            printf "%s", text
+            used += length(text)
+        }
+        while (used < size) { printf " "; used++ }
+    }'
+}
+
+# The best and the median of the runs, in microseconds.
+times() {
+    for ((i = 0; i < runs; i++)); do
+        local before=$EPOCHREALTIME
+        "$program" < "$1" > /dev/null
+        local after=$EPOCHREALTIME
+        echo $((${after/[.,]/} - ${before/[.,]/}))
+    done | sort -n | awk '{ t[NR] = $1 } END { print t[1], t[int((NR + 1) / 2)] }'
+}
+
+(cd "$top/crates/bench_protocols" && rt run < /dev/null > /dev/null)
+program=$top/crates/bench_protocols/out/bench_protocols
+: > "$folder/empty"
+read -r start_best start_median <<< "$(times "$folder/empty")"
+printf '| Text | Bytes | Protocols | Best ms | Median ms |\n|---|---|---|---|---|\n'
+awk -v b="$start_best" -v m="$start_median" 'BEGIN { printf "| empty, the start-up alone | 0 | 0 | %.2f | %.2f |\n", b / 1000, m / 1000 }'
+for kind in words items comments; do
+    for size in 16384 32768 65536; do
+        file=$folder/$kind.$size
+        "$kind" "$size" > "$file"
+        read -r best median <<< "$(times "$file")"
+        awk -v k="$kind" -v s="$(wc -c < "$file")" -v n="$("$program" < "$file")" -v b="$((best - start_best))" -v m="$((median - start_median))" \
+            'BEGIN { printf "| %s | %d | %d | %.2f | %.2f |\n", k, s, n, b / 1000, m / 1000 }'
+    done
+done
