@@ -1,0 +1,19 @@
+-- Which pieces a file begins with, whatever the limits.
+use Rattle.std.specs.Prelude.{◌≡◌, List, ◌++◌}
+use Rattle.sj_lang.specs.FileAt.{FileAt}
+use Rattle.sj_grammar.specs.Limits.{Limits}
+use Rattle.sj_grammar.specs.Places.{Pieces, Piece, spellings}
+use Rattle.sj_grammar.specs.Files.{IsSpelled}
+
+-- the pieces are a file within some limits
+pub record IsWhole (pieces : Pieces) : Type 0 where
+  pub within : Limits
+  pub file : FileAt
+  pub lines : List Piece
+  pub spelled : IsSpelled within file lines
+  pub same : spellings lines ≡ pieces
+
+-- some file begins with these pieces
+pub record IsViable (pieces : Pieces) : Type 0 where
+  pub later : Pieces
+  pub all : IsWhole (pieces ++ later)
