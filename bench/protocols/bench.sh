@@ -1,6 +1,6 @@
 #!/usr/bin/env bash
 # Times the reading of protocols: builds crates/bench_protocols once, writes texts of three sizes and
-# three kinds, and prints the best and the median time of many runs on each, beyond those on an empty
+# four kinds, and prints the best and the median time of many runs on each, beyond those on an empty
 # text. `RUNS=20 bench/protocols/bench.sh` makes fewer runs than 200.
 set -euo pipefail
 runs=${RUNS:-200}
@@ -32,6 +32,34 @@ words() {
     }'
 }
 
+# One protocol with as many words as fit: the shortest ones, 16 in a choice.
+dense() {
+    awk -v size="$1" 'BEGIN {
+        letters = "abcdefghijklmnopqrstuvwxyzABCDEFGHIJKLMNOPQRSTUVWXYZ_"
+        bytes = letters "0123456789"
+        head = "protocol p { begin"
+        printf "%s", head
+        used = length(head)
+        while (1) {
+            arms = ""
+            for (l = 0; l < 16; l++) {
+                do {
+                    m = n++
+                    word = substr(letters, m % 53 + 1, 1)
+                    for (m = int(m / 53); m > 0; m = int((m - 1) / 63)) word = word substr(bytes, (m - 1) % 63 + 1, 1)
+                } while (word ~ /^(p|if|to|int|let|not)$/)
+                arms = arms (l ? "," : "") word ":"
+            }
+            item = ".!{" arms "}"
+            if (used + length(item) + 2 > size) break
+            printf "%s", item
+            used += length(item)
+        }
+        printf " }"
+        for (used += 2; used < size; used++) printf " "
+    }'
+}
+
 # One protocol of 1,024 items, each as long as the size asks.
 items() {
     awk -v size="$1" 'BEGIN {
@@ -60,27 +88,36 @@ comments() {
     }'
 }
 
-# The best and the median of the runs, in microseconds.
-times() {
-    for ((i = 0; i < runs; i++)); do
-        local before=$EPOCHREALTIME
-        "$program" < "$1" > /dev/null
-        local after=$EPOCHREALTIME
-        echo $((${after/[.,]/} - ${before/[.,]/}))
-    done | sort -n | awk '{ t[NR] = $1 } END { print t[1], t[int((NR + 1) / 2)] }'
+# The microseconds of one run on that text.
+run_on() {
+    local before=$EPOCHREALTIME
+    "$program" < "$1" > /dev/null
+    local after=$EPOCHREALTIME
+    echo $((${after/[.,]/} - ${before/[.,]/}))
+}
+
+# The best and the median of the runs, of those times in the file.
+summary() {
+    sort -n "$1" | awk '{ t[NR] = $1 } END { print t[1], t[int((NR + 1) / 2)] }'
 }
 
 (cd "$top/crates/bench_protocols" && rt run < /dev/null > /dev/null)
 program=$top/crates/bench_protocols/out/bench_protocols
 : > "$folder/empty"
-read -r start_best start_median <<< "$(times "$folder/empty")"
 printf '| Text | Bytes | Protocols | Best ms | Median ms |\n|---|---|---|---|---|\n'
-awk -v b="$start_best" -v m="$start_median" 'BEGIN { printf "| empty, the start-up alone | 0 | 0 | %.2f | %.2f |\n", b / 1000, m / 1000 }'
-for kind in words items comments; do
+for kind in words dense items comments; do
     for size in 16384 32768 65536; do
         file=$folder/$kind.$size
         "$kind" "$size" > "$file"
-        read -r best median <<< "$(times "$file")"
+        : > "$folder/times"
+        : > "$folder/start_times"
+        # in turn, so that both meet the same load of the machine
+        for ((i = 0; i < runs; i++)); do
+            run_on "$folder/empty" >> "$folder/start_times"
+            run_on "$file" >> "$folder/times"
+        done
+        read -r best median <<< "$(summary "$folder/times")"
+        read -r start_best start_median <<< "$(summary "$folder/start_times")"
         awk -v k="$kind" -v s="$(wc -c < "$file")" -v n="$("$program" < "$file")" -v b="$((best - start_best))" -v m="$((median - start_median))" \
             'BEGIN { printf "| %s | %d | %d | %.2f | %.2f |\n", k, s, n, b / 1000, m / 1000 }'
     done
