@@ -1,0 +1,34 @@
+-- The command line on some words.
+use Rattle.std.proofs.Common.{◌≡◌, refl, [], ◌∷◌}
+use Rattle.std.specs.Prelude.{codes, Some, None}
+use Rattle.clap.specs.declared.error.kind.ErrorKind.TheVariants as kind
+use Rattle.clap.specs.Words.{fault_of}
+use Rattle.clap.proofs.OnLiterals.{clap_on_literals}
+use Rattle.sj_command.specs.CommandLine.{IsTaken, line}
+use Rattle.sj_command.specs.Task.{alone, line_in}
+
+pub a_command_alone : line_in (codes "check" ∷ []) ≡ alone (codes "check") None
+unfolding clap_on_literals
+a_command_alone = refl
+
+pub its_words_are_taken : IsTaken (codes "check" ∷ [])
+unfolding clap_on_literals
+its_words_are_taken = refl
+
+pub a_command_and_a_number : line_in (codes "make" ∷ codes "12" ∷ []) ≡ alone (codes "make") (Some (codes "12"))
+unfolding clap_on_literals
+a_command_and_a_number = refl
+
+-- a call for help is refused, and so no command
+pub help_is_no_command : fault_of line (codes "--help" ∷ []) ≡ kind.DisplayHelp ∷ []
+unfolding clap_on_literals
+help_is_no_command = refl
+
+-- there is no version to ask for
+pub version_is_no_command : fault_of line (codes "--version" ∷ []) ≡ kind.UnknownArgument ∷ []
+unfolding clap_on_literals
+version_is_no_command = refl
+
+pub no_words_are_no_command : fault_of line [] ≡ kind.MissingRequiredArgument ∷ []
+unfolding clap_on_literals
+no_words_are_no_command = refl

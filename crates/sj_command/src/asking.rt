@@ -1,0 +1,69 @@
+//! What the words of a call ask for.
+ghost use Rattle.std.specs.Prelude.{◌≡◌, ◌↔◌, IsTrue, map, string_bytes, Some, None, Ok, option_map, codes, IfOk, IfSome};
+ghost use Rattle.sj_command.specs.Task.{Asks, IsUsage, Means, alone};
+ghost use Rattle.sj_command.specs.declared.tasks.Task.{Task as Asked};
+
+use crate::counts::count_in;
+use crate::line::matches_in;
+use crate::tasks::Task;
+use sj_base::NoMemory;
+use std::alloc::Global;
+
+/// What the words behind the program's name ask for. None where they are no command that is built.
+pub fn task_in(alloc: Global, words: &[String]) -> Result<Option<Task>, NoMemory>
+    ensures asked { IfOk result (λ t. IfSome t (Asks (map string_bytes words.now))) }
+    ensures usage { result ≡ Ok None → IsUsage (map string_bytes words.now) }
+{
+    let Some(matches) = matches_in(alloc, words)? else {
+        return Ok(None);
+    };
+    let number = matches.get_str("number");
+    let is_bare = is_false(matches.get_str("log")) && matches.get_str("looks").is_none();
+    match matches.get_str("command") {
+        Some(name) if is_bare => Ok(task_named(name, number)),
+        _ => Ok(None),
+    }
+}
+
+// The flag isn't there.
+fn is_false(flag: Option<&str>) -> bool
+    ensures { IsTrue result ↔ (option_map (λ s. s.now) flag.entry ≡ Some (codes "false")) }
+{
+    match flag {
+        Some(text) => text.as_bytes() == b"false".as_slice(),
+        None => false,
+    }
+}
+
+// The task of that name and number, with no option.
+fn task_named(name: &str, number: Option<&str>) -> Option<Task>
+    ensures some { IfSome result (Means (alone name.entry.now (option_map (λ s. s.now) number.entry))) }
+    ensures none { result ≡ None → (t : Asked)
+        → Means (alone name.entry.now (option_map (λ s. s.now) number.entry)) t → ⊥ }
+{
+    match number {
+        None => task_alone(name.as_bytes()),
+        Some(number) if name.as_bytes() == b"make".as_slice() => {
+            count_in(number.as_bytes()).map(Task::Make)
+        }
+        Some(_) => None,
+    }
+}
+
+// The task of that name, with no number.
+fn task_alone(name: &[u8]) -> Option<Task>
+    ensures some { IfSome result (Means (alone name.now None)) }
+    ensures none { result ≡ None → (t : Asked) → Means (alone name.now None) t → ⊥ }
+{
+    if name == b"check".as_slice() {
+        Some(Task::Check)
+    } else if name == b"show".as_slice() {
+        Some(Task::Show)
+    } else if name == b"sim".as_slice() {
+        Some(Task::Sim)
+    } else if name == b"run".as_slice() {
+        Some(Task::Run)
+    } else {
+        None
+    }
+}

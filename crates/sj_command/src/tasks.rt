@@ -1,0 +1,16 @@
+//! What the program can be asked for.
+
+/// A command that is built, with what it needs.
+#[derive(Clone, Copy, Debug, PartialEq, Eq)]
+pub enum Task {
+    /// Checks a file and prints its counts.
+    Check,
+    /// Prints each protocol of a file and its dual.
+    Show,
+    /// Runs a file in the plain world and prints the transcript.
+    Sim,
+    /// Runs a file and prints the transcript.
+    Run,
+    /// Prints the generated file with this many messages in each loop, from 1 to 1,000.
+    Make(u16),
+}
