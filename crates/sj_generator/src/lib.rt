@@ -1,0 +1,9 @@
+//! The generated file: five groups of parties, in each of which an end is handed on.
+#![tactic(auto)]
+
+mod printing;
+
+pub use printing::print_generated;
+
+#[cfg(test)]
+mod tests;
