@@ -1,8 +1,11 @@
 pub mod AlikeLemmas
+pub mod AwaitedLemmas
 pub mod Faultless
 pub mod FileRuns
 pub mod Keywords
+pub mod NoStatement
 pub mod OneFile
+pub mod PartLemmas
 pub mod Runs
 pub mod Taken
 pub mod Unique

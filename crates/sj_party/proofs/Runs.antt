@@ -75,7 +75,7 @@ module _ (L : Limits) where
   open_block : (o n : ℕ) (ds : List Due) → o < L.nesting → step file_layer L n (block o ∷ ds) (codes "{") ≡ goes n (stmts (suc o) ∷ fixed (codes "}") ∷ ds)
   open_block o n ds deep = rw (lt-leb L.nesting o deep) refl
 
-  scalar_step : (k : Scalar) (n : ℕ) (ds : List Due) → step file_layer L n (awaited ∷ ds) (scalar_piece k) ≡ goes n ds
+  pub scalar_step : (k : Scalar) (n : ℕ) (ds : List Due) → step file_layer L n (awaited ∷ ds) (scalar_piece k) ≡ goes n ds
   scalar_step scalars.Int n ds = refl
   scalar_step scalars.Boolean n ds = refl
   scalar_step scalars.Text n ds = refl
@@ -88,7 +88,7 @@ module _ (L : Limits) where
   semicolon_leads n ds = record { count = n; steps = refl }
 
   module _ (names : Spelling) where
-    name_leads : (x n : ℕ) (ds es : List Due) (a : List Piece) → IsNamed L names.word x → ((k : ℕ) → LeadsTo L k ds a es) → LeadsTo L n (name ∷ ds) (called L names x ∷ a) es
+    pub name_leads : (x n : ℕ) (ds es : List Due) (a : List Piece) → IsNamed L names.word x → ((k : ℕ) → LeadsTo L k ds a es) → LeadsTo L n (name ∷ ds) (called L names x ∷ a) es
     name_leads x n ds es a is r = leads_one L n n (name ∷ ds) ds es (called L names x) a (name_step L names.word x n ds is) (r n)
 
     -- an expression up to its semicolon, and up to a block

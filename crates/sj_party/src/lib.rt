@@ -2,6 +2,10 @@
 #![tactic(auto)]
 
 mod laws;
+mod openings;
+mod parts;
+mod scalars;
+mod simple;
 
 pub use laws::{
     files_are_what_is_due, no_file_goes_on_there, no_file_has_a_fault, no_statement_has_a_fault,

@@ -1,0 +1,45 @@
+use Rattle.std.proofs.Common.{ℕ, List, [], ◌∷◌, refl, sym, subst}
+use Rattle.std.specs.Prelude.{codes}
+use Rattle.sj_lang.specs.Code.{Act}
+use Rattle.sj_grammar.specs.declared.refusal.ParseRefusal.TheVariants as refusals
+use Rattle.sj_grammar.specs.FileDues.{name, awaited, semicolon}
+use Rattle.sj_proto.specs.Parsed.{standing}
+use Rattle.sj_proto.proofs.Exits.{plain}
+use Rattle.sj_party.specs.Parts.{a_name, a_piece, ReadsDeed}
+use Rattle.sj_party.specs.Awaits.{awaited_part}
+use Rattle.sj_party.proofs.PartLemmas.{stops_behind, parts_on, piece_stops}
+use Rattle.sj_party.proofs.AwaitedLemmas.{awaited_stops_behind, taken_deed}
+use Rattle.sj_party.proofs.simple.receive.Goals as goal
+
+pub returns-in_err-end-clause-fault : goal.returns-in_err-end-clause-fault
+returns-in_err-end-clause-fault c =
+    let a = standing c.args.tokens.now c.args.names.now in
+    stops_behind _ c.in_err-end.field-0.0 [] a a (λ ds. name ∷ name ∷ ds) (λ ds. awaited ∷ semicolon ∷ ds) c.from_residual.ensures.1 refl c.in_err-end.ensures.fault
+
+pub returns-in_err-what-clause-fault : goal.returns-in_err-what-clause-fault
+returns-in_err-what-clause-fault c =
+    let a = standing c.args.tokens.now c.args.names.now in
+    let m = standing c.two_names.new.tokens c.two_names.new.names in
+    stops_behind _ c.in_err-what.field-0.0 (a_name c.in_ok-end.end ∷ a_name c.in_ok-end.into ∷ []) a m (λ ds. awaited ∷ ds) (λ ds. semicolon ∷ ds) c.from_residual-in_err-what.ensures.1 c.in_ok-end.ensures.reads c.in_err-what.ensures.fault
+
+pub returns-in_err-expect-clause-fault : goal.returns-in_err-expect-clause-fault
+returns-in_err-expect-clause-fault c =
+    let a = standing c.args.tokens.now c.args.names.now in
+    let m = standing c.two_names.new.tokens c.two_names.new.names in
+    let u = standing c.take_awaited.new.tokens c.take_awaited.new.names in
+    let f = c.in_err-expect.field-0.0 in
+    stops_behind _ (refusals.At f) (a_name c.in_ok-end.end ∷ a_name c.in_ok-end.into ∷ []) a m (λ ds. awaited ∷ semicolon ∷ ds) (λ ds. ds) c.from_residual-in_err-expect.ensures.1 c.in_ok-end.ensures.reads
+    (awaited_stops_behind c.in_ok-what.what m u (refusals.At f) c.in_ok-what.ensures.reads (piece_stops (codes ";") c.take_awaited.new.tokens c.take_awaited.new.names f refl c.in_err-expect.ensures.fault))
+
+pub returns-clause-reads : goal.returns-clause-reads
+returns-clause-reads c = λ o.
+    let a = standing c.args.tokens.now c.args.names.now in
+    let m = standing c.two_names.new.tokens c.two_names.new.names in
+    let u = standing c.take_awaited.new.tokens c.take_awaited.new.names in
+    let b = standing c.expect.new.self c.take_awaited.new.names in
+    let taken = plain c.take_awaited.new.tokens c.expect.new.self c.take_awaited.new.names (codes ";") refl refl c.in_ok-expect.ensures.ok in
+    let x = c.in_ok-end.end in
+    let y = c.in_ok-end.into in
+    subst (λ (act : Act). ReadsDeed (codes "recv") o a b act) (sym c.taking.ensures)
+    (taken_deed o x y c.in_ok-what.what a b (parts_on (a_name x ∷ a_name y ∷ []) (awaited_part c.in_ok-what.what ∷ a_piece (codes ";") ∷ []) a m b c.in_ok-end.ensures.reads
+    (parts_on (awaited_part c.in_ok-what.what ∷ []) (a_piece (codes ";") ∷ []) m u b c.in_ok-what.ensures.reads (b, taken, refl))))

@@ -1,0 +1,35 @@
+use Rattle.std.proofs.Common.{List, [], ◌∷◌, refl, sym, subst}
+use Rattle.std.specs.Prelude.{codes}
+use Rattle.sj_lang.specs.Term.{term_of}
+use Rattle.sj_lang.specs.Code.{Act}
+use Rattle.sj_lang.proofs.Folds.{deed_of-Send}
+use Rattle.sj_grammar.specs.declared.refusal.ParseRefusal.TheVariants as refusals
+use Rattle.sj_grammar.specs.ExpressionDues.{whole}
+use Rattle.sj_grammar.specs.FileDues.{name, fixed, expr, semicolon}
+use Rattle.sj_proto.specs.Parsed.{standing}
+use Rattle.sj_proto.proofs.Exits.{plain}
+use Rattle.sj_party.specs.Parts.{a_name, an_expression, a_piece, ReadsDeed}
+use Rattle.sj_party.proofs.PartLemmas.{stops_behind, parts_on, piece_stops}
+use Rattle.sj_party.proofs.simple.send.Goals as goal
+
+pub returns-in_err-end-clause-fault : goal.returns-in_err-end-clause-fault
+returns-in_err-end-clause-fault c =
+    let a = standing c.args.tokens.now c.args.names.now in
+    stops_behind _ c.in_err-end.field-0.0 [] a a (λ ds. name ∷ expr whole ∷ ds) (λ ds. semicolon ∷ ds) c.from_residual.ensures.1 refl c.in_err-end.ensures.fault
+
+pub returns-in_err-expect-clause-fault : goal.returns-in_err-expect-clause-fault
+returns-in_err-expect-clause-fault c =
+    let a = standing c.args.tokens.now c.args.names.now in
+    let m = standing c.name_and_value.new.tokens c.name_and_value.new.names in
+    let f = c.in_err-expect.field-0.0 in
+    stops_behind _ (refusals.At f) (a_name c.in_ok-end.end ∷ an_expression (term_of c.in_ok-end.value) ∷ []) a m (λ ds. semicolon ∷ ds) (λ ds. ds) c.from_residual-in_err-expect.ensures.1 c.in_ok-end.ensures.reads
+    (piece_stops (codes ";") c.name_and_value.new.tokens c.name_and_value.new.names f refl c.in_err-expect.ensures.fault)
+
+pub returns-clause-reads : goal.returns-clause-reads
+returns-clause-reads c = λ o.
+    let a = standing c.args.tokens.now c.args.names.now in
+    let m = standing c.name_and_value.new.tokens c.name_and_value.new.names in
+    let b = standing c.expect.new.self c.name_and_value.new.names in
+    let taken = plain c.name_and_value.new.tokens c.expect.new.self c.name_and_value.new.names (codes ";") refl refl c.in_ok-expect.ensures.ok in
+    subst (λ (act : Act). ReadsDeed (codes "send") o a b act) (sym (deed_of-Send c.in_ok-end.end c.in_ok-end.value))
+    (record { first = refl; parts = parts_on (a_name c.in_ok-end.end ∷ an_expression (term_of c.in_ok-end.value) ∷ []) (a_piece (codes ";") ∷ []) a m b c.in_ok-end.ensures.reads (b, taken, refl) })

@@ -1,0 +1,51 @@
+-- The words that statements begin with, and what is due behind them.
+use Rattle.std.specs.Prelude.{◌≡◌, ℕ, false, List, [], ◌∷◌, codes}
+use Rattle.std.specs.Str.{bytes_eq}
+use Rattle.sj_grammar.specs.Places.{Pieces}
+use Rattle.sj_grammar.specs.ExpressionDues.{whole}
+use Rattle.sj_grammar.specs.FileDues.{Due, name, fixed, expr, awaited, block, branches, semicolon}
+use Rattle.sj_party.specs.declared.openings.Word.{Word}
+use Rattle.sj_party.specs.declared.openings.Word.TheVariants as words
+use Rattle.sj_party.specs.declared.openings.Opening.{Opening}
+use Rattle.sj_party.specs.declared.openings.Opening.TheVariants as openings
+
+abbrev pub simple_word : Word → List ℕ
+simple_word words.Send = codes "send"
+simple_word words.Delegate = codes "delegate"
+simple_word words.Recv = codes "recv"
+simple_word words.Outbranch = codes "outbranch"
+simple_word words.Let = codes "let"
+simple_word words.Close = codes "close"
+
+abbrev pub word_of : Opening → List ℕ
+word_of (openings.Simple w) = simple_word w
+word_of openings.Inbranch = codes "inbranch"
+word_of openings.Outwhile = codes "outwhile"
+word_of openings.Inwhile = codes "inwhile"
+word_of openings.Relay = codes "relay"
+word_of openings.If = codes "if"
+
+abbrev pub simple_dues : Word → List Due → List Due
+simple_dues words.Send ds = name ∷ expr whole ∷ semicolon ∷ ds
+simple_dues words.Delegate ds = name ∷ name ∷ semicolon ∷ ds
+simple_dues words.Recv ds = name ∷ name ∷ awaited ∷ semicolon ∷ ds
+simple_dues words.Outbranch ds = name ∷ name ∷ semicolon ∷ ds
+simple_dues words.Let ds = name ∷ fixed (codes "=") ∷ expr whole ∷ semicolon ∷ ds
+simple_dues words.Close ds = name ∷ semicolon ∷ ds
+
+-- behind the word, inside so many inner braces
+abbrev pub dues_behind : Opening → ℕ → List Due → List Due
+dues_behind (openings.Simple w) o ds = simple_dues w ds
+dues_behind openings.Inbranch o ds = name ∷ fixed (codes "{") ∷ name ∷ fixed (codes ":") ∷ block o ∷ branches o ∷ fixed (codes "}") ∷ ds
+dues_behind openings.Outwhile o ds = name ∷ expr whole ∷ block o ∷ ds
+dues_behind openings.Inwhile o ds = name ∷ block o ∷ ds
+dues_behind openings.Relay o ds = name ∷ name ∷ block o ∷ ds
+dues_behind openings.If o ds = expr whole ∷ block o ∷ fixed (codes "else") ∷ block o ∷ ds
+
+-- none of these words
+abbrev pub NoneOf : Pieces → List ℕ → Type 0
+NoneOf [] s = Unit {0}
+NoneOf (w ∷ ws) s = (bytes_eq s w ≡ false) × NoneOf ws s
+
+abbrev pub simple_words : Pieces
+simple_words = codes "send" ∷ codes "delegate" ∷ codes "recv" ∷ codes "outbranch" ∷ codes "let" ∷ codes "close" ∷ []
