@@ -1,11 +1,14 @@
 pub mod AlikeLemmas
 pub mod AwaitedLemmas
+pub mod CodeStuck
 pub mod Faultless
 pub mod FileRuns
 pub mod Keywords
 pub mod NoStatement
 pub mod OneFile
 pub mod PartLemmas
+pub mod PieceLemmas
+pub mod RoomLemmas
 pub mod Runs
 pub mod Taken
 pub mod Unique

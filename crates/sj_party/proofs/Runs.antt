@@ -72,7 +72,7 @@ module _ (L : Limits) where
   unfolding statement_follow
   close_block o n ds = refl
 
-  open_block : (o n : ℕ) (ds : List Due) → o < L.nesting → step file_layer L n (block o ∷ ds) (codes "{") ≡ goes n (stmts (suc o) ∷ fixed (codes "}") ∷ ds)
+  pub open_block : (o n : ℕ) (ds : List Due) → o < L.nesting → step file_layer L n (block o ∷ ds) (codes "{") ≡ goes n (stmts (suc o) ∷ fixed (codes "}") ∷ ds)
   open_block o n ds deep = rw (lt-leb L.nesting o deep) refl
 
   pub scalar_step : (k : Scalar) (n : ℕ) (ds : List Due) → step file_layer L n (awaited ∷ ds) (scalar_piece k) ≡ goes n ds

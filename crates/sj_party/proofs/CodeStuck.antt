@@ -1,0 +1,164 @@
+-- Where a text is stuck in statements, blocks and arms.
+use Rattle.std.proofs.Common.{◌≡◌, ℕ, suc, ◌<◌, Bool, true, false, List, [], ◌∷◌, Result, IfErr, Some, None, refl, ap, sym, subst, ◌∙◌}
+use Rattle.std.specs.Prelude.{codes, nat_le, if◌then◌else◌}
+use Rattle.std.specs.Str.{bytes_eq}
+use Rattle.sj_lang.specs.declared.file.Names.{Names}
+use Rattle.sj_lang.specs.Code.{Code, Branches}
+use Rattle.sj_grammar.specs.declared.tokens.Fault.{Fault}
+use Rattle.sj_grammar.specs.declared.tokens.What.{What}
+use Rattle.sj_grammar.specs.declared.tokens.Rule.TheVariants.{P1, P3, P4}
+use Rattle.sj_grammar.specs.declared.refusal.ParseRefusal.{ParseRefusal}
+use Rattle.sj_grammar.specs.declared.refusal.ParseRefusal.TheVariants as refusals
+use Rattle.sj_grammar.specs.Limits.{limits}
+use Rattle.sj_grammar.specs.Lexis.{Ahead, at_end, bad, token, next_of}
+use Rattle.sj_grammar.specs.Literals.{is_largest, is_text}
+use Rattle.sj_grammar.specs.Names.{is_name, is_reserved}
+use Rattle.sj_grammar.specs.Reading.{Reading, line_at, before_next}
+use Rattle.sj_grammar.specs.Places.{At, Takes, TakesPiece, first_on}
+use Rattle.sj_grammar.specs.Layers.{goes, step, rule_of}
+use Rattle.sj_grammar.specs.FileDues.{Due, stmts, block, branches, name, fixed, statement_follow, file_layer}
+use Rattle.sj_grammar.specs.Faults.{Stuck, broken}
+use Rattle.sj_grammar.specs.Statements.{AreArms}
+use Rattle.sj_grammar.specs.Asked.{TakesText, Refuses, Passes, but, spelled_next}
+use Rattle.sj_grammar.proofs.Stuckness.{stuck_cons, stuck_by, refuses_stuck, skip}
+use Rattle.sj_proto.specs.Parsed.{standing, Stops}
+use Rattle.sj_proto.specs.Choices.{but_first}
+use Rattle.sj_proto.proofs.Exits.{plain, stops_map}
+use Rattle.sj_proto.proofs.Names.{test_is}
+use Rattle.sj_proto.proofs.Rules.{Refusing, over_rule}
+use Rattle.sj_expr.proofs.ReadLemmas.{spelling_at, agrees_itself}
+use Rattle.sj_party.specs.declared.openings.Word.TheVariants as words
+use Rattle.sj_party.specs.declared.openings.Opening.{Opening}
+use Rattle.sj_party.specs.declared.openings.Opening.TheVariants as openings
+use Rattle.sj_party.specs.Read.{ReadsOnLines, ReadsCode}
+use Rattle.sj_party.specs.Parts.{AreSome}
+use Rattle.sj_party.specs.Words.{word_of, dues_behind}
+use Rattle.sj_party.proofs.Runs.{code_leads, open_block}
+use Rattle.sj_party.proofs.PartLemmas.{leads_stuck, some_arms_lead}
+
+pub no_name_else : is_name (codes "else") ≡ false
+unfolding is_reserved
+no_name_else = refl
+
+no_name_word : (w : Opening) → is_name (word_of w) ≡ false
+unfolding is_reserved
+no_name_word (openings.Simple words.Send) = refl
+no_name_word (openings.Simple words.Delegate) = refl
+no_name_word (openings.Simple words.Recv) = refl
+no_name_word (openings.Simple words.Outbranch) = refl
+no_name_word (openings.Simple words.Let) = refl
+no_name_word (openings.Simple words.Close) = refl
+no_name_word openings.Inbranch = refl
+no_name_word openings.Outwhile = refl
+no_name_word openings.Inwhile = refl
+no_name_word openings.Relay = refl
+no_name_word openings.If = refl
+
+no_text_word : (w : Opening) → is_text (word_of w) ≡ false
+no_text_word (openings.Simple words.Send) = refl
+no_text_word (openings.Simple words.Delegate) = refl
+no_text_word (openings.Simple words.Recv) = refl
+no_text_word (openings.Simple words.Outbranch) = refl
+no_text_word (openings.Simple words.Let) = refl
+no_text_word (openings.Simple words.Close) = refl
+no_text_word openings.Inbranch = refl
+no_text_word openings.Outwhile = refl
+no_text_word openings.Inwhile = refl
+no_text_word openings.Relay = refl
+no_text_word openings.If = refl
+
+word_step : (w : Opening) (o n : ℕ) (ds : List Due) → step file_layer limits n (stmts o ∷ ds) (word_of w) ≡ goes n (dues_behind w o (stmts o ∷ ds))
+unfolding statement_follow
+word_step (openings.Simple words.Send) o n ds = refl
+word_step (openings.Simple words.Delegate) o n ds = refl
+word_step (openings.Simple words.Recv) o n ds = refl
+word_step (openings.Simple words.Outbranch) o n ds = refl
+word_step (openings.Simple words.Let) o n ds = refl
+word_step (openings.Simple words.Close) o n ds = refl
+word_step openings.Inbranch o n ds = refl
+word_step openings.Outwhile o n ds = refl
+word_step openings.Inwhile o n ds = refl
+word_step openings.Relay o n ds = refl
+word_step openings.If o n ds = refl
+
+took_word : (w : Opening) (r q : Reading) (names : Names) → TakesText r (word_of w) q → Takes (standing r names) (word_of w) (standing q names)
+took_word w r q names t = plain r q names (word_of w) (no_name_word w) (no_text_word w) t
+
+-- the first word on its line
+pub word_piece : (w : Opening) (l : ℕ) (r q : Reading) (names : Names) → TakesText r (word_of w) q → l ≡ line_at (before_next r (next_of r.ahead)) → TakesPiece (standing r names) (first_on l (word_of w)) (standing q names)
+word_piece w l r q names t line =
+    let taken = took_word w r q names t in
+    record { taken = taken; line = line ∙ ap (λ (x : Ahead). line_at (before_next r x)) taken.token }
+
+-- behind the first word
+pub word_stops : (w : Opening) (o : ℕ) (r q : Reading) (names : Names) (e : ParseRefusal) → TakesText r (word_of w) q → ((n : ℕ) → Stops (λ ds. dues_behind w o ds) n (standing q names) e) → (n : ℕ) → Stops (λ ds. stmts o ∷ ds) n (standing r names) e
+word_stops w o r q names e t st n =
+    stops_map (λ ds. dues_behind w o ds) (λ ds. stmts o ∷ ds) n n (standing q names) (standing r names) e
+    (λ f h ds. stuck_cons file_layer limits n n (standing r names) (standing q names) (word_of w) (stmts o ∷ ds) (dues_behind w o (stmts o ∷ ds)) f (took_word w r q names t) (word_step w o n ds) (h (stmts o ∷ ds))) (st n)
+
+-- behind statements
+code_stuck : (o : ℕ) (c : Code) (a m : At) (ds : List Due) (f : Fault) → ReadsCode o a m c → ((k : ℕ) → Stuck file_layer limits k m (stmts o ∷ ds) f) → (n : ℕ) → Stuck file_layer limits n a (stmts o ∷ ds) f
+code_stuck o c a m ds f r st n = leads_stuck a m r.pieces (stmts o ∷ ds) (stmts o ∷ ds) f r.begins (λ k. code_leads limits (spelling_at m) (r.are (spelling_at m) (agrees_itself m)) k ds) st n
+
+pub code_stops : (o : ℕ) (c : Code) (a m : At) (e : ParseRefusal) → ReadsCode o a m c → ((n : ℕ) → Stops (λ ds. stmts o ∷ ds) n m e) → (n : ℕ) → Stops (λ ds. stmts o ∷ ds) n a e
+code_stops o c a m (refusals.At f) r st n = λ ds. code_stuck o c a m ds f r (λ k. st k ds) n
+code_stops o c a m refusals.NoMemory r st n = tt
+
+-- a brace that is none, or too deep
+pub block_stops : (o : ℕ) (r : Reading) (names : Names) (f : Fault) → Refuses (but_first (codes "{") (nat_le 32 o)) r f → (n : ℕ) → Stops (λ ds. block o ∷ ds) n (standing r names) (refusals.At f)
+block_stops o r names f h n = λ ds. refuses_stuck file_layer limits (but_first (codes "{") (nat_le 32 o)) n (standing r names) (block o ∷ ds) f refl (block_rule ds) h
+  where
+    block_rule : (ds : List Due) → Refusing (but_first (codes "{") (nat_le 32 o)) n (block o ∷ ds)
+    block_rule ds s r e = by_tests (is_largest s) (bytes_eq s (codes "{")) refl refl e
+      where
+        by_tests : (x y : Bool) → is_largest s ≡ x → bytes_eq s (codes "{") ≡ y → (if x then Some P3 else (if y then (if nat_le 32 o then Some P4 else None) else Some P1)) ≡ Some r
+            → rule_of (step file_layer limits n (block o ∷ ds) s) ≡ Some r
+        by_tests true true ex ey e = let was : is_largest (codes "{") ≡ true = subst (λ (t : List ℕ). is_largest t ≡ true) (test_is s (codes "{") ey) ex in let none : ⊥ = cc in absurd none
+        by_tests true false ex ey e = rw (ey, ex) e
+        by_tests false true ex ey e = rw ey (over_rule (nat_le 32 o) n (stmts (suc o) ∷ fixed (codes "}") ∷ ds) r e)
+        by_tests false false ex ey e = rw (ey, ex) e
+
+-- in a block, behind its brace, and behind its statements
+module _ (o k : ℕ) (a m : At) (deeper : k ≡ suc o) (deep : o < 32) (brace : Takes a (codes "{") m) where
+  opened_stuck : (ds : List Due) (f : Fault) → ((n : ℕ) → Stuck file_layer limits n m (stmts k ∷ fixed (codes "}") ∷ ds) f) → (n : ℕ) → Stuck file_layer limits n a (block o ∷ ds) f
+  opened_stuck ds f st n =
+      stuck_cons file_layer limits n n a m (codes "{") (block o ∷ ds) (stmts (suc o) ∷ fixed (codes "}") ∷ ds) f brace (open_block limits o n ds deep)
+      (subst (λ (j : ℕ). Stuck file_layer limits n m (stmts j ∷ fixed (codes "}") ∷ ds) f) deeper (st n))
+
+  pub opened_stops : (e : ParseRefusal) → ((n : ℕ) → Stops (λ ds. stmts k ∷ ds) n m e) → (n : ℕ) → Stops (λ ds. block o ∷ ds) n a e
+  opened_stops (refusals.At f) st n = λ ds. opened_stuck ds f (λ j. st j (fixed (codes "}") ∷ ds)) n
+  opened_stops refusals.NoMemory st n = tt
+
+  pub filled_stops : (c : Code) (b : At) (e : ParseRefusal) → ReadsCode k m b c → Passes file_layer (stmts k) (next_of b.text.ahead) → ((n : ℕ) → Stops (λ ds. fixed (codes "}") ∷ ds) n b e) → (n : ℕ) → Stops (λ ds. block o ∷ ds) n a e
+  filled_stops c b (refusals.At f) r passes st n = λ ds.
+      opened_stuck ds f (code_stuck k c m b (fixed (codes "}") ∷ ds) f r (λ j. skip file_layer limits j b (stmts k) (fixed (codes "}") ∷ ds) f refl passes (st j ds))) n
+  filled_stops c b refusals.NoMemory r passes st n = tt
+
+-- one arm more
+module _ (o : ℕ) (m : At) (named : is_name (spelled_next (next_of m.text.ahead)) ≡ true) where
+  abbrev an_arm : List Due → List Due
+  an_arm ds = name ∷ fixed (codes ":") ∷ block o ∷ ds
+
+  arm_same : (n : ℕ) (ds : List Due) (s : List ℕ) → is_name s ≡ true → step file_layer limits n (branches o ∷ ds) s ≡ step file_layer limits n (an_arm (branches o ∷ ds)) s
+  arm_same n ds s e = rw e refl
+
+  arm_broken : (n : ℕ) (ds : List Due) (x : Ahead) → is_name (spelled_next x) ≡ true → broken file_layer limits n (branches o ∷ ds) x ≡ broken file_layer limits n (an_arm (branches o ∷ ds)) x
+  arm_broken n ds at_end e = let none : ⊥ = cc in absurd none
+  arm_broken n ds (bad r rest) e = refl
+  arm_broken n ds (token what s rest) e = ap rule_of (arm_same n ds s e)
+
+  arm_stuck : (n : ℕ) (ds : List Due) (f : Fault) → Stuck file_layer limits n m (an_arm (branches o ∷ ds)) f → Stuck file_layer limits n m (branches o ∷ ds) f
+  arm_stuck n ds f st =
+      stuck_by file_layer limits n n m (an_arm (branches o ∷ ds)) (branches o ∷ ds) f (arm_broken n ds (next_of m.text.ahead) named)
+      (λ what s rest e. arm_same n ds s (subst (λ (x : Ahead). is_name (spelled_next x) ≡ true) e named)) st
+
+  pub arms_stop : (arms : Branches) (a : At) (e : ParseRefusal) → AreSome arms → ReadsOnLines a m (λ names ps. AreArms limits names o arms ps) → ((n : ℕ) → Stops (λ ds. name ∷ fixed (codes ":") ∷ block o ∷ ds) n m e)
+      → (n : ℕ) → Stops (λ ds. name ∷ fixed (codes ":") ∷ block o ∷ branches o ∷ ds) n a e
+  arms_stop arms a (refusals.At f) some r st n = λ ds.
+      leads_stuck a m r.pieces (an_arm (branches o ∷ ds)) (branches o ∷ ds) f r.begins (λ k. some_arms_lead (spelling_at m) o arms r.pieces some (r.are (spelling_at m) (agrees_itself m)) k ds)
+      (λ k. arm_stuck k ds f (st k (branches o ∷ ds))) n
+  arms_stop arms a refusals.NoMemory some r st n = tt
+
+-- what is refused behind that word
+pub err_opened : {X : Type 0} (r : Result X ParseRefusal) (w v : Opening) (o : ℕ) (a : At) → w ≡ v → IfErr r (λ e. (n : ℕ) → Stops (λ ds. dues_behind v o ds) n a e) → IfErr r (λ e. (n : ℕ) → Stops (λ ds. dues_behind w o ds) n a e)
+err_opened r w v o a is h = subst (λ (x : Opening). IfErr r (λ e. (n : ℕ) → Stops (λ ds. dues_behind x o ds) n a e)) (sym is) h
