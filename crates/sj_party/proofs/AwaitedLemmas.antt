@@ -1,6 +1,6 @@
 -- What a `recv` awaits: as tokens, and where a text is stuck in it.
-use Rattle.std.proofs.Common.{◌≡◌, ℕ, Bool, true, false, List, [], ◌∷◌, Some, None, refl, subst}
-use Rattle.std.specs.Prelude.{codes, if◌then◌else◌}
+use Rattle.std.proofs.Common.{◌≡◌, ℕ, Bool, true, false, List, [], ◌∷◌, refl, subst}
+use Rattle.std.specs.Prelude.{codes}
 use Rattle.std.specs.Str.{bytes_eq}
 use Rattle.sj_lang.specs.declared.file.Names.{Names}
 use Rattle.sj_lang.specs.declared.party.Scalar.{Scalar}
@@ -16,7 +16,6 @@ use Rattle.sj_grammar.specs.Names.{is_name, is_reserved}
 use Rattle.sj_grammar.specs.Places.{At, Takes}
 use Rattle.sj_grammar.specs.Layers.{step}
 use Rattle.sj_grammar.specs.FileDues.{Due, name, fixed, awaited, semicolon, file_layer}
-use Rattle.sj_grammar.specs.Faults.{Stuck}
 use Rattle.sj_grammar.specs.Statements.{scalar_piece}
 use Rattle.sj_grammar.specs.Asked.{TakesText, Refuses, but, is_next}
 use Rattle.sj_grammar.proofs.Stuckness.{stuck_cons, stuck_like, refuses_stuck}
@@ -25,7 +24,7 @@ use Rattle.sj_proto.proofs.Exits.{plain, stops_map, no_name_int, no_name_boolean
 use Rattle.sj_proto.proofs.Pieced.{fixed_rule}
 use Rattle.sj_party.specs.declared.parts.Awaited.{Awaited}
 use Rattle.sj_party.specs.declared.parts.Awaited.TheVariants as awaits
-use Rattle.sj_party.specs.Parts.{Part, a_name, a_piece, ReadsParts, ReadsDeed}
+use Rattle.sj_party.specs.Parts.{a_name, a_piece, ReadsParts, ReadsDeed}
 use Rattle.sj_party.specs.Awaits.{awaited_part, taken_act}
 use Rattle.sj_party.proofs.PartLemmas.{parts_behind}
 

@@ -1,11 +1,10 @@
 -- Where a text is stuck in statements, blocks and arms.
-use Rattle.std.proofs.Common.{◌≡◌, ℕ, suc, ◌<◌, Bool, true, false, List, [], ◌∷◌, Result, IfErr, Some, None, refl, ap, sym, subst, ◌∙◌}
+use Rattle.std.proofs.Common.{◌≡◌, ℕ, suc, ◌<◌, Bool, true, false, List, ◌∷◌, Result, IfErr, Some, None, refl, ap, sym, subst, ◌∙◌}
 use Rattle.std.specs.Prelude.{codes, nat_le, if◌then◌else◌}
 use Rattle.std.specs.Str.{bytes_eq}
 use Rattle.sj_lang.specs.declared.file.Names.{Names}
 use Rattle.sj_lang.specs.Code.{Code, Branches}
 use Rattle.sj_grammar.specs.declared.tokens.Fault.{Fault}
-use Rattle.sj_grammar.specs.declared.tokens.What.{What}
 use Rattle.sj_grammar.specs.declared.tokens.Rule.TheVariants.{P1, P3, P4}
 use Rattle.sj_grammar.specs.declared.refusal.ParseRefusal.{ParseRefusal}
 use Rattle.sj_grammar.specs.declared.refusal.ParseRefusal.TheVariants as refusals
@@ -19,7 +18,7 @@ use Rattle.sj_grammar.specs.Layers.{goes, step, rule_of}
 use Rattle.sj_grammar.specs.FileDues.{Due, stmts, block, branches, name, fixed, statement_follow, file_layer}
 use Rattle.sj_grammar.specs.Faults.{Stuck, broken}
 use Rattle.sj_grammar.specs.Statements.{AreArms}
-use Rattle.sj_grammar.specs.Asked.{TakesText, Refuses, Passes, but, spelled_next}
+use Rattle.sj_grammar.specs.Asked.{TakesText, Refuses, Passes, spelled_next}
 use Rattle.sj_grammar.proofs.Stuckness.{stuck_cons, stuck_by, refuses_stuck, skip}
 use Rattle.sj_proto.specs.Parsed.{standing, Stops}
 use Rattle.sj_proto.specs.Choices.{but_first}

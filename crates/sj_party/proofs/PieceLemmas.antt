@@ -1,5 +1,5 @@
 -- Parts that were read as pieces on their lines, and statements, blocks and arms of them.
-use Rattle.std.proofs.Common.{◌≡◌, ℕ, suc, ◌<◌, List, [], ◌∷◌, ◌++◌, Some, refl, ap, sym, subst, ◌∙◌, append-nil, append_assoc}
+use Rattle.std.proofs.Common.{◌≡◌, ℕ, suc, ◌<◌, List, [], ◌∷◌, ◌++◌, refl, ap, sym, subst, ◌∙◌, append-nil, append_assoc}
 use Rattle.std.specs.Prelude.{codes, map}
 use Rattle.sj_lang.specs.Term.{Term}
 use Rattle.sj_lang.specs.Code.{Code, Step, Act, Branches, in_order, branches_of, code_of, stmt_of, arm_of, no_step, no_branch, branch, at, send, delegate, take_value, take_end, outbranch, inbranch, outwhile, inwhile, relay, if_else, let_be, close}
@@ -9,13 +9,12 @@ use Rattle.sj_lang.specs.declared.party.Stmt.{Stmt}
 use Rattle.sj_lang.specs.declared.party.StmtArm.{StmtArm}
 use Rattle.sj_grammar.specs.Limits.{limits}
 use Rattle.sj_grammar.specs.Tables.{Spelling, IsNamed, entry_of}
-use Rattle.sj_grammar.specs.Places.{Pieces, Piece, At, Takes, TakesPiece, BeginsOnLines, spellings, plain, first_on, all_plain}
+use Rattle.sj_grammar.specs.Places.{Pieces, Piece, At, Takes, TakesPiece, spellings, plain, first_on, all_plain}
 use Rattle.sj_grammar.specs.Expressions.{IsExpression}
 use Rattle.sj_grammar.specs.Statements.{scalar_piece, called, IsStatement, IsCode, IsBlock, AreArms}
 use Rattle.sj_grammar.specs.Statements as grammar
 use Rattle.sj_proto.specs.Parsed.{Gives}
 use Rattle.sj_proto.proofs.Lines.{off_lines, on_lines, OnLines-append}
-use Rattle.sj_expr.specs.Read.{Agrees}
 use Rattle.sj_expr.proofs.ReadLemmas.{agrees_back}
 use Rattle.sj_party.specs.Read.{ReadsOnLines, ReadsCode}
 use Rattle.sj_party.specs.Parts.{Part, a_name, an_expression, a_piece, a_value, an_end, a_block, some_arms, parts_of, first_word, AreSome, ReadsPart, ReadsParts, ReadsDeed}

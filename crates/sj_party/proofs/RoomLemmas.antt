@@ -1,5 +1,5 @@
 -- Room for names and texts, one call after another.
-use Rattle.std.proofs.Common.{ℕ, ◌<◌, ◌≤◌, List, length, arith}
+use Rattle.std.proofs.Common.{◌<◌, length, arith}
 use Rattle.sj_lang.specs.declared.file.Names.{Names}
 use Rattle.sj_grammar.specs.Reading.{Reading}
 use Rattle.sj_expr.specs.Read.{Grows}

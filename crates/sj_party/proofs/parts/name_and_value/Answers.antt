@@ -1,13 +1,10 @@
-use Rattle.std.proofs.Common.{List, [], ◌∷◌, refl}
-use Rattle.std.specs.Prelude.{codes}
+use Rattle.std.proofs.Common.{[], ◌∷◌, refl}
 use Rattle.sj_lang.specs.Term.{term_of}
-use Rattle.sj_grammar.specs.declared.refusal.ParseRefusal.TheVariants as refusals
 use Rattle.sj_grammar.specs.ExpressionDues.{whole}
-use Rattle.sj_grammar.specs.FileDues.{name, fixed, expr}
+use Rattle.sj_grammar.specs.FileDues.{name, expr}
 use Rattle.sj_proto.specs.Parsed.{standing}
-use Rattle.sj_proto.proofs.Exits.{plain}
-use Rattle.sj_party.specs.Parts.{a_name, an_expression, a_piece}
-use Rattle.sj_party.proofs.PartLemmas.{stops_behind, parts_on, piece_stops}
+use Rattle.sj_party.specs.Parts.{a_name, an_expression}
+use Rattle.sj_party.proofs.PartLemmas.{stops_behind, parts_on}
 use Rattle.sj_party.proofs.parts.name_and_value.Goals as goal
 
 pub returns-in_err-name-clause-fault : goal.returns-in_err-name-clause-fault

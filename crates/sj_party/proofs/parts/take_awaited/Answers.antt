@@ -1,11 +1,11 @@
-use Rattle.std.proofs.Common.{ℕ, List, [], ◌∷◌, refl, sym, subst}
+use Rattle.std.proofs.Common.{[], ◌∷◌, refl, subst}
 use Rattle.std.specs.Prelude.{codes}
 use Rattle.sj_grammar.specs.declared.refusal.ParseRefusal.TheVariants as refusals
 use Rattle.sj_grammar.specs.Limits.{limits}
 use Rattle.sj_grammar.specs.Reading.{Reading}
 use Rattle.sj_grammar.specs.Tables.{IsNamed}
 use Rattle.sj_grammar.specs.Places.{At, Takes}
-use Rattle.sj_grammar.specs.FileDues.{name, awaited}
+use Rattle.sj_grammar.specs.FileDues.{awaited}
 use Rattle.sj_grammar.specs.Asked.{Refuses, but}
 use Rattle.sj_proto.specs.Parsed.{standing, Gives}
 use Rattle.sj_proto.proofs.Exits.{plain, from_left}

@@ -1,4 +1,4 @@
-use Rattle.std.proofs.Common.{ℕ, List, [], ◌∷◌, refl, sym, subst}
+use Rattle.std.proofs.Common.{[], ◌∷◌, refl, sym, subst}
 use Rattle.std.specs.Prelude.{codes}
 use Rattle.sj_lang.specs.Code.{Act}
 use Rattle.sj_grammar.specs.declared.refusal.ParseRefusal.TheVariants as refusals

@@ -1,17 +1,16 @@
-use Rattle.std.proofs.Common.{◌≡◌, ℕ, suc, ◌+◌, ◌<◌, true, List, [], ◌∷◌, length, refl, ap, sym, subst, ◌∙◌, arith, add-one}
+use Rattle.std.proofs.Common.{◌≡◌, ℕ, ◌+◌, ◌<◌, true, List, [], ◌∷◌, refl, ap, sym, subst, ◌∙◌, arith, add-one}
 use Rattle.std.specs.Prelude.{codes, map}
 use Rattle.std.proofs.lemmas.Bool.{leb-false}
 use Rattle.sj_lang.specs.declared.party.Stmt.{Stmt}
 use Rattle.sj_lang.specs.declared.party.StmtArm.{StmtArm}
 use Rattle.sj_lang.specs.Term.{term_of}
-use Rattle.sj_lang.specs.Code.{Code, Step, Act, at, code_of, arm_of, deed_of, branches_of, outwhile, inwhile, relay}
+use Rattle.sj_lang.specs.Code.{Code, Step, Act, code_of, arm_of, deed_of, branches_of, outwhile, inwhile, relay}
 use Rattle.sj_lang.proofs.Folds.{deed_of-OutWhile, deed_of-InWhile, deed_of-Relay, deed_of-If, deed_of-Branch}
 use Rattle.sj_grammar.specs.declared.refusal.ParseRefusal.TheVariants as refusals
 use Rattle.sj_grammar.specs.Limits.{limits}
 use Rattle.sj_grammar.specs.Lexis.{next_of}
 use Rattle.sj_grammar.specs.Reading.{Reading}
 use Rattle.sj_grammar.specs.Names.{is_name}
-use Rattle.sj_grammar.specs.Places.{Takes}
 use Rattle.sj_grammar.specs.ExpressionDues.{whole}
 use Rattle.sj_grammar.specs.FileDues.{stmts, block, branches, name, fixed, expr, file_layer}
 use Rattle.sj_grammar.specs.Statements.{IsStatement, AreArms}
@@ -25,7 +24,7 @@ use Rattle.sj_party.specs.Read.{ReadsOnLines, ReadsCode}
 use Rattle.sj_party.specs.Parts.{a_name, an_expression, a_piece, a_block, some_arms, AreSome, ReadsDeed}
 use Rattle.sj_party.specs.Words.{word_of}
 use Rattle.sj_party.proofs.PartLemmas.{stops_behind, parts_on, piece_stops}
-use Rattle.sj_party.proofs.PieceLemmas.{lines_as, arm_read, statement_read, code_more, arms_more, some_more, no_code, block_read}
+use Rattle.sj_party.proofs.PieceLemmas.{arm_read, statement_read, code_more, arms_more, some_more, no_code, block_read}
 use Rattle.sj_party.proofs.CodeStuck.{no_name_else, word_piece, word_stops, code_stops, block_stops, opened_stops, filled_stops, arms_stop, err_opened}
 use Rattle.sj_party.proofs.RoomLemmas.{uses_on, keeps_on, keeps_itself, grows_itself}
 use Rattle.sj_party.proofs.statements.+code.Goals as goal
