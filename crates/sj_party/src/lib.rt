@@ -1,4 +1,4 @@
-//! Laws of the grammar of statements and files.
+//! Statements and files from tokens, and the laws of their grammar.
 #![tactic(auto)]
 
 mod laws;
@@ -7,6 +7,8 @@ mod parts;
 mod scalars;
 mod shapes;
 mod simple;
+#[cfg(test)]
+mod statement_tests;
 mod statements;
 
 pub use laws::{
