@@ -1,5 +1,5 @@
 -- Where a text is stuck in statements, blocks and arms.
-use Rattle.std.proofs.Common.{◌≡◌, ℕ, suc, ◌<◌, Bool, true, false, List, ◌∷◌, Result, IfErr, Some, None, refl, ap, sym, subst, ◌∙◌}
+use Rattle.std.proofs.Common.{◌≡◌, ℕ, suc, ◌<◌, Bool, true, false, List, ◌∷◌, Some, None, refl, ap, subst}
 use Rattle.std.specs.Prelude.{codes, nat_le, if◌then◌else◌}
 use Rattle.std.specs.Str.{bytes_eq}
 use Rattle.sj_lang.specs.declared.file.Names.{Names}
@@ -10,90 +10,25 @@ use Rattle.sj_grammar.specs.declared.refusal.ParseRefusal.{ParseRefusal}
 use Rattle.sj_grammar.specs.declared.refusal.ParseRefusal.TheVariants as refusals
 use Rattle.sj_grammar.specs.Limits.{limits}
 use Rattle.sj_grammar.specs.Lexis.{Ahead, at_end, bad, token, next_of}
-use Rattle.sj_grammar.specs.Literals.{is_largest, is_text}
-use Rattle.sj_grammar.specs.Names.{is_name, is_reserved}
-use Rattle.sj_grammar.specs.Reading.{Reading, line_at, before_next}
-use Rattle.sj_grammar.specs.Places.{At, Takes, TakesPiece, first_on}
-use Rattle.sj_grammar.specs.Layers.{goes, step, rule_of}
-use Rattle.sj_grammar.specs.FileDues.{Due, stmts, block, branches, name, fixed, statement_follow, file_layer}
+use Rattle.sj_grammar.specs.Literals.{is_largest}
+use Rattle.sj_grammar.specs.Names.{is_name}
+use Rattle.sj_grammar.specs.Reading.{Reading}
+use Rattle.sj_grammar.specs.Places.{At, Takes}
+use Rattle.sj_grammar.specs.Layers.{step, rule_of}
+use Rattle.sj_grammar.specs.FileDues.{Due, stmts, block, branches, name, fixed, file_layer}
 use Rattle.sj_grammar.specs.Faults.{Stuck, broken}
 use Rattle.sj_grammar.specs.Statements.{AreArms}
-use Rattle.sj_grammar.specs.Asked.{TakesText, Refuses, Passes, spelled_next}
+use Rattle.sj_grammar.specs.Asked.{Refuses, Passes, spelled_next}
 use Rattle.sj_grammar.proofs.Stuckness.{stuck_cons, stuck_by, refuses_stuck, skip}
 use Rattle.sj_proto.specs.Parsed.{standing, Stops}
 use Rattle.sj_proto.specs.Choices.{but_first}
-use Rattle.sj_proto.proofs.Exits.{plain, stops_map}
 use Rattle.sj_proto.proofs.Names.{test_is}
 use Rattle.sj_proto.proofs.Rules.{Refusing, over_rule}
 use Rattle.sj_expr.proofs.ReadLemmas.{spelling_at, agrees_itself}
-use Rattle.sj_party.specs.declared.openings.Word.TheVariants as words
-use Rattle.sj_party.specs.declared.openings.Opening.{Opening}
-use Rattle.sj_party.specs.declared.openings.Opening.TheVariants as openings
 use Rattle.sj_party.specs.Read.{ReadsOnLines, ReadsCode}
 use Rattle.sj_party.specs.Parts.{AreSome}
-use Rattle.sj_party.specs.Words.{word_of, dues_behind}
 use Rattle.sj_party.proofs.Runs.{code_leads, open_block}
 use Rattle.sj_party.proofs.PartLemmas.{leads_stuck, some_arms_lead}
-
-pub no_name_else : is_name (codes "else") ≡ false
-unfolding is_reserved
-no_name_else = refl
-
-no_name_word : (w : Opening) → is_name (word_of w) ≡ false
-unfolding is_reserved
-no_name_word (openings.Simple words.Send) = refl
-no_name_word (openings.Simple words.Delegate) = refl
-no_name_word (openings.Simple words.Recv) = refl
-no_name_word (openings.Simple words.Outbranch) = refl
-no_name_word (openings.Simple words.Let) = refl
-no_name_word (openings.Simple words.Close) = refl
-no_name_word openings.Inbranch = refl
-no_name_word openings.Outwhile = refl
-no_name_word openings.Inwhile = refl
-no_name_word openings.Relay = refl
-no_name_word openings.If = refl
-
-no_text_word : (w : Opening) → is_text (word_of w) ≡ false
-no_text_word (openings.Simple words.Send) = refl
-no_text_word (openings.Simple words.Delegate) = refl
-no_text_word (openings.Simple words.Recv) = refl
-no_text_word (openings.Simple words.Outbranch) = refl
-no_text_word (openings.Simple words.Let) = refl
-no_text_word (openings.Simple words.Close) = refl
-no_text_word openings.Inbranch = refl
-no_text_word openings.Outwhile = refl
-no_text_word openings.Inwhile = refl
-no_text_word openings.Relay = refl
-no_text_word openings.If = refl
-
-word_step : (w : Opening) (o n : ℕ) (ds : List Due) → step file_layer limits n (stmts o ∷ ds) (word_of w) ≡ goes n (dues_behind w o (stmts o ∷ ds))
-unfolding statement_follow
-word_step (openings.Simple words.Send) o n ds = refl
-word_step (openings.Simple words.Delegate) o n ds = refl
-word_step (openings.Simple words.Recv) o n ds = refl
-word_step (openings.Simple words.Outbranch) o n ds = refl
-word_step (openings.Simple words.Let) o n ds = refl
-word_step (openings.Simple words.Close) o n ds = refl
-word_step openings.Inbranch o n ds = refl
-word_step openings.Outwhile o n ds = refl
-word_step openings.Inwhile o n ds = refl
-word_step openings.Relay o n ds = refl
-word_step openings.If o n ds = refl
-
-took_word : (w : Opening) (r q : Reading) (names : Names) → TakesText r (word_of w) q → Takes (standing r names) (word_of w) (standing q names)
-took_word w r q names t = plain r q names (word_of w) (no_name_word w) (no_text_word w) t
-
--- the first word on its line
-pub word_piece : (w : Opening) (l : ℕ) (r q : Reading) (names : Names) → TakesText r (word_of w) q → l ≡ line_at (before_next r (next_of r.ahead)) → TakesPiece (standing r names) (first_on l (word_of w)) (standing q names)
-word_piece w l r q names t line =
-    let taken = took_word w r q names t in
-    record { taken = taken; line = line ∙ ap (λ (x : Ahead). line_at (before_next r x)) taken.token }
-
--- behind the first word
-pub word_stops : (w : Opening) (o : ℕ) (r q : Reading) (names : Names) (e : ParseRefusal) → TakesText r (word_of w) q → ((n : ℕ) → Stops (λ ds. dues_behind w o ds) n (standing q names) e) → (n : ℕ) → Stops (λ ds. stmts o ∷ ds) n (standing r names) e
-word_stops w o r q names e t st n =
-    stops_map (λ ds. dues_behind w o ds) (λ ds. stmts o ∷ ds) n n (standing q names) (standing r names) e
-    (λ f h ds. stuck_cons file_layer limits n n (standing r names) (standing q names) (word_of w) (stmts o ∷ ds) (dues_behind w o (stmts o ∷ ds)) f (took_word w r q names t) (word_step w o n ds) (h (stmts o ∷ ds))) (st n)
 
 -- behind statements
 code_stuck : (o : ℕ) (c : Code) (a m : At) (ds : List Due) (f : Fault) → ReadsCode o a m c → ((k : ℕ) → Stuck file_layer limits k m (stmts o ∷ ds) f) → (n : ℕ) → Stuck file_layer limits n a (stmts o ∷ ds) f
@@ -157,7 +92,3 @@ module _ (o : ℕ) (m : At) (named : is_name (spelled_next (next_of m.text.ahead
       leads_stuck a m r.pieces (an_arm (branches o ∷ ds)) (branches o ∷ ds) f r.begins (λ k. some_arms_lead (spelling_at m) o arms r.pieces some (r.are (spelling_at m) (agrees_itself m)) k ds)
       (λ k. arm_stuck k ds f (st k (branches o ∷ ds))) n
   arms_stop arms a refusals.NoMemory some r st n = tt
-
--- what is refused behind that word
-pub err_opened : {X : Type 0} (r : Result X ParseRefusal) (w v : Opening) (o : ℕ) (a : At) → w ≡ v → IfErr r (λ e. (n : ℕ) → Stops (λ ds. dues_behind v o ds) n a e) → IfErr r (λ e. (n : ℕ) → Stops (λ ds. dues_behind w o ds) n a e)
-err_opened r w v o a is h = subst (λ (x : Opening). IfErr r (λ e. (n : ℕ) → Stops (λ ds. dues_behind x o ds) n a e)) (sym is) h

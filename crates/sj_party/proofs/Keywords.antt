@@ -1,7 +1,6 @@
 -- Statements by the word that they begin with.
-use Rattle.std.proofs.Common.{◌≡◌, ℕ, Bool, true, false, List, [], ◌∷◌, ◌++◌, refl, ap, sym, subst, ◌∙◌, ◌⊎◌, inl, inr}
-use Rattle.std.specs.Prelude.{codes, if◌then◌else◌}
-use Rattle.std.specs.Str.{bytes_eq}
+use Rattle.std.proofs.Common.{◌≡◌, ℕ, true, false, List, [], ◌∷◌, ◌++◌, refl, ap, sym, subst, ◌∙◌, ◌⊎◌, inl, inr}
+use Rattle.std.specs.Prelude.{codes}
 use Rattle.sj_lang.specs.declared.party.Scalar.{Scalar}
 use Rattle.sj_lang.specs.Term.{Term}
 use Rattle.sj_lang.specs.Code.{Code, Step, Branches, at, send, delegate, take_value, take_end, outbranch, inbranch, outwhile, inwhile, relay, if_else, let_be, close, branch}
@@ -12,78 +11,7 @@ use Rattle.sj_grammar.specs.Expressions.{IsExpression}
 use Rattle.sj_grammar.specs.Statements.{scalar_piece, braced, called, IsStatement, IsCode, IsBlock, AreArms}
 use Rattle.sj_grammar.specs.Statements as grammar
 use Rattle.sj_party.specs.Alike.{AreAlike, is_keyword, EndsCode}
-
-pub data Kind : Type 0 where
-  sends : Kind
-  delegates : Kind
-  takes : Kind
-  selects : Kind
-  branches_off : Kind
-  loops_out : Kind
-  loops_in : Kind
-  relays : Kind
-  tests : Kind
-  binds : Kind
-  closes : Kind
-  other : Kind
-
-unfoldable pub kind_of : List ℕ → Kind
-kind_of s =
-    if bytes_eq s (codes "send") then sends
-    else (if bytes_eq s (codes "delegate") then delegates
-    else (if bytes_eq s (codes "recv") then takes
-    else (if bytes_eq s (codes "outbranch") then selects
-    else (if bytes_eq s (codes "inbranch") then branches_off
-    else (if bytes_eq s (codes "outwhile") then loops_out
-    else (if bytes_eq s (codes "inwhile") then loops_in
-    else (if bytes_eq s (codes "relay") then relays
-    else (if bytes_eq s (codes "if") then tests
-    else (if bytes_eq s (codes "let") then binds
-    else (if bytes_eq s (codes "close") then closes else other))))))))))
-
-pub sends_kind : kind_of (codes "send") ≡ sends
-unfolding kind_of
-sends_kind = refl
-
-pub delegates_kind : kind_of (codes "delegate") ≡ delegates
-unfolding kind_of
-delegates_kind = refl
-
-pub takes_kind : kind_of (codes "recv") ≡ takes
-unfolding kind_of
-takes_kind = refl
-
-pub selects_kind : kind_of (codes "outbranch") ≡ selects
-unfolding kind_of
-selects_kind = refl
-
-pub branches_off_kind : kind_of (codes "inbranch") ≡ branches_off
-unfolding kind_of
-branches_off_kind = refl
-
-pub loops_out_kind : kind_of (codes "outwhile") ≡ loops_out
-unfolding kind_of
-loops_out_kind = refl
-
-pub loops_in_kind : kind_of (codes "inwhile") ≡ loops_in
-unfolding kind_of
-loops_in_kind = refl
-
-pub relays_kind : kind_of (codes "relay") ≡ relays
-unfolding kind_of
-relays_kind = refl
-
-pub tests_kind : kind_of (codes "if") ≡ tests
-unfolding kind_of
-tests_kind = refl
-
-pub binds_kind : kind_of (codes "let") ≡ binds
-unfolding kind_of
-binds_kind = refl
-
-pub closes_kind : kind_of (codes "close") ≡ closes
-unfolding kind_of
-closes_kind = refl
+pub use Rattle.sj_party.proofs.WordKinds.{Kind, kind_of, sends, delegates, takes, selects, branches_off, loops_out, loops_in, relays, tests, binds, closes, other, sends_kind, delegates_kind, takes_kind, selects_kind, branches_off_kind, loops_out_kind, loops_in_kind, relays_kind, tests_kind, binds_kind, closes_kind}
 
 module _ (L : Limits) (names : Spelling) where
   abbrev pub Named : ℕ → Type 0

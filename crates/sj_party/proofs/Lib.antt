@@ -1,8 +1,10 @@
 pub mod AlikeLemmas
 pub mod AwaitedLemmas
+pub mod CodeReads
 pub mod CodeStuck
 pub mod Faultless
 pub mod FileRuns
+pub mod FirstSteps
 pub mod Keywords
 pub mod NoStatement
 pub mod OneFile
@@ -12,3 +14,5 @@ pub mod RoomLemmas
 pub mod Runs
 pub mod Taken
 pub mod Unique
+pub mod WordKinds
+pub mod WordLemmas

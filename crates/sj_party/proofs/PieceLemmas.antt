@@ -1,12 +1,9 @@
--- Parts that were read as pieces on their lines, and statements, blocks and arms of them.
-use Rattle.std.proofs.Common.{◌≡◌, ℕ, suc, ◌<◌, List, [], ◌∷◌, ◌++◌, refl, ap, sym, subst, ◌∙◌, append-nil, append_assoc}
-use Rattle.std.specs.Prelude.{codes, map}
+-- Parts that were read, as pieces on their lines, and the parts of a statement.
+use Rattle.std.proofs.Common.{◌≡◌, ℕ, List, [], ◌∷◌, ◌++◌, refl, ap, sym, subst, ◌∙◌, append-nil}
+use Rattle.std.specs.Prelude.{codes}
 use Rattle.sj_lang.specs.Term.{Term}
-use Rattle.sj_lang.specs.Code.{Code, Step, Act, Branches, in_order, branches_of, code_of, stmt_of, arm_of, no_step, no_branch, branch, at, send, delegate, take_value, take_end, outbranch, inbranch, outwhile, inwhile, relay, if_else, let_be, close}
-use Rattle.std.proofs.lemmas.List.{map-append}
+use Rattle.sj_lang.specs.Code.{Code, Act, Branches, no_branch, branch, at, send, delegate, take_value, take_end, outbranch, inbranch, outwhile, inwhile, relay, if_else, let_be, close}
 use Rattle.sj_lang.specs.declared.party.Scalar.{Scalar}
-use Rattle.sj_lang.specs.declared.party.Stmt.{Stmt}
-use Rattle.sj_lang.specs.declared.party.StmtArm.{StmtArm}
 use Rattle.sj_grammar.specs.Limits.{limits}
 use Rattle.sj_grammar.specs.Tables.{Spelling, IsNamed, entry_of}
 use Rattle.sj_grammar.specs.Places.{Pieces, Piece, At, Takes, TakesPiece, spellings, plain, first_on, all_plain}
@@ -16,8 +13,8 @@ use Rattle.sj_grammar.specs.Statements as grammar
 use Rattle.sj_proto.specs.Parsed.{Gives}
 use Rattle.sj_proto.proofs.Lines.{off_lines, on_lines, OnLines-append}
 use Rattle.sj_expr.proofs.ReadLemmas.{agrees_back}
-use Rattle.sj_party.specs.Read.{ReadsOnLines, ReadsCode}
-use Rattle.sj_party.specs.Parts.{Part, a_name, an_expression, a_piece, a_value, an_end, a_block, some_arms, parts_of, first_word, AreSome, ReadsPart, ReadsParts, ReadsDeed}
+use Rattle.sj_party.specs.Read.{ReadsOnLines}
+use Rattle.sj_party.specs.Parts.{Part, a_name, an_expression, a_piece, a_value, an_end, a_block, some_arms, parts_of, first_word, AreSome, ReadsPart, ReadsParts}
 
 -- one behind another
 pub lines_on : (a m b : At) (F G H : Spelling → List Piece → Type 0) → ((names : Spelling) (ps qs : List Piece) → F names ps → G names qs → H names (ps ++ qs)) → ReadsOnLines a m F → ReadsOnLines m b G → ReadsOnLines a b H
@@ -69,17 +66,6 @@ module _ (names : Spelling) where
   statement_is o l (let_be n t) a (more (named is) (more one_piece (more (expressed h) (more one_piece nothing)))) = grammar.of_let is h
   statement_is o l (close x) a (more (named is) (more one_piece nothing)) = grammar.of_close is
 
-  -- one statement more, and one arm more
-  pub code_push : (o : ℕ) (xs : List Step) (s : Step) (a b : List Piece) → IsCode limits names o (in_order xs) a → IsStatement limits names o s b → IsCode limits names o (in_order (xs ++ s ∷ [])) (a ++ b)
-  code_push o [] s a b grammar.none i = subst (λ (ps : List Piece). IsCode limits names o (in_order (s ∷ [])) ps) (append-nil b) (grammar.one_more i grammar.none)
-  code_push o (x ∷ xs) s a b (grammar.one_more {a = c} {b = d} j rest) i =
-      subst (λ (ps : List Piece). IsCode limits names o (in_order (x ∷ (xs ++ s ∷ []))) ps) (sym (append_assoc c d b)) (grammar.one_more j (code_push o xs s d b rest i))
-
-  pub arms_push : (o : ℕ) (xs : List (ℕ × Code)) (x : ℕ × Code) (a b : List Piece) → AreArms limits names o (branches_of xs) a → AreArms limits names o (branch x.0 x.1 no_branch) b → AreArms limits names o (branches_of (xs ++ x ∷ [])) (a ++ b)
-  arms_push o [] x a b grammar.no_arm i = i
-  arms_push o (y ∷ xs) x a b (grammar.one_arm {m} {a = c} {b = d} is code rest) i =
-      subst (λ (ps : List Piece). AreArms limits names o (branches_of (y ∷ (xs ++ x ∷ []))) (called limits names m ∷ plain (codes ":") ∷ ps)) (sym (append_assoc c d b)) (grammar.one_arm is code (arms_push o xs x d b rest i))
-
 -- a name, whatever its number is spelled as
 name_pieces : (a b : At) (x : ℕ) → Gives a b (λ word. word x ∷ []) (λ word. IsNamed limits word x) → ReadsOnLines a b (λ names ps. (ps ≡ called limits names x ∷ []) × IsNamed limits names.word x)
 name_pieces a b x gives =
@@ -93,7 +79,7 @@ name_pieces a b x gives =
           (ap (λ s. plain s ∷ []) same, theirs.1);
     }
 
-taken_piece : (a b : At) (s : List ℕ) → Takes a s b → TakesPiece a (plain s) b
+pub taken_piece : (a b : At) (s : List ℕ) → Takes a s b → TakesPiece a (plain s) b
 taken_piece a b s t = record { taken = t; line = tt }
 
 part_pieces : (p : Part) (a b : At) → ReadsPart a b p → ReadsOnLines a b (λ names ps. PartPieces names p ps)
@@ -111,45 +97,3 @@ part_pieces (some_arms o arms) a b r = lines_as a b _ _ (λ names ps h. armed r.
 pub parts_pieces : (ps : List Part) (a b : At) → ReadsParts a b ps → ReadsOnLines a b (λ names qs. ArePieces names ps qs)
 parts_pieces [] a b r = record { pieces = []; begins = r; are = λ names g. nothing }
 parts_pieces (p ∷ ps) a b r = lines_on a r.0 b _ _ _ (λ names xs ys h i. more h i) (part_pieces p a r.0 r.1) (parts_pieces ps r.0 b r.2)
-
--- an arm of its parts
-pub arm_read : (o m : ℕ) (c : Code) (a b : At) → ReadsParts a b (a_name m ∷ a_piece (codes ":") ∷ a_block o c ∷ []) → ReadsOnLines a b (λ names ps. AreArms limits names o (branch m c no_branch) ps)
-arm_read o m c a b r = lines_as a b _ _ (λ names ps h. arm_is names ps h) (parts_pieces (a_name m ∷ a_piece (codes ":") ∷ a_block o c ∷ []) a b r)
-  where
-    arm_is : (names : Spelling) (ps : List Piece) → ArePieces names (a_name m ∷ a_piece (codes ":") ∷ a_block o c ∷ []) ps → AreArms limits names o (branch m c no_branch) ps
-    arm_is names ps (more (named is) (more one_piece (more (blocked body) nothing))) = grammar.one_arm is body grammar.no_arm
-
--- a statement of its first word and its parts
-pub statement_read : (o l : ℕ) (act : Act) (word : List ℕ) (a m b : At) → TakesPiece a (first_on l word) m → ReadsDeed word o m b act → ReadsOnLines a b (λ names ps. IsStatement limits names o (at l act) ps)
-statement_read o l act word a m b t r =
-    lines_on a m b (λ names ps. ps ≡ first_on l (first_word act) ∷ []) _ _
-    (λ names ps qs h i. subst (λ (xs : List Piece). IsStatement limits names o (at l act) (xs ++ qs)) (sym h) (statement_is names o l act qs i))
-    (line_one a m (first_on l word) _ t (λ names. ap (λ s. first_on l s ∷ []) (sym r.first))) (parts_pieces (parts_of o act) m b r.parts)
-
--- statements and arms so far, and one more
-pub code_more : (o : ℕ) (xs : List Stmt) (x : Stmt) (a m b : At) → ReadsCode o a m (code_of xs) → ReadsOnLines m b (λ names ps. IsStatement limits names o (stmt_of x) ps) → ReadsCode o a b (code_of (xs ++ x ∷ []))
-code_more o xs x a m b r q =
-    subst (λ (ss : List Step). ReadsCode o a b (in_order ss)) (sym (map-append stmt_of xs (x ∷ [])))
-    (lines_on a m b _ _ _ (λ names ps qs h i. code_push names o (map stmt_of xs) (stmt_of x) ps qs h i) r q)
-
-pub arms_more : (o : ℕ) (xs : List StmtArm) (x : StmtArm) (a m b : At) → ReadsOnLines a m (λ names ps. AreArms limits names o (branches_of (map arm_of xs)) ps) → ReadsOnLines m b (λ names ps. AreArms limits names o (branches_of (arm_of x ∷ [])) ps)
-    → ReadsOnLines a b (λ names ps. AreArms limits names o (branches_of (map arm_of (xs ++ x ∷ []))) ps)
-arms_more o xs x a m b r q =
-    subst (λ (ys : List (ℕ × Code)). ReadsOnLines a b (λ names ps. AreArms limits names o (branches_of ys) ps)) (sym (map-append arm_of xs (x ∷ [])))
-    (lines_on a m b _ _ _ (λ names ps qs h i. arms_push names o (map arm_of xs) (arm_of x) ps qs h i) r q)
-
-pub some_more : (xs : List StmtArm) (x : StmtArm) → AreSome (branches_of (map arm_of (xs ++ x ∷ [])))
-some_more [] x = tt
-some_more (y ∷ xs) x = tt
-
-pub no_code : (o : ℕ) (a : At) → ReadsCode o a a no_step
-no_code o a = record { pieces = []; begins = refl; are = λ names g. grammar.none }
-
--- a block of its braces and its statements
-pub block_read : (o k : ℕ) (c : Code) (a m u b : At) → k ≡ suc o → o < 32 → Takes a (codes "{") m → ReadsCode k m u c → Takes u (codes "}") b → ReadsOnLines a b (λ names ps. IsBlock limits names o c ps)
-block_read o k c a m u b deeper deep brace r last =
-    lines_on a m b (λ names ps. ps ≡ plain (codes "{") ∷ []) (λ names ps. (qs : List Piece) × IsCode limits names (suc o) c qs × (ps ≡ qs ++ plain (codes "}") ∷ [])) _
-    (λ names ps qs h i. subst (λ (xs : List Piece). IsBlock limits names o c xs) (sym (λ j. h j ++ i.2 j)) (grammar.of_code deep i.1))
-    (line_one a m (plain (codes "{")) _ (taken_piece a m (codes "{") brace) (λ names. refl))
-    (lines_on m u b _ (λ names ps. ps ≡ plain (codes "}") ∷ []) _ (λ names ps qs h i. (ps, subst (λ (j : ℕ). IsCode limits names j c ps) deeper h, ap (λ xs. ps ++ xs) i)) r
-    (line_one u b (plain (codes "}")) _ (taken_piece u b (codes "}") last) (λ names. refl)))

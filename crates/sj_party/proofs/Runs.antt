@@ -1,10 +1,8 @@
 -- Statements, blocks and arms are what is due.
-use Rattle.std.proofs.Common.{◌≡◌, ℕ, suc, ◌<◌, true, IsTrue, List, [], ◌∷◌, ◌++◌, length, refl, sym, subst, append_assoc, arith}
+use Rattle.std.proofs.Common.{◌≡◌, ℕ, suc, true, IsTrue, List, [], ◌∷◌, ◌++◌, length, refl, sym, subst, append_assoc, arith}
 use Rattle.std.specs.Prelude.{codes}
-use Rattle.std.proofs.lemmas.Bool.{lt-leb, le-ltb}
+use Rattle.std.proofs.lemmas.Bool.{le-ltb}
 use Rattle.std.proofs.lemmas.Bool.Decides.{nat_tests}
-use Rattle.sj_lang.specs.declared.party.Scalar.{Scalar}
-use Rattle.sj_lang.specs.declared.party.Scalar.TheVariants as scalars
 use Rattle.sj_lang.specs.Term.{Term}
 use Rattle.sj_lang.specs.Code.{Code, Step, Branches}
 use Rattle.sj_grammar.specs.Limits.{Limits}
@@ -14,72 +12,15 @@ use Rattle.sj_grammar.specs.Places.{Pieces, Piece, plain, first_on, all_plain}
 use Rattle.sj_grammar.specs.Layers.{goes, step}
 use Rattle.sj_grammar.specs.Expressions.{IsExpression}
 use Rattle.sj_grammar.specs.ExpressionDues.{whole}
-use Rattle.sj_grammar.specs.FileDues.{Due, stmts, block, branches, awaited, name, fixed, expr, semicolon, statement_follow, file_layer}
+use Rattle.sj_grammar.specs.FileDues.{Due, stmts, block, branches, name, fixed, expr, semicolon, file_layer}
 use Rattle.sj_grammar.specs.Statements.{scalar_piece, braced, called, IsStatement, IsCode, IsBlock, AreArms}
 use Rattle.sj_grammar.specs.Statements as grammar
 use Rattle.sj_proto.proofs.Pieced.{name_step}
 use Rattle.sj_party.specs.Leads.{LeadsTo}
 use Rattle.sj_party.proofs.Taken.{leads_none, leads_one, leads_on, leads_expression}
+pub use Rattle.sj_party.proofs.FirstSteps.{send_step, delegate_step, recv_step, outbranch_step, inbranch_step, outwhile_step, inwhile_step, relay_step, if_step, let_step, close_step, close_block, open_block, scalar_step}
 
 module _ (L : Limits) where
-  -- the first token of a statement
-  send_step : (o n : ℕ) (ds : List Due) → step file_layer L n (stmts o ∷ ds) (codes "send") ≡ goes n (name ∷ expr whole ∷ semicolon ∷ stmts o ∷ ds)
-  unfolding statement_follow
-  send_step o n ds = refl
-
-  delegate_step : (o n : ℕ) (ds : List Due) → step file_layer L n (stmts o ∷ ds) (codes "delegate") ≡ goes n (name ∷ name ∷ semicolon ∷ stmts o ∷ ds)
-  unfolding statement_follow
-  delegate_step o n ds = refl
-
-  recv_step : (o n : ℕ) (ds : List Due) → step file_layer L n (stmts o ∷ ds) (codes "recv") ≡ goes n (name ∷ name ∷ awaited ∷ semicolon ∷ stmts o ∷ ds)
-  unfolding statement_follow
-  recv_step o n ds = refl
-
-  outbranch_step : (o n : ℕ) (ds : List Due) → step file_layer L n (stmts o ∷ ds) (codes "outbranch") ≡ goes n (name ∷ name ∷ semicolon ∷ stmts o ∷ ds)
-  unfolding statement_follow
-  outbranch_step o n ds = refl
-
-  inbranch_step : (o n : ℕ) (ds : List Due) → step file_layer L n (stmts o ∷ ds) (codes "inbranch") ≡ goes n (name ∷ fixed (codes "{") ∷ name ∷ fixed (codes ":") ∷ block o ∷ branches o ∷ fixed (codes "}") ∷ stmts o ∷ ds)
-  unfolding statement_follow
-  inbranch_step o n ds = refl
-
-  outwhile_step : (o n : ℕ) (ds : List Due) → step file_layer L n (stmts o ∷ ds) (codes "outwhile") ≡ goes n (name ∷ expr whole ∷ block o ∷ stmts o ∷ ds)
-  unfolding statement_follow
-  outwhile_step o n ds = refl
-
-  inwhile_step : (o n : ℕ) (ds : List Due) → step file_layer L n (stmts o ∷ ds) (codes "inwhile") ≡ goes n (name ∷ block o ∷ stmts o ∷ ds)
-  unfolding statement_follow
-  inwhile_step o n ds = refl
-
-  relay_step : (o n : ℕ) (ds : List Due) → step file_layer L n (stmts o ∷ ds) (codes "relay") ≡ goes n (name ∷ name ∷ block o ∷ stmts o ∷ ds)
-  unfolding statement_follow
-  relay_step o n ds = refl
-
-  if_step : (o n : ℕ) (ds : List Due) → step file_layer L n (stmts o ∷ ds) (codes "if") ≡ goes n (expr whole ∷ block o ∷ fixed (codes "else") ∷ block o ∷ stmts o ∷ ds)
-  unfolding statement_follow
-  if_step o n ds = refl
-
-  let_step : (o n : ℕ) (ds : List Due) → step file_layer L n (stmts o ∷ ds) (codes "let") ≡ goes n (name ∷ fixed (codes "=") ∷ expr whole ∷ semicolon ∷ stmts o ∷ ds)
-  unfolding statement_follow
-  let_step o n ds = refl
-
-  close_step : (o n : ℕ) (ds : List Due) → step file_layer L n (stmts o ∷ ds) (codes "close") ≡ goes n (name ∷ semicolon ∷ stmts o ∷ ds)
-  unfolding statement_follow
-  close_step o n ds = refl
-
-  -- and the brace behind the last one
-  pub close_block : (o n : ℕ) (ds : List Due) → step file_layer L n (stmts o ∷ fixed (codes "}") ∷ ds) (codes "}") ≡ goes n ds
-  unfolding statement_follow
-  close_block o n ds = refl
-
-  pub open_block : (o n : ℕ) (ds : List Due) → o < L.nesting → step file_layer L n (block o ∷ ds) (codes "{") ≡ goes n (stmts (suc o) ∷ fixed (codes "}") ∷ ds)
-  open_block o n ds deep = rw (lt-leb L.nesting o deep) refl
-
-  pub scalar_step : (k : Scalar) (n : ℕ) (ds : List Due) → step file_layer L n (awaited ∷ ds) (scalar_piece k) ≡ goes n ds
-  scalar_step scalars.Int n ds = refl
-  scalar_step scalars.Boolean n ds = refl
-  scalar_step scalars.Text n ds = refl
-
   -- a piece that is due
   piece_leads : (n m : ℕ) (ds es fs : List Due) (p : Piece) (a : List Piece) → step file_layer L n ds p.spelled ≡ goes m es → ((k : ℕ) → LeadsTo L k es a fs) → LeadsTo L n ds (p ∷ a) fs
   piece_leads n m ds es fs p a e r = leads_one L n m ds es fs p a e (r m)
@@ -117,9 +58,9 @@ module _ (L : Limits) where
       pub block_leads : {o : ℕ} {c : Code} {a : List Piece} → IsBlock L names o c a → (n : ℕ) (ds : List Due) → LeadsTo L n (block o ∷ ds) a ds
       block_leads {o} (grammar.of_code {a} deep c) n ds =
           let within = fixed (codes "}") ∷ ds in
-          leads_one L n n (block o ∷ ds) (stmts (suc o) ∷ within) ds (plain (codes "{")) (a ++ plain (codes "}") ∷ []) (open_block o n ds deep)
+          leads_one L n n (block o ∷ ds) (stmts (suc o) ∷ within) ds (plain (codes "{")) (a ++ plain (codes "}") ∷ []) (open_block L o n ds deep)
           (leads_on L n (stmts (suc o) ∷ within) (stmts (suc o) ∷ within) ds a (plain (codes "}") ∷ []) (code_leads c n within)
-          (λ k. leads_one L k k (stmts (suc o) ∷ within) ds ds (plain (codes "}")) [] (close_block (suc o) k ds) (leads_none L k ds)))
+          (λ k. leads_one L k k (stmts (suc o) ∷ within) ds ds (plain (codes "}")) [] (close_block L (suc o) k ds) (leads_none L k ds)))
 
       pub arms_leads : {o : ℕ} {b : Branches} {a : List Piece} → AreArms L names o b a → (n : ℕ) (ds : List Due) → LeadsTo L n (branches o ∷ ds) a (branches o ∷ ds)
       arms_leads {o} grammar.no_arm n ds = leads_none L n (branches o ∷ ds)
@@ -130,20 +71,20 @@ module _ (L : Limits) where
 
       pub statement_leads : {o : ℕ} {s : Step} {a : List Piece} → IsStatement L names o s a → (n : ℕ) (ds : List Due) → LeadsTo L n (stmts o ∷ ds) a (stmts o ∷ ds)
       statement_leads {o} (grammar.of_send {l} {x} {t} {e} is h) n ds =
-          piece_leads n n _ _ _ (first_on l (codes "send")) _ (send_step o n ds) (λ k. name_leads x k _ _ _ is (λ k. ended_leads t e k (stmts o ∷ ds) h))
+          piece_leads n n _ _ _ (first_on l (codes "send")) _ (send_step L o n ds) (λ k. name_leads x k _ _ _ is (λ k. ended_leads t e k (stmts o ∷ ds) h))
       statement_leads {o} (grammar.of_delegate {l} {x} {y} is also) n ds =
-          piece_leads n n _ _ _ (first_on l (codes "delegate")) _ (delegate_step o n ds) (λ k. name_leads x k _ _ _ is (λ k. name_leads y k _ _ _ also (λ k. semicolon_leads k (stmts o ∷ ds))))
+          piece_leads n n _ _ _ (first_on l (codes "delegate")) _ (delegate_step L o n ds) (λ k. name_leads x k _ _ _ is (λ k. name_leads y k _ _ _ also (λ k. semicolon_leads k (stmts o ∷ ds))))
       statement_leads {o} (grammar.of_take {l} {x} {n = m} {k = kind} is also) n ds =
-          piece_leads n n _ _ _ (first_on l (codes "recv")) _ (recv_step o n ds) (λ k. name_leads x k _ _ _ is (λ k. name_leads m k _ _ _ also
-          (λ k. piece_leads k k _ _ _ (plain (scalar_piece kind)) _ (scalar_step kind k (semicolon ∷ stmts o ∷ ds)) (λ k. semicolon_leads k (stmts o ∷ ds)))))
+          piece_leads n n _ _ _ (first_on l (codes "recv")) _ (recv_step L o n ds) (λ k. name_leads x k _ _ _ is (λ k. name_leads m k _ _ _ also
+          (λ k. piece_leads k k _ _ _ (plain (scalar_piece kind)) _ (scalar_step L kind k (semicolon ∷ stmts o ∷ ds)) (λ k. semicolon_leads k (stmts o ∷ ds)))))
       statement_leads {o} (grammar.of_take_end {l} {x} {y} {p} is also third) n ds =
-          piece_leads n n _ _ _ (first_on l (codes "recv")) _ (recv_step o n ds) (λ k. name_leads x k _ _ _ is (λ k. name_leads y k _ _ _ also
+          piece_leads n n _ _ _ (first_on l (codes "recv")) _ (recv_step L o n ds) (λ k. name_leads x k _ _ _ is (λ k. name_leads y k _ _ _ also
           (λ k. piece_leads k k _ (name ∷ semicolon ∷ stmts o ∷ ds) _ (plain (codes "session")) _ refl (λ k. name_leads p k _ _ _ third (λ k. semicolon_leads k (stmts o ∷ ds))))))
       statement_leads {o} (grammar.of_outbranch {l} {x} {m} is also) n ds =
-          piece_leads n n _ _ _ (first_on l (codes "outbranch")) _ (outbranch_step o n ds) (λ k. name_leads x k _ _ _ is (λ k. name_leads m k _ _ _ also (λ k. semicolon_leads k (stmts o ∷ ds))))
+          piece_leads n n _ _ _ (first_on l (codes "outbranch")) _ (outbranch_step L o n ds) (λ k. name_leads x k _ _ _ is (λ k. name_leads m k _ _ _ also (λ k. semicolon_leads k (stmts o ∷ ds))))
       statement_leads {o} (grammar.of_inbranch {l} {x} is (grammar.one_arm {m} {a} {b} also c more)) n ds =
           let behind = branches o ∷ fixed (codes "}") ∷ stmts o ∷ ds in
-          piece_leads n n _ _ _ (first_on l (codes "inbranch")) _ (inbranch_step o n ds) (λ k. name_leads x k _ _ _ is
+          piece_leads n n _ _ _ (first_on l (codes "inbranch")) _ (inbranch_step L o n ds) (λ k. name_leads x k _ _ _ is
           (λ k. piece_leads k k _ _ _ (plain (codes "{")) _ refl (λ k. name_leads m k _ _ _ also
           (λ k. piece_leads k k _ (block o ∷ behind) _ (plain (codes ":")) _ refl
           (λ k. subst (λ (ps : List Piece). LeadsTo L k (block o ∷ behind) ps (stmts o ∷ ds)) (sym (append_assoc a b (plain (codes "}") ∷ [])))
@@ -151,19 +92,19 @@ module _ (L : Limits) where
           (λ k. leads_on L k behind behind (stmts o ∷ ds) b (plain (codes "}") ∷ []) (arms_leads more k (fixed (codes "}") ∷ stmts o ∷ ds))
           (λ k. leads_one L k k behind (stmts o ∷ ds) (stmts o ∷ ds) (plain (codes "}")) [] (close_arms o k (stmts o ∷ ds)) (leads_none L k (stmts o ∷ ds))))))))))
       statement_leads {o} (grammar.of_outwhile {l} {x} {t} {e} {a} is h (grammar.of_code {a = c} deep inner)) n ds =
-          piece_leads n n _ _ _ (first_on l (codes "outwhile")) _ (outwhile_step o n ds) (λ k. name_leads x k _ _ _ is
+          piece_leads n n _ _ _ (first_on l (codes "outwhile")) _ (outwhile_step L o n ds) (λ k. name_leads x k _ _ _ is
           (λ k. tested_leads t e o k (stmts o ∷ ds) (stmts o ∷ ds) (c ++ plain (codes "}") ∷ []) h (λ k. block_leads (grammar.of_code deep inner) k (stmts o ∷ ds))))
       statement_leads {o} (grammar.of_inwhile {l} {x} {a} is c) n ds =
-          piece_leads n n _ _ _ (first_on l (codes "inwhile")) _ (inwhile_step o n ds) (λ k. name_leads x k _ _ _ is (λ k. block_leads c k (stmts o ∷ ds)))
+          piece_leads n n _ _ _ (first_on l (codes "inwhile")) _ (inwhile_step L o n ds) (λ k. name_leads x k _ _ _ is (λ k. block_leads c k (stmts o ∷ ds)))
       statement_leads {o} (grammar.of_relay {l} {x} {y} {a} is also c) n ds =
-          piece_leads n n _ _ _ (first_on l (codes "relay")) _ (relay_step o n ds) (λ k. name_leads x k _ _ _ is (λ k. name_leads y k _ _ _ also (λ k. block_leads c k (stmts o ∷ ds))))
+          piece_leads n n _ _ _ (first_on l (codes "relay")) _ (relay_step L o n ds) (λ k. name_leads x k _ _ _ is (λ k. name_leads y k _ _ _ also (λ k. block_leads c k (stmts o ∷ ds))))
       statement_leads {o} (grammar.of_if {l} {t} {e} {b} h (grammar.of_code {a = c} deep inner) other) n ds =
           let behind = fixed (codes "else") ∷ block o ∷ stmts o ∷ ds in
-          piece_leads n n _ _ _ (first_on l (codes "if")) _ (if_step o n ds)
+          piece_leads n n _ _ _ (first_on l (codes "if")) _ (if_step L o n ds)
           (λ k. tested_leads t e o k behind (stmts o ∷ ds) ((c ++ plain (codes "}") ∷ []) ++ plain (codes "else") ∷ b) h
           (λ k. leads_on L k (block o ∷ behind) behind (stmts o ∷ ds) (braced c) (plain (codes "else") ∷ b) (block_leads (grammar.of_code deep inner) k behind)
           (λ k. piece_leads k k behind (block o ∷ stmts o ∷ ds) (stmts o ∷ ds) (plain (codes "else")) b refl (λ k. block_leads other k (stmts o ∷ ds)))))
       statement_leads {o} (grammar.of_let {l} {n = m} {t} {e} is h) n ds =
-          piece_leads n n _ _ _ (first_on l (codes "let")) _ (let_step o n ds) (λ k. name_leads m k _ _ _ is (λ k. piece_leads k k _ _ _ (plain (codes "=")) _ refl (λ k. ended_leads t e k (stmts o ∷ ds) h)))
+          piece_leads n n _ _ _ (first_on l (codes "let")) _ (let_step L o n ds) (λ k. name_leads m k _ _ _ is (λ k. piece_leads k k _ _ _ (plain (codes "=")) _ refl (λ k. ended_leads t e k (stmts o ∷ ds) h)))
       statement_leads {o} (grammar.of_close {l} {x} is) n ds =
-          piece_leads n n _ _ _ (first_on l (codes "close")) _ (close_step o n ds) (λ k. name_leads x k _ _ _ is (λ k. semicolon_leads k (stmts o ∷ ds)))
+          piece_leads n n _ _ _ (first_on l (codes "close")) _ (close_step L o n ds) (λ k. name_leads x k _ _ _ is (λ k. semicolon_leads k (stmts o ∷ ds)))

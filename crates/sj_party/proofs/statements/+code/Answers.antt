@@ -24,8 +24,9 @@ use Rattle.sj_party.specs.Read.{ReadsOnLines, ReadsCode}
 use Rattle.sj_party.specs.Parts.{a_name, an_expression, a_piece, a_block, some_arms, AreSome, ReadsDeed}
 use Rattle.sj_party.specs.Words.{word_of}
 use Rattle.sj_party.proofs.PartLemmas.{stops_behind, parts_on, piece_stops}
-use Rattle.sj_party.proofs.PieceLemmas.{arm_read, statement_read, code_more, arms_more, some_more, no_code, block_read}
-use Rattle.sj_party.proofs.CodeStuck.{no_name_else, word_piece, word_stops, code_stops, block_stops, opened_stops, filled_stops, arms_stop, err_opened}
+use Rattle.sj_party.proofs.CodeReads.{arm_read, statement_read, code_more, arms_more, some_more, no_code, block_read}
+use Rattle.sj_party.proofs.WordLemmas.{no_name_else, word_piece, word_stops, err_opened}
+use Rattle.sj_party.proofs.CodeStuck.{code_stops, block_stops, opened_stops, filled_stops, arms_stop}
 use Rattle.sj_party.proofs.RoomLemmas.{uses_on, keeps_on, keeps_itself, grows_itself}
 use Rattle.sj_party.proofs.statements.+code.Goals as goal
 
