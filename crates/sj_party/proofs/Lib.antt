@@ -2,13 +2,17 @@ pub mod AlikeLemmas
 pub mod AwaitedLemmas
 pub mod CodeReads
 pub mod CodeStuck
+pub mod ConnectLemmas
 pub mod Faultless
+pub mod FileLemmas
+pub mod FileLines
 pub mod FileRuns
 pub mod FirstSteps
 pub mod Keywords
 pub mod NoStatement
 pub mod OneFile
 pub mod PartLemmas
+pub mod PartyLemmas
 pub mod PieceLemmas
 pub mod RoomLemmas
 pub mod Runs

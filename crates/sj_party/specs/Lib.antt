@@ -5,4 +5,5 @@ pub mod Parts
 pub mod Read
 pub mod Rooms
 pub mod Viable
+pub mod Within
 pub mod Words

@@ -1,8 +1,11 @@
 //! Statements and files from tokens, and the laws of their grammar.
 #![tactic(auto)]
 
+mod connects;
+mod files;
 mod laws;
 mod openings;
+mod parties;
 mod parts;
 mod scalars;
 mod shapes;
@@ -11,7 +14,9 @@ mod simple;
 mod statement_tests;
 mod statements;
 
+pub use files::parse_file;
 pub use laws::{
     files_are_what_is_due, no_file_goes_on_there, no_file_has_a_fault, no_statement_has_a_fault,
     one_file_a_text, statements_are_read_in_one_way, statements_are_what_is_due,
 };
+pub use sj_proto::{Fault, ParseRefusal, Rule};
