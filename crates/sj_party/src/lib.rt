@@ -13,6 +13,8 @@ mod simple;
 #[cfg(test)]
 mod statement_tests;
 mod statements;
+#[cfg(test)]
+mod tests;
 
 pub use files::parse_file;
 pub use laws::{
