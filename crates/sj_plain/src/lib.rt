@@ -3,6 +3,7 @@
 //! It runs files of one session of numbers alone: `send` of a number, `recv` and `close`.
 #![tactic(auto)]
 
+mod ends;
 mod parties;
 mod sessions;
 mod world;

@@ -1,0 +1,116 @@
+//! Ends and sessions: how far each end has come, what was sent on it, and who took it.
+ghost use Rattle.std.specs.Prelude.{◌≡◌, ◌<◌, ℕ, map, IfOk, OnOk, OnErr};
+ghost use Rattle.sj_lang.specs.FileView.{protocol_of, connect_of};
+ghost use Rattle.sj_semantics.specs.Ends.{end_on};
+ghost use Rattle.sj_semantics.specs.Uses.{on_side, used, sends, takes, hands_on};
+ghost use Rattle.sj_plain.specs.Ends.{end_of, session_at, connected, next_on};
+
+use sj_base::{Msg, NoMemory};
+use sj_lang::{Connect, Proto, ProtocolDef};
+use sj_semantics::Passed;
+use std::alloc::Global;
+
+/// One end of a session.
+#[derive(Drop)]
+pub(crate) struct End {
+    place: Proto,
+    sent: Vec<Passed>,
+    takers: Vec<u16>,
+    hops: u8,
+}
+
+/// A session: the end of side 0, and the end of side 1.
+#[derive(Drop)]
+pub(crate) struct Session {
+    first: End,
+    second: End,
+}
+
+impl Session {
+    /// The session that the connection makes. It copies the protocols of its two ends.
+    pub(crate) fn start(
+        alloc: Global,
+        protocols: &[ProtocolDef],
+        connect: &Connect,
+    ) -> Result<Session, NoMemory>
+        ensures { IfOk result (λ z. session_at z ≡ connected (map protocol_of protocols.now) (connect_of connect.now)) }
+    {
+        Err(NoMemory)
+    }
+
+    fn end(&self, side: u8) -> &End
+        ensures { end_of result.now ≡ end_on side (session_at self.now) }
+    {
+        if side == 0 { &self.first } else { &self.second }
+    }
+
+    /// The items that are still ahead of the end.
+    pub(crate) fn place(&self, side: u8) -> &Proto
+        ensures { result.now ≡ (end_on side (session_at self.now)).place }
+    {
+        &self.end(side).place
+    }
+
+    /// All messages that the end sent, in order.
+    pub(crate) fn sent(&self, side: u8) -> &[Passed]
+        ensures { result.now ≡ (end_on side (session_at self.now)).sent }
+    {
+        &self.end(side).sent
+    }
+
+    /// Who took the first of the messages that the other end sent, in order.
+    pub(crate) fn takers(&self, side: u8) -> &[u16]
+        ensures { result.now ≡ (end_on side (session_at self.now)).takers }
+    {
+        &self.end(side).takers
+    }
+
+    /// How often the end was handed on.
+    pub(crate) fn hops(&self, side: u8) -> u8
+        ensures { result ≡ (end_on side (session_at self.now)).hops }
+    {
+        self.end(side).hops
+    }
+
+    /// Of what the other end sent, the first that this end hasn't taken.
+    pub(crate) fn untaken(&self, side: u8) -> Option<Passed>
+        ensures { result ≡ next_on side (session_at self.now) }
+    {
+        let taken = self.takers(side).len();
+        self.sent(if side == 0 { 1 } else { 0 }).get(taken).copied()
+    }
+
+    /// Puts the message behind those that the end sent, and moves the end past it.
+    pub(crate) fn send(&mut self, alloc: Global, side: u8, passed: Passed) -> Result<(), NoMemory>
+        ensures ok { OnOk result (session_at self.new ≡ on_side side (used passed.by (sends passed.msg)) (session_at self.old)) }
+        ensures err { OnErr result (session_at self.new ≡ session_at self.old) }
+    {
+        Err(NoMemory)
+    }
+
+    /// Notes that the party took the message, and moves the end past it.
+    pub(crate) fn take(
+        &mut self,
+        alloc: Global,
+        side: u8,
+        by: u16,
+        msg: &Msg,
+    ) -> Result<(), NoMemory>
+        ensures ok { OnOk result (session_at self.new ≡ on_side side (used by (takes msg.now)) (session_at self.old)) }
+        ensures err { OnErr result (session_at self.new ≡ session_at self.old) }
+    {
+        Err(NoMemory)
+    }
+
+    /// Notes that the end was handed on.
+    pub(crate) fn hand_on(&mut self, side: u8)
+        requires { (end_on side (session_at self.old)).hops < 100 }
+        ensures { (by : ℕ) → session_at self.new ≡ on_side side (used by hands_on) (session_at self.old) }
+    {
+        if side == 0 {
+            self.first.hops += 1;
+        } else {
+            self.second.hops += 1;
+        }
+    }
+}
