@@ -1,12 +1,16 @@
 //! Ends and sessions: how far each end has come, what was sent on it, and who took it.
 ghost use Rattle.std.specs.Prelude.{◌≡◌, ◌<◌, ℕ, map, IfOk, OnOk, OnErr};
+ghost use Rattle.std.specs.Option.{option_copied};
+ghost use Rattle.sj_lang.specs.FileAt.{body_named, protocol_named};
 ghost use Rattle.sj_lang.specs.FileView.{protocol_of, connect_of};
 ghost use Rattle.sj_semantics.specs.Ends.{end_on};
+ghost use Rattle.sj_semantics.specs.Start.{fresh};
 ghost use Rattle.sj_semantics.specs.Uses.{on_side, used, sends, takes, hands_on};
 ghost use Rattle.sj_plain.specs.Ends.{end_of, session_at, connected, next_on};
 
+use crate::moves::advance;
 use sj_base::{Msg, NoMemory};
-use sj_lang::{Connect, Proto, ProtocolDef};
+use sj_lang::{Connect, Proto, ProtocolDef, Way, copied};
 use sj_semantics::Passed;
 use std::alloc::Global;
 
@@ -17,6 +21,58 @@ pub(crate) struct End {
     sent: Vec<Passed>,
     takers: Vec<u16>,
     hops: u8,
+}
+
+impl End {
+    // The end before any act, at the body of the protocol of that name.
+    fn start(alloc: Global, protocols: &[ProtocolDef], name: u16) -> Result<End, NoMemory>
+        ensures { IfOk result (λ e. end_of e ≡ fresh (body_named (map protocol_of protocols.now) name)) }
+    {
+        let place = match body_of(protocols, name) {
+            Some(body) => copied(alloc, body)?,
+            None => Proto {
+                items: Vec::new(alloc),
+            },
+        };
+        Ok(End {
+            place,
+            sent: Vec::new(alloc),
+            takers: Vec::new(alloc),
+            hops: 0,
+        })
+    }
+
+    fn send(&mut self, alloc: Global, passed: Passed) -> Result<(), NoMemory>
+        ensures ok { OnOk result (end_of self.new ≡ used passed.by (sends passed.msg) (end_of self.old)) }
+        ensures err { OnErr result (end_of self.new ≡ end_of self.old) }
+    {
+        self.sent.reserve(1)?;
+        advance(alloc, &mut self.place, Way::Out, &passed.msg)?;
+        self.sent.push_reserved(passed);
+        Ok(())
+    }
+
+    fn take(&mut self, alloc: Global, by: u16, msg: &Msg) -> Result<(), NoMemory>
+        ensures ok { OnOk result (end_of self.new ≡ used by (takes msg.now) (end_of self.old)) }
+        ensures err { OnErr result (end_of self.new ≡ end_of self.old) }
+    {
+        self.takers.reserve(1)?;
+        advance(alloc, &mut self.place, Way::Into, msg)?;
+        self.takers.push_reserved(by);
+        Ok(())
+    }
+}
+
+// The body of the first protocol of that name.
+fn body_of(protocols: &[ProtocolDef], name: u16) -> Option<&Proto>
+    ensures { protocol_named (map protocol_of protocols.now) name ≡ option_copied result }
+{
+    for i in 0..protocols.len() {
+        if protocols[i].name == name {
+            return Some(&protocols[i].body);
+        }
+    }
+    None
 }
 
 /// A session: the end of side 0, and the end of side 1.
@@ -35,7 +91,10 @@ impl Session {
     ) -> Result<Session, NoMemory>
         ensures { IfOk result (λ z. session_at z ≡ connected (map protocol_of protocols.now) (connect_of connect.now)) }
     {
-        Err(NoMemory)
+        Ok(Session {
+            first: End::start(alloc, protocols, connect.first.protocol)?,
+            second: End::start(alloc, protocols, connect.second.protocol)?,
+        })
     }
 
     fn end(&self, side: u8) -> &End
@@ -85,7 +144,11 @@ impl Session {
         ensures ok { OnOk result (session_at self.new ≡ on_side side (used passed.by (sends passed.msg)) (session_at self.old)) }
         ensures err { OnErr result (session_at self.new ≡ session_at self.old) }
     {
-        Err(NoMemory)
+        if side == 0 {
+            self.first.send(alloc, passed)
+        } else {
+            self.second.send(alloc, passed)
+        }
     }
 
     /// Notes that the party took the message, and moves the end past it.
@@ -99,7 +162,11 @@ impl Session {
         ensures ok { OnOk result (session_at self.new ≡ on_side side (used by (takes msg.now)) (session_at self.old)) }
         ensures err { OnErr result (session_at self.new ≡ session_at self.old) }
     {
-        Err(NoMemory)
+        if side == 0 {
+            self.first.take(alloc, by, msg)
+        } else {
+            self.second.take(alloc, by, msg)
+        }
     }
 
     /// Notes that the end was handed on.

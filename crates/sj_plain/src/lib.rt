@@ -4,6 +4,7 @@
 #![tactic(auto)]
 
 mod ends;
+mod moves;
 mod parties;
 mod sessions;
 mod world;

@@ -1,0 +1,157 @@
+//! The place of an end moves past a message, its items moved and not copied.
+#![tactic(auto, using(crate::proofs::MoveLemmas::moves))]
+
+ghost use Rattle.std.specs.Prelude.{◌≡◌, ◌+◌, ◌<◌, ◌≤◌, ◌∷◌, ◌++◌, vec_len, vec_capacity, IsOk, IfSome, IfNone, OnOk, OnErr, Some, None};
+ghost use Rattle.sj_lang.specs.View.{carried_of, place_of};
+ghost use Rattle.sj_lang.specs.After.{at_label, carries};
+ghost use Rattle.sj_semantics.specs.Uses.{moved};
+ghost use Rattle.sj_plain.specs.Moves.{body_in, arms_in, arm_count, arm_rest, place_length, after_move, IsOpen};
+
+use sj_base::{Msg, NoMemory};
+use sj_lang::{Arms, Item, Kind, Proto, Way, copied};
+use std::alloc::Global;
+
+/// How a message moves a place.
+enum Move {
+    /// It is not next there.
+    Stay,
+    /// Past the first item.
+    Pass,
+    /// Through the body of the first item, which comes again behind it.
+    Turn,
+    /// Into the arm of that number of the first item.
+    Enter(usize),
+}
+
+/// Moves the place past the message. It stays where the message isn't next. One more turn of a
+/// loop copies the body of the loop, and nothing else copies items.
+pub(crate) fn advance(alloc: Global, place: &mut Proto, way: Way, msg: &Msg) -> Result<(), NoMemory>
+    ensures ok { OnOk result (place.new ≡ moved place.old way msg.now) }
+    ensures err { OnErr result (place.new ≡ place.old) }
+{
+    match move_of(&place.items, way, msg) {
+        Move::Stay => Ok(()),
+        Move::Pass => {
+            let _ = place.items.remove(0);
+            Ok(())
+        }
+        Move::Turn => turn(alloc, &mut place.items),
+        Move::Enter(arm) => enter(&mut place.items, arm),
+    }
+}
+
+fn move_of(items: &[Item], way: Way, msg: &Msg) -> Move
+    ensures open { IsOpen items.now result }
+    ensures after { after_move items.now result ≡ moved (place_of items.now) way msg.now }
+{
+    let Some(first) = items.first() else {
+        return Move::Stay;
+    };
+    match (first, way) {
+        (Item::Send(kind), Way::Out) | (Item::Recv(kind), Way::Into) => {
+            if is_carried(kind, msg) {
+                Move::Pass
+            } else {
+                Move::Stay
+            }
+        }
+        (Item::Select(choice), Way::Out) | (Item::Branch(choice), Way::Into) => {
+            let Msg::Label(label) = msg else {
+                return Move::Stay;
+            };
+            match arm_named(choice, *label) {
+                Some(arm) => Move::Enter(arm),
+                None => Move::Stay,
+            }
+        }
+        (Item::OutLoop(_), Way::Out) | (Item::InLoop(_), Way::Into) => match msg {
+            Msg::More(true) => Move::Turn,
+            Msg::More(false) => Move::Pass,
+            _ => Move::Stay,
+        },
+        _ => Move::Stay,
+    }
+}
+
+fn is_carried(kind: &Kind, msg: &Msg) -> bool
+    ensures { result ≡ carries (carried_of kind.now) msg.now }
+{
+    match (kind, msg) {
+        (Kind::Int, Msg::Int(_)) => true,
+        (Kind::Boolean, Msg::Bool(_)) => true,
+        (Kind::Text, Msg::Text(_)) => true,
+        (Kind::Session(_), Msg::Sess { .. }) => true,
+        _ => false,
+    }
+}
+
+// The number of the first arm of that label.
+fn arm_named(choice: &Arms, label: u16) -> Option<usize>
+    ensures within { IfSome result (λ k. k < arm_count choice.now) }
+    ensures found { IfSome result (λ k. at_label label choice.now ≡ Some (arm_rest k choice.now)) }
+    ensures none { IfNone result (at_label label choice.now ≡ None) }
+{
+    for i in 0..choice.arms.len() {
+        if choice.arms[i].label == label {
+            return Some(i);
+        }
+    }
+    None
+}
+
+// Puts one turn of the loop before it.
+fn turn(alloc: Global, items: &mut Vec<Item>) -> Result<(), NoMemory>
+    requires { IsOpen items.old.items Move.Turn }
+    ensures ok { OnOk result (place_of items.new.items ≡ after_move items.old.items Move.Turn) }
+    ensures err { OnErr result (items.new.items ≡ items.old.items) }
+{
+    let mut body = match &items[0] {
+        Item::OutLoop(body) | Item::InLoop(body) => copied(alloc, body)?,
+        _ => return Ok(()),
+    };
+    put_before(items, &mut body.items)
+}
+
+// Puts the items of the arm in place of the choice.
+fn enter(items: &mut Vec<Item>, arm: usize) -> Result<(), NoMemory>
+    requires { IsOpen items.old.items (Move.Enter arm) }
+    ensures ok { OnOk result (place_of items.new.items ≡ after_move items.old.items (Move.Enter arm)) }
+    ensures err { OnErr result (items.new.items ≡ items.old.items) }
+{
+    items.reserve(arm_length(&items[0], arm))?;
+    let mut front = taken_arm(items.remove(0), arm);
+    // The room is there.
+    put_before(items, &mut front.items)
+}
+
+fn arm_length(item: &Item, arm: usize) -> usize
+    requires { arm < arm_count (arms_in item.now) }
+    ensures { result ≡ place_length (arm_rest arm (arms_in item.now)) }
+{
+    match item {
+        Item::Select(choice) | Item::Branch(choice) => choice.arms[arm].rest.items.len(),
+        _ => 0,
+    }
+}
+
+fn taken_arm(item: Item, arm: usize) -> Proto
+    requires { arm < arm_count (arms_in item) }
+    ensures { result ≡ arm_rest arm (arms_in item) }
+{
+    match item {
+        Item::Select(mut choice) | Item::Branch(mut choice) => choice.arms.swap_remove(arm).rest,
+        _ => unreachable!(),
+    }
+}
+
+// Moves the items of `front` to the front.
+fn put_before(items: &mut Vec<Item>, front: &mut Vec<Item>) -> Result<(), NoMemory>
+    ensures ok { OnOk result (items.new.items ≡ front.old.items ++ items.old.items) }
+    ensures err { OnErr result (items.new.items ≡ items.old.items) }
+    ensures room { vec_len items.old + vec_len front.old ≤ vec_capacity items.old → IsOk result }
+{
+    let behind = items.len();
+    items.append(front)?;
+    items.rotate_left(behind);
+    Ok(())
+}
