@@ -1,1 +1,5 @@
+pub mod BeginLemmas
+pub mod CourseLemmas
 pub mod MoveLemmas
+pub mod SteppingLemmas
+pub mod UseLemmas

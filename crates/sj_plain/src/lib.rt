@@ -1,12 +1,14 @@
-//! The plain world: two lists of messages a session, and one step of one party at a time.
-//!
-//! It runs files of one session of numbers alone: `send` of a number, `recv` and `close`.
+//! The plain world: a file's parties and sessions, and one step of one party at a time.
 #![tactic(auto)]
 
+mod course;
 mod ends;
+mod halt;
+mod kept;
 mod moves;
-mod parties;
-mod sessions;
-mod world;
+mod plain;
+mod stepping;
+mod uses;
 
-pub use world::{Halt, Plain};
+pub use halt::Halt;
+pub use plain::Plain;

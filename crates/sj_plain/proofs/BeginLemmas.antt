@@ -1,0 +1,59 @@
+-- The parties and sessions at the start, one after another.
+use Rattle.std.proofs.Common.{◌≡◌, ℕ, zero, suc, ◌+◌, ◌<◌, List, [], ◌∷◌, ◌++◌, map, length, take, get_or, slice_get, Some, refl, ap, sym, ◌∙◌, arith}
+use Rattle.std.proofs.lemmas.List.{map-append}
+use Rattle.sj_lang.specs.FileAt.{FileAt, PartyAt, ConnectAt, end_of_party, ends_from}
+use Rattle.sj_semantics.specs.Start.{program_of, programs_from, session_of, start_of}
+use Rattle.sj_semantics.specs.Run.{IsRun, after_acts}
+use Rattle.sj_plain.specs.declared.course.Course.{Course}
+use Rattle.sj_plain.specs.Course.{acts_in, file_in, world_in}
+use Rattle.sj_plain.specs.Kept.{without_words}
+
+ends_same : (file : FileAt) (p n : ℕ) (cs : List ConnectAt) → ends_from (without_words file) p n cs ≡ ends_from file p n cs
+ends_same file p n [] = refl
+ends_same file p n (c ∷ cs) =
+    ap (λ t. end_of_party file p c.first (record { sess = n; side = 0 }) ++ end_of_party file p c.second (record { sess = n; side = 1 }) ++ t) (ends_same file p (n + 1) cs)
+
+programs_same : (file : FileAt) (p : ℕ) (qs : List PartyAt) → programs_from (without_words file) p qs ≡ programs_from file p qs
+programs_same file p [] = refl
+programs_same file p (q ∷ qs) = λ i. record (program_of file p q) { ends = ends_same file p 0 file.connects i } ∷ programs_same file (p + 1) qs i
+
+-- the start needs no words
+pub start_same : (file : FileAt) → start_of (without_words file) ≡ start_of file
+start_same file = λ i. record { parties = programs_same file 0 file.parties i; sessions = map (session_of file) file.connects }
+
+length-programs : (file : FileAt) (p : ℕ) (qs : List PartyAt) → length (programs_from file p qs) ≡ length qs
+length-programs file p [] = refl
+length-programs file p (q ∷ qs) = ap suc (length-programs file (p + 1) qs)
+
+-- as many programs as parties
+pub length-start : (file : FileAt) → length (start_of file).parties ≡ length file.parties
+length-start file = length-programs file 0 file.parties
+
+take_suc : {X : Type 0} (xs : List X) (i : ℕ) (x : X) → slice_get xs i ≡ Some x → take (suc i) xs ≡ take i xs ++ x ∷ []
+take_suc [] i x h = cc
+take_suc (a ∷ xs) zero x h = let it : a ≡ x = cc in ap (λ t. t ∷ []) it
+take_suc (a ∷ xs) (suc i) x h = ap (λ t. a ∷ t) (take_suc xs i x h)
+
+pub take_next : {X : Type 0} (xs : List X) (i : ℕ) (x : X) → slice_get xs i ≡ Some x → take (i + 1) xs ≡ take i xs ++ x ∷ []
+take_next xs i x h = ap (λ n. take n xs) (let e : i + 1 ≡ suc i = omega arith in e) ∙ take_suc xs i x h
+
+map_suc : {X Y : Type 0} (view : X → Y) (xs : List X) (i : ℕ) (x : X) → i < length xs → x ≡ get_or xs i x → map view (take (suc i) xs) ≡ map view (take i xs) ++ view x ∷ []
+map_suc view [] i x lt h = absurd (omega arith)
+map_suc view (a ∷ xs) zero x lt h = ap (λ t. view t ∷ []) (sym h)
+map_suc view (a ∷ xs) (suc i) x lt h = ap (λ t. view a ∷ t) (map_suc view xs i x (omega arith) h)
+
+-- one more element that is seen as the one at its place
+pub map_next : {X Y : Type 0} (view : X → Y) (xs out : List X) (i : ℕ) (x y : X) → i < length xs → x ≡ get_or xs i x → view y ≡ view x → map view out ≡ map view (take i xs) → map view (out ++ y ∷ []) ≡ map view (take (i + 1) xs)
+map_next view xs out i x y lt h same so_far =
+    map-append view out (y ∷ [])
+    ∙ (λ j. so_far j ++ same j ∷ [])
+    ∙ sym (map_suc view xs i x lt h)
+    ∙ ap (λ n. map view (take n xs)) (let e : suc i ≡ i + 1 = omega arith in e)
+
+-- one more element that is seen as the next of a list
+pub seen_next : {X Y : Type 0} (view : X → Y) (ys : List Y) (out : List X) (i : ℕ) (x : X) → slice_get ys i ≡ Some (view x) → map view out ≡ take i ys → map view (out ++ x ∷ []) ≡ take (i + 1) ys
+seen_next view ys out i x h so_far = map-append view out (x ∷ []) ∙ ap (λ t. t ++ view x ∷ []) so_far ∙ sym (take_next ys i (view x) h)
+
+-- no act has led from the start to anywhere else
+pub begins : (file : FileAt) (c : Course) → file_in c ≡ without_words file → acts_in c ≡ [] → world_in c ≡ start_of file → IsRun (file_in c) (acts_in c) (world_in c)
+begins file c kept acts world = ap (after_acts (start_of (file_in c))) acts ∙ ap (λ f. Some (start_of f)) kept ∙ ap Some (start_same file) ∙ ap Some (sym world)

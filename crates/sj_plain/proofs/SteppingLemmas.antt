@@ -1,0 +1,38 @@
+-- How a party stands, by what it wants.
+use Rattle.std.proofs.Common.{◌≡◌, ℕ, ◌<◌, nat_lt, Bool, true, false, cond, List, Option, Some, None, unwrap_or, refl, ap, sym, ◌∙◌}
+use Rattle.std.proofs.lemmas.Bool.{lt-ltb}
+use Rattle.sj_semantics.specs.declared.State.{State}
+use Rattle.sj_semantics.specs.declared.State.TheVariants as states
+use Rattle.sj_semantics.specs.declared.Want.{Want}
+use Rattle.sj_semantics.specs.declared.Want.TheVariants as wants
+use Rattle.sj_semantics.specs.Ends.{Session}
+use Rattle.sj_semantics.specs.Program.{Program}
+use Rattle.sj_semantics.specs.State.{state_by, state_wanting, state_wanting_if, state_of_program}
+use Rattle.sj_semantics.specs.Wants.{want_of}
+
+-- a program that is stuck counts as ended
+state_by_want : (zs : List Session) (steps : ℕ) (o : Option Want) → state_wanting_if zs steps o ≡ state_wanting zs steps (unwrap_or o wants.Ended)
+state_by_want zs steps None = refl
+state_by_want zs steps (Some want) = refl
+
+-- a party that hasn't ended is at the limit of steps, or stands as its step does
+state_going : (zs : List Session) (steps : ℕ) (want : Want) → (want ≡ wants.Ended → ⊥) → state_wanting zs steps want ≡ cond (nat_lt steps 10000) (state_by zs want) (states.AtLimit None)
+state_going zs steps wants.Ended ne = absurd (ne refl)
+state_going zs steps wants.Local ne = refl
+state_going zs steps (wants.Send e m) ne = refl
+state_going zs steps (wants.Delegate e y) ne = refl
+state_going zs steps (wants.Take e a) ne = refl
+state_going zs steps (wants.Close e) ne = refl
+
+when_below : (b : Bool) (s t : State) → b ≡ true → cond b s t ≡ s
+when_below true s t h = refl
+when_below false s t h = cc
+
+-- a party that hasn't ended and has steps left stands as its next step does
+pub stands_so : (zs : List Session) (g : Program) (want : Want) (s : State) → want ≡ unwrap_or (want_of g) wants.Ended → (want ≡ wants.Ended → ⊥) → g.steps < 10000 → s ≡ state_by zs want → s ≡ state_of_program zs g
+stands_so zs g want s it ne below so =
+    so
+    ∙ sym (when_below (nat_lt g.steps 10000) (state_by zs want) (states.AtLimit None) (lt-ltb g.steps 10000 below))
+    ∙ sym (state_going zs g.steps want ne)
+    ∙ ap (state_wanting zs g.steps) it
+    ∙ sym (state_by_want zs g.steps (want_of g))

@@ -1,0 +1,71 @@
+-- Sessions in a list, and uses of their ends.
+use Rattle.std.proofs.Common.{◌≡◌, ℕ, zero, suc, ◌≤◌, ◌<◌, List, [], ◌∷◌, map, length, get_or, slice_get, Option, Some, None, option_map, unwrap_or, refl, ap, sym, ◌∙◌, arith, subst, inl, inr}
+use Rattle.std.proofs.Math.ListN.{set}
+use Rattle.std.proofs.lemmas.Bool.{cases_eq}
+use Rattle.sj_base.specs.declared.EndId.{EndId}
+use Rattle.sj_base.specs.declared.Msg.{Msg}
+use Rattle.sj_semantics.specs.Ends as model
+use Rattle.sj_semantics.specs.Ends.{EndAt, end_on, end_at, next_for, nowhere, other_side}
+use Rattle.sj_semantics.specs.Uses.{used, sends, hands_on, altered, on_side}
+use Rattle.sj_semantics_laws.proofs.AlteredLemmas.{altered_comm, altered-altered, slice_get-altered, slice_get-altered_other}
+
+-- ---- one element of a list
+
+pub altered-past : {X : Type 0} (xs : List X) (i : ℕ) (f : X → X) → length xs ≤ i → altered xs i f ≡ xs
+altered-past [] i f le = refl
+altered-past (x ∷ xs) zero f le = absurd (omega arith)
+altered-past (x ∷ xs) (suc i) f le = ap (λ t. x ∷ t) (altered-past xs i f (omega arith))
+
+-- an element that is seen as what f makes of the old one
+pub map-set : {X Y : Type 0} (view : X → Y) (xs : List X) (i : ℕ) (x y : X) (f : Y → Y) → i < length xs → x ≡ get_or xs i x → view y ≡ f (view x) → map view (set xs i y) ≡ altered (map view xs) i f
+map-set view [] i x y f lt there new = absurd (omega arith)
+map-set view (a ∷ xs) zero x y f lt there new = ap (λ t. t ∷ map view xs) (new ∙ ap (λ t. f (view t)) there)
+map-set view (a ∷ xs) (suc i) x y f lt there new = ap (λ t. view a ∷ t) (map-set view xs i x y f (omega arith) there new)
+
+-- an element that is seen as the old one was
+pub map-same : {X Y : Type 0} (view : X → Y) (xs : List X) (i : ℕ) (x y : X) → i < length xs → x ≡ get_or xs i x → view y ≡ view x → map view (set xs i y) ≡ map view xs
+map-same view [] i x y lt there same = absurd (omega arith)
+map-same view (a ∷ xs) zero x y lt there same = ap (λ t. t ∷ map view xs) (same ∙ ap view there)
+map-same view (a ∷ xs) (suc i) x y lt there same = ap (λ t. view a ∷ t) (map-same view xs i x y (omega arith) there same)
+
+-- ---- an end that is handed on, and the message that does it
+
+sides_comm : (p c d : ℕ) (m : Msg) (z : model.Session) → on_side d (used p hands_on) (on_side c (used p (sends m)) z) ≡ on_side c (used p (sends m)) (on_side d (used p hands_on) z)
+sides_comm p zero zero m z = refl
+sides_comm p zero (suc d) m z = refl
+sides_comm p (suc c) zero m z = refl
+sides_comm p (suc c) (suc d) m z = refl
+
+-- the message of the hand-over can be sent first
+pub handed_first : (p : ℕ) (e y : EndId) (m : Msg) (zs : List model.Session)
+    → altered (altered zs e.sess (on_side e.side (used p (sends m)))) y.sess (on_side y.side (used p hands_on))
+    ≡ altered (altered zs y.sess (on_side y.side (used p hands_on))) e.sess (on_side e.side (used p (sends m)))
+handed_first p e y m zs =
+    elim (cases_eq e.sess y.sess) [
+      | inl same ↦
+          subst (λ (t : ℕ). altered (altered zs e.sess (on_side e.side (used p (sends m)))) t (on_side y.side (used p hands_on)) ≡ altered (altered zs t (on_side y.side (used p hands_on))) e.sess (on_side e.side (used p (sends m)))) same
+          (altered-altered zs e.sess (on_side e.side (used p (sends m))) (on_side y.side (used p hands_on))
+          ∙ ap (altered zs e.sess) (λ i z. sides_comm p e.side y.side m z i)
+          ∙ sym (altered-altered zs e.sess (on_side y.side (used p hands_on)) (on_side e.side (used p (sends m)))))
+      | inr other ↦ altered_comm zs e.sess y.sess (on_side e.side (used p (sends m))) (on_side y.side (used p hands_on)) other
+    ]
+
+side_hops : (p c d : ℕ) (m : Msg) (z : model.Session) → (end_on d (on_side c (used p (sends m)) z)).hops ≡ (end_on d z).hops
+side_hops p zero zero m z = refl
+side_hops p zero (suc d) m z = refl
+side_hops p (suc c) zero m z = refl
+side_hops p (suc c) (suc d) m z = refl
+
+hops_if : (p c d : ℕ) (m : Msg) (o : Option model.Session) → (unwrap_or (option_map (end_on d) (option_map (on_side c (used p (sends m))) o)) nowhere).hops ≡ (unwrap_or (option_map (end_on d) o) nowhere).hops
+hops_if p c d m None = refl
+hops_if p c d m (Some z) = side_hops p c d m z
+
+-- a send counts no hand-over
+pub hops_stay : (p : ℕ) (e y : EndId) (m : Msg) (zs : List model.Session) → (end_at (altered zs e.sess (on_side e.side (used p (sends m)))) y).hops ≡ (end_at zs y).hops
+hops_stay p e y m zs =
+    elim (cases_eq e.sess y.sess) [
+      | inl same ↦
+          subst (λ (t : ℕ). (unwrap_or (option_map (end_on y.side) (slice_get (altered zs e.sess (on_side e.side (used p (sends m)))) t)) nowhere).hops ≡ (unwrap_or (option_map (end_on y.side) (slice_get zs t)) nowhere).hops) same
+          (ap (λ o. (unwrap_or (option_map (end_on y.side) o) nowhere).hops) (slice_get-altered zs e.sess (on_side e.side (used p (sends m)))) ∙ hops_if p e.side y.side m (slice_get zs e.sess))
+      | inr other ↦ ap (λ o. (unwrap_or (option_map (end_on y.side) o) nowhere).hops) (slice_get-altered_other zs e.sess y.sess (on_side e.side (used p (sends m))) other)
+    ]

@@ -1,0 +1,10 @@
+use Rattle.std.proofs.Common.{ap, arith, length}
+use Rattle.sj_lang.specs.FileView.{file_of}
+use Rattle.sj_plain.proofs.BeginLemmas.{begins, length-start}
+use Rattle.sj_plain.proofs.plain.Plain.start.Goals as goal
+
+pub invariant_of-result : goal.invariant_of-result
+invariant_of-result c = record {
+  run = begins (file_of c.file.result.now) c.in_ok-course.course c.in_ok-course.ensures.file c.in_ok-course.ensures.acts c.in_ok-course.ensures.world;
+  few = omega (arith, ap (λ w. length w.parties) c.in_ok-course.ensures.world, length-start (file_of c.file.result.now), c.file.ensures.accepted.within.parties);
+}

@@ -1,9 +1,0 @@
-use Rattle.std.proofs.Common.{◌≡◌}
-use Rattle.sj_plain.specs.Plain.{party_count, session_count}
-use Rattle.sj_plain.proofs.world.Plain.finish.Given as goal
-
-abbrev pub invariant-loop : goal.invariant-loop
-invariant-loop l = record {
-  parties : party_count l.self ≡ party_count l.fn.self;
-  sessions : session_count l.self ≡ session_count l.fn.self;
-}

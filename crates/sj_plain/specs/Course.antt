@@ -1,0 +1,33 @@
+-- The world of a course of acts, its acts, and the file that it is of.
+use Rattle.std.specs.Prelude.{◌≡◌, ◌≤◌, ℕ, List, ◌++◌, length, map, Some}
+use Rattle.sj_lang.specs.FileAt.{FileAt}
+use Rattle.sj_machine.specs.Sound.{program_at}
+use Rattle.sj_semantics.specs.Run.{IsRun, after_acts}
+use Rattle.sj_semantics.specs.World.{World}
+use Rattle.sj_plain.specs.declared.course.Course.{Course}
+use Rattle.sj_plain.specs.Kept.{file_kept}
+use Rattle.sj_plain.specs.Stepping.{sessions_at}
+
+-- the file without its words
+abbrev pub file_in : Course → FileAt
+file_in c = file_kept c.kept
+
+-- the parties and the sessions
+abbrev pub world_in : Course → World
+world_in c = record { parties = map program_at c.machines.items; sessions = sessions_at c.sessions.items }
+
+-- who acted, in order
+abbrev pub acts_in : Course → List ℕ
+acts_in c = c.acts.items
+
+-- some acts lead from the one to the other
+pub record GoesOn (v w : Course) : Type 0 where
+  pub acts : List ℕ
+  pub leads : after_acts (world_in v) acts ≡ Some (world_in w)
+  pub listed : acts_in w ≡ acts_in v ++ acts
+  pub kept : file_in w ≡ file_in v
+
+-- its acts lead from the start of its file to its world, and an accepted file has 16 parties at most
+pub record IsReached (c : Course) : Type 0 where
+  pub run : IsRun (file_in c) (acts_in c) (world_in c)
+  pub few : length (world_in c).parties ≤ 16

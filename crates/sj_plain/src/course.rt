@@ -1,0 +1,234 @@
+//! A course of acts: a file's parties and sessions as the acts so far have left them.
+ghost use Rattle.std.specs.List.{list_all, list_any};
+ghost use Rattle.std.specs.Prelude.{◌≡◌, ◌<◌, ◌≤◌, ◌∷◌, ◌++◌, [], ℕ, None, Some, true, false, length, map, IfOk, MatchResult, OnErr, OnOk};
+ghost use Rattle.sj_acceptance.specs.Accepted.{IsAccepted};
+ghost use Rattle.sj_lang.specs.FileView.{file_of};
+ghost use Rattle.sj_plain.specs.Kept.{without_words};
+ghost use Rattle.sj_machine.specs.Sound.{program_at};
+ghost use Rattle.sj_plain.specs.Rounds.{Shows, steps_left};
+ghost use Rattle.sj_plain.specs.Stepping.{sessions_at};
+ghost use Rattle.sj_semantics.specs.Start.{start_of};
+ghost use Rattle.sj_semantics.specs.State.{IsSettled, has_ended, is_at_limit, state_of, state_of_program, verdict_of};
+ghost use Rattle.sj_semantics.specs.World.{act_of};
+ghost use Rattle.sj_semantics.specs.declared.State.TheVariants.{Ready};
+
+use crate::Halt;
+use crate::ends::Session;
+use crate::kept::{Kept, copied_file};
+use crate::stepping::{state_of, step};
+use sj_base::NoMemory;
+use sj_lang::File;
+use sj_machine::Machine;
+use sj_semantics::{State, Verdict};
+use std::alloc::Global;
+
+/// A file, its parties and sessions, and who acted so far.
+#[derive(Drop)]
+pub struct Course {
+    pub alloc: Global,
+    pub kept: Kept,
+    pub machines: Vec<Machine>,
+    pub sessions: Vec<Session>,
+    pub acts: Vec<u16>,
+}
+
+impl Course {
+    ghost use Rattle.sj_plain.specs.Course.{GoesOn, acts_in, file_in, world_in};
+
+    /// The course before any act.
+    pub fn start(alloc: Global, file: &File) -> Result<Course, NoMemory>
+        requires { IsAccepted (file_of file.now) }
+        ensures file { IfOk result (λ c. file_in c ≡ without_words (file_of file.now)) }
+        ensures acts { IfOk result (λ c. acts_in c ≡ []) }
+        ensures world { IfOk result (λ c. world_in c ≡ start_of (file_of file.now)) }
+    {
+        let kept = copied_file(alloc, file)?;
+        let machines = first_machines(alloc, file)?;
+        let sessions = first_sessions(alloc, file)?;
+        Ok(Course {
+            alloc,
+            kept,
+            machines,
+            sessions,
+            acts: Vec::new(alloc),
+        })
+    }
+
+    /// Does the next step of the party.
+    pub fn act(&mut self, party: u16) -> Result<(), Halt>
+        requires { party < length (world_in self.old).parties }
+        ensures ok { OnOk result (act_of (world_in self.old) party ≡ Some (world_in self.new)) }
+        ensures acts { OnOk result (acts_in self.new ≡ acts_in self.old ++ party ∷ []) }
+        ensures file { file_in self.new ≡ file_in self.old }
+        ensures count { length (world_in self.new).parties ≡ length (world_in self.old).parties }
+        ensures err { OnErr result (world_in self.new ≡ world_in self.old) }
+        ensures err_acts { OnErr result (acts_in self.new ≡ acts_in self.old) }
+        ensures on { GoesOn self.old self.new }
+        ensures told { let state = state_of (world_in self.old) party in
+            MatchResult result (λ _. state ≡ Ready) (λ h. Shows state h) }
+    {
+        match self.state(party) {
+            State::Waits(_) => Err(Halt::Waits),
+            State::Ended => Err(Halt::Ended),
+            State::AtLimit(_) => Err(Halt::AtLimit),
+            State::Ready => match self.step(party) {
+                Ok(()) => Ok(()),
+                Err(NoMemory) => Err(Halt::NoMemory),
+            },
+        }
+    }
+
+    /// Does the next step of a ready party, and lists it.
+    fn step(&mut self, party: u16) -> Result<(), NoMemory>
+        requires there { party < length (world_in self.old).parties }
+        requires ready { state_of (world_in self.old) party ≡ Ready }
+        ensures ok { OnOk result (act_of (world_in self.old) party ≡ Some (world_in self.new)) }
+        ensures acts { OnOk result (acts_in self.new ≡ acts_in self.old ++ party ∷ []) }
+        ensures file { file_in self.new ≡ file_in self.old }
+        ensures count { length (world_in self.new).parties ≡ length (world_in self.old).parties }
+        ensures err { OnErr result (world_in self.new ≡ world_in self.old) }
+        ensures err_acts { OnErr result (acts_in self.new ≡ acts_in self.old) }
+        ensures on { GoesOn self.old self.new }
+    {
+        self.acts.reserve(1)?;
+        let machine = &mut self.machines[party as usize];
+        step(self.alloc, &mut self.sessions, machine, party)?;
+        self.acts.push_reserved(party);
+        Ok(())
+    }
+
+    /// Lets the party act once. Answers whether it did.
+    fn tried(&mut self, party: u16) -> Result<bool, NoMemory>
+        requires { party < length (world_in self.old).parties }
+        ensures on { GoesOn self.old self.new }
+        ensures count { length (world_in self.new).parties ≡ length (world_in self.old).parties }
+        ensures same { IfOk result (λ b. b ≡ false → world_in self.new ≡ world_in self.old) }
+        ensures idle { IfOk result (λ b. b ≡ false → act_of (world_in self.old) party ≡ None) }
+        ensures busy { IfOk result (λ b. b ≡ true →
+            steps_left (world_in self.new) < steps_left (world_in self.old)) }
+    {
+        match self.act(party) {
+            Ok(()) => Ok(true),
+            Err(Halt::NoMemory) => Err(NoMemory),
+            Err(_) => Ok(false),
+        }
+    }
+
+    /// Lets the party act as long as it is ready. Answers whether it acted.
+    fn turn(&mut self, party: u16) -> Result<bool, NoMemory>
+        requires { party < length (world_in self.old).parties }
+        ensures on { GoesOn self.old self.new }
+        ensures count { length (world_in self.new).parties ≡ length (world_in self.old).parties }
+        ensures same { IfOk result (λ b. b ≡ false → world_in self.new ≡ world_in self.old) }
+        ensures idle { IfOk result (λ b. b ≡ false → act_of (world_in self.old) party ≡ None) }
+        ensures busy { IfOk result (λ b. b ≡ true →
+            steps_left (world_in self.new) < steps_left (world_in self.old)) }
+    {
+        let acted = self.tried(party)?;
+        if acted {
+            while self.tried(party)? {}
+        }
+        Ok(acted)
+    }
+
+    /// Gives each party in file order its turn. Answers whether somebody acted.
+    fn round(&mut self) -> Result<bool, NoMemory>
+        requires { length (world_in self.old).parties ≤ 16 }
+        ensures on { GoesOn self.old self.new }
+        ensures count { length (world_in self.new).parties ≡ length (world_in self.old).parties }
+        ensures settled { IfOk result (λ b. b ≡ false → IsSettled (world_in self.new)) }
+        ensures busy { IfOk result (λ b. b ≡ true →
+            steps_left (world_in self.new) < steps_left (world_in self.old)) }
+    {
+        let mut acted = false;
+        for party in 0..self.machines.len() {
+            if self.turn(party as u16)? {
+                acted = true;
+            }
+        }
+        Ok(acted)
+    }
+
+    /// Rounds of all parties, until one has no act.
+    pub fn finish(&mut self) -> Result<(), NoMemory>
+        requires { length (world_in self.old).parties ≤ 16 }
+        ensures on { GoesOn self.old self.new }
+        ensures count { length (world_in self.new).parties ≡ length (world_in self.old).parties }
+        ensures settled { OnOk result (IsSettled (world_in self.new)) }
+    {
+        while self.round()? {}
+        Ok(())
+    }
+
+    /// How the party stands.
+    pub fn state(&self, party: u16) -> State
+        requires { party < length (world_in self.now).parties }
+        ensures { result ≡ state_of (world_in self.now) party }
+    {
+        let machine = &self.machines[party as usize];
+        state_of(&self.sessions, machine)
+    }
+
+    /// How the world stands as a whole: long where somebody is at a limit, else done where
+    /// everybody has ended, else blocked.
+    pub fn verdict(&self) -> Verdict
+        ensures { result ≡ verdict_of (world_in self.now) }
+    {
+        if self.some_at_limit() {
+            Verdict::Long
+        } else if self.all_ended() {
+            Verdict::Done
+        } else {
+            Verdict::Blocked
+        }
+    }
+
+    /// Whether a party is at a limit.
+    fn some_at_limit(&self) -> bool
+        ensures { let w = world_in self.now in
+            result ≡ list_any (λ g. is_at_limit (state_of_program w.sessions g)) w.parties }
+    {
+        for machine in &self.machines {
+            if matches!(state_of(&self.sessions, machine), State::AtLimit(_)) {
+                return true;
+            }
+        }
+        false
+    }
+
+    /// Whether each party has ended.
+    fn all_ended(&self) -> bool
+        ensures { let w = world_in self.now in
+            result ≡ list_all (λ g. has_ended (state_of_program w.sessions g)) w.parties }
+    {
+        for machine in &self.machines {
+            if !matches!(state_of(&self.sessions, machine), State::Ended) {
+                return false;
+            }
+        }
+        true
+    }
+}
+
+/// The parties before their first steps.
+fn first_machines(alloc: Global, file: &File) -> Result<Vec<Machine>, NoMemory>
+    requires { IsAccepted (file_of file.now) }
+    ensures { IfOk result (λ ms. map program_at ms.items ≡ (start_of (file_of file.now)).parties) }
+{
+    let mut machines = Vec::new(alloc);
+    for party in 0..file.parties.len() {
+        machines.push(Machine::start(alloc, file, party as u16)?)?;
+    }
+    Ok(machines)
+}
+
+/// The sessions before any act.
+fn first_sessions(alloc: Global, file: &File) -> Result<Vec<Session>, NoMemory>
+    ensures { IfOk result (λ zs. sessions_at zs.items ≡ (start_of (file_of file.now)).sessions) }
+{
+    let mut sessions = Vec::new(alloc);
+    for connect in &file.connects {
+        sessions.push(Session::start(alloc, &file.protocols, connect)?)?;
+    }
+    Ok(sessions)
+}

@@ -1,0 +1,155 @@
+//! The plain world of an accepted file.
+ghost use Rattle.std.specs.Prelude.{◌≡◌, ◌<◌, ◌∷◌, ◌++◌, ◌↔◌, [], Some, IfOk, IsErrOf, OnErr, OnOk, Option, option_map, slice_get, unwrap_or};
+ghost use Rattle.sj_base.specs.declared.EndId.{EndId};
+ghost use Rattle.sj_check.specs.Held.{file_in as held};
+ghost use Rattle.sj_lang.specs.FileView.{file_of};
+ghost use Rattle.sj_plain.specs.Kept.{without_words};
+ghost use Rattle.sj_semantics.specs.Ends.{other_end};
+ghost use Rattle.sj_semantics.specs.Run.{IsRun, end_of};
+ghost use Rattle.sj_semantics.specs.Start.{start_of};
+ghost use Rattle.sj_semantics.specs.State.{IsSettled, state_of, verdict_of};
+ghost use Rattle.sj_semantics.specs.Wants.{want_of};
+ghost use Rattle.sj_semantics.specs.World.{act_of};
+ghost use Rattle.sj_semantics.specs.declared.State.TheVariants as states;
+ghost use Rattle.sj_semantics.specs.declared.Want.TheVariants.{Ended};
+
+use crate::Halt;
+use crate::course::Course;
+use sj_base::{EndId, NoMemory};
+use sj_check::Accepted;
+use sj_lang::Proto;
+use sj_semantics::{Passed, State, Verdict, Want};
+use std::alloc::Global;
+use std::marker::Model;
+
+/// The parties and the sessions of an accepted file, as their acts so far have left them.
+#[derive(Drop)]
+pub struct Plain {
+    course: Course,
+}
+
+impl Model for Plain {
+    ghost use Rattle.sj_plain.specs.declared.course.Course.{Course};
+    ghost use Rattle.sj_plain.specs.contracts.course.Course as c;
+
+    ghost Value = { Course };
+
+    ghost coded = { c.the_row.coded };
+
+    ghost use Rattle.sj_plain.specs.Course.{IsReached};
+
+    ghost view = { λ p. p.course };
+
+    ghost invariant = { λ p. IsReached p.course };
+}
+
+impl Plain {
+    ghost use Rattle.sj_plain.specs.Course.{GoesOn};
+    ghost use Rattle.sj_plain.specs.Plain.{acts_of, end_in, kept, party_count, session_count, world_at};
+
+    /// The world before the first act. It copies what it needs of the file.
+    pub fn start(alloc: Global, accepted: &Accepted) -> Result<Plain, NoMemory>
+        ensures kept { IfOk result (λ p. kept p ≡ without_words (file_of (held accepted.now))) }
+        ensures acts { IfOk result (λ p. acts_of p ≡ []) }
+        ensures world { IfOk result (λ p. world_at p ≡ start_of (file_of (held accepted.now))) }
+        ensures run { IfOk result (λ p. IsRun (kept p) (acts_of p) (world_at p)) }
+    {
+        let course = Course::start(alloc, accepted.file())?;
+        Ok(Plain { course })
+    }
+
+    /// Does the next step of the party. Whatever it refuses, the world stays as it was.
+    pub fn act(&mut self, party: u16) -> Result<(), Halt>
+        requires { party < party_count self.old }
+
+        ensures ok { OnOk result (act_of (world_at self.old) party ≡ Some (world_at self.new)) }
+        ensures acts { OnOk result (acts_of self.new ≡ acts_of self.old ++ party ∷ []) }
+        ensures kept { kept self.new ≡ kept self.old }
+
+        ensures err { OnErr result (world_at self.new ≡ world_at self.old) }
+        ensures err_acts { OnErr result (acts_of self.new ≡ acts_of self.old) }
+
+        // Each refusal comes exactly where the party stands so.
+        ensures waits { IsErrOf result Halt.Waits
+            ↔ ((e : EndId) × (state_of (world_at self.old) party ≡ states.Waits e)) }
+        ensures ended { IsErrOf result Halt.Ended
+            ↔ (state_of (world_at self.old) party ≡ states.Ended) }
+        ensures at_limit { IsErrOf result Halt.AtLimit
+            ↔ ((e : Option EndId) × (state_of (world_at self.old) party ≡ states.AtLimit e)) }
+    {
+        self.course.act(party)
+    }
+
+    /// Acts party by party, each as long as it is ready, in rounds, until nobody can act. Want of
+    /// memory leaves a world that some acts gave.
+    pub fn finish(&mut self) -> Result<(), NoMemory>
+        ensures settled { OnOk result (IsSettled (world_at self.new)) }
+        ensures end { OnOk result (world_at self.new ≡ end_of (kept self.new)) }
+
+        ensures on { GoesOn self.old self.new }
+        ensures run { IsRun (kept self.new) (acts_of self.new) (world_at self.new) }
+        ensures kept { kept self.new ≡ kept self.old }
+    {
+        self.course.finish()
+    }
+
+    /// All messages that the end sent, in order.
+    pub fn sent(&self, end: EndId) -> &[Passed]
+        requires { end.sess < session_count self.now }
+        ensures { result.now ≡ (end_in self.now end).sent }
+    {
+        self.course.sessions[end.sess as usize].sent(end.side)
+    }
+
+    /// Who took the first of the messages that the end sent, in order.
+    pub fn takers(&self, end: EndId) -> &[u16]
+        requires { end.sess < session_count self.now }
+        ensures { result.now ≡ (end_in self.now (other_end end)).takers }
+    {
+        let other = if end.side == 0 { 1 } else { 0 };
+        self.course.sessions[end.sess as usize].takers(other)
+    }
+
+    /// The items that are still ahead of the end.
+    pub fn place(&self, end: EndId) -> &Proto
+        requires { end.sess < session_count self.now }
+        ensures { result.now ≡ (end_in self.now end).place }
+    {
+        self.course.sessions[end.sess as usize].place(end.side)
+    }
+
+    /// How many steps the party has done.
+    pub fn steps(&self, party: u16) -> u32
+        requires { party < party_count self.now }
+        ensures { option_map (λ g. g.steps) (slice_get (world_at self.now).parties party) ≡ Some result }
+    {
+        let machine = &self.course.machines[party as usize];
+        machine.steps()
+    }
+
+    /// The next step of the party.
+    pub fn wants(&self, party: u16) -> Want
+        requires { party < party_count self.now }
+        ensures { option_map (λ g. unwrap_or (want_of g) Ended)
+            (slice_get (world_at self.now).parties party) ≡ Some result }
+    {
+        let machine = &self.course.machines[party as usize];
+        machine.wants()
+    }
+
+    /// How the party stands.
+    pub fn state(&self, party: u16) -> State
+        requires { party < party_count self.now }
+        ensures { result ≡ state_of (world_at self.now) party }
+    {
+        self.course.state(party)
+    }
+
+    /// How the world ends: long where a party is at a limit, else done where each party has
+    /// ended, else blocked.
+    pub fn verdict(&self) -> Verdict
+        ensures { result ≡ verdict_of (world_at self.now) }
+    {
+        self.course.verdict()
+    }
+}
