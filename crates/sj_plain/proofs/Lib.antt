@@ -1,4 +1,5 @@
 pub mod BeginLemmas
+pub mod CountLemmas
 pub mod CourseLemmas
 pub mod MoveLemmas
 pub mod SteppingLemmas

@@ -1,12 +1,12 @@
 -- Arms of choices by their numbers, and items put before others.
-use Rattle.std.proofs.Common.{◌≡◌, ℕ, zero, suc, ◌+◌, ◌<◌, List, [], ◌∷◌, ◌++◌, length, get_or, drop, Option, Some, refl, ap, sym, ◌∙◌, arith}
+use Rattle.std.proofs.Common.{◌≡◌, ℕ, zero, suc, ◌+◌, ◌<◌, List, [], ◌∷◌, length, get_or, drop, Some, refl, ap, sym, ◌∙◌, arith}
 use Rattle.sj_lang.specs.declared.proto.Item.{Item}
 use Rattle.sj_lang.specs.declared.proto.Item.TheVariants.{Send, Recv, Select, Branch, OutLoop, InLoop}
 use Rattle.sj_lang.specs.declared.proto.Arm.{Arm}
 use Rattle.std.proofs.lemmas.List.{at_drop_more}
 use Rattle.std.proofs.lemmas.Grind.{common_steps}
 use Rattle.sj_lang.specs.After.{at_label}
-use Rattle.sj_lang.specs.View.{place_of, choices_of, followed}
+use Rattle.sj_lang.specs.View.{place_of, choices_of}
 use Rattle.sj_lang.proofs.PlaceLemmas.{place_of-append}
 use Rattle.sj_plain.specs.Moves.{arm_count, arm_rest, place_length}
 

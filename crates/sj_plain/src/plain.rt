@@ -1,5 +1,5 @@
 //! The plain world of an accepted file.
-ghost use Rattle.std.specs.Prelude.{◌≡◌, ◌<◌, ◌∷◌, ◌++◌, ◌↔◌, [], Some, IfOk, IsErrOf, OnErr, OnOk, Option, option_map, slice_get, unwrap_or};
+ghost use Rattle.std.specs.Prelude.{◌≡◌, ◌<◌, ◌∷◌, ◌++◌, ◌↔◌, [], Some, IfOk, IsErrOf, OnErr, OnOk, Option, length, option_map, slice_get, unwrap_or};
 ghost use Rattle.sj_base.specs.declared.EndId.{EndId};
 ghost use Rattle.sj_check.specs.Held.{file_in as held};
 ghost use Rattle.sj_lang.specs.FileView.{file_of};
@@ -49,10 +49,15 @@ impl Plain {
 
     /// The world before the first act. It copies what it needs of the file.
     pub fn start(alloc: Global, accepted: &Accepted) -> Result<Plain, NoMemory>
+        // The file's start.
         ensures kept { IfOk result (λ p. kept p ≡ without_words (file_of (held accepted.now))) }
         ensures acts { IfOk result (λ p. acts_of p ≡ []) }
         ensures world { IfOk result (λ p. world_at p ≡ start_of (file_of (held accepted.now))) }
+
+        // What is true of every world.
         ensures run { IfOk result (λ p. IsRun (kept p) (acts_of p) (world_at p)) }
+        ensures parties { IfOk result (λ p. party_count p ≡ length (kept p).parties) }
+        ensures sessions { IfOk result (λ p. session_count p ≡ length (kept p).connects) }
     {
         let course = Course::start(alloc, accepted.file())?;
         Ok(Plain { course })
@@ -62,10 +67,17 @@ impl Plain {
     pub fn act(&mut self, party: u16) -> Result<(), Halt>
         requires { party < party_count self.old }
 
+        // The act of the party, which is listed.
         ensures ok { OnOk result (act_of (world_at self.old) party ≡ Some (world_at self.new)) }
         ensures acts { OnOk result (acts_of self.new ≡ acts_of self.old ++ party ∷ []) }
-        ensures kept { kept self.new ≡ kept self.old }
 
+        // What is true of every world, and what no act changes.
+        ensures run { IsRun (kept self.new) (acts_of self.new) (world_at self.new) }
+        ensures kept { kept self.new ≡ kept self.old }
+        ensures parties { party_count self.new ≡ length (kept self.new).parties }
+        ensures sessions { session_count self.new ≡ length (kept self.new).connects }
+
+        // A refusal changes nothing.
         ensures err { OnErr result (world_at self.new ≡ world_at self.old) }
         ensures err_acts { OnErr result (acts_of self.new ≡ acts_of self.old) }
 
@@ -83,14 +95,32 @@ impl Plain {
     /// Acts party by party, each as long as it is ready, in rounds, until nobody can act. Want of
     /// memory leaves a world that some acts gave.
     pub fn finish(&mut self) -> Result<(), NoMemory>
+        // The end of the file.
         ensures settled { OnOk result (IsSettled (world_at self.new)) }
         ensures end { OnOk result (world_at self.new ≡ end_of (kept self.new)) }
 
+        // Whatever it answers, some acts lead there.
         ensures on { GoesOn self.old self.new }
         ensures run { IsRun (kept self.new) (acts_of self.new) (world_at self.new) }
         ensures kept { kept self.new ≡ kept self.old }
+        ensures parties { party_count self.new ≡ length (kept self.new).parties }
+        ensures sessions { session_count self.new ≡ length (kept self.new).connects }
     {
         self.course.finish()
+    }
+
+    /// How many parties there are.
+    pub fn parties(&self) -> usize
+        ensures { result ≡ party_count self.now }
+    {
+        self.course.machines.len()
+    }
+
+    /// How many sessions there are.
+    pub fn sessions(&self) -> usize
+        ensures { result ≡ session_count self.now }
+    {
+        self.course.sessions.len()
     }
 
     /// All messages that the end sent, in order.

@@ -1,4 +1,4 @@
-use Rattle.std.proofs.Common.{◌≡◌, Some, subst, get_or, arith}
+use Rattle.std.proofs.Common.{◌≡◌, Some, subst, arith}
 use Rattle.std.proofs.lemmas.Grind.{common_steps}
 use Rattle.sj_lang.specs.Place.{Choices}
 use Rattle.sj_lang.specs.After.{at_label}

@@ -1,4 +1,6 @@
 use Rattle.std.proofs.Common.{arith}
+use Rattle.sj_plain.specs.Course.{acts_in, file_in, world_in}
+use Rattle.sj_plain.proofs.CountLemmas.{counts}
 use Rattle.sj_plain.proofs.CourseLemmas.{still_run}
 use Rattle.sj_plain.proofs.plain.Plain.act.Goals as goal
 
@@ -7,3 +9,12 @@ invariant_of-self c = record {
   run = still_run c.self.inside.course c.act.new.self c.self.invariant.run c.act.ensures.on;
   few = omega (arith, c.act.ensures.count, c.self.invariant.few);
 }
+
+pub returns-clause-run : goal.returns-clause-run
+returns-clause-run c = still_run c.self.inside.course c.act.new.self c.self.invariant.run c.act.ensures.on
+
+pub returns-clause-parties : goal.returns-clause-parties
+returns-clause-parties c = (counts (file_in c.act.new.self) (acts_in c.act.new.self) (world_in c.act.new.self) (still_run c.self.inside.course c.act.new.self c.self.invariant.run c.act.ensures.on)).0
+
+pub returns-clause-sessions : goal.returns-clause-sessions
+returns-clause-sessions c = (counts (file_in c.act.new.self) (acts_in c.act.new.self) (world_in c.act.new.self) (still_run c.self.inside.course c.act.new.self c.self.invariant.run c.act.ensures.on)).1

@@ -1,6 +1,7 @@
 use Rattle.std.proofs.Common.{arith}
 use Rattle.std.proofs.lemmas.Result.{on_ok_weaker}
 use Rattle.sj_plain.specs.Course.{acts_in, file_in, world_in}
+use Rattle.sj_plain.proofs.CountLemmas.{counts}
 use Rattle.sj_plain.proofs.CourseLemmas.{at_the_end, still_run}
 use Rattle.sj_plain.proofs.plain.Plain.finish.Goals as goal
 
@@ -18,3 +19,9 @@ returns-clause-end c =
 
 pub returns-clause-run : goal.returns-clause-run
 returns-clause-run c = still_run c.self.inside.course c.finish.new.self c.self.invariant.run c.finish.ensures.on
+
+pub returns-clause-parties : goal.returns-clause-parties
+returns-clause-parties c = (counts (file_in c.finish.new.self) (acts_in c.finish.new.self) (world_in c.finish.new.self) (still_run c.self.inside.course c.finish.new.self c.self.invariant.run c.finish.ensures.on)).0
+
+pub returns-clause-sessions : goal.returns-clause-sessions
+returns-clause-sessions c = (counts (file_in c.finish.new.self) (acts_in c.finish.new.self) (world_in c.finish.new.self) (still_run c.self.inside.course c.finish.new.self c.self.invariant.run c.finish.ensures.on)).1
