@@ -12,3 +12,6 @@ mod uses;
 
 pub use halt::Halt;
 pub use plain::Plain;
+
+#[cfg(test)]
+mod tests;
