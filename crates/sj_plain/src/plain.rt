@@ -111,14 +111,16 @@ impl Plain {
 
     /// How many parties there are.
     pub fn parties(&self) -> usize
-        ensures { result ≡ party_count self.now }
+        ensures count { result ≡ party_count self.now }
+        ensures kept { result ≡ length (kept self.now).parties }
     {
         self.course.machines.len()
     }
 
     /// How many sessions there are.
     pub fn sessions(&self) -> usize
-        ensures { result ≡ session_count self.now }
+        ensures count { result ≡ session_count self.now }
+        ensures kept { result ≡ length (kept self.now).connects }
     {
         self.course.sessions.len()
     }
