@@ -26,7 +26,8 @@ pub(crate) struct End {
 impl End {
     // The end before any act, at the body of the protocol of that name.
     fn start(alloc: Global, protocols: &[ProtocolDef], name: u16) -> Result<End, NoMemory>
-        ensures { IfOk result (λ e. end_of e ≡ fresh (body_named (map protocol_of protocols.now) name)) }
+        ensures { IfOk result (λ e. end_of e
+            ≡ fresh (body_named (map protocol_of protocols.now) name)) }
     {
         let place = match body_of(protocols, name) {
             Some(body) => copied(alloc, body)?,
@@ -43,7 +44,8 @@ impl End {
     }
 
     fn send(&mut self, alloc: Global, passed: Passed) -> Result<(), NoMemory>
-        ensures ok { OnOk result (end_of self.new ≡ used passed.by (sends passed.msg) (end_of self.old)) }
+        ensures ok { OnOk result (end_of self.new
+            ≡ used passed.by (sends passed.msg) (end_of self.old)) }
         ensures err { OnErr result (end_of self.new ≡ end_of self.old) }
     {
         self.sent.reserve(1)?;
@@ -89,7 +91,8 @@ impl Session {
         protocols: &[ProtocolDef],
         connect: &Connect,
     ) -> Result<Session, NoMemory>
-        ensures { IfOk result (λ z. session_at z ≡ connected (map protocol_of protocols.now) (connect_of connect.now)) }
+        ensures { IfOk result (λ z. session_at z
+            ≡ connected (map protocol_of protocols.now) (connect_of connect.now)) }
     {
         Ok(Session {
             first: End::start(alloc, protocols, connect.first.protocol)?,
@@ -141,7 +144,8 @@ impl Session {
 
     /// Puts the message behind those that the end sent, and moves the end past it.
     pub(crate) fn send(&mut self, alloc: Global, side: u8, passed: Passed) -> Result<(), NoMemory>
-        ensures ok { OnOk result (session_at self.new ≡ on_side side (used passed.by (sends passed.msg)) (session_at self.old)) }
+        ensures ok { OnOk result (session_at self.new
+            ≡ on_side side (used passed.by (sends passed.msg)) (session_at self.old)) }
         ensures err { OnErr result (session_at self.new ≡ session_at self.old) }
     {
         if side == 0 {
@@ -159,7 +163,8 @@ impl Session {
         by: u16,
         msg: &Msg,
     ) -> Result<(), NoMemory>
-        ensures ok { OnOk result (session_at self.new ≡ on_side side (used by (takes msg.now)) (session_at self.old)) }
+        ensures ok { OnOk result (session_at self.new
+            ≡ on_side side (used by (takes msg.now)) (session_at self.old)) }
         ensures err { OnErr result (session_at self.new ≡ session_at self.old) }
     {
         if side == 0 {
@@ -172,7 +177,8 @@ impl Session {
     /// Notes that the end was handed on.
     pub(crate) fn hand_on(&mut self, side: u8)
         requires { (end_on side (session_at self.old)).hops < 100 }
-        ensures { (by : ℕ) → session_at self.new ≡ on_side side (used by hands_on) (session_at self.old) }
+        ensures { (by : ℕ) → session_at self.new
+            ≡ on_side side (used by hands_on) (session_at self.old) }
     {
         if side == 0 {
             self.first.hops += 1;

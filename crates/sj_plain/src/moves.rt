@@ -115,7 +115,8 @@ fn turn(alloc: Global, items: &mut Vec<Item>) -> Result<(), NoMemory>
 // Puts the items of the arm in place of the choice.
 fn enter(items: &mut Vec<Item>, arm: usize) -> Result<(), NoMemory>
     requires { IsOpen items.old.items (Move.Enter arm) }
-    ensures ok { OnOk result (place_of items.new.items ≡ after_move items.old.items (Move.Enter arm)) }
+    ensures ok { OnOk result (place_of items.new.items
+        ≡ after_move items.old.items (Move.Enter arm)) }
     ensures err { OnErr result (items.new.items ≡ items.old.items) }
 {
     items.reserve(arm_length(&items[0], arm))?;
