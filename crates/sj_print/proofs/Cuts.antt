@@ -1,0 +1,83 @@
+-- Texts that are put together part by part, and may be cut short.
+use Rattle.std.proofs.Common.{◌≡◌, ℕ, List, [], ◌++◌, Result, Ok, Err, OnOk, OnErr, refl, ap, sym, ◌∙◌, append_assoc, append-nil}
+use Rattle.sj_print.specs.Cut.{IsCutShort}
+
+-- nothing was put behind the text
+pub cut_at_once : (old whole new : List ℕ) → new ≡ old → IsCutShort old whole new
+cut_at_once old whole new e = record { some = []; rest = whole; appended = e ∙ sym (append-nil old); begins = refl }
+
+pub whole_is : (old a b new : List ℕ) → a ≡ b → IsCutShort old a new → IsCutShort old b new
+whole_is old a b new e c = record { some = c.some; rest = c.rest; appended = c.appended; begins = sym e ∙ c.begins }
+
+-- cut short in the first part
+pub cut_in_first : (old a b new : List ℕ) → IsCutShort old a new → IsCutShort old (a ++ b) new
+cut_in_first old a b new c = record { some = c.some; rest = c.rest ++ b; appended = c.appended; begins = ap (λ xs. xs ++ b) c.begins ∙ append_assoc c.some c.rest b }
+
+-- cut short behind the first part
+pub cut_behind : (old a b mid new : List ℕ) → mid ≡ old ++ a → IsCutShort mid b new → IsCutShort old (a ++ b) new
+cut_behind old a b mid new e c = record {
+  some = a ++ c.some;
+  rest = c.rest;
+  appended = c.appended ∙ ap (λ xs. xs ++ c.some) e ∙ append_assoc old a c.some;
+  begins = ap (λ xs. a ++ xs) c.begins ∙ sym (append_assoc a c.some c.rest);
+}
+
+module _ {X E : Type 0} where
+  pub on_err : (r : Result X E) (P : Type 0) → P → OnErr r P
+  on_err (Ok x) P p = tt
+  on_err (Err e) P p = p
+
+  pub last_whole : (old a b new : List ℕ) (r : Result X E) → a ≡ b → OnErr r (IsCutShort old a new) → OnErr r (IsCutShort old b new)
+  last_whole old a b new (Ok x) e h = tt
+  last_whole old a b new (Err x) e h = whole_is old a b new e h
+
+  -- the last part may be cut short
+  pub last_cut : (old a b mid new : List ℕ) (r : Result X E) → mid ≡ old ++ a → OnErr r (IsCutShort mid b new) → OnErr r (IsCutShort old (a ++ b) new)
+  last_cut old a b mid new (Ok x) e h = tt
+  last_cut old a b mid new (Err x) e h = cut_behind old a b mid new e h
+
+-- the old text, and then the whole but for what is ahead
+pub record StillTo (old whole ahead now : List ℕ) : Type 0 where
+  pub some : List ℕ
+  pub appended : now ≡ old ++ some
+  pub begins : whole ≡ some ++ ahead
+
+pub none_yet : (old whole : List ℕ) → StillTo old whole whole old
+none_yet old whole = record { some = []; appended = sym (append-nil old); begins = refl }
+
+pub one_more : (old whole bytes ahead now new : List ℕ) → StillTo old whole (bytes ++ ahead) now → new ≡ now ++ bytes → StillTo old whole ahead new
+one_more old whole bytes ahead now new s e = record {
+  some = s.some ++ bytes;
+  appended = e ∙ ap (λ xs. xs ++ bytes) s.appended ∙ append_assoc old s.some bytes;
+  begins = s.begins ∙ sym (append_assoc s.some bytes ahead);
+}
+
+pub ahead_is : (old whole a b now : List ℕ) → a ≡ b → StillTo old whole a now → StillTo old whole b now
+ahead_is old whole a b now e s = record { some = s.some; appended = s.appended; begins = s.begins ∙ ap (λ xs. s.some ++ xs) e }
+
+-- cut short in the first part of what is ahead
+pub cut_within : (old whole bytes ahead now new : List ℕ) → StillTo old whole (bytes ++ ahead) now → IsCutShort now bytes new → IsCutShort old whole new
+cut_within old whole bytes ahead now new s c = record {
+  some = s.some ++ c.some;
+  rest = c.rest ++ ahead;
+  appended = c.appended ∙ ap (λ xs. xs ++ c.some) s.appended ∙ append_assoc old s.some c.some;
+  begins = s.begins ∙ ap (λ xs. s.some ++ xs) (ap (λ xs. xs ++ ahead) c.begins ∙ append_assoc c.some c.rest ahead) ∙ sym (append_assoc s.some c.some (c.rest ++ ahead));
+}
+
+module _ {X E : Type 0} where
+  -- the last part was put behind the text
+  pub finish_ok : (old whole bytes now new : List ℕ) (r : Result X E) → StillTo old whole bytes now → OnOk r (new ≡ now ++ bytes) → OnOk r (new ≡ old ++ whole)
+  finish_ok old whole bytes now new (Ok x) s e = e ∙ ap (λ xs. xs ++ bytes) s.appended ∙ append_assoc old s.some bytes ∙ ap (λ xs. old ++ xs) (sym s.begins)
+  finish_ok old whole bytes now new (Err x) s e = tt
+
+  -- the last part was cut short
+  pub finish_cut : (old whole bytes now new : List ℕ) (r : Result X E) → StillTo old whole bytes now → OnErr r (IsCutShort now bytes new) → OnErr r (IsCutShort old whole new)
+  finish_cut old whole bytes now new (Ok x) s e = tt
+  finish_cut old whole bytes now new (Err x) s c = record {
+    some = s.some ++ c.some;
+    rest = c.rest;
+    appended = c.appended ∙ ap (λ xs. xs ++ c.some) s.appended ∙ append_assoc old s.some c.some;
+    begins = s.begins ∙ ap (λ xs. s.some ++ xs) c.begins ∙ sym (append_assoc s.some c.some c.rest);
+  }
+
+pub ruleset cuts = (cut_at_once, cut_in_first, cut_behind)

@@ -1,0 +1,5 @@
+//! The transcript of a settled world.
+#![tactic(auto)]
+
+mod lines;
+mod pieces;

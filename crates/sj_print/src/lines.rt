@@ -1,0 +1,185 @@
+//! The lines of a transcript.
+//!
+//! Want of memory leaves a front of what was to be put behind the text.
+#![tactic(auto, using(crate::proofs::Cuts::cuts))]
+
+ghost use Rattle.std.specs.Prelude.{◌≡◌, ◌++◌, ◌∷◌, [], OnOk, OnErr, codes, decimal, slice_get};
+ghost use Rattle.std.specs.Option.{option_to_list};
+ghost use Rattle.sj_lang.specs.FileAt.{FileAt};
+ghost use Rattle.sj_lang.specs.FileView.{file_of, connect_of};
+ghost use Rattle.sj_semantics.specs.Transcript.{line_of, word_at, name_of, end_text, message_words, taker_text, sent_lines, session_line, state_words, verdict_word};
+ghost use Rattle.sj_print.specs.Cut.{IsCutShort};
+ghost use Rattle.sj_print.specs.Pieces.{piece_text};
+
+use crate::pieces::{Piece, put_line, put_spaced};
+use sj_base::{EndId, Msg, NoMemory};
+use sj_lang::{Connect, File};
+use sj_semantics::{Passed, State, Verdict};
+
+/// The line of a session: its number, and the party and the name of each end.
+pub(crate) fn put_session(
+    text: &mut Vec<u8>,
+    file: &File,
+    sess: u32,
+    connect: &Connect,
+) -> Result<(), NoMemory>
+    ensures ok { OnOk result (text.new.items
+        ≡ text.old.items ++ session_line (file_of file.now) sess (connect_of connect.now)) }
+    ensures err { OnErr result (IsCutShort text.old.items
+        (session_line (file_of file.now) sess (connect_of connect.now)) text.new.items) }
+{
+    let front = [
+        Piece::Plain(b"session"),
+        Piece::Number(sess as u64),
+        Piece::Word(connect.first.party),
+        Piece::Word(connect.first.name),
+        Piece::Word(connect.second.party),
+    ];
+    put_line(text, file, &front, Piece::Word(connect.second.name))
+}
+
+/// A line for each message that the end sent, with the party that took it.
+pub(crate) fn put_sent(
+    text: &mut Vec<u8>,
+    file: &File,
+    end: EndId,
+    sent: &[Passed],
+    takers: &[u16],
+) -> Result<(), NoMemory>
+    ensures ok { OnOk result (text.new.items
+        ≡ text.old.items ++ sent_lines (file_of file.now) end.sess end.side 0 sent.now takers.now) }
+    ensures err { OnErr result (IsCutShort text.old.items
+        (sent_lines (file_of file.now) end.sess end.side 0 sent.now takers.now) text.new.items) }
+{
+    for i in 0..sent.len() {
+        put_passed(text, file, end, i as u64, &sent[i], taker_of(takers, i))?;
+    }
+    Ok(())
+}
+
+// The line of the message of that number.
+fn put_passed(
+    text: &mut Vec<u8>,
+    file: &File,
+    end: EndId,
+    number: u64,
+    passed: &Passed,
+    taker: Option<u16>,
+) -> Result<(), NoMemory>
+    ensures ok { OnOk result (text.new.items ≡ text.old.items
+        ++ line_of (end_text end.sess end.side ∷ decimal number ∷ name_of (file_of file.now) passed.now.by
+        ∷ taker_text (file_of file.now) (option_to_list taker) ∷ message_words (file_of file.now) passed.now.msg)) }
+    ensures err { OnErr result (IsCutShort text.old.items
+        (line_of (end_text end.sess end.side ∷ decimal number ∷ name_of (file_of file.now) passed.now.by
+        ∷ taker_text (file_of file.now) (option_to_list taker) ∷ message_words (file_of file.now) passed.now.msg))
+        text.new.items) }
+{
+    let front = [
+        Piece::End(end),
+        Piece::Number(number),
+        Piece::Party(passed.by),
+        taker_piece(taker),
+    ];
+    put_spaced(text, file, &front)?;
+    put_message(text, file, &passed.msg)
+}
+
+// Who took the message of that number.
+fn taker_of(takers: &[u16], number: usize) -> Option<u16>
+    ensures { result ≡ slice_get takers.now number }
+{
+    takers.get(number).copied()
+}
+
+fn taker_piece(taker: Option<u16>) -> Piece
+    ensures { (f : FileAt) → piece_text f result ≡ taker_text f (option_to_list taker) }
+{
+    match taker {
+        Some(party) => Piece::Party(party),
+        None => Piece::Plain(b"-"),
+    }
+}
+
+// The end of the line of a message.
+fn put_message(text: &mut Vec<u8>, file: &File, msg: &Msg) -> Result<(), NoMemory>
+    ensures ok { OnOk result (text.new.items ≡ text.old.items ++ line_of (message_words (file_of file.now) msg.now)) }
+    ensures err { OnErr result (IsCutShort text.old.items
+        (line_of (message_words (file_of file.now) msg.now)) text.new.items) }
+{
+    match *msg {
+        Msg::Int(n) => put_line(text, file, &[Piece::Plain(b"int")], Piece::Int(n)),
+        Msg::Bool(true) => {
+            put_line(
+                text,
+                file,
+                &[Piece::Plain(b"boolean")],
+                Piece::Plain(b"true"),
+            )
+        }
+        Msg::Bool(false) => {
+            put_line(
+                text,
+                file,
+                &[Piece::Plain(b"boolean")],
+                Piece::Plain(b"false"),
+            )
+        }
+        Msg::Text(n) => put_line(text, file, &[Piece::Plain(b"String")], Piece::Text(n)),
+        Msg::Label(n) => put_line(text, file, &[Piece::Plain(b"label")], Piece::Word(n)),
+        Msg::More(true) => put_line(text, file, &[], Piece::Plain(b"more")),
+        Msg::More(false) => put_line(text, file, &[], Piece::Plain(b"stop")),
+        Msg::Sess { sess, side, keeper } => {
+            let end = Piece::End(EndId { sess, side });
+            put_line(
+                text,
+                file,
+                &[Piece::Plain(b"session"), end],
+                Piece::Party(keeper),
+            )
+        }
+    }
+}
+
+/// The line of a party: how it stands, and after how many steps. A party that could act has none
+/// of this, and stands in no settled world.
+pub(crate) fn put_party(
+    text: &mut Vec<u8>,
+    file: &File,
+    name: u16,
+    steps: u32,
+    state: State,
+) -> Result<(), NoMemory>
+    ensures ok { OnOk result (text.new.items ≡ text.old.items
+        ++ line_of (codes "party" ∷ word_at (file_of file.now).words name ∷ state_words steps state)) }
+    ensures err { OnErr result (IsCutShort text.old.items
+        (line_of (codes "party" ∷ word_at (file_of file.now).words name ∷ state_words steps state))
+        text.new.items) }
+{
+    let party = Piece::Plain(b"party");
+    let name = Piece::Word(name);
+    let steps = Piece::Number(steps as u64);
+    let ended = Piece::Plain(b"ended");
+    let waits = Piece::Plain(b"waits");
+    let limit = Piece::Plain(b"limit");
+    match state {
+        State::Ready => put_line(text, file, &[party], name),
+        State::Ended => put_line(text, file, &[party, name, ended], steps),
+        State::Waits(end) => put_line(text, file, &[party, name, waits, steps], Piece::End(end)),
+        State::AtLimit(None) => put_line(text, file, &[party, name, limit], steps),
+        State::AtLimit(Some(end)) => {
+            put_line(text, file, &[party, name, limit, steps], Piece::End(end))
+        }
+    }
+}
+
+/// The line of the verdict.
+pub(crate) fn put_verdict(text: &mut Vec<u8>, file: &File, verdict: Verdict) -> Result<(), NoMemory>
+    ensures ok { OnOk result (text.new.items ≡ text.old.items ++ line_of (verdict_word verdict ∷ [])) }
+    ensures err { OnErr result (IsCutShort text.old.items (line_of (verdict_word verdict ∷ [])) text.new.items) }
+{
+    match verdict {
+        Verdict::Done => put_line(text, file, &[], Piece::Plain(b"done")),
+        Verdict::Blocked => put_line(text, file, &[], Piece::Plain(b"blocked")),
+        Verdict::Long => put_line(text, file, &[], Piece::Plain(b"long")),
+    }
+}

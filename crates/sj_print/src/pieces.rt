@@ -1,0 +1,143 @@
+//! Lines are put together from pieces, with one space between each two.
+//!
+//! Want of memory leaves a front of what was to be put behind the text.
+#![tactic(auto, using(crate::proofs::Cuts::cuts))]
+
+ghost use Rattle.std.specs.Prelude.{◌≡◌, ◌++◌, ◌∷◌, [], OnOk, OnErr, decimal, map};
+ghost use Rattle.sj_lang.specs.FileView.{file_of};
+ghost use Rattle.sj_semantics.specs.Transcript.{line_of, word_at, name_of, end_text, int_text};
+ghost use Rattle.sj_print.specs.Cut.{IsCutShort};
+ghost use Rattle.sj_print.specs.Pieces.{piece_text, spaced_text};
+
+use itoa::Buffer;
+use sj_base::{EndId, NoMemory};
+use sj_lang::{File, Words};
+
+/// A word of a line.
+#[derive(Clone, Copy)]
+pub(crate) enum Piece {
+    Plain(&'static [u8]),
+    Number(u64),
+    Int(i64),
+    End(EndId),
+    /// The name of the party of that number.
+    Party(u16),
+    /// The word of that number.
+    Word(u16),
+    /// The text of that number, in quotes.
+    Text(u32),
+}
+
+/// Puts a line of these behind the text.
+pub(crate) fn put_line(
+    text: &mut Vec<u8>,
+    file: &File,
+    front: &[Piece],
+    last: Piece,
+) -> Result<(), NoMemory>
+    ensures ok { OnOk result (text.new.items
+        ≡ text.old.items ++ line_of (map (piece_text (file_of file.now)) (front.now ++ last ∷ []))) }
+    ensures err { OnErr result (IsCutShort text.old.items
+        (line_of (map (piece_text (file_of file.now)) (front.now ++ last ∷ []))) text.new.items) }
+{
+    put_spaced(text, file, front)?;
+    put_piece(text, file, last)?;
+    put(text, b"\n")
+}
+
+/// Puts these behind the text, each with a space behind it.
+pub(crate) fn put_spaced(text: &mut Vec<u8>, file: &File, front: &[Piece]) -> Result<(), NoMemory>
+    ensures ok { OnOk result (text.new.items ≡ text.old.items ++ spaced_text (file_of file.now) front.now) }
+    ensures err { OnErr result (IsCutShort text.old.items (spaced_text (file_of file.now) front.now) text.new.items) }
+{
+    for piece in front {
+        put_piece(text, file, *piece)?;
+        put(text, b" ")?;
+    }
+    Ok(())
+}
+
+fn put_piece(text: &mut Vec<u8>, file: &File, piece: Piece) -> Result<(), NoMemory>
+    ensures ok { OnOk result (text.new.items ≡ text.old.items ++ piece_text (file_of file.now) piece) }
+    ensures err { OnErr result (IsCutShort text.old.items (piece_text (file_of file.now) piece) text.new.items) }
+{
+    match piece {
+        Piece::Plain(bytes) => put(text, bytes),
+        Piece::Number(n) => put_number(text, n),
+        Piece::Int(n) => put_int(text, n),
+        Piece::End(end) => put_end(text, end),
+        Piece::Party(party) => put_name(text, file, party),
+        Piece::Word(n) => put_word(text, &file.names.words, u32::from(n)),
+        Piece::Text(n) => put_quoted(text, &file.names.texts, n),
+    }
+}
+
+// The name of the party of that number, or `#` and the number.
+fn put_name(text: &mut Vec<u8>, file: &File, party: u16) -> Result<(), NoMemory>
+    ensures ok { OnOk result (text.new.items ≡ text.old.items ++ name_of (file_of file.now) party) }
+    ensures err { OnErr result (IsCutShort text.old.items (name_of (file_of file.now) party) text.new.items) }
+{
+    match file.parties.get(party as usize) {
+        Some(party) => put_word(text, &file.names.words, u32::from(party.name)),
+        None => put_nameless(text, u32::from(party)),
+    }
+}
+
+fn put_quoted(text: &mut Vec<u8>, texts: &Words, n: u32) -> Result<(), NoMemory>
+    ensures ok { OnOk result (text.new.items ≡ text.old.items ++ 34 ∷ word_at texts.now n ++ 34 ∷ []) }
+    ensures err { OnErr result (IsCutShort text.old.items (34 ∷ word_at texts.now n ++ 34 ∷ []) text.new.items) }
+{
+    put(text, b"\"")?;
+    put_word(text, texts, n)?;
+    put(text, b"\"")
+}
+
+// The word of that number, or `#` and the number.
+fn put_word(text: &mut Vec<u8>, words: &Words, n: u32) -> Result<(), NoMemory>
+    ensures ok { OnOk result (text.new.items ≡ text.old.items ++ word_at words.now n) }
+    ensures err { OnErr result (IsCutShort text.old.items (word_at words.now n) text.new.items) }
+{
+    match words.get(n as usize) {
+        Some(word) => put(text, word),
+        None => put_nameless(text, n),
+    }
+}
+
+// A number that names nothing.
+fn put_nameless(text: &mut Vec<u8>, n: u32) -> Result<(), NoMemory>
+    ensures ok { OnOk result (text.new.items ≡ text.old.items ++ 35 ∷ decimal n) }
+    ensures err { OnErr result (IsCutShort text.old.items (35 ∷ decimal n) text.new.items) }
+{
+    put(text, b"#")?;
+    put_number(text, u64::from(n))
+}
+
+fn put_end(text: &mut Vec<u8>, end: EndId) -> Result<(), NoMemory>
+    ensures ok { OnOk result (text.new.items ≡ text.old.items ++ end_text end.sess end.side) }
+    ensures err { OnErr result (IsCutShort text.old.items (end_text end.sess end.side) text.new.items) }
+{
+    put_number(text, end.sess as u64)?;
+    put(text, b".")?;
+    put_number(text, end.side as u64)
+}
+
+fn put_int(text: &mut Vec<u8>, n: i64) -> Result<(), NoMemory>
+    ensures ok { OnOk result (text.new.items ≡ text.old.items ++ int_text n) }
+    ensures err { OnErr result (IsCutShort text.old.items (int_text n) text.new.items) }
+{
+    put(text, Buffer::new().format(n).as_bytes())
+}
+
+fn put_number(text: &mut Vec<u8>, n: u64) -> Result<(), NoMemory>
+    ensures ok { OnOk result (text.new.items ≡ text.old.items ++ decimal n) }
+    ensures err { OnErr result (IsCutShort text.old.items (decimal n) text.new.items) }
+{
+    put(text, Buffer::new().format(n).as_bytes())
+}
+
+fn put(text: &mut Vec<u8>, bytes: &[u8]) -> Result<(), NoMemory>
+    ensures ok { OnOk result (text.new.items ≡ text.old.items ++ bytes.now) }
+    ensures err { OnErr result (IsCutShort text.old.items bytes.now text.new.items) }
+{
+    Ok(text.extend_from_slice(bytes)?)
+}
