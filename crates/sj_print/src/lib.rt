@@ -3,3 +3,5 @@
 
 mod lines;
 mod pieces;
+#[cfg(test)]
+mod tests;
