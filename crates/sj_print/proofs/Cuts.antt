@@ -22,6 +22,10 @@ cut_behind old a b mid new e c = record {
   begins = ap (λ xs. a ++ xs) c.begins ∙ sym (append_assoc a c.some c.rest);
 }
 
+-- one part, and then another
+pub put_both : (old a b mid new : List ℕ) → mid ≡ old ++ a → new ≡ mid ++ b → new ≡ old ++ (a ++ b)
+put_both old a b mid new e f = f ∙ ap (λ xs. xs ++ b) e ∙ append_assoc old a b
+
 module _ {X E : Type 0} where
   pub on_err : (r : Result X E) (P : Type 0) → P → OnErr r P
   on_err (Ok x) P p = tt
@@ -30,6 +34,15 @@ module _ {X E : Type 0} where
   pub last_whole : (old a b new : List ℕ) (r : Result X E) → a ≡ b → OnErr r (IsCutShort old a new) → OnErr r (IsCutShort old b new)
   last_whole old a b new (Ok x) e h = tt
   last_whole old a b new (Err x) e h = whole_is old a b new e h
+
+  pub ok_whole : (old a b new : List ℕ) (r : Result X E) → a ≡ b → OnOk r (new ≡ old ++ a) → OnOk r (new ≡ old ++ b)
+  ok_whole old a b new (Ok x) e h = h ∙ ap (λ xs. old ++ xs) e
+  ok_whole old a b new (Err x) e h = tt
+
+  -- the last part was put behind the others
+  pub last_ok : (old a b mid new : List ℕ) (r : Result X E) → mid ≡ old ++ a → OnOk r (new ≡ mid ++ b) → OnOk r (new ≡ old ++ (a ++ b))
+  last_ok old a b mid new (Ok x) e h = put_both old a b mid new e h
+  last_ok old a b mid new (Err x) e h = tt
 
   -- the last part may be cut short
   pub last_cut : (old a b mid new : List ℕ) (r : Result X E) → mid ≡ old ++ a → OnErr r (IsCutShort mid b new) → OnErr r (IsCutShort old (a ++ b) new)

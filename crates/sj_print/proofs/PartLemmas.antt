@@ -1,19 +1,22 @@
 -- The sessions and the parties of a world, one after another.
-use Rattle.std.proofs.Common.{◌≡◌, ℕ, zero, suc, ◌+◌, ◌<◌, List, [], ◌∷◌, ◌++◌, length, map, drop, Option, Some, None, option_map, unwrap_or, refl, ap, sym, ◌∙◌, append_assoc, add-one, arith}
+use Rattle.std.proofs.Common.{◌≡◌, ℕ, zero, suc, ◌+◌, ◌<◌, List, [], ◌∷◌, ◌++◌, length, map, drop, get_or, Option, Some, option_map, unwrap_or, refl, ap, sym, ◌∙◌, add-one, arith}
 use Rattle.std.specs.Prelude.{slice_get}
-use Rattle.sj_base.specs.declared.EndId.{EndId}
+use Rattle.sj_lang.specs.declared.file.Connect.{Connect}
+use Rattle.sj_lang.specs.declared.file.Party.{Party}
+use Rattle.sj_lang.specs.FileView.{party_of, connect_of}
 use Rattle.sj_lang.specs.FileAt.{FileAt, PartyAt, ConnectAt}
+use Rattle.sj_semantics.specs.declared.Passed.{Passed}
 use Rattle.sj_semantics.specs.declared.State.{State}
 use Rattle.sj_semantics.specs.Program.{Program}
-use Rattle.sj_semantics.specs.Ends.{Session, end_at, end_on, nowhere}
-use Rattle.sj_semantics.specs.State.{state_of_program, state_if}
-use Rattle.sj_semantics.specs.World.{World, Change, act_of, changed}
-use Rattle.sj_semantics.specs.Start.{program_of, programs_from, session_of, start_of}
+use Rattle.sj_semantics.specs.Ends.{EndAt, Session, end_on, nowhere}
+use Rattle.sj_semantics.specs.State.{state_of_program, state_if, verdict_of}
+use Rattle.sj_semantics.specs.World.{World, act_of}
+use Rattle.sj_semantics.specs.Start.{programs_from, session_of, start_of}
 use Rattle.sj_semantics.specs.Run.{IsRun, after_acts}
-use Rattle.sj_semantics.specs.Transcript.{session_line, sent_lines, session_lines, party_lines}
+use Rattle.sj_semantics.specs.Transcript.{session_line, sent_lines, line_of, session_lines, party_lines, verdict_word, transcript_of}
 use Rattle.sj_semantics_laws.proofs.AlteredLemmas.{length-altered}
 use Rattle.sj_semantics_laws.proofs.ActsLemmas.{length-run}
-use Rattle.sj_semantics_laws.proofs.CommuteLemmas.{Doing, doing_of}
+use Rattle.sj_semantics_laws.proofs.CommuteLemmas.{doing_of}
 use Rattle.sj_semantics_laws.proofs.RunLemmas.{between}
 use Rattle.sj_print.specs.Parts.{session_part, party_part}
 
@@ -23,7 +26,7 @@ length-programs_from : (file : FileAt) (p : ℕ) (qs : List PartyAt) → length 
 length-programs_from file p [] = refl
 length-programs_from file p (q ∷ qs) = ap suc (length-programs_from file (p + 1) qs)
 
-length-map : {X Y : Type 0} (f : X → Y) (xs : List X) → length (map f xs) ≡ length xs
+pub length-map : {X Y : Type 0} (f : X → Y) (xs : List X) → length (map f xs) ≡ length xs
 length-map f [] = refl
 length-map f (x ∷ xs) = ap suc (length-map f xs)
 
@@ -42,11 +45,6 @@ party_count-run file ps w h = parties-run (start_of file) w ps h ∙ length-prog
 
 -- ---- one after another
 
-pub get_within : {X : Type 0} (xs : List X) (i : ℕ) (d : X) → i < length xs → (x : X) × (slice_get xs i ≡ Some x)
-get_within [] i d h = absurd (omega arith)
-get_within (x ∷ xs) zero d h = (x, refl)
-get_within (x ∷ xs) (suc i) d h = get_within xs i d (omega arith)
-
 open_suc : {X : Type 0} (xs : List X) (i : ℕ) (x : X) → slice_get xs i ≡ Some x → drop i xs ≡ x ∷ drop (suc i) xs
 open_suc [] zero x h = cc
 open_suc [] (suc i) x h = cc
@@ -56,10 +54,54 @@ open_suc (y ∷ xs) (suc i) x h = open_suc xs i x h
 open_at : {X : Type 0} (xs : List X) (i : ℕ) (x : X) → slice_get xs i ≡ Some x → drop i xs ≡ x ∷ drop (i + 1) xs
 open_at xs i x h = open_suc xs i x h ∙ ap (λ k. x ∷ drop k xs) (sym (add-one i))
 
-pub session_step : (file : FileAt) (cs : List ConnectAt) (zs : List Session) (i : ℕ) (c : ConnectAt) (z : Session) → slice_get cs i ≡ Some c → slice_get zs i ≡ Some z
-    → session_lines file i (drop i cs) (drop i zs) ≡ session_part file i c z ++ session_lines file (i + 1) (drop (i + 1) cs) (drop (i + 1) zs)
-session_step file cs zs i c z h g = λ t. session_lines file i (open_at cs i c h t) (open_at zs i z g t)
+get_map : {X Y : Type 0} (f : X → Y) (xs : List X) (i : ℕ) (d : X) → i < length xs → slice_get (map f xs) i ≡ Some (f (get_or xs i d))
+get_map f [] i d h = absurd (omega arith)
+get_map f (x ∷ xs) zero d h = refl
+get_map f (x ∷ xs) (suc i) d h = get_map f xs i d (omega arith)
 
-pub party_step : (file : FileAt) (zs : List Session) (qs : List PartyAt) (gs : List Program) (i : ℕ) (q : PartyAt) (g : Program) → slice_get qs i ≡ Some q → slice_get gs i ≡ Some g
-    → party_lines file zs (drop i qs) (drop i gs) ≡ party_part file q.name g.steps (state_of_program zs g) ++ party_lines file zs (drop (i + 1) qs) (drop (i + 1) gs)
-party_step file zs qs gs i q g h k = λ t. party_lines file zs (open_at qs i q h t) (open_at gs i g k t)
+-- what is there at that place
+record Here {X : Type 0} (xs : List X) (i : ℕ) : Type 0 where
+  item : X
+  is : slice_get xs i ≡ Some item
+
+here : {X : Type 0} (xs : List X) (i : ℕ) → i < length xs → Here xs i
+here [] i h = absurd (omega arith)
+here (x ∷ xs) zero h = record { item = x; is = refl }
+here (x ∷ xs) (suc i) h = let r = here xs i (omega arith) in record { item = r.item; is = r.is }
+
+pub sent_same : (file : FileAt) (s d : ℕ) {xs ys : List Passed} {ts us : List ℕ} → xs ≡ ys → ts ≡ us → sent_lines file s d 0 xs ts ≡ sent_lines file s d 0 ys us
+sent_same file s d e f = λ i. sent_lines file s d 0 (e i) (f i)
+
+-- the part of the next session is ahead, and then those of the sessions behind it
+pub session_step : (file : FileAt) (cs : List Connect) (zs : List Session) (i : ℕ) (c : Connect) → i < length cs → i < length zs
+    → session_lines file i (drop i (map connect_of cs)) (drop i zs)
+    ≡ session_part file zs i (connect_of (get_or cs i c)) ++ session_lines file (i + 1) (drop (i + 1) (map connect_of cs)) (drop (i + 1) zs)
+session_step file cs zs i c h k =
+    let z = here zs i k in
+    let behind = session_lines file (i + 1) (drop (i + 1) (map connect_of cs)) (drop (i + 1) zs) in
+    (λ t. session_lines file i (open_at (map connect_of cs) i _ (get_map connect_of cs i c h) t) (open_at zs i z.item z.is t))
+    ∙ ap (λ (o : Option Session). part (connect_of (get_or cs i c)) (unwrap_or (option_map (end_on 0) o) nowhere) (unwrap_or (option_map (end_on 1) o) nowhere) ++ behind) (sym z.is)
+  where
+    part : ConnectAt → EndAt → EndAt → List ℕ
+    part d first second = session_line file i d ++ sent_lines file i 0 0 first.sent second.takers ++ sent_lines file i 1 0 second.sent first.takers
+
+by_program : (file : FileAt) (zs : List Session) (name steps : ℕ) (state : State) (o : Option Program) (g : Program) → o ≡ Some g → option_map (λ h. h.steps) o ≡ Some steps → state ≡ state_if zs o
+    → party_part file name g.steps (state_of_program zs g) ≡ party_part file name steps state
+by_program file zs name steps state o g e s t =
+    let same : g.steps ≡ steps = cc in
+    let stands : state_of_program zs g ≡ state = sym (t ∙ ap (state_if zs) e) in
+    λ i. party_part file name (same i) (stands i)
+
+-- the line of the next party is ahead, and then those of the parties behind it
+pub party_step : (file : FileAt) (zs : List Session) (qs : List Party) (gs : List Program) (i : ℕ) (q : Party) (steps : ℕ) (state : State) → i < length qs → i < length gs
+    → option_map (λ g. g.steps) (slice_get gs i) ≡ Some steps → state ≡ state_if zs (slice_get gs i)
+    → party_lines file zs (drop i (map party_of qs)) (drop i gs) ≡ party_part file (get_or qs i q).name steps state ++ party_lines file zs (drop (i + 1) (map party_of qs)) (drop (i + 1) gs)
+party_step file zs qs gs i q steps state h k s t =
+    let g = here gs i k in
+    (λ j. party_lines file zs (open_at (map party_of qs) i _ (get_map party_of qs i q h) j) (open_at gs i g.item g.is j))
+    ∙ ap (λ l. l ++ party_lines file zs (drop (i + 1) (map party_of qs)) (drop (i + 1) gs)) (by_program file zs (get_or qs i q).name steps state (slice_get gs i) g.item g.is s t)
+
+pub transcript_is : (file : FileAt) (w : World)
+    → session_lines file 0 file.connects w.sessions ++ party_lines file w.sessions file.parties w.parties ++ line_of (verdict_word (verdict_of w) ∷ []) ≡ transcript_of file w
+unfolding transcript_of
+transcript_is file w = refl

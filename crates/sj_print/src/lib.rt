@@ -3,5 +3,9 @@
 
 mod lines;
 mod pieces;
+mod transcript;
+
+pub use transcript::print_transcript;
+
 #[cfg(test)]
 mod tests;

@@ -1,0 +1,30 @@
+use Rattle.std.proofs.Common.{◌++◌, ◌∙◌, ap}
+use Rattle.sj_lang.specs.FileView.{file_of, connect_of}
+use Rattle.sj_semantics.specs.Transcript.{session_line}
+use Rattle.sj_print.proofs.Cuts.{cut_in_first, cut_behind, whole_is, on_err, put_both, last_cut, last_whole}
+use Rattle.sj_print.proofs.PartLemmas.{sent_same}
+use Rattle.sj_print.proofs.transcript.put_session_part.Goals as goal
+
+pub returns-in_err-put_session-clause-err : goal.returns-in_err-put_session-clause-err
+returns-in_err-put_session-clause-err c =
+    on_err c.from_residual.result _ (cut_in_first c.args.text.now.items _ _ c.put_session.new.text.items
+    (cut_in_first c.args.text.now.items _ _ c.put_session.new.text.items c.in_err-put_session.ensures.err))
+
+pub returns-in_err-put_sent-clause-err : goal.returns-in_err-put_sent-clause-err
+returns-in_err-put_sent-clause-err c =
+    let file = file_of c.args.file.now in let s = c.args.sess in let old = c.args.text.now.items in
+    let mid = c.put_session.new.text.items in let new = c.put_sent.new.text.items in
+    let same = sent_same file s 0 c.sent.ensures c.takers.ensures in
+    on_err c.from_residual-in_err-put_sent.result _ (cut_in_first old _ _ new
+    (cut_behind old (session_line file s (connect_of c.args.connect.now)) _ mid new c.in_ok-put_session.ensures.ok (whole_is mid _ _ new same c.in_err-put_sent.ensures.err)))
+
+pub returns-clause-err : goal.returns-clause-err
+returns-clause-err c =
+    let file = file_of c.args.file.now in let s = c.args.sess in let old = c.args.text.now.items in
+    let mid = c.put_session.new.text.items in let next = c.put_sent.new.text.items in let new = c.put_sent-2.new.text.items in
+    let line = session_line file s (connect_of c.args.connect.now) in
+    let first = sent_same file s 0 c.sent.ensures c.takers.ensures in
+    let second = sent_same file s 1 c.sent-2.ensures c.takers-2.ensures in
+    last_cut old _ _ next new c.put_sent-2.result
+    (put_both old line _ mid next c.in_ok-put_session.ensures.ok (c.in_ok-put_sent.ensures.ok ∙ ap (λ xs. mid ++ xs) first))
+    (last_whole next _ _ new c.put_sent-2.result second c.put_sent-2.ensures.err)

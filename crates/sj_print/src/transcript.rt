@@ -1,0 +1,92 @@
+//! The whole transcript.
+#![tactic(auto, using(crate::proofs::Cuts::cuts))]
+
+ghost use Rattle.std.specs.Prelude.{◌≡◌, ◌++◌, ◌<◌, ◌≤◌, length, OnOk, OnErr};
+ghost use Rattle.sj_lang.specs.FileView.{file_of, connect_of};
+ghost use Rattle.sj_plain.specs.Kept.{without_words};
+ghost use Rattle.sj_plain.specs.Plain.{acts_of, kept, party_count, session_count, world_at};
+ghost use Rattle.sj_semantics.specs.Run.{IsRun};
+ghost use Rattle.sj_semantics.specs.Transcript.{party_lines, session_lines, transcript_of};
+ghost use Rattle.sj_print.specs.Cut.{IsCutShort};
+ghost use Rattle.sj_print.specs.Parts.{session_part};
+
+use crate::lines::{put_party, put_sent, put_session, put_verdict};
+use sj_base::{EndId, NoMemory};
+use sj_lang::{Connect, File};
+use sj_plain::Plain;
+
+/// Puts the transcript behind the text: sessions and what was sent on them, parties, verdict. The
+/// file is the one that the plain world is of. Want of memory leaves a front of the transcript.
+pub fn print_transcript(text: &mut Vec<u8>, file: &File, plain: &Plain) -> Result<(), NoMemory>
+    requires parties { length (file_of file.now).parties ≤ 16 }
+    requires connects { length (file_of file.now).connects ≤ 64 }
+    requires kept { kept plain.now ≡ without_words (file_of file.now) }
+    requires run { IsRun (kept plain.now) (acts_of plain.now) (world_at plain.now) }
+    ensures ok { OnOk result (text.new.items
+        ≡ text.old.items ++ transcript_of (file_of file.now) (world_at plain.now)) }
+    ensures err { OnErr result (IsCutShort text.old.items
+        (transcript_of (file_of file.now) (world_at plain.now)) text.new.items) }
+{
+    put_sessions(text, file, plain)?;
+    put_parties(text, file, plain)?;
+    put_verdict(text, file, plain.verdict())
+}
+
+fn put_sessions(text: &mut Vec<u8>, file: &File, plain: &Plain) -> Result<(), NoMemory>
+    requires few { length (file_of file.now).connects ≤ 64 }
+    requires all { session_count plain.now ≡ length (file_of file.now).connects }
+    ensures ok { OnOk result (text.new.items ≡ text.old.items
+        ++ session_lines (file_of file.now) 0 (file_of file.now).connects (world_at plain.now).sessions) }
+    ensures err { OnErr result (IsCutShort text.old.items
+        (session_lines (file_of file.now) 0 (file_of file.now).connects (world_at plain.now).sessions)
+        text.new.items) }
+{
+    for i in 0..file.connects.len() {
+        put_session_part(text, file, plain, i as u32, &file.connects[i])?;
+    }
+    Ok(())
+}
+
+// The line of a session, and those of the messages that its two ends sent.
+fn put_session_part(
+    text: &mut Vec<u8>,
+    file: &File,
+    plain: &Plain,
+    sess: u32,
+    connect: &Connect,
+) -> Result<(), NoMemory>
+    requires { sess < session_count plain.now }
+    ensures ok { OnOk result (text.new.items ≡ text.old.items
+        ++ session_part (file_of file.now) (world_at plain.now).sessions sess (connect_of connect.now)) }
+    ensures err { OnErr result (IsCutShort text.old.items
+        (session_part (file_of file.now) (world_at plain.now).sessions sess (connect_of connect.now))
+        text.new.items) }
+{
+    let first = EndId { sess, side: 0 };
+    let second = EndId { sess, side: 1 };
+    put_session(text, file, sess, connect)?;
+    put_sent(text, file, first, plain.sent(first), plain.takers(first))?;
+    put_sent(text, file, second, plain.sent(second), plain.takers(second))
+}
+
+fn put_parties(text: &mut Vec<u8>, file: &File, plain: &Plain) -> Result<(), NoMemory>
+    requires few { length (file_of file.now).parties ≤ 16 }
+    requires all { party_count plain.now ≡ length (file_of file.now).parties }
+    ensures ok { OnOk result (text.new.items ≡ text.old.items
+        ++ party_lines (file_of file.now) (world_at plain.now).sessions (file_of file.now).parties (world_at plain.now).parties) }
+    ensures err { OnErr result (IsCutShort text.old.items
+        (party_lines (file_of file.now) (world_at plain.now).sessions (file_of file.now).parties (world_at plain.now).parties)
+        text.new.items) }
+{
+    for i in 0..file.parties.len() {
+        let party = i as u16;
+        put_party(
+            text,
+            file,
+            file.parties[i].name,
+            plain.steps(party),
+            plain.state(party),
+        )?;
+    }
+    Ok(())
+}
