@@ -1,15 +1,23 @@
--- The parts of a transcript: a session with what was sent on it, and a party.
-use Rattle.std.specs.Prelude.{ℕ, List, ◌∷◌, ◌++◌, codes}
+-- The parts of a transcript: a session with what was sent on it, a message, and a party.
+use Rattle.std.specs.Prelude.{ℕ, List, [], ◌∷◌, ◌++◌, Option, codes, decimal}
+use Rattle.std.specs.Option.{option_to_list}
+use Rattle.sj_base.specs.declared.EndId.{EndId}
 use Rattle.sj_lang.specs.FileAt.{FileAt, ConnectAt}
+use Rattle.sj_semantics.specs.declared.Passed.{Passed}
 use Rattle.sj_semantics.specs.declared.State.{State}
 use Rattle.sj_semantics.specs.Ends.{Session, end_at}
-use Rattle.sj_semantics.specs.Transcript.{line_of, word_at, session_line, sent_lines, state_words}
+use Rattle.sj_semantics.specs.Transcript.{line_of, word_at, name_of, end_text, message_words, taker_text, session_line, sent_lines, state_words}
 
 -- the session's line, and those of the messages that each of its ends sent
 abbrev pub session_part : FileAt → List Session → ℕ → ConnectAt → List ℕ
 session_part file zs s c =
     let first = end_at zs (record { sess = s; side = 0 }) in let second = end_at zs (record { sess = s; side = 1 }) in
     session_line file s c ++ sent_lines file s 0 0 first.sent second.takers ++ sent_lines file s 1 0 second.sent first.takers
+
+-- the line of the message of that number, with who took it
+abbrev pub passed_part : FileAt → EndId → ℕ → Option ℕ → Passed → List ℕ
+passed_part file e n taker x =
+    line_of (end_text e.sess e.side ∷ decimal n ∷ name_of file x.by ∷ taker_text file (option_to_list taker) ∷ message_words file x.msg)
 
 -- the line of a party of that name
 abbrev pub party_part : FileAt → ℕ → ℕ → State → List ℕ

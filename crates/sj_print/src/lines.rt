@@ -3,12 +3,13 @@
 //! Want of memory leaves a front of what was to be put behind the text.
 #![tactic(auto, using(crate::proofs::Cuts::cuts))]
 
-ghost use Rattle.std.specs.Prelude.{◌≡◌, ◌++◌, ◌∷◌, [], OnOk, OnErr, codes, decimal, slice_get};
+ghost use Rattle.std.specs.Prelude.{◌≡◌, ◌++◌, ◌∷◌, [], OnOk, OnErr, slice_get};
 ghost use Rattle.std.specs.Option.{option_to_list};
 ghost use Rattle.sj_lang.specs.FileAt.{FileAt};
 ghost use Rattle.sj_lang.specs.FileView.{file_of, connect_of};
-ghost use Rattle.sj_semantics.specs.Transcript.{line_of, word_at, name_of, end_text, message_words, taker_text, sent_lines, session_line, state_words, verdict_word};
+ghost use Rattle.sj_semantics.specs.Transcript.{line_of, message_words, sent_lines, session_line, taker_text, verdict_word};
 ghost use Rattle.sj_print.specs.Cut.{IsCutShort};
+ghost use Rattle.sj_print.specs.Parts.{party_part, passed_part};
 ghost use Rattle.sj_print.specs.Pieces.{piece_text};
 
 use crate::pieces::{Piece, put_line, put_spaced};
@@ -67,12 +68,9 @@ fn put_passed(
     taker: Option<u16>,
 ) -> Result<(), NoMemory>
     ensures ok { OnOk result (text.new.items ≡ text.old.items
-        ++ line_of (end_text end.sess end.side ∷ decimal number ∷ name_of (file_of file.now) passed.now.by
-        ∷ taker_text (file_of file.now) (option_to_list taker) ∷ message_words (file_of file.now) passed.now.msg)) }
+        ++ passed_part (file_of file.now) end number taker passed.now) }
     ensures err { OnErr result (IsCutShort text.old.items
-        (line_of (end_text end.sess end.side ∷ decimal number ∷ name_of (file_of file.now) passed.now.by
-        ∷ taker_text (file_of file.now) (option_to_list taker) ∷ message_words (file_of file.now) passed.now.msg))
-        text.new.items) }
+        (passed_part (file_of file.now) end number taker passed.now) text.new.items) }
 {
     let front = [
         Piece::End(end),
@@ -102,7 +100,8 @@ fn taker_piece(taker: Option<u16>) -> Piece
 
 // The end of the line of a message.
 fn put_message(text: &mut Vec<u8>, file: &File, msg: &Msg) -> Result<(), NoMemory>
-    ensures ok { OnOk result (text.new.items ≡ text.old.items ++ line_of (message_words (file_of file.now) msg.now)) }
+    ensures ok { OnOk result (text.new.items
+        ≡ text.old.items ++ line_of (message_words (file_of file.now) msg.now)) }
     ensures err { OnErr result (IsCutShort text.old.items
         (line_of (message_words (file_of file.now) msg.now)) text.new.items) }
 {
@@ -149,11 +148,10 @@ pub(crate) fn put_party(
     steps: u32,
     state: State,
 ) -> Result<(), NoMemory>
-    ensures ok { OnOk result (text.new.items ≡ text.old.items
-        ++ line_of (codes "party" ∷ word_at (file_of file.now).words name ∷ state_words steps state)) }
+    ensures ok { OnOk result (text.new.items
+        ≡ text.old.items ++ party_part (file_of file.now) name steps state) }
     ensures err { OnErr result (IsCutShort text.old.items
-        (line_of (codes "party" ∷ word_at (file_of file.now).words name ∷ state_words steps state))
-        text.new.items) }
+        (party_part (file_of file.now) name steps state) text.new.items) }
 {
     let party = Piece::Plain(b"party");
     let name = Piece::Word(name);
@@ -174,8 +172,10 @@ pub(crate) fn put_party(
 
 /// The line of the verdict.
 pub(crate) fn put_verdict(text: &mut Vec<u8>, file: &File, verdict: Verdict) -> Result<(), NoMemory>
-    ensures ok { OnOk result (text.new.items ≡ text.old.items ++ line_of (verdict_word verdict ∷ [])) }
-    ensures err { OnErr result (IsCutShort text.old.items (line_of (verdict_word verdict ∷ [])) text.new.items) }
+    ensures ok { OnOk result (text.new.items
+        ≡ text.old.items ++ line_of (verdict_word verdict ∷ [])) }
+    ensures err { OnErr result (IsCutShort text.old.items
+        (line_of (verdict_word verdict ∷ [])) text.new.items) }
 {
     match verdict {
         Verdict::Done => put_line(text, file, &[], Piece::Plain(b"done")),

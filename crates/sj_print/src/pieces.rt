@@ -35,8 +35,8 @@ pub(crate) fn put_line(
     front: &[Piece],
     last: Piece,
 ) -> Result<(), NoMemory>
-    ensures ok { OnOk result (text.new.items
-        ≡ text.old.items ++ line_of (map (piece_text (file_of file.now)) (front.now ++ last ∷ []))) }
+    ensures ok { OnOk result (text.new.items ≡ text.old.items
+        ++ line_of (map (piece_text (file_of file.now)) (front.now ++ last ∷ []))) }
     ensures err { OnErr result (IsCutShort text.old.items
         (line_of (map (piece_text (file_of file.now)) (front.now ++ last ∷ []))) text.new.items) }
 {
@@ -47,8 +47,10 @@ pub(crate) fn put_line(
 
 /// Puts these behind the text, each with a space behind it.
 pub(crate) fn put_spaced(text: &mut Vec<u8>, file: &File, front: &[Piece]) -> Result<(), NoMemory>
-    ensures ok { OnOk result (text.new.items ≡ text.old.items ++ spaced_text (file_of file.now) front.now) }
-    ensures err { OnErr result (IsCutShort text.old.items (spaced_text (file_of file.now) front.now) text.new.items) }
+    ensures ok { OnOk result (text.new.items
+        ≡ text.old.items ++ spaced_text (file_of file.now) front.now) }
+    ensures err { OnErr result (IsCutShort text.old.items
+        (spaced_text (file_of file.now) front.now) text.new.items) }
 {
     for piece in front {
         put_piece(text, file, *piece)?;
@@ -58,8 +60,10 @@ pub(crate) fn put_spaced(text: &mut Vec<u8>, file: &File, front: &[Piece]) -> Re
 }
 
 fn put_piece(text: &mut Vec<u8>, file: &File, piece: Piece) -> Result<(), NoMemory>
-    ensures ok { OnOk result (text.new.items ≡ text.old.items ++ piece_text (file_of file.now) piece) }
-    ensures err { OnErr result (IsCutShort text.old.items (piece_text (file_of file.now) piece) text.new.items) }
+    ensures ok { OnOk result (text.new.items
+        ≡ text.old.items ++ piece_text (file_of file.now) piece) }
+    ensures err { OnErr result (IsCutShort text.old.items
+        (piece_text (file_of file.now) piece) text.new.items) }
 {
     match piece {
         Piece::Plain(bytes) => put(text, bytes),
@@ -75,7 +79,8 @@ fn put_piece(text: &mut Vec<u8>, file: &File, piece: Piece) -> Result<(), NoMemo
 // The name of the party of that number, or `#` and the number.
 fn put_name(text: &mut Vec<u8>, file: &File, party: u16) -> Result<(), NoMemory>
     ensures ok { OnOk result (text.new.items ≡ text.old.items ++ name_of (file_of file.now) party) }
-    ensures err { OnErr result (IsCutShort text.old.items (name_of (file_of file.now) party) text.new.items) }
+    ensures err { OnErr result (IsCutShort text.old.items
+        (name_of (file_of file.now) party) text.new.items) }
 {
     match file.parties.get(party as usize) {
         Some(party) => put_word(text, &file.names.words, u32::from(party.name)),
@@ -84,8 +89,10 @@ fn put_name(text: &mut Vec<u8>, file: &File, party: u16) -> Result<(), NoMemory>
 }
 
 fn put_quoted(text: &mut Vec<u8>, texts: &Words, n: u32) -> Result<(), NoMemory>
-    ensures ok { OnOk result (text.new.items ≡ text.old.items ++ 34 ∷ word_at texts.now n ++ 34 ∷ []) }
-    ensures err { OnErr result (IsCutShort text.old.items (34 ∷ word_at texts.now n ++ 34 ∷ []) text.new.items) }
+    ensures ok { OnOk result (text.new.items
+        ≡ text.old.items ++ 34 ∷ word_at texts.now n ++ 34 ∷ []) }
+    ensures err { OnErr result (IsCutShort text.old.items
+        (34 ∷ word_at texts.now n ++ 34 ∷ []) text.new.items) }
 {
     put(text, b"\"")?;
     put_word(text, texts, n)?;
@@ -114,7 +121,8 @@ fn put_nameless(text: &mut Vec<u8>, n: u32) -> Result<(), NoMemory>
 
 fn put_end(text: &mut Vec<u8>, end: EndId) -> Result<(), NoMemory>
     ensures ok { OnOk result (text.new.items ≡ text.old.items ++ end_text end.sess end.side) }
-    ensures err { OnErr result (IsCutShort text.old.items (end_text end.sess end.side) text.new.items) }
+    ensures err { OnErr result (IsCutShort text.old.items
+        (end_text end.sess end.side) text.new.items) }
 {
     put_number(text, end.sess as u64)?;
     put(text, b".")?;

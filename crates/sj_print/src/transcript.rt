@@ -36,9 +36,11 @@ fn put_sessions(text: &mut Vec<u8>, file: &File, plain: &Plain) -> Result<(), No
     requires few { length (file_of file.now).connects ≤ 64 }
     requires all { session_count plain.now ≡ length (file_of file.now).connects }
     ensures ok { OnOk result (text.new.items ≡ text.old.items
-        ++ session_lines (file_of file.now) 0 (file_of file.now).connects (world_at plain.now).sessions) }
+        ++ session_lines (file_of file.now) 0 (file_of file.now).connects
+        (world_at plain.now).sessions) }
     ensures err { OnErr result (IsCutShort text.old.items
-        (session_lines (file_of file.now) 0 (file_of file.now).connects (world_at plain.now).sessions)
+        (session_lines (file_of file.now) 0 (file_of file.now).connects
+        (world_at plain.now).sessions)
         text.new.items) }
 {
     for i in 0..file.connects.len() {
@@ -57,9 +59,11 @@ fn put_session_part(
 ) -> Result<(), NoMemory>
     requires { sess < session_count plain.now }
     ensures ok { OnOk result (text.new.items ≡ text.old.items
-        ++ session_part (file_of file.now) (world_at plain.now).sessions sess (connect_of connect.now)) }
+        ++ session_part (file_of file.now) (world_at plain.now).sessions sess
+        (connect_of connect.now)) }
     ensures err { OnErr result (IsCutShort text.old.items
-        (session_part (file_of file.now) (world_at plain.now).sessions sess (connect_of connect.now))
+        (session_part (file_of file.now) (world_at plain.now).sessions sess
+        (connect_of connect.now))
         text.new.items) }
 {
     let first = EndId { sess, side: 0 };
@@ -73,9 +77,11 @@ fn put_parties(text: &mut Vec<u8>, file: &File, plain: &Plain) -> Result<(), NoM
     requires few { length (file_of file.now).parties ≤ 16 }
     requires all { party_count plain.now ≡ length (file_of file.now).parties }
     ensures ok { OnOk result (text.new.items ≡ text.old.items
-        ++ party_lines (file_of file.now) (world_at plain.now).sessions (file_of file.now).parties (world_at plain.now).parties) }
+        ++ party_lines (file_of file.now) (world_at plain.now).sessions
+        (file_of file.now).parties (world_at plain.now).parties) }
     ensures err { OnErr result (IsCutShort text.old.items
-        (party_lines (file_of file.now) (world_at plain.now).sessions (file_of file.now).parties (world_at plain.now).parties)
+        (party_lines (file_of file.now) (world_at plain.now).sessions
+        (file_of file.now).parties (world_at plain.now).parties)
         text.new.items) }
 {
     for i in 0..file.parties.len() {
