@@ -14,6 +14,10 @@ pub mod OneFile
 pub mod PartLemmas
 pub mod PartyLemmas
 pub mod PieceLemmas
+pub mod PrintedCode
+pub mod PrintedExpressions
+pub mod PrintedFile
+pub mod PrintingLemmas
 pub mod RoomLemmas
 pub mod Runs
 pub mod Taken

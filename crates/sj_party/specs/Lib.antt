@@ -1,6 +1,11 @@
 pub mod Alike
 pub mod Awaits
+pub mod CanonicalCode
+pub mod CanonicalExamples
+pub mod CanonicalExpression
+pub mod CanonicalFile
 pub mod Leads
+pub mod Levels
 pub mod Parts
 pub mod Read
 pub mod Rooms

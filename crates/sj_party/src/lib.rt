@@ -15,6 +15,9 @@ mod statement_tests;
 mod statements;
 #[cfg(test)]
 mod tests;
+mod printing;
+mod printing_expressions;
+mod printing_statements;
 
 pub use files::parse_file;
 pub use laws::{
@@ -22,3 +25,4 @@ pub use laws::{
     one_file_a_text, statements_are_read_in_one_way, statements_are_what_is_due,
 };
 pub use sj_proto::{Fault, ParseRefusal, Rule};
+pub use printing::{print_file, print_protocol_line};

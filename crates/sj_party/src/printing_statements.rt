@@ -1,0 +1,293 @@
+//! Statements as text.
+#![tactic(auto, using(crate::proofs::PrintingLemmas::printing))]
+
+ghost use Rattle.std.specs.Prelude.{◌≡◌, ◌+◌, ◌++◌, map, codes, IfOk, OnOk, OnErr};
+ghost use Rattle.sj_lang.specs.Term.{term_of};
+ghost use Rattle.sj_lang.specs.Code.{arm_of, branches_of, code_of, deed_of};
+ghost use Rattle.sj_grammar.specs.Statements.{scalar_piece};
+ghost use Rattle.sj_proto.specs.Printed.{IsCutShort};
+ghost use Rattle.sj_party.specs.CanonicalExpression.{spelling_of};
+ghost use Rattle.sj_party.specs.CanonicalCode.{spaces, newline, in_block, named_text, pair_text, valued_text, given_text, act_text, arms_text, block_text};
+
+use crate::printing_expressions::{Wanted, put_expression};
+use sj_base::NoMemory;
+use sj_lang::{Deed, Expr, Names, Scalar, Stmt, StmtArm};
+use sj_proto::{put, put_word};
+
+// Appends so many spaces.
+fn put_spaces(text: &mut Vec<u8>, n: usize) -> Result<(), NoMemory>
+    ensures ok { OnOk result (text.new.items ≡ text.old.items ++ spaces n) }
+    ensures err { OnErr result (IsCutShort text.old.items (spaces n) text.new.items) }
+{
+    for _ in 0..n {
+        put(text, b" ")?;
+    }
+    Ok(())
+}
+
+/// Appends a name behind what stands before it.
+#[tactic(auto, using(crate::proofs::PrintingLemmas::printing), unfolding(crate::specs::CanonicalCode::named_text))]
+pub fn put_named(text: &mut Vec<u8>, names: &Names, lead: &[u8], n: u16) -> Result<(), NoMemory>
+    ensures ok { OnOk result (text.new.items
+        ≡ text.old.items ++ named_text (spelling_of names.now) lead.now n) }
+    ensures err { OnErr result (IsCutShort text.old.items
+        (named_text (spelling_of names.now) lead.now n) text.new.items) }
+{
+    put(text, lead)?;
+    put_word(text, names, n)
+}
+
+/// Appends two names.
+#[tactic(auto, using(crate::proofs::PrintingLemmas::printing), unfolding(crate::specs::CanonicalCode::pair_text))]
+pub fn put_pair(
+    text: &mut Vec<u8>,
+    names: &Names,
+    lead: &[u8],
+    x: u16,
+    y: u16,
+) -> Result<(), NoMemory>
+    ensures ok { OnOk result (text.new.items
+        ≡ text.old.items ++ pair_text (spelling_of names.now) lead.now x y) }
+    ensures err { OnErr result (IsCutShort text.old.items
+        (pair_text (spelling_of names.now) lead.now x y) text.new.items) }
+{
+    put_named(text, names, lead, x)?;
+    put_named(text, names, b" ", y)
+}
+
+// Appends an expression behind what stands before it.
+#[tactic(auto, using(crate::proofs::PrintingLemmas::printing), unfolding(crate::specs::CanonicalCode::valued_text))]
+fn put_valued(text: &mut Vec<u8>, names: &Names, lead: &[u8], e: &Expr) -> Result<(), NoMemory>
+    ensures ok { OnOk result (text.new.items
+        ≡ text.old.items ++ valued_text (spelling_of names.now) lead.now (term_of e.now)) }
+    ensures err { OnErr result (IsCutShort text.old.items
+        (valued_text (spelling_of names.now) lead.now (term_of e.now)) text.new.items) }
+{
+    put(text, lead)?;
+    put_expression(text, names, Wanted::Whole, e)
+}
+
+// Appends a name, and behind a mark an expression.
+#[tactic(auto, using(crate::proofs::PrintingLemmas::printing), unfolding(crate::specs::CanonicalCode::given_text))]
+fn put_given(
+    text: &mut Vec<u8>,
+    names: &Names,
+    lead: &[u8],
+    n: u16,
+    mark: &[u8],
+    e: &Expr,
+) -> Result<(), NoMemory>
+    ensures ok { OnOk result (text.new.items ≡ text.old.items
+        ++ given_text (spelling_of names.now) lead.now n mark.now (term_of e.now)) }
+    ensures err { OnErr result (IsCutShort text.old.items
+        (given_text (spelling_of names.now) lead.now n mark.now (term_of e.now)) text.new.items) }
+{
+    put_named(text, names, lead, n)?;
+    put_valued(text, names, mark, e)
+}
+
+// The kind of a message, and the end of the statement.
+fn kind_bytes(kind: Scalar) -> &'static [u8]
+    ensures { result.now ≡ codes " " ++ (scalar_piece kind ++ codes ";") }
+{
+    match kind {
+        Scalar::Int => b" int;",
+        Scalar::Boolean => b" boolean;",
+        Scalar::Text => b" String;",
+    }
+}
+
+// Appends a statement of two names.
+fn put_pair_line(
+    text: &mut Vec<u8>,
+    names: &Names,
+    lead: &[u8],
+    x: u16,
+    y: u16,
+) -> Result<(), NoMemory>
+    ensures ok { OnOk result (text.new.items
+        ≡ text.old.items ++ (pair_text (spelling_of names.now) lead.now x y ++ codes ";")) }
+    ensures err { OnErr result (IsCutShort text.old.items
+        (pair_text (spelling_of names.now) lead.now x y ++ codes ";") text.new.items) }
+{
+    put_pair(text, names, lead, x, y)?;
+    put(text, b";")
+}
+
+// Appends a statement of a name, a mark and an expression.
+fn put_given_line(
+    text: &mut Vec<u8>,
+    names: &Names,
+    lead: &[u8],
+    n: u16,
+    mark: &[u8],
+    e: &Expr,
+) -> Result<(), NoMemory>
+    ensures ok { OnOk result (text.new.items ≡ text.old.items
+        ++ (given_text (spelling_of names.now) lead.now n mark.now (term_of e.now) ++ codes ";")) }
+    ensures err { OnErr result (IsCutShort text.old.items
+        (given_text (spelling_of names.now) lead.now n mark.now (term_of e.now) ++ codes ";")
+        text.new.items) }
+{
+    put_given(text, names, lead, n, mark, e)?;
+    put(text, b";")
+}
+
+// Appends a statement of one name.
+fn put_named_line(text: &mut Vec<u8>, names: &Names, lead: &[u8], n: u16) -> Result<(), NoMemory>
+    ensures ok { OnOk result (text.new.items
+        ≡ text.old.items ++ (named_text (spelling_of names.now) lead.now n ++ codes ";")) }
+    ensures err { OnErr result (IsCutShort text.old.items
+        (named_text (spelling_of names.now) lead.now n ++ codes ";") text.new.items) }
+{
+    put_named(text, names, lead, n)?;
+    put(text, b";")
+}
+
+// Appends the statement that takes a value.
+fn put_take(
+    text: &mut Vec<u8>,
+    names: &Names,
+    end: u16,
+    into: u16,
+    kind: Scalar,
+) -> Result<(), NoMemory>
+    ensures ok { OnOk result (text.new.items ≡ text.old.items ++ (pair_text (spelling_of names.now)
+        (codes "recv ") end into ++ (codes " " ++ (scalar_piece kind ++ codes ";")))) }
+    ensures err { OnErr result (IsCutShort text.old.items (pair_text (spelling_of names.now)
+        (codes "recv ") end into ++ (codes " " ++ (scalar_piece kind ++ codes ";")))
+        text.new.items) }
+{
+    put_pair(text, names, b"recv ", end, into)?;
+    put(text, kind_bytes(kind))
+}
+
+// Appends the statement that takes an end.
+fn put_take_end(
+    text: &mut Vec<u8>,
+    names: &Names,
+    end: u16,
+    into: u16,
+    protocol: u16,
+) -> Result<(), NoMemory>
+    ensures ok { OnOk result (text.new.items ≡ text.old.items ++ (pair_text (spelling_of names.now)
+        (codes "recv ") end into
+        ++ (named_text (spelling_of names.now) (codes " session ") protocol ++ codes ";"))) }
+    ensures err { OnErr result (IsCutShort text.old.items (pair_text (spelling_of names.now)
+        (codes "recv ") end into
+        ++ (named_text (spelling_of names.now) (codes " session ") protocol ++ codes ";"))
+        text.new.items) }
+{
+    put_pair(text, names, b"recv ", end, into)?;
+    put_named_line(text, names, b" session ", protocol)
+}
+
+// Opens a block, and answers how far in it stands. Beyond all memory it answers want of memory.
+fn put_opening(text: &mut Vec<u8>, n: usize) -> Result<usize, NoMemory>
+    ensures ok { OnOk result (text.new.items ≡ text.old.items ++ codes " {\n") }
+    ensures further { IfOk result (λ m. m ≡ n + 2) }
+    ensures err { OnErr result (text.new.items ≡ text.old.items) }
+{
+    let Some(inner) = n.checked_add(2) else {
+        return Err(NoMemory);
+    };
+    put(text, b" {\n")?;
+    Ok(inner)
+}
+
+// Closes a block that stands so far in.
+fn put_closing(text: &mut Vec<u8>, n: usize) -> Result<(), NoMemory>
+    ensures ok { OnOk result (text.new.items ≡ text.old.items ++ (spaces n ++ codes "}")) }
+    ensures err { OnErr result (IsCutShort text.old.items
+        (spaces n ++ codes "}") text.new.items) }
+{
+    put_spaces(text, n)?;
+    put(text, b"}")
+}
+
+/// Appends a block that stands so many spaces in, behind what stands before it.
+#[cycle(statements)]
+pub fn put_block(
+    text: &mut Vec<u8>,
+    names: &Names,
+    lead: &[u8],
+    n: usize,
+    body: &[Stmt],
+) -> Result<(), NoMemory>
+    ensures ok { OnOk result (text.new.items ≡ text.old.items
+        ++ (lead.now ++ block_text (spelling_of names.now) n (code_of body.now))) }
+    ensures err { OnErr result (IsCutShort text.old.items
+        (lead.now ++ block_text (spelling_of names.now) n (code_of body.now)) text.new.items) }
+{
+    put(text, lead)?;
+    let inner = put_opening(text, n)?;
+    for stmt in body {
+        put_spaces(text, inner)?;
+        put_deed(text, names, inner, &stmt.deed)?;
+        put(text, b"\n")?;
+    }
+    put_closing(text, n)
+}
+
+// Appends arms between their braces, the last of which stands so many spaces in.
+#[cycle(statements)]
+fn put_arms(text: &mut Vec<u8>, names: &Names, n: usize, arms: &[StmtArm]) -> Result<(), NoMemory>
+    ensures ok { OnOk result (text.new.items ≡ text.old.items ++ in_block n
+        (arms_text (spelling_of names.now) (n + 2) (branches_of (map arm_of arms.now)))) }
+    ensures err { OnErr result (IsCutShort text.old.items (in_block n
+        (arms_text (spelling_of names.now) (n + 2) (branches_of (map arm_of arms.now))))
+        text.new.items) }
+{
+    let inner = put_opening(text, n)?;
+    for arm in arms {
+        put_spaces(text, inner)?;
+        put_word(text, names, arm.label)?;
+        put_block(text, names, b":", inner, &arm.body)?;
+        put(text, b"\n")?;
+    }
+    put_closing(text, n)
+}
+
+// Appends a statement that stands so many spaces in, from its keyword on.
+#[cycle(statements)]
+fn put_deed(text: &mut Vec<u8>, names: &Names, n: usize, deed: &Deed) -> Result<(), NoMemory>
+    ensures ok { OnOk result (text.new.items
+        ≡ text.old.items ++ act_text (spelling_of names.now) n (deed_of deed.now)) }
+    ensures err { OnErr result (IsCutShort text.old.items
+        (act_text (spelling_of names.now) n (deed_of deed.now)) text.new.items) }
+{
+    match deed {
+        Deed::Send { end, value } => put_given_line(text, names, b"send ", *end, b" ", value),
+        Deed::Delegate { end, sent } => put_pair_line(text, names, b"delegate ", *end, *sent),
+        Deed::Take { end, into, kind } => put_take(text, names, *end, *into, *kind),
+        Deed::TakeEnd {
+            end,
+            into,
+            protocol,
+        } => put_take_end(text, names, *end, *into, *protocol),
+        Deed::Select { end, label } => put_pair_line(text, names, b"outbranch ", *end, *label),
+        Deed::Branch { end, arms } => {
+            put_named(text, names, b"inbranch ", *end)?;
+            put_arms(text, names, n, arms)
+        }
+        Deed::OutWhile { end, count, body } => {
+            put_given(text, names, b"outwhile ", *end, b" ", count)?;
+            put_block(text, names, b"", n, body)
+        }
+        Deed::InWhile { end, body } => {
+            put_named(text, names, b"inwhile ", *end)?;
+            put_block(text, names, b"", n, body)
+        }
+        Deed::Relay { from, to, body } => {
+            put_pair(text, names, b"relay ", *from, *to)?;
+            put_block(text, names, b"", n, body)
+        }
+        Deed::If { test, yes, no } => {
+            put_valued(text, names, b"if ", test)?;
+            put_block(text, names, b"", n, yes)?;
+            put_block(text, names, b" else", n, no)
+        }
+        Deed::Let { name, value } => put_given_line(text, names, b"let ", *name, b" = ", value),
+        Deed::Close { end } => put_named_line(text, names, b"close ", *end),
+    }
+}
