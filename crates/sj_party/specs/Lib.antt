@@ -9,6 +9,7 @@ pub mod Levels
 pub mod Parts
 pub mod Read
 pub mod Rooms
+pub mod Unlined
 pub mod Viable
 pub mod Within
 pub mod Words

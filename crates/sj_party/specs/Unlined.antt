@@ -1,0 +1,49 @@
+-- A file but for its lines.
+use Rattle.std.specs.Prelude.{map}
+use Rattle.sj_lang.specs.Code.{Code, Step, Act, Branches, no_step, step_then, at, send, delegate, take_value, take_end, outbranch, inbranch, outwhile, inwhile, relay, if_else, let_be, close, no_branch, branch}
+use Rattle.sj_lang.specs.FileAt.{ProtocolAt, PartyAt, ConnectAt, FileAt}
+
+-- the same, with line 0 in place of each line
+abbrev mutual
+  pub unlined_code : Code → Code
+  unlined_code no_step = no_step
+  unlined_code (step_then s rest) = step_then (unlined_step s) (unlined_code rest)
+
+  pub unlined_step : Step → Step
+  unlined_step (at line a) = at 0 (unlined_act a)
+
+  pub unlined_act : Act → Act
+  unlined_act (send x t) = send x t
+  unlined_act (delegate x y) = delegate x y
+  unlined_act (take_value x v k) = take_value x v k
+  unlined_act (take_end x y p) = take_end x y p
+  unlined_act (outbranch x l) = outbranch x l
+  unlined_act (inbranch x arms) = inbranch x (unlined_branches arms)
+  unlined_act (outwhile x t body) = outwhile x t (unlined_code body)
+  unlined_act (inwhile x body) = inwhile x (unlined_code body)
+  unlined_act (relay x y body) = relay x y (unlined_code body)
+  unlined_act (if_else t first second) = if_else t (unlined_code first) (unlined_code second)
+  unlined_act (let_be v t) = let_be v t
+  unlined_act (close x) = close x
+
+  pub unlined_branches : Branches → Branches
+  unlined_branches no_branch = no_branch
+  unlined_branches (branch l code arms) = branch l (unlined_code code) (unlined_branches arms)
+
+abbrev pub unlined_protocol : ProtocolAt → ProtocolAt
+unlined_protocol p = record { line = 0; name = p.name; body = p.body }
+
+abbrev pub unlined_party : PartyAt → PartyAt
+unlined_party q = record { line = 0; name = q.name; code = unlined_code q.code }
+
+abbrev pub unlined_connect : ConnectAt → ConnectAt
+unlined_connect c = record { line = 0; first = c.first; second = c.second }
+
+abbrev pub unlined : FileAt → FileAt
+unlined f = record {
+  words = f.words;
+  texts = f.texts;
+  protocols = map unlined_protocol f.protocols;
+  parties = map unlined_party f.parties;
+  connects = map unlined_connect f.connects;
+}
