@@ -1,6 +1,8 @@
 pub mod AddAlike
 pub mod AlikeLemmas
 pub mod AwaitedLemmas
+pub mod BlockLines
+pub mod CodeAgain
 pub mod CodeReads
 pub mod CodeStuck
 pub mod ConnectLemmas
@@ -15,6 +17,7 @@ pub mod Keywords
 pub mod NoStatement
 pub mod NumberText
 pub mod OneFile
+pub mod OneLiners
 pub mod PartLemmas
 pub mod PartyLemmas
 pub mod PieceLemmas
