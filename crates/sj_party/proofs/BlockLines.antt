@@ -1,15 +1,15 @@
 -- Statements on one line and with blocks, from what their heads and blocks are read as.
-use Rattle.std.proofs.Common.{◌≡◌, ℕ, suc, ◌+◌, true, List, [], ◌∷◌, ◌++◌, refl, ap, sym, subst, ◌∙◌, append_assoc}
+use Rattle.std.proofs.Common.{◌≡◌, ℕ, true, List, [], ◌∷◌, ◌++◌, refl, ap, sym, subst, ◌∙◌, append_assoc}
 use Rattle.std.specs.Prelude.{codes}
-use Rattle.sj_lang.specs.Code.{Code, Step}
+use Rattle.sj_lang.specs.Code.{Step}
 use Rattle.sj_grammar.specs.declared.tokens.What.TheVariants.{Symbol}
 use Rattle.sj_grammar.specs.Limits.{Limits}
 use Rattle.sj_grammar.specs.Names.{is_word}
 use Rattle.sj_grammar.specs.Reading.{Reading}
-use Rattle.sj_grammar.specs.Tables.{Spelling, IsNamed}
+use Rattle.sj_grammar.specs.Tables.{Spelling}
 use Rattle.sj_grammar.specs.Places.{Piece, plain, first_on, spellings}
 use Rattle.sj_grammar.specs.Statements.{braced, IsStatement}
-use Rattle.sj_grammar.proofs.Lexing.{read, Any, NoWordByte, name_is_word}
+use Rattle.sj_grammar.proofs.Lexing.{read, Any, NoWordByte}
 use Rattle.sj_party.specs.CanonicalCode.{spaces, newline, in_block}
 use Rattle.sj_party.specs.Unlined.{unlined_step}
 use Rattle.sj_party.proofs.AddAlike.{AddAlike, alike_same, alike_cons}

@@ -1,27 +1,25 @@
 -- Canonical texts of statements are statements again, equal but for lines.
-use Rattle.std.proofs.Common.{◌≡◌, ℕ, suc, ◌+◌, true, List, [], ◌∷◌, ◌++◌, refl, ap, sym, subst, ◌∙◌, append_assoc}
+use Rattle.std.proofs.Common.{ℕ, suc, ◌+◌, List, [], ◌∷◌, ◌++◌, refl, sym, subst, append_assoc}
 use Rattle.std.specs.Prelude.{codes}
-use Rattle.sj_lang.specs.declared.party.Scalar.{Scalar}
-use Rattle.sj_lang.specs.Code.{Code, Step, Branches, step_then, no_step, at, send, delegate, take_value, take_end, outbranch, inbranch, outwhile, inwhile, relay, if_else, let_be, close, no_branch, branch}
-use Rattle.sj_lang.specs.Term.{Term}
+use Rattle.sj_lang.specs.Code.{Code, Step, Branches, step_then, no_step, at, inbranch, outwhile, inwhile, relay, if_else, no_branch, branch}
 use Rattle.sj_grammar.specs.Limits.{Limits}
 use Rattle.sj_grammar.specs.Reading.{Reading}
-use Rattle.sj_grammar.specs.Tables.{Spelling, IsNamed}
-use Rattle.sj_grammar.specs.Places.{Pieces, Piece, plain, first_on, all_plain, spellings}
-use Rattle.sj_grammar.specs.Expressions.{IsExpression, whole}
+use Rattle.sj_grammar.specs.Tables.{Spelling}
+use Rattle.sj_grammar.specs.Places.{Piece, plain, first_on, all_plain}
+use Rattle.sj_grammar.specs.Expressions.{whole}
 use Rattle.sj_grammar.specs.Statements.{braced, scalar_piece, IsCode, IsStatement, IsBlock, AreArms}
 use Rattle.sj_grammar.specs.Statements as grammar
-use Rattle.sj_grammar.proofs.Lexing.{read, Any, NoWordByte, name_is_word}
+use Rattle.sj_grammar.proofs.Lexing.{read, name_is_word}
 use Rattle.sj_party.specs.CanonicalExpression.{expression_text}
-use Rattle.sj_party.specs.CanonicalCode.{spaces, newline, in_block, named_text, pair_text, valued_text, given_text, code_text, step_text, act_text, arms_text}
-use Rattle.sj_party.specs.Unlined.{unlined_code, unlined_step, unlined_branches}
-use Rattle.sj_party.proofs.AddAlike.{AddAlike, alike_same, alike_cons}
+use Rattle.sj_party.specs.CanonicalCode.{spaces, newline, in_block, named_text, pair_text, valued_text, given_text, code_text, step_text, arms_text}
+use Rattle.sj_party.specs.Unlined.{unlined_code, unlined_branches}
+use Rattle.sj_party.proofs.AddAlike.{alike_same, alike_cons}
 use Rattle.sj_party.proofs.Printable.{expression_pieces}
-use Rattle.sj_party.proofs.Reaching.{AreBlank, Reaches, HasLines, joins, lines_append}
-use Rattle.sj_party.proofs.ExpressionText.{word_lines}
-use Rattle.sj_party.proofs.Relined.{Relined, adds_append, plain_then, blanks_then, expression_again, expression_adds, name_has}
-use Rattle.sj_party.proofs.Heads.{ended, reserved_lines, pair_tail, given_tail, pair_has, behind_space, given_has, let_has, take_has, take_end_has}
+use Rattle.sj_party.proofs.Reaching.{AreBlank, Reaches, joins}
+use Rattle.sj_party.proofs.Relined.{Relined, adds_append, blanks_then, expression_again, expression_adds, name_has}
+use Rattle.sj_party.proofs.Heads.{pair_tail, given_tail, pair_has, behind_space, given_has}
 use Rattle.sj_party.proofs.OneLiners.{named_is, pair_is, valued_is, given_is, send_again, let_again, delegate_again, outbranch_again, take_again, take_end_again, close_again}
+use Rattle.sj_party.proofs.Branching.{ArmsBlock, inbranch_is, Both, unlined_both, block_of, if_free, both_again}
 use Rattle.sj_party.proofs.BlockLines.{StepAgain, with_block, in_braces, block_free, label_reaches, arm_parts}
 
 module _ (L : Limits) (names : Spelling) where
@@ -33,46 +31,6 @@ module _ (L : Limits) (names : Spelling) where
 
   abbrev ArmsAgain : ℕ → Branches → List Piece → Reading → List ℕ → Type 0
   ArmsAgain o b a r rest = Relined unlined_branches (AreArms L names o) b a r rest
-
-  -- arms between their braces, and the two blocks of an `if`
-  abbrev ArmsBlock : ℕ → Branches → List Piece → Type 0
-  ArmsBlock o v d = (c : List Piece) × (d ≡ braced c) × AreArms L names o v c
-
-  inbranch_is : (o k x m : ℕ) (code : Code) (arms v : Branches) (d : List Piece) → IsNamed L names.word x → unlined_branches v ≡ unlined_branches (branch m code arms) → ArmsBlock o v d
-      → IsStatement L names o (at k (inbranch x v)) (first_on k (codes "inbranch") ∷ plain (names.word x) ∷ d)
-  inbranch_is o k x m code arms no_branch d is e h = let none : ⊥ = cc in absurd none
-  inbranch_is o k x m code arms (branch j c more) d is e h = subst (λ (ps : List Piece). IsStatement L names o (at k (inbranch x (branch j c more))) (first_on k (codes "inbranch") ∷ plain (names.word x) ∷ ps)) (sym h.1) (grammar.of_inbranch is h.2)
-
-  abbrev Both : ℕ → Code × Code → List Piece → Type 0
-  Both o p d = (a : List Piece) × (b : List Piece) × (d ≡ a ++ plain (codes "else") ∷ b) × IsBlock L names o p.0 a × IsBlock L names o p.1 b
-
-  abbrev unlined_both : Code × Code → Code × Code
-  unlined_both p = (unlined_code p.0, unlined_code p.1)
-
-  abbrev block_of : ℕ → Code → List ℕ
-  block_of n c = in_block n (code_text names (n + 2) c)
-
-  if_free : (n : ℕ) (c d : Code) (more : List ℕ) → NoWordByte ((block_of n c ++ (codes " else" ++ block_of n d)) ++ more)
-  unfolding in_block
-  if_free n c d more = refl
-
-  both_again : (o n : ℕ) (c d : Code) (a b : List Piece) → ((k h more : List ℕ) → AreBlank h → BlockAgain o c a (read k (h ++ (block_of n c ++ more))) more) → ((k h more : List ℕ) → AreBlank h → BlockAgain o d b (read k (h ++ (block_of n d ++ more))) more)
-      → (k h more : List ℕ) → AreBlank h → Relined unlined_both (Both o) (c, d) (a ++ plain (codes "else") ∷ b) (read k (h ++ ((block_of n c ++ (codes " else" ++ block_of n d)) ++ more))) more
-  both_again o n c d a b one two k h more blank =
-      let r = read k (h ++ (block_of n c ++ (codes " else" ++ (block_of n d ++ more)))) in
-      let first = one k h (codes " else" ++ (block_of n d ++ more)) blank in
-      let between = plain_then NoWordByte r first.pieces (plain (codes "else") ∷ []) (codes " else") (block_of n d ++ more) first.reaches (reserved_lines (codes "else") (word_lines (codes "else") refl)) (block_free n (code_text names (n + 2) d) more) in
-      let second = two between.before between.blanks more between.are in
-      let pieces = (first.pieces ++ plain (codes "else") ∷ []) ++ second.pieces in
-      record {
-        value = (first.value, second.value);
-        same = λ i. (first.same i, second.same i);
-        pieces = pieces;
-        is = (first.pieces, second.pieces, append_assoc first.pieces (plain (codes "else") ∷ []) second.pieces, first.is, second.is);
-        adds = subst (λ (ps : List Piece). AddAlike (spellings (a ++ plain (codes "else") ∷ b)) (spellings ps)) (sym (append_assoc first.pieces (plain (codes "else") ∷ []) second.pieces))
-            (adds_append a (plain (codes "else") ∷ b) first.pieces (plain (codes "else") ∷ second.pieces) first.adds (alike_cons (codes "else") (spellings b) (spellings second.pieces) second.adds));
-        reaches = subst (λ (x : List ℕ). Reaches (read k (h ++ x)) pieces more) (sym (append_assoc (block_of n c) (codes " else" ++ block_of n d) more)) (joins r (first.pieces ++ plain (codes "else") ∷ []) second.pieces (block_of n d) more between second.reaches);
-      }
 
   mutual
     pub code_again : {o : ℕ} {c : Code} {a : List Piece} → IsCode L names o c a → (n : ℕ) (before g rest : List ℕ) → AreBlank g → CodeAgain o c a (read before (g ++ (code_text names n c ++ rest))) rest
@@ -130,29 +88,29 @@ module _ (L : Limits) (names : Spelling) where
     step_again {o} (grammar.of_close {l} {x} is) n before g rest blank = close_again L names o n l before g rest blank x is
     step_again {o} (grammar.of_inbranch {l} {x} {m} {code} {arms} {a} is h) n before g rest blank =
         let all = branch m code arms in
-        with_block L names unlined_branches (ArmsBlock o) all (braced a) o n (codes "inbranch") (named_text names (codes "inbranch ") x) (32 ∷ names.word x) (in_block n (arms_text names (n + 2) all)) (plain (names.word x) ∷ [])
+        with_block L names unlined_branches (ArmsBlock L names o) all (braced a) o n (codes "inbranch") (named_text names (codes "inbranch ") x) (32 ∷ names.word x) (in_block n (arms_text names (n + 2) all)) (plain (names.word x) ∷ [])
         (first_on l (codes "inbranch") ∷ plain (names.word x) ∷ braced a) (at l (inbranch x all)) (λ k v. at k (inbranch x v)) before g rest refl (λ more. refl) (name_has L names x is) blank (named_is L names (codes "inbranch") x) (block_free n (arms_text names (n + 2) all))
-        (λ k y all_blank. in_braces unlined_branches (AreArms L names o) (ArmsBlock o) all a n (arms_text names (n + 2) all) k y (newline ++ rest) all_blank (λ v b b_is. (b, refl, b_is)) (λ j z z_blank. arms_again h (n + 2) j z ((spaces n ++ codes "}") ++ (newline ++ rest)) z_blank))
-        (λ k v e. λ i. at 0 (inbranch x (e i))) (λ k v d e b. inbranch_is o k x m code arms v d is e b) (λ d b. alike_cons (codes "inbranch") _ _ (alike_cons (names.word x) _ _ b))
+        (λ k y all_blank. in_braces unlined_branches (AreArms L names o) (ArmsBlock L names o) all a n (arms_text names (n + 2) all) k y (newline ++ rest) all_blank (λ v b b_is. (b, refl, b_is)) (λ j z z_blank. arms_again h (n + 2) j z ((spaces n ++ codes "}") ++ (newline ++ rest)) z_blank))
+        (λ k v e. λ i. at 0 (inbranch x (e i))) (λ k v d e b. inbranch_is L names o k x m code arms v d is e b) (λ d b. alike_cons (codes "inbranch") _ _ (alike_cons (names.word x) _ _ b))
     step_again {o} (grammar.of_outwhile {l} {x} {t} {e} {body} {a} is h b) n before g rest blank =
         let ps = all_plain (expression_pieces names whole t) in
-        with_block L names unlined_code (IsBlock L names o) body a o n (codes "outwhile") (given_text names (codes "outwhile ") x (codes " ") t) (given_tail L names x (codes " ") t) (block_of n body) (plain (names.word x) ∷ ps)
+        with_block L names unlined_code (IsBlock L names o) body a o n (codes "outwhile") (given_text names (codes "outwhile ") x (codes " ") t) (given_tail L names x (codes " ") t) (block_of L names n body) (plain (names.word x) ∷ ps)
         (first_on l (codes "outwhile") ∷ plain (names.word x) ∷ (all_plain e ++ a)) (at l (outwhile x t body)) (λ k v. at k (outwhile x t v)) before g rest refl (λ more. refl) (given_has L names x t e is h) blank (given_is L names (codes "outwhile") x (codes " ") t) (block_free n (code_text names (n + 2) body))
         (λ k y y_blank. block_again b n k y (newline ++ rest) y_blank) (λ k v same. λ i. at 0 (outwhile x t (same i))) (λ k v d same d_is. grammar.of_outwhile is (expression_again L names t e h) d_is)
         (λ d adds. alike_cons (codes "outwhile") _ _ (alike_cons (names.word x) _ _ (adds_append (all_plain e) a ps d (expression_adds L names t e h) adds)))
     step_again {o} (grammar.of_inwhile {l} {x} {body} {a} is b) n before g rest blank =
-        with_block L names unlined_code (IsBlock L names o) body a o n (codes "inwhile") (named_text names (codes "inwhile ") x) (32 ∷ names.word x) (block_of n body) (plain (names.word x) ∷ [])
+        with_block L names unlined_code (IsBlock L names o) body a o n (codes "inwhile") (named_text names (codes "inwhile ") x) (32 ∷ names.word x) (block_of L names n body) (plain (names.word x) ∷ [])
         (first_on l (codes "inwhile") ∷ plain (names.word x) ∷ a) (at l (inwhile x body)) (λ k v. at k (inwhile x v)) before g rest refl (λ more. refl) (name_has L names x is) blank (named_is L names (codes "inwhile") x) (block_free n (code_text names (n + 2) body))
         (λ k y y_blank. block_again b n k y (newline ++ rest) y_blank) (λ k v same. λ i. at 0 (inwhile x (same i))) (λ k v d same d_is. grammar.of_inwhile is d_is) (λ d adds. alike_cons (codes "inwhile") _ _ (alike_cons (names.word x) _ _ adds))
     step_again {o} (grammar.of_relay {l} {x} {y = z} {body} {a} is also b) n before g rest blank =
-        with_block L names unlined_code (IsBlock L names o) body a o n (codes "relay") (pair_text names (codes "relay ") x z) (pair_tail L names x z) (block_of n body) (plain (names.word x) ∷ plain (names.word z) ∷ [])
+        with_block L names unlined_code (IsBlock L names o) body a o n (codes "relay") (pair_text names (codes "relay ") x z) (pair_tail L names x z) (block_of L names n body) (plain (names.word x) ∷ plain (names.word z) ∷ [])
         (first_on l (codes "relay") ∷ plain (names.word x) ∷ plain (names.word z) ∷ a) (at l (relay x z body)) (λ k v. at k (relay x z v)) before g rest refl (λ more. refl) (pair_has L names x z is also) blank (pair_is L names (codes "relay") x z) (block_free n (code_text names (n + 2) body))
         (λ k y y_blank. block_again b n k y (newline ++ rest) y_blank) (λ k v same. λ i. at 0 (relay x z (same i))) (λ k v d same d_is. grammar.of_relay is also d_is) (λ d adds. alike_cons (codes "relay") _ _ (alike_cons (names.word x) _ _ (alike_cons (names.word z) _ _ adds)))
     step_again {o} (grammar.of_if {l} {t} {e} {yes = c} {no = d} {a} {b} h one two) n before g rest blank =
         let ps = all_plain (expression_pieces names whole t) in
-        with_block L names unlined_both (Both o) (c, d) (a ++ plain (codes "else") ∷ b) o n (codes "if") (valued_text names (codes "if ") t) (32 ∷ expression_text names whole t) (block_of n c ++ (codes " else" ++ block_of n d)) ps
+        with_block L names (unlined_both L names) (Both L names o) (c, d) (a ++ plain (codes "else") ∷ b) o n (codes "if") (valued_text names (codes "if ") t) (32 ∷ expression_text names whole t) (block_of L names n c ++ (codes " else" ++ block_of L names n d)) ps
         (first_on l (codes "if") ∷ (all_plain e ++ (a ++ plain (codes "else") ∷ b))) (at l (if_else t c d)) (λ k v. at k (if_else t v.0 v.1)) before g rest refl (λ more. refl) (behind_space L names t e h) blank (valued_is L names (codes "if") t)
-        (λ more. if_free n c d more) (λ k y y_blank. both_again o n c d a b (λ j z u z_blank. block_again one n j z u z_blank) (λ j z u z_blank. block_again two n j z u z_blank) k y (newline ++ rest) y_blank)
+        (λ more. if_free L names n c d more) (λ k y y_blank. both_again L names o n c d a b (λ j z u z_blank. block_again one n j z u z_blank) (λ j z u z_blank. block_again two n j z u z_blank) k y (newline ++ rest) y_blank)
         (λ k v same. λ i. at 0 (if_else t (same i).0 (same i).1))
         (λ k v q same q_is. subst (λ (x : List Piece). IsStatement L names o (at k (if_else t v.0 v.1)) (first_on k (codes "if") ∷ (ps ++ x))) (sym q_is.2) (grammar.of_if (expression_again L names t e h) q_is.3 q_is.4))
         (λ q adds. alike_cons (codes "if") _ _ (adds_append (all_plain e) (a ++ plain (codes "else") ∷ b) ps q (expression_adds L names t e h) adds))

@@ -1,7 +1,8 @@
 -- A file but for its lines.
-use Rattle.std.specs.Prelude.{map}
+use Rattle.std.specs.Prelude.{◌≡◌, ℕ, List, map}
 use Rattle.sj_lang.specs.Code.{Code, Step, Act, Branches, no_step, step_then, at, send, delegate, take_value, take_end, outbranch, inbranch, outwhile, inwhile, relay, if_else, let_be, close, no_branch, branch}
 use Rattle.sj_lang.specs.FileAt.{ProtocolAt, PartyAt, ConnectAt, FileAt}
+use Rattle.sj_grammar.specs.Files.{IsFile}
 
 -- the same, with line 0 in place of each line
 abbrev mutual
@@ -47,3 +48,9 @@ unlined f = record {
   parties = map unlined_party f.parties;
   connects = map unlined_connect f.connects;
 }
+
+-- the text stands for a file that is the same but for its lines
+pub record StandsButLines (text : List ℕ) (f : FileAt) : Type 0 where
+  pub file : FileAt
+  pub same : unlined file ≡ unlined f
+  pub stands : IsFile text file

@@ -17,6 +17,7 @@ mod statements;
 mod tests;
 mod printing;
 mod printing_expressions;
+mod printing_laws;
 mod printing_statements;
 
 pub use files::parse_file;
@@ -26,3 +27,6 @@ pub use laws::{
 };
 pub use sj_proto::{Fault, ParseRefusal, Rule};
 pub use printing::{print_file, print_protocol_line};
+pub use printing_laws::{
+    printed_file_is_read_again, printed_file_stands, printed_text_comes_again,
+};
