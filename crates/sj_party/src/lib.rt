@@ -30,3 +30,6 @@ pub use printing::{print_file, print_protocol_line};
 pub use printing_laws::{
     printed_file_is_read_again, printed_file_stands, printed_text_comes_again,
 };
+
+#[cfg(test)]
+mod printing_tests;
