@@ -1,2 +1,5 @@
-pub mod AnswerLemmas
-pub mod WordLemmas
+pub mod EndLemmas
+pub mod Exactly
+pub mod OneAnswer
+pub mod PlayedAnswers
+pub mod Rows

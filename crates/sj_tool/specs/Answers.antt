@@ -1,29 +1,29 @@
 -- The table of answers, in the order of refusals.
-use Rattle.std.specs.Prelude.{◌≡◌, ◌⊎◌, ◌<◌, ◌≤◌, ℕ, List, [], ◌∷◌, ◌++◌, Option, map, length, codes, string_bytes, IfSome}
+use Rattle.std.specs.Prelude.{◌≡◌, ◌⊎◌, ◌<◌, ◌≤◌, ℕ, true, false, List, [], Option, Some, map, length, string_bytes, IfSome, ⊤}
 use Rattle.std.specs.declared.alloc.Global.{Global}
 use Rattle.std.specs.declared.string.String.{String}
 use Rattle.sj_base.specs.Stream.{Rose, CameOf, WroteFrontOf, put_before, put_behind}
-use Rattle.sj_semantics.specs.declared.Verdict.TheVariants.{Done, Blocked, Long}
+use Rattle.sj_lang.specs.FileAt.{FileAt}
+use Rattle.sj_grammar.specs.Limits.{limits}
+use Rattle.sj_grammar.specs.Places.{start}
+use Rattle.sj_grammar.specs.Files.{IsFile}
+use Rattle.sj_grammar.specs.FileDues.{file_layer, file_due}
+use Rattle.sj_grammar.specs.Faults.{Stuck}
+use Rattle.sj_acceptance.specs.Accepted.{IsAccepted}
+use Rattle.sj_acceptance.specs.Faults.{first_fault}
+use Rattle.sj_acceptance.specs.FileTests.{tests_of}
+use Rattle.sj_semantics.specs.State.{verdict_of}
+use Rattle.sj_semantics.specs.Run.{end_of}
+use Rattle.sj_semantics.specs.Transcript.{transcript_of}
+use Rattle.sj_generator.specs.Generated.{generated}
+use Rattle.sj_command.specs.declared.tasks.Task.{Task}
+use Rattle.sj_command.specs.declared.tasks.Task.TheVariants as tasks
+use Rattle.sj_command.specs.Task.{Asks, IsUsage}
 use Rattle.sj_tool.specs.declared.answers.Answer.{Answer}
-use Rattle.sj_tool.specs.declared.answers.Answer.TheVariants.{Usage, ReadFault, TooLarge, Unbuilt, Ran}
-
--- the status of each answer
-abbrev pub status_of : Answer → ℕ
-status_of Usage = 1
-status_of ReadFault = 2
-status_of TooLarge = 3
-status_of Unbuilt = 13
-status_of (Ran Done text) = 0
-status_of (Ran Blocked text) = 6
-status_of (Ran Long text) = 7
-
--- the text of each answer
-abbrev pub text_of : Answer → List ℕ
-text_of Usage = codes "usage: sj check | show | sim | run [--log] [--looks N] | replay [--log] | make N | big N" ++ 10 ∷ []
-text_of ReadFault = codes "read fault" ++ 10 ∷ []
-text_of TooLarge = codes "too large" ++ 10 ∷ []
-text_of Unbuilt = codes "unbuilt" ++ 10 ∷ []
-text_of (Ran verdict text) = text.items
+use Rattle.sj_tool.specs.declared.answers.Answer.TheVariants.{Usage, ReadFault, TooLarge, Syntax, Check, Unbuilt, Ran, Printed, Made}
+use Rattle.sj_tool.specs.Delegates.{file_hands_over}
+use Rattle.sj_tool.specs.Shown.{shown}
+use Rattle.sj_tool.specs.Texts.{status_of, text_of, counts_of}
 
 -- what a call is given: its words, and what its source has left and counts, before and after
 pub record CallAt : Type 0 where
@@ -43,41 +43,106 @@ call left faults words before after = record {
   faults_after = faults after;
 }
 
--- the one command
-abbrev pub IsRun : List (List ℕ) → Type 0
-IsRun words = words ≡ codes "run" ∷ []
+-- the words ask for a task of that kind
+pub record AsksFor (P : Task → Type 0) (c : CallAt) : Type 0 where
+  pub task : Task
+  pub asks : Asks c.words task
+  pub kind : P task
 
--- bytes that meet P are all that was left, and no more than 65,536
-abbrev pub ReadWhole : (List ℕ → Type 0) → CallAt → Type 0
-ReadWhole P c = (bytes : List ℕ) × (length bytes ≤ 65536) × (c.left ≡ put_before bytes c.left_after)
-    × (IfSome c.left_after (λ rest. rest ≡ [])) × P bytes
+-- it reads a file
+abbrev pub Reads : Task → Type 0
+Reads (tasks.Make n) = ⊥
+Reads _ = ⊤
 
--- what answers a file of these bytes; nothing is said yet of which are of the first form
-abbrev pub Shows : List ℕ → Answer → Type 0
-Shows bytes Unbuilt = Unit {0}
-Shows bytes (Ran verdict text) = Unit {0}
-Shows bytes _ = ⊥
+-- it reads a file and checks it
+abbrev pub Checks : Task → Type 0
+Checks (tasks.Make n) = ⊥
+Checks tasks.Show = ⊥
+Checks _ = ⊤
+
+-- it plays the file to its end; `run` is built for files that hand no end over
+abbrev pub Plays : Task → FileAt → Type 0
+Plays tasks.Sim file = ⊤
+Plays tasks.Run file = file_hands_over file ≡ false
+Plays _ file = ⊥
+
+-- what a task prints of a file that it doesn't play
+abbrev pub Prints : Task → FileAt → List ℕ → Type 0
+Prints tasks.Check file text = IsAccepted file × (text ≡ counts_of file)
+Prints tasks.Show file text = text ≡ shown file
+Prints _ file text = ⊥
+
+-- what answers a file
+abbrev pub AnswersFile : Task → FileAt → Answer → Type 0
+AnswersFile task file (Check rule line) = Checks task × (first_fault (tests_of file) ≡ Some (rule, line))
+AnswersFile task file Unbuilt = (task ≡ tasks.Run) × IsAccepted file × (file_hands_over file ≡ true)
+AnswersFile task file (Ran verdict text) = IsAccepted file × Plays task file × (verdict ≡ verdict_of (end_of file)) × (text.items ≡ transcript_of file (end_of file))
+AnswersFile task file (Printed text) = Prints task file text.items
+AnswersFile task file _ = ⊥
+
+-- the text stands for a file, which the answer answers
+pub record AnswersItsFile (task : Task) (bytes : List ℕ) (a : Answer) : Type 0 where
+  pub file : FileAt
+  pub stands : IsFile bytes file
+  pub answers : AnswersFile task file a
+
+-- what answers a text
+abbrev pub AnswersText : Task → List ℕ → Answer → Type 0
+AnswersText task bytes (Syntax fault) = Reads task × Stuck file_layer limits 0 (start bytes [] []) file_due fault
+AnswersText task bytes a = AnswersItsFile task bytes a
+
+-- the words ask for a task; bytes are all that was left, no more than 65,536, and no fault was counted; the answer answers them
+pub record AnswersInput (c : CallAt) (a : Answer) : Type 0 where
+  pub task : Task
+  pub asks : Asks c.words task
+  pub bytes : List ℕ
+  pub few : length bytes ≤ 65536
+  pub came : c.left ≡ put_before bytes c.left_after
+  pub all : IfSome c.left_after (λ rest. rest ≡ [])
+  pub no_fault : c.faults_after ≡ c.faults
+  pub answers : AnswersText task bytes a
+
+-- the words ask for the generated file, and nothing is read
+pub record Makes (c : CallAt) (printed : List ℕ) : Type 0 where
+  pub count : ℕ
+  pub asks : Asks c.words (tasks.Make count)
+  pub text : printed ≡ generated count
+  pub unread : c.left_after ≡ c.left
 
 -- where each answer comes; a row is read where none above it came
 abbrev pub Comes : CallAt → Answer → Type 0
-Comes c Usage = ¬ IsRun c.words
-Comes c ReadFault = IsRun c.words × CameOf (λ n. n ≤ 65536) c.left c.left_after × Rose c.faults c.faults_after
-Comes c TooLarge = IsRun c.words × CameOf (λ n. 65536 < n) c.left c.left_after
-Comes c a = IsRun c.words × ReadWhole (λ bytes. Shows bytes a) c
+Comes c Usage = IsUsage c.words
+Comes c ReadFault = AsksFor Reads c × CameOf (λ n. n ≤ 65536) c.left c.left_after × Rose c.faults c.faults_after
+Comes c TooLarge = AsksFor Reads c × CameOf (λ n. 65536 < n) c.left c.left_after
+Comes c (Made text) = Makes c text.items
+Comes c a = AnswersInput c a
 
--- the answer of that status comes, and its text stands behind what was written before
-abbrev pub Answers : CallAt → ℕ → Option (List ℕ) → Option (List ℕ) → Type 0
-Answers c status before after =
-    (a : Answer) × (status ≡ status_of a) × Comes c a × (after ≡ put_behind before (text_of a))
+-- the answer that comes is written behind what was written before, and its status is answered
+abbrev pub Answers : CallAt → ℕ → Option (List ℕ) → Option (List ℕ) → Answer → Type 0
+Answers c status before after a = (status ≡ status_of a) × (after ≡ put_behind before (text_of a))
+
+-- an answer of the table comes, and is the answer
+pub record AnswersOne (c : CallAt) (status : ℕ) (before after : Option (List ℕ)) : Type 0 where
+  pub answer : Answer
+  pub comes : Comes c answer
+  pub answers : Answers c status before after answer
 
 -- a front of the text of an answer that comes stands there
-abbrev pub WroteFront : CallAt → Option (List ℕ) → Option (List ℕ) → Type 0
-WroteFront c before after = (a : Answer) × Comes c a × WroteFrontOf (text_of a) before after
+pub record WroteFront (c : CallAt) (before after : Option (List ℕ)) : Type 0 where
+  pub answer : Answer
+  pub comes : Comes c answer
+  pub front : WroteFrontOf (text_of answer) before after
 
 -- it holds, unless a write failed or there was no memory
 abbrev pub OrYields : ℕ → Type 0 → Type 0
 OrYields status P = P ⊎ ((status ≡ 10) ⊎ (status ≡ 11))
 
--- the status comes exactly where P holds, which yields to a write fault and to want of memory
-abbrev pub ComesExactly : ℕ → ℕ → Type 0 → Type 0
-ComesExactly status s P = (status ≡ s → P) × (P → OrYields status (status ≡ s))
+-- no read fault stands above the answer: what the words or too many bytes tell comes before, and else no fault was counted
+abbrev pub NoFaultAbove : CallAt → Answer → Type 0
+NoFaultAbove c ReadFault = ⊥
+NoFaultAbove c (Syntax fault) = ¬ Rose c.faults c.faults_after
+NoFaultAbove c (Check rule line) = ¬ Rose c.faults c.faults_after
+NoFaultAbove c Unbuilt = ¬ Rose c.faults c.faults_after
+NoFaultAbove c (Ran verdict text) = ¬ Rose c.faults c.faults_after
+NoFaultAbove c (Printed text) = ¬ Rose c.faults c.faults_after
+NoFaultAbove c _ = ⊤

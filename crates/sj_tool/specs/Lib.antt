@@ -1,1 +1,5 @@
 pub mod Answers
+pub mod Delegates
+pub mod Outcomes
+pub mod Shown
+pub mod Texts

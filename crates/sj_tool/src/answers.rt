@@ -1,7 +1,12 @@
 //! What the top call answers.
-ghost use Rattle.std.specs.Prelude.{◌≡◌};
+ghost use Rattle.std.specs.Prelude.{◌≡◌, ◌++◌, ◌∷◌, List, ℕ, OnOk, IfOk, decimal};
+ghost use Rattle.sj_tool.specs.Texts.{rule_number, status_of, text_of, verdict_status};
 
+use itoa::Buffer;
+use sj_base::NoMemory;
+use sj_proto::{Fault, Rule};
 use sj_semantics::Verdict;
+use std::alloc::Global;
 
 /// What is answered, in the order of refusals. Want of memory and a write fault have no text.
 #[derive(Drop)]
@@ -12,18 +17,21 @@ pub enum Answer {
     ReadFault,
     /// The input has more bytes than a file may have.
     TooLarge,
-    /// The input isn't a file of the first form.
+    /// The input is no file of the grammar.
+    Syntax(Fault),
+    /// The file isn't accepted: the number of the broken rule, and a line.
+    Check(u8, u32),
+    /// The file hands an end over, which `run` doesn't do yet.
     Unbuilt,
-    /// The file was run.
-    Ran {
-        verdict: Verdict,
-        transcript: Vec<u8>,
-    },
+    /// The file was played to its end: how it ended, and the transcript.
+    Ran(Verdict, Vec<u8>),
+    /// What was asked of a file is printed.
+    Printed(Vec<u8>),
+    /// The generated file is printed.
+    Made(Vec<u8>),
 }
 
 impl Answer {
-    ghost use Rattle.sj_tool.specs.Answers.{status_of, text_of};
-
     /// The status with which the program ends.
     pub fn status(&self) -> u8
         ensures { result ≡ status_of self.now }
@@ -32,26 +40,98 @@ impl Answer {
             Answer::Usage => 1,
             Answer::ReadFault => 2,
             Answer::TooLarge => 3,
+            Answer::Syntax(_) => 4,
+            Answer::Check(..) => 5,
             Answer::Unbuilt => 13,
-            Answer::Ran { verdict, .. } => match verdict {
-                Verdict::Done => 0,
-                Verdict::Blocked => 6,
-                Verdict::Long => 7,
-            },
+            Answer::Ran(verdict, _) => status_by(*verdict),
+            Answer::Printed(_) | Answer::Made(_) => 0,
         }
     }
 
     /// What is written.
-    pub fn text(&self) -> &[u8]
-        ensures { result.now ≡ text_of self.now }
+    pub fn into_text(self, alloc: Global) -> Result<Vec<u8>, NoMemory>
+        ensures { IfOk result (λ text. text.items ≡ text_of self) }
     {
         match self {
-            Answer::Usage =>
+            Answer::Usage => copied_text(
+                alloc,
                 b"usage: sj check | show | sim | run [--log] [--looks N] | replay [--log] | make N | big N\n",
-            Answer::ReadFault => b"read fault\n",
-            Answer::TooLarge => b"too large\n",
-            Answer::Unbuilt => b"unbuilt\n",
-            Answer::Ran { transcript, .. } => transcript,
+            ),
+            Answer::ReadFault => copied_text(alloc, b"read fault\n"),
+            Answer::TooLarge => copied_text(alloc, b"too large\n"),
+            Answer::Syntax(fault) => syntax_text(alloc, fault),
+            Answer::Check(rule, line) => check_text(alloc, rule, line),
+            Answer::Unbuilt => copied_text(alloc, b"unbuilt\n"),
+            Answer::Ran(_, text) => Ok(text),
+            Answer::Printed(text) | Answer::Made(text) => Ok(text),
         }
     }
+}
+
+fn status_by(verdict: Verdict) -> u8
+    ensures { result ≡ verdict_status verdict }
+{
+    match verdict {
+        Verdict::Done => 0,
+        Verdict::Blocked => 6,
+        Verdict::Long => 7,
+    }
+}
+
+fn copied_text(alloc: Global, bytes: &[u8]) -> Result<Vec<u8>, NoMemory>
+    ensures { IfOk result (λ text. text.items ≡ bytes.now) }
+{
+    Ok(Vec::from_slice(alloc, bytes)?)
+}
+
+fn syntax_text(alloc: Global, fault: Fault) -> Result<Vec<u8>, NoMemory>
+    ensures { IfOk result (λ text. text.items ≡ text_of (Answer.Syntax fault)) }
+{
+    let mut text = Vec::new(alloc);
+    put(&mut text, b"syntax P")?;
+    put_number(&mut text, number_of(fault.rule))?;
+    put(&mut text, b" at ")?;
+    put_number(&mut text, fault.line)?;
+    put(&mut text, b":")?;
+    put_number(&mut text, fault.column)?;
+    put(&mut text, b"\n")?;
+    Ok(text)
+}
+
+fn check_text(alloc: Global, rule: u8, line: u32) -> Result<Vec<u8>, NoMemory>
+    ensures { IfOk result (λ text. text.items ≡ text_of (Answer.Check rule line)) }
+{
+    let mut text = Vec::new(alloc);
+    put(&mut text, b"check C")?;
+    put_number(&mut text, u32::from(rule))?;
+    put(&mut text, b" at ")?;
+    put_number(&mut text, line)?;
+    put(&mut text, b"\n")?;
+    Ok(text)
+}
+
+fn number_of(rule: Rule) -> u32
+    ensures { result ≡ rule_number rule }
+{
+    match rule {
+        Rule::P1 => 1,
+        Rule::P2 => 2,
+        Rule::P3 => 3,
+        Rule::P4 => 4,
+        Rule::P5 => 5,
+    }
+}
+
+/// Appends the number's decimal digits.
+pub(crate) fn put_number(text: &mut Vec<u8>, number: u32) -> Result<(), NoMemory>
+    ensures { OnOk result (text.new.items ≡ text.old.items ++ decimal number) }
+{
+    put(text, Buffer::new().format(number).as_bytes())
+}
+
+/// Appends the bytes.
+pub(crate) fn put(text: &mut Vec<u8>, piece: &[u8]) -> Result<(), NoMemory>
+    ensures { OnOk result (text.new.items ≡ text.old.items ++ piece.now) }
+{
+    Ok(text.extend_from_slice(piece)?)
 }

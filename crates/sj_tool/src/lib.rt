@@ -2,12 +2,10 @@
 #![tactic(auto)]
 
 mod answers;
-mod first_form;
-mod reader;
+mod counting;
+mod delegates;
 mod run;
-mod transcript;
+mod showing;
 
 pub use run::sj;
 
-#[cfg(test)]
-mod tests;

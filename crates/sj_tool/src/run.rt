@@ -1,14 +1,28 @@
 //! The top call: from the words and the input to the output.
-ghost use Rattle.std.specs.Prelude.{◌≡◌, ◌↔◌, ◌<◌, map, string_bytes, IsTrue, IfOk, IfSome};
+ghost use Rattle.std.specs.Prelude.{◌≡◌, ◌<◌, ◌≤◌, map, length, string_bytes, IfOk, IfSome, ⊤};
 ghost use Rattle.sj_base.specs.Stream.{Rose, CameOf};
-ghost use Rattle.sj_tool.specs.Answers.{IsRun, Shows, Comes, Answers, WroteFront, OrYields, ComesExactly, call};
+ghost use Rattle.sj_lang.specs.FileView.{file_of};
+ghost use Rattle.sj_grammar.specs.Limits.{limits};
+ghost use Rattle.sj_party.specs.Within.{IsWithin};
+ghost use Rattle.sj_check.specs.Held.{file_in};
+ghost use Rattle.sj_tool.specs.Answers.{Answers, AnswersFile, AnswersOne, AnswersText, Comes, NoFaultAbove, OrYields, Reads, WroteFront, call};
+ghost use Rattle.sj_tool.specs.Outcomes.{IsJudged, HasPlayed};
+ghost use Rattle.sj_command.specs.declared.tasks.Task.TheVariants as tasks;
+ghost use Rattle.sj_tool.specs.declared.answers.Answer.{Answer as AnyAnswer};
 
 use crate::answers::Answer;
-use crate::first_form::first_form;
-use crate::reader::Refusal;
-use crate::transcript::print_transcript;
+use crate::counting::counts_text;
+use crate::delegates::file_delegates;
+use crate::showing::shown_text;
 use sj_base::{NoMemory, ReadRefusal, Sink, Source, WriteFault, read_all, write_all_of};
+use sj_check::{Accepted, CheckRefusal, check};
+use sj_command::{Task, task_in};
+use sj_generator::print_generated;
+use sj_lang::File;
+use sj_party::parse_file;
 use sj_plain::Plain;
+use sj_print::print_transcript;
+use sj_proto::ParseRefusal;
 use std::alloc::Global;
 
 /// The most bytes of a file.
@@ -22,18 +36,22 @@ const NO_MEMORY: u8 = 11;
 
 /// Does what the words say with the input, writes the answer's text, and answers its status.
 ///
-/// The one command is `run`. It runs a file of one session of numbers, and writes the transcript.
+/// The words are those behind the program's name. The text is built whole before any of it is
+/// written.
 pub fn sj<S: Source, K: Sink>(alloc: Global, words: &[String], src: &mut S, out: &mut K) -> u8
-    // One answer of the table comes, and its text is written.
-    ensures answer { OrYields result (Answers (call S.left S.faults words.now src.old src.new)
+    // An answer of the table comes, and its text is written behind what was written before.
+    ensures answer { OrYields result (AnswersOne (call S.left S.faults words.now src.old src.new)
         result (K.written out.old) (K.written out.new)) }
 
-    // The causes of the refusals.
-    ensures usage { ComesExactly result 1 (¬ IsRun (map string_bytes words.now)) }
+    // Whatever answer the table gives, it is the answer, where the source tells.
+    ensures exactly { IfSome (S.left src.old) (λ _. (a : AnyAnswer)
+        → Comes (call S.left S.faults words.now src.old src.new) a
+        → NoFaultAbove (call S.left S.faults words.now src.old src.new) a
+        → OrYields result (Answers (call S.left S.faults words.now src.old src.new)
+        result (K.written out.old) (K.written out.new) a)) }
+
+    // A read fault and a write fault come only where a fault was counted.
     ensures read_fault { result ≡ 2 → Rose (S.faults src.old) (S.faults src.new) }
-    ensures too_large { IfSome (S.left src.old) (λ _. ComesExactly result 3
-        (IsRun (map string_bytes words.now)
-        × CameOf (λ n. 65536 < n) (S.left src.old) (S.left src.new))) }
     ensures write_fault { result ≡ 10 → Rose (K.faults out.old) (K.faults out.new) }
 
     // A front of the answer's text was written where the sink failed, and nothing without memory.
@@ -45,8 +63,13 @@ pub fn sj<S: Source, K: Sink>(alloc: Global, words: &[String], src: &mut S, out:
         Ok(answer) => answer,
         Err(NoMemory) => return NO_MEMORY,
     };
-    match write_all_of(out, answer.text()) {
-        Ok(()) => answer.status(),
+    let status = answer.status();
+    let text = match answer.into_text(alloc) {
+        Ok(text) => text,
+        Err(NoMemory) => return NO_MEMORY,
+    };
+    match write_all_of(out, &text) {
+        Ok(()) => status,
         Err(WriteFault) => WRITE_FAULT,
     }
 }
@@ -55,42 +78,108 @@ pub fn sj<S: Source, K: Sink>(alloc: Global, words: &[String], src: &mut S, out:
 fn answer_to<S: Source>(alloc: Global, words: &[String], src: &mut S) -> Result<Answer, NoMemory>
     ensures { IfOk result (Comes (call S.left S.faults words.now src.old src.new)) }
 {
-    if !is_run(words) {
+    let Some(task) = task_in(alloc, words)? else {
         return Ok(Answer::Usage);
+    };
+    if let Task::Make(n) = task {
+        let mut text = Vec::new(alloc);
+        print_generated(&mut text, n)?;
+        return Ok(Answer::Made(text));
     }
     match read_all(alloc, src, MAX_FILE) {
-        Ok(bytes) => run(alloc, &bytes),
+        Ok(bytes) => answer_to_bytes(alloc, task, &bytes),
         Err(ReadRefusal::ReadFault) => Ok(Answer::ReadFault),
         Err(ReadRefusal::TooLarge) => Ok(Answer::TooLarge),
         Err(ReadRefusal::NoMemory) => Err(NoMemory),
     }
 }
 
-fn is_run(words: &[String]) -> bool
-    ensures { IsTrue result ↔ IsRun (map string_bytes words.now) }
+// The answer to a text.
+fn answer_to_bytes(alloc: Global, task: Task, bytes: &[u8]) -> Result<Answer, NoMemory>
+    requires few { length bytes.now ≤ 65536 }
+    requires reads { Reads task }
+    ensures { IfOk result (AnswersText task bytes.now) }
 {
-    match words {
-        [word] => word.as_bytes() == b"run".as_slice(),
-        _ => false,
+    let file = match parse_file(alloc, bytes) {
+        Ok(file) => file,
+        Err(ParseRefusal::At(fault)) => return Ok(Answer::Syntax(fault)),
+        Err(ParseRefusal::NoMemory) => return Err(NoMemory),
+    };
+    match task {
+        Task::Show => Ok(Answer::Printed(shown_text(alloc, &file)?)),
+        Task::Check => counted(alloc, file),
+        Task::Sim => simulated(alloc, file),
+        Task::Run => run(alloc, file),
+        // It reads no text.
+        Task::Make(_) => unreachable!(),
     }
 }
 
-// The answer to a file.
-fn run(alloc: Global, bytes: &[u8]) -> Result<Answer, NoMemory>
-    ensures { IfOk result (Shows bytes.now) }
+// The counts of a file, where it is accepted.
+fn counted(alloc: Global, file: File) -> Result<Answer, NoMemory>
+    requires { IsWithin limits (file_of file) }
+    ensures { IfOk result (AnswersFile tasks.Check (file_of file)) }
 {
-    let file = match first_form(alloc, bytes) {
-        Ok(file) => file,
-        Err(Refusal::OtherForm) => return Ok(Answer::Unbuilt),
-        Err(Refusal::NoMemory) => return Err(NoMemory),
-    };
-    let mut plain = Plain::start(alloc, &file)?;
+    match judge(alloc, file)? {
+        Judged::Accepted(accepted) => {
+            Ok(Answer::Printed(counts_text(alloc, accepted.file())?))
+        }
+        Judged::Fault(rule, line) => Ok(Answer::Check(rule, line)),
+    }
+}
+
+// The transcript of a file, where it is accepted.
+fn simulated(alloc: Global, file: File) -> Result<Answer, NoMemory>
+    requires { IsWithin limits (file_of file) }
+    ensures { IfOk result (AnswersFile tasks.Sim (file_of file)) }
+{
+    match judge(alloc, file)? {
+        Judged::Accepted(accepted) => played(alloc, &accepted),
+        Judged::Fault(rule, line) => Ok(Answer::Check(rule, line)),
+    }
+}
+
+// The same for a file that hands no end over.
+fn run(alloc: Global, file: File) -> Result<Answer, NoMemory>
+    requires { IsWithin limits (file_of file) }
+    ensures { IfOk result (AnswersFile tasks.Run (file_of file)) }
+{
+    match judge(alloc, file)? {
+        Judged::Accepted(accepted) => {
+            if file_delegates(accepted.file()) {
+                return Ok(Answer::Unbuilt);
+            }
+            played(alloc, &accepted)
+        }
+        Judged::Fault(rule, line) => Ok(Answer::Check(rule, line)),
+    }
+}
+
+// A file that was checked.
+#[derive(Drop)]
+enum Judged {
+    Accepted(Accepted),
+    Fault(u8, u32),
+}
+
+fn judge(alloc: Global, file: File) -> Result<Judged, NoMemory>
+    requires { IsWithin limits (file_of file) }
+    ensures { IfOk result (IsJudged file) }
+{
+    match check(alloc, file) {
+        Ok(accepted) => Ok(Judged::Accepted(accepted)),
+        Err((_, CheckRefusal::At { rule, line })) => Ok(Judged::Fault(rule, line)),
+        Err((_, CheckRefusal::NoMemory)) => Err(NoMemory),
+    }
+}
+
+// How the file ends, and its transcript.
+fn played(alloc: Global, accepted: &Accepted) -> Result<Answer, NoMemory>
+    ensures { IfOk result (HasPlayed (file_of (file_in accepted.now))) }
+{
+    let mut plain = Plain::start(alloc, accepted)?;
     plain.finish()?;
     let mut transcript = Vec::new(alloc);
-    print_transcript(&mut transcript, &file, &plain)?;
-    let verdict = plain.verdict();
-    Ok(Answer::Ran {
-        verdict,
-        transcript,
-    })
+    print_transcript(&mut transcript, accepted.file(), &plain)?;
+    Ok(Answer::Ran(plain.verdict(), transcript))
 }

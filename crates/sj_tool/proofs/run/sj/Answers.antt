@@ -1,6 +1,8 @@
-use Rattle.sj_tool.proofs.AnswerLemmas.{size_exactly}
+use Rattle.std.proofs.Common.{rules}
+use Rattle.sj_tool.proofs.Exactly.{answered_exactly}
 use Rattle.sj_tool.proofs.run.sj.Goals as goal
 
-pub returns-in-Ok-write_all_of-clause-too_large : goal.returns-in-Ok-write_all_of-clause-too_large
-returns-in-Ok-write_all_of-clause-too_large g c =
-    size_exactly _ _ _ (g.S.Source.faults c.args.src.now) (g.S.Source.faults c.answer_to.new.src) c.in-Ok.answer _ c.status.ensures c.in-Ok.ensures
+pub returns-in-Ok-write_all_of-clause-exactly : goal.returns-in-Ok-write_all_of-clause-exactly
+returns-in-Ok-write_all_of-clause-exactly g c =
+    answered_exactly _ _ _ (g.S.Source.faults c.args.src.now) (g.S.Source.faults c.answer_to.new.src) c.in-Ok.answer _ (g.K.Sink.written c.args.out.now) (g.K.Sink.written c.write_all_of.new.out)
+    c.in-Ok.ensures c.status-status.ensures (search rules)

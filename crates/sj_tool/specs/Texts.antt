@@ -1,0 +1,52 @@
+-- The status and the text of each answer.
+use Rattle.std.specs.Prelude.{ℕ, List, [], ◌∷◌, ◌++◌, codes, decimal, length}
+use Rattle.sj_lang.specs.FileAt.{FileAt}
+use Rattle.sj_grammar.specs.declared.tokens.Rule.{Rule}
+use Rattle.sj_grammar.specs.declared.tokens.Rule.TheVariants.{P1, P2, P3, P4, P5}
+use Rattle.sj_semantics.specs.declared.Verdict.{Verdict}
+use Rattle.sj_semantics.specs.declared.Verdict.TheVariants.{Done, Blocked, Long}
+use Rattle.sj_semantics.specs.Transcript.{line_of}
+use Rattle.sj_tool.specs.declared.answers.Answer.{Answer}
+use Rattle.sj_tool.specs.declared.answers.Answer.TheVariants.{Usage, ReadFault, TooLarge, Syntax, Check, Unbuilt, Ran, Printed, Made}
+
+abbrev pub rule_number : Rule → ℕ
+rule_number P1 = 1
+rule_number P2 = 2
+rule_number P3 = 3
+rule_number P4 = 4
+rule_number P5 = 5
+
+abbrev pub verdict_status : Verdict → ℕ
+verdict_status Done = 0
+verdict_status Blocked = 6
+verdict_status Long = 7
+
+abbrev pub status_of : Answer → ℕ
+status_of Usage = 1
+status_of ReadFault = 2
+status_of TooLarge = 3
+status_of (Syntax fault) = 4
+status_of (Check rule line) = 5
+status_of Unbuilt = 13
+status_of (Ran verdict text) = verdict_status verdict
+status_of (Printed text) = 0
+status_of (Made text) = 0
+
+-- which rule of acceptance is broken, and on which line
+abbrev pub check_line : ℕ → ℕ → List ℕ
+check_line rule line = line_of (codes "check" ∷ (67 ∷ decimal rule) ∷ codes "at" ∷ decimal line ∷ [])
+
+abbrev pub text_of : Answer → List ℕ
+text_of Usage = codes "usage: sj check | show | sim | run [--log] [--looks N] | replay [--log] | make N | big N\n"
+text_of ReadFault = codes "read fault\n"
+text_of TooLarge = codes "too large\n"
+text_of (Syntax fault) = line_of (codes "syntax" ∷ (80 ∷ decimal (rule_number fault.rule)) ∷ codes "at" ∷ (decimal fault.line ++ 58 ∷ decimal fault.column) ∷ [])
+text_of (Check rule line) = check_line rule line
+text_of Unbuilt = codes "unbuilt\n"
+text_of (Ran verdict text) = text.items
+text_of (Printed text) = text.items
+text_of (Made text) = text.items
+
+-- the counts of an accepted file
+abbrev pub counts_of : FileAt → List ℕ
+counts_of file = line_of (codes "accepted" ∷ codes "parties" ∷ decimal (length file.parties) ∷ codes "sessions" ∷ decimal (length file.connects) ∷ [])
