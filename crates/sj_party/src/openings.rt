@@ -92,10 +92,12 @@ fn opening_in(piece: &[u8]) -> Option<Opening>
 /// Takes the first word of a statement, where one begins with the next token.
 pub fn begin(tokens: &mut Tokens) -> Option<Begun>
     ensures taken { IfSome result (λ b. TakesText tokens.old (word_of b.opening) tokens.new) }
-    ensures line { IfSome result (λ b. b.line ≡ line_at (before_next tokens.old (next_of tokens.old.ahead))) }
+    ensures line { IfSome result (λ b.
+        b.line ≡ line_at (before_next tokens.old (next_of tokens.old.ahead))) }
     ensures shorter { IfSome result (λ _. length tokens.new.ahead < length tokens.old.ahead) }
     ensures kept { IfNone result (tokens.new ≡ tokens.old) }
-    ensures none { IfNone result ((o : ℕ) → Passes file_layer (stmts o) (next_of tokens.old.ahead)) }
+    ensures none { IfNone result ((o : ℕ) →
+        Passes file_layer (stmts o) (next_of tokens.old.ahead)) }
 {
     let line = tokens.line();
     let word = tokens.spelling();

@@ -67,8 +67,8 @@ fn receive(tokens: &mut Tokens, names: &mut Names) -> Result<Deed, ParseRefusal>
     ensures room { IfOk result (λ _. Uses 1 0 names.old tokens.old names.new tokens.new) }
     ensures shorter { IfOk result (λ _. length tokens.new.ahead < length tokens.old.ahead) }
     ensures kept { Grows names.old names.new }
-    ensures fault { IfErr result (λ e. (n : ℕ) → Stops (λ ds. name ∷ name ∷ awaited ∷ semicolon ∷ ds) n
-        (standing tokens.old names.old) e) }
+    ensures fault { IfErr result (λ e. (n : ℕ) → Stops (λ ds. name ∷ name ∷ awaited ∷ semicolon
+        ∷ ds) n (standing tokens.old names.old) e) }
 {
     let (end, into) = two_names(tokens, names)?;
     let what = take_awaited(tokens, names)?;
@@ -98,8 +98,8 @@ fn bind(alloc: Global, tokens: &mut Tokens, names: &mut Names) -> Result<Deed, P
     ensures room { IfOk result (λ _. Uses 1 0 names.old tokens.old names.new tokens.new) }
     ensures shorter { IfOk result (λ _. length tokens.new.ahead < length tokens.old.ahead) }
     ensures kept { Grows names.old names.new }
-    ensures fault { IfErr result (λ e. (n : ℕ) → Stops (λ ds. name ∷ fixed (codes "=") ∷ expr whole ∷ semicolon ∷ ds) n
-        (standing tokens.old names.old) e) }
+    ensures fault { IfErr result (λ e. (n : ℕ) → Stops (λ ds. name ∷ fixed (codes "=")
+        ∷ expr whole ∷ semicolon ∷ ds) n (standing tokens.old names.old) e) }
 {
     let (name, value) = binding(alloc, tokens, names)?;
     tokens.expect(b";")?;

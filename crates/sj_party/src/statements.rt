@@ -63,8 +63,8 @@ fn deed(
 ) -> Result<Deed, ParseRefusal>
     requires deep { depth ≤ 32 }
     requires room { HasRoomFor 2 names.old tokens.old }
-    ensures reads { IfOk result (λ d. ReadsDeed (word_of opening) depth (standing tokens.old names.old)
-        (standing tokens.new names.new) (deed_of d)) }
+    ensures reads { IfOk result (λ d. ReadsDeed (word_of opening) depth
+        (standing tokens.old names.old) (standing tokens.new names.new) (deed_of d)) }
     ensures room { IfOk result (λ _. Uses 1 0 names.old tokens.old names.new tokens.new) }
     ensures shorter { IfOk result (λ _. length tokens.new.ahead < length tokens.old.ahead) }
     ensures kept { Grows names.old names.new }
