@@ -3,4 +3,5 @@ pub mod CountLemmas
 pub mod CourseLemmas
 pub mod MoveLemmas
 pub mod SteppingLemmas
+pub mod TakingLemmas
 pub mod UseLemmas

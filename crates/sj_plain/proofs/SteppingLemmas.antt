@@ -1,6 +1,6 @@
 -- How a party stands, by what it wants.
-use Rattle.std.proofs.Common.{◌≡◌, ℕ, ◌<◌, nat_lt, Bool, true, false, cond, List, Option, Some, None, unwrap_or, refl, ap, sym, ◌∙◌}
-use Rattle.std.proofs.lemmas.Bool.{lt-ltb}
+use Rattle.std.proofs.Common.{◌≡◌, ℕ, ◌<◌, ◌≤◌, nat_lt, Bool, true, false, cond, List, Option, Some, None, unwrap_or, refl, ap, sym, ◌∙◌}
+use Rattle.std.proofs.lemmas.Bool.{le-ltb, lt-ltb}
 use Rattle.sj_semantics.specs.declared.State.{State}
 use Rattle.sj_semantics.specs.declared.State.TheVariants as states
 use Rattle.sj_semantics.specs.declared.Want.{Want}
@@ -11,7 +11,7 @@ use Rattle.sj_semantics.specs.State.{state_by, state_wanting, state_wanting_if, 
 use Rattle.sj_semantics.specs.Wants.{want_of}
 
 -- a program that is stuck counts as ended
-state_by_want : (zs : List Session) (steps : ℕ) (o : Option Want) → state_wanting_if zs steps o ≡ state_wanting zs steps (unwrap_or o wants.Ended)
+pub state_by_want : (zs : List Session) (steps : ℕ) (o : Option Want) → state_wanting_if zs steps o ≡ state_wanting zs steps (unwrap_or o wants.Ended)
 state_by_want zs steps None = refl
 state_by_want zs steps (Some want) = refl
 
@@ -33,6 +33,18 @@ pub stands_so : (zs : List Session) (g : Program) (want : Want) (s : State) → 
 stands_so zs g want s it ne below so =
     so
     ∙ sym (when_below (nat_lt g.steps 10000) (state_by zs want) (states.AtLimit None) (lt-ltb g.steps 10000 below))
+    ∙ sym (state_going zs g.steps want ne)
+    ∙ ap (state_wanting zs g.steps) it
+    ∙ sym (state_by_want zs g.steps (want_of g))
+
+when_past : (b : Bool) (s t : State) → b ≡ false → cond b s t ≡ t
+when_past true s t h = cc
+when_past false s t h = refl
+
+-- and one with no step left stands at the limit
+pub stands_at_limit : (zs : List Session) (g : Program) (want : Want) → want ≡ unwrap_or (want_of g) wants.Ended → (want ≡ wants.Ended → ⊥) → 10000 ≤ g.steps → states.AtLimit None ≡ state_of_program zs g
+stands_at_limit zs g want it ne past =
+    sym (when_past (nat_lt g.steps 10000) (state_by zs want) (states.AtLimit None) (le-ltb g.steps 10000 past))
     ∙ sym (state_going zs g.steps want ne)
     ∙ ap (state_wanting zs g.steps) it
     ∙ sym (state_by_want zs g.steps (want_of g))
