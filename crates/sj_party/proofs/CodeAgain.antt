@@ -5,7 +5,7 @@ use Rattle.sj_lang.specs.Code.{Code, Step, Branches, step_then, no_step, at, inb
 use Rattle.sj_grammar.specs.Limits.{Limits}
 use Rattle.sj_grammar.specs.Reading.{Reading}
 use Rattle.sj_grammar.specs.Tables.{Spelling}
-use Rattle.sj_grammar.specs.Places.{Piece, plain, first_on, all_plain}
+use Rattle.sj_grammar.specs.Places.{Piece, plain, first_on, all_plain, spellings}
 use Rattle.sj_grammar.specs.Expressions.{whole}
 use Rattle.sj_grammar.specs.Statements.{braced, scalar_piece, IsCode, IsStatement, IsBlock, AreArms}
 use Rattle.sj_grammar.specs.Statements as grammar
@@ -73,7 +73,7 @@ module _ (L : Limits) (names : Spelling) where
           same = λ i. branch m (body.same i) (second.same i);
           pieces = plain (names.word m) ∷ plain (codes ":") ∷ (body.pieces ++ second.pieces);
           is = grammar.one_arm named body.is second.is;
-          adds = alike_cons (names.word m) _ _ (alike_cons (codes ":") _ _ (adds_append a b body.pieces second.pieces body.adds second.adds));
+          adds = alike_cons (names.word m) ((codes ":") ∷ spellings (a ++ b)) ((codes ":") ∷ spellings (body.pieces ++ second.pieces)) (alike_cons (codes ":") (spellings (a ++ b)) (spellings (body.pieces ++ second.pieces)) (adds_append a b body.pieces second.pieces body.adds second.adds));
           reaches = subst (λ (x : List ℕ). Reaches (read before (g ++ x)) (plain (names.word m) ∷ plain (codes ":") ∷ (body.pieces ++ second.pieces)) rest) (sym (arm_parts n (names.word m) block behind rest))
               (joins r (label ++ body.pieces) second.pieces behind rest lined second.reaches);
         }
@@ -91,21 +91,21 @@ module _ (L : Limits) (names : Spelling) where
         with_block L names unlined_branches (ArmsBlock L names o) all (braced a) o n (codes "inbranch") (named_text names (codes "inbranch ") x) (32 ∷ names.word x) (in_block n (arms_text names (n + 2) all)) (plain (names.word x) ∷ [])
         (first_on l (codes "inbranch") ∷ plain (names.word x) ∷ braced a) (at l (inbranch x all)) (λ k v. at k (inbranch x v)) before g rest refl (λ more. refl) (name_has L names x is) blank (named_is L names (codes "inbranch") x) (block_free n (arms_text names (n + 2) all))
         (λ k y all_blank. in_braces unlined_branches (AreArms L names o) (ArmsBlock L names o) all a n (arms_text names (n + 2) all) k y (newline ++ rest) all_blank (λ v b b_is. (b, refl, b_is)) (λ j z z_blank. arms_again h (n + 2) j z ((spaces n ++ codes "}") ++ (newline ++ rest)) z_blank))
-        (λ k v e. λ i. at 0 (inbranch x (e i))) (λ k v d e b. inbranch_is L names o k x m code arms v d is e b) (λ d b. alike_cons (codes "inbranch") _ _ (alike_cons (names.word x) _ _ b))
+        (λ k v e. λ i. at 0 (inbranch x (e i))) (λ k v d e b. inbranch_is L names o k x m code arms v d is e b) (λ d b. alike_cons (codes "inbranch") ((names.word x) ∷ spellings (braced a)) ((names.word x) ∷ spellings d) (alike_cons (names.word x) (spellings (braced a)) (spellings d) b))
     step_again {o} (grammar.of_outwhile {l} {x} {t} {e} {body} {a} is h b) n before g rest blank =
         let ps = all_plain (expression_pieces names whole t) in
         with_block L names unlined_code (IsBlock L names o) body a o n (codes "outwhile") (given_text names (codes "outwhile ") x (codes " ") t) (given_tail L names x (codes " ") t) (block_of L names n body) (plain (names.word x) ∷ ps)
         (first_on l (codes "outwhile") ∷ plain (names.word x) ∷ (all_plain e ++ a)) (at l (outwhile x t body)) (λ k v. at k (outwhile x t v)) before g rest refl (λ more. refl) (given_has L names x t e is h) blank (given_is L names (codes "outwhile") x (codes " ") t) (block_free n (code_text names (n + 2) body))
         (λ k y y_blank. block_again b n k y (newline ++ rest) y_blank) (λ k v same. λ i. at 0 (outwhile x t (same i))) (λ k v d same d_is. grammar.of_outwhile is (expression_again L names t e h) d_is)
-        (λ d adds. alike_cons (codes "outwhile") _ _ (alike_cons (names.word x) _ _ (adds_append (all_plain e) a ps d (expression_adds L names t e h) adds)))
+        (λ d adds. alike_cons (codes "outwhile") ((names.word x) ∷ spellings (all_plain e ++ a)) ((names.word x) ∷ spellings (ps ++ d)) (alike_cons (names.word x) (spellings (all_plain e ++ a)) (spellings (ps ++ d)) (adds_append (all_plain e) a ps d (expression_adds L names t e h) adds)))
     step_again {o} (grammar.of_inwhile {l} {x} {body} {a} is b) n before g rest blank =
         with_block L names unlined_code (IsBlock L names o) body a o n (codes "inwhile") (named_text names (codes "inwhile ") x) (32 ∷ names.word x) (block_of L names n body) (plain (names.word x) ∷ [])
         (first_on l (codes "inwhile") ∷ plain (names.word x) ∷ a) (at l (inwhile x body)) (λ k v. at k (inwhile x v)) before g rest refl (λ more. refl) (name_has L names x is) blank (named_is L names (codes "inwhile") x) (block_free n (code_text names (n + 2) body))
-        (λ k y y_blank. block_again b n k y (newline ++ rest) y_blank) (λ k v same. λ i. at 0 (inwhile x (same i))) (λ k v d same d_is. grammar.of_inwhile is d_is) (λ d adds. alike_cons (codes "inwhile") _ _ (alike_cons (names.word x) _ _ adds))
+        (λ k y y_blank. block_again b n k y (newline ++ rest) y_blank) (λ k v same. λ i. at 0 (inwhile x (same i))) (λ k v d same d_is. grammar.of_inwhile is d_is) (λ d adds. alike_cons (codes "inwhile") ((names.word x) ∷ spellings a) ((names.word x) ∷ spellings d) (alike_cons (names.word x) (spellings a) (spellings d) adds))
     step_again {o} (grammar.of_relay {l} {x} {y = z} {body} {a} is also b) n before g rest blank =
         with_block L names unlined_code (IsBlock L names o) body a o n (codes "relay") (pair_text names (codes "relay ") x z) (pair_tail L names x z) (block_of L names n body) (plain (names.word x) ∷ plain (names.word z) ∷ [])
         (first_on l (codes "relay") ∷ plain (names.word x) ∷ plain (names.word z) ∷ a) (at l (relay x z body)) (λ k v. at k (relay x z v)) before g rest refl (λ more. refl) (pair_has L names x z is also) blank (pair_is L names (codes "relay") x z) (block_free n (code_text names (n + 2) body))
-        (λ k y y_blank. block_again b n k y (newline ++ rest) y_blank) (λ k v same. λ i. at 0 (relay x z (same i))) (λ k v d same d_is. grammar.of_relay is also d_is) (λ d adds. alike_cons (codes "relay") _ _ (alike_cons (names.word x) _ _ (alike_cons (names.word z) _ _ adds)))
+        (λ k y y_blank. block_again b n k y (newline ++ rest) y_blank) (λ k v same. λ i. at 0 (relay x z (same i))) (λ k v d same d_is. grammar.of_relay is also d_is) (λ d adds. alike_cons (codes "relay") ((names.word x) ∷ (names.word z) ∷ spellings a) ((names.word x) ∷ (names.word z) ∷ spellings d) (alike_cons (names.word x) ((names.word z) ∷ spellings a) ((names.word z) ∷ spellings d) (alike_cons (names.word z) (spellings a) (spellings d) adds)))
     step_again {o} (grammar.of_if {l} {t} {e} {yes = c} {no = d} {a} {b} h one two) n before g rest blank =
         let ps = all_plain (expression_pieces names whole t) in
         with_block L names (unlined_both L names) (Both L names o) (c, d) (a ++ plain (codes "else") ∷ b) o n (codes "if") (valued_text names (codes "if ") t) (32 ∷ expression_text names whole t) (block_of L names n c ++ (codes " else" ++ block_of L names n d)) ps
@@ -113,4 +113,4 @@ module _ (L : Limits) (names : Spelling) where
         (λ more. if_free L names n c d more) (λ k y y_blank. both_again L names o n c d a b (λ j z u z_blank. block_again one n j z u z_blank) (λ j z u z_blank. block_again two n j z u z_blank) k y (newline ++ rest) y_blank)
         (λ k v same. λ i. at 0 (if_else t (same i).0 (same i).1))
         (λ k v q same q_is. subst (λ (x : List Piece). IsStatement L names o (at k (if_else t v.0 v.1)) (first_on k (codes "if") ∷ (ps ++ x))) (sym q_is.2) (grammar.of_if (expression_again L names t e h) q_is.3 q_is.4))
-        (λ q adds. alike_cons (codes "if") _ _ (adds_append (all_plain e) (a ++ plain (codes "else") ∷ b) ps q (expression_adds L names t e h) adds))
+        (λ q adds. alike_cons (codes "if") (spellings (all_plain e ++ (a ++ plain (codes "else") ∷ b))) (spellings (ps ++ q)) (adds_append (all_plain e) (a ++ plain (codes "else") ∷ b) ps q (expression_adds L names t e h) adds))

@@ -52,7 +52,7 @@ module _ (L : Limits) (names : Spelling) where
         on_one_line L names o n (codes "send") (given_tail L names x (codes " ") t ++ codes ";") (act_text names n (send x t)) (plain (names.word x) ∷ (all_plain (expression_pieces names whole t) ++ plain (codes ";") ∷ []))
         (first_on l (codes "send") ∷ plain (names.word x) ∷ (all_plain e ++ plain (codes ";") ∷ [])) (at l (send x t)) (λ k. at k (send x t)) before g rest refl (λ more. refl)
         (ended (given_tail L names x (codes " ") t) (plain (names.word x) ∷ all_plain (expression_pieces names whole t)) (given_has L names x t e is h)) blank (ap (λ u. u ++ codes ";") (given_is (codes "send") x (codes " ") t)) (λ k. refl)
-        (λ k. grammar.of_send is (expression_again L names t e h)) (alike_cons (codes "send") _ _ (alike_cons (names.word x) _ _ (ended_adds t e h)))
+        (λ k. grammar.of_send is (expression_again L names t e h)) (alike_cons (codes "send") ((names.word x) ∷ spellings (all_plain e ++ plain (codes ";") ∷ [])) ((names.word x) ∷ spellings (all_plain (expression_pieces names whole t) ++ plain (codes ";") ∷ [])) (alike_cons (names.word x) (spellings (all_plain e ++ plain (codes ";") ∷ [])) (spellings (all_plain (expression_pieces names whole t) ++ plain (codes ";") ∷ [])) (ended_adds t e h)))
 
     pub let_again : (x : ℕ) (t : Term) (e : Pieces) → IsNamed L names.word x → IsExpression L names t e
         → StepAgain L names o (at l (let_be x t)) (first_on l (codes "let") ∷ plain (names.word x) ∷ plain (codes "=") ∷ (all_plain e ++ plain (codes ";") ∷ [])) (read before (g ++ (step_text names n (at l (let_be x t)) ++ rest))) rest
@@ -60,7 +60,7 @@ module _ (L : Limits) (names : Spelling) where
         on_one_line L names o n (codes "let") (given_tail L names x (codes " = ") t ++ codes ";") (act_text names n (let_be x t)) (plain (names.word x) ∷ plain (codes "=") ∷ (all_plain (expression_pieces names whole t) ++ plain (codes ";") ∷ []))
         (first_on l (codes "let") ∷ plain (names.word x) ∷ plain (codes "=") ∷ (all_plain e ++ plain (codes ";") ∷ [])) (at l (let_be x t)) (λ k. at k (let_be x t)) before g rest refl (λ more. refl)
         (ended (given_tail L names x (codes " = ") t) (plain (names.word x) ∷ plain (codes "=") ∷ all_plain (expression_pieces names whole t)) (let_has L names x t e is h)) blank (ap (λ u. u ++ codes ";") (given_is (codes "let") x (codes " = ") t)) (λ k. refl)
-        (λ k. grammar.of_let is (expression_again L names t e h)) (alike_cons (codes "let") _ _ (alike_cons (names.word x) _ _ (alike_cons (codes "=") _ _ (ended_adds t e h))))
+        (λ k. grammar.of_let is (expression_again L names t e h)) (alike_cons (codes "let") ((names.word x) ∷ (codes "=") ∷ spellings (all_plain e ++ plain (codes ";") ∷ [])) ((names.word x) ∷ (codes "=") ∷ spellings (all_plain (expression_pieces names whole t) ++ plain (codes ";") ∷ [])) (alike_cons (names.word x) ((codes "=") ∷ spellings (all_plain e ++ plain (codes ";") ∷ [])) ((codes "=") ∷ spellings (all_plain (expression_pieces names whole t) ++ plain (codes ";") ∷ [])) (alike_cons (codes "=") (spellings (all_plain e ++ plain (codes ";") ∷ [])) (spellings (all_plain (expression_pieces names whole t) ++ plain (codes ";") ∷ [])) (ended_adds t e h))))
 
     pub delegate_again : (x y : ℕ) → IsNamed L names.word x → IsNamed L names.word y
         → StepAgain L names o (at l (delegate x y)) (first_on l (codes "delegate") ∷ plain (names.word x) ∷ plain (names.word y) ∷ plain (codes ";") ∷ []) (read before (g ++ (step_text names n (at l (delegate x y)) ++ rest))) rest

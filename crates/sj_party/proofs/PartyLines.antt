@@ -5,7 +5,7 @@ use Rattle.sj_lang.specs.Code.{Code}
 use Rattle.sj_lang.specs.FileAt.{PartyAt}
 use Rattle.sj_grammar.specs.Limits.{Limits}
 use Rattle.sj_grammar.specs.Tables.{Spelling}
-use Rattle.sj_grammar.specs.Places.{Piece, plain, first_on}
+use Rattle.sj_grammar.specs.Places.{Piece, plain, first_on, spellings}
 use Rattle.sj_grammar.specs.Statements.{braced, IsCode}
 use Rattle.sj_grammar.specs.Files.{AreParties}
 use Rattle.sj_grammar.specs.Files as files
@@ -49,6 +49,6 @@ module _ (L : Limits) (names : Spelling) where
         same = λ i. record { line = 0; name = n; code = body.same i } ∷ second.same i;
         pieces = first_on head.0 (codes "party") ∷ plain (names.word n) ∷ (body.pieces ++ second.pieces);
         is = subst (λ (c : List Piece). AreParties L names (record { line = head.0; name = n; code = body.value } ∷ second.value) (first_on head.0 (codes "party") ∷ plain (names.word n) ∷ (c ++ second.pieces))) (sym body.is.1) (files.one_party is body.is.2 second.is);
-        adds = alike_cons (codes "party") _ _ (alike_cons (names.word n) _ _ (adds_append (braced a) b body.pieces second.pieces body.adds second.adds));
+        adds = alike_cons (codes "party") ((names.word n) ∷ spellings (braced a ++ b)) ((names.word n) ∷ spellings (body.pieces ++ second.pieces)) (alike_cons (names.word n) (spellings (braced a ++ b)) (spellings (body.pieces ++ second.pieces)) (adds_append (braced a) b body.pieces second.pieces body.adds second.adds));
         reaches = subst (λ (x : List ℕ). Reaches (read before (g ++ x)) (first_on head.0 (codes "party") ∷ plain (names.word n) ∷ (body.pieces ++ second.pieces)) rest) (sym text) (joins r (first ++ body.pieces) second.pieces behind rest lined second.reaches);
       }
