@@ -1,7 +1,13 @@
 //! Lines against those of transcripts in the format's examples.
 use crate::lines::{put_party, put_sent, put_session, put_verdict};
+use crate::print_transcript;
 use sj_base::{EndId, Msg};
-use sj_lang::{Connect, EndDecl, File, Names, Party, Words};
+use sj_check::{check, is_within_limits};
+use sj_lang::{
+    Connect, Deed, EndDecl, Expr, File, Item, Kind, Names, Party, Proto, ProtocolDef, Scalar, Stmt,
+    Words,
+};
+use sj_plain::Plain;
 use sj_semantics::{Passed, State, Verdict};
 use std::alloc::Global;
 use std::test::Fail;
@@ -169,6 +175,81 @@ fn parties_end_wait_and_come_to_limits(rt: HostRuntime) -> Result<(), Fail> {
     put_verdict(&mut text, &file, Verdict::Long)?;
     let wanted = "party customer ended 13\nparty customer waits 0 1.1\n\
         party customer limit 10000\nparty customer limit 151 0.1\ndone\nblocked\nlong\n";
+    assert_eq!(rt; text.as_slice(), wanted.as_bytes());
+    Ok(())
+}
+
+// Party a sends 5 on x, and party b takes it on y.
+fn one_number(alloc: Global) -> Result<File, Fail> {
+    let mut words = Words::new(alloc);
+    let all: [&[u8]; 7] = [b"p", b"q", b"a", b"b", b"x", b"y", b"n"];
+    for word in all {
+        words.add(word)?;
+    }
+    let stmt = |deed| Stmt { line: 1, deed };
+    let def = |name, items| ProtocolDef {
+        line: 1,
+        name,
+        body: Proto { items },
+    };
+    let party = |name, body| Party {
+        line: 1,
+        name,
+        body,
+    };
+    let end = |party, name, protocol| EndDecl {
+        party,
+        name,
+        protocol,
+    };
+    let value = Expr::Int(5);
+    let kind = Scalar::Int;
+    let sends = vec![in alloc;
+        stmt(Deed::Send { end: 4, value }),
+        stmt(Deed::Close { end: 4 }),
+    ]?;
+    let takes = vec![in alloc;
+        stmt(Deed::Take {
+            end: 5,
+            into: 6,
+            kind
+        }),
+        stmt(Deed::Close { end: 5 }),
+    ]?;
+    let connect = Connect {
+        line: 5,
+        first: end(2, 4, 0),
+        second: end(3, 5, 1),
+    };
+    Ok(File {
+        names: Names {
+            words,
+            texts: Words::new(alloc),
+        },
+        protocols: vec![in alloc;
+            def(0, vec![in alloc; Item::Send(Kind::Int)]?),
+            def(1, vec![in alloc; Item::Recv(Kind::Int)]?),
+        ]?,
+        parties: vec![in alloc; party(2, sends), party(3, takes)]?,
+        connects: vec![in alloc; connect]?,
+    })
+}
+
+#[test]
+fn a_whole_transcript_is_printed_behind_what_is_there(rt: HostRuntime) -> Result<(), Fail> {
+    let alloc = rt.alloc();
+    let file = one_number(alloc)?;
+    if !is_within_limits(&file) {
+        return Err(Fail::from("too large"));
+    }
+    let Ok(accepted) = check(alloc, file) else {
+        return Err(Fail::from("refused"));
+    };
+    let mut plain = Plain::start(alloc, &accepted)?;
+    plain.finish()?;
+    let mut text = Vec::from_slice(alloc, b"> ")?;
+    print_transcript(&mut text, accepted.file(), &plain)?;
+    let wanted = "> session 0 a x b y\n0.0 0 a b int 5\nparty a ended 2\nparty b ended 2\ndone\n";
     assert_eq!(rt; text.as_slice(), wanted.as_bytes());
     Ok(())
 }
