@@ -9,3 +9,15 @@ mod showing;
 
 pub use run::sj;
 
+#[cfg(test)]
+mod limit_tests;
+#[cfg(test)]
+mod playing_tests;
+#[cfg(test)]
+mod printing_tests;
+#[cfg(test)]
+mod refusal_tests;
+#[cfg(test)]
+mod test_calls;
+#[cfg(test)]
+mod test_files;

@@ -121,9 +121,7 @@ fn counted(alloc: Global, file: File) -> Result<Answer, NoMemory>
     ensures { IfOk result (AnswersFile tasks.Check (file_of file)) }
 {
     match judge(alloc, file)? {
-        Judged::Accepted(accepted) => {
-            Ok(Answer::Printed(counts_text(alloc, accepted.file())?))
-        }
+        Judged::Accepted(accepted) => { Ok(Answer::Printed(counts_text(alloc, accepted.file())?)) }
         Judged::Fault(rule, line) => Ok(Answer::Check(rule, line)),
     }
 }

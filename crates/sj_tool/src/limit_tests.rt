@@ -1,0 +1,106 @@
+//! Files that come to a limit, and what `run` doesn't play yet.
+use crate::test_calls::{answer, edited, expect, text_of};
+use crate::test_files::{AGENCY, AND_BACK, BACK_AGAIN, CROSSING, HANDED_ON, TO_THE_PEER, UNUSED};
+use std::alloc::Global;
+use std::test::Fail;
+
+#[test]
+fn a_loop_has_up_to_a_thousand_turns(rt: HostRuntime) -> Result<(), Fail> {
+    for (count, turns) in [("0", 0), ("1000", 1000), ("1001", 1000)] {
+        let file = looping(rt.alloc(), count, 0, 0)?;
+        let (status, out) = answer(rt.alloc(), &["run"], file, &[], &[])?;
+        assert_eq!(rt; status, 0, "{count}");
+        assert_eq!(rt; occurrences(out.text(), b" more\n"), turns, "{count}");
+        assert_eq!(rt; occurrences(out.text(), b" stop\n"), 1, "{count}");
+    }
+    Ok(())
+}
+
+#[test]
+fn a_party_does_ten_thousand_steps(rt: HostRuntime) -> Result<(), Fail> {
+    let rows: [(usize, u8, &[u8]); 2] = [
+        (998, 0, b"party a ended 10000\nparty b ended 1002\ndone\n"),
+        (999, 7, b"party a limit 10000\nparty b ended 1002\nlong\n"),
+    ];
+    for (lets, wanted, end) in rows {
+        let file = looping(rt.alloc(), "1000", 8, lets)?;
+        let (status, out) = answer(rt.alloc(), &["run"], file, &[], &[])?;
+        assert_eq!(rt; status, wanted, "with {lets} steps behind the loop");
+        assert!(rt;
+            out.text().ends_with(end),
+            "with {lets} steps behind the loop"
+        );
+    }
+    Ok(())
+}
+
+#[test]
+fn an_end_is_handed_over_a_hundred_times(rt: HostRuntime) -> Result<(), Fail> {
+    let last =
+        "party b { outwhile z 51 { delegate z y; recv z y session q; } close z; recv y n int; close y; }";
+    let rows: [(Vec<u8>, u8, &[u8]); 2] = [
+        (text_of(rt.alloc(), &AND_BACK)?, 0, b"done\n"),
+        (
+            edited(rt.alloc(), &AND_BACK, 6, last)?,
+            7,
+            b"party a ended 2\nparty b limit 151 0.1\nparty c waits 151 1.1\nlong\n",
+        ),
+    ];
+    for (file, wanted, end) in rows {
+        let (status, out) = answer(rt.alloc(), &["sim"], file, &[], &[])?;
+        assert_eq!(rt; status, wanted);
+        assert!(rt; out.text().ends_with(end));
+        assert_eq!(rt; occurrences(out.text(), b" session 0.1 "), 100);
+    }
+    Ok(())
+}
+
+#[test]
+fn a_file_that_hands_an_end_over_is_unbuilt_for_run(rt: HostRuntime) -> Result<(), Fail> {
+    let rows: [&[&str]; 7] = [
+        &AGENCY,
+        &HANDED_ON,
+        &UNUSED,
+        &CROSSING,
+        &BACK_AGAIN,
+        &TO_THE_PEER,
+        &AND_BACK,
+    ];
+    for lines in rows {
+        let file = text_of(rt.alloc(), lines)?;
+        expect(&rt, rt.alloc(), &["run"], file, (13, b"unbuilt\n"))?;
+    }
+    Ok(())
+}
+
+// A party with a loop of that many turns, each with some steps, and some steps behind it.
+fn looping(alloc: Global, count: &str, inside: usize, behind: usize) -> Result<Vec<u8>, Fail> {
+    let mut text = text_of(
+        alloc,
+        &["protocol p { begin.![]* }", "protocol q { begin.?[]* }"],
+    )?;
+    text.extend_from_slice(b"party a { outwhile x ")?;
+    text.extend_from_slice(count.as_bytes())?;
+    text.extend_from_slice(b" { ")?;
+    for _ in 0..inside {
+        text.extend_from_slice(b"let n = 1; ")?;
+    }
+    text.extend_from_slice(b"} ")?;
+    for _ in 0..behind {
+        text.extend_from_slice(b"let n = 1; ")?;
+    }
+    text.extend_from_slice(b"close x; }\nparty b { inwhile y { } close y; }\n")?;
+    text.extend_from_slice(b"connect a x p to b y q;\n")?;
+    Ok(text)
+}
+
+// How often the piece stands in the text.
+fn occurrences(text: &[u8], piece: &[u8]) -> usize {
+    let mut count: usize = 0;
+    for from in 0..text.len() {
+        if text[from..].starts_with(piece) {
+            count = count.saturating_add(1);
+        }
+    }
+    count
+}

@@ -1,0 +1,252 @@
+//! Files that are played to their end.
+use crate::test_calls::{edited, expect, text_of};
+use crate::test_files::{
+    AGENCY, BACK_AGAIN, CROSSING, FIRST, FIRST_TRANSCRIPT, HANDED_ON, OPPOSITE, TO_ITSELF,
+    TO_THE_PEER,
+};
+use std::test::Fail;
+
+#[test]
+fn the_first_session_gives_its_transcript(rt: HostRuntime) -> Result<(), Fail> {
+    let wanted = text_of(rt.alloc(), &FIRST_TRANSCRIPT)?;
+    for command in ["run", "sim"] {
+        let file = text_of(rt.alloc(), &FIRST)?;
+        expect(&rt, rt.alloc(), &[command], file, (0, &wanted))?;
+    }
+    Ok(())
+}
+
+#[test]
+fn the_empty_file_is_done(rt: HostRuntime) -> Result<(), Fail> {
+    expect(
+        &rt,
+        rt.alloc(),
+        &["run"],
+        Vec::new(rt.alloc()),
+        (0, b"done\n"),
+    )
+}
+
+#[test]
+fn empty_protocols_are_closed_at_once(rt: HostRuntime) -> Result<(), Fail> {
+    let lines = [
+        "protocol p { begin }",
+        "protocol q { begin }",
+        "party a { close x; }",
+        "party b { close y; }",
+        "connect a x p to b y q;",
+    ];
+    let wanted = text_of(
+        rt.alloc(),
+        &[
+            "session 0 a x b y",
+            "party a ended 1",
+            "party b ended 1",
+            "done",
+        ],
+    )?;
+    expect(
+        &rt,
+        rt.alloc(),
+        &["run"],
+        text_of(rt.alloc(), &lines)?,
+        (0, &wanted),
+    )
+}
+
+#[test]
+fn the_agency_delegates_to_the_supplier(rt: HostRuntime) -> Result<(), Fail> {
+    let file = text_of(rt.alloc(), &AGENCY)?;
+    let wanted = text_of(
+        rt.alloc(),
+        &[
+            "session 0 customer x agency y",
+            "0.0 0 customer agency more",
+            "0.0 1 customer agency String \"Paris\"",
+            "0.0 2 customer agency more",
+            "0.0 3 customer agency String \"Paris\"",
+            "0.0 4 customer agency stop",
+            "0.0 5 customer agency label ACCEPT",
+            "0.0 6 customer supplier String \"1 High Street\"",
+            "0.1 0 agency customer int 400",
+            "0.1 1 agency customer int 300",
+            "0.1 2 supplier customer String \"3 May\"",
+            "session 1 agency z supplier u",
+            "1.0 0 agency supplier label ACCEPT",
+            "1.0 1 agency supplier session 0.1 agency",
+            "party customer ended 13",
+            "party agency ended 14",
+            "party supplier ended 6",
+            "done",
+        ],
+    )?;
+    expect(&rt, rt.alloc(), &["sim"], file, (0, &wanted))
+}
+
+#[test]
+fn the_agency_is_rejected(rt: HostRuntime) -> Result<(), Fail> {
+    let file = edited(
+        rt.alloc(),
+        &AGENCY,
+        9,
+        "  if last <= 200 { outbranch x ACCEPT; send x \"1 High Street\"; recv x date String; close x; }",
+    )?;
+    let wanted = text_of(
+        rt.alloc(),
+        &[
+            "session 0 customer x agency y",
+            "0.0 0 customer agency more",
+            "0.0 1 customer agency String \"Paris\"",
+            "0.0 2 customer agency more",
+            "0.0 3 customer agency String \"Paris\"",
+            "0.0 4 customer agency stop",
+            "0.0 5 customer agency label REJECT",
+            "0.1 0 agency customer int 400",
+            "0.1 1 agency customer int 300",
+            "session 1 agency z supplier u",
+            "1.0 0 agency supplier label REJECT",
+            "party customer ended 11",
+            "party agency ended 14",
+            "party supplier ended 2",
+            "done",
+        ],
+    )?;
+    expect(&rt, rt.alloc(), &["sim"], file, (0, &wanted))
+}
+
+#[test]
+fn untaken_numbers_go_to_the_new_holder(rt: HostRuntime) -> Result<(), Fail> {
+    let file = text_of(rt.alloc(), &HANDED_ON)?;
+    let wanted = text_of(
+        rt.alloc(),
+        &[
+            "session 0 a x b y",
+            "0.0 0 a b int 1",
+            "0.0 1 a c int 2",
+            "0.0 2 a c int 3",
+            "session 1 b z c u",
+            "1.0 0 b c session 0.1 b",
+            "party a ended 4",
+            "party b ended 3",
+            "party c ended 5",
+            "done",
+        ],
+    )?;
+    expect(&rt, rt.alloc(), &["sim"], file, (0, &wanted))
+}
+
+#[test]
+fn both_ends_are_handed_on(rt: HostRuntime) -> Result<(), Fail> {
+    let file = text_of(rt.alloc(), &CROSSING)?;
+    let wanted = text_of(
+        rt.alloc(),
+        &[
+            "session 0 a x b y",
+            "0.0 0 a d int 1",
+            "0.0 1 c d int 2",
+            "session 1 a z c u",
+            "1.0 0 a c session 0.0 a",
+            "session 2 b z d u",
+            "2.0 0 b d session 0.1 b",
+            "party a ended 3",
+            "party b ended 2",
+            "party c ended 4",
+            "party d ended 5",
+            "done",
+        ],
+    )?;
+    expect(&rt, rt.alloc(), &["sim"], file, (0, &wanted))
+}
+
+#[test]
+fn an_end_comes_back(rt: HostRuntime) -> Result<(), Fail> {
+    let file = text_of(rt.alloc(), &BACK_AGAIN)?;
+    let wanted = text_of(
+        rt.alloc(),
+        &[
+            "session 0 a x b y",
+            "0.0 0 a b int 1",
+            "session 1 b z c u",
+            "1.0 0 b c session 0.1 b",
+            "1.1 0 c b session 0.1 c",
+            "party a ended 2",
+            "party b ended 5",
+            "party c ended 3",
+            "done",
+        ],
+    )?;
+    expect(&rt, rt.alloc(), &["sim"], file, (0, &wanted))
+}
+
+#[test]
+fn an_end_goes_to_its_peers_holder(rt: HostRuntime) -> Result<(), Fail> {
+    let file = text_of(rt.alloc(), &TO_THE_PEER)?;
+    let wanted = text_of(
+        rt.alloc(),
+        &[
+            "session 0 a x b y",
+            "0.0 0 b b int 4",
+            "session 1 a z b u",
+            "1.0 0 a b session 0.0 a",
+            "party a ended 2",
+            "party b ended 6",
+            "done",
+        ],
+    )?;
+    expect(&rt, rt.alloc(), &["sim"], file, (0, &wanted))
+}
+
+#[test]
+fn a_party_hands_an_end_to_itself(rt: HostRuntime) -> Result<(), Fail> {
+    let file = text_of(rt.alloc(), &TO_ITSELF)?;
+    let wanted = text_of(
+        rt.alloc(),
+        &[
+            "session 0 a x b y",
+            "0.0 0 a b int 4",
+            "session 1 a z a u",
+            "1.0 0 a a session 0.0 a",
+            "party a ended 6",
+            "party b ended 2",
+            "done",
+        ],
+    )?;
+    expect(&rt, rt.alloc(), &["sim"], file, (0, &wanted))
+}
+
+#[test]
+fn sums_wrap(rt: HostRuntime) -> Result<(), Fail> {
+    let file = edited(
+        rt.alloc(),
+        &FIRST,
+        3,
+        "party a { send x 9223372036854775807 + 1; close x; }",
+    )?;
+    let wanted = text_of(
+        rt.alloc(),
+        &[
+            "session 0 a x b y",
+            "0.0 0 a b int -9223372036854775808",
+            "party a ended 2",
+            "party b ended 2",
+            "done",
+        ],
+    )?;
+    expect(&rt, rt.alloc(), &["run"], file, (0, &wanted))
+}
+
+#[test]
+fn opposite_orders_block(rt: HostRuntime) -> Result<(), Fail> {
+    let file = text_of(rt.alloc(), &OPPOSITE)?;
+    let wanted = text_of(
+        rt.alloc(),
+        &[
+            "session 0 a x b y",
+            "session 1 a w b z",
+            "party a waits 0 0.0",
+            "party b waits 0 1.1",
+            "blocked",
+        ],
+    )?;
+    expect(&rt, rt.alloc(), &["run"], file, (6, &wanted))
+}

@@ -1,0 +1,201 @@
+//! What is refused, and how.
+use crate::test_calls::{USAGE, answer, edited, expect, text_of};
+use crate::test_files::{AGENCY, FIRST, FIRST_TRANSCRIPT, UNUSED};
+use std::test::Fail;
+
+#[test]
+fn each_fault_of_the_checker_has_its_line(rt: HostRuntime) -> Result<(), Fail> {
+    let rows: [(&[&str], usize, &str, &[u8]); 15] = [
+        (&FIRST, 5, "connect a x r to b y q;", b"check C1 at 5\n"),
+        (&FIRST, 5, "connect e x p to b y q;", b"check C2 at 5\n"),
+        (&FIRST, 2, "protocol p { begin.?(int) }", b"check C3 at 2\n"),
+        (&FIRST, 5, "connect a x p to b y p;", b"check C4 at 5\n"),
+        (
+            &FIRST,
+            3,
+            "party a { send x m; close x; }",
+            b"check C5 at 3\n",
+        ),
+        (
+            &FIRST,
+            3,
+            "party a { send x 5; send x 6; close x; }",
+            b"check C6 at 3\n",
+        ),
+        (
+            &FIRST,
+            3,
+            "party a { send x true; close x; }",
+            b"check C7 at 3\n",
+        ),
+        (
+            &AGENCY,
+            10,
+            "  else { outbranch x MAYBE; close x; }",
+            b"check C8 at 10\n",
+        ),
+        (
+            &FIRST,
+            3,
+            "party a { send x 5; if true { close x; } else { } }",
+            b"check C9 at 3\n",
+        ),
+        (
+            &AGENCY,
+            8,
+            "  outwhile x 2 { send x \"Paris\"; }",
+            b"check C10 at 8\n",
+        ),
+        (&FIRST, 3, "party a { close x; }", b"check C11 at 3\n"),
+        (&FIRST, 3, "party a { send x 5; }", b"check C12 at 3\n"),
+        (
+            &UNUSED,
+            6,
+            "party b { delegate z z; close z; }",
+            b"check C13 at 6\n",
+        ),
+        (
+            &UNUSED,
+            6,
+            "party b { delegate z y; close y; close z; }",
+            b"check C5 at 6\n",
+        ),
+        (&AGENCY, 23, "", b"check C14 at 21\n"),
+    ];
+    for command in ["check", "sim", "run"] {
+        for (lines, at, line, wanted) in rows {
+            let file = edited(rt.alloc(), lines, at, line)?;
+            expect(&rt, rt.alloc(), &[command], file, (5, wanted))?;
+        }
+    }
+    Ok(())
+}
+
+#[test]
+fn protocols_that_are_not_dual(rt: HostRuntime) -> Result<(), Fail> {
+    let lines = [
+        "protocol p { begin.!<int> }",
+        "protocol q { begin.!<int> }",
+        "party a { send x 5; close x; }",
+        "party b { send y 6; close y; }",
+        "connect a x p to b y q;",
+    ];
+    expect(
+        &rt,
+        rt.alloc(),
+        &["run"],
+        text_of(rt.alloc(), &lines)?,
+        (5, b"check C4 at 5\n"),
+    )
+}
+
+#[test]
+fn the_agency_is_accepted(rt: HostRuntime) -> Result<(), Fail> {
+    let file = text_of(rt.alloc(), &AGENCY)?;
+    expect(
+        &rt,
+        rt.alloc(),
+        &["check"],
+        file,
+        (0, b"accepted parties 3 sessions 2\n"),
+    )
+}
+
+#[test]
+fn each_fault_of_the_grammar_has_its_place(rt: HostRuntime) -> Result<(), Fail> {
+    let rows: [(usize, &str, &[u8]); 6] = [
+        (3, "party a { send x \"abc;", b"syntax P5 at 3:18\n"),
+        (
+            3,
+            "party a { send x 9223372036854775808;",
+            b"syntax P3 at 3:18\n",
+        ),
+        (3, "party a { send x 05;", b"syntax P3 at 3:18\n"),
+        (3, "party a { send x 5; close x;", b"syntax P1 at 4:1\n"),
+        (5, "connect a x p to b y q", b"syntax P1 at 6:1\n"),
+        (5, "connect a x p to b y q; party", b"syntax P1 at 5:25\n"),
+    ];
+    for command in ["check", "show", "sim", "run"] {
+        for (at, line, wanted) in rows {
+            let file = edited(rt.alloc(), &FIRST, at, line)?;
+            expect(&rt, rt.alloc(), &[command], file, (4, wanted))?;
+        }
+    }
+    Ok(())
+}
+
+#[test]
+fn a_byte_and_a_cut_file(rt: HostRuntime) -> Result<(), Fail> {
+    let byte = Vec::from_slice(rt.alloc(), &[128])?;
+    expect(&rt, rt.alloc(), &["run"], byte, (4, b"syntax P2 at 1:1\n"))?;
+    let cut = Vec::from_slice(rt.alloc(), b"protocol p { begin.!<")?;
+    expect(&rt, rt.alloc(), &["run"], cut, (4, b"syntax P1 at 1:22\n"))
+}
+
+#[test]
+fn comments_and_blanks_are_read(rt: HostRuntime) -> Result<(), Fail> {
+    let line = "party a {\tsend x 5; // five\r";
+    let wanted = text_of(rt.alloc(), &FIRST_TRANSCRIPT)?;
+    let mut file = edited(rt.alloc(), &FIRST[..3], 3, line)?;
+    file.extend_from_slice(b"close x; }\n")?;
+    file.extend_from_slice(&text_of(rt.alloc(), &FIRST[3..])?)?;
+    expect(&rt, rt.alloc(), &["run"], file, (0, &wanted))
+}
+
+#[test]
+fn a_file_may_have_65536_bytes(rt: HostRuntime) -> Result<(), Fail> {
+    let whole = text_of(rt.alloc(), &FIRST_TRANSCRIPT)?;
+    let rows: [(usize, u8, &[u8]); 2] = [(65_536, 0, &whole), (65_537, 3, b"too large\n")];
+    for (size, status, wanted) in rows {
+        let mut file = text_of(rt.alloc(), &FIRST)?;
+        file.resize(size, b' ')?;
+        expect(&rt, rt.alloc(), &["run"], file, (status, wanted))?;
+    }
+    Ok(())
+}
+
+#[test]
+fn a_failed_read_is_a_read_fault(rt: HostRuntime) -> Result<(), Fail> {
+    for call in [0, 1] {
+        let file = text_of(rt.alloc(), &FIRST)?;
+        let (status, out) = answer(rt.alloc(), &["check"], file, &[call], &[])?;
+        assert_eq!(rt; out.text(), b"read fault\n".as_slice(), "at call {call}");
+        assert_eq!(rt; status, 2, "at call {call}");
+    }
+    Ok(())
+}
+
+#[test]
+fn a_failed_write_leaves_a_front_of_the_text(rt: HostRuntime) -> Result<(), Fail> {
+    let whole = text_of(rt.alloc(), &FIRST_TRANSCRIPT)?;
+    for (call, length) in [(0, 0), (1, 16), (2, 32), (3, 48), (4, 64)] {
+        let file = text_of(rt.alloc(), &FIRST)?;
+        let (status, out) = answer(rt.alloc(), &["run"], file, &[], &[call])?;
+        assert_eq!(rt; out.text().len(), length, "at call {call}");
+        assert!(rt; whole.starts_with(out.text()), "at call {call}");
+        assert_eq!(rt; status, 10, "at call {call}");
+    }
+    Ok(())
+}
+
+#[test]
+fn other_words_give_the_usage_line(rt: HostRuntime) -> Result<(), Fail> {
+    let rows: [&[&str]; 9] = [
+        &[],
+        &["fly"],
+        &["run", "5"],
+        &["make", "0"],
+        &["run", "--log"],
+        &["replay"],
+        &["big", "1"],
+        &["--help"],
+        &["--version"],
+    ];
+    for words in rows {
+        let file = text_of(rt.alloc(), &FIRST)?;
+        let (status, out) = answer(rt.alloc(), words, file, &[0], &[])?;
+        assert_eq!(rt; out.text(), USAGE.as_bytes(), "{words:?}");
+        assert_eq!(rt; status, 1, "{words:?}");
+    }
+    Ok(())
+}
