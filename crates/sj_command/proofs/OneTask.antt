@@ -1,6 +1,6 @@
 -- Words ask for one task.
-use Rattle.std.proofs.Common.{◌≡◌, ◌∙◌, ◌≤◌, ◌<◌, ◌^◌, ℕ, List, Option, Some, None, ap, sym, refl, arith}
-use Rattle.std.specs.Prelude.{codes, decimal, Bool, true, false}
+use Rattle.std.proofs.Common.{◌≡◌, ◌∙◌, ◌≤◌, List, Option, Some, ap, sym, refl, arith}
+use Rattle.std.specs.Prelude.{codes, decimal, true, false}
 use Rattle.std.specs.Str.{bytes_eq}
 use Rattle.std.proofs.lemmas.Fmt.{decimal_injective}
 use Rattle.clap.specs.Words.{Text}

@@ -1,12 +1,12 @@
 -- Pieces that are all taken have no fault, and others don't go on.
-use Rattle.std.proofs.Common.{◌≡◌, ◌≢◌, ℕ, true, false, List, [], ◌∷◌, ◌++◌, Some, None, refl, ap, sym, ◌∙◌, append_assoc}
+use Rattle.std.proofs.Common.{◌≡◌, ◌≢◌, ℕ, true, false, List, [], ◌∷◌, ◌++◌, Some, None, ap, sym, ◌∙◌, append_assoc}
 use Rattle.sj_lang.specs.FileAt.{FileAt}
 use Rattle.sj_grammar.specs.declared.tokens.Rule.{Rule}
 use Rattle.sj_grammar.specs.declared.tokens.Rule.TheVariants.{P4}
 use Rattle.sj_grammar.specs.declared.tokens.Fault.{Fault}
 use Rattle.sj_grammar.specs.Limits.{Limits, limits}
-use Rattle.sj_grammar.specs.Places.{Pieces, Piece, spellings, start}
-use Rattle.sj_grammar.specs.Layers.{goes, step, run, may_end, rule_of}
+use Rattle.sj_grammar.specs.Places.{Pieces, spellings, start}
+use Rattle.sj_grammar.specs.Layers.{step, run, may_end, rule_of}
 use Rattle.sj_grammar.specs.Faults.{Stuck}
 use Rattle.sj_grammar.specs.FileDues.{Due, file_layer, file_due}
 use Rattle.sj_grammar.specs.Files.{IsFile}

@@ -2,13 +2,12 @@
 use Rattle.std.proofs.Common.{◌≡◌, ℕ, suc, ◌+◌, ◌<◌, ◌≤◌, true, List, [], ◌∷◌, ◌++◌, length, All, refl, ap, sym, subst, ◌∙◌, arith}
 use Rattle.std.specs.Prelude.{codes}
 use Rattle.std.proofs.lemmas.Bool.{lt-leb}
-use Rattle.sj_lang.specs.Code.{Code}
-use Rattle.sj_lang.specs.FileAt.{ProtocolAt, PartyAt, DeclAt, ConnectAt, FileAt}
+use Rattle.sj_lang.specs.FileAt.{PartyAt, DeclAt, ConnectAt, FileAt}
 use Rattle.sj_grammar.specs.Limits.{Limits}
 use Rattle.sj_grammar.specs.Tables.{Spelling, IsNamed, entry_of}
 use Rattle.sj_grammar.specs.Places.{Piece, plain, first_on, spellings}
-use Rattle.sj_grammar.specs.Layers.{Step, goes, onward, step, run, may_end}
-use Rattle.sj_grammar.specs.FileDues.{Due, protocols, parties, connects, stmts, name, fixed, semicolon, statement_follow, file_layer, file_due}
+use Rattle.sj_grammar.specs.Layers.{Step, onward, step, run, may_end}
+use Rattle.sj_grammar.specs.FileDues.{Due, protocols, parties, connects, stmts, name, fixed, semicolon, file_layer, file_due}
 use Rattle.sj_grammar.specs.Statements.{braced}
 use Rattle.sj_grammar.specs.Files.{protocols_pieces, end_pieces, connect_pieces, connects_pieces, IsEnd, IsConnect, AreParties, names_of, IsSpelled}
 use Rattle.sj_grammar.specs.Files as files

@@ -2,13 +2,12 @@
 use Rattle.std.proofs.Common.{◌≡◌, ℕ, suc, false, List, [], ◌∷◌, ◌++◌, drop, All, Option, Some, None, IfSome, refl, ap, sym, subst, ◌∙◌, arith}
 use Rattle.std.specs.Prelude.{codes}
 use Rattle.std.specs.Str.{bytes_eq}
-use Rattle.sj_lang.specs.Code.{Code}
 use Rattle.sj_lang.specs.FileAt.{ProtocolAt, PartyAt, DeclAt, ConnectAt, FileAt}
 use Rattle.sj_grammar.specs.Limits.{Limits, limits}
 use Rattle.sj_grammar.specs.Reading.{passed, line_at}
-use Rattle.sj_grammar.specs.Tables.{Spelling, entry_of, IsNamed}
-use Rattle.sj_grammar.specs.Places.{Pieces, Piece, At, TakesPiece, BeginsOnLines, plain, first_on, all_plain, spellings, start}
-use Rattle.sj_grammar.specs.Protocols.{dotted, body_pieces}
+use Rattle.sj_grammar.specs.Tables.{Spelling, entry_of}
+use Rattle.sj_grammar.specs.Places.{Pieces, Piece, At, BeginsOnLines, plain, all_plain, spellings, start}
+use Rattle.sj_grammar.specs.Protocols.{body_pieces}
 use Rattle.sj_grammar.specs.Statements.{braced}
 use Rattle.sj_grammar.specs.Files.{protocol_pieces, protocols_pieces, connects_pieces, IsProtocolDef, IsEnd, IsConnect, AreParties, names_of, IsFile}
 use Rattle.sj_grammar.specs.Files as files

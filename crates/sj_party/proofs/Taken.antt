@@ -1,15 +1,15 @@
 -- Pieces one after another, as what is due in a file.
-use Rattle.std.proofs.Common.{◌≡◌, ℕ, List, [], ◌∷◌, ◌++◌, refl, ap, sym, subst, ◌∙◌, inl, inr}
+use Rattle.std.proofs.Common.{◌≡◌, ℕ, List, [], ◌∷◌, ◌++◌, refl, ap, ◌∙◌, inl, inr}
 use Rattle.std.specs.Prelude.{map}
 use Rattle.sj_lang.specs.Term.{Term}
 use Rattle.sj_grammar.specs.Limits.{Limits}
 use Rattle.sj_grammar.specs.Tables.{Spelling}
 use Rattle.sj_grammar.specs.Places.{Pieces, Piece, spellings, all_plain}
-use Rattle.sj_grammar.specs.Layers.{Step, goes, onward, step, run, may_end}
+use Rattle.sj_grammar.specs.Layers.{Step, goes, onward, step, run}
 use Rattle.sj_grammar.specs.Expressions.{IsExpression, operand_count}
 use Rattle.sj_grammar.specs.ExpressionDues.{ExpressionDue, whole, times, plus, compare, expression_layer}
 use Rattle.sj_grammar.specs.FileDues.{Due, expr, file_layer}
-use Rattle.sj_grammar.proofs.Steps.{Runs, Runs-append}
+use Rattle.sj_grammar.proofs.Steps.{Runs-append}
 use Rattle.sj_grammar.proofs.Framing.{run_framed}
 use Rattle.sj_proto.proofs.Lines.{spellings-append, spellings-plain}
 use Rattle.sj_expr.proofs.WholeRuns.{is_due}

@@ -1,22 +1,22 @@
 -- The pieces of statements, blocks and arms are those of no others.
-use Rattle.std.proofs.Common.{◌≡◌, ℕ, suc, IsTrue, true, false, List, [], ◌∷◌, ◌++◌, get_or, refl, ap, sym, subst, ◌∙◌, append_assoc, arith, ◌⊎◌, inl, inr}
+use Rattle.std.proofs.Common.{◌≡◌, ℕ, IsTrue, true, false, List, [], ◌∷◌, ◌++◌, get_or, refl, ap, sym, subst, ◌∙◌, append_assoc, arith, inl, inr}
 use Rattle.std.specs.Prelude.{codes}
 use Rattle.std.proofs.lemmas.Bool.Decides.{nat_tests}
 use Rattle.sj_lang.specs.declared.party.Scalar.{Scalar}
 use Rattle.sj_lang.specs.declared.party.Scalar.TheVariants as scalars
-use Rattle.sj_lang.specs.Code.{Code, Step, Branches, no_step, step_then, at, send, delegate, take_value, take_end, outbranch, inbranch, outwhile, inwhile, relay, if_else, let_be, close, no_branch, branch}
+use Rattle.sj_lang.specs.Code.{Code, Step, Branches, step_then, at, send, delegate, take_value, take_end, outbranch, inbranch, outwhile, inwhile, relay, if_else, let_be, close, branch}
 use Rattle.sj_lang.specs.Term.{Term}
 use Rattle.sj_grammar.specs.Limits.{Limits}
 use Rattle.sj_grammar.specs.Names.{is_name}
 use Rattle.sj_grammar.specs.Tables.{Spelling, IsNamed}
-use Rattle.sj_grammar.specs.Places.{Pieces, Piece, plain, first_on, all_plain}
+use Rattle.sj_grammar.specs.Places.{Pieces, Piece, plain, all_plain}
 use Rattle.sj_grammar.specs.Expressions.{IsExpression}
 use Rattle.sj_grammar.specs.Statements.{scalar_piece, braced, called, IsStatement, IsCode, IsBlock, AreArms}
 use Rattle.sj_grammar.specs.Statements as grammar
 use Rattle.sj_proto.proofs.Unique.{one_number}
 use Rattle.sj_party.specs.Alike.{AreAlike, is_keyword, EndsCode, EndsArms}
 use Rattle.sj_party.proofs.AlikeLemmas.{alike_back, regroup, one_ended, one_tested}
-use Rattle.sj_party.proofs.Keywords.{Kind, Like, likes, no_statement, sends, delegates, takes, selects, branches_off, loops_out, loops_in, relays, tests, binds, closes, sends_kind, delegates_kind, takes_kind, selects_kind, branches_off_kind, loops_out_kind, loops_in_kind, relays_kind, tests_kind, binds_kind, closes_kind}
+use Rattle.sj_party.proofs.Keywords.{likes, no_statement, sends, delegates, takes, selects, branches_off, loops_out, loops_in, relays, tests, binds, closes, sends_kind, delegates_kind, takes_kind, selects_kind, branches_off_kind, loops_out_kind, loops_in_kind, relays_kind, tests_kind, binds_kind, closes_kind}
 
 same_scalar : (k j : Scalar) → scalar_piece k ≡ scalar_piece j → k ≡ j
 same_scalar scalars.Int scalars.Int e = refl

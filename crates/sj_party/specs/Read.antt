@@ -1,12 +1,12 @@
 -- What a reader of statements and files read, and what it did to the tables.
 use Rattle.std.specs.Prelude.{ℕ, ◌≤◌, List}
 use Rattle.sj_lang.specs.declared.file.Names.{Names}
-use Rattle.sj_lang.specs.Code.{Code, Branches}
+use Rattle.sj_lang.specs.Code.{Code}
 use Rattle.sj_grammar.specs.Limits.{limits}
 use Rattle.sj_grammar.specs.Reading.{Reading}
 use Rattle.sj_grammar.specs.Tables.{Spelling}
 use Rattle.sj_grammar.specs.Places.{Piece, At, BeginsOnLines}
-use Rattle.sj_grammar.specs.Statements.{IsCode, IsBlock, AreArms}
+use Rattle.sj_grammar.specs.Statements.{IsCode}
 use Rattle.sj_proto.specs.Parsed.{need}
 use Rattle.sj_expr.specs.Read.{Agrees}
 

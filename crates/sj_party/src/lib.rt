@@ -7,6 +7,10 @@ mod laws;
 mod openings;
 mod parties;
 mod parts;
+mod printing;
+mod printing_expressions;
+mod printing_laws;
+mod printing_statements;
 mod scalars;
 mod shapes;
 mod simple;
@@ -15,21 +19,17 @@ mod statement_tests;
 mod statements;
 #[cfg(test)]
 mod tests;
-mod printing;
-mod printing_expressions;
-mod printing_laws;
-mod printing_statements;
 
 pub use files::parse_file;
 pub use laws::{
     files_are_what_is_due, no_file_goes_on_there, no_file_has_a_fault, no_statement_has_a_fault,
     one_file_a_text, statements_are_read_in_one_way, statements_are_what_is_due,
 };
-pub use sj_proto::{Fault, ParseRefusal, Rule};
 pub use printing::{print_file, print_protocol_line};
 pub use printing_laws::{
     printed_file_is_read_again, printed_file_stands, printed_text_comes_again,
 };
+pub use sj_proto::{Fault, ParseRefusal, Rule};
 
 #[cfg(test)]
 mod printing_tests;

@@ -1,5 +1,5 @@
 -- The parts of a transcript: a session with what was sent on it, a message, and a party.
-use Rattle.std.specs.Prelude.{ℕ, List, [], ◌∷◌, ◌++◌, Option, codes, decimal}
+use Rattle.std.specs.Prelude.{ℕ, List, ◌∷◌, ◌++◌, Option, codes, decimal}
 use Rattle.std.specs.Option.{option_to_list}
 use Rattle.sj_base.specs.declared.EndId.{EndId}
 use Rattle.sj_lang.specs.FileAt.{FileAt, ConnectAt}

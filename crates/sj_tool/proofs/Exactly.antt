@@ -1,5 +1,5 @@
 -- What the table gives is answered, where the source tells.
-use Rattle.std.proofs.Common.{◌≡◌, ◌∙◌, ℕ, List, Option, Some, None, IfSome, ap, sym, refl, inl}
+use Rattle.std.proofs.Common.{◌≡◌, ◌∙◌, ℕ, List, Option, Some, None, IfSome, ap, refl, inl}
 use Rattle.sj_base.specs.Stream.{put_behind}
 use Rattle.sj_tool.specs.declared.answers.Answer.{Answer}
 use Rattle.sj_tool.specs.Texts.{status_of, text_of}

@@ -7,7 +7,6 @@ use Rattle.sj_grammar.specs.Limits.{limits}
 use Rattle.sj_grammar.specs.Places.{start}
 use Rattle.sj_grammar.specs.Lexis.{next_of}
 use Rattle.sj_grammar.specs.Reading.{fault_at, before_next}
-use Rattle.sj_grammar.specs.Files.{IsFile}
 use Rattle.sj_grammar.specs.FileDues.{file_layer, file_due}
 use Rattle.sj_grammar.specs.Faults.{Stuck}
 use Rattle.sj_grammar.proofs.Readings.{halts_there, halts_at_token}
@@ -23,7 +22,7 @@ use Rattle.sj_tool.specs.declared.answers.Answer.TheVariants.{Usage, ReadFault, 
 use Rattle.sj_tool.specs.Delegates.{file_hands_over}
 use Rattle.sj_semantics.specs.State.{verdict_of}
 use Rattle.sj_semantics.specs.Run.{end_of}
-use Rattle.sj_semantics.specs.Transcript.{line_of, transcript_of}
+use Rattle.sj_semantics.specs.Transcript.{transcript_of}
 use Rattle.sj_tool.specs.Shown.{shown}
 use Rattle.sj_tool.specs.Texts.{check_line, counts_of, status_of, text_of, verdict_status}
 use Rattle.sj_tool.specs.Answers.{AnswersFile, AnswersItsFile, AnswersText}

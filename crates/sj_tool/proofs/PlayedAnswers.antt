@@ -1,5 +1,5 @@
 -- What is answered where a file was played.
-use Rattle.std.proofs.Common.{◌≡◌, ◌≢◌, Result, Ok, Err, IfOk, false, refl}
+use Rattle.std.proofs.Common.{Result, Ok, Err, IfOk}
 use Rattle.sj_base.specs.declared.NoMemory.{NoMemory}
 use Rattle.sj_lang.specs.FileAt.{FileAt}
 use Rattle.sj_command.specs.declared.tasks.Task.{Task}

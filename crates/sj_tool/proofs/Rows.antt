@@ -1,5 +1,5 @@
 -- The rows of the table of answers exclude each other, where the source tells.
-use Rattle.std.proofs.Common.{◌≡◌, ◌⊎◌, ◌∙◌, ◌<◌, ◌≤◌, ◌++◌, ℕ, List, [], Option, Some, None, IfSome, length, ap, sym, subst, refl, inl, inr, arith, length-append, append-nil}
+use Rattle.std.proofs.Common.{◌≡◌, ◌∙◌, ◌<◌, ◌≤◌, ◌++◌, ℕ, List, [], Option, Some, None, IfSome, length, ap, sym, subst, refl, arith, length-append, append-nil}
 use Rattle.sj_base.specs.Stream.{CameOf, Rose, put_before}
 use Rattle.sj_command.specs.declared.tasks.Task.{Task}
 use Rattle.sj_command.specs.declared.tasks.Task.TheVariants as tasks

@@ -1,5 +1,5 @@
 -- What came of a file.
-use Rattle.std.specs.Prelude.{◌≡◌, ℕ, Some}
+use Rattle.std.specs.Prelude.{◌≡◌, Some}
 use Rattle.sj_lang.specs.FileAt.{FileAt}
 use Rattle.sj_lang.specs.declared.file.File.{File}
 use Rattle.sj_lang.specs.FileView.{file_of}

@@ -3,7 +3,6 @@ use Rattle.sj_lang.specs.declared.file.File.{File}
 use Rattle.sj_lang.specs.FileView.{file_of}
 use Rattle.sj_acceptance.specs.Accepted.{IsAccepted}
 use Rattle.sj_check.specs.Held.{file_in}
-use Rattle.sj_semantics.specs.World.{World}
 use Rattle.sj_semantics.specs.Run.{end_of}
 use Rattle.sj_semantics.specs.State.{verdict_of}
 use Rattle.sj_semantics.specs.Transcript.{transcript_of}
