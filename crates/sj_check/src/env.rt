@@ -15,9 +15,10 @@ ghost use Rattle.sj_acceptance.specs.Arms.{common};
 ghost use Rattle.sj_acceptance.specs.FirstItem.{turn_of, rest_of, arm_place};
 
 use crate::places::{arm_place, is_same, rest, turn};
+use crate::shared::Shared;
 use crate::variables::Variables;
 use sj_base::NoMemory;
-use sj_lang::{Proto, Scalar, copied};
+use sj_lang::{Proto, Scalar};
 use std::alloc::Global;
 use std::collections::BTreeMap;
 use std::marker::Model;
@@ -26,7 +27,7 @@ use std::marker::Model;
 #[derive(Drop)]
 pub struct Env {
     alloc: Global,
-    places: BTreeMap<u16, Proto>,
+    places: BTreeMap<u16, Shared>,
     kinds: Variables,
 }
 
@@ -56,11 +57,29 @@ impl Env {
     pub fn place(&self, end: u16) -> Option<&Proto>
         ensures { option_copied result ≡ map.get self.now.ends end }
     {
+        let shared = self.shared(end)?;
+        Some(shared.place())
+    }
+
+    fn shared(&self, end: u16) -> Option<&Shared>
+        ensures { option_copied result ≡ map.get self.now.ends end }
+    {
         self.places.get(&end)
     }
 
     /// Takes the end out, with its place.
-    pub fn take_place(&mut self, end: u16) -> Option<Proto>
+    pub fn take_place(&mut self, end: u16) -> Result<Option<Proto>, NoMemory>
+        ensures value { IfOk result (λ p. p ≡ map.get self.old.ends end) }
+        ensures after { self.new ≡ without self.old end }
+    {
+        let alloc = self.alloc;
+        match self.removed(end) {
+            Some(shared) => Ok(Some(shared.taken(alloc)?)),
+            None => Ok(None),
+        }
+    }
+
+    fn removed(&mut self, end: u16) -> Option<Shared>
         ensures value { result ≡ map.get self.old.ends end }
         ensures after { self.new ≡ without self.old end }
     {
@@ -71,7 +90,7 @@ impl Env {
     pub fn put_place(&mut self, end: u16, place: Proto) -> Result<(), NoMemory>
         ensures { OnOk result (self.new ≡ moved self.old end place) }
     {
-        self.places.insert(end, place)?;
+        self.places.insert(end, Shared::new(self.alloc, place)?)?;
         Ok(())
     }
 
@@ -172,7 +191,7 @@ impl Env {
         ensures { OnOk result (self.new ≡ moved self.old end (rest_of (place_at self.old end))) }
     {
         let alloc = self.alloc;
-        let rest = match self.take_place(end) {
+        let rest = match self.take_place(end)? {
             Some(place) => rest(place),
             None => Proto {
                 items: Vec::new(alloc),
@@ -183,14 +202,14 @@ impl Env {
 }
 
 // Whether the second has each entry of the first.
-fn is_within(a: &BTreeMap<u16, Proto>, b: &BTreeMap<u16, Proto>) -> bool
+fn is_within(a: &BTreeMap<u16, Shared>, b: &BTreeMap<u16, Shared>) -> bool
     ensures value { result ≡ within a.now.entries b.now.entries }
     ensures ordered { IsOrdered nat_cmp a.now }
 {
     for (end, place) in a {
         match b.get(end) {
             Some(other) => {
-                if !is_same(place, other) {
+                if !is_same(place.place(), other.place()) {
                     return false;
                 }
             }
@@ -201,7 +220,7 @@ fn is_within(a: &BTreeMap<u16, Proto>, b: &BTreeMap<u16, Proto>) -> bool
 }
 
 // Whether the first has each end of the second.
-fn has_ends_of(a: &BTreeMap<u16, Proto>, b: &BTreeMap<u16, Proto>) -> bool
+fn has_ends_of(a: &BTreeMap<u16, Shared>, b: &BTreeMap<u16, Shared>) -> bool
     ensures value { result ≡ keys_within b.now.entries a.now.entries }
     ensures ordered { IsOrdered nat_cmp b.now }
 {
@@ -215,13 +234,13 @@ fn has_ends_of(a: &BTreeMap<u16, Proto>, b: &BTreeMap<u16, Proto>) -> bool
 
 fn copied_places(
     alloc: Global,
-    places: &BTreeMap<u16, Proto>,
-) -> Result<BTreeMap<u16, Proto>, NoMemory>
+    places: &BTreeMap<u16, Shared>,
+) -> Result<BTreeMap<u16, Shared>, NoMemory>
     ensures { IfOk result (λ m. map_at m.entries ≡ map_at places.now.entries) }
 {
     let mut copies = BTreeMap::new(alloc);
     for (end, place) in places {
-        copies.insert(*end, copied(alloc, place)?)?;
+        copies.insert(*end, place.again()?)?;
     }
     Ok(copies)
 }

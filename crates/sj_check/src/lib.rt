@@ -13,6 +13,7 @@ mod limits;
 mod once;
 mod places;
 mod refusal;
+mod shared;
 mod statements;
 mod variables;
 mod walk;

@@ -24,7 +24,7 @@ pub fn send(env: &mut Env, line: u32, end: u16, value: &Expr) -> Result<(), Chec
     ensures fault { let tests = act_tests [] line env.old (code.send end (term_of value.now)) in
         IfErr result (Tells (first_fault tests)) }
 {
-    let Some(place) = env.take_place(end) else {
+    let Some(place) = env.take_place(end)? else {
         return Err(CheckRefusal::At { rule: 5, line });
     };
     let Some((wanted, rest)) = sending(place) else {
@@ -44,7 +44,7 @@ pub fn close(env: &mut Env, line: u32, end: u16) -> Result<(), CheckRefusal>
     ensures fault { let tests = act_tests [] line env.old (code.close end) in
         IfErr result (Tells (first_fault tests)) }
 {
-    let Some(place) = env.take_place(end) else {
+    let Some(place) = env.take_place(end)? else {
         return Err(CheckRefusal::At { rule: 5, line });
     };
     if !is_done(&place) {
@@ -66,10 +66,10 @@ pub fn delegate(env: &mut Env, line: u32, end: u16, sent: u16) -> Result<(), Che
     if end == sent {
         return Err(CheckRefusal::At { rule: 13, line });
     }
-    let Some(given) = env.take_place(sent) else {
+    let Some(given) = env.take_place(sent)? else {
         return Err(CheckRefusal::At { rule: 5, line });
     };
-    let Some(place) = env.take_place(end) else {
+    let Some(place) = env.take_place(end)? else {
         return Err(CheckRefusal::At { rule: 5, line });
     };
     let Some((wanted, follows)) = sending(place) else {
@@ -101,7 +101,7 @@ pub fn take_value(
     ensures fault { let tests = act_tests [] line env.old (code.take_value end into kind) in
         IfErr result (Tells (first_fault tests)) }
 {
-    let Some(place) = env.take_place(end) else {
+    let Some(place) = env.take_place(end)? else {
         return Err(CheckRefusal::At { rule: 5, line });
     };
     let Some((wanted, rest)) = taking(place) else {
@@ -138,7 +138,7 @@ pub fn take_end(
         let tests = act_tests ps line env.old (code.take_end end into protocol) in
         IfErr result (Tells (first_fault tests)) }
 {
-    let Some(place) = env.take_place(end) else {
+    let Some(place) = env.take_place(end)? else {
         return Err(CheckRefusal::At { rule: 5, line });
     };
     let Some(body) = body_named(protocols, protocol) else {
@@ -165,7 +165,7 @@ pub fn select(env: &mut Env, line: u32, end: u16, label: u16) -> Result<(), Chec
     ensures fault { let tests = act_tests [] line env.old (code.outbranch end label) in
         IfErr result (Tells (first_fault tests)) }
 {
-    let Some(place) = env.take_place(end) else {
+    let Some(place) = env.take_place(end)? else {
         return Err(CheckRefusal::At { rule: 5, line });
     };
     let Some((arms, rest)) = selecting(place) else {

@@ -2,7 +2,7 @@ use Rattle.std.proofs.Common.{ap, sym, ◌∙◌}
 use Rattle.std.specs.FinMap as map
 use Rattle.sj_acceptance.specs.Known.{Known, without}
 use Rattle.sj_check.proofs.MapLemmas.{get-map_at, map_at-removed}
-use Rattle.sj_check.proofs.env.Env.take_place.Goals as goal
+use Rattle.sj_check.proofs.env.Env.removed.Goals as goal
 
 pub returns-clause-value : goal.returns-clause-value
 returns-clause-value c = c.remove.ensures.value ∙ sym (get-map_at c.self.inside.places.entries c.args.end) ∙ ap (λ (e : Known). map.get e.ends c.args.end) c.self.view_is
