@@ -1,0 +1,70 @@
+# Writes a file of 65,536 bytes of the kind that `-v kind=` names: lets, ifs, sessions, handed, loops, held.
+
+# A text of n pieces, the one and the other in turn.
+function many(n, odd, even,    text, i) {
+    for (i = 1; i <= n; i++) text = text (i % 2 ? odd : even)
+    return text
+}
+# As many whole pieces as fit into the file behind the text.
+function filling(text, piece) { return many(int((size - length(text)) / length(piece)), piece, piece) }
+function ifs() { return many(32, "if true{", "if true{") many(32, "}else{}", "}else{}") }
+
+# Two dual protocols, and two that carry an end of the first.
+function protocol(name, items) { return "protocol " name "{begin" items "}\n" }
+function numbers(n) { return protocol("p", many(n, ".!<int>", ".?(int)")) protocol("q", many(n, ".?(int)", ".!<int>")) }
+function carriers(n,    kind) {
+    kind = substr(many(n, ".!<int>", ".?(int)"), 2)
+    return protocol("g", ".!<" kind ">") protocol("h", ".?(" kind ")")
+}
+# The statements that use an end of the first, and of the second.
+function first(x, n) { return many(n, "send " x " 1;", "recv " x " n int;") "close " x ";" }
+function second(x, n) { return many(n, "recv " x " n int;", "send " x " 1;") "close " x ";" }
+
+function two(a, b) { return "party a{" a "}\nparty b{" b "}\nconnect a x p to b y q;\n" }
+function plain(n, front) { return numbers(n) two(front first("x", n), second("y", n)) }
+function loops(n) {
+    return protocol("p", many(n, ".![]*", ".![]*")) protocol("q", many(n, ".?[]*", ".?[]*")) two(many(n, "outwhile x 0{}", "outwhile x 0{}") "close x;", many(n, "inwhile y{}", "inwhile y{}") "close y;")
+}
+# 16 parties with the statements of `code`, and the connection k from the party k on to the next one.
+function party(k) { return substr("abcdefghijklmnop", k % 16 + 1, 1) }
+function parties(    k, text) { for (k = 0; k < 16; k++) text = text "party " party(k) "{" code[k] "}\n"; return text }
+function add(k, text) { code[k % 16] = code[k % 16] text }
+function ring(k, x, p, y, q) { return "connect " party(k) " " x " " p " to " party(k + 1) " " y " " q ";\n" }
+function sessions(n,    k, x, y, text) {
+    for (k = 0; k < 64; k++) {
+        x = substr("wxyz", int(k / 16) + 1, 1)
+        y = substr("stuv", int(k / 16) + 1, 1)
+        add(k, first(x, n))
+        add(k + 1, second(y, n))
+        text = text ring(k, x, "p", y, "q")
+    }
+    return numbers(n) parties() text
+}
+function handed(n,    k, text) {
+    for (k = 0; k < 63; k++) {
+        add(k, "delegate x" k " s;close x" k ";")
+        add(k + 1, "recv y" k " s session p;close y" k ";")
+        text = text ring(k, "x" k, "g", "y" k, "h")
+    }
+    add(63, first("s", n))
+    add(1, second("r", n))
+    return numbers(n) carriers(n) parties() text ring(0, "s", "p", "r", "q")
+}
+# The same where one party has both ends of each carrier.
+function held(n, front,    k, text) {
+    for (k = 0; k < 63; k++) {
+        front = front "delegate x" k " x;recv y" k " x session p;close x" k ";close y" k ";"
+        text = text "connect a x" k " g to a y" k " h;\n"
+    }
+    return numbers(n) carriers(n) two(front first("x", n), second("y", n)) text
+}
+BEGIN {
+    size = 65536
+    if (kind == "lets") text = plain(1024, filling(plain(1024), "let n=1;"))
+    if (kind == "ifs") text = plain(1024, filling(plain(1024), ifs()))
+    if (kind == "sessions") text = sessions(44)
+    if (kind == "handed") text = handed(1023)
+    if (kind == "loops") text = loops(1024)
+    if (kind == "held") text = held(600, filling(held(600), ifs()))
+    printf "%s%*s", text, size - length(text), ""
+}

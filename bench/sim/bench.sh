@@ -1,0 +1,62 @@
+#!/usr/bin/env bash
+# Times `sj sim` and measures its memory: builds `sj` once, lets it make the generated file for 100 to
+# 1,000 turns of each loop, and prints the best and the median time of many runs on each, beyond those
+# on an empty file, and how far the peak of resident memory rises a message. `RUNS=20
+# bench/sim/bench.sh` makes fewer runs than 200.
+set -euo pipefail
+runs=${RUNS:-200}
+top=$(cd "$(dirname "$0")/../.." && pwd)
+folder=$(mktemp -d)
+trap 'rm -rf "$folder"' EXIT
+
+# The microseconds of one run on that file.
+run_on() {
+    local before=$EPOCHREALTIME
+    "$program" sim < "$1" > /dev/null
+    local after=$EPOCHREALTIME
+    echo $((${after/[.,]/} - ${before/[.,]/}))
+}
+
+# The best and the median of the numbers in the file.
+summary() {
+    sort -n "$1" | awk '{ t[NR] = $1 } END { print t[1], t[int((NR + 1) / 2)] }'
+}
+
+# The median peak of resident memory of 21 runs on that file, in bytes.
+peak_on() {
+    for ((i = 0; i < 21; i++)); do
+        /usr/bin/time -f %M -o "$folder/peak" "$program" sim < "$1" > /dev/null
+        cat "$folder/peak" >> "$folder/peaks"
+    done
+    summary "$folder/peaks" | awk '{ print $2 * 1024 }'
+    rm "$folder/peaks"
+}
+
+"$top/sj" make 1 > /dev/null
+program=$top/crates/sj/out/sj
+: > "$folder/empty"
+printf '| N | Messages | Steps | Best ms | Median ms | Bytes of transcript | Peak KiB |\n|---|---|---|---|---|---|---|\n'
+for n in 100 200 400 700 1000; do
+    file=$folder/$n
+    "$program" make "$n" > "$file"
+    "$program" sim < "$file" > "$folder/transcript"
+    : > "$folder/times"
+    : > "$folder/start_times"
+    # in turn, so that both meet the same load of the machine
+    for ((i = 0; i < runs; i++)); do
+        run_on "$folder/empty" >> "$folder/start_times"
+        run_on "$file" >> "$folder/times"
+    done
+    read -r best median <<< "$(summary "$folder/times")"
+    read -r start_best start_median <<< "$(summary "$folder/start_times")"
+    messages=$(grep -c '^[0-9]' "$folder/transcript")
+    steps=$(awk '$1 == "party" { sum += $4 } END { print sum }' "$folder/transcript")
+    bytes=$(wc -c < "$folder/transcript")
+    peak=$(peak_on "$file")
+    awk -v n="$n" -v g="$messages" -v s="$steps" -v b="$((best - start_best))" -v m="$((median - start_median))" -v w="$bytes" -v p="$peak" \
+        'BEGIN { printf "| %d | %d | %d | %.2f | %.2f | %d | %d |\n", n, g, s, b / 1000, m / 1000, w, p / 1024 }'
+    echo "$messages $bytes $peak" >> "$folder/growth"
+done
+awk 'NR == 1 { g = $1; w = $2; p = $3 } END {
+    printf "\nFrom the first row to the last, a message: %.1f bytes of memory, %.1f bytes of transcript.\n", ($3 - p) / ($1 - g), ($2 - w) / ($1 - g)
+}' "$folder/growth"
