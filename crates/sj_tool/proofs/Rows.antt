@@ -50,7 +50,7 @@ data Row (c : CallAt) (a : Answer) : Type 0 where
   input : AnswersInput c a → Row c a
 
 row_of : (c : CallAt) (a : Answer) → Comes c a → Row c a
-row_of c Usage h = words refl h
+row_of c Usage h = words refl h.0
 row_of c ReadFault h = fault refl h.0 h.1 h.2
 row_of c TooLarge h = large refl h.0 h.1
 row_of c (Syntax f) h = input h

@@ -102,16 +102,20 @@ pub record AnswersInput (c : CallAt) (a : Answer) : Type 0 where
   pub no_fault : c.faults_after ≡ c.faults
   pub answers : AnswersText task bytes a
 
+-- the source was left as it was
+abbrev pub IsUnread : CallAt → Type 0
+IsUnread c = (c.left_after ≡ c.left) × (c.faults_after ≡ c.faults)
+
 -- the words ask for the generated file, and nothing is read
 pub record Makes (c : CallAt) (printed : List ℕ) : Type 0 where
   pub count : ℕ
   pub asks : Asks c.words (tasks.Make count)
   pub text : printed ≡ generated count
-  pub unread : c.left_after ≡ c.left
+  pub unread : IsUnread c
 
 -- where each answer comes; a row is read where none above it came
 abbrev pub Comes : CallAt → Answer → Type 0
-Comes c Usage = IsUsage c.words
+Comes c Usage = IsUsage c.words × IsUnread c
 Comes c ReadFault = AsksFor Reads c × CameOf (λ n. n ≤ 65536) c.left c.left_after × Rose c.faults c.faults_after
 Comes c TooLarge = AsksFor Reads c × CameOf (λ n. 65536 < n) c.left c.left_after
 Comes c (Made text) = Makes c text.items
