@@ -1,24 +1,28 @@
 //! What a party knows at a statement.
 #![tactic(auto, using(crate::proofs::MapLemmas::maps))]
 
-ghost use Rattle.std.specs.Prelude.{◌≡◌, IfOk, OnOk};
+ghost use Rattle.std.specs.Prelude.{◌≡◌, map, IfOk, OnOk};
 ghost use Rattle.std.specs.Option.{option_copied};
 ghost use Rattle.std.specs.Ordering.{nat_cmp};
 ghost use Rattle.std.specs.BTreeMap.{IsOrdered};
 ghost use Rattle.sj_check.specs.Within.{within, keys_within};
 ghost use Rattle.sj_check.specs.Maps.{map_at};
-ghost use Rattle.std.specs.FinMap as map;
+ghost use Rattle.std.specs.FinMap as finite;
 ghost use Rattle.sj_acceptance.specs.Known.{nothing, moved, without, knowing};
 ghost use Rattle.sj_acceptance.specs.Sameness.{is_same_ends};
 ghost use Rattle.sj_acceptance.specs.Known.{is_live, is_known, place_at};
 ghost use Rattle.sj_acceptance.specs.Arms.{common};
-ghost use Rattle.sj_acceptance.specs.FirstItem.{turn_of, rest_of, arm_place};
+ghost use Rattle.sj_acceptance.specs.FirstItem.{turn_of, rest_of, arm_place, choices};
+ghost use Rattle.sj_acceptance.specs.Labels.{branch_labels};
+ghost use Rattle.sj_acceptance.specs.LabelTests.{are_labels_of};
+ghost use Rattle.sj_lang.specs.Code.{arm_of, branches_of};
 
+use crate::labels::are_arms_of;
 use crate::places::{arm_place, is_same, rest, turn};
 use crate::shared::Shared;
 use crate::variables::Variables;
 use sj_base::NoMemory;
-use sj_lang::{Proto, Scalar};
+use sj_lang::{Proto, Scalar, StmtArm, copied};
 use std::alloc::Global;
 use std::collections::BTreeMap;
 use std::marker::Model;
@@ -55,21 +59,21 @@ impl Env {
 
     /// The place of a live end.
     pub fn place(&self, end: u16) -> Option<&Proto>
-        ensures { option_copied result ≡ map.get self.now.ends end }
+        ensures { option_copied result ≡ finite.get self.now.ends end }
     {
         let shared = self.shared(end)?;
         Some(shared.place())
     }
 
     fn shared(&self, end: u16) -> Option<&Shared>
-        ensures { option_copied result ≡ map.get self.now.ends end }
+        ensures { option_copied result ≡ finite.get self.now.ends end }
     {
         self.places.get(&end)
     }
 
     /// Takes the end out, with its place.
     pub fn take_place(&mut self, end: u16) -> Result<Option<Proto>, NoMemory>
-        ensures value { IfOk result (λ p. p ≡ map.get self.old.ends end) }
+        ensures value { IfOk result (λ p. p ≡ finite.get self.old.ends end) }
         ensures after { self.new ≡ without self.old end }
     {
         let alloc = self.alloc;
@@ -80,7 +84,7 @@ impl Env {
     }
 
     fn removed(&mut self, end: u16) -> Option<Shared>
-        ensures value { result ≡ map.get self.old.ends end }
+        ensures value { result ≡ finite.get self.old.ends end }
         ensures after { self.new ≡ without self.old end }
     {
         self.places.remove(&end)
@@ -94,9 +98,17 @@ impl Env {
         Ok(())
     }
 
+    /// The end moves on to a copy of this place, or begins there.
+    pub fn put_copy(&mut self, end: u16, place: &Proto) -> Result<(), NoMemory>
+        ensures { OnOk result (self.new ≡ moved self.old end place.now) }
+    {
+        let copy = copied(self.alloc, place)?;
+        self.put_place(end, copy)
+    }
+
     /// The kind of a variable.
     pub fn kind(&self, name: u16) -> Option<Scalar>
-        ensures { result ≡ map.get self.now.variables name }
+        ensures { result ≡ finite.get self.now.variables name }
     {
         self.kinds.kind(name)
     }
@@ -121,8 +133,19 @@ impl Env {
         self.kind(name).is_some()
     }
 
-    pub fn allocator(&self) -> Global {
-        self.alloc
+    /// An environment that knows nothing.
+    pub fn emptied(&self) -> Env
+        ensures { result ≡ nothing }
+    {
+        Env::new(self.alloc)
+    }
+
+    /// Whether the arms are those of the choice that stands first, each once, and at least one.
+    pub fn has_arms(&self, place: &Proto, arms: &[StmtArm]) -> Result<bool, NoMemory>
+        ensures { let bs = branches_of (map arm_of arms.now) in
+            IfOk result (λ r. r ≡ are_labels_of (choices place.now) (branch_labels bs)) }
+    {
+        are_arms_of(self.alloc, place, arms)
     }
 
     /// An equal environment.

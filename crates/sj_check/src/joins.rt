@@ -14,7 +14,6 @@ ghost use Rattle.sj_check.specs.Told.{Tells};
 use crate::CheckRefusal;
 use crate::env::Env;
 use crate::kinds::{expr_kind, same_kind};
-use crate::labels::are_arms_of;
 use crate::places::is_branching;
 use sj_lang::{Expr, Scalar, StmtArm};
 
@@ -31,7 +30,7 @@ pub fn branching(env: &Env, line: u32, end: u16, arms: &[StmtArm]) -> Result<(),
     if !is_branching(place) {
         return Err(CheckRefusal::At { rule: 6, line });
     }
-    if !are_arms_of(env.allocator(), place, arms)? {
+    if !env.has_arms(place, arms)? {
         return Err(CheckRefusal::At { rule: 14, line });
     }
     Ok(())

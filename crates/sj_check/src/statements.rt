@@ -15,7 +15,7 @@ use crate::kinds::{carries_as, expr_kind, is_free_for};
 use crate::places::{
     arm_of, body_named, is_done, is_session, is_session_of, joined, selecting, sending, taking,
 };
-use sj_lang::{Expr, ProtocolDef, Scalar, copied};
+use sj_lang::{Expr, ProtocolDef, Scalar};
 
 pub fn send(env: &mut Env, line: u32, end: u16, value: &Expr) -> Result<(), CheckRefusal>
     ensures passes { let tests = act_tests [] line env.old (code.send end (term_of value.now)) in
@@ -154,7 +154,7 @@ pub fn take_end(
         return Err(CheckRefusal::At { rule: 3, line });
     }
     env.put_place(end, rest)?;
-    env.put_place(into, copied(env.allocator(), body)?)?;
+    env.put_copy(into, body)?;
     Ok(())
 }
 

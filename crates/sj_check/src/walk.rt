@@ -216,7 +216,7 @@ fn all_arms(
         IfErr result (Tells (first_fault tests)) }
 {
     if arms.is_empty() {
-        return Ok((Env::new(env.allocator()), true));
+        return Ok((env.emptied(), true));
     }
     let first = &arms[0];
     let mut left = env.at_arm(end, first.label)?;
