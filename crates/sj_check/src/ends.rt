@@ -11,7 +11,7 @@ ghost use Rattle.sj_acceptance.specs.Faults.{first_fault};
 ghost use Rattle.sj_acceptance.specs.FileTests as tests;
 ghost use Rattle.sj_acceptance.specs.FileTests.{party_names};
 ghost use Rattle.sj_check.specs.Views.{protocols_of, parties_of, connects_of};
-ghost use Rattle.sj_check.specs.Told.{Tells};
+ghost use Rattle.sj_check.specs.Told.{Tells, IsFault};
 
 use crate::CheckRefusal;
 use crate::env::Env;
@@ -97,6 +97,7 @@ fn connected<'a>(
         let names = party_names (parties_of parties.now) in
         let tests = tests.end_tests names ps line taken (decl_of end.now) in
         IfErr result (Tells (first_fault tests)) }
+    ensures cause { IfErr result IsFault }
 {
     if !is_party(parties, end.party) {
         return Err(CheckRefusal::At { rule: 2, line });

@@ -11,7 +11,7 @@ ghost use Rattle.sj_acceptance.specs.LabelTests.{is_among};
 ghost use Rattle.sj_acceptance.specs.FileTests as tests;
 ghost use Rattle.sj_acceptance.specs.FileTests.{protocol_names, party_names};
 ghost use Rattle.sj_check.specs.Views.{protocols_of, parties_of, connects_of};
-ghost use Rattle.sj_check.specs.Told.{Tells};
+ghost use Rattle.sj_check.specs.Told.{Tells, IsFault};
 
 use crate::CheckRefusal;
 use crate::ends::{at_start, connections};
@@ -38,6 +38,7 @@ fn protocols_apart(protocols: &[ProtocolDef]) -> Result<(), CheckRefusal>
         OnOk result (first_fault tests ≡ None) }
     ensures fault { let tests = tests.protocol_tests [] (protocols_of protocols.now) in
         IfErr result (Tells (first_fault tests)) }
+    ensures cause { IfErr result IsFault }
 {
     for i in 0..protocols.len() {
         let protocol = &protocols[i];
@@ -67,6 +68,7 @@ fn parties_apart(parties: &[Party]) -> Result<(), CheckRefusal>
         OnOk result (first_fault tests ≡ None) }
     ensures fault { let tests = tests.party_tests [] (parties_of parties.now) in
         IfErr result (Tells (first_fault tests)) }
+    ensures cause { IfErr result IsFault }
 {
     for i in 0..parties.len() {
         let party = &parties[i];

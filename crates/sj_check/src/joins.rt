@@ -9,7 +9,7 @@ ghost use Rattle.sj_acceptance.specs.Arms.{common};
 ghost use Rattle.sj_acceptance.specs.Faults.{first_fault};
 ghost use Rattle.sj_acceptance.specs.Sameness.{is_same_ends};
 ghost use Rattle.sj_acceptance.specs.Tests.{condition_tests, branching_tests};
-ghost use Rattle.sj_check.specs.Told.{Tells};
+ghost use Rattle.sj_check.specs.Told.{Tells, IsFault};
 
 use crate::CheckRefusal;
 use crate::env::Env;
@@ -65,6 +65,7 @@ pub fn joined(env: &mut Env, line: u32, other: &Env) -> Result<(), CheckRefusal>
         OnOk result (env.new ≡ record env.old { variables = known }) }
     ensures fault { let same = is_same_ends env.old.ends other.now.ends in
         IfErr result (Tells (if same then None else Some (9, line))) }
+    ensures cause { IfErr result IsFault }
 {
     if !env.has_same_ends(other) {
         return Err(CheckRefusal::At { rule: 9, line });

@@ -9,7 +9,7 @@ ghost use Rattle.sj_acceptance.specs.KindTests as kinds;
 ghost use Rattle.sj_acceptance.specs.Kinds.{given_by};
 ghost use Rattle.sj_acceptance.specs.Sameness.{is_same_kind};
 ghost use Rattle.sj_acceptance.specs.FirstItem as places;
-ghost use Rattle.sj_check.specs.Told.{Tells};
+ghost use Rattle.sj_check.specs.Told.{Tells, IsFault};
 
 use crate::CheckRefusal;
 use crate::env::Env;
@@ -22,6 +22,7 @@ pub fn expr_kind(env: &Env, line: u32, value: &Expr) -> Result<Scalar, CheckRefu
         OnOk result (first_fault tests ≡ None) }
     ensures fault { let tests = kinds.term_tests line env.now.variables (term_of value.now) in
         IfErr result (Tells (first_fault tests)) }
+    ensures cause { IfErr result IsFault }
 {
     match value {
         Expr::Int(_) => Ok(Scalar::Int),
