@@ -1,14 +1,18 @@
 //! The text of the generated file.
-ghost use Rattle.std.specs.Prelude.{◌≡◌, ◌++◌, ◌+◌, ◌<◌, OnOk, decimal};
+#![tactic(auto, using(sj_text::proofs::Cuts::cuts))]
+
+ghost use Rattle.std.specs.Prelude.{◌≡◌, ◌++◌, ◌+◌, ◌<◌, OnOk, OnErr, decimal};
+ghost use Rattle.sj_text.specs.Cut.{IsCutShort};
 ghost use Rattle.sj_generator.specs.Generated.{protocols, sender, giver, adder, group, connections, of_each, generated};
 
-use itoa::Buffer;
 use sj_base::NoMemory;
+use sj_text::{put, put_number};
 
-/// Appends the text of the file whose loops send n messages each; it is canonical. After want of
-/// memory a front of it may stand behind the old text.
+/// Appends the text of the file whose loops send n messages each; it is canonical. Want of memory
+/// leaves a front of it behind the old text.
 pub fn print_generated(text: &mut Vec<u8>, n: u16) -> Result<(), NoMemory>
-    ensures { OnOk result (text.new.items ≡ text.old.items ++ generated n) }
+    ensures ok { OnOk result (text.new.items ≡ text.old.items ++ generated n) }
+    ensures err { OnErr result (IsCutShort text.old.items (generated n) text.new.items) }
 {
     put_protocols(text)?;
     put_groups(text, n)?;
@@ -17,7 +21,8 @@ pub fn print_generated(text: &mut Vec<u8>, n: u16) -> Result<(), NoMemory>
 
 // The parties, group by group.
 fn put_groups(text: &mut Vec<u8>, n: u16) -> Result<(), NoMemory>
-    ensures { OnOk result (text.new.items ≡ text.old.items ++ of_each (group n)) }
+    ensures ok { OnOk result (text.new.items ≡ text.old.items ++ of_each (group n)) }
+    ensures err { OnErr result (IsCutShort text.old.items (of_each (group n)) text.new.items) }
 {
     put_group(text, n, 0)?;
     put_group(text, n, 1)?;
@@ -28,7 +33,8 @@ fn put_groups(text: &mut Vec<u8>, n: u16) -> Result<(), NoMemory>
 
 // The connections, group by group.
 fn put_all_connections(text: &mut Vec<u8>) -> Result<(), NoMemory>
-    ensures { OnOk result (text.new.items ≡ text.old.items ++ of_each connections) }
+    ensures ok { OnOk result (text.new.items ≡ text.old.items ++ of_each connections) }
+    ensures err { OnErr result (IsCutShort text.old.items (of_each connections) text.new.items) }
 {
     put_connections(text, 0)?;
     put_connections(text, 1)?;
@@ -37,21 +43,26 @@ fn put_all_connections(text: &mut Vec<u8>) -> Result<(), NoMemory>
     put_connections(text, 4)
 }
 
-#[tactic(auto, unfolding(crate::specs::Generated::protocols))]
+#[tactic(auto, using(sj_text::proofs::Cuts::cuts), unfolding(crate::specs::Generated::protocols))]
 fn put_protocols(text: &mut Vec<u8>) -> Result<(), NoMemory>
-    ensures { OnOk result (text.new.items ≡ text.old.items ++ protocols) }
+    ensures ok { OnOk result (text.new.items ≡ text.old.items ++ protocols) }
+    ensures err { OnErr result (IsCutShort text.old.items protocols text.new.items) }
 {
-    put(text, b"protocol w { begin.![!<int>]*.?(int) }\n")?;
-    put(text, b"protocol v { begin.?[?(int)]*.!<int> }\n")?;
-    put(text, b"protocol g { begin.!<?[?(int)]*.!<int>> }\n")?;
-    put(text, b"protocol h { begin.?(?[?(int)]*.!<int>) }\n")
+    put(
+        text,
+        b"protocol w { begin.![!<int>]*.?(int) }\n\
+        protocol v { begin.?[?(int)]*.!<int> }\n\
+        protocol g { begin.!<?[?(int)]*.!<int>> }\n\
+        protocol h { begin.?(?[?(int)]*.!<int>) }\n",
+    )
 }
 
 // The three parties of a group.
-#[tactic(auto, unfolding(crate::specs::Generated::group))]
+#[tactic(auto, using(sj_text::proofs::Cuts::cuts), unfolding(crate::specs::Generated::group))]
 fn put_group(text: &mut Vec<u8>, n: u16, i: u16) -> Result<(), NoMemory>
     requires { i < 5 }
-    ensures { OnOk result (text.new.items ≡ text.old.items ++ group n i) }
+    ensures ok { OnOk result (text.new.items ≡ text.old.items ++ group n i) }
+    ensures err { OnErr result (IsCutShort text.old.items (group n i) text.new.items) }
 {
     put_sender(text, n, i)?;
     put_giver(text, i)?;
@@ -60,7 +71,8 @@ fn put_group(text: &mut Vec<u8>, n: u16, i: u16) -> Result<(), NoMemory>
 
 fn put_sender(text: &mut Vec<u8>, n: u16, i: u16) -> Result<(), NoMemory>
     requires { i < 5 }
-    ensures { OnOk result (text.new.items ≡ text.old.items ++ sender n i) }
+    ensures ok { OnOk result (text.new.items ≡ text.old.items ++ sender n i) }
+    ensures err { OnErr result (IsCutShort text.old.items (sender n i) text.new.items) }
 {
     put_numbered(text, b"party a", i, b" {\n")?;
     put_numbered(text, b"  outwhile x ", n, b" {\n")?;
@@ -69,14 +81,16 @@ fn put_sender(text: &mut Vec<u8>, n: u16, i: u16) -> Result<(), NoMemory>
 }
 
 fn put_giver(text: &mut Vec<u8>, i: u16) -> Result<(), NoMemory>
-    ensures { OnOk result (text.new.items ≡ text.old.items ++ giver i) }
+    ensures ok { OnOk result (text.new.items ≡ text.old.items ++ giver i) }
+    ensures err { OnErr result (IsCutShort text.old.items (giver i) text.new.items) }
 {
     put_numbered(text, b"party b", i, b" {\n")?;
     put(text, b"  delegate z y;\n  close z;\n}\n")
 }
 
 fn put_adder(text: &mut Vec<u8>, i: u16) -> Result<(), NoMemory>
-    ensures { OnOk result (text.new.items ≡ text.old.items ++ adder i) }
+    ensures ok { OnOk result (text.new.items ≡ text.old.items ++ adder i) }
+    ensures err { OnErr result (IsCutShort text.old.items (adder i) text.new.items) }
 {
     put_numbered(text, b"party c", i, b" {\n")?;
     put(
@@ -88,9 +102,10 @@ fn put_adder(text: &mut Vec<u8>, i: u16) -> Result<(), NoMemory>
 }
 
 // The two connections of a group.
-#[tactic(auto, unfolding(crate::specs::Generated::connections))]
+#[tactic(auto, using(sj_text::proofs::Cuts::cuts), unfolding(crate::specs::Generated::connections))]
 fn put_connections(text: &mut Vec<u8>, i: u16) -> Result<(), NoMemory>
-    ensures { OnOk result (text.new.items ≡ text.old.items ++ connections i) }
+    ensures ok { OnOk result (text.new.items ≡ text.old.items ++ connections i) }
+    ensures err { OnErr result (IsCutShort text.old.items (connections i) text.new.items) }
 {
     put_numbered(text, b"connect a", i, b" x w to b")?;
     put_numbered(text, b"", i, b" y v;\n")?;
@@ -100,16 +115,12 @@ fn put_connections(text: &mut Vec<u8>, i: u16) -> Result<(), NoMemory>
 
 // A number between two pieces.
 fn put_numbered(text: &mut Vec<u8>, front: &[u8], n: u16, back: &[u8]) -> Result<(), NoMemory>
-    ensures { OnOk result
+    ensures ok { OnOk result
         (text.new.items ≡ text.old.items ++ (front.now ++ (decimal n ++ back.now))) }
+    ensures err { OnErr result (IsCutShort text.old.items
+        (front.now ++ (decimal n ++ back.now)) text.new.items) }
 {
     put(text, front)?;
-    put(text, Buffer::new().format(n).as_bytes())?;
+    put_number(text, u64::from(n))?;
     put(text, back)
-}
-
-fn put(text: &mut Vec<u8>, piece: &[u8]) -> Result<(), NoMemory>
-    ensures { OnOk result (text.new.items ≡ text.old.items ++ piece.now) }
-{
-    Ok(text.extend_from_slice(piece)?)
 }
