@@ -1,14 +1,14 @@
 //! The lines of a transcript.
 //!
 //! Want of memory leaves a front of what was to be put behind the text.
-#![tactic(auto, using(crate::proofs::Cuts::cuts))]
+#![tactic(auto, using(sj_text::proofs::Cuts::cuts))]
 
 ghost use Rattle.std.specs.Prelude.{◌≡◌, ◌++◌, ◌∷◌, [], OnOk, OnErr, slice_get};
 ghost use Rattle.std.specs.Option.{option_to_list};
+ghost use Rattle.sj_text.specs.Cut.{IsCutShort};
 ghost use Rattle.sj_lang.specs.FileAt.{FileAt};
 ghost use Rattle.sj_lang.specs.FileView.{file_of, connect_of};
 ghost use Rattle.sj_semantics.specs.Transcript.{line_of, message_words, sent_lines, session_line, taker_text, verdict_word};
-ghost use Rattle.sj_print.specs.Cut.{IsCutShort};
 ghost use Rattle.sj_print.specs.Parts.{party_part, passed_part};
 ghost use Rattle.sj_print.specs.Pieces.{piece_text};
 

@@ -1,17 +1,17 @@
 //! Lines are put together from pieces, with one space between each two.
 //!
 //! Want of memory leaves a front of what was to be put behind the text.
-#![tactic(auto, using(crate::proofs::Cuts::cuts))]
+#![tactic(auto, using(sj_text::proofs::Cuts::cuts))]
 
 ghost use Rattle.std.specs.Prelude.{◌≡◌, ◌++◌, ◌∷◌, [], OnOk, OnErr, decimal, map};
+ghost use Rattle.sj_text.specs.Cut.{IsCutShort};
 ghost use Rattle.sj_lang.specs.FileView.{file_of};
-ghost use Rattle.sj_semantics.specs.Transcript.{line_of, word_at, name_of, end_text, int_text};
-ghost use Rattle.sj_print.specs.Cut.{IsCutShort};
+ghost use Rattle.sj_semantics.specs.Transcript.{line_of, word_at, name_of, end_text};
 ghost use Rattle.sj_print.specs.Pieces.{piece_text, spaced_text};
 
-use itoa::Buffer;
 use sj_base::{EndId, NoMemory};
 use sj_lang::{File, Words};
+use sj_text::{put, put_int, put_number};
 
 /// A word of a line.
 #[derive(Clone, Copy)]
@@ -127,25 +127,4 @@ fn put_end(text: &mut Vec<u8>, end: EndId) -> Result<(), NoMemory>
     put_number(text, end.sess as u64)?;
     put(text, b".")?;
     put_number(text, end.side as u64)
-}
-
-fn put_int(text: &mut Vec<u8>, n: i64) -> Result<(), NoMemory>
-    ensures ok { OnOk result (text.new.items ≡ text.old.items ++ int_text n) }
-    ensures err { OnErr result (IsCutShort text.old.items (int_text n) text.new.items) }
-{
-    put(text, Buffer::new().format(n).as_bytes())
-}
-
-fn put_number(text: &mut Vec<u8>, n: u64) -> Result<(), NoMemory>
-    ensures ok { OnOk result (text.new.items ≡ text.old.items ++ decimal n) }
-    ensures err { OnErr result (IsCutShort text.old.items (decimal n) text.new.items) }
-{
-    put(text, Buffer::new().format(n).as_bytes())
-}
-
-fn put(text: &mut Vec<u8>, bytes: &[u8]) -> Result<(), NoMemory>
-    ensures ok { OnOk result (text.new.items ≡ text.old.items ++ bytes.now) }
-    ensures err { OnErr result (IsCutShort text.old.items bytes.now text.new.items) }
-{
-    Ok(text.extend_from_slice(bytes)?)
 }

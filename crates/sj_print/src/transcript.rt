@@ -1,13 +1,13 @@
 //! The whole transcript.
-#![tactic(auto, using(crate::proofs::Cuts::cuts))]
+#![tactic(auto, using(sj_text::proofs::Cuts::cuts))]
 
 ghost use Rattle.std.specs.Prelude.{◌≡◌, ◌++◌, ◌<◌, ◌≤◌, length, OnOk, OnErr};
+ghost use Rattle.sj_text.specs.Cut.{IsCutShort};
 ghost use Rattle.sj_lang.specs.FileView.{file_of, connect_of};
 ghost use Rattle.sj_plain.specs.Kept.{without_words};
 ghost use Rattle.sj_plain.specs.Plain.{acts_of, kept, party_count, session_count, world_at};
 ghost use Rattle.sj_semantics.specs.Run.{IsRun};
 ghost use Rattle.sj_semantics.specs.Transcript.{party_lines, session_lines, transcript_of};
-ghost use Rattle.sj_print.specs.Cut.{IsCutShort};
 ghost use Rattle.sj_print.specs.Parts.{session_part};
 
 use crate::lines::{put_party, put_sent, put_session, put_verdict};

@@ -3,7 +3,7 @@ use Rattle.std.specs.Prelude.{decimal}
 use Rattle.sj_lang.specs.FileView.{file_of}
 use Rattle.sj_semantics.specs.Transcript.{line_of, name_of, end_text, message_words}
 use Rattle.sj_print.specs.Pieces.{piece_text}
-use Rattle.sj_print.proofs.Cuts.{cut_in_first, whole_is, on_err, last_cut, last_whole}
+use Rattle.sj_text.proofs.Cuts.{cut_in_first, whole_is, on_err, err_behind, err_whole}
 use Rattle.sj_print.proofs.LineLemmas.{passed_apart}
 use Rattle.sj_print.proofs.lines.put_passed.Goals as goal
 
@@ -21,5 +21,5 @@ returns-clause-err c =
     let end = end_text c.args.end.sess c.args.end.side in let n = decimal c.args.number in let by = name_of file c.args.passed.now.by in
     let old = c.args.text.now.items in let mid = c.put_spaced.new.text.items in let new = c.put_message.new.text.items in
     let whole = passed_apart end n by t file m ∙ ap (λ x. line_of (end ∷ n ∷ by ∷ x ∷ message_words file m)) (c.taker_piece.ensures file) in
-    last_whole old _ _ new c.put_message.result whole
-    (last_cut old _ (line_of (message_words file m)) mid new c.put_message.result c.in_ok-put_spaced.ensures.ok c.put_message.ensures.err)
+    err_whole old _ _ new c.put_message.result whole
+    (err_behind old _ (line_of (message_words file m)) mid new c.put_message.result c.in_ok-put_spaced.ensures.ok c.put_message.ensures.err)

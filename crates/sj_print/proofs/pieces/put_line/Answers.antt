@@ -2,7 +2,7 @@ use Rattle.std.proofs.Common.{◌++◌, [], ◌∷◌, map, sym}
 use Rattle.sj_lang.specs.FileView.{file_of}
 use Rattle.sj_semantics.specs.Transcript.{line_of}
 use Rattle.sj_print.specs.Pieces.{piece_text, spaced_text}
-use Rattle.sj_print.proofs.Cuts.{none_yet, ahead_is, one_more, cut_within, on_err, finish_ok, finish_cut}
+use Rattle.sj_text.proofs.Cuts.{none_yet, ahead_is, one_more, cut_within, on_err, err_at_once, finish_ok, finish_cut}
 use Rattle.sj_print.proofs.PieceLemmas.{line_apart}
 use Rattle.sj_print.proofs.pieces.put_line.Goals as goal
 
@@ -37,4 +37,4 @@ returns-clause-err c =
     let start = ahead_is old whole whole (spaced_text file ps ++ (last ++ 10 ∷ [])) old (sym (line_apart file ps c.args.last)) (none_yet old whole) in
     let mid = one_more old whole (spaced_text file ps) (last ++ 10 ∷ []) old c.put_spaced.new.text.items start c.in_ok-put_spaced.ensures.ok in
     let end = one_more old whole last (10 ∷ []) c.put_spaced.new.text.items c.put_piece.new.text.items mid c.in_ok-put_piece.ensures.ok in
-    finish_cut old whole (10 ∷ []) c.put_piece.new.text.items c.put.new.text.items c.put.result end c.put.ensures.err
+    finish_cut old whole (10 ∷ []) c.put_piece.new.text.items c.put.new.text.items c.put.result end (err_at_once c.put_piece.new.text.items (10 ∷ []) c.put.new.text.items c.put.result c.put.ensures.err)

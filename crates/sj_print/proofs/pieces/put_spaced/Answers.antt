@@ -1,7 +1,7 @@
 use Rattle.std.proofs.Common.{◌++◌, [], ◌∷◌, ◌+◌, drop}
 use Rattle.sj_lang.specs.FileView.{file_of}
 use Rattle.sj_print.specs.Pieces.{spaced_text}
-use Rattle.sj_print.proofs.Cuts.{ahead_is, one_more, cut_within, on_err}
+use Rattle.sj_text.proofs.Cuts.{ahead_is, one_more, cut_within, cut_here, on_err}
 use Rattle.sj_print.proofs.PieceLemmas.{spaced_step}
 use Rattle.sj_print.proofs.pieces.put_spaced.Goals as goal
 
@@ -19,4 +19,4 @@ returns-in_err-put-clause-err c =
     let old = c.args.text.now.items in let whole = spaced_text file ps in let rest = spaced_text file (drop (i + 1) ps) in
     let before = ahead_is old whole _ _ c.loop-piece.text.items (spaced_step file ps i _ c.loop-piece-test.true) c.loop-piece.invariant in
     let mid = one_more old whole _ (32 ∷ [] ++ rest) c.loop-piece.text.items c.put_piece.new.text.items before c.in_ok-put_piece.ensures.ok in
-    on_err c.from_residual-in_err-put.result _ (cut_within old whole (32 ∷ []) rest c.put_piece.new.text.items c.put.new.text.items mid c.in_err-put.ensures.err)
+    on_err c.from_residual-in_err-put.result _ (cut_here old whole (32 ∷ [] ++ rest) c.put_piece.new.text.items c.put.new.text.items mid c.in_err-put.ensures.err)

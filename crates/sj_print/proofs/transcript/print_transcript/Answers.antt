@@ -3,7 +3,7 @@ use Rattle.sj_lang.specs.FileAt.{FileAt}
 use Rattle.sj_lang.specs.FileView.{file_of}
 use Rattle.sj_plain.specs.Plain.{acts_of, kept, world_at}
 use Rattle.sj_semantics.specs.Transcript.{line_of, party_lines, session_lines, transcript_of, verdict_word}
-use Rattle.sj_print.proofs.Cuts.{cut_in_first, cut_behind, whole_is, on_err, put_both, last_ok, last_cut, ok_whole, last_whole}
+use Rattle.sj_text.proofs.Cuts.{cut_in_first, cut_behind, whole_is, on_err, put_both, ok_behind, err_behind, ok_whole, err_whole}
 use Rattle.sj_print.proofs.PartLemmas.{session_count-run, party_count-run, transcript_is}
 use Rattle.sj_print.proofs.transcript.print_transcript.Goals as goal
 
@@ -34,12 +34,12 @@ returns-clause-ok c =
     let mid = c.put_sessions.new.text.items in let next = c.put_parties.new.text.items in let new = c.put_verdict.new.text.items in
     let parts = session_lines file 0 file.connects w.sessions ++ party_lines file w.sessions file.parties w.parties in
     ok_whole old _ (transcript_of file w) new c.put_verdict.result (ap (λ v. parts ++ line_of (verdict_word v ∷ [])) c.verdict.ensures ∙ transcript_is file w)
-    (last_ok old parts _ next new c.put_verdict.result (put_both old _ _ mid next c.in_ok-put_sessions.ensures.ok c.in_ok-put_parties.ensures.ok) c.put_verdict.ensures.ok)
+    (ok_behind old parts _ next new c.put_verdict.result (put_both old _ _ mid next c.in_ok-put_sessions.ensures.ok c.in_ok-put_parties.ensures.ok) c.put_verdict.ensures.ok)
 
 pub returns-clause-err : goal.returns-clause-err
 returns-clause-err c =
     let file = file_of c.args.file.now in let w = world_at c.args.plain.now in let old = c.args.text.now.items in
     let mid = c.put_sessions.new.text.items in let next = c.put_parties.new.text.items in let new = c.put_verdict.new.text.items in
     let parts = session_lines file 0 file.connects w.sessions ++ party_lines file w.sessions file.parties w.parties in
-    last_whole old _ (transcript_of file w) new c.put_verdict.result (ap (λ v. parts ++ line_of (verdict_word v ∷ [])) c.verdict.ensures ∙ transcript_is file w)
-    (last_cut old parts _ next new c.put_verdict.result (put_both old _ _ mid next c.in_ok-put_sessions.ensures.ok c.in_ok-put_parties.ensures.ok) c.put_verdict.ensures.err)
+    err_whole old _ (transcript_of file w) new c.put_verdict.result (ap (λ v. parts ++ line_of (verdict_word v ∷ [])) c.verdict.ensures ∙ transcript_is file w)
+    (err_behind old parts _ next new c.put_verdict.result (put_both old _ _ mid next c.in_ok-put_sessions.ensures.ok c.in_ok-put_parties.ensures.ok) c.put_verdict.ensures.err)

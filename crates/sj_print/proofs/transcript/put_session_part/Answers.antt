@@ -1,7 +1,7 @@
 use Rattle.std.proofs.Common.{◌++◌, ◌∙◌, ap}
 use Rattle.sj_lang.specs.FileView.{file_of, connect_of}
 use Rattle.sj_semantics.specs.Transcript.{session_line}
-use Rattle.sj_print.proofs.Cuts.{cut_in_first, cut_behind, whole_is, on_err, put_both, last_cut, last_whole}
+use Rattle.sj_text.proofs.Cuts.{cut_in_first, cut_behind, whole_is, on_err, put_both, err_behind, err_whole}
 use Rattle.sj_print.proofs.PartLemmas.{sent_same}
 use Rattle.sj_print.proofs.transcript.put_session_part.Goals as goal
 
@@ -25,6 +25,6 @@ returns-clause-err c =
     let line = session_line file s (connect_of c.args.connect.now) in
     let first = sent_same file s 0 c.sent.ensures c.takers.ensures in
     let second = sent_same file s 1 c.sent-2.ensures c.takers-2.ensures in
-    last_cut old _ _ next new c.put_sent-2.result
+    err_behind old _ _ next new c.put_sent-2.result
     (put_both old line _ mid next c.in_ok-put_session.ensures.ok (c.in_ok-put_sent.ensures.ok ∙ ap (λ xs. mid ++ xs) first))
-    (last_whole next _ _ new c.put_sent-2.result second c.put_sent-2.ensures.err)
+    (err_whole next _ _ new c.put_sent-2.result second c.put_sent-2.ensures.err)
