@@ -1,10 +1,10 @@
--- A text that is being printed.
-use Rattle.std.proofs.Common.{◌≡◌, ℕ, ◌+◌, ◌<◌, ◌==◌, Bool, true, false, List, [], ◌∷◌, ◌++◌, length, drop, get_or, Result, Ok, Err, OnOk, OnErr, refl, ap, sym, ◌∙◌, append_assoc, append-nil, arith, add-one, zero, suc, None}
+-- Items and arms that are being printed.
+use Rattle.std.proofs.Common.{◌≡◌, ℕ, ◌+◌, ◌<◌, ◌==◌, Bool, true, false, List, [], ◌∷◌, ◌++◌, length, drop, get_or, refl, ap, sym, ◌∙◌, append_assoc, arith, zero, suc, None}
 use Rattle.std.specs.Prelude.{codes, nat_lt, if◌then◌else◌}
 use Rattle.std.specs.List.{slice_get}
-use Rattle.std.proofs.Math.Seq.{drop-cons}
 use Rattle.std.proofs.lemmas.Bool.{lt-ltb}
 use Rattle.std.proofs.lemmas.Bool.Decides.{nat_tests}
+use Rattle.sj_text.proofs.Cuts.{StillTo, none_yet, one_more, ahead_is, open_by}
 use Rattle.sj_lang.specs.declared.proto.Item.{Item}
 use Rattle.sj_lang.specs.declared.proto.Item.TheVariants.{Send, Recv, Select, Branch, OutLoop, InLoop}
 use Rattle.sj_lang.specs.declared.proto.Arm.{Arm}
@@ -12,67 +12,6 @@ use Rattle.sj_lang.specs.Place.{Place, done, message, choice, repeat}
 use Rattle.sj_lang.specs.View.{place_of, choices_of, followed}
 use Rattle.sj_grammar.specs.Tables.{entry_of}
 use Rattle.sj_grammar.specs.Canonical.{dotted_text, listed_text, seq_text, arm_text, gap_before}
-use Rattle.sj_proto.specs.Printed.{IsCutShort}
-
--- the old text, and then the whole but for what is ahead
-pub record StillTo (old whole ahead now : List ℕ) : Type 0 where
-  pub some : List ℕ
-  pub appended : now ≡ old ++ some
-  pub begins : whole ≡ some ++ ahead
-
-pub none_yet : (old whole : List ℕ) → StillTo old whole whole old
-none_yet old whole = record { some = []; appended = sym (append-nil old); begins = refl }
-
-pub one_more : (old whole bytes ahead now new : List ℕ) → StillTo old whole (bytes ++ ahead) now → new ≡ now ++ bytes → StillTo old whole ahead new
-one_more old whole bytes ahead now new s e = record {
-  some = s.some ++ bytes;
-  appended = e ∙ ap (λ xs. xs ++ bytes) s.appended ∙ append_assoc old s.some bytes;
-  begins = s.begins ∙ sym (append_assoc s.some bytes ahead);
-}
-
-pub ahead_is : (old whole a b now : List ℕ) → a ≡ b → StillTo old whole a now → StillTo old whole b now
-ahead_is old whole a b now e s = record { some = s.some; appended = s.appended; begins = s.begins ∙ ap (λ xs. s.some ++ xs) e }
-
--- cut short before what is ahead, and within its first part
-pub cut_here : (old whole ahead now new : List ℕ) → StillTo old whole ahead now → new ≡ now → IsCutShort old whole new
-cut_here old whole ahead now new s e = record { some = s.some; rest = ahead; appended = e ∙ s.appended; begins = s.begins }
-
-pub cut_within : (old whole bytes ahead now new : List ℕ) → StillTo old whole (bytes ++ ahead) now → IsCutShort now bytes new → IsCutShort old whole new
-cut_within old whole bytes ahead now new s c = record {
-  some = s.some ++ c.some;
-  rest = c.rest ++ ahead;
-  appended = c.appended ∙ ap (λ xs. xs ++ c.some) s.appended ∙ append_assoc old s.some c.some;
-  begins = s.begins ∙ ap (λ xs. s.some ++ xs) (ap (λ xs. xs ++ ahead) c.begins ∙ append_assoc c.some c.rest ahead) ∙ sym (append_assoc s.some c.some (c.rest ++ ahead));
-}
-
-cut_last : (old whole bytes now new : List ℕ) → StillTo old whole bytes now → IsCutShort now bytes new → IsCutShort old whole new
-cut_last old whole bytes now new s c = record {
-  some = s.some ++ c.some;
-  rest = c.rest;
-  appended = c.appended ∙ ap (λ xs. xs ++ c.some) s.appended ∙ append_assoc old s.some c.some;
-  begins = s.begins ∙ ap (λ xs. s.some ++ xs) c.begins ∙ sym (append_assoc s.some c.some c.rest);
-}
-
-module _ {X E : Type 0} where
-  pub on_err : (r : Result X E) (P : Type 0) → P → OnErr r P
-  on_err (Ok x) P p = tt
-  on_err (Err e) P p = p
-
-  -- the last bytes, or none of them
-  pub last_ok : (old whole bytes now new : List ℕ) (r : Result X E) → StillTo old whole bytes now → OnOk r (new ≡ now ++ bytes) → OnOk r (new ≡ old ++ whole)
-  last_ok old whole bytes now new (Ok x) s e = e ∙ ap (λ xs. xs ++ bytes) s.appended ∙ append_assoc old s.some bytes ∙ ap (λ xs. old ++ xs) (sym s.begins)
-  last_ok old whole bytes now new (Err x) s e = tt
-
-  pub last_err : (old whole bytes now new : List ℕ) (r : Result X E) → StillTo old whole bytes now → OnErr r (new ≡ now) → OnErr r (IsCutShort old whole new)
-  last_err old whole bytes now new (Ok x) s e = tt
-  last_err old whole bytes now new (Err x) s e = cut_here old whole bytes now new s e
-
-  pub last_cut : (old whole bytes now new : List ℕ) (r : Result X E) → StillTo old whole bytes now → OnErr r (IsCutShort now bytes new) → OnErr r (IsCutShort old whole new)
-  last_cut old whole bytes now new (Ok x) s e = tt
-  last_cut old whole bytes now new (Err x) s e = cut_last old whole bytes now new s e
-
-open_by : {X : Type 0} (n : ℕ) (xs : List X) (x : X) → n < length xs → x ≡ get_or xs n x → drop n xs ≡ x ∷ drop (n + 1) xs
-open_by n xs x h e = drop-cons xs n x h ∙ (λ i. sym e i ∷ drop (sym (add-one n) i) xs)
 
 some_before : (n : ℕ) → nat_lt 0 (n + 1) ≡ true
 some_before n = lt-ltb 0 (n + 1) (omega arith)
@@ -156,5 +95,3 @@ no_word_at [] zero e = refl
 no_word_at [] (suc n) e = refl
 no_word_at (w ∷ ws) zero e = cc
 no_word_at (w ∷ ws) (suc n) e = no_word_at ws n e
-
-pub ruleset printed = (none_yet, cut_here, dot_apart)

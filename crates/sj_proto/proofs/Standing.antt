@@ -1,5 +1,5 @@
 -- The canonical text of a protocol stands for it.
-use Rattle.std.proofs.Common.{◌≡◌, ℕ, zero, suc, Bool, true, false, IsTrue, List, [], ◌∷◌, ◌++◌, drop, get_or, refl, ap, sym, subst, ◌∙◌, append-nil}
+use Rattle.std.proofs.Common.{◌≡◌, ℕ, zero, suc, Bool, true, false, IsTrue, List, [], ◌∷◌, ◌++◌, drop, get_or, refl, subst, append-nil}
 use Rattle.std.specs.Prelude.{codes, ◌||◌}
 use Rattle.std.specs.Str.{bytes_eq}
 use Rattle.std.specs.List.{list_any}
@@ -8,12 +8,11 @@ use Rattle.sj_lang.specs.declared.proto.Way.{Way}
 use Rattle.sj_lang.specs.declared.proto.Way.TheVariants.{Out, Into}
 use Rattle.sj_lang.specs.declared.file.Names.{Names}
 use Rattle.sj_lang.specs.Place.{Place, Carried, Choices, done, message, choice, repeat, int, boolean, text, session, no_choice, arm}
-use Rattle.sj_grammar.specs.Limits.{Limits, limits}
-use Rattle.sj_grammar.specs.Reading.{Reading}
+use Rattle.sj_grammar.specs.Limits.{limits}
 use Rattle.sj_grammar.specs.Names.{is_name, is_reserved}
 use Rattle.sj_grammar.specs.Literals.{is_text}
-use Rattle.sj_grammar.specs.Tables.{with_entry, entry_of, IsNamed}
-use Rattle.sj_grammar.specs.Places.{Pieces, at, Begins}
+use Rattle.sj_grammar.specs.Tables.{entry_of, IsNamed}
+use Rattle.sj_grammar.specs.Places.{Pieces, at}
 use Rattle.sj_grammar.specs.Protocols.{way_piece, open_piece, close_piece, dotted, kind_pieces, listed, body_pieces, IsGiven, IsGivenKind, AreGiven, IsBody}
 use Rattle.sj_grammar.specs.Canonical.{body_text}
 use Rattle.sj_grammar.proofs.Lexing.{Lexes, read}

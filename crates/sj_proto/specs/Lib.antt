@@ -4,7 +4,6 @@ pub mod Found
 pub mod Items
 pub mod Left
 pub mod Parsed
-pub mod Printed
 pub mod Protocols
 pub mod Writable
 pub mod Wrong

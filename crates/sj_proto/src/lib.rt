@@ -25,7 +25,7 @@ pub use laws::{
     only_the_end_is_the_end, the_end_comes_again, what_goes_wrong_is_the_first_fault,
 };
 pub use naming::take_name;
-pub use printing::{print_protocol, put, put_word};
+pub use printing::{print_protocol, put_word};
 pub use printing_laws::{printed_text_is_read_again, printed_text_stands};
 pub use protocols::{parse_protocol, parse_protocols};
 pub use reserved::is_name_text;

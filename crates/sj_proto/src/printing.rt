@@ -1,15 +1,16 @@
 //! Protocols as text.
-#![tactic(auto, using(sj_lang::proofs::Within::within, crate::proofs::Printed::printed))]
+#![tactic(auto, using(sj_lang::proofs::Within::within, sj_text::proofs::Cuts::cuts, crate::proofs::Printed::dot_apart))]
 
 ghost use Rattle.std.specs.Prelude.{◌≡◌, ◌++◌, ◌<◌, [], nat_lt, if◌then◌else◌, codes, OnOk, OnErr};
+ghost use Rattle.sj_text.specs.Cut.{IsCutShort};
 ghost use Rattle.sj_lang.specs.Place.{done};
 ghost use Rattle.sj_lang.specs.View.{carried_of, followed, place_of};
 ghost use Rattle.sj_grammar.specs.Tables.{entry_of};
 ghost use Rattle.sj_grammar.specs.Canonical.{body_text, seq_text, kind_text, arm_text, arms_text, gap_before};
-ghost use Rattle.sj_proto.specs.Printed.{IsCutShort};
 
 use sj_base::NoMemory;
 use sj_lang::{Arm, Arms, Item, Kind, Names, Proto};
+use sj_text::put;
 
 /// Appends the canonical text of a protocol, from its `begin` on. Where the grammar can give the
 /// protocol with these names, the text stands for it; a label that `names` lacks is left out.
@@ -21,15 +22,6 @@ pub fn print_protocol(text: &mut Vec<u8>, names: &Names, p: &Proto) -> Result<()
 {
     put(text, b"begin")?;
     put_behind(text, names, b".", p)
-}
-
-/// Appends the bytes, or leaves the text as it is.
-pub fn put(text: &mut Vec<u8>, bytes: &[u8]) -> Result<(), NoMemory>
-    ensures ok { OnOk result (text.new.items ≡ text.old.items ++ bytes.now) }
-    ensures err { OnErr result (text.new.items ≡ text.old.items) }
-{
-    text.extend_from_slice(bytes)?;
-    Ok(())
 }
 
 /// Appends the word of that number, and nothing where there is none.

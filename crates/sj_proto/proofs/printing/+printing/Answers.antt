@@ -1,10 +1,11 @@
 use Rattle.std.proofs.Common.{◌≡◌, ◌+◌, ◌++◌, [], drop, ap, sym, ◌∙◌, vec_len}
 use Rattle.std.specs.Prelude.{codes, if◌then◌else◌, nat_lt}
+use Rattle.sj_text.proofs.Cuts.{none_yet, one_more, ahead_is, cut_at_once, cut_within, on_err, finish_ok, finish_cut}
 use Rattle.sj_lang.specs.View.{place_of, choices_of, carried_of, followed}
 use Rattle.sj_lang.specs.Place.{done}
 use Rattle.sj_grammar.specs.Tables.{entry_of}
 use Rattle.sj_grammar.specs.Canonical.{seq_text, arms_text, arm_text, kind_text, gap_before}
-use Rattle.sj_proto.proofs.Printed.{none_yet, one_more, ahead_is, cut_here, cut_within, on_err, last_ok, last_cut, items_ahead, arms_ahead, items_step, arms_on, behind_put}
+use Rattle.sj_proto.proofs.Printed.{items_ahead, arms_ahead, items_step, arms_on, behind_put}
 use Rattle.sj_proto.proofs.printing.+printing.Goals as goal
 
 -- before an item
@@ -51,7 +52,7 @@ pub put_message-returns-in_err-put-clause-err : goal.put_message-returns-in_err-
 put_message-returns-in_err-put-clause-err t c =
     let old = c.args.text.now.items in
     let whole = c.args.opening.now ++ (kind_text (entry_of c.args.names.now.words) (carried_of c.args.kind.now) ++ c.args.closing.now) in
-    on_err c.from_residual.result _ (cut_here old whole whole old c.put.new.text.items (none_yet old whole) c.in_err-put.ensures.err)
+    on_err c.from_residual.result _ (cut_at_once old whole c.put.new.text.items c.in_err-put.ensures.err)
 
 pub put_arm-returns-clause-err : goal.put_arm-returns-clause-err
 put_arm-returns-clause-err t c =
@@ -60,7 +61,7 @@ put_arm-returns-clause-err t c =
     let p = c.args.arm.now.rest in
     let whole = arm_text word c.args.arm.now.label p in
     let tail = gap_before (codes " ") p ++ seq_text word p in
-    last_cut old whole tail c.put.new.text.items c.put_behind.new.text.items c.put_behind.result
+    finish_cut old whole tail c.put.new.text.items c.put_behind.new.text.items c.put_behind.result
     (one_more old whole (codes ":") tail c.put_word.new.text.items c.put.new.text.items
     (one_more old whole (word c.args.arm.now.label) (codes ":" ++ tail) old c.put_word.new.text.items (none_yet old whole) c.in_ok-put_word.ensures.ok) c.in_ok-put.ensures.ok) c.put_behind.ensures.err
 
@@ -70,7 +71,7 @@ put_behind-returns-clause-ok t c =
     let is = c.deref.result.now in
     let old = c.args.text.now.items in
     let same : place_of is ≡ c.args.p.now = ap place_of c.deref.ensures.value ∙ c.p.view_is in
-    last_ok old (gap_before c.args.gap.now c.args.p.now ++ seq_text word c.args.p.now) (seq_text word (place_of is)) c.put.new.text.items c.put_items.new.text.items c.put_items.result
+    finish_ok old (gap_before c.args.gap.now c.args.p.now ++ seq_text word c.args.p.now) (seq_text word (place_of is)) c.put.new.text.items c.put_items.new.text.items c.put_items.result
     (behind_put word c.args.gap.now is (vec_len c.p.inside.items) c.args.p.now old c.put.new.text.items c.deref.ensures.len (sym c.is_empty.ensures ∙ c.if-is_empty.false) same c.in_ok-put.ensures.ok) c.put_items.ensures.ok
 
 pub put_behind-returns-clause-err : goal.put_behind-returns-clause-err
@@ -79,5 +80,5 @@ put_behind-returns-clause-err t c =
     let is = c.deref.result.now in
     let old = c.args.text.now.items in
     let same : place_of is ≡ c.args.p.now = ap place_of c.deref.ensures.value ∙ c.p.view_is in
-    last_cut old (gap_before c.args.gap.now c.args.p.now ++ seq_text word c.args.p.now) (seq_text word (place_of is)) c.put.new.text.items c.put_items.new.text.items c.put_items.result
+    finish_cut old (gap_before c.args.gap.now c.args.p.now ++ seq_text word c.args.p.now) (seq_text word (place_of is)) c.put.new.text.items c.put_items.new.text.items c.put_items.result
     (behind_put word c.args.gap.now is (vec_len c.p.inside.items) c.args.p.now old c.put.new.text.items c.deref.ensures.len (sym c.is_empty.ensures ∙ c.if-is_empty.false) same c.in_ok-put.ensures.ok) c.put_items.ensures.err
