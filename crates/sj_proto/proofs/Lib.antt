@@ -1,11 +1,13 @@
 pub mod Begun
 pub mod Behind
 pub mod Completed
+pub mod Counted
 pub mod Counts
 pub mod Defs
 pub mod Digits
 pub mod Ends
 pub mod Exits
+pub mod FirstBytes
 pub mod Fronts
 pub mod Given
 pub mod Here
@@ -19,9 +21,11 @@ pub mod Pieces
 pub mod Printed
 pub mod Rules
 pub mod Runs
+pub mod Spelled
 pub mod Standing
 pub mod Tables
 pub mod Texts
+pub mod Took
 pub mod Unique
 pub mod Viable
 pub mod Wholes

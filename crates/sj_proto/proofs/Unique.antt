@@ -2,45 +2,12 @@
 use Rattle.std.proofs.Common.{◌≡◌, ◌≢◌, ℕ, suc, ◌<◌, List, [], ◌∷◌, ◌++◌, drop, get_or, refl, ap, sym, ◌∙◌, append_assoc, arith, ◌⊎◌, inl, inr}
 use Rattle.std.specs.Prelude.{codes}
 use Rattle.std.proofs.lemmas.Bool.{cases_order}
-use Rattle.sj_lang.specs.declared.proto.Way.{Way}
-use Rattle.sj_lang.specs.declared.proto.Way.TheVariants.{Out, Into}
 use Rattle.sj_lang.specs.Place.{Place, Carried, Choices, done, message, choice, repeat, int, boolean, text, session, no_choice, arm}
 use Rattle.sj_grammar.specs.Limits.{Limits}
 use Rattle.sj_grammar.specs.Tables.{IsNamed}
 use Rattle.sj_grammar.specs.Places.{Pieces}
-use Rattle.sj_grammar.specs.Protocols.{way_piece, open_piece, close_piece, dotted, kind_pieces, listed, IsGiven, IsGivenKind, AreGiven}
-
--- the first byte of a piece
-abbrev byte : ℕ → Pieces → ℕ
-byte n ps = get_or (get_or ps n []) 0 0
-
--- what may stand behind items: no dot and no item; the first byte is another
-abbrev pub Closes : Pieces → Type 0
-Closes ps = (byte 0 ps ≢ 46) × (byte 0 ps ≢ 33) × (byte 0 ps ≢ 63)
-
-same_way : (w v : Way) → way_piece w ≡ way_piece v → w ≡ v
-same_way Out Out e = refl
-same_way Into Into e = refl
-same_way Out Into e = absurd (omega (arith, ap (λ (l : List ℕ). get_or l 0 0) e))
-same_way Into Out e = absurd (omega (arith, ap (λ (l : List ℕ). get_or l 0 0) e))
-
-way_byte : (w : Way) → (get_or (way_piece w) 0 0 ≢ 33) → (get_or (way_piece w) 0 0 ≢ 63) → ⊥
-way_byte Out a b = a refl
-way_byte Into a b = b refl
-
-open_byte : (w : Way) → (get_or (open_piece w) 0 0 ≢ 123) × (get_or (open_piece w) 0 0 ≢ 91)
-open_byte Out = (λ e. omega (arith, e), λ e. omega (arith, e))
-open_byte Into = (λ e. omega (arith, e), λ e. omega (arith, e))
-
-close_closes : (w : Way) (ps : Pieces) → Closes (close_piece w ∷ ps)
-close_closes Out ps = (λ e. omega (arith, e), λ e. omega (arith, e), λ e. omega (arith, e))
-close_closes Into ps = (λ e. omega (arith, e), λ e. omega (arith, e), λ e. omega (arith, e))
-
-bracket : (ps : Pieces) → Closes (codes "]" ∷ ps)
-bracket ps = (λ e. omega (arith, e), λ e. omega (arith, e), λ e. omega (arith, e))
-
-brace : (ps : Pieces) → Closes (codes "}" ∷ ps)
-brace ps = (λ e. omega (arith, e), λ e. omega (arith, e), λ e. omega (arith, e))
+use Rattle.sj_grammar.specs.Protocols.{close_piece, dotted, kind_pieces, listed, IsGiven, IsGivenKind, AreGiven}
+use Rattle.sj_proto.proofs.FirstBytes.{byte, Closes, same_way, way_byte, open_byte, close_closes, bracket, brace}
 
 -- a name has one number
 pub one_number : (L : Limits) (word : ℕ → List ℕ) (l m : ℕ) → IsNamed L word l → IsNamed L word m → word l ≡ word m → l ≡ m

@@ -13,7 +13,8 @@ use Rattle.sj_grammar.specs.ProtocolDues.{ProtocolDue, body, more, protocol_laye
 use Rattle.sj_grammar.proofs.Steps.{run_split, onward_goes, step_due, one_due, due_behind}
 use Rattle.sj_grammar.proofs.Completion.{AllHeld, due_back, run_back, ends_back}
 use Rattle.sj_proto.specs.Writable.{IsWritable, IsViable, IsWhole}
-use Rattle.sj_proto.proofs.Completed.{Spelled, AllSpelled, HasNumber, spelled_back, none_spelled, some_alls}
+use Rattle.sj_proto.proofs.Spelled.{Spelled, AllSpelled}
+use Rattle.sj_proto.proofs.Completed.{HasNumber, spelled_back, none_spelled, some_alls}
 use Rattle.sj_proto.proofs.Within.{wide}
 use Rattle.sj_proto.proofs.Wholes.{wide_run}
 
