@@ -44,7 +44,7 @@ fn task_named(name: &str, number: Option<&str>) -> Option<Task>
     match number {
         None => task_alone(name.as_bytes()),
         Some(number) if name.as_bytes() == b"make".as_slice() => {
-            count_in(number.as_bytes()).map(Task::Make)
+            count_in(number).map(Task::Make)
         }
         Some(_) => None,
     }
