@@ -10,8 +10,9 @@ use Rattle.sj_grammar.specs.Names.{is_name}
 use Rattle.sj_grammar.specs.Tables.{Spelling}
 use Rattle.sj_grammar.specs.Places.{Pieces}
 use Rattle.sj_grammar.specs.Expressions as level
-use Rattle.sj_grammar.specs.ExpressionDues.{ExpressionDue, whole, factor, times, plus, compare, after_minus, fixed, expression_at, is_operand, factor_follow}
+use Rattle.sj_grammar.specs.ExpressionDues.{ExpressionDue, whole, factor, times, plus, compare, after_minus, fixed, expression_at, is_operand, factor_follow, expression_layer}
 use Rattle.sj_grammar.proofs.Spellings.{IsHeld}
+use Rattle.sj_grammar.proofs.Completion.{Alls}
 use Rattle.sj_expr.proofs.TokenLemmas.{text_quoted}
 use Rattle.sj_expr.proofs.NumberLemmas.{small_number}
 use Rattle.sj_expr.proofs.Writes.{Writes, w_as, w_number, w_minus, w_true, w_false, w_text, w_name, w_not, w_parens, w_factor, w_term}
@@ -28,30 +29,23 @@ module _ (names : Spelling) where
   Spelled after_minus a = (s : List ℕ) × (is_number s ≡ true) × (a ≡ s ∷ [])
   Spelled (fixed p) a = a ≡ p ∷ []
 
-  abbrev pub Alls : List ExpressionDue → Pieces → Type 0
-  Alls [] ts = ts ≡ []
-  Alls (d ∷ ds) ts = (a : Pieces) × (b : Pieces) × Spelled d a × Alls ds b × (ts ≡ a ++ b)
-
-  pub alls_split : (xs ys : List ExpressionDue) (ts : Pieces) → Alls (xs ++ ys) ts → (a : Pieces) × (b : Pieces) × Alls xs a × Alls ys b × (ts ≡ a ++ b)
-  alls_split [] ys ts h = ([], ts, refl, h, refl)
-  alls_split (x ∷ xs) ys ts h =
-      let r = alls_split xs ys h.1 h.3 in
-      (h.0 ++ r.0, r.1, (h.0, r.0, h.2, r.2, refl), r.3, h.4 ∙ ap (λ z. h.0 ++ z) r.4 ∙ sym (append_assoc h.0 r.0 r.1))
+  abbrev pub AllSpelled : List ExpressionDue → Pieces → Type 0
+  AllSpelled ds ts = Alls expression_layer Spelled ds ts
 
   -- behind a factor
-  pub to_term : (o : ℕ) (t : Term) (a b : Pieces) (rest : List ExpressionDue) → Writes names level.factor o t a → Alls (times o ∷ rest) b → (u : Term) × (c : Pieces) × (d : Pieces) × Writes names level.term o u c × Alls rest d × (a ++ b ≡ c ++ d)
+  pub to_term : (o : ℕ) (t : Term) (a b : Pieces) (rest : List ExpressionDue) → Writes names level.factor o t a → AllSpelled (times o ∷ rest) b → (u : Term) × (c : Pieces) × (d : Pieces) × Writes names level.term o u c × AllSpelled rest d × (a ++ b ≡ c ++ d)
   to_term o t a b rest w h =
       let x = h.2 t a (w_factor names w) in
       (x.0, a ++ h.0, h.1, x.1, h.3, ap (λ z. a ++ z) h.4 ∙ sym (append_assoc a h.0 h.1))
 
-  pub to_sum : (o : ℕ) (t : Term) (a b : Pieces) (rest : List ExpressionDue) → Writes names level.factor o t a → Alls (times o ∷ plus o ∷ rest) b → (u : Term) × (c : Pieces) × (d : Pieces) × Writes names level.sum o u c × Alls rest d × (a ++ b ≡ c ++ d)
+  pub to_sum : (o : ℕ) (t : Term) (a b : Pieces) (rest : List ExpressionDue) → Writes names level.factor o t a → AllSpelled (times o ∷ plus o ∷ rest) b → (u : Term) × (c : Pieces) × (d : Pieces) × Writes names level.sum o u c × AllSpelled rest d × (a ++ b ≡ c ++ d)
   to_sum o t a b rest w h =
       let x = to_term o t a b (plus o ∷ rest) w h in
       let h2 = x.4 in
       let y = h2.2 x.0 x.1 (w_term names x.3) in
       (y.0, x.1 ++ h2.0, h2.1, y.1, h2.3, x.5 ∙ ap (λ z. x.1 ++ z) h2.4 ∙ sym (append_assoc x.1 h2.0 h2.1))
 
-  pub to_whole : (o : ℕ) (t : Term) (a b : Pieces) (rest : List ExpressionDue) → Writes names level.factor o t a → Alls (times o ∷ plus o ∷ compare o ∷ rest) b → (u : Term) × (c : Pieces) × (d : Pieces) × Writes names level.whole o u c × Alls rest d × (a ++ b ≡ c ++ d)
+  pub to_whole : (o : ℕ) (t : Term) (a b : Pieces) (rest : List ExpressionDue) → Writes names level.factor o t a → AllSpelled (times o ∷ plus o ∷ compare o ∷ rest) b → (u : Term) × (c : Pieces) × (d : Pieces) × Writes names level.whole o u c × AllSpelled rest d × (a ++ b ≡ c ++ d)
   to_whole o t a b rest w h =
       let x = to_sum o t a b (compare o ∷ rest) w h in
       let h2 = x.4 in
@@ -93,11 +87,11 @@ module _ (names : Spelling) where
       by_tests false l false false false false en el ex em ey ef h = let none : ⊥ = cc in absurd none
 
   -- from what is due behind a token to what is due before it
-  pub factor_back : (o : ℕ) (es : List ExpressionDue) (s : List ℕ) (ts : Pieces) → IsHeld names s → factor_follow o s ≡ Some es → Alls es ts → Spelled (factor o) (s ∷ ts)
+  pub factor_back : (o : ℕ) (es : List ExpressionDue) (s : List ℕ) (ts : Pieces) → IsHeld names s → factor_follow o s ≡ Some es → AllSpelled es ts → Spelled (factor o) (s ∷ ts)
   factor_back o es s ts held e h = by_tests (is_operand s) (bytes_eq s (codes "-")) (bytes_eq s (codes "not")) (bytes_eq s (codes "(")) refl refl refl refl e
     where
-      due_is : (ds : List ExpressionDue) → es ≡ ds → Alls ds ts
-      due_is ds same = subst (λ (gs : List ExpressionDue). Alls gs ts) same h
+      due_is : (ds : List ExpressionDue) → es ≡ ds → AllSpelled ds ts
+      due_is ds same = subst (λ (gs : List ExpressionDue). AllSpelled gs ts) same h
 
       by_tests : (x m n p : Bool) → is_operand s ≡ x → bytes_eq s (codes "-") ≡ m → bytes_eq s (codes "not") ≡ n → bytes_eq s (codes "(") ≡ p
           → (if x then Some [] else (if m then Some (after_minus ∷ []) else (if n then Some (factor (suc o) ∷ []) else (if p then Some (expression_at (suc o) ++ fixed (codes ")") ∷ []) else None)))) ≡ Some es

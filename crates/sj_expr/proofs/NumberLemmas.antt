@@ -37,22 +37,25 @@ module _ (s : List ℕ) (t : is_number s ≡ true) where
   rest_is : (list_all is_digit s && (not (has_leading_zero s) && nat_le (digits_value 10 s) most)) ≡ true
   rest_is = and_second (nat_lt 0 (length s)) _ t
 
-  digits_are : list_all is_digit s ≡ true
+  pub digits_are : list_all is_digit s ≡ true
   digits_are = and_first (list_all is_digit s) _ rest_is
 
   tail_is : (not (has_leading_zero s) && nat_le (digits_value 10 s) most) ≡ true
   tail_is = and_second (list_all is_digit s) _ rest_is
 
-  some_is : 0 < length s
-  some_is = leb-true 1 (length s) (and_first (nat_lt 0 (length s)) _ t)
+  pub no_zero_before : (not (has_leading_zero s)) ≡ true
+  no_zero_before = and_first (not (has_leading_zero s)) _ tail_is
+
+  pub some_digit : 0 < length s
+  some_digit = leb-true 1 (length s) (and_first (nat_lt 0 (length s)) _ t)
 
   pub number_most : digits_value 10 s ≤ most
   number_most = leb-true (digits_value 10 s) most (and_second (not (has_leading_zero s)) _ tail_is)
 
-  number_written : decimal (digits_value 10 s) ≡ s
+  pub number_written : decimal (digits_value 10 s) ≡ s
   number_written =
-      decimal-digits_value (numerals_by_value (AllDigits 10) tells_digits) s (all_digits s digits_are) some_is
-      (λ e. no_zero s (and_first (not (has_leading_zero s)) _ tail_is) e some_is) (let most_is = number_most in omega arith)
+      decimal-digits_value (numerals_by_value (AllDigits 10) tells_digits) s (all_digits s digits_are) some_digit
+      (λ e. no_zero s no_zero_before e some_digit) (let most_is = number_most in omega arith)
 
 pub largest_number : is_number (codes "9223372036854775808") ≡ true
 largest_number = refl

@@ -1,85 +1,51 @@
 -- Up to where something is due an expression can go on, and with no token that isn't due.
-use Rattle.std.proofs.Common.{◌≡◌, ℕ, Bool, true, false, List, [], ◌∷◌, ◌++◌, Option, Some, None, refl, ap, sym, subst, ◌∙◌, arith, append_assoc, append-nil, inl, inr}
-use Rattle.std.specs.Prelude.{if◌then◌else◌, ◌&&◌}
+use Rattle.std.proofs.Common.{◌≡◌, ℕ, true, false, List, [], ◌∷◌, ◌++◌, Some, None, refl, ap, sym, subst, ◌∙◌, arith, append_assoc, append-nil, inl, inr}
 use Rattle.sj_grammar.specs.declared.tokens.Rule.{Rule}
 use Rattle.sj_grammar.specs.Limits.{Limits}
 use Rattle.sj_grammar.specs.Tables.{Spelling}
 use Rattle.sj_grammar.specs.Places.{Pieces}
 use Rattle.sj_grammar.specs.Layers.{goes, step, run, may_end, rule_of}
 use Rattle.sj_grammar.specs.Expressions.{operand_count}
-use Rattle.sj_grammar.specs.ExpressionDues.{ExpressionDue, whole, expression_follow, expression_may_be_none, expression_layer}
-use Rattle.sj_grammar.proofs.Steps.{or_else, due_behind, onward_goes, step_due, step_refused, step_over, one_due, run_split}
+use Rattle.sj_grammar.specs.ExpressionDues.{ExpressionDue, whole, expression_layer}
+use Rattle.sj_grammar.proofs.Steps.{due_behind, onward_goes, step_due, step_refused, step_over, one_due, run_split}
 use Rattle.sj_grammar.proofs.Spellings.{IsHeld, AllHeld, spelling_of, held_at, all_held}
+use Rattle.sj_grammar.proofs.Completion.{due_back, run_back, ends_back, some_alls}
 use Rattle.sj_expr.specs.Viable.{IsWhole, IsViable, GoesWrong}
 use Rattle.sj_expr.proofs.Runs.{IsWithin}
 use Rattle.sj_expr.proofs.Writes.{w_as}
-use Rattle.sj_expr.proofs.Completed.{Alls, alls_split, done}
+use Rattle.sj_expr.proofs.Completed.{Spelled, AllSpelled, done}
 use Rattle.sj_expr.proofs.Unfollowed.{unfollow, none_spelled, some_spelled}
 use Rattle.sj_expr.proofs.WholeRuns.{expression_runs}
 
 module _ (names : Spelling) where
-  due_back : (ds es : List ExpressionDue) (s : List ℕ) (ts : Pieces) → IsHeld names s → due_behind expression_layer ds s ≡ Some es → Alls names es ts → Alls names ds (s ∷ ts)
-  due_back [] es s ts held e h = let none : ⊥ = cc in absurd none
-  due_back (d ∷ ds) es s ts held e h = by_follow (λ f. due_back ds es s ts held f h) (expression_follow d s) (expression_may_be_none d) refl refl e
-    where
-      by_follow : (due_behind expression_layer ds s ≡ Some es → Alls names ds (s ∷ ts)) → (x : Option (List ExpressionDue)) (b : Bool) → expression_follow d s ≡ x → expression_may_be_none d ≡ b
-          → or_else expression_layer x ds (if b then due_behind expression_layer ds s else None) ≡ Some es → Alls names (d ∷ ds) (s ∷ ts)
-      by_follow again (Some gs) b ex eb f =
-          let due : gs ++ ds ≡ es = cc in
-          let r = alls_split names gs ds ts (subst (λ (qs : List ExpressionDue). Alls names qs ts) (sym due) h) in
-          (s ∷ r.0, r.1, unfollow names d gs s r.0 held ex r.2, r.3, ap (λ z. s ∷ z) r.4)
-      by_follow again None true ex eb f = ([], s ∷ ts, none_spelled names d eb, again f, refl)
-      by_follow again None false ex eb f = let none : ⊥ = cc in absurd none
-
-  run_back : (L : Limits) (ps : Pieces) (n m : ℕ) (ds es : List ExpressionDue) (ts : Pieces) → AllHeld names ps → run expression_layer L n ds ps ≡ goes m es → Alls names es ts → Alls names ds (ps ++ ts)
-  run_back L [] n m ds es ts held e h = let same : es ≡ ds = cc in subst (λ (qs : List ExpressionDue). Alls names qs ts) same h
-  run_back L (s ∷ ps) n m ds es ts held e h =
-      let x = onward_goes expression_layer L (step expression_layer L n ds s) (λ j gs. run expression_layer L j gs ps) m es e in
-      due_back ds x.1 s (ps ++ ts) held.0 (step_due expression_layer L n x.0 ds x.1 s x.2) (run_back L ps x.0 m x.1 es ts held.1 x.3 h)
-
-  some_alls : (ds : List ExpressionDue) → (ts : Pieces) × Alls names ds ts
-  some_alls [] = ([], refl)
-  some_alls (d ∷ ds) =
-      let x = some_spelled names d in
-      let y = some_alls ds in
-      (x.0 ++ y.0, (x.0, y.0, x.1, y.1, refl))
-
-  none_alls : (ds : List ExpressionDue) → may_end expression_layer ds ≡ true → Alls names ds []
-  none_alls [] e = refl
-  none_alls (d ∷ ds) e = by_none (none_alls ds) (expression_may_be_none d) refl e
-    where
-      by_none : (may_end expression_layer ds ≡ true → Alls names ds []) → (b : Bool) → expression_may_be_none d ≡ b → (b && may_end expression_layer ds) ≡ true → Alls names (d ∷ ds) []
-      by_none again true eb f = ([], [], none_spelled names d eb, again f, refl)
-      by_none again false eb f = let none : ⊥ = cc in absurd none
-
   wide : ℕ → Limits
   wide k = record { protocols = 0; parties = 0; connects = 0; items = 0; nesting = k; labels = 0; operands = 0; name = k; text = k }
 
   -- the pieces, and what then is due
-  completed : (L : Limits) (ps ts : Pieces) (n m : ℕ) (due : List ExpressionDue) → AllHeld names ps → run expression_layer L n (whole ∷ []) ps ≡ goes m due → Alls names due ts → IsWhole (ps ++ ts)
+  completed : (L : Limits) (ps ts : Pieces) (n m : ℕ) (due : List ExpressionDue) → AllHeld (IsHeld names) ps → run expression_layer L n (whole ∷ []) ps ≡ goes m due → AllSpelled names due ts → IsWhole (ps ++ ts)
   unfolding wide
   completed L ps ts n m due held e h =
-      let all = run_back L ps n m (whole ∷ []) due ts held e h in
+      let all = run_back expression_layer (Spelled names) (IsHeld names) (unfollow names) (none_spelled names) L ps n m (whole ∷ []) due ts held e h in
       let w = w_as names (done names all.4 all.3) all.2.1 in
       record { within = wide w.0; names = names; term = all.2.0; spelt = w.1 (wide w.0) (record { nesting = omega arith; name = omega arith; text = omega arith }) }
 
 pub viable : (L : Limits) (ps : Pieces) (n m : ℕ) (due : List ExpressionDue) → run expression_layer L n (whole ∷ []) ps ≡ goes m due → IsViable ps
 viable L ps n m due e =
     let names = spelling_of (ps ++ []) in
-    let rest = some_alls names due in
+    let rest = some_alls expression_layer (Spelled names) (some_spelled names) due in
     record { later = rest.0; all = completed names L ps rest.0 n m due (all_held [] ps []) e rest.1 }
 
 pub viable_next : (L : Limits) (ps : Pieces) (n m : ℕ) (due es : List ExpressionDue) (s : List ℕ) → run expression_layer L n (whole ∷ []) ps ≡ goes m due → due_behind expression_layer due s ≡ Some es → IsViable (ps ++ s ∷ [])
 viable_next L ps n m due es s e f =
     let names = spelling_of (ps ++ s ∷ []) in
-    let rest = some_alls names es in
-    let next = due_back names due es s rest.0 (held_at ps [] s) f rest.1 in
+    let rest = some_alls expression_layer (Spelled names) (some_spelled names) es in
+    let next = due_back expression_layer (Spelled names) (IsHeld names) (unfollow names) (none_spelled names) due es s rest.0 (held_at ps [] s) f rest.1 in
     record { later = rest.0; all = subst IsWhole (sym (append_assoc ps (s ∷ []) rest.0)) (completed names L ps (s ∷ rest.0) n m due (all_held [] ps (s ∷ [])) e next) }
 
 pub is_whole : (L : Limits) (ps : Pieces) (n m : ℕ) (due : List ExpressionDue) → run expression_layer L n (whole ∷ []) ps ≡ goes m due → may_end expression_layer due ≡ true → IsWhole ps
 is_whole L ps n m due e ends =
     let names = spelling_of (ps ++ []) in
-    subst IsWhole (append-nil ps) (completed names L ps [] n m due (all_held [] ps []) e (none_alls names due ends))
+    subst IsWhole (append-nil ps) (completed names L ps [] n m due (all_held [] ps []) e (ends_back expression_layer (Spelled names) (none_spelled names) due ends))
 
 -- an expression runs, within limits that it doesn't pass
 whole_runs : (ps : Pieces) → IsWhole ps → (M : Limits) × (k : ℕ) × (left : List ExpressionDue) × (run expression_layer M 0 (whole ∷ []) ps ≡ goes k left) × (may_end expression_layer left ≡ true)

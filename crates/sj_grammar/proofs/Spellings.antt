@@ -48,9 +48,9 @@ first_of spelled n = elim (first_below spelled (spelled n) (suc n)) [
 abbrev pub IsHeld : Spelling → List ℕ → Type 0
 IsHeld names s = HasFirst names.word s × HasFirst names.text (inner s)
 
-abbrev pub AllHeld : Spelling → Pieces → Type 0
-AllHeld names [] = Unit {0}
-AllHeld names (s ∷ ps) = IsHeld names s × AllHeld names ps
+abbrev pub AllHeld : (List ℕ → Type 0) → Pieces → Type 0
+AllHeld Held [] = Unit {0}
+AllHeld Held (s ∷ ps) = Held s × AllHeld Held ps
 
 -- the spelling whose numbers are the places of these pieces
 abbrev pub spelling_of : Pieces → Spelling
@@ -64,9 +64,9 @@ held_at pre post s =
       subst (λ (x : List ℕ). HasFirst names.text x) (ap inner here) (first_of names.text (length pre)),
     )
 
-pub all_held : (pre ps post : Pieces) → AllHeld (spelling_of (pre ++ (ps ++ post))) ps
+pub all_held : (pre ps post : Pieces) → AllHeld (IsHeld (spelling_of (pre ++ (ps ++ post)))) ps
 all_held pre [] post = tt
 all_held pre (s ∷ ps) post = (
   held_at pre (ps ++ post) s,
-  subst (λ (qs : Pieces). AllHeld (spelling_of qs) ps) (append_assoc pre (s ∷ []) (ps ++ post)) (all_held (pre ++ s ∷ []) ps post),
+  subst (λ (qs : Pieces). AllHeld (IsHeld (spelling_of qs)) ps) (append_assoc pre (s ∷ []) (ps ++ post)) (all_held (pre ++ s ∷ []) ps post),
 )

@@ -20,7 +20,6 @@ pub mod Heads
 pub mod Keywords
 pub mod LinesAside
 pub mod NoStatement
-pub mod NumberText
 pub mod OneFile
 pub mod OneLiners
 pub mod PartLemmas

@@ -16,7 +16,7 @@ use Rattle.sj_grammar.specs.Expressions as spelt
 use Rattle.sj_expr.specs.Signs.{op_piece}
 use Rattle.sj_expr.proofs.TokenLemmas.{number_no_text, number_no_name}
 use Rattle.sj_party.specs.CanonicalExpression.{left_of, right_of, needs_parens, boolean_text}
-use Rattle.sj_party.proofs.NumberText.{printed_again}
+use Rattle.sj_expr.proofs.NumberLemmas.{number_written}
 use Rattle.sj_party.proofs.AddAlike.{AddAlike, alike_then, alike_less}
 
 -- the pieces of the canonical text
@@ -45,7 +45,7 @@ IsPrintableInt (pos n) = IsWritten n × (n < most)
 IsPrintableInt (negsuc n) = IsWritten (suc n)
 
 written : (ds : List ℕ) → is_number ds ≡ true → IsWritten (digits_value 10 ds)
-written ds t = let same = printed_again ds t in record { number = subst (λ (s : List ℕ). is_number s ≡ true) (sym same) t; value = ap (digits_value 10) same }
+written ds t = let same = number_written ds t in record { number = subst (λ (s : List ℕ). is_number s ≡ true) (sym same) t; value = ap (digits_value 10) same }
 
 minus_printable : (v : ℕ) → IsWritten v → IsPrintableInt (neg_ℤ (pos v))
 minus_printable zero w = (w, omega arith)

@@ -13,8 +13,7 @@ use Rattle.sj_grammar.specs.Lexis.{token, cut, next_of, number_of, text_of, has_
 use Rattle.sj_grammar.specs.Literals.{is_number, quoted}
 use Rattle.sj_grammar.proofs.Lexing.{NoWordByte}
 use Rattle.sj_expr.proofs.TestLemmas.{and_first, and_second}
-use Rattle.sj_expr.proofs.NumberLemmas.{number_most}
-use Rattle.sj_party.proofs.NumberText.{digits_are, no_zero_before, some_digit}
+use Rattle.sj_expr.proofs.NumberLemmas.{digits_are, no_zero_before, some_digit, number_most}
 
 -- bytes that pass, up to one that doesn't
 run_to : (p : ℕ → Bool) (ds rest : List ℕ) → list_all p ds ≡ true → prefix_len p rest ≡ 0 → prefix_len p (ds ++ rest) ≡ length ds

@@ -11,7 +11,8 @@ use Rattle.sj_grammar.specs.Protocols.{body_pieces}
 use Rattle.sj_grammar.specs.Layers.{goes, step, run, may_end}
 use Rattle.sj_grammar.specs.ProtocolDues.{ProtocolDue, body, more, protocol_layer}
 use Rattle.sj_grammar.proofs.Steps.{run_split, onward_goes, step_due, one_due, due_behind}
-use Rattle.sj_grammar.proofs.Completion.{AllHeld, due_back, run_back, ends_back}
+use Rattle.sj_grammar.proofs.Spellings.{AllHeld}
+use Rattle.sj_grammar.proofs.Completion.{due_back, run_back, ends_back}
 use Rattle.sj_proto.specs.Writable.{IsWritable, IsViable, IsWhole}
 use Rattle.sj_proto.proofs.Spelled.{Spelled, AllSpelled}
 use Rattle.sj_proto.proofs.Completed.{HasNumber, spelled_back, none_spelled, some_alls}
@@ -22,7 +23,7 @@ abbrev spelling_of : Pieces → ℕ → List ℕ
 spelling_of ps n = get_or ps n []
 
 abbrev pub Held : (ℕ → List ℕ) → Pieces → Type 0
-Held word ps = AllHeld protocol_layer (Spelled word) (HasNumber word) (spelled_back word) (none_spelled word) ps
+Held word ps = AllHeld (HasNumber word) ps
 
 held_in : (pre ps post : Pieces) → Held (spelling_of (pre ++ (ps ++ post))) ps
 held_in pre [] post = tt
@@ -31,7 +32,7 @@ held_in pre (s ∷ ps) post = (
   subst (λ (qs : Pieces). Held (spelling_of qs) ps) (append_assoc pre (s ∷ []) (ps ++ post)) (held_in (pre ++ s ∷ []) ps post),
 )
 
-x_is_a_name : IsTrue (is_name (codes "x"))
+pub x_is_a_name : IsTrue (is_name (codes "x"))
 unfolding is_reserved
 x_is_a_name = refl
 
