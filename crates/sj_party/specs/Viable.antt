@@ -17,3 +17,8 @@ pub record IsWhole (pieces : Pieces) : Type 0 where
 pub record IsViable (pieces : Pieces) : Type 0 where
   pub later : Pieces
   pub all : IsWhole (pieces ++ later)
+
+-- some file within these limits begins with these pieces
+pub record IsViableWithin (L : Limits) (pieces : Pieces) : Type 0 where
+  pub viable : IsViable pieces
+  pub within : viable.all.within ≡ L

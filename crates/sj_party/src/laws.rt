@@ -5,6 +5,7 @@
 //! `files_are_what_is_due`: the tokens of a file are what is due, and behind them nothing need be.
 //! `no_file_has_a_fault`, `one_file_a_text`: a text that stands for a file has no fault and is that file alone.
 //! `no_file_goes_on_there`: at a token that breaks a rule no file goes on, but for limits.
+//! `a_file_goes_on_up_to_there`: up to what is due a file can go on so, and at a passed limit with the token too.
 ghost use Rattle.std.specs.Prelude.{◌≡◌, ◌≢◌, ℕ, List, [], ◌∷◌, ◌++◌, Some, None, true, false};
 ghost use Rattle.sj_lang.specs.Code.{Code, Step, Branches};
 ghost use Rattle.sj_lang.specs.FileAt.{FileAt};
@@ -21,7 +22,7 @@ ghost use Rattle.sj_grammar.specs.Files.{IsSpelled, IsFile};
 ghost use Rattle.sj_grammar.specs.FileDues.{Due, stmts, block, branches, file_layer, file_due};
 ghost use Rattle.sj_party.specs.Alike.{AreAlike, EndsCode, EndsArms};
 ghost use Rattle.sj_party.specs.Leads.{Leads, LeadsTo, Completes};
-ghost use Rattle.sj_party.specs.Viable.{IsViable, IsWhole};
+ghost use Rattle.sj_party.specs.Viable.{IsViable, IsViableWithin, IsWhole};
 
 pub fn statements_are_what_is_due()
     ensures one { (L : Limits) (names : Spelling) (o n : ℕ) (s : Step) (a : List Piece) (ds : List Due)
@@ -86,4 +87,16 @@ pub fn no_file_goes_on_there()
         → IsViable (ps ++ s ∷ []) → ⊥ }
     ensures whole { (L : Limits) (ps : Pieces) (m : ℕ) (due : List Due) → Leads L 0 file_due ps m due
         → may_end file_layer due ≡ false → IsWhole ps → ⊥ }
+{}
+
+pub fn a_file_goes_on_up_to_there()
+    ensures front { (L : Limits) (ps : Pieces) (m : ℕ) (due : List Due) → Leads L 0 file_due ps m due
+        → IsViable ps }
+    ensures over { (L : Limits) (ps : Pieces) (m : ℕ) (due : List Due) → Leads L 0 file_due ps m due
+        → (s : List ℕ) → rule_of (step file_layer L m due s) ≡ Some P4 → IsViable (ps ++ s ∷ []) }
+    ensures within { (L : Limits) (ps : Pieces) (m : ℕ) (due : List Due)
+        → Leads L 0 file_due ps m due → (s : List ℕ) (rule : Rule)
+        → rule_of (step file_layer L m due s) ≡ Some rule → IsViableWithin L (ps ++ s ∷ []) → ⊥ }
+    ensures whole { (L : Limits) (ps : Pieces) (m : ℕ) (due : List Due) → Leads L 0 file_due ps m due
+        → may_end file_layer due ≡ true → IsWhole ps }
 {}
