@@ -4,27 +4,10 @@
 # peak of resident memory. `RUNS=20 bench/check/bench.sh` makes fewer runs than 200, and a row of slow
 # runs ends after half a minute.
 set -euo pipefail
-runs=${RUNS:-200}
-top=$(cd "$(dirname "$0")/../.." && pwd)
-folder=$(mktemp -d)
-trap 'rm -rf "$folder"' EXIT
-
-# The microseconds of one run of that command on that file.
-run_on() {
-    local before=$EPOCHREALTIME
-    "$program" "$1" < "$2" > /dev/null
-    local after=$EPOCHREALTIME
-    echo $((${after/[.,]/} - ${before/[.,]/}))
-}
-
-# The best and the median of the numbers in the file.
-summary() {
-    sort -n "$1" | awk '{ t[NR] = $1 } END { print t[1], t[int((NR + 1) / 2)] }'
-}
+. "$(dirname "$0")/../frame.sh"
 
 "$top/sj" make 1 > /dev/null
 program=$top/crates/sj/out/sj
-: > "$folder/empty"
 printf '| File | Answer | Check, best ms | Check, median ms | Show, best ms | Show, median ms | Peak KiB |\n|---|---|---|---|---|---|---|\n'
 for kind in lets ifs sessions handed loops held; do
     file=$folder/$kind
@@ -33,9 +16,9 @@ for kind in lets ifs sessions handed loops held; do
     begun=$SECONDS
     # in turn, so that all meet the same load of the machine
     for ((i = 0; i < runs && SECONDS - begun < 30; i++)); do
-        run_on check "$folder/empty" >> "$folder/empty.times"
-        run_on check "$file" >> "$folder/check.times"
-        run_on show "$file" >> "$folder/show.times"
+        run_on "$folder/empty" check >> "$folder/empty.times"
+        run_on "$file" check >> "$folder/check.times"
+        run_on "$file" show >> "$folder/show.times"
     done
     answer=$(/usr/bin/time -f %M -o "$folder/peak" "$program" check < "$file")
     for times in empty check show; do summary "$folder/$times.times"; done | paste -s -d ' ' |

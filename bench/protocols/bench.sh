@@ -3,10 +3,7 @@
 # four kinds, and prints the best and the median time of many runs on each, beyond those on an empty
 # text. `RUNS=20 bench/protocols/bench.sh` makes fewer runs than 200.
 set -euo pipefail
-runs=${RUNS:-200}
-top=$(cd "$(dirname "$0")/../.." && pwd)
-folder=$(mktemp -d)
-trap 'rm -rf "$folder"' EXIT
+. "$(dirname "$0")/../frame.sh"
 
 # Up to 256 protocols of about 250 bytes, each with 48 labels that stand nowhere else.
 words() {
@@ -88,37 +85,14 @@ comments() {
     }'
 }
 
-# The microseconds of one run on that text.
-run_on() {
-    local before=$EPOCHREALTIME
-    "$program" < "$1" > /dev/null
-    local after=$EPOCHREALTIME
-    echo $((${after/[.,]/} - ${before/[.,]/}))
-}
-
-# The best and the median of the runs, of those times in the file.
-summary() {
-    sort -n "$1" | awk '{ t[NR] = $1 } END { print t[1], t[int((NR + 1) / 2)] }'
-}
-
 (cd "$top/crates/bench_protocols" && rt run < /dev/null > /dev/null)
 program=$top/crates/bench_protocols/out/bench_protocols
-: > "$folder/empty"
 printf '| Text | Bytes | Protocols | Best ms | Median ms |\n|---|---|---|---|---|\n'
 for kind in words dense items comments; do
     for size in 16384 32768 65536; do
         file=$folder/$kind.$size
         "$kind" "$size" > "$file"
-        : > "$folder/times"
-        : > "$folder/start_times"
-        # in turn, so that both meet the same load of the machine
-        for ((i = 0; i < runs; i++)); do
-            run_on "$folder/empty" >> "$folder/start_times"
-            run_on "$file" >> "$folder/times"
-        done
-        read -r best median <<< "$(summary "$folder/times")"
-        read -r start_best start_median <<< "$(summary "$folder/start_times")"
-        awk -v k="$kind" -v s="$(wc -c < "$file")" -v n="$("$program" < "$file")" -v b="$((best - start_best))" -v m="$((median - start_median))" \
-            'BEGIN { printf "| %s | %d | %d | %.2f | %.2f |\n", k, s, n, b / 1000, m / 1000 }'
+        read -r best median <<< "$(times_on "$file")"
+        printf '| %s | %d | %d | %s | %s |\n' "$kind" "$(wc -c < "$file")" "$("$program" < "$file")" "$best" "$median"
     done
 done

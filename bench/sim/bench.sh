@@ -4,23 +4,7 @@
 # on an empty file, and how far the peak of resident memory rises a message. `RUNS=20
 # bench/sim/bench.sh` makes fewer runs than 200.
 set -euo pipefail
-runs=${RUNS:-200}
-top=$(cd "$(dirname "$0")/../.." && pwd)
-folder=$(mktemp -d)
-trap 'rm -rf "$folder"' EXIT
-
-# The microseconds of one run on that file.
-run_on() {
-    local before=$EPOCHREALTIME
-    "$program" sim < "$1" > /dev/null
-    local after=$EPOCHREALTIME
-    echo $((${after/[.,]/} - ${before/[.,]/}))
-}
-
-# The best and the median of the numbers in the file.
-summary() {
-    sort -n "$1" | awk '{ t[NR] = $1 } END { print t[1], t[int((NR + 1) / 2)] }'
-}
+. "$(dirname "$0")/../frame.sh"
 
 # The median peak of resident memory of 21 runs on that file, in bytes.
 peak_on() {
@@ -34,27 +18,17 @@ peak_on() {
 
 "$top/sj" make 1 > /dev/null
 program=$top/crates/sj/out/sj
-: > "$folder/empty"
 printf '| N | Messages | Steps | Best ms | Median ms | Bytes of transcript | Peak KiB |\n|---|---|---|---|---|---|---|\n'
 for n in 100 200 400 700 1000; do
     file=$folder/$n
     "$program" make "$n" > "$file"
     "$program" sim < "$file" > "$folder/transcript"
-    : > "$folder/times"
-    : > "$folder/start_times"
-    # in turn, so that both meet the same load of the machine
-    for ((i = 0; i < runs; i++)); do
-        run_on "$folder/empty" >> "$folder/start_times"
-        run_on "$file" >> "$folder/times"
-    done
-    read -r best median <<< "$(summary "$folder/times")"
-    read -r start_best start_median <<< "$(summary "$folder/start_times")"
+    read -r best median <<< "$(times_on "$file" sim)"
     messages=$(grep -c '^[0-9]' "$folder/transcript")
     steps=$(awk '$1 == "party" { sum += $4 } END { print sum }' "$folder/transcript")
     bytes=$(wc -c < "$folder/transcript")
     peak=$(peak_on "$file")
-    awk -v n="$n" -v g="$messages" -v s="$steps" -v b="$((best - start_best))" -v m="$((median - start_median))" -v w="$bytes" -v p="$peak" \
-        'BEGIN { printf "| %d | %d | %d | %.2f | %.2f | %d | %d |\n", n, g, s, b / 1000, m / 1000, w, p / 1024 }'
+    printf '| %d | %d | %d | %s | %s | %d | %d |\n' "$n" "$messages" "$steps" "$best" "$median" "$bytes" "$((peak / 1024))"
     echo "$messages $bytes $peak" >> "$folder/growth"
 done
 awk 'NR == 1 { g = $1; w = $2; p = $3 } END {
