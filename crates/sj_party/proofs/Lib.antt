@@ -34,7 +34,6 @@ pub mod Printable
 pub mod PrintedCode
 pub mod PrintedExpressions
 pub mod PrintedFile
-pub mod PrintingLemmas
 pub mod Reaching
 pub mod Relined
 pub mod Respelt

@@ -3,6 +3,8 @@ use Rattle.std.proofs.Common.{◌≡◌, ℕ, ◌+◌, ◌-◌, ◌<◌, ◌≤�
 use Rattle.std.specs.Prelude.{codes, map, Vec}
 use Rattle.std.proofs.lemmas.List.{take-append-drop, take-replicate, drop-replicate, drop_all}
 use Rattle.std.specs.declared.alloc.Global.{Global}
+use Rattle.sj_text.specs.Cut.{IsCutShort}
+use Rattle.sj_text.proofs.Cuts.{StillTo, none_yet, one_more, ahead_is, open_by}
 use Rattle.sj_lang.specs.declared.party.Expr.{Expr}
 use Rattle.sj_lang.specs.declared.party.Deed.{Deed}
 use Rattle.sj_lang.specs.declared.party.Deed.TheVariants as deeds
@@ -12,10 +14,7 @@ use Rattle.sj_lang.specs.Term.{term_of}
 use Rattle.sj_lang.specs.Code.{Code, code_of, deed_of, arm_of, branches_of}
 use Rattle.sj_lang.proofs.Folds.{stmt_of-fields, arm_of-fields, deed_of-If}
 use Rattle.sj_grammar.specs.Tables.{Spelling}
-use Rattle.sj_proto.specs.Printed.{IsCutShort}
-use Rattle.sj_proto.proofs.Printed.{StillTo, none_yet, one_more, ahead_is}
 use Rattle.sj_party.specs.CanonicalCode.{spaces, newline, in_block, valued_text, code_text, step_text, act_text, arms_text, arm_text, block_text}
-use Rattle.sj_party.proofs.PrintingLemmas.{open_by}
 
 pub spaces_cut : (old new : List ℕ) (k n : ℕ) → k ≤ n → new ≡ old ++ spaces k → IsCutShort old (spaces n) new
 spaces_cut old new k n h e = record {

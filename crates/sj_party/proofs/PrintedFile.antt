@@ -1,6 +1,8 @@
 -- The canonical text of a file, in the order in which it is put.
 use Rattle.std.proofs.Common.{◌≡◌, ℕ, ◌+◌, ◌<◌, List, ◌++◌, length, drop, get_or, refl, ap}
 use Rattle.std.specs.Prelude.{codes, map}
+use Rattle.std.proofs.lemmas.List.{at_drop_more}
+use Rattle.sj_text.proofs.Cuts.{open_by}
 use Rattle.sj_lang.specs.declared.file.ProtocolDef.{ProtocolDef}
 use Rattle.sj_lang.specs.declared.file.Party.{Party}
 use Rattle.sj_lang.specs.declared.file.Connect.{Connect}
@@ -10,7 +12,6 @@ use Rattle.sj_grammar.specs.Tables.{Spelling}
 use Rattle.sj_grammar.specs.Canonical.{body_text}
 use Rattle.sj_party.specs.CanonicalCode.{named_text}
 use Rattle.sj_party.specs.CanonicalFile.{protocol_line, party_text, connect_text, protocols_text, parties_text, connects_text}
-use Rattle.sj_party.proofs.PrintingLemmas.{open_by, open_at}
 
 module _ (names : Spelling) where
   pub line_parts : (lead : List ℕ) (n : ℕ) (body : Place) → protocol_line lead names.word n body ≡ lead ++ (named_text names (codes " ") n ++ (codes " { " ++ (body_text names.word body ++ codes " }\n")))
@@ -27,4 +28,4 @@ module _ (names : Spelling) where
 
   pub connects_step : (i : ℕ) (cs : List Connect) (d : Connect) → i < length cs
       → connects_text names (map connect_of (drop i cs)) ≡ connect_text names (connect_of (get_or cs i d)) ++ connects_text names (map connect_of (drop (i + 1) cs))
-  connects_step i cs d h = ap (λ xs. connects_text names (map connect_of xs)) (open_at i cs d h)
+  connects_step i cs d h = at_drop_more (λ xs. connects_text names (map connect_of xs)) cs i d h

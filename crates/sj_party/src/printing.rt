@@ -1,17 +1,18 @@
 //! Files as text.
-#![tactic(auto, using(crate::proofs::PrintingLemmas::printing))]
+#![tactic(auto, using(sj_text::proofs::Cuts::cuts))]
 
 ghost use Rattle.std.specs.Prelude.{◌≡◌, ◌++◌, map, OnOk, OnErr};
+ghost use Rattle.sj_text.specs.Cut.{IsCutShort};
 ghost use Rattle.sj_lang.specs.FileView.{protocol_of, party_of, decl_of, connect_of, file_of};
 ghost use Rattle.sj_grammar.specs.Tables.{entry_of};
-ghost use Rattle.sj_proto.specs.Printed.{IsCutShort};
 ghost use Rattle.sj_party.specs.CanonicalExpression.{spelling_of};
 ghost use Rattle.sj_party.specs.CanonicalFile.{protocol_line, end_text, party_text, connect_text, protocols_text, parties_text, connects_text, file_text};
 
 use crate::printing_statements::{put_block, put_named, put_pair};
 use sj_base::NoMemory;
 use sj_lang::{Connect, EndDecl, File, Names, Party, Proto, ProtocolDef};
-use sj_proto::{print_protocol, put};
+use sj_proto::print_protocol;
+use sj_text::put;
 
 /// Appends the canonical text of a file. Where the grammar can give the file, the text stands for
 /// it but for its lines. A number that names nothing is left out.
@@ -111,7 +112,7 @@ fn put_connect(text: &mut Vec<u8>, names: &Names, connect: &Connect) -> Result<(
 }
 
 // Appends the names of an end, each behind a space.
-#[tactic(auto, using(crate::proofs::PrintingLemmas::printing), unfolding(crate::specs::CanonicalFile::end_text))]
+#[tactic(auto, using(sj_text::proofs::Cuts::cuts), unfolding(crate::specs::CanonicalFile::end_text))]
 fn put_end(text: &mut Vec<u8>, names: &Names, end: &EndDecl) -> Result<(), NoMemory>
     ensures ok { OnOk result (text.new.items
         ≡ text.old.items ++ end_text (spelling_of names.now) (decl_of end.now)) }

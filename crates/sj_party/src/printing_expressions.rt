@@ -1,18 +1,18 @@
 //! Expressions as text.
-#![tactic(auto, using(crate::proofs::PrintingLemmas::printing))]
+#![tactic(auto, using(sj_text::proofs::Cuts::cuts))]
 
 ghost use Rattle.std.specs.Prelude.{◌≡◌, ◌++◌, [], if◌then◌else◌, OnOk, OnErr};
+ghost use Rattle.sj_text.specs.Cut.{IsCutShort};
 ghost use Rattle.sj_lang.specs.Term.{term_of};
 ghost use Rattle.sj_grammar.specs.Literals.{quoted};
 ghost use Rattle.sj_grammar.specs.Tables.{entry_of};
-ghost use Rattle.sj_proto.specs.Printed.{IsCutShort};
 ghost use Rattle.sj_party.specs.CanonicalExpression.{spelling_of, left_of, right_of, needs_parens, spaced, boolean_text, expression_text};
 ghost use Rattle.sj_party.specs.Levels.{level_of};
 
-use itoa::Buffer;
 use sj_base::NoMemory;
 use sj_lang::{Expr, Names, Op};
-use sj_proto::{put, put_word};
+use sj_proto::put_word;
+use sj_text::{put, put_int};
 
 /// What of an expression may stand in a place without parentheses.
 #[derive(Clone, Copy, Debug, PartialEq, Eq)]
@@ -139,7 +139,7 @@ pub fn put_expression(
         text.new.items) }
 {
     match e {
-        Expr::Int(n) => put(text, Buffer::new().format(*n).as_bytes()),
+        Expr::Int(n) => put_int(text, *n),
         Expr::Bool(true) => put(text, b"true"),
         Expr::Bool(false) => put(text, b"false"),
         Expr::Text(n) => put_quoted(text, names, *n),

@@ -1,18 +1,19 @@
 //! Statements as text.
-#![tactic(auto, using(crate::proofs::PrintingLemmas::printing))]
+#![tactic(auto, using(sj_text::proofs::Cuts::cuts))]
 
 ghost use Rattle.std.specs.Prelude.{◌≡◌, ◌+◌, ◌++◌, map, codes, IfOk, OnOk, OnErr};
+ghost use Rattle.sj_text.specs.Cut.{IsCutShort};
 ghost use Rattle.sj_lang.specs.Term.{term_of};
 ghost use Rattle.sj_lang.specs.Code.{arm_of, branches_of, code_of, deed_of};
 ghost use Rattle.sj_grammar.specs.Statements.{scalar_piece};
-ghost use Rattle.sj_proto.specs.Printed.{IsCutShort};
 ghost use Rattle.sj_party.specs.CanonicalExpression.{spelling_of};
 ghost use Rattle.sj_party.specs.CanonicalCode.{spaces, newline, in_block, named_text, pair_text, valued_text, given_text, act_text, arms_text, block_text};
 
 use crate::printing_expressions::{Wanted, put_expression};
 use sj_base::NoMemory;
 use sj_lang::{Deed, Expr, Names, Scalar, Stmt, StmtArm};
-use sj_proto::{put, put_word};
+use sj_proto::put_word;
+use sj_text::put;
 
 // Appends so many spaces.
 fn put_spaces(text: &mut Vec<u8>, n: usize) -> Result<(), NoMemory>
@@ -26,7 +27,7 @@ fn put_spaces(text: &mut Vec<u8>, n: usize) -> Result<(), NoMemory>
 }
 
 /// Appends a name behind what stands before it.
-#[tactic(auto, using(crate::proofs::PrintingLemmas::printing), unfolding(crate::specs::CanonicalCode::named_text))]
+#[tactic(auto, using(sj_text::proofs::Cuts::cuts), unfolding(crate::specs::CanonicalCode::named_text))]
 pub fn put_named(text: &mut Vec<u8>, names: &Names, lead: &[u8], n: u16) -> Result<(), NoMemory>
     ensures ok { OnOk result (text.new.items
         ≡ text.old.items ++ named_text (spelling_of names.now) lead.now n) }
@@ -38,7 +39,7 @@ pub fn put_named(text: &mut Vec<u8>, names: &Names, lead: &[u8], n: u16) -> Resu
 }
 
 /// Appends two names.
-#[tactic(auto, using(crate::proofs::PrintingLemmas::printing), unfolding(crate::specs::CanonicalCode::pair_text))]
+#[tactic(auto, using(sj_text::proofs::Cuts::cuts), unfolding(crate::specs::CanonicalCode::pair_text))]
 pub fn put_pair(
     text: &mut Vec<u8>,
     names: &Names,
@@ -56,7 +57,7 @@ pub fn put_pair(
 }
 
 // Appends an expression behind what stands before it.
-#[tactic(auto, using(crate::proofs::PrintingLemmas::printing), unfolding(crate::specs::CanonicalCode::valued_text))]
+#[tactic(auto, using(sj_text::proofs::Cuts::cuts), unfolding(crate::specs::CanonicalCode::valued_text))]
 fn put_valued(text: &mut Vec<u8>, names: &Names, lead: &[u8], e: &Expr) -> Result<(), NoMemory>
     ensures ok { OnOk result (text.new.items
         ≡ text.old.items ++ valued_text (spelling_of names.now) lead.now (term_of e.now)) }
@@ -68,7 +69,7 @@ fn put_valued(text: &mut Vec<u8>, names: &Names, lead: &[u8], e: &Expr) -> Resul
 }
 
 // Appends a name, and behind a mark an expression.
-#[tactic(auto, using(crate::proofs::PrintingLemmas::printing), unfolding(crate::specs::CanonicalCode::given_text))]
+#[tactic(auto, using(sj_text::proofs::Cuts::cuts), unfolding(crate::specs::CanonicalCode::given_text))]
 fn put_given(
     text: &mut Vec<u8>,
     names: &Names,

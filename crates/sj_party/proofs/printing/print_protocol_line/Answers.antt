@@ -1,10 +1,10 @@
 use Rattle.std.proofs.Common.{◌≡◌, ◌++◌, OnOk, OnErr, sym, subst}
 use Rattle.std.specs.Prelude.{codes}
+use Rattle.sj_text.specs.Cut.{IsCutShort}
+use Rattle.sj_text.proofs.Cuts.{cut_at_once, cut_in_first, cut_behind, on_err, ok_behind, err_behind, err_at_once}
 use Rattle.sj_grammar.specs.Canonical.{body_text}
-use Rattle.sj_proto.specs.Printed.{IsCutShort}
 use Rattle.sj_party.specs.CanonicalExpression.{spelling_of}
 use Rattle.sj_party.specs.CanonicalCode.{named_text}
-use Rattle.sj_party.proofs.PrintingLemmas.{cut_none, cut_first, cut_behind, on_err, ok_behind, err_behind, err_none}
 use Rattle.sj_party.proofs.PrintedFile.{line_parts}
 use Rattle.sj_party.proofs.printing.print_protocol_line.Goals as goal
 
@@ -17,7 +17,7 @@ returns-in_err-put_named-clause-err c =
     let rest = codes " { " ++ (body_text names.word c.args.body.now ++ codes " }\n") in
     on_err c.from_residual-in_err-put_named.result _
     (subst (λ (w : _). IsCutShort old w new) (sym (line_parts names c.args.lead.now c.args.name c.args.body.now))
-    (cut_behind old c.args.lead.now (named ++ rest) c.put.new.text.items new c.in_ok-put.ensures.ok (cut_first c.put.new.text.items named rest new c.in_err-put_named.ensures.err)))
+    (cut_behind old c.args.lead.now (named ++ rest) c.put.new.text.items new c.in_ok-put.ensures.ok (cut_in_first c.put.new.text.items named rest new c.in_err-put_named.ensures.err)))
 
 pub returns-in_err-put-2-clause-err : goal.returns-in_err-put-2-clause-err
 returns-in_err-put-2-clause-err c =
@@ -29,7 +29,7 @@ returns-in_err-put-2-clause-err c =
     on_err c.from_residual-in_err-put-2.result _
     (subst (λ (w : _). IsCutShort old w new) (sym (line_parts names c.args.lead.now c.args.name c.args.body.now))
     (cut_behind old c.args.lead.now (named ++ rest) c.put.new.text.items new c.in_ok-put.ensures.ok
-    (cut_behind c.put.new.text.items named rest c.put_named.new.text.items new c.in_ok-put_named.ensures.ok (cut_none c.put_named.new.text.items rest new c.in_err-put-2.ensures.err))))
+    (cut_behind c.put.new.text.items named rest c.put_named.new.text.items new c.in_ok-put_named.ensures.ok (cut_at_once c.put_named.new.text.items rest new c.in_err-put-2.ensures.err))))
 
 pub returns-in_err-print_protocol-clause-err : goal.returns-in_err-print_protocol-clause-err
 returns-in_err-print_protocol-clause-err c =
@@ -43,7 +43,7 @@ returns-in_err-print_protocol-clause-err c =
     (cut_behind old c.args.lead.now (named ++ (codes " { " ++ (body ++ codes " }\n"))) c.put.new.text.items new c.in_ok-put.ensures.ok
     (cut_behind c.put.new.text.items named (codes " { " ++ (body ++ codes " }\n")) c.put_named.new.text.items new c.in_ok-put_named.ensures.ok
     (cut_behind c.put_named.new.text.items (codes " { ") (body ++ codes " }\n") c.put-2.new.text.items new c.in_ok-put-2.ensures.ok
-    (cut_first c.put-2.new.text.items body (codes " }\n") new c.in_err-print_protocol.ensures.err)))))
+    (cut_in_first c.put-2.new.text.items body (codes " }\n") new c.in_err-print_protocol.ensures.err)))))
 
 pub returns-clause-ok : goal.returns-clause-ok
 returns-clause-ok c =
@@ -71,4 +71,4 @@ returns-clause-err c =
     (err_behind old c.args.lead.now (named ++ (codes " { " ++ (body ++ codes " }\n"))) c.put.new.text.items new r c.in_ok-put.ensures.ok
     (err_behind c.put.new.text.items named (codes " { " ++ (body ++ codes " }\n")) c.put_named.new.text.items new r c.in_ok-put_named.ensures.ok
     (err_behind c.put_named.new.text.items (codes " { ") (body ++ codes " }\n") c.put-2.new.text.items new r c.in_ok-put-2.ensures.ok
-    (err_behind c.put-2.new.text.items body (codes " }\n") c.print_protocol.new.text.items new r c.in_ok-print_protocol.ensures.ok (err_none c.print_protocol.new.text.items (codes " }\n") new r c.put-3.ensures.err)))))
+    (err_behind c.put-2.new.text.items body (codes " }\n") c.print_protocol.new.text.items new r c.in_ok-print_protocol.ensures.ok (err_at_once c.print_protocol.new.text.items (codes " }\n") new r c.put-3.ensures.err)))))

@@ -1,11 +1,10 @@
 use Rattle.std.proofs.Common.{◌+◌, drop, get_or}
 use Rattle.std.specs.Prelude.{map}
+use Rattle.sj_text.proofs.Cuts.{ahead_is, cut_within, on_err}
 use Rattle.sj_lang.specs.declared.file.Connect.{Connect}
 use Rattle.sj_lang.specs.FileView.{connect_of}
-use Rattle.sj_proto.proofs.Printed.{ahead_is, cut_within}
 use Rattle.sj_party.specs.CanonicalExpression.{spelling_of}
 use Rattle.sj_party.specs.CanonicalFile.{connect_text, connects_text}
-use Rattle.sj_party.proofs.PrintingLemmas.{on_err}
 use Rattle.sj_party.proofs.PrintedFile.{connects_step}
 use Rattle.sj_party.proofs.printing.put_connects.Goals as goal
 

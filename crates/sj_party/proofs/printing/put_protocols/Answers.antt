@@ -1,10 +1,9 @@
 use Rattle.std.proofs.Common.{◌+◌, drop}
 use Rattle.std.specs.Prelude.{codes, map}
+use Rattle.sj_text.proofs.Cuts.{ahead_is, cut_within, on_err}
 use Rattle.sj_lang.specs.FileView.{protocol_of}
-use Rattle.sj_proto.proofs.Printed.{ahead_is, cut_within}
 use Rattle.sj_party.specs.CanonicalExpression.{spelling_of}
 use Rattle.sj_party.specs.CanonicalFile.{protocol_line, protocols_text}
-use Rattle.sj_party.proofs.PrintingLemmas.{on_err}
 use Rattle.sj_party.proofs.PrintedFile.{protocols_step}
 use Rattle.sj_party.proofs.printing.put_protocols.Goals as goal
 

@@ -1,11 +1,11 @@
 use Rattle.std.proofs.Common.{◌≡◌, ◌++◌, OnOk, OnErr, sym, subst}
 use Rattle.std.specs.Prelude.{codes}
+use Rattle.sj_text.specs.Cut.{IsCutShort}
+use Rattle.sj_text.proofs.Cuts.{cut_in_first, cut_behind, on_err, ok_behind, err_behind, err_at_once}
 use Rattle.sj_lang.specs.Term.{term_of}
 use Rattle.sj_grammar.specs.Expressions.{factor}
-use Rattle.sj_proto.specs.Printed.{IsCutShort}
 use Rattle.sj_party.specs.CanonicalExpression.{spelling_of, expression_text}
 use Rattle.sj_party.specs.Levels.{level_of}
-use Rattle.sj_party.proofs.PrintingLemmas.{cut_first, cut_behind, on_err, ok_behind, err_behind, err_none}
 use Rattle.sj_party.proofs.PrintedExpressions.{not_text, two_text, mark_if}
 use Rattle.sj_party.proofs.printing_expressions.+put_expression.Goals as goal
 
@@ -52,7 +52,7 @@ returns-in_err-put_expression-in-Two-2-clause-err t c =
     (cut_behind old (mark_if b (codes "(")) (x ++ (c.sign.result.now ++ (y ++ close))) first new c.in_ok-put_if-in-Two.ensures.ok
     (cut_behind first x (c.sign.result.now ++ (y ++ close)) second new c.in_ok-put_expression-in-Two.ensures.ok
     (cut_behind second c.sign.result.now (y ++ close) third new c.in_ok-put-in-Two.ensures.ok
-    (cut_first third y close new c.in_err-put_expression-in-Two-2.ensures.err)))))
+    (cut_in_first third y close new c.in_err-put_expression-in-Two-2.ensures.err)))))
 
 pub returns-in_ok-put_expression-in-Two-2-clause-ok : goal.returns-in_ok-put_expression-in-Two-2-clause-ok
 returns-in_ok-put_expression-in-Two-2-clause-ok t c =
@@ -102,4 +102,4 @@ returns-in_ok-put_expression-in-Two-2-clause-err t c =
     (err_behind old (mark_if b (codes "(")) (x ++ (c.sign.result.now ++ (y ++ close))) first new r c.in_ok-put_if-in-Two.ensures.ok
     (err_behind first x (c.sign.result.now ++ (y ++ close)) second new r c.in_ok-put_expression-in-Two.ensures.ok
     (err_behind second c.sign.result.now (y ++ close) third new r c.in_ok-put-in-Two.ensures.ok
-    (err_behind third y close fourth new r c.in_ok-put_expression-in-Two-2.ensures.ok (err_none fourth close new r c.put_if-in-Two.ensures.err)))))
+    (err_behind third y close fourth new r c.in_ok-put_expression-in-Two-2.ensures.ok (err_at_once fourth close new r c.put_if-in-Two.ensures.err)))))

@@ -1,13 +1,12 @@
 use Rattle.std.proofs.Common.{◌≡◌, ◌+◌, ◌++◌, OnErr, ap, sym, subst}
 use Rattle.std.specs.Prelude.{codes, map}
+use Rattle.sj_text.specs.Cut.{IsCutShort}
+use Rattle.sj_text.proofs.Cuts.{one_more, ahead_is, cut_here, cut_within, finish_cut, on_err, err_behind}
 use Rattle.sj_lang.specs.declared.party.StmtArm.{out-StmtArm}
 use Rattle.sj_lang.specs.Term.{term_of}
 use Rattle.sj_lang.specs.Code.{arm_of, branches_of, code_of, deed_of}
-use Rattle.sj_proto.specs.Printed.{IsCutShort}
-use Rattle.sj_proto.proofs.Printed.{one_more, ahead_is, cut_here, cut_within, last_cut}
 use Rattle.sj_party.specs.CanonicalExpression.{spelling_of}
 use Rattle.sj_party.specs.CanonicalCode.{spaces, newline, in_block, valued_text, act_text, arms_text, block_text}
-use Rattle.sj_party.proofs.PrintingLemmas.{on_err, err_behind}
 use Rattle.sj_party.proofs.PrintedCode.{closing, code_ahead, arms_ahead, code_done, arms_done, stmt_step, arm_step, block_opened, arms_opened, if_text}
 use Rattle.sj_party.proofs.printing_statements.+statements.Goals as goal
 
@@ -86,7 +85,7 @@ put_block-returns-clause-err t c =
     let n = c.args.n in
     let old = c.args.text.now.items in
     let whole = c.args.lead.now ++ block_text names n (code_of c.args.body.now) in
-    last_cut old whole (closing n) c.loop-stmt.text.items c.put_closing.new.text.items c.put_closing.result
+    finish_cut old whole (closing n) c.loop-stmt.text.items c.put_closing.new.text.items c.put_closing.result
     (ahead_is old whole (code_ahead names n c.in_ok-inner.inner c.loop-stmt.stmt-index c.args.body.now) (closing n) c.loop-stmt.text.items (code_done names n c.in_ok-inner.inner c.loop-stmt.stmt-index c.args.body.now c.loop-stmt-test.false) c.loop-stmt.invariant)
     c.put_closing.ensures.err
 
@@ -96,7 +95,7 @@ put_arms-returns-clause-err t c =
     let n = c.args.n in
     let old = c.args.text.now.items in
     let whole = in_block n (arms_text names (n + 2) (branches_of (map arm_of c.args.arms.now))) in
-    last_cut old whole (closing n) c.loop-arm.text.items c.put_closing.new.text.items c.put_closing.result
+    finish_cut old whole (closing n) c.loop-arm.text.items c.put_closing.new.text.items c.put_closing.result
     (ahead_is old whole (arms_ahead names n c.in_ok-inner.inner c.loop-arm.arm-index c.args.arms.now) (closing n) c.loop-arm.text.items (arms_done names n c.in_ok-inner.inner c.loop-arm.arm-index c.args.arms.now c.loop-arm-test.false) c.loop-arm.invariant)
     c.put_closing.ensures.err
 
