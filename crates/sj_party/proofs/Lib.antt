@@ -47,3 +47,4 @@ pub mod Viability
 pub mod Widely
 pub mod WordKinds
 pub mod WordLemmas
+pub mod WrongLemmas

@@ -13,3 +13,4 @@ pub mod Unlined
 pub mod Viable
 pub mod Within
 pub mod Words
+pub mod Wrong

@@ -6,6 +6,7 @@
 //! `no_file_has_a_fault`, `one_file_a_text`: a text that stands for a file has no fault and is that file alone.
 //! `no_file_goes_on_there`: at a token that breaks a rule no file goes on, but for limits.
 //! `a_file_goes_on_up_to_there`: up to what is due a file can go on so, and at a passed limit with the token too.
+//! `first_faults_go_wrong`, `what_goes_wrong_is_the_first_fault`: the first fault in the grammar's own words, but for limits.
 ghost use Rattle.std.specs.Prelude.{◌≡◌, ◌≢◌, ℕ, List, [], ◌∷◌, ◌++◌, Some, None, true, false};
 ghost use Rattle.sj_lang.specs.Code.{Code, Step, Branches};
 ghost use Rattle.sj_lang.specs.FileAt.{FileAt};
@@ -23,6 +24,7 @@ ghost use Rattle.sj_grammar.specs.FileDues.{Due, stmts, block, branches, file_la
 ghost use Rattle.sj_party.specs.Alike.{AreAlike, EndsCode, EndsArms};
 ghost use Rattle.sj_party.specs.Leads.{Leads, LeadsTo, Completes};
 ghost use Rattle.sj_party.specs.Viable.{IsViable, IsViableWithin, IsWhole};
+ghost use Rattle.sj_party.specs.Wrong.{GoesWrong};
 
 pub fn statements_are_what_is_due()
     ensures one { (L : Limits) (names : Spelling) (o n : ℕ) (s : Step) (a : List Piece) (ds : List Due)
@@ -99,4 +101,17 @@ pub fn a_file_goes_on_up_to_there()
         → rule_of (step file_layer L m due s) ≡ Some rule → IsViableWithin L (ps ++ s ∷ []) → ⊥ }
     ensures whole { (L : Limits) (ps : Pieces) (m : ℕ) (due : List Due) → Leads L 0 file_due ps m due
         → may_end file_layer due ≡ true → IsWhole ps }
+{}
+
+/// Up to the first fault of a file's text a file can go on so. At P1, and at the P3 of 2^63, none goes
+/// on with the next token, or the text isn't whole; at P4 one does, and the limits don't take the token.
+pub fn first_faults_go_wrong()
+    ensures { (bytes : List ℕ) (f : Fault) → Stuck file_layer limits 0 (start bytes [] []) file_due f
+        → GoesWrong bytes f }
+{}
+
+/// Where a file's text goes wrong so is its first fault.
+pub fn what_goes_wrong_is_the_first_fault()
+    ensures { (bytes : List ℕ) (f : Fault) → GoesWrong bytes f
+        → Stuck file_layer limits 0 (start bytes [] []) file_due f }
 {}

@@ -22,9 +22,9 @@ mod tests;
 
 pub use files::parse_file;
 pub use laws::{
-    a_file_goes_on_up_to_there, files_are_what_is_due, no_file_goes_on_there, no_file_has_a_fault,
-    no_statement_has_a_fault, one_file_a_text, statements_are_read_in_one_way,
-    statements_are_what_is_due,
+    a_file_goes_on_up_to_there, files_are_what_is_due, first_faults_go_wrong,
+    no_file_goes_on_there, no_file_has_a_fault, no_statement_has_a_fault, one_file_a_text,
+    statements_are_read_in_one_way, statements_are_what_is_due, what_goes_wrong_is_the_first_fault,
 };
 pub use printing::{print_file, print_protocol_line};
 pub use printing_laws::{
