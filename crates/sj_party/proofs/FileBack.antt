@@ -51,6 +51,7 @@ module _ (names : Spelling) where
             ∙ ap (λ (ps : List Piece). spellings (first_on 0 (codes "protocol") ∷ plain (names.word n.0) ∷ plain (codes "{") ∷ ps)) (sym again),
       )
 
+  -- a party's brace ends its statements
   parties_back : (k : ℕ) (s : List ℕ) (es : List Due) (ts : Pieces) → file_follow (parties k) s ≡ Some es → AllSpelled names es ts → Spelled names (parties k) (s ∷ ts)
   parties_back k s es ts e h =
       let due = name ∷ fixed (codes "{") ∷ stmts 0 ∷ fixed (codes "}") ∷ parties (suc k) ∷ [] in
@@ -65,9 +66,11 @@ module _ (names : Spelling) where
             ∙ ap (λ (ps : List Piece). spellings (first_on 0 (codes "party") ∷ plain (names.word n.0) ∷ plain (codes "{") ∷ ps)) (sym (append_assoc c.1 (plain (codes "}") ∷ []) more.1)),
       )
 
+  -- the end of a connection
   end_widely : (x y z : ℕ) → Named names x → Named names y → Named names z → Widely (λ M. IsEnd M names (record { party = x; name = y; protocol = z }))
   end_widely x y z a b c = widely_three _ _ _ _ (λ M a b c. record { party = a; name = b; protocol = c }) a b c
 
+  -- a connection by its two ends
   connects_back : (k : ℕ) (s : List ℕ) (es : List Due) (ts : Pieces) → file_follow (connects k) s ≡ Some es → AllSpelled names es ts → Spelled names (connects k) (s ∷ ts)
   connects_back k s es ts e h =
       let due = name ∷ name ∷ name ∷ fixed (codes "to") ∷ name ∷ name ∷ name ∷ semicolon ∷ connects (suc k) ∷ [] in
@@ -86,6 +89,7 @@ module _ (names : Spelling) where
         λ i. bytes_same s (codes "connect") x.0 i ∷ sym (lines_spelled names due ts x.1) i,
       )
 
+  -- each due by its token
   pub file_back : (d : Due) (s : List ℕ) (es : List Due) (ts : Pieces) → IsHeld names s → file_follow d s ≡ Some es → AllSpelled names es ts → Spelled names d (s ∷ ts)
   file_back (protocols k) s es ts held e h = protocols_back k s es ts e h
   file_back (parties k) s es ts held e h = parties_back k s es ts e h

@@ -20,6 +20,7 @@ use Rattle.sj_expr.proofs.Unfollowed as unfollowed
 use Rattle.sj_party.proofs.Widely.{Widely}
 
 module _ (names : Spelling) where
+  -- the number stands for a name
   abbrev pub Named : ℕ → Type 0
   Named n = Widely (λ M. IsNamed M names.word n)
 
@@ -37,9 +38,11 @@ module _ (names : Spelling) where
   Spelled (proto d) a = protocol.Spelled names.word d a
   Spelled (expr d) a = expression.Spelled names d a
 
+  -- and one after another
   abbrev pub AllSpelled : List Due → Pieces → Type 0
   AllSpelled ds ts = Alls file_layer Spelled ds ts
 
+  -- the lines of what a `recv` awaits
   abbrev pub awaited_lines : (a : Pieces) → Spelled awaited a → List Piece
   awaited_lines a (inl x) = plain (scalar_piece x.0) ∷ []
   awaited_lines a (inr x) = plain (codes "session") ∷ plain (names.word x.0) ∷ []

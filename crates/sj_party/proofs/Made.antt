@@ -18,9 +18,11 @@ module _ (names : Spelling) where
   abbrev pub Makes : ℕ → List ℕ → Pieces → Type 0
   Makes o w x = (t : Step) × (a : List Piece) × Widely (λ M. IsStatement M names o t a) × (spellings a ≡ w ∷ x)
 
+  -- with the lines of what is due behind the word
   made : (o : ℕ) (w : List ℕ) (ds : List Due) (x : Pieces) (h : AllSpelled names ds x) (t : Step) → Widely (λ M. IsStatement M names o t (first_on 0 w ∷ lines_of names ds x h)) → Makes o w x
   made o w ds x h t is = (t, first_on 0 w ∷ lines_of names ds x h, is, ap (λ (ps : Pieces). w ∷ ps) (lines_spelled names ds x h))
 
+  -- the statements, one by one
   module _ (o : ℕ) (x : Pieces) where
     pub send_made : AllSpelled names (name ∷ expr whole ∷ semicolon ∷ []) x → Makes o (codes "send") x
     send_made h =
@@ -30,6 +32,7 @@ module _ (names : Spelling) where
     pub delegate_made : AllSpelled names (name ∷ name ∷ semicolon ∷ []) x → Makes o (codes "delegate") x
     delegate_made h = made o (codes "delegate") (name ∷ name ∷ semicolon ∷ []) x h (at 0 (delegate h.2.0 h.3.2.0)) (widely_two _ _ _ (λ M a b. grammar.of_delegate a b) h.2.1 h.3.2.1)
 
+    -- a value, or an end
     take_of : (n m : ℕ) (a : Pieces) (k : Spelled names awaited a) → Named names n → Named names m
         → (t : Step) × Widely (λ M. IsStatement M names o t (first_on 0 (codes "recv") ∷ plain (names.word n) ∷ plain (names.word m) ∷ (awaited_lines names a k ++ plain (codes ";") ∷ [])))
     take_of n m a (inl k) is also = (at 0 (take_value n m k.0), widely_two _ _ _ (λ M a b. grammar.of_take a b) is also)

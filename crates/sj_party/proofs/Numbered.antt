@@ -22,9 +22,11 @@ module _ (word : ℕ → List ℕ) where
   abbrev NumberedArms : Choices → Type 0
   NumberedArms c = (d : Choices) × (listed word d ≡ listed word c) × (c ≢ no_choice → d ≢ no_choice) × ((o k : ℕ) → Widely (λ M. AreGiven M word o k d))
 
+  -- inside so many brackets there is room for one more
   room : (o : ℕ) → Widely (λ M. o < M.nesting)
   room o = (suc o, λ M w. w.nesting)
 
+  -- each label by its first number
   mutual
     numbered : (p : Place) → IsWritable word p → Numbered p
     numbered done h = (done, refl, (λ f. f), λ o. (0, λ M w. tt))

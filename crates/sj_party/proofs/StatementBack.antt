@@ -29,76 +29,42 @@ module _ (names : Spelling) where
   pub met : (b : Bool) (ds es : List Due) (ts : Pieces) → (if b then Some ds else None) ≡ Some es → AllSpelled names es ts → (b ≡ true) × AllSpelled names ds ts
   met b ds es ts e h = elim (chosen b ds None es ts e h) [ inl x ↦ x | inr f ↦ let none : ⊥ = cc in absurd none ]
 
+  -- a statement by its first word
   pub statement_back : (o : ℕ) (s : List ℕ) (es : List Due) (ts : Pieces) → statement_follow o s ≡ Some es → AllSpelled names es ts → Spelled names (stmts o) (s ∷ ts)
   unfolding statement_follow
   statement_back o s es ts e h =
-      elim (chosen (bytes_eq s (codes "send")) _ _ es ts e h) [
-        | inl x ↦ by_word (codes "send") (name ∷ expr whole ∷ semicolon ∷ []) (send_made names o) x
-        | inr e ↦
-            elim (chosen (bytes_eq s (codes "delegate")) _ _ es ts e h) [
-              | inl x ↦ by_word (codes "delegate") (name ∷ name ∷ semicolon ∷ []) (delegate_made names o) x
-              | inr e ↦
-                  elim (chosen (bytes_eq s (codes "recv")) _ _ es ts e h) [
-                    | inl x ↦ by_word (codes "recv") (name ∷ name ∷ awaited ∷ semicolon ∷ []) (take_made names o) x
-                    | inr e ↦
-                        elim (chosen (bytes_eq s (codes "outbranch")) _ _ es ts e h) [
-                          | inl x ↦ by_word (codes "outbranch") (name ∷ name ∷ semicolon ∷ []) (outbranch_made names o) x
-                          | inr e ↦
-                              elim (chosen (bytes_eq s (codes "inbranch")) _ _ es ts e h) [
-                                | inl x ↦ by_word (codes "inbranch") (name ∷ fixed (codes "{") ∷ name ∷ fixed (codes ":") ∷ block o ∷ branches o ∷ fixed (codes "}") ∷ []) (inbranch_made names o) x
-                                | inr e ↦
-                                    elim (chosen (bytes_eq s (codes "outwhile")) _ _ es ts e h) [
-                                      | inl x ↦ by_word (codes "outwhile") (name ∷ expr whole ∷ block o ∷ []) (outwhile_made names o) x
-                                      | inr e ↦
-                                          elim (chosen (bytes_eq s (codes "inwhile")) _ _ es ts e h) [
-                                            | inl x ↦ by_word (codes "inwhile") (name ∷ block o ∷ []) (inwhile_made names o) x
-                                            | inr e ↦
-                                                elim (chosen (bytes_eq s (codes "relay")) _ _ es ts e h) [
-                                                  | inl x ↦ by_word (codes "relay") (name ∷ name ∷ block o ∷ []) (relay_made names o) x
-                                                  | inr e ↦
-                                                      elim (chosen (bytes_eq s (codes "if")) _ _ es ts e h) [
-                                                        | inl x ↦ by_word (codes "if") (expr whole ∷ block o ∷ fixed (codes "else") ∷ block o ∷ []) (if_made names o) x
-                                                        | inr e ↦
-                                                            elim (chosen (bytes_eq s (codes "let")) _ _ es ts e h) [
-                                                              | inl x ↦ by_word (codes "let") (name ∷ fixed (codes "=") ∷ expr whole ∷ semicolon ∷ []) (let_made names o) x
-                                                              | inr e ↦
-                                                                  by_word (codes "close") (name ∷ semicolon ∷ []) (close_made names o) (met (bytes_eq s (codes "close")) _ es ts e h)
-                                                            ]
-                                                      ]
-                                                ]
-                                          ]
-                                    ]
-                              ]
-                        ]
-                  ]
-            ]
-      ]
+      by_word (codes "send") (name ∷ expr whole ∷ semicolon ∷ []) _ (send_made names o) e
+      (λ e. by_word (codes "delegate") (name ∷ name ∷ semicolon ∷ []) _ (delegate_made names o) e
+      (λ e. by_word (codes "recv") (name ∷ name ∷ awaited ∷ semicolon ∷ []) _ (take_made names o) e
+      (λ e. by_word (codes "outbranch") (name ∷ name ∷ semicolon ∷ []) _ (outbranch_made names o) e
+      (λ e. by_word (codes "inbranch") (name ∷ fixed (codes "{") ∷ name ∷ fixed (codes ":") ∷ block o ∷ branches o ∷ fixed (codes "}") ∷ []) _ (inbranch_made names o) e
+      (λ e. by_word (codes "outwhile") (name ∷ expr whole ∷ block o ∷ []) _ (outwhile_made names o) e
+      (λ e. by_word (codes "inwhile") (name ∷ block o ∷ []) _ (inwhile_made names o) e
+      (λ e. by_word (codes "relay") (name ∷ name ∷ block o ∷ []) _ (relay_made names o) e
+      (λ e. by_word (codes "if") (expr whole ∷ block o ∷ fixed (codes "else") ∷ block o ∷ []) _ (if_made names o) e
+      (λ e. by_word (codes "let") (name ∷ fixed (codes "=") ∷ expr whole ∷ semicolon ∷ []) _ (let_made names o) e
+      (λ e. by_word (codes "close") (name ∷ semicolon ∷ []) None (close_made names o) e (λ e. let none : ⊥ = cc in absurd none)))))))))))
     where
-      by_word : (w : List ℕ) (front : List Due) → ((x : Pieces) → AllSpelled names front x → Makes names o w x) → (bytes_eq s w ≡ true) × AllSpelled names (front ++ stmts o ∷ []) ts → Spelled names (stmts o) (s ∷ ts)
-      by_word w front makes x = statement_then names o s w front ts (bytes_same s w x.0) makes x.1
+      by_word : (w : List ℕ) (front : List Due) (others : Option (List Due)) → ((x : Pieces) → AllSpelled names front x → Makes names o w x) → (if bytes_eq s w then Some (front ++ stmts o ∷ []) else others) ≡ Some es
+          → (others ≡ Some es → Spelled names (stmts o) (s ∷ ts)) → Spelled names (stmts o) (s ∷ ts)
+      by_word w front others makes e other =
+          elim (chosen (bytes_eq s w) (front ++ stmts o ∷ []) others es ts e h) [ inl x ↦ statement_then names o s w front ts (bytes_same s w x.0) makes x.1 | inr f ↦ other f ]
 
+  -- what a `recv` awaits
   pub awaited_back : (s : List ℕ) (es : List Due) (ts : Pieces) → awaited_follow s ≡ Some es → AllSpelled names es ts → Spelled names awaited (s ∷ ts)
-  awaited_back s es ts e h =
-      elim (chosen (bytes_eq s (codes "int")) _ _ es ts e h) [
-        | inl x ↦ scalar Int x.0 x.1
-        | inr e ↦
-            elim (chosen (bytes_eq s (codes "boolean")) _ _ es ts e h) [
-              | inl x ↦ scalar Boolean x.0 x.1
-              | inr e ↦
-                  elim (chosen (bytes_eq s (codes "String")) _ _ es ts e h) [
-                    | inl x ↦ scalar Text x.0 x.1
-                    | inr e ↦
-                        session (met (bytes_eq s (codes "session")) (name ∷ []) es ts e h)
-                  ]
-            ]
-      ]
+  awaited_back s es ts e h = scalar Int _ e (λ e. scalar Boolean _ e (λ e. scalar Text _ e session))
     where
-      scalar : (k : Scalar) → bytes_eq s (scalar_piece k) ≡ true → ts ≡ [] → Spelled names awaited (s ∷ ts)
-      scalar k t none = inl (k, λ i. bytes_same s (scalar_piece k) t i ∷ none i)
+      scalar : (k : Scalar) (others : Option (List Due)) → (if bytes_eq s (scalar_piece k) then Some [] else others) ≡ Some es → (others ≡ Some es → Spelled names awaited (s ∷ ts)) → Spelled names awaited (s ∷ ts)
+      scalar k others e other =
+          elim (chosen (bytes_eq s (scalar_piece k)) [] others es ts e h) [ inl x ↦ inl (k, λ i. bytes_same s (scalar_piece k) x.0 i ∷ x.1 i) | inr f ↦ other f ]
 
-      session : (bytes_eq s (codes "session") ≡ true) × AllSpelled names (name ∷ []) ts → Spelled names awaited (s ∷ ts)
-      session x = let n = lone file_layer (Spelled names) name ts x.1 in inr (n.0, n.1, λ i. bytes_same s (codes "session") x.0 i ∷ n.2 i)
+      session : (if bytes_eq s (codes "session") then Some (name ∷ []) else None) ≡ Some es → Spelled names awaited (s ∷ ts)
+      session e =
+          let x = met (bytes_eq s (codes "session")) (name ∷ []) es ts e h in
+          let n = lone file_layer (Spelled names) name ts x.1 in
+          inr (n.0, n.1, λ i. bytes_same s (codes "session") x.0 i ∷ n.2 i)
 
+  -- a block by its brace
   pub block_back : (o : ℕ) (s : List ℕ) (es : List Due) (ts : Pieces) → file_follow (block o) s ≡ Some es → AllSpelled names es ts → Spelled names (block o) (s ∷ ts)
   block_back o s es ts e h =
       let due = stmts (suc o) ∷ fixed (codes "}") ∷ [] in
@@ -110,6 +76,7 @@ module _ (names : Spelling) where
   pub name_held : (s : List ℕ) → IsHeld names s → is_name s ≡ true → (n : ℕ) × Named names n × (names.word n ≡ s)
   name_held s held t = let n = held.0 in (n.0, named_widely names.word n.0 (subst (λ (x : List ℕ). IsTrue (is_name x)) (sym n.1) t) n.2, n.1)
 
+  -- arms by the label of the first
   pub arms_back : (o : ℕ) (s : List ℕ) (es : List Due) (ts : Pieces) → IsHeld names s → file_follow (branches o) s ≡ Some es → AllSpelled names es ts → Spelled names (branches o) (s ∷ ts)
   arms_back o s es ts held e h =
       let due = fixed (codes ":") ∷ block o ∷ branches o ∷ [] in

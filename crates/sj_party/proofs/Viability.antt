@@ -52,6 +52,7 @@ module _ (names : Spelling) (a_name : ℕ) (is : IsTrue (is_name (names.word a_n
 abbrev names_in : Pieces → Spelling
 names_in ws = record { word = entry_of ws; text = entry_of (map inner ws) }
 
+-- it is the one in which each piece has its first number
 same_names : (ws : Pieces) → spelling_of ws ≡ names_in ws
 same_names ws = λ i. record { word = entry_of ws; text = λ n. sym (get_or-map inner ws n []) i }
 
@@ -59,6 +60,7 @@ same_names ws = λ i. record { word = entry_of ws; text = λ n. sym (get_or-map 
 abbrev and_x : Pieces → Pieces
 and_x ps = codes "x" ∷ ps
 
+-- and so each of the pieces is held
 held_in : (ps post : Pieces) → AllHeld (IsHeld (names_in (and_x (ps ++ post)))) ps
 held_in ps post = subst (λ (names : Spelling). AllHeld (IsHeld names) ps) (same_names (and_x (ps ++ post))) (all_held (codes "x" ∷ []) ps post)
 
@@ -89,6 +91,7 @@ module _ (L : Limits) (ps : Pieces) (m : ℕ) (due : List Due) (e : Leads L 0 fi
         same = lines_spelled names file_due (ps ++ ts) all;
       }
 
+  -- up to there
   pub viable : IsViable ps
   viable =
       let ws = and_x (ps ++ []) in

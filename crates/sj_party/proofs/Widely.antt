@@ -9,6 +9,7 @@ use Rattle.sj_grammar.specs.Expressions.{IsExpression, operand_count}
 use Rattle.sj_grammar.specs.Expressions as level
 use Rattle.sj_expr.proofs.Writes.{Writes}
 
+-- each limit is as wide as that
 pub record IsWide (k : ℕ) (M : Limits) : Type 0 where
   pub protocols : k ≤ M.protocols
   pub parties : k ≤ M.parties
@@ -24,6 +25,7 @@ pub record IsWide (k : ℕ) (M : Limits) : Type 0 where
 abbrev pub all_limits : ℕ → Limits
 all_limits k = record { protocols = k; parties = k; connects = k; items = k; nesting = k; labels = k; operands = k; name = k; text = k }
 
+-- and so wide for what is less
 pub are_wide : (j k : ℕ) → j ≤ k → IsWide j (all_limits k)
 are_wide j k h = record { protocols = h; parties = h; connects = h; items = h; nesting = h; labels = h; operands = h; name = h; text = h }
 
@@ -31,6 +33,7 @@ are_wide j k h = record { protocols = h; parties = h; connects = h; items = h; n
 abbrev pub Widely : (Limits → Type 0) → Type 0
 Widely P = (k : ℕ) × ((M : Limits) → IsWide k M → P M)
 
+-- limits are as wide as what is less
 narrower : (j k : ℕ) (M : Limits) → j ≤ k → IsWide k M → IsWide j M
 narrower j k M h w = record {
   protocols = let a = w.protocols in omega arith;
@@ -44,7 +47,7 @@ narrower j k M h w = record {
   text = let a = w.text in omega arith;
 }
 
--- what follows within each limits
+-- what follows within all such limits, from one, two or three that hold there
 pub widely : (P R : Limits → Type 0) → ((M : Limits) → P M → R M) → Widely P → Widely R
 widely P R f p = (p.0, λ M w. f M (p.1 M w))
 
@@ -58,6 +61,7 @@ widely_three P Q R S f p q r = widely_two (λ M. P M × Q M) R S (λ M both. f M
 pub named_widely : (word : ℕ → List ℕ) (n : ℕ) → IsTrue (is_name (word n)) → IsFirst word n → Widely (λ M. IsNamed M word n)
 named_widely word n is first = (length (word n), λ M w. record { name = is; short = w.name; first = first })
 
+-- an expression with all its operands
 pub expression_widely : (names : Spelling) (t : Term) (a : Pieces) → Writes names level.whole 0 t a → Widely (λ M. IsExpression M names t a)
 expression_widely names t a x = (x.0 + operand_count t, λ M w. within M (narrower x.0 (x.0 + operand_count t) M (omega arith) w) (narrower (operand_count t) (x.0 + operand_count t) M (omega arith) w))
   where

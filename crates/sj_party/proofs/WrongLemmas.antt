@@ -20,6 +20,7 @@ use Rattle.sj_party.specs.Wrong.{IsTaken, IsWrongNext, GoesWrong}
 use Rattle.sj_party.proofs.Faultless.{none_broken, not_viable, not_whole}
 use Rattle.sj_party.proofs.Viability.{viable, viable_over, whole}
 
+-- what is no limit's rule
 misfits : (s : List ℕ) → misfit s ≢ P4
 misfits s e = by_test (is_largest s) e
   where
@@ -62,6 +63,7 @@ module _ (ps : Pieces) (n : ℕ) (ds : List Due) (e : Leads limits 0 file_due ps
       let both : Some P4 ≡ None = sym (breaks P4 h) ∙ goes_on in
       cc
 
+  -- what rule the token breaks, in the grammar's own words
   token_wrong : (what : What) (rest : List ℕ) (rule : Rule) → rule_of (step file_layer limits n ds s) ≡ Some rule → IsWrongNext ps (token what s rest) rule
   token_wrong what rest rule r = elim (stepped n ds s) [
     | inl h ↦ let same : Some rule ≡ Some (misfit s) = sym r ∙ breaks (misfit s) h in inl (cc, never h)
@@ -69,6 +71,7 @@ module _ (ps : Pieces) (n : ℕ) (ds : List Due) (e : Leads limits 0 file_due ps
     | inr (inr h) ↦ let same : Some rule ≡ None = sym r ∙ ap rule_of h.2 in let none : ⊥ = cc in absurd none
   ]
 
+  -- and back
   token_broken : (what : What) (rest : List ℕ) (rule : Rule) → IsWrongNext ps (token what s rest) rule → rule_of (step file_layer limits n ds s) ≡ Some rule
   token_broken what rest rule (inl w) = elim (stepped n ds s) [
     | inl h ↦ breaks (misfit s) h ∙ ap Some (sym w.0)
@@ -101,6 +104,7 @@ module _ (ps : Pieces) (n : ℕ) (ds : List Due) (e : Leads limits 0 file_due ps
   next_broken (bad lexical rest) rule w = ap Some (sym w)
   next_broken (token what s rest) rule w = token_broken ps n ds e s what rest rule w
 
+-- where the text is stuck it goes wrong
 pub goes_wrong : (bytes : List ℕ) (f : Fault) → Stuck file_layer limits 0 (start bytes [] []) file_due f → GoesWrong bytes f
 goes_wrong bytes f st =
     let ahead = next_of st.there.text.ahead in
@@ -115,6 +119,7 @@ goes_wrong bytes f st =
       place = st.halts.fault ∙ ap (fault_at (before_next st.there.text ahead)) rule_is;
     }
 
+-- and where it goes wrong it is stuck
 pub is_first_fault : (bytes : List ℕ) (f : Fault) → GoesWrong bytes f → Stuck file_layer limits 0 (start bytes [] []) file_due f
 is_first_fault bytes f w = record {
   pieces = w.pieces;
