@@ -1,11 +1,11 @@
 //! What the top call answers.
-ghost use Rattle.std.specs.Prelude.{◌≡◌, ◌++◌, ◌∷◌, List, ℕ, OnOk, IfOk, decimal};
+ghost use Rattle.std.specs.Prelude.{◌≡◌, ◌++◌, ◌∷◌, List, ℕ, IfOk};
 ghost use Rattle.sj_tool.specs.Texts.{rule_number, status_of, text_of, verdict_status};
 
-use itoa::Buffer;
 use sj_base::NoMemory;
 use sj_proto::{Fault, Rule};
 use sj_semantics::Verdict;
+use sj_text::{put, put_number};
 use std::alloc::Global;
 
 /// What is answered, in the order of refusals. Want of memory and a write fault have no text.
@@ -91,9 +91,9 @@ fn syntax_text(alloc: Global, fault: Fault) -> Result<Vec<u8>, NoMemory>
     put(&mut text, b"syntax P")?;
     put_number(&mut text, number_of(fault.rule))?;
     put(&mut text, b" at ")?;
-    put_number(&mut text, fault.line)?;
+    put_number(&mut text, u64::from(fault.line))?;
     put(&mut text, b":")?;
-    put_number(&mut text, fault.column)?;
+    put_number(&mut text, u64::from(fault.column))?;
     put(&mut text, b"\n")?;
     Ok(text)
 }
@@ -103,14 +103,14 @@ fn check_text(alloc: Global, rule: u8, line: u32) -> Result<Vec<u8>, NoMemory>
 {
     let mut text = Vec::new(alloc);
     put(&mut text, b"check C")?;
-    put_number(&mut text, u32::from(rule))?;
+    put_number(&mut text, u64::from(rule))?;
     put(&mut text, b" at ")?;
-    put_number(&mut text, line)?;
+    put_number(&mut text, u64::from(line))?;
     put(&mut text, b"\n")?;
     Ok(text)
 }
 
-fn number_of(rule: Rule) -> u32
+fn number_of(rule: Rule) -> u64
     ensures { result ≡ rule_number rule }
 {
     match rule {
@@ -120,18 +120,4 @@ fn number_of(rule: Rule) -> u32
         Rule::P4 => 4,
         Rule::P5 => 5,
     }
-}
-
-/// Appends the number's decimal digits.
-pub(crate) fn put_number(text: &mut Vec<u8>, number: u32) -> Result<(), NoMemory>
-    ensures { OnOk result (text.new.items ≡ text.old.items ++ decimal number) }
-{
-    put(text, Buffer::new().format(number).as_bytes())
-}
-
-/// Appends the bytes.
-pub(crate) fn put(text: &mut Vec<u8>, piece: &[u8]) -> Result<(), NoMemory>
-    ensures { OnOk result (text.new.items ≡ text.old.items ++ piece.now) }
-{
-    Ok(text.extend_from_slice(piece)?)
 }
