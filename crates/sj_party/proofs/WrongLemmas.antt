@@ -10,7 +10,7 @@ use Rattle.sj_grammar.specs.Literals.{is_largest}
 use Rattle.sj_grammar.specs.Lexis.{Ahead, at_end, bad, token, next_of}
 use Rattle.sj_grammar.specs.Reading.{before_next, fault_at}
 use Rattle.sj_grammar.specs.Places.{Pieces, start}
-use Rattle.sj_grammar.specs.Layers.{Step, goes, stops, misfit, onward, rule_of, step, run, may_end}
+use Rattle.sj_grammar.specs.Layers.{Step, goes, stops, misfit, rule_of, step, may_end}
 use Rattle.sj_grammar.specs.FileDues.{Due, file_layer, file_due}
 use Rattle.sj_grammar.specs.Faults.{Stuck, broken}
 use Rattle.sj_grammar.proofs.Steps.{IsStep, due_behind, step_is, Runs-none, Runs-cons, Runs-append}
