@@ -7,7 +7,8 @@ use Rattle.sj_lang.specs.Place.{Carried, done, message, int, boolean, text, sess
 use Rattle.sj_grammar.specs.Names.{is_name}
 use Rattle.sj_grammar.specs.Places.{Pieces}
 use Rattle.sj_grammar.specs.Protocols.{open_piece, close_piece, seq_pieces, body_pieces, kind_pieces, listed}
-use Rattle.sj_grammar.specs.ProtocolDues.{ProtocolDue, body, more, seq, maybe, behind, kind, label, arms, fixed, protocol_follow, protocol_may_be_none, item_follow}
+use Rattle.sj_grammar.specs.ProtocolDues.{ProtocolDue, body, more, seq, maybe, behind, kind, label, arms, fixed, protocol_follow, protocol_layer, protocol_may_be_none, item_follow}
+use Rattle.sj_grammar.proofs.Completion.{lone}
 use Rattle.sj_proto.specs.Writable.{CanBeCarried}
 use Rattle.sj_proto.proofs.Names.{test_is}
 use Rattle.sj_proto.proofs.Spelled.{Spelled, AllSpelled, from_item, arm_from, from_open}
@@ -24,9 +25,6 @@ module _ (word : ℕ → List ℕ) where
           let none : ts ≡ [] = subst (λ (gs : List ProtocolDue). AllSpelled word gs ts) due h in
           subst (λ (x : Pieces). Spelled word d (s ∷ x)) (sym none) (spelled (test_is s p eb))
       by_test false eb f = let none : ⊥ = cc in absurd none
-
-  lone : (d : ProtocolDue) (ts : Pieces) → AllSpelled word (d ∷ []) ts → Spelled word d ts
-  lone d ts h = let all : ts ≡ h.0 = h.4 ∙ ap (λ x. h.0 ++ x) h.3 ∙ append-nil h.0 in subst (λ (x : Pieces). Spelled word d x) (sym all) h.2
 
   from_kind : (o : ℕ) (es : List ProtocolDue) (s : List ℕ) (ts : Pieces) → protocol_follow (kind o) s ≡ Some es → AllSpelled word es ts → Spelled word (kind o) (s ∷ ts)
   from_kind o es s ts e h = by_tests (bytes_eq s (codes "int")) (bytes_eq s (codes "boolean")) (bytes_eq s (codes "String")) refl refl refl e
@@ -56,9 +54,9 @@ module _ (word : ℕ → List ℕ) where
   -- from what is due behind a piece to what is due before it
   pub spelled_back : (d : ProtocolDue) (s : List ℕ) (es : List ProtocolDue) (ts : Pieces) → HasNumber s → protocol_follow d s ≡ Some es → AllSpelled word es ts → Spelled word d (s ∷ ts)
   spelled_back body s es ts held e h = from_test body es (more 0 ∷ []) s ts (bytes_eq s (codes "begin")) (λ t g.
-      let x = lone (more 0) ts g in (x.0, x.1, λ i. test_is s (codes "begin") t i ∷ x.2 i)) e h
+      let x = lone protocol_layer (Spelled word) (more 0) ts g in (x.0, x.1, λ i. test_is s (codes "begin") t i ∷ x.2 i)) e h
   spelled_back (more o) s es ts held e h = from_test (more o) es (seq o ∷ []) s ts (bytes_eq s (codes ".")) (λ t g.
-      let x = lone (seq o) ts g in (x.0, x.1, (λ i. test_is s (codes ".") t i ∷ x.3 i) ∙ dotted_some word x.0 x.2)) e h
+      let x = lone protocol_layer (Spelled word) (seq o) ts g in (x.0, x.1, (λ i. test_is s (codes ".") t i ∷ x.3 i) ∙ dotted_some word x.0 x.2)) e h
   spelled_back (seq o) s es ts held e h = from_item word o (seq o) es s ts (λ a p w some same. (p, w, some, same)) e h
   spelled_back (maybe o) s es ts held e h = from_item word o (maybe o) es s ts (λ a p w some same. (p, w, same)) e h
   spelled_back (behind o w) s es ts held e h = from_open word o w es s ts e h
@@ -85,7 +83,7 @@ module _ (word : ℕ → List ℕ) where
 
   -- something spells each due, once a number is a name's
   module _ (a_name : ℕ) (named : IsTrue (is_name (word a_name))) where
-    some_spelled : (d : ProtocolDue) → (a : Pieces) × Spelled word d a
+    pub some_spelled : (d : ProtocolDue) → (a : Pieces) × Spelled word d a
     some_spelled body = (body_pieces word done, (done, tt, refl))
     some_spelled (more o) = ([], (done, tt, refl))
     some_spelled (seq o) = (seq_pieces word (message Out int done), (message Out int done, (tt, tt), (λ e. cc), refl))
@@ -95,10 +93,3 @@ module _ (word : ℕ → List ℕ) where
     some_spelled (label k) = (word a_name ∷ [], (a_name, named, refl))
     some_spelled (arms o k) = ([], (no_choice, tt, refl))
     some_spelled (fixed p) = (p ∷ [], refl)
-
-    pub some_alls : (ds : List ProtocolDue) → (ts : Pieces) × AllSpelled word ds ts
-    some_alls [] = ([], refl)
-    some_alls (d ∷ ds) =
-        let x = some_spelled d in
-        let y = some_alls ds in
-        (x.0 ++ y.0, (x.0, y.0, x.1, y.1, refl))

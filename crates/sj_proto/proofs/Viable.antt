@@ -12,10 +12,10 @@ use Rattle.sj_grammar.specs.Layers.{goes, step, run, may_end}
 use Rattle.sj_grammar.specs.ProtocolDues.{ProtocolDue, body, more, protocol_layer}
 use Rattle.sj_grammar.proofs.Steps.{run_split, onward_goes, step_due, one_due, due_behind}
 use Rattle.sj_grammar.proofs.Spellings.{AllHeld}
-use Rattle.sj_grammar.proofs.Completion.{due_back, run_back, ends_back}
+use Rattle.sj_grammar.proofs.Completion.{due_back, run_back, ends_back, some_alls}
 use Rattle.sj_proto.specs.Writable.{IsWritable, IsViable, IsWhole}
 use Rattle.sj_proto.proofs.Spelled.{Spelled, AllSpelled}
-use Rattle.sj_proto.proofs.Completed.{HasNumber, spelled_back, none_spelled, some_alls}
+use Rattle.sj_proto.proofs.Completed.{HasNumber, spelled_back, none_spelled, some_spelled}
 use Rattle.sj_proto.proofs.Within.{wide}
 use Rattle.sj_proto.proofs.Wholes.{wide_run}
 
@@ -48,7 +48,7 @@ module _ (L : Limits) (ps : Pieces) (n : ℕ) (due : List ProtocolDue) (e : run 
   viable =
       let word = spelling_of (ps ++ codes "x" ∷ []) in
       let named : IsTrue (is_name (word (length ps))) = subst (λ (s : List ℕ). IsTrue (is_name s)) (sym (get_or-append_seam ps (codes "x") [] [])) x_is_a_name in
-      let ends = some_alls word (length ps) named due in
+      let ends = some_alls protocol_layer (Spelled word) (some_spelled word (length ps) named) due in
       let whole = completed word L ps n due ends.0 (held_in [] ps (codes "x" ∷ [])) e ends.1 in
       record { word = word; place = whole.0; later = ends.0; writable = whole.1; same = whole.2 }
 
@@ -59,7 +59,7 @@ module _ (L : Limits) (ps : Pieces) (n : ℕ) (due : List ProtocolDue) (e : run 
       let again : (ps ++ s ∷ []) ++ codes "x" ∷ [] ≡ ps ++ (s ∷ codes "x" ∷ []) = append_assoc ps (s ∷ []) (codes "x" ∷ []) in
       let at_x : word (length (ps ++ s ∷ [])) ≡ codes "x" = ap (λ (qs : Pieces). spelling_of qs (length (ps ++ s ∷ []))) (sym again) ∙ get_or-append_seam (ps ++ s ∷ []) (codes "x") [] [] in
       let named : IsTrue (is_name (word (length (ps ++ s ∷ [])))) = subst (λ (t : List ℕ). IsTrue (is_name t)) (sym at_x) x_is_a_name in
-      let ends = some_alls word (length (ps ++ s ∷ [])) named es in
+      let ends = some_alls protocol_layer (Spelled word) (some_spelled word (length (ps ++ s ∷ [])) named) es in
       let next = due_back protocol_layer (Spelled word) (HasNumber word) (spelled_back word) (none_spelled word) due es s ends.0 (length ps, get_or-append_seam ps s (codes "x" ∷ []) []) f ends.1 in
       let whole = completed word L ps n due (s ∷ ends.0) (held_in [] ps (s ∷ codes "x" ∷ [])) e next in
       record { word = word; place = whole.0; later = ends.0; writable = whole.1; same = append_assoc ps (s ∷ []) ends.0 ∙ whole.2 }
