@@ -47,6 +47,15 @@ fn sent(plain: &Plain, end: EndId) -> &[Passed] {
     }
 }
 
+// How many items are ahead of an end.
+fn ahead(plain: &Plain, end: EndId) -> Option<usize> {
+    if (end.sess as usize) < plain.sessions() {
+        Some(plain.place(end).items.len())
+    } else {
+        None
+    }
+}
+
 fn end(sess: u32, side: u8) -> EndId {
     EndId { sess, side }
 }
@@ -59,6 +68,7 @@ fn ended(steps: u32) -> Option<(u32, State)> {
 fn an_end_is_handed_over_between_two_messages(rt: HostRuntime) -> Result<(), Fail> {
     let alloc = rt.alloc();
     let mut plain = Plain::start(alloc, &handed_over(alloc)?)?;
+    assert_eq!(rt; ahead(&plain, end(0, 0)), Some(3));
     plain.finish()?;
     assert!(rt; plain.verdict() == Verdict::Done, "verdict");
     assert_eq!(rt; party(&plain, A), ended(4));
@@ -72,6 +82,7 @@ fn an_end_is_handed_over_between_two_messages(rt: HostRuntime) -> Result<(), Fai
     };
     assert_eq!(rt; sent(&plain, end(1, 0)), [Passed { msg, by: B }].as_slice());
     assert_eq!(rt; takers(&plain, end(1, 0)), [C].as_slice());
+    assert_eq!(rt; ahead(&plain, end(0, 0)), Some(0));
     Ok(())
 }
 
