@@ -16,7 +16,8 @@ use Rattle.sj_grammar.specs.Files as files
 use Rattle.sj_grammar.specs.FileDues.{Due, protocols, parties, connects, stmts, block, branches, awaited, name, fixed, proto, expr, semicolon, file_layer, file_follow}
 use Rattle.sj_grammar.proofs.Spellings.{IsHeld}
 use Rattle.sj_grammar.proofs.Completion.{alls_below}
-use Rattle.sj_proto.proofs.Completed as protocol
+use Rattle.sj_proto.proofs.Spelled as protocol
+use Rattle.sj_proto.proofs.Completed as completed
 use Rattle.sj_expr.proofs.Completed as expression
 use Rattle.sj_expr.proofs.Unfollowed.{unfollow}
 use Rattle.sj_expr.proofs.TestLemmas.{bytes_same}
@@ -105,7 +106,7 @@ module _ (names : Spelling) where
   file_back (fixed p) s es ts held e h = let x = met names (bytes_eq s p) [] es ts e h in λ i. bytes_same s p x.0 i ∷ x.1 i
   file_back (proto d) s es ts held e h =
       let x = mapped proto (protocol_follow d s) es e in
-      protocol.spelled_back names.word d s x.0 ts (held.0.0, held.0.1) x.1
+      completed.spelled_back names.word d s x.0 ts (held.0.0, held.0.1) x.1
       (alls_below protocol_layer file_layer (protocol.Spelled names.word) (Spelled names) proto (λ d a t. t) x.0 ts (subst (λ (gs : List Due). AllSpelled names gs ts) x.2 h))
   file_back (expr d) s es ts held e h =
       let x = mapped expr (expression_follow d s) es e in

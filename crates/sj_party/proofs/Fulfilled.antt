@@ -14,7 +14,8 @@ use Rattle.sj_grammar.specs.Files as files
 use Rattle.sj_grammar.specs.FileDues.{Due, protocols, parties, connects, stmts, block, branches, awaited, name, fixed, proto, expr, file_layer, file_may_be_none}
 use Rattle.sj_grammar.proofs.Completion.{Alls}
 use Rattle.sj_proto.proofs.Lines.{spellings-append, spellings-plain}
-use Rattle.sj_proto.proofs.Completed as protocol
+use Rattle.sj_proto.proofs.Spelled as protocol
+use Rattle.sj_proto.proofs.Completed as completed
 use Rattle.sj_expr.proofs.Completed as expression
 use Rattle.sj_expr.proofs.Unfollowed as unfollowed
 use Rattle.sj_party.proofs.Widely.{Widely}
@@ -103,5 +104,5 @@ module _ (names : Spelling) where
   none_spelled awaited e = let no : ⊥ = cc in absurd no
   none_spelled name e = let no : ⊥ = cc in absurd no
   none_spelled (fixed p) e = let no : ⊥ = cc in absurd no
-  none_spelled (proto d) e = protocol.none_spelled names.word d e
+  none_spelled (proto d) e = completed.none_spelled names.word d e
   none_spelled (expr d) e = unfollowed.none_spelled names d e

@@ -12,14 +12,13 @@ use Rattle.sj_grammar.specs.Names.{is_name}
 use Rattle.sj_grammar.specs.Tables.{Spelling, entry_of}
 use Rattle.sj_grammar.specs.Places.{Pieces, spellings}
 use Rattle.sj_grammar.specs.Layers.{step, may_end, rule_of}
-use Rattle.sj_grammar.specs.ProtocolDues.{protocol_layer}
 use Rattle.sj_grammar.specs.Statements.{braced}
 use Rattle.sj_grammar.specs.Statements as statements
 use Rattle.sj_grammar.specs.Files.{IsSpelled}
 use Rattle.sj_grammar.specs.FileDues.{Due, protocols, parties, connects, stmts, block, branches, awaited, name, fixed, proto, expr, file_layer, file_due}
 use Rattle.sj_grammar.proofs.Steps.{step_over}
 use Rattle.sj_grammar.proofs.Spellings.{IsHeld, AllHeld, spelling_of, first_of, held_at, all_held}
-use Rattle.sj_grammar.proofs.Completion.{due_back, run_back, ends_back, some_alls, lone}
+use Rattle.sj_grammar.proofs.Completion.{due_back, run_back, ends_back, some_alls}
 use Rattle.sj_proto.proofs.Viable.{x_is_a_name}
 use Rattle.sj_proto.proofs.Completed as protocol
 use Rattle.sj_expr.proofs.Unfollowed as expression
@@ -45,7 +44,7 @@ module _ (names : Spelling) (a_name : ℕ) (is : IsTrue (is_name (names.word a_n
       let n = first_of names.word a_name in
       (names.word n.0 ∷ [], (n.0, named_widely names.word n.0 (subst (λ (s : List ℕ). IsTrue (is_name s)) (sym n.1) is) n.2, refl))
   some_spelled (fixed p) = (p ∷ [], refl)
-  some_spelled (proto d) = let x = protocol.some_alls names.word a_name is (d ∷ []) in (x.0, lone protocol_layer (protocol.Spelled names.word) d x.0 x.1)
+  some_spelled (proto d) = protocol.some_spelled names.word a_name is d
   some_spelled (expr d) = expression.some_spelled names d
 
 -- the spelling of these pieces, as the tables of a file have it
