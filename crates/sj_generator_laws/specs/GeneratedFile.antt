@@ -15,16 +15,51 @@ words =
     ∷ codes "k" ∷ codes "a1" ∷ codes "b1" ∷ codes "c1" ∷ codes "a2" ∷ codes "b2" ∷ codes "c2" ∷ codes "a3" ∷ codes "b3" ∷ codes "c3" ∷ codes "a4" ∷ codes "b4"
     ∷ codes "c4" ∷ []
 
+-- the numbers of those that stand in each group: ends and variables
+abbrev x : ℕ
+x = 5
+
+abbrev r : ℕ
+r = 6
+
+abbrev z : ℕ
+z = 8
+
+abbrev y : ℕ
+y = 9
+
+abbrev u : ℕ
+u = 11
+
+abbrev s : ℕ
+s = 12
+
+abbrev k : ℕ
+k = 13
+
+-- and protocols
+abbrev w : ℕ
+w = 0
+
+abbrev v : ℕ
+v = 1
+
+abbrev g : ℕ
+g = 2
+
+abbrev h : ℕ
+h = 3
+
 -- the numbers in each loop, and then their sum back
 abbrev pub numbers : Place
 numbers = repeat Into (message Into int done) (message Out int done)
 
 abbrev pub protocols : List ProtocolAt
 protocols =
-    record { line = 1; name = 0; body = repeat Out (message Out int done) (message Into int done) }
-    ∷ record { line = 2; name = 1; body = numbers }
-    ∷ record { line = 3; name = 2; body = message Out (session numbers) done }
-    ∷ record { line = 4; name = 3; body = message Into (session numbers) done } ∷ []
+    record { line = 1; name = w; body = repeat Out (message Out int done) (message Into int done) }
+    ∷ record { line = 2; name = v; body = numbers }
+    ∷ record { line = 3; name = g; body = message Out (session numbers) done }
+    ∷ record { line = 4; name = h; body = message Into (session numbers) done } ∷ []
 
 -- three parties, by the line of the first and their names
 module _ (line : ℕ) where
@@ -34,13 +69,13 @@ module _ (line : ℕ) where
     line = line;
     name = a;
     code = in_order (
-        at (line + 1) (outwhile 5 (term.int (pos n)) (in_order (at (line + 2) (send 5 (term.int (pos number))) ∷ [])))
-        ∷ at (line + 4) (take_value 5 6 scalars.Int) ∷ at (line + 5) (close 5) ∷ []);
+        at (line + 1) (outwhile x (term.int (pos n)) (in_order (at (line + 2) (send x (term.int (pos number))) ∷ [])))
+        ∷ at (line + 4) (take_value x r scalars.Int) ∷ at (line + 5) (close x) ∷ []);
   }
 
   -- it hands its end on
   abbrev pub giver : ℕ → PartyAt
-  giver b = record { line = line + 7; name = b; code = in_order (at (line + 8) (delegate 8 9) ∷ at (line + 9) (close 8) ∷ []) }
+  giver b = record { line = line + 7; name = b; code = in_order (at (line + 8) (delegate z y) ∷ at (line + 9) (close z) ∷ []) }
 
   -- it takes the end, sums what comes on it, and sends the sum
   abbrev pub adder : ℕ → PartyAt
@@ -48,9 +83,9 @@ module _ (line : ℕ) where
     line = line + 11;
     name = c;
     code = in_order (
-        at (line + 12) (take_end 11 9 1) ∷ at (line + 13) (let_be 12 (term.int (pos 0)))
-        ∷ at (line + 14) (inwhile 9 (in_order (at (line + 15) (take_value 9 13 scalars.Int) ∷ at (line + 16) (let_be 12 (term.two Add (term.var 12) (term.var 13))) ∷ [])))
-        ∷ at (line + 18) (send 9 (term.var 12)) ∷ at (line + 19) (close 9) ∷ at (line + 20) (close 11) ∷ []);
+        at (line + 12) (take_end u y v) ∷ at (line + 13) (let_be s (term.int (pos 0)))
+        ∷ at (line + 14) (inwhile y (in_order (at (line + 15) (take_value y k scalars.Int) ∷ at (line + 16) (let_be s (term.two Add (term.var s) (term.var k))) ∷ [])))
+        ∷ at (line + 18) (send y (term.var s)) ∷ at (line + 19) (close y) ∷ at (line + 20) (close u) ∷ []);
   }
 
 -- those of a group, before other parties
@@ -60,8 +95,8 @@ group line a b c n number others = sender line a n number ∷ giver line b ∷ a
 -- the two connections of a group, before others
 abbrev pub connections : ℕ → ℕ → ℕ → ℕ → List ConnectAt → List ConnectAt
 connections line a b c others =
-    record { line = line; first = record { party = a; name = 5; protocol = 0 }; second = record { party = b; name = 9; protocol = 1 } }
-    ∷ record { line = line + 1; first = record { party = b; name = 8; protocol = 2 }; second = record { party = c; name = 11; protocol = 3 } } ∷ others
+    record { line = line; first = record { party = a; name = x; protocol = w }; second = record { party = b; name = y; protocol = v } }
+    ∷ record { line = line + 1; first = record { party = b; name = z; protocol = g }; second = record { party = c; name = u; protocol = h } } ∷ others
 
 -- with n messages in each loop
 abbrev pub generated_file : ℕ → FileAt
