@@ -1,6 +1,7 @@
 pub mod Acts
 pub mod Balanced
 pub mod Ends
+pub mod Lines
 pub mod Program
 pub mod Run
 pub mod Start
