@@ -15,4 +15,7 @@ pub mod ActsLemmas
 pub mod FrontLemmas
 pub mod TakenLemmas
 pub mod HolderLemmas
+pub mod MomentLemmas
+pub mod OnItsWayLemmas
+pub mod DelegatedLemmas
 pub mod SampleLemmas

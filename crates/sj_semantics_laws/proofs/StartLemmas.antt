@@ -17,7 +17,7 @@ owner_of ps n (c ∷ cs) e =
     cond (is_end e (record { sess = n; side = 0 })) (party_named ps c.first.party)
     (cond (is_end e (record { sess = n; side = 1 })) (party_named ps c.second.party) (owner_of ps (n + 1) cs e))
 
-bindings_of-append : (e : EndId) (as' bs : List (ℕ × EndId)) → bindings_of e (as' ++ bs) ≡ bindings_of e as' + bindings_of e bs
+pub bindings_of-append : (e : EndId) (as' bs : List (ℕ × EndId)) → bindings_of e (as' ++ bs) ≡ bindings_of e as' + bindings_of e bs
 bindings_of-append e as' bs = sum_by-append (λ (c : ℕ × EndId). cond (is_end e c.1) 1 0) as' bs
 
 one_end : (e f : EndId) (x : ℕ) (b : Bool) → bindings_of e (cond b ((x, f) ∷ []) []) ≡ cond b (one_if (is_end e f)) 0
@@ -31,7 +31,7 @@ not_end : (b c : Bool) → c ≡ false → cond b (one_if c) 0 ≡ 0
 not_end true c h = ap {B = ℕ} one_if h
 not_end false c h = refl
 
-other_session : (e : EndId) (n d : ℕ) → (e.sess ≡ n → ⊥) → is_end e (record { sess = n; side = d }) ≡ false
+pub other_session : (e : EndId) (n d : ℕ) → (e.sess ≡ n → ⊥) → is_end e (record { sess = n; side = d }) ≡ false
 other_session e n d ne = false_from_ne_true (is_end e (record { sess = n; side = d })) (λ t. ne (eqb-true e.sess n (and_parts (e.sess == n) _ t).0))
 
 end_session : (e : EndId) (n d : ℕ) → is_end e (record { sess = n; side = d }) ≡ true → e.sess ≡ n
@@ -154,7 +154,7 @@ programs_bind e file p (q ∷ qs) =
       one_of_them (owner_of file.parties 0 file.connects e) p,
     )
 
-nothing_carried : (e : EndId) (file : FileAt) (cs : List ConnectAt) → sum_by (carried_in e) (map (session_of file) cs) ≡ 0
+pub nothing_carried : (e : EndId) (file : FileAt) (cs : List ConnectAt) → sum_by (carried_in e) (map (session_of file) cs) ≡ 0
 nothing_carried e file [] = refl
 nothing_carried e file (c ∷ cs) = omega (arith, sum_by-cons (carried_in e) (session_of file c) (map (session_of file) cs), nothing_carried e file cs)
 

@@ -1,5 +1,6 @@
 pub mod AgencySamples
 pub mod Bound
 pub mod HandoverSamples
+pub mod Runs
 pub mod Samples
 pub mod Unshared

@@ -2,6 +2,7 @@
 #![tactic(auto)]
 
 mod laws;
+mod runs;
 mod samples;
 
 pub use laws::{
@@ -11,6 +12,11 @@ pub use laws::{
     lists_are_those_of_the_acts, nobody_takes_more_than_was_sent, ready_parties_can_act,
     settled_runs_meet, steps_name_bound_ends, taken_is_a_front_of_sent, the_end_is_settled,
     what_acts_is_ready,
+};
+pub use runs::{
+    a_delegated_end_is_bound_nowhere_until_it_is_taken, a_front_of_a_run_is_a_run,
+    a_party_stays_ready_over_acts_of_others, an_end_has_one_holder_in_every_run,
+    an_end_is_bound_nowhere_from_its_close_on, runs_lead_to_unshared_worlds,
 };
 pub use samples::{
     agencies_end_so, handovers_end_so, loop_counts_are_clamped, numbers_wrap,
