@@ -29,4 +29,5 @@ pub mod GoingLemmas
 pub mod EndedLemmas
 pub mod PlacedLemmas
 pub mod FittingLemmas
+pub mod HeadlineLemmas
 pub mod GreetingLemmas

@@ -22,16 +22,16 @@ use Rattle.sj_accepted_laws.proofs.GoingLemmas.{act_keeps_located}
 use Rattle.sj_accepted_laws.proofs.EndedLemmas.{done_is_taken}
 
 -- the list has the end under the name
-abbrev Has : List (ℕ × EndId) → ℕ → EndId → Type 0
+abbrev pub Has : List (ℕ × EndId) → ℕ → EndId → Type 0
 Has [] n e = ⊥
 Has (b ∷ bs) n e = ((b.0 ≡ n) × (b.1 ≡ e)) ⊎ Has bs n e
 
-has_left : (xs ys : List (ℕ × EndId)) (n : ℕ) (e : EndId) → Has xs n e → Has (xs ++ ys) n e
+pub has_left : (xs ys : List (ℕ × EndId)) (n : ℕ) (e : EndId) → Has xs n e → Has (xs ++ ys) n e
 has_left [] ys n e h = absurd h
 has_left (x ∷ xs) ys n e (inl h) = inl h
 has_left (x ∷ xs) ys n e (inr h) = inr (has_left xs ys n e h)
 
-has_right : (xs ys : List (ℕ × EndId)) (n : ℕ) (e : EndId) → Has ys n e → Has (xs ++ ys) n e
+pub has_right : (xs ys : List (ℕ × EndId)) (n : ℕ) (e : EndId) → Has ys n e → Has (xs ++ ys) n e
 has_right [] ys n e h = h
 has_right (x ∷ xs) ys n e h = inr (has_right xs ys n e h)
 
@@ -43,15 +43,15 @@ has_one file p d e h = ap_has (party_named file.parties d.party == p) (eq-eqb (p
     ap_has false t = cc
 
 -- the end that a connection declares
-abbrev decl_at : ℕ → ConnectAt → DeclAt
+abbrev pub decl_at : ℕ → ConnectAt → DeclAt
 decl_at zero c = c.first
 decl_at (suc d) c = c.second
 
-abbrev one_side : ℕ → ℕ
+abbrev pub one_side : ℕ → ℕ
 one_side zero = 0
 one_side (suc d) = 1
 
-has_declared : (file : FileAt) (p n d : ℕ) (cs : List ConnectAt) (i : ℕ) (c : ConnectAt) → slice_get cs i ≡ Some c → party_named file.parties (decl_at d c).party ≡ p → Has (ends_from file p n cs) (decl_at d c).name (side (n + i) (one_side d))
+pub has_declared : (file : FileAt) (p n d : ℕ) (cs : List ConnectAt) (i : ℕ) (c : ConnectAt) → slice_get cs i ≡ Some c → party_named file.parties (decl_at d c).party ≡ p → Has (ends_from file p n cs) (decl_at d c).name (side (n + i) (one_side d))
 has_declared file p n d [] i c h own = cc
 has_declared file p n zero (b ∷ cs) zero c h own =
     let it : b ≡ c = cc in
@@ -74,7 +74,7 @@ has_declared file p n d (b ∷ cs) (suc i) c h own =
 
 -- ---- names once
 
-abbrev NamedOnce : List Session → List (ℕ × EndId) → Type 0
+abbrev pub NamedOnce : List Session → List (ℕ × EndId) → Type 0
 NamedOnce zs bs = AllPairs (λ b c. b.0 ≢ c.0) (map (places_shown zs) bs)
 
 has_index : (zs : List Session) (bs : List (ℕ × EndId)) (n : ℕ) (e : EndId) (d : ℕ × Place) → Has bs n e → (j : ℕ) × ((j < length (map (places_shown zs) bs)) × ((slice_index_or (map (places_shown zs) bs) j d).0 ≡ n))
@@ -82,7 +82,7 @@ has_index zs [] n e d h = absurd h
 has_index zs (b ∷ bs) n e d (inl h) = (0, (omega arith, h.0))
 has_index zs (b ∷ bs) n e d (inr h) = let r = has_index zs bs n e d h in (suc r.0, (omega (arith, r.1.0), r.1.1))
 
-has_named : (zs : List Session) (bs : List (ℕ × EndId)) (n : ℕ) (e : EndId) → NamedOnce zs bs → Has bs n e → named bs n ≡ Some e
+pub has_named : (zs : List Session) (bs : List (ℕ × EndId)) (n : ℕ) (e : EndId) → NamedOnce zs bs → Has bs n e → named bs n ≡ Some e
 has_named zs [] n e once h = absurd h
 has_named zs (b ∷ bs) n e once (inl h) = ap (λ (t : Bool). cond t (Some b.1) (named bs n)) (eq-eqb b.0 n h.0) ∙ ap Some h.1
 has_named zs (b ∷ bs) n e once (inr h) =
@@ -95,11 +95,11 @@ has_named zs (b ∷ bs) n e once (inr h) =
 
 -- ---- the start
 
-record PartyThere (qs : List PartyAt) (p : ℕ) : Type 0 where
-  party : PartyAt
-  there : slice_get qs p ≡ Some party
+pub record PartyThere (qs : List PartyAt) (p : ℕ) : Type 0 where
+  pub party : PartyAt
+  pub there : slice_get qs p ≡ Some party
 
-party_there : (qs : List PartyAt) (p : ℕ) → p < length qs → PartyThere qs p
+pub party_there : (qs : List PartyAt) (p : ℕ) → p < length qs → PartyThere qs p
 party_there [] p lt = absurd (omega arith)
 party_there (q ∷ qs) zero lt = record { party = q; there = refl }
 party_there (q ∷ qs) (suc p) lt = let r = party_there qs p (omega arith) in record { party = r.party; there = r.there }
@@ -111,7 +111,7 @@ canonical e = and_from (e.sess == e.sess) (is_same_side e.side (one_side e.side)
     sides zero = refl
     sides (suc d) = refl
 
-declared_party : (file : FileAt) (c : ConnectAt) (d : ℕ) → IsConnection file c → party_named file.parties (decl_at d c).party < length file.parties
+pub declared_party : (file : FileAt) (c : ConnectAt) (d : ℕ) → IsConnection file c → party_named file.parties (decl_at d c).party < length file.parties
 declared_party file c zero h = h.first.party
 declared_party file c (suc d) h = h.second.party
 

@@ -6,10 +6,12 @@
 //! - `the_next_message_fits`, `the_next_message_has_a_place_after_it`, `a_taken_end_is_at_the_body`:
 //!   the next message of an end.
 //! - `done_leaves_nothing_untaken`, `done_takes_all_that_was_sent`: where all is done.
+//! - `settled_runs_have_the_headline`: all of it at once, of a run to where nobody can go on.
 
 ghost use Rattle.std.specs.Prelude.{◌≡◌, ◌<◌, ℕ, List, [], length, map, Some, slice_get, true};
 ghost use Rattle.sj_acceptance.specs.Accepted.{IsAccepted};
 ghost use Rattle.sj_accepted_laws.specs.Fitting.{FitsPlaces};
+ghost use Rattle.sj_accepted_laws.specs.Headline.{IsHeadline};
 ghost use Rattle.sj_base.specs.declared.EndId.{EndId};
 ghost use Rattle.sj_base.specs.declared.Msg.TheVariants.{Sess};
 ghost use Rattle.sj_lang.specs.After.{after_place};
@@ -22,7 +24,7 @@ ghost use Rattle.sj_semantics.specs.Ends.{end_at, next_for, other_end, untaken_f
 ghost use Rattle.sj_semantics.specs.Program.{Program};
 ghost use Rattle.sj_semantics.specs.Run.{IsRun};
 ghost use Rattle.sj_semantics.specs.Start.{start_of};
-ghost use Rattle.sj_semantics.specs.State.{verdict_of};
+ghost use Rattle.sj_semantics.specs.State.{IsSettled, verdict_of};
 ghost use Rattle.sj_semantics.specs.Wants.{fits, want_of};
 ghost use Rattle.sj_semantics.specs.World.{World};
 ghost use Rattle.sj_semantics.specs.declared.Awaits.{Awaits};
@@ -97,4 +99,10 @@ pub fn done_takes_all_that_was_sent()
         IsRun file ps w → verdict_of w ≡ Done → e.sess < length file.connects →
         map (λ x. x.msg) (taken_on e (acts_from (start_of file) ps))
         ≡ map (λ x. x.msg) (sent_on (other_end e) (acts_from (start_of file) ps)) }
+{}
+
+/// Each run of an accepted file to where nobody can go on has the headline.
+pub fn settled_runs_have_the_headline()
+    ensures { (file : FileAt) (acts : List ℕ) (end : World) → IsAccepted file →
+        IsRun file acts end → IsSettled end → IsHeadline file acts end }
 {}
