@@ -1,0 +1,68 @@
+-- Why a party can't act now.
+use Rattle.std.specs.Prelude.{nat_lt, Bool, true, false, if◌then◌else◌, List, [], ◌∷◌, Option, Some, None}
+use Rattle.sj_base.specs.declared.EndId.{EndId}
+use Rattle.sj_rules.specs.Limits.{limit_of_hops}
+use Rattle.sj_rules.specs.Record.{MainAt, Held, Closed, Expected}
+use Rattle.sj_rules.specs.Node.{Want, ended, local, sends, delegates, takes, closes, Play, NodeAt}
+
+-- the program is at its end, or has done its steps; a named end is awaited; the end was delegated too often; no message is there
+pub data Halt : Type 0 where
+  at_end : Halt
+  worn : Halt
+  awaits : EndId → Halt
+  handed_enough : EndId → Halt
+  no_message : EndId → Halt
+
+-- the record is an Expected one
+abbrev pub is_expected : {P : Type 0} → Option (MainAt P) → Bool
+is_expected (Some (Expected keeper place deferred)) = true
+is_expected (Some (Held h)) = false
+is_expected (Some (Closed e)) = false
+is_expected None = false
+
+-- the end may be delegated once more
+abbrev pub may_be_handed : {P : Type 0} → Option (MainAt P) → Bool
+may_be_handed (Some (Held h)) = nat_lt h.end.hops limit_of_hops
+may_be_handed (Some (Closed e)) = false
+may_be_handed (Some (Expected keeper place deferred)) = false
+may_be_handed None = false
+
+-- the list has an element
+abbrev pub is_filled : {X : Type 0} → List X → Bool
+is_filled [] = false
+is_filled (x ∷ xs) = true
+
+-- the record is a Held one with an untaken message
+abbrev pub has_message : {P : Type 0} → Option (MainAt P) → Bool
+has_message (Some (Held h)) = is_filled h.untaken
+has_message (Some (Closed e)) = false
+has_message (Some (Expected keeper place deferred)) = false
+has_message None = false
+
+-- this cause where the test says so, else the next ones
+abbrev pub halt_if : Bool → Halt → Option Halt → Option Halt
+halt_if b h rest = if b then Some h else rest
+
+-- the causes of a next step, in order: an awaited end, an end with too many handovers, no message
+abbrev pub halt_by : {P Q : Type 0} → NodeAt P Q → Want P → Option Halt
+halt_by n ended = Some at_end
+halt_by n local = None
+halt_by n (sends e msg) = halt_if (is_expected (n.main e)) (awaits e) None
+halt_by n (delegates carrier e) =
+    halt_if (is_expected (n.main carrier)) (awaits carrier)
+    (halt_if (is_expected (n.main e)) (awaits e) (if may_be_handed (n.main e) then None else Some (handed_enough e)))
+halt_by n (takes e place) = halt_if (is_expected (n.main e)) (awaits e) (if has_message (n.main e) then None else Some (no_message e))
+halt_by n (closes e) = halt_if (is_expected (n.main e)) (awaits e) None
+
+-- the program has no next step
+abbrev pub is_at_end : {P : Type 0} → Want P → Bool
+is_at_end ended = true
+is_at_end local = false
+is_at_end (sends e msg) = false
+is_at_end (delegates carrier e) = false
+is_at_end (takes e place) = false
+is_at_end (closes e) = false
+
+-- the first cause that applies
+abbrev pub halt_of : {P Q : Type 0} → Play P Q → NodeAt P Q → Option Halt
+halt_of play n = halt_if (is_at_end (play.wants n.program)) at_end (halt_if (play.is_worn n.program) worn (halt_by n (play.wants n.program)))

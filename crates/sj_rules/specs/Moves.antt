@@ -1,0 +1,62 @@
+-- The act of a party in the plain world, as far as the rules see that world: sides change at the ends that the step names.
+use Rattle.std.specs.Prelude.{ℕ, ◌==◌, nat_lt, if◌then◌else◌, Option, Some, None, option_map}
+use Rattle.sj_base.specs.declared.EndId.{EndId}
+use Rattle.sj_base.specs.declared.Msg.{Msg}
+use Rattle.sj_base.specs.declared.Msg.TheVariants as msgs
+use Rattle.sj_lang.specs.declared.proto.Way.TheVariants.{Out, Into}
+use Rattle.sj_rules.specs.Limits.{limit_of_hops}
+use Rattle.sj_rules.specs.Record.{is_same_end}
+use Rattle.sj_rules.specs.Node.{Want, ended, local, sends, delegates, takes, closes, Play}
+use Rattle.sj_rules.specs.PlainSide.{PlainSide, PlainAt}
+use Rattle.sj_rules.specs.Linked.{waiting_at}
+use Rattle.sj_rules.specs.Acts.{plain_sent, plain_taken, plain_parked}
+
+-- the program of a party is another from now on
+abbrev pub with_program : {P Q : Type 0} → ℕ → Q → PlainAt P Q → PlainAt P Q
+with_program p g plain = record plain { programs = λ q. if q == p then g else plain.programs q }
+
+-- a side is what f makes of it from now on
+abbrev pub with_side : {P Q : Type 0} → EndId → (PlainSide P → PlainSide P) → PlainAt P Q → PlainAt P Q
+with_side e f plain = record plain { sides = λ d. if is_same_end d e then f (plain.sides d) else plain.sides d }
+
+-- the session message with which the party hands the end on
+abbrev pub handing : EndId → ℕ → Msg
+handing e keeper = msgs.Sess e.sess e.side keeper
+
+-- the program goes on
+abbrev pub plain_goes : {P Q : Type 0} → Play P Q → ℕ → Option Msg → PlainAt P Q → PlainAt P Q
+plain_goes play p taken plain = with_program p (play.goes (plain.programs p) taken) plain
+
+-- a message is sent on e
+abbrev pub plain_sends : {P Q : Type 0} → Play P Q → ℕ → EndId → Msg → P → PlainAt P Q → PlainAt P Q
+plain_sends play p e msg place plain = with_side e (λ x. plain_sent x place msg) (plain_goes play p None plain)
+
+-- e is handed on and its session message is sent on the carrier
+abbrev pub plain_delegates : {P Q : Type 0} → Play P Q → ℕ → EndId → EndId → P → PlainAt P Q → PlainAt P Q
+plain_delegates play p carrier e place plain =
+    with_side carrier (λ x. plain_sent x place (handing e p)) (with_side e plain_parked (plain_goes play p None plain))
+
+-- a message is taken on e
+abbrev pub plain_takes : {P Q : Type 0} → Play P Q → ℕ → EndId → Msg → P → PlainAt P Q → PlainAt P Q
+plain_takes play p e msg place plain = with_side e (λ x. plain_taken x place) (plain_goes play p (Some msg) plain)
+
+-- the head that waits is taken, where there is one
+abbrev pub plain_takes_head : {P Q : Type 0} → Play P Q → ℕ → EndId → PlainAt P Q → Option Msg → Option (PlainAt P Q)
+plain_takes_head play p e plain None = None
+plain_takes_head play p e plain (Some m) = option_map (λ place. plain_takes play p e m place plain) (play.next (plain.sides e).place Into m)
+
+-- by the next step that the program wants; None where the party isn't ready
+abbrev pub plain_act_by : {P Q : Type 0} → Play P Q → PlainAt P Q → ℕ → Want P → Option (PlainAt P Q)
+plain_act_by play plain p ended = None
+plain_act_by play plain p local = Some (plain_goes play p None plain)
+plain_act_by play plain p (sends e msg) = option_map (λ place. plain_sends play p e msg place plain) (play.next (plain.sides e).place Out msg)
+plain_act_by play plain p (delegates carrier e) =
+    if nat_lt (plain.sides e).hops limit_of_hops
+    then option_map (λ place. plain_delegates play p carrier e place plain) (play.next (plain.sides carrier).place Out (handing e p))
+    else None
+plain_act_by play plain p (takes e named) = plain_takes_head play p e plain (waiting_at plain e 0)
+plain_act_by play plain p (closes e) = Some (plain_goes play p None plain)
+
+-- the plain world after the party's next step, where it is ready
+abbrev pub plain_act : {P Q : Type 0} → Play P Q → PlainAt P Q → ℕ → Option (PlainAt P Q)
+plain_act play plain p = if play.is_worn (plain.programs p) then None else plain_act_by play plain p (play.wants (plain.programs p))

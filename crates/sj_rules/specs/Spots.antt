@@ -1,0 +1,48 @@
+-- Where an end lies in a core world, and who awaits it.
+use Rattle.std.specs.Prelude.{◌≡◌, ◌⊎◌, ◌↔◌, ℕ, ⊤, List, [], ◌∷◌, Option, Some, None}
+use Rattle.std.specs.List.{filter}
+use Rattle.sj_base.specs.declared.EndId.{EndId}
+use Rattle.sj_base.specs.declared.Msg.TheVariants as msgs
+use Rattle.sj_rules.specs.Record.{EndAt, BodyAt, Mail, MainAt, Held, Closed, Expected, OldAt, Parked, Signalled}
+use Rattle.sj_rules.specs.World.{WorldAt}
+use Rattle.sj_rules.specs.Shown.{bodies, is_give}
+use Rattle.sj_rules.specs.PlainSide.{PlainAt}
+use Rattle.sj_rules.specs.Linked.{waiting_at}
+
+-- a Held or Closed record at that party; a Parked or Signalled one; the one Give of the end in that lane
+pub data Spot : Type 0 where
+  at_main : ℕ → Spot
+  at_old : ℕ → Spot
+  on_way : (from to : ℕ) → Spot
+
+-- the end lies there; an Expected record only awaits it
+abbrev pub HasMain : {P : Type 0} → Option (MainAt P) → Type 0
+HasMain (Some (Held h)) = ⊤
+HasMain (Some (Closed e)) = ⊤
+HasMain (Some (Expected keeper place deferred)) = ⊥
+HasMain None = ⊥
+
+-- the same of an old record
+abbrev pub HasOld : {P : Type 0} → Option (OldAt P) → Type 0
+HasOld (Some o) = ⊤
+HasOld None = ⊥
+
+-- the world has the end at that spot
+abbrev pub LiesAt : {P Q : Type 0} → WorldAt P Q → EndId → Spot → Type 0
+LiesAt w e (at_main p) = HasMain ((w.nodes p).main e)
+LiesAt w e (at_old p) = HasOld ((w.nodes p).old e)
+LiesAt {P} w e (on_way from to) = (give : BodyAt P) × (filter (is_give e) (bodies (w.lanes from to)) ≡ give ∷ [])
+
+-- the end lies in that one place, or is gone where there is none; one party at most awaits it, from where it lies
+pub record LiesOnce {P Q : Type 0} (w : WorldAt P Q) (e : EndId) : Type 0 where
+  pub spot : Option Spot
+  pub lies : (at : Spot) → LiesAt w e at ↔ (spot ≡ Some at)
+  pub awaiter : Option ℕ
+  pub awaits : (p keeper : ℕ) (place : P) (late : List (Mail P)) → (w.nodes p).main e ≡ Some (Expected keeper place late) →
+      (awaiter ≡ Some p) × ((spot ≡ Some (at_old keeper)) ⊎ (spot ≡ Some (on_way keeper p)))
+
+-- where the world has come to rest nobody awaits the end, and it is parked only where its message waits
+pub record IsAtRest {P Q : Type 0} (w : WorldAt P Q) (plain : PlainAt P Q) (e : EndId) : Type 0 where
+  pub not_awaited : (p keeper : ℕ) (place : P) (late : List (Mail P)) → (w.nodes p).main e ≡ Some (Expected keeper place late) → ⊥
+  pub not_signalled : (p to : ℕ) (k : EndAt P) → (w.nodes p).old e ≡ Some (Signalled k to) → ⊥
+  pub waits : (p : ℕ) (k : EndAt P) → (w.nodes p).old e ≡ Some (Parked k) → (d : EndId) × (n : ℕ) × (waiting_at plain d n ≡ Some (msgs.Sess e.sess e.side p))
