@@ -1,0 +1,18 @@
+-- The histories compute.
+use Rattle.std.proofs.Common.{refl}
+use Rattle.sj_semantics_laws.specs.HandoverSamples.{handed_over, both_moved}
+use Rattle.sj_rules_laws.specs.CoreSamples.{IsLoggedSo, handed_over_lines, both_moved_lines}
+use Rattle.sj_rules_laws.specs.MoreCoreSamples.{sends_later, sends_later_lines}
+use Rattle.sj_rules_laws.specs.MovedTwiceSamples.{moved_twice, moved_twice_lines}
+
+pub handed_over_gives : IsLoggedSo handed_over handed_over_lines
+handed_over_gives = (refl, refl)
+
+pub both_moved_gives : IsLoggedSo both_moved both_moved_lines
+both_moved_gives = (refl, refl)
+
+pub sends_later_gives : IsLoggedSo sends_later sends_later_lines
+sends_later_gives = (refl, refl)
+
+pub moved_twice_gives : IsLoggedSo moved_twice moved_twice_lines
+moved_twice_gives = (refl, refl)

@@ -1,0 +1,199 @@
+-- The next step of each party of a run of an accepted file fits what the rules see of the plain world.
+use Rattle.std.proofs.Common.{◌≡◌, ◌↔◌, ℕ, ◌<◌, true, false, List, [], ◌∷◌, map, length, drop, slice_get, Option, Some, None, option_map, unwrap_or, refl, ap, sym, ◌∙◌, subst, inl, inr, ◌⊎◌}
+use Rattle.std.proofs.lemmas.Bool.{false_from_ne_true, both_ways}
+use Rattle.sj_base.specs.declared.EndId.{EndId}
+use Rattle.sj_base.specs.declared.Msg.{Msg}
+use Rattle.sj_base.specs.declared.Msg.TheVariants as msgs
+use Rattle.sj_lang.specs.declared.proto.Way.TheVariants.{Out, Into}
+use Rattle.sj_lang.specs.Place.{Place, done}
+use Rattle.sj_lang.specs.Dual.{dual_of}
+use Rattle.sj_lang.specs.After.{after_place}
+use Rattle.sj_lang.specs.FileAt.{ProtocolAt, named}
+use Rattle.sj_semantics.specs.declared.Want.{Want}
+use Rattle.sj_semantics.specs.declared.Want.TheVariants as wants
+use Rattle.sj_semantics.specs.declared.Awaits.{Awaits}
+use Rattle.sj_semantics.specs.declared.Awaits.TheVariants as awaits
+use Rattle.sj_semantics.specs.declared.Passed.{Passed}
+use Rattle.sj_semantics.specs.Balanced.{LeadsTaker}
+use Rattle.sj_semantics.specs.Ends.{Session, EndAt, end_at, next_for, is_end}
+use Rattle.sj_semantics.specs.Ends as semantics
+use Rattle.sj_semantics.specs.Program.{Program, without}
+use Rattle.sj_semantics.specs.Wants.{want_of, fits}
+use Rattle.sj_semantics.specs.World.{World, session_message}
+use Rattle.sj_semantics_laws.proofs.BoundLemmas.{is_end-self}
+use Rattle.sj_accepted_laws.proofs.LeadLemmas.{Ahead, coming, for_sender}
+use Rattle.sj_accepted_laws.proofs.DualPlaceLemmas.{dual_of-dual_of}
+use Rattle.sj_accepted_laws.proofs.TouchedLemmas.{side, Sound, pair_of, not_done}
+use Rattle.sj_accepted_laws.proofs.SoundLemmas.{fits_want}
+use Rattle.sj_accepted_laws.proofs.UnnamedLemmas.{names_apart, bindings_once}
+use Rattle.sj_accepted_laws.proofs.LocatedLemmas.{ends_go}
+use Rattle.sj_accepted_laws.proofs.AcceptedLemmas.{next_fits}
+use Rattle.sj_accepted_laws.proofs.FittingLemmas.{next_has_a_place, taken_at_body}
+use Rattle.sj_rules.specs.Record.{other_end, is_same_end}
+use Rattle.sj_rules.specs.PlainSide.{PlainSide, untaken_of}
+use Rattle.sj_rules.specs.Party.{place_awaited, want_for, after_step, is_done, IsDone, play_for, binds}
+use Rattle.sj_rules.specs.Plain.{side_at, plain_side, plain_at}
+use Rattle.sj_rules.specs.Binding.{BindsSame, BindsWithout, NamesAt}
+use Rattle.sj_rules.specs.Premises.{FitsSend, FitsDelegate, FitsHead, FitsTake, FitsClose, FitsStep}
+use Rattle.sj_rules_laws.proofs.SideLemmas.{other_end_is, other_side_below, same_end_is, side_below, drop-map}
+use Rattle.sj_rules_laws.proofs.NamesLemmas.{name_binds, binds_without, binds_in}
+use Rattle.sj_rules_laws.proofs.TookLemmas.{binds_same, binds_taken}
+use Rattle.sj_rules_laws.proofs.ProperLemmas.{Size, AreProper, IsProper, IsProperMessage, message_in, sends_no_end}
+use Rattle.sj_rules_laws.proofs.WantLemmas.{takes_named, awaits_session}
+use Rattle.sj_rules_laws.proofs.ActLemmas.{waiting_is_next}
+use Rattle.sj_lang.specs.declared.proto.Way.{Way}
+
+-- ---- places
+
+pub next_at_side : (zs : List Session) (e : EndId) (way : Way) (m : Msg) (next : Place) → e.side < 2
+    → after_place (end_at zs e).place way m ≡ Some next → after_place (plain_side zs e).place way m ≡ Some next
+next_at_side zs e way m next lt h = ap (λ (x : PlainSide Place). after_place x.place way m) (side_below zs e lt) ∙ h
+
+nothing_at_done : (zs : List Session) (p : Place) (ms : List Msg) (q : Place) → p ≡ done → LeadsTaker zs p ms q → ms ≡ []
+nothing_at_done zs p [] q e l = refl
+nothing_at_done zs p (m ∷ ms) q e l = let none : None ≡ Some l.0 = sym (ap (λ t. after_place t Into m) e) ∙ l.2 in cc
+
+-- nothing waits for an end whose place is empty
+nothing_waits : (zs : List Session) (a b : EndAt) → a.place ≡ done → Ahead zs a b ⊎ Ahead zs b a → map (λ x. x.msg) (coming a b) ≡ []
+nothing_waits zs a b e (inl t) = nothing_at_done zs a.place _ (dual_of b.place) e t.leads
+nothing_waits zs a b e (inr t) = t.nothing_back
+
+-- what waits, by the sessions
+pub untaken_is : (w : World) (e : EndId) → e.side < 2
+    → untaken_of ((plain_at w).sides (other_end e)) ((plain_at w).sides e) ≡ map (λ x. x.msg) (coming (end_at w.sessions e) (end_at w.sessions (semantics.other_end e)))
+untaken_is w e lt =
+    let taker : EndAt = end_at w.sessions e in
+    let giver : EndAt = end_at w.sessions (semantics.other_end e) in
+    ap (λ (x : PlainSide Place). drop x.taken (plain_side w.sessions (other_end e)).sent) (side_below w.sessions e lt)
+    ∙ ap (λ (x : PlainSide Place). drop (length taker.takers) x.sent) (side_below w.sessions (other_end e) (other_side_below e) ∙ ap (λ (f : EndId). side_at (end_at w.sessions f)) (other_end_is e))
+    ∙ drop-map (λ (x : Passed). x.msg) (length taker.takers) giver.sent
+
+is_done_there : (p : Place) → p ≡ done → is_done p ≡ true
+is_done_there p h = ap is_done h
+
+-- ---- the step of a party
+
+module _ (ps : List ProtocolAt) (n : Size) (w : World) (p : ℕ) (g : Program) (sound : Sound ps w) (proper : IsProper n w) (there : slice_get w.parties p ≡ Some g) where
+  own_proper : AreProper n g.ends
+  own_proper = proper.names p g there
+
+  -- the program after a step that takes nothing
+  after_is : (want : Want) → want_of g ≡ Some want → (play_for n.parties ps).goes g None ≡ after_step g (Some want)
+  after_is want it = ap (after_step g) it
+
+  same_by : (want : Want) → want_of g ≡ Some want → (after_step g (Some want)).ends ≡ g.ends → BindsSame binds g ((play_for n.parties ps).goes g None)
+  same_by want it h = subst (λ (new : Program). BindsSame binds g new) (sym (after_is want it)) (binds_same g (after_step g (Some want)) h)
+
+  -- without the name of that end
+  without_by : (want : Want) (y : EndId) (x : ℕ) → want_of g ≡ Some want → named g.ends x ≡ Some y → (after_step g (Some want)).ends ≡ without g.ends x → BindsWithout binds g ((play_for n.parties ps).goes g None) y
+  without_by want y x it is_named h =
+      subst (λ (new : Program). BindsWithout binds g new y) (sym (after_is want it))
+      (subst (λ (ends : List (ℕ × EndId)). (f : EndId) → (binds_in ends f ≡ true) ↔ ((binds g f ≡ true) × (is_same_end f y ≡ false))) (sym h)
+      (binds_without g.ends x y (bindings_once w p g y sound.unshared there) is_named))
+
+  -- where a message is sent, the other end's place isn't empty
+  goes_on_by : (e : EndId) (m : Msg) (next : Place) → after_place (end_at w.sessions e).place Out m ≡ Some next → (plain_side w.sessions (other_end e)).place ≡ done → ⊥
+  goes_on_by e m next h over =
+      let a : EndAt = end_at w.sessions e in
+      let b : EndAt = end_at w.sessions (semantics.other_end e) in
+      let b_over : b.place ≡ done = ap (λ (f : EndId). (end_at w.sessions f).place) (sym (other_end_is e)) ∙ ap (λ (x : PlainSide Place). x.place) (sym (side_below w.sessions (other_end e) (other_side_below e))) ∙ over in
+      not_done a.place next Out m h (over_by a b b_over (for_sender w.sessions a b next m h (pair_of w.sessions w.sessions e sound.pairs).even))
+    where
+      over_by : (a b : EndAt) → b.place ≡ done → Ahead w.sessions b a → a.place ≡ done
+      over_by a b b_over t =
+          let none = nothing_at_done w.sessions b.place (map (λ x. x.msg) (coming b a)) (dual_of a.place) b_over t.leads in
+          let both : b.place ≡ dual_of a.place = subst (λ (ms : List Msg). LeadsTaker w.sessions b.place ms (dual_of a.place)) none t.leads in
+          sym (dual_of-dual_of a.place) ∙ ap dual_of (sym both ∙ b_over)
+
+  send_fits : (e : EndId) (m : Msg) → want_of g ≡ Some (wants.Send e m) → FitsSend IsDone (play_for n.parties ps) binds (plain_at w) g e m
+  send_fits e m it =
+      let fit = fits_want ps w.sessions g (wants.Send e m) (sound.programs p g there) it in
+      record {
+        bound = name_binds g.ends fit.name e fit.is_named;
+        place = fit.next;
+        after = next_at_side w.sessions e Out m fit.next (own_proper.below fit.name e fit.is_named).0 fit.after;
+        goes_on = goes_on_by e m fit.next fit.after;
+        no_end = sends_no_end g e m it;
+        names = same_by (wants.Send e m) it (ends_go g (wants.Send e m) it);
+      }
+
+  apart_by : (e y : EndId) (x z : ℕ) → named g.ends x ≡ Some e → named g.ends z ≡ Some y → (z ≡ x → ⊥) → is_same_end e y ≡ false
+  apart_by e y x z hx hz ne =
+      false_from_ne_true (is_same_end e y) (λ t.
+      both_ways (is_end e y) (names_apart g.ends x z e y (bindings_once w p g e sound.unshared there) hx hz ne)
+      (subst (λ (f : EndId). is_end e f ≡ true) (same_end_is e y t) (is_end-self e)))
+
+  delegate_fits : (e y : EndId) → want_of g ≡ Some (wants.Delegate e y) → FitsDelegate IsDone (play_for n.parties ps) binds (plain_at w) p g e y
+  delegate_fits e y it =
+      let fit = fits_want ps w.sessions g (wants.Delegate e y) (sound.programs p g there) it in
+      let go = ends_go g (wants.Delegate e y) it in
+      let at : after_place (end_at w.sessions e).place Out (session_message y p) ≡ Some fit.next = ap (λ (q : Place). after_place q Out (session_message y p)) fit.carries in
+      record {
+        bound = name_binds g.ends fit.name e fit.is_named;
+        handed = name_binds g.ends fit.sent_name y fit.sent_named;
+        apart = apart_by e y fit.name fit.sent_name fit.is_named fit.sent_named fit.two_names;
+        place = fit.next;
+        after = next_at_side w.sessions e Out (session_message y p) fit.next (own_proper.below fit.name e fit.is_named).0 at;
+        goes_on = goes_on_by e (session_message y p) fit.next at;
+        names = without_by (wants.Delegate e y) y go.0 it go.1 go.2;
+      }
+
+  -- the end that a message names is at the place that the statement names
+  names_at : (e : EndId) (a : Awaits) (x : Passed) (m : Msg) → want_of g ≡ Some (wants.Take e a) → next_for w.sessions e ≡ Some x → x.msg ≡ m → IsProperMessage n m
+      → fits g m ≡ true → NamesAt (plain_at w) (place_awaited ps a) m
+  names_at e a x (msgs.Sess s d k) it next is ok can =
+      let q = awaits_session g.vars g.ends g.todo e a it s d k can in
+      let want : want_of g ≡ Some (wants.Take e (awaits.Session q.0)) = it ∙ ap (λ (t : Awaits). Some (wants.Take e t)) (sym q.1) in
+      let at = taken_at_body ps w p q.0 g e x s d k sound there want next is in
+      ap (λ (t : PlainSide Place). t.place) (side_below w.sessions (side s d) ok.1)
+      ∙ sym (ap (place_awaited ps) (sym q.1) ∙ ap (λ (o : Option Place). unwrap_or o done) at)
+  names_at e a x (msgs.Int i) it next is ok can = tt
+  names_at e a x (msgs.Bool b) it next is ok can = tt
+  names_at e a x (msgs.Text i) it next is ok can = tt
+  names_at e a x (msgs.Label i) it next is ok can = tt
+  names_at e a x (msgs.More b) it next is ok can = tt
+
+  head_fits : (e : EndId) (a : Awaits) (x : Passed) → e.side < 2 → want_of g ≡ Some (wants.Take e a) → next_for w.sessions e ≡ Some x → FitsHead (play_for n.parties ps) binds (plain_at w) g e (place_awaited ps a) x.msg
+  head_fits e a x lt it next =
+      let t = next_has_a_place ps w e x sound next in
+      let can = next_fits ps w p g e a x sound there it next in
+      let ok = message_in n (end_at w.sessions (semantics.other_end e)).sent (length (end_at w.sessions e).takers) x (proper.messages (semantics.other_end e)) next in
+      record {
+        fits = can;
+        place = t.0;
+        after = next_at_side w.sessions e Into x.msg t.0 lt t.1;
+        names_at = names_at e a x x.msg it next refl ok can;
+        names = binds_taken ps w.sessions g (sound.programs p g there) x.msg can;
+      }
+
+  take_fits : (e : EndId) (a : Awaits) → want_of g ≡ Some (wants.Take e a) → FitsTake (play_for n.parties ps) binds (plain_at w) g e (place_awaited ps a)
+  take_fits e a it =
+      let b = takes_named g e a it in
+      let lt = (own_proper.below b.name e b.is_named).0 in
+      record { bound = name_binds g.ends b.name e b.is_named; head = λ m h. by m (next_for w.sessions e) refl lt (sym (waiting_is_next w e lt) ∙ h) }
+    where
+      by : (m : Msg) (o : Option Passed) → next_for w.sessions e ≡ o → e.side < 2 → option_map (λ x. x.msg) o ≡ Some m → FitsHead (play_for n.parties ps) binds (plain_at w) g e (place_awaited ps a) m
+      by m None next lt h = cc
+      by m (Some x) next lt h = let it' : x.msg ≡ m = cc in subst (FitsHead (play_for n.parties ps) binds (plain_at w) g e (place_awaited ps a)) it' (head_fits e a x lt it next)
+
+  close_fits : (e : EndId) → want_of g ≡ Some (wants.Close e) → FitsClose IsDone (play_for n.parties ps) binds (plain_at w) g e
+  close_fits e it =
+      let fit = fits_want ps w.sessions g (wants.Close e) (sound.programs p g there) it in
+      let go = ends_go g (wants.Close e) it in
+      let lt = (own_proper.below go.0 e go.1).0 in
+      let over : (plain_side w.sessions e).place ≡ done = ap (λ (x : PlainSide Place). x.place) (side_below w.sessions e lt) ∙ fit.0 in
+      record {
+        bound = name_binds g.ends go.0 e go.1;
+        over = over;
+        is_over = is_done_there (plain_side w.sessions e).place over;
+        nothing_waits = untaken_is w e lt ∙ nothing_waits w.sessions (end_at w.sessions e) (end_at w.sessions (semantics.other_end e)) fit.0 (pair_of w.sessions w.sessions e sound.pairs).even;
+        names = without_by (wants.Close e) e go.0 it go.1 go.2;
+      }
+
+  pub step_fits : (want : Want) → want_of g ≡ Some want → FitsStep IsDone (play_for n.parties ps) binds (plain_at w) p g (want_for ps want)
+  step_fits wants.Ended it = tt
+  step_fits wants.Local it = same_by wants.Local it refl
+  step_fits (wants.Send e m) it = send_fits e m it
+  step_fits (wants.Delegate e y) it = delegate_fits e y it
+  step_fits (wants.Take e a) it = take_fits e a it
+  step_fits (wants.Close e) it = close_fits e it

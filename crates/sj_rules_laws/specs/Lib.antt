@@ -1,0 +1,4 @@
+pub mod CoreSamples
+pub mod MoreCoreSamples
+pub mod MovedTwiceSamples
+pub mod Limits
