@@ -1,0 +1,12 @@
+//! Places as numbers in a table.
+#![tactic(auto)]
+
+mod building;
+mod copying;
+mod leading;
+mod table;
+
+pub use table::{Spot, Table};
+
+#[cfg(test)]
+mod tests;

@@ -1,0 +1,155 @@
+//! Spots, and the table in which they stand for places.
+ghost use Rattle.std.specs.Prelude.{◌≡◌, ◌+◌, ◌<◌, ℕ, length, map, option_map, IsTrue, ◌↔◌, IfOk, IfSome};
+ghost use Rattle.sj_lang.specs.After.{after_place};
+ghost use Rattle.sj_lang.specs.FileAt.{body_named, named};
+ghost use Rattle.sj_lang.specs.FileView.{protocol_of};
+ghost use Rattle.sj_lang.specs.Place.{done};
+ghost use Rattle.sj_table.specs.Nodes.{nodes_of};
+ghost use Rattle.sj_table.specs.Spots.{HasSpot, place_in, start_in};
+ghost use Rattle.sj_table.specs.Table.{at_node, is_done};
+ghost use Rattle.sj_table.specs.declared.table.Table.{Table};
+
+use crate::building::{add_place, items_at};
+use crate::copying::copied_stops;
+use crate::leading::{Stop, after_node, is_done_node};
+use sj_base::{Msg, NoMemory};
+use sj_lang::{Proto, ProtocolDef, Way};
+use std::alloc::Global;
+use std::marker::Model;
+
+/// A place, as the number of a node of a table.
+#[derive(Clone, Copy, Debug, PartialEq, Eq)]
+pub struct Spot {
+    pub node: u32,
+}
+
+/// The places of the protocols of a file. Node 0 is the empty place. Each other node is one item
+/// and the node that follows it.
+#[derive(Drop)]
+pub struct Table {
+    stops: Vec<Stop>,
+    starts: Vec<(u16, Spot)>,
+}
+
+impl Model for Table {
+    ghost use Rattle.std.specs.Prelude.{ℕ, List};
+    ghost use Rattle.std.specs.Coded.{coded×, coded_list, coded_ℕ};
+    ghost use Rattle.sj_lang.specs.Place.{Place};
+    ghost use Rattle.sj_lang.specs.PlaceCode.{coded_place};
+    ghost use Rattle.sj_table.specs.declared.table.Spot.{Spot};
+    ghost use Rattle.sj_table.specs.contracts.table.Spot as s;
+
+    ghost Value = { List Place × List (ℕ × Spot) };
+
+    ghost coded = { coded× (coded_list coded_place) (coded_list (coded× coded_ℕ s.the_row.coded)) };
+
+    ghost use Rattle.sj_table.specs.Table.{IsTable, places_of};
+
+    ghost view = { λ t. (places_of t.stops.items, t.starts.items) };
+
+    ghost invariant = { λ t. IsTable t.stops.items };
+}
+
+impl Table {
+    /// The table of these protocols.
+    pub fn compile(alloc: Global, defs: &[ProtocolDef]) -> Result<Table, NoMemory>
+        // With the items inside carried kinds there may be more.
+        requires few { nodes_of (map protocol_of defs.now) < 4294967295 }
+
+        // A protocol starts at its body.
+        ensures start { IfOk result (λ t. (p : ℕ) → start_in t p ≡ body_named (map protocol_of defs.now) p) }
+
+        // There is one node for each item, and node 0.
+        ensures nodes { IfOk result (λ t. length t.0 ≡ nodes_of (map protocol_of defs.now) + 1) }
+    {
+        let mut stops = Vec::new(alloc);
+        let mut starts = Vec::new(alloc);
+        for def in defs {
+            let node = add_place(alloc, &mut stops, &def.body, 0)?;
+            starts.push((def.name, Spot { node }))?;
+        }
+        Ok(Table { stops, starts })
+    }
+
+    /// The same table, in memory of its own.
+    pub fn copied(&self, alloc: Global) -> Result<Table, NoMemory>
+        ensures { IfOk result (λ t. t ≡ self.now) }
+    {
+        let stops = copied_stops(alloc, &self.stops)?;
+        let starts = Vec::from_slice(alloc, &self.starts)?;
+        Ok(Table { stops, starts })
+    }
+
+    /// The spot of the body of the protocol of that name, and node 0 where there is none.
+    pub fn start(&self, protocol: u16) -> Spot
+        ensures { place_in self.now result ≡ start_in self.now protocol }
+    {
+        match spot_named(&self.starts, protocol) {
+            Some(spot) => spot,
+            None => Spot { node: 0 },
+        }
+    }
+
+    /// Whether the node is in the table.
+    pub fn has(&self, spot: Spot) -> bool
+        ensures { IsTrue result ↔ HasSpot self.now spot }
+    {
+        spot.node as usize <= self.stops.len()
+    }
+
+    /// The spot of the empty place.
+    pub fn done(&self) -> Spot
+        ensures { place_in self.now result ≡ done }
+    {
+        let _ = &self.stops;
+        Spot { node: 0 }
+    }
+
+    /// Whether the spot stands for the empty place.
+    pub fn is_done(&self, spot: Spot) -> bool
+        ensures done { result ≡ is_done (place_in self.now spot) }
+        // Only node 0 stands for the empty place.
+        ensures only { IsTrue result → HasSpot self.now spot → spot.node ≡ 0 }
+    {
+        is_done_node(&self.stops, spot.node)
+    }
+
+    /// The spot of the place after a message. A session message counts as of any session kind. A
+    /// spot that isn't in the table stands for the empty place.
+    pub fn after(&self, spot: Spot, way: Way, msg: &Msg) -> Option<Spot>
+        ensures { option_map (place_in self.now) result
+            ≡ after_place (place_in self.now spot) way msg.now }
+    {
+        let node = after_node(&self.stops, spot.node, way, msg);
+        spot_at(node)
+    }
+
+    /// The place for which the spot stands.
+    pub fn place(&self, alloc: Global, spot: Spot) -> Result<Proto, NoMemory>
+        ensures { IfOk result (λ p. p ≡ place_in self.now spot) }
+    {
+        let items = items_at(alloc, &self.stops, spot.node)?;
+        Ok(Proto { items })
+    }
+}
+
+// The spot under the name.
+fn spot_named(starts: &[(u16, Spot)], name: u16) -> Option<Spot>
+    ensures { result ≡ named starts.now name }
+{
+    for entry in starts {
+        if entry.0 == name {
+            return Some(entry.1);
+        }
+    }
+    None
+}
+
+fn spot_at(node: Option<u32>) -> Option<Spot>
+    ensures { (t : Table) → option_map (place_in t) result ≡ option_map (at_node t.0) node }
+{
+    match node {
+        Some(node) => Some(Spot { node }),
+        None => None,
+    }
+}
