@@ -1,0 +1,4 @@
+pub mod Bodies
+pub mod End
+pub mod Lines
+pub mod Views

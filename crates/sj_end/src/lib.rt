@@ -1,0 +1,17 @@
+//! Ends of sessions as a party keeps them, what parties send each other, and what they note.
+#![tactic(auto)]
+
+mod end;
+mod held;
+mod note;
+mod once;
+mod record;
+mod wire;
+
+pub use end::{End, other_end};
+pub use note::{Entry, Event, Line, Note, note_of};
+pub use record::{Closed, Deferred, Expected, Held, Parked, Signalled};
+pub use wire::{Body, Frame, Post};
+
+#[cfg(test)]
+mod tests;
