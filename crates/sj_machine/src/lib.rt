@@ -15,6 +15,7 @@ mod wanting;
 
 pub use machine::Machine;
 pub use sj_semantics::{Awaits, Want};
+pub use starting::party_of_name;
 
 #[cfg(test)]
 mod tests;

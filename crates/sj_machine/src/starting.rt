@@ -14,7 +14,7 @@ use sj_semantics::Value;
 use std::alloc::Global;
 
 /// The number of the first party of that name, or how many there are.
-fn party_of_name(parties: &[Party], name: u16) -> usize
+pub fn party_of_name(parties: &[Party], name: u16) -> usize
     ensures { result ≡ party_named (map party_of parties.now) name }
 {
     let mut at = 0;

@@ -1,0 +1,17 @@
+pub mod ActLemmas
+pub mod AgreeLemmas
+pub mod ComingLemmas
+pub mod DelegateLemmas
+pub mod DueLemmas
+pub mod FilePlayLemmas
+pub mod GiveLemmas
+pub mod NodeLemmas
+pub mod OutLemmas
+pub mod PassLemmas
+pub mod PlayLemmas
+pub mod ReadingLemmas
+pub mod RowLemmas
+pub mod SignalLemmas
+pub mod SlotLemmas
+pub mod StartingLemmas
+pub mod UnfitLemmas

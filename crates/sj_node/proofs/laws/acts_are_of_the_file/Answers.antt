@@ -1,0 +1,12 @@
+use Rattle.std.proofs.Common.{ap, sym, ◌∙◌}
+use Rattle.sj_lang.specs.Place.{Place}
+use Rattle.sj_semantics.specs.Program.{Program}
+use Rattle.sj_rules.specs.Node.{Play, acts}
+use Rattle.sj_rules.specs.Party.{play_for}
+use Rattle.sj_node.specs.Play.{names_known}
+use Rattle.sj_node.proofs.PlayLemmas.{acts_less, plays_file}
+use Rattle.sj_node.proofs.laws.acts_are_of_the_file.Goals as goal
+
+pub returns : goal.returns
+returns c = λ ps slots parties party n w h.
+    acts_less (play_for parties ps) (names_known slots parties) n party w (sym (ap (λ (play : Play Place Program). acts play party n) (plays_file ps slots parties)) ∙ h)
