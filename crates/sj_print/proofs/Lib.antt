@@ -1,3 +1,4 @@
 pub mod LineLemmas
 pub mod PartLemmas
 pub mod PieceLemmas
+pub mod WordLemmas

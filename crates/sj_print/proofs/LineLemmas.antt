@@ -1,37 +1,12 @@
 -- Lines of messages, one after another.
-use Rattle.std.proofs.Common.{◌≡◌, ℕ, zero, suc, ◌+◌, ◌<◌, true, false, List, [], ◌∷◌, ◌++◌, length, drop, get_or, refl, ap, sym, ◌∙◌, append_assoc, add-one, Option}
+use Rattle.std.proofs.Common.{◌≡◌, ℕ, zero, suc, ◌+◌, ◌<◌, List, [], ◌∷◌, ◌++◌, length, drop, get_or, refl, ap, sym, ◌∙◌, add-one, Option}
 use Rattle.std.specs.Prelude.{decimal, slice_get}
 use Rattle.std.specs.Option.{option_to_list}
 use Rattle.std.proofs.lemmas.List.{at_drop_more}
-use Rattle.sj_base.specs.declared.Msg.{Msg}
-use Rattle.sj_base.specs.declared.Msg.TheVariants as msgs
 use Rattle.sj_lang.specs.FileAt.{FileAt}
 use Rattle.sj_semantics.specs.declared.Passed.{Passed}
-use Rattle.sj_semantics.specs.Transcript.{line_of, name_of, end_text, message_words, taker_text, tail_of, sent_lines}
-
--- a message has at least one word
-line_of-message : (x : List ℕ) (file : FileAt) (m : Msg) → line_of (x ∷ message_words file m) ≡ x ++ 32 ∷ line_of (message_words file m)
-line_of-message x file (msgs.Int n) = refl
-line_of-message x file (msgs.Bool true) = refl
-line_of-message x file (msgs.Bool false) = refl
-line_of-message x file (msgs.Text n) = refl
-line_of-message x file (msgs.Label l) = refl
-line_of-message x file (msgs.More true) = refl
-line_of-message x file (msgs.More false) = refl
-line_of-message x file (msgs.Sess s d k) = refl
-
-spaced-append : (x xs ys : List ℕ) → (x ++ 32 ∷ xs) ++ ys ≡ x ++ 32 ∷ (xs ++ ys)
-spaced-append x xs ys = append_assoc x (32 ∷ xs) ys
-
--- a line of a message is four words with their spaces, and then the message
-pub passed_apart : (a b c d : List ℕ) (file : FileAt) (m : Msg)
-    → (a ++ 32 ∷ (b ++ 32 ∷ (c ++ 32 ∷ (d ++ 32 ∷ [])))) ++ line_of (message_words file m) ≡ line_of (a ∷ b ∷ c ∷ d ∷ message_words file m)
-passed_apart a b c d file m =
-    let rest = line_of (message_words file m) in
-    spaced-append a (b ++ 32 ∷ (c ++ 32 ∷ (d ++ 32 ∷ []))) rest
-    ∙ ap (λ r. a ++ 32 ∷ r) (spaced-append b (c ++ 32 ∷ (d ++ 32 ∷ [])) rest
-    ∙ ap (λ r. b ++ 32 ∷ r) (spaced-append c (d ++ 32 ∷ []) rest
-    ∙ ap (λ r. c ++ 32 ∷ r) (spaced-append d [] rest ∙ sym (line_of-message d file m))))
+use Rattle.sj_semantics.specs.Lines.{line_of, name_of, end_text, message_words}
+use Rattle.sj_semantics.specs.Transcript.{taker_text, tail_of, sent_lines}
 
 taker_at : (file : FileAt) (takers : List ℕ) (i : ℕ) → taker_text file (drop i takers) ≡ taker_text file (option_to_list (slice_get takers i))
 taker_at file [] zero = refl

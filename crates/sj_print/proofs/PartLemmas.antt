@@ -13,7 +13,8 @@ use Rattle.sj_semantics.specs.State.{state_of_program, state_if, verdict_of}
 use Rattle.sj_semantics.specs.World.{World, act_of}
 use Rattle.sj_semantics.specs.Start.{programs_from, session_of, start_of}
 use Rattle.sj_semantics.specs.Run.{IsRun, after_acts}
-use Rattle.sj_semantics.specs.Transcript.{session_line, sent_lines, line_of, session_lines, party_lines, verdict_word, transcript_of}
+use Rattle.sj_semantics.specs.Lines.{line_of}
+use Rattle.sj_semantics.specs.Transcript.{session_line, sent_lines, session_lines, party_lines, verdict_word, transcript_of}
 use Rattle.sj_semantics_laws.proofs.AlteredLemmas.{length-altered}
 use Rattle.sj_semantics_laws.proofs.ActsLemmas.{length-run}
 use Rattle.sj_semantics_laws.proofs.CommuteLemmas.{doing_of}

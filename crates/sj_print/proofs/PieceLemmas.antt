@@ -2,7 +2,7 @@
 use Rattle.std.proofs.Common.{◌≡◌, ℕ, ◌+◌, ◌<◌, List, [], ◌∷◌, ◌++◌, length, drop, get_or, map, refl, ap, ◌∙◌, append_assoc}
 use Rattle.std.proofs.lemmas.List.{at_drop_more}
 use Rattle.sj_lang.specs.FileAt.{FileAt}
-use Rattle.sj_semantics.specs.Transcript.{line_of}
+use Rattle.sj_semantics.specs.Lines.{line_of}
 use Rattle.sj_print.specs.declared.pieces.Piece.{Piece}
 use Rattle.sj_print.specs.Pieces.{piece_text, spaced_text}
 

@@ -1,2 +1,4 @@
+pub mod LogExamples
+pub mod LogLine
 pub mod Parts
 pub mod Pieces

@@ -6,7 +6,8 @@ use Rattle.sj_lang.specs.FileAt.{FileAt, ConnectAt}
 use Rattle.sj_semantics.specs.declared.Passed.{Passed}
 use Rattle.sj_semantics.specs.declared.State.{State}
 use Rattle.sj_semantics.specs.Ends.{Session, end_at}
-use Rattle.sj_semantics.specs.Transcript.{line_of, word_at, name_of, end_text, message_words, taker_text, session_line, sent_lines, state_words}
+use Rattle.sj_semantics.specs.Lines.{line_of, word_at, name_of, end_text, message_words}
+use Rattle.sj_semantics.specs.Transcript.{taker_text, session_line, sent_lines, state_words}
 
 -- the session's line, and those of the messages that each of its ends sent
 abbrev pub session_part : FileAt → List Session → ℕ → ConnectAt → List ℕ

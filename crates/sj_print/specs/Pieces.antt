@@ -1,9 +1,10 @@
 -- The words of a line, each as what it names in the file.
-use Rattle.std.specs.Prelude.{ℕ, List, [], ◌∷◌, ◌++◌, decimal}
+use Rattle.std.specs.Prelude.{ℕ, List, [], ◌∷◌, ◌++◌, decimal, map}
 use Rattle.sj_lang.specs.FileAt.{FileAt}
-use Rattle.sj_semantics.specs.Transcript.{word_at, name_of, end_text, int_text}
+use Rattle.sj_semantics.specs.Lines.{word_at, quoted_at, name_of, end_text, int_text}
+use Rattle.sj_print.specs.LogLine.{resend_word}
 use Rattle.sj_print.specs.declared.pieces.Piece.{Piece}
-use Rattle.sj_print.specs.declared.pieces.Piece.TheVariants.{Plain, Number, Int, End, Party, Word, Text}
+use Rattle.sj_print.specs.declared.pieces.Piece.TheVariants.{Plain, Number, Int, End, Party, Word, Text, Resend}
 
 -- the bytes of a piece
 abbrev pub piece_text : FileAt → Piece → List ℕ
@@ -13,9 +14,14 @@ piece_text file (Int n) = int_text n
 piece_text file (End e) = end_text e.sess e.side
 piece_text file (Party p) = name_of file p
 piece_text file (Word n) = word_at file.words n
-piece_text file (Text n) = 34 ∷ word_at file.texts n ++ 34 ∷ []
+piece_text file (Text n) = quoted_at file.texts n
+piece_text file (Resend n) = resend_word n
 
--- each with a space behind it
+-- each word with a space behind it
+abbrev pub spaced : List (List ℕ) → List ℕ
+spaced [] = []
+spaced (x ∷ xs) = x ++ 32 ∷ spaced xs
+
+-- each piece with a space behind it
 abbrev pub spaced_text : FileAt → List Piece → List ℕ
-spaced_text file [] = []
-spaced_text file (p ∷ ps) = piece_text file p ++ 32 ∷ spaced_text file ps
+spaced_text file ps = spaced (map (piece_text file) ps)

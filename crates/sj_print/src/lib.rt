@@ -1,11 +1,16 @@
-//! The transcript of a settled world.
+//! The transcript of a settled world, and the lines of a log.
 #![tactic(auto)]
 
 mod lines;
+mod log;
+mod messages;
 mod pieces;
 mod transcript;
 
+pub use log::print_line;
 pub use transcript::print_transcript;
 
+#[cfg(test)]
+mod log_tests;
 #[cfg(test)]
 mod tests;

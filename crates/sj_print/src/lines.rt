@@ -8,12 +8,14 @@ ghost use Rattle.std.specs.Option.{option_to_list};
 ghost use Rattle.sj_text.specs.Cut.{IsCutShort};
 ghost use Rattle.sj_lang.specs.FileAt.{FileAt};
 ghost use Rattle.sj_lang.specs.FileView.{file_of, connect_of};
-ghost use Rattle.sj_semantics.specs.Transcript.{line_of, message_words, sent_lines, session_line, taker_text, verdict_word};
+ghost use Rattle.sj_semantics.specs.Lines.{line_of};
+ghost use Rattle.sj_semantics.specs.Transcript.{sent_lines, session_line, taker_text, verdict_word};
 ghost use Rattle.sj_print.specs.Parts.{party_part, passed_part};
 ghost use Rattle.sj_print.specs.Pieces.{piece_text};
 
-use crate::pieces::{Piece, put_line, put_spaced};
-use sj_base::{EndId, Msg, NoMemory};
+use crate::messages::put_message_line;
+use crate::pieces::{Piece, put_line};
+use sj_base::{EndId, NoMemory};
 use sj_lang::{Connect, File};
 use sj_semantics::{Passed, State, Verdict};
 
@@ -78,8 +80,7 @@ fn put_passed(
         Piece::Party(passed.by),
         taker_piece(taker),
     ];
-    put_spaced(text, file, &front)?;
-    put_message(text, file, &passed.msg)
+    put_message_line(text, file, &front, &passed.msg)
 }
 
 // Who took the message of that number.
@@ -95,47 +96,6 @@ fn taker_piece(taker: Option<u16>) -> Piece
     match taker {
         Some(party) => Piece::Party(party),
         None => Piece::Plain(b"-"),
-    }
-}
-
-// The end of the line of a message.
-fn put_message(text: &mut Vec<u8>, file: &File, msg: &Msg) -> Result<(), NoMemory>
-    ensures ok { OnOk result (text.new.items
-        ≡ text.old.items ++ line_of (message_words (file_of file.now) msg.now)) }
-    ensures err { OnErr result (IsCutShort text.old.items
-        (line_of (message_words (file_of file.now) msg.now)) text.new.items) }
-{
-    match *msg {
-        Msg::Int(n) => put_line(text, file, &[Piece::Plain(b"int")], Piece::Int(n)),
-        Msg::Bool(true) => {
-            put_line(
-                text,
-                file,
-                &[Piece::Plain(b"boolean")],
-                Piece::Plain(b"true"),
-            )
-        }
-        Msg::Bool(false) => {
-            put_line(
-                text,
-                file,
-                &[Piece::Plain(b"boolean")],
-                Piece::Plain(b"false"),
-            )
-        }
-        Msg::Text(n) => put_line(text, file, &[Piece::Plain(b"String")], Piece::Text(n)),
-        Msg::Label(n) => put_line(text, file, &[Piece::Plain(b"label")], Piece::Word(n)),
-        Msg::More(true) => put_line(text, file, &[], Piece::Plain(b"more")),
-        Msg::More(false) => put_line(text, file, &[], Piece::Plain(b"stop")),
-        Msg::Sess { sess, side, keeper } => {
-            let end = Piece::End(EndId { sess, side });
-            put_line(
-                text,
-                file,
-                &[Piece::Plain(b"session"), end],
-                Piece::Party(keeper),
-            )
-        }
     }
 }
 

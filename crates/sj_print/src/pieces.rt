@@ -6,7 +6,8 @@
 ghost use Rattle.std.specs.Prelude.{◌≡◌, ◌++◌, ◌∷◌, [], OnOk, OnErr, decimal, map};
 ghost use Rattle.sj_text.specs.Cut.{IsCutShort};
 ghost use Rattle.sj_lang.specs.FileView.{file_of};
-ghost use Rattle.sj_semantics.specs.Transcript.{line_of, word_at, name_of, end_text};
+ghost use Rattle.sj_semantics.specs.Lines.{line_of, word_at, quoted_at, name_of, end_text};
+ghost use Rattle.sj_print.specs.LogLine.{resend_word};
 ghost use Rattle.sj_print.specs.Pieces.{piece_text, spaced_text};
 
 use sj_base::{EndId, NoMemory};
@@ -26,6 +27,8 @@ pub(crate) enum Piece {
     Word(u16),
     /// The text of that number, in quotes.
     Text(u32),
+    /// The number of the message from which on is resent, or `-`.
+    Resend(Option<u32>),
 }
 
 /// Puts a line of these behind the text.
@@ -73,6 +76,7 @@ fn put_piece(text: &mut Vec<u8>, file: &File, piece: Piece) -> Result<(), NoMemo
         Piece::Party(party) => put_name(text, file, party),
         Piece::Word(n) => put_word(text, &file.names.words, u32::from(n)),
         Piece::Text(n) => put_quoted(text, &file.names.texts, n),
+        Piece::Resend(number) => put_resend(text, number),
     }
 }
 
@@ -88,14 +92,24 @@ fn put_name(text: &mut Vec<u8>, file: &File, party: u16) -> Result<(), NoMemory>
     }
 }
 
+// The text of that number in quotes, or `#` and the number alone.
 fn put_quoted(text: &mut Vec<u8>, texts: &Words, n: u32) -> Result<(), NoMemory>
-    ensures ok { OnOk result (text.new.items
-        ≡ text.old.items ++ 34 ∷ word_at texts.now n ++ 34 ∷ []) }
+    ensures ok { OnOk result (text.new.items ≡ text.old.items ++ quoted_at texts.now n) }
+    ensures err { OnErr result (IsCutShort text.old.items (quoted_at texts.now n) text.new.items) }
+{
+    match texts.get(n as usize) {
+        Some(bytes) => put_in_quotes(text, bytes),
+        None => put_nameless(text, n),
+    }
+}
+
+fn put_in_quotes(text: &mut Vec<u8>, bytes: &[u8]) -> Result<(), NoMemory>
+    ensures ok { OnOk result (text.new.items ≡ text.old.items ++ 34 ∷ bytes.now ++ 34 ∷ []) }
     ensures err { OnErr result (IsCutShort text.old.items
-        (34 ∷ word_at texts.now n ++ 34 ∷ []) text.new.items) }
+        (34 ∷ bytes.now ++ 34 ∷ []) text.new.items) }
 {
     put(text, b"\"")?;
-    put_word(text, texts, n)?;
+    put(text, bytes)?;
     put(text, b"\"")
 }
 
@@ -127,4 +141,14 @@ fn put_end(text: &mut Vec<u8>, end: EndId) -> Result<(), NoMemory>
     put_number(text, end.sess as u64)?;
     put(text, b".")?;
     put_number(text, end.side as u64)
+}
+
+fn put_resend(text: &mut Vec<u8>, number: Option<u32>) -> Result<(), NoMemory>
+    ensures ok { OnOk result (text.new.items ≡ text.old.items ++ resend_word number) }
+    ensures err { OnErr result (IsCutShort text.old.items (resend_word number) text.new.items) }
+{
+    match number {
+        Some(n) => put_number(text, u64::from(n)),
+        None => put(text, b"-"),
+    }
 }

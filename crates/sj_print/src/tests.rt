@@ -152,7 +152,7 @@ fn what_names_nothing_is_a_number(rt: HostRuntime) -> Result<(), Fail> {
     let end = EndId { sess: 0, side: 0 };
     let sent = [passed(3, Msg::Text(3)), passed(0, Msg::Label(8))];
     put_sent(&mut text, &file, end, &sent, &[9])?;
-    let wanted = "0.0 0 #3 #9 String \"#3\"\n0.0 1 customer - label #8\n";
+    let wanted = "0.0 0 #3 #9 String #3\n0.0 1 customer - label #8\n";
     assert_eq!(rt; text.as_slice(), wanted.as_bytes());
     Ok(())
 }
