@@ -11,6 +11,7 @@ mod stepping;
 mod uses;
 
 pub use halt::Halt;
+pub use kept::{Kept, copied_file};
 pub use plain::Plain;
 
 #[cfg(test)]

@@ -1,0 +1,64 @@
+-- Nodes that are begun one after another are those of the file before any event.
+use Rattle.std.proofs.Common.{◌≡◌, ◌⊎◌, ℕ, zero, suc, ◌+◌, List, [], ◌∷◌, ◌++◌, length, slice_get, unwrap_or, Some, None, refl, ap, sym, ◌∙◌, subst, inl, inr, length-append}
+use Rattle.sj_lang.specs.FileAt.{FileAt, body_named}
+use Rattle.sj_plain.specs.Kept.{without_words}
+use Rattle.sj_plain.proofs.BeginLemmas.{start_same}
+use Rattle.sj_rules.specs.Party.{nobody}
+use Rattle.sj_rules.specs.Start.{core_start, first_main, first_node}
+use Rattle.sj_table.specs.declared.table.Table.{Table}
+use Rattle.sj_table.specs.Spots.{start_in}
+use Rattle.sj_node.specs.declared.node.Node.{Node}
+use Rattle.sj_node.specs.Reading.{table_of}
+use Rattle.sj_node.specs.Starting.{Begins}
+use Rattle.sj_core.specs.Nodes.{AreBegun, AreFirst}
+
+-- an element of a list with one more is one of the list, or the last
+behind : {X : Type 0} (xs : List X) (x : X) (p : ℕ) (y : X) → slice_get (xs ++ x ∷ []) p ≡ Some y → (slice_get xs p ≡ Some y) ⊎ ((p ≡ length xs) × (y ≡ x))
+behind [] x zero y is = inr (refl, sym (cc is))
+behind [] x (suc p) y is = absurd (cc is)
+behind (z ∷ xs) x zero y is = inl is
+behind (z ∷ xs) x (suc p) y is = elim (behind xs x p y is) [ inl there ↦ inl there | inr last ↦ inr (ap suc last.0, last.1) ]
+
+module _ (file : FileAt) (over : Table) where
+  pub none_begun : AreBegun file over 0 []
+  none_begun = record { count = refl; each = λ p n is. absurd (cc is) }
+
+  -- with the next party's
+  pub one_more : (k : ℕ) (nodes : List Node) (new : Node) → AreBegun file over k nodes → Begins file k 0 new → table_of new ≡ over → AreBegun file over (k + 1) (nodes ++ new ∷ [])
+  one_more k nodes new begun begins table = record {
+    count = length-append nodes (new ∷ []) ∙ ap (λ n. n + 1) begun.count;
+    each = λ p n is.
+        elim (behind nodes new p n is) [
+          | inl there ↦ begun.each p n there
+          | inr last ↦ (
+            subst (λ q. Begins file q 0 n) (sym (last.0 ∙ begun.count)) (subst (Begins file k 0) (sym last.1) begins),
+            ap table_of last.1 ∙ table,
+          )
+        ];
+  }
+
+-- a party before any event needs no words
+pub first_same : (file : FileAt) (p : ℕ) → first_node (without_words file) p ≡ first_node file p
+first_same file p = λ i. record {
+  program = unwrap_or (slice_get (start_same file i).parties p) nobody;
+  clock = 0;
+  main = first_main file p;
+  old = λ e. None;
+}
+
+-- nor does the core world
+pub core_start_same : (file : FileAt) → core_start (without_words file) ≡ core_start file
+core_start_same file = λ i. record { nodes = λ p. first_same file p i; lanes = λ from to. [] }
+
+-- where all parties have theirs
+pub all_first : (file : FileAt) (over : Table) (nodes : List Node) → AreBegun file over (length file.parties) nodes → ((q : ℕ) → start_in over q ≡ body_named file.protocols q) → AreFirst (without_words file) nodes
+all_first file over nodes begun starts = record {
+  seats = record {
+    table = over;
+    starts = starts;
+    count = begun.count;
+    each = λ p n is. let b = begun.each p n is in record { party = b.0.party; parties = b.0.parties; table = b.1; slots = b.0.slots };
+  };
+  first = λ p n is. (begun.each p n is).0.node ∙ sym (first_same file p);
+  boxes = λ p n is. (begun.each p n is).0.boxes;
+}

@@ -1,0 +1,125 @@
+-- An act of a node in a reached world is never unfit: where nothing stops the node, the rules have its act.
+use Rattle.std.proofs.Common.{◌≡◌, ℕ, ◌*◌, ◌+◌, ◌<◌, nat_lt, Bool, true, false, if◌then◌else◌, map, length, slice_get, Option, Some, None, option_map, refl, ap, sym, ◌∙◌, subst, arith}
+use Rattle.std.proofs.lemmas.Bool.{lt-ltb, ltb-true}
+use Rattle.sj_base.specs.declared.EndId.{EndId}
+use Rattle.sj_base.specs.declared.Msg.{Msg}
+use Rattle.sj_base.specs.declared.Msg.TheVariants as msgs
+use Rattle.sj_lang.specs.Place.{Place}
+use Rattle.sj_lang.specs.FileAt.{FileAt, body_named}
+use Rattle.sj_semantics.specs.declared.Want.{Want}
+use Rattle.sj_semantics.specs.declared.Want.TheVariants as wants
+use Rattle.sj_semantics.specs.Program.{Program}
+use Rattle.sj_table.specs.Spots.{place_in, start_in}
+use Rattle.sj_rules.specs.History.{IsCoreRun, turn_of}
+use Rattle.sj_rules.specs.Mapped.{main_with}
+use Rattle.sj_rules.specs.Node.{NodeAt, acts}
+use Rattle.sj_rules.specs.Party.{play_for, play_of}
+use Rattle.sj_rules.specs.Premises.{NamesKnown}
+use Rattle.sj_rules.specs.Record.{HeldAt, MainAt, Held, Closed, Expected}
+use Rattle.sj_rules.specs.Rows.{Worked}
+use Rattle.sj_rules.specs.Start.{first_node}
+use Rattle.sj_rules_laws.proofs.LimitLemmas.{core_run_few, core_run_known}
+use Rattle.sj_node.specs.declared.node.Node.{Node}
+use Rattle.sj_node.specs.declared.slots.Main.{Main}
+use Rattle.sj_node.specs.Node.{act_of, has_room, is_below_count, node_at, slot_count, spot_node, stop_of, wants_of}
+use Rattle.sj_node.specs.Play.{HeadsAre, names_known, play_with}
+use Rattle.sj_node.specs.Slots.{look, main_at}
+use Rattle.sj_node.proofs.PlayLemmas.{acts_known, plays_file}
+use Rattle.sj_core.specs.declared.course.Course.{Course}
+use Rattle.sj_core.specs.Course.{IsReached, file_in, history_in, nodes_in, world_in}
+use Rattle.sj_core.specs.Nodes.{IsSeated, node_or}
+use Rattle.sj_core.proofs.ActLemmas.{acts_freely}
+use Rattle.sj_core.proofs.LawLemmas.{run_of}
+
+-- what a message names is there
+known_so : (parties sessions slots : ℕ) (m : Msg) → slots ≡ 2 * sessions → NamesKnown parties sessions m → names_known slots parties m ≡ true
+known_so parties sessions slots (msgs.Sess sess side keeper) count named =
+    rw (lt-ltb side 2 named.1, lt-ltb (2 * sess + side) slots (omega (arith, count, named.0, named.1)), lt-ltb keeper parties named.2) refl
+known_so parties sessions slots (msgs.Int n) count named = refl
+known_so parties sessions slots (msgs.Bool b) count named = refl
+known_so parties sessions slots (msgs.Text n) count named = refl
+known_so parties sessions slots (msgs.Label n) count named = refl
+known_so parties sessions slots (msgs.More b) count named = refl
+
+-- an end with a record is of side 0 or 1
+two_sides : {A B : Type 0} → (f : A → B) (b : Bool) (o : Option A) (x : B) → option_map f (if b then o else None) ≡ Some x → b ≡ true
+two_sides f true o x k = refl
+two_sides f false o x k = absurd (cc k)
+
+below_count : (o : Option (MainAt Place)) → ((h : HeldAt Place) → o ≡ Some (Held h) → h.end.sent < 1000000) → is_below_count o ≡ true
+below_count None few = refl
+below_count (Some (Held h)) few = lt-ltb h.end.sent 1000000 (few h refl)
+below_count (Some (Closed e)) few = refl
+below_count (Some (Expected keeper place ds)) few = refl
+
+room_for : (main : EndId → Option (MainAt Place)) → ((e : EndId) (h : HeldAt Place) → main e ≡ Some (Held h) → h.end.sent < 1000000) → (want : Want) → has_room main want ≡ true
+room_for main few wants.Local = refl
+room_for main few (wants.Send e m) = below_count (main e) (few e)
+room_for main few (wants.Delegate e y) = below_count (main e) (few e)
+room_for main few (wants.Take e a) = refl
+room_for main few (wants.Close e) = refl
+room_for main few wants.Ended = refl
+
+if_so : {A : Type 0} → (b : Bool) (x : Option A) → b ≡ true → (if b then x else None) ≡ x
+if_so true x k = refl
+if_so false x k = absurd (cc k)
+
+module _ (c : Course) (reached : IsReached c) (p : ℕ) (n : Node) (there : slice_get (nodes_in c) p ≡ Some n) where
+  abbrev file : FileAt
+  file = reached.accepted.file
+
+  abbrev seat : IsSeated (file_in c) reached.seats.table p n
+  seat = reached.seats.each p n there
+
+  pub here : (world_in c).nodes p ≡ node_at n
+  here = ap (node_or (first_node (file_in c) p)) there
+
+  abbrev run : IsCoreRun file (map turn_of (history_in c)) (world_in c)
+  run = run_of c reached
+
+  side_of : (e : EndId) (h : HeldAt Place) → (node_at n).main e ≡ Some (Held h) → e.side < 2
+  side_of e h is =
+      ltb-true e.side 2 (two_sides {A = Main} (λ x. main_with (place_in n.table) (main_at x)) (nat_lt e.side 2) _ (Held h) (merged ∙ is))
+    where
+      merged : option_map (λ x. main_with (place_in n.table) (main_at x)) (look n.mains.items e) ≡ (node_at n).main e
+      merged = twice (look n.mains.items e)
+        where
+          twice : (o : Option Main) → option_map (λ x. main_with (place_in n.table) (main_at x)) o ≡ option_map (main_with (place_in n.table)) (option_map main_at o)
+          twice None = refl
+          twice (Some x) = refl
+
+  in_world : (e : EndId) (h : HeldAt Place) → (node_at n).main e ≡ Some (Held h) → ((world_in c).nodes p).main e ≡ Some (Held h)
+  in_world e h is = ap (λ m. m.main e) here ∙ is
+
+  few : (e : EndId) (h : HeldAt Place) → (node_at n).main e ≡ Some (Held h) → h.end.sent < 1000000
+  few e h is = (core_run_few file reached.accepted.accepted (map turn_of (history_in c)) (world_in c) run p e h (side_of e h is) (in_world e h is)).0
+
+  heads : HeadsAre (names_known (slot_count n) n.parties) (node_at n)
+  heads e h m rest is head =
+      known_so n.parties (length file.connects) (slot_count n) m (seat.slots ∙ ap (λ f. 2 * length f.connects) reached.accepted.same)
+      (let named = core_run_known file reached.accepted.accepted (map turn_of (history_in c)) (world_in c) run p e h 0 m (side_of e h is) (in_world e h is) (ap (λ ms. slice_get ms 0) head) in
+      subst (λ k. NamesKnown k (length file.connects) m) (sym (seat.parties ∙ ap (λ f. length f.parties) reached.accepted.same)) named)
+
+  -- its act by the rules of its own play is its act by the rules of the file
+  pub act_whole : act_of n ≡ acts (play_of (file_in c)) p ((world_in c).nodes p)
+  act_whole =
+      let ps = (file_in c).protocols in
+      let named : start_in n.table ≡ body_named ps = λ i q. (ap (λ t. start_in t q) seat.table ∙ reached.seats.starts q) i in
+      if_so (has_room (node_at n).main (wants_of n)) _ (room_for (node_at n).main few (wants_of n))
+      ∙ ap (λ starts. acts (play_with starts (slot_count n) n.parties) n.party (node_at n)) named
+      ∙ ap (λ play. acts play n.party (node_at n)) (plays_file ps (slot_count n) n.parties)
+      ∙ acts_known (play_for n.parties ps) (names_known (slot_count n) n.parties) (node_at n) n.party heads
+      ∙ (λ i. acts (play_for (seat.parties i) ps) (seat.party i) (sym here i))
+
+  -- where nothing stops it
+  pub acts_here : stop_of n ≡ None → (done : Worked Place (NodeAt Place Program)) × (acts (play_of (file_in c)) p ((world_in c).nodes p) ≡ Some done)
+  acts_here free =
+      let done = acts_freely file reached.accepted.accepted (map turn_of (history_in c)) (world_in c) run p (place_in n.table) (spot_node n) here free in
+      (done.0, (λ i. acts (play_of (reached.accepted.same i)) p ((world_in c).nodes p)) ∙ done.1)
+
+  -- an act is never unfit
+  pub never_unfit : stop_of n ≡ None → act_of n ≡ None → ⊥
+  never_unfit free none =
+      let done = acts_here free in
+      let e : Some done.0 ≡ None = sym done.1 ∙ sym act_whole ∙ none in
+      cc e

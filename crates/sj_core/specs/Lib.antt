@@ -1,0 +1,8 @@
+pub mod Views
+pub mod Refusals
+pub mod Nodes
+pub mod Course
+pub mod Quiet
+pub mod World
+pub mod Replaying
+pub mod Draining

@@ -1,0 +1,44 @@
+-- Lines that are done again.
+use Rattle.std.specs.Prelude.{◌≡◌, ℕ, max, ⊤, List, ◌++◌, map, Option, Some, option_map}
+use Rattle.sj_end.specs.declared.note.Line.{Line}
+use Rattle.sj_rules.specs.History.{IsLog, IsMisfit, due}
+use Rattle.sj_rules.specs.Log.{LineAt}
+use Rattle.sj_rules.specs.Party.{play_of}
+use Rattle.sj_core.specs.declared.course.Course.{Course}
+use Rattle.sj_core.specs.declared.refusal.ReplayRefusal.{ReplayRefusal}
+use Rattle.sj_core.specs.declared.refusal.ReplayRefusal.TheVariants as refusals
+use Rattle.sj_core.specs.Course.{file_in, history_in, world_in}
+use Rattle.sj_core.specs.Views.{line_at}
+
+-- each line is the one that is due, and they lead from the one to the other
+pub record Follows (c : Course) (lines : List LineAt) (d : Course) : Type 0 where
+  pub log : IsLog (play_of (file_in c)) max (world_in c) lines (world_in d)
+  pub listed : history_in d ≡ history_in c ++ lines
+
+-- the line that is due there is another, or there is none
+pub record IsOther (c : Course) (number : ℕ) (line : Line) (at : ℕ) (logged : Line) (other : Option Line) : Type 0 where
+  pub number_is : at ≡ number
+  pub line_is : logged ≡ line
+  pub found : due (play_of (file_in c)) max (world_in c) (line_at line).party (line_at line).entry.event ≡ option_map line_at other
+  pub differs : option_map line_at other ≡ Some (line_at line) → ⊥
+
+abbrev pub IsMisfitHere : Course → ℕ → Line → ReplayRefusal → Type 0
+IsMisfitHere c number line (refusals.Misfit at logged other) = IsOther c number line at logged other
+IsMisfitHere c number line refusals.NoMemory = ⊤
+
+-- the first line that isn't the one that is due; those before it are done, and no other
+pub record StopsAt (c : Course) (lines : List LineAt) (number : ℕ) (logged : LineAt) (other : Option LineAt) (d : Course) : Type 0 where
+  pub misfit : IsMisfit (play_of (file_in c)) max (world_in c) lines number logged other
+  pub done : Follows c misfit.before d
+
+-- some of the lines are done, in order
+pub record StopsWithin (c : Course) (lines : List LineAt) (d : Course) : Type 0 where
+  pub before : List LineAt
+  pub after : List LineAt
+  pub all : lines ≡ before ++ after
+  pub done : Follows c before d
+
+-- where lines are refused, and what is done then
+abbrev pub IsRefusedSo : Course → List Line → ReplayRefusal → Course → Type 0
+IsRefusedSo c lines (refusals.Misfit number logged other) d = StopsAt c (map line_at lines) number (line_at logged) (option_map line_at other) d
+IsRefusedSo c lines refusals.NoMemory d = StopsWithin c (map line_at lines) d

@@ -1,0 +1,101 @@
+//! A core world before any event.
+ghost use Rattle.std.specs.Prelude.{◌≡◌, ℕ, [], IfOk, length};
+ghost use Rattle.sj_check.specs.Held.{file_in as held};
+ghost use Rattle.sj_core.specs.Course.{IsOfAccepted};
+ghost use Rattle.sj_core.specs.Nodes.{AreFirst};
+ghost use Rattle.sj_lang.specs.FileAt.{body_named};
+ghost use Rattle.sj_lang.specs.FileView.{file_of};
+ghost use Rattle.sj_plain.specs.Kept.{file_kept, without_words};
+ghost use Rattle.sj_rules.specs.Start.{core_start};
+ghost use Rattle.sj_table.specs.Spots.{start_in};
+
+use crate::course::Course;
+use crate::world::World;
+use sj_base::NoMemory;
+use sj_check::Accepted;
+use sj_node::Node;
+use sj_plain::{Kept, copied_file};
+use sj_table::Table;
+use std::alloc::Global;
+
+/// The nodes of all parties before any event. Frames carry spots from node to node, so each node has
+/// a copy of one table.
+fn first_nodes(alloc: Global, accepted: &Accepted) -> Result<Vec<Node>, NoMemory>
+    ensures { IfOk result (λ nodes. AreFirst (without_words (file_of (held accepted.now))) nodes.items) }
+{
+    let table = Table::compile(alloc, &accepted.file().protocols)?;
+    nodes_over(alloc, accepted, &table)
+}
+
+/// The same over copies of that table.
+fn nodes_over(alloc: Global, accepted: &Accepted, table: &Table) -> Result<Vec<Node>, NoMemory>
+    requires { (p : ℕ) → start_in table.now p ≡ body_named (file_of (held accepted.now)).protocols p }
+    ensures { IfOk result (λ nodes. AreFirst (without_words (file_of (held accepted.now))) nodes.items) }
+{
+    let parties = accepted.file().parties.len();
+    let mut nodes = Vec::new(alloc);
+    for party in 0..parties {
+        let own = table.copied(alloc)?;
+        let node = Node::with_table(alloc, accepted, party as u16, 0, own)?;
+        nodes.push(node)?;
+    }
+    Ok(nodes)
+}
+
+impl Course {
+    ghost use Rattle.sj_core.specs.Course.{IsReached, file_in, history_in, world_in};
+
+    /// The world of nodes that stand at their start.
+    pub fn begin(alloc: Global, kept: Kept, nodes: Vec<Node>) -> Course
+        requires accepted { IsOfAccepted (file_kept kept) }
+        requires first { AreFirst (file_kept kept) nodes.items }
+        ensures reached { IsReached result }
+        ensures file { file_in result ≡ file_kept kept }
+        ensures history { history_in result ≡ [] }
+        ensures world { world_in result ≡ core_start (file_kept kept) }
+    {
+        Course {
+            alloc,
+            kept,
+            nodes,
+            history: Vec::new(alloc),
+        }
+    }
+}
+
+impl World {
+    ghost use Rattle.sj_core.specs.World.{history_of, kept as kept_of, party_count, world_at};
+    ghost use Rattle.sj_rules.specs.History.{IsHistory};
+    ghost use Rattle.std.specs.Prelude.{max};
+
+    /// The parties of the file before any event, with nothing in their lanes. It copies what it needs
+    /// of the file.
+    pub fn start(alloc: Global, accepted: &Accepted) -> Result<World, NoMemory>
+        // The file's start.
+        ensures kept { IfOk result (λ w. kept_of w ≡ without_words (file_of (held accepted.now))) }
+        ensures history { IfOk result (λ w. history_of w ≡ []) }
+        ensures world { IfOk result (λ w. world_at w ≡ core_start (file_of (held accepted.now))) }
+
+        // What is true of every world.
+        ensures run { IfOk result (λ w. IsHistory max (kept_of w) (history_of w) (world_at w)) }
+        ensures parties { IfOk result (λ w. party_count w ≡ length (kept_of w).parties) }
+    {
+        let nodes = first_nodes(alloc, accepted)?;
+        let kept = copied_file(alloc, accepted.file())?;
+        Ok(World::begin(alloc, kept, nodes))
+    }
+
+    /// The world of nodes that stand at their start.
+    fn begin(alloc: Global, kept: Kept, nodes: Vec<Node>) -> World
+        requires accepted { IsOfAccepted (file_kept kept) }
+        requires first { AreFirst (file_kept kept) nodes.items }
+        ensures file { kept_of result ≡ file_kept kept }
+        ensures history { history_of result ≡ [] }
+        ensures world { world_at result ≡ core_start (file_kept kept) }
+        ensures parties { party_count result ≡ length (file_kept kept).parties }
+    {
+        World {
+            course: Course::begin(alloc, kept, nodes),
+        }
+    }
+}

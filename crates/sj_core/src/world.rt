@@ -1,0 +1,126 @@
+//! The core world of an accepted file.
+ghost use Rattle.std.specs.Prelude.{◌≡◌, ◌↔◌, ◌<◌, ◌++◌, ◌∷◌, [], None, Some, IfErr, IfOk, IsErrOf, IsTrue, OnErr, OnOk, length, map, max};
+ghost use Rattle.sj_core.specs.Draining.{GoesBy, IsDrained};
+ghost use Rattle.sj_core.specs.Nodes.{ComesFrom};
+ghost use Rattle.sj_core.specs.Replaying.{IsRefusedSo};
+ghost use Rattle.sj_core.specs.Views.{event_at, line_at, line_with};
+ghost use Rattle.sj_rules.specs.History.{IsHistory, IsLog, IsQuiescent, IsQuietAmong, due};
+ghost use Rattle.sj_rules.specs.Party.{play_of};
+ghost use Rattle.sj_rules.specs.World.{happens};
+
+use crate::course::Course;
+use crate::{ReplayRefusal, StepRefusal};
+use sj_base::NoMemory;
+use sj_end::{Entry, Event, Line};
+use std::marker::Model;
+
+/// The parties of an accepted file and the lanes between them, as the events so far have left them.
+#[derive(Drop)]
+pub struct World {
+    pub(crate) course: Course,
+}
+
+impl Model for World {
+    ghost use Rattle.sj_core.specs.declared.course.Course.{Course};
+    ghost use Rattle.sj_core.specs.contracts.course.Course as c;
+
+    ghost Value = { Course };
+
+    ghost coded = { c.the_row.coded };
+
+    ghost use Rattle.sj_core.specs.Course.{IsReached};
+
+    ghost view = { λ w. w.course };
+
+    ghost invariant = { λ w. IsReached w.course };
+}
+
+impl World {
+    ghost use Rattle.sj_core.specs.World.{history_of, kept, party_count, world_at};
+
+    /// How many parties there are.
+    pub fn parties(&self) -> usize
+        ensures count { result ≡ party_count self.now }
+        ensures kept { result ≡ length (kept self.now).parties }
+    {
+        self.course.nodes.len()
+    }
+
+    /// One event at that party. Whatever it refuses, the world is as it was.
+    pub fn step(&mut self, party: u16, event: Event) -> Result<Entry, StepRefusal>
+        requires there { party < party_count self.old }
+        requires origin { ComesFrom event (party_count self.old) }
+
+        // The event is a step, and the entry is the one that is due.
+        ensures ok { IfOk result (λ e. happens (play_of (kept self.old)) max (world_at self.old)
+            party (event_at event) ≡ Some (world_at self.new)) }
+        ensures entry { IfOk result (λ e. due (play_of (kept self.old)) max (world_at self.old)
+            party (event_at event) ≡ Some (line_with party e)) }
+        ensures listed { IfOk result (λ e. history_of self.new ≡ history_of self.old ++ line_with party e ∷ []) }
+
+        // What is true of every world, and what no event changes.
+        ensures run { IsHistory max (kept self.new) (history_of self.new) (world_at self.new) }
+        ensures kept { kept self.new ≡ kept self.old }
+        ensures parties { party_count self.new ≡ length (kept self.new).parties }
+
+        // A refusal changes nothing.
+        ensures err { OnErr result (world_at self.new ≡ world_at self.old) }
+        ensures err_history { OnErr result (history_of self.new ≡ history_of self.old) }
+
+        // There is no such step, and only then.
+        ensures no_step { IsErrOf result StepRefusal.NoStep ↔
+            (happens (play_of (kept self.old)) max (world_at self.old) party (event_at event) ≡ None) }
+    {
+        self.course.step(party, event)
+    }
+
+    /// Does all the lines again, up to the first that isn't the one that is due there. That one is
+    /// not done. Where a line names a party that the file hasn't, none is due.
+    pub fn replay(&mut self, lines: &[Line]) -> Result<(), ReplayRefusal>
+        // Each line is the one that is due.
+        ensures ok { OnOk result (IsLog (play_of (kept self.old)) max (world_at self.old)
+            (map line_at lines.now) (world_at self.new)) }
+        ensures listed { OnOk result (history_of self.new ≡ history_of self.old ++ map line_at lines.now) }
+
+        // The first line that isn't, before which all are done; without memory some of them are.
+        ensures refused { IfErr result (λ r. IsRefusedSo self.old lines.now r self.new) }
+
+        // What is true of every world, and what no event changes.
+        ensures run { IsHistory max (kept self.new) (history_of self.new) (world_at self.new) }
+        ensures kept { kept self.new ≡ kept self.old }
+        ensures parties { party_count self.new ≡ length (kept self.new).parties }
+    {
+        self.course.replay(lines)
+    }
+
+    /// What happened so far, in order.
+    pub fn history(&self) -> &[Line]
+        ensures { map line_at result.now ≡ history_of self.now }
+    {
+        &self.course.history
+    }
+
+    /// Does rounds until one has no event. In a round each party, in order, takes the frames of each
+    /// lane to it until that is empty, and then acts until it can't. Want of memory leaves a world
+    /// that some of these events gave.
+    pub fn drain(&mut self) -> Result<(), NoMemory>
+        // The events are those of the rounds, and nothing is left to do.
+        ensures drained { OnOk result (GoesBy (IsDrained self.old (party_count self.old)) self.old self.new) }
+        ensures quiet { OnOk result (IsQuietAmong (play_of (kept self.new)) (party_count self.new) (world_at self.new)) }
+
+        // What is true of every world, and what no event changes.
+        ensures run { IsHistory max (kept self.new) (history_of self.new) (world_at self.new) }
+        ensures kept { kept self.new ≡ kept self.old }
+        ensures parties { party_count self.new ≡ length (kept self.new).parties }
+    {
+        self.course.drain()
+    }
+
+    /// Whether nothing is left to do: nothing is in a lane, and no party can act.
+    pub fn quiet(&self) -> bool
+        ensures among { IsTrue result ↔ IsQuietAmong (play_of (kept self.now)) (party_count self.now) (world_at self.now) }
+        ensures whole { IsTrue result ↔ IsQuiescent (play_of (kept self.now)) (world_at self.now) }
+    {
+        self.course.quiet()
+    }
+}
