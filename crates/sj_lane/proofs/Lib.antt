@@ -1,0 +1,10 @@
+pub mod Backs
+pub mod Carries
+pub mod CarryLemmas
+pub mod Cells
+pub mod Columns
+pub mod Each
+pub mod Grids
+pub mod MemRowsLemmas
+pub mod PushLemmas
+pub mod Settles

@@ -1,0 +1,5 @@
+use Rattle.sj_lane.proofs.Carries.{Carried}
+use Rattle.sj_lane.proofs.carrying.carry_all.Given as goal
+
+abbrev pub invariant-loop-from : goal.invariant-loop-from
+invariant-loop-from l = Carried l.fn.lanes l.lanes

@@ -1,0 +1,5 @@
+use Rattle.sj_lane.proofs.Carries.{Carried}
+use Rattle.sj_lane.proofs.carrying.carry_from.Given as goal
+
+abbrev pub invariant-loop-to : goal.invariant-loop-to
+invariant-loop-to l = Carried l.fn.lanes l.lanes

@@ -1,0 +1,12 @@
+pub mod KeptLanes
+pub mod Marks
+pub mod Mem
+pub mod MemCarry
+pub mod MemKept
+pub mod MemLaws
+pub mod MemRows
+pub mod Rings
+pub mod Room
+pub mod Rows
+pub mod Square
+pub mod Told

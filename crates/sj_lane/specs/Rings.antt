@@ -1,0 +1,75 @@
+-- What stays of a lane, and of all lanes, while both ends are looked at in one thread.
+use Rattle.std.specs.Prelude.{◌≡◌, ℕ, ◌<◌, List, [], ◌∷◌, Option, Some, length, slice_get}
+use mathlib.Core.List.{IsPrefix}
+use Rattle.rtrb.specs.Ring.{sent, received, IsPair, SameProducer, SameConsumer}
+use Rattle.sj_lang.specs.Place.{Place}
+use Rattle.sj_rules.specs.Frames.{FrameAt}
+use Rattle.sj_lane.specs.Told.{told_list}
+use Rattle.sj_lane.specs.declared.lane.Lanes.{Lanes}
+use Rattle.sj_lane.specs.Square.{out_at}
+use Rattle.sj_lane.specs.declared.ends.RingOut.{RingOut}
+use Rattle.sj_lane.specs.declared.ends.RingIn.{RingIn}
+
+-- two lists, related at each place
+abbrev pub Each2 : {X Y : Type 0} → (X → Y → Type 0) → List X → List Y → Type 0
+Each2 R [] [] = Unit {0}
+Each2 R [] (y ∷ ys) = ⊥
+Each2 R (x ∷ xs) [] = ⊥
+Each2 R (x ∷ xs) (y ∷ ys) = R x y × Each2 R xs ys
+
+-- what stays of a lane to another party
+pub record OutKept (a b : RingOut) : Type 0 where
+  pub ring : SameProducer a.producer b.producer
+  pub sent : sent b.producer ≡ sent a.producer
+  pub vain : b.vain ≡ a.vain
+
+-- what stays of a lane from another party
+pub record InKept (a b : RingIn) : Type 0 where
+  pub ring : SameConsumer a.consumer b.consumer
+  pub received : received b.consumer ≡ received a.consumer
+  pub vain : b.vain ≡ a.vain
+
+-- the frames that were pushed, as the lane tells them
+abbrev pub frames_pushed : RingOut → Option (List (FrameAt Place))
+frames_pushed o = Some (told_list (sent o.producer))
+
+-- the frames that were popped
+abbrev pub frames_popped : RingIn → Option (List (FrameAt Place))
+frames_popped i = Some (told_list (received i.consumer))
+
+-- how many frames were pushed
+abbrev pub push_count : RingOut → ℕ
+push_count o = length (sent o.producer)
+
+-- the same end of the same ring
+abbrev pub SameOut : RingOut → RingOut → Type 0
+SameOut a b = SameProducer a.producer b.producer
+
+abbrev pub SameIn : RingIn → RingIn → Type 0
+SameIn a b = SameConsumer a.consumer b.consumer
+
+-- the two ends of one ring
+abbrev pub Joined : RingOut → RingIn → Type 0
+Joined o i = IsPair o.producer i.consumer
+
+-- what was popped is a front of what was pushed
+abbrev pub Fed : RingOut → RingIn → Type 0
+Fed o i = IsPrefix (received i.consumer) (sent o.producer)
+
+-- the outgoing lanes stay, and the incoming ones are untouched
+pub record OutsKept (a b : Lanes RingOut RingIn) : Type 0 where
+  pub outs : Each2 OutKept a.outs.items b.outs.items
+  pub ins : b.ins ≡ a.ins
+
+-- all lanes stay
+pub record LanesKept (a b : Lanes RingOut RingIn) : Type 0 where
+  pub outs : Each2 OutKept a.outs.items b.outs.items
+  pub ins : Each2 InKept a.ins.items b.ins.items
+
+-- the lanes to q, from each p below n
+abbrev pub ColumnFed : List (Lanes RingOut RingIn) → List RingIn → ℕ → ℕ → Type 0
+ColumnFed lanes column q n = (p : ℕ) (o : RingOut) (i : RingIn) → p < n → out_at lanes p q ≡ Some o → slice_get column p ≡ Some i → Fed o i
+
+-- each of them is the end of one ring
+abbrev pub ColumnJoined : List (Lanes RingOut RingIn) → List RingIn → ℕ → Type 0
+ColumnJoined lanes column q = (p : ℕ) (o : RingOut) (i : RingIn) → out_at lanes p q ≡ Some o → slice_get column p ≡ Some i → Joined o i

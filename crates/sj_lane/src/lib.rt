@@ -1,0 +1,23 @@
+//! Lanes between parties, and the links that make them: over rings, or over lists in memory.
+#![tactic(auto)]
+
+mod carrying;
+mod ends;
+mod lane;
+mod links;
+mod make;
+mod marks;
+mod mem;
+mod mem_links;
+mod ring;
+mod rows;
+mod settle;
+#[cfg(test)]
+mod tests;
+
+pub use ends::{RingIn, RingOut};
+pub use lane::{InLane, Lanes, OutLane, PopRefusal, PushRefusal};
+pub use links::{Links, MakeRefusal};
+pub use mem::{MemIn, MemOut};
+pub use mem_links::MemLinks;
+pub use ring::RingLinks;

@@ -1,0 +1,76 @@
+//! Links of lists in memory.
+use crate::carrying::carry_all;
+use crate::lane::{InLane, Lanes, OutLane};
+use crate::links::{Links, MakeRefusal};
+use crate::mem::{MemIn, MemOut};
+use crate::rows::lanes_of;
+use sj_base::NoMemory;
+use std::alloc::Global;
+
+/// Links of lists in memory. Frames come to the other side by `carry` alone.
+#[derive(Drop)]
+pub struct MemLinks {
+    kept: Option<Vec<Lanes<MemOut, MemIn>>>,
+}
+
+impl MemLinks {
+    pub fn new() -> MemLinks {
+        MemLinks { kept: None }
+    }
+}
+
+impl Links for MemLinks {
+    ghost use Rattle.std.specs.Prelude.{◌≡◌, ◌≤◌, ℕ, true};
+    ghost use Rattle.sj_lane.specs.Square.{AllJoined, HasFault, IsSquare, Kept, NoFault};
+    ghost use Rattle.sj_lane.specs.Told.{Rose};
+    ghost use Rattle.sj_lane.specs.Mem.{IsCarried};
+    ghost use Rattle.sj_lane.specs.MemLaws.{carried_later};
+    ghost use Rattle.sj_lane.specs.MemKept.{kept_list, sent_in, got_in, vain_out_in, vain_in_in};
+
+    type Out = MemOut;
+
+    type In = MemIn;
+
+    ghost tells = { λ _. true };
+
+    ghost faults = { λ _. 0 };
+
+    ghost joined = { IsCarried };
+
+    ghost sent = { λ s. sent_in (kept_list s.kept) };
+
+    ghost got = { λ s. got_in (kept_list s.kept) };
+
+    ghost vain_out = { λ s. vain_out_in (kept_list s.kept) };
+
+    ghost vain_in = { λ s. vain_in_in (kept_list s.kept) };
+
+    fn make(
+        &mut self,
+        alloc: Global,
+        parties: u16,
+    ) -> Result<Vec<Lanes<MemOut, MemIn>>, MakeRefusal> {
+        self.kept = None;
+        match lanes_of(alloc, parties) {
+            Ok(lanes) => Ok(lanes),
+            Err(_) => Err(MakeRefusal::NoMemory),
+        }
+    }
+
+    fn carry(&mut self, lanes: &mut [Lanes<MemOut, MemIn>]) -> Result<(), NoMemory> {
+        carry_all(lanes)
+    }
+
+    fn back(&mut self, lanes: Vec<Lanes<MemOut, MemIn>>)
+        requires square { IsSquare lanes.items }
+        requires joined { AllJoined IsCarried lanes.items }
+        ensures kept { true ≡ true → Kept ⟦<MemOut as OutLane>⟧.pushed ⟦<MemIn as InLane>⟧.popped ⟦<MemOut as OutLane>⟧.vain ⟦<MemIn as InLane>⟧.vain lanes.items (sent_in (kept_list self.new.kept)) (got_in (kept_list self.new.kept)) (vain_out_in (kept_list self.new.kept)) (vain_in_in (kept_list self.new.kept)) }
+        ensures tells { true ≡ true }
+        ensures fault { (0 ≤ 0) × (NoFault ⟦<MemOut as OutLane>⟧.faults ⟦<MemIn as InLane>⟧.faults lanes.items → ◌≡◌ {A = ℕ} 0 0) }
+        ensures raised { HasFault ⟦<MemOut as OutLane>⟧.faults ⟦<MemIn as InLane>⟧.faults lanes.items → Rose 0 0 }
+    {
+        self.kept = Some(lanes);
+    }
+
+    ghost joined_later = { carried_later };
+}

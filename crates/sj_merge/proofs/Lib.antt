@@ -1,0 +1,4 @@
+pub mod JoinLemmas
+pub mod MergeLemmas
+pub mod OrderLemmas
+pub mod StepLemmas
