@@ -5,7 +5,7 @@ use Rattle.clap.specs.declared.error.kind.ErrorKind.TheVariants as kind
 use Rattle.clap.specs.Words.{fault_of}
 use Rattle.clap.proofs.OnLiterals.{clap_on_literals}
 use Rattle.sj_command.specs.CommandLine.{IsTaken, line}
-use Rattle.sj_command.specs.Task.{alone, line_in}
+use Rattle.sj_command.specs.Task.{alone, line_in, logged}
 
 pub a_command_alone : line_in (codes "check" ∷ []) ≡ alone (codes "check") None
 unfolding clap_on_literals
@@ -18,6 +18,10 @@ its_words_are_taken = refl
 pub a_command_and_a_number : line_in (codes "make" ∷ codes "12" ∷ []) ≡ alone (codes "make") (Some (codes "12"))
 unfolding clap_on_literals
 a_command_and_a_number = refl
+
+pub a_command_and_the_flag : line_in (codes "run" ∷ codes "--log" ∷ []) ≡ logged (codes "run") None
+unfolding clap_on_literals
+a_command_and_the_flag = refl
 
 -- a call for help is refused, and so no command
 pub help_is_no_command : fault_of line (codes "--help" ∷ []) ≡ kind.DisplayHelp ∷ []

@@ -1,6 +1,6 @@
 //! What the words of a call ask for.
 ghost use Rattle.std.specs.Prelude.{◌≡◌, ◌↔◌, IsTrue, map, string_bytes, Some, None, Ok, option_map, codes, IfOk, IfSome};
-ghost use Rattle.sj_command.specs.Task.{Asks, IsUsage, Means, alone};
+ghost use Rattle.sj_command.specs.Task.{Asks, IsUsage, Means, alone, logged};
 ghost use Rattle.sj_command.specs.declared.tasks.Task.{Task as Asked};
 
 use crate::counts::count_in;
@@ -18,9 +18,11 @@ pub fn task_in(alloc: Global, words: &[String]) -> Result<Option<Task>, NoMemory
         return Ok(None);
     };
     let number = matches.get_str("number");
-    let is_bare = is_false(matches.get_str("log")) && matches.get_str("looks").is_none();
+    let log = matches.get_str("log");
     match matches.get_str("command") {
-        Some(name) if is_bare => Ok(task_named(name, number)),
+        Some(_) if matches.get_str("looks").is_some() => Ok(None),
+        Some(name) if is_false(log) => Ok(task_named(name, number)),
+        Some(name) if is_true(log) => Ok(task_logged(name, number)),
         _ => Ok(None),
     }
 }
@@ -32,6 +34,28 @@ fn is_false(flag: Option<&str>) -> bool
     match flag {
         Some(text) => text.as_bytes() == b"false".as_slice(),
         None => false,
+    }
+}
+
+// The flag is there.
+fn is_true(flag: Option<&str>) -> bool
+    ensures { IsTrue result ↔ (option_map (λ s. s.now) flag.entry ≡ Some (codes "true")) }
+{
+    match flag {
+        Some(text) => text.as_bytes() == b"true".as_slice(),
+        None => false,
+    }
+}
+
+// The task of that name that prints a history too, with no number.
+fn task_logged(name: &str, number: Option<&str>) -> Option<Task>
+    ensures some { IfSome result (Means (logged name.entry.now (option_map (λ s. s.now) number.entry))) }
+    ensures none { result ≡ None → (t : Asked)
+        → Means (logged name.entry.now (option_map (λ s. s.now) number.entry)) t → ⊥ }
+{
+    match number {
+        None if name.as_bytes() == b"run".as_slice() => Some(Task::Run { log: true }),
+        _ => None,
     }
 }
 
@@ -62,7 +86,7 @@ fn task_alone(name: &[u8]) -> Option<Task>
     } else if name == b"sim".as_slice() {
         Some(Task::Sim)
     } else if name == b"run".as_slice() {
-        Some(Task::Run)
+        Some(Task::Run { log: false })
     } else {
         None
     }

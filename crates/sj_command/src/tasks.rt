@@ -9,8 +9,8 @@ pub enum Task {
     Show,
     /// Runs a file in the plain world and prints the transcript.
     Sim,
-    /// Runs a file and prints the transcript.
-    Run,
+    /// Runs a file and prints the transcript, and behind it the history where a log is asked for.
+    Run { log: bool },
     /// Prints the generated file with this many messages in each loop, from 1 to 1,000.
     Make(u16),
 }

@@ -13,12 +13,14 @@ fn asked(alloc: Global, words: &[&str]) -> Result<Option<Task>, Fail> {
 
 #[test]
 fn words_of_commands(rt: HostRuntime) -> Result<(), Fail> {
-    let rows: [(&[&str], Task); 9] = [
+    let rows: [(&[&str], Task); 11] = [
         (&["check"], Task::Check),
         (&["show"], Task::Show),
         (&["sim"], Task::Sim),
-        (&["run"], Task::Run),
-        (&["--", "run"], Task::Run),
+        (&["run"], Task::Run { log: false }),
+        (&["--", "run"], Task::Run { log: false }),
+        (&["run", "--log"], Task::Run { log: true }),
+        (&["--log", "run"], Task::Run { log: true }),
         (&["make", "1"], Task::Make(1)),
         (&["make", "10"], Task::Make(10)),
         (&["make", "--", "999"], Task::Make(999)),
@@ -32,14 +34,16 @@ fn words_of_commands(rt: HostRuntime) -> Result<(), Fail> {
 
 #[test]
 fn words_of_no_command(rt: HostRuntime) -> Result<(), Fail> {
-    let rows: [&[&str]; 24] = [
+    let rows: [&[&str]; 26] = [
         &[],
         &[""],
         &["fly"],
         &["Run"],
         &["run", "5"],
         &["check", "1"],
-        &["run", "--log"],
+        &["sim", "--log"],
+        &["run", "--log", "--log"],
+        &["run", "--log", "5"],
         &["run", "--looks", "5"],
         &["run", "--looks=5"],
         &["run", "--looks"],

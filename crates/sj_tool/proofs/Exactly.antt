@@ -6,7 +6,7 @@ use Rattle.sj_tool.specs.Texts.{status_of, text_of}
 use Rattle.sj_tool.specs.Answers.{CallAt, Comes, Answers, NoFaultAbove, OrYields}
 use Rattle.sj_tool.proofs.Rows.{one_comes}
 
-abbrev call_at : List (List ℕ) → Option (List ℕ) → Option (List ℕ) → ℕ → ℕ → CallAt
+abbrev pub call_at : List (List ℕ) → Option (List ℕ) → Option (List ℕ) → ℕ → ℕ → CallAt
 call_at words left after f g = record { words = words; left = left; left_after = after; faults = f; faults_after = g }
 
 pub answered_exactly : (words : List (List ℕ)) (left after : Option (List ℕ)) (f g : ℕ) (a : Answer) (status : ℕ) (before now : Option (List ℕ))

@@ -1,5 +1,9 @@
+pub mod ActingLemmas
+pub mod DrainedLemmas
 pub mod EndLemmas
 pub mod Exactly
+pub mod HeadlineOfAnswers
 pub mod OneAnswer
-pub mod PlayedAnswers
+pub mod OneRun
 pub mod Rows
+pub mod TableLemmas

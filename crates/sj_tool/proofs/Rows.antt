@@ -7,10 +7,11 @@ use Rattle.sj_command.specs.Task.{Asks, IsUsage}
 use Rattle.sj_command.proofs.OneTask.{one_task}
 use Rattle.sj_generator.specs.Generated.{generated}
 use Rattle.sj_tool.specs.declared.answers.Answer.{Answer}
-use Rattle.sj_tool.specs.declared.answers.Answer.TheVariants.{Usage, ReadFault, TooLarge, Syntax, Check, Unbuilt, Ran, Printed, Made}
+use Rattle.sj_tool.specs.declared.answers.Answer.TheVariants.{Usage, ReadFault, TooLarge, Syntax, Check, Ran, Printed, Made}
 use Rattle.sj_tool.specs.Texts.{status_of, text_of}
 use Rattle.sj_tool.specs.Answers.{CallAt, AsksFor, Reads, Makes, AnswersText, AnswersInput, Comes, NoFaultAbove}
-use Rattle.sj_tool.proofs.OneAnswer.{AreOne, one_of_text}
+use Rattle.sj_tool.specs.Table.{AreOne}
+use Rattle.sj_tool.proofs.OneAnswer.{one_of_text}
 
 -- what came is at most the limit or more, and not both
 came_once : (l : ℕ) (left : List ℕ) (after : Option (List ℕ)) → CameOf (λ n. n ≤ l) (Some left) after → CameOf (λ n. l < n) (Some left) after → ⊥
@@ -45,17 +46,16 @@ one_of_input c left e a b x y =
 data Row (c : CallAt) (a : Answer) : Type 0 where
   words : a ≡ Usage → IsUsage c.words → Row c a
   fault : a ≡ ReadFault → AsksFor Reads c → CameOf (λ n. n ≤ 65536) c.left c.left_after → Rose c.faults c.faults_after → Row c a
-  large : a ≡ TooLarge → AsksFor Reads c → CameOf (λ n. 65536 < n) c.left c.left_after → Row c a
+  large : a ≡ TooLarge → AsksFor Reads c → CameOf (λ n. 65536 < n) c.left c.left_after → c.faults_after ≡ c.faults → Row c a
   made : (text : List ℕ) → status_of a ≡ 0 → text_of a ≡ text → Makes c text → Row c a
   input : AnswersInput c a → Row c a
 
 row_of : (c : CallAt) (a : Answer) → Comes c a → Row c a
 row_of c Usage h = words refl h.0
 row_of c ReadFault h = fault refl h.0 h.1 h.2
-row_of c TooLarge h = large refl h.0 h.1
+row_of c TooLarge h = large refl h.0 h.1 h.2
 row_of c (Syntax f) h = input h
 row_of c (Check r l) h = input h
-row_of c Unbuilt h = input h
 row_of c (Ran v t) h = input h
 row_of c (Printed t) h = input h
 row_of c (Made t) h = made t.items refl refl h
@@ -65,13 +65,12 @@ reads_file : (task : Task) (bytes : List ℕ) (a : Answer) → AnswersText task 
 reads_file tasks.Check bytes a h = tt
 reads_file tasks.Show bytes a h = tt
 reads_file tasks.Sim bytes a h = tt
-reads_file tasks.Run bytes a h = tt
+reads_file (tasks.Run log) bytes a h = tt
 reads_file (tasks.Make n) bytes Usage h = absurd h.answers
 reads_file (tasks.Make n) bytes ReadFault h = absurd h.answers
 reads_file (tasks.Make n) bytes TooLarge h = absurd h.answers
 reads_file (tasks.Make n) bytes (Syntax f) h = absurd h.0
 reads_file (tasks.Make n) bytes (Check r l) h = absurd h.answers.0
-reads_file (tasks.Make n) bytes Unbuilt h = let e : tasks.Make n ≡ tasks.Run = h.answers.0 in let bad : ⊥ = cc in absurd bad
 reads_file (tasks.Make n) bytes (Ran v t) h = absurd h.answers.1
 reads_file (tasks.Make n) bytes (Printed t) h = absurd h.answers
 reads_file (tasks.Make n) bytes (Made t) h = absurd h.answers
@@ -87,7 +86,6 @@ no_rise c ReadFault x h r = absurd h
 no_rise c TooLarge x h r = absurd x.answers.answers
 no_rise c (Syntax f) x h r = h r
 no_rise c (Check s l) x h r = h r
-no_rise c Unbuilt x h r = h r
 no_rise c (Ran v t) x h r = h r
 no_rise c (Printed t) x h r = h r
 no_rise c (Made t) x h r = absurd x.answers.answers
@@ -107,27 +105,27 @@ module _ (c : CallAt) (left : List ℕ) (tells : c.left ≡ Some left) where
   one_row : (a b : Answer) → Row c a → Row c b → NoFaultAbove c b → AreOne a b
   one_row a b (words e u) (words d v) above = are_same a b (e ∙ sym d)
   one_row a b (words e u) (fault d asks few r) above = absurd (u asks.task asks.asks)
-  one_row a b (words e u) (large d asks many) above = absurd (u asks.task asks.asks)
+  one_row a b (words e u) (large d asks many same) above = absurd (u asks.task asks.asks)
   one_row a b (words e u) (made t s d m) above = absurd (u (tasks.Make m.count) m.asks)
   one_row a b (words e u) (input y) above = absurd (u y.task y.asks)
   one_row a b (fault e asks few r) (words d v) above = absurd (v asks.task asks.asks)
   one_row a b (fault e asks few r) (fault d asks2 few2 r2) above = are_same a b (e ∙ sym d)
-  one_row a b (fault e asks few r) (large d asks2 many) above = absurd (once few many)
+  one_row a b (fault e asks few r) (large d asks2 many same) above = absurd (once few many)
   one_row a b (fault e asks few r) (made t s d m) above = absurd (made_reads c t asks.task m asks.asks asks.kind)
   one_row a b (fault e asks few r) (input y) above = absurd (no_rise c b y above r)
-  one_row a b (large e asks many) (words d v) above = absurd (v asks.task asks.asks)
-  one_row a b (large e asks many) (fault d asks2 few r) above = absurd (once few many)
-  one_row a b (large e asks many) (large d asks2 many2) above = are_same a b (e ∙ sym d)
-  one_row a b (large e asks many) (made t s d m) above = absurd (made_reads c t asks.task m asks.asks asks.kind)
-  one_row a b (large e asks many) (input y) above = absurd (once (few_in b y) many)
+  one_row a b (large e asks many same) (words d v) above = absurd (v asks.task asks.asks)
+  one_row a b (large e asks many same) (fault d asks2 few r) above = absurd (once few many)
+  one_row a b (large e asks many same) (large d asks2 many2 same2) above = are_same a b (e ∙ sym d)
+  one_row a b (large e asks many same) (made t s d m) above = absurd (made_reads c t asks.task m asks.asks asks.kind)
+  one_row a b (large e asks many same) (input y) above = absurd (once (few_in b y) many)
   one_row a b (made t s e m) (words d v) above = absurd (v (tasks.Make m.count) m.asks)
   one_row a b (made t s e m) (fault d asks few r) above = absurd (made_reads c t asks.task m asks.asks asks.kind)
-  one_row a b (made t s e m) (large d asks many) above = absurd (made_reads c t asks.task m asks.asks asks.kind)
+  one_row a b (made t s e m) (large d asks many same) above = absurd (made_reads c t asks.task m asks.asks asks.kind)
   one_row a b (made t s e m) (made u r d n) above = made_once a b t u s e m r d n
   one_row a b (made t s e m) (input y) above = absurd (made_reads c t y.task m y.asks (reads_file y.task y.bytes b y.answers))
   one_row a b (input x) (words d v) above = absurd (v x.task x.asks)
   one_row a b (input x) (fault d asks few r) above = absurd (subst (λ (z : Answer). NoFaultAbove c z) d above)
-  one_row a b (input x) (large d asks many) above = absurd (once (few_in a x) many)
+  one_row a b (input x) (large d asks many same) above = absurd (once (few_in a x) many)
   one_row a b (input x) (made t s d m) above = absurd (made_reads c t x.task m x.asks (reads_file x.task x.bytes a x.answers))
   one_row a b (input x) (input y) above = one_of_input c left tells a b x y
 

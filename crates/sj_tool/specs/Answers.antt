@@ -1,5 +1,5 @@
 -- The table of answers, in the order of refusals.
-use Rattle.std.specs.Prelude.{◌≡◌, ◌⊎◌, ◌<◌, ◌≤◌, ℕ, true, false, List, [], Option, Some, map, length, string_bytes, IfSome, ⊤}
+use Rattle.std.specs.Prelude.{◌≡◌, ◌⊎◌, ◌<◌, ◌≤◌, ℕ, List, [], Option, Some, map, length, string_bytes, IfSome, ⊤}
 use Rattle.std.specs.declared.alloc.Global.{Global}
 use Rattle.std.specs.declared.string.String.{String}
 use Rattle.sj_base.specs.Stream.{Rose, CameOf, WroteFrontOf, put_before, put_behind}
@@ -12,16 +12,14 @@ use Rattle.sj_grammar.specs.Faults.{Stuck}
 use Rattle.sj_acceptance.specs.Accepted.{IsAccepted}
 use Rattle.sj_acceptance.specs.Faults.{first_fault}
 use Rattle.sj_acceptance.specs.FileTests.{tests_of}
-use Rattle.sj_semantics.specs.State.{verdict_of}
-use Rattle.sj_semantics.specs.Run.{end_of}
-use Rattle.sj_semantics.specs.Transcript.{transcript_of}
+use Rattle.sj_semantics.specs.declared.Verdict.{Verdict}
 use Rattle.sj_generator.specs.Generated.{generated}
 use Rattle.sj_command.specs.declared.tasks.Task.{Task}
 use Rattle.sj_command.specs.declared.tasks.Task.TheVariants as tasks
 use Rattle.sj_command.specs.Task.{Asks, IsUsage}
 use Rattle.sj_tool.specs.declared.answers.Answer.{Answer}
-use Rattle.sj_tool.specs.declared.answers.Answer.TheVariants.{Usage, ReadFault, TooLarge, Syntax, Check, Unbuilt, Ran, Printed, Made}
-use Rattle.sj_tool.specs.Delegates.{file_hands_over}
+use Rattle.sj_tool.specs.declared.answers.Answer.TheVariants.{Usage, ReadFault, TooLarge, Syntax, Check, Ran, Printed, Made}
+use Rattle.sj_tool.specs.Runs.{HasRun, HasSimulated}
 use Rattle.sj_tool.specs.Shown.{shown}
 use Rattle.sj_tool.specs.Texts.{status_of, text_of, counts_of}
 
@@ -60,11 +58,11 @@ Checks (tasks.Make n) = ⊥
 Checks tasks.Show = ⊥
 Checks _ = ⊤
 
--- it plays the file to its end; `run` is built for files that hand no end over
-abbrev pub Plays : Task → FileAt → Type 0
-Plays tasks.Sim file = ⊤
-Plays tasks.Run file = file_hands_over file ≡ false
-Plays _ file = ⊥
+-- it plays the file to its end: how it ended, and what is printed
+abbrev pub Plays : Task → FileAt → Verdict → List ℕ → Type 0
+Plays tasks.Sim file verdict text = HasSimulated file verdict text
+Plays (tasks.Run log) file verdict text = HasRun log file verdict text
+Plays _ file verdict text = ⊥
 
 -- what a task prints of a file that it doesn't play
 abbrev pub Prints : Task → FileAt → List ℕ → Type 0
@@ -75,8 +73,7 @@ Prints _ file text = ⊥
 -- what answers a file
 abbrev pub AnswersFile : Task → FileAt → Answer → Type 0
 AnswersFile task file (Check rule line) = Checks task × (first_fault (tests_of file) ≡ Some (rule, line))
-AnswersFile task file Unbuilt = (task ≡ tasks.Run) × IsAccepted file × (file_hands_over file ≡ true)
-AnswersFile task file (Ran verdict text) = IsAccepted file × Plays task file × (verdict ≡ verdict_of (end_of file)) × (text.items ≡ transcript_of file (end_of file))
+AnswersFile task file (Ran verdict text) = IsAccepted file × Plays task file verdict text.items
 AnswersFile task file (Printed text) = Prints task file text.items
 AnswersFile task file _ = ⊥
 
@@ -117,7 +114,7 @@ pub record Makes (c : CallAt) (printed : List ℕ) : Type 0 where
 abbrev pub Comes : CallAt → Answer → Type 0
 Comes c Usage = IsUsage c.words × IsUnread c
 Comes c ReadFault = AsksFor Reads c × CameOf (λ n. n ≤ 65536) c.left c.left_after × Rose c.faults c.faults_after
-Comes c TooLarge = AsksFor Reads c × CameOf (λ n. 65536 < n) c.left c.left_after
+Comes c TooLarge = AsksFor Reads c × CameOf (λ n. 65536 < n) c.left c.left_after × (c.faults_after ≡ c.faults)
 Comes c (Made text) = Makes c text.items
 Comes c a = AnswersInput c a
 
@@ -146,7 +143,6 @@ abbrev pub NoFaultAbove : CallAt → Answer → Type 0
 NoFaultAbove c ReadFault = ⊥
 NoFaultAbove c (Syntax fault) = ¬ Rose c.faults c.faults_after
 NoFaultAbove c (Check rule line) = ¬ Rose c.faults c.faults_after
-NoFaultAbove c Unbuilt = ¬ Rose c.faults c.faults_after
 NoFaultAbove c (Ran verdict text) = ¬ Rose c.faults c.faults_after
 NoFaultAbove c (Printed text) = ¬ Rose c.faults c.faults_after
 NoFaultAbove c _ = ⊤

@@ -1,5 +1,8 @@
+pub mod Acting
 pub mod Answers
-pub mod Delegates
+pub mod Headline
 pub mod Outcomes
+pub mod Runs
 pub mod Shown
+pub mod Table
 pub mod Texts

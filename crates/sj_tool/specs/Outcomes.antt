@@ -1,17 +1,11 @@
 -- What came of a file.
 use Rattle.std.specs.Prelude.{◌≡◌, Some}
-use Rattle.sj_lang.specs.FileAt.{FileAt}
 use Rattle.sj_lang.specs.declared.file.File.{File}
 use Rattle.sj_lang.specs.FileView.{file_of}
 use Rattle.sj_acceptance.specs.Accepted.{IsAccepted}
 use Rattle.sj_acceptance.specs.Faults.{first_fault}
 use Rattle.sj_acceptance.specs.FileTests.{tests_of}
 use Rattle.sj_check.specs.Held.{file_in}
-use Rattle.sj_semantics.specs.State.{verdict_of}
-use Rattle.sj_semantics.specs.Run.{end_of}
-use Rattle.sj_semantics.specs.Transcript.{transcript_of}
-use Rattle.sj_tool.specs.declared.answers.Answer.{Answer}
-use Rattle.sj_tool.specs.declared.answers.Answer.TheVariants.{Ran}
 use Rattle.sj_tool.specs.declared.run.Judged.{Judged}
 use Rattle.sj_tool.specs.declared.run.Judged.TheVariants.{Accepted, Fault}
 
@@ -19,8 +13,3 @@ use Rattle.sj_tool.specs.declared.run.Judged.TheVariants.{Accepted, Fault}
 abbrev pub IsJudged : File → Judged → Type 0
 IsJudged file (Accepted a) = (file_in a ≡ file) × IsAccepted (file_of file)
 IsJudged file (Fault rule line) = first_fault (tests_of (file_of file)) ≡ Some (rule, line)
-
--- the file is accepted, and was played to its end
-abbrev pub HasPlayed : FileAt → Answer → Type 0
-HasPlayed file (Ran verdict text) = IsAccepted file × (verdict ≡ verdict_of (end_of file)) × (text.items ≡ transcript_of file (end_of file))
-HasPlayed file _ = ⊥

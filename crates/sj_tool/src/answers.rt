@@ -21,9 +21,7 @@ pub enum Answer {
     Syntax(Fault),
     /// The file isn't accepted: the number of the broken rule, and a line.
     Check(u8, u32),
-    /// The file hands an end over, which `run` doesn't do yet.
-    Unbuilt,
-    /// The file was played to its end: how it ended, and the transcript.
+    /// The file was played to its end: how it ended, and what is printed of it.
     Ran(Verdict, Vec<u8>),
     /// What was asked of a file is printed.
     Printed(Vec<u8>),
@@ -42,7 +40,6 @@ impl Answer {
             Answer::TooLarge => 3,
             Answer::Syntax(_) => 4,
             Answer::Check(..) => 5,
-            Answer::Unbuilt => 13,
             Answer::Ran(verdict, _) => status_by(*verdict),
             Answer::Printed(_) | Answer::Made(_) => 0,
         }
@@ -61,7 +58,6 @@ impl Answer {
             Answer::TooLarge => copied_text(alloc, b"too large\n"),
             Answer::Syntax(fault) => syntax_text(alloc, fault),
             Answer::Check(rule, line) => check_text(alloc, rule, line),
-            Answer::Unbuilt => copied_text(alloc, b"unbuilt\n"),
             Answer::Ran(_, text) => Ok(text),
             Answer::Printed(text) | Answer::Made(text) => Ok(text),
         }

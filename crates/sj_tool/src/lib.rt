@@ -1,14 +1,20 @@
 //! What the program does with its words, its input and its output.
 #![tactic(auto)]
 
+mod acting;
 mod answers;
 mod counting;
-mod delegates;
+mod laws;
+mod logging;
+mod playing;
 mod run;
 mod showing;
 
+pub use laws::the_table_gives_one_answer;
 pub use run::sj;
 
+#[cfg(test)]
+mod history_tests;
 #[cfg(test)]
 mod limit_tests;
 #[cfg(test)]

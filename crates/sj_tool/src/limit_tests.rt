@@ -1,6 +1,6 @@
-//! Files that come to a limit, and what `run` doesn't play yet.
-use crate::test_calls::{answer, edited, expect, text_of};
-use crate::test_files::{AGENCY, AND_BACK, BACK_AGAIN, CROSSING, HANDED_ON, TO_THE_PEER, UNUSED};
+//! Files that come to a limit.
+use crate::test_calls::{answer, edited, text_of};
+use crate::test_files::AND_BACK;
 use std::alloc::Global;
 use std::test::Fail;
 
@@ -47,28 +47,10 @@ fn an_end_is_handed_over_a_hundred_times(rt: HostRuntime) -> Result<(), Fail> {
         ),
     ];
     for (file, wanted, end) in rows {
-        let (status, out) = answer(rt.alloc(), &["sim"], file, &[], &[])?;
+        let (status, out) = answer(rt.alloc(), &["run"], file, &[], &[])?;
         assert_eq!(rt; status, wanted);
         assert!(rt; out.text().ends_with(end));
         assert_eq!(rt; occurrences(out.text(), b" session 0.1 "), 100);
-    }
-    Ok(())
-}
-
-#[test]
-fn a_file_that_hands_an_end_over_is_unbuilt_for_run(rt: HostRuntime) -> Result<(), Fail> {
-    let rows: [&[&str]; 7] = [
-        &AGENCY,
-        &HANDED_ON,
-        &UNUSED,
-        &CROSSING,
-        &BACK_AGAIN,
-        &TO_THE_PEER,
-        &AND_BACK,
-    ];
-    for lines in rows {
-        let file = text_of(rt.alloc(), lines)?;
-        expect(&rt, rt.alloc(), &["run"], file, (13, b"unbuilt\n"))?;
     }
     Ok(())
 }

@@ -1,5 +1,5 @@
 //! Files that are played to their end.
-use crate::test_calls::{edited, expect, text_of};
+use crate::test_calls::{edited, expect, expect_played, text_of};
 use crate::test_files::{
     AGENCY, BACK_AGAIN, CROSSING, FIRST, FIRST_TRANSCRIPT, HANDED_ON, OPPOSITE, TO_ITSELF,
     TO_THE_PEER,
@@ -9,11 +9,7 @@ use std::test::Fail;
 #[test]
 fn the_first_session_gives_its_transcript(rt: HostRuntime) -> Result<(), Fail> {
     let wanted = text_of(rt.alloc(), &FIRST_TRANSCRIPT)?;
-    for command in ["run", "sim"] {
-        let file = text_of(rt.alloc(), &FIRST)?;
-        expect(&rt, rt.alloc(), &[command], file, (0, &wanted))?;
-    }
-    Ok(())
+    expect_played(&rt, rt.alloc(), &FIRST, (0, &wanted))
 }
 
 #[test]
@@ -45,18 +41,11 @@ fn empty_protocols_are_closed_at_once(rt: HostRuntime) -> Result<(), Fail> {
             "done",
         ],
     )?;
-    expect(
-        &rt,
-        rt.alloc(),
-        &["run"],
-        text_of(rt.alloc(), &lines)?,
-        (0, &wanted),
-    )
+    expect_played(&rt, rt.alloc(), &lines, (0, &wanted))
 }
 
 #[test]
 fn the_agency_delegates_to_the_supplier(rt: HostRuntime) -> Result<(), Fail> {
-    let file = text_of(rt.alloc(), &AGENCY)?;
     let wanted = text_of(
         rt.alloc(),
         &[
@@ -80,7 +69,7 @@ fn the_agency_delegates_to_the_supplier(rt: HostRuntime) -> Result<(), Fail> {
             "done",
         ],
     )?;
-    expect(&rt, rt.alloc(), &["sim"], file, (0, &wanted))
+    expect_played(&rt, rt.alloc(), &AGENCY, (0, &wanted))
 }
 
 #[test]
@@ -111,12 +100,11 @@ fn the_agency_is_rejected(rt: HostRuntime) -> Result<(), Fail> {
             "done",
         ],
     )?;
-    expect(&rt, rt.alloc(), &["sim"], file, (0, &wanted))
+    expect(&rt, rt.alloc(), &["run"], file, (0, &wanted))
 }
 
 #[test]
 fn untaken_numbers_go_to_the_new_holder(rt: HostRuntime) -> Result<(), Fail> {
-    let file = text_of(rt.alloc(), &HANDED_ON)?;
     let wanted = text_of(
         rt.alloc(),
         &[
@@ -132,12 +120,11 @@ fn untaken_numbers_go_to_the_new_holder(rt: HostRuntime) -> Result<(), Fail> {
             "done",
         ],
     )?;
-    expect(&rt, rt.alloc(), &["sim"], file, (0, &wanted))
+    expect_played(&rt, rt.alloc(), &HANDED_ON, (0, &wanted))
 }
 
 #[test]
 fn both_ends_are_handed_on(rt: HostRuntime) -> Result<(), Fail> {
-    let file = text_of(rt.alloc(), &CROSSING)?;
     let wanted = text_of(
         rt.alloc(),
         &[
@@ -155,12 +142,11 @@ fn both_ends_are_handed_on(rt: HostRuntime) -> Result<(), Fail> {
             "done",
         ],
     )?;
-    expect(&rt, rt.alloc(), &["sim"], file, (0, &wanted))
+    expect_played(&rt, rt.alloc(), &CROSSING, (0, &wanted))
 }
 
 #[test]
 fn an_end_comes_back(rt: HostRuntime) -> Result<(), Fail> {
-    let file = text_of(rt.alloc(), &BACK_AGAIN)?;
     let wanted = text_of(
         rt.alloc(),
         &[
@@ -175,12 +161,11 @@ fn an_end_comes_back(rt: HostRuntime) -> Result<(), Fail> {
             "done",
         ],
     )?;
-    expect(&rt, rt.alloc(), &["sim"], file, (0, &wanted))
+    expect_played(&rt, rt.alloc(), &BACK_AGAIN, (0, &wanted))
 }
 
 #[test]
 fn an_end_goes_to_its_peers_holder(rt: HostRuntime) -> Result<(), Fail> {
-    let file = text_of(rt.alloc(), &TO_THE_PEER)?;
     let wanted = text_of(
         rt.alloc(),
         &[
@@ -193,12 +178,11 @@ fn an_end_goes_to_its_peers_holder(rt: HostRuntime) -> Result<(), Fail> {
             "done",
         ],
     )?;
-    expect(&rt, rt.alloc(), &["sim"], file, (0, &wanted))
+    expect_played(&rt, rt.alloc(), &TO_THE_PEER, (0, &wanted))
 }
 
 #[test]
 fn a_party_hands_an_end_to_itself(rt: HostRuntime) -> Result<(), Fail> {
-    let file = text_of(rt.alloc(), &TO_ITSELF)?;
     let wanted = text_of(
         rt.alloc(),
         &[
@@ -211,7 +195,7 @@ fn a_party_hands_an_end_to_itself(rt: HostRuntime) -> Result<(), Fail> {
             "done",
         ],
     )?;
-    expect(&rt, rt.alloc(), &["sim"], file, (0, &wanted))
+    expect_played(&rt, rt.alloc(), &TO_ITSELF, (0, &wanted))
 }
 
 #[test]
@@ -237,7 +221,6 @@ fn sums_wrap(rt: HostRuntime) -> Result<(), Fail> {
 
 #[test]
 fn opposite_orders_block(rt: HostRuntime) -> Result<(), Fail> {
-    let file = text_of(rt.alloc(), &OPPOSITE)?;
     let wanted = text_of(
         rt.alloc(),
         &[
@@ -248,5 +231,5 @@ fn opposite_orders_block(rt: HostRuntime) -> Result<(), Fail> {
             "blocked",
         ],
     )?;
-    expect(&rt, rt.alloc(), &["run"], file, (6, &wanted))
+    expect_played(&rt, rt.alloc(), &OPPOSITE, (6, &wanted))
 }

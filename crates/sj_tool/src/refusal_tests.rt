@@ -185,7 +185,7 @@ fn other_words_give_the_usage_line(rt: HostRuntime) -> Result<(), Fail> {
         &["fly"],
         &["run", "5"],
         &["make", "0"],
-        &["run", "--log"],
+        &["sim", "--log"],
         &["replay"],
         &["big", "1"],
         &["--help"],

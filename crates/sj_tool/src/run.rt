@@ -5,14 +5,15 @@ ghost use Rattle.sj_lang.specs.FileView.{file_of};
 ghost use Rattle.sj_grammar.specs.Limits.{limits};
 ghost use Rattle.sj_party.specs.Within.{IsWithin};
 ghost use Rattle.sj_check.specs.Held.{file_in};
-ghost use Rattle.sj_tool.specs.Answers.{Answers, AnswersFile, AnswersOne, AnswersText, Comes, NoFaultAbove, OrYields, Reads, WroteFront, call};
-ghost use Rattle.sj_tool.specs.Outcomes.{IsJudged, HasPlayed};
+ghost use Rattle.sj_tool.specs.Answers.{Answers, AsksFor, AnswersFile, AnswersOne, AnswersText, Comes, NoFaultAbove, OrYields, Reads, WroteFront, call};
+ghost use Rattle.sj_tool.specs.Headline.{HasHeadline, IsPlaying, IsVerdict};
+ghost use Rattle.sj_tool.specs.Outcomes.{IsJudged};
 ghost use Rattle.sj_command.specs.declared.tasks.Task.TheVariants as tasks;
 ghost use Rattle.sj_tool.specs.declared.answers.Answer.{Answer as AnyAnswer};
 
 use crate::answers::Answer;
 use crate::counting::counts_text;
-use crate::delegates::file_delegates;
+use crate::playing::{ran, simulated};
 use crate::showing::shown_text;
 use sj_base::{NoMemory, ReadRefusal, Sink, Source, WriteFault, read_all, write_all_of};
 use sj_check::{Accepted, CheckRefusal, check};
@@ -20,8 +21,6 @@ use sj_command::{Task, task_in};
 use sj_generator::print_generated;
 use sj_lang::File;
 use sj_party::parse_file;
-use sj_plain::Plain;
-use sj_print::print_transcript;
 use sj_proto::ParseRefusal;
 use std::alloc::Global;
 
@@ -38,6 +37,7 @@ const NO_MEMORY: u8 = 11;
 ///
 /// The words are those behind the program's name. The text is built whole before any of it is
 /// written.
+#[tactic(auto, using(crate::proofs::HeadlineOfAnswers::no_headline))]
 pub fn sj<S: Source, K: Sink>(alloc: Global, words: &[String], src: &mut S, out: &mut K) -> u8
     // An answer of the table comes, and its text is written behind what was written before.
     ensures answer { OrYields result (AnswersOne (call S.left S.faults words.now src.old src.new)
@@ -49,6 +49,12 @@ pub fn sj<S: Source, K: Sink>(alloc: Global, words: &[String], src: &mut S, out:
         → NoFaultAbove (call S.left S.faults words.now src.old src.new) a
         → OrYields result (Answers (call S.left S.faults words.now src.old src.new)
         result (K.written out.old) (K.written out.new) a)) }
+
+    // What `sim` and `run` write with 0, 6 or 7 is the transcript of a run with the headline.
+    ensures headline { IsVerdict result
+        → AsksFor IsPlaying (call S.left S.faults words.now src.old src.new)
+        → HasHeadline (call S.left S.faults words.now src.old src.new) result
+        (K.written out.old) (K.written out.new) }
 
     // A read fault and a write fault come only where a fault was counted.
     ensures read_fault { result ≡ 2 → Rose (S.faults src.old) (S.faults src.new) }
@@ -108,8 +114,8 @@ fn answer_to_bytes(alloc: Global, task: Task, bytes: &[u8]) -> Result<Answer, No
     match task {
         Task::Show => Ok(Answer::Printed(shown_text(alloc, &file)?)),
         Task::Check => counted(alloc, file),
-        Task::Sim => simulated(alloc, file),
-        Task::Run => run(alloc, file),
+        Task::Sim => sim(alloc, file),
+        Task::Run { log } => run(alloc, file, log),
         // It reads no text.
         Task::Make(_) => unreachable!(),
     }
@@ -126,28 +132,29 @@ fn counted(alloc: Global, file: File) -> Result<Answer, NoMemory>
     }
 }
 
-// The transcript of a file, where it is accepted.
-fn simulated(alloc: Global, file: File) -> Result<Answer, NoMemory>
+// How a file ends and its transcript, where it is accepted.
+fn sim(alloc: Global, file: File) -> Result<Answer, NoMemory>
     requires { IsWithin limits (file_of file) }
     ensures { IfOk result (AnswersFile tasks.Sim (file_of file)) }
 {
     match judge(alloc, file)? {
-        Judged::Accepted(accepted) => played(alloc, &accepted),
+        Judged::Accepted(accepted) => {
+            let (verdict, text) = simulated(alloc, &accepted)?;
+            Ok(Answer::Ran(verdict, text))
+        }
         Judged::Fault(rule, line) => Ok(Answer::Check(rule, line)),
     }
 }
 
-// The same for a file that hands no end over.
-fn run(alloc: Global, file: File) -> Result<Answer, NoMemory>
+// The same by its core world, with the history where the log is asked for.
+fn run(alloc: Global, file: File, log: bool) -> Result<Answer, NoMemory>
     requires { IsWithin limits (file_of file) }
-    ensures { IfOk result (AnswersFile tasks.Run (file_of file)) }
+    ensures { IfOk result (AnswersFile (tasks.Run log) (file_of file)) }
 {
     match judge(alloc, file)? {
         Judged::Accepted(accepted) => {
-            if file_delegates(accepted.file()) {
-                return Ok(Answer::Unbuilt);
-            }
-            played(alloc, &accepted)
+            let (verdict, text) = ran(alloc, &accepted, log)?;
+            Ok(Answer::Ran(verdict, text))
         }
         Judged::Fault(rule, line) => Ok(Answer::Check(rule, line)),
     }
@@ -169,15 +176,4 @@ fn judge(alloc: Global, file: File) -> Result<Judged, NoMemory>
         Err((_, CheckRefusal::At { rule, line })) => Ok(Judged::Fault(rule, line)),
         Err((_, CheckRefusal::NoMemory)) => Err(NoMemory),
     }
-}
-
-// How the file ends, and its transcript.
-fn played(alloc: Global, accepted: &Accepted) -> Result<Answer, NoMemory>
-    ensures { IfOk result (HasPlayed (file_of (file_in accepted.now))) }
-{
-    let mut plain = Plain::start(alloc, accepted)?;
-    plain.finish()?;
-    let mut transcript = Vec::new(alloc);
-    print_transcript(&mut transcript, accepted.file(), &plain)?;
-    Ok(Answer::Ran(plain.verdict(), transcript))
 }

@@ -59,3 +59,16 @@ pub(crate) fn expect(
     assert_eq!(rt; status, wanted.0, "{words:?}");
     Ok(())
 }
+
+// Both commands that play a file give this status for it, and this is written.
+pub(crate) fn expect_played(
+    rt: &impl Abort,
+    alloc: Global,
+    lines: &[&str],
+    wanted: (u8, &[u8]),
+) -> Result<(), Fail> {
+    for command in ["run", "sim"] {
+        expect(rt, alloc, &[command], text_of(alloc, lines)?, wanted)?;
+    }
+    Ok(())
+}

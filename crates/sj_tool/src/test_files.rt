@@ -54,6 +54,20 @@ pub(crate) const HANDED_ON: [&str; 10] = [
     "connect b z g to c u h;",
 ];
 
+// The holder of an end has told how much it took, and hands the end on.
+pub(crate) const TOLD: [&str; 10] = [
+    "protocol p { begin.?(int).!<int>.!<int> }",
+    "protocol q { begin.!<int>.?(int).?(int) }",
+    "protocol r { begin.?(int) }",
+    "protocol g { begin.!<?(int)> }",
+    "protocol h { begin.?(?(int)) }",
+    "party a { recv x n int; send x 2; send x 3; close x; }",
+    "party b { send y 1; recv y n int; delegate z y; close z; }",
+    "party c { recv u y session r; recv y n int; close y; close u; }",
+    "connect a x p to b y q;",
+    "connect b z g to c u h;",
+];
+
 // An end is handed on before anything passed on it.
 pub(crate) const UNUSED: [&str; 9] = [
     "protocol p { begin.?(int) }",

@@ -1,8 +1,14 @@
 use Rattle.std.proofs.Common.{rules}
 use Rattle.sj_tool.proofs.Exactly.{answered_exactly}
+use Rattle.sj_tool.proofs.HeadlineOfAnswers.{answered_headline}
 use Rattle.sj_tool.proofs.run.sj.Goals as goal
 
 pub returns-in-Ok-write_all_of-clause-exactly : goal.returns-in-Ok-write_all_of-clause-exactly
 returns-in-Ok-write_all_of-clause-exactly g c =
     answered_exactly _ _ _ (g.S.Source.faults c.args.src.now) (g.S.Source.faults c.answer_to.new.src) c.in-Ok.answer _ (g.K.Sink.written c.args.out.now) (g.K.Sink.written c.write_all_of.new.out)
+    c.in-Ok.ensures c.status-status.ensures (search rules)
+
+pub returns-in-Ok-write_all_of-clause-headline : goal.returns-in-Ok-write_all_of-clause-headline
+returns-in-Ok-write_all_of-clause-headline g c =
+    answered_headline _ _ _ (g.S.Source.faults c.args.src.now) (g.S.Source.faults c.answer_to.new.src) c.in-Ok.answer _ (g.K.Sink.written c.args.out.now) (g.K.Sink.written c.write_all_of.new.out)
     c.in-Ok.ensures c.status-status.ensures (search rules)

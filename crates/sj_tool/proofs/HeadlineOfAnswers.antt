@@ -1,0 +1,120 @@
+-- What is answered of a file that was played has the headline.
+use Rattle.std.proofs.Common.{◌≡◌, ◌∙◌, ◌≤◌, ℕ, true, false, List, [], ◌++◌, Option, refl, sym, ap, arith, subst}
+use Rattle.std.proofs.lemmas.List.{append-nil}
+use Rattle.sj_base.specs.Stream.{put_behind}
+use Rattle.sj_lang.specs.FileAt.{FileAt}
+use Rattle.sj_acceptance.specs.Accepted.{IsAccepted}
+use Rattle.sj_semantics.specs.declared.Verdict.{Verdict}
+use Rattle.sj_semantics.specs.declared.Verdict.TheVariants.{Done, Blocked, Long}
+use Rattle.sj_semantics.specs.Run.{end_of}
+use Rattle.sj_semantics.specs.State.{verdict_of}
+use Rattle.sj_semantics.specs.Transcript.{transcript_of}
+use Rattle.sj_semantics_laws.proofs.FinishLemmas.{end_is_settled, end_is_reached}
+use Rattle.sj_accepted_laws.specs.Headline.{IsHeadline}
+use Rattle.sj_accepted_laws.proofs.HeadlineLemmas.{settled_run_has_it}
+use Rattle.sj_command.specs.declared.tasks.Task.{Task}
+use Rattle.sj_command.specs.declared.tasks.Task.TheVariants as tasks
+use Rattle.sj_command.proofs.OneTask.{one_task}
+use Rattle.sj_tool.specs.declared.answers.Answer.{Answer}
+use Rattle.sj_tool.specs.declared.answers.Answer.TheVariants.{Usage, ReadFault, TooLarge, Syntax, Check, Ran, Printed, Made}
+use Rattle.sj_tool.specs.Answers.{CallAt, AsksFor, Plays, Prints, Makes, Comes}
+use Rattle.sj_tool.specs.Headline.{IsLogging, IsPlaying, IsVerdict, HasHeadline}
+use Rattle.sj_tool.specs.Runs.{log_part}
+use Rattle.sj_tool.specs.Texts.{status_of, text_of, verdict_status}
+use Rattle.sj_tool.proofs.Exactly.{call_at}
+
+-- the end of an accepted file has the headline
+end_has_it : (file : FileAt) → IsAccepted file → (acts : List ℕ) × IsHeadline file acts (end_of file)
+end_has_it file accepted = let l = end_is_reached file in (l.acts, settled_run_has_it file l.acts (end_of file) accepted l.leads (end_is_settled file))
+
+-- ---- what is printed of a file that was played
+
+-- the verdict is that of the file's end, and its transcript comes first
+record IsPlayedSo (task : Task) (file : FileAt) (verdict : Verdict) (text : List ℕ) : Type 0 where
+  behind : List ℕ
+  stands : verdict ≡ verdict_of (end_of file)
+  printed : text ≡ transcript_of file (end_of file) ++ behind
+  bare : (IsLogging task → ⊥) → behind ≡ []
+
+played_so : (task : Task) (file : FileAt) (v : Verdict) (text : List ℕ) → Plays task file v text → IsPlayedSo task file v text
+played_so tasks.Check file v text p = absurd p
+played_so tasks.Show file v text p = absurd p
+played_so (tasks.Make n) file v text p = absurd p
+played_so tasks.Sim file v text p = record { behind = []; stands = p.0; printed = p.1 ∙ sym (append-nil (transcript_of file (end_of file))); bare = λ no. refl }
+played_so (tasks.Run false) file v text p = record {
+  behind = [];
+  stands = p.stands ∙ ap verdict_of p.is_end;
+  printed = p.printed ∙ ap (λ w. transcript_of file w ++ []) p.is_end;
+  bare = λ no. refl;
+}
+played_so (tasks.Run true) file v text p = record {
+  behind = log_part true file p.history;
+  stands = p.stands ∙ ap verdict_of p.is_end;
+  printed = p.printed ∙ ap (λ w. transcript_of file w ++ log_part true file p.history) p.is_end;
+  bare = λ no. absurd (no tt);
+}
+
+-- ---- no other status is a verdict's
+
+no_refusal : (v : Verdict) (n : ℕ) → 1 ≤ n → n ≤ 5 → n ≡ verdict_status v → ⊥
+no_refusal Done n above below e = omega (arith, above, e)
+no_refusal Blocked n above below e = omega (arith, below, e)
+no_refusal Long n above below e = omega (arith, below, e)
+
+beyond : (v : Verdict) (n : ℕ) → 8 ≤ n → n ≡ verdict_status v → ⊥
+beyond Done n above e = omega (arith, above, e)
+beyond Blocked n above e = omega (arith, above, e)
+beyond Long n above e = omega (arith, above, e)
+
+-- ---- a file that is played is neither printed nor made
+
+prints_none : (task : Task) (file : FileAt) (text : List ℕ) → IsPlaying task → Prints task file text → ⊥
+prints_none tasks.Sim file text plays p = p
+prints_none (tasks.Run log) file text plays p = p
+prints_none tasks.Check file text plays p = plays
+prints_none tasks.Show file text plays p = plays
+prints_none (tasks.Make n) file text plays p = plays
+
+makes_none : (c : CallAt) (text : List ℕ) → AsksFor IsPlaying c → Makes c text → ⊥
+makes_none c text plays m = subst IsPlaying (one_task c.words plays.task (tasks.Make m.count) plays.asks m.asks) plays.kind
+
+module _ (c : CallAt) (status : ℕ) (before after : Option (List ℕ)) (verdict : IsVerdict status) (plays : AsksFor IsPlaying c) where
+  answer_has_it : (a : Answer) → Comes c a → status ≡ status_of a → after ≡ put_behind before (text_of a) → HasHeadline c status before after
+  answer_has_it Usage x e d = absurd (x.0 plays.task plays.asks)
+  answer_has_it ReadFault x e d = absurd (no_refusal verdict.0 status (omega (arith, e)) (omega (arith, e)) verdict.1)
+  answer_has_it TooLarge x e d = absurd (no_refusal verdict.0 status (omega (arith, e)) (omega (arith, e)) verdict.1)
+  answer_has_it (Syntax f) x e d = absurd (no_refusal verdict.0 status (omega (arith, e)) (omega (arith, e)) verdict.1)
+  answer_has_it (Check r l) x e d = absurd (no_refusal verdict.0 status (omega (arith, e)) (omega (arith, e)) verdict.1)
+  answer_has_it (Ran v t) x e d =
+      let file = x.answers.file in
+      let a = x.answers.answers in
+      let p = played_so x.task file v t.items a.1 in
+      let h = end_has_it file a.0 in
+      record {
+        bytes = x.bytes;
+        came = x.came;
+        all = x.all;
+        file = file;
+        stands = x.answers.stands;
+        accepted = a.0;
+        acts = h.0;
+        end = end_of file;
+        headline = h.1;
+        verdict = e ∙ ap verdict_status p.stands;
+        behind = p.behind;
+        written = d ∙ ap (put_behind before) p.printed;
+        bare = λ no. p.bare (λ log. no (record { task = x.task; asks = x.asks; kind = log }));
+      }
+  answer_has_it (Printed t) x e d =
+      absurd (prints_none x.task x.answers.file t.items (subst IsPlaying (one_task c.words plays.task x.task plays.asks x.asks) plays.kind) x.answers.answers)
+  answer_has_it (Made t) x e d = absurd (makes_none c t.items plays x)
+
+-- the answer that is written has it
+pub answered_headline : (words : List (List ℕ)) (left after : Option (List ℕ)) (f g : ℕ) (a : Answer) (status : ℕ) (before now : Option (List ℕ))
+    → Comes (call_at words left after f g) a → status ≡ status_of a → now ≡ put_behind before (text_of a)
+    → IsVerdict status → AsksFor IsPlaying (call_at words left after f g) → HasHeadline (call_at words left after f g) status before now
+answered_headline words left after f g a status before now comes e d verdict plays = answer_has_it (call_at words left after f g) status before now verdict plays a comes e d
+
+-- a status above 7 is no verdict's
+pub no_headline : (c : CallAt) (status : ℕ) (before now : Option (List ℕ)) → 8 ≤ status → IsVerdict status → AsksFor IsPlaying c → HasHeadline c status before now
+no_headline c status before now above verdict plays = absurd (beyond verdict.0 status above verdict.1)

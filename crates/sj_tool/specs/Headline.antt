@@ -1,0 +1,51 @@
+-- The headline of the top call: what is written of a file that was played is the transcript of a run that has it.
+use Rattle.std.specs.Prelude.{◌≡◌, ℕ, true, List, [], ◌++◌, Option, IfSome, ⊤}
+use Rattle.sj_base.specs.Stream.{put_before, put_behind}
+use Rattle.sj_lang.specs.FileAt.{FileAt}
+use Rattle.sj_grammar.specs.Files.{IsFile}
+use Rattle.sj_acceptance.specs.Accepted.{IsAccepted}
+use Rattle.sj_semantics.specs.declared.Verdict.{Verdict}
+use Rattle.sj_semantics.specs.State.{verdict_of}
+use Rattle.sj_semantics.specs.Transcript.{transcript_of}
+use Rattle.sj_semantics.specs.World.{World}
+use Rattle.sj_accepted_laws.specs.Headline.{IsHeadline}
+use Rattle.sj_command.specs.declared.tasks.Task.{Task}
+use Rattle.sj_command.specs.declared.tasks.Task.TheVariants as tasks
+use Rattle.sj_tool.specs.Answers.{AsksFor, CallAt}
+use Rattle.sj_tool.specs.Texts.{verdict_status}
+
+-- it plays a file to its end
+abbrev pub IsPlaying : Task → Type 0
+IsPlaying tasks.Sim = ⊤
+IsPlaying (tasks.Run log) = ⊤
+IsPlaying _ = ⊥
+
+-- it prints the history behind the transcript
+abbrev pub IsLogging : Task → Type 0
+IsLogging (tasks.Run true) = ⊤
+IsLogging _ = ⊥
+
+-- the status of a file that was played: 0, 6 or 7
+abbrev pub IsVerdict : ℕ → Type 0
+IsVerdict status = (verdict : Verdict) × (status ≡ verdict_status verdict)
+
+-- a run of the accepted file that was read has the headline; the status is its verdict, and its transcript is written
+pub record HasHeadline (c : CallAt) (status : ℕ) (before after : Option (List ℕ)) : Type 0 where
+  -- the bytes that came, which are all where the source tells
+  pub bytes : List ℕ
+  pub came : c.left ≡ put_before bytes c.left_after
+  pub all : IfSome c.left_after (λ rest. rest ≡ [])
+  -- they stand for a file, which is accepted
+  pub file : FileAt
+  pub stands : IsFile bytes file
+  pub accepted : IsAccepted file
+  -- the acts of its parties, one after another, and the world to which they lead
+  pub acts : List ℕ
+  pub end : World
+  pub headline : IsHeadline file acts end
+  -- how that world stands is answered, and its transcript is written behind what was written before
+  pub verdict : status ≡ verdict_status (verdict_of end)
+  pub behind : List ℕ
+  pub written : after ≡ put_behind before (transcript_of file end ++ behind)
+  -- nothing stands behind the transcript but where the words ask for the log
+  pub bare : (AsksFor IsLogging c → ⊥) → behind ≡ []

@@ -1,0 +1,55 @@
+-- Files that are played to their end: in the plain world, or by the events of the core, whose acts are done in the plain world.
+use Rattle.std.specs.Prelude.{◌≡◌, ℕ, max, Bool, true, false, List, [], ◌∷◌, ◌++◌, map, length, codes}
+use Rattle.sj_lang.specs.FileAt.{FileAt}
+use Rattle.sj_lang.specs.Place.{Place}
+use Rattle.sj_semantics.specs.declared.Verdict.{Verdict}
+use Rattle.sj_semantics.specs.Program.{Program}
+use Rattle.sj_semantics.specs.Run.{IsRun, end_of}
+use Rattle.sj_semantics.specs.State.{IsSettled, verdict_of}
+use Rattle.sj_semantics.specs.Transcript.{line_of, transcript_of}
+use Rattle.sj_semantics.specs.World.{World}
+use Rattle.sj_rules.specs.Drain.{IsDrained}
+use Rattle.sj_rules.specs.Events.{acts_in}
+use Rattle.sj_rules.specs.History.{IsHistory, IsQuietAmong, turn_of}
+use Rattle.sj_rules.specs.Log.{LineAt}
+use Rattle.sj_rules.specs.Party.{play_of}
+use Rattle.sj_rules.specs.Start.{core_start}
+use Rattle.sj_rules.specs.World.{WorldAt}
+use Rattle.sj_print.specs.LogLine.{log_text}
+
+-- the file ends with that verdict, and its transcript is printed
+abbrev pub HasSimulated : FileAt → Verdict → List ℕ → Type 0
+HasSimulated file verdict text = (verdict ≡ verdict_of (end_of file)) × (text ≡ transcript_of file (end_of file))
+
+-- who acts in a history, in order
+abbrev pub actors : List LineAt → List ℕ
+actors history = acts_in (map turn_of history)
+
+-- the history of a drain of the file's core world from its start on, and the core world to which it leads
+pub record HasDrained (file : FileAt) (history : List LineAt) (core : WorldAt Place Program) : Type 0 where
+  -- each line is the one that is due, from the start of the file on
+  pub run : IsHistory max file history core
+  -- the events are those of a drain
+  pub drained : IsDrained (play_of file) max (length file.parties) (core_start file) (map turn_of history) core
+  -- and leave nothing to do
+  pub quiet : IsQuietAmong (play_of file) (length file.parties) core
+
+-- what stands behind the transcript: where the log is asked for, a line `%%log` and then the log
+abbrev pub log_part : Bool → FileAt → List LineAt → List ℕ
+log_part false file history = []
+log_part true file history = line_of (codes "%%log" ∷ []) ++ log_text file history
+
+-- the file was run to that verdict, and the text is printed
+pub record HasRun (log : Bool) (file : FileAt) (verdict : Verdict) (text : List ℕ) : Type 0 where
+  -- the history of the drained core world
+  pub history : List LineAt
+  pub core : WorldAt Place Program
+  pub drained : HasDrained file history core
+  -- the plain world to which its acts lead: the end of the file, where nobody can go on
+  pub end : World
+  pub acts : IsRun file (actors history) end
+  pub settled : IsSettled end
+  pub is_end : end ≡ end_of file
+  -- how that world stands, and its transcript, with the history behind it where the log is asked for
+  pub stands : verdict ≡ verdict_of end
+  pub printed : text ≡ transcript_of file end ++ log_part log file history
