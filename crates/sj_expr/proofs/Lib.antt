@@ -14,6 +14,7 @@ pub mod Runs
 pub mod ShapeTerms
 pub mod Shapes
 pub mod StuckLemmas
+pub mod TableLemmas
 pub mod TestLemmas
 pub mod TextLemmas
 pub mod TokenLemmas

@@ -1,5 +1,6 @@
 pub mod Ends
 pub mod Laws
+pub mod Leaves
 pub mod Openings
 pub mod Operands
 pub mod Read

@@ -1,11 +1,10 @@
 //! What a token is as an operand of an expression.
-ghost use Rattle.std.specs.Prelude.{◌≡◌, ◌+◌, ◌*◌, ◌-◌, ◌<◌, ◌≤◌, ◌^◌, IsTrue, All, length, nat_lt, nat_le, not, ◌&&◌, if◌then◌else◌, Some, None, IfSome, IfNone, false, true, codes};
+ghost use Rattle.std.specs.Prelude.{◌≡◌, ◌+◌, ◌*◌, ◌-◌, ◌<◌, ◌≤◌, IsTrue, All, length, ◌&&◌, if◌then◌else◌, Some, None, IfSome, IfNone, false, true};
 ghost use Rattle.std.specs.List.{list_all};
 ghost use Rattle.std.specs.Str.{bytes_eq};
 ghost use Rattle.std.specs.Str.Parse.{digits_value};
 ghost use Rattle.sj_grammar.specs.Bytes.{is_digit, is_printable};
-ghost use Rattle.sj_grammar.specs.Lexis.{has_leading_zero, most};
-ghost use Rattle.sj_grammar.specs.Literals.{is_number, is_largest, is_text, inner, quoted};
+ghost use Rattle.sj_grammar.specs.Literals.{is_number, is_text, inner, quoted};
 ghost use Rattle.sj_grammar.specs.ExpressionDues.{is_operand};
 ghost use Rattle.sj_proto.specs.Found.{value_of};
 ghost use Rattle.sj_expr.specs.Operands.{IsOperandOf, is_plain};

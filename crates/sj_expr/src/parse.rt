@@ -1,5 +1,5 @@
 //! Expressions from tokens, by what is due.
-ghost use Rattle.std.specs.Prelude.{◌≡◌, ℕ, ◌+◌, ◌*◌, ◌<◌, ◌≤◌, [], ◌∷◌, length, IfOk, IfErr};
+ghost use Rattle.std.specs.Prelude.{◌≡◌, ℕ, ◌+◌, ◌*◌, ◌<◌, ◌≤◌, [], ◌∷◌, IfOk, IfErr};
 ghost use Rattle.sj_lang.specs.Term.{term_of};
 ghost use Rattle.sj_grammar.specs.Limits.{limits};
 ghost use Rattle.sj_grammar.specs.Lexis.{next_of};
@@ -8,8 +8,9 @@ ghost use Rattle.sj_grammar.specs.ExpressionDues.{whole as whole_due, factor as 
 ghost use Rattle.sj_grammar.specs.FileDues.{expr};
 ghost use Rattle.sj_grammar.specs.Faults.{StuckInside, OnFault};
 ghost use Rattle.sj_grammar.specs.Asked.{Passes};
-ghost use Rattle.sj_proto.specs.Parsed.{standing, need, Stops};
-ghost use Rattle.sj_expr.specs.Read.{ReadsLevel, ReadsWhole, ReadsExpression, HasRooms, StaysWithin, Grows};
+ghost use Rattle.sj_proto.specs.Parsed.{standing, Stops};
+ghost use Rattle.sj_expr.specs.Leaves.{LeavesTables};
+ghost use Rattle.sj_expr.specs.Read.{ReadsLevel, ReadsWhole, ReadsExpression, HasRooms, StaysWithin};
 
 use crate::operands::operand_in;
 use crate::signs::{joined, negated, take_comparison, take_sign};
@@ -36,9 +37,7 @@ fn factor(
         (standing tokens.new names.new) (term_of e)) }
     ensures count { IfOk result (λ e. count.new ≡ count.old + operand_count (term_of e)) }
     ensures few { IfOk result (λ _. count.new ≤ 256) }
-    ensures room { IfOk result (λ _. StaysWithin names.old tokens.old names.new tokens.new) }
-    ensures shorter { IfOk result (λ _. length tokens.new.ahead < length tokens.old.ahead) }
-    ensures kept { Grows names.old names.new }
+    ensures leaves { LeavesTables StaysWithin result names.old tokens.old names.new tokens.new }
     ensures fault { IfErr result (OnFault (λ f. StuckInside expression_layer limits count.old
         (standing tokens.old names.old) (factor_due depth ∷ []) f)) }
 {
@@ -78,9 +77,7 @@ fn term(
     ensures ends { IfOk result (λ _. Passes expression_layer (times depth) (next_of tokens.new.ahead)) }
     ensures count { IfOk result (λ e. count.new ≡ count.old + operand_count (term_of e)) }
     ensures few { IfOk result (λ _. count.new ≤ 256) }
-    ensures room { IfOk result (λ _. StaysWithin names.old tokens.old names.new tokens.new) }
-    ensures shorter { IfOk result (λ _. length tokens.new.ahead < length tokens.old.ahead) }
-    ensures kept { Grows names.old names.new }
+    ensures leaves { LeavesTables StaysWithin result names.old tokens.old names.new tokens.new }
     ensures fault { IfErr result (OnFault (λ f. StuckInside expression_layer limits count.old
         (standing tokens.old names.old) (factor_due depth ∷ times depth ∷ []) f)) }
 {
@@ -110,9 +107,7 @@ fn sum(
         × Passes expression_layer (plus depth) (next_of tokens.new.ahead)) }
     ensures count { IfOk result (λ e. count.new ≡ count.old + operand_count (term_of e)) }
     ensures few { IfOk result (λ _. count.new ≤ 256) }
-    ensures room { IfOk result (λ _. StaysWithin names.old tokens.old names.new tokens.new) }
-    ensures shorter { IfOk result (λ _. length tokens.new.ahead < length tokens.old.ahead) }
-    ensures kept { Grows names.old names.new }
+    ensures leaves { LeavesTables StaysWithin result names.old tokens.old names.new tokens.new }
     ensures fault { IfErr result (OnFault (λ f. StuckInside expression_layer limits count.old
         (standing tokens.old names.old) (factor_due depth ∷ times depth ∷ plus depth ∷ []) f)) }
 {
@@ -140,9 +135,7 @@ fn whole(
         (standing tokens.new names.new) (term_of e)) }
     ensures count { IfOk result (λ e. count.new ≡ count.old + operand_count (term_of e)) }
     ensures few { IfOk result (λ _. count.new ≤ 256) }
-    ensures room { IfOk result (λ _. StaysWithin names.old tokens.old names.new tokens.new) }
-    ensures shorter { IfOk result (λ _. length tokens.new.ahead < length tokens.old.ahead) }
-    ensures kept { Grows names.old names.new }
+    ensures leaves { LeavesTables StaysWithin result names.old tokens.old names.new tokens.new }
     ensures fault { IfErr result (OnFault (λ f. StuckInside expression_layer limits count.old
         (standing tokens.old names.old) (expression_at depth) f)) }
 {
@@ -167,9 +160,7 @@ pub fn parse_expression(
         (standing tokens.new names.new) (term_of e)) }
 
     // for what is read behind it
-    ensures room { IfOk result (λ _. StaysWithin names.old tokens.old names.new tokens.new) }
-    ensures shorter { IfOk result (λ _. length tokens.new.ahead < length tokens.old.ahead) }
-    ensures kept { Grows names.old names.new }
+    ensures leaves { LeavesTables StaysWithin result names.old tokens.old names.new tokens.new }
 
     // the fault is the first one, whatever is due behind the expression
     ensures fault { IfErr result (λ e. (n : ℕ) → Stops (λ ds. expr whole_due ∷ ds) n

@@ -1,9 +1,10 @@
 //! Operators between operands.
-ghost use Rattle.std.specs.Prelude.{◌≡◌, ℕ, ◌<◌, false, length, codes, IfOk, IfSome, IfNone};
+ghost use Rattle.std.specs.Prelude.{◌≡◌, ℕ, ◌<◌, length, IfOk, IfSome, IfNone};
 ghost use Rattle.sj_lang.specs.Term.{term_of, not, two};
 ghost use Rattle.sj_grammar.specs.Lexis.{next_of};
 ghost use Rattle.sj_grammar.specs.ExpressionDues.{plus, compare, expression_layer};
 ghost use Rattle.sj_grammar.specs.Asked.{TakesText, Passes};
+ghost use Rattle.sj_proto.specs.Onward.{Advances};
 ghost use Rattle.sj_expr.specs.Signs.{op_piece, IsSign, IsComparison};
 
 use sj_base::NoMemory;
@@ -17,6 +18,7 @@ pub fn take_sign(tokens: &mut Tokens) -> Option<Op>
     ensures taken { IfSome result (λ op. TakesText tokens.old (op_piece op) tokens.new) }
     ensures shorter { IfSome result (λ _. length tokens.new.ahead < length tokens.old.ahead) }
     ensures kept { IfNone result (tokens.new ≡ tokens.old) }
+    ensures onward { Advances tokens.old tokens.new }
     ensures none { IfNone result ((o : ℕ) → Passes expression_layer (plus o) (next_of tokens.old.ahead)) }
 {
     if tokens.accept(b"+") {
@@ -34,6 +36,7 @@ pub fn take_comparison(tokens: &mut Tokens) -> Option<Op>
     ensures taken { IfSome result (λ op. TakesText tokens.old (op_piece op) tokens.new) }
     ensures shorter { IfSome result (λ _. length tokens.new.ahead < length tokens.old.ahead) }
     ensures kept { IfNone result (tokens.new ≡ tokens.old) }
+    ensures onward { Advances tokens.old tokens.new }
     ensures none { IfNone result ((o : ℕ) → Passes expression_layer (compare o) (next_of tokens.old.ahead)) }
 {
     if tokens.accept(b"<") {

@@ -7,15 +7,16 @@ ghost use Rattle.sj_grammar.specs.declared.tokens.Rule.TheVariants.{P4};
 ghost use Rattle.sj_grammar.specs.Lexis.{next_of};
 ghost use Rattle.sj_grammar.specs.Reading.{before_next, fault_at};
 ghost use Rattle.sj_grammar.specs.Places.{at};
-ghost use Rattle.sj_grammar.specs.Literals.{is_text, quoted};
-ghost use Rattle.sj_grammar.specs.Tables.{IsLiteral};
+ghost use Rattle.sj_grammar.specs.Literals.{is_text};
 ghost use Rattle.sj_grammar.specs.Expressions.{factor as a_factor, operand_count};
-ghost use Rattle.sj_grammar.specs.ExpressionDues.{factor as factor_due, expression_layer, is_operand};
+ghost use Rattle.sj_grammar.specs.ExpressionDues.{factor as factor_due, expression_layer};
 ghost use Rattle.sj_grammar.specs.Faults.{StuckInside, OnFault};
 ghost use Rattle.sj_grammar.specs.Asked.{TakesText, Refuses, spelled_next, is_next};
-ghost use Rattle.sj_proto.specs.Parsed.{standing, need};
+ghost use Rattle.sj_proto.specs.Onward.{Advances};
+ghost use Rattle.sj_proto.specs.Parsed.{standing};
 ghost use Rattle.sj_expr.specs.Operands.{IsOperandOf};
-ghost use Rattle.sj_expr.specs.Read.{Reads, ReadsLevel, HasRooms, StaysWithin, Grows, TextSpelled};
+ghost use Rattle.sj_expr.specs.Leaves.{LeavesTables};
+ghost use Rattle.sj_expr.specs.Read.{Reads, ReadsLevel, HasRooms, StaysWithin, TextSpelled};
 ghost use Rattle.sj_expr.specs.Openings.{opening_piece, but_opening, but_text};
 
 use crate::operands::{Operand, inner_of, number_in};
@@ -39,6 +40,7 @@ fn take_piece<'a>(tokens: &mut Tokens<'a>) -> &'a [u8]
     ensures piece { result.now ≡ spelled_next (next_of tokens.old.ahead) }
     ensures taken { TakesText tokens.old result.now tokens.new }
     ensures shorter { length tokens.new.ahead < length tokens.old.ahead }
+    ensures onward { Advances tokens.old tokens.new }
 {
     let piece = tokens.spelling();
     let _taken = tokens.accept(piece);
@@ -52,9 +54,7 @@ fn take_text(tokens: &mut Tokens, names: &mut Names) -> Result<u32, ParseRefusal
     ensures reads { IfOk result (λ n. Reads (standing tokens.old names.old) (standing tokens.new names.new)
         (TextSpelled n)) }
     ensures fault { IfErr result (OnFault (Refuses but_text tokens.old)) }
-    ensures room { IfOk result (λ _. StaysWithin names.old tokens.old names.new tokens.new) }
-    ensures shorter { IfOk result (λ _. length tokens.new.ahead < length tokens.old.ahead) }
-    ensures kept { Grows names.old names.new }
+    ensures leaves { LeavesTables StaysWithin result names.old tokens.old names.new tokens.new }
 {
     let inside = inner_of(tokens.spelling());
     if inside.len() > MOST_TEXT {
@@ -100,9 +100,7 @@ pub fn take_operand(
     ensures one { IfOk result (λ e. operand_count (term_of e) ≡ 1) }
     ensures count { IfOk result (λ _. count.new ≡ count.old + 1) }
     ensures few { IfOk result (λ _. count.new ≤ 256) }
-    ensures room { IfOk result (λ _. StaysWithin names.old tokens.old names.new tokens.new) }
-    ensures shorter { IfOk result (λ _. length tokens.new.ahead < length tokens.old.ahead) }
-    ensures kept { Grows names.old names.new }
+    ensures leaves { LeavesTables StaysWithin result names.old tokens.old names.new tokens.new }
     ensures fault { IfErr result (OnFault (λ f. (o : ℕ) → StuckInside expression_layer limits count.old
         (standing tokens.old names.old) (factor_due o ∷ []) f)) }
 {
@@ -144,6 +142,7 @@ pub fn take_negative(tokens: &mut Tokens, count: &mut usize) -> Result<Expr, Par
     ensures count { IfOk result (λ _. count.new ≡ count.old + 1) }
     ensures few { IfOk result (λ _. count.new ≤ 256) }
     ensures shorter { IfOk result (λ _. length tokens.new.ahead < length tokens.old.ahead) }
+    ensures onward { Advances tokens.old tokens.new }
     ensures fault { IfErr result (OnFault (λ f. (o : ℕ) (words texts : List (List ℕ)) → StuckInside
         expression_layer limits count.old (at tokens.old words texts) (factor_due o ∷ []) f)) }
 {
@@ -165,6 +164,7 @@ pub fn take_opening(tokens: &mut Tokens, deep: bool) -> Result<Opening, Fault>
     ensures room { IfOk result (λ _. deep ≡ false) }
     ensures fault { IfErr result (Refuses (but_opening deep) tokens.old) }
     ensures shorter { IfOk result (λ _. length tokens.new.ahead < length tokens.old.ahead) }
+    ensures onward { Advances tokens.old tokens.new }
 {
     if !tokens.sees(b"not") && !tokens.sees(b"(") {
         return Err(tokens.fault(Rule::P1));

@@ -16,7 +16,7 @@ use Rattle.sj_party.proofs.AddAlike.{AddAlike, alike_same, alike_cons}
 use Rattle.sj_party.proofs.Reaching.{AreBlank, Reaches, HasLines, joins, lines_append, blank_lines, one_line}
 use Rattle.sj_party.proofs.ExpressionText.{word_lines}
 use Rattle.sj_party.proofs.Relined.{Relined, adds_append, spaces_blank, plain_then, blanks_then, headed, one_lined}
-use Rattle.sj_party.proofs.Heads.{open_lines, close_lines}
+use Rattle.sj_party.proofs.HeadLemmas.{open_lines, close_lines}
 
 -- a brace, what stands in the block, and what follows
 inner_reaches : (n : ℕ) (inner before g rest : List ℕ) → AreBlank g → Reaches (read before (g ++ (in_block n inner ++ rest))) (plain (codes "{") ∷ []) (inner ++ ((spaces n ++ codes "}") ++ rest))

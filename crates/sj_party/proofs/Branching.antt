@@ -15,7 +15,7 @@ use Rattle.sj_party.proofs.AddAlike.{AddAlike, alike_cons}
 use Rattle.sj_party.proofs.Reaching.{AreBlank, Reaches, joins}
 use Rattle.sj_party.proofs.ExpressionText.{word_lines}
 use Rattle.sj_party.proofs.Relined.{Relined, adds_append, plain_then}
-use Rattle.sj_party.proofs.Heads.{reserved_lines}
+use Rattle.sj_party.proofs.HeadLemmas.{reserved_lines}
 use Rattle.sj_party.proofs.BlockLines.{block_free}
 
 module _ (L : Limits) (names : Spelling) where

@@ -16,7 +16,7 @@ use Rattle.sj_party.proofs.AddAlike.{alike_same}
 use Rattle.sj_party.proofs.Reaching.{AreBlank, Reaches, HasLines, joins, lines_append, blank_lines, one_line}
 use Rattle.sj_party.proofs.ExpressionText.{word_lines}
 use Rattle.sj_party.proofs.Relined.{Relined, adds_append, headed, name_has}
-use Rattle.sj_party.proofs.Heads.{pair_has, reserved_lines}
+use Rattle.sj_party.proofs.HeadLemmas.{pair_has, reserved_lines}
 
 module _ (L : Limits) (names : Spelling) where
   end_has : (d : DeclAt) → IsEnd L names d → HasLines NoWordByte (end_text names d) (end_pieces names.word d)

@@ -21,7 +21,7 @@ use Rattle.sj_proto.proofs.Completed as completed
 use Rattle.sj_expr.proofs.Completed as expression
 use Rattle.sj_expr.proofs.Unfollowed.{unfollow}
 use Rattle.sj_expr.proofs.TestLemmas.{bytes_same}
-use Rattle.sj_party.proofs.Widely.{Widely, widely_three}
+use Rattle.sj_party.proofs.LimitLemmas.{Widely, widely_three}
 use Rattle.sj_party.proofs.Numbered.{numbered_body}
 use Rattle.sj_party.proofs.Fulfilled.{Named, Spelled, AllSpelled, lines_spelled}
 use Rattle.sj_party.proofs.StatementBack.{met, name_held, statement_back, awaited_back, block_back, arms_back}

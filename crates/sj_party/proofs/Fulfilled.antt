@@ -18,7 +18,7 @@ use Rattle.sj_proto.proofs.Spelled as protocol
 use Rattle.sj_proto.proofs.Completed as completed
 use Rattle.sj_expr.proofs.Completed as expression
 use Rattle.sj_expr.proofs.Unfollowed as unfollowed
-use Rattle.sj_party.proofs.Widely.{Widely}
+use Rattle.sj_party.proofs.LimitLemmas.{Widely}
 
 module _ (names : Spelling) where
   -- the number stands for a name

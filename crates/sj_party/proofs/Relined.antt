@@ -14,7 +14,7 @@ use Rattle.sj_party.specs.CanonicalExpression.{expression_text}
 use Rattle.sj_party.specs.CanonicalCode.{spaces, newline}
 use Rattle.sj_party.proofs.AddAlike.{AddAlike, alike_append}
 use Rattle.sj_party.proofs.Printable.{expression_pieces, printable}
-use Rattle.sj_party.proofs.Respelt.{spelt_again, adds_alike}
+use Rattle.sj_party.proofs.RespellingLemmas.{spelt_again, adds_alike}
 use Rattle.sj_party.proofs.Reaching.{AreBlank, LexesOnLines, Reaches, HasLines, joins, blanks_append, first_line, line_here}
 use Rattle.sj_party.proofs.ExpressionText.{word_lines, spaced_lines, expression_lines}
 

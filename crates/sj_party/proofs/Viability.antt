@@ -24,7 +24,7 @@ use Rattle.sj_proto.proofs.Completed as protocol
 use Rattle.sj_expr.proofs.Unfollowed as expression
 use Rattle.sj_party.specs.Leads.{Leads}
 use Rattle.sj_party.specs.Viable.{IsWhole, IsViable, IsViableWithin}
-use Rattle.sj_party.proofs.Widely.{all_limits, are_wide, widely_two, named_widely}
+use Rattle.sj_party.proofs.LimitLemmas.{all_limits, are_wide, widely_two, named_widely}
 use Rattle.sj_party.proofs.Fulfilled.{Spelled, AllSpelled, lines_of, lines_spelled, none_spelled}
 use Rattle.sj_party.proofs.FileBack.{file_back}
 use Rattle.sj_party.proofs.FileRuns.{file_completes}

@@ -7,7 +7,8 @@ ghost use Rattle.sj_grammar.specs.Files.{end_pieces, connect_pieces, connects_pi
 ghost use Rattle.sj_grammar.specs.FileDues.{Due, name as name_due, connects, file_layer};
 ghost use Rattle.sj_grammar.specs.Faults.{Stuck, OnFault};
 ghost use Rattle.sj_grammar.specs.Asked.{is_next, Passes};
-ghost use Rattle.sj_proto.specs.Parsed.{standing, GivesOnLines, Keeps, HasRoom, need};
+ghost use Rattle.sj_proto.specs.Leaves.{Leaves};
+ghost use Rattle.sj_proto.specs.Parsed.{standing, GivesOnLines, HasRoom, need};
 
 use sj_lang::{Connect, EndDecl, Names};
 use sj_proto::{ParseRefusal, Tokens, take_first, take_name};
@@ -21,10 +22,8 @@ fn end_decl(tokens: &mut Tokens, names: &mut Names) -> Result<EndDecl, ParseRefu
     ensures reads { IfOk result (λ d.
         GivesOnLines (standing tokens.old names.old) (standing tokens.new names.new)
         (λ names. end_pieces names.word (decl_of d)) (λ names. IsEnd limits names (decl_of d))) }
-    ensures room { IfOk result (λ _.
-        need names.new.words tokens.new ≤ need names.old.words tokens.old + 3) }
     ensures shorter { IfOk result (λ _. length tokens.new.ahead < length tokens.old.ahead) }
-    ensures kept { Keeps names.old names.new }
+    ensures leaves { Leaves 3 result names.old tokens.old names.new tokens.new }
     ensures fault { IfErr result (OnFault (λ f. (n : ℕ) (ds : List Due) → Stuck file_layer limits n
         (standing tokens.old names.old) (name_due ∷ name_due ∷ name_due ∷ ds) f)) }
 {
@@ -47,10 +46,8 @@ fn connect(tokens: &mut Tokens, names: &mut Names, before: usize) -> Result<Conn
         (λ names. connect_pieces names.word (connect_of c))
         (λ names. IsConnect limits names (connect_of c))) }
     ensures few { IfOk result (λ _. before < 64) }
-    ensures room { IfOk result (λ _.
-        need names.new.words tokens.new ≤ need names.old.words tokens.old) }
     ensures shorter { IfOk result (λ _. length tokens.new.ahead < length tokens.old.ahead) }
-    ensures kept { Keeps names.old names.new }
+    ensures leaves { Leaves 0 result names.old tokens.old names.new tokens.new }
     ensures fault { IfErr result (OnFault (λ f. (n : ℕ) (ds : List Due) → Stuck file_layer limits n
         (standing tokens.old names.old) (connects before ∷ ds) f)) }
 {
@@ -82,7 +79,7 @@ pub fn parse_connects(
     ensures few { IfOk result (λ v. length v.items ≤ 64) }
     ensures ends { IfOk result (λ v.
         Passes file_layer (connects (length v.items)) (next_of tokens.new.ahead)) }
-    ensures kept { Keeps names.old names.new }
+    ensures leaves { Leaves 0 result names.old tokens.old names.new tokens.new }
     ensures fault { IfErr result (OnFault (λ f. (n : ℕ) (ds : List Due) → Stuck file_layer limits n
         (standing tokens.old names.old) (connects 0 ∷ ds) f)) }
 {

@@ -4,6 +4,7 @@ ghost use Rattle.sj_grammar.specs.Lexis.{next_of};
 ghost use Rattle.sj_grammar.specs.Reading.{line_at, before_next};
 ghost use Rattle.sj_grammar.specs.FileDues.{stmts, statement_follow, file_layer};
 ghost use Rattle.sj_grammar.specs.Asked.{TakesText, Passes};
+ghost use Rattle.sj_proto.specs.Onward.{Advances};
 ghost use Rattle.sj_party.specs.Words.{simple_word, word_of, NoneOf, simple_words};
 
 use sj_proto::Tokens;
@@ -96,6 +97,7 @@ pub fn begin(tokens: &mut Tokens) -> Option<Begun>
         b.line ≡ line_at (before_next tokens.old (next_of tokens.old.ahead))) }
     ensures shorter { IfSome result (λ _. length tokens.new.ahead < length tokens.old.ahead) }
     ensures kept { IfNone result (tokens.new ≡ tokens.old) }
+    ensures onward { Advances tokens.old tokens.new }
     ensures none { IfNone result ((o : ℕ) →
         Passes file_layer (stmts o) (next_of tokens.old.ahead)) }
 {

@@ -7,8 +7,9 @@ ghost use Rattle.sj_grammar.specs.Files.{AreParties};
 ghost use Rattle.sj_grammar.specs.FileDues.{Due, parties, file_layer};
 ghost use Rattle.sj_grammar.specs.Faults.{Stuck, OnFault};
 ghost use Rattle.sj_grammar.specs.Asked.{is_next, Passes};
+ghost use Rattle.sj_proto.specs.Onward.{Advances};
 ghost use Rattle.sj_proto.specs.Parsed.{standing};
-ghost use Rattle.sj_expr.specs.Read.{HasRooms, Grows};
+ghost use Rattle.sj_expr.specs.Read.{HasRooms};
 ghost use Rattle.sj_party.specs.Read.{ReadsOnLines, KeepsRoom};
 
 use crate::statements::statements;
@@ -33,6 +34,7 @@ fn party(
     ensures few { IfOk result (λ _. before < 16) }
     ensures room { IfOk result (λ _. KeepsRoom names.old tokens.old names.new tokens.new) }
     ensures shorter { IfOk result (λ _. length tokens.new.ahead < length tokens.old.ahead) }
+    ensures onward { Advances tokens.old tokens.new }
     ensures fault { IfErr result (OnFault (λ f. (n : ℕ) (ds : List Due) → Stuck file_layer limits n
         (standing tokens.old names.old) (parties before ∷ ds) f)) }
 {
@@ -60,6 +62,7 @@ pub fn parse_parties(
     ensures ends { IfOk result (λ v.
         Passes file_layer (parties (length v.items)) (next_of tokens.new.ahead)) }
     ensures room { IfOk result (λ _. KeepsRoom names.old tokens.old names.new tokens.new) }
+    ensures onward { Advances tokens.old tokens.new }
     ensures fault { IfErr result (OnFault (λ f. (n : ℕ) (ds : List Due) → Stuck file_layer limits n
         (standing tokens.old names.old) (parties 0 ∷ ds) f)) }
 {

@@ -1,10 +1,10 @@
 //! What statements have behind their first words.
-ghost use Rattle.std.specs.Prelude.{◌≡◌, ℕ, ◌<◌, ◌≤◌, [], ◌∷◌, length, codes, IfOk, IfErr};
+ghost use Rattle.std.specs.Prelude.{ℕ, ◌<◌, [], ◌∷◌, codes, IfOk, IfErr};
 ghost use Rattle.sj_lang.specs.Term.{term_of};
 ghost use Rattle.sj_grammar.specs.ExpressionDues.{whole};
 ghost use Rattle.sj_grammar.specs.FileDues.{name as name_due, fixed, expr, awaited as awaited_due};
 ghost use Rattle.sj_proto.specs.Parsed.{standing, Stops};
-ghost use Rattle.sj_expr.specs.Read.{Grows};
+ghost use Rattle.sj_expr.specs.Leaves.{LeavesTables};
 ghost use Rattle.sj_party.specs.Rooms.{HasRoomFor, Uses};
 ghost use Rattle.sj_party.specs.Parts.{a_name, an_expression, a_piece, ReadsParts};
 ghost use Rattle.sj_party.specs.Awaits.{awaited_part};
@@ -26,9 +26,7 @@ pub fn one_name(tokens: &mut Tokens, names: &mut Names) -> Result<u16, ParseRefu
     requires room { HasRoomFor 1 names.old tokens.old }
     ensures reads { IfOk result (λ x. ReadsParts (standing tokens.old names.old)
         (standing tokens.new names.new) (a_name x ∷ [])) }
-    ensures room { IfOk result (λ _. Uses 1 0 names.old tokens.old names.new tokens.new) }
-    ensures shorter { IfOk result (λ _. length tokens.new.ahead < length tokens.old.ahead) }
-    ensures kept { Grows names.old names.new }
+    ensures leaves { LeavesTables (Uses 1 0) result names.old tokens.old names.new tokens.new }
     ensures fault { IfErr result (λ e. (n : ℕ) → Stops (λ ds. name_due ∷ ds) n
         (standing tokens.old names.old) e) }
 {
@@ -39,9 +37,7 @@ pub fn two_names(tokens: &mut Tokens, names: &mut Names) -> Result<(u16, u16), P
     requires room { HasRoomFor 2 names.old tokens.old }
     ensures reads { IfOk result (λ x. ReadsParts (standing tokens.old names.old)
         (standing tokens.new names.new) (a_name x.0 ∷ a_name x.1 ∷ [])) }
-    ensures room { IfOk result (λ _. Uses 2 0 names.old tokens.old names.new tokens.new) }
-    ensures shorter { IfOk result (λ _. length tokens.new.ahead < length tokens.old.ahead) }
-    ensures kept { Grows names.old names.new }
+    ensures leaves { LeavesTables (Uses 2 0) result names.old tokens.old names.new tokens.new }
     ensures fault { IfErr result (λ e. (n : ℕ) → Stops (λ ds. name_due ∷ name_due ∷ ds) n
         (standing tokens.old names.old) e) }
 {
@@ -58,9 +54,7 @@ pub fn name_and_value(
     requires room { HasRoomFor 2 names.old tokens.old }
     ensures reads { IfOk result (λ x. ReadsParts (standing tokens.old names.old)
         (standing tokens.new names.new) (a_name x.0 ∷ an_expression (term_of x.1) ∷ [])) }
-    ensures room { IfOk result (λ _. Uses 2 0 names.old tokens.old names.new tokens.new) }
-    ensures shorter { IfOk result (λ _. length tokens.new.ahead < length tokens.old.ahead) }
-    ensures kept { Grows names.old names.new }
+    ensures leaves { LeavesTables (Uses 2 0) result names.old tokens.old names.new tokens.new }
     ensures fault { IfErr result (λ e. (n : ℕ) → Stops (λ ds. name_due ∷ expr whole ∷ ds) n
         (standing tokens.old names.old) e) }
 {
@@ -79,9 +73,7 @@ pub fn binding(
     ensures reads { IfOk result (λ x. ReadsParts (standing tokens.old names.old)
         (standing tokens.new names.new)
         (a_name x.0 ∷ a_piece (codes "=") ∷ an_expression (term_of x.1) ∷ [])) }
-    ensures room { IfOk result (λ _. Uses 2 0 names.old tokens.old names.new tokens.new) }
-    ensures shorter { IfOk result (λ _. length tokens.new.ahead < length tokens.old.ahead) }
-    ensures kept { Grows names.old names.new }
+    ensures leaves { LeavesTables (Uses 2 0) result names.old tokens.old names.new tokens.new }
     ensures fault { IfErr result (λ e. (n : ℕ) → Stops (λ ds. name_due ∷ fixed (codes "=")
         ∷ expr whole ∷ ds) n (standing tokens.old names.old) e) }
 {
@@ -96,9 +88,7 @@ pub fn take_awaited(tokens: &mut Tokens, names: &mut Names) -> Result<Awaited, P
     requires room { HasRoomFor 0 names.old tokens.old }
     ensures reads { IfOk result (λ x. ReadsParts (standing tokens.old names.old)
         (standing tokens.new names.new) (awaited_part x ∷ [])) }
-    ensures room { IfOk result (λ _. Uses 0 0 names.old tokens.old names.new tokens.new) }
-    ensures shorter { IfOk result (λ _. length tokens.new.ahead < length tokens.old.ahead) }
-    ensures kept { Grows names.old names.new }
+    ensures leaves { LeavesTables (Uses 0 0) result names.old tokens.old names.new tokens.new }
     ensures fault { IfErr result (λ e. (n : ℕ) → Stops (λ ds. awaited_due ∷ ds) n
         (standing tokens.old names.old) e) }
 {

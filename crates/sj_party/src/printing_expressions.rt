@@ -6,7 +6,7 @@ ghost use Rattle.sj_text.specs.Cut.{IsCutShort};
 ghost use Rattle.sj_lang.specs.Term.{term_of};
 ghost use Rattle.sj_grammar.specs.Literals.{quoted};
 ghost use Rattle.sj_grammar.specs.Tables.{entry_of};
-ghost use Rattle.sj_party.specs.CanonicalExpression.{spelling_of, left_of, right_of, needs_parens, spaced, boolean_text, expression_text};
+ghost use Rattle.sj_party.specs.CanonicalExpression.{spelling_of, left_of, right_of, needs_parens, spaced, expression_text};
 ghost use Rattle.sj_party.specs.Levels.{level_of};
 
 use sj_base::NoMemory;

@@ -1,10 +1,10 @@
 //! Statements with no block, behind their first words.
-ghost use Rattle.std.specs.Prelude.{◌≡◌, ℕ, ◌<◌, ◌≤◌, [], ◌∷◌, length, codes, IfOk, IfErr};
+ghost use Rattle.std.specs.Prelude.{◌≡◌, ℕ, ◌<◌, ◌∷◌, codes, IfOk, IfErr};
 ghost use Rattle.sj_lang.specs.Code.{deed_of};
 ghost use Rattle.sj_grammar.specs.ExpressionDues.{whole};
 ghost use Rattle.sj_grammar.specs.FileDues.{name, fixed, expr, awaited, semicolon};
 ghost use Rattle.sj_proto.specs.Parsed.{standing, Stops};
-ghost use Rattle.sj_expr.specs.Read.{Grows};
+ghost use Rattle.sj_expr.specs.Leaves.{LeavesTables};
 ghost use Rattle.sj_party.specs.Rooms.{HasRoomFor, Uses};
 ghost use Rattle.sj_party.specs.Parts.{ReadsDeed};
 ghost use Rattle.sj_party.specs.Awaits.{taken_act};
@@ -20,9 +20,7 @@ fn send(alloc: Global, tokens: &mut Tokens, names: &mut Names) -> Result<Deed, P
     requires room { HasRoomFor 2 names.old tokens.old }
     ensures reads { IfOk result (λ d. (o : ℕ) → ReadsDeed (codes "send") o
         (standing tokens.old names.old) (standing tokens.new names.new) (deed_of d)) }
-    ensures room { IfOk result (λ _. Uses 1 0 names.old tokens.old names.new tokens.new) }
-    ensures shorter { IfOk result (λ _. length tokens.new.ahead < length tokens.old.ahead) }
-    ensures kept { Grows names.old names.new }
+    ensures leaves { LeavesTables (Uses 1 0) result names.old tokens.old names.new tokens.new }
     ensures fault { IfErr result (λ e. (n : ℕ) → Stops (λ ds. name ∷ expr whole ∷ semicolon ∷ ds) n
         (standing tokens.old names.old) e) }
 {
@@ -35,9 +33,7 @@ fn delegate(tokens: &mut Tokens, names: &mut Names) -> Result<Deed, ParseRefusal
     requires room { HasRoomFor 2 names.old tokens.old }
     ensures reads { IfOk result (λ d. (o : ℕ) → ReadsDeed (codes "delegate") o
         (standing tokens.old names.old) (standing tokens.new names.new) (deed_of d)) }
-    ensures room { IfOk result (λ _. Uses 1 0 names.old tokens.old names.new tokens.new) }
-    ensures shorter { IfOk result (λ _. length tokens.new.ahead < length tokens.old.ahead) }
-    ensures kept { Grows names.old names.new }
+    ensures leaves { LeavesTables (Uses 1 0) result names.old tokens.old names.new tokens.new }
     ensures fault { IfErr result (λ e. (n : ℕ) → Stops (λ ds. name ∷ name ∷ semicolon ∷ ds) n
         (standing tokens.old names.old) e) }
 {
@@ -64,9 +60,7 @@ fn receive(tokens: &mut Tokens, names: &mut Names) -> Result<Deed, ParseRefusal>
     requires room { HasRoomFor 2 names.old tokens.old }
     ensures reads { IfOk result (λ d. (o : ℕ) → ReadsDeed (codes "recv") o
         (standing tokens.old names.old) (standing tokens.new names.new) (deed_of d)) }
-    ensures room { IfOk result (λ _. Uses 1 0 names.old tokens.old names.new tokens.new) }
-    ensures shorter { IfOk result (λ _. length tokens.new.ahead < length tokens.old.ahead) }
-    ensures kept { Grows names.old names.new }
+    ensures leaves { LeavesTables (Uses 1 0) result names.old tokens.old names.new tokens.new }
     ensures fault { IfErr result (λ e. (n : ℕ) → Stops (λ ds. name ∷ name ∷ awaited ∷ semicolon
         ∷ ds) n (standing tokens.old names.old) e) }
 {
@@ -80,9 +74,7 @@ fn select(tokens: &mut Tokens, names: &mut Names) -> Result<Deed, ParseRefusal>
     requires room { HasRoomFor 2 names.old tokens.old }
     ensures reads { IfOk result (λ d. (o : ℕ) → ReadsDeed (codes "outbranch") o
         (standing tokens.old names.old) (standing tokens.new names.new) (deed_of d)) }
-    ensures room { IfOk result (λ _. Uses 1 0 names.old tokens.old names.new tokens.new) }
-    ensures shorter { IfOk result (λ _. length tokens.new.ahead < length tokens.old.ahead) }
-    ensures kept { Grows names.old names.new }
+    ensures leaves { LeavesTables (Uses 1 0) result names.old tokens.old names.new tokens.new }
     ensures fault { IfErr result (λ e. (n : ℕ) → Stops (λ ds. name ∷ name ∷ semicolon ∷ ds) n
         (standing tokens.old names.old) e) }
 {
@@ -95,9 +87,7 @@ fn bind(alloc: Global, tokens: &mut Tokens, names: &mut Names) -> Result<Deed, P
     requires room { HasRoomFor 2 names.old tokens.old }
     ensures reads { IfOk result (λ d. (o : ℕ) → ReadsDeed (codes "let") o
         (standing tokens.old names.old) (standing tokens.new names.new) (deed_of d)) }
-    ensures room { IfOk result (λ _. Uses 1 0 names.old tokens.old names.new tokens.new) }
-    ensures shorter { IfOk result (λ _. length tokens.new.ahead < length tokens.old.ahead) }
-    ensures kept { Grows names.old names.new }
+    ensures leaves { LeavesTables (Uses 1 0) result names.old tokens.old names.new tokens.new }
     ensures fault { IfErr result (λ e. (n : ℕ) → Stops (λ ds. name ∷ fixed (codes "=")
         ∷ expr whole ∷ semicolon ∷ ds) n (standing tokens.old names.old) e) }
 {
@@ -110,9 +100,7 @@ fn close(tokens: &mut Tokens, names: &mut Names) -> Result<Deed, ParseRefusal>
     requires room { HasRoomFor 2 names.old tokens.old }
     ensures reads { IfOk result (λ d. (o : ℕ) → ReadsDeed (codes "close") o
         (standing tokens.old names.old) (standing tokens.new names.new) (deed_of d)) }
-    ensures room { IfOk result (λ _. Uses 1 0 names.old tokens.old names.new tokens.new) }
-    ensures shorter { IfOk result (λ _. length tokens.new.ahead < length tokens.old.ahead) }
-    ensures kept { Grows names.old names.new }
+    ensures leaves { LeavesTables (Uses 1 0) result names.old tokens.old names.new tokens.new }
     ensures fault { IfErr result (λ e. (n : ℕ) → Stops (λ ds. name ∷ semicolon ∷ ds) n
         (standing tokens.old names.old) e) }
 {
@@ -131,9 +119,7 @@ pub fn simple(
     requires room { HasRoomFor 2 names.old tokens.old }
     ensures reads { IfOk result (λ d. (o : ℕ) → ReadsDeed (simple_word word) o
         (standing tokens.old names.old) (standing tokens.new names.new) (deed_of d)) }
-    ensures room { IfOk result (λ _. Uses 1 0 names.old tokens.old names.new tokens.new) }
-    ensures shorter { IfOk result (λ _. length tokens.new.ahead < length tokens.old.ahead) }
-    ensures kept { Grows names.old names.new }
+    ensures leaves { LeavesTables (Uses 1 0) result names.old tokens.old names.new tokens.new }
     ensures fault { IfErr result (λ e. (n : ℕ) → Stops (λ ds. simple_dues word ds) n
         (standing tokens.old names.old) e) }
 {

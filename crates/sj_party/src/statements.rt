@@ -1,13 +1,15 @@
 //! Statements, blocks and the arms of an `inbranch`.
-ghost use Rattle.std.specs.Prelude.{◌≡◌, ℕ, ◌+◌, ◌<◌, ◌≤◌, [], ◌∷◌, length, map, codes, IfOk, IfErr};
-ghost use Rattle.sj_lang.specs.Code.{deed_of, code_of, arm_of, branches_of, branch, no_branch};
+ghost use Rattle.std.specs.Prelude.{ℕ, ◌+◌, ◌<◌, ◌≤◌, [], ◌∷◌, length, map, codes, IfOk, IfErr};
+ghost use Rattle.sj_lang.specs.Code.{deed_of, code_of, arm_of, branches_of};
 ghost use Rattle.sj_grammar.specs.Limits.{limits};
 ghost use Rattle.sj_grammar.specs.Lexis.{next_of};
 ghost use Rattle.sj_grammar.specs.ExpressionDues.{whole};
 ghost use Rattle.sj_grammar.specs.FileDues.{stmts, block as block_due, branches, name, fixed, expr, file_layer};
 ghost use Rattle.sj_grammar.specs.Statements.{AreArms};
 ghost use Rattle.sj_grammar.specs.Asked.{Passes};
+ghost use Rattle.sj_proto.specs.Onward.{Advances};
 ghost use Rattle.sj_proto.specs.Parsed.{standing, Stops};
+ghost use Rattle.sj_expr.specs.Leaves.{LeavesTables};
 ghost use Rattle.sj_expr.specs.Read.{HasRooms, Grows};
 ghost use Rattle.sj_party.specs.Read.{ReadsOnLines, ReadsCode, KeepsRoom};
 ghost use Rattle.sj_party.specs.Rooms.{HasRoomFor, Uses};
@@ -41,6 +43,7 @@ pub(crate) fn statements(
     ensures room { IfOk result (λ _. KeepsRoom names.old tokens.old names.new tokens.new) }
     ensures shorter { IfOk result (λ _. length tokens.new.ahead ≤ length tokens.old.ahead) }
     ensures kept { Grows names.old names.new }
+    ensures onward { Advances tokens.old tokens.new }
     ensures fault { IfErr result (λ e. (n : ℕ) → Stops (λ ds. stmts depth ∷ ds) n
         (standing tokens.old names.old) e) }
 {
@@ -65,9 +68,7 @@ fn deed(
     requires room { HasRoomFor 2 names.old tokens.old }
     ensures reads { IfOk result (λ d. ReadsDeed (word_of opening) depth
         (standing tokens.old names.old) (standing tokens.new names.new) (deed_of d)) }
-    ensures room { IfOk result (λ _. Uses 1 0 names.old tokens.old names.new tokens.new) }
-    ensures shorter { IfOk result (λ _. length tokens.new.ahead < length tokens.old.ahead) }
-    ensures kept { Grows names.old names.new }
+    ensures leaves { LeavesTables (Uses 1 0) result names.old tokens.old names.new tokens.new }
     ensures fault { IfErr result (λ e. (n : ℕ) → Stops (λ ds. dues_behind opening depth ds) n
         (standing tokens.old names.old) e) }
 {
@@ -105,9 +106,7 @@ fn test(
     requires room { HasRoomFor 2 names.old tokens.old }
     ensures reads { IfOk result (λ d. ReadsDeed (codes "if") depth (standing tokens.old names.old)
         (standing tokens.new names.new) (deed_of d)) }
-    ensures room { IfOk result (λ _. Uses 1 0 names.old tokens.old names.new tokens.new) }
-    ensures shorter { IfOk result (λ _. length tokens.new.ahead < length tokens.old.ahead) }
-    ensures kept { Grows names.old names.new }
+    ensures leaves { LeavesTables (Uses 1 0) result names.old tokens.old names.new tokens.new }
     ensures fault { IfErr result (λ e. (n : ℕ) → Stops (λ ds. expr whole ∷ block_due depth
         ∷ fixed (codes "else") ∷ block_due depth ∷ ds) n (standing tokens.old names.old) e) }
 {
@@ -130,9 +129,7 @@ fn inbranch(
     requires room { HasRoomFor 2 names.old tokens.old }
     ensures reads { IfOk result (λ d. ReadsDeed (codes "inbranch") depth
         (standing tokens.old names.old) (standing tokens.new names.new) (deed_of d)) }
-    ensures room { IfOk result (λ _. Uses 1 0 names.old tokens.old names.new tokens.new) }
-    ensures shorter { IfOk result (λ _. length tokens.new.ahead < length tokens.old.ahead) }
-    ensures kept { Grows names.old names.new }
+    ensures leaves { LeavesTables (Uses 1 0) result names.old tokens.old names.new tokens.new }
     ensures fault { IfErr result (λ e. (n : ℕ) → Stops (λ ds. name ∷ fixed (codes "{") ∷ name
         ∷ fixed (codes ":") ∷ block_due depth ∷ branches depth ∷ fixed (codes "}") ∷ ds) n
         (standing tokens.old names.old) e) }
@@ -156,9 +153,7 @@ fn arms(
     requires room { HasRoomFor 1 names.old tokens.old }
     ensures reads { IfOk result (λ v. ReadsPart (standing tokens.old names.old)
         (standing tokens.new names.new) (some_arms depth (branches_of (map arm_of v.items)))) }
-    ensures room { IfOk result (λ _. Uses 0 0 names.old tokens.old names.new tokens.new) }
-    ensures shorter { IfOk result (λ _. length tokens.new.ahead < length tokens.old.ahead) }
-    ensures kept { Grows names.old names.new }
+    ensures leaves { LeavesTables (Uses 0 0) result names.old tokens.old names.new tokens.new }
     ensures fault { IfErr result (λ e. (n : ℕ) → Stops (λ ds. name ∷ fixed (codes ":")
         ∷ block_due depth ∷ branches depth ∷ ds) n (standing tokens.old names.old) e) }
 {
@@ -184,9 +179,7 @@ fn arm(
     ensures reads { IfOk result (λ x. ReadsOnLines (standing tokens.old names.old)
         (standing tokens.new names.new)
         (λ names ps. AreArms limits names depth (branches_of (arm_of x ∷ [])) ps)) }
-    ensures room { IfOk result (λ _. Uses 0 0 names.old tokens.old names.new tokens.new) }
-    ensures shorter { IfOk result (λ _. length tokens.new.ahead < length tokens.old.ahead) }
-    ensures kept { Grows names.old names.new }
+    ensures leaves { LeavesTables (Uses 0 0) result names.old tokens.old names.new tokens.new }
     ensures fault { IfErr result (λ e. (n : ℕ) → Stops (λ ds. name ∷ fixed (codes ":")
         ∷ block_due depth ∷ ds) n (standing tokens.old names.old) e) }
 {
@@ -208,9 +201,7 @@ fn block(
     requires room { HasRoomFor 0 names.old tokens.old }
     ensures reads { IfOk result (λ v. ReadsPart (standing tokens.old names.old)
         (standing tokens.new names.new) (a_block depth (code_of v.items))) }
-    ensures room { IfOk result (λ _. Uses 0 2 names.old tokens.old names.new tokens.new) }
-    ensures shorter { IfOk result (λ _. length tokens.new.ahead < length tokens.old.ahead) }
-    ensures kept { Grows names.old names.new }
+    ensures leaves { LeavesTables (Uses 0 2) result names.old tokens.old names.new tokens.new }
     ensures fault { IfErr result (λ e. (n : ℕ) → Stops (λ ds. block_due depth ∷ ds) n
         (standing tokens.old names.old) e) }
 {

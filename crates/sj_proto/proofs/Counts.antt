@@ -9,8 +9,8 @@ use Rattle.sj_grammar.specs.ProtocolDues.{ProtocolDue, body, more, seq, maybe, b
 use Rattle.sj_grammar.proofs.Steps.{due_behind, or_else}
 use Rattle.sj_proto.specs.Wrong.{brackets_behind, items_behind, is_over}
 use Rattle.sj_proto.proofs.Names.{test_is}
-use Rattle.sj_proto.proofs.Begun.{no_name_begin}
-use Rattle.sj_proto.proofs.Took.{Fits, Took, plain_piece, took_item, took_one, took_open, took_kind, took_label, took_fixed}
+use Rattle.sj_proto.proofs.BodyLemmas.{no_name_begin}
+use Rattle.sj_proto.proofs.DueLemmas.{Fits, Took, plain_piece, took_item, took_one, took_open, took_kind, took_label, took_fixed}
 
 took_arms : (L : Limits) (n o k : ℕ) (bs : List ℕ) (ds es : List ProtocolDue) (s : List ℕ) → Fits bs (arms o k ∷ ds) → protocol_follow (arms o k) s ≡ Some es → Took L n bs (arms o k) es ds s
 took_arms L n o k [] ds es s h e = absurd (omega (arith, h.1))

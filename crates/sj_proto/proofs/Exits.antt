@@ -27,7 +27,7 @@ use Rattle.sj_proto.proofs.Names.{test_is}
 use Rattle.sj_proto.proofs.Given.{Gives-cons, takes_one, took_plain, took_way, took_close}
 use Rattle.sj_proto.proofs.Runs.{way_step}
 use Rattle.sj_proto.proofs.Rules.{piece_rule}
-use Rattle.sj_proto.proofs.Behind.{step_in_file}
+use Rattle.sj_proto.proofs.FaultLemmas.{step_in_file}
 
 pub err_as : {X E : Type 0} (r : Result X E) (e : E) (P : E → Type 0) → IsErrAnd r (λ d. d ≡ e) → P e → IfErr r P
 err_as (Ok x) e P h p = tt

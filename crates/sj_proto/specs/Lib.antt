@@ -2,7 +2,9 @@ pub mod Choices
 pub mod Classes
 pub mod Found
 pub mod Items
+pub mod Leaves
 pub mod Left
+pub mod Onward
 pub mod Parsed
 pub mod Protocols
 pub mod Writable

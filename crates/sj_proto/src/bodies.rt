@@ -1,5 +1,5 @@
 //! Protocols from their `begin` on.
-ghost use Rattle.std.specs.Prelude.{◌≡◌, ℕ, ◌≤◌, List, [], ◌∷◌, IfOk, IfErr, length};
+ghost use Rattle.std.specs.Prelude.{ℕ, List, ◌∷◌, IfOk, IfErr};
 ghost use Rattle.sj_grammar.specs.Limits.{limits};
 ghost use Rattle.sj_grammar.specs.Lexis.{next_of};
 ghost use Rattle.sj_grammar.specs.Protocols.{body_pieces, IsBody};
@@ -7,7 +7,8 @@ ghost use Rattle.sj_grammar.specs.ProtocolDues.{more, body as body_due};
 ghost use Rattle.sj_grammar.specs.FileDues.{Due, proto, file_layer};
 ghost use Rattle.sj_grammar.specs.Faults.{Stuck, OnFault};
 ghost use Rattle.sj_grammar.specs.Asked.{Passes};
-ghost use Rattle.sj_proto.specs.Parsed.{standing, Gives, Keeps, HasRoom, need};
+ghost use Rattle.sj_proto.specs.Leaves.{Leaves};
+ghost use Rattle.sj_proto.specs.Parsed.{standing, Gives, HasRoom};
 
 use crate::parse::seq;
 use crate::tokens::Tokens;
@@ -25,10 +26,7 @@ pub fn body(alloc: Global, tokens: &mut Tokens, names: &mut Names) -> Result<Pro
         (λ word. body_pieces word p) (λ word. IsBody limits word p)) }
     ensures ends { IfOk result (λ _.
         Passes file_layer (proto (more 0)) (next_of tokens.new.ahead)) }
-    ensures room { IfOk result (λ _.
-        need names.new.words tokens.new ≤ need names.old.words tokens.old) }
-    ensures shorter { IfOk result (λ _. length tokens.new.ahead ≤ length tokens.old.ahead) }
-    ensures kept { Keeps names.old names.new }
+    ensures leaves { Leaves 0 result names.old tokens.old names.new tokens.new }
     ensures fault { IfErr result (OnFault (λ f. (n : ℕ) (ds : List Due)
         → Stuck file_layer limits n (standing tokens.old names.old) (proto body_due ∷ ds) f)) }
 {

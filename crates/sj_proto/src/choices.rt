@@ -1,7 +1,8 @@
 //! What may stand at a token of a protocol.
-ghost use Rattle.std.specs.Prelude.{◌≡◌, ◌<◌, ◌≤◌, false, length, IfOk, IfErr, OnOk};
+ghost use Rattle.std.specs.Prelude.{◌≡◌, ◌<◌, false, length, IfOk, IfErr, OnOk};
 ghost use Rattle.sj_grammar.specs.Asked.{TakesText, Refuses};
 ghost use Rattle.sj_grammar.specs.Protocols.{way_piece, open_piece, close_piece};
+ghost use Rattle.sj_proto.specs.Onward.{Advances};
 ghost use Rattle.sj_proto.specs.Choices.{but_way, but_open, but_first, opening_piece};
 
 use crate::tokens::Tokens;
@@ -22,6 +23,7 @@ pub fn take_way(tokens: &mut Tokens, full: bool) -> Result<Way, Fault>
     ensures room { IfOk result (λ _. full ≡ false) }
     ensures fault { IfErr result (Refuses (but_way full) tokens.old) }
     ensures shorter { IfOk result (λ _. length tokens.new.ahead < length tokens.old.ahead) }
+    ensures onward { Advances tokens.old tokens.new }
 {
     if !tokens.sees(b"!") && !tokens.sees(b"?") {
         return Err(tokens.fault(Rule::P1));
@@ -51,6 +53,7 @@ pub fn take_opening(tokens: &mut Tokens, way: Way, deep: bool) -> Result<Opening
     ensures room { IfOk result (λ _. deep ≡ false) }
     ensures fault { IfErr result (Refuses (but_open way deep) tokens.old) }
     ensures shorter { IfOk result (λ _. length tokens.new.ahead < length tokens.old.ahead) }
+    ensures onward { Advances tokens.old tokens.new }
 {
     let kind = open_bytes(way);
     if !tokens.sees(kind) && !tokens.sees(b"{") && !tokens.sees(b"[") {
@@ -86,6 +89,8 @@ pub fn take_first(tokens: &mut Tokens, spelled: &[u8], full: bool) -> Result<(),
     ensures room { OnOk result (full ≡ false) }
     ensures fault { IfErr result (Refuses (but_first spelled.now full) tokens.old) }
     ensures shorter { OnOk result (length tokens.new.ahead < length tokens.old.ahead) }
+    ensures err { IfErr result (λ _. tokens.new ≡ tokens.old) }
+    ensures onward { Advances tokens.old tokens.new }
 {
     if full && tokens.sees(spelled) {
         return Err(tokens.fault(Rule::P4));

@@ -1,9 +1,10 @@
 //! Laws of tokens and of the grammar of protocols. A text has one reading:
 //! `only_the_end_is_the_end`, `the_end_comes_again`, `a_fault_comes_again`: what `Tokens::next` answers at the end and at a fault.
+//! `what_is_ahead_was_ahead`: a reader that advances has ahead what it had ahead before, but for what it read between.
 //! `one_protocol_a_text`, `one_fault_a_text`, `no_protocol_has_a_fault`: a text stands for one protocol, or has one first fault.
 //! `first_faults_go_wrong`, `what_goes_wrong_is_the_first_fault`: the first fault in the grammar's own words.
 //! `one_list_in_front`, `no_list_in_front_has_a_fault`: the same of the protocols at the front of a text.
-ghost use Rattle.std.specs.Prelude.{◌≡◌, ℕ, List, Ok};
+ghost use Rattle.std.specs.Prelude.{◌≡◌, ℕ, ◌-◌, List, length, drop, Ok};
 ghost use Rattle.sj_lang.specs.declared.file.Names.{Names as NamesAt};
 ghost use Rattle.sj_lang.specs.Place.{Place};
 ghost use Rattle.sj_lang.specs.FileAt.{ProtocolAt};
@@ -14,6 +15,7 @@ ghost use Rattle.sj_grammar.specs.declared.tokens.What.TheVariants.{End};
 ghost use Rattle.sj_grammar.specs.Lexis.{next_of, at_end, bad};
 ghost use Rattle.sj_grammar.specs.Reading.{Reading, answer_to, reading_after};
 ghost use Rattle.sj_grammar.specs.Places.{At};
+ghost use Rattle.sj_proto.specs.Onward.{Advances};
 ghost use Rattle.sj_proto.specs.Protocols.{IsProtocol, AreProtocols, IsFirstFault, IsFaultInProtocols};
 ghost use Rattle.sj_proto.specs.Wrong.{GoesWrong};
 
@@ -34,6 +36,12 @@ pub fn a_fault_comes_again()
     ensures { (r : Reading) (rule : Rule) (rest : List ℕ) → next_of r.ahead ≡ bad rule rest
         → let s = reading_after r (bad rule rest) in
         answer_to s (next_of s.ahead) ≡ answer_to r (bad rule rest) }
+{}
+
+/// A reader that stands further on has the same text ahead, but for what it read between.
+pub fn what_is_ahead_was_ahead()
+    ensures { (r q : Reading) → Advances r q
+        → q.ahead ≡ drop (length q.before - length r.before) r.ahead }
 {}
 
 /// A text stands for one protocol, with one numbering of its labels.

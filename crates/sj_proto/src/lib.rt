@@ -23,6 +23,7 @@ pub use laws::{
     a_fault_comes_again, first_faults_go_wrong, no_list_in_front_has_a_fault,
     no_protocol_has_a_fault, one_fault_a_text, one_list_in_front, one_protocol_a_text,
     only_the_end_is_the_end, the_end_comes_again, what_goes_wrong_is_the_first_fault,
+    what_is_ahead_was_ahead,
 };
 pub use naming::take_name;
 pub use printing::{print_protocol, put_word};

@@ -1,11 +1,12 @@
 //! Names, and their numbers in the tables.
-ghost use Rattle.std.specs.Prelude.{◌≡◌, ◌+◌, ◌<◌, ◌≤◌, ◌^◌, ◌*◌, [], ◌∷◌, length, get_or, false, IfOk, IfErr};
+ghost use Rattle.std.specs.Prelude.{◌≡◌, ◌+◌, ◌<◌, ◌≤◌, [], ◌∷◌, length, get_or, false, IfOk, IfErr};
 ghost use Rattle.sj_lang.specs.Words.{IsFirstPlace};
 ghost use Rattle.sj_grammar.specs.Limits.{limits};
 ghost use Rattle.sj_grammar.specs.Tables.{with_entry, IsNamed};
 ghost use Rattle.sj_grammar.specs.Faults.{OnFault};
 ghost use Rattle.sj_grammar.specs.Asked.{Refuses, but_name};
-ghost use Rattle.sj_proto.specs.Parsed.{standing, Gives, Keeps, HasRoom, need};
+ghost use Rattle.sj_proto.specs.Leaves.{Leaves};
+ghost use Rattle.sj_proto.specs.Parsed.{standing, Gives, Keeps, HasRoom};
 
 use crate::tokens::Tokens;
 use sj_base::NoMemory;
@@ -35,10 +36,10 @@ pub fn take_name(tokens: &mut Tokens, names: &mut Names, full: bool) -> Result<u
         (λ word. word n ∷ []) (λ word. IsNamed limits word n)) }
     ensures allowed { IfOk result (λ _. full ≡ false) }
     ensures fault { IfErr result (OnFault (Refuses (but_name full) tokens.old)) }
-    ensures room { IfOk result (λ _.
-        need names.new.words tokens.new ≤ need names.old.words tokens.old + 1) }
     ensures shorter { IfOk result (λ _. length tokens.new.ahead < length tokens.old.ahead) }
-    ensures kept { Keeps names.old names.new }
+    ensures leaves { Leaves 1 result names.old tokens.old names.new tokens.new }
+    // a token that is refused isn't taken
+    ensures err { IfErr result (OnFault (λ _. tokens.new ≡ tokens.old)) }
 {
     let word = tokens.name(full)?;
     let number = number_of(names, word)?;

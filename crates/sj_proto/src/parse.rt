@@ -1,5 +1,5 @@
 //! Items of protocols from tokens, by what is due.
-ghost use Rattle.std.specs.Prelude.{◌≡◌, ◌≢◌, ℕ, ◌+◌, ◌*◌, ◌<◌, ◌≤◌, suc, List, [], ◌∷◌, ◌++◌, IfOk, IfErr, length, drop, codes};
+ghost use Rattle.std.specs.Prelude.{◌≡◌, ◌≢◌, ◌+◌, ◌*◌, ◌<◌, ◌≤◌, [], ◌∷◌, ◌++◌, IfOk, IfErr, drop, codes};
 ghost use Rattle.sj_lang.specs.Place.{done, no_choice, arm as with_arm};
 ghost use Rattle.sj_lang.specs.View.{carried_of, followed};
 ghost use Rattle.sj_lang.specs.ItemCount.{item_count, kind_items, arm_items};
@@ -11,7 +11,8 @@ ghost use Rattle.sj_grammar.specs.FileDues.{proto, file_layer};
 ghost use Rattle.sj_grammar.specs.Asked.{Passes};
 ghost use Rattle.sj_proto.specs.Items.{item_pieces};
 ghost use Rattle.sj_proto.specs.Left.{left};
-ghost use Rattle.sj_proto.specs.Parsed.{standing, Gives, Stops, Keeps, HasRoom, need};
+ghost use Rattle.sj_proto.specs.Leaves.{Leaves};
+ghost use Rattle.sj_proto.specs.Parsed.{standing, Gives, Stops, HasRoom};
 
 use crate::choices::{Opening, close_bytes, take_opening, take_way};
 use crate::naming::take_name;
@@ -47,10 +48,7 @@ pub fn seq(
         Passes file_layer (proto (more depth)) (next_of tokens.new.ahead)) }
     ensures count { IfOk result (λ p. items.new ≡ items.old + item_count p) }
     ensures few { IfOk result (λ _. items.new ≤ 1024) }
-    ensures room { IfOk result (λ _.
-        need names.new.words tokens.new ≤ need names.old.words tokens.old) }
-    ensures shorter { IfOk result (λ _. length tokens.new.ahead ≤ length tokens.old.ahead) }
-    ensures kept { Keeps names.old names.new }
+    ensures leaves { Leaves 0 result names.old tokens.old names.new tokens.new }
     ensures fault { IfErr result (Stops (λ ds. proto (items_due depth) ∷ ds)
         items.old (standing tokens.old names.old)) }
 {
@@ -82,10 +80,7 @@ fn maybe(
         Passes file_layer (proto (left depth p)) (next_of tokens.new.ahead)) }
     ensures count { IfOk result (λ p. items.new ≡ items.old + item_count p) }
     ensures few { IfOk result (λ _. items.new ≤ 1024) }
-    ensures room { IfOk result (λ _.
-        need names.new.words tokens.new ≤ need names.old.words tokens.old) }
-    ensures shorter { IfOk result (λ _. length tokens.new.ahead ≤ length tokens.old.ahead) }
-    ensures kept { Keeps names.old names.new }
+    ensures leaves { Leaves 0 result names.old tokens.old names.new tokens.new }
     ensures fault { IfErr result (Stops (λ ds. proto (maybe_due depth) ∷ ds)
         items.old (standing tokens.old names.old)) }
 {
@@ -113,10 +108,7 @@ fn item(
         (λ word. item_pieces word i) (λ word. IsGiven limits word depth (followed i done))) }
     ensures count { IfOk result (λ i. items.new ≡ items.old + item_count (followed i done)) }
     ensures few { IfOk result (λ _. items.new ≤ 1024) }
-    ensures room { IfOk result (λ _.
-        need names.new.words tokens.new ≤ need names.old.words tokens.old) }
-    ensures shorter { IfOk result (λ _. length tokens.new.ahead ≤ length tokens.old.ahead) }
-    ensures kept { Keeps names.old names.new }
+    ensures leaves { Leaves 0 result names.old tokens.old names.new tokens.new }
     ensures fault { IfErr result (Stops (λ ds. proto (items_due depth) ∷ ds)
         items.old (standing tokens.old names.old)) }
 {
@@ -157,10 +149,7 @@ fn carried(
         (λ word. IsGivenKind limits word depth (carried_of k))) }
     ensures count { IfOk result (λ k. items.new ≡ items.old + kind_items (carried_of k)) }
     ensures few { IfOk result (λ _. items.new ≤ 1024) }
-    ensures room { IfOk result (λ _.
-        need names.new.words tokens.new ≤ need names.old.words tokens.old) }
-    ensures shorter { IfOk result (λ _. length tokens.new.ahead ≤ length tokens.old.ahead) }
-    ensures kept { Keeps names.old names.new }
+    ensures leaves { Leaves 0 result names.old tokens.old names.new tokens.new }
     ensures fault { IfErr result (Stops (λ ds.
         proto (kind_due depth) ∷ proto (fixed (close_piece way)) ∷ ds)
         items.old (standing tokens.old names.old)) }
@@ -200,10 +189,7 @@ fn turns(
         (λ word. IsGiven limits word depth p)) }
     ensures count { IfOk result (λ p. items.new ≡ items.old + item_count p) }
     ensures few { IfOk result (λ _. items.new ≤ 1024) }
-    ensures room { IfOk result (λ _.
-        need names.new.words tokens.new ≤ need names.old.words tokens.old) }
-    ensures shorter { IfOk result (λ _. length tokens.new.ahead ≤ length tokens.old.ahead) }
-    ensures kept { Keeps names.old names.new }
+    ensures leaves { Leaves 0 result names.old tokens.old names.new tokens.new }
     ensures fault { IfErr result (Stops (λ ds. proto (maybe_due depth) ∷ proto (fixed (codes "]"))
         ∷ proto (fixed (codes "*")) ∷ ds)
         items.old (standing tokens.old names.old)) }
@@ -233,10 +219,7 @@ fn choices(
     ensures some { IfOk result (λ a. a ≢ no_choice) }
     ensures count { IfOk result (λ a. items.new ≡ items.old + arm_items a) }
     ensures few { IfOk result (λ _. items.new ≤ 1024) }
-    ensures room { IfOk result (λ _.
-        need names.new.words tokens.new ≤ need names.old.words tokens.old) }
-    ensures shorter { IfOk result (λ _. length tokens.new.ahead ≤ length tokens.old.ahead) }
-    ensures kept { Keeps names.old names.new }
+    ensures leaves { Leaves 0 result names.old tokens.old names.new tokens.new }
     ensures fault { IfErr result (Stops (λ ds. proto (label 0) ∷ proto (fixed (codes ":"))
         ∷ proto (maybe_due depth) ∷ proto (arms depth 1) ∷ proto (fixed (codes "}")) ∷ ds)
         items.old (standing tokens.old names.old)) }
@@ -273,10 +256,7 @@ fn one_arm(
         Passes file_layer (proto (left depth a.rest)) (next_of tokens.new.ahead)) }
     ensures count { IfOk result (λ a. items.new ≡ items.old + item_count a.rest) }
     ensures few { IfOk result (λ _. items.new ≤ 1024) }
-    ensures room { IfOk result (λ _.
-        need names.new.words tokens.new ≤ need names.old.words tokens.old) }
-    ensures shorter { IfOk result (λ _. length tokens.new.ahead ≤ length tokens.old.ahead) }
-    ensures kept { Keeps names.old names.new }
+    ensures leaves { Leaves 0 result names.old tokens.old names.new tokens.new }
     ensures fault { IfErr result (Stops (λ ds. proto (label before) ∷ proto (fixed (codes ":"))
         ∷ proto (maybe_due depth) ∷ ds)
         items.old (standing tokens.old names.old)) }

@@ -11,7 +11,8 @@ ghost use Rattle.sj_grammar.specs.Files.{protocol_pieces, IsProtocolDef};
 ghost use Rattle.sj_grammar.specs.FileDues.{Due, protocols, file_layer};
 ghost use Rattle.sj_grammar.specs.Faults.{Stuck, OnFault};
 ghost use Rattle.sj_grammar.specs.Asked.{is_next};
-ghost use Rattle.sj_proto.specs.Parsed.{standing, GivesOnLines, Extends, Keeps, HasRoom, need};
+ghost use Rattle.sj_proto.specs.Leaves.{Leaves};
+ghost use Rattle.sj_proto.specs.Parsed.{standing, GivesOnLines, Extends, HasRoom};
 ghost use Rattle.sj_proto.specs.Protocols.{IsProtocol, AreProtocols, IsFirstFault, IsFaultInProtocols, IsOnly};
 
 use crate::bodies::body;
@@ -59,10 +60,8 @@ pub fn protocol_def(
         (λ names. protocol_pieces names.word (protocol_of p))
         (λ names. IsProtocolDef limits names (protocol_of p))) }
     ensures few { IfOk result (λ _. before < 256) }
-    ensures room { IfOk result (λ _.
-        need names.new.words tokens.new ≤ need names.old.words tokens.old) }
     ensures shorter { IfOk result (λ _. length tokens.new.ahead < length tokens.old.ahead) }
-    ensures kept { Keeps names.old names.new }
+    ensures leaves { Leaves 0 result names.old tokens.old names.new tokens.new }
     ensures fault { IfErr result (OnFault (λ f. (n : ℕ) (ds : List Due)
         → Stuck file_layer limits n (standing tokens.old names.old) (protocols before ∷ ds) f)) }
 {
@@ -94,9 +93,7 @@ pub fn parse_protocols(
         → IsOnly (λ v. map protocol_of v.items) result ps }
     // and else exactly the first fault
     ensures fault { IfErr result (OnFault (IsFaultInProtocols (standing tokens.old names.old))) }
-    ensures room { IfOk result (λ _.
-        need names.new.words tokens.new ≤ need names.old.words tokens.old) }
-    ensures kept { Keeps names.old names.new }
+    ensures leaves { Leaves 0 result names.old tokens.old names.new tokens.new }
 {
     tokens.stays_short();
     let mut list = Vec::new(alloc);

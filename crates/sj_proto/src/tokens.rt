@@ -5,6 +5,7 @@ ghost use Rattle.sj_grammar.specs.Lexis.{next_of, at_end};
 ghost use Rattle.sj_grammar.specs.Names.{is_name};
 ghost use Rattle.sj_grammar.specs.Reading.{answer_to, reading_after, line_at, before_next};
 ghost use Rattle.sj_grammar.specs.Faults.{fault_next};
+ghost use Rattle.sj_proto.specs.Onward.{Advances};
 ghost use Rattle.sj_proto.specs.Protocols.{IsReadable, IsUnreadable};
 ghost use Rattle.sj_grammar.specs.Asked.{TakesText, is_next, spelled_next, Refuses, but, but_name};
 
@@ -119,6 +120,7 @@ impl<'a> Tokens<'a> {
         ensures taken { IsTrue result → TakesText self.old spelled.now self.new }
         ensures left { result ≡ false → self.new ≡ self.old }
         ensures shorter { IsTrue result → length self.new.ahead < length self.old.ahead }
+        ensures onward { Advances self.old self.new }
     {
         if let Found::Piece(_, from, to) = find(self.bytes, self.at) {
             if &self.bytes[from..to] == spelled {
@@ -169,6 +171,8 @@ impl<'a> Tokens<'a> {
         ensures ok { OnOk result (TakesText self.old spelled.now self.new) }
         ensures fault { IfErr result (Refuses (but spelled.now) self.old) }
         ensures shorter { OnOk result (length self.new.ahead < length self.old.ahead) }
+        ensures err { IfErr result (λ _. self.new ≡ self.old) }
+        ensures onward { Advances self.old self.new }
     {
         if self.accept(spelled) {
             return Ok(());
@@ -184,6 +188,8 @@ impl<'a> Tokens<'a> {
         ensures short { IfOk result (λ s. (length s.now ≤ 64) × (full ≡ false)) }
         ensures fault { IfErr result (Refuses (but_name full) self.old) }
         ensures shorter { IfOk result (λ _. length self.new.ahead < length self.old.ahead) }
+        ensures err { IfErr result (λ _. self.new ≡ self.old) }
+        ensures onward { Advances self.old self.new }
     {
         let word = self.spelling();
         if !is_name_text(word) {

@@ -1,4 +1,4 @@
-use Rattle.sj_proto.proofs.Here.{none_of}
+use Rattle.sj_proto.proofs.ScanLemmas.{none_of}
 use Rattle.sj_expr.proofs.operands.value_of_digits.Goals as goal
 
 pub returns-then-value-gt-MOST : goal.returns-then-value-gt-MOST

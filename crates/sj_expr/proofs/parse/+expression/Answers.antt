@@ -13,6 +13,7 @@ use Rattle.sj_grammar.specs.Expressions as level
 use Rattle.sj_grammar.specs.ExpressionDues.{factor, times, plus, expression_at, is_operand, expression_layer}
 use Rattle.sj_proto.specs.Parsed.{standing}
 use Rattle.sj_proto.proofs.Given.{took_plain}
+use Rattle.sj_proto.proofs.OnwardLemmas.{advances_on}
 use Rattle.sj_expr.specs.declared.taking.Opening.{Opening}
 use Rattle.sj_expr.specs.Openings.{opening_piece}
 use Rattle.sj_expr.specs.Read.{ReadsLevel, ReadsWhole}
@@ -106,9 +107,10 @@ sum-terms-init t c =
       ends = was.ends;
       count = was.count;
       few = was.few;
-      room = was.room;
-      shorter = was.shorter;
-      kept = was.kept;
+      room = was.leaves.room;
+      shorter = was.leaves.shorter;
+      kept = was.leaves.kept;
+      onward = was.leaves.onward;
     }
 
 pub sum-returns-in_err-right-clause-fault : goal.sum-returns-in_err-right-clause-fault
@@ -138,9 +140,10 @@ sum-terms-preserved t c =
       ends = right.ends;
       count = omega (arith, both, right.count, c.terms.invariant.count);
       few = right.few;
-      room = stays_on c.args.names.now c.terms.names c.term-in-Some.new.names c.args.tokens.now c.terms.tokens c.take_sign.new.tokens c.term-in-Some.new.tokens c.terms.invariant.room c.in-Some.ensures.shorter right.room;
-      shorter = omega (arith, right.shorter, c.in-Some.ensures.shorter, c.terms.invariant.shorter);
-      kept = grows_on c.args.names.now c.terms.names c.term-in-Some.new.names c.terms.invariant.kept right.kept;
+      room = stays_on c.args.names.now c.terms.names c.term-in-Some.new.names c.args.tokens.now c.terms.tokens c.take_sign.new.tokens c.term-in-Some.new.tokens c.terms.invariant.room c.in-Some.ensures.shorter right.leaves.room;
+      shorter = omega (arith, right.leaves.shorter, c.in-Some.ensures.shorter, c.terms.invariant.shorter);
+      kept = grows_on c.args.names.now c.terms.names c.term-in-Some.new.names c.terms.invariant.kept right.leaves.kept;
+      onward = advances_on c.terms.invariant.onward (advances_on c.take_sign.ensures.onward right.leaves.onward);
     }
 
 pub term-returns-in_err-left-clause-fault : goal.term-returns-in_err-left-clause-fault
@@ -158,9 +161,10 @@ term-factors-init t c =
       reads = factor_read c.args.depth (standing c.args.tokens.now c.args.names.now) b (term_of c.in_ok-left.left) was.reads;
       count = was.count;
       few = was.few;
-      room = was.room;
-      shorter = was.shorter;
-      kept = was.kept;
+      room = was.leaves.room;
+      shorter = was.leaves.shorter;
+      kept = was.leaves.kept;
+      onward = was.leaves.onward;
     }
 
 pub whole-returns-in_err-left-clause-fault : goal.whole-returns-in_err-left-clause-fault
@@ -203,9 +207,10 @@ term-factors-preserved t c =
       reads = subst (λ (e : Term). ReadsLevel level.term o a z e) (sym c.in_ok-left-2.ensures) (product_read o a b u z (term_of c.factors.left) (term_of c.in_ok-right.right) c.factors.invariant.reads taken right.reads);
       count = omega (arith, both, right.count, c.factors.invariant.count);
       few = right.few;
-      room = stays_on c.args.names.now c.factors.names c.factor-in-factors.new.names c.args.tokens.now c.factors.tokens c.accept.new.self c.factor-in-factors.new.tokens c.factors.invariant.room shorter right.room;
-      shorter = omega (arith, right.shorter, shorter, c.factors.invariant.shorter);
-      kept = grows_on c.args.names.now c.factors.names c.factor-in-factors.new.names c.factors.invariant.kept right.kept;
+      room = stays_on c.args.names.now c.factors.names c.factor-in-factors.new.names c.args.tokens.now c.factors.tokens c.accept.new.self c.factor-in-factors.new.tokens c.factors.invariant.room shorter right.leaves.room;
+      shorter = omega (arith, right.leaves.shorter, shorter, c.factors.invariant.shorter);
+      kept = grows_on c.args.names.now c.factors.names c.factor-in-factors.new.names c.factors.invariant.kept right.leaves.kept;
+      onward = advances_on c.factors.invariant.onward (advances_on c.accept.ensures.onward right.leaves.onward);
     }
 
 pub whole-returns-in_err-right-clause-fault : goal.whole-returns-in_err-right-clause-fault

@@ -5,6 +5,7 @@ use Rattle.sj_grammar.specs.Asked.{Passes}
 use Rattle.sj_grammar.specs.Expressions.{operand_count}
 use Rattle.sj_grammar.specs.Expressions as level
 use Rattle.sj_grammar.specs.ExpressionDues.{times, expression_layer}
+use Rattle.sj_proto.specs.Onward.{Advances}
 use Rattle.sj_proto.specs.Parsed.{standing}
 use Rattle.sj_expr.specs.Read.{ReadsLevel, StaysWithin, Grows}
 use Rattle.sj_expr.proofs.parse.+expression.Given as goal
@@ -35,6 +36,7 @@ invariant-term-factors l = record {
   room : StaysWithin l.fn.names l.fn.tokens l.names l.tokens;
   shorter : length l.tokens.ahead < length l.fn.tokens.ahead;
   kept : Grows l.fn.names l.names;
+  onward : Advances l.fn.tokens l.tokens;
 }
 
 abbrev pub invariant-sum-terms : goal.invariant-sum-terms
@@ -46,4 +48,5 @@ invariant-sum-terms l = record {
   room : StaysWithin l.fn.names l.fn.tokens l.names l.tokens;
   shorter : length l.tokens.ahead < length l.fn.tokens.ahead;
   kept : Grows l.fn.names l.names;
+  onward : Advances l.fn.tokens l.tokens;
 }

@@ -9,6 +9,8 @@ use Rattle.sj_grammar.specs.Faults.{Stuck}
 use Rattle.sj_grammar.specs.Asked.{but}
 use Rattle.sj_grammar.proofs.Stuckness.{refuses_stuck}
 use Rattle.sj_proto.specs.Parsed.{standing}
+use Rattle.sj_proto.proofs.Given.{kept_on}
+use Rattle.sj_proto.proofs.OnwardLemmas.{advances_on}
 use Rattle.sj_proto.proofs.Exits.{err_as, on_fault_map}
 use Rattle.sj_proto.proofs.Pieced.{fixed_rule}
 use Rattle.sj_party.proofs.FileLines.{shorter_by}
@@ -29,12 +31,16 @@ end_decl-requires c =
 pub end_decl-requires-2 : goal.end_decl-requires-2
 end_decl-requires-2 c =
     let seven : length c.take_first.new.tokens.ahead + 7 ≤ length c.args.tokens.now.ahead = shorter_by c.args.tokens.now c.take_first.new.tokens (codes "connect") c.in_ok-take_first.ensures.ok in
-    record { room = omega (arith, seven, c.requires.room, c.in_ok-first.ensures.room, c.in_ok-expect.ensures.shorter) }
+    record { room = omega (arith, seven, c.requires.room, c.in_ok-first.ensures.leaves.room, c.in_ok-expect.ensures.shorter) }
 
-pub returns-clause-room : goal.returns-clause-room
-returns-clause-room c =
+pub returns-clause-leaves : goal.returns-clause-leaves
+returns-clause-leaves c =
     let seven : length c.take_first.new.tokens.ahead + 7 ≤ length c.args.tokens.now.ahead = shorter_by c.args.tokens.now c.take_first.new.tokens (codes "connect") c.in_ok-take_first.ensures.ok in
-    omega (arith, seven, c.in_ok-first.ensures.room, c.in_ok-expect.ensures.shorter, c.in_ok-second.ensures.room, c.in_ok-expect-2.ensures.shorter)
+    record {
+      onward = advances_on c.take_first.ensures.onward (advances_on c.end_decl.ensures.leaves.onward (advances_on c.expect.ensures.onward (advances_on c.end_decl-2.ensures.leaves.onward c.expect-2.ensures.onward)));
+      kept = kept_on c.end_decl.ensures.leaves.kept c.end_decl-2.ensures.leaves.kept;
+      room = omega (arith, seven, c.in_ok-first.ensures.leaves.room, c.in_ok-expect.ensures.shorter, c.in_ok-second.ensures.leaves.room, c.in_ok-expect-2.ensures.shorter);
+    }
 
 pub returns-in_err-first-clause-fault : goal.returns-in_err-first-clause-fault
 returns-in_err-first-clause-fault c =

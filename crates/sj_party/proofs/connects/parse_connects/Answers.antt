@@ -8,6 +8,7 @@ use Rattle.sj_grammar.specs.FileDues.{Due, connects, file_layer}
 use Rattle.sj_grammar.specs.Faults.{Stuck}
 use Rattle.sj_proto.specs.Parsed.{standing}
 use Rattle.sj_proto.proofs.Given.{kept_on}
+use Rattle.sj_proto.proofs.OnwardLemmas.{advances_on}
 use Rattle.sj_proto.proofs.Exits.{err_as, on_fault_map}
 use Rattle.sj_party.proofs.ConnectLemmas.{GivesConnects, connects_more, connects_stuck}
 use Rattle.sj_party.proofs.connects.parse_connects.Goals as goal
@@ -34,6 +35,7 @@ loop-list-preserved c =
       reads = subst (λ (xs : List Connect). GivesConnects a z (map connect_of xs)) (sym {A = List Connect} c.in_ok-push.ensures.items)
           (connects_more a (standing c.loop-list.tokens c.loop-list.names) z c.loop-list.list.items one c.loop-list.invariant.reads c.in_ok-connect.ensures.reads);
       few = subst (λ (xs : List Connect). length xs ≤ 64) (sym {A = List Connect} c.in_ok-push.ensures.items) long;
-      room = omega (arith, c.in_ok-connect.ensures.room, c.loop-list.invariant.room);
-      kept = kept_on c.loop-list.invariant.kept c.connect.ensures.kept;
+      room = omega (arith, c.in_ok-connect.ensures.leaves.room, c.loop-list.invariant.room);
+      kept = kept_on c.loop-list.invariant.kept c.connect.ensures.leaves.kept;
+      onward = advances_on c.loop-list.invariant.onward c.connect.ensures.leaves.onward;
     }

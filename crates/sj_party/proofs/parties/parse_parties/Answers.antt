@@ -8,6 +8,7 @@ use Rattle.sj_grammar.specs.FileDues.{Due, parties, file_layer}
 use Rattle.sj_grammar.specs.Faults.{Stuck}
 use Rattle.sj_proto.specs.Parsed.{standing}
 use Rattle.sj_proto.proofs.Exits.{err_as, on_fault_map}
+use Rattle.sj_proto.proofs.OnwardLemmas.{advances_on, advances_none}
 use Rattle.sj_party.proofs.PartyLemmas.{ReadsParties, no_parties, parties_more, parties_stuck}
 use Rattle.sj_party.proofs.parties.parse_parties.Goals as goal
 
@@ -37,6 +38,7 @@ loop-alloc-preserved c =
         words = omega (arith, c.in_ok-party.ensures.room.words, c.loop-alloc.invariant.room.words);
         texts = omega (arith, c.in_ok-party.ensures.room.texts, c.loop-alloc.invariant.room.texts);
       };
+      onward = advances_on c.loop-alloc.invariant.onward c.in_ok-party.ensures.onward;
     }
 
 pub loop-alloc-init : goal.loop-alloc-init
@@ -47,4 +49,5 @@ loop-alloc-init c =
       reads = subst (λ (xs : List Party). ReadsParties a a (map party_of xs)) (sym c.new-list.ensures.items) (no_parties a);
       few = subst (λ (xs : List Party). length xs ≤ 16) (sym c.new-list.ensures.items) none;
       room = record { words = omega arith; texts = omega arith };
+      onward = advances_none c.args.tokens.now;
     }

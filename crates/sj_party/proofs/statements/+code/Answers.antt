@@ -17,6 +17,7 @@ use Rattle.sj_grammar.specs.Statements.{IsStatement, AreArms}
 use Rattle.sj_grammar.specs.Asked.{Passes, spelled_next}
 use Rattle.sj_proto.specs.Parsed.{standing}
 use Rattle.sj_proto.proofs.Exits.{plain}
+use Rattle.sj_proto.proofs.OnwardLemmas.{advances_on, advances_none}
 use Rattle.sj_expr.proofs.ReadLemmas.{grows_on}
 use Rattle.sj_party.specs.declared.openings.Opening.{Opening}
 use Rattle.sj_party.specs.declared.openings.Opening.TheVariants as openings
@@ -86,9 +87,10 @@ arms-all-preserved t c =
     record {
       some = subst (λ (ys : List StmtArm). AreSome (branches_of (map arm_of ys))) (sym c.in_ok-push-2.ensures.items) (some_more xs x);
       reads = subst (λ (ys : List StmtArm). ReadsOnLines a b (λ names ps. AreArms limits names c.args.depth (branches_of (map arm_of ys)) ps)) (sym c.in_ok-push-2.ensures.items) (arms_more c.args.depth xs x a m b c.all.invariant.reads c.in_ok-next.ensures.reads);
-      room = uses_on c.args.names.now c.all.names c.arm-in-all.new.names c.args.tokens.now c.all.tokens c.arm-in-all.new.tokens c.all.invariant.room c.in_ok-next.ensures.room;
-      shorter = omega (arith, c.in_ok-next.ensures.shorter, c.all.invariant.shorter);
-      kept = grows_on c.args.names.now c.all.names c.arm-in-all.new.names c.all.invariant.kept c.in_ok-next.ensures.kept;
+      room = uses_on c.args.names.now c.all.names c.arm-in-all.new.names c.args.tokens.now c.all.tokens c.arm-in-all.new.tokens c.all.invariant.room c.in_ok-next.ensures.leaves.room;
+      shorter = omega (arith, c.in_ok-next.ensures.leaves.shorter, c.all.invariant.shorter);
+      kept = grows_on c.args.names.now c.all.names c.arm-in-all.new.names c.all.invariant.kept c.in_ok-next.ensures.leaves.kept;
+      onward = advances_on c.all.invariant.onward c.in_ok-next.ensures.leaves.onward;
     }
 
 pub block-returns-in_err-take_first-clause-fault : goal.block-returns-in_err-take_first-clause-fault
@@ -287,6 +289,7 @@ statements-all-init t c =
       room = keeps_itself c.args.names.now c.args.tokens.now;
       shorter = omega arith;
       kept = grows_itself c.args.names.now;
+      onward = advances_none c.args.tokens.now;
     }
 
 pub statements-returns-in_err-deed-clause-fault : goal.statements-returns-in_err-deed-clause-fault
@@ -313,9 +316,10 @@ statements-all-preserved t c =
     (statement_read o begun.line act (word_of begun.opening) m u b (word_piece begun.opening begun.line c.all.tokens c.begin.new.tokens c.all.names c.in-Some.ensures.taken c.in-Some.ensures.line) c.in_ok-deed.ensures.reads) in
     record {
       reads = subst (λ (ys : List Stmt). ReadsCode o a b (code_of ys)) (sym c.in_ok-push.ensures.items) (code_more o c.all.list.items x a m b c.all.invariant.reads one);
-      room = keeps_on c.args.names.now c.all.names c.deed.new.names c.args.tokens.now c.all.tokens c.begin.new.tokens c.deed.new.tokens c.all.invariant.room c.in-Some.ensures.shorter c.in_ok-deed.ensures.room;
-      shorter = omega (arith, c.in_ok-deed.ensures.shorter, c.in-Some.ensures.shorter, c.all.invariant.shorter);
-      kept = grows_on c.args.names.now c.all.names c.deed.new.names c.all.invariant.kept c.in_ok-deed.ensures.kept;
+      room = keeps_on c.args.names.now c.all.names c.deed.new.names c.args.tokens.now c.all.tokens c.begin.new.tokens c.deed.new.tokens c.all.invariant.room c.in-Some.ensures.shorter c.in_ok-deed.ensures.leaves.room;
+      shorter = omega (arith, c.in_ok-deed.ensures.leaves.shorter, c.in-Some.ensures.shorter, c.all.invariant.shorter);
+      kept = grows_on c.args.names.now c.all.names c.deed.new.names c.all.invariant.kept c.in_ok-deed.ensures.leaves.kept;
+      onward = advances_on c.all.invariant.onward (advances_on c.begin.ensures.onward c.in_ok-deed.ensures.leaves.onward);
     }
 
 pub statements-returns-clause-ends : goal.statements-returns-clause-ends

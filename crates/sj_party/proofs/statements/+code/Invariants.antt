@@ -3,6 +3,7 @@ use Rattle.std.specs.Prelude.{map}
 use Rattle.sj_lang.specs.Code.{code_of, arm_of, branches_of}
 use Rattle.sj_grammar.specs.Limits.{limits}
 use Rattle.sj_grammar.specs.Statements.{AreArms}
+use Rattle.sj_proto.specs.Onward.{Advances}
 use Rattle.sj_proto.specs.Parsed.{standing}
 use Rattle.sj_expr.specs.Read.{Grows}
 use Rattle.sj_party.specs.Read.{ReadsOnLines, ReadsCode, KeepsRoom}
@@ -43,6 +44,7 @@ invariant-statements-all l = record {
   room : KeepsRoom l.fn.names l.fn.tokens l.names l.tokens;
   shorter : length l.tokens.ahead ≤ length l.fn.tokens.ahead;
   kept : Grows l.fn.names l.names;
+  onward : Advances l.fn.tokens l.tokens;
 }
 
 abbrev pub invariant-arms-all : goal.invariant-arms-all
@@ -52,4 +54,5 @@ invariant-arms-all l = record {
   room : Uses 0 0 l.fn.names l.fn.tokens l.names l.tokens;
   shorter : length l.tokens.ahead < length l.fn.tokens.ahead;
   kept : Grows l.fn.names l.names;
+  onward : Advances l.fn.tokens l.tokens;
 }

@@ -17,7 +17,7 @@ use Rattle.sj_proto.specs.Parsed.{standing, Gives}
 use Rattle.sj_proto.proofs.Given.{Gives-cons, Gives-as, takes_one}
 use Rattle.sj_proto.proofs.Rules.{begin_rule}
 use Rattle.sj_proto.proofs.Exits.{err_as, on_fault_map, plain}
-use Rattle.sj_proto.proofs.Begun.{took_begin, dotted_some, begun_stuck}
+use Rattle.sj_proto.proofs.BodyLemmas.{took_begin, dotted_some, begun_stuck}
 use Rattle.sj_proto.proofs.bodies.body.Goals as goal
 
 pub returns-in_err-expect-clause-fault : goal.returns-in_err-expect-clause-fault

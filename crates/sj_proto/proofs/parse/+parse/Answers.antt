@@ -27,8 +27,9 @@ use Rattle.sj_proto.proofs.Given.{kept_on, Gives-cons, Gives-append, Gives-as, t
 use Rattle.sj_proto.proofs.Pieces.{item_count-push, arm_items-push, arm_pieces}
 use Rattle.sj_proto.proofs.Runs.{kind_like, way_step, open_step, arms_step, turns_step}
 use Rattle.sj_proto.proofs.Rules.{way_rule, open_rule, piece_rule, label_rule}
-use Rattle.sj_proto.proofs.Behind.{step_in_file, leads_items, leads_maybe, item_stuck, label_stuck, arm_stuck}
+use Rattle.sj_proto.proofs.FaultLemmas.{step_in_file, leads_items, leads_maybe, item_stuck, label_stuck, arm_stuck}
 use Rattle.sj_proto.proofs.Exits.{no_name_int, no_name_boolean, no_name_String, err_as, if_err_map, on_fault_map, stops_map, from_left, plain, close_fault, keyword_fault, keyword_reads, kind_stuck, maybe_stuck, no_comma, open_plain, opened_stuck, opened_gives}
+use Rattle.sj_proto.proofs.OnwardLemmas.{advances_on}
 use Rattle.sj_proto.proofs.Lists.{item_more, item_and_dot, some_arms, arm_and, arm_and_comma}
 use Rattle.sj_proto.proofs.parse.+parse.Goals.{maybe-then-sees-via-then-sees, maybe-then-sees-via-else-sees+then-sees-2}
 use Rattle.sj_proto.proofs.parse.+parse.Goals as goal
@@ -296,9 +297,9 @@ seq-loop-list-preserved t c =
           (item_and_dot (standing c.args.tokens.now c.args.names.now) (standing c.loop-list.tokens c.loop-list.names) (standing c.item.new.tokens c.item.new.names) (standing c.accept.new.self c.item.new.names) c.loop-list.list.items c.in_ok-item.field-0 c.args.depth c.loop-list.invariant.reads c.in_ok-item.ensures.reads dot);
       count = rw c.in_ok-push.ensures.items (omega (arith, item_count-push c.loop-list.list.items c.in_ok-item.field-0, c.in_ok-item.ensures.count, c.loop-list.invariant.count));
       few = c.in_ok-item.ensures.few;
-      room = omega (arith, c.in_ok-item.ensures.room, c.accept.ensures.shorter c.if-not-accept.false, c.loop-list.invariant.room);
-      shorter = omega (arith, c.in_ok-item.ensures.shorter, c.accept.ensures.shorter c.if-not-accept.false, c.loop-list.invariant.shorter);
-      kept = kept_on c.loop-list.invariant.kept c.item.ensures.kept;
+      room = omega (arith, c.in_ok-item.ensures.leaves.room, c.accept.ensures.shorter c.if-not-accept.false, c.loop-list.invariant.room);
+      kept = kept_on c.loop-list.invariant.kept c.item.ensures.leaves.kept;
+      onward = advances_on c.loop-list.invariant.onward (advances_on c.item.ensures.leaves.onward c.accept.ensures.onward);
       back = λ ds f st. c.loop-list.invariant.back ds f
           (item_stuck (standing c.loop-list.tokens c.loop-list.names) (standing c.item.new.tokens c.item.new.names) (standing c.accept.new.self c.item.new.names) c.in_ok-item.field-0 c.args.depth c.loop-list.items c.item.new.items ds f c.in_ok-item.ensures.reads c.in_ok-item.ensures.count c.in_ok-item.ensures.few dot st);
     }
@@ -350,9 +351,9 @@ choices-loop-list-preserved t c =
           (arm_and_comma (standing c.args.tokens.now c.args.names.now) (standing c.loop-list.tokens c.loop-list.names) (standing c.one_arm.new.tokens c.one_arm.new.names) (standing c.accept.new.self c.one_arm.new.names) c.loop-list.list.items c.in_ok-one_arm.field-0 c.args.depth c.len-before.result long c.loop-list.invariant.reads c.in_ok-one_arm.ensures.reads comma);
       count = rw c.in_ok-push.ensures.items (omega (arith, arm_items-push c.loop-list.list.items c.in_ok-one_arm.field-0, c.in_ok-one_arm.ensures.count, c.loop-list.invariant.count));
       few = c.in_ok-one_arm.ensures.few;
-      room = omega (arith, c.in_ok-one_arm.ensures.room, c.accept.ensures.shorter c.if-not-accept.false, c.loop-list.invariant.room);
-      shorter = omega (arith, c.in_ok-one_arm.ensures.shorter, c.accept.ensures.shorter c.if-not-accept.false, c.loop-list.invariant.shorter);
-      kept = kept_on c.loop-list.invariant.kept c.one_arm.ensures.kept;
+      room = omega (arith, c.in_ok-one_arm.ensures.leaves.room, c.accept.ensures.shorter c.if-not-accept.false, c.loop-list.invariant.room);
+      kept = kept_on c.loop-list.invariant.kept c.one_arm.ensures.leaves.kept;
+      onward = advances_on c.loop-list.invariant.onward (advances_on c.one_arm.ensures.leaves.onward c.accept.ensures.onward);
       back = λ ds f st. c.loop-list.invariant.back ds f
           (arm_stuck (standing c.loop-list.tokens c.loop-list.names) (standing c.one_arm.new.tokens c.one_arm.new.names) c.in_ok-one_arm.field-0.label c.in_ok-one_arm.field-0.rest c.args.depth (length c.loop-list.list.items) c.loop-list.items c.one_arm.new.items (proto (arms c.args.depth (suc (length c.loop-list.list.items))) ∷ proto (fixed (codes "}")) ∷ ds) f
           (subst (λ (j : ℕ). Gives (standing c.loop-list.tokens c.loop-list.names) (standing c.one_arm.new.tokens c.one_arm.new.names) (λ word. arm_pieces word c.in_ok-one_arm.field-0) (λ word. AreGiven limits word c.args.depth j (arm c.in_ok-one_arm.field-0.label c.in_ok-one_arm.field-0.rest no_choice))) long c.in_ok-one_arm.ensures.reads)

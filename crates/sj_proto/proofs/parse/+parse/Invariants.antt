@@ -8,6 +8,7 @@ use Rattle.sj_grammar.specs.Protocols.{dotted, listed, IsGiven, AreGiven}
 use Rattle.sj_grammar.specs.ProtocolDues.{seq, label, fixed, maybe, arms}
 use Rattle.sj_grammar.specs.FileDues.{Due, proto, file_layer}
 use Rattle.sj_grammar.specs.Faults.{Stuck}
+use Rattle.sj_proto.specs.Onward.{Advances}
 use Rattle.sj_proto.specs.Parsed.{standing, Gives, Keeps, need}
 use Rattle.sj_proto.proofs.parse.+parse.Given as goal
 
@@ -44,8 +45,8 @@ invariant-seq-loop-list l = record {
   count : l.items ≡ l.fn.items + item_count (place_of l.list.items);
   few : l.items ≤ 1024;
   room : need l.names.words l.tokens ≤ need l.fn.names.words l.fn.tokens;
-  shorter : length l.tokens.ahead ≤ length l.fn.tokens.ahead;
   kept : Keeps l.fn.names l.names;
+  onward : Advances l.fn.tokens l.tokens;
   back : (ds : List Due) (f : Fault) → Stuck file_layer limits l.items (standing l.tokens l.names) (proto (seq l.depth) ∷ ds) f → Stuck file_layer limits l.fn.items (standing l.fn.tokens l.fn.names) (proto (seq l.depth) ∷ ds) f;
 }
 
@@ -55,8 +56,8 @@ invariant-choices-loop-list l = record {
   count : l.items ≡ l.fn.items + arm_items (choices_of l.list.items);
   few : l.items ≤ 1024;
   room : need l.names.words l.tokens ≤ need l.fn.names.words l.fn.tokens;
-  shorter : length l.tokens.ahead ≤ length l.fn.tokens.ahead;
   kept : Keeps l.fn.names l.names;
+  onward : Advances l.fn.tokens l.tokens;
   back : (ds : List Due) (f : Fault)
       → Stuck file_layer limits l.items (standing l.tokens l.names)
       (proto (label (length l.list.items)) ∷ proto (fixed (codes ":")) ∷ proto (maybe l.depth) ∷ proto (arms l.depth (suc (length l.list.items))) ∷ proto (fixed (codes "}")) ∷ ds) f

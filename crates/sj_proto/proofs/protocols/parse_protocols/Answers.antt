@@ -13,6 +13,7 @@ use Rattle.sj_grammar.specs.Faults.{Stuck}
 use Rattle.sj_proto.specs.Parsed.{standing, GivesOnLines}
 use Rattle.sj_proto.specs.Protocols.{IsFaultInProtocols}
 use Rattle.sj_proto.proofs.Given.{kept_on}
+use Rattle.sj_proto.proofs.OnwardLemmas.{advances_on}
 use Rattle.sj_proto.proofs.Exits.{err_as, on_fault_map}
 use Rattle.sj_proto.proofs.Fronts.{defs_more, def_stuck, unreadable_stuck, other_next}
 use Rattle.sj_proto.proofs.OneFront.{one_front, refused_no_front}
@@ -72,8 +73,9 @@ loop-alloc-preserved c =
       reads = subst (λ (xs : List ProtocolDef). GivesOnLines (standing c.args.tokens.now c.args.names.now) (standing c.protocol_def.new.tokens c.protocol_def.new.names) (λ names. protocols_pieces names.word (map protocol_of xs)) (λ names. All (IsProtocolDef limits names) (map protocol_of xs))) (sym c.in_ok-push.ensures.items)
           (defs_more (standing c.args.tokens.now c.args.names.now) (standing c.loop-alloc.tokens c.loop-alloc.names) (standing c.protocol_def.new.tokens c.protocol_def.new.names) c.loop-alloc.list.items c.in_ok-protocol_def.field-0 c.loop-alloc.invariant.reads c.in_ok-protocol_def.ensures.reads);
       few = omega (arith, c.in_ok-protocol_def.ensures.few);
-      room = omega (arith, c.in_ok-protocol_def.ensures.room, c.loop-alloc.invariant.room);
-      kept = kept_on c.loop-alloc.invariant.kept c.protocol_def.ensures.kept;
+      room = omega (arith, c.in_ok-protocol_def.ensures.leaves.room, c.loop-alloc.invariant.room);
+      kept = kept_on c.loop-alloc.invariant.kept c.protocol_def.ensures.leaves.kept;
+      onward = advances_on c.loop-alloc.invariant.onward c.protocol_def.ensures.leaves.onward;
       back = λ f st. c.loop-alloc.invariant.back f (λ m ds. def_stuck (standing c.loop-alloc.tokens c.loop-alloc.names) (standing c.protocol_def.new.tokens c.protocol_def.new.names) (protocol_of c.in_ok-protocol_def.field-0) (length c.loop-alloc.list.items) m ds f (omega (arith, c.in_ok-protocol_def.ensures.few)) c.in_ok-protocol_def.ensures.reads
           (subst (λ (k : ℕ). Stuck file_layer limits (item_count c.in_ok-protocol_def.field-0.body) (standing c.protocol_def.new.tokens c.protocol_def.new.names) (protocols k ∷ ds) f) more_long (st (item_count c.in_ok-protocol_def.field-0.body) ds)));
     }

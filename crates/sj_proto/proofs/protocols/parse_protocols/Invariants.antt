@@ -6,6 +6,7 @@ use Rattle.sj_grammar.specs.Limits.{limits}
 use Rattle.sj_grammar.specs.Files.{protocols_pieces, IsProtocolDef}
 use Rattle.sj_grammar.specs.FileDues.{Due, protocols, file_layer}
 use Rattle.sj_grammar.specs.Faults.{Stuck}
+use Rattle.sj_proto.specs.Onward.{Advances}
 use Rattle.sj_proto.specs.Parsed.{standing, GivesOnLines, Keeps, need}
 use Rattle.sj_proto.proofs.protocols.parse_protocols.Given as goal
 
@@ -18,6 +19,7 @@ invariant-loop-alloc l = record {
   few : length l.list.items ≤ 256;
   room : need l.names.words l.tokens ≤ need l.fn.names.words l.fn.tokens;
   kept : Keeps l.fn.names l.names;
+  onward : Advances l.fn.tokens l.tokens;
   back : (f : Fault) → ((m : ℕ) (ds : List Due) → Stuck file_layer limits m (standing l.tokens l.names) (protocols (length l.list.items) ∷ ds) f)
       → (n : ℕ) (ds : List Due) → Stuck file_layer limits n (standing l.fn.tokens l.fn.names) (protocols 0 ∷ ds) f;
 }

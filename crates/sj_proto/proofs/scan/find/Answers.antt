@@ -1,7 +1,7 @@
 use Rattle.std.proofs.Common.{◌≡◌, ◌+◌, ◌<◌, ◌∙◌, sym, get_or, drop, length, ap, arith}
 use Rattle.std.proofs.lemmas.List.{drop-drop}
 use Rattle.sj_grammar.specs.Lexis.{next_of, in_comment}
-use Rattle.sj_proto.proofs.Here.{open_at, comment_is, some_begins}
+use Rattle.sj_proto.proofs.ScanLemmas.{open_at, comment_is, some_begins}
 use Rattle.sj_proto.proofs.scan.find.Goals as goal
 
 pub loop-i-preserved : goal.loop-i-preserved

@@ -2,7 +2,7 @@ use Rattle.std.proofs.Common.{◌+◌, ◌∙◌, sym, get_or, drop, ap, refl}
 use Rattle.sj_grammar.specs.declared.tokens.What.TheVariants.{Symbol}
 use Rattle.sj_grammar.specs.declared.tokens.Rule.TheVariants.{P2}
 use Rattle.sj_grammar.specs.Lexis.{token_of, cut, bad}
-use Rattle.sj_proto.proofs.Here.{open_at, piece_is, double_is, single_is, none_is}
+use Rattle.sj_proto.proofs.ScanLemmas.{open_at, piece_is, double_is, single_is, none_is}
 use Rattle.sj_proto.proofs.scan.token_here.Goals as goal
 
 pub returns-then-is_double-clause-found : goal.returns-then-is_double-clause-found

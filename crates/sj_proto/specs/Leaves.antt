@@ -1,0 +1,14 @@
+-- What a call of a parser leaves, beside what it read.
+use Rattle.std.specs.Prelude.{ℕ, ◌+◌, ◌≤◌, Result, IfOk}
+use Rattle.sj_lang.specs.declared.file.Names.{Names}
+use Rattle.sj_grammar.specs.declared.refusal.ParseRefusal.{ParseRefusal}
+use Rattle.sj_grammar.specs.Reading.{Reading}
+use Rattle.sj_proto.specs.Onward.{Advances}
+use Rattle.sj_proto.specs.Parsed.{Keeps, need}
+
+-- refused or not, the reader where it stood or further on, and the old words first; and where it isn't refused, room for what names may still come: so many took some that
+-- their bytes didn't give back
+pub record Leaves {X : Type 0} (k : ℕ) (r : Result X ParseRefusal) (old : Names) (from : Reading) (new : Names) (to : Reading) : Type 0 where
+  pub onward : Advances from to
+  pub kept : Keeps old new
+  pub room : IfOk r (λ _. need new.words to ≤ need old.words from + k)
