@@ -1,0 +1,12 @@
+pub mod MessageLoop
+pub mod NumberLemmas
+pub mod FieldLemmas
+pub mod MessageLemmas
+pub mod BodyLemmas
+pub mod BodyTakesLemmas
+pub mod LengthLemmas
+pub mod SealLemmas
+pub mod FrameReadLemmas
+pub mod FrameTakesLemmas
+pub mod StreamLemmas
+pub mod CuttingLemmas

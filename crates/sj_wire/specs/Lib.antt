@@ -1,0 +1,10 @@
+pub mod Limits
+pub mod Kinds
+pub mod Tags
+pub mod Spelling
+pub mod Reading
+pub mod Front
+pub mod Reads
+pub mod Lawful
+pub mod Stream
+pub mod Examples

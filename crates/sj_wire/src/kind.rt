@@ -1,0 +1,61 @@
+//! The kinds of frames.
+ghost use Rattle.std.specs.Prelude.{◌≡◌};
+ghost use Rattle.sj_wire.specs.Kinds.{code, kind_named, kind_of};
+ghost use Rattle.sj_end.specs.Bodies.{body_at};
+
+use sj_end::Body;
+
+#[derive(Clone, Copy)]
+pub(crate) enum Kind {
+    Carry,
+    Fin,
+    Claim,
+    Signal,
+    Ack,
+    Give,
+}
+
+impl Kind {
+    /// The kind of that byte.
+    pub(crate) fn named(byte: u8) -> Option<Kind>
+        ensures { result ≡ kind_named byte }
+    {
+        match byte {
+            1 => Some(Kind::Carry),
+            2 => Some(Kind::Fin),
+            3 => Some(Kind::Claim),
+            4 => Some(Kind::Signal),
+            5 => Some(Kind::Ack),
+            6 => Some(Kind::Give),
+            _ => None,
+        }
+    }
+
+    /// Its byte.
+    pub(crate) fn code(self) -> u8
+        ensures { result ≡ code self }
+    {
+        match self {
+            Kind::Carry => 1,
+            Kind::Fin => 2,
+            Kind::Claim => 3,
+            Kind::Signal => 4,
+            Kind::Ack => 5,
+            Kind::Give => 6,
+        }
+    }
+
+    /// The kind of a body.
+    pub(crate) fn of(body: &Body) -> Kind
+        ensures { result ≡ kind_of (body_at body.now) }
+    {
+        match body {
+            Body::Carry { .. } => Kind::Carry,
+            Body::Fin { .. } => Kind::Fin,
+            Body::Claim { .. } => Kind::Claim,
+            Body::Signal { .. } => Kind::Signal,
+            Body::Ack { .. } => Kind::Ack,
+            Body::Give { .. } => Kind::Give,
+        }
+    }
+}
