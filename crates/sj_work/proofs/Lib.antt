@@ -1,0 +1,15 @@
+pub mod CauseLemmas
+pub mod CountLemmas
+pub mod HaltLemmas
+pub mod LaneLaws
+pub mod LaneLemmas
+pub mod LookLemmas
+pub mod NodeLemmas
+pub mod NoteLemmas
+pub mod PushLemmas
+pub mod RestLemmas
+pub mod SendLemmas
+pub mod StopLemmas
+pub mod TurnLemmas
+pub mod VainLemmas
+pub mod WentLemmas

@@ -1,0 +1,96 @@
+-- Why a call of a worker answered so.
+use Rattle.std.specs.Prelude.{◌≡◌, ◌⊎◌, ℕ, ◌+◌, ◌<◌, ◌≤◌, max, min, ⊤, [], Option, Some, None, option_map}
+use Rattle.sj_lang.specs.Place.{Place}
+use Rattle.sj_end.specs.declared.note.Entry.{Entry}
+use Rattle.sj_end.specs.declared.note.Event.TheVariants as events
+use Rattle.sj_end.specs.declared.note.Line.{Line}
+use Rattle.sj_end.specs.Views.{note_at}
+use Rattle.sj_rules.specs.Limits.{clock_end}
+use Rattle.sj_rules.specs.Node.{arrives}
+use Rattle.sj_rules.specs.Work.{LostAt}
+use Rattle.sj_node.specs.declared.node.Node.{Node}
+use Rattle.sj_node.specs.declared.refusal.Halt.TheVariants as halts
+use Rattle.sj_node.specs.Node as nodes
+use Rattle.sj_node.specs.Node.{act_of, clock_of, due_of, node_at, outbox_of}
+use Rattle.sj_node.specs.Reading.{IsFinished, IsIdle, parties_of, party_of}
+use Rattle.sj_work.specs.declared.worker.Stop.{Stop}
+use Rattle.sj_work.specs.declared.worker.Stop.TheVariants as stops
+use Rattle.sj_work.specs.declared.worker.Worker.{Worker}
+use Rattle.sj_work.specs.Counts.{OnLane, RoseBy, SomeRose}
+use Rattle.sj_work.specs.Views.{in_of, looks_of, node_of, out_of, unfit_of}
+
+-- with that stop a frame may be lost
+abbrev pub MayLose : Option Stop → Type 0
+MayLose (Some stops.NoMemory) = ⊤
+MayLose (Some stops.Unfit) = ⊤
+MayLose (Some stops.Fault) = ⊥
+MayLose (Some stops.Finished) = ⊥
+MayLose (Some stops.Idle) = ⊥
+MayLose (Some stops.AtLimit) = ⊥
+MayLose (Some stops.ClockEnd) = ⊥
+MayLose None = ⊥
+
+abbrev pub Loses : Option (LostAt Place) → Option Stop → Type 0
+Loses None stop = ⊤
+Loses (Some l) stop = MayLose stop
+
+-- an entry with the party of its node
+abbrev pub own_line : Node → Entry → Line
+own_line n entry = record { party = party_of n; entry = entry }
+
+-- the line that the delivery of a frame would have made, whose clock counts as at most 2^62
+abbrev pub lost_line : Node → LostAt Place → Line
+lost_line n l = own_line n (record { clock = max (clock_of n) (min l.frame.clock clock_end) + 1; event = events.Deliver l.party; note = note_at l.frame.body })
+
+module _ {O I : Type 0} where
+  -- the calls in vain on the lane from each party rose by so many
+  abbrev pub InVain : (in_vain : I → ℕ) → ℕ → (old new : Worker O I) → Type 0
+  InVain in_vain k old new = (q : ℕ) → q < parties_of (node_of new) → OnLane in_vain (RoseBy k) (in_of old q) (in_of new q)
+
+  -- so did those on the lane to each party for which something waits
+  abbrev pub OutVain : (out_vain : O → ℕ) → ℕ → (old new : Worker O I) → Type 0
+  OutVain out_vain k old new =
+      (q : ℕ) → q < parties_of (node_of new) → (outbox_of (node_of new) q ≡ [] → ⊥) → OnLane out_vain (RoseBy k) (out_of old q) (out_of new q)
+
+module _ {O I : Type 0} (out_vain : O → ℕ) (in_vain : I → ℕ) where
+  -- the party waits or has ended, after so many turns in a row without an event
+  pub record IsIdleFor (looks : ℕ) (old new : Worker O I) : Type 0 where
+    pub idle : IsIdle (nodes.stop_of (node_of new))
+    pub turns : looks_of new ≡ looks
+    pub ins : InVain in_vain looks old new
+    pub outs : OutVain out_vain looks old new
+
+module _ {O I : Type 0} where
+  -- the party has done all steps that it may do, and what waits was tried to push
+  abbrev pub IsAtLimit : (out_vain : O → ℕ) → (old new : Worker O I) → Type 0
+  IsAtLimit out_vain old new = (nodes.stop_of (node_of new) ≡ Some halts.AtLimit) × OutVain out_vain 1 old new
+
+  -- the clock can't rise any more
+  abbrev pub IsClockEnd : Worker O I → Type 0
+  IsClockEnd new = clock_end ≤ clock_of (node_of new)
+
+  -- the count of faults rose on a lane to a party, or on one from a party
+  abbrev pub MetFault : (out_faults : O → ℕ) (in_faults : I → ℕ) → (old new : Worker O I) → Type 0
+  MetFault out_faults in_faults old new = SomeRose out_faults (out_of old) (out_of new) ⊎ SomeRose in_faults (in_of old) (in_of new)
+
+  -- the frame that was lost fits no row of the rules; or none was lost, nothing holds the party up, and the rules have no act
+  abbrev pub IsUnfit : Option (LostAt Place) → Worker O I → Type 0
+  IsUnfit (Some l) new =
+      (arrives (parties_of (node_of new)) max (node_at (node_of new)) l.party l.frame ≡ None)
+      × (unfit_of new ≡ Some (lost_line (node_of new) l))
+  IsUnfit None new =
+      (nodes.stop_of (node_of new) ≡ None)
+      × (act_of (node_of new) ≡ None)
+      × (unfit_of new ≡ option_map (own_line (node_of new)) (due_of (node_of new)))
+
+module _ {O I : Type 0} (out_faults out_vain : O → ℕ) (in_faults in_vain : I → ℕ) where
+  -- the cause of each answer; want of memory alone is free
+  abbrev pub Cause : Option Stop → (looks : ℕ) → Option (LostAt Place) → (old new : Worker O I) → Type 0
+  Cause None looks lost old new = ⊤
+  Cause (Some stops.Finished) looks lost old new = IsFinished (node_of new)
+  Cause (Some stops.Idle) looks lost old new = IsIdleFor out_vain in_vain looks old new
+  Cause (Some stops.AtLimit) looks lost old new = IsAtLimit out_vain old new
+  Cause (Some stops.ClockEnd) looks lost old new = IsClockEnd new
+  Cause (Some stops.NoMemory) looks lost old new = ⊤
+  Cause (Some stops.Fault) looks lost old new = MetFault out_faults in_faults old new
+  Cause (Some stops.Unfit) looks lost old new = IsUnfit lost new

@@ -1,0 +1,59 @@
+-- The pieces of a turn.
+use Rattle.std.specs.Prelude.{◌≡◌, ◌↔◌, ℕ, ⊤, List, [], Option, Some, None}
+use Rattle.sj_lang.specs.Place.{Place}
+use Rattle.sj_rules.specs.Frames.{FrameAt}
+use Rattle.sj_node.specs.declared.node.Node.{Node}
+use Rattle.sj_node.specs.declared.refusal.Halt.{Halt}
+use Rattle.sj_node.specs.declared.refusal.Halt.TheVariants as halts
+use Rattle.sj_node.specs.Node as nodes
+use Rattle.sj_node.specs.Node.{node_at, outbox_of}
+use Rattle.sj_node.specs.Reading.{IsFinished, parties_of}
+use Rattle.sj_work.specs.declared.worker.Stop.TheVariants as stops
+use Rattle.sj_work.specs.declared.worker.Worker.{Worker}
+use Rattle.sj_work.specs.Causes.{InVain, OutVain}
+use Rattle.sj_work.specs.Counts.{OnLane, RoseBy}
+use Rattle.sj_work.specs.Views.{node_of, out_of, stop_of}
+use Rattle.sj_work.specs.Worked.{Turned}
+
+-- the party can't act, for no want of memory
+abbrev pub IsHalted : Option Halt → Type 0
+IsHalted (Some halts.Ended) = ⊤
+IsHalted (Some halts.Waits) = ⊤
+IsHalted (Some halts.AtLimit) = ⊤
+IsHalted (Some halts.NoMemory) = ⊥
+IsHalted (Some halts.Unfit) = ⊥
+IsHalted None = ⊥
+
+-- no event: the node stays, and frames only leave outboxes
+pub record Rests (old new : Node) : Type 0 where
+  pub node : node_at new ≡ node_at old
+  pub parties : parties_of new ≡ parties_of old
+  pub boxes : (q : ℕ) → (outbox_of new q ≡ [] → ⊥) → outbox_of old q ≡ [] → ⊥
+
+module _ {O I : Type 0} where
+  -- a worker stops as finished exactly where its node is so
+  abbrev pub IsSettled : Worker O I → Type 0
+  IsSettled w = (stop_of w ≡ Some stops.Finished) ↔ IsFinished (node_of w)
+
+  -- it hasn't stopped, and its node isn't finished
+  pub record IsGoing (w : Worker O I) : Type 0 where
+    pub stop : stop_of w ≡ None
+    pub open_yet : IsFinished (node_of w) → ⊥
+
+  -- the outbox for that party is empty, or its lane took nothing, or there is no lane
+  abbrev pub Tried : (out_vain : O → ℕ) → ℕ → (old new : Worker O I) → Type 0
+  Tried out_vain q old new = (outbox_of (node_of new) q ≡ [] → ⊥) → OnLane out_vain (RoseBy 1) (out_of old q) (out_of new q)
+
+module _ {O I : Type 0} (pushed : O → Option (List (FrameAt Place))) (out_faults out_vain : O → ℕ) (same_out : O → O → Type 0)
+    (popped : I → Option (List (FrameAt Place))) (in_faults in_vain : I → ℕ) (same_in : I → I → Type 0) where
+  -- a piece of a turn, whatever the number of looks
+  abbrev pub Turns : (old new : Worker O I) → Type 0
+  Turns old new = (looks : ℕ) → Turned pushed out_faults out_vain same_out popped in_faults in_vain same_in looks old new
+
+module _ {O I : Type 0} (out_vain : O → ℕ) (in_vain : I → ℕ) where
+  -- a turn without an event, after which the party can't act
+  pub record IsInVain (old new : Worker O I) : Type 0 where
+    pub rests : Rests (node_of old) (node_of new)
+    pub ins : InVain in_vain 1 old new
+    pub outs : OutVain out_vain 1 old new
+    pub halted : IsHalted (nodes.stop_of (node_of new))

@@ -1,0 +1,54 @@
+-- What one call of a worker did.
+use Rattle.std.specs.Prelude.{◌≡◌, ◌↔◌, ℕ, ◌≤◌, max, List, IsSome, Option, Some, None}
+use Rattle.sj_lang.specs.Place.{Place, done}
+use Rattle.sj_rules.specs.Frames.{FrameAt}
+use Rattle.sj_rules.specs.Work.{LaneWork, LostAt}
+use Rattle.sj_node.specs.Node.{clock_of, play_of}
+use Rattle.sj_node.specs.Reading.{IsFinished, parties_of, party_of}
+use Rattle.sj_work.specs.declared.worker.Stop.{Stop}
+use Rattle.sj_work.specs.declared.worker.Stop.TheVariants as stops
+use Rattle.sj_work.specs.declared.worker.Worker.{Worker}
+use Rattle.sj_work.specs.Causes.{Cause, Loses}
+use Rattle.sj_work.specs.Counts.{OnLane, Stands, Stood}
+use Rattle.sj_work.specs.Laned.{laned}
+use Rattle.sj_work.specs.Views.{in_of, node_of, out_of, stop_of}
+
+-- the stop that stays whatever is called, if any
+abbrev pub kept : Option Stop → Option Stop
+kept (Some stops.NoMemory) = Some stops.NoMemory
+kept (Some stops.Fault) = Some stops.Fault
+kept (Some stops.Unfit) = Some stops.Unfit
+kept _ = None
+
+module _ {O I : Type 0} (pushed : O → Option (List (FrameAt Place))) (out_faults out_vain : O → ℕ) (same_out : O → O → Type 0)
+    (popped : I → Option (List (FrameAt Place))) (in_faults in_vain : I → ℕ) (same_in : I → I → Type 0) where
+  -- the worker went by steps of the rules, which its log has, and by the frames that its lanes tell; its party plays the same
+  -- part, its clock didn't fall, and no count of a lane did
+  pub record Went (lost : Option (LostAt Place)) (old new : Worker O I) : Type 0 where
+    pub work : LaneWork pushed same_out popped same_in (play_of (node_of old)) max done (party_of (node_of old)) (laned old) (laned new) lost
+    pub play : play_of (node_of new) ≡ play_of (node_of old)
+    pub party : party_of (node_of new) ≡ party_of (node_of old)
+    pub parties : parties_of (node_of new) ≡ parties_of (node_of old)
+    pub clock : clock_of (node_of old) ≤ clock_of (node_of new)
+    pub faults_out : (q : ℕ) → OnLane out_faults Stands (out_of old q) (out_of new q)
+    pub vain_out : (q : ℕ) → OnLane out_vain Stood (out_of old q) (out_of new q)
+    pub faults_in : (q : ℕ) → OnLane in_faults Stands (in_of old q) (in_of new q)
+    pub vain_in : (q : ℕ) → OnLane in_vain Stood (in_of old q) (in_of new q)
+
+  -- so it went, and its stop, if it has one, has its cause: it has finished exactly where that is the stop, and a frame
+  -- is lost only with a stop that says so
+  pub record Turned (looks : ℕ) (old new : Worker O I) : Type 0 where
+    pub lost : Option (LostAt Place)
+    pub went : Went lost old new
+    pub loses : Loses lost (stop_of new)
+    pub finished : (stop_of new ≡ Some stops.Finished) ↔ IsFinished (node_of new)
+    pub cause : Cause out_faults out_vain in_faults in_vain (stop_of new) looks lost old new
+
+  -- where a stop stays nothing changes, else there were turns up to a stop
+  abbrev pub WorkedBy : Option Stop → (looks : ℕ) → (old new : Worker O I) → Type 0
+  WorkedBy (Some stop) looks old new = new ≡ old
+  WorkedBy None looks old new = IsSome (stop_of new) × Turned looks old new
+
+  -- one call of a worker with so many looks
+  abbrev pub Worked : (looks : ℕ) → (old new : Worker O I) → Type 0
+  Worked looks old new = WorkedBy (kept (stop_of old)) looks old new

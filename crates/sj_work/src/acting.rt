@@ -1,0 +1,89 @@
+//! Acts, and what follows each event.
+ghost use Rattle.std.specs.Prelude.{◌≡◌, ◌<◌, IsFalse, IsTrue, None, Some, option_map};
+ghost use Rattle.sj_node.specs.Node.{clock_of, due_of};
+ghost use Rattle.sj_node.specs.Node as nodes;
+ghost use Rattle.sj_work.specs.Answers.{SaysHalt, SeesFinished};
+ghost use Rattle.sj_work.specs.Causes.{own_line};
+ghost use Rattle.sj_work.specs.Turns.{IsGoing, IsHalted, Rests, Turns};
+ghost use Rattle.sj_work.specs.Views.{lanes_of, looks_of, node_of, stop_of};
+
+use crate::worker::{Answer, Gate, Worker};
+use sj_end::Line;
+use sj_lane::{InLane, OutLane};
+use sj_node::{Halt, Node};
+
+/// No event happens at this clock.
+pub(crate) const CLOCK_END: u64 = 1 << 62;
+
+/// Shows the last event.
+pub(crate) fn show<G: Gate>(node: &Node, gate: &G) {
+    if let Some(entry) = node.log().last() {
+        gate.pass(node.party(), entry);
+    }
+}
+
+/// What a worker answers whose node is finished.
+pub(crate) fn finished(node: &Node) -> Option<Answer>
+    ensures { SeesFinished node.now result }
+{
+    if node.finished() {
+        Some(Answer::Finished)
+    } else {
+        None
+    }
+}
+
+/// The line that an act would have made which the rules don't have.
+fn due_line(node: &Node) -> Line
+    requires clock { clock_of node.now < 4611686018427387904 }
+    requires goes { nodes.stop_of node.now ≡ None }
+    ensures { Some result ≡ option_map (own_line node.now) (due_of node.now) }
+{
+    match node.due() {
+        Some(entry) => Line {
+            party: node.party(),
+            entry,
+        },
+        None => unreachable!(),
+    }
+}
+
+/// What a worker answers whose node refused an act. A party that is halted is no reason to stop.
+fn refused(node: &Node, halt: Halt) -> Option<Answer>
+    requires clock { clock_of node.now < 4611686018427387904 }
+    requires goes { halt ≡ Halt.Unfit → nodes.stop_of node.now ≡ None }
+    ensures { SaysHalt node.now halt result }
+{
+    match halt {
+        Halt::Waits | Halt::Ended | Halt::AtLimit => None,
+        Halt::NoMemory => Some(Answer::NoMemory),
+        Halt::Unfit => Some(Answer::Unfit(due_line(node))),
+    }
+}
+
+/// One act, where the party can act. Answers whether there was one.
+pub(crate) fn act<O: OutLane, I: InLane, G: Gate>(worker: &mut Worker<O, I>, gate: &G) -> bool
+    requires { IsGoing worker.old }
+    ensures turns { Turns O.pushed O.faults O.vain O.same I.popped I.faults I.vain I.same worker.old worker.new }
+    ensures event { IsTrue result → clock_of (node_of worker.old) < clock_of (node_of worker.new) }
+    ensures rests { IsFalse result → Rests (node_of worker.old) (node_of worker.new) }
+    ensures halted { IsFalse result → stop_of worker.new ≡ None → IsHalted (nodes.stop_of (node_of worker.new)) }
+    ensures lanes { lanes_of worker.new ≡ lanes_of worker.old }
+    ensures looks { looks_of worker.new ≡ looks_of worker.old }
+{
+    if worker.node.clock() >= CLOCK_END {
+        worker.answer = Some(Answer::ClockEnd);
+        return false;
+    }
+    match worker.node.act() {
+        Ok(()) => {
+            show(&worker.node, gate);
+            worker.answer = finished(&worker.node);
+            true
+        }
+        Err(halt) => {
+            worker.answer = refused(&worker.node, halt);
+            false
+        }
+    }
+}
