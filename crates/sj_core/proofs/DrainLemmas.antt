@@ -50,7 +50,7 @@ fewer_left d e l reached listed =
     omega (arith, low, more)
 
 -- the step of an event that was tried, for the file of the beginning
-step_of : (c d e : Course) (p : ℕ) (event : Event) → file_in d ≡ file_in c → (t : Tried d p event e)
+pub step_of : (c d e : Course) (p : ℕ) (event : Event) → file_in d ≡ file_in c → (t : Tried d p event e)
     → happens (play_of (file_in c)) max (world_in d) p (Rattle.sj_core.specs.Views.event_at event) ≡ Some (world_in e)
 step_of c d e p event file t = (λ i. happens (play_of (sym file i)) max (world_in d) (sym t.turn i).party (sym t.turn i).event) ∙ t.steps.step
 

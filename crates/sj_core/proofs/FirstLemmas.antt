@@ -13,7 +13,7 @@ use Rattle.sj_node.specs.Starting.{Begins}
 use Rattle.sj_core.specs.Nodes.{AreBegun, AreFirst}
 
 -- an element of a list with one more is one of the list, or the last
-behind : {X : Type 0} (xs : List X) (x : X) (p : ℕ) (y : X) → slice_get (xs ++ x ∷ []) p ≡ Some y → (slice_get xs p ≡ Some y) ⊎ ((p ≡ length xs) × (y ≡ x))
+pub behind : {X : Type 0} (xs : List X) (x : X) (p : ℕ) (y : X) → slice_get (xs ++ x ∷ []) p ≡ Some y → (slice_get xs p ≡ Some y) ⊎ ((p ≡ length xs) × (y ≡ x))
 behind [] x zero y is = inr (refl, sym (cc is))
 behind [] x (suc p) y is = absurd (cc is)
 behind (z ∷ xs) x zero y is = inl is
@@ -61,4 +61,5 @@ all_first file over nodes begun starts = record {
   };
   first = λ p n is. (begun.each p n is).0.node ∙ sym (first_same file p);
   boxes = λ p n is. (begun.each p n is).0.boxes;
+  logs = λ p n is. (begun.each p n is).0.log;
 }

@@ -5,18 +5,20 @@ use Rattle.std.proofs.lemmas.List.{length-map}
 use Rattle.sj_lang.specs.Place.{Place}
 use Rattle.sj_lang.specs.FileAt.{FileAt}
 use Rattle.sj_semantics.specs.Program.{Program}
+use Rattle.sj_rules.specs.Drain.{IsDrained}
 use Rattle.sj_rules.specs.Frames.{FrameAt}
 use Rattle.sj_rules.specs.History.{IsCoreRun, IsHistory, IsQuietAmong, IsQuiescent, turn_of}
 use Rattle.sj_rules.specs.Node.{NodeAt, act_by, acts, arrives}
 use Rattle.sj_rules.specs.Party.{play_of}
 use Rattle.sj_rules.specs.Rows.{IsPick, Worked}
 use Rattle.sj_rules.specs.Start.{core_start, first_node}
-use Rattle.sj_rules.specs.World.{Deliver, WorldAt, happens}
+use Rattle.sj_rules.specs.World.{Deliver, Turn, WorldAt, happens}
 use Rattle.sj_rules.specs.Within.{NoneAbove}
 use Rattle.sj_rules.specs.Events.{acts_in}
 use Rattle.sj_joined_laws.proofs.HistoryLemmas.{log_runs}
 use Rattle.sj_rules_laws.specs.Limits.{limit_of_events}
 use Rattle.sj_rules_laws.proofs.CoreRunLemmas.{runs_stand}
+use Rattle.sj_rules_laws.proofs.DrainRunLemmas.{run_drains}
 use Rattle.sj_rules_laws.proofs.LawfulLemmas.{run_is_lawful}
 use Rattle.sj_rules_laws.proofs.LimitLemmas.{core_run_clocks, run_front_fits, run_front_arrives}
 use Rattle.sj_rules_laws.proofs.ShortRunLemmas.{runs_are_short}
@@ -46,6 +48,17 @@ module _ (c : Course) (reached : IsReached c) where
   -- it is short
   pub short : length (history_in c) ≤ limit_of_events
   short = let few = runs_are_short file reached.accepted.accepted (map turn_of (history_in c)) (world_in c) run_of in omega (arith, few, length-map (history_in c) turn_of)
+
+  -- it can be drained
+  pub drains : (more : List Turn) × (last : WorldAt Place Program) × IsDrained (play_of (file_in c)) max (length (nodes_in c)) (world_in c) more last
+  drains =
+      let d = run_drains file reached.accepted.accepted max max_picks (map turn_of (history_in c)) (world_in c) run_of in
+      let parties : length (nodes_in c) ≡ length file.parties = reached.seats.count ∙ ap (λ f. length f.parties) reached.accepted.same in (
+        d.0,
+        d.1,
+        subst (λ (f : FileAt). IsDrained (play_of f) max (length (nodes_in c)) (world_in c) d.0 d.1) (sym reached.accepted.same)
+            (subst (λ (n : ℕ). IsDrained (play_of file) max n (world_in c) d.0 d.1) (sym parties) d.2),
+      )
 
   no_front : (p q : ℕ) (l : List (FrameAt Place)) → (world_in c).lanes q p ≡ l → happens (play_of file) max (world_in c) p (Deliver q) ≡ None → l ≡ []
   no_front p q [] is none = refl

@@ -1,10 +1,12 @@
 pub mod ActLemmas
 pub mod BeginLemmas
+pub mod BreakLemmas
 pub mod PlayLemmas
 pub mod DeliverLemmas
 pub mod DrainLemmas
 pub mod DueLemmas
 pub mod FirstLemmas
+pub mod FrontLemmas
 pub mod HaltLemmas
 pub mod HistoryLemmas
 pub mod LawLemmas

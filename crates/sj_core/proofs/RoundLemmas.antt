@@ -87,10 +87,17 @@ round_of c d e n m ts file count r =
 grown : (d e : Course) (lines : List LineAt) → history_in e ≡ history_in d ++ lines → length (history_in e) ≡ length (history_in d) + length lines
 grown d e lines listed = ap length listed ∙ length-append (history_in d) lines
 
+-- a longer history has events
+pub has_turns : (d e : Course) (lines : List LineAt) → history_in e ≡ history_in d ++ lines → length (history_in d) < length (history_in e) → map turn_of lines ≢ []
+has_turns d e lines listed more none =
+    let size = grown d e lines listed in
+    let zero_of : length lines ≡ 0 = sym (length-map lines turn_of) ∙ ap length none in
+    absurd (omega (arith, size, zero_of, more))
+
 -- a round with an event
 pub ahead_round : (c d e : Course) (n m : ℕ) → file_in d ≡ file_in c → m ≡ n → Ahead (IsDrained c n) c d → GoesBy (IsRound d m) d e → length (history_in d) < length (history_in e) → Ahead (IsDrained c n) c e
 ahead_round c d e n m file count a b more =
-    let some : map turn_of b.lines ≢ [] = λ none. (let size = grown d e b.lines b.listed in let zero_of : length b.lines ≡ 0 = sym (length-map b.lines turn_of) ∙ ap length none in absurd (omega (arith, size, zero_of, more))) in
+    let some = has_turns d e b.lines b.listed more in
     record {
       lines = a.lines ++ b.lines;
       listed = b.listed ∙ ap (λ t. t ++ b.lines) a.listed ∙ append_assoc (history_in c) a.lines b.lines;

@@ -1,11 +1,12 @@
 -- An act of a node in a reached world is never unfit: where nothing stops the node, the rules have its act.
-use Rattle.std.proofs.Common.{◌≡◌, ℕ, ◌*◌, ◌+◌, ◌<◌, nat_lt, Bool, true, false, if◌then◌else◌, map, length, slice_get, Option, Some, None, option_map, refl, ap, sym, ◌∙◌, subst, arith}
+use Rattle.std.proofs.Common.{◌≡◌, ℕ, ◌*◌, ◌+◌, ◌<◌, nat_lt, List, Bool, true, false, if◌then◌else◌, map, length, slice_get, Option, Some, None, option_map, refl, ap, sym, ◌∙◌, subst, arith}
 use Rattle.std.proofs.lemmas.Bool.{lt-ltb, ltb-true}
 use Rattle.sj_base.specs.declared.EndId.{EndId}
 use Rattle.sj_base.specs.declared.Msg.{Msg}
 use Rattle.sj_base.specs.declared.Msg.TheVariants as msgs
 use Rattle.sj_lang.specs.Place.{Place}
 use Rattle.sj_lang.specs.FileAt.{FileAt, body_named}
+use Rattle.sj_acceptance.specs.Accepted.{IsAccepted}
 use Rattle.sj_semantics.specs.declared.Want.{Want}
 use Rattle.sj_semantics.specs.declared.Want.TheVariants as wants
 use Rattle.sj_semantics.specs.Program.{Program}
@@ -13,15 +14,18 @@ use Rattle.sj_table.specs.Spots.{place_in, start_in}
 use Rattle.sj_rules.specs.History.{IsCoreRun, turn_of}
 use Rattle.sj_rules.specs.Mapped.{main_with}
 use Rattle.sj_rules.specs.Node.{NodeAt, acts}
-use Rattle.sj_rules.specs.Party.{play_for, play_of}
+use Rattle.sj_rules.specs.Party.{play_for}
+use Rattle.sj_rules.specs.Party.{play_of as play_of_file}
 use Rattle.sj_rules.specs.Premises.{NamesKnown}
 use Rattle.sj_rules.specs.Record.{HeldAt, MainAt, Held, Closed, Expected}
 use Rattle.sj_rules.specs.Rows.{Worked}
 use Rattle.sj_rules.specs.Start.{first_node}
+use Rattle.sj_rules.specs.World.{Turn, WorldAt}
 use Rattle.sj_rules_laws.proofs.LimitLemmas.{core_run_few, core_run_known}
 use Rattle.sj_node.specs.declared.node.Node.{Node}
 use Rattle.sj_node.specs.declared.slots.Main.{Main}
-use Rattle.sj_node.specs.Node.{act_of, has_room, is_below_count, node_at, slot_count, spot_node, stop_of, wants_of}
+use Rattle.sj_node.specs.Node.{act_of, has_room, is_below_count, node_at, play_of, spot_node, stop_of, wants_of}
+use Rattle.sj_node.specs.Reading.{party_of}
 use Rattle.sj_node.specs.Play.{HeadsAre, names_known, play_with}
 use Rattle.sj_node.specs.Slots.{look, main_at}
 use Rattle.sj_node.proofs.PlayLemmas.{acts_known, plays_file}
@@ -64,19 +68,10 @@ if_so : {A : Type 0} → (b : Bool) (x : Option A) → b ≡ true → (if b then
 if_so true x k = refl
 if_so false x k = absurd (cc k)
 
-module _ (c : Course) (reached : IsReached c) (p : ℕ) (n : Node) (there : slice_get (nodes_in c) p ≡ Some n) where
-  abbrev file : FileAt
-  file = reached.accepted.file
-
-  abbrev seat : IsSeated (file_in c) reached.seats.table p n
-  seat = reached.seats.each p n there
-
-  pub here : (world_in c).nodes p ≡ node_at n
-  here = ap (node_or (first_node (file_in c) p)) there
-
-  abbrev run : IsCoreRun file (map turn_of (history_in c)) (world_in c)
-  run = run_of c reached
-
+-- a node that a core run of an accepted file leads to, which plays by the file's protocols
+module _ (file : FileAt) (accepted : IsAccepted file) (turns : List Turn) (core : WorldAt Place Program) (run : IsCoreRun file turns core) (p : ℕ) (n : Node)
+    (here : core.nodes p ≡ node_at n) (party : party_of n ≡ p)
+    (play : play_of n ≡ play_with (body_named file.protocols) (2 * length file.connects) (length file.parties)) where
   side_of : (e : EndId) (h : HeldAt Place) → (node_at n).main e ≡ Some (Held h) → e.side < 2
   side_of e h is =
       ltb-true e.side 2 (two_sides {A = Main} (λ x. main_with (place_in n.table) (main_at x)) (nat_lt e.side 2) _ (Held h) (merged ∙ is))
@@ -88,38 +83,64 @@ module _ (c : Course) (reached : IsReached c) (p : ℕ) (n : Node) (there : slic
           twice None = refl
           twice (Some x) = refl
 
-  in_world : (e : EndId) (h : HeldAt Place) → (node_at n).main e ≡ Some (Held h) → ((world_in c).nodes p).main e ≡ Some (Held h)
+  in_world : (e : EndId) (h : HeldAt Place) → (node_at n).main e ≡ Some (Held h) → (core.nodes p).main e ≡ Some (Held h)
   in_world e h is = ap (λ m. m.main e) here ∙ is
 
   few : (e : EndId) (h : HeldAt Place) → (node_at n).main e ≡ Some (Held h) → h.end.sent < 1000000
-  few e h is = (core_run_few file reached.accepted.accepted (map turn_of (history_in c)) (world_in c) run p e h (side_of e h is) (in_world e h is)).0
+  few e h is = (core_run_few file accepted turns core run p e h (side_of e h is) (in_world e h is)).0
 
-  heads : HeadsAre (names_known (slot_count n) n.parties) (node_at n)
+  heads : HeadsAre (names_known (2 * length file.connects) (length file.parties)) (node_at n)
   heads e h m rest is head =
-      known_so n.parties (length file.connects) (slot_count n) m (seat.slots ∙ ap (λ f. 2 * length f.connects) reached.accepted.same)
-      (let named = core_run_known file reached.accepted.accepted (map turn_of (history_in c)) (world_in c) run p e h 0 m (side_of e h is) (in_world e h is) (ap (λ ms. slice_get ms 0) head) in
-      subst (λ k. NamesKnown k (length file.connects) m) (sym (seat.parties ∙ ap (λ f. length f.parties) reached.accepted.same)) named)
+      known_so (length file.parties) (length file.connects) (2 * length file.connects) m refl
+      (core_run_known file accepted turns core run p e h 0 m (side_of e h is) (in_world e h is) (ap (λ ms. slice_get ms 0) head))
 
   -- its act by the rules of its own play is its act by the rules of the file
-  pub act_whole : act_of n ≡ acts (play_of (file_in c)) p ((world_in c).nodes p)
-  act_whole =
-      let ps = (file_in c).protocols in
-      let named : start_in n.table ≡ body_named ps = λ i q. (ap (λ t. start_in t q) seat.table ∙ reached.seats.starts q) i in
+  pub own_act : act_of n ≡ acts (play_of_file file) p (core.nodes p)
+  own_act =
+      let ps = file.protocols in
       if_so (has_room (node_at n).main (wants_of n)) _ (room_for (node_at n).main few (wants_of n))
-      ∙ ap (λ starts. acts (play_with starts (slot_count n) n.parties) n.party (node_at n)) named
-      ∙ ap (λ play. acts play n.party (node_at n)) (plays_file ps (slot_count n) n.parties)
-      ∙ acts_known (play_for n.parties ps) (names_known (slot_count n) n.parties) (node_at n) n.party heads
-      ∙ (λ i. acts (play_for (seat.parties i) ps) (seat.party i) (sym here i))
+      ∙ ap (λ play. acts play n.party (node_at n)) (play ∙ plays_file ps (2 * length file.connects) (length file.parties))
+      ∙ acts_known (play_for (length file.parties) ps) (names_known (2 * length file.connects) (length file.parties)) (node_at n) n.party heads
+      ∙ (λ i. acts (play_for (length file.parties) ps) (party i) (sym here i))
 
   -- where nothing stops it
-  pub acts_here : stop_of n ≡ None → (done : Worked Place (NodeAt Place Program)) × (acts (play_of (file_in c)) p ((world_in c).nodes p) ≡ Some done)
+  pub own_acts : stop_of n ≡ None → (done : Worked Place (NodeAt Place Program)) × (acts (play_of_file file) p (core.nodes p) ≡ Some done)
+  own_acts free = acts_freely file accepted turns core run p (place_in n.table) (spot_node n) here free
+
+  -- an act of it is never unfit
+  pub own_never_unfit : stop_of n ≡ None → act_of n ≡ None → ⊥
+  own_never_unfit free none =
+      let done = own_acts free in
+      let e : Some done.0 ≡ None = sym done.1 ∙ sym own_act ∙ none in
+      cc e
+
+-- a node of a reached world is one
+module _ (c : Course) (reached : IsReached c) (p : ℕ) (n : Node) (there : slice_get (nodes_in c) p ≡ Some n) where
+  abbrev file : FileAt
+  file = reached.accepted.file
+
+  pub here : (world_in c).nodes p ≡ node_at n
+  here = ap (node_or (first_node (file_in c) p)) there
+
+  abbrev run : IsCoreRun file (map turn_of (history_in c)) (world_in c)
+  run = run_of c reached
+
+  abbrev seat : IsSeated (file_in c) reached.seats.table p n
+  seat = reached.seats.each p n there
+
+  -- it plays by the file's protocols
+  own_play : play_of n ≡ play_with (body_named file.protocols) (2 * length file.connects) (length file.parties)
+  own_play =
+      (λ i. play_with (start_in (seat.table i)) (seat.slots i) (seat.parties i))
+      ∙ (λ i. play_with (λ q. reached.seats.starts q i) (2 * length (file_in c).connects) (length (file_in c).parties))
+      ∙ ap (λ (f : FileAt). play_with (body_named f.protocols) (2 * length f.connects) (length f.parties)) reached.accepted.same
+
+  -- where nothing stops it
+  pub acts_here : stop_of n ≡ None → (done : Worked Place (NodeAt Place Program)) × (acts (play_of_file (file_in c)) p ((world_in c).nodes p) ≡ Some done)
   acts_here free =
-      let done = acts_freely file reached.accepted.accepted (map turn_of (history_in c)) (world_in c) run p (place_in n.table) (spot_node n) here free in
-      (done.0, (λ i. acts (play_of (reached.accepted.same i)) p ((world_in c).nodes p)) ∙ done.1)
+      let done = own_acts file reached.accepted.accepted (map turn_of (history_in c)) (world_in c) run p n here seat.party own_play free in
+      (done.0, (λ i. acts (play_of_file (reached.accepted.same i)) p ((world_in c).nodes p)) ∙ done.1)
 
   -- an act is never unfit
   pub never_unfit : stop_of n ≡ None → act_of n ≡ None → ⊥
-  never_unfit free none =
-      let done = acts_here free in
-      let e : Some done.0 ≡ None = sym done.1 ∙ sym act_whole ∙ none in
-      cc e
+  never_unfit = own_never_unfit file reached.accepted.accepted (map turn_of (history_in c)) (world_in c) run p n here seat.party own_play

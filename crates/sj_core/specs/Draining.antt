@@ -1,5 +1,5 @@
 -- What a course does by the events of some relation between worlds.
-use Rattle.std.specs.Prelude.{◌≡◌, ℕ, ◌-◌, max, List, ◌++◌, map, length}
+use Rattle.std.specs.Prelude.{◌≡◌, ℕ, ◌-◌, max, ⊤, List, ◌++◌, map, length}
 use Rattle.sj_lang.specs.Place.{Place}
 use Rattle.sj_semantics.specs.Program.{Program}
 use Rattle.sj_end.specs.declared.note.Event.{Event}
@@ -27,6 +27,28 @@ pub record Ahead (R : Leads) (c d : Course) : Type 0 where
   pub lines : List LineAt
   pub listed : history_in d ≡ history_in c ++ lines
   pub on : (ts : List Turn) (v : WorldAt Place Program) → R (world_in d) ts v → R (world_in c) (map turn_of lines ++ ts) v
+
+-- it went on by lines; each list of R from the one is their events and then a list of S from the other
+pub record Leaves (R S : Leads) (c d : Course) : Type 0 where
+  pub lines : List LineAt
+  pub listed : history_in d ≡ history_in c ++ lines
+  pub rest_of : (ts : List Turn) (v : WorldAt Place Program) → R (world_in c) ts v → (rest : List Turn) × ((ts ≡ map turn_of lines ++ rest) × S (world_in d) rest v)
+
+-- whatever comes
+abbrev pub Anything : Leads
+Anything w ts v = ⊤
+
+-- it went on by lines, whose events are the first of each list of that relation
+abbrev pub GoesFirst : Leads → Course → Course → Type 0
+GoesFirst R c d = Leaves R Anything c d
+
+-- it went on by lines, whose events are the first of a list of that relation
+pub record BreaksOff (R : Leads) (c d : Course) : Type 0 where
+  pub lines : List LineAt
+  pub listed : history_in d ≡ history_in c ++ lines
+  pub rest : List Turn
+  pub last : WorldAt Place Program
+  pub by : R (world_in c) (map turn_of lines ++ rest) last
 
 -- a step of that party by that event
 pub record Tried (c : Course) (p : ℕ) (event : Event) (d : Course) : Type 0 where

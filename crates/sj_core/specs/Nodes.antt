@@ -9,7 +9,7 @@ use Rattle.sj_end.specs.declared.note.Event.{Event}
 use Rattle.sj_end.specs.declared.note.Event.TheVariants as events
 use Rattle.sj_end.specs.declared.note.Entry.{Entry}
 use Rattle.sj_node.specs.declared.node.Node.{Node}
-use Rattle.sj_node.specs.Node.{node_at, outbox_of, slot_count}
+use Rattle.sj_node.specs.Node.{log_of, node_at, outbox_of, slot_count}
 use Rattle.sj_node.specs.Reading.{parties_of, party_of, table_of}
 use Rattle.sj_node.specs.Starting.{Begins}
 use Rattle.sj_rules.specs.Frames.{FrameAt}
@@ -75,3 +75,4 @@ pub record AreFirst (file : FileAt) (nodes : List Node) : Type 0 where
   pub seats : AreSeated file nodes
   pub first : (p : ℕ) (n : Node) → slice_get nodes p ≡ Some n → node_at n ≡ first_node file p
   pub boxes : (p : ℕ) (n : Node) → slice_get nodes p ≡ Some n → (q : ℕ) → outbox_of n q ≡ []
+  pub logs : (p : ℕ) (n : Node) → slice_get nodes p ≡ Some n → log_of n ≡ []

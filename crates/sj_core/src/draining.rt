@@ -1,6 +1,6 @@
 //! Rounds of all parties, until one has no event.
-ghost use Rattle.std.specs.Prelude.{◌≡◌, ◌<◌, None, IfOk, OnOk, true, false, length, max};
-ghost use Rattle.sj_core.specs.Draining.{ActsOut, Empties, EmptiesEach, GoesBy, IsDrained, IsRound, TakesTurn, Tried};
+ghost use Rattle.std.specs.Prelude.{◌≡◌, ◌<◌, None, IfOk, OnErr, OnOk, true, false, length, max};
+ghost use Rattle.sj_core.specs.Draining.{ActsOut, BreaksOff, Empties, EmptiesEach, GoesBy, GoesFirst, IsDrained, IsRound, TakesTurn, Tried};
 ghost use Rattle.sj_core.specs.Nodes.{ComesFrom};
 ghost use Rattle.sj_core.specs.Views.{event_at};
 ghost use Rattle.sj_rules.specs.Drain.{numbers_from};
@@ -25,6 +25,7 @@ impl Course {
         ensures stays { IfOk result (λ b. b ≡ false → StaysIn self.old self.new) }
         ensures none { IfOk result (λ b. b ≡ false →
             happens (play_of (file_in self.old)) max (world_in self.old) party (event_at event) ≡ None) }
+        ensures err { OnErr result (StaysIn self.old self.new) }
         ensures reached { IsReached self.new }
         ensures file { file_in self.new ≡ file_in self.old }
         ensures count { length (nodes_in self.new) ≡ length (nodes_in self.old) }
@@ -42,6 +43,7 @@ impl Course {
         requires there { party < length (nodes_in self.old) }
         requires origin { from < length (nodes_in self.old) }
         ensures ok { OnOk result (GoesBy (Empties self.old party from) self.old self.new) }
+        ensures err { OnErr result (GoesFirst (Empties self.old party from) self.old self.new) }
         ensures reached { IsReached self.new }
         ensures file { file_in self.new ≡ file_in self.old }
         ensures count { length (nodes_in self.new) ≡ length (nodes_in self.old) }
@@ -55,6 +57,7 @@ impl Course {
         requires reached { IsReached self.old }
         requires there { party < length (nodes_in self.old) }
         ensures ok { OnOk result (GoesBy (ActsOut self.old party) self.old self.new) }
+        ensures err { OnErr result (GoesFirst (ActsOut self.old party) self.old self.new) }
         ensures reached { IsReached self.new }
         ensures file { file_in self.new ≡ file_in self.old }
         ensures count { length (nodes_in self.new) ≡ length (nodes_in self.old) }
@@ -68,6 +71,8 @@ impl Course {
         requires reached { IsReached self.old }
         requires there { party < length (nodes_in self.old) }
         ensures ok { OnOk result (GoesBy (EmptiesEach self.old party (numbers_from 0 (length (nodes_in self.old))))
+            self.old self.new) }
+        ensures err { OnErr result (GoesFirst (EmptiesEach self.old party (numbers_from 0 (length (nodes_in self.old))))
             self.old self.new) }
         ensures reached { IsReached self.new }
         ensures file { file_in self.new ≡ file_in self.old }
@@ -84,6 +89,7 @@ impl Course {
         requires reached { IsReached self.old }
         requires there { party < length (nodes_in self.old) }
         ensures ok { OnOk result (GoesBy (TakesTurn self.old (length (nodes_in self.old)) party) self.old self.new) }
+        ensures err { OnErr result (GoesFirst (TakesTurn self.old (length (nodes_in self.old)) party) self.old self.new) }
         ensures reached { IsReached self.new }
         ensures file { file_in self.new ≡ file_in self.old }
         ensures count { length (nodes_in self.new) ≡ length (nodes_in self.old) }
@@ -96,6 +102,7 @@ impl Course {
     fn round(&mut self) -> Result<(), NoMemory>
         requires reached { IsReached self.old }
         ensures ok { OnOk result (GoesBy (IsRound self.old (length (nodes_in self.old))) self.old self.new) }
+        ensures err { OnErr result (GoesFirst (IsRound self.old (length (nodes_in self.old))) self.old self.new) }
         ensures reached { IsReached self.new }
         ensures file { file_in self.new ≡ file_in self.old }
         ensures count { length (nodes_in self.new) ≡ length (nodes_in self.old) }
@@ -110,6 +117,7 @@ impl Course {
     pub fn drain(&mut self) -> Result<(), NoMemory>
         requires reached { IsReached self.old }
         ensures ok { OnOk result (GoesBy (IsDrained self.old (length (nodes_in self.old))) self.old self.new) }
+        ensures err { OnErr result (BreaksOff (IsDrained self.old (length (nodes_in self.old))) self.old self.new) }
         ensures quiet { OnOk result (IsQuietAmong (play_of (file_in self.new)) (length (nodes_in self.new)) (world_in self.new)) }
         ensures reached { IsReached self.new }
         ensures file { file_in self.new ≡ file_in self.old }
@@ -123,6 +131,7 @@ impl Course {
     fn round_goes(&mut self) -> Result<bool, NoMemory>
         requires reached { IsReached self.old }
         ensures ok { OnOk result (GoesBy (IsRound self.old (length (nodes_in self.old))) self.old self.new) }
+        ensures err { OnErr result (GoesFirst (IsRound self.old (length (nodes_in self.old))) self.old self.new) }
         ensures more { IfOk result (λ b. b ≡ true → length (history_in self.old) < length (history_in self.new)) }
         ensures none { IfOk result (λ b. b ≡ false → length (history_in self.new) ≡ length (history_in self.old)) }
         ensures reached { IsReached self.new }

@@ -86,7 +86,8 @@ impl Course {
         ensures { IsTrue result ↔ IsIdleAmong (play_of (file_in self.now))
             (length (nodes_in self.now)) (world_in self.now) party }
     {
-        if self.nodes[party as usize].due().is_some() {
+        let can_act = self.nodes[party as usize].due().is_some();
+        if can_act {
             return false;
         }
         for from in 0..self.nodes.len() {

@@ -8,9 +8,9 @@ mod refusal;
 mod replaying;
 mod sameness;
 mod starting;
-#[cfg(test)]
-mod tests;
 mod world;
 
 pub use refusal::{ReplayRefusal, StepRefusal};
+pub use replaying::is_the_line;
+pub use starting::first_nodes;
 pub use world::World;

@@ -9,7 +9,7 @@ use crate::{ReplayRefusal, StepRefusal};
 use sj_end::Line;
 
 /// Whether there is a line and it is that one.
-fn is_the_line(due: &Option<Line>, line: &Line) -> bool
+pub fn is_the_line(due: &Option<Line>, line: &Line) -> bool
     ensures { IsTrue result ↔ (due.now ≡ Some line.now) }
 {
     match due {

@@ -18,9 +18,9 @@ use sj_plain::{Kept, copied_file};
 use sj_table::Table;
 use std::alloc::Global;
 
-/// The nodes of all parties before any event. Frames carry spots from node to node, so each node has
-/// a copy of one table.
-fn first_nodes(alloc: Global, accepted: &Accepted) -> Result<Vec<Node>, NoMemory>
+/// The nodes of all parties before any event, by the parties' numbers. Frames carry spots from node to
+/// node, so each node has a copy of one table.
+pub fn first_nodes(alloc: Global, accepted: &Accepted) -> Result<Vec<Node>, NoMemory>
     ensures { IfOk result (λ nodes. AreFirst (without_words (file_of (held accepted.now))) nodes.items) }
 {
     let table = Table::compile(alloc, &accepted.file().protocols)?;

@@ -1,6 +1,6 @@
 //! The core world of an accepted file.
-ghost use Rattle.std.specs.Prelude.{◌≡◌, ◌↔◌, ◌<◌, ◌++◌, ◌∷◌, [], None, Some, IfErr, IfOk, IsErrOf, IsTrue, OnErr, OnOk, length, map, max};
-ghost use Rattle.sj_core.specs.Draining.{GoesBy, IsDrained};
+ghost use Rattle.std.specs.Prelude.{◌≡◌, ◌↔◌, ◌<◌, ◌++◌, ◌∷◌, [], None, Some, IfErr, IfOk, IsErrOf, IsTrue, OnErr, OnOk, length, map, max, option_map};
+ghost use Rattle.sj_core.specs.Draining.{BreaksOff, GoesBy, IsDrained};
 ghost use Rattle.sj_core.specs.Nodes.{ComesFrom};
 ghost use Rattle.sj_core.specs.Replaying.{IsRefusedSo};
 ghost use Rattle.sj_core.specs.Views.{event_at, line_at, line_with};
@@ -93,6 +93,15 @@ impl World {
         self.course.replay(lines)
     }
 
+    /// The line that is due for the event at that party; none where it is no step, or names a party that
+    /// the file hasn't.
+    pub fn due(&self, party: u16, event: Event) -> Option<Line>
+        ensures { due (play_of (kept self.now)) max (world_at self.now) party (event_at event)
+            ≡ option_map line_at result }
+    {
+        self.course.due_line(party, event)
+    }
+
     /// What happened so far, in order.
     pub fn history(&self) -> &[Line]
         ensures { map line_at result.now ≡ history_of self.now }
@@ -101,12 +110,14 @@ impl World {
     }
 
     /// Does rounds until one has no event. In a round each party, in order, takes the frames of each
-    /// lane to it until that is empty, and then acts until it can't. Want of memory leaves a world
-    /// that some of these events gave.
+    /// lane to it until that is empty, and then acts until it can't. Without memory it breaks off.
     pub fn drain(&mut self) -> Result<(), NoMemory>
         // The events are those of the rounds, and nothing is left to do.
         ensures drained { OnOk result (GoesBy (IsDrained self.old (party_count self.old)) self.old self.new) }
         ensures quiet { OnOk result (IsQuietAmong (play_of (kept self.new)) (party_count self.new) (world_at self.new)) }
+
+        // Where it breaks off its events are the first of such a drain.
+        ensures err { OnErr result (BreaksOff (IsDrained self.old (party_count self.old)) self.old self.new) }
 
         // What is true of every world, and what no event changes.
         ensures run { IsHistory max (kept self.new) (history_of self.new) (world_at self.new) }

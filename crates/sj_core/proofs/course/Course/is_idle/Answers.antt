@@ -11,16 +11,16 @@ due-requires c =
     let nodes = c.args.self.now.nodes.items in
     low_node c.args.self.now c.requires.reached c.args.party c.index.result.now (slice_get_read nodes (length nodes) c.args.party c.index.result.now refl c.requires.there c.index.ensures)
 
-pub returns-then-is_some : goal.returns-then-is_some
-returns-then-is_some c =
+pub returns-then-can_act : goal.returns-then-can_act
+returns-then-can_act c =
     let nodes = c.args.self.now.nodes.items in
     let there = slice_get_read nodes (length nodes) c.args.party c.index.result.now refl c.requires.there c.index.ensures in (
       λ t. absurd (cc t),
       λ idle. let none : c.due.result ≡ None = c.due.ensures ∙ due_of_still c.args.self.now c.requires.reached c.args.party c.index.result.now there idle.still in absurd (grind (arith, common_steps, none)),
     )
 
-pub returns-then-is_some-2 : goal.returns-then-is_some-2
-returns-then-is_some-2 c =
+pub returns-then-is_some : goal.returns-then-is_some
+returns-then-is_some c =
     let nodes = c.args.self.now.nodes.items in
     let giver = c.index-in-loop-from.result.now in
     let lt : c.loop-from.from < length nodes = omega (arith, c.loop-from-test.true, c.len-from-end.ensures) in
