@@ -1,11 +1,11 @@
 -- The command line on some words.
 use Rattle.std.proofs.Common.{◌≡◌, refl, [], ◌∷◌}
-use Rattle.std.specs.Prelude.{codes, Some, None}
+use Rattle.std.specs.Prelude.{codes, true, false, Some, None}
 use Rattle.clap.specs.declared.error.kind.ErrorKind.TheVariants as kind
 use Rattle.clap.specs.Words.{fault_of}
 use Rattle.clap.proofs.OnLiterals.{clap_on_literals}
 use Rattle.sj_command.specs.CommandLine.{IsTaken, line}
-use Rattle.sj_command.specs.Task.{alone, line_in, logged}
+use Rattle.sj_command.specs.Task.{alone, line_in, running}
 
 pub a_command_alone : line_in (codes "check" ∷ []) ≡ alone (codes "check") None
 unfolding clap_on_literals
@@ -19,9 +19,17 @@ pub a_command_and_a_number : line_in (codes "make" ∷ codes "12" ∷ []) ≡ al
 unfolding clap_on_literals
 a_command_and_a_number = refl
 
-pub a_command_and_the_flag : line_in (codes "run" ∷ codes "--log" ∷ []) ≡ logged (codes "run") None
+pub a_command_and_the_flag : line_in (codes "run" ∷ codes "--log" ∷ []) ≡ running true None
 unfolding clap_on_literals
 a_command_and_the_flag = refl
+
+pub a_command_and_the_option : line_in (codes "run" ∷ codes "--looks" ∷ codes "5" ∷ []) ≡ running false (Some (codes "5"))
+unfolding clap_on_literals
+a_command_and_the_option = refl
+
+pub the_option_has_a_sign : line_in (codes "--looks=5" ∷ codes "run" ∷ []) ≡ running false (Some (codes "5"))
+unfolding clap_on_literals
+the_option_has_a_sign = refl
 
 -- a call for help is refused, and so no command
 pub help_is_no_command : fault_of line (codes "--help" ∷ []) ≡ kind.DisplayHelp ∷ []

@@ -1,19 +1,19 @@
 -- Words ask for one task.
-use Rattle.std.proofs.Common.{◌≡◌, ◌∙◌, ◌≤◌, List, Some, ap, sym, refl, arith}
+use Rattle.std.proofs.Common.{◌≡◌, ◌∙◌, ◌≤◌, ℕ, Bool, List, Option, Some, None, ap, ap₂, sym, refl, arith}
 use Rattle.std.specs.Prelude.{codes, decimal, true, false}
 use Rattle.std.specs.Str.{bytes_eq}
 use Rattle.std.proofs.lemmas.Fmt.{decimal_injective}
 use Rattle.clap.specs.Words.{Text}
 use Rattle.sj_command.specs.declared.tasks.Task.{Task}
 use Rattle.sj_command.specs.declared.tasks.Task.TheVariants.{Check, Show, Sim, Run, Make}
-use Rattle.sj_command.specs.Task.{Asks, LineAt, Means, running}
+use Rattle.sj_command.specs.Task.{Asks, LineAt, Means, StandsForLooks, flag_text}
 
 -- the name of a task's command
 abbrev name_of : Task → Text
 name_of Check = codes "check"
 name_of Show = codes "show"
 name_of Sim = codes "sim"
-name_of (Run log) = codes "run"
+name_of (Run log looks) = codes "run"
 name_of (Make n) = codes "make"
 
 -- a line that asks for a task has its name
@@ -21,8 +21,7 @@ named : (l : LineAt) (t : Task) → Means l t → l.command ≡ Some (name_of t)
 named l Check m = ap (λ k. k.command) m
 named l Show m = ap (λ k. k.command) m
 named l Sim m = ap (λ k. k.command) m
-named l (Run false) m = ap (λ k. k.command) m
-named l (Run true) m = ap (λ k. k.command) m
+named l (Run log looks) m = ap (λ k. k.command) m.0
 named l (Make n) m = ap (λ k. k.command) m.0
 
 -- names that differ are not those of one line
@@ -36,48 +35,60 @@ differ l x y off same e d =
 apart : (l : LineAt) (t u : Task) → bytes_eq (name_of t) (name_of u) ≡ false → bytes_eq (name_of t) (name_of t) ≡ true → Means l t → Means l u → ⊥
 apart l t u off same m n = differ l (name_of t) (name_of u) off same (named l t m) (named l u n)
 
--- a line has the flag or not
-one_flag : (l : LineAt) → l ≡ running false → l ≡ running true → ⊥
-one_flag l e d =
-    let both : Some (codes "false") ≡ Some (codes "true") = sym (ap (λ k. k.log) e) ∙ ap (λ k. k.log) d in
+-- the two texts of a flag differ
+flags_differ : Some (codes "false") ≡ Some (codes "true") → ⊥
+flags_differ e =
     let one : codes "false" ≡ codes "true" = cc in
     let bad : true ≡ false = ap (bytes_eq (codes "false")) one in
     cc
+
+-- a line has the flag or not
+one_flag : (f g : Bool) → Some (flag_text f) ≡ Some (flag_text g) → f ≡ g
+one_flag false false e = refl
+one_flag false true e = absurd (flags_differ e)
+one_flag true false e = absurd (flags_differ (sym e))
+one_flag true true e = refl
+
+-- two numbers up to a million that are written alike are one
+one_number : (m n : ℕ) → m ≤ 1000000 → n ≤ 1000000 → decimal m ≡ decimal n → m ≡ n
+one_number m n p q e = decimal_injective m n (omega arith) (omega arith) e
+
+-- the option stands for one number of looks
+one_count : (option : Option Text) (m n : ℕ) → StandsForLooks option m → StandsForLooks option n → m ≡ n
+one_count None m n a b = a ∙ sym b
+one_count (Some text) m n a b = one_number m n a.1 b.1 (sym a.0 ∙ b.0)
 
 pub one_of_line : (l : LineAt) (t u : Task) → Means l t → Means l u → t ≡ u
 one_of_line l Check Check a b = refl
 one_of_line l Check Show a b = absurd (apart l Check Show refl refl a b)
 one_of_line l Check Sim a b = absurd (apart l Check Sim refl refl a b)
-one_of_line l Check (Run g) a b = absurd (apart l Check (Run g) refl refl a b)
+one_of_line l Check (Run g y) a b = absurd (apart l Check (Run g y) refl refl a b)
 one_of_line l Check (Make m) a b = absurd (apart l Check (Make m) refl refl a b)
 one_of_line l Show Check a b = absurd (apart l Show Check refl refl a b)
 one_of_line l Show Show a b = refl
 one_of_line l Show Sim a b = absurd (apart l Show Sim refl refl a b)
-one_of_line l Show (Run g) a b = absurd (apart l Show (Run g) refl refl a b)
+one_of_line l Show (Run g y) a b = absurd (apart l Show (Run g y) refl refl a b)
 one_of_line l Show (Make m) a b = absurd (apart l Show (Make m) refl refl a b)
 one_of_line l Sim Check a b = absurd (apart l Sim Check refl refl a b)
 one_of_line l Sim Show a b = absurd (apart l Sim Show refl refl a b)
 one_of_line l Sim Sim a b = refl
-one_of_line l Sim (Run g) a b = absurd (apart l Sim (Run g) refl refl a b)
+one_of_line l Sim (Run g y) a b = absurd (apart l Sim (Run g y) refl refl a b)
 one_of_line l Sim (Make m) a b = absurd (apart l Sim (Make m) refl refl a b)
-one_of_line l (Run f) Check a b = absurd (apart l (Run f) Check refl refl a b)
-one_of_line l (Run f) Show a b = absurd (apart l (Run f) Show refl refl a b)
-one_of_line l (Run f) Sim a b = absurd (apart l (Run f) Sim refl refl a b)
-one_of_line l (Run false) (Run false) a b = refl
-one_of_line l (Run false) (Run true) a b = absurd (one_flag l a b)
-one_of_line l (Run true) (Run false) a b = absurd (one_flag l b a)
-one_of_line l (Run true) (Run true) a b = refl
-one_of_line l (Run f) (Make m) a b = absurd (apart l (Run f) (Make m) refl refl a b)
+one_of_line l (Run f x) Check a b = absurd (apart l (Run f x) Check refl refl a b)
+one_of_line l (Run f x) Show a b = absurd (apart l (Run f x) Show refl refl a b)
+one_of_line l (Run f x) Sim a b = absurd (apart l (Run f x) Sim refl refl a b)
+one_of_line l (Run f x) (Run g y) a b = ap₂ Run (one_flag f g (sym (ap (λ k. k.log) a.0) ∙ ap (λ k. k.log) b.0)) (one_count l.looks x y a.1 b.1)
+one_of_line l (Run f x) (Make m) a b = absurd (apart l (Run f x) (Make m) refl refl a b)
 one_of_line l (Make n) Check a b = absurd (apart l (Make n) Check refl refl a b)
 one_of_line l (Make n) Show a b = absurd (apart l (Make n) Show refl refl a b)
 one_of_line l (Make n) Sim a b = absurd (apart l (Make n) Sim refl refl a b)
-one_of_line l (Make n) (Run g) a b = absurd (apart l (Make n) (Run g) refl refl a b)
+one_of_line l (Make n) (Run g y) a b = absurd (apart l (Make n) (Run g y) refl refl a b)
 one_of_line l (Make n) (Make m) a b =
     let both : Some (decimal n) ≡ Some (decimal m) = sym (ap (λ k. k.number) a.0) ∙ ap (λ k. k.number) b.0 in
     let digits : decimal n ≡ decimal m = cc in
     let few : n ≤ 1000 = a.2 in
     let few_too : m ≤ 1000 = b.2 in
-    ap (λ k. Make k) (decimal_injective n m (omega arith) (omega arith) digits)
+    ap (λ k. Make k) (one_number n m (omega arith) (omega arith) digits)
 
 -- the words ask for one task
 pub one_task : (words : List Text) (t u : Task) → Asks words t → Asks words u → t ≡ u

@@ -1,5 +1,5 @@
 -- What words ask for.
-use Rattle.std.specs.Prelude.{◌≡◌, ◌≤◌, Bool, true, false, List, Option, Some, None, codes, decimal}
+use Rattle.std.specs.Prelude.{◌≡◌, ◌≤◌, ℕ, Bool, true, false, List, Option, Some, None, codes, decimal}
 use Rattle.clap.specs.Words.{Text}
 use Rattle.sj_command.specs.declared.tasks.Task.{Task}
 use Rattle.sj_command.specs.declared.tasks.Task.TheVariants.{Check, Show, Sim, Run, Make}
@@ -16,21 +16,34 @@ pub record LineAt : Type 0 where
 abbrev pub alone : Text → Option Text → LineAt
 alone name number = record { command = Some name; number = number; log = Some (codes "false"); looks = None }
 
--- the same with the flag that asks for the history
-abbrev pub logged : Text → Option Text → LineAt
-logged name number = record (alone name number) { log = Some (codes "true") }
+-- what a line has of a flag
+abbrev pub flag_text : (given : Bool) → Text
+flag_text false = codes "false"
+flag_text true = codes "true"
 
--- `run`, with that flag or without it
-abbrev pub running : (log : Bool) → LineAt
-running false = alone (codes "run") None
-running true = logged (codes "run") None
+-- `run`, with that flag or without it, and with that option or without it
+abbrev pub running : (log : Bool) (looks : Option Text) → LineAt
+running log looks = record { command = Some (codes "run"); number = None; log = Some (flag_text log); looks = looks }
+
+-- the looks of a line without the option
+abbrev pub usual_looks : ℕ
+usual_looks = 1000
+
+-- the most looks
+abbrev pub most_looks : ℕ
+most_looks = 1000000
+
+-- the option, or its absence, stands for that many looks
+abbrev pub StandsForLooks : Option Text → ℕ → Type 0
+StandsForLooks None looks = looks ≡ usual_looks
+StandsForLooks (Some text) looks = (text ≡ decimal looks) × (looks ≤ most_looks)
 
 -- the line asks for that
 abbrev pub Means : LineAt → Task → Type 0
 Means line Check = line ≡ alone (codes "check") None
 Means line Show = line ≡ alone (codes "show") None
 Means line Sim = line ≡ alone (codes "sim") None
-Means line (Run log) = line ≡ running log
+Means line (Run log looks) = (line ≡ running log line.looks) × StandsForLooks line.looks looks
 Means line (Make n) = (line ≡ alone (codes "make") (Some (decimal n))) × (1 ≤ n) × (n ≤ 1000)
 
 -- the line that the words are

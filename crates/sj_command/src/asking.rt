@@ -1,9 +1,9 @@
 //! What the words of a call ask for.
-ghost use Rattle.std.specs.Prelude.{◌≡◌, ◌↔◌, IsTrue, map, string_bytes, Some, None, Ok, option_map, codes, IfOk, IfSome};
-ghost use Rattle.sj_command.specs.Task.{Asks, IsUsage, Means, alone, logged};
+ghost use Rattle.std.specs.Prelude.{◌≡◌, Bool, map, string_bytes, Some, None, Ok, option_map, codes, IfOk, IfSome};
+ghost use Rattle.sj_command.specs.Task.{Asks, IsUsage, Means, alone, flag_text};
 ghost use Rattle.sj_command.specs.declared.tasks.Task.{Task as Asked};
 
-use crate::counts::count_in;
+use crate::counts::{count_in, looks_in};
 use crate::line::matches_in;
 use crate::tasks::Task;
 use sj_base::NoMemory;
@@ -17,50 +17,83 @@ pub fn task_in(alloc: Global, words: &[String]) -> Result<Option<Task>, NoMemory
     let Some(matches) = matches_in(alloc, words)? else {
         return Ok(None);
     };
+    let command = matches.get_str("command");
     let number = matches.get_str("number");
     let log = matches.get_str("log");
-    match matches.get_str("command") {
-        Some(_) if matches.get_str("looks").is_some() => Ok(None),
-        Some(name) if is_false(log) => Ok(task_named(name, number)),
-        Some(name) if is_true(log) => Ok(task_logged(name, number)),
-        _ => Ok(None),
-    }
+    let looks = matches.get_str("looks");
+    Ok(task_of(command, number, log, looks))
 }
 
-// The flag isn't there.
-fn is_false(flag: Option<&str>) -> bool
-    ensures { IsTrue result ↔ (option_map (λ s. s.now) flag.entry ≡ Some (codes "false")) }
+// The task of a line.
+fn task_of(
+    command: Option<&str>,
+    number: Option<&str>,
+    log: Option<&str>,
+    looks: Option<&str>,
+) -> Option<Task>
+    ensures some { IfSome result (Means (record {
+      command = option_map (λ s. s.now) command.entry;
+      number = option_map (λ s. s.now) number.entry;
+      log = option_map (λ s. s.now) log.entry;
+      looks = option_map (λ s. s.now) looks.entry;
+    })) }
+    ensures none { result ≡ None → (t : Asked) → Means (record {
+      command = option_map (λ s. s.now) command.entry;
+      number = option_map (λ s. s.now) number.entry;
+      log = option_map (λ s. s.now) log.entry;
+      looks = option_map (λ s. s.now) looks.entry;
+    }) t → ⊥ }
 {
-    match flag {
-        Some(text) => text.as_bytes() == b"false".as_slice(),
-        None => false,
+    let name = command?;
+    if name.as_bytes() == b"run".as_slice() {
+        return run_in(number, log, looks);
     }
-}
-
-// The flag is there.
-fn is_true(flag: Option<&str>) -> bool
-    ensures { IsTrue result ↔ (option_map (λ s. s.now) flag.entry ≡ Some (codes "true")) }
-{
-    match flag {
-        Some(text) => text.as_bytes() == b"true".as_slice(),
-        None => false,
-    }
-}
-
-// The task of that name that prints a history too, with no number.
-fn task_logged(name: &str, number: Option<&str>) -> Option<Task>
-    ensures some { IfSome result (Means (logged name.entry.now (option_map (λ s. s.now) number.entry))) }
-    ensures none { result ≡ None → (t : Asked)
-        → Means (logged name.entry.now (option_map (λ s. s.now) number.entry)) t → ⊥ }
-{
-    match number {
-        None if name.as_bytes() == b"run".as_slice() => Some(Task::Run { log: true }),
+    match (flag_in(log), looks) {
+        (Some(false), None) => task_named(name, number),
         _ => None,
     }
 }
 
-// The task of that name and number, with no option.
+// `run` with that number, that flag and that option.
+fn run_in(number: Option<&str>, log: Option<&str>, looks: Option<&str>) -> Option<Task>
+    ensures some { IfSome result (Means (record {
+      command = Some (codes "run");
+      number = option_map (λ s. s.now) number.entry;
+      log = option_map (λ s. s.now) log.entry;
+      looks = option_map (λ s. s.now) looks.entry;
+    })) }
+    ensures none { result ≡ None → (t : Asked) → Means (record {
+      command = Some (codes "run");
+      number = option_map (λ s. s.now) number.entry;
+      log = option_map (λ s. s.now) log.entry;
+      looks = option_map (λ s. s.now) looks.entry;
+    }) t → ⊥ }
+{
+    match (number, flag_in(log), looks_in(looks)) {
+        (None, Some(log), Some(looks)) => Some(Task::Run { log, looks }),
+        _ => None,
+    }
+}
+
+// Whether the flag is there.
+fn flag_in(flag: Option<&str>) -> Option<bool>
+    ensures some { IfSome result (λ b. option_map (λ s. s.now) flag.entry ≡ Some (flag_text b)) }
+    ensures none { result ≡ None → (b : Bool)
+        → option_map (λ s. s.now) flag.entry ≡ Some (flag_text b) → ⊥ }
+{
+    let text = flag?.as_bytes();
+    if text == b"false".as_slice() {
+        Some(false)
+    } else if text == b"true".as_slice() {
+        Some(true)
+    } else {
+        None
+    }
+}
+
+// The task of another name and that number, with no option.
 fn task_named(name: &str, number: Option<&str>) -> Option<Task>
+    requires other { name.now ≡ codes "run" → ⊥ }
     ensures some { IfSome result (Means (alone name.entry.now (option_map (λ s. s.now) number.entry))) }
     ensures none { result ≡ None → (t : Asked)
         → Means (alone name.entry.now (option_map (λ s. s.now) number.entry)) t → ⊥ }
@@ -74,8 +107,9 @@ fn task_named(name: &str, number: Option<&str>) -> Option<Task>
     }
 }
 
-// The task of that name, with no number.
+// The task of another name, with no number.
 fn task_alone(name: &[u8]) -> Option<Task>
+    requires other { name.now ≡ codes "run" → ⊥ }
     ensures some { IfSome result (Means (alone name.now None)) }
     ensures none { result ≡ None → (t : Asked) → Means (alone name.now None) t → ⊥ }
 {
@@ -85,8 +119,6 @@ fn task_alone(name: &[u8]) -> Option<Task>
         Some(Task::Show)
     } else if name == b"sim".as_slice() {
         Some(Task::Sim)
-    } else if name == b"run".as_slice() {
-        Some(Task::Run { log: false })
     } else {
         None
     }

@@ -1,16 +1,49 @@
-//! The number behind a command.
-ghost use Rattle.std.specs.Prelude.{◌≡◌, ◌≤◌, ℕ, IfSome, None, decimal};
+//! Numbers among the words: decimal digits without a leading zero.
+ghost use Rattle.std.specs.Prelude.{◌≡◌, ◌≤◌, ℕ, IfSome, None, decimal, option_map};
+ghost use Rattle.sj_command.specs.Task.{StandsForLooks};
 
 use itoa::Buffer;
 
-/// The number from 1 to 1,000 that the text is: decimal digits without a leading zero.
+/// The most messages in each loop.
+const MOST_MESSAGES: u32 = 1000;
+
+/// The looks where no word tells how many.
+const USUAL_LOOKS: u32 = 1000;
+
+/// The most looks.
+const MOST_LOOKS: u32 = 1_000_000;
+
+/// The number of messages, from 1 to 1,000, that the text is.
 pub(crate) fn count_in(text: &str) -> Option<u16>
     ensures some { IfSome result (λ n. (text.now ≡ decimal n) × (1 ≤ n) × (n ≤ 1000)) }
     ensures none { result ≡ None → (n : ℕ) → 1 ≤ n → n ≤ 1000 → text.now ≡ decimal n → ⊥ }
 {
-    match text.parse::<u16>() {
+    match number_in(text, 1, MOST_MESSAGES) {
+        Some(n) => Some(n as u16),
+        None => None,
+    }
+}
+
+/// The number of looks that the option, or its absence, stands for.
+pub(crate) fn looks_in(option: Option<&str>) -> Option<u32>
+    ensures some { IfSome result (StandsForLooks (option_map (λ s. s.now) option.entry)) }
+    ensures none { result ≡ None → (n : ℕ)
+        → StandsForLooks (option_map (λ s. s.now) option.entry) n → ⊥ }
+{
+    match option {
+        None => Some(USUAL_LOOKS),
+        Some(text) => number_in(text, 0, MOST_LOOKS),
+    }
+}
+
+// The number within these bounds that the text is.
+fn number_in(text: &str, least: u32, most: u32) -> Option<u32>
+    ensures some { IfSome result (λ n. (text.now ≡ decimal n) × (least ≤ n) × (n ≤ most)) }
+    ensures none { result ≡ None → (n : ℕ) → least ≤ n → n ≤ most → text.now ≡ decimal n → ⊥ }
+{
+    match text.parse::<u32>() {
         // Other spellings of a number are read too, as `01` and `+1`.
-        Ok(n) if 1 <= n && n <= 1000 && Buffer::new().format(n) == text => Some(n),
+        Ok(n) if least <= n && n <= most && Buffer::new().format(n) == text => Some(n),
         _ => None,
     }
 }

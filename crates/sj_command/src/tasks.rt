@@ -10,7 +10,8 @@ pub enum Task {
     /// Runs a file in the plain world and prints the transcript.
     Sim,
     /// Runs a file and prints the transcript, and behind it the history where a log is asked for.
-    Run { log: bool },
+    /// A party that finds nothing to do looks again so many times, from 0 to 1,000,000.
+    Run { log: bool, looks: u32 },
     /// Prints the generated file with this many messages in each loop, from 1 to 1,000.
     Make(u16),
 }

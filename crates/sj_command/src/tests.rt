@@ -11,16 +11,26 @@ fn asked(alloc: Global, words: &[&str]) -> Result<Option<Task>, Fail> {
     Ok(task_in(alloc, &owned)?)
 }
 
+fn run(log: bool, looks: u32) -> Task {
+    Task::Run { log, looks }
+}
+
 #[test]
 fn words_of_commands(rt: HostRuntime) -> Result<(), Fail> {
-    let rows: [(&[&str], Task); 11] = [
+    let rows: [(&[&str], Task); 17] = [
         (&["check"], Task::Check),
         (&["show"], Task::Show),
         (&["sim"], Task::Sim),
-        (&["run"], Task::Run { log: false }),
-        (&["--", "run"], Task::Run { log: false }),
-        (&["run", "--log"], Task::Run { log: true }),
-        (&["--log", "run"], Task::Run { log: true }),
+        (&["run"], run(false, 1000)),
+        (&["--", "run"], run(false, 1000)),
+        (&["run", "--log"], run(true, 1000)),
+        (&["--log", "run"], run(true, 1000)),
+        (&["run", "--looks", "0"], run(false, 0)),
+        (&["run", "--looks=5"], run(false, 5)),
+        (&["--looks", "7", "run"], run(false, 7)),
+        (&["run", "--looks", "1000000"], run(false, 1_000_000)),
+        (&["run", "--log", "--looks", "5"], run(true, 5)),
+        (&["--looks=1000", "--log", "run"], run(true, 1000)),
         (&["make", "1"], Task::Make(1)),
         (&["make", "10"], Task::Make(10)),
         (&["make", "--", "999"], Task::Make(999)),
@@ -34,7 +44,7 @@ fn words_of_commands(rt: HostRuntime) -> Result<(), Fail> {
 
 #[test]
 fn words_of_no_command(rt: HostRuntime) -> Result<(), Fail> {
-    let rows: [&[&str]; 26] = [
+    let rows: [&[&str]; 45] = [
         &[],
         &[""],
         &["fly"],
@@ -44,9 +54,28 @@ fn words_of_no_command(rt: HostRuntime) -> Result<(), Fail> {
         &["sim", "--log"],
         &["run", "--log", "--log"],
         &["run", "--log", "5"],
-        &["run", "--looks", "5"],
-        &["run", "--looks=5"],
         &["run", "--looks"],
+        &["run", "--looks", ""],
+        &["run", "--looks="],
+        &["run", "--looks", "many"],
+        &["run", "--looks", "01"],
+        &["run", "--looks", "00"],
+        &["run", "--looks", "-1"],
+        &["run", "--looks=-1"],
+        &["run", "--looks", "+5"],
+        &["run", "--looks", " 5"],
+        &["run", "--looks", "1000001"],
+        &["run", "--looks", "4294967301"],
+        &["run", "--looks", "5", "--looks", "5"],
+        &["run", "--looks", "5", "5"],
+        &["run", "--log", "--looks", "5", "--log"],
+        &["check", "--looks", "5"],
+        &["show", "--looks", "5"],
+        &["sim", "--looks", "5"],
+        &["sim", "--log", "--looks", "5"],
+        &["make", "--looks", "5"],
+        &["make", "1", "--looks", "5"],
+        &["--looks", "5"],
         &["make"],
         &["make", "0"],
         &["make", "01"],
