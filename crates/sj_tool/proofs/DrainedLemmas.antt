@@ -1,5 +1,5 @@
--- A core world that was drained from the start of its file on.
-use Rattle.std.proofs.Common.{◌≡◌, ◌∙◌, ℕ, max, List, [], ◌++◌, map, length, ap, sym, subst, refl}
+-- A core world that the parties of a file left, and what was drained of it.
+use Rattle.std.proofs.Common.{◌≡◌, ◌∙◌, ℕ, max, true, List, ◌++◌, map, length, sym, subst}
 use Rattle.std.specs.Prelude.{Bool}
 use Rattle.sj_lang.specs.FileAt.{FileAt}
 use Rattle.sj_lang.specs.Place.{Place}
@@ -20,39 +20,52 @@ use Rattle.sj_rules.specs.Start.{core_start}
 use Rattle.sj_rules.specs.World.{WorldAt}
 use Rattle.sj_joined_laws.proofs.HistoryLemmas.{log_runs}
 use Rattle.sj_rules_laws.proofs.RunLawsLemmas.{quiet_run_ends}
+use Rattle.sj_core.proofs.FirstLemmas.{core_start_same}
 use Rattle.sj_core.proofs.LawLemmas.{max_picks}
-use Rattle.sj_tool.specs.Runs.{HasDrained, HasRun, actors, log_part}
+use Rattle.sj_run.specs.Shown.{IsShown}
+use Rattle.sj_tool.specs.Calls.{LinkUseAt}
+use Rattle.sj_tool.specs.Runs.{HasHistory, HasRun, actors, log_part}
 
-module _ (file first kept : FileAt) (of_file : first ≡ without_words file) (same : kept ≡ first) (n m : ℕ) (start core : WorldAt Place Program) (before lines history : List LineAt) where
-  -- what was drained from the start on
-  pub drained_has : n ≡ length first.parties → m ≡ length kept.parties → before ≡ [] → start ≡ core_start file → history ≡ before ++ lines
-      → IsHistory max kept history core → IsDrained (play_of first) max n start (map turn_of lines) core → IsQuietAmong (play_of kept) m core → HasDrained file history core
-  drained_has all those none begins listed run drained quiet =
-      let ls : lines ≡ history = sym (listed ∙ ap (λ t. t ++ lines) none) in
-      let by : IsDrained (play_of first) max (length first.parties) start (map turn_of history) core =
-      subst (λ (t : List LineAt). IsDrained (play_of first) max (length first.parties) start (map turn_of t) core) ls
-      (subst (λ (k : ℕ). IsDrained (play_of first) max k start (map turn_of lines) core) all drained) in
+-- a history of what is kept of a file is one of the file
+kept_history : (file kept : FileAt) (lines : List LineAt) (w : WorldAt Place Program) → kept ≡ without_words file → IsHistory max kept lines w → IsHistory max file lines w
+kept_history file kept lines w is h =
+    subst (λ (start : WorldAt Place Program). Rattle.sj_rules.specs.History.IsLog (play_of file) max start lines w) (core_start_same file)
+    (subst (λ (f : FileAt). IsHistory max f lines w) is h)
+
+module _ (links : LinkUseAt) (looks : ℕ) (file first kept : FileAt) (of_file : first ≡ without_words file) (same : kept ≡ first) (n m : ℕ) (left core : WorldAt Place Program)
+    (lines more history : List LineAt) where
+  -- what the parties left, and what was drained of it
+  pub drained_has : n ≡ length first.parties → m ≡ length kept.parties → history ≡ lines ++ more → IsHistory max first lines left → (links.tells ≡ true → IsShown file looks links.keeps lines left)
+      → IsHistory max kept history core → IsDrained (play_of first) max n left (map turn_of more) core → IsQuietAmong (play_of kept) m core → HasHistory links looks file history core
+  drained_has all those listed parties shown run drained quiet =
+      let by : IsDrained (play_of first) max (length first.parties) left (map turn_of more) core =
+      subst (λ (k : ℕ). IsDrained (play_of first) max k left (map turn_of more) core) all drained in
       let rest : IsQuietAmong (play_of kept) (length kept.parties) core = subst (λ (k : ℕ). IsQuietAmong (play_of kept) k core) those quiet in
       let whole = same ∙ of_file in
       record {
-        run = subst (λ (f : FileAt). IsHistory max f history core) whole run;
-        drained =
-            subst (λ (w : WorldAt Place Program). IsDrained (play_of file) max (length file.parties) w (map turn_of history) core) begins
-            (subst (λ (f : FileAt). IsDrained (play_of f) max (length f.parties) start (map turn_of history) core) of_file by);
+        lines = lines;
+        left = left;
+        parties = kept_history file first lines left of_file parties;
+        shown = shown;
+        more = more;
+        all = listed;
+        drained = subst (λ (f : FileAt). IsDrained (play_of f) max (length f.parties) left (map turn_of more) core) of_file by;
+        run = kept_history file kept history core whole run;
         quiet = subst (λ (f : FileAt). IsQuietAmong (play_of f) (length f.parties) core) whole rest;
       }
 
-module _ (file : FileAt) (accepted : IsAccepted file) (history : List LineAt) (core : WorldAt Place Program) (has : HasDrained file history core) where
+module _ (links : LinkUseAt) (looks : ℕ) (file : FileAt) (accepted : IsAccepted file) (history : List LineAt) (core : WorldAt Place Program) (has : HasHistory links looks file history core) where
   -- its acts lead to the end of the file
   pub drained_ends : IsRun file (actors history) (end_of file)
   drained_ends = (quiet_run_ends file accepted (map turn_of history) core (log_runs (play_of file) max max_picks history (core_start file) core has.run) has.quiet).0
 
   -- so what is told of that end is what a run answers
-  pub drained_runs : (log : Bool) (w : World) (v : Verdict) (text : List ℕ) → w ≡ end_of file → v ≡ verdict_of w → text ≡ transcript_of file w ++ log_part log file history → HasRun log file v text
+  pub drained_runs : (log : Bool) (w : World) (v : Verdict) (text : List ℕ) → w ≡ end_of file → v ≡ verdict_of w → text ≡ transcript_of file w ++ log_part log file history
+      → HasRun links log looks file v text
   drained_runs log w v text is_end stands printed = record {
     history = history;
     core = core;
-    drained = has;
+    has = has;
     end = w;
     acts = subst (λ (x : World). IsRun file (actors history) x) (sym is_end) drained_ends;
     settled = subst IsSettled (sym is_end) (end_is_settled file);

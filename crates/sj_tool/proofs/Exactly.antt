@@ -1,20 +1,21 @@
 -- What the table gives is answered, where the source tells.
-use Rattle.std.proofs.Common.{◌≡◌, ◌∙◌, ℕ, List, Option, Some, None, IfSome, ap, refl, inl}
+use Rattle.std.proofs.Common.{◌≡◌, ℕ, List, Option, Some, None, IfSome, refl, inl}
 use Rattle.sj_base.specs.Stream.{put_behind}
 use Rattle.sj_tool.specs.declared.answers.Answer.{Answer}
 use Rattle.sj_tool.specs.Texts.{status_of, text_of}
-use Rattle.sj_tool.specs.Answers.{CallAt, Comes, Answers, NoFaultAbove, OrYields}
+use Rattle.sj_tool.specs.Answers.{Comes, NoFaultAbove, OrYields}
+use Rattle.sj_tool.specs.Calls.{CallAt, LinkUseAt}
+use Rattle.sj_tool.specs.Table.{AnswersAs}
 use Rattle.sj_tool.proofs.Rows.{one_comes}
 
-abbrev pub call_at : List (List ℕ) → Option (List ℕ) → Option (List ℕ) → ℕ → ℕ → CallAt
-call_at words left after f g = record { words = words; left = left; left_after = after; faults = f; faults_after = g }
+abbrev pub call_at : List (List ℕ) → Option (List ℕ) → Option (List ℕ) → ℕ → ℕ → LinkUseAt → CallAt
+call_at words left after f g links = record { words = words; left = left; left_after = after; faults = f; faults_after = g; links = links }
 
-pub answered_exactly : (words : List (List ℕ)) (left after : Option (List ℕ)) (f g : ℕ) (a : Answer) (status : ℕ) (before now : Option (List ℕ))
-    → Comes (call_at words left after f g) a → status ≡ status_of a → now ≡ put_behind before (text_of a)
-    → IfSome left (λ _. (b : Answer) → Comes (call_at words left after f g) b → NoFaultAbove (call_at words left after f g) b
-    → OrYields status (Answers (call_at words left after f g) status before now b))
-answered_exactly words None after f g a status before now comes e d = tt {0}
-answered_exactly words (Some left) after f g a status before now comes e d =
+pub answered_exactly : (words : List (List ℕ)) (left after : Option (List ℕ)) (f g : ℕ) (links : LinkUseAt) (a : Answer) (status : ℕ) (before now : Option (List ℕ))
+    → Comes (call_at words left after f g links) a → status ≡ status_of a → now ≡ put_behind before (text_of a)
+    → IfSome left (λ _. (b : Answer) → Comes (call_at words left after f g links) b → NoFaultAbove (call_at words left after f g links) b
+    → OrYields status (AnswersAs (call_at words left after f g links) status before now b))
+answered_exactly words None after f g links a status before now comes e d = tt {0}
+answered_exactly words (Some left) after f g links a status before now comes e d =
     λ b other above.
-    let one = one_comes (call_at words (Some left) after f g) left refl a b comes other above in
-    inl (e ∙ one.status, d ∙ ap (put_behind before) one.text)
+    inl (record { answer = a; one = one_comes (call_at words (Some left) after f g links) left refl a b comes other above; answers = (e, d) })

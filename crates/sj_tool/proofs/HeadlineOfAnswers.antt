@@ -16,8 +16,9 @@ use Rattle.sj_command.specs.declared.tasks.Task.{Task}
 use Rattle.sj_command.specs.declared.tasks.Task.TheVariants as tasks
 use Rattle.sj_command.proofs.OneTask.{one_task}
 use Rattle.sj_tool.specs.declared.answers.Answer.{Answer}
-use Rattle.sj_tool.specs.declared.answers.Answer.TheVariants.{Usage, ReadFault, TooLarge, Syntax, Check, Ran, Printed, Made}
-use Rattle.sj_tool.specs.Answers.{CallAt, AsksFor, Plays, Prints, Makes, Comes}
+use Rattle.sj_tool.specs.declared.answers.Answer.TheVariants.{Usage, ReadFault, TooLarge, Syntax, Check, LinkFault, Damaged, Ran, Printed, Made}
+use Rattle.sj_tool.specs.Answers.{AsksFor, Plays, Prints, Makes, Comes}
+use Rattle.sj_tool.specs.Calls.{CallAt, LinkUseAt}
 use Rattle.sj_tool.specs.Headline.{IsLogging, IsPlaying, IsVerdict, HasHeadline}
 use Rattle.sj_tool.specs.Runs.{log_part}
 use Rattle.sj_tool.specs.Texts.{status_of, text_of, verdict_status}
@@ -36,18 +37,18 @@ record IsPlayedSo (task : Task) (file : FileAt) (verdict : Verdict) (text : List
   printed : text ≡ transcript_of file (end_of file) ++ behind
   bare : (IsLogging task → ⊥) → behind ≡ []
 
-played_so : (task : Task) (file : FileAt) (v : Verdict) (text : List ℕ) → Plays task file v text → IsPlayedSo task file v text
-played_so tasks.Check file v text p = absurd p
-played_so tasks.Show file v text p = absurd p
-played_so (tasks.Make n) file v text p = absurd p
-played_so tasks.Sim file v text p = record { behind = []; stands = p.0; printed = p.1 ∙ sym (append-nil (transcript_of file (end_of file))); bare = λ no. refl }
-played_so (tasks.Run false) file v text p = record {
+played_so : (links : LinkUseAt) (task : Task) (file : FileAt) (v : Verdict) (text : List ℕ) → Plays links task file v text → IsPlayedSo task file v text
+played_so links tasks.Check file v text p = absurd p
+played_so links tasks.Show file v text p = absurd p
+played_so links (tasks.Make n) file v text p = absurd p
+played_so links tasks.Sim file v text p = record { behind = []; stands = p.0; printed = p.1 ∙ sym (append-nil (transcript_of file (end_of file))); bare = λ no. refl }
+played_so links (tasks.Run false looks) file v text p = record {
   behind = [];
   stands = p.stands ∙ ap verdict_of p.is_end;
   printed = p.printed ∙ ap (λ w. transcript_of file w ++ []) p.is_end;
   bare = λ no. refl;
 }
-played_so (tasks.Run true) file v text p = record {
+played_so links (tasks.Run true looks) file v text p = record {
   behind = log_part true file p.history;
   stands = p.stands ∙ ap verdict_of p.is_end;
   printed = p.printed ∙ ap (λ w. transcript_of file w ++ log_part true file p.history) p.is_end;
@@ -70,7 +71,7 @@ beyond Long n above e = omega (arith, above, e)
 
 prints_none : (task : Task) (file : FileAt) (text : List ℕ) → IsPlaying task → Prints task file text → ⊥
 prints_none tasks.Sim file text plays p = p
-prints_none (tasks.Run log) file text plays p = p
+prints_none (tasks.Run log looks) file text plays p = p
 prints_none tasks.Check file text plays p = plays
 prints_none tasks.Show file text plays p = plays
 prints_none (tasks.Make n) file text plays p = plays
@@ -85,10 +86,12 @@ module _ (c : CallAt) (status : ℕ) (before after : Option (List ℕ)) (verdict
   answer_has_it TooLarge x e d = absurd (no_refusal verdict.0 status (omega (arith, e)) (omega (arith, e)) verdict.1)
   answer_has_it (Syntax f) x e d = absurd (no_refusal verdict.0 status (omega (arith, e)) (omega (arith, e)) verdict.1)
   answer_has_it (Check r l) x e d = absurd (no_refusal verdict.0 status (omega (arith, e)) (omega (arith, e)) verdict.1)
+  answer_has_it LinkFault x e d = absurd (beyond verdict.0 status (omega (arith, e)) verdict.1)
+  answer_has_it (Damaged t) x e d = absurd (beyond verdict.0 status (omega (arith, e)) verdict.1)
   answer_has_it (Ran v t) x e d =
       let file = x.answers.file in
       let a = x.answers.answers in
-      let p = played_so x.task file v t.items a.1 in
+      let p = played_so c.links x.task file v t.items a.1 in
       let h = end_has_it file a.0 in
       record {
         bytes = x.bytes;
@@ -110,10 +113,10 @@ module _ (c : CallAt) (status : ℕ) (before after : Option (List ℕ)) (verdict
   answer_has_it (Made t) x e d = absurd (makes_none c t.items plays x)
 
 -- the answer that is written has it
-pub answered_headline : (words : List (List ℕ)) (left after : Option (List ℕ)) (f g : ℕ) (a : Answer) (status : ℕ) (before now : Option (List ℕ))
-    → Comes (call_at words left after f g) a → status ≡ status_of a → now ≡ put_behind before (text_of a)
-    → IsVerdict status → AsksFor IsPlaying (call_at words left after f g) → HasHeadline (call_at words left after f g) status before now
-answered_headline words left after f g a status before now comes e d verdict plays = answer_has_it (call_at words left after f g) status before now verdict plays a comes e d
+pub answered_headline : (words : List (List ℕ)) (left after : Option (List ℕ)) (f g : ℕ) (links : LinkUseAt) (a : Answer) (status : ℕ) (before now : Option (List ℕ))
+    → Comes (call_at words left after f g links) a → status ≡ status_of a → now ≡ put_behind before (text_of a)
+    → IsVerdict status → AsksFor IsPlaying (call_at words left after f g links) → HasHeadline (call_at words left after f g links) status before now
+answered_headline words left after f g links a status before now comes e d verdict plays = answer_has_it (call_at words left after f g links) status before now verdict plays a comes e d
 
 -- a status above 7 is no verdict's
 pub no_headline : (c : CallAt) (status : ℕ) (before now : Option (List ℕ)) → 8 ≤ status → IsVerdict status → AsksFor IsPlaying c → HasHeadline c status before now

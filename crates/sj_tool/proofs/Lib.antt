@@ -1,7 +1,9 @@
 pub mod ActingLemmas
+pub mod DamageLemmas
 pub mod DrainedLemmas
 pub mod EndLemmas
 pub mod Exactly
+pub mod FileAnswers
 pub mod HeadlineOfAnswers
 pub mod OneAnswer
 pub mod OneRun

@@ -17,12 +17,15 @@ use Rattle.sj_acceptance.specs.FileTests.{tests_of}
 use Rattle.sj_command.specs.declared.tasks.Task.{Task}
 use Rattle.sj_command.specs.declared.tasks.Task.TheVariants as tasks
 use Rattle.sj_tool.specs.declared.answers.Answer.{Answer}
-use Rattle.sj_tool.specs.declared.answers.Answer.TheVariants.{Usage, ReadFault, TooLarge, Syntax, Check, Ran, Printed, Made}
+use Rattle.sj_tool.specs.declared.answers.Answer.TheVariants.{Usage, ReadFault, TooLarge, Syntax, Check, LinkFault, Damaged, Ran, Printed, Made}
+use Rattle.sj_acceptance.specs.Accepted.{IsAccepted}
 use Rattle.sj_semantics.specs.declared.Verdict.{Verdict}
 use Rattle.sj_tool.specs.Shown.{shown}
 use Rattle.sj_tool.specs.Texts.{check_line, counts_of, status_of, text_of, verdict_status}
-use Rattle.sj_tool.specs.Answers.{AnswersFile, AnswersItsFile, AnswersText, Plays}
-use Rattle.sj_tool.specs.Table.{AreOne}
+use Rattle.sj_tool.specs.Answers.{AnswersFile, AnswersItsFile, AnswersText, LinksHold, Plays, Prints, RunsParties}
+use Rattle.sj_tool.specs.Calls.{LinkUseAt}
+use Rattle.sj_tool.specs.Headline.{IsLogging}
+use Rattle.sj_tool.specs.Table.{AreOneLog}
 use Rattle.sj_tool.proofs.OneRun.{one_run}
 
 -- a text has one first fault
@@ -33,104 +36,177 @@ one_fault bytes f g st other =
     let rules : h.rule ≡ other.halts.rule = let both : Some h.rule ≡ Some other.halts.rule = sym h.breaks ∙ other.halts.breaks in cc in
     h.fault ∙ ap (fault_at (before_next other.there.text (next_of other.there.text.ahead))) rules ∙ sym other.halts.fault
 
-abbrev told : Answer → ℕ × List ℕ
+abbrev pub told : Answer → ℕ × List ℕ
 told a = (status_of a, text_of a)
 
 -- the status and the text of a file that ends so
 abbrev ended : Verdict → List ℕ → ℕ × List ℕ
 ended verdict text = (verdict_status verdict, text)
 
+-- two are one: one status, and one text up to a history that is asked for
+pub record AreToldOnce (task : Task) (t u : ℕ × List ℕ) : Type 0 where
+  pub status : t.0 ≡ u.0
+  pub text : (t.1 ≡ u.1) ⊎ (IsLogging task × AreOneLog t.1 u.1)
+
+same_told : (task : Task) (t u : ℕ × List ℕ) → t ≡ u → AreToldOnce task t u
+same_told task t u e = record { status = ap (λ z. z.0) e; text = inl (ap (λ z. z.1) e) }
+
 -- the status and the text are those of a file that is played
-pub record IsPlayed (task : Task) (file : FileAt) (t : ℕ × List ℕ) : Type 0 where
+pub record IsPlayed (links : LinkUseAt) (task : Task) (file : FileAt) (t : ℕ × List ℕ) : Type 0 where
   pub verdict : Verdict
   pub text : List ℕ
-  pub plays : Plays task file verdict text
+  pub plays : Plays links task file verdict text
   pub are : t ≡ ended verdict text
 
 -- the status and the text that answer a file, by its first fault
-abbrev Tells : Task → FileAt → Option (ℕ × ℕ) → ℕ × List ℕ → Type 0
-Tells tasks.Show file fault t = t ≡ (0, shown file)
-Tells (tasks.Make n) file fault t = ⊥
-Tells tasks.Check file (Some x) t = t ≡ (5, check_line x.0 x.1)
-Tells tasks.Sim file (Some x) t = t ≡ (5, check_line x.0 x.1)
-Tells (tasks.Run log) file (Some x) t = t ≡ (5, check_line x.0 x.1)
-Tells tasks.Check file None t = t ≡ (0, counts_of file)
-Tells tasks.Sim file None t = IsPlayed tasks.Sim file t
-Tells (tasks.Run log) file None t = IsPlayed (tasks.Run log) file t
+abbrev Tells : LinkUseAt → Task → FileAt → Option (ℕ × ℕ) → ℕ × List ℕ → Type 0
+Tells links tasks.Show file fault t = t ≡ (0, shown file)
+Tells links (tasks.Make n) file fault t = ⊥
+Tells links tasks.Check file (Some x) t = t ≡ (5, check_line x.0 x.1)
+Tells links tasks.Sim file (Some x) t = t ≡ (5, check_line x.0 x.1)
+Tells links (tasks.Run log looks) file (Some x) t = t ≡ (5, check_line x.0 x.1)
+Tells links tasks.Check file None t = t ≡ (0, counts_of file)
+Tells links tasks.Sim file None t = IsPlayed links tasks.Sim file t
+Tells links (tasks.Run log looks) file None t = IsPlayed links (tasks.Run log looks) file t
 
 -- a file is played in one way
-played_once : (task : Task) (file : FileAt) (t u : ℕ × List ℕ) → IsPlayed task file t → IsPlayed task file u → t ≡ u
-played_once task file t u x y = x.are ∙ by task x.verdict y.verdict x.text y.text x.plays y.plays ∙ sym y.are
+played_once : (links : LinkUseAt) (task : Task) (file : FileAt) (t u : ℕ × List ℕ) → IsPlayed links task file t → IsPlayed links task file u → AreToldOnce task t u
+played_once links task file t u x y =
+    subst (λ (z : ℕ × List ℕ). AreToldOnce task z u) (sym x.are)
+    (subst (λ (z : ℕ × List ℕ). AreToldOnce task (ended x.verdict x.text) z) (sym y.are) (by task x.verdict y.verdict x.text y.text x.plays y.plays))
   where
-    by : (task : Task) (v w : Verdict) (s r : List ℕ) → Plays task file v s → Plays task file w r → ended v s ≡ ended w r
-    by tasks.Sim v w s r p q = ap₂ ended (p.0 ∙ sym q.0) (p.1 ∙ sym q.1)
-    by (tasks.Run log) v w s r p q = let one = one_run log file v w s r p q in ap₂ ended one.0 one.1
+    by : (task : Task) (v w : Verdict) (s r : List ℕ) → Plays links task file v s → Plays links task file w r → AreToldOnce task (ended v s) (ended w r)
+    by tasks.Sim v w s r p q = same_told tasks.Sim (ended v s) (ended w r) (ap₂ ended (p.0 ∙ sym q.0) (p.1 ∙ sym q.1))
+    by (tasks.Run log looks) v w s r p q = let one = one_run links log looks file v w s r p q in record { status = ap verdict_status one.0; text = one.1 }
     by tasks.Check v w s r p q = absurd p
     by tasks.Show v w s r p q = absurd p
     by (tasks.Make n) v w s r p q = absurd p
 
 -- a file is answered with one status and one text
-told_once : (task : Task) (file : FileAt) (fault : Option (ℕ × ℕ)) (t u : ℕ × List ℕ) → Tells task file fault t → Tells task file fault u → t ≡ u
-told_once tasks.Show file fault t u x y = x ∙ sym y
-told_once (tasks.Make n) file fault t u x y = absurd x
-told_once tasks.Check file (Some f) t u x y = x ∙ sym y
-told_once tasks.Sim file (Some f) t u x y = x ∙ sym y
-told_once (tasks.Run log) file (Some f) t u x y = x ∙ sym y
-told_once tasks.Check file None t u x y = x ∙ sym y
-told_once tasks.Sim file None t u x y = played_once tasks.Sim file t u x y
-told_once (tasks.Run log) file None t u x y = played_once (tasks.Run log) file t u x y
+told_once : (links : LinkUseAt) (task : Task) (file : FileAt) (fault : Option (ℕ × ℕ)) (t u : ℕ × List ℕ) → Tells links task file fault t → Tells links task file fault u → AreToldOnce task t u
+told_once links tasks.Show file fault t u x y = same_told tasks.Show t u (x ∙ sym y)
+told_once links (tasks.Make n) file fault t u x y = absurd x
+told_once links tasks.Check file (Some f) t u x y = same_told tasks.Check t u (x ∙ sym y)
+told_once links tasks.Sim file (Some f) t u x y = same_told tasks.Sim t u (x ∙ sym y)
+told_once links (tasks.Run log looks) file (Some f) t u x y = same_told (tasks.Run log looks) t u (x ∙ sym y)
+told_once links tasks.Check file None t u x y = same_told tasks.Check t u (x ∙ sym y)
+told_once links tasks.Sim file None t u x y = played_once links tasks.Sim file t u x y
+told_once links (tasks.Run log looks) file None t u x y = played_once links (tasks.Run log looks) file t u x y
+
+-- no fault of the links is answered
+abbrev IsUnhurt : Answer → Type 0
+IsUnhurt LinkFault = ⊥
+IsUnhurt (Damaged t) = ⊥
+IsUnhurt _ = Unit {0}
 
 -- what answers a file has the status and the text that its first fault tells
-file_told : (task : Task) (file : FileAt) (a : Answer) → AnswersFile task file a → Tells task file (first_fault (tests_of file)) (told a)
-file_told task file Usage x = absurd x
-file_told task file ReadFault x = absurd x
-file_told task file TooLarge x = absurd x
-file_told task file (Syntax f) x = absurd x
-file_told task file (Made t) x = absurd x
-file_told tasks.Check file (Check r l) (k, e) = subst (λ (f : Option (ℕ × ℕ)). Tells tasks.Check file f (5, check_line r l)) (sym e) refl
-file_told tasks.Sim file (Check r l) (k, e) = subst (λ (f : Option (ℕ × ℕ)). Tells tasks.Sim file f (5, check_line r l)) (sym e) refl
-file_told (tasks.Run log) file (Check r l) (k, e) = subst (λ (f : Option (ℕ × ℕ)). Tells (tasks.Run log) file f (5, check_line r l)) (sym e) refl
-file_told tasks.Show file (Check r l) (k, e) = absurd k
-file_told (tasks.Make n) file (Check r l) (k, e) = absurd k
-file_told tasks.Sim file (Ran v t) (ok, p) =
-    subst (λ (f : Option (ℕ × ℕ)). Tells tasks.Sim file f (ended v t.items)) (sym (accepted_to file ok)) (record { verdict = v; text = t.items; plays = p; are = refl })
-file_told (tasks.Run log) file (Ran v t) (ok, p) =
-    subst (λ (f : Option (ℕ × ℕ)). Tells (tasks.Run log) file f (ended v t.items)) (sym (accepted_to file ok)) (record { verdict = v; text = t.items; plays = p; are = refl })
-file_told tasks.Check file (Ran v t) (ok, p) = absurd p
-file_told tasks.Show file (Ran v t) (ok, p) = absurd p
-file_told (tasks.Make n) file (Ran v t) (ok, p) = absurd p
-file_told tasks.Check file (Printed t) (ok, c) = subst (λ (f : Option (ℕ × ℕ)). Tells tasks.Check file f (0, t.items)) (sym (accepted_to file ok)) (ap (λ y. (0, y)) c)
-file_told tasks.Show file (Printed t) c = ap (λ y. (0, y)) c
-file_told tasks.Sim file (Printed t) c = absurd c
-file_told (tasks.Run log) file (Printed t) c = absurd c
-file_told (tasks.Make n) file (Printed t) c = absurd c
+file_told : (links : LinkUseAt) (task : Task) (file : FileAt) (a : Answer) → IsUnhurt a → AnswersFile links task file a → Tells links task file (first_fault (tests_of file)) (told a)
+file_told links task file Usage u x = absurd x
+file_told links task file ReadFault u x = absurd x
+file_told links task file TooLarge u x = absurd x
+file_told links task file (Syntax f) u x = absurd x
+file_told links task file LinkFault u x = absurd u
+file_told links task file (Damaged t) u x = absurd u
+file_told links task file (Made t) u x = absurd x
+file_told links tasks.Check file (Check r l) u (k, e) = subst (λ (f : Option (ℕ × ℕ)). Tells links tasks.Check file f (5, check_line r l)) (sym e) refl
+file_told links tasks.Sim file (Check r l) u (k, e) = subst (λ (f : Option (ℕ × ℕ)). Tells links tasks.Sim file f (5, check_line r l)) (sym e) refl
+file_told links (tasks.Run log looks) file (Check r l) u (k, e) = subst (λ (f : Option (ℕ × ℕ)). Tells links (tasks.Run log looks) file f (5, check_line r l)) (sym e) refl
+file_told links tasks.Show file (Check r l) u (k, e) = absurd k
+file_told links (tasks.Make n) file (Check r l) u (k, e) = absurd k
+file_told links tasks.Sim file (Ran v t) u (ok, p) =
+    subst (λ (f : Option (ℕ × ℕ)). Tells links tasks.Sim file f (ended v t.items)) (sym (accepted_to file ok)) (record { verdict = v; text = t.items; plays = p; are = refl })
+file_told links (tasks.Run log looks) file (Ran v t) u (ok, p) =
+    subst (λ (f : Option (ℕ × ℕ)). Tells links (tasks.Run log looks) file f (ended v t.items)) (sym (accepted_to file ok)) (record { verdict = v; text = t.items; plays = p; are = refl })
+file_told links tasks.Check file (Ran v t) u (ok, p) = absurd p
+file_told links tasks.Show file (Ran v t) u (ok, p) = absurd p
+file_told links (tasks.Make n) file (Ran v t) u (ok, p) = absurd p
+file_told links tasks.Check file (Printed t) u (ok, c) = subst (λ (f : Option (ℕ × ℕ)). Tells links tasks.Check file f (0, t.items)) (sym (accepted_to file ok)) (ap (λ y. (0, y)) c)
+file_told links tasks.Show file (Printed t) u c = ap (λ y. (0, y)) c
+file_told links tasks.Sim file (Printed t) u c = absurd c
+file_told links (tasks.Run log looks) file (Printed t) u c = absurd c
+file_told links (tasks.Make n) file (Printed t) u c = absurd c
+
+-- where the links hold for the parties that run, or the answer tells of no run
+abbrev pub HoldsFor : LinkUseAt → Task → Answer → Type 0
+HoldsFor links task LinkFault = ⊥
+HoldsFor links task (Damaged t) = ⊥
+HoldsFor links task (Ran v t) = RunsParties task → LinksHold links
+HoldsFor links task _ = Unit {0}
+
+unhurt : (links : LinkUseAt) (task : Task) (a : Answer) → HoldsFor links task a → IsUnhurt a
+unhurt links task Usage h = tt
+unhurt links task ReadFault h = tt
+unhurt links task TooLarge h = tt
+unhurt links task (Syntax f) h = tt
+unhurt links task (Check r l) h = tt
+unhurt links task LinkFault h = absurd h
+unhurt links task (Damaged t) h = absurd h
+unhurt links task (Ran v t) h = tt
+unhurt links task (Printed t) h = tt
+unhurt links task (Made t) h = tt
+
+-- what is printed of a file runs no parties
+prints_no_run : (task : Task) (file : FileAt) (text : List ℕ) → RunsParties task → Prints task file text → ⊥
+prints_no_run tasks.Check file text runs p = runs
+prints_no_run tasks.Show file text runs p = runs
+prints_no_run tasks.Sim file text runs p = runs
+prints_no_run (tasks.Run log looks) file text runs p = p
+prints_no_run (tasks.Make n) file text runs p = runs
+
+module _ (links : LinkUseAt) (task : Task) (file : FileAt) where
+  -- where the links don't hold, an accepted file whose parties run has no answer but theirs
+  beside : IsAccepted file → RunsParties task → (LinksHold links → ⊥) → (b : Answer) → AnswersFile links task file b → HoldsFor links task b → ⊥
+  beside ok runs off Usage y h = y
+  beside ok runs off ReadFault y h = y
+  beside ok runs off TooLarge y h = y
+  beside ok runs off (Syntax f) y h = y
+  beside ok runs off (Check r l) y h = let e : None ≡ Some (r, l) = sym (accepted_to file ok) ∙ y.1 in cc e
+  beside ok runs off LinkFault y h = h
+  beside ok runs off (Damaged t) y h = h
+  beside ok runs off (Ran v t) y h = off (h runs)
+  beside ok runs off (Printed t) y h = prints_no_run task file t.items runs y
+  beside ok runs off (Made t) y h = y
+
+  told_of : (a b : Answer) → IsUnhurt a → AnswersFile links task file a → AnswersFile links task file b → HoldsFor links task b → AreToldOnce task (told a) (told b)
+  told_of a b u x y h =
+      told_once links task file (first_fault (tests_of file)) (told a) (told b) (file_told links task file a u x) (file_told links task file b (unhurt links task b h) y)
+
+  one_of_file : (a b : Answer) → AnswersFile links task file a → AnswersFile links task file b → HoldsFor links task b → AreToldOnce task (told a) (told b)
+  one_of_file Usage b x y h = absurd x
+  one_of_file ReadFault b x y h = absurd x
+  one_of_file TooLarge b x y h = absurd x
+  one_of_file (Syntax f) b x y h = absurd x
+  one_of_file (Check r l) b x y h = told_of (Check r l) b tt x y h
+  one_of_file LinkFault b x y h = absurd (beside x.0 x.1 (λ holds. holds.1 x.2) b y h)
+  one_of_file (Damaged t) b x y h = absurd (beside x.0 x.1 (λ holds. x.2 holds.0) b y h)
+  one_of_file (Ran v t) b x y h = told_of (Ran v t) b tt x y h
+  one_of_file (Printed t) b x y h = told_of (Printed t) b tt x y h
+  one_of_file (Made t) b x y h = absurd x
 
 -- the text goes wrong, or the answer answers its file
-abbrev IsEither : Task → List ℕ → Answer → Type 0
-IsEither task bytes a = ((f : Fault) × (a ≡ Syntax f) × Stuck file_layer limits 0 (start bytes [] []) file_due f) ⊎ AnswersItsFile task bytes a
+abbrev IsEither : LinkUseAt → Task → List ℕ → Answer → Type 0
+IsEither links task bytes a = ((f : Fault) × (a ≡ Syntax f) × Stuck file_layer limits 0 (start bytes [] []) file_due f) ⊎ AnswersItsFile links task bytes a
 
 -- a text has one answer
-pub one_of_text : (task : Task) (bytes : List ℕ) (a b : Answer) → AnswersText task bytes a → AnswersText task bytes b → AreOne a b
-one_of_text task bytes a b x y = by_kind (kind_of task bytes a x) (kind_of task bytes b y)
+pub one_of_text : (links : LinkUseAt) (task : Task) (bytes : List ℕ) (a b : Answer) → AnswersText links task bytes a → AnswersText links task bytes b → HoldsFor links task b → AreToldOnce task (told a) (told b)
+one_of_text links task bytes a b x y h = by_kind (kind_of task bytes a x) (kind_of task bytes b y)
   where
-    kind_of : (task : Task) (bytes : List ℕ) (a : Answer) → AnswersText task bytes a → IsEither task bytes a
+    kind_of : (task : Task) (bytes : List ℕ) (a : Answer) → AnswersText links task bytes a → IsEither links task bytes a
     kind_of task bytes Usage x = inr x
     kind_of task bytes ReadFault x = inr x
     kind_of task bytes TooLarge x = inr x
     kind_of task bytes (Syntax f) x = inl (f, refl, x.1)
     kind_of task bytes (Check r l) x = inr x
+    kind_of task bytes LinkFault x = inr x
+    kind_of task bytes (Damaged t) x = inr x
     kind_of task bytes (Ran v t) x = inr x
     kind_of task bytes (Printed t) x = inr x
     kind_of task bytes (Made t) x = inr x
 
-    by_kind : IsEither task bytes a → IsEither task bytes b → AreOne a b
-    by_kind (inl (f, e, s)) (inl (g, d, t)) =
-        let same : told a ≡ told b = ap told (e ∙ ap (λ h. Syntax h) (one_fault bytes f g s t) ∙ sym d) in
-        record { status = ap (λ z. z.0) same; text = ap (λ z. z.1) same }
+    by_kind : IsEither links task bytes a → IsEither links task bytes b → AreToldOnce task (told a) (told b)
+    by_kind (inl (f, e, s)) (inl (g, d, t)) = same_told task (told a) (told b) (ap told (e ∙ ap (λ h. Syntax h) (one_fault bytes f g s t) ∙ sym d))
     by_kind (inl (f, e, s)) (inr y) = absurd (no_fault bytes y.file f y.stands s)
     by_kind (inr x) (inl (g, d, t)) = absurd (no_fault bytes x.file g x.stands t)
     by_kind (inr x) (inr y) =
-        let second = subst (λ (f : FileAt). AnswersFile task f b) (one_file bytes y.file x.file y.stands x.stands) y.answers in
-        let same : told a ≡ told b =
-        told_once task x.file (first_fault (tests_of x.file)) (told a) (told b) (file_told task x.file a x.answers) (file_told task x.file b second) in
-        record { status = ap (λ z. z.0) same; text = ap (λ z. z.1) same }
+        let second = subst (λ (f : FileAt). AnswersFile links task f b) (one_file bytes y.file x.file y.stands x.stands) y.answers in
+        one_of_file links task x.file a b x.answers second h

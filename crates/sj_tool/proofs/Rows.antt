@@ -1,5 +1,5 @@
 -- The rows of the table of answers exclude each other, where the source tells.
-use Rattle.std.proofs.Common.{◌≡◌, ◌∙◌, ◌<◌, ◌≤◌, ◌++◌, ℕ, List, [], Option, Some, None, IfSome, length, ap, sym, subst, refl, arith, length-append, append-nil}
+use Rattle.std.proofs.Common.{◌≡◌, ◌∙◌, inl, inr, ◌<◌, ◌≤◌, ◌++◌, ℕ, List, [], Option, Some, None, IfSome, length, ap, sym, subst, refl, arith, length-append, append-nil}
 use Rattle.sj_base.specs.Stream.{CameOf, Rose, put_before}
 use Rattle.sj_command.specs.declared.tasks.Task.{Task}
 use Rattle.sj_command.specs.declared.tasks.Task.TheVariants as tasks
@@ -7,11 +7,12 @@ use Rattle.sj_command.specs.Task.{Asks, IsUsage}
 use Rattle.sj_command.proofs.OneTask.{one_task}
 use Rattle.sj_generator.specs.Generated.{generated}
 use Rattle.sj_tool.specs.declared.answers.Answer.{Answer}
-use Rattle.sj_tool.specs.declared.answers.Answer.TheVariants.{Usage, ReadFault, TooLarge, Syntax, Check, Ran, Printed, Made}
+use Rattle.sj_tool.specs.declared.answers.Answer.TheVariants.{Usage, ReadFault, TooLarge, Syntax, Check, LinkFault, Damaged, Ran, Printed, Made}
 use Rattle.sj_tool.specs.Texts.{status_of, text_of}
-use Rattle.sj_tool.specs.Answers.{CallAt, AsksFor, Reads, Makes, AnswersText, AnswersInput, Comes, NoFaultAbove}
+use Rattle.sj_tool.specs.Answers.{AsksFor, Reads, Makes, AnswersText, AnswersInput, Comes, NoFaultAbove}
+use Rattle.sj_tool.specs.Calls.{CallAt, LinkUseAt}
 use Rattle.sj_tool.specs.Table.{AreOne}
-use Rattle.sj_tool.proofs.OneAnswer.{one_of_text}
+use Rattle.sj_tool.proofs.OneAnswer.{AreToldOnce, HoldsFor, one_of_text, told}
 
 -- what came is at most the limit or more, and not both
 came_once : (l : ℕ) (left : List ℕ) (after : Option (List ℕ)) → CameOf (λ n. n ≤ l) (Some left) after → CameOf (λ n. l < n) (Some left) after → ⊥
@@ -29,18 +30,34 @@ told_bytes left (Some rest) bytes e all =
     let same : left ≡ bytes ++ rest = cc in
     same ∙ ap (λ r. bytes ++ r) all ∙ append-nil bytes
 
-pub are_same : (a b : Answer) → a ≡ b → AreOne a b
-are_same a b e = record { status = ap status_of e; text = ap text_of e }
+pub are_same : (c : CallAt) (a b : Answer) → a ≡ b → AreOne c a b
+are_same c a b e = record { status = ap status_of e; text = inl (ap text_of e) }
+
+-- what no read fault above an answer tells of the links
+holds_above : (c : CallAt) (b : Answer) → NoFaultAbove c b → (task : Task) → Asks c.words task → HoldsFor c.links task b
+holds_above c Usage h task asks = tt
+holds_above c ReadFault h task asks = tt
+holds_above c TooLarge h task asks = tt
+holds_above c (Syntax f) h task asks = tt
+holds_above c (Check r l) h task asks = tt
+holds_above c LinkFault h task asks = h
+holds_above c (Damaged t) h task asks = h
+holds_above c (Ran v t) h task asks = λ runs. h.1 (record { task = task; asks = asks; kind = runs })
+holds_above c (Printed t) h task asks = tt
+holds_above c (Made t) h task asks = tt
 
 -- an input is answered in one way
-one_of_input : (c : CallAt) (left : List ℕ) → c.left ≡ Some left → (a b : Answer) → AnswersInput c a → AnswersInput c b → AreOne a b
-one_of_input c left e a b x y =
+one_of_input : (c : CallAt) (left : List ℕ) → c.left ≡ Some left → (a b : Answer) → AnswersInput c a → AnswersInput c b → NoFaultAbove c b → AreOne c a b
+one_of_input c left e a b x y above =
     let tasks_are : x.task ≡ y.task = one_task c.words x.task y.task x.asks y.asks in
     let first : left ≡ x.bytes = told_bytes left c.left_after x.bytes (sym e ∙ x.came) x.all in
     let second : left ≡ y.bytes = told_bytes left c.left_after y.bytes (sym e ∙ y.came) y.all in
     let same : y.bytes ≡ x.bytes = sym second ∙ first in
-    one_of_text x.task x.bytes a b x.answers
-    (subst (λ (t : Task). AnswersText t x.bytes b) (sym tasks_are) (subst (λ (bs : List ℕ). AnswersText y.task bs b) same y.answers))
+    let one : AreToldOnce x.task (told a) (told b) =
+    one_of_text c.links x.task x.bytes a b x.answers
+    (subst (λ (t : Task). AnswersText c.links t x.bytes b) (sym tasks_are) (subst (λ (bs : List ℕ). AnswersText c.links y.task bs b) same y.answers))
+    (holds_above c b above x.task x.asks) in
+    record { status = one.status; text = elim one.text [ inl text ↦ inl text | inr log ↦ inr (record { task = x.task; asks = x.asks; kind = log.0 }, log.1) ] }
 
 -- which row an answer is
 data Row (c : CallAt) (a : Answer) : Type 0 where
@@ -56,24 +73,28 @@ row_of c ReadFault h = fault refl h.0 h.1 h.2
 row_of c TooLarge h = large refl h.0 h.1 h.2
 row_of c (Syntax f) h = input h
 row_of c (Check r l) h = input h
+row_of c LinkFault h = input h
+row_of c (Damaged t) h = input h
 row_of c (Ran v t) h = input h
 row_of c (Printed t) h = input h
 row_of c (Made t) h = made t.items refl refl h
 
 -- a task whose input is answered reads a file
-reads_file : (task : Task) (bytes : List ℕ) (a : Answer) → AnswersText task bytes a → Reads task
-reads_file tasks.Check bytes a h = tt
-reads_file tasks.Show bytes a h = tt
-reads_file tasks.Sim bytes a h = tt
-reads_file (tasks.Run log) bytes a h = tt
-reads_file (tasks.Make n) bytes Usage h = absurd h.answers
-reads_file (tasks.Make n) bytes ReadFault h = absurd h.answers
-reads_file (tasks.Make n) bytes TooLarge h = absurd h.answers
-reads_file (tasks.Make n) bytes (Syntax f) h = absurd h.0
-reads_file (tasks.Make n) bytes (Check r l) h = absurd h.answers.0
-reads_file (tasks.Make n) bytes (Ran v t) h = absurd h.answers.1
-reads_file (tasks.Make n) bytes (Printed t) h = absurd h.answers
-reads_file (tasks.Make n) bytes (Made t) h = absurd h.answers
+reads_file : (links : LinkUseAt) (task : Task) (bytes : List ℕ) (a : Answer) → AnswersText links task bytes a → Reads task
+reads_file links tasks.Check bytes a h = tt
+reads_file links tasks.Show bytes a h = tt
+reads_file links tasks.Sim bytes a h = tt
+reads_file links (tasks.Run log looks) bytes a h = tt
+reads_file links (tasks.Make n) bytes Usage h = absurd h.answers
+reads_file links (tasks.Make n) bytes ReadFault h = absurd h.answers
+reads_file links (tasks.Make n) bytes TooLarge h = absurd h.answers
+reads_file links (tasks.Make n) bytes (Syntax f) h = absurd h.0
+reads_file links (tasks.Make n) bytes (Check r l) h = absurd h.answers.0
+reads_file links (tasks.Make n) bytes LinkFault h = absurd h.answers.1
+reads_file links (tasks.Make n) bytes (Damaged t) h = absurd h.answers.1
+reads_file links (tasks.Make n) bytes (Ran v t) h = absurd h.answers.1
+reads_file links (tasks.Make n) bytes (Printed t) h = absurd h.answers
+reads_file links (tasks.Make n) bytes (Made t) h = absurd h.answers
 
 -- the file that is made is no task that reads
 made_reads : (c : CallAt) (text : List ℕ) (task : Task) → Makes c text → Asks c.words task → Reads task → ⊥
@@ -86,7 +107,9 @@ no_rise c ReadFault x h r = absurd h
 no_rise c TooLarge x h r = absurd x.answers.answers
 no_rise c (Syntax f) x h r = h r
 no_rise c (Check s l) x h r = h r
-no_rise c (Ran v t) x h r = h r
+no_rise c LinkFault x h r = absurd h
+no_rise c (Damaged t) x h r = absurd h
+no_rise c (Ran v t) x h r = h.0 r
 no_rise c (Printed t) x h r = h r
 no_rise c (Made t) x h r = absurd x.answers.answers
 
@@ -97,38 +120,38 @@ module _ (c : CallAt) (left : List ℕ) (tells : c.left ≡ Some left) where
   few_in : (a : Answer) → AnswersInput c a → CameOf (λ n. n ≤ 65536) c.left c.left_after
   few_in a x = (x.bytes, x.few, x.came)
 
-  made_once : (a b : Answer) (s t : List ℕ) → status_of a ≡ 0 → text_of a ≡ s → Makes c s → status_of b ≡ 0 → text_of b ≡ t → Makes c t → AreOne a b
+  made_once : (a b : Answer) (s t : List ℕ) → status_of a ≡ 0 → text_of a ≡ s → Makes c s → status_of b ≡ 0 → text_of b ≡ t → Makes c t → AreOne c a b
   made_once a b s t e d m f g n =
       let counts : m.count ≡ n.count = let both : tasks.Make m.count ≡ tasks.Make n.count = one_task c.words (tasks.Make m.count) (tasks.Make n.count) m.asks n.asks in cc in
-      record { status = e ∙ sym f; text = d ∙ m.text ∙ ap generated counts ∙ sym n.text ∙ sym g }
+      record { status = e ∙ sym f; text = inl (d ∙ m.text ∙ ap generated counts ∙ sym n.text ∙ sym g) }
 
-  one_row : (a b : Answer) → Row c a → Row c b → NoFaultAbove c b → AreOne a b
-  one_row a b (words e u) (words d v) above = are_same a b (e ∙ sym d)
+  one_row : (a b : Answer) → Row c a → Row c b → NoFaultAbove c b → AreOne c a b
+  one_row a b (words e u) (words d v) above = are_same c a b (e ∙ sym d)
   one_row a b (words e u) (fault d asks few r) above = absurd (u asks.task asks.asks)
   one_row a b (words e u) (large d asks many same) above = absurd (u asks.task asks.asks)
   one_row a b (words e u) (made t s d m) above = absurd (u (tasks.Make m.count) m.asks)
   one_row a b (words e u) (input y) above = absurd (u y.task y.asks)
   one_row a b (fault e asks few r) (words d v) above = absurd (v asks.task asks.asks)
-  one_row a b (fault e asks few r) (fault d asks2 few2 r2) above = are_same a b (e ∙ sym d)
+  one_row a b (fault e asks few r) (fault d asks2 few2 r2) above = are_same c a b (e ∙ sym d)
   one_row a b (fault e asks few r) (large d asks2 many same) above = absurd (once few many)
   one_row a b (fault e asks few r) (made t s d m) above = absurd (made_reads c t asks.task m asks.asks asks.kind)
   one_row a b (fault e asks few r) (input y) above = absurd (no_rise c b y above r)
   one_row a b (large e asks many same) (words d v) above = absurd (v asks.task asks.asks)
   one_row a b (large e asks many same) (fault d asks2 few r) above = absurd (once few many)
-  one_row a b (large e asks many same) (large d asks2 many2 same2) above = are_same a b (e ∙ sym d)
+  one_row a b (large e asks many same) (large d asks2 many2 same2) above = are_same c a b (e ∙ sym d)
   one_row a b (large e asks many same) (made t s d m) above = absurd (made_reads c t asks.task m asks.asks asks.kind)
   one_row a b (large e asks many same) (input y) above = absurd (once (few_in b y) many)
   one_row a b (made t s e m) (words d v) above = absurd (v (tasks.Make m.count) m.asks)
   one_row a b (made t s e m) (fault d asks few r) above = absurd (made_reads c t asks.task m asks.asks asks.kind)
   one_row a b (made t s e m) (large d asks many same) above = absurd (made_reads c t asks.task m asks.asks asks.kind)
   one_row a b (made t s e m) (made u r d n) above = made_once a b t u s e m r d n
-  one_row a b (made t s e m) (input y) above = absurd (made_reads c t y.task m y.asks (reads_file y.task y.bytes b y.answers))
+  one_row a b (made t s e m) (input y) above = absurd (made_reads c t y.task m y.asks (reads_file c.links y.task y.bytes b y.answers))
   one_row a b (input x) (words d v) above = absurd (v x.task x.asks)
   one_row a b (input x) (fault d asks few r) above = absurd (subst (λ (z : Answer). NoFaultAbove c z) d above)
   one_row a b (input x) (large d asks many same) above = absurd (once (few_in a x) many)
-  one_row a b (input x) (made t s d m) above = absurd (made_reads c t x.task m x.asks (reads_file x.task x.bytes a x.answers))
-  one_row a b (input x) (input y) above = one_of_input c left tells a b x y
+  one_row a b (input x) (made t s d m) above = absurd (made_reads c t x.task m x.asks (reads_file c.links x.task x.bytes a x.answers))
+  one_row a b (input x) (input y) above = one_of_input c left tells a b x y above
 
   -- the answer that comes is each one that the table gives
-  pub one_comes : (a b : Answer) → Comes c a → Comes c b → NoFaultAbove c b → AreOne a b
+  pub one_comes : (a b : Answer) → Comes c a → Comes c b → NoFaultAbove c b → AreOne c a b
   one_comes a b x y above = one_row a b (row_of c a x) (row_of c b y) above

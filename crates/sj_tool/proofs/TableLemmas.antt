@@ -2,9 +2,10 @@
 use Rattle.std.proofs.Common.{◌≡◌, ◌≢◌, ◌⊎◌, ◌∙◌, ◌-◌, ◌^◌, ℕ, List, Some, inl, inr, refl, sym, arith}
 use Rattle.sj_base.specs.Stream.{Rose}
 use Rattle.sj_tool.specs.declared.answers.Answer.{Answer}
-use Rattle.sj_tool.specs.declared.answers.Answer.TheVariants.{Usage, ReadFault, TooLarge, Syntax, Check, Ran, Printed, Made}
-use Rattle.sj_tool.specs.Answers.{CallAt, Comes, NoFaultAbove}
-use Rattle.sj_tool.specs.Table.{AreOne, CanRise}
+use Rattle.sj_tool.specs.declared.answers.Answer.TheVariants.{Usage, ReadFault, TooLarge, Syntax, Check, LinkFault, Damaged, Ran, Printed, Made}
+use Rattle.sj_tool.specs.Answers.{Comes, NoFaultAbove}
+use Rattle.sj_tool.specs.Calls.{CallAt}
+use Rattle.sj_tool.specs.Table.{AreOne, CanRise, RunsWell}
 use Rattle.sj_tool.proofs.Rows.{are_same, one_comes}
 
 -- a count that stays hasn't risen
@@ -12,24 +13,38 @@ stays : (before now : ℕ) → now ≡ before → before ≢ 2 ^ 64 - 1 → Rose
 stays before now same more (inl rose) = omega (arith, same, rose)
 stays before now same more (inr last) = more (sym same ∙ last)
 
--- no read fault stands above the answer, or it is one
-above_or_fault : (c : CallAt) (a : Answer) → CanRise c → Comes c a → NoFaultAbove c a ⊎ (a ≡ ReadFault)
-above_or_fault c Usage more h = inl tt
-above_or_fault c ReadFault more h = inr refl
-above_or_fault c TooLarge more h = inl tt
-above_or_fault c (Syntax f) more h = inl (stays c.faults c.faults_after h.no_fault more)
-above_or_fault c (Check r l) more h = inl (stays c.faults c.faults_after h.no_fault more)
-above_or_fault c (Ran v t) more h = inl (stays c.faults c.faults_after h.no_fault more)
-above_or_fault c (Printed t) more h = inl (stays c.faults c.faults_after h.no_fault more)
-above_or_fault c (Made t) more h = inl tt
+-- no fault stands above the answer, or it is a read fault
+above_or_fault : (c : CallAt) (a : Answer) → CanRise c → RunsWell c → Comes c a → NoFaultAbove c a ⊎ (a ≡ ReadFault)
+above_or_fault c Usage more well h = inl tt
+above_or_fault c ReadFault more well h = inr refl
+above_or_fault c TooLarge more well h = inl tt
+above_or_fault c (Syntax f) more well h = inl (stays c.faults c.faults_after h.no_fault more)
+above_or_fault c (Check r l) more well h = inl (stays c.faults c.faults_after h.no_fault more)
+above_or_fault c LinkFault more well h =
+    let holds = well (record { task = h.task; asks = h.asks; kind = h.answers.answers.1 }) in absurd (holds.1 h.answers.answers.2)
+above_or_fault c (Damaged t) more well h =
+    let holds = well (record { task = h.task; asks = h.asks; kind = h.answers.answers.1 }) in absurd (h.answers.answers.2 holds.0)
+above_or_fault c (Ran v t) more well h = inl (stays c.faults c.faults_after h.no_fault more, well)
+above_or_fault c (Printed t) more well h = inl (stays c.faults c.faults_after h.no_fault more)
+above_or_fault c (Made t) more well h = inl tt
 
-pub one_answer : (c : CallAt) (left : List ℕ) (a b : Answer) → c.left ≡ Some left → CanRise c → Comes c a → Comes c b → AreOne a b
-one_answer c left a b tells more x y = by (above_or_fault c a more x) (above_or_fault c b more y)
+pub one_answer : (c : CallAt) (left : List ℕ) (a b : Answer) → c.left ≡ Some left → CanRise c → RunsWell c → Comes c a → Comes c b → AreOne c a b
+one_answer c left a b tells more well x y = by (above_or_fault c a more well x) (above_or_fault c b more well y)
   where
-    swapped : AreOne b a → AreOne a b
-    swapped one = record { status = sym one.status; text = sym one.text }
+    swapped : AreOne c b a → AreOne c a b
+    swapped one = record {
+      status = sym one.status;
+      text =
+          elim one.text [
+            | inl text ↦ inl (sym text)
+            | inr log ↦ inr (
+              log.0,
+              record { file = log.1.file; first = log.1.second; second = log.1.first; first_text = log.1.second_text; second_text = log.1.first_text },
+            )
+          ];
+    }
 
-    by : NoFaultAbove c a ⊎ (a ≡ ReadFault) → NoFaultAbove c b ⊎ (b ≡ ReadFault) → AreOne a b
+    by : NoFaultAbove c a ⊎ (a ≡ ReadFault) → NoFaultAbove c b ⊎ (b ≡ ReadFault) → AreOne c a b
     by h (inl above) = one_comes c left tells a b x y above
     by (inl above) (inr d) = swapped (one_comes c left tells b a y x above)
-    by (inr e) (inr d) = are_same a b (e ∙ sym d)
+    by (inr e) (inr d) = are_same c a b (e ∙ sym d)

@@ -1,8 +1,7 @@
 -- The table of answers, in the order of refusals.
-use Rattle.std.specs.Prelude.{◌≡◌, ◌⊎◌, ◌<◌, ◌≤◌, ℕ, List, [], Option, Some, map, length, string_bytes, IfSome, ⊤}
-use Rattle.std.specs.declared.alloc.Global.{Global}
-use Rattle.std.specs.declared.string.String.{String}
+use Rattle.std.specs.Prelude.{◌≡◌, ◌⊎◌, ◌<◌, ◌≤◌, ℕ, List, [], Option, Some, length, IfSome, true, ⊤}
 use Rattle.sj_base.specs.Stream.{Rose, CameOf, WroteFrontOf, put_before, put_behind}
+use Rattle.sj_lane.specs.Told as lanes
 use Rattle.sj_lang.specs.FileAt.{FileAt}
 use Rattle.sj_grammar.specs.Limits.{limits}
 use Rattle.sj_grammar.specs.Places.{start}
@@ -18,28 +17,12 @@ use Rattle.sj_command.specs.declared.tasks.Task.{Task}
 use Rattle.sj_command.specs.declared.tasks.Task.TheVariants as tasks
 use Rattle.sj_command.specs.Task.{Asks, IsUsage}
 use Rattle.sj_tool.specs.declared.answers.Answer.{Answer}
-use Rattle.sj_tool.specs.declared.answers.Answer.TheVariants.{Usage, ReadFault, TooLarge, Syntax, Check, Ran, Printed, Made}
+use Rattle.sj_tool.specs.declared.answers.Answer.TheVariants.{Usage, ReadFault, TooLarge, Syntax, Check, LinkFault, Damaged, Ran, Printed, Made}
+use Rattle.sj_tool.specs.Calls.{CallAt, LinkUseAt}
+use Rattle.sj_tool.specs.Damages.{IsDamageText}
 use Rattle.sj_tool.specs.Runs.{HasRun, HasSimulated}
 use Rattle.sj_tool.specs.Shown.{shown}
 use Rattle.sj_tool.specs.Texts.{status_of, text_of, counts_of}
-
--- what a call is given: its words, and what its source has left and counts, before and after
-pub record CallAt : Type 0 where
-  pub words : List (List ℕ)
-  pub left : Option (List ℕ)
-  pub left_after : Option (List ℕ)
-  pub faults : ℕ
-  pub faults_after : ℕ
-
--- the call that a source of that kind is passed to
-abbrev pub call : {Q : Type 0} → (Q → Option (List ℕ)) → (Q → ℕ) → List (String Global) → Q → Q → CallAt
-call left faults words before after = record {
-  words = map string_bytes words;
-  left = left before;
-  left_after = left after;
-  faults = faults before;
-  faults_after = faults after;
-}
 
 -- the words ask for a task of that kind
 pub record AsksFor (P : Task → Type 0) (c : CallAt) : Type 0 where
@@ -58,11 +41,16 @@ Checks (tasks.Make n) = ⊥
 Checks tasks.Show = ⊥
 Checks _ = ⊤
 
+-- it runs the parties of a file over links
+abbrev pub RunsParties : Task → Type 0
+RunsParties (tasks.Run log looks) = ⊤
+RunsParties _ = ⊥
+
 -- it plays the file to its end: how it ended, and what is printed
-abbrev pub Plays : Task → FileAt → Verdict → List ℕ → Type 0
-Plays tasks.Sim file verdict text = HasSimulated file verdict text
-Plays (tasks.Run log) file verdict text = HasRun log file verdict text
-Plays _ file verdict text = ⊥
+abbrev pub Plays : LinkUseAt → Task → FileAt → Verdict → List ℕ → Type 0
+Plays links tasks.Sim file verdict text = HasSimulated file verdict text
+Plays links (tasks.Run log looks) file verdict text = HasRun links log looks file verdict text
+Plays links _ file verdict text = ⊥
 
 -- what a task prints of a file that it doesn't play
 abbrev pub Prints : Task → FileAt → List ℕ → Type 0
@@ -71,22 +59,24 @@ Prints tasks.Show file text = text ≡ shown file
 Prints _ file text = ⊥
 
 -- what answers a file
-abbrev pub AnswersFile : Task → FileAt → Answer → Type 0
-AnswersFile task file (Check rule line) = Checks task × (first_fault (tests_of file) ≡ Some (rule, line))
-AnswersFile task file (Ran verdict text) = IsAccepted file × Plays task file verdict text.items
-AnswersFile task file (Printed text) = Prints task file text.items
-AnswersFile task file _ = ⊥
+abbrev pub AnswersFile : LinkUseAt → Task → FileAt → Answer → Type 0
+AnswersFile links task file (Check rule line) = Checks task × (first_fault (tests_of file) ≡ Some (rule, line))
+AnswersFile links task file LinkFault = IsAccepted file × RunsParties task × lanes.Rose links.faults links.faults_after
+AnswersFile links task file (Damaged text) = IsAccepted file × RunsParties task × (links.tells ≡ true → ⊥) × IsDamageText file text.items
+AnswersFile links task file (Ran verdict text) = IsAccepted file × Plays links task file verdict text.items
+AnswersFile links task file (Printed text) = Prints task file text.items
+AnswersFile links task file _ = ⊥
 
 -- the text stands for a file, which the answer answers
-pub record AnswersItsFile (task : Task) (bytes : List ℕ) (a : Answer) : Type 0 where
+pub record AnswersItsFile (links : LinkUseAt) (task : Task) (bytes : List ℕ) (a : Answer) : Type 0 where
   pub file : FileAt
   pub stands : IsFile bytes file
-  pub answers : AnswersFile task file a
+  pub answers : AnswersFile links task file a
 
 -- what answers a text
-abbrev pub AnswersText : Task → List ℕ → Answer → Type 0
-AnswersText task bytes (Syntax fault) = Reads task × Stuck file_layer limits 0 (start bytes [] []) file_due fault
-AnswersText task bytes a = AnswersItsFile task bytes a
+abbrev pub AnswersText : LinkUseAt → Task → List ℕ → Answer → Type 0
+AnswersText links task bytes (Syntax fault) = Reads task × Stuck file_layer limits 0 (start bytes [] []) file_due fault
+AnswersText links task bytes a = AnswersItsFile links task bytes a
 
 -- the words ask for a task; bytes are all that was left, no more than 65,536, and no fault was counted; the answer answers them
 pub record AnswersInput (c : CallAt) (a : Answer) : Type 0 where
@@ -97,7 +87,7 @@ pub record AnswersInput (c : CallAt) (a : Answer) : Type 0 where
   pub came : c.left ≡ put_before bytes c.left_after
   pub all : IfSome c.left_after (λ rest. rest ≡ [])
   pub no_fault : c.faults_after ≡ c.faults
-  pub answers : AnswersText task bytes a
+  pub answers : AnswersText c.links task bytes a
 
 -- the source was left as it was
 abbrev pub IsUnread : CallAt → Type 0
@@ -138,11 +128,18 @@ pub record WroteFront (c : CallAt) (before after : Option (List ℕ)) : Type 0 w
 abbrev pub OrYields : ℕ → Type 0 → Type 0
 OrYields status P = P ⊎ ((status ≡ 10) ⊎ (status ≡ 11))
 
--- no read fault stands above the answer: what the words or too many bytes tell comes before, and else no fault was counted
+-- the links tell what they carry, and counted no fault
+abbrev pub LinksHold : LinkUseAt → Type 0
+LinksHold links = (links.tells ≡ true) × ¬ lanes.Rose links.faults links.faults_after
+
+-- no fault stands above the answer: what the words or too many bytes tell comes before; else no read fault was counted, and where
+-- parties run the links hold
 abbrev pub NoFaultAbove : CallAt → Answer → Type 0
 NoFaultAbove c ReadFault = ⊥
+NoFaultAbove c LinkFault = ⊥
+NoFaultAbove c (Damaged text) = ⊥
 NoFaultAbove c (Syntax fault) = ¬ Rose c.faults c.faults_after
 NoFaultAbove c (Check rule line) = ¬ Rose c.faults c.faults_after
-NoFaultAbove c (Ran verdict text) = ¬ Rose c.faults c.faults_after
+NoFaultAbove c (Ran verdict text) = ¬ Rose c.faults c.faults_after × (AsksFor RunsParties c → LinksHold c.links)
 NoFaultAbove c (Printed text) = ¬ Rose c.faults c.faults_after
 NoFaultAbove c _ = ⊤

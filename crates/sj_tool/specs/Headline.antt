@@ -11,18 +11,19 @@ use Rattle.sj_semantics.specs.World.{World}
 use Rattle.sj_accepted_laws.specs.Headline.{IsHeadline}
 use Rattle.sj_command.specs.declared.tasks.Task.{Task}
 use Rattle.sj_command.specs.declared.tasks.Task.TheVariants as tasks
-use Rattle.sj_tool.specs.Answers.{AsksFor, CallAt}
+use Rattle.sj_tool.specs.Answers.{AsksFor}
+use Rattle.sj_tool.specs.Calls.{CallAt}
 use Rattle.sj_tool.specs.Texts.{verdict_status}
 
 -- it plays a file to its end
 abbrev pub IsPlaying : Task → Type 0
 IsPlaying tasks.Sim = ⊤
-IsPlaying (tasks.Run log) = ⊤
+IsPlaying (tasks.Run log looks) = ⊤
 IsPlaying _ = ⊥
 
 -- it prints the history behind the transcript
 abbrev pub IsLogging : Task → Type 0
-IsLogging (tasks.Run true) = ⊤
+IsLogging (tasks.Run true looks) = ⊤
 IsLogging _ = ⊥
 
 -- the status of a file that was played: 0, 6 or 7

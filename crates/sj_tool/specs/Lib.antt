@@ -1,5 +1,7 @@
 pub mod Acting
 pub mod Answers
+pub mod Calls
+pub mod Damages
 pub mod Headline
 pub mod Outcomes
 pub mod Runs

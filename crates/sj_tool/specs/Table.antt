@@ -1,14 +1,39 @@
 -- What is asked of the table of answers itself.
-use Rattle.std.specs.Prelude.{◌≡◌, ◌≢◌, ◌-◌, ◌^◌}
+use Rattle.std.specs.Prelude.{◌≡◌, ◌≢◌, ◌⊎◌, ◌-◌, ◌^◌, ℕ, true, List, ◌++◌, Option}
+use Rattle.sj_lang.specs.FileAt.{FileAt}
+use Rattle.sj_rules.specs.Log.{LineAt}
+use Rattle.sj_semantics.specs.Run.{end_of}
+use Rattle.sj_semantics.specs.Transcript.{transcript_of}
 use Rattle.sj_tool.specs.declared.answers.Answer.{Answer}
-use Rattle.sj_tool.specs.Answers.{CallAt}
+use Rattle.sj_tool.specs.Answers.{Answers, AsksFor, LinksHold, RunsParties}
+use Rattle.sj_tool.specs.Calls.{CallAt}
+use Rattle.sj_tool.specs.Headline.{IsLogging}
+use Rattle.sj_tool.specs.Runs.{log_part}
 use Rattle.sj_tool.specs.Texts.{status_of, text_of}
 
--- the two have one status and one text
-pub record AreOne (a b : Answer) : Type 0 where
+-- one transcript of a file's end, and behind it two histories: in which order parties act is theirs
+pub record AreOneLog (s t : List ℕ) : Type 0 where
+  pub file : FileAt
+  pub first : List LineAt
+  pub second : List LineAt
+  pub first_text : s ≡ transcript_of file (end_of file) ++ log_part true file first
+  pub second_text : t ≡ transcript_of file (end_of file) ++ log_part true file second
+
+-- the two have one status and one text, up to the history where the words ask for it
+pub record AreOne (c : CallAt) (a b : Answer) : Type 0 where
   pub status : status_of a ≡ status_of b
-  pub text : text_of a ≡ text_of b
+  pub text : (text_of a ≡ text_of b) ⊎ (AsksFor IsLogging c × AreOneLog (text_of a) (text_of b))
+
+-- an answer that is one with that one is written, and its status is answered
+pub record AnswersAs (c : CallAt) (status : ℕ) (before after : Option (List ℕ)) (a : Answer) : Type 0 where
+  pub answer : Answer
+  pub one : AreOne c answer a
+  pub answers : Answers c status before after answer
 
 -- the count of faults isn't at its last value, from which it can't rise
 abbrev pub CanRise : CallAt → Type 0
 CanRise c = c.faults ≢ 2 ^ 64 - 1
+
+-- where parties run, the links hold
+abbrev pub RunsWell : CallAt → Type 0
+RunsWell c = AsksFor RunsParties c → LinksHold c.links

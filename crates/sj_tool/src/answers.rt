@@ -21,6 +21,10 @@ pub enum Answer {
     Syntax(Fault),
     /// The file isn't accepted: the number of the broken rule, and a line.
     Check(u8, u32),
+    /// The links met a fault.
+    LinkFault,
+    /// The joined logs are damaged: what is told of that.
+    Damaged(Vec<u8>),
     /// The file was played to its end: how it ended, and what is printed of it.
     Ran(Verdict, Vec<u8>),
     /// What was asked of a file is printed.
@@ -40,6 +44,8 @@ impl Answer {
             Answer::TooLarge => 3,
             Answer::Syntax(_) => 4,
             Answer::Check(..) => 5,
+            Answer::LinkFault => 8,
+            Answer::Damaged(_) => 9,
             Answer::Ran(verdict, _) => status_by(*verdict),
             Answer::Printed(_) | Answer::Made(_) => 0,
         }
@@ -58,6 +64,8 @@ impl Answer {
             Answer::TooLarge => copied_text(alloc, b"too large\n"),
             Answer::Syntax(fault) => syntax_text(alloc, fault),
             Answer::Check(rule, line) => check_text(alloc, rule, line),
+            Answer::LinkFault => copied_text(alloc, b"link fault\n"),
+            Answer::Damaged(text) => Ok(text),
             Answer::Ran(_, text) => Ok(text),
             Answer::Printed(text) | Answer::Made(text) => Ok(text),
         }

@@ -1,6 +1,8 @@
-//! Files that are run with the log: the transcript, and behind it the history of the core.
-use crate::test_calls::{expect, text_of};
-use crate::test_files::{FIRST, HANDED_ON, TOLD, UNUSED};
+//! Files whose core world is drained from its start on: the transcript, and behind it that history.
+//! The history of parties that run on threads is another one from run to run.
+use crate::test_calls::text_of;
+use crate::test_files::{FIRST, HANDED_ON, HANDED_ON_HISTORY, TOLD, UNUSED};
+use crate::test_worlds::expect_history;
 use std::test::Fail;
 
 #[test]
@@ -23,57 +25,13 @@ fn the_first_session_has_seven_events(rt: HostRuntime) -> Result<(), Fail> {
             "6 a from b fin 0.0 0 0",
         ],
     )?;
-    let file = text_of(rt.alloc(), &FIRST)?;
-    expect(&rt, rt.alloc(), &["run", "--log"], file, (0, &wanted))
+    expect_history(&rt, rt.alloc(), &FIRST, &wanted)
 }
 
 #[test]
 fn what_was_untaken_is_resent_to_the_new_holder(rt: HostRuntime) -> Result<(), Fail> {
-    let wanted = text_of(
-        rt.alloc(),
-        &[
-            "session 0 a x b y",
-            "0.0 0 a b int 1",
-            "0.0 1 a c int 2",
-            "0.0 2 a c int 3",
-            "session 1 b z c u",
-            "1.0 0 b c session 0.1 b",
-            "party a ended 4",
-            "party b ended 3",
-            "party c ended 5",
-            "done",
-            "%%log",
-            "1 a send 0.0 int 1",
-            "2 a send 0.0 int 2",
-            "3 a send 0.0 int 3",
-            "4 a close 0.0",
-            "2 b from a carry 0.1 0 0 0 int 1",
-            "3 b from a carry 0.1 0 1 0 int 2",
-            "4 b from a carry 0.1 0 2 0 int 3",
-            "5 b from a fin 0.1 0 3",
-            "6 b take 0.1 int 1",
-            "7 b send 1.0 session 0.1 b",
-            "8 b close 1.0",
-            "8 c from b carry 1.1 0 0 0 session 0.1 b",
-            "9 c from b fin 1.1 0 1",
-            "10 c take 1.1 session 0.1 b",
-            "11 b from c claim 0.1",
-            "12 a from b signal 0.0 0 c 1",
-            "13 b from a ack 0.1 0",
-            "13 c from a carry 0.1 1 1 0 int 2",
-            "14 c from a carry 0.1 1 2 0 int 3",
-            "15 c from a fin 0.1 1 3",
-            "16 c from b give 0.1 1 a 0 1 0 -",
-            "17 c take 0.1 int 2",
-            "18 c take 0.1 int 3",
-            "19 c close 0.1",
-            "20 c close 1.1",
-            "20 a from c fin 0.0 1 0",
-            "21 b from c fin 1.0 0 0",
-        ],
-    )?;
-    let file = text_of(rt.alloc(), &HANDED_ON)?;
-    expect(&rt, rt.alloc(), &["run", "--log"], file, (0, &wanted))
+    let wanted = text_of(rt.alloc(), &HANDED_ON_HISTORY)?;
+    expect_history(&rt, rt.alloc(), &HANDED_ON, &wanted)
 }
 
 #[test]
@@ -110,8 +68,7 @@ fn nothing_is_resent_where_nothing_was_sent(rt: HostRuntime) -> Result<(), Fail>
             "14 c from a fin 0.1 1 0",
         ],
     )?;
-    let file = text_of(rt.alloc(), &UNUSED)?;
-    expect(&rt, rt.alloc(), &["run", "--log"], file, (0, &wanted))
+    expect_history(&rt, rt.alloc(), &UNUSED, &wanted)
 }
 
 #[test]
@@ -158,6 +115,5 @@ fn what_was_told_as_taken_is_left_out_of_the_cache(rt: HostRuntime) -> Result<()
             "21 b from c fin 1.0 0 0",
         ],
     )?;
-    let file = text_of(rt.alloc(), &TOLD)?;
-    expect(&rt, rt.alloc(), &["run", "--log"], file, (0, &wanted))
+    expect_history(&rt, rt.alloc(), &TOLD, &wanted)
 }

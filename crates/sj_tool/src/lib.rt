@@ -4,6 +4,7 @@
 mod acting;
 mod answers;
 mod counting;
+mod damage;
 mod laws;
 mod logging;
 mod playing;
@@ -13,6 +14,12 @@ mod showing;
 pub use laws::the_table_gives_one_answer;
 pub use run::sj;
 
+#[cfg(test)]
+mod core_tests;
+#[cfg(test)]
+mod example_files;
+#[cfg(test)]
+mod example_tests;
 #[cfg(test)]
 mod history_tests;
 #[cfg(test)]
@@ -27,3 +34,7 @@ mod refusal_tests;
 mod test_calls;
 #[cfg(test)]
 mod test_files;
+#[cfg(test)]
+mod test_worlds;
+#[cfg(test)]
+mod thread_tests;

@@ -1,8 +1,9 @@
 //! Files that are played to their end.
 use crate::test_calls::{edited, expect, expect_played, text_of};
 use crate::test_files::{
-    AGENCY, BACK_AGAIN, CROSSING, FIRST, FIRST_TRANSCRIPT, HANDED_ON, OPPOSITE, TO_ITSELF,
-    TO_THE_PEER,
+    AGENCY, AGENCY_TRANSCRIPT, BACK_AGAIN, BACK_AGAIN_TRANSCRIPT, CROSSING, CROSSING_TRANSCRIPT,
+    FIRST, FIRST_TRANSCRIPT, HANDED_ON, OPPOSITE, OPPOSITE_TRANSCRIPT, TO_ITSELF, TO_THE_PEER,
+    TO_THE_PEER_TRANSCRIPT,
 };
 use std::test::Fail;
 
@@ -46,29 +47,7 @@ fn empty_protocols_are_closed_at_once(rt: HostRuntime) -> Result<(), Fail> {
 
 #[test]
 fn the_agency_delegates_to_the_supplier(rt: HostRuntime) -> Result<(), Fail> {
-    let wanted = text_of(
-        rt.alloc(),
-        &[
-            "session 0 customer x agency y",
-            "0.0 0 customer agency more",
-            "0.0 1 customer agency String \"Paris\"",
-            "0.0 2 customer agency more",
-            "0.0 3 customer agency String \"Paris\"",
-            "0.0 4 customer agency stop",
-            "0.0 5 customer agency label ACCEPT",
-            "0.0 6 customer supplier String \"1 High Street\"",
-            "0.1 0 agency customer int 400",
-            "0.1 1 agency customer int 300",
-            "0.1 2 supplier customer String \"3 May\"",
-            "session 1 agency z supplier u",
-            "1.0 0 agency supplier label ACCEPT",
-            "1.0 1 agency supplier session 0.1 agency",
-            "party customer ended 13",
-            "party agency ended 14",
-            "party supplier ended 6",
-            "done",
-        ],
-    )?;
+    let wanted = text_of(rt.alloc(), &AGENCY_TRANSCRIPT)?;
     expect_played(&rt, rt.alloc(), &AGENCY, (0, &wanted))
 }
 
@@ -125,59 +104,19 @@ fn untaken_numbers_go_to_the_new_holder(rt: HostRuntime) -> Result<(), Fail> {
 
 #[test]
 fn both_ends_are_handed_on(rt: HostRuntime) -> Result<(), Fail> {
-    let wanted = text_of(
-        rt.alloc(),
-        &[
-            "session 0 a x b y",
-            "0.0 0 a d int 1",
-            "0.0 1 c d int 2",
-            "session 1 a z c u",
-            "1.0 0 a c session 0.0 a",
-            "session 2 b z d u",
-            "2.0 0 b d session 0.1 b",
-            "party a ended 3",
-            "party b ended 2",
-            "party c ended 4",
-            "party d ended 5",
-            "done",
-        ],
-    )?;
+    let wanted = text_of(rt.alloc(), &CROSSING_TRANSCRIPT)?;
     expect_played(&rt, rt.alloc(), &CROSSING, (0, &wanted))
 }
 
 #[test]
 fn an_end_comes_back(rt: HostRuntime) -> Result<(), Fail> {
-    let wanted = text_of(
-        rt.alloc(),
-        &[
-            "session 0 a x b y",
-            "0.0 0 a b int 1",
-            "session 1 b z c u",
-            "1.0 0 b c session 0.1 b",
-            "1.1 0 c b session 0.1 c",
-            "party a ended 2",
-            "party b ended 5",
-            "party c ended 3",
-            "done",
-        ],
-    )?;
+    let wanted = text_of(rt.alloc(), &BACK_AGAIN_TRANSCRIPT)?;
     expect_played(&rt, rt.alloc(), &BACK_AGAIN, (0, &wanted))
 }
 
 #[test]
 fn an_end_goes_to_its_peers_holder(rt: HostRuntime) -> Result<(), Fail> {
-    let wanted = text_of(
-        rt.alloc(),
-        &[
-            "session 0 a x b y",
-            "0.0 0 b b int 4",
-            "session 1 a z b u",
-            "1.0 0 a b session 0.0 a",
-            "party a ended 2",
-            "party b ended 6",
-            "done",
-        ],
-    )?;
+    let wanted = text_of(rt.alloc(), &TO_THE_PEER_TRANSCRIPT)?;
     expect_played(&rt, rt.alloc(), &TO_THE_PEER, (0, &wanted))
 }
 
@@ -221,15 +160,6 @@ fn sums_wrap(rt: HostRuntime) -> Result<(), Fail> {
 
 #[test]
 fn opposite_orders_block(rt: HostRuntime) -> Result<(), Fail> {
-    let wanted = text_of(
-        rt.alloc(),
-        &[
-            "session 0 a x b y",
-            "session 1 a w b z",
-            "party a waits 0 0.0",
-            "party b waits 0 1.1",
-            "blocked",
-        ],
-    )?;
+    let wanted = text_of(rt.alloc(), &OPPOSITE_TRANSCRIPT)?;
     expect_played(&rt, rt.alloc(), &OPPOSITE, (6, &wanted))
 }

@@ -41,7 +41,14 @@ fn show_asks_for_no_accepted_file(rt: HostRuntime) -> Result<(), Fail> {
 
 #[test]
 fn the_generated_file_is_accepted(rt: HostRuntime) -> Result<(), Fail> {
-    let (status, made) = answer(rt.alloc(), &["make", "1"], Vec::new(rt.alloc()), &[0], &[])?;
+    let (status, made) = answer(
+        &rt,
+        rt.alloc(),
+        &["make", "1"],
+        Vec::new(rt.alloc()),
+        &[0],
+        &[],
+    )?;
     assert_eq!(rt; status, 0);
     let file = Vec::from_slice(rt.alloc(), made.text())?;
     expect(
@@ -57,7 +64,7 @@ fn the_generated_file_is_accepted(rt: HostRuntime) -> Result<(), Fail> {
 fn the_generated_file_is_canonical(rt: HostRuntime) -> Result<(), Fail> {
     for count in ["1", "10", "1000"] {
         let words = ["make", count];
-        let (_, made) = answer(rt.alloc(), &words, Vec::new(rt.alloc()), &[], &[])?;
+        let (_, made) = answer(&rt, rt.alloc(), &words, Vec::new(rt.alloc()), &[], &[])?;
         assert_eq!(rt;
             printed(rt.alloc(), made.text())?.as_slice(),
             made.text(),
@@ -92,7 +99,7 @@ fn printed_text_is_printed_again_as_it_is(rt: HostRuntime) -> Result<(), Fail> {
 #[test]
 fn the_agency_printed_is_the_same_file(rt: HostRuntime) -> Result<(), Fail> {
     let file = text_of(rt.alloc(), &AGENCY)?;
-    let (_, before) = answer(rt.alloc(), &["sim"], file, &[], &[])?;
+    let (_, before) = answer(&rt, rt.alloc(), &["sim"], file, &[], &[])?;
     let again = printed(rt.alloc(), &text_of(rt.alloc(), &AGENCY)?)?;
     expect(&rt, rt.alloc(), &["sim"], again, (0, before.text()))
 }

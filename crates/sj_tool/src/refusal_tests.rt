@@ -158,7 +158,7 @@ fn a_file_may_have_65536_bytes(rt: HostRuntime) -> Result<(), Fail> {
 fn a_failed_read_is_a_read_fault(rt: HostRuntime) -> Result<(), Fail> {
     for call in [0, 1] {
         let file = text_of(rt.alloc(), &FIRST)?;
-        let (status, out) = answer(rt.alloc(), &["check"], file, &[call], &[])?;
+        let (status, out) = answer(&rt, rt.alloc(), &["check"], file, &[call], &[])?;
         assert_eq!(rt; out.text(), b"read fault\n".as_slice(), "at call {call}");
         assert_eq!(rt; status, 2, "at call {call}");
     }
@@ -170,7 +170,7 @@ fn a_failed_write_leaves_a_front_of_the_text(rt: HostRuntime) -> Result<(), Fail
     let whole = text_of(rt.alloc(), &FIRST_TRANSCRIPT)?;
     for (call, length) in [(0, 0), (1, 16), (2, 32), (3, 48), (4, 64)] {
         let file = text_of(rt.alloc(), &FIRST)?;
-        let (status, out) = answer(rt.alloc(), &["run"], file, &[], &[call])?;
+        let (status, out) = answer(&rt, rt.alloc(), &["run"], file, &[], &[call])?;
         assert_eq!(rt; out.text().len(), length, "at call {call}");
         assert!(rt; whole.starts_with(out.text()), "at call {call}");
         assert_eq!(rt; status, 10, "at call {call}");
@@ -193,7 +193,7 @@ fn other_words_give_the_usage_line(rt: HostRuntime) -> Result<(), Fail> {
     ];
     for words in rows {
         let file = text_of(rt.alloc(), &FIRST)?;
-        let (status, out) = answer(rt.alloc(), words, file, &[0], &[])?;
+        let (status, out) = answer(&rt, rt.alloc(), words, file, &[0], &[])?;
         assert_eq!(rt; out.text(), USAGE.as_bytes(), "{words:?}");
         assert_eq!(rt; status, 1, "{words:?}");
     }

@@ -1,11 +1,15 @@
 //! The top call: from the words and the input to the output.
-ghost use Rattle.std.specs.Prelude.{◌≡◌, ◌<◌, ◌≤◌, map, length, string_bytes, IfOk, IfSome, ⊤};
+ghost use Rattle.std.specs.Prelude.{◌≡◌, ◌<◌, ◌≤◌, map, length, string_bytes, IfOk, IfSome, true, ⊤};
 ghost use Rattle.sj_base.specs.Stream.{Rose, CameOf};
 ghost use Rattle.sj_lang.specs.FileView.{file_of};
 ghost use Rattle.sj_grammar.specs.Limits.{limits};
 ghost use Rattle.sj_party.specs.Within.{IsWithin};
 ghost use Rattle.sj_check.specs.Held.{file_in};
-ghost use Rattle.sj_tool.specs.Answers.{Answers, AsksFor, AnswersFile, AnswersOne, AnswersText, Comes, NoFaultAbove, OrYields, Reads, WroteFront, call};
+ghost use Rattle.sj_lane.specs.Told as lanes;
+ghost use Rattle.sj_tool.specs.Answers.{AsksFor, AnswersFile, AnswersOne, AnswersText, Comes, NoFaultAbove, OrYields, Reads, WroteFront};
+ghost use Rattle.sj_tool.specs.Calls.{LinkUseAt, call, used};
+ghost use Rattle.sj_tool.specs.Damages.{IsToldSo};
+ghost use Rattle.sj_tool.specs.Table.{AnswersAs};
 ghost use Rattle.sj_tool.specs.Headline.{HasHeadline, IsPlaying, IsVerdict};
 ghost use Rattle.sj_tool.specs.Outcomes.{IsJudged};
 ghost use Rattle.sj_command.specs.declared.tasks.Task.TheVariants as tasks;
@@ -13,16 +17,21 @@ ghost use Rattle.sj_tool.specs.declared.answers.Answer.{Answer as AnyAnswer};
 
 use crate::answers::Answer;
 use crate::counting::counts_text;
-use crate::playing::{ran, simulated};
+use crate::damage::damage_text;
+use crate::playing::{Order, ran, simulated};
 use crate::showing::shown_text;
 use sj_base::{NoMemory, ReadRefusal, Sink, Source, WriteFault, read_all, write_all_of};
 use sj_check::{Accepted, CheckRefusal, check};
 use sj_command::{Task, task_in};
 use sj_generator::print_generated;
+use sj_lane::Links;
 use sj_lang::File;
 use sj_party::parse_file;
 use sj_proto::ParseRefusal;
+use sj_run::RunRefusal;
+use sj_work::Gate;
 use std::alloc::Global;
+use std::thread::Threads;
 
 /// The most bytes of a file.
 const MAX_FILE: usize = 65_536;
@@ -37,35 +46,57 @@ const NO_MEMORY: u8 = 11;
 ///
 /// The words are those behind the program's name. The text is built whole before any of it is
 /// written.
+///
+/// `run` runs the parties of a file over the links, each on a thread of its own where the runtime gives
+/// one, and shows each event of theirs to the gate.
 #[tactic(auto, using(crate::proofs::HeadlineOfAnswers::no_headline))]
-pub fn sj<S: Source, K: Sink>(alloc: Global, words: &[String], src: &mut S, out: &mut K) -> u8
+pub fn sj<R: Threads + Sync, S: Source, K: Sink, L: Links, G: Gate>(
+    rt: &R,
+    alloc: Global,
+    words: &[String],
+    src: &mut S,
+    out: &mut K,
+    links: &mut L,
+    gate: &G,
+) -> u8
     // An answer of the table comes, and its text is written behind what was written before.
-    ensures answer { OrYields result (AnswersOne (call S.left S.faults words.now src.old src.new)
+    ensures answer { OrYields result (AnswersOne (call S.left S.faults words.now src.old src.new
+        (used L.tells L.faults L.sent L.got L.vain_out L.vain_in links.old links.new))
         result (K.written out.old) (K.written out.new)) }
 
-    // Whatever answer the table gives, it is the answer, where the source tells.
+    // Whatever answer the table gives, it is the answer, where the source tells; of a log its history
+    // alone may be another.
     ensures exactly { IfSome (S.left src.old) (λ _. (a : AnyAnswer)
-        → Comes (call S.left S.faults words.now src.old src.new) a
-        → NoFaultAbove (call S.left S.faults words.now src.old src.new) a
-        → OrYields result (Answers (call S.left S.faults words.now src.old src.new)
+        → Comes (call S.left S.faults words.now src.old src.new
+        (used L.tells L.faults L.sent L.got L.vain_out L.vain_in links.old links.new)) a
+        → NoFaultAbove (call S.left S.faults words.now src.old src.new
+        (used L.tells L.faults L.sent L.got L.vain_out L.vain_in links.old links.new)) a
+        → OrYields result (AnswersAs (call S.left S.faults words.now src.old src.new
+        (used L.tells L.faults L.sent L.got L.vain_out L.vain_in links.old links.new))
         result (K.written out.old) (K.written out.new) a)) }
 
     // What `sim` and `run` write with 0, 6 or 7 is the transcript of a run with the headline.
     ensures headline { IsVerdict result
-        → AsksFor IsPlaying (call S.left S.faults words.now src.old src.new)
-        → HasHeadline (call S.left S.faults words.now src.old src.new) result
+        → AsksFor IsPlaying (call S.left S.faults words.now src.old src.new
+        (used L.tells L.faults L.sent L.got L.vain_out L.vain_in links.old links.new))
+        → HasHeadline (call S.left S.faults words.now src.old src.new
+        (used L.tells L.faults L.sent L.got L.vain_out L.vain_in links.old links.new)) result
         (K.written out.old) (K.written out.new) }
 
-    // A read fault and a write fault come only where a fault was counted.
+    // A read fault, a link fault and a write fault come only where a fault was counted, and damage only
+    // over links that don't tell.
     ensures read_fault { result ≡ 2 → Rose (S.faults src.old) (S.faults src.new) }
+    ensures link_fault { result ≡ 8 → lanes.Rose (L.faults links.old) (L.faults links.new) }
+    ensures damaged { result ≡ 9 → L.tells links.old ≡ true → ⊥ }
     ensures write_fault { result ≡ 10 → Rose (K.faults out.old) (K.faults out.new) }
 
     // A front of the answer's text was written where the sink failed, and nothing without memory.
-    ensures front { result ≡ 10 → WroteFront (call S.left S.faults words.now src.old src.new)
+    ensures front { result ≡ 10 → WroteFront (call S.left S.faults words.now src.old src.new
+        (used L.tells L.faults L.sent L.got L.vain_out L.vain_in links.old links.new))
         (K.written out.old) (K.written out.new) }
     ensures no_memory { result ≡ 11 → K.written out.new ≡ K.written out.old }
 {
-    let answer = match answer_to(alloc, words, src) {
+    let answer = match answer_to(rt, alloc, words, src, links, gate) {
         Ok(answer) => answer,
         Err(NoMemory) => return NO_MEMORY,
     };
@@ -81,8 +112,16 @@ pub fn sj<S: Source, K: Sink>(alloc: Global, words: &[String], src: &mut S, out:
 }
 
 // The answer to the words and the input.
-fn answer_to<S: Source>(alloc: Global, words: &[String], src: &mut S) -> Result<Answer, NoMemory>
-    ensures { IfOk result (Comes (call S.left S.faults words.now src.old src.new)) }
+fn answer_to<R: Threads + Sync, S: Source, L: Links, G: Gate>(
+    rt: &R,
+    alloc: Global,
+    words: &[String],
+    src: &mut S,
+    links: &mut L,
+    gate: &G,
+) -> Result<Answer, NoMemory>
+    ensures { IfOk result (Comes (call S.left S.faults words.now src.old src.new
+        (used L.tells L.faults L.sent L.got L.vain_out L.vain_in links.old links.new))) }
 {
     let Some(task) = task_in(alloc, words)? else {
         return Ok(Answer::Usage);
@@ -93,7 +132,7 @@ fn answer_to<S: Source>(alloc: Global, words: &[String], src: &mut S) -> Result<
         return Ok(Answer::Made(text));
     }
     match read_all(alloc, src, MAX_FILE) {
-        Ok(bytes) => answer_to_bytes(alloc, task, &bytes),
+        Ok(bytes) => answer_to_bytes(rt, alloc, task, &bytes, links, gate),
         Err(ReadRefusal::ReadFault) => Ok(Answer::ReadFault),
         Err(ReadRefusal::TooLarge) => Ok(Answer::TooLarge),
         Err(ReadRefusal::NoMemory) => Err(NoMemory),
@@ -101,10 +140,18 @@ fn answer_to<S: Source>(alloc: Global, words: &[String], src: &mut S) -> Result<
 }
 
 // The answer to a text.
-fn answer_to_bytes(alloc: Global, task: Task, bytes: &[u8]) -> Result<Answer, NoMemory>
+fn answer_to_bytes<R: Threads + Sync, L: Links, G: Gate>(
+    rt: &R,
+    alloc: Global,
+    task: Task,
+    bytes: &[u8],
+    links: &mut L,
+    gate: &G,
+) -> Result<Answer, NoMemory>
     requires few { length bytes.now ≤ 65536 }
     requires reads { Reads task }
-    ensures { IfOk result (AnswersText task bytes.now) }
+    ensures { IfOk result (AnswersText (used L.tells L.faults L.sent L.got L.vain_out L.vain_in links.old links.new)
+        task bytes.now) }
 {
     let file = match parse_file(alloc, bytes) {
         Ok(file) => file,
@@ -113,9 +160,15 @@ fn answer_to_bytes(alloc: Global, task: Task, bytes: &[u8]) -> Result<Answer, No
     };
     match task {
         Task::Show => Ok(Answer::Printed(shown_text(alloc, &file)?)),
-        Task::Check => counted(alloc, file),
-        Task::Sim => sim(alloc, file),
-        Task::Run { log } => run(alloc, file, log),
+        Task::Check => {
+            let answer = counted(alloc, file)?;
+            Ok(answer)
+        }
+        Task::Sim => {
+            let answer = sim(alloc, file)?;
+            Ok(answer)
+        }
+        Task::Run { log, looks } => run(rt, alloc, file, Order { log, looks }, links, gate),
         // It reads no text.
         Task::Make(_) => unreachable!(),
     }
@@ -124,7 +177,7 @@ fn answer_to_bytes(alloc: Global, task: Task, bytes: &[u8]) -> Result<Answer, No
 // The counts of a file, where it is accepted.
 fn counted(alloc: Global, file: File) -> Result<Answer, NoMemory>
     requires { IsWithin limits (file_of file) }
-    ensures { IfOk result (AnswersFile tasks.Check (file_of file)) }
+    ensures { IfOk result (λ a. (links : LinkUseAt) → AnswersFile links tasks.Check (file_of file) a) }
 {
     match judge(alloc, file)? {
         Judged::Accepted(accepted) => { Ok(Answer::Printed(counts_text(alloc, accepted.file())?)) }
@@ -135,7 +188,7 @@ fn counted(alloc: Global, file: File) -> Result<Answer, NoMemory>
 // How a file ends and its transcript, where it is accepted.
 fn sim(alloc: Global, file: File) -> Result<Answer, NoMemory>
     requires { IsWithin limits (file_of file) }
-    ensures { IfOk result (AnswersFile tasks.Sim (file_of file)) }
+    ensures { IfOk result (λ a. (links : LinkUseAt) → AnswersFile links tasks.Sim (file_of file) a) }
 {
     match judge(alloc, file)? {
         Judged::Accepted(accepted) => {
@@ -146,17 +199,44 @@ fn sim(alloc: Global, file: File) -> Result<Answer, NoMemory>
     }
 }
 
-// The same by its core world, with the history where the log is asked for.
-fn run(alloc: Global, file: File, log: bool) -> Result<Answer, NoMemory>
+// The same by its parties over those links, with their history where the log is asked for.
+fn run<R: Threads + Sync, L: Links, G: Gate>(
+    rt: &R,
+    alloc: Global,
+    file: File,
+    order: Order,
+    links: &mut L,
+    gate: &G,
+) -> Result<Answer, NoMemory>
     requires { IsWithin limits (file_of file) }
-    ensures { IfOk result (AnswersFile (tasks.Run log) (file_of file)) }
+    ensures { IfOk result (AnswersFile (used L.tells L.faults L.sent L.got L.vain_out L.vain_in links.old links.new)
+        (tasks.Run order.log order.looks) (file_of file)) }
 {
-    match judge(alloc, file)? {
-        Judged::Accepted(accepted) => {
-            let (verdict, text) = ran(alloc, &accepted, log)?;
-            Ok(Answer::Ran(verdict, text))
+    let accepted = match judge(alloc, file)? {
+        Judged::Accepted(accepted) => accepted,
+        Judged::Fault(rule, line) => return Ok(Answer::Check(rule, line)),
+    };
+    match ran(rt, alloc, &accepted, order, links, gate) {
+        Ok((verdict, text)) => Ok(Answer::Ran(verdict, text)),
+        Err(refusal) => {
+            let answer = refused(alloc, accepted.file(), refusal)?;
+            Ok(answer)
         }
-        Judged::Fault(rule, line) => Ok(Answer::Check(rule, line)),
+    }
+}
+
+// What is answered where the parties of a file couldn't be run.
+fn refused(alloc: Global, file: &File, refusal: RunRefusal) -> Result<Answer, NoMemory>
+    ensures { IfOk result (IsToldSo (file_of file.now) refusal) }
+{
+    match refusal {
+        RunRefusal::LinkFault => Ok(Answer::LinkFault),
+        RunRefusal::Damaged {
+            number,
+            logged,
+            due,
+        } => Ok(Answer::Damaged(damage_text(alloc, file, number, &logged, &due)?)),
+        RunRefusal::NoMemory => Err(NoMemory),
     }
 }
 

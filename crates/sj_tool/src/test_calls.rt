@@ -1,9 +1,12 @@
 //! A call of the program, over a source and a sink in memory.
 use crate::sj;
 use sj_base::{MemSink, MemSource};
+use sj_lane::RingLinks;
+use sj_work::NoGate;
 use std::alloc::Global;
 use std::process::Abort;
 use std::test::Fail;
+use std::thread::Threads;
 
 pub(crate) const USAGE: &str =
     "usage: sj check | show | sim | run [--log] [--looks N] | replay [--log] | make N | big N\n";
@@ -30,7 +33,8 @@ pub(crate) fn edited(alloc: Global, lines: &[&str], at: usize, new: &str) -> Res
 }
 
 // The status that comes of the words and the bytes, and what is written.
-pub(crate) fn answer(
+pub(crate) fn answer<R: Threads + Sync>(
+    rt: &R,
     alloc: Global,
     words: &[&str],
     bytes: Vec<u8>,
@@ -43,26 +47,28 @@ pub(crate) fn answer(
     }
     let mut src = MemSource::new(bytes, Vec::from_slice(alloc, reads_fail)?);
     let mut out = MemSink::new(alloc, 100_000, Vec::from_slice(alloc, writes_fail)?)?;
-    Ok((sj(alloc, &all, &mut src, &mut out), out))
+    let mut links = RingLinks::new();
+    let status = sj(rt, alloc, &all, &mut src, &mut out, &mut links, &NoGate);
+    Ok((status, out))
 }
 
 // These words and bytes give this status, and this is written.
-pub(crate) fn expect(
-    rt: &impl Abort,
+pub(crate) fn expect<R: Abort + Threads + Sync>(
+    rt: &R,
     alloc: Global,
     words: &[&str],
     bytes: Vec<u8>,
     wanted: (u8, &[u8]),
 ) -> Result<(), Fail> {
-    let (status, out) = answer(alloc, words, bytes, &[], &[])?;
+    let (status, out) = answer(rt, alloc, words, bytes, &[], &[])?;
     assert_eq!(rt; out.text(), wanted.1, "{words:?}");
     assert_eq!(rt; status, wanted.0, "{words:?}");
     Ok(())
 }
 
 // Both commands that play a file give this status for it, and this is written.
-pub(crate) fn expect_played(
-    rt: &impl Abort,
+pub(crate) fn expect_played<R: Abort + Threads + Sync>(
+    rt: &R,
     alloc: Global,
     lines: &[&str],
     wanted: (u8, &[u8]),

@@ -1,0 +1,10 @@
+//! What every program does: the top call over the words that stand behind the program's name.
+#![tactic(auto)]
+
+mod entry;
+mod words;
+
+pub use entry::enter;
+
+#[cfg(test)]
+mod tests;

@@ -1,0 +1,10 @@
+mod HiredLemmas
+mod JoinLemmas
+mod LogLemmas
+mod RestLemmas
+mod RunLemmas
+mod ShownLemmas
+mod TeamLemmas
+mod StopLemmas
+mod WaitLemmas
+mod WorkedLemmas

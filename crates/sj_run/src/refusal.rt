@@ -1,0 +1,33 @@
+//! Why a file isn't run by its parties.
+ghost use Rattle.std.specs.Prelude.{◌≡◌};
+
+use sj_base::NoMemory;
+use sj_end::Line;
+use thiserror::Error;
+
+/// Why a file isn't run by its parties, in the order of refusals.
+#[derive(Clone, Copy, Debug, PartialEq, Eq, Error)]
+pub enum RunRefusal {
+    /// The links, or a lane of theirs, met a fault.
+    #[error("link fault")]
+    LinkFault,
+    /// The entry of that number in the joined logs, counted from 1, isn't the one that is due there.
+    #[error("damaged entry {number}")]
+    Damaged {
+        number: u64,
+        logged: Line,
+        due: Option<Line>,
+    },
+    #[error("no memory")]
+    NoMemory,
+}
+
+impl From<NoMemory> for RunRefusal {
+    ghost use Rattle.sj_run.specs.declared.refusal.RunRefusal.TheVariants as refusals;
+
+    ghost from_gives = { λ _ e. e ≡ refusals.NoMemory };
+
+    fn from(_: NoMemory) -> Self {
+        RunRefusal::NoMemory
+    }
+}

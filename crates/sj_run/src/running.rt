@@ -1,0 +1,122 @@
+//! A file run by its parties.
+ghost use Rattle.std.specs.Prelude.{◌≡◌, ◌≤◌, Err, IfErr, IfOk, length, map, max, true};
+ghost use Rattle.sj_check.specs.Held.{file_in as held};
+ghost use Rattle.sj_core.specs.World.{history_of, kept, party_count, world_at};
+ghost use Rattle.sj_lane.specs.Told.{Rose};
+ghost use Rattle.sj_lang.specs.FileView.{file_of};
+ghost use Rattle.sj_plain.specs.Kept.{without_words};
+ghost use Rattle.sj_rules.specs.History.{IsHistory};
+ghost use Rattle.sj_end.specs.Lines.{line_at};
+ghost use Rattle.sj_run.specs.Damage.{IsDamaged, IsDamagedSo, IsMisfitOf, IsPastEndOf};
+ghost use Rattle.sj_run.specs.Shown.{IsShown, keeps_of};
+
+use crate::RunRefusal;
+use crate::hiring::worked;
+use crate::joining::{given_up, joined};
+use crate::stops::{any_faulty, any_short, first_unfit};
+use sj_base::NoMemory;
+use sj_check::Accepted;
+use sj_core::{ReplayRefusal, World, is_the_line};
+use sj_end::Line;
+use sj_lane::Links;
+use sj_work::Gate;
+use std::alloc::Global;
+use std::thread::Threads;
+
+/// The core world to which these lines lead from the file's start on.
+fn replayed(alloc: Global, accepted: &Accepted, lines: &[Line]) -> Result<World, RunRefusal>
+    ensures kept { IfOk result (λ w. kept w ≡ without_words (file_of (held accepted.now))) }
+    ensures history { IfOk result (λ w. history_of w ≡ map line_at lines.now) }
+    ensures run { IfOk result (λ w. IsHistory max (file_of (held accepted.now)) (map line_at lines.now) (world_at w)) }
+    ensures damaged { IfErr result (IsMisfitOf (file_of (held accepted.now)) (map line_at lines.now)) }
+    ensures whole { result ≡ Err RunRefusal.LinkFault → ⊥ }
+{
+    let mut world = World::start(alloc, accepted)?;
+    match world.replay(lines) {
+        Ok(()) => Ok(world),
+        Err(
+            ReplayRefusal::Misfit {
+                number,
+                logged,
+                due,
+            },
+        ) => Err(RunRefusal::Damaged {
+            number,
+            logged,
+            due,
+        }),
+        Err(ReplayRefusal::NoMemory) => Err(RunRefusal::NoMemory),
+    }
+}
+
+/// Why a worker that refused an event behind these lines makes them damaged.
+fn past_end(world: &World, lines: &[Line], refused: Line) -> RunRefusal
+    ensures refused { IsPastEndOf (kept world.now) (world_at world.now) (map line_at lines.now) result }
+    ensures whole { result ≡ RunRefusal.LinkFault → ⊥ }
+{
+    let due = world.due(refused.party, refused.entry.event);
+    if is_the_line(&due, &refused) {
+        // What fits a node fits that of the core world, which has the same log.
+        return RunRefusal::NoMemory;
+    }
+    RunRefusal::Damaged {
+        number: lines.len() as u64 + 1,
+        logged: refused,
+        due,
+    }
+}
+
+/// Runs a file by its parties, each on a thread of its own where one can be had, over lanes that the
+/// links make. Their logs, joined, are replayed in a core world, which is what the parties left.
+///
+/// A worker that wanted memory makes the whole want memory, unless the links met a fault or the logs
+/// are damaged.
+pub fn run_parties<R: Threads + Sync, L: Links, G: Gate>(
+    rt: &R,
+    alloc: Global,
+    accepted: &Accepted,
+    looks: u32,
+    links: &mut L,
+    gate: &G,
+) -> Result<World, RunRefusal>
+    // A world of the file, to which its history leads.
+    ensures kept { IfOk result (λ w. kept w ≡ without_words (file_of (held accepted.now))) }
+    ensures run { IfOk result (λ w. IsHistory max (kept w) (history_of w) (world_at w)) }
+    ensures parties { IfOk result (λ w. party_count w ≡ length (kept w).parties) }
+
+    // Links that tell show its history, in which nobody could go on alone.
+    ensures shown { IfOk result (λ w. L.tells links.old ≡ true →
+        IsShown (file_of (held accepted.now)) looks (keeps_of L.sent L.got L.vain_out L.vain_in links.new)
+        (history_of w) (world_at w)) }
+
+    // A fault comes only where the links counted one, and damage only of links that don't tell.
+    ensures link_fault { result ≡ Err RunRefusal.LinkFault → Rose (L.faults links.old) (L.faults links.new) }
+    ensures damaged { IfErr result (IsDamagedSo (file_of (held accepted.now))) }
+    ensures telling { IfErr result (λ r. IsDamaged r → L.tells links.old ≡ true → ⊥) }
+
+    // What the links are stays, and their count of faults doesn't fall.
+    ensures tells { L.tells links.new ≡ L.tells links.old }
+    ensures faults { L.faults links.old ≤ L.faults links.new }
+{
+    let workers = worked(rt, alloc, accepted, looks, links, gate)?;
+    let lines = joined(alloc, &workers)?;
+    let faulty = any_faulty(&workers);
+    let short = any_short(&workers);
+    let unfit = first_unfit(&workers);
+    let lanes = given_up(alloc, workers)?;
+    links.back(lanes);
+    if faulty {
+        return Err(RunRefusal::LinkFault);
+    }
+    let world = match replayed(alloc, accepted, &lines) {
+        Ok(world) => world,
+        Err(refusal) => return Err(refusal),
+    };
+    if let Some(refused) = unfit {
+        return Err(past_end(&world, &lines, refused));
+    }
+    if short {
+        return Err(RunRefusal::NoMemory);
+    }
+    Ok(world)
+}

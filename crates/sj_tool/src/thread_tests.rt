@@ -1,0 +1,134 @@
+//! Parties that run on threads.
+use crate::sj;
+use crate::test_calls::{expect, text_of};
+use crate::test_files::{
+    AGENCY, AGENCY_TRANSCRIPT, BACK_AGAIN, BACK_AGAIN_TRANSCRIPT, CROSSING, CROSSING_TRANSCRIPT,
+};
+use crate::test_worlds::accepted;
+use sj_base::{MemSink, MemSource};
+use sj_core::World;
+use sj_end::Entry;
+use sj_lane::{MemLinks, RingLinks};
+use sj_run::run_parties;
+use sj_work::{Gate, NoGate};
+use std::sync::atomic::{AtomicU64, Ordering};
+use std::test::Fail;
+
+// Each of two parties is held at its first event until the other has passed its own, or so many looks
+// didn't show it.
+#[derive(Drop)]
+struct Meeting {
+    first: AtomicU64,
+    second: AtomicU64,
+    first_saw: AtomicU64,
+    second_saw: AtomicU64,
+}
+
+impl Gate for Meeting {
+    fn pass(&self, party: u16, _entry: &Entry) {
+        let (own, other, saw) = if party == 0 {
+            (&self.first, &self.second, &self.first_saw)
+        } else {
+            (&self.second, &self.first, &self.second_saw)
+        };
+        own.store(1, Ordering::SeqCst);
+        for _ in 0..200_000_000u32 {
+            if other.load(Ordering::SeqCst) == 1 {
+                saw.store(1, Ordering::SeqCst);
+                return;
+            }
+        }
+    }
+}
+
+#[test]
+fn two_parties_wait_for_each_other(rt: HostRuntime) -> Result<(), Fail> {
+    let file = [
+        "protocol p { begin.!<int> }",
+        "protocol q { begin.?(int) }",
+        "party a { let m = 1; send x 5; close x; }",
+        "party b { let m = 1; recv y n int; close y; }",
+        "connect a x p to b y q;",
+    ];
+    let wanted = text_of(
+        rt.alloc(),
+        &[
+            "session 0 a x b y",
+            "0.0 0 a b int 5",
+            "party a ended 3",
+            "party b ended 3",
+            "done",
+        ],
+    )?;
+    let gate = Meeting {
+        first: AtomicU64::new(0),
+        second: AtomicU64::new(0),
+        first_saw: AtomicU64::new(0),
+        second_saw: AtomicU64::new(0),
+    };
+    let mut words = Vec::new(rt.alloc());
+    words.push(String::from_str(rt.alloc(), "run")?)?;
+    let mut src = MemSource::new(text_of(rt.alloc(), &file)?, Vec::new(rt.alloc()));
+    let mut out = MemSink::new(rt.alloc(), 100_000, Vec::new(rt.alloc()))?;
+    let mut links = RingLinks::new();
+    let status = sj(
+        &rt,
+        rt.alloc(),
+        &words,
+        &mut src,
+        &mut out,
+        &mut links,
+        &gate,
+    );
+    assert_eq!(rt; out.text(), wanted.as_slice());
+    assert_eq!(rt; status, 0);
+    assert_eq!(rt; gate.first_saw.load(Ordering::SeqCst), 1);
+    assert_eq!(rt; gate.second_saw.load(Ordering::SeqCst), 1);
+    Ok(())
+}
+
+#[test]
+fn however_often_parties_look_the_transcript_is_one(rt: HostRuntime) -> Result<(), Fail> {
+    let rows: [(&[&str], &[&str]); 3] = [
+        (&AGENCY, &AGENCY_TRANSCRIPT),
+        (&CROSSING, &CROSSING_TRANSCRIPT),
+        (&BACK_AGAIN, &BACK_AGAIN_TRANSCRIPT),
+    ];
+    for (lines, wanted) in rows {
+        let wanted = text_of(rt.alloc(), wanted)?;
+        for looks in ["0", "1", "1000", "1000000"] {
+            for _ in 0..10 {
+                let file = text_of(rt.alloc(), lines)?;
+                expect(
+                    &rt,
+                    rt.alloc(),
+                    &["run", "--looks", looks],
+                    file,
+                    (0, &wanted),
+                )?;
+            }
+        }
+    }
+    Ok(())
+}
+
+#[test]
+fn what_parties_did_is_replayed(rt: HostRuntime) -> Result<(), Fail> {
+    let accepted = accepted(rt.alloc(), &AGENCY)?;
+    let mut rings = RingLinks::new();
+    let Ok(by_rings) = run_parties(&rt, rt.alloc(), &accepted, 1_000, &mut rings, &NoGate) else {
+        return Err(Fail::from("not run over rings"));
+    };
+    let mut lists = MemLinks::new();
+    let Ok(by_lists) = run_parties(&rt, rt.alloc(), &accepted, 1_000, &mut lists, &NoGate) else {
+        return Err(Fail::from("not run over lists"));
+    };
+    for mut left in [by_rings, by_lists] {
+        left.drain()?;
+        let mut again = World::start(rt.alloc(), &accepted)?;
+        assert!(rt; again.replay(left.history()).is_ok());
+        assert!(rt; again.quiet());
+        assert_eq!(rt; again.history(), left.history());
+    }
+    Ok(())
+}
