@@ -35,10 +35,10 @@ unfolding digits
 four_is = refl
 
 -- a sender, by the digit of its group, how often it sends, and what
-abbrev sender_by : List ℕ → List ℕ → List ℕ → List ℕ
+abbrev pub sender_by : List ℕ → List ℕ → List ℕ → List ℕ
 sender_by e d v = codes "party a" ++ (e ++ (codes " {\n  outwhile x " ++ (d ++ (codes " {\n    send x " ++ (v ++ codes ";\n  }\n  recv x r int;\n  close x;\n}\n")))))
 
-sender_text : (n i : ℕ) → text.sender n i ≡ sender_by (decimal i) (decimal n) (decimal (i + 1))
+pub sender_text : (n i : ℕ) → text.sender n i ≡ sender_by (decimal i) (decimal n) (decimal (i + 1))
 sender_text n i =
     let e = decimal i in let d = decimal n in let v = decimal (i + 1) in
     ap (λ x. codes "party a" ++ x) (append_assoc e (codes " {\n") _

@@ -1,12 +1,43 @@
 //! Laws of the generated file; each is the one clause of a function that does nothing.
 //!
 //! - `the_generated_text_is_canonical`: what `make` prints is the canonical text of a file.
-ghost use Rattle.std.specs.Prelude.{◌≡◌, ℕ};
+//! - `the_generated_text_stands_for_the_file`: that text is read as that file alone.
+//! - `the_generated_file_is_accepted`: the checker's rules hold of that file.
+//! - `the_generated_file_ends_done`: what is counted at its end.
+ghost use Rattle.std.specs.Prelude.{◌≡◌, ◌≤◌, ◌<◌, ◌+◌, ◌*◌, ℕ};
+ghost use Rattle.sj_acceptance.specs.Accepted.{IsAccepted};
+ghost use Rattle.sj_grammar.specs.Files.{IsFile};
+ghost use Rattle.sj_grammar.specs.Lexis.{most};
+ghost use Rattle.sj_lang.specs.FileAt.{FileAt};
 ghost use Rattle.sj_party.specs.CanonicalFile.{file_text};
+ghost use Rattle.sj_semantics.specs.Run.{end_of};
+ghost use Rattle.sj_semantics.specs.State.{verdict_of};
+ghost use Rattle.sj_semantics.specs.declared.Verdict.TheVariants.{Done};
 ghost use Rattle.sj_generator.specs.Generated.{generated};
+ghost use Rattle.sj_generator_laws.specs.Counts.{messages_in, steps_in};
 ghost use Rattle.sj_generator_laws.specs.GeneratedFile.{generated_file};
 
 /// The generated text is the canonical text of the generated file.
 pub fn the_generated_text_is_canonical()
     ensures { (n : ℕ) → generated n ≡ file_text (generated_file n) }
+{}
+
+/// The generated text is a file of the grammar, for each number of messages that a file can say: it
+/// stands for the generated file, and for no other.
+pub fn the_generated_text_stands_for_the_file()
+    ensures stands { (n : ℕ) → n < most → IsFile (generated n) (generated_file n) }
+    ensures alone { (n : ℕ) (f : FileAt) → n < most → IsFile (generated n) f → f ≡ generated_file n }
+{}
+
+/// The generated file is accepted, however many messages its loops send.
+pub fn the_generated_file_is_accepted()
+    ensures { (n : ℕ) → IsAccepted (generated_file n) }
+{}
+
+/// At the end of the generated file, whose loops send up to 1,000 messages each, its parties have
+/// sent so many messages and done so many steps, and its verdict is done.
+pub fn the_generated_file_ends_done()
+    ensures messages { (n : ℕ) → n ≤ 1000 → messages_in (end_of (generated_file n)) ≡ 10 * n + 15 }
+    ensures steps { (n : ℕ) → n ≤ 1000 → steps_in (end_of (generated_file n)) ≡ 25 * n + 55 }
+    ensures verdict { (n : ℕ) → n ≤ 1000 → verdict_of (end_of (generated_file n)) ≡ Done }
 {}
