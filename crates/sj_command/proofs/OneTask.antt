@@ -5,7 +5,7 @@ use Rattle.std.specs.Str.{bytes_eq}
 use Rattle.std.proofs.lemmas.Fmt.{decimal_injective}
 use Rattle.clap.specs.Words.{Text}
 use Rattle.sj_command.specs.declared.tasks.Task.{Task}
-use Rattle.sj_command.specs.declared.tasks.Task.TheVariants.{Check, Show, Sim, Run, Make}
+use Rattle.sj_command.specs.declared.tasks.Task.TheVariants.{Check, Show, Sim, Run, Make, Big}
 use Rattle.sj_command.specs.Task.{Asks, LineAt, Means, StandsForLooks, flag_text}
 
 -- the name of a task's command
@@ -15,6 +15,7 @@ name_of Show = codes "show"
 name_of Sim = codes "sim"
 name_of (Run log looks) = codes "run"
 name_of (Make n) = codes "make"
+name_of (Big n) = codes "big"
 
 -- a line that asks for a task has its name
 named : (l : LineAt) (t : Task) → Means l t → l.command ≡ Some (name_of t)
@@ -23,6 +24,7 @@ named l Show m = ap (λ k. k.command) m
 named l Sim m = ap (λ k. k.command) m
 named l (Run log looks) m = ap (λ k. k.command) m.0
 named l (Make n) m = ap (λ k. k.command) m.0
+named l (Big n) m = ap (λ k. k.command) m.0
 
 -- names that differ are not those of one line
 differ : (l : LineAt) (x y : Text) → bytes_eq x y ≡ false → bytes_eq x x ≡ true → l.command ≡ Some x → l.command ≡ Some y → ⊥
@@ -58,37 +60,51 @@ one_count : (option : Option Text) (m n : ℕ) → StandsForLooks option m → S
 one_count None m n a b = a ∙ sym b
 one_count (Some text) m n a b = one_number m n a.1 b.1 (sym a.0 ∙ b.0)
 
+-- a line has one number up to 1,000
+same_count : (l : LineAt) (n m : ℕ) → l.number ≡ Some (decimal n) → l.number ≡ Some (decimal m) → n ≤ 1000 → m ≤ 1000 → n ≡ m
+same_count l n m a b few few_too =
+    let both : Some (decimal n) ≡ Some (decimal m) = sym a ∙ b in
+    let digits : decimal n ≡ decimal m = cc in
+    one_number n m (omega (arith, few)) (omega (arith, few_too)) digits
+
+-- a line asks for one task
 pub one_of_line : (l : LineAt) (t u : Task) → Means l t → Means l u → t ≡ u
 one_of_line l Check Check a b = refl
 one_of_line l Check Show a b = absurd (apart l Check Show refl refl a b)
 one_of_line l Check Sim a b = absurd (apart l Check Sim refl refl a b)
 one_of_line l Check (Run g y) a b = absurd (apart l Check (Run g y) refl refl a b)
 one_of_line l Check (Make m) a b = absurd (apart l Check (Make m) refl refl a b)
+one_of_line l Check (Big m) a b = absurd (apart l Check (Big m) refl refl a b)
 one_of_line l Show Check a b = absurd (apart l Show Check refl refl a b)
 one_of_line l Show Show a b = refl
 one_of_line l Show Sim a b = absurd (apart l Show Sim refl refl a b)
 one_of_line l Show (Run g y) a b = absurd (apart l Show (Run g y) refl refl a b)
 one_of_line l Show (Make m) a b = absurd (apart l Show (Make m) refl refl a b)
+one_of_line l Show (Big m) a b = absurd (apart l Show (Big m) refl refl a b)
 one_of_line l Sim Check a b = absurd (apart l Sim Check refl refl a b)
 one_of_line l Sim Show a b = absurd (apart l Sim Show refl refl a b)
 one_of_line l Sim Sim a b = refl
 one_of_line l Sim (Run g y) a b = absurd (apart l Sim (Run g y) refl refl a b)
 one_of_line l Sim (Make m) a b = absurd (apart l Sim (Make m) refl refl a b)
+one_of_line l Sim (Big m) a b = absurd (apart l Sim (Big m) refl refl a b)
 one_of_line l (Run f x) Check a b = absurd (apart l (Run f x) Check refl refl a b)
 one_of_line l (Run f x) Show a b = absurd (apart l (Run f x) Show refl refl a b)
 one_of_line l (Run f x) Sim a b = absurd (apart l (Run f x) Sim refl refl a b)
 one_of_line l (Run f x) (Run g y) a b = ap₂ Run (one_flag f g (sym (ap (λ k. k.log) a.0) ∙ ap (λ k. k.log) b.0)) (one_count l.looks x y a.1 b.1)
 one_of_line l (Run f x) (Make m) a b = absurd (apart l (Run f x) (Make m) refl refl a b)
+one_of_line l (Run f x) (Big m) a b = absurd (apart l (Run f x) (Big m) refl refl a b)
 one_of_line l (Make n) Check a b = absurd (apart l (Make n) Check refl refl a b)
 one_of_line l (Make n) Show a b = absurd (apart l (Make n) Show refl refl a b)
 one_of_line l (Make n) Sim a b = absurd (apart l (Make n) Sim refl refl a b)
 one_of_line l (Make n) (Run g y) a b = absurd (apart l (Make n) (Run g y) refl refl a b)
-one_of_line l (Make n) (Make m) a b =
-    let both : Some (decimal n) ≡ Some (decimal m) = sym (ap (λ k. k.number) a.0) ∙ ap (λ k. k.number) b.0 in
-    let digits : decimal n ≡ decimal m = cc in
-    let few : n ≤ 1000 = a.2 in
-    let few_too : m ≤ 1000 = b.2 in
-    ap (λ k. Make k) (one_number n m (omega arith) (omega arith) digits)
+one_of_line l (Make n) (Make m) a b = ap (λ k. Make k) (same_count l n m (ap (λ k. k.number) a.0) (ap (λ k. k.number) b.0) a.2 b.2)
+one_of_line l (Make n) (Big m) a b = absurd (apart l (Make n) (Big m) refl refl a b)
+one_of_line l (Big n) Check a b = absurd (apart l (Big n) Check refl refl a b)
+one_of_line l (Big n) Show a b = absurd (apart l (Big n) Show refl refl a b)
+one_of_line l (Big n) Sim a b = absurd (apart l (Big n) Sim refl refl a b)
+one_of_line l (Big n) (Run g y) a b = absurd (apart l (Big n) (Run g y) refl refl a b)
+one_of_line l (Big n) (Make m) a b = absurd (apart l (Big n) (Make m) refl refl a b)
+one_of_line l (Big n) (Big m) a b = ap (λ k. Big k) (same_count l n m (ap (λ k. k.number) a.0) (ap (λ k. k.number) b.0) a.2 b.2)
 
 -- the words ask for one task
 pub one_task : (words : List Text) (t u : Task) → Asks words t → Asks words u → t ≡ u

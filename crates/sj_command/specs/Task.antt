@@ -2,7 +2,7 @@
 use Rattle.std.specs.Prelude.{◌≡◌, ◌≤◌, ℕ, Bool, true, false, List, Option, Some, None, codes, decimal}
 use Rattle.clap.specs.Words.{Text}
 use Rattle.sj_command.specs.declared.tasks.Task.{Task}
-use Rattle.sj_command.specs.declared.tasks.Task.TheVariants.{Check, Show, Sim, Run, Make}
+use Rattle.sj_command.specs.declared.tasks.Task.TheVariants.{Check, Show, Sim, Run, Make, Big}
 use Rattle.sj_command.specs.CommandLine.{IsTaken, given}
 
 -- what a line has: a command and a number, a flag and an option
@@ -45,6 +45,7 @@ Means line Show = line ≡ alone (codes "show") None
 Means line Sim = line ≡ alone (codes "sim") None
 Means line (Run log looks) = (line ≡ running log line.looks) × StandsForLooks line.looks looks
 Means line (Make n) = (line ≡ alone (codes "make") (Some (decimal n))) × (1 ≤ n) × (n ≤ 1000)
+Means line (Big n) = (line ≡ alone (codes "big") (Some (decimal n))) × (1 ≤ n) × (n ≤ 1000)
 
 -- the line that the words are
 abbrev pub line_in : List Text → LineAt

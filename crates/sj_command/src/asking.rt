@@ -103,6 +103,7 @@ fn task_named(name: &str, number: Option<&str>) -> Option<Task>
         Some(number) if name.as_bytes() == b"make".as_slice() => {
             count_in(number).map(Task::Make)
         }
+        Some(number) if name.as_bytes() == b"big".as_slice() => { count_in(number).map(Task::Big) }
         Some(_) => None,
     }
 }

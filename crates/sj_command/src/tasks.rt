@@ -14,4 +14,6 @@ pub enum Task {
     Run { log: bool, looks: u32 },
     /// Prints the generated file with this many messages in each loop, from 1 to 1,000.
     Make(u16),
+    /// Runs that file and prints a summary.
+    Big(u16),
 }

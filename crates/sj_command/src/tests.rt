@@ -17,7 +17,7 @@ fn run(log: bool, looks: u32) -> Task {
 
 #[test]
 fn words_of_commands(rt: HostRuntime) -> Result<(), Fail> {
-    let rows: [(&[&str], Task); 17] = [
+    let rows: [(&[&str], Task); 20] = [
         (&["check"], Task::Check),
         (&["show"], Task::Show),
         (&["sim"], Task::Sim),
@@ -35,6 +35,9 @@ fn words_of_commands(rt: HostRuntime) -> Result<(), Fail> {
         (&["make", "10"], Task::Make(10)),
         (&["make", "--", "999"], Task::Make(999)),
         (&["make", "1000"], Task::Make(1000)),
+        (&["big", "1"], Task::Big(1)),
+        (&["big", "1000"], Task::Big(1000)),
+        (&["--", "big", "10"], Task::Big(10)),
     ];
     for (words, task) in rows {
         assert_eq!(rt; asked(rt.alloc(), words)?, Some(task), "{words:?}");
@@ -44,7 +47,7 @@ fn words_of_commands(rt: HostRuntime) -> Result<(), Fail> {
 
 #[test]
 fn words_of_no_command(rt: HostRuntime) -> Result<(), Fail> {
-    let rows: [&[&str]; 45] = [
+    let rows: [&[&str]; 50] = [
         &[],
         &[""],
         &["fly"],
@@ -84,7 +87,12 @@ fn words_of_no_command(rt: HostRuntime) -> Result<(), Fail> {
         &["make", "+1"],
         &["make", "1", "2"],
         &["make", "--log", "1"],
-        &["big", "1"],
+        &["big"],
+        &["big", "0"],
+        &["big", "01"],
+        &["big", "1001"],
+        &["big", "--log", "1"],
+        &["big", "1", "--looks", "5"],
         &["replay"],
         &["--help"],
         &["run", "-h"],
