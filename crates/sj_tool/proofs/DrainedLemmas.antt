@@ -24,7 +24,9 @@ use Rattle.sj_core.proofs.FirstLemmas.{core_start_same}
 use Rattle.sj_core.proofs.LawLemmas.{max_picks}
 use Rattle.sj_run.specs.Shown.{IsShown}
 use Rattle.sj_tool.specs.Calls.{LinkUseAt}
-use Rattle.sj_tool.specs.Runs.{HasHistory, HasRun, actors, log_part}
+use Rattle.sj_command.specs.Task.{usual_looks}
+use Rattle.sj_tool.specs.Runs.{HasHistory, HasPlayed, HasRun, HasSummed, actors, log_part}
+use Rattle.sj_tool.specs.Sums.{summary}
 
 -- a history of what is kept of a file is one of the file
 kept_history : (file kept : FileAt) (lines : List LineAt) (w : WorldAt Place Program) → kept ≡ without_words file → IsHistory max kept lines w → IsHistory max file lines w
@@ -59,10 +61,9 @@ module _ (links : LinkUseAt) (looks : ℕ) (file : FileAt) (accepted : IsAccepte
   pub drained_ends : IsRun file (actors history) (end_of file)
   drained_ends = (quiet_run_ends file accepted (map turn_of history) core (log_runs (play_of file) max max_picks history (core_start file) core has.run) has.quiet).0
 
-  -- so what is told of that end is what a run answers
-  pub drained_runs : (log : Bool) (w : World) (v : Verdict) (text : List ℕ) → w ≡ end_of file → v ≡ verdict_of w → text ≡ transcript_of file w ++ log_part log file history
-      → HasRun links log looks file v text
-  drained_runs log w v text is_end stands printed = record {
+  -- so the world to which they lead is the one that is played
+  abbrev pub drained_plays : (w : World) → w ≡ end_of file → HasPlayed links looks file
+  drained_plays w is_end = record {
     history = history;
     core = core;
     has = has;
@@ -70,6 +71,14 @@ module _ (links : LinkUseAt) (looks : ℕ) (file : FileAt) (accepted : IsAccepte
     acts = subst (λ (x : World). IsRun file (actors history) x) (sym is_end) drained_ends;
     settled = subst IsSettled (sym is_end) (end_is_settled file);
     is_end = is_end;
-    stands = stands;
-    printed = printed;
   }
+
+  -- and what is told of it is what `run` answers
+  pub drained_runs : (log : Bool) (w : World) (v : Verdict) (text : List ℕ) → w ≡ end_of file → v ≡ verdict_of w → text ≡ transcript_of file w ++ log_part log file history
+      → HasRun links log looks file v text
+  drained_runs log w v text is_end stands printed = record { played = drained_plays w is_end; stands = stands; printed = printed }
+
+-- or what `big` answers
+pub drained_sums : (links : LinkUseAt) (n : ℕ) (file : FileAt) (played : HasPlayed links usual_looks file) (v : Verdict) (text : List ℕ) → v ≡ verdict_of played.end → text ≡ summary n file played.end
+    → HasSummed links n file v text
+drained_sums links n file played v text stands printed = record { played = played; stands = stands; printed = printed }

@@ -23,6 +23,7 @@ use Rattle.sj_tool.specs.Headline.{IsLogging, IsPlaying, IsVerdict, HasHeadline}
 use Rattle.sj_tool.specs.Runs.{log_part}
 use Rattle.sj_tool.specs.Texts.{status_of, text_of, verdict_status}
 use Rattle.sj_tool.proofs.Exactly.{call_at}
+use Rattle.sj_tool.proofs.InputLemmas.{playing_reads, read_of}
 
 -- the end of an accepted file has the headline
 end_has_it : (file : FileAt) → IsAccepted file → (acts : List ℕ) × IsHeadline file acts (end_of file)
@@ -31,27 +32,28 @@ end_has_it file accepted = let l = end_is_reached file in (l.acts, settled_run_h
 -- ---- what is printed of a file that was played
 
 -- the verdict is that of the file's end, and its transcript comes first
-record IsPlayedSo (task : Task) (file : FileAt) (verdict : Verdict) (text : List ℕ) : Type 0 where
-  behind : List ℕ
-  stands : verdict ≡ verdict_of (end_of file)
-  printed : text ≡ transcript_of file (end_of file) ++ behind
-  bare : (IsLogging task → ⊥) → behind ≡ []
+pub record IsPlayedSo (task : Task) (file : FileAt) (verdict : Verdict) (text : List ℕ) : Type 0 where
+  pub behind : List ℕ
+  pub stands : verdict ≡ verdict_of (end_of file)
+  pub printed : text ≡ transcript_of file (end_of file) ++ behind
+  pub bare : (IsLogging task → ⊥) → behind ≡ []
 
-played_so : (links : LinkUseAt) (task : Task) (file : FileAt) (v : Verdict) (text : List ℕ) → Plays links task file v text → IsPlayedSo task file v text
-played_so links tasks.Check file v text p = absurd p
-played_so links tasks.Show file v text p = absurd p
-played_so links (tasks.Make n) file v text p = absurd p
-played_so links tasks.Sim file v text p = record { behind = []; stands = p.0; printed = p.1 ∙ sym (append-nil (transcript_of file (end_of file))); bare = λ no. refl }
-played_so links (tasks.Run false looks) file v text p = record {
+pub played_so : (links : LinkUseAt) (task : Task) (file : FileAt) (v : Verdict) (text : List ℕ) → IsPlaying task → Plays links task file v text → IsPlayedSo task file v text
+played_so links tasks.Check file v text plays p = absurd plays
+played_so links tasks.Show file v text plays p = absurd plays
+played_so links (tasks.Make n) file v text plays p = absurd plays
+played_so links (tasks.Big n) file v text plays p = absurd plays
+played_so links tasks.Sim file v text plays p = record { behind = []; stands = p.0; printed = p.1 ∙ sym (append-nil (transcript_of file (end_of file))); bare = λ no. refl }
+played_so links (tasks.Run false looks) file v text plays p = record {
   behind = [];
-  stands = p.stands ∙ ap verdict_of p.is_end;
-  printed = p.printed ∙ ap (λ w. transcript_of file w ++ []) p.is_end;
+  stands = p.stands ∙ ap verdict_of p.played.is_end;
+  printed = p.printed ∙ ap (λ w. transcript_of file w ++ []) p.played.is_end;
   bare = λ no. refl;
 }
-played_so links (tasks.Run true looks) file v text p = record {
-  behind = log_part true file p.history;
-  stands = p.stands ∙ ap verdict_of p.is_end;
-  printed = p.printed ∙ ap (λ w. transcript_of file w ++ log_part true file p.history) p.is_end;
+played_so links (tasks.Run true looks) file v text plays p = record {
+  behind = log_part true file p.played.history;
+  stands = p.stands ∙ ap verdict_of p.played.is_end;
+  printed = p.printed ∙ ap (λ w. transcript_of file w ++ log_part true file p.played.history) p.played.is_end;
   bare = λ no. absurd (no tt);
 }
 
@@ -75,6 +77,7 @@ prints_none (tasks.Run log looks) file text plays p = p
 prints_none tasks.Check file text plays p = plays
 prints_none tasks.Show file text plays p = plays
 prints_none (tasks.Make n) file text plays p = plays
+prints_none (tasks.Big n) file text plays p = plays
 
 makes_none : (c : CallAt) (text : List ℕ) → AsksFor IsPlaying c → Makes c text → ⊥
 makes_none c text plays m = subst IsPlaying (one_task c.words plays.task (tasks.Make m.count) plays.asks m.asks) plays.kind
@@ -91,12 +94,14 @@ module _ (c : CallAt) (status : ℕ) (before after : Option (List ℕ)) (verdict
   answer_has_it (Ran v t) x e d =
       let file = x.answers.file in
       let a = x.answers.answers in
-      let p = played_so c.links x.task file v t.items a.1 in
+      let kind = subst IsPlaying (one_task c.words plays.task x.task plays.asks x.asks) plays.kind in
+      let read = read_of c x.task x.bytes (playing_reads x.task kind) x.input in
+      let p = played_so c.links x.task file v t.items kind a.1 in
       let h = end_has_it file a.0 in
       record {
         bytes = x.bytes;
-        came = x.came;
-        all = x.all;
+        came = read.came;
+        all = read.all;
         file = file;
         stands = x.answers.stands;
         accepted = a.0;

@@ -1,11 +1,14 @@
 pub mod ActingLemmas
+pub mod Completed
 pub mod DamageLemmas
 pub mod DrainedLemmas
 pub mod EndLemmas
 pub mod Exactly
 pub mod FileAnswers
 pub mod HeadlineOfAnswers
+pub mod InputLemmas
 pub mod OneAnswer
 pub mod OneRun
 pub mod Rows
+pub mod SumLemmas
 pub mod TableLemmas

@@ -26,7 +26,7 @@ use Rattle.sj_tool.specs.Answers.{AnswersFile, AnswersItsFile, AnswersText, Link
 use Rattle.sj_tool.specs.Calls.{LinkUseAt}
 use Rattle.sj_tool.specs.Headline.{IsLogging}
 use Rattle.sj_tool.specs.Table.{AreOneLog}
-use Rattle.sj_tool.proofs.OneRun.{one_run}
+use Rattle.sj_tool.proofs.OneRun.{one_run, one_summary}
 
 -- a text has one first fault
 pub one_fault : (bytes : List ℕ) (f g : Fault) → Stuck file_layer limits 0 (start bytes [] []) file_due f → Stuck file_layer limits 0 (start bytes [] []) file_due g → f ≡ g
@@ -59,15 +59,17 @@ pub record IsPlayed (links : LinkUseAt) (task : Task) (file : FileAt) (t : ℕ �
   pub are : t ≡ ended verdict text
 
 -- the status and the text that answer a file, by its first fault
-abbrev Tells : LinkUseAt → Task → FileAt → Option (ℕ × ℕ) → ℕ × List ℕ → Type 0
+abbrev pub Tells : LinkUseAt → Task → FileAt → Option (ℕ × ℕ) → ℕ × List ℕ → Type 0
 Tells links tasks.Show file fault t = t ≡ (0, shown file)
 Tells links (tasks.Make n) file fault t = ⊥
 Tells links tasks.Check file (Some x) t = t ≡ (5, check_line x.0 x.1)
 Tells links tasks.Sim file (Some x) t = t ≡ (5, check_line x.0 x.1)
 Tells links (tasks.Run log looks) file (Some x) t = t ≡ (5, check_line x.0 x.1)
+Tells links (tasks.Big n) file (Some x) t = t ≡ (5, check_line x.0 x.1)
 Tells links tasks.Check file None t = t ≡ (0, counts_of file)
 Tells links tasks.Sim file None t = IsPlayed links tasks.Sim file t
 Tells links (tasks.Run log looks) file None t = IsPlayed links (tasks.Run log looks) file t
+Tells links (tasks.Big n) file None t = IsPlayed links (tasks.Big n) file t
 
 -- a file is played in one way
 played_once : (links : LinkUseAt) (task : Task) (file : FileAt) (t u : ℕ × List ℕ) → IsPlayed links task file t → IsPlayed links task file u → AreToldOnce task t u
@@ -78,6 +80,7 @@ played_once links task file t u x y =
     by : (task : Task) (v w : Verdict) (s r : List ℕ) → Plays links task file v s → Plays links task file w r → AreToldOnce task (ended v s) (ended w r)
     by tasks.Sim v w s r p q = same_told tasks.Sim (ended v s) (ended w r) (ap₂ ended (p.0 ∙ sym q.0) (p.1 ∙ sym q.1))
     by (tasks.Run log looks) v w s r p q = let one = one_run links log looks file v w s r p q in record { status = ap verdict_status one.0; text = one.1 }
+    by (tasks.Big n) v w s r p q = let one = one_summary links n file v w s r p q in same_told (tasks.Big n) (ended v s) (ended w r) (ap₂ ended one.0 one.1)
     by tasks.Check v w s r p q = absurd p
     by tasks.Show v w s r p q = absurd p
     by (tasks.Make n) v w s r p q = absurd p
@@ -89,18 +92,20 @@ told_once links (tasks.Make n) file fault t u x y = absurd x
 told_once links tasks.Check file (Some f) t u x y = same_told tasks.Check t u (x ∙ sym y)
 told_once links tasks.Sim file (Some f) t u x y = same_told tasks.Sim t u (x ∙ sym y)
 told_once links (tasks.Run log looks) file (Some f) t u x y = same_told (tasks.Run log looks) t u (x ∙ sym y)
+told_once links (tasks.Big n) file (Some f) t u x y = same_told (tasks.Big n) t u (x ∙ sym y)
 told_once links tasks.Check file None t u x y = same_told tasks.Check t u (x ∙ sym y)
 told_once links tasks.Sim file None t u x y = played_once links tasks.Sim file t u x y
 told_once links (tasks.Run log looks) file None t u x y = played_once links (tasks.Run log looks) file t u x y
+told_once links (tasks.Big n) file None t u x y = played_once links (tasks.Big n) file t u x y
 
 -- no fault of the links is answered
-abbrev IsUnhurt : Answer → Type 0
+abbrev pub IsUnhurt : Answer → Type 0
 IsUnhurt LinkFault = ⊥
 IsUnhurt (Damaged t) = ⊥
 IsUnhurt _ = Unit {0}
 
 -- what answers a file has the status and the text that its first fault tells
-file_told : (links : LinkUseAt) (task : Task) (file : FileAt) (a : Answer) → IsUnhurt a → AnswersFile links task file a → Tells links task file (first_fault (tests_of file)) (told a)
+pub file_told : (links : LinkUseAt) (task : Task) (file : FileAt) (a : Answer) → IsUnhurt a → AnswersFile links task file a → Tells links task file (first_fault (tests_of file)) (told a)
 file_told links task file Usage u x = absurd x
 file_told links task file ReadFault u x = absurd x
 file_told links task file TooLarge u x = absurd x
@@ -111,12 +116,15 @@ file_told links task file (Made t) u x = absurd x
 file_told links tasks.Check file (Check r l) u (k, e) = subst (λ (f : Option (ℕ × ℕ)). Tells links tasks.Check file f (5, check_line r l)) (sym e) refl
 file_told links tasks.Sim file (Check r l) u (k, e) = subst (λ (f : Option (ℕ × ℕ)). Tells links tasks.Sim file f (5, check_line r l)) (sym e) refl
 file_told links (tasks.Run log looks) file (Check r l) u (k, e) = subst (λ (f : Option (ℕ × ℕ)). Tells links (tasks.Run log looks) file f (5, check_line r l)) (sym e) refl
+file_told links (tasks.Big n) file (Check r l) u (k, e) = subst (λ (f : Option (ℕ × ℕ)). Tells links (tasks.Big n) file f (5, check_line r l)) (sym e) refl
 file_told links tasks.Show file (Check r l) u (k, e) = absurd k
 file_told links (tasks.Make n) file (Check r l) u (k, e) = absurd k
 file_told links tasks.Sim file (Ran v t) u (ok, p) =
     subst (λ (f : Option (ℕ × ℕ)). Tells links tasks.Sim file f (ended v t.items)) (sym (accepted_to file ok)) (record { verdict = v; text = t.items; plays = p; are = refl })
 file_told links (tasks.Run log looks) file (Ran v t) u (ok, p) =
     subst (λ (f : Option (ℕ × ℕ)). Tells links (tasks.Run log looks) file f (ended v t.items)) (sym (accepted_to file ok)) (record { verdict = v; text = t.items; plays = p; are = refl })
+file_told links (tasks.Big n) file (Ran v t) u (ok, p) =
+    subst (λ (f : Option (ℕ × ℕ)). Tells links (tasks.Big n) file f (ended v t.items)) (sym (accepted_to file ok)) (record { verdict = v; text = t.items; plays = p; are = refl })
 file_told links tasks.Check file (Ran v t) u (ok, p) = absurd p
 file_told links tasks.Show file (Ran v t) u (ok, p) = absurd p
 file_told links (tasks.Make n) file (Ran v t) u (ok, p) = absurd p
@@ -124,6 +132,7 @@ file_told links tasks.Check file (Printed t) u (ok, c) = subst (λ (f : Option (
 file_told links tasks.Show file (Printed t) u c = ap (λ y. (0, y)) c
 file_told links tasks.Sim file (Printed t) u c = absurd c
 file_told links (tasks.Run log looks) file (Printed t) u c = absurd c
+file_told links (tasks.Big n) file (Printed t) u c = absurd c
 file_told links (tasks.Make n) file (Printed t) u c = absurd c
 
 -- where the links hold for the parties that run, or the answer tells of no run
@@ -151,6 +160,7 @@ prints_no_run tasks.Check file text runs p = runs
 prints_no_run tasks.Show file text runs p = runs
 prints_no_run tasks.Sim file text runs p = runs
 prints_no_run (tasks.Run log looks) file text runs p = p
+prints_no_run (tasks.Big n) file text runs p = p
 prints_no_run (tasks.Make n) file text runs p = runs
 
 module _ (links : LinkUseAt) (task : Task) (file : FileAt) where
@@ -184,25 +194,25 @@ module _ (links : LinkUseAt) (task : Task) (file : FileAt) where
   one_of_file (Made t) b x y h = absurd x
 
 -- the text goes wrong, or the answer answers its file
-abbrev IsEither : LinkUseAt → Task → List ℕ → Answer → Type 0
+abbrev pub IsEither : LinkUseAt → Task → List ℕ → Answer → Type 0
 IsEither links task bytes a = ((f : Fault) × (a ≡ Syntax f) × Stuck file_layer limits 0 (start bytes [] []) file_due f) ⊎ AnswersItsFile links task bytes a
+
+pub either : (links : LinkUseAt) (task : Task) (bytes : List ℕ) (a : Answer) → AnswersText links task bytes a → IsEither links task bytes a
+either links task bytes Usage x = inr x
+either links task bytes ReadFault x = inr x
+either links task bytes TooLarge x = inr x
+either links task bytes (Syntax f) x = inl (f, refl, x.1)
+either links task bytes (Check r l) x = inr x
+either links task bytes LinkFault x = inr x
+either links task bytes (Damaged t) x = inr x
+either links task bytes (Ran v t) x = inr x
+either links task bytes (Printed t) x = inr x
+either links task bytes (Made t) x = inr x
 
 -- a text has one answer
 pub one_of_text : (links : LinkUseAt) (task : Task) (bytes : List ℕ) (a b : Answer) → AnswersText links task bytes a → AnswersText links task bytes b → HoldsFor links task b → AreToldOnce task (told a) (told b)
-one_of_text links task bytes a b x y h = by_kind (kind_of task bytes a x) (kind_of task bytes b y)
+one_of_text links task bytes a b x y h = by_kind (either links task bytes a x) (either links task bytes b y)
   where
-    kind_of : (task : Task) (bytes : List ℕ) (a : Answer) → AnswersText links task bytes a → IsEither links task bytes a
-    kind_of task bytes Usage x = inr x
-    kind_of task bytes ReadFault x = inr x
-    kind_of task bytes TooLarge x = inr x
-    kind_of task bytes (Syntax f) x = inl (f, refl, x.1)
-    kind_of task bytes (Check r l) x = inr x
-    kind_of task bytes LinkFault x = inr x
-    kind_of task bytes (Damaged t) x = inr x
-    kind_of task bytes (Ran v t) x = inr x
-    kind_of task bytes (Printed t) x = inr x
-    kind_of task bytes (Made t) x = inr x
-
     by_kind : IsEither links task bytes a → IsEither links task bytes b → AreToldOnce task (told a) (told b)
     by_kind (inl (f, e, s)) (inl (g, d, t)) = same_told task (told a) (told b) (ap told (e ∙ ap (λ h. Syntax h) (one_fault bytes f g s t) ∙ sym d))
     by_kind (inl (f, e, s)) (inr y) = absurd (no_fault bytes y.file f y.stands s)

@@ -1,6 +1,6 @@
 -- The rows of the table of answers exclude each other, where the source tells.
-use Rattle.std.proofs.Common.{◌≡◌, ◌∙◌, inl, inr, ◌<◌, ◌≤◌, ◌++◌, ℕ, List, [], Option, Some, None, IfSome, length, ap, sym, subst, refl, arith, length-append, append-nil}
-use Rattle.sj_base.specs.Stream.{CameOf, Rose, put_before}
+use Rattle.std.proofs.Common.{◌≡◌, ◌∙◌, inl, inr, ◌<◌, ◌≤◌, ◌++◌, ℕ, List, Option, Some, None, length, ap, sym, subst, refl, arith, length-append}
+use Rattle.sj_base.specs.Stream.{CameOf, Rose}
 use Rattle.sj_command.specs.declared.tasks.Task.{Task}
 use Rattle.sj_command.specs.declared.tasks.Task.TheVariants as tasks
 use Rattle.sj_command.specs.Task.{Asks, IsUsage}
@@ -9,9 +9,10 @@ use Rattle.sj_generator.specs.Generated.{generated}
 use Rattle.sj_tool.specs.declared.answers.Answer.{Answer}
 use Rattle.sj_tool.specs.declared.answers.Answer.TheVariants.{Usage, ReadFault, TooLarge, Syntax, Check, LinkFault, Damaged, Ran, Printed, Made}
 use Rattle.sj_tool.specs.Texts.{status_of, text_of}
-use Rattle.sj_tool.specs.Answers.{AsksFor, Reads, Makes, AnswersText, AnswersInput, Comes, NoFaultAbove}
+use Rattle.sj_tool.specs.Answers.{AsksFor, Reads, Takes, Makes, AnswersText, AnswersInput, HasInput, Comes, NoFaultAbove}
 use Rattle.sj_tool.specs.Calls.{CallAt, LinkUseAt}
 use Rattle.sj_tool.specs.Table.{AreOne}
+use Rattle.sj_tool.proofs.InputLemmas.{one_input, read_of}
 use Rattle.sj_tool.proofs.OneAnswer.{AreToldOnce, HoldsFor, one_of_text, told}
 
 -- what came is at most the limit or more, and not both
@@ -22,13 +23,6 @@ came_once l left (Some rest) (t, few, e) (u, many, d) =
     let same : t ++ rest ≡ u ++ rest = cc in
     let long : length (t ++ rest) ≡ length (u ++ rest) = ap length same in
     omega (arith, length-append t rest, length-append u rest)
-
--- where all was taken, it is what was left
-told_bytes : (left : List ℕ) (after : Option (List ℕ)) (bytes : List ℕ) → Some left ≡ put_before bytes after → IfSome after (λ rest. rest ≡ []) → left ≡ bytes
-told_bytes left None bytes e all = let no : ⊥ = cc in absurd no
-told_bytes left (Some rest) bytes e all =
-    let same : left ≡ bytes ++ rest = cc in
-    same ∙ ap (λ r. bytes ++ r) all ∙ append-nil bytes
 
 pub are_same : (c : CallAt) (a b : Answer) → a ≡ b → AreOne c a b
 are_same c a b e = record { status = ap status_of e; text = inl (ap text_of e) }
@@ -50,9 +44,8 @@ holds_above c (Made t) h task asks = tt
 one_of_input : (c : CallAt) (left : List ℕ) → c.left ≡ Some left → (a b : Answer) → AnswersInput c a → AnswersInput c b → NoFaultAbove c b → AreOne c a b
 one_of_input c left e a b x y above =
     let tasks_are : x.task ≡ y.task = one_task c.words x.task y.task x.asks y.asks in
-    let first : left ≡ x.bytes = told_bytes left c.left_after x.bytes (sym e ∙ x.came) x.all in
-    let second : left ≡ y.bytes = told_bytes left c.left_after y.bytes (sym e ∙ y.came) y.all in
-    let same : y.bytes ≡ x.bytes = sym second ∙ first in
+    let same : y.bytes ≡ x.bytes =
+    one_input c left e x.task y.bytes x.bytes (subst (λ (t : Task). HasInput c t y.bytes) (sym tasks_are) y.input) x.input in
     let one : AreToldOnce x.task (told a) (told b) =
     one_of_text c.links x.task x.bytes a b x.answers
     (subst (λ (t : Task). AnswersText c.links t x.bytes b) (sym tasks_are) (subst (λ (bs : List ℕ). AnswersText c.links y.task bs b) same y.answers))
@@ -60,14 +53,14 @@ one_of_input c left e a b x y above =
     record { status = one.status; text = elim one.text [ inl text ↦ inl text | inr log ↦ inr (record { task = x.task; asks = x.asks; kind = log.0 }, log.1) ] }
 
 -- which row an answer is
-data Row (c : CallAt) (a : Answer) : Type 0 where
+pub data Row (c : CallAt) (a : Answer) : Type 0 where
   words : a ≡ Usage → IsUsage c.words → Row c a
   fault : a ≡ ReadFault → AsksFor Reads c → CameOf (λ n. n ≤ 65536) c.left c.left_after → Rose c.faults c.faults_after → Row c a
   large : a ≡ TooLarge → AsksFor Reads c → CameOf (λ n. 65536 < n) c.left c.left_after → c.faults_after ≡ c.faults → Row c a
   made : (text : List ℕ) → status_of a ≡ 0 → text_of a ≡ text → Makes c text → Row c a
   input : AnswersInput c a → Row c a
 
-row_of : (c : CallAt) (a : Answer) → Comes c a → Row c a
+pub row_of : (c : CallAt) (a : Answer) → Comes c a → Row c a
 row_of c Usage h = words refl h.0
 row_of c ReadFault h = fault refl h.0 h.1 h.2
 row_of c TooLarge h = large refl h.0 h.1 h.2
@@ -79,26 +72,36 @@ row_of c (Ran v t) h = input h
 row_of c (Printed t) h = input h
 row_of c (Made t) h = made t.items refl refl h
 
--- a task whose input is answered reads a file
-reads_file : (links : LinkUseAt) (task : Task) (bytes : List ℕ) (a : Answer) → AnswersText links task bytes a → Reads task
-reads_file links tasks.Check bytes a h = tt
-reads_file links tasks.Show bytes a h = tt
-reads_file links tasks.Sim bytes a h = tt
-reads_file links (tasks.Run log looks) bytes a h = tt
-reads_file links (tasks.Make n) bytes Usage h = absurd h.answers
-reads_file links (tasks.Make n) bytes ReadFault h = absurd h.answers
-reads_file links (tasks.Make n) bytes TooLarge h = absurd h.answers
-reads_file links (tasks.Make n) bytes (Syntax f) h = absurd h.0
-reads_file links (tasks.Make n) bytes (Check r l) h = absurd h.answers.0
-reads_file links (tasks.Make n) bytes LinkFault h = absurd h.answers.1
-reads_file links (tasks.Make n) bytes (Damaged t) h = absurd h.answers.1
-reads_file links (tasks.Make n) bytes (Ran v t) h = absurd h.answers.1
-reads_file links (tasks.Make n) bytes (Printed t) h = absurd h.answers
-reads_file links (tasks.Make n) bytes (Made t) h = absurd h.answers
+-- a task whose input is answered takes a file
+pub takes_file : (links : LinkUseAt) (task : Task) (bytes : List ℕ) (a : Answer) → AnswersText links task bytes a → Takes task
+takes_file links tasks.Check bytes a h = tt
+takes_file links tasks.Show bytes a h = tt
+takes_file links tasks.Sim bytes a h = tt
+takes_file links (tasks.Run log looks) bytes a h = tt
+takes_file links (tasks.Big n) bytes a h = tt
+takes_file links (tasks.Make n) bytes Usage h = absurd h.answers
+takes_file links (tasks.Make n) bytes ReadFault h = absurd h.answers
+takes_file links (tasks.Make n) bytes TooLarge h = absurd h.answers
+takes_file links (tasks.Make n) bytes (Syntax f) h = absurd h.0
+takes_file links (tasks.Make n) bytes (Check r l) h = absurd h.answers.0
+takes_file links (tasks.Make n) bytes LinkFault h = absurd h.answers.1
+takes_file links (tasks.Make n) bytes (Damaged t) h = absurd h.answers.1
+takes_file links (tasks.Make n) bytes (Ran v t) h = absurd h.answers.1
+takes_file links (tasks.Make n) bytes (Printed t) h = absurd h.answers
+takes_file links (tasks.Make n) bytes (Made t) h = absurd h.answers
 
--- the file that is made is no task that reads
-made_reads : (c : CallAt) (text : List ℕ) (task : Task) → Makes c text → Asks c.words task → Reads task → ⊥
-made_reads c text task m asks reads = subst (λ (t : Task). Reads t) (one_task c.words task (tasks.Make m.count) asks m.asks) reads
+-- a task that reads a file takes one
+pub reads_takes : (task : Task) → Reads task → Takes task
+reads_takes tasks.Check reads = tt
+reads_takes tasks.Show reads = tt
+reads_takes tasks.Sim reads = tt
+reads_takes (tasks.Run log looks) reads = tt
+reads_takes (tasks.Make n) reads = reads
+reads_takes (tasks.Big n) reads = tt
+
+-- the file that is made is no task that takes one
+pub made_takes : (c : CallAt) (text : List ℕ) (task : Task) → Makes c text → Asks c.words task → Takes task → ⊥
+made_takes c text task m asks takes = subst (λ (t : Task). Takes t) (one_task c.words task (tasks.Make m.count) asks m.asks) takes
 
 -- where an input is answered, a read fault above it is ruled out
 no_rise : (c : CallAt) (a : Answer) → AnswersInput c a → NoFaultAbove c a → Rose c.faults c.faults_after → ⊥
@@ -117,8 +120,11 @@ module _ (c : CallAt) (left : List ℕ) (tells : c.left ≡ Some left) where
   once : CameOf (λ n. n ≤ 65536) c.left c.left_after → CameOf (λ n. 65536 < n) c.left c.left_after → ⊥
   once few many = came_once 65536 left c.left_after (few.0, few.1, sym tells ∙ few.2) (many.0, many.1, sym tells ∙ many.2)
 
-  few_in : (a : Answer) → AnswersInput c a → CameOf (λ n. n ≤ 65536) c.left c.left_after
-  few_in a x = (x.bytes, x.few, x.came)
+  few_in : (a : Answer) → AnswersInput c a → AsksFor Reads c → CameOf (λ n. n ≤ 65536) c.left c.left_after
+  few_in a x asks =
+      let reads = subst (λ (t : Task). Reads t) (one_task c.words asks.task x.task asks.asks x.asks) asks.kind in
+      let read = read_of c x.task x.bytes reads x.input in
+      (x.bytes, read.few, read.came)
 
   made_once : (a b : Answer) (s t : List ℕ) → status_of a ≡ 0 → text_of a ≡ s → Makes c s → status_of b ≡ 0 → text_of b ≡ t → Makes c t → AreOne c a b
   made_once a b s t e d m f g n =
@@ -134,22 +140,22 @@ module _ (c : CallAt) (left : List ℕ) (tells : c.left ≡ Some left) where
   one_row a b (fault e asks few r) (words d v) above = absurd (v asks.task asks.asks)
   one_row a b (fault e asks few r) (fault d asks2 few2 r2) above = are_same c a b (e ∙ sym d)
   one_row a b (fault e asks few r) (large d asks2 many same) above = absurd (once few many)
-  one_row a b (fault e asks few r) (made t s d m) above = absurd (made_reads c t asks.task m asks.asks asks.kind)
+  one_row a b (fault e asks few r) (made t s d m) above = absurd (made_takes c t asks.task m asks.asks (reads_takes asks.task asks.kind))
   one_row a b (fault e asks few r) (input y) above = absurd (no_rise c b y above r)
   one_row a b (large e asks many same) (words d v) above = absurd (v asks.task asks.asks)
   one_row a b (large e asks many same) (fault d asks2 few r) above = absurd (once few many)
   one_row a b (large e asks many same) (large d asks2 many2 same2) above = are_same c a b (e ∙ sym d)
-  one_row a b (large e asks many same) (made t s d m) above = absurd (made_reads c t asks.task m asks.asks asks.kind)
-  one_row a b (large e asks many same) (input y) above = absurd (once (few_in b y) many)
+  one_row a b (large e asks many same) (made t s d m) above = absurd (made_takes c t asks.task m asks.asks (reads_takes asks.task asks.kind))
+  one_row a b (large e asks many same) (input y) above = absurd (once (few_in b y asks) many)
   one_row a b (made t s e m) (words d v) above = absurd (v (tasks.Make m.count) m.asks)
-  one_row a b (made t s e m) (fault d asks few r) above = absurd (made_reads c t asks.task m asks.asks asks.kind)
-  one_row a b (made t s e m) (large d asks many same) above = absurd (made_reads c t asks.task m asks.asks asks.kind)
+  one_row a b (made t s e m) (fault d asks few r) above = absurd (made_takes c t asks.task m asks.asks (reads_takes asks.task asks.kind))
+  one_row a b (made t s e m) (large d asks many same) above = absurd (made_takes c t asks.task m asks.asks (reads_takes asks.task asks.kind))
   one_row a b (made t s e m) (made u r d n) above = made_once a b t u s e m r d n
-  one_row a b (made t s e m) (input y) above = absurd (made_reads c t y.task m y.asks (reads_file c.links y.task y.bytes b y.answers))
+  one_row a b (made t s e m) (input y) above = absurd (made_takes c t y.task m y.asks (takes_file c.links y.task y.bytes b y.answers))
   one_row a b (input x) (words d v) above = absurd (v x.task x.asks)
   one_row a b (input x) (fault d asks few r) above = absurd (subst (λ (z : Answer). NoFaultAbove c z) d above)
-  one_row a b (input x) (large d asks many same) above = absurd (once (few_in a x) many)
-  one_row a b (input x) (made t s d m) above = absurd (made_reads c t x.task m x.asks (reads_file c.links x.task x.bytes a x.answers))
+  one_row a b (input x) (large d asks many same) above = absurd (once (few_in a x asks) many)
+  one_row a b (input x) (made t s d m) above = absurd (made_takes c t x.task m x.asks (takes_file c.links x.task x.bytes a x.answers))
   one_row a b (input x) (input y) above = one_of_input c left tells a b x y above
 
   -- the answer that comes is each one that the table gives

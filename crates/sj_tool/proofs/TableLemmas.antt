@@ -6,6 +6,7 @@ use Rattle.sj_tool.specs.declared.answers.Answer.TheVariants.{Usage, ReadFault, 
 use Rattle.sj_tool.specs.Answers.{Comes, NoFaultAbove}
 use Rattle.sj_tool.specs.Calls.{CallAt}
 use Rattle.sj_tool.specs.Table.{AreOne, CanRise, RunsWell}
+use Rattle.sj_tool.proofs.InputLemmas.{no_fault_of}
 use Rattle.sj_tool.proofs.Rows.{are_same, one_comes}
 
 -- a count that stays hasn't risen
@@ -18,14 +19,14 @@ above_or_fault : (c : CallAt) (a : Answer) → CanRise c → RunsWell c → Come
 above_or_fault c Usage more well h = inl tt
 above_or_fault c ReadFault more well h = inr refl
 above_or_fault c TooLarge more well h = inl tt
-above_or_fault c (Syntax f) more well h = inl (stays c.faults c.faults_after h.no_fault more)
-above_or_fault c (Check r l) more well h = inl (stays c.faults c.faults_after h.no_fault more)
+above_or_fault c (Syntax f) more well h = inl (stays c.faults c.faults_after (no_fault_of c h.task h.bytes h.input) more)
+above_or_fault c (Check r l) more well h = inl (stays c.faults c.faults_after (no_fault_of c h.task h.bytes h.input) more)
 above_or_fault c LinkFault more well h =
     let holds = well (record { task = h.task; asks = h.asks; kind = h.answers.answers.1 }) in absurd (holds.1 h.answers.answers.2)
 above_or_fault c (Damaged t) more well h =
     let holds = well (record { task = h.task; asks = h.asks; kind = h.answers.answers.1 }) in absurd (h.answers.answers.2 holds.0)
-above_or_fault c (Ran v t) more well h = inl (stays c.faults c.faults_after h.no_fault more, well)
-above_or_fault c (Printed t) more well h = inl (stays c.faults c.faults_after h.no_fault more)
+above_or_fault c (Ran v t) more well h = inl (stays c.faults c.faults_after (no_fault_of c h.task h.bytes h.input) more, well)
+above_or_fault c (Printed t) more well h = inl (stays c.faults c.faults_after (no_fault_of c h.task h.bytes h.input) more)
 above_or_fault c (Made t) more well h = inl tt
 
 pub one_answer : (c : CallAt) (left : List ℕ) (a b : Answer) → c.left ≡ Some left → CanRise c → RunsWell c → Comes c a → Comes c b → AreOne c a b

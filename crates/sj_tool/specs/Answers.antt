@@ -20,7 +20,7 @@ use Rattle.sj_tool.specs.declared.answers.Answer.{Answer}
 use Rattle.sj_tool.specs.declared.answers.Answer.TheVariants.{Usage, ReadFault, TooLarge, Syntax, Check, LinkFault, Damaged, Ran, Printed, Made}
 use Rattle.sj_tool.specs.Calls.{CallAt, LinkUseAt}
 use Rattle.sj_tool.specs.Damages.{IsDamageText}
-use Rattle.sj_tool.specs.Runs.{HasRun, HasSimulated}
+use Rattle.sj_tool.specs.Runs.{HasRun, HasSimulated, HasSummed}
 use Rattle.sj_tool.specs.Shown.{shown}
 use Rattle.sj_tool.specs.Texts.{status_of, text_of, counts_of}
 
@@ -33,9 +33,15 @@ pub record AsksFor (P : Task → Type 0) (c : CallAt) : Type 0 where
 -- it reads a file
 abbrev pub Reads : Task → Type 0
 Reads (tasks.Make n) = ⊥
+Reads (tasks.Big n) = ⊥
 Reads _ = ⊤
 
--- it reads a file and checks it
+-- it takes a file, which it reads or makes
+abbrev pub Takes : Task → Type 0
+Takes (tasks.Make n) = ⊥
+Takes _ = ⊤
+
+-- it takes a file and checks it
 abbrev pub Checks : Task → Type 0
 Checks (tasks.Make n) = ⊥
 Checks tasks.Show = ⊥
@@ -44,12 +50,14 @@ Checks _ = ⊤
 -- it runs the parties of a file over links
 abbrev pub RunsParties : Task → Type 0
 RunsParties (tasks.Run log looks) = ⊤
+RunsParties (tasks.Big n) = ⊤
 RunsParties _ = ⊥
 
 -- it plays the file to its end: how it ended, and what is printed
 abbrev pub Plays : LinkUseAt → Task → FileAt → Verdict → List ℕ → Type 0
 Plays links tasks.Sim file verdict text = HasSimulated file verdict text
 Plays links (tasks.Run log looks) file verdict text = HasRun links log looks file verdict text
+Plays links (tasks.Big n) file verdict text = HasSummed links n file verdict text
 Plays links _ file verdict text = ⊥
 
 -- what a task prints of a file that it doesn't play
@@ -75,23 +83,32 @@ pub record AnswersItsFile (links : LinkUseAt) (task : Task) (bytes : List ℕ) (
 
 -- what answers a text
 abbrev pub AnswersText : LinkUseAt → Task → List ℕ → Answer → Type 0
-AnswersText links task bytes (Syntax fault) = Reads task × Stuck file_layer limits 0 (start bytes [] []) file_due fault
+AnswersText links task bytes (Syntax fault) = Takes task × Stuck file_layer limits 0 (start bytes [] []) file_due fault
 AnswersText links task bytes a = AnswersItsFile links task bytes a
-
--- the words ask for a task; bytes are all that was left, no more than 65,536, and no fault was counted; the answer answers them
-pub record AnswersInput (c : CallAt) (a : Answer) : Type 0 where
-  pub task : Task
-  pub asks : Asks c.words task
-  pub bytes : List ℕ
-  pub few : length bytes ≤ 65536
-  pub came : c.left ≡ put_before bytes c.left_after
-  pub all : IfSome c.left_after (λ rest. rest ≡ [])
-  pub no_fault : c.faults_after ≡ c.faults
-  pub answers : AnswersText c.links task bytes a
 
 -- the source was left as it was
 abbrev pub IsUnread : CallAt → Type 0
 IsUnread c = (c.left_after ≡ c.left) × (c.faults_after ≡ c.faults)
+
+-- the bytes are all that was left, no more than 65,536, and no fault was counted
+pub record IsRead (c : CallAt) (bytes : List ℕ) : Type 0 where
+  pub few : length bytes ≤ 65536
+  pub came : c.left ≡ put_before bytes c.left_after
+  pub all : IfSome c.left_after (λ rest. rest ≡ [])
+  pub no_fault : c.faults_after ≡ c.faults
+
+-- the bytes are the text of the task's file: the generated one, or all that the source gives
+abbrev pub HasInput : CallAt → Task → List ℕ → Type 0
+HasInput c (tasks.Big n) bytes = IsUnread c × (bytes ≡ generated n)
+HasInput c task bytes = IsRead c bytes
+
+-- the words ask for a task, and the answer answers the text of its file
+pub record AnswersInput (c : CallAt) (a : Answer) : Type 0 where
+  pub task : Task
+  pub asks : Asks c.words task
+  pub bytes : List ℕ
+  pub input : HasInput c task bytes
+  pub answers : AnswersText c.links task bytes a
 
 -- the words ask for the generated file, and nothing is read
 pub record Makes (c : CallAt) (printed : List ℕ) : Type 0 where

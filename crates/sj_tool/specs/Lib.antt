@@ -1,10 +1,12 @@
 pub mod Acting
 pub mod Answers
 pub mod Calls
+pub mod Completeness
 pub mod Damages
 pub mod Headline
 pub mod Outcomes
 pub mod Runs
 pub mod Shown
+pub mod Sums
 pub mod Table
 pub mod Texts

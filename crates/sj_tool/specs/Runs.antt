@@ -16,7 +16,9 @@ use Rattle.sj_rules.specs.Party.{play_of}
 use Rattle.sj_rules.specs.World.{WorldAt}
 use Rattle.sj_print.specs.LogLine.{log_text}
 use Rattle.sj_run.specs.Shown.{IsShown}
+use Rattle.sj_command.specs.Task.{usual_looks}
 use Rattle.sj_tool.specs.Calls.{LinkUseAt}
+use Rattle.sj_tool.specs.Sums.{summary}
 
 -- the file ends with that verdict, and its transcript is printed
 abbrev pub HasSimulated : FileAt → Verdict → List ℕ → Type 0
@@ -48,8 +50,8 @@ abbrev pub log_part : Bool → FileAt → List LineAt → List ℕ
 log_part false file history = []
 log_part true file history = line_of (codes "%%log" ∷ []) ++ log_text file history
 
--- the file was run over these links to that verdict, and the text is printed
-pub record HasRun (links : LinkUseAt) (log : Bool) (looks : ℕ) (file : FileAt) (verdict : Verdict) (text : List ℕ) : Type 0 where
+-- the file was run over these links
+pub record HasPlayed (links : LinkUseAt) (looks : ℕ) (file : FileAt) : Type 0 where
   -- the parties' history, and that of the drain
   pub history : List LineAt
   pub core : WorldAt Place Program
@@ -59,6 +61,15 @@ pub record HasRun (links : LinkUseAt) (log : Bool) (looks : ℕ) (file : FileAt)
   pub acts : IsRun file (actors history) end
   pub settled : IsSettled end
   pub is_end : end ≡ end_of file
-  -- how that world stands, and its transcript, with the history behind it where the log is asked for
-  pub stands : verdict ≡ verdict_of end
-  pub printed : text ≡ transcript_of file end ++ log_part log file history
+
+-- it was run so to that verdict; its transcript is printed, with the history behind it where the log is asked for
+pub record HasRun (links : LinkUseAt) (log : Bool) (looks : ℕ) (file : FileAt) (verdict : Verdict) (text : List ℕ) : Type 0 where
+  pub played : HasPlayed links looks file
+  pub stands : verdict ≡ verdict_of played.end
+  pub printed : text ≡ transcript_of file played.end ++ log_part log file played.history
+
+-- it was run so to that verdict, and how much was done is printed
+pub record HasSummed (links : LinkUseAt) (n : ℕ) (file : FileAt) (verdict : Verdict) (text : List ℕ) : Type 0 where
+  pub played : HasPlayed links usual_looks file
+  pub stands : verdict ≡ verdict_of played.end
+  pub printed : text ≡ summary n file played.end

@@ -6,10 +6,11 @@ ghost use Rattle.sj_lane.specs.Told.{Rose};
 ghost use Rattle.sj_lang.specs.FileView.{file_of};
 ghost use Rattle.sj_run.specs.Damage.{IsDamaged, IsDamagedSo};
 ghost use Rattle.sj_tool.specs.Calls.{used};
-ghost use Rattle.sj_tool.specs.Runs.{HasHistory, HasRun, HasSimulated};
+ghost use Rattle.sj_tool.specs.Runs.{HasHistory, HasRun, HasSimulated, HasSummed};
 
 use crate::acting::acted;
 use crate::logging::put_log;
+use crate::summing::summary_text;
 use sj_base::NoMemory;
 use sj_check::Accepted;
 use sj_core::World;
@@ -21,6 +22,9 @@ use sj_semantics::Verdict;
 use sj_work::Gate;
 use std::alloc::Global;
 use std::thread::Threads;
+
+/// The looks in vain after which a party of the generated file stops.
+const USUAL_LOOKS: u32 = 1_000;
 
 /// How a file is run: whether its history is printed, and how often a party looks in vain before it
 /// stops.
@@ -63,6 +67,29 @@ pub(crate) fn ran<R: Threads + Sync, L: Links, G: Gate>(
     let mut text = Vec::new(alloc);
     print_transcript(&mut text, file, &plain)?;
     put_log(&mut text, file, world.history(), order.log)?;
+    Ok((plain.verdict(), text))
+}
+
+/// The same, with how much was done in place of the transcript and the history. The file is the
+/// generated one of that number, and a party looks in vain as often as where no word tells.
+pub(crate) fn summed<R: Threads + Sync, L: Links, G: Gate>(
+    rt: &R,
+    alloc: Global,
+    accepted: &Accepted,
+    n: u16,
+    links: &mut L,
+    gate: &G,
+) -> Result<(Verdict, Vec<u8>), RunRefusal>
+    ensures summed { IfOk result (λ p. HasSummed (used L.tells L.faults L.sent L.got L.vain_out L.vain_in links.old links.new)
+        n (file_of (file_in accepted.now)) p.0 p.1.items) }
+    ensures link_fault { result ≡ Err RunRefusal.LinkFault → Rose (L.faults links.old) (L.faults links.new) }
+    ensures damaged { IfErr result (IsDamagedSo (file_of (file_in accepted.now))) }
+    ensures telling { IfErr result (λ r. IsDamaged r → L.tells links.old ≡ true → ⊥) }
+{
+    let file = accepted.file();
+    let world = drained(rt, alloc, accepted, USUAL_LOOKS, links, gate)?;
+    let plain = acted(alloc, accepted, world.history())?;
+    let text = summary_text(alloc, n, file, &plain)?;
     Ok((plain.verdict(), text))
 }
 

@@ -5,20 +5,24 @@ ghost use Rattle.sj_lang.specs.FileView.{file_of};
 ghost use Rattle.sj_grammar.specs.Limits.{limits};
 ghost use Rattle.sj_party.specs.Within.{IsWithin};
 ghost use Rattle.sj_check.specs.Held.{file_in};
+ghost use Rattle.sj_generator.specs.Generated.{generated};
 ghost use Rattle.sj_lane.specs.Told as lanes;
-ghost use Rattle.sj_tool.specs.Answers.{AsksFor, AnswersFile, AnswersOne, AnswersText, Comes, NoFaultAbove, OrYields, Reads, WroteFront};
+ghost use Rattle.sj_tool.specs.Answers.{AsksFor, AnswersFile, AnswersOne, AnswersText, Comes, NoFaultAbove, OrYields, Takes, WroteFront};
 ghost use Rattle.sj_tool.specs.Calls.{LinkUseAt, call, used};
+ghost use Rattle.sj_tool.specs.Completeness.{CompletesSo, IsValid};
 ghost use Rattle.sj_tool.specs.Damages.{IsToldSo};
 ghost use Rattle.sj_tool.specs.Table.{AnswersAs};
 ghost use Rattle.sj_tool.specs.Headline.{HasHeadline, IsPlaying, IsVerdict};
 ghost use Rattle.sj_tool.specs.Outcomes.{IsJudged};
+ghost use Rattle.sj_lang.specs.FileAt.{FileAt};
+ghost use Rattle.sj_command.specs.declared.tasks.Task.{Task as AnyTask};
 ghost use Rattle.sj_command.specs.declared.tasks.Task.TheVariants as tasks;
 ghost use Rattle.sj_tool.specs.declared.answers.Answer.{Answer as AnyAnswer};
 
 use crate::answers::Answer;
 use crate::counting::counts_text;
 use crate::damage::damage_text;
-use crate::playing::{Order, ran, simulated};
+use crate::playing::{Order, ran, simulated, summed};
 use crate::showing::shown_text;
 use sj_base::{NoMemory, ReadRefusal, Sink, Source, WriteFault, read_all, write_all_of};
 use sj_check::{Accepted, CheckRefusal, check};
@@ -83,6 +87,12 @@ pub fn sj<R: Threads + Sync, S: Source, K: Sink, L: Links, G: Gate>(
         (used L.tells L.faults L.sent L.got L.vain_out L.vain_in links.old links.new)) result
         (K.written out.old) (K.written out.new) }
 
+    // Of an input that is valid for the task the answer is what the task tells of it.
+    ensures complete { (task : AnyTask) → (file : FileAt)
+        → IsValid (call S.left S.faults words.now src.old src.new
+        (used L.tells L.faults L.sent L.got L.vain_out L.vain_in links.old links.new)) task file
+        → OrYields result (CompletesSo task file result (K.written out.old) (K.written out.new)) }
+
     // A read fault, a link fault and a write fault come only where a fault was counted, and damage only
     // over links that don't tell.
     ensures read_fault { result ≡ 2 → Rose (S.faults src.old) (S.faults src.new) }
@@ -127,9 +137,11 @@ fn answer_to<R: Threads + Sync, S: Source, L: Links, G: Gate>(
         return Ok(Answer::Usage);
     };
     if let Task::Make(n) = task {
-        let mut text = Vec::new(alloc);
-        print_generated(&mut text, n)?;
-        return Ok(Answer::Made(text));
+        return Ok(Answer::Made(generated_text(alloc, n)?));
+    }
+    if let Task::Big(n) = task {
+        let text = generated_text(alloc, n)?;
+        return answer_to_bytes(rt, alloc, task, &text, links, gate);
     }
     match read_all(alloc, src, MAX_FILE) {
         Ok(bytes) => answer_to_bytes(rt, alloc, task, &bytes, links, gate),
@@ -137,6 +149,15 @@ fn answer_to<R: Threads + Sync, S: Source, L: Links, G: Gate>(
         Err(ReadRefusal::TooLarge) => Ok(Answer::TooLarge),
         Err(ReadRefusal::NoMemory) => Err(NoMemory),
     }
+}
+
+// The text of the generated file.
+fn generated_text(alloc: Global, n: u16) -> Result<Vec<u8>, NoMemory>
+    ensures { IfOk result (λ text. text.items ≡ generated n) }
+{
+    let mut text = Vec::new(alloc);
+    print_generated(&mut text, n)?;
+    Ok(text)
 }
 
 // The answer to a text.
@@ -149,7 +170,7 @@ fn answer_to_bytes<R: Threads + Sync, L: Links, G: Gate>(
     gate: &G,
 ) -> Result<Answer, NoMemory>
     requires few { length bytes.now ≤ 65536 }
-    requires reads { Reads task }
+    requires takes { Takes task }
     ensures { IfOk result (AnswersText (used L.tells L.faults L.sent L.got L.vain_out L.vain_in links.old links.new)
         task bytes.now) }
 {
@@ -169,7 +190,8 @@ fn answer_to_bytes<R: Threads + Sync, L: Links, G: Gate>(
             Ok(answer)
         }
         Task::Run { log, looks } => run(rt, alloc, file, Order { log, looks }, links, gate),
-        // It reads no text.
+        Task::Big(n) => big(rt, alloc, file, n, links, gate),
+        // It takes no file.
         Task::Make(_) => unreachable!(),
     }
 }
@@ -217,6 +239,32 @@ fn run<R: Threads + Sync, L: Links, G: Gate>(
         Judged::Fault(rule, line) => return Ok(Answer::Check(rule, line)),
     };
     match ran(rt, alloc, &accepted, order, links, gate) {
+        Ok((verdict, text)) => Ok(Answer::Ran(verdict, text)),
+        Err(refusal) => {
+            let answer = refused(alloc, accepted.file(), refusal)?;
+            Ok(answer)
+        }
+    }
+}
+
+// How the generated file ends, run by its parties over those links, and how much was done.
+fn big<R: Threads + Sync, L: Links, G: Gate>(
+    rt: &R,
+    alloc: Global,
+    file: File,
+    n: u16,
+    links: &mut L,
+    gate: &G,
+) -> Result<Answer, NoMemory>
+    requires { IsWithin limits (file_of file) }
+    ensures { IfOk result (AnswersFile (used L.tells L.faults L.sent L.got L.vain_out L.vain_in links.old links.new)
+        (tasks.Big n) (file_of file)) }
+{
+    let accepted = match judge(alloc, file)? {
+        Judged::Accepted(accepted) => accepted,
+        Judged::Fault(rule, line) => return Ok(Answer::Check(rule, line)),
+    };
+    match summed(rt, alloc, &accepted, n, links, gate) {
         Ok((verdict, text)) => Ok(Answer::Ran(verdict, text)),
         Err(refusal) => {
             let answer = refused(alloc, accepted.file(), refusal)?;

@@ -17,7 +17,7 @@ returns g c =
     let judged = subst (λ j. IsJudged c.args.file j) c.in-Accepted.is c.in_ok-accepted.ensures in
     let same = ap file_of judged.0 in
     subst (λ (f : FileAt). AnswersFile links (tasks.Run c.args.order.log c.args.order.looks) f c.in_ok-answer-in-Err.answer) same
-    (told_answers links c.args.order.log c.args.order.looks (file_of (file_in c.in-Accepted.accepted)) c.in-Err.refusal c.in_ok-answer-in-Err.answer
+    (told_answers links (tasks.Run c.args.order.log c.args.order.looks) tt (file_of (file_in c.in-Accepted.accepted)) c.in-Err.refusal c.in_ok-answer-in-Err.answer
     (subst (λ (f : FileAt). IsAccepted f) (sym same) judged.1)
     (λ same_refusal. c.in-Err.ensures.link_fault (ap Err same_refusal))
     c.in-Err.ensures.damaged c.in-Err.ensures.telling

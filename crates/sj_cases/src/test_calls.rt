@@ -1,7 +1,7 @@
 //! A call of the program, over a source and a sink in memory.
-use crate::sj;
 use sj_base::{MemSink, MemSource};
 use sj_lane::RingLinks;
+use sj_tool::sj;
 use sj_work::NoGate;
 use std::alloc::Global;
 use std::process::Abort;

@@ -1,5 +1,4 @@
 //! Core worlds of files that tests share, and histories with a change.
-use crate::logging::put_log;
 use crate::test_calls::{answer, text_of};
 use sj_check::{Accepted, check};
 use sj_core::{ReplayRefusal, World};
@@ -57,7 +56,7 @@ pub(crate) fn expect_history<R: Abort + Threads + Sync>(
     let accepted = accepted(alloc, lines)?;
     let mut world = World::start(alloc, &accepted)?;
     world.drain()?;
-    put_log(&mut text, accepted.file(), world.history(), true)?;
+    put_log(&mut text, accepted.file(), world.history())?;
     assert_eq!(rt; text.as_slice(), wanted);
     Ok(())
 }
@@ -154,6 +153,14 @@ pub(crate) fn refused(
 // The log of these lines, with the line before it.
 pub(crate) fn log(alloc: Global, file: &File, lines: &[Line]) -> Result<Vec<u8>, Fail> {
     let mut text = Vec::new(alloc);
-    put_log(&mut text, file, lines, true)?;
+    put_log(&mut text, file, lines)?;
     Ok(text)
+}
+
+fn put_log(text: &mut Vec<u8>, file: &File, lines: &[Line]) -> Result<(), Fail> {
+    put(text, b"%%log\n")?;
+    for line in lines {
+        print_line(text, file, line)?;
+    }
+    Ok(())
 }

@@ -1,5 +1,4 @@
 //! Parties that run on threads.
-use crate::sj;
 use crate::test_calls::{expect, text_of};
 use crate::test_files::{
     AGENCY, AGENCY_TRANSCRIPT, BACK_AGAIN, BACK_AGAIN_TRANSCRIPT, CROSSING, CROSSING_TRANSCRIPT,
@@ -10,6 +9,7 @@ use sj_core::World;
 use sj_end::Entry;
 use sj_lane::{MemLinks, RingLinks};
 use sj_run::run_parties;
+use sj_tool::sj;
 use sj_work::{Gate, NoGate};
 use std::sync::atomic::{AtomicU64, Ordering};
 use std::test::Fail;

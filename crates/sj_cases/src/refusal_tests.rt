@@ -187,7 +187,7 @@ fn other_words_give_the_usage_line(rt: HostRuntime) -> Result<(), Fail> {
         &["make", "0"],
         &["sim", "--log"],
         &["replay"],
-        &["big", "1"],
+        &["big", "0"],
         &["--help"],
         &["--version"],
     ];

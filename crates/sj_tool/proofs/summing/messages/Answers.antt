@@ -1,0 +1,13 @@
+use Rattle.std.proofs.Common.{◌∙◌, ◌+◌, ◌<◌, ap, arith, length}
+use Rattle.sj_plain.specs.Plain.{world_at}
+use Rattle.sj_tool.proofs.SumLemmas.{session_more}
+use Rattle.sj_tool.proofs.summing.messages.Goals as goal
+
+pub loop-i-preserved : goal.loop-i-preserved
+loop-i-preserved c =
+    let zs = (world_at c.args.plain.now).sessions in
+    let i = c.loop-i.i in
+    let within : i < length zs = omega (arith, c.loop-i-test.true, c.sessions-i-end.ensures.count) in
+    let first = c.in_ok-added.ensures ∙ ap (λ (xs : _). c.loop-i.count + length xs) c.sent-first.ensures in
+    let second = c.in_ok-count.ensures ∙ ap (λ (xs : _). c.in_ok-added.field-0 + length xs) c.sent-second.ensures in
+    session_more zs i c.loop-i.count c.in_ok-added.field-0 c.in_ok-count.count within c.loop-i.invariant first second

@@ -1,0 +1,64 @@
+-- Inputs that are valid for a task, and what is told of them.
+use Rattle.std.specs.Prelude.{◌≡◌, ◌≤◌, ℕ, ◌+◌, ◌*◌, Bool, false, List, [], ◌∷◌, ◌++◌, Option, Some, codes, decimal, length}
+use Rattle.sj_base.specs.Stream.{Rose, put_behind}
+use Rattle.sj_lang.specs.FileAt.{FileAt}
+use Rattle.sj_grammar.specs.Files.{IsFile}
+use Rattle.sj_acceptance.specs.Accepted.{IsAccepted}
+use Rattle.sj_semantics.specs.Run.{end_of}
+use Rattle.sj_semantics.specs.State.{verdict_of}
+use Rattle.sj_semantics.specs.Transcript.{line_of, transcript_of}
+use Rattle.sj_generator.specs.Generated.{generated}
+use Rattle.sj_command.specs.declared.tasks.Task.{Task}
+use Rattle.sj_command.specs.declared.tasks.Task.TheVariants as tasks
+use Rattle.sj_command.specs.Task.{Asks}
+use Rattle.sj_tool.specs.Answers.{Checks, LinksHold, RunsParties}
+use Rattle.sj_tool.specs.Calls.{CallAt}
+use Rattle.sj_tool.specs.Shown.{shown}
+use Rattle.sj_tool.specs.Texts.{counts_of, verdict_status}
+
+-- all that is left, no more than 65,536 bytes, stands for the file, and no fault was counted; the file is accepted where the task checks it, and
+-- the links hold where its parties run
+pub record IsValidFile (c : CallAt) (task : Task) (file : FileAt) : Type 0 where
+  pub bytes : List ℕ
+  pub left : c.left ≡ Some bytes
+  pub few : length bytes ≤ 65536
+  pub stands : IsFile bytes file
+  pub no_fault : ¬ Rose c.faults c.faults_after
+  pub accepted : Checks task → IsAccepted file
+  pub links : RunsParties task → LinksHold c.links
+
+-- the words ask for the task, and the input is valid for it; nothing is asked of an input that isn't read, and the links hold where parties run
+abbrev pub IsValid : CallAt → Task → FileAt → Type 0
+IsValid c (tasks.Make n) file = Asks c.words (tasks.Make n)
+IsValid c (tasks.Big n) file = Asks c.words (tasks.Big n) × LinksHold c.links
+IsValid c task file = Asks c.words task × IsValidFile c task file
+
+-- the status is the verdict of the file's end, and its transcript comes first; nothing else comes but where the log is asked for
+pub record TellsEnd (log : Bool) (file : FileAt) (status : ℕ) (text : List ℕ) : Type 0 where
+  pub verdict : status ≡ verdict_status (verdict_of (end_of file))
+  pub behind : List ℕ
+  pub transcript : text ≡ transcript_of file (end_of file) ++ behind
+  pub bare : log ≡ false → behind ≡ []
+
+-- the summary of the generated file whose loops send n messages each
+abbrev pub big_text : ℕ → List ℕ
+big_text n =
+    line_of (
+    codes "big" ∷ decimal n ∷ codes "parties" ∷ decimal 15 ∷ codes "sessions" ∷ decimal 10 ∷ codes "messages" ∷ decimal (10 * n + 15)
+    ∷ codes "steps" ∷ decimal (25 * n + 55) ∷ [])
+    ++ line_of (codes "done" ∷ [])
+
+-- the status and the text that a task has for an input that is valid for it
+abbrev pub Completes : Task → FileAt → ℕ → List ℕ → Type 0
+Completes tasks.Check file status text = (status ≡ 0) × (text ≡ counts_of file)
+Completes tasks.Show file status text = (status ≡ 0) × (text ≡ shown file)
+Completes tasks.Sim file status text = TellsEnd false file status text
+Completes (tasks.Run log looks) file status text = TellsEnd log file status text
+Completes (tasks.Make n) file status text = (status ≡ 0) × (text ≡ generated n)
+Completes (tasks.Big n) file status text = (status ≡ 0) × (text ≡ big_text n)
+
+-- that text is written behind what was written before, and that status is answered
+pub record CompletesSo (task : Task) (file : FileAt) (status : ℕ) (before after : Option (List ℕ)) : Type 0 where
+  pub text : List ℕ
+  pub completes : Completes task file status text
+  pub written : after ≡ put_behind before text
