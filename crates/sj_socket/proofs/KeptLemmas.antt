@@ -1,0 +1,110 @@
+-- What stays of all lanes while their streams are tried.
+use Rattle.std.proofs.Common.{zero, suc, ◌≡◌, ℕ, ◌<◌, ◌≤◌, List, [], ◌∷◌, length, get_or, Option, Some, None, refl, sym, ap, ◌∙◌, arith}
+use Rattle.std.specs.Prelude.{slice_get}
+use Rattle.std.proofs.Math.ListN.{set}
+use Rattle.std.proofs.lemmas.Option.{slice_get_read}
+use Rattle.sj_lang.specs.Place.{Place}
+use Rattle.sj_rules.specs.Frames.{FrameAt}
+use Rattle.sj_lane.specs.Rings.{Each2}
+use Rattle.sj_lane.specs.declared.lane.Lanes.{Lanes}
+use Rattle.sj_lane.specs.Square.{IsSquare, NoneFell, SameLists, SameIn, SameOut, in_at, in_in, out_at, out_in}
+use Rattle.sj_lane.proofs.Each.{each2_back, each2_length, each2_put, each2_refl, each2_trans}
+use Rattle.sj_socket.specs.Kept.{InKept, LanesKept, OutKept}
+use Rattle.sj_socket.specs.declared.in_lane.SocketIn.{SocketIn}
+use Rattle.sj_socket.specs.declared.out_lane.SocketOut.{SocketOut}
+
+pub out_itself : (o : SocketOut) → OutKept o o
+out_itself o = record { vain = refl; faults = omega arith }
+
+pub in_itself : (i : SocketIn) → InKept i i
+in_itself i = record { vain = refl; faults = omega arith }
+
+pub out_later : (a b c : SocketOut) → OutKept a b → OutKept b c → OutKept a c
+out_later a b c x y = record { vain = y.vain ∙ x.vain; faults = let p = x.faults in let q = y.faults in omega (arith, p, q) }
+
+pub in_later : (a b c : SocketIn) → InKept a b → InKept b c → InKept a c
+in_later a b c x y = record { vain = y.vain ∙ x.vain; faults = let p = x.faults in let q = y.faults in omega (arith, p, q) }
+
+pub lanes_itself : (l : Lanes SocketOut SocketIn) → LanesKept l l
+lanes_itself l = record { outs = each2_refl OutKept out_itself l.outs.items; ins = each2_refl InKept in_itself l.ins.items }
+
+pub lanes_later : (a b c : Lanes SocketOut SocketIn) → LanesKept a b → LanesKept b c → LanesKept a c
+lanes_later a b c x y = record {
+  outs = each2_trans OutKept OutKept OutKept out_later a.outs.items b.outs.items c.outs.items x.outs y.outs;
+  ins = each2_trans InKept InKept InKept in_later a.ins.items b.ins.items c.ins.items x.ins y.ins;
+}
+
+-- what stands at a place of both lists
+at_both : {X Y : Type 0} (R : X → Y → Type 0) (S : Option X → Option Y → Type 0) → S None None → ((x : X) (y : Y) → R x y → S (Some x) (Some y)) →
+    (xs : List X) (ys : List Y) (i : ℕ) → Each2 R xs ys → S (slice_get xs i) (slice_get ys i)
+at_both R S none some [] [] i both = none
+at_both R S none some [] (y ∷ ys) i both = absurd both
+at_both R S none some (x ∷ xs) [] i both = absurd both
+at_both R S none some (x ∷ xs) (y ∷ ys) zero both = some x y both.0
+at_both R S none some (x ∷ xs) (y ∷ ys) (suc i) both = at_both R S none some xs ys i both.1
+
+-- the counts of what stands in two places, where it stands in both
+abbrev pub Fell : {X : Type 0} → (X → ℕ) → Option X → Option X → Type 0
+Fell {X} f s t = (a b : X) → s ≡ Some a → t ≡ Some b → f a ≤ f b
+
+fell_none : {X : Type 0} (f : X → ℕ) → Fell f None None
+fell_none f a b at = absurd (cc at)
+
+fell_some : {X : Type 0} (f : X → ℕ) (x y : X) → f x ≤ f y → Fell f (Some x) (Some y)
+fell_some f x y le a b at bt = let p : x ≡ a = cc at in let q : y ≡ b = cc bt in rw (← p, ← q) le
+
+-- a lane that tells no list
+abbrev pub Untold : Type 0
+Untold = Option (List (FrameAt Place))
+
+module _ (L M : List (Lanes SocketOut SocketIn)) (kept : Each2 LanesKept L M) where
+  pub still_square : IsSquare L → IsSquare M
+  still_square square p m at =
+      let l = each2_back LanesKept L M p m kept at in
+      let was = square p l.0 l.1 in
+      let size = each2_length LanesKept L M kept in
+      let outs = each2_length OutKept l.0.outs.items m.outs.items l.2.outs in
+      let ins = each2_length InKept l.0.ins.items m.ins.items l.2.ins in
+      let a = l.0.outs.ok in let b = l.0.ins.ok in let c = m.outs.ok in let d = m.ins.ok in
+      (omega arith, omega arith)
+
+  -- what holds of each lane and what it became holds at each place
+  outs_both : (S : Option SocketOut → Option SocketOut → Type 0) → S None None → ((x y : SocketOut) → OutKept x y → S (Some x) (Some y)) →
+      (p q : ℕ) → S (out_at L p q) (out_at M p q)
+  outs_both S none some p q = at_both LanesKept (λ s t. S (out_in s q) (out_in t q)) none
+      (λ l m h. at_both OutKept S none some l.outs.items m.outs.items q h.outs) L M p kept
+
+  ins_both : (S : Option SocketIn → Option SocketIn → Type 0) → S None None → ((x y : SocketIn) → InKept x y → S (Some x) (Some y)) →
+      (p q : ℕ) → S (in_at L p q) (in_at M p q)
+  ins_both S none some p q = at_both LanesKept (λ s t. S (in_in s p) (in_in t p)) none
+      (λ l m h. at_both InKept S none some l.ins.items m.ins.items p h.ins) L M q kept
+
+  pub same_lists : (list : Untold) → SameLists {O = SocketOut} {I = SocketIn} (λ o. list) (λ i. list) (λ o. o.vain) (λ i. i.vain) L M
+  same_lists list = record {
+    outs = λ p q. outs_both (SameOut {O = SocketOut} {I = SocketIn} (λ o. list) (λ i. list) (λ o. o.vain) (λ i. i.vain)) tt (λ x y h. (refl, h.vain)) p q;
+    ins = λ p q. ins_both (SameIn {O = SocketOut} {I = SocketIn} (λ o. list) (λ i. list) (λ o. o.vain) (λ i. i.vain)) tt (λ x y h. (refl, h.vain)) p q;
+  }
+
+  pub none_fell : NoneFell {O = SocketOut} {I = SocketIn} (λ o. o.faults) (λ i. i.faults) L M
+  none_fell = record {
+    outs = λ p q. outs_both (Fell (λ (o : SocketOut). o.faults)) (fell_none (λ (o : SocketOut). o.faults))
+        (λ x y h. fell_some (λ (o : SocketOut). o.faults) x y h.faults) p q;
+    ins = λ p q. ins_both (Fell (λ (i : SocketIn). i.faults)) (fell_none (λ (i : SocketIn). i.faults))
+        (λ x y h. fell_some (λ (i : SocketIn). i.faults) x y h.faults) p q;
+  }
+
+-- of one lane of a party more
+pub outs_put : (xs ys : List SocketOut) (k : ℕ) (o r : SocketOut) → Each2 OutKept xs ys → slice_get ys k ≡ Some o → OutKept o r → Each2 OutKept xs (set ys k r)
+outs_put xs ys k o r kept at now = each2_put OutKept xs ys k o r kept at (λ x h. out_later x o r h now)
+
+pub ins_put : (xs : List SocketIn) (k : ℕ) (i j : SocketIn) → slice_get xs k ≡ Some i → InKept i j → Each2 InKept xs (set xs k j)
+ins_put xs k i j at now = each2_put InKept xs xs k i j (each2_refl InKept in_itself xs) at (λ x h. in_later x i j h now)
+
+pub ins_same : (xs : List SocketIn) → Each2 InKept xs xs
+ins_same xs = each2_refl InKept in_itself xs
+
+-- of one party more
+pub party_put : (L M : List (Lanes SocketOut SocketIn)) (k : ℕ) (l m : Lanes SocketOut SocketIn) → Each2 LanesKept L M → k < length M → l ≡ get_or M k l →
+    LanesKept l m → Each2 LanesKept L (set M k m)
+party_put L M k l m kept lt is now =
+    each2_put LanesKept L M k l m kept (slice_get_read M (length M) k l refl lt is) (λ x h. lanes_later x l m h now)

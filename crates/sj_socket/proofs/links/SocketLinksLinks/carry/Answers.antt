@@ -1,0 +1,12 @@
+use Rattle.std.proofs.Common.{None}
+use Rattle.sj_socket.proofs.KeptLemmas.{none_fell, same_lists, still_square}
+use Rattle.sj_socket.proofs.links.SocketLinksLinks.carry.Goals as goal
+
+pub returns-clause-square : goal.returns-clause-square
+returns-clause-square g c = still_square c.args.lanes.now c.carry_all.new.lanes c.carry_all.ensures c.requires.square
+
+pub returns-clause-lists : goal.returns-clause-lists
+returns-clause-lists g c = same_lists c.args.lanes.now c.carry_all.new.lanes c.carry_all.ensures None
+
+pub returns-clause-faults : goal.returns-clause-faults
+returns-clause-faults g c = none_fell c.args.lanes.now c.carry_all.new.lanes c.carry_all.ensures

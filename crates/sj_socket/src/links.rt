@@ -1,0 +1,96 @@
+//! The links.
+ghost use Rattle.std.specs.Prelude.{◌≡◌, ◌≤◌, Err, IfOk, [], false, true, vec_len};
+ghost use Rattle.sj_lane.specs.Square.{AllJoined, HasFault, IsFresh, IsSquare, Kept, NoFault};
+ghost use Rattle.sj_lane.specs.Told.{Rose};
+ghost use Rattle.sj_socket.specs.Counts.{added, faults_make, met};
+
+use crate::carrying::carry_all;
+use crate::counting::{counted, with_all};
+use crate::in_lane::SocketIn;
+use crate::making::all_lanes;
+use crate::out_lane::SocketOut;
+use sj_base::NoMemory;
+use sj_lane::{InLane, Lanes, Links, MakeRefusal, OutLane};
+use std::alloc::Global;
+use std::net::Net;
+
+/// Links of one stream for each ordered pair of different parties, between ports of 127.0.0.1 that the
+/// system chooses, and of a list for what a party sends to itself, which comes by `carry` alone.
+#[derive(Drop)]
+pub struct SocketLinks<R: Net + Drop> {
+    rt: R,
+    pub(crate) faults: u64,
+}
+
+impl<R: Net + Drop> SocketLinks<R> {
+    /// Opens nothing, and takes no memory.
+    pub fn new(rt: R) -> SocketLinks<R>
+        ensures { result.faults ≡ 0 }
+    {
+        SocketLinks { rt, faults: 0 }
+    }
+}
+
+impl<R: Net + Drop> Links for SocketLinks<R> {
+    type Out = SocketOut;
+
+    type In = SocketIn;
+
+    ghost tells = { λ _. false };
+
+    ghost faults = { λ s. s.faults };
+
+    ghost joined = { λ _ _. Unit {0} };
+
+    ghost sent = { λ _ _ _. [] };
+
+    ghost got = { λ _ _ _. [] };
+
+    ghost vain_out = { λ _ _ _. 0 };
+
+    ghost vain_in = { λ _ _ _. 0 };
+
+    // The trait's clauses, and that a fault counts once.
+    fn make(
+        &mut self,
+        alloc: Global,
+        parties: u16,
+    ) -> Result<Vec<Lanes<SocketOut, SocketIn>>, MakeRefusal>
+        ensures square { IfOk result (λ v. (vec_len v ≡ parties) × IsSquare v.items) }
+        ensures joined { IfOk result (λ v. AllJoined (λ _ _. Unit {0}) v.items) }
+        ensures fresh { IfOk result (λ v. IsFresh ⟦<SocketOut as OutLane>⟧.pushed ⟦<SocketIn as InLane>⟧.popped ⟦<SocketOut as OutLane>⟧.vain ⟦<SocketIn as InLane>⟧.vain false v.items) }
+        ensures faultless { IfOk result (λ v. NoFault ⟦<SocketOut as OutLane>⟧.faults ⟦<SocketIn as InLane>⟧.faults v.items) }
+        ensures tells { false ≡ false }
+        ensures fault { (self.old.faults ≤ self.new.faults) × (result ≡ Err MakeRefusal.Fault → Rose self.old.faults self.new.faults) }
+        ensures counts { self.new.faults ≡ faults_make self.old.faults result }
+    {
+        match all_lanes(&self.rt, alloc, parties) {
+            Ok(lanes) => Ok(lanes),
+            Err(MakeRefusal::Fault) => {
+                self.faults = self.faults.saturating_add(1);
+                Err(MakeRefusal::Fault)
+            }
+            Err(MakeRefusal::NoMemory) => Err(MakeRefusal::NoMemory),
+        }
+    }
+
+    fn carry(&mut self, lanes: &mut [Lanes<SocketOut, SocketIn>]) -> Result<(), NoMemory> {
+        carry_all(lanes)
+    }
+
+    // The streams are closed, and what their lanes counted is added.
+    fn back(&mut self, lanes: Vec<Lanes<SocketOut, SocketIn>>)
+        requires square { IsSquare lanes.items }
+        requires joined { AllJoined (λ _ _. Unit {0}) lanes.items }
+        ensures kept { false ≡ true → Kept ⟦<SocketOut as OutLane>⟧.pushed ⟦<SocketIn as InLane>⟧.popped ⟦<SocketOut as OutLane>⟧.vain ⟦<SocketIn as InLane>⟧.vain lanes.items (λ _ _. []) (λ _ _. []) (λ _ _. 0) (λ _ _. 0) }
+        ensures tells { false ≡ false }
+        ensures fault { (self.old.faults ≤ self.new.faults) × (NoFault ⟦<SocketOut as OutLane>⟧.faults ⟦<SocketIn as InLane>⟧.faults lanes.items → self.new.faults ≡ self.old.faults) }
+        ensures raised { HasFault ⟦<SocketOut as OutLane>⟧.faults ⟦<SocketIn as InLane>⟧.faults lanes.items → Rose self.old.faults self.new.faults }
+        ensures counts { self.new.faults ≡ added self.old.faults (met lanes.items) }
+    {
+        self.faults = counted(self.faults, with_all(0, &lanes));
+        drop(lanes);
+    }
+
+    ghost joined_later = { λ _ _ _ _ _ _ _. tt };
+}
