@@ -1,0 +1,12 @@
+pub mod Digits
+pub mod NameLemmas
+pub mod WordLemmas
+pub mod LogLemmas
+pub mod EventLemmas
+pub mod NumberBack
+pub mod PartedWords
+pub mod PrintedFields
+pub mod PrintedMessages
+pub mod PrintedEvents
+pub mod PrintedLines
+pub mod PrintedLog

@@ -1,0 +1,93 @@
+-- The words of a line of a log, and numbers and ends among them: what a word stands for, or which rule it breaks.
+use Rattle.std.specs.Prelude.{ℕ, ◌-◌, Bool, true, false, not, ◌==◌, ◌&&◌, ◌||◌, nat_lt, nat_le, if◌then◌else◌, ℤ, pos, negsuc, List, [], ◌∷◌, length, drop, codes, Option, Some, None, Result, Ok, Err, ⊤}
+use Rattle.std.specs.List.{list_all, slice_split, before_first, after_first}
+use Rattle.std.specs.Str.{bytes_eq}
+use Rattle.std.specs.Str.Parse.{digits_value}
+use Rattle.sj_base.specs.declared.EndId.{EndId}
+use Rattle.sj_grammar.specs.Bytes.{is_digit, begins_with}
+use Rattle.sj_grammar.specs.Lexis.{has_leading_zero}
+use Rattle.sj_log.specs.declared.refusal.LogRule.{LogRule}
+use Rattle.sj_log.specs.declared.refusal.LogRule.TheVariants.{L1, L2, L3, L4}
+
+-- of the rules that one line breaks, the one with the least rank is told
+abbrev pub rank : LogRule → ℕ
+rank L1 = 0
+rank L3 = 1
+rank L2 = 2
+rank L4 = 3
+
+abbrev pub first_of : LogRule → LogRule → LogRule
+first_of r s = if nat_le (rank r) (rank s) then r else s
+
+-- both values, or the rule that is told
+unfoldable pub both : {A B : Type 0} → Result A LogRule → Result B LogRule → Result (A × B) LogRule
+both (Ok a) (Ok b) = Ok (a, b)
+both (Ok a) (Err s) = Err s
+both (Err r) (Ok b) = Err r
+both (Err r) (Err s) = Err (first_of r s)
+
+-- what is made of a value
+abbrev pub made : {A B : Type 0} → (A → B) → Result A LogRule → Result B LogRule
+made f (Ok a) = Ok (f a)
+made f (Err r) = Err r
+
+-- the words of a line, parted at each single space
+abbrev pub words_in : List ℕ → List (List ℕ)
+words_in line = slice_split (λ b. b == 32) line
+
+-- the words of the bytes that are left of a line
+abbrev pub words_left : Option (List ℕ) → List (List ℕ)
+words_left None = []
+words_left (Some bytes) = words_in bytes
+
+-- the next word; where none is left it is empty, which is no form of a field
+abbrev pub word : List (List ℕ) → List ℕ
+word [] = []
+word (w ∷ ws) = w
+
+-- the words behind it
+abbrev pub rest : List (List ℕ) → List (List ℕ)
+rest [] = []
+rest (w ∷ ws) = ws
+
+-- the next word is read by the one, and the words behind it by the other
+abbrev pub next : {A B : Type 0} → (List ℕ → Result A LogRule) → (List (List ℕ) → Result B LogRule) → List (List ℕ) → Result (A × B) LogRule
+next f g ws = both (f (word ws)) (g (rest ws))
+
+-- no word is left
+abbrev pub ended : List (List ℕ) → Result ⊤ LogRule
+ended ws = if length ws == 0 then Ok tt else Err L1
+
+-- digits are a number; one without needless zeros, within the bounds
+unfoldable pub number_read : (least most : ℕ) → List ℕ → Result ℕ LogRule
+number_read least most ds =
+    if not (nat_lt 0 (length ds) && list_all is_digit ds) then Err L1
+    else (if has_leading_zero ds || (nat_lt (digits_value 10 ds) least || nat_lt most (digits_value 10 ds)) then Err L3
+    else Ok (digits_value 10 ds))
+
+-- a count, a number of a message, a session or a connection
+unfoldable pub count_read : List ℕ → Result ℕ LogRule
+count_read w = number_read 0 4294967295 w
+
+-- when it happened
+unfoldable pub clock_read : List ℕ → Result ℕ LogRule
+clock_read w = number_read 1 4611686018427387904 w
+
+-- 64 bits, with a minus before a negative number
+unfoldable pub int_read : List ℕ → Result ℤ LogRule
+int_read w =
+    if begins_with 45 w then made (λ n. negsuc (n - 1)) (number_read 1 9223372036854775808 (drop 1 w))
+    else made (λ n. pos n) (number_read 0 9223372036854775807 w)
+
+-- session, dot and side
+unfoldable pub end_read : List ℕ → Result EndId LogRule
+end_read w =
+    made (λ x. record { sess = x.0; side = x.1 })
+    (both (count_read (before_first (λ b. b == 46) w)) (number_read 0 1 (after_first (λ b. b == 46) w)))
+
+-- from which message on is resent, or `-` where nothing is
+unfoldable pub resend_read : List ℕ → Result (Option ℕ) LogRule
+resend_read w = if bytes_eq w (codes "-") then Ok None else made (λ n. Some n) (count_read w)
+
+unfoldable pub bool_read : List ℕ → Result Bool LogRule
+bool_read w = if bytes_eq w (codes "true") then Ok true else (if bytes_eq w (codes "false") then Ok false else Err L1)

@@ -1,0 +1,6 @@
+pub mod Fields
+pub mod Names
+pub mod Notes
+pub mod Values
+pub mod LogText
+pub mod Legible

@@ -1,0 +1,56 @@
+-- The text of a log: the lines that bytes stand for, or the first line that is outside the grammar, and why.
+use Rattle.std.specs.Prelude.{◌≡◌, ℕ, ◌+◌, ◌==◌, if◌then◌else◌, List, [], ◌∷◌, codes, Result, Ok, Err, ⊤}
+use Rattle.std.specs.List.{slice_split}
+use Rattle.std.specs.Str.{bytes_eq}
+use Rattle.sj_lang.specs.FileAt.{FileAt}
+use Rattle.sj_rules.specs.Log.{NoteAt, LineAt}
+use Rattle.sj_rules.specs.World.{Event, Act, Deliver}
+use Rattle.sj_log.specs.Fields.{made, words_in, word, rest, next, clock_read}
+use Rattle.sj_log.specs.Names.{party_read}
+use Rattle.sj_log.specs.Notes.{act_read, frame_read}
+use Rattle.sj_log.specs.declared.refusal.LogRule.{LogRule}
+use Rattle.sj_log.specs.declared.refusal.LogRule.TheVariants.{L4}
+use Rattle.sj_log.specs.declared.refusal.LogRefusal.{LogRefusal}
+use Rattle.sj_log.specs.declared.refusal.LogRefusal.TheVariants as refusals
+
+-- an act of the party, or a frame and the party from which it came
+unfoldable pub event_read : FileAt → List (List ℕ) → Result (Event × NoteAt) LogRule
+event_read file ws =
+    if bytes_eq (word ws) (codes "from") then made (λ x. (Deliver x.0, x.1)) (next (party_read file) (frame_read file) (rest ws))
+    else made (λ n. (Act, n)) (act_read file (word ws) (rest ws))
+
+-- a line without its newline: clock, party and event
+unfoldable pub line_read : FileAt → List ℕ → Result LineAt LogRule
+line_read file bytes =
+    made (λ x. record { party = x.1.0; entry = record { clock = x.0; event = x.1.1.0; note = x.1.1.1 } })
+    (next clock_read (next (party_read file) (event_read file)) (words_in bytes))
+
+-- a line and the lines behind it, or the first rule that is broken, with its line
+abbrev pub before : ℕ → Result LineAt LogRule → Result (List LineAt) (LogRule × ℕ) → Result (List LineAt) (LogRule × ℕ)
+before n (Err r) more = Err (r, n)
+before n (Ok l) (Err fault) = Err fault
+before n (Ok l) (Ok ls) = Ok (l ∷ ls)
+
+-- behind the last newline nothing is left
+abbrev pub last_read : ℕ → List ℕ → Result (List LineAt) (LogRule × ℕ)
+last_read n [] = Ok []
+last_read n (b ∷ bs) = Err (L4, n)
+
+-- lines from that number on
+abbrev pub lines_read : FileAt → ℕ → List (List ℕ) → Result (List LineAt) (LogRule × ℕ)
+lines_read file n [] = Ok []
+lines_read file n (x ∷ []) = last_read n x
+lines_read file n (x ∷ y ∷ ys) = before n (line_read file x) (lines_read file (n + 1) (y ∷ ys))
+
+-- a whole log, parted at its newlines; lines count from 1
+abbrev pub log_read : FileAt → List ℕ → Result (List LineAt) (LogRule × ℕ)
+log_read file bytes = lines_read file 1 (slice_split (λ b. b == 10) bytes)
+
+-- the bytes are the log of these lines
+abbrev pub SpellsLog : FileAt → List ℕ → List LineAt → Type 0
+SpellsLog file bytes lines = log_read file bytes ≡ Ok lines
+
+-- the first line that isn't in the grammar breaks that rule; want of memory alone says nothing
+abbrev pub IsFault : FileAt → List ℕ → LogRefusal → Type 0
+IsFault file bytes refusals.NoMemory = ⊤
+IsFault file bytes (refusals.At rule line) = log_read file bytes ≡ Err (rule, line)

@@ -1,0 +1,18 @@
+//! The text of a log, read as the lines that were printed.
+#![tactic(auto)]
+
+mod fields;
+mod frames;
+mod laws;
+mod lines;
+mod names;
+mod notes;
+mod refusal;
+mod words;
+
+pub use laws::printed_lines_are_read;
+pub use lines::read_log;
+pub use refusal::{LogRefusal, LogRule};
+
+#[cfg(test)]
+mod tests;

@@ -1,0 +1,88 @@
+//! Messages and acts, each from the words that are left of a line.
+ghost use Rattle.std.specs.Prelude.{◌≡◌};
+ghost use Rattle.sj_lang.specs.FileView.{file_of};
+ghost use Rattle.sj_end.specs.Lines.{note_seen};
+ghost use Rattle.sj_log.specs.Fields.{made};
+ghost use Rattle.sj_log.specs.Notes.{sess_read, message_read, act_read};
+
+use crate::LogRule;
+use crate::fields::{boolean, end, int};
+use crate::names::{label, party, text};
+use crate::words::{Fields, is, together};
+use sj_base::Msg;
+use sj_end::Note;
+use sj_lang::File;
+
+// An end, and its keeper.
+#[tactic(auto, unfolding(crate::specs::Notes::sess_read))]
+fn sess(file: &File, fields: &mut Fields) -> Result<Msg, LogRule>
+    ensures { result ≡ sess_read (file_of file.now) fields.old }
+{
+    let end = end(fields.next());
+    let keeper = party(file, fields.next());
+    let (end, (keeper, ())) = together(end, together(keeper, fields.end()))?;
+    Ok(Msg::Sess {
+        sess: end.sess,
+        side: end.side,
+        keeper,
+    })
+}
+
+/// A message to the end of the line.
+#[tactic(auto, unfolding(crate::specs::Notes::message_read))]
+pub(crate) fn message(file: &File, fields: &mut Fields) -> Result<Msg, LogRule>
+    ensures { result ≡ message_read (file_of file.now) fields.old }
+{
+    let word = fields.next();
+    if is(word, b"int") {
+        let n = int(fields.next());
+        let (n, ()) = together(n, fields.end())?;
+        Ok(Msg::Int(n))
+    } else if is(word, b"boolean") {
+        let b = boolean(fields.next());
+        let (b, ()) = together(b, fields.end())?;
+        Ok(Msg::Bool(b))
+    } else if is(word, b"String") {
+        let n = text(file, fields.all())?;
+        Ok(Msg::Text(n))
+    } else if is(word, b"label") {
+        let n = label(file, fields.next());
+        let (n, ()) = together(n, fields.end())?;
+        Ok(Msg::Label(n))
+    } else if is(word, b"more") {
+        fields.end()?;
+        Ok(Msg::More(true))
+    } else if is(word, b"stop") {
+        fields.end()?;
+        Ok(Msg::More(false))
+    } else if is(word, b"session") {
+        sess(file, fields)
+    } else {
+        Err(LogRule::L1)
+    }
+}
+
+/// What a party did, by that word and those behind it.
+#[tactic(auto, unfolding(crate::specs::Notes::act_read))]
+pub(crate) fn act(file: &File, word: &[u8], fields: &mut Fields) -> Result<Note, LogRule>
+    ensures { made note_seen result ≡ act_read (file_of file.now) word.now fields.old }
+{
+    if is(word, b"local") {
+        fields.end()?;
+        Ok(Note::Local)
+    } else if is(word, b"send") {
+        let end = end(fields.next());
+        let (end, msg) = together(end, message(file, fields))?;
+        Ok(Note::Sent { end, msg })
+    } else if is(word, b"take") {
+        let end = end(fields.next());
+        let (end, msg) = together(end, message(file, fields))?;
+        Ok(Note::Took { end, msg })
+    } else if is(word, b"close") {
+        let end = end(fields.next());
+        let (end, ()) = together(end, fields.end())?;
+        Ok(Note::Shut { end })
+    } else {
+        Err(LogRule::L1)
+    }
+}

@@ -1,0 +1,46 @@
+//! Why bytes are no log.
+use sj_base::NoMemory;
+use std::alloc::AllocFailed;
+
+/// What a line of a log breaks. Of the rules that one line breaks the first of L1, L3 and L2 is told.
+#[derive(Clone, Copy, Debug, PartialEq, Eq)]
+pub enum LogRule {
+    /// No form of a line.
+    L1,
+    /// A party, a label or a text that the file doesn't have.
+    L2,
+    /// A number with a needless zero or sign, or out of its range.
+    L3,
+    /// A last line without its newline, whatever else it breaks.
+    L4,
+}
+
+/// Why bytes aren't read as a log.
+#[derive(Clone, Copy, Debug, PartialEq, Eq)]
+pub enum LogRefusal {
+    /// The first line outside the grammar; lines count from 1.
+    At { rule: LogRule, line: u32 },
+    NoMemory,
+}
+
+impl From<NoMemory> for LogRefusal {
+    ghost use Rattle.std.specs.Prelude.{◌≡◌};
+    ghost use Rattle.sj_log.specs.declared.refusal.LogRefusal.TheVariants as refusals;
+
+    ghost from_gives = { λ _ e. e ≡ refusals.NoMemory };
+
+    fn from(_: NoMemory) -> Self {
+        LogRefusal::NoMemory
+    }
+}
+
+impl<T: Drop> From<AllocFailed<T>> for LogRefusal {
+    ghost use Rattle.std.specs.Prelude.{◌≡◌};
+    ghost use Rattle.sj_log.specs.declared.refusal.LogRefusal.TheVariants as refusals;
+
+    ghost from_gives = { λ _ e. e ≡ refusals.NoMemory };
+
+    fn from(_: AllocFailed<T>) -> Self {
+        LogRefusal::NoMemory
+    }
+}

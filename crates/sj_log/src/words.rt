@@ -1,0 +1,142 @@
+//! The words of a line, one after another.
+ghost use Rattle.std.specs.Prelude.{◌≡◌, ◌==◌, ◌≤◌, length};
+ghost use Rattle.std.specs.List.{position_or_len, join_with_byte};
+ghost use Rattle.std.specs.Option.{option_copied};
+ghost use Rattle.std.specs.Str.{bytes_eq};
+ghost use Rattle.sj_log.specs.Fields.{both, rank, first_of, word, rest, words_in, words_left, ended};
+
+use crate::LogRule;
+use std::marker::Model;
+
+// Which of the rules that one line breaks is told: the one with the least number.
+fn order(rule: LogRule) -> u8
+    ensures { result ≡ rank rule }
+{
+    match rule {
+        LogRule::L1 => 0,
+        LogRule::L3 => 1,
+        LogRule::L2 => 2,
+        LogRule::L4 => 3,
+    }
+}
+
+fn told(r: LogRule, s: LogRule) -> LogRule
+    ensures { result ≡ first_of r s }
+{
+    if order(r) <= order(s) { r } else { s }
+}
+
+/// Both values, or the rule that is told.
+#[tactic(auto, unfolding(crate::specs::Fields::both))]
+pub(crate) fn together<A: Copy, B: Copy>(
+    a: Result<A, LogRule>,
+    b: Result<B, LogRule>,
+) -> Result<(A, B), LogRule>
+    ensures { result ≡ both a b }
+{
+    match a {
+        Ok(a) => match b {
+            Ok(b) => Ok((a, b)),
+            Err(s) => Err(s),
+        },
+        Err(r) => match b {
+            Ok(_) => Err(r),
+            Err(s) => Err(told(r, s)),
+        },
+    }
+}
+
+/// Whether the word is that one.
+pub(crate) fn is(word: &[u8], other: &[u8]) -> bool
+    ensures { result ≡ bytes_eq word.now other.now }
+{
+    word == other
+}
+
+/// The place of the first such byte, or the length where there is none.
+pub(crate) fn place_of(byte: u8, bytes: &[u8]) -> usize
+    ensures place { result ≡ position_or_len (λ b. b == byte) bytes.now }
+    ensures within { result ≤ length bytes.now }
+{
+    let mut i = 0;
+    while i < bytes.len() && bytes[i] != byte {
+        i += 1;
+    }
+    i
+}
+
+// The first word, and what is left behind the space that ends it.
+#[tactic(auto, using(crate::proofs::WordLemmas::parting))]
+fn cut(line: &[u8]) -> (&[u8], Option<&[u8]>)
+    ensures word { result.0.now ≡ word (words_in line.now) }
+    ensures rest { words_left (option_copied result.1) ≡ rest (words_in line.now) }
+{
+    let end = place_of(b' ', line);
+    if end < line.len() {
+        (&line[..end], Some(&line[end + 1..]))
+    } else {
+        (line, None)
+    }
+}
+
+/// The words that are left of a line.
+#[derive(Drop)]
+pub(crate) struct Fields<'a> {
+    left: Option<&'a [u8]>,
+}
+
+impl<'a> Model for Fields<'a> {
+    ghost use Rattle.std.specs.Prelude.{ℕ, List};
+    ghost use Rattle.std.specs.Option.{option_copied};
+    ghost use Rattle.sj_log.specs.Fields.{words_left};
+
+    ghost Value = { List (List ℕ) };
+
+    ghost view = { λ f. words_left (option_copied f.left) };
+}
+
+impl<'a> Fields<'a> {
+    /// All words of a line.
+    pub(crate) fn of(line: &'a [u8]) -> Fields<'a>
+        ensures { result ≡ words_in line.now }
+    {
+        Fields { left: Some(line) }
+    }
+
+    /// The next word, and an empty one where none is left.
+    pub(crate) fn next(&mut self) -> &'a [u8]
+        ensures word { result.now ≡ word self.old }
+        ensures rest { self.new ≡ rest self.old }
+    {
+        match self.left {
+            Some(line) => {
+                let (word, left) = cut(line);
+                self.left = left;
+                word
+            }
+            None => &[],
+        }
+    }
+
+    /// What is left of the line, with the spaces in it.
+    #[tactic(auto, using(crate::proofs::WordLemmas::parting))]
+    pub(crate) fn all(&self) -> &'a [u8]
+        ensures { result.now ≡ join_with_byte 32 self.now }
+    {
+        match self.left {
+            Some(bytes) => bytes,
+            None => &[],
+        }
+    }
+
+    /// Whether no word is left.
+    #[tactic(auto, using(crate::proofs::WordLemmas::parting))]
+    pub(crate) fn end(&self) -> Result<(), LogRule>
+        ensures { result ≡ ended self.now }
+    {
+        match self.left {
+            Some(_) => Err(LogRule::L1),
+            None => Ok(()),
+        }
+    }
+}
