@@ -1,0 +1,7 @@
+pub mod FrameLemmas
+pub mod GrowthLemmas
+pub mod OnceLemmas
+pub mod RoomLemmas
+pub mod SizeLemmas
+pub mod TextLemmas
+pub mod WordLemmas

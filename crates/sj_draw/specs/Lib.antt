@@ -1,0 +1,10 @@
+pub mod Answer
+pub mod Drawn
+pub mod Frame
+pub mod Lines
+pub mod Piece
+pub mod Run
+pub mod Small
+pub mod Told
+pub mod Views
+pub mod Words

@@ -1,0 +1,34 @@
+-- What arrows tell, and what the lines do from which they come.
+use Rattle.std.specs.Prelude.{◌≡◌, ℕ, Bool, true, false, List, [], ◌∷◌, Option, Some, None, ⊤}
+use Rattle.sj_draw.specs.declared.lines.Mark.{Mark}
+use Rattle.sj_draw.specs.Frame.{ArrowAt}
+use Rattle.sj_draw.specs.Lines.{PassedAt, LineAt, Message, Delivery, Log, read}
+
+-- a kind and a text
+pub record ToldAt : Type 0 where
+  pub mark : Mark
+  pub text : List ℕ
+
+abbrev pub told : ArrowAt → ToldAt
+told a = record { mark = a.mark; text = a.text }
+
+abbrev pub passed_told : PassedAt → ToldAt
+passed_told p = record { mark = p.mark; text = p.text }
+
+-- a message of a transcript, or a delivery of a log
+abbrev pub told_by : Option LineAt → Option ToldAt
+told_by (Some (Message p)) = Some (passed_told p)
+told_by (Some (Delivery p)) = Some (passed_told p)
+told_by _ = None
+
+abbrev pub told_in : List ℕ → Option ToldAt
+told_in line = told_by (read line)
+
+abbrev pub is_log : Option LineAt → Bool
+is_log (Some Log) = true
+is_log _ = false
+
+-- none of the lines is the one between a transcript and a log
+abbrev pub HasNoLog : List (List ℕ) → Type 0
+HasNoLog [] = ⊤
+HasNoLog (l ∷ ls) = (is_log (read l) ≡ false) × HasNoLog ls

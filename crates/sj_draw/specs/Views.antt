@@ -1,0 +1,44 @@
+-- How lines, and what is gathered of them, look to definitions.
+use Rattle.std.specs.Prelude.{map}
+use Rattle.std.specs.Option.{option_map}
+use Rattle.sj_draw.specs.declared.frame.Arrow.{Arrow}
+use Rattle.sj_draw.specs.declared.frame.Frame.{Frame}
+use Rattle.sj_draw.specs.Frame.{ArrowAt, FrameAt}
+use Rattle.sj_draw.specs.declared.lines.Line.{Line}
+use Rattle.sj_draw.specs.declared.lines.Line.TheVariants as lines
+use Rattle.sj_draw.specs.declared.lines.Session.{Session as SessionLine}
+use Rattle.sj_draw.specs.declared.lines.Passed.{Passed}
+use Rattle.sj_draw.specs.Lines.{SessionAt, PassedAt, LineAt, Session, Party, Message, Delivery, Log, Verdict}
+
+abbrev pub session_at : SessionLine → SessionAt
+session_at s = record {
+  number = s.number.now;
+  first_party = s.first_party.now;
+  first_end = s.first_end.now;
+  second_party = s.second_party.now;
+  second_end = s.second_end.now;
+}
+
+abbrev pub passed_at : Passed → PassedAt
+passed_at p = record { mark = p.mark; from = p.from.now; to = option_map (λ t. t.now) p.to; end = p.end.now; text = p.text.now }
+
+abbrev pub line_at : Line → LineAt
+line_at (lines.Session s) = Session (session_at s)
+line_at (lines.Party name) = Party name.now
+line_at (lines.Message p) = Message (passed_at p)
+line_at (lines.Delivery p) = Delivery (passed_at p)
+line_at lines.Log = Log
+line_at lines.Verdict = Verdict
+
+abbrev pub arrow_at : Arrow → ArrowAt
+arrow_at a = record { mark = a.mark; from = a.from; to = a.to; name = a.name.now; text = a.text.now }
+
+abbrev pub frame_at : Frame → FrameAt
+frame_at f = record {
+  parties = map (λ p. p.now) f.parties.items;
+  sessions = map session_at f.sessions.items;
+  arrows = map arrow_at f.arrows.items;
+  names = f.names;
+  texts = f.texts;
+  hooks = f.hooks;
+}

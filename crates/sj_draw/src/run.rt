@@ -1,0 +1,111 @@
+//! From the input to the output.
+ghost use Rattle.std.specs.Prelude.{◌≡◌, ◌⊎◌, ◌≤◌, ◌++◌, IfOk, codes, decimal};
+ghost use Rattle.sj_base.specs.Stream.{Rose};
+ghost use Rattle.sj_draw.specs.Answer.{outcome_of};
+ghost use Rattle.sj_draw.specs.Run.{AnswersOne, Comes, WroteFront, status_of, text_of};
+
+use crate::gathering::{DrawRefusal, draw_lines};
+use sj_base::{NoMemory, ReadRefusal, Sink, Source, WriteFault, read_all, write_all_of};
+use sj_text::{put, put_number};
+use std::alloc::Global;
+
+/// The most bytes of an input.
+const MOST_BYTES: usize = 67_108_864;
+
+/// The status where the text can't be written.
+const WRITE_FAULT: u8 = 10;
+
+/// The status where there is no memory.
+const NO_MEMORY: u8 = 11;
+
+/// A status, and the text that is written.
+#[derive(Drop)]
+struct Answer {
+    status: u8,
+    text: Vec<u8>,
+}
+
+/// Reads a transcript, a log, or a transcript and its log, writes its picture, and answers 0.
+///
+/// Another status comes with a line that says why: 2 where a read failed, 3 where more than 67,108,864 bytes
+/// came, 4 and 5 where `draw_lines` refuses a line. The text is built whole before any of it is written; 10
+/// comes where a write failed, and 11 where there was no memory.
+pub fn draw<S: Source, K: Sink>(alloc: Global, src: &mut S, out: &mut K) -> u8
+    ensures answer { AnswersOne (record {
+      left = S.left src.old;
+      left_after = S.left src.new;
+      faults = S.faults src.old;
+      faults_after = S.faults src.new;
+    }) result (K.written out.old) (K.written out.new) ⊎ ((result ≡ 10) ⊎ (result ≡ 11)) }
+    ensures write_fault { result ≡ 10 → Rose (K.faults out.old) (K.faults out.new) }
+    ensures front { result ≡ 10 → WroteFront (record {
+      left = S.left src.old;
+      left_after = S.left src.new;
+      faults = S.faults src.old;
+      faults_after = S.faults src.new;
+    }) (K.written out.old) (K.written out.new) }
+    ensures no_memory { result ≡ 11 → K.written out.new ≡ K.written out.old }
+{
+    let answer = match answer_to(alloc, src) {
+        Ok(answer) => answer,
+        Err(NoMemory) => return NO_MEMORY,
+    };
+    match write_all_of(out, &answer.text) {
+        Ok(()) => answer.status,
+        Err(WriteFault) => WRITE_FAULT,
+    }
+}
+
+fn answer_to<S: Source>(alloc: Global, src: &mut S) -> Result<Answer, NoMemory>
+    ensures comes { IfOk result (λ a. Comes (record {
+      left = S.left src.old;
+      left_after = S.left src.new;
+      faults = S.faults src.old;
+      faults_after = S.faults src.new;
+    }) a.status a.text.items) }
+    ensures low { IfOk result (λ a. a.status ≤ 5) }
+{
+    match read_all(alloc, src, MOST_BYTES) {
+        Ok(bytes) => answer_to_bytes(alloc, &bytes),
+        Err(ReadRefusal::ReadFault) => copied(alloc, 2, b"read fault\n"),
+        Err(ReadRefusal::TooLarge) => copied(alloc, 3, b"too large\n"),
+        Err(ReadRefusal::NoMemory) => Err(NoMemory),
+    }
+}
+
+fn copied(alloc: Global, status: u8, text: &[u8]) -> Result<Answer, NoMemory>
+    ensures status { IfOk result (λ a. a.status ≡ status) }
+    ensures text { IfOk result (λ a. a.text.items ≡ text.now) }
+{
+    let text = Vec::from_slice(alloc, text)?;
+    Ok(Answer { status, text })
+}
+
+fn answer_to_bytes(alloc: Global, bytes: &[u8]) -> Result<Answer, NoMemory>
+    ensures status { IfOk result (λ a. a.status ≡ status_of (outcome_of bytes.now)) }
+    ensures text { IfOk result (λ a. a.text.items ≡ text_of (outcome_of bytes.now)) }
+{
+    match draw_lines(alloc, bytes) {
+        Ok(text) => Ok(Answer { status: 0, text }),
+        Err(DrawRefusal::Unread(n)) => {
+            let text = line_text(alloc, n, b" is none of a transcript or a log\n")?;
+            Ok(Answer { status: 4, text })
+        }
+        Err(DrawRefusal::Beyond(n)) => {
+            let text = line_text(alloc, n, b" passes a limit\n")?;
+            Ok(Answer { status: 5, text })
+        }
+        Err(DrawRefusal::NoMemory) => Err(NoMemory),
+    }
+}
+
+// What is told of the line of that number.
+fn line_text(alloc: Global, n: usize, what: &[u8]) -> Result<Vec<u8>, NoMemory>
+    ensures { IfOk result (λ t. t.items ≡ codes "line " ++ (decimal n ++ what.now)) }
+{
+    let mut text = Vec::new(alloc);
+    put(&mut text, b"line ")?;
+    put_number(&mut text, n as u64)?;
+    put(&mut text, what)?;
+    Ok(text)
+}

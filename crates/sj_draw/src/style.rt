@@ -1,0 +1,35 @@
+//! How lines and arrows look: each kind of frame has a colour and dashes of its own.
+
+/// The looks of the classes, the tips of the arrows, and a white page.
+pub(crate) const STYLE: &[u8] = b"\
+<style>\
+text{font:12px monospace;fill:#111}\
+.name{font-weight:bold;text-anchor:middle}\
+path{fill:none;stroke-width:1.5}\
+.party{stroke:#999;stroke-width:1}\
+.message{stroke:#111;marker-end:url(#message)}\
+.fin{stroke:#777;stroke-dasharray:1 4;marker-end:url(#fin)}\
+.session{stroke:#b5179e;stroke-width:3;marker-end:url(#session)}\
+.claim{stroke:#0b6e4f;stroke-dasharray:12 4;marker-end:url(#claim)}\
+.signal{stroke:#c2410c;stroke-dasharray:12 3 2 3;marker-end:url(#signal)}\
+.ack{stroke:#1d4ed8;stroke-dasharray:4 4;marker-end:url(#ack)}\
+.give{stroke:#6d28d9;stroke-width:3;stroke-dasharray:16 4;marker-end:url(#give)}\
+.untaken{marker-end:url(#untaken)}\
+</style>\n\
+<marker id='message' viewBox='0 0 10 10' refX='10' refY='5' markerWidth='10' markerHeight='10' \
+markerUnits='userSpaceOnUse' orient='auto'><path d='M 0 0 L 10 5 L 0 10 z' style='fill:#111'/></marker>\
+<marker id='fin' viewBox='0 0 10 10' refX='10' refY='5' markerWidth='10' markerHeight='10' \
+markerUnits='userSpaceOnUse' orient='auto'><path d='M 0 0 L 10 5 L 0 10 z' style='fill:#777'/></marker>\
+<marker id='session' viewBox='0 0 10 10' refX='10' refY='5' markerWidth='10' markerHeight='10' \
+markerUnits='userSpaceOnUse' orient='auto'><path d='M 0 0 L 10 5 L 0 10 z' style='fill:#b5179e'/></marker>\
+<marker id='claim' viewBox='0 0 10 10' refX='10' refY='5' markerWidth='10' markerHeight='10' \
+markerUnits='userSpaceOnUse' orient='auto'><path d='M 0 0 L 10 5 L 0 10 z' style='fill:#0b6e4f'/></marker>\
+<marker id='signal' viewBox='0 0 10 10' refX='10' refY='5' markerWidth='10' markerHeight='10' \
+markerUnits='userSpaceOnUse' orient='auto'><path d='M 0 0 L 10 5 L 0 10 z' style='fill:#c2410c'/></marker>\
+<marker id='ack' viewBox='0 0 10 10' refX='10' refY='5' markerWidth='10' markerHeight='10' \
+markerUnits='userSpaceOnUse' orient='auto'><path d='M 0 0 L 10 5 L 0 10 z' style='fill:#1d4ed8'/></marker>\
+<marker id='give' viewBox='0 0 10 10' refX='10' refY='5' markerWidth='10' markerHeight='10' \
+markerUnits='userSpaceOnUse' orient='auto'><path d='M 0 0 L 10 5 L 0 10 z' style='fill:#6d28d9'/></marker>\
+\n<marker id='untaken' viewBox='0 0 10 10' refX='5' refY='5' markerWidth='10' markerHeight='10' \
+markerUnits='userSpaceOnUse'><circle cx='5' cy='5' r='4' style='fill:#fff;stroke:#111'/></marker>\n\
+<rect width='100%' height='100%' fill='#fff'/>\n";
