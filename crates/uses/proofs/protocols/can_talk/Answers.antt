@@ -1,0 +1,23 @@
+use Rattle.std.proofs.Common.{◌≡◌, ◌∙◌, ◌∷◌, [], List, ap, ap₂, sym, subst, arith, map}
+use Rattle.std.specs.Prelude.{IsTrue, ◌↔◌}
+use Rattle.sj_lang.specs.FileView.{file_of, protocol_of}
+use Rattle.sj_lang.specs.Place.{Place}
+use Rattle.sj_lang.specs.declared.file.ProtocolDef.{ProtocolDef}
+use Rattle.uses.proofs.TwoLemmas.{two_of}
+use Rattle.uses.proofs.protocols.can_talk.Goals as goal
+
+pub returns-in-Ok-dual : goal.returns-in-Ok-dual
+returns-in-Ok-dual c =
+    let ps : List ProtocolDef = c.as_slice.result.now in
+    let own = c.own-item.result in
+    let peers = c.peers-item.result in
+    let both = two_of ps own peers (omega (arith, c.in-len2.len_at_least)) (omega (arith, c.in-len2.len_below)) in
+    let two : ps ≡ own ∷ peers ∷ [] = both ∙ ap₂ (λ (p q : ProtocolDef). p ∷ q ∷ []) (sym c.own-item.is) (sym c.peers-item.is) in
+    record {
+      file = file_of c.in-Ok.file;
+      read = c.in-Ok.ensures.found;
+      own = protocol_of own;
+      peers = protocol_of peers;
+      two = ap (map protocol_of) (sym c.as_slice.ensures.value ∙ two);
+      dual = subst (λ (p : Place). IsTrue c.same.result ↔ (own.body ≡ p)) c.in-Ok-dual.ensures c.same.ensures;
+    }
