@@ -1,16 +1,21 @@
-# What the scripts that time a program share; each reads it at its head and sets `program`.
+# What the scripts of bench/ share; each reads it at its head, and one that times a program sets `program`.
 runs=${RUNS:-200}
 top=$(cd "$(dirname "${BASH_SOURCE[0]}")/.." && pwd)
 folder=$(mktemp -d)
 trap 'rm -rf "$folder"' EXIT
 : > "$folder/empty"
 
-# The microseconds of one run on that file, with the words behind it.
-run_on() {
+# The microseconds of that command.
+micros_of() {
     local before=$EPOCHREALTIME
-    "$program" "${@:2}" < "$1" > /dev/null
+    "$@" > /dev/null
     local after=$EPOCHREALTIME
     echo $((${after/[.,]/} - ${before/[.,]/}))
+}
+
+# The microseconds of one run on that file, with the words behind it.
+run_on() {
+    micros_of "$program" "${@:2}" < "$1"
 }
 
 # The best and the median of the numbers in the file.
@@ -31,4 +36,15 @@ times_on() {
     done
     for times in start_times times; do summary "$folder/$times"; done | paste -s -d ' ' |
         awk '{ printf "%.2f %.2f\n", ($3 - $1) / 1000, ($4 - $2) / 1000 }'
+}
+
+# The median peak of resident memory of 21 runs on that file, with the words behind it, in KiB.
+peak_on() {
+    local i
+    : > "$folder/peaks"
+    for ((i = 0; i < 21; i++)); do
+        /usr/bin/time -f %M -o "$folder/peak" "$program" "${@:2}" < "$1" > /dev/null
+        cat "$folder/peak" >> "$folder/peaks"
+    done
+    summary "$folder/peaks" | awk '{ print $2 }'
 }

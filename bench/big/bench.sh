@@ -9,7 +9,7 @@ RUNS=${RUNS:-41}
 here=$top/bench/big
 
 "$top/sj" make 1 > /dev/null
-sj=$top/crates/sj/out/sj
+program=$top/crates/sj/out/sj
 found=(big run sim)
 command -v rustc > /dev/null && rustc -O -o "$folder/rust" "$here/channels.rs" && found+=(rust)
 command -v go > /dev/null && (cd "$here" && GO111MODULE=off go build -o "$folder/go" channels.go) && found+=(go)
@@ -19,27 +19,11 @@ echo "Found: ${found[*]}"
 # One whole process of that kind.
 once() {
     case $1 in
-        big) "$sj" big "$2" ;;
-        run | sim) "$sj" "$1" < "$folder/$2.sj" ;;
+        big) "$program" big "$2" ;;
+        run | sim) "$program" "$1" < "$folder/$2.sj" ;;
         rust | go) "$folder/$1" "$2" ;;
         erlang) escript "$here/channels.escript" "$2" ;;
-    esac > /dev/null
-}
-
-# The microseconds of one.
-timed() {
-    local before=$EPOCHREALTIME
-    once "$@"
-    local after=$EPOCHREALTIME
-    echo $((${after/[.,]/} - ${before/[.,]/}))
-}
-
-# The median peak of resident memory of `sj big N`, in KiB.
-peak() {
-    for ((i = 0; i < 21; i++)); do
-        /usr/bin/time -f %M -o "$folder/peak" "$sj" big "$1" > /dev/null
-        cat "$folder/peak"
-    done | sort -n | awk '{ t[NR] = $1 } END { print t[int((NR + 1) / 2)] }'
+    esac
 }
 
 printf '| N | Messages |'
@@ -48,10 +32,10 @@ printf ' big to rust | Peak of big, KiB |\n|---|---|'
 printf -- '---|%.0s' "${found[@]}" x y
 printf '\n'
 for n in 10 100 400 1000; do
-    "$sj" make "$n" > "$folder/$n.sj"
+    "$program" make "$n" > "$folder/$n.sj"
     for kind in "${found[@]}"; do : > "$folder/of_$kind"; done
     for ((i = 0; i < runs; i++)); do
-        for kind in "${found[@]}"; do timed "$kind" "$n" >> "$folder/of_$kind"; done
+        for kind in "${found[@]}"; do micros_of once "$kind" "$n" >> "$folder/of_$kind"; done
     done
     printf '| %d | %d |' "$n" $((10 * n + 15))
     for kind in "${found[@]}"; do
@@ -62,9 +46,9 @@ for n in 10 100 400 1000; do
     else
         printf ' - |'
     fi
-    at=$(peak "$n")
-    printf ' %d |\n' "$at"
-    echo "$((10 * n + 15)) $at" >> "$folder/growth"
+    peak=$(peak_on "$folder/empty" big "$n")
+    printf ' %d |\n' "$peak"
+    echo "$((10 * n + 15)) $peak" >> "$folder/growth"
 done
 awk 'NR == 1 { m = $1; p = $2 } END {
     printf "\nFrom the first row to the last, a message: %.1f bytes of memory.\n", 1024 * ($2 - p) / ($1 - m)

@@ -8,20 +8,7 @@ set -euo pipefail
 
 # The microseconds of one run on that file on one processor.
 pinned_on() {
-    local before=$EPOCHREALTIME
-    taskset -c 0 "$program" run < "$1" > /dev/null
-    local after=$EPOCHREALTIME
-    echo $((${after/[.,]/} - ${before/[.,]/}))
-}
-
-# The median peak of resident memory of 21 runs on that file, in bytes.
-peak_on() {
-    for ((i = 0; i < 21; i++)); do
-        /usr/bin/time -f %M -o "$folder/peak" "$program" run < "$1" > /dev/null
-        cat "$folder/peak" >> "$folder/peaks"
-    done
-    summary "$folder/peaks" | awk '{ print $2 * 1024 }'
-    rm "$folder/peaks"
+    micros_of taskset -c 0 "$program" run < "$1"
 }
 
 "$top/sj" make 1 > /dev/null
@@ -42,13 +29,13 @@ for n in 100 200 400 700 1000; do
         run_on "$file" run >> "$folder/run"
         pinned_on "$file" >> "$folder/pinned"
     done
-    peak=$(peak_on "$file")
+    peak=$(peak_on "$file" run)
     for words in start_sim start_run start_pinned sim run pinned; do summary "$folder/$words"; done | paste -s -d ' ' |
         awk -v n="$n" -v m="$messages" -v e="$events" -v p="$peak" '{
-            printf "| %d | %d | %d | %.2f | %.2f | %.2f | %.2f | %.1f | %.2f | %.2f | %d |\n", n, m, e, ($7 - $1) / 1000, ($8 - $2) / 1000, ($9 - $3) / 1000, ($10 - $4) / 1000, ($10 - $4) / ($8 - $2), ($11 - $5) / 1000, ($12 - $6) / 1000, p / 1024
+            printf "| %d | %d | %d | %.2f | %.2f | %.2f | %.2f | %.1f | %.2f | %.2f | %d |\n", n, m, e, ($7 - $1) / 1000, ($8 - $2) / 1000, ($9 - $3) / 1000, ($10 - $4) / 1000, ($10 - $4) / ($8 - $2), ($11 - $5) / 1000, ($12 - $6) / 1000, p
         }'
     echo "$messages $peak" >> "$folder/growth"
 done
 awk 'NR == 1 { m = $1; p = $2 } END {
-    printf "\nFrom the first row to the last, a message: %.1f bytes of memory.\n", ($2 - p) / ($1 - m)
+    printf "\nFrom the first row to the last, a message: %.1f bytes of memory.\n", 1024 * ($2 - p) / ($1 - m)
 }' "$folder/growth"

@@ -6,16 +6,6 @@
 set -euo pipefail
 . "$(dirname "$0")/../frame.sh"
 
-# The median peak of resident memory of 21 runs on that file, in bytes.
-peak_on() {
-    for ((i = 0; i < 21; i++)); do
-        /usr/bin/time -f %M -o "$folder/peak" "$program" sim < "$1" > /dev/null
-        cat "$folder/peak" >> "$folder/peaks"
-    done
-    summary "$folder/peaks" | awk '{ print $2 * 1024 }'
-    rm "$folder/peaks"
-}
-
 "$top/sj" make 1 > /dev/null
 program=$top/crates/sj/out/sj
 printf '| N | Messages | Steps | Best ms | Median ms | Bytes of transcript | Peak KiB |\n|---|---|---|---|---|---|---|\n'
@@ -27,10 +17,10 @@ for n in 100 200 400 700 1000; do
     messages=$(grep -c '^[0-9]' "$folder/transcript")
     steps=$(awk '$1 == "party" { sum += $4 } END { print sum }' "$folder/transcript")
     bytes=$(wc -c < "$folder/transcript")
-    peak=$(peak_on "$file")
-    printf '| %d | %d | %d | %s | %s | %d | %d |\n' "$n" "$messages" "$steps" "$best" "$median" "$bytes" "$((peak / 1024))"
+    peak=$(peak_on "$file" sim)
+    printf '| %d | %d | %d | %s | %s | %d | %d |\n' "$n" "$messages" "$steps" "$best" "$median" "$bytes" "$peak"
     echo "$messages $bytes $peak" >> "$folder/growth"
 done
 awk 'NR == 1 { g = $1; w = $2; p = $3 } END {
-    printf "\nFrom the first row to the last, a message: %.1f bytes of memory, %.1f bytes of transcript.\n", ($3 - p) / ($1 - g), ($2 - w) / ($1 - g)
+    printf "\nFrom the first row to the last, a message: %.1f bytes of memory, %.1f bytes of transcript.\n", 1024 * ($3 - p) / ($1 - g), ($2 - w) / ($1 - g)
 }' "$folder/growth"

@@ -2,11 +2,9 @@
 # Runs small generated files over sockets, and compares each transcript and status with those of the plain
 # world, and with those over rings. `FILES=1000 bench/sockets/compare.sh` takes more files than 300.
 set -euo pipefail
+here=$(dirname "$0")
+. "$here/../frame.sh"
 files=${FILES:-300}
-here=$(cd "$(dirname "$0")" && pwd)
-top=$here/../..
-folder=$(mktemp -d)
-trap 'rm -rf "$folder"' EXIT
 
 # What the program answers to the file, with its status behind it.
 answer_of() {
