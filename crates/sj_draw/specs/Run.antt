@@ -26,12 +26,13 @@ pub record InputAt : Type 0 where
   pub faults : ℕ
   pub faults_after : ℕ
 
--- the bytes are all that was left, and what comes of them is answered
+-- the bytes are all that was left, no fault was counted, and what comes of the bytes is answered
 pub record AnswersBytes (i : InputAt) (status : ℕ) (text : List ℕ) : Type 0 where
   pub bytes : List ℕ
   pub few : length bytes ≤ most_bytes
   pub came : i.left ≡ put_before bytes i.left_after
   pub all : IfSome i.left_after (λ rest. rest ≡ [])
+  pub no_fault : i.faults_after ≡ i.faults
   pub status_is : status ≡ status_of (outcome_of bytes)
   pub text_is : text ≡ text_of (outcome_of bytes)
 
@@ -42,9 +43,10 @@ pub record AnswersFault (i : InputAt) (status : ℕ) (text : List ℕ) : Type 0 
   pub status_is : status ≡ 2
   pub text_is : text ≡ codes "read fault\n"
 
--- more bytes came than an input may have
+-- more bytes came than an input may have, and no fault was counted
 pub record AnswersTooLarge (i : InputAt) (status : ℕ) (text : List ℕ) : Type 0 where
   pub came : CameOf (λ n. most_bytes < n) i.left i.left_after
+  pub no_fault : i.faults_after ≡ i.faults
   pub status_is : status ≡ 3
   pub text_is : text ≡ codes "too large\n"
 
