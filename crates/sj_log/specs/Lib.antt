@@ -1,3 +1,4 @@
+pub mod Rules
 pub mod Fields
 pub mod Names
 pub mod Notes

@@ -1,10 +1,11 @@
 -- The text of a log: the lines that bytes stand for, or the first line that is outside the grammar, and why.
-use Rattle.std.specs.Prelude.{◌≡◌, ℕ, ◌+◌, ◌==◌, if◌then◌else◌, List, [], ◌∷◌, codes, Result, Ok, Err, ⊤}
+use Rattle.std.specs.Prelude.{◌≡◌, ℕ, ◌+◌, ◌==◌, if◌then◌else◌, List, [], ◌∷◌, codes, Option, Some, None, Result, Ok, Err, ⊤}
 use Rattle.std.specs.List.{slice_split}
 use Rattle.std.specs.Str.{bytes_eq}
 use Rattle.sj_lang.specs.FileAt.{FileAt}
 use Rattle.sj_rules.specs.Log.{NoteAt, LineAt}
 use Rattle.sj_rules.specs.World.{Event, Act, Deliver}
+use Rattle.sj_log.specs.Rules.{rule_number}
 use Rattle.sj_log.specs.Fields.{made, words_in, word, rest, next, clock_read}
 use Rattle.sj_log.specs.Names.{party_read}
 use Rattle.sj_log.specs.Notes.{act_read, frame_read}
@@ -50,7 +51,12 @@ log_read file bytes = lines_read file 1 (slice_split (λ b. b == 10) bytes)
 abbrev pub SpellsLog : FileAt → List ℕ → List LineAt → Type 0
 SpellsLog file bytes lines = log_read file bytes ≡ Ok lines
 
+-- the number of the first rule that is broken, and its line
+abbrev pub fault_of : Result (List LineAt) (LogRule × ℕ) → Option (ℕ × ℕ)
+fault_of (Ok lines) = None
+fault_of (Err fault) = Some (rule_number fault.0, fault.1)
+
 -- the first line that isn't in the grammar breaks that rule; want of memory alone says nothing
 abbrev pub IsFault : FileAt → List ℕ → LogRefusal → Type 0
 IsFault file bytes refusals.NoMemory = ⊤
-IsFault file bytes (refusals.At rule line) = log_read file bytes ≡ Err (rule, line)
+IsFault file bytes (refusals.At rule line) = fault_of (log_read file bytes) ≡ Some (rule, line)

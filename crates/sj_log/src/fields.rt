@@ -6,7 +6,7 @@ ghost use Rattle.sj_grammar.specs.Lexis.{has_leading_zero};
 ghost use Rattle.sj_log.specs.Values.{value_within};
 ghost use Rattle.sj_log.specs.Fields.{made, number_read, count_read, clock_read, int_read, end_read, resend_read, bool_read};
 
-use crate::LogRule;
+use crate::refusal::LogRule;
 use crate::words::{is, place_of, together};
 use sj_base::EndId;
 

@@ -5,10 +5,10 @@ ghost use Rattle.sj_end.specs.Lines.{note_seen};
 ghost use Rattle.sj_log.specs.Fields.{made};
 ghost use Rattle.sj_log.specs.Notes.{carry_read, fin_read, signal_read, counts_read, give_read, frame_read};
 
-use crate::LogRule;
 use crate::fields::{count, end, resend};
 use crate::names::party;
 use crate::notes::message;
+use crate::refusal::LogRule;
 use crate::words::{Fields, is, together};
 use sj_end::Note;
 use sj_lang::File;

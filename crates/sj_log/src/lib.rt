@@ -12,7 +12,7 @@ mod words;
 
 pub use laws::printed_lines_are_read;
 pub use lines::read_log;
-pub use refusal::{LogRefusal, LogRule};
+pub use refusal::LogRefusal;
 
 #[cfg(test)]
 mod tests;

@@ -11,8 +11,8 @@ use crate::fields::clock;
 use crate::frames::frame;
 use crate::names::party;
 use crate::notes::act;
+use crate::refusal::{LogRefusal, LogRule, number_of};
 use crate::words::{Fields, is, place_of, together};
-use crate::{LogRefusal, LogRule};
 use sj_end::{Entry, Event, Line, Note};
 use sj_lang::File;
 use std::alloc::Global;
@@ -84,13 +84,18 @@ pub fn read_log(alloc: Global, bytes: &[u8], file: &File) -> Result<Vec<Line>, L
         let end = place_of(b'\n', left);
         if end == left.len() {
             return Err(LogRefusal::At {
-                rule: LogRule::L4,
+                rule: number_of(LogRule::L4),
                 line: number,
             });
         }
         match line(file, &left[..end]) {
             Ok(line) => lines.push(line)?,
-            Err(rule) => return Err(LogRefusal::At { rule, line: number }),
+            Err(rule) => {
+                return Err(LogRefusal::At {
+                    rule: number_of(rule),
+                    line: number,
+                });
+            }
         }
         left = &left[end + 1..];
         number += 1;

@@ -9,7 +9,7 @@ ghost use Rattle.sj_lang.specs.FileView.{file_of, party_of};
 ghost use Rattle.sj_lang.specs.Words.{first_place};
 ghost use Rattle.sj_log.specs.Names.{known, party_of_name, label_read, party_read, text_read, is_quoted};
 
-use crate::LogRule;
+use crate::refusal::LogRule;
 use sj_lang::{File, Party, Words};
 
 fn begins_word(b: u8) -> bool

@@ -5,9 +5,9 @@ ghost use Rattle.sj_end.specs.Lines.{note_seen};
 ghost use Rattle.sj_log.specs.Fields.{made};
 ghost use Rattle.sj_log.specs.Notes.{sess_read, message_read, act_read};
 
-use crate::LogRule;
 use crate::fields::{boolean, end, int};
 use crate::names::{label, party, text};
+use crate::refusal::LogRule;
 use crate::words::{Fields, is, together};
 use sj_base::Msg;
 use sj_end::Note;

@@ -1,10 +1,13 @@
 //! Why bytes are no log.
+ghost use Rattle.std.specs.Prelude.{◌≡◌};
+ghost use Rattle.sj_log.specs.Rules.{rule_number};
+
 use sj_base::NoMemory;
 use std::alloc::AllocFailed;
 
 /// What a line of a log breaks. Of the rules that one line breaks the first of L1, L3 and L2 is told.
 #[derive(Clone, Copy, Debug, PartialEq, Eq)]
-pub enum LogRule {
+pub(crate) enum LogRule {
     /// No form of a line.
     L1,
     /// A party, a label or a text that the file doesn't have.
@@ -15,11 +18,24 @@ pub enum LogRule {
     L4,
 }
 
+/// The number by which a refusal tells the rule.
+pub(crate) fn number_of(rule: LogRule) -> u8
+    ensures { result ≡ rule_number rule }
+{
+    match rule {
+        LogRule::L1 => 1,
+        LogRule::L2 => 2,
+        LogRule::L3 => 3,
+        LogRule::L4 => 4,
+    }
+}
+
 /// Why bytes aren't read as a log.
 #[derive(Clone, Copy, Debug, PartialEq, Eq)]
 pub enum LogRefusal {
-    /// The first line outside the grammar; lines count from 1.
-    At { rule: LogRule, line: u32 },
+    /// The first line outside the grammar, by its number from 1 on, and the rule that it breaks: 1 for no
+    /// form of a line, 2 for an unknown name, 3 for a wrong number, 4 for a line without its newline.
+    At { rule: u8, line: u32 },
     NoMemory,
 }
 

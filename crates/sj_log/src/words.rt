@@ -5,7 +5,7 @@ ghost use Rattle.std.specs.Option.{option_copied};
 ghost use Rattle.std.specs.Str.{bytes_eq};
 ghost use Rattle.sj_log.specs.Fields.{both, rank, first_of, word, rest, words_in, words_left, ended};
 
-use crate::LogRule;
+use crate::refusal::LogRule;
 use std::marker::Model;
 
 // Which of the rules that one line breaks is told: the one with the least number.

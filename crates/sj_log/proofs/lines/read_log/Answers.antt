@@ -1,19 +1,22 @@
-use Rattle.std.proofs.Common.{◌∙◌, ap, map, arith}
+use Rattle.std.proofs.Common.{◌∙◌, ap, sym, map, Some, arith}
 use Rattle.sj_lang.specs.FileView.{file_of}
 use Rattle.sj_end.specs.Lines.{line_at}
+use Rattle.sj_log.specs.LogText.{fault_of}
 use Rattle.sj_log.proofs.LogLemmas.{behind, last_line, left_is_shorter, broken, goes_on}
 use Rattle.sj_log.proofs.lines.read_log.Goals as goal
 
 pub returns-then-end-left-clause-fault : goal.returns-then-end-left-clause-fault
 returns-then-end-left-clause-fault c =
     let at = c.place_of-end.ensures.place in let long = c.if-end-left.true in
-    c.loop-left.invariant.so_far ∙ ap (behind (map line_at c.loop-left.lines.items)) (last_line (file_of c.args.file.now) c.loop-left.number c.loop-left.left.now c.loop-left-test.true (omega arith))
+    ap fault_of (c.loop-left.invariant.so_far ∙ ap (behind (map line_at c.loop-left.lines.items)) (last_line (file_of c.args.file.now) c.loop-left.number c.loop-left.left.now c.loop-left-test.true (omega arith)))
+    ∙ ap (λ n. Some (n, c.loop-left.number)) (sym c.number_of.ensures)
 
 pub returns-in-Err-clause-fault : goal.returns-in-Err-clause-fault
 returns-in-Err-clause-fault c =
     let at = c.place_of-end.ensures.place in let short = c.if-end-left.false in let within = c.place_of-end.ensures.within in
-    broken (file_of c.args.file.now) c.loop-left.number c.place_of-end.result c.loop-left.left.now at (omega arith)
-    c.loop-left.lines.items _ c.loop-left.invariant.so_far c.line.result c.line.ensures c.in-Err.rule c.in-Err.is
+    ap fault_of (broken (file_of c.args.file.now) c.loop-left.number c.place_of-end.result c.loop-left.left.now at (omega arith)
+    c.loop-left.lines.items _ c.loop-left.invariant.so_far c.line.result c.line.ensures c.in-Err.rule c.in-Err.is)
+    ∙ ap (λ n. Some (n, c.loop-left.number)) (sym c.number_of-in-Err.ensures)
 
 pub loop-left-preserved : goal.loop-left-preserved
 loop-left-preserved c =
