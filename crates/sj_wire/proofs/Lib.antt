@@ -1,4 +1,5 @@
 pub mod MessageLoop
+pub mod LawfulLemmas
 pub mod NumberLemmas
 pub mod FieldLemmas
 pub mod MessageLemmas

@@ -1,9 +1,8 @@
 -- Frames of the format, computed from the definitions.
-use Rattle.std.specs.Prelude.{◌≡◌, ℤ, pos, List, [], ◌∷◌, None, Some, refl}
+use Rattle.std.specs.Prelude.{◌≡◌, pos, [], ◌∷◌, None, refl}
 use Rattle.sj_base.specs.declared.EndId.{EndId}
 use Rattle.sj_base.specs.declared.Msg.TheVariants as msgs
-use Rattle.sj_rules.specs.Frames.{FrameAt}
-use Rattle.sj_rules.specs.Record.{Carry, Fin, Claim, Signal, Ack, Give}
+use Rattle.sj_rules.specs.Record.{Carry, Fin, Give}
 use Rattle.sj_table.specs.declared.table.Spot.{Spot}
 use Rattle.sj_wire.specs.Limits.{nowhere}
 use Rattle.sj_wire.specs.declared.refusal.WireRefusal.TheVariants as refusals

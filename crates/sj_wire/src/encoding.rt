@@ -116,7 +116,7 @@ fn put_inside(out: &mut Vec<u8>, frame: &Frame) -> Result<(), AllocError>
 }
 
 /// The end that a body names first.
-fn end_of(body: &Body) -> EndId
+pub(crate) fn end_of(body: &Body) -> EndId
     ensures { result ≡ end_in (body_at body.now) }
 {
     match body {

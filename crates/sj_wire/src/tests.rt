@@ -103,6 +103,7 @@ fn is_refused(alloc: Global, bytes: &[u8], refusal: WireRefusal) -> bool {
 #[test]
 fn frames_have_their_spellings(rt: HostRuntime) -> Result<(), Fail> {
     let alloc = rt.alloc();
+    assert!(rt; is_lawful(&five(1)));
     assert_eq!(rt; encode(alloc, &five(1))?.as_slice(), CARRY.as_slice());
     let fin = Frame {
         clock: 3,
