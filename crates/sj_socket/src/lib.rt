@@ -4,7 +4,6 @@
 mod carrying;
 mod counting;
 mod in_lane;
-mod lawful;
 mod links;
 mod making;
 mod out_lane;

@@ -7,12 +7,11 @@ ghost use Rattle.sj_socket.specs.Counts.{faults_push};
 ghost use Rattle.sj_socket.specs.Kept.{OutKept};
 ghost use Rattle.sj_socket.specs.Outs.{IsNewOut, IsOfStream};
 
-use crate::lawful::is_lawful;
 use crate::stream::is_in_vain;
 use mio::net::TcpStream;
 use sj_end::Frame;
 use sj_lane::{OutLane, PushRefusal};
-use sj_wire::{EncodeRefusal, encode};
+use sj_wire::{EncodeRefusal, encode, is_lawful};
 use std::collections::VecDeque;
 use std::io::Write;
 
