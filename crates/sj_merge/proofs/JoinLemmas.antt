@@ -1,123 +1,95 @@
--- Lists of logs joined by halves.
-use Rattle.std.proofs.Common.{zero, suc, ◌≡◌, ◌+◌, ◌<◌, ◌≤◌, ℕ, List, [], ◌∷◌, ◌++◌, length, get_or, refl, sym, ap, subst, ◌∙◌, inl, inr, append-nil, map, arith}
-use Rattle.std.specs.Prelude.{◌⊎◌, Bool, true, false, ◌==◌, nat_lt, if◌then◌else◌}
+-- Logs joined from the front: the lines so far, and what is left of each log.
+use Rattle.std.proofs.Common.{zero, suc, ◌≡◌, ◌+◌, ℕ, List, [], ◌∷◌, ◌++◌, refl, sym, ap, subst, ◌∙◌, append-nil, append_assoc, arith}
+use Rattle.std.specs.Prelude.{Bool, true, false, ◌==◌}
 use Rattle.std.specs.Borrow.{Bor}
-use Rattle.std.proofs.lemmas.Bool.{eqb-true, eq-eqb, ne_eqb}
-use borrow.Author.Tests.{ltb-true, ltb-false}
-use Rattle.sj_rules.specs.Log.{LineAt, IsJoined, IsMerged, part_of}
+use Rattle.std.specs.List.{AllByRecursion}
+use Rattle.std.proofs.lemmas.Bool.{eqb-true, eqb-false}
+use Rattle.sj_rules.specs.Log.{EntryAt, LineAt, IsBefore, IsInOrder, IsJoined, part_of}
+use Rattle.sj_joined_laws.proofs.MergingLemmas.{lines_at}
+use Rattle.sj_joined_laws.proofs.OrderLemmas.{part_here, part_others}
 use Rattle.sj_end.specs.declared.note.Entry.{Entry}
-use Rattle.sj_merge.specs.Lines.{entry_at, line_at, line_of}
-use Rattle.sj_merge.specs.Logs.{AreOrdered, log_of, logs_from}
-use Rattle.sj_merge.specs.Merged.{AreApart, AreMerged}
+use Rattle.sj_merge.specs.Heads.{IsNext, line_by}
+use Rattle.sj_merge.specs.Logs.{AreOrdered, log_of}
+use Rattle.sj_merge.proofs.MergeLemmas.{in_between, part_more}
+use Rattle.sj_merge.proofs.OrderLemmas.{lines_same}
 
--- the lines of a party's log are its entries
-pub own_part : (party : ℕ) (log : List Entry) → part_of party (map line_at (map (line_of party) log)) ≡ map entry_at log
-own_part party [] = refl
-own_part party (e ∷ es) = let here : (party == party) ≡ true = eq-eqb party party refl in rw here (ap (λ ds. entry_at e ∷ ds) (own_part party es))
+-- so far these lines came out; what is left of each log is in order behind them
+pub record Joining (logs : ℕ → List EntryAt) (out : List LineAt) (left : ℕ → List EntryAt) : Type 0 where
+  pub order : (p : ℕ) → IsInOrder (out ++ lines_at p (left p))
+  pub parts : (p : ℕ) → part_of p out ++ left p ≡ logs p
 
--- and no other party's
-pub no_part : (p party : ℕ) (log : List Entry) → (p == party) ≡ false → part_of p (map line_at (map (line_of party) log)) ≡ []
-no_part p party [] at = refl
-no_part p party (e ∷ es) at = rw at (no_part p party es at)
+-- a log of the list is in order
+ordered_at : (first k : ℕ) (logs : List (Bor (List Entry))) → AreOrdered first logs → IsInOrder (lines_at (first + k) (log_of logs k))
+ordered_at first k [] order = tt
+ordered_at first zero (log ∷ logs) order =
+    let none : first + 0 ≡ first = omega arith in
+    rw none (subst (λ (ls : List LineAt). IsInOrder ls) (sym (lines_same first log.now)) order.0)
+ordered_at first (suc k) (log ∷ logs) order =
+    let same : first + 1 + k ≡ first + suc k = omega arith in
+    subst (λ n. IsInOrder (lines_at n (log_of logs k))) same (ordered_at (first + 1) k logs order.1)
 
--- the lines of a log beside lines of other parties
-pub log_apart : (so_far : List LineAt) (party : ℕ) (log : List Entry) → part_of party so_far ≡ [] → AreApart so_far (map line_at (map (line_of party) log))
-log_apart so_far party log none p = by (p == party) refl
-  where
-    by : (b : Bool) → (p == party) ≡ b → (part_of p so_far ≡ []) ⊎ (part_of p (map line_at (map (line_of party) log)) ≡ [])
-    by true at = inl (let here : p ≡ party = eqb-true p party at in rw here none)
-    by false at = inr (no_part p party log at)
-
--- merged, they are the log merged in
-pub log_merged : (so_far lines : List LineAt) (party : ℕ) (log : List Entry) → part_of party so_far ≡ [] →
-    AreMerged so_far (map line_at (map (line_of party) log)) lines → IsMerged so_far party (map entry_at log) lines
-log_merged so_far lines party log none m = record {
-  order = m.order;
-  own = m.parts party ∙ ap (λ es. es ++ part_of party (map line_at (map (line_of party) log))) none ∙ own_part party log;
-  others = λ p at. m.parts p ∙ ap (λ es. part_of p so_far ++ es) (no_part p party log at) ∙ append-nil (part_of p so_far);
+-- at the start nothing came out
+pub joining_begins : (logs : List (Bor (List Entry))) → AreOrdered 0 logs → Joining (log_of logs) [] (log_of logs)
+joining_begins logs order = record {
+  order = λ p. let same : 0 + p ≡ p = omega arith in subst (λ n. IsInOrder (lines_at n (log_of logs p))) same (ordered_at 0 p logs order);
+  parts = λ p. refl;
 }
 
--- one log alone
-pub one_joined : (first : ℕ) (log : Bor (List Entry)) → AreOrdered first (log ∷ []) → IsJoined (logs_from first (log ∷ [])) (map line_at (map (line_of first) log.now))
-one_joined first log order = record { order = order.0; parts = λ p. by p (p == first) refl }
-  where
-    by : (p : ℕ) (b : Bool) → (p == first) ≡ b → part_of p (map line_at (map (line_of first) log.now)) ≡ (if b then map entry_at log.now else [])
-    by p true at = let here : p ≡ first = eqb-true p first at in rw here (own_part first log.now)
-    by p false at = no_part p first log.now at
-
--- the logs of a list's halves are in order
-pub ordered_halves : (first : ℕ) (xs ys : List (Bor (List Entry))) → AreOrdered first (xs ++ ys) → AreOrdered first xs × AreOrdered (first + length xs) ys
-ordered_halves first [] ys order = (tt, let none : first + 0 ≡ first = omega arith in rw none order)
-ordered_halves first (x ∷ xs) ys order =
-    let more : AreOrdered (first + 1) xs × AreOrdered (first + 1 + length xs) ys = ordered_halves (first + 1) xs ys order.1 in
-    let same : first + 1 + length xs ≡ first + length (x ∷ xs) = omega arith in
-    ((order.0, more.0), subst (λ n. AreOrdered n ys) same more.1)
-
--- a smaller party has no log there
-no_smaller : (first p : ℕ) (logs : List (Bor (List Entry))) → p < first → logs_from first logs p ≡ []
-no_smaller first p [] low = refl
-no_smaller first p (x ∷ xs) low =
-    let apart : (p == first) ≡ false = ne_eqb p first (λ same. absurd (omega arith)) in
-    rw apart (no_smaller (first + 1) p xs (omega arith))
-
--- nor has a larger one
-no_larger : (first p : ℕ) (logs : List (Bor (List Entry))) → first + length logs ≤ p → logs_from first logs p ≡ []
-no_larger first p [] high = refl
-no_larger first p (x ∷ xs) high =
-    let apart : (p == first) ≡ false = ne_eqb p first (λ same. absurd (omega arith)) in
-    rw apart (no_larger (first + 1) p xs (omega arith))
-
--- the log of a party is in one of the halves
-of_halves : (first p : ℕ) (xs ys : List (Bor (List Entry))) → logs_from first (xs ++ ys) p ≡ logs_from first xs p ++ logs_from (first + length xs) ys p
-of_halves first p [] ys = let none : first + 0 ≡ first = omega arith in rw none
-of_halves first p (x ∷ xs) ys = by (p == first) refl (of_halves (first + 1) p xs ys)
-  where
-    by : (b : Bool) → (p == first) ≡ b → logs_from (first + 1) (xs ++ ys) p ≡ logs_from (first + 1) xs p ++ logs_from (first + 1 + length xs) ys p →
-        (if b then map entry_at x.now else logs_from (first + 1) (xs ++ ys) p) ≡ (if b then map entry_at x.now else logs_from (first + 1) xs p) ++ logs_from (first + length (x ∷ xs)) ys p
-    by true at rest =
-        let here : p ≡ first = eqb-true p first at in
-        let none : logs_from (first + length (x ∷ xs)) ys p ≡ [] = no_smaller (first + length (x ∷ xs)) p ys (omega arith) in
-        rw none (sym (append-nil (map entry_at x.now)))
-    by false at rest =
-        let same : first + 1 + length xs ≡ first + length (x ∷ xs) = omega arith in
-        rest ∙ ap (λ n. logs_from (first + 1) xs p ++ logs_from n ys p) same
-
--- the joined halves have no party in common
-pub halves_apart : (first : ℕ) (xs ys : List (Bor (List Entry))) (front back : List LineAt) → IsJoined (logs_from first xs) front →
-    IsJoined (logs_from (first + length xs) ys) back → AreApart front back
-halves_apart first xs ys front back a b p = by (nat_lt p (first + length xs)) refl
-  where
-    by : (c : Bool) → nat_lt p (first + length xs) ≡ c → (part_of p front ≡ []) ⊎ (part_of p back ≡ [])
-    by true at = inr (b.parts p ∙ no_smaller (first + length xs) p ys (ltb-true p (first + length xs) at))
-    by false at = inl (a.parts p ∙ no_larger first p xs (ltb-false p (first + length xs) at))
-
--- merged, they are all logs joined
-pub halves_joined : (first : ℕ) (xs ys : List (Bor (List Entry))) (front back lines : List LineAt) → IsJoined (logs_from first xs) front →
-    IsJoined (logs_from (first + length xs) ys) back → AreMerged front back lines → IsJoined (logs_from first (xs ++ ys)) lines
-halves_joined first xs ys front back lines a b m = record {
-  order = m.order;
-  parts = λ p. m.parts p ∙ ap (λ es. es ++ part_of p back) (a.parts p) ∙ ap (λ es. logs_from first xs p ++ es) (b.parts p) ∙ sym (of_halves first p xs ys);
+-- at the end nothing is left
+pub joining_ends : (logs : ℕ → List EntryAt) (out : List LineAt) (left : ℕ → List EntryAt) → Joining logs out left → ((p : ℕ) → left p ≡ []) → IsJoined logs out
+joining_ends logs out left j none = record {
+  order = subst (λ (ls : List LineAt). IsInOrder ls) (append-nil out) (subst (λ (es : List EntryAt). IsInOrder (out ++ lines_at 0 es)) (none 0) (j.order 0));
+  parts = λ p. sym (append-nil (part_of p out)) ∙ ap (λ es. part_of p out ++ es) (sym (none p)) ∙ j.parts p;
 }
 
--- the log of the party that is so far behind the first
-log_there : (first k : ℕ) (logs : List (Bor (List Entry))) → logs_from first logs (first + k) ≡ log_of logs k
-log_there first k [] = refl
-log_there first zero (x ∷ xs) = let here : (first + 0 == first) ≡ true = eq-eqb (first + 0) first (omega arith) in rw here
-log_there first (suc k) (x ∷ xs) =
-    let apart : (first + suc k == first) ≡ false = ne_eqb (first + suc k) first (λ same. absurd (omega arith)) in
-    let same : first + suc k ≡ first + 1 + k = omega arith in
-    rw apart (ap (logs_from (first + 1) xs) same ∙ log_there (first + 1) k xs)
+-- what holds of all holds of the first ones
+all_front : (T : LineAt → Type 0) (out more : List LineAt) (l : LineAt) → AllByRecursion T (out ++ l ∷ more) → AllByRecursion T (out ++ l ∷ [])
+all_front T [] more l all = (all.0, tt)
+all_front T (k ∷ out) more l all = (all.0, all_front T out more l all.1)
 
--- from the first party on
-pub all_there : (logs : List (Bor (List Entry))) (lines : List LineAt) → IsJoined (logs_from 0 logs) lines → IsJoined (log_of logs) lines
-all_there logs lines j = record {
-  order = j.order;
-  parts = λ p. j.parts p ∙ ap (logs_from 0 logs) (let none : p ≡ 0 + p = omega arith in none) ∙ log_there 0 p logs;
-}
+-- the first ones are in order
+order_front : (out more : List LineAt) (l : LineAt) → IsInOrder (out ++ l ∷ more) → IsInOrder (out ++ l ∷ [])
+order_front [] more l order = (tt, tt)
+order_front (k ∷ out) more l order = (all_front (IsBefore k) out more l order.0, order_front out more l order.1)
 
--- the log of a list of one
-pub only_joined : (first : ℕ) (logs : List (Bor (List Entry))) (d : Bor (List Entry)) → 1 ≤ length logs → length logs < 2 → AreOrdered first logs →
-    IsJoined (logs_from first logs) (map line_at (map (line_of first) (get_or logs 0 d).now))
-only_joined first [] d some few order = absurd (omega arith)
-only_joined first (x ∷ []) d some few order = one_joined first x order
-only_joined first (x ∷ y ∷ more) d some few order = absurd (omega arith)
+module _ (logs left after : ℕ → List EntryAt) (out : List LineAt) (p : ℕ) (j : Joining logs out left) (n : IsNext left p) (own : after p ≡ n.more)
+    (others : (q : ℕ) → (q ≡ p → ⊥) → after q ≡ left q) where
+  abbrev l : LineAt
+  l = line_by p n.entry
+
+  here : IsInOrder (out ++ l ∷ lines_at p n.more)
+  here = subst (λ (es : List EntryAt). IsInOrder (out ++ lines_at p es)) n.own (j.order p)
+
+  -- what is left of another log
+  other_order : (q : ℕ) → (q ≡ p → ⊥) → (es : List EntryAt) → left q ≡ es → IsInOrder ((out ++ l ∷ []) ++ lines_at q es)
+  other_order q apart [] is = subst (λ (ls : List LineAt). IsInOrder ls) (sym (append-nil (out ++ l ∷ []))) (order_front out (lines_at p n.more) l here)
+  other_order q apart (e ∷ es) is =
+      subst (λ (ls : List LineAt). IsInOrder ls) (sym (append_assoc out (l ∷ []) (lines_at q (e ∷ es))))
+      (in_between out (lines_at p n.more) (lines_at q es) l (line_by q e) here (subst (λ (ds : List EntryAt). IsInOrder (out ++ lines_at q ds)) is (j.order q)) (n.first q e es apart is))
+
+  order_by : (q : ℕ) (b : Bool) → (q == p) ≡ b → IsInOrder ((out ++ l ∷ []) ++ lines_at q (after q))
+  order_by q true at =
+      let same : q ≡ p = eqb-true q p at in
+      subst (λ r. IsInOrder ((out ++ l ∷ []) ++ lines_at r (after r))) (sym same)
+      (subst (λ (es : List EntryAt). IsInOrder ((out ++ l ∷ []) ++ lines_at p es)) (sym own)
+      (subst (λ (ls : List LineAt). IsInOrder ls) (sym (append_assoc out (l ∷ []) (lines_at p n.more))) here))
+  order_by q false at =
+      let apart = eqb-false q p at in
+      subst (λ (es : List EntryAt). IsInOrder ((out ++ l ∷ []) ++ lines_at q es)) (sym (others q apart)) (other_order q apart (left q) refl)
+
+  parts_by : (q : ℕ) (b : Bool) → (q == p) ≡ b → part_of q (out ++ l ∷ []) ++ after q ≡ logs q
+  parts_by q true at =
+      let same : q ≡ p = eqb-true q p at in
+      ap (λ es. es ++ after q) (part_more q out (l ∷ []) ∙ ap (λ es. part_of q out ++ es) (part_here q l [] same))
+      ∙ append_assoc (part_of q out) (n.entry ∷ []) (after q)
+      ∙ ap (λ es. part_of q out ++ n.entry ∷ es) (ap after same ∙ own)
+      ∙ ap (λ es. part_of q out ++ es) (sym n.own ∙ ap left (sym same))
+      ∙ j.parts q
+  parts_by q false at =
+      ap (λ es. es ++ after q) (part_more q out (l ∷ []) ∙ ap (λ es. part_of q out ++ es) (part_others q l [] at) ∙ append-nil (part_of q out))
+      ∙ ap (λ es. part_of q out ++ es) (others q (eqb-false q p at))
+      ∙ j.parts q
+
+  -- the next line came out
+  pub joining_more : Joining logs (out ++ l ∷ []) after
+  joining_more = record { order = λ q. order_by q (q == p) refl; parts = λ q. parts_by q (q == p) refl }

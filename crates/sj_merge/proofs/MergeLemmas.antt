@@ -19,7 +19,7 @@ pub merging_begins : (front back : List LineAt) → IsInOrder front → IsInOrde
 merging_begins front back a b apart = record { in_front = a; in_back = b; apart = apart; parts = λ p. refl }
 
 -- a party's part of two lists
-part_more : (p : ℕ) (ks ls : List LineAt) → part_of p (ks ++ ls) ≡ part_of p ks ++ part_of p ls
+pub part_more : (p : ℕ) (ks ls : List LineAt) → part_of p (ks ++ ls) ≡ part_of p ks ++ part_of p ls
 part_more p ks ls = filter_map-append (entry_at p) ks ls
 
 -- what holds of both holds with a line of the one before the other
@@ -29,7 +29,7 @@ all_between T [] left right l a b = (a.0, b)
 all_between T (k ∷ out) left right l a b = (a.0, all_between T out left right l a.1 b.1)
 
 -- the first line of the one, where it is before that of the other
-in_between : (out left right : List LineAt) (l r : LineAt) → IsInOrder (out ++ l ∷ left) → IsInOrder (out ++ r ∷ right) → IsBefore l r →
+pub in_between : (out left right : List LineAt) (l r : LineAt) → IsInOrder (out ++ l ∷ left) → IsInOrder (out ++ r ∷ right) → IsBefore l r →
     IsInOrder (out ++ l ∷ r ∷ right)
 in_between [] left right l r a b first = ((first, all_later l r right first b.0), b)
 in_between (k ∷ out) left right l r a b first = (all_between (IsBefore k) out left (r ∷ right) l a.0 b.0, in_between out left right l r a.1 b.1 first)

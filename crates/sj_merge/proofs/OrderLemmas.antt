@@ -8,7 +8,7 @@ use Rattle.sj_merge.specs.Lines.{entry_at, line_at, line_of}
 use Rattle.sj_merge.specs.Logs.{AreOrdered}
 
 -- a party's entries as lines
-lines_same : (party : ℕ) (log : List Entry) → lines_at party (map entry_at log) ≡ map line_at (map (line_of party) log)
+pub lines_same : (party : ℕ) (log : List Entry) → lines_at party (map entry_at log) ≡ map line_at (map (line_of party) log)
 lines_same party [] = refl
 lines_same party (e ∷ es) = ap (λ ls. line_at (line_of party e) ∷ ls) (lines_same party es)
 

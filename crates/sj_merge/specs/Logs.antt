@@ -1,5 +1,5 @@
 -- The logs of several parties, in a list by the parties' numbers.
-use Rattle.std.specs.Prelude.{◌+◌, ◌==◌, if◌then◌else◌, ℕ, ⊤, List, [], ◌∷◌, map, Option, Some, None, slice_get}
+use Rattle.std.specs.Prelude.{◌+◌, ℕ, ⊤, List, [], ◌∷◌, length, map, Option, Some, None, slice_get}
 use Rattle.std.specs.Borrow.{Bor}
 use Rattle.sj_end.specs.declared.note.Entry.{Entry}
 use Rattle.sj_rules.specs.Log.{EntryAt, IsInOrder}
@@ -19,7 +19,7 @@ abbrev pub AreOrdered : ℕ → List (Bor (List Entry)) → Type 0
 AreOrdered first [] = ⊤
 AreOrdered first (log ∷ logs) = IsInOrder (map line_at (map (line_of first) log.now)) × AreOrdered (first + 1) logs
 
--- the log of a party, where the first of them is that party's, and each further one the next party's
-abbrev pub logs_from : ℕ → List (Bor (List Entry)) → ℕ → List EntryAt
-logs_from first [] p = []
-logs_from first (log ∷ logs) p = if p == first then map entry_at log.now else logs_from (first + 1) logs p
+-- how many entries there are in all
+abbrev pub count_of : List (Bor (List Entry)) → ℕ
+count_of [] = 0
+count_of (log ∷ logs) = length log.now + count_of logs

@@ -1,9 +1,10 @@
 //! Logs joined into one list.
-ghost use Rattle.std.specs.Prelude.{◌≡◌, ◌+◌, ◌≤◌, [], length, map, IfOk, ℕ};
+ghost use Rattle.std.specs.Prelude.{◌≡◌, ◌≤◌, [], length, map, IfOk, vec_capacity};
 ghost use Rattle.sj_rules.specs.Log.{IsInOrder, IsJoined, IsMerged, part_of};
 ghost use Rattle.sj_merge.specs.Lines.{entry_at, line_at, line_of};
-ghost use Rattle.sj_merge.specs.Logs.{AreOrdered, log_of, logs_from};
+ghost use Rattle.sj_merge.specs.Logs.{AreOrdered, count_of, log_of};
 
+use crate::heads::next_party;
 use crate::merging::merge;
 use sj_base::NoMemory;
 use sj_end::{Entry, Line};
@@ -39,31 +40,41 @@ pub fn merge_in(
     merge(alloc, so_far, &own)
 }
 
-/// The logs joined, the first of which is that party's, and each further one the next party's.
-fn join_from(alloc: Global, first: u16, logs: &[&[Entry]]) -> Result<Vec<Line>, NoMemory>
-    requires parties { first + length logs.now ≤ 65536 }
-    requires order { AreOrdered first logs.now }
-    ensures { IfOk result (λ v. IsJoined (logs_from first logs.now) (map line_at v.items)) }
+/// An empty list of lines with room for all entries of the logs.
+fn room_for(alloc: Global, logs: &[&[Entry]]) -> Result<Vec<Line>, NoMemory>
+    ensures items { IfOk result (λ v. v.items ≡ []) }
+    ensures room { IfOk result (λ v. count_of logs.now ≤ vec_capacity v) }
 {
-    match logs {
-        [] => Ok(Vec::new(alloc)),
-        [log] => lines_of(alloc, first, log),
-        _ => {
-            let half = logs.len() / 2;
-            let (front, back) = logs.split_at(half);
-            let front = join_from(alloc, first, front)?;
-            let back = join_from(alloc, first + half as u16, back)?;
-            merge(alloc, &front, &back)
-        }
+    let mut entries: usize = 0;
+    for log in logs {
+        let Some(sum) = entries.checked_add(log.len()) else {
+            return Err(NoMemory);
+        };
+        entries = sum;
     }
+    let lines = Vec::with_capacity(alloc, entries)?;
+    Ok(lines)
 }
 
-/// The logs of the parties from the first on joined: by halves, so that an entry is moved as often as
-/// the number of logs can be halved.
+/// The logs of the parties from the first on joined, in one pass over all of them: the next line is the
+/// first of those with which the logs go on. The room for all lines is taken before.
 pub fn join_logs(alloc: Global, logs: &[&[Entry]]) -> Result<Vec<Line>, NoMemory>
     requires parties { length logs.now ≤ 65536 }
     requires order { AreOrdered 0 logs.now }
     ensures { IfOk result (λ v. IsJoined (log_of logs.now) (map line_at v.items)) }
 {
-    join_from(alloc, 0, logs)
+    let mut lines = room_for(alloc, logs)?;
+    let mut left = Vec::from_slice(alloc, logs)?;
+    while let Some(party) = next_party(&left) {
+        let log = left[party as usize];
+        let Some((entry, more)) = log.split_first() else {
+            unreachable!();
+        };
+        lines.push_reserved(Line {
+            party,
+            entry: *entry,
+        });
+        left[party as usize] = more;
+    }
+    Ok(lines)
 }

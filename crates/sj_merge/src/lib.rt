@@ -1,6 +1,7 @@
 //! Logs of parties joined into one list of lines: by clock, then by party.
 #![tactic(auto)]
 
+mod heads;
 mod joining;
 mod merging;
 #[cfg(test)]

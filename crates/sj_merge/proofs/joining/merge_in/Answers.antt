@@ -1,7 +1,7 @@
 use Rattle.std.proofs.Common.{◌≡◌, ◌∙◌, map}
 use Rattle.std.proofs.lemmas.Result.{IfOk-weaker}
 use Rattle.sj_merge.specs.Lines.{line_at, line_of}
-use Rattle.sj_merge.proofs.JoinLemmas.{log_apart, log_merged}
+use Rattle.sj_merge.proofs.OneLogLemmas.{log_apart, log_merged}
 use Rattle.sj_merge.proofs.joining.merge_in.Goals as goal
 
 pub merge-requires-clause-apart : goal.merge-requires-clause-apart
