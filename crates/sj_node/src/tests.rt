@@ -218,3 +218,21 @@ fn frames_that_come_before_the_end_are_worked_off_with_it(rt: HostRuntime) -> Re
     );
     Ok(())
 }
+
+#[test]
+fn the_last_entry_is_taken_out_of_the_log(rt: HostRuntime) -> Result<(), Fail> {
+    let alloc = rt.alloc();
+    let file = handed_over(alloc)?;
+    let mut a = started(alloc, &file, A)?;
+    let rows = [
+        act(1, sent(end(0, 0), Msg::Int(1))),
+        act(2, sent(end(0, 0), Msg::Int(2))),
+    ];
+    assert_eq!(rt; played(alloc, &mut a, &rows), 2, "two sends");
+    assert_eq!(rt; a.take_entry(), Some(rows[1].entry));
+    assert_eq!(rt; a.log().len(), 1);
+    assert_eq!(rt; a.take_entry(), Some(rows[0].entry));
+    assert_eq!(rt; a.take_entry(), None);
+    assert_eq!(rt; a.clock(), 2, "all else stays");
+    Ok(())
+}
