@@ -22,14 +22,15 @@ use Rattle.sj_rules.specs.History.{front_note}
 use Rattle.sj_rules.specs.World as world
 use Rattle.sj_rules.specs.World.{WorldAt, after_event, delivered, happens, with_lane}
 use Rattle.sj_node.specs.declared.node.Node.{Node}
-use Rattle.sj_node.specs.Node.{Did, Does, clock_of, delivery, log_of, node_at, outbox_of}
+use Rattle.sj_node.specs.Node.{Does, clock_of, delivery, log_of, node_at, outbox_of}
 use Rattle.sj_node.specs.Outs.{waiting_in}
-use Rattle.sj_node.specs.Reading.{TakesOut, outs_of}
+use Rattle.sj_node.specs.Reading.{TakesEntry, TakesOut, outs_of}
 use Rattle.sj_core.specs.Nodes.{AreSeated, Moves, box_or, node_or, world_by}
 use Rattle.sj_core.specs.Views.{note_seen}
 use Rattle.sj_core.proofs.NodesLemmas.{apart_eqb, node_here, same_eqb, seen, seen_after, still_seated}
 use Rattle.sj_core.proofs.NoteLemmas.{body_noted}
 use Rattle.sj_core.proofs.StepLemmas.{lined}
+use Rattle.sj_core.proofs.TakenLemmas.{DidUnlogged, did_unlogged, entry_is}
 
 -- a frame as the world has it, where its places are looked up in that table
 abbrev pub frame_by : Table → Frame → FrameAt Place
@@ -83,7 +84,7 @@ module _ (file : FileAt) (nodes : List Node) (p q : ℕ) (giver short : Node) (f
   popped = seen file nodes q giver short there w.nodes lanes_after (ap (node_or (first_node file q)) there ∙ sym rest.node) (λ r apart. refl) own_lane other_lane
 
   abbrev pub still : AreSeated file (set nodes q short)
-  still = still_seated file nodes q giver short there seats rest.party rest.parties rest.table rest.slots
+  still = still_seated file nodes q giver short there seats rest.party rest.parties rest.table rest.slots rest.log
 
   module _ (old new : Node) (here : slice_get (set nodes q short) p ≡ Some old) where
     node_is : w.nodes p ≡ node_at old
@@ -110,7 +111,7 @@ module _ (file : FileAt) (nodes : List Node) (p q : ℕ) (giver short : Node) (f
         cc e
 
     did_deliver : (left : Worked Place (NodeAt Place Program)) → delivery old q (frame_at f) ≡ Some left
-        → Did old left (max (clock_of old) f.clock + 1) (events.Deliver q) (note_at (body_at f.body)) new
+        → DidUnlogged old left (max (clock_of old) f.clock + 1) new
         → Moves file nodes p (events.Deliver q) (record { clock = max (clock_of old) f.clock + 1; event = events.Deliver q; note = note_at (body_at f.body) }) (set (set nodes q short) p new)
     did_deliver left row did =
         let play = play_of file in
@@ -132,25 +133,20 @@ module _ (file : FileAt) (nodes : List Node) (p q : ℕ) (giver short : Node) (f
           line = lined file w last p clock (world.Deliver q) (note_seen (note_at (body_at f.body))) step
               (ap front_note lane_is ∙ ap Some (body_noted (place_in seats.table) (body_at f.body)))
               (ap (λ n. n.clock) (node_here file (set nodes q short) p old new here ∙ did.node));
-          seats = still_seated file (set nodes q short) p old new here still did.party did.parties did.table did.slots;
+          seats = still_seated file (set nodes q short) p old new here still did.party did.parties did.table did.slots did.log;
         }
 
-    by_row : (o : Option (Worked Place (NodeAt Place Program))) → delivery old q (frame_at f) ≡ o
-        → Does old o (max (clock_of old) f.clock + 1) (events.Deliver q) (note_at (body_at f.body)) new
-        → Moves file nodes p (events.Deliver q) (record { clock = max (clock_of old) f.clock + 1; event = events.Deliver q; note = note_at (body_at f.body) }) (set (set nodes q short) p new)
-    by_row None row does = absurd does
-    by_row (Some left) row does = did_deliver left row does
+    -- a delivery, whose entry was taken out of the log
+    module _ (mid : Node) (e : Entry) (took : TakesEntry mid new) (taken : log_of mid ≡ log_of new ++ e ∷ []) where
+      by_row : (o : Option (Worked Place (NodeAt Place Program))) → delivery old q (frame_at f) ≡ o
+          → Does old o (max (clock_of old) f.clock + 1) (events.Deliver q) (note_at (body_at f.body)) mid
+          → Moves file nodes p (events.Deliver q) e (set (set nodes q short) p new)
+      by_row None row does = absurd does
+      by_row (Some left) row did =
+          subst (λ (x : Entry). Moves file nodes p (events.Deliver q) x (set (set nodes q short) p new))
+          (sym (entry_is old mid new left (max (clock_of old) f.clock + 1) (events.Deliver q) (note_at (body_at f.body)) e did took taken))
+          (did_deliver left row (did_unlogged old mid new left (max (clock_of old) f.clock + 1) (events.Deliver q) (note_at (body_at f.body)) e did took taken))
 
-    last_is : (o : Option (Worked Place (NodeAt Place Program))) (e : Entry) → ((before : List Entry) (x : Entry) → log_of new ≡ before ++ x ∷ [] → e ≡ x)
-        → Does old o (max (clock_of old) f.clock + 1) (events.Deliver q) (note_at (body_at f.body)) new
-        → e ≡ record { clock = max (clock_of old) f.clock + 1; event = events.Deliver q; note = note_at (body_at f.body) }
-    last_is None e last does = absurd does
-    last_is (Some left) e last did = last (log_of old) _ did.log
-
-    -- a delivery, whose entry is what the node noted last
-    pub delivered_as : (e : Entry) → ((before : List Entry) (x : Entry) → log_of new ≡ before ++ x ∷ [] → e ≡ x)
-        → Does old (delivery old q (frame_at f)) (max (clock_of old) f.clock + 1) (events.Deliver q) (note_at (body_at f.body)) new
-        → Moves file nodes p (events.Deliver q) e (set (set nodes q short) p new)
-    delivered_as e last does =
-        subst (λ (x : Entry). Moves file nodes p (events.Deliver q) x (set (set nodes q short) p new)) (sym (last_is (delivery old q (frame_at f)) e last does))
-        (by_row (delivery old q (frame_at f)) refl does)
+      pub delivered_as : Does old (delivery old q (frame_at f)) (max (clock_of old) f.clock + 1) (events.Deliver q) (note_at (body_at f.body)) mid
+          → Moves file nodes p (events.Deliver q) e (set (set nodes q short) p new)
+      delivered_as does = by_row (delivery old q (frame_at f)) refl does

@@ -57,9 +57,8 @@ all_first file over nodes begun starts = record {
     table = over;
     starts = starts;
     count = begun.count;
-    each = λ p n is. let b = begun.each p n is in record { party = b.0.party; parties = b.0.parties; table = b.1; slots = b.0.slots };
+    each = λ p n is. let b = begun.each p n is in record { party = b.0.party; parties = b.0.parties; table = b.1; slots = b.0.slots; log = b.0.log };
   };
   first = λ p n is. (begun.each p n is).0.node ∙ sym (first_same file p);
   boxes = λ p n is. (begun.each p n is).0.boxes;
-  logs = λ p n is. (begun.each p n is).0.log;
 }

@@ -19,4 +19,5 @@ pub mod ReplayLemmas
 pub mod RoundLemmas
 pub mod StepLemmas
 pub mod StopLemmas
+pub mod TakenLemmas
 pub mod UnfitLemmas

@@ -17,8 +17,8 @@ use Rattle.sj_rules.specs.History.{due, event_note, line_after}
 use Rattle.sj_rules.specs.World as world
 use Rattle.sj_rules.specs.World.{WorldAt, after_event, happens}
 use Rattle.sj_node.specs.declared.node.Node.{Node}
-use Rattle.sj_node.specs.Node.{Did, Does, Stays, act_of, clock_of, log_of, node_at, note_for, outbox_of}
-use Rattle.sj_end.specs.declared.note.Note.{Note}
+use Rattle.sj_node.specs.Node.{Does, Stays, act_of, clock_of, log_of, node_at, note_for, outbox_of}
+use Rattle.sj_node.specs.Reading.{TakesEntry}
 use Rattle.sj_core.specs.Nodes.{AreSeated, IsSeated, Moves, Rests, box_or, node_or, world_by}
 use Rattle.sj_core.specs.Views.{event_at, note_seen}
 use Rattle.sj_core.specs.declared.refusal.StepRefusal.{StepRefusal}
@@ -26,6 +26,7 @@ use Rattle.sj_core.specs.declared.refusal.StepRefusal.TheVariants as refusals
 use Rattle.sj_core.proofs.PlayLemmas.{act_is}
 use Rattle.sj_core.proofs.NoteLemmas.{act_noted}
 use Rattle.sj_core.proofs.NodesLemmas.{node_here, seen_after, seen_same, still_seated}
+use Rattle.sj_core.proofs.TakenLemmas.{DidUnlogged, did_unlogged, entry_is}
 
 module _ (file : FileAt) where
   -- the line of a step with that note, after which the party has that clock
@@ -51,7 +52,7 @@ module _ (file : FileAt) (nodes : List Node) (p : ℕ) (old new : Node) (seats :
       ∙ ap (λ n. acts (play_for n file.protocols) old.party (node_at old)) (sym own.parties)
       ∙ act_is old file.protocols left (λ q. ap (λ t. Rattle.sj_table.specs.Spots.start_in t q) own.table ∙ seats.starts q) row
 
-  did_act : (left : Worked Place (NodeAt Place Program)) → act_of old ≡ Some left → Did old left (clock_of old + 1) events.Act (note_for old) new
+  did_act : (left : Worked Place (NodeAt Place Program)) → act_of old ≡ Some left → DidUnlogged old left (clock_of old + 1) new
       → Moves file nodes p events.Act (record { clock = clock_of old + 1; event = events.Act; note = note_for old }) (set nodes p new)
   did_act left row did =
       let w = world_by file nodes in
@@ -67,38 +68,26 @@ module _ (file : FileAt) (nodes : List Node) (p : ℕ) (old new : Node) (seats :
         line = lined file w (world_by file (set nodes p new)) p (clock_of old + 1) world.Act (note_seen (note_for old)) step
             (act_noted (length file.parties) file.protocols p (w.nodes p) left acted ∙ (λ i. Some (note_seen (Rattle.sj_node.specs.Node.act_note (sym own.party i) (here i).main (Rattle.sj_node.specs.Play.next_want (here i).program)))))
             (ap (λ n. n.clock) (node_here file nodes p old new there ∙ did.node));
-        seats = still_seated file nodes p old new there seats did.party did.parties did.table did.slots;
+        seats = still_seated file nodes p old new there seats did.party did.parties did.table did.slots did.log;
       }
-
-  by_row : (o : Option (Worked Place (NodeAt Place Program))) → act_of old ≡ o → Does old o (clock_of old + 1) events.Act (note_for old) new
-      → Moves file nodes p events.Act (record { clock = clock_of old + 1; event = events.Act; note = note_for old }) (set nodes p new)
-  by_row None row does = absurd does
-  by_row (Some left) row does = did_act left row does
-
-  -- an act
-  pub acted : Does old (act_of old) (clock_of old + 1) events.Act (note_for old) new
-      → Moves file nodes p events.Act (record { clock = clock_of old + 1; event = events.Act; note = note_for old }) (set nodes p new)
-  acted does = by_row (act_of old) refl does
 
   -- a refusal
   pub rests : Stays old new → Rests file nodes (set nodes p new)
   rests stays = record {
     world = seen_same file nodes p old new there stays.node stays.posts;
-    seats = still_seated file nodes p old new there seats stays.party stays.parties stays.table stays.slots;
+    seats = still_seated file nodes p old new there seats stays.party stays.parties stays.table stays.slots stays.log;
   }
 
-  did_note : (o : Option (Worked Place (NodeAt Place Program))) (clock : ℕ) (event : Event) (note : Note) → Does old o clock event note new
-      → log_of new ≡ log_of old ++ record { clock = clock; event = event; note = note } ∷ []
-  did_note None clock event note does = absurd does
-  did_note (Some left) clock event note did = did.log
+  -- an act, whose entry was taken out of the log
+  module _ (mid : Node) (e : Entry) (took : TakesEntry mid new) (taken : log_of mid ≡ log_of new ++ e ∷ []) where
+    by_row : (o : Option (Worked Place (NodeAt Place Program))) → act_of old ≡ o → Does old o (clock_of old + 1) events.Act (note_for old) mid → Moves file nodes p events.Act e (set nodes p new)
+    by_row None row does = absurd does
+    by_row (Some left) row did =
+        subst (λ (x : Entry). Moves file nodes p events.Act x (set nodes p new)) (sym (entry_is old mid new left (clock_of old + 1) events.Act (note_for old) e did took taken))
+        (did_act left row (did_unlogged old mid new left (clock_of old + 1) events.Act (note_for old) e did took taken))
 
-  -- an act, whose entry is what the node noted last
-  pub acted_as : (e : Entry) → ((before : List Entry) (x : Entry) → log_of new ≡ before ++ x ∷ [] → e ≡ x)
-      → Does old (act_of old) (clock_of old + 1) events.Act (note_for old) new → Moves file nodes p events.Act e (set nodes p new)
-  acted_as e last does =
-      subst (λ (x : Entry). Moves file nodes p events.Act x (set nodes p new))
-      (sym (last (log_of old) _ (did_note (act_of old) (clock_of old + 1) events.Act (note_for old) does)))
-      (acted does)
+    pub acted_as : Does old (act_of old) (clock_of old + 1) events.Act (note_for old) mid → Moves file nodes p events.Act e (set nodes p new)
+    acted_as does = by_row (act_of old) refl does
 
 -- what was a step is no refusal
 pub is_a_step : (file : FileAt) (nodes : List Node) (p : ℕ) (event : Event) (e : Entry) (after : List Node) → Moves file nodes p event e after

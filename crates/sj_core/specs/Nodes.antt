@@ -35,12 +35,13 @@ world_by file nodes = record {
   lanes = λ from to. box_or (slice_get nodes from) to;
 }
 
--- the node is that party's among those of the file, over that table
+-- the node is that party's among those of the file, over that table, and has no log: the history keeps what it noted
 pub record IsSeated (file : FileAt) (over : Table) (p : ℕ) (n : Node) : Type 0 where
   pub party : party_of n ≡ p
   pub parties : parties_of n ≡ length file.parties
   pub table : table_of n ≡ over
   pub slots : slot_count n ≡ 2 * length file.connects
+  pub log : log_of n ≡ []
 
 -- each party of the file has its node, over one table of the file's protocols
 pub record AreSeated (file : FileAt) (nodes : List Node) : Type 0 where
@@ -75,4 +76,3 @@ pub record AreFirst (file : FileAt) (nodes : List Node) : Type 0 where
   pub seats : AreSeated file nodes
   pub first : (p : ℕ) (n : Node) → slice_get nodes p ≡ Some n → node_at n ≡ first_node file p
   pub boxes : (p : ℕ) (n : Node) → slice_get nodes p ≡ Some n → (q : ℕ) → outbox_of n q ≡ []
-  pub logs : (p : ℕ) (n : Node) → slice_get nodes p ≡ Some n → log_of n ≡ []

@@ -1,11 +1,11 @@
 //! A core world as its nodes lie in memory, and its history.
-ghost use Rattle.std.specs.Prelude.{◌≡◌, ◌↔◌, ◌<◌, ◌++◌, ◌∷◌, [], None, IfOk, IsErrOf, OnErr, List, length, max};
+ghost use Rattle.std.specs.Prelude.{◌≡◌, ◌↔◌, ◌<◌, ◌++◌, ◌∷◌, [], None, IfOk, IsErrOf, OnErr, length, max};
 ghost use Rattle.sj_core.specs.Nodes.{ComesFrom, Moves, Rests};
 ghost use Rattle.sj_core.specs.Refusals.{IsStop};
 ghost use Rattle.sj_core.specs.Views.{event_at, line_with};
-ghost use Rattle.sj_end.specs.declared.note.Entry.{Entry};
 ghost use Rattle.sj_end.specs.declared.note.Event.TheVariants as events;
 ghost use Rattle.sj_node.specs.Node.{log_of};
+ghost use Rattle.sj_node.specs.Reading.{TakesEntry};
 ghost use Rattle.sj_rules.specs.Party.{play_of};
 ghost use Rattle.sj_rules.specs.World.{happens};
 
@@ -47,13 +47,16 @@ fn without_memory(refusal: DeliverRefusal) -> StepRefusal
     }
 }
 
-/// What the node noted last.
-fn last_entry(node: &Node) -> Entry
-    requires { 0 < length (log_of node.now) }
-    ensures { (before : List Entry) (e : Entry) → log_of node.now ≡ before ++ e ∷ [] → result ≡ e }
+/// What the node noted last, taken out of its log: the history keeps it.
+fn noted(node: &mut Node) -> Entry
+    requires { 0 < length (log_of node.old) }
+    ensures entry { log_of node.old ≡ log_of node.new ++ result ∷ [] }
+    ensures rest { TakesEntry node.old node.new }
 {
-    let log = node.log();
-    log[log.len() - 1]
+    match node.take_entry() {
+        Some(entry) => entry,
+        None => unreachable!(),
+    }
 }
 
 impl Course {
@@ -72,7 +75,7 @@ impl Course {
     {
         let node = &mut self.nodes[party as usize];
         match node.act() {
-            Ok(()) => Ok(last_entry(node)),
+            Ok(()) => Ok(noted(node)),
             Err(halt) => Err(refusal_of(halt)),
         }
     }
@@ -94,7 +97,7 @@ impl Course {
         };
         let node = &mut self.nodes[party as usize];
         match node.deliver(from, frame) {
-            Ok(()) => Ok(last_entry(node)),
+            Ok(()) => Ok(noted(node)),
             Err((frame, refusal)) => {
                 self.nodes[from as usize].put_back(party, frame);
                 Err(without_memory(refusal))

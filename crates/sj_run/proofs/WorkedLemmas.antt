@@ -96,7 +96,7 @@ module _ {O I : Type 0} (pushed : O → Option (List (FrameAt Place))) (out_faul
             (λ i. play_with (start_in (seat.table i)) (seat.slots i) (seat.parties i))
             ∙ (λ i. play_with (λ q. first.seats.starts q i) (2 * length file.connects) (length file.parties));
         node = first.first p (node_of old) at ∙ first_same file p;
-        log = first.logs p (node_of old) at;
+        log = (first.seats.each p (node_of old) at).log;
         boxes = first.boxes p (node_of old) at;
         idle = hires.idle p old there;
       }

@@ -56,7 +56,7 @@ fn past_end(world: &World, lines: &[Line], refused: Line) -> RunRefusal
 {
     let due = world.due(refused.party, refused.entry.event);
     if is_the_line(&due, &refused) {
-        // What fits a node fits that of the core world, which has the same log.
+        // What fits a node fits that of the core world, which did the same events.
         return RunRefusal::NoMemory;
     }
     RunRefusal::Damaged {

@@ -9,18 +9,18 @@ pub returns-in-Ok-clause-ok : goal.returns-in-Ok-clause-ok
 returns-in-Ok-clause-ok c =
     let nodes = c.args.self.now.nodes.items in
     let old = c.index_mut-node.result.now in
-    acted_as _ nodes c.args.party old c.act.new.self c.requires.reached.seats
+    acted_as _ nodes c.args.party old c.noted.new.node c.requires.reached.seats
     (slice_get_read nodes (length nodes) c.args.party old refl c.requires.there c.index_mut-node.ensures.value)
-    c.last_entry.result c.last_entry.ensures c.in-Ok.ensures.ok
+    c.act.new.self c.noted.result c.noted.ensures.rest c.noted.ensures.entry c.in-Ok.ensures.ok
 
 pub returns-in-Ok-clause-none : goal.returns-in-Ok-clause-none
 returns-in-Ok-clause-none c =
     let nodes = c.args.self.now.nodes.items in
     let old = c.index_mut-node.result.now in
-    is_a_step _ nodes c.args.party _ c.last_entry.result _
-    (acted_as _ nodes c.args.party old c.act.new.self c.requires.reached.seats
+    is_a_step _ nodes c.args.party _ c.noted.result _
+    (acted_as _ nodes c.args.party old c.noted.new.node c.requires.reached.seats
     (slice_get_read nodes (length nodes) c.args.party old refl c.requires.there c.index_mut-node.ensures.value)
-    c.last_entry.result c.last_entry.ensures c.in-Ok.ensures.ok)
+    c.act.new.self c.noted.result c.noted.ensures.rest c.noted.ensures.entry c.in-Ok.ensures.ok)
 
 pub refusal_of-requires : goal.refusal_of-requires
 refusal_of-requires c =

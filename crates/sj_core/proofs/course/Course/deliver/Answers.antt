@@ -29,9 +29,9 @@ returns-in-Ok-clause-ok c =
     delivered_as _ nodes c.args.party c.args.from giver short c.in-Some.frame c.requires.reached.seats
     (slice_get_read nodes (length nodes) c.args.from giver refl c.requires.origin c.index_mut.ensures.value)
     c.in-Some.ensures.some c.take_out.ensures.others c.take_out.ensures.rest
-    old c.deliver.new.self
+    old c.noted.new.node
     (slice_get_read (set nodes c.args.from short) (length nodes) c.args.party old (sym (length-set nodes c.args.from short)) c.requires.there c.index_mut-node.ensures.value)
-    c.last_entry.result c.last_entry.ensures c.in-Ok.ensures.ok
+    c.deliver.new.self c.noted.result c.noted.ensures.rest c.noted.ensures.entry c.in-Ok.ensures.ok
 
 pub returns-in-Ok-clause-none : goal.returns-in-Ok-clause-none
 returns-in-Ok-clause-none c =
@@ -39,13 +39,13 @@ returns-in-Ok-clause-none c =
     let giver = c.index_mut.result.now in
     let short = c.take_out.new.self in
     let old = c.index_mut-node.result.now in
-    is_a_step _ nodes c.args.party _ c.last_entry.result _
+    is_a_step _ nodes c.args.party _ c.noted.result _
     (delivered_as _ nodes c.args.party c.args.from giver short c.in-Some.frame c.requires.reached.seats
     (slice_get_read nodes (length nodes) c.args.from giver refl c.requires.origin c.index_mut.ensures.value)
     c.in-Some.ensures.some c.take_out.ensures.others c.take_out.ensures.rest
-    old c.deliver.new.self
+    old c.noted.new.node
     (slice_get_read (set nodes c.args.from short) (length nodes) c.args.party old (sym (length-set nodes c.args.from short)) c.requires.there c.index_mut-node.ensures.value)
-    c.last_entry.result c.last_entry.ensures c.in-Ok.ensures.ok)
+    c.deliver.new.self c.noted.result c.noted.ensures.rest c.noted.ensures.entry c.in-Ok.ensures.ok)
 
 pub returns-in_default-clause-none : goal.returns-in_default-clause-none
 returns-in_default-clause-none c =
