@@ -15,6 +15,7 @@ use Rattle.sj_core.specs.declared.course.Course.{Course}
 use Rattle.sj_core.specs.Course.{IsReached, StaysIn, file_in, history_in, world_in}
 use Rattle.sj_core.specs.Draining.{ActsOut, Ahead, Empties, GoesBy, Leads, Tried, events_left}
 use Rattle.sj_core.proofs.LawLemmas.{empty_there, short}
+use Rattle.sj_core.proofs.ReachedLemmas.{led}
 
 -- nothing is done yet
 pub ahead_none : (R : Leads) (c : Course) → Ahead R c c
@@ -45,7 +46,7 @@ goes_by R c d e a stays end = record {
 -- each event leaves fewer
 pub fewer_left : (d e : Course) (l : LineAt) → IsReached e → history_in e ≡ history_in d ++ l ∷ [] → events_left e < events_left d
 fewer_left d e l reached listed =
-    let low = short e reached in
+    let low = short e (led e reached) in
     let more : length (history_in e) ≡ length (history_in d) + 1 = ap length listed ∙ length-append (history_in d) (l ∷ []) in
     omega (arith, low, more)
 
@@ -58,7 +59,7 @@ pub took_one : (c d e : Course) (p q : ℕ) → file_in d ≡ file_in c → Ahea
 took_one c d e p q file a t = ahead_more (Empties c p q) c d e t.line a t.steps.listed (λ ts v r. (t.turn, (world_in e, (step_of c d e p (events.Deliver q) file t, r))))
 
 pub took_all : (c d e : Course) (p q : ℕ) → IsReached d → Ahead (Empties c p q) c d → StaysIn d e → happens (play_of (file_in d)) max (world_in d) p (rules.Deliver q) ≡ None → GoesBy (Empties c p q) c e
-took_all c d e p q reached a stays none = goes_by (Empties c p q) c d e a stays (empty_there d reached p q none, refl)
+took_all c d e p q reached a stays none = goes_by (Empties c p q) c d e a stays (empty_there d (led d reached) p q none, refl)
 
 pub acted_one : (c d e : Course) (p : ℕ) → file_in d ≡ file_in c → Ahead (ActsOut c p) c d → Tried d p events.Act e → Ahead (ActsOut c p) c e
 acted_one c d e p file a t = ahead_more (ActsOut c p) c d e t.line a t.steps.listed (λ ts v r. (t.turn, (world_in e, (step_of c d e p events.Act file t, r))))

@@ -1,4 +1,4 @@
--- The line that is due for an event of a reached world, as its nodes tell it.
+-- The line that is due for an event of a world to which lines lead, as its nodes tell it.
 use Rattle.std.proofs.Common.{◌≡◌, ℕ, ◌+◌, ◌<◌, max, if◌then◌else◌, List, [], ◌∷◌, map, length, slice_get, Option, Some, None, option_map, option_and_then, refl, ap, sym, ◌∙◌, inl, inr}
 use Rattle.sj_lang.specs.Place.{Place}
 use Rattle.sj_lang.specs.FileAt.{FileAt}
@@ -24,7 +24,7 @@ use Rattle.sj_node.specs.Outs.{waiting_in}
 use Rattle.sj_node.specs.Play.{next_want}
 use Rattle.sj_node.specs.Reading.{outs_of}
 use Rattle.sj_core.specs.declared.course.Course.{Course}
-use Rattle.sj_core.specs.Course.{IsReached, file_in, nodes_in, world_in}
+use Rattle.sj_core.specs.Course.{IsLed, file_in, nodes_in, world_in}
 use Rattle.sj_core.specs.Nodes.{box_or}
 use Rattle.sj_core.specs.Quiet.{IsAbroad}
 use Rattle.sj_core.specs.Views.{event_at, line_with, note_seen}
@@ -43,7 +43,7 @@ clock_of_step : (w v : WorldAt Place Program) (p k : ℕ) (ls : ℕ → ℕ → 
 clock_of_step w v p k ls None h = absurd (cc h)
 clock_of_step w v p k ls (Some done) h = ap (λ (x : WorldAt Place Program). (x.nodes p).clock) (sym (some_same (after_event w p k ls done) v h)) ∙ clock_after w p k ls done
 
-module _ (c : Course) (reached : IsReached c) (p : ℕ) (n : Node) (there : slice_get (nodes_in c) p ≡ Some n) where
+module _ (c : Course) (led : IsLed c) (p : ℕ) (n : Node) (there : slice_get (nodes_in c) p ≡ Some n) where
   abbrev w : WorldAt Place Program
   w = world_in c
 
@@ -51,11 +51,11 @@ module _ (c : Course) (reached : IsReached c) (p : ℕ) (n : Node) (there : slic
   play = play_of (file_in c)
 
   act_by : (o : Option Halt) → stop_of n ≡ o → due play max w p rules.Act ≡ option_map (line_with p) (due_if o (record { clock = clock_of n + 1; event = events.Act; note = note_for n }))
-  act_by (Some k) stop = ap (option_and_then (line_after play w p rules.Act)) (no_step_where c reached p n there k stop)
+  act_by (Some k) stop = ap (option_and_then (line_after play w p rules.Act)) (no_step_where c led p n there k stop)
   act_by None free =
-      let done = acts_here c reached p n there free in
-      let at = here c reached p n there in
-      let seat = reached.seats.each p n there in
+      let done = acts_here c led p n there free in
+      let at = here c led p n there in
+      let seat = led.seats.each p n there in
       let step : happens play max w p rules.Act ≡ Some (after_event w p ((w.nodes p).clock + 1) w.lanes done.0) = ap (option_map (after_event w p ((w.nodes p).clock + 1) w.lanes)) done.1 in
       lined (file_in c) w (after_event w p ((w.nodes p).clock + 1) w.lanes done.0) p (clock_of n + 1) rules.Act (note_seen (note_for n)) step
       (act_noted (length (file_in c).parties) (file_in c).protocols p (w.nodes p) done.0 done.1
@@ -84,8 +84,8 @@ module _ (c : Course) (reached : IsReached c) (p : ℕ) (n : Node) (there : slic
       -- of the front of a lane
       pub front_due : due play max w p (rules.Deliver q) ≡ option_map (line_with p) (Some (record { clock = max (clock_of n) f.clock + 1; event = events.Deliver q; note = note_at f.body }))
       front_due =
-          let at = here c reached p n there in
-          let fits = front_fits c reached p q seen behind (lane (f ∷ rest) front) in
+          let at = here c led p n there in
+          let fits = front_fits c led p q seen behind (lane (f ∷ rest) front) in
           lined (file_in c) w fits.0 p (max (clock_of n) f.clock + 1) (rules.Deliver q) (note_seen (note_at f.body)) fits.1
           (ap front_note (lane (f ∷ rest) front) ∙ ap Some (body_noted (place_in giver.table) f.body))
           (clock_of_step w fits.0 p (max (w.nodes p).clock f.clock + 1) (with_lane q p behind w.lanes) (arrives play.parties max (w.nodes p) q seen)
@@ -111,12 +111,12 @@ none_at f None x is none = refl
 none_at f (Some a) x is none = let e : Some (f a) ≡ None = sym is ∙ none in absurd (cc e)
 
 -- no line of an event that is abroad
-pub abroad_due : (c : Course) → IsReached c → (p : ℕ) (event : Event) → IsAbroad p event (length (nodes_in c)) → due (play_of (file_in c)) max (world_in c) p (event_at event) ≡ None
-abroad_due c reached p events.Act out = no_step_due c p rules.Act (ap (option_map (after_event (world_in c) p (((world_in c).nodes p).clock + 1) (world_in c).lanes)) (idle_outside c reached p out))
-abroad_due c reached p (events.Deliver q) out = no_step_due c p (rules.Deliver q) (ap (delivered (play_of (file_in c)) max (world_in c) p q) (empty_outside c reached q p (elim out [ inl le ↦ inr le | inr le ↦ inl le ])))
+pub abroad_due : (c : Course) → IsLed c → (p : ℕ) (event : Event) → IsAbroad p event (length (nodes_in c)) → due (play_of (file_in c)) max (world_in c) p (event_at event) ≡ None
+abroad_due c led p events.Act out = no_step_due c p rules.Act (ap (option_map (after_event (world_in c) p (((world_in c).nodes p).clock + 1) (world_in c).lanes)) (idle_outside c led p out))
+abroad_due c led p (events.Deliver q) out = no_step_due c p (rules.Deliver q) (ap (delivered (play_of (file_in c)) max (world_in c) p q) (empty_outside c led q p (elim out [ inl le ↦ inr le | inr le ↦ inl le ])))
 
 -- the clock of a front is below 2^62
-pub low_arrival : (c : Course) → IsReached c → (p q : ℕ) (giver : Node) → slice_get (nodes_in c) q ≡ Some giver → (f : FrameAt Spot) (rest : List (FrameAt Spot)) → waiting_in (outs_of giver) p ≡ f ∷ rest → f.clock < 4611686018427387904
-low_arrival c reached p q giver origin f rest front =
-    low_front c reached p q (frame_with (place_in giver.table) f) (map (frame_with (place_in giver.table)) rest)
+pub low_arrival : (c : Course) → IsLed c → (p q : ℕ) (giver : Node) → slice_get (nodes_in c) q ≡ Some giver → (f : FrameAt Spot) (rest : List (FrameAt Spot)) → waiting_in (outs_of giver) p ≡ f ∷ rest → f.clock < 4611686018427387904
+low_arrival c led p q giver origin f rest front =
+    low_front c led p q (frame_with (place_in giver.table) f) (map (frame_with (place_in giver.table)) rest)
     (ap (λ o. box_or o p) origin ∙ ap (map (frame_with (place_in giver.table))) front)

@@ -1,16 +1,25 @@
 -- Nodes that are begun one after another are those of the file before any event.
-use Rattle.std.proofs.Common.{◌≡◌, ◌⊎◌, ℕ, zero, suc, ◌+◌, List, [], ◌∷◌, ◌++◌, length, slice_get, unwrap_or, Some, None, refl, ap, sym, ◌∙◌, subst, inl, inr, length-append}
+use Rattle.std.proofs.Common.{◌≡◌, ◌⊎◌, ℕ, zero, suc, ◌+◌, List, [], ◌∷◌, ◌++◌, length, max, slice_get, unwrap_or, Some, None, option_map, refl, ap, sym, ◌∙◌, subst, inl, inr, length-append}
+use Rattle.sj_lang.specs.Place.{Place}
 use Rattle.sj_lang.specs.FileAt.{FileAt, body_named}
+use Rattle.sj_semantics.specs.Program.{Program}
 use Rattle.sj_plain.specs.Kept.{without_words}
 use Rattle.sj_plain.proofs.BeginLemmas.{start_same}
-use Rattle.sj_rules.specs.Party.{nobody}
+use Rattle.sj_rules.specs.History.{IsHistory, IsLog, IsMisfit}
+use Rattle.sj_rules.specs.Log.{LineAt}
+use Rattle.sj_rules.specs.Party.{nobody, play_of}
 use Rattle.sj_rules.specs.Start.{core_start, first_main, first_node}
+use Rattle.sj_rules.specs.World.{WorldAt}
 use Rattle.sj_table.specs.declared.table.Table.{Table}
 use Rattle.sj_table.specs.Spots.{start_in}
 use Rattle.sj_node.specs.declared.node.Node.{Node}
 use Rattle.sj_node.specs.Reading.{table_of}
 use Rattle.sj_node.specs.Starting.{Begins}
 use Rattle.sj_core.specs.Nodes.{AreBegun, AreFirst}
+use Rattle.sj_core.specs.Replaying.{IsMisfitFrom}
+use Rattle.sj_core.specs.Views.{line_at}
+use Rattle.sj_core.specs.declared.refusal.ReplayRefusal.{ReplayRefusal}
+use Rattle.sj_core.specs.declared.refusal.ReplayRefusal.TheVariants as refusals
 
 -- an element of a list with one more is one of the list, or the last
 pub behind : {X : Type 0} (xs : List X) (x : X) (p : ℕ) (y : X) → slice_get (xs ++ x ∷ []) p ≡ Some y → (slice_get xs p ≡ Some y) ⊎ ((p ≡ length xs) × (y ≡ x))
@@ -62,3 +71,16 @@ all_first file over nodes begun starts = record {
   first = λ p n is. (begun.each p n is).0.node ∙ sym (first_same file p);
   boxes = λ p n is. (begun.each p n is).0.boxes;
 }
+
+-- a history needs no words
+pub history_same : (file kept : FileAt) (lines all : List LineAt) (w : WorldAt Place Program) → kept ≡ without_words file → all ≡ lines → IsHistory max kept all w → IsHistory max file lines w
+history_same file kept lines all w same listed run =
+    subst (λ (v : WorldAt Place Program). IsLog (play_of file) max v lines w) (core_start_same file)
+    (subst (λ (ls : List LineAt). IsHistory max (without_words file) ls w) listed (subst (λ (f : FileAt). IsHistory max f all w) same run))
+
+-- nor does a misfit
+pub misfit_kept : (file kept : FileAt) (lines : List LineAt) (r : ReplayRefusal) → kept ≡ without_words file → IsMisfitFrom kept lines r → IsMisfitFrom file lines r
+misfit_kept file kept lines (refusals.Misfit number logged other) same m =
+    subst (λ (v : WorldAt Place Program). IsMisfit (play_of file) max v lines number (line_at logged) (option_map line_at other)) (core_start_same file)
+    (subst (λ (f : FileAt). IsMisfit (play_of f) max (core_start f) lines number (line_at logged) (option_map line_at other)) same m)
+misfit_kept file kept lines refusals.NoMemory same m = tt

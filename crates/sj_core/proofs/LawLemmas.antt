@@ -1,4 +1,4 @@
--- What the laws of core runs say of a reached world.
+-- What the laws of core runs say of a world to which lines lead.
 use Rattle.std.proofs.Common.{◌≡◌, ℕ, ◌≤◌, ◌<◌, max, List, [], ◌∷◌, map, length, slice_get, Bool, true, false, if◌then◌else◌, Option, Some, None, inl, inr, ◌⊎◌, refl, ap, sym, ◌∙◌, subst, arith}
 use Rattle.std.proofs.lemmas.Bool.{cases_lt}
 use Rattle.std.proofs.lemmas.List.{length-map}
@@ -23,7 +23,7 @@ use Rattle.sj_rules_laws.proofs.LawfulLemmas.{run_is_lawful}
 use Rattle.sj_rules_laws.proofs.LimitLemmas.{core_run_clocks, run_front_fits, run_front_arrives}
 use Rattle.sj_rules_laws.proofs.ShortRunLemmas.{runs_are_short}
 use Rattle.sj_core.specs.declared.course.Course.{Course}
-use Rattle.sj_core.specs.Course.{IsReached, file_in, history_in, nodes_in, world_in}
+use Rattle.sj_core.specs.Course.{IsLed, file_in, nodes_in, world_in}
 use Rattle.sj_core.specs.Nodes.{node_or}
 use Rattle.sj_node.specs.declared.node.Node.{Node}
 use Rattle.sj_node.specs.Node.{clock_of}
@@ -35,73 +35,73 @@ none_either : {X : Type 0} (b : Bool) → ◌≡◌ {A = Option X} (if b then No
 none_either true = refl
 none_either false = refl
 
-module _ (c : Course) (reached : IsReached c) where
+module _ (c : Course) (led : IsLed c) where
   abbrev file : FileAt
-  file = reached.accepted.file
+  file = led.accepted.file
 
   -- the history is of a run of the file
-  pub run_of : IsCoreRun file (map turn_of (history_in c)) (world_in c)
+  pub run_of : IsCoreRun file (map turn_of led.past) (world_in c)
   run_of =
-      log_runs (play_of file) max max_picks (history_in c) (core_start file) (world_in c)
-      (subst (λ (f : FileAt). IsHistory max f (history_in c) (world_in c)) reached.accepted.same reached.run)
+      log_runs (play_of file) max max_picks led.past (core_start file) (world_in c)
+      (subst (λ (f : FileAt). IsHistory max f led.past (world_in c)) led.accepted.same led.run)
 
   -- it is short
-  pub short : length (history_in c) ≤ limit_of_events
-  short = let few = runs_are_short file reached.accepted.accepted (map turn_of (history_in c)) (world_in c) run_of in omega (arith, few, length-map (history_in c) turn_of)
+  pub short : length led.past ≤ limit_of_events
+  short = let few = runs_are_short file led.accepted.accepted (map turn_of led.past) (world_in c) run_of in omega (arith, few, length-map led.past turn_of)
 
   -- it can be drained
   pub drains : (more : List Turn) × (last : WorldAt Place Program) × IsDrained (play_of (file_in c)) max (length (nodes_in c)) (world_in c) more last
   drains =
-      let d = run_drains file reached.accepted.accepted max max_picks (map turn_of (history_in c)) (world_in c) run_of in
-      let parties : length (nodes_in c) ≡ length file.parties = reached.seats.count ∙ ap (λ f. length f.parties) reached.accepted.same in (
+      let d = run_drains file led.accepted.accepted max max_picks (map turn_of led.past) (world_in c) run_of in
+      let parties : length (nodes_in c) ≡ length file.parties = led.seats.count ∙ ap (λ f. length f.parties) led.accepted.same in (
         d.0,
         d.1,
-        subst (λ (f : FileAt). IsDrained (play_of f) max (length (nodes_in c)) (world_in c) d.0 d.1) (sym reached.accepted.same)
+        subst (λ (f : FileAt). IsDrained (play_of f) max (length (nodes_in c)) (world_in c) d.0 d.1) (sym led.accepted.same)
             (subst (λ (n : ℕ). IsDrained (play_of file) max n (world_in c) d.0 d.1) (sym parties) d.2),
       )
 
   no_front : (p q : ℕ) (l : List (FrameAt Place)) → (world_in c).lanes q p ≡ l → happens (play_of file) max (world_in c) p (Deliver q) ≡ None → l ≡ []
   no_front p q [] is none = refl
   no_front p q (f ∷ rest) is none =
-      let fits = run_front_fits file reached.accepted.accepted (map turn_of (history_in c)) (world_in c) run_of max p q f rest max_picks is in
+      let fits = run_front_fits file led.accepted.accepted (map turn_of led.past) (world_in c) run_of max p q f rest max_picks is in
       let e : Some fits.0 ≡ None = sym fits.1 ∙ none in
       absurd (cc e)
 
   -- where nothing can be delivered the lane is empty
   pub empty_there : (p q : ℕ) → happens (play_of (file_in c)) max (world_in c) p (Deliver q) ≡ None → (world_in c).lanes q p ≡ []
-  empty_there p q none = no_front p q ((world_in c).lanes q p) refl ((λ i. happens (play_of (sym reached.accepted.same i)) max (world_in c) p (Deliver q)) ∙ none)
+  empty_there p q none = no_front p q ((world_in c).lanes q p) refl ((λ i. happens (play_of (sym led.accepted.same i)) max (world_in c) p (Deliver q)) ∙ none)
 
   -- the front of a lane fits
   pub front_fits : (p q : ℕ) (f : FrameAt Place) (rest : List (FrameAt Place)) → (world_in c).lanes q p ≡ f ∷ rest
       → (after : WorldAt Place Program) × (happens (play_of (file_in c)) max (world_in c) p (Deliver q) ≡ Some after)
   front_fits p q f rest is =
-      let fits = run_front_fits file reached.accepted.accepted (map turn_of (history_in c)) (world_in c) run_of max p q f rest max_picks is in
-      (fits.0, (λ i. happens (play_of (reached.accepted.same i)) max (world_in c) p (Deliver q)) ∙ fits.1)
+      let fits = run_front_fits file led.accepted.accepted (map turn_of led.past) (world_in c) run_of max p q f rest max_picks is in
+      (fits.0, (λ i. happens (play_of (led.accepted.same i)) max (world_in c) p (Deliver q)) ∙ fits.1)
 
   -- its clock is below 2^62
   pub low_front : (p q : ℕ) (f : FrameAt Place) (rest : List (FrameAt Place)) → (world_in c).lanes q p ≡ f ∷ rest → f.clock < 4611686018427387904
   low_front p q f rest is =
-      let above = (core_run_clocks file (map turn_of (history_in c)) (world_in c) run_of).lanes q p in
-      let front : NoneAbove (length (map turn_of (history_in c))) (f ∷ rest) = subst (NoneAbove (length (map turn_of (history_in c)))) is above in
-      let few : length (map turn_of (history_in c)) ≤ 51200960000 = runs_are_short file reached.accepted.accepted (map turn_of (history_in c)) (world_in c) run_of in
+      let above = (core_run_clocks file (map turn_of led.past) (world_in c) run_of).lanes q p in
+      let front : NoneAbove (length (map turn_of led.past)) (f ∷ rest) = subst (NoneAbove (length (map turn_of led.past))) is above in
+      let few : length (map turn_of led.past) ≤ 51200960000 = runs_are_short file led.accepted.accepted (map turn_of led.past) (world_in c) run_of in
       omega (arith, few, front.0)
 
   -- a party that the file hasn't has nothing to do, and no lane leads to or from it
   pub idle_outside : (p : ℕ) → length (nodes_in c) ≤ p → acts (play_of (file_in c)) p ((world_in c).nodes p) ≡ None
   idle_outside p le =
-      let s = runs_stand file reached.accepted.accepted (map turn_of (history_in c)) (world_in c) run_of in
-      let lawful = run_is_lawful file (acts_in (map turn_of (history_in c))) s.plain reached.accepted.accepted s.run in
-      let parties : length (nodes_in c) ≡ length file.parties = reached.seats.count ∙ ap (λ f. length f.parties) reached.accepted.same in
+      let s = runs_stand file led.accepted.accepted (map turn_of led.past) (world_in c) run_of in
+      let lawful = run_is_lawful file (acts_in (map turn_of led.past)) s.plain led.accepted.accepted s.run in
+      let parties : length (nodes_in c) ≡ length file.parties = led.seats.count ∙ ap (λ f. length f.parties) led.accepted.same in
       let play = play_of file in
       let ended = ap play.wants (s.kept.programs p) ∙ lawful.idle p (omega (arith, parties, le)) in
-      (λ i. acts (play_of (reached.accepted.same i)) p ((world_in c).nodes p))
+      (λ i. acts (play_of (led.accepted.same i)) p ((world_in c).nodes p))
       ∙ ap (λ t. if play.is_worn ((world_in c).nodes p).program then None else act_by play p ((world_in c).nodes p) t) ended
       ∙ none_either (play.is_worn ((world_in c).nodes p).program)
 
   pub empty_outside : (p q : ℕ) → (length (nodes_in c) ≤ p) ⊎ (length (nodes_in c) ≤ q) → (world_in c).lanes p q ≡ []
   empty_outside p q out =
-      let s = runs_stand file reached.accepted.accepted (map turn_of (history_in c)) (world_in c) run_of in
-      let parties : length (nodes_in c) ≡ length file.parties = reached.seats.count ∙ ap (λ f. length f.parties) reached.accepted.same in
+      let s = runs_stand file led.accepted.accepted (map turn_of led.past) (world_in c) run_of in
+      let parties : length (nodes_in c) ≡ length file.parties = led.seats.count ∙ ap (λ f. length f.parties) led.accepted.same in
       s.within.outside p q (elim out [ inl le ↦ inl (omega (arith, parties, le)) | inr le ↦ inr (omega (arith, parties, le)) ])
 
   -- where nothing is left to do for its parties nobody has anything to do
@@ -119,18 +119,18 @@ module _ (c : Course) (reached : IsReached c) where
   pub front_arrives : (p q : ℕ) (f : FrameAt Place) (rest : List (FrameAt Place)) → (world_in c).lanes q p ≡ f ∷ rest
       → (done : Worked Place (NodeAt Place Program)) × (arrives (length (file_in c).parties) max ((world_in c).nodes p) q f ≡ Some done)
   front_arrives p q f rest is =
-      let a = run_front_arrives file reached.accepted.accepted (map turn_of (history_in c)) (world_in c) run_of max p q f rest max_picks is in
-      (a.0, (λ i. arrives (length (reached.accepted.same i).parties) max ((world_in c).nodes p) q f) ∙ a.1)
+      let a = run_front_arrives file led.accepted.accepted (map turn_of led.past) (world_in c) run_of max p q f rest max_picks is in
+      (a.0, (λ i. arrives (length (led.accepted.same i).parties) max ((world_in c).nodes p) q f) ∙ a.1)
 
   -- clocks stay below their end
   pub low_clock : (p : ℕ) → ((world_in c).nodes p).clock < 4611686018427387904
   low_clock p =
-      let few : length (map turn_of (history_in c)) ≤ 51200960000 = runs_are_short file reached.accepted.accepted (map turn_of (history_in c)) (world_in c) run_of in
-      let low = (core_run_clocks file (map turn_of (history_in c)) (world_in c) run_of).nodes p in
+      let few : length (map turn_of led.past) ≤ 51200960000 = runs_are_short file led.accepted.accepted (map turn_of led.past) (world_in c) run_of in
+      let low = (core_run_clocks file (map turn_of led.past) (world_in c) run_of).nodes p in
       omega (arith, few, low)
 
 -- so does that of a node
-pub low_node : (c : Course) → IsReached c → (p : ℕ) (n : Node) → slice_get (nodes_in c) p ≡ Some n → clock_of n < 4611686018427387904
-low_node c reached p n there =
+pub low_node : (c : Course) → IsLed c → (p : ℕ) (n : Node) → slice_get (nodes_in c) p ≡ Some n → clock_of n < 4611686018427387904
+low_node c led p n there =
     let same : ((world_in c).nodes p).clock ≡ clock_of n = ap (λ o. (node_or (first_node (file_in c) p) o).clock) there in
-    let low = low_clock c reached p in omega (arith, same, low)
+    let low = low_clock c led p in omega (arith, same, low)

@@ -15,6 +15,7 @@ pub mod NoteLemmas
 pub mod PutBackLemmas
 pub mod QuietLemmas
 pub mod ReachedLemmas
+pub mod RedoLemmas
 pub mod ReplayLemmas
 pub mod RoundLemmas
 pub mod StepLemmas

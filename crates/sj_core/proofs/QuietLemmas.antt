@@ -1,4 +1,4 @@
--- Whether a party of a reached world has anything to do, as its nodes tell it.
+-- Whether a party of a world to which lines lead has anything to do, as its nodes tell it.
 use Rattle.std.proofs.Common.{◌≡◌, ℕ, ◌<◌, ◌+◌, List, [], ◌∷◌, map, length, slice_get, Option, Some, None, refl, ap, sym, ◌∙◌, subst, inl, inr, arith}
 use Rattle.std.specs.Prelude.{IfNone, IfSome}
 use Rattle.std.proofs.lemmas.Bool.{cases_lt}
@@ -16,7 +16,7 @@ use Rattle.sj_node.specs.Outs.{waiting_in}
 use Rattle.sj_node.specs.Reading.{outs_of}
 use Rattle.sj_end.specs.declared.note.Entry.{Entry}
 use Rattle.sj_core.specs.declared.course.Course.{Course}
-use Rattle.sj_core.specs.Course.{IsReached, file_in, nodes_in, world_in}
+use Rattle.sj_core.specs.Course.{IsLed, file_in, nodes_in, world_in}
 use Rattle.sj_core.specs.Nodes.{box_or}
 use Rattle.sj_core.specs.Quiet.{IsIdleAmong}
 use Rattle.sj_core.proofs.StopLemmas.{none_where, stopped}
@@ -24,17 +24,17 @@ use Rattle.sj_core.proofs.StopLemmas.{none_where, stopped}
 none_if : (o : Option Halt) (k : Halt) (e : Entry) → o ≡ Some k → due_if o e ≡ None
 none_if o k e is = ap (λ (x : Option Halt). due_if x e) is
 
-module _ (c : Course) (reached : IsReached c) (p : ℕ) (n : Node) (there : slice_get (nodes_in c) p ≡ Some n) where
+module _ (c : Course) (led : IsLed c) (p : ℕ) (n : Node) (there : slice_get (nodes_in c) p ≡ Some n) where
   none_by : (o : Option Halt) (e : Entry) → stop_of n ≡ o → due_if o e ≡ None → acts (play_of (file_in c)) p ((world_in c).nodes p) ≡ None
   none_by None e stop none = absurd (cc none)
-  none_by (Some k) e stop none = none_where c reached p n there k stop
+  none_by (Some k) e stop none = none_where c led p n there k stop
 
   -- its node knows whether it can act
   pub still_of : due_of n ≡ None → acts (play_of (file_in c)) p ((world_in c).nodes p) ≡ None
   still_of none = none_by (stop_of n) _ refl none
 
   pub due_of_still : acts (play_of (file_in c)) p ((world_in c).nodes p) ≡ None → due_of n ≡ None
-  due_of_still none = let s = stopped c reached p n there none in none_if (stop_of n) s.0 _ s.1
+  due_of_still none = let s = stopped c led p n there none in none_if (stop_of n) s.0 _ s.1
 
 module _ (c : Course) (q : ℕ) (giver : Node) (origin : slice_get (nodes_in c) q ≡ Some giver) (p : ℕ) where
   lane_as : (fs : List (FrameAt Spot)) → waiting_in (outs_of giver) p ≡ fs → (world_in c).lanes q p ≡ map (frame_with (place_in giver.table)) fs

@@ -13,11 +13,15 @@ use Rattle.sj_rules.specs.World as world
 use Rattle.sj_rules.specs.World.{happens}
 use Rattle.sj_node.specs.declared.node.Node.{Node}
 use Rattle.sj_core.specs.declared.course.Course.{Course}
-use Rattle.sj_core.specs.Course.{IsOfAccepted, IsReached, StaysIn, Steps, file_in, history_in, nodes_in, world_in}
+use Rattle.sj_core.specs.Course.{IsLed, IsOfAccepted, IsReached, StaysIn, Steps, file_in, history_in, nodes_in, world_in}
 use Rattle.sj_core.specs.Nodes.{AreSeated, Moves, Rests, world_by}
 use Rattle.sj_core.specs.Views.{event_at, line_at, line_with}
 use Rattle.sj_core.proofs.NodesLemmas.{some_same}
 use Rattle.sj_core.proofs.HistoryLemmas.{log_more}
+
+-- where the history leads, lines lead
+abbrev pub led : (c : Course) → IsReached c → IsLed c
+led c reached = record { accepted = reached.accepted; past = history_in c; run = reached.run; seats = reached.seats }
 
 -- that history leads to those nodes
 record Lead (nodes : List Node) (lines : List LineAt) (file : FileAt) : Type 0 where

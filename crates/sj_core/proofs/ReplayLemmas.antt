@@ -12,9 +12,7 @@ use Rattle.sj_core.specs.declared.refusal.ReplayRefusal.{ReplayRefusal}
 use Rattle.sj_core.specs.declared.refusal.ReplayRefusal.TheVariants as refusals
 use Rattle.sj_core.specs.Course.{StaysIn, Steps, file_in, history_in, world_in}
 use Rattle.sj_core.specs.Replaying.{Follows, IsMisfitHere, IsRefusedSo}
-use Rattle.sj_core.specs.Views.{event_at, line_at, line_with}
-use Rattle.sj_core.proofs.NodesLemmas.{some_same}
-use Rattle.sj_end.specs.declared.note.Entry.{Entry}
+use Rattle.sj_core.specs.Views.{line_at}
 use Rattle.sj_core.proofs.HistoryLemmas.{log_more}
 
 -- nothing done
@@ -31,12 +29,12 @@ follows_more c d e lines l file follows steps = record {
   listed = steps.listed ∙ ap (λ t. t ++ l ∷ []) follows.listed ∙ append_assoc (history_in c) lines (l ∷ []);
 }
 
-split_there : (lines : List Line) (k : ℕ) (d : Line) → k < length lines → lines ≡ take k lines ++ get_or lines k d ∷ drop (k + 1) lines
+pub split_there : (lines : List Line) (k : ℕ) (d : Line) → k < length lines → lines ≡ take k lines ++ get_or lines k d ∷ drop (k + 1) lines
 split_there lines k d lt =
     sym (take-append-drop k lines) ∙ ap (λ t. take k lines ++ t) (drop-cons lines k d lt)
     ∙ (λ i. take k lines ++ get_or lines k d ∷ drop (sym (add-one k) i) lines)
 
-next_taken : (lines : List Line) (k : ℕ) (d : Line) → k < length lines → map line_at (take (k + 1) lines) ≡ map line_at (take k lines) ++ line_at (get_or lines k d) ∷ []
+pub next_taken : (lines : List Line) (k : ℕ) (d : Line) → k < length lines → map line_at (take (k + 1) lines) ≡ map line_at (take k lines) ++ line_at (get_or lines k d) ∷ []
 next_taken lines k d lt = ap (λ n. map line_at (take n lines)) (add-one k) ∙ ap (map line_at) (take-suc lines k d lt) ∙ map-append line_at (take k lines) (get_or lines k d ∷ [])
 
 -- the next of some lines
@@ -76,11 +74,3 @@ refused_at c d e lines k number l refusals.NoMemory file lt count follows here s
   all = sym (ap (map line_at) (take-append-drop k lines)) ∙ map-append line_at (take k lines) (drop k lines);
   done = follows_still c d e (map line_at (take k lines)) follows stays;
 }
-
--- the step of the line that is due
-pub steps_so : (c d : Course) (l : Line) (e : Entry) → Steps c (line_with l.party e) d → event_at e.event ≡ event_at l.entry.event
-    → due (play_of (file_in c)) max (world_in c) l.party (event_at l.entry.event) ≡ Some (line_at l) → Steps c (line_at l) d
-steps_so c d l e steps same is =
-    subst (λ (x : LineAt). Steps c x d)
-    (some_same (line_with l.party e) (line_at l) (sym steps.due_line ∙ (λ i. due (play_of (file_in c)) max (world_in c) l.party (same i)) ∙ is))
-    steps

@@ -15,6 +15,7 @@ use Rattle.sj_core.specs.Course.{IsReached, file_in, history_in, nodes_in, world
 use Rattle.sj_core.specs.Draining.{ActsOut, Ahead, Empties, EmptiesEach, GoesBy, IsDrained, IsRound, Leads, TakeTurns, TakesTurn, events_left}
 use Rattle.sj_rules_laws.proofs.DrainEndLemmas.{drained_is_quiet}
 use Rattle.sj_core.proofs.LawLemmas.{short}
+use Rattle.sj_core.proofs.ReachedLemmas.{led}
 
 numbers_next : (n k : ℕ) → numbers_from n (suc k) ≡ numbers_from n k ++ (n + k) ∷ []
 numbers_next n zero = let e : n ≡ n + 0 = omega arith in ap (λ t. t ∷ []) e
@@ -125,7 +126,7 @@ drained c d e n m file count a b same =
 
 -- a longer history leaves fewer events
 pub fewer_after : (d e : Course) → IsReached e → length (history_in d) < length (history_in e) → events_left e < events_left d
-fewer_after d e reached more = let low = short e reached in omega (arith, low, more)
+fewer_after d e reached more = let low = short e (led e reached) in omega (arith, low, more)
 
 -- a drain leaves nothing to do
 pub left_quiet : (c e : Course) (n : ℕ) → file_in e ≡ file_in c → length (nodes_in e) ≡ n → GoesBy (IsDrained c n) c e → IsQuietAmong (play_of (file_in e)) (length (nodes_in e)) (world_in e)

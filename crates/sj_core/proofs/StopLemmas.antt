@@ -1,4 +1,4 @@
--- A party of a reached world does no step exactly where its node halts for another cause than memory.
+-- A party of a world to which lines lead does no step exactly where its node halts for another cause than memory.
 use Rattle.std.proofs.Common.{◌≡◌, ℕ, ◌+◌, max, nat_lt, Bool, true, false, if◌then◌else◌, length, slice_get, Option, Some, None, Result, Err, option_map, refl, ap, sym, ◌∙◌, subst}
 use Rattle.sj_base.specs.declared.EndId.{EndId}
 use Rattle.sj_semantics.specs.declared.Want.{Want}
@@ -17,7 +17,7 @@ use Rattle.sj_node.specs.Halts.{held_up, is_worn_out, lacks_message, names_await
 use Rattle.sj_node.specs.Node.{act_of, spot_node, steps_of, stop_of, wants_of}
 use Rattle.sj_node.specs.Slots.{mains_in}
 use Rattle.sj_core.specs.declared.course.Course.{Course}
-use Rattle.sj_core.specs.Course.{IsReached, file_in, nodes_in, world_in}
+use Rattle.sj_core.specs.Course.{IsLed, file_in, nodes_in, world_in}
 use Rattle.sj_core.specs.Refusals.{IsStop}
 use Rattle.sj_core.proofs.HaltLemmas.{halted}
 use Rattle.sj_core.proofs.UnfitLemmas.{acts_here, here, never_unfit}
@@ -55,14 +55,14 @@ stop_is main steps wants.Ended h is = stop_if true halts.Ended h tt is
 pub error_is : {T E : Type 0} → (x y : E) → ◌≡◌ {A = Result T E} (Err x) (Err y) → x ≡ y
 error_is x y h = cc h
 
-module _ (c : Course) (reached : IsReached c) (p : ℕ) (n : Node) (there : slice_get (nodes_in c) p ≡ Some n) where
+module _ (c : Course) (led : IsLed c) (p : ℕ) (n : Node) (there : slice_get (nodes_in c) p ≡ Some n) where
   -- nothing stops it, or something other than want of memory does
   abbrev pub Stopped : Type 0
   Stopped = (k : Halt) × (stop_of n ≡ Some k) × IsStop k
 
   -- no act by the rules, where something stops it
   pub none_where : (k : Halt) → stop_of n ≡ Some k → acts (play_of (file_in c)) p ((world_in c).nodes p) ≡ None
-  none_where k is = ap (acts (play_of (file_in c)) p) (here c reached p n there) ∙ halted (place_in n.table) (length (file_in c).parties) (file_in c).protocols p (spot_node n) k is
+  none_where k is = ap (acts (play_of (file_in c)) p) (here c led p n there) ∙ halted (place_in n.table) (length (file_in c).parties) (file_in c).protocols p (spot_node n) k is
 
   pub no_step_where : (k : Halt) → stop_of n ≡ Some k → happens (play_of (file_in c)) max (world_in c) p rules.Act ≡ None
   no_step_where k is = let w = world_in c in ap (option_map (after_event w p ((w.nodes p).clock + 1) w.lanes)) (none_where k is)
@@ -72,7 +72,7 @@ module _ (c : Course) (reached : IsReached c) (p : ℕ) (n : Node) (there : slic
 
   stopped_by : (o : Option Halt) → stop_of n ≡ o → acts (play_of (file_in c)) p ((world_in c).nodes p) ≡ None → Stopped
   stopped_by None free none =
-      let done = acts_here c reached p n there free in
+      let done = acts_here c led p n there free in
       let e : Some done.0 ≡ None = sym done.1 ∙ none in absurd (cc e)
   stopped_by (Some k) is none = (k, is, stop_here k is)
 
@@ -94,7 +94,7 @@ module _ (c : Course) (reached : IsReached c) (p : ℕ) (n : Node) (there : slic
     answers halts.Unfit is stop = absurd stop
 
     unfit_by : (o : Option Halt) → stop_of n ≡ o → act_of n ≡ None → h ≡ halts.Unfit → ⊥
-    unfit_by None free none is = never_unfit c reached p n there free none
+    unfit_by None free none is = never_unfit c led p n there free none
     unfit_by (Some k) stop none is = subst IsStop is (answers k stop (stop_here k stop))
 
     -- it isn't unfit

@@ -1,5 +1,5 @@
--- An act of a node in a reached world is never unfit: where nothing stops the node, the rules have its act.
-use Rattle.std.proofs.Common.{◌≡◌, ℕ, ◌*◌, ◌+◌, ◌<◌, nat_lt, List, Bool, true, false, if◌then◌else◌, map, length, slice_get, Option, Some, None, option_map, refl, ap, sym, ◌∙◌, subst, arith}
+-- An act of a node in a world to which lines lead is never unfit: where nothing stops the node, the rules have its act.
+use Rattle.std.proofs.Common.{◌≡◌, ℕ, ◌*◌, ◌+◌, ◌<◌, nat_lt, List, Bool, true, false, if◌then◌else◌, map, length, slice_get, Option, Some, None, option_map, refl, ap, sym, ◌∙◌, arith}
 use Rattle.std.proofs.lemmas.Bool.{lt-ltb, ltb-true}
 use Rattle.sj_base.specs.declared.EndId.{EndId}
 use Rattle.sj_base.specs.declared.Msg.{Msg}
@@ -30,7 +30,7 @@ use Rattle.sj_node.specs.Play.{HeadsAre, names_known, play_with}
 use Rattle.sj_node.specs.Slots.{look, main_at}
 use Rattle.sj_node.proofs.PlayLemmas.{acts_known, plays_file}
 use Rattle.sj_core.specs.declared.course.Course.{Course}
-use Rattle.sj_core.specs.Course.{IsReached, file_in, history_in, nodes_in, world_in}
+use Rattle.sj_core.specs.Course.{IsLed, file_in, nodes_in, world_in}
 use Rattle.sj_core.specs.Nodes.{IsSeated, node_or}
 use Rattle.sj_core.proofs.ActLemmas.{acts_freely}
 use Rattle.sj_core.proofs.LawLemmas.{run_of}
@@ -114,33 +114,33 @@ module _ (file : FileAt) (accepted : IsAccepted file) (turns : List Turn) (core 
       let e : Some done.0 ≡ None = sym done.1 ∙ sym own_act ∙ none in
       cc e
 
--- a node of a reached world is one
-module _ (c : Course) (reached : IsReached c) (p : ℕ) (n : Node) (there : slice_get (nodes_in c) p ≡ Some n) where
+-- a node of such a world is one
+module _ (c : Course) (led : IsLed c) (p : ℕ) (n : Node) (there : slice_get (nodes_in c) p ≡ Some n) where
   abbrev file : FileAt
-  file = reached.accepted.file
+  file = led.accepted.file
 
   pub here : (world_in c).nodes p ≡ node_at n
   here = ap (node_or (first_node (file_in c) p)) there
 
-  abbrev run : IsCoreRun file (map turn_of (history_in c)) (world_in c)
-  run = run_of c reached
+  abbrev run : IsCoreRun file (map turn_of led.past) (world_in c)
+  run = run_of c led
 
-  abbrev seat : IsSeated (file_in c) reached.seats.table p n
-  seat = reached.seats.each p n there
+  abbrev seat : IsSeated (file_in c) led.seats.table p n
+  seat = led.seats.each p n there
 
   -- it plays by the file's protocols
   own_play : play_of n ≡ play_with (body_named file.protocols) (2 * length file.connects) (length file.parties)
   own_play =
       (λ i. play_with (start_in (seat.table i)) (seat.slots i) (seat.parties i))
-      ∙ (λ i. play_with (λ q. reached.seats.starts q i) (2 * length (file_in c).connects) (length (file_in c).parties))
-      ∙ ap (λ (f : FileAt). play_with (body_named f.protocols) (2 * length f.connects) (length f.parties)) reached.accepted.same
+      ∙ (λ i. play_with (λ q. led.seats.starts q i) (2 * length (file_in c).connects) (length (file_in c).parties))
+      ∙ ap (λ (f : FileAt). play_with (body_named f.protocols) (2 * length f.connects) (length f.parties)) led.accepted.same
 
   -- where nothing stops it
   pub acts_here : stop_of n ≡ None → (done : Worked Place (NodeAt Place Program)) × (acts (play_of_file (file_in c)) p ((world_in c).nodes p) ≡ Some done)
   acts_here free =
-      let done = own_acts file reached.accepted.accepted (map turn_of (history_in c)) (world_in c) run p n here seat.party own_play free in
-      (done.0, (λ i. acts (play_of_file (reached.accepted.same i)) p ((world_in c).nodes p)) ∙ done.1)
+      let done = own_acts file led.accepted.accepted (map turn_of led.past) (world_in c) run p n here seat.party own_play free in
+      (done.0, (λ i. acts (play_of_file (led.accepted.same i)) p ((world_in c).nodes p)) ∙ done.1)
 
   -- an act is never unfit
   pub never_unfit : stop_of n ≡ None → act_of n ≡ None → ⊥
-  never_unfit = own_never_unfit file reached.accepted.accepted (map turn_of (history_in c)) (world_in c) run p n here seat.party own_play
+  never_unfit = own_never_unfit file led.accepted.accepted (map turn_of led.past) (world_in c) run p n here seat.party own_play

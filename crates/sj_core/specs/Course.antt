@@ -34,7 +34,14 @@ pub record IsOfAccepted (kept : FileAt) : Type 0 where
   pub accepted : IsAccepted file
   pub same : kept ≡ without_words file
 
--- its history leads from the start of its accepted file to its world
+-- some lines lead from the start of its accepted file to its world, whatever it lists
+pub record IsLed (c : Course) : Type 0 where
+  pub accepted : IsOfAccepted (file_in c)
+  pub past : List LineAt
+  pub run : IsHistory max (file_in c) past (world_in c)
+  pub seats : AreSeated (file_in c) (nodes_in c)
+
+-- its history does
 pub record IsReached (c : Course) : Type 0 where
   pub accepted : IsOfAccepted (file_in c)
   pub run : IsHistory max (file_in c) (history_in c) (world_in c)
@@ -45,6 +52,13 @@ pub record Steps (c : Course) (l : LineAt) (d : Course) : Type 0 where
   pub step : happens (play_of (file_in c)) max (world_in c) l.party l.entry.event ≡ Some (world_in d)
   pub due_line : due (play_of (file_in c)) max (world_in c) l.party l.entry.event ≡ Some l
   pub listed : history_in d ≡ history_in c ++ l ∷ []
+  pub file : file_in d ≡ file_in c
+
+-- the same, whatever is listed
+pub record Redoes (c : Course) (l : LineAt) (d : Course) : Type 0 where
+  pub step : happens (play_of (file_in c)) max (world_in c) l.party l.entry.event ≡ Some (world_in d)
+  pub due_line : due (play_of (file_in c)) max (world_in c) l.party l.entry.event ≡ Some l
+  pub seats : AreSeated (file_in d) (nodes_in d)
   pub file : file_in d ≡ file_in c
 
 -- nothing that contracts see has changed

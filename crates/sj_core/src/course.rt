@@ -60,11 +60,11 @@ fn noted(node: &mut Node) -> Entry
 }
 
 impl Course {
-    ghost use Rattle.sj_core.specs.Course.{IsReached, StaysIn, Steps, file_in, history_in, nodes_in, world_in};
+    ghost use Rattle.sj_core.specs.Course.{IsLed, IsReached, StaysIn, Steps, file_in, nodes_in, world_in};
 
     /// The party's next act.
     fn act(&mut self, party: u16) -> Result<Entry, StepRefusal>
-        requires reached { IsReached self.old }
+        requires led { IsLed self.old }
         requires there { party < length (nodes_in self.old) }
         ensures ok { IfOk result (λ e. Moves (file_in self.old) (nodes_in self.old) party events.Act e (nodes_in self.new)) }
         ensures none { IsErrOf result StepRefusal.NoStep ↔
@@ -82,7 +82,7 @@ impl Course {
 
     /// The front frame of the lane from that party is delivered to the party.
     fn deliver(&mut self, party: u16, from: u16) -> Result<Entry, StepRefusal>
-        requires reached { IsReached self.old }
+        requires led { IsLed self.old }
         requires there { party < length (nodes_in self.old) }
         requires origin { from < length (nodes_in self.old) }
         ensures ok { IfOk result (λ e. Moves (file_in self.old) (nodes_in self.old) party (events.Deliver from) e (nodes_in self.new)) }
@@ -106,8 +106,8 @@ impl Course {
     }
 
     /// One event, without its line.
-    fn happen(&mut self, party: u16, event: Event) -> Result<Entry, StepRefusal>
-        requires reached { IsReached self.old }
+    pub fn happen(&mut self, party: u16, event: Event) -> Result<Entry, StepRefusal>
+        requires led { IsLed self.old }
         requires there { party < length (nodes_in self.old) }
         requires origin { ComesFrom event (length (nodes_in self.old)) }
         ensures ok { IfOk result (λ e. Moves (file_in self.old) (nodes_in self.old) party event e (nodes_in self.new)) }
@@ -151,7 +151,7 @@ impl Course {
 
     /// Why an event isn't done for which the history has no room.
     fn without_room(&self, party: u16, event: Event) -> StepRefusal
-        requires reached { IsReached self.now }
+        requires led { IsLed self.now }
         requires there { party < length (nodes_in self.now) }
         requires origin { ComesFrom event (length (nodes_in self.now)) }
         ensures { (result ≡ StepRefusal.NoStep) ↔

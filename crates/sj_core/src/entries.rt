@@ -11,11 +11,11 @@ use crate::course::Course;
 use sj_end::{Entry, Event, Line, note_of};
 
 impl Course {
-    ghost use Rattle.sj_core.specs.Course.{IsReached, file_in, nodes_in, world_in};
+    ghost use Rattle.sj_core.specs.Course.{IsLed, file_in, nodes_in, world_in};
 
     /// The entry of the delivery of the front frame of the lane from that party.
     fn arrival(&self, party: u16, from: u16) -> Option<Entry>
-        requires reached { IsReached self.now }
+        requires led { IsLed self.now }
         requires there { party < length (nodes_in self.now) }
         requires origin { from < length (nodes_in self.now) }
         ensures { due (play_of (file_in self.now)) max (world_in self.now) party (event_at (events.Deliver from))
@@ -34,7 +34,7 @@ impl Course {
 
     /// The entry that is due for the event; none where it is no step.
     pub fn due(&self, party: u16, event: Event) -> Option<Entry>
-        requires reached { IsReached self.now }
+        requires led { IsLed self.now }
         requires there { party < length (nodes_in self.now) }
         requires origin { ComesFrom event (length (nodes_in self.now)) }
         ensures { due (play_of (file_in self.now)) max (world_in self.now) party (event_at event)
@@ -64,7 +64,7 @@ impl Course {
     /// The line that is due for the event; none where it is no step, or names a party that the
     /// file hasn't.
     pub fn due_line(&self, party: u16, event: Event) -> Option<Line>
-        requires reached { IsReached self.now }
+        requires led { IsLed self.now }
         ensures due { due (play_of (file_in self.now)) max (world_in self.now) party (event_at event)
             ≡ option_map line_at result }
         ensures there { IfSome result (λ l. party < length (nodes_in self.now)) }
@@ -81,7 +81,7 @@ impl Course {
 
     /// Whether no frame waits for the party and it can't act.
     fn is_idle(&self, party: u16) -> bool
-        requires reached { IsReached self.now }
+        requires led { IsLed self.now }
         requires there { party < length (nodes_in self.now) }
         ensures { IsTrue result ↔ IsIdleAmong (play_of (file_in self.now))
             (length (nodes_in self.now)) (world_in self.now) party }
@@ -100,7 +100,7 @@ impl Course {
 
     /// Whether no party has anything to do.
     fn all_idle(&self) -> bool
-        requires reached { IsReached self.now }
+        requires led { IsLed self.now }
         ensures { IsTrue result ↔ IsQuietAmong (play_of (file_in self.now))
             (length (nodes_in self.now)) (world_in self.now) }
     {
@@ -114,7 +114,7 @@ impl Course {
 
     /// Whether nothing is in a lane and no party can act.
     pub fn quiet(&self) -> bool
-        requires reached { IsReached self.now }
+        requires led { IsLed self.now }
         ensures among { IsTrue result ↔ IsQuietAmong (play_of (file_in self.now))
             (length (nodes_in self.now)) (world_in self.now) }
         ensures whole { IsTrue result ↔ IsQuiescent (play_of (file_in self.now)) (world_in self.now) }

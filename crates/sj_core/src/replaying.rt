@@ -1,6 +1,7 @@
 //! Lines that were logged, done again one by one.
-ghost use Rattle.std.specs.Prelude.{◌≡◌, ◌↔◌, ◌++◌, IfErr, IsTrue, OnErr, OnOk, Some, map};
-ghost use Rattle.sj_core.specs.Replaying.{Follows, IsMisfitHere, IsRefusedSo};
+ghost use Rattle.std.specs.Prelude.{◌≡◌, ◌↔◌, [], IfErr, IfOk, IsTrue, OnErr, OnOk, Some, map};
+ghost use Rattle.sj_core.specs.Nodes.{Rests};
+ghost use Rattle.sj_core.specs.Replaying.{Follows, IsMisfitFrom, IsMisfitHere, IsRefusedSo};
 ghost use Rattle.sj_core.specs.Views.{line_at};
 
 use crate::course::Course;
@@ -19,16 +20,16 @@ pub fn is_the_line(due: &Option<Line>, line: &Line) -> bool
 }
 
 impl Course {
-    ghost use Rattle.sj_core.specs.Course.{IsReached, StaysIn, Steps, file_in};
+    ghost use Rattle.sj_core.specs.Course.{IsLed, IsReached, Redoes, StaysIn, Steps, file_in, history_in, nodes_in};
 
-    /// Does the line of that number, if it is the one that is due.
-    fn follow(&mut self, number: u64, line: &Line) -> Result<(), ReplayRefusal>
-        requires reached { IsReached self.old }
-        ensures ok { OnOk result (Steps self.old (line_at line.now) self.new) }
+    /// Does the line of that number, if it is the one that is due. It isn't listed.
+    fn redo(&mut self, number: u64, line: &Line) -> Result<(), ReplayRefusal>
+        requires led { IsLed self.old }
+        ensures ok { OnOk result (Redoes self.old (line_at line.now) self.new) }
         ensures misfit { IfErr result (IsMisfitHere self.old number line.now) }
-        ensures err { OnErr result (StaysIn self.old self.new) }
-        ensures reached { IsReached self.new }
+        ensures err { OnErr result (Rests (file_in self.old) (nodes_in self.old) (nodes_in self.new)) }
         ensures file { file_in self.new ≡ file_in self.old }
+        ensures history { self.new.history ≡ self.old.history }
     {
         let due = self.due_line(line.party, line.entry.event);
         if !is_the_line(&due, line) {
@@ -38,10 +39,31 @@ impl Course {
                 due,
             });
         }
-        match self.step(line.party, line.entry.event) {
+        match self.happen(line.party, line.entry.event) {
             Ok(_) => Ok(()),
             Err(StepRefusal::NoStep) => unreachable!(),
             Err(StepRefusal::NoMemory) => Err(ReplayRefusal::NoMemory),
+        }
+    }
+
+    /// Does the line of that number, if it is the one that is due, and lists it.
+    fn follow(&mut self, number: u64, line: &Line) -> Result<(), ReplayRefusal>
+        requires reached { IsReached self.old }
+        ensures ok { OnOk result (Steps self.old (line_at line.now) self.new) }
+        ensures misfit { IfErr result (IsMisfitHere self.old number line.now) }
+        ensures err { OnErr result (StaysIn self.old self.new) }
+        ensures reached { IsReached self.new }
+        ensures file { file_in self.new ≡ file_in self.old }
+    {
+        if self.history.reserve(1).is_err() {
+            return Err(ReplayRefusal::NoMemory);
+        }
+        match self.redo(number, line) {
+            Ok(()) => {
+                self.history.push_reserved(*line);
+                Ok(())
+            }
+            Err(refusal) => Err(refusal),
         }
     }
 
@@ -61,5 +83,24 @@ impl Course {
             }
         }
         Ok(())
+    }
+
+    /// Does all the lines from where nothing has happened, if each is the one that is due. They become
+    /// the history, which was empty.
+    pub fn replayed(mut self, lines: Vec<Line>) -> Result<Course, ReplayRefusal>
+        requires reached { IsReached self }
+        requires none { history_in self ≡ [] }
+        ensures reached { IfOk result (λ c. IsReached c) }
+        ensures file { IfOk result (λ c. file_in c ≡ file_in self) }
+        ensures history { IfOk result (λ c. history_in c ≡ map line_at lines.items) }
+        ensures misfit { IfErr result (IsMisfitFrom (file_in self) (map line_at lines.items)) }
+    {
+        for done in 0..lines.len() {
+            if let Err(refusal) = self.redo(done as u64 + 1, &lines[done]) {
+                return Err(refusal);
+            }
+        }
+        self.history = lines;
+        Ok(self)
     }
 }

@@ -1,18 +1,22 @@
 //! A core world before any event.
-ghost use Rattle.std.specs.Prelude.{◌≡◌, ℕ, [], IfOk, length};
+ghost use Rattle.std.specs.Prelude.{◌≡◌, ℕ, [], IfErr, IfOk, length, map};
 ghost use Rattle.sj_check.specs.Held.{file_in as held};
 ghost use Rattle.sj_core.specs.Course.{IsOfAccepted};
 ghost use Rattle.sj_core.specs.Nodes.{AreFirst};
+ghost use Rattle.sj_core.specs.Replaying.{IsMisfitFrom};
+ghost use Rattle.sj_core.specs.Views.{line_at};
 ghost use Rattle.sj_lang.specs.FileAt.{body_named};
 ghost use Rattle.sj_lang.specs.FileView.{file_of};
 ghost use Rattle.sj_plain.specs.Kept.{file_kept, without_words};
 ghost use Rattle.sj_rules.specs.Start.{core_start};
 ghost use Rattle.sj_table.specs.Spots.{start_in};
 
+use crate::ReplayRefusal;
 use crate::course::Course;
 use crate::world::World;
 use sj_base::NoMemory;
 use sj_check::Accepted;
+use sj_end::Line;
 use sj_node::Node;
 use sj_plain::{Kept, copied_file};
 use sj_table::Table;
@@ -83,6 +87,34 @@ impl World {
         let nodes = first_nodes(alloc, accepted)?;
         let kept = copied_file(alloc, accepted.file())?;
         Ok(World::begin(alloc, kept, nodes))
+    }
+
+    /// The world to which these lines lead from the file's start on, if each is the one that is due there.
+    /// They become its history, so that no line is copied.
+    pub fn replayed(
+        alloc: Global,
+        accepted: &Accepted,
+        lines: Vec<Line>,
+    ) -> Result<World, ReplayRefusal>
+        // The lines lead to it, each the one that is due.
+        ensures ok { IfOk result (λ w. IsHistory max (file_of (held accepted.now)) (map line_at lines.items) (world_at w)) }
+        ensures kept { IfOk result (λ w. kept_of w ≡ without_words (file_of (held accepted.now))) }
+        ensures history { IfOk result (λ w. history_of w ≡ map line_at lines.items) }
+
+        // What is true of every world.
+        ensures run { IfOk result (λ w. IsHistory max (kept_of w) (history_of w) (world_at w)) }
+        ensures parties { IfOk result (λ w. party_count w ≡ length (kept_of w).parties) }
+
+        // The first line that isn't the one that is due.
+        ensures misfit { IfErr result (IsMisfitFrom (file_of (held accepted.now)) (map line_at lines.items)) }
+    {
+        let nodes = first_nodes(alloc, accepted)?;
+        let kept = copied_file(alloc, accepted.file())?;
+        let course = Course::begin(alloc, kept, nodes);
+        match course.replayed(lines) {
+            Ok(course) => Ok(World { course }),
+            Err(refusal) => Err(refusal),
+        }
     }
 
     /// The world of nodes that stand at their start.

@@ -9,7 +9,7 @@ pub returns-in-Ok-clause-ok : goal.returns-in-Ok-clause-ok
 returns-in-Ok-clause-ok c =
     let nodes = c.args.self.now.nodes.items in
     let old = c.index_mut-node.result.now in
-    acted_as _ nodes c.args.party old c.noted.new.node c.requires.reached.seats
+    acted_as _ nodes c.args.party old c.noted.new.node c.requires.led.seats
     (slice_get_read nodes (length nodes) c.args.party old refl c.requires.there c.index_mut-node.ensures.value)
     c.act.new.self c.noted.result c.noted.ensures.rest c.noted.ensures.entry c.in-Ok.ensures.ok
 
@@ -18,7 +18,7 @@ returns-in-Ok-clause-none c =
     let nodes = c.args.self.now.nodes.items in
     let old = c.index_mut-node.result.now in
     is_a_step _ nodes c.args.party _ c.noted.result _
-    (acted_as _ nodes c.args.party old c.noted.new.node c.requires.reached.seats
+    (acted_as _ nodes c.args.party old c.noted.new.node c.requires.led.seats
     (slice_get_read nodes (length nodes) c.args.party old refl c.requires.there c.index_mut-node.ensures.value)
     c.act.new.self c.noted.result c.noted.ensures.rest c.noted.ensures.entry c.in-Ok.ensures.ok)
 
@@ -27,7 +27,7 @@ refusal_of-requires c =
     let nodes = c.args.self.now.nodes.items in
     let old = c.index_mut-node.result.now in
     let there = slice_get_read nodes (length nodes) c.args.party old refl c.requires.there c.index_mut-node.ensures.value in
-    λ unfit. not_unfit c.args.self.now c.requires.reached c.args.party old there c.in-Err.halt
+    λ unfit. not_unfit c.args.self.now c.requires.led c.args.party old there c.in-Err.halt
     (λ h. error_is _ _ (c.in-Err.ensures.ended.1 h)) (λ h. error_is _ _ (c.in-Err.ensures.at_limit.1 h)) (λ h. error_is _ _ (c.in-Err.ensures.waits.1 h))
     (λ h. c.in-Err.ensures.unfit (ap Err h)) unfit
 
@@ -36,13 +36,13 @@ returns-in-Err-clause-none c =
     let nodes = c.args.self.now.nodes.items in
     let old = c.index_mut-node.result.now in
     let there = slice_get_read nodes (length nodes) c.args.party old refl c.requires.there c.index_mut-node.ensures.value in (
-      λ no. no_step_of c.args.self.now c.requires.reached c.args.party old there c.in-Err.halt
+      λ no. no_step_of c.args.self.now c.requires.led c.args.party old there c.in-Err.halt
           (λ h. error_is _ _ (c.in-Err.ensures.ended.1 h)) (λ h. error_is _ _ (c.in-Err.ensures.at_limit.1 h)) (λ h. error_is _ _ (c.in-Err.ensures.waits.1 h))
           (c.refusal_of.ensures.0 (error_is _ _ no))
           (λ h. c.in-Err.ensures.ended.0 (ap Err h)) (λ h. c.in-Err.ensures.at_limit.0 (ap Err h)) (λ h. c.in-Err.ensures.waits.0 (ap Err h)),
       λ none. ap Err
           (c.refusal_of.ensures.1
-          (stops c.args.self.now c.requires.reached c.args.party old there c.in-Err.halt
+          (stops c.args.self.now c.requires.led c.args.party old there c.in-Err.halt
           (λ h. error_is _ _ (c.in-Err.ensures.ended.1 h)) (λ h. error_is _ _ (c.in-Err.ensures.at_limit.1 h)) (λ h. error_is _ _ (c.in-Err.ensures.waits.1 h)) none)),
     )
 
@@ -50,7 +50,7 @@ pub returns-in-Err-clause-err : goal.returns-in-Err-clause-err
 returns-in-Err-clause-err c =
     let nodes = c.args.self.now.nodes.items in
     let old = c.index_mut-node.result.now in
-    rests _ nodes c.args.party old c.act.new.self c.requires.reached.seats
+    rests _ nodes c.args.party old c.act.new.self c.requires.led.seats
     (slice_get_read nodes (length nodes) c.args.party old refl c.requires.there c.index_mut-node.ensures.value)
     c.in-Err.ensures.err
 
@@ -58,4 +58,4 @@ pub act-requires : goal.act-requires
 act-requires c =
     let nodes = c.args.self.now.nodes.items in
     let old = c.index_mut-node.result.now in
-    record { clock = low_node c.args.self.now c.requires.reached c.args.party old (slice_get_read nodes (length nodes) c.args.party old refl c.requires.there c.index_mut-node.ensures.value) }
+    record { clock = low_node c.args.self.now c.requires.led c.args.party old (slice_get_read nodes (length nodes) c.args.party old refl c.requires.there c.index_mut-node.ensures.value) }

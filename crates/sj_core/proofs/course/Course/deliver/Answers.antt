@@ -16,7 +16,7 @@ pub returns-in_default-clause-err : goal.returns-in_default-clause-err
 returns-in_default-clause-err c =
     let nodes = c.args.self.now.nodes.items in
     let giver = c.index_mut.result.now in
-    nothing_taken _ nodes c.args.party c.args.from giver c.take_out.new.self c.requires.reached.seats
+    nothing_taken _ nodes c.args.party c.args.from giver c.take_out.new.self c.requires.led.seats
     (slice_get_read nodes (length nodes) c.args.from giver refl c.requires.origin c.index_mut.ensures.value)
     c.in_default.ensures.none c.in_default.ensures.empty c.take_out.ensures.others c.take_out.ensures.rest
 
@@ -26,7 +26,7 @@ returns-in-Ok-clause-ok c =
     let giver = c.index_mut.result.now in
     let short = c.take_out.new.self in
     let old = c.index_mut-node.result.now in
-    delivered_as _ nodes c.args.party c.args.from giver short c.in-Some.frame c.requires.reached.seats
+    delivered_as _ nodes c.args.party c.args.from giver short c.in-Some.frame c.requires.led.seats
     (slice_get_read nodes (length nodes) c.args.from giver refl c.requires.origin c.index_mut.ensures.value)
     c.in-Some.ensures.some c.take_out.ensures.others c.take_out.ensures.rest
     old c.noted.new.node
@@ -40,7 +40,7 @@ returns-in-Ok-clause-none c =
     let short = c.take_out.new.self in
     let old = c.index_mut-node.result.now in
     is_a_step _ nodes c.args.party _ c.noted.result _
-    (delivered_as _ nodes c.args.party c.args.from giver short c.in-Some.frame c.requires.reached.seats
+    (delivered_as _ nodes c.args.party c.args.from giver short c.in-Some.frame c.requires.led.seats
     (slice_get_read nodes (length nodes) c.args.from giver refl c.requires.origin c.index_mut.ensures.value)
     c.in-Some.ensures.some c.take_out.ensures.others c.take_out.ensures.rest
     old c.noted.new.node
@@ -62,8 +62,8 @@ returns-in-Err-clause-none c =
     let nodes = c.args.self.now.nodes.items in
     let giver = c.index_mut.result.now in
     let there = slice_get_read nodes (length nodes) c.args.from giver refl c.requires.origin c.index_mut.ensures.value in
-    let fits = front_fits c.args.self.now c.requires.reached c.args.party c.args.from _ _
-    (lane_is _ nodes c.args.party c.args.from giver c.take_out.new.self c.in-Some.frame c.requires.reached.seats there c.in-Some.ensures.some c.take_out.ensures.others c.take_out.ensures.rest) in
+    let fits = front_fits c.args.self.now c.requires.led c.args.party c.args.from _ _
+    (lane_is _ nodes c.args.party c.args.from giver c.take_out.new.self c.in-Some.frame c.requires.led.seats there c.in-Some.ensures.some c.take_out.ensures.others c.take_out.ensures.rest) in
     (λ said. no_memory_is _ _ c.without_memory.ensures said, λ none. absurd (let it : Some fits.0 ≡ None = sym fits.1 ∙ none in cc it))
 
 pub returns-in-Err-clause-err : goal.returns-in-Err-clause-err
@@ -75,7 +75,7 @@ returns-in-Err-clause-err c =
     let new = c.deliver.new.self in
     let back = c.index_mut-in-Err.result.now in
     let some = set nodes c.args.from short in
-    put_back _ nodes c.args.party c.args.from giver short c.in-Some.frame c.requires.reached.seats
+    put_back _ nodes c.args.party c.args.from giver short c.in-Some.frame c.requires.led.seats
     (slice_get_read nodes (length nodes) c.args.from giver refl c.requires.origin c.index_mut.ensures.value)
     c.in-Some.ensures.some c.take_out.ensures.others c.take_out.ensures.rest
     old new
@@ -92,12 +92,12 @@ deliver-requires c =
     let giver = c.index_mut.result.now in
     let short = c.take_out.new.self in
     let old = c.index_mut-node.result.now in
-    low_now _ nodes c.args.party c.args.from giver short c.in-Some.frame c.requires.reached.seats
+    low_now _ nodes c.args.party c.args.from giver short c.in-Some.frame c.requires.led.seats
     (slice_get_read nodes (length nodes) c.args.from giver refl c.requires.origin c.index_mut.ensures.value)
     c.in-Some.ensures.some c.take_out.ensures.others c.take_out.ensures.rest
     old old
     (slice_get_read (set nodes c.args.from short) (length nodes) c.args.party old (sym (length-set nodes c.args.from short)) c.requires.there c.index_mut-node.ensures.value)
-    (low_clock c.args.self.now c.requires.reached c.args.party)
+    (low_clock c.args.self.now c.requires.led c.args.party)
 
 pub without_memory-requires : goal.without_memory-requires
 without_memory-requires c =
@@ -107,7 +107,7 @@ without_memory-requires c =
     let old = c.index_mut-node.result.now in
     let there = slice_get_read nodes (length nodes) c.args.from giver refl c.requires.origin c.index_mut.ensures.value in
     let here = slice_get_read (set nodes c.args.from short) (length nodes) c.args.party old (sym (length-set nodes c.args.from short)) c.requires.there c.index_mut-node.ensures.value in
-    let arrived = front_arrives c.args.self.now c.requires.reached c.args.party c.args.from _ _
-    (lane_is _ nodes c.args.party c.args.from giver short c.in-Some.frame c.requires.reached.seats there c.in-Some.ensures.some c.take_out.ensures.others c.take_out.ensures.rest) in
-    λ unfit. not_unfit _ nodes c.args.party c.args.from giver short c.in-Some.frame c.requires.reached.seats there c.in-Some.ensures.some c.take_out.ensures.others c.take_out.ensures.rest
+    let arrived = front_arrives c.args.self.now c.requires.led c.args.party c.args.from _ _
+    (lane_is _ nodes c.args.party c.args.from giver short c.in-Some.frame c.requires.led.seats there c.in-Some.ensures.some c.take_out.ensures.others c.take_out.ensures.rest) in
+    λ unfit. not_unfit _ nodes c.args.party c.args.from giver short c.in-Some.frame c.requires.led.seats there c.in-Some.ensures.some c.take_out.ensures.others c.take_out.ensures.rest
     old old here arrived.0 arrived.1 (refused_so c.in-Err.refusal _ unfit c.in-Err.ensures.unfit)

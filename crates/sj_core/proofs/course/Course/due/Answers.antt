@@ -11,11 +11,11 @@ use Rattle.sj_core.proofs.LawLemmas.{low_node}
 pub due-requires : goal.due-requires
 due-requires c =
     let nodes = c.args.self.now.nodes.items in
-    low_node c.args.self.now c.requires.reached c.args.party c.index.result.now (slice_get_read nodes (length nodes) c.args.party c.index.result.now refl c.requires.there c.index.ensures)
+    low_node c.args.self.now c.requires.led c.args.party c.index.result.now (slice_get_read nodes (length nodes) c.args.party c.index.result.now refl c.requires.there c.index.ensures)
 
 pub returns-in-Act : goal.returns-in-Act
 returns-in-Act c =
     let nodes = c.args.self.now.nodes.items in
     (λ i. due (play_of (file_in c.args.self.now)) max (world_in c.args.self.now) c.args.party (event_at (c.in-Act.is i)))
-    ∙ act_due c.args.self.now c.requires.reached c.args.party c.index.result.now (slice_get_read nodes (length nodes) c.args.party c.index.result.now refl c.requires.there c.index.ensures)
+    ∙ act_due c.args.self.now c.requires.led c.args.party c.index.result.now (slice_get_read nodes (length nodes) c.args.party c.index.result.now refl c.requires.there c.index.ensures)
     ∙ ap (option_map (line_with c.args.party)) (sym c.due.ensures)

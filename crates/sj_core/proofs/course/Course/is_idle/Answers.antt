@@ -9,14 +9,14 @@ use Rattle.sj_core.proofs.QuietLemmas.{due_of_still, empty_as, filled_as, lane_n
 pub due-requires : goal.due-requires
 due-requires c =
     let nodes = c.args.self.now.nodes.items in
-    low_node c.args.self.now c.requires.reached c.args.party c.index.result.now (slice_get_read nodes (length nodes) c.args.party c.index.result.now refl c.requires.there c.index.ensures)
+    low_node c.args.self.now c.requires.led c.args.party c.index.result.now (slice_get_read nodes (length nodes) c.args.party c.index.result.now refl c.requires.there c.index.ensures)
 
 pub returns-then-can_act : goal.returns-then-can_act
 returns-then-can_act c =
     let nodes = c.args.self.now.nodes.items in
     let there = slice_get_read nodes (length nodes) c.args.party c.index.result.now refl c.requires.there c.index.ensures in (
       λ t. absurd (cc t),
-      λ idle. let none : c.due.result ≡ None = c.due.ensures ∙ due_of_still c.args.self.now c.requires.reached c.args.party c.index.result.now there idle.still in absurd (grind (arith, common_steps, none)),
+      λ idle. let none : c.due.result ≡ None = c.due.ensures ∙ due_of_still c.args.self.now c.requires.led c.args.party c.index.result.now there idle.still in absurd (grind (arith, common_steps, none)),
     )
 
 pub returns-then-is_some : goal.returns-then-is_some
@@ -49,7 +49,7 @@ returns c =
     let none : c.due.result ≡ None = grind (arith, common_steps) in (
       λ t. record {
         empty = λ q lt. c.loop-from.invariant q (omega (arith, lt, c.loop-from-test.false, c.len-from-end.ensures));
-        still = still_of c.args.self.now c.requires.reached c.args.party c.index.result.now there (sym c.due.ensures ∙ none);
+        still = still_of c.args.self.now c.requires.led c.args.party c.index.result.now there (sym c.due.ensures ∙ none);
       },
       λ t. refl,
     )
