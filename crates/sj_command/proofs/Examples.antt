@@ -5,7 +5,7 @@ use Rattle.clap.specs.declared.error.kind.ErrorKind.TheVariants as kind
 use Rattle.clap.specs.Words.{fault_of}
 use Rattle.clap.proofs.OnLiterals.{clap_on_literals}
 use Rattle.sj_command.specs.CommandLine.{IsTaken, line}
-use Rattle.sj_command.specs.Task.{alone, line_in, running}
+use Rattle.sj_command.specs.Task.{alone, line_in, replaying, running}
 
 pub a_command_alone : line_in (codes "check" ∷ []) ≡ alone (codes "check") None
 unfolding clap_on_literals
@@ -30,6 +30,10 @@ a_command_and_the_option = refl
 pub the_option_has_a_sign : line_in (codes "--looks=5" ∷ codes "run" ∷ []) ≡ running false (Some (codes "5"))
 unfolding clap_on_literals
 the_option_has_a_sign = refl
+
+pub another_command_and_the_flag : line_in (codes "replay" ∷ codes "--log" ∷ []) ≡ replaying true
+unfolding clap_on_literals
+another_command_and_the_flag = refl
 
 -- a call for help is refused, and so no command
 pub help_is_no_command : fault_of line (codes "--help" ∷ []) ≡ kind.DisplayHelp ∷ []

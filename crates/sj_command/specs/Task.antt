@@ -2,7 +2,7 @@
 use Rattle.std.specs.Prelude.{◌≡◌, ◌≤◌, ℕ, Bool, true, false, List, Option, Some, None, codes, decimal}
 use Rattle.clap.specs.Words.{Text}
 use Rattle.sj_command.specs.declared.tasks.Task.{Task}
-use Rattle.sj_command.specs.declared.tasks.Task.TheVariants.{Check, Show, Sim, Run, Make, Big}
+use Rattle.sj_command.specs.declared.tasks.Task.TheVariants.{Check, Show, Sim, Run, Replay, Make, Big}
 use Rattle.sj_command.specs.CommandLine.{IsTaken, given}
 
 -- what a line has: a command and a number, a flag and an option
@@ -25,6 +25,10 @@ flag_text true = codes "true"
 abbrev pub running : (log : Bool) (looks : Option Text) → LineAt
 running log looks = record { command = Some (codes "run"); number = None; log = Some (flag_text log); looks = looks }
 
+-- `replay`, with that flag or without it
+abbrev pub replaying : (log : Bool) → LineAt
+replaying log = record { command = Some (codes "replay"); number = None; log = Some (flag_text log); looks = None }
+
 -- the looks of a line without the option
 abbrev pub usual_looks : ℕ
 usual_looks = 1000
@@ -44,6 +48,7 @@ Means line Check = line ≡ alone (codes "check") None
 Means line Show = line ≡ alone (codes "show") None
 Means line Sim = line ≡ alone (codes "sim") None
 Means line (Run log looks) = (line ≡ running log line.looks) × StandsForLooks line.looks looks
+Means line (Replay log) = line ≡ replaying log
 Means line (Make n) = (line ≡ alone (codes "make") (Some (decimal n))) × (1 ≤ n) × (n ≤ 1000)
 Means line (Big n) = (line ≡ alone (codes "big") (Some (decimal n))) × (1 ≤ n) × (n ≤ 1000)
 

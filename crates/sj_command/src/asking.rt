@@ -9,7 +9,7 @@ use crate::tasks::Task;
 use sj_base::NoMemory;
 use std::alloc::Global;
 
-/// What the words behind the program's name ask for. None where they are no command that is built.
+/// What the words behind the program's name ask for. None where they are no command.
 pub fn task_in(alloc: Global, words: &[String]) -> Result<Option<Task>, NoMemory>
     ensures asked { IfOk result (λ t. IfSome t (Asks (map string_bytes words.now))) }
     ensures usage { result ≡ Ok None → IsUsage (map string_bytes words.now) }
@@ -48,6 +48,9 @@ fn task_of(
     if name.as_bytes() == b"run".as_slice() {
         return run_in(number, log, looks);
     }
+    if name.as_bytes() == b"replay".as_slice() {
+        return replay_in(number, log, looks);
+    }
     match (flag_in(log), looks) {
         (Some(false), None) => task_named(name, number),
         _ => None,
@@ -75,6 +78,27 @@ fn run_in(number: Option<&str>, log: Option<&str>, looks: Option<&str>) -> Optio
     }
 }
 
+// `replay` with that number, that flag and that option.
+fn replay_in(number: Option<&str>, log: Option<&str>, looks: Option<&str>) -> Option<Task>
+    ensures some { IfSome result (Means (record {
+      command = Some (codes "replay");
+      number = option_map (λ s. s.now) number.entry;
+      log = option_map (λ s. s.now) log.entry;
+      looks = option_map (λ s. s.now) looks.entry;
+    })) }
+    ensures none { result ≡ None → (t : Asked) → Means (record {
+      command = Some (codes "replay");
+      number = option_map (λ s. s.now) number.entry;
+      log = option_map (λ s. s.now) log.entry;
+      looks = option_map (λ s. s.now) looks.entry;
+    }) t → ⊥ }
+{
+    match (number, flag_in(log), looks) {
+        (None, Some(log), None) => Some(Task::Replay { log }),
+        _ => None,
+    }
+}
+
 // Whether the flag is there.
 fn flag_in(flag: Option<&str>) -> Option<bool>
     ensures some { IfSome result (λ b. option_map (λ s. s.now) flag.entry ≡ Some (flag_text b)) }
@@ -93,7 +117,8 @@ fn flag_in(flag: Option<&str>) -> Option<bool>
 
 // The task of another name and that number, with no option.
 fn task_named(name: &str, number: Option<&str>) -> Option<Task>
-    requires other { name.now ≡ codes "run" → ⊥ }
+    requires run { name.now ≡ codes "run" → ⊥ }
+    requires replay { name.now ≡ codes "replay" → ⊥ }
     ensures some { IfSome result (Means (alone name.entry.now (option_map (λ s. s.now) number.entry))) }
     ensures none { result ≡ None → (t : Asked)
         → Means (alone name.entry.now (option_map (λ s. s.now) number.entry)) t → ⊥ }
@@ -110,7 +135,8 @@ fn task_named(name: &str, number: Option<&str>) -> Option<Task>
 
 // The task of another name, with no number.
 fn task_alone(name: &[u8]) -> Option<Task>
-    requires other { name.now ≡ codes "run" → ⊥ }
+    requires run { name.now ≡ codes "run" → ⊥ }
+    requires replay { name.now ≡ codes "replay" → ⊥ }
     ensures some { IfSome result (Means (alone name.now None)) }
     ensures none { result ≡ None → (t : Asked) → Means (alone name.now None) t → ⊥ }
 {

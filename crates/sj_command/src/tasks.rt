@@ -1,6 +1,6 @@
 //! What the program can be asked for.
 
-/// A command that is built, with what it needs.
+/// A command, with what it needs.
 #[derive(Clone, Copy, Debug, PartialEq, Eq)]
 pub enum Task {
     /// Checks a file and prints its counts.
@@ -12,6 +12,8 @@ pub enum Task {
     /// Runs a file and prints the transcript, and behind it the history where a log is asked for.
     /// A party that finds nothing to do looks again so many times, from 0 to 1,000,000.
     Run { log: bool, looks: u32 },
+    /// Replays the log behind a file, drains what is left, and prints as `Run` does.
+    Replay { log: bool },
     /// Prints the generated file with this many messages in each loop, from 1 to 1,000.
     Make(u16),
     /// Runs that file and prints a summary.

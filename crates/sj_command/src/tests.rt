@@ -17,7 +17,7 @@ fn run(log: bool, looks: u32) -> Task {
 
 #[test]
 fn words_of_commands(rt: HostRuntime) -> Result<(), Fail> {
-    let rows: [(&[&str], Task); 20] = [
+    let rows: [(&[&str], Task); 24] = [
         (&["check"], Task::Check),
         (&["show"], Task::Show),
         (&["sim"], Task::Sim),
@@ -31,6 +31,10 @@ fn words_of_commands(rt: HostRuntime) -> Result<(), Fail> {
         (&["run", "--looks", "1000000"], run(false, 1_000_000)),
         (&["run", "--log", "--looks", "5"], run(true, 5)),
         (&["--looks=1000", "--log", "run"], run(true, 1000)),
+        (&["replay"], Task::Replay { log: false }),
+        (&["replay", "--log"], Task::Replay { log: true }),
+        (&["--log", "replay"], Task::Replay { log: true }),
+        (&["--", "replay"], Task::Replay { log: false }),
         (&["make", "1"], Task::Make(1)),
         (&["make", "10"], Task::Make(10)),
         (&["make", "--", "999"], Task::Make(999)),
@@ -47,7 +51,7 @@ fn words_of_commands(rt: HostRuntime) -> Result<(), Fail> {
 
 #[test]
 fn words_of_no_command(rt: HostRuntime) -> Result<(), Fail> {
-    let rows: [&[&str]; 50] = [
+    let rows: [&[&str]; 55] = [
         &[],
         &[""],
         &["fly"],
@@ -93,7 +97,12 @@ fn words_of_no_command(rt: HostRuntime) -> Result<(), Fail> {
         &["big", "1001"],
         &["big", "--log", "1"],
         &["big", "1", "--looks", "5"],
-        &["replay"],
+        &["Replay"],
+        &["replay", "5"],
+        &["replay", "--looks", "5"],
+        &["replay", "--log", "--log"],
+        &["replay", "--log", "5"],
+        &["replay", "run"],
         &["--help"],
         &["run", "-h"],
         &["--version"],
