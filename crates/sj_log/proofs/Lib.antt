@@ -1,5 +1,6 @@
 pub mod Digits
 pub mod NameLemmas
+pub mod PartLemmas
 pub mod WordLemmas
 pub mod LogLemmas
 pub mod EventLemmas

@@ -5,3 +5,4 @@ pub mod Notes
 pub mod Values
 pub mod LogText
 pub mod Legible
+pub mod Parts

@@ -7,11 +7,13 @@ mod laws;
 mod lines;
 mod names;
 mod notes;
+mod parts;
 mod refusal;
 mod words;
 
 pub use laws::printed_lines_are_read;
 pub use lines::read_log;
+pub use parts::parted;
 pub use refusal::LogRefusal;
 
 #[cfg(test)]

@@ -1,5 +1,5 @@
 //! Logs of the format's examples, read, and what is no log.
-use crate::{LogRefusal, read_log};
+use crate::{LogRefusal, parted, read_log};
 use sj_base::{EndId, Msg};
 use sj_end::{Entry, Event, Line, Note};
 use sj_lang::{File, Names, Party, Words};
@@ -226,6 +226,28 @@ fn no_bytes_are_a_log_of_no_lines(rt: HostRuntime) -> Result<(), Fail> {
     match read_log(rt.alloc(), b"", &file) {
         Ok(lines) => assert_eq!(rt; lines.len(), 0),
         Err(_) => assert!(rt; false),
+    }
+    Ok(())
+}
+
+#[test]
+fn the_first_line_that_is_the_mark_parts(rt: HostRuntime) -> Result<(), Fail> {
+    let rows: [(&[u8], Option<(&[u8], &[u8])>); 12] = [
+        (b"", None),
+        (b"a\n", None),
+        (b"%%log", None),
+        (b"%%log\n", Some((b"", b""))),
+        (b"a\n%%log\n", Some((b"a\n", b""))),
+        (b"a%%log\nb\n", None),
+        (b"a\n%%log \nb\n", None),
+        (b"a\n%%log\r\nb\n", None),
+        (b"a\n %%log\nb\n", None),
+        (b"a\n%%log2\n%%log\nb", Some((b"a\n%%log2\n", b"b"))),
+        (b"a\n%%log\nb\n%%log\nc\n", Some((b"a\n", b"b\n%%log\nc\n"))),
+        (b"%%log\n%%log\n", Some((b"", b"%%log\n"))),
+    ];
+    for (source, parts) in rows {
+        assert_eq!(rt; parted(source), parts, "{source:?}");
     }
     Ok(())
 }
