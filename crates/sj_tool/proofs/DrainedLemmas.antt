@@ -1,5 +1,5 @@
--- A core world that the parties of a file left, and what was drained of it.
-use Rattle.std.proofs.Common.{◌≡◌, ◌∙◌, ℕ, max, true, List, ◌++◌, map, length, sym, subst}
+-- A core world to which given lines lead, and what is drained behind them.
+use Rattle.std.proofs.Common.{◌≡◌, ◌∙◌, ℕ, max, true, List, ◌++◌, map, length, refl, sym, subst}
 use Rattle.std.specs.Prelude.{Bool}
 use Rattle.sj_lang.specs.FileAt.{FileAt}
 use Rattle.sj_lang.specs.Place.{Place}
@@ -23,10 +23,11 @@ use Rattle.sj_rules_laws.proofs.RunLawsLemmas.{quiet_run_ends}
 use Rattle.sj_core.proofs.FirstLemmas.{core_start_same}
 use Rattle.sj_core.proofs.LawLemmas.{max_picks}
 use Rattle.sj_run.specs.Shown.{IsShown}
+use Rattle.sj_command.specs.declared.tasks.Task.{Task}
+use Rattle.sj_command.specs.declared.tasks.Task.TheVariants as tasks
 use Rattle.sj_tool.specs.Calls.{LinkUseAt}
-use Rattle.sj_command.specs.Task.{usual_looks}
-use Rattle.sj_tool.specs.Runs.{HasHistory, HasPlayed, HasRun, HasSummed, actors, log_part}
-use Rattle.sj_tool.specs.Sums.{summary}
+use Rattle.sj_tool.specs.Tasks.{RunsParties, looks_of}
+use Rattle.sj_tool.specs.Runs.{HasHistory, HasRun, IsGiven, IsTold, actors}
 
 -- a history of what is kept of a file is one of the file
 kept_history : (file kept : FileAt) (lines : List LineAt) (w : WorldAt Place Program) → kept ≡ without_words file → IsHistory max kept lines w → IsHistory max file lines w
@@ -34,51 +35,69 @@ kept_history file kept lines w is h =
     subst (λ (start : WorldAt Place Program). Rattle.sj_rules.specs.History.IsLog (play_of file) max start lines w) (core_start_same file)
     (subst (λ (f : FileAt). IsHistory max f lines w) is h)
 
-module _ (links : LinkUseAt) (looks : ℕ) (file first kept : FileAt) (of_file : first ≡ without_words file) (same : kept ≡ first) (n m : ℕ) (left core : WorldAt Place Program)
-    (lines more history : List LineAt) where
-  -- what the parties left, and what was drained of it
-  pub drained_has : n ≡ length first.parties → m ≡ length kept.parties → history ≡ lines ++ more → IsHistory max first lines left → (links.tells ≡ true → IsShown file looks links.keeps lines left)
-      → IsHistory max kept history core → IsDrained (play_of first) max n left (map turn_of more) core → IsQuietAmong (play_of kept) m core → HasHistory links looks file history core
-  drained_has all those listed parties shown run drained quiet =
+-- links that tell show what is given to a task that runs parties
+shown_given : (links : LinkUseAt) (task : Task) (log : List ℕ) (file : FileAt) (lines : List LineAt) (left : WorldAt Place Program) → RunsParties task
+    → (links.tells ≡ true → IsShown file (looks_of task) links.keeps lines left) → IsGiven links task log file lines left
+shown_given links tasks.Check log file lines left h shown = absurd h
+shown_given links tasks.Show log file lines left h shown = absurd h
+shown_given links tasks.Sim log file lines left h shown = absurd h
+shown_given links (tasks.Run l looks) log file lines left h shown = shown
+shown_given links (tasks.Replay l) log file lines left h shown = absurd h
+shown_given links (tasks.Make n) log file lines left h shown = absurd h
+shown_given links (tasks.Big n) log file lines left h shown = shown
+
+module _ (file first kept : FileAt) (of_file : first ≡ without_words file) (same : kept ≡ first) (n m : ℕ) (left core : WorldAt Place Program) (lines more history : List LineAt) where
+  -- what is drained is a history of the file, and leaves nothing to do
+  pub drained_quiet : m ≡ length kept.parties → IsHistory max kept history core → IsQuietAmong (play_of kept) m core → IsHistory max file history core × IsQuietAmong (play_of file) (length file.parties) core
+  drained_quiet those run quiet =
+      let all_kept = same ∙ of_file in
+      let rest : IsQuietAmong (play_of kept) (length kept.parties) core = subst (λ (k : ℕ). IsQuietAmong (play_of kept) k core) those quiet in
+      (kept_history file kept history core all_kept run, subst (λ (f : FileAt). IsQuietAmong (play_of f) (length f.parties) core) all_kept rest)
+
+  -- lines that are given, and what was drained behind them
+  pub drained_has : (links : LinkUseAt) (task : Task) (log : List ℕ) → n ≡ length first.parties → m ≡ length kept.parties → history ≡ lines ++ more → IsHistory max first lines left
+      → IsGiven links task log file lines left → IsHistory max kept history core → IsDrained (play_of first) max n left (map turn_of more) core → IsQuietAmong (play_of kept) m core
+      → HasHistory links task log file history core
+  drained_has links task log all those listed begins given run drained quiet =
       let by : IsDrained (play_of first) max (length first.parties) left (map turn_of more) core =
       subst (λ (k : ℕ). IsDrained (play_of first) max k left (map turn_of more) core) all drained in
-      let rest : IsQuietAmong (play_of kept) (length kept.parties) core = subst (λ (k : ℕ). IsQuietAmong (play_of kept) k core) those quiet in
-      let whole = same ∙ of_file in
+      let whole = drained_quiet those run quiet in
       record {
         lines = lines;
         left = left;
-        parties = kept_history file first lines left of_file parties;
-        shown = shown;
+        begins = kept_history file first lines left of_file begins;
+        given = given;
         more = more;
         all = listed;
         drained = subst (λ (f : FileAt). IsDrained (play_of f) max (length f.parties) left (map turn_of more) core) of_file by;
-        run = kept_history file kept history core whole run;
-        quiet = subst (λ (f : FileAt). IsQuietAmong (play_of f) (length f.parties) core) whole rest;
+        run = whole.0;
+        quiet = whole.1;
       }
 
-module _ (links : LinkUseAt) (looks : ℕ) (file : FileAt) (accepted : IsAccepted file) (history : List LineAt) (core : WorldAt Place Program) (has : HasHistory links looks file history core) where
-  -- its acts lead to the end of the file
-  pub drained_ends : IsRun file (actors history) (end_of file)
-  drained_ends = (quiet_run_ends file accepted (map turn_of history) core (log_runs (play_of file) max max_picks history (core_start file) core has.run) has.quiet).0
+  -- where parties ran
+  pub drained_ran : (links : LinkUseAt) (task : Task) (runs : RunsParties task) (log : List ℕ) → n ≡ length first.parties → m ≡ length kept.parties → history ≡ lines ++ more → IsHistory max first lines left
+      → (links.tells ≡ true → IsShown file (looks_of task) links.keeps lines left) → IsHistory max kept history core → IsDrained (play_of first) max n left (map turn_of more) core → IsQuietAmong (play_of kept) m core
+      → HasHistory links task log file history core
+  drained_ran links task runs log all those listed begins shown run drained quiet =
+      drained_has links task log all those listed begins (shown_given links task log file lines left runs shown) run drained quiet
 
-  -- so the world to which they lead is the one that is played
-  abbrev pub drained_plays : (w : World) → w ≡ end_of file → HasPlayed links looks file
-  drained_plays w is_end = record {
-    history = history;
-    core = core;
-    has = has;
-    end = w;
-    acts = subst (λ (x : World). IsRun file (actors history) x) (sym is_end) drained_ends;
-    settled = subst IsSettled (sym is_end) (end_is_settled file);
-    is_end = is_end;
-  }
+-- the acts of a history that leaves nothing to do lead to the end of the file
+pub quiet_ends : (file : FileAt) → IsAccepted file → (history : List LineAt) (core : WorldAt Place Program) → IsHistory max file history core → IsQuietAmong (play_of file) (length file.parties) core
+    → IsRun file (actors history) (end_of file)
+quiet_ends file accepted history core run quiet =
+    (quiet_run_ends file accepted (map turn_of history) core (log_runs (play_of file) max max_picks history (core_start file) core run) quiet).0
 
-  -- and what is told of it is what `run` answers
-  pub drained_runs : (log : Bool) (w : World) (v : Verdict) (text : List ℕ) → w ≡ end_of file → v ≡ verdict_of w → text ≡ transcript_of file w ++ log_part log file history
-      → HasRun links log looks file v text
-  drained_runs log w v text is_end stands printed = record { played = drained_plays w is_end; stands = stands; printed = printed }
-
--- or what `big` answers
-pub drained_sums : (links : LinkUseAt) (n : ℕ) (file : FileAt) (played : HasPlayed links usual_looks file) (v : Verdict) (text : List ℕ) → v ≡ verdict_of played.end → text ≡ summary n file played.end
-    → HasSummed links n file v text
-drained_sums links n file played v text stands printed = record { played = played; stands = stands; printed = printed }
+-- so what is told of it is what the task answers
+pub told_runs : (links : LinkUseAt) (task : Task) (log : List ℕ) (file : FileAt) → IsAccepted file → (history : List LineAt) (core : WorldAt Place Program) → HasHistory links task log file history core
+    → (v : Verdict) (text : List ℕ) → IsTold task file history v text → HasRun links task log file v text
+told_runs links task log file accepted history core has v text told = record {
+  history = history;
+  core = core;
+  has = has;
+  end = end_of file;
+  acts = quiet_ends file accepted history core has.run has.quiet;
+  settled = end_is_settled file;
+  is_end = refl;
+  stands = told.0;
+  printed = told.1;
+}

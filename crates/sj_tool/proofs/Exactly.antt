@@ -3,9 +3,9 @@ use Rattle.std.proofs.Common.{◌≡◌, ℕ, List, Option, Some, None, IfSome, 
 use Rattle.sj_base.specs.Stream.{put_behind}
 use Rattle.sj_tool.specs.declared.answers.Answer.{Answer}
 use Rattle.sj_tool.specs.Texts.{status_of, text_of}
-use Rattle.sj_tool.specs.Answers.{Comes, NoFaultAbove, OrYields}
+use Rattle.sj_tool.specs.Answers.{Comes, OrYields}
 use Rattle.sj_tool.specs.Calls.{CallAt, LinkUseAt}
-use Rattle.sj_tool.specs.Table.{AnswersAs}
+use Rattle.sj_tool.specs.Table.{AnswersAs, NoFaultAbove}
 use Rattle.sj_tool.proofs.Rows.{one_comes}
 
 abbrev pub call_at : List (List ℕ) → Option (List ℕ) → Option (List ℕ) → ℕ → ℕ → LinkUseAt → CallAt

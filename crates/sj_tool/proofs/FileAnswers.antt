@@ -1,53 +1,123 @@
 -- What answers a file answers its text, and what tells a refusal answers the file.
-use Rattle.std.proofs.Common.{◌≡◌, ℕ, true, List, Option, sym, subst}
-use Rattle.std.specs.Prelude.{option_map}
+use Rattle.std.proofs.Common.{◌≡◌, ℕ, true, List, Option, Result, Ok, Err, IfOk, inr, sym, subst}
+use Rattle.std.specs.Prelude.{option_map, max}
 use Rattle.sj_lang.specs.FileAt.{FileAt}
 use Rattle.sj_grammar.specs.Files.{IsFile}
 use Rattle.sj_acceptance.specs.Accepted.{IsAccepted}
 use Rattle.sj_command.specs.declared.tasks.Task.{Task}
 use Rattle.sj_end.specs.Lines.{line_at}
 use Rattle.sj_lane.specs.Told as lanes
+use Rattle.sj_log.specs.LogText.{SpellsLog}
+use Rattle.sj_rules.specs.History.{IsMisfit}
 use Rattle.sj_rules.specs.Log.{LineAt}
+use Rattle.sj_rules.specs.Party.{play_of}
+use Rattle.sj_rules.specs.Start.{core_start}
 use Rattle.sj_run.specs.Damage.{IsDamage, IsDamaged, IsDamagedSo}
 use Rattle.sj_run.specs.declared.refusal.RunRefusal.{RunRefusal}
 use Rattle.sj_run.specs.declared.refusal.RunRefusal.TheVariants as refusals
 use Rattle.sj_tool.specs.declared.answers.Answer.{Answer}
-use Rattle.sj_tool.specs.declared.answers.Answer.TheVariants.{Usage, ReadFault, TooLarge, Syntax, Check, LinkFault, Damaged, Ran, Printed, Made}
-use Rattle.sj_tool.specs.Answers.{AnswersFile, AnswersText, RunsParties}
+use Rattle.sj_tool.specs.declared.answers.Answer.TheVariants.{Usage, ReadFault, TooLarge, Syntax, Check, LogFault, Misfit, LinkFault, Damaged, Ran, Printed, Made}
+use Rattle.sj_tool.specs.declared.replaying.ReplayFault.{ReplayFault}
+use Rattle.sj_tool.specs.declared.replaying.ReplayFault.TheVariants as faults
+use Rattle.sj_tool.specs.Answers.{AnswersBytes, AnswersFile, AnswersText}
 use Rattle.sj_tool.specs.Calls.{LinkUseAt}
-use Rattle.sj_tool.specs.Damages.{IsDamagedBy, IsToldSo}
+use Rattle.sj_tool.specs.Entries.{IsDamagedBy, IsToldMisfit, IsToldSo}
+use Rattle.sj_tool.specs.Tasks.{HasParts, Replays as IsReplay, RunsParties}
+use Rattle.sj_tool.specs.Replays.{IsRefusedBy, IsToldFault}
 
-pub answers_text : (links : LinkUseAt) (task : Task) (bytes : List ℕ) (file : FileAt) (a : Answer) → IsFile bytes file → AnswersFile links task file a → AnswersText links task bytes a
-answers_text links task bytes file Usage stands x = absurd x
-answers_text links task bytes file ReadFault stands x = absurd x
-answers_text links task bytes file TooLarge stands x = absurd x
-answers_text links task bytes file (Syntax f) stands x = absurd x
-answers_text links task bytes file (Check r l) stands x = record { file = file; stands = stands; answers = x }
-answers_text links task bytes file LinkFault stands x = record { file = file; stands = stands; answers = x }
-answers_text links task bytes file (Damaged t) stands x = record { file = file; stands = stands; answers = x }
-answers_text links task bytes file (Ran v t) stands x = record { file = file; stands = stands; answers = x }
-answers_text links task bytes file (Printed t) stands x = record { file = file; stands = stands; answers = x }
-answers_text links task bytes file (Made t) stands x = absurd x
+-- ---- from a file to its text, and from there to the bytes
 
-damaged_answers : (links : LinkUseAt) (task : Task) (runs : RunsParties task) (file : FileAt) (number : ℕ) (logged : LineAt) (other : Option LineAt) (a : Answer) → IsAccepted file → (links.tells ≡ true → ⊥)
-    → IsDamage file number logged other → IsDamagedBy file number logged other a → AnswersFile links task file a
-damaged_answers links task runs file number logged other (Damaged t) ok blind damage by =
+pub answers_text : (links : LinkUseAt) (task : Task) (log text : List ℕ) (file : FileAt) (a : Answer) → IsFile text file → AnswersFile links task log file a → AnswersText links task log text a
+answers_text links task log text file Usage stands x = absurd x
+answers_text links task log text file ReadFault stands x = absurd x
+answers_text links task log text file TooLarge stands x = absurd x
+answers_text links task log text file (Syntax f) stands x = absurd x
+answers_text links task log text file (Check r l) stands x = record { file = file; stands = stands; answers = x }
+answers_text links task log text file (LogFault r l) stands x = record { file = file; stands = stands; answers = x }
+answers_text links task log text file (Misfit t) stands x = record { file = file; stands = stands; answers = x }
+answers_text links task log text file LinkFault stands x = record { file = file; stands = stands; answers = x }
+answers_text links task log text file (Damaged t) stands x = record { file = file; stands = stands; answers = x }
+answers_text links task log text file (Ran v t) stands x = record { file = file; stands = stands; answers = x }
+answers_text links task log text file (Printed t) stands x = record { file = file; stands = stands; answers = x }
+answers_text links task log text file (Made t) stands x = absurd x
+
+-- the same of a result, whatever links and log there are, or one of them
+module _ {E : Type 0} (task : Task) (text : List ℕ) (file : FileAt) (stands : IsFile text file) where
+  pub any_answers : (links : LinkUseAt) (log : List ℕ) (r : Result Answer E) → IfOk r (λ a. (l : LinkUseAt) (bytes : List ℕ) → AnswersFile l task bytes file a) → IfOk r (AnswersText links task log text)
+  any_answers links log (Ok a) x = answers_text links task log text file a stands (x links log)
+  any_answers links log (Err e) x = tt
+
+  pub links_answers : (links : LinkUseAt) (log : List ℕ) (r : Result Answer E) → IfOk r (λ a. (bytes : List ℕ) → AnswersFile links task bytes file a) → IfOk r (AnswersText links task log text)
+  links_answers links log (Ok a) x = answers_text links task log text file a stands (x log)
+  links_answers links log (Err e) x = tt
+
+  pub log_answers : (links : LinkUseAt) (log : List ℕ) (r : Result Answer E) → IfOk r (λ a. (l : LinkUseAt) → AnswersFile l task log file a) → IfOk r (AnswersText links task log text)
+  log_answers links log (Ok a) x = answers_text links task log text file a stands (x links)
+  log_answers links log (Err e) x = tt
+
+pub answers_bytes : (links : LinkUseAt) (task : Task) (bytes text log : List ℕ) (a : Answer) → HasParts task bytes text log → AnswersText links task log text a → AnswersBytes links task bytes a
+answers_bytes links task bytes text log Usage parts x = record { text = text; log = log; parts = parts; answers = x }
+answers_bytes links task bytes text log ReadFault parts x = record { text = text; log = log; parts = parts; answers = x }
+answers_bytes links task bytes text log TooLarge parts x = absurd x.answers
+answers_bytes links task bytes text log (Syntax f) parts x = record { text = text; log = log; parts = parts; answers = x }
+answers_bytes links task bytes text log (Check r l) parts x = record { text = text; log = log; parts = parts; answers = x }
+answers_bytes links task bytes text log (LogFault r l) parts x = inr (record { text = text; log = log; parts = parts; answers = x })
+answers_bytes links task bytes text log (Misfit t) parts x = record { text = text; log = log; parts = parts; answers = x }
+answers_bytes links task bytes text log LinkFault parts x = record { text = text; log = log; parts = parts; answers = x }
+answers_bytes links task bytes text log (Damaged t) parts x = record { text = text; log = log; parts = parts; answers = x }
+answers_bytes links task bytes text log (Ran v t) parts x = record { text = text; log = log; parts = parts; answers = x }
+answers_bytes links task bytes text log (Printed t) parts x = record { text = text; log = log; parts = parts; answers = x }
+answers_bytes links task bytes text log (Made t) parts x = record { text = text; log = log; parts = parts; answers = x }
+
+-- ---- what tells a refusal
+
+damaged_answers : (links : LinkUseAt) (task : Task) (runs : RunsParties task) (log : List ℕ) (file : FileAt) (number : ℕ) (logged : LineAt) (other : Option LineAt) (a : Answer) → IsAccepted file → (links.tells ≡ true → ⊥)
+    → IsDamage file number logged other → IsDamagedBy file number logged other a → AnswersFile links task log file a
+damaged_answers links task runs log file number logged other Usage ok blind damage by = absurd by
+damaged_answers links task runs log file number logged other ReadFault ok blind damage by = absurd by
+damaged_answers links task runs log file number logged other TooLarge ok blind damage by = absurd by
+damaged_answers links task runs log file number logged other (Syntax f) ok blind damage by = absurd by
+damaged_answers links task runs log file number logged other (Check r l) ok blind damage by = absurd by
+damaged_answers links task runs log file number logged other (LogFault r l) ok blind damage by = absurd by
+damaged_answers links task runs log file number logged other (Misfit t) ok blind damage by = absurd by
+damaged_answers links task runs log file number logged other LinkFault ok blind damage by = absurd by
+damaged_answers links task runs log file number logged other (Damaged t) ok blind damage by =
     (ok, runs, blind, record { number = number; logged = logged; other = other; damage = damage; told = by })
-damaged_answers links task runs file number logged other Usage ok blind damage by = absurd by
-damaged_answers links task runs file number logged other ReadFault ok blind damage by = absurd by
-damaged_answers links task runs file number logged other TooLarge ok blind damage by = absurd by
-damaged_answers links task runs file number logged other (Syntax f) ok blind damage by = absurd by
-damaged_answers links task runs file number logged other (Check r l) ok blind damage by = absurd by
-damaged_answers links task runs file number logged other LinkFault ok blind damage by = absurd by
-damaged_answers links task runs file number logged other (Ran v t) ok blind damage by = absurd by
-damaged_answers links task runs file number logged other (Printed t) ok blind damage by = absurd by
-damaged_answers links task runs file number logged other (Made t) ok blind damage by = absurd by
+damaged_answers links task runs log file number logged other (Ran v t) ok blind damage by = absurd by
+damaged_answers links task runs log file number logged other (Printed t) ok blind damage by = absurd by
+damaged_answers links task runs log file number logged other (Made t) ok blind damage by = absurd by
+
+misfit_answers : (links : LinkUseAt) (task : Task) (replays : IsReplay task) (log : List ℕ) (file : FileAt) (lines : List LineAt) (number : ℕ) (logged : LineAt) (other : Option LineAt) (a : Answer) → IsAccepted file
+    → SpellsLog file log lines → IsMisfit (play_of file) max (core_start file) lines number logged other → IsToldMisfit file number logged other a → AnswersFile links task log file a
+misfit_answers links task replays log file lines number logged other Usage ok spells misfit by = absurd by
+misfit_answers links task replays log file lines number logged other ReadFault ok spells misfit by = absurd by
+misfit_answers links task replays log file lines number logged other TooLarge ok spells misfit by = absurd by
+misfit_answers links task replays log file lines number logged other (Syntax f) ok spells misfit by = absurd by
+misfit_answers links task replays log file lines number logged other (Check r l) ok spells misfit by = absurd by
+misfit_answers links task replays log file lines number logged other (LogFault r l) ok spells misfit by = absurd by
+misfit_answers links task replays log file lines number logged other (Misfit t) ok spells misfit by =
+    (ok, replays, record { lines = lines; spells = spells; number = number; logged = logged; other = other; misfit = misfit; told = by })
+misfit_answers links task replays log file lines number logged other LinkFault ok spells misfit by = absurd by
+misfit_answers links task replays log file lines number logged other (Damaged t) ok spells misfit by = absurd by
+misfit_answers links task replays log file lines number logged other (Ran v t) ok spells misfit by = absurd by
+misfit_answers links task replays log file lines number logged other (Printed t) ok spells misfit by = absurd by
+misfit_answers links task replays log file lines number logged other (Made t) ok spells misfit by = absurd by
 
 -- a refusal of the parties' run, told by the answer
-pub told_answers : (links : LinkUseAt) (task : Task) (runs : RunsParties task) (file : FileAt) (r : RunRefusal) (a : Answer) → IsAccepted file → (r ≡ refusals.LinkFault → lanes.Rose links.faults links.faults_after)
-    → IsDamagedSo file r → (IsDamaged r → links.tells ≡ true → ⊥) → IsToldSo file r a → AnswersFile links task file a
-told_answers links task runs file refusals.LinkFault a ok rose damage blind told =
-    subst (λ (b : Answer). AnswersFile links task file b) (sym told) (ok, runs, rose (λ i. refusals.LinkFault))
-told_answers links task runs file (refusals.Damaged number logged other) a ok rose damage blind told =
-    damaged_answers links task runs file number (line_at logged) (option_map line_at other) a ok (blind (tt {0})) damage told
-told_answers links task runs file refusals.NoMemory a ok rose damage blind told = absurd told
+pub told_answers : (links : LinkUseAt) (task : Task) (runs : RunsParties task) (log : List ℕ) (file : FileAt) (r : RunRefusal) (a : Answer) → IsAccepted file → (r ≡ refusals.LinkFault → lanes.Rose links.faults links.faults_after)
+    → IsDamagedSo file r → (IsDamaged r → links.tells ≡ true → ⊥) → IsToldSo file r a → AnswersFile links task log file a
+told_answers links task runs log file refusals.LinkFault a ok rose damage blind told =
+    subst (λ (b : Answer). AnswersFile links task log file b) (sym told) (ok, runs, rose (λ i. refusals.LinkFault))
+told_answers links task runs log file (refusals.Damaged number logged other) a ok rose damage blind told =
+    damaged_answers links task runs log file number (line_at logged) (option_map line_at other) a ok (blind (tt {0})) damage told
+told_answers links task runs log file refusals.NoMemory a ok rose damage blind told = absurd told
+
+-- a fault of a replay, told by the answer
+pub fault_answers : (links : LinkUseAt) (task : Task) (replays : IsReplay task) (log : List ℕ) (file : FileAt) (r : ReplayFault) (a : Answer) → IsAccepted file → IsRefusedBy file log r → IsToldFault file r a
+    → AnswersFile links task log file a
+fault_answers links task replays log file (faults.Text rule line) a ok fault told =
+    subst (λ (z : Answer). AnswersFile links task log file z) (sym told) (ok, replays, fault)
+fault_answers links task replays log file (faults.Entry number logged other) a ok refused told =
+    let (lines, spells, misfit) = refused in
+    misfit_answers links task replays log file lines number (line_at logged) (option_map line_at other) a ok spells misfit told
+fault_answers links task replays log file faults.NoMemory a ok refused told = absurd told

@@ -16,11 +16,12 @@ use Rattle.sj_command.specs.declared.tasks.Task.{Task}
 use Rattle.sj_command.specs.declared.tasks.Task.TheVariants as tasks
 use Rattle.sj_command.proofs.OneTask.{one_task}
 use Rattle.sj_tool.specs.declared.answers.Answer.{Answer}
-use Rattle.sj_tool.specs.declared.answers.Answer.TheVariants.{Usage, ReadFault, TooLarge, Syntax, Check, LinkFault, Damaged, Ran, Printed, Made}
-use Rattle.sj_tool.specs.Answers.{AsksFor, Plays, Prints, Makes, Comes}
+use Rattle.sj_tool.specs.declared.answers.Answer.TheVariants.{Usage, ReadFault, TooLarge, Syntax, Check, LogFault, Misfit, LinkFault, Damaged, Ran, Printed, Made}
+use Rattle.sj_tool.specs.Answers.{Comes, Makes}
 use Rattle.sj_tool.specs.Calls.{CallAt, LinkUseAt}
 use Rattle.sj_tool.specs.Headline.{IsLogging, IsPlaying, IsVerdict, HasHeadline}
-use Rattle.sj_tool.specs.Runs.{log_part}
+use Rattle.sj_tool.specs.Tasks.{AsksFor}
+use Rattle.sj_tool.specs.Runs.{HasRun, Plays, Prints, log_part}
 use Rattle.sj_tool.specs.Texts.{status_of, text_of, verdict_status}
 use Rattle.sj_tool.proofs.Exactly.{call_at}
 use Rattle.sj_tool.proofs.InputLemmas.{playing_reads, read_of}
@@ -38,24 +39,36 @@ pub record IsPlayedSo (task : Task) (file : FileAt) (verdict : Verdict) (text : 
   pub printed : text ≡ transcript_of file (end_of file) ++ behind
   pub bare : (IsLogging task → ⊥) → behind ≡ []
 
-pub played_so : (links : LinkUseAt) (task : Task) (file : FileAt) (v : Verdict) (text : List ℕ) → IsPlaying task → Plays links task file v text → IsPlayedSo task file v text
-played_so links tasks.Check file v text plays p = absurd plays
-played_so links tasks.Show file v text plays p = absurd plays
-played_so links (tasks.Make n) file v text plays p = absurd plays
-played_so links (tasks.Big n) file v text plays p = absurd plays
-played_so links tasks.Sim file v text plays p = record { behind = []; stands = p.0; printed = p.1 ∙ sym (append-nil (transcript_of file (end_of file))); bare = λ no. refl }
-played_so links (tasks.Run false looks) file v text plays p = record {
+-- the transcript alone, of a run
+bare_so : (links : LinkUseAt) (task : Task) (log : List ℕ) (file : FileAt) (v : Verdict) (text : List ℕ) (p : HasRun links task log file v text) → text ≡ transcript_of file p.end ++ [] → IsPlayedSo task file v text
+bare_so links task log file v text p e = record {
   behind = [];
-  stands = p.stands ∙ ap verdict_of p.played.is_end;
-  printed = p.printed ∙ ap (λ w. transcript_of file w ++ []) p.played.is_end;
+  stands = p.stands ∙ ap verdict_of p.is_end;
+  printed = e ∙ ap (λ w. transcript_of file w ++ []) p.is_end;
   bare = λ no. refl;
 }
-played_so links (tasks.Run true looks) file v text plays p = record {
-  behind = log_part true file p.played.history;
-  stands = p.stands ∙ ap verdict_of p.played.is_end;
-  printed = p.printed ∙ ap (λ w. transcript_of file w ++ log_part true file p.played.history) p.played.is_end;
-  bare = λ no. absurd (no tt);
+
+-- with the history behind it
+logged_so : (links : LinkUseAt) (task : Task) (log : List ℕ) (file : FileAt) (v : Verdict) (text : List ℕ) (logs : IsLogging task) (p : HasRun links task log file v text)
+    → text ≡ transcript_of file p.end ++ log_part true file p.history → IsPlayedSo task file v text
+logged_so links task log file v text logs p e = record {
+  behind = log_part true file p.history;
+  stands = p.stands ∙ ap verdict_of p.is_end;
+  printed = e ∙ ap (λ w. transcript_of file w ++ log_part true file p.history) p.is_end;
+  bare = λ no. absurd (no logs);
 }
+
+pub played_so : (links : LinkUseAt) (task : Task) (log : List ℕ) (file : FileAt) (v : Verdict) (text : List ℕ) → IsPlaying task → Plays links task log file v text → IsPlayedSo task file v text
+played_so links tasks.Check log file v text plays p = absurd plays
+played_so links tasks.Show log file v text plays p = absurd plays
+played_so links (tasks.Make n) log file v text plays p = absurd plays
+played_so links (tasks.Big n) log file v text plays p = absurd plays
+played_so links tasks.Sim log file v text plays p =
+    record { behind = []; stands = p.0; printed = p.1 ∙ sym (append-nil (transcript_of file (end_of file))); bare = λ no. refl }
+played_so links (tasks.Run false looks) log file v text plays p = bare_so links (tasks.Run false looks) log file v text p p.printed
+played_so links (tasks.Run true looks) log file v text plays p = logged_so links (tasks.Run true looks) log file v text tt p p.printed
+played_so links (tasks.Replay false) log file v text plays p = bare_so links (tasks.Replay false) log file v text p p.printed
+played_so links (tasks.Replay true) log file v text plays p = logged_so links (tasks.Replay true) log file v text tt p p.printed
 
 -- ---- no other status is a verdict's
 
@@ -74,6 +87,7 @@ beyond Long n above e = omega (arith, above, e)
 prints_none : (task : Task) (file : FileAt) (text : List ℕ) → IsPlaying task → Prints task file text → ⊥
 prints_none tasks.Sim file text plays p = p
 prints_none (tasks.Run log looks) file text plays p = p
+prints_none (tasks.Replay log) file text plays p = p
 prints_none tasks.Check file text plays p = plays
 prints_none tasks.Show file text plays p = plays
 prints_none (tasks.Make n) file text plays p = plays
@@ -89,21 +103,26 @@ module _ (c : CallAt) (status : ℕ) (before after : Option (List ℕ)) (verdict
   answer_has_it TooLarge x e d = absurd (no_refusal verdict.0 status (omega (arith, e)) (omega (arith, e)) verdict.1)
   answer_has_it (Syntax f) x e d = absurd (no_refusal verdict.0 status (omega (arith, e)) (omega (arith, e)) verdict.1)
   answer_has_it (Check r l) x e d = absurd (no_refusal verdict.0 status (omega (arith, e)) (omega (arith, e)) verdict.1)
+  answer_has_it (LogFault r l) x e d = absurd (beyond verdict.0 status (omega (arith, e)) verdict.1)
+  answer_has_it (Misfit t) x e d = absurd (beyond verdict.0 status (omega (arith, e)) verdict.1)
   answer_has_it LinkFault x e d = absurd (beyond verdict.0 status (omega (arith, e)) verdict.1)
   answer_has_it (Damaged t) x e d = absurd (beyond verdict.0 status (omega (arith, e)) verdict.1)
   answer_has_it (Ran v t) x e d =
-      let file = x.answers.file in
-      let a = x.answers.answers in
+      let its = x.answers.answers in
+      let file = its.file in
+      let a = its.answers in
       let kind = subst IsPlaying (one_task c.words plays.task x.task plays.asks x.asks) plays.kind in
       let read = read_of c x.task x.bytes (playing_reads x.task kind) x.input in
-      let p = played_so c.links x.task file v t.items kind a.1 in
+      let p = played_so c.links x.task x.answers.log file v t.items kind a.1 in
       let h = end_has_it file a.0 in
       record {
         bytes = x.bytes;
         came = read.came;
         all = read.all;
+        text = x.answers.text;
+        has = record { task = x.task; asks = x.asks; kind = (x.answers.log, x.answers.parts) };
         file = file;
-        stands = x.answers.stands;
+        stands = its.stands;
         accepted = a.0;
         acts = h.0;
         end = end_of file;
@@ -114,7 +133,7 @@ module _ (c : CallAt) (status : ℕ) (before after : Option (List ℕ)) (verdict
         bare = λ no. p.bare (λ log. no (record { task = x.task; asks = x.asks; kind = log }));
       }
   answer_has_it (Printed t) x e d =
-      absurd (prints_none x.task x.answers.file t.items (subst IsPlaying (one_task c.words plays.task x.task plays.asks x.asks) plays.kind) x.answers.answers)
+      absurd (prints_none x.task x.answers.answers.file t.items (subst IsPlaying (one_task c.words plays.task x.task plays.asks x.asks) plays.kind) x.answers.answers.answers)
   answer_has_it (Made t) x e d = absurd (makes_none c t.items plays x)
 
 -- the answer that is written has it

@@ -1,11 +1,13 @@
--- Where the text of a task's file comes from.
+-- Where the bytes of a task come from, and their parts.
 use Rattle.std.proofs.Common.{◌≡◌, ◌∙◌, ℕ, List, [], Option, Some, None, IfSome, ◌++◌, ap, sym, append-nil}
-use Rattle.sj_base.specs.Stream.{put_before}
+use Rattle.sj_base.specs.Stream.{CameOf, put_before}
 use Rattle.sj_command.specs.declared.tasks.Task.{Task}
 use Rattle.sj_command.specs.declared.tasks.Task.TheVariants as tasks
-use Rattle.sj_tool.specs.Answers.{HasInput, IsRead, Reads}
+use Rattle.sj_log.proofs.PartLemmas.{one_parting}
+use Rattle.sj_tool.specs.Answers.{Came}
 use Rattle.sj_tool.specs.Calls.{CallAt}
 use Rattle.sj_tool.specs.Headline.{IsPlaying}
+use Rattle.sj_tool.specs.Tasks.{HasInput, HasParts, IsRead, Reads, limit_of}
 
 -- where all was taken, it is what was left
 pub told_bytes : (left : List ℕ) (after : Option (List ℕ)) (bytes : List ℕ) → Some left ≡ put_before bytes after → IfSome after (λ rest. rest ≡ []) → left ≡ bytes
@@ -15,35 +17,31 @@ told_bytes left (Some rest) bytes e all =
     same ∙ ap (λ r. bytes ++ r) all ∙ append-nil bytes
 
 -- what is read is what was left
-pub read_bytes : (c : CallAt) (left bytes : List ℕ) → c.left ≡ Some left → IsRead c bytes → left ≡ bytes
-read_bytes c left bytes e x = told_bytes left c.left_after bytes (sym e ∙ x.came) x.all
+pub read_bytes : (c : CallAt) (task : Task) (left bytes : List ℕ) → c.left ≡ Some left → IsRead c task bytes → left ≡ bytes
+read_bytes c task left bytes e x = told_bytes left c.left_after bytes (sym e ∙ x.came) x.all
 
--- a task has one text
+two_reads : (c : CallAt) (task : Task) (left s t : List ℕ) → c.left ≡ Some left → IsRead c task s → IsRead c task t → s ≡ t
+two_reads c task left s t e x y = sym (read_bytes c task left s e x) ∙ read_bytes c task left t e y
+
+-- a task has one input
 pub one_input : (c : CallAt) (left : List ℕ) → c.left ≡ Some left → (task : Task) (s t : List ℕ) → HasInput c task s → HasInput c task t → s ≡ t
-one_input c left e tasks.Check s t x y = sym (read_bytes c left s e x) ∙ read_bytes c left t e y
-one_input c left e tasks.Show s t x y = sym (read_bytes c left s e x) ∙ read_bytes c left t e y
-one_input c left e tasks.Sim s t x y = sym (read_bytes c left s e x) ∙ read_bytes c left t e y
-one_input c left e (tasks.Run log looks) s t x y = sym (read_bytes c left s e x) ∙ read_bytes c left t e y
-one_input c left e (tasks.Make n) s t x y = sym (read_bytes c left s e x) ∙ read_bytes c left t e y
+one_input c left e tasks.Check s t x y = two_reads c tasks.Check left s t e x y
+one_input c left e tasks.Show s t x y = two_reads c tasks.Show left s t e x y
+one_input c left e tasks.Sim s t x y = two_reads c tasks.Sim left s t e x y
+one_input c left e (tasks.Run log looks) s t x y = two_reads c (tasks.Run log looks) left s t e x y
+one_input c left e (tasks.Replay log) s t x y = two_reads c (tasks.Replay log) left s t e x y
+one_input c left e (tasks.Make n) s t x y = two_reads c (tasks.Make n) left s t e x y
 one_input c left e (tasks.Big n) s t x y = x.1 ∙ sym y.1
 
 -- a task that reads has what is read
-pub read_of : (c : CallAt) (task : Task) (bytes : List ℕ) → Reads task → HasInput c task bytes → IsRead c bytes
+pub read_of : (c : CallAt) (task : Task) (bytes : List ℕ) → Reads task → HasInput c task bytes → IsRead c task bytes
 read_of c tasks.Check bytes reads x = x
 read_of c tasks.Show bytes reads x = x
 read_of c tasks.Sim bytes reads x = x
 read_of c (tasks.Run log looks) bytes reads x = x
+read_of c (tasks.Replay log) bytes reads x = x
 read_of c (tasks.Make n) bytes reads x = absurd reads
 read_of c (tasks.Big n) bytes reads x = absurd reads
-
--- and what is read is its text
-pub input_of : (c : CallAt) (task : Task) (bytes : List ℕ) → Reads task → IsRead c bytes → HasInput c task bytes
-input_of c tasks.Check bytes reads x = x
-input_of c tasks.Show bytes reads x = x
-input_of c tasks.Sim bytes reads x = x
-input_of c (tasks.Run log looks) bytes reads x = x
-input_of c (tasks.Make n) bytes reads x = absurd reads
-input_of c (tasks.Big n) bytes reads x = absurd reads
 
 -- no fault was counted
 pub no_fault_of : (c : CallAt) (task : Task) (bytes : List ℕ) → HasInput c task bytes → c.faults_after ≡ c.faults
@@ -51,6 +49,7 @@ no_fault_of c tasks.Check bytes x = x.no_fault
 no_fault_of c tasks.Show bytes x = x.no_fault
 no_fault_of c tasks.Sim bytes x = x.no_fault
 no_fault_of c (tasks.Run log looks) bytes x = x.no_fault
+no_fault_of c (tasks.Replay log) bytes x = x.no_fault
 no_fault_of c (tasks.Make n) bytes x = x.no_fault
 no_fault_of c (tasks.Big n) bytes x = let (unread, made) = x in unread.1
 
@@ -58,7 +57,28 @@ no_fault_of c (tasks.Big n) bytes x = let (unread, made) = x in unread.1
 pub playing_reads : (task : Task) → IsPlaying task → Reads task
 playing_reads tasks.Sim plays = tt
 playing_reads (tasks.Run log looks) plays = tt
+playing_reads (tasks.Replay log) plays = tt
 playing_reads tasks.Check plays = absurd plays
 playing_reads tasks.Show plays = absurd plays
 playing_reads (tasks.Make n) plays = absurd plays
 playing_reads (tasks.Big n) plays = absurd plays
+
+-- a task for which so many bytes came reads, and they came
+pub reads_of : (P : ℕ → ℕ → Type 0) (c : CallAt) (x : Came P c) → Reads x.task
+reads_of P c x = let (reads, came) = x.kind in reads
+
+pub came_of : (P : ℕ → ℕ → Type 0) (c : CallAt) (x : Came P c) → CameOf (λ n. P n (limit_of x.task)) c.left c.left_after
+came_of P c x = let (reads, came) = x.kind in came
+
+-- what a task takes has one text, and one log
+whole : (bytes s l t m : List ℕ) → (s ≡ bytes) × (l ≡ []) → (t ≡ bytes) × (m ≡ []) → (s ≡ t) × (l ≡ m)
+whole bytes s l t m x y = (x.0 ∙ sym y.0, x.1 ∙ sym y.1)
+
+pub one_part : (task : Task) (bytes s l t m : List ℕ) → HasParts task bytes s l → HasParts task bytes t m → (s ≡ t) × (l ≡ m)
+one_part tasks.Check bytes s l t m x y = whole bytes s l t m x y
+one_part tasks.Show bytes s l t m x y = whole bytes s l t m x y
+one_part tasks.Sim bytes s l t m x y = whole bytes s l t m x y
+one_part (tasks.Run log looks) bytes s l t m x y = whole bytes s l t m x y
+one_part (tasks.Replay log) bytes s l t m x y = one_parting bytes s l t m x.0 y.0
+one_part (tasks.Make n) bytes s l t m x y = whole bytes s l t m x y
+one_part (tasks.Big n) bytes s l t m x y = whole bytes s l t m x y

@@ -1,38 +1,98 @@
--- A file is run in one way, up to its history.
-use Rattle.std.proofs.Common.{◌≡◌, ◌⊎◌, ◌∙◌, ℕ, true, false, List, [], ◌++◌, inl, inr, ap, sym}
+-- A file is run in one way: by a log whole, by its parties up to their history.
+use Rattle.std.proofs.Common.{◌≡◌, ◌⊎◌, ◌∙◌, ℕ, max, true, false, List, [], ◌++◌, Option, Some, Result, Ok, length, map, inl, inr, ap, ap₂, sym, subst}
 use Rattle.std.specs.Prelude.{Bool}
+use Rattle.std.proofs.lemmas.List.{map-append}
 use Rattle.sj_lang.specs.FileAt.{FileAt}
+use Rattle.sj_lang.specs.Place.{Place}
 use Rattle.sj_semantics.specs.declared.Verdict.{Verdict}
+use Rattle.sj_semantics.specs.Program.{Program}
 use Rattle.sj_semantics.specs.State.{verdict_of}
 use Rattle.sj_semantics.specs.Transcript.{transcript_of}
+use Rattle.sj_semantics.specs.World.{World}
+use Rattle.sj_rules.specs.Drain.{IsDrained}
+use Rattle.sj_rules.specs.History.{IsHistory, Replay, turn_of, replay}
+use Rattle.sj_rules.specs.Log.{LineAt}
+use Rattle.sj_rules.specs.Party.{play_of}
+use Rattle.sj_rules.specs.Start.{core_start}
+use Rattle.sj_rules.specs.World.{Turn, WorldAt}
+use Rattle.sj_joined_laws.proofs.HistoryLemmas.{replays, same_world}
+use Rattle.sj_rules_laws.proofs.DrainLemmas.{drained_once}
+use Rattle.sj_command.specs.declared.tasks.Task.{Task}
 use Rattle.sj_command.specs.declared.tasks.Task.TheVariants as tasks
+use Rattle.sj_log.specs.LogText.{SpellsLog}
 use Rattle.sj_tool.specs.Calls.{LinkUseAt}
-use Rattle.sj_tool.specs.Headline.{IsLogging}
-use Rattle.sj_tool.specs.Runs.{HasRun, HasSummed, log_part}
-use Rattle.sj_tool.specs.Sums.{summary}
-use Rattle.sj_tool.specs.Table.{AreOneLog}
+use Rattle.sj_tool.specs.Tasks.{HasEvents}
+use Rattle.sj_tool.specs.Runs.{HasHistory, HasRun, log_part, run_text}
+use Rattle.sj_tool.specs.Table.{AreOneLog, LogsRun}
 
-pub one_run : (links : LinkUseAt) (log : Bool) (looks : ℕ) (file : FileAt) (v w : Verdict) (s t : List ℕ) → HasRun links log looks file v s → HasRun links log looks file w t
-    → (v ≡ w) × ((s ≡ t) ⊎ (IsLogging (tasks.Run log looks) × AreOneLog s t))
-one_run links false looks file v w s t x y =
-    let ends = x.played.is_end ∙ sym y.played.is_end in
-    (x.stands ∙ ap verdict_of ends ∙ sym y.stands, inl (x.printed ∙ ap (λ e. transcript_of file e ++ []) ends ∙ sym y.printed))
-one_run links true looks file v w s t x y = (
-  x.stands ∙ ap verdict_of (x.played.is_end ∙ sym y.played.is_end) ∙ sym y.stands,
-  inr (
-    tt,
-    record {
-      file = file;
-      first = x.played.history;
-      second = y.played.history;
-      first_text = x.printed ∙ ap (λ e. transcript_of file e ++ log_part true file x.played.history) x.played.is_end;
-      second_text = y.printed ∙ ap (λ e. transcript_of file e ++ log_part true file y.played.history) y.played.is_end;
-    },
-  ),
-)
+-- ---- a log has one history
 
--- a file is summed up in one way
-pub one_summary : (links : LinkUseAt) (n : ℕ) (file : FileAt) (v w : Verdict) (s t : List ℕ) → HasSummed links n file v s → HasSummed links n file w t → (v ≡ w) × (s ≡ t)
-one_summary links n file v w s t x y =
-    let ends = x.played.is_end ∙ sym y.played.is_end in
-    (x.stands ∙ ap verdict_of ends ∙ sym y.stands, x.printed ∙ ap (summary n file) ends ∙ sym y.printed)
+-- lines with one list of events, from one start on, are one
+same_lines : (file : FileAt) (lines others : List LineAt) (core world : WorldAt Place Program) → IsHistory max file lines core → IsHistory max file others world
+    → map turn_of lines ≡ map turn_of others → lines ≡ others
+same_lines file lines others core world a b e =
+    let first = replays (play_of file) max lines (core_start file) core a in
+    let second = replays (play_of file) max others (core_start file) world b in
+    let both = sym first ∙ ap (λ ts. replay (play_of file) max ts (core_start file)) e ∙ second in
+    let one : ◌≡◌ {A = Replay Place Program} (record { lines = lines; world = core }) (record { lines = others; world = world }) = cc both in
+    ap (λ r. r.lines) one
+
+same_ok : {E : Type 0} (lines others : List LineAt) → ◌≡◌ {A = Result (List LineAt) E} (Ok lines) (Ok others) → lines ≡ others
+same_ok lines others e = cc
+
+-- the log spells one list of lines
+pub same_spelled : (file : FileAt) (log : List ℕ) (lines others : List LineAt) → SpellsLog file log lines → SpellsLog file log others → lines ≡ others
+same_spelled file log lines others a b = same_ok lines others (sym a ∙ b)
+
+pub one_history : (first second : LinkUseAt) (l : Bool) (log : List ℕ) (file : FileAt) (history other : List LineAt) (core world : WorldAt Place Program)
+    → HasHistory first (tasks.Replay l) log file history core → HasHistory second (tasks.Replay l) log file other world → history ≡ other
+one_history first second l log file history other core world x y =
+    let lines : x.lines ≡ y.lines = same_spelled file log x.lines y.lines x.given y.given in
+    let left : x.left ≡ y.left =
+    same_world (play_of file) max y.lines (core_start file) x.left y.left (subst (λ (ls : List LineAt). IsHistory max file ls x.left) lines x.begins) y.begins in
+    let drained =
+    drained_once (play_of file) max (length file.parties) y.left core world (map turn_of x.more) (map turn_of y.more)
+    (subst (λ (w : WorldAt Place Program). IsDrained (play_of file) max (length file.parties) w (map turn_of x.more) core) left x.drained) y.drained in
+    let turns : map turn_of history ≡ map turn_of other =
+    ap (map turn_of) x.all ∙ map-append turn_of x.lines x.more ∙ ap₂ (λ ts us. ts ++ us) (ap (map turn_of) lines) drained.0
+    ∙ sym (map-append turn_of y.lines y.more) ∙ ap (map turn_of) (sym y.all) in
+    same_lines file history other core world x.run y.run turns
+
+-- ---- what is printed of it
+
+-- two runs print one text, up to the history of parties where it is asked for
+abbrev pub AreAlike : Task → (v w : Verdict) (s t : List ℕ) → Type 0
+AreAlike task v w s t = (v ≡ w) × ((s ≡ t) ⊎ (LogsRun task × AreOneLog s t))
+
+module _ (links : LinkUseAt) (log : List ℕ) (file : FileAt) (v w : Verdict) (s t : List ℕ) where
+  -- one verdict
+  stand : (task : Task) → HasRun links task log file v s → HasRun links task log file w t → v ≡ w
+  stand task x y = x.stands ∙ ap verdict_of (x.is_end ∙ sym y.is_end) ∙ sym y.stands
+
+  -- one text, of one end
+  print_end : (task : Task) (text : World → List ℕ) (x : HasRun links task log file v s) (y : HasRun links task log file w t) → s ≡ text x.end → t ≡ text y.end → AreAlike task v w s t
+  print_end task text x y a b = (stand task x y, inl (a ∙ ap text (x.is_end ∙ sym y.is_end) ∙ sym b))
+
+  pub one_run : (task : Task) → HasEvents task → HasRun links task log file v s → HasRun links task log file w t → AreAlike task v w s t
+  one_run tasks.Check h x y = absurd h
+  one_run tasks.Show h x y = absurd h
+  one_run tasks.Sim h x y = absurd h
+  one_run (tasks.Make n) h x y = absurd h
+  one_run (tasks.Big n) h x y = print_end (tasks.Big n) (run_text (tasks.Big n) file []) x y x.printed y.printed
+  one_run (tasks.Run false looks) h x y = print_end (tasks.Run false looks) (run_text (tasks.Run false looks) file []) x y x.printed y.printed
+  one_run (tasks.Run true looks) h x y = (
+    stand (tasks.Run true looks) x y,
+    inr (
+      tt,
+      record {
+        file = file;
+        first = x.history;
+        second = y.history;
+        first_text = x.printed ∙ ap (λ e. transcript_of file e ++ log_part true file x.history) x.is_end;
+        second_text = y.printed ∙ ap (λ e. transcript_of file e ++ log_part true file y.history) y.is_end;
+      },
+    ),
+  )
+  one_run (tasks.Replay l) h x y =
+      let same : x.history ≡ y.history = one_history links links l log file x.history y.history x.core y.core x.has y.has in
+      print_end (tasks.Replay l) (run_text (tasks.Replay l) file y.history) x y (x.printed ∙ ap (λ h. run_text (tasks.Replay l) file h x.end) same) y.printed

@@ -7,13 +7,16 @@ use Rattle.sj_command.specs.Task.{Asks, IsUsage}
 use Rattle.sj_command.proofs.OneTask.{one_task}
 use Rattle.sj_generator.specs.Generated.{generated}
 use Rattle.sj_tool.specs.declared.answers.Answer.{Answer}
-use Rattle.sj_tool.specs.declared.answers.Answer.TheVariants.{Usage, ReadFault, TooLarge, Syntax, Check, LinkFault, Damaged, Ran, Printed, Made}
+use Rattle.sj_tool.specs.declared.answers.Answer.TheVariants.{Usage, ReadFault, TooLarge, Syntax, Check, LogFault, Misfit, LinkFault, Damaged, Ran, Printed, Made}
 use Rattle.sj_tool.specs.Texts.{status_of, text_of}
-use Rattle.sj_tool.specs.Answers.{AsksFor, Reads, Takes, Makes, AnswersText, AnswersInput, HasInput, Comes, NoFaultAbove}
+use Rattle.sj_tool.specs.Answers.{AnswersBytes, AnswersInput, Came, Comes, Makes}
 use Rattle.sj_tool.specs.Calls.{CallAt, LinkUseAt}
-use Rattle.sj_tool.specs.Table.{AreOne}
-use Rattle.sj_tool.proofs.InputLemmas.{one_input, read_of}
-use Rattle.sj_tool.proofs.OneAnswer.{AreToldOnce, HoldsFor, one_of_text, told}
+use Rattle.sj_tool.specs.Tasks.{AsksFor, HasInput, Reads, Takes, limit_of}
+use Rattle.sj_tool.specs.Table.{AreOne, NoFaultAbove}
+use Rattle.sj_tool.proofs.BytesAnswer.{one_of_bytes, takes_file}
+use Rattle.sj_tool.proofs.InputLemmas.{came_of, one_input, read_of, reads_of}
+use Rattle.sj_tool.proofs.OneAnswer.{HoldsFor}
+use Rattle.sj_tool.proofs.ToldOnce.{AreToldOnce, told}
 
 -- what came is at most the limit or more, and not both
 came_once : (l : ℕ) (left : List ℕ) (after : Option (List ℕ)) → CameOf (λ n. n ≤ l) (Some left) after → CameOf (λ n. l < n) (Some left) after → ⊥
@@ -34,6 +37,8 @@ holds_above c ReadFault h task asks = tt
 holds_above c TooLarge h task asks = tt
 holds_above c (Syntax f) h task asks = tt
 holds_above c (Check r l) h task asks = tt
+holds_above c (LogFault r l) h task asks = tt
+holds_above c (Misfit t) h task asks = tt
 holds_above c LinkFault h task asks = h
 holds_above c (Damaged t) h task asks = h
 holds_above c (Ran v t) h task asks = λ runs. h.1 (record { task = task; asks = asks; kind = runs })
@@ -47,48 +52,32 @@ one_of_input c left e a b x y above =
     let same : y.bytes ≡ x.bytes =
     one_input c left e x.task y.bytes x.bytes (subst (λ (t : Task). HasInput c t y.bytes) (sym tasks_are) y.input) x.input in
     let one : AreToldOnce x.task (told a) (told b) =
-    one_of_text c.links x.task x.bytes a b x.answers
-    (subst (λ (t : Task). AnswersText c.links t x.bytes b) (sym tasks_are) (subst (λ (bs : List ℕ). AnswersText c.links y.task bs b) same y.answers))
+    one_of_bytes c.links x.task x.bytes a b x.answers
+    (subst (λ (t : Task). AnswersBytes c.links t x.bytes b) (sym tasks_are) (subst (λ (bs : List ℕ). AnswersBytes c.links y.task bs b) same y.answers))
     (holds_above c b above x.task x.asks) in
     record { status = one.status; text = elim one.text [ inl text ↦ inl text | inr log ↦ inr (record { task = x.task; asks = x.asks; kind = log.0 }, log.1) ] }
 
 -- which row an answer is
 pub data Row (c : CallAt) (a : Answer) : Type 0 where
   words : a ≡ Usage → IsUsage c.words → Row c a
-  fault : a ≡ ReadFault → AsksFor Reads c → CameOf (λ n. n ≤ 65536) c.left c.left_after → Rose c.faults c.faults_after → Row c a
-  large : a ≡ TooLarge → AsksFor Reads c → CameOf (λ n. 65536 < n) c.left c.left_after → c.faults_after ≡ c.faults → Row c a
+  fault : a ≡ ReadFault → Came (λ n most. n ≤ most) c → Rose c.faults c.faults_after → Row c a
+  large : a ≡ TooLarge → Came (λ n most. most < n) c → c.faults_after ≡ c.faults → Row c a
   made : (text : List ℕ) → status_of a ≡ 0 → text_of a ≡ text → Makes c text → Row c a
   input : AnswersInput c a → Row c a
 
 pub row_of : (c : CallAt) (a : Answer) → Comes c a → Row c a
 row_of c Usage h = words refl h.0
-row_of c ReadFault h = fault refl h.0 h.1 h.2
-row_of c TooLarge h = large refl h.0 h.1 h.2
+row_of c ReadFault h = fault refl h.0 h.1
+row_of c TooLarge h = elim h [ inl l ↦ large refl l.0 l.1 | inr x ↦ input x ]
 row_of c (Syntax f) h = input h
 row_of c (Check r l) h = input h
+row_of c (LogFault r l) h = input h
+row_of c (Misfit t) h = input h
 row_of c LinkFault h = input h
 row_of c (Damaged t) h = input h
 row_of c (Ran v t) h = input h
 row_of c (Printed t) h = input h
 row_of c (Made t) h = made t.items refl refl h
-
--- a task whose input is answered takes a file
-pub takes_file : (links : LinkUseAt) (task : Task) (bytes : List ℕ) (a : Answer) → AnswersText links task bytes a → Takes task
-takes_file links tasks.Check bytes a h = tt
-takes_file links tasks.Show bytes a h = tt
-takes_file links tasks.Sim bytes a h = tt
-takes_file links (tasks.Run log looks) bytes a h = tt
-takes_file links (tasks.Big n) bytes a h = tt
-takes_file links (tasks.Make n) bytes Usage h = absurd h.answers
-takes_file links (tasks.Make n) bytes ReadFault h = absurd h.answers
-takes_file links (tasks.Make n) bytes TooLarge h = absurd h.answers
-takes_file links (tasks.Make n) bytes (Syntax f) h = absurd h.0
-takes_file links (tasks.Make n) bytes (Check r l) h = absurd h.answers.0
-takes_file links (tasks.Make n) bytes LinkFault h = absurd h.answers.1
-takes_file links (tasks.Make n) bytes (Damaged t) h = absurd h.answers.1
-takes_file links (tasks.Make n) bytes (Ran v t) h = absurd h.answers.1
-takes_file links (tasks.Make n) bytes (Printed t) h = absurd h.answers
-takes_file links (tasks.Make n) bytes (Made t) h = absurd h.answers
 
 -- a task that reads a file takes one
 pub reads_takes : (task : Task) → Reads task → Takes task
@@ -96,6 +85,7 @@ reads_takes tasks.Check reads = tt
 reads_takes tasks.Show reads = tt
 reads_takes tasks.Sim reads = tt
 reads_takes (tasks.Run log looks) reads = tt
+reads_takes (tasks.Replay log) reads = tt
 reads_takes (tasks.Make n) reads = reads
 reads_takes (tasks.Big n) reads = tt
 
@@ -105,26 +95,33 @@ made_takes c text task m asks takes = subst (λ (t : Task). Takes t) (one_task c
 
 -- where an input is answered, a read fault above it is ruled out
 no_rise : (c : CallAt) (a : Answer) → AnswersInput c a → NoFaultAbove c a → Rose c.faults c.faults_after → ⊥
-no_rise c Usage x h r = absurd x.answers.answers
+no_rise c Usage x h r = absurd x.answers.answers.answers
 no_rise c ReadFault x h r = absurd h
-no_rise c TooLarge x h r = absurd x.answers.answers
+no_rise c TooLarge x h r = h (record { task = x.task; asks = x.asks; kind = x.answers.0 }) r
 no_rise c (Syntax f) x h r = h r
 no_rise c (Check s l) x h r = h r
+no_rise c (LogFault s l) x h r = h r
+no_rise c (Misfit t) x h r = h r
 no_rise c LinkFault x h r = absurd h
 no_rise c (Damaged t) x h r = absurd h
 no_rise c (Ran v t) x h r = h.0 r
 no_rise c (Printed t) x h r = h r
-no_rise c (Made t) x h r = absurd x.answers.answers
+no_rise c (Made t) x h r = absurd x.answers.answers.answers
 
 module _ (c : CallAt) (left : List ℕ) (tells : c.left ≡ Some left) where
-  once : CameOf (λ n. n ≤ 65536) c.left c.left_after → CameOf (λ n. 65536 < n) c.left c.left_after → ⊥
-  once few many = came_once 65536 left c.left_after (few.0, few.1, sym tells ∙ few.2) (many.0, many.1, sym tells ∙ many.2)
+  once : Came (λ n most. n ≤ most) c → Came (λ n most. most < n) c → ⊥
+  once few many =
+      let same = one_task c.words few.task many.task few.asks many.asks in
+      let came = subst (λ (t : Task). CameOf (λ n. n ≤ limit_of t) c.left c.left_after) same (came_of (λ n most. n ≤ most) c few) in
+      let more = came_of (λ n most. most < n) c many in
+      came_once (limit_of many.task) left c.left_after (came.0, came.1, sym tells ∙ came.2) (more.0, more.1, sym tells ∙ more.2)
 
-  few_in : (a : Answer) → AnswersInput c a → AsksFor Reads c → CameOf (λ n. n ≤ 65536) c.left c.left_after
-  few_in a x asks =
-      let reads = subst (λ (t : Task). Reads t) (one_task c.words asks.task x.task asks.asks x.asks) asks.kind in
+  -- where too much came, no input was read whole
+  few_in : (a : Answer) → AnswersInput c a → Came (λ n most. most < n) c → ⊥
+  few_in a x many =
+      let reads = subst (λ (t : Task). Reads t) (one_task c.words many.task x.task many.asks x.asks) (reads_of (λ n most. most < n) c many) in
       let read = read_of c x.task x.bytes reads x.input in
-      (x.bytes, read.few, read.came)
+      once (record { task = x.task; asks = x.asks; kind = (reads, (x.bytes, read.few, read.came)) }) many
 
   made_once : (a b : Answer) (s t : List ℕ) → status_of a ≡ 0 → text_of a ≡ s → Makes c s → status_of b ≡ 0 → text_of b ≡ t → Makes c t → AreOne c a b
   made_once a b s t e d m f g n =
@@ -133,28 +130,28 @@ module _ (c : CallAt) (left : List ℕ) (tells : c.left ≡ Some left) where
 
   one_row : (a b : Answer) → Row c a → Row c b → NoFaultAbove c b → AreOne c a b
   one_row a b (words e u) (words d v) above = are_same c a b (e ∙ sym d)
-  one_row a b (words e u) (fault d asks few r) above = absurd (u asks.task asks.asks)
-  one_row a b (words e u) (large d asks many same) above = absurd (u asks.task asks.asks)
+  one_row a b (words e u) (fault d few r) above = absurd (u few.task few.asks)
+  one_row a b (words e u) (large d many same) above = absurd (u many.task many.asks)
   one_row a b (words e u) (made t s d m) above = absurd (u (tasks.Make m.count) m.asks)
   one_row a b (words e u) (input y) above = absurd (u y.task y.asks)
-  one_row a b (fault e asks few r) (words d v) above = absurd (v asks.task asks.asks)
-  one_row a b (fault e asks few r) (fault d asks2 few2 r2) above = are_same c a b (e ∙ sym d)
-  one_row a b (fault e asks few r) (large d asks2 many same) above = absurd (once few many)
-  one_row a b (fault e asks few r) (made t s d m) above = absurd (made_takes c t asks.task m asks.asks (reads_takes asks.task asks.kind))
-  one_row a b (fault e asks few r) (input y) above = absurd (no_rise c b y above r)
-  one_row a b (large e asks many same) (words d v) above = absurd (v asks.task asks.asks)
-  one_row a b (large e asks many same) (fault d asks2 few r) above = absurd (once few many)
-  one_row a b (large e asks many same) (large d asks2 many2 same2) above = are_same c a b (e ∙ sym d)
-  one_row a b (large e asks many same) (made t s d m) above = absurd (made_takes c t asks.task m asks.asks (reads_takes asks.task asks.kind))
-  one_row a b (large e asks many same) (input y) above = absurd (once (few_in b y asks) many)
+  one_row a b (fault e few r) (words d v) above = absurd (v few.task few.asks)
+  one_row a b (fault e few r) (fault d few2 r2) above = are_same c a b (e ∙ sym d)
+  one_row a b (fault e few r) (large d many same) above = absurd (once few many)
+  one_row a b (fault e few r) (made t s d m) above = absurd (made_takes c t few.task m few.asks (reads_takes few.task (reads_of (λ n most. n ≤ most) c few)))
+  one_row a b (fault e few r) (input y) above = absurd (no_rise c b y above r)
+  one_row a b (large e many same) (words d v) above = absurd (v many.task many.asks)
+  one_row a b (large e many same) (fault d few r) above = absurd (once few many)
+  one_row a b (large e many same) (large d many2 same2) above = are_same c a b (e ∙ sym d)
+  one_row a b (large e many same) (made t s d m) above = absurd (made_takes c t many.task m many.asks (reads_takes many.task (reads_of (λ n most. most < n) c many)))
+  one_row a b (large e many same) (input y) above = absurd (few_in b y many)
   one_row a b (made t s e m) (words d v) above = absurd (v (tasks.Make m.count) m.asks)
-  one_row a b (made t s e m) (fault d asks few r) above = absurd (made_takes c t asks.task m asks.asks (reads_takes asks.task asks.kind))
-  one_row a b (made t s e m) (large d asks many same) above = absurd (made_takes c t asks.task m asks.asks (reads_takes asks.task asks.kind))
+  one_row a b (made t s e m) (fault d few r) above = absurd (made_takes c t few.task m few.asks (reads_takes few.task (reads_of (λ n most. n ≤ most) c few)))
+  one_row a b (made t s e m) (large d many same) above = absurd (made_takes c t many.task m many.asks (reads_takes many.task (reads_of (λ n most. most < n) c many)))
   one_row a b (made t s e m) (made u r d n) above = made_once a b t u s e m r d n
   one_row a b (made t s e m) (input y) above = absurd (made_takes c t y.task m y.asks (takes_file c.links y.task y.bytes b y.answers))
   one_row a b (input x) (words d v) above = absurd (v x.task x.asks)
-  one_row a b (input x) (fault d asks few r) above = absurd (subst (λ (z : Answer). NoFaultAbove c z) d above)
-  one_row a b (input x) (large d asks many same) above = absurd (once (few_in a x asks) many)
+  one_row a b (input x) (fault d few r) above = absurd (subst (λ (z : Answer). NoFaultAbove c z) d above)
+  one_row a b (input x) (large d many same) above = absurd (few_in a x many)
   one_row a b (input x) (made t s d m) above = absurd (made_takes c t x.task m x.asks (takes_file c.links x.task x.bytes a x.answers))
   one_row a b (input x) (input y) above = one_of_input c left tells a b x y above
 

@@ -2,10 +2,10 @@
 use Rattle.std.proofs.Common.{◌≡◌, ◌≢◌, ◌⊎◌, ◌∙◌, ◌-◌, ◌^◌, ℕ, List, Some, inl, inr, refl, sym, arith}
 use Rattle.sj_base.specs.Stream.{Rose}
 use Rattle.sj_tool.specs.declared.answers.Answer.{Answer}
-use Rattle.sj_tool.specs.declared.answers.Answer.TheVariants.{Usage, ReadFault, TooLarge, Syntax, Check, LinkFault, Damaged, Ran, Printed, Made}
-use Rattle.sj_tool.specs.Answers.{Comes, NoFaultAbove}
+use Rattle.sj_tool.specs.declared.answers.Answer.TheVariants.{Usage, ReadFault, TooLarge, Syntax, Check, LogFault, Misfit, LinkFault, Damaged, Ran, Printed, Made}
+use Rattle.sj_tool.specs.Answers.{Comes}
 use Rattle.sj_tool.specs.Calls.{CallAt}
-use Rattle.sj_tool.specs.Table.{AreOne, CanRise, RunsWell}
+use Rattle.sj_tool.specs.Table.{AreOne, CanRise, NoFaultAbove, RunsWell}
 use Rattle.sj_tool.proofs.InputLemmas.{no_fault_of}
 use Rattle.sj_tool.proofs.Rows.{are_same, one_comes}
 
@@ -18,13 +18,19 @@ stays before now same more (inr last) = more (sym same ∙ last)
 above_or_fault : (c : CallAt) (a : Answer) → CanRise c → RunsWell c → Comes c a → NoFaultAbove c a ⊎ (a ≡ ReadFault)
 above_or_fault c Usage more well h = inl tt
 above_or_fault c ReadFault more well h = inr refl
-above_or_fault c TooLarge more well h = inl tt
+above_or_fault c TooLarge more well h =
+    let same : c.faults_after ≡ c.faults = elim h [ inl l ↦ l.1 | inr x ↦ no_fault_of c x.task x.bytes x.input ] in
+    inl (λ replays. stays c.faults c.faults_after same more)
 above_or_fault c (Syntax f) more well h = inl (stays c.faults c.faults_after (no_fault_of c h.task h.bytes h.input) more)
 above_or_fault c (Check r l) more well h = inl (stays c.faults c.faults_after (no_fault_of c h.task h.bytes h.input) more)
+above_or_fault c (LogFault r l) more well h = inl (stays c.faults c.faults_after (no_fault_of c h.task h.bytes h.input) more)
+above_or_fault c (Misfit t) more well h = inl (stays c.faults c.faults_after (no_fault_of c h.task h.bytes h.input) more)
 above_or_fault c LinkFault more well h =
-    let holds = well (record { task = h.task; asks = h.asks; kind = h.answers.answers.1 }) in absurd (holds.1 h.answers.answers.2)
+    let answers = h.answers.answers.answers in
+    let holds = well (record { task = h.task; asks = h.asks; kind = answers.1 }) in absurd (holds.1 answers.2)
 above_or_fault c (Damaged t) more well h =
-    let holds = well (record { task = h.task; asks = h.asks; kind = h.answers.answers.1 }) in absurd (h.answers.answers.2 holds.0)
+    let answers = h.answers.answers.answers in
+    let holds = well (record { task = h.task; asks = h.asks; kind = answers.1 }) in absurd (answers.2 holds.0)
 above_or_fault c (Ran v t) more well h = inl (stays c.faults c.faults_after (no_fault_of c h.task h.bytes h.input) more, well)
 above_or_fault c (Printed t) more well h = inl (stays c.faults c.faults_after (no_fault_of c h.task h.bytes h.input) more)
 above_or_fault c (Made t) more well h = inl tt

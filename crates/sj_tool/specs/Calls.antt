@@ -1,7 +1,8 @@
 -- What a call is given and what it leaves: its words, its source, and the links over which parties run.
-use Rattle.std.specs.Prelude.{ℕ, Bool, List, Option, map, string_bytes}
+use Rattle.std.specs.Prelude.{◌≡◌, ℕ, Bool, true, List, Option, map, string_bytes}
 use Rattle.std.specs.declared.alloc.Global.{Global}
 use Rattle.std.specs.declared.string.String.{String}
+use Rattle.sj_lane.specs.Told.{Rose}
 use Rattle.sj_lang.specs.Place.{Place}
 use Rattle.sj_rules.specs.Frames.{FrameAt}
 use Rattle.sj_run.specs.Shown.{LinksAt, keeps_of}
@@ -12,6 +13,10 @@ pub record LinkUseAt : Type 0 where
   pub faults : ℕ
   pub faults_after : ℕ
   pub keeps : LinksAt
+
+-- the links tell what they carry, and counted no fault
+abbrev pub LinksHold : LinkUseAt → Type 0
+LinksHold links = (links.tells ≡ true) × ¬ Rose links.faults links.faults_after
 
 -- the words, what the source has left and counts, before and after, and the links
 pub record CallAt : Type 0 where

@@ -11,24 +11,30 @@ use Rattle.sj_semantics.specs.World.{World}
 use Rattle.sj_accepted_laws.specs.Headline.{IsHeadline}
 use Rattle.sj_command.specs.declared.tasks.Task.{Task}
 use Rattle.sj_command.specs.declared.tasks.Task.TheVariants as tasks
-use Rattle.sj_tool.specs.Answers.{AsksFor}
 use Rattle.sj_tool.specs.Calls.{CallAt}
+use Rattle.sj_tool.specs.Tasks.{AsksFor, HasParts}
 use Rattle.sj_tool.specs.Texts.{verdict_status}
 
 -- it plays a file to its end
 abbrev pub IsPlaying : Task → Type 0
 IsPlaying tasks.Sim = ⊤
 IsPlaying (tasks.Run log looks) = ⊤
+IsPlaying (tasks.Replay log) = ⊤
 IsPlaying _ = ⊥
 
 -- it prints the history behind the transcript
 abbrev pub IsLogging : Task → Type 0
 IsLogging (tasks.Run true looks) = ⊤
+IsLogging (tasks.Replay true) = ⊤
 IsLogging _ = ⊥
 
 -- the status of a file that was played: 0, 6 or 7
 abbrev pub IsVerdict : ℕ → Type 0
 IsVerdict status = (verdict : Verdict) × (status ≡ verdict_status verdict)
+
+-- the bytes that a task reads have the text of its file
+abbrev pub IsTextOf : Task → (bytes text : List ℕ) → Type 0
+IsTextOf task bytes text = (log : List ℕ) × HasParts task bytes text log
 
 -- a run of the accepted file that was read has the headline; the status is its verdict, and its transcript is written
 pub record HasHeadline (c : CallAt) (status : ℕ) (before after : Option (List ℕ)) : Type 0 where
@@ -36,9 +42,11 @@ pub record HasHeadline (c : CallAt) (status : ℕ) (before after : Option (List 
   pub bytes : List ℕ
   pub came : c.left ≡ put_before bytes c.left_after
   pub all : IfSome c.left_after (λ rest. rest ≡ [])
-  -- they stand for a file, which is accepted
+  -- they have the text of a file, which is accepted; where a log is replayed it stands behind that text
+  pub text : List ℕ
+  pub has : AsksFor (λ task. IsTextOf task bytes text) c
   pub file : FileAt
-  pub stands : IsFile bytes file
+  pub stands : IsFile text file
   pub accepted : IsAccepted file
   -- the acts of its parties, one after another, and the world to which they lead
   pub acts : List ℕ

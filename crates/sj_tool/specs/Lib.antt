@@ -2,11 +2,13 @@ pub mod Acting
 pub mod Answers
 pub mod Calls
 pub mod Completeness
-pub mod Damages
+pub mod Entries
 pub mod Headline
 pub mod Outcomes
+pub mod Replays
 pub mod Runs
 pub mod Shown
 pub mod Sums
 pub mod Table
+pub mod Tasks
 pub mod Texts

@@ -6,8 +6,8 @@ use Rattle.sj_acceptance.specs.Accepted.{IsAccepted}
 use Rattle.sj_acceptance.specs.Faults.{first_fault}
 use Rattle.sj_acceptance.specs.FileTests.{tests_of}
 use Rattle.sj_check.specs.Held.{file_in}
-use Rattle.sj_tool.specs.declared.run.Judged.{Judged}
-use Rattle.sj_tool.specs.declared.run.Judged.TheVariants.{Accepted, Fault}
+use Rattle.sj_tool.specs.declared.files.Judged.{Judged}
+use Rattle.sj_tool.specs.declared.files.Judged.TheVariants.{Accepted, Fault}
 
 -- it is accepted and held, or has that first fault
 abbrev pub IsJudged : File → Judged → Type 0

@@ -1,7 +1,8 @@
--- Files that are played to their end: in the plain world, or by their parties over links, whose acts are done in the plain world.
+-- Files that are played to their end: in the plain world, or by a history of the core, of parties that ran or of a log, whose acts are done in the plain world.
 use Rattle.std.specs.Prelude.{◌≡◌, ℕ, max, Bool, true, false, List, [], ◌∷◌, ◌++◌, map, length, codes}
 use Rattle.sj_lang.specs.FileAt.{FileAt}
 use Rattle.sj_lang.specs.Place.{Place}
+use Rattle.sj_acceptance.specs.Accepted.{IsAccepted}
 use Rattle.sj_semantics.specs.declared.Verdict.{Verdict}
 use Rattle.sj_semantics.specs.Program.{Program}
 use Rattle.sj_semantics.specs.Run.{IsRun, end_of}
@@ -16,9 +17,14 @@ use Rattle.sj_rules.specs.Party.{play_of}
 use Rattle.sj_rules.specs.World.{WorldAt}
 use Rattle.sj_print.specs.LogLine.{log_text}
 use Rattle.sj_run.specs.Shown.{IsShown}
-use Rattle.sj_command.specs.Task.{usual_looks}
+use Rattle.sj_command.specs.declared.tasks.Task.{Task}
+use Rattle.sj_command.specs.declared.tasks.Task.TheVariants as tasks
+use Rattle.sj_log.specs.LogText.{SpellsLog}
 use Rattle.sj_tool.specs.Calls.{LinkUseAt}
+use Rattle.sj_tool.specs.Tasks.{looks_of}
+use Rattle.sj_tool.specs.Shown.{shown}
 use Rattle.sj_tool.specs.Sums.{summary}
+use Rattle.sj_tool.specs.Texts.{counts_of}
 
 -- the file ends with that verdict, and its transcript is printed
 abbrev pub HasSimulated : FileAt → Verdict → List ℕ → Type 0
@@ -28,15 +34,18 @@ HasSimulated file verdict text = (verdict ≡ verdict_of (end_of file)) × (text
 abbrev pub actors : List LineAt → List ℕ
 actors history = acts_in (map turn_of history)
 
--- what the parties left, and what is done of it: their lines, joined, lead from the start of the file to a core world; a drain goes on from
--- there, and leaves nothing to do
-pub record HasHistory (links : LinkUseAt) (looks : ℕ) (file : FileAt) (history : List LineAt) (core : WorldAt Place Program) : Type 0 where
-  -- the parties' lines, and the world in which they left the core
+-- where lines come from that lead to that world: a log spells them, or the links over which parties ran show them, where they tell
+abbrev pub IsGiven : LinkUseAt → Task → (log : List ℕ) → FileAt → List LineAt → WorldAt Place Program → Type 0
+IsGiven links (tasks.Replay l) log file lines left = SpellsLog file log lines
+IsGiven links task log file lines left = links.tells ≡ true → IsShown file (looks_of task) links.keeps lines left
+
+-- the lines that are given lead from the start of the file to a core world; a drain goes on from there, and leaves nothing to do
+pub record HasHistory (links : LinkUseAt) (task : Task) (log : List ℕ) (file : FileAt) (history : List LineAt) (core : WorldAt Place Program) : Type 0 where
+  -- the lines, and the world to which they lead
   pub lines : List LineAt
   pub left : WorldAt Place Program
-  pub parties : IsHistory max file lines left
-  -- links that tell show these lines
-  pub shown : links.tells ≡ true → IsShown file looks links.keeps lines left
+  pub begins : IsHistory max file lines left
+  pub given : IsGiven links task log file lines left
   -- behind them come those of a drain
   pub more : List LineAt
   pub all : history ≡ lines ++ more
@@ -50,26 +59,41 @@ abbrev pub log_part : Bool → FileAt → List LineAt → List ℕ
 log_part false file history = []
 log_part true file history = line_of (codes "%%log" ∷ []) ++ log_text file history
 
--- the file was run over these links
-pub record HasPlayed (links : LinkUseAt) (looks : ℕ) (file : FileAt) : Type 0 where
-  -- the parties' history, and that of the drain
+-- what a task prints of a history, and of the world to which its acts lead
+abbrev pub run_text : Task → FileAt → List LineAt → World → List ℕ
+run_text (tasks.Run l looks) file history end = transcript_of file end ++ log_part l file history
+run_text (tasks.Replay l) file history end = transcript_of file end ++ log_part l file history
+run_text (tasks.Big n) file history end = summary n file end
+run_text _ file history end = []
+
+-- the file was run, by its parties over these links or by the log, to that verdict, and what is told of it is printed
+pub record HasRun (links : LinkUseAt) (task : Task) (log : List ℕ) (file : FileAt) (verdict : Verdict) (text : List ℕ) : Type 0 where
   pub history : List LineAt
   pub core : WorldAt Place Program
-  pub has : HasHistory links looks file history core
+  pub has : HasHistory links task log file history core
   -- the plain world to which its acts lead: the end of the file, where nobody can go on
   pub end : World
   pub acts : IsRun file (actors history) end
   pub settled : IsSettled end
   pub is_end : end ≡ end_of file
+  -- how it stands, and what is printed
+  pub stands : verdict ≡ verdict_of end
+  pub printed : text ≡ run_text task file history end
 
--- it was run so to that verdict; its transcript is printed, with the history behind it where the log is asked for
-pub record HasRun (links : LinkUseAt) (log : Bool) (looks : ℕ) (file : FileAt) (verdict : Verdict) (text : List ℕ) : Type 0 where
-  pub played : HasPlayed links looks file
-  pub stands : verdict ≡ verdict_of played.end
-  pub printed : text ≡ transcript_of file played.end ++ log_part log file played.history
+-- how the file ends, and what the task prints of that history
+abbrev pub IsTold : Task → FileAt → List LineAt → Verdict → List ℕ → Type 0
+IsTold task file history verdict text = (verdict ≡ verdict_of (end_of file)) × (text ≡ run_text task file history (end_of file))
 
--- it was run so to that verdict, and how much was done is printed
-pub record HasSummed (links : LinkUseAt) (n : ℕ) (file : FileAt) (verdict : Verdict) (text : List ℕ) : Type 0 where
-  pub played : HasPlayed links usual_looks file
-  pub stands : verdict ≡ verdict_of played.end
-  pub printed : text ≡ summary n file played.end
+-- it plays the file to its end: how it ended, and what is printed
+abbrev pub Plays : LinkUseAt → Task → (log : List ℕ) → FileAt → Verdict → List ℕ → Type 0
+Plays links tasks.Sim log file verdict text = HasSimulated file verdict text
+Plays links (tasks.Run l looks) log file verdict text = HasRun links (tasks.Run l looks) log file verdict text
+Plays links (tasks.Replay l) log file verdict text = HasRun links (tasks.Replay l) log file verdict text
+Plays links (tasks.Big n) log file verdict text = HasRun links (tasks.Big n) log file verdict text
+Plays links _ log file verdict text = ⊥
+
+-- what a task prints of a file that it doesn't play
+abbrev pub Prints : Task → FileAt → List ℕ → Type 0
+Prints tasks.Check file text = IsAccepted file × (text ≡ counts_of file)
+Prints tasks.Show file text = text ≡ shown file
+Prints _ file text = ⊥

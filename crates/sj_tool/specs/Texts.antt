@@ -7,7 +7,7 @@ use Rattle.sj_semantics.specs.declared.Verdict.{Verdict}
 use Rattle.sj_semantics.specs.declared.Verdict.TheVariants.{Done, Blocked, Long}
 use Rattle.sj_semantics.specs.Transcript.{line_of}
 use Rattle.sj_tool.specs.declared.answers.Answer.{Answer}
-use Rattle.sj_tool.specs.declared.answers.Answer.TheVariants.{Usage, ReadFault, TooLarge, Syntax, Check, LinkFault, Damaged, Ran, Printed, Made}
+use Rattle.sj_tool.specs.declared.answers.Answer.TheVariants.{Usage, ReadFault, TooLarge, Syntax, Check, LogFault, Misfit, LinkFault, Damaged, Ran, Printed, Made}
 
 abbrev pub rule_number : Rule → ℕ
 rule_number P1 = 1
@@ -27,6 +27,8 @@ status_of ReadFault = 2
 status_of TooLarge = 3
 status_of (Syntax fault) = 4
 status_of (Check rule line) = 5
+status_of (LogFault rule line) = 12
+status_of (Misfit text) = 12
 status_of LinkFault = 8
 status_of (Damaged text) = 9
 status_of (Ran verdict text) = verdict_status verdict
@@ -37,12 +39,18 @@ status_of (Made text) = 0
 abbrev pub check_line : ℕ → ℕ → List ℕ
 check_line rule line = line_of (codes "check" ∷ (67 ∷ decimal rule) ∷ codes "at" ∷ decimal line ∷ [])
 
+-- which rule of the text of a log is broken, and on which line
+abbrev pub log_line : ℕ → ℕ → List ℕ
+log_line rule line = line_of (codes "log" ∷ (76 ∷ decimal rule) ∷ codes "at" ∷ decimal line ∷ [])
+
 abbrev pub text_of : Answer → List ℕ
 text_of Usage = codes "usage: sj check | show | sim | run [--log] [--looks N] | replay [--log] | make N | big N\n"
 text_of ReadFault = codes "read fault\n"
 text_of TooLarge = codes "too large\n"
 text_of (Syntax fault) = line_of (codes "syntax" ∷ (80 ∷ decimal (rule_number fault.rule)) ∷ codes "at" ∷ (decimal fault.line ++ 58 ∷ decimal fault.column) ∷ [])
 text_of (Check rule line) = check_line rule line
+text_of (LogFault rule line) = log_line rule line
+text_of (Misfit text) = text.items
 text_of LinkFault = codes "link fault\n"
 text_of (Damaged text) = text.items
 text_of (Ran verdict text) = text.items

@@ -15,12 +15,17 @@ pub enum Answer {
     Usage,
     /// A read of the input failed.
     ReadFault,
-    /// The input has more bytes than a file may have.
+    /// The input has more bytes than the command takes, or the file in it than a file may have.
     TooLarge,
     /// The input is no file of the grammar.
     Syntax(Fault),
     /// The file isn't accepted: the number of the broken rule, and a line.
     Check(u8, u32),
+    /// The log isn't in its grammar: the number of the broken rule, and a line. Rule 1 at line 0 tells
+    /// that the source has no line `%%log`.
+    LogFault(u8, u32),
+    /// An entry of the log is no step: what is told of the first one.
+    Misfit(Vec<u8>),
     /// The links met a fault.
     LinkFault,
     /// The joined logs are damaged: what is told of that.
@@ -44,6 +49,7 @@ impl Answer {
             Answer::TooLarge => 3,
             Answer::Syntax(_) => 4,
             Answer::Check(..) => 5,
+            Answer::LogFault(..) | Answer::Misfit(_) => 12,
             Answer::LinkFault => 8,
             Answer::Damaged(_) => 9,
             Answer::Ran(verdict, _) => status_by(*verdict),
@@ -64,6 +70,8 @@ impl Answer {
             Answer::TooLarge => copied_text(alloc, b"too large\n"),
             Answer::Syntax(fault) => syntax_text(alloc, fault),
             Answer::Check(rule, line) => check_text(alloc, rule, line),
+            Answer::LogFault(rule, line) => log_fault_text(alloc, rule, line),
+            Answer::Misfit(text) => Ok(text),
             Answer::LinkFault => copied_text(alloc, b"link fault\n"),
             Answer::Damaged(text) => Ok(text),
             Answer::Ran(_, text) => Ok(text),
@@ -110,6 +118,18 @@ fn check_text(alloc: Global, rule: u8, line: u32) -> Result<Vec<u8>, NoMemory>
     put_number(&mut text, u64::from(rule))?;
     put(&mut text, b" at ")?;
     put_number(&mut text, u64::from(line))?;
+    put(&mut text, b"\n")?;
+    Ok(text)
+}
+
+fn log_fault_text(alloc: Global, rule: u8, at: u32) -> Result<Vec<u8>, NoMemory>
+    ensures { IfOk result (λ text. text.items ≡ text_of (Answer.LogFault rule at)) }
+{
+    let mut text = Vec::new(alloc);
+    put(&mut text, b"log L")?;
+    put_number(&mut text, u64::from(rule))?;
+    put(&mut text, b" at ")?;
+    put_number(&mut text, u64::from(at))?;
     put(&mut text, b"\n")?;
     Ok(text)
 }

@@ -2,15 +2,19 @@
 #![tactic(auto)]
 
 mod acting;
+mod answering;
 mod answers;
 mod counting;
-mod damage;
+mod entries;
+mod files;
 mod laws;
 mod logging;
 mod playing;
-mod run;
+mod replaying;
+mod running;
 mod showing;
 mod summing;
+mod top;
 
 pub use laws::the_table_gives_one_answer;
-pub use run::sj;
+pub use top::sj;

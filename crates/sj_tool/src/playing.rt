@@ -1,38 +1,32 @@
-//! Accepted files that are played to their end: in the plain world, or by their parties.
-ghost use Rattle.std.specs.Prelude.{◌≡◌, Err, IfErr, IfOk, true};
+//! Accepted files that are played to their end: in the plain world, or by the acts of a history.
+ghost use Rattle.std.specs.Prelude.{◌≡◌, ◌≤◌, ◌++◌, IfOk, length, map, max};
+ghost use Rattle.sj_acceptance.specs.Accepted.{IsAccepted};
 ghost use Rattle.sj_check.specs.Held.{file_in};
 ghost use Rattle.sj_core.specs.World.{history_of, world_at};
-ghost use Rattle.sj_lane.specs.Told.{Rose};
+ghost use Rattle.sj_end.specs.Lines.{line_at};
 ghost use Rattle.sj_lang.specs.FileView.{file_of};
-ghost use Rattle.sj_run.specs.Damage.{IsDamaged, IsDamagedSo};
-ghost use Rattle.sj_tool.specs.Calls.{used};
-ghost use Rattle.sj_tool.specs.Runs.{HasHistory, HasRun, HasSimulated, HasSummed};
+ghost use Rattle.sj_plain.specs.Kept.{without_words};
+ghost use Rattle.sj_plain.specs.Plain.{acts_of, kept, world_at as plain_at};
+ghost use Rattle.sj_rules.specs.History.{IsHistory, IsQuietAmong};
+ghost use Rattle.sj_rules.specs.Party.{play_of};
+ghost use Rattle.sj_semantics.specs.Run.{IsRun};
+ghost use Rattle.sj_semantics.specs.Transcript.{transcript_of};
+ghost use Rattle.sj_tool.specs.Tasks.{HasEvents};
+ghost use Rattle.sj_tool.specs.Runs.{HasSimulated, IsTold, log_part, run_text};
 
 use crate::acting::acted;
 use crate::logging::put_log;
 use crate::summing::summary_text;
 use sj_base::NoMemory;
 use sj_check::Accepted;
+use sj_command::Task;
 use sj_core::World;
-use sj_lane::Links;
+use sj_end::Line;
+use sj_lang::File;
 use sj_plain::Plain;
 use sj_print::print_transcript;
-use sj_run::{RunRefusal, run_parties};
 use sj_semantics::Verdict;
-use sj_work::Gate;
 use std::alloc::Global;
-use std::thread::Threads;
-
-/// The looks in vain after which a party of the generated file stops.
-const USUAL_LOOKS: u32 = 1_000;
-
-/// How a file is run: whether its history is printed, and how often a party looks in vain before it
-/// stops.
-#[derive(Clone, Copy)]
-pub(crate) struct Order {
-    pub(crate) log: bool,
-    pub(crate) looks: u32,
-}
 
 /// How the file ends, and its transcript: the parties act in the plain world until nobody can.
 pub(crate) fn simulated(alloc: Global, accepted: &Accepted) -> Result<(Verdict, Vec<u8>), NoMemory>
@@ -45,70 +39,69 @@ pub(crate) fn simulated(alloc: Global, accepted: &Accepted) -> Result<(Verdict, 
     Ok((plain.verdict(), text))
 }
 
-/// The same by its parties over those links: the acts of their history, and of what is drained of it,
-/// in the plain world. That history stands behind the transcript where the log is asked for.
-pub(crate) fn ran<R: Threads + Sync, L: Links, G: Gate>(
-    rt: &R,
+/// How the file ends, and what the task prints of a history that leaves nothing to do: its acts are done
+/// in the plain world.
+pub(crate) fn told(
     alloc: Global,
     accepted: &Accepted,
-    order: Order,
-    links: &mut L,
-    gate: &G,
-) -> Result<(Verdict, Vec<u8>), RunRefusal>
-    ensures ran { IfOk result (λ p. HasRun (used L.tells L.faults L.sent L.got L.vain_out L.vain_in links.old links.new)
-        order.log order.looks (file_of (file_in accepted.now)) p.0 p.1.items) }
-    ensures link_fault { result ≡ Err RunRefusal.LinkFault → Rose (L.faults links.old) (L.faults links.new) }
-    ensures damaged { IfErr result (IsDamagedSo (file_of (file_in accepted.now))) }
-    ensures telling { IfErr result (λ r. IsDamaged r → L.tells links.old ≡ true → ⊥) }
+    task: Task,
+    world: &World,
+) -> Result<(Verdict, Vec<u8>), NoMemory>
+    requires events { HasEvents task }
+    requires run { IsHistory max (file_of (file_in accepted.now)) (history_of world.now) (world_at world.now) }
+    requires quiet { IsQuietAmong (play_of (file_of (file_in accepted.now)))
+        (length (file_of (file_in accepted.now)).parties) (world_at world.now) }
+    ensures told { IfOk result (λ p. IsTold task (file_of (file_in accepted.now)) (history_of world.now) p.0 p.1.items) }
+    ensures accepted { IfOk result (λ p. IsAccepted (file_of (file_in accepted.now))) }
 {
     let file = accepted.file();
-    let world = drained(rt, alloc, accepted, order.looks, links, gate)?;
     let plain = acted(alloc, accepted, world.history())?;
+    let text = text_for(alloc, file, task, world.history(), &plain)?;
+    Ok((plain.verdict(), text))
+}
+
+// What the task prints of that history, and of the plain world to which its acts lead.
+fn text_for(
+    alloc: Global,
+    file: &File,
+    task: Task,
+    lines: &[Line],
+    plain: &Plain,
+) -> Result<Vec<u8>, NoMemory>
+    requires events { HasEvents task }
+    requires parties { length (file_of file.now).parties ≤ 16 }
+    requires connects { length (file_of file.now).connects ≤ 64 }
+    requires kept { kept plain.now ≡ without_words (file_of file.now) }
+    requires run { IsRun (kept plain.now) (acts_of plain.now) (plain_at plain.now) }
+    ensures { IfOk result (λ text. text.items
+        ≡ run_text task (file_of file.now) (map line_at lines.now) (plain_at plain.now)) }
+{
+    match task {
+        Task::Run { log, .. } => logged_text(alloc, file, lines, plain, log),
+        Task::Replay { log } => logged_text(alloc, file, lines, plain, log),
+        Task::Big(n) => summary_text(alloc, n, file, plain),
+        // They have no history.
+        Task::Check | Task::Show | Task::Sim | Task::Make(_) => unreachable!(),
+    }
+}
+
+// The transcript, and behind it the history where the log is asked for.
+fn logged_text(
+    alloc: Global,
+    file: &File,
+    lines: &[Line],
+    plain: &Plain,
+    log: bool,
+) -> Result<Vec<u8>, NoMemory>
+    requires parties { length (file_of file.now).parties ≤ 16 }
+    requires connects { length (file_of file.now).connects ≤ 64 }
+    requires kept { kept plain.now ≡ without_words (file_of file.now) }
+    requires run { IsRun (kept plain.now) (acts_of plain.now) (plain_at plain.now) }
+    ensures { IfOk result (λ text. text.items ≡ transcript_of (file_of file.now) (plain_at plain.now)
+        ++ log_part log (file_of file.now) (map line_at lines.now)) }
+{
     let mut text = Vec::new(alloc);
-    print_transcript(&mut text, file, &plain)?;
-    put_log(&mut text, file, world.history(), order.log)?;
-    Ok((plain.verdict(), text))
-}
-
-/// The same, with how much was done in place of the transcript and the history. The file is the
-/// generated one of that number, and a party looks in vain as often as where no word tells.
-pub(crate) fn summed<R: Threads + Sync, L: Links, G: Gate>(
-    rt: &R,
-    alloc: Global,
-    accepted: &Accepted,
-    n: u16,
-    links: &mut L,
-    gate: &G,
-) -> Result<(Verdict, Vec<u8>), RunRefusal>
-    ensures summed { IfOk result (λ p. HasSummed (used L.tells L.faults L.sent L.got L.vain_out L.vain_in links.old links.new)
-        n (file_of (file_in accepted.now)) p.0 p.1.items) }
-    ensures link_fault { result ≡ Err RunRefusal.LinkFault → Rose (L.faults links.old) (L.faults links.new) }
-    ensures damaged { IfErr result (IsDamagedSo (file_of (file_in accepted.now))) }
-    ensures telling { IfErr result (λ r. IsDamaged r → L.tells links.old ≡ true → ⊥) }
-{
-    let file = accepted.file();
-    let world = drained(rt, alloc, accepted, USUAL_LOOKS, links, gate)?;
-    let plain = acted(alloc, accepted, world.history())?;
-    let text = summary_text(alloc, n, file, &plain)?;
-    Ok((plain.verdict(), text))
-}
-
-// The core world that the parties left, after all that can still happen in it.
-fn drained<R: Threads + Sync, L: Links, G: Gate>(
-    rt: &R,
-    alloc: Global,
-    accepted: &Accepted,
-    looks: u32,
-    links: &mut L,
-    gate: &G,
-) -> Result<World, RunRefusal>
-    ensures has { IfOk result (λ w. HasHistory (used L.tells L.faults L.sent L.got L.vain_out L.vain_in links.old links.new)
-        looks (file_of (file_in accepted.now)) (history_of w) (world_at w)) }
-    ensures link_fault { result ≡ Err RunRefusal.LinkFault → Rose (L.faults links.old) (L.faults links.new) }
-    ensures damaged { IfErr result (IsDamagedSo (file_of (file_in accepted.now))) }
-    ensures telling { IfErr result (λ r. IsDamaged r → L.tells links.old ≡ true → ⊥) }
-{
-    let mut world = run_parties(rt, alloc, accepted, looks, links, gate)?;
-    world.drain()?;
-    Ok(world)
+    print_transcript(&mut text, file, plain)?;
+    put_log(&mut text, file, lines, log)?;
+    Ok(text)
 }

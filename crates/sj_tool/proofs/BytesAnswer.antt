@@ -1,0 +1,110 @@
+-- The bytes that a task takes are answered in one way.
+use Rattle.std.proofs.Common.{◌≡◌, ◌∙◌, ◌<◌, ◌≤◌, ℕ, List, length, inl, inr, ap, sym, subst, refl, arith}
+use Rattle.sj_command.specs.declared.tasks.Task.{Task}
+use Rattle.sj_command.specs.declared.tasks.Task.TheVariants as tasks
+use Rattle.sj_log.specs.Parts.{HasNoPart, IsParted}
+use Rattle.sj_tool.specs.declared.answers.Answer.{Answer}
+use Rattle.sj_tool.specs.declared.answers.Answer.TheVariants.{Usage, ReadFault, TooLarge, Syntax, Check, LogFault, Misfit, LinkFault, Damaged, Ran, Printed, Made}
+use Rattle.sj_tool.specs.Answers.{AnswersBytes, AnswersParts, AnswersText}
+use Rattle.sj_tool.specs.Calls.{LinkUseAt}
+use Rattle.sj_tool.specs.Tasks.{HasLongText, HasParts, Replays as IsReplay, Takes, file_limit}
+use Rattle.sj_tool.proofs.InputLemmas.{one_part}
+use Rattle.sj_tool.proofs.OneAnswer.{HoldsFor, one_of_text}
+use Rattle.sj_tool.proofs.ToldOnce.{AreToldOnce, same_told, told}
+
+-- what of the bytes is answered: what stands before the log is too long, no line is `%%log`, or their parts are
+pub data Kind (links : LinkUseAt) (task : Task) (bytes : List ℕ) (a : Answer) : Type 0 where
+  long : a ≡ TooLarge → IsReplay task → HasLongText bytes → Kind links task bytes a
+  misses : a ≡ LogFault 1 0 → IsReplay task → HasNoPart bytes → Kind links task bytes a
+  parts : AnswersParts links task bytes a → Kind links task bytes a
+
+pub kind_of : (links : LinkUseAt) (task : Task) (bytes : List ℕ) (a : Answer) → AnswersBytes links task bytes a → Kind links task bytes a
+kind_of links task bytes Usage x = parts x
+kind_of links task bytes ReadFault x = parts x
+kind_of links task bytes TooLarge x = long refl x.0 x.1
+kind_of links task bytes (Syntax f) x = parts x
+kind_of links task bytes (Check r k) x = parts x
+kind_of links task bytes (LogFault r k) x = elim x [ inl m ↦ misses (ap (λ s. LogFault s k) m.2 ∙ ap (λ n. LogFault 1 n) m.3) m.0 m.1 | inr p ↦ parts p ]
+kind_of links task bytes (Misfit t) x = parts x
+kind_of links task bytes LinkFault x = parts x
+kind_of links task bytes (Damaged t) x = parts x
+kind_of links task bytes (Ran v t) x = parts x
+kind_of links task bytes (Printed t) x = parts x
+kind_of links task bytes (Made t) x = parts x
+
+-- the parts of a replay stand before and behind its line `%%log`
+pub parted_of : (task : Task) (bytes text log : List ℕ) → IsReplay task → HasParts task bytes text log → IsParted bytes text log × (length text ≤ file_limit)
+parted_of tasks.Check bytes text log replays p = absurd replays
+parted_of tasks.Show bytes text log replays p = absurd replays
+parted_of tasks.Sim bytes text log replays p = absurd replays
+parted_of (tasks.Run l looks) bytes text log replays p = absurd replays
+parted_of (tasks.Replay l) bytes text log replays p = p
+parted_of (tasks.Make n) bytes text log replays p = absurd replays
+parted_of (tasks.Big n) bytes text log replays p = absurd replays
+
+-- a text that isn't too long is no other that is
+pub not_long : (task : Task) (bytes text log : List ℕ) → IsReplay task → HasParts task bytes text log → HasLongText bytes → ⊥
+not_long task bytes text log replays p x =
+    let q = parted_of task bytes text log replays p in
+    let same = Rattle.sj_log.proofs.PartLemmas.one_parting bytes text log x.text x.log q.0 x.parts in
+    omega (arith, q.1, x.long, ap length same.0)
+
+pub not_missed : (task : Task) (bytes text log : List ℕ) → IsReplay task → HasParts task bytes text log → HasNoPart bytes → ⊥
+not_missed task bytes text log replays p none = none text log (parted_of task bytes text log replays p).0.here
+
+module _ (links : LinkUseAt) (task : Task) (bytes : List ℕ) (a b : Answer) where
+  one_of_kind : Kind links task bytes a → Kind links task bytes b → HoldsFor links task b → AreToldOnce task (told a) (told b)
+  one_of_kind (long e replays x) (long d again y) h = same_told task (told a) (told b) (ap told (e ∙ sym d))
+  one_of_kind (long e replays x) (misses d again none) h = absurd (none x.text x.log x.parts.here)
+  one_of_kind (long e replays x) (parts q) h = absurd (not_long task bytes q.text q.log replays q.parts x)
+  one_of_kind (misses e replays none) (long d again y) h = absurd (none y.text y.log y.parts.here)
+  one_of_kind (misses e replays none) (misses d again other) h = same_told task (told a) (told b) (ap told (e ∙ sym d))
+  one_of_kind (misses e replays none) (parts q) h = absurd (not_missed task bytes q.text q.log replays q.parts none)
+  one_of_kind (parts p) (long d replays y) h = absurd (not_long task bytes p.text p.log replays p.parts y)
+  one_of_kind (parts p) (misses d replays none) h = absurd (not_missed task bytes p.text p.log replays p.parts none)
+  one_of_kind (parts p) (parts q) h =
+      let same = one_part task bytes q.text q.log p.text p.log q.parts p.parts in
+      one_of_text links task p.log p.text a b p.answers
+      (subst (λ (l : List ℕ). AnswersText links task l p.text b) same.1 (subst (λ (t : List ℕ). AnswersText links task q.log t b) same.0 q.answers)) h
+
+  pub one_of_bytes : AnswersBytes links task bytes a → AnswersBytes links task bytes b → HoldsFor links task b → AreToldOnce task (told a) (told b)
+  one_of_bytes x y h = one_of_kind (kind_of links task bytes a x) (kind_of links task bytes b y) h
+
+-- ---- a task whose bytes are answered takes a file
+
+takes_text : (links : LinkUseAt) (task : Task) (log text : List ℕ) (a : Answer) → AnswersText links task log text a → Takes task
+takes_text links tasks.Check log text a h = tt
+takes_text links tasks.Show log text a h = tt
+takes_text links tasks.Sim log text a h = tt
+takes_text links (tasks.Run l looks) log text a h = tt
+takes_text links (tasks.Replay l) log text a h = tt
+takes_text links (tasks.Big n) log text a h = tt
+takes_text links (tasks.Make n) log text Usage h = absurd h.answers
+takes_text links (tasks.Make n) log text ReadFault h = absurd h.answers
+takes_text links (tasks.Make n) log text TooLarge h = absurd h.answers
+takes_text links (tasks.Make n) log text (Syntax f) h = absurd h.0
+takes_text links (tasks.Make n) log text (Check r k) h = absurd h.answers.0
+takes_text links (tasks.Make n) log text (LogFault r k) h = absurd h.answers.1
+takes_text links (tasks.Make n) log text (Misfit t) h = absurd h.answers.1
+takes_text links (tasks.Make n) log text LinkFault h = absurd h.answers.1
+takes_text links (tasks.Make n) log text (Damaged t) h = absurd h.answers.1
+takes_text links (tasks.Make n) log text (Ran v t) h = absurd h.answers.1
+takes_text links (tasks.Make n) log text (Printed t) h = absurd h.answers
+takes_text links (tasks.Make n) log text (Made t) h = absurd h.answers
+
+replay_takes : (task : Task) → IsReplay task → Takes task
+replay_takes tasks.Check h = tt
+replay_takes tasks.Show h = tt
+replay_takes tasks.Sim h = tt
+replay_takes (tasks.Run l looks) h = tt
+replay_takes (tasks.Replay l) h = tt
+replay_takes (tasks.Make n) h = h
+replay_takes (tasks.Big n) h = tt
+
+pub takes_file : (links : LinkUseAt) (task : Task) (bytes : List ℕ) (a : Answer) → AnswersBytes links task bytes a → Takes task
+takes_file links task bytes a x = by (kind_of links task bytes a x)
+  where
+    by : Kind links task bytes a → Takes task
+    by (long e replays y) = replay_takes task replays
+    by (misses e replays none) = replay_takes task replays
+    by (parts p) = takes_text links task p.log p.text a p.answers

@@ -1,0 +1,130 @@
+-- What answers a valid file completes its task.
+use Rattle.std.proofs.Common.{◌≡◌, ◌∙◌, ◌++◌, ℕ, Bool, true, false, List, [], Option, Some, None, inl, inr, ap, sym, subst}
+use Rattle.sj_lang.specs.FileAt.{FileAt}
+use Rattle.sj_grammar.specs.Files.{IsFile}
+use Rattle.sj_acceptance.specs.Accepted.{IsAccepted}
+use Rattle.sj_acceptance.specs.Faults.{first_fault}
+use Rattle.sj_acceptance.specs.FileTests.{tests_of}
+use Rattle.sj_acceptance_laws.proofs.FileLaws.{accepted_to}
+use Rattle.sj_semantics.specs.declared.Verdict.{Verdict}
+use Rattle.sj_semantics.specs.Run.{end_of}
+use Rattle.sj_semantics.specs.State.{verdict_of}
+use Rattle.sj_party.proofs.OneFile.{one_file}
+use Rattle.sj_party.proofs.Faultless.{no_fault}
+use Rattle.sj_command.specs.declared.tasks.Task.{Task}
+use Rattle.sj_command.specs.declared.tasks.Task.TheVariants as tasks
+use Rattle.sj_tool.specs.declared.answers.Answer.{Answer}
+use Rattle.sj_tool.specs.declared.answers.Answer.TheVariants.{Usage, ReadFault, TooLarge, Syntax, Check, LogFault, Misfit, LinkFault, Damaged, Ran, Printed, Made}
+use Rattle.sj_tool.specs.Answers.{AnswersBytes, AnswersFile, AnswersText}
+use Rattle.sj_tool.specs.Calls.{LinkUseAt, LinksHold}
+use Rattle.sj_tool.specs.Completeness.{Completes, FitsLog, TellsEnd}
+use Rattle.sj_tool.specs.Tasks.{Checks, HasParts, RunsParties}
+use Rattle.sj_tool.specs.Runs.{HasRun}
+use Rattle.sj_tool.specs.Sums.{summary}
+use Rattle.sj_tool.specs.Texts.{status_of, text_of, verdict_status}
+use Rattle.sj_tool.proofs.BytesAnswer.{Kind, kind_of, long, misses, not_long, not_missed, parts}
+use Rattle.sj_tool.proofs.HeadlineOfAnswers.{IsPlayedSo, played_so}
+use Rattle.sj_tool.proofs.InputLemmas.{one_part}
+use Rattle.sj_tool.proofs.LogAnswers.{fault_or_lines, misfit_or_history}
+use Rattle.sj_tool.proofs.OneAnswer.{IsEither, IsUnhurt, either, file_told}
+use Rattle.sj_tool.proofs.ToldOnce.{IsPlayed, Tells, TellsChecked, TellsFaultless, told}
+
+-- what is played completes
+played : (log : Bool) (file : FileAt) (t : ℕ × List ℕ) (v : Verdict) (text : List ℕ) (task : Task) → t ≡ (verdict_status v, text) → (p : IsPlayedSo task file v text) → (log ≡ false → p.behind ≡ []) → TellsEnd log file t.0 t.1
+played log file t v text task e p bare = record {
+  verdict = ap (λ z. z.0) e ∙ ap verdict_status p.stands;
+  behind = p.behind;
+  transcript = ap (λ z. z.1) e ∙ p.printed;
+  bare = bare;
+}
+
+-- what is told of a task's file: the generated one may be any file here
+abbrev pub Told : Task → FileAt → ℕ → List ℕ → Type 0
+Told (tasks.Big n) file status text = (status ≡ verdict_status (verdict_of (end_of file))) × (text ≡ summary n file (end_of file))
+Told task file status text = Completes task file status text
+
+never : true ≡ false → ⊥
+never e = let no : ⊥ = cc in no
+
+module _ (links : LinkUseAt) (log : List ℕ) (file : FileAt) (t : ℕ × List ℕ) where
+  -- a run by a log that fits
+  replay_played : (l : Bool) → IsPlayed links (tasks.Replay l) log file t → TellsEnd l file t.0 t.1
+  replay_played true p =
+      let s = played_so links (tasks.Replay true) log file p.verdict p.text tt p.plays in
+      played true file t p.verdict p.text (tasks.Replay true) p.are s (λ e. absurd (never e))
+  replay_played false p =
+      let s = played_so links (tasks.Replay false) log file p.verdict p.text tt p.plays in
+      played false file t p.verdict p.text (tasks.Replay false) p.are s (λ _. s.bare (λ no. no))
+
+  -- what is told of a file that has no fault completes
+  faultless : (task : Task) → FitsLog task file log → TellsFaultless links task log file t → Told task file t.0 t.1
+  faultless tasks.Check fits e = (ap (λ z. z.0) e, ap (λ z. z.1) e)
+  faultless tasks.Show fits e = absurd e
+  faultless tasks.Sim fits p =
+      let s = played_so links tasks.Sim log file p.verdict p.text tt p.plays in
+      played false file t p.verdict p.text tasks.Sim p.are s (λ _. s.bare (λ no. no))
+  faultless (tasks.Run true looks) fits p =
+      let s = played_so links (tasks.Run true looks) log file p.verdict p.text tt p.plays in
+      played true file t p.verdict p.text (tasks.Run true looks) p.are s (λ e. absurd (never e))
+  faultless (tasks.Run false looks) fits p =
+      let s = played_so links (tasks.Run false looks) log file p.verdict p.text tt p.plays in
+      played false file t p.verdict p.text (tasks.Run false looks) p.are s (λ _. s.bare (λ no. no))
+  faultless (tasks.Replay l) fits (inl (r, k, a, e)) = absurd (fault_or_lines file log r k fits.lines a fits.spells)
+  faultless (tasks.Replay l) fits (inr (inl (s, a, e))) = absurd (misfit_or_history file log s fits.lines fits.core a fits.spells fits.leads)
+  faultless (tasks.Replay l) fits (inr (inr p)) = replay_played l p
+  faultless (tasks.Make n) fits e = absurd e
+  faultless (tasks.Big n) fits p =
+      let ends : HasRun links (tasks.Big n) log file p.verdict p.text = p.plays in
+      (ap (λ z. z.0) p.are ∙ ap verdict_status (ends.stands ∙ ap verdict_of ends.is_end), ap (λ z. z.1) p.are ∙ ends.printed ∙ ap (summary n file) ends.is_end)
+
+  -- the same of a file's first fault, where a task that checks finds none
+  checked : (task : Task) (first : Option (ℕ × ℕ)) → FitsLog task file log → first ≡ None → TellsChecked links task log file first t → Told task file t.0 t.1
+  checked task first fits ok e = faultless task fits (subst (λ (f : Option (ℕ × ℕ)). TellsChecked links task log file f t) ok e)
+
+  told_valid : (task : Task) (first : Option (ℕ × ℕ)) → FitsLog task file log → (Checks task → first ≡ None) → Tells links task log file first t → Told task file t.0 t.1
+  told_valid tasks.Show first fits ok e = (ap (λ z. z.0) e, ap (λ z. z.1) e)
+  told_valid (tasks.Make n) first fits ok e = absurd e
+  told_valid tasks.Check first fits ok e = checked tasks.Check first fits (ok tt) e
+  told_valid tasks.Sim first fits ok e = checked tasks.Sim first fits (ok tt) e
+  told_valid (tasks.Run l looks) first fits ok e = checked (tasks.Run l looks) first fits (ok tt) e
+  told_valid (tasks.Replay l) first fits ok e = checked (tasks.Replay l) first fits (ok tt) e
+  told_valid (tasks.Big n) first fits ok e = checked (tasks.Big n) first fits (ok tt) e
+
+-- links that hold bring no fault of theirs
+unhurt_by : (links : LinkUseAt) (task : Task) (log : List ℕ) (file : FileAt) (a : Answer) → (RunsParties task → LinksHold links) → AnswersFile links task log file a → IsUnhurt a
+unhurt_by links task log file Usage hold x = tt
+unhurt_by links task log file ReadFault hold x = tt
+unhurt_by links task log file TooLarge hold x = tt
+unhurt_by links task log file (Syntax f) hold x = tt
+unhurt_by links task log file (Check r k) hold x = tt
+unhurt_by links task log file (LogFault r k) hold x = tt
+unhurt_by links task log file (Misfit t) hold x = tt
+unhurt_by links task log file LinkFault hold x = let holds = hold x.1 in holds.1 x.2
+unhurt_by links task log file (Damaged t) hold x = let holds = hold x.1 in x.2 holds.0
+unhurt_by links task log file (Ran v t) hold x = tt
+unhurt_by links task log file (Printed t) hold x = tt
+unhurt_by links task log file (Made t) hold x = tt
+
+module _ (links : LinkUseAt) (task : Task) (file : FileAt) (bytes text log : List ℕ) (has : HasParts task bytes text log) (stands : IsFile text file) (accepted : Checks task → IsAccepted file) (fits : FitsLog task file log)
+    (hold : RunsParties task → LinksHold links) where
+  -- what answers the text of a valid file completes
+  text_completes : (a : Answer) → AnswersText links task log text a → Told task file (status_of a) (text_of a)
+  text_completes a x = by_kind (either links task log text a x)
+    where
+      by_kind : IsEither links task log text a → Told task file (status_of a) (text_of a)
+      by_kind (inl (f, e, s)) = absurd (no_fault text file f stands s)
+      by_kind (inr y) =
+          let same = subst (λ (f : FileAt). AnswersFile links task log f a) (one_file text y.file file y.stands stands) y.answers in
+          told_valid links log file (told a) task (first_fault (tests_of file)) fits (λ checks. accepted_to file (accepted checks))
+          (file_told links task log file a (unhurt_by links task log file a hold same) same)
+
+  -- and so does what answers the bytes that have it
+  pub bytes_complete : (a : Answer) → AnswersBytes links task bytes a → Told task file (status_of a) (text_of a)
+  bytes_complete a x = by_kind (kind_of links task bytes a x)
+    where
+      by_kind : Kind links task bytes a → Told task file (status_of a) (text_of a)
+      by_kind (long e replays y) = absurd (not_long task bytes text log replays has y)
+      by_kind (misses e replays none) = absurd (not_missed task bytes text log replays has none)
+      by_kind (parts p) =
+          let same = one_part task bytes p.text p.log text log p.parts has in
+          text_completes a (subst (λ (l : List ℕ). AnswersText links task l text a) same.1 (subst (λ (t : List ℕ). AnswersText links task p.log t a) same.0 p.answers))

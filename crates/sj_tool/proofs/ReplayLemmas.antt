@@ -1,0 +1,34 @@
+-- What a log is replayed to, and why it isn't.
+use Rattle.std.proofs.Common.{ℕ, List}
+use Rattle.std.specs.Prelude.{Bool}
+use Rattle.sj_command.specs.declared.tasks.Task.{Task}
+use Rattle.sj_command.specs.declared.tasks.Task.TheVariants as tasks
+use Rattle.sj_lang.specs.Place.{Place}
+use Rattle.sj_rules.specs.World.{WorldAt}
+use Rattle.sj_semantics.specs.Program.{Program}
+use Rattle.sj_tool.specs.Calls.{LinkUseAt}
+use Rattle.sj_tool.specs.Runs.{HasHistory}
+use Rattle.sj_tool.specs.Tasks.{Replays as IsReplay}
+use Rattle.sj_lang.specs.FileAt.{FileAt}
+use Rattle.sj_log.specs.LogText.{SpellsLog}
+use Rattle.sj_rules.specs.Log.{LineAt}
+use Rattle.sj_tool.specs.Replays.{IsRefusedBy, IsStopped}
+use Rattle.sj_tool.specs.declared.replaying.ReplayFault.{ReplayFault}
+use Rattle.sj_tool.specs.declared.replaying.ReplayFault.TheVariants as faults
+
+-- lines that don't lead on refuse the log that spells them
+pub stopped_refused : (file : FileAt) (log : List ℕ) (lines : List LineAt) (r : ReplayFault) → SpellsLog file log lines → IsStopped file lines r → IsRefusedBy file log r
+stopped_refused file log lines (faults.Text rule line) spells stopped = absurd stopped
+stopped_refused file log lines (faults.Entry number logged other) spells stopped = (lines, spells, stopped)
+stopped_refused file log lines faults.NoMemory spells stopped = tt
+
+-- a task that replays has the history of its log
+pub replay_has : (links : LinkUseAt) (task : Task) (log : List ℕ) (file : FileAt) (history : List LineAt) (core : WorldAt Place Program) → IsReplay task
+    → ((l : Bool) → HasHistory links (tasks.Replay l) log file history core) → HasHistory links task log file history core
+replay_has links tasks.Check log file history core h has = absurd h
+replay_has links tasks.Show log file history core h has = absurd h
+replay_has links tasks.Sim log file history core h has = absurd h
+replay_has links (tasks.Run l looks) log file history core h has = absurd h
+replay_has links (tasks.Replay l) log file history core h has = has l
+replay_has links (tasks.Make n) log file history core h has = absurd h
+replay_has links (tasks.Big n) log file history core h has = absurd h

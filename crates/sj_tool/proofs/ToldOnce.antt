@@ -1,0 +1,134 @@
+-- A file is told of in one way: its first fault, or what its task makes of it.
+use Rattle.std.proofs.Common.{◌≡◌, ◌⊎◌, ◌∙◌, ℕ, List, Option, Some, None, ap, ap₂, sym, subst, refl, inl, inr}
+use Rattle.std.specs.Prelude.{Bool}
+use Rattle.sj_lang.specs.FileAt.{FileAt}
+use Rattle.sj_acceptance_laws.proofs.FileLaws.{accepted_to}
+use Rattle.sj_acceptance.specs.Faults.{first_fault}
+use Rattle.sj_acceptance.specs.FileTests.{tests_of}
+use Rattle.sj_command.specs.declared.tasks.Task.{Task}
+use Rattle.sj_command.specs.declared.tasks.Task.TheVariants as tasks
+use Rattle.sj_log.specs.LogText.{IsFault}
+use Rattle.sj_log.specs.declared.refusal.LogRefusal.TheVariants.{At}
+use Rattle.sj_semantics.specs.declared.Verdict.{Verdict}
+use Rattle.sj_tool.specs.declared.answers.Answer.{Answer}
+use Rattle.sj_tool.specs.declared.answers.Answer.TheVariants.{Usage, ReadFault, TooLarge, Syntax, Check, LogFault, Misfit, LinkFault, Damaged, Ran, Printed, Made}
+use Rattle.sj_tool.specs.Answers.{AnswersFile}
+use Rattle.sj_tool.specs.Runs.{Plays}
+use Rattle.sj_tool.specs.Calls.{LinkUseAt}
+use Rattle.sj_tool.specs.Entries.{IsMisfitText}
+use Rattle.sj_tool.specs.Shown.{shown}
+use Rattle.sj_tool.specs.Table.{AreOneLog, LogsRun}
+use Rattle.sj_tool.specs.Texts.{check_line, counts_of, log_line, status_of, text_of, verdict_status}
+use Rattle.sj_tool.proofs.LogAnswers.{fault_once, fault_or_lines, misfit_once, misfit_or_history}
+use Rattle.sj_tool.proofs.OneRun.{one_run}
+
+abbrev pub told : Answer → ℕ × List ℕ
+told a = (status_of a, text_of a)
+
+-- the status and the text of a file that ends so
+abbrev ended : Verdict → List ℕ → ℕ × List ℕ
+ended verdict text = (verdict_status verdict, text)
+
+-- two are one: one status, and one text up to a history that is asked for
+pub record AreToldOnce (task : Task) (t u : ℕ × List ℕ) : Type 0 where
+  pub status : t.0 ≡ u.0
+  pub text : (t.1 ≡ u.1) ⊎ (LogsRun task × AreOneLog t.1 u.1)
+
+pub same_told : (task : Task) (t u : ℕ × List ℕ) → t ≡ u → AreToldOnce task t u
+same_told task t u e = record { status = ap (λ z. z.0) e; text = inl (ap (λ z. z.1) e) }
+
+-- the status and the text are those of a file that is played
+pub record IsPlayed (links : LinkUseAt) (task : Task) (log : List ℕ) (file : FileAt) (t : ℕ × List ℕ) : Type 0 where
+  pub verdict : Verdict
+  pub text : List ℕ
+  pub plays : Plays links task log file verdict text
+  pub are : t ≡ ended verdict text
+
+-- the status and the text tell that the log is refused
+abbrev pub TellsRule : FileAt → (log : List ℕ) → ℕ × List ℕ → Type 0
+TellsRule file log t = (rule : ℕ) × (line : ℕ) × IsFault file log (At rule line) × (t ≡ (12, log_line rule line))
+
+abbrev pub TellsEntry : FileAt → (log : List ℕ) → ℕ × List ℕ → Type 0
+TellsEntry file log t = (text : List ℕ) × IsMisfitText file log text × (t ≡ (12, text))
+
+-- or how the file ends that is run by it
+abbrev pub TellsLog : LinkUseAt → (l : Bool) → (log : List ℕ) → FileAt → ℕ × List ℕ → Type 0
+TellsLog links l log file t = TellsRule file log t ⊎ (TellsEntry file log t ⊎ IsPlayed links (tasks.Replay l) log file t)
+
+-- the status and the text that answer a file without a fault
+abbrev pub TellsFaultless : LinkUseAt → Task → (log : List ℕ) → FileAt → ℕ × List ℕ → Type 0
+TellsFaultless links tasks.Check log file t = t ≡ (0, counts_of file)
+TellsFaultless links tasks.Show log file t = ⊥
+TellsFaultless links tasks.Sim log file t = IsPlayed links tasks.Sim log file t
+TellsFaultless links (tasks.Run l looks) log file t = IsPlayed links (tasks.Run l looks) log file t
+TellsFaultless links (tasks.Replay l) log file t = TellsLog links l log file t
+TellsFaultless links (tasks.Make n) log file t = ⊥
+TellsFaultless links (tasks.Big n) log file t = IsPlayed links (tasks.Big n) log file t
+
+-- by its first fault
+abbrev pub TellsChecked : LinkUseAt → Task → (log : List ℕ) → FileAt → Option (ℕ × ℕ) → ℕ × List ℕ → Type 0
+TellsChecked links task log file (Some x) t = t ≡ (5, check_line x.0 x.1)
+TellsChecked links task log file None t = TellsFaultless links task log file t
+
+-- the status and the text that answer a file, by its first fault where the task checks
+abbrev pub Tells : LinkUseAt → Task → (log : List ℕ) → FileAt → Option (ℕ × ℕ) → ℕ × List ℕ → Type 0
+Tells links tasks.Show log file fault t = t ≡ (0, shown file)
+Tells links (tasks.Make n) log file fault t = ⊥
+Tells links task log file fault t = TellsChecked links task log file fault t
+
+module _ (links : LinkUseAt) (log : List ℕ) (file : FileAt) (t u : ℕ × List ℕ) where
+  -- a file is played in one way
+  played_once : (task : Task) → IsPlayed links task log file t → IsPlayed links task log file u → AreToldOnce task t u
+  played_once task x y =
+      subst (λ (z : ℕ × List ℕ). AreToldOnce task z u) (sym x.are)
+      (subst (λ (z : ℕ × List ℕ). AreToldOnce task (ended x.verdict x.text) z) (sym y.are) (by task x.verdict y.verdict x.text y.text x.plays y.plays))
+    where
+      ran : (task : Task) (v w : Verdict) (s r : List ℕ) → Rattle.sj_tool.proofs.OneRun.AreAlike task v w s r → AreToldOnce task (ended v s) (ended w r)
+      ran task v w s r one = record { status = ap verdict_status one.0; text = one.1 }
+
+      by : (task : Task) (v w : Verdict) (s r : List ℕ) → Plays links task log file v s → Plays links task log file w r → AreToldOnce task (ended v s) (ended w r)
+      by tasks.Sim v w s r p q = same_told tasks.Sim (ended v s) (ended w r) (ap₂ ended (p.0 ∙ sym q.0) (p.1 ∙ sym q.1))
+      by (tasks.Run l looks) v w s r p q = ran (tasks.Run l looks) v w s r (one_run links log file v w s r (tasks.Run l looks) tt p q)
+      by (tasks.Replay l) v w s r p q = ran (tasks.Replay l) v w s r (one_run links log file v w s r (tasks.Replay l) tt p q)
+      by (tasks.Big n) v w s r p q = ran (tasks.Big n) v w s r (one_run links log file v w s r (tasks.Big n) tt p q)
+      by tasks.Check v w s r p q = absurd p
+      by tasks.Show v w s r p q = absurd p
+      by (tasks.Make n) v w s r p q = absurd p
+
+  -- a log is told of in one way
+  log_once : (l : Bool) → TellsLog links l log file t → TellsLog links l log file u → AreToldOnce (tasks.Replay l) t u
+  log_once l (inl (r, k, a, e)) (inl (s, m, b, d)) =
+      let one = fault_once file log r s k m a b in
+      same_told (tasks.Replay l) t u (e ∙ ap₂ (λ x y. (12, log_line x y)) one.0 one.1 ∙ sym d)
+  log_once l (inl (r, k, a, e)) (inr (inl (s, b, d))) = absurd (fault_or_lines file log r k b.lines a b.spells)
+  log_once l (inl (r, k, a, e)) (inr (inr y)) = absurd (fault_or_lines file log r k y.plays.has.lines a y.plays.has.given)
+  log_once l (inr (inl (s, a, e))) (inl (r, k, b, d)) = absurd (fault_or_lines file log r k a.lines b a.spells)
+  log_once l (inr (inl (s, a, e))) (inr (inl (r, b, d))) =
+      same_told (tasks.Replay l) t u (e ∙ ap (λ x. (12, x)) (misfit_once file log s r a b) ∙ sym d)
+  log_once l (inr (inl (s, a, e))) (inr (inr y)) = absurd (misfit_or_history file log s y.plays.has.lines y.plays.has.left a y.plays.has.given y.plays.has.begins)
+  log_once l (inr (inr x)) (inl (r, k, b, d)) = absurd (fault_or_lines file log r k x.plays.has.lines b x.plays.has.given)
+  log_once l (inr (inr x)) (inr (inl (s, b, d))) = absurd (misfit_or_history file log s x.plays.has.lines x.plays.has.left b x.plays.has.given x.plays.has.begins)
+  log_once l (inr (inr x)) (inr (inr y)) = played_once (tasks.Replay l) x y
+
+  faultless_once : (task : Task) → TellsFaultless links task log file t → TellsFaultless links task log file u → AreToldOnce task t u
+  faultless_once tasks.Check x y = same_told tasks.Check t u (x ∙ sym y)
+  faultless_once tasks.Show x y = absurd x
+  faultless_once tasks.Sim x y = played_once tasks.Sim x y
+  faultless_once (tasks.Run l looks) x y = played_once (tasks.Run l looks) x y
+  faultless_once (tasks.Replay l) x y = log_once l x y
+  faultless_once (tasks.Make n) x y = absurd x
+  faultless_once (tasks.Big n) x y = played_once (tasks.Big n) x y
+
+  checked_once : (task : Task) (fault : Option (ℕ × ℕ)) → TellsChecked links task log file fault t → TellsChecked links task log file fault u → AreToldOnce task t u
+  checked_once task (Some f) x y = same_told task t u (x ∙ sym y)
+  checked_once task None x y = faultless_once task x y
+
+  -- a file is answered with one status and one text
+  pub told_once : (task : Task) (fault : Option (ℕ × ℕ)) → Tells links task log file fault t → Tells links task log file fault u → AreToldOnce task t u
+  told_once tasks.Show fault x y = same_told tasks.Show t u (x ∙ sym y)
+  told_once (tasks.Make n) fault x y = absurd x
+  told_once tasks.Check fault x y = checked_once tasks.Check fault x y
+  told_once tasks.Sim fault x y = checked_once tasks.Sim fault x y
+  told_once (tasks.Run l looks) fault x y = checked_once (tasks.Run l looks) fault x y
+  told_once (tasks.Replay l) fault x y = checked_once (tasks.Replay l) fault x y
+  told_once (tasks.Big n) fault x y = checked_once (tasks.Big n) fault x y

@@ -1,0 +1,22 @@
+use Rattle.std.proofs.Common.{[]}
+use Rattle.sj_check.specs.Held.{file_in}
+use Rattle.sj_core.specs.World.{history_of, world_at}
+use Rattle.sj_lang.specs.FileView.{file_of}
+use Rattle.sj_tool.proofs.DrainedLemmas.{told_runs}
+use Rattle.sj_tool.proofs.KindLemmas.{run_has_events}
+use Rattle.sj_tool.proofs.running.ran.Goals as goal
+
+pub told-requires-clause-events : goal.told-requires-clause-events
+told-requires-clause-events g c = run_has_events c.args.task c.requires
+
+pub told-requires-clause-run : goal.told-requires-clause-run
+told-requires-clause-run g c = (c.in_ok-world.ensures.has []).run
+
+pub told-requires-clause-quiet : goal.told-requires-clause-quiet
+told-requires-clause-quiet g c = (c.in_ok-world.ensures.has []).quiet
+
+pub returns-clause-ran : goal.returns-clause-ran
+returns-clause-ran g c log =
+    let world = c.in_ok-world.world in
+    let told = c.in_ok-answer.ensures in
+    told_runs _ c.args.task log (file_of (file_in c.args.accepted.now)) told.accepted (history_of world) (world_at world) (c.in_ok-world.ensures.has log) _ _ told.told

@@ -1,0 +1,136 @@
+//! From the words and the input to the answer.
+ghost use Rattle.std.specs.Prelude.{◌≡◌, ◌≤◌, IfOk, length};
+ghost use Rattle.sj_command.specs.declared.tasks.Task.TheVariants as tasks;
+ghost use Rattle.sj_generator.specs.Generated.{generated};
+ghost use Rattle.sj_tool.specs.Answers.{AnswersBytes, AnswersText, Comes};
+ghost use Rattle.sj_tool.specs.Calls.{call, used};
+ghost use Rattle.sj_tool.specs.Tasks.{Takes, limit_of};
+
+use crate::answers::Answer;
+use crate::files::{counted, ran_by_links, ran_by_log, shown, simulated_file};
+use sj_base::{NoMemory, ReadRefusal, Source, read_all};
+use sj_command::{Task, task_in};
+use sj_generator::print_generated;
+use sj_lane::Links;
+use sj_log::parted;
+use sj_party::parse_file;
+use sj_proto::ParseRefusal;
+use sj_work::Gate;
+use std::alloc::Global;
+use std::thread::Threads;
+
+/// The most bytes of a file.
+const MAX_FILE: usize = 65_536;
+
+/// The most bytes of a file with the log behind it.
+const MAX_SOURCE: usize = 16_777_216;
+
+/// The answer to the words and the input.
+pub(crate) fn answer_to<R: Threads + Sync, S: Source, L: Links, G: Gate>(
+    rt: &R,
+    alloc: Global,
+    words: &[String],
+    src: &mut S,
+    links: &mut L,
+    gate: &G,
+) -> Result<Answer, NoMemory>
+    ensures { IfOk result (Comes (call S.left S.faults words.now src.old src.new
+        (used L.tells L.faults L.sent L.got L.vain_out L.vain_in links.old links.new))) }
+{
+    let Some(task) = task_in(alloc, words)? else {
+        return Ok(Answer::Usage);
+    };
+    if let Task::Make(n) = task {
+        return Ok(Answer::Made(generated_text(alloc, n)?));
+    }
+    if let Task::Big(n) = task {
+        let text = generated_text(alloc, n)?;
+        return answer_to_bytes(rt, alloc, task, &text, links, gate);
+    }
+    match read_all(alloc, src, limit_in(task)) {
+        Ok(bytes) => answer_to_bytes(rt, alloc, task, &bytes, links, gate),
+        Err(ReadRefusal::ReadFault) => Ok(Answer::ReadFault),
+        Err(ReadRefusal::TooLarge) => Ok(Answer::TooLarge),
+        Err(ReadRefusal::NoMemory) => Err(NoMemory),
+    }
+}
+
+// The most bytes of what a task reads.
+fn limit_in(task: Task) -> usize
+    ensures { result ≡ limit_of task }
+{
+    match task {
+        Task::Replay { .. } => MAX_SOURCE,
+        _ => MAX_FILE,
+    }
+}
+
+// The text of the generated file.
+fn generated_text(alloc: Global, n: u16) -> Result<Vec<u8>, NoMemory>
+    ensures { IfOk result (λ text. text.items ≡ generated n) }
+{
+    let mut text = Vec::new(alloc);
+    print_generated(&mut text, n)?;
+    Ok(text)
+}
+
+// The answer to the bytes of a task: of a replay a line `%%log` parts them into a file and a log.
+fn answer_to_bytes<R: Threads + Sync, L: Links, G: Gate>(
+    rt: &R,
+    alloc: Global,
+    task: Task,
+    bytes: &[u8],
+    links: &mut L,
+    gate: &G,
+) -> Result<Answer, NoMemory>
+    requires few { length bytes.now ≤ limit_of task }
+    requires takes { Takes task }
+    ensures { IfOk result (AnswersBytes (used L.tells L.faults L.sent L.got L.vain_out L.vain_in links.old links.new)
+        task bytes.now) }
+{
+    let Task::Replay { .. } = task else {
+        let answer = answer_to_text(rt, alloc, task, bytes, b"", links, gate)?;
+        return Ok(answer);
+    };
+    let Some((text, log)) = parted(bytes) else {
+        return Ok(Answer::LogFault(1, 0));
+    };
+    if text.len() > MAX_FILE {
+        return Ok(Answer::TooLarge);
+    }
+    let answer = answer_to_text(rt, alloc, task, text, log, links, gate)?;
+    Ok(answer)
+}
+
+// The answer to the text of a file, and a log where one is replayed.
+fn answer_to_text<R: Threads + Sync, L: Links, G: Gate>(
+    rt: &R,
+    alloc: Global,
+    task: Task,
+    text: &[u8],
+    log: &[u8],
+    links: &mut L,
+    gate: &G,
+) -> Result<Answer, NoMemory>
+    requires few { length text.now ≤ 65536 }
+    requires log { length log.now ≤ 16777216 }
+    requires takes { Takes task }
+    ensures { IfOk result (AnswersText (used L.tells L.faults L.sent L.got L.vain_out L.vain_in links.old links.new)
+        task log.now text.now) }
+{
+    let file = match parse_file(alloc, text) {
+        Ok(file) => file,
+        Err(ParseRefusal::At(fault)) => return Ok(Answer::Syntax(fault)),
+        Err(ParseRefusal::NoMemory) => return Err(NoMemory),
+    };
+    match task {
+        Task::Show => shown(alloc, &file),
+        Task::Check => counted(alloc, file),
+        Task::Sim => simulated_file(alloc, file),
+        Task::Run { .. } => ran_by_links(rt, alloc, file, task, links, gate),
+        Task::Big(_) => ran_by_links(rt, alloc, file, task, links, gate),
+        Task::Replay { .. } => ran_by_log(alloc, file, task, log),
+        // It takes no file.
+        Task::Make(_) => unreachable!(),
+    }
+}

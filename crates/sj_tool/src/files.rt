@@ -1,0 +1,171 @@
+//! What answers a file that was read.
+ghost use Rattle.std.specs.Prelude.{◌≡◌, ◌≤◌, ℕ, List, IfOk, length};
+ghost use Rattle.sj_lang.specs.FileView.{file_of};
+ghost use Rattle.sj_grammar.specs.Limits.{limits};
+ghost use Rattle.sj_party.specs.Within.{IsWithin};
+ghost use Rattle.sj_command.specs.declared.tasks.Task.TheVariants as tasks;
+ghost use Rattle.sj_tool.specs.Answers.{AnswersFile};
+ghost use Rattle.sj_tool.specs.Calls.{LinkUseAt, used};
+ghost use Rattle.sj_tool.specs.Entries.{IsToldSo};
+ghost use Rattle.sj_tool.specs.Tasks.{Replays as IsReplay, RunsParties};
+ghost use Rattle.sj_tool.specs.Outcomes.{IsJudged};
+ghost use Rattle.sj_tool.specs.Replays.{IsToldFault};
+
+use crate::answers::Answer;
+use crate::counting::counts_text;
+use crate::entries::told_entry;
+use crate::playing::simulated;
+use crate::replaying::{ReplayFault, replayed};
+use crate::running::ran;
+use crate::showing::shown_text;
+use sj_base::NoMemory;
+use sj_check::{Accepted, CheckRefusal, check};
+use sj_command::Task;
+use sj_lane::Links;
+use sj_lang::File;
+use sj_run::RunRefusal;
+use sj_work::Gate;
+use std::alloc::Global;
+use std::thread::Threads;
+
+/// The protocols of a file, and their duals.
+pub(crate) fn shown(alloc: Global, file: &File) -> Result<Answer, NoMemory>
+    ensures { IfOk result (λ a. (links : LinkUseAt) (log : List ℕ)
+        → AnswersFile links tasks.Show log (file_of file.now) a) }
+{
+    Ok(Answer::Printed(shown_text(alloc, file)?))
+}
+
+/// The counts of a file, where it is accepted.
+pub(crate) fn counted(alloc: Global, file: File) -> Result<Answer, NoMemory>
+    requires { IsWithin limits (file_of file) }
+    ensures { IfOk result (λ a. (links : LinkUseAt) (log : List ℕ)
+        → AnswersFile links tasks.Check log (file_of file) a) }
+{
+    match judge(alloc, file)? {
+        Judged::Accepted(accepted) => { Ok(Answer::Printed(counts_text(alloc, accepted.file())?)) }
+        Judged::Fault(rule, line) => Ok(Answer::Check(rule, line)),
+    }
+}
+
+/// How a file ends and its transcript, where it is accepted.
+pub(crate) fn simulated_file(alloc: Global, file: File) -> Result<Answer, NoMemory>
+    requires { IsWithin limits (file_of file) }
+    ensures { IfOk result (λ a. (links : LinkUseAt) (log : List ℕ)
+        → AnswersFile links tasks.Sim log (file_of file) a) }
+{
+    match judge(alloc, file)? {
+        Judged::Accepted(accepted) => {
+            let (verdict, text) = simulated(alloc, &accepted)?;
+            Ok(Answer::Ran(verdict, text))
+        }
+        Judged::Fault(rule, line) => Ok(Answer::Check(rule, line)),
+    }
+}
+
+/// How a file ends that its parties run over those links, and what the task prints of that.
+pub(crate) fn ran_by_links<R: Threads + Sync, L: Links, G: Gate>(
+    rt: &R,
+    alloc: Global,
+    file: File,
+    task: Task,
+    links: &mut L,
+    gate: &G,
+) -> Result<Answer, NoMemory>
+    requires within { IsWithin limits (file_of file) }
+    requires runs { RunsParties task }
+    ensures { IfOk result (λ a. (log : List ℕ)
+        → AnswersFile (used L.tells L.faults L.sent L.got L.vain_out L.vain_in links.old links.new)
+        task log (file_of file) a) }
+{
+    let accepted = match judge(alloc, file)? {
+        Judged::Accepted(accepted) => accepted,
+        Judged::Fault(rule, line) => return Ok(Answer::Check(rule, line)),
+    };
+    match ran(rt, alloc, &accepted, task, links, gate) {
+        Ok((verdict, text)) => Ok(Answer::Ran(verdict, text)),
+        Err(refusal) => {
+            let answer = refused(alloc, accepted.file(), refusal)?;
+            Ok(answer)
+        }
+    }
+}
+
+/// How a file ends that is run by that log, and what the task prints of that.
+pub(crate) fn ran_by_log(
+    alloc: Global,
+    file: File,
+    task: Task,
+    log: &[u8],
+) -> Result<Answer, NoMemory>
+    requires within { IsWithin limits (file_of file) }
+    requires replays { IsReplay task }
+    requires few { length log.now ≤ 16777216 }
+    ensures { IfOk result (λ a. (links : LinkUseAt) → AnswersFile links task log.now (file_of file) a) }
+{
+    let accepted = match judge(alloc, file)? {
+        Judged::Accepted(accepted) => accepted,
+        Judged::Fault(rule, line) => return Ok(Answer::Check(rule, line)),
+    };
+    match replayed(alloc, &accepted, task, log) {
+        Ok((verdict, text)) => Ok(Answer::Ran(verdict, text)),
+        Err(fault) => {
+            let answer = not_replayed(alloc, accepted.file(), fault)?;
+            Ok(answer)
+        }
+    }
+}
+
+// What is answered where the parties of a file couldn't be run.
+fn refused(alloc: Global, file: &File, refusal: RunRefusal) -> Result<Answer, NoMemory>
+    ensures { IfOk result (IsToldSo (file_of file.now) refusal) }
+{
+    match refusal {
+        RunRefusal::LinkFault => Ok(Answer::LinkFault),
+        RunRefusal::Damaged {
+            number,
+            logged,
+            due,
+        } => {
+            let text = told_entry(alloc, b"damaged entry ", file, number, &logged, &due)?;
+            Ok(Answer::Damaged(text))
+        }
+        RunRefusal::NoMemory => Err(NoMemory),
+    }
+}
+
+// What is answered where a log couldn't be replayed.
+fn not_replayed(alloc: Global, file: &File, fault: ReplayFault) -> Result<Answer, NoMemory>
+    ensures { IfOk result (IsToldFault (file_of file.now) fault) }
+{
+    match fault {
+        ReplayFault::Text { rule, line } => Ok(Answer::LogFault(rule, line)),
+        ReplayFault::Entry {
+            number,
+            logged,
+            due,
+        } => {
+            let text = told_entry(alloc, b"log entry ", file, number, &logged, &due)?;
+            Ok(Answer::Misfit(text))
+        }
+        ReplayFault::NoMemory => Err(NoMemory),
+    }
+}
+
+// A file that was checked.
+#[derive(Drop)]
+enum Judged {
+    Accepted(Accepted),
+    Fault(u8, u32),
+}
+
+fn judge(alloc: Global, file: File) -> Result<Judged, NoMemory>
+    requires { IsWithin limits (file_of file) }
+    ensures { IfOk result (IsJudged file) }
+{
+    match check(alloc, file) {
+        Ok(accepted) => Ok(Judged::Accepted(accepted)),
+        Err((_, CheckRefusal::At { rule, line })) => Ok(Judged::Fault(rule, line)),
+        Err((_, CheckRefusal::NoMemory)) => Err(NoMemory),
+    }
+}

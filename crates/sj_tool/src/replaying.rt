@@ -1,0 +1,126 @@
+//! Accepted files that are run by a log.
+ghost use Rattle.std.specs.Prelude.{◌≡◌, ◌≤◌, Bool, IfErr, IfOk, length, map, max};
+ghost use Rattle.sj_check.specs.Held.{file_in};
+ghost use Rattle.sj_core.specs.World.{history_of, kept, party_count, world_at};
+ghost use Rattle.sj_end.specs.Lines.{line_at};
+ghost use Rattle.sj_lang.specs.FileView.{file_of};
+ghost use Rattle.sj_log.specs.LogText.{SpellsLog};
+ghost use Rattle.sj_plain.specs.Kept.{without_words};
+ghost use Rattle.sj_rules.specs.History.{IsHistory, IsQuietAmong};
+ghost use Rattle.sj_rules.specs.Party.{play_of};
+ghost use Rattle.sj_command.specs.declared.tasks.Task.TheVariants as tasks;
+ghost use Rattle.sj_tool.specs.Calls.{LinkUseAt};
+ghost use Rattle.sj_tool.specs.Tasks.{Replays};
+ghost use Rattle.sj_tool.specs.Replays.{IsRefusedBy, IsStopped};
+ghost use Rattle.sj_tool.specs.Runs.{HasHistory, HasRun};
+
+use crate::playing::told;
+use sj_base::NoMemory;
+use sj_check::Accepted;
+use sj_command::Task;
+use sj_core::{ReplayRefusal, World};
+use sj_end::Line;
+use sj_log::{LogRefusal, read_log};
+use sj_semantics::Verdict;
+use std::alloc::Global;
+
+/// Why a log isn't replayed.
+#[derive(Clone, Copy)]
+pub(crate) enum ReplayFault {
+    /// The first line that isn't in the grammar, and the rule that it breaks.
+    Text {
+        rule: u8,
+        line: u32,
+    },
+    /// The first entry that isn't the one that is due.
+    Entry {
+        number: u64,
+        logged: Line,
+        due: Option<Line>,
+    },
+    NoMemory,
+}
+
+impl From<NoMemory> for ReplayFault {
+    ghost use Rattle.std.specs.Prelude.{◌≡◌};
+    ghost use Rattle.sj_tool.specs.declared.replaying.ReplayFault.TheVariants as faults;
+
+    ghost from_gives = { λ _ e. e ≡ faults.NoMemory };
+
+    fn from(_: NoMemory) -> Self {
+        ReplayFault::NoMemory
+    }
+}
+
+/// How the file ends, and what the task prints of the history that begins with the log, and goes on
+/// with what is drained of it.
+pub(crate) fn replayed(
+    alloc: Global,
+    accepted: &Accepted,
+    task: Task,
+    log: &[u8],
+) -> Result<(Verdict, Vec<u8>), ReplayFault>
+    requires replays { Replays task }
+    requires few { length log.now ≤ 16777216 }
+    ensures ran { IfOk result (λ p. (links : LinkUseAt)
+        → HasRun links task log.now (file_of (file_in accepted.now)) p.0 p.1.items) }
+    ensures refused { IfErr result (IsRefusedBy (file_of (file_in accepted.now)) log.now) }
+{
+    let world = drained(alloc, accepted, log)?;
+    let answer = told(alloc, accepted, task, &world)?;
+    Ok(answer)
+}
+
+// The core world to which the log leads, after all that can still happen in it.
+fn drained(alloc: Global, accepted: &Accepted, log: &[u8]) -> Result<World, ReplayFault>
+    requires few { length log.now ≤ 16777216 }
+    ensures has { IfOk result (λ w. (links : LinkUseAt) (l : Bool)
+        → HasHistory links (tasks.Replay l) log.now (file_of (file_in accepted.now)) (history_of w) (world_at w)) }
+    ensures run { IfOk result (λ w. IsHistory max (file_of (file_in accepted.now)) (history_of w) (world_at w)) }
+    ensures quiet { IfOk result (λ w. IsQuietAmong (play_of (file_of (file_in accepted.now)))
+        (length (file_of (file_in accepted.now)).parties) (world_at w)) }
+    ensures refused { IfErr result (IsRefusedBy (file_of (file_in accepted.now)) log.now) }
+{
+    let lines = lines_of(alloc, accepted, log)?;
+    let mut world = started(alloc, accepted, lines)?;
+    world.drain()?;
+    Ok(world)
+}
+
+// The lines of the log.
+fn lines_of(alloc: Global, accepted: &Accepted, log: &[u8]) -> Result<Vec<Line>, ReplayFault>
+    requires few { length log.now ≤ 16777216 }
+    ensures spells { IfOk result (λ v. SpellsLog (file_of (file_in accepted.now)) log.now (map line_at v.items)) }
+    ensures refused { IfErr result (IsRefusedBy (file_of (file_in accepted.now)) log.now) }
+{
+    match read_log(alloc, log, accepted.file()) {
+        Ok(lines) => Ok(lines),
+        Err(LogRefusal::At { rule, line }) => Err(ReplayFault::Text { rule, line }),
+        Err(LogRefusal::NoMemory) => Err(ReplayFault::NoMemory),
+    }
+}
+
+// The core world to which the lines lead from the file's start on.
+fn started(alloc: Global, accepted: &Accepted, lines: Vec<Line>) -> Result<World, ReplayFault>
+    ensures kept { IfOk result (λ w. kept w ≡ without_words (file_of (file_in accepted.now))) }
+    ensures history { IfOk result (λ w. history_of w ≡ map line_at lines.items) }
+    ensures run { IfOk result (λ w. IsHistory max (kept w) (history_of w) (world_at w)) }
+    ensures parties { IfOk result (λ w. party_count w ≡ length (kept w).parties) }
+    ensures stopped { IfErr result (IsStopped (file_of (file_in accepted.now)) (map line_at lines.items)) }
+{
+    match World::replayed(alloc, accepted, lines) {
+        Ok(world) => Ok(world),
+        Err(
+            ReplayRefusal::Misfit {
+                number,
+                logged,
+                due,
+            },
+        ) => Err(ReplayFault::Entry {
+            number,
+            logged,
+            due,
+        }),
+        Err(ReplayRefusal::NoMemory) => Err(ReplayFault::NoMemory),
+    }
+}

@@ -1,0 +1,101 @@
+//! The top call: from the words and the input to the output.
+ghost use Rattle.std.specs.Prelude.{◌≡◌, IfSome, true};
+ghost use Rattle.sj_base.specs.Stream.{Rose};
+ghost use Rattle.sj_lane.specs.Told as lanes;
+ghost use Rattle.sj_lang.specs.FileAt.{FileAt};
+ghost use Rattle.sj_command.specs.declared.tasks.Task.{Task as AnyTask};
+ghost use Rattle.sj_tool.specs.declared.answers.Answer.{Answer as AnyAnswer};
+ghost use Rattle.sj_tool.specs.Answers.{AnswersOne, Comes, OrYields, WroteFront};
+ghost use Rattle.sj_tool.specs.Calls.{call, used};
+ghost use Rattle.sj_tool.specs.Completeness.{CompletesSo, IsValid};
+ghost use Rattle.sj_tool.specs.Headline.{HasHeadline, IsPlaying, IsVerdict};
+ghost use Rattle.sj_tool.specs.Tasks.{AsksFor};
+ghost use Rattle.sj_tool.specs.Table.{AnswersAs, NoFaultAbove};
+
+use crate::answering::answer_to;
+use sj_base::{NoMemory, Sink, Source, WriteFault, write_all_of};
+use sj_lane::Links;
+use sj_work::Gate;
+use std::alloc::Global;
+use std::thread::Threads;
+
+/// The status where the answer's text can't be written.
+const WRITE_FAULT: u8 = 10;
+
+/// The status where there is no memory.
+const NO_MEMORY: u8 = 11;
+
+/// Does what the words say with the input, writes the answer's text, and answers its status.
+///
+/// The words are those behind the program's name. The text is built whole before any of it is
+/// written.
+///
+/// `run` runs the parties of a file over the links, each on a thread of its own where the runtime gives
+/// one, and shows each event of theirs to the gate.
+#[tactic(auto, using(crate::proofs::HeadlineOfAnswers::no_headline))]
+pub fn sj<R: Threads + Sync, S: Source, K: Sink, L: Links, G: Gate>(
+    rt: &R,
+    alloc: Global,
+    words: &[String],
+    src: &mut S,
+    out: &mut K,
+    links: &mut L,
+    gate: &G,
+) -> u8
+    // An answer of the table comes, and its text is written behind what was written before.
+    ensures answer { OrYields result (AnswersOne (call S.left S.faults words.now src.old src.new
+        (used L.tells L.faults L.sent L.got L.vain_out L.vain_in links.old links.new))
+        result (K.written out.old) (K.written out.new)) }
+
+    // Whatever answer the table gives, it is the answer, where the source tells; of `run --log`
+    // the history alone may be another.
+    ensures exactly { IfSome (S.left src.old) (λ _. (a : AnyAnswer)
+        → Comes (call S.left S.faults words.now src.old src.new
+        (used L.tells L.faults L.sent L.got L.vain_out L.vain_in links.old links.new)) a
+        → NoFaultAbove (call S.left S.faults words.now src.old src.new
+        (used L.tells L.faults L.sent L.got L.vain_out L.vain_in links.old links.new)) a
+        → OrYields result (AnswersAs (call S.left S.faults words.now src.old src.new
+        (used L.tells L.faults L.sent L.got L.vain_out L.vain_in links.old links.new))
+        result (K.written out.old) (K.written out.new) a)) }
+
+    // What `sim`, `run` and `replay` write with 0, 6 or 7 is the transcript of a run with the headline.
+    ensures headline { IsVerdict result
+        → AsksFor IsPlaying (call S.left S.faults words.now src.old src.new
+        (used L.tells L.faults L.sent L.got L.vain_out L.vain_in links.old links.new))
+        → HasHeadline (call S.left S.faults words.now src.old src.new
+        (used L.tells L.faults L.sent L.got L.vain_out L.vain_in links.old links.new)) result
+        (K.written out.old) (K.written out.new) }
+
+    // Of an input that is valid for the task the answer is what the task tells of it.
+    ensures complete { (task : AnyTask) → (file : FileAt)
+        → IsValid (call S.left S.faults words.now src.old src.new
+        (used L.tells L.faults L.sent L.got L.vain_out L.vain_in links.old links.new)) task file
+        → OrYields result (CompletesSo task file result (K.written out.old) (K.written out.new)) }
+
+    // A read fault, a link fault and a write fault come only where a fault was counted, and damage only
+    // over links that don't tell.
+    ensures read_fault { result ≡ 2 → Rose (S.faults src.old) (S.faults src.new) }
+    ensures link_fault { result ≡ 8 → lanes.Rose (L.faults links.old) (L.faults links.new) }
+    ensures damaged { result ≡ 9 → L.tells links.old ≡ true → ⊥ }
+    ensures write_fault { result ≡ 10 → Rose (K.faults out.old) (K.faults out.new) }
+
+    // A front of the answer's text was written where the sink failed, and nothing without memory.
+    ensures front { result ≡ 10 → WroteFront (call S.left S.faults words.now src.old src.new
+        (used L.tells L.faults L.sent L.got L.vain_out L.vain_in links.old links.new))
+        (K.written out.old) (K.written out.new) }
+    ensures no_memory { result ≡ 11 → K.written out.new ≡ K.written out.old }
+{
+    let answer = match answer_to(rt, alloc, words, src, links, gate) {
+        Ok(answer) => answer,
+        Err(NoMemory) => return NO_MEMORY,
+    };
+    let status = answer.status();
+    let text = match answer.into_text(alloc) {
+        Ok(text) => text,
+        Err(NoMemory) => return NO_MEMORY,
+    };
+    match write_all_of(out, &text) {
+        Ok(()) => status,
+        Err(WriteFault) => WRITE_FAULT,
+    }
+}
