@@ -1,9 +1,7 @@
 //! The generated file, run by its parties and summed up.
-use crate::test_calls::{USAGE, answer, expect, text_of};
-use sj_base::{MemSink, MemSource};
+use crate::calls::{USAGE, answer, call, expect, sink, source, text_of};
 use sj_end::Entry;
 use sj_lane::RingLinks;
-use sj_tool::sj;
 use sj_work::Gate;
 use std::sync::atomic::{AtomicU64, Ordering};
 use std::test::Fail;
@@ -38,21 +36,18 @@ fn a_thousand_turns_are_summed_up_and_parties_are_seen(rt: HostRuntime) -> Resul
         seen.push(AtomicU64::new(0))?;
     }
     let gate = Counting { seen };
-    let mut words = Vec::new(rt.alloc());
-    words.push(String::from_str(rt.alloc(), "big")?)?;
-    words.push(String::from_str(rt.alloc(), "1000")?)?;
-    let mut src = MemSource::new(Vec::new(rt.alloc()), Vec::new(rt.alloc()));
-    let mut out = MemSink::new(rt.alloc(), 100_000, Vec::new(rt.alloc()))?;
+    let mut src = source(rt.alloc(), b"", &[])?;
+    let mut out = sink(rt.alloc(), &[])?;
     let mut links = RingLinks::new();
-    let status = sj(
+    let status = call(
         &rt,
         rt.alloc(),
-        &words,
+        &["big", "1000"],
         &mut src,
         &mut out,
         &mut links,
         &gate,
-    );
+    )?;
     let wanted = [
         "big 1000 parties 15 sessions 10 messages 10015 steps 25055",
         "done",
@@ -74,13 +69,7 @@ fn small_numbers_are_summed_up(rt: HostRuntime) -> Result<(), Fail> {
     ];
     for (number, line) in rows {
         let wanted = text_of(rt.alloc(), &[line, "done"])?;
-        expect(
-            &rt,
-            rt.alloc(),
-            &["big", number],
-            Vec::new(rt.alloc()),
-            (0, &wanted),
-        )?;
+        expect(&rt, rt.alloc(), &["big", number], b"", (0, &wanted))?;
     }
     Ok(())
 }
@@ -95,7 +84,7 @@ fn other_numbers_are_no_command(rt: HostRuntime) -> Result<(), Fail> {
         &["big", "1", "--log"],
     ];
     for words in rows {
-        let (status, out) = answer(&rt, rt.alloc(), words, Vec::new(rt.alloc()), &[], &[])?;
+        let (status, out) = answer(&rt, rt.alloc(), words, b"")?;
         assert_eq!(rt; out.text(), USAGE.as_bytes(), "{words:?}");
         assert_eq!(rt; status, 1, "{words:?}");
     }

@@ -1,15 +1,80 @@
 //! Core worlds: steps, logs that are replayed and then drained, and lines that are refused.
-use crate::test_calls::text_of;
-use crate::test_files::{
-    CROSSING, CROSSING_LOG, CROSSING_WORDS, FIRST, HANDED_ON, MOVED_TWICE, MOVED_TWICE_LOG,
-    MOVED_TWICE_WORDS, TOLD, UNUSED,
-};
-use crate::test_worlds::{Change, accepted, after, changed, log, refused};
+use crate::calls::text_of;
+use crate::files::{CROSSING, FIRST, HANDED_ON, MOVED_TWICE, TOLD, UNUSED};
+use crate::histories::{CROSSING_LOG, CROSSING_WORDS, MOVED_TWICE_LOG, MOVED_TWICE_WORDS};
+use crate::worlds::{Change, accepted, after, changed, log_of, refused};
 use sj_core::{StepRefusal, World};
 use sj_end::Event;
 use std::alloc::Global;
 use std::process::Abort;
 use std::test::Fail;
+
+// A change of a history, the place of it, and what comes of the replay: the number of the line that
+// is refused, and the line that is due.
+type Row<'a> = (Change, usize, &'a str);
+
+const FIRST_CHANGES: [Row; 8] = [
+    (Change::Doubled, 1, "2 due 2 a close 0.0"),
+    (Change::LeftOut, 3, "3 due 2 b from a carry 0.1 0 0 0 int 5"),
+    (Change::Exchanged, 2, "all are done"),
+    (
+        Change::Exchanged,
+        3,
+        "3 due 2 b from a carry 0.1 0 0 0 int 5",
+    ),
+    (Change::Late, 2, "2 due 2 a close 0.0"),
+    (
+        Change::OtherNote,
+        3,
+        "3 due 2 b from a carry 0.1 0 0 0 int 5",
+    ),
+    (Change::NoSuchParty, 2, "2 due none"),
+    (Change::FromNoSuchParty, 3, "3 due none"),
+];
+
+const HANDED_ON_CHANGES: [Row; 4] = [
+    (Change::Doubled, 16, "17 due none"),
+    (Change::LeftOut, 17, "20 due none"),
+    (Change::Exchanged, 17, "all are done"),
+    (
+        Change::Exchanged,
+        20,
+        "20 due 15 c from b give 0.1 1 a 0 1 0 -",
+    ),
+];
+
+const UNUSED_CHANGES: [Row; 4] = [
+    (Change::Doubled, 9, "10 due none"),
+    (
+        Change::LeftOut,
+        13,
+        "13 due 10 a from c carry 0.0 1 0 0 int 9",
+    ),
+    (Change::LeftOut, 17, "all are done"),
+    (Change::Exchanged, 16, "all are done"),
+];
+
+const TOLD_CHANGES: [Row; 3] = [
+    (Change::Doubled, 21, "22 due none"),
+    (Change::LeftOut, 3, "3 due 3 a take 0.0 int 1"),
+    (Change::Exchanged, 2, "2 due none"),
+];
+
+const CROSSING_CHANGES: [Row; 3] = [
+    (Change::Doubled, 15, "16 due none"),
+    (Change::LeftOut, 16, "20 due none"),
+    (Change::Exchanged, 15, "all are done"),
+];
+
+const MOVED_TWICE_CHANGES: [Row; 3] = [
+    (Change::Doubled, 23, "24 due 15 d from c signal 0.1 1 e 0"),
+    (
+        Change::LeftOut,
+        24,
+        "26 due 11 d from b give 0.1 1 c 0 0 0 0",
+    ),
+    (Change::Exchanged, 24, "all are done"),
+];
 
 const A: u16 = 0;
 
@@ -54,7 +119,7 @@ fn given_logs_are_replayed_and_then_drained(rt: HostRuntime) -> Result<(), Fail>
         assert!(rt; world.replay(given.history()) == Ok(()), "{words}");
         world.drain()?;
         assert!(rt; world.quiet(), "{words}");
-        let told = log(alloc, accepted.file(), world.history())?;
+        let told = log_of(alloc, accepted.file(), world.history())?;
         assert_eq!(rt; told, text_of(alloc, wanted)?, "{words}");
     }
     Ok(())
@@ -62,70 +127,13 @@ fn given_logs_are_replayed_and_then_drained(rt: HostRuntime) -> Result<(), Fail>
 
 #[test]
 fn the_first_line_that_is_not_due_is_refused(rt: HostRuntime) -> Result<(), Fail> {
-    let first = [
-        (Change::Doubled, 1, "2 due 2 a close 0.0"),
-        (Change::LeftOut, 3, "3 due 2 b from a carry 0.1 0 0 0 int 5"),
-        (Change::Exchanged, 2, "all are done"),
-        (
-            Change::Exchanged,
-            3,
-            "3 due 2 b from a carry 0.1 0 0 0 int 5",
-        ),
-        (Change::Late, 2, "2 due 2 a close 0.0"),
-        (
-            Change::OtherNote,
-            3,
-            "3 due 2 b from a carry 0.1 0 0 0 int 5",
-        ),
-        (Change::NoSuchParty, 2, "2 due none"),
-        (Change::FromNoSuchParty, 3, "3 due none"),
-    ];
-    let handed_on = [
-        (Change::Doubled, 16, "17 due none"),
-        (Change::LeftOut, 17, "20 due none"),
-        (Change::Exchanged, 17, "all are done"),
-        (
-            Change::Exchanged,
-            20,
-            "20 due 15 c from b give 0.1 1 a 0 1 0 -",
-        ),
-    ];
-    let unused = [
-        (Change::Doubled, 9, "10 due none"),
-        (
-            Change::LeftOut,
-            13,
-            "13 due 10 a from c carry 0.0 1 0 0 int 9",
-        ),
-        (Change::LeftOut, 17, "all are done"),
-        (Change::Exchanged, 16, "all are done"),
-    ];
-    let told = [
-        (Change::Doubled, 21, "22 due none"),
-        (Change::LeftOut, 3, "3 due 3 a take 0.0 int 1"),
-        (Change::Exchanged, 2, "2 due none"),
-    ];
-    let crossing = [
-        (Change::Doubled, 15, "16 due none"),
-        (Change::LeftOut, 16, "20 due none"),
-        (Change::Exchanged, 15, "all are done"),
-    ];
-    let moved_twice = [
-        (Change::Doubled, 23, "24 due 15 d from c signal 0.1 1 e 0"),
-        (
-            Change::LeftOut,
-            24,
-            "26 due 11 d from b give 0.1 1 c 0 0 0 0",
-        ),
-        (Change::Exchanged, 24, "all are done"),
-    ];
-    let rows: [(&[&str], &str, &[(Change, usize, &str)]); 6] = [
-        (&FIRST, "", &first),
-        (&HANDED_ON, "", &handed_on),
-        (&UNUSED, "", &unused),
-        (&TOLD, "", &told),
-        (&CROSSING, CROSSING_WORDS, &crossing),
-        (&MOVED_TWICE, MOVED_TWICE_WORDS, &moved_twice),
+    let rows: [(&[&str], &str, &[Row]); 6] = [
+        (&FIRST, "", &FIRST_CHANGES),
+        (&HANDED_ON, "", &HANDED_ON_CHANGES),
+        (&UNUSED, "", &UNUSED_CHANGES),
+        (&TOLD, "", &TOLD_CHANGES),
+        (&CROSSING, CROSSING_WORDS, &CROSSING_CHANGES),
+        (&MOVED_TWICE, MOVED_TWICE_WORDS, &MOVED_TWICE_CHANGES),
     ];
     for (lines, words, changes) in rows {
         expect_refused(&rt, rt.alloc(), lines, words, changes)?;
@@ -140,7 +148,7 @@ fn expect_refused(
     alloc: Global,
     lines: &[&str],
     words: &str,
-    changes: &[(Change, usize, &str)],
+    changes: &[Row],
 ) -> Result<(), Fail> {
     let accepted = accepted(alloc, lines)?;
     let mut whole = after(alloc, &accepted, words)?;

@@ -137,7 +137,7 @@ pub(crate) const RELAY_TRANSCRIPT: [&str; 16] = [
     "done",
 ];
 
-// Comments at the heads of files whose lines stand in test_files.
+// Comments at the heads of files whose lines stand in files.
 pub(crate) const AGENCY_LESSON: [&str; 3] = [
     "// Delegation. A customer asks an agency for prices, and accepts one. The agency then hands its end",
     "// of that session to the supplier (delegate z y), which takes it at the place where it stands",
@@ -176,11 +176,6 @@ pub(crate) const LIMIT_LESSON: [&str; 2] = [
 pub(crate) const REFUSED_LESSON: [&str; 2] = [
     "// A file that is refused. b hands its end y to c, and then closes it: it has no such end then.",
     "// Without close y; the file is accepted.",
-];
-
-// One turn more than an end can be handed over.
-pub(crate) const ONE_TURN_MORE: [&str; 1] = [
-    "party b { outwhile z 51 { delegate z y; recv z y session q; } close z; recv y n int; close y; }",
 ];
 
 // The output of the file at a limit is long: its end, and how many bytes stand before it.

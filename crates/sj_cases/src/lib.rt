@@ -1,18 +1,43 @@
-//! Cases of the program: what it must write, and with which status, for words and files.
+//! Cases of the program: what it must write, and with which status, for words and files, over links
+//! of every kind; and the links of their own that the tests need.
 #![tactic(auto)]
 
+mod failing_links;
+mod forged_links;
+
+pub use failing_links::FailsOnce;
+pub use forged_links::Forged;
+
+#[cfg(test)]
+mod again_tests;
 #[cfg(test)]
 mod big_tests;
 #[cfg(test)]
+mod calls;
+#[cfg(test)]
 mod core_tests;
+#[cfg(test)]
+mod draft;
 #[cfg(test)]
 mod example_files;
 #[cfg(test)]
 mod example_tests;
 #[cfg(test)]
+mod fault_tests;
+#[cfg(test)]
+mod files;
+#[cfg(test)]
+mod generated_tests;
+#[cfg(test)]
+mod histories;
+#[cfg(test)]
 mod history_tests;
 #[cfg(test)]
 mod limit_tests;
+#[cfg(test)]
+mod log_tests;
+#[cfg(test)]
+mod long_files;
 #[cfg(test)]
 mod playing_tests;
 #[cfg(test)]
@@ -20,10 +45,8 @@ mod printing_tests;
 #[cfg(test)]
 mod refusal_tests;
 #[cfg(test)]
-mod test_calls;
-#[cfg(test)]
-mod test_files;
-#[cfg(test)]
-mod test_worlds;
-#[cfg(test)]
 mod thread_tests;
+#[cfg(test)]
+mod transcripts;
+#[cfg(test)]
+mod worlds;

@@ -1,165 +1,96 @@
 //! Files that are played to their end.
-use crate::test_calls::{edited, expect, expect_played, text_of};
-use crate::test_files::{
-    AGENCY, AGENCY_TRANSCRIPT, BACK_AGAIN, BACK_AGAIN_TRANSCRIPT, CROSSING, CROSSING_TRANSCRIPT,
-    FIRST, FIRST_TRANSCRIPT, HANDED_ON, OPPOSITE, OPPOSITE_TRANSCRIPT, TO_ITSELF, TO_THE_PEER,
-    TO_THE_PEER_TRANSCRIPT,
+use crate::calls::{edited, expect_played, text_of};
+use crate::files::{
+    AGENCY, BACK_AGAIN, CROSSING, EMPTY, FIRST, HANDED_ON, MOVED_TWICE, OPPOSITE, REJECTED,
+    TO_ITSELF, TO_THE_PEER, WRAPPED,
 };
+use crate::transcripts::{
+    AGENCY_TRANSCRIPT, BACK_AGAIN_TRANSCRIPT, CROSSING_TRANSCRIPT, EMPTY_TRANSCRIPT,
+    FIRST_TRANSCRIPT, HANDED_ON_TRANSCRIPT, MOVED_TWICE_TRANSCRIPT, OPPOSITE_TRANSCRIPT,
+    REJECTED_TRANSCRIPT, TO_ITSELF_TRANSCRIPT, TO_THE_PEER_TRANSCRIPT, WRAPPED_TRANSCRIPT,
+};
+use std::alloc::Global;
+use std::process::Abort;
 use std::test::Fail;
+use std::thread::Threads;
 
-#[test]
-fn the_first_session_gives_its_transcript(rt: HostRuntime) -> Result<(), Fail> {
-    let wanted = text_of(rt.alloc(), &FIRST_TRANSCRIPT)?;
-    expect_played(&rt, rt.alloc(), &FIRST, (0, &wanted))
+// The file of these lines ends with this status, and has this transcript.
+fn played<R: Abort + Threads + Sync>(
+    rt: &R,
+    alloc: Global,
+    lines: &[&str],
+    status: u8,
+    transcript: &[&str],
+) -> Result<(), Fail> {
+    let wanted = text_of(alloc, transcript)?;
+    expect_played(rt, alloc, &text_of(alloc, lines)?, (status, &wanted))
 }
 
 #[test]
-fn the_empty_file_is_done(rt: HostRuntime) -> Result<(), Fail> {
-    expect(
-        &rt,
-        rt.alloc(),
-        &["run"],
-        Vec::new(rt.alloc()),
-        (0, b"done\n"),
-    )
+fn the_first_session_gives_its_transcript(rt: HostRuntime) -> Result<(), Fail> {
+    played(&rt, rt.alloc(), &FIRST, 0, &FIRST_TRANSCRIPT)
+}
+
+#[test]
+fn a_file_of_nothing_is_done(rt: HostRuntime) -> Result<(), Fail> {
+    played(&rt, rt.alloc(), &[], 0, &["done"])
 }
 
 #[test]
 fn empty_protocols_are_closed_at_once(rt: HostRuntime) -> Result<(), Fail> {
-    let lines = [
-        "protocol p { begin }",
-        "protocol q { begin }",
-        "party a { close x; }",
-        "party b { close y; }",
-        "connect a x p to b y q;",
-    ];
-    let wanted = text_of(
-        rt.alloc(),
-        &[
-            "session 0 a x b y",
-            "party a ended 1",
-            "party b ended 1",
-            "done",
-        ],
-    )?;
-    expect_played(&rt, rt.alloc(), &lines, (0, &wanted))
+    played(&rt, rt.alloc(), &EMPTY, 0, &EMPTY_TRANSCRIPT)
 }
 
 #[test]
 fn the_agency_delegates_to_the_supplier(rt: HostRuntime) -> Result<(), Fail> {
-    let wanted = text_of(rt.alloc(), &AGENCY_TRANSCRIPT)?;
-    expect_played(&rt, rt.alloc(), &AGENCY, (0, &wanted))
+    played(&rt, rt.alloc(), &AGENCY, 0, &AGENCY_TRANSCRIPT)
 }
 
 #[test]
 fn the_agency_is_rejected(rt: HostRuntime) -> Result<(), Fail> {
-    let file = edited(
-        rt.alloc(),
-        &AGENCY,
-        9,
-        "  if last <= 200 { outbranch x ACCEPT; send x \"1 High Street\"; recv x date String; close x; }",
-    )?;
-    let wanted = text_of(
-        rt.alloc(),
-        &[
-            "session 0 customer x agency y",
-            "0.0 0 customer agency more",
-            "0.0 1 customer agency String \"Paris\"",
-            "0.0 2 customer agency more",
-            "0.0 3 customer agency String \"Paris\"",
-            "0.0 4 customer agency stop",
-            "0.0 5 customer agency label REJECT",
-            "0.1 0 agency customer int 400",
-            "0.1 1 agency customer int 300",
-            "session 1 agency z supplier u",
-            "1.0 0 agency supplier label REJECT",
-            "party customer ended 11",
-            "party agency ended 14",
-            "party supplier ended 2",
-            "done",
-        ],
-    )?;
-    expect(&rt, rt.alloc(), &["run"], file, (0, &wanted))
+    let file = edited(rt.alloc(), &AGENCY, 9, REJECTED)?;
+    let wanted = text_of(rt.alloc(), &REJECTED_TRANSCRIPT)?;
+    expect_played(&rt, rt.alloc(), &file, (0, &wanted))
 }
 
 #[test]
 fn untaken_numbers_go_to_the_new_holder(rt: HostRuntime) -> Result<(), Fail> {
-    let wanted = text_of(
-        rt.alloc(),
-        &[
-            "session 0 a x b y",
-            "0.0 0 a b int 1",
-            "0.0 1 a c int 2",
-            "0.0 2 a c int 3",
-            "session 1 b z c u",
-            "1.0 0 b c session 0.1 b",
-            "party a ended 4",
-            "party b ended 3",
-            "party c ended 5",
-            "done",
-        ],
-    )?;
-    expect_played(&rt, rt.alloc(), &HANDED_ON, (0, &wanted))
+    played(&rt, rt.alloc(), &HANDED_ON, 0, &HANDED_ON_TRANSCRIPT)
 }
 
 #[test]
 fn both_ends_are_handed_on(rt: HostRuntime) -> Result<(), Fail> {
-    let wanted = text_of(rt.alloc(), &CROSSING_TRANSCRIPT)?;
-    expect_played(&rt, rt.alloc(), &CROSSING, (0, &wanted))
+    played(&rt, rt.alloc(), &CROSSING, 0, &CROSSING_TRANSCRIPT)
+}
+
+#[test]
+fn one_of_two_ends_is_handed_on_twice(rt: HostRuntime) -> Result<(), Fail> {
+    played(&rt, rt.alloc(), &MOVED_TWICE, 0, &MOVED_TWICE_TRANSCRIPT)
 }
 
 #[test]
 fn an_end_comes_back(rt: HostRuntime) -> Result<(), Fail> {
-    let wanted = text_of(rt.alloc(), &BACK_AGAIN_TRANSCRIPT)?;
-    expect_played(&rt, rt.alloc(), &BACK_AGAIN, (0, &wanted))
+    played(&rt, rt.alloc(), &BACK_AGAIN, 0, &BACK_AGAIN_TRANSCRIPT)
 }
 
 #[test]
 fn an_end_goes_to_its_peers_holder(rt: HostRuntime) -> Result<(), Fail> {
-    let wanted = text_of(rt.alloc(), &TO_THE_PEER_TRANSCRIPT)?;
-    expect_played(&rt, rt.alloc(), &TO_THE_PEER, (0, &wanted))
+    played(&rt, rt.alloc(), &TO_THE_PEER, 0, &TO_THE_PEER_TRANSCRIPT)
 }
 
 #[test]
 fn a_party_hands_an_end_to_itself(rt: HostRuntime) -> Result<(), Fail> {
-    let wanted = text_of(
-        rt.alloc(),
-        &[
-            "session 0 a x b y",
-            "0.0 0 a b int 4",
-            "session 1 a z a u",
-            "1.0 0 a a session 0.0 a",
-            "party a ended 6",
-            "party b ended 2",
-            "done",
-        ],
-    )?;
-    expect_played(&rt, rt.alloc(), &TO_ITSELF, (0, &wanted))
+    played(&rt, rt.alloc(), &TO_ITSELF, 0, &TO_ITSELF_TRANSCRIPT)
 }
 
 #[test]
 fn sums_wrap(rt: HostRuntime) -> Result<(), Fail> {
-    let file = edited(
-        rt.alloc(),
-        &FIRST,
-        3,
-        "party a { send x 9223372036854775807 + 1; close x; }",
-    )?;
-    let wanted = text_of(
-        rt.alloc(),
-        &[
-            "session 0 a x b y",
-            "0.0 0 a b int -9223372036854775808",
-            "party a ended 2",
-            "party b ended 2",
-            "done",
-        ],
-    )?;
-    expect(&rt, rt.alloc(), &["run"], file, (0, &wanted))
+    let file = edited(rt.alloc(), &FIRST, 3, WRAPPED)?;
+    let wanted = text_of(rt.alloc(), &WRAPPED_TRANSCRIPT)?;
+    expect_played(&rt, rt.alloc(), &file, (0, &wanted))
 }
 
 #[test]
 fn opposite_orders_block(rt: HostRuntime) -> Result<(), Fail> {
-    let wanted = text_of(rt.alloc(), &OPPOSITE_TRANSCRIPT)?;
-    expect_played(&rt, rt.alloc(), &OPPOSITE, (6, &wanted))
+    played(&rt, rt.alloc(), &OPPOSITE, 6, &OPPOSITE_TRANSCRIPT)
 }

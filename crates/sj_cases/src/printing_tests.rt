@@ -1,11 +1,13 @@
 //! What is printed of files that aren't played.
-use crate::test_calls::{answer, expect, text_of};
-use crate::test_files::{
+use crate::calls::{answer, call, expect, sink, source, text_of};
+use crate::files::{
     AGENCY, AND_BACK, BACK_AGAIN, CROSSING, FIRST, HANDED_ON, OPPOSITE, TO_ITSELF, TO_THE_PEER,
     UNUSED,
 };
+use sj_lane::RingLinks;
 use sj_lang::File;
 use sj_party::{parse_file, print_file};
+use sj_work::NoGate;
 use std::alloc::Global;
 use std::test::Fail;
 
@@ -20,13 +22,8 @@ fn the_first_session_is_shown_with_its_duals(rt: HostRuntime) -> Result<(), Fail
             "dual q { begin.!<int> }",
         ],
     )?;
-    expect(
-        &rt,
-        rt.alloc(),
-        &["show"],
-        text_of(rt.alloc(), &FIRST)?,
-        (0, &wanted),
-    )
+    let file = text_of(rt.alloc(), &FIRST)?;
+    expect(&rt, rt.alloc(), &["show"], &file, (0, &wanted))
 }
 
 #[test]
@@ -36,35 +33,33 @@ fn show_asks_for_no_accepted_file(rt: HostRuntime) -> Result<(), Fail> {
         &["protocol p { begin.!<int> }", "party a { close x; }"],
     )?;
     let wanted = b"protocol p { begin.!<int> }\ndual p { begin.?(int) }\n";
-    expect(&rt, rt.alloc(), &["show"], file, (0, wanted))
+    expect(&rt, rt.alloc(), &["show"], &file, (0, wanted))
 }
 
 #[test]
 fn the_generated_file_is_accepted(rt: HostRuntime) -> Result<(), Fail> {
-    let (status, made) = answer(
+    // Nothing is read.
+    let mut src = source(rt.alloc(), b"", &[0])?;
+    let mut made = sink(rt.alloc(), &[])?;
+    let mut links = RingLinks::new();
+    let status = call(
         &rt,
         rt.alloc(),
         &["make", "1"],
-        Vec::new(rt.alloc()),
-        &[0],
-        &[],
+        &mut src,
+        &mut made,
+        &mut links,
+        &NoGate,
     )?;
     assert_eq!(rt; status, 0);
-    let file = Vec::from_slice(rt.alloc(), made.text())?;
-    expect(
-        &rt,
-        rt.alloc(),
-        &["check"],
-        file,
-        (0, b"accepted parties 15 sessions 10\n"),
-    )
+    let wanted = b"accepted parties 15 sessions 10\n";
+    expect(&rt, rt.alloc(), &["check"], made.text(), (0, wanted))
 }
 
 #[test]
 fn the_generated_file_is_canonical(rt: HostRuntime) -> Result<(), Fail> {
     for count in ["1", "10", "1000"] {
-        let words = ["make", count];
-        let (_, made) = answer(&rt, rt.alloc(), &words, Vec::new(rt.alloc()), &[], &[])?;
+        let (_, made) = answer(&rt, rt.alloc(), &["make", count], b"")?;
         assert_eq!(rt;
             printed(rt.alloc(), made.text())?.as_slice(),
             made.text(),
@@ -99,9 +94,9 @@ fn printed_text_is_printed_again_as_it_is(rt: HostRuntime) -> Result<(), Fail> {
 #[test]
 fn the_agency_printed_is_the_same_file(rt: HostRuntime) -> Result<(), Fail> {
     let file = text_of(rt.alloc(), &AGENCY)?;
-    let (_, before) = answer(&rt, rt.alloc(), &["sim"], file, &[], &[])?;
+    let (_, before) = answer(&rt, rt.alloc(), &["sim"], &file)?;
     let again = printed(rt.alloc(), &text_of(rt.alloc(), &AGENCY)?)?;
-    expect(&rt, rt.alloc(), &["sim"], again, (0, before.text()))
+    expect(&rt, rt.alloc(), &["sim"], &again, (0, before.text()))
 }
 
 // The canonical text of the file that the text stands for.

@@ -1,15 +1,12 @@
 //! Parties that run on threads.
-use crate::test_calls::{expect, text_of};
-use crate::test_files::{
-    AGENCY, AGENCY_TRANSCRIPT, BACK_AGAIN, BACK_AGAIN_TRANSCRIPT, CROSSING, CROSSING_TRANSCRIPT,
-};
-use crate::test_worlds::accepted;
-use sj_base::{MemSink, MemSource};
+use crate::calls::{answer, call, sink, source, text_of};
+use crate::files::{AGENCY, BACK_AGAIN, CROSSING};
+use crate::transcripts::{AGENCY_TRANSCRIPT, BACK_AGAIN_TRANSCRIPT, CROSSING_TRANSCRIPT};
+use crate::worlds::accepted;
 use sj_core::World;
 use sj_end::Entry;
 use sj_lane::{MemLinks, RingLinks};
 use sj_run::run_parties;
-use sj_tool::sj;
 use sj_work::{Gate, NoGate};
 use std::sync::atomic::{AtomicU64, Ordering};
 use std::test::Fail;
@@ -66,20 +63,18 @@ fn two_parties_wait_for_each_other(rt: HostRuntime) -> Result<(), Fail> {
         first_saw: AtomicU64::new(0),
         second_saw: AtomicU64::new(0),
     };
-    let mut words = Vec::new(rt.alloc());
-    words.push(String::from_str(rt.alloc(), "run")?)?;
-    let mut src = MemSource::new(text_of(rt.alloc(), &file)?, Vec::new(rt.alloc()));
-    let mut out = MemSink::new(rt.alloc(), 100_000, Vec::new(rt.alloc()))?;
+    let mut src = source(rt.alloc(), &text_of(rt.alloc(), &file)?, &[])?;
+    let mut out = sink(rt.alloc(), &[])?;
     let mut links = RingLinks::new();
-    let status = sj(
+    let status = call(
         &rt,
         rt.alloc(),
-        &words,
+        &["run"],
         &mut src,
         &mut out,
         &mut links,
         &gate,
-    );
+    )?;
     assert_eq!(rt; out.text(), wanted.as_slice());
     assert_eq!(rt; status, 0);
     assert_eq!(rt; gate.first_saw.load(Ordering::SeqCst), 1);
@@ -96,16 +91,13 @@ fn however_often_parties_look_the_transcript_is_one(rt: HostRuntime) -> Result<(
     ];
     for (lines, wanted) in rows {
         let wanted = text_of(rt.alloc(), wanted)?;
+        let file = text_of(rt.alloc(), lines)?;
         for looks in ["0", "1", "1000", "1000000"] {
+            let words = ["run", "--looks", looks];
             for _ in 0..10 {
-                let file = text_of(rt.alloc(), lines)?;
-                expect(
-                    &rt,
-                    rt.alloc(),
-                    &["run", "--looks", looks],
-                    file,
-                    (0, &wanted),
-                )?;
+                let (status, out) = answer(&rt, rt.alloc(), &words, &file)?;
+                assert_eq!(rt; out.text(), wanted.as_slice(), "{words:?}");
+                assert_eq!(rt; status, 0, "{words:?}");
             }
         }
     }

@@ -9,6 +9,18 @@ pub(crate) const FIRST: [&str; 5] = [
     "connect a x p to b y q;",
 ];
 
+// The third line of one whose sum wraps.
+pub(crate) const WRAPPED: &str = "party a { send x 9223372036854775807 + 1; close x; }";
+
+// A session in which nothing passes.
+pub(crate) const EMPTY: [&str; 5] = [
+    "protocol p { begin }",
+    "protocol q { begin }",
+    "party a { close x; }",
+    "party b { close y; }",
+    "connect a x p to b y q;",
+];
+
 // A customer, an agency that hands its end to a supplier, and the supplier.
 pub(crate) const AGENCY: [&str; 27] = [
     "protocol cust { begin.![!<String>.?(int)]*.!{ACCEPT: !<String>.?(String), REJECT:} }",
@@ -39,6 +51,10 @@ pub(crate) const AGENCY: [&str; 27] = [
     "connect customer x cust to agency y agen;",
     "connect agency z asks to supplier u gets;",
 ];
+
+// The ninth line of one whose customer rejects the last price.
+pub(crate) const REJECTED: &str =
+    "  if last <= 200 { outbranch x ACCEPT; send x \"1 High Street\"; recv x date String; close x; }";
 
 // A receiver hands its end on after the first of three numbers.
 pub(crate) const HANDED_ON: [&str; 10] = [
@@ -179,208 +195,6 @@ pub(crate) const AND_BACK: [&str; 9] = [
     "connect b z g to c u h;",
 ];
 
-// Transcripts, from the formats.
-pub(crate) const FIRST_TRANSCRIPT: [&str; 5] = [
-    "session 0 a x b y",
-    "0.0 0 a b int 5",
-    "party a ended 2",
-    "party b ended 2",
-    "done",
-];
-
-pub(crate) const AGENCY_TRANSCRIPT: [&str; 18] = [
-    "session 0 customer x agency y",
-    "0.0 0 customer agency more",
-    "0.0 1 customer agency String \"Paris\"",
-    "0.0 2 customer agency more",
-    "0.0 3 customer agency String \"Paris\"",
-    "0.0 4 customer agency stop",
-    "0.0 5 customer agency label ACCEPT",
-    "0.0 6 customer supplier String \"1 High Street\"",
-    "0.1 0 agency customer int 400",
-    "0.1 1 agency customer int 300",
-    "0.1 2 supplier customer String \"3 May\"",
-    "session 1 agency z supplier u",
-    "1.0 0 agency supplier label ACCEPT",
-    "1.0 1 agency supplier session 0.1 agency",
-    "party customer ended 13",
-    "party agency ended 14",
-    "party supplier ended 6",
-    "done",
-];
-
-pub(crate) const HANDED_ON_HISTORY: [&str; 38] = [
-    "session 0 a x b y",
-    "0.0 0 a b int 1",
-    "0.0 1 a c int 2",
-    "0.0 2 a c int 3",
-    "session 1 b z c u",
-    "1.0 0 b c session 0.1 b",
-    "party a ended 4",
-    "party b ended 3",
-    "party c ended 5",
-    "done",
-    "%%log",
-    "1 a send 0.0 int 1",
-    "2 a send 0.0 int 2",
-    "3 a send 0.0 int 3",
-    "4 a close 0.0",
-    "2 b from a carry 0.1 0 0 0 int 1",
-    "3 b from a carry 0.1 0 1 0 int 2",
-    "4 b from a carry 0.1 0 2 0 int 3",
-    "5 b from a fin 0.1 0 3",
-    "6 b take 0.1 int 1",
-    "7 b send 1.0 session 0.1 b",
-    "8 b close 1.0",
-    "8 c from b carry 1.1 0 0 0 session 0.1 b",
-    "9 c from b fin 1.1 0 1",
-    "10 c take 1.1 session 0.1 b",
-    "11 b from c claim 0.1",
-    "12 a from b signal 0.0 0 c 1",
-    "13 b from a ack 0.1 0",
-    "13 c from a carry 0.1 1 1 0 int 2",
-    "14 c from a carry 0.1 1 2 0 int 3",
-    "15 c from a fin 0.1 1 3",
-    "16 c from b give 0.1 1 a 0 1 0 -",
-    "17 c take 0.1 int 2",
-    "18 c take 0.1 int 3",
-    "19 c close 0.1",
-    "20 c close 1.1",
-    "20 a from c fin 0.0 1 0",
-    "21 b from c fin 1.0 0 0",
-];
-
-pub(crate) const CROSSING_TRANSCRIPT: [&str; 12] = [
-    "session 0 a x b y",
-    "0.0 0 a d int 1",
-    "0.0 1 c d int 2",
-    "session 1 a z c u",
-    "1.0 0 a c session 0.0 a",
-    "session 2 b z d u",
-    "2.0 0 b d session 0.1 b",
-    "party a ended 3",
-    "party b ended 2",
-    "party c ended 4",
-    "party d ended 5",
-    "done",
-];
-
-pub(crate) const BACK_AGAIN_TRANSCRIPT: [&str; 9] = [
-    "session 0 a x b y",
-    "0.0 0 a b int 1",
-    "session 1 b z c u",
-    "1.0 0 b c session 0.1 b",
-    "1.1 0 c b session 0.1 c",
-    "party a ended 2",
-    "party b ended 5",
-    "party c ended 3",
-    "done",
-];
-
-pub(crate) const TO_THE_PEER_TRANSCRIPT: [&str; 7] = [
-    "session 0 a x b y",
-    "0.0 0 b b int 4",
-    "session 1 a z b u",
-    "1.0 0 a b session 0.0 a",
-    "party a ended 2",
-    "party b ended 6",
-    "done",
-];
-
-pub(crate) const OPPOSITE_TRANSCRIPT: [&str; 5] = [
-    "session 0 a x b y",
-    "session 1 a w b z",
-    "party a waits 0 0.0",
-    "party b waits 0 1.1",
-    "blocked",
-];
-
-// Who does the events of the given log of the two crossing Signals, in order: `a` is an act of a, and `ba` a
-// delivery to b from a.
-pub(crate) const CROSSING_WORDS: &str = "a a a ba b b ca ca c db db d ac bd";
-
-// That log, and what a drain adds to it.
-pub(crate) const CROSSING_LOG: [&str; 32] = [
-    "%%log",
-    "1 a send 0.0 int 1",
-    "2 a send 1.0 session 0.0 a",
-    "3 a close 1.0",
-    "2 b from a carry 0.1 0 0 0 int 1",
-    "3 b send 2.0 session 0.1 b",
-    "4 b close 2.0",
-    "3 c from a carry 1.1 0 0 0 session 0.0 a",
-    "4 c from a fin 1.1 0 1",
-    "5 c take 1.1 session 0.0 a",
-    "4 d from b carry 2.1 0 0 0 session 0.1 b",
-    "5 d from b fin 2.1 0 1",
-    "6 d take 2.1 session 0.1 b",
-    "6 a from c claim 0.0",
-    "7 b from d claim 0.1",
-    "8 a from b signal 0.0 0 d 0",
-    "8 b from a signal 0.1 0 c 0",
-    "9 c from a give 0.0 1 d 1 0 0 0",
-    "10 c send 0.0 int 2",
-    "11 c close 0.0",
-    "12 c close 1.1",
-    "9 d from b give 0.1 1 c 0 0 0 0",
-    "10 d from c carry 0.1 1 0 0 int 1",
-    "11 d from c carry 0.1 1 1 0 int 2",
-    "12 d from c fin 0.1 1 2",
-    "13 d take 0.1 int 1",
-    "14 d take 0.1 int 2",
-    "15 d close 0.1",
-    "16 d close 2.1",
-    "13 a from c fin 1.0 0 0",
-    "17 b from d fin 2.0 0 0",
-    "16 c from d fin 0.0 1 0",
-];
-
-// The same of the log in which a Carry and a Signal are deferred.
-pub(crate) const MOVED_TWICE_WORDS: &str =
-    "a a a ba b b ca ca c db db d ac bd ab ca c c c ec e ce dc dc";
-
-pub(crate) const MOVED_TWICE_LOG: [&str; 43] = [
-    "%%log",
-    "1 a send 0.0 int 1",
-    "2 a send 1.0 session 0.0 a",
-    "3 a close 1.0",
-    "2 b from a carry 0.1 0 0 0 int 1",
-    "3 b send 2.0 session 0.1 b",
-    "4 b close 2.0",
-    "3 c from a carry 1.1 0 0 0 session 0.0 a",
-    "4 c from a fin 1.1 0 1",
-    "5 c take 1.1 session 0.0 a",
-    "4 d from b carry 2.1 0 0 0 session 0.1 b",
-    "5 d from b fin 2.1 0 1",
-    "6 d take 2.1 session 0.1 b",
-    "6 a from c claim 0.0",
-    "7 b from d claim 0.1",
-    "8 a from b signal 0.0 0 d 0",
-    "9 c from a give 0.0 1 d 1 0 0 0",
-    "10 c close 1.1",
-    "11 c send 3.0 session 0.0 c",
-    "12 c close 3.0",
-    "12 e from c carry 3.1 0 0 0 session 0.0 c",
-    "13 e take 3.1 session 0.0 c",
-    "14 c from e claim 0.0",
-    "10 d from c carry 0.1 1 0 0 int 1",
-    "15 d from c signal 0.1 1 e 0",
-    "11 a from c fin 1.0 0 0",
-    "8 b from a signal 0.1 0 c 0",
-    "16 d from b give 0.1 1 c 0 0 0 0",
-    "17 d take 0.1 int 1",
-    "14 e from c fin 3.1 0 1",
-    "17 c from d ack 0.0 1",
-    "18 e from c give 0.0 2 d 1 0 0 -",
-    "19 e send 0.0 int 2",
-    "20 e close 0.0",
-    "21 e close 3.1",
-    "22 c from e fin 3.0 0 0",
-    "20 d from e carry 0.1 2 1 0 int 2",
-    "21 d from e fin 0.1 2 2",
-    "22 d take 0.1 int 2",
-    "23 d close 0.1",
-    "24 d close 2.1",
-    "24 e from d fin 0.0 2 0",
-    "25 b from d fin 2.0 0 0",
-];
+// The sixth line of one in which it does so fifty-one times.
+pub(crate) const ONCE_MORE: &str =
+    "party b { outwhile z 51 { delegate z y; recv z y session q; } close z; recv y n int; close y; }";

@@ -1,14 +1,10 @@
 //! What `run --log` prints behind the transcript.
-use crate::calls::{accepted, answer, text_of};
-use crate::files::{
-    AGENCY, BACK_AGAIN, CROSSING, FIRST, HANDED_ON, HANDED_ON_HISTORY, MOVED_TWICE, TO_ITSELF,
-    TO_THE_PEER,
-};
+use crate::calls::{answer_over, text_of};
+use crate::files::{AGENCY, BACK_AGAIN, CROSSING, HANDED_ON, MOVED_TWICE, TO_ITSELF, TO_THE_PEER};
+use crate::worlds::{accepted, log_of};
 use sj_core::World;
 use sj_end::Event;
 use sj_lane::{Links, MemLinks, RingLinks};
-use sj_lang::File;
-use sj_print::print_line;
 use std::alloc::Global;
 use std::process::Abort;
 use std::test::Fail;
@@ -16,39 +12,6 @@ use std::thread::Threads;
 
 // A file, and the names of its parties.
 type Named<'a> = (&'a [&'a str], &'a [&'a str]);
-
-// Over lists nothing comes to another party before the drain, so the history is one.
-#[test]
-fn the_history_over_lists_is_that_of_a_drain(rt: HostRuntime) -> Result<(), Fail> {
-    let first = [
-        "session 0 a x b y",
-        "0.0 0 a b int 5",
-        "party a ended 2",
-        "party b ended 2",
-        "done",
-        "%%log",
-        "1 a send 0.0 int 5",
-        "2 a close 0.0",
-        "2 b from a carry 0.1 0 0 0 int 5",
-        "3 b from a fin 0.1 0 1",
-        "4 b take 0.1 int 5",
-        "5 b close 0.1",
-        "6 a from b fin 0.0 0 0",
-    ];
-    let rows: [(&[&str], &[&str]); 2] = [(&FIRST, &first), (&HANDED_ON, &HANDED_ON_HISTORY)];
-    for (lines, wanted) in rows {
-        let file = text_of(rt.alloc(), lines)?;
-        let wanted = text_of(rt.alloc(), wanted)?;
-        for looks in ["0", "1", "1000"] {
-            let words = ["run", "--log", "--looks", looks];
-            let mut lists = MemLinks::new();
-            let (status, out) = answer(&rt, rt.alloc(), &words, &file, &mut lists, &[])?;
-            assert_eq!(rt; out.text(), wanted.as_slice(), "{words:?}");
-            assert_eq!(rt; status, 0, "{words:?}");
-        }
-    }
-    Ok(())
-}
 
 #[test]
 fn what_is_logged_is_replayed(rt: HostRuntime) -> Result<(), Fail> {
@@ -82,18 +45,18 @@ fn expect_replayed<R: Abort + Threads + Sync, L: Links>(
     let (lines, names) = row;
     let text = text_of(alloc, lines)?;
     let words = ["run", "--log", "--looks", looks];
-    let (status, out) = answer(rt, alloc, &words, &text, links, &[])?;
+    let (status, out) = answer_over(rt, alloc, &words, &text, links)?;
     assert_eq!(rt; status, 0, "{lines:?}");
     let Ok(told) = std::str::from_utf8(out.text()) else {
         return Err(Fail::from("no text"));
     };
     let (_, log) = told.split_once("%%log\n").ok_or("no log")?;
-    let accepted = accepted(alloc, &text).ok_or("no accepted file")?;
+    let accepted = accepted(alloc, lines)?;
     let mut world = World::start(alloc, &accepted)?;
     for line in log.lines() {
         step(&mut world, names, line)?;
     }
-    let again = printed(alloc, accepted.file(), &world)?;
+    let again = log_of(alloc, accepted.file(), world.history())?;
     assert_eq!(rt; again.as_slice(), log.as_bytes(), "{lines:?}");
     let mut again = World::start(alloc, &accepted)?;
     assert!(rt; again.replay(world.history()).is_ok(), "{lines:?}");
@@ -132,13 +95,4 @@ fn numbered(names: &[&str], name: Option<&str>) -> Result<u16, Fail> {
         }
     }
     Err(Fail::from("no party of that name"))
-}
-
-// The log of the world's history.
-fn printed(alloc: Global, file: &File, world: &World) -> Result<Vec<u8>, Fail> {
-    let mut text = Vec::new(alloc);
-    for line in world.history() {
-        print_line(&mut text, file, line)?;
-    }
-    Ok(text)
 }

@@ -138,10 +138,6 @@ impl Draft {
         self.dice.next_u32() as usize % many.max(1)
     }
 
-    fn ends(&self) -> usize {
-        self.ahead.len()
-    }
-
     fn holder(&self, end: usize) -> usize {
         self.holders.get(end).copied().unwrap_or(0)
     }
@@ -191,7 +187,7 @@ impl Draft {
 
     // Some message goes over some end.
     fn pass(&mut self) -> Result<(), NoMemory> {
-        let ends = self.ends();
+        let ends = self.ahead.len();
         let end = self.thrown(ends);
         let other = end ^ 1;
         let at = self.thrown(MESSAGES.len());
@@ -208,7 +204,7 @@ impl Draft {
 
     // Some end comes to its party over another one, where that can be.
     fn hand_on(&mut self) -> Result<(), NoMemory> {
-        let ends = self.ends();
+        let ends = self.ahead.len();
         let carrier = self.thrown(ends);
         let end = self.thrown(ends);
         let taker = self.holder(carrier ^ 1);
@@ -233,16 +229,21 @@ impl Draft {
         self.put_statement(giver, (carrier, end), &giving)?;
         self.put_carried(carrier, b".!<", &kind, b">")?;
         self.put_carried(carrier ^ 1, b".?(", &kind, b")")?;
-        put(&mut self.moved, b"protocol m")?;
-        put_number(&mut self.moved, self.moves)?;
-        put(&mut self.moved, b" { begin.")?;
-        put(&mut self.moved, &kind)?;
-        put(&mut self.moved, b" }\n")?;
-        self.moves = self.moves.wrapping_add(1);
+        self.put_moved(&kind)?;
         if let Some(holder) = self.holders.get_mut(end) {
             *holder = giver;
         }
         Ok(())
+    }
+
+    // The protocol of an end that is handed on.
+    fn put_moved(&mut self, kind: &[u8]) -> Result<(), NoMemory> {
+        put(&mut self.moved, b"protocol m")?;
+        put_number(&mut self.moved, self.moves)?;
+        put(&mut self.moved, b" { begin.")?;
+        put(&mut self.moved, kind)?;
+        self.moves = self.moves.wrapping_add(1);
+        put(&mut self.moved, b" }\n")
     }
 
     fn put_carried(

@@ -1,8 +1,8 @@
 -- The lanes of two parties which lose all frames, or give one.
 use Rattle.std.specs.Prelude.{◌≡◌, List, [], ◌∷◌, length}
 use Rattle.sj_lane.specs.declared.lane.Lanes.{Lanes}
-use Rattle.sj_trials.specs.declared.forged_links.Loses.{Loses}
-use Rattle.sj_trials.specs.declared.forged_links.Gives.{Gives}
+use Rattle.sj_cases.specs.declared.forged_links.Loses.{Loses}
+use Rattle.sj_cases.specs.declared.forged_links.Gives.{Gives}
 
 -- a party's lanes to and from two parties, on which nothing was tried in vain
 pub record HasTwo (l : Lanes Loses Gives) : Type 0 where

@@ -1,6 +1,6 @@
 //! Links that tell nothing, and a frame that nobody sent.
 ghost use Rattle.std.specs.Prelude.{IfOk};
-ghost use Rattle.sj_trials.specs.Two.{AreTwo, HasTwo};
+ghost use Rattle.sj_cases.specs.Two.{AreTwo, HasTwo};
 
 use sj_base::{EndId, Msg, NoMemory};
 use sj_end::{Body, Frame};

@@ -1,5 +1,5 @@
 use Rattle.std.proofs.Common.{rules}
-use Rattle.sj_trials.proofs.forged_links.both.Goals as goal
+use Rattle.sj_cases.proofs.forged_links.both.Goals as goal
 
 pub returns : goal.returns
 returns c = record {

@@ -1,5 +1,5 @@
 //! Core worlds of files that tests share, and histories with a change.
-use crate::test_calls::{answer, text_of};
+use crate::calls::text_of;
 use sj_check::{Accepted, check};
 use sj_core::{ReplayRefusal, World};
 use sj_end::{Event, Line};
@@ -8,9 +8,7 @@ use sj_party::parse_file;
 use sj_print::print_line;
 use sj_text::{put, put_number};
 use std::alloc::Global;
-use std::process::Abort;
 use std::test::Fail;
-use std::thread::Threads;
 
 // What is done to a line of a history.
 #[derive(Clone, Copy)]
@@ -28,37 +26,27 @@ pub(crate) enum Change {
     FromNoSuchParty,
 }
 
-// The file of these lines, checked.
+// The file of these lines, which is accepted.
 pub(crate) fn accepted(alloc: Global, lines: &[&str]) -> Result<Accepted, Fail> {
     let text = text_of(alloc, lines)?;
-    if text.len() > 65_536 {
-        return Err(Fail::from("too long"));
-    }
-    let Ok(file) = parse_file(alloc, &text) else {
-        return Err(Fail::from("no file"));
-    };
-    match check(alloc, file) {
-        Ok(accepted) => Ok(accepted),
-        Err(_) => Err(Fail::from("refused")),
+    match accepted_in(alloc, &text) {
+        Some(accepted) => Ok(accepted),
+        None => Err(Fail::from("no accepted file")),
     }
 }
 
-// The file's transcript, and behind it the history that a drain has from its start on, are this text.
-pub(crate) fn expect_history<R: Abort + Threads + Sync>(
-    rt: &R,
-    alloc: Global,
-    lines: &[&str],
-    wanted: &[u8],
-) -> Result<(), Fail> {
-    let (status, out) = answer(rt, alloc, &["sim"], text_of(alloc, lines)?, &[], &[])?;
-    assert_eq!(rt; status, 0);
-    let mut text = Vec::from_slice(alloc, out.text())?;
-    let accepted = accepted(alloc, lines)?;
-    let mut world = World::start(alloc, &accepted)?;
-    world.drain()?;
-    put_log(&mut text, accepted.file(), world.history())?;
-    assert_eq!(rt; text.as_slice(), wanted);
-    Ok(())
+// The file of this text, where it is accepted.
+pub(crate) fn accepted_in(alloc: Global, text: &[u8]) -> Option<Accepted> {
+    if text.len() > 65_536 {
+        return None;
+    }
+    let Ok(file) = parse_file(alloc, text) else {
+        return None;
+    };
+    match check(alloc, file) {
+        Ok(accepted) => Some(accepted),
+        Err(_) => None,
+    }
 }
 
 // The core world of the file after the events that the words name: `a` is an act of a, and `ba` a
@@ -150,17 +138,11 @@ pub(crate) fn refused(
     Ok(text)
 }
 
-// The log of these lines, with the line before it.
-pub(crate) fn log(alloc: Global, file: &File, lines: &[Line]) -> Result<Vec<u8>, Fail> {
+// The log of these lines.
+pub(crate) fn log_of(alloc: Global, file: &File, lines: &[Line]) -> Result<Vec<u8>, Fail> {
     let mut text = Vec::new(alloc);
-    put_log(&mut text, file, lines)?;
-    Ok(text)
-}
-
-fn put_log(text: &mut Vec<u8>, file: &File, lines: &[Line]) -> Result<(), Fail> {
-    put(text, b"%%log\n")?;
     for line in lines {
-        print_line(text, file, line)?;
+        print_line(&mut text, file, line)?;
     }
-    Ok(())
+    Ok(text)
 }

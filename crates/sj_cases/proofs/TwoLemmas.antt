@@ -3,9 +3,9 @@ use Rattle.std.proofs.Common.{zero, suc, ◌≡◌, ℕ, List, [], ◌∷◌, le
 use Rattle.std.specs.Prelude.{Option, None, Some, false, slice_get}
 use Rattle.sj_lane.specs.declared.lane.Lanes.{Lanes}
 use Rattle.sj_lane.specs.Square.{IsFresh, IsSquare, in_in}
-use Rattle.sj_trials.specs.declared.forged_links.Loses.{Loses}
-use Rattle.sj_trials.specs.declared.forged_links.Gives.{Gives}
-use Rattle.sj_trials.specs.Two.{AreTwo, HasTwo}
+use Rattle.sj_cases.specs.declared.forged_links.Loses.{Loses}
+use Rattle.sj_cases.specs.declared.forged_links.Gives.{Gives}
+use Rattle.sj_cases.specs.Two.{AreTwo, HasTwo}
 
 -- what holds of both of two holds of the one at a place
 one_of_two : {X : Type 0} (P : X → Type 0) (a b x : X) (k : ℕ) → P a → P b → slice_get (a ∷ b ∷ []) k ≡ Some x → P x

@@ -1,6 +1,7 @@
 //! Generated files, run on threads.
-use crate::calls::{accepted, answer};
+use crate::calls::{answer, answer_over};
 use crate::draft::generated;
+use crate::worlds::accepted_in;
 use sj_base::NoMemory;
 use sj_core::first_nodes;
 use sj_lane::{Links, MemLinks, RingLinks};
@@ -36,16 +37,16 @@ fn play<R: Threads + Sync>(rt: &R, alloc: Global, files: &mut Files) {
 // The status of the file of that number, where all is as it has to be.
 fn played<R: Threads + Sync>(rt: &R, alloc: Global, number: u64) -> Result<Option<u8>, NoMemory> {
     let file = generated(alloc, number)?;
+    let (wanted, told) = answer(rt, alloc, &["sim"], &file)?;
     let mut rings = RingLinks::new();
-    let (wanted, told) = answer(rt, alloc, &["sim"], &file, &mut rings, &[])?;
     for looks in ["0", "100"] {
         let words = ["run", "--looks", looks];
-        let (status, out) = answer(rt, alloc, &words, &file, &mut rings, &[])?;
+        let (status, out) = answer_over(rt, alloc, &words, &file, &mut rings)?;
         if status != wanted || out.text() != told.text() {
             return Ok(None);
         }
     }
-    let (status, out) = answer(rt, alloc, &["run"], &file, &mut MemLinks::new(), &[])?;
+    let (status, out) = answer_over(rt, alloc, &["run"], &file, &mut MemLinks::new())?;
     if status != wanted || out.text() != told.text() || !all_fit(rt, alloc, &file)? {
         return Ok(None);
     }
@@ -54,7 +55,7 @@ fn played<R: Threads + Sync>(rt: &R, alloc: Global, number: u64) -> Result<Optio
 
 // Whether each worker of the file has finished or has nothing to do.
 fn all_fit<R: Threads + Sync>(rt: &R, alloc: Global, text: &[u8]) -> Result<bool, NoMemory> {
-    let Some(accepted) = accepted(alloc, text) else {
+    let Some(accepted) = accepted_in(alloc, text) else {
         return Ok(false);
     };
     let mut nodes = first_nodes(alloc, &accepted)?;

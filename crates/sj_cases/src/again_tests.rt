@@ -1,6 +1,7 @@
 //! Files that are run over and over, by eight callers at once.
-use crate::calls::{answer, text_of};
-use crate::files::{AGENCY, AGENCY_TRANSCRIPT, CROSSING, CROSSING_TRANSCRIPT};
+use crate::calls::{answer_over, text_of};
+use crate::files::{AGENCY, CROSSING};
+use crate::transcripts::{AGENCY_TRANSCRIPT, CROSSING_TRANSCRIPT};
 use sj_lane::RingLinks;
 use std::alloc::Global;
 use std::process::Abort;
@@ -44,7 +45,7 @@ fn call<R: Threads + Sync>(rt: &R, alloc: Global, file: &[u8], wanted: &[u8], ca
     let mut links = RingLinks::new();
     let words = ["run", "--looks", caller.looks];
     for _ in 0..caller.times {
-        if let Ok((status, out)) = answer(rt, alloc, &words, file, &mut links, &[]) {
+        if let Ok((status, out)) = answer_over(rt, alloc, &words, file, &mut links) {
             if status == 0 && out.text() == wanted {
                 caller.had = caller.had.wrapping_add(1);
             }
