@@ -15,19 +15,23 @@ pub(crate) const USAGE: &str =
 pub(crate) fn text_of(alloc: Global, lines: &[&str]) -> Result<Vec<u8>, Fail> {
     let mut text = Vec::new(alloc);
     for line in lines {
-        text.extend_from_slice(line.as_bytes())?;
-        text.push(b'\n')?;
+        put_line(&mut text, line)?;
     }
     Ok(text)
+}
+
+// Puts the line behind the text.
+pub(crate) fn put_line(text: &mut Vec<u8>, line: &str) -> Result<(), Fail> {
+    text.extend_from_slice(line.as_bytes())?;
+    text.push(b'\n')?;
+    Ok(())
 }
 
 // The lines with another one at that place; lines count from 1.
 pub(crate) fn edited(alloc: Global, lines: &[&str], at: usize, new: &str) -> Result<Vec<u8>, Fail> {
     let mut text = Vec::new(alloc);
     for (n, line) in lines.iter().enumerate() {
-        let line = if n + 1 == at { new } else { *line };
-        text.extend_from_slice(line.as_bytes())?;
-        text.push(b'\n')?;
+        put_line(&mut text, if n + 1 == at { new } else { *line })?;
     }
     Ok(text)
 }

@@ -1,6 +1,6 @@
 //! The files of the folder examples, each with the command of its lesson, and what stands beside it
 //! there.
-use crate::calls::{answer, expect, text_of};
+use crate::calls::{answer, expect, put_line, text_of};
 use crate::example_files::{
     AGENCY_LESSON, BACK_AGAIN_LESSON, BEFORE_THE_END, CHOICE, CHOICE_TRANSCRIPT, CLOSED_AGAIN,
     CROSSING_LESSON, GREETING, GREETING_TRANSCRIPT, HANDED_ON_LESSON, LIMIT_END, LIMIT_LESSON,
@@ -38,8 +38,7 @@ fn taught_with(
         if n == 5 {
             text.extend_from_slice(&text_of(alloc, new)?)?;
         } else {
-            text.extend_from_slice(line.as_bytes())?;
-            text.push(b'\n')?;
+            put_line(&mut text, line)?;
         }
     }
     Ok(text)
