@@ -85,7 +85,7 @@ fn expect_read_fault<R: Abort + Threads + Sync>(
 #[test]
 fn each_read_of_the_agency_fails(rt: HostRuntime) -> Result<(), Fail> {
     let file = text_of(rt.alloc(), &AGENCY)?;
-    for command in ["check", "show", "sim", "run"] {
+    for command in ["check", "show", "sim", "run", "replay"] {
         for number in 0..2 {
             expect_read_fault(&rt, rt.alloc(), command, &file, number)?;
         }
@@ -171,13 +171,24 @@ fn each_write_of_a_log_fails(rt: HostRuntime) -> Result<(), Fail> {
         &file,
         &mut links,
         &whole,
+    )?;
+    // The same is replayed.
+    expect_write_faults(
+        &rt,
+        rt.alloc(),
+        &["replay", "--log"],
+        &logged(rt.alloc(), &FIRST, &FIRST_LOG)?,
+        &mut links,
+        &whole,
     )
 }
 
 // Words, a file, and the text of the answer.
-const ANSWERS: [(&[&str], &[&str], &str); 7] = [
+const ANSWERS: [(&[&str], &[&str], &str); 9] = [
     (&["fly"], &[], USAGE),
     (&["check"], &AGENCY, "accepted parties 3 sessions 2\n"),
+    (&["replay"], &FIRST, "log L1 at 0\n"),
+    (&["replay"], &["%%log", "1 a local"], "log L2 at 1\n"),
     (&["check"], &["party"], "syntax P1 at 2:1\n"),
     (&["run"], &["party a { close x; }"], "check C5 at 1\n"),
     (

@@ -94,6 +94,39 @@ pub(crate) const TOLD_LOG: [&str; 26] = [
     "21 b from c fin 1.0 0 0",
 ];
 
+// The same where an end goes to another party and comes back.
+pub(crate) const BACK_AGAIN_LOG: [&str; 29] = [
+    "1 a send 0.0 int 1",
+    "2 a close 0.0",
+    "2 b from a carry 0.1 0 0 0 int 1",
+    "3 b from a fin 0.1 0 1",
+    "4 b send 1.0 session 0.1 b",
+    "5 c from b carry 1.1 0 0 0 session 0.1 b",
+    "6 c take 1.1 session 0.1 b",
+    "7 b from c claim 0.1",
+    "8 a from b signal 0.0 0 c 0",
+    "9 b from a ack 0.1 0",
+    "9 c from a carry 0.1 1 0 0 int 1",
+    "10 c from a fin 0.1 1 1",
+    "11 c from b give 0.1 1 a 0 0 0 -",
+    "12 c send 1.1 session 0.1 c",
+    "13 c close 1.1",
+    "13 b from c carry 1.0 0 0 1 session 0.1 c",
+    "14 b from c fin 1.0 0 1",
+    "15 b take 1.0 session 0.1 c",
+    "16 b close 1.0",
+    "16 c from b claim 0.1",
+    "17 c from b fin 1.1 0 1",
+    "17 a from c signal 0.0 1 b 0",
+    "18 b from a carry 0.1 2 0 0 int 1",
+    "19 b from a fin 0.1 2 1",
+    "18 c from a ack 0.1 1",
+    "20 b from c give 0.1 2 a 0 0 0 -",
+    "21 b take 0.1 int 1",
+    "22 b close 0.1",
+    "23 a from b fin 0.0 2 0",
+];
+
 // Who does the events of the given log of the two crossing Signals, in order: `a` is an act of a, and `ba` a
 // delivery to b from a.
 pub(crate) const CROSSING_WORDS: &str = "a a a ba b b ca ca c db db d ac bd";

@@ -45,6 +45,12 @@ mod printing_tests;
 #[cfg(test)]
 mod refusal_tests;
 #[cfg(test)]
+mod replay_input_tests;
+#[cfg(test)]
+mod replay_log_tests;
+#[cfg(test)]
+mod replay_tests;
+#[cfg(test)]
 mod thread_tests;
 #[cfg(test)]
 mod transcripts;

@@ -158,13 +158,15 @@ fn a_file_may_have_65536_bytes(rt: HostRuntime) -> Result<(), Fail> {
 
 #[test]
 fn other_words_give_the_usage_line(rt: HostRuntime) -> Result<(), Fail> {
-    let rows: [&[&str]; 9] = [
+    let rows: [&[&str]; 11] = [
         &[],
         &["fly"],
         &["run", "5"],
         &["make", "0"],
         &["sim", "--log"],
-        &["replay"],
+        &["replay", "5"],
+        &["replay", "--looks", "5"],
+        &["replay", "--log", "5"],
         &["big", "0"],
         &["--help"],
         &["--version"],
