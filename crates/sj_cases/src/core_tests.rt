@@ -126,6 +126,30 @@ fn given_logs_are_replayed_and_then_drained(rt: HostRuntime) -> Result<(), Fail>
 }
 
 #[test]
+fn lines_become_the_history_of_the_world_to_which_they_lead(rt: HostRuntime) -> Result<(), Fail> {
+    let alloc = rt.alloc();
+    let accepted = accepted(alloc, &MOVED_TWICE)?;
+    let given = after(alloc, &accepted, MOVED_TWICE_WORDS)?;
+    let lines = Vec::from_slice(alloc, given.history())?;
+    let Ok(mut world) = World::replayed(alloc, &accepted, lines) else {
+        return Err(Fail::from("no world"));
+    };
+    assert!(rt; world.history() == given.history(), "all lines");
+    world.drain()?;
+    let told = log(alloc, accepted.file(), world.history())?;
+    assert_eq!(rt; told, text_of(alloc, &MOVED_TWICE_LOG)?);
+    let doubled = changed(alloc, given.history(), Change::Doubled, 2)?;
+    let mut other = World::start(alloc, &accepted)?;
+    let refusal = other.replay(&doubled);
+    assert!(rt; refusal.is_err(), "a line twice");
+    let Err(same) = World::replayed(alloc, &accepted, doubled) else {
+        return Err(Fail::from("a world"));
+    };
+    assert!(rt; refusal == Err(same), "refused as by replay");
+    Ok(())
+}
+
+#[test]
 fn the_first_line_that_is_not_due_is_refused(rt: HostRuntime) -> Result<(), Fail> {
     let rows: [(&[&str], &str, &[Row]); 6] = [
         (&FIRST, "", &FIRST_CHANGES),

@@ -1,11 +1,10 @@
 -- Nodes and lanes that are taken from the fronts of their lists, and hired one after the other.
-use Rattle.std.proofs.Common.{◌≡◌, ◌∙◌, ℕ, zero, suc, ◌+◌, ◌<◌, List, [], ◌∷◌, ◌++◌, Option, Some, None, drop, length, slice_index_or, inl, inr, refl, sym, ap, subst, arith, length-append}
+use Rattle.std.proofs.Common.{◌≡◌, ◌∙◌, ℕ, zero, suc, ◌+◌, ◌<◌, List, [], ◌∷◌, ◌++◌, Some, None, drop, length, slice_index_or, inl, inr, refl, sym, ap, subst, arith, length-append}
 use Rattle.std.specs.Prelude.{slice_get}
 use Rattle.std.specs.List.{remove}
 use Rattle.sj_core.proofs.FirstLemmas.{behind}
 use Rattle.sj_lane.specs.declared.lane.Lanes.{Lanes}
 use Rattle.sj_node.specs.declared.node.Node.{Node}
-use Rattle.sj_work.specs.declared.worker.Stop.{Stop}
 use Rattle.sj_work.specs.declared.worker.Worker.{Worker}
 use Rattle.sj_work.specs.Views.{lanes_of, node_of, stop_of}
 use Rattle.sj_run.specs.Workers.{AreHired}

@@ -1,7 +1,7 @@
 -- Over links that tell: the joined logs of workers are a history, no worker stopped as unfit, and where none stopped for another
 -- cause than that it had nothing to do, the links show the lines.
-use Rattle.std.proofs.Common.{◌≡◌, ◌⊎◌, ◌∙◌, ℕ, zero, suc, ◌+◌, ◌*◌, ◌<◌, ◌≤◌, nat_lt, ◌==◌, if◌then◌else◌, max, Bool, true, false, List, [], ◌∷◌, ◌++◌, map, length, Option, Some, None, inl, inr, refl, sym, ap, subst, arith}
-use Rattle.std.specs.Prelude.{slice_get, ⊤}
+use Rattle.std.proofs.Common.{◌≡◌, ◌⊎◌, ◌∙◌, ℕ, zero, suc, ◌*◌, ◌<◌, ◌≤◌, nat_lt, ◌==◌, max, Bool, true, false, List, [], ◌∷◌, ◌++◌, map, length, Option, Some, None, inl, inr, refl, sym, ap, subst, arith}
+use Rattle.std.specs.Prelude.{slice_get}
 use Rattle.std.proofs.lemmas.Bool.Decides.{nat_tests}
 use Rattle.std.proofs.lemmas.List.{length-map}
 use Rattle.sj_lang.specs.Place.{Place, done}
@@ -25,12 +25,10 @@ use Rattle.sj_joined_laws.proofs.WorkLemmas.{list_of, shown, told_by}
 use Rattle.sj_rules_laws.proofs.JoinedFileLemmas.{lines_are_history, lines_are_run, lost_arrives, own_joined_run, world_of}
 use Rattle.sj_rules_laws.proofs.LimitLemmas.{core_run_clocks}
 use Rattle.sj_rules_laws.proofs.ShortRunLemmas.{runs_are_short}
-use Rattle.sj_lane.specs.declared.lane.Lanes.{Lanes}
 use Rattle.sj_lane.specs.Square.{Kept, in_at, out_at}
 use Rattle.sj_node.specs.Node as nodes
 use Rattle.sj_node.specs.Node.{act_of, clock_of, node_at}
 use Rattle.sj_node.specs.Play.{play_with}
-use Rattle.sj_node.specs.Reading.{parties_of, party_of}
 use Rattle.sj_core.proofs.LawLemmas.{max_picks}
 use Rattle.sj_core.proofs.UnfitLemmas.{own_never_unfit}
 use Rattle.sj_work.specs.declared.worker.Stop.{Stop}

@@ -1,10 +1,10 @@
 -- The logs of workers, one after the other, in order.
-use Rattle.std.proofs.Common.{◌≡◌, ◌⊎◌, ◌∙◌, ℕ, zero, suc, ◌+◌, ◌<◌, ◌≤◌, List, [], ◌∷◌, ◌++◌, map, length, get_or, Option, Some, None, inl, inr, refl, sym, ap, subst, arith, length-append}
+use Rattle.std.proofs.Common.{◌≡◌, ◌∙◌, ℕ, zero, suc, ◌+◌, ◌<◌, ◌≤◌, List, [], ◌∷◌, ◌++◌, map, length, get_or, Option, Some, None, inl, inr, refl, sym, ap, subst, arith, length-append}
 use Rattle.std.specs.Prelude.{slice_get}
 use Rattle.std.specs.Borrow.{Bor}
 use Rattle.sj_end.specs.declared.note.Entry.{Entry}
 use Rattle.sj_end.specs.Lines.{entry_at}
-use Rattle.sj_rules.specs.Log.{EntryAt, IsJoined, IsRising, LineAt}
+use Rattle.sj_rules.specs.Log.{IsJoined, IsRising, LineAt}
 use Rattle.sj_node.specs.Node.{log_of}
 use Rattle.sj_merge.specs.Logs as merge
 use Rattle.sj_merge.proofs.OrderLemmas.{AllRise, all_ordered}
@@ -14,7 +14,6 @@ use Rattle.sj_work.specs.Views.{node_of}
 use Rattle.sj_run.specs.Workers.{AllRising, AreLogs, log_or, logs_in}
 use Rattle.sj_run.proofs.JoinLemmas.{none_there}
 use Rattle.sj_run.proofs.StopLemmas.{looked_at}
-use Rattle.sj_run.proofs.WorkedLemmas.{below_length}
 
 module _ {O I : Type 0} (workers : List (Worker O I)) where
   pub no_logs : AreLogs workers 0 []

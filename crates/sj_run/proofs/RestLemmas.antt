@@ -1,10 +1,7 @@
 -- Why a worker that stopped, and not for want of memory, a fault or what doesn't fit, has nothing to do, and what its lanes show of it.
-use Rattle.std.proofs.Common.{◌≡◌, ◌⊎◌, ◌∙◌, ℕ, zero, suc, ◌+◌, ◌<◌, ◌≤◌, max, min, Bool, List, [], ◌∷◌, map, length, Option, Some, None, inl, inr, refl, sym, ap, subst, arith}
-use Rattle.std.specs.Prelude.{⊤}
+use Rattle.std.proofs.Common.{◌≡◌, ◌⊎◌, ◌∙◌, ℕ, zero, suc, ◌<◌, List, [], ◌∷◌, map, length, Option, Some, None, inl, inr, refl, sym, ap, subst, arith}
 use Rattle.sj_lang.specs.Place.{Place, done}
 use Rattle.sj_lang.specs.FileAt.{FileAt}
-use Rattle.sj_semantics.specs.Program.{Program}
-use Rattle.sj_semantics.specs.declared.Want.TheVariants as wants
 use Rattle.sj_table.specs.Spots.{place_in}
 use Rattle.sj_rules.specs.Frames.{FrameAt}
 use Rattle.sj_rules.specs.Halts.{halt_of}
@@ -24,7 +21,7 @@ use Rattle.sj_work.specs.declared.worker.Stop.{Stop}
 use Rattle.sj_work.specs.declared.worker.Stop.TheVariants as stops
 use Rattle.sj_work.specs.declared.worker.Worker.{Worker}
 use Rattle.sj_work.specs.Causes.{Cause, InVain, OutVain}
-use Rattle.sj_work.specs.Counts.{OnLane, RoseBy, last_count}
+use Rattle.sj_work.specs.Counts.{OnLane, RoseBy}
 use Rattle.sj_work.specs.Laned.{laned}
 use Rattle.sj_work.specs.Views.{in_of, node_of, out_of, stop_of}
 use Rattle.sj_work.specs.Worked.{Turned}

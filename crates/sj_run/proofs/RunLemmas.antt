@@ -1,5 +1,5 @@
 -- What comes of workers that have worked, over any links, and over links that tell.
-use Rattle.std.proofs.Common.{◌≡◌, ◌⊎◌, ◌∙◌, ℕ, ◌+◌, ◌-◌, ◌^◌, ◌<◌, ◌≤◌, nat_lt, min, max, if◌then◌else◌, Bool, true, false, List, [], ◌++◌, map, length, Option, Some, None, inl, inr, refl, sym, ap, subst, arith}
+use Rattle.std.proofs.Common.{◌≡◌, ◌∙◌, ℕ, ◌<◌, ◌≤◌, nat_lt, max, if◌then◌else◌, Bool, true, false, List, [], ◌++◌, map, length, Option, Some, None, inl, inr, refl, sym, ap, subst, arith}
 use Rattle.std.specs.Prelude.{slice_get, option_map}
 use Rattle.std.proofs.lemmas.Bool.Decides.{nat_tests}
 use Rattle.sj_lang.specs.Place.{Place}
@@ -9,7 +9,7 @@ use Rattle.sj_plain.specs.Kept.{without_words}
 use Rattle.sj_semantics.specs.Program.{Program}
 use Rattle.sj_end.specs.Lines.{line_at}
 use Rattle.sj_rules.specs.Frames.{FrameAt}
-use Rattle.sj_rules.specs.History.{IsHistory, IsMisfit, due}
+use Rattle.sj_rules.specs.History.{IsHistory, due}
 use Rattle.sj_rules.specs.Log.{EntryAt, IsInOrder, IsJoined, IsRising, LineAt, logs_below}
 use Rattle.sj_rules.specs.NodeRun.{StepAt}
 use Rattle.sj_rules.specs.Party.{play_of}
@@ -24,9 +24,8 @@ use Rattle.sj_work.specs.declared.worker.Stop.{Stop}
 use Rattle.sj_work.specs.declared.worker.Stop.TheVariants as stops
 use Rattle.sj_work.specs.declared.worker.Worker.{Worker}
 use Rattle.sj_work.specs.Causes.{Cause, MetFault}
-use Rattle.sj_work.specs.Counts.{SomeRose}
-use Rattle.sj_work.specs.Laned.{entries_of, laned}
-use Rattle.sj_work.specs.Views.{in_of, lanes_of, node_of, out_of, stop_of}
+use Rattle.sj_work.specs.Laned.{entries_of}
+use Rattle.sj_work.specs.Views.{lanes_of, node_of}
 use Rattle.sj_run.specs.declared.refusal.RunRefusal.{RunRefusal}
 use Rattle.sj_run.specs.declared.refusal.RunRefusal.TheVariants as refusals
 use Rattle.sj_run.specs.Damage.{IsDamaged, IsDamagedSo, IsMisfitOf, IsPastEndOf}

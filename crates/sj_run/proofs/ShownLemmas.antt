@@ -1,15 +1,14 @@
 -- What links show of joined lines, from what each worker's own links show.
-use Rattle.std.proofs.Common.{◌≡◌, ◌⊎◌, ◌∙◌, ℕ, ◌<◌, max, List, [], ◌++◌, map, length, Option, Some, None, inl, inr, refl, sym, ap, subst}
+use Rattle.std.proofs.Common.{◌≡◌, ◌⊎◌, ◌∙◌, ℕ, ◌<◌, max, List, [], ◌++◌, map, length, None, inl, inr, sym, ap, subst}
 use Rattle.std.proofs.lemmas.List.{append-nil}
 use Rattle.sj_lang.specs.Place.{Place, done}
 use Rattle.sj_lang.specs.FileAt.{FileAt}
 use Rattle.sj_semantics.specs.Program.{Program}
 use Rattle.sj_rules.specs.Frames.{FrameAt}
-use Rattle.sj_rules.specs.Halts.{Halt, halt_of}
+use Rattle.sj_rules.specs.Halts.{halt_of}
 use Rattle.sj_rules.specs.Joined.{IsJoinedRun, WorkerAt}
 use Rattle.sj_rules.specs.Log.{LineAt, body_note}
 use Rattle.sj_rules.specs.Node.{NodeAt, acts}
-use Rattle.sj_rules.specs.NodeRun.{told_frames}
 use Rattle.sj_rules.specs.Party.{play_of}
 use Rattle.sj_rules.specs.Start.{core_start}
 use Rattle.sj_rules.specs.World.{WorldAt}

@@ -1,33 +1,27 @@
 -- The workers of a file, which began with its first nodes and new lanes, are parties that work together.
-use Rattle.std.proofs.Common.{◌≡◌, ◌⊎◌, ◌∙◌, ℕ, zero, suc, ◌+◌, ◌*◌, ◌<◌, ◌≤◌, max, min, Bool, true, List, [], ◌∷◌, ◌++◌, map, length, Option, Some, None, inl, inr, refl, sym, ap, subst, arith}
+use Rattle.std.proofs.Common.{◌≡◌, ◌∙◌, ℕ, zero, suc, ◌*◌, ◌<◌, ◌≤◌, max, Bool, true, List, [], ◌∷◌, map, length, Option, Some, None, refl, sym, ap, subst, arith}
 use Rattle.std.specs.Prelude.{slice_get, IsSome}
 use mathlib.Core.List.{IsPrefix}
 use Rattle.sj_lang.specs.Place.{Place, done}
 use Rattle.sj_lang.specs.FileAt.{FileAt, body_named}
-use Rattle.sj_acceptance.specs.Accepted.{IsAccepted}
 use Rattle.sj_semantics.specs.Program.{Program}
-use Rattle.sj_end.specs.declared.note.Entry.{Entry}
 use Rattle.sj_rules.specs.Frames.{FrameAt}
 use Rattle.sj_rules.specs.Joined.{PartiesWork}
-use Rattle.sj_rules.specs.Log.{EntryAt}
-use Rattle.sj_rules.specs.Node.{NodeAt, Play}
+use Rattle.sj_rules.specs.Node.{Play}
 use Rattle.sj_rules.specs.NodeRun.{told_frames}
 use Rattle.sj_rules.specs.Plays.{IsPlayOf}
 use Rattle.sj_rules.specs.Start.{core_start, first_node}
 use Rattle.sj_rules.specs.Work.{IsHired, LanedAt, LaneWork, LostAt, lost_from}
 use Rattle.sj_joined_laws.proofs.WorkLemmas.{parties_hired, shown, told_by}
-use Rattle.sj_lane.specs.Square.{IsSquare, in_at, out_at}
-use Rattle.sj_node.specs.declared.node.Node.{Node}
-use Rattle.sj_node.specs.Node.{log_of, node_at, outbox_of, play_of}
 use Rattle.sj_node.specs.Play.{play_with}
 use Rattle.sj_node.specs.Reading.{party_of}
 use Rattle.sj_node.proofs.FilePlayLemmas.{is_play_of}
 use Rattle.sj_work.specs.declared.worker.Stop.{Stop}
 use Rattle.sj_work.specs.declared.worker.Worker.{Worker}
 use Rattle.sj_work.specs.Laned.{entries_of, laned}
-use Rattle.sj_work.specs.Views.{in_of, lanes_of, node_of, out_of, stop_of}
+use Rattle.sj_work.specs.Views.{node_of, stop_of}
 use Rattle.sj_work.specs.Worked.{Turned, WorkedBy, kept}
-use Rattle.sj_run.specs.Workers.{AllWorked, HasWorked, IsFirst}
+use Rattle.sj_run.specs.Workers.{AllWorked, HasWorked}
 
 -- below the length of a list something is there
 pub there_is : {X : Type 0} (xs : List X) (p : ℕ) → p < length xs → (x : X) × (slice_get xs p ≡ Some x)

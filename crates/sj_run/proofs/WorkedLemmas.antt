@@ -1,8 +1,8 @@
 -- Workers that were hired with their file's first nodes and new lanes, and worked.
-use Rattle.std.proofs.Common.{◌≡◌, ◌⊎◌, ◌∙◌, ℕ, zero, suc, ◌*◌, ◌<◌, ◌≤◌, Bool, true, List, [], ◌∷◌, ◌++◌, take, map, length, Option, Some, None, refl, sym, ap, subst, arith}
+use Rattle.std.proofs.Common.{◌≡◌, ◌∙◌, ℕ, zero, suc, ◌*◌, ◌<◌, Bool, List, [], ◌∷◌, ◌++◌, take, map, length, Option, Some, None, refl, sym, ap, subst, arith}
 use Rattle.std.specs.Prelude.{slice_get, vec_len}
 use Rattle.sj_lang.specs.Place.{Place}
-use Rattle.sj_lang.specs.FileAt.{FileAt, body_named}
+use Rattle.sj_lang.specs.FileAt.{FileAt}
 use Rattle.sj_plain.specs.Kept.{without_words}
 use Rattle.sj_table.specs.Spots.{start_in}
 use Rattle.sj_rules.specs.Frames.{FrameAt}
@@ -16,9 +16,9 @@ use Rattle.sj_core.proofs.FirstLemmas.{first_same}
 use Rattle.sj_work.specs.declared.worker.Stop.{Stop}
 use Rattle.sj_work.specs.declared.worker.Worker.{Worker}
 use Rattle.sj_work.specs.Counts.{OnLane, Stands}
-use Rattle.sj_work.specs.Views.{in_of, lanes_of, node_of, out_of, stop_of}
+use Rattle.sj_work.specs.Views.{in_of, lanes_of, node_of, out_of}
 use Rattle.sj_work.specs.Worked.{Turned, Worked, WorkedBy, kept}
-use Rattle.sj_run.specs.Workers.{AllWorked, AreHired, AreNew, HasWorked, IsFirst}
+use Rattle.sj_run.specs.Workers.{AllWorked, AreHired, AreNew, IsFirst}
 use Rattle.sj_run.proofs.TeamLemmas.{there_is}
 
 -- what is there is below the length

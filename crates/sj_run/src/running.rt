@@ -23,17 +23,16 @@ use sj_work::Gate;
 use std::alloc::Global;
 use std::thread::Threads;
 
-/// The core world to which these lines lead from the file's start on.
-fn replayed(alloc: Global, accepted: &Accepted, lines: &[Line]) -> Result<World, RunRefusal>
+/// The core world to which these lines lead from the file's start on. They become its history.
+fn replayed(alloc: Global, accepted: &Accepted, lines: Vec<Line>) -> Result<World, RunRefusal>
     ensures kept { IfOk result (λ w. kept w ≡ without_words (file_of (held accepted.now))) }
-    ensures history { IfOk result (λ w. history_of w ≡ map line_at lines.now) }
-    ensures run { IfOk result (λ w. IsHistory max (file_of (held accepted.now)) (map line_at lines.now) (world_at w)) }
-    ensures damaged { IfErr result (IsMisfitOf (file_of (held accepted.now)) (map line_at lines.now)) }
+    ensures history { IfOk result (λ w. history_of w ≡ map line_at lines.items) }
+    ensures run { IfOk result (λ w. IsHistory max (file_of (held accepted.now)) (map line_at lines.items) (world_at w)) }
+    ensures damaged { IfErr result (IsMisfitOf (file_of (held accepted.now)) (map line_at lines.items)) }
     ensures whole { result ≡ Err RunRefusal.LinkFault → ⊥ }
 {
-    let mut world = World::start(alloc, accepted)?;
-    match world.replay(lines) {
-        Ok(()) => Ok(world),
+    match World::replayed(alloc, accepted, lines) {
+        Ok(world) => Ok(world),
         Err(
             ReplayRefusal::Misfit {
                 number,
@@ -49,9 +48,9 @@ fn replayed(alloc: Global, accepted: &Accepted, lines: &[Line]) -> Result<World,
     }
 }
 
-/// Why a worker that refused an event behind these lines makes them damaged.
-fn past_end(world: &World, lines: &[Line], refused: Line) -> RunRefusal
-    ensures refused { IsPastEndOf (kept world.now) (world_at world.now) (map line_at lines.now) result }
+/// Why a worker that refused an event behind the lines of this history makes them damaged.
+fn past_end(world: &World, refused: Line) -> RunRefusal
+    ensures refused { IsPastEndOf (kept world.now) (world_at world.now) (history_of world.now) result }
     ensures whole { result ≡ RunRefusal.LinkFault → ⊥ }
 {
     let due = world.due(refused.party, refused.entry.event);
@@ -60,14 +59,15 @@ fn past_end(world: &World, lines: &[Line], refused: Line) -> RunRefusal
         return RunRefusal::NoMemory;
     }
     RunRefusal::Damaged {
-        number: lines.len() as u64 + 1,
+        number: world.history().len() as u64 + 1,
         logged: refused,
         due,
     }
 }
 
 /// Runs a file by its parties, each on a thread of its own where one can be had, over lanes that the
-/// links make. Their logs, joined, are replayed in a core world, which is what the parties left.
+/// links make. Their logs, joined, are replayed in a core world, which is what the parties left: they are
+/// given up before that, and the joined lines become its history.
 ///
 /// A worker that wanted memory makes the whole want memory, unless the links met a fault or the logs
 /// are damaged.
@@ -108,12 +108,12 @@ pub fn run_parties<R: Threads + Sync, L: Links, G: Gate>(
     if faulty {
         return Err(RunRefusal::LinkFault);
     }
-    let world = match replayed(alloc, accepted, &lines) {
+    let world = match replayed(alloc, accepted, lines) {
         Ok(world) => world,
         Err(refusal) => return Err(refusal),
     };
     if let Some(refused) = unfit {
-        return Err(past_end(&world, &lines, refused));
+        return Err(past_end(&world, refused));
     }
     if short {
         return Err(RunRefusal::NoMemory);

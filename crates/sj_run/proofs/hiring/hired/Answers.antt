@@ -1,6 +1,5 @@
 use Rattle.std.proofs.Common.{◌≡◌, ◌∙◌, ◌<◌, ◌+◌, length, ap, refl, sym, subst, arith, slice_index_or, Some}
 use Rattle.std.specs.List.{remove}
-use Rattle.std.specs.Prelude.{slice_get}
 use Rattle.sj_run.specs.Workers.{AreHired}
 use Rattle.sj_run.proofs.HiredLemmas.{front_is, rest_is, some_left, none_hired, one_hired}
 use Rattle.sj_run.proofs.hiring.hired.Goals as goal

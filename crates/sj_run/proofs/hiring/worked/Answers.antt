@@ -1,5 +1,5 @@
-use Rattle.std.proofs.Common.{◌≡◌, ◌∙◌, ◌++◌, length, drop, List, arith, sym, ap, subst}
-use Rattle.std.specs.Prelude.{slice_get, Some}
+use Rattle.std.proofs.Common.{◌≡◌, ◌∙◌, length, drop, List, arith, sym, ap, subst}
+use Rattle.std.specs.Prelude.{slice_get}
 use Rattle.sj_check.specs.Held.{file_in}
 use Rattle.std.proofs.lemmas.List.{length-map}
 use Rattle.sj_lang.specs.declared.file.File.{File}

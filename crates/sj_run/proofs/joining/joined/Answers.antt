@@ -1,4 +1,4 @@
-use Rattle.std.proofs.Common.{◌≡◌, List, Bor, subst, sym, map}
+use Rattle.std.proofs.Common.{List, Bor, subst, sym, map}
 use Rattle.sj_end.specs.declared.note.Entry.{Entry}
 use Rattle.sj_merge.specs.Logs.{AreOrdered, log_of}
 use Rattle.sj_end.specs.Lines.{line_at}

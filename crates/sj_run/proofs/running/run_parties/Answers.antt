@@ -1,16 +1,14 @@
-use Rattle.std.proofs.Common.{◌≡◌, ◌∙◌, ◌≤◌, List, Bool, true, map, ap, max, refl, sym, subst}
+use Rattle.std.proofs.Common.{◌∙◌, List, Bool, map, refl, sym, subst}
 use Rattle.sj_check.specs.Held.{file_in}
 use Rattle.sj_core.specs.World.{history_of, kept, world_at}
-use Rattle.sj_end.specs.declared.note.Line.{Line}
 use Rattle.sj_end.specs.Lines.{line_at}
 use Rattle.sj_lane.specs.declared.lane.Lanes.{Lanes}
 use Rattle.sj_lane.specs.Square.{HasFault, Kept}
 use Rattle.sj_lang.specs.FileView.{file_of}
-use Rattle.sj_rules.specs.History.{IsHistory}
-use Rattle.sj_rules.specs.Log.{IsJoined}
+use Rattle.sj_rules.specs.Log.{IsJoined, LineAt}
 use Rattle.sj_work.specs.declared.worker.Stop.TheVariants as stops
 use Rattle.sj_work.specs.declared.worker.Worker.{Worker}
-use Rattle.sj_run.specs.Damage.{IsMisfitOf, IsPastEndOf}
+use Rattle.sj_run.specs.Damage.{IsPastEndOf}
 use Rattle.sj_run.specs.Shown.{keeps_of}
 use Rattle.sj_run.specs.Workers.{AllRising, AllWorked, NoneStopped, SomeStopped, logs_in}
 use Rattle.sj_run.proofs.RunLemmas.{all_rising, has_fault, history_fits, misfit_damage, refused_damage, rose_from, told_fits, told_history, told_shown}
@@ -35,7 +33,7 @@ returns-then-faulty-clause-link_fault g c =
 pub returns-in-Err-clause-damaged : goal.returns-in-Err-clause-damaged
 returns-in-Err-clause-damaged g c =
     misfit_damage (file_of (file_in c.args.accepted.now)) (map line_at c.in_ok-lines.lines.items) c.in-Err.refusal c.in_ok-lines.ensures.order
-    (subst (λ (ls : List Line). IsMisfitOf (file_of (file_in c.args.accepted.now)) (map line_at ls) c.in-Err.refusal) c.deref-5.ensures.value c.in-Err.ensures.damaged)
+    c.in-Err.ensures.damaged
 
 pub returns-in-Err-clause-telling : goal.returns-in-Err-clause-telling
 returns-in-Err-clause-telling g c =
@@ -49,14 +47,13 @@ returns-in-Err-clause-telling g c =
     c.in_ok-lanes.ensures (c.back.ensures.kept (c.in_ok-workers.ensures.tells ∙ telling)))
     (map line_at c.in_ok-lines.lines.items)
     (subst (λ (ws : List (Worker g.row.L-Out.Denot g.row.L-In.Denot)). IsJoined (logs_in ws) (map line_at c.in_ok-lines.lines.items)) c.deref.ensures.value c.in_ok-lines.ensures))
-    (subst (λ (ls : List Line). IsMisfitOf (file_of (file_in c.args.accepted.now)) (map line_at ls) c.in-Err.refusal) c.deref-5.ensures.value c.in-Err.ensures.damaged) damaged
+    c.in-Err.ensures.damaged damaged
 
 pub returns-in-Some-clause-damaged : goal.returns-in-Some-clause-damaged
 returns-in-Some-clause-damaged g c =
     let world = c.in-Ok.world in
     refused_damage (file_of (file_in c.args.accepted.now)) (kept world) (map line_at c.in_ok-lines.lines.items) (world_at world) c.past_end.result c.in-Ok.ensures.kept c.in_ok-lines.ensures.order
-    (subst (λ (ls : List Line). IsHistory max (file_of (file_in c.args.accepted.now)) (map line_at ls) (world_at world)) c.deref-5.ensures.value c.in-Ok.ensures.run)
-    (subst (λ (ls : List Line). IsPastEndOf (kept world) (world_at world) (map line_at ls) c.past_end.result) c.deref-in-Some.ensures.value c.past_end.ensures.refused)
+    c.in-Ok.ensures.run (subst (λ (ls : List LineAt). IsPastEndOf (kept world) (world_at world) ls c.past_end.result) c.in-Ok.ensures.history c.past_end.ensures.refused)
 
 pub returns-in-Some-clause-telling : goal.returns-in-Some-clause-telling
 returns-in-Some-clause-telling g c =
@@ -84,5 +81,4 @@ returns-clause-shown g c =
     (subst (λ (ws : List (Worker g.row.L-Out.Denot g.row.L-In.Denot)). IsJoined (logs_in ws) (map line_at c.in_ok-lines.lines.items)) c.deref.ensures.value c.in_ok-lines.ensures)
     (subst (λ (ws : List (Worker g.row.L-Out.Denot g.row.L-In.Denot)). NoneStopped ws stops.NoMemory) c.deref-3.ensures.value (c.if-short.ensures.none refl))
     (subst (λ (ws : List (Worker g.row.L-Out.Denot g.row.L-In.Denot)). NoneStopped ws stops.Fault) c.deref-2.ensures.value (c.if-faulty.ensures.none refl))
-    (history_of c.in-Ok.world) (world_at c.in-Ok.world) (c.in-Ok.ensures.history ∙ ap (map line_at) c.deref-5.ensures.value)
-    (subst (λ (ls : List Line). IsHistory max (file_of (file_in c.args.accepted.now)) (map line_at ls) (world_at c.in-Ok.world)) c.deref-5.ensures.value c.in-Ok.ensures.run)
+    (history_of c.in-Ok.world) (world_at c.in-Ok.world) c.in-Ok.ensures.history c.in-Ok.ensures.run

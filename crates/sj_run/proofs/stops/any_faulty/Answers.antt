@@ -1,4 +1,4 @@
-use Rattle.std.proofs.Common.{◌≡◌, ◌∙◌, sym}
+use Rattle.std.proofs.Common.{◌∙◌, sym}
 use Rattle.sj_work.specs.declared.worker.Stop.TheVariants as stops
 use Rattle.sj_run.proofs.StopLemmas.{none_at_all, none_first, none_next, some_stopped}
 use Rattle.sj_run.proofs.stops.any_faulty.Goals as goal

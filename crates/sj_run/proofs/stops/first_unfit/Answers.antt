@@ -1,4 +1,4 @@
-use Rattle.std.proofs.Common.{◌≡◌, ◌∙◌, Option, Some, None, sym, subst, refl}
+use Rattle.std.proofs.Common.{Option, None, sym, subst, refl}
 use Rattle.std.specs.Prelude.{IsSome}
 use Rattle.sj_end.specs.declared.note.Line.{Line}
 use Rattle.sj_work.specs.declared.worker.Stop.TheVariants as stops
