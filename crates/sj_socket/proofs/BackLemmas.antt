@@ -1,10 +1,10 @@
 -- What the lanes that come back counted.
-use Rattle.std.proofs.Common.{◌≡◌, ℕ, ◌+◌, ◌<◌, ◌≤◌, min, List, Some, inl, inr, refl, sym, ap, ◌∙◌, arith}
+use Rattle.std.proofs.Common.{◌≡◌, ℕ, ◌+◌, ◌<◌, min, List, Some, inl, inr, ap, ◌∙◌, arith}
 use Rattle.std.specs.Prelude.{slice_get}
 use Rattle.sj_lane.specs.declared.lane.Lanes.{Lanes}
-use Rattle.sj_lane.specs.Square.{HasFault, NoFault, in_at, in_in, out_at, out_in}
+use Rattle.sj_lane.specs.Square.{HasFault, NoFault, in_in, out_in}
 use Rattle.sj_lane.proofs.Settles.{in_found, out_found}
-use Rattle.sj_socket.specs.Counts.{met, met_by, met_in, met_out}
+use Rattle.sj_socket.specs.Counts.{met, met_by}
 use Rattle.sj_socket.specs.declared.in_lane.SocketIn.{SocketIn}
 use Rattle.sj_socket.specs.declared.out_lane.SocketOut.{SocketOut}
 use Rattle.sj_socket.proofs.SumLemmas.{below_total, total_none}

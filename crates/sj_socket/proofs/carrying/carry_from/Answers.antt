@@ -1,4 +1,4 @@
-use Rattle.std.proofs.Common.{length, refl, rules, arith}
+use Rattle.std.proofs.Common.{length, refl, rules}
 use Rattle.std.proofs.lemmas.Option.{slice_get_read}
 use Rattle.sj_socket.proofs.KeptLemmas.{ins_put, ins_same, outs_put}
 use Rattle.sj_socket.proofs.carrying.carry_from.Goals as goal

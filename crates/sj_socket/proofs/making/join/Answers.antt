@@ -1,8 +1,5 @@
-use Rattle.std.proofs.Common.{length, refl, arith}
+use Rattle.std.proofs.Common.{length, refl}
 use Rattle.std.proofs.lemmas.Option.{slice_get_read}
-use Rattle.sj_lane.specs.declared.lane.Lanes.{Lanes}
-use Rattle.sj_socket.specs.declared.in_lane.SocketIn.{SocketIn}
-use Rattle.sj_socket.specs.declared.out_lane.SocketOut.{SocketOut}
 use Rattle.sj_socket.proofs.RowLemmas.{lane_more, out_more}
 use Rattle.sj_socket.proofs.making.join.Goals as goal
 
