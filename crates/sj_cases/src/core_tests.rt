@@ -136,7 +136,7 @@ fn lines_become_the_history_of_the_world_to_which_they_lead(rt: HostRuntime) -> 
     };
     assert!(rt; world.history() == given.history(), "all lines");
     world.drain()?;
-    let told = log(alloc, accepted.file(), world.history())?;
+    let told = log_of(alloc, accepted.file(), world.history())?;
     assert_eq!(rt; told, text_of(alloc, &MOVED_TWICE_LOG)?);
     let doubled = changed(alloc, given.history(), Change::Doubled, 2)?;
     let mut other = World::start(alloc, &accepted)?;
