@@ -1,5 +1,5 @@
 -- The bytes that a task takes are answered in one way.
-use Rattle.std.proofs.Common.{◌≡◌, ◌∙◌, ◌<◌, ◌≤◌, ℕ, List, length, inl, inr, ap, sym, subst, refl, arith}
+use Rattle.std.proofs.Common.{◌≡◌, ◌∙◌, ◌≤◌, ℕ, List, length, inl, inr, ap, sym, subst, refl, arith}
 use Rattle.sj_command.specs.declared.tasks.Task.{Task}
 use Rattle.sj_command.specs.declared.tasks.Task.TheVariants as tasks
 use Rattle.sj_log.specs.Parts.{HasNoPart, IsParted}

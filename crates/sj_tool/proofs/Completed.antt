@@ -1,5 +1,5 @@
 -- A task completes for an input that is valid for it.
-use Rattle.std.proofs.Common.{◌≡◌, ◌∙◌, ◌<◌, ◌≤◌, ◌++◌, ◌+◌, ◌*◌, ℕ, Bool, true, false, List, [], ◌∷◌, Option, Some, None, inl, inr, ap, ap₂, refl, sym, subst, length, arith, length-append}
+use Rattle.std.proofs.Common.{◌≡◌, ◌∙◌, ◌<◌, ◌≤◌, ◌++◌, ◌+◌, ◌*◌, ℕ, List, [], ◌∷◌, Option, Some, None, inl, ap, ap₂, refl, sym, subst, length, arith, length-append}
 use Rattle.sj_base.specs.Stream.{CameOf, put_behind}
 use Rattle.sj_lang.specs.FileAt.{FileAt}
 use Rattle.sj_generator.specs.Generated.{generated}
@@ -17,7 +17,7 @@ use Rattle.sj_tool.proofs.BytesAnswer.{takes_file}
 use Rattle.sj_tool.proofs.CompletedFile.{Told, bytes_complete}
 use Rattle.sj_tool.proofs.Exactly.{call_at}
 use Rattle.sj_tool.proofs.InputLemmas.{came_of, read_bytes, read_of, reads_of}
-use Rattle.sj_tool.proofs.Rows.{Row, words, fault, large, made, input, made_takes, reads_takes, row_of}
+use Rattle.sj_tool.proofs.RowKinds.{Row, words, fault, large, made, input, made_takes, reads_takes, row_of}
 use Rattle.sj_generator_laws.specs.GeneratedFile.{generated_file}
 use Rattle.sj_generator_laws.proofs.AcceptedLemmas.{file_is_accepted}
 use Rattle.sj_generator_laws.proofs.FileRun.{file_ends_so}

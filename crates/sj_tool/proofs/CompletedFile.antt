@@ -1,5 +1,5 @@
 -- What answers a valid file completes its task.
-use Rattle.std.proofs.Common.{◌≡◌, ◌∙◌, ◌++◌, ℕ, Bool, true, false, List, [], Option, Some, None, inl, inr, ap, sym, subst}
+use Rattle.std.proofs.Common.{◌≡◌, ◌∙◌, ℕ, Bool, true, false, List, [], Option, None, inl, inr, ap, subst}
 use Rattle.sj_lang.specs.FileAt.{FileAt}
 use Rattle.sj_grammar.specs.Files.{IsFile}
 use Rattle.sj_acceptance.specs.Accepted.{IsAccepted}
@@ -26,7 +26,8 @@ use Rattle.sj_tool.proofs.BytesAnswer.{Kind, kind_of, long, misses, not_long, no
 use Rattle.sj_tool.proofs.HeadlineOfAnswers.{IsPlayedSo, played_so}
 use Rattle.sj_tool.proofs.InputLemmas.{one_part}
 use Rattle.sj_tool.proofs.LogAnswers.{fault_or_lines, misfit_or_history}
-use Rattle.sj_tool.proofs.OneAnswer.{IsEither, IsUnhurt, either, file_told}
+use Rattle.sj_tool.proofs.FileTold.{IsUnhurt, file_told}
+use Rattle.sj_tool.proofs.OneAnswer.{IsEither, either}
 use Rattle.sj_tool.proofs.ToldOnce.{IsPlayed, Tells, TellsChecked, TellsFaultless, told}
 
 -- what is played completes

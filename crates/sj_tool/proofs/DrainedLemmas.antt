@@ -1,15 +1,11 @@
 -- A core world to which given lines lead, and what is drained behind them.
-use Rattle.std.proofs.Common.{◌≡◌, ◌∙◌, ℕ, max, true, List, ◌++◌, map, length, refl, sym, subst}
-use Rattle.std.specs.Prelude.{Bool}
+use Rattle.std.proofs.Common.{◌≡◌, ◌∙◌, ℕ, max, true, List, ◌++◌, map, length, refl, subst}
 use Rattle.sj_lang.specs.FileAt.{FileAt}
 use Rattle.sj_lang.specs.Place.{Place}
 use Rattle.sj_acceptance.specs.Accepted.{IsAccepted}
 use Rattle.sj_semantics.specs.declared.Verdict.{Verdict}
 use Rattle.sj_semantics.specs.Program.{Program}
 use Rattle.sj_semantics.specs.Run.{IsRun, end_of}
-use Rattle.sj_semantics.specs.State.{IsSettled, verdict_of}
-use Rattle.sj_semantics.specs.Transcript.{transcript_of}
-use Rattle.sj_semantics.specs.World.{World}
 use Rattle.sj_semantics_laws.proofs.FinishLemmas.{end_is_settled}
 use Rattle.sj_plain.specs.Kept.{without_words}
 use Rattle.sj_rules.specs.Drain.{IsDrained}

@@ -9,10 +9,12 @@ pub mod OneFault
 pub mod ReplayLemmas
 pub mod LogAnswers
 pub mod ToldOnce
+pub mod FileTold
 pub mod OneAnswer
 pub mod InputLemmas
 pub mod FileAnswers
 pub mod BytesAnswer
+pub mod RowKinds
 pub mod Rows
 pub mod TableLemmas
 pub mod Exactly

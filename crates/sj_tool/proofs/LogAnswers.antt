@@ -1,9 +1,8 @@
 -- A log that is replayed is told of in one way: its first fault, its first entry that isn't due, or how the file ends.
-use Rattle.std.proofs.Common.{◌≡◌, ◌⊎◌, ◌∙◌, ◌+◌, ℕ, max, true, List, [], ◌∷◌, ◌++◌, Option, Some, None, Result, Ok, length, ap, ap₂, refl, sym, subst, inl, inr}
-use Rattle.std.specs.Prelude.{Bool}
+use Rattle.std.proofs.Common.{◌≡◌, ◌∙◌, ◌+◌, ℕ, max, List, [], ◌∷◌, ◌++◌, Option, Some, None, length, ap, ap₂, refl, sym, subst}
 use Rattle.sj_lang.specs.FileAt.{FileAt}
 use Rattle.sj_lang.specs.Place.{Place}
-use Rattle.sj_log.specs.LogText.{IsFault, SpellsLog, fault_of, log_read}
+use Rattle.sj_log.specs.LogText.{IsFault, SpellsLog, fault_of}
 use Rattle.sj_log.specs.declared.refusal.LogRefusal.TheVariants.{At}
 use Rattle.sj_rules.specs.History.{IsHistory, IsLog, IsMisfit, due}
 use Rattle.sj_rules.specs.Log.{LineAt}

@@ -1,5 +1,5 @@
--- A file, its text and the bytes that have it are answered in one way.
-use Rattle.std.proofs.Common.{◌≡◌, ◌⊎◌, ◌∙◌, ◌≤◌, ℕ, List, [], Option, Some, None, length, ap, ap₂, sym, subst, refl, inl, inr, arith}
+-- A file and its text are answered in one way.
+use Rattle.std.proofs.Common.{◌≡◌, ◌⊎◌, ◌∙◌, ℕ, List, [], Some, None, ap, sym, subst, refl, inl, inr}
 use Rattle.sj_lang.specs.FileAt.{FileAt}
 use Rattle.sj_grammar.specs.declared.tokens.Fault.{Fault}
 use Rattle.sj_grammar.specs.Limits.{limits}
@@ -21,65 +21,8 @@ use Rattle.sj_tool.specs.Runs.{Prints}
 use Rattle.sj_tool.specs.Calls.{LinkUseAt, LinksHold}
 use Rattle.sj_tool.specs.Tasks.{Replays as IsReplay, RunsParties}
 use Rattle.sj_tool.proofs.OneFault.{one_fault}
-use Rattle.sj_tool.proofs.ToldOnce.{AreToldOnce, Tells, TellsChecked, TellsFaultless, same_told, told, told_once}
-
--- no fault of the links is answered
-abbrev pub IsUnhurt : Answer → Type 0
-IsUnhurt LinkFault = ⊥
-IsUnhurt (Damaged t) = ⊥
-IsUnhurt _ = Unit {0}
-
--- what an accepted file is told by is told of it by its first fault
-by_no_fault : (links : LinkUseAt) (task : Task) (log : List ℕ) (file : FileAt) (t : ℕ × List ℕ) → IsAccepted file → TellsFaultless links task log file t → TellsChecked links task log file (first_fault (tests_of file)) t
-by_no_fault links task log file t ok x = subst (λ (f : Option (ℕ × ℕ)). TellsChecked links task log file f t) (sym (accepted_to file ok)) x
-
-by_fault : (links : LinkUseAt) (task : Task) (log : List ℕ) (file : FileAt) (r k : ℕ) → first_fault (tests_of file) ≡ Some (r, k) → TellsChecked links task log file (first_fault (tests_of file)) (told (Check r k))
-by_fault links task log file r k e = subst (λ (f : Option (ℕ × ℕ)). TellsChecked links task log file f (told (Check r k))) (sym e) refl
-
--- what answers a file has the status and the text that its first fault tells
-pub file_told : (links : LinkUseAt) (task : Task) (log : List ℕ) (file : FileAt) (a : Answer) → IsUnhurt a → AnswersFile links task log file a → Tells links task log file (first_fault (tests_of file)) (told a)
-file_told links task log file Usage u x = absurd x
-file_told links task log file ReadFault u x = absurd x
-file_told links task log file TooLarge u x = absurd x
-file_told links task log file (Syntax f) u x = absurd x
-file_told links task log file (Made t) u x = absurd x
-file_told links task log file LinkFault u x = absurd u
-file_told links task log file (Damaged t) u x = absurd u
-file_told links tasks.Check log file (Check r k) u x = by_fault links tasks.Check log file r k x.1
-file_told links tasks.Sim log file (Check r k) u x = by_fault links tasks.Sim log file r k x.1
-file_told links (tasks.Run l looks) log file (Check r k) u x = by_fault links (tasks.Run l looks) log file r k x.1
-file_told links (tasks.Replay l) log file (Check r k) u x = by_fault links (tasks.Replay l) log file r k x.1
-file_told links (tasks.Big n) log file (Check r k) u x = by_fault links (tasks.Big n) log file r k x.1
-file_told links tasks.Show log file (Check r k) u x = absurd x.0
-file_told links (tasks.Make n) log file (Check r k) u x = absurd x.0
-file_told links (tasks.Replay l) log file (LogFault r k) u x = by_no_fault links (tasks.Replay l) log file (told (LogFault r k)) x.0 (inl (r, k, x.2, refl))
-file_told links (tasks.Replay l) log file (Misfit t) u x = by_no_fault links (tasks.Replay l) log file (told (Misfit t)) x.0 (inr (inl (t.items, x.2, refl)))
-file_told links tasks.Check log file (LogFault r k) u x = absurd x.1
-file_told links tasks.Check log file (Misfit t) u x = absurd x.1
-file_told links tasks.Show log file (LogFault r k) u x = absurd x.1
-file_told links tasks.Show log file (Misfit t) u x = absurd x.1
-file_told links tasks.Sim log file (LogFault r k) u x = absurd x.1
-file_told links tasks.Sim log file (Misfit t) u x = absurd x.1
-file_told links (tasks.Run l looks) log file (LogFault r k) u x = absurd x.1
-file_told links (tasks.Run l looks) log file (Misfit t) u x = absurd x.1
-file_told links (tasks.Make n) log file (LogFault r k) u x = absurd x.1
-file_told links (tasks.Make n) log file (Misfit t) u x = absurd x.1
-file_told links (tasks.Big n) log file (LogFault r k) u x = absurd x.1
-file_told links (tasks.Big n) log file (Misfit t) u x = absurd x.1
-file_told links tasks.Sim log file (Ran v t) u x = by_no_fault links tasks.Sim log file (told (Ran v t)) x.0 (record { verdict = v; text = t.items; plays = x.1; are = refl })
-file_told links (tasks.Run l looks) log file (Ran v t) u x = by_no_fault links (tasks.Run l looks) log file (told (Ran v t)) x.0 (record { verdict = v; text = t.items; plays = x.1; are = refl })
-file_told links (tasks.Big n) log file (Ran v t) u x = by_no_fault links (tasks.Big n) log file (told (Ran v t)) x.0 (record { verdict = v; text = t.items; plays = x.1; are = refl })
-file_told links (tasks.Replay l) log file (Ran v t) u x = by_no_fault links (tasks.Replay l) log file (told (Ran v t)) x.0 (inr (inr (record { verdict = v; text = t.items; plays = x.1; are = refl })))
-file_told links tasks.Check log file (Ran v t) u x = absurd x.1
-file_told links tasks.Show log file (Ran v t) u x = absurd x.1
-file_told links (tasks.Make n) log file (Ran v t) u x = absurd x.1
-file_told links tasks.Check log file (Printed t) u x = by_no_fault links tasks.Check log file (told (Printed t)) x.0 (ap (λ y. (0, y)) x.1)
-file_told links tasks.Show log file (Printed t) u x = ap (λ y. (0, y)) x
-file_told links tasks.Sim log file (Printed t) u x = absurd x
-file_told links (tasks.Run l looks) log file (Printed t) u x = absurd x
-file_told links (tasks.Replay l) log file (Printed t) u x = absurd x
-file_told links (tasks.Make n) log file (Printed t) u x = absurd x
-file_told links (tasks.Big n) log file (Printed t) u x = absurd x
+use Rattle.sj_tool.proofs.ToldOnce.{AreToldOnce, same_told, told, told_once}
+use Rattle.sj_tool.proofs.FileTold.{IsUnhurt, file_told}
 
 -- where the links hold for the parties that run, or the answer tells of no run
 abbrev pub HoldsFor : LinkUseAt → Task → Answer → Type 0

@@ -1,5 +1,5 @@
 -- A file is run in one way: by a log whole, by its parties up to their history.
-use Rattle.std.proofs.Common.{◌≡◌, ◌⊎◌, ◌∙◌, ℕ, max, true, false, List, [], ◌++◌, Option, Some, Result, Ok, length, map, inl, inr, ap, ap₂, sym, subst}
+use Rattle.std.proofs.Common.{◌≡◌, ◌⊎◌, ◌∙◌, ℕ, max, true, false, List, [], ◌++◌, Result, Ok, length, map, inl, inr, ap, ap₂, sym, subst}
 use Rattle.std.specs.Prelude.{Bool}
 use Rattle.std.proofs.lemmas.List.{map-append}
 use Rattle.sj_lang.specs.FileAt.{FileAt}
@@ -14,7 +14,7 @@ use Rattle.sj_rules.specs.History.{IsHistory, Replay, turn_of, replay}
 use Rattle.sj_rules.specs.Log.{LineAt}
 use Rattle.sj_rules.specs.Party.{play_of}
 use Rattle.sj_rules.specs.Start.{core_start}
-use Rattle.sj_rules.specs.World.{Turn, WorldAt}
+use Rattle.sj_rules.specs.World.{WorldAt}
 use Rattle.sj_joined_laws.proofs.HistoryLemmas.{replays, same_world}
 use Rattle.sj_rules_laws.proofs.DrainLemmas.{drained_once}
 use Rattle.sj_command.specs.declared.tasks.Task.{Task}

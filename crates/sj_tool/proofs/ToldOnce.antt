@@ -1,18 +1,13 @@
 -- A file is told of in one way: its first fault, or what its task makes of it.
-use Rattle.std.proofs.Common.{◌≡◌, ◌⊎◌, ◌∙◌, ℕ, List, Option, Some, None, ap, ap₂, sym, subst, refl, inl, inr}
+use Rattle.std.proofs.Common.{◌≡◌, ◌⊎◌, ◌∙◌, ℕ, List, Option, Some, None, ap, ap₂, sym, subst, inl, inr}
 use Rattle.std.specs.Prelude.{Bool}
 use Rattle.sj_lang.specs.FileAt.{FileAt}
-use Rattle.sj_acceptance_laws.proofs.FileLaws.{accepted_to}
-use Rattle.sj_acceptance.specs.Faults.{first_fault}
-use Rattle.sj_acceptance.specs.FileTests.{tests_of}
 use Rattle.sj_command.specs.declared.tasks.Task.{Task}
 use Rattle.sj_command.specs.declared.tasks.Task.TheVariants as tasks
 use Rattle.sj_log.specs.LogText.{IsFault}
 use Rattle.sj_log.specs.declared.refusal.LogRefusal.TheVariants.{At}
 use Rattle.sj_semantics.specs.declared.Verdict.{Verdict}
 use Rattle.sj_tool.specs.declared.answers.Answer.{Answer}
-use Rattle.sj_tool.specs.declared.answers.Answer.TheVariants.{Usage, ReadFault, TooLarge, Syntax, Check, LogFault, Misfit, LinkFault, Damaged, Ran, Printed, Made}
-use Rattle.sj_tool.specs.Answers.{AnswersFile}
 use Rattle.sj_tool.specs.Runs.{Plays}
 use Rattle.sj_tool.specs.Calls.{LinkUseAt}
 use Rattle.sj_tool.specs.Entries.{IsMisfitText}

@@ -1,6 +1,5 @@
 use Rattle.std.proofs.Common.{◌≤◌, length, sym, subst, arith}
 use Rattle.sj_command.specs.declared.tasks.Task.{Task}
-use Rattle.sj_command.specs.declared.tasks.Task.TheVariants as tasks
 use Rattle.sj_tool.specs.Calls.{LinkUseAt, used}
 use Rattle.sj_tool.specs.Tasks.{HasParts, file_limit}
 use Rattle.sj_tool.proofs.FileAnswers.{answers_bytes}

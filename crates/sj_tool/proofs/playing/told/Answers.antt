@@ -1,4 +1,4 @@
-use Rattle.std.proofs.Common.{◌≡◌, ◌∙◌, ℕ, List, ap, map, subst, sym}
+use Rattle.std.proofs.Common.{◌≡◌, ◌∙◌, List, ap, map, subst, sym}
 use Rattle.sj_acceptance.specs.Accepted.{IsAccepted}
 use Rattle.sj_check.specs.Held.{file_in}
 use Rattle.sj_core.specs.World.{history_of, world_at}

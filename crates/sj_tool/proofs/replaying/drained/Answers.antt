@@ -1,8 +1,7 @@
-use Rattle.std.proofs.Common.{◌≡◌, ℕ, List, [], map, sym, subst}
+use Rattle.std.proofs.Common.{List, [], sym, subst}
 use Rattle.sj_check.specs.Held.{file_in}
 use Rattle.sj_command.specs.declared.tasks.Task.TheVariants as tasks
 use Rattle.sj_core.specs.World.{history_of, kept, party_count, world_at}
-use Rattle.sj_end.specs.Lines.{line_at}
 use Rattle.sj_lang.specs.FileView.{file_of}
 use Rattle.sj_log.specs.LogText.{SpellsLog}
 use Rattle.sj_rules.specs.Log.{LineAt}
