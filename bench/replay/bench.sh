@@ -12,7 +12,7 @@ here=$(cd "$(dirname "$0")" && pwd)
 program=$top/crates/sj/out/sj
 printf '%%%%log\n' > "$folder/empty"
 printf '| Turns | Events | Bytes | Replay, best ms | Replay, median ms | With the log, best ms | With the log, median ms | Nanoseconds an event | Peak KiB | Peak to bytes |\n|---|---|---|---|---|---|---|---|---|---|\n'
-for turns in 500 1000 2000 4990; do
+for turns in 100 250 500 999; do
     file=$folder/$turns
     awk -v turns="$turns" -f "$here/files.awk" > "$file.sj"
     { cat "$file.sj"; "$program" run --log < "$file.sj" | sed -n '/^%%log$/,$p'; } > "$file"
