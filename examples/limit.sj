@@ -1,4 +1,4 @@
-// A file that comes to a limit: an end is handed over at most 100 times. b and c hand an end to and
+// A file that comes to a limit: an end is delegated at most 100 times. b and c hand an end to and
 // fro, 50 times each, and in turn 51 b may not hand it over again.
 protocol p { begin.!<int> }
 protocol q { begin.?(int) }

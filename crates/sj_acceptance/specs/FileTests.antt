@@ -6,11 +6,12 @@ use Rattle.std.specs.FinMap.{FinMap}
 use Rattle.sj_lang.specs.Place.{Place}
 use Rattle.sj_lang.specs.Dual.{dual_of}
 use Rattle.sj_lang.specs.FileAt.{FileAt, ProtocolAt, PartyAt, ConnectAt, DeclAt, protocol_named, body_named}
-use Rattle.sj_acceptance.specs.Known.{Known}
+use Rattle.sj_acceptance.specs.EnvAt.{EnvAt}
 use Rattle.sj_acceptance.specs.Sameness.{is_same_place, is_same_ends}
 use Rattle.sj_acceptance.specs.Faults.{Test}
 use Rattle.sj_acceptance.specs.LabelTests.{is_among, names_once}
 use Rattle.sj_acceptance.specs.Tests.{code_tests, after_code}
+use Rattle.sj_acceptance.specs.Rules.{no_protocol, no_party, name_in_use, not_dual, left_open}
 
 -- the names of protocols, and of parties
 abbrev pub protocol_names : List ProtocolAt → List ℕ
@@ -23,12 +24,12 @@ party_names ps = map (λ p. p.name) ps
 abbrev pub protocol_tests : List ProtocolAt → List ProtocolAt → List Test
 protocol_tests earlier [] = []
 protocol_tests earlier (p ∷ ps) =
-    (3, p.line, not (is_among p.name (protocol_names earlier))) ∷ (3, p.line, names_once p.body) ∷ protocol_tests (earlier ++ p ∷ []) ps
+    (name_in_use, p.line, not (is_among p.name (protocol_names earlier))) ∷ (name_in_use, p.line, names_once p.body) ∷ protocol_tests (earlier ++ p ∷ []) ps
 
 -- each party, behind the earlier ones
 abbrev pub party_tests : List PartyAt → List PartyAt → List Test
 party_tests earlier [] = []
-party_tests earlier (p ∷ ps) = (3, p.line, not (is_among p.name (party_names earlier))) ∷ party_tests (earlier ++ p ∷ []) ps
+party_tests earlier (p ∷ ps) = (name_in_use, p.line, not (is_among p.name (party_names earlier))) ∷ party_tests (earlier ++ p ∷ []) ps
 
 -- two ends of one party with one name
 abbrev pub is_same_end : DeclAt → DeclAt → Bool
@@ -42,14 +43,14 @@ is_taken e (c ∷ cs) = is_same_end c.first e || is_same_end c.second e || is_ta
 -- the end's party, its protocol, and that its name is new
 abbrev pub end_tests : List ℕ → List ProtocolAt → ℕ → Bool → DeclAt → List Test
 end_tests parties ps line taken e =
-    (2, line, is_among e.party parties) ∷ (1, line, is_some (protocol_named ps e.protocol)) ∷ (3, line, not taken) ∷ []
+    (no_party, line, is_among e.party parties) ∷ (no_protocol, line, is_some (protocol_named ps e.protocol)) ∷ (name_in_use, line, not taken) ∷ []
 
 -- its first end, its second end, and that they are dual
 abbrev pub connection_tests : List ℕ → List ProtocolAt → List ConnectAt → ConnectAt → List Test
 connection_tests parties ps earlier c =
     end_tests parties ps c.line (is_taken c.first earlier) c.first
     ++ end_tests parties ps c.line (is_taken c.second earlier || is_same_end c.first c.second) c.second
-    ++ (4, c.line, is_same_place (body_named ps c.first.protocol) (dual_of (body_named ps c.second.protocol))) ∷ []
+    ++ (not_dual, c.line, is_same_place (body_named ps c.first.protocol) (dual_of (body_named ps c.second.protocol))) ∷ []
 
 -- each connection, behind the earlier ones
 abbrev pub connect_tests : List ℕ → List ProtocolAt → List ConnectAt → List ConnectAt → List Test
@@ -57,23 +58,23 @@ connect_tests parties ps earlier [] = []
 connect_tests parties ps earlier (c ∷ cs) = connection_tests parties ps earlier c ++ connect_tests parties ps (earlier ++ c ∷ []) cs
 
 -- the ends with this one, where it is the party's
-abbrev pub bound : List ProtocolAt → ℕ → DeclAt → FinMap nat_cmp Place → FinMap nat_cmp Place
-bound ps party e ends = if e.party == party then finite.insert ends e.name (body_named ps e.protocol) else ends
+abbrev pub with_end_of : List ProtocolAt → ℕ → DeclAt → FinMap nat_cmp Place → FinMap nat_cmp Place
+with_end_of ps party e ends = if e.party == party then finite.insert ends e.name (body_named ps e.protocol) else ends
 
 -- the ends that connections give the party, of two with one name the former
-abbrev pub held : List ProtocolAt → ℕ → List ConnectAt → FinMap nat_cmp Place
-held ps party [] = finite.empty
-held ps party (c ∷ cs) = bound ps party c.first (bound ps party c.second (held ps party cs))
+abbrev pub ends_of_party : List ProtocolAt → ℕ → List ConnectAt → FinMap nat_cmp Place
+ends_of_party ps party [] = finite.empty
+ends_of_party ps party (c ∷ cs) = with_end_of ps party c.first (with_end_of ps party c.second (ends_of_party ps party cs))
 
 -- the party's connected ends, and no variable
-abbrev pub at_start : List ProtocolAt → List ConnectAt → ℕ → Known
-at_start ps cs party = record { ends = held ps party cs; variables = finite.empty }
+abbrev pub at_start : List ProtocolAt → List ConnectAt → ℕ → EnvAt
+at_start ps cs party = record { ends = ends_of_party ps party cs; variables = finite.empty }
 
 -- its body, and that no end is live behind it
 abbrev pub one_body_tests : List ProtocolAt → List ConnectAt → PartyAt → List Test
 one_body_tests ps cs p =
     code_tests ps (at_start ps cs p.name) p.code
-    ++ (12, p.line, is_same_ends (after_code ps (at_start ps cs p.name) p.code).ends finite.empty) ∷ []
+    ++ (left_open, p.line, is_same_ends (after_code ps (at_start ps cs p.name) p.code).ends finite.empty) ∷ []
 
 -- the bodies in order
 abbrev pub body_tests : List ProtocolAt → List ConnectAt → List PartyAt → List Test

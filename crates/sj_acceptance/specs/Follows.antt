@@ -4,7 +4,7 @@ use Rattle.sj_lang.specs.declared.party.Scalar.TheVariants as kinds
 use Rattle.sj_lang.specs.declared.proto.Way.TheVariants.{Out, Into}
 use Rattle.sj_lang.specs.Place.{Place, Choices, choice, repeat}
 use Rattle.sj_lang.specs.After.{followed_by, at_label}
-use Rattle.sj_lang.specs.Code.{Code, Act, Branches, no_step, step_then, at, send, delegate, take_value, take_end, outbranch, inbranch, outwhile, inwhile, relay, if_else, let_be, close, no_branch, branch}
+use Rattle.sj_lang.specs.Code.{Code, DeedAt, Branches, no_stmt, stmt_then, at, send, delegate, take_value, take_end, outbranch, inbranch, outwhile, inwhile, relay, if_else, let_be, close, no_branch, branch}
 use Rattle.sj_lang.specs.FileAt.{ProtocolAt, protocol_named}
 use Rattle.sj_acceptance.specs.Environment.{Env, at_place, SameEnds, IsCommon}
 use Rattle.sj_acceptance.specs.Kinds.{HasKind}
@@ -14,11 +14,11 @@ use Rattle.sj_acceptance.specs.Statements.{IsSend, IsDelegate, IsTakeValue, IsTa
 abbrev mutual
   -- the block leads from the one environment to the other
   pub Follows : List ProtocolAt → Code → Env → Env → Type 0
-  Follows ps no_step env next = env ≡ next
-  Follows ps (step_then (at line act) code) env next = (mid : Env) × Does ps act env mid × Follows ps code mid next
+  Follows ps no_stmt env next = env ≡ next
+  Follows ps (stmt_then (at line act) code) env next = (mid : Env) × Does ps act env mid × Follows ps code mid next
 
   -- the statement does
-  pub Does : List ProtocolAt → Act → Env → Env → Type 0
+  pub Does : List ProtocolAt → DeedAt → Env → Env → Type 0
   Does ps (send x e) env next = IsSend env x e next
   Does ps (delegate x y) env next = IsDelegate env x y next
   Does ps (take_value x n k) env next = IsTakeValue env x n k next

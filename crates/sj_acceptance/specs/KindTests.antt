@@ -11,6 +11,7 @@ use Rattle.sj_lang.specs.Term.{Term, int, boolean, text, var, not, two}
 use Rattle.sj_acceptance.specs.Kinds.{given_by}
 use Rattle.sj_acceptance.specs.Faults.{Test}
 use Rattle.sj_acceptance.specs.Sameness.{is_same_kind}
+use Rattle.sj_acceptance.specs.Rules.{not_there, other_kind}
 
 -- the test of the kinds that an operator takes
 abbrev pub takes : Op → Scalar → Scalar → Bool
@@ -36,7 +37,7 @@ abbrev pub term_tests : ℕ → FinMap nat_cmp Scalar → Term → List Test
 term_tests line known (int n) = []
 term_tests line known (boolean b) = []
 term_tests line known (text n) = []
-term_tests line known (var n) = (5, line, is_some (map.get known n)) ∷ []
-term_tests line known (not e) = term_tests line known e ++ (7, line, is_same_kind (kind_of known e) Boolean) ∷ []
+term_tests line known (var n) = (not_there, line, is_some (map.get known n)) ∷ []
+term_tests line known (not e) = term_tests line known e ++ (other_kind, line, is_same_kind (kind_of known e) Boolean) ∷ []
 term_tests line known (two op e f) =
-    term_tests line known e ++ term_tests line known f ++ (7, line, takes op (kind_of known e) (kind_of known f)) ∷ []
+    term_tests line known e ++ term_tests line known f ++ (other_kind, line, takes op (kind_of known e) (kind_of known f)) ∷ []

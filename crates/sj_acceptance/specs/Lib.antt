@@ -1,5 +1,6 @@
 pub mod Accepted
 pub mod Arms
+pub mod EnvAt
 pub mod Environment
 pub mod Faults
 pub mod FileTests
@@ -7,9 +8,9 @@ pub mod FirstItem
 pub mod Follows
 pub mod KindTests
 pub mod Kinds
-pub mod Known
 pub mod LabelTests
 pub mod Labels
+pub mod Rules
 pub mod Sameness
 pub mod Statements
 pub mod Tests

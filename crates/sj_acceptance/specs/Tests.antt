@@ -5,103 +5,104 @@ use Rattle.sj_lang.specs.declared.proto.Way.TheVariants.{Out, Into}
 use Rattle.sj_lang.specs.declared.party.Scalar.TheVariants.{Int, Boolean}
 use Rattle.sj_lang.specs.Place.{done}
 use Rattle.sj_lang.specs.Term.{Term}
-use Rattle.sj_lang.specs.Code.{Code, Step, Act, Branches, no_step, step_then, at, send, delegate, take_value, take_end, outbranch, inbranch, outwhile, inwhile, relay, if_else, let_be, close, no_branch, branch}
+use Rattle.sj_lang.specs.Code.{Code, StmtAt, DeedAt, Branches, no_stmt, stmt_then, at, send, delegate, take_value, take_end, outbranch, inbranch, outwhile, inwhile, relay, if_else, let_be, close, no_branch, branch}
 use Rattle.sj_lang.specs.FileAt.{ProtocolAt, protocol_named}
 use Rattle.sj_lang.specs.After.{at_label}
-use Rattle.sj_acceptance.specs.Known.{Known, moved, without, knowing, is_live, is_known, place_at}
-use Rattle.sj_acceptance.specs.Arms.{common, is_one, joined}
+use Rattle.sj_acceptance.specs.EnvAt.{EnvAt, with_live, without_live, with_known, is_live, is_known, place_at}
+use Rattle.sj_acceptance.specs.Arms.{common, is_one, common_env}
 use Rattle.sj_acceptance.specs.Sameness.{is_same_kind, is_same_ends}
 use Rattle.sj_acceptance.specs.Faults.{Test}
 use Rattle.sj_acceptance.specs.KindTests.{kind_of, term_tests, is_free_for}
 use Rattle.sj_acceptance.specs.FirstItem.{is_message, is_choice, is_loop, is_done, carried, choices, rest_of, turn_of, arm_place, is_carried_as, is_session, is_session_of}
 use Rattle.sj_acceptance.specs.Labels.{branch_labels}
 use Rattle.sj_acceptance.specs.LabelTests.{are_labels_of}
+use Rattle.sj_acceptance.specs.Rules.{no_protocol, name_in_use, not_there, other_action, other_kind, no_label, arms_differ, turn_differs, closed_early, not_to_delegate, other_arms}
 
 -- what `if` asks before its arms
-abbrev pub condition_tests : ℕ → Known → Term → List Test
-condition_tests line env e = term_tests line env.variables e ++ (7, line, is_same_kind (kind_of env.variables e) Boolean) ∷ []
+abbrev pub condition_tests : ℕ → EnvAt → Term → List Test
+condition_tests line env e = term_tests line env.variables e ++ (other_kind, line, is_same_kind (kind_of env.variables e) Boolean) ∷ []
 
 -- what `inbranch` asks before its arms
-abbrev pub branching_tests : ℕ → Known → ℕ → Branches → List Test
+abbrev pub branching_tests : ℕ → EnvAt → ℕ → Branches → List Test
 branching_tests line env x bs =
-    (5, line, is_live env x) ∷ (6, line, is_choice Into (place_at env x))
-    ∷ (14, line, are_labels_of (choices (place_at env x)) (branch_labels bs)) ∷ []
+    (not_there, line, is_live env x) ∷ (other_action, line, is_choice Into (place_at env x))
+    ∷ (other_arms, line, are_labels_of (choices (place_at env x)) (branch_labels bs)) ∷ []
 
 abbrev mutual
   -- what a block asks, and what it leaves as if all had passed
-  pub code_tests : List ProtocolAt → Known → Code → List Test
-  code_tests ps env no_step = []
-  code_tests ps env (step_then s code) = step_tests ps env s ++ code_tests ps (after_step ps env s) code
+  pub code_tests : List ProtocolAt → EnvAt → Code → List Test
+  code_tests ps env no_stmt = []
+  code_tests ps env (stmt_then s code) = stmt_tests ps env s ++ code_tests ps (after_stmt ps env s) code
 
-  pub after_code : List ProtocolAt → Known → Code → Known
-  after_code ps env no_step = env
-  after_code ps env (step_then s code) = after_code ps (after_step ps env s) code
+  pub after_code : List ProtocolAt → EnvAt → Code → EnvAt
+  after_code ps env no_stmt = env
+  after_code ps env (stmt_then s code) = after_code ps (after_stmt ps env s) code
 
-  pub step_tests : List ProtocolAt → Known → Step → List Test
-  step_tests ps env (at line act) = act_tests ps line env act
+  pub stmt_tests : List ProtocolAt → EnvAt → StmtAt → List Test
+  stmt_tests ps env (at line act) = deed_tests ps line env act
 
-  pub after_step : List ProtocolAt → Known → Step → Known
-  after_step ps env (at line act) = after_act ps env act
+  pub after_stmt : List ProtocolAt → EnvAt → StmtAt → EnvAt
+  after_stmt ps env (at line act) = after_deed ps env act
 
-  pub act_tests : List ProtocolAt → ℕ → Known → Act → List Test
-  act_tests ps line env (send x e) =
-      (5, line, is_live env x) ∷ (6, line, is_message Out (place_at env x)) ∷ term_tests line env.variables e
-      ++ (7, line, is_carried_as (kind_of env.variables e) (carried (place_at env x))) ∷ []
-  act_tests ps line env (delegate x y) =
-      (5, line, is_live env x) ∷ (5, line, is_live env y) ∷ (13, line, not (x == y)) ∷ (6, line, is_message Out (place_at env x))
-      ∷ (7, line, is_session (carried (place_at env x))) ∷ (13, line, not (is_done (place_at env y)))
-      ∷ (7, line, is_session_of (place_at env y) (carried (place_at env x))) ∷ []
-  act_tests ps line env (take_value x n k) =
-      (5, line, is_live env x) ∷ (6, line, is_message Into (place_at env x)) ∷ (7, line, is_carried_as k (carried (place_at env x)))
-      ∷ (3, line, not (is_live env n)) ∷ (7, line, is_free_for (map.get env.variables n) k) ∷ []
-  act_tests ps line env (take_end x y p) =
-      (5, line, is_live env x) ∷ (1, line, is_some (protocol_named ps p)) ∷ (6, line, is_message Into (place_at env x))
-      ∷ (7, line, is_session_of (unwrap_or (protocol_named ps p) done) (carried (place_at env x)))
-      ∷ (3, line, not (is_live env y || is_known env y)) ∷ []
-  act_tests ps line env (outbranch x l) =
-      (5, line, is_live env x) ∷ (6, line, is_choice Out (place_at env x)) ∷ (8, line, is_some (at_label l (choices (place_at env x)))) ∷ []
-  act_tests ps line env (inbranch x bs) =
+  pub deed_tests : List ProtocolAt → ℕ → EnvAt → DeedAt → List Test
+  deed_tests ps line env (send x e) =
+      (not_there, line, is_live env x) ∷ (other_action, line, is_message Out (place_at env x)) ∷ term_tests line env.variables e
+      ++ (other_kind, line, is_carried_as (kind_of env.variables e) (carried (place_at env x))) ∷ []
+  deed_tests ps line env (delegate x y) =
+      (not_there, line, is_live env x) ∷ (not_there, line, is_live env y) ∷ (not_to_delegate, line, not (x == y)) ∷ (other_action, line, is_message Out (place_at env x))
+      ∷ (other_kind, line, is_session (carried (place_at env x))) ∷ (not_to_delegate, line, not (is_done (place_at env y)))
+      ∷ (other_kind, line, is_session_of (place_at env y) (carried (place_at env x))) ∷ []
+  deed_tests ps line env (take_value x n k) =
+      (not_there, line, is_live env x) ∷ (other_action, line, is_message Into (place_at env x)) ∷ (other_kind, line, is_carried_as k (carried (place_at env x)))
+      ∷ (name_in_use, line, not (is_live env n)) ∷ (other_kind, line, is_free_for (map.get env.variables n) k) ∷ []
+  deed_tests ps line env (take_end x y p) =
+      (not_there, line, is_live env x) ∷ (no_protocol, line, is_some (protocol_named ps p)) ∷ (other_action, line, is_message Into (place_at env x))
+      ∷ (other_kind, line, is_session_of (unwrap_or (protocol_named ps p) done) (carried (place_at env x)))
+      ∷ (name_in_use, line, not (is_live env y || is_known env y)) ∷ []
+  deed_tests ps line env (outbranch x l) =
+      (not_there, line, is_live env x) ∷ (other_action, line, is_choice Out (place_at env x)) ∷ (no_label, line, is_some (at_label l (choices (place_at env x)))) ∷ []
+  deed_tests ps line env (inbranch x bs) =
       branching_tests line env x bs ++ branches_tests ps env x bs
-      ++ (9, line, is_one (after_branches ps env x bs)) ∷ []
-  act_tests ps line env (outwhile x e body) =
-      (5, line, is_live env x) ∷ (6, line, is_loop Out (place_at env x)) ∷ term_tests line env.variables e
-      ++ (7, line, is_same_kind (kind_of env.variables e) Int) ∷ code_tests ps (moved env x (turn_of (place_at env x))) body
-      ++ (10, line, is_same_ends env.ends (after_code ps (moved env x (turn_of (place_at env x))) body).ends) ∷ []
-  act_tests ps line env (inwhile x body) =
-      (5, line, is_live env x) ∷ (6, line, is_loop Into (place_at env x)) ∷ code_tests ps (moved env x (turn_of (place_at env x))) body
-      ++ (10, line, is_same_ends env.ends (after_code ps (moved env x (turn_of (place_at env x))) body).ends) ∷ []
-  act_tests ps line env (relay x y body) =
-      (5, line, is_live env x) ∷ (5, line, is_live env y) ∷ (6, line, is_loop Into (place_at env x)) ∷ (6, line, is_loop Out (place_at env y))
-      ∷ code_tests ps (moved (moved env x (turn_of (place_at env x))) y (turn_of (place_at env y))) body
-      ++ (10, line, is_same_ends env.ends (after_code ps (moved (moved env x (turn_of (place_at env x))) y (turn_of (place_at env y))) body).ends) ∷ []
-  act_tests ps line env (if_else e first second) =
+      ++ (arms_differ, line, is_one (after_branches ps env x bs)) ∷ []
+  deed_tests ps line env (outwhile x e body) =
+      (not_there, line, is_live env x) ∷ (other_action, line, is_loop Out (place_at env x)) ∷ term_tests line env.variables e
+      ++ (other_kind, line, is_same_kind (kind_of env.variables e) Int) ∷ code_tests ps (with_live env x (turn_of (place_at env x))) body
+      ++ (turn_differs, line, is_same_ends env.ends (after_code ps (with_live env x (turn_of (place_at env x))) body).ends) ∷ []
+  deed_tests ps line env (inwhile x body) =
+      (not_there, line, is_live env x) ∷ (other_action, line, is_loop Into (place_at env x)) ∷ code_tests ps (with_live env x (turn_of (place_at env x))) body
+      ++ (turn_differs, line, is_same_ends env.ends (after_code ps (with_live env x (turn_of (place_at env x))) body).ends) ∷ []
+  deed_tests ps line env (relay x y body) =
+      (not_there, line, is_live env x) ∷ (not_there, line, is_live env y) ∷ (other_action, line, is_loop Into (place_at env x)) ∷ (other_action, line, is_loop Out (place_at env y))
+      ∷ code_tests ps (with_live (with_live env x (turn_of (place_at env x))) y (turn_of (place_at env y))) body
+      ++ (turn_differs, line, is_same_ends env.ends (after_code ps (with_live (with_live env x (turn_of (place_at env x))) y (turn_of (place_at env y))) body).ends) ∷ []
+  deed_tests ps line env (if_else e first second) =
       condition_tests line env e ++ code_tests ps env first
-      ++ code_tests ps env second ++ (9, line, is_same_ends (after_code ps env first).ends (after_code ps env second).ends) ∷ []
-  act_tests ps line env (let_be n e) =
+      ++ code_tests ps env second ++ (arms_differ, line, is_same_ends (after_code ps env first).ends (after_code ps env second).ends) ∷ []
+  deed_tests ps line env (let_be n e) =
       term_tests line env.variables e
-      ++ (3, line, not (is_live env n)) ∷ (7, line, is_free_for (map.get env.variables n) (kind_of env.variables e)) ∷ []
-  act_tests ps line env (close x) = (5, line, is_live env x) ∷ (11, line, is_done (place_at env x)) ∷ []
+      ++ (name_in_use, line, not (is_live env n)) ∷ (other_kind, line, is_free_for (map.get env.variables n) (kind_of env.variables e)) ∷ []
+  deed_tests ps line env (close x) = (not_there, line, is_live env x) ∷ (closed_early, line, is_done (place_at env x)) ∷ []
 
-  pub after_act : List ProtocolAt → Known → Act → Known
-  after_act ps env (send x e) = moved env x (rest_of (place_at env x))
-  after_act ps env (delegate x y) = moved (without env y) x (rest_of (place_at env x))
-  after_act ps env (take_value x n k) = knowing (moved env x (rest_of (place_at env x))) n k
-  after_act ps env (take_end x y p) = moved (moved env x (rest_of (place_at env x))) y (unwrap_or (protocol_named ps p) done)
-  after_act ps env (outbranch x l) = moved env x (arm_place l (place_at env x))
-  after_act ps env (inbranch x bs) = joined (after_branches ps env x bs)
-  after_act ps env (outwhile x e body) = moved env x (rest_of (place_at env x))
-  after_act ps env (inwhile x body) = moved env x (rest_of (place_at env x))
-  after_act ps env (relay x y body) = moved (moved env x (rest_of (place_at env x))) y (rest_of (place_at env y))
-  after_act ps env (if_else e first second) =
+  pub after_deed : List ProtocolAt → EnvAt → DeedAt → EnvAt
+  after_deed ps env (send x e) = with_live env x (rest_of (place_at env x))
+  after_deed ps env (delegate x y) = with_live (without_live env y) x (rest_of (place_at env x))
+  after_deed ps env (take_value x n k) = with_known (with_live env x (rest_of (place_at env x))) n k
+  after_deed ps env (take_end x y p) = with_live (with_live env x (rest_of (place_at env x))) y (unwrap_or (protocol_named ps p) done)
+  after_deed ps env (outbranch x l) = with_live env x (arm_place l (place_at env x))
+  after_deed ps env (inbranch x bs) = common_env (after_branches ps env x bs)
+  after_deed ps env (outwhile x e body) = with_live env x (rest_of (place_at env x))
+  after_deed ps env (inwhile x body) = with_live env x (rest_of (place_at env x))
+  after_deed ps env (relay x y body) = with_live (with_live env x (rest_of (place_at env x))) y (rest_of (place_at env y))
+  after_deed ps env (if_else e first second) =
       record { ends = (after_code ps env first).ends; variables = common (after_code ps env first).variables (after_code ps env second).variables }
-  after_act ps env (let_be n e) = knowing env n (kind_of env.variables e)
-  after_act ps env (close x) = without env x
+  after_deed ps env (let_be n e) = with_known env n (kind_of env.variables e)
+  after_deed ps env (close x) = without_live env x
 
   -- the arms in order, each from its own place
-  pub branches_tests : List ProtocolAt → Known → ℕ → Branches → List Test
+  pub branches_tests : List ProtocolAt → EnvAt → ℕ → Branches → List Test
   branches_tests ps env x no_branch = []
-  branches_tests ps env x (branch l code bs) = code_tests ps (moved env x (arm_place l (place_at env x))) code ++ branches_tests ps env x bs
+  branches_tests ps env x (branch l code bs) = code_tests ps (with_live env x (arm_place l (place_at env x))) code ++ branches_tests ps env x bs
 
-  pub after_branches : List ProtocolAt → Known → ℕ → Branches → List Known
+  pub after_branches : List ProtocolAt → EnvAt → ℕ → Branches → List EnvAt
   after_branches ps env x no_branch = []
-  after_branches ps env x (branch l code bs) = after_code ps (moved env x (arm_place l (place_at env x))) code ∷ after_branches ps env x bs
+  after_branches ps env x (branch l code bs) = after_code ps (with_live env x (arm_place l (place_at env x))) code ∷ after_branches ps env x bs

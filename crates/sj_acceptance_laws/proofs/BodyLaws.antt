@@ -7,13 +7,13 @@ use Rattle.std.proofs.lemmas.Bool.Decides.{Decides-eqb, Decides-like, same_from_
 use Rattle.sj_lang.specs.Place.{Place}
 use Rattle.sj_lang.specs.FileAt.{FileAt, ProtocolAt, PartyAt, ConnectAt, DeclAt, named, party_named, body_named}
 use Rattle.sj_acceptance.specs.Environment.{Env, put}
-use Rattle.sj_acceptance.specs.Known.{Known, seen}
+use Rattle.sj_acceptance.specs.EnvAt.{EnvAt, env_of}
 use Rattle.sj_acceptance.specs.Follows.{Follows}
 use Rattle.sj_acceptance.specs.Accepted.{place_of_party, places_from, start_env, EndsWell}
 use Rattle.sj_acceptance.specs.Faults.{first_fault}
 use Rattle.sj_acceptance.specs.Sameness.{is_same_ends}
 use Rattle.sj_acceptance.specs.Tests.{code_tests, after_code}
-use Rattle.sj_acceptance.specs.FileTests.{bound, held, at_start, one_body_tests, body_tests}
+use Rattle.sj_acceptance.specs.FileTests.{with_end_of, ends_of_party, at_start, one_body_tests, body_tests}
 use Rattle.sj_acceptance_laws.proofs.FaultLemmas.{first_passes, all_pass, pass_both}
 use Rattle.sj_acceptance_laws.proofs.SamenessLemmas.{is_same_ends-Decides}
 use Rattle.sj_acceptance_laws.proofs.SeenLemmas.{put_here, same_from_get, same_env}
@@ -30,7 +30,7 @@ named-append n b bs f e = ap (λ c. if c then Some b.1 else named bs n) (eq_turn
 
 -- where the parties' names are once, the party of that number starts as its name says
 module _ (file : FileAt) (p : ℕ) (q : PartyAt) (once : Pairs OtherParty file.parties) (at : slice_get file.parties p ≡ Some q) where
-  one_end : (d : DeclAt) (ends : FinMap nat_cmp Place) (es : List (ℕ × Place)) (n : ℕ) → get ends n ≡ named es n → get (bound file.protocols q.name d ends) n ≡ named (place_of_party file p d ++ es) n
+  one_end : (d : DeclAt) (ends : FinMap nat_cmp Place) (es : List (ℕ × Place)) (n : ℕ) → get ends n ≡ named es n → get (with_end_of file.protocols q.name d ends) n ≡ named (place_of_party file p d ++ es) n
   one_end d ends es n h =
       let body = body_named file.protocols d.protocol in
       elim (d.party == q.name) as (λ b. (party_named file.parties d.party == p) ≡ b
@@ -39,18 +39,18 @@ module _ (file : FileAt) (p : ℕ) (q : PartyAt) (once : Pairs OtherParty file.p
         | false ↦ λ e. h ∙ ap (λ c. named ((if c then (d.name, body) ∷ [] else []) ++ es) n) (sym e)
       ] (party_is file.parties p d.party q once at)
 
-  each_end : (cs : List ConnectAt) (n : ℕ) → get (held file.protocols q.name cs) n ≡ named (places_from file p cs) n
+  each_end : (cs : List ConnectAt) (n : ℕ) → get (ends_of_party file.protocols q.name cs) n ≡ named (places_from file p cs) n
   each_end [] n = get-empty nat_cmp n
   each_end (c ∷ cs) n =
-      one_end c.first (bound file.protocols q.name c.second (held file.protocols q.name cs)) (place_of_party file p c.second ++ places_from file p cs) n
-      (one_end c.second (held file.protocols q.name cs) (places_from file p cs) n (each_end cs n))
+      one_end c.first (with_end_of file.protocols q.name c.second (ends_of_party file.protocols q.name cs)) (place_of_party file p c.second ++ places_from file p cs) n
+      (one_end c.second (ends_of_party file.protocols q.name cs) (places_from file p cs) n (each_end cs n))
       ∙ ap (λ es. named es n) (sym (append_assoc (place_of_party file p c.first) (place_of_party file p c.second) (places_from file p cs)))
 
-  abbrev start : Known
+  abbrev start : EnvAt
   start = at_start file.protocols file.connects q.name
 
-  seen-start : seen start ≡ start_env file p
-  seen-start = same_env (seen start) (start_env file p) (λ n. each_end file.connects n) (λ n. get-empty nat_cmp n)
+  seen-start : env_of start ≡ start_env file p
+  seen-start = same_env (env_of start) (start_env file p) (λ n. each_end file.connects n) (λ n. get-empty nat_cmp n)
 
   pub body_from : first_fault (one_body_tests file.protocols file.connects q) ≡ None → EndsWell file p q
   body_from h =
@@ -58,8 +58,8 @@ module _ (file : FileAt) (p : ℕ) (q : PartyAt) (once : Pairs OtherParty file.p
       let last = after_code file.protocols start q.code in
       let none = (is_same_ends-Decides last.ends empty).0 (first_passes 12 q.line (is_same_ends last.ends empty) [] a.1).0 in
       record {
-        last = seen last;
-        follows = subst (λ (v : Env). Follows file.protocols q.code v (seen last)) seen-start (follows_code file.protocols q.code start a.0);
+        last = env_of last;
+        follows = subst (λ (v : Env). Follows file.protocols q.code v (env_of last)) seen-start (follows_code file.protocols q.code start a.0);
         no_end = λ n. ap (λ m. get m n) none ∙ get-empty nat_cmp n;
       }
 

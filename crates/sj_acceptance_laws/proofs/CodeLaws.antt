@@ -3,16 +3,16 @@ use Rattle.std.proofs.Common.{◌≡◌, ℕ, List, [], ◌∷◌, ◌++◌, Som
 use Rattle.std.specs.FinMap.{get}
 use Rattle.sj_lang.specs.declared.proto.Way.TheVariants.{Into}
 use Rattle.sj_lang.specs.Place.{Place, Choices, choice}
-use Rattle.sj_lang.specs.Code.{Code, Act, Branches, no_step, step_then, at, send, delegate, take_value, take_end, outbranch, inbranch, outwhile, inwhile, relay, if_else, let_be, close, no_branch, branch}
+use Rattle.sj_lang.specs.Code.{Code, DeedAt, Branches, no_stmt, stmt_then, at, send, delegate, take_value, take_end, outbranch, inbranch, outwhile, inwhile, relay, if_else, let_be, close, no_branch, branch}
 use Rattle.sj_lang.specs.FileAt.{ProtocolAt}
 use Rattle.sj_acceptance.specs.Environment.{Env}
-use Rattle.sj_acceptance.specs.Known.{Known, seen, moved, place_at}
+use Rattle.sj_acceptance.specs.EnvAt.{EnvAt, env_of, with_live, place_at}
 use Rattle.sj_acceptance.specs.Labels.{labels_of, branch_labels}
 use Rattle.sj_acceptance.specs.Follows.{Follows, Does, EachArm}
 use Rattle.sj_acceptance.specs.Faults.{first_fault}
 use Rattle.sj_acceptance.specs.LabelTests.{is_among, are_among}
 use Rattle.sj_acceptance.specs.FirstItem.{arm_place}
-use Rattle.sj_acceptance.specs.Tests.{act_tests, after_act, code_tests, after_code, branches_tests, after_branches, branching_tests}
+use Rattle.sj_acceptance.specs.Tests.{deed_tests, after_deed, code_tests, after_code, branches_tests, after_branches, branching_tests}
 use Rattle.sj_acceptance_laws.proofs.FaultLemmas.{all_pass, pass_both, first_passes, both_true}
 use Rattle.sj_acceptance_laws.proofs.LabelLaws.{four_pass, its_arms_from, its_arms_to}
 use Rattle.sj_acceptance_laws.proofs.SendLaws.{send_follows, send_passes, close_follows, close_passes, let_follows, let_passes}
@@ -24,13 +24,13 @@ use Rattle.sj_acceptance_laws.proofs.IfLaws.{if_follows, if_passes}
 use Rattle.sj_acceptance_laws.proofs.ArmLaws.{label_there, arm_start, choice_at, branching_passes, joins_all, one_and_joined}
 
 mutual
-  pub follows_code : (ps : List ProtocolAt) (c : Code) (env : Known) → first_fault (code_tests ps env c) ≡ None → Follows ps c (seen env) (seen (after_code ps env c))
-  follows_code ps no_step env h = refl
-  follows_code ps (step_then (at line act) c) env h =
-      let p = all_pass (act_tests ps line env act) (code_tests ps (after_act ps env act) c) h in
-      (seen (after_act ps env act), follows_act ps act line env p.0, follows_code ps c (after_act ps env act) p.1)
+  pub follows_code : (ps : List ProtocolAt) (c : Code) (env : EnvAt) → first_fault (code_tests ps env c) ≡ None → Follows ps c (env_of env) (env_of (after_code ps env c))
+  follows_code ps no_stmt env h = refl
+  follows_code ps (stmt_then (at line act) c) env h =
+      let p = all_pass (deed_tests ps line env act) (code_tests ps (after_deed ps env act) c) h in
+      (env_of (after_deed ps env act), follows_act ps act line env p.0, follows_code ps c (after_deed ps env act) p.1)
 
-  pub follows_act : (ps : List ProtocolAt) (act : Act) (line : ℕ) (env : Known) → first_fault (act_tests ps line env act) ≡ None → Does ps act (seen env) (seen (after_act ps env act))
+  pub follows_act : (ps : List ProtocolAt) (act : DeedAt) (line : ℕ) (env : EnvAt) → first_fault (deed_tests ps line env act) ≡ None → Does ps act (env_of env) (env_of (after_deed ps env act))
   follows_act ps (send x e) line env h = send_follows ps line env x e h
   follows_act ps (delegate x y) line env h = delegate_follows ps line env x y h
   follows_act ps (take_value x n k) line env h = take_follows ps line env x n k h
@@ -44,7 +44,7 @@ mutual
         c.1,
         c.2,
         its_arms_from c.0 bs c.3,
-        map seen (after_branches ps env x bs),
+        map env_of (after_branches ps env x bs),
         follows_branches ps bs env x c.0 c.1 c.2 (four_pass c.0 (branch_labels bs) c.3).2 b.1,
         joins_all ps env x c.0 bs c.3 (first_passes 9 line _ [] a.1).0,
       )
@@ -55,34 +55,34 @@ mutual
   follows_act ps (let_be n e) line env h = let_follows ps line env n e h
   follows_act ps (close x) line env h = close_follows ps line env x h
 
-  follows_branches : (ps : List ProtocolAt) (bs : Branches) (env : Known) (x : ℕ) (arms : Choices) (rest : Place) → get env.ends x ≡ Some (choice Into arms rest)
+  follows_branches : (ps : List ProtocolAt) (bs : Branches) (env : EnvAt) (x : ℕ) (arms : Choices) (rest : Place) → get env.ends x ≡ Some (choice Into arms rest)
       → are_among (branch_labels bs) (labels_of arms) ≡ true → first_fault (branches_tests ps env x bs) ≡ None
-      → EachArm ps x arms rest bs (seen env) (map seen (after_branches ps env x bs))
+      → EachArm ps x arms rest bs (env_of env) (map env_of (after_branches ps env x bs))
   follows_branches ps no_branch env x arms rest g w h = refl
   follows_branches ps (branch l c bs) env x arms rest g w h =
       let here = both_true (is_among l (labels_of arms)) (are_among (branch_labels bs) (labels_of arms)) w in
       let there = label_there l arms here.0 in
-      let start = moved env x (arm_place l (place_at env x)) in
+      let start = with_live env x (arm_place l (place_at env x)) in
       let last = after_code ps start c in
       let p = all_pass (code_tests ps start c) (branches_tests ps env x bs) h in (
         there.0,
         there.1,
-        seen last,
-        subst (λ (v : Env). Follows ps c v (seen last)) (arm_start env x l arms rest there.0 g there.1) (follows_code ps c start p.0),
-        map seen (after_branches ps env x bs),
+        env_of last,
+        subst (λ (v : Env). Follows ps c v (env_of last)) (arm_start env x l arms rest there.0 g there.1) (follows_code ps c start p.0),
+        map env_of (after_branches ps env x bs),
         follows_branches ps bs env x arms rest g here.1 p.1,
         refl,
       )
 
 mutual
-  pub passes_code : (ps : List ProtocolAt) (c : Code) (env : Known) (next : Env) → Follows ps c (seen env) next → (first_fault (code_tests ps env c) ≡ None) × (next ≡ seen (after_code ps env c))
-  passes_code ps no_step env next d = (refl, sym d)
-  passes_code ps (step_then (at line act) c) env next d =
+  pub passes_code : (ps : List ProtocolAt) (c : Code) (env : EnvAt) (next : Env) → Follows ps c (env_of env) next → (first_fault (code_tests ps env c) ≡ None) × (next ≡ env_of (after_code ps env c))
+  passes_code ps no_stmt env next d = (refl, sym d)
+  passes_code ps (stmt_then (at line act) c) env next d =
       let p = passes_act ps act line env d.0 d.1 in
-      let q = passes_code ps c (after_act ps env act) next (subst (λ (v : Env). Follows ps c v next) p.1 d.2) in
-      (pass_both (act_tests ps line env act) (code_tests ps (after_act ps env act) c) p.0 q.0, q.1)
+      let q = passes_code ps c (after_deed ps env act) next (subst (λ (v : Env). Follows ps c v next) p.1 d.2) in
+      (pass_both (deed_tests ps line env act) (code_tests ps (after_deed ps env act) c) p.0 q.0, q.1)
 
-  pub passes_act : (ps : List ProtocolAt) (act : Act) (line : ℕ) (env : Known) (next : Env) → Does ps act (seen env) next → (first_fault (act_tests ps line env act) ≡ None) × (next ≡ seen (after_act ps env act))
+  pub passes_act : (ps : List ProtocolAt) (act : DeedAt) (line : ℕ) (env : EnvAt) (next : Env) → Does ps act (env_of env) next → (first_fault (deed_tests ps line env act) ≡ None) × (next ≡ env_of (after_deed ps env act))
   passes_act ps (send x e) line env next d = send_passes ps line env x e next d
   passes_act ps (delegate x y) line env next d = delegate_passes ps line env x y next d
   passes_act ps (take_value x n k) line env next d = take_passes ps line env x n k next d
@@ -104,11 +104,11 @@ mutual
   passes_act ps (let_be n e) line env next d = let_passes ps line env n e next d
   passes_act ps (close x) line env next d = close_passes ps line env x next d
 
-  passes_branches : (ps : List ProtocolAt) (bs : Branches) (env : Known) (x : ℕ) (arms : Choices) (rest : Place) → get env.ends x ≡ Some (choice Into arms rest)
-      → (lasts : List Env) → EachArm ps x arms rest bs (seen env) lasts → (first_fault (branches_tests ps env x bs) ≡ None) × (lasts ≡ map seen (after_branches ps env x bs))
+  passes_branches : (ps : List ProtocolAt) (bs : Branches) (env : EnvAt) (x : ℕ) (arms : Choices) (rest : Place) → get env.ends x ≡ Some (choice Into arms rest)
+      → (lasts : List Env) → EachArm ps x arms rest bs (env_of env) lasts → (first_fault (branches_tests ps env x bs) ≡ None) × (lasts ≡ map env_of (after_branches ps env x bs))
   passes_branches ps no_branch env x arms rest g lasts d = (refl, d)
   passes_branches ps (branch l c bs) env x arms rest g lasts d =
-      let start = moved env x (arm_place l (place_at env x)) in
+      let start = with_live env x (arm_place l (place_at env x)) in
       let p = passes_code ps c start d.2 (subst (λ (v : Env). Follows ps c v d.2) (sym (arm_start env x l arms rest d.0 g d.1)) d.3) in
       let q = passes_branches ps bs env x arms rest g d.4 d.5 in
       (pass_both (code_tests ps start c) (branches_tests ps env x bs) p.0 q.0, d.6 ∙ (λ i. p.1 i ∷ q.1 i))

@@ -9,20 +9,20 @@ use Rattle.sj_lang.specs.Place as place
 use Rattle.sj_lang.specs.Code.{take_value, take_end}
 use Rattle.sj_lang.specs.FileAt.{ProtocolAt, protocol_named}
 use Rattle.sj_acceptance.specs.Environment.{Env, at_place, with_kind}
-use Rattle.sj_acceptance.specs.Known.{Known, seen, moved, knowing}
+use Rattle.sj_acceptance.specs.EnvAt.{EnvAt, env_of, with_live, with_known}
 use Rattle.sj_acceptance.specs.Statements.{IsTakeValue, IsTakeEnd}
 use Rattle.sj_acceptance.specs.Faults.{Test, first_fault}
 use Rattle.sj_acceptance.specs.KindTests.{is_free_for}
 use Rattle.sj_acceptance.specs.Sameness.{is_same_place}
 use Rattle.sj_acceptance.specs.FirstItem.{is_message, is_session_of, carried, rest_of, is_carried_as}
-use Rattle.sj_acceptance.specs.Tests.{act_tests, after_act}
+use Rattle.sj_acceptance.specs.Tests.{deed_tests, after_deed}
 use Rattle.sj_acceptance_laws.proofs.FaultLemmas.{first_passes}
 use Rattle.sj_acceptance_laws.proofs.KindLaws.{carried_is, carried_by-passes, free_kind, free_passes}
 use Rattle.sj_acceptance_laws.proofs.SamenessLemmas.{is_same_place-Decides}
 use Rattle.sj_acceptance_laws.proofs.SendLaws.{no_end}
 use Rattle.sj_acceptance_laws.proofs.SeenLemmas.{seen-moved, seen-knowing}
 
-module _ (ps : List ProtocolAt) (line : ℕ) (env : Known) (x : ℕ) where
+module _ (ps : List ProtocolAt) (line : ℕ) (env : EnvAt) (x : ℕ) where
   module _ (n : ℕ) (k : Scalar) where
     abbrev end_rest : List Test
     end_rest = (3, line, common.not (is_some (get env.ends n))) ∷ (7, line, is_free_for (get env.variables n) k) ∷ []
@@ -30,10 +30,10 @@ module _ (ps : List ProtocolAt) (line : ℕ) (env : Known) (x : ℕ) where
     abbrev take_tests : Option Place → List Test
     take_tests o = (5, line, is_some o) ∷ (6, line, is_message Into (unwrap_or o done)) ∷ (7, line, is_carried_as k (carried (unwrap_or o done))) ∷ end_rest
 
-    took : (rest : Place) → seen (knowing (moved env x rest) n k) ≡ with_kind (at_place (seen env) x rest) n k
-    took rest = seen-knowing (moved env x rest) n k ∙ ap (λ (v : Env). with_kind v n k) (seen-moved env x rest)
+    took : (rest : Place) → env_of (with_known (with_live env x rest) n k) ≡ with_kind (at_place (env_of env) x rest) n k
+    took rest = seen-knowing (with_live env x rest) n k ∙ ap (λ (v : Env). with_kind v n k) (seen-moved env x rest)
 
-    take_from : (o : Option Place) → get env.ends x ≡ o → first_fault (take_tests o) ≡ None → IsTakeValue (seen env) x n k (seen (knowing (moved env x (rest_of (unwrap_or o done))) n k))
+    take_from : (o : Option Place) → get env.ends x ≡ o → first_fault (take_tests o) ≡ None → IsTakeValue (env_of env) x n k (env_of (with_known (with_live env x (rest_of (unwrap_or o done))) n k))
     take_from None g h = absurd (cc)
     take_from (Some done) g h = absurd (cc)
     take_from (Some (message Out c rest)) g h = absurd (cc)
@@ -50,15 +50,15 @@ module _ (ps : List ProtocolAt) (line : ℕ) (env : Known) (x : ℕ) where
           leaves = took rest;
         }
 
-    pub take_follows : first_fault (act_tests ps line env (take_value x n k)) ≡ None → IsTakeValue (seen env) x n k (seen (after_act ps env (take_value x n k)))
+    pub take_follows : first_fault (deed_tests ps line env (take_value x n k)) ≡ None → IsTakeValue (env_of env) x n k (env_of (after_deed ps env (take_value x n k)))
     take_follows h = take_from (get env.ends x) refl h
 
-    pub take_passes : (next : Env) → IsTakeValue (seen env) x n k next → (first_fault (act_tests ps line env (take_value x n k)) ≡ None) × (next ≡ seen (after_act ps env (take_value x n k)))
+    pub take_passes : (next : Env) → IsTakeValue (env_of env) x n k next → (first_fault (deed_tests ps line env (take_value x n k)) ≡ None) × (next ≡ env_of (after_deed ps env (take_value x n k)))
     take_passes next d = (
       ap (λ o. first_fault (take_tests o)) d.there ∙ ap (λ b. cond b (first_fault end_rest) (Some (7, line))) (carried_by-passes k)
           ∙ ap (λ (o : Option Place). first_fault ((3, line, common.not (is_some o)) ∷ (7, line, is_free_for (get env.variables n) k) ∷ [])) d.free.no_end
           ∙ ap (λ b. cond b None (Some (7, line))) (free_passes (get env.variables n) k d.free.no_other),
-      d.leaves ∙ sym (took d.rest) ∙ ap (λ (o : Option Place). seen (knowing (moved env x (rest_of (unwrap_or o done))) n k)) (sym d.there),
+      d.leaves ∙ sym (took d.rest) ∙ ap (λ (o : Option Place). env_of (with_known (with_live env x (rest_of (unwrap_or o done))) n k)) (sym d.there),
     )
 
   module _ (y p : ℕ) where
@@ -71,11 +71,11 @@ module _ (ps : List ProtocolAt) (line : ℕ) (env : Known) (x : ℕ) where
     unused None (Some v) h = absurd (cc)
     unused (Some o) v h = absurd (cc)
 
-    got : (rest body : Place) → seen (moved (moved env x rest) y body) ≡ at_place (at_place (seen env) x rest) y body
-    got rest body = seen-moved (moved env x rest) y body ∙ ap (λ (v : Env). at_place v y body) (seen-moved env x rest)
+    got : (rest body : Place) → env_of (with_live (with_live env x rest) y body) ≡ at_place (at_place (env_of env) x rest) y body
+    got rest body = seen-moved (with_live env x rest) y body ∙ ap (λ (v : Env). at_place v y body) (seen-moved env x rest)
 
     get_from : (o b : Option Place) → get env.ends x ≡ o → protocol_named ps p ≡ b → first_fault (get_tests o b) ≡ None
-        → IsTakeEnd (protocol_named ps p) (seen env) x y (seen (moved (moved env x (rest_of (unwrap_or o done))) y (unwrap_or b done)))
+        → IsTakeEnd (protocol_named ps p) (env_of env) x y (env_of (with_live (with_live env x (rest_of (unwrap_or o done))) y (unwrap_or b done)))
     get_from None b g f h = absurd (cc)
     get_from (Some q) None g f h = absurd (cc)
     get_from (Some done) (Some body) g f h = absurd (cc)
@@ -98,13 +98,13 @@ module _ (ps : List ProtocolAt) (line : ℕ) (env : Known) (x : ℕ) where
           leaves = got rest body;
         }
 
-    pub take_end_follows : first_fault (act_tests ps line env (take_end x y p)) ≡ None → IsTakeEnd (protocol_named ps p) (seen env) x y (seen (after_act ps env (take_end x y p)))
+    pub take_end_follows : first_fault (deed_tests ps line env (take_end x y p)) ≡ None → IsTakeEnd (protocol_named ps p) (env_of env) x y (env_of (after_deed ps env (take_end x y p)))
     take_end_follows h = get_from (get env.ends x) (protocol_named ps p) refl refl h
 
-    pub take_end_passes : (next : Env) → IsTakeEnd (protocol_named ps p) (seen env) x y next → (first_fault (act_tests ps line env (take_end x y p)) ≡ None) × (next ≡ seen (after_act ps env (take_end x y p)))
+    pub take_end_passes : (next : Env) → IsTakeEnd (protocol_named ps p) (env_of env) x y next → (first_fault (deed_tests ps line env (take_end x y p)) ≡ None) × (next ≡ env_of (after_deed ps env (take_end x y p)))
     take_end_passes next d = (
       (λ i. first_fault (get_tests (d.there i) (d.exists i)))
           ∙ ap (λ b. cond b (first_fault ((3, line, common.not (is_some (get env.ends y) || is_some (get env.variables y))) ∷ [])) (Some (7, line))) ((is_same_place-Decides d.place d.place).1 refl)
           ∙ (λ i. cond (common.not (is_some (d.unused.no_end i) || is_some (d.unused.no_variable i))) None (Some (3, line))),
-      d.leaves ∙ sym (got d.rest d.place) ∙ (λ i. seen (moved (moved env x (rest_of (unwrap_or (sym d.there i) done))) y (unwrap_or (sym d.exists i) done))),
+      d.leaves ∙ sym (got d.rest d.place) ∙ (λ i. env_of (with_live (with_live env x (rest_of (unwrap_or (sym d.there i) done))) y (unwrap_or (sym d.exists i) done))),
     )

@@ -7,7 +7,7 @@ ghost use Rattle.sj_lang.specs.Code.{Code};
 ghost use Rattle.sj_lang.specs.FileAt.{FileAt, ProtocolAt};
 ghost use Rattle.sj_acceptance.specs.Environment.{Env};
 ghost use Rattle.sj_acceptance.specs.Follows.{Follows};
-ghost use Rattle.sj_acceptance.specs.Known.{Known, seen};
+ghost use Rattle.sj_acceptance.specs.EnvAt.{EnvAt, env_of};
 ghost use Rattle.sj_acceptance.specs.Faults.{first_fault};
 ghost use Rattle.sj_acceptance.specs.Tests.{code_tests, after_code};
 ghost use Rattle.sj_acceptance.specs.FileTests.{tests_of};
@@ -15,9 +15,9 @@ ghost use Rattle.sj_acceptance.specs.Accepted.{IsAccepted, IsWithinLimits};
 
 /// A block leads to an environment exactly where its tests pass, and then to the one that it leaves.
 pub fn a_block_leads_where_its_tests_pass()
-    ensures { (ps : List ProtocolAt) (code : Code) (env : Known) (next : Env)
-        → Follows ps code (seen env) next
-        ↔ ((first_fault (code_tests ps env code) ≡ None) × (next ≡ seen (after_code ps env code))) }
+    ensures { (ps : List ProtocolAt) (code : Code) (env : EnvAt) (next : Env)
+        → Follows ps code (env_of env) next
+        ↔ ((first_fault (code_tests ps env code) ≡ None) × (next ≡ env_of (after_code ps env code))) }
 {}
 
 /// A file is accepted exactly where it is within the limits and none of its tests fails.

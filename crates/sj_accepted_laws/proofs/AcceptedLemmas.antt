@@ -13,10 +13,10 @@ use Rattle.sj_acceptance.specs.Accepted.{place_of_party, places_from, start_env,
 use Rattle.sj_semantics.specs.Value.{no_vars}
 use Rattle.sj_semantics.specs.Balanced.{IsBalanced}
 use Rattle.sj_semantics.specs.Program.{Program, block}
-use Rattle.sj_semantics.specs.Wants.{fits, want_of}
-use Rattle.sj_semantics.specs.World.{World, act_of}
+use Rattle.sj_semantics.specs.Wants.{want_of}
+use Rattle.sj_semantics.specs.Fitting.{fits}
+use Rattle.sj_semantics.specs.World.{World, act_of, fresh, session_of, program_of, programs_from, start_of}
 use Rattle.sj_semantics.specs.Ends.{Session, end_on, nowhere, other_end, end_at, next_for}
-use Rattle.sj_semantics.specs.Start.{fresh, session_of, program_of, programs_from, start_of}
 use Rattle.sj_semantics.specs.Run.{after_acts, IsRun}
 use Rattle.sj_semantics_laws.proofs.RunLemmas.{between}
 use Rattle.sj_semantics_laws.proofs.StartLemmas.{start_is_unshared}

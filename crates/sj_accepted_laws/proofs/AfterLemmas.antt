@@ -15,7 +15,7 @@ use Rattle.sj_semantics.specs.Program.{Program}
 use Rattle.sj_semantics.specs.Steps.{sent_of, took_of}
 use Rattle.sj_semantics.specs.World.{World, session_message}
 use Rattle.sj_semantics.specs.Ends.{Session, end_on, other_end, nowhere, end_at, next_for}
-use Rattle.sj_semantics.specs.Uses.{sends, takes, hands_on, used, on_side}
+use Rattle.sj_semantics.specs.Uses.{sends, takes, delegates, end_after, on_side}
 use Rattle.sj_semantics_laws.specs.Unshared.{names_end}
 use Rattle.sj_semantics_laws.proofs.AlteredLemmas.{slice_get-altered, slice_get-altered_other}
 use Rattle.sj_semantics_laws.proofs.EndLemmas.{touched}
@@ -78,28 +78,28 @@ module _ (ps : List ProtocolAt) (w : World) (p : ℕ) (g : Program) (sound : Sou
 
 -- ---- delegating
 
-pub hands_on_side : (p c d : ℕ) (z : Session) → (end_on d (on_side c (used p hands_on) z)).place ≡ (end_on d z).place
+pub hands_on_side : (p c d : ℕ) (z : Session) → (end_on d (on_side c (end_after p delegates) z)).place ≡ (end_on d z).place
 hands_on_side p zero zero z = refl
 hands_on_side p zero (suc d) z = refl
 hands_on_side p (suc c) zero z = refl
 hands_on_side p (suc c) (suc d) z = refl
 
-pub hands_option : (p c d : ℕ) (o : Option Session) → (unwrap_or (option_map (end_on d) (option_map (on_side c (used p hands_on)) o)) nowhere).place ≡ (unwrap_or (option_map (end_on d) o) nowhere).place
+pub hands_option : (p c d : ℕ) (o : Option Session) → (unwrap_or (option_map (end_on d) (option_map (on_side c (end_after p delegates)) o)) nowhere).place ≡ (unwrap_or (option_map (end_on d) o) nowhere).place
 hands_option p c d None = refl
 hands_option p c d (Some z) = hands_on_side p c d z
 
 -- handing an end on moves no place
-pub hands_places : (p : ℕ) (zs : List Session) (y f : EndId) → (end_at (touched p zs (y, hands_on)) f).place ≡ (end_at zs f).place
+pub hands_places : (p : ℕ) (zs : List Session) (y f : EndId) → (end_at (touched p zs (y, delegates)) f).place ≡ (end_at zs f).place
 hands_places p zs y f =
     elim (cases_eq y.sess f.sess) [
       | inl it ↦
           ap (λ o. (unwrap_or (option_map (end_on f.side) o) nowhere).place)
-          (subst (λ (t : ℕ). slice_get (touched p zs (y, hands_on)) t ≡ option_map (on_side y.side (used p hands_on)) (slice_get zs t)) it (slice_get-altered zs y.sess (on_side y.side (used p hands_on))))
+          (subst (λ (t : ℕ). slice_get (touched p zs (y, delegates)) t ≡ option_map (on_side y.side (end_after p delegates)) (slice_get zs t)) it (slice_get-altered zs y.sess (on_side y.side (end_after p delegates))))
           ∙ hands_option p y.side f.side (slice_get zs f.sess)
-      | inr other ↦ ap (λ o. (unwrap_or (option_map (end_on f.side) o) nowhere).place) (slice_get-altered_other zs y.sess f.sess (on_side y.side (used p hands_on)) other)
+      | inr other ↦ ap (λ o. (unwrap_or (option_map (end_on f.side) o) nowhere).place) (slice_get-altered_other zs y.sess f.sess (on_side y.side (end_after p delegates)) other)
     ]
 
-pub hands_named : (p : ℕ) (zs : List Session) (y : EndId) (m : Msg) → KeepsNamed zs (touched p zs (y, hands_on)) m
+pub hands_named : (p : ℕ) (zs : List Session) (y : EndId) (m : Msg) → KeepsNamed zs (touched p zs (y, delegates)) m
 hands_named p zs y (msgs.Sess s d k) = hands_places p zs y (side s d)
 hands_named p zs y (msgs.Int n) = tt
 hands_named p zs y (msgs.Bool n) = tt
@@ -107,21 +107,21 @@ hands_named p zs y (msgs.Text n) = tt
 hands_named p zs y (msgs.Label n) = tt
 hands_named p zs y (msgs.More n) = tt
 
-pub handed_is_sound : (ps : List ProtocolAt) (w : World) (p : ℕ) (y : EndId) (z : Session) → slice_get w.sessions y.sess ≡ Some z → Sound ps w → Sound ps (record { parties = w.parties; sessions = touched p w.sessions (y, hands_on) })
+pub handed_is_sound : (ps : List ProtocolAt) (w : World) (p : ℕ) (y : EndId) (z : Session) → slice_get w.sessions y.sess ≡ Some z → Sound ps w → Sound ps (record { parties = w.parties; sessions = touched p w.sessions (y, delegates) })
 handed_is_sound ps w p y z there sound =
-    let new : List Session = touched p w.sessions (y, hands_on) in
+    let new : List Session = touched p w.sessions (y, delegates) in
     let kept : (s : ℕ) → PairAt new w.sessions s = λ s. pair_kept w.sessions new _ _ (λ j x h. hands_named p w.sessions y x.msg) (λ j x h. hands_named p w.sessions y x.msg) (sound.pairs s) in
     record {
       unshared = record { once = λ e. omega (arith, sound.unshared.once e, carried-hands_on e p w.sessions y) };
-      pairs = pairs_touched p w.sessions new y hands_on z there (pair_hands new (end_at w.sessions y) (end_at w.sessions (other_end y)) p (pair_of w.sessions new y kept)) kept;
+      pairs = pairs_touched p w.sessions new y delegates z there (pair_hands new (end_at w.sessions y) (end_at w.sessions (other_end y)) p (pair_of w.sessions new y kept)) kept;
       programs = λ q h at. todo_kept ps w.sessions new h.todo h.vars h.ends (λ f b. hands_places p w.sessions y f) (sound.programs q h at);
     }
 
 pub after_delegating : (ps : List ProtocolAt) (w : World) (p : ℕ) (g : Program) → (sound : Sound ps w) → slice_get w.parties p ≡ Some g → (e y : EndId) → DelegateFits ps w.sessions g e y
-    → After ps w p (touched p (touched p w.sessions (y, hands_on)) (e, sends (session_message y p))) (sent_of g)
+    → After ps w p (touched p (touched p w.sessions (y, delegates)) (e, sends (session_message y p))) (sent_of g)
 after_delegating ps w p g sound there e y s =
     let ex = exists_at w.sessions y s.not_empty in
-    let mid : List Session = touched p w.sessions (y, hands_on) in
+    let mid : List Session = touched p w.sessions (y, delegates) in
     let at : (end_at mid e).place ≡ message Out (session (end_at w.sessions y).place) s.next = hands_places p w.sessions y e ∙ s.carries in
     let r = after_sending ps (record { parties = w.parties; sessions = mid }) p g (handed_is_sound ps w p y ex.session ex.there sound) there e (session_message y p)
     (record {

@@ -4,7 +4,7 @@ use Rattle.std.proofs.lemmas.Bool.{cases_eq}
 use Rattle.sj_base.specs.declared.EndId.{EndId}
 use Rattle.sj_lang.specs.declared.party.Scalar.{Scalar}
 use Rattle.sj_lang.specs.Place.{Place}
-use Rattle.sj_semantics.specs.Program.{without, bound}
+use Rattle.sj_semantics.specs.Program.{ends_without, ends_with}
 use Rattle.sj_semantics.specs.declared.Value.{Value}
 use Rattle.sj_semantics.specs.Value.{with_value, Vars}
 use Rattle.sj_lang.specs.FileAt.{named}
@@ -51,19 +51,19 @@ agrees_moved old new ends vars env x e p a named_x m = record {
   kinds = a.kinds;
 }
 
-pub agrees_without : (zs : List Session) (ends : List (ℕ × EndId)) (vars : Vars) (env : Env) (y : ℕ) → Agrees zs ends vars env → Agrees zs (without ends y) vars (without_end env y)
+pub agrees_without : (zs : List Session) (ends : List (ℕ × EndId)) (vars : Vars) (env : Env) (y : ℕ) → Agrees zs ends vars env → Agrees zs (ends_without ends y) vars (without_end env y)
 agrees_without zs ends vars env y a = record {
   places = λ n. elim (cases_eq n y) [
-    | inl it ↦ ap (λ t. option_map (λ f. (end_at zs f).place) (named (without ends y) t)) it ∙ ap (option_map (λ f. (end_at zs f).place)) (named-without_same ends y) ∙ sym (ap (put env.places y None) it ∙ put_same env.places y None)
+    | inl it ↦ ap (λ t. option_map (λ f. (end_at zs f).place) (named (ends_without ends y) t)) it ∙ ap (option_map (λ f. (end_at zs f).place)) (named-without_same ends y) ∙ sym (ap (put env.places y None) it ∙ put_same env.places y None)
     | inr other ↦ ap (option_map (λ f. (end_at zs f).place)) (named-without_other ends y n other) ∙ a.places n ∙ sym (put_other env.places y n None other)
   ];
   kinds = a.kinds;
 }
 
-pub agrees_bound : (zs : List Session) (ends : List (ℕ × EndId)) (vars : Vars) (env : Env) (y : ℕ) (e : EndId) (p : Place) → Agrees zs ends vars env → (end_at zs e).place ≡ p → Agrees zs (bound ends y e) vars (at_place env y p)
+pub agrees_bound : (zs : List Session) (ends : List (ℕ × EndId)) (vars : Vars) (env : Env) (y : ℕ) (e : EndId) (p : Place) → Agrees zs ends vars env → (end_at zs e).place ≡ p → Agrees zs (ends_with ends y e) vars (at_place env y p)
 agrees_bound zs ends vars env y e p a at = record {
   places = λ n. elim (cases_eq n y) [
-    | inl it ↦ ap (λ t. option_map (λ f. (end_at zs f).place) (named (bound ends y e) t)) it ∙ ap (option_map (λ f. (end_at zs f).place)) (named-bound_same ends y e) ∙ ap Some at ∙ sym (ap (put env.places y (Some p)) it ∙ put_same env.places y (Some p))
+    | inl it ↦ ap (λ t. option_map (λ f. (end_at zs f).place) (named (ends_with ends y e) t)) it ∙ ap (option_map (λ f. (end_at zs f).place)) (named-bound_same ends y e) ∙ ap Some at ∙ sym (ap (put env.places y (Some p)) it ∙ put_same env.places y (Some p))
     | inr other ↦ ap (option_map (λ f. (end_at zs f).place)) (named-bound_other ends y n e other) ∙ a.places n ∙ sym (put_other env.places y n (Some p) other)
   ];
   kinds = a.kinds;

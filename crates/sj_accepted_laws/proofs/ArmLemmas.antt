@@ -7,7 +7,7 @@ use Rattle.sj_lang.specs.After.{followed_by, at_label}
 use Rattle.sj_lang.specs.Code.{Code, Branches, no_branch, branch}
 use Rattle.sj_lang.specs.FileAt.{ProtocolAt}
 use Rattle.sj_semantics.specs.Steps.{arm_named}
-use Rattle.sj_semantics.specs.Wants.{names_arm}
+use Rattle.sj_semantics.specs.Fitting.{names_arm}
 use Rattle.sj_acceptance.specs.Environment.{Env, at_place, IsCommon}
 use Rattle.sj_acceptance.specs.Labels.{labels_of, branch_labels}
 use Rattle.sj_acceptance.specs.Follows.{Follows, EachArm}

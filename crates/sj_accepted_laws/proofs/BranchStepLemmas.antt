@@ -6,7 +6,7 @@ use Rattle.sj_base.specs.declared.Msg.TheVariants as msgs
 use Rattle.sj_lang.specs.declared.proto.Way.TheVariants.{Into}
 use Rattle.sj_lang.specs.Place.{Place, choice}
 use Rattle.sj_lang.specs.After.{followed_by, at_label, after_place}
-use Rattle.sj_lang.specs.Code.{Code, Branches, no_step, inbranch}
+use Rattle.sj_lang.specs.Code.{Code, Branches, no_stmt, inbranch}
 use Rattle.sj_semantics.specs.declared.Want.TheVariants as wants
 use Rattle.sj_semantics.specs.declared.Awaits.TheVariants as awaits
 use Rattle.sj_lang.specs.FileAt.{ProtocolAt}
@@ -38,7 +38,7 @@ module _ (ps : List ProtocolAt) (zs : List Session) (vars : Vars) (ends : List (
         name = x;
         is_named = b.it_is;
         can_take = f.named_it;
-        onward = λ new mv kept. subst (λ (o : Option Code). FitsTodo ps new (block (unwrap_or o no_step) rest) vars ends) (sym f.it_is)
+        onward = λ new mv kept. subst (λ (o : Option Code). FitsTodo ps new (block (unwrap_or o no_stmt) rest) vars ends) (sym f.it_is)
             (continues_fit ps new (block f.code rest) vars ends (at_place env x nx) (agrees_moved zs new ends vars env x b.end nx a b.it_is mv)
             (subst (λ (p : Place). Continues ps (block f.code rest) (at_place env x p)) there
             (block_continues ps f.code rest (at_place env x (followed_by f.place s.1)) f.last f.follows

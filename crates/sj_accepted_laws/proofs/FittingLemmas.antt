@@ -6,7 +6,7 @@ use Rattle.sj_base.specs.declared.Msg.{Msg}
 use Rattle.sj_base.specs.declared.Msg.TheVariants as msgs
 use Rattle.sj_lang.specs.declared.proto.Way.TheVariants.{Into}
 use Rattle.sj_lang.specs.Place.{Place, message, session}
-use Rattle.sj_lang.specs.Code.{Act, send, delegate, take_value, take_end, outbranch, inbranch, outwhile, inwhile, relay, if_else, let_be, close}
+use Rattle.sj_lang.specs.Code.{DeedAt, send, delegate, take_value, take_end, outbranch, inbranch, outwhile, inwhile, relay, if_else, let_be, close}
 use Rattle.sj_lang.specs.FileAt.{ProtocolAt, named, protocol_named}
 use Rattle.sj_lang.specs.After.{after_place}
 use Rattle.sj_acceptance.specs.Environment.{Env}
@@ -18,7 +18,7 @@ use Rattle.sj_semantics.specs.declared.Passed.{Passed}
 use Rattle.sj_semantics.specs.Balanced.{FitsNext}
 use Rattle.sj_semantics.specs.Value.{Vars, message_of, worth, turns_of, truth_of}
 use Rattle.sj_semantics.specs.Program.{Program, Thing, statement, turns, passing}
-use Rattle.sj_semantics.specs.Wants.{want_send, want_delegate, want_take, more_turns, want_of_act, want_of_todo, want_of}
+use Rattle.sj_semantics.specs.Wants.{want_send, want_delegate, want_take, more_turns, want_of_deed, want_of_todo, want_of}
 use Rattle.sj_semantics.specs.Ends.{Session, end_at, other_end, next_for}
 use Rattle.sj_semantics.specs.World.{World}
 use Rattle.sj_accepted_laws.specs.Fitting.{FitsPlaces}
@@ -83,7 +83,7 @@ module _ (f : EndId) (q : ℕ) (ends : List (ℕ × EndId)) where
   take_end_takes x y p rest None h = tt
   take_end_takes x y p rest (Some e) h = λ same. (x, y, rest, ap (λ n. statement (take_end x y n) ∷ rest) same.1, h ∙ ap Some same.0)
 
-  act_takes_end : (vars : Vars) (act : Act) (rest : List Thing) → TakesEndIf f q ends (statement act ∷ rest) (want_of_act vars ends act)
+  act_takes_end : (vars : Vars) (act : DeedAt) (rest : List Thing) → TakesEndIf f q ends (statement act ∷ rest) (want_of_deed vars ends act)
   act_takes_end vars (send x v) rest = send_takes_no_end (statement (send x v) ∷ rest) (named ends x) (option_map message_of (worth vars v))
   act_takes_end vars (delegate x y) rest = delegate_takes_no_end (statement (delegate x y) ∷ rest) (named ends x) (named ends y)
   act_takes_end vars (take_value x n k) rest = take_takes_no_end (statement (take_value x n k) ∷ rest) (named ends x) (awaits.Value k) (λ e. tt)

@@ -13,7 +13,7 @@ use Rattle.sj_semantics.specs.declared.Want.TheVariants as wants
 use Rattle.sj_lang.specs.FileAt.{ProtocolAt}
 use Rattle.sj_semantics.specs.declared.Value.{Value}
 use Rattle.sj_semantics.specs.Value.{with_value, Vars, worth}
-use Rattle.sj_semantics.specs.Program.{Thing, statement, Program, block, without}
+use Rattle.sj_semantics.specs.Program.{Thing, statement, Program, block, ends_without}
 use Rattle.sj_semantics.specs.Steps.{assigned}
 use Rattle.sj_semantics.specs.Wants.{want_send}
 use Rattle.sj_acceptance.specs.Statements.{IsSelect, IsClose, IsLet}
@@ -55,7 +55,7 @@ module _ (ps : List ProtocolAt) (zs : List Session) (vars : Vars) (ends : List (
       record {
         want = wants.Close b.end;
         wants_it = ap (option_map wants.Close) b.it_is;
-        step_fits = (b.at, continues_fit ps zs rest vars (without ends x) (without_end env x) (agrees_without zs ends vars env x a) (subst (Continues ps rest) s.leaves c));
+        step_fits = (b.at, continues_fit ps zs rest vars (ends_without ends x) (without_end env x) (agrees_without zs ends vars env x a) (subst (Continues ps rest) s.leaves c));
       }
 
   pub let_step : (n : ℕ) (e : Term) (mid : Env) → IsLet env n e mid → Continues ps rest mid → StepOf ps zs (going (statement (let_be n e) ∷ rest))

@@ -8,12 +8,12 @@ use Rattle.sj_lang.specs.Place.{done}
 use Rattle.sj_semantics.specs.declared.Want.TheVariants as wants
 use Rattle.sj_semantics.specs.declared.Passed.{Passed}
 use Rattle.sj_lang.specs.FileAt.{ProtocolAt, named}
-use Rattle.sj_semantics.specs.Program.{Program, without}
-use Rattle.sj_semantics.specs.Wants.{fits}
+use Rattle.sj_semantics.specs.Program.{Program, ends_without}
+use Rattle.sj_semantics.specs.Fitting.{fits}
 use Rattle.sj_semantics.specs.Steps.{local_of, sent_of, took_of, closed_of, ends_after_took}
 use Rattle.sj_semantics.specs.World.{World, session_message}
 use Rattle.sj_semantics.specs.Ends.{Session, other_end, end_at, next_for, is_end}
-use Rattle.sj_semantics.specs.Uses.{Use, sends, takes, hands_on}
+use Rattle.sj_semantics.specs.Uses.{Use, sends, takes, delegates}
 use Rattle.sj_semantics_laws.specs.Unshared.{names_end}
 use Rattle.sj_semantics_laws.proofs.EndLemmas.{touched}
 use Rattle.sj_accepted_laws.proofs.NameLemmas.{named-without_other}
@@ -55,7 +55,7 @@ pub same_names : (e : EndId) (ends new : List (ℕ × EndId)) → new ≡ ends �
 same_names e ends new same h = subst (Held e) (sym same) h
 
 -- without a name, the end is held, or is the one that had the name
-pub lost_name : (e : EndId) (ends : List (ℕ × EndId)) (n : ℕ) (y : EndId) → named ends n ≡ Some y → Held e ends → Held e (without ends n) ⊎ (is_end e y ≡ true)
+pub lost_name : (e : EndId) (ends : List (ℕ × EndId)) (n : ℕ) (y : EndId) → named ends n ≡ Some y → Held e ends → Held e (ends_without ends n) ⊎ (is_end e y ≡ true)
 lost_name e ends n y at h =
     elim (cases_eq h.name n) [
       | inl it ↦
@@ -79,13 +79,13 @@ module _ (ps : List ProtocolAt) (w : World) (p : ℕ) (g : Program) (sound : Sou
     λ f c. inr (f, c),
   )
     where
-      not_lost : (e : EndId) → ((end_at w.sessions e).place ≡ done → ⊥) → Held e (without g.ends go.0) ⊎ (is_end e k ≡ true) → Held e (without g.ends go.0)
+      not_lost : (e : EndId) → ((end_at w.sessions e).place ≡ done → ⊥) → Held e (ends_without g.ends go.0) ⊎ (is_end e k ≡ true) → Held e (ends_without g.ends go.0)
       not_lost e is_open (inl h) = h
       not_lost e is_open (inr same) = absurd (is_open (ap (λ t. t.place) (same_end_at w.sessions e k same) ∙ closed))
 
-  pub handed_comes : (k y : EndId) → StepFits ps w.sessions g (wants.Delegate k y) → (e : EndId) → is_end e y ≡ true → IsComing (touched p (touched p w.sessions (y, hands_on)) (k, sends (session_message y p))) e (other_end k)
+  pub handed_comes : (k y : EndId) → StepFits ps w.sessions g (wants.Delegate k y) → (e : EndId) → is_end e y ≡ true → IsComing (touched p (touched p w.sessions (y, delegates)) (k, sends (session_message y p))) e (other_end k)
   handed_comes k y s e same =
-      let mid : List Session = touched p w.sessions (y, hands_on) in
+      let mid : List Session = touched p w.sessions (y, delegates) in
       let ex = exists_at w.sessions y s.not_empty in
       let after = handed_is_sound ps w p y ex.session ex.there sound in
       let open_there : (end_at mid k).place ≡ done → ⊥ = λ h. (let clash = sym s.carries ∙ sym (hands_places p w.sessions y k) ∙ h in cc) in
@@ -93,16 +93,16 @@ module _ (ps : List ProtocolAt) (w : World) (p : ℕ) (g : Program) (sound : Sou
       sent_comes p mid k e (session_message y p) at.session at.there (pair_of mid mid k after.pairs).other_taken same
 
   pub delegate_goes : (k y : EndId) → EndsGo g.ends g.todo (wants.Delegate k y) → StepFits ps w.sessions g (wants.Delegate k y)
-      → Goes w g (touched p (touched p w.sessions (y, hands_on)) (k, sends (session_message y p))) (sent_of g)
+      → Goes w g (touched p (touched p w.sessions (y, delegates)) (k, sends (session_message y p))) (sent_of g)
   delegate_goes k y go fit = λ e is_open.
-      let mid : List Session = touched p w.sessions (y, hands_on) in (
-        came_from p w.sessions y hands_on e (came_from p mid k (sends (session_message y p)) e is_open),
+      let mid : List Session = touched p w.sessions (y, delegates) in (
+        came_from p w.sessions y delegates e (came_from p mid k (sends (session_message y p)) e is_open),
         λ h. gone e (lost_name e g.ends go.0 y go.1 h),
-        λ f c. inr (f, coming_stays p mid k (sends (session_message y p)) e f tt (coming_stays p w.sessions y hands_on e f tt c)),
+        λ f c. inr (f, coming_stays p mid k (sends (session_message y p)) e f tt (coming_stays p w.sessions y delegates e f tt c)),
       )
     where
-      gone : (e : EndId) → Held e (without g.ends go.0) ⊎ (is_end e y ≡ true)
-          → Held e (sent_of g).ends ⊎ ((f : EndId) × IsComing (touched p (touched p w.sessions (y, hands_on)) (k, sends (session_message y p))) e f)
+      gone : (e : EndId) → Held e (ends_without g.ends go.0) ⊎ (is_end e y ≡ true)
+          → Held e (sent_of g).ends ⊎ ((f : EndId) × IsComing (touched p (touched p w.sessions (y, delegates)) (k, sends (session_message y p))) e f)
       gone e (inl h) = inl (subst (Held e) (sym go.2) h)
       gone e (inr same) = inr (other_end k, handed_comes k y fit e same)
 

@@ -8,11 +8,12 @@ use Rattle.sj_semantics.specs.declared.Want.TheVariants as wants
 use Rattle.sj_semantics.specs.declared.Passed.{Passed}
 use Rattle.sj_lang.specs.FileAt.{ProtocolAt}
 use Rattle.sj_semantics.specs.Program.{Program}
-use Rattle.sj_semantics.specs.Wants.{fits, want_of}
+use Rattle.sj_semantics.specs.Wants.{want_of}
+use Rattle.sj_semantics.specs.Fitting.{fits}
 use Rattle.sj_semantics.specs.Steps.{local_of, sent_of, closed_of}
 use Rattle.sj_semantics.specs.World.{World, Change, session_message, change_by_taking, change_by, act_of}
 use Rattle.sj_semantics.specs.Ends.{Session, other_end, end_at, next_for}
-use Rattle.sj_semantics.specs.Uses.{sends, hands_on, altered, after_uses}
+use Rattle.sj_semantics.specs.Uses.{sends, delegates, altered, after_uses}
 use Rattle.sj_semantics_laws.proofs.AlteredLemmas.{slice_get-altered, slice_get-altered_other}
 use Rattle.sj_semantics_laws.proofs.ChangeLemmas.{rests_on}
 use Rattle.sj_semantics_laws.proofs.CommuteLemmas.{doing_of}
@@ -46,7 +47,7 @@ by_goes ps w p g sound there wants.Ended it fit d h = cc
 by_goes ps w p g sound there wants.Local it fit d h = cond_goes w p g true (record { program = local_of g; uses = [] }) d (local_goes ps w p g sound there) h
 by_goes ps w p g sound there (wants.Send k m) it fit d h = cond_goes w p g true (record { program = sent_of g; uses = (k, sends m) ∷ [] }) d (send_goes ps w p g sound there k m (ends_go g (wants.Send k m) it)) h
 by_goes ps w p g sound there (wants.Delegate k y) it fit d h =
-    cond_goes w p g (nat_lt (end_at w.sessions y).hops 100) (record { program = sent_of g; uses = (y, hands_on) ∷ (k, sends (session_message y p)) ∷ [] }) d (delegate_goes ps w p g sound there k y (ends_go g (wants.Delegate k y) it) fit) h
+    cond_goes w p g (nat_lt (end_at w.sessions y).hops 100) (record { program = sent_of g; uses = (y, delegates) ∷ (k, sends (session_message y p)) ∷ [] }) d (delegate_goes ps w p g sound there k y (ends_go g (wants.Delegate k y) it) fit) h
 by_goes ps w p g sound there (wants.Take k a) it fit d h =
     taking_goes ps w p g sound there k d (next_for w.sessions k) refl (λ x n. next_fits ps w p g k a x sound there it n) h
 by_goes ps w p g sound there (wants.Close k) it fit d h = cond_goes w p g true (record { program = closed_of g; uses = [] }) d (close_goes ps w p g sound there k (ends_go g (wants.Close k) it) fit.0) h

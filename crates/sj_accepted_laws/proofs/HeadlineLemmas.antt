@@ -12,12 +12,11 @@ use Rattle.sj_semantics.specs.Acts.{acts_from, taken_on}
 use Rattle.sj_semantics.specs.Ends.{Session, end_at, next_for, untaken_for}
 use Rattle.sj_semantics.specs.Program.{Program}
 use Rattle.sj_semantics.specs.Run.{IsRun, after_acts}
-use Rattle.sj_semantics.specs.Start.{start_of}
+use Rattle.sj_semantics.specs.World.{start_of, World, Change, session_message, change_by_taking, change_by, change_of_program, act_of}
 use Rattle.sj_semantics.specs.State.{IsSettled, verdict_of}
 use Rattle.sj_semantics.specs.Steps.{local_of, sent_of, closed_of}
-use Rattle.sj_semantics.specs.Uses.{Use, sends, takes, hands_on}
+use Rattle.sj_semantics.specs.Uses.{Use, sends, takes, delegates}
 use Rattle.sj_semantics.specs.Wants.{want_of}
-use Rattle.sj_semantics.specs.World.{World, Change, session_message, change_by_taking, change_by, change_of_program, act_of}
 use Rattle.sj_semantics_laws.proofs.BoundLemmas.{want_bound}
 use Rattle.sj_semantics_laws.proofs.ChangeLemmas.{rests_on}
 use Rattle.sj_semantics_laws.proofs.DelegatedLemmas.{delegated_nowhere}
@@ -44,10 +43,10 @@ sends_takes zs f k us rest zero e m h =
     let uses : sends k ≡ takes m = ap (λ (u : EndId × Use). u.1) both in cc
 sends_takes zs f k us rest (suc n) e m h = rest n e m h
 
-hands_takes : (zs : List Session) (f : EndId) (us : List (EndId × Use)) → TakesNext zs us → TakesNext zs ((f, hands_on) ∷ us)
+hands_takes : (zs : List Session) (f : EndId) (us : List (EndId × Use)) → TakesNext zs us → TakesNext zs ((f, delegates) ∷ us)
 hands_takes zs f us rest zero e m h =
-    let both : ◌≡◌ {A = EndId × Use} (f, hands_on) (e, takes m) = cc in
-    let uses : hands_on ≡ takes m = ap (λ (u : EndId × Use). u.1) both in cc
+    let both : ◌≡◌ {A = EndId × Use} (f, delegates) (e, takes m) = cc in
+    let uses : delegates ≡ takes m = ap (λ (u : EndId × Use). u.1) both in cc
 hands_takes zs f us rest (suc n) e m h = rest n e m h
 
 taking_takes : (zs : List Session) (f : EndId) (x : Passed) → next_for zs f ≡ Some x → TakesNext zs ((f, takes x.msg) ∷ [])
@@ -72,7 +71,7 @@ takes_next zs p g c wants.Ended h = cc
 takes_next zs p g c wants.Local h = takes_if zs true (record { program = local_of g; uses = [] }) c (no_takes zs) h
 takes_next zs p g c (wants.Send f m) h = takes_if zs true (record { program = sent_of g; uses = (f, sends m) ∷ [] }) c (sends_takes zs f m [] (no_takes zs)) h
 takes_next zs p g c (wants.Delegate f y) h =
-    takes_if zs (nat_lt (end_at zs y).hops 100) (record { program = sent_of g; uses = (y, hands_on) ∷ (f, sends (session_message y p)) ∷ [] }) c
+    takes_if zs (nat_lt (end_at zs y).hops 100) (record { program = sent_of g; uses = (y, delegates) ∷ (f, sends (session_message y p)) ∷ [] }) c
     (hands_takes zs y ((f, sends (session_message y p)) ∷ []) (sends_takes zs f (session_message y p) [] (no_takes zs))) h
 takes_next zs p g c (wants.Take f a) h = takes_option zs g f c (next_for zs f) refl h
 takes_next zs p g c (wants.Close f) h = takes_if zs true (record { program = closed_of g; uses = [] }) c (no_takes zs) h

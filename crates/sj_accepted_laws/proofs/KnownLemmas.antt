@@ -3,7 +3,7 @@ use Rattle.std.proofs.Common.{◌≡◌, ℕ, zero, suc, Bool, cond, List, [], �
 use Rattle.std.proofs.lemmas.Bool.{cases_eq, eq-eqb, ne_eqb}
 use Rattle.sj_lang.specs.declared.party.Scalar.{Scalar}
 use Rattle.sj_lang.specs.Place.{Place, Choices}
-use Rattle.sj_lang.specs.Code.{Code, Act, Branches, no_step, step_then, at, send, delegate, take_value, take_end, outbranch, inbranch, outwhile, inwhile, relay, if_else, let_be, close, no_branch, branch}
+use Rattle.sj_lang.specs.Code.{Code, DeedAt, Branches, no_stmt, stmt_then, at, send, delegate, take_value, take_end, outbranch, inbranch, outwhile, inwhile, relay, if_else, let_be, close, no_branch, branch}
 use Rattle.sj_lang.specs.FileAt.{ProtocolAt}
 use Rattle.sj_acceptance.specs.Environment.{Env, with_kind, IsFreeFor, SameEnds}
 use Rattle.sj_acceptance.specs.Follows.{Follows, Does, EachArm}
@@ -45,10 +45,10 @@ of_arm env first others (suc k) last h knows later = later k h
 
 mutual
   pub follows_know : (ps : List ProtocolAt) (code : Code) (env next : Env) → Follows ps code env next → Knows env next
-  follows_know ps no_step env next f = λ n k h. ap (λ (t : Env). t.kinds n) (sym f) ∙ h
-  follows_know ps (step_then (at line act) code) env next f = λ n k h. follows_know ps code f.0 next f.2 n k (does_know ps act env f.0 f.1 n k h)
+  follows_know ps no_stmt env next f = λ n k h. ap (λ (t : Env). t.kinds n) (sym f) ∙ h
+  follows_know ps (stmt_then (at line act) code) env next f = λ n k h. follows_know ps code f.0 next f.2 n k (does_know ps act env f.0 f.1 n k h)
 
-  does_know : (ps : List ProtocolAt) (act : Act) (env next : Env) → Does ps act env next → Knows env next
+  does_know : (ps : List ProtocolAt) (act : DeedAt) (env next : Env) → Does ps act env next → Knows env next
   does_know ps (send x e) env next s = same_kinds env _ next s.leaves refl
   does_know ps (delegate x y) env next s = same_kinds env _ next s.leaves refl
   does_know ps (take_value x m j) env next s = λ n k h. ap (λ (t : Env). t.kinds n) s.leaves ∙ with_kind_knows env m j s.free n k h

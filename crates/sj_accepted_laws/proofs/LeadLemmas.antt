@@ -9,7 +9,7 @@ use Rattle.sj_lang.specs.After.{after_place}
 use Rattle.sj_semantics.specs.declared.Passed.{Passed}
 use Rattle.sj_semantics.specs.Balanced.{FitsNext, LeadsTaker}
 use Rattle.sj_semantics.specs.Ends.{Session, EndAt}
-use Rattle.sj_semantics.specs.Uses.{sends, takes, hands_on, used}
+use Rattle.sj_semantics.specs.Uses.{sends, takes, delegates, end_after}
 use Rattle.sj_accepted_laws.proofs.DualPlaceLemmas.{dual_of-dual_of, after_place-dual, not_both_ways}
 
 -- what the giver sent and the taker hasn't taken
@@ -83,15 +83,15 @@ for_sender zs a b q m h (inl t) =
 pub moved_to : (p q : Place) (o : Option Place) → o ≡ Some q → unwrap_or o p ≡ q
 moved_to p q o h = ap (λ t. unwrap_or t p) h
 
-pub pair_sends : (zs : List Session) (a b : EndAt) (p : ℕ) (m : Msg) (next : Place) → Pair zs a b → after_place a.place Out m ≡ Some next → FitsNext zs (dual_of a.place) m → Pair zs (used p (sends m) a) b
+pub pair_sends : (zs : List Session) (a b : EndAt) (p : ℕ) (m : Msg) (next : Place) → Pair zs a b → after_place a.place Out m ≡ Some next → FitsNext zs (dual_of a.place) m → Pair zs (end_after p (sends m) a) b
 pair_sends zs a b p m next pair h fit =
     let t = for_sender zs a b next m h pair.even in
-    let grown : coming_messages b (used p (sends m) a) ≡ coming_messages b a ++ m ∷ [] =
+    let grown : coming_messages b (end_after p (sends m) a) ≡ coming_messages b a ++ m ∷ [] =
     ap (map (λ x. x.msg)) (drop_push (length b.takers) a.sent (record { msg = m; by = p }) pair.other_taken) ∙ map_push (drop (length b.takers) a.sent) (record { msg = m; by = p }) in
     record {
       even = inr (record {
         nothing_back = t.nothing_back;
-        leads = subst (λ (q : Place). LeadsTaker zs b.place (coming_messages b (used p (sends m) a)) (dual_of q)) (sym (moved_to a.place next (after_place a.place Out m) h))
+        leads = subst (λ (q : Place). LeadsTaker zs b.place (coming_messages b (end_after p (sends m) a)) (dual_of q)) (sym (moved_to a.place next (after_place a.place Out m) h))
             (subst (λ (ms : List Msg). LeadsTaker zs b.place ms (dual_of next)) (sym grown)
             (leads_push zs b.place (coming_messages b a) (dual_of a.place) m (dual_of next) t.leads fit (after_place-dual a.place m ∙ ap (option_map dual_of) h)));
       });
@@ -119,7 +119,7 @@ pair_taking zs a b x pair h =
     let l = subst (λ (ms : List Msg). LeadsTaker zs a.place ms (dual_of b.place)) e t.leads in
     record { next = l.0; fits = l.1; after = l.2 }
 
-pub pair_takes : (zs : List Session) (a b : EndAt) (p : ℕ) (x : Passed) → Pair zs a b → slice_get b.sent (length a.takers) ≡ Some x → Pair zs (used p (takes x.msg) a) b
+pub pair_takes : (zs : List Session) (a b : EndAt) (p : ℕ) (x : Passed) → Pair zs a b → slice_get b.sent (length a.takers) ≡ Some x → Pair zs (end_after p (takes x.msg) a) b
 pair_takes zs a b p x pair h =
     let e : coming_is a b x = ap (map (λ y. y.msg)) (drop_head (length a.takers) b.sent x h) in
     let t = for_taker zs a b x e pair.even in
@@ -134,9 +134,9 @@ pair_takes zs a b p x pair h =
       other_taken = pair.other_taken;
     }
 
-pub pair_hands : (zs : List Session) (a b : EndAt) (p : ℕ) → Pair zs a b → Pair zs (used p hands_on a) b
+pub pair_hands : (zs : List Session) (a b : EndAt) (p : ℕ) → Pair zs a b → Pair zs (end_after p delegates a) b
 pair_hands zs a b p pair = record { even = hands_even pair.even; one_taken = pair.one_taken; other_taken = pair.other_taken }
   where
-    hands_even : Ahead zs a b ⊎ Ahead zs b a → Ahead zs (used p hands_on a) b ⊎ Ahead zs b (used p hands_on a)
+    hands_even : Ahead zs a b ⊎ Ahead zs b a → Ahead zs (end_after p delegates a) b ⊎ Ahead zs b (end_after p delegates a)
     hands_even (inl t) = inl (record { nothing_back = t.nothing_back; leads = t.leads })
     hands_even (inr t) = inr (record { nothing_back = t.nothing_back; leads = t.leads })

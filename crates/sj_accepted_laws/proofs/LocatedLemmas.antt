@@ -6,15 +6,16 @@ use Rattle.sj_base.specs.declared.Msg.{Msg}
 use Rattle.sj_base.specs.declared.Msg.TheVariants as msgs
 use Rattle.sj_lang.specs.declared.party.Scalar.{Scalar}
 use Rattle.sj_lang.specs.declared.party.Scalar.TheVariants as kinds
-use Rattle.sj_lang.specs.Code.{Act, Branches, send, delegate, take_value, take_end, outbranch, inbranch, outwhile, inwhile, relay, if_else, let_be, close, no_branch, branch}
+use Rattle.sj_lang.specs.Code.{DeedAt, Branches, send, delegate, take_value, take_end, outbranch, inbranch, outwhile, inwhile, relay, if_else, let_be, close, no_branch, branch}
 use Rattle.sj_semantics.specs.declared.Want.{Want}
 use Rattle.sj_semantics.specs.declared.Want.TheVariants as wants
 use Rattle.sj_semantics.specs.declared.Awaits.{Awaits}
 use Rattle.sj_lang.specs.FileAt.{ProtocolAt, named}
-use Rattle.sj_semantics.specs.Value.{Vars, message_of, is_of_kind, worth, truth_of, turns_of}
+use Rattle.sj_semantics.specs.Value.{Vars, message_of, worth, truth_of, turns_of}
+use Rattle.sj_semantics.specs.Fitting.{is_of_kind, names_arm, fits_todo}
 use Rattle.sj_acceptance.specs.Environment.{Env}
-use Rattle.sj_semantics.specs.Program.{Thing, statement, turns, passing, Program, without}
-use Rattle.sj_semantics.specs.Wants.{want_send, want_delegate, want_take, more_turns, want_of_act, want_of_todo, want_of, names_arm, fits_todo}
+use Rattle.sj_semantics.specs.Program.{Thing, statement, turns, passing, Program, ends_without}
+use Rattle.sj_semantics.specs.Wants.{want_send, want_delegate, want_take, more_turns, want_of_deed, want_of_todo, want_of}
 use Rattle.sj_semantics.specs.Steps.{ends_after_sent, ends_after_took, ends_after_closed}
 use Rattle.sj_semantics.specs.Ends.{Session, end_at}
 use Rattle.sj_accepted_laws.proofs.NameLemmas.{Agrees, named-bound_same, named-bound_other}
@@ -24,8 +25,8 @@ use Rattle.sj_accepted_laws.proofs.TouchedLemmas.{side}
 -- what a step does to the names of ends, by what it wants
 abbrev pub EndsGo : List (ℕ × EndId) → List Thing → Want → Type 0
 EndsGo ends todo (wants.Send e m) = ends_after_sent ends todo ≡ ends
-EndsGo ends todo (wants.Delegate e y) = (n : ℕ) × (named ends n ≡ Some y) × (ends_after_sent ends todo ≡ without ends n)
-EndsGo ends todo (wants.Close e) = (n : ℕ) × (named ends n ≡ Some e) × (ends_after_closed ends todo ≡ without ends n)
+EndsGo ends todo (wants.Delegate e y) = (n : ℕ) × (named ends n ≡ Some y) × (ends_after_sent ends todo ≡ ends_without ends n)
+EndsGo ends todo (wants.Close e) = (n : ℕ) × (named ends n ≡ Some e) × (ends_after_closed ends todo ≡ ends_without ends n)
 EndsGo ends todo wants.Ended = todo ≡ []
 EndsGo ends todo wants.Local = ⊤
 EndsGo ends todo (wants.Take e a) = ⊤
@@ -57,7 +58,7 @@ delegate_go ends x y rest (Some e) (Some f) h = (y, h, refl)
 delegate_go ends x y rest (Some e) None h = tt
 delegate_go ends x y rest None q h = tt
 
-act_go : (vars : Vars) (ends : List (ℕ × EndId)) (act : Act) (rest : List Thing) → EndsGoIf ends (statement act ∷ rest) (want_of_act vars ends act)
+act_go : (vars : Vars) (ends : List (ℕ × EndId)) (act : DeedAt) (rest : List Thing) → EndsGoIf ends (statement act ∷ rest) (want_of_deed vars ends act)
 act_go vars ends (send x v) rest = send_go ends (statement (send x v) ∷ rest) (named ends x) (option_map message_of (worth vars v)) refl
 act_go vars ends (delegate x y) rest = delegate_go ends x y rest (named ends x) (named ends y) refl
 act_go vars ends (take_value x n k) rest = take_go ends (statement (take_value x n k) ∷ rest) (named ends x) _

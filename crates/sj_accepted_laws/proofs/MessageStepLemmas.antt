@@ -15,7 +15,7 @@ use Rattle.sj_semantics.specs.declared.Awaits.TheVariants as awaits
 use Rattle.sj_lang.specs.FileAt.{ProtocolAt, protocol_named, named}
 use Rattle.sj_semantics.specs.declared.Value.{Value}
 use Rattle.sj_semantics.specs.Value.{with_value, Vars, message_of, worth}
-use Rattle.sj_semantics.specs.Program.{Thing, statement, Program, without, bound}
+use Rattle.sj_semantics.specs.Program.{Thing, statement, Program, ends_without, ends_with}
 use Rattle.sj_semantics.specs.Steps.{assigned}
 use Rattle.sj_semantics.specs.Wants.{want_send, want_delegate, want_take}
 use Rattle.sj_acceptance.specs.Statements.{IsSend, IsDelegate, IsTakeValue, IsTakeEnd}
@@ -66,7 +66,7 @@ module _ (ps : List ProtocolAt) (zs : List Session) (vars : Vars) (ends : List (
           next = s.rest;
           carries = b.at ∙ ap (λ (p : Place). message Out (session p) s.rest) (sym d.at);
           not_empty = λ h. s.not_empty (sym d.at ∙ h);
-          onward = λ new m. continues_fit ps new rest vars (without ends y) (without_end (at_place env x s.rest) y)
+          onward = λ new m. continues_fit ps new rest vars (ends_without ends y) (without_end (at_place env x s.rest) y)
               (agrees_without new ends vars (at_place env x s.rest) y (agrees_moved zs new ends vars env x b.end s.rest a b.it_is m)) (subst (Continues ps rest) s.leaves c);
         };
       }
@@ -98,7 +98,7 @@ module _ (ps : List ProtocolAt) (zs : List Session) (vars : Vars) (ends : List (
         name = x;
         is_named = b.it_is;
         can_take = refl;
-        onward = λ new mv kept. continues_fit ps new rest vars (bound ends y (record { sess = t; side = d })) (at_place (at_place env x nx) y s.place)
+        onward = λ new mv kept. continues_fit ps new rest vars (ends_with ends y (record { sess = t; side = d })) (at_place (at_place env x nx) y s.place)
             (agrees_bound new ends vars (at_place env x nx) y (record { sess = t; side = d }) s.place (agrees_moved zs new ends vars env x b.end nx a b.it_is mv) (kept ∙ fit.1))
             (subst (λ (q : Place). Continues ps rest (at_place (at_place env x q) y s.place)) same (subst (Continues ps rest) s.leaves c));
       }

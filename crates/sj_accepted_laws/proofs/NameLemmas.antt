@@ -5,7 +5,7 @@ use Rattle.std.proofs.lemmas.Bool.{cases_Bool, eqb-true, eq-eqb, ne_eqb}
 use Rattle.sj_base.specs.declared.EndId.{EndId}
 use Rattle.sj_lang.specs.declared.party.Scalar.{Scalar}
 use Rattle.sj_lang.specs.declared.party.Scalar.TheVariants as kinds
-use Rattle.sj_semantics.specs.Program.{without, bound}
+use Rattle.sj_semantics.specs.Program.{ends_without, ends_with}
 use Rattle.sj_semantics.specs.declared.Value.{Value}
 use Rattle.sj_semantics.specs.declared.Value.TheVariants.{Int, Boolean, Text}
 use Rattle.sj_semantics.specs.Value.{Vars}
@@ -54,35 +54,35 @@ named-append_some (b ∷ bs) cs n x h =
           ap (λ (t : Bool). cond t (Some b.1) (named (bs ++ cs) n)) miss ∙ named-append_some bs cs n x later
     ]
 
-pub named-without_same : (bs : List (ℕ × EndId)) (n : ℕ) → named (without bs n) n ≡ None
+pub named-without_same : (bs : List (ℕ × EndId)) (n : ℕ) → named (ends_without bs n) n ≡ None
 named-without_same [] n = refl
 named-without_same (b ∷ bs) n =
     elim (cases_Bool (b.0 == n)) [
-      | inl hit ↦ ap (λ (t : Bool). named (cond (not t) (b ∷ without bs n) (without bs n)) n) hit ∙ named-without_same bs n
-      | inr miss ↦ ap (λ (t : Bool). named (cond (not t) (b ∷ without bs n) (without bs n)) n) miss ∙ ap (λ (t : Bool). cond t (Some b.1) (named (without bs n) n)) miss ∙ named-without_same bs n
+      | inl hit ↦ ap (λ (t : Bool). named (cond (not t) (b ∷ ends_without bs n) (ends_without bs n)) n) hit ∙ named-without_same bs n
+      | inr miss ↦ ap (λ (t : Bool). named (cond (not t) (b ∷ ends_without bs n) (ends_without bs n)) n) miss ∙ ap (λ (t : Bool). cond t (Some b.1) (named (ends_without bs n) n)) miss ∙ named-without_same bs n
     ]
 
-pub named-without_other : (bs : List (ℕ × EndId)) (n m : ℕ) → (m ≡ n → ⊥) → named (without bs n) m ≡ named bs m
+pub named-without_other : (bs : List (ℕ × EndId)) (n m : ℕ) → (m ≡ n → ⊥) → named (ends_without bs n) m ≡ named bs m
 named-without_other [] n m ne = refl
 named-without_other (b ∷ bs) n m ne =
     elim (cases_Bool (b.0 == n)) [
       | inl hit ↦
-          ap (λ (t : Bool). named (cond (not t) (b ∷ without bs n) (without bs n)) m) hit ∙ named-without_other bs n m ne
+          ap (λ (t : Bool). named (cond (not t) (b ∷ ends_without bs n) (ends_without bs n)) m) hit ∙ named-without_other bs n m ne
           ∙ sym (ap (λ (t : Bool). cond t (Some b.1) (named bs m)) (ne_eqb b.0 m (λ e. ne (sym e ∙ eqb-true b.0 n hit))))
-      | inr miss ↦ ap (λ (t : Bool). named (cond (not t) (b ∷ without bs n) (without bs n)) m) miss ∙ ap (cond (b.0 == m) (Some b.1)) (named-without_other bs n m ne)
+      | inr miss ↦ ap (λ (t : Bool). named (cond (not t) (b ∷ ends_without bs n) (ends_without bs n)) m) miss ∙ ap (cond (b.0 == m) (Some b.1)) (named-without_other bs n m ne)
     ]
 
-pub named-bound_same : (bs : List (ℕ × EndId)) (n : ℕ) (x : EndId) → named (bound bs n x) n ≡ Some x
-named-bound_same bs n x = named-append (without bs n) ((n, x) ∷ []) n (named-without_same bs n) ∙ ap (λ (t : Bool). cond t (Some x) None) (eq-eqb n n refl)
+pub named-bound_same : (bs : List (ℕ × EndId)) (n : ℕ) (x : EndId) → named (ends_with bs n x) n ≡ Some x
+named-bound_same bs n x = named-append (ends_without bs n) ((n, x) ∷ []) n (named-without_same bs n) ∙ ap (λ (t : Bool). cond t (Some x) None) (eq-eqb n n refl)
 
 pub named-one_other : (n m : ℕ) (x : EndId) → (m ≡ n → ⊥) → named ((n, x) ∷ []) m ≡ None
 named-one_other n m x ne = ap (λ (t : Bool). cond t (Some x) None) (ne_eqb n m (λ e. ne (sym e)))
 
-pub named-bound_by : (bs : List (ℕ × EndId)) (n m : ℕ) (x : EndId) (o : Option EndId) → named (without bs n) m ≡ o → (m ≡ n → ⊥) → named (bound bs n x) m ≡ o
-named-bound_by bs n m x None h ne = named-append (without bs n) ((n, x) ∷ []) m h ∙ named-one_other n m x ne
-named-bound_by bs n m x (Some y) h ne = named-append_some (without bs n) ((n, x) ∷ []) m y h
+pub named-bound_by : (bs : List (ℕ × EndId)) (n m : ℕ) (x : EndId) (o : Option EndId) → named (ends_without bs n) m ≡ o → (m ≡ n → ⊥) → named (ends_with bs n x) m ≡ o
+named-bound_by bs n m x None h ne = named-append (ends_without bs n) ((n, x) ∷ []) m h ∙ named-one_other n m x ne
+named-bound_by bs n m x (Some y) h ne = named-append_some (ends_without bs n) ((n, x) ∷ []) m y h
 
-pub named-bound_other : (bs : List (ℕ × EndId)) (n m : ℕ) (x : EndId) → (m ≡ n → ⊥) → named (bound bs n x) m ≡ named bs m
+pub named-bound_other : (bs : List (ℕ × EndId)) (n m : ℕ) (x : EndId) → (m ≡ n → ⊥) → named (ends_with bs n x) m ≡ named bs m
 named-bound_other bs n m x ne = named-bound_by bs n m x (named bs m) (named-without_other bs n m ne) ne
 
 pub put_same : {X : Type 0} (f : ℕ → Option X) (n : ℕ) (o : Option X) → put f n o n ≡ o

@@ -9,9 +9,8 @@ use Rattle.sj_lang.specs.FileAt.{FileAt, ProtocolAt, PartyAt, DeclAt, ConnectAt,
 use Rattle.sj_acceptance.specs.Accepted.{IsConnection, IsAccepted}
 use Rattle.sj_semantics.specs.State.{verdict_of}
 use Rattle.sj_semantics.specs.Run.{after_acts, IsRun}
-use Rattle.sj_semantics.specs.World.{World, act_of}
+use Rattle.sj_semantics.specs.World.{World, act_of, session_of, program_of, start_of}
 use Rattle.sj_semantics.specs.Ends.{Session, untaken_for, is_same_side, is_end}
-use Rattle.sj_semantics.specs.Start.{session_of, program_of, start_of}
 use Rattle.sj_semantics.proofs.StartLemmas.{program_at_start}
 use Rattle.sj_semantics_laws.proofs.RunLemmas.{between}
 use Rattle.sj_accepted_laws.proofs.TouchedLemmas.{side, Sound, exists_at}

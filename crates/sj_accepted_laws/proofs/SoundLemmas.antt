@@ -16,7 +16,7 @@ use Rattle.sj_semantics.specs.Wants.{want_of}
 use Rattle.sj_semantics.specs.Steps.{local_of, sent_of, closed_of}
 use Rattle.sj_semantics.specs.World.{World, Change, session_message, change_by_taking, change_by, act_of}
 use Rattle.sj_semantics.specs.Ends.{Session, end_at, next_for}
-use Rattle.sj_semantics.specs.Uses.{sends, hands_on, altered, after_uses}
+use Rattle.sj_semantics.specs.Uses.{sends, delegates, altered, after_uses}
 use Rattle.sj_semantics_laws.specs.Unshared.{IsUnshared}
 use Rattle.sj_semantics_laws.proofs.AlteredLemmas.{slice_get-altered, slice_get-altered_other}
 use Rattle.sj_semantics_laws.specs.Bound.{IsBound}
@@ -50,7 +50,7 @@ by_after ps w p g sound there wants.Ended it fit d h = cc
 by_after ps w p g sound there wants.Local it fit d h = cond_after ps w p true (record { program = local_of g; uses = [] }) d (after_nothing ps w p (local_of g) sound fit) h
 by_after ps w p g sound there (wants.Send e m) it fit d h = cond_after ps w p true (record { program = sent_of g; uses = (e, sends m) ∷ [] }) d (after_sending ps w p g sound there e m fit (want_frees e g (wants.Send e m) it)) h
 by_after ps w p g sound there (wants.Delegate e y) it fit d h =
-    cond_after ps w p (nat_lt (end_at w.sessions y).hops 100) (record { program = sent_of g; uses = (y, hands_on) ∷ (e, sends (session_message y p)) ∷ [] }) d (after_delegating ps w p g sound there e y fit) h
+    cond_after ps w p (nat_lt (end_at w.sessions y).hops 100) (record { program = sent_of g; uses = (y, delegates) ∷ (e, sends (session_message y p)) ∷ [] }) d (after_delegating ps w p g sound there e y fit) h
 by_after ps w p g sound there (wants.Take e a) it fit d h = taking_after ps w p g sound there e (want_bound g (wants.Take e a) it) fit d (next_for w.sessions e) refl h
 by_after ps w p g sound there (wants.Close e) it fit d h = cond_after ps w p true (record { program = closed_of g; uses = [] }) d (after_nothing ps w p (closed_of g) sound fit.1) h
 

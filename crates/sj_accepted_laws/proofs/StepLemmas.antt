@@ -1,7 +1,7 @@
 -- Each statement's step fits.
 use Rattle.std.proofs.Common.{ℕ, List, [], ◌∷◌, refl}
 use Rattle.sj_base.specs.declared.EndId.{EndId}
-use Rattle.sj_lang.specs.Code.{Act, send, delegate, take_value, take_end, outbranch, inbranch, outwhile, inwhile, relay, if_else, let_be, close}
+use Rattle.sj_lang.specs.Code.{DeedAt, send, delegate, take_value, take_end, outbranch, inbranch, outwhile, inwhile, relay, if_else, let_be, close}
 use Rattle.sj_semantics.specs.declared.Want.TheVariants as wants
 use Rattle.sj_lang.specs.FileAt.{ProtocolAt}
 use Rattle.sj_semantics.specs.Value.{Vars}
@@ -22,7 +22,7 @@ going_on : (ps : List ProtocolAt) (rest : List Thing) (mid next : Env) → Forge
 going_on ps rest mid next f d = record { next = next; forgets = f; does = d }
 
 act_step : (ps : List ProtocolAt) (zs : List Session) (vars : Vars) (ends : List (ℕ × EndId)) (steps : ℕ) (rest : List Thing) (env : Env) → (a : Agrees zs ends vars env)
-    → (act : Act) (mid : Env) → Does ps act env mid → Continues ps rest mid → StepOf ps zs (record { todo = statement act ∷ rest; vars = vars; ends = ends; steps = steps })
+    → (act : DeedAt) (mid : Env) → Does ps act env mid → Continues ps rest mid → StepOf ps zs (record { todo = statement act ∷ rest; vars = vars; ends = ends; steps = steps })
 act_step ps zs vars ends steps rest env a (send x e) mid s c = send_step ps zs vars ends steps rest env a x e mid s c
 act_step ps zs vars ends steps rest env a (delegate x y) mid s c = delegate_step ps zs vars ends steps rest env a x y mid s c
 act_step ps zs vars ends steps rest env a (take_value x n k) mid s c = take_value_step ps zs vars ends steps rest env a x n k mid s c

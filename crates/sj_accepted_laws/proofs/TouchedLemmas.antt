@@ -9,7 +9,7 @@ use Rattle.sj_lang.specs.FileAt.{ProtocolAt}
 use Rattle.sj_semantics.specs.Program.{Program}
 use Rattle.sj_semantics.specs.World.{World}
 use Rattle.sj_semantics.specs.Ends.{Session, EndAt, end_on, other_end, nowhere, end_at, is_same_side, is_end}
-use Rattle.sj_semantics.specs.Uses.{Use, used, on_side}
+use Rattle.sj_semantics.specs.Uses.{Use, end_after, on_side}
 use Rattle.sj_semantics_laws.specs.Unshared.{IsUnshared}
 use Rattle.sj_semantics_laws.proofs.AlteredLemmas.{slice_get-altered}
 use Rattle.sj_semantics_laws.proofs.EndLemmas.{touched, end_at-touched_other}
@@ -34,10 +34,10 @@ pub end_on-on_side : (d : ℕ) (f : EndAt → EndAt) (z : Session) → end_on d 
 end_on-on_side zero f z = refl
 end_on-on_side (suc d) f z = refl
 
-pub touched_here : (p : ℕ) (zs : List Session) (s d : ℕ) (u : Use) (z : Session) → slice_get zs s ≡ Some z → end_at (touched p zs (side s d, u)) (side s d) ≡ used p u (end_at zs (side s d))
+pub touched_here : (p : ℕ) (zs : List Session) (s d : ℕ) (u : Use) (z : Session) → slice_get zs s ≡ Some z → end_at (touched p zs (side s d, u)) (side s d) ≡ end_after p u (end_at zs (side s d))
 touched_here p zs s d u z h =
-    ap (λ o. unwrap_or (option_map (end_on d) o) nowhere) (slice_get-altered zs s (on_side d (used p u)) ∙ ap (option_map (on_side d (used p u))) h)
-    ∙ end_on-on_side d (used p u) z ∙ sym (ap (λ o. used p u (unwrap_or (option_map (end_on d) o) nowhere)) h)
+    ap (λ o. unwrap_or (option_map (end_on d) o) nowhere) (slice_get-altered zs s (on_side d (end_after p u)) ∙ ap (option_map (on_side d (end_after p u))) h)
+    ∙ end_on-on_side d (end_after p u) z ∙ sym (ap (λ o. end_after p u (unwrap_or (option_map (end_on d) o) nowhere)) h)
 
 pub other_session_other_end : (s t c d : ℕ) → (s ≡ t → ⊥) → is_end (side s c) (side t d) ≡ false
 other_session_other_end s t c d ne = and_left (s == t) (is_same_side c d) (ne_eqb s t ne)
@@ -47,16 +47,16 @@ same_session s c d h = Rattle.std.proofs.lemmas.Bool.and_right (s == s) (is_same
 
 -- where the pair of the touched end is one again, so are all
 pub pairs_touched_at : (p : ℕ) (zs new : List Session) (s d : ℕ) (u : Use) (z : Session) → slice_get zs s ≡ Some z
-    → Pair new (used p u (end_at zs (side s d))) (end_at zs (other_end (side s d))) → PairAt new (touched p zs (side s d, u)) s
+    → Pair new (end_after p u (end_at zs (side s d))) (end_at zs (other_end (side s d))) → PairAt new (touched p zs (side s d, u)) s
 pairs_touched_at p zs new s zero u z h pair =
     subst (λ (a : EndAt). Pair new a (end_at (touched p zs (side s 0, u)) (side s 1))) (sym (touched_here p zs s 0 u z h))
-    (subst (λ (b : EndAt). Pair new (used p u (end_at zs (side s 0))) b) (sym (end_at-touched_other p zs (side s 0, u) (side s 1) (same_session s 0 1 refl))) pair)
+    (subst (λ (b : EndAt). Pair new (end_after p u (end_at zs (side s 0))) b) (sym (end_at-touched_other p zs (side s 0, u) (side s 1) (same_session s 0 1 refl))) pair)
 pairs_touched_at p zs new s (suc d) u z h pair =
     subst (λ (a : EndAt). Pair new a (end_at (touched p zs (side s (suc d), u)) (side s 1))) (sym (end_at-touched_other p zs (side s (suc d), u) (side s 0) (same_session s (suc d) 0 refl)))
     (subst (λ (b : EndAt). Pair new (end_at zs (side s 0)) b) (sym (touched_here p zs s (suc d) u z h)) (pair_swap new _ _ pair))
 
 pub pairs_touched : (p : ℕ) (zs new : List Session) (e : EndId) (u : Use) (z : Session) → slice_get zs e.sess ≡ Some z
-    → Pair new (used p u (end_at zs e)) (end_at zs (other_end e)) → ((s : ℕ) → PairAt new zs s) → (s : ℕ) → PairAt new (touched p zs (e, u)) s
+    → Pair new (end_after p u (end_at zs e)) (end_at zs (other_end e)) → ((s : ℕ) → PairAt new zs s) → (s : ℕ) → PairAt new (touched p zs (e, u)) s
 pairs_touched p zs new e u z h pair old s =
     elim (cases_eq e.sess s) [
       | inl it ↦ subst (PairAt new (touched p zs (e, u))) it (pairs_touched_at p zs new e.sess e.side u z h pair)

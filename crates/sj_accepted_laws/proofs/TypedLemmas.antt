@@ -8,13 +8,14 @@ use Rattle.sj_lang.specs.declared.proto.Way.TheVariants.{Out, Into}
 use Rattle.sj_lang.specs.Place.{Place, done, message, repeat, session}
 use Rattle.sj_lang.specs.Dual.{dual_of}
 use Rattle.sj_lang.specs.After.{followed_by, after_place}
-use Rattle.sj_lang.specs.Code.{Code, no_step, step_then, at}
+use Rattle.sj_lang.specs.Code.{Code, no_stmt, stmt_then, at}
 use Rattle.sj_semantics.specs.declared.Want.{Want}
 use Rattle.sj_semantics.specs.declared.Want.TheVariants as wants
 use Rattle.sj_lang.specs.FileAt.{ProtocolAt, named}
 use Rattle.sj_semantics.specs.Value.{Vars}
 use Rattle.sj_semantics.specs.Program.{Thing, statement, turns, passing, Program, block}
-use Rattle.sj_semantics.specs.Wants.{want_of, fits}
+use Rattle.sj_semantics.specs.Wants.{want_of}
+use Rattle.sj_semantics.specs.Fitting.{fits}
 use Rattle.sj_semantics.specs.Steps.{local_of, sent_of, took_of, closed_of}
 use Rattle.sj_acceptance.specs.Environment.{Env, at_place}
 use Rattle.sj_acceptance.specs.Follows.{Follows, Does}
@@ -73,8 +74,8 @@ pub continues_fit : (ps : List ProtocolAt) (zs : List Session) (todo : List Thin
 continues_fit ps zs todo vars ends env a c = record { env = c.next; agrees = agrees_forgetting zs ends vars env c.next a c.forgets; does = c.does }
 
 pub block_continues : (ps : List ProtocolAt) (code : Code) (rest : List Thing) (env last : Env) → Follows ps code env last → Continues ps rest last → Continues ps (block code rest) env
-block_continues ps no_step rest env last f c = subst (Continues ps rest) (sym f) c
-block_continues ps (step_then (at line a) code) rest env last f c =
+block_continues ps no_stmt rest env last f c = subst (Continues ps rest) (sym f) c
+block_continues ps (stmt_then (at line a) code) rest env last f c =
     let d = block_continues ps code rest f.0 last f.2 c in
     record { next = env; forgets = forgets_none env; does = (f.0, (f.1, (d.next, (d.forgets, d.does)))) }
 

@@ -8,7 +8,7 @@ use Rattle.sj_lang.specs.Place.{Place}
 use Rattle.sj_semantics.specs.declared.Passed.{Passed}
 use Rattle.sj_lang.specs.FileAt.{ProtocolAt, named}
 use Rattle.sj_semantics.specs.Value.{Vars}
-use Rattle.sj_semantics.specs.Program.{Thing, Program, without}
+use Rattle.sj_semantics.specs.Program.{Thing, Program, ends_without}
 use Rattle.sj_semantics.specs.World.{World}
 use Rattle.sj_semantics.specs.Ends.{Session, end_on, other_side, other_end, nowhere, end_at, is_end}
 use Rattle.sj_semantics.specs.Uses.{Use}
@@ -89,8 +89,8 @@ names_apart ends x n e f le hx hn ne =
       le,
       bindings_of-without e ends x e hx,
       ap {B = ℕ} one_if (is_end-self e),
-      (named_is_bound (without ends x) n f (named-without_other ends x n ne ∙ hn)).some_name,
-      bindings_of-le e f (without ends x) t,
+      (named_is_bound (ends_without ends x) n f (named-without_other ends x n ne ∙ hn)).some_name,
+      bindings_of-le e f (ends_without ends x) t,
     )))
 
 pub bindings_once : (w : World) (p : ℕ) (g : Program) (e : EndId) → IsUnshared w → slice_get w.parties p ≡ Some g → bindings_of e g.ends ≤ 1

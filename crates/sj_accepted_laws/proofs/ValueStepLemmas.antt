@@ -10,7 +10,8 @@ use Rattle.sj_lang.specs.Dual.{dual_of}
 use Rattle.sj_lang.specs.After.{followed_by, after_place}
 use Rattle.sj_semantics.specs.declared.Value.{Value}
 use Rattle.sj_semantics.specs.declared.Value.TheVariants.{Int, Boolean, Text}
-use Rattle.sj_semantics.specs.Value.{message_of, value_of, is_of_kind, turns_of, truth_of}
+use Rattle.sj_semantics.specs.Value.{message_of, value_of, turns_of, truth_of}
+use Rattle.sj_semantics.specs.Fitting.{is_of_kind}
 use Rattle.sj_semantics.specs.Wants.{more_turns}
 use Rattle.sj_acceptance.specs.Kinds.{carried_by}
 use Rattle.sj_semantics.specs.Balanced.{FitsNext}

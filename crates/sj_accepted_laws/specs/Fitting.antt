@@ -7,7 +7,7 @@ use Rattle.sj_semantics.specs.declared.Want.{Want}
 use Rattle.sj_semantics.specs.declared.Want.TheVariants as wants
 use Rattle.sj_semantics.specs.Ends.{Session, end_at}
 
--- a place follows what is sent, an end that is handed on is at the carried place, and an end that is closed is at its end
+-- a place follows what is sent, an end that is delegated is at the carried place, and an end that is closed is at its end
 abbrev pub FitsPlaces : List Session → Want → Type 0
 FitsPlaces zs (wants.Send e m) = (next : Place) × (after_place (end_at zs e).place Out m ≡ Some next)
 FitsPlaces zs (wants.Delegate e y) =

@@ -15,11 +15,10 @@ use Rattle.sj_semantics.specs.Balanced.{FitsNext}
 use Rattle.sj_semantics.specs.Ends.{Session, end_at, other_end}
 use Rattle.sj_semantics.specs.Program.{Program}
 use Rattle.sj_semantics.specs.Run.{IsRun}
-use Rattle.sj_semantics.specs.Start.{start_of}
+use Rattle.sj_semantics.specs.World.{start_of, World, Change, change_of}
 use Rattle.sj_semantics.specs.State.{IsSettled, verdict_of}
 use Rattle.sj_semantics.specs.Uses.{takes}
 use Rattle.sj_semantics.specs.Wants.{want_of}
-use Rattle.sj_semantics.specs.World.{World, Change, change_of}
 use Rattle.sj_semantics_laws.specs.Bound.{AreBound, UsesBound}
 use Rattle.sj_semantics_laws.specs.Runs.{IsBoundAt, IsBoundNowhere, IsUntaken}
 

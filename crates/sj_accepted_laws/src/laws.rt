@@ -23,10 +23,10 @@ ghost use Rattle.sj_semantics.specs.Balanced.{FitsNext, IsBalanced};
 ghost use Rattle.sj_semantics.specs.Ends.{end_at, next_for, other_end, untaken_for};
 ghost use Rattle.sj_semantics.specs.Program.{Program};
 ghost use Rattle.sj_semantics.specs.Run.{IsRun};
-ghost use Rattle.sj_semantics.specs.Start.{start_of};
+ghost use Rattle.sj_semantics.specs.World.{start_of, World};
 ghost use Rattle.sj_semantics.specs.State.{IsSettled, verdict_of};
-ghost use Rattle.sj_semantics.specs.Wants.{fits, want_of};
-ghost use Rattle.sj_semantics.specs.World.{World};
+ghost use Rattle.sj_semantics.specs.Wants.{want_of};
+ghost use Rattle.sj_semantics.specs.Fitting.{fits};
 ghost use Rattle.sj_semantics.specs.declared.Awaits.{Awaits};
 ghost use Rattle.sj_semantics.specs.declared.Awaits.TheVariants.{Session};
 ghost use Rattle.sj_semantics.specs.declared.Passed.{Passed};
@@ -53,7 +53,7 @@ pub fn no_program_is_stuck()
         (want : Want) × (want_of g ≡ Some want) }
 {}
 
-/// A place follows what the step sends, an end that it hands on is at the carried place, and an
+/// A place follows what the step sends, an end that it delegates is at the carried place, and an
 /// end that it closes is at its end.
 pub fn steps_fit_the_places()
     ensures { (file : FileAt) (ps : List ℕ) (w : World) (p : ℕ) (g : Program) (want : Want) →

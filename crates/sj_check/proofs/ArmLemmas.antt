@@ -3,13 +3,14 @@ use Rattle.std.proofs.Common.{◌≡◌, ℕ, zero, ◌+◌, ◌<◌, ◌≤◌,
 use Rattle.sj_lang.specs.declared.party.Stmt.{Stmt}
 use Rattle.sj_lang.specs.declared.party.StmtArm.{StmtArm, out-StmtArm}
 use Rattle.sj_lang.specs.Code as code
-use Rattle.sj_lang.specs.Code.{Code, Step, Branches, code_of, arm_of, branches_of}
-use Rattle.sj_acceptance.specs.Known.{Known, moved}
+use Rattle.sj_lang.specs.Code.{Code, StmtAt, Branches}
+use Rattle.sj_lang.specs.CodeView.{code_of, arm_of, branches_of}
+use Rattle.sj_acceptance.specs.EnvAt.{EnvAt, with_live}
 use Rattle.sj_lang.specs.FileAt.{ProtocolAt}
 use Rattle.sj_acceptance.specs.Faults.{first_fault}
 use Rattle.sj_acceptance.specs.FirstItem.{arm_place}
-use Rattle.sj_acceptance.specs.Tests.{code_tests, after_code, step_tests, branches_tests, after_branches, branching_tests}
-use Rattle.sj_acceptance.specs.Known.{place_at}
+use Rattle.sj_acceptance.specs.Tests.{code_tests, after_code, stmt_tests, branches_tests, after_branches, branching_tests}
+use Rattle.sj_acceptance.specs.EnvAt.{place_at}
 use Rattle.sj_acceptance.specs.Arms.{is_one}
 use Rattle.sj_check.specs.declared.refusal.CheckRefusal.{CheckRefusal}
 use Rattle.sj_check.specs.Told.{Tells}
@@ -42,8 +43,8 @@ pub and_true : (a : Bool) → (a && true) ≡ a
 and_true true = refl
 and_true false = refl
 
-module _ (ps : List ProtocolAt) (env : Known) (x : ℕ) (arms : List StmtArm) (i : ℕ) (a : StmtArm) (h : i < length arms) (e : a ≡ get_or arms i a)
-    (xs : List Stmt) (body : xs ≡ (out-StmtArm a).body.items) (inner : Known) (is : inner ≡ moved env x (arm_place (out-StmtArm a).label (place_at env x))) where
+module _ (ps : List ProtocolAt) (env : EnvAt) (x : ℕ) (arms : List StmtArm) (i : ℕ) (a : StmtArm) (h : i < length arms) (e : a ≡ get_or arms i a)
+    (xs : List Stmt) (body : xs ≡ (out-StmtArm a).body.items) (inner : EnvAt) (is : inner ≡ with_live env x (arm_place (out-StmtArm a).label (place_at env x))) where
   next : from arms i ≡ code.branch (out-StmtArm a).label (code_of xs) (from arms (i + 1))
   next = from-next arms i a h e ∙ ap (λ ys. code.branch (out-StmtArm a).label (code_of ys) (from arms (i + 1))) (sym body)
 
@@ -56,14 +57,14 @@ module _ (ps : List ProtocolAt) (env : Known) (x : ℕ) (arms : List StmtArm) (i
   pub arm-tests : first_fault (code_tests ps inner (code_of xs)) ≡ None → first_fault (branches_tests ps env x (from arms (i + 1))) ≡ first_fault (branches_tests ps env x (from arms i))
   arm-tests p = sym (ap first_fault parts ∙ behind (code_tests ps inner (code_of xs)) (branches_tests ps env x (from arms (i + 1))) p)
 
-  pub arm-after : (out : Known) → out ≡ after_code ps inner (code_of xs) → after_branches ps env x (from arms i) ≡ out ∷ after_branches ps env x (from arms (i + 1))
+  pub arm-after : (out : EnvAt) → out ≡ after_code ps inner (code_of xs) → after_branches ps env x (from arms i) ≡ out ∷ after_branches ps env x (from arms (i + 1))
   arm-after out o = ap (after_branches ps env x) next ∙ ap (λ v. after_code ps v (code_of xs) ∷ after_branches ps env x (from arms (i + 1))) (sym is)
       ∙ ap (λ v. v ∷ after_branches ps env x (from arms (i + 1))) (sym o)
 
 -- the tests of the whole statement
-module _ (ps : List ProtocolAt) (line : ℕ) (env : Known) (w : Step) (x : ℕ) (bs : Branches) (is : w ≡ code.at line (code.inbranch x bs)) (p : first_fault (branching_tests line env x bs) ≡ None) where
-  pub branch-arms : (r : CheckRefusal) → Tells (first_fault (branches_tests ps env x bs)) r → Tells (first_fault (step_tests ps env w)) r
+module _ (ps : List ProtocolAt) (line : ℕ) (env : EnvAt) (w : StmtAt) (x : ℕ) (bs : Branches) (is : w ≡ code.at line (code.inbranch x bs)) (p : first_fault (branching_tests line env x bs) ≡ None) where
+  pub branch-arms : (r : CheckRefusal) → Tells (first_fault (branches_tests ps env x bs)) r → Tells (first_fault (stmt_tests ps env w)) r
   branch-arms r t = rw is (Tells-front (branching_tests line env x bs ++ branches_tests ps env x bs) _ r (Tells-behind (branching_tests line env x bs) (branches_tests ps env x bs) r p t))
 
-  pub branch-ends : (b : Bool) → first_fault (branches_tests ps env x bs) ≡ None → b ≡ is_one (after_branches ps env x bs) → first_fault (step_tests ps env w) ≡ cond b None (Some (9, line))
+  pub branch-ends : (b : Bool) → first_fault (branches_tests ps env x bs) ≡ None → b ≡ is_one (after_branches ps env x bs) → first_fault (stmt_tests ps env w) ≡ cond b None (Some (9, line))
   branch-ends b q o = rw (is, o) (behind (branching_tests line env x bs ++ branches_tests ps env x bs) _ (behind (branching_tests line env x bs) (branches_tests ps env x bs) p ∙ q))

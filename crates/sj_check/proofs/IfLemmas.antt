@@ -2,24 +2,24 @@
 use Rattle.std.proofs.Common.{List, ◌≡◌, ℕ, ◌++◌, Some, None, cond, ◌∙◌}
 use Rattle.sj_lang.specs.Term.{Term}
 use Rattle.sj_lang.specs.Code as code
-use Rattle.sj_lang.specs.Code.{Code, Step}
-use Rattle.sj_acceptance.specs.Known.{Known}
+use Rattle.sj_lang.specs.Code.{Code, StmtAt}
+use Rattle.sj_acceptance.specs.EnvAt.{EnvAt}
 use Rattle.sj_lang.specs.FileAt.{ProtocolAt}
 use Rattle.sj_acceptance.specs.Faults.{first_fault}
 use Rattle.sj_acceptance.specs.Sameness.{is_same_ends}
-use Rattle.sj_acceptance.specs.Tests.{step_tests, code_tests, after_code, condition_tests}
+use Rattle.sj_acceptance.specs.Tests.{stmt_tests, code_tests, after_code, condition_tests}
 use Rattle.sj_check.specs.declared.refusal.CheckRefusal.{CheckRefusal}
 use Rattle.sj_check.specs.Told.{Tells}
 use Rattle.sj_check.proofs.FaultLemmas.{behind, Tells-front, Tells-behind}
 
-module _ (ps : List ProtocolAt) (line : ℕ) (env : Known) (w : Step) (e : Term) (first second : Code) (is : w ≡ code.at line (code.if_else e first second)) where
+module _ (ps : List ProtocolAt) (line : ℕ) (env : EnvAt) (w : StmtAt) (e : Term) (first second : Code) (is : w ≡ code.at line (code.if_else e first second)) where
   -- up to the arms
-  pub if-condition : (r : CheckRefusal) → Tells (first_fault (condition_tests line env e)) r → Tells (first_fault (step_tests ps env w)) r
+  pub if-condition : (r : CheckRefusal) → Tells (first_fault (condition_tests line env e)) r → Tells (first_fault (stmt_tests ps env w)) r
   if-condition r t = rw is (Tells-front (condition_tests line env e ++ code_tests ps env first ++ code_tests ps env second) _ r
       (Tells-front (condition_tests line env e ++ code_tests ps env first) (code_tests ps env second) r (Tells-front (condition_tests line env e) (code_tests ps env first) r t)))
 
   module _ (p : first_fault (condition_tests line env e) ≡ None) where
-    pub if-first : (r : CheckRefusal) → Tells (first_fault (code_tests ps env first)) r → Tells (first_fault (step_tests ps env w)) r
+    pub if-first : (r : CheckRefusal) → Tells (first_fault (code_tests ps env first)) r → Tells (first_fault (stmt_tests ps env w)) r
     if-first r t = rw is (Tells-front (condition_tests line env e ++ code_tests ps env first ++ code_tests ps env second) _ r
         (Tells-front (condition_tests line env e ++ code_tests ps env first) (code_tests ps env second) r (Tells-behind (condition_tests line env e) (code_tests ps env first) r p t)))
 
@@ -27,11 +27,11 @@ module _ (ps : List ProtocolAt) (line : ℕ) (env : Known) (w : Step) (e : Term)
       both : first_fault (condition_tests line env e ++ code_tests ps env first) ≡ None
       both = behind (condition_tests line env e) (code_tests ps env first) p ∙ q
 
-      pub if-second : (r : CheckRefusal) → Tells (first_fault (code_tests ps env second)) r → Tells (first_fault (step_tests ps env w)) r
+      pub if-second : (r : CheckRefusal) → Tells (first_fault (code_tests ps env second)) r → Tells (first_fault (stmt_tests ps env w)) r
       if-second r t = rw is (Tells-front (condition_tests line env e ++ code_tests ps env first ++ code_tests ps env second) _ r
           (Tells-behind (condition_tests line env e ++ code_tests ps env first) (code_tests ps env second) r both t))
 
-      module _ (s : first_fault (code_tests ps env second) ≡ None) (a b : Known) (ea : a ≡ after_code ps env first) (eb : b ≡ after_code ps env second) where
-        pub if-ends : first_fault (step_tests ps env w) ≡ cond (is_same_ends a.ends b.ends) None (Some (9, line))
+      module _ (s : first_fault (code_tests ps env second) ≡ None) (a b : EnvAt) (ea : a ≡ after_code ps env first) (eb : b ≡ after_code ps env second) where
+        pub if-ends : first_fault (stmt_tests ps env w) ≡ cond (is_same_ends a.ends b.ends) None (Some (9, line))
         if-ends = rw (is, ea, eb) (behind (condition_tests line env e ++ code_tests ps env first ++ code_tests ps env second) _
             (behind (condition_tests line env e ++ code_tests ps env first) (code_tests ps env second) both ∙ s))

@@ -4,38 +4,39 @@ use Rattle.sj_lang.specs.declared.proto.Way.TheVariants.{Out, Into}
 use Rattle.sj_lang.specs.declared.party.Stmt.{Stmt}
 use Rattle.sj_lang.specs.Place.{Place, done, message, choice, repeat}
 use Rattle.sj_lang.specs.Code as code
-use Rattle.sj_lang.specs.Code.{Code, code_of, stmt_of}
-use Rattle.sj_acceptance.specs.Known.{Known, moved}
+use Rattle.sj_lang.specs.Code.{Code}
+use Rattle.sj_lang.specs.CodeView.{code_of, stmt_of}
+use Rattle.sj_acceptance.specs.EnvAt.{EnvAt, with_live}
 use Rattle.sj_lang.specs.FileAt.{ProtocolAt}
 use Rattle.sj_acceptance.specs.Faults.{first_fault}
 use Rattle.sj_acceptance.specs.FirstItem.{is_loop, rest_of}
-use Rattle.sj_acceptance.specs.Tests.{step_tests, after_step, code_tests, after_code}
-use Rattle.sj_acceptance.specs.Known.{place_at}
+use Rattle.sj_acceptance.specs.Tests.{stmt_tests, after_stmt, code_tests, after_code}
+use Rattle.sj_acceptance.specs.EnvAt.{place_at}
 use Rattle.sj_check.specs.declared.refusal.CheckRefusal.{CheckRefusal}
 use Rattle.sj_check.specs.Told.{Tells}
 use Rattle.sj_check.proofs.FaultLemmas.{behind, Tells-front}
 use Rattle.sj_check.proofs.MapLemmas.{get-insert_other}
 
-pub code_of-drop : (stmts : List Stmt) (i : ℕ) (s : Stmt) → i < length stmts → s ≡ get_or stmts i s → code_of (drop i stmts) ≡ code.step_then (stmt_of s) (code_of (drop (i + 1) stmts))
-code_of-drop stmts i s h e = rw add-one (ap code_of (drop-cons stmts i s h) ∙ ap (λ x. code.step_then (stmt_of x) (code_of (drop (suc i) stmts))) (sym e))
+pub code_of-drop : (stmts : List Stmt) (i : ℕ) (s : Stmt) → i < length stmts → s ≡ get_or stmts i s → code_of (drop i stmts) ≡ code.stmt_then (stmt_of s) (code_of (drop (i + 1) stmts))
+code_of-drop stmts i s h e = rw add-one (ap code_of (drop-cons stmts i s h) ∙ ap (λ x. code.stmt_then (stmt_of x) (code_of (drop (suc i) stmts))) (sym e))
 
-module _ (ps : List ProtocolAt) (stmts : List Stmt) (i : ℕ) (s : Stmt) (h : i < length stmts) (e : s ≡ get_or stmts i s) (env : Known) where
+module _ (ps : List ProtocolAt) (stmts : List Stmt) (i : ℕ) (s : Stmt) (h : i < length stmts) (e : s ≡ get_or stmts i s) (env : EnvAt) where
   -- a fault of the statement is one of what is left
-  pub step-fault : (o : Option (ℕ × ℕ)) (r : CheckRefusal) → first_fault (code_tests ps env (code_of (drop i stmts))) ≡ o → Tells (first_fault (step_tests ps env (stmt_of s))) r → Tells o r
+  pub step-fault : (o : Option (ℕ × ℕ)) (r : CheckRefusal) → first_fault (code_tests ps env (code_of (drop i stmts))) ≡ o → Tells (first_fault (stmt_tests ps env (stmt_of s))) r → Tells o r
   step-fault o r all t =
       let left = code_of (drop (i + 1) stmts) in
       subst (λ f. Tells f r) (ap (λ c. first_fault (code_tests ps env c)) (sym (code_of-drop stmts i s h e)) ∙ all)
-      (Tells-front (step_tests ps env (stmt_of s)) (code_tests ps (after_step ps env (stmt_of s)) left) r t)
+      (Tells-front (stmt_tests ps env (stmt_of s)) (code_tests ps (after_stmt ps env (stmt_of s)) left) r t)
 
   -- where the statement passes, the rest decides
-  pub step-tests : (new : Known) → first_fault (step_tests ps env (stmt_of s)) ≡ None → new ≡ after_step ps env (stmt_of s)
+  pub step-tests : (new : EnvAt) → first_fault (stmt_tests ps env (stmt_of s)) ≡ None → new ≡ after_stmt ps env (stmt_of s)
       → first_fault (code_tests ps new (code_of (drop (i + 1) stmts))) ≡ first_fault (code_tests ps env (code_of (drop i stmts)))
   step-tests new p n =
       let left = code_of (drop (i + 1) stmts) in
-      ap (λ v. first_fault (code_tests ps v left)) n ∙ sym (behind (step_tests ps env (stmt_of s)) (code_tests ps (after_step ps env (stmt_of s)) left) p)
+      ap (λ v. first_fault (code_tests ps v left)) n ∙ sym (behind (stmt_tests ps env (stmt_of s)) (code_tests ps (after_stmt ps env (stmt_of s)) left) p)
       ∙ ap (λ c. first_fault (code_tests ps env c)) (sym (code_of-drop stmts i s h e))
 
-  pub step-after : (new : Known) → new ≡ after_step ps env (stmt_of s)
+  pub step-after : (new : EnvAt) → new ≡ after_stmt ps env (stmt_of s)
       → after_code ps new (code_of (drop (i + 1) stmts)) ≡ after_code ps env (code_of (drop i stmts))
   step-after new n =
       let left = code_of (drop (i + 1) stmts) in
@@ -50,9 +51,9 @@ one_way (repeat Out b r) h k = absurd (cc)
 one_way (repeat Into b r) h k = absurd (cc)
 
 -- the two ends of a relay are two
-pub relay-after : (env : Known) (x y : ℕ) (p : Place) → is_loop Into (place_at env x) ≡ true → is_loop Out (place_at env y) ≡ true
-    → moved (moved env x p) y (rest_of (place_at (moved env x p) y)) ≡ moved (moved env x p) y (rest_of (place_at env y))
-relay-after env x y p h k = ap (λ o. moved (moved env x p) y (rest_of (unwrap_or o done))) (get-insert_other env.ends x y p apart)
+pub relay-after : (env : EnvAt) (x y : ℕ) (p : Place) → is_loop Into (place_at env x) ≡ true → is_loop Out (place_at env y) ≡ true
+    → with_live (with_live env x p) y (rest_of (place_at (with_live env x p) y)) ≡ with_live (with_live env x p) y (rest_of (place_at env y))
+relay-after env x y p h k = ap (λ o. with_live (with_live env x p) y (rest_of (unwrap_or o done))) (get-insert_other env.ends x y p apart)
   where
     apart : y ≢ x
     apart e = one_way (place_at env x) h (subst (λ z. is_loop Out (place_at env z) ≡ true) e k)

@@ -157,7 +157,7 @@ fn bind(
     end: &EndDecl,
 ) -> Result<(), NoMemory>
     ensures { let ps = protocols_of protocols.now in
-        let ends = tests.bound ps party (decl_of end.now) env.old.ends in
+        let ends = tests.with_end_of ps party (decl_of end.now) env.old.ends in
         OnOk result (env.new ≡ record env.old { ends = ends }) }
 {
     if end.party != party {

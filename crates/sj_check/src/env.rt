@@ -8,14 +8,14 @@ ghost use Rattle.std.specs.BTreeMap.{IsOrdered};
 ghost use Rattle.sj_check.specs.Within.{within, keys_within};
 ghost use Rattle.sj_check.specs.Maps.{map_at};
 ghost use Rattle.std.specs.FinMap as finite;
-ghost use Rattle.sj_acceptance.specs.Known.{nothing, moved, without, knowing};
+ghost use Rattle.sj_acceptance.specs.EnvAt.{empty_env, with_live, without_live, with_known};
 ghost use Rattle.sj_acceptance.specs.Sameness.{is_same_ends};
-ghost use Rattle.sj_acceptance.specs.Known.{is_live, is_known, place_at};
+ghost use Rattle.sj_acceptance.specs.EnvAt.{is_live, is_known, place_at};
 ghost use Rattle.sj_acceptance.specs.Arms.{common};
 ghost use Rattle.sj_acceptance.specs.FirstItem.{turn_of, rest_of, arm_place, choices};
 ghost use Rattle.sj_acceptance.specs.Labels.{branch_labels};
 ghost use Rattle.sj_acceptance.specs.LabelTests.{are_labels_of};
-ghost use Rattle.sj_lang.specs.Code.{arm_of, branches_of};
+ghost use Rattle.sj_lang.specs.CodeView.{arm_of, branches_of};
 
 use crate::labels::are_arms_of;
 use crate::places::{arm_place, is_same, rest, turn};
@@ -36,10 +36,10 @@ pub struct Env {
 }
 
 impl Model for Env {
-    ghost use Rattle.sj_acceptance.specs.Known.{Known};
+    ghost use Rattle.sj_acceptance.specs.EnvAt.{EnvAt};
     ghost use Rattle.sj_check.specs.Maps.{coded_known, map_at};
 
-    ghost Value = { Known };
+    ghost Value = { EnvAt };
 
     ghost coded = { coded_known };
 
@@ -48,7 +48,7 @@ impl Model for Env {
 
 impl Env {
     pub fn new(alloc: Global) -> Env
-        ensures { result ≡ nothing }
+        ensures { result ≡ empty_env }
     {
         Env {
             alloc,
@@ -74,7 +74,7 @@ impl Env {
     /// Takes the end out, with its place.
     pub fn take_place(&mut self, end: u16) -> Result<Option<Proto>, NoMemory>
         ensures value { IfOk result (λ p. p ≡ finite.get self.old.ends end) }
-        ensures after { self.new ≡ without self.old end }
+        ensures after { self.new ≡ without_live self.old end }
     {
         let alloc = self.alloc;
         match self.removed(end) {
@@ -85,14 +85,14 @@ impl Env {
 
     fn removed(&mut self, end: u16) -> Option<Shared>
         ensures value { result ≡ finite.get self.old.ends end }
-        ensures after { self.new ≡ without self.old end }
+        ensures after { self.new ≡ without_live self.old end }
     {
         self.places.remove(&end)
     }
 
     /// The end moves on to this place, or begins there.
     pub fn put_place(&mut self, end: u16, place: Proto) -> Result<(), NoMemory>
-        ensures { OnOk result (self.new ≡ moved self.old end place) }
+        ensures { OnOk result (self.new ≡ with_live self.old end place) }
     {
         self.places.insert(end, Shared::new(self.alloc, place)?)?;
         Ok(())
@@ -100,7 +100,7 @@ impl Env {
 
     /// The end moves on to a copy of this place, or begins there.
     pub fn put_copy(&mut self, end: u16, place: &Proto) -> Result<(), NoMemory>
-        ensures { OnOk result (self.new ≡ moved self.old end place.now) }
+        ensures { OnOk result (self.new ≡ with_live self.old end place.now) }
     {
         let copy = copied(self.alloc, place)?;
         self.put_place(end, copy)
@@ -115,7 +115,7 @@ impl Env {
 
     /// The variable is known at this kind from now on.
     pub fn put_kind(&mut self, name: u16, kind: Scalar) -> Result<(), NoMemory>
-        ensures { OnOk result (self.new ≡ knowing self.old name kind) }
+        ensures { OnOk result (self.new ≡ with_known self.old name kind) }
     {
         self.kinds.put(name, kind)?;
         Ok(())
@@ -135,7 +135,7 @@ impl Env {
 
     /// An environment that knows nothing.
     pub fn emptied(&self) -> Env
-        ensures { result ≡ nothing }
+        ensures { result ≡ empty_env }
     {
         Env::new(self.alloc)
     }
@@ -180,7 +180,7 @@ impl Env {
 
     /// Puts the beginning of a turn at the end's loop into `inner`.
     pub fn enter(&self, inner: &mut Env, end: u16) -> Result<(), NoMemory>
-        ensures { OnOk result (inner.new ≡ moved inner.old end (turn_of (place_at self.now end))) }
+        ensures { OnOk result (inner.new ≡ with_live inner.old end (turn_of (place_at self.now end))) }
     {
         if let Some(place) = self.place(end) {
             inner.put_place(end, turn(self.alloc, place)?)?;
@@ -196,7 +196,7 @@ impl Env {
 
     /// A copy in which the end stands at the arm of that label.
     pub fn at_arm(&self, end: u16, label: u16) -> Result<Env, NoMemory>
-        ensures { IfOk result (λ e. e ≡ moved self.now end (arm_place label (place_at self.now end))) }
+        ensures { IfOk result (λ e. e ≡ with_live self.now end (arm_place label (place_at self.now end))) }
     {
         let mut inner = self.copied()?;
         let place = match self.place(end) {
@@ -211,7 +211,7 @@ impl Env {
 
     /// Leaves the first item of the end's place behind.
     pub fn pass(&mut self, end: u16) -> Result<(), NoMemory>
-        ensures { OnOk result (self.new ≡ moved self.old end (rest_of (place_at self.old end))) }
+        ensures { OnOk result (self.new ≡ with_live self.old end (rest_of (place_at self.old end))) }
     {
         let alloc = self.alloc;
         let rest = match self.take_place(end)? {

@@ -3,8 +3,7 @@
 
 ghost use Rattle.std.specs.Prelude.{◌≡◌, ◌&&◌, map, Some, None, true, if◌then◌else◌};
 ghost use Rattle.std.specs.Prelude.{IfOk, OnOk, IfErr};
-ghost use Rattle.sj_lang.specs.Term.{term_of};
-ghost use Rattle.sj_lang.specs.Code.{arm_of, branches_of};
+ghost use Rattle.sj_lang.specs.CodeView.{term_of, arm_of, branches_of};
 ghost use Rattle.sj_acceptance.specs.Arms.{common};
 ghost use Rattle.sj_acceptance.specs.Faults.{first_fault};
 ghost use Rattle.sj_acceptance.specs.Sameness.{is_same_ends};

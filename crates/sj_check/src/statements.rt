@@ -2,11 +2,11 @@
 #![tactic(auto, using(crate::proofs::FaultLemmas::faults))]
 
 ghost use Rattle.std.specs.Prelude.{◌≡◌, [], None, IfOk, OnOk, IfErr};
-ghost use Rattle.sj_lang.specs.Term.{term_of};
+ghost use Rattle.sj_lang.specs.CodeView.{term_of};
 ghost use Rattle.sj_lang.specs.Code as code;
 ghost use Rattle.sj_acceptance.specs.Faults.{first_fault};
 ghost use Rattle.sj_check.specs.Views.{protocols_of};
-ghost use Rattle.sj_acceptance.specs.Tests.{act_tests, after_act};
+ghost use Rattle.sj_acceptance.specs.Tests.{deed_tests, after_deed};
 ghost use Rattle.sj_check.specs.Told.{Tells};
 
 use crate::CheckRefusal;
@@ -18,10 +18,10 @@ use crate::places::{
 use sj_lang::{Expr, ProtocolDef, Scalar};
 
 pub fn send(env: &mut Env, line: u32, end: u16, value: &Expr) -> Result<(), CheckRefusal>
-    ensures passes { let tests = act_tests [] line env.old (code.send end (term_of value.now)) in
+    ensures passes { let tests = deed_tests [] line env.old (code.send end (term_of value.now)) in
         OnOk result (first_fault tests ≡ None) }
-    ensures after { OnOk result (env.new ≡ after_act [] env.old (code.send end (term_of value.now))) }
-    ensures fault { let tests = act_tests [] line env.old (code.send end (term_of value.now)) in
+    ensures after { OnOk result (env.new ≡ after_deed [] env.old (code.send end (term_of value.now))) }
+    ensures fault { let tests = deed_tests [] line env.old (code.send end (term_of value.now)) in
         IfErr result (Tells (first_fault tests)) }
 {
     let Some(place) = env.take_place(end)? else {
@@ -39,9 +39,9 @@ pub fn send(env: &mut Env, line: u32, end: u16, value: &Expr) -> Result<(), Chec
 }
 
 pub fn close(env: &mut Env, line: u32, end: u16) -> Result<(), CheckRefusal>
-    ensures passes { OnOk result (first_fault (act_tests [] line env.old (code.close end)) ≡ None) }
-    ensures after { OnOk result (env.new ≡ after_act [] env.old (code.close end)) }
-    ensures fault { let tests = act_tests [] line env.old (code.close end) in
+    ensures passes { OnOk result (first_fault (deed_tests [] line env.old (code.close end)) ≡ None) }
+    ensures after { OnOk result (env.new ≡ after_deed [] env.old (code.close end)) }
+    ensures fault { let tests = deed_tests [] line env.old (code.close end) in
         IfErr result (Tells (first_fault tests)) }
 {
     let Some(place) = env.take_place(end)? else {
@@ -54,10 +54,10 @@ pub fn close(env: &mut Env, line: u32, end: u16) -> Result<(), CheckRefusal>
 }
 
 pub fn delegate(env: &mut Env, line: u32, end: u16, sent: u16) -> Result<(), CheckRefusal>
-    ensures passes { let tests = act_tests [] line env.old (code.delegate end sent) in
+    ensures passes { let tests = deed_tests [] line env.old (code.delegate end sent) in
         OnOk result (first_fault tests ≡ None) }
-    ensures after { OnOk result (env.new ≡ after_act [] env.old (code.delegate end sent)) }
-    ensures fault { let tests = act_tests [] line env.old (code.delegate end sent) in
+    ensures after { OnOk result (env.new ≡ after_deed [] env.old (code.delegate end sent)) }
+    ensures fault { let tests = deed_tests [] line env.old (code.delegate end sent) in
         IfErr result (Tells (first_fault tests)) }
 {
     if !env.is_live(end) || !env.is_live(sent) {
@@ -95,10 +95,10 @@ pub fn take_value(
     into: u16,
     kind: Scalar,
 ) -> Result<(), CheckRefusal>
-    ensures passes { let tests = act_tests [] line env.old (code.take_value end into kind) in
+    ensures passes { let tests = deed_tests [] line env.old (code.take_value end into kind) in
         OnOk result (first_fault tests ≡ None) }
-    ensures after { OnOk result (env.new ≡ after_act [] env.old (code.take_value end into kind)) }
-    ensures fault { let tests = act_tests [] line env.old (code.take_value end into kind) in
+    ensures after { OnOk result (env.new ≡ after_deed [] env.old (code.take_value end into kind)) }
+    ensures fault { let tests = deed_tests [] line env.old (code.take_value end into kind) in
         IfErr result (Tells (first_fault tests)) }
 {
     let Some(place) = env.take_place(end)? else {
@@ -130,12 +130,12 @@ pub fn take_end(
     protocol: u16,
 ) -> Result<(), CheckRefusal>
     ensures passes { let ps = protocols_of protocols.now in
-        let tests = act_tests ps line env.old (code.take_end end into protocol) in
+        let tests = deed_tests ps line env.old (code.take_end end into protocol) in
         OnOk result (first_fault tests ≡ None) }
     ensures after { let ps = protocols_of protocols.now in
-        OnOk result (env.new ≡ after_act ps env.old (code.take_end end into protocol)) }
+        OnOk result (env.new ≡ after_deed ps env.old (code.take_end end into protocol)) }
     ensures fault { let ps = protocols_of protocols.now in
-        let tests = act_tests ps line env.old (code.take_end end into protocol) in
+        let tests = deed_tests ps line env.old (code.take_end end into protocol) in
         IfErr result (Tells (first_fault tests)) }
 {
     let Some(place) = env.take_place(end)? else {
@@ -159,10 +159,10 @@ pub fn take_end(
 }
 
 pub fn select(env: &mut Env, line: u32, end: u16, label: u16) -> Result<(), CheckRefusal>
-    ensures passes { let tests = act_tests [] line env.old (code.outbranch end label) in
+    ensures passes { let tests = deed_tests [] line env.old (code.outbranch end label) in
         OnOk result (first_fault tests ≡ None) }
-    ensures after { OnOk result (env.new ≡ after_act [] env.old (code.outbranch end label)) }
-    ensures fault { let tests = act_tests [] line env.old (code.outbranch end label) in
+    ensures after { OnOk result (env.new ≡ after_deed [] env.old (code.outbranch end label)) }
+    ensures fault { let tests = deed_tests [] line env.old (code.outbranch end label) in
         IfErr result (Tells (first_fault tests)) }
 {
     let Some(place) = env.take_place(end)? else {
@@ -179,10 +179,10 @@ pub fn select(env: &mut Env, line: u32, end: u16, label: u16) -> Result<(), Chec
 }
 
 pub fn let_be(env: &mut Env, line: u32, name: u16, value: &Expr) -> Result<(), CheckRefusal>
-    ensures passes { let tests = act_tests [] line env.old (code.let_be name (term_of value.now)) in
+    ensures passes { let tests = deed_tests [] line env.old (code.let_be name (term_of value.now)) in
         OnOk result (first_fault tests ≡ None) }
-    ensures after { OnOk result (env.new ≡ after_act [] env.old (code.let_be name (term_of value.now))) }
-    ensures fault { let tests = act_tests [] line env.old (code.let_be name (term_of value.now)) in
+    ensures after { OnOk result (env.new ≡ after_deed [] env.old (code.let_be name (term_of value.now))) }
+    ensures fault { let tests = deed_tests [] line env.old (code.let_be name (term_of value.now)) in
         IfErr result (Tells (first_fault tests)) }
 {
     let kind = expr_kind(env, line, value)?;

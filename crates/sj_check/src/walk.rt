@@ -2,13 +2,12 @@
 #![tactic(auto, using(crate::proofs::FaultLemmas::faults))]
 
 ghost use Rattle.std.specs.Prelude.{◌≡◌, map, None, IfOk, OnOk, IfErr};
-ghost use Rattle.sj_lang.specs.Term.{term_of};
-ghost use Rattle.sj_lang.specs.Code.{code_of, stmt_of, arm_of, branches_of};
+ghost use Rattle.sj_lang.specs.CodeView.{term_of, code_of, stmt_of, arm_of, branches_of};
 ghost use Rattle.sj_lang.specs.Code as code;
 ghost use Rattle.sj_acceptance.specs.Faults.{first_fault};
 ghost use Rattle.sj_check.specs.Views.{protocols_of};
-ghost use Rattle.sj_acceptance.specs.Tests.{act_tests, after_act, branches_tests, after_branches};
-ghost use Rattle.sj_acceptance.specs.Tests.{step_tests, after_step, code_tests, after_code};
+ghost use Rattle.sj_acceptance.specs.Tests.{deed_tests, after_deed, branches_tests, after_branches};
+ghost use Rattle.sj_acceptance.specs.Tests.{stmt_tests, after_stmt, code_tests, after_code};
 ghost use Rattle.sj_acceptance.specs.Arms.{is_one};
 ghost use Rattle.sj_acceptance.specs.Arms as together;
 ghost use Rattle.sj_check.specs.Told.{Tells};
@@ -38,10 +37,10 @@ pub fn block(protocols: &[ProtocolDef], env: &mut Env, stmts: &[Stmt]) -> Result
 
 #[cycle(walk)]
 fn step(protocols: &[ProtocolDef], env: &mut Env, stmt: &Stmt) -> Result<(), CheckRefusal>
-    ensures passes { let tests = step_tests (protocols_of protocols.now) env.old (stmt_of stmt.now) in
+    ensures passes { let tests = stmt_tests (protocols_of protocols.now) env.old (stmt_of stmt.now) in
         OnOk result (first_fault tests ≡ None) }
-    ensures after { OnOk result (env.new ≡ after_step (protocols_of protocols.now) env.old (stmt_of stmt.now)) }
-    ensures fault { let tests = step_tests (protocols_of protocols.now) env.old (stmt_of stmt.now) in
+    ensures after { OnOk result (env.new ≡ after_stmt (protocols_of protocols.now) env.old (stmt_of stmt.now)) }
+    ensures fault { let tests = stmt_tests (protocols_of protocols.now) env.old (stmt_of stmt.now) in
         IfErr result (Tells (first_fault tests)) }
 {
     let line = stmt.line;
@@ -89,14 +88,14 @@ fn out_while(
 ) -> Result<(), CheckRefusal>
     ensures passes { let ps = protocols_of protocols.now in
         let act = code.outwhile end (term_of count.now) (code_of body.now) in
-        let tests = act_tests ps line env.old act in
+        let tests = deed_tests ps line env.old act in
         OnOk result (first_fault tests ≡ None) }
     ensures after { let ps = protocols_of protocols.now in
         let act = code.outwhile end (term_of count.now) (code_of body.now) in
-        OnOk result (env.new ≡ after_act ps env.old act) }
+        OnOk result (env.new ≡ after_deed ps env.old act) }
     ensures fault { let ps = protocols_of protocols.now in
         let act = code.outwhile end (term_of count.now) (code_of body.now) in
-        let tests = act_tests ps line env.old act in
+        let tests = deed_tests ps line env.old act in
         IfErr result (Tells (first_fault tests)) }
 {
     let Some(place) = env.place(end) else {
@@ -128,12 +127,12 @@ fn in_while(
     body: &[Stmt],
 ) -> Result<(), CheckRefusal>
     ensures passes { let ps = protocols_of protocols.now in
-        let tests = act_tests ps line env.old (code.inwhile end (code_of body.now)) in
+        let tests = deed_tests ps line env.old (code.inwhile end (code_of body.now)) in
         OnOk result (first_fault tests ≡ None) }
     ensures after { let ps = protocols_of protocols.now in
-        OnOk result (env.new ≡ after_act ps env.old (code.inwhile end (code_of body.now))) }
+        OnOk result (env.new ≡ after_deed ps env.old (code.inwhile end (code_of body.now))) }
     ensures fault { let ps = protocols_of protocols.now in
-        let tests = act_tests ps line env.old (code.inwhile end (code_of body.now)) in
+        let tests = deed_tests ps line env.old (code.inwhile end (code_of body.now)) in
         IfErr result (Tells (first_fault tests)) }
 {
     let Some(place) = env.place(end) else {
@@ -162,12 +161,12 @@ fn relay(
     body: &[Stmt],
 ) -> Result<(), CheckRefusal>
     ensures passes { let ps = protocols_of protocols.now in
-        let tests = act_tests ps line env.old (code.relay from to (code_of body.now)) in
+        let tests = deed_tests ps line env.old (code.relay from to (code_of body.now)) in
         OnOk result (first_fault tests ≡ None) }
     ensures after { let ps = protocols_of protocols.now in
-        OnOk result (env.new ≡ after_act ps env.old (code.relay from to (code_of body.now))) }
+        OnOk result (env.new ≡ after_deed ps env.old (code.relay from to (code_of body.now))) }
     ensures fault { let ps = protocols_of protocols.now in
-        let tests = act_tests ps line env.old (code.relay from to (code_of body.now)) in
+        let tests = deed_tests ps line env.old (code.relay from to (code_of body.now)) in
         IfErr result (Tells (first_fault tests)) }
 {
     let Some(source) = env.place(from) else {
@@ -206,7 +205,7 @@ fn all_arms(
         OnOk result (first_fault tests ≡ None) }
     ensures joined { let ps = protocols_of protocols.now in
         let bs = branches_of (map arm_of arms.now) in
-        IfOk result (λ r. r.0 ≡ together.joined (after_branches ps env.now end bs)) }
+        IfOk result (λ r. r.0 ≡ together.common_env (after_branches ps env.now end bs)) }
     ensures agree { let ps = protocols_of protocols.now in
         let bs = branches_of (map arm_of arms.now) in
         IfOk result (λ r. r.1 ≡ is_one (after_branches ps env.now end bs)) }

@@ -27,5 +27,5 @@ abbrev pub IsTaken : List Text → Type 0
 IsTaken words = fault_of line words ≡ []
 
 -- what the words give to the part of the line that has this name
-abbrev pub given : Text → List Text → Option Text
-given id words = first_of id (matches_of line words)
+abbrev pub text_given : Text → List Text → Option Text
+text_given id words = first_of id (matches_of line words)

@@ -3,7 +3,7 @@ use Rattle.std.specs.Prelude.{◌≡◌, ◌≤◌, ℕ, Bool, true, false, List
 use Rattle.clap.specs.Words.{Text}
 use Rattle.sj_command.specs.declared.tasks.Task.{Task}
 use Rattle.sj_command.specs.declared.tasks.Task.TheVariants.{Check, Show, Sim, Run, Replay, Make, Big}
-use Rattle.sj_command.specs.CommandLine.{IsTaken, given}
+use Rattle.sj_command.specs.CommandLine.{IsTaken, text_given}
 
 -- what a line has: a command and a number, a flag and an option
 pub record LineAt : Type 0 where
@@ -17,7 +17,7 @@ abbrev pub alone : Text → Option Text → LineAt
 alone name number = record { command = Some name; number = number; log = Some (codes "false"); looks = None }
 
 -- what a line has of a flag
-abbrev pub flag_text : (given : Bool) → Text
+abbrev pub flag_text : (text_given : Bool) → Text
 flag_text false = codes "false"
 flag_text true = codes "true"
 
@@ -55,10 +55,10 @@ Means line (Big n) = (line ≡ alone (codes "big") (Some (decimal n))) × (1 ≤
 -- the line that the words are
 abbrev pub line_in : List Text → LineAt
 line_in words = record {
-  command = given (codes "command") words;
-  number = given (codes "number") words;
-  log = given (codes "log") words;
-  looks = given (codes "looks") words;
+  command = text_given (codes "command") words;
+  number = text_given (codes "number") words;
+  log = text_given (codes "log") words;
+  looks = text_given (codes "looks") words;
 }
 
 -- the words ask for that

@@ -1,7 +1,7 @@
 //! The command line as `clap` reads it.
 ghost use Rattle.std.specs.Prelude.{◌≡◌, ℕ, List, map, string_bytes, None, Ok, IfOk, IfSome};
 ghost use Rattle.clap.specs.Words.{app_of, found_of, first_value};
-ghost use Rattle.sj_command.specs.CommandLine.{IsTaken, given, line};
+ghost use Rattle.sj_command.specs.CommandLine.{IsTaken, text_given, line};
 
 use clap::error::ErrorKind;
 use clap::{Arg, ArgAction, ArgMatches, Command, Error};
@@ -37,8 +37,8 @@ pub(crate) fn matches_in<'a>(
     words: &'a [String],
 ) -> Result<Option<ArgMatches<'a>>, NoMemory>
     ensures taken { IfOk result (λ m. IfSome m (λ _. IsTaken (map string_bytes words.entry.now))) }
-    ensures given { IfOk result (λ m. IfSome m (λ a. (id : List ℕ)
-        → first_value (found_of a) id ≡ given id (map string_bytes words.entry.now))) }
+    ensures text_given { IfOk result (λ m. IfSome m (λ a. (id : List ℕ)
+        → first_value (found_of a) id ≡ text_given id (map string_bytes words.entry.now))) }
     ensures refused { result ≡ Ok None → IsTaken (map string_bytes words.entry.now) → ⊥ }
 {
     let line = whole_line(alloc)?;

@@ -68,7 +68,7 @@ impl Course {
 }
 
 impl World {
-    ghost use Rattle.sj_core.specs.World.{history_of, kept as kept_of, party_count, world_at};
+    ghost use Rattle.sj_core.specs.World.{history_of, kept_file as kept_of, party_count, world_at};
     ghost use Rattle.sj_rules.specs.History.{IsHistory};
     ghost use Rattle.std.specs.Prelude.{max};
 

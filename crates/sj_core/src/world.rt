@@ -36,12 +36,12 @@ impl Model for World {
 }
 
 impl World {
-    ghost use Rattle.sj_core.specs.World.{history_of, kept, party_count, world_at};
+    ghost use Rattle.sj_core.specs.World.{history_of, kept_file, party_count, world_at};
 
     /// How many parties there are.
     pub fn parties(&self) -> usize
         ensures count { result ≡ party_count self.now }
-        ensures kept { result ≡ length (kept self.now).parties }
+        ensures kept_file { result ≡ length (kept_file self.now).parties }
     {
         self.course.nodes.len()
     }
@@ -52,16 +52,16 @@ impl World {
         requires origin { ComesFrom event (party_count self.old) }
 
         // The event is a step, and the entry is the one that is due.
-        ensures ok { IfOk result (λ e. happens (play_of (kept self.old)) max (world_at self.old)
+        ensures ok { IfOk result (λ e. happens (play_of (kept_file self.old)) max (world_at self.old)
             party (event_at event) ≡ Some (world_at self.new)) }
-        ensures entry { IfOk result (λ e. due (play_of (kept self.old)) max (world_at self.old)
+        ensures entry { IfOk result (λ e. due (play_of (kept_file self.old)) max (world_at self.old)
             party (event_at event) ≡ Some (line_with party e)) }
         ensures listed { IfOk result (λ e. history_of self.new ≡ history_of self.old ++ line_with party e ∷ []) }
 
         // What is true of every world, and what no event changes.
-        ensures run { IsHistory max (kept self.new) (history_of self.new) (world_at self.new) }
-        ensures kept { kept self.new ≡ kept self.old }
-        ensures parties { party_count self.new ≡ length (kept self.new).parties }
+        ensures run { IsHistory max (kept_file self.new) (history_of self.new) (world_at self.new) }
+        ensures kept_file { kept_file self.new ≡ kept_file self.old }
+        ensures parties { party_count self.new ≡ length (kept_file self.new).parties }
 
         // A refusal changes nothing.
         ensures err { OnErr result (world_at self.new ≡ world_at self.old) }
@@ -69,7 +69,7 @@ impl World {
 
         // There is no such step, and only then.
         ensures no_step { IsErrOf result StepRefusal.NoStep ↔
-            (happens (play_of (kept self.old)) max (world_at self.old) party (event_at event) ≡ None) }
+            (happens (play_of (kept_file self.old)) max (world_at self.old) party (event_at event) ≡ None) }
     {
         self.course.step(party, event)
     }
@@ -78,7 +78,7 @@ impl World {
     /// not done. Where a line names a party that the file hasn't, none is due.
     pub fn replay(&mut self, lines: &[Line]) -> Result<(), ReplayRefusal>
         // Each line is the one that is due.
-        ensures ok { OnOk result (IsLog (play_of (kept self.old)) max (world_at self.old)
+        ensures ok { OnOk result (IsLog (play_of (kept_file self.old)) max (world_at self.old)
             (map line_at lines.now) (world_at self.new)) }
         ensures listed { OnOk result (history_of self.new ≡ history_of self.old ++ map line_at lines.now) }
 
@@ -86,9 +86,9 @@ impl World {
         ensures refused { IfErr result (λ r. IsRefusedSo self.old lines.now r self.new) }
 
         // What is true of every world, and what no event changes.
-        ensures run { IsHistory max (kept self.new) (history_of self.new) (world_at self.new) }
-        ensures kept { kept self.new ≡ kept self.old }
-        ensures parties { party_count self.new ≡ length (kept self.new).parties }
+        ensures run { IsHistory max (kept_file self.new) (history_of self.new) (world_at self.new) }
+        ensures kept_file { kept_file self.new ≡ kept_file self.old }
+        ensures parties { party_count self.new ≡ length (kept_file self.new).parties }
     {
         self.course.replay(lines)
     }
@@ -96,7 +96,7 @@ impl World {
     /// The line that is due for the event at that party; none where it is no step, or names a party that
     /// the file hasn't.
     pub fn due(&self, party: u16, event: Event) -> Option<Line>
-        ensures { due (play_of (kept self.now)) max (world_at self.now) party (event_at event)
+        ensures { due (play_of (kept_file self.now)) max (world_at self.now) party (event_at event)
             ≡ option_map line_at result }
     {
         self.course.due_line(party, event)
@@ -114,23 +114,23 @@ impl World {
     pub fn drain(&mut self) -> Result<(), NoMemory>
         // The events are those of the rounds, and nothing is left to do.
         ensures drained { OnOk result (GoesBy (IsDrained self.old (party_count self.old)) self.old self.new) }
-        ensures quiet { OnOk result (IsQuietAmong (play_of (kept self.new)) (party_count self.new) (world_at self.new)) }
+        ensures quiet { OnOk result (IsQuietAmong (play_of (kept_file self.new)) (party_count self.new) (world_at self.new)) }
 
         // Where it breaks off its events are the first of such a drain.
         ensures err { OnErr result (BreaksOff (IsDrained self.old (party_count self.old)) self.old self.new) }
 
         // What is true of every world, and what no event changes.
-        ensures run { IsHistory max (kept self.new) (history_of self.new) (world_at self.new) }
-        ensures kept { kept self.new ≡ kept self.old }
-        ensures parties { party_count self.new ≡ length (kept self.new).parties }
+        ensures run { IsHistory max (kept_file self.new) (history_of self.new) (world_at self.new) }
+        ensures kept_file { kept_file self.new ≡ kept_file self.old }
+        ensures parties { party_count self.new ≡ length (kept_file self.new).parties }
     {
         self.course.drain()
     }
 
     /// Whether nothing is left to do: nothing is in a lane, and no party can act.
     pub fn quiet(&self) -> bool
-        ensures among { IsTrue result ↔ IsQuietAmong (play_of (kept self.now)) (party_count self.now) (world_at self.now) }
-        ensures whole { IsTrue result ↔ IsQuiescent (play_of (kept self.now)) (world_at self.now) }
+        ensures among { IsTrue result ↔ IsQuietAmong (play_of (kept_file self.now)) (party_count self.now) (world_at self.now) }
+        ensures whole { IsTrue result ↔ IsQuiescent (play_of (kept_file self.now)) (world_at self.now) }
     {
         self.course.quiet()
     }

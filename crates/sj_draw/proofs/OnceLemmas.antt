@@ -2,29 +2,29 @@
 use Rattle.std.proofs.Common.{◌≡◌, ℕ, ◌+◌, Bool, true, false, List, [], ◌∷◌, ◌++◌, map, Option, Some, None, if◌then◌else◌, refl, ap, sym, ◌∙◌, append_assoc, append-nil}
 use Rattle.std.proofs.lemmas.List.{map-append}
 use Rattle.std.specs.List.{filter_map, cons_option}
-use Rattle.sj_draw.specs.Frame.{ArrowAt, FrameAt, Outcome, Gathered, Unread, Beyond, empty, joined, then_on, gathered, is_within, with_line, with_any, with_party, arrow_of}
+use Rattle.sj_draw.specs.Frame.{ArrowAt, FrameAt, Outcome, Gathered, Unread, Beyond, empty, outcome_with, then_on, gathered, is_within, with_line, with_any, with_party, arrow_of}
 use Rattle.sj_draw.specs.Lines.{LineAt, Session, Party, Message, Delivery, Log, Verdict, read}
-use Rattle.sj_draw.specs.Told.{ToldAt, told, told_by, told_in, is_log, HasNoLog}
+use Rattle.sj_draw.specs.Told.{ToldAt, told_arrow, told_by, told_in, is_log, HasNoLog}
 
 any_arrows : (f : FrameAt) (name : Option (List ℕ)) → (with_any f name).arrows ≡ f.arrows
 any_arrows f None = refl
 any_arrows f (Some name) = refl
 
 -- one more arrow
-pushed : (xs ys : List ArrowAt) (a : ArrowAt) → xs ≡ ys → map told (xs ++ a ∷ []) ≡ map told ys ++ told a ∷ []
-pushed xs ys a e = ap (λ zs. map told (zs ++ a ∷ [])) e ∙ map-append told ys (a ∷ [])
+pushed : (xs ys : List ArrowAt) (a : ArrowAt) → xs ≡ ys → map told_arrow (xs ++ a ∷ []) ≡ map told_arrow ys ++ told_arrow a ∷ []
+pushed xs ys a e = ap (λ zs. map told_arrow (zs ++ a ∷ [])) e ∙ map-append told_arrow ys (a ∷ [])
 
 -- what a line adds
-added : (f : FrameAt) (x : LineAt) → is_log (Some x) ≡ false → map told (with_line f x).arrows ≡ map told f.arrows ++ cons_option (told_by (Some x)) []
-added f (Session s) h = sym (append-nil (map told f.arrows))
-added f (Party name) h = sym (append-nil (map told f.arrows))
+added : (f : FrameAt) (x : LineAt) → is_log (Some x) ≡ false → map told_arrow (with_line f x).arrows ≡ map told_arrow f.arrows ++ cons_option (told_by (Some x)) []
+added f (Session s) h = sym (append-nil (map told_arrow f.arrows))
+added f (Party name) h = sym (append-nil (map told_arrow f.arrows))
 added f (Message p) h = let g = with_any (with_party f p.from) p.to in pushed g.arrows f.arrows (arrow_of g p) (any_arrows (with_party f p.from) p.to)
 added f (Delivery p) h = let g = with_party (with_any f p.to) p.from in pushed g.arrows f.arrows (arrow_of g p) (any_arrows f p.to)
 added f Log h = absurd (true_is_false h)
   where
     true_is_false : true ≡ false → ⊥
     true_is_false e = cc
-added f Verdict h = sym (append-nil (map told f.arrows))
+added f Verdict h = sym (append-nil (map told_arrow f.arrows))
 
 frame_in : Outcome → FrameAt
 frame_in (Gathered f) = f
@@ -41,18 +41,18 @@ goes_on true k g n next e = e
 goes_on false k g n next e = cc
 
 module _ (f g : FrameAt) (n : ℕ) (next : FrameAt → Outcome) (ts : List ToldAt)
-    (and_then : (k : FrameAt) → next k ≡ Gathered g → map told g.arrows ≡ map told k.arrows ++ ts) where
-  by_line : (o : Option LineAt) → is_log o ≡ false → then_on (joined f n o) next ≡ Gathered g → map told g.arrows ≡ map told f.arrows ++ cons_option (told_by o) ts
+    (and_then : (k : FrameAt) → next k ≡ Gathered g → map told_arrow g.arrows ≡ map told_arrow k.arrows ++ ts) where
+  by_line : (o : Option LineAt) → is_log o ≡ false → then_on (outcome_with f n o) next ≡ Gathered g → map told_arrow g.arrows ≡ map told_arrow f.arrows ++ cons_option (told_by o) ts
   by_line None h e = cc
   by_line (Some x) h e =
       and_then (with_line f x) (goes_on (is_within (with_line f x)) (with_line f x) g n next e)
       ∙ ap (λ t. t ++ ts) (added f x h)
-      ∙ append_assoc (map told f.arrows) (cons_option (told_by (Some x)) []) ts
-      ∙ ap (λ t. map told f.arrows ++ t) (in_front (told_by (Some x)) ts)
+      ∙ append_assoc (map told_arrow f.arrows) (cons_option (told_by (Some x)) []) ts
+      ∙ ap (λ t. map told_arrow f.arrows ++ t) (in_front (told_by (Some x)) ts)
 
 pub once : (f g : FrameAt) (n : ℕ) (lines : List (List ℕ)) → HasNoLog lines → gathered f n lines ≡ Gathered g
-    → map told g.arrows ≡ map told f.arrows ++ filter_map told_in lines
+    → map told_arrow g.arrows ≡ map told_arrow f.arrows ++ filter_map told_in lines
 unfolding frame_in
-once f g n [] h e = ap (λ o. map told (frame_in o).arrows) (sym e) ∙ sym (append-nil (map told f.arrows))
+once f g n [] h e = ap (λ o. map told_arrow (frame_in o).arrows) (sym e) ∙ sym (append-nil (map told_arrow f.arrows))
 once f g n (l ∷ ls) h e =
     by_line f g n (λ k. gathered k (n + 1) ls) (filter_map told_in ls) (λ k same. once k g (n + 1) ls h.1 same) (read l) h.0 e

@@ -2,7 +2,7 @@
 use Rattle.std.proofs.Common.{◌≡◌, ℕ, ◌+◌, ◌≤◌, Bool, true, false, List, [], ◌∷◌, ◌++◌, length, max, cond, nat_lt, Option, Some, None, if◌then◌else◌, refl, ap, subst, arith}
 use Rattle.std.proofs.lemmas.List.{length-append}
 use Rattle.std.specs.List.{AllByRecursion, filter}
-use Rattle.sj_draw.specs.Frame.{ArrowAt, FrameAt, Outcome, Gathered, Unread, Beyond, empty, joined, then_on, gathered, is_within, is_untaken, with_line, with_any, with_party, with_arrow, arrow_of, number_of}
+use Rattle.sj_draw.specs.Frame.{ArrowAt, FrameAt, Outcome, Gathered, Unread, Beyond, empty, outcome_with, then_on, gathered, is_within, is_untaken, with_line, with_any, with_party, with_arrow, arrow_of, number_of}
 use Rattle.sj_draw.specs.Lines.{LineAt, Session, Party, Message, Delivery, Log, Verdict, read}
 
 -- what holds of a frame and a number of lines holds behind further lines, where each line keeps it
@@ -13,7 +13,7 @@ module _ (P : ℕ → FrameAt → Type 0) (step : (k : ℕ) (f : FrameAt) (x : L
   by_test false k n f g h m next p and_then e = cc
 
   by_line : (o : Option LineAt) (k n : ℕ) (f g : FrameAt) (m : ℕ) (next : FrameAt → Outcome) → P k f → ((j : FrameAt) → P (k + 1) j → next j ≡ Gathered g → P m g)
-      → then_on (joined f n o) next ≡ Gathered g → P m g
+      → then_on (outcome_with f n o) next ≡ Gathered g → P m g
   by_line None k n f g m next p and_then e = cc
   by_line (Some x) k n f g m next p and_then e = by_test (is_within (with_line f x)) k n f g (with_line f x) m next (step k f x p) and_then e
 

@@ -122,9 +122,9 @@ pub data Outcome : Type 0 where
   Unread : ℕ → Outcome
   Beyond : ℕ → Outcome
 
-abbrev pub joined : FrameAt → ℕ → Option LineAt → Outcome
-joined f n None = Unread n
-joined f n (Some line) = if is_within (with_line f line) then Gathered (with_line f line) else Beyond n
+abbrev pub outcome_with : FrameAt → ℕ → Option LineAt → Outcome
+outcome_with f n None = Unread n
+outcome_with f n (Some line) = if is_within (with_line f line) then Gathered (with_line f line) else Beyond n
 
 -- the frame goes on
 abbrev pub then_on : Outcome → (FrameAt → Outcome) → Outcome
@@ -135,4 +135,4 @@ then_on (Beyond n) next = Beyond n
 -- what comes of the lines from that number on, behind a frame
 abbrev pub gathered : FrameAt → ℕ → List (List ℕ) → Outcome
 gathered f n [] = Gathered f
-gathered f n (l ∷ ls) = then_on (joined f n (read l)) (λ g. gathered g (n + 1) ls)
+gathered f n (l ∷ ls) = then_on (outcome_with f n (read l)) (λ g. gathered g (n + 1) ls)

@@ -9,8 +9,8 @@ pub record ToldAt : Type 0 where
   pub mark : Mark
   pub text : List ℕ
 
-abbrev pub told : ArrowAt → ToldAt
-told a = record { mark = a.mark; text = a.text }
+abbrev pub told_arrow : ArrowAt → ToldAt
+told_arrow a = record { mark = a.mark; text = a.text }
 
 abbrev pub passed_told : PassedAt → ToldAt
 passed_told p = record { mark = p.mark; text = p.text }

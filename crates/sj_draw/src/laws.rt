@@ -9,13 +9,13 @@ ghost use Rattle.sj_draw.specs.declared.style.TheConstants.{STYLE};
 ghost use Rattle.sj_draw.specs.Answer.{lines_of, outcome_of};
 ghost use Rattle.sj_draw.specs.Drawn.{picture};
 ghost use Rattle.sj_draw.specs.Frame.{FrameAt, Gathered, gathered};
-ghost use Rattle.sj_draw.specs.Told.{HasNoLog, told, told_in};
+ghost use Rattle.sj_draw.specs.Told.{HasNoLog, told_arrow, told_in};
 
 /// Behind what was gathered before, lines add one arrow for each message or delivery that they tell, in order,
 /// and no other; so it is for a transcript, and for the lines behind `%%log`.
 pub fn each_delivery_is_drawn_once()
     ensures { (f g : FrameAt) (n : ℕ) (lines : List (List ℕ)) → HasNoLog lines → gathered f n lines ≡ Gathered g
-        → map told g.arrows ≡ map told f.arrows ++ filter_map told_in lines }
+        → map told_arrow g.arrows ≡ map told_arrow f.arrows ++ filter_map told_in lines }
 {}
 
 /// A picture has at most 5,320 bytes for each line, beyond its style and 10,000 bytes.

@@ -1,6 +1,6 @@
 //! From a program's call to the top call.
 ghost use Rattle.sj_entry.specs.Entered.{IsAnswer};
-ghost use Rattle.sj_tool.specs.Calls.{call, used};
+ghost use Rattle.sj_tool.specs.Calls.{call, link_use};
 
 use crate::words::words_in;
 use sj_base::{NoMemory, Sink, Source};
@@ -26,7 +26,7 @@ pub fn enter<E: Env + AllocGlobal, R: Threads + Sync, S: Source, K: Sink, L: Lin
     gate: &G,
 ) -> u8
     ensures answer { IsAnswer (λ words. call S.left S.faults words src.old src.new
-        (used L.tells L.faults L.sent L.got L.vain_out L.vain_in links.old links.new)) result
+        (link_use L.tells L.faults L.sent L.got L.vain_out L.vain_in links.old links.new)) result
         (K.written out.old) (K.written out.new) }
 {
     match words_in(env) {

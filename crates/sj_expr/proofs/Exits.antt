@@ -3,7 +3,7 @@ use Rattle.std.proofs.Common.{◌≡◌, Result, IfErr}
 use Rattle.std.specs.Prelude.{IsErrAnd}
 use Rattle.sj_grammar.specs.declared.tokens.Fault.{Fault}
 use Rattle.sj_grammar.specs.declared.refusal.ParseRefusal.{ParseRefusal}
-use Rattle.sj_grammar.specs.Faults.{OnFault}
+use Rattle.sj_grammar.specs.Refusals.{OnFault}
 use Rattle.sj_proto.proofs.Exits.{err_as, on_fault_map}
 
 -- a refusal that is passed on

@@ -11,7 +11,8 @@ use Rattle.sj_grammar.specs.Reading.{Reading, before_next, fault_at}
 use Rattle.sj_grammar.specs.Names.{is_name}
 use Rattle.sj_grammar.specs.Literals.{is_number, is_largest, is_text, inner}
 use Rattle.sj_grammar.specs.Places.{At, at, Takes}
-use Rattle.sj_grammar.specs.Faults.{broken, StuckInside, fault_next, first_rule}
+use Rattle.sj_grammar.specs.Faults.{broken}
+use Rattle.sj_grammar.specs.Refusals.{StuckInside, fault_next, first_rule}
 use Rattle.sj_grammar.specs.Asked.{TakesText, spelled_next, Refuses, refused, but_name}
 use Rattle.sj_grammar.specs.ExpressionDues.{factor, after_minus, is_operand, is_long, expression_layer}
 use Rattle.sj_grammar.proofs.Inside.{inside_here, inside_cons}

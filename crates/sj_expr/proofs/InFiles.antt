@@ -2,7 +2,8 @@
 use Rattle.std.proofs.Common.{◌≡◌, ℕ, ◌+◌, ◌≤◌, Bool, true, false, List, [], ◌∷◌, ◌++◌, Option, Some, None, Result, Ok, Err, IfOk, IfErr, refl, inl, inr, ap, sym, subst, ◌∙◌, arith, append-nil}
 use Rattle.std.specs.Prelude.{if◌then◌else◌, map}
 use Rattle.sj_lang.specs.declared.party.Expr.{Expr}
-use Rattle.sj_lang.specs.Term.{Term, term_of}
+use Rattle.sj_lang.specs.Term.{Term}
+use Rattle.sj_lang.specs.CodeView.{term_of}
 use Rattle.sj_grammar.specs.declared.tokens.Fault.{Fault}
 use Rattle.sj_grammar.specs.declared.refusal.ParseRefusal.{ParseRefusal}
 use Rattle.sj_grammar.specs.declared.refusal.ParseRefusal.TheVariants as refusals
@@ -11,7 +12,8 @@ use Rattle.sj_grammar.specs.Limits.{limits}
 use Rattle.sj_grammar.specs.Lexis.{Ahead, at_end, bad, token, next_of}
 use Rattle.sj_grammar.specs.Places.{Pieces, At, Begins}
 use Rattle.sj_grammar.specs.Layers.{goes, run, may_end, rule_of}
-use Rattle.sj_grammar.specs.Faults.{broken, Halts, Stuck, StuckInside, OnFault}
+use Rattle.sj_grammar.specs.Faults.{broken, Halts, Stuck}
+use Rattle.sj_grammar.specs.Refusals.{StuckInside, OnFault}
 use Rattle.sj_grammar.specs.Expressions.{operand_count}
 use Rattle.sj_grammar.specs.ExpressionDues.{ExpressionDue, whole, times, plus, compare, expression_at, expression_layer}
 use Rattle.sj_grammar.specs.FileDues.{Due, expr, file_layer}

@@ -3,7 +3,7 @@ use Rattle.std.proofs.Common.{◌≡◌, ℕ, ◌<◌, ◌≤◌, true, false, L
 use Rattle.std.specs.Prelude.{codes}
 use Rattle.std.specs.List.{list_all}
 use Rattle.std.proofs.lemmas.Option.{slice_get-get_or}
-use Rattle.sj_lang.specs.Words.{IsFirstPlace}
+use Rattle.sj_lang.specs.Words.{IsFirstIndex}
 use Rattle.sj_lang.specs.declared.party.Op.{Op}
 use Rattle.sj_lang.specs.declared.party.Op.TheVariants.{Add, Sub, Mul, Less, LessEq, Equal}
 use Rattle.sj_lang.specs.declared.file.Names.{Names}
@@ -73,7 +73,7 @@ took_text r q ws ts us s name text table t =
     record { what = t.what; rest = t.rest; token = t.token; there = rw (name, text) (λ i. at (t.there i) ws (table i)) }
 
 -- the number of a text, by each spelling that agrees with the table
-pub literal_by : (text : ℕ → List ℕ) (table : List (List ℕ)) (s : List ℕ) (n : ℕ) → Spells text table → IsFirstPlace s table n → list_all is_printable s ≡ true → length s ≤ 255 → (text n ≡ s) × IsLiteral limits text n
+pub literal_by : (text : ℕ → List ℕ) (table : List (List ℕ)) (s : List ℕ) (n : ℕ) → Spells text table → IsFirstIndex s table n → list_all is_printable s ≡ true → length s ≤ 255 → (text n ≡ s) × IsLiteral limits text n
 literal_by text table s n spells place printable short =
     let far = within_is table s n place in
     let same : text n ≡ s = spells n far ∙ here_is table s n place in (
@@ -85,7 +85,7 @@ literal_by text table s n spells place printable short =
       },
     )
 
-pub text_read : (r q : Reading) (ws ts us : List (List ℕ)) (s : List ℕ) (n : ℕ) → is_name s ≡ false → is_text s ≡ true → length (inner s) ≤ 255 → us ≡ with_entry ts (inner s) → IsFirstPlace (inner s) us n → TakesText r s q
+pub text_read : (r q : Reading) (ws ts us : List (List ℕ)) (s : List ℕ) (n : ℕ) → is_name s ≡ false → is_text s ≡ true → length (inner s) ≤ 255 → us ≡ with_entry ts (inner s) → IsFirstIndex (inner s) us n → TakesText r s q
     → Reads (at r ws ts) (at q ws us) (TextSpelled n)
 text_read r q ws ts us s n name text short table place t =
     reads_one (at r ws ts) (at q ws us) s (TextSpelled n) (took_text r q ws ts us s name text table t)

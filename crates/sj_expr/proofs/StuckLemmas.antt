@@ -6,7 +6,7 @@ use Rattle.sj_lang.specs.Term.{Term}
 use Rattle.sj_grammar.specs.declared.tokens.Fault.{Fault}
 use Rattle.sj_grammar.specs.Limits.{limits}
 use Rattle.sj_grammar.specs.Places.{At, Takes}
-use Rattle.sj_grammar.specs.Faults.{StuckInside}
+use Rattle.sj_grammar.specs.Refusals.{StuckInside}
 use Rattle.sj_grammar.specs.Expressions.{operand_count}
 use Rattle.sj_grammar.specs.Expressions as level
 use Rattle.sj_grammar.specs.ExpressionDues.{ExpressionDue, factor, times, plus, compare, expression_at, expression_layer}

@@ -1,6 +1,7 @@
 //! Operators between operands.
 ghost use Rattle.std.specs.Prelude.{◌≡◌, ℕ, ◌<◌, length, IfOk, IfSome, IfNone};
-ghost use Rattle.sj_lang.specs.Term.{term_of, not, two};
+ghost use Rattle.sj_lang.specs.Term.{not, two};
+ghost use Rattle.sj_lang.specs.CodeView.{term_of};
 ghost use Rattle.sj_grammar.specs.Lexis.{next_of};
 ghost use Rattle.sj_grammar.specs.ExpressionDues.{plus, compare, expression_layer};
 ghost use Rattle.sj_grammar.specs.Asked.{TakesText, Passes};

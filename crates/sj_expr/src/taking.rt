@@ -1,7 +1,7 @@
 //! The first tokens of a factor.
 ghost use Rattle.std.specs.Prelude.{◌≡◌, ◌≢◌, ℕ, ◌+◌, ◌*◌, ◌<◌, ◌≤◌, ◌^◌, List, [], ◌∷◌, false, true, length, codes, pos, neg_ℤ, FitsSigned, IfOk, IfErr};
 ghost use Rattle.std.specs.Int.{w64};
-ghost use Rattle.sj_lang.specs.Term.{term_of};
+ghost use Rattle.sj_lang.specs.CodeView.{term_of};
 ghost use Rattle.sj_grammar.specs.Limits.{limits};
 ghost use Rattle.sj_grammar.specs.declared.tokens.Rule.TheVariants.{P4};
 ghost use Rattle.sj_grammar.specs.Lexis.{next_of};
@@ -10,7 +10,7 @@ ghost use Rattle.sj_grammar.specs.Places.{at};
 ghost use Rattle.sj_grammar.specs.Literals.{is_text};
 ghost use Rattle.sj_grammar.specs.Expressions.{factor as a_factor, operand_count};
 ghost use Rattle.sj_grammar.specs.ExpressionDues.{factor as factor_due, expression_layer};
-ghost use Rattle.sj_grammar.specs.Faults.{StuckInside, OnFault};
+ghost use Rattle.sj_grammar.specs.Refusals.{StuckInside, OnFault};
 ghost use Rattle.sj_grammar.specs.Asked.{TakesText, Refuses, spelled_next, is_next};
 ghost use Rattle.sj_proto.specs.Onward.{Advances};
 ghost use Rattle.sj_proto.specs.Parsed.{standing};

@@ -10,7 +10,7 @@ use Rattle.sj_semantics.specs.declared.Want.TheVariants as wants
 use Rattle.sj_semantics.specs.Ends.{Session, end_on, other_side, nowhere, end_at, next_for}
 use Rattle.sj_semantics.specs.Program.{Program}
 use Rattle.sj_semantics.specs.Steps.{local_of, sent_of, took_of, closed_of}
-use Rattle.sj_semantics.specs.Uses.{sends, takes, hands_on, used, altered, on_side, after_uses}
+use Rattle.sj_semantics.specs.Uses.{sends, takes, delegates, end_after, altered, on_side, after_uses}
 use Rattle.sj_semantics.specs.Wants.{want_of}
 use Rattle.sj_semantics.specs.World.{World, Change, session_message, change_by_taking, change_by, change_of_program, changed, act_of}
 use Rattle.sj_semantics_laws.proofs.RunLemmas.{Leads, leads_on}
@@ -64,29 +64,29 @@ module _ (bp : List Program) (bs : List Session) where
     close_then e wants_it onward = acts_then (wants.Close e) (record { program = closed_of g; uses = [] }) zs wants_it refl refl onward
 
     pub send_then : (i d : ℕ) (m : Msg) → want_of g ≡ Some (wants.Send (end_behind bs i d) m)
-        → Leads (behind (altered gs j (λ h. sent_of g)) (altered zs i (on_side d (used (place bp j) (sends m))))) v → Leads (behind gs zs) v
+        → Leads (behind (altered gs j (λ h. sent_of g)) (altered zs i (on_side d (end_after (place bp j) (sends m))))) v → Leads (behind gs zs) v
     send_then i d m wants_it onward =
-        acts_then (wants.Send (end_behind bs i d) m) (record { program = sent_of g; uses = (end_behind bs i d, sends m) ∷ [] }) (altered zs i (on_side d (used (place bp j) (sends m)))) wants_it refl
-        (altered-place bs zs i (on_side d (used (place bp j) (sends m)))) onward
+        acts_then (wants.Send (end_behind bs i d) m) (record { program = sent_of g; uses = (end_behind bs i d, sends m) ∷ [] }) (altered zs i (on_side d (end_after (place bp j) (sends m)))) wants_it refl
+        (altered-place bs zs i (on_side d (end_after (place bp j) (sends m)))) onward
 
     pub take_then : (i d : ℕ) (a : Awaits) (x : Passed) → want_of g ≡ Some (wants.Take (end_behind bs i d) a) → next_for zs (record { sess = i; side = d }) ≡ Some x
-        → Leads (behind (altered gs j (λ h. took_of g x.msg)) (altered zs i (on_side d (used (place bp j) (takes x.msg))))) v → Leads (behind gs zs) v
+        → Leads (behind (altered gs j (λ h. took_of g x.msg)) (altered zs i (on_side d (end_after (place bp j) (takes x.msg))))) v → Leads (behind gs zs) v
     take_then i d a x wants_it next onward =
         let e = end_behind bs i d in
-        acts_then (wants.Take e a) (change_by_taking g e x) (altered zs i (on_side d (used (place bp j) (takes x.msg)))) wants_it
+        acts_then (wants.Take e a) (change_by_taking g e x) (altered zs i (on_side d (end_after (place bp j) (takes x.msg)))) wants_it
         (ap (option_map (change_by_taking g e)) ((λ k. slice_get (end_at-behind bs zs i (other_side d) k).sent (length (end_at-behind bs zs i d k).takers)) ∙ next))
-        (altered-place bs zs i (on_side d (used (place bp j) (takes x.msg)))) onward
+        (altered-place bs zs i (on_side d (end_after (place bp j) (takes x.msg)))) onward
 
     pub delegate_then : (i d k c : ℕ) → want_of g ≡ Some (wants.Delegate (end_behind bs i d) (end_behind bs k c)) → (end_at zs (record { sess = k; side = c })).hops < 100
-        → Leads (behind (altered gs j (λ h. sent_of g)) (altered (altered zs k (on_side c (used (place bp j) hands_on))) i (on_side d (used (place bp j) (sends (session_message (end_behind bs k c) (place bp j))))))) v
+        → Leads (behind (altered gs j (λ h. sent_of g)) (altered (altered zs k (on_side c (end_after (place bp j) delegates))) i (on_side d (end_after (place bp j) (sends (session_message (end_behind bs k c) (place bp j))))))) v
         → Leads (behind gs zs) v
     delegate_then i d k c wants_it below onward =
         let e = end_behind bs i d in
         let y = end_behind bs k c in
         let m = session_message y (place bp j) in
-        let made : Change = record { program = sent_of g; uses = (y, hands_on) ∷ (e, sends m) ∷ [] } in
-        let handed = altered zs k (on_side c (used (place bp j) hands_on)) in
-        acts_then (wants.Delegate e y) made (altered handed i (on_side d (used (place bp j) (sends m)))) wants_it
+        let made : Change = record { program = sent_of g; uses = (y, delegates) ∷ (e, sends m) ∷ [] } in
+        let handed = altered zs k (on_side c (end_after (place bp j) delegates)) in
+        acts_then (wants.Delegate e y) made (altered handed i (on_side d (end_after (place bp j) (sends m)))) wants_it
         (ap (λ t. cond (nat_lt t.hops 100) (Some made) None) (end_at-behind bs zs k c) ∙ ap (λ b. cond b (Some made) None) (lt-ltb (end_at zs (record { sess = k; side = c })).hops 100 below))
-        (ap (λ t. altered t (place bs i) (on_side d (used (place bp j) (sends m)))) (altered-place bs zs k (on_side c (used (place bp j) hands_on)))
-        ∙ altered-place bs handed i (on_side d (used (place bp j) (sends m)))) onward
+        (ap (λ t. altered t (place bs i) (on_side d (end_after (place bp j) (sends m)))) (altered-place bs zs k (on_side c (end_after (place bp j) delegates)))
+        ∙ altered-place bs handed i (on_side d (end_after (place bp j) (sends m)))) onward

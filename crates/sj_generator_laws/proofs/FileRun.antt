@@ -4,9 +4,8 @@ use Rattle.sj_semantics.specs.declared.Verdict.TheVariants.{Done}
 use Rattle.sj_semantics.specs.Ends.{Session}
 use Rattle.sj_semantics.specs.Program.{Program}
 use Rattle.sj_semantics.specs.Run.{end_of}
-use Rattle.sj_semantics.specs.Start.{start_of}
+use Rattle.sj_semantics.specs.World.{start_of, World}
 use Rattle.sj_semantics.specs.State.{verdict_of}
-use Rattle.sj_semantics.specs.World.{World}
 use Rattle.sj_semantics_laws.proofs.FinishLemmas.{end_is_settled, end_is_reached}
 use Rattle.sj_semantics_laws.proofs.RunLemmas.{Leads, leads_trans, same_end}
 use Rattle.sj_semantics_laws.proofs.StartLemmas.{start_is_unshared}

@@ -11,10 +11,9 @@ use Rattle.sj_semantics.specs.declared.Passed.{Passed}
 use Rattle.sj_semantics.specs.declared.Value.TheVariants.{Int}
 use Rattle.sj_semantics.specs.Ends.{Session}
 use Rattle.sj_semantics.specs.Program.{Thing, statement, Program}
-use Rattle.sj_semantics.specs.Start.{fresh}
+use Rattle.sj_semantics.specs.World.{fresh, World, session_message}
 use Rattle.sj_semantics.specs.Value.{Vars, no_vars, with_value, message_of}
 use Rattle.sj_semantics.specs.Wants.{want_send, more_turns}
-use Rattle.sj_semantics.specs.World.{World, session_message}
 use Rattle.sj_semantics_laws.proofs.RunLemmas.{Leads, no_acts, leads_trans}
 use Rattle.sj_generator_laws.specs.GeneratedFile.{numbers}
 use Rattle.sj_generator_laws.proofs.BehindLemmas.{place, end_behind, behind, local_then, close_then, send_then, take_then, delegate_then}

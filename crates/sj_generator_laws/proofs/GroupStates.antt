@@ -6,7 +6,8 @@ use Rattle.sj_lang.specs.declared.party.Op.TheVariants.{Add}
 use Rattle.sj_lang.specs.declared.party.Scalar.TheVariants as scalars
 use Rattle.sj_lang.specs.Place.{Place, done, message, repeat, int}
 use Rattle.sj_lang.specs.Term as term
-use Rattle.sj_lang.specs.Code.{Code, at, send, take_value, let_be, close, in_order}
+use Rattle.sj_lang.specs.Code.{Code, at, send, take_value, let_be, close}
+use Rattle.sj_lang.specs.CodeView.{in_order}
 use Rattle.sj_semantics.specs.declared.Passed.{Passed}
 use Rattle.sj_semantics.specs.Ends.{Session}
 use Rattle.sj_semantics.specs.Program.{Thing, statement, Program}

@@ -15,7 +15,7 @@ use Rattle.sj_semantics.specs.declared.Want.TheVariants as wants
 use Rattle.sj_semantics.specs.Ends.{Session}
 use Rattle.sj_semantics.specs.Program.{statement, turns, Program}
 use Rattle.sj_semantics.specs.Steps.{assigned, turned}
-use Rattle.sj_semantics.specs.Uses.{moved}
+use Rattle.sj_semantics.specs.Uses.{place_behind}
 use Rattle.sj_semantics.specs.Value.{Vars, worth, with_value, result_of}
 use Rattle.sj_semantics.specs.Wants.{more_turns}
 use Rattle.sj_semantics.specs.World.{World}
@@ -31,7 +31,7 @@ module _ (line v : ℕ) (bp : List Program) (bs : List Session) (other : Program
   abbrev pub looping : ℕ → ℕ → ℕ → Vars → List Passed → List ℕ → World
   looping n t u vars sent takers =
       behind bp bs (sender_at bs (turned 5 n (turn line v) sender_rest) t ∷ other ∷ adder_at bs (statement (inwhile 9 (adding line)) ∷ adder_rest) vars u ∷ others)
-      (session_at (moved sends_numbers Out (more_turns n)) numbers (sent ++ sending bp (more_turns n) ∷ []) [] takers [] ∷ later)
+      (session_at (place_behind sends_numbers Out (more_turns n)) numbers (sent ++ sending bp (more_turns n) ∷ []) [] takers [] ∷ later)
 
   -- both are behind their loops
   abbrev pub looped : ℕ → ℕ → Vars → List Passed → List ℕ → World

@@ -5,7 +5,8 @@ use Rattle.sj_lang.specs.declared.party.Op.TheVariants.{Add}
 use Rattle.sj_lang.specs.declared.party.Scalar.TheVariants as scalars
 use Rattle.sj_lang.specs.Place.{Place, done, message, repeat, int, session}
 use Rattle.sj_lang.specs.Term as term
-use Rattle.sj_lang.specs.Code.{at, send, delegate, take_value, take_end, outwhile, inwhile, let_be, close, in_order}
+use Rattle.sj_lang.specs.Code.{at, send, delegate, take_value, take_end, outwhile, inwhile, let_be, close}
+use Rattle.sj_lang.specs.CodeView.{in_order}
 use Rattle.sj_lang.specs.FileAt.{ProtocolAt, PartyAt, ConnectAt, FileAt}
 
 -- its names, in order of first occurrence

@@ -7,7 +7,8 @@ use Rattle.sj_grammar.specs.Limits.{Limits}
 use Rattle.sj_grammar.specs.Lexis.{Ahead, at_end, bad, token, next_of}
 use Rattle.sj_grammar.specs.Places.{Pieces, At}
 use Rattle.sj_grammar.specs.Layers.{Layer, Step, goes, stops, misfit, instead, onward, step, run, may_end, rule_of}
-use Rattle.sj_grammar.specs.Faults.{broken, Stuck, StuckInside}
+use Rattle.sj_grammar.specs.Faults.{broken, Stuck}
+use Rattle.sj_grammar.specs.Refusals.{StuckInside}
 use Rattle.sj_grammar.proofs.Steps.{onward_goes, or_else, due_behind}
 use Rattle.sj_grammar.proofs.Embedding.{IsEmbedded}
 use Rattle.std.proofs.lemmas.List.{map-append, map-id}

@@ -4,7 +4,8 @@ use Rattle.sj_grammar.specs.declared.tokens.Fault.{Fault}
 use Rattle.sj_grammar.specs.Limits.{Limits}
 use Rattle.sj_grammar.specs.Places.{Pieces, At, Takes, Begins}
 use Rattle.sj_grammar.specs.Layers.{Layer, Step, goes, onward, step, run, may_end}
-use Rattle.sj_grammar.specs.Faults.{Halts, StuckInside}
+use Rattle.sj_grammar.specs.Faults.{Halts}
+use Rattle.sj_grammar.specs.Refusals.{StuckInside}
 use Rattle.sj_grammar.proofs.Steps.{Runs, Runs-append}
 use Rattle.sj_grammar.proofs.Stuckness.{Begins-append}
 

@@ -8,7 +8,7 @@ use Rattle.sj_grammar.specs.Names.{is_name, is_reserved}
 use Rattle.sj_grammar.specs.Literals.{inner}
 use Rattle.sj_grammar.specs.Places.{start}
 use Rattle.sj_grammar.specs.Layers.{goes, stops, run}
-use Rattle.sj_grammar.specs.Faults.{fault_next}
+use Rattle.sj_grammar.specs.Refusals.{fault_next}
 use Rattle.sj_grammar.specs.ProtocolDues.{body, more, seq, behind, kind, label, maybe, arms}
 use Rattle.sj_grammar.specs.ProtocolDues as protocol
 use Rattle.sj_grammar.specs.ExpressionDues.{whole, factor, times, plus, compare}

@@ -1,26 +1,13 @@
 -- The first fault of a text.
-use Rattle.std.specs.Prelude.{◌≡◌, ℕ, false, List, Option, Some, None, if◌then◌else◌}
+use Rattle.std.specs.Prelude.{◌≡◌, ℕ, List, Option, Some, None, if◌then◌else◌}
 use Rattle.sj_grammar.specs.declared.tokens.Rule.{Rule}
-use Rattle.sj_grammar.specs.declared.tokens.Rule.TheVariants.{P1, P3}
+use Rattle.sj_grammar.specs.declared.tokens.Rule.TheVariants.{P1}
 use Rattle.sj_grammar.specs.declared.tokens.Fault.{Fault}
-use Rattle.sj_grammar.specs.declared.refusal.ParseRefusal.{ParseRefusal}
-use Rattle.sj_grammar.specs.declared.refusal.ParseRefusal.TheVariants as refusals
 use Rattle.sj_grammar.specs.Limits.{Limits}
 use Rattle.sj_grammar.specs.Lexis.{Ahead, at_end, bad, token, next_of}
-use Rattle.sj_grammar.specs.Literals.{is_largest}
-use Rattle.sj_grammar.specs.Reading.{Reading, before_next, fault_at}
+use Rattle.sj_grammar.specs.Reading.{before_next, fault_at}
 use Rattle.sj_grammar.specs.Places.{Pieces, At, Begins}
 use Rattle.sj_grammar.specs.Layers.{Layer, goes, step, run, may_end, rule_of}
-
--- that rule is broken, but a token that can't be read at all, or 2^63, breaks its own before
-abbrev pub first_rule : Rule → Ahead → Rule
-first_rule rule at_end = rule
-first_rule rule (bad lexical rest) = lexical
-first_rule rule (token what s rest) = if is_largest s then P3 else rule
-
--- what comes next breaks that rule
-abbrev pub fault_next : Reading → Rule → Ahead → Fault
-fault_next r rule ahead = fault_at (before_next r ahead) (first_rule rule ahead)
 
 module _ {D : Type 0} (G : Layer D) (L : Limits) where
   -- the rule that what comes next breaks
@@ -44,13 +31,3 @@ module _ {D : Type 0} (G : Layer D) (L : Limits) where
     pub front : Begins a pieces there
     pub fits : run G L n ds pieces ≡ goes count due
     pub halts : Halts count there due f
-
-  -- and what is due there can't be left out, so that what is due behind doesn't matter
-  pub record StuckInside (n : ℕ) (a : At) (ds : List D) (f : Fault) : Type 0 where
-    pub stuck : Stuck n a ds f
-    pub inside : may_end G stuck.due ≡ false
-
--- where the refusal is a fault
-abbrev pub OnFault : (Fault → Type 0) → ParseRefusal → Type 0
-OnFault P (refusals.At f) = P f
-OnFault P refusals.NoMemory = Unit {0}

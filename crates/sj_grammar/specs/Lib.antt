@@ -16,5 +16,6 @@ pub mod Places
 pub mod ProtocolDues
 pub mod Protocols
 pub mod Reading
+pub mod Refusals
 pub mod Statements
 pub mod Tables

@@ -3,7 +3,7 @@ use Rattle.std.specs.Prelude.{ℕ, suc, ◌<◌, List, [], ◌∷◌, ◌++◌, 
 use Rattle.sj_lang.specs.declared.party.Scalar.{Scalar}
 use Rattle.sj_lang.specs.declared.party.Scalar.TheVariants as scalars
 use Rattle.sj_lang.specs.Term.{Term}
-use Rattle.sj_lang.specs.Code.{Code, Step, Branches, no_step, step_then, at, send, delegate, take_value, take_end, outbranch, inbranch, outwhile, inwhile, relay, if_else, let_be, close, no_branch, branch}
+use Rattle.sj_lang.specs.Code.{Code, StmtAt, Branches, no_stmt, stmt_then, at, send, delegate, take_value, take_end, outbranch, inbranch, outwhile, inwhile, relay, if_else, let_be, close, no_branch, branch}
 use Rattle.sj_grammar.specs.Limits.{Limits}
 use Rattle.sj_grammar.specs.Tables.{Spelling, IsNamed}
 use Rattle.sj_grammar.specs.Places.{Pieces, Piece, plain, first_on, all_plain}
@@ -25,10 +25,10 @@ module _ (L : Limits) (names : Spelling) where
 
   mutual
     pub data IsCode : ℕ → Code → List Piece → Type 0 where
-      none : {o : ℕ} → IsCode o no_step []
-      one_more : {o : ℕ} {s : Step} {rest : Code} {a b : List Piece} → IsStatement o s a → IsCode o rest b → IsCode o (step_then s rest) (a ++ b)
+      none : {o : ℕ} → IsCode o no_stmt []
+      one_more : {o : ℕ} {s : StmtAt} {rest : Code} {a b : List Piece} → IsStatement o s a → IsCode o rest b → IsCode o (stmt_then s rest) (a ++ b)
 
-    pub data IsStatement : ℕ → Step → List Piece → Type 0 where
+    pub data IsStatement : ℕ → StmtAt → List Piece → Type 0 where
       of_send : {o l x : ℕ} {t : Term} {e : Pieces} → IsNamed L names.word x → IsExpression L names t e
           → IsStatement o (at l (send x t)) (first_on l (codes "send") ∷ called x ∷ (all_plain e ++ plain (codes ";") ∷ []))
       of_delegate : {o l x y : ℕ} → IsNamed L names.word x → IsNamed L names.word y

@@ -11,7 +11,7 @@ use Rattle.sj_rules.specs.World.{WorldAt, happens}
 use Rattle.sj_rules.specs.Log.{EntryAt, LineAt, IsBefore, IsInOrder, IsJoined, part_of}
 use Rattle.sj_rules.specs.History.{IsLog, due}
 use Rattle.sj_rules.specs.Posts.{line_posts, posts_of, event_done, all_posts, from_there}
-use Rattle.sj_rules.specs.NodeRun.{StepAt, Steps, NodeRun, popped_from, posted_to, told, told_frames}
+use Rattle.sj_rules.specs.NodeRun.{StepAt, Steps, NodeRun, popped_from, posted_to, frame_told, told_frames}
 use Rattle.sj_rules.specs.Joined.{WorkerAt, AllWork, Works, Holds, left_in}
 use Rattle.sj_joined_laws.proofs.OrderLemmas.{part_here, part_others}
 use Rattle.sj_joined_laws.proofs.OwnStepLemmas.{stepped, step_happens, step_due, step_posts}
@@ -149,7 +149,7 @@ module _ {P Q : Type 0} (play : Play P Q) (pick : ℕ → ℕ → ℕ) (blank : 
       posts : (v : WorldAt P Q) → happens play pick w l.party l.entry.event ≡ Some v → (p q : ℕ) →
           told_frames blank (all_posts play pick p q (l ∷ ls) w) ≡ told_frames blank (line_posts play pick w l p q) ++ told_frames blank (all_posts play pick p q ls v)
       posts v is p q =
-          map-append (told blank) (line_posts play pick w l p q) (from_there (all_posts play pick p q ls) (happens play pick w l.party l.entry.event))
+          map-append (frame_told blank) (line_posts play pick w l p q) (from_there (all_posts play pick p q ls) (happens play pick w l.party l.entry.event))
           ∙ ap (λ (h : Option (WorldAt P Q)). told_frames blank (line_posts play pick w l p q) ++ told_frames blank (from_there (all_posts play pick p q ls) h)) is
 
 module _ {P Q : Type 0} (play : Play P Q) (pick : ℕ → ℕ → ℕ) (blank : P) (start : WorldAt P Q) (workers : ℕ → WorkerAt P Q)

@@ -7,7 +7,7 @@ use Rattle.sj_rules.specs.Frames.{FrameAt, is_within, is_proper}
 use Rattle.sj_rules.specs.Node.{Play, NodeAt, comes, arrives}
 use Rattle.sj_rules.specs.World.{WorldAt, Turn, Run}
 use Rattle.sj_rules.specs.Within.{ClocksWithin}
-use Rattle.sj_rules.specs.NodeRun.{told, told_body}
+use Rattle.sj_rules.specs.NodeRun.{frame_told, told_body}
 use Rattle.sj_joined_laws.proofs.ToldLemmas.{same_comes}
 use Rattle.sj_joined_laws.proofs.ClockLemmas.{step_within}
 
@@ -21,15 +21,15 @@ told_within n blank (Ack of c) = refl
 told_within n blank (Give e resend) = refl
 
 -- so it keeps the limits where the frame does
-pub told_proper : {P : Type 0} → (n : ℕ) (blank : P) (f : FrameAt P) → is_proper n (told blank f) ≡ is_proper n f
+pub told_proper : {P : Type 0} → (n : ℕ) (blank : P) (f : FrameAt P) → is_proper n (frame_told blank f) ≡ is_proper n f
 told_proper n blank f = ap (λ b. nat_lt f.clock clock_end && b) (told_within n blank f.body)
 
 -- frames that are told alike keep them both or neither
-pub same_proper : {P : Type 0} → (n : ℕ) (blank : P) (f g : FrameAt P) → told blank f ≡ told blank g → is_proper n f ≡ is_proper n g
+pub same_proper : {P : Type 0} → (n : ℕ) (blank : P) (f g : FrameAt P) → frame_told blank f ≡ frame_told blank g → is_proper n f ≡ is_proper n g
 same_proper n blank f g e = sym (told_proper n blank f) ∙ ap (is_proper n) e ∙ told_proper n blank g
 
 -- and do the same at a node, limits and all
-pub same_arrives : {P Q : Type 0} → (n : ℕ) (pick : ℕ → ℕ → ℕ) (blank : P) (m : NodeAt P Q) (origin : ℕ) (f g : FrameAt P) → told blank f ≡ told blank g →
+pub same_arrives : {P Q : Type 0} → (n : ℕ) (pick : ℕ → ℕ → ℕ) (blank : P) (m : NodeAt P Q) (origin : ℕ) (f g : FrameAt P) → frame_told blank f ≡ frame_told blank g →
     arrives n pick m origin f ≡ arrives n pick m origin g
 same_arrives {P} n pick blank m origin f g e =
     ap (λ b. if b then comes pick m origin f.body else None) (same_proper n blank f g e)

@@ -6,7 +6,7 @@ use Rattle.sj_rules.specs.Node.{Play, NodeAt, arrives, acts}
 use Rattle.sj_rules.specs.Frames.{FrameAt}
 use Rattle.sj_rules.specs.World.{WorldAt, Act, Deliver, happens}
 use Rattle.sj_rules.specs.Log.{NoteAt, body_note, delivery_note, notes_from}
-use Rattle.sj_rules.specs.NodeRun.{Deed, Acted, Came, StepAt, Steps, NodeRun, event_of, clock_after, deed_note, frame_from, popped_from, told, told_frames}
+use Rattle.sj_rules.specs.NodeRun.{Deed, Acted, Came, StepAt, Steps, NodeRun, event_of, clock_after, deed_note, frame_from, popped_from, frame_told, told_frames}
 use Rattle.sj_rules.specs.Joined.{Holds}
 use Rattle.sj_joined_laws.proofs.ToldLemmas.{note_told}
 use Rattle.sj_joined_laws.proofs.LimitLemmas.{same_arrives}
@@ -18,7 +18,7 @@ module _ {P Q : Type 0} (play : Play P Q) (pick : ℕ → ℕ → ℕ) (blank : 
   deed_noted n q Acted note e = refl
   deed_noted n q (Came from f) note e = by (q == from)
     where
-      by : (b : Bool) → (if b then Some note else None) ≡ option_map (λ f. body_note f.body) (if b then Some (told blank f) else None)
+      by : (b : Bool) → (if b then Some note else None) ≡ option_map (λ f. body_note f.body) (if b then Some (frame_told blank f) else None)
       by true = sym e ∙ ap Some (sym (note_told blank f.body))
       by false = refl
 
@@ -47,11 +47,11 @@ module _ {P Q : Type 0} (play : Play P Q) (pick : ℕ → ℕ → ℕ) (blank : 
 
 module _ {P Q : Type 0} (play : Play P Q) (pick : ℕ → ℕ → ℕ) (blank : P) (v : WorldAt P Q) (last : ℕ → NodeAt P Q) (left : ℕ → ℕ → List (FrameAt P)) (holds : Holds blank v last left) where
   -- the first frame of a lane that tells that one first
-  front_of : (lane : List (FrameAt P)) (f : FrameAt P) (more : List (FrameAt P)) → told_frames blank lane ≡ told blank f ∷ more →
-      (g : FrameAt P) × (rest : List (FrameAt P)) × (lane ≡ g ∷ rest) × (told blank g ≡ told blank f)
+  front_of : (lane : List (FrameAt P)) (f : FrameAt P) (more : List (FrameAt P)) → told_frames blank lane ≡ frame_told blank f ∷ more →
+      (g : FrameAt P) × (rest : List (FrameAt P)) × (lane ≡ g ∷ rest) × (frame_told blank g ≡ frame_told blank f)
   front_of [] f more e = absurd (cc e)
   front_of (g ∷ rest) f more e =
-      let same : told blank g ≡ told blank f = cc e in
+      let same : frame_told blank g ≡ frame_told blank f = cc e in
       (g, rest, refl, same)
 
   -- the first frame in the lane from p to q does in the world what that frame does at q's last node
@@ -59,11 +59,11 @@ module _ {P Q : Type 0} (play : Play P Q) (pick : ℕ → ℕ → ℕ) (blank : 
     pub frame : FrameAt P
     pub rest : List (FrameAt P)
     pub front : v.lanes p q ≡ frame ∷ rest
-    pub told_alike : told blank frame ≡ told blank f
+    pub told_alike : frame_told blank frame ≡ frame_told blank f
     pub same : arrives play.parties pick (v.nodes q) p frame ≡ arrives play.parties pick (last q) p f
 
   -- the frame that the lane tells first
-  pub front_like : (p q : ℕ) (f : FrameAt P) (more : List (FrameAt P)) → left p q ≡ told blank f ∷ more → FrontLike p q f
+  pub front_like : (p q : ℕ) (f : FrameAt P) (more : List (FrameAt P)) → left p q ≡ frame_told blank f ∷ more → FrontLike p q f
   front_like p q f more is =
       let g = front_of (v.lanes p q) f more (holds.lanes p q ∙ is) in
       record {
@@ -75,7 +75,7 @@ module _ {P Q : Type 0} (play : Play P Q) (pick : ℕ → ℕ → ℕ) (blank : 
       }
 
   -- where a worker's node refused the frame that it popped last, the front frame of that lane fits no row in the world
-  pub refused_frame : (p q : ℕ) (f : FrameAt P) (more : List (FrameAt P)) → left p q ≡ told blank f ∷ more → arrives play.parties pick (last q) p f ≡ None →
+  pub refused_frame : (p q : ℕ) (f : FrameAt P) (more : List (FrameAt P)) → left p q ≡ frame_told blank f ∷ more → arrives play.parties pick (last q) p f ≡ None →
       happens play pick v q (Deliver p) ≡ None
   refused_frame p q f more is row =
       let g : FrontLike p q f = front_like p q f more is in

@@ -8,14 +8,14 @@ use Rattle.sj_rules.specs.Frames.{FrameAt}
 use Rattle.sj_rules.specs.World.{WorldAt, happens, after_event, with_lane}
 use Rattle.sj_rules.specs.History.{event_note, due}
 use Rattle.sj_rules.specs.Posts.{event_done, posts_of}
-use Rattle.sj_rules.specs.NodeRun.{Deed, Acted, Came, StepAt, Steps, event_of, clock_after, deed_done, deed_note, told}
+use Rattle.sj_rules.specs.NodeRun.{Deed, Acted, Came, StepAt, Steps, event_of, clock_after, deed_done, deed_note, frame_told}
 use Rattle.sj_joined_laws.proofs.ToldLemmas.{same_note}
 use Rattle.sj_joined_laws.proofs.LimitLemmas.{same_arrives}
 
 -- the lanes without the frame of that deed, which was the next one
 pub data Fed {P : Type 0} (blank : P) (p : ℕ) (lanes : ℕ → ℕ → List (FrameAt P)) : Deed P → (ℕ → ℕ → List (FrameAt P)) → Type 0 where
   by_itself : Fed blank p lanes Acted lanes
-  by_frame : (q : ℕ) (f g : FrameAt P) (rest : List (FrameAt P)) → lanes q p ≡ g ∷ rest → told blank g ≡ told blank f →
+  by_frame : (q : ℕ) (f g : FrameAt P) (rest : List (FrameAt P)) → lanes q p ≡ g ∷ rest → frame_told blank g ≡ frame_told blank f →
       Fed blank p lanes (Came q f) (with_lane q p rest lanes)
 
 module _ {P Q : Type 0} (play : Play P Q) (pick : ℕ → ℕ → ℕ) (blank : P) (w : WorldAt P Q) (p : ℕ) where

@@ -8,7 +8,7 @@ use Rattle.sj_rules.specs.Frames.{FrameAt}
 use Rattle.sj_rules.specs.World.{WorldAt}
 use Rattle.sj_rules.specs.Log.{LineAt, IsJoined, part_of, body_note, logs_below, notes_from}
 use Rattle.sj_rules.specs.Posts.{all_posts}
-use Rattle.sj_rules.specs.NodeRun.{popped_from, told, told_frames}
+use Rattle.sj_rules.specs.NodeRun.{popped_from, frame_told, told_frames}
 use Rattle.sj_rules.specs.Joined.{WorkerAt, fresh, Works, AllWork, PartiesWork, left_in, workers_below, lost_below}
 use Rattle.sj_joined_laws.proofs.NotesLemmas.{pops_noted, FrontLike, front_like}
 use Rattle.sj_joined_laws.proofs.JoinedLemmas.{joined_logs_run}
@@ -58,13 +58,13 @@ module _ {P Q : Type 0} (play : Play P Q) (pick : ℕ → ℕ → ℕ) (blank : 
       ∙ ap (map (λ f. body_note f.body)) (sym pops)
 
   -- a frame that a worker popped and lost is the first in its lane in the world, and does there what it does at the worker's node
-  pub lost_is_front : (p q : ℕ) (f : FrameAt P) → q < n → lost q p ≡ told blank f ∷ [] →
+  pub lost_is_front : (p q : ℕ) (f : FrameAt P) → q < n → lost q p ≡ frame_told blank f ∷ [] →
       FrontLike play pick blank (parties_run play pick blank n start workers lost all lines joined).world (λ r. (workers_below n start workers r).node)
       (left_in (workers_below n start workers) (lost_below n lost) (waiting play pick blank n start workers lost all))
       (parties_run play pick blank n start workers lost all lines joined).holds p q f
   lost_is_front p q f h one =
       let e : nat_lt q n ≡ true = grind (arith, nat_tests) in
-      let first : lost_below n lost q p ≡ told blank f ∷ [] = rw e one in
+      let first : lost_below n lost q p ≡ frame_told blank f ∷ [] = rw e one in
       front_like play pick blank (parties_run play pick blank n start workers lost all lines joined).world (λ r. (workers_below n start workers r).node)
       (left_in (workers_below n start workers) (lost_below n lost) (waiting play pick blank n start workers lost all))
       (parties_run play pick blank n start workers lost all lines joined).holds p q f

@@ -15,8 +15,8 @@ abbrev pub ins_of : List (Lanes RingOut RingIn) → List (List RingIn)
 ins_of lanes = map (λ l. l.ins.items) lanes
 
 -- the rows with x at the end of row p
-abbrev pub added : {X : Type 0} → List (List X) → ℕ → X → List (List X)
-added rows p x = slice_set rows p (slice_index_or rows p [] ++ x ∷ [])
+abbrev pub rows_with : {X : Type 0} → List (List X) → ℕ → X → List (List X)
+rows_with rows p x = slice_set rows p (slice_index_or rows p [] ++ x ∷ [])
 
 -- row p
 abbrev pub row : {X : Type 0} → List (List X) → ℕ → List X
@@ -40,8 +40,8 @@ pub record Linked (a b : List (Lanes RingOut RingIn)) (p q : ℕ) : Type 0 where
   pub joined : Joined out lane
   pub new_out : NewOut out
   pub new_in : NewIn lane
-  pub outs : outs_of b ≡ added (outs_of a) p out
-  pub ins : ins_of b ≡ added (ins_of a) q lane
+  pub outs : outs_of b ≡ rows_with (outs_of a) p out
+  pub ins : ins_of b ≡ rows_with (ins_of a) q lane
 
 -- the rings so far: all from the parties below p, and those from p to the parties below q
 pub record Grid (n p q : ℕ) (lanes : List (Lanes RingOut RingIn)) : Type 0 where

@@ -5,7 +5,7 @@ use Rattle.sj_lang.specs.declared.file.Party.{Party}
 use Rattle.sj_lang.specs.declared.file.EndDecl.{EndDecl}
 use Rattle.sj_lang.specs.declared.file.Connect.{Connect}
 use Rattle.sj_lang.specs.declared.file.File.{File}
-use Rattle.sj_lang.specs.Code.{code_of}
+use Rattle.sj_lang.specs.CodeView.{code_of}
 use Rattle.sj_lang.specs.FileAt.{ProtocolAt, PartyAt, DeclAt, ConnectAt, FileAt}
 
 abbrev pub protocol_of : ProtocolDef → ProtocolAt

@@ -1,11 +1,13 @@
 pub mod After
 pub mod Code
+pub mod CodeView
 pub mod Dual
 pub mod FileAt
 pub mod FileView
 pub mod ItemCount
 pub mod Place
 pub mod PlaceCode
+pub mod PlaceSize
 pub mod Sizes
 pub mod Term
 pub mod View

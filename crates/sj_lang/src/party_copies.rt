@@ -1,7 +1,6 @@
 //! Copies of expressions and statements.
 ghost use Rattle.std.specs.Prelude.{◌≡◌, IfOk, map};
-ghost use Rattle.sj_lang.specs.Term.{term_of};
-ghost use Rattle.sj_lang.specs.Code.{stmt_of, deed_of, arm_of};
+ghost use Rattle.sj_lang.specs.CodeView.{term_of, stmt_of, deed_of, arm_of};
 
 use crate::party::{Deed, Expr, Stmt, StmtArm};
 use sj_base::NoMemory;

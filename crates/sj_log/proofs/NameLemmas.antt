@@ -2,10 +2,10 @@
 use Rattle.std.proofs.Common.{◌≡◌, ℕ, List, Option, Some, None, refl, ap, inl, inr}
 use Rattle.std.specs.Prelude.{IfSome, IfNone}
 use Rattle.std.proofs.lemmas.Bool.{cases_order}
-use Rattle.sj_lang.specs.Words.{IsFirstPlace, IsAbsent}
+use Rattle.sj_lang.specs.Words.{IsFirstIndex, IsAbsent}
 use Rattle.sj_lang.proofs.WordLemmas.{IsPlaced}
 
-same_place : (word : List ℕ) (words : List (List ℕ)) (m n : ℕ) → IsFirstPlace word words m → IsFirstPlace word words n → m ≡ n
+same_place : (word : List ℕ) (words : List (List ℕ)) (m n : ℕ) → IsFirstIndex word words m → IsFirstIndex word words n → m ≡ n
 same_place word words m n g h = elim (cases_order m n) [
   | inl same ↦ same
   | inr (inl below) ↦ absurd (h.first m below g.here)
@@ -18,6 +18,6 @@ place_is word words (Some n) None h g = absurd (g n h.here)
 place_is word words None (Some m) h g = absurd (h m g.here)
 place_is word words None None h g = refl
 
-pub placed_from : (word : List ℕ) (words : List (List ℕ)) (r : Option ℕ) → IfSome r (IsFirstPlace word words) → IfNone r (IsAbsent word words) → IsPlaced word words r
+pub placed_from : (word : List ℕ) (words : List (List ℕ)) (r : Option ℕ) → IfSome r (IsFirstIndex word words) → IfNone r (IsAbsent word words) → IsPlaced word words r
 placed_from word words (Some n) here none = here
 placed_from word words None here none = none

@@ -7,7 +7,7 @@ use Rattle.std.proofs.lemmas.Bool.{lt-ltb}
 use Rattle.std.proofs.lemmas.Bool.Decides.{nat_tests}
 use Rattle.std.proofs.lemmas.List.{get_or-append_right, length-append, take-append-le, take_all}
 use Rattle.sj_lang.specs.FileAt.{FileAt}
-use Rattle.sj_lang.specs.Words.{first_place}
+use Rattle.sj_lang.specs.Words.{first_index}
 use Rattle.sj_semantics.specs.Lines.{word_at, name_of, end_text, int_text, quoted_at, quoted_or_number}
 use Rattle.sj_grammar.specs.Bytes.{is_digit, begins_with, is_printable}
 use Rattle.sj_grammar.specs.Literals.{inner}
@@ -104,7 +104,7 @@ last_is t =
 two_quotes : (t : List ℕ) → nat_lt 1 (length (34 ∷ t ++ 34 ∷ [])) ≡ true
 two_quotes t = lt-ltb 1 (length (34 ∷ t ++ 34 ∷ [])) (omega (arith, length-append t (34 ∷ [])))
 
-quoted_back : (file : FileAt) (n : ℕ) (t : List ℕ) → list_all is_printable t ≡ true → first_place t file.texts ≡ Some n → n ≤ 4294967295 → text_read file (34 ∷ t ++ 34 ∷ []) ≡ Ok n
+quoted_back : (file : FileAt) (n : ℕ) (t : List ℕ) → list_all is_printable t ≡ true → first_index t file.texts ≡ Some n → n ≤ 4294967295 → text_read file (34 ∷ t ++ 34 ∷ []) ≡ Ok n
 unfolding text_read
 quoted_back file n t form first small =
     rw (two_quotes t) (rw (last_is t) (rw (inner_is t) (rw form (rw first (rw (at_most n 4294967295 small) refl)))))

@@ -5,7 +5,7 @@ use Rattle.sj_base.specs.declared.EndId.{EndId}
 use Rattle.sj_base.specs.declared.Msg.{Msg}
 use Rattle.sj_base.specs.declared.Msg.TheVariants as msgs
 use Rattle.sj_lang.specs.FileAt.{FileAt}
-use Rattle.sj_lang.specs.Words.{first_place}
+use Rattle.sj_lang.specs.Words.{first_index}
 use Rattle.sj_semantics.specs.Lines.{word_at, name_of}
 use Rattle.sj_rules.specs.Log.{NoteAt, LineAt, Local, Sent, Took, Shut, Carry, Fin, Claim, Signal, Ack, Give}
 use Rattle.sj_rules.specs.World.{Event, Act, Deliver}
@@ -27,13 +27,13 @@ IsInt (negsuc n) = n ≤ 9223372036854775807
 -- the party of that number is the first that is called so
 pub record HasParty (file : FileAt) (p : ℕ) : Type 0 where
   pub form : is_word (name_of file p) ≡ true
-  pub first : party_of_name file.parties (first_place (name_of file p) file.words) ≡ Some p
+  pub first : party_of_name file.parties (first_index (name_of file p) file.words) ≡ Some p
   pub small : p ≤ 65535
 
 -- the word of that number stands at no earlier place
 pub record HasWord (file : FileAt) (n : ℕ) : Type 0 where
   pub form : is_word (word_at file.words n) ≡ true
-  pub first : first_place (word_at file.words n) file.words ≡ Some n
+  pub first : first_index (word_at file.words n) file.words ≡ Some n
   pub small : n ≤ 65535
 
 -- the text of that number stands at no earlier place
@@ -41,7 +41,7 @@ pub record HasText (file : FileAt) (n : ℕ) : Type 0 where
   pub text : List ℕ
   pub here : slice_get file.texts n ≡ Some text
   pub form : list_all is_printable text ≡ true
-  pub first : first_place text file.texts ≡ Some n
+  pub first : first_index text file.texts ≡ Some n
   pub small : n ≤ 4294967295
 
 abbrev pub IsMessage : FileAt → Msg → Type 0

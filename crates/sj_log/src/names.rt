@@ -6,8 +6,8 @@ ghost use Rattle.sj_grammar.specs.Names.{is_word};
 ghost use Rattle.sj_grammar.specs.Literals.{inner};
 ghost use Rattle.sj_lang.specs.FileAt.{party_named};
 ghost use Rattle.sj_lang.specs.FileView.{file_of, party_of};
-ghost use Rattle.sj_lang.specs.Words.{first_place};
-ghost use Rattle.sj_log.specs.Names.{known, party_of_name, label_read, party_read, text_read, is_quoted};
+ghost use Rattle.sj_lang.specs.Words.{first_index};
+ghost use Rattle.sj_log.specs.Names.{number_known, party_of_name, label_read, party_read, text_read, is_quoted};
 
 use crate::refusal::LogRule;
 use sj_lang::{File, Party, Words};
@@ -41,7 +41,7 @@ fn has_word_form(w: &[u8]) -> bool
 
 // The number of a word in its table.
 fn place_in(words: &Words, word: &[u8]) -> Option<usize>
-    ensures { result ≡ first_place word.now words.now }
+    ensures { result ≡ first_index word.now words.now }
 {
     words.find(word)
 }
@@ -62,7 +62,7 @@ fn first_named(parties: &[Party], name: usize) -> usize
 
 // The number of a name, where it is at most so large.
 fn within(most: usize, place: Option<usize>) -> Result<usize, LogRule>
-    ensures known { result ≡ known most place }
+    ensures number_known { result ≡ number_known most place }
     ensures most { IfOk result (λ n. n ≤ most) }
 {
     match place {
@@ -87,7 +87,7 @@ pub(crate) fn label(file: &File, w: &[u8]) -> Result<u16, LogRule>
 
 // The number of the party of that name.
 fn party_place(file: &File, w: &[u8]) -> Option<usize>
-    ensures { result ≡ party_of_name (file_of file.now).parties (first_place w.now (file_of file.now).words) }
+    ensures { result ≡ party_of_name (file_of file.now).parties (first_index w.now (file_of file.now).words) }
 {
     let name = place_in(&file.names.words, w)?;
     let parties = file.parties.as_slice();

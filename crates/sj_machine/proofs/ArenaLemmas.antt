@@ -1,7 +1,7 @@
 -- The blocks of an arena's nodes.
 use Rattle.std.proofs.Common.{◌≡◌, ℕ, zero, suc, ◌+◌, ◌<◌, ◌≤◌, List, [], ◌∷◌, ◌++◌, length, get_or, Option, Some, None, refl, ap, sym, subst, ◌∙◌, arith, length-append}
-use Rattle.sj_lang.specs.Term.{term_of}
-use Rattle.sj_lang.specs.Code.{Code, no_step, step_then, at, inbranch, outwhile, inwhile, relay, if_else, branch}
+use Rattle.sj_lang.specs.CodeView.{term_of}
+use Rattle.sj_lang.specs.Code.{Code, no_stmt, stmt_then, at, inbranch, outwhile, inwhile, relay, if_else, branch}
 use Rattle.sj_machine.specs.declared.arena.ArmAt.{ArmAt}
 use Rattle.sj_machine.specs.declared.arena.Op.{Op}
 use Rattle.sj_machine.specs.declared.arena.Op.TheVariants.{Send, Delegate, Take, TakeEnd, Select, Branch, OutWhile, InWhile, Relay, If, Let, Close}
@@ -51,7 +51,7 @@ codes_kept codes (n ∷ ns) j d h =
 
 pub code_kept : (codes : List Code) (ns : List Node) (o : Option ℕ) → IsBelow (length codes) o → code_in (codes_from codes ns) o ≡ code_in codes o
 code_kept codes ns None h = refl
-code_kept codes ns (Some i) h = codes_kept codes ns i no_step h
+code_kept codes ns (Some i) h = codes_kept codes ns i no_stmt h
 
 pub arms_kept : (codes : List Code) (ns : List Node) (arms : List ArmAt) → AreBelow (length codes) arms → arms_in (codes_from codes ns) arms ≡ arms_in codes arms
 arms_kept codes ns [] h = refl
@@ -72,30 +72,30 @@ act_kept codes ns (Let n e) h = refl
 act_kept codes ns (Close x) h = refl
 
 node_kept : (codes : List Code) (ns : List Node) (n : Node) → IsBelow (length codes) n.next → IsOpBelow (length codes) n.op → node_code (codes_from codes ns) n ≡ node_code codes n
-node_kept codes ns n a b = λ i. step_then (at n.line (act_kept codes ns n.op b i)) (code_kept codes ns n.next a i)
+node_kept codes ns n a b = λ i. stmt_then (at n.line (act_kept codes ns n.op b i)) (code_kept codes ns n.next a i)
 
 -- ---- the block that begins with a node
 
 node_code_from : (codes : List Code) (ns : List Node) (j : ℕ) (n : Node) → IsBackward (length codes) ns → j < length ns → n ≡ get_or ns j n
-    → get_or (codes_from codes ns) (length codes + j) no_step ≡ node_code (codes_from codes ns) n
+    → get_or (codes_from codes ns) (length codes + j) no_stmt ≡ node_code (codes_from codes ns) n
 node_code_from codes [] j n h lt e = absurd (omega arith)
 node_code_from codes (m ∷ ns) zero n h lt e =
     let more : List Code = codes ++ node_code codes m ∷ [] in
-    codes_kept more ns (length codes + 0) no_step (omega (arith, length-append codes (node_code codes m ∷ [])))
-    ∙ get_or_end codes (node_code codes m) (length codes + 0) no_step (omega arith)
+    codes_kept more ns (length codes + 0) no_stmt (omega (arith, length-append codes (node_code codes m ∷ [])))
+    ∙ get_or_end codes (node_code codes m) (length codes + 0) no_stmt (omega arith)
     ∙ sym (node_kept codes (m ∷ ns) m h.0 h.1)
     ∙ ap (node_code (codes_from codes (m ∷ ns))) (sym e)
 node_code_from codes (m ∷ ns) (suc j) n h lt e =
     let more : List Code = codes ++ node_code codes m ∷ [] in
     let len : suc (length codes) ≡ length more = omega (arith, length-append codes (node_code codes m ∷ [])) in
     let there : length codes + suc j ≡ length more + j = omega arith in
-    ap (λ (t : ℕ). get_or (codes_from more ns) t no_step) there
+    ap (λ (t : ℕ). get_or (codes_from more ns) t no_stmt) there
     ∙ node_code_from more ns j n (subst (λ (t : ℕ). IsBackward t ns) len h.2) (omega arith) e
 
 pub node_code_of : (nodes : List Node) (i : ℕ) (n : Node) → IsBackward 0 nodes → i < length nodes → n ≡ get_or nodes i n → code_in (codes_of nodes) (Some i) ≡ node_code (codes_of nodes) n
 node_code_of nodes i n back lt e =
     let start : 0 + i ≡ i = omega arith in
-    subst (λ (t : ℕ). get_or (codes_of nodes) t no_step ≡ node_code (codes_of nodes) n) start (node_code_from [] nodes i n back lt e)
+    subst (λ (t : ℕ). get_or (codes_of nodes) t no_stmt ≡ node_code (codes_of nodes) n) start (node_code_from [] nodes i n back lt e)
 
 backward_from : (k : ℕ) (ns : List Node) (j : ℕ) (n : Node) → IsBackward k ns → j < length ns → n ≡ get_or ns j n → IsBelow (k + j) n.next × IsOpBelow (k + j) n.op
 backward_from k [] j n h lt e = absurd (omega arith)

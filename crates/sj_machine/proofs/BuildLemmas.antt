@@ -1,6 +1,7 @@
 -- What putting nodes behind others keeps.
 use Rattle.std.proofs.Common.{◌≡◌, ℕ, zero, suc, ◌+◌, ◌-◌, ◌<◌, ◌≤◌, drop, take, map, List, [], ◌∷◌, ◌++◌, length, get_or, Option, Some, refl, ap, sym, subst, ◌∙◌, arith, length-append, append_assoc, append-nil}
-use Rattle.sj_lang.specs.Code.{Code, Act, no_step, step_then, at, branch, branches_of, code_of, stmt_of}
+use Rattle.sj_lang.specs.Code.{Code, DeedAt, no_stmt, stmt_then, at, branch}
+use Rattle.sj_lang.specs.CodeView.{branches_of, code_of, stmt_of}
 use Rattle.sj_lang.specs.declared.party.Stmt.{Stmt}
 use Rattle.sj_lang.specs.declared.party.StmtArm.{StmtArm}
 use Rattle.sj_machine.specs.declared.arena.ArmAt.{ArmAt}
@@ -63,24 +64,24 @@ grown_push old new n e h a b =
 
 pub pushed_code : (old new : List Node) (n : Node) (i : ℕ) → new ≡ old ++ n ∷ [] → i ≡ length old → code_in (codes_of new) (Some i) ≡ node_code (codes_of old) n
 pushed_code old new n i e ei =
-    ap (λ (t : ℕ). get_or (codes_of new) t no_step) ei ∙ ap (λ (t : List Node). get_or (codes_of t) (length old) no_step) e
-    ∙ ap (λ (t : List Code). get_or t (length old) no_step) (codes_from_append [] old (n ∷ []))
-    ∙ get_or_end (codes_of old) (node_code (codes_of old) n) (length old) no_step (sym (length-codes_of old))
+    ap (λ (t : ℕ). get_or (codes_of new) t no_stmt) ei ∙ ap (λ (t : List Node). get_or (codes_of t) (length old) no_stmt) e
+    ∙ ap (λ (t : List Code). get_or t (length old) no_stmt) (codes_from_append [] old (n ∷ []))
+    ∙ get_or_end (codes_of old) (node_code (codes_of old) n) (length old) no_stmt (sym (length-codes_of old))
 
 -- ---- the block from a place on: its statement, and the block behind it
 
-code_suc : (stmts : List Stmt) (j : ℕ) (s : Stmt) → j < length stmts → s ≡ get_or stmts j s → code_of (drop j stmts) ≡ step_then (stmt_of s) (code_of (drop (suc j) stmts))
+code_suc : (stmts : List Stmt) (j : ℕ) (s : Stmt) → j < length stmts → s ≡ get_or stmts j s → code_of (drop j stmts) ≡ stmt_then (stmt_of s) (code_of (drop (suc j) stmts))
 code_suc [] j s h e = absurd (omega arith)
-code_suc (x ∷ xs) zero s h e = ap (λ (t : Stmt). step_then (stmt_of t) (code_of xs)) (sym e)
+code_suc (x ∷ xs) zero s h e = ap (λ (t : Stmt). stmt_then (stmt_of t) (code_of xs)) (sym e)
 code_suc (x ∷ xs) (suc j) s h e = code_suc xs j s (omega arith) e
 
-pub code_before : (stmts : List Stmt) (a : ℕ) (s : Stmt) → 0 < a → a ≤ length stmts → s ≡ get_or stmts (a - 1) s → code_of (drop (a - 1) stmts) ≡ step_then (stmt_of s) (code_of (drop a stmts))
+pub code_before : (stmts : List Stmt) (a : ℕ) (s : Stmt) → 0 < a → a ≤ length stmts → s ≡ get_or stmts (a - 1) s → code_of (drop (a - 1) stmts) ≡ stmt_then (stmt_of s) (code_of (drop a stmts))
 code_before stmts a s h l e =
     let same : suc (a - 1) ≡ a = omega arith in
-    code_suc stmts (a - 1) s (omega arith) e ∙ ap (λ (t : ℕ). step_then (stmt_of s) (code_of (drop t stmts))) same
+    code_suc stmts (a - 1) s (omega arith) e ∙ ap (λ (t : ℕ). stmt_then (stmt_of s) (code_of (drop t stmts))) same
 
-pub then_same : (l : ℕ) (x y : Act) (c d : Code) → x ≡ y → c ≡ d → step_then (at l x) c ≡ step_then (at l y) d
-then_same l x y c d ex ec = λ i. step_then (at l (ex i)) (ec i)
+pub then_same : (l : ℕ) (x y : DeedAt) (c d : Code) → x ≡ y → c ≡ d → stmt_then (at l x) c ≡ stmt_then (at l y) d
+then_same l x y c d ex ec = λ i. stmt_then (at l (ex i)) (ec i)
 
 -- ---- arms, one after another
 

@@ -1,6 +1,6 @@
 -- What leaving a statement does to what is to do, and to the room that is left.
 use Rattle.std.proofs.Common.{◌≡◌, ℕ, suc, ◌+◌, ◌<◌, ◌≤◌, List, [], ◌∷◌, ◌++◌, length, get_or, Option, Some, None, refl, ap, sym, subst, ◌∙◌, arith}
-use Rattle.sj_lang.specs.Code.{Code, no_step, step_then, at}
+use Rattle.sj_lang.specs.Code.{Code, no_stmt, stmt_then, at}
 use Rattle.sj_semantics.specs.Program.{Thing, block}
 use Rattle.sj_machine.specs.declared.arena.Node.{Node}
 use Rattle.sj_machine.specs.declared.stack.Stage.TheVariants.{Fresh}
@@ -8,7 +8,7 @@ use Rattle.sj_machine.specs.declared.stack.Frame.{Frame}
 use Rattle.sj_machine.specs.declared.stack.After.{After}
 use Rattle.sj_machine.specs.declared.stack.After.TheVariants.{Past, Stays}
 use Rattle.sj_machine.specs.Arena.{code_in, act_in, node_code, codes_of, IsBelow, IsOpBelow, IsBackward}
-use Rattle.sj_machine.specs.Frames.{entered, frames_after, thing_at, staged, todo_from, todo_after, LeadsBelow, Fits}
+use Rattle.sj_machine.specs.Frames.{entry_frames, frames_after, thing_at, staged, todo_from, todo_after, LeadsBelow, Fits}
 use Rattle.sj_machine.proofs.ArenaLemmas.{node_code_of, backward_at}
 
 -- ---- what is to do
@@ -18,10 +18,10 @@ todo_append codes [] gs rest = refl
 todo_append codes (f ∷ fs) gs rest = todo_append codes fs gs (staged f.stage (code_in codes (Some f.at)) rest)
 
 staged_fresh : (code : Code) (rest : List Thing) → staged Fresh code rest ≡ block code rest
-staged_fresh no_step rest = refl
-staged_fresh (step_then (at line act) code) rest = refl
+staged_fresh no_stmt rest = refl
+staged_fresh (stmt_then (at line act) code) rest = refl
 
-pub todo_entered : (codes : List Code) (b : Option ℕ) (rest : List Thing) → todo_from codes (entered b) rest ≡ block (code_in codes b) rest
+pub todo_entered : (codes : List Code) (b : Option ℕ) (rest : List Thing) → todo_from codes (entry_frames b) rest ≡ block (code_in codes b) rest
 todo_entered codes None rest = refl
 todo_entered codes (Some i) rest = staged_fresh (code_in codes (Some i)) rest
 
@@ -33,7 +33,7 @@ todo_top codes fs f n e = todo_append codes fs (f ∷ []) [] ∙ ap (λ (c : Cod
 todo_leave : (codes : List Code) (f : Frame) (n : Node) (after : After) (rest : List Thing) → code_in codes (Some f.at) ≡ node_code codes n
     → todo_from codes (frames_after f n.next after) rest ≡ todo_after codes (act_in codes n.op) after (block (code_in codes n.next) rest)
 todo_leave codes f n (Past inside) rest e =
-    todo_append codes (entered n.next) (entered inside) rest ∙ todo_entered codes inside (todo_from codes (entered n.next) rest) ∙ ap (block (code_in codes inside)) (todo_entered codes n.next rest)
+    todo_append codes (entry_frames n.next) (entry_frames inside) rest ∙ todo_entered codes inside (todo_from codes (entry_frames n.next) rest) ∙ ap (block (code_in codes inside)) (todo_entered codes n.next rest)
 todo_leave codes f n (Stays stage inside) rest e =
     todo_entered codes inside (staged stage (code_in codes (Some f.at)) rest) ∙ ap (λ (c : Code). block (code_in codes inside) (staged stage c rest)) e
 
@@ -52,11 +52,11 @@ fits_split size k (f ∷ fs) gs a =
     let t = fits_split size (suc k) fs gs a.1 in
     ((a.0, t.0), subst (λ (t : ℕ). Fits size t gs) e t.1)
 
-fits_entered : (size k i : ℕ) (b : Option ℕ) → k + i ≤ size → IsBelow i b → Fits size k (entered b)
+fits_entered : (size k i : ℕ) (b : Option ℕ) → k + i ≤ size → IsBelow i b → Fits size k (entry_frames b)
 fits_entered size k i None l h = tt
 fits_entered size k i (Some j) l h = (omega arith, tt)
 
-length_entered : (b : Option ℕ) → length (entered b) ≤ 1
+length_entered : (b : Option ℕ) → length (entry_frames b) ≤ 1
 length_entered None = omega arith
 length_entered (Some i) = omega arith
 
@@ -107,12 +107,12 @@ left_fits nodes new fs f n after e p below =
 pub leave_room : (nodes : List Node) (fs : List Frame) (f : Frame) (n : Node) (room : ℕ) → Popped nodes fs f n → length nodes < room → length fs + 1 < room
 leave_room nodes fs f n room p lt = let u = p.rooms in omega arith
 
-pub fits_first : (size : ℕ) (new old : List Frame) (b : Option ℕ) → new ≡ old ++ entered b → old ≡ [] → IsBelow size b → Fits size 0 new
-fits_first size new old b e none h = subst (Fits size 0) (sym (e ∙ ap (λ (t : List Frame). t ++ entered b) none)) (first b h)
+pub fits_first : (size : ℕ) (new old : List Frame) (b : Option ℕ) → new ≡ old ++ entry_frames b → old ≡ [] → IsBelow size b → Fits size 0 new
+fits_first size new old b e none h = subst (Fits size 0) (sym (e ∙ ap (λ (t : List Frame). t ++ entry_frames b) none)) (first b h)
   where
-    first : (b : Option ℕ) → IsBelow size b → Fits size 0 (entered b)
+    first : (b : Option ℕ) → IsBelow size b → Fits size 0 (entry_frames b)
     first None h = tt
     first (Some i) h = (omega arith, tt)
 
-pub todo_first : (codes : List Code) (new old : List Frame) (b : Option ℕ) → new ≡ old ++ entered b → old ≡ [] → todo_from codes new [] ≡ block (code_in codes b) []
-todo_first codes new old b e none = ap (λ (t : List Frame). todo_from codes t []) (e ∙ ap (λ (t : List Frame). t ++ entered b) none) ∙ todo_entered codes b []
+pub todo_first : (codes : List Code) (new old : List Frame) (b : Option ℕ) → new ≡ old ++ entry_frames b → old ≡ [] → todo_from codes new [] ≡ block (code_in codes b) []
+todo_first codes new old b e none = ap (λ (t : List Frame). todo_from codes t []) (e ∙ ap (λ (t : List Frame). t ++ entry_frames b) none) ∙ todo_entered codes b []

@@ -1,7 +1,7 @@
 -- What the nodes of an arena stand for.
 use Rattle.std.specs.Prelude.{◌≡◌, ℕ, suc, ◌<◌, List, [], ◌∷◌, ◌++◌, Option, Some, None, get_or, ⊤}
-use Rattle.sj_lang.specs.Term.{term_of}
-use Rattle.sj_lang.specs.Code.{Code, Act, Branches, no_step, step_then, at, send, delegate, take_value, take_end, outbranch, inbranch, outwhile, inwhile, relay, if_else, let_be, close, no_branch, branch}
+use Rattle.sj_lang.specs.CodeView.{term_of}
+use Rattle.sj_lang.specs.Code.{Code, DeedAt, Branches, no_stmt, stmt_then, at, send, delegate, take_value, take_end, outbranch, inbranch, outwhile, inwhile, relay, if_else, let_be, close, no_branch, branch}
 use Rattle.sj_machine.specs.declared.arena.ArmAt.{ArmAt}
 use Rattle.sj_machine.specs.declared.arena.Op.{Op}
 use Rattle.sj_machine.specs.declared.arena.Op.TheVariants.{Send, Delegate, Take, TakeEnd, Select, Branch, OutWhile, InWhile, Relay, If, Let, Close}
@@ -9,8 +9,8 @@ use Rattle.sj_machine.specs.declared.arena.Node.{Node}
 
 -- the block that begins with that node, where these are the blocks that begin with each node
 abbrev pub code_in : List Code → Option ℕ → Code
-code_in codes None = no_step
-code_in codes (Some i) = get_or codes i no_step
+code_in codes None = no_stmt
+code_in codes (Some i) = get_or codes i no_stmt
 
 -- the arms of an `inbranch`
 abbrev pub arms_in : List Code → List ArmAt → Branches
@@ -18,7 +18,7 @@ arms_in codes [] = no_branch
 arms_in codes (a ∷ as') = branch a.label (code_in codes a.body) (arms_in codes as')
 
 -- the statement of an operation
-abbrev pub act_in : List Code → Op → Act
+abbrev pub act_in : List Code → Op → DeedAt
 act_in codes (Send x e) = send x (term_of e)
 act_in codes (Delegate x y) = delegate x y
 act_in codes (Take x n k) = take_value x n k
@@ -34,7 +34,7 @@ act_in codes (Close x) = close x
 
 -- a node's statement, and the block behind it
 abbrev pub node_code : List Code → Node → Code
-node_code codes n = step_then (at n.line (act_in codes n.op)) (code_in codes n.next)
+node_code codes n = stmt_then (at n.line (act_in codes n.op)) (code_in codes n.next)
 
 -- the blocks that begin with each of these nodes, behind those that there are
 abbrev pub codes_from : List Code → List Node → List Code

@@ -1,6 +1,6 @@
 -- What is to do at a stack of frames.
 use Rattle.std.specs.Prelude.{ℕ, zero, suc, ◌+◌, ◌<◌, List, [], ◌∷◌, ◌++◌, Option, Some, None, option_map, option_and_then, unwrap_or, ⊤}
-use Rattle.sj_lang.specs.Code.{Code, Act, no_step, step_then, at, outwhile, relay}
+use Rattle.sj_lang.specs.Code.{Code, DeedAt, no_stmt, stmt_then, at, outwhile, relay}
 use Rattle.sj_lang.specs.Term.{Term}
 use Rattle.sj_semantics.specs.Value.{Vars, worth, turns_of}
 use Rattle.sj_base.specs.declared.Msg.{Msg}
@@ -15,25 +15,25 @@ use Rattle.sj_machine.specs.declared.arena.Node.{Node}
 use Rattle.sj_machine.specs.Arena.{code_in, codes_of, IsBelow}
 
 -- the frame of a block that is entered, and none of an empty one
-abbrev pub entered : Option ℕ → List Frame
-entered None = []
-entered (Some i) = record { at = i; stage = Fresh } ∷ []
+abbrev pub entry_frames : Option ℕ → List Frame
+entry_frames None = []
+entry_frames (Some i) = record { at = i; stage = Fresh } ∷ []
 
 -- the frames that take the place of a statement's, where the block behind it is next
 abbrev pub frames_after : Frame → Option ℕ → After → List Frame
-frames_after f next (Past block) = entered next ++ entered block
-frames_after f next (Stays stage block) = record { at = f.at; stage = stage } ∷ entered block
+frames_after f next (Past block) = entry_frames next ++ entry_frames block
+frames_after f next (Stays stage block) = record { at = f.at; stage = stage } ∷ entry_frames block
 
 -- what is left of a statement at that stage
-abbrev pub thing_at : Stage → Act → Thing
+abbrev pub thing_at : Stage → DeedAt → Thing
 thing_at (Turns n) (outwhile x e body) = turns x n body
 thing_at (Passing more) (relay x y body) = passing x y more body
 thing_at stage act = statement act
 
 -- the first statement of the block at that stage, and the others behind it
 abbrev pub staged : Stage → Code → List Thing → List Thing
-staged stage no_step rest = rest
-staged stage (step_then (at line act) code) rest = thing_at stage act ∷ block code rest
+staged stage no_stmt rest = rest
+staged stage (stmt_then (at line act) code) rest = thing_at stage act ∷ block code rest
 
 -- what is to do at frames, the outermost first
 abbrev pub todo_from : List Code → List Frame → List Thing → List Thing
@@ -45,7 +45,7 @@ abbrev pub todo_in : List Node → List Frame → List Thing
 todo_in nodes frames = todo_from (codes_of nodes) frames []
 
 -- what is to do after a step of the statement, where that is behind it
-abbrev pub todo_after : List Code → Act → After → List Thing → List Thing
+abbrev pub todo_after : List Code → DeedAt → After → List Thing → List Thing
 todo_after codes act (Past inside) rest = block (code_in codes inside) rest
 todo_after codes act (Stays stage inside) rest = block (code_in codes inside) (thing_at stage act ∷ rest)
 

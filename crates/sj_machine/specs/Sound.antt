@@ -2,7 +2,7 @@
 use Rattle.std.specs.Prelude.{ℕ, ◌<◌, ◌≤◌, List, [], Option, length}
 use Rattle.sj_base.specs.declared.EndId.{EndId}
 use Rattle.sj_lang.specs.declared.party.Stmt.{Stmt}
-use Rattle.sj_lang.specs.Code.{code_of}
+use Rattle.sj_lang.specs.CodeView.{code_of}
 use Rattle.sj_semantics.specs.declared.Value.{Value}
 use Rattle.sj_semantics.specs.Program.{Program, block}
 use Rattle.sj_semantics.specs.Value.{no_vars}

@@ -1,6 +1,7 @@
 //! An arena of a program's statements.
 ghost use Rattle.std.specs.Prelude.{◌≡◌, ◌≤◌, ℕ, List, length, IfOk, map};
-ghost use Rattle.sj_lang.specs.Code.{arm_of, at, branches_of, code_of, deed_of, step_then};
+ghost use Rattle.sj_lang.specs.Code.{at, stmt_then};
+ghost use Rattle.sj_lang.specs.CodeView.{arm_of, branches_of, code_of, deed_of};
 ghost use Rattle.sj_machine.specs.Arena.{AreBelow, Grown, IsBackward, IsBelow, IsOpBelow, act_in, arms_in, code_in, codes_of};
 
 use crate::arena::{ArmAt, Node, Op};
@@ -43,7 +44,7 @@ fn add_node(
     requires next { IsBelow (length nodes.old.items) next }
     requires op { IsOpBelow (length nodes.old.items) op }
     ensures code { IfOk result (λ i. code_in (codes_of nodes.new.items) (Some i)
-        ≡ step_then (at line (act_in (codes_of nodes.old.items) op))
+        ≡ stmt_then (at line (act_in (codes_of nodes.old.items) op))
         (code_in (codes_of nodes.old.items) next)) }
     ensures below { IfOk result (λ i. IsBelow (length nodes.new.items) (Some i)) }
     ensures grown { IfOk result (λ _. Grown nodes.old.items nodes.new.items) }

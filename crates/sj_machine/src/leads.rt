@@ -1,7 +1,7 @@
 //! Where the steps of a statement lead.
 ghost use Rattle.std.specs.Prelude.{◌≡◌, ◌<◌, ℕ, List, ◌∷◌};
 ghost use Rattle.sj_lang.specs.Code.{Code};
-ghost use Rattle.sj_lang.specs.Term.{term_of};
+ghost use Rattle.sj_lang.specs.CodeView.{term_of};
 ghost use Rattle.sj_machine.specs.Arena.{AreBelow, IsBelow, IsOpBelow, act_in, arms_in, code_in};
 ghost use Rattle.sj_machine.specs.Frames.{LeadsBelow, thing_at, todo_after, turn_with, turns_at};
 ghost use Rattle.sj_machine.specs.Table.{vars_in};

@@ -4,10 +4,11 @@ ghost use Rattle.sj_acceptance.specs.Accepted.{IsAccepted};
 ghost use Rattle.sj_lang.specs.FileView.{file_of};
 ghost use Rattle.sj_machine.specs.Names.{NamesDiffer};
 ghost use Rattle.sj_machine.specs.Sound.{first_program, program_at};
-ghost use Rattle.sj_semantics.specs.Start.{start_of};
+ghost use Rattle.sj_semantics.specs.World.{start_of};
 ghost use Rattle.sj_semantics.specs.declared.Want.TheVariants.{Ended};
 ghost use Rattle.sj_semantics.specs.Steps.{closed_of, local_of, sent_of, took_of};
-ghost use Rattle.sj_semantics.specs.Wants.{fits, want_of};
+ghost use Rattle.sj_semantics.specs.Wants.{want_of};
+ghost use Rattle.sj_semantics.specs.Fitting.{fits};
 
 use crate::arena::Node;
 use crate::building::add_block;

@@ -1,7 +1,7 @@
 //! Where a party is in nested blocks, in room that was taken before.
 ghost use Rattle.std.specs.Prelude.{◌≡◌, ◌<◌, ◌≤◌, ◌+◌, ℕ, List, [], ◌∷◌, ◌++◌, length, IfOk, IfSome, IfNone};
 ghost use Rattle.sj_machine.specs.declared.stack.Frame.{Frame};
-ghost use Rattle.sj_machine.specs.Frames.{entered, frames_after};
+ghost use Rattle.sj_machine.specs.Frames.{entry_frames, frames_after};
 
 use sj_base::NoMemory;
 use std::alloc::Global;
@@ -98,7 +98,7 @@ impl Stack {
     /// Puts a block's frame innermost.
     pub fn enter(&mut self, block: Option<usize>)
         requires { length self.old.0 < self.old.1 }
-        ensures entered { self.new.0 ≡ self.old.0 ++ entered block }
+        ensures entry_frames { self.new.0 ≡ self.old.0 ++ entry_frames block }
         ensures room { self.old.1 ≤ self.new.1 }
     {
         if let Some(at) = block {

@@ -13,7 +13,7 @@ use Rattle.sj_table.specs.Spots.{place_in, start_in}
 use Rattle.sj_semantics.specs.declared.Want.{Want}
 use Rattle.sj_semantics.specs.declared.Want.TheVariants as wants
 use Rattle.sj_semantics.specs.Program.{Program}
-use Rattle.sj_semantics.specs.Wants.{fits}
+use Rattle.sj_semantics.specs.Fitting.{fits}
 use Rattle.sj_machine.specs.Sound.{program_at}
 use Rattle.sj_rules.specs.Record.{HeldAt, MainAt, Held, Closed, Expected, Parked, is_same_end}
 use Rattle.sj_rules.specs.Mapped.{held_with, main_with}
@@ -23,7 +23,7 @@ use Rattle.sj_node.specs.declared.refusal.Halt.{Halt}
 use Rattle.sj_node.specs.declared.refusal.Halt.TheVariants as halts
 use Rattle.sj_node.specs.Halts.{held_up, is_empty, is_worn_out, lacks_message, names_awaited, stop_by}
 use Rattle.sj_node.specs.Node.{act_of, is_below_count, main_of, node_at, play_of, steps_of, stop_of, wants_of}
-use Rattle.sj_node.specs.Play.{awaited, names_known}
+use Rattle.sj_node.specs.Play.{awaited_place, names_known}
 use Rattle.sj_node.specs.Slots.{mains_in}
 use Rattle.sj_node.specs.Taking.{held_head}
 use Rattle.sj_node.specs.Unfit.{Agrees, Misfit, full, is_held, is_over, lets, misfit_at, misfit_by, misfit_of, misfit_on, taken, unknown, unwanted}
@@ -126,7 +126,7 @@ some_step n (wants.Delegate e y) stop agrees fit none =
     handed_some n (place_in n.table) e y (main_of n y) agrees.1 (not_worn (is_worn_out (main_of n y)) (going (mains_in n.mains.items) (steps_of n) (wants.Delegate e y) stop).1) agrees.0 agrees.2
     (passed _ _ (room (place_in n.table) (main_of n e) fit) none)
 some_step n (wants.Take e a) stop agrees fit none =
-    taken_some n (place_in n.table) e (awaited (start_in n.table) a) (main_of n e) agrees.0 (not_lacking (lacks_message (main_of n e)) (going (mains_in n.mains.items) (steps_of n) (wants.Take e a) stop).1) agrees.1 fit none
+    taken_some n (place_in n.table) e (awaited_place (start_in n.table) a) (main_of n e) agrees.0 (not_lacking (lacks_message (main_of n e)) (going (mains_in n.mains.items) (steps_of n) (wants.Take e a) stop).1) agrees.1 fit none
 some_step n (wants.Close e) stop agrees fit none = closed_some n e ((node_at n).main e) agrees none
 some_step n wants.Ended stop agrees fit none = cc
 

@@ -10,13 +10,14 @@ use Rattle.sj_semantics.specs.declared.Want.{Want}
 use Rattle.sj_semantics.specs.declared.Want.TheVariants as wants
 use Rattle.sj_semantics.specs.declared.Awaits.{Awaits}
 use Rattle.sj_semantics.specs.declared.Awaits.TheVariants as awaits
-use Rattle.sj_semantics.specs.Wants.{fits, want_of}
+use Rattle.sj_semantics.specs.Wants.{want_of}
+use Rattle.sj_semantics.specs.Fitting.{fits}
 use Rattle.sj_rules.specs.Node as rules
 use Rattle.sj_rules.specs.Party.{want_or_ended, place_awaited}
 use Rattle.sj_rules.specs.Premises.{NamesKnown}
 use Rattle.sj_rules.specs.Plays.{IsPlayOf}
 use Rattle.sj_node.proofs.PlayLemmas.{same_done, same_goes}
-use Rattle.sj_node.specs.Play.{awaited, want_with, names_known, play_with}
+use Rattle.sj_node.specs.Play.{awaited_place, want_with, names_known, play_with}
 
 -- a test that is passed beside another
 and_true : (b c : Bool) → c ≡ true → (b && c) ≡ b
@@ -39,7 +40,7 @@ known_names slots parties sessions (msgs.Label i) many known = refl
 known_names slots parties sessions (msgs.More b) many known = refl
 
 module _ (file : FileAt) (starts : ℕ → Place) (slots : ℕ) (named : (q : ℕ) → starts q ≡ body_named file.protocols q) (many : slots ≡ 2 * length file.connects) where
-  awaits_same : (a : Awaits) → awaited starts a ≡ place_awaited file.protocols a
+  awaits_same : (a : Awaits) → awaited_place starts a ≡ place_awaited file.protocols a
   awaits_same (awaits.Session q) = named q
   awaits_same (awaits.Value k) = refl
   awaits_same awaits.OneOf = refl

@@ -12,7 +12,8 @@ use Rattle.sj_semantics.specs.declared.Want.TheVariants as wants
 use Rattle.sj_semantics.specs.declared.Awaits.{Awaits}
 use Rattle.sj_semantics.specs.declared.Awaits.TheVariants as awaits
 use Rattle.sj_semantics.specs.Program.{Program}
-use Rattle.sj_semantics.specs.Wants.{fits, want_of}
+use Rattle.sj_semantics.specs.Wants.{want_of}
+use Rattle.sj_semantics.specs.Fitting.{fits}
 use Rattle.sj_rules.specs.Node as rules
 use Rattle.sj_rules.specs.Node.{NodeAt, Play, act_by, acts, brought, is_free, take_act, take_from, taken_off, with_main}
 use Rattle.sj_rules.specs.Party as file
@@ -21,7 +22,7 @@ use Rattle.sj_rules.specs.Rows.{Worked}
 use Rattle.sj_table.specs.Spots.{start_in}
 use Rattle.sj_node.specs.declared.node.Node.{Node}
 use Rattle.sj_node.specs.Node.{play_of, slot_count}
-use Rattle.sj_node.specs.Play.{HeadsAre, asking, awaited, done_by, goes_on, names_known, play_with, want_with}
+use Rattle.sj_node.specs.Play.{HeadsAre, asking, awaited_place, done_by, goes_on, names_known, play_with, want_with}
 
 -- a place that ends
 pub same_done : (p : Place) → table.is_done p ≡ file.is_done p
@@ -30,7 +31,7 @@ same_done (message w k rest) = refl
 same_done (choice w arms rest) = refl
 same_done (repeat w body rest) = refl
 
-same_awaited : (ps : List ProtocolAt) (a : Awaits) → awaited (body_named ps) a ≡ file.place_awaited ps a
+same_awaited : (ps : List ProtocolAt) (a : Awaits) → awaited_place (body_named ps) a ≡ file.place_awaited ps a
 same_awaited ps (awaits.Session q) = refl
 same_awaited ps (awaits.Value k) = refl
 same_awaited ps awaits.OneOf = refl

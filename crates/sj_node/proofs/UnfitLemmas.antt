@@ -9,7 +9,7 @@ use Rattle.sj_table.specs.Spots.{place_in, start_in}
 use Rattle.sj_semantics.specs.declared.Want.{Want}
 use Rattle.sj_semantics.specs.declared.Want.TheVariants as wants
 use Rattle.sj_semantics.specs.Program.{Program}
-use Rattle.sj_semantics.specs.Wants.{fits}
+use Rattle.sj_semantics.specs.Fitting.{fits}
 use Rattle.sj_machine.specs.Sound.{program_at}
 use Rattle.sj_rules.specs.Record.{MainAt, Held, Closed, Expected}
 use Rattle.sj_rules.specs.Rows.{Worked}
@@ -17,7 +17,7 @@ use Rattle.sj_rules.specs.Mapped.{held_with, main_with}
 use Rattle.sj_rules.specs.Node.{NodeAt, act_by, is_free, take_act, take_from}
 use Rattle.sj_node.specs.declared.node.Node.{Node}
 use Rattle.sj_node.specs.Node.{act_of, has_room, is_below_count, main_of, node_at, play_of, steps_of, wants_of}
-use Rattle.sj_node.specs.Play.{awaited, names_known, want_with}
+use Rattle.sj_node.specs.Play.{awaited_place, names_known, want_with}
 use Rattle.sj_node.specs.Taking.{held_head}
 use Rattle.sj_node.specs.Unfit.{Misfit, full, misfit_at, misfit_by, misfit_of, misfit_on, taken, unknown, unwanted}
 
@@ -62,7 +62,7 @@ no_step : (n : Node) (w : Want) (x : Misfit) → misfit_by n w ≡ Some x → st
 no_step n wants.Local x is = cc
 no_step n (wants.Send e m) x is = rw (full_at (place_in n.table) (main_of n e) x is) refl
 no_step n (wants.Delegate e y) x is = rw (full_at (place_in n.table) (main_of n e) x is) refl
-no_step n (wants.Take e a) x is = none_taken n (place_in n.table) e (awaited (start_in n.table) a) (main_of n e) x is
+no_step n (wants.Take e a) x is = none_taken n (place_in n.table) e (awaited_place (start_in n.table) a) (main_of n e) x is
 no_step n (wants.Close e) x is = cc
 no_step n wants.Ended x is = cc
 

@@ -11,7 +11,8 @@ use Rattle.sj_semantics.specs.declared.Awaits.{Awaits}
 use Rattle.sj_semantics.specs.declared.Awaits.TheVariants as awaits
 use Rattle.sj_semantics.specs.Program.{Program}
 use Rattle.sj_semantics.specs.Steps.{closed_of, local_of, sent_of, took_of}
-use Rattle.sj_semantics.specs.Wants.{fits, want_of}
+use Rattle.sj_semantics.specs.Wants.{want_of}
+use Rattle.sj_semantics.specs.Fitting.{fits}
 use Rattle.sj_rules.specs.Limits.{limit_of_steps}
 use Rattle.sj_rules.specs.Node as rules
 use Rattle.sj_rules.specs.Node.{NodeAt, Play}
@@ -19,16 +20,16 @@ use Rattle.sj_rules.specs.Record.{HeldAt, Held}
 use Rattle.sj_base.specs.declared.EndId.{EndId}
 
 -- the place that an end gets which is taken there
-abbrev pub awaited : (starts : ℕ → Place) → Awaits → Place
-awaited starts (awaits.Session p) = starts p
-awaited starts _ = done
+abbrev pub awaited_place : (starts : ℕ → Place) → Awaits → Place
+awaited_place starts (awaits.Session p) = starts p
+awaited_place starts _ = done
 
 -- the next step; `starts` has the bodies of protocols by their names
 abbrev pub want_with : (starts : ℕ → Place) → Want → rules.Want Place
 want_with starts wants.Local = rules.local
 want_with starts (wants.Send e m) = rules.sends e m
 want_with starts (wants.Delegate e y) = rules.delegates e y
-want_with starts (wants.Take e a) = rules.takes e (awaited starts a)
+want_with starts (wants.Take e a) = rules.takes e (awaited_place starts a)
 want_with starts (wants.Close e) = rules.closes e
 want_with starts wants.Ended = rules.ended
 

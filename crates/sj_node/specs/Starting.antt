@@ -15,8 +15,8 @@ use Rattle.sj_node.specs.Reading.{parties_of, party_of, table_of}
 use Rattle.sj_node.specs.Slots.{main_at}
 
 -- a slot, with the places for which spots stand
-abbrev pub seen : Table → Option Main → Option (MainAt Place)
-seen t slot = option_map (main_with (place_in t)) (option_map main_at slot)
+abbrev pub slot_at_places : Table → Option Main → Option (MainAt Place)
+slot_at_places t slot = option_map (main_with (place_in t)) (option_map main_at slot)
 
 -- the two slots of each connection, the first of them in session n
 abbrev pub slots_from : FileAt → (party n : ℕ) → List ConnectAt → List (Option (MainAt Place))

@@ -9,7 +9,7 @@ use Rattle.sj_lang.specs.After.{after_place}
 use Rattle.sj_table.specs.Table.{is_done}
 use Rattle.sj_semantics.specs.declared.Want.{Want}
 use Rattle.sj_semantics.specs.declared.Want.TheVariants as wants
-use Rattle.sj_semantics.specs.Wants.{fits}
+use Rattle.sj_semantics.specs.Fitting.{fits}
 use Rattle.sj_machine.specs.Sound.{program_at}
 use Rattle.sj_rules.specs.Record.{MainAt, Held, is_same_end}
 use Rattle.sj_rules.specs.Node.{is_free}

@@ -6,7 +6,7 @@ ghost use Rattle.sj_base.specs.declared.Msg.TheVariants as msgs;
 ghost use Rattle.sj_node.specs.Halts.{is_late};
 ghost use Rattle.sj_node.specs.Parking.{IsBelowHops, held_of};
 ghost use Rattle.sj_rules.specs.Record as rules;
-ghost use Rattle.sj_semantics.specs.Wants.{is_session};
+ghost use Rattle.sj_semantics.specs.Fitting.{is_session};
 ghost use Rattle.sj_semantics.specs.declared.Want.TheVariants as wants;
 
 use crate::limits::MAX_HOPS;

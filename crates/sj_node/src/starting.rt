@@ -4,7 +4,7 @@ ghost use Rattle.sj_check.specs.Held.{file_in};
 ghost use Rattle.sj_lang.specs.FileAt.{ConnectAt, FileAt, body_named};
 ghost use Rattle.sj_lang.specs.FileView.{decl_of, file_of, party_of as party_seen};
 ghost use Rattle.sj_node.specs.Reading.{table_of};
-ghost use Rattle.sj_node.specs.Starting.{Begins, seen, slots_from};
+ghost use Rattle.sj_node.specs.Starting.{Begins, slot_at_places, slots_from};
 ghost use Rattle.sj_rules.specs.Start.{declared_on, held_by};
 ghost use Rattle.sj_semantics.specs.Ends.{other_side};
 ghost use Rattle.sj_table.specs.Spots.{start_in};
@@ -33,7 +33,7 @@ fn first_record(
     ensures { (file : FileAt) (c : ConnectAt) → file.parties ≡ map party_seen parties.now →
         ((p : ℕ) → start_in table.now p ≡ body_named file.protocols p) →
         declared_on id.side c ≡ decl_of own → declared_on (other_side id.side) c ≡ decl_of other →
-        seen table.now result ≡ held_by file party id c }
+        slot_at_places table.now result ≡ held_by file party id c }
 {
     if party_of_name(parties, own.party) != party as usize {
         return None;
@@ -53,7 +53,7 @@ fn first_slots(
     requires parties { length (file_of file.now).parties ≤ 16 }
     requires connects { length (file_of file.now).connects ≤ 64 }
     requires starts { (p : ℕ) → start_in table.now p ≡ body_named (file_of file.now).protocols p }
-    ensures slots { IfOk result (λ slots. map (seen table.now) slots.items
+    ensures slots { IfOk result (λ slots. map (slot_at_places table.now) slots.items
         ≡ slots_from (file_of file.now) party 0 (file_of file.now).connects) }
 {
     let mut slots = Vec::new(alloc);

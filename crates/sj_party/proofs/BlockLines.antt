@@ -1,7 +1,7 @@
 -- Statements on one line and with blocks, from what their heads and blocks are read as.
 use Rattle.std.proofs.Common.{◌≡◌, ℕ, true, List, [], ◌∷◌, ◌++◌, refl, ap, sym, subst, ◌∙◌, append_assoc}
 use Rattle.std.specs.Prelude.{codes}
-use Rattle.sj_lang.specs.Code.{Step}
+use Rattle.sj_lang.specs.Code.{StmtAt}
 use Rattle.sj_grammar.specs.declared.tokens.What.TheVariants.{Symbol}
 use Rattle.sj_grammar.specs.Limits.{Limits}
 use Rattle.sj_grammar.specs.Names.{is_word}
@@ -68,11 +68,11 @@ statement_parts n w tail block rest =
     ∙ ap (λ x. spaces n ++ x) (append_assoc ((w ++ tail) ++ block) newline rest ∙ append_assoc (w ++ tail) block (newline ++ rest) ∙ append_assoc w tail (block ++ (newline ++ rest)))
 
 module _ (L : Limits) (names : Spelling) where
-  abbrev pub StepAgain : ℕ → Step → List Piece → Reading → List ℕ → Type 0
+  abbrev pub StepAgain : ℕ → StmtAt → List Piece → Reading → List ℕ → Type 0
   StepAgain o s a r rest = Relined unlined_step (IsStatement L names o) s a r rest
 
   -- a statement on one line, whatever its line
-  pub on_one_line : (o n : ℕ) (w tail text : List ℕ) (qs a : List Piece) (s : Step) (value : ℕ → Step) (before g rest : List ℕ) → is_word w ≡ true → ((more : List ℕ) → NoWordByte (tail ++ more)) → HasLines Any tail qs → AreBlank g
+  pub on_one_line : (o n : ℕ) (w tail text : List ℕ) (qs a : List Piece) (s : StmtAt) (value : ℕ → StmtAt) (before g rest : List ℕ) → is_word w ≡ true → ((more : List ℕ) → NoWordByte (tail ++ more)) → HasLines Any tail qs → AreBlank g
       → text ≡ w ++ tail → ((l : ℕ) → unlined_step (value l) ≡ unlined_step s) → ((l : ℕ) → IsStatement L names o (value l) (first_on l w ∷ qs)) → AddAlike (spellings a) (w ∷ spellings qs)
       → StepAgain o s a (read before (g ++ ((spaces n ++ (text ++ newline)) ++ rest))) rest
   on_one_line o n w tail text qs a s value before g rest named free has blank parts same is adds =
@@ -87,7 +87,7 @@ module _ (L : Limits) (names : Spelling) where
       }
 
   -- a statement with a block, or two
-  pub with_block : {X : Type 0} (un : X → X) (Braced : X → List Piece → Type 0) (x : X) (b : List Piece) (o n : ℕ) (w head tail block : List ℕ) (qs a : List Piece) (s : Step) (value : ℕ → X → Step) (before g rest : List ℕ)
+  pub with_block : {X : Type 0} (un : X → X) (Braced : X → List Piece → Type 0) (x : X) (b : List Piece) (o n : ℕ) (w head tail block : List ℕ) (qs a : List Piece) (s : StmtAt) (value : ℕ → X → StmtAt) (before g rest : List ℕ)
       → is_word w ≡ true → ((more : List ℕ) → NoWordByte (tail ++ more)) → HasLines NoWordByte tail qs → AreBlank g → head ≡ w ++ tail → ((more : List ℕ) → NoWordByte (block ++ more))
       → ((k h : List ℕ) → AreBlank h → Relined un Braced x b (read k (h ++ (block ++ (newline ++ rest)))) (newline ++ rest))
       → ((l : ℕ) (v : X) → un v ≡ un x → unlined_step (value l v) ≡ unlined_step s)

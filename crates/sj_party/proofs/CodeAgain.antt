@@ -1,7 +1,7 @@
 -- Canonical texts of statements are statements again, equal but for lines.
 use Rattle.std.proofs.Common.{ℕ, suc, ◌+◌, List, [], ◌∷◌, ◌++◌, refl, sym, subst, append_assoc}
 use Rattle.std.specs.Prelude.{codes}
-use Rattle.sj_lang.specs.Code.{Code, Step, Branches, step_then, no_step, at, inbranch, outwhile, inwhile, relay, if_else, no_branch, branch}
+use Rattle.sj_lang.specs.Code.{Code, StmtAt, Branches, stmt_then, no_stmt, at, inbranch, outwhile, inwhile, relay, if_else, no_branch, branch}
 use Rattle.sj_grammar.specs.Limits.{Limits}
 use Rattle.sj_grammar.specs.Reading.{Reading}
 use Rattle.sj_grammar.specs.Tables.{Spelling}
@@ -35,7 +35,7 @@ module _ (L : Limits) (names : Spelling) where
   mutual
     pub code_again : {o : ℕ} {c : Code} {a : List Piece} → IsCode L names o c a → (n : ℕ) (before g rest : List ℕ) → AreBlank g → CodeAgain o c a (read before (g ++ (code_text names n c ++ rest))) rest
     code_again {o} grammar.none n before g rest blank =
-        record { value = no_step; same = refl; pieces = []; is = grammar.none; adds = alike_same []; reaches = record { before = before; blanks = g; are = blank; lexes = refl } }
+        record { value = no_stmt; same = refl; pieces = []; is = grammar.none; adds = alike_same []; reaches = record { before = before; blanks = g; are = blank; lexes = refl } }
     code_again {o} (grammar.one_more {s} {rest = c} {a} {b} h k) n before g rest blank =
         let text = step_text names n s in
         let behind = code_text names n c in
@@ -43,8 +43,8 @@ module _ (L : Limits) (names : Spelling) where
         let first = step_again h n before g (behind ++ rest) blank in
         let second = code_again k n first.reaches.before first.reaches.blanks rest first.reaches.are in
         record {
-          value = step_then first.value second.value;
-          same = λ i. step_then (first.same i) (second.same i);
+          value = stmt_then first.value second.value;
+          same = λ i. stmt_then (first.same i) (second.same i);
           pieces = first.pieces ++ second.pieces;
           is = grammar.one_more first.is second.is;
           adds = adds_append a b first.pieces second.pieces first.adds second.adds;
@@ -78,7 +78,7 @@ module _ (L : Limits) (names : Spelling) where
               (joins r (label ++ body.pieces) second.pieces behind rest lined second.reaches);
         }
 
-    pub step_again : {o : ℕ} {s : Step} {a : List Piece} → IsStatement L names o s a → (n : ℕ) (before g rest : List ℕ) → AreBlank g → StepAgain L names o s a (read before (g ++ (step_text names n s ++ rest))) rest
+    pub step_again : {o : ℕ} {s : StmtAt} {a : List Piece} → IsStatement L names o s a → (n : ℕ) (before g rest : List ℕ) → AreBlank g → StepAgain L names o s a (read before (g ++ (step_text names n s ++ rest))) rest
     step_again {o} (grammar.of_send {l} {x} {t} {e} is h) n before g rest blank = send_again L names o n l before g rest blank x t e is h
     step_again {o} (grammar.of_delegate {l} {x} {y} is also) n before g rest blank = delegate_again L names o n l before g rest blank x y is also
     step_again {o} (grammar.of_take {l} {x} {n = m} {k = d} is also) n before g rest blank = take_again L names o n l before g rest blank x m d is also

@@ -1,7 +1,8 @@
 -- Statements, blocks and arms of the parts that were read.
 use Rattle.std.proofs.Common.{◌≡◌, ℕ, suc, ◌<◌, List, [], ◌∷◌, ◌++◌, refl, ap, sym, subst, append-nil, append_assoc}
 use Rattle.std.specs.Prelude.{codes, map}
-use Rattle.sj_lang.specs.Code.{Code, Step, Act, in_order, branches_of, code_of, stmt_of, arm_of, no_step, no_branch, branch, at}
+use Rattle.sj_lang.specs.Code.{Code, StmtAt, DeedAt, no_stmt, no_branch, branch, at}
+use Rattle.sj_lang.specs.CodeView.{in_order, branches_of, code_of, stmt_of, arm_of}
 use Rattle.std.proofs.lemmas.List.{map-append}
 use Rattle.sj_lang.specs.declared.party.Stmt.{Stmt}
 use Rattle.sj_lang.specs.declared.party.StmtArm.{StmtArm}
@@ -16,7 +17,7 @@ use Rattle.sj_party.proofs.PieceLemmas.{lines_on, lines_as, line_one, taken_piec
 
 module _ (names : Spelling) where
   -- one statement more, and one arm more
-  pub code_push : (o : ℕ) (xs : List Step) (s : Step) (a b : List Piece) → IsCode limits names o (in_order xs) a → IsStatement limits names o s b → IsCode limits names o (in_order (xs ++ s ∷ [])) (a ++ b)
+  pub code_push : (o : ℕ) (xs : List StmtAt) (s : StmtAt) (a b : List Piece) → IsCode limits names o (in_order xs) a → IsStatement limits names o s b → IsCode limits names o (in_order (xs ++ s ∷ [])) (a ++ b)
   code_push o [] s a b grammar.none i = subst (λ (ps : List Piece). IsCode limits names o (in_order (s ∷ [])) ps) (append-nil b) (grammar.one_more i grammar.none)
   code_push o (x ∷ xs) s a b (grammar.one_more {a = c} {b = d} j rest) i =
       subst (λ (ps : List Piece). IsCode limits names o (in_order (x ∷ (xs ++ s ∷ []))) ps) (sym (append_assoc c d b)) (grammar.one_more j (code_push o xs s d b rest i))
@@ -34,7 +35,7 @@ arm_read o m c a b r = lines_as a b _ _ (λ names ps h. arm_is names ps h) (part
     arm_is names ps (more (named is) (more one_piece (more (blocked body) nothing))) = grammar.one_arm is body grammar.no_arm
 
 -- a statement of its first word and its parts
-pub statement_read : (o l : ℕ) (act : Act) (word : List ℕ) (a m b : At) → TakesPiece a (first_on l word) m → ReadsDeed word o m b act → ReadsOnLines a b (λ names ps. IsStatement limits names o (at l act) ps)
+pub statement_read : (o l : ℕ) (act : DeedAt) (word : List ℕ) (a m b : At) → TakesPiece a (first_on l word) m → ReadsDeed word o m b act → ReadsOnLines a b (λ names ps. IsStatement limits names o (at l act) ps)
 statement_read o l act word a m b t r =
     lines_on a m b (λ names ps. ps ≡ first_on l (first_word act) ∷ []) _ _
     (λ names ps qs h i. subst (λ (xs : List Piece). IsStatement limits names o (at l act) (xs ++ qs)) (sym h) (statement_is names o l act qs i))
@@ -43,7 +44,7 @@ statement_read o l act word a m b t r =
 -- statements and arms so far, and one more
 pub code_more : (o : ℕ) (xs : List Stmt) (x : Stmt) (a m b : At) → ReadsCode o a m (code_of xs) → ReadsOnLines m b (λ names ps. IsStatement limits names o (stmt_of x) ps) → ReadsCode o a b (code_of (xs ++ x ∷ []))
 code_more o xs x a m b r q =
-    subst (λ (ss : List Step). ReadsCode o a b (in_order ss)) (sym (map-append stmt_of xs (x ∷ [])))
+    subst (λ (ss : List StmtAt). ReadsCode o a b (in_order ss)) (sym (map-append stmt_of xs (x ∷ [])))
     (lines_on a m b _ _ _ (λ names ps qs h i. code_push names o (map stmt_of xs) (stmt_of x) ps qs h i) r q)
 
 pub arms_more : (o : ℕ) (xs : List StmtArm) (x : StmtArm) (a m b : At) → ReadsOnLines a m (λ names ps. AreArms limits names o (branches_of (map arm_of xs)) ps) → ReadsOnLines m b (λ names ps. AreArms limits names o (branches_of (arm_of x ∷ [])) ps)
@@ -56,7 +57,7 @@ pub some_more : (xs : List StmtArm) (x : StmtArm) → AreSome (branches_of (map 
 some_more [] x = tt
 some_more (y ∷ xs) x = tt
 
-pub no_code : (o : ℕ) (a : At) → ReadsCode o a a no_step
+pub no_code : (o : ℕ) (a : At) → ReadsCode o a a no_stmt
 no_code o a = record { pieces = []; begins = refl; are = λ names g. grammar.none }
 
 -- a block of its braces and its statements

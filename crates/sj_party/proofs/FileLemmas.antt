@@ -15,7 +15,8 @@ use Rattle.sj_grammar.specs.Literals.{is_largest}
 use Rattle.sj_grammar.specs.Places.{Piece, At, BeginsOnLines, spellings, start}
 use Rattle.sj_grammar.specs.Files.{protocols_pieces, connects_pieces, IsSpelled, IsFile}
 use Rattle.sj_grammar.specs.FileDues.{Due, protocols, parties, connects, file_layer, file_due}
-use Rattle.sj_grammar.specs.Faults.{Stuck, broken, OnFault}
+use Rattle.sj_grammar.specs.Faults.{Stuck, broken}
+use Rattle.sj_grammar.specs.Refusals.{OnFault}
 use Rattle.sj_grammar.specs.Asked.{Refuses, refused, Passes}
 use Rattle.sj_grammar.proofs.Stuckness.{halts_stuck, stuck_block, skip}
 use Rattle.sj_proto.specs.Protocols.{AreProtocols, IsOther, IsFaultInProtocols}

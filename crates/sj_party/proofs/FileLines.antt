@@ -15,7 +15,8 @@ use Rattle.sj_grammar.specs.Reading.{Reading}
 use Rattle.sj_grammar.specs.Places.{Piece, At, BeginsOnLines, spellings}
 use Rattle.sj_grammar.specs.Layers.{goes, stops, step, rule_of}
 use Rattle.sj_grammar.specs.FileDues.{Due, file_layer}
-use Rattle.sj_grammar.specs.Faults.{Stuck, broken, OnFault}
+use Rattle.sj_grammar.specs.Faults.{Stuck, broken}
+use Rattle.sj_grammar.specs.Refusals.{OnFault}
 use Rattle.sj_grammar.specs.Asked.{TakesText, is_next, Refuses, refused}
 use Rattle.sj_grammar.proofs.Splits.{next_split}
 use Rattle.sj_grammar.proofs.Stuckness.{halts_stuck, stuck_block}

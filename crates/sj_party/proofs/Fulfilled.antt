@@ -3,7 +3,7 @@ use Rattle.std.proofs.Common.{◌≡◌, ℕ, true, List, [], ◌∷◌, ◌++�
 use Rattle.std.specs.Prelude.{codes}
 use Rattle.std.proofs.lemmas.List.Elements.{All-nil}
 use Rattle.sj_lang.specs.declared.party.Scalar.{Scalar}
-use Rattle.sj_lang.specs.Code.{Code, Branches, no_step, no_branch}
+use Rattle.sj_lang.specs.Code.{Code, Branches, no_stmt, no_branch}
 use Rattle.sj_lang.specs.FileAt.{ProtocolAt, PartyAt, ConnectAt}
 use Rattle.sj_grammar.specs.Tables.{Spelling, IsNamed}
 use Rattle.sj_grammar.specs.Places.{Pieces, Piece, plain, all_plain, spellings}
@@ -98,7 +98,7 @@ module _ (names : Spelling) where
   none_spelled (protocols k) e = ([], (0, λ M w. All-nil (IsProtocolDef M names)), refl)
   none_spelled (parties k) e = ([], [], (0, λ M w. files.no_party), refl)
   none_spelled (connects k) e = ([], (0, λ M w. All-nil (IsConnect M names)), refl)
-  none_spelled (stmts o) e = (no_step, [], (0, λ M w. statements.none), refl)
+  none_spelled (stmts o) e = (no_stmt, [], (0, λ M w. statements.none), refl)
   none_spelled (block o) e = let no : ⊥ = cc in absurd no
   none_spelled (branches o) e = (no_branch, [], (0, λ M w. statements.no_arm), refl)
   none_spelled awaited e = let no : ⊥ = cc in absurd no

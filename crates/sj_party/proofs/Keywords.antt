@@ -3,7 +3,7 @@ use Rattle.std.proofs.Common.{◌≡◌, ℕ, true, false, List, [], ◌∷◌, 
 use Rattle.std.specs.Prelude.{codes}
 use Rattle.sj_lang.specs.declared.party.Scalar.{Scalar}
 use Rattle.sj_lang.specs.Term.{Term}
-use Rattle.sj_lang.specs.Code.{Code, Step, Branches, at, send, delegate, take_value, take_end, outbranch, inbranch, outwhile, inwhile, relay, if_else, let_be, close, branch}
+use Rattle.sj_lang.specs.Code.{Code, StmtAt, Branches, at, send, delegate, take_value, take_end, outbranch, inbranch, outwhile, inwhile, relay, if_else, let_be, close, branch}
 use Rattle.sj_grammar.specs.Limits.{Limits}
 use Rattle.sj_grammar.specs.Tables.{Spelling, IsNamed}
 use Rattle.sj_grammar.specs.Places.{Pieces, Piece, plain, first_on, all_plain}
@@ -18,7 +18,7 @@ module _ (L : Limits) (names : Spelling) where
   Named n = IsNamed L names.word n
 
   -- a statement of that kind, and what its pieces are like
-  abbrev pub Like : Kind → ℕ → ℕ → Step → List Piece → List Piece → Type 0
+  abbrev pub Like : Kind → ℕ → ℕ → StmtAt → List Piece → List Piece → Type 0
   Like sends o l t a y = (x : ℕ) × (u : Term) × (e : Pieces) × Named x × IsExpression L names u e × (at l (send x u) ≡ t) × AreAlike a (called L names x ∷ ((all_plain e ++ plain (codes ";") ∷ []) ++ y))
   Like delegates o l t a y = (x : ℕ) × (n : ℕ) × Named x × Named n × (at l (delegate x n) ≡ t) × AreAlike a (called L names x ∷ called L names n ∷ plain (codes ";") ∷ y)
   Like takes o l t a y =
@@ -40,7 +40,7 @@ module _ (L : Limits) (names : Spelling) where
   kinds_meet s w k j ek ej same = sym ej ∙ ap kind_of (sym same) ∙ ek
 
   -- what the statement is whose pieces are like that
-  pub likes : (k : Kind) (s : List ℕ) → kind_of s ≡ k → (o l : ℕ) (t : Step) (a b y : List Piece) → IsStatement L names o t b → AreAlike (first_on l s ∷ a) (b ++ y) → Like k o l t a y
+  pub likes : (k : Kind) (s : List ℕ) → kind_of s ≡ k → (o l : ℕ) (t : StmtAt) (a b y : List Piece) → IsStatement L names o t b → AreAlike (first_on l s ∷ a) (b ++ y) → Like k o l t a y
   likes k s ek o l t a b y (grammar.of_send {l = j} {x} {t = u} {e} is h) g =
       subst (λ (z : Kind). Like z o l t a y) (kinds_meet s (codes "send") k sends ek sends_kind g.0) ((x, u, e, is, h, (λ i. at (g.1 i) (send x u)), g.2))
   likes k s ek o l t a b y (grammar.of_delegate {l = j} {x} {y = n} is also) g =
@@ -67,7 +67,7 @@ module _ (L : Limits) (names : Spelling) where
       subst (λ (z : Kind). Like z o l t a y) (kinds_meet s (codes "close") k closes ek closes_kind g.0) ((x, is, (λ i. at (g.1 i) (close x)), g.2))
 
   -- a statement begins with its word
-  pub begins : {o : ℕ} {t : Step} {b : List Piece} → IsStatement L names o t b → (p : Piece) × (ps : List Piece) × (b ≡ p ∷ ps) × (is_keyword p.spelled ≡ true)
+  pub begins : {o : ℕ} {t : StmtAt} {b : List Piece} → IsStatement L names o t b → (p : Piece) × (ps : List Piece) × (b ≡ p ∷ ps) × (is_keyword p.spelled ≡ true)
   unfolding is_keyword
   begins (grammar.of_send {l} h g) = (first_on l (codes "send"), _, refl, refl)
   begins (grammar.of_delegate {l} h g) = (first_on l (codes "delegate"), _, refl, refl)
@@ -83,7 +83,7 @@ module _ (L : Limits) (names : Spelling) where
   begins (grammar.of_close {l} h) = (first_on l (codes "close"), _, refl, refl)
 
   -- where none begins there is none
-  pub no_statement : {o : ℕ} {t : Step} {b : List Piece} (x y : List Piece) → IsStatement L names o t b → EndsCode x → AreAlike x (b ++ y) → ⊥
+  pub no_statement : {o : ℕ} {t : StmtAt} {b : List Piece} (x y : List Piece) → IsStatement L names o t b → EndsCode x → AreAlike x (b ++ y) → ⊥
   no_statement x y st ends h = let first = begins st in by_pieces x first.0 (first.1 ++ y) first.3 ends (subst (λ (ps : List Piece). AreAlike x (ps ++ y)) first.2 h)
     where
       by_pieces : (x : List Piece) (p : Piece) (ps : List Piece) → is_keyword p.spelled ≡ true → EndsCode x → AreAlike x (p ∷ ps) → ⊥

@@ -1,7 +1,7 @@
 -- Canonical texts don't rest on lines.
 use Rattle.std.proofs.Common.{◌≡◌, ℕ, ◌+◌, List, [], ◌∷◌, ◌++◌, refl, ap, sym, ◌∙◌}
 use Rattle.std.specs.Prelude.{codes, map}
-use Rattle.sj_lang.specs.Code.{Code, Step, Act, Branches, no_step, step_then, at, send, delegate, take_value, take_end, outbranch, inbranch, outwhile, inwhile, relay, if_else, let_be, close, no_branch, branch}
+use Rattle.sj_lang.specs.Code.{Code, StmtAt, DeedAt, Branches, no_stmt, stmt_then, at, send, delegate, take_value, take_end, outbranch, inbranch, outwhile, inwhile, relay, if_else, let_be, close, no_branch, branch}
 use Rattle.sj_lang.specs.FileAt.{ProtocolAt, PartyAt, ConnectAt, FileAt}
 use Rattle.sj_grammar.specs.Tables.{Spelling}
 use Rattle.sj_grammar.specs.Files.{names_of}
@@ -12,13 +12,13 @@ use Rattle.sj_party.specs.Unlined.{unlined_code, unlined_step, unlined_act, unli
 module _ (names : Spelling) where
   mutual
     code_same : (n : ℕ) (c : Code) → code_text names n (unlined_code c) ≡ code_text names n c
-    code_same n no_step = refl
-    code_same n (step_then s rest) = λ i. step_same n s i ++ code_same n rest i
+    code_same n no_stmt = refl
+    code_same n (stmt_then s rest) = λ i. step_same n s i ++ code_same n rest i
 
-    step_same : (n : ℕ) (s : Step) → step_text names n (unlined_step s) ≡ step_text names n s
+    step_same : (n : ℕ) (s : StmtAt) → step_text names n (unlined_step s) ≡ step_text names n s
     step_same n (at l a) = λ i. spaces n ++ (act_same n a i ++ newline)
 
-    act_same : (n : ℕ) (a : Act) → act_text names n (unlined_act a) ≡ act_text names n a
+    act_same : (n : ℕ) (a : DeedAt) → act_text names n (unlined_act a) ≡ act_text names n a
     act_same n (send x t) = refl
     act_same n (delegate x y) = refl
     act_same n (take_value x v k) = refl

@@ -2,7 +2,7 @@
 use Rattle.std.proofs.Common.{◌≡◌, ℕ, List, [], ◌∷◌, ◌++◌, refl, ap, sym, subst, ◌∙◌, append-nil}
 use Rattle.std.specs.Prelude.{codes}
 use Rattle.sj_lang.specs.Term.{Term}
-use Rattle.sj_lang.specs.Code.{Code, Act, Branches, no_branch, branch, at, send, delegate, take_value, take_end, outbranch, inbranch, outwhile, inwhile, relay, if_else, let_be, close}
+use Rattle.sj_lang.specs.Code.{Code, DeedAt, Branches, no_branch, branch, at, send, delegate, take_value, take_end, outbranch, inbranch, outwhile, inwhile, relay, if_else, let_be, close}
 use Rattle.sj_lang.specs.declared.party.Scalar.{Scalar}
 use Rattle.sj_grammar.specs.Limits.{limits}
 use Rattle.sj_grammar.specs.Tables.{Spelling, IsNamed, entry_of}
@@ -47,7 +47,7 @@ module _ (names : Spelling) where
     more : {p : Part} {ps : List Part} {a b : List Piece} → PartPieces p a → ArePieces ps b → ArePieces (p ∷ ps) (a ++ b)
 
   -- the parts of a statement are the statement
-  pub statement_is : (o l : ℕ) (act : Act) (a : List Piece) → ArePieces (parts_of o act) a → IsStatement limits names o (at l act) (first_on l (first_word act) ∷ a)
+  pub statement_is : (o l : ℕ) (act : DeedAt) (a : List Piece) → ArePieces (parts_of o act) a → IsStatement limits names o (at l act) (first_on l (first_word act) ∷ a)
   statement_is o l (send x t) a (more (named is) (more (expressed h) (more one_piece nothing))) = grammar.of_send is h
   statement_is o l (delegate x y) a (more (named is) (more (named also) (more one_piece nothing))) = grammar.of_delegate is also
   statement_is o l (take_value x n k) a (more (named is) (more (named also) (more valued (more one_piece nothing)))) = grammar.of_take is also

@@ -10,8 +10,8 @@ use Rattle.sj_lang.specs.declared.party.Deed.{Deed}
 use Rattle.sj_lang.specs.declared.party.Deed.TheVariants as deeds
 use Rattle.sj_lang.specs.declared.party.Stmt.{Stmt}
 use Rattle.sj_lang.specs.declared.party.StmtArm.{StmtArm, out-StmtArm}
-use Rattle.sj_lang.specs.Term.{term_of}
-use Rattle.sj_lang.specs.Code.{Code, code_of, deed_of, arm_of, branches_of}
+use Rattle.sj_lang.specs.CodeView.{term_of, code_of, deed_of, arm_of, branches_of}
+use Rattle.sj_lang.specs.Code.{Code}
 use Rattle.sj_lang.proofs.Folds.{stmt_of-fields, arm_of-fields, deed_of-If}
 use Rattle.sj_grammar.specs.Tables.{Spelling}
 use Rattle.sj_party.specs.CanonicalCode.{spaces, newline, in_block, valued_text, code_text, step_text, act_text, arms_text, arm_text, block_text}

@@ -6,7 +6,7 @@ use Rattle.std.specs.declared.boxed.Box.{Box}
 use Rattle.sj_lang.specs.declared.party.Op.{Op}
 use Rattle.sj_lang.specs.declared.party.Expr.{Expr}
 use Rattle.sj_lang.specs.declared.party.Expr.TheVariants as exprs
-use Rattle.sj_lang.specs.Term.{term_of}
+use Rattle.sj_lang.specs.CodeView.{term_of}
 use Rattle.sj_lang.proofs.Folds.{term_of-Not, term_of-Two}
 use Rattle.sj_grammar.specs.Tables.{Spelling}
 use Rattle.sj_grammar.specs.Expressions.{Level, factor}

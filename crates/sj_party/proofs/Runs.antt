@@ -4,7 +4,7 @@ use Rattle.std.specs.Prelude.{codes}
 use Rattle.std.proofs.lemmas.Bool.{le-ltb}
 use Rattle.std.proofs.lemmas.Bool.Decides.{nat_tests}
 use Rattle.sj_lang.specs.Term.{Term}
-use Rattle.sj_lang.specs.Code.{Code, Step, Branches}
+use Rattle.sj_lang.specs.Code.{Code, StmtAt, Branches}
 use Rattle.sj_grammar.specs.Limits.{Limits}
 use Rattle.sj_grammar.specs.Names.{is_name}
 use Rattle.sj_grammar.specs.Tables.{Spelling, IsNamed}
@@ -69,7 +69,7 @@ module _ (L : Limits) where
           (leads_one L n n (fixed (codes ":") ∷ block o ∷ branches o ∷ ds) (block o ∷ branches o ∷ ds) (branches o ∷ ds) (plain (codes ":")) (a ++ b) refl
           (leads_on L n (block o ∷ branches o ∷ ds) (branches o ∷ ds) (branches o ∷ ds) a b (block_leads c n (branches o ∷ ds)) (λ k. arms_leads more k ds)))
 
-      pub statement_leads : {o : ℕ} {s : Step} {a : List Piece} → IsStatement L names o s a → (n : ℕ) (ds : List Due) → LeadsTo L n (stmts o ∷ ds) a (stmts o ∷ ds)
+      pub statement_leads : {o : ℕ} {s : StmtAt} {a : List Piece} → IsStatement L names o s a → (n : ℕ) (ds : List Due) → LeadsTo L n (stmts o ∷ ds) a (stmts o ∷ ds)
       statement_leads {o} (grammar.of_send {l} {x} {t} {e} is h) n ds =
           piece_leads n n _ _ _ (first_on l (codes "send")) _ (send_step L o n ds) (λ k. name_leads x k _ _ _ is (λ k. ended_leads t e k (stmts o ∷ ds) h))
       statement_leads {o} (grammar.of_delegate {l} {x} {y} is also) n ds =

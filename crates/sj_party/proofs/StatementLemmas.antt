@@ -1,7 +1,7 @@
 -- The statement that a first word and what is due behind it make.
 use Rattle.std.proofs.Common.{◌≡◌, ℕ, List, [], ◌∷◌, ◌++◌, ap, sym, ◌∙◌, append_assoc, inl, inr}
 use Rattle.std.specs.Prelude.{codes}
-use Rattle.sj_lang.specs.Code.{Step, step_then, at, send, delegate, take_value, take_end, outbranch, inbranch, outwhile, inwhile, relay, if_else, let_be, close, branch}
+use Rattle.sj_lang.specs.Code.{StmtAt, stmt_then, at, send, delegate, take_value, take_end, outbranch, inbranch, outwhile, inwhile, relay, if_else, let_be, close, branch}
 use Rattle.sj_grammar.specs.Tables.{Spelling}
 use Rattle.sj_grammar.specs.Places.{Pieces, Piece, plain, first_on, spellings}
 use Rattle.sj_grammar.specs.ExpressionDues.{whole}
@@ -16,10 +16,10 @@ use Rattle.sj_party.proofs.Fulfilled.{Named, Spelled, AllSpelled, awaited_lines,
 module _ (names : Spelling) where
   -- a statement of that word and these pieces
   abbrev pub Makes : ℕ → List ℕ → Pieces → Type 0
-  Makes o w x = (t : Step) × (a : List Piece) × Widely (λ M. IsStatement M names o t a) × (spellings a ≡ w ∷ x)
+  Makes o w x = (t : StmtAt) × (a : List Piece) × Widely (λ M. IsStatement M names o t a) × (spellings a ≡ w ∷ x)
 
   -- with the lines of what is due behind the word
-  made : (o : ℕ) (w : List ℕ) (ds : List Due) (x : Pieces) (h : AllSpelled names ds x) (t : Step) → Widely (λ M. IsStatement M names o t (first_on 0 w ∷ lines_of names ds x h)) → Makes o w x
+  made : (o : ℕ) (w : List ℕ) (ds : List Due) (x : Pieces) (h : AllSpelled names ds x) (t : StmtAt) → Widely (λ M. IsStatement M names o t (first_on 0 w ∷ lines_of names ds x h)) → Makes o w x
   made o w ds x h t is = (t, first_on 0 w ∷ lines_of names ds x h, is, ap (λ (ps : Pieces). w ∷ ps) (lines_spelled names ds x h))
 
   -- the statements, one by one
@@ -34,7 +34,7 @@ module _ (names : Spelling) where
 
     -- a value, or an end
     take_of : (n m : ℕ) (a : Pieces) (k : Spelled names awaited a) → Named names n → Named names m
-        → (t : Step) × Widely (λ M. IsStatement M names o t (first_on 0 (codes "recv") ∷ plain (names.word n) ∷ plain (names.word m) ∷ (awaited_lines names a k ++ plain (codes ";") ∷ [])))
+        → (t : StmtAt) × Widely (λ M. IsStatement M names o t (first_on 0 (codes "recv") ∷ plain (names.word n) ∷ plain (names.word m) ∷ (awaited_lines names a k ++ plain (codes ";") ∷ [])))
     take_of n m a (inl k) is also = (at 0 (take_value n m k.0), widely_two _ _ _ (λ M a b. grammar.of_take a b) is also)
     take_of n m a (inr p) is also = (at 0 (take_end n m p.0), widely_three _ _ _ _ (λ M a b c. grammar.of_take_end a b c) is also p.1)
 
@@ -93,7 +93,7 @@ module _ (names : Spelling) where
       let parts = Alls-split file_layer (Spelled names) front (stmts o ∷ []) ts h in
       let one = makes parts.0 parts.2 in
       let rest = lone file_layer (Spelled names) (stmts o) parts.1 parts.3 in (
-        step_then one.0 rest.0,
+        stmt_then one.0 rest.0,
         one.1 ++ rest.1,
         widely_two _ _ _ (λ M a b. grammar.one_more a b) one.2 rest.2,
         (λ i. same i ∷ parts.4 i) ∙ (λ i. sym one.3 i ++ rest.3 i) ∙ sym (spellings-append one.1 rest.1),

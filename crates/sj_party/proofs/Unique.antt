@@ -4,7 +4,7 @@ use Rattle.std.specs.Prelude.{codes}
 use Rattle.std.proofs.lemmas.Bool.Decides.{nat_tests}
 use Rattle.sj_lang.specs.declared.party.Scalar.{Scalar}
 use Rattle.sj_lang.specs.declared.party.Scalar.TheVariants as scalars
-use Rattle.sj_lang.specs.Code.{Code, Step, Branches, step_then, at, send, delegate, take_value, take_end, outbranch, inbranch, outwhile, inwhile, relay, if_else, let_be, close, branch}
+use Rattle.sj_lang.specs.Code.{Code, StmtAt, Branches, stmt_then, at, send, delegate, take_value, take_end, outbranch, inbranch, outwhile, inwhile, relay, if_else, let_be, close, branch}
 use Rattle.sj_lang.specs.Term.{Term}
 use Rattle.sj_grammar.specs.Limits.{Limits}
 use Rattle.sj_grammar.specs.Names.{is_name}
@@ -69,7 +69,7 @@ module _ (L : Limits) (names : Spelling) where
     one_code (grammar.one_more {a} {b = e} s c) (grammar.one_more {a = b} {b = f} t d) x y ex ey h =
         let first = one_statement s t (e ++ x) (f ++ y) (regroup a e x b f y h) in
         let rest = one_code c d x y ex ey first.1 in
-        ((λ i. step_then (first.0 i) (rest.0 i)), rest.1)
+        ((λ i. stmt_then (first.0 i) (rest.0 i)), rest.1)
 
     pub one_block : {o : ℕ} {c d : Code} {a b : List Piece} → IsBlock L names o c a → IsBlock L names o d b → (x y : List Piece) → AreAlike (a ++ x) (b ++ y) → (c ≡ d) × AreAlike x y
     one_block (grammar.of_code {a = p} deep c) (grammar.of_code {a = q} also d) x y h =
@@ -87,7 +87,7 @@ module _ (L : Limits) (names : Spelling) where
         let rest = one_arms more others x y ex ey first.1 in
         ((λ i. branch (one_name m n is also h.0 i) (first.0 i) (rest.0 i)), rest.1)
 
-    pub one_statement : {o : ℕ} {s t : Step} {a b : List Piece} → IsStatement L names o s a → IsStatement L names o t b → (x y : List Piece) → AreAlike (a ++ x) (b ++ y) → (s ≡ t) × AreAlike x y
+    pub one_statement : {o : ℕ} {s t : StmtAt} {a b : List Piece} → IsStatement L names o s a → IsStatement L names o t b → (x y : List Piece) → AreAlike (a ++ x) (b ++ y) → (s ≡ t) × AreAlike x y
     one_statement {o} {t} {b} (grammar.of_send {l} {x = v} {t = u} {e} is h) st x y g =
         let k = likes L names sends (codes "send") sends_kind o l t (called L names v ∷ ((all_plain e ++ plain (codes ";") ∷ []) ++ x)) b y st g in
         let same = one_name v k.0 is k.3 k.6.0 in

@@ -3,7 +3,7 @@ use Rattle.std.proofs.Common.{◌≡◌, ℕ, suc, ◌+◌, true, IsTrue, List, 
 use Rattle.std.specs.Prelude.{codes}
 use Rattle.std.proofs.Math.ListN.{get_or-map}
 use Rattle.sj_lang.specs.declared.party.Scalar.TheVariants.{Int}
-use Rattle.sj_lang.specs.Code.{no_step}
+use Rattle.sj_lang.specs.Code.{no_stmt}
 use Rattle.sj_grammar.specs.declared.tokens.Rule.{Rule}
 use Rattle.sj_grammar.specs.declared.tokens.Rule.TheVariants.{P4}
 use Rattle.sj_grammar.specs.Limits.{Limits}
@@ -37,7 +37,7 @@ module _ (names : Spelling) (a_name : ℕ) (is : IsTrue (is_name (names.word a_n
   some_spelled (parties k) = ([], none_spelled names (parties k) refl)
   some_spelled (connects k) = ([], none_spelled names (connects k) refl)
   some_spelled (stmts o) = ([], none_spelled names (stmts o) refl)
-  some_spelled (block o) = (codes "{" ∷ codes "}" ∷ [], (no_step, braced [], widely_two _ _ _ (λ M a b. statements.of_code a b) (suc o, λ M w. w.nesting) (0, λ M w. statements.none), refl))
+  some_spelled (block o) = (codes "{" ∷ codes "}" ∷ [], (no_stmt, braced [], widely_two _ _ _ (λ M a b. statements.of_code a b) (suc o, λ M w. w.nesting) (0, λ M w. statements.none), refl))
   some_spelled (branches o) = ([], none_spelled names (branches o) refl)
   some_spelled awaited = (codes "int" ∷ [], inl (Int, refl))
   some_spelled name =

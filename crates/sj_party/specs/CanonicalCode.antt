@@ -1,7 +1,7 @@
 -- The canonical text of statements: each on a line, blocks two spaces further in.
 use Rattle.std.specs.Prelude.{ℕ, ◌+◌, List, [], ◌++◌, replicate, codes}
 use Rattle.sj_lang.specs.Term.{Term}
-use Rattle.sj_lang.specs.Code.{Code, Step, Act, Branches, no_step, step_then, at, send, delegate, take_value, take_end, outbranch, inbranch, outwhile, inwhile, relay, if_else, let_be, close, no_branch, branch}
+use Rattle.sj_lang.specs.Code.{Code, StmtAt, DeedAt, Branches, no_stmt, stmt_then, at, send, delegate, take_value, take_end, outbranch, inbranch, outwhile, inwhile, relay, if_else, let_be, close, no_branch, branch}
 use Rattle.sj_grammar.specs.Tables.{Spelling}
 use Rattle.sj_grammar.specs.Expressions.{whole}
 use Rattle.sj_grammar.specs.Statements.{scalar_piece}
@@ -42,14 +42,14 @@ module _ (names : Spelling) where
   abbrev mutual
     -- statements that stand so many spaces in
     pub code_text : ℕ → Code → List ℕ
-    code_text n no_step = []
-    code_text n (step_then s rest) = step_text n s ++ code_text n rest
+    code_text n no_stmt = []
+    code_text n (stmt_then s rest) = step_text n s ++ code_text n rest
 
-    pub step_text : ℕ → Step → List ℕ
+    pub step_text : ℕ → StmtAt → List ℕ
     step_text n (at line a) = spaces n ++ (act_text n a ++ newline)
 
     -- what a statement is, up to the end of its last line
-    pub act_text : ℕ → Act → List ℕ
+    pub act_text : ℕ → DeedAt → List ℕ
     act_text n (send x t) = given_text (codes "send ") x (codes " ") t ++ codes ";"
     act_text n (delegate x y) = pair_text (codes "delegate ") x y ++ codes ";"
     act_text n (take_value x v k) = pair_text (codes "recv ") x v ++ (codes " " ++ (scalar_piece k ++ codes ";"))

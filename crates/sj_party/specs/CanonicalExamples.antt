@@ -7,7 +7,7 @@ use Rattle.sj_lang.specs.declared.party.Scalar.TheVariants as scalars
 use Rattle.sj_lang.specs.Place.{done, message}
 use Rattle.sj_lang.specs.Place as place
 use Rattle.sj_lang.specs.Term.{Term, int, boolean, text, var, not, two}
-use Rattle.sj_lang.specs.Code.{no_step, step_then, at, send, take_value, outbranch, inbranch, outwhile, if_else, let_be, close, no_branch, branch}
+use Rattle.sj_lang.specs.Code.{no_stmt, stmt_then, at, send, take_value, outbranch, inbranch, outwhile, if_else, let_be, close, no_branch, branch}
 use Rattle.sj_lang.specs.FileAt.{FileAt}
 use Rattle.sj_grammar.specs.Tables.{Spelling}
 use Rattle.sj_grammar.specs.Expressions.{whole}
@@ -51,15 +51,15 @@ unfolding digits
 a_negative_number_has_a_minus = refl
 
 -- a block stands two spaces further in, also an empty one
-pub an_empty_block_has_two_lines : step_text letters 2 (at 9 (outwhile 0 (int (pos 3)) no_step)) ≡ codes "  outwhile a 3 {\n  }\n"
+pub an_empty_block_has_two_lines : step_text letters 2 (at 9 (outwhile 0 (int (pos 3)) no_stmt)) ≡ codes "  outwhile a 3 {\n  }\n"
 unfolding digits in_block named_text valued_text given_text
 an_empty_block_has_two_lines = refl
 
-pub else_stands_between_its_braces : act_text letters 2 (if_else a (step_then (at 3 (close 0)) no_step) (step_then (at 4 (let_be 0 a)) no_step)) ≡ codes "if a {\n    close a;\n  } else {\n    let a = a;\n  }"
+pub else_stands_between_its_braces : act_text letters 2 (if_else a (stmt_then (at 3 (close 0)) no_stmt) (stmt_then (at 4 (let_be 0 a)) no_stmt)) ≡ codes "if a {\n    close a;\n  } else {\n    let a = a;\n  }"
 unfolding in_block named_text valued_text given_text
 else_stands_between_its_braces = refl
 
-pub arms_stand_further_in : act_text letters 2 (inbranch 0 (branch 0 no_step (branch 0 (step_then (at 5 (outbranch 0 0)) no_step) no_branch)))
+pub arms_stand_further_in : act_text letters 2 (inbranch 0 (branch 0 no_stmt (branch 0 (stmt_then (at 5 (outbranch 0 0)) no_stmt) no_branch)))
     ≡ codes "inbranch a {\n    a: {\n    }\n    a: {\n      outbranch a a;\n    }\n  }"
 unfolding in_block named_text pair_text
 arms_stand_further_in = refl
@@ -73,8 +73,8 @@ first_file = record {
   words = codes "p" ∷ codes "q" ∷ codes "a" ∷ codes "x" ∷ codes "b" ∷ codes "y" ∷ codes "n" ∷ [];
   texts = [];
   protocols = record { line = 1; name = 0; body = message Out place.int done } ∷ record { line = 2; name = 1; body = message Into place.int done } ∷ [];
-  parties = record { line = 3; name = 2; code = step_then (at 3 (send 3 (int (pos 5)))) (step_then (at 3 (close 3)) no_step) }
-      ∷ record { line = 4; name = 4; code = step_then (at 4 (take_value 5 6 scalars.Int)) (step_then (at 4 (close 5)) no_step) } ∷ [];
+  parties = record { line = 3; name = 2; code = stmt_then (at 3 (send 3 (int (pos 5)))) (stmt_then (at 3 (close 3)) no_stmt) }
+      ∷ record { line = 4; name = 4; code = stmt_then (at 4 (take_value 5 6 scalars.Int)) (stmt_then (at 4 (close 5)) no_stmt) } ∷ [];
   connects = record { line = 5; first = record { party = 2; name = 3; protocol = 0 }; second = record { party = 4; name = 5; protocol = 1 } } ∷ [];
 }
 

@@ -2,7 +2,7 @@
 use Rattle.std.specs.Prelude.{◌≡◌, ℕ, List, [], ◌∷◌, codes}
 use Rattle.sj_lang.specs.declared.party.Scalar.{Scalar}
 use Rattle.sj_lang.specs.Term.{Term}
-use Rattle.sj_lang.specs.Code.{Code, Act, Branches, no_branch, branch, send, delegate, take_value, take_end, outbranch, inbranch, outwhile, inwhile, relay, if_else, let_be, close}
+use Rattle.sj_lang.specs.Code.{Code, DeedAt, Branches, no_branch, branch, send, delegate, take_value, take_end, outbranch, inbranch, outwhile, inwhile, relay, if_else, let_be, close}
 use Rattle.sj_grammar.specs.Limits.{limits}
 use Rattle.sj_grammar.specs.Tables.{IsNamed}
 use Rattle.sj_grammar.specs.Places.{At, Takes}
@@ -28,7 +28,7 @@ pub data Part : Type 0 where
   some_arms : ℕ → Branches → Part
 
 -- behind the first word
-abbrev pub parts_of : ℕ → Act → List Part
+abbrev pub parts_of : ℕ → DeedAt → List Part
 parts_of o (send x t) = a_name x ∷ an_expression t ∷ a_piece (codes ";") ∷ []
 parts_of o (delegate x y) = a_name x ∷ a_name y ∷ a_piece (codes ";") ∷ []
 parts_of o (take_value x n k) = a_name x ∷ a_name n ∷ a_value k ∷ a_piece (codes ";") ∷ []
@@ -43,7 +43,7 @@ parts_of o (let_be n t) = a_name n ∷ a_piece (codes "=") ∷ an_expression t �
 parts_of o (close x) = a_name x ∷ a_piece (codes ";") ∷ []
 
 -- the first word
-abbrev pub first_word : Act → List ℕ
+abbrev pub first_word : DeedAt → List ℕ
 first_word (send x t) = codes "send"
 first_word (delegate x y) = codes "delegate"
 first_word (take_value x n k) = codes "recv"
@@ -76,7 +76,7 @@ ReadsParts a b [] = a ≡ b
 ReadsParts a b (p ∷ ps) = (m : At) × ReadsPart a m p × ReadsParts m b ps
 
 -- from here to there stands, behind that word, what the statement does
-pub record ReadsDeed (word : List ℕ) (o : ℕ) (a b : At) (act : Act) : Type 0 where
+pub record ReadsDeed (word : List ℕ) (o : ℕ) (a b : At) (act : DeedAt) : Type 0 where
   pub first : first_word act ≡ word
   pub parts : ReadsParts a b (parts_of o act)
 

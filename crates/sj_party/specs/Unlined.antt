@@ -1,19 +1,19 @@
 -- A file but for its lines.
 use Rattle.std.specs.Prelude.{◌≡◌, ℕ, List, map}
-use Rattle.sj_lang.specs.Code.{Code, Step, Act, Branches, no_step, step_then, at, send, delegate, take_value, take_end, outbranch, inbranch, outwhile, inwhile, relay, if_else, let_be, close, no_branch, branch}
+use Rattle.sj_lang.specs.Code.{Code, StmtAt, DeedAt, Branches, no_stmt, stmt_then, at, send, delegate, take_value, take_end, outbranch, inbranch, outwhile, inwhile, relay, if_else, let_be, close, no_branch, branch}
 use Rattle.sj_lang.specs.FileAt.{ProtocolAt, PartyAt, ConnectAt, FileAt}
 use Rattle.sj_grammar.specs.Files.{IsFile}
 
 -- the same, with line 0 in place of each line
 abbrev mutual
   pub unlined_code : Code → Code
-  unlined_code no_step = no_step
-  unlined_code (step_then s rest) = step_then (unlined_step s) (unlined_code rest)
+  unlined_code no_stmt = no_stmt
+  unlined_code (stmt_then s rest) = stmt_then (unlined_step s) (unlined_code rest)
 
-  pub unlined_step : Step → Step
+  pub unlined_step : StmtAt → StmtAt
   unlined_step (at line a) = at 0 (unlined_act a)
 
-  pub unlined_act : Act → Act
+  pub unlined_act : DeedAt → DeedAt
   unlined_act (send x t) = send x t
   unlined_act (delegate x y) = delegate x y
   unlined_act (take_value x v k) = take_value x v k

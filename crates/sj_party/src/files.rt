@@ -6,7 +6,8 @@ ghost use Rattle.sj_grammar.specs.Limits.{limits};
 ghost use Rattle.sj_grammar.specs.Places.{start};
 ghost use Rattle.sj_grammar.specs.Files.{IsFile};
 ghost use Rattle.sj_grammar.specs.FileDues.{file_layer, file_due};
-ghost use Rattle.sj_grammar.specs.Faults.{Stuck, OnFault};
+ghost use Rattle.sj_grammar.specs.Faults.{Stuck};
+ghost use Rattle.sj_grammar.specs.Refusals.{OnFault};
 ghost use Rattle.sj_party.specs.Within.{IsWithin};
 
 use crate::connects::parse_connects;

@@ -8,7 +8,7 @@
 //! `a_file_goes_on_up_to_there`: up to what is due a file can go on so, and at a passed limit with the token too.
 //! `first_faults_go_wrong`, `what_goes_wrong_is_the_first_fault`: the first fault in the grammar's own words, but for limits.
 ghost use Rattle.std.specs.Prelude.{◌≡◌, ◌≢◌, ℕ, List, [], ◌∷◌, ◌++◌, Some, None, true, false};
-ghost use Rattle.sj_lang.specs.Code.{Code, Step, Branches};
+ghost use Rattle.sj_lang.specs.Code.{Code, StmtAt, Branches};
 ghost use Rattle.sj_lang.specs.FileAt.{FileAt};
 ghost use Rattle.sj_grammar.specs.declared.tokens.Rule.{Rule};
 ghost use Rattle.sj_grammar.specs.declared.tokens.Rule.TheVariants.{P4};
@@ -27,7 +27,7 @@ ghost use Rattle.sj_party.specs.Viable.{IsViable, IsViableWithin, IsWhole};
 ghost use Rattle.sj_party.specs.Wrong.{GoesWrong};
 
 pub fn statements_are_what_is_due()
-    ensures one { (L : Limits) (names : Spelling) (o n : ℕ) (s : Step) (a : List Piece) (ds : List Due)
+    ensures one { (L : Limits) (names : Spelling) (o n : ℕ) (s : StmtAt) (a : List Piece) (ds : List Due)
         → IsStatement L names o s a → LeadsTo L n (stmts o ∷ ds) a (stmts o ∷ ds) }
     ensures code { (L : Limits) (names : Spelling) (o n : ℕ) (c : Code) (a : List Piece) (ds : List Due)
         → IsCode L names o c a → LeadsTo L n (stmts o ∷ ds) a (stmts o ∷ ds) }
@@ -53,7 +53,7 @@ pub fn no_statement_has_a_fault()
 {}
 
 pub fn statements_are_read_in_one_way()
-    ensures one { (L : Limits) (names : Spelling) (o : ℕ) (s t : Step) (a b x y : List Piece)
+    ensures one { (L : Limits) (names : Spelling) (o : ℕ) (s t : StmtAt) (a b x y : List Piece)
         → IsStatement L names o s a → IsStatement L names o t b → AreAlike (a ++ x) (b ++ y)
         → (s ≡ t) × AreAlike x y }
     ensures code { (L : Limits) (names : Spelling) (o : ℕ) (c d : Code) (a b x y : List Piece)

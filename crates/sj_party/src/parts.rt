@@ -1,6 +1,6 @@
 //! What statements have behind their first words.
 ghost use Rattle.std.specs.Prelude.{ℕ, ◌<◌, [], ◌∷◌, codes, IfOk, IfErr};
-ghost use Rattle.sj_lang.specs.Term.{term_of};
+ghost use Rattle.sj_lang.specs.CodeView.{term_of};
 ghost use Rattle.sj_grammar.specs.ExpressionDues.{whole};
 ghost use Rattle.sj_grammar.specs.FileDues.{name as name_due, fixed, expr, awaited as awaited_due};
 ghost use Rattle.sj_proto.specs.Parsed.{standing, Stops};

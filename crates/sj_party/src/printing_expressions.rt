@@ -3,7 +3,7 @@
 
 ghost use Rattle.std.specs.Prelude.{◌≡◌, ◌++◌, [], if◌then◌else◌, OnOk, OnErr};
 ghost use Rattle.sj_text.specs.Cut.{IsCutShort};
-ghost use Rattle.sj_lang.specs.Term.{term_of};
+ghost use Rattle.sj_lang.specs.CodeView.{term_of};
 ghost use Rattle.sj_grammar.specs.Literals.{quoted};
 ghost use Rattle.sj_grammar.specs.Tables.{entry_of};
 ghost use Rattle.sj_party.specs.CanonicalExpression.{spelling_of, left_of, right_of, needs_parens, spaced, expression_text};

@@ -3,8 +3,7 @@
 
 ghost use Rattle.std.specs.Prelude.{◌≡◌, ◌+◌, ◌++◌, map, codes, IfOk, OnOk, OnErr};
 ghost use Rattle.sj_text.specs.Cut.{IsCutShort};
-ghost use Rattle.sj_lang.specs.Term.{term_of};
-ghost use Rattle.sj_lang.specs.Code.{arm_of, branches_of, code_of, deed_of};
+ghost use Rattle.sj_lang.specs.CodeView.{term_of, arm_of, branches_of, code_of, deed_of};
 ghost use Rattle.sj_grammar.specs.Statements.{scalar_piece};
 ghost use Rattle.sj_party.specs.CanonicalExpression.{spelling_of};
 ghost use Rattle.sj_party.specs.CanonicalCode.{spaces, in_block, named_text, pair_text, valued_text, given_text, act_text, arms_text, block_text};

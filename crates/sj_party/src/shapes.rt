@@ -1,6 +1,7 @@
 //! Statements and arms of their parts.
 ghost use Rattle.std.specs.Prelude.{◌≡◌};
-ghost use Rattle.sj_lang.specs.Code.{at, deed_of, stmt_of, arm_of, code_of};
+ghost use Rattle.sj_lang.specs.Code.{at};
+ghost use Rattle.sj_lang.specs.CodeView.{deed_of, stmt_of, arm_of, code_of};
 
 use sj_lang::{Deed, Stmt, StmtArm};
 

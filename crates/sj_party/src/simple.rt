@@ -1,6 +1,6 @@
 //! Statements with no block, behind their first words.
 ghost use Rattle.std.specs.Prelude.{◌≡◌, ℕ, ◌<◌, ◌∷◌, codes, IfOk, IfErr};
-ghost use Rattle.sj_lang.specs.Code.{deed_of};
+ghost use Rattle.sj_lang.specs.CodeView.{deed_of};
 ghost use Rattle.sj_grammar.specs.ExpressionDues.{whole};
 ghost use Rattle.sj_grammar.specs.FileDues.{name, fixed, expr, awaited, semicolon};
 ghost use Rattle.sj_proto.specs.Parsed.{standing, Stops};

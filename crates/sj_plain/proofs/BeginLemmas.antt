@@ -2,7 +2,7 @@
 use Rattle.std.proofs.Common.{◌≡◌, ℕ, zero, suc, ◌+◌, ◌<◌, List, [], ◌∷◌, ◌++◌, map, length, take, get_or, slice_get, Some, refl, ap, sym, ◌∙◌, arith}
 use Rattle.std.proofs.lemmas.List.{map-append}
 use Rattle.sj_lang.specs.FileAt.{FileAt, PartyAt, ConnectAt, end_of_party, ends_from}
-use Rattle.sj_semantics.specs.Start.{program_of, programs_from, session_of, start_of}
+use Rattle.sj_semantics.specs.World.{program_of, programs_from, session_of, start_of}
 use Rattle.sj_semantics.specs.Run.{IsRun, after_acts}
 use Rattle.sj_plain.specs.declared.course.Course.{Course}
 use Rattle.sj_plain.specs.Course.{acts_in, file_in, world_in}

@@ -6,10 +6,9 @@ use Rattle.sj_lang.specs.FileAt.{FileAt}
 use Rattle.sj_semantics.specs.Ends.{Session}
 use Rattle.sj_semantics.specs.Program.{Program}
 use Rattle.sj_semantics.specs.Run.{IsRun, after_acts, end_of}
-use Rattle.sj_semantics.specs.Start.{start_of}
+use Rattle.sj_semantics.specs.World.{start_of, World, Change, act_of, change_of_program, changed}
 use Rattle.sj_semantics.specs.State.{IsSettled}
 use Rattle.sj_semantics.specs.Uses.{altered}
-use Rattle.sj_semantics.specs.World.{World, Change, act_of, change_of_program, changed}
 use Rattle.sj_semantics_laws.proofs.FinishLemmas.{end_is_reached, end_is_settled}
 use Rattle.sj_semantics_laws.proofs.RoundLemmas.{left_in-act}
 use Rattle.sj_semantics_laws.proofs.RunLemmas.{between, same_end}

@@ -6,7 +6,7 @@ use Rattle.sj_base.specs.declared.EndId.{EndId}
 use Rattle.sj_base.specs.declared.Msg.{Msg}
 use Rattle.sj_semantics.specs.Ends as model
 use Rattle.sj_semantics.specs.Ends.{EndAt, end_on, end_at, next_for, nowhere, other_side}
-use Rattle.sj_semantics.specs.Uses.{used, sends, hands_on, altered, on_side}
+use Rattle.sj_semantics.specs.Uses.{end_after, sends, delegates, altered, on_side}
 use Rattle.sj_semantics_laws.proofs.AlteredLemmas.{altered_comm, altered-altered, slice_get-altered, slice_get-altered_other}
 
 -- ---- one element of a list
@@ -30,7 +30,7 @@ map-same view (a ∷ xs) (suc i) x y lt there same = ap (λ t. view a ∷ t) (ma
 
 -- ---- an end that is handed on, and the message that does it
 
-sides_comm : (p c d : ℕ) (m : Msg) (z : model.Session) → on_side d (used p hands_on) (on_side c (used p (sends m)) z) ≡ on_side c (used p (sends m)) (on_side d (used p hands_on) z)
+sides_comm : (p c d : ℕ) (m : Msg) (z : model.Session) → on_side d (end_after p delegates) (on_side c (end_after p (sends m)) z) ≡ on_side c (end_after p (sends m)) (on_side d (end_after p delegates) z)
 sides_comm p zero zero m z = refl
 sides_comm p zero (suc d) m z = refl
 sides_comm p (suc c) zero m z = refl
@@ -38,34 +38,34 @@ sides_comm p (suc c) (suc d) m z = refl
 
 -- the message of the hand-over can be sent first
 pub handed_first : (p : ℕ) (e y : EndId) (m : Msg) (zs : List model.Session)
-    → altered (altered zs e.sess (on_side e.side (used p (sends m)))) y.sess (on_side y.side (used p hands_on))
-    ≡ altered (altered zs y.sess (on_side y.side (used p hands_on))) e.sess (on_side e.side (used p (sends m)))
+    → altered (altered zs e.sess (on_side e.side (end_after p (sends m)))) y.sess (on_side y.side (end_after p delegates))
+    ≡ altered (altered zs y.sess (on_side y.side (end_after p delegates))) e.sess (on_side e.side (end_after p (sends m)))
 handed_first p e y m zs =
     elim (cases_eq e.sess y.sess) [
       | inl same ↦
-          subst (λ (t : ℕ). altered (altered zs e.sess (on_side e.side (used p (sends m)))) t (on_side y.side (used p hands_on)) ≡ altered (altered zs t (on_side y.side (used p hands_on))) e.sess (on_side e.side (used p (sends m)))) same
-          (altered-altered zs e.sess (on_side e.side (used p (sends m))) (on_side y.side (used p hands_on))
+          subst (λ (t : ℕ). altered (altered zs e.sess (on_side e.side (end_after p (sends m)))) t (on_side y.side (end_after p delegates)) ≡ altered (altered zs t (on_side y.side (end_after p delegates))) e.sess (on_side e.side (end_after p (sends m)))) same
+          (altered-altered zs e.sess (on_side e.side (end_after p (sends m))) (on_side y.side (end_after p delegates))
           ∙ ap (altered zs e.sess) (λ i z. sides_comm p e.side y.side m z i)
-          ∙ sym (altered-altered zs e.sess (on_side y.side (used p hands_on)) (on_side e.side (used p (sends m)))))
-      | inr other ↦ altered_comm zs e.sess y.sess (on_side e.side (used p (sends m))) (on_side y.side (used p hands_on)) other
+          ∙ sym (altered-altered zs e.sess (on_side y.side (end_after p delegates)) (on_side e.side (end_after p (sends m)))))
+      | inr other ↦ altered_comm zs e.sess y.sess (on_side e.side (end_after p (sends m))) (on_side y.side (end_after p delegates)) other
     ]
 
-side_hops : (p c d : ℕ) (m : Msg) (z : model.Session) → (end_on d (on_side c (used p (sends m)) z)).hops ≡ (end_on d z).hops
+side_hops : (p c d : ℕ) (m : Msg) (z : model.Session) → (end_on d (on_side c (end_after p (sends m)) z)).hops ≡ (end_on d z).hops
 side_hops p zero zero m z = refl
 side_hops p zero (suc d) m z = refl
 side_hops p (suc c) zero m z = refl
 side_hops p (suc c) (suc d) m z = refl
 
-hops_if : (p c d : ℕ) (m : Msg) (o : Option model.Session) → (unwrap_or (option_map (end_on d) (option_map (on_side c (used p (sends m))) o)) nowhere).hops ≡ (unwrap_or (option_map (end_on d) o) nowhere).hops
+hops_if : (p c d : ℕ) (m : Msg) (o : Option model.Session) → (unwrap_or (option_map (end_on d) (option_map (on_side c (end_after p (sends m))) o)) nowhere).hops ≡ (unwrap_or (option_map (end_on d) o) nowhere).hops
 hops_if p c d m None = refl
 hops_if p c d m (Some z) = side_hops p c d m z
 
 -- a send counts no hand-over
-pub hops_stay : (p : ℕ) (e y : EndId) (m : Msg) (zs : List model.Session) → (end_at (altered zs e.sess (on_side e.side (used p (sends m)))) y).hops ≡ (end_at zs y).hops
+pub hops_stay : (p : ℕ) (e y : EndId) (m : Msg) (zs : List model.Session) → (end_at (altered zs e.sess (on_side e.side (end_after p (sends m)))) y).hops ≡ (end_at zs y).hops
 hops_stay p e y m zs =
     elim (cases_eq e.sess y.sess) [
       | inl same ↦
-          subst (λ (t : ℕ). (unwrap_or (option_map (end_on y.side) (slice_get (altered zs e.sess (on_side e.side (used p (sends m)))) t)) nowhere).hops ≡ (unwrap_or (option_map (end_on y.side) (slice_get zs t)) nowhere).hops) same
-          (ap (λ o. (unwrap_or (option_map (end_on y.side) o) nowhere).hops) (slice_get-altered zs e.sess (on_side e.side (used p (sends m)))) ∙ hops_if p e.side y.side m (slice_get zs e.sess))
-      | inr other ↦ ap (λ o. (unwrap_or (option_map (end_on y.side) o) nowhere).hops) (slice_get-altered_other zs e.sess y.sess (on_side e.side (used p (sends m))) other)
+          subst (λ (t : ℕ). (unwrap_or (option_map (end_on y.side) (slice_get (altered zs e.sess (on_side e.side (end_after p (sends m)))) t)) nowhere).hops ≡ (unwrap_or (option_map (end_on y.side) (slice_get zs t)) nowhere).hops) same
+          (ap (λ o. (unwrap_or (option_map (end_on y.side) o) nowhere).hops) (slice_get-altered zs e.sess (on_side e.side (end_after p (sends m)))) ∙ hops_if p e.side y.side m (slice_get zs e.sess))
+      | inr other ↦ ap (λ o. (unwrap_or (option_map (end_on y.side) o) nowhere).hops) (slice_get-altered_other zs e.sess y.sess (on_side e.side (end_after p (sends m))) other)
     ]

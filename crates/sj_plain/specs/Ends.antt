@@ -4,17 +4,17 @@ use Rattle.sj_lang.specs.FileAt.{ProtocolAt, ConnectAt, body_named}
 use Rattle.sj_semantics.specs.declared.Passed.{Passed}
 use Rattle.sj_semantics.specs.Ends as model
 use Rattle.sj_semantics.specs.Ends.{EndAt, end_on, other_side}
-use Rattle.sj_semantics.specs.Start.{fresh}
+use Rattle.sj_semantics.specs.World.{fresh}
 use Rattle.sj_plain.specs.declared.ends.End.{End}
 use Rattle.sj_plain.specs.declared.ends.Session.{Session}
 
 -- an end, apart from how it lies in memory
-abbrev pub end_of : End → EndAt
-end_of e = record { place = e.place; sent = e.sent.items; takers = e.takers.items; hops = e.hops }
+abbrev pub end_view : End → EndAt
+end_view e = record { place = e.place; sent = e.sent.items; takers = e.takers.items; hops = e.hops }
 
 -- a session, apart from how it lies in memory
 abbrev pub session_at : Session → model.Session
-session_at z = record { first = end_of z.first; second = end_of z.second }
+session_at z = record { first = end_view z.first; second = end_view z.second }
 
 -- the session that a connection makes with these protocols, before any act
 abbrev pub connected : List ProtocolAt → ConnectAt → model.Session

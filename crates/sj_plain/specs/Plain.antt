@@ -8,8 +8,8 @@ use Rattle.sj_plain.specs.declared.plain.Plain.{Plain}
 use Rattle.sj_plain.specs.Course.{acts_in, file_in, world_in}
 
 -- the file that it is of, without its tables of words
-abbrev pub kept : Plain → FileAt
-kept p = file_in p
+abbrev pub kept_file : Plain → FileAt
+kept_file p = file_in p
 
 -- who acted so far, in order
 abbrev pub acts_of : Plain → List ℕ

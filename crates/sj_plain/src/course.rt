@@ -7,9 +7,8 @@ ghost use Rattle.sj_plain.specs.Kept.{without_words};
 ghost use Rattle.sj_machine.specs.Sound.{program_at};
 ghost use Rattle.sj_plain.specs.Rounds.{Shows, steps_left};
 ghost use Rattle.sj_plain.specs.Stepping.{sessions_at};
-ghost use Rattle.sj_semantics.specs.Start.{start_of};
+ghost use Rattle.sj_semantics.specs.World.{start_of, act_of};
 ghost use Rattle.sj_semantics.specs.State.{IsSettled, has_ended, is_at_limit, state_of, state_of_program, verdict_of};
-ghost use Rattle.sj_semantics.specs.World.{act_of};
 ghost use Rattle.sj_semantics.specs.declared.State.TheVariants.{Ready};
 
 use crate::Halt;

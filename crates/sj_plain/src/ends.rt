@@ -4,9 +4,9 @@ ghost use Rattle.std.specs.Option.{option_copied};
 ghost use Rattle.sj_lang.specs.FileAt.{body_named, protocol_named};
 ghost use Rattle.sj_lang.specs.FileView.{protocol_of, connect_of};
 ghost use Rattle.sj_semantics.specs.Ends.{end_on};
-ghost use Rattle.sj_semantics.specs.Start.{fresh};
-ghost use Rattle.sj_semantics.specs.Uses.{on_side, used, sends, takes, hands_on};
-ghost use Rattle.sj_plain.specs.Ends.{end_of, session_at, connected, next_on};
+ghost use Rattle.sj_semantics.specs.World.{fresh};
+ghost use Rattle.sj_semantics.specs.Uses.{on_side, end_after, sends, takes, delegates};
+ghost use Rattle.sj_plain.specs.Ends.{end_view, session_at, connected, next_on};
 
 use crate::moves::advance;
 use sj_base::{Msg, NoMemory};
@@ -26,7 +26,7 @@ pub(crate) struct End {
 impl End {
     // The end before any act, at the body of the protocol of that name.
     fn start(alloc: Global, protocols: &[ProtocolDef], name: u16) -> Result<End, NoMemory>
-        ensures { IfOk result (λ e. end_of e
+        ensures { IfOk result (λ e. end_view e
             ≡ fresh (body_named (map protocol_of protocols.now) name)) }
     {
         let place = match body_of(protocols, name) {
@@ -44,9 +44,9 @@ impl End {
     }
 
     fn send(&mut self, alloc: Global, passed: Passed) -> Result<(), NoMemory>
-        ensures ok { OnOk result (end_of self.new
-            ≡ used passed.by (sends passed.msg) (end_of self.old)) }
-        ensures err { OnErr result (end_of self.new ≡ end_of self.old) }
+        ensures ok { OnOk result (end_view self.new
+            ≡ end_after passed.by (sends passed.msg) (end_view self.old)) }
+        ensures err { OnErr result (end_view self.new ≡ end_view self.old) }
     {
         self.sent.reserve(1)?;
         advance(alloc, &mut self.place, Way::Out, &passed.msg)?;
@@ -55,8 +55,8 @@ impl End {
     }
 
     fn take(&mut self, alloc: Global, by: u16, msg: &Msg) -> Result<(), NoMemory>
-        ensures ok { OnOk result (end_of self.new ≡ used by (takes msg.now) (end_of self.old)) }
-        ensures err { OnErr result (end_of self.new ≡ end_of self.old) }
+        ensures ok { OnOk result (end_view self.new ≡ end_after by (takes msg.now) (end_view self.old)) }
+        ensures err { OnErr result (end_view self.new ≡ end_view self.old) }
     {
         self.takers.reserve(1)?;
         advance(alloc, &mut self.place, Way::Into, msg)?;
@@ -101,7 +101,7 @@ impl Session {
     }
 
     fn end(&self, side: u8) -> &End
-        ensures { end_of result.now ≡ end_on side (session_at self.now) }
+        ensures { end_view result.now ≡ end_on side (session_at self.now) }
     {
         if side == 0 { &self.first } else { &self.second }
     }
@@ -145,7 +145,7 @@ impl Session {
     /// Puts the message behind those that the end sent, and moves the end past it.
     pub(crate) fn send(&mut self, alloc: Global, side: u8, passed: Passed) -> Result<(), NoMemory>
         ensures ok { OnOk result (session_at self.new
-            ≡ on_side side (used passed.by (sends passed.msg)) (session_at self.old)) }
+            ≡ on_side side (end_after passed.by (sends passed.msg)) (session_at self.old)) }
         ensures err { OnErr result (session_at self.new ≡ session_at self.old) }
     {
         if side == 0 {
@@ -164,7 +164,7 @@ impl Session {
         msg: &Msg,
     ) -> Result<(), NoMemory>
         ensures ok { OnOk result (session_at self.new
-            ≡ on_side side (used by (takes msg.now)) (session_at self.old)) }
+            ≡ on_side side (end_after by (takes msg.now)) (session_at self.old)) }
         ensures err { OnErr result (session_at self.new ≡ session_at self.old) }
     {
         if side == 0 {
@@ -178,7 +178,7 @@ impl Session {
     pub(crate) fn hand_on(&mut self, side: u8)
         requires { (end_on side (session_at self.old)).hops < 100 }
         ensures { (by : ℕ) → session_at self.new
-            ≡ on_side side (used by hands_on) (session_at self.old) }
+            ≡ on_side side (end_after by delegates) (session_at self.old) }
     {
         if side == 0 {
             self.first.hops += 1;

@@ -13,7 +13,7 @@ pub enum Halt {
     /// It has nothing more to do.
     #[error("ended")]
     Ended,
-    /// It has done 10,000 steps, or would hand on an end that was handed on 100 times.
+    /// It has done 10,000 steps, or would delegate an end that was delegated 100 times.
     #[error("at limit")]
     AtLimit,
     #[error("no memory")]

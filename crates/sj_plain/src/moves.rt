@@ -4,7 +4,7 @@
 ghost use Rattle.std.specs.Prelude.{◌≡◌, ◌+◌, ◌<◌, ◌≤◌, ◌∷◌, ◌++◌, vec_len, vec_capacity, IsOk, IfSome, IfNone, OnOk, OnErr, Some, None};
 ghost use Rattle.sj_lang.specs.View.{carried_of, place_of};
 ghost use Rattle.sj_lang.specs.After.{at_label, carries};
-ghost use Rattle.sj_semantics.specs.Uses.{moved};
+ghost use Rattle.sj_semantics.specs.Uses.{place_behind};
 ghost use Rattle.sj_plain.specs.Moves.{body_in, arms_in, arm_count, arm_rest, place_length, after_move, IsOpen};
 
 use sj_base::{Msg, NoMemory};
@@ -26,7 +26,7 @@ enum Move {
 /// Moves the place past the message. It stays where the message isn't next. One more turn of a
 /// loop copies the body of the loop, and nothing else copies items.
 pub(crate) fn advance(alloc: Global, place: &mut Proto, way: Way, msg: &Msg) -> Result<(), NoMemory>
-    ensures ok { OnOk result (place.new ≡ moved place.old way msg.now) }
+    ensures ok { OnOk result (place.new ≡ place_behind place.old way msg.now) }
     ensures err { OnErr result (place.new ≡ place.old) }
 {
     match move_of(&place.items, way, msg) {
@@ -42,7 +42,7 @@ pub(crate) fn advance(alloc: Global, place: &mut Proto, way: Way, msg: &Msg) -> 
 
 fn move_of(items: &[Item], way: Way, msg: &Msg) -> Move
     ensures open { IsOpen items.now result }
-    ensures after { after_move items.now result ≡ moved (place_of items.now) way msg.now }
+    ensures after { after_move items.now result ≡ place_behind (place_of items.now) way msg.now }
 {
     let Some(first) = items.first() else {
         return Move::Stay;

@@ -6,10 +6,9 @@ ghost use Rattle.sj_lang.specs.FileView.{file_of};
 ghost use Rattle.sj_plain.specs.Kept.{without_words};
 ghost use Rattle.sj_semantics.specs.Ends.{other_end};
 ghost use Rattle.sj_semantics.specs.Run.{IsRun, end_of};
-ghost use Rattle.sj_semantics.specs.Start.{start_of};
+ghost use Rattle.sj_semantics.specs.World.{start_of, act_of};
 ghost use Rattle.sj_semantics.specs.State.{IsSettled, state_of, verdict_of};
 ghost use Rattle.sj_semantics.specs.Wants.{want_of};
-ghost use Rattle.sj_semantics.specs.World.{act_of};
 ghost use Rattle.sj_semantics.specs.declared.State.TheVariants as states;
 ghost use Rattle.sj_semantics.specs.declared.Want.TheVariants.{Ended};
 
@@ -45,19 +44,19 @@ impl Model for Plain {
 
 impl Plain {
     ghost use Rattle.sj_plain.specs.Course.{GoesOn};
-    ghost use Rattle.sj_plain.specs.Plain.{acts_of, end_in, kept, party_count, session_count, world_at};
+    ghost use Rattle.sj_plain.specs.Plain.{acts_of, end_in, kept_file, party_count, session_count, world_at};
 
     /// The world before the first act. It copies what it needs of the file.
     pub fn start(alloc: Global, accepted: &Accepted) -> Result<Plain, NoMemory>
         // The file's start.
-        ensures kept { IfOk result (λ p. kept p ≡ without_words (file_of (held accepted.now))) }
+        ensures kept_file { IfOk result (λ p. kept_file p ≡ without_words (file_of (held accepted.now))) }
         ensures acts { IfOk result (λ p. acts_of p ≡ []) }
         ensures world { IfOk result (λ p. world_at p ≡ start_of (file_of (held accepted.now))) }
 
         // What is true of every world.
-        ensures run { IfOk result (λ p. IsRun (kept p) (acts_of p) (world_at p)) }
-        ensures parties { IfOk result (λ p. party_count p ≡ length (kept p).parties) }
-        ensures sessions { IfOk result (λ p. session_count p ≡ length (kept p).connects) }
+        ensures run { IfOk result (λ p. IsRun (kept_file p) (acts_of p) (world_at p)) }
+        ensures parties { IfOk result (λ p. party_count p ≡ length (kept_file p).parties) }
+        ensures sessions { IfOk result (λ p. session_count p ≡ length (kept_file p).connects) }
     {
         let course = Course::start(alloc, accepted.file())?;
         Ok(Plain { course })
@@ -72,10 +71,10 @@ impl Plain {
         ensures acts { OnOk result (acts_of self.new ≡ acts_of self.old ++ party ∷ []) }
 
         // What is true of every world, and what no act changes.
-        ensures run { IsRun (kept self.new) (acts_of self.new) (world_at self.new) }
-        ensures kept { kept self.new ≡ kept self.old }
-        ensures parties { party_count self.new ≡ length (kept self.new).parties }
-        ensures sessions { session_count self.new ≡ length (kept self.new).connects }
+        ensures run { IsRun (kept_file self.new) (acts_of self.new) (world_at self.new) }
+        ensures kept_file { kept_file self.new ≡ kept_file self.old }
+        ensures parties { party_count self.new ≡ length (kept_file self.new).parties }
+        ensures sessions { session_count self.new ≡ length (kept_file self.new).connects }
 
         // A refusal changes nothing.
         ensures err { OnErr result (world_at self.new ≡ world_at self.old) }
@@ -97,14 +96,14 @@ impl Plain {
     pub fn finish(&mut self) -> Result<(), NoMemory>
         // The end of the file.
         ensures settled { OnOk result (IsSettled (world_at self.new)) }
-        ensures end { OnOk result (world_at self.new ≡ end_of (kept self.new)) }
+        ensures end { OnOk result (world_at self.new ≡ end_of (kept_file self.new)) }
 
         // Whatever it answers, some acts lead there.
         ensures on { GoesOn self.old self.new }
-        ensures run { IsRun (kept self.new) (acts_of self.new) (world_at self.new) }
-        ensures kept { kept self.new ≡ kept self.old }
-        ensures parties { party_count self.new ≡ length (kept self.new).parties }
-        ensures sessions { session_count self.new ≡ length (kept self.new).connects }
+        ensures run { IsRun (kept_file self.new) (acts_of self.new) (world_at self.new) }
+        ensures kept_file { kept_file self.new ≡ kept_file self.old }
+        ensures parties { party_count self.new ≡ length (kept_file self.new).parties }
+        ensures sessions { session_count self.new ≡ length (kept_file self.new).connects }
     {
         self.course.finish()
     }
@@ -112,7 +111,7 @@ impl Plain {
     /// How many parties there are.
     pub fn parties(&self) -> usize
         ensures count { result ≡ party_count self.now }
-        ensures kept { result ≡ length (kept self.now).parties }
+        ensures kept_file { result ≡ length (kept_file self.now).parties }
     {
         self.course.machines.len()
     }
@@ -120,7 +119,7 @@ impl Plain {
     /// How many sessions there are.
     pub fn sessions(&self) -> usize
         ensures count { result ≡ session_count self.now }
-        ensures kept { result ≡ length (kept self.now).connects }
+        ensures kept_file { result ≡ length (kept_file self.now).connects }
     {
         self.course.sessions.len()
     }

@@ -2,7 +2,7 @@
 ghost use Rattle.std.specs.Prelude.{◌≡◌, ◌<◌, ◌∷◌, [], ℕ, OnErr, OnOk};
 ghost use Rattle.sj_plain.specs.Stepping.{sessions_at};
 ghost use Rattle.sj_semantics.specs.Ends.{end_at, next_for};
-ghost use Rattle.sj_semantics.specs.Uses.{after_uses, hands_on, sends, takes};
+ghost use Rattle.sj_semantics.specs.Uses.{after_uses, delegates, sends, takes};
 ghost use Rattle.sj_semantics.specs.World.{session_message};
 
 use crate::ends::Session;
@@ -73,7 +73,7 @@ pub fn take_on(
 fn hand_on(sessions: &mut Vec<Session>, end: EndId)
     requires { (end_at (sessions_at sessions.old.items) end).hops < 100 }
     ensures { (party : ℕ) → sessions_at sessions.new.items
-        ≡ after_uses party ((end, hands_on) ∷ []) (sessions_at sessions.old.items) }
+        ≡ after_uses party ((end, delegates) ∷ []) (sessions_at sessions.old.items) }
 {
     let at = end.sess as usize;
     if at < sessions.len() {
@@ -92,7 +92,7 @@ pub fn delegate_on(
 ) -> Result<(), NoMemory>
     requires { (end_at (sessions_at sessions.old.items) end).hops < 100 }
     ensures ok { OnOk result (sessions_at sessions.new.items
-        ≡ after_uses party ((end, hands_on) ∷ (carrier, sends (session_message end party)) ∷ [])
+        ≡ after_uses party ((end, delegates) ∷ (carrier, sends (session_message end party)) ∷ [])
         (sessions_at sessions.old.items)) }
     ensures err { OnErr result (sessions_at sessions.new.items ≡ sessions_at sessions.old.items) }
 {

@@ -10,8 +10,7 @@ use Rattle.sj_semantics.specs.declared.State.{State}
 use Rattle.sj_semantics.specs.Program.{Program}
 use Rattle.sj_semantics.specs.Ends.{EndAt, Session, end_on, nowhere}
 use Rattle.sj_semantics.specs.State.{state_of_program, state_if, verdict_of}
-use Rattle.sj_semantics.specs.World.{World, act_of}
-use Rattle.sj_semantics.specs.Start.{programs_from, session_of, start_of}
+use Rattle.sj_semantics.specs.World.{World, act_of, programs_from, session_of, start_of}
 use Rattle.sj_semantics.specs.Run.{IsRun, after_acts}
 use Rattle.sj_semantics.specs.Lines.{line_of}
 use Rattle.sj_semantics.specs.Transcript.{session_line, sent_lines, session_lines, party_lines, verdict_word, transcript_of}

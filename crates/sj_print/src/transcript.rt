@@ -5,7 +5,7 @@ ghost use Rattle.std.specs.Prelude.{◌≡◌, ◌++◌, ◌<◌, ◌≤◌, len
 ghost use Rattle.sj_text.specs.Cut.{IsCutShort};
 ghost use Rattle.sj_lang.specs.FileView.{file_of, connect_of};
 ghost use Rattle.sj_plain.specs.Kept.{without_words};
-ghost use Rattle.sj_plain.specs.Plain.{acts_of, kept, party_count, session_count, world_at};
+ghost use Rattle.sj_plain.specs.Plain.{acts_of, kept_file, party_count, session_count, world_at};
 ghost use Rattle.sj_semantics.specs.Run.{IsRun};
 ghost use Rattle.sj_semantics.specs.Transcript.{party_lines, session_lines, transcript_of};
 ghost use Rattle.sj_print.specs.Parts.{session_part};
@@ -20,8 +20,8 @@ use sj_plain::Plain;
 pub fn print_transcript(text: &mut Vec<u8>, file: &File, plain: &Plain) -> Result<(), NoMemory>
     requires parties { length (file_of file.now).parties ≤ 16 }
     requires connects { length (file_of file.now).connects ≤ 64 }
-    requires kept { kept plain.now ≡ without_words (file_of file.now) }
-    requires run { IsRun (kept plain.now) (acts_of plain.now) (world_at plain.now) }
+    requires kept_file { kept_file plain.now ≡ without_words (file_of file.now) }
+    requires run { IsRun (kept_file plain.now) (acts_of plain.now) (world_at plain.now) }
     ensures ok { OnOk result (text.new.items
         ≡ text.old.items ++ transcript_of (file_of file.now) (world_at plain.now)) }
     ensures err { OnErr result (IsCutShort text.old.items

@@ -19,7 +19,8 @@ use Rattle.sj_grammar.specs.Protocols.{way_piece, open_piece, close_piece}
 use Rattle.sj_grammar.specs.Layers.{goes, step, rule_of}
 use Rattle.sj_grammar.specs.ProtocolDues.{ProtocolDue, more, seq, maybe, behind, kind, arms, fixed, protocol_layer}
 use Rattle.sj_grammar.specs.FileDues.{Due, proto, file_layer}
-use Rattle.sj_grammar.specs.Faults.{Stuck, broken, OnFault}
+use Rattle.sj_grammar.specs.Faults.{Stuck, broken}
+use Rattle.sj_grammar.specs.Refusals.{OnFault}
 use Rattle.sj_grammar.specs.Asked.{TakesText, is_next, Refuses, but, Passes}
 use Rattle.sj_grammar.proofs.Stuckness.{refuses_stuck, stuck_cons, stuck_like, stuck_by}
 use Rattle.sj_proto.specs.Parsed.{standing, Gives, Stops}

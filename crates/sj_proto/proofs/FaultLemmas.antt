@@ -21,7 +21,7 @@ use Rattle.sj_grammar.proofs.Steps.{Runs-cons, Runs-none, Runs-to}
 use Rattle.sj_grammar.proofs.Stuckness.{stuck_block, stuck_cons, skip}
 use Rattle.sj_grammar.proofs.Embedding.{step_embedded, step_map}
 use Rattle.sj_grammar.proofs.Framing.{step_before}
-use Rattle.sj_proto.specs.Left.{left}
+use Rattle.sj_proto.specs.Left.{due_behind}
 use Rattle.sj_proto.specs.Items.{item_pieces}
 use Rattle.sj_proto.specs.Parsed.{Gives}
 use Rattle.sj_proto.proofs.Given.{itself}
@@ -44,12 +44,12 @@ module _ (word : ℕ → List ℕ) (a m : At) (p : Place) (o n k : ℕ) (ds : Li
   pub behind_items : (d : ProtocolDue) → IsLikeItems limits o d → p ≢ done → Passes file_layer (proto (more o)) (next_of m.text.ahead) → Stuck file_layer limits k m ds f → Stuck file_layer limits n a (proto d ∷ ds) f
   behind_items d like some passes st = behind_run d like some (skip file_layer limits k m (proto (more o)) ds f refl passes st)
 
-  pub behind_maybe : Passes file_layer (proto (left o p)) (next_of m.text.ahead) → Stuck file_layer limits k m ds f → Stuck file_layer limits n a (proto (maybe o) ∷ ds) f
+  pub behind_maybe : Passes file_layer (proto (due_behind o p)) (next_of m.text.ahead) → Stuck file_layer limits k m ds f → Stuck file_layer limits n a (proto (maybe o) ∷ ds) f
   behind_maybe passes st =
-      stuck_block file_layer limits n k a m (seq_pieces word p) (proto (maybe o) ∷ ds) (proto (left o p) ∷ ds) f here
-      (in_file limits n k (maybe o ∷ []) (left o p ∷ []) ds _ (maybe_run limits word o p n k [] items_run)) (skip file_layer limits k m (proto (left o p)) ds f (may_be_none p) passes st)
+      stuck_block file_layer limits n k a m (seq_pieces word p) (proto (maybe o) ∷ ds) (proto (due_behind o p) ∷ ds) f here
+      (in_file limits n k (maybe o ∷ []) (due_behind o p ∷ []) ds _ (maybe_run limits word o p n k [] items_run)) (skip file_layer limits k m (proto (due_behind o p)) ds f (may_be_none p) passes st)
     where
-      may_be_none : (p : Place) → file_layer.may_be_none (proto (left o p)) ≡ true
+      may_be_none : (p : Place) → file_layer.may_be_none (proto (due_behind o p)) ≡ true
       may_be_none done = refl
       may_be_none (message w k rest) = refl
       may_be_none (choice w k rest) = refl
@@ -60,7 +60,7 @@ module _ (a m : At) (p : Place) (o n k : ℕ) (ds : List Due) (f : Fault) (gives
   pub leads_items : (d : ProtocolDue) → IsLikeItems limits o d → p ≢ done → Passes file_layer (proto (more o)) (next_of m.text.ahead) → Stuck file_layer limits k m ds f → Stuck file_layer limits n a (proto d ∷ ds) f
   leads_items = let whole = gives (entry_of m.words) (itself m.words) in behind_items (entry_of m.words) a m p o n k ds f whole.0 whole.1 count few
 
-  pub leads_maybe : Passes file_layer (proto (left o p)) (next_of m.text.ahead) → Stuck file_layer limits k m ds f → Stuck file_layer limits n a (proto (maybe o) ∷ ds) f
+  pub leads_maybe : Passes file_layer (proto (due_behind o p)) (next_of m.text.ahead) → Stuck file_layer limits k m ds f → Stuck file_layer limits n a (proto (maybe o) ∷ ds) f
   leads_maybe = let whole = gives (entry_of m.words) (itself m.words) in behind_maybe (entry_of m.words) a m p o n k ds f whole.0 whole.1 count few
 
 -- behind an item and a dot
@@ -89,7 +89,7 @@ label_stuck a m l k n ds f gives room st =
 
 -- behind a label, the colon and its items
 pub arm_stuck : (a m : At) (l : ℕ) (p : Place) (o k n j : ℕ) (ds : List Due) (f : Fault) → Gives a m (λ word. word l ∷ codes ":" ∷ seq_pieces word p) (λ word. AreGiven limits word o k (arm l p no_choice))
-    → j ≡ n + item_count p → j ≤ 1024 → Passes file_layer (proto (left o p)) (next_of m.text.ahead) → Stuck file_layer limits j m ds f
+    → j ≡ n + item_count p → j ≤ 1024 → Passes file_layer (proto (due_behind o p)) (next_of m.text.ahead) → Stuck file_layer limits j m ds f
     → Stuck file_layer limits n a (proto (label k) ∷ proto (fixed (codes ":")) ∷ proto (maybe o) ∷ ds) f
 arm_stuck a m l p o k n j ds f gives count few passes st =
     let word = entry_of m.words in

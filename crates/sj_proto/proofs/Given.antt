@@ -6,7 +6,7 @@ use Rattle.std.specs.Str.{bytes_eq}
 use Rattle.std.proofs.lemmas.List.{get_or_append_left}
 use Rattle.sj_lang.specs.declared.proto.Way.{Way}
 use Rattle.sj_lang.specs.declared.proto.Way.TheVariants.{Out, Into}
-use Rattle.sj_lang.specs.Words.{IsFirstPlace}
+use Rattle.sj_lang.specs.Words.{IsFirstIndex}
 use Rattle.sj_lang.specs.declared.file.Names.{Names}
 use Rattle.sj_grammar.specs.Reading.{Reading}
 use Rattle.sj_grammar.specs.Limits.{limits}
@@ -88,7 +88,7 @@ took_name r q ws vs ts s name table t =
     record { what = t.what; rest = t.rest; token = t.token; there = rw (name, name_no_text s name) (λ i. at (t.there i) (table i) ts) }
 
 -- a name was read, and got its number
-pub gives_name : (r q : Reading) (ws vs ts : List (List ℕ)) (s : List ℕ) (n : ℕ) → IsTrue (is_name s) → length s ≤ 64 → vs ≡ with_entry ws s → IsFirstPlace s vs n → TakesText r s q
+pub gives_name : (r q : Reading) (ws vs ts : List (List ℕ)) (s : List ℕ) (n : ℕ) → IsTrue (is_name s) → length s ≤ 64 → vs ≡ with_entry ws s → IsFirstIndex s vs n → TakesText r s q
     → Gives (at r ws ts) (at q vs ts) (λ word. word n ∷ []) (λ word. IsNamed limits word n)
 gives_name r q ws vs ts s n name short table place t = λ word spells.
     let h = named_by word vs s n spells place name short in

@@ -18,7 +18,8 @@ use Rattle.sj_grammar.specs.Protocols.{dotted}
 use Rattle.sj_grammar.specs.Files.{protocol_pieces, protocols_pieces, IsProtocolDef}
 use Rattle.sj_grammar.specs.Layers.{goes, misfit, rule_of, step}
 use Rattle.sj_grammar.specs.FileDues.{Due, protocols, fixed, file_layer}
-use Rattle.sj_grammar.specs.Faults.{Halts, OnFault}
+use Rattle.sj_grammar.specs.Faults.{Halts}
+use Rattle.sj_grammar.specs.Refusals.{OnFault}
 use Rattle.sj_grammar.proofs.Steps.{Runs, Runs-append, Runs-none, Runs-cons}
 use Rattle.sj_grammar.proofs.Stuckness.{Begins-append}
 use Rattle.sj_grammar.proofs.Readings.{halts_there, one_end, one_place}

@@ -10,7 +10,7 @@ use Rattle.sj_grammar.specs.Lexis.{Ahead, bad, token, next_of}
 use Rattle.sj_proto.specs.declared.scan.Found.{Found}
 use Rattle.sj_proto.specs.declared.scan.Found.TheVariants as found
 use Rattle.sj_proto.specs.Found.{found_of, spot_of, IsAhead, IsPlace}
-use Rattle.sj_grammar.specs.Faults.{first_rule, fault_next}
+use Rattle.sj_grammar.specs.Refusals.{first_rule, fault_next}
 use Rattle.sj_grammar.specs.Asked.{TakesText}
 use Rattle.sj_grammar.specs.Reading.{Reading, passed, before_next, token_at, answer_to, reading_after, line_at, column_at}
 

@@ -13,7 +13,7 @@ use Rattle.sj_grammar.specs.Protocols.{way_piece, open_piece, close_piece, dotte
 use Rattle.sj_grammar.specs.Layers.{Step, goes, onward, step, run}
 use Rattle.sj_grammar.specs.ProtocolDues.{ProtocolDue, more, seq, maybe, behind, kind, label, arms, fixed, protocol_layer}
 use Rattle.sj_grammar.proofs.Steps.{Runs, Runs-cons}
-use Rattle.sj_proto.specs.Left.{left}
+use Rattle.sj_proto.specs.Left.{due_behind}
 use Rattle.sj_proto.proofs.Within.{IsLabel}
 
 module _ (L : Limits) where
@@ -87,13 +87,13 @@ module _ (L : Limits) where
     without_dot o d (repeat w p rest) n m ds es like some r = record { steps = ap (λ (t : Step ProtocolDue). onward t (λ j gs. run protocol_layer L j gs (codes "[" ∷ (drop 1 (dotted word p) ++ codes "]" ∷ codes "*" ∷ dotted word rest)))) (like w n ds) ∙ r.steps }
 
     -- items, maybe none
-    pub maybe_run : (o : ℕ) (p : Place) (n m : ℕ) (ds : List ProtocolDue) → Reads n (more o ∷ ds) (dotted word p) m (more o ∷ ds) → Reads n (maybe o ∷ ds) (drop 1 (dotted word p)) m (left o p ∷ ds)
+    pub maybe_run : (o : ℕ) (p : Place) (n m : ℕ) (ds : List ProtocolDue) → Reads n (more o ∷ ds) (dotted word p) m (more o ∷ ds) → Reads n (maybe o ∷ ds) (drop 1 (dotted word p)) m (due_behind o p ∷ ds)
     maybe_run o done n m ds r = record { steps = let count : n ≡ m = cc (r.steps) in ap (λ (k : ℕ). goes k (maybe o ∷ ds)) count }
     maybe_run o (message w k rest) n m ds r = without_dot o (maybe o) (message w k rest) n m ds (more o ∷ ds) (maybe_like o) (λ e. cc (e)) r
     maybe_run o (choice w a rest) n m ds r = without_dot o (maybe o) (choice w a rest) n m ds (more o ∷ ds) (maybe_like o) (λ e. cc (e)) r
     maybe_run o (repeat w p rest) n m ds r = without_dot o (maybe o) (repeat w p rest) n m ds (more o ∷ ds) (maybe_like o) (λ e. cc (e)) r
 
-    pub bracket_run : (o : ℕ) (p : Place) (n : ℕ) (ds : List ProtocolDue) → Reads n (left o p ∷ fixed (codes "]") ∷ fixed (codes "*") ∷ ds) (codes "]" ∷ codes "*" ∷ []) n ds
+    pub bracket_run : (o : ℕ) (p : Place) (n : ℕ) (ds : List ProtocolDue) → Reads n (due_behind o p ∷ fixed (codes "]") ∷ fixed (codes "*") ∷ ds) (codes "]" ∷ codes "*" ∷ []) n ds
     bracket_run o done n ds = record { steps = refl }
     bracket_run o (message w k rest) n ds = record { steps = refl }
     bracket_run o (choice w a rest) n ds = record { steps = refl }
@@ -101,7 +101,7 @@ module _ (L : Limits) where
 
     -- behind an arm
     pub next_arm : (o : ℕ) (p : Place) (a : Choices) (k n m : ℕ) (ds : List ProtocolDue) → Reads n (arms o k ∷ fixed (codes "}") ∷ ds) (listed word a ++ codes "}" ∷ []) m ds
-        → Reads n (left o p ∷ arms o k ∷ fixed (codes "}") ∷ ds) (listed word a ++ codes "}" ∷ []) m ds
+        → Reads n (due_behind o p ∷ arms o k ∷ fixed (codes "}") ∷ ds) (listed word a ++ codes "}" ∷ []) m ds
     next_arm o done no_choice k n m ds r = record { steps = r.steps }
     next_arm o (message w c rest) no_choice k n m ds r = record { steps = r.steps }
     next_arm o (choice w c rest) no_choice k n m ds r = record { steps = r.steps }

@@ -6,7 +6,7 @@ use Rattle.std.specs.List.{slice_get, list_any}
 use Rattle.std.proofs.lemmas.Bool.{ltb-false}
 use Rattle.std.proofs.lemmas.Option.{slice_get_within}
 use Rattle.std.proofs.lemmas.Slice.Eq.{bytes_eq-Decides}
-use Rattle.sj_lang.specs.Words.{IsFirstPlace}
+use Rattle.sj_lang.specs.Words.{IsFirstIndex}
 use Rattle.sj_grammar.specs.Limits.{limits}
 use Rattle.sj_grammar.specs.Names.{is_name}
 use Rattle.sj_grammar.specs.Tables.{with_entry, Spells, IsNamed}
@@ -40,7 +40,7 @@ push_before [] y k h = absurd (omega arith)
 push_before (x ∷ xs) y zero h = refl
 push_before (x ∷ xs) y (suc k) h = push_before xs y k (omega arith)
 
-pub table_is : (old new : List (List ℕ)) (s : List ℕ) (n : ℕ) → IsFirstPlace s new n → new ≡ (if nat_lt n (length old) then old else old ++ s ∷ []) → new ≡ with_entry old s
+pub table_is : (old new : List (List ℕ)) (s : List ℕ) (n : ℕ) → IsFirstIndex s new n → new ≡ (if nat_lt n (length old) then old else old ++ s ∷ []) → new ≡ with_entry old s
 table_is old new s n first kept = by_test (nat_lt n (length old)) refl kept
   where
     by_test : (b : Bool) → nat_lt n (length old) ≡ b → new ≡ (if b then old else old ++ s ∷ []) → new ≡ with_entry old s
@@ -52,10 +52,10 @@ table_is old new s n first kept = by_test (nat_lt n (length old)) refl kept
         first.first k (omega arith) (ap (λ (ws : List (List ℕ)). slice_get ws k) e ∙ push_before old s k within ∙ h) in
         rw (none_of old s absent) e
 
-pub within_is : (new : List (List ℕ)) (s : List ℕ) (n : ℕ) → IsFirstPlace s new n → n < length new
+pub within_is : (new : List (List ℕ)) (s : List ℕ) (n : ℕ) → IsFirstIndex s new n → n < length new
 within_is new s n first = slice_get_within new n s first.here
 
-pub here_is : (new : List (List ℕ)) (s : List ℕ) (n : ℕ) → IsFirstPlace s new n → get_or new n [] ≡ s
+pub here_is : (new : List (List ℕ)) (s : List ℕ) (n : ℕ) → IsFirstIndex s new n → get_or new n [] ≡ s
 here_is new s n first = got new n s first.here
 
 got_within : (xs : List (List ℕ)) (n : ℕ) → n < length xs → slice_get xs n ≡ Some (get_or xs n [])
@@ -64,7 +64,7 @@ got_within (x ∷ xs) zero h = refl
 got_within (x ∷ xs) (suc n) h = got_within xs n (omega arith)
 
 -- the number of a name, by each spelling that agrees with the table
-pub named_by : (word : ℕ → List ℕ) (table : List (List ℕ)) (s : List ℕ) (n : ℕ) → Spells word table → IsFirstPlace s table n → IsTrue (is_name s) → length s ≤ 64 → (word n ≡ s) × IsNamed limits word n
+pub named_by : (word : ℕ → List ℕ) (table : List (List ℕ)) (s : List ℕ) (n : ℕ) → Spells word table → IsFirstIndex s table n → IsTrue (is_name s) → length s ≤ 64 → (word n ≡ s) × IsNamed limits word n
 named_by word table s n spells place name short =
     let far = within_is table s n place in
     let same : word n ≡ s = spells n far ∙ here_is table s n place in (

@@ -17,7 +17,8 @@ use Rattle.sj_grammar.specs.Places.{Pieces, At, start, Begins}
 use Rattle.sj_grammar.specs.Protocols.{body_pieces, dotted, IsGiven, IsBody}
 use Rattle.sj_grammar.specs.ProtocolDues.{body, more, protocol_layer}
 use Rattle.sj_grammar.specs.FileDues.{Due, proto, file_layer}
-use Rattle.sj_grammar.specs.Faults.{broken, Halts, Stuck, OnFault}
+use Rattle.sj_grammar.specs.Faults.{broken, Halts, Stuck}
+use Rattle.sj_grammar.specs.Refusals.{OnFault}
 use Rattle.sj_grammar.specs.Asked.{Refuses, refused, Passes}
 use Rattle.sj_grammar.proofs.Embedding.{stuck_embedded}
 use Rattle.sj_grammar.proofs.Stuckness.{halts_stuck, stuck_block, skip, clash}

@@ -13,7 +13,7 @@ use Rattle.sj_grammar.specs.FileDues.{Due, proto, file_layer}
 use Rattle.sj_grammar.proofs.Steps.{Runs, Runs-none, Runs-cons, Runs-append, Runs-seam, Runs-to}
 use Rattle.sj_grammar.proofs.Embedding.{IsEmbedded, step_map, run_embedded}
 use Rattle.sj_grammar.proofs.Framing.{run_before}
-use Rattle.sj_proto.specs.Left.{left}
+use Rattle.sj_proto.specs.Left.{due_behind}
 use Rattle.sj_proto.proofs.Within.{IsLabel, IsWithin, IsWithinKind, AreWithin, given_within, wide, is_wide}
 use Rattle.sj_proto.specs.Writable.{IsWritable}
 use Rattle.sj_proto.proofs.Runs.{Reads, open_step, arms_step, turns_step, label_step, item_run, close_run, close_behind, kind_like, without_dot, maybe_run, bracket_run, next_arm}
@@ -28,7 +28,7 @@ module _ (L : Limits) (word : ℕ → List ℕ) where
       Runs-cons protocol_layer L n n m _ (fixed (codes ":") ∷ maybe o ∷ arms o (suc k) ∷ fixed (codes "}") ∷ ds) ds (word l) _ (label_step L (word l) k n _ room named)
       (Runs-cons protocol_layer L n n m _ (maybe o ∷ arms o (suc k) ∷ fixed (codes "}") ∷ ds) ds (codes ":") _ refl
       (subst (λ (ps : Pieces). Reads L n (maybe o ∷ arms o (suc k) ∷ fixed (codes "}") ∷ ds) ps m ds) (sym (append_assoc (drop 1 (dotted word p)) (listed word a) (codes "}" ∷ [])))
-      (Runs-append protocol_layer L (drop 1 (dotted word p)) (listed word a ++ codes "}" ∷ []) n (n + item_count p) m _ (left o p ∷ arms o (suc k) ∷ fixed (codes "}") ∷ ds) ds
+      (Runs-append protocol_layer L (drop 1 (dotted word p)) (listed word a ++ codes "}" ∷ []) n (n + item_count p) m _ (due_behind o p ∷ arms o (suc k) ∷ fixed (codes "}") ∷ ds) ds
       (maybe_run L word o p n (n + item_count p) (arms o (suc k) ∷ fixed (codes "}") ∷ ds) inner)
       (next_arm L word o p a (suc k) (n + item_count p) m ds rest))))
 
@@ -51,7 +51,7 @@ module _ (L : Limits) (word : ℕ → List ℕ) where
     dotted_within (repeat w p rest) o n ds g few =
         item_run L w o n (n + item_count (repeat w p rest)) ds (maybe (suc o) ∷ fixed (codes "]") ∷ fixed (codes "*") ∷ more o ∷ ds) (more o ∷ ds) (codes "[") _ (omega arith) (turns_step L w o (suc n) (more o ∷ ds) g.0)
         (Runs-append protocol_layer L (drop 1 (dotted word p)) (codes "]" ∷ codes "*" ∷ dotted word rest) (suc n) (suc n + item_count p) (n + item_count (repeat w p rest)) _
-        (left (suc o) p ∷ fixed (codes "]") ∷ fixed (codes "*") ∷ more o ∷ ds) (more o ∷ ds)
+        (due_behind (suc o) p ∷ fixed (codes "]") ∷ fixed (codes "*") ∷ more o ∷ ds) (more o ∷ ds)
         (maybe_run L word (suc o) p (suc n) (suc n + item_count p) (fixed (codes "]") ∷ fixed (codes "*") ∷ more o ∷ ds) (dotted_within p (suc o) (suc n) (fixed (codes "]") ∷ fixed (codes "*") ∷ more o ∷ ds) g.1 (omega arith)))
         (Runs-append protocol_layer L (codes "]" ∷ codes "*" ∷ []) (dotted word rest) (suc n + item_count p) (suc n + item_count p) (n + item_count (repeat w p rest)) _ (more o ∷ ds) (more o ∷ ds)
         (bracket_run L word (suc o) p (suc n + item_count p) (more o ∷ ds))

@@ -1,6 +1,7 @@
 -- Protocols that pass no limit, whatever numbers their labels have.
 use Rattle.std.proofs.Common.{◌≢◌, ℕ, suc, ◌+◌, ◌<◌, ◌≤◌, IsTrue, List, length, arith}
-use Rattle.sj_lang.specs.Place.{Place, Carried, Choices, done, message, choice, repeat, int, boolean, text, session, no_choice, arm, place_size, carried_size, choices_size}
+use Rattle.sj_lang.specs.Place.{Place, Carried, Choices, done, message, choice, repeat, int, boolean, text, session, no_choice, arm}
+use Rattle.sj_lang.specs.PlaceSize.{place_size, carried_size, choices_size}
 use Rattle.sj_lang.specs.ItemCount.{item_count}
 use Rattle.sj_grammar.specs.Limits.{Limits, limits}
 use Rattle.sj_grammar.specs.Names.{is_name}

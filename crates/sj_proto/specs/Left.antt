@@ -4,8 +4,8 @@ use Rattle.sj_lang.specs.Place.{Place, done, message, choice, repeat}
 use Rattle.sj_grammar.specs.ProtocolDues.{ProtocolDue, more, maybe}
 
 -- behind items that may be none
-abbrev pub left : ℕ → Place → ProtocolDue
-left o done = maybe o
-left o (message w k rest) = more o
-left o (choice w a rest) = more o
-left o (repeat w p rest) = more o
+abbrev pub due_behind : ℕ → Place → ProtocolDue
+due_behind o done = maybe o
+due_behind o (message w k rest) = more o
+due_behind o (choice w a rest) = more o
+due_behind o (repeat w p rest) = more o

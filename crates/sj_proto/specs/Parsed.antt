@@ -7,7 +7,8 @@ use Rattle.sj_grammar.specs.Reading.{Reading}
 use Rattle.sj_grammar.specs.Tables.{Spelling, Spells}
 use Rattle.sj_grammar.specs.Places.{Pieces, Piece, At, at, Begins, BeginsOnLines}
 use Rattle.sj_grammar.specs.FileDues.{Due, file_layer}
-use Rattle.sj_grammar.specs.Faults.{Stuck, OnFault}
+use Rattle.sj_grammar.specs.Faults.{Stuck}
+use Rattle.sj_grammar.specs.Refusals.{OnFault}
 
 -- where the reader stands with these tables
 abbrev pub standing : Reading → Names → At

@@ -1,9 +1,9 @@
 //! Names, and their numbers in the tables.
 ghost use Rattle.std.specs.Prelude.{◌≡◌, ◌+◌, ◌<◌, ◌≤◌, [], ◌∷◌, length, get_or, false, IfOk, IfErr};
-ghost use Rattle.sj_lang.specs.Words.{IsFirstPlace};
+ghost use Rattle.sj_lang.specs.Words.{IsFirstIndex};
 ghost use Rattle.sj_grammar.specs.Limits.{limits};
 ghost use Rattle.sj_grammar.specs.Tables.{with_entry, IsNamed};
-ghost use Rattle.sj_grammar.specs.Faults.{OnFault};
+ghost use Rattle.sj_grammar.specs.Refusals.{OnFault};
 ghost use Rattle.sj_grammar.specs.Asked.{Refuses, but_name};
 ghost use Rattle.sj_proto.specs.Leaves.{Leaves};
 ghost use Rattle.sj_proto.specs.Parsed.{standing, Gives, Keeps, HasRoom};
@@ -19,7 +19,7 @@ fn number_of(names: &mut Names, word: &[u8]) -> Result<u16, NoMemory>
     ensures table { IfOk result (λ _. names.new.words ≡ with_entry names.old.words word.now) }
     ensures there { IfOk result (λ n. n < length names.new.words) }
     ensures here { IfOk result (λ n. get_or names.new.words n [] ≡ word.now) }
-    ensures first { IfOk result (λ n. IsFirstPlace word.now names.new.words n) }
+    ensures first { IfOk result (λ n. IsFirstIndex word.now names.new.words n) }
     ensures longer { IfOk result (λ _. length names.new.words ≤ length names.old.words + 1) }
     ensures kept { Keeps names.old names.new }
 {

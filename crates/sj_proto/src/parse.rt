@@ -10,7 +10,7 @@ ghost use Rattle.sj_grammar.specs.ProtocolDues.{seq as items_due, maybe as maybe
 ghost use Rattle.sj_grammar.specs.FileDues.{proto, file_layer};
 ghost use Rattle.sj_grammar.specs.Asked.{Passes};
 ghost use Rattle.sj_proto.specs.Items.{item_pieces};
-ghost use Rattle.sj_proto.specs.Left.{left};
+ghost use Rattle.sj_proto.specs.Left.{due_behind};
 ghost use Rattle.sj_proto.specs.Leaves.{Leaves};
 ghost use Rattle.sj_proto.specs.Parsed.{standing, Gives, Stops, HasRoom};
 
@@ -77,7 +77,7 @@ fn maybe(
         Gives (standing tokens.old names.old) (standing tokens.new names.new)
         (λ word. seq_pieces word p) (λ word. IsGiven limits word depth p)) }
     ensures ends { IfOk result (λ p.
-        Passes file_layer (proto (left depth p)) (next_of tokens.new.ahead)) }
+        Passes file_layer (proto (due_behind depth p)) (next_of tokens.new.ahead)) }
     ensures count { IfOk result (λ p. items.new ≡ items.old + item_count p) }
     ensures few { IfOk result (λ _. items.new ≤ 1024) }
     ensures leaves { Leaves 0 result names.old tokens.old names.new tokens.new }
@@ -253,7 +253,7 @@ fn one_arm(
         (λ word. word a.label ∷ codes ":" ∷ seq_pieces word a.rest)
         (λ word. AreGiven limits word depth before (with_arm a.label a.rest no_choice))) }
     ensures ends { IfOk result (λ a.
-        Passes file_layer (proto (left depth a.rest)) (next_of tokens.new.ahead)) }
+        Passes file_layer (proto (due_behind depth a.rest)) (next_of tokens.new.ahead)) }
     ensures count { IfOk result (λ a. items.new ≡ items.old + item_count a.rest) }
     ensures few { IfOk result (λ _. items.new ≤ 1024) }
     ensures leaves { Leaves 0 result names.old tokens.old names.new tokens.new }

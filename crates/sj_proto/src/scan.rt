@@ -3,7 +3,7 @@ ghost use Rattle.std.specs.Prelude.{◌≡◌, ℕ, ◌+◌, ◌<◌, ◌≤◌,
 ghost use Rattle.std.specs.List.{prefix_len, take_while};
 ghost use Rattle.sj_grammar.specs.Bytes.{begins_with};
 ghost use Rattle.sj_grammar.specs.Lexis.{next_of, token_of, number_of, text_of, has_leading_zero};
-ghost use Rattle.sj_grammar.specs.Faults.{first_rule};
+ghost use Rattle.sj_grammar.specs.Refusals.{first_rule};
 ghost use Rattle.sj_proto.specs.declared.bytes.Class.TheVariants as classes;
 ghost use Rattle.sj_proto.specs.Classes.{in_class};
 ghost use Rattle.sj_proto.specs.Found.{IsPlace, found_of, IsAhead, spot_of, value_of};

@@ -4,7 +4,7 @@ ghost use Rattle.sj_grammar.specs.declared.tokens.Rule.TheVariants.{P1};
 ghost use Rattle.sj_grammar.specs.Lexis.{next_of, at_end};
 ghost use Rattle.sj_grammar.specs.Names.{is_name};
 ghost use Rattle.sj_grammar.specs.Reading.{answer_to, reading_after, line_at, before_next};
-ghost use Rattle.sj_grammar.specs.Faults.{fault_next};
+ghost use Rattle.sj_grammar.specs.Refusals.{fault_next};
 ghost use Rattle.sj_proto.specs.Onward.{Advances};
 ghost use Rattle.sj_proto.specs.Protocols.{IsReadable, IsUnreadable};
 ghost use Rattle.sj_grammar.specs.Asked.{TakesText, is_next, spelled_next, Refuses, but, but_name};

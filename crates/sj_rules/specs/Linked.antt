@@ -57,8 +57,8 @@ subject_of (Ack of conn) = of
 subject_of (Give e resend) = e.id
 
 -- the end of that session and side
-abbrev pub end_of : ℕ → ℕ → EndId
-end_of sess side = record { sess = sess; side = side }
+abbrev pub end_named : ℕ → ℕ → EndId
+end_named sess side = record { sess = sess; side = side }
 
 -- all frames are about ends
 abbrev pub AreProper : {P : Type 0} → (ℕ → ℕ → List (FrameAt P)) → Type 0
@@ -72,7 +72,7 @@ pub record Sessions {P Q : Type 0} (IsOver : P → Type 0) (w : WorldAt P Q) (kn
   pub ids : (e : EndId) → (sides e).id ≡ e
   pub shows : (e : EndId) → e.side < 2 → Shows w (sides (other_end e)).seat (sides e)
   pub proper : AreProper w.lanes
-  pub sound : (sess : ℕ) → IsSound IsOver (pace sess) (knows (end_of sess 0)) (knows (end_of sess 1)) (sides (end_of sess 0)) (sides (end_of sess 1))
+  pub sound : (sess : ℕ) → IsSound IsOver (pace sess) (knows (end_named sess 0)) (knows (end_named sess 1)) (sides (end_named sess 0)) (sides (end_named sess 1))
 
 -- the invariant
 pub record IsKept {P Q : Type 0} (IsOver : P → Type 0) (binds : Q → EndId → Bool) (w : WorldAt P Q) (plain : PlainAt P Q) : Type 0 where

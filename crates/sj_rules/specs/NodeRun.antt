@@ -64,17 +64,17 @@ told_body blank (Ack of conn) = Ack of conn
 told_body blank (Give e resend) = Give (record e { place = blank }) resend
 
 -- the frame keeps its clock
-abbrev pub told : {P : Type 0} → P → FrameAt P → FrameAt P
-told blank f = record { clock = f.clock; body = told_body blank f.body }
+abbrev pub frame_told : {P : Type 0} → P → FrameAt P → FrameAt P
+frame_told blank f = record { clock = f.clock; body = told_body blank f.body }
 
 -- all of them, in order
 abbrev pub told_frames : {P : Type 0} → P → List (FrameAt P) → List (FrameAt P)
-told_frames blank frames = map (told blank) frames
+told_frames blank frames = map (frame_told blank) frames
 
 -- the frames of these steps that came from that party
 abbrev pub frame_from : {P : Type 0} → P → ℕ → Deed P → Option (FrameAt P)
 frame_from blank q Acted = None
-frame_from blank q (Came from f) = if q == from then Some (told blank f) else None
+frame_from blank q (Came from f) = if q == from then Some (frame_told blank f) else None
 
 -- in the order in which they came
 abbrev pub popped_from : {P : Type 0} → P → ℕ → List (StepAt P) → List (FrameAt P)

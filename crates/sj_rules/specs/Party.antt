@@ -12,7 +12,8 @@ use Rattle.sj_semantics.specs.declared.Awaits.{Awaits}
 use Rattle.sj_semantics.specs.declared.Awaits.TheVariants as awaits
 use Rattle.sj_semantics.specs.Value.{no_vars}
 use Rattle.sj_semantics.specs.Program.{Program}
-use Rattle.sj_semantics.specs.Wants.{want_of, fits}
+use Rattle.sj_semantics.specs.Wants.{want_of}
+use Rattle.sj_semantics.specs.Fitting.{fits}
 use Rattle.sj_semantics.specs.Steps.{local_of, sent_of, took_of, closed_of}
 use Rattle.sj_rules.specs.Limits.{limit_of_steps}
 use Rattle.sj_rules.specs.Record.{is_same_end}

@@ -5,7 +5,7 @@ use Rattle.sj_lang.specs.Place.{Place}
 use Rattle.sj_lang.specs.FileAt.{FileAt, DeclAt, ConnectAt, body_named, party_named}
 use Rattle.sj_semantics.specs.Ends.{other_side}
 use Rattle.sj_semantics.specs.Program.{Program}
-use Rattle.sj_semantics.specs.Start.{start_of}
+use Rattle.sj_semantics.specs.World.{start_of}
 use Rattle.sj_rules.specs.Record.{EndAt, HeldAt, MainAt, Held}
 use Rattle.sj_rules.specs.Node.{NodeAt}
 use Rattle.sj_rules.specs.World.{WorldAt}

@@ -20,8 +20,8 @@ abbrev pub with_node : {P Q : Type 0} → ℕ → NodeAt P Q → (ℕ → NodeAt
 with_node p n nodes = λ q. if q == p then n else nodes q
 
 -- each post is at the end of its lane, with that clock
-abbrev pub posted : {P : Type 0} → ℕ → (clock : ℕ) → List (Mail P) → (ℕ → ℕ → List (FrameAt P)) → ℕ → ℕ → List (FrameAt P)
-posted p clock posts lanes = λ from to. if from == p then lanes from to ++ frames_for to clock posts else lanes from to
+abbrev pub lanes_with : {P : Type 0} → ℕ → (clock : ℕ) → List (Mail P) → (ℕ → ℕ → List (FrameAt P)) → ℕ → ℕ → List (FrameAt P)
+lanes_with p clock posts lanes = λ from to. if from == p then lanes from to ++ frames_for to clock posts else lanes from to
 
 -- the lane from q to p is that list from now on
 abbrev pub with_lane : {P : Type 0} → ℕ → ℕ → List (FrameAt P) → (ℕ → ℕ → List (FrameAt P)) → ℕ → ℕ → List (FrameAt P)
@@ -31,7 +31,7 @@ with_lane q p lane lanes = λ from to. if (from == q) && (to == p) then lane els
 abbrev pub after_event : {P Q : Type 0} → WorldAt P Q → ℕ → (clock : ℕ) → (ℕ → ℕ → List (FrameAt P)) → Worked P (NodeAt P Q) → WorldAt P Q
 after_event w p clock lanes done = record {
   nodes = with_node p (record done.state { clock = clock }) w.nodes;
-  lanes = posted p clock done.posts lanes;
+  lanes = lanes_with p clock done.posts lanes;
 }
 
 -- the first of these frames comes from q to p

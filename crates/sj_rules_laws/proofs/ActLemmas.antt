@@ -14,7 +14,7 @@ use Rattle.sj_semantics.specs.declared.Awaits.{Awaits}
 use Rattle.sj_semantics.specs.declared.Passed.{Passed}
 use Rattle.sj_semantics.specs.Ends.{Session, EndAt, end_at, next_for}
 use Rattle.sj_semantics.specs.Ends as semantics
-use Rattle.sj_semantics.specs.Uses.{sends, takes, hands_on}
+use Rattle.sj_semantics.specs.Uses.{sends, takes, delegates}
 use Rattle.sj_semantics.specs.Program.{Program}
 use Rattle.sj_semantics.specs.Steps.{local_of, sent_of, took_of, closed_of}
 use Rattle.sj_semantics.specs.Wants.{want_of}
@@ -96,12 +96,12 @@ module _ (n : ℕ) (ps : List ProtocolAt) (w : World) (p : ℕ) (g : Program) (t
 
   delegates_seen : (c : Program) (e y : EndId) (next : Place) → e.side < 2 → y.side < 2 → FitsPlaces w.sessions (wants.Delegate e y)
       → after_place (end_at w.sessions e).place Out (session_message y p) ≡ Some next
-      → plain_at (changed w p (record { program = c; uses = (y, hands_on) ∷ (e, sends (session_message y p)) ∷ [] }))
+      → plain_at (changed w p (record { program = c; uses = (y, delegates) ∷ (e, sends (session_message y p)) ∷ [] }))
       ≡ with_side e (λ x. plain_sent x next (handing y p)) (with_side y plain_parked (with_program p c (plain_at w)))
   delegates_seen c e y next lt lt' fit h =
-      let mid : List Session = touched p w.sessions (y, hands_on) in
+      let mid : List Session = touched p w.sessions (y, delegates) in
       let at : after_place (end_at mid e).place Out (session_message y p) ≡ Some next = ap (λ (q : Place). after_place q Out (session_message y p)) (hands_places p w.sessions y e) ∙ h in
-      change_seen w p g (record { program = c; uses = (y, hands_on) ∷ (e, sends (session_message y p)) ∷ [] }) _ there (λ d.
+      change_seen w p g (record { program = c; uses = (y, delegates) ∷ (e, sends (session_message y p)) ∷ [] }) _ there (λ d.
       sends_seen p mid e (session_message y p) next lt at d
       ∙ ap (λ (x : PlainSide Place). cond (is_same_end d e) (plain_sent x next (session_message y p)) x) (hands_seen p w.sessions y lt' fit.2 d))
 
@@ -115,7 +115,7 @@ module _ (n : ℕ) (ps : List ProtocolAt) (w : World) (p : ℕ) (g : Program) (t
       let goes = goes_seen (sent_of g) None (goes_on (wants.Delegate e y) it) in
       ap (λ (x : PlainSide Place). cond (nat_lt x.hops 100) (option_map (λ place. plain_delegates (play_for n ps) p e y place (plain_at w)) (after_place (plain_side w.sessions e).place Out m)) None) (side_below w.sessions y lt')
       ∙ ap (λ o. cond (nat_lt (end_at w.sessions y).hops 100) (option_map (λ place. plain_delegates (play_for n ps) p e y place (plain_at w)) o) None) at_side
-      ∙ by_hops (nat_lt (end_at w.sessions y).hops 100) (record { program = sent_of g; uses = (y, hands_on) ∷ (e, sends m) ∷ [] })
+      ∙ by_hops (nat_lt (end_at w.sessions y).hops 100) (record { program = sent_of g; uses = (y, delegates) ∷ (e, sends m) ∷ [] })
       (plain_delegates (play_for n ps) p e y next (plain_at w))
       (ap (λ (x : PlainAt Place Program). with_side e (λ x. plain_sent x next m) (with_side y plain_parked x)) goes ∙ sym seen)
     where

@@ -6,9 +6,8 @@ use Rattle.sj_lang.specs.Place.{Place}
 use Rattle.sj_lang.specs.FileAt.{FileAt}
 use Rattle.sj_acceptance.specs.Accepted.{IsAccepted}
 use Rattle.sj_semantics.specs.Program.{Program}
-use Rattle.sj_semantics.specs.Start.{start_of}
+use Rattle.sj_semantics.specs.World.{start_of, World, act_of}
 use Rattle.sj_semantics.specs.Run.{IsRun, after_acts}
-use Rattle.sj_semantics.specs.World.{World, act_of}
 use Rattle.sj_semantics_laws.proofs.RunLemmas.{between}
 use Rattle.sj_rules.specs.Record.{HeldAt, Held}
 use Rattle.sj_rules.specs.Rows.{Worked, IsPick}

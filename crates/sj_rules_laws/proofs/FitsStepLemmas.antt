@@ -17,8 +17,9 @@ use Rattle.sj_semantics.specs.declared.Passed.{Passed}
 use Rattle.sj_semantics.specs.Balanced.{LeadsTaker}
 use Rattle.sj_semantics.specs.Ends.{Session, EndAt, end_at, next_for, is_end}
 use Rattle.sj_semantics.specs.Ends as semantics
-use Rattle.sj_semantics.specs.Program.{Program, without}
-use Rattle.sj_semantics.specs.Wants.{want_of, fits}
+use Rattle.sj_semantics.specs.Program.{Program, ends_without}
+use Rattle.sj_semantics.specs.Wants.{want_of}
+use Rattle.sj_semantics.specs.Fitting.{fits}
 use Rattle.sj_semantics.specs.World.{World, session_message}
 use Rattle.sj_semantics_laws.proofs.BoundLemmas.{is_end-self}
 use Rattle.sj_accepted_laws.proofs.LeadLemmas.{Ahead, coming, for_sender}
@@ -85,7 +86,7 @@ module _ (ps : List ProtocolAt) (n : Size) (w : World) (p : ℕ) (g : Program) (
   same_by want it h = subst (λ (new : Program). BindsSame binds g new) (sym (after_is want it)) (binds_same g (after_step g (Some want)) h)
 
   -- without the name of that end
-  without_by : (want : Want) (y : EndId) (x : ℕ) → want_of g ≡ Some want → named g.ends x ≡ Some y → (after_step g (Some want)).ends ≡ without g.ends x → BindsWithout binds g ((play_for n.parties ps).goes g None) y
+  without_by : (want : Want) (y : EndId) (x : ℕ) → want_of g ≡ Some want → named g.ends x ≡ Some y → (after_step g (Some want)).ends ≡ ends_without g.ends x → BindsWithout binds g ((play_for n.parties ps).goes g None) y
   without_by want y x it is_named h =
       subst (λ (new : Program). BindsWithout binds g new y) (sym (after_is want it))
       (subst (λ (ends : List (ℕ × EndId)). (f : EndId) → (binds_in ends f ≡ true) ↔ ((binds g f ≡ true) × (is_same_end f y ≡ false))) (sym h)

@@ -18,7 +18,7 @@ use Rattle.sj_rules.specs.Party.{play_of}
 use Rattle.sj_rules.specs.Start.{core_start}
 use Rattle.sj_rules.specs.Log.{LineAt, IsJoined, logs_below}
 use Rattle.sj_rules.specs.History.{IsCoreRun, IsHistory, turn_of}
-use Rattle.sj_rules.specs.NodeRun.{told, told_frames}
+use Rattle.sj_rules.specs.NodeRun.{frame_told, told_frames}
 use Rattle.sj_rules.specs.Joined.{WorkerAt, PartiesWork, IsJoinedRun}
 use Rattle.sj_joined_laws.proofs.HistoryLemmas.{log_runs}
 use Rattle.sj_joined_laws.proofs.LimitLemmas.{same_arrives}
@@ -97,7 +97,7 @@ module _ (file : FileAt) (play : Play Place Program) (pick : ℕ → ℕ → ℕ
         (ap (λ (n : NodeAt Place Program). n.main e) node ∙ there)
 
     -- a frame that it popped and lost fits its row there
-    pub lost_arrives : (p q : ℕ) (f : FrameAt Place) → q < length file.parties → lost q p ≡ told blank f ∷ []
+    pub lost_arrives : (p q : ℕ) (f : FrameAt Place) → q < length file.parties → lost q p ≡ frame_told blank f ∷ []
         → (done : Worked Place (NodeAt Place Program)) × (arrives (length file.parties) pick (workers q).node p f ≡ Some done)
     lost_arrives p q f lt one =
         let s = seen q in

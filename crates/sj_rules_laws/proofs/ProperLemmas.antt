@@ -9,10 +9,11 @@ use Rattle.sj_lang.specs.FileAt.{ProtocolAt, named}
 use Rattle.sj_semantics.specs.declared.Want.TheVariants as wants
 use Rattle.sj_semantics.specs.declared.Passed.{Passed}
 use Rattle.sj_semantics.specs.Ends.{Session, EndAt, end_at}
-use Rattle.sj_semantics.specs.Uses.{Use, sends, takes, hands_on, used}
-use Rattle.sj_semantics.specs.Program.{Program, without, bound}
+use Rattle.sj_semantics.specs.Uses.{Use, sends, takes, delegates, end_after}
+use Rattle.sj_semantics.specs.Program.{Program, ends_without, ends_with}
 use Rattle.sj_semantics.specs.Steps.{ends_after_took}
-use Rattle.sj_semantics.specs.Wants.{want_of, fits}
+use Rattle.sj_semantics.specs.Wants.{want_of}
+use Rattle.sj_semantics.specs.Fitting.{fits}
 use Rattle.sj_semantics.specs.World.{World}
 use Rattle.sj_semantics_laws.proofs.BoundLemmas.{is_end-self}
 use Rattle.sj_semantics_laws.proofs.EndLemmas.{touched}
@@ -48,19 +49,19 @@ pub record IsProper (n : Size) (w : World) : Type 0 where
 
 -- ---- names
 
-pub without_proper : (z : Size) (ends : List (ℕ × EndId)) (y : ℕ) → AreProper z ends → AreProper z (without ends y)
+pub without_proper : (z : Size) (ends : List (ℕ × EndId)) (y : ℕ) → AreProper z ends → AreProper z (ends_without ends y)
 without_proper z ends y a = record {
   below = λ n e h. elim (cases_eq n y) [
-    | inl same ↦ let none : None ≡ Some e = sym (named-without_same ends y) ∙ ap (named (without ends y)) (sym same) ∙ h in cc
+    | inl same ↦ let none : None ≡ Some e = sym (named-without_same ends y) ∙ ap (named (ends_without ends y)) (sym same) ∙ h in cc
     | inr other ↦ a.below n e (sym (named-without_other ends y n other) ∙ h)
   ];
 }
 
-pub bound_proper : (z : Size) (ends : List (ℕ × EndId)) (y : ℕ) (x : EndId) → (x.side < 2) × (x.sess < z.sessions) → AreProper z ends → AreProper z (bound ends y x)
+pub bound_proper : (z : Size) (ends : List (ℕ × EndId)) (y : ℕ) (x : EndId) → (x.side < 2) × (x.sess < z.sessions) → AreProper z ends → AreProper z (ends_with ends y x)
 bound_proper z ends y x lt a = record {
   below = λ n e h. elim (cases_eq n y) [
     | inl same ↦
-        let both : Some x ≡ Some e = sym (named-bound_same ends y x) ∙ ap (named (bound ends y x)) (sym same) ∙ h in
+        let both : Some x ≡ Some e = sym (named-bound_same ends y x) ∙ ap (named (ends_with ends y x)) (sym same) ∙ h in
         let it : x ≡ e = cc in
         subst (λ (f : EndId). (f.side < 2) × (f.sess < z.sessions)) it lt
     | inr other ↦ a.below n e (sym (named-bound_other ends y n x other) ∙ h)
@@ -88,12 +89,12 @@ message_in n (y ∷ xs) (suc j) x all h = message_in n xs j x all.1 h
 abbrev pub IsProperUse : Size → Use → Type 0
 IsProperUse n (sends m) = IsProperMessage n m
 IsProperUse n (takes m) = ⊤
-IsProperUse n hands_on = ⊤
+IsProperUse n delegates = ⊤
 
-used_proper : (n : Size) (p : ℕ) (u : Use) (a : EndAt) → IsProperUse n u → AreProperMessages n a.sent → AreProperMessages n (used p u a).sent
+used_proper : (n : Size) (p : ℕ) (u : Use) (a : EndAt) → IsProperUse n u → AreProperMessages n a.sent → AreProperMessages n (end_after p u a).sent
 used_proper n p (sends m) a h all = push_proper n a.sent (record { msg = m; by = p }) all h
 used_proper n p (takes m) a h all = all
-used_proper n p hands_on a h all = all
+used_proper n p delegates a h all = all
 
 pub touched_proper : (n : Size) (p : ℕ) (zs : List Session) (k : EndId) (u : Use) → IsProperUse n u → ((e : EndId) → AreProperMessages n (end_at zs e).sent)
     → (e : EndId) → AreProperMessages n (end_at (touched p zs (k, u)) e).sent

@@ -20,7 +20,7 @@ use Rattle.sj_rules.specs.Shown.{Shows, main_shown}
 use Rattle.sj_rules.specs.PlainSide.{PlainSide, PlainAt}
 use Rattle.sj_rules.specs.Numbers.{turned, NumbersFit}
 use Rattle.sj_rules.specs.Coming.{Comes, AreOld}
-use Rattle.sj_rules.specs.Linked.{waiting_at, user_of, IsParkedAt, IsKept, end_of}
+use Rattle.sj_rules.specs.Linked.{waiting_at, user_of, IsParkedAt, IsKept, end_named}
 use Rattle.sj_rules.specs.Party.{IsDone, play_of, binds}
 use Rattle.sj_rules.specs.Plain.{plain_at}
 use Rattle.sj_rules.specs.Moves.{plain_act}
@@ -59,7 +59,7 @@ module _ {P Q : Type 0} (IsOver : P → Type 0) (binds : Q → EndId → Bool) (
   pub free_by : (p : ℕ) (e : EndId) → e.side < 2 → (m : Msg) → waiting_at plain e 0 ≡ Some m → is_free (w.nodes p) m ≡ true
   free_by p e lt (msgs.Sess sess side keeper) h =
       let t = kept.linked.parks e 0 sess side keeper lt h in
-      ap is_none (parked_is_free p keeper (end_of sess side) t.0 (kept.sessions.sides (end_of sess side)).seat refl t.1)
+      ap is_none (parked_is_free p keeper (end_named sess side) t.0 (kept.sessions.sides (end_named sess side)).seat refl t.1)
   free_by p e lt (msgs.Int n) h = refl
   free_by p e lt (msgs.Bool b) h = refl
   free_by p e lt (msgs.Text n) h = refl

@@ -5,10 +5,9 @@ use Rattle.sj_lang.specs.Place.{Place}
 use Rattle.sj_lang.specs.FileAt.{FileAt}
 use Rattle.sj_acceptance.specs.Accepted.{IsAccepted}
 use Rattle.sj_semantics.specs.Program.{Program}
-use Rattle.sj_semantics.specs.Start.{start_of}
+use Rattle.sj_semantics.specs.World.{start_of, World}
 use Rattle.sj_semantics.specs.State.{IsSettled}
 use Rattle.sj_semantics.specs.Run.{IsRun, end_of}
-use Rattle.sj_semantics.specs.World.{World}
 use Rattle.sj_semantics_laws.proofs.FinishLemmas.{end_is_settled, end_is_reached}
 use Rattle.sj_semantics_laws.proofs.RunLemmas.{same_end}
 use Rattle.sj_semantics_laws.proofs.StartLemmas.{start_is_unshared}

@@ -8,7 +8,7 @@ use Rattle.sj_lang.specs.declared.proto.Way.TheVariants.{Out, Into}
 use Rattle.sj_lang.specs.Place.{Place, done}
 use Rattle.sj_lang.specs.After.{after_place}
 use Rattle.sj_semantics.specs.Ends.{Session, EndAt, end_at}
-use Rattle.sj_semantics.specs.Uses.{Use, sends, takes, hands_on, used, altered, after_uses}
+use Rattle.sj_semantics.specs.Uses.{Use, sends, takes, delegates, end_after, altered, after_uses}
 use Rattle.sj_semantics.specs.Program.{Program}
 use Rattle.sj_semantics.specs.World.{World, Change, changed}
 use Rattle.sj_semantics_laws.proofs.AlteredLemmas.{slice_get-altered, slice_get-altered_other}
@@ -41,7 +41,7 @@ programs_changed gs p g c there q =
 
 -- the side of the end that was used, and the others
 pub sides_touched : (p : ℕ) (zs : List Session) (e : EndId) (u : Use) (f : PlainSide Place → PlainSide Place) → e.side < 2 → e.sess < length zs
-    → side_at (used p u (end_at zs e)) ≡ f (side_at (end_at zs e)) → (d : EndId)
+    → side_at (end_after p u (end_at zs e)) ≡ f (side_at (end_at zs e)) → (d : EndId)
     → plain_side (touched p zs (e, u)) d ≡ cond (is_same_end d e) (f (plain_side zs d)) (plain_side zs d)
 sides_touched p zs e u f lt within h d =
     elim (cases_Bool (is_same_end d e)) [
@@ -84,8 +84,8 @@ takes_seen p zs e m next lt h =
     sides_touched p zs e (takes m) (λ x. plain_taken x next) lt (leads_on_within zs e Into m next h) (λ i. record { place = place i; hops = a.hops; sent = map (λ x. x.msg) a.sent; taken = taken i })
 
 pub hands_seen : (p : ℕ) (zs : List Session) (e : EndId) → e.side < 2 → ((end_at zs e).place ≡ done → ⊥) → (d : EndId)
-    → plain_side (touched p zs (e, hands_on)) d ≡ cond (is_same_end d e) (plain_parked (plain_side zs d)) (plain_side zs d)
-hands_seen p zs e lt is_open = sides_touched p zs e hands_on plain_parked lt (open_within zs e is_open) refl
+    → plain_side (touched p zs (e, delegates)) d ≡ cond (is_same_end d e) (plain_parked (plain_side zs d)) (plain_side zs d)
+hands_seen p zs e lt is_open = sides_touched p zs e delegates plain_parked lt (open_within zs e is_open) refl
 
 -- ---- a change
 

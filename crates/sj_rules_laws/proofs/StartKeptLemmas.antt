@@ -9,14 +9,14 @@ use Rattle.sj_lang.specs.Place.{Place, done}
 use Rattle.sj_lang.specs.FileAt.{FileAt, ConnectAt, body_named, party_named}
 use Rattle.sj_acceptance.specs.Accepted.{IsAccepted}
 use Rattle.sj_semantics.specs.Ends.{EndAt, end_on, nowhere}
-use Rattle.sj_semantics.specs.Start.{fresh, session_of, start_of}
+use Rattle.sj_semantics.specs.World.{fresh, session_of, start_of}
 use Rattle.sj_rules.specs.Record.{other_end}
 use Rattle.sj_rules.specs.Seat.{Seat, held, gone, Side, source_for}
 use Rattle.sj_rules.specs.Shown.{main_shown, old_shown, Shows, old_in, live_in, claims_in, gives_in}
 use Rattle.sj_rules.specs.PlainSide.{PlainSide}
 use Rattle.sj_rules.specs.Numbers.{level}
 use Rattle.sj_rules.specs.Invariant.{Direction, IsSound}
-use Rattle.sj_rules.specs.Linked.{waiting_at, user_of, IsParkedAt, IsLinked, IsKept, end_of}
+use Rattle.sj_rules.specs.Linked.{waiting_at, user_of, IsParkedAt, IsLinked, IsKept, end_named}
 use Rattle.sj_rules.specs.Party.{IsDone, binds}
 use Rattle.sj_rules.specs.Plain.{side_at, plain_at}
 use Rattle.sj_rules.specs.Start.{declared_on, first_held, held_by, connect_of, core_start}
@@ -73,27 +73,27 @@ direction_with file s r (Some c) = record {
   old = refl;
 }
 
-sound_with : (file : FileAt) (sess : ℕ) (o : Option ConnectAt) → IsSound IsDone level (plain_with file (end_of sess 0) o) (plain_with file (end_of sess 1) o) (side_with file (end_of sess 0) o) (side_with file (end_of sess 1) o)
+sound_with : (file : FileAt) (sess : ℕ) (o : Option ConnectAt) → IsSound IsDone level (plain_with file (end_named sess 0) o) (plain_with file (end_named sess 1) o) (side_with file (end_named sess 0) o) (side_with file (end_named sess 1) o)
 sound_with file sess None = record {
   others = refl;
   numbers = (refl, refl);
   hops = (omega arith, omega arith);
-  there = direction_with file (end_of sess 0) (end_of sess 1) None;
-  back = direction_with file (end_of sess 1) (end_of sess 0) None;
+  there = direction_with file (end_named sess 0) (end_named sess 1) None;
+  back = direction_with file (end_named sess 1) (end_named sess 0) None;
 }
 sound_with file sess (Some c) = record {
   others = refl;
   numbers = (refl, refl, refl);
   hops = (omega arith, omega arith);
-  there = direction_with file (end_of sess 0) (end_of sess 1) (Some c);
-  back = direction_with file (end_of sess 1) (end_of sess 0) (Some c);
+  there = direction_with file (end_named sess 0) (end_named sess 1) (Some c);
+  back = direction_with file (end_named sess 1) (end_named sess 0) (Some c);
 }
 
-start_sound : (file : FileAt) (sess : ℕ) → IsSound IsDone level ((plain_at (start_of file)).sides (end_of sess 0)) ((plain_at (start_of file)).sides (end_of sess 1)) (start_side file (end_of sess 0)) (start_side file (end_of sess 1))
+start_sound : (file : FileAt) (sess : ℕ) → IsSound IsDone level ((plain_at (start_of file)).sides (end_named sess 0)) ((plain_at (start_of file)).sides (end_named sess 1)) (start_side file (end_named sess 0)) (start_side file (end_named sess 1))
 start_sound file sess =
     let o : Option ConnectAt = slice_get file.connects sess in
-    subst (λ (x : PlainSide Place). IsSound IsDone level x ((plain_at (start_of file)).sides (end_of sess 1)) (side_with file (end_of sess 0) o) (side_with file (end_of sess 1) o)) (sym (plain_start file (end_of sess 0) (omega arith)))
-    (subst (λ (y : PlainSide Place). IsSound IsDone level (plain_with file (end_of sess 0) o) y (side_with file (end_of sess 0) o) (side_with file (end_of sess 1) o)) (sym (plain_start file (end_of sess 1) (omega arith)))
+    subst (λ (x : PlainSide Place). IsSound IsDone level x ((plain_at (start_of file)).sides (end_named sess 1)) (side_with file (end_named sess 0) o) (side_with file (end_named sess 1) o)) (sym (plain_start file (end_named sess 0) (omega arith)))
+    (subst (λ (y : PlainSide Place). IsSound IsDone level (plain_with file (end_named sess 0) o) y (side_with file (end_named sess 0) o) (side_with file (end_named sess 1) o)) (sym (plain_start file (end_named sess 1) (omega arith)))
     (sound_with file sess o))
 
 -- ---- what the world shows

@@ -9,10 +9,10 @@ use Rattle.sj_lang.specs.declared.party.Scalar.TheVariants as kinds
 use Rattle.sj_lang.specs.Code.{Branches, send, delegate, take_value, take_end, outbranch, inbranch, outwhile, inwhile, relay, if_else, let_be, close, no_branch, branch}
 use Rattle.sj_lang.specs.FileAt.{ProtocolAt, named}
 use Rattle.sj_acceptance.specs.Environment.{Env}
-use Rattle.sj_semantics.specs.Value.{Vars, is_of_kind}
-use Rattle.sj_semantics.specs.Program.{Program, Thing, statement, turns, passing, bound}
+use Rattle.sj_semantics.specs.Value.{Vars}
+use Rattle.sj_semantics.specs.Fitting.{is_of_kind, fits, fits_todo, names_arm}
+use Rattle.sj_semantics.specs.Program.{Program, Thing, statement, turns, passing, ends_with}
 use Rattle.sj_semantics.specs.Steps.{ends_after_took, took_of}
-use Rattle.sj_semantics.specs.Wants.{fits, fits_todo, names_arm}
 use Rattle.sj_semantics.specs.Ends.{Session, end_at}
 use Rattle.sj_accepted_laws.proofs.NameLemmas.{Agrees, named-bound_same, named-bound_other}
 use Rattle.sj_accepted_laws.proofs.TypedLemmas.{DoesTodo, FitsProgram}
@@ -25,25 +25,25 @@ use Rattle.sj_rules_laws.proofs.NamesLemmas.{binds_in, has_name, name_binds}
 
 -- with one name more, its end is bound too
 pub binds_bound : (ends : List (ℕ × EndId)) (y : ℕ) (x : EndId) → named ends y ≡ None → (f : EndId)
-    → (binds_in (bound ends y x) f ≡ true) ↔ ((is_same_end f x ≡ true) ⊎ (binds_in ends f ≡ true))
+    → (binds_in (ends_with ends y x) f ≡ true) ↔ ((is_same_end f x ≡ true) ⊎ (binds_in ends f ≡ true))
 binds_bound ends y x free f = (fwd, back)
   where
-    fwd : binds_in (bound ends y x) f ≡ true → (is_same_end f x ≡ true) ⊎ (binds_in ends f ≡ true)
+    fwd : binds_in (ends_with ends y x) f ≡ true → (is_same_end f x ≡ true) ⊎ (binds_in ends f ≡ true)
     fwd h =
-        let b = has_name (bound ends y x) f h in
+        let b = has_name (ends_with ends y x) f h in
         elim (cases_eq b.name y) [
           | inl same ↦
-              let both : Some x ≡ Some f = sym (named-bound_same ends y x) ∙ ap (named (bound ends y x)) (sym same) ∙ b.is_named in
+              let both : Some x ≡ Some f = sym (named-bound_same ends y x) ∙ ap (named (ends_with ends y x)) (sym same) ∙ b.is_named in
               let it : x ≡ f = cc in
               inl (subst (λ (t : EndId). is_same_end f t ≡ true) (sym it) (same_end_self f))
           | inr other ↦ inr (name_binds ends b.name f (sym (named-bound_other ends y b.name x other) ∙ b.is_named))
         ]
 
-    back : (is_same_end f x ≡ true) ⊎ (binds_in ends f ≡ true) → binds_in (bound ends y x) f ≡ true
-    back (inl same) = name_binds (bound ends y x) y f (named-bound_same ends y x ∙ ap Some (sym (same_end_is f x same)))
+    back : (is_same_end f x ≡ true) ⊎ (binds_in ends f ≡ true) → binds_in (ends_with ends y x) f ≡ true
+    back (inl same) = name_binds (ends_with ends y x) y f (named-bound_same ends y x ∙ ap Some (sym (same_end_is f x same)))
     back (inr h) =
         let b = has_name ends f h in
-        name_binds (bound ends y x) b.name f
+        name_binds (ends_with ends y x) b.name f
         (named-bound_other ends y b.name x (λ same. let none : None ≡ Some f = sym free ∙ ap (named ends) (sym same) ∙ b.is_named in cc) ∙ b.is_named)
 
 -- a message that names no end binds none
@@ -76,7 +76,7 @@ took_same ends (passing x y more body ∷ rest) m none = refl
 pub record TookEnd (ends new : List (ℕ × EndId)) (s d : ℕ) : Type 0 where
   pub name : ℕ
   pub free : named ends name ≡ None
-  pub binds_it : new ≡ bound ends name (side s d)
+  pub binds_it : new ≡ ends_with ends name (side s d)
 
 pub no_kind : (k : Scalar) (s d j : ℕ) → is_of_kind k (msgs.Sess s d j) ≡ true → ⊥
 no_kind kinds.Int s d j h = cc

@@ -19,7 +19,7 @@ ghost use Rattle.sj_rules.specs.Joined.{IsJoinedRun, PartiesWork, WorkerAt};
 ghost use Rattle.sj_rules.specs.Limits.{limit_of_messages};
 ghost use Rattle.sj_rules.specs.Log.{EntryAt, IsJoined, LineAt, logs_below};
 ghost use Rattle.sj_rules.specs.Node.{NodeAt, Play, acts, arrives};
-ghost use Rattle.sj_rules.specs.NodeRun.{told};
+ghost use Rattle.sj_rules.specs.NodeRun.{frame_told};
 ghost use Rattle.sj_rules.specs.Party.{play_of};
 ghost use Rattle.sj_rules.specs.Plays.{IsPlayOf};
 ghost use Rattle.sj_rules.specs.Binding.{NamesKnown};
@@ -98,7 +98,7 @@ pub fn no_worker_is_unfit()
         (f : FrameAt Place) → IsAccepted file → IsPlayOf file play →
         IsPick pick →
         PartiesWork play pick blank (length file.parties) (core_start file) workers lost →
-        q < length file.parties → lost q p ≡ told blank f ∷ [] →
+        q < length file.parties → lost q p ≡ frame_told blank f ∷ [] →
         (done : Worked Place (NodeAt Place Program))
         × (arrives (length file.parties) pick (workers q).node p f ≡ Some done) }
     ensures act { (file : FileAt) (play : Play Place Program) (pick : ℕ → ℕ → ℕ)

@@ -24,9 +24,8 @@ ghost use Rattle.sj_rules.specs.Start.{core_start};
 ghost use Rattle.sj_rules.specs.World.{Turn, WorldAt};
 ghost use Rattle.sj_semantics.specs.Program.{Program};
 ghost use Rattle.sj_semantics.specs.Run.{IsRun};
-ghost use Rattle.sj_semantics.specs.Start.{start_of};
+ghost use Rattle.sj_semantics.specs.World.{start_of, World, act_of};
 ghost use Rattle.sj_semantics.specs.State.{IsSettled};
-ghost use Rattle.sj_semantics.specs.World.{World, act_of};
 
 /// In every run the rules see the act of a party that the plain world does.
 pub fn the_rules_see_each_act()

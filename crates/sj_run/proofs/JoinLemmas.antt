@@ -14,7 +14,7 @@ use Rattle.sj_rules.specs.Joined.{IsJoinedRun, PartiesWork, WorkerAt}
 use Rattle.sj_rules.specs.Limits.{clock_end}
 use Rattle.sj_rules.specs.Log.{IsJoined, LineAt, logs_below}
 use Rattle.sj_rules.specs.Node.{NodeAt, arrives}
-use Rattle.sj_rules.specs.NodeRun.{told, told_body, told_frames}
+use Rattle.sj_rules.specs.NodeRun.{frame_told, told_body, told_frames}
 use Rattle.sj_rules.specs.Party.{play_of}
 use Rattle.sj_rules.specs.Record.{BodyAt, Carry, Fin, Claim, Signal, Ack, Give}
 use Rattle.sj_rules.specs.Start.{core_start}
@@ -52,11 +52,11 @@ told_body_twice (Signal to conn party taken) = refl
 told_body_twice (Ack of conn) = refl
 told_body_twice (Give e resend) = refl
 
-told_twice : (f : FrameAt Place) → told done (told done f) ≡ told done f
+told_twice : (f : FrameAt Place) → frame_told done (frame_told done f) ≡ frame_told done f
 told_twice f = λ i. record { clock = f.clock; body = told_body_twice f.body i }
 
 -- the first frame of a lane that tells these
-first_told : (lane : List (FrameAt Place)) (x : FrameAt Place) (more : List (FrameAt Place)) → told_frames done lane ≡ x ∷ more → (g : FrameAt Place) × (told done g ≡ x)
+first_told : (lane : List (FrameAt Place)) (x : FrameAt Place) (more : List (FrameAt Place)) → told_frames done lane ≡ x ∷ more → (g : FrameAt Place) × (frame_told done g ≡ x)
 first_told [] x more e = absurd (cc e)
 first_told (g ∷ rest) x more e = (g, cc e)
 
@@ -188,7 +188,7 @@ module _ {O I : Type 0} (pushed : O → Option (List (FrameAt Place))) (out_faul
         omega (arith, few, clock, is)
 
     -- what a party lost is a frame as lanes tell it
-    lost_told : (p q : ℕ) (x : FrameAt Place) → p < n → q < n → lost q p ≡ x ∷ [] → (g : FrameAt Place) × (told done g ≡ x)
+    lost_told : (p q : ℕ) (x : FrameAt Place) → p < n → q < n → lost q p ≡ x ∷ [] → (g : FrameAt Place) × (frame_told done g ≡ x)
     lost_told p q x lt mt is =
         let l = own.lanes p q lt mt in
         first_told (core.lanes p q) x (l.waits ++ (team p).box q) (l.lane ∙ ap (λ fs. (fs ++ l.waits) ++ (team p).box q) is)
@@ -212,7 +212,7 @@ module _ {O I : Type 0} (pushed : O → Option (List (FrameAt Place))) (out_faul
     lost_fits q w l mt there is lt none =
         let g = lost_told l.party q l.frame lt mt is in
         let fits = lost_arrives file play max max_picks done team lost works accepted same l.party q g.0 mt (is ∙ ap (λ f. f ∷ []) (sym g.1)) in
-        let alike : told done l.frame ≡ told done g.0 = ap (told done) (sym g.1) ∙ told_twice g.0 in
+        let alike : frame_told done l.frame ≡ frame_told done g.0 = ap (frame_told done) (sym g.1) ∙ told_twice g.0 in
         let row : arrives n max (node_at (node_of w)) l.party g.0 ≡ Some fits.0 =
         ap (λ (d : LanedAt Place Program O I). arrives n max d.node l.party g.0) (sym (new_is q w there)) ∙ fits.1 in
         let no : None ≡ Some fits.0 = sym none ∙ same_arrives n max done (node_at (node_of w)) l.party l.frame g.0 alike ∙ row in

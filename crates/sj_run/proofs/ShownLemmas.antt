@@ -13,7 +13,7 @@ use Rattle.sj_rules.specs.Party.{play_of}
 use Rattle.sj_rules.specs.Start.{core_start}
 use Rattle.sj_rules.specs.World.{WorldAt}
 use Rattle.sj_work.specs.Counts.{RoseBy}
-use Rattle.sj_run.specs.Shown.{IsShown, IsWaiting, LinksAt, posted}
+use Rattle.sj_run.specs.Shown.{IsShown, IsWaiting, LinksAt, posted_frames}
 
 -- why a party has nothing to do, and what its lanes show of it
 pub record IsAtRest (file : FileAt) (looks : ℕ) (p : ℕ) (w : WorkerAt Place Program) (vain_out vain_in : ℕ → ℕ) : Type 0 where
@@ -28,11 +28,11 @@ module _ (file : FileAt) (looks : ℕ) (links : LinksAt) (workers : ℕ → Work
     (got : (p q : ℕ) → p < length file.parties → q < length file.parties → (workers q).popped p ≡ links.got p q)
     (rests : (p : ℕ) → p < length file.parties → IsAtRest file looks p (workers p) (λ q. links.vain_out p q) (λ q. links.vain_in q p)) where
   -- what p pushed, and then its outbox
-  all_posted : (p q : ℕ) → p < length file.parties → q < length file.parties → posted file p q lines ≡ links.sent p q ++ (workers p).box q
+  all_posted : (p q : ℕ) → p < length file.parties → q < length file.parties → posted_frames file p q lines ≡ links.sent p q ++ (workers p).box q
   all_posted p q lt mt = joined.posts p q lt ∙ ap (λ fs. fs ++ (workers p).box q) (sent p q lt mt)
 
-  whole : (p q : ℕ) (box : List (FrameAt Place)) → posted file p q lines ≡ links.sent p q ++ box → (box ≡ []) ⊎ ((0 < links.vain_out p q) ⊎ (looks ≡ 0))
-      → (links.sent p q ≡ posted file p q lines) ⊎ ((0 < links.vain_out p q) ⊎ (looks ≡ 0))
+  whole : (p q : ℕ) (box : List (FrameAt Place)) → posted_frames file p q lines ≡ links.sent p q ++ box → (box ≡ []) ⊎ ((0 < links.vain_out p q) ⊎ (looks ≡ 0))
+      → (links.sent p q ≡ posted_frames file p q lines) ⊎ ((0 < links.vain_out p q) ⊎ (looks ≡ 0))
   whole p q box is (inl none) = inl (sym (is ∙ ap (λ fs. links.sent p q ++ fs) none ∙ append-nil (links.sent p q)))
   whole p q box is (inr vain) = inr vain
 

@@ -20,7 +20,7 @@ use Rattle.sj_work.specs.declared.worker.Stop.{Stop}
 use Rattle.sj_work.specs.declared.worker.Worker.{Worker}
 use Rattle.sj_work.specs.Laned.{entries_of, laned}
 use Rattle.sj_work.specs.Views.{node_of, stop_of}
-use Rattle.sj_work.specs.Worked.{Turned, WorkedBy, kept}
+use Rattle.sj_work.specs.Worked.{Turned, WorkedBy, kept_stop}
 use Rattle.sj_run.specs.Workers.{AllWorked, HasWorked}
 
 -- below the length of a list something is there
@@ -54,7 +54,7 @@ module _ {O I : Type 0} (pushed : O → Option (List (FrameAt Place))) (out_faul
   worked_up : (p : ℕ) (w : Worker O I) (there : slice_get workers p ≡ Some w)
       → IsSome (stop_of w) × Turned pushed out_faults out_vain same_out popped in_faults in_vain same_in looks (has p w there).old w
   worked_up p w there =
-      subst (λ (s : Option Stop). WorkedBy pushed out_faults out_vain same_out popped in_faults in_vain same_in (kept s) looks (has p w there).old w)
+      subst (λ (s : Option Stop). WorkedBy pushed out_faults out_vain same_out popped in_faults in_vain same_in (kept_stop s) looks (has p w there).old w)
       (has p w there).first.idle (has p w there).worked
 
   pub stopped : (p : ℕ) (w : Worker O I) → slice_get workers p ≡ Some w → stop_of w ≡ None → ⊥

@@ -17,7 +17,7 @@ use Rattle.sj_work.specs.declared.worker.Stop.{Stop}
 use Rattle.sj_work.specs.declared.worker.Worker.{Worker}
 use Rattle.sj_work.specs.Counts.{OnLane, Stands}
 use Rattle.sj_work.specs.Views.{in_of, lanes_of, node_of, out_of}
-use Rattle.sj_work.specs.Worked.{Turned, Worked, WorkedBy, kept}
+use Rattle.sj_work.specs.Worked.{Turned, Worked, WorkedBy, kept_stop}
 use Rattle.sj_run.specs.Workers.{AllWorked, AreHired, AreNew, IsFirst}
 use Rattle.sj_run.proofs.TeamLemmas.{there_is}
 
@@ -119,7 +119,7 @@ module _ {O I : Type 0} (pushed : O → Option (List (FrameAt Place))) (out_faul
 
   turns : (p : ℕ) (old w : Worker O I) → slice_get hired p ≡ Some old → slice_get workers p ≡ Some w → Turned pushed out_faults out_vain same_out popped in_faults in_vain same_in looks old w
   turns p old w before there =
-      (subst (λ (s : Option Stop). WorkedBy pushed out_faults out_vain same_out popped in_faults in_vain same_in (kept s) looks old w) (hires.idle p old before) (each p old w before there)).1
+      (subst (λ (s : Option Stop). WorkedBy pushed out_faults out_vain same_out popped in_faults in_vain same_in (kept_stop s) looks old w) (hires.idle p old before) (each p old w before there)).1
 
   all_count : length workers ≡ length file.parties
   all_count = as_many ∙ hires.count ∙ first.seats.count

@@ -37,8 +37,8 @@ IsWaiting (Some (handed_enough e)) = ⊥
 IsWaiting None = ⊥
 
 -- the frames that the lines' events post from p to q, as lanes tell them
-abbrev pub posted : FileAt → (p q : ℕ) → List LineAt → List (FrameAt Place)
-posted file p q lines = told_frames done (all_posts (play_of file) max p q lines (core_start file))
+abbrev pub posted_frames : FileAt → (p q : ℕ) → List LineAt → List (FrameAt Place)
+posted_frames file p q lines = told_frames done (all_posts (play_of file) max p q lines (core_start file))
 
 -- these links show those lines, which lead to that core world
 pub record IsShown (file : FileAt) (looks : ℕ) (links : LinksAt) (lines : List LineAt) (core : WorldAt Place Program) : Type 0 where
@@ -46,10 +46,10 @@ pub record IsShown (file : FileAt) (looks : ℕ) (links : LinksAt) (lines : List
   pub popped : (p q : ℕ) → p < length file.parties → q < length file.parties
       → notes_from p (part_of q lines) ≡ map (λ f. body_note f.body) (links.got p q)
   -- what p pushed to q is a front of what the events at p post to q
-  pub pushed : (p q : ℕ) → p < length file.parties → q < length file.parties → IsPrefix (links.sent p q) (posted file p q lines)
+  pub pushed : (p q : ℕ) → p < length file.parties → q < length file.parties → IsPrefix (links.sent p q) (posted_frames file p q lines)
   -- and all of it, unless a push was in vain, or no look was asked for
   pub all : (p q : ℕ) → p < length file.parties → q < length file.parties
-      → (links.sent p q ≡ posted file p q lines) ⊎ ((0 < links.vain_out p q) ⊎ (looks ≡ 0))
+      → (links.sent p q ≡ posted_frames file p q lines) ⊎ ((0 < links.vain_out p q) ⊎ (looks ≡ 0))
   -- nobody can act there
   pub still : (p : ℕ) → p < length file.parties → acts (play_of file) p (core.nodes p) ≡ None
   -- who waits there has looked into each lane to it so often in vain

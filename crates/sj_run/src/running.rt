@@ -1,7 +1,7 @@
 //! A file run by its parties.
 ghost use Rattle.std.specs.Prelude.{◌≡◌, ◌≤◌, Err, IfErr, IfOk, length, map, max, true};
 ghost use Rattle.sj_check.specs.Held.{file_in as held};
-ghost use Rattle.sj_core.specs.World.{history_of, kept, party_count, world_at};
+ghost use Rattle.sj_core.specs.World.{history_of, kept_file, party_count, world_at};
 ghost use Rattle.sj_lane.specs.Told.{Rose};
 ghost use Rattle.sj_lang.specs.FileView.{file_of};
 ghost use Rattle.sj_plain.specs.Kept.{without_words};
@@ -25,7 +25,7 @@ use std::thread::Threads;
 
 /// The core world to which these lines lead from the file's start on. They become its history.
 fn replayed(alloc: Global, accepted: &Accepted, lines: Vec<Line>) -> Result<World, RunRefusal>
-    ensures kept { IfOk result (λ w. kept w ≡ without_words (file_of (held accepted.now))) }
+    ensures kept_file { IfOk result (λ w. kept_file w ≡ without_words (file_of (held accepted.now))) }
     ensures history { IfOk result (λ w. history_of w ≡ map line_at lines.items) }
     ensures run { IfOk result (λ w. IsHistory max (file_of (held accepted.now)) (map line_at lines.items) (world_at w)) }
     ensures damaged { IfErr result (IsMisfitOf (file_of (held accepted.now)) (map line_at lines.items)) }
@@ -50,7 +50,7 @@ fn replayed(alloc: Global, accepted: &Accepted, lines: Vec<Line>) -> Result<Worl
 
 /// Why a worker that refused an event behind the lines of this history makes them damaged.
 fn past_end(world: &World, refused: Line) -> RunRefusal
-    ensures refused { IsPastEndOf (kept world.now) (world_at world.now) (history_of world.now) result }
+    ensures refused { IsPastEndOf (kept_file world.now) (world_at world.now) (history_of world.now) result }
     ensures whole { result ≡ RunRefusal.LinkFault → ⊥ }
 {
     let due = world.due(refused.party, refused.entry.event);
@@ -80,9 +80,9 @@ pub fn run_parties<R: Threads + Sync, L: Links, G: Gate>(
     gate: &G,
 ) -> Result<World, RunRefusal>
     // A world of the file, to which its history leads.
-    ensures kept { IfOk result (λ w. kept w ≡ without_words (file_of (held accepted.now))) }
-    ensures run { IfOk result (λ w. IsHistory max (kept w) (history_of w) (world_at w)) }
-    ensures parties { IfOk result (λ w. party_count w ≡ length (kept w).parties) }
+    ensures kept_file { IfOk result (λ w. kept_file w ≡ without_words (file_of (held accepted.now))) }
+    ensures run { IfOk result (λ w. IsHistory max (kept_file w) (history_of w) (world_at w)) }
+    ensures parties { IfOk result (λ w. party_count w ≡ length (kept_file w).parties) }
 
     // Links that tell show its history, in which nobody could go on alone.
     ensures shown { IfOk result (λ w. L.tells links.old ≡ true →

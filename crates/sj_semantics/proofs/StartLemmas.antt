@@ -1,7 +1,7 @@
 -- Which program each party has at the start.
 use Rattle.std.proofs.Common.{◌≡◌, ℕ, zero, suc, ◌+◌, List, [], ◌∷◌, slice_get, Some, ap, ◌∙◌, arith}
 use Rattle.sj_lang.specs.FileAt.{FileAt, PartyAt}
-use Rattle.sj_semantics.specs.Start.{program_of, programs_from, start_of}
+use Rattle.sj_semantics.specs.World.{program_of, programs_from, start_of}
 
 programs_at : (file : FileAt) (k p : ℕ) (qs : List PartyAt) (q : PartyAt) → slice_get qs p ≡ Some q → slice_get (programs_from file k qs) p ≡ Some (program_of file (k + p) q)
 programs_at file k p [] q h = cc

@@ -3,7 +3,7 @@ use Rattle.std.specs.Prelude.{ℕ, List, [], ◌∷◌, ◌++◌, option_map, un
 use Rattle.sj_base.specs.declared.EndId.{EndId}
 use Rattle.sj_semantics.specs.declared.Passed.{Passed}
 use Rattle.sj_semantics.specs.Ends.{is_end}
-use Rattle.sj_semantics.specs.Uses.{Use, sends, takes, hands_on}
+use Rattle.sj_semantics.specs.Uses.{Use, sends, takes, delegates}
 use Rattle.sj_semantics.specs.World.{World, change_of, changed}
 
 -- who acted, and what that did to which ends
@@ -31,13 +31,13 @@ acts_on e f (a ∷ as') = uses_on e f a.by a.uses ++ acts_on e f as'
 abbrev pub sent_by : ℕ → Use → List Passed
 sent_by p (sends m) = record { msg = m; by = p } ∷ []
 sent_by p (takes m) = []
-sent_by p hands_on = []
+sent_by p delegates = []
 
 -- the message that was taken, with its taker
 abbrev pub taken_by : ℕ → Use → List Passed
 taken_by p (takes m) = record { msg = m; by = p } ∷ []
 taken_by p (sends m) = []
-taken_by p hands_on = []
+taken_by p delegates = []
 
 -- the messages of all sends on the end, each with its sender
 abbrev pub sent_on : EndId → List ActAt → List Passed

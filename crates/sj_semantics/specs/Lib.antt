@@ -1,10 +1,10 @@
 pub mod Acts
 pub mod Balanced
 pub mod Ends
+pub mod Fitting
 pub mod Lines
 pub mod Program
 pub mod Run
-pub mod Start
 pub mod State
 pub mod Steps
 pub mod Transcript

@@ -1,8 +1,7 @@
 -- Runs, and the end of a file.
 use Rattle.std.specs.Prelude.{◌≡◌, ℕ, zero, suc, ◌+◌, ◌*◌, List, [], ◌∷◌, length, Option, Some, None, option_and_then}
 use Rattle.sj_lang.specs.FileAt.{FileAt}
-use Rattle.sj_semantics.specs.World.{World, act_of}
-use Rattle.sj_semantics.specs.Start.{start_of}
+use Rattle.sj_semantics.specs.World.{World, act_of, start_of}
 
 -- the world after the acts of these parties, one after another, where each could act
 abbrev pub after_acts : World → List ℕ → Option World

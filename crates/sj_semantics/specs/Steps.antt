@@ -3,10 +3,10 @@ use Rattle.std.specs.Prelude.{ℕ, zero, suc, ◌+◌, ◌==◌, Bool, false, Li
 use Rattle.sj_base.specs.declared.EndId.{EndId}
 use Rattle.sj_base.specs.declared.Msg.{Msg}
 use Rattle.sj_base.specs.declared.Msg.TheVariants as msgs
-use Rattle.sj_lang.specs.Code.{Code, Branches, no_step, delegate, take_value, take_end, inbranch, outwhile, inwhile, relay, if_else, let_be, close, no_branch, branch}
+use Rattle.sj_lang.specs.Code.{Code, Branches, no_stmt, delegate, take_value, take_end, inbranch, outwhile, inwhile, relay, if_else, let_be, close, no_branch, branch}
 use Rattle.sj_semantics.specs.declared.Value.{Value}
 use Rattle.sj_semantics.specs.Value.{Vars, with_value, value_of, worth, turns_of, truth_of}
-use Rattle.sj_semantics.specs.Program.{Thing, statement, turns, passing, Program, block, without, bound}
+use Rattle.sj_semantics.specs.Program.{Thing, statement, turns, passing, Program, block, ends_without, ends_with}
 
 -- ---- a step without a message
 
@@ -48,7 +48,7 @@ todo_after_sent vars [] = []
 
 -- a delegated end is no longer bound
 abbrev pub ends_after_sent : List (ℕ × EndId) → List Thing → List (ℕ × EndId)
-ends_after_sent ends (statement (delegate x y) ∷ rest) = without ends y
+ends_after_sent ends (statement (delegate x y) ∷ rest) = ends_without ends y
 ends_after_sent ends _ = ends
 
 -- the party after a send or a handing on
@@ -69,8 +69,8 @@ arm_named (branch m code arms) l = if m == l then Some code else arm_named arms 
 
 -- the arm of the label that came
 abbrev pub arm_taken : Branches → Msg → Code
-arm_taken arms (msgs.Label l) = unwrap_or (arm_named arms l) no_step
-arm_taken arms _ = no_step
+arm_taken arms (msgs.Label l) = unwrap_or (arm_named arms l) no_stmt
+arm_taken arms _ = no_stmt
 
 -- an arm, a loop's body and then the loop, or what a relay passes on
 abbrev pub todo_after_took : List Thing → Msg → List Thing
@@ -87,7 +87,7 @@ vars_after_took vars _ m = vars
 
 -- an end that was taken is bound at once
 abbrev pub ends_after_took : List (ℕ × EndId) → List Thing → Msg → List (ℕ × EndId)
-ends_after_took ends (statement (take_end x y p) ∷ rest) (msgs.Sess s d k) = bound ends y (record { sess = s; side = d })
+ends_after_took ends (statement (take_end x y p) ∷ rest) (msgs.Sess s d k) = ends_with ends y (record { sess = s; side = d })
 ends_after_took ends _ m = ends
 
 -- the party after it took the message
@@ -103,7 +103,7 @@ rest_of (t ∷ rest) = rest
 
 -- a closed end is no longer bound
 abbrev pub ends_after_closed : List (ℕ × EndId) → List Thing → List (ℕ × EndId)
-ends_after_closed ends (statement (close x) ∷ rest) = without ends x
+ends_after_closed ends (statement (close x) ∷ rest) = ends_without ends x
 ends_after_closed ends _ = ends
 
 -- the party after it closed an end

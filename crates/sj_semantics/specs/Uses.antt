@@ -12,17 +12,17 @@ use Rattle.sj_semantics.specs.Ends.{EndAt, Session}
 pub data Use : Type 0 where
   sends : Msg → Use
   takes : Msg → Use
-  hands_on : Use
+  delegates : Use
 
 -- the place after the message; it stays where there is none
-abbrev pub moved : Place → Way → Msg → Place
-moved place way m = unwrap_or (after_place place way m) place
+abbrev pub place_behind : Place → Way → Msg → Place
+place_behind place way m = unwrap_or (after_place place way m) place
 
 -- the end after the party's use of it
-abbrev pub used : ℕ → Use → EndAt → EndAt
-used p (sends m) e = record { place = moved e.place Out m; sent = e.sent ++ record { msg = m; by = p } ∷ []; takers = e.takers; hops = e.hops }
-used p (takes m) e = record { place = moved e.place Into m; sent = e.sent; takers = e.takers ++ p ∷ []; hops = e.hops }
-used p hands_on e = record { place = e.place; sent = e.sent; takers = e.takers; hops = e.hops + 1 }
+abbrev pub end_after : ℕ → Use → EndAt → EndAt
+end_after p (sends m) e = record { place = place_behind e.place Out m; sent = e.sent ++ record { msg = m; by = p } ∷ []; takers = e.takers; hops = e.hops }
+end_after p (takes m) e = record { place = place_behind e.place Into m; sent = e.sent; takers = e.takers ++ p ∷ []; hops = e.hops }
+end_after p delegates e = record { place = e.place; sent = e.sent; takers = e.takers; hops = e.hops + 1 }
 
 -- the list with what f makes of the element at that place
 abbrev pub altered : {X : Type 0} → List X → ℕ → (X → X) → List X
@@ -38,4 +38,4 @@ on_side (suc n) f z = record { first = z.first; second = f z.second }
 -- the sessions after the party's uses of ends, one after another
 abbrev pub after_uses : ℕ → List (EndId × Use) → List Session → List Session
 after_uses p [] zs = zs
-after_uses p (u ∷ us) zs = after_uses p us (altered zs u.0.sess (on_side u.0.side (used p u.1)))
+after_uses p (u ∷ us) zs = after_uses p us (altered zs u.0.sess (on_side u.0.side (end_after p u.1)))

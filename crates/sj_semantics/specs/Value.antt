@@ -5,8 +5,6 @@ use Rattle.sj_base.specs.declared.Msg.{Msg}
 use Rattle.sj_base.specs.declared.Msg.TheVariants as msgs
 use Rattle.sj_lang.specs.declared.party.Op.{Op}
 use Rattle.sj_lang.specs.declared.party.Op.TheVariants.{Add, Sub, Mul, Less, LessEq, Equal}
-use Rattle.sj_lang.specs.declared.party.Scalar.{Scalar}
-use Rattle.sj_lang.specs.declared.party.Scalar.TheVariants as kinds
 use Rattle.sj_lang.specs.Term.{Term}
 use Rattle.sj_lang.specs.Term as terms
 use Rattle.sj_semantics.specs.declared.Value.{Value}
@@ -36,13 +34,6 @@ value_of (msgs.Int n) = Some (Int n)
 value_of (msgs.Bool b) = Some (Boolean b)
 value_of (msgs.Text n) = Some (Text n)
 value_of _ = None
-
--- the message carries a value of that kind
-abbrev pub is_of_kind : Scalar → Msg → Bool
-is_of_kind kinds.Int (msgs.Int n) = true
-is_of_kind kinds.Boolean (msgs.Bool b) = true
-is_of_kind kinds.Text (msgs.Text n) = true
-is_of_kind _ _ = false
 
 -- the two numbers are one
 abbrev pub is_same_int : ℤ → ℤ → Bool

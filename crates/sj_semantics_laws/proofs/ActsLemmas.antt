@@ -6,7 +6,7 @@ use Rattle.std.proofs.lemmas.Option.{slice_get-get_or}
 use Rattle.sj_base.specs.declared.EndId.{EndId}
 use Rattle.sj_semantics.specs.declared.Passed.{Passed}
 use Rattle.sj_semantics.specs.Ends.{EndAt, Session, is_same_side, is_end, end_on, nowhere, end_at}
-use Rattle.sj_semantics.specs.Uses.{Use, sends, takes, hands_on, used, on_side, after_uses}
+use Rattle.sj_semantics.specs.Uses.{Use, sends, takes, delegates, end_after, on_side, after_uses}
 use Rattle.sj_semantics.specs.Program.{Program}
 use Rattle.sj_semantics.specs.World.{World, Change, change_of_program, changed, act_of}
 use Rattle.sj_semantics.specs.Run.{after_acts}
@@ -31,19 +31,19 @@ end_of_option_same c d f None z h e = cc
 end_of_option_same c d f (Some y) z h e = end_on-on_side_same c d f y e
 
 -- the end after its own use
-pub end_at-touched_same : (p : ℕ) (zs : List Session) (u : EndId × Use) (e : EndId) → is_end u.0 e ≡ true → e.sess < length zs → end_at (touched p zs u) e ≡ used p u.1 (end_at zs e)
+pub end_at-touched_same : (p : ℕ) (zs : List Session) (u : EndId × Use) (e : EndId) → is_end u.0 e ≡ true → e.sess < length zs → end_at (touched p zs u) e ≡ end_after p u.1 (end_at zs e)
 end_at-touched_same p zs u e it lt =
     let parts = and_parts (u.0.sess == e.sess) (is_same_side u.0.side e.side) it in
-    let there : slice_get (touched p zs u) e.sess ≡ option_map (on_side u.0.side (used p u.1)) (slice_get zs e.sess) =
-    subst (λ (t : ℕ). slice_get (touched p zs u) t ≡ option_map (on_side u.0.side (used p u.1)) (slice_get zs t)) (eqb-true u.0.sess e.sess parts.0) (slice_get-altered zs u.0.sess (on_side u.0.side (used p u.1))) in
+    let there : slice_get (touched p zs u) e.sess ≡ option_map (on_side u.0.side (end_after p u.1)) (slice_get zs e.sess) =
+    subst (λ (t : ℕ). slice_get (touched p zs u) t ≡ option_map (on_side u.0.side (end_after p u.1)) (slice_get zs t)) (eqb-true u.0.sess e.sess parts.0) (slice_get-altered zs u.0.sess (on_side u.0.side (end_after p u.1))) in
     ap (λ o. unwrap_or (option_map (end_on e.side) o) nowhere) there
-    ∙ end_of_option_same u.0.side e.side (used p u.1) (slice_get zs e.sess) _ (slice_get-get_or zs e.sess (record { first = nowhere; second = nowhere }) lt) parts.1
+    ∙ end_of_option_same u.0.side e.side (end_after p u.1) (slice_get zs e.sess) _ (slice_get-get_or zs e.sess (record { first = nowhere; second = nowhere }) lt) parts.1
 
 -- ---- the first act of a run
 
 pub length-after_uses : (p : ℕ) (us : List (EndId × Use)) (zs : List Session) → length (after_uses p us zs) ≡ length zs
 length-after_uses p [] zs = refl
-length-after_uses p (u ∷ us) zs = length-after_uses p us (touched p zs u) ∙ length-altered zs u.0.sess (on_side u.0.side (used p u.1))
+length-after_uses p (u ∷ us) zs = length-after_uses p us (touched p zs u) ∙ length-altered zs u.0.sess (on_side u.0.side (end_after p u.1))
 
 -- the first act's change, and the acts behind it
 pub record StepOf (w v : World) (p : ℕ) (ps : List ℕ) : Type 0 where
@@ -75,12 +75,12 @@ length-run w v (p ∷ ps) h = let s = step_of w v p ps h in length-run (changed 
 
 -- what a use puts behind one of the end's lists, where each use of the end does so
 abbrev pub Adds : {X : Type 0} → (EndAt → List X) → (ℕ → Use → List X) → Type 0
-Adds list by = (p : ℕ) (u : Use) (e : EndAt) → list (used p u e) ≡ list e ++ by p u
+Adds list by = (p : ℕ) (u : Use) (e : EndAt) → list (end_after p u e) ≡ list e ++ by p u
 
 sends_add : Adds (λ e. e.sent) sent_by
 sends_add p (sends m) e = refl
 sends_add p (takes m) e = sym (append-nil e.sent)
-sends_add p hands_on e = sym (append-nil e.sent)
+sends_add p delegates e = sym (append-nil e.sent)
 
 abbrev takers_by : ℕ → Use → List ℕ
 takers_by p u = map (λ x. x.by) (taken_by p u)
@@ -88,13 +88,13 @@ takers_by p u = map (λ x. x.by) (taken_by p u)
 takes_add : Adds (λ e. e.takers) takers_by
 takes_add p (takes m) e = refl
 takes_add p (sends m) e = sym (append-nil e.takers)
-takes_add p hands_on e = sym (append-nil e.takers)
+takes_add p delegates e = sym (append-nil e.takers)
 
 -- ---- all uses of an act, and all acts of a run
 
 module _ {X : Type 0} (list : EndAt → List X) (found : ℕ → Use → List Passed) (shown : List Passed → List X)
     (shown-append : (xs ys : List Passed) → shown (xs ++ ys) ≡ shown xs ++ shown ys) (shown-nil : shown [] ≡ [])
-    (adds : (p : ℕ) (u : Use) (e : EndAt) → list (used p u e) ≡ list e ++ shown (found p u)) where
+    (adds : (p : ℕ) (u : Use) (e : EndAt) → list (end_after p u e) ≡ list e ++ shown (found p u)) where
   use_adds : (p : ℕ) (zs : List Session) (u : EndId × Use) (e : EndId) → e.sess < length zs
       → list (end_at (touched p zs u) e) ≡ list (end_at zs e) ++ shown (cond (is_end e u.0) (found p u.1) [])
   use_adds p zs u e lt =
@@ -112,7 +112,7 @@ module _ {X : Type 0} (list : EndAt → List X) (found : ℕ → Use → List Pa
       → list (end_at (after_uses p us zs) e) ≡ list (end_at zs e) ++ shown (uses_on e found p us)
   uses_add p [] zs e lt = sym (append-nil (list (end_at zs e))) ∙ ap (λ ys. list (end_at zs e) ++ ys) (sym shown-nil)
   uses_add p (u ∷ us) zs e lt =
-      uses_add p us (touched p zs u) e (omega (arith, lt, length-altered zs u.0.sess (on_side u.0.side (used p u.1))))
+      uses_add p us (touched p zs u) e (omega (arith, lt, length-altered zs u.0.sess (on_side u.0.side (end_after p u.1))))
       ∙ ap (λ ys. ys ++ shown (uses_on e found p us)) (use_adds p zs u e lt)
       ∙ append_assoc (list (end_at zs e)) (shown (cond (is_end e u.0) (found p u.1) [])) (shown (uses_on e found p us))
       ∙ ap (λ ys. list (end_at zs e) ++ ys) (sym (shown-append (cond (is_end e u.0) (found p u.1) []) (uses_on e found p us)))

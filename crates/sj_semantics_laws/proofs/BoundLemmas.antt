@@ -5,14 +5,14 @@ use Rattle.std.proofs.lemmas.Bool.{eqb-true, eq-eqb, and_parts, and_from, true�
 use Rattle.std.proofs.lemmas.List.Sums.{sum_by-cons, sum_by-le-sum_by}
 use Rattle.sj_base.specs.declared.EndId.{EndId}
 use Rattle.sj_base.specs.declared.Msg.{Msg}
-use Rattle.sj_lang.specs.Code.{Act, send, delegate, take_value, take_end, outbranch, inbranch, outwhile, inwhile, relay, if_else, let_be, close}
+use Rattle.sj_lang.specs.Code.{DeedAt, send, delegate, take_value, take_end, outbranch, inbranch, outwhile, inwhile, relay, if_else, let_be, close}
 use Rattle.sj_semantics.specs.declared.Want.{Want}
 use Rattle.sj_semantics.specs.declared.Want.TheVariants as wants
 use Rattle.sj_semantics.specs.declared.Awaits.{Awaits}
 use Rattle.sj_semantics.specs.Value.{Vars, worth, truth_of}
 use Rattle.sj_lang.specs.FileAt.{named}
 use Rattle.sj_semantics.specs.Program.{Program, Thing, statement, turns, passing}
-use Rattle.sj_semantics.specs.Wants.{want_send, want_delegate, want_take, want_of_act, want_of_todo, want_of}
+use Rattle.sj_semantics.specs.Wants.{want_send, want_delegate, want_take, want_of_deed, want_of_todo, want_of}
 use Rattle.sj_semantics.specs.Ends.{is_same_side, is_end}
 use Rattle.sj_semantics_laws.specs.Bound.{IsBound, AreBound}
 use Rattle.sj_semantics_laws.specs.Unshared.{bindings_of}
@@ -109,7 +109,7 @@ bound_if ends (Some e) h = h e refl
 named_bound_if : (ends : List (ℕ × EndId)) (x : ℕ) → BoundIf ends (named ends x)
 named_bound_if ends x = bound_if ends (named ends x) (named_is_bound ends x)
 
-act_bound : (vars : Vars) (ends : List (ℕ × EndId)) (act : Act) → AreBoundIf ends (want_of_act vars ends act)
+act_bound : (vars : Vars) (ends : List (ℕ × EndId)) (act : DeedAt) → AreBoundIf ends (want_of_deed vars ends act)
 act_bound vars ends (send x e) = send_bound ends (named ends x) _ (named_bound_if ends x)
 act_bound vars ends (delegate x y) = delegate_bound ends (named ends x) (named ends y) (named_bound_if ends x) (named_bound_if ends y)
 act_bound vars ends (take_value x n k) = take_bound ends (named ends x) _ (named_bound_if ends x)

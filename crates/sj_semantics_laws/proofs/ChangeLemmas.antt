@@ -10,7 +10,7 @@ use Rattle.sj_semantics.specs.Program.{Program}
 use Rattle.sj_semantics.specs.Wants.{want_of}
 use Rattle.sj_semantics.specs.Steps.{sent_of}
 use Rattle.sj_semantics.specs.Ends.{Session, EndAt, end_at, next_for}
-use Rattle.sj_semantics.specs.Uses.{sends, hands_on}
+use Rattle.sj_semantics.specs.Uses.{sends, delegates}
 use Rattle.sj_semantics.specs.World.{Change, session_message, change_by_taking, change_by, change_of_program}
 use Rattle.sj_semantics_laws.specs.Bound.{IsBound, AreBound, UsesBound}
 use Rattle.sj_semantics_laws.proofs.BoundLemmas.{want_bound}
@@ -72,7 +72,7 @@ by_stays : (old new : List Session) (p : ℕ) (g : Program) (c : Change) (want :
 by_stays old new p g c wants.Ended b left h = h
 by_stays old new p g c wants.Local b left h = h
 by_stays old new p g c (wants.Send e m) b left h = h
-by_stays old new p g c (wants.Delegate e y) b left h = ap (λ (t : EndAt). cond (nat_lt t.hops 100) (Some (record { program = sent_of g; uses = (y, hands_on) ∷ (e, sends (session_message y p)) ∷ [] })) None) (left.keeps y b.1) ∙ h
+by_stays old new p g c (wants.Delegate e y) b left h = ap (λ (t : EndAt). cond (nat_lt t.hops 100) (Some (record { program = sent_of g; uses = (y, delegates) ∷ (e, sends (session_message y p)) ∷ [] })) None) (left.keeps y b.1) ∙ h
 by_stays old new p g c (wants.Take e a) b left h = taking_stays g e c (next_for old e) (next_for new e) (λ x. left.next e x b) h
 by_stays old new p g c (wants.Close e) b left h = h
 

@@ -4,11 +4,11 @@ use Rattle.std.proofs.lemmas.Bool.{cases_Bool}
 use Rattle.std.proofs.lemmas.List.Sums.{sum_by-cons, sum_by_push}
 use Rattle.sj_base.specs.declared.EndId.{EndId}
 use Rattle.sj_base.specs.declared.Msg.{Msg}
-use Rattle.sj_semantics.specs.Program.{without, bound}
+use Rattle.sj_semantics.specs.Program.{ends_without, ends_with}
 use Rattle.sj_semantics.specs.declared.Passed.{Passed}
 use Rattle.sj_lang.specs.FileAt.{named}
 use Rattle.sj_semantics.specs.Ends.{Session, end_on, other_side, nowhere, next_for, is_end}
-use Rattle.sj_semantics.specs.Uses.{sends, takes, hands_on, used, on_side}
+use Rattle.sj_semantics.specs.Uses.{sends, takes, delegates, end_after, on_side}
 use Rattle.sj_semantics_laws.specs.Unshared.{bindings_of, names_end, carried_in}
 use Rattle.sj_semantics_laws.proofs.AlteredLemmas.{sum_by-altered, sum_by-altered_le}
 use Rattle.sj_semantics_laws.proofs.EndLemmas.{touched}
@@ -19,25 +19,25 @@ one_if b = cond b 1 0
 
 -- ---- bindings
 
-keeps_name : (n : ℕ) (b : ℕ × EndId) (bs : List (ℕ × EndId)) → b.0 == n ≡ false → without (b ∷ bs) n ≡ b ∷ without bs n
-keeps_name n b bs h = ap (λ (t : Bool). cond (not t) (b ∷ without bs n) (without bs n)) h
+keeps_name : (n : ℕ) (b : ℕ × EndId) (bs : List (ℕ × EndId)) → b.0 == n ≡ false → ends_without (b ∷ bs) n ≡ b ∷ ends_without bs n
+keeps_name n b bs h = ap (λ (t : Bool). cond (not t) (b ∷ ends_without bs n) (ends_without bs n)) h
 
-drops_name : (n : ℕ) (b : ℕ × EndId) (bs : List (ℕ × EndId)) → b.0 == n ≡ true → without (b ∷ bs) n ≡ without bs n
-drops_name n b bs h = ap (λ (t : Bool). cond (not t) (b ∷ without bs n) (without bs n)) h
+drops_name : (n : ℕ) (b : ℕ × EndId) (bs : List (ℕ × EndId)) → b.0 == n ≡ true → ends_without (b ∷ bs) n ≡ ends_without bs n
+drops_name n b bs h = ap (λ (t : Bool). cond (not t) (b ∷ ends_without bs n) (ends_without bs n)) h
 
 bindings_of-cons : (e : EndId) (b : ℕ × EndId) (bs : List (ℕ × EndId)) → bindings_of e (b ∷ bs) ≡ one_if (is_end e b.1) + bindings_of e bs
 bindings_of-cons e b bs = sum_by-cons (λ (c : ℕ × EndId). cond (is_end e c.1) 1 0) b bs
 
-pub bindings_of-without_le : (e : EndId) (bs : List (ℕ × EndId)) (n : ℕ) → bindings_of e (without bs n) ≤ bindings_of e bs
+pub bindings_of-without_le : (e : EndId) (bs : List (ℕ × EndId)) (n : ℕ) → bindings_of e (ends_without bs n) ≤ bindings_of e bs
 bindings_of-without_le e [] n = omega arith
 bindings_of-without_le e (b ∷ bs) n =
     elim (cases_Bool (b.0 == n)) [
       | inl hit ↦ omega (arith, ap (bindings_of e) (drops_name n b bs hit), bindings_of-cons e b bs, bindings_of-without_le e bs n)
-      | inr miss ↦ omega (arith, ap (bindings_of e) (keeps_name n b bs miss), bindings_of-cons e b bs, bindings_of-cons e b (without bs n), bindings_of-without_le e bs n)
+      | inr miss ↦ omega (arith, ap (bindings_of e) (keeps_name n b bs miss), bindings_of-cons e b bs, bindings_of-cons e b (ends_without bs n), bindings_of-without_le e bs n)
     ]
 
 -- a name that is gone frees its end
-pub bindings_of-without : (e : EndId) (bs : List (ℕ × EndId)) (n : ℕ) (y : EndId) → named bs n ≡ Some y → bindings_of e (without bs n) + one_if (is_end e y) ≤ bindings_of e bs
+pub bindings_of-without : (e : EndId) (bs : List (ℕ × EndId)) (n : ℕ) (y : EndId) → named bs n ≡ Some y → bindings_of e (ends_without bs n) + one_if (is_end e y) ≤ bindings_of e bs
 bindings_of-without e [] n y h = cc
 bindings_of-without e (b ∷ bs) n y h =
     elim (cases_Bool (b.0 == n)) [
@@ -47,11 +47,11 @@ bindings_of-without e (b ∷ bs) n y h =
           omega (arith, ap (bindings_of e) (drops_name n b bs hit), bindings_of-cons e b bs, bindings_of-without_le e bs n, ap (λ t. one_if (is_end e t)) it)
       | inr miss ↦
           let later : named bs n ≡ Some y = ap (λ (t : Bool). cond t (Some b.1) (named bs n)) (sym miss) ∙ h in
-          omega (arith, ap (bindings_of e) (keeps_name n b bs miss), bindings_of-cons e b bs, bindings_of-cons e b (without bs n), bindings_of-without e bs n y later)
+          omega (arith, ap (bindings_of e) (keeps_name n b bs miss), bindings_of-cons e b bs, bindings_of-cons e b (ends_without bs n), bindings_of-without e bs n y later)
     ]
 
-pub bindings_of-bound : (e : EndId) (bs : List (ℕ × EndId)) (n : ℕ) (y : EndId) → bindings_of e (bound bs n y) ≤ bindings_of e bs + one_if (is_end e y)
-bindings_of-bound e bs n y = omega (arith, sum_by_push (λ (c : ℕ × EndId). cond (is_end e c.1) 1 0) (without bs n) (n, y), bindings_of-without_le e bs n)
+pub bindings_of-bound : (e : EndId) (bs : List (ℕ × EndId)) (n : ℕ) (y : EndId) → bindings_of e (ends_with bs n y) ≤ bindings_of e bs + one_if (is_end e y)
+bindings_of-bound e bs n y = omega (arith, sum_by_push (λ (c : ℕ × EndId). cond (is_end e c.1) 1 0) (ends_without bs n) (n, y), bindings_of-without_le e bs n)
 
 -- ---- messages on their way
 
@@ -73,16 +73,16 @@ length-push (x ∷ xs) p = ap suc (length-push xs p)
 abbrev weight : EndId → Passed → ℕ
 weight e x = cond (names_end e x.msg) 1 0
 
-sends_more : (e : EndId) (p : ℕ) (m : Msg) (side : ℕ) (z : Session) → carried_in e (on_side side (used p (sends m)) z) ≤ carried_in e z + one_if (names_end e m)
+sends_more : (e : EndId) (p : ℕ) (m : Msg) (side : ℕ) (z : Session) → carried_in e (on_side side (end_after p (sends m)) z) ≤ carried_in e z + one_if (names_end e m)
 sends_more e p m zero z = omega (arith, sum_by-drop_push (weight e) (length z.second.takers) z.first.sent (record { msg = m; by = p }))
 sends_more e p m (suc side) z = omega (arith, sum_by-drop_push (weight e) (length z.first.takers) z.second.sent (record { msg = m; by = p }))
 
-hands_on_same : (e : EndId) (p : ℕ) (side : ℕ) (z : Session) → carried_in e (on_side side (used p hands_on) z) ≡ carried_in e z
+hands_on_same : (e : EndId) (p : ℕ) (side : ℕ) (z : Session) → carried_in e (on_side side (end_after p delegates) z) ≡ carried_in e z
 hands_on_same e p zero z = refl
 hands_on_same e p (suc side) z = refl
 
 takes_less : (e : EndId) (p : ℕ) (x : Passed) (side : ℕ) (z : Session) → slice_get (end_on (other_side side) z).sent (length (end_on side z).takers) ≡ Some x
-    → carried_in e (on_side side (used p (takes x.msg)) z) + one_if (names_end e x.msg) ≡ carried_in e z
+    → carried_in e (on_side side (end_after p (takes x.msg)) z) + one_if (names_end e x.msg) ≡ carried_in e z
 takes_less e p x zero z h =
     omega (arith, sum_by-drop_suc (weight e) (length z.first.takers) z.second.sent x h, ap (λ k. sum_by (weight e) (drop k z.second.sent)) (length-push z.first.takers p))
 takes_less e p x (suc side) z h =
@@ -91,18 +91,18 @@ takes_less e p x (suc side) z h =
 -- ---- the same over all sessions
 
 pub carried-sends : (e : EndId) (p : ℕ) (zs : List Session) (f : EndId) (m : Msg) → sum_by (carried_in e) (touched p zs (f, sends m)) ≤ sum_by (carried_in e) zs + one_if (names_end e m)
-carried-sends e p zs f m = sum_by-altered_le (carried_in e) (one_if (names_end e m)) zs f.sess (on_side f.side (used p (sends m))) (λ z there. sends_more e p m f.side z)
+carried-sends e p zs f m = sum_by-altered_le (carried_in e) (one_if (names_end e m)) zs f.sess (on_side f.side (end_after p (sends m))) (λ z there. sends_more e p m f.side z)
 
-pub carried-hands_on : (e : EndId) (p : ℕ) (zs : List Session) (f : EndId) → sum_by (carried_in e) (touched p zs (f, hands_on)) ≤ sum_by (carried_in e) zs
+pub carried-hands_on : (e : EndId) (p : ℕ) (zs : List Session) (f : EndId) → sum_by (carried_in e) (touched p zs (f, delegates)) ≤ sum_by (carried_in e) zs
 carried-hands_on e p zs f =
-    omega (arith, sum_by-altered_le (carried_in e) 0 zs f.sess (on_side f.side (used p hands_on)) (λ z there. omega (arith, hands_on_same e p f.side z)))
+    omega (arith, sum_by-altered_le (carried_in e) 0 zs f.sess (on_side f.side (end_after p delegates)) (λ z there. omega (arith, hands_on_same e p f.side z)))
 
 takes_from : (e : EndId) (p : ℕ) (zs : List Session) (f : EndId) (x : Passed) (o : Option Session) → slice_get zs f.sess ≡ o
     → slice_get (unwrap_or (option_map (end_on (other_side f.side)) o) nowhere).sent (length (unwrap_or (option_map (end_on f.side) o) nowhere).takers) ≡ Some x
     → sum_by (carried_in e) (touched p zs (f, takes x.msg)) + one_if (names_end e x.msg) ≤ sum_by (carried_in e) zs
 takes_from e p zs f x None there h = cc
 takes_from e p zs f x (Some z) there h =
-    omega (arith, takes_less e p x f.side z h, sum_by-altered (carried_in e) zs f.sess (on_side f.side (used p (takes x.msg))) z there)
+    omega (arith, takes_less e p x f.side z h, sum_by-altered (carried_in e) zs f.sess (on_side f.side (end_after p (takes x.msg))) z there)
 
 pub carried-takes : (e : EndId) (p : ℕ) (zs : List Session) (f : EndId) (x : Passed) → next_for zs f ≡ Some x → sum_by (carried_in e) (touched p zs (f, takes x.msg)) + one_if (names_end e x.msg) ≤ sum_by (carried_in e) zs
 carried-takes e p zs f x h = takes_from e p zs f x (slice_get zs f.sess) refl h

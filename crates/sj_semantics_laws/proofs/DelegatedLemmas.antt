@@ -10,9 +10,8 @@ use Rattle.sj_semantics.specs.declared.Want.TheVariants as wants
 use Rattle.sj_semantics.specs.Ends.{end_at}
 use Rattle.sj_semantics.specs.Program.{Program}
 use Rattle.sj_semantics.specs.Run.{IsRun, after_acts}
-use Rattle.sj_semantics.specs.Start.{session_of, program_of, programs_from, start_of}
+use Rattle.sj_semantics.specs.World.{session_of, program_of, programs_from, start_of, World, act_of, session_message}
 use Rattle.sj_semantics.specs.Wants.{want_of}
-use Rattle.sj_semantics.specs.World.{World, act_of, session_message}
 use Rattle.sj_semantics_laws.specs.Runs.{IsBoundAt, IsBoundNowhere, IsUntaken}
 use Rattle.sj_semantics_laws.specs.Unshared.{bindings_of}
 use Rattle.sj_semantics_laws.proofs.ActsLemmas.{length-run}

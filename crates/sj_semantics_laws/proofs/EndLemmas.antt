@@ -4,12 +4,12 @@ use Rattle.std.proofs.lemmas.Bool.{cases_eq, and_cases, eqb-false}
 use Rattle.sj_base.specs.declared.EndId.{EndId}
 use Rattle.sj_semantics.specs.declared.Passed.{Passed}
 use Rattle.sj_semantics.specs.Ends.{Session, EndAt, end_on, other_end, nowhere, end_at, next_for, is_same_side, is_end}
-use Rattle.sj_semantics.specs.Uses.{Use, sends, takes, hands_on, used, altered, on_side, after_uses}
+use Rattle.sj_semantics.specs.Uses.{Use, sends, takes, delegates, end_after, altered, on_side, after_uses}
 use Rattle.sj_semantics_laws.proofs.AlteredLemmas.{altered_comm, altered-altered, slice_get-altered_other, slice_get-altered}
 
 -- the sessions after one use
 abbrev pub touched : ℕ → List Session → EndId × Use → List Session
-touched p zs u = altered zs u.0.sess (on_side u.0.side (used p u.1))
+touched p zs u = altered zs u.0.sess (on_side u.0.side (end_after p u.1))
 
 on_side_comm : (c d : ℕ) (f g : EndAt → EndAt) (z : Session) → is_same_side c d ≡ false → on_side d g (on_side c f z) ≡ on_side c f (on_side d g z)
 on_side_comm zero zero f g z e = cc
@@ -27,10 +27,10 @@ touched_comm p q zs u v apart =
       | inl same ↦
           elim (and_cases (u.0.sess == v.0.sess) (is_same_side u.0.side v.0.side) apart) [
             | inl not_same ↦ absurd (eqb-false _ _ not_same same)
-            | inr sides ↦ subst (λ (t : ℕ). altered (altered zs u.0.sess (on_side u.0.side (used p u.1))) t (on_side v.0.side (used q v.1)) ≡ altered (altered zs t (on_side v.0.side (used q v.1))) u.0.sess (on_side u.0.side (used p u.1))) same
-                (altered-on_side_comm zs u.0.sess u.0.side v.0.side (used p u.1) (used q v.1) sides)
+            | inr sides ↦ subst (λ (t : ℕ). altered (altered zs u.0.sess (on_side u.0.side (end_after p u.1))) t (on_side v.0.side (end_after q v.1)) ≡ altered (altered zs t (on_side v.0.side (end_after q v.1))) u.0.sess (on_side u.0.side (end_after p u.1))) same
+                (altered-on_side_comm zs u.0.sess u.0.side v.0.side (end_after p u.1) (end_after q v.1) sides)
           ]
-      | inr other ↦ altered_comm zs u.0.sess v.0.sess (on_side u.0.side (used p u.1)) (on_side v.0.side (used q v.1)) other
+      | inr other ↦ altered_comm zs u.0.sess v.0.sess (on_side u.0.side (end_after p u.1)) (on_side v.0.side (end_after q v.1)) other
     ]
 
 -- none of the uses is of the end
@@ -71,10 +71,10 @@ end_at-touched_other p zs u e apart =
           elim (and_cases (u.0.sess == e.sess) (is_same_side u.0.side e.side) apart) [
             | inl not_same ↦ absurd (eqb-false _ _ not_same same)
             | inr sides ↦
-                ap (λ o. unwrap_or (option_map (end_on e.side) o) nowhere) (subst (λ (t : ℕ). slice_get (touched p zs u) t ≡ option_map (on_side u.0.side (used p u.1)) (slice_get zs t)) same (slice_get-altered zs u.0.sess (on_side u.0.side (used p u.1))))
-                ∙ end_of_option_other u.0.side e.side (used p u.1) (slice_get zs e.sess) sides
+                ap (λ o. unwrap_or (option_map (end_on e.side) o) nowhere) (subst (λ (t : ℕ). slice_get (touched p zs u) t ≡ option_map (on_side u.0.side (end_after p u.1)) (slice_get zs t)) same (slice_get-altered zs u.0.sess (on_side u.0.side (end_after p u.1))))
+                ∙ end_of_option_other u.0.side e.side (end_after p u.1) (slice_get zs e.sess) sides
           ]
-      | inr other ↦ ap (λ o. unwrap_or (option_map (end_on e.side) o) nowhere) (slice_get-altered_other zs u.0.sess e.sess (on_side u.0.side (used p u.1)) other)
+      | inr other ↦ ap (λ o. unwrap_or (option_map (end_on e.side) o) nowhere) (slice_get-altered_other zs u.0.sess e.sess (on_side u.0.side (end_after p u.1)) other)
     ]
 
 pub end_at-after_uses_other : (p : ℕ) (us : List (EndId × Use)) (zs : List Session) (e : EndId) → IsUnusedBy e us → end_at (after_uses p us zs) e ≡ end_at zs e
@@ -92,19 +92,19 @@ slice_get-append [] ys k x e = cc
 slice_get-append (a ∷ xs) ys zero x e = e
 slice_get-append (a ∷ xs) ys (suc k) x e = slice_get-append xs ys k x e
 
-used_extends : (p : ℕ) (u : Use) (e : EndAt) → Extends (used p u e).sent e.sent
+used_extends : (p : ℕ) (u : Use) (e : EndAt) → Extends (end_after p u e).sent e.sent
 used_extends p (sends m) e = slice_get-append e.sent _
 used_extends p (takes m) e = λ k x h. h
-used_extends p hands_on e = λ k x h. h
+used_extends p delegates e = λ k x h. h
 
-end_on_extends : (p : ℕ) (u : Use) (c d : ℕ) (z : Session) → Extends (end_on d (on_side c (used p u) z)).sent (end_on d z).sent
+end_on_extends : (p : ℕ) (u : Use) (c d : ℕ) (z : Session) → Extends (end_on d (on_side c (end_after p u) z)).sent (end_on d z).sent
 end_on_extends p u zero zero z = used_extends p u z.first
 end_on_extends p u zero (suc d) z = λ k x h. h
 end_on_extends p u (suc c) zero z = λ k x h. h
 end_on_extends p u (suc c) (suc d) z = used_extends p u z.second
 
 end_of_option_extends : (p : ℕ) (u : Use) (c d : ℕ) (o : Option Session)
-    → Extends (unwrap_or (option_map (end_on d) (option_map (on_side c (used p u)) o)) nowhere).sent (unwrap_or (option_map (end_on d) o) nowhere).sent
+    → Extends (unwrap_or (option_map (end_on d) (option_map (on_side c (end_after p u)) o)) nowhere).sent (unwrap_or (option_map (end_on d) o) nowhere).sent
 end_of_option_extends p u c d None = λ k x h. h
 end_of_option_extends p u c d (Some z) = end_on_extends p u c d z
 
@@ -113,11 +113,11 @@ end_at-touched_extends p zs u e =
     elim (cases_eq u.0.sess e.sess) [
       | inl same ↦
           subst (λ (o : Option Session). Extends (unwrap_or (option_map (end_on e.side) o) nowhere).sent (end_at zs e).sent)
-          (sym (subst (λ (t : ℕ). slice_get (touched p zs u) t ≡ option_map (on_side u.0.side (used p u.1)) (slice_get zs t)) same (slice_get-altered zs u.0.sess (on_side u.0.side (used p u.1)))))
+          (sym (subst (λ (t : ℕ). slice_get (touched p zs u) t ≡ option_map (on_side u.0.side (end_after p u.1)) (slice_get zs t)) same (slice_get-altered zs u.0.sess (on_side u.0.side (end_after p u.1)))))
           (end_of_option_extends p u.1 u.0.side e.side (slice_get zs e.sess))
       | inr other ↦
           subst (λ (o : Option Session). Extends (unwrap_or (option_map (end_on e.side) o) nowhere).sent (end_at zs e).sent)
-          (sym (slice_get-altered_other zs u.0.sess e.sess (on_side u.0.side (used p u.1)) other)) (λ k x h. h)
+          (sym (slice_get-altered_other zs u.0.sess e.sess (on_side u.0.side (end_after p u.1)) other)) (λ k x h. h)
     ]
 
 pub end_at-after_uses_extends : (p : ℕ) (us : List (EndId × Use)) (zs : List Session) (e : EndId) → Extends (end_at (after_uses p us zs) e).sent (end_at zs e).sent

@@ -2,8 +2,7 @@
 use Rattle.std.proofs.Common.{◌≡◌, ℕ, zero, suc, ◌+◌, ◌*◌, ◌≤◌, List, [], ◌∷◌, length, sum_by, refl, ap, sym, ◌∙◌, arith, subst}
 use Rattle.std.proofs.lemmas.List.Sums.{sum_by-cons}
 use Rattle.sj_lang.specs.FileAt.{FileAt, PartyAt}
-use Rattle.sj_semantics.specs.World.{World}
-use Rattle.sj_semantics.specs.Start.{program_of, programs_from, start_of}
+use Rattle.sj_semantics.specs.World.{World, program_of, programs_from, start_of}
 use Rattle.sj_semantics.specs.State.{IsSettled}
 use Rattle.sj_semantics.specs.Run.{turn_of_each, rounds, end_of}
 use Rattle.sj_semantics_laws.proofs.RunLemmas.{Leads, no_acts, leads_trans}

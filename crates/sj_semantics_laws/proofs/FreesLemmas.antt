@@ -3,7 +3,7 @@ use Rattle.std.proofs.Common.{◌≡◌, ℕ, zero, suc, ◌+◌, ◌≤◌, fal
 use Rattle.std.specs.Bool.{⊤}
 use Rattle.sj_base.specs.declared.EndId.{EndId}
 use Rattle.sj_base.specs.declared.Msg.{Msg}
-use Rattle.sj_lang.specs.Code.{Act, send, delegate, take_value, take_end, outbranch, inbranch, outwhile, inwhile, relay, if_else, let_be, close}
+use Rattle.sj_lang.specs.Code.{DeedAt, send, delegate, take_value, take_end, outbranch, inbranch, outwhile, inwhile, relay, if_else, let_be, close}
 use Rattle.sj_semantics.specs.declared.Want.{Want}
 use Rattle.sj_semantics.specs.declared.Want.TheVariants as wants
 use Rattle.sj_semantics.specs.declared.Awaits.{Awaits}
@@ -12,7 +12,7 @@ use Rattle.sj_semantics.specs.declared.Value.TheVariants.{Int, Boolean, Text}
 use Rattle.sj_semantics.specs.Value.{Vars, message_of, worth, truth_of, turns_of}
 use Rattle.sj_lang.specs.FileAt.{named}
 use Rattle.sj_semantics.specs.Program.{Program, Thing, statement, turns, passing}
-use Rattle.sj_semantics.specs.Wants.{want_send, want_delegate, want_take, more_turns, want_of_act, want_of_todo, want_of}
+use Rattle.sj_semantics.specs.Wants.{want_send, want_delegate, want_take, more_turns, want_of_deed, want_of_todo, want_of}
 use Rattle.sj_semantics.specs.Steps.{ends_after_sent, ends_after_closed}
 use Rattle.sj_semantics.specs.Ends.{is_end}
 use Rattle.sj_semantics_laws.specs.Unshared.{bindings_of, names_end}
@@ -73,7 +73,7 @@ delegate_frees e ends x y rest (Some f) (Some g) h = bindings_of-without e ends 
 delegate_frees e ends x y rest (Some f) None h = tt
 delegate_frees e ends x y rest None q h = tt
 
-act_frees : (e : EndId) (vars : Vars) (ends : List (ℕ × EndId)) (act : Act) (rest : List Thing) → FreesIf e ends (statement act ∷ rest) (want_of_act vars ends act)
+act_frees : (e : EndId) (vars : Vars) (ends : List (ℕ × EndId)) (act : DeedAt) (rest : List Thing) → FreesIf e ends (statement act ∷ rest) (want_of_deed vars ends act)
 act_frees e vars ends (send x v) rest = send_value_frees e ends (statement (send x v) ∷ rest) (named ends x) (worth vars v)
 act_frees e vars ends (delegate x y) rest = delegate_frees e ends x y rest (named ends x) (named ends y) refl
 act_frees e vars ends (take_value x n k) rest = take_frees e ends (statement (take_value x n k) ∷ rest) (named ends x) _

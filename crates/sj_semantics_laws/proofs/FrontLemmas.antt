@@ -9,7 +9,7 @@ use Rattle.sj_semantics.specs.declared.Passed.{Passed}
 use Rattle.sj_semantics.specs.Program.{Program}
 use Rattle.sj_semantics.specs.Steps.{local_of, sent_of, closed_of}
 use Rattle.sj_semantics.specs.Ends.{EndAt, Session, is_same_side, is_end, end_on, other_side, other_end, nowhere, end_at, next_for}
-use Rattle.sj_semantics.specs.Uses.{Use, sends, hands_on}
+use Rattle.sj_semantics.specs.Uses.{Use, sends, delegates}
 use Rattle.sj_semantics.specs.World.{Change, session_message, change_by_taking, change_by}
 use Rattle.sj_semantics.specs.Acts.{uses_on, taken_by}
 use Rattle.sj_semantics_laws.proofs.EndLemmas.{Extends}
@@ -106,7 +106,7 @@ by_taking zs e p g c wants.Ended h = cc
 by_taking zs e p g c wants.Local h = taking_if zs e p true (record { program = local_of g; uses = [] }) c (none_taken refl) h
 by_taking zs e p g c (wants.Send f m) h = taking_if zs e p true (record { program = sent_of g; uses = (f, sends m) ∷ [] }) c (none_taken (ap (λ xs. xs ++ []) (nothing_either_way (is_end e f)))) h
 by_taking zs e p g c (wants.Delegate f y) h =
-    taking_if zs e p (nat_lt (end_at zs y).hops 100) (record { program = sent_of g; uses = (y, hands_on) ∷ (f, sends (session_message y p)) ∷ [] }) c
+    taking_if zs e p (nat_lt (end_at zs y).hops 100) (record { program = sent_of g; uses = (y, delegates) ∷ (f, sends (session_message y p)) ∷ [] }) c
     (none_taken (ap (λ xs. xs ++ (cond (is_end e f) [] [] ++ [])) (nothing_either_way (is_end e y)) ∙ ap (λ xs. xs ++ []) (nothing_either_way (is_end e f)))) h
 by_taking zs e p g c (wants.Take f a) h = taking_option zs e p g f c (next_for zs f) refl h
 by_taking zs e p g c (wants.Close f) h = taking_if zs e p true (record { program = closed_of g; uses = [] }) c (none_taken refl) h

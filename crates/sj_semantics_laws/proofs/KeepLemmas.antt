@@ -11,7 +11,7 @@ use Rattle.sj_semantics.specs.Program.{Program, Thing, statement, turns, passing
 use Rattle.sj_semantics.specs.Steps.{ends_after_sent, ends_after_took, ends_after_closed, local_of, sent_of, closed_of}
 use Rattle.sj_semantics.specs.World.{World, Change, session_message, change_by_taking, change_by, changed, act_of}
 use Rattle.sj_semantics.specs.Ends.{Session, end_at, next_for}
-use Rattle.sj_semantics.specs.Uses.{sends, hands_on, after_uses}
+use Rattle.sj_semantics.specs.Uses.{sends, delegates, after_uses}
 use Rattle.sj_semantics_laws.specs.Unshared.{bindings_of, names_end, carried_in, claims_on, IsUnshared}
 use Rattle.sj_semantics_laws.proofs.AlteredLemmas.{sum_by-altered}
 use Rattle.sj_semantics_laws.proofs.EndLemmas.{touched}
@@ -104,8 +104,8 @@ by_keeps e p zs g d (wants.Send x m) f h =
     cond_keeps e p zs g true (record { program = sent_of g; uses = (x, sends m) ∷ [] }) d
     (omega (arith, sent_le e g.ends g.todo, carried-sends e p zs x m, ap {B = ℕ} one_if f)) h
 by_keeps e p zs g d (wants.Delegate x y) f h =
-    cond_keeps e p zs g (nat_lt (end_at zs y).hops 100) (record { program = sent_of g; uses = (y, hands_on) ∷ (x, sends (session_message y p)) ∷ [] }) d
-    (omega (arith, f, carried-hands_on e p zs y, carried-sends e p (touched p zs (y, hands_on)) x (session_message y p))) h
+    cond_keeps e p zs g (nat_lt (end_at zs y).hops 100) (record { program = sent_of g; uses = (y, delegates) ∷ (x, sends (session_message y p)) ∷ [] }) d
+    (omega (arith, f, carried-hands_on e p zs y, carried-sends e p (touched p zs (y, delegates)) x (session_message y p))) h
 by_keeps e p zs g d (wants.Take x a) f h = taking_keeps e p zs g d x (next_for zs x) refl h
 by_keeps e p zs g d (wants.Close x) f h =
     cond_keeps e p zs g true (record { program = closed_of g; uses = [] }) d (omega (arith, closed_le e g.ends g.todo)) h

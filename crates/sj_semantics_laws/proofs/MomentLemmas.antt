@@ -7,10 +7,9 @@ use Rattle.sj_semantics.specs.declared.State.TheVariants as states
 use Rattle.sj_semantics.specs.declared.Want.TheVariants as wants
 use Rattle.sj_semantics.specs.Program.{Program}
 use Rattle.sj_semantics.specs.Run.{IsRun, after_acts}
-use Rattle.sj_semantics.specs.Start.{start_of}
+use Rattle.sj_semantics.specs.World.{start_of, World, act_of}
 use Rattle.sj_semantics.specs.State.{state_of}
 use Rattle.sj_semantics.specs.Wants.{want_of}
-use Rattle.sj_semantics.specs.World.{World, act_of}
 use Rattle.sj_semantics_laws.specs.Runs.{IsBoundAt, IsBoundNowhere, IsNoneOf}
 use Rattle.sj_semantics_laws.specs.Unshared.{bindings_of, claims_on, IsUnshared}
 use Rattle.sj_semantics_laws.proofs.AlteredLemmas.{one-le-sum_by}

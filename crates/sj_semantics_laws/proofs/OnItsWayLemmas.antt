@@ -10,7 +10,7 @@ use Rattle.sj_semantics.specs.Ends.{Session, EndAt, end_on, other_side, nowhere,
 use Rattle.sj_semantics.specs.Program.{Program}
 use Rattle.sj_semantics.specs.Run.{after_acts}
 use Rattle.sj_semantics.specs.Steps.{sent_of}
-use Rattle.sj_semantics.specs.Uses.{sends, hands_on, used, on_side, after_uses}
+use Rattle.sj_semantics.specs.Uses.{sends, delegates, end_after, on_side, after_uses}
 use Rattle.sj_semantics.specs.Wants.{want_of}
 use Rattle.sj_semantics.specs.World.{World, Change, session_message, change_by, changed, act_of}
 use Rattle.sj_semantics_laws.specs.Runs.{IsBoundNowhere, IsUntaken}
@@ -55,11 +55,11 @@ on_its_way w e f n x one untaken there names =
 -- ---- the act that delegates
 
 -- handing an end on sends nothing
-hands_on_sends_none : (p : ℕ) (zs : List Session) (y e : EndId) → e.sess < length zs → (end_at (touched p zs (y, hands_on)) e).sent ≡ (end_at zs e).sent
+hands_on_sends_none : (p : ℕ) (zs : List Session) (y e : EndId) → e.sess < length zs → (end_at (touched p zs (y, delegates)) e).sent ≡ (end_at zs e).sent
 hands_on_sends_none p zs y e lt =
     elim (cases_Bool (is_end y e)) [
-      | inl it ↦ ap (λ (t : EndAt). t.sent) (end_at-touched_same p zs (y, hands_on) e it lt)
-      | inr other ↦ ap (λ (t : EndAt). t.sent) (end_at-touched_other p zs (y, hands_on) e other)
+      | inl it ↦ ap (λ (t : EndAt). t.sent) (end_at-touched_same p zs (y, delegates) e it lt)
+      | inr other ↦ ap (λ (t : EndAt). t.sent) (end_at-touched_other p zs (y, delegates) e other)
     ]
 
 push_there : (xs : List Passed) (x : Passed) → slice_get (xs ++ x ∷ []) (length xs) ≡ Some x
@@ -68,16 +68,16 @@ push_there (y ∷ xs) x = push_there xs x
 
 -- the session message stands behind what was sent before
 session_message_sent : (p : ℕ) (zs : List Session) (e y : EndId) → e.sess < length zs
-    → slice_get (end_at (after_uses p ((y, hands_on) ∷ (e, sends (session_message y p)) ∷ []) zs) e).sent (length (end_at zs e).sent) ≡ Some (record { msg = session_message y p; by = p })
+    → slice_get (end_at (after_uses p ((y, delegates) ∷ (e, sends (session_message y p)) ∷ []) zs) e).sent (length (end_at zs e).sent) ≡ Some (record { msg = session_message y p; by = p })
 session_message_sent p zs e y lt =
-    let zs2 = touched p zs (y, hands_on) in
+    let zs2 = touched p zs (y, delegates) in
     let x : Passed = record { msg = session_message y p; by = p } in
     let all : (end_at (touched p zs2 (e, sends (session_message y p))) e).sent ≡ (end_at zs e).sent ++ x ∷ [] =
-    ap (λ (t : EndAt). t.sent) (end_at-touched_same p zs2 (e, sends (session_message y p)) e (is_end-self e) (omega (arith, lt, length-altered zs y.sess (on_side y.side (used p hands_on)))))
+    ap (λ (t : EndAt). t.sent) (end_at-touched_same p zs2 (e, sends (session_message y p)) e (is_end-self e) (omega (arith, lt, length-altered zs y.sess (on_side y.side (end_after p delegates)))))
     ∙ ap (λ xs. xs ++ x ∷ []) (hands_on_sends_none p zs y e lt) in
     ap (λ xs. slice_get xs (length (end_at zs e).sent)) all ∙ push_there (end_at zs e).sent x
 
-sent_if : (zs : List Session) (p : ℕ) (e y : EndId) (b : Bool) (c d : Change) → c.uses ≡ (y, hands_on) ∷ (e, sends (session_message y p)) ∷ [] → e.sess < length zs → cond b (Some c) None ≡ Some d
+sent_if : (zs : List Session) (p : ℕ) (e y : EndId) (b : Bool) (c d : Change) → c.uses ≡ (y, delegates) ∷ (e, sends (session_message y p)) ∷ [] → e.sess < length zs → cond b (Some c) None ≡ Some d
     → slice_get (end_at (after_uses p d.uses zs) e).sent (length (end_at zs e).sent) ≡ Some (record { msg = session_message y p; by = p })
 sent_if zs p e y true c d uses lt h =
     let it : c ≡ d = cc in
@@ -94,7 +94,7 @@ delegating_sends w v p g e y there wants_it lt h =
     let same : r.want ≡ wants.Delegate e y = (let both : Some r.want ≡ Some (wants.Delegate e y) = sym r.wants_it ∙ ap want_of it ∙ wants_it in cc) in
     let made = subst (λ (t : Want). change_by w.sessions p a.program t ≡ Some a.change) same r.by_it in
     subst (λ (t : World). slice_get (end_at t.sessions e).sent (length (end_at w.sessions e).sent) ≡ Some (record { msg = session_message y p; by = p })) a.result
-    (sent_if w.sessions p e y (nat_lt (end_at w.sessions y).hops 100) (record { program = sent_of a.program; uses = (y, hands_on) ∷ (e, sends (session_message y p)) ∷ [] }) a.change refl lt made)
+    (sent_if w.sessions p e y (nat_lt (end_at w.sessions y).hops 100) (record { program = sent_of a.program; uses = (y, delegates) ∷ (e, sends (session_message y p)) ∷ [] }) a.change refl lt made)
 
 -- what was sent stays sent
 pub acts_extend : (w v : World) (ps : List ℕ) (e : EndId) → after_acts w ps ≡ Some v → Extends (end_at v.sessions e).sent (end_at w.sessions e).sent

@@ -10,7 +10,7 @@ use Rattle.sj_semantics.specs.Program.{Program}
 use Rattle.sj_semantics.specs.Steps.{local_of, sent_of, closed_of}
 use Rattle.sj_semantics.specs.World.{World, Change, session_message, change_by_taking, change_by, changed, act_of}
 use Rattle.sj_semantics.specs.Ends.{Session, end_at, next_for}
-use Rattle.sj_semantics.specs.Uses.{sends, hands_on}
+use Rattle.sj_semantics.specs.Uses.{sends, delegates}
 use Rattle.sj_semantics.specs.State.{IsSettled}
 use Rattle.sj_semantics.specs.Run.{or_on, as_long_as_ready, turn_of_each}
 use Rattle.sj_semantics_laws.proofs.AlteredLemmas.{sum_by-altered, length-altered}
@@ -40,7 +40,7 @@ by_steps : (p : ℕ) (zs : List Session) (g : Program) (d : Change) (want : Want
 by_steps p zs g d wants.Ended h = cc
 by_steps p zs g d wants.Local h = cond_steps g true (record { program = local_of g; uses = [] }) d refl h
 by_steps p zs g d (wants.Send x m) h = cond_steps g true (record { program = sent_of g; uses = (x, sends m) ∷ [] }) d refl h
-by_steps p zs g d (wants.Delegate x y) h = cond_steps g (nat_lt (end_at zs y).hops 100) (record { program = sent_of g; uses = (y, hands_on) ∷ (x, sends (session_message y p)) ∷ [] }) d refl h
+by_steps p zs g d (wants.Delegate x y) h = cond_steps g (nat_lt (end_at zs y).hops 100) (record { program = sent_of g; uses = (y, delegates) ∷ (x, sends (session_message y p)) ∷ [] }) d refl h
 by_steps p zs g d (wants.Take x a) h = taking_steps g d x (next_for zs x) h
 by_steps p zs g d (wants.Close x) h = cond_steps g true (record { program = closed_of g; uses = [] }) d refl h
 

@@ -5,7 +5,7 @@ use Rattle.std.proofs.lemmas.List.Sums.{sum_by-cons, sum_by-append}
 use Rattle.sj_base.specs.declared.EndId.{EndId}
 use Rattle.sj_lang.specs.FileAt.{FileAt, PartyAt, DeclAt, ConnectAt, party_named, end_of_party, ends_from}
 use Rattle.sj_semantics.specs.Program.{Program}
-use Rattle.sj_semantics.specs.Start.{session_of, program_of, programs_from, start_of}
+use Rattle.sj_semantics.specs.World.{session_of, program_of, programs_from, start_of}
 use Rattle.sj_semantics.specs.Ends.{is_end}
 use Rattle.sj_semantics_laws.specs.Unshared.{bindings_of, carried_in, IsUnshared}
 use Rattle.sj_semantics_laws.proofs.ClaimLemmas.{one_if}

@@ -10,7 +10,7 @@ use Rattle.sj_semantics.specs.Program.{Program}
 use Rattle.sj_semantics.specs.Wants.{want_of}
 use Rattle.sj_semantics.specs.Steps.{local_of, sent_of, closed_of}
 use Rattle.sj_semantics.specs.Ends.{Session, end_at, next_for}
-use Rattle.sj_semantics.specs.Uses.{sends, hands_on}
+use Rattle.sj_semantics.specs.Uses.{sends, delegates}
 use Rattle.sj_semantics.specs.World.{World, Change, session_message, change_by_taking, change_by, changed, act_of}
 use Rattle.sj_semantics.specs.State.{state_wanting, state_wanting_if, state_if, state_of}
 use Rattle.sj_semantics_laws.proofs.ChangeLemmas.{rests_on, from_rests}
@@ -35,7 +35,7 @@ want_ready zs p g d (wants.Send e m) below h = when_below (nat_lt g.steps 10000)
 want_ready zs p g d (wants.Close e) below h = when_below (nat_lt g.steps 10000) states.Ready (states.AtLimit None) below
 want_ready zs p g d (wants.Delegate e y) below h =
     when_below (nat_lt g.steps 10000) (cond (nat_lt (end_at zs y).hops 100) states.Ready (states.AtLimit (Some y))) (states.AtLimit None) below
-    ∙ delegate_ready (nat_lt (end_at zs y).hops 100) (record { program = sent_of g; uses = (y, hands_on) ∷ (e, sends (session_message y p)) ∷ [] }) d y h
+    ∙ delegate_ready (nat_lt (end_at zs y).hops 100) (record { program = sent_of g; uses = (y, delegates) ∷ (e, sends (session_message y p)) ∷ [] }) d y h
 want_ready zs p g d (wants.Take e a) below h =
     when_below (nat_lt g.steps 10000) (cond (is_some (next_for zs e)) states.Ready (states.Waits e)) (states.AtLimit None) below ∙ take_ready g e d (next_for zs e) h
 
@@ -74,7 +74,7 @@ want_makes zs p g (wants.Send e m) ready = ((below_if (nat_lt g.steps 10000) sta
 want_makes zs p g (wants.Close e) ready = ((below_if (nat_lt g.steps 10000) states.Ready ready).0, record { change = record { program = closed_of g; uses = [] }; by_it = refl })
 want_makes zs p g (wants.Delegate e y) ready =
     let b = below_if (nat_lt g.steps 10000) (cond (nat_lt (end_at zs y).hops 100) states.Ready (states.AtLimit (Some y))) ready in
-    (b.0, makes_if (nat_lt (end_at zs y).hops 100) (record { program = sent_of g; uses = (y, hands_on) ∷ (e, sends (session_message y p)) ∷ [] }) zs p g (wants.Delegate e y) y refl b.1)
+    (b.0, makes_if (nat_lt (end_at zs y).hops 100) (record { program = sent_of g; uses = (y, delegates) ∷ (e, sends (session_message y p)) ∷ [] }) zs p g (wants.Delegate e y) y refl b.1)
 want_makes zs p g (wants.Take e a) ready =
     let b = below_if (nat_lt g.steps 10000) (cond (is_some (next_for zs e)) states.Ready (states.Waits e)) ready in
     (b.0, taking_makes zs p g (wants.Take e a) e (next_for zs e) refl b.1)

@@ -7,8 +7,7 @@ use Rattle.sj_lang.specs.FileAt.{FileAt, ConnectAt}
 use Rattle.sj_semantics.specs.declared.Passed.{Passed}
 use Rattle.sj_semantics.specs.Ends.{Session, end_on, other_end, nowhere, end_at, untaken_for}
 use Rattle.sj_semantics.specs.Uses.{Use, after_uses}
-use Rattle.sj_semantics.specs.World.{World, changed}
-use Rattle.sj_semantics.specs.Start.{session_of, start_of}
+use Rattle.sj_semantics.specs.World.{World, changed, session_of, start_of}
 use Rattle.sj_semantics.specs.Run.{IsRun, after_acts}
 use Rattle.sj_semantics.specs.Acts.{acts_from, uses_on, acts_on, taken_by, sent_on, taken_on}
 use Rattle.sj_semantics_laws.proofs.EndLemmas.{end_at-after_uses_extends}

@@ -7,13 +7,13 @@ use Rattle.sj_lang.specs.Place.{Place, done, message, repeat}
 use Rattle.sj_lang.specs.Place as places
 use Rattle.sj_lang.specs.Term.{Term}
 use Rattle.sj_lang.specs.Term as terms
-use Rattle.sj_lang.specs.Code.{Code, Act, no_step, step_then, at, send, take_value, outwhile, inwhile, close}
+use Rattle.sj_lang.specs.Code.{Code, DeedAt, no_stmt, stmt_then, at, send, take_value, outwhile, inwhile, close}
 use Rattle.sj_lang.specs.FileAt.{FileAt, ProtocolAt, PartyAt, DeclAt, ConnectAt}
 
 -- the acts in order, all on one line
-abbrev pub in_a_row : List Act → Code
-in_a_row [] = no_step
-in_a_row (a ∷ as') = step_then (at 1 a) (in_a_row as')
+abbrev pub in_a_row : List DeedAt → Code
+in_a_row [] = no_stmt
+in_a_row (a ∷ as') = stmt_then (at 1 a) (in_a_row as')
 
 -- a connection's end by the names of its party, itself and its protocol
 abbrev pub decl : ℕ → ℕ → ℕ → DeclAt
@@ -28,7 +28,7 @@ abbrev pub protocol : ℕ → Place → ProtocolAt
 protocol name body = record { line = 1; name = name; body = body }
 
 -- a party by its name and acts
-abbrev pub party : ℕ → List Act → PartyAt
+abbrev pub party : ℕ → List DeedAt → PartyAt
 party name acts = record { line = 1; name = name; code = in_a_row acts }
 
 -- one number is sent
@@ -106,8 +106,8 @@ turning count = record {
       protocol 0 (repeat Out done done)
       ∷ protocol 1 (repeat Into done done) ∷ [];
   parties =
-      party 2 (outwhile 3 (terms.int (pos count)) no_step ∷ close 3 ∷ [])
-      ∷ party 4 (inwhile 5 no_step ∷ close 5 ∷ []) ∷ [];
+      party 2 (outwhile 3 (terms.int (pos count)) no_stmt ∷ close 3 ∷ [])
+      ∷ party 4 (inwhile 5 no_stmt ∷ close 5 ∷ []) ∷ [];
   connects = connects (decl 2 3 0) (decl 4 5 1) ∷ [];
 }
 

@@ -32,8 +32,8 @@ faults_make n (Err make.Fault) = raised n
 faults_make n (Err make.NoMemory) = n
 
 -- a sum that stops at the last value of a count
-abbrev pub added : ℕ → ℕ → ℕ
-added n m = min (n + m) (2 ^ 64 - 1)
+abbrev pub capped_sum : ℕ → ℕ → ℕ
+capped_sum n m = min (n + m) (2 ^ 64 - 1)
 
 -- the sum of the counts of all elements
 abbrev pub total : {X : Type 0} → (X → ℕ) → List X → ℕ

@@ -1,7 +1,7 @@
 //! The faults that lanes met.
 ghost use Rattle.std.specs.Prelude.{◌≡◌, ◌<◌, ◌≤◌};
 ghost use Rattle.sj_lane.specs.Told.{Rose};
-ghost use Rattle.sj_socket.specs.Counts.{added, met, met_in, met_out};
+ghost use Rattle.sj_socket.specs.Counts.{capped_sum, met, met_in, met_out};
 
 use crate::in_lane::SocketIn;
 use crate::out_lane::SocketOut;
@@ -9,7 +9,7 @@ use sj_lane::Lanes;
 
 /// Those of lanes to other parties, behind so many others.
 fn with_outs(before: u64, outs: &[SocketOut]) -> u64
-    ensures { result ≡ added before (met_out outs.now) }
+    ensures { result ≡ capped_sum before (met_out outs.now) }
 {
     let mut sum = before;
     for out in outs {
@@ -20,7 +20,7 @@ fn with_outs(before: u64, outs: &[SocketOut]) -> u64
 
 /// Those of lanes from other parties, behind so many others.
 fn with_ins(before: u64, ins: &[SocketIn]) -> u64
-    ensures { result ≡ added before (met_in ins.now) }
+    ensures { result ≡ capped_sum before (met_in ins.now) }
 {
     let mut sum = before;
     for lane in ins {
@@ -31,7 +31,7 @@ fn with_ins(before: u64, ins: &[SocketIn]) -> u64
 
 /// Those of all lanes, behind so many others. A sum stops at the last value of a count.
 pub(crate) fn with_all(before: u64, lanes: &[Lanes<SocketOut, SocketIn>]) -> u64
-    ensures { result ≡ added before (met lanes.now) }
+    ensures { result ≡ capped_sum before (met lanes.now) }
 {
     let mut sum = before;
     for own in lanes {
@@ -42,7 +42,7 @@ pub(crate) fn with_all(before: u64, lanes: &[Lanes<SocketOut, SocketIn>]) -> u64
 
 /// A count with so many more, up to its last value.
 pub(crate) fn counted(before: u64, more: u64) -> u64
-    ensures sum { result ≡ added before more }
+    ensures sum { result ≡ capped_sum before more }
     ensures least { before ≤ result }
     ensures none { more ≡ 0 → result ≡ before }
     ensures some { 0 < more → Rose before result }

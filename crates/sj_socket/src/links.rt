@@ -2,7 +2,7 @@
 ghost use Rattle.std.specs.Prelude.{◌≡◌, ◌≤◌, Err, IfOk, [], false, true, vec_len};
 ghost use Rattle.sj_lane.specs.Square.{AllJoined, HasFault, IsFresh, IsSquare, Kept, NoFault};
 ghost use Rattle.sj_lane.specs.Told.{Rose};
-ghost use Rattle.sj_socket.specs.Counts.{added, faults_make, met};
+ghost use Rattle.sj_socket.specs.Counts.{capped_sum, faults_make, met};
 
 use crate::carrying::carry_all;
 use crate::counting::{counted, with_all};
@@ -86,7 +86,7 @@ impl<R: Net + Drop> Links for SocketLinks<R> {
         ensures tells { false ≡ false }
         ensures fault { (self.old.faults ≤ self.new.faults) × (NoFault ⟦<SocketOut as OutLane>⟧.faults ⟦<SocketIn as InLane>⟧.faults lanes.items → self.new.faults ≡ self.old.faults) }
         ensures raised { HasFault ⟦<SocketOut as OutLane>⟧.faults ⟦<SocketIn as InLane>⟧.faults lanes.items → Rose self.old.faults self.new.faults }
-        ensures counts { self.new.faults ≡ added self.old.faults (met lanes.items) }
+        ensures counts { self.new.faults ≡ capped_sum self.old.faults (met lanes.items) }
     {
         self.faults = counted(self.faults, with_all(0, &lanes));
         drop(lanes);

@@ -28,8 +28,8 @@ pub record CallAt : Type 0 where
   pub links : LinkUseAt
 
 -- the use of links of that kind
-abbrev pub used : {L : Type 0} → (L → Bool) → (L → ℕ) → (sent got : L → ℕ → ℕ → List (FrameAt Place)) → (vain_out vain_in : L → ℕ → ℕ → ℕ) → L → L → LinkUseAt
-used tells faults sent got vain_out vain_in before after = record {
+abbrev pub link_use : {L : Type 0} → (L → Bool) → (L → ℕ) → (sent got : L → ℕ → ℕ → List (FrameAt Place)) → (vain_out vain_in : L → ℕ → ℕ → ℕ) → L → L → LinkUseAt
+link_use tells faults sent got vain_out vain_in before after = record {
   tells = tells before;
   faults = faults before;
   faults_after = faults after;

@@ -4,7 +4,7 @@ ghost use Rattle.sj_check.specs.Held.{file_in};
 ghost use Rattle.sj_end.specs.Lines.{event_at, line_at};
 ghost use Rattle.sj_lang.specs.FileView.{file_of};
 ghost use Rattle.sj_plain.specs.Kept.{without_words};
-ghost use Rattle.sj_plain.specs.Plain.{acts_of, kept, world_at};
+ghost use Rattle.sj_plain.specs.Plain.{acts_of, kept_file, world_at};
 ghost use Rattle.sj_rules.specs.Events.{acts_by};
 ghost use Rattle.sj_semantics.specs.Run.{IsRun, after_acts, end_of};
 ghost use Rattle.sj_semantics.specs.State.{state_of};
@@ -24,8 +24,8 @@ pub(crate) fn acted(alloc: Global, accepted: &Accepted, lines: &[Line]) -> Resul
     requires { IsRun (file_of (file_in accepted.now)) (actors (map line_at lines.now))
         (end_of (file_of (file_in accepted.now))) }
     ensures end { IfOk result (λ p. world_at p ≡ end_of (file_of (file_in accepted.now))) }
-    ensures kept { IfOk result (λ p. kept p ≡ without_words (file_of (file_in accepted.now))) }
-    ensures run { IfOk result (λ p. IsRun (kept p) (acts_of p) (world_at p)) }
+    ensures kept_file { IfOk result (λ p. kept_file p ≡ without_words (file_of (file_in accepted.now))) }
+    ensures run { IfOk result (λ p. IsRun (kept_file p) (acts_of p) (world_at p)) }
 {
     let mut plain = Plain::start(alloc, accepted)?;
     for line in lines {
@@ -39,9 +39,9 @@ fn act_again(plain: &mut Plain, line: &Line) -> Result<(), NoMemory>
     requires { IsReadyFor (world_at plain.old) (event_at line.now.entry.event) line.now.party }
     ensures ok { OnOk result (after_acts (world_at plain.old)
         (acts_by (event_at line.now.entry.event) line.now.party) ≡ Some (world_at plain.new)) }
-    ensures kept { kept plain.new ≡ kept plain.old }
-    ensures run { IsRun (kept plain.old) (acts_of plain.old) (world_at plain.old)
-        → IsRun (kept plain.new) (acts_of plain.new) (world_at plain.new) }
+    ensures kept_file { kept_file plain.new ≡ kept_file plain.old }
+    ensures run { IsRun (kept_file plain.old) (acts_of plain.old) (world_at plain.old)
+        → IsRun (kept_file plain.new) (acts_of plain.new) (world_at plain.new) }
 {
     match line.entry.event {
         Event::Act => act(plain, line.party),
@@ -53,8 +53,8 @@ fn act_again(plain: &mut Plain, line: &Line) -> Result<(), NoMemory>
 fn act(plain: &mut Plain, party: u16) -> Result<(), NoMemory>
     requires { state_of (world_at plain.old) party ≡ Ready }
     ensures ok { OnOk result (act_of (world_at plain.old) party ≡ Some (world_at plain.new)) }
-    ensures kept { kept plain.new ≡ kept plain.old }
-    ensures run { IsRun (kept plain.new) (acts_of plain.new) (world_at plain.new) }
+    ensures kept_file { kept_file plain.new ≡ kept_file plain.old }
+    ensures run { IsRun (kept_file plain.new) (acts_of plain.new) (world_at plain.new) }
 {
     match plain.act(party) {
         Ok(()) => Ok(()),

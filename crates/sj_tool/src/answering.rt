@@ -3,7 +3,7 @@ ghost use Rattle.std.specs.Prelude.{◌≡◌, ◌≤◌, IfOk, length};
 ghost use Rattle.sj_command.specs.declared.tasks.Task.TheVariants as tasks;
 ghost use Rattle.sj_generator.specs.Generated.{generated};
 ghost use Rattle.sj_tool.specs.Answers.{AnswersBytes, AnswersText, Comes};
-ghost use Rattle.sj_tool.specs.Calls.{call, used};
+ghost use Rattle.sj_tool.specs.Calls.{call, link_use};
 ghost use Rattle.sj_tool.specs.Tasks.{Takes, limit_of};
 
 use crate::answers::Answer;
@@ -35,7 +35,7 @@ pub(crate) fn answer_to<R: Threads + Sync, S: Source, L: Links, G: Gate>(
     gate: &G,
 ) -> Result<Answer, NoMemory>
     ensures { IfOk result (Comes (call S.left S.faults words.now src.old src.new
-        (used L.tells L.faults L.sent L.got L.vain_out L.vain_in links.old links.new))) }
+        (link_use L.tells L.faults L.sent L.got L.vain_out L.vain_in links.old links.new))) }
 {
     let Some(task) = task_in(alloc, words)? else {
         return Ok(Answer::Usage);
@@ -85,7 +85,7 @@ fn answer_to_bytes<R: Threads + Sync, L: Links, G: Gate>(
 ) -> Result<Answer, NoMemory>
     requires few { length bytes.now ≤ limit_of task }
     requires takes { Takes task }
-    ensures { IfOk result (AnswersBytes (used L.tells L.faults L.sent L.got L.vain_out L.vain_in links.old links.new)
+    ensures { IfOk result (AnswersBytes (link_use L.tells L.faults L.sent L.got L.vain_out L.vain_in links.old links.new)
         task bytes.now) }
 {
     let Task::Replay { .. } = task else {
@@ -115,7 +115,7 @@ fn answer_to_text<R: Threads + Sync, L: Links, G: Gate>(
     requires few { length text.now ≤ 65536 }
     requires log { length log.now ≤ 16777216 }
     requires takes { Takes task }
-    ensures { IfOk result (AnswersText (used L.tells L.faults L.sent L.got L.vain_out L.vain_in links.old links.new)
+    ensures { IfOk result (AnswersText (link_use L.tells L.faults L.sent L.got L.vain_out L.vain_in links.old links.new)
         task log.now text.now) }
 {
     let file = match parse_file(alloc, text) {

@@ -5,7 +5,7 @@ ghost use Rattle.sj_grammar.specs.Limits.{limits};
 ghost use Rattle.sj_party.specs.Within.{IsWithin};
 ghost use Rattle.sj_command.specs.declared.tasks.Task.TheVariants as tasks;
 ghost use Rattle.sj_tool.specs.Answers.{AnswersFile};
-ghost use Rattle.sj_tool.specs.Calls.{LinkUseAt, used};
+ghost use Rattle.sj_tool.specs.Calls.{LinkUseAt, link_use};
 ghost use Rattle.sj_tool.specs.Entries.{IsToldSo};
 ghost use Rattle.sj_tool.specs.Tasks.{Replays as IsReplay, RunsParties};
 ghost use Rattle.sj_tool.specs.Outcomes.{IsJudged};
@@ -75,7 +75,7 @@ pub(crate) fn ran_by_links<R: Threads + Sync, L: Links, G: Gate>(
     requires within { IsWithin limits (file_of file) }
     requires runs { RunsParties task }
     ensures { IfOk result (λ a. (log : List ℕ)
-        → AnswersFile (used L.tells L.faults L.sent L.got L.vain_out L.vain_in links.old links.new)
+        → AnswersFile (link_use L.tells L.faults L.sent L.got L.vain_out L.vain_in links.old links.new)
         task log (file_of file) a) }
 {
     let accepted = match judge(alloc, file)? {

@@ -6,7 +6,7 @@ ghost use Rattle.sj_core.specs.World.{history_of, world_at};
 ghost use Rattle.sj_end.specs.Lines.{line_at};
 ghost use Rattle.sj_lang.specs.FileView.{file_of};
 ghost use Rattle.sj_plain.specs.Kept.{without_words};
-ghost use Rattle.sj_plain.specs.Plain.{acts_of, kept, world_at as plain_at};
+ghost use Rattle.sj_plain.specs.Plain.{acts_of, kept_file, world_at as plain_at};
 ghost use Rattle.sj_rules.specs.History.{IsHistory, IsQuietAmong};
 ghost use Rattle.sj_rules.specs.Party.{play_of};
 ghost use Rattle.sj_semantics.specs.Run.{IsRun};
@@ -71,8 +71,8 @@ fn text_for(
     requires events { HasEvents task }
     requires parties { length (file_of file.now).parties ≤ 16 }
     requires connects { length (file_of file.now).connects ≤ 64 }
-    requires kept { kept plain.now ≡ without_words (file_of file.now) }
-    requires run { IsRun (kept plain.now) (acts_of plain.now) (plain_at plain.now) }
+    requires kept_file { kept_file plain.now ≡ without_words (file_of file.now) }
+    requires run { IsRun (kept_file plain.now) (acts_of plain.now) (plain_at plain.now) }
     ensures { IfOk result (λ text. text.items
         ≡ run_text task (file_of file.now) (map line_at lines.now) (plain_at plain.now)) }
 {
@@ -95,8 +95,8 @@ fn logged_text(
 ) -> Result<Vec<u8>, NoMemory>
     requires parties { length (file_of file.now).parties ≤ 16 }
     requires connects { length (file_of file.now).connects ≤ 64 }
-    requires kept { kept plain.now ≡ without_words (file_of file.now) }
-    requires run { IsRun (kept plain.now) (acts_of plain.now) (plain_at plain.now) }
+    requires kept_file { kept_file plain.now ≡ without_words (file_of file.now) }
+    requires run { IsRun (kept_file plain.now) (acts_of plain.now) (plain_at plain.now) }
     ensures { IfOk result (λ text. text.items ≡ transcript_of (file_of file.now) (plain_at plain.now)
         ++ log_part log (file_of file.now) (map line_at lines.now)) }
 {

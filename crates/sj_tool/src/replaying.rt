@@ -1,7 +1,7 @@
 //! Accepted files that are run by a log.
 ghost use Rattle.std.specs.Prelude.{◌≡◌, ◌≤◌, Bool, IfErr, IfOk, length, map, max};
 ghost use Rattle.sj_check.specs.Held.{file_in};
-ghost use Rattle.sj_core.specs.World.{history_of, kept, party_count, world_at};
+ghost use Rattle.sj_core.specs.World.{history_of, kept_file, party_count, world_at};
 ghost use Rattle.sj_end.specs.Lines.{line_at};
 ghost use Rattle.sj_lang.specs.FileView.{file_of};
 ghost use Rattle.sj_log.specs.LogText.{SpellsLog};
@@ -102,10 +102,10 @@ fn lines_of(alloc: Global, accepted: &Accepted, log: &[u8]) -> Result<Vec<Line>,
 
 // The core world to which the lines lead from the file's start on.
 fn started(alloc: Global, accepted: &Accepted, lines: Vec<Line>) -> Result<World, ReplayFault>
-    ensures kept { IfOk result (λ w. kept w ≡ without_words (file_of (file_in accepted.now))) }
+    ensures kept_file { IfOk result (λ w. kept_file w ≡ without_words (file_of (file_in accepted.now))) }
     ensures history { IfOk result (λ w. history_of w ≡ map line_at lines.items) }
-    ensures run { IfOk result (λ w. IsHistory max (kept w) (history_of w) (world_at w)) }
-    ensures parties { IfOk result (λ w. party_count w ≡ length (kept w).parties) }
+    ensures run { IfOk result (λ w. IsHistory max (kept_file w) (history_of w) (world_at w)) }
+    ensures parties { IfOk result (λ w. party_count w ≡ length (kept_file w).parties) }
     ensures stopped { IfErr result (IsStopped (file_of (file_in accepted.now)) (map line_at lines.items)) }
 {
     match World::replayed(alloc, accepted, lines) {

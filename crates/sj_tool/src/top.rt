@@ -6,7 +6,7 @@ ghost use Rattle.sj_lang.specs.FileAt.{FileAt};
 ghost use Rattle.sj_command.specs.declared.tasks.Task.{Task as AnyTask};
 ghost use Rattle.sj_tool.specs.declared.answers.Answer.{Answer as AnyAnswer};
 ghost use Rattle.sj_tool.specs.Answers.{AnswersOne, Comes, OrYields, WroteFront};
-ghost use Rattle.sj_tool.specs.Calls.{call, used};
+ghost use Rattle.sj_tool.specs.Calls.{call, link_use};
 ghost use Rattle.sj_tool.specs.Completeness.{CompletesSo, IsValid};
 ghost use Rattle.sj_tool.specs.Headline.{HasHeadline, IsPlaying, IsVerdict};
 ghost use Rattle.sj_tool.specs.Tasks.{AsksFor};
@@ -44,32 +44,32 @@ pub fn sj<R: Threads + Sync, S: Source, K: Sink, L: Links, G: Gate>(
 ) -> u8
     // An answer of the table comes, and its text is written behind what was written before.
     ensures answer { OrYields result (AnswersOne (call S.left S.faults words.now src.old src.new
-        (used L.tells L.faults L.sent L.got L.vain_out L.vain_in links.old links.new))
+        (link_use L.tells L.faults L.sent L.got L.vain_out L.vain_in links.old links.new))
         result (K.written out.old) (K.written out.new)) }
 
     // Whatever answer the table gives, it is the answer, where the source tells; of `run --log`
     // the history alone may be another.
     ensures exactly { IfSome (S.left src.old) (λ _. (a : AnyAnswer)
         → Comes (call S.left S.faults words.now src.old src.new
-        (used L.tells L.faults L.sent L.got L.vain_out L.vain_in links.old links.new)) a
+        (link_use L.tells L.faults L.sent L.got L.vain_out L.vain_in links.old links.new)) a
         → NoFaultAbove (call S.left S.faults words.now src.old src.new
-        (used L.tells L.faults L.sent L.got L.vain_out L.vain_in links.old links.new)) a
+        (link_use L.tells L.faults L.sent L.got L.vain_out L.vain_in links.old links.new)) a
         → OrYields result (AnswersAs (call S.left S.faults words.now src.old src.new
-        (used L.tells L.faults L.sent L.got L.vain_out L.vain_in links.old links.new))
+        (link_use L.tells L.faults L.sent L.got L.vain_out L.vain_in links.old links.new))
         result (K.written out.old) (K.written out.new) a)) }
 
     // What `sim`, `run` and `replay` write with 0, 6 or 7 is the transcript of a run with the headline.
     ensures headline { IsVerdict result
         → AsksFor IsPlaying (call S.left S.faults words.now src.old src.new
-        (used L.tells L.faults L.sent L.got L.vain_out L.vain_in links.old links.new))
+        (link_use L.tells L.faults L.sent L.got L.vain_out L.vain_in links.old links.new))
         → HasHeadline (call S.left S.faults words.now src.old src.new
-        (used L.tells L.faults L.sent L.got L.vain_out L.vain_in links.old links.new)) result
+        (link_use L.tells L.faults L.sent L.got L.vain_out L.vain_in links.old links.new)) result
         (K.written out.old) (K.written out.new) }
 
     // Of an input that is valid for the task the answer is what the task tells of it.
     ensures complete { (task : AnyTask) → (file : FileAt)
         → IsValid (call S.left S.faults words.now src.old src.new
-        (used L.tells L.faults L.sent L.got L.vain_out L.vain_in links.old links.new)) task file
+        (link_use L.tells L.faults L.sent L.got L.vain_out L.vain_in links.old links.new)) task file
         → OrYields result (CompletesSo task file result (K.written out.old) (K.written out.new)) }
 
     // A read fault, a link fault and a write fault come only where a fault was counted, and damage only
@@ -81,7 +81,7 @@ pub fn sj<R: Threads + Sync, S: Source, K: Sink, L: Links, G: Gate>(
 
     // A front of the answer's text was written where the sink failed, and nothing without memory.
     ensures front { result ≡ 10 → WroteFront (call S.left S.faults words.now src.old src.new
-        (used L.tells L.faults L.sent L.got L.vain_out L.vain_in links.old links.new))
+        (link_use L.tells L.faults L.sent L.got L.vain_out L.vain_in links.old links.new))
         (K.written out.old) (K.written out.new) }
     ensures no_memory { result ≡ 11 → K.written out.new ≡ K.written out.old }
 {

@@ -15,7 +15,7 @@ use Rattle.sj_rules.specs.Mapped.{body_with, frame_with}
 use Rattle.sj_rules.specs.Node.{NodeAt, acts, act_by, arrives, comes}
 use Rattle.sj_rules.proofs.FrameLemmas.{proper-with}
 use Rattle.sj_rules.specs.Rows.{Worked}
-use Rattle.sj_rules.specs.NodeRun.{Deed, Acted, Came, StepAt, Steps, told, told_frames}
+use Rattle.sj_rules.specs.NodeRun.{Deed, Acted, Came, StepAt, Steps, frame_told, told_frames}
 use Rattle.sj_node.specs.declared.node.Node.{Node}
 use Rattle.sj_node.specs.Node.{Did, Does, Stays, act_of, clock_of, delivery, has_room, log_of, node_at, note_for, outbox_of, play_of}
 use Rattle.sj_node.specs.Play.{next_want, play_with}
@@ -65,7 +65,7 @@ did_log a b left clock event note d = ap entries_of d.log ∙ map-append entry_a
 
 did_box : (a b : Node) (left : Worked Place (NodeAt Place Program)) (clock : ℕ) (event : happened.Event) (note : Note) → Did a left clock event note b
     → (q : ℕ) → told_frames done (outbox_of b q) ≡ told_frames done (outbox_of a q) ++ told_frames done (frames_for q clock left.posts)
-did_box a b left clock event note d q = ap (told_frames done) (d.posts q) ∙ map-append (told done) (outbox_of a q) (frames_for q clock left.posts)
+did_box a b left clock event note d q = ap (told_frames done) (d.posts q) ∙ map-append (frame_told done) (outbox_of a q) (frames_for q clock left.posts)
 
 -- an act
 pub act_stepped : (a b : Node) → Does a (act_of a) (clock_of a + 1) events.Act (note_for a) b → Stepped a b Acted

@@ -32,7 +32,7 @@ use Rattle.sj_work.specs.Causes.{Loses}
 use Rattle.sj_work.specs.Counts.{RoseBy, SomeRose}
 use Rattle.sj_work.specs.Turns.{IsGoing}
 use Rattle.sj_work.specs.Views.{in_of, line_in, stop_at, out_of, stop_in, stop_of}
-use Rattle.sj_work.specs.Worked.{Worked, WorkedBy, kept}
+use Rattle.sj_work.specs.Worked.{Worked, WorkedBy, kept_stop}
 use Rattle.sj_work.proofs.CauseLemmas.{cause_later}
 use Rattle.sj_work.proofs.CountLemmas.{rose_raised, some_rose}
 use Rattle.sj_work.proofs.HaltLemmas.{Refused, finished_before}
@@ -215,7 +215,7 @@ module _ {O I : Type 0} (k : LaneLaws O I) where
       (went_again k init now None (Some answers.ClockEnd) now.looks g.went) tt over
 
   -- a call, up to its stop
-  pub worked_by : (looks : ℕ) (a b : Worker O I) (s : Stop) → kept (stop_of a) ≡ None → stop_of b ≡ Some s → TurnedBy k looks a b
+  pub worked_by : (looks : ℕ) (a b : Worker O I) (s : Stop) → kept_stop (stop_of a) ≡ None → stop_of b ≡ Some s → TurnedBy k looks a b
       → Worked k.pushed k.out_faults k.out_vain k.same_out k.popped k.in_faults k.in_vain k.same_in looks a b
   worked_by looks a b s not_kept is t =
       subst (λ (o : Option Stop). WorkedBy k.pushed k.out_faults k.out_vain k.same_out k.popped k.in_faults k.in_vain k.same_in o looks a b) (sym not_kept)

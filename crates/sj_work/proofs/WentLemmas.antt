@@ -12,7 +12,7 @@ use Rattle.sj_end.specs.Views.{frame_at}
 use Rattle.sj_rules.specs.Frames.{FrameAt, frames_for}
 use Rattle.sj_rules.specs.Mapped.{frame_with}
 use Rattle.sj_rules.specs.Node.{Play}
-use Rattle.sj_rules.specs.NodeRun.{Deed, Acted, Came, frame_from, told, told_frames}
+use Rattle.sj_rules.specs.NodeRun.{Deed, Acted, Came, frame_from, frame_told, told_frames}
 use Rattle.sj_rules.specs.Work.{InStep, LaneWork, LostAt, OutStep, lost_from}
 use Rattle.sj_joined_laws.proofs.LaneWorkLemmas.{event_lane_work, in_itself, lane_work_later, quiet_lane_work}
 use Rattle.sj_lane.specs.Told.{told_frame}
@@ -140,12 +140,12 @@ module _ {O I : Type 0} (k : LaneLaws O I) where
 
   -- a frame that was popped and delivered
   pub went_came : (a b : Worker O I) (from : ℕ) (f : FrameAt Place) (i j : I) → Stepped a.node b.node (Came from f) → b.lanes.outs.items ≡ a.lanes.outs.items
-      → in_of a from ≡ Some i → b.lanes.ins.items ≡ set a.lanes.ins.items from j → InDid k i j (told done f ∷ []) → WentBy k None a b
+      → in_of a from ≡ Some i → b.lanes.ins.items ≡ set a.lanes.ins.items from j → InDid k i j (frame_told done f ∷ []) → WentBy k None a b
   went_came a b from f i j s outs at put did =
       let ts : ℕ → List (FrameAt Place) = λ q. cons_option (frame_from done q (Came from f)) [] in
-      let own : ts from ≡ told done f ∷ [] = ap (λ o. cons_option o []) (if_same from (Some (told done f)) None) in
+      let own : ts from ≡ frame_told done f ∷ [] = ap (λ o. cons_option o []) (if_same from (Some (frame_told done f)) None) in
       event a b (Came from f) s outs
-      (ins_put a b from i j ts at put (subst (λ (l : List (FrameAt Place)). InDid k i j l) (sym own) did) (λ q h. ap (λ o. cons_option o []) (if_other q from (Some (told done f)) None h)))
+      (ins_put a b from i j ts at put (subst (λ (l : List (FrameAt Place)). InDid k i j l) (sym own) did) (λ q h. ap (λ o. cons_option o []) (if_other q from (Some (frame_told done f)) None h)))
 
   -- a worker whose node and lanes are left alone
   pub went_still : (a b : Worker O I) → Quiet a.node b.node → ((q : ℕ) → outbox_of b.node q ≡ outbox_of a.node q) → b.lanes ≡ a.lanes → WentBy k None a b

@@ -14,11 +14,11 @@ use Rattle.sj_work.specs.Laned.{laned}
 use Rattle.sj_work.specs.Views.{in_of, node_of, out_of, stop_of}
 
 -- the stop that stays whatever is called, if any
-abbrev pub kept : Option Stop → Option Stop
-kept (Some stops.NoMemory) = Some stops.NoMemory
-kept (Some stops.Fault) = Some stops.Fault
-kept (Some stops.Unfit) = Some stops.Unfit
-kept _ = None
+abbrev pub kept_stop : Option Stop → Option Stop
+kept_stop (Some stops.NoMemory) = Some stops.NoMemory
+kept_stop (Some stops.Fault) = Some stops.Fault
+kept_stop (Some stops.Unfit) = Some stops.Unfit
+kept_stop _ = None
 
 module _ {O I : Type 0} (pushed : O → Option (List (FrameAt Place))) (out_faults out_vain : O → ℕ) (same_out : O → O → Type 0)
     (popped : I → Option (List (FrameAt Place))) (in_faults in_vain : I → ℕ) (same_in : I → I → Type 0) where
@@ -51,4 +51,4 @@ module _ {O I : Type 0} (pushed : O → Option (List (FrameAt Place))) (out_faul
 
   -- one call of a worker with so many looks
   abbrev pub Worked : (looks : ℕ) → (old new : Worker O I) → Type 0
-  Worked looks old new = WorkedBy (kept (stop_of old)) looks old new
+  Worked looks old new = WorkedBy (kept_stop (stop_of old)) looks old new

@@ -3,7 +3,7 @@ ghost use Rattle.std.specs.Prelude.{◌≡◌, ◌<◌, ◌≤◌, None, Some, I
 ghost use Rattle.sj_node.specs.Node.{clock_of};
 ghost use Rattle.sj_work.specs.Turns.{IsGoing, IsInVain, Turns};
 ghost use Rattle.sj_work.specs.Views.{looks_of, node_of, stop_of};
-ghost use Rattle.sj_work.specs.Worked.{Turned, Worked, kept};
+ghost use Rattle.sj_work.specs.Worked.{Turned, Worked, kept_stop};
 
 use crate::acting::{CLOCK_END, act, finished};
 use crate::looking::look_all;
@@ -94,7 +94,7 @@ pub fn work<O: OutLane, I: InLane, G: Gate>(worker: &mut Worker<O, I>, looks: u3
 
 /// The stop that stays, if any.
 fn kept(stop: Option<Stop>) -> Option<Stop>
-    ensures { result ≡ kept stop }
+    ensures { result ≡ kept_stop stop }
 {
     match stop {
         Some(Stop::NoMemory | Stop::Fault | Stop::Unfit) => stop,

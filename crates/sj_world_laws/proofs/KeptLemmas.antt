@@ -8,7 +8,7 @@ use Rattle.sj_rules.specs.Node.{Play}
 use Rattle.sj_rules.specs.Frames.{FrameAt, is_proper}
 use Rattle.sj_rules.specs.World.{WorldAt, Deliver, happens}
 use Rattle.sj_rules.specs.PlainSide.{PlainAt}
-use Rattle.sj_rules.specs.Linked.{subject_of, IsKept, IsParkedAt, end_of}
+use Rattle.sj_rules.specs.Linked.{subject_of, IsKept, IsParkedAt, end_named}
 use Rattle.sj_world_laws.proofs.OutcomeLemmas.{Goes, goes_on, end_is}
 use Rattle.sj_world_laws.proofs.HandoverLaws.{DeliveryLaws}
 use Rattle.sj_world_laws.proofs.EventLemmas.{Delivered, IsAlike}
@@ -49,8 +49,8 @@ module _ {P Q : Type 0} (IsOver : P → Type 0) (binds : Q → EndId → Bool) (
         sessions = goes.after;
         linked = record {
           parks = λ e n sess side keeper i waits.
-              let old : (side < 2) × IsParkedAt keeper (kept.sessions.sides (end_of sess side)).seat = kept.linked.parks e n sess side keeper i waits in
-              (old.0, ((alike (end_of sess side) old.0).1 keeper).0 old.1);
+              let old : (side < 2) × IsParkedAt keeper (kept.sessions.sides (end_named sess side)).seat = kept.linked.parks e n sess side keeper i waits in
+              (old.0, ((alike (end_named sess side) old.0).1 keeper).0 old.1);
           named = λ e keeper i parks. kept.linked.named e keeper i (((alike e i).1 keeper).1 parks);
           once = kept.linked.once;
         };

@@ -7,7 +7,7 @@ use Rattle.std.proofs.lemmas.List.{map-append}
 use Rattle.std.proofs.lemmas.List.Elements.{filter-append}
 use Rattle.sj_rules.specs.Record.{BodyAt, Mail}
 use Rattle.sj_rules.specs.Frames.{FrameAt, frames_for}
-use Rattle.sj_rules.specs.World.{with_lane, posted}
+use Rattle.sj_rules.specs.World.{with_lane, lanes_with}
 use Rattle.sj_rules.specs.Shown.{bodies}
 
 pub both_true : (a b : Bool) → (a && b) ≡ true → (a ≡ true) × (b ≡ true)
@@ -44,7 +44,7 @@ bodies_of_frames clock (m ∷ ms) = ap (λ l. m.body ∷ l) (bodies_of_frames cl
 
 -- what is posted is seen behind what was there
 pub post_seen : {P : Type 0} → (test : BodyAt P → Bool) (p clock : ℕ) (posts : List (Mail P)) (lanes : ℕ → ℕ → List (FrameAt P)) (from to : ℕ) →
-    filter test (bodies (posted p clock posts lanes from to))
+    filter test (bodies (lanes_with p clock posts lanes from to))
     ≡ filter test (bodies (lanes from to)) ++ (if from == p then filter test (sent_to to posts) else [])
 post_seen {P} test p clock posts lanes from to = by (from == p)
   where

@@ -8,7 +8,7 @@ use Rattle.sj_base.specs.declared.Msg.{Msg}
 use Rattle.sj_rules.specs.Record.{EndAt, BodyAt, Carry, Mail, is_same_end}
 use Rattle.sj_rules.specs.Rows.{numbered, mailed}
 use Rattle.sj_rules.specs.Frames.{FrameAt, frames_for}
-use Rattle.sj_rules.specs.World.{WorldAt, posted}
+use Rattle.sj_rules.specs.World.{WorldAt, lanes_with}
 use Rattle.sj_rules.specs.Seat.{Seat, signalled, Side, source_for, taker_of, coming_of, side_of}
 use Rattle.sj_rules.specs.Shown.{Shows, bodies, goes_to, is_claim, is_give}
 use Rattle.sj_rules.specs.Linked.{subject_of, AreProper}
@@ -18,7 +18,7 @@ use Rattle.sj_world_laws.proofs.PopLemmas.{goes_apart, claim_apart, give_apart, 
 
 -- the world with those posts of a party
 abbrev pub with_posts : {P Q : Type 0} → WorldAt P Q → (at clock : ℕ) → List (Mail P) → WorldAt P Q
-with_posts w at clock posts = record w { lanes = posted at clock posts w.lanes }
+with_posts w at clock posts = record w { lanes = lanes_with at clock posts w.lanes }
 
 -- what holds of each body
 abbrev pub AreMails : {P : Type 0} → (BodyAt P → Type 0) → List (Mail P) → Type 0

@@ -12,7 +12,7 @@ use Rattle.sj_rules.specs.Shown.{Shows, bodies, goes_to, is_claim, is_give, main
 use Rattle.sj_rules.specs.PlainSide.{PlainSide}
 use Rattle.sj_rules.specs.Numbers.{Pace}
 use Rattle.sj_rules.specs.Invariant.{IsSound}
-use Rattle.sj_rules.specs.Linked.{Sessions, AreProper, subject_of, end_of}
+use Rattle.sj_rules.specs.Linked.{Sessions, AreProper, subject_of, end_named}
 use Rattle.sj_world_laws.proofs.TableLemmas.{with_tables}
 use Rattle.sj_world_laws.proofs.PostLemmas.{with_posts}
 use Rattle.sj_world_laws.proofs.SwapLemmas.{other_other}
@@ -152,7 +152,7 @@ known_sessions IsOver w knows knows' same t = record {
   ids = t.ids;
   shows = t.shows;
   proper = t.proper;
-  sound = λ n. known_sound IsOver (t.pace n) (knows (end_of n 0)) (knows' (end_of n 0)) (knows (end_of n 1)) (knows' (end_of n 1)) (t.sides (end_of n 0)) (t.sides (end_of n 1)) (same (end_of n 0)) (same (end_of n 1)) (t.sound n);
+  sound = λ n. known_sound IsOver (t.pace n) (knows (end_named n 0)) (knows' (end_named n 0)) (knows (end_named n 1)) (knows' (end_named n 1)) (t.sides (end_named n 0)) (t.sides (end_named n 1)) (same (end_named n 0)) (same (end_named n 1)) (t.sound n);
 }
 
 -- a party's program went on, and its tables are the same

@@ -5,7 +5,7 @@ use Rattle.std.specs.List.{filter}
 use Rattle.std.proofs.lemmas.Bool.{eqb-true, eq-eqb}
 use Rattle.sj_rules.specs.Record.{BodyAt, Mail}
 use Rattle.sj_rules.specs.Frames.{FrameAt}
-use Rattle.sj_rules.specs.World.{WorldAt, with_lane, posted}
+use Rattle.sj_rules.specs.World.{WorldAt, with_lane, lanes_with}
 use Rattle.sj_rules.specs.Seat.{Seat, Side, source_for, taker_of, coming_of}
 use Rattle.sj_rules.specs.Shown.{bodies, goes_to, is_lane, old_in, live_in, Shows}
 use Rattle.sj_world_laws.proofs.LaneLemmas.{at_pop, both_true, sent_to, post_seen}
@@ -67,7 +67,7 @@ module _ {P Q : Type 0} (w : WorldAt P Q) (other : Seat P) (r : Side P) (f : Fra
 module _ {P Q : Type 0} (w : WorldAt P Q) (other : Seat P) (r : Side P) (clock : ℕ) (posts : List (Mail P)) (more : List (BodyAt P))
     (shows : Shows w other r)
     (sent : (to c : ℕ) → filter (goes_to r.id c) (sent_to to posts) ≡ (if (to == taker_of r.seat) && (c == coming_of r.seat) then more else [])) where
-  pub frames_more : (from to c : ℕ) → filter (goes_to r.id c) (bodies (posted (source_for other r.seat) clock posts w.lanes from to)) ≡
+  pub frames_more : (from to c : ℕ) → filter (goes_to r.id c) (bodies (lanes_with (source_for other r.seat) clock posts w.lanes from to)) ≡
       old_in r.seat r.old from to c ++ live_in other (record r { live = r.live ++ more }) from to c
   frames_more from to c =
       post_seen (goes_to r.id c) (source_for other r.seat) clock posts w.lanes from to

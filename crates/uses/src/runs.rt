@@ -1,7 +1,7 @@
 //! An accepted file run by its parties, with nodes and links of the caller's own.
 ghost use Rattle.std.specs.Prelude.{◌≡◌, IfSome, max};
 ghost use Rattle.sj_check.specs.Held.{file_in};
-ghost use Rattle.sj_core.specs.World.{history_of, kept, party_count, world_at};
+ghost use Rattle.sj_core.specs.World.{history_of, kept_file, party_count, world_at};
 ghost use Rattle.sj_lang.specs.FileView.{file_of};
 ghost use Rattle.sj_plain.specs.Kept.{without_words};
 ghost use Rattle.sj_rules.specs.History.{IsHistory, IsQuietAmong};
@@ -19,9 +19,9 @@ use std::thread::Threads;
 /// Runs the parties of a file on threads over rings, joins their logs, and finishes what they left.
 /// None where the logs are no history, which rings never give, or where there is no memory.
 pub fn run_file<R: Threads + Sync>(rt: &R, alloc: Global, accepted: &Accepted) -> Option<World>
-    ensures kept { IfSome result (λ w. kept w ≡ without_words (file_of (file_in accepted.now))) }
-    ensures history { IfSome result (λ w. IsHistory max (kept w) (history_of w) (world_at w)) }
-    ensures quiet { IfSome result (λ w. IsQuietAmong (play_of (kept w)) (party_count w) (world_at w)) }
+    ensures kept_file { IfSome result (λ w. kept_file w ≡ without_words (file_of (file_in accepted.now))) }
+    ensures history { IfSome result (λ w. IsHistory max (kept_file w) (history_of w) (world_at w)) }
+    ensures quiet { IfSome result (λ w. IsQuietAmong (play_of (kept_file w)) (party_count w) (world_at w)) }
 {
     let Ok(nodes) = first_nodes(alloc, accepted) else {
         return None;
@@ -66,9 +66,9 @@ fn joined<O: OutLane, I: InLane>(
 
 // The core world to which the lines lead, and what can still happen behind them.
 fn finished(alloc: Global, accepted: &Accepted, lines: &[Line]) -> Option<World>
-    ensures kept { IfSome result (λ w. kept w ≡ without_words (file_of (file_in accepted.now))) }
-    ensures history { IfSome result (λ w. IsHistory max (kept w) (history_of w) (world_at w)) }
-    ensures quiet { IfSome result (λ w. IsQuietAmong (play_of (kept w)) (party_count w) (world_at w)) }
+    ensures kept_file { IfSome result (λ w. kept_file w ≡ without_words (file_of (file_in accepted.now))) }
+    ensures history { IfSome result (λ w. IsHistory max (kept_file w) (history_of w) (world_at w)) }
+    ensures quiet { IfSome result (λ w. IsQuietAmong (play_of (kept_file w)) (party_count w) (world_at w)) }
 {
     let Ok(mut world) = World::start(alloc, accepted) else {
         return None;

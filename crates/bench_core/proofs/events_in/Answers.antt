@@ -1,6 +1,6 @@
 use Rattle.std.proofs.Common.{◌≡◌, ◌∙◌, ℕ, ap, length, map, max, subst, sym}
 use Rattle.std.proofs.lemmas.List.{length-map}
-use Rattle.sj_core.specs.World.{history_of, kept, world_at}
+use Rattle.sj_core.specs.World.{history_of, kept_file, world_at}
 use Rattle.sj_end.specs.Lines.{line_at}
 use Rattle.sj_lang.specs.FileAt.{FileAt}
 use Rattle.sj_lang.specs.FileView.{file_of}
@@ -14,7 +14,7 @@ pub returns-in-Ok-drain : goal.returns-in-Ok-drain
 returns-in-Ok-drain c =
     let w = c.drain.new.self in
     let same = c.drain.ensures.kept ∙ c.in-Ok-start.ensures.kept ∙ ap (λ (f : File). without_words (file_of f)) c.in-Ok-check.ensures.ok in
-    let all = subst (λ (k : ℕ). IsQuietAmong (play_of (kept w)) k (world_at w)) c.drain.ensures.parties c.in-Ok-drain.ensures.quiet in
+    let all = subst (λ (k : ℕ). IsQuietAmong (play_of (kept_file w)) k (world_at w)) c.drain.ensures.parties c.in-Ok-drain.ensures.quiet in
     record {
       file = file_of c.in-Ok.file;
       read = c.in-Ok.ensures.found;

@@ -1,6 +1,7 @@
 use Rattle.std.proofs.Common.{◌∙◌, sym, ap}
 use Rattle.sj_lang.specs.declared.party.Expr.{Expr}
-use Rattle.sj_lang.specs.Term.{term_of, not, two}
+use Rattle.sj_lang.specs.Term.{not, two}
+use Rattle.sj_lang.specs.CodeView.{term_of}
 use Rattle.sj_check.proofs.FaultLemmas.{passed_on}
 use Rattle.sj_lang.proofs.Folds.{term_of-Not, term_of-Two}
 use Rattle.sj_check.proofs.TermLemmas as terms

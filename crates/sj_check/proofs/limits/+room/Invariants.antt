@@ -1,5 +1,6 @@
 use Rattle.std.proofs.Common.{◌≡◌, ◌+◌, ◌*◌, drop}
-use Rattle.sj_lang.specs.Place.{done, place_size, carried_size, choices_size}
+use Rattle.sj_lang.specs.Place.{done}
+use Rattle.sj_lang.specs.PlaceSize.{place_size, carried_size, choices_size}
 use Rattle.sj_lang.specs.ItemCount.{item_count, arm_items}
 use Rattle.sj_lang.specs.View.{place_of, choices_of, followed, carried_of}
 use Rattle.sj_check.proofs.limits.+room.Given as goal

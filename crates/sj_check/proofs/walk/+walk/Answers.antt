@@ -12,15 +12,14 @@ use Rattle.sj_lang.specs.declared.party.Deed.TheVariants as deeds
 use Rattle.sj_check.specs.Told.{Tells}
 use Rattle.sj_lang.proofs.Folds.{deed_of-If, deed_of-Branch, stmt_of-fields}
 use Rattle.sj_lang.specs.declared.proto.Way.TheVariants.{Out, Into}
-use Rattle.sj_acceptance.specs.Known.{Known, moved}
+use Rattle.sj_acceptance.specs.EnvAt.{EnvAt, with_live}
 use Rattle.sj_check.specs.Views.{protocols_of}
 use Rattle.sj_acceptance.specs.FirstItem.{is_loop, rest_of}
-use Rattle.sj_acceptance.specs.Known.{place_at}
+use Rattle.sj_acceptance.specs.EnvAt.{place_at}
 use Rattle.sj_acceptance.specs.Tests.{branches_tests, after_branches}
-use Rattle.sj_acceptance.specs.Arms.{all_leave, common_of, joined, is_one}
-use Rattle.sj_lang.specs.Term.{term_of}
+use Rattle.sj_acceptance.specs.Arms.{all_leave, common_of, common_env, is_one}
+use Rattle.sj_lang.specs.CodeView.{term_of, stmt_of, code_of, deed_of, arm_of, branches_of}
 use Rattle.sj_lang.specs.Code as code
-use Rattle.sj_lang.specs.Code.{stmt_of, code_of, deed_of, arm_of, branches_of}
 use Rattle.sj_check.proofs.IfLemmas.{if-condition, if-first, if-second, if-ends}
 use Rattle.sj_check.proofs.FaultLemmas.{passed_on}
 use Rattle.sj_check.proofs.WalkLemmas.{step-fault, step-tests, step-after, relay-after}
@@ -44,7 +43,7 @@ pub relay-returns-clause-after : goal.relay-returns-clause-after
 relay-returns-clause-after t c =
     let taken : is_loop Into (place_at c.args.env.now c.args.from) ≡ true = grind arith in
     let passed : is_loop Out (place_at c.args.env.now c.args.to) ≡ true = grind arith in
-    c.in_ok-pass-2.ensures ∙ ap (λ (e : Known). moved e c.args.to (rest_of (place_at e c.args.to))) c.in_ok-pass.ensures
+    c.in_ok-pass-2.ensures ∙ ap (λ (e : EnvAt). with_live e c.args.to (rest_of (place_at e c.args.to))) c.in_ok-pass.ensures
     ∙ relay-after c.args.env.now c.args.from c.args.to (rest_of (place_at c.args.env.now c.args.from)) taken passed
 
 -- the statement is an `if` with these arms
@@ -107,12 +106,12 @@ all_arms-loop-i-preserved t c =
     let kept = c.keep_common.ensures in
     record {
       tests = arm-tests (protocols_of c.args.protocols.now) c.args.env.now c.args.end c.args.arms.now c.loop-i.i c.index-arms-i.result c.loop-i-test.true c.index-arms-i.is c.deref-in-loop-i.result.now c.deref-in-loop-i.ensures.value c.in_ok-inner.inner c.in_ok-inner.ensures c.in_ok-block-2.ensures.passes ∙ c.loop-i.invariant.tests;
-      ends = ap (λ (e : Known). e.ends) kept ∙ c.loop-i.invariant.ends;
-      agree = ap (λ (e : Known). c.both-agree.result && all_leave e.ends rest) kept
+      ends = ap (λ (e : EnvAt). e.ends) kept ∙ c.loop-i.invariant.ends;
+      agree = ap (λ (e : EnvAt). c.both-agree.result && all_leave e.ends rest) kept
           ∙ ap (λ b. b && all_leave left.ends rest) (c.both-agree.ensures ∙ ap (λ b. c.loop-i.agree && b) c.has_same_ends.ensures)
           ∙ and_assoc c.loop-i.agree (is_same_ends left.ends out.ends) (all_leave left.ends rest)
-          ∙ ap (λ (es : List Known). c.loop-i.agree && all_leave left.ends es) (sym after) ∙ c.loop-i.invariant.agree;
-      known = ap (λ (e : Known). common_of e.variables rest) kept ∙ ap (λ (es : List Known). common_of left.variables es) (sym after) ∙ c.loop-i.invariant.known;
+          ∙ ap (λ (es : List EnvAt). c.loop-i.agree && all_leave left.ends es) (sym after) ∙ c.loop-i.invariant.agree;
+      known = ap (λ (e : EnvAt). common_of e.variables rest) kept ∙ ap (λ (es : List EnvAt). common_of left.variables es) (sym after) ∙ c.loop-i.invariant.known;
     }
 
 pub all_arms-returns-clause-passes : goal.all_arms-returns-clause-passes
@@ -129,7 +128,7 @@ all_arms-returns-clause-joined t c =
     let end = from-end c.args.arms.now c.loop-i.i (omega arith) in
     let whole = arm-after (protocols_of c.args.protocols.now) c.args.env.now c.args.end c.args.arms.now 0 c.index-arms-0.result some c.index-arms-0.is c.deref.result.now c.deref.ensures.value c.in_ok-left.left c.in_ok-left.ensures c.block.new.env c.in_ok-block.ensures.after in
     let known = ap (λ bs. common_of c.loop-i.left.variables (after_branches ps c.args.env.now c.args.end bs)) (sym end) ∙ c.loop-i.invariant.known in
-    (λ i. record { ends = c.loop-i.invariant.ends i; variables = known i }) ∙ ap joined (sym whole)
+    (λ i. record { ends = c.loop-i.invariant.ends i; variables = known i }) ∙ ap common_env (sym whole)
 
 pub all_arms-returns-clause-agree : goal.all_arms-returns-clause-agree
 all_arms-returns-clause-agree t c =

@@ -1,5 +1,5 @@
 use Rattle.std.proofs.Common.{◌≡◌, ◌&&◌, map, drop}
-use Rattle.sj_lang.specs.Code.{code_of, arm_of, branches_of}
+use Rattle.sj_lang.specs.CodeView.{code_of, arm_of, branches_of}
 use Rattle.sj_acceptance.specs.Faults.{first_fault}
 use Rattle.sj_check.specs.Views.{protocols_of}
 use Rattle.sj_acceptance.specs.Tests.{code_tests, after_code, branches_tests, after_branches}

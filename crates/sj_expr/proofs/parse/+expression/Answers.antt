@@ -1,12 +1,13 @@
 use Rattle.std.proofs.Common.{◌≡◌, ℕ, ◌+◌, ◌<◌, ◌≤◌, false, List, [], ◌∷◌, length, refl, ap, sym, subst, ◌∙◌, arith, add-one}
 use Rattle.std.specs.Prelude.{codes}
 use Rattle.std.proofs.lemmas.Bool.{leb-false}
-use Rattle.sj_lang.specs.Term.{Term, term_of}
+use Rattle.sj_lang.specs.Term.{Term}
+use Rattle.sj_lang.specs.CodeView.{term_of}
 use Rattle.sj_grammar.specs.declared.refusal.ParseRefusal.TheVariants as refusals
 use Rattle.sj_grammar.specs.Lexis.{next_of}
 use Rattle.sj_grammar.specs.Reading.{Reading}
 use Rattle.sj_grammar.specs.Places.{Takes}
-use Rattle.sj_grammar.specs.Faults.{OnFault}
+use Rattle.sj_grammar.specs.Refusals.{OnFault}
 use Rattle.sj_grammar.specs.Asked.{TakesText, Passes, spelled_next}
 use Rattle.sj_grammar.specs.Expressions.{operand_count}
 use Rattle.sj_grammar.specs.Expressions as level

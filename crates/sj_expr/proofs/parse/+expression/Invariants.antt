@@ -1,5 +1,5 @@
 use Rattle.std.proofs.Common.{◌≡◌, ◌+◌, ◌*◌, ◌-◌, ◌≤◌, ◌<◌, length}
-use Rattle.sj_lang.specs.Term.{term_of}
+use Rattle.sj_lang.specs.CodeView.{term_of}
 use Rattle.sj_grammar.specs.Lexis.{next_of}
 use Rattle.sj_grammar.specs.Asked.{Passes}
 use Rattle.sj_grammar.specs.Expressions.{operand_count}

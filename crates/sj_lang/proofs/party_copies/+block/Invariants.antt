@@ -1,5 +1,5 @@
 use Rattle.std.proofs.Common.{◌≡◌, map, take}
-use Rattle.sj_lang.specs.Code.{stmt_of, arm_of}
+use Rattle.sj_lang.specs.CodeView.{stmt_of, arm_of}
 use Rattle.sj_lang.proofs.party_copies.+block.Given as goal
 
 abbrev pub invariant-copied_block-loop-stmt : goal.invariant-copied_block-loop-stmt

@@ -1,5 +1,6 @@
 use Rattle.std.proofs.Common.{◌≡◌, ℕ, List, [], ◌∷◌, ◌++◌, drop, take, map, length, sym, ap, ◌∙◌, arith, subst}
-use Rattle.sj_lang.specs.Code.{Code, Step, code_of, stmt_of, arm_of, step_then, at, if_else, branches_of}
+use Rattle.sj_lang.specs.Code.{Code, StmtAt, stmt_then, at, if_else}
+use Rattle.sj_lang.specs.CodeView.{code_of, stmt_of, arm_of, branches_of}
 use Rattle.sj_lang.proofs.Folds.{stmt_of-fields, arm_of-fields, deed_of-If}
 use Rattle.sj_machine.specs.Arena.{codes_of, code_in, arms_in, AreBelow}
 use Rattle.sj_machine.proofs.BuildLemmas.{grown_code, grown_arms, grown_arms_below, grown_twice, code_before, then_same, arms_push, below_push, map_take_next}
@@ -13,7 +14,7 @@ add_block-loop-at-preserved t c =
       code =
           c.in_ok-add_node.ensures.code
           ∙ then_same c.index-stmts-at.result.line _ _ _ _ c.in_ok-op.ensures.act (grown_code c.loop-at.nodes.items c.add_op.new.nodes.items c.loop-at.next c.in_ok-op.ensures.grown h.below ∙ h.code)
-          ∙ ap (λ (s : Step). step_then s (code_of (drop c.loop-at.at c.args.stmts.now))) (sym (stmt_of-fields c.index-stmts-at.result))
+          ∙ ap (λ (s : StmtAt). stmt_then s (code_of (drop c.loop-at.at c.args.stmts.now))) (sym (stmt_of-fields c.index-stmts-at.result))
           ∙ sym (code_before c.args.stmts.now c.loop-at.at c.index-stmts-at.result c.loop-at-test.true h.within c.index-stmts-at.is);
       below = c.in_ok-add_node.ensures.below;
       grown = grown_twice _ _ _ h.grown (grown_twice _ _ _ c.in_ok-op.ensures.grown c.in_ok-add_node.ensures.grown);

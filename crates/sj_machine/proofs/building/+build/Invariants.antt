@@ -1,5 +1,5 @@
 use Rattle.std.proofs.Common.{◌≡◌, ◌≤◌, length, drop, take, map}
-use Rattle.sj_lang.specs.Code.{code_of, arm_of, branches_of}
+use Rattle.sj_lang.specs.CodeView.{code_of, arm_of, branches_of}
 use Rattle.sj_machine.specs.Arena.{codes_of, code_in, arms_in, IsBelow, AreBelow, Grown}
 use Rattle.sj_machine.proofs.building.+build.Given as goal
 

@@ -1,6 +1,6 @@
 use Rattle.std.proofs.Common.{◌≡◌, List, drop}
 use Rattle.sj_lang.specs.Code.{Code}
-use Rattle.sj_semantics.specs.Wants.{has_label}
+use Rattle.sj_semantics.specs.Fitting.{has_label}
 use Rattle.sj_machine.specs.Arena.{arms_in}
 use Rattle.sj_machine.proofs.wanting.has_arm.Given as goal
 

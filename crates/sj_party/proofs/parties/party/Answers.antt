@@ -1,7 +1,7 @@
 use Rattle.std.proofs.Common.{ℕ, List, ◌∷◌, false, refl}
 use Rattle.std.specs.Prelude.{codes}
 use Rattle.std.proofs.lemmas.Bool.{leb-false}
-use Rattle.sj_lang.specs.Code.{code_of}
+use Rattle.sj_lang.specs.CodeView.{code_of}
 use Rattle.sj_grammar.specs.declared.refusal.ParseRefusal.TheVariants as refusals
 use Rattle.sj_grammar.specs.Limits.{limits}
 use Rattle.sj_grammar.specs.FileDues.{Due, fixed, stmts, parties, file_layer}

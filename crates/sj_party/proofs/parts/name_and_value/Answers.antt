@@ -1,5 +1,5 @@
 use Rattle.std.proofs.Common.{[], ◌∷◌, refl}
-use Rattle.sj_lang.specs.Term.{term_of}
+use Rattle.sj_lang.specs.CodeView.{term_of}
 use Rattle.sj_grammar.specs.ExpressionDues.{whole}
 use Rattle.sj_grammar.specs.FileDues.{name, expr}
 use Rattle.sj_proto.specs.Parsed.{standing}

@@ -1,6 +1,6 @@
 use Rattle.std.proofs.Common.{ℕ, false, ◌∷◌}
 use Rattle.sj_grammar.specs.FileDues.{name}
-use Rattle.sj_grammar.specs.Faults.{OnFault}
+use Rattle.sj_grammar.specs.Refusals.{OnFault}
 use Rattle.sj_grammar.specs.Asked.{Refuses, but_name}
 use Rattle.sj_proto.specs.Parsed.{standing, Stops}
 use Rattle.sj_proto.proofs.Exits.{if_err_map}

@@ -3,8 +3,7 @@ use Rattle.std.specs.Prelude.{codes, map}
 use Rattle.sj_text.specs.Cut.{IsCutShort}
 use Rattle.sj_text.proofs.Cuts.{one_more, ahead_is, cut_here, cut_within, finish_cut, on_err, err_behind}
 use Rattle.sj_lang.specs.declared.party.StmtArm.{out-StmtArm}
-use Rattle.sj_lang.specs.Term.{term_of}
-use Rattle.sj_lang.specs.Code.{arm_of, branches_of, code_of, deed_of}
+use Rattle.sj_lang.specs.CodeView.{term_of, arm_of, branches_of, code_of, deed_of}
 use Rattle.sj_party.specs.CanonicalExpression.{spelling_of}
 use Rattle.sj_party.specs.CanonicalCode.{spaces, newline, in_block, valued_text, act_text, arms_text, block_text}
 use Rattle.sj_party.proofs.PrintedCode.{closing, code_ahead, arms_ahead, code_done, arms_done, stmt_step, arm_step, block_opened, arms_opened, if_text}

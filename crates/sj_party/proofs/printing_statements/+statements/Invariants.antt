@@ -1,7 +1,7 @@
 use Rattle.std.proofs.Common.{◌+◌, ◌++◌}
 use Rattle.std.specs.Prelude.{map}
 use Rattle.sj_text.proofs.Cuts.{StillTo}
-use Rattle.sj_lang.specs.Code.{code_of, arm_of, branches_of}
+use Rattle.sj_lang.specs.CodeView.{code_of, arm_of, branches_of}
 use Rattle.sj_party.specs.CanonicalExpression.{spelling_of}
 use Rattle.sj_party.specs.CanonicalCode.{in_block, arms_text, block_text}
 use Rattle.sj_party.proofs.PrintedCode.{code_ahead, arms_ahead}

@@ -1,7 +1,7 @@
 use Rattle.std.proofs.Common.{[], ◌∷◌, refl, sym, subst}
 use Rattle.std.specs.Prelude.{codes}
-use Rattle.sj_lang.specs.Term.{term_of}
-use Rattle.sj_lang.specs.Code.{Act}
+use Rattle.sj_lang.specs.CodeView.{term_of}
+use Rattle.sj_lang.specs.Code.{DeedAt}
 use Rattle.sj_lang.proofs.Folds.{deed_of-Send}
 use Rattle.sj_grammar.specs.declared.refusal.ParseRefusal.TheVariants as refusals
 use Rattle.sj_grammar.specs.ExpressionDues.{whole}
@@ -31,5 +31,5 @@ returns-clause-reads c = λ o.
     let m = standing c.name_and_value.new.tokens c.name_and_value.new.names in
     let b = standing c.expect.new.self c.name_and_value.new.names in
     let taken = plain c.name_and_value.new.tokens c.expect.new.self c.name_and_value.new.names (codes ";") refl refl c.in_ok-expect.ensures.ok in
-    subst (λ (act : Act). ReadsDeed (codes "send") o a b act) (sym (deed_of-Send c.in_ok-end.end c.in_ok-end.value))
+    subst (λ (act : DeedAt). ReadsDeed (codes "send") o a b act) (sym (deed_of-Send c.in_ok-end.end c.in_ok-end.value))
     (record { first = refl; parts = parts_on (a_name c.in_ok-end.end ∷ an_expression (term_of c.in_ok-end.value) ∷ []) (a_piece (codes ";") ∷ []) a m b c.in_ok-end.ensures.reads (b, taken, refl) })

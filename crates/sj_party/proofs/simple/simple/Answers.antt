@@ -1,6 +1,6 @@
 use Rattle.std.proofs.Common.{ℕ, sym, subst}
 use Rattle.std.specs.Prelude.{IfOk, IfErr}
-use Rattle.sj_lang.specs.Code.{deed_of}
+use Rattle.sj_lang.specs.CodeView.{deed_of}
 use Rattle.sj_proto.specs.Parsed.{standing, Stops}
 use Rattle.sj_party.specs.declared.openings.Word.{Word}
 use Rattle.sj_party.specs.Parts.{ReadsDeed}

@@ -2,7 +2,7 @@ use Rattle.std.proofs.Common.{◌∙◌, ap, arith, map}
 use Rattle.std.proofs.lemmas.List.{length-map, take_all}
 use Rattle.sj_lang.specs.FileView.{file_of, party_of}
 use Rattle.sj_machine.specs.Sound.{program_at}
-use Rattle.sj_semantics.specs.Start.{start_of}
+use Rattle.sj_semantics.specs.World.{start_of}
 use Rattle.sj_plain.proofs.BeginLemmas.{length-start, seen_next}
 use Rattle.sj_plain.proofs.course.first_machines.Goals as goal
 

@@ -1,6 +1,6 @@
 use Rattle.std.proofs.Common.{◌≡◌, map, take}
 use Rattle.sj_lang.specs.FileView.{connect_of, file_of}
-use Rattle.sj_semantics.specs.Start.{session_of}
+use Rattle.sj_semantics.specs.World.{session_of}
 use Rattle.sj_plain.specs.Stepping.{sessions_at}
 use Rattle.sj_plain.proofs.course.first_sessions.Given as goal
 

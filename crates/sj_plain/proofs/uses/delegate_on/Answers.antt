@@ -1,5 +1,5 @@
 use Rattle.std.proofs.Common.{◌∙◌, ◌∷◌, [], ap, arith}
-use Rattle.sj_semantics.specs.Uses.{after_uses, hands_on}
+use Rattle.sj_semantics.specs.Uses.{after_uses, delegates}
 use Rattle.sj_semantics.specs.World.{session_message}
 use Rattle.sj_semantics.specs.Ends.{end_at}
 use Rattle.sj_plain.specs.Stepping.{sessions_at}
@@ -13,5 +13,5 @@ hand_on-requires c =
 pub returns-clause-ok : goal.returns-clause-ok
 returns-clause-ok c =
     c.hand_on.ensures c.args.party
-    ∙ ap (after_uses c.args.party ((c.args.end, hands_on) ∷ [])) c.in_ok-send_on.ensures.ok
+    ∙ ap (after_uses c.args.party ((c.args.end, delegates) ∷ [])) c.in_ok-send_on.ensures.ok
     ∙ handed_first c.args.party c.args.carrier c.args.end (session_message c.args.end c.args.party) (sessions_at c.args.sessions.now.items)

@@ -1,7 +1,7 @@
 use Rattle.std.proofs.Common.{◌++◌, ◌∷◌, [], ◌∙◌, ap, length}
 use Rattle.sj_lang.specs.FileAt.{FileAt}
 use Rattle.sj_lang.specs.FileView.{file_of}
-use Rattle.sj_plain.specs.Plain.{acts_of, kept, world_at}
+use Rattle.sj_plain.specs.Plain.{acts_of, kept_file, world_at}
 use Rattle.sj_semantics.specs.Lines.{line_of}
 use Rattle.sj_semantics.specs.Transcript.{party_lines, session_lines, transcript_of, verdict_word}
 use Rattle.sj_text.proofs.Cuts.{cut_in_first, cut_behind, whole_is, on_err, put_both, ok_behind, err_behind, ok_whole, err_whole}
@@ -10,11 +10,11 @@ use Rattle.sj_print.proofs.transcript.print_transcript.Goals as goal
 
 pub put_sessions-requires-clause-all : goal.put_sessions-requires-clause-all
 put_sessions-requires-clause-all c =
-    let p = c.args.plain.now in session_count-run (kept p) (acts_of p) (world_at p) c.requires.run ∙ ap (λ (f : FileAt). length f.connects) c.requires.kept
+    let p = c.args.plain.now in session_count-run (kept_file p) (acts_of p) (world_at p) c.requires.run ∙ ap (λ (f : FileAt). length f.connects) c.requires.kept
 
 pub put_parties-requires-clause-all : goal.put_parties-requires-clause-all
 put_parties-requires-clause-all c =
-    let p = c.args.plain.now in party_count-run (kept p) (acts_of p) (world_at p) c.requires.run ∙ ap (λ (f : FileAt). length f.parties) c.requires.kept
+    let p = c.args.plain.now in party_count-run (kept_file p) (acts_of p) (world_at p) c.requires.run ∙ ap (λ (f : FileAt). length f.parties) c.requires.kept
 
 pub returns-in_err-put_sessions-clause-err : goal.returns-in_err-put_sessions-clause-err
 returns-in_err-put_sessions-clause-err c =

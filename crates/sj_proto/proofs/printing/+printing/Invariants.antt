@@ -1,7 +1,8 @@
 use Rattle.std.proofs.Common.{◌+◌, ◌*◌, ◌++◌, drop}
 use Rattle.std.specs.Prelude.{codes}
 use Rattle.sj_text.proofs.Cuts.{StillTo}
-use Rattle.sj_lang.specs.Place.{done, place_size, carried_size, choices_size}
+use Rattle.sj_lang.specs.Place.{done}
+use Rattle.sj_lang.specs.PlaceSize.{place_size, carried_size, choices_size}
 use Rattle.sj_lang.specs.View.{place_of, followed, carried_of}
 use Rattle.sj_grammar.specs.Tables.{entry_of}
 use Rattle.sj_grammar.specs.Canonical.{seq_text, arms_text}

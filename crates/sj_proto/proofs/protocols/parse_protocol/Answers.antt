@@ -1,5 +1,5 @@
 use Rattle.sj_grammar.specs.declared.refusal.ParseRefusal.TheVariants as refusals
-use Rattle.sj_grammar.specs.Faults.{OnFault}
+use Rattle.sj_grammar.specs.Refusals.{OnFault}
 use Rattle.sj_proto.specs.Protocols.{IsFirstFault}
 use Rattle.sj_proto.proofs.Exits.{err_as}
 use Rattle.sj_proto.proofs.Texts.{first_fault, behind_fault, protocol_is, refused_none, one_protocol}

@@ -1,6 +1,6 @@
 use Rattle.std.proofs.Common.{◌∙◌, List, Bool, map, refl, sym, subst}
 use Rattle.sj_check.specs.Held.{file_in}
-use Rattle.sj_core.specs.World.{history_of, kept, world_at}
+use Rattle.sj_core.specs.World.{history_of, kept_file, world_at}
 use Rattle.sj_end.specs.Lines.{line_at}
 use Rattle.sj_lane.specs.declared.lane.Lanes.{Lanes}
 use Rattle.sj_lane.specs.Square.{HasFault, Kept}
@@ -52,8 +52,8 @@ returns-in-Err-clause-telling g c =
 pub returns-in-Some-clause-damaged : goal.returns-in-Some-clause-damaged
 returns-in-Some-clause-damaged g c =
     let world = c.in-Ok.world in
-    refused_damage (file_of (file_in c.args.accepted.now)) (kept world) (map line_at c.in_ok-lines.lines.items) (world_at world) c.past_end.result c.in-Ok.ensures.kept c.in_ok-lines.ensures.order
-    c.in-Ok.ensures.run (subst (λ (ls : List LineAt). IsPastEndOf (kept world) (world_at world) ls c.past_end.result) c.in-Ok.ensures.history c.past_end.ensures.refused)
+    refused_damage (file_of (file_in c.args.accepted.now)) (kept_file world) (map line_at c.in_ok-lines.lines.items) (world_at world) c.past_end.result c.in-Ok.ensures.kept c.in_ok-lines.ensures.order
+    c.in-Ok.ensures.run (subst (λ (ls : List LineAt). IsPastEndOf (kept_file world) (world_at world) ls c.past_end.result) c.in-Ok.ensures.history c.past_end.ensures.refused)
 
 pub returns-in-Some-clause-telling : goal.returns-in-Some-clause-telling
 returns-in-Some-clause-telling g c =

@@ -1,5 +1,5 @@
 use Rattle.std.proofs.Common.{◌∙◌, ◌-◌, ◌^◌, ap, take}
-use Rattle.sj_socket.specs.Counts.{added, met_in}
+use Rattle.sj_socket.specs.Counts.{capped_sum, met_in}
 use Rattle.sj_socket.specs.declared.in_lane.SocketIn.{SocketIn}
 use Rattle.sj_socket.proofs.SumLemmas.{next_sum, total_next, total_whole}
 use Rattle.sj_socket.proofs.counting.with_ins.Goals as goal
@@ -10,4 +10,4 @@ loop-lane-preserved c =
     (total_next (λ (i : SocketIn). i.faults) c.args.ins.now c.loop-lane.lane-index c.lane-item.result c.loop-lane-test.true c.lane-item.is)
 
 pub returns : goal.returns
-returns c = c.loop-lane.invariant ∙ ap (added c.args.before) (total_whole (λ (i : SocketIn). i.faults) c.args.ins.now c.loop-lane.lane-index c.loop-lane-test.false)
+returns c = c.loop-lane.invariant ∙ ap (capped_sum c.args.before) (total_whole (λ (i : SocketIn). i.faults) c.args.ins.now c.loop-lane.lane-index c.loop-lane-test.false)

@@ -1,5 +1,5 @@
 use Rattle.std.proofs.Common.{◌∙◌, ◌-◌, ◌^◌, ap, take}
-use Rattle.sj_socket.specs.Counts.{added, met_out}
+use Rattle.sj_socket.specs.Counts.{capped_sum, met_out}
 use Rattle.sj_socket.specs.declared.out_lane.SocketOut.{SocketOut}
 use Rattle.sj_socket.proofs.SumLemmas.{next_sum, total_next, total_whole}
 use Rattle.sj_socket.proofs.counting.with_outs.Goals as goal
@@ -10,4 +10,4 @@ loop-out-preserved c =
     (total_next (λ (o : SocketOut). o.faults) c.args.outs.now c.loop-out.out-index c.out-item.result c.loop-out-test.true c.out-item.is)
 
 pub returns : goal.returns
-returns c = c.loop-out.invariant ∙ ap (added c.args.before) (total_whole (λ (o : SocketOut). o.faults) c.args.outs.now c.loop-out.out-index c.loop-out-test.false)
+returns c = c.loop-out.invariant ∙ ap (capped_sum c.args.before) (total_whole (λ (o : SocketOut). o.faults) c.args.outs.now c.loop-out.out-index c.loop-out-test.false)

@@ -1,13 +1,13 @@
 use Rattle.std.proofs.Common.{◌≤◌, length, sym, subst, arith}
 use Rattle.sj_command.specs.declared.tasks.Task.{Task}
-use Rattle.sj_tool.specs.Calls.{LinkUseAt, used}
+use Rattle.sj_tool.specs.Calls.{LinkUseAt, link_use}
 use Rattle.sj_tool.specs.Tasks.{HasParts, file_limit}
 use Rattle.sj_tool.proofs.FileAnswers.{answers_bytes}
 use Rattle.sj_tool.proofs.answering.answer_to_bytes.Goals as goal
 
 pub returns : goal.returns
 returns g c =
-    let links : LinkUseAt = used g.L.Links.tells g.L.Links.faults g.L.Links.sent g.L.Links.got g.L.Links.vain_out g.L.Links.vain_in c.args.links.now c.answer_to_text-2.new.links in
+    let links : LinkUseAt = link_use g.L.Links.tells g.L.Links.faults g.L.Links.sent g.L.Links.got g.L.Links.vain_out g.L.Links.vain_in c.args.links.now c.answer_to_text-2.new.links in
     let bytes = c.args.bytes.now in
     let text = c.in-Some.text.now in
     let log = c.in-Some.log.now in

@@ -5,7 +5,7 @@ use Rattle.sj_check.specs.Held.{file_in}
 use Rattle.sj_semantics.specs.Run.{end_of}
 use Rattle.sj_semantics.specs.State.{verdict_of}
 use Rattle.sj_semantics.specs.Transcript.{transcript_of}
-use Rattle.sj_plain.specs.Plain.{kept, world_at}
+use Rattle.sj_plain.specs.Plain.{kept_file, world_at}
 use Rattle.sj_tool.proofs.EndLemmas.{end_kept}
 use Rattle.sj_tool.proofs.playing.simulated.Goals as goal
 
@@ -13,7 +13,7 @@ pub returns : goal.returns
 returns c =
     let file = file_of (file_in c.args.accepted.now) in
     let held = c.file.ensures.value in
-    let ends : world_at c.finish.new.self ≡ end_of file = end_kept (kept c.finish.new.self) (kept c.in_ok-plain.plain) file (world_at c.finish.new.self) c.in_ok-finish.ensures.end c.finish.ensures.kept c.in_ok-plain.ensures.kept in
+    let ends : world_at c.finish.new.self ≡ end_of file = end_kept (kept_file c.finish.new.self) (kept_file c.in_ok-plain.plain) file (world_at c.finish.new.self) c.in_ok-finish.ensures.end c.finish.ensures.kept c.in_ok-plain.ensures.kept in
     let verdict = c.verdict.ensures ∙ ap verdict_of ends in
     let text =
     c.in_ok-print_transcript.ensures.ok

@@ -1,5 +1,5 @@
 use Rattle.std.proofs.Common.{refl, ap, sym, ◌∙◌}
-use Rattle.sj_work.specs.Worked.{kept}
+use Rattle.sj_work.specs.Worked.{kept_stop}
 use Rattle.sj_work.proofs.LaneLaws.{TurnedBy, laws}
 use Rattle.sj_work.proofs.TurnLemmas.{turned_behind, turned_seen, worked_by}
 use Rattle.sj_work.proofs.WentLemmas.{went_itself}
@@ -18,4 +18,4 @@ returns-clause-worked g c =
       | then-is_none w ↦ rw w.worker-is (turned_behind k c.args.looks a b w.go.new.worker (went_itself k a b refl refl) w.go.ensures.turned)
       | else-is_none w ↦ rw w.worker-is (turned_seen k a b c.finished-worker.result refl c.finished-worker.ensures (went_itself k a b refl refl) c.args.looks)
     ] in
-    worked_by k c.args.looks a c.if-is_none.worker c.in-Some-stop.stop (ap kept (sym c.stop.ensures) ∙ sym c.kept.ensures ∙ c.in_default.is) (sym c.stop-2.ensures ∙ c.in-Some-stop.is) turned
+    worked_by k c.args.looks a c.if-is_none.worker c.in-Some-stop.stop (ap kept_stop (sym c.stop.ensures) ∙ sym c.kept.ensures ∙ c.in_default.is) (sym c.stop-2.ensures ∙ c.in-Some-stop.is) turned

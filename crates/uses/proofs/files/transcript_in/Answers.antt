@@ -4,7 +4,7 @@ use Rattle.sj_lang.specs.FileAt.{FileAt}
 use Rattle.sj_lang.specs.FileView.{file_of}
 use Rattle.sj_lang.specs.declared.file.File.{File}
 use Rattle.sj_plain.specs.Kept.{without_words}
-use Rattle.sj_plain.specs.Plain.{kept, world_at}
+use Rattle.sj_plain.specs.Plain.{kept_file, world_at}
 use Rattle.sj_semantics.specs.Run.{end_of}
 use Rattle.sj_semantics.specs.Transcript.{transcript_of}
 use Rattle.sj_tool.proofs.EndLemmas.{end_kept}
@@ -17,7 +17,7 @@ returns-in-Ok-print_transcript c =
     let same : file_of c.file.result.now ≡ file = ap file_of (c.file.ensures.value ∙ it) in
     let w = world_at c.finish.new.self in
     let first = c.in-Ok-start.ensures.kept ∙ ap (λ (f : File). without_words (file_of f)) it in
-    let ends : w ≡ end_of file = end_kept (kept c.finish.new.self) (kept c.in-Ok-start.plain) file w c.in-Ok-finish.ensures.end c.finish.ensures.kept first in
+    let ends : w ≡ end_of file = end_kept (kept_file c.finish.new.self) (kept_file c.in-Ok-start.plain) file w c.in-Ok-finish.ensures.end c.finish.ensures.kept first in
     record {
       file = file;
       read = c.in-Ok.ensures.found;

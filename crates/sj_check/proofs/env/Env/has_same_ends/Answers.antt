@@ -1,11 +1,11 @@
 use Rattle.std.proofs.Common.{◌≡◌, ◌∙◌, ◌&&◌, ap, sym}
-use Rattle.sj_acceptance.specs.Known.{Known}
+use Rattle.sj_acceptance.specs.EnvAt.{EnvAt}
 use Rattle.sj_acceptance.specs.Sameness.{is_same_ends}
 use Rattle.sj_check.specs.Within.{keys_within}
 use Rattle.sj_check.proofs.CopyLemmas.{within-both}
 use Rattle.sj_check.proofs.env.Env.has_same_ends.Goals as goal
 
-views : (a b : Known) (m n : Known) → m ≡ a → n ≡ b → is_same_ends m.ends n.ends ≡ is_same_ends a.ends b.ends
+views : (a b : EnvAt) (m n : EnvAt) → m ≡ a → n ≡ b → is_same_ends m.ends n.ends ≡ is_same_ends a.ends b.ends
 views a b m n e f = λ i. is_same_ends (e i).ends (f i).ends
 
 pub returns-then-kept : goal.returns-then-kept

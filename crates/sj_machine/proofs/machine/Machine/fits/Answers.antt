@@ -1,5 +1,5 @@
 use Rattle.std.proofs.Common.{arith, ap, ◌∙◌}
-use Rattle.sj_semantics.specs.Wants.{fits, fits_todo}
+use Rattle.sj_semantics.specs.Fitting.{fits, fits_todo}
 use Rattle.sj_machine.specs.Sound.{program_at}
 use Rattle.sj_machine.proofs.FrameLemmas.{frame_there}
 use Rattle.sj_machine.proofs.StepLemmas.{step_makes}

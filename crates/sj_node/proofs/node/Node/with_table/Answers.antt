@@ -14,11 +14,11 @@ use Rattle.sj_rules.specs.Mapped.{old_with}
 use Rattle.sj_rules.specs.Party.{nobody}
 use Rattle.sj_rules.specs.Start.{first_main, first_node}
 use Rattle.sj_rules.specs.Record.{OldAt}
-use Rattle.sj_semantics.specs.Start.{start_of}
+use Rattle.sj_semantics.specs.World.{start_of}
 use Rattle.sj_node.specs.declared.slots.Old.{Old}
 use Rattle.sj_node.specs.Play.{play_with}
 use Rattle.sj_node.specs.Slots.{look, old_at}
-use Rattle.sj_node.specs.Starting.{seen}
+use Rattle.sj_node.specs.Starting.{slot_at_places}
 use Rattle.sj_node.proofs.StartingLemmas.{first_records, length-slots_from, no_records}
 use Rattle.sj_node.proofs.node.Node.with_table.Goals as goal
 
@@ -29,13 +29,13 @@ returns-clause-begins c =
     let same : file ≡ file_of (file_in c.args.accepted.now) = ap file_of c.file-file.ensures.value in
     let program : program_at c.in_ok-machine.machine ≡ unwrap_or (slice_get (start_of file).parties c.args.party) nobody =
     sym (ap (λ (o : Option Program). unwrap_or o nobody) c.in_ok-machine.ensures) in
-    let mains : (e : EndId) → seen table (look c.in_ok-mains.mains.items e) ≡ first_main file c.args.party e =
+    let mains : (e : EndId) → slot_at_places table (look c.in_ok-mains.mains.items e) ≡ first_main file c.args.party e =
     first_records table file c.args.party c.in_ok-mains.mains.items c.in_ok-mains.ensures.slots in
     let olds : ◌≡◌ {A = EndId → Option (OldAt Place)} (λ e. option_map (old_with (place_in table)) (option_map old_at (look c.new.result.items e))) (λ e. None) =
     ap {B = EndId → Option (OldAt Place)} (λ (xs : List (Option Old)) (e : EndId). option_map (old_with (place_in table)) (option_map old_at (look xs e))) c.new.ensures.items
     ∙ (λ i e. option_map (old_with (place_in table)) (no_records old_at i e)) in
     let slots : length c.in_ok-mains.mains.items ≡ 2 * length file.connects =
-    sym (length-map c.in_ok-mains.mains.items (seen table)) ∙ ap length c.in_ok-mains.ensures.slots ∙ length-slots_from file c.args.party 0 file.connects in
+    sym (length-map c.in_ok-mains.mains.items (slot_at_places table)) ∙ ap length c.in_ok-mains.ensures.slots ∙ length-slots_from file c.args.party 0 file.connects in
     let parties : c.len.result ≡ length file.parties =
     omega (arith, c.len.ensures, c.file-file.result.now.parties.ok.0, length-map c.file-file.result.now.parties.items party_of) in
     let all_slots : length c.in_ok-mains.mains.items ≡ 2 * length (file_of (file_in c.args.accepted.now)).connects = slots ∙ ap (λ (f : FileAt). 2 * length f.connects) same in
