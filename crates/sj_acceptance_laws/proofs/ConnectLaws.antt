@@ -1,5 +1,5 @@
 -- The tests of connections.
-use Rattle.std.proofs.Common.{◌≡◌, ℕ, ◌<◌, List, [], ◌∷◌, ◌++◌, ◌||◌, Option, Some, None, Bool, true, false, cond, is_some, unwrap_or, length, refl, ap, sym, ◌∙◌, subst, append_assoc}
+use Rattle.std.proofs.Common.{◌≡◌, ℕ, List, [], ◌∷◌, ◌++◌, ◌||◌, Option, Some, None, Bool, true, false, cond, is_some, unwrap_or, refl, ap, sym, ◌∙◌, subst, append_assoc}
 use Rattle.std.proofs.Common as common
 use Rattle.std.specs.List.{AllByRecursion}
 use Rattle.sj_lang.specs.Place.{Place, done}

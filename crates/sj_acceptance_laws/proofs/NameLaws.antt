@@ -1,5 +1,5 @@
 -- The tests of the names of protocols and of parties.
-use Rattle.std.proofs.Common.{◌≡◌, ◌≢◌, ℕ, List, [], ◌∷◌, ◌++◌, ◌==◌, ◌||◌, Some, None, Bool, true, false, cond, map, refl, ap, sym, ◌∙◌}
+use Rattle.std.proofs.Common.{◌≡◌, ◌≢◌, ℕ, List, [], ◌∷◌, ◌++◌, ◌==◌, ◌||◌, Some, None, Bool, true, false, cond, map, refl, ap, ◌∙◌}
 use Rattle.std.proofs.Common as common
 use Rattle.std.specs.List.{AllByRecursion}
 use Rattle.std.proofs.lemmas.Bool.Decides.{Decides-eqb}

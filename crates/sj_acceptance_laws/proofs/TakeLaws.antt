@@ -1,10 +1,10 @@
 -- The tests of the statements that take all pass exactly where an environment follows, and then that one.
-use Rattle.std.proofs.Common.{◌≡◌, ◌≢◌, ℕ, List, [], ◌∷◌, ◌++◌, ◌==◌, ◌||◌, Option, Some, None, Bool, true, false, cond, is_some, unwrap_or, refl, ap, sym, ◌∙◌}
+use Rattle.std.proofs.Common.{◌≡◌, ℕ, List, [], ◌∷◌, ◌||◌, Option, Some, None, true, cond, is_some, unwrap_or, refl, ap, sym, ◌∙◌}
 use Rattle.std.proofs.Common as common
 use Rattle.std.specs.FinMap.{get}
 use Rattle.sj_lang.specs.declared.proto.Way.TheVariants.{Out, Into}
 use Rattle.sj_lang.specs.declared.party.Scalar.{Scalar}
-use Rattle.sj_lang.specs.Place.{Place, Choices, done, message, choice, repeat, session}
+use Rattle.sj_lang.specs.Place.{Place, done, message, choice, repeat, session}
 use Rattle.sj_lang.specs.Place as place
 use Rattle.sj_lang.specs.Code.{take_value, take_end}
 use Rattle.sj_lang.specs.FileAt.{ProtocolAt, protocol_named}

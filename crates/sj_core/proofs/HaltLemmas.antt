@@ -16,7 +16,7 @@ use Rattle.sj_rules.specs.Node.{NodeAt, act_by, acts, close_act, delegate_act, s
 use Rattle.sj_rules.specs.Party.{play_for, want_or_ended}
 use Rattle.sj_node.specs.declared.refusal.Halt.{Halt}
 use Rattle.sj_node.specs.declared.refusal.Halt.TheVariants as halts
-use Rattle.sj_node.specs.Halts.{held_up, is_awaited, is_worn_out, lacks_message, names_awaited, stop_by, stop_wanting}
+use Rattle.sj_node.specs.Halts.{held_up, is_awaited, is_worn_out, lacks_message, names_awaited, stop_by}
 use Rattle.sj_node.specs.Play.{next_want}
 
 -- the party without the end, which it has parked

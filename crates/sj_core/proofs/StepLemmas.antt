@@ -17,7 +17,7 @@ use Rattle.sj_rules.specs.History.{due, event_note, line_after}
 use Rattle.sj_rules.specs.World as world
 use Rattle.sj_rules.specs.World.{WorldAt, after_event, happens}
 use Rattle.sj_node.specs.declared.node.Node.{Node}
-use Rattle.sj_node.specs.Node.{Does, Stays, act_of, clock_of, log_of, node_at, note_for, outbox_of}
+use Rattle.sj_node.specs.Node.{Does, Stays, act_of, clock_of, log_of, node_at, note_for}
 use Rattle.sj_node.specs.Reading.{TakesEntry}
 use Rattle.sj_core.specs.Nodes.{AreSeated, IsSeated, Moves, Rests, box_or, node_or, world_by}
 use Rattle.sj_core.specs.Views.{event_at, note_seen}

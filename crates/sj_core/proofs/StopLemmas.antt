@@ -9,7 +9,7 @@ use Rattle.sj_rules.specs.Node.{acts}
 use Rattle.sj_rules.specs.Party.{play_of}
 use Rattle.sj_rules.specs.Record.{MainAt}
 use Rattle.sj_rules.specs.World as rules
-use Rattle.sj_rules.specs.World.{WorldAt, after_event, happens}
+use Rattle.sj_rules.specs.World.{after_event, happens}
 use Rattle.sj_node.specs.declared.node.Node.{Node}
 use Rattle.sj_node.specs.declared.refusal.Halt.{Halt}
 use Rattle.sj_node.specs.declared.refusal.Halt.TheVariants as halts

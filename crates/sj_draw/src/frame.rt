@@ -1,5 +1,5 @@
 //! What is gathered of lines: parties and sessions in order, and the arrows that a picture shows.
-ghost use Rattle.std.specs.Prelude.{◌≡◌, ◌≤◌, IsTrue, IfOk, OnOk, map, length};
+ghost use Rattle.std.specs.Prelude.{◌≡◌, ◌≤◌, OnOk, map, length};
 ghost use Rattle.std.specs.Option.{option_map};
 ghost use Rattle.sj_draw.specs.Frame.{empty, number_of, name_of, with_party, with_any, with_passed, with_line, is_within, is_hook};
 ghost use Rattle.sj_draw.specs.Lines.{Log};

@@ -1,5 +1,5 @@
 //! Where the parties' lines and the arrows stand, in a picture's own unit.
-ghost use Rattle.std.specs.Prelude.{◌≡◌, ◌≤◌, ◌-◌, IsTrue, length};
+ghost use Rattle.std.specs.Prelude.{◌≡◌, ◌≤◌, ◌-◌, IsTrue};
 ghost use Rattle.sj_draw.specs.Frame.{is_within};
 ghost use Rattle.sj_draw.specs.Drawn.{layout_of, x_of, width_of, tip_of};
 ghost use Rattle.sj_draw.specs.Small.{IsSmall};

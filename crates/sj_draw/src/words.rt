@@ -1,5 +1,5 @@
 //! Words of a line, and what each may be.
-ghost use Rattle.std.specs.Prelude.{◌≡◌, Some, nat_eq};
+ghost use Rattle.std.specs.Prelude.{◌≡◌, Some};
 ghost use Rattle.std.specs.Option.{option_map};
 ghost use Rattle.sj_draw.specs.Words.{before, behind, are_digits, is_number, is_end, is_of, behind_fields, is_just};
 

@@ -14,10 +14,10 @@ use Rattle.sj_grammar.specs.Expressions.{Spelt, factor, IsExpression}
 use Rattle.sj_grammar.specs.Expressions as spelt
 use Rattle.sj_grammar.specs.Statements.{braced, IsCode}
 use Rattle.sj_grammar.specs.Statements as code
-use Rattle.sj_grammar.specs.Files.{IsProtocolDef, IsConnect, AreParties, names_of}
+use Rattle.sj_grammar.specs.Files.{AreParties, names_of}
 use Rattle.sj_grammar.specs.Files as files
 use Rattle.sj_generator_laws.specs.GeneratedFile as file
-use Rattle.sj_generator_laws.specs.GeneratedFile.{words, numbers, generated_file}
+use Rattle.sj_generator_laws.specs.GeneratedFile.{generated_file}
 use Rattle.sj_generator_laws.proofs.NameLemmas.{name_v, name_x, name_r, name_z, name_y, name_u, name_s, name_k}
 
 -- the file's names

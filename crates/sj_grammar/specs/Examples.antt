@@ -9,7 +9,7 @@ use Rattle.sj_grammar.specs.Literals.{inner}
 use Rattle.sj_grammar.specs.Places.{start}
 use Rattle.sj_grammar.specs.Layers.{goes, stops, run}
 use Rattle.sj_grammar.specs.Refusals.{fault_next}
-use Rattle.sj_grammar.specs.ProtocolDues.{body, more, seq, behind, kind, label, maybe, arms}
+use Rattle.sj_grammar.specs.ProtocolDues.{body, more, maybe, arms}
 use Rattle.sj_grammar.specs.ProtocolDues as protocol
 use Rattle.sj_grammar.specs.ExpressionDues.{whole, factor, times, plus, compare}
 use Rattle.sj_grammar.specs.FileDues.{protocols, parties, connects, stmts, branches, fixed, semicolon, proto, expr, file_layer, file_due, statement_follow}

@@ -1,7 +1,7 @@
 //! What waits in lanes in memory, moved to the other side.
-ghost use Rattle.std.specs.Prelude.{◌≡◌, ◌<◌, length, Some};
-ghost use Rattle.sj_lane.specs.Square.{AllJoined, IsSquare, SameLists, in_at, out_at};
-ghost use Rattle.sj_lane.specs.Mem.{IsCarried, frames_pushed, frames_popped};
+ghost use Rattle.std.specs.Prelude.{◌<◌, length};
+ghost use Rattle.sj_lane.specs.Square.{AllJoined, IsSquare};
+ghost use Rattle.sj_lane.specs.Mem.{IsCarried};
 ghost use Rattle.sj_lane.specs.MemCarry.{KeptIn, KeptOut, SameMem};
 
 use crate::lane::Lanes;

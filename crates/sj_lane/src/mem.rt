@@ -23,7 +23,7 @@ pub struct MemIn {
 }
 
 impl OutLane for MemOut {
-    ghost use Rattle.std.specs.Prelude.{◌≡◌, ◌≤◌, ◌∷◌, ◌++◌, [], IfErr, OnOk, OnErr};
+    ghost use Rattle.std.specs.Prelude.{◌≡◌, ◌≤◌, ◌∷◌, ◌++◌, [], IfErr, OnOk};
     ghost use Rattle.sj_lane.specs.Mem.{SameOut, frames_pushed};
     ghost use Rattle.sj_lane.specs.MemLaws.{out_itself, out_later};
     ghost use Rattle.sj_lane.specs.Told.{PushCause, pushed_by, told_more, vain_push};
@@ -65,7 +65,7 @@ impl OutLane for MemOut {
 }
 
 impl InLane for MemIn {
-    ghost use Rattle.std.specs.Prelude.{◌≡◌, ◌≤◌, ◌++◌, [], None, IfOk, IfErr, OnErr, option_to_list};
+    ghost use Rattle.std.specs.Prelude.{◌≡◌, ◌≤◌, ◌++◌, [], None, IfOk, IfErr, option_to_list};
     ghost use Rattle.sj_lane.specs.Mem.{SameIn, frames_popped};
     ghost use Rattle.sj_lane.specs.MemLaws.{in_itself, in_later};
     ghost use Rattle.sj_lane.specs.Told.{PopCause, popped_by, told_more, vain_pop};

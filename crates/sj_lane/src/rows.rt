@@ -1,5 +1,5 @@
 //! New lanes in memory for all parties.
-ghost use Rattle.std.specs.Prelude.{◌≡◌, IfOk, length};
+ghost use Rattle.std.specs.Prelude.{IfOk};
 ghost use Rattle.sj_lane.specs.MemRows.{AreNewOuts, AreNewIns, AreNewRows};
 
 use crate::lane::Lanes;

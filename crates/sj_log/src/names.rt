@@ -1,5 +1,5 @@
 //! Names and texts, each from a word of a line or from its end.
-ghost use Rattle.std.specs.Prelude.{◌≡◌, ◌≤◌, ◌-◌, ◌==◌, ◌&&◌, IfOk, IfSome, IfNone, true, false, map, length, slice_index, nat_lt};
+ghost use Rattle.std.specs.Prelude.{◌≡◌, ◌≤◌, ◌-◌, ◌==◌, ◌&&◌, IfOk, IfSome, IfNone, true, false, map};
 ghost use Rattle.std.specs.List.{list_all};
 ghost use Rattle.sj_grammar.specs.Bytes.{is_letter, is_printable, is_word_byte};
 ghost use Rattle.sj_grammar.specs.Names.{is_word};

@@ -15,7 +15,7 @@ use Rattle.sj_semantics.specs.Program.{Program}
 use Rattle.sj_semantics.specs.Wants.{want_of}
 use Rattle.sj_semantics.specs.Fitting.{fits}
 use Rattle.sj_rules.specs.Node as rules
-use Rattle.sj_rules.specs.Node.{NodeAt, Play, act_by, acts, brought, is_free, take_act, take_from, taken_off, with_main}
+use Rattle.sj_rules.specs.Node.{NodeAt, Play, act_by, acts, is_free, take_act, take_from}
 use Rattle.sj_rules.specs.Party as file
 use Rattle.sj_rules.specs.Record.{MainAt, Held, Closed, Expected, HeldAt}
 use Rattle.sj_rules.specs.Rows.{Worked}

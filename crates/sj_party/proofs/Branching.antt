@@ -6,7 +6,7 @@ use Rattle.sj_grammar.specs.Limits.{Limits}
 use Rattle.sj_grammar.specs.Reading.{Reading}
 use Rattle.sj_grammar.specs.Tables.{Spelling, IsNamed}
 use Rattle.sj_grammar.specs.Places.{Piece, plain, first_on, spellings}
-use Rattle.sj_grammar.specs.Statements.{braced, scalar_piece, IsCode, IsStatement, IsBlock, AreArms}
+use Rattle.sj_grammar.specs.Statements.{braced, IsStatement, IsBlock, AreArms}
 use Rattle.sj_grammar.specs.Statements as grammar
 use Rattle.sj_grammar.proofs.Lexing.{read, NoWordByte}
 use Rattle.sj_party.specs.CanonicalCode.{in_block, code_text}

@@ -7,7 +7,7 @@ use Rattle.sj_grammar.specs.Reading.{Reading}
 use Rattle.sj_grammar.specs.Tables.{Spelling}
 use Rattle.sj_grammar.specs.Places.{Piece, plain, first_on, all_plain, spellings}
 use Rattle.sj_grammar.specs.Expressions.{whole}
-use Rattle.sj_grammar.specs.Statements.{braced, scalar_piece, IsCode, IsStatement, IsBlock, AreArms}
+use Rattle.sj_grammar.specs.Statements.{braced, IsCode, IsStatement, IsBlock, AreArms}
 use Rattle.sj_grammar.specs.Statements as grammar
 use Rattle.sj_grammar.proofs.Lexing.{read, name_is_word}
 use Rattle.sj_party.specs.CanonicalExpression.{expression_text}

@@ -9,7 +9,7 @@ use Rattle.sj_lang.specs.declared.party.StmtArm.{StmtArm}
 use Rattle.sj_grammar.specs.Limits.{limits}
 use Rattle.sj_grammar.specs.Tables.{Spelling}
 use Rattle.sj_grammar.specs.Places.{Piece, At, Takes, TakesPiece, plain, first_on}
-use Rattle.sj_grammar.specs.Statements.{scalar_piece, called, IsStatement, IsCode, IsBlock, AreArms}
+use Rattle.sj_grammar.specs.Statements.{called, IsStatement, IsCode, IsBlock, AreArms}
 use Rattle.sj_grammar.specs.Statements as grammar
 use Rattle.sj_party.specs.Read.{ReadsOnLines, ReadsCode}
 use Rattle.sj_party.specs.Parts.{a_name, a_piece, a_block, parts_of, first_word, AreSome, ReadsParts, ReadsDeed}

@@ -8,7 +8,7 @@ use Rattle.sj_grammar.specs.Limits.{Limits}
 use Rattle.sj_grammar.specs.Tables.{Spelling, IsNamed}
 use Rattle.sj_grammar.specs.Places.{Pieces, Piece, plain, first_on, all_plain}
 use Rattle.sj_grammar.specs.Expressions.{IsExpression}
-use Rattle.sj_grammar.specs.Statements.{scalar_piece, braced, called, IsStatement, IsCode, IsBlock, AreArms}
+use Rattle.sj_grammar.specs.Statements.{scalar_piece, called, IsStatement, IsBlock, AreArms}
 use Rattle.sj_grammar.specs.Statements as grammar
 use Rattle.sj_party.specs.Alike.{AreAlike, is_keyword, EndsCode}
 pub use Rattle.sj_party.proofs.WordKinds.{Kind, kind_of, sends, delegates, takes, selects, branches_off, loops_out, loops_in, relays, tests, binds, closes, other, sends_kind, delegates_kind, takes_kind, selects_kind, branches_off_kind, loops_out_kind, loops_in_kind, relays_kind, tests_kind, binds_kind, closes_kind}

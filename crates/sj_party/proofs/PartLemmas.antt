@@ -17,7 +17,7 @@ use Rattle.sj_grammar.specs.Expressions.{operand_count}
 use Rattle.sj_grammar.specs.FileDues.{Due, name, fixed, awaited, block, branches, file_layer}
 use Rattle.sj_grammar.specs.Faults.{Stuck}
 use Rattle.sj_grammar.specs.Refusals.{OnFault}
-use Rattle.sj_grammar.specs.Statements.{scalar_piece, called, AreArms}
+use Rattle.sj_grammar.specs.Statements.{scalar_piece, AreArms}
 use Rattle.sj_grammar.specs.Statements as grammar
 use Rattle.sj_grammar.specs.Asked.{Refuses, but, but_name}
 use Rattle.sj_grammar.proofs.Stuckness.{stuck_cons, stuck_block, refuses_stuck, skip}

@@ -8,7 +8,7 @@ use Rattle.sj_grammar.specs.Limits.{limits}
 use Rattle.sj_grammar.specs.Tables.{Spelling, IsNamed, entry_of}
 use Rattle.sj_grammar.specs.Places.{Pieces, Piece, At, Takes, TakesPiece, spellings, plain, first_on, all_plain}
 use Rattle.sj_grammar.specs.Expressions.{IsExpression}
-use Rattle.sj_grammar.specs.Statements.{scalar_piece, called, IsStatement, IsCode, IsBlock, AreArms}
+use Rattle.sj_grammar.specs.Statements.{scalar_piece, called, IsStatement, IsBlock, AreArms}
 use Rattle.sj_grammar.specs.Statements as grammar
 use Rattle.sj_proto.specs.Parsed.{Gives}
 use Rattle.sj_proto.proofs.Lines.{off_lines, on_lines, OnLines-append}

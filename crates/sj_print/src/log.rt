@@ -8,7 +8,7 @@ ghost use Rattle.sj_text.specs.Cut.{IsCutShort};
 ghost use Rattle.sj_lang.specs.FileView.{file_of};
 ghost use Rattle.sj_semantics.specs.Lines.{line_of};
 ghost use Rattle.sj_print.specs.LogLine.{head_words, log_line, note_words};
-ghost use Rattle.sj_print.specs.Pieces.{piece_text, spaced};
+ghost use Rattle.sj_print.specs.Pieces.{spaced};
 ghost use Rattle.sj_end.specs.Lines.{line_at, note_seen};
 
 use crate::messages::put_message_line;

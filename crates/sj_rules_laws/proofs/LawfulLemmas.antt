@@ -9,7 +9,7 @@ use Rattle.sj_lang.specs.FileAt.{FileAt, ProtocolAt}
 use Rattle.sj_acceptance.specs.Accepted.{IsAccepted}
 use Rattle.sj_semantics.specs.declared.Want.{Want}
 use Rattle.sj_semantics.specs.declared.Passed.{Passed}
-use Rattle.sj_semantics.specs.Ends.{Session, EndAt, end_at, next_for}
+use Rattle.sj_semantics.specs.Ends.{EndAt, end_at}
 use Rattle.sj_semantics.specs.Ends as semantics
 use Rattle.sj_semantics.specs.Program.{Program}
 use Rattle.sj_semantics.specs.Wants.{want_of}

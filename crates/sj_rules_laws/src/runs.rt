@@ -11,7 +11,7 @@
 //! - `a_quiet_core_run_is_at_the_end`, `nothing_is_awaited_at_the_end`: where the core comes to rest.
 
 ghost use Rattle.std.specs.List.{AllByRecursion};
-ghost use Rattle.std.specs.Prelude.{◌≡◌, ℕ, ◌*◌, ◌<◌, ◌≤◌, true, List, ◌∷◌, ◌++◌, map, None, Some, length, slice_get};
+ghost use Rattle.std.specs.Prelude.{◌≡◌, ℕ, ◌*◌, ◌<◌, ◌≤◌, true, List, ◌∷◌, map, None, Some, length, slice_get};
 ghost use Rattle.sj_acceptance.specs.Accepted.{IsAccepted};
 ghost use Rattle.sj_base.specs.declared.EndId.{EndId};
 ghost use Rattle.sj_base.specs.declared.Msg.{Msg};

@@ -25,7 +25,7 @@ use Rattle.sj_joined_laws.proofs.WorkLemmas.{list_of, shown, told_by}
 use Rattle.sj_rules_laws.proofs.JoinedFileLemmas.{lines_are_history, lines_are_run, lost_arrives, own_joined_run, world_of}
 use Rattle.sj_rules_laws.proofs.LimitLemmas.{core_run_clocks}
 use Rattle.sj_rules_laws.proofs.ShortRunLemmas.{runs_are_short}
-use Rattle.sj_lane.specs.Square.{Kept, in_at, out_at}
+use Rattle.sj_lane.specs.Square.{Kept}
 use Rattle.sj_node.specs.Node as nodes
 use Rattle.sj_node.specs.Node.{act_of, clock_of, node_at}
 use Rattle.sj_node.specs.Play.{play_with}
@@ -41,7 +41,7 @@ use Rattle.sj_run.specs.Shown.{IsShown, LinksAt}
 use Rattle.sj_run.specs.Workers.{AllWorked, NoneStopped}
 use Rattle.sj_run.proofs.RestLemmas.{is_at_rest}
 use Rattle.sj_run.proofs.ShownLemmas.{IsAtRest, joined_shown}
-use Rattle.sj_run.proofs.TeamLemmas.{losts, mapped_at, news, plays_file, stopped, team_play, team_works, there_is, turned}
+use Rattle.sj_run.proofs.TeamLemmas.{losts, mapped_at, news, plays_file, stopped, team_works, there_is, turned}
 
 -- a told frame tells the same again
 told_body_twice : (b : BodyAt Place) → told_body done (told_body done b) ≡ told_body done b

@@ -14,7 +14,7 @@ use Rattle.sj_node.specs.declared.refusal.Halt.{Halt}
 use Rattle.sj_node.specs.declared.refusal.Halt.TheVariants as halts
 use Rattle.sj_node.specs.Halts.{stop_by}
 use Rattle.sj_node.specs.Node as nodes
-use Rattle.sj_node.specs.Node.{clock_of, node_at, outbox_of, spot_node, steps_of, wants_of}
+use Rattle.sj_node.specs.Node.{clock_of, node_at, outbox_of, spot_node, steps_of}
 use Rattle.sj_node.specs.Reading.{IsFinished, IsIdle, parties_of}
 use Rattle.sj_core.proofs.HaltLemmas.{halted}
 use Rattle.sj_work.specs.declared.worker.Stop.{Stop}

@@ -1,5 +1,4 @@
 //! What waits in lanes, moved on.
-ghost use Rattle.std.specs.Prelude.{length};
 ghost use Rattle.sj_lane.specs.Rings.{Each2};
 ghost use Rattle.sj_socket.specs.Kept.{InKept, LanesKept, OutKept};
 

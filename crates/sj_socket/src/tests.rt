@@ -1,6 +1,6 @@
 //! Frames over streams of this machine, and what is a fault there.
 ghost use Rattle.std.specs.Prelude.{◌≡◌, ◌<◌, vec_len};
-ghost use Rattle.sj_lane.specs.Square.{AllJoined, IsSquare};
+ghost use Rattle.sj_lane.specs.Square.{IsSquare};
 
 use crate::in_lane::{InWay, Reader};
 use crate::stream::{accepted, both_ends, connected, listening};

@@ -1,7 +1,7 @@
 //! Nodes are put behind others: those of an item behind those of the items that follow it.
 #![tactic(auto, using(crate::proofs::BuildLemmas::builds))]
 
-ghost use Rattle.std.specs.Prelude.{◌≡◌, ◌+◌, ◌<◌, ◌≤◌, ◌++◌, ◌∷◌, [], ℕ, List, length, IfOk, OnOk};
+ghost use Rattle.std.specs.Prelude.{◌≡◌, ◌+◌, ◌<◌, ◌≤◌, ◌++◌, ◌∷◌, [], ℕ, length, IfOk, OnOk};
 ghost use Rattle.sj_lang.specs.Place.{done};
 ghost use Rattle.sj_lang.specs.View.{followed, place_of};
 ghost use Rattle.sj_table.specs.Nodes.{AreBack, Grown, IsLoop, Turned, arm_nodes, node_count};

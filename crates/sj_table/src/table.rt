@@ -1,5 +1,5 @@
 //! Spots, and the table in which they stand for places.
-ghost use Rattle.std.specs.Prelude.{◌≡◌, ◌+◌, ◌<◌, ℕ, length, map, option_map, IsTrue, ◌↔◌, IfOk, IfSome};
+ghost use Rattle.std.specs.Prelude.{◌≡◌, ◌+◌, ◌<◌, ℕ, length, map, option_map, IsTrue, ◌↔◌, IfOk};
 ghost use Rattle.sj_lang.specs.After.{after_place};
 ghost use Rattle.sj_lang.specs.FileAt.{body_named, named};
 ghost use Rattle.sj_lang.specs.FileView.{protocol_of};

@@ -1,5 +1,5 @@
 //! What tables answer on the protocols that are generated, and on a choice.
-ghost use Rattle.std.specs.Prelude.{◌≡◌, ◌<◌, ◌≤◌, map, IfOk};
+ghost use Rattle.std.specs.Prelude.{◌≡◌, ◌<◌, map, IfOk};
 ghost use Rattle.sj_lang.specs.FileView.{protocol_of};
 ghost use Rattle.sj_lang.specs.Place.{done};
 ghost use Rattle.sj_lang.specs.View.{followed};

@@ -1,5 +1,5 @@
 //! Bodies, read from the front of bytes.
-ghost use Rattle.std.specs.Prelude.{◌≡◌, ◌-◌, ◌≤◌};
+ghost use Rattle.std.specs.Prelude.{◌-◌};
 ghost use Rattle.sj_end.specs.Bodies as bodies;
 ghost use Rattle.sj_wire.specs.Reading.{ack_at, body_at, carry_at, fin_at, give_at, resend_at, signal_at};
 ghost use Rattle.sj_wire.specs.Reads.{Reads};

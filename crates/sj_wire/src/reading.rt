@@ -1,5 +1,5 @@
 //! What stands at the front of bytes.
-ghost use Rattle.std.specs.Prelude.{◌≡◌, ◌≤◌, length, take, drop, IfOk, IfSome};
+ghost use Rattle.std.specs.Prelude.{◌≤◌, length, take, drop, IfOk, IfSome};
 ghost use Rattle.sj_end.specs.Views.{frame_at};
 ghost use Rattle.sj_wire.specs.Front.{front_of, sized_of, whole_of};
 ghost use Rattle.sj_wire.specs.Reading as fields;

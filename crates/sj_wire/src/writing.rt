@@ -1,6 +1,6 @@
 //! The fields of frames, put behind bytes.
 ghost use Rattle.std.specs.Prelude.{◌≡◌, ◌++◌, OnOk};
-ghost use Rattle.std.specs.Int.{w64, cast_unsigned};
+ghost use Rattle.std.specs.Int.{cast_unsigned};
 ghost use Rattle.sj_wire.specs.Spelling.{number, flag, end_id, message, resend};
 
 use byteorder::{BigEndian, ByteOrder};

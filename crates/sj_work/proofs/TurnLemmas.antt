@@ -19,7 +19,7 @@ use Rattle.sj_node.specs.declared.node.Node.{Node}
 use Rattle.sj_node.specs.declared.refusal.Halt.{Halt}
 use Rattle.sj_node.specs.declared.refusal.Halt.TheVariants as halts
 use Rattle.sj_node.specs.Node as nodes
-use Rattle.sj_node.specs.Node.{Stays, act_of, clock_of, delivery, due_of, has_room, node_at, outbox_of, play_of}
+use Rattle.sj_node.specs.Node.{Stays, act_of, clock_of, delivery, has_room, node_at}
 use Rattle.sj_node.specs.Play.{next_want, play_with}
 use Rattle.sj_node.specs.Reading.{IsFinished, parties_of}
 use Rattle.sj_work.specs.declared.worker.Answer.{Answer}

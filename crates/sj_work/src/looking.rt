@@ -1,13 +1,12 @@
 //! Pops, and their deliveries.
-ghost use Rattle.std.specs.Prelude.{◌≡◌, ◌<◌, ◌≤◌, IsFalse, IsTrue, None, IfErr};
+ghost use Rattle.std.specs.Prelude.{◌≡◌, ◌<◌, IsFalse, IsTrue, None};
 ghost use Rattle.sj_lane.specs.Told.{told_frame};
 ghost use Rattle.sj_node.specs.Node.{clock_of};
-ghost use Rattle.sj_node.specs.Reading.{parties_of};
 ghost use Rattle.sj_work.specs.Answers.{Comes, delivery_answer};
 ghost use Rattle.sj_work.specs.Causes.{InVain};
 ghost use Rattle.sj_work.specs.Counts.{OnLane, RoseBy};
 ghost use Rattle.sj_work.specs.Turns.{IsGoing, Turns};
-ghost use Rattle.sj_work.specs.Views.{in_of, looks_of, node_of, out_of, stop_of};
+ghost use Rattle.sj_work.specs.Views.{in_of, looks_of, node_of, stop_of};
 
 use crate::acting::{CLOCK_END, finished, show};
 use crate::worker::{Answer, Gate, Worker};

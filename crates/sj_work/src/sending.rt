@@ -1,7 +1,7 @@
 //! Pushes.
-ghost use Rattle.std.specs.Prelude.{◌≡◌, ◌<◌, ◌≤◌, ℕ, IsFalse, IsTrue, None, length};
+ghost use Rattle.std.specs.Prelude.{◌≡◌, ◌<◌, IsFalse, IsTrue, None, length};
 ghost use Rattle.sj_node.specs.Outs.{waiting_in};
-ghost use Rattle.sj_node.specs.Reading.{outs_of, parties_of};
+ghost use Rattle.sj_node.specs.Reading.{outs_of};
 ghost use Rattle.sj_work.specs.Answers.{push_answer};
 ghost use Rattle.sj_work.specs.Causes.{OutVain};
 ghost use Rattle.sj_work.specs.Turns.{IsGoing, Rests, Tried, Turns};

@@ -1,5 +1,5 @@
 //! Turns.
-ghost use Rattle.std.specs.Prelude.{◌≡◌, ◌<◌, ◌≤◌, None, Some, IsFalse, IsTrue};
+ghost use Rattle.std.specs.Prelude.{◌≡◌, ◌<◌, None, Some, IsFalse, IsTrue};
 ghost use Rattle.sj_node.specs.Node.{clock_of};
 ghost use Rattle.sj_work.specs.Turns.{IsGoing, IsInVain, Turns};
 ghost use Rattle.sj_work.specs.Views.{looks_of, node_of, stop_of};
