@@ -16,7 +16,7 @@ use Rattle.sj_grammar.specs.Refusals.{StuckInside, fault_next, first_rule}
 use Rattle.sj_grammar.specs.Asked.{TakesText, spelled_next, Refuses, refused, but_name}
 use Rattle.sj_grammar.specs.ExpressionDues.{factor, after_minus, is_operand, is_long, expression_layer}
 use Rattle.sj_grammar.proofs.Inside.{inside_here, inside_cons}
-use Rattle.sj_proto.proofs.Given.{took_plain}
+use Rattle.sj_proto.proofs.ReadLemmas.{took_plain}
 use Rattle.sj_expr.specs.Operands.{IsOperandOf}
 use Rattle.sj_expr.specs.declared.operands.Operand.{Operand}
 use Rattle.sj_expr.specs.declared.operands.Operand.TheVariants as operands

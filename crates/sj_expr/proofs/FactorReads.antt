@@ -10,7 +10,7 @@ use Rattle.sj_grammar.specs.Literals.{is_number, is_largest}
 use Rattle.sj_grammar.specs.Places.{Pieces, At, at}
 use Rattle.sj_grammar.specs.Asked.{TakesText}
 use Rattle.sj_grammar.specs.Expressions as level
-use Rattle.sj_proto.proofs.Given.{took_plain}
+use Rattle.sj_proto.proofs.ReadLemmas.{took_plain}
 use Rattle.sj_expr.specs.Read.{Reads, ReadsLevel, TextSpelled}
 use Rattle.sj_expr.proofs.TokenLemmas.{number_no_name, number_no_text}
 use Rattle.sj_expr.proofs.NumberLemmas.{small_number}

@@ -1,7 +1,8 @@
-pub mod Completed
+pub mod CompletionLemmas
 pub mod Exits
 pub mod FactorFaults
 pub mod FactorReads
+pub mod FollowLemmas
 pub mod FrameLemmas
 pub mod InFiles
 pub mod LevelLemmas
@@ -18,8 +19,7 @@ pub mod TableLemmas
 pub mod TestLemmas
 pub mod TextLemmas
 pub mod TokenLemmas
-pub mod Unfollowed
 pub mod Unique
 pub mod Viability
 pub mod WholeRuns
-pub mod Writes
+pub mod WideLimitLemmas

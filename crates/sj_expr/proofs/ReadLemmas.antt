@@ -21,7 +21,7 @@ use Rattle.sj_grammar.specs.Expressions.{Level, Spelt}
 use Rattle.sj_grammar.specs.Expressions as level
 use Rattle.sj_grammar.proofs.Stuckness.{Begins-append}
 use Rattle.sj_proto.specs.Parsed.{Gives, Extends}
-use Rattle.sj_proto.proofs.Given.{grows_one, Extends-refl, Extends-trans, Begins-grows, spells_less, took_plain}
+use Rattle.sj_proto.proofs.ReadLemmas.{grows_one, Extends-refl, Extends-trans, Begins-grows, spells_less, took_plain}
 use Rattle.sj_proto.proofs.Tables.{within_is, here_is}
 use Rattle.sj_expr.specs.Read.{Agrees, Reads, ReadsLevel, TextSpelled, Grows, StaysWithin}
 use Rattle.sj_expr.specs.Signs.{op_piece}

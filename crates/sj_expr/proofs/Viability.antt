@@ -12,9 +12,9 @@ use Rattle.sj_grammar.proofs.Spellings.{IsHeld, AllHeld, spelling_of, held_at, a
 use Rattle.sj_grammar.proofs.Completion.{due_back, run_back, ends_back, some_alls}
 use Rattle.sj_expr.specs.Viable.{IsWhole, IsViable, GoesWrong}
 use Rattle.sj_expr.proofs.Runs.{IsWithin}
-use Rattle.sj_expr.proofs.Writes.{w_as}
-use Rattle.sj_expr.proofs.Completed.{Spelled, AllSpelled, done}
-use Rattle.sj_expr.proofs.Unfollowed.{unfollow, none_spelled, some_spelled}
+use Rattle.sj_expr.proofs.WideLimitLemmas.{w_as}
+use Rattle.sj_expr.proofs.CompletionLemmas.{Spelled, AllSpelled, done}
+use Rattle.sj_expr.proofs.FollowLemmas.{unfollow, none_spelled, some_spelled}
 use Rattle.sj_expr.proofs.WholeRuns.{expression_runs}
 
 module _ (names : Spelling) where

@@ -21,7 +21,7 @@ use Rattle.sj_grammar.specs.Asked.{TakesText, Refuses, but, is_next}
 use Rattle.sj_grammar.proofs.Stuckness.{stuck_cons, stuck_like, refuses_stuck}
 use Rattle.sj_proto.specs.Parsed.{standing, Stops}
 use Rattle.sj_proto.proofs.Exits.{plain, stops_map, no_name_int, no_name_boolean, no_name_String}
-use Rattle.sj_proto.proofs.Pieced.{fixed_rule}
+use Rattle.sj_proto.proofs.NamedPieceLemmas.{fixed_rule}
 use Rattle.sj_party.specs.declared.parts.Awaited.{Awaited}
 use Rattle.sj_party.specs.declared.parts.Awaited.TheVariants as awaits
 use Rattle.sj_party.specs.Parts.{a_name, a_piece, ReadsParts, ReadsDeed}

@@ -13,9 +13,9 @@ use Rattle.sj_grammar.proofs.Lexing.{read, Any, NoWordByte}
 use Rattle.sj_party.specs.CanonicalCode.{spaces, newline, in_block}
 use Rattle.sj_party.specs.Unlined.{unlined_step}
 use Rattle.sj_party.proofs.AddAlike.{AddAlike, alike_same, alike_cons}
-use Rattle.sj_party.proofs.Reaching.{AreBlank, Reaches, HasLines, joins, lines_append, blank_lines, one_line}
+use Rattle.sj_party.proofs.PieceTextLemmas.{AreBlank, Reaches, HasLines, joins, lines_append, blank_lines, one_line}
 use Rattle.sj_party.proofs.ExpressionText.{word_lines}
-use Rattle.sj_party.proofs.Relined.{Relined, adds_append, spaces_blank, plain_then, blanks_then, headed, one_lined}
+use Rattle.sj_party.proofs.LineLemmas.{Relined, adds_append, spaces_blank, plain_then, blanks_then, headed, one_lined}
 use Rattle.sj_party.proofs.HeadLemmas.{open_lines, close_lines}
 
 -- a brace, what stands in the block, and what follows

@@ -12,9 +12,9 @@ use Rattle.sj_grammar.proofs.Lexing.{read, NoWordByte}
 use Rattle.sj_party.specs.CanonicalCode.{in_block, code_text}
 use Rattle.sj_party.specs.Unlined.{unlined_code, unlined_branches}
 use Rattle.sj_party.proofs.AddAlike.{AddAlike, alike_cons}
-use Rattle.sj_party.proofs.Reaching.{AreBlank, Reaches, joins}
+use Rattle.sj_party.proofs.PieceTextLemmas.{AreBlank, Reaches, joins}
 use Rattle.sj_party.proofs.ExpressionText.{word_lines}
-use Rattle.sj_party.proofs.Relined.{Relined, adds_append, plain_then}
+use Rattle.sj_party.proofs.LineLemmas.{Relined, adds_append, plain_then}
 use Rattle.sj_party.proofs.HeadLemmas.{reserved_lines}
 use Rattle.sj_party.proofs.BlockLines.{block_free}
 

@@ -15,8 +15,8 @@ use Rattle.sj_party.specs.CanonicalCode.{spaces, newline, in_block, named_text, 
 use Rattle.sj_party.specs.Unlined.{unlined_code, unlined_branches}
 use Rattle.sj_party.proofs.AddAlike.{alike_same, alike_cons}
 use Rattle.sj_party.proofs.Printable.{expression_pieces}
-use Rattle.sj_party.proofs.Reaching.{AreBlank, Reaches, joins}
-use Rattle.sj_party.proofs.Relined.{Relined, adds_append, blanks_then, expression_again, expression_adds, name_has}
+use Rattle.sj_party.proofs.PieceTextLemmas.{AreBlank, Reaches, joins}
+use Rattle.sj_party.proofs.LineLemmas.{Relined, adds_append, blanks_then, expression_again, expression_adds, name_has}
 use Rattle.sj_party.proofs.HeadLemmas.{pair_tail, given_tail, pair_has, behind_space, given_has}
 use Rattle.sj_party.proofs.OneLiners.{named_is, pair_is, valued_is, given_is, send_again, let_again, delegate_again, outbranch_again, take_again, take_end_again, close_again}
 use Rattle.sj_party.proofs.Branching.{ArmsBlock, inbranch_is, Both, unlined_both, block_of, if_free, both_again}

@@ -23,11 +23,11 @@ use Rattle.sj_grammar.proofs.Steps.{Runs, Runs-cons, Runs-none}
 use Rattle.sj_grammar.proofs.Stuckness.{stuck_cons, stuck_block}
 use Rattle.sj_proto.specs.Choices.{but_first}
 use Rattle.sj_proto.specs.Parsed.{standing, Gives, GivesOnLines}
-use Rattle.sj_proto.proofs.Given.{itself}
+use Rattle.sj_proto.proofs.ReadLemmas.{itself}
 use Rattle.sj_proto.proofs.Exits as exits
 use Rattle.sj_proto.proofs.Fronts.{spelling_at}
 use Rattle.sj_proto.proofs.Lines.{off_lines, Lines-cons, Lines-append, Lines-as, Lines-plain, lines_one}
-use Rattle.sj_proto.proofs.Pieced.{name_step}
+use Rattle.sj_proto.proofs.NamedPieceLemmas.{name_step}
 use Rattle.sj_party.proofs.FileLines.{leads_stuck, first_fault}
 use Rattle.sj_party.proofs.FileRuns.{connects_leads}
 

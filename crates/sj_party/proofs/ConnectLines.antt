@@ -13,9 +13,9 @@ use Rattle.sj_party.specs.CanonicalCode.{named_text, pair_text}
 use Rattle.sj_party.specs.CanonicalFile.{end_text, connect_text, connects_text}
 use Rattle.sj_party.specs.Unlined.{unlined_connect}
 use Rattle.sj_party.proofs.AddAlike.{alike_same}
-use Rattle.sj_party.proofs.Reaching.{AreBlank, Reaches, HasLines, joins, lines_append, blank_lines, one_line}
+use Rattle.sj_party.proofs.PieceTextLemmas.{AreBlank, Reaches, HasLines, joins, lines_append, blank_lines, one_line}
 use Rattle.sj_party.proofs.ExpressionText.{word_lines}
-use Rattle.sj_party.proofs.Relined.{Relined, adds_append, headed, name_has}
+use Rattle.sj_party.proofs.LineLemmas.{Relined, adds_append, headed, name_has}
 use Rattle.sj_party.proofs.HeadLemmas.{pair_has, reserved_lines}
 
 module _ (L : Limits) (names : Spelling) where

@@ -20,8 +20,8 @@ use Rattle.sj_grammar.proofs.Splits.{next_split}
 use Rattle.sj_party.specs.CanonicalFile.{protocol_line, protocols_text}
 use Rattle.sj_party.specs.Unlined.{unlined_protocol}
 use Rattle.sj_party.proofs.AddAlike.{alike_same}
-use Rattle.sj_party.proofs.Reaching.{AreBlank, LexesOnLines, Reaches, HasLines, joins, lines_append, blank_lines, blank_next, one_line}
-use Rattle.sj_party.proofs.Relined.{Relined, adds_append, headed, name_has}
+use Rattle.sj_party.proofs.PieceTextLemmas.{AreBlank, LexesOnLines, Reaches, HasLines, joins, lines_append, blank_lines, blank_next, one_line}
+use Rattle.sj_party.proofs.LineLemmas.{Relined, adds_append, headed, name_has}
 
 passed_is : (before t rest : List ℕ) → passed (read before (t ++ rest)) rest ≡ before ++ t
 passed_is before t rest =

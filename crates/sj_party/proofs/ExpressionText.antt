@@ -18,7 +18,7 @@ use Rattle.sj_expr.specs.Signs.{op_piece}
 use Rattle.sj_party.specs.CanonicalExpression.{left_of, right_of, needs_parens, enclosed, spaced, boolean_text, expression_text}
 use Rattle.sj_party.proofs.TokenText.{number_next, text_next}
 use Rattle.sj_party.proofs.Printable.{int_pieces, enclosed_pieces, expression_pieces, IsWritten, IsPrintableInt, IsPrintable, inside}
-use Rattle.sj_party.proofs.Reaching.{HasLines, lines_append, blank_lines, one_line}
+use Rattle.sj_party.proofs.PieceTextLemmas.{HasLines, lines_append, blank_lines, one_line}
 
 pub plain_append : (a b : Pieces) → all_plain (a ++ b) ≡ all_plain a ++ all_plain b
 plain_append [] b = refl

@@ -12,8 +12,8 @@ use Rattle.sj_grammar.proofs.LexedTables.{words_behind, texts_behind}
 use Rattle.sj_party.specs.CanonicalFile.{protocols_text, parties_text, connects_text, file_text}
 use Rattle.sj_party.specs.Unlined.{unlined, unlined_protocol, unlined_party, unlined_connect, StandsButLines}
 use Rattle.sj_party.proofs.AddAlike.{AddAlike}
-use Rattle.sj_party.proofs.Reaching.{Reaches, joins, blank_next, lines_begin, tables_made}
-use Rattle.sj_party.proofs.Relined.{adds_append}
+use Rattle.sj_party.proofs.PieceTextLemmas.{Reaches, joins, blank_next, lines_begin, tables_made}
+use Rattle.sj_party.proofs.LineLemmas.{adds_append}
 use Rattle.sj_party.proofs.DefinitionLines.{protocols_again}
 use Rattle.sj_party.proofs.PartyLines.{parties_again}
 use Rattle.sj_party.proofs.ConnectLines.{connects_again}

@@ -16,14 +16,14 @@ use Rattle.sj_grammar.specs.Files as files
 use Rattle.sj_grammar.specs.FileDues.{Due, protocols, parties, connects, stmts, block, branches, awaited, name, fixed, proto, expr, semicolon, file_layer, file_follow}
 use Rattle.sj_grammar.proofs.Spellings.{IsHeld}
 use Rattle.sj_grammar.proofs.Completion.{alls_below}
-use Rattle.sj_proto.proofs.Spelled as protocol
-use Rattle.sj_proto.proofs.Completed as completed
-use Rattle.sj_expr.proofs.Completed as expression
-use Rattle.sj_expr.proofs.Unfollowed.{unfollow}
+use Rattle.sj_proto.proofs.DuePieceLemmas as protocol
+use Rattle.sj_proto.proofs.CompletionLemmas as completed
+use Rattle.sj_expr.proofs.CompletionLemmas as expression
+use Rattle.sj_expr.proofs.FollowLemmas.{unfollow}
 use Rattle.sj_expr.proofs.TestLemmas.{bytes_same}
 use Rattle.sj_party.proofs.LimitLemmas.{Widely, widely_three}
-use Rattle.sj_party.proofs.Numbered.{numbered_body}
-use Rattle.sj_party.proofs.Fulfilled.{Named, Spelled, AllSpelled, lines_spelled}
+use Rattle.sj_party.proofs.NumberingLemmas.{numbered_body}
+use Rattle.sj_party.proofs.DuePieceLemmas.{Named, Spelled, AllSpelled, lines_spelled}
 use Rattle.sj_party.proofs.StatementBack.{met, name_held, statement_back, awaited_back, block_back, arms_back}
 
 -- dues of a layer below

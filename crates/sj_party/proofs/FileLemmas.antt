@@ -22,7 +22,7 @@ use Rattle.sj_grammar.proofs.Stuckness.{halts_stuck, stuck_block, skip}
 use Rattle.sj_proto.specs.Protocols.{AreProtocols, IsOther, IsFaultInProtocols}
 use Rattle.sj_proto.proofs.Exits.{on_fault_map}
 use Rattle.sj_proto.proofs.Fronts.{protocols_run}
-use Rattle.sj_proto.proofs.Given.{itself}
+use Rattle.sj_proto.proofs.ReadLemmas.{itself}
 use Rattle.sj_proto.proofs.Lines.{off_lines, OnLines-append}
 use Rattle.sj_expr.proofs.ReadLemmas.{agrees_back, agrees_itself, spelling_at}
 use Rattle.sj_party.specs.Within.{IsWithin}

@@ -13,10 +13,10 @@ use Rattle.sj_grammar.specs.Files.{protocols_pieces, end_pieces, connect_pieces,
 use Rattle.sj_grammar.specs.Files as files
 use Rattle.sj_grammar.proofs.Steps.{Runs-append}
 use Rattle.sj_proto.proofs.Lines.{spellings-append}
-use Rattle.sj_proto.proofs.Pieced.{name_step}
+use Rattle.sj_proto.proofs.NamedPieceLemmas.{name_step}
 use Rattle.sj_proto.proofs.Fronts.{protocols_run}
 use Rattle.sj_party.specs.Leads.{LeadsTo, Completes}
-use Rattle.sj_party.proofs.Taken.{leads_none, leads_one, leads_on}
+use Rattle.sj_party.proofs.TakenPieceLemmas.{leads_none, leads_one, leads_on}
 use Rattle.sj_party.proofs.Runs.{code_leads, close_block}
 
 module _ (L : Limits) where

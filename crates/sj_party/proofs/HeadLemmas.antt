@@ -14,9 +14,9 @@ use Rattle.sj_grammar.proofs.Lexing.{Any, NoWordByte, NoEqual}
 use Rattle.sj_party.specs.CanonicalExpression.{expression_text}
 use Rattle.sj_party.specs.CanonicalCode.{spaces}
 use Rattle.sj_party.proofs.Printable.{expression_pieces}
-use Rattle.sj_party.proofs.Reaching.{HasLines, lines_append, blank_lines, one_line}
+use Rattle.sj_party.proofs.PieceTextLemmas.{HasLines, lines_append, blank_lines, one_line}
 use Rattle.sj_party.proofs.ExpressionText.{word_lines, spaced_lines}
-use Rattle.sj_party.proofs.Relined.{spaces_blank, expression_has, name_has}
+use Rattle.sj_party.proofs.LineLemmas.{spaces_blank, expression_has, name_has}
 
 -- a semicolon behind
 pub ended : (t : List ℕ) (ps : List Piece) → HasLines NoWordByte t ps → HasLines Any (t ++ codes ";") (ps ++ plain (codes ";") ∷ [])

@@ -7,7 +7,7 @@ use Rattle.sj_grammar.specs.Tables.{Spelling, IsFirst, IsNamed}
 use Rattle.sj_grammar.specs.Places.{Pieces}
 use Rattle.sj_grammar.specs.Expressions.{IsExpression, operand_count}
 use Rattle.sj_grammar.specs.Expressions as level
-use Rattle.sj_expr.proofs.Writes.{Writes}
+use Rattle.sj_expr.proofs.WideLimitLemmas.{Writes}
 
 -- each limit is as wide as that
 pub record IsWide (k : ℕ) (M : Limits) : Type 0 where

@@ -15,8 +15,8 @@ use Rattle.sj_party.specs.CanonicalExpression.{expression_text}
 use Rattle.sj_party.specs.CanonicalCode.{named_text, pair_text, valued_text, given_text, step_text, act_text}
 use Rattle.sj_party.proofs.AddAlike.{AddAlike, alike_same, alike_cons}
 use Rattle.sj_party.proofs.Printable.{expression_pieces}
-use Rattle.sj_party.proofs.Reaching.{AreBlank}
-use Rattle.sj_party.proofs.Relined.{adds_append, expression_again, expression_adds, name_has}
+use Rattle.sj_party.proofs.PieceTextLemmas.{AreBlank}
+use Rattle.sj_party.proofs.LineLemmas.{adds_append, expression_again, expression_adds, name_has}
 use Rattle.sj_party.proofs.HeadLemmas.{ended, pair_tail, given_tail, pair_has, given_has, let_has, take_has, take_end_has}
 use Rattle.sj_party.proofs.BlockLines.{StepAgain, on_one_line}
 

@@ -24,12 +24,12 @@ use Rattle.sj_grammar.proofs.Stuckness.{stuck_cons, stuck_block, refuses_stuck, 
 use Rattle.sj_proto.specs.Parsed.{standing, Stops}
 use Rattle.sj_proto.proofs.Exits.{err_as, on_fault_map}
 use Rattle.sj_proto.proofs.Lines.{off_lines}
-use Rattle.sj_proto.proofs.Pieced.{fixed_rule, name_rule, name_stuck}
+use Rattle.sj_proto.proofs.NamedPieceLemmas.{fixed_rule, name_rule, name_stuck}
 use Rattle.sj_expr.proofs.InFiles.{expression_leads}
 use Rattle.sj_expr.proofs.ReadLemmas.{spelling_at, agrees_itself}
 use Rattle.sj_party.specs.Leads.{LeadsTo}
 use Rattle.sj_party.specs.Parts.{Part, a_name, an_expression, a_piece, a_value, an_end, a_block, some_arms, AreSome, ReadsPart, ReadsParts, due_of, dues_of}
-use Rattle.sj_party.proofs.Taken.{leads_one, leads_on}
+use Rattle.sj_party.proofs.TakenPieceLemmas.{leads_one, leads_on}
 use Rattle.sj_party.proofs.Runs.{scalar_step, name_leads, block_leads, arms_leads}
 
 -- behind pieces that are what is due

@@ -24,10 +24,10 @@ use Rattle.sj_grammar.specs.Asked.{TakesText, is_next, Refuses, Passes}
 use Rattle.sj_grammar.proofs.Stuckness.{stuck_cons, skip}
 use Rattle.sj_proto.specs.Choices.{but_first}
 use Rattle.sj_proto.specs.Parsed.{standing, Gives}
-use Rattle.sj_proto.proofs.Given.{itself}
+use Rattle.sj_proto.proofs.ReadLemmas.{itself}
 use Rattle.sj_proto.proofs.Exits as exits
 use Rattle.sj_proto.proofs.Lines.{off_lines, OnLines-append}
-use Rattle.sj_proto.proofs.Pieced.{name_stuck}
+use Rattle.sj_proto.proofs.NamedPieceLemmas.{name_stuck}
 use Rattle.sj_expr.proofs.ReadLemmas.{agrees_back, agrees_itself, spelling_at}
 use Rattle.sj_party.specs.Read.{ReadsOnLines, ReadsCode}
 use Rattle.sj_party.proofs.FileLines.{leads_stuck, first_fault}

@@ -14,8 +14,8 @@ use Rattle.sj_party.specs.CanonicalCode.{spaces, newline, in_block, code_text}
 use Rattle.sj_party.specs.CanonicalFile.{parties_text}
 use Rattle.sj_party.specs.Unlined.{unlined_code, unlined_party}
 use Rattle.sj_party.proofs.AddAlike.{alike_same, alike_cons}
-use Rattle.sj_party.proofs.Reaching.{AreBlank, Reaches, joins}
-use Rattle.sj_party.proofs.Relined.{Relined, adds_append, headed, blanks_then, name_has}
+use Rattle.sj_party.proofs.PieceTextLemmas.{AreBlank, Reaches, joins}
+use Rattle.sj_party.proofs.LineLemmas.{Relined, adds_append, headed, blanks_then, name_has}
 use Rattle.sj_party.proofs.BlockLines.{in_braces, block_free}
 use Rattle.sj_party.proofs.OneLiners.{named_is}
 use Rattle.sj_party.proofs.CodeAgain.{code_again}

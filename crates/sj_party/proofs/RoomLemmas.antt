@@ -3,7 +3,7 @@ use Rattle.std.proofs.Common.{◌<◌, length, arith}
 use Rattle.sj_lang.specs.declared.file.Names.{Names}
 use Rattle.sj_grammar.specs.Reading.{Reading}
 use Rattle.sj_expr.specs.Read.{Grows}
-use Rattle.sj_proto.proofs.Given.{Extends-refl}
+use Rattle.sj_proto.proofs.ReadLemmas.{Extends-refl}
 use Rattle.sj_party.specs.Read.{KeepsRoom}
 use Rattle.sj_party.specs.Rooms.{Uses}
 

@@ -15,9 +15,9 @@ use Rattle.sj_grammar.specs.ExpressionDues.{whole}
 use Rattle.sj_grammar.specs.FileDues.{Due, stmts, block, branches, name, fixed, expr, semicolon, file_layer}
 use Rattle.sj_grammar.specs.Statements.{scalar_piece, braced, called, IsStatement, IsCode, IsBlock, AreArms}
 use Rattle.sj_grammar.specs.Statements as grammar
-use Rattle.sj_proto.proofs.Pieced.{name_step}
+use Rattle.sj_proto.proofs.NamedPieceLemmas.{name_step}
 use Rattle.sj_party.specs.Leads.{LeadsTo}
-use Rattle.sj_party.proofs.Taken.{leads_none, leads_one, leads_on, leads_expression}
+use Rattle.sj_party.proofs.TakenPieceLemmas.{leads_none, leads_one, leads_on, leads_expression}
 pub use Rattle.sj_party.proofs.FirstSteps.{send_step, delegate_step, recv_step, outbranch_step, inbranch_step, outwhile_step, inwhile_step, relay_step, if_step, let_step, close_step, close_block, open_block, scalar_step}
 
 module _ (L : Limits) where

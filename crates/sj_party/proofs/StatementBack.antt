@@ -16,7 +16,7 @@ use Rattle.sj_grammar.proofs.Spellings.{IsHeld}
 use Rattle.sj_grammar.proofs.Completion.{lone}
 use Rattle.sj_expr.proofs.TestLemmas.{bytes_same}
 use Rattle.sj_party.proofs.LimitLemmas.{widely_two, widely_three, named_widely}
-use Rattle.sj_party.proofs.Fulfilled.{Named, Spelled, AllSpelled, lines_spelled}
+use Rattle.sj_party.proofs.DuePieceLemmas.{Named, Spelled, AllSpelled, lines_spelled}
 use Rattle.sj_party.proofs.StatementLemmas.{Makes, send_made, delegate_made, take_made, outbranch_made, inbranch_made, outwhile_made, inwhile_made, relay_made, if_made, let_made, close_made, statement_then}
 
 module _ (names : Spelling) where

@@ -11,7 +11,7 @@ use Rattle.sj_grammar.specs.FileDues.{Due, stmts, block, branches, awaited, name
 use Rattle.sj_grammar.proofs.Completion.{Alls-split, lone}
 use Rattle.sj_proto.proofs.Lines.{spellings-append}
 use Rattle.sj_party.proofs.LimitLemmas.{Widely, widely, widely_two, widely_three, expression_widely}
-use Rattle.sj_party.proofs.Fulfilled.{Named, Spelled, AllSpelled, awaited_lines, lines_of, lines_spelled}
+use Rattle.sj_party.proofs.DuePieceLemmas.{Named, Spelled, AllSpelled, awaited_lines, lines_of, lines_spelled}
 
 module _ (names : Spelling) where
   -- a statement of that word and these pieces

@@ -20,12 +20,12 @@ use Rattle.sj_grammar.proofs.Steps.{step_over}
 use Rattle.sj_grammar.proofs.Spellings.{IsHeld, AllHeld, spelling_of, first_of, held_at, all_held}
 use Rattle.sj_grammar.proofs.Completion.{due_back, run_back, ends_back, some_alls}
 use Rattle.sj_proto.proofs.Viable.{x_is_a_name}
-use Rattle.sj_proto.proofs.Completed as protocol
-use Rattle.sj_expr.proofs.Unfollowed as expression
+use Rattle.sj_proto.proofs.CompletionLemmas as protocol
+use Rattle.sj_expr.proofs.FollowLemmas as expression
 use Rattle.sj_party.specs.Leads.{Leads}
 use Rattle.sj_party.specs.Viable.{IsWhole, IsViable, IsViableWithin}
 use Rattle.sj_party.proofs.LimitLemmas.{all_limits, are_wide, widely_two, named_widely}
-use Rattle.sj_party.proofs.Fulfilled.{Spelled, AllSpelled, lines_of, lines_spelled, none_spelled}
+use Rattle.sj_party.proofs.DuePieceLemmas.{Spelled, AllSpelled, lines_of, lines_spelled, none_spelled}
 use Rattle.sj_party.proofs.FileBack.{file_back}
 use Rattle.sj_party.proofs.FileRuns.{file_completes}
 use Rattle.sj_party.proofs.Faultless.{none_broken}

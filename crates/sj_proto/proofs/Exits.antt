@@ -25,7 +25,7 @@ use Rattle.sj_grammar.specs.Asked.{TakesText, is_next, Refuses, but, Passes}
 use Rattle.sj_grammar.proofs.Stuckness.{refuses_stuck, stuck_cons, stuck_like, stuck_by}
 use Rattle.sj_proto.specs.Parsed.{standing, Gives, Stops}
 use Rattle.sj_proto.proofs.Names.{test_is}
-use Rattle.sj_proto.proofs.Given.{Gives-cons, takes_one, took_plain, took_way, took_close}
+use Rattle.sj_proto.proofs.ReadLemmas.{Gives-cons, takes_one, took_plain, took_way, took_close}
 use Rattle.sj_proto.proofs.Runs.{way_step}
 use Rattle.sj_proto.proofs.Rules.{piece_rule}
 use Rattle.sj_proto.proofs.FaultLemmas.{step_in_file}

@@ -22,9 +22,9 @@ use Rattle.sj_grammar.proofs.Steps.{Runs, Runs-append}
 use Rattle.sj_grammar.proofs.Stuckness.{halts_stuck, stuck_block}
 use Rattle.sj_proto.specs.Parsed.{GivesOnLines}
 use Rattle.sj_proto.specs.Protocols.{IsOther, IsReadable, IsUnreadable}
-use Rattle.sj_proto.proofs.Given.{itself}
+use Rattle.sj_proto.proofs.ReadLemmas.{itself}
 use Rattle.sj_proto.proofs.Lines.{spellings-append, off_lines, Lines-append, Lines-as}
-use Rattle.sj_proto.proofs.Defs.{def_run}
+use Rattle.sj_proto.proofs.DefinitionLemmas.{def_run}
 
 -- the spelling that the tables there have
 abbrev pub spelling_at : At → Spelling

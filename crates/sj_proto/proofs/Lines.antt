@@ -3,7 +3,7 @@ use Rattle.std.proofs.Common.{◌≡◌, ℕ, List, [], ◌∷◌, ◌++◌, ref
 use Rattle.sj_grammar.specs.Tables.{Spelling}
 use Rattle.sj_grammar.specs.Places.{Pieces, Piece, At, Begins, TakesPiece, BeginsOnLines, all_plain, spellings}
 use Rattle.sj_proto.specs.Parsed.{Gives, GivesOnLines}
-use Rattle.sj_proto.proofs.Given.{spells_back}
+use Rattle.sj_proto.proofs.ReadLemmas.{spells_back}
 
 pub spellings-append : (a b : List Piece) → spellings (a ++ b) ≡ spellings a ++ spellings b
 spellings-append [] b = refl

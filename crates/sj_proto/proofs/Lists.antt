@@ -11,7 +11,7 @@ use Rattle.sj_grammar.specs.Protocols.{dotted, listed, seq_pieces, IsGiven, AreG
 use Rattle.sj_proto.specs.Items.{item_pieces}
 use Rattle.sj_proto.specs.Parsed.{Gives}
 use Rattle.sj_proto.proofs.Pieces.{seq-push, seq-push_dot, IsGiven-push, AreGiven-push, arms-push, arms-push_comma, arm_pieces}
-use Rattle.sj_proto.proofs.Given.{Gives-append, Gives-as, takes_one}
+use Rattle.sj_proto.proofs.ReadLemmas.{Gives-append, Gives-as, takes_one}
 
 -- the items so far, and one more
 pub item_more : (start now there : At) (is : List Item) (i : Item) (o : ℕ) → Gives start now (λ word. drop 1 (dotted word (place_of is) ++ codes "." ∷ [])) (λ word. IsGiven limits word o (place_of is))

@@ -25,9 +25,9 @@ use Rattle.sj_grammar.proofs.Stuckness.{Begins-append}
 use Rattle.sj_grammar.proofs.Readings.{halts_there, one_end, one_place}
 use Rattle.sj_grammar.proofs.Positions.{two_faults}
 use Rattle.sj_proto.specs.Protocols.{IsOther, AreProtocols, IsFaultInProtocols, IsOnly}
-use Rattle.sj_proto.proofs.Given.{itself}
+use Rattle.sj_proto.proofs.ReadLemmas.{itself}
 use Rattle.sj_proto.proofs.Lines.{off_lines, spellings-append}
-use Rattle.sj_proto.proofs.Defs.{def_spelled}
+use Rattle.sj_proto.proofs.DefinitionLemmas.{def_spelled}
 use Rattle.sj_proto.proofs.Fronts.{spelling_at, protocols_run}
 use Rattle.sj_proto.proofs.Unique.{unique, one_number}
 

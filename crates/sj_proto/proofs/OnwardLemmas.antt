@@ -3,7 +3,7 @@ use Rattle.std.proofs.Common.{◌≡◌, ℕ, ◌+◌, ◌-◌, ◌≤◌, List,
 use Rattle.std.proofs.lemmas.List.{take-append-drop, drop-drop, drop_at}
 use Rattle.sj_grammar.specs.Reading.{Reading}
 use Rattle.sj_proto.specs.Onward.{Advances}
-use Rattle.sj_proto.proofs.Passed.{reading_at}
+use Rattle.sj_proto.proofs.PositionLemmas.{reading_at}
 
 -- one call after another
 pub advances_on : {a b c : Reading} → Advances a b → Advances b c → Advances a c

@@ -24,10 +24,10 @@ use Rattle.sj_grammar.proofs.Embedding.{stuck_embedded}
 use Rattle.sj_grammar.proofs.Stuckness.{halts_stuck, stuck_block, skip, clash}
 use Rattle.sj_proto.specs.Parsed.{standing, Gives}
 use Rattle.sj_proto.specs.Protocols.{IsProtocol, IsFirstFault, IsOnly}
-use Rattle.sj_proto.proofs.Given.{itself}
+use Rattle.sj_proto.proofs.ReadLemmas.{itself}
 use Rattle.sj_grammar.proofs.Readings.{one_reading}
 use Rattle.sj_proto.proofs.Unique.{unique}
-use Rattle.sj_proto.proofs.Wholes.{body_run, in_file, protocol_in_file}
+use Rattle.sj_proto.proofs.WholeRuns.{body_run, in_file, protocol_in_file}
 
 pub in_its_own : (n : ℕ) (a : At) (f : Fault) → Stuck file_layer limits n a (proto body ∷ []) f → Stuck protocol_layer limits n a (body ∷ []) f
 in_its_own n a f st = stuck_embedded protocol_layer file_layer proto protocol_in_file limits n a (body ∷ []) f st

@@ -14,10 +14,10 @@ use Rattle.sj_grammar.proofs.Steps.{run_split, onward_goes, step_due, one_due, d
 use Rattle.sj_grammar.proofs.Spellings.{AllHeld}
 use Rattle.sj_grammar.proofs.Completion.{due_back, run_back, ends_back, some_alls}
 use Rattle.sj_proto.specs.Writable.{IsWritable, IsViable, IsWhole}
-use Rattle.sj_proto.proofs.Spelled.{Spelled, AllSpelled}
-use Rattle.sj_proto.proofs.Completed.{HasNumber, spelled_back, none_spelled, some_spelled}
+use Rattle.sj_proto.proofs.DuePieceLemmas.{Spelled, AllSpelled}
+use Rattle.sj_proto.proofs.CompletionLemmas.{HasNumber, spelled_back, none_spelled, some_spelled}
 use Rattle.sj_proto.proofs.Within.{wide}
-use Rattle.sj_proto.proofs.Wholes.{wide_run}
+use Rattle.sj_proto.proofs.WholeRuns.{wide_run}
 
 abbrev spelling_of : Pieces → ℕ → List ℕ
 spelling_of ps n = get_or ps n []

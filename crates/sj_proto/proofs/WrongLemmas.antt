@@ -20,7 +20,7 @@ use Rattle.sj_proto.specs.Wrong.{brackets_behind, items_behind, is_over, passes_
 use Rattle.sj_proto.proofs.Within.{wide}
 use Rattle.sj_proto.proofs.Viable.{viable, viable_next, whole, not_viable, not_whole, viable_run}
 use Rattle.sj_proto.proofs.Counts.{Begun, begun_step}
-use Rattle.sj_proto.proofs.Counted.{run_begun, run_within, not_due, due_over}
+use Rattle.sj_proto.proofs.TakenPieceLemmas.{run_begun, run_within, not_due, due_over}
 
 -- at the beginning of a protocol nothing was counted
 at_start : Begun 0 [] (body ∷ [])

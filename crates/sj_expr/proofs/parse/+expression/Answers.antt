@@ -13,7 +13,7 @@ use Rattle.sj_grammar.specs.Expressions.{operand_count}
 use Rattle.sj_grammar.specs.Expressions as level
 use Rattle.sj_grammar.specs.ExpressionDues.{factor, times, plus, expression_at, is_operand, expression_layer}
 use Rattle.sj_proto.specs.Parsed.{standing}
-use Rattle.sj_proto.proofs.Given.{took_plain}
+use Rattle.sj_proto.proofs.ReadLemmas.{took_plain}
 use Rattle.sj_proto.proofs.OnwardLemmas.{advances_on}
 use Rattle.sj_expr.specs.declared.taking.Opening.{Opening}
 use Rattle.sj_expr.specs.Openings.{opening_piece}

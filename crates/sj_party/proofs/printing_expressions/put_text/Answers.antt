@@ -1,5 +1,5 @@
 use Rattle.std.proofs.Common.{◌++◌, ap, sym, ◌∙◌, append-nil}
-use Rattle.sj_proto.proofs.Printed.{no_word_at}
+use Rattle.sj_proto.proofs.PrintingLemmas.{no_word_at}
 use Rattle.sj_party.proofs.printing_expressions.put_text.Goals as goal
 
 pub returns-in-None-clause-ok : goal.returns-in-None-clause-ok

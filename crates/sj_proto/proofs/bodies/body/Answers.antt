@@ -14,7 +14,7 @@ use Rattle.sj_grammar.specs.Faults.{Stuck}
 use Rattle.sj_grammar.specs.Asked.{but}
 use Rattle.sj_grammar.proofs.Stuckness.{refuses_stuck}
 use Rattle.sj_proto.specs.Parsed.{standing, Gives}
-use Rattle.sj_proto.proofs.Given.{Gives-cons, Gives-as, takes_one}
+use Rattle.sj_proto.proofs.ReadLemmas.{Gives-cons, Gives-as, takes_one}
 use Rattle.sj_proto.proofs.Rules.{begin_rule}
 use Rattle.sj_proto.proofs.Exits.{err_as, on_fault_map, plain}
 use Rattle.sj_proto.proofs.BodyLemmas.{took_begin, dotted_some, begun_stuck}

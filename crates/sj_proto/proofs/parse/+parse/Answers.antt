@@ -23,7 +23,7 @@ use Rattle.sj_proto.specs.declared.choices.Opening.{Opening}
 use Rattle.sj_proto.specs.Choices.{but_way, but_open, opening_piece}
 use Rattle.sj_proto.specs.Items.{item_pieces}
 use Rattle.sj_proto.specs.Parsed.{standing, Gives, Stops}
-use Rattle.sj_proto.proofs.Given.{kept_on, Gives-cons, Gives-append, Gives-as, takes_one, took_way, took_close}
+use Rattle.sj_proto.proofs.ReadLemmas.{kept_on, Gives-cons, Gives-append, Gives-as, takes_one, took_way, took_close}
 use Rattle.sj_proto.proofs.Pieces.{item_count-push, arm_items-push, arm_pieces}
 use Rattle.sj_proto.proofs.Runs.{kind_like, way_step, open_step, arms_step, turns_step}
 use Rattle.sj_proto.proofs.Rules.{way_rule, open_rule, piece_rule, label_rule}

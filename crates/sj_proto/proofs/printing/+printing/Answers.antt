@@ -5,7 +5,7 @@ use Rattle.sj_lang.specs.View.{place_of, choices_of, carried_of, followed}
 use Rattle.sj_lang.specs.Place.{done}
 use Rattle.sj_grammar.specs.Tables.{entry_of}
 use Rattle.sj_grammar.specs.Canonical.{seq_text, arms_text, arm_text, kind_text, gap_before}
-use Rattle.sj_proto.proofs.Printed.{items_ahead, arms_ahead, items_step, arms_on, behind_put}
+use Rattle.sj_proto.proofs.PrintingLemmas.{items_ahead, arms_ahead, items_step, arms_on, behind_put}
 use Rattle.sj_proto.proofs.printing.+printing.Goals as goal
 
 -- before an item

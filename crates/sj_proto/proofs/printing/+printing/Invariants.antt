@@ -6,7 +6,7 @@ use Rattle.sj_lang.specs.PlaceSize.{place_size, carried_size, choices_size}
 use Rattle.sj_lang.specs.View.{place_of, followed, carried_of}
 use Rattle.sj_grammar.specs.Tables.{entry_of}
 use Rattle.sj_grammar.specs.Canonical.{seq_text, arms_text}
-use Rattle.sj_proto.proofs.Printed.{items_ahead, arms_ahead}
+use Rattle.sj_proto.proofs.PrintingLemmas.{items_ahead, arms_ahead}
 use Rattle.sj_proto.proofs.printing.+printing.Given as goal
 
 abbrev pub invariant-put_items-loop-i : goal.invariant-put_items-loop-i

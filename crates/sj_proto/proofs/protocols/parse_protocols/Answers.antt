@@ -12,7 +12,7 @@ use Rattle.sj_grammar.specs.FileDues.{Due, protocols, file_layer}
 use Rattle.sj_grammar.specs.Faults.{Stuck}
 use Rattle.sj_proto.specs.Parsed.{standing, GivesOnLines}
 use Rattle.sj_proto.specs.Protocols.{IsFaultInProtocols}
-use Rattle.sj_proto.proofs.Given.{kept_on}
+use Rattle.sj_proto.proofs.ReadLemmas.{kept_on}
 use Rattle.sj_proto.proofs.OnwardLemmas.{advances_on}
 use Rattle.sj_proto.proofs.Exits.{err_as, on_fault_map}
 use Rattle.sj_proto.proofs.Fronts.{defs_more, def_stuck, unreadable_stuck, other_next}

@@ -1,7 +1,7 @@
 use Rattle.std.proofs.Common.{◌≡◌, drop, ◌-◌, take}
 use Rattle.std.proofs.lemmas.Bool.Decides.{Decides-eqb}
 use Rattle.std.proofs.lemmas.Slice.Eq.{slice_eq-Decides}
-use Rattle.sj_proto.proofs.Passed.{taken_is}
+use Rattle.sj_proto.proofs.PositionLemmas.{taken_is}
 use Rattle.sj_proto.proofs.tokens.Tokens.accept.Goals as goal
 
 pub returns-then-eq-clause-taken : goal.returns-then-eq-clause-taken

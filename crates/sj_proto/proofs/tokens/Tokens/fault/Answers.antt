@@ -2,7 +2,7 @@ use Rattle.std.proofs.Common.{◌≡◌, ℕ, ◌∙◌, ap, subst}
 use Rattle.sj_grammar.specs.Reading.{Reading}
 use Rattle.sj_proto.specs.Found.{found_of, spot_of, IsPlace}
 use Rattle.sj_grammar.specs.Lexis.{next_of}
-use Rattle.sj_proto.proofs.Passed.{reading_at, fault_found}
+use Rattle.sj_proto.proofs.PositionLemmas.{reading_at, fault_found}
 use Rattle.sj_proto.proofs.tokens.Tokens.fault.Goals as goal
 
 pub returns : goal.returns

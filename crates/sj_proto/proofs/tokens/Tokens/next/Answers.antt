@@ -1,7 +1,7 @@
 use Rattle.std.proofs.Common.{◌∙◌, ap}
 use Rattle.sj_grammar.specs.Lexis.{next_of}
 use Rattle.sj_grammar.specs.Reading.{Reading, answer_to, reading_after}
-use Rattle.sj_proto.proofs.Passed.{reading_at, bad_answer, piece_answer, piece_after}
+use Rattle.sj_proto.proofs.PositionLemmas.{reading_at, bad_answer, piece_answer, piece_after}
 use Rattle.sj_proto.proofs.tokens.Tokens.next.Goals as goal
 
 pub returns-in-Bad-clause-answer : goal.returns-in-Bad-clause-answer

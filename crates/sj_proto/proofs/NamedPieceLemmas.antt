@@ -18,7 +18,7 @@ use Rattle.sj_grammar.proofs.Steps.{Runs-cons, Runs-none}
 use Rattle.sj_grammar.proofs.Stuckness.{stuck_block}
 use Rattle.sj_proto.specs.Parsed.{Gives}
 use Rattle.sj_proto.proofs.Names.{name_not_largest}
-use Rattle.sj_proto.proofs.Given.{itself}
+use Rattle.sj_proto.proofs.ReadLemmas.{itself}
 use Rattle.sj_proto.proofs.Rules.{Refusing, over_rule, one_rule}
 
 pub fixed_rule : (p : List ℕ) (n : ℕ) (ds : List Due) → is_largest p ≡ false → Refusing (but p) n (fixed p ∷ ds)

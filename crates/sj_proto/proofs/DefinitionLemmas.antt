@@ -27,12 +27,12 @@ use Rattle.sj_grammar.proofs.Steps.{Runs, Runs-cons, Runs-none, Runs-append}
 use Rattle.sj_grammar.proofs.Stuckness.{halts_stuck, stuck_cons, stuck_block, skip}
 use Rattle.sj_proto.specs.Choices.{but_first}
 use Rattle.sj_proto.specs.Parsed.{standing, Gives, GivesOnLines}
-use Rattle.sj_proto.proofs.Given.{itself}
+use Rattle.sj_proto.proofs.ReadLemmas.{itself}
 use Rattle.sj_proto.proofs.Exits.{next_is}
 use Rattle.sj_proto.proofs.Exits as exits
-use Rattle.sj_proto.proofs.Wholes.{body_run, in_file}
+use Rattle.sj_proto.proofs.WholeRuns.{body_run, in_file}
 use Rattle.sj_proto.proofs.Lines.{spellings-append, spellings-plain, Lines-cons, Lines-append, Lines-as, Lines-plain, lines_one}
-use Rattle.sj_proto.proofs.Pieced.{name_step, name_stuck}
+use Rattle.sj_proto.proofs.NamedPieceLemmas.{name_step, name_stuck}
 
 pub no_name_protocol : is_name (codes "protocol") ≡ false
 unfolding is_reserved

@@ -11,7 +11,7 @@ use Rattle.sj_grammar.specs.ProtocolDues.{ProtocolDue, body, more, seq, maybe, b
 use Rattle.sj_grammar.proofs.Completion.{lone}
 use Rattle.sj_proto.specs.Writable.{CanBeCarried}
 use Rattle.sj_proto.proofs.Names.{test_is}
-use Rattle.sj_proto.proofs.Spelled.{Spelled, AllSpelled, from_item, arm_from, from_open}
+use Rattle.sj_proto.proofs.DuePieceLemmas.{Spelled, AllSpelled, from_item, arm_from, from_open}
 use Rattle.sj_proto.proofs.BodyLemmas.{dotted_some}
 
 module _ (word : ℕ → List ℕ) where

@@ -15,7 +15,7 @@ use Rattle.sj_party.specs.CanonicalCode.{spaces, newline}
 use Rattle.sj_party.proofs.AddAlike.{AddAlike, alike_append}
 use Rattle.sj_party.proofs.Printable.{expression_pieces, printable}
 use Rattle.sj_party.proofs.RespellingLemmas.{spelt_again, adds_alike}
-use Rattle.sj_party.proofs.Reaching.{AreBlank, LexesOnLines, Reaches, HasLines, joins, blanks_append, first_line, line_here}
+use Rattle.sj_party.proofs.PieceTextLemmas.{AreBlank, LexesOnLines, Reaches, HasLines, joins, blanks_append, first_line, line_here}
 use Rattle.sj_party.proofs.ExpressionText.{word_lines, spaced_lines, expression_lines}
 
 -- from here up to the rest stand the pieces of a value that is the same but for lines, and adds what the given pieces add

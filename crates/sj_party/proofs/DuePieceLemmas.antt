@@ -14,10 +14,10 @@ use Rattle.sj_grammar.specs.Files as files
 use Rattle.sj_grammar.specs.FileDues.{Due, protocols, parties, connects, stmts, block, branches, awaited, name, fixed, proto, expr, file_layer, file_may_be_none}
 use Rattle.sj_grammar.proofs.Completion.{Alls}
 use Rattle.sj_proto.proofs.Lines.{spellings-append, spellings-plain}
-use Rattle.sj_proto.proofs.Spelled as protocol
-use Rattle.sj_proto.proofs.Completed as completed
-use Rattle.sj_expr.proofs.Completed as expression
-use Rattle.sj_expr.proofs.Unfollowed as unfollowed
+use Rattle.sj_proto.proofs.DuePieceLemmas as protocol
+use Rattle.sj_proto.proofs.CompletionLemmas as completed
+use Rattle.sj_expr.proofs.CompletionLemmas as expression
+use Rattle.sj_expr.proofs.FollowLemmas as unfollowed
 use Rattle.sj_party.proofs.LimitLemmas.{Widely}
 
 module _ (names : Spelling) where

@@ -15,7 +15,7 @@ use Rattle.sj_grammar.proofs.Spellings.{IsHeld}
 use Rattle.sj_grammar.proofs.Completion.{Alls}
 use Rattle.sj_expr.proofs.TokenLemmas.{text_quoted}
 use Rattle.sj_expr.proofs.NumberLemmas.{small_number}
-use Rattle.sj_expr.proofs.Writes.{Writes, w_as, w_number, w_minus, w_true, w_false, w_text, w_name, w_not, w_parens, w_factor, w_term}
+use Rattle.sj_expr.proofs.WideLimitLemmas.{Writes, w_as, w_number, w_minus, w_true, w_false, w_text, w_name, w_not, w_parens, w_factor, w_term}
 use Rattle.sj_expr.proofs.TestLemmas.{bytes_same}
 
 module _ (names : Spelling) where
