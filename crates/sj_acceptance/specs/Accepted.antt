@@ -1,19 +1,12 @@
 -- Accepted files.
-use Rattle.std.specs.Prelude.{◌≡◌, ◌≢◌, ℕ, ◌==◌, ◌<◌, ◌≤◌, List, [], ◌∷◌, Some, None, slice_get, length, ◌++◌, All, AllPairs, if◌then◌else◌}
+use Rattle.std.specs.Prelude.{◌≡◌, ◌≢◌, ℕ, ◌==◌, ◌<◌, List, [], ◌∷◌, Some, None, slice_get, length, ◌++◌, All, AllPairs, if◌then◌else◌}
 use Rattle.sj_lang.specs.Place.{Place}
 use Rattle.sj_lang.specs.Dual.{dual_of}
-use Rattle.sj_lang.specs.ItemCount.{item_count}
+use Rattle.sj_lang.specs.Limits.{IsWithin, limits}
 use Rattle.sj_lang.specs.FileAt.{FileAt, PartyAt, ConnectAt, DeclAt, named, protocol_named, body_named, party_named}
 use Rattle.sj_acceptance.specs.Environment.{Env}
 use Rattle.sj_acceptance.specs.Follows.{Follows}
 use Rattle.sj_acceptance.specs.Labels.{NamesOnce}
-
--- at most 256 protocols of at most 1,024 items each, inner ones counted, 16 parties and 64 connections
-pub record IsWithinLimits (file : FileAt) : Type 0 where
-  pub protocols : length file.protocols ≤ 256
-  pub items : All (λ p. item_count p.body ≤ 1024) file.protocols
-  pub parties : length file.parties ≤ 16
-  pub connections : length file.connects ≤ 64
 
 -- the end's place by its name, where it belongs to the party
 abbrev pub place_of_party : FileAt → ℕ → DeclAt → List (ℕ × Place)
@@ -50,7 +43,7 @@ pub record EndsWell (file : FileAt) (p : ℕ) (q : PartyAt) : Type 0 where
 
 -- what is named once, what exists, and where each party's code leads
 pub record IsAccepted (file : FileAt) : Type 0 where
-  pub within : IsWithinLimits file
+  pub within : IsWithin limits file
   pub protocols_once : AllPairs (λ p q. p.name ≢ q.name) file.protocols
   pub labels_once : All (λ p. NamesOnce p.body) file.protocols
   pub parties_once : AllPairs (λ p q. p.name ≢ q.name) file.parties

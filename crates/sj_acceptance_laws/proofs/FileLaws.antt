@@ -3,7 +3,8 @@ use Rattle.std.proofs.Common.{◌≡◌, List, [], ◌++◌, None}
 use Rattle.std.proofs.lemmas.List.Elements.{All-from_recursion, recursion_from_All}
 use Rattle.sj_lang.specs.FileAt.{FileAt}
 use Rattle.sj_acceptance.specs.Labels.{NamesOnce}
-use Rattle.sj_acceptance.specs.Accepted.{IsAccepted, IsWithinLimits, IsConnection}
+use Rattle.sj_acceptance.specs.Accepted.{IsAccepted, IsConnection}
+use Rattle.sj_lang.specs.Limits.{IsWithin, limits}
 use Rattle.sj_acceptance.specs.Faults.{Test, first_fault}
 use Rattle.sj_acceptance.specs.FileTests.{party_names, protocol_tests, party_tests, connect_tests, body_tests, tests_of}
 use Rattle.sj_acceptance_laws.proofs.FaultLemmas.{all_pass, pass_both}
@@ -26,7 +27,7 @@ module _ (f : FileAt) where
   abbrev four : List Test
   four = body_tests f.protocols f.connects f.parties
 
-  pub accepted_from : IsWithinLimits f → first_fault (tests_of f) ≡ None → IsAccepted f
+  pub accepted_from : IsWithin limits f → first_fault (tests_of f) ≡ None → IsAccepted f
   accepted_from within h =
       let a = all_pass (one ++ two ++ three) four h in
       let b = all_pass (one ++ two) three a.0 in

@@ -11,7 +11,8 @@ ghost use Rattle.sj_acceptance.specs.EnvAt.{EnvAt, env_of};
 ghost use Rattle.sj_acceptance.specs.Faults.{first_fault};
 ghost use Rattle.sj_acceptance.specs.Tests.{code_tests, after_code};
 ghost use Rattle.sj_acceptance.specs.FileTests.{tests_of};
-ghost use Rattle.sj_acceptance.specs.Accepted.{IsAccepted, IsWithinLimits};
+ghost use Rattle.sj_acceptance.specs.Accepted.{IsAccepted};
+ghost use Rattle.sj_lang.specs.Limits.{IsWithin, limits};
 
 /// A block leads to an environment exactly where its tests pass, and then to the one that it leaves.
 pub fn a_block_leads_where_its_tests_pass()
@@ -22,5 +23,5 @@ pub fn a_block_leads_where_its_tests_pass()
 
 /// A file is accepted exactly where it is within the limits and none of its tests fails.
 pub fn a_file_is_accepted_where_it_has_no_fault()
-    ensures { (f : FileAt) → IsAccepted f ↔ (IsWithinLimits f × (first_fault (tests_of f) ≡ None)) }
+    ensures { (f : FileAt) → IsAccepted f ↔ (IsWithin limits f × (first_fault (tests_of f) ≡ None)) }
 {}

@@ -79,7 +79,7 @@ greeting_bodies (suc (suc p)) q h = cc
 
 pub greeting_is_accepted : IsAccepted greeting
 greeting_is_accepted = record {
-  within = record { protocols = omega arith; items = greeting_items; parties = omega arith; connections = omega arith };
+  within = record { protocols = omega arith; items = greeting_items; parties = omega arith; connects = omega arith };
   protocols_once = two_names_differ;
   labels_once = greeting_labels;
   parties_once = two_parties_differ;

@@ -1,7 +1,7 @@
 //! Accepted files.
 ghost use Rattle.std.specs.Prelude.{◌≡◌, None};
 ghost use Rattle.sj_lang.specs.FileView.{file_of};
-ghost use Rattle.sj_acceptance.specs.Accepted.{IsWithinLimits};
+ghost use Rattle.sj_lang.specs.Limits.{IsWithin, limits};
 ghost use Rattle.sj_acceptance.specs.Faults.{first_fault};
 ghost use Rattle.sj_acceptance.specs.FileTests.{tests_of};
 
@@ -11,7 +11,7 @@ use sj_lang::File;
 #[derive(Drop)]
 pub struct Accepted {
     pub(crate) file: File,
-    ghost within: { IsWithinLimits (file_of file) },
+    ghost within: { IsWithin limits (file_of file) },
     ghost accepted: { first_fault (tests_of (file_of file)) ≡ None },
 }
 

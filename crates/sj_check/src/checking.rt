@@ -1,7 +1,8 @@
 //! The checker of a whole file.
 ghost use Rattle.std.specs.Prelude.{◌≡◌, ◌≢◌, IfOk, OnOk, IfErr};
 ghost use Rattle.sj_lang.specs.FileView.{file_of};
-ghost use Rattle.sj_acceptance.specs.Accepted.{IsAccepted, IsWithinLimits};
+ghost use Rattle.sj_acceptance.specs.Accepted.{IsAccepted};
+ghost use Rattle.sj_lang.specs.Limits.{IsWithin, limits};
 ghost use Rattle.sj_acceptance.specs.Faults.{first_fault};
 ghost use Rattle.sj_acceptance.specs.FileTests.{tests_of};
 ghost use Rattle.sj_check.specs.Held.{file_in};
@@ -14,7 +15,7 @@ use std::alloc::Global;
 
 /// Accepts the file, or gives it back with its first fault.
 pub fn check(alloc: Global, file: File) -> Result<Accepted, (File, CheckRefusal)>
-    requires { IsWithinLimits (file_of file) }
+    requires { IsWithin limits (file_of file) }
 
     ensures ok { IfOk result (λ a. file_in a ≡ file) }
     ensures accepted { OnOk result (IsAccepted (file_of file)) }

@@ -7,7 +7,7 @@ ghost use Rattle.sj_lang.specs.ItemCount.{item_count, kind_items, arm_items};
 ghost use Rattle.sj_lang.specs.Place.{done};
 ghost use Rattle.sj_lang.specs.View.{place_of, followed, carried_of, choices_of};
 ghost use Rattle.sj_lang.specs.FileView.{file_of};
-ghost use Rattle.sj_acceptance.specs.Accepted.{IsWithinLimits};
+ghost use Rattle.sj_lang.specs.Limits.{IsWithin, limits};
 ghost use Rattle.sj_check.specs.Views.{protocols_of};
 
 use sj_lang::{Arm, Arms, File, Item, Kind, Proto, ProtocolDef};
@@ -15,7 +15,7 @@ use sj_lang::{Arm, Arms, File, Item, Kind, Proto, ProtocolDef};
 /// Whether the file has at most 256 protocols of at most 1,024 items each, inner ones counted,
 /// 16 parties and 64 connections.
 pub fn is_within_limits(file: &File) -> bool
-    ensures { IsTrue result ↔ IsWithinLimits (file_of file.now) }
+    ensures { IsTrue result ↔ IsWithin limits (file_of file.now) }
 {
     if file.protocols.len() > 256 || file.parties.len() > 16 || file.connects.len() > 64 {
         return false;

@@ -37,7 +37,7 @@ pub(crate) fn matches_in<'a>(
     words: &'a [String],
 ) -> Result<Option<ArgMatches<'a>>, NoMemory>
     ensures taken { IfOk result (λ m. IfSome m (λ _. IsTaken (map string_bytes words.entry.now))) }
-    ensures text_given { IfOk result (λ m. IfSome m (λ a. (id : List ℕ)
+    ensures given { IfOk result (λ m. IfSome m (λ a. (id : List ℕ)
         → first_value (found_of a) id ≡ text_given id (map string_bytes words.entry.now))) }
     ensures refused { result ≡ Ok None → IsTaken (map string_bytes words.entry.now) → ⊥ }
 {

@@ -41,7 +41,7 @@ impl World {
     /// How many parties there are.
     pub fn parties(&self) -> usize
         ensures count { result ≡ party_count self.now }
-        ensures kept_file { result ≡ length (kept_file self.now).parties }
+        ensures kept { result ≡ length (kept_file self.now).parties }
     {
         self.course.nodes.len()
     }
@@ -60,7 +60,7 @@ impl World {
 
         // What is true of every world, and what no event changes.
         ensures run { IsHistory max (kept_file self.new) (history_of self.new) (world_at self.new) }
-        ensures kept_file { kept_file self.new ≡ kept_file self.old }
+        ensures kept { kept_file self.new ≡ kept_file self.old }
         ensures parties { party_count self.new ≡ length (kept_file self.new).parties }
 
         // A refusal changes nothing.
@@ -87,7 +87,7 @@ impl World {
 
         // What is true of every world, and what no event changes.
         ensures run { IsHistory max (kept_file self.new) (history_of self.new) (world_at self.new) }
-        ensures kept_file { kept_file self.new ≡ kept_file self.old }
+        ensures kept { kept_file self.new ≡ kept_file self.old }
         ensures parties { party_count self.new ≡ length (kept_file self.new).parties }
     {
         self.course.replay(lines)
@@ -121,7 +121,7 @@ impl World {
 
         // What is true of every world, and what no event changes.
         ensures run { IsHistory max (kept_file self.new) (history_of self.new) (world_at self.new) }
-        ensures kept_file { kept_file self.new ≡ kept_file self.old }
+        ensures kept { kept_file self.new ≡ kept_file self.old }
         ensures parties { party_count self.new ≡ length (kept_file self.new).parties }
     {
         self.course.drain()

@@ -4,7 +4,7 @@ use Rattle.std.specs.Prelude.{codes, pos, neg_ℤ}
 use Rattle.std.specs.Str.Parse.{digits_value}
 use Rattle.sj_lang.specs.Term.{Term}
 use Rattle.sj_lang.specs.Term as term
-use Rattle.sj_grammar.specs.Limits.{limits}
+use Rattle.sj_lang.specs.Limits.{limits}
 use Rattle.sj_grammar.specs.Reading.{Reading}
 use Rattle.sj_grammar.specs.Literals.{is_number, is_largest}
 use Rattle.sj_grammar.specs.Places.{Pieces, At, at}

@@ -10,7 +10,7 @@ use Rattle.sj_lang.specs.declared.file.Names.{Names}
 use Rattle.sj_lang.specs.Term.{Term}
 use Rattle.sj_lang.specs.Term as term
 use Rattle.sj_grammar.specs.Bytes.{is_printable}
-use Rattle.sj_grammar.specs.Limits.{limits}
+use Rattle.sj_lang.specs.Limits.{limits}
 use Rattle.sj_grammar.specs.Reading.{Reading}
 use Rattle.sj_grammar.specs.Names.{is_name}
 use Rattle.sj_grammar.specs.Literals.{is_text, inner, quoted}

@@ -6,7 +6,7 @@ use Rattle.sj_lang.specs.declared.party.Op.TheVariants.{Add, Sub, Mul, Less, Les
 use Rattle.sj_lang.specs.Term.{Term, int, boolean, text, var}
 use Rattle.sj_lang.specs.Term as term
 use Rattle.sj_grammar.specs.Literals.{quoted}
-use Rattle.sj_grammar.specs.Limits.{Limits}
+use Rattle.sj_lang.specs.Limits.{Limits}
 use Rattle.sj_grammar.specs.Tables.{Spelling}
 use Rattle.sj_grammar.specs.Places.{Pieces}
 use Rattle.sj_grammar.specs.Expressions.{Level, Spelt}

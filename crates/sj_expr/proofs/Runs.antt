@@ -5,7 +5,7 @@ use Rattle.std.proofs.lemmas.Bool.{lt-leb}
 use Rattle.sj_lang.specs.Term.{Term}
 use Rattle.sj_grammar.specs.Names.{is_reserved}
 use Rattle.sj_grammar.specs.Literals.{is_number, quoted}
-use Rattle.sj_grammar.specs.Limits.{Limits}
+use Rattle.sj_lang.specs.Limits.{Limits}
 use Rattle.sj_grammar.specs.Tables.{Spelling}
 use Rattle.sj_grammar.specs.Places.{Pieces}
 use Rattle.sj_grammar.specs.Layers.{Step, goes, step}

@@ -7,7 +7,7 @@ use Rattle.sj_lang.specs.Term.{Term, int, boolean, text, var}
 use Rattle.sj_lang.specs.Term as term
 use Rattle.sj_grammar.specs.Literals.{is_number, is_text, inner}
 use Rattle.sj_grammar.specs.Names.{is_name}
-use Rattle.sj_grammar.specs.Limits.{Limits}
+use Rattle.sj_lang.specs.Limits.{Limits}
 use Rattle.sj_grammar.specs.Tables.{Spelling, IsNamed, IsLiteral}
 use Rattle.sj_expr.proofs.Shapes.{Shape, leaf, minus, negated, joined}
 

@@ -4,7 +4,7 @@ use Rattle.std.specs.Prelude.{codes}
 use Rattle.sj_lang.specs.declared.party.Op.{Op}
 use Rattle.sj_lang.specs.Term.{Term}
 use Rattle.sj_grammar.specs.declared.tokens.Fault.{Fault}
-use Rattle.sj_grammar.specs.Limits.{limits}
+use Rattle.sj_lang.specs.Limits.{limits}
 use Rattle.sj_grammar.specs.Places.{At, Takes}
 use Rattle.sj_grammar.specs.Refusals.{StuckInside}
 use Rattle.sj_grammar.specs.Expressions.{operand_count}

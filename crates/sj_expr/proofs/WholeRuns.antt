@@ -3,7 +3,7 @@ use Rattle.std.proofs.Common.{◌≡◌, ℕ, ◌+◌, ◌≤◌, Bool, true, fa
 use Rattle.std.specs.Prelude.{codes, if◌then◌else◌}
 use Rattle.sj_lang.specs.Term.{Term}
 use Rattle.sj_grammar.specs.Literals.{quoted}
-use Rattle.sj_grammar.specs.Limits.{Limits}
+use Rattle.sj_lang.specs.Limits.{Limits}
 use Rattle.sj_grammar.specs.Tables.{Spelling}
 use Rattle.sj_grammar.specs.Places.{Pieces}
 use Rattle.sj_grammar.specs.Layers.{Step, goes, stops, misfit, instead, step, run, onward, rule_of}

@@ -7,7 +7,7 @@ use Rattle.sj_lang.specs.declared.party.Op.TheVariants.{Add, Sub, Mul, Less, Les
 use Rattle.sj_lang.specs.Term.{Term, int, boolean, text, var}
 use Rattle.sj_lang.specs.Term as term
 use Rattle.sj_grammar.specs.Bytes.{is_printable}
-use Rattle.sj_grammar.specs.Limits.{Limits}
+use Rattle.sj_lang.specs.Limits.{Limits}
 use Rattle.sj_grammar.specs.Lexis.{most}
 use Rattle.sj_grammar.specs.Literals.{is_number, quoted}
 use Rattle.sj_grammar.specs.Names.{is_name}

@@ -3,7 +3,7 @@ use Rattle.std.specs.Prelude.{ℕ, Bool, ◌||◌, nat_lt, List, length, codes, 
 use Rattle.std.specs.Str.{bytes_eq}
 use Rattle.sj_grammar.specs.declared.tokens.Rule.{Rule}
 use Rattle.sj_grammar.specs.declared.tokens.Rule.TheVariants.{P1, P4}
-use Rattle.sj_grammar.specs.Limits.{limits}
+use Rattle.sj_lang.specs.Limits.{limits}
 use Rattle.sj_grammar.specs.Literals.{inner}
 use Rattle.sj_expr.specs.declared.taking.Opening.{Opening}
 use Rattle.sj_expr.specs.declared.taking.Opening.TheVariants as openings

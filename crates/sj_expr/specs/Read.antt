@@ -2,7 +2,7 @@
 use Rattle.std.specs.Prelude.{◌≡◌, ℕ, ◌+◌, ◌≤◌, true, List, [], ◌∷◌, ◌++◌}
 use Rattle.sj_lang.specs.declared.file.Names.{Names}
 use Rattle.sj_lang.specs.Term.{Term}
-use Rattle.sj_grammar.specs.Limits.{limits}
+use Rattle.sj_lang.specs.Limits.{limits}
 use Rattle.sj_grammar.specs.Reading.{Reading}
 use Rattle.sj_grammar.specs.Literals.{quoted}
 use Rattle.sj_grammar.specs.Tables.{Spelling, Spells, IsLiteral}

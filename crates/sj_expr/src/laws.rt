@@ -7,7 +7,7 @@
 ghost use Rattle.std.specs.Prelude.{◌≡◌, ℕ, List, [], ◌∷◌, ◌++◌, ◌⊎◌, Some, None, true, false};
 ghost use Rattle.sj_lang.specs.Term.{Term};
 ghost use Rattle.sj_grammar.specs.declared.tokens.Rule.{Rule};
-ghost use Rattle.sj_grammar.specs.Limits.{Limits};
+ghost use Rattle.sj_lang.specs.Limits.{Limits};
 ghost use Rattle.sj_grammar.specs.Tables.{Spelling};
 ghost use Rattle.sj_grammar.specs.Places.{Pieces};
 ghost use Rattle.sj_grammar.specs.Layers.{step, may_end, rule_of};

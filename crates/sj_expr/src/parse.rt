@@ -1,7 +1,7 @@
 //! Expressions from tokens, by what is due.
 ghost use Rattle.std.specs.Prelude.{◌≡◌, ℕ, ◌+◌, ◌*◌, ◌<◌, ◌≤◌, [], ◌∷◌, IfOk, IfErr};
 ghost use Rattle.sj_lang.specs.CodeView.{term_of};
-ghost use Rattle.sj_grammar.specs.Limits.{limits};
+ghost use Rattle.sj_lang.specs.Limits.{limits};
 ghost use Rattle.sj_grammar.specs.Lexis.{next_of};
 ghost use Rattle.sj_grammar.specs.Expressions.{factor as a_factor, term as a_term, sum as a_sum, operand_count};
 ghost use Rattle.sj_grammar.specs.ExpressionDues.{whole as whole_due, factor as factor_due, times, plus, expression_at, expression_layer};

@@ -2,7 +2,7 @@
 ghost use Rattle.std.specs.Prelude.{◌≡◌, ◌≢◌, ℕ, ◌+◌, ◌*◌, ◌<◌, ◌≤◌, ◌^◌, List, [], ◌∷◌, false, true, length, codes, pos, neg_ℤ, FitsSigned, IfOk, IfErr};
 ghost use Rattle.std.specs.Int.{w64};
 ghost use Rattle.sj_lang.specs.CodeView.{term_of};
-ghost use Rattle.sj_grammar.specs.Limits.{limits};
+ghost use Rattle.sj_lang.specs.Limits.{limits};
 ghost use Rattle.sj_grammar.specs.declared.tokens.Rule.TheVariants.{P4};
 ghost use Rattle.sj_grammar.specs.Lexis.{next_of};
 ghost use Rattle.sj_grammar.specs.Reading.{before_next, fault_at};

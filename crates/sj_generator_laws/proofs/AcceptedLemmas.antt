@@ -3,7 +3,8 @@ use Rattle.std.proofs.Common.{◌≡◌, ℕ, zero, suc, ◌+◌, ◌≤◌, Lis
 use Rattle.std.proofs.lemmas.List.Elements.{All-from_recursion}
 use Rattle.sj_lang.specs.FileAt.{FileAt, PartyAt}
 use Rattle.sj_lang.specs.ItemCount.{item_count}
-use Rattle.sj_acceptance.specs.Accepted.{places_from, IsConnection, EndsWell, IsWithinLimits, IsAccepted}
+use Rattle.sj_acceptance.specs.Accepted.{places_from, IsConnection, EndsWell, IsAccepted}
+use Rattle.sj_lang.specs.Limits.{IsWithin, limits}
 use Rattle.sj_acceptance.specs.Faults.{first_fault}
 use Rattle.sj_acceptance.specs.FileTests.{party_names, protocol_tests, party_tests, connect_tests}
 use Rattle.sj_acceptance.specs.Labels.{NamesOnce}
@@ -95,12 +96,12 @@ all_end_well n = (
 
 -- ---- the file
 
-within : (n : ℕ) → IsWithinLimits (generated_file n)
+within : (n : ℕ) → IsWithin limits (generated_file n)
 within n = record {
   protocols = omega arith;
   items = All-from_recursion (λ p. item_count p.body ≤ 1024) (generated_file n).protocols (omega arith, (omega arith, (omega arith, (omega arith, tt))));
   parties = omega arith;
-  connections = omega arith;
+  connects = omega arith;
 }
 
 pub file_is_accepted : (n : ℕ) → IsAccepted (generated_file n)

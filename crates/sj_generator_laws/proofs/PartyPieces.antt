@@ -6,7 +6,7 @@ use Rattle.sj_lang.specs.declared.party.Op.TheVariants.{Add}
 use Rattle.sj_lang.specs.Term as term
 use Rattle.sj_lang.specs.FileAt.{PartyAt}
 use Rattle.sj_grammar.specs.Lexis.{most}
-use Rattle.sj_grammar.specs.Limits.{limits}
+use Rattle.sj_lang.specs.Limits.{limits}
 use Rattle.sj_grammar.specs.Literals.{is_number}
 use Rattle.sj_grammar.specs.Tables.{Spelling, IsNamed}
 use Rattle.sj_grammar.specs.Places.{Piece, plain, first_on}

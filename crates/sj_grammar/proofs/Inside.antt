@@ -1,7 +1,7 @@
 -- Where a text is stuck inside what is due.
 use Rattle.std.proofs.Common.{◌≡◌, ℕ, false, List, [], ◌∷◌, ◌++◌, refl, ap, ◌∙◌}
 use Rattle.sj_grammar.specs.declared.tokens.Fault.{Fault}
-use Rattle.sj_grammar.specs.Limits.{Limits}
+use Rattle.sj_lang.specs.Limits.{Limits}
 use Rattle.sj_grammar.specs.Places.{Pieces, At, Takes, Begins}
 use Rattle.sj_grammar.specs.Layers.{Layer, Step, goes, onward, step, run, may_end}
 use Rattle.sj_grammar.specs.Faults.{Halts}

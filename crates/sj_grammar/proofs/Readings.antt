@@ -2,7 +2,7 @@
 use Rattle.std.proofs.Common.{◌≡◌, ℕ, List, [], ◌∷◌, ◌++◌, Some, refl, ap, sym, subst, ◌∙◌, append-nil, ◌⊎◌, inl, inr}
 use Rattle.sj_grammar.specs.declared.tokens.Rule.{Rule}
 use Rattle.sj_grammar.specs.declared.tokens.Fault.{Fault}
-use Rattle.sj_grammar.specs.Limits.{Limits}
+use Rattle.sj_lang.specs.Limits.{Limits}
 use Rattle.sj_grammar.specs.Layers.{Layer, Step, goes, stops, onward, rule_of, step, run}
 use Rattle.sj_grammar.specs.Faults.{Halts, Stuck}
 use Rattle.sj_grammar.proofs.Steps.{run_split}

@@ -2,7 +2,7 @@
 use Rattle.std.specs.Prelude.{◌≡◌, refl, true, false, [], ◌∷◌, ◌++◌, codes}
 use Rattle.sj_grammar.specs.declared.tokens.Rule.TheVariants.{P1, P2, P3, P4, P5}
 use Rattle.sj_grammar.specs.declared.tokens.What.TheVariants.{Number, Symbol}
-use Rattle.sj_grammar.specs.Limits.{limits}
+use Rattle.sj_lang.specs.Limits.{limits}
 use Rattle.sj_grammar.specs.Lexis.{next_of, at_end, bad, token}
 use Rattle.sj_grammar.specs.Names.{is_name, is_reserved}
 use Rattle.sj_grammar.specs.Literals.{inner}

@@ -1,7 +1,7 @@
 -- What is due in a file, and so which tokens can stand there.
 use Rattle.std.specs.Prelude.{ℕ, suc, Bool, true, false, nat_le, nat_lt, List, [], ◌∷◌, length, map, codes, Option, Some, None, option_map, if◌then◌else◌}
 use Rattle.std.specs.Str.{bytes_eq}
-use Rattle.sj_grammar.specs.Limits.{Limits}
+use Rattle.sj_lang.specs.Limits.{Limits}
 use Rattle.sj_grammar.specs.Names.{is_name}
 use Rattle.sj_grammar.specs.Layers.{Layer}
 use Rattle.sj_grammar.specs.ProtocolDues.{ProtocolDue, body, protocol_follow, protocol_may_be_none, protocol_counted, protocol_passes}

@@ -2,7 +2,7 @@
 use Rattle.std.specs.Prelude.{◌≡◌, ℕ, ◌≤◌, List, [], ◌∷◌, ◌++◌, length, All, codes}
 use Rattle.sj_lang.specs.FileAt.{ProtocolAt, PartyAt, DeclAt, ConnectAt, FileAt}
 use Rattle.sj_lang.specs.Code.{Code}
-use Rattle.sj_grammar.specs.Limits.{Limits, limits}
+use Rattle.sj_lang.specs.Limits.{Limits, limits}
 use Rattle.sj_grammar.specs.Lexis.{next_of, at_end}
 use Rattle.sj_grammar.specs.Tables.{Spelling, entry_of, IsNamed}
 use Rattle.sj_grammar.specs.Places.{Piece, plain, first_on, all_plain, At, start, BeginsOnLines}

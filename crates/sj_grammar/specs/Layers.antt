@@ -2,7 +2,7 @@
 use Rattle.std.specs.Prelude.{ℕ, Bool, true, ◌&&◌, List, [], ◌∷◌, ◌++◌, Option, Some, None, if◌then◌else◌}
 use Rattle.sj_grammar.specs.declared.tokens.Rule.{Rule}
 use Rattle.sj_grammar.specs.declared.tokens.Rule.TheVariants.{P1, P3, P4}
-use Rattle.sj_grammar.specs.Limits.{Limits}
+use Rattle.sj_lang.specs.Limits.{Limits}
 use Rattle.sj_grammar.specs.Literals.{is_largest}
 use Rattle.sj_grammar.specs.Places.{Pieces}
 

@@ -9,7 +9,6 @@ pub mod FileDues
 pub mod Files
 pub mod Layers
 pub mod Lexis
-pub mod Limits
 pub mod Literals
 pub mod Names
 pub mod Places

@@ -5,7 +5,7 @@ use Rattle.std.specs.Str.{bytes_eq}
 use Rattle.std.proofs.Common.{get_or}
 use Rattle.sj_grammar.specs.Bytes.{is_printable}
 use Rattle.sj_grammar.specs.Names.{is_name}
-use Rattle.sj_grammar.specs.Limits.{Limits}
+use Rattle.sj_lang.specs.Limits.{Limits}
 
 -- an entry gets its number where it is new
 abbrev pub with_entry : List (List ℕ) → List ℕ → List (List ℕ)

@@ -5,6 +5,7 @@ pub mod Dual
 pub mod FileAt
 pub mod FileView
 pub mod ItemCount
+pub mod Limits
 pub mod Place
 pub mod PlaceCode
 pub mod PlaceSize

@@ -62,7 +62,7 @@ fn first_named(parties: &[Party], name: usize) -> usize
 
 // The number of a name, where it is at most so large.
 fn within(most: usize, place: Option<usize>) -> Result<usize, LogRule>
-    ensures number_known { result ≡ number_known most place }
+    ensures known { result ≡ number_known most place }
     ensures most { IfOk result (λ n. n ≤ most) }
 {
     match place {

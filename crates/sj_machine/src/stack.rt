@@ -98,7 +98,7 @@ impl Stack {
     /// Puts a block's frame innermost.
     pub fn enter(&mut self, block: Option<usize>)
         requires { length self.old.0 < self.old.1 }
-        ensures entry_frames { self.new.0 ≡ self.old.0 ++ entry_frames block }
+        ensures entered { self.new.0 ≡ self.old.0 ++ entry_frames block }
         ensures room { self.old.1 ≤ self.new.1 }
     {
         if let Some(at) = block {

@@ -2,7 +2,7 @@
 use Rattle.std.proofs.Common.{◌≡◌, ℕ, List, [], ◌∷◌, ◌++◌, Option, Some, None, refl, ap, sym, subst, ◌∙◌, append_assoc}
 use Rattle.std.specs.Prelude.{codes}
 use Rattle.sj_lang.specs.Term.{Term}
-use Rattle.sj_grammar.specs.Limits.{Limits}
+use Rattle.sj_lang.specs.Limits.{Limits}
 use Rattle.sj_grammar.specs.Tables.{Spelling}
 use Rattle.sj_grammar.specs.Places.{Pieces, Piece, plain, all_plain, spellings}
 use Rattle.sj_grammar.specs.Expressions.{IsExpression}

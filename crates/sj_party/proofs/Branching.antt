@@ -2,7 +2,7 @@
 use Rattle.std.proofs.Common.{◌≡◌, ℕ, ◌+◌, List, [], ◌∷◌, ◌++◌, refl, sym, subst, append_assoc}
 use Rattle.std.specs.Prelude.{codes}
 use Rattle.sj_lang.specs.Code.{Code, Branches, at, inbranch, no_branch, branch}
-use Rattle.sj_grammar.specs.Limits.{Limits}
+use Rattle.sj_lang.specs.Limits.{Limits}
 use Rattle.sj_grammar.specs.Reading.{Reading}
 use Rattle.sj_grammar.specs.Tables.{Spelling, IsNamed}
 use Rattle.sj_grammar.specs.Places.{Piece, plain, first_on, spellings}

@@ -6,7 +6,7 @@ use Rattle.sj_lang.specs.CodeView.{in_order, branches_of, code_of, stmt_of, arm_
 use Rattle.std.proofs.lemmas.List.{map-append}
 use Rattle.sj_lang.specs.declared.party.Stmt.{Stmt}
 use Rattle.sj_lang.specs.declared.party.StmtArm.{StmtArm}
-use Rattle.sj_grammar.specs.Limits.{limits}
+use Rattle.sj_lang.specs.Limits.{limits}
 use Rattle.sj_grammar.specs.Tables.{Spelling}
 use Rattle.sj_grammar.specs.Places.{Piece, At, Takes, TakesPiece, plain, first_on}
 use Rattle.sj_grammar.specs.Statements.{called, IsStatement, IsCode, IsBlock, AreArms}

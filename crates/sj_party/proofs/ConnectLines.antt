@@ -4,7 +4,7 @@ use Rattle.std.specs.Prelude.{codes, map}
 use Rattle.std.proofs.lemmas.List.Elements.{All-cons}
 use Rattle.sj_lang.specs.FileAt.{DeclAt, ConnectAt}
 use Rattle.sj_grammar.specs.declared.tokens.What.TheVariants.{Symbol}
-use Rattle.sj_grammar.specs.Limits.{Limits}
+use Rattle.sj_lang.specs.Limits.{Limits}
 use Rattle.sj_grammar.specs.Tables.{Spelling}
 use Rattle.sj_grammar.specs.Places.{Piece, plain}
 use Rattle.sj_grammar.specs.Files.{end_pieces, connect_pieces, connects_pieces, IsEnd, IsConnect}

@@ -6,7 +6,7 @@ use Rattle.std.proofs.lemmas.List.Elements.{All-cons}
 use Rattle.sj_lang.specs.Place.{Place}
 use Rattle.sj_lang.specs.FileAt.{ProtocolAt}
 use Rattle.sj_grammar.specs.declared.tokens.What.TheVariants.{Symbol}
-use Rattle.sj_grammar.specs.Limits.{Limits}
+use Rattle.sj_lang.specs.Limits.{Limits}
 use Rattle.sj_grammar.specs.Reading.{Reading, passed}
 use Rattle.sj_grammar.specs.Tables.{Spelling, IsNamed}
 use Rattle.sj_grammar.specs.Places.{Pieces, Piece, plain, all_plain}

@@ -7,7 +7,7 @@ use Rattle.sj_lang.specs.declared.party.Op.{Op}
 use Rattle.sj_lang.specs.declared.party.Op.TheVariants.{Add, Sub, Mul, Less, LessEq, Equal}
 use Rattle.sj_lang.specs.Term.{Term, int, boolean, text, var, not, two}
 use Rattle.sj_grammar.specs.declared.tokens.What.TheVariants.{Word, Number, Text, Symbol}
-use Rattle.sj_grammar.specs.Limits.{Limits}
+use Rattle.sj_lang.specs.Limits.{Limits}
 use Rattle.sj_grammar.specs.Names.{is_word}
 use Rattle.sj_grammar.specs.Literals.{quoted}
 use Rattle.sj_grammar.specs.Tables.{Spelling}

@@ -9,7 +9,7 @@ use Rattle.sj_lang.specs.FileAt.{ProtocolAt, PartyAt, ConnectAt, FileAt}
 use Rattle.sj_grammar.specs.declared.tokens.Fault.{Fault}
 use Rattle.sj_grammar.specs.declared.tokens.Rule.TheVariants.{P1, P3}
 use Rattle.sj_grammar.specs.declared.refusal.ParseRefusal.{ParseRefusal}
-use Rattle.sj_grammar.specs.Limits.{Limits, limits}
+use Rattle.sj_lang.specs.Limits.{Limits, limits, IsWithin}
 use Rattle.sj_grammar.specs.Lexis.{Ahead, at_end, bad, token, next_of}
 use Rattle.sj_grammar.specs.Literals.{is_largest}
 use Rattle.sj_grammar.specs.Places.{Piece, At, BeginsOnLines, spellings, start}
@@ -25,7 +25,6 @@ use Rattle.sj_proto.proofs.Fronts.{protocols_run}
 use Rattle.sj_proto.proofs.ReadLemmas.{itself}
 use Rattle.sj_proto.proofs.Lines.{off_lines, OnLines-append}
 use Rattle.sj_expr.proofs.ReadLemmas.{agrees_back, agrees_itself, spelling_at}
-use Rattle.sj_party.specs.Within.{IsWithin}
 use Rattle.sj_party.proofs.ConnectLemmas.{GivesConnects, connects_stuck}
 use Rattle.sj_party.proofs.PartyLemmas.{ReadsParties, parties_stuck}
 use Rattle.sj_party.proofs.Faultless.{no_fault}

@@ -3,7 +3,7 @@ use Rattle.std.proofs.Common.{◌≡◌, ℕ, suc, ◌+◌, ◌<◌, ◌≤◌, 
 use Rattle.std.specs.Prelude.{codes}
 use Rattle.std.proofs.lemmas.Bool.{lt-leb}
 use Rattle.sj_lang.specs.FileAt.{PartyAt, DeclAt, ConnectAt, FileAt}
-use Rattle.sj_grammar.specs.Limits.{Limits}
+use Rattle.sj_lang.specs.Limits.{Limits}
 use Rattle.sj_grammar.specs.Tables.{Spelling, IsNamed, entry_of}
 use Rattle.sj_grammar.specs.Places.{Piece, plain, first_on, spellings}
 use Rattle.sj_grammar.specs.Layers.{Step, onward, step, run, may_end}

@@ -1,7 +1,7 @@
 -- What holds within all limits that are wide enough.
 use Rattle.std.proofs.Common.{ℕ, ◌+◌, ◌≤◌, IsTrue, List, length, arith}
 use Rattle.sj_lang.specs.Term.{Term}
-use Rattle.sj_grammar.specs.Limits.{Limits}
+use Rattle.sj_lang.specs.Limits.{Limits}
 use Rattle.sj_grammar.specs.Names.{is_name}
 use Rattle.sj_grammar.specs.Tables.{Spelling, IsFirst, IsNamed}
 use Rattle.sj_grammar.specs.Places.{Pieces}

@@ -3,7 +3,7 @@ use Rattle.std.proofs.Common.{◌≡◌, ℕ, suc, false, List, [], ◌∷◌, �
 use Rattle.std.specs.Prelude.{codes}
 use Rattle.std.specs.Str.{bytes_eq}
 use Rattle.sj_lang.specs.FileAt.{ProtocolAt, PartyAt, DeclAt, ConnectAt, FileAt}
-use Rattle.sj_grammar.specs.Limits.{Limits, limits}
+use Rattle.sj_lang.specs.Limits.{Limits, limits}
 use Rattle.sj_grammar.specs.Reading.{passed, line_at}
 use Rattle.sj_grammar.specs.Tables.{Spelling, entry_of}
 use Rattle.sj_grammar.specs.Places.{Pieces, Piece, At, BeginsOnLines, plain, all_plain, spellings, start}

@@ -4,7 +4,7 @@ use Rattle.std.specs.Prelude.{codes}
 use Rattle.sj_lang.specs.declared.party.Scalar.{Scalar}
 use Rattle.sj_lang.specs.Code.{at, send, delegate, take_value, take_end, outbranch, let_be, close}
 use Rattle.sj_lang.specs.Term.{Term}
-use Rattle.sj_grammar.specs.Limits.{Limits}
+use Rattle.sj_lang.specs.Limits.{Limits}
 use Rattle.sj_grammar.specs.Tables.{Spelling, IsNamed}
 use Rattle.sj_grammar.specs.Places.{Pieces, plain, first_on, all_plain, spellings}
 use Rattle.sj_grammar.specs.Expressions.{IsExpression, whole}

@@ -9,7 +9,7 @@ use Rattle.sj_lang.specs.Code.{Code}
 use Rattle.sj_lang.specs.FileAt.{PartyAt}
 use Rattle.sj_lang.specs.FileView.{party_of}
 use Rattle.sj_grammar.specs.declared.tokens.Fault.{Fault}
-use Rattle.sj_grammar.specs.Limits.{limits}
+use Rattle.sj_lang.specs.Limits.{limits}
 use Rattle.sj_grammar.specs.Lexis.{Ahead, next_of}
 use Rattle.sj_grammar.specs.Names.{is_name, is_reserved}
 use Rattle.sj_grammar.specs.Reading.{Reading, line_at, before_next}

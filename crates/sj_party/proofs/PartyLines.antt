@@ -3,7 +3,7 @@ use Rattle.std.proofs.Common.{◌≡◌, ℕ, List, [], ◌∷◌, ◌++◌, ref
 use Rattle.std.specs.Prelude.{codes, map}
 use Rattle.sj_lang.specs.Code.{Code}
 use Rattle.sj_lang.specs.FileAt.{PartyAt}
-use Rattle.sj_grammar.specs.Limits.{Limits}
+use Rattle.sj_lang.specs.Limits.{Limits}
 use Rattle.sj_grammar.specs.Tables.{Spelling}
 use Rattle.sj_grammar.specs.Places.{Piece, plain, first_on, spellings}
 use Rattle.sj_grammar.specs.Statements.{braced, IsCode}

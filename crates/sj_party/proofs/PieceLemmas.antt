@@ -4,7 +4,7 @@ use Rattle.std.specs.Prelude.{codes}
 use Rattle.sj_lang.specs.Term.{Term}
 use Rattle.sj_lang.specs.Code.{Code, DeedAt, Branches, no_branch, branch, at, send, delegate, take_value, take_end, outbranch, inbranch, outwhile, inwhile, relay, if_else, let_be, close}
 use Rattle.sj_lang.specs.declared.party.Scalar.{Scalar}
-use Rattle.sj_grammar.specs.Limits.{limits}
+use Rattle.sj_lang.specs.Limits.{limits}
 use Rattle.sj_grammar.specs.Tables.{Spelling, IsNamed, entry_of}
 use Rattle.sj_grammar.specs.Places.{Pieces, Piece, At, Takes, TakesPiece, spellings, plain, first_on, all_plain}
 use Rattle.sj_grammar.specs.Expressions.{IsExpression}

@@ -6,7 +6,7 @@ use Rattle.std.specs.Str.Parse.{digits_value}
 use Rattle.sj_lang.specs.declared.party.Op.{Op}
 use Rattle.sj_lang.specs.declared.party.Op.TheVariants.{Add, Sub, Mul, Less, LessEq, Equal}
 use Rattle.sj_lang.specs.Term.{Term, int, boolean, text, var, not, two}
-use Rattle.sj_grammar.specs.Limits.{Limits}
+use Rattle.sj_lang.specs.Limits.{Limits}
 use Rattle.sj_grammar.specs.Lexis.{most}
 use Rattle.sj_grammar.specs.Literals.{is_number}
 use Rattle.sj_grammar.specs.Tables.{Spelling}

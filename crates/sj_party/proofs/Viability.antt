@@ -6,7 +6,7 @@ use Rattle.sj_lang.specs.declared.party.Scalar.TheVariants.{Int}
 use Rattle.sj_lang.specs.Code.{no_stmt}
 use Rattle.sj_grammar.specs.declared.tokens.Rule.{Rule}
 use Rattle.sj_grammar.specs.declared.tokens.Rule.TheVariants.{P4}
-use Rattle.sj_grammar.specs.Limits.{Limits}
+use Rattle.sj_lang.specs.Limits.{Limits}
 use Rattle.sj_grammar.specs.Literals.{inner}
 use Rattle.sj_grammar.specs.Names.{is_name}
 use Rattle.sj_grammar.specs.Tables.{Spelling, entry_of}

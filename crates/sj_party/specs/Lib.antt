@@ -11,6 +11,5 @@ pub mod Read
 pub mod Rooms
 pub mod Unlined
 pub mod Viable
-pub mod Within
 pub mod Words
 pub mod Wrong

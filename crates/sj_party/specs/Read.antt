@@ -2,7 +2,7 @@
 use Rattle.std.specs.Prelude.{ℕ, ◌≤◌, List}
 use Rattle.sj_lang.specs.declared.file.Names.{Names}
 use Rattle.sj_lang.specs.Code.{Code}
-use Rattle.sj_grammar.specs.Limits.{limits}
+use Rattle.sj_lang.specs.Limits.{limits}
 use Rattle.sj_grammar.specs.Reading.{Reading}
 use Rattle.sj_grammar.specs.Tables.{Spelling}
 use Rattle.sj_grammar.specs.Places.{Piece, At, BeginsOnLines}

@@ -1,7 +1,7 @@
 -- Which pieces a file begins with, whatever the limits.
 use Rattle.std.specs.Prelude.{◌≡◌, List, ◌++◌}
 use Rattle.sj_lang.specs.FileAt.{FileAt}
-use Rattle.sj_grammar.specs.Limits.{Limits}
+use Rattle.sj_lang.specs.Limits.{Limits}
 use Rattle.sj_grammar.specs.Places.{Pieces, Piece, spellings}
 use Rattle.sj_grammar.specs.Files.{IsSpelled}
 

@@ -1,7 +1,7 @@
 //! Connections from tokens.
 ghost use Rattle.std.specs.Prelude.{◌≡◌, ℕ, true, ◌+◌, ◌<◌, ◌≤◌, IfOk, IfErr, All, List, ◌∷◌, length, map, codes};
 ghost use Rattle.sj_lang.specs.FileView.{decl_of, connect_of};
-ghost use Rattle.sj_grammar.specs.Limits.{limits};
+ghost use Rattle.sj_lang.specs.Limits.{limits};
 ghost use Rattle.sj_grammar.specs.Lexis.{next_of};
 ghost use Rattle.sj_grammar.specs.Files.{end_pieces, connect_pieces, connects_pieces, IsEnd, IsConnect};
 ghost use Rattle.sj_grammar.specs.FileDues.{Due, name as name_due, connects, file_layer};

@@ -2,13 +2,12 @@
 ghost use Rattle.std.specs.Prelude.{◌≡◌, ◌≤◌, [], length, IfOk, IfErr};
 ghost use Rattle.sj_lang.specs.FileAt.{FileAt};
 ghost use Rattle.sj_lang.specs.FileView.{file_of};
-ghost use Rattle.sj_grammar.specs.Limits.{limits};
+ghost use Rattle.sj_lang.specs.Limits.{limits, IsWithin};
 ghost use Rattle.sj_grammar.specs.Places.{start};
 ghost use Rattle.sj_grammar.specs.Files.{IsFile};
 ghost use Rattle.sj_grammar.specs.FileDues.{file_layer, file_due};
 ghost use Rattle.sj_grammar.specs.Faults.{Stuck};
 ghost use Rattle.sj_grammar.specs.Refusals.{OnFault};
-ghost use Rattle.sj_party.specs.Within.{IsWithin};
 
 use crate::connects::parse_connects;
 use crate::parties::parse_parties;

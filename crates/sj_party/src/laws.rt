@@ -13,7 +13,7 @@ ghost use Rattle.sj_lang.specs.FileAt.{FileAt};
 ghost use Rattle.sj_grammar.specs.declared.tokens.Rule.{Rule};
 ghost use Rattle.sj_grammar.specs.declared.tokens.Rule.TheVariants.{P4};
 ghost use Rattle.sj_grammar.specs.declared.tokens.Fault.{Fault};
-ghost use Rattle.sj_grammar.specs.Limits.{Limits, limits};
+ghost use Rattle.sj_lang.specs.Limits.{Limits, limits};
 ghost use Rattle.sj_grammar.specs.Tables.{Spelling};
 ghost use Rattle.sj_grammar.specs.Places.{Pieces, Piece, spellings, start};
 ghost use Rattle.sj_grammar.specs.Layers.{step, may_end, rule_of};

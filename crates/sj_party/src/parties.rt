@@ -1,7 +1,7 @@
 //! Parties from tokens.
 ghost use Rattle.std.specs.Prelude.{◌≡◌, ℕ, true, ◌<◌, ◌≤◌, IfOk, IfErr, List, [], ◌∷◌, length, map, codes};
 ghost use Rattle.sj_lang.specs.FileView.{party_of};
-ghost use Rattle.sj_grammar.specs.Limits.{limits};
+ghost use Rattle.sj_lang.specs.Limits.{limits};
 ghost use Rattle.sj_grammar.specs.Lexis.{next_of};
 ghost use Rattle.sj_grammar.specs.Files.{AreParties};
 ghost use Rattle.sj_grammar.specs.FileDues.{Due, parties, file_layer};

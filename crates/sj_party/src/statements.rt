@@ -1,7 +1,7 @@
 //! Statements, blocks and the arms of an `inbranch`.
 ghost use Rattle.std.specs.Prelude.{ℕ, ◌+◌, ◌<◌, ◌≤◌, [], ◌∷◌, length, map, codes, IfOk, IfErr};
 ghost use Rattle.sj_lang.specs.CodeView.{deed_of, code_of, arm_of, branches_of};
-ghost use Rattle.sj_grammar.specs.Limits.{limits};
+ghost use Rattle.sj_lang.specs.Limits.{limits};
 ghost use Rattle.sj_grammar.specs.Lexis.{next_of};
 ghost use Rattle.sj_grammar.specs.ExpressionDues.{whole};
 ghost use Rattle.sj_grammar.specs.FileDues.{stmts, block as block_due, branches, name, fixed, expr, file_layer};

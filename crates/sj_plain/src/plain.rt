@@ -49,7 +49,7 @@ impl Plain {
     /// The world before the first act. It copies what it needs of the file.
     pub fn start(alloc: Global, accepted: &Accepted) -> Result<Plain, NoMemory>
         // The file's start.
-        ensures kept_file { IfOk result (λ p. kept_file p ≡ without_words (file_of (held accepted.now))) }
+        ensures kept { IfOk result (λ p. kept_file p ≡ without_words (file_of (held accepted.now))) }
         ensures acts { IfOk result (λ p. acts_of p ≡ []) }
         ensures world { IfOk result (λ p. world_at p ≡ start_of (file_of (held accepted.now))) }
 
@@ -72,7 +72,7 @@ impl Plain {
 
         // What is true of every world, and what no act changes.
         ensures run { IsRun (kept_file self.new) (acts_of self.new) (world_at self.new) }
-        ensures kept_file { kept_file self.new ≡ kept_file self.old }
+        ensures kept { kept_file self.new ≡ kept_file self.old }
         ensures parties { party_count self.new ≡ length (kept_file self.new).parties }
         ensures sessions { session_count self.new ≡ length (kept_file self.new).connects }
 
@@ -101,7 +101,7 @@ impl Plain {
         // Whatever it answers, some acts lead there.
         ensures on { GoesOn self.old self.new }
         ensures run { IsRun (kept_file self.new) (acts_of self.new) (world_at self.new) }
-        ensures kept_file { kept_file self.new ≡ kept_file self.old }
+        ensures kept { kept_file self.new ≡ kept_file self.old }
         ensures parties { party_count self.new ≡ length (kept_file self.new).parties }
         ensures sessions { session_count self.new ≡ length (kept_file self.new).connects }
     {
@@ -111,7 +111,7 @@ impl Plain {
     /// How many parties there are.
     pub fn parties(&self) -> usize
         ensures count { result ≡ party_count self.now }
-        ensures kept_file { result ≡ length (kept_file self.now).parties }
+        ensures kept { result ≡ length (kept_file self.now).parties }
     {
         self.course.machines.len()
     }
@@ -119,7 +119,7 @@ impl Plain {
     /// How many sessions there are.
     pub fn sessions(&self) -> usize
         ensures count { result ≡ session_count self.now }
-        ensures kept_file { result ≡ length (kept_file self.now).connects }
+        ensures kept { result ≡ length (kept_file self.now).connects }
     {
         self.course.sessions.len()
     }

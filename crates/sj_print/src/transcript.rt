@@ -20,7 +20,7 @@ use sj_plain::Plain;
 pub fn print_transcript(text: &mut Vec<u8>, file: &File, plain: &Plain) -> Result<(), NoMemory>
     requires parties { length (file_of file.now).parties ≤ 16 }
     requires connects { length (file_of file.now).connects ≤ 64 }
-    requires kept_file { kept_file plain.now ≡ without_words (file_of file.now) }
+    requires kept { kept_file plain.now ≡ without_words (file_of file.now) }
     requires run { IsRun (kept_file plain.now) (acts_of plain.now) (world_at plain.now) }
     ensures ok { OnOk result (text.new.items
         ≡ text.old.items ++ transcript_of (file_of file.now) (world_at plain.now)) }

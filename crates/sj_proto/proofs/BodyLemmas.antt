@@ -4,7 +4,7 @@ use Rattle.std.specs.Prelude.{codes}
 use Rattle.sj_lang.specs.Place.{Place, done, message, choice, repeat}
 use Rattle.sj_lang.specs.declared.file.Names.{Names}
 use Rattle.sj_grammar.specs.declared.tokens.Fault.{Fault}
-use Rattle.sj_grammar.specs.Limits.{limits}
+use Rattle.sj_lang.specs.Limits.{limits}
 use Rattle.sj_grammar.specs.Reading.{Reading}
 use Rattle.sj_grammar.specs.Names.{is_name, is_reserved}
 use Rattle.sj_grammar.specs.Places.{Takes}

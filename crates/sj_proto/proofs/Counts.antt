@@ -3,7 +3,7 @@ use Rattle.std.proofs.Common.{◌≡◌, ℕ, suc, Bool, true, false, List, [], 
 use Rattle.std.specs.Prelude.{codes, if◌then◌else◌}
 use Rattle.std.specs.Str.{bytes_eq}
 use Rattle.sj_grammar.specs.declared.tokens.Rule.TheVariants.{P4}
-use Rattle.sj_grammar.specs.Limits.{Limits}
+use Rattle.sj_lang.specs.Limits.{Limits}
 use Rattle.sj_grammar.specs.Layers.{goes, stops, misfit, instead, step}
 use Rattle.sj_grammar.specs.ProtocolDues.{ProtocolDue, body, more, seq, maybe, behind, kind, label, arms, fixed, protocol_layer, protocol_follow, protocol_may_be_none, protocol_counted, protocol_passes}
 use Rattle.sj_grammar.proofs.Steps.{due_behind, or_else}

@@ -4,7 +4,7 @@ use Rattle.sj_lang.specs.declared.file.Names.{Names}
 use Rattle.sj_grammar.specs.declared.tokens.What.TheVariants.{End}
 use Rattle.sj_grammar.specs.declared.tokens.Token.{Token}
 use Rattle.sj_grammar.specs.declared.tokens.Fault.{Fault}
-use Rattle.sj_grammar.specs.Limits.{limits}
+use Rattle.sj_lang.specs.Limits.{limits}
 use Rattle.sj_grammar.specs.Lexis.{Ahead, at_end, bad, token, next_of}
 use Rattle.sj_grammar.specs.Reading.{Reading, answer_to, reading_after, token_at, fault_at, before_next}
 use Rattle.sj_grammar.specs.Places.{start}

@@ -7,7 +7,7 @@ use Rattle.sj_lang.specs.Place.{Place, done, message, choice, repeat, no_choice,
 use Rattle.sj_lang.specs.View.{followed}
 use Rattle.sj_lang.specs.ItemCount.{item_count}
 use Rattle.sj_grammar.specs.declared.tokens.Fault.{Fault}
-use Rattle.sj_grammar.specs.Limits.{limits}
+use Rattle.sj_lang.specs.Limits.{limits}
 use Rattle.sj_grammar.specs.Lexis.{next_of}
 use Rattle.sj_grammar.specs.Tables.{IsNamed, entry_of}
 use Rattle.sj_grammar.specs.Places.{At, Takes, Begins}

@@ -4,7 +4,7 @@ use Rattle.std.specs.Prelude.{codes}
 use Rattle.std.proofs.Math.Seq.{get_or-append_seam}
 use Rattle.sj_lang.specs.Place.{Place}
 use Rattle.sj_lang.specs.ItemCount.{item_count}
-use Rattle.sj_grammar.specs.Limits.{Limits}
+use Rattle.sj_lang.specs.Limits.{Limits}
 use Rattle.sj_grammar.specs.Names.{is_name, is_reserved}
 use Rattle.sj_grammar.specs.Places.{Pieces}
 use Rattle.sj_grammar.specs.Protocols.{body_pieces}

@@ -3,7 +3,7 @@ use Rattle.std.proofs.Common.{◌≢◌, ℕ, suc, ◌+◌, ◌<◌, ◌≤◌, 
 use Rattle.sj_lang.specs.Place.{Place, Carried, Choices, done, message, choice, repeat, int, boolean, text, session, no_choice, arm}
 use Rattle.sj_lang.specs.PlaceSize.{place_size, carried_size, choices_size}
 use Rattle.sj_lang.specs.ItemCount.{item_count}
-use Rattle.sj_grammar.specs.Limits.{Limits, limits}
+use Rattle.sj_lang.specs.Limits.{Limits, limits}
 use Rattle.sj_grammar.specs.Names.{is_name}
 use Rattle.sj_grammar.specs.Protocols.{IsGiven, IsGivenKind, AreGiven}
 use Rattle.sj_proto.specs.Writable.{IsWritable, CanBeCarried, AreWritable}

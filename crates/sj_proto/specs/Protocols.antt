@@ -7,7 +7,7 @@ use Rattle.sj_lang.specs.declared.file.Names.{Names}
 use Rattle.sj_grammar.specs.declared.tokens.Fault.{Fault}
 use Rattle.sj_grammar.specs.declared.refusal.ParseRefusal.{ParseRefusal}
 use Rattle.sj_grammar.specs.declared.refusal.ParseRefusal.TheVariants as refusals
-use Rattle.sj_grammar.specs.Limits.{limits}
+use Rattle.sj_lang.specs.Limits.{limits}
 use Rattle.sj_grammar.specs.Lexis.{Ahead, at_end, bad, token, next_of}
 use Rattle.sj_grammar.specs.Reading.{Reading, passed, fault_at}
 use Rattle.sj_grammar.specs.Tables.{Spelling, Spells, entry_of}

@@ -1,6 +1,6 @@
 //! Protocols from their `begin` on.
 ghost use Rattle.std.specs.Prelude.{ℕ, List, ◌∷◌, IfOk, IfErr};
-ghost use Rattle.sj_grammar.specs.Limits.{limits};
+ghost use Rattle.sj_lang.specs.Limits.{limits};
 ghost use Rattle.sj_grammar.specs.Lexis.{next_of};
 ghost use Rattle.sj_grammar.specs.Protocols.{body_pieces, IsBody};
 ghost use Rattle.sj_grammar.specs.ProtocolDues.{more, body as body_due};

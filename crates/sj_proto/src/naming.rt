@@ -1,7 +1,7 @@
 //! Names, and their numbers in the tables.
 ghost use Rattle.std.specs.Prelude.{◌≡◌, ◌+◌, ◌<◌, ◌≤◌, [], ◌∷◌, length, get_or, false, IfOk, IfErr};
 ghost use Rattle.sj_lang.specs.Words.{IsFirstIndex};
-ghost use Rattle.sj_grammar.specs.Limits.{limits};
+ghost use Rattle.sj_lang.specs.Limits.{limits};
 ghost use Rattle.sj_grammar.specs.Tables.{with_entry, IsNamed};
 ghost use Rattle.sj_grammar.specs.Refusals.{OnFault};
 ghost use Rattle.sj_grammar.specs.Asked.{Refuses, but_name};

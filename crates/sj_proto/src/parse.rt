@@ -3,7 +3,7 @@ ghost use Rattle.std.specs.Prelude.{◌≡◌, ◌≢◌, ◌+◌, ◌*◌, ◌<
 ghost use Rattle.sj_lang.specs.Place.{done, no_choice, arm as with_arm};
 ghost use Rattle.sj_lang.specs.View.{carried_of, followed};
 ghost use Rattle.sj_lang.specs.ItemCount.{item_count, kind_items, arm_items};
-ghost use Rattle.sj_grammar.specs.Limits.{limits};
+ghost use Rattle.sj_lang.specs.Limits.{limits};
 ghost use Rattle.sj_grammar.specs.Lexis.{next_of};
 ghost use Rattle.sj_grammar.specs.Protocols.{seq_pieces, kind_pieces, listed, close_piece, IsGiven, IsGivenKind, AreGiven};
 ghost use Rattle.sj_grammar.specs.ProtocolDues.{seq as items_due, maybe as maybe_due, kind as kind_due, label, fixed, arms, more};

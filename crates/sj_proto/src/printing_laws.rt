@@ -2,7 +2,7 @@
 ghost use Rattle.std.specs.Prelude.{◌≡◌};
 ghost use Rattle.sj_lang.specs.Place.{Place};
 ghost use Rattle.sj_lang.specs.declared.file.Names.{Names};
-ghost use Rattle.sj_grammar.specs.Limits.{limits};
+ghost use Rattle.sj_lang.specs.Limits.{limits};
 ghost use Rattle.sj_grammar.specs.Tables.{entry_of};
 ghost use Rattle.sj_grammar.specs.Protocols.{IsBody};
 ghost use Rattle.sj_grammar.specs.Canonical.{body_text};

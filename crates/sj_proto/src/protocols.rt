@@ -4,7 +4,7 @@ ghost use Rattle.sj_lang.specs.FileAt.{ProtocolAt};
 ghost use Rattle.sj_lang.specs.FileView.{protocol_of};
 ghost use Rattle.sj_lang.specs.Place.{Place};
 ghost use Rattle.sj_lang.specs.declared.file.Names.{Names};
-ghost use Rattle.sj_grammar.specs.Limits.{limits};
+ghost use Rattle.sj_lang.specs.Limits.{limits};
 ghost use Rattle.sj_grammar.specs.Lexis.{next_of};
 ghost use Rattle.sj_grammar.specs.Places.{At};
 ghost use Rattle.sj_grammar.specs.Files.{protocol_pieces, IsProtocolDef};

@@ -25,7 +25,7 @@ use std::thread::Threads;
 
 /// The core world to which these lines lead from the file's start on. They become its history.
 fn replayed(alloc: Global, accepted: &Accepted, lines: Vec<Line>) -> Result<World, RunRefusal>
-    ensures kept_file { IfOk result (λ w. kept_file w ≡ without_words (file_of (held accepted.now))) }
+    ensures kept { IfOk result (λ w. kept_file w ≡ without_words (file_of (held accepted.now))) }
     ensures history { IfOk result (λ w. history_of w ≡ map line_at lines.items) }
     ensures run { IfOk result (λ w. IsHistory max (file_of (held accepted.now)) (map line_at lines.items) (world_at w)) }
     ensures damaged { IfErr result (IsMisfitOf (file_of (held accepted.now)) (map line_at lines.items)) }
@@ -80,7 +80,7 @@ pub fn run_parties<R: Threads + Sync, L: Links, G: Gate>(
     gate: &G,
 ) -> Result<World, RunRefusal>
     // A world of the file, to which its history leads.
-    ensures kept_file { IfOk result (λ w. kept_file w ≡ without_words (file_of (held accepted.now))) }
+    ensures kept { IfOk result (λ w. kept_file w ≡ without_words (file_of (held accepted.now))) }
     ensures run { IfOk result (λ w. IsHistory max (kept_file w) (history_of w) (world_at w)) }
     ensures parties { IfOk result (λ w. party_count w ≡ length (kept_file w).parties) }
 

@@ -24,7 +24,7 @@ pub(crate) fn acted(alloc: Global, accepted: &Accepted, lines: &[Line]) -> Resul
     requires { IsRun (file_of (file_in accepted.now)) (actors (map line_at lines.now))
         (end_of (file_of (file_in accepted.now))) }
     ensures end { IfOk result (λ p. world_at p ≡ end_of (file_of (file_in accepted.now))) }
-    ensures kept_file { IfOk result (λ p. kept_file p ≡ without_words (file_of (file_in accepted.now))) }
+    ensures kept { IfOk result (λ p. kept_file p ≡ without_words (file_of (file_in accepted.now))) }
     ensures run { IfOk result (λ p. IsRun (kept_file p) (acts_of p) (world_at p)) }
 {
     let mut plain = Plain::start(alloc, accepted)?;
@@ -39,7 +39,7 @@ fn act_again(plain: &mut Plain, line: &Line) -> Result<(), NoMemory>
     requires { IsReadyFor (world_at plain.old) (event_at line.now.entry.event) line.now.party }
     ensures ok { OnOk result (after_acts (world_at plain.old)
         (acts_by (event_at line.now.entry.event) line.now.party) ≡ Some (world_at plain.new)) }
-    ensures kept_file { kept_file plain.new ≡ kept_file plain.old }
+    ensures kept { kept_file plain.new ≡ kept_file plain.old }
     ensures run { IsRun (kept_file plain.old) (acts_of plain.old) (world_at plain.old)
         → IsRun (kept_file plain.new) (acts_of plain.new) (world_at plain.new) }
 {
@@ -53,7 +53,7 @@ fn act_again(plain: &mut Plain, line: &Line) -> Result<(), NoMemory>
 fn act(plain: &mut Plain, party: u16) -> Result<(), NoMemory>
     requires { state_of (world_at plain.old) party ≡ Ready }
     ensures ok { OnOk result (act_of (world_at plain.old) party ≡ Some (world_at plain.new)) }
-    ensures kept_file { kept_file plain.new ≡ kept_file plain.old }
+    ensures kept { kept_file plain.new ≡ kept_file plain.old }
     ensures run { IsRun (kept_file plain.new) (acts_of plain.new) (world_at plain.new) }
 {
     match plain.act(party) {

@@ -1,8 +1,7 @@
 //! What answers a file that was read.
 ghost use Rattle.std.specs.Prelude.{◌≡◌, ◌≤◌, ℕ, List, IfOk, length};
 ghost use Rattle.sj_lang.specs.FileView.{file_of};
-ghost use Rattle.sj_grammar.specs.Limits.{limits};
-ghost use Rattle.sj_party.specs.Within.{IsWithin};
+ghost use Rattle.sj_lang.specs.Limits.{limits, IsWithin};
 ghost use Rattle.sj_command.specs.declared.tasks.Task.TheVariants as tasks;
 ghost use Rattle.sj_tool.specs.Answers.{AnswersFile};
 ghost use Rattle.sj_tool.specs.Calls.{LinkUseAt, link_use};

@@ -71,7 +71,7 @@ fn text_for(
     requires events { HasEvents task }
     requires parties { length (file_of file.now).parties ≤ 16 }
     requires connects { length (file_of file.now).connects ≤ 64 }
-    requires kept_file { kept_file plain.now ≡ without_words (file_of file.now) }
+    requires kept { kept_file plain.now ≡ without_words (file_of file.now) }
     requires run { IsRun (kept_file plain.now) (acts_of plain.now) (plain_at plain.now) }
     ensures { IfOk result (λ text. text.items
         ≡ run_text task (file_of file.now) (map line_at lines.now) (plain_at plain.now)) }
@@ -95,7 +95,7 @@ fn logged_text(
 ) -> Result<Vec<u8>, NoMemory>
     requires parties { length (file_of file.now).parties ≤ 16 }
     requires connects { length (file_of file.now).connects ≤ 64 }
-    requires kept_file { kept_file plain.now ≡ without_words (file_of file.now) }
+    requires kept { kept_file plain.now ≡ without_words (file_of file.now) }
     requires run { IsRun (kept_file plain.now) (acts_of plain.now) (plain_at plain.now) }
     ensures { IfOk result (λ text. text.items ≡ transcript_of (file_of file.now) (plain_at plain.now)
         ++ log_part log (file_of file.now) (map line_at lines.now)) }

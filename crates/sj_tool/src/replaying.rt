@@ -102,7 +102,7 @@ fn lines_of(alloc: Global, accepted: &Accepted, log: &[u8]) -> Result<Vec<Line>,
 
 // The core world to which the lines lead from the file's start on.
 fn started(alloc: Global, accepted: &Accepted, lines: Vec<Line>) -> Result<World, ReplayFault>
-    ensures kept_file { IfOk result (λ w. kept_file w ≡ without_words (file_of (file_in accepted.now))) }
+    ensures kept { IfOk result (λ w. kept_file w ≡ without_words (file_of (file_in accepted.now))) }
     ensures history { IfOk result (λ w. history_of w ≡ map line_at lines.items) }
     ensures run { IfOk result (λ w. IsHistory max (kept_file w) (history_of w) (world_at w)) }
     ensures parties { IfOk result (λ w. party_count w ≡ length (kept_file w).parties) }

@@ -19,7 +19,7 @@ use std::thread::Threads;
 /// Runs the parties of a file on threads over rings, joins their logs, and finishes what they left.
 /// None where the logs are no history, which rings never give, or where there is no memory.
 pub fn run_file<R: Threads + Sync>(rt: &R, alloc: Global, accepted: &Accepted) -> Option<World>
-    ensures kept_file { IfSome result (λ w. kept_file w ≡ without_words (file_of (file_in accepted.now))) }
+    ensures kept { IfSome result (λ w. kept_file w ≡ without_words (file_of (file_in accepted.now))) }
     ensures history { IfSome result (λ w. IsHistory max (kept_file w) (history_of w) (world_at w)) }
     ensures quiet { IfSome result (λ w. IsQuietAmong (play_of (kept_file w)) (party_count w) (world_at w)) }
 {
@@ -66,7 +66,7 @@ fn joined<O: OutLane, I: InLane>(
 
 // The core world to which the lines lead, and what can still happen behind them.
 fn finished(alloc: Global, accepted: &Accepted, lines: &[Line]) -> Option<World>
-    ensures kept_file { IfSome result (λ w. kept_file w ≡ without_words (file_of (file_in accepted.now))) }
+    ensures kept { IfSome result (λ w. kept_file w ≡ without_words (file_of (file_in accepted.now))) }
     ensures history { IfSome result (λ w. IsHistory max (kept_file w) (history_of w) (world_at w)) }
     ensures quiet { IfSome result (λ w. IsQuietAmong (play_of (kept_file w)) (party_count w) (world_at w)) }
 {

@@ -25,7 +25,7 @@ add_op-returns-in_ok-no-in-If-clause-act t c =
     let kept = grown_code c.add_block-in-If.new.nodes.items c.add_block-in-If-2.new.nodes.items c.in_ok-yes-in-If.yes c.in_ok-no-in-If.ensures.grown c.in_ok-yes-in-If.ensures.below in
     let first : code_in (codes_of c.add_block-in-If-2.new.nodes.items) c.in_ok-yes-in-If.yes ≡ code_of c.in-If.yes.items = kept ∙ c.in_ok-yes-in-If.ensures.code ∙ ap code_of c.deref-in-If.ensures.value in
     let second : code_in (codes_of c.add_block-in-If-2.new.nodes.items) c.in_ok-no-in-If.no ≡ code_of c.in-If.no.items = c.in_ok-no-in-If.ensures.code ∙ ap code_of c.deref-in-If-2.ensures.value in
-    (λ i. if_else (c.in_ok-test-in-If.ensures i) (first i) (second i)) ∙ sym (deed_of-If c.in-If.test c.in-If.yes c.in-If.no) ∙ sym (ap Rattle.sj_lang.specs.Code.deed_of c.in-If.is)
+    (λ i. if_else (c.in_ok-test-in-If.ensures i) (first i) (second i)) ∙ sym (deed_of-If c.in-If.test c.in-If.yes c.in-If.no) ∙ sym (ap Rattle.sj_lang.specs.CodeView.deed_of c.in-If.is)
 
 pub add_arms-loop-arm-preserved : goal.add_arms-loop-arm-preserved
 add_arms-loop-arm-preserved t c =

@@ -3,7 +3,7 @@ use Rattle.std.specs.Prelude.{codes}
 use Rattle.std.proofs.lemmas.Bool.{leb-false}
 use Rattle.sj_lang.specs.CodeView.{code_of}
 use Rattle.sj_grammar.specs.declared.refusal.ParseRefusal.TheVariants as refusals
-use Rattle.sj_grammar.specs.Limits.{limits}
+use Rattle.sj_lang.specs.Limits.{limits}
 use Rattle.sj_grammar.specs.FileDues.{Due, fixed, stmts, parties, file_layer}
 use Rattle.sj_grammar.specs.Faults.{Stuck}
 use Rattle.sj_grammar.specs.Asked.{Refuses, but, but_name}

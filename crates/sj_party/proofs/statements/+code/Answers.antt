@@ -7,7 +7,7 @@ use Rattle.sj_lang.specs.CodeView.{term_of, code_of, arm_of, deed_of, branches_o
 use Rattle.sj_lang.specs.Code.{Code, StmtAt, DeedAt, outwhile, inwhile, relay}
 use Rattle.sj_lang.proofs.Folds.{deed_of-OutWhile, deed_of-InWhile, deed_of-Relay, deed_of-If, deed_of-Branch}
 use Rattle.sj_grammar.specs.declared.refusal.ParseRefusal.TheVariants as refusals
-use Rattle.sj_grammar.specs.Limits.{limits}
+use Rattle.sj_lang.specs.Limits.{limits}
 use Rattle.sj_grammar.specs.Lexis.{next_of}
 use Rattle.sj_grammar.specs.Reading.{Reading}
 use Rattle.sj_grammar.specs.Names.{is_name}

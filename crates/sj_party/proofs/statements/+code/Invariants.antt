@@ -1,7 +1,7 @@
 use Rattle.std.proofs.Common.{◌+◌, ◌*◌, ◌-◌, ◌<◌, ◌≤◌, length}
 use Rattle.std.specs.Prelude.{map}
 use Rattle.sj_lang.specs.CodeView.{code_of, arm_of, branches_of}
-use Rattle.sj_grammar.specs.Limits.{limits}
+use Rattle.sj_lang.specs.Limits.{limits}
 use Rattle.sj_grammar.specs.Statements.{AreArms}
 use Rattle.sj_proto.specs.Onward.{Advances}
 use Rattle.sj_proto.specs.Parsed.{standing}

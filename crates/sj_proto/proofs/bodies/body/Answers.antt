@@ -4,7 +4,7 @@ use Rattle.sj_lang.specs.declared.proto.Item.{Item}
 use Rattle.sj_lang.specs.View.{place_of}
 use Rattle.sj_lang.specs.ItemCount.{item_count}
 use Rattle.sj_grammar.specs.declared.refusal.ParseRefusal.TheVariants as refusals
-use Rattle.sj_grammar.specs.Limits.{limits}
+use Rattle.sj_lang.specs.Limits.{limits}
 use Rattle.sj_grammar.specs.Reading.{Reading}
 use Rattle.sj_grammar.specs.Places.{Takes}
 use Rattle.sj_grammar.specs.Protocols.{body_pieces, seq_pieces, IsGiven, IsBody}

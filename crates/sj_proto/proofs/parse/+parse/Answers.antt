@@ -7,7 +7,7 @@ use Rattle.sj_lang.specs.declared.proto.Arm.{Arm}
 use Rattle.sj_lang.specs.Place.{Place, done, no_choice, arm}
 use Rattle.sj_lang.specs.View.{carried_of, followed, place_of, choices_of}
 use Rattle.sj_grammar.specs.declared.refusal.ParseRefusal.TheVariants as refusals
-use Rattle.sj_grammar.specs.Limits.{limits}
+use Rattle.sj_lang.specs.Limits.{limits}
 use Rattle.sj_grammar.specs.Lexis.{next_of}
 use Rattle.sj_grammar.specs.Reading.{Reading}
 use Rattle.sj_grammar.specs.Tables.{IsNamed}

@@ -3,7 +3,7 @@ use Rattle.std.specs.Prelude.{codes}
 use Rattle.sj_lang.specs.View.{place_of, choices_of}
 use Rattle.sj_lang.specs.ItemCount.{item_count, arm_items}
 use Rattle.sj_grammar.specs.declared.tokens.Fault.{Fault}
-use Rattle.sj_grammar.specs.Limits.{limits}
+use Rattle.sj_lang.specs.Limits.{limits}
 use Rattle.sj_grammar.specs.Protocols.{dotted, listed, IsGiven, AreGiven}
 use Rattle.sj_grammar.specs.ProtocolDues.{seq, label, fixed, maybe, arms}
 use Rattle.sj_grammar.specs.FileDues.{Due, proto, file_layer}

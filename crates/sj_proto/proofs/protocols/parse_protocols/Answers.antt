@@ -5,7 +5,7 @@ use Rattle.sj_lang.specs.declared.file.ProtocolDef.{ProtocolDef}
 use Rattle.sj_lang.specs.FileView.{protocol_of}
 use Rattle.sj_lang.specs.ItemCount.{item_count}
 use Rattle.sj_grammar.specs.declared.refusal.ParseRefusal.TheVariants as refusals
-use Rattle.sj_grammar.specs.Limits.{limits}
+use Rattle.sj_lang.specs.Limits.{limits}
 use Rattle.sj_grammar.specs.Lexis.{next_of}
 use Rattle.sj_grammar.specs.Files.{protocols_pieces, IsProtocolDef}
 use Rattle.sj_grammar.specs.FileDues.{Due, protocols, file_layer}

@@ -2,7 +2,7 @@ use Rattle.std.proofs.Common.{◌≤◌, ℕ, List, ◌∷◌, length, All}
 use Rattle.std.specs.Prelude.{map}
 use Rattle.sj_lang.specs.FileView.{protocol_of}
 use Rattle.sj_grammar.specs.declared.tokens.Fault.{Fault}
-use Rattle.sj_grammar.specs.Limits.{limits}
+use Rattle.sj_lang.specs.Limits.{limits}
 use Rattle.sj_grammar.specs.Files.{protocols_pieces, IsProtocolDef}
 use Rattle.sj_grammar.specs.FileDues.{Due, protocols, file_layer}
 use Rattle.sj_grammar.specs.Faults.{Stuck}

@@ -2,7 +2,7 @@ use Rattle.std.proofs.Common.{ℕ, false, suc, List, ◌∷◌, refl}
 use Rattle.std.specs.Prelude.{codes}
 use Rattle.std.proofs.lemmas.Bool.{leb-false}
 use Rattle.sj_grammar.specs.declared.refusal.ParseRefusal.TheVariants as refusals
-use Rattle.sj_grammar.specs.Limits.{limits}
+use Rattle.sj_lang.specs.Limits.{limits}
 use Rattle.sj_grammar.specs.ProtocolDues.{body}
 use Rattle.sj_grammar.specs.FileDues.{Due, fixed, proto, protocols, file_layer}
 use Rattle.sj_grammar.specs.Faults.{Stuck}

@@ -1,5 +1,7 @@
 -- How much a file may have.
-use Rattle.std.specs.Prelude.{ℕ}
+use Rattle.std.specs.Prelude.{ℕ, ◌≤◌, length, All}
+use Rattle.sj_lang.specs.FileAt.{FileAt}
+use Rattle.sj_lang.specs.ItemCount.{item_count}
 
 pub record Limits : Type 0 where
   pub protocols : ℕ
@@ -19,3 +21,10 @@ pub record Limits : Type 0 where
 
 abbrev pub limits : Limits
 limits = record { protocols = 256; parties = 16; connects = 64; items = 1024; nesting = 32; labels = 16; operands = 256; name = 64; text = 255 }
+
+-- the file is within these limits, as far as protocols and their items, parties and connections go
+pub record IsWithin (L : Limits) (f : FileAt) : Type 0 where
+  pub protocols : length f.protocols ≤ L.protocols
+  pub items : All (λ p. item_count p.body ≤ L.items) f.protocols
+  pub parties : length f.parties ≤ L.parties
+  pub connects : length f.connects ≤ L.connects
