@@ -1,5 +1,5 @@
 #!/usr/bin/env bash
-# Times the reading of protocols: builds crates/bench_protocols once, writes texts of three sizes and
+# Times the reading of protocols: builds crates/bench_files once, writes texts of three sizes and
 # four kinds, and prints the best and the median time of many runs on each, beyond those on an empty
 # text. `RUNS=20 bench/protocols/bench.sh` makes fewer runs than 200.
 set -euo pipefail
@@ -85,14 +85,15 @@ comments() {
     }'
 }
 
-(cd "$top/crates/bench_protocols" && rt run < /dev/null > /dev/null)
-program=$top/crates/bench_protocols/out/bench_protocols
+(cd "$top/crates/bench_files" && rt run < /dev/null > /dev/null)
+program=$top/crates/bench_files/out/bench_files
 printf '| Text | Bytes | Protocols | Best ms | Median ms |\n|---|---|---|---|---|\n'
 for kind in words dense items comments; do
     for size in 16384 32768 65536; do
         file=$folder/$kind.$size
         "$kind" "$size" > "$file"
         read -r best median <<< "$(times_on "$file")"
-        printf '| %s | %d | %d | %s | %s |\n' "$kind" "$(wc -c < "$file")" "$("$program" < "$file")" "$best" "$median"
+        read -r protocols _ <<< "$("$program" < "$file")"
+        printf '| %s | %d | %d | %s | %s |\n' "$kind" "$(wc -c < "$file")" "$protocols" "$best" "$median"
     done
 done

@@ -1,5 +1,5 @@
 //! `bench_files`: reads a file on standard input and prints how many protocols, parties and
-//! connections it has. `bench/files` times it.
+//! connections it has. `bench/files` and `bench/protocols` time it.
 #![tactic(auto)]
 
 ghost use Rattle.std.specs.Prelude.{◌≡◌, ◌≤◌, length, IfOk};

@@ -6,11 +6,12 @@ use Rattle.sj_lang.specs.declared.proto.Way.TheVariants.{Out, Into}
 use Rattle.sj_lang.specs.Place.{Place}
 use Rattle.sj_lang.specs.Dual.{dual_of}
 use Rattle.sj_lang.specs.After.{after_place}
+use Rattle.sj_lang.proofs.DualLemmas.{dual_of-dual_of}
 use Rattle.sj_semantics.specs.declared.Passed.{Passed}
 use Rattle.sj_semantics.specs.Balanced.{FitsNext, LeadsTaker}
 use Rattle.sj_semantics.specs.Ends.{Session, EndAt}
 use Rattle.sj_semantics.specs.Uses.{sends, takes, delegates, end_after}
-use Rattle.sj_accepted_laws.proofs.DualPlaceLemmas.{dual_of-dual_of, after_place-dual, not_both_ways}
+use Rattle.sj_accepted_laws.proofs.DualPlaceLemmas.{after_place-dual, not_both_ways}
 
 -- what the giver sent and the taker hasn't taken
 abbrev pub coming : EndAt → EndAt → List Passed

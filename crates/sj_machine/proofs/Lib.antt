@@ -1,6 +1,7 @@
 pub mod ArmLemmas
 pub mod ArenaLemmas
 pub mod BuildLemmas
+pub mod FitLemmas
 pub mod FrameLemmas
 pub mod NameLemmas
 pub mod OnceLemmas

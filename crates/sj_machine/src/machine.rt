@@ -1,11 +1,13 @@
 //! A party as it runs.
-ghost use Rattle.std.specs.Prelude.{◌≡◌, ◌<◌, IfOk, Some, length, slice_get, unwrap_or};
+ghost use Rattle.std.specs.Prelude.{◌≡◌, ◌<◌, IfOk, Some, length, slice_get, true, unwrap_or};
 ghost use Rattle.sj_acceptance.specs.Accepted.{IsAccepted};
 ghost use Rattle.sj_lang.specs.FileView.{file_of};
 ghost use Rattle.sj_machine.specs.Names.{NamesDiffer};
 ghost use Rattle.sj_machine.specs.Sound.{first_program, program_at};
 ghost use Rattle.sj_semantics.specs.World.{start_of};
-ghost use Rattle.sj_semantics.specs.declared.Want.TheVariants.{Ended};
+ghost use Rattle.sj_semantics.specs.declared.Awaits.{Awaits};
+ghost use Rattle.sj_semantics.specs.declared.Want.TheVariants.{Ended, Take};
+ghost use Rattle.sj_semantics.specs.declared.Want.{Want};
 ghost use Rattle.sj_semantics.specs.Steps.{closed_of, local_of, sent_of, took_of};
 ghost use Rattle.sj_semantics.specs.Wants.{want_of};
 ghost use Rattle.sj_semantics.specs.Fitting.{fits};
@@ -53,6 +55,8 @@ impl Model for Machine {
 }
 
 impl Machine {
+    ghost use Rattle.sj_base.specs.declared.EndId.{EndId};
+
     /// The party of that number at the start of the file. Takes all the memory that its steps need.
     pub fn start(alloc: Global, file: &File, party: u16) -> Result<Machine, NoMemory>
         requires accepted { IsAccepted (file_of file.now) }
@@ -107,7 +111,9 @@ impl Machine {
 
     /// Whether the next step takes, and can take this message.
     pub fn fits(&self, msg: &Msg) -> bool
-        ensures { result ≡ fits (program_at self.now) msg.now }
+        ensures fits { result ≡ fits (program_at self.now) msg.now }
+        ensures takes { result ≡ true → (want : Want) → want_of (program_at self.now) ≡ Some want →
+            (e : EndId) × ((a : Awaits) × (want ≡ Take e a)) }
     {
         match self.stack.top() {
             Some(frame) => fits_at(frame.stage, &self.nodes[frame.at].op, msg),

@@ -1,6 +1,8 @@
 pub mod BeginLemmas
 pub mod CountLemmas
 pub mod CourseLemmas
+pub mod FinishLemmas
+pub mod FinishingLemmas
 pub mod MoveLemmas
 pub mod SteppingLemmas
 pub mod TakingLemmas

@@ -1,5 +1,7 @@
 pub mod Course
 pub mod Ends
+pub mod Finish
+pub mod Finishing
 pub mod Kept
 pub mod Moves
 pub mod Plain

@@ -3,6 +3,8 @@ ghost use Rattle.std.specs.List.{list_all, list_any};
 ghost use Rattle.std.specs.Prelude.{◌≡◌, ◌<◌, ◌≤◌, ◌∷◌, ◌++◌, [], ℕ, None, Some, true, false, length, map, IfOk, MatchResult, OnErr, OnOk};
 ghost use Rattle.sj_acceptance.specs.Accepted.{IsAccepted};
 ghost use Rattle.sj_lang.specs.FileView.{file_of};
+ghost use Rattle.sj_plain.specs.Finish.{ActsOut, IsFinished, IsRound};
+ghost use Rattle.sj_plain.specs.Finishing.{ActsOnce, BreaksOff, GoesBy, Stays};
 ghost use Rattle.sj_plain.specs.Kept.{without_words};
 ghost use Rattle.sj_machine.specs.Sound.{program_at};
 ghost use Rattle.sj_plain.specs.Rounds.{Shows, steps_left};
@@ -101,10 +103,12 @@ impl Course {
         requires { party < length (world_in self.old).parties }
         ensures on { GoesOn self.old self.new }
         ensures count { length (world_in self.new).parties ≡ length (world_in self.old).parties }
-        ensures same { IfOk result (λ b. b ≡ false → world_in self.new ≡ world_in self.old) }
+        ensures done { IfOk result (λ b. b ≡ true → ActsOnce self.old party self.new) }
+        ensures stays { IfOk result (λ b. b ≡ false → Stays self.old self.new) }
         ensures idle { IfOk result (λ b. b ≡ false → act_of (world_in self.old) party ≡ None) }
         ensures busy { IfOk result (λ b. b ≡ true →
             steps_left (world_in self.new) < steps_left (world_in self.old)) }
+        ensures err { OnErr result (Stays self.old self.new) }
     {
         match self.act(party) {
             Ok(()) => Ok(true),
@@ -116,6 +120,8 @@ impl Course {
     /// Lets the party act as long as it is ready. Answers whether it acted.
     fn turn(&mut self, party: u16) -> Result<bool, NoMemory>
         requires { party < length (world_in self.old).parties }
+        ensures ok { OnOk result (GoesBy (ActsOut party) self.old self.new) }
+        ensures err { OnErr result (BreaksOff (ActsOut party) self.old self.new) }
         ensures on { GoesOn self.old self.new }
         ensures count { length (world_in self.new).parties ≡ length (world_in self.old).parties }
         ensures same { IfOk result (λ b. b ≡ false → world_in self.new ≡ world_in self.old) }
@@ -133,8 +139,11 @@ impl Course {
     /// Gives each party in file order its turn. Answers whether somebody acted.
     fn round(&mut self) -> Result<bool, NoMemory>
         requires { length (world_in self.old).parties ≤ 16 }
+        ensures ok { OnOk result (GoesBy IsRound self.old self.new) }
+        ensures err { OnErr result (BreaksOff IsRound self.old self.new) }
         ensures on { GoesOn self.old self.new }
         ensures count { length (world_in self.new).parties ≡ length (world_in self.old).parties }
+        ensures same { IfOk result (λ b. b ≡ false → world_in self.new ≡ world_in self.old) }
         ensures settled { IfOk result (λ b. b ≡ false → IsSettled (world_in self.new)) }
         ensures busy { IfOk result (λ b. b ≡ true →
             steps_left (world_in self.new) < steps_left (world_in self.old)) }
@@ -151,6 +160,8 @@ impl Course {
     /// Rounds of all parties, until one has no act.
     pub fn finish(&mut self) -> Result<(), NoMemory>
         requires { length (world_in self.old).parties ≤ 16 }
+        ensures ok { OnOk result (GoesBy IsFinished self.old self.new) }
+        ensures err { OnErr result (BreaksOff IsFinished self.old self.new) }
         ensures on { GoesOn self.old self.new }
         ensures count { length (world_in self.new).parties ≡ length (world_in self.old).parties }
         ensures settled { OnOk result (IsSettled (world_in self.new)) }

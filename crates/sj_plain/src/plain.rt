@@ -3,6 +3,8 @@ ghost use Rattle.std.specs.Prelude.{◌≡◌, ◌<◌, ◌∷◌, ◌++◌, ◌
 ghost use Rattle.sj_base.specs.declared.EndId.{EndId};
 ghost use Rattle.sj_check.specs.Held.{file_in as held};
 ghost use Rattle.sj_lang.specs.FileView.{file_of};
+ghost use Rattle.sj_plain.specs.Finish.{IsFinished};
+ghost use Rattle.sj_plain.specs.Finishing.{BreaksOff, GoesBy};
 ghost use Rattle.sj_plain.specs.Kept.{without_words};
 ghost use Rattle.sj_semantics.specs.Ends.{other_end};
 ghost use Rattle.sj_semantics.specs.Run.{IsRun, end_of};
@@ -91,9 +93,13 @@ impl Plain {
         self.course.act(party)
     }
 
-    /// Acts party by party, each as long as it is ready, in rounds, until nobody can act. Want of
-    /// memory leaves a world that some acts gave.
+    /// Does rounds until one has no act. In a round each party, in file order, acts as long as it is
+    /// ready. Without memory it breaks off.
     pub fn finish(&mut self) -> Result<(), NoMemory>
+        // The acts are those of the rounds; where it breaks off they are the first of such.
+        ensures rounds { OnOk result (GoesBy IsFinished self.old self.new) }
+        ensures front { OnErr result (BreaksOff IsFinished self.old self.new) }
+
         // The end of the file.
         ensures settled { OnOk result (IsSettled (world_at self.new)) }
         ensures end { OnOk result (world_at self.new ≡ end_of (kept_file self.new)) }
