@@ -1,0 +1,15 @@
+pub mod ChainLemmas
+pub mod CountLemmas
+pub mod ItemLemmas
+pub mod ProtocolLemmas
+pub mod TermLemmas
+pub mod ExpressionLemmas
+pub mod FollowLemmas
+pub mod FilledLemmas
+pub mod StatementLemmas
+pub mod BlockLemmas
+pub mod FileBackLemmas
+pub mod KnownLemmas
+pub mod LinedLemmas
+pub mod RunningLemmas
+pub mod AnswerLemmas
