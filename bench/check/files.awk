@@ -1,4 +1,5 @@
-# Writes a file of 65,536 bytes of the kind that `-v kind=` names: lets, ifs, sessions, handed, loops, held.
+# Writes a file of 65,536 bytes of the kind that `-v kind=` names: lets, ifs, sessions, handed, loops, held,
+# beside, passed, turns, arms, variables, labels.
 
 # A text of n pieces, the one and the other in turn.
 function many(n, odd, even,    text, i) {
@@ -58,6 +59,54 @@ function held(n, front,    k, text) {
     }
     return numbers(n) carriers(n) two(front first("x", n), second("y", n)) text
 }
+# One party that holds both ends of 64 connections, with its statements.
+function alone(head, body,    k, text) {
+    for (k = 0; k < 64; k++) text = text "connect a x" k " p to a y" k " q;\n"
+    return head "party a{" body "}\n" text
+}
+function turns(n) { return protocol("p", many(n, ".![]*", ".![]*")) protocol("q", many(n, ".?[]*", ".?[]*")) }
+function both_arms(text) { return "if true{" text "}else{" text "}" }
+# The loop that stands first at the k-th of the 128 ends, without a statement in it.
+function pass(k) { return k % 2 ? "inwhile y" int(k / 2) "{}" : "outwhile x" k / 2 " 0{}" }
+# As many as fit of `if`s that pass in both arms `each` ends, in turn.
+function passing(head, each,    k, i, piece, body) {
+    while (1) {
+        piece = ""
+        for (i = 0; i < each; i++) piece = piece pass(k++ % 128)
+        piece = both_arms(piece)
+        if (length(alone(head, body piece)) > size) return alone(head, body)
+        body = body piece
+    }
+}
+# As many as fit of `inbranch`es of 16 empty arms, on 64 ends in turn.
+function branching(n,    i, l, labels, arms, head, k, piece, body) {
+    for (i = 1; i <= 16; i++) {
+        l = substr("abcdefghijklmnop", i, 1)
+        labels = labels (i > 1 ? "," : "") l ":"
+        arms = arms l ":{}"
+    }
+    head = protocol("p", many(n, ".!{" labels "}", ".!{" labels "}")) protocol("q", many(n, ".?{" labels "}", ".?{" labels "}"))
+    while (1) {
+        piece = "inbranch y" k++ % 64 "{" arms "}"
+        if (length(alone(head, body piece)) > size) return alone(head, body)
+        body = body piece
+    }
+}
+# The k-th of many short names.
+function name(k,    letters) {
+    letters = "abcdefghijklmnopqrstuvwxyzABCDEFGHIJKLMNOPQRSTUVWXYZ"
+    return substr(letters, k % 52 + 1, 1) substr(letters, int(k / 52) % 52 + 1, 1) (k < 2704 ? "" : substr(letters, int(k / 2704), 1)) "_"
+}
+function variables(n,    k, text) {
+    for (k = 0; k < n; k++) text = text "let " name(k) "=1;"
+    return "party a{" text filling("party a{" text "}\n", ifs()) "}\n"
+}
+function labels(    k, head, tail, body) {
+    head = protocol("p", ".?{a:}") protocol("q", ".!{a:}") "party a{inbranch x{"
+    tail = "}}\nparty b{}\nconnect a x p to b y q;\n"
+    while (length(head body tail) < size - 6) body = body name(k++) ":{}"
+    return head body tail
+}
 BEGIN {
     size = 65536
     if (kind == "lets") text = plain(1024, filling(plain(1024), "let n=1;"))
@@ -66,5 +115,11 @@ BEGIN {
     if (kind == "handed") text = handed(1023)
     if (kind == "loops") text = loops(1024)
     if (kind == "held") text = held(600, filling(held(600), ifs()))
+    if (kind == "beside") text = alone(turns(1024), filling(alone(turns(1024)), ifs()))
+    if (kind == "passed") text = passing(turns(1024), 1)
+    if (kind == "turns") text = passing(turns(1024), 128)
+    if (kind == "arms") text = branching(60)
+    if (kind == "variables") text = variables(2500)
+    if (kind == "labels") text = labels()
     printf "%s%*s", text, size - length(text), ""
 }

@@ -1,4 +1,4 @@
--- Entries that are inserted in turn, and entries that both have.
+-- Entries that both have.
 use Rattle.std.proofs.Common.{◌≡◌, ℕ, List, [], ◌∷◌, Option, Some, None, is_some, Bool, true, false, ◌&&◌, cond, refl, ap, sym, ◌∙◌}
 use Rattle.std.specs.Ordering.{nat_cmp, eq_by_cmp}
 use Rattle.std.specs.Cmp.{nat_cmp_total, eq_by_cmp_equiv, unsigned_tied}
@@ -23,23 +23,6 @@ use Rattle.sj_acceptance_laws.proofs.SamenessLemmas.{is_same_place-Decides, is_s
 -- what the entries give at a key
 abbrev pub there : {X : Type 0} → List (ℕ × X) → ℕ → Option X
 there es q = lookup (is_at (nat_cmp q)) es
-
--- the rest, inserted in turn, gives what all of them give
-abbrev pub Completes : {X : Type 0} → List (ℕ × X) → List (ℕ × X) → List (ℕ × X) → Type 0
-Completes {X} all es rest = (q : ℕ) → update_all (eq_by_cmp nat_cmp) (there es) rest q ≡ update_all (eq_by_cmp nat_cmp) (λ _. None) all q
-
-pub completes_more : {X : Type 0} (all es fs rest t : List (ℕ × X)) (k : ℕ) (v w : X) → rest ≡ (k, v) ∷ t → w ≡ v
-    → ((q : ℕ) → there fs q ≡ cond (is_at (nat_cmp k) q) (Some w) (there es q)) → Completes all es rest → Completes all fs t
-completes_more {X} all es fs rest t k v w r e h c q =
-    let step : (q : ℕ) → there fs q ≡ cond (is_at (nat_cmp k) q) (Some v) (there es q) = λ j. h j ∙ ap (λ (x : X). cond (is_at (nat_cmp k) j) (Some x) (there es j)) e in
-    ap (λ (f : ℕ → Option X). update_all (eq_by_cmp nat_cmp) f t q) (λ i j. step j i)
-    ∙ ap (λ (xs : List (ℕ × X)). update_all (eq_by_cmp nat_cmp) (there es) xs q) (sym r) ∙ c q
-
-pub completed : {X : Type 0} (all es rest : List (ℕ × X)) → rest ≡ [] → IsStrictlySortedBy nat_cmp (keys_of all) → Completes all es rest → map_at es ≡ map_at all
-completed {X} all es rest r o c = same_map nat_cmp_total nat_cmp-IsAntisymmetric _ _ (λ q.
-    get-map_at es q ∙ ap (λ (xs : List (ℕ × X)). update_all (eq_by_cmp nat_cmp) (there es) xs q) (sym r) ∙ c q
-    ∙ update_all_none (eq_by_cmp_equiv nat_cmp_total) (eq_by_cmp nat_cmp) (λ _ _. refl) all q (IsDistinct-from_sorted nat_cmp (keys_of all) o)
-    ∙ sym (get-map_at all q))
 
 both : (x y : Bool) → (x && y) ≡ true → (x ≡ true) × (y ≡ true)
 both x y = (Decides-and x y (λ e. e, λ e. e) (λ e. e, λ e. e)).0

@@ -5,8 +5,10 @@ pub mod FaultLemmas
 pub mod IfLemmas
 pub mod ItemLemmas
 pub mod MapLemmas
+pub mod NamedLemmas
 pub mod OnceLemmas
 pub mod PlaceLemmas
 pub mod TableLemmas
 pub mod TermLemmas
+pub mod UnnamedLemmas
 pub mod WalkLemmas

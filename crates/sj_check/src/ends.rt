@@ -1,9 +1,8 @@
 //! Connections, and the ends that they give a party.
 #![tactic(auto, using(crate::proofs::FaultLemmas::faults))]
 
-ghost use Rattle.std.specs.Prelude.{◌≡◌, ◌||◌, ◌++◌, ◌∷◌, [], None, is_some, unwrap_or};
+ghost use Rattle.std.specs.Prelude.{◌≡◌, [], None, unwrap_or};
 ghost use Rattle.std.specs.Prelude.{IfOk, OnOk, IfErr};
-ghost use Rattle.std.specs.FinMap as map;
 ghost use Rattle.sj_lang.specs.Place.{done};
 ghost use Rattle.sj_lang.specs.FileAt.{protocol_named};
 ghost use Rattle.sj_lang.specs.FileView.{connect_of, decl_of};

@@ -1,10 +1,11 @@
 //! What a party knows at a statement.
 #![tactic(auto, using(crate::proofs::MapLemmas::maps))]
 
-ghost use Rattle.std.specs.Prelude.{◌≡◌, map, IfOk, OnOk};
+ghost use Rattle.std.specs.Prelude.{◌≡◌, ℕ, ◌++◌, map, IfOk, OnOk};
 ghost use Rattle.std.specs.Option.{option_copied};
 ghost use Rattle.std.specs.Ordering.{nat_cmp};
 ghost use Rattle.std.specs.BTreeMap.{IsOrdered};
+ghost use Rattle.std.specs.BTreeSet.{contains};
 ghost use Rattle.sj_check.specs.Within.{within, keys_within};
 ghost use Rattle.sj_check.specs.Maps.{map_at};
 ghost use Rattle.std.specs.FinMap as finite;
@@ -15,16 +16,19 @@ ghost use Rattle.sj_acceptance.specs.Arms.{common};
 ghost use Rattle.sj_acceptance.specs.FirstItem.{turn_of, rest_of, arm_place, choices};
 ghost use Rattle.sj_acceptance.specs.Labels.{branch_labels};
 ghost use Rattle.sj_acceptance.specs.LabelTests.{are_labels_of};
-ghost use Rattle.sj_lang.specs.CodeView.{arm_of, branches_of};
+ghost use Rattle.sj_lang.specs.CodeView.{code_of, arm_of, branches_of};
+ghost use Rattle.sj_acceptance.specs.LabelTests.{is_among};
+ghost use Rattle.sj_check.specs.Named.{ends_named};
 
 use crate::labels::are_arms_of;
-use crate::places::{arm_place, is_same, rest, turn};
+use crate::named::names;
+use crate::places::{arm_place, has_empty_turn, is_same, rest, turn};
 use crate::shared::Shared;
 use crate::variables::Variables;
 use sj_base::NoMemory;
-use sj_lang::{Proto, Scalar, StmtArm, copied};
+use sj_lang::{Proto, Scalar, Stmt, StmtArm, copied};
 use std::alloc::Global;
-use std::collections::BTreeMap;
+use std::collections::{BTreeMap, BTreeSet};
 use std::marker::Model;
 
 /// The place of each live end, and the kind of each variable.
@@ -94,7 +98,13 @@ impl Env {
     pub fn put_place(&mut self, end: u16, place: Proto) -> Result<(), NoMemory>
         ensures { OnOk result (self.new ≡ with_live self.old end place) }
     {
-        self.places.insert(end, Shared::new(self.alloc, place)?)?;
+        self.put_shared(end, Shared::new(self.alloc, place)?)
+    }
+
+    fn put_shared(&mut self, end: u16, place: Shared) -> Result<(), NoMemory>
+        ensures { OnOk result (self.new ≡ with_live self.old end place) }
+    {
+        self.places.insert(end, place)?;
         Ok(())
     }
 
@@ -148,11 +158,24 @@ impl Env {
         are_arms_of(self.alloc, place, arms)
     }
 
+    /// These ends, and those that the two blocks name.
+    pub fn names(
+        &self,
+        ends: &[u16],
+        first: &[Stmt],
+        second: &[Stmt],
+    ) -> Result<BTreeSet<u16>, NoMemory>
+        ensures { let all = ends.now ++ ends_named (code_of first.now) ++ ends_named (code_of second.now) in
+            IfOk result (λ s. (q : ℕ) → contains nat_cmp s q ≡ is_among q all) }
+    {
+        names(self.alloc, ends, first, second)
+    }
+
     /// An equal environment.
     pub fn copied(&self) -> Result<Env, NoMemory>
         ensures { IfOk result (λ e. e ≡ self.now) }
     {
-        let places = copied_places(self.alloc, &self.places)?;
+        let places = self.places.clone()?;
         let kinds = self.kinds.copied(self.alloc)?;
         Ok(Env {
             alloc: self.alloc,
@@ -182,9 +205,11 @@ impl Env {
     pub fn enter(&self, inner: &mut Env, end: u16) -> Result<(), NoMemory>
         ensures { OnOk result (inner.new ≡ with_live inner.old end (turn_of (place_at self.now end))) }
     {
-        if let Some(place) = self.place(end) {
-            inner.put_place(end, turn(self.alloc, place)?)?;
-            return Ok(());
+        if let Some(shared) = self.shared(end) {
+            if has_empty_turn(shared.place()) {
+                return inner.put_shared(end, shared.clone()?);
+            }
+            return inner.put_place(end, turn(self.alloc, shared.place())?);
         }
         inner.put_place(
             end,
@@ -253,17 +278,4 @@ fn has_ends_of(a: &BTreeMap<u16, Shared>, b: &BTreeMap<u16, Shared>) -> bool
         }
     }
     true
-}
-
-fn copied_places(
-    alloc: Global,
-    places: &BTreeMap<u16, Shared>,
-) -> Result<BTreeMap<u16, Shared>, NoMemory>
-    ensures { IfOk result (λ m. map_at m.entries ≡ map_at places.now.entries) }
-{
-    let mut copies = BTreeMap::new(alloc);
-    for (end, place) in places {
-        copies.insert(*end, place.again()?)?;
-    }
-    Ok(copies)
 }

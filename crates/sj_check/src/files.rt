@@ -2,10 +2,7 @@
 #![tactic(auto, using(crate::proofs::FaultLemmas::faults))]
 
 ghost use Rattle.std.specs.Prelude.{◌≡◌, [], None, OnOk, IfErr};
-ghost use Rattle.std.specs.FinMap as map;
-ghost use Rattle.sj_lang.specs.Place.{done};
-ghost use Rattle.sj_lang.specs.FileAt.{protocol_named};
-ghost use Rattle.sj_lang.specs.FileView.{file_of, party_of, connect_of, decl_of};
+ghost use Rattle.sj_lang.specs.FileView.{file_of, party_of};
 ghost use Rattle.sj_acceptance.specs.Faults.{first_fault};
 ghost use Rattle.sj_acceptance.specs.LabelTests.{is_among};
 ghost use Rattle.sj_acceptance.specs.FileTests as tests;

@@ -8,13 +8,18 @@ ghost use Rattle.sj_acceptance.specs.Arms.{common};
 ghost use Rattle.sj_acceptance.specs.Faults.{first_fault};
 ghost use Rattle.sj_acceptance.specs.Sameness.{is_same_ends};
 ghost use Rattle.sj_acceptance.specs.Tests.{condition_tests, branching_tests};
+ghost use Rattle.std.specs.Ordering.{nat_cmp};
+ghost use Rattle.std.specs.BTreeSet.{contains};
+ghost use Rattle.sj_check.specs.Named.{SameBeyond};
 ghost use Rattle.sj_check.specs.Told.{Tells, IsFault};
 
 use crate::CheckRefusal;
 use crate::env::Env;
 use crate::kinds::{expr_kind, same_kind};
+use crate::named::has_same_ends_at;
 use crate::places::is_branching;
 use sj_lang::{Expr, Scalar, StmtArm};
+use std::collections::BTreeSet;
 
 /// What `inbranch` asks before its arms.
 pub fn branching(env: &Env, line: u32, end: u16, arms: &[StmtArm]) -> Result<(), CheckRefusal>
@@ -57,8 +62,14 @@ pub fn tested(env: &Env, line: u32, test: &Expr) -> Result<Env, CheckRefusal>
     Ok(env.copied()?)
 }
 
-/// What two arms leave together.
-pub fn joined(env: &mut Env, line: u32, other: &Env) -> Result<(), CheckRefusal>
+/// What two arms leave together, which may differ at these ends alone.
+pub fn join(
+    env: &mut Env,
+    line: u32,
+    other: &Env,
+    named: &BTreeSet<u16>,
+) -> Result<(), CheckRefusal>
+    requires { SameBeyond (contains nat_cmp named.now) env.old.ends other.now.ends }
     ensures passes { OnOk result (is_same_ends env.old.ends other.now.ends ≡ true) }
     ensures after { let known = common env.old.variables other.now.variables in
         OnOk result (env.new ≡ record env.old { variables = known }) }
@@ -66,7 +77,7 @@ pub fn joined(env: &mut Env, line: u32, other: &Env) -> Result<(), CheckRefusal>
         IfErr result (Tells (if same then None else Some (9, line))) }
     ensures cause { IfErr result IsFault }
 {
-    if !env.has_same_ends(other) {
+    if !has_same_ends_at(env, other, named) {
         return Err(CheckRefusal::At { rule: 9, line });
     }
     env.keep_common(other);

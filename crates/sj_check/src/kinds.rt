@@ -3,7 +3,7 @@
 
 ghost use Rattle.std.specs.Prelude.{◌≡◌, None, IfOk, OnOk, IfErr};
 ghost use Rattle.sj_lang.specs.CodeView.{term_of};
-ghost use Rattle.sj_lang.specs.View.{carried_of, place_of};
+ghost use Rattle.sj_lang.specs.View.{carried_of};
 ghost use Rattle.sj_acceptance.specs.Faults.{first_fault};
 ghost use Rattle.sj_acceptance.specs.KindTests as kinds;
 ghost use Rattle.sj_acceptance.specs.Kinds.{given_by};

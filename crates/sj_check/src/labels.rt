@@ -1,5 +1,5 @@
 //! Labels that stand once.
-ghost use Rattle.std.specs.Prelude.{◌≡◌, ◌∷◌, [], map, IfOk};
+ghost use Rattle.std.specs.Prelude.{◌≡◌, map, IfOk};
 ghost use Rattle.sj_lang.specs.CodeView.{arm_of, branches_of};
 ghost use Rattle.sj_acceptance.specs.LabelTests as labels;
 ghost use Rattle.sj_acceptance.specs.Labels.{labels_of, branch_labels};

@@ -10,6 +10,7 @@ mod joins;
 mod kinds;
 mod labels;
 mod limits;
+mod named;
 mod once;
 mod places;
 mod refusal;

@@ -5,7 +5,7 @@ ghost use Rattle.std.specs.Prelude.{◌≡◌, ◌&&◌};
 ghost use Rattle.sj_lang.specs.Place.{done};
 ghost use Rattle.sj_lang.specs.View.{place_of, followed, carried_of, choices_of};
 ghost use Rattle.sj_acceptance.specs.LabelTests as labels;
-ghost use Rattle.sj_acceptance.specs.Labels.{labels_of, branch_labels};
+ghost use Rattle.sj_acceptance.specs.Labels.{labels_of};
 
 use sj_lang::{Arm, Arms, Item, Kind, Proto};
 

@@ -1,7 +1,7 @@
 //! What stands first in a place.
-ghost use Rattle.std.specs.Prelude.{◌≡◌, false, unwrap_or, MatchOption, IfOk};
+ghost use Rattle.std.specs.Prelude.{◌≡◌, false, unwrap_or, MatchOption, IfOk, IsTrue};
 ghost use Rattle.sj_lang.specs.declared.proto.Way.TheVariants as ways;
-ghost use Rattle.sj_lang.specs.Place.{done, message, choice, repeat};
+ghost use Rattle.sj_lang.specs.Place.{done, message, choice};
 ghost use Rattle.sj_lang.specs.View.{followed, carried_of};
 ghost use Rattle.sj_lang.specs.After.{at_label, followed_by};
 ghost use Rattle.std.specs.Option.{option_copied};
@@ -82,7 +82,7 @@ pub fn arm_of(choice: Arms, label: u16) -> Option<Proto>
 }
 
 /// The one place, and then the other.
-pub fn joined(first: Proto, rest: Proto) -> Result<Proto, NoMemory>
+pub fn appended(first: Proto, rest: Proto) -> Result<Proto, NoMemory>
     ensures { IfOk result (λ p. p ≡ followed_by first rest) }
 {
     let Proto { mut items } = first;
@@ -148,9 +148,20 @@ pub fn turn(alloc: Global, place: &Proto) -> Result<Proto, NoMemory>
 {
     let again = copied(alloc, place)?;
     match place.items.first() {
-        Some(Item::OutLoop(body)) => joined(copied(alloc, body)?, again),
-        Some(Item::InLoop(body)) => joined(copied(alloc, body)?, again),
+        Some(Item::OutLoop(body)) => appended(copied(alloc, body)?, again),
+        Some(Item::InLoop(body)) => appended(copied(alloc, body)?, again),
         _ => Ok(again),
+    }
+}
+
+/// Whether a loop without items stands first, whose turn leaves the place as it is.
+pub fn has_empty_turn(place: &Proto) -> bool
+    ensures { IsTrue result → places.turn_of place.now ≡ place.now }
+{
+    match place.items.first() {
+        Some(Item::OutLoop(body)) => body.items.is_empty(),
+        Some(Item::InLoop(body)) => body.items.is_empty(),
+        _ => false,
     }
 }
 
@@ -187,7 +198,7 @@ pub fn arm_place(alloc: Global, place: &Proto, label: u16) -> Result<Proto, NoMe
             items: Vec::new(alloc),
         },
     };
-    joined(arm, follows)
+    appended(arm, follows)
 }
 
 fn arm_copy(alloc: Global, choice: &Arms, label: u16) -> Result<Proto, NoMemory>

@@ -3,11 +3,11 @@ ghost use Rattle.std.specs.Prelude.{◌≡◌, IfOk};
 
 use sj_base::NoMemory;
 use sj_lang::{Proto, copied};
-use std::alloc::Global;
+use std::alloc::{AllocError, Global};
 use std::marker::Model;
 use std::rc::Rc;
 
-/// A place that is copied only where it is taken out while others share it.
+/// A place whose clones share it, copied only where it is taken out while others share it.
 #[derive(Drop)]
 pub struct Shared {
     place: Rc<Proto>,
@@ -24,19 +24,23 @@ impl Model for Shared {
     ghost view = { λ s. s.place.value };
 }
 
+impl Clone for Shared {
+    ghost use Rattle.std.specs.Prelude.{◌≡◌};
+
+    ghost is_clone = { λ s c. c ≡ s };
+
+    /// The same place, shared.
+    fn clone(&self) -> Result<Shared, AllocError> {
+        let place = self.place.clone()?;
+        Ok(Shared { place })
+    }
+}
+
 impl Shared {
     pub fn new(alloc: Global, place: Proto) -> Result<Shared, NoMemory>
         ensures { IfOk result (λ s. s ≡ place) }
     {
         let place = Rc::new(alloc, place)?;
-        Ok(Shared { place })
-    }
-
-    /// The same place, shared.
-    pub fn again(&self) -> Result<Shared, NoMemory>
-        ensures { IfOk result (λ s. s ≡ self.now) }
-    {
-        let place = self.place.clone()?;
         Ok(Shared { place })
     }
 

@@ -1,7 +1,7 @@
 //! The statements without a block.
 #![tactic(auto, using(crate::proofs::FaultLemmas::faults))]
 
-ghost use Rattle.std.specs.Prelude.{◌≡◌, [], None, IfOk, OnOk, IfErr};
+ghost use Rattle.std.specs.Prelude.{◌≡◌, [], None, OnOk, IfErr};
 ghost use Rattle.sj_lang.specs.CodeView.{term_of};
 ghost use Rattle.sj_lang.specs.Code as code;
 ghost use Rattle.sj_acceptance.specs.Faults.{first_fault};
@@ -13,7 +13,7 @@ use crate::CheckRefusal;
 use crate::env::Env;
 use crate::kinds::{carries_as, expr_kind, is_free_for};
 use crate::places::{
-    arm_of, body_named, is_done, is_session, is_session_of, joined, selecting, sending, taking,
+    appended, arm_of, body_named, is_done, is_session, is_session_of, selecting, sending, taking,
 };
 use sj_lang::{Expr, ProtocolDef, Scalar};
 
@@ -174,7 +174,7 @@ pub fn select(env: &mut Env, line: u32, end: u16, label: u16) -> Result<(), Chec
     let Some(arm) = arm_of(arms, label) else {
         return Err(CheckRefusal::At { rule: 8, line });
     };
-    env.put_place(end, joined(arm, rest)?)?;
+    env.put_place(end, appended(arm, rest)?)?;
     Ok(())
 }
 

@@ -14,8 +14,9 @@ ghost use Rattle.sj_check.specs.Told.{Tells};
 
 use crate::CheckRefusal;
 use crate::env::Env;
-use crate::joins::{both, branching, joined, tested};
+use crate::joins::{both, branching, join, tested};
 use crate::kinds::{expr_kind, same_kind};
+use crate::named::has_same_ends_at;
 use crate::places::is_loop;
 use crate::statements::{close, delegate, let_be, select, send, take_end, take_value};
 use sj_lang::{Deed, Expr, ProtocolDef, Scalar, Stmt, StmtArm, Way};
@@ -70,7 +71,8 @@ fn step(protocols: &[ProtocolDef], env: &mut Env, stmt: &Stmt) -> Result<(), Che
             let mut other = tested(env, line, test)?;
             block(protocols, env, yes)?;
             block(protocols, &mut other, no)?;
-            joined(env, line, &other)
+            let named = env.names(&[], yes, no)?;
+            join(env, line, &other, &named)
         }
         Deed::Let { name, value } => let_be(env, line, *name, value),
         Deed::Close { end } => close(env, line, *end),
@@ -111,9 +113,11 @@ fn out_while(
     let mut inner = env.copied()?;
     env.enter(&mut inner, end)?;
     block(protocols, &mut inner, body)?;
-    if !env.has_same_ends(&inner) {
+    let named = env.names(&[end], &[], body)?;
+    if !has_same_ends_at(env, &inner, &named) {
         return Err(CheckRefusal::At { rule: 10, line });
     }
+    drop(inner);
     env.pass(end)?;
     Ok(())
 }
@@ -144,9 +148,11 @@ fn in_while(
     let mut turn = env.copied()?;
     env.enter(&mut turn, end)?;
     block(protocols, &mut turn, body)?;
-    if !env.has_same_ends(&turn) {
+    let named = env.names(&[end], &[], body)?;
+    if !has_same_ends_at(env, &turn, &named) {
         return Err(CheckRefusal::At { rule: 10, line });
     }
+    drop(turn);
     env.pass(end)?;
     Ok(())
 }
@@ -182,9 +188,11 @@ fn relay(
     env.enter(&mut inner, from)?;
     env.enter(&mut inner, to)?;
     block(protocols, &mut inner, body)?;
-    if !env.has_same_ends(&inner) {
+    let named = env.names(&[from, to], &[], body)?;
+    if !has_same_ends_at(env, &inner, &named) {
         return Err(CheckRefusal::At { rule: 10, line });
     }
+    drop(inner);
     env.pass(from)?;
     env.pass(to)?;
     Ok(())
@@ -225,7 +233,8 @@ fn all_arms(
         let arm = &arms[i];
         let mut inner = env.at_arm(end, arm.label)?;
         block(protocols, &mut inner, &arm.body)?;
-        agree = both(agree, left.has_same_ends(&inner));
+        let named = env.names(&[end], &first.body, &arm.body)?;
+        agree = both(agree, has_same_ends_at(&left, &inner, &named));
         left.keep_common(&inner);
     }
     Ok((left, agree))

@@ -1,4 +1,4 @@
-use Rattle.std.proofs.Common.{◌≡◌, ◌∙◌, ap, sym, refl, subst, true, arith, cond, Some, None, List, Vec, ℕ, ◌+◌, ◌<◌, ◌∷◌, map, length, ◌&&◌}
+use Rattle.std.proofs.Common.{◌≡◌, ◌∙◌, ap, sym, refl, subst, true, arith, cond, Some, None, List, [], Vec, ℕ, ◌+◌, ◌<◌, ◌∷◌, map, length, ◌&&◌}
 use Rattle.std.proofs.lemmas.Bool.Decides.{nat_tests}
 use Rattle.sj_lang.specs.declared.party.StmtArm.{StmtArm}
 use Rattle.sj_check.proofs.ArmLemmas.{from, from-end, and_assoc, and_true, arm-fault, arm-tests, arm-after, branch-arms, branch-ends}
@@ -23,6 +23,8 @@ use Rattle.sj_lang.specs.Code as code
 use Rattle.sj_check.proofs.IfLemmas.{if-condition, if-first, if-second, if-ends}
 use Rattle.sj_check.proofs.FaultLemmas.{passed_on}
 use Rattle.sj_check.proofs.WalkLemmas.{step-fault, step-tests, step-after, relay-after}
+use Rattle.std.specs.FinMap.{get}
+use Rattle.sj_check.proofs.NamedLemmas.{blocks-beyond, moved-beyond, both-moved-beyond, arms-beyond}
 use Rattle.sj_check.proofs.walk.+walk.Goals as goal
 
 pub block-returns-in_err-step-clause-fault : goal.block-returns-in_err-step-clause-fault
@@ -68,21 +70,21 @@ step-returns-in_err-block-in-If-2-clause-fault t c =
     passed_on _ _ _ c.from_residual-in_err-block-in-If-2.ensures.1 (if-second (protocols_of c.args.protocols.now) c.args.stmt.now.line c.args.env.now (stmt_of c.args.stmt.now) (term_of c.in-If.test) (code_of c.deref-in-If.result.now) (code_of c.deref-in-If-2.result.now) is
     c.in_ok-other-in-If.ensures.passes c.in_ok-block-in-If.ensures.passes _ (rw same at c.in_err-block-in-If-2.ensures.fault))
 
-pub step-returns-in_ok-block-in-If-2-clause-passes : goal.step-returns-in_ok-block-in-If-2-clause-passes
-step-returns-in_ok-block-in-If-2-clause-passes t c =
+pub step-returns-in_ok-named-in-If-clause-passes : goal.step-returns-in_ok-named-in-If-clause-passes
+step-returns-in_ok-named-in-If-clause-passes t c =
     let is = an_if c.args.stmt.now c.in-If.test c.in-If.yes c.in-If.no c.deref-in-If.result.now c.deref-in-If-2.result.now c.in-If.is c.deref-in-If.ensures.value c.deref-in-If-2.ensures.value in
     let same : c.in_ok-other-in-If.other ≡ c.args.env.now = c.in_ok-other-in-If.ensures.ok in
     let ends = if-ends (protocols_of c.args.protocols.now) c.args.stmt.now.line c.args.env.now (stmt_of c.args.stmt.now) (term_of c.in-If.test) (code_of c.deref-in-If.result.now) (code_of c.deref-in-If-2.result.now) is
     c.in_ok-other-in-If.ensures.passes c.in_ok-block-in-If.ensures.passes (rw same at c.in_ok-block-in-If-2.ensures.passes) c.block.new.env c.block-in-If.new.env c.in_ok-block-in-If.ensures.after (rw same at c.in_ok-block-in-If-2.ensures.after) in
-    on_ok_weaker c.joined.result (λ h. ends ∙ ap (λ b. cond b None (Some (9, c.args.stmt.now.line))) h) c.joined.ensures.passes
+    on_ok_weaker c.join.result (λ h. ends ∙ ap (λ b. cond b None (Some (9, c.args.stmt.now.line))) h) c.join.ensures.passes
 
-pub step-returns-in_ok-block-in-If-2-clause-fault : goal.step-returns-in_ok-block-in-If-2-clause-fault
-step-returns-in_ok-block-in-If-2-clause-fault t c =
+pub step-returns-in_ok-named-in-If-clause-fault : goal.step-returns-in_ok-named-in-If-clause-fault
+step-returns-in_ok-named-in-If-clause-fault t c =
     let is = an_if c.args.stmt.now c.in-If.test c.in-If.yes c.in-If.no c.deref-in-If.result.now c.deref-in-If-2.result.now c.in-If.is c.deref-in-If.ensures.value c.deref-in-If-2.ensures.value in
     let same : c.in_ok-other-in-If.other ≡ c.args.env.now = c.in_ok-other-in-If.ensures.ok in
     let ends = if-ends (protocols_of c.args.protocols.now) c.args.stmt.now.line c.args.env.now (stmt_of c.args.stmt.now) (term_of c.in-If.test) (code_of c.deref-in-If.result.now) (code_of c.deref-in-If-2.result.now) is
     c.in_ok-other-in-If.ensures.passes c.in_ok-block-in-If.ensures.passes (rw same at c.in_ok-block-in-If-2.ensures.passes) c.block.new.env c.block-in-If.new.env c.in_ok-block-in-If.ensures.after (rw same at c.in_ok-block-in-If-2.ensures.after) in
-    IfErr-weaker c.joined.result _ _ (λ y h. subst (λ o. Tells o y) (sym ends) h) c.joined.ensures.fault
+    IfErr-weaker c.join.result _ _ (λ y h. subst (λ o. Tells o y) (sym ends) h) c.join.ensures.fault
 
 pub all_arms-returns-in_err-block-clause-fault : goal.all_arms-returns-in_err-block-clause-fault
 all_arms-returns-in_err-block-clause-fault t c =
@@ -108,7 +110,7 @@ all_arms-loop-i-preserved t c =
       tests = arm-tests (protocols_of c.args.protocols.now) c.args.env.now c.args.end c.args.arms.now c.loop-i.i c.index-arms-i.result c.loop-i-test.true c.index-arms-i.is c.deref-in-loop-i.result.now c.deref-in-loop-i.ensures.value c.in_ok-inner.inner c.in_ok-inner.ensures c.in_ok-block-2.ensures.passes ∙ c.loop-i.invariant.tests;
       ends = ap (λ (e : EnvAt). e.ends) kept ∙ c.loop-i.invariant.ends;
       agree = ap (λ (e : EnvAt). c.both-agree.result && all_leave e.ends rest) kept
-          ∙ ap (λ b. b && all_leave left.ends rest) (c.both-agree.ensures ∙ ap (λ b. c.loop-i.agree && b) c.has_same_ends.ensures)
+          ∙ ap (λ b. b && all_leave left.ends rest) (c.both-agree.ensures ∙ ap (λ b. c.loop-i.agree && b) c.has_same_ends_at.ensures)
           ∙ and_assoc c.loop-i.agree (is_same_ends left.ends out.ends) (all_leave left.ends rest)
           ∙ ap (λ (es : List EnvAt). c.loop-i.agree && all_leave left.ends es) (sym after) ∙ c.loop-i.invariant.agree;
       known = ap (λ (e : EnvAt). common_of e.variables rest) kept ∙ ap (λ (es : List EnvAt). common_of left.variables es) (sym after) ∙ c.loop-i.invariant.known;
@@ -166,3 +168,37 @@ step-returns-else-not-agree-clause-passes t c =
     let asked = rw same at c.in_ok-branching-in-Branch.ensures.passes in
     branch-ends (protocols_of c.args.protocols.now) c.args.stmt.now.line c.args.env.now (stmt_of c.args.stmt.now) c.in-Branch.end (branches_of (map arm_of c.deref-in-Branch.result.now)) is asked c.in_ok-left-in-Branch.agree c.in_ok-left-in-Branch.ensures.passes c.in_ok-left-in-Branch.ensures.agree
     ∙ ap (λ b. cond b None (Some (9, c.args.stmt.now.line))) c.if-not-agree.false
+
+-- what may differ is named
+pub out_while-has_same_ends_at-requires : goal.out_while-has_same_ends_at-requires
+out_while-has_same_ends_at-requires t c =
+    blocks-beyond (protocols_of c.args.protocols.now) c.args.env.now _ c.args.env.now _ (c.args.end ∷ []) code.no_stmt (code_of c.args.body.now) code.no_stmt (code_of c.args.body.now) _ refl refl
+    c.in_ok-named.ensures (moved-beyond c.args.env.now _ _ c.args.end _ c.in_ok-inner.ensures c.in_ok-enter.ensures) refl refl c.in_ok-block.ensures.passes c.in_ok-block.ensures.after
+
+pub in_while-has_same_ends_at-requires : goal.in_while-has_same_ends_at-requires
+in_while-has_same_ends_at-requires t c =
+    blocks-beyond (protocols_of c.args.protocols.now) c.args.env.now _ c.args.env.now _ (c.args.end ∷ []) code.no_stmt (code_of c.args.body.now) code.no_stmt (code_of c.args.body.now) _ refl refl
+    c.in_ok-named.ensures (moved-beyond c.args.env.now _ _ c.args.end _ c.in_ok-turn.ensures c.in_ok-enter.ensures) refl refl c.in_ok-block.ensures.passes c.in_ok-block.ensures.after
+
+pub relay-has_same_ends_at-requires : goal.relay-has_same_ends_at-requires
+relay-has_same_ends_at-requires t c =
+    blocks-beyond (protocols_of c.args.protocols.now) c.args.env.now _ c.args.env.now _ (c.args.from ∷ c.args.to ∷ []) code.no_stmt (code_of c.args.body.now) code.no_stmt (code_of c.args.body.now) _ refl refl
+    c.in_ok-named.ensures (both-moved-beyond c.args.env.now _ _ _ c.args.from c.args.to _ _ c.in_ok-inner.ensures c.in_ok-enter.ensures c.in_ok-enter-2.ensures) refl refl
+    c.in_ok-block.ensures.passes c.in_ok-block.ensures.after
+
+pub all_arms-has_same_ends_at-requires : goal.all_arms-has_same_ends_at-requires
+all_arms-has_same_ends_at-requires t c q out =
+    ap (λ m. get m q) c.loop-i.invariant.ends
+    ∙ blocks-beyond (protocols_of c.args.protocols.now) _ _ _ _ (c.args.end ∷ []) (code_of c.deref.result.now) (code_of c.deref-in-loop-i.result.now)
+    (code_of c.deref-in-loop-i-2.result.now) (code_of c.deref-in-loop-i-3.result.now) _
+    (ap code_of (c.deref-in-loop-i-2.ensures.value ∙ sym c.deref.ensures.value)) (ap code_of (c.deref-in-loop-i-3.ensures.value ∙ sym c.deref-in-loop-i.ensures.value))
+    c.in_ok-named.ensures (arms-beyond c.args.env.now _ _ c.args.end _ _ c.in_ok-left.ensures c.in_ok-inner.ensures)
+    c.in_ok-block.ensures.passes c.in_ok-block.ensures.after c.in_ok-block-2.ensures.passes c.in_ok-block-2.ensures.after q out
+
+pub step-join-requires : goal.step-join-requires
+step-join-requires t c =
+    blocks-beyond (protocols_of c.args.protocols.now) c.args.env.now c.in_ok-other-in-If.other _ _ [] (code_of c.deref-in-If.result.now) (code_of c.deref-in-If-2.result.now)
+    (code_of c.deref-in-If-3.result.now) (code_of c.deref-in-If-4.result.now) _
+    (ap code_of (c.deref-in-If-3.ensures.value ∙ sym c.deref-in-If.ensures.value)) (ap code_of (c.deref-in-If-4.ensures.value ∙ sym c.deref-in-If-2.ensures.value))
+    c.in_ok-named-in-If.ensures (λ q n. ap (λ (k : EnvAt). get k.ends q) (sym c.in_ok-other-in-If.ensures.ok))
+    c.in_ok-block-in-If.ensures.passes c.in_ok-block-in-If.ensures.after c.in_ok-block-in-If-2.ensures.passes c.in_ok-block-in-If-2.ensures.after

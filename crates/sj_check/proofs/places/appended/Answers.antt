@@ -2,7 +2,7 @@ use Rattle.std.proofs.Common.{◌∙◌, ap}
 use Rattle.sj_lang.specs.View.{place_of}
 use Rattle.sj_lang.specs.After.{followed_by}
 use Rattle.sj_lang.proofs.PlaceLemmas.{place_of-append}
-use Rattle.sj_check.proofs.places.joined.Goals as goal
+use Rattle.sj_check.proofs.places.appended.Goals as goal
 
 pub returns : goal.returns
 returns c =
