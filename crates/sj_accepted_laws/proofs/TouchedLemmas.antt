@@ -1,6 +1,6 @@
 -- Pairs of ends where one end is touched.
 use Rattle.std.proofs.Common.{◌≡◌, ℕ, zero, suc, ◌==◌, false, List, slice_get, Option, Some, None, option_map, unwrap_or, refl, ap, sym, ◌∙◌, subst, inl, inr}
-use Rattle.std.proofs.lemmas.Bool.{cases_eq, cases_Bool, and_left, ne_eqb, true≢false}
+use Rattle.std.proofs.lemmas.Bool.{cases_eq, and_left, ne_eqb}
 use Rattle.sj_base.specs.declared.EndId.{EndId}
 use Rattle.sj_base.specs.declared.Msg.{Msg}
 use Rattle.sj_lang.specs.Place.{Place, done}

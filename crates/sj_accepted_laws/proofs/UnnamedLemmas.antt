@@ -1,6 +1,5 @@
 -- What is on its way names no end that is bound, and programs keep fitting where others act.
 use Rattle.std.proofs.Common.{◌≡◌, ℕ, zero, suc, ◌≤◌, Bool, true, false, cond, List, slice_get, Option, Some, None, option_map, unwrap_or, sum_by, refl, ap, sym, ◌∙◌, arith, subst}
-use Rattle.std.proofs.lemmas.Bool.{cases_eq, cases_Bool, and_left, ne_eqb, true≢false}
 use Rattle.sj_base.specs.declared.EndId.{EndId}
 use Rattle.sj_base.specs.declared.Msg.{Msg}
 use Rattle.sj_base.specs.declared.Msg.TheVariants as msgs

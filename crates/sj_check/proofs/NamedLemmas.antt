@@ -1,5 +1,5 @@
 -- Environments that may differ at some names alone.
-use Rattle.std.proofs.Common.{◌≡◌, ◌≢◌, ℕ, List, [], ◌∷◌, ◌++◌, BTreeSet, Option, Some, None, Bool, true, false, ◌==◌, ◌||◌, ◌&&◌, cond, refl, sym, ap, subst, ◌∙◌}
+use Rattle.std.proofs.Common.{◌≡◌, ℕ, List, [], ◌∷◌, ◌++◌, BTreeSet, Option, Some, None, Bool, true, false, ◌==◌, ◌||◌, ◌&&◌, cond, refl, sym, ap, subst, ◌∙◌}
 use Rattle.std.specs.Bool.{Decides}
 use Rattle.std.proofs.lemmas.Bool.Decides.{Decides-eqb, Decides-and, Decides-like, same_from_decides}
 use Rattle.std.specs.Ordering.{nat_cmp, eq_by_cmp}

@@ -4,7 +4,6 @@ use Rattle.sj_lang.specs.declared.proto.Way.TheVariants.{Out, Into}
 use Rattle.sj_lang.specs.declared.party.Stmt.{Stmt}
 use Rattle.sj_lang.specs.Place.{Place, done, message, choice, repeat}
 use Rattle.sj_lang.specs.Code as code
-use Rattle.sj_lang.specs.Code.{Code}
 use Rattle.sj_lang.specs.CodeView.{code_of, stmt_of}
 use Rattle.sj_acceptance.specs.EnvAt.{EnvAt, with_live}
 use Rattle.sj_lang.specs.FileAt.{ProtocolAt}

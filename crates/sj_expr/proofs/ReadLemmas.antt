@@ -7,7 +7,6 @@ use Rattle.sj_lang.specs.Words.{IsFirstIndex}
 use Rattle.sj_lang.specs.declared.party.Op.{Op}
 use Rattle.sj_lang.specs.declared.party.Op.TheVariants.{Add, Sub, Mul, Less, LessEq, Equal}
 use Rattle.sj_lang.specs.declared.file.Names.{Names}
-use Rattle.sj_lang.specs.Term.{Term}
 use Rattle.sj_lang.specs.Term as term
 use Rattle.sj_grammar.specs.Bytes.{is_printable}
 use Rattle.sj_lang.specs.Limits.{limits}
@@ -17,7 +16,7 @@ use Rattle.sj_grammar.specs.Literals.{is_text, inner, quoted}
 use Rattle.sj_grammar.specs.Tables.{Spelling, Spells, IsNamed, IsLiteral, with_entry, entry_of}
 use Rattle.sj_grammar.specs.Places.{Pieces, At, at, Takes, Begins}
 use Rattle.sj_grammar.specs.Asked.{TakesText}
-use Rattle.sj_grammar.specs.Expressions.{Level, Spelt}
+use Rattle.sj_grammar.specs.Expressions.{Spelt}
 use Rattle.sj_grammar.specs.Expressions as level
 use Rattle.sj_grammar.proofs.Stuckness.{Begins-append}
 use Rattle.sj_proto.specs.Parsed.{Gives, Extends}

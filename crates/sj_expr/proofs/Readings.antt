@@ -3,7 +3,7 @@ use Rattle.std.proofs.Common.{◌≡◌, ℕ, ◌≤◌, List, [], ◌∷◌, �
 use Rattle.std.specs.Prelude.{codes}
 use Rattle.sj_lang.specs.declared.party.Op.{Op}
 use Rattle.sj_lang.specs.declared.party.Op.TheVariants.{Add, Sub, Mul, Less, LessEq, Equal}
-use Rattle.sj_lang.specs.Term.{Term, int, boolean, text, var}
+use Rattle.sj_lang.specs.Term.{Term, text}
 use Rattle.sj_lang.specs.Term as term
 use Rattle.sj_grammar.specs.Literals.{quoted}
 use Rattle.sj_lang.specs.Limits.{Limits}

@@ -9,7 +9,7 @@ use Rattle.sj_lang.specs.Limits.{Limits}
 use Rattle.sj_grammar.specs.Tables.{Spelling}
 use Rattle.sj_grammar.specs.Places.{Pieces}
 use Rattle.sj_grammar.specs.Layers.{Step, goes, step}
-use Rattle.sj_grammar.specs.Expressions.{Level, Spelt, operand_count, IsExpression}
+use Rattle.sj_grammar.specs.Expressions.{Level, Spelt, operand_count}
 use Rattle.sj_grammar.specs.Expressions as level
 use Rattle.sj_grammar.specs.ExpressionDues.{ExpressionDue, factor, times, plus, compare, after_minus, fixed, expression_at, is_operand, is_long, expression_layer}
 use Rattle.sj_grammar.proofs.Steps.{Runs, Runs-none, Runs-cons, Runs-append, Runs-to}

@@ -1,5 +1,5 @@
 //! An arena of a program's statements.
-ghost use Rattle.std.specs.Prelude.{◌≡◌, ◌≤◌, ℕ, List, length, IfOk, map};
+ghost use Rattle.std.specs.Prelude.{◌≡◌, length, IfOk, map};
 ghost use Rattle.sj_lang.specs.Code.{at, stmt_then};
 ghost use Rattle.sj_lang.specs.CodeView.{arm_of, branches_of, code_of, deed_of};
 ghost use Rattle.sj_machine.specs.Arena.{AreBelow, Grown, IsBackward, IsBelow, IsOpBelow, act_in, arms_in, code_in, codes_of};

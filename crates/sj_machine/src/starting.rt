@@ -1,8 +1,8 @@
 //! What a party has at the start: its connected ends, and how many names it may bind.
-ghost use Rattle.std.specs.Prelude.{◌≡◌, ◌<◌, ◌≤◌, ◌^◌, ◌++◌, ◌∷◌, [], ℕ, List, IfOk, OnOk, length, map, vec_capacity};
+ghost use Rattle.std.specs.Prelude.{◌≡◌, ◌<◌, ◌≤◌, ◌^◌, ◌++◌, IfOk, OnOk, length, map, vec_capacity};
 ghost use Rattle.sj_base.specs.declared.EndId.{EndId};
 ghost use Rattle.sj_lang.specs.FileAt.{FileAt, end_of_party, ends_from, party_named};
-ghost use Rattle.sj_lang.specs.FileView.{connect_of, decl_of, file_of, party_of};
+ghost use Rattle.sj_lang.specs.FileView.{decl_of, file_of, party_of};
 ghost use Rattle.sj_machine.specs.Names.{AllBindBelow, AreBelowName, BindsBelow};
 ghost use Rattle.sj_machine.specs.Table.{vars_in};
 ghost use Rattle.sj_semantics.specs.Value.{no_vars};

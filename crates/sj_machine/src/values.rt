@@ -1,5 +1,5 @@
 //! What expressions are worth, over a table of variables.
-ghost use Rattle.std.specs.Prelude.{◌≡◌, ◌<◌, length, option_and_then};
+ghost use Rattle.std.specs.Prelude.{◌≡◌, ◌<◌, length};
 ghost use Rattle.sj_lang.specs.CodeView.{term_of};
 ghost use Rattle.sj_machine.specs.Table.{vars_in};
 ghost use Rattle.sj_semantics.specs.Value.{negation_of, result_of, turns_of, with_value, worth};

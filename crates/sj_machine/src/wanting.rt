@@ -1,5 +1,5 @@
 //! What a statement does next, and which messages it can take.
-ghost use Rattle.std.specs.Prelude.{◌≡◌, ◌<◌, ℕ, List, ◌∷◌, Some, None, option_map, option_and_then, unwrap_or};
+ghost use Rattle.std.specs.Prelude.{◌≡◌, ◌<◌, List, ◌∷◌, Some, None, option_map, unwrap_or};
 ghost use Rattle.sj_lang.specs.Code.{Code};
 ghost use Rattle.sj_lang.specs.CodeView.{term_of};
 ghost use Rattle.sj_machine.specs.Arena.{act_in, arms_in};
@@ -7,9 +7,9 @@ ghost use Rattle.sj_machine.specs.Frames.{more_at, thing_at};
 ghost use Rattle.sj_machine.specs.Table.{vars_in};
 ghost use Rattle.sj_semantics.specs.declared.Want.TheVariants.{Ended};
 ghost use Rattle.sj_semantics.specs.Program.{Thing};
-ghost use Rattle.sj_semantics.specs.Value.{message_of, truth_of, turns_of, worth};
+ghost use Rattle.sj_semantics.specs.Value.{message_of, worth};
 ghost use Rattle.sj_semantics.specs.Fitting.{is_of_kind, fits_todo, names_arm};
-ghost use Rattle.sj_semantics.specs.Wants.{more_turns, want_delegate, want_of_todo, want_send, want_take};
+ghost use Rattle.sj_semantics.specs.Wants.{want_delegate, want_of_todo, want_send, want_take};
 
 use crate::arena::{ArmAt, Op};
 use crate::ends::end_named;

@@ -13,7 +13,7 @@ use Rattle.sj_grammar.specs.Protocols.{body_pieces}
 use Rattle.sj_grammar.specs.ProtocolDues.{body, protocol_follow, protocol_counted}
 use Rattle.sj_grammar.specs.ExpressionDues.{expression_follow, expression_counted}
 use Rattle.sj_grammar.specs.Statements.{braced}
-use Rattle.sj_grammar.specs.Files.{protocols_pieces, connects_pieces, IsProtocolDef, IsConnect}
+use Rattle.sj_grammar.specs.Files.{protocols_pieces, IsProtocolDef, IsConnect}
 use Rattle.sj_grammar.specs.Files as files
 use Rattle.sj_grammar.specs.FileDues.{Due, protocols, parties, connects, stmts, block, branches, awaited, name, fixed, proto, expr, semicolon, file_follow, file_counted, file_passes}
 use Rattle.sj_expr.proofs.TestLemmas.{bytes_same}

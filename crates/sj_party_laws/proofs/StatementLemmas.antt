@@ -7,7 +7,7 @@ use Rattle.sj_grammar.specs.Tables.{Spelling, IsNamed}
 use Rattle.sj_grammar.specs.Places.{Piece, plain, first_on, spellings}
 use Rattle.sj_grammar.specs.Expressions.{IsExpression}
 use Rattle.sj_grammar.specs.ExpressionDues.{whole}
-use Rattle.sj_grammar.specs.Statements.{IsStatement, braced}
+use Rattle.sj_grammar.specs.Statements.{IsStatement}
 use Rattle.sj_grammar.specs.Statements as grammar
 use Rattle.sj_grammar.specs.FileDues.{Due, stmts, block, branches, awaited, name, fixed, expr, semicolon}
 use Rattle.sj_party.specs.Alike.{OnOneLine, AreAlike}

@@ -5,7 +5,7 @@ use Rattle.std.proofs.lemmas.Bool.{cases_eq}
 use Rattle.sj_base.specs.declared.EndId.{EndId}
 use Rattle.sj_base.specs.declared.Msg.{Msg}
 use Rattle.sj_semantics.specs.Ends as model
-use Rattle.sj_semantics.specs.Ends.{EndAt, end_on, end_at, next_for, nowhere, other_side}
+use Rattle.sj_semantics.specs.Ends.{end_on, end_at, nowhere}
 use Rattle.sj_semantics.specs.Uses.{end_after, sends, delegates, altered, on_side}
 use Rattle.sj_semantics_laws.proofs.AlteredLemmas.{altered_comm, altered-altered, slice_get-altered, slice_get-altered_other}
 

@@ -1,6 +1,6 @@
 //! A course of acts: a file's parties and sessions as the acts so far have left them.
 ghost use Rattle.std.specs.List.{list_all, list_any};
-ghost use Rattle.std.specs.Prelude.{◌≡◌, ◌<◌, ◌≤◌, ◌∷◌, ◌++◌, [], ℕ, None, Some, true, false, length, map, IfOk, MatchResult, OnErr, OnOk};
+ghost use Rattle.std.specs.Prelude.{◌≡◌, ◌<◌, ◌≤◌, ◌∷◌, ◌++◌, [], None, Some, true, false, length, map, IfOk, MatchResult, OnErr, OnOk};
 ghost use Rattle.sj_acceptance.specs.Accepted.{IsAccepted};
 ghost use Rattle.sj_lang.specs.FileView.{file_of};
 ghost use Rattle.sj_plain.specs.Finish.{ActsOut, IsFinished, IsRound};

@@ -1,11 +1,11 @@
 //! The place of an end moves past a message, its items moved and not copied.
 #![tactic(auto, using(crate::proofs::MoveLemmas::moves))]
 
-ghost use Rattle.std.specs.Prelude.{◌≡◌, ◌+◌, ◌<◌, ◌≤◌, ◌∷◌, ◌++◌, vec_len, vec_capacity, IsOk, IfSome, IfNone, OnOk, OnErr, Some, None};
+ghost use Rattle.std.specs.Prelude.{◌≡◌, ◌+◌, ◌<◌, ◌≤◌, ◌++◌, vec_len, vec_capacity, IsOk, IfSome, IfNone, OnOk, OnErr, Some, None};
 ghost use Rattle.sj_lang.specs.View.{carried_of, place_of};
 ghost use Rattle.sj_lang.specs.After.{at_label, carries};
 ghost use Rattle.sj_semantics.specs.Uses.{place_behind};
-ghost use Rattle.sj_plain.specs.Moves.{body_in, arms_in, arm_count, arm_rest, place_length, after_move, IsOpen};
+ghost use Rattle.sj_plain.specs.Moves.{arms_in, arm_count, arm_rest, place_length, after_move, IsOpen};
 
 use sj_base::{Msg, NoMemory};
 use sj_lang::{Arms, Item, Kind, Proto, Way, copied};

@@ -3,8 +3,7 @@ use Rattle.std.proofs.Common.{◌≡◌, ◌∙◌, ◌≤◌, ℕ, List, length
 use Rattle.sj_command.specs.declared.tasks.Task.{Task}
 use Rattle.sj_command.specs.declared.tasks.Task.TheVariants as tasks
 use Rattle.sj_log.specs.Parts.{HasNoPart, IsParted}
-use Rattle.sj_tool.specs.declared.answers.Answer.{Answer}
-use Rattle.sj_tool.specs.declared.answers.Answer.TheVariants.{Usage, ReadFault, TooLarge, Syntax, Check, LogFault, Misfit, LinkFault, Damaged, Ran, Printed, Made}
+use Rattle.sj_tool.specs.AnswerAt.{AnswerAt, Usage, ReadFault, TooLarge, Syntax, Check, LogFault, Misfit, LinkFault, Damaged, Ran, Printed, Made}
 use Rattle.sj_tool.specs.Answers.{AnswersBytes, AnswersParts, AnswersText}
 use Rattle.sj_tool.specs.Calls.{LinkUseAt}
 use Rattle.sj_tool.specs.Tasks.{HasLongText, HasParts, Replays as IsReplay, Takes, file_limit}
@@ -13,12 +12,12 @@ use Rattle.sj_tool.proofs.OneAnswer.{HoldsFor, one_of_text}
 use Rattle.sj_tool.proofs.ToldOnce.{AreToldOnce, same_told, told}
 
 -- what of the bytes is answered: what stands before the log is too long, no line is `%%log`, or their parts are
-pub data Kind (links : LinkUseAt) (task : Task) (bytes : List ℕ) (a : Answer) : Type 0 where
+pub data Kind (links : LinkUseAt) (task : Task) (bytes : List ℕ) (a : AnswerAt) : Type 0 where
   long : a ≡ TooLarge → IsReplay task → HasLongText bytes → Kind links task bytes a
   misses : a ≡ LogFault 1 0 → IsReplay task → HasNoPart bytes → Kind links task bytes a
   parts : AnswersParts links task bytes a → Kind links task bytes a
 
-pub kind_of : (links : LinkUseAt) (task : Task) (bytes : List ℕ) (a : Answer) → AnswersBytes links task bytes a → Kind links task bytes a
+pub kind_of : (links : LinkUseAt) (task : Task) (bytes : List ℕ) (a : AnswerAt) → AnswersBytes links task bytes a → Kind links task bytes a
 kind_of links task bytes Usage x = parts x
 kind_of links task bytes ReadFault x = parts x
 kind_of links task bytes TooLarge x = long refl x.0 x.1
@@ -52,7 +51,7 @@ not_long task bytes text log replays p x =
 pub not_missed : (task : Task) (bytes text log : List ℕ) → IsReplay task → HasParts task bytes text log → HasNoPart bytes → ⊥
 not_missed task bytes text log replays p none = none text log (parted_of task bytes text log replays p).0.here
 
-module _ (links : LinkUseAt) (task : Task) (bytes : List ℕ) (a b : Answer) where
+module _ (links : LinkUseAt) (task : Task) (bytes : List ℕ) (a b : AnswerAt) where
   one_of_kind : Kind links task bytes a → Kind links task bytes b → HoldsFor links task b → AreToldOnce task (told a) (told b)
   one_of_kind (long e replays x) (long d again y) h = same_told task (told a) (told b) (ap told (e ∙ sym d))
   one_of_kind (long e replays x) (misses d again none) h = absurd (none x.text x.log x.parts.here)
@@ -72,7 +71,7 @@ module _ (links : LinkUseAt) (task : Task) (bytes : List ℕ) (a b : Answer) whe
 
 -- ---- a task whose bytes are answered takes a file
 
-takes_text : (links : LinkUseAt) (task : Task) (log text : List ℕ) (a : Answer) → AnswersText links task log text a → Takes task
+takes_text : (links : LinkUseAt) (task : Task) (log text : List ℕ) (a : AnswerAt) → AnswersText links task log text a → Takes task
 takes_text links tasks.Check log text a h = tt
 takes_text links tasks.Show log text a h = tt
 takes_text links tasks.Sim log text a h = tt
@@ -88,7 +87,7 @@ takes_text links (tasks.Make n) log text (LogFault r k) h = absurd h.answers.1
 takes_text links (tasks.Make n) log text (Misfit t) h = absurd h.answers.1
 takes_text links (tasks.Make n) log text LinkFault h = absurd h.answers.1
 takes_text links (tasks.Make n) log text (Damaged t) h = absurd h.answers.1
-takes_text links (tasks.Make n) log text (Ran v t) h = absurd h.answers.1
+takes_text links (tasks.Make n) log text (Ran v t) h = absurd h.answers.1.0
 takes_text links (tasks.Make n) log text (Printed t) h = absurd h.answers
 takes_text links (tasks.Make n) log text (Made t) h = absurd h.answers
 
@@ -101,7 +100,7 @@ replay_takes (tasks.Replay l) h = tt
 replay_takes (tasks.Make n) h = h
 replay_takes (tasks.Big n) h = tt
 
-pub takes_file : (links : LinkUseAt) (task : Task) (bytes : List ℕ) (a : Answer) → AnswersBytes links task bytes a → Takes task
+pub takes_file : (links : LinkUseAt) (task : Task) (bytes : List ℕ) (a : AnswerAt) → AnswersBytes links task bytes a → Takes task
 takes_file links task bytes a x = by (kind_of links task bytes a x)
   where
     by : Kind links task bytes a → Takes task

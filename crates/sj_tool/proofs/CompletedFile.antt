@@ -13,13 +13,12 @@ use Rattle.sj_party.proofs.OneFile.{one_file}
 use Rattle.sj_party.proofs.Faultless.{no_fault}
 use Rattle.sj_command.specs.declared.tasks.Task.{Task}
 use Rattle.sj_command.specs.declared.tasks.Task.TheVariants as tasks
-use Rattle.sj_tool.specs.declared.answers.Answer.{Answer}
-use Rattle.sj_tool.specs.declared.answers.Answer.TheVariants.{Usage, ReadFault, TooLarge, Syntax, Check, LogFault, Misfit, LinkFault, Damaged, Ran, Printed, Made}
+use Rattle.sj_tool.specs.AnswerAt.{AnswerAt, Usage, ReadFault, TooLarge, Syntax, Check, LogFault, Misfit, LinkFault, Damaged, Ran, Printed, Made}
 use Rattle.sj_tool.specs.Answers.{AnswersBytes, AnswersFile, AnswersText}
 use Rattle.sj_tool.specs.Calls.{LinkUseAt, LinksHold}
-use Rattle.sj_tool.specs.Completeness.{Completes, FitsLog, TellsEnd}
-use Rattle.sj_tool.specs.Tasks.{Checks, HasParts, RunsParties}
-use Rattle.sj_tool.specs.Runs.{HasRun}
+use Rattle.sj_tool.specs.Completeness.{Completes, TellsEnd}
+use Rattle.sj_tool.specs.Tasks.{Checks, HasParts, Replays, RunsParties}
+use Rattle.sj_tool.specs.Runs.{HasBegun}
 use Rattle.sj_tool.specs.Sums.{summary}
 use Rattle.sj_tool.specs.Texts.{status_of, text_of, verdict_status}
 use Rattle.sj_tool.proofs.BytesAnswer.{Kind, kind_of, long, misses, not_long, not_missed, parts}
@@ -58,7 +57,7 @@ module _ (links : LinkUseAt) (log : List ℕ) (file : FileAt) (t : ℕ × List �
       played false file t p.verdict p.text (tasks.Replay false) p.are s (λ _. s.bare (λ no. no))
 
   -- what is told of a file that has no fault completes
-  faultless : (task : Task) → FitsLog task file log → TellsFaultless links task log file t → Told task file t.0 t.1
+  faultless : (task : Task) → (Replays task → HasBegun links task log file) → TellsFaultless links task log file t → Told task file t.0 t.1
   faultless tasks.Check fits e = (ap (λ z. z.0) e, ap (λ z. z.1) e)
   faultless tasks.Show fits e = absurd e
   faultless tasks.Sim fits p =
@@ -70,19 +69,18 @@ module _ (links : LinkUseAt) (log : List ℕ) (file : FileAt) (t : ℕ × List �
   faultless (tasks.Run false looks) fits p =
       let s = played_so links (tasks.Run false looks) log file p.verdict p.text tt p.plays in
       played false file t p.verdict p.text (tasks.Run false looks) p.are s (λ _. s.bare (λ no. no))
-  faultless (tasks.Replay l) fits (inl (r, k, a, e)) = absurd (fault_or_lines file log r k fits.lines a fits.spells)
-  faultless (tasks.Replay l) fits (inr (inl (s, a, e))) = absurd (misfit_or_history file log s fits.lines fits.core a fits.spells fits.leads)
+  faultless (tasks.Replay l) fits (inl (r, k, a, e)) = let fit = fits tt in absurd (fault_or_lines file log r k fit.lines a fit.given)
+  faultless (tasks.Replay l) fits (inr (inl (s, a, e))) = let fit = fits tt in absurd (misfit_or_history file log s fit.lines fit.left a fit.given fit.leads)
   faultless (tasks.Replay l) fits (inr (inr p)) = replay_played l p
   faultless (tasks.Make n) fits e = absurd e
   faultless (tasks.Big n) fits p =
-      let ends : HasRun links (tasks.Big n) log file p.verdict p.text = p.plays in
-      (ap (λ z. z.0) p.are ∙ ap verdict_status (ends.stands ∙ ap verdict_of ends.is_end), ap (λ z. z.1) p.are ∙ ends.printed ∙ ap (summary n file) ends.is_end)
+      let told = p.plays.1.told in (ap (λ z. z.0) p.are ∙ ap verdict_status told.0, ap (λ z. z.1) p.are ∙ told.1)
 
   -- the same of a file's first fault, where a task that checks finds none
-  checked : (task : Task) (first : Option (ℕ × ℕ)) → FitsLog task file log → first ≡ None → TellsChecked links task log file first t → Told task file t.0 t.1
+  checked : (task : Task) (first : Option (ℕ × ℕ)) → (Replays task → HasBegun links task log file) → first ≡ None → TellsChecked links task log file first t → Told task file t.0 t.1
   checked task first fits ok e = faultless task fits (subst (λ (f : Option (ℕ × ℕ)). TellsChecked links task log file f t) ok e)
 
-  told_valid : (task : Task) (first : Option (ℕ × ℕ)) → FitsLog task file log → (Checks task → first ≡ None) → Tells links task log file first t → Told task file t.0 t.1
+  told_valid : (task : Task) (first : Option (ℕ × ℕ)) → (Replays task → HasBegun links task log file) → (Checks task → first ≡ None) → Tells links task log file first t → Told task file t.0 t.1
   told_valid tasks.Show first fits ok e = (ap (λ z. z.0) e, ap (λ z. z.1) e)
   told_valid (tasks.Make n) first fits ok e = absurd e
   told_valid tasks.Check first fits ok e = checked tasks.Check first fits (ok tt) e
@@ -92,7 +90,7 @@ module _ (links : LinkUseAt) (log : List ℕ) (file : FileAt) (t : ℕ × List �
   told_valid (tasks.Big n) first fits ok e = checked (tasks.Big n) first fits (ok tt) e
 
 -- links that hold bring no fault of theirs
-unhurt_by : (links : LinkUseAt) (task : Task) (log : List ℕ) (file : FileAt) (a : Answer) → (RunsParties task → LinksHold links) → AnswersFile links task log file a → IsUnhurt a
+unhurt_by : (links : LinkUseAt) (task : Task) (log : List ℕ) (file : FileAt) (a : AnswerAt) → (RunsParties task → LinksHold links) → AnswersFile links task log file a → IsUnhurt a
 unhurt_by links task log file Usage hold x = tt
 unhurt_by links task log file ReadFault hold x = tt
 unhurt_by links task log file TooLarge hold x = tt
@@ -106,10 +104,10 @@ unhurt_by links task log file (Ran v t) hold x = tt
 unhurt_by links task log file (Printed t) hold x = tt
 unhurt_by links task log file (Made t) hold x = tt
 
-module _ (links : LinkUseAt) (task : Task) (file : FileAt) (bytes text log : List ℕ) (has : HasParts task bytes text log) (stands : IsFile text file) (accepted : Checks task → IsAccepted file) (fits : FitsLog task file log)
+module _ (links : LinkUseAt) (task : Task) (file : FileAt) (bytes text log : List ℕ) (has : HasParts task bytes text log) (stands : IsFile text file) (accepted : Checks task → IsAccepted file) (fits : Replays task → HasBegun links task log file)
     (hold : RunsParties task → LinksHold links) where
   -- what answers the text of a valid file completes
-  text_completes : (a : Answer) → AnswersText links task log text a → Told task file (status_of a) (text_of a)
+  text_completes : (a : AnswerAt) → AnswersText links task log text a → Told task file (status_of a) (text_of a)
   text_completes a x = by_kind (either links task log text a x)
     where
       by_kind : IsEither links task log text a → Told task file (status_of a) (text_of a)
@@ -120,7 +118,7 @@ module _ (links : LinkUseAt) (task : Task) (file : FileAt) (bytes text log : Lis
           (file_told links task log file a (unhurt_by links task log file a hold same) same)
 
   -- and so does what answers the bytes that have it
-  pub bytes_complete : (a : Answer) → AnswersBytes links task bytes a → Told task file (status_of a) (text_of a)
+  pub bytes_complete : (a : AnswerAt) → AnswersBytes links task bytes a → Told task file (status_of a) (text_of a)
   bytes_complete a x = by_kind (kind_of links task bytes a x)
     where
       by_kind : Kind links task bytes a → Told task file (status_of a) (text_of a)

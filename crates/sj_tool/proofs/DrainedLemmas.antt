@@ -1,12 +1,11 @@
 -- A core world to which given lines lead, and what is drained behind them.
-use Rattle.std.proofs.Common.{◌≡◌, ◌∙◌, ℕ, max, true, List, ◌++◌, map, length, refl, subst}
+use Rattle.std.proofs.Common.{◌≡◌, ◌∙◌, ℕ, max, true, List, ◌++◌, map, length, subst}
 use Rattle.sj_lang.specs.FileAt.{FileAt}
 use Rattle.sj_lang.specs.Place.{Place}
 use Rattle.sj_acceptance.specs.Accepted.{IsAccepted}
 use Rattle.sj_semantics.specs.declared.Verdict.{Verdict}
 use Rattle.sj_semantics.specs.Program.{Program}
 use Rattle.sj_semantics.specs.Run.{IsRun, end_of}
-use Rattle.sj_semantics_laws.proofs.FinishLemmas.{end_is_settled}
 use Rattle.sj_plain.specs.Kept.{without_words}
 use Rattle.sj_rules.specs.Drain.{IsDrained}
 use Rattle.sj_rules.specs.History.{IsHistory, IsQuietAmong, turn_of}
@@ -32,7 +31,7 @@ kept_history file kept lines w is h =
     (subst (λ (f : FileAt). IsHistory max f lines w) is h)
 
 -- links that tell show what is given to a task that runs parties
-shown_given : (links : LinkUseAt) (task : Task) (log : List ℕ) (file : FileAt) (lines : List LineAt) (left : WorldAt Place Program) → RunsParties task
+pub shown_given : (links : LinkUseAt) (task : Task) (log : List ℕ) (file : FileAt) (lines : List LineAt) (left : WorldAt Place Program) → RunsParties task
     → (links.tells ≡ true → IsShown file (looks_of task) links.keeps lines left) → IsGiven links task log file lines left
 shown_given links tasks.Check log file lines left h shown = absurd h
 shown_given links tasks.Show log file lines left h shown = absurd h
@@ -59,10 +58,7 @@ module _ (file first kept : FileAt) (of_file : first ≡ without_words file) (sa
       subst (λ (k : ℕ). IsDrained (play_of first) max k left (map turn_of more) core) all drained in
       let whole = drained_quiet those run quiet in
       record {
-        lines = lines;
-        left = left;
-        begins = kept_history file first lines left of_file begins;
-        given = given;
+        begun = record { lines = lines; left = left; leads = kept_history file first lines left of_file begins; given = given };
         more = more;
         all = listed;
         drained = subst (λ (f : FileAt). IsDrained (play_of f) max (length f.parties) left (map turn_of more) core) of_file by;
@@ -90,10 +86,6 @@ told_runs links task log file accepted history core has v text told = record {
   history = history;
   core = core;
   has = has;
-  end = end_of file;
   acts = quiet_ends file accepted history core has.run has.quiet;
-  settled = end_is_settled file;
-  is_end = refl;
-  stands = told.0;
-  printed = told.1;
+  told = told;
 }

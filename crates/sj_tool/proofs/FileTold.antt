@@ -7,14 +7,13 @@ use Rattle.sj_acceptance.specs.Faults.{first_fault}
 use Rattle.sj_acceptance.specs.FileTests.{tests_of}
 use Rattle.sj_command.specs.declared.tasks.Task.{Task}
 use Rattle.sj_command.specs.declared.tasks.Task.TheVariants as tasks
-use Rattle.sj_tool.specs.declared.answers.Answer.{Answer}
-use Rattle.sj_tool.specs.declared.answers.Answer.TheVariants.{Usage, ReadFault, TooLarge, Syntax, Check, LogFault, Misfit, LinkFault, Damaged, Ran, Printed, Made}
+use Rattle.sj_tool.specs.AnswerAt.{AnswerAt, Usage, ReadFault, TooLarge, Syntax, Check, LogFault, Misfit, LinkFault, Damaged, Ran, Printed, Made}
 use Rattle.sj_tool.specs.Answers.{AnswersFile}
 use Rattle.sj_tool.specs.Calls.{LinkUseAt}
 use Rattle.sj_tool.proofs.ToldOnce.{Tells, TellsChecked, TellsFaultless, told}
 
 -- no fault of the links is answered
-abbrev pub IsUnhurt : Answer → Type 0
+abbrev pub IsUnhurt : AnswerAt → Type 0
 IsUnhurt LinkFault = ⊥
 IsUnhurt (Damaged t) = ⊥
 IsUnhurt _ = Unit {0}
@@ -27,7 +26,7 @@ by_fault : (links : LinkUseAt) (task : Task) (log : List ℕ) (file : FileAt) (r
 by_fault links task log file r k e = subst (λ (f : Option (ℕ × ℕ)). TellsChecked links task log file f (told (Check r k))) (sym e) refl
 
 -- what answers a file has the status and the text that its first fault tells
-pub file_told : (links : LinkUseAt) (task : Task) (log : List ℕ) (file : FileAt) (a : Answer) → IsUnhurt a → AnswersFile links task log file a → Tells links task log file (first_fault (tests_of file)) (told a)
+pub file_told : (links : LinkUseAt) (task : Task) (log : List ℕ) (file : FileAt) (a : AnswerAt) → IsUnhurt a → AnswersFile links task log file a → Tells links task log file (first_fault (tests_of file)) (told a)
 file_told links task log file Usage u x = absurd x
 file_told links task log file ReadFault u x = absurd x
 file_told links task log file TooLarge u x = absurd x
@@ -43,7 +42,7 @@ file_told links (tasks.Big n) log file (Check r k) u x = by_fault links (tasks.B
 file_told links tasks.Show log file (Check r k) u x = absurd x.0
 file_told links (tasks.Make n) log file (Check r k) u x = absurd x.0
 file_told links (tasks.Replay l) log file (LogFault r k) u x = by_no_fault links (tasks.Replay l) log file (told (LogFault r k)) x.0 (inl (r, k, x.2, refl))
-file_told links (tasks.Replay l) log file (Misfit t) u x = by_no_fault links (tasks.Replay l) log file (told (Misfit t)) x.0 (inr (inl (t.items, x.2, refl)))
+file_told links (tasks.Replay l) log file (Misfit t) u x = by_no_fault links (tasks.Replay l) log file (told (Misfit t)) x.0 (inr (inl (t, x.2, refl)))
 file_told links tasks.Check log file (LogFault r k) u x = absurd x.1
 file_told links tasks.Check log file (Misfit t) u x = absurd x.1
 file_told links tasks.Show log file (LogFault r k) u x = absurd x.1
@@ -56,13 +55,13 @@ file_told links (tasks.Make n) log file (LogFault r k) u x = absurd x.1
 file_told links (tasks.Make n) log file (Misfit t) u x = absurd x.1
 file_told links (tasks.Big n) log file (LogFault r k) u x = absurd x.1
 file_told links (tasks.Big n) log file (Misfit t) u x = absurd x.1
-file_told links tasks.Sim log file (Ran v t) u x = by_no_fault links tasks.Sim log file (told (Ran v t)) x.0 (record { verdict = v; text = t.items; plays = x.1; are = refl })
-file_told links (tasks.Run l looks) log file (Ran v t) u x = by_no_fault links (tasks.Run l looks) log file (told (Ran v t)) x.0 (record { verdict = v; text = t.items; plays = x.1; are = refl })
-file_told links (tasks.Big n) log file (Ran v t) u x = by_no_fault links (tasks.Big n) log file (told (Ran v t)) x.0 (record { verdict = v; text = t.items; plays = x.1; are = refl })
-file_told links (tasks.Replay l) log file (Ran v t) u x = by_no_fault links (tasks.Replay l) log file (told (Ran v t)) x.0 (inr (inr (record { verdict = v; text = t.items; plays = x.1; are = refl })))
-file_told links tasks.Check log file (Ran v t) u x = absurd x.1
-file_told links tasks.Show log file (Ran v t) u x = absurd x.1
-file_told links (tasks.Make n) log file (Ran v t) u x = absurd x.1
+file_told links tasks.Sim log file (Ran v t) u x = by_no_fault links tasks.Sim log file (told (Ran v t)) x.0 (record { verdict = v; text = t; plays = x.1; are = refl })
+file_told links (tasks.Run l looks) log file (Ran v t) u x = by_no_fault links (tasks.Run l looks) log file (told (Ran v t)) x.0 (record { verdict = v; text = t; plays = x.1; are = refl })
+file_told links (tasks.Big n) log file (Ran v t) u x = by_no_fault links (tasks.Big n) log file (told (Ran v t)) x.0 (record { verdict = v; text = t; plays = x.1; are = refl })
+file_told links (tasks.Replay l) log file (Ran v t) u x = by_no_fault links (tasks.Replay l) log file (told (Ran v t)) x.0 (inr (inr (record { verdict = v; text = t; plays = x.1; are = refl })))
+file_told links tasks.Check log file (Ran v t) u x = absurd x.1.0
+file_told links tasks.Show log file (Ran v t) u x = absurd x.1.0
+file_told links (tasks.Make n) log file (Ran v t) u x = absurd x.1.0
 file_told links tasks.Check log file (Printed t) u x = by_no_fault links tasks.Check log file (told (Printed t)) x.0 (ap (λ y. (0, y)) x.1)
 file_told links tasks.Show log file (Printed t) u x = ap (λ y. (0, y)) x
 file_told links tasks.Sim log file (Printed t) u x = absurd x

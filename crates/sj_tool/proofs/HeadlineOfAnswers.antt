@@ -15,13 +15,12 @@ use Rattle.sj_accepted_laws.proofs.HeadlineLemmas.{settled_run_has_it}
 use Rattle.sj_command.specs.declared.tasks.Task.{Task}
 use Rattle.sj_command.specs.declared.tasks.Task.TheVariants as tasks
 use Rattle.sj_command.proofs.OneTask.{one_task}
-use Rattle.sj_tool.specs.declared.answers.Answer.{Answer}
-use Rattle.sj_tool.specs.declared.answers.Answer.TheVariants.{Usage, ReadFault, TooLarge, Syntax, Check, LogFault, Misfit, LinkFault, Damaged, Ran, Printed, Made}
+use Rattle.sj_tool.specs.AnswerAt.{AnswerAt, Usage, ReadFault, TooLarge, Syntax, Check, LogFault, Misfit, LinkFault, Damaged, Ran, Printed, Made}
 use Rattle.sj_tool.specs.Answers.{Comes, Makes}
 use Rattle.sj_tool.specs.Calls.{CallAt, LinkUseAt}
 use Rattle.sj_tool.specs.Headline.{IsLogging, IsPlaying, IsVerdict, HasHeadline}
 use Rattle.sj_tool.specs.Tasks.{AsksFor}
-use Rattle.sj_tool.specs.Runs.{HasRun, Plays, Prints, log_part}
+use Rattle.sj_tool.specs.Runs.{Plays, Prints, log_part}
 use Rattle.sj_tool.specs.Texts.{status_of, text_of, verdict_status}
 use Rattle.sj_tool.proofs.Exactly.{call_at}
 use Rattle.sj_tool.proofs.InputLemmas.{playing_reads, read_of}
@@ -39,25 +38,6 @@ pub record IsPlayedSo (task : Task) (file : FileAt) (verdict : Verdict) (text : 
   pub printed : text ≡ transcript_of file (end_of file) ++ behind
   pub bare : (IsLogging task → ⊥) → behind ≡ []
 
--- the transcript alone, of a run
-bare_so : (links : LinkUseAt) (task : Task) (log : List ℕ) (file : FileAt) (v : Verdict) (text : List ℕ) (p : HasRun links task log file v text) → text ≡ transcript_of file p.end ++ [] → IsPlayedSo task file v text
-bare_so links task log file v text p e = record {
-  behind = [];
-  stands = p.stands ∙ ap verdict_of p.is_end;
-  printed = e ∙ ap (λ w. transcript_of file w ++ []) p.is_end;
-  bare = λ no. refl;
-}
-
--- with the history behind it
-logged_so : (links : LinkUseAt) (task : Task) (log : List ℕ) (file : FileAt) (v : Verdict) (text : List ℕ) (logs : IsLogging task) (p : HasRun links task log file v text)
-    → text ≡ transcript_of file p.end ++ log_part true file p.history → IsPlayedSo task file v text
-logged_so links task log file v text logs p e = record {
-  behind = log_part true file p.history;
-  stands = p.stands ∙ ap verdict_of p.is_end;
-  printed = e ∙ ap (λ w. transcript_of file w ++ log_part true file p.history) p.is_end;
-  bare = λ no. absurd (no logs);
-}
-
 pub played_so : (links : LinkUseAt) (task : Task) (log : List ℕ) (file : FileAt) (v : Verdict) (text : List ℕ) → IsPlaying task → Plays links task log file v text → IsPlayedSo task file v text
 played_so links tasks.Check log file v text plays p = absurd plays
 played_so links tasks.Show log file v text plays p = absurd plays
@@ -65,10 +45,12 @@ played_so links (tasks.Make n) log file v text plays p = absurd plays
 played_so links (tasks.Big n) log file v text plays p = absurd plays
 played_so links tasks.Sim log file v text plays p =
     record { behind = []; stands = p.0; printed = p.1 ∙ sym (append-nil (transcript_of file (end_of file))); bare = λ no. refl }
-played_so links (tasks.Run false looks) log file v text plays p = bare_so links (tasks.Run false looks) log file v text p p.printed
-played_so links (tasks.Run true looks) log file v text plays p = logged_so links (tasks.Run true looks) log file v text tt p p.printed
-played_so links (tasks.Replay false) log file v text plays p = bare_so links (tasks.Replay false) log file v text p p.printed
-played_so links (tasks.Replay true) log file v text plays p = logged_so links (tasks.Replay true) log file v text tt p p.printed
+played_so links (tasks.Run false looks) log file v text plays p = record { behind = []; stands = p.1.told.0; printed = p.1.told.1; bare = λ no. refl }
+played_so links (tasks.Run true looks) log file v text plays p =
+    record { behind = log_part true file p.1.history; stands = p.1.told.0; printed = p.1.told.1; bare = λ no. absurd (no tt) }
+played_so links (tasks.Replay false) log file v text plays p = record { behind = []; stands = p.1.told.0; printed = p.1.told.1; bare = λ no. refl }
+played_so links (tasks.Replay true) log file v text plays p =
+    record { behind = log_part true file p.1.history; stands = p.1.told.0; printed = p.1.told.1; bare = λ no. absurd (no tt) }
 
 -- ---- no other status is a verdict's
 
@@ -97,7 +79,7 @@ makes_none : (c : CallAt) (text : List ℕ) → AsksFor IsPlaying c → Makes c 
 makes_none c text plays m = subst IsPlaying (one_task c.words plays.task (tasks.Make m.count) plays.asks m.asks) plays.kind
 
 module _ (c : CallAt) (status : ℕ) (before after : Option (List ℕ)) (verdict : IsVerdict status) (plays : AsksFor IsPlaying c) where
-  answer_has_it : (a : Answer) → Comes c a → status ≡ status_of a → after ≡ put_behind before (text_of a) → HasHeadline c status before after
+  answer_has_it : (a : AnswerAt) → Comes c a → status ≡ status_of a → after ≡ put_behind before (text_of a) → HasHeadline c status before after
   answer_has_it Usage x e d = absurd (x.0 plays.task plays.asks)
   answer_has_it ReadFault x e d = absurd (no_refusal verdict.0 status (omega (arith, e)) (omega (arith, e)) verdict.1)
   answer_has_it TooLarge x e d = absurd (no_refusal verdict.0 status (omega (arith, e)) (omega (arith, e)) verdict.1)
@@ -113,7 +95,7 @@ module _ (c : CallAt) (status : ℕ) (before after : Option (List ℕ)) (verdict
       let a = its.answers in
       let kind = subst IsPlaying (one_task c.words plays.task x.task plays.asks x.asks) plays.kind in
       let read = read_of c x.task x.bytes (playing_reads x.task kind) x.input in
-      let p = played_so c.links x.task x.answers.log file v t.items kind a.1 in
+      let p = played_so c.links x.task x.answers.log file v t kind a.1 in
       let h = end_has_it file a.0 in
       record {
         bytes = x.bytes;
@@ -133,11 +115,11 @@ module _ (c : CallAt) (status : ℕ) (before after : Option (List ℕ)) (verdict
         bare = λ no. p.bare (λ log. no (record { task = x.task; asks = x.asks; kind = log }));
       }
   answer_has_it (Printed t) x e d =
-      absurd (prints_none x.task x.answers.answers.file t.items (subst IsPlaying (one_task c.words plays.task x.task plays.asks x.asks) plays.kind) x.answers.answers.answers)
-  answer_has_it (Made t) x e d = absurd (makes_none c t.items plays x)
+      absurd (prints_none x.task x.answers.answers.file t (subst IsPlaying (one_task c.words plays.task x.task plays.asks x.asks) plays.kind) x.answers.answers.answers)
+  answer_has_it (Made t) x e d = absurd (makes_none c t plays x)
 
 -- the answer that is written has it
-pub answered_headline : (words : List (List ℕ)) (left after : Option (List ℕ)) (f g : ℕ) (links : LinkUseAt) (a : Answer) (status : ℕ) (before now : Option (List ℕ))
+pub answered_headline : (words : List (List ℕ)) (left after : Option (List ℕ)) (f g : ℕ) (links : LinkUseAt) (a : AnswerAt) (status : ℕ) (before now : Option (List ℕ))
     → Comes (call_at words left after f g links) a → status ≡ status_of a → now ≡ put_behind before (text_of a)
     → IsVerdict status → AsksFor IsPlaying (call_at words left after f g links) → HasHeadline (call_at words left after f g links) status before now
 answered_headline words left after f g links a status before now comes e d verdict plays = answer_has_it (call_at words left after f g links) status before now verdict plays a comes e d

@@ -49,7 +49,7 @@ pub run_plays : (links : LinkUseAt) (task : Task) (log : List ℕ) (file : FileA
 run_plays links tasks.Check log file v text h x = absurd h
 run_plays links tasks.Show log file v text h x = absurd h
 run_plays links tasks.Sim log file v text h x = absurd h
-run_plays links (tasks.Run l looks) log file v text h x = x
-run_plays links (tasks.Replay l) log file v text h x = x
+run_plays links (tasks.Run l looks) log file v text h x = (tt, x)
+run_plays links (tasks.Replay l) log file v text h x = (tt, x)
 run_plays links (tasks.Make n) log file v text h x = absurd h
-run_plays links (tasks.Big n) log file v text h x = x
+run_plays links (tasks.Big n) log file v text h x = (tt, x)

@@ -21,3 +21,10 @@ pub mod Exactly
 pub mod HeadlineOfAnswers
 pub mod CompletedFile
 pub mod Completed
+pub mod LineLemmas
+pub mod WordsLemmas
+pub mod DrainedLines
+pub mod PartedOrNot
+pub mod LogLeads
+pub mod FileAnswered
+pub mod TableAnswered

@@ -14,8 +14,7 @@ use Rattle.sj_acceptance.specs.Faults.{first_fault}
 use Rattle.sj_acceptance.specs.FileTests.{tests_of}
 use Rattle.sj_command.specs.declared.tasks.Task.{Task}
 use Rattle.sj_command.specs.declared.tasks.Task.TheVariants as tasks
-use Rattle.sj_tool.specs.declared.answers.Answer.{Answer}
-use Rattle.sj_tool.specs.declared.answers.Answer.TheVariants.{Usage, ReadFault, TooLarge, Syntax, Check, LogFault, Misfit, LinkFault, Damaged, Ran, Printed, Made}
+use Rattle.sj_tool.specs.AnswerAt.{AnswerAt, Usage, ReadFault, TooLarge, Syntax, Check, LogFault, Misfit, LinkFault, Damaged, Ran, Printed, Made}
 use Rattle.sj_tool.specs.Answers.{AnswersFile, AnswersItsFile, AnswersText}
 use Rattle.sj_tool.specs.Runs.{Prints}
 use Rattle.sj_tool.specs.Calls.{LinkUseAt, LinksHold}
@@ -25,13 +24,13 @@ use Rattle.sj_tool.proofs.ToldOnce.{AreToldOnce, same_told, told, told_once}
 use Rattle.sj_tool.proofs.FileTold.{IsUnhurt, file_told}
 
 -- where the links hold for the parties that run, or the answer tells of no run
-abbrev pub HoldsFor : LinkUseAt → Task → Answer → Type 0
+abbrev pub HoldsFor : LinkUseAt → Task → AnswerAt → Type 0
 HoldsFor links task LinkFault = ⊥
 HoldsFor links task (Damaged t) = ⊥
 HoldsFor links task (Ran v t) = RunsParties task → LinksHold links
 HoldsFor links task _ = Unit {0}
 
-unhurt : (links : LinkUseAt) (task : Task) (a : Answer) → HoldsFor links task a → IsUnhurt a
+unhurt : (links : LinkUseAt) (task : Task) (a : AnswerAt) → HoldsFor links task a → IsUnhurt a
 unhurt links task Usage h = tt
 unhurt links task ReadFault h = tt
 unhurt links task TooLarge h = tt
@@ -66,7 +65,7 @@ replays_no_run (tasks.Big n) runs replays = replays
 
 module _ (links : LinkUseAt) (task : Task) (log : List ℕ) (file : FileAt) where
   -- where the links don't hold, an accepted file whose parties run has no answer but theirs
-  beside : IsAccepted file → RunsParties task → (LinksHold links → ⊥) → (b : Answer) → AnswersFile links task log file b → HoldsFor links task b → ⊥
+  beside : IsAccepted file → RunsParties task → (LinksHold links → ⊥) → (b : AnswerAt) → AnswersFile links task log file b → HoldsFor links task b → ⊥
   beside ok runs off Usage y h = y
   beside ok runs off ReadFault y h = y
   beside ok runs off TooLarge y h = y
@@ -77,14 +76,14 @@ module _ (links : LinkUseAt) (task : Task) (log : List ℕ) (file : FileAt) wher
   beside ok runs off LinkFault y h = h
   beside ok runs off (Damaged t) y h = h
   beside ok runs off (Ran v t) y h = off (h runs)
-  beside ok runs off (Printed t) y h = prints_no_run task file t.items runs y
+  beside ok runs off (Printed t) y h = prints_no_run task file t runs y
   beside ok runs off (Made t) y h = y
 
-  told_of : (a b : Answer) → IsUnhurt a → AnswersFile links task log file a → AnswersFile links task log file b → HoldsFor links task b → AreToldOnce task (told a) (told b)
+  told_of : (a b : AnswerAt) → IsUnhurt a → AnswersFile links task log file a → AnswersFile links task log file b → HoldsFor links task b → AreToldOnce task (told a) (told b)
   told_of a b u x y h =
       told_once links log file (told a) (told b) task (first_fault (tests_of file)) (file_told links task log file a u x) (file_told links task log file b (unhurt links task b h) y)
 
-  one_of_file : (a b : Answer) → AnswersFile links task log file a → AnswersFile links task log file b → HoldsFor links task b → AreToldOnce task (told a) (told b)
+  one_of_file : (a b : AnswerAt) → AnswersFile links task log file a → AnswersFile links task log file b → HoldsFor links task b → AreToldOnce task (told a) (told b)
   one_of_file Usage b x y h = absurd x
   one_of_file ReadFault b x y h = absurd x
   one_of_file TooLarge b x y h = absurd x
@@ -99,10 +98,10 @@ module _ (links : LinkUseAt) (task : Task) (log : List ℕ) (file : FileAt) wher
   one_of_file (Made t) b x y h = absurd x
 
 -- the text goes wrong, or the answer answers its file
-abbrev pub IsEither : LinkUseAt → Task → (log text : List ℕ) → Answer → Type 0
+abbrev pub IsEither : LinkUseAt → Task → (log text : List ℕ) → AnswerAt → Type 0
 IsEither links task log text a = ((f : Fault) × (a ≡ Syntax f) × Stuck file_layer limits 0 (start text [] []) file_due f) ⊎ AnswersItsFile links task log text a
 
-pub either : (links : LinkUseAt) (task : Task) (log text : List ℕ) (a : Answer) → AnswersText links task log text a → IsEither links task log text a
+pub either : (links : LinkUseAt) (task : Task) (log text : List ℕ) (a : AnswerAt) → AnswersText links task log text a → IsEither links task log text a
 either links task log text Usage x = inr x
 either links task log text ReadFault x = inr x
 either links task log text TooLarge x = inr x
@@ -117,7 +116,7 @@ either links task log text (Printed t) x = inr x
 either links task log text (Made t) x = inr x
 
 -- a text has one answer
-pub one_of_text : (links : LinkUseAt) (task : Task) (log text : List ℕ) (a b : Answer) → AnswersText links task log text a → AnswersText links task log text b → HoldsFor links task b → AreToldOnce task (told a) (told b)
+pub one_of_text : (links : LinkUseAt) (task : Task) (log text : List ℕ) (a b : AnswerAt) → AnswersText links task log text a → AnswersText links task log text b → HoldsFor links task b → AreToldOnce task (told a) (told b)
 one_of_text links task log text a b x y h = by_kind (either links task log text a x) (either links task log text b y)
   where
     by_kind : IsEither links task log text a → IsEither links task log text b → AreToldOnce task (told a) (told b)

@@ -1,14 +1,12 @@
 -- A file is run in one way: by a log whole, by its parties up to their history.
-use Rattle.std.proofs.Common.{◌≡◌, ◌⊎◌, ◌∙◌, ℕ, max, true, false, List, [], ◌++◌, Result, Ok, length, map, inl, inr, ap, ap₂, sym, subst}
+use Rattle.std.proofs.Common.{◌≡◌, ◌⊎◌, ◌∙◌, ℕ, max, true, false, List, ◌++◌, Result, Ok, length, map, inl, inr, ap, ap₂, refl, sym, subst}
 use Rattle.std.specs.Prelude.{Bool}
 use Rattle.std.proofs.lemmas.List.{map-append}
 use Rattle.sj_lang.specs.FileAt.{FileAt}
 use Rattle.sj_lang.specs.Place.{Place}
 use Rattle.sj_semantics.specs.declared.Verdict.{Verdict}
 use Rattle.sj_semantics.specs.Program.{Program}
-use Rattle.sj_semantics.specs.State.{verdict_of}
-use Rattle.sj_semantics.specs.Transcript.{transcript_of}
-use Rattle.sj_semantics.specs.World.{World}
+use Rattle.sj_semantics.specs.Run.{end_of}
 use Rattle.sj_rules.specs.Drain.{IsDrained}
 use Rattle.sj_rules.specs.History.{IsHistory, Replay, turn_of, replay}
 use Rattle.sj_rules.specs.Log.{LineAt}
@@ -22,7 +20,7 @@ use Rattle.sj_command.specs.declared.tasks.Task.TheVariants as tasks
 use Rattle.sj_log.specs.LogText.{SpellsLog}
 use Rattle.sj_tool.specs.Calls.{LinkUseAt}
 use Rattle.sj_tool.specs.Tasks.{HasEvents}
-use Rattle.sj_tool.specs.Runs.{HasHistory, HasRun, log_part, run_text}
+use Rattle.sj_tool.specs.Runs.{HasHistory, HasRun, run_text}
 use Rattle.sj_tool.specs.Table.{AreOneLog, LogsRun}
 
 -- ---- a log has one history
@@ -47,15 +45,15 @@ same_spelled file log lines others a b = same_ok lines others (sym a ∙ b)
 pub one_history : (first second : LinkUseAt) (l : Bool) (log : List ℕ) (file : FileAt) (history other : List LineAt) (core world : WorldAt Place Program)
     → HasHistory first (tasks.Replay l) log file history core → HasHistory second (tasks.Replay l) log file other world → history ≡ other
 one_history first second l log file history other core world x y =
-    let lines : x.lines ≡ y.lines = same_spelled file log x.lines y.lines x.given y.given in
-    let left : x.left ≡ y.left =
-    same_world (play_of file) max y.lines (core_start file) x.left y.left (subst (λ (ls : List LineAt). IsHistory max file ls x.left) lines x.begins) y.begins in
+    let lines : x.begun.lines ≡ y.begun.lines = same_spelled file log x.begun.lines y.begun.lines x.begun.given y.begun.given in
+    let left : x.begun.left ≡ y.begun.left =
+    same_world (play_of file) max y.begun.lines (core_start file) x.begun.left y.begun.left (subst (λ (ls : List LineAt). IsHistory max file ls x.begun.left) lines x.begun.leads) y.begun.leads in
     let drained =
-    drained_once (play_of file) max (length file.parties) y.left core world (map turn_of x.more) (map turn_of y.more)
+    drained_once (play_of file) max (length file.parties) y.begun.left core world (map turn_of x.more) (map turn_of y.more)
     (subst (λ (w : WorldAt Place Program). IsDrained (play_of file) max (length file.parties) w (map turn_of x.more) core) left x.drained) y.drained in
     let turns : map turn_of history ≡ map turn_of other =
-    ap (map turn_of) x.all ∙ map-append turn_of x.lines x.more ∙ ap₂ (λ ts us. ts ++ us) (ap (map turn_of) lines) drained.0
-    ∙ sym (map-append turn_of y.lines y.more) ∙ ap (map turn_of) (sym y.all) in
+    ap (map turn_of) x.all ∙ map-append turn_of x.begun.lines x.more ∙ ap₂ (λ ts us. ts ++ us) (ap (map turn_of) lines) drained.0
+    ∙ sym (map-append turn_of y.begun.lines y.more) ∙ ap (map turn_of) (sym y.all) in
     same_lines file history other core world x.run y.run turns
 
 -- ---- what is printed of it
@@ -67,32 +65,24 @@ AreAlike task v w s t = (v ≡ w) × ((s ≡ t) ⊎ (LogsRun task × AreOneLog s
 module _ (links : LinkUseAt) (log : List ℕ) (file : FileAt) (v w : Verdict) (s t : List ℕ) where
   -- one verdict
   stand : (task : Task) → HasRun links task log file v s → HasRun links task log file w t → v ≡ w
-  stand task x y = x.stands ∙ ap verdict_of (x.is_end ∙ sym y.is_end) ∙ sym y.stands
+  stand task x y = x.told.0 ∙ sym y.told.0
 
-  -- one text, of one end
-  print_end : (task : Task) (text : World → List ℕ) (x : HasRun links task log file v s) (y : HasRun links task log file w t) → s ≡ text x.end → t ≡ text y.end → AreAlike task v w s t
-  print_end task text x y a b = (stand task x y, inl (a ∙ ap text (x.is_end ∙ sym y.is_end) ∙ sym b))
+  -- one text
+  print : (task : Task) (x : HasRun links task log file v s) (y : HasRun links task log file w t)
+      → run_text task file x.history (end_of file) ≡ run_text task file y.history (end_of file) → AreAlike task v w s t
+  print task x y same = (stand task x y, inl (x.told.1 ∙ same ∙ sym y.told.1))
 
   pub one_run : (task : Task) → HasEvents task → HasRun links task log file v s → HasRun links task log file w t → AreAlike task v w s t
   one_run tasks.Check h x y = absurd h
   one_run tasks.Show h x y = absurd h
   one_run tasks.Sim h x y = absurd h
   one_run (tasks.Make n) h x y = absurd h
-  one_run (tasks.Big n) h x y = print_end (tasks.Big n) (run_text (tasks.Big n) file []) x y x.printed y.printed
-  one_run (tasks.Run false looks) h x y = print_end (tasks.Run false looks) (run_text (tasks.Run false looks) file []) x y x.printed y.printed
+  one_run (tasks.Big n) h x y = print (tasks.Big n) x y refl
+  one_run (tasks.Run false looks) h x y = print (tasks.Run false looks) x y refl
   one_run (tasks.Run true looks) h x y = (
     stand (tasks.Run true looks) x y,
-    inr (
-      tt,
-      record {
-        file = file;
-        first = x.history;
-        second = y.history;
-        first_text = x.printed ∙ ap (λ e. transcript_of file e ++ log_part true file x.history) x.is_end;
-        second_text = y.printed ∙ ap (λ e. transcript_of file e ++ log_part true file y.history) y.is_end;
-      },
-    ),
+    inr (tt, record { file = file; first = x.history; second = y.history; first_text = x.told.1; second_text = y.told.1 }),
   )
   one_run (tasks.Replay l) h x y =
       let same : x.history ≡ y.history = one_history links links l log file x.history y.history x.core y.core x.has y.has in
-      print_end (tasks.Replay l) (run_text (tasks.Replay l) file y.history) x y (x.printed ∙ ap (λ h. run_text (tasks.Replay l) file h x.end) same) y.printed
+      print (tasks.Replay l) x y (ap (λ (h : List LineAt). run_text (tasks.Replay l) file h (end_of file)) same)

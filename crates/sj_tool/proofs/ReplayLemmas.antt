@@ -1,5 +1,5 @@
 -- What a log is replayed to, and why it isn't.
-use Rattle.std.proofs.Common.{ℕ, List}
+use Rattle.std.proofs.Common.{ℕ, List, [], true}
 use Rattle.std.specs.Prelude.{Bool}
 use Rattle.sj_command.specs.declared.tasks.Task.{Task}
 use Rattle.sj_command.specs.declared.tasks.Task.TheVariants as tasks
@@ -21,6 +21,15 @@ pub stopped_refused : (file : FileAt) (log : List ℕ) (lines : List LineAt) (r 
 stopped_refused file log lines (faults.Text rule line) spells stopped = absurd stopped
 stopped_refused file log lines (faults.Entry number logged other) spells stopped = (lines, spells, stopped)
 stopped_refused file log lines faults.NoMemory spells stopped = tt
+
+-- links that nothing is carried over
+pub unused : LinkUseAt
+unused = record {
+  tells = true;
+  faults = 0;
+  faults_after = 0;
+  keeps = record { sent = λ p q. []; got = λ p q. []; vain_out = λ p q. 0; vain_in = λ p q. 0 };
+}
 
 -- a task that replays has the history of its log
 pub replay_has : (links : LinkUseAt) (task : Task) (log : List ℕ) (file : FileAt) (history : List LineAt) (core : WorldAt Place Program) → IsReplay task

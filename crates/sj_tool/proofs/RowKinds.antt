@@ -5,8 +5,7 @@ use Rattle.sj_command.specs.declared.tasks.Task.{Task}
 use Rattle.sj_command.specs.declared.tasks.Task.TheVariants as tasks
 use Rattle.sj_command.specs.Task.{Asks, IsUsage}
 use Rattle.sj_command.proofs.OneTask.{one_task}
-use Rattle.sj_tool.specs.declared.answers.Answer.{Answer}
-use Rattle.sj_tool.specs.declared.answers.Answer.TheVariants.{Usage, ReadFault, TooLarge, Syntax, Check, LogFault, Misfit, LinkFault, Damaged, Ran, Printed, Made}
+use Rattle.sj_tool.specs.AnswerAt.{AnswerAt, Usage, ReadFault, TooLarge, Syntax, Check, LogFault, Misfit, LinkFault, Damaged, Ran, Printed, Made}
 use Rattle.sj_tool.specs.Texts.{status_of, text_of}
 use Rattle.sj_tool.specs.Answers.{AnswersInput, Came, Comes, Makes}
 use Rattle.sj_tool.specs.Calls.{CallAt}
@@ -14,14 +13,14 @@ use Rattle.sj_tool.specs.Tasks.{Reads, Takes}
 use Rattle.sj_tool.specs.Table.{NoFaultAbove}
 
 -- which row an answer is
-pub data Row (c : CallAt) (a : Answer) : Type 0 where
+pub data Row (c : CallAt) (a : AnswerAt) : Type 0 where
   words : a ≡ Usage → IsUsage c.words → Row c a
   fault : a ≡ ReadFault → Came (λ n most. n ≤ most) c → Rose c.faults c.faults_after → Row c a
   large : a ≡ TooLarge → Came (λ n most. most < n) c → c.faults_after ≡ c.faults → Row c a
   made : (text : List ℕ) → status_of a ≡ 0 → text_of a ≡ text → Makes c text → Row c a
   input : AnswersInput c a → Row c a
 
-pub row_of : (c : CallAt) (a : Answer) → Comes c a → Row c a
+pub row_of : (c : CallAt) (a : AnswerAt) → Comes c a → Row c a
 row_of c Usage h = words refl h.0
 row_of c ReadFault h = fault refl h.0 h.1
 row_of c TooLarge h = elim h [ inl l ↦ large refl l.0 l.1 | inr x ↦ input x ]
@@ -33,7 +32,7 @@ row_of c LinkFault h = input h
 row_of c (Damaged t) h = input h
 row_of c (Ran v t) h = input h
 row_of c (Printed t) h = input h
-row_of c (Made t) h = made t.items refl refl h
+row_of c (Made t) h = made t refl refl h
 
 -- a task that reads a file takes one
 pub reads_takes : (task : Task) → Reads task → Takes task
@@ -50,7 +49,7 @@ pub made_takes : (c : CallAt) (text : List ℕ) (task : Task) → Makes c text �
 made_takes c text task m asks takes = subst (λ (t : Task). Takes t) (one_task c.words task (tasks.Make m.count) asks m.asks) takes
 
 -- where an input is answered, a read fault above it is ruled out
-pub no_rise : (c : CallAt) (a : Answer) → AnswersInput c a → NoFaultAbove c a → Rose c.faults c.faults_after → ⊥
+pub no_rise : (c : CallAt) (a : AnswerAt) → AnswersInput c a → NoFaultAbove c a → Rose c.faults c.faults_after → ⊥
 no_rise c Usage x h r = absurd x.answers.answers.answers
 no_rise c ReadFault x h r = absurd h
 no_rise c TooLarge x h r = h (record { task = x.task; asks = x.asks; kind = x.answers.0 }) r

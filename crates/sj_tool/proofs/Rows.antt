@@ -6,8 +6,7 @@ use Rattle.sj_command.specs.declared.tasks.Task.TheVariants as tasks
 use Rattle.sj_command.specs.Task.{Asks}
 use Rattle.sj_command.proofs.OneTask.{one_task}
 use Rattle.sj_generator.specs.Generated.{generated}
-use Rattle.sj_tool.specs.declared.answers.Answer.{Answer}
-use Rattle.sj_tool.specs.declared.answers.Answer.TheVariants.{Usage, ReadFault, TooLarge, Syntax, Check, LogFault, Misfit, LinkFault, Damaged, Ran, Printed, Made}
+use Rattle.sj_tool.specs.AnswerAt.{AnswerAt, Usage, ReadFault, TooLarge, Syntax, Check, LogFault, Misfit, LinkFault, Damaged, Ran, Printed, Made}
 use Rattle.sj_tool.specs.Texts.{status_of, text_of}
 use Rattle.sj_tool.specs.Answers.{AnswersBytes, AnswersInput, Came, Comes, Makes}
 use Rattle.sj_tool.specs.Calls.{CallAt}
@@ -28,11 +27,11 @@ came_once l left (Some rest) (t, few, e) (u, many, d) =
     let long : length (t ++ rest) ≡ length (u ++ rest) = ap length same in
     omega (arith, length-append t rest, length-append u rest)
 
-pub are_same : (c : CallAt) (a b : Answer) → a ≡ b → AreOne c a b
+pub are_same : (c : CallAt) (a b : AnswerAt) → a ≡ b → AreOne c a b
 are_same c a b e = record { status = ap status_of e; text = inl (ap text_of e) }
 
 -- what no read fault above an answer tells of the links
-holds_above : (c : CallAt) (b : Answer) → NoFaultAbove c b → (task : Task) → Asks c.words task → HoldsFor c.links task b
+holds_above : (c : CallAt) (b : AnswerAt) → NoFaultAbove c b → (task : Task) → Asks c.words task → HoldsFor c.links task b
 holds_above c Usage h task asks = tt
 holds_above c ReadFault h task asks = tt
 holds_above c TooLarge h task asks = tt
@@ -47,7 +46,7 @@ holds_above c (Printed t) h task asks = tt
 holds_above c (Made t) h task asks = tt
 
 -- an input is answered in one way
-one_of_input : (c : CallAt) (left : List ℕ) → c.left ≡ Some left → (a b : Answer) → AnswersInput c a → AnswersInput c b → NoFaultAbove c b → AreOne c a b
+one_of_input : (c : CallAt) (left : List ℕ) → c.left ≡ Some left → (a b : AnswerAt) → AnswersInput c a → AnswersInput c b → NoFaultAbove c b → AreOne c a b
 one_of_input c left e a b x y above =
     let tasks_are : x.task ≡ y.task = one_task c.words x.task y.task x.asks y.asks in
     let same : y.bytes ≡ x.bytes =
@@ -67,18 +66,18 @@ module _ (c : CallAt) (left : List ℕ) (tells : c.left ≡ Some left) where
       came_once (limit_of many.task) left c.left_after (came.0, came.1, sym tells ∙ came.2) (more.0, more.1, sym tells ∙ more.2)
 
   -- where too much came, no input was read whole
-  few_in : (a : Answer) → AnswersInput c a → Came (λ n most. most < n) c → ⊥
+  few_in : (a : AnswerAt) → AnswersInput c a → Came (λ n most. most < n) c → ⊥
   few_in a x many =
       let reads = subst (λ (t : Task). Reads t) (one_task c.words many.task x.task many.asks x.asks) (reads_of (λ n most. most < n) c many) in
       let read = read_of c x.task x.bytes reads x.input in
       once (record { task = x.task; asks = x.asks; kind = (reads, (x.bytes, read.few, read.came)) }) many
 
-  made_once : (a b : Answer) (s t : List ℕ) → status_of a ≡ 0 → text_of a ≡ s → Makes c s → status_of b ≡ 0 → text_of b ≡ t → Makes c t → AreOne c a b
+  made_once : (a b : AnswerAt) (s t : List ℕ) → status_of a ≡ 0 → text_of a ≡ s → Makes c s → status_of b ≡ 0 → text_of b ≡ t → Makes c t → AreOne c a b
   made_once a b s t e d m f g n =
       let counts : m.count ≡ n.count = let both : tasks.Make m.count ≡ tasks.Make n.count = one_task c.words (tasks.Make m.count) (tasks.Make n.count) m.asks n.asks in cc in
       record { status = e ∙ sym f; text = inl (d ∙ m.text ∙ ap generated counts ∙ sym n.text ∙ sym g) }
 
-  one_row : (a b : Answer) → Row c a → Row c b → NoFaultAbove c b → AreOne c a b
+  one_row : (a b : AnswerAt) → Row c a → Row c b → NoFaultAbove c b → AreOne c a b
   one_row a b (words e u) (words d v) above = are_same c a b (e ∙ sym d)
   one_row a b (words e u) (fault d few r) above = absurd (u few.task few.asks)
   one_row a b (words e u) (large d many same) above = absurd (u many.task many.asks)
@@ -100,11 +99,11 @@ module _ (c : CallAt) (left : List ℕ) (tells : c.left ≡ Some left) where
   one_row a b (made t s e m) (made u r d n) above = made_once a b t u s e m r d n
   one_row a b (made t s e m) (input y) above = absurd (made_takes c t y.task m y.asks (takes_file c.links y.task y.bytes b y.answers))
   one_row a b (input x) (words d v) above = absurd (v x.task x.asks)
-  one_row a b (input x) (fault d few r) above = absurd (subst (λ (z : Answer). NoFaultAbove c z) d above)
+  one_row a b (input x) (fault d few r) above = absurd (subst (λ (z : AnswerAt). NoFaultAbove c z) d above)
   one_row a b (input x) (large d many same) above = absurd (few_in a x many)
   one_row a b (input x) (made t s d m) above = absurd (made_takes c t x.task m x.asks (takes_file c.links x.task x.bytes a x.answers))
   one_row a b (input x) (input y) above = one_of_input c left tells a b x y above
 
   -- the answer that comes is each one that the table gives
-  pub one_comes : (a b : Answer) → Comes c a → Comes c b → NoFaultAbove c b → AreOne c a b
+  pub one_comes : (a b : AnswerAt) → Comes c a → Comes c b → NoFaultAbove c b → AreOne c a b
   one_comes a b x y above = one_row a b (row_of c a x) (row_of c b y) above

@@ -7,17 +7,17 @@ use Rattle.sj_command.specs.declared.tasks.Task.TheVariants as tasks
 use Rattle.sj_log.specs.LogText.{IsFault}
 use Rattle.sj_log.specs.declared.refusal.LogRefusal.TheVariants.{At}
 use Rattle.sj_semantics.specs.declared.Verdict.{Verdict}
-use Rattle.sj_tool.specs.declared.answers.Answer.{Answer}
+use Rattle.sj_tool.specs.AnswerAt.{AnswerAt, Check, LogFault}
 use Rattle.sj_tool.specs.Runs.{Plays}
 use Rattle.sj_tool.specs.Calls.{LinkUseAt}
 use Rattle.sj_tool.specs.Entries.{IsMisfitText}
 use Rattle.sj_tool.specs.Shown.{shown}
 use Rattle.sj_tool.specs.Table.{AreOneLog, LogsRun}
-use Rattle.sj_tool.specs.Texts.{check_line, counts_of, log_line, status_of, text_of, verdict_status}
+use Rattle.sj_tool.specs.Texts.{counts_of, status_of, text_of, verdict_status}
 use Rattle.sj_tool.proofs.LogAnswers.{fault_once, fault_or_lines, misfit_once, misfit_or_history}
 use Rattle.sj_tool.proofs.OneRun.{one_run}
 
-abbrev pub told : Answer → ℕ × List ℕ
+abbrev pub told : AnswerAt → ℕ × List ℕ
 told a = (status_of a, text_of a)
 
 -- the status and the text of a file that ends so
@@ -41,7 +41,7 @@ pub record IsPlayed (links : LinkUseAt) (task : Task) (log : List ℕ) (file : F
 
 -- the status and the text tell that the log is refused
 abbrev pub TellsRule : FileAt → (log : List ℕ) → ℕ × List ℕ → Type 0
-TellsRule file log t = (rule : ℕ) × (line : ℕ) × IsFault file log (At rule line) × (t ≡ (12, log_line rule line))
+TellsRule file log t = (rule : ℕ) × (line : ℕ) × IsFault file log (At rule line) × (t ≡ (12, text_of (LogFault rule line)))
 
 abbrev pub TellsEntry : FileAt → (log : List ℕ) → ℕ × List ℕ → Type 0
 TellsEntry file log t = (text : List ℕ) × IsMisfitText file log text × (t ≡ (12, text))
@@ -62,7 +62,7 @@ TellsFaultless links (tasks.Big n) log file t = IsPlayed links (tasks.Big n) log
 
 -- by its first fault
 abbrev pub TellsChecked : LinkUseAt → Task → (log : List ℕ) → FileAt → Option (ℕ × ℕ) → ℕ × List ℕ → Type 0
-TellsChecked links task log file (Some x) t = t ≡ (5, check_line x.0 x.1)
+TellsChecked links task log file (Some x) t = t ≡ (5, text_of (Check x.0 x.1))
 TellsChecked links task log file None t = TellsFaultless links task log file t
 
 -- the status and the text that answer a file, by its first fault where the task checks
@@ -83,26 +83,26 @@ module _ (links : LinkUseAt) (log : List ℕ) (file : FileAt) (t u : ℕ × List
 
       by : (task : Task) (v w : Verdict) (s r : List ℕ) → Plays links task log file v s → Plays links task log file w r → AreToldOnce task (ended v s) (ended w r)
       by tasks.Sim v w s r p q = same_told tasks.Sim (ended v s) (ended w r) (ap₂ ended (p.0 ∙ sym q.0) (p.1 ∙ sym q.1))
-      by (tasks.Run l looks) v w s r p q = ran (tasks.Run l looks) v w s r (one_run links log file v w s r (tasks.Run l looks) tt p q)
-      by (tasks.Replay l) v w s r p q = ran (tasks.Replay l) v w s r (one_run links log file v w s r (tasks.Replay l) tt p q)
-      by (tasks.Big n) v w s r p q = ran (tasks.Big n) v w s r (one_run links log file v w s r (tasks.Big n) tt p q)
-      by tasks.Check v w s r p q = absurd p
-      by tasks.Show v w s r p q = absurd p
-      by (tasks.Make n) v w s r p q = absurd p
+      by (tasks.Run l looks) v w s r p q = ran (tasks.Run l looks) v w s r (one_run links log file v w s r (tasks.Run l looks) tt p.1 q.1)
+      by (tasks.Replay l) v w s r p q = ran (tasks.Replay l) v w s r (one_run links log file v w s r (tasks.Replay l) tt p.1 q.1)
+      by (tasks.Big n) v w s r p q = ran (tasks.Big n) v w s r (one_run links log file v w s r (tasks.Big n) tt p.1 q.1)
+      by tasks.Check v w s r p q = absurd p.0
+      by tasks.Show v w s r p q = absurd p.0
+      by (tasks.Make n) v w s r p q = absurd p.0
 
   -- a log is told of in one way
   log_once : (l : Bool) → TellsLog links l log file t → TellsLog links l log file u → AreToldOnce (tasks.Replay l) t u
   log_once l (inl (r, k, a, e)) (inl (s, m, b, d)) =
       let one = fault_once file log r s k m a b in
-      same_told (tasks.Replay l) t u (e ∙ ap₂ (λ x y. (12, log_line x y)) one.0 one.1 ∙ sym d)
+      same_told (tasks.Replay l) t u (e ∙ ap₂ (λ x y. (12, text_of (LogFault x y))) one.0 one.1 ∙ sym d)
   log_once l (inl (r, k, a, e)) (inr (inl (s, b, d))) = absurd (fault_or_lines file log r k b.lines a b.spells)
-  log_once l (inl (r, k, a, e)) (inr (inr y)) = absurd (fault_or_lines file log r k y.plays.has.lines a y.plays.has.given)
+  log_once l (inl (r, k, a, e)) (inr (inr y)) = absurd (fault_or_lines file log r k y.plays.1.has.begun.lines a y.plays.1.has.begun.given)
   log_once l (inr (inl (s, a, e))) (inl (r, k, b, d)) = absurd (fault_or_lines file log r k a.lines b a.spells)
   log_once l (inr (inl (s, a, e))) (inr (inl (r, b, d))) =
       same_told (tasks.Replay l) t u (e ∙ ap (λ x. (12, x)) (misfit_once file log s r a b) ∙ sym d)
-  log_once l (inr (inl (s, a, e))) (inr (inr y)) = absurd (misfit_or_history file log s y.plays.has.lines y.plays.has.left a y.plays.has.given y.plays.has.begins)
-  log_once l (inr (inr x)) (inl (r, k, b, d)) = absurd (fault_or_lines file log r k x.plays.has.lines b x.plays.has.given)
-  log_once l (inr (inr x)) (inr (inl (s, b, d))) = absurd (misfit_or_history file log s x.plays.has.lines x.plays.has.left b x.plays.has.given x.plays.has.begins)
+  log_once l (inr (inl (s, a, e))) (inr (inr y)) = absurd (misfit_or_history file log s y.plays.1.has.begun.lines y.plays.1.has.begun.left a y.plays.1.has.begun.given y.plays.1.has.begun.leads)
+  log_once l (inr (inr x)) (inl (r, k, b, d)) = absurd (fault_or_lines file log r k x.plays.1.has.begun.lines b x.plays.1.has.begun.given)
+  log_once l (inr (inr x)) (inr (inl (s, b, d))) = absurd (misfit_or_history file log s x.plays.1.has.begun.lines x.plays.1.has.begun.left b x.plays.1.has.begun.given x.plays.1.has.begun.leads)
   log_once l (inr (inr x)) (inr (inr y)) = played_once (tasks.Replay l) x y
 
   faultless_once : (task : Task) → TellsFaultless links task log file t → TellsFaultless links task log file u → AreToldOnce task t u

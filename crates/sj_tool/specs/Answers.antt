@@ -18,8 +18,7 @@ use Rattle.sj_log.specs.declared.refusal.LogRefusal.TheVariants.{At}
 use Rattle.sj_command.specs.declared.tasks.Task.{Task}
 use Rattle.sj_command.specs.declared.tasks.Task.TheVariants as tasks
 use Rattle.sj_command.specs.Task.{Asks, IsUsage}
-use Rattle.sj_tool.specs.declared.answers.Answer.{Answer}
-use Rattle.sj_tool.specs.declared.answers.Answer.TheVariants.{Usage, ReadFault, TooLarge, Syntax, Check, LogFault, Misfit, LinkFault, Damaged, Ran, Printed, Made}
+use Rattle.sj_tool.specs.AnswerAt.{AnswerAt, Usage, ReadFault, TooLarge, Syntax, Check, LogFault, Misfit, LinkFault, Damaged, Ran, Printed, Made}
 use Rattle.sj_tool.specs.Calls.{CallAt, LinkUseAt}
 use Rattle.sj_tool.specs.Entries.{IsDamageText, IsMisfitText}
 use Rattle.sj_tool.specs.Tasks.{AsksFor, Checks, HasInput, HasLongText, HasParts, IsUnread, Reads, Replays, RunsParties, Takes, limit_of}
@@ -27,29 +26,29 @@ use Rattle.sj_tool.specs.Runs.{Plays, Prints}
 use Rattle.sj_tool.specs.Texts.{status_of, text_of}
 
 -- what answers a file, with the log that is replayed
-abbrev pub AnswersFile : LinkUseAt → Task → (log : List ℕ) → FileAt → Answer → Type 0
+abbrev pub AnswersFile : LinkUseAt → Task → (log : List ℕ) → FileAt → AnswerAt → Type 0
 AnswersFile links task log file (Check rule line) = Checks task × (first_fault (tests_of file) ≡ Some (rule, line))
 AnswersFile links task log file (LogFault rule line) = IsAccepted file × Replays task × IsFault file log (At rule line)
-AnswersFile links task log file (Misfit text) = IsAccepted file × Replays task × IsMisfitText file log text.items
+AnswersFile links task log file (Misfit text) = IsAccepted file × Replays task × IsMisfitText file log text
 AnswersFile links task log file LinkFault = IsAccepted file × RunsParties task × lanes.Rose links.faults links.faults_after
-AnswersFile links task log file (Damaged text) = IsAccepted file × RunsParties task × (links.tells ≡ true → ⊥) × IsDamageText file text.items
-AnswersFile links task log file (Ran verdict text) = IsAccepted file × Plays links task log file verdict text.items
-AnswersFile links task log file (Printed text) = Prints task file text.items
+AnswersFile links task log file (Damaged text) = IsAccepted file × RunsParties task × (links.tells ≡ true → ⊥) × IsDamageText file text
+AnswersFile links task log file (Ran verdict text) = IsAccepted file × Plays links task log file verdict text
+AnswersFile links task log file (Printed text) = Prints task file text
 AnswersFile links task log file _ = ⊥
 
 -- the text stands for a file, which the answer answers
-pub record AnswersItsFile (links : LinkUseAt) (task : Task) (log text : List ℕ) (a : Answer) : Type 0 where
+pub record AnswersItsFile (links : LinkUseAt) (task : Task) (log text : List ℕ) (a : AnswerAt) : Type 0 where
   pub file : FileAt
   pub stands : IsFile text file
   pub answers : AnswersFile links task log file a
 
 -- what answers the text of a file
-abbrev pub AnswersText : LinkUseAt → Task → (log text : List ℕ) → Answer → Type 0
+abbrev pub AnswersText : LinkUseAt → Task → (log text : List ℕ) → AnswerAt → Type 0
 AnswersText links task log text (Syntax fault) = Takes task × Stuck file_layer limits 0 (start text [] []) file_due fault
 AnswersText links task log text a = AnswersItsFile links task log text a
 
 -- the bytes have the text of a file, and a log where one is replayed, and the answer answers it
-pub record AnswersParts (links : LinkUseAt) (task : Task) (bytes : List ℕ) (a : Answer) : Type 0 where
+pub record AnswersParts (links : LinkUseAt) (task : Task) (bytes : List ℕ) (a : AnswerAt) : Type 0 where
   pub text : List ℕ
   pub log : List ℕ
   pub parts : HasParts task bytes text log
@@ -60,13 +59,13 @@ abbrev pub MissesLog : Task → List ℕ → (rule line : ℕ) → Type 0
 MissesLog task bytes rule line = Replays task × HasNoPart bytes × (rule ≡ 1) × (line ≡ 0)
 
 -- what answers the bytes that a task takes
-abbrev pub AnswersBytes : LinkUseAt → Task → List ℕ → Answer → Type 0
+abbrev pub AnswersBytes : LinkUseAt → Task → List ℕ → AnswerAt → Type 0
 AnswersBytes links task bytes TooLarge = Replays task × HasLongText bytes
 AnswersBytes links task bytes (LogFault rule line) = MissesLog task bytes rule line ⊎ AnswersParts links task bytes (LogFault rule line)
 AnswersBytes links task bytes a = AnswersParts links task bytes a
 
 -- the words ask for a task, and the answer answers its bytes
-pub record AnswersInput (c : CallAt) (a : Answer) : Type 0 where
+pub record AnswersInput (c : CallAt) (a : AnswerAt) : Type 0 where
   pub task : Task
   pub asks : Asks c.words task
   pub bytes : List ℕ
@@ -85,26 +84,26 @@ abbrev pub Came : (ℕ → ℕ → Type 0) → CallAt → Type 0
 Came P c = AsksFor (λ task. Reads task × CameOf (λ n. P n (limit_of task)) c.left c.left_after) c
 
 -- where each answer comes; a row is read where none above it came
-abbrev pub Comes : CallAt → Answer → Type 0
+abbrev pub Comes : CallAt → AnswerAt → Type 0
 Comes c Usage = IsUsage c.words × IsUnread c
 Comes c ReadFault = Came (λ n most. n ≤ most) c × Rose c.faults c.faults_after
 Comes c TooLarge = (Came (λ n most. most < n) c × (c.faults_after ≡ c.faults)) ⊎ AnswersInput c TooLarge
-Comes c (Made text) = Makes c text.items
+Comes c (Made text) = Makes c text
 Comes c a = AnswersInput c a
 
 -- the answer that comes is written behind what was written before, and its status is answered
-abbrev pub Answers : CallAt → ℕ → Option (List ℕ) → Option (List ℕ) → Answer → Type 0
+abbrev pub Answers : CallAt → ℕ → Option (List ℕ) → Option (List ℕ) → AnswerAt → Type 0
 Answers c status before after a = (status ≡ status_of a) × (after ≡ put_behind before (text_of a))
 
 -- an answer of the table comes, and is the answer
 pub record AnswersOne (c : CallAt) (status : ℕ) (before after : Option (List ℕ)) : Type 0 where
-  pub answer : Answer
+  pub answer : AnswerAt
   pub comes : Comes c answer
   pub answers : Answers c status before after answer
 
 -- a front of the text of an answer that comes stands there
 pub record WroteFront (c : CallAt) (before after : Option (List ℕ)) : Type 0 where
-  pub answer : Answer
+  pub answer : AnswerAt
   pub comes : Comes c answer
   pub front : WroteFrontOf (text_of answer) before after
 

@@ -1,15 +1,9 @@
 -- Inputs that are valid for a task, and what is told of them.
-use Rattle.std.specs.Prelude.{◌≡◌, ◌≤◌, ℕ, ◌+◌, ◌*◌, Bool, false, List, [], ◌∷◌, ◌++◌, Option, Some, codes, decimal, length, max, ⊤}
+use Rattle.std.specs.Prelude.{◌≡◌, ◌≤◌, ℕ, ◌+◌, ◌*◌, Bool, false, List, [], ◌∷◌, ◌++◌, Option, Some, codes, decimal, length}
 use Rattle.sj_base.specs.Stream.{Rose, put_behind}
 use Rattle.sj_lang.specs.FileAt.{FileAt}
 use Rattle.sj_grammar.specs.Files.{IsFile}
 use Rattle.sj_acceptance.specs.Accepted.{IsAccepted}
-use Rattle.sj_lang.specs.Place.{Place}
-use Rattle.sj_log.specs.LogText.{SpellsLog}
-use Rattle.sj_rules.specs.History.{IsHistory}
-use Rattle.sj_rules.specs.Log.{LineAt}
-use Rattle.sj_rules.specs.World.{WorldAt}
-use Rattle.sj_semantics.specs.Program.{Program}
 use Rattle.sj_semantics.specs.Run.{end_of}
 use Rattle.sj_semantics.specs.State.{verdict_of}
 use Rattle.sj_semantics.specs.Transcript.{line_of, transcript_of}
@@ -18,24 +12,13 @@ use Rattle.sj_command.specs.declared.tasks.Task.{Task}
 use Rattle.sj_command.specs.declared.tasks.Task.TheVariants as tasks
 use Rattle.sj_command.specs.Task.{Asks}
 use Rattle.sj_tool.specs.Calls.{CallAt, LinksHold}
-use Rattle.sj_tool.specs.Tasks.{Checks, HasParts, RunsParties, limit_of}
+use Rattle.sj_tool.specs.Runs.{HasBegun}
+use Rattle.sj_tool.specs.Tasks.{Checks, HasParts, Replays, RunsParties, limit_of}
 use Rattle.sj_tool.specs.Shown.{shown}
 use Rattle.sj_tool.specs.Texts.{counts_of, verdict_status}
 
--- each line of the log is the one that is due, from the start of the file on
-pub record IsFittingLog (file : FileAt) (log : List ℕ) : Type 0 where
-  pub lines : List LineAt
-  pub core : WorldAt Place Program
-  pub spells : SpellsLog file log lines
-  pub leads : IsHistory max file lines core
-
--- the log is one that fits, where the task replays it
-abbrev pub FitsLog : Task → FileAt → List ℕ → Type 0
-FitsLog (tasks.Replay l) file log = IsFittingLog file log
-FitsLog task file log = ⊤
-
 -- all that is left, no more than the task takes, has the text of the file, and no fault was counted; the file is accepted where the task checks
--- it, its log fits, and the links hold where its parties run
+-- it, each line of a log that is replayed is the one that is due, and the links hold where parties run
 pub record IsValidFile (c : CallAt) (task : Task) (file : FileAt) : Type 0 where
   pub bytes : List ℕ
   pub left : c.left ≡ Some bytes
@@ -44,7 +27,7 @@ pub record IsValidFile (c : CallAt) (task : Task) (file : FileAt) : Type 0 where
   pub log : List ℕ
   pub parts : HasParts task bytes text log
   pub stands : IsFile text file
-  pub fits : FitsLog task file log
+  pub fits : Replays task → HasBegun c.links task log file
   pub no_fault : ¬ Rose c.faults c.faults_after
   pub accepted : Checks task → IsAccepted file
   pub links : RunsParties task → LinksHold c.links

@@ -11,8 +11,7 @@ use Rattle.sj_end.specs.Lines.{line_at}
 use Rattle.sj_run.specs.Damage.{IsDamage}
 use Rattle.sj_run.specs.declared.refusal.RunRefusal.{RunRefusal}
 use Rattle.sj_run.specs.declared.refusal.RunRefusal.TheVariants as refusals
-use Rattle.sj_tool.specs.declared.answers.Answer.{Answer}
-use Rattle.sj_tool.specs.declared.answers.Answer.TheVariants.{LinkFault, Damaged, Misfit}
+use Rattle.sj_tool.specs.AnswerAt.{AnswerAt, LinkFault, Damaged, Misfit}
 
 -- words with one space between each two
 abbrev pub spaced : List (List ℕ) → List ℕ
@@ -60,17 +59,17 @@ pub record IsMisfitText (file : FileAt) (log text : List ℕ) : Type 0 where
   pub told : text ≡ entry_line misfit_head file number logged other
 
 -- the answer tells that damage
-abbrev pub IsDamagedBy : FileAt → ℕ → LineAt → Option LineAt → Answer → Type 0
-IsDamagedBy file number logged other (Damaged text) = text.items ≡ entry_line damage_head file number logged other
+abbrev pub IsDamagedBy : FileAt → ℕ → LineAt → Option LineAt → AnswerAt → Type 0
+IsDamagedBy file number logged other (Damaged text) = text ≡ entry_line damage_head file number logged other
 IsDamagedBy file number logged other _ = ⊥
 
 -- the answer tells that misfit
-abbrev pub IsToldMisfit : FileAt → ℕ → LineAt → Option LineAt → Answer → Type 0
-IsToldMisfit file number logged other (Misfit text) = text.items ≡ entry_line misfit_head file number logged other
+abbrev pub IsToldMisfit : FileAt → ℕ → LineAt → Option LineAt → AnswerAt → Type 0
+IsToldMisfit file number logged other (Misfit text) = text ≡ entry_line misfit_head file number logged other
 IsToldMisfit file number logged other _ = ⊥
 
 -- the answer tells the refusal; want of memory has no answer
-abbrev pub IsToldSo : FileAt → RunRefusal → Answer → Type 0
+abbrev pub IsToldSo : FileAt → RunRefusal → AnswerAt → Type 0
 IsToldSo file refusals.LinkFault a = a ≡ LinkFault
 IsToldSo file (refusals.Damaged number logged other) a = IsDamagedBy file number (line_at logged) (option_map line_at other) a
 IsToldSo file refusals.NoMemory a = ⊥

@@ -1,4 +1,5 @@
 pub mod Acting
+pub mod AnswerAt
 pub mod Answers
 pub mod Calls
 pub mod Completeness

@@ -9,8 +9,7 @@ use Rattle.sj_rules.specs.Log.{LineAt}
 use Rattle.sj_rules.specs.Party.{play_of}
 use Rattle.sj_rules.specs.Start.{core_start}
 use Rattle.sj_tool.specs.Entries.{IsToldMisfit}
-use Rattle.sj_tool.specs.declared.answers.Answer.{Answer}
-use Rattle.sj_tool.specs.declared.answers.Answer.TheVariants.{LogFault}
+use Rattle.sj_tool.specs.AnswerAt.{AnswerAt, LogFault}
 use Rattle.sj_tool.specs.declared.replaying.ReplayFault.{ReplayFault}
 use Rattle.sj_tool.specs.declared.replaying.ReplayFault.TheVariants as faults
 
@@ -28,7 +27,7 @@ IsRefusedBy file log (faults.Entry number logged other) =
 IsRefusedBy file log faults.NoMemory = ⊤
 
 -- the answer tells the fault; want of memory has no answer
-abbrev pub IsToldFault : FileAt → ReplayFault → Answer → Type 0
+abbrev pub IsToldFault : FileAt → ReplayFault → AnswerAt → Type 0
 IsToldFault file (faults.Text rule line) a = a ≡ LogFault rule line
 IsToldFault file (faults.Entry number logged other) a = IsToldMisfit file number (line_at logged) (option_map line_at other) a
 IsToldFault file faults.NoMemory a = ⊥

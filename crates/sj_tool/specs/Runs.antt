@@ -6,7 +6,7 @@ use Rattle.sj_acceptance.specs.Accepted.{IsAccepted}
 use Rattle.sj_semantics.specs.declared.Verdict.{Verdict}
 use Rattle.sj_semantics.specs.Program.{Program}
 use Rattle.sj_semantics.specs.Run.{IsRun, end_of}
-use Rattle.sj_semantics.specs.State.{IsSettled, verdict_of}
+use Rattle.sj_semantics.specs.State.{verdict_of}
 use Rattle.sj_semantics.specs.Transcript.{line_of, transcript_of}
 use Rattle.sj_semantics.specs.World.{World}
 use Rattle.sj_rules.specs.Drain.{IsDrained}
@@ -21,7 +21,7 @@ use Rattle.sj_command.specs.declared.tasks.Task.{Task}
 use Rattle.sj_command.specs.declared.tasks.Task.TheVariants as tasks
 use Rattle.sj_log.specs.LogText.{SpellsLog}
 use Rattle.sj_tool.specs.Calls.{LinkUseAt}
-use Rattle.sj_tool.specs.Tasks.{looks_of}
+use Rattle.sj_tool.specs.Tasks.{HasEvents, looks_of}
 use Rattle.sj_tool.specs.Shown.{shown}
 use Rattle.sj_tool.specs.Sums.{summary}
 use Rattle.sj_tool.specs.Texts.{counts_of}
@@ -39,17 +39,19 @@ abbrev pub IsGiven : LinkUseAt → Task → (log : List ℕ) → FileAt → List
 IsGiven links (tasks.Replay l) log file lines left = SpellsLog file log lines
 IsGiven links task log file lines left = links.tells ≡ true → IsShown file (looks_of task) links.keeps lines left
 
--- the lines that are given lead from the start of the file to a core world; a drain goes on from there, and leaves nothing to do
-pub record HasHistory (links : LinkUseAt) (task : Task) (log : List ℕ) (file : FileAt) (history : List LineAt) (core : WorldAt Place Program) : Type 0 where
-  -- the lines, and the world to which they lead
+-- lines that are given lead from the start of the file to a core world
+pub record HasBegun (links : LinkUseAt) (task : Task) (log : List ℕ) (file : FileAt) : Type 0 where
   pub lines : List LineAt
   pub left : WorldAt Place Program
-  pub begins : IsHistory max file lines left
+  pub leads : IsHistory max file lines left
   pub given : IsGiven links task log file lines left
-  -- behind them come those of a drain
+
+-- a drain goes on from where such lines lead, and leaves nothing to do
+pub record HasHistory (links : LinkUseAt) (task : Task) (log : List ℕ) (file : FileAt) (history : List LineAt) (core : WorldAt Place Program) : Type 0 where
+  pub begun : HasBegun links task log file
   pub more : List LineAt
-  pub all : history ≡ lines ++ more
-  pub drained : IsDrained (play_of file) max (length file.parties) left (map turn_of more) core
+  pub all : history ≡ begun.lines ++ more
+  pub drained : IsDrained (play_of file) max (length file.parties) begun.left (map turn_of more) core
   -- each line is the one that is due, from the start of the file on, and nothing is left to do
   pub run : IsHistory max file history core
   pub quiet : IsQuietAmong (play_of file) (length file.parties) core
@@ -66,31 +68,22 @@ run_text (tasks.Replay l) file history end = transcript_of file end ++ log_part 
 run_text (tasks.Big n) file history end = summary n file end
 run_text _ file history end = []
 
--- the file was run, by its parties over these links or by the log, to that verdict, and what is told of it is printed
-pub record HasRun (links : LinkUseAt) (task : Task) (log : List ℕ) (file : FileAt) (verdict : Verdict) (text : List ℕ) : Type 0 where
-  pub history : List LineAt
-  pub core : WorldAt Place Program
-  pub has : HasHistory links task log file history core
-  -- the plain world to which its acts lead: the end of the file, where nobody can go on
-  pub end : World
-  pub acts : IsRun file (actors history) end
-  pub settled : IsSettled end
-  pub is_end : end ≡ end_of file
-  -- how it stands, and what is printed
-  pub stands : verdict ≡ verdict_of end
-  pub printed : text ≡ run_text task file history end
-
 -- how the file ends, and what the task prints of that history
 abbrev pub IsTold : Task → FileAt → List LineAt → Verdict → List ℕ → Type 0
 IsTold task file history verdict text = (verdict ≡ verdict_of (end_of file)) × (text ≡ run_text task file history (end_of file))
 
+-- the file was run, by its parties over these links or by the log: the acts of a history lead to the end of the file, and it is told
+pub record HasRun (links : LinkUseAt) (task : Task) (log : List ℕ) (file : FileAt) (verdict : Verdict) (text : List ℕ) : Type 0 where
+  pub history : List LineAt
+  pub core : WorldAt Place Program
+  pub has : HasHistory links task log file history core
+  pub acts : IsRun file (actors history) (end_of file)
+  pub told : IsTold task file history verdict text
+
 -- it plays the file to its end: how it ended, and what is printed
 abbrev pub Plays : LinkUseAt → Task → (log : List ℕ) → FileAt → Verdict → List ℕ → Type 0
 Plays links tasks.Sim log file verdict text = HasSimulated file verdict text
-Plays links (tasks.Run l looks) log file verdict text = HasRun links (tasks.Run l looks) log file verdict text
-Plays links (tasks.Replay l) log file verdict text = HasRun links (tasks.Replay l) log file verdict text
-Plays links (tasks.Big n) log file verdict text = HasRun links (tasks.Big n) log file verdict text
-Plays links _ log file verdict text = ⊥
+Plays links task log file verdict text = HasEvents task × HasRun links task log file verdict text
 
 -- what a task prints of a file that it doesn't play
 abbrev pub Prints : Task → FileAt → List ℕ → Type 0

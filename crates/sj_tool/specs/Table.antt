@@ -1,18 +1,20 @@
 -- What is asked of the table of answers itself.
-use Rattle.std.specs.Prelude.{◌≡◌, ◌≢◌, ◌⊎◌, ◌-◌, ◌^◌, ℕ, true, List, ◌++◌, Option, ⊤}
-use Rattle.sj_base.specs.Stream.{Rose}
+use Rattle.std.specs.Prelude.{◌≡◌, ◌≢◌, ◌⊎◌, ◌<◌, ◌≤◌, ◌-◌, ◌^◌, ℕ, true, List, [], ◌++◌, Option, Some, ⊤}
+use Rattle.sj_base.specs.Stream.{CameOf, Rose}
 use Rattle.sj_lang.specs.FileAt.{FileAt}
+use Rattle.sj_grammar.specs.Files.{IsFile}
+use Rattle.sj_acceptance.specs.Accepted.{IsAccepted}
 use Rattle.sj_rules.specs.Log.{LineAt}
 use Rattle.sj_semantics.specs.Run.{end_of}
 use Rattle.sj_semantics.specs.Transcript.{transcript_of}
-use Rattle.sj_tool.specs.declared.answers.Answer.{Answer}
+use Rattle.sj_tool.specs.AnswerAt.{AnswerAt, Usage, ReadFault, TooLarge, LinkFault, Damaged, Ran, Made}
 use Rattle.sj_command.specs.declared.tasks.Task.{Task}
 use Rattle.sj_command.specs.declared.tasks.Task.TheVariants as tasks
-use Rattle.sj_tool.specs.declared.answers.Answer.TheVariants.{Usage, ReadFault, TooLarge, LinkFault, Damaged, Ran, Made}
+use Rattle.sj_command.specs.Task.{Asks}
 use Rattle.sj_tool.specs.Calls.{CallAt, LinksHold}
-use Rattle.sj_tool.specs.Tasks.{AsksFor, Replays, RunsParties}
+use Rattle.sj_tool.specs.Tasks.{AsksFor, HasInput, Reads, Replays, RunsParties, limit_of}
 use Rattle.sj_tool.specs.Answers.{Answers}
-use Rattle.sj_tool.specs.Runs.{log_part}
+use Rattle.sj_tool.specs.Runs.{HasBegun, log_part}
 use Rattle.sj_tool.specs.Texts.{status_of, text_of}
 
 -- it prints the history of parties that ran
@@ -29,13 +31,13 @@ pub record AreOneLog (s t : List ℕ) : Type 0 where
   pub second_text : t ≡ transcript_of file (end_of file) ++ log_part true file second
 
 -- the two have one status and one text, up to the history where the words ask for it
-pub record AreOne (c : CallAt) (a b : Answer) : Type 0 where
+pub record AreOne (c : CallAt) (a b : AnswerAt) : Type 0 where
   pub status : status_of a ≡ status_of b
   pub text : (text_of a ≡ text_of b) ⊎ (AsksFor LogsRun c × AreOneLog (text_of a) (text_of b))
 
 -- an answer that is one with that one is written, and its status is answered
-pub record AnswersAs (c : CallAt) (status : ℕ) (before after : Option (List ℕ)) (a : Answer) : Type 0 where
-  pub answer : Answer
+pub record AnswersAs (c : CallAt) (status : ℕ) (before after : Option (List ℕ)) (a : AnswerAt) : Type 0 where
+  pub answer : AnswerAt
   pub one : AreOne c answer a
   pub answers : Answers c status before after answer
 
@@ -43,13 +45,30 @@ pub record AnswersAs (c : CallAt) (status : ℕ) (before after : Option (List �
 abbrev pub CanRise : CallAt → Type 0
 CanRise c = c.faults ≢ 2 ^ 64 - 1
 
+-- a task that reads took all that was left, or more than it may have
+abbrev pub WasRead : Task → CallAt → Type 0
+WasRead task c =
+    CameOf (λ n. limit_of task < n) c.left c.left_after
+    ⊎ (CameOf (λ n. n ≤ limit_of task) c.left c.left_after × (c.left_after ≡ Some []))
+
+-- the source was read where the words ask for a task that reads, and else it is as it was
+pub record IsReadAsAsked (c : CallAt) : Type 0 where
+  pub read : (task : Task) → Asks c.words task → Reads task → WasRead task c
+  pub unread : (AsksFor Reads c → ⊥) → c.left_after ≡ c.left
+
+-- where the parties of the call's file run over links that hold, these show lines that lead from its start
+abbrev pub ShowsItsRun : CallAt → Type 0
+ShowsItsRun c =
+    (task : Task) (bytes : List ℕ) (file : FileAt) → Asks c.words task → RunsParties task → HasInput c task bytes
+    → IsFile bytes file → IsAccepted file → LinksHold c.links → HasBegun c.links task [] file
+
 -- where parties run, the links hold
 abbrev pub RunsWell : CallAt → Type 0
 RunsWell c = AsksFor RunsParties c → LinksHold c.links
 
 -- no fault stands above the answer: what the words or too many bytes tell comes before; else no read fault was counted, and where
 -- parties run the links hold
-abbrev pub NoFaultAbove : CallAt → Answer → Type 0
+abbrev pub NoFaultAbove : CallAt → AnswerAt → Type 0
 NoFaultAbove c Usage = ⊤
 NoFaultAbove c ReadFault = ⊥
 NoFaultAbove c TooLarge = AsksFor Replays c → ¬ Rose c.faults c.faults_after

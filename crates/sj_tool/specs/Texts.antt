@@ -6,8 +6,7 @@ use Rattle.sj_grammar.specs.declared.tokens.Rule.TheVariants.{P1, P2, P3, P4, P5
 use Rattle.sj_semantics.specs.declared.Verdict.{Verdict}
 use Rattle.sj_semantics.specs.declared.Verdict.TheVariants.{Done, Blocked, Long}
 use Rattle.sj_semantics.specs.Transcript.{line_of}
-use Rattle.sj_tool.specs.declared.answers.Answer.{Answer}
-use Rattle.sj_tool.specs.declared.answers.Answer.TheVariants.{Usage, ReadFault, TooLarge, Syntax, Check, LogFault, Misfit, LinkFault, Damaged, Ran, Printed, Made}
+use Rattle.sj_tool.specs.AnswerAt.{AnswerAt, Usage, ReadFault, TooLarge, Syntax, Check, LogFault, Misfit, LinkFault, Damaged, Ran, Printed, Made}
 
 abbrev pub rule_number : Rule → ℕ
 rule_number P1 = 1
@@ -21,7 +20,7 @@ verdict_status Done = 0
 verdict_status Blocked = 6
 verdict_status Long = 7
 
-abbrev pub status_of : Answer → ℕ
+abbrev pub status_of : AnswerAt → ℕ
 status_of Usage = 1
 status_of ReadFault = 2
 status_of TooLarge = 3
@@ -35,27 +34,23 @@ status_of (Ran verdict text) = verdict_status verdict
 status_of (Printed text) = 0
 status_of (Made text) = 0
 
--- which rule of acceptance is broken, and on which line
-abbrev pub check_line : ℕ → ℕ → List ℕ
-check_line rule line = line_of (codes "check" ∷ (67 ∷ decimal rule) ∷ codes "at" ∷ decimal line ∷ [])
+-- which rule is broken, of files or of logs, and on which line
+abbrev pub rule_line : (kind letter : List ℕ) → (rule line : ℕ) → List ℕ
+rule_line kind letter rule line = line_of (kind ∷ (letter ++ decimal rule) ∷ codes "at" ∷ decimal line ∷ [])
 
--- which rule of the text of a log is broken, and on which line
-abbrev pub log_line : ℕ → ℕ → List ℕ
-log_line rule line = line_of (codes "log" ∷ (76 ∷ decimal rule) ∷ codes "at" ∷ decimal line ∷ [])
-
-abbrev pub text_of : Answer → List ℕ
+abbrev pub text_of : AnswerAt → List ℕ
 text_of Usage = codes "usage: sj check | show | sim | run [--log] [--looks N] | replay [--log] | make N | big N\n"
 text_of ReadFault = codes "read fault\n"
 text_of TooLarge = codes "too large\n"
 text_of (Syntax fault) = line_of (codes "syntax" ∷ (80 ∷ decimal (rule_number fault.rule)) ∷ codes "at" ∷ (decimal fault.line ++ 58 ∷ decimal fault.column) ∷ [])
-text_of (Check rule line) = check_line rule line
-text_of (LogFault rule line) = log_line rule line
-text_of (Misfit text) = text.items
+text_of (Check rule line) = rule_line (codes "check") (codes "C") rule line
+text_of (LogFault rule line) = rule_line (codes "log") (codes "L") rule line
+text_of (Misfit text) = text
 text_of LinkFault = codes "link fault\n"
-text_of (Damaged text) = text.items
-text_of (Ran verdict text) = text.items
-text_of (Printed text) = text.items
-text_of (Made text) = text.items
+text_of (Damaged text) = text
+text_of (Ran verdict text) = text
+text_of (Printed text) = text
+text_of (Made text) = text
 
 -- the counts of an accepted file
 abbrev pub counts_of : FileAt → List ℕ

@@ -1,5 +1,5 @@
 //! The acts of a history, done in the plain world.
-ghost use Rattle.std.specs.Prelude.{◌≡◌, ◌++◌, ◌<◌, IfOk, OnOk, Some, map};
+ghost use Rattle.std.specs.Prelude.{◌≡◌, ◌<◌, IfOk, OnOk, Some, map};
 ghost use Rattle.sj_check.specs.Held.{file_in};
 ghost use Rattle.sj_end.specs.Lines.{event_at, line_at};
 ghost use Rattle.sj_lang.specs.FileView.{file_of};

@@ -1,10 +1,10 @@
 //! From the words and the input to the answer.
 ghost use Rattle.std.specs.Prelude.{◌≡◌, ◌≤◌, IfOk, length};
-ghost use Rattle.sj_command.specs.declared.tasks.Task.TheVariants as tasks;
 ghost use Rattle.sj_generator.specs.Generated.{generated};
+ghost use Rattle.sj_tool.specs.AnswerAt.{answer_at};
 ghost use Rattle.sj_tool.specs.Answers.{AnswersBytes, AnswersText, Comes};
 ghost use Rattle.sj_tool.specs.Calls.{call, link_use};
-ghost use Rattle.sj_tool.specs.Tasks.{Takes, limit_of};
+ghost use Rattle.sj_tool.specs.Tasks.{Takes, file_limit, limit_of, source_limit};
 
 use crate::answers::Answer;
 use crate::files::{counted, ran_by_links, ran_by_log, shown, simulated_file};
@@ -34,8 +34,8 @@ pub(crate) fn answer_to<R: Threads + Sync, S: Source, L: Links, G: Gate>(
     links: &mut L,
     gate: &G,
 ) -> Result<Answer, NoMemory>
-    ensures { IfOk result (Comes (call S.left S.faults words.now src.old src.new
-        (link_use L.tells L.faults L.sent L.got L.vain_out L.vain_in links.old links.new))) }
+    ensures { IfOk result (λ a. Comes (call S.left S.faults words.now src.old src.new
+        (link_use L.tells L.faults L.sent L.got L.vain_out L.vain_in links.old links.new)) (answer_at a)) }
 {
     let Some(task) = task_in(alloc, words)? else {
         return Ok(Answer::Usage);
@@ -85,8 +85,9 @@ fn answer_to_bytes<R: Threads + Sync, L: Links, G: Gate>(
 ) -> Result<Answer, NoMemory>
     requires few { length bytes.now ≤ limit_of task }
     requires takes { Takes task }
-    ensures { IfOk result (AnswersBytes (link_use L.tells L.faults L.sent L.got L.vain_out L.vain_in links.old links.new)
-        task bytes.now) }
+    ensures { IfOk result (λ a. AnswersBytes
+        (link_use L.tells L.faults L.sent L.got L.vain_out L.vain_in links.old links.new)
+        task bytes.now (answer_at a)) }
 {
     let Task::Replay { .. } = task else {
         let answer = answer_to_text(rt, alloc, task, bytes, b"", links, gate)?;
@@ -112,11 +113,12 @@ fn answer_to_text<R: Threads + Sync, L: Links, G: Gate>(
     links: &mut L,
     gate: &G,
 ) -> Result<Answer, NoMemory>
-    requires few { length text.now ≤ 65536 }
-    requires log { length log.now ≤ 16777216 }
+    requires few { length text.now ≤ file_limit }
+    requires log { length log.now ≤ source_limit }
     requires takes { Takes task }
-    ensures { IfOk result (AnswersText (link_use L.tells L.faults L.sent L.got L.vain_out L.vain_in links.old links.new)
-        task log.now text.now) }
+    ensures { IfOk result (λ a. AnswersText
+        (link_use L.tells L.faults L.sent L.got L.vain_out L.vain_in links.old links.new)
+        task log.now text.now (answer_at a)) }
 {
     let file = match parse_file(alloc, text) {
         Ok(file) => file,

@@ -1,5 +1,6 @@
 //! What the top call answers.
-ghost use Rattle.std.specs.Prelude.{◌≡◌, ◌++◌, ◌∷◌, List, ℕ, IfOk};
+ghost use Rattle.std.specs.Prelude.{◌≡◌, IfOk};
+ghost use Rattle.sj_tool.specs.AnswerAt.{Check, LogFault, Syntax, answer_at};
 ghost use Rattle.sj_tool.specs.Texts.{rule_number, status_of, text_of, verdict_status};
 
 use sj_base::NoMemory;
@@ -41,7 +42,7 @@ pub enum Answer {
 impl Answer {
     /// The status with which the program ends.
     pub fn status(&self) -> u8
-        ensures { result ≡ status_of self.now }
+        ensures { result ≡ status_of (answer_at self.now) }
     {
         match self {
             Answer::Usage => 1,
@@ -59,7 +60,7 @@ impl Answer {
 
     /// What is written.
     pub fn into_text(self, alloc: Global) -> Result<Vec<u8>, NoMemory>
-        ensures { IfOk result (λ text. text.items ≡ text_of self) }
+        ensures { IfOk result (λ text. text.items ≡ text_of (answer_at self)) }
     {
         match self {
             Answer::Usage => copied_text(
@@ -97,7 +98,7 @@ fn copied_text(alloc: Global, bytes: &[u8]) -> Result<Vec<u8>, NoMemory>
 }
 
 fn syntax_text(alloc: Global, fault: Fault) -> Result<Vec<u8>, NoMemory>
-    ensures { IfOk result (λ text. text.items ≡ text_of (Answer.Syntax fault)) }
+    ensures { IfOk result (λ text. text.items ≡ text_of (Syntax fault)) }
 {
     let mut text = Vec::new(alloc);
     put(&mut text, b"syntax P")?;
@@ -111,7 +112,7 @@ fn syntax_text(alloc: Global, fault: Fault) -> Result<Vec<u8>, NoMemory>
 }
 
 fn check_text(alloc: Global, rule: u8, line: u32) -> Result<Vec<u8>, NoMemory>
-    ensures { IfOk result (λ text. text.items ≡ text_of (Answer.Check rule line)) }
+    ensures { IfOk result (λ text. text.items ≡ text_of (Check rule line)) }
 {
     let mut text = Vec::new(alloc);
     put(&mut text, b"check C")?;
@@ -123,7 +124,7 @@ fn check_text(alloc: Global, rule: u8, line: u32) -> Result<Vec<u8>, NoMemory>
 }
 
 fn log_fault_text(alloc: Global, rule: u8, at: u32) -> Result<Vec<u8>, NoMemory>
-    ensures { IfOk result (λ text. text.items ≡ text_of (Answer.LogFault rule at)) }
+    ensures { IfOk result (λ text. text.items ≡ text_of (LogFault rule at)) }
 {
     let mut text = Vec::new(alloc);
     put(&mut text, b"log L")?;

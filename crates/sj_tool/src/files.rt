@@ -1,12 +1,13 @@
 //! What answers a file that was read.
-ghost use Rattle.std.specs.Prelude.{◌≡◌, ◌≤◌, ℕ, List, IfOk, length};
+ghost use Rattle.std.specs.Prelude.{◌≤◌, ℕ, List, IfOk, length};
 ghost use Rattle.sj_lang.specs.FileView.{file_of};
 ghost use Rattle.sj_lang.specs.Limits.{limits, IsWithin};
 ghost use Rattle.sj_command.specs.declared.tasks.Task.TheVariants as tasks;
+ghost use Rattle.sj_tool.specs.AnswerAt.{answer_at};
 ghost use Rattle.sj_tool.specs.Answers.{AnswersFile};
 ghost use Rattle.sj_tool.specs.Calls.{LinkUseAt, link_use};
 ghost use Rattle.sj_tool.specs.Entries.{IsToldSo};
-ghost use Rattle.sj_tool.specs.Tasks.{Replays as IsReplay, RunsParties};
+ghost use Rattle.sj_tool.specs.Tasks.{Replays as IsReplay, RunsParties, source_limit};
 ghost use Rattle.sj_tool.specs.Outcomes.{IsJudged};
 ghost use Rattle.sj_tool.specs.Replays.{IsToldFault};
 
@@ -30,7 +31,7 @@ use std::thread::Threads;
 /// The protocols of a file, and their duals.
 pub(crate) fn shown(alloc: Global, file: &File) -> Result<Answer, NoMemory>
     ensures { IfOk result (λ a. (links : LinkUseAt) (log : List ℕ)
-        → AnswersFile links tasks.Show log (file_of file.now) a) }
+        → AnswersFile links tasks.Show log (file_of file.now) (answer_at a)) }
 {
     Ok(Answer::Printed(shown_text(alloc, file)?))
 }
@@ -39,7 +40,7 @@ pub(crate) fn shown(alloc: Global, file: &File) -> Result<Answer, NoMemory>
 pub(crate) fn counted(alloc: Global, file: File) -> Result<Answer, NoMemory>
     requires { IsWithin limits (file_of file) }
     ensures { IfOk result (λ a. (links : LinkUseAt) (log : List ℕ)
-        → AnswersFile links tasks.Check log (file_of file) a) }
+        → AnswersFile links tasks.Check log (file_of file) (answer_at a)) }
 {
     match judge(alloc, file)? {
         Judged::Accepted(accepted) => { Ok(Answer::Printed(counts_text(alloc, accepted.file())?)) }
@@ -51,7 +52,7 @@ pub(crate) fn counted(alloc: Global, file: File) -> Result<Answer, NoMemory>
 pub(crate) fn simulated_file(alloc: Global, file: File) -> Result<Answer, NoMemory>
     requires { IsWithin limits (file_of file) }
     ensures { IfOk result (λ a. (links : LinkUseAt) (log : List ℕ)
-        → AnswersFile links tasks.Sim log (file_of file) a) }
+        → AnswersFile links tasks.Sim log (file_of file) (answer_at a)) }
 {
     match judge(alloc, file)? {
         Judged::Accepted(accepted) => {
@@ -75,7 +76,7 @@ pub(crate) fn ran_by_links<R: Threads + Sync, L: Links, G: Gate>(
     requires runs { RunsParties task }
     ensures { IfOk result (λ a. (log : List ℕ)
         → AnswersFile (link_use L.tells L.faults L.sent L.got L.vain_out L.vain_in links.old links.new)
-        task log (file_of file) a) }
+        task log (file_of file) (answer_at a)) }
 {
     let accepted = match judge(alloc, file)? {
         Judged::Accepted(accepted) => accepted,
@@ -99,8 +100,8 @@ pub(crate) fn ran_by_log(
 ) -> Result<Answer, NoMemory>
     requires within { IsWithin limits (file_of file) }
     requires replays { IsReplay task }
-    requires few { length log.now ≤ 16777216 }
-    ensures { IfOk result (λ a. (links : LinkUseAt) → AnswersFile links task log.now (file_of file) a) }
+    requires few { length log.now ≤ source_limit }
+    ensures { IfOk result (λ a. (links : LinkUseAt) → AnswersFile links task log.now (file_of file) (answer_at a)) }
 {
     let accepted = match judge(alloc, file)? {
         Judged::Accepted(accepted) => accepted,
@@ -117,7 +118,7 @@ pub(crate) fn ran_by_log(
 
 // What is answered where the parties of a file couldn't be run.
 fn refused(alloc: Global, file: &File, refusal: RunRefusal) -> Result<Answer, NoMemory>
-    ensures { IfOk result (IsToldSo (file_of file.now) refusal) }
+    ensures { IfOk result (λ a. IsToldSo (file_of file.now) refusal (answer_at a)) }
 {
     match refusal {
         RunRefusal::LinkFault => Ok(Answer::LinkFault),
@@ -135,7 +136,7 @@ fn refused(alloc: Global, file: &File, refusal: RunRefusal) -> Result<Answer, No
 
 // What is answered where a log couldn't be replayed.
 fn not_replayed(alloc: Global, file: &File, fault: ReplayFault) -> Result<Answer, NoMemory>
-    ensures { IfOk result (IsToldFault (file_of file.now) fault) }
+    ensures { IfOk result (λ a. IsToldFault (file_of file.now) fault (answer_at a)) }
 {
     match fault {
         ReplayFault::Text { rule, line } => Ok(Answer::LogFault(rule, line)),

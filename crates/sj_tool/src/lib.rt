@@ -16,5 +16,5 @@ mod showing;
 mod summing;
 mod top;
 
-pub use laws::the_table_gives_one_answer;
+pub use laws::{the_table_gives_one_answer, the_table_has_an_answer};
 pub use top::sj;

@@ -6,11 +6,10 @@ ghost use Rattle.sj_end.specs.Lines.{line_at};
 ghost use Rattle.sj_lang.specs.FileView.{file_of};
 ghost use Rattle.sj_log.specs.LogText.{SpellsLog};
 ghost use Rattle.sj_plain.specs.Kept.{without_words};
-ghost use Rattle.sj_rules.specs.History.{IsHistory, IsQuietAmong};
-ghost use Rattle.sj_rules.specs.Party.{play_of};
+ghost use Rattle.sj_rules.specs.History.{IsHistory};
 ghost use Rattle.sj_command.specs.declared.tasks.Task.TheVariants as tasks;
 ghost use Rattle.sj_tool.specs.Calls.{LinkUseAt};
-ghost use Rattle.sj_tool.specs.Tasks.{Replays};
+ghost use Rattle.sj_tool.specs.Tasks.{Replays, source_limit};
 ghost use Rattle.sj_tool.specs.Replays.{IsRefusedBy, IsStopped};
 ghost use Rattle.sj_tool.specs.Runs.{HasHistory, HasRun};
 
@@ -61,7 +60,7 @@ pub(crate) fn replayed(
     log: &[u8],
 ) -> Result<(Verdict, Vec<u8>), ReplayFault>
     requires replays { Replays task }
-    requires few { length log.now ≤ 16777216 }
+    requires few { length log.now ≤ source_limit }
     ensures ran { IfOk result (λ p. (links : LinkUseAt)
         → HasRun links task log.now (file_of (file_in accepted.now)) p.0 p.1.items) }
     ensures refused { IfErr result (IsRefusedBy (file_of (file_in accepted.now)) log.now) }
@@ -73,12 +72,9 @@ pub(crate) fn replayed(
 
 // The core world to which the log leads, after all that can still happen in it.
 fn drained(alloc: Global, accepted: &Accepted, log: &[u8]) -> Result<World, ReplayFault>
-    requires few { length log.now ≤ 16777216 }
+    requires few { length log.now ≤ source_limit }
     ensures has { IfOk result (λ w. (links : LinkUseAt) (l : Bool)
         → HasHistory links (tasks.Replay l) log.now (file_of (file_in accepted.now)) (history_of w) (world_at w)) }
-    ensures run { IfOk result (λ w. IsHistory max (file_of (file_in accepted.now)) (history_of w) (world_at w)) }
-    ensures quiet { IfOk result (λ w. IsQuietAmong (play_of (file_of (file_in accepted.now)))
-        (length (file_of (file_in accepted.now)).parties) (world_at w)) }
     ensures refused { IfErr result (IsRefusedBy (file_of (file_in accepted.now)) log.now) }
 {
     let lines = lines_of(alloc, accepted, log)?;
@@ -89,7 +85,7 @@ fn drained(alloc: Global, accepted: &Accepted, log: &[u8]) -> Result<World, Repl
 
 // The lines of the log.
 fn lines_of(alloc: Global, accepted: &Accepted, log: &[u8]) -> Result<Vec<Line>, ReplayFault>
-    requires few { length log.now ≤ 16777216 }
+    requires few { length log.now ≤ source_limit }
     ensures spells { IfOk result (λ v. SpellsLog (file_of (file_in accepted.now)) log.now (map line_at v.items)) }
     ensures refused { IfErr result (IsRefusedBy (file_of (file_in accepted.now)) log.now) }
 {

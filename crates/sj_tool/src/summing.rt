@@ -1,11 +1,11 @@
 //! How much was done in a plain world.
-ghost use Rattle.std.specs.Prelude.{◌≡◌, ◌≤◌, IfOk, OnOk, ◌++◌, length};
+ghost use Rattle.std.specs.Prelude.{◌≡◌, ◌≤◌, IfOk, OnOk, ◌++◌};
 ghost use Rattle.sj_lang.specs.FileView.{file_of};
 ghost use Rattle.sj_plain.specs.Plain.{party_count, session_count, world_at};
 ghost use Rattle.sj_generator_laws.specs.Counts.{messages_in, steps_in};
 ghost use Rattle.sj_semantics.specs.Transcript.{line_of, verdict_word};
 ghost use Rattle.sj_tool.specs.Sums.{summary, sums_line};
-ghost use Rattle.std.specs.Prelude.{List, [], ◌∷◌, ◌+◌, decimal};
+ghost use Rattle.std.specs.Prelude.{[], ◌∷◌, ◌+◌, decimal};
 
 use sj_base::{EndId, NoMemory};
 use sj_lang::File;

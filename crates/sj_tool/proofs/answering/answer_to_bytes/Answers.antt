@@ -1,5 +1,6 @@
 use Rattle.std.proofs.Common.{◌≤◌, length, sym, subst, arith}
 use Rattle.sj_command.specs.declared.tasks.Task.{Task}
+use Rattle.sj_tool.specs.AnswerAt.{answer_at}
 use Rattle.sj_tool.specs.Calls.{LinkUseAt, link_use}
 use Rattle.sj_tool.specs.Tasks.{HasParts, file_limit}
 use Rattle.sj_tool.proofs.FileAnswers.{answers_bytes}
@@ -13,4 +14,4 @@ returns g c =
     let log = c.in-Some.log.now in
     let few : length text ≤ file_limit = omega (arith, c.if-text-gt-MAX_FILE.false) in
     let parts : HasParts c.args.task bytes text log = subst (λ (t : Task). HasParts t bytes text log) (sym c.in-Replay.is) (c.in-Some.ensures.some, few) in
-    answers_bytes links c.args.task bytes text log c.in_ok-answer-2.answer parts c.in_ok-answer-2.ensures
+    answers_bytes links c.args.task bytes text log (answer_at c.in_ok-answer-2.answer) parts c.in_ok-answer-2.ensures

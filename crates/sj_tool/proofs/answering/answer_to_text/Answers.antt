@@ -2,6 +2,7 @@ use Rattle.std.proofs.Common.{IfOk, sym, subst}
 use Rattle.sj_command.specs.declared.tasks.Task.{Task}
 use Rattle.sj_command.specs.declared.tasks.Task.TheVariants as tasks
 use Rattle.sj_lang.specs.FileView.{file_of}
+use Rattle.sj_tool.specs.AnswerAt.{answer_at}
 use Rattle.sj_tool.specs.Answers.{AnswersText}
 use Rattle.sj_tool.specs.Calls.{LinkUseAt, link_use}
 use Rattle.sj_tool.proofs.FileAnswers.{any_answers, links_answers, log_answers}
@@ -10,19 +11,19 @@ use Rattle.sj_tool.proofs.answering.answer_to_text.Goals as goal
 pub returns-in-Show : goal.returns-in-Show
 returns-in-Show g c =
     let links : LinkUseAt = link_use g.L.Links.tells g.L.Links.faults g.L.Links.sent g.L.Links.got g.L.Links.vain_out g.L.Links.vain_in c.args.links.now c.args.links.now in
-    subst (λ (t : Task). IfOk c.shown.result (AnswersText links t c.args.log.now c.args.text.now)) (sym c.in-Show.is)
+    subst (λ (t : Task). IfOk c.shown.result (λ a. AnswersText links t c.args.log.now c.args.text.now (answer_at a))) (sym c.in-Show.is)
     (any_answers tasks.Show c.args.text.now (file_of c.in-Ok.file) c.in-Ok.ensures.found links c.args.log.now c.shown.result c.shown.ensures)
 
 pub returns-in-Check : goal.returns-in-Check
 returns-in-Check g c =
     let links : LinkUseAt = link_use g.L.Links.tells g.L.Links.faults g.L.Links.sent g.L.Links.got g.L.Links.vain_out g.L.Links.vain_in c.args.links.now c.args.links.now in
-    subst (λ (t : Task). IfOk c.counted.result (AnswersText links t c.args.log.now c.args.text.now)) (sym c.in-Check.is)
+    subst (λ (t : Task). IfOk c.counted.result (λ a. AnswersText links t c.args.log.now c.args.text.now (answer_at a))) (sym c.in-Check.is)
     (any_answers tasks.Check c.args.text.now (file_of c.in-Ok.file) c.in-Ok.ensures.found links c.args.log.now c.counted.result c.counted.ensures)
 
 pub returns-in-Sim : goal.returns-in-Sim
 returns-in-Sim g c =
     let links : LinkUseAt = link_use g.L.Links.tells g.L.Links.faults g.L.Links.sent g.L.Links.got g.L.Links.vain_out g.L.Links.vain_in c.args.links.now c.args.links.now in
-    subst (λ (t : Task). IfOk c.simulated_file.result (AnswersText links t c.args.log.now c.args.text.now)) (sym c.in-Sim.is)
+    subst (λ (t : Task). IfOk c.simulated_file.result (λ a. AnswersText links t c.args.log.now c.args.text.now (answer_at a))) (sym c.in-Sim.is)
     (any_answers tasks.Sim c.args.text.now (file_of c.in-Ok.file) c.in-Ok.ensures.found links c.args.log.now c.simulated_file.result c.simulated_file.ensures)
 
 pub returns-in-Run : goal.returns-in-Run

@@ -3,6 +3,7 @@ use Rattle.sj_acceptance.specs.Accepted.{IsAccepted}
 use Rattle.sj_check.specs.Held.{file_in}
 use Rattle.sj_lang.specs.FileAt.{FileAt}
 use Rattle.sj_lang.specs.FileView.{file_of}
+use Rattle.sj_tool.specs.AnswerAt.{answer_at}
 use Rattle.sj_tool.specs.Answers.{AnswersFile}
 use Rattle.sj_tool.specs.Calls.{LinkUseAt, link_use}
 use Rattle.sj_tool.specs.Entries.{IsToldSo}
@@ -15,9 +16,9 @@ returns g c log =
     let links : LinkUseAt = link_use g.L.Links.tells g.L.Links.faults g.L.Links.sent g.L.Links.got g.L.Links.vain_out g.L.Links.vain_in c.args.links.now c.ran.new.links in
     let judged = subst (λ j. IsJudged c.args.file j) c.in-Accepted.is c.in_ok-accepted.ensures in
     let same = ap file_of judged.0 in
-    subst (λ (f : FileAt). AnswersFile links c.args.task log f c.in_ok-answer-in-Err.answer) same
-    (told_answers links c.args.task c.requires.runs log (file_of (file_in c.in-Accepted.accepted)) c.in-Err.refusal c.in_ok-answer-in-Err.answer
+    subst (λ (f : FileAt). AnswersFile links c.args.task log f (answer_at c.in_ok-answer-in-Err.answer)) same
+    (told_answers links c.args.task c.requires.runs log (file_of (file_in c.in-Accepted.accepted)) c.in-Err.refusal (answer_at c.in_ok-answer-in-Err.answer)
     (subst (λ (f : FileAt). IsAccepted f) (sym same) judged.1)
     (λ same_refusal. c.in-Err.ensures.link_fault (ap Err same_refusal))
     c.in-Err.ensures.damaged c.in-Err.ensures.telling
-    (subst (λ (f : FileAt). IsToldSo f c.in-Err.refusal c.in_ok-answer-in-Err.answer) (ap file_of c.file.ensures.value) c.in_ok-answer-in-Err.ensures))
+    (subst (λ (f : FileAt). IsToldSo f c.in-Err.refusal (answer_at c.in_ok-answer-in-Err.answer)) (ap file_of c.file.ensures.value) c.in_ok-answer-in-Err.ensures))

@@ -1,11 +1,11 @@
-use Rattle.std.proofs.Common.{List, [], sym, subst}
+use Rattle.std.proofs.Common.{List, sym, subst}
 use Rattle.sj_check.specs.Held.{file_in}
 use Rattle.sj_command.specs.declared.tasks.Task.TheVariants as tasks
 use Rattle.sj_core.specs.World.{history_of, kept_file, party_count, world_at}
 use Rattle.sj_lang.specs.FileView.{file_of}
 use Rattle.sj_log.specs.LogText.{SpellsLog}
 use Rattle.sj_rules.specs.Log.{LineAt}
-use Rattle.sj_tool.proofs.DrainedLemmas.{drained_has, drained_quiet}
+use Rattle.sj_tool.proofs.DrainedLemmas.{drained_has}
 use Rattle.sj_tool.proofs.replaying.drained.Goals as goal
 
 pub returns-clause-has : goal.returns-clause-has
@@ -18,17 +18,3 @@ returns-clause-has c links l =
     let spells = subst (λ (ls : List LineAt). SpellsLog file c.args.log.now ls) (sym begins.history) c.in_ok-lines.ensures.spells in
     drained_has file (kept_file first) (kept_file last) begins.kept c.drain.ensures.kept (party_count first) (party_count last) (world_at first) (world_at last)
     (history_of first) d.drained.lines (history_of last) links (tasks.Replay l) c.args.log.now begins.parties c.drain.ensures.parties d.drained.listed begins.run spells c.drain.ensures.run d.drained.by d.quiet
-
-pub returns-clause-run : goal.returns-clause-run
-returns-clause-run c =
-    let first = c.in_ok-world.world in
-    let last = c.drain.new.self in
-    (drained_quiet (file_of (file_in c.args.accepted.now)) (kept_file first) (kept_file last) c.in_ok-world.ensures.kept c.drain.ensures.kept (party_count first) (party_count last) (world_at first) (world_at last)
-    [] [] (history_of last) c.drain.ensures.parties c.drain.ensures.run c.in_ok-drain.ensures.quiet).0
-
-pub returns-clause-quiet : goal.returns-clause-quiet
-returns-clause-quiet c =
-    let first = c.in_ok-world.world in
-    let last = c.drain.new.self in
-    (drained_quiet (file_of (file_in c.args.accepted.now)) (kept_file first) (kept_file last) c.in_ok-world.ensures.kept c.drain.ensures.kept (party_count first) (party_count last) (world_at first) (world_at last)
-    [] [] (history_of last) c.drain.ensures.parties c.drain.ensures.run c.in_ok-drain.ensures.quiet).1

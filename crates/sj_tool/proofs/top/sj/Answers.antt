@@ -1,4 +1,5 @@
 use Rattle.std.proofs.Common.{rules}
+use Rattle.sj_tool.specs.AnswerAt.{answer_at}
 use Rattle.sj_tool.proofs.Completed.{answered_whole}
 use Rattle.sj_tool.proofs.Exactly.{answered_exactly}
 use Rattle.sj_tool.proofs.HeadlineOfAnswers.{answered_headline}
@@ -6,15 +7,15 @@ use Rattle.sj_tool.proofs.top.sj.Goals as goal
 
 pub returns-in-Ok-write_all_of-clause-exactly : goal.returns-in-Ok-write_all_of-clause-exactly
 returns-in-Ok-write_all_of-clause-exactly g c =
-    answered_exactly _ _ _ (g.S.Source.faults c.args.src.now) (g.S.Source.faults c.answer_to.new.src) _ c.in-Ok.answer _ (g.K.Sink.written c.args.out.now) (g.K.Sink.written c.write_all_of.new.out)
+    answered_exactly _ _ _ (g.S.Source.faults c.args.src.now) (g.S.Source.faults c.answer_to.new.src) _ (answer_at c.in-Ok.answer) _ (g.K.Sink.written c.args.out.now) (g.K.Sink.written c.write_all_of.new.out)
     c.in-Ok.ensures c.status-status.ensures (search rules)
 
 pub returns-in-Ok-write_all_of-clause-headline : goal.returns-in-Ok-write_all_of-clause-headline
 returns-in-Ok-write_all_of-clause-headline g c =
-    answered_headline _ _ _ (g.S.Source.faults c.args.src.now) (g.S.Source.faults c.answer_to.new.src) _ c.in-Ok.answer _ (g.K.Sink.written c.args.out.now) (g.K.Sink.written c.write_all_of.new.out)
+    answered_headline _ _ _ (g.S.Source.faults c.args.src.now) (g.S.Source.faults c.answer_to.new.src) _ (answer_at c.in-Ok.answer) _ (g.K.Sink.written c.args.out.now) (g.K.Sink.written c.write_all_of.new.out)
     c.in-Ok.ensures c.status-status.ensures (search rules)
 
 pub returns-in-Ok-write_all_of-clause-complete : goal.returns-in-Ok-write_all_of-clause-complete
 returns-in-Ok-write_all_of-clause-complete g c =
-    answered_whole _ _ _ (g.S.Source.faults c.args.src.now) (g.S.Source.faults c.answer_to.new.src) _ c.in-Ok.answer _ (g.K.Sink.written c.args.out.now) (g.K.Sink.written c.write_all_of.new.out)
+    answered_whole _ _ _ (g.S.Source.faults c.args.src.now) (g.S.Source.faults c.answer_to.new.src) _ (answer_at c.in-Ok.answer) _ (g.K.Sink.written c.args.out.now) (g.K.Sink.written c.write_all_of.new.out)
     c.in-Ok.ensures c.status-status.ensures (search rules)

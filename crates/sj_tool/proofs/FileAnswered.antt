@@ -1,0 +1,85 @@
+-- Each file has an answer.
+use Rattle.std.proofs.Common.{◌≡◌, ◌∙◌, ◌+◌, ◌-◌, ◌^◌, ◌<◌, ◌⊎◌, ℕ, min, true, false, List, [], Option, Some, None, inl, inr, not-le_of_lt, refl, sym}
+use Rattle.std.proofs.lemmas.Bool.{cases_lt}
+use Rattle.std.specs.Prelude.{Bool}
+use Rattle.sj_lane.specs.Told as lanes
+use Rattle.sj_lang.specs.FileAt.{FileAt}
+use Rattle.sj_acceptance.specs.Accepted.{IsAccepted}
+use Rattle.sj_lang.specs.Limits.{IsWithin, limits}
+use Rattle.sj_acceptance.specs.Faults.{first_fault}
+use Rattle.sj_acceptance.specs.FileTests.{tests_of}
+use Rattle.sj_acceptance_laws.proofs.FileLaws.{accepted_from}
+use Rattle.sj_semantics.specs.Run.{end_of}
+use Rattle.sj_semantics.specs.State.{verdict_of}
+use Rattle.sj_semantics.specs.Transcript.{transcript_of}
+use Rattle.sj_rules.specs.Start.{core_start}
+use Rattle.sj_command.specs.declared.tasks.Task.{Task}
+use Rattle.sj_command.specs.declared.tasks.Task.TheVariants as tasks
+use Rattle.sj_tool.specs.AnswerAt.{AnswerAt, Check, LinkFault, Printed, Ran}
+use Rattle.sj_tool.specs.Answers.{AnswersFile}
+use Rattle.sj_tool.specs.Calls.{LinkUseAt, LinksHold}
+use Rattle.sj_tool.specs.Runs.{HasBegun, run_text}
+use Rattle.sj_tool.specs.Shown.{shown}
+use Rattle.sj_tool.specs.Tasks.{HasEvents, RunsParties, Takes}
+use Rattle.sj_tool.specs.Texts.{counts_of}
+use Rattle.sj_tool.proofs.DrainedLemmas.{shown_given, told_runs}
+use Rattle.sj_tool.proofs.DrainedLines.{begun_goes_on}
+use Rattle.sj_tool.proofs.KindLemmas.{run_has_events, run_plays}
+use Rattle.sj_tool.proofs.LogLeads.{log_told_or_begun}
+
+-- an answer of a file
+abbrev pub HasAnswer : LinkUseAt → Task → (log : List ℕ) → FileAt → Type 0
+HasAnswer links task log file = (a : AnswerAt) × AnswersFile links task log file a
+
+module _ (links : LinkUseAt) (task : Task) (log : List ℕ) (file : FileAt) (accepted : IsAccepted file) where
+  -- where given lines lead, its history is told
+  begun_answered : HasEvents task → HasBegun links task log file → HasAnswer links task log file
+  begun_answered events begun =
+      let (history, core, has) = begun_goes_on links task log file accepted begun in
+      let verdict = verdict_of (end_of file) in
+      let text = run_text task file history (end_of file) in
+      let ran = told_runs links task log file accepted history core has verdict text (refl, refl) in
+      (Ran verdict text, (accepted, run_plays links task log file verdict text events ran))
+
+  -- over links that fail, that tell nothing, or that show how it began
+  ran_answered : RunsParties task → (LinksHold links → HasBegun links task log file) → HasAnswer links task log file
+  ran_answered runs shows = by (cases_lt links.faults_after (min (links.faults + 1) (2 ^ 64 - 1))) links.tells refl
+    where
+      by : (links.faults_after < min (links.faults + 1) (2 ^ 64 - 1)) ⊎ lanes.Rose links.faults links.faults_after → (b : Bool) → links.tells ≡ b → HasAnswer links task log file
+      by (inr rose) b e = (LinkFault, (accepted, runs, rose))
+      by (inl calm) true e = begun_answered (run_has_events task runs) (shows (e, λ rose. not-le_of_lt calm rose))
+      by (inl calm) false e =
+          begun_answered (run_has_events task runs)
+          (record {
+            lines = [];
+            left = core_start file;
+            leads = refl;
+            given = shown_given links task log file [] (core_start file) runs (λ tells. let clash : true ≡ false = sym tells ∙ e in absurd (cc));
+          })
+
+-- of an accepted file
+accepted_answered : (links : LinkUseAt) (task : Task) (log : List ℕ) (file : FileAt) → Takes task → IsAccepted file → (RunsParties task → LinksHold links → HasBegun links task log file) → HasAnswer links task log file
+accepted_answered links tasks.Check log file takes accepted shows = (Printed (counts_of file), (accepted, refl))
+accepted_answered links tasks.Show log file takes accepted shows = (Printed (shown file), refl)
+accepted_answered links tasks.Sim log file takes accepted shows = (Ran (verdict_of (end_of file)) (transcript_of file (end_of file)), (accepted, (refl, refl)))
+accepted_answered links (tasks.Run l looks) log file takes accepted shows = ran_answered links (tasks.Run l looks) log file accepted tt (shows tt)
+accepted_answered links (tasks.Replay l) log file takes accepted shows =
+    elim (log_told_or_begun links l log file accepted) [ inl told ↦ told | inr begun ↦ begun_answered links (tasks.Replay l) log file accepted tt begun ]
+accepted_answered links (tasks.Make n) log file takes accepted shows = absurd takes
+accepted_answered links (tasks.Big n) log file takes accepted shows = ran_answered links (tasks.Big n) log file accepted tt (shows tt)
+
+-- of each file within the limits
+module _ (links : LinkUseAt) (log : List ℕ) (file : FileAt) (within : IsWithin limits file) where
+  checked_answered : (task : Task) → Takes task → ((r k : ℕ) → first_fault (tests_of file) ≡ Some (r, k) → HasAnswer links task log file) → (RunsParties task → IsAccepted file → LinksHold links → HasBegun links task log file)
+      → (first : Option (ℕ × ℕ)) → first_fault (tests_of file) ≡ first → HasAnswer links task log file
+  checked_answered task takes fault shows (Some (r, k)) e = fault r k e
+  checked_answered task takes fault shows None e = let accepted = accepted_from file within e in accepted_answered links task log file takes accepted (λ runs. shows runs accepted)
+
+  pub file_answered : (task : Task) → Takes task → (RunsParties task → IsAccepted file → LinksHold links → HasBegun links task log file) → HasAnswer links task log file
+  file_answered tasks.Show takes shows = (Printed (shown file), refl)
+  file_answered (tasks.Make n) takes shows = absurd takes
+  file_answered tasks.Check takes shows = checked_answered tasks.Check tt (λ r k e. (Check r k, (tt, e))) shows (first_fault (tests_of file)) refl
+  file_answered tasks.Sim takes shows = checked_answered tasks.Sim tt (λ r k e. (Check r k, (tt, e))) shows (first_fault (tests_of file)) refl
+  file_answered (tasks.Run l looks) takes shows = checked_answered (tasks.Run l looks) tt (λ r k e. (Check r k, (tt, e))) shows (first_fault (tests_of file)) refl
+  file_answered (tasks.Replay l) takes shows = checked_answered (tasks.Replay l) tt (λ r k e. (Check r k, (tt, e))) shows (first_fault (tests_of file)) refl
+  file_answered (tasks.Big n) takes shows = checked_answered (tasks.Big n) tt (λ r k e. (Check r k, (tt, e))) shows (first_fault (tests_of file)) refl
