@@ -23,7 +23,7 @@ use Rattle.sj_semantics.specs.Fitting.{fits}
 use Rattle.sj_semantics.specs.World.{World, session_message}
 use Rattle.sj_semantics_laws.proofs.BoundLemmas.{is_end-self}
 use Rattle.sj_accepted_laws.proofs.LeadLemmas.{Ahead, coming, for_sender}
-use Rattle.sj_accepted_laws.proofs.DualPlaceLemmas.{dual_of-dual_of}
+use Rattle.sj_lang.proofs.DualLemmas.{dual_of-dual_of}
 use Rattle.sj_accepted_laws.proofs.TouchedLemmas.{side, Sound, pair_of, not_done}
 use Rattle.sj_accepted_laws.proofs.SoundLemmas.{fits_want}
 use Rattle.sj_accepted_laws.proofs.UnnamedLemmas.{names_apart, bindings_once}
