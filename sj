@@ -9,7 +9,7 @@ if [ -x "$built" ]; then
 fi
 if [ ! -x "$built" ] || [ -n "$newer" ]; then
     rm -f "$built"
-    echo "sj: proving all that it stands on and building it, which may take an hour the first time" >&2
+    echo "sj: proving all that it stands on and building it, which takes some 36 minutes of processor time the first time" >&2
     log=$(cd "$here/crates/sj" && rt run </dev/null 2>&1)
     if [ ! -x "$built" ]; then
         printf '%s\n' "$log" >&2
