@@ -43,7 +43,7 @@ peak_on() {
     local i
     : > "$folder/peaks"
     for ((i = 0; i < 21; i++)); do
-        /usr/bin/time -f %M -o "$folder/peak" "$program" "${@:2}" < "$1" > /dev/null
+        /usr/bin/time -q -f %M -o "$folder/peak" "$program" "${@:2}" < "$1" > /dev/null
         cat "$folder/peak" >> "$folder/peaks"
     done
     summary "$folder/peaks" | awk '{ print $2 }'
