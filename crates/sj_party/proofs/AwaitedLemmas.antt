@@ -25,7 +25,7 @@ use Rattle.sj_proto.proofs.NamedPieceLemmas.{fixed_rule}
 use Rattle.sj_party.specs.declared.parts.Awaited.{Awaited}
 use Rattle.sj_party.specs.declared.parts.Awaited.TheVariants as awaits
 use Rattle.sj_party.specs.Parts.{a_name, a_piece, ReadsParts, ReadsDeed}
-use Rattle.sj_party.specs.Awaits.{awaited_part, taken_act}
+use Rattle.sj_party.specs.Awaits.{awaited_part, take_deed}
 use Rattle.sj_party.proofs.PartLemmas.{parts_behind}
 
 pub no_name_session : is_name (codes "session") ≡ false
@@ -67,6 +67,6 @@ awaited_stops_behind x a m refusals.NoMemory r st n = tt
 awaited_stops_behind (awaits.Value k) a m (refusals.At f) r st n = λ ds. parts_behind (awaited_part (awaits.Value k) ∷ []) a m (semicolon ∷ ds) f r (λ j. st j ds) n
 awaited_stops_behind (awaits.End p) a m (refusals.At f) r st n = λ ds. parts_behind (awaited_part (awaits.End p) ∷ []) a m (semicolon ∷ ds) f r (λ j. st j ds) n
 
-pub taken_deed : (o x y : ℕ) (what : Awaited) (a b : At) → ReadsParts a b (a_name x ∷ a_name y ∷ awaited_part what ∷ a_piece (codes ";") ∷ []) → ReadsDeed (codes "recv") o a b (taken_act x y what)
+pub taken_deed : (o x y : ℕ) (what : Awaited) (a b : At) → ReadsParts a b (a_name x ∷ a_name y ∷ awaited_part what ∷ a_piece (codes ";") ∷ []) → ReadsDeed (codes "recv") o a b (take_deed x y what)
 taken_deed o x y (awaits.Value k) a b r = record { first = refl; parts = r }
 taken_deed o x y (awaits.End p) a b r = record { first = refl; parts = r }

@@ -11,7 +11,7 @@ use Rattle.sj_grammar.specs.Places.{Piece, plain, first_on, spellings}
 use Rattle.sj_grammar.specs.Statements.{braced, IsStatement}
 use Rattle.sj_grammar.proofs.Lexing.{read, Any, NoWordByte}
 use Rattle.sj_party.specs.CanonicalCode.{spaces, newline, in_block}
-use Rattle.sj_party.specs.Unlined.{unlined_step}
+use Rattle.sj_party.specs.Unlined.{unlined_stmt}
 use Rattle.sj_party.proofs.AddAlike.{AddAlike, alike_same, alike_cons}
 use Rattle.sj_party.proofs.PieceTextLemmas.{AreBlank, Reaches, HasLines, joins, lines_append, blank_lines, one_line}
 use Rattle.sj_party.proofs.ExpressionText.{word_lines}
@@ -68,13 +68,13 @@ statement_parts n w tail block rest =
     ∙ ap (λ x. spaces n ++ x) (append_assoc ((w ++ tail) ++ block) newline rest ∙ append_assoc (w ++ tail) block (newline ++ rest) ∙ append_assoc w tail (block ++ (newline ++ rest)))
 
 module _ (L : Limits) (names : Spelling) where
-  abbrev pub StepAgain : ℕ → StmtAt → List Piece → Reading → List ℕ → Type 0
-  StepAgain o s a r rest = Relined unlined_step (IsStatement L names o) s a r rest
+  abbrev pub StmtAgain : ℕ → StmtAt → List Piece → Reading → List ℕ → Type 0
+  StmtAgain o s a r rest = Relined unlined_stmt (IsStatement L names o) s a r rest
 
   -- a statement on one line, whatever its line
   pub on_one_line : (o n : ℕ) (w tail text : List ℕ) (qs a : List Piece) (s : StmtAt) (value : ℕ → StmtAt) (before g rest : List ℕ) → is_word w ≡ true → ((more : List ℕ) → NoWordByte (tail ++ more)) → HasLines Any tail qs → AreBlank g
-      → text ≡ w ++ tail → ((l : ℕ) → unlined_step (value l) ≡ unlined_step s) → ((l : ℕ) → IsStatement L names o (value l) (first_on l w ∷ qs)) → AddAlike (spellings a) (w ∷ spellings qs)
-      → StepAgain o s a (read before (g ++ ((spaces n ++ (text ++ newline)) ++ rest))) rest
+      → text ≡ w ++ tail → ((l : ℕ) → unlined_stmt (value l) ≡ unlined_stmt s) → ((l : ℕ) → IsStatement L names o (value l) (first_on l w ∷ qs)) → AddAlike (spellings a) (w ∷ spellings qs)
+      → StmtAgain o s a (read before (g ++ ((spaces n ++ (text ++ newline)) ++ rest))) rest
   on_one_line o n w tail text qs a s value before g rest named free has blank parts same is adds =
       let k = one_lined w n tail qs before g rest named free has blank in
       record {
@@ -90,10 +90,10 @@ module _ (L : Limits) (names : Spelling) where
   pub with_block : {X : Type 0} (un : X → X) (Braced : X → List Piece → Type 0) (x : X) (b : List Piece) (o n : ℕ) (w head tail block : List ℕ) (qs a : List Piece) (s : StmtAt) (value : ℕ → X → StmtAt) (before g rest : List ℕ)
       → is_word w ≡ true → ((more : List ℕ) → NoWordByte (tail ++ more)) → HasLines NoWordByte tail qs → AreBlank g → head ≡ w ++ tail → ((more : List ℕ) → NoWordByte (block ++ more))
       → ((k h : List ℕ) → AreBlank h → Relined un Braced x b (read k (h ++ (block ++ (newline ++ rest)))) (newline ++ rest))
-      → ((l : ℕ) (v : X) → un v ≡ un x → unlined_step (value l v) ≡ unlined_step s)
+      → ((l : ℕ) (v : X) → un v ≡ un x → unlined_stmt (value l v) ≡ unlined_stmt s)
       → ((l : ℕ) (v : X) (c : List Piece) → un v ≡ un x → Braced v c → IsStatement L names o (value l v) (first_on l w ∷ (qs ++ c)))
       → ((c : List Piece) → AddAlike (spellings b) (spellings c) → AddAlike (spellings a) (w ∷ spellings (qs ++ c)))
-      → StepAgain o s a (read before (g ++ ((spaces n ++ ((head ++ block) ++ newline)) ++ rest))) rest
+      → StmtAgain o s a (read before (g ++ ((spaces n ++ ((head ++ block) ++ newline)) ++ rest))) rest
   with_block un Braced x b o n w head tail block qs a s value before g rest named free has blank parts open_free block_again same is adds =
       let begun = headed NoWordByte w n tail qs before g (block ++ (newline ++ rest)) named free has blank (open_free (newline ++ rest)) in
       let r = read before (g ++ (spaces n ++ (w ++ (tail ++ (block ++ (newline ++ rest)))))) in

@@ -35,11 +35,11 @@ arm_read o m c a b r = lines_as a b _ _ (λ names ps h. arm_is names ps h) (part
     arm_is names ps (more (named is) (more one_piece (more (blocked body) nothing))) = grammar.one_arm is body grammar.no_arm
 
 -- a statement of its first word and its parts
-pub statement_read : (o l : ℕ) (act : DeedAt) (word : List ℕ) (a m b : At) → TakesPiece a (first_on l word) m → ReadsDeed word o m b act → ReadsOnLines a b (λ names ps. IsStatement limits names o (at l act) ps)
-statement_read o l act word a m b t r =
-    lines_on a m b (λ names ps. ps ≡ first_on l (first_word act) ∷ []) _ _
-    (λ names ps qs h i. subst (λ (xs : List Piece). IsStatement limits names o (at l act) (xs ++ qs)) (sym h) (statement_is names o l act qs i))
-    (line_one a m (first_on l word) _ t (λ names. ap (λ s. first_on l s ∷ []) (sym r.first))) (parts_pieces (parts_of o act) m b r.parts)
+pub statement_read : (o l : ℕ) (deed : DeedAt) (word : List ℕ) (a m b : At) → TakesPiece a (first_on l word) m → ReadsDeed word o m b deed → ReadsOnLines a b (λ names ps. IsStatement limits names o (at l deed) ps)
+statement_read o l deed word a m b t r =
+    lines_on a m b (λ names ps. ps ≡ first_on l (first_word deed) ∷ []) _ _
+    (λ names ps qs h i. subst (λ (xs : List Piece). IsStatement limits names o (at l deed) (xs ++ qs)) (sym h) (statement_is names o l deed qs i))
+    (line_one a m (first_on l word) _ t (λ names. ap (λ s. first_on l s ∷ []) (sym r.first))) (parts_pieces (parts_of o deed) m b r.parts)
 
 -- statements and arms so far, and one more
 pub code_more : (o : ℕ) (xs : List Stmt) (x : Stmt) (a m b : At) → ReadsCode o a m (code_of xs) → ReadsOnLines m b (λ names ps. IsStatement limits names o (stmt_of x) ps) → ReadsCode o a b (code_of (xs ++ x ∷ []))

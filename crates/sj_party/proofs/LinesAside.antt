@@ -5,32 +5,32 @@ use Rattle.sj_lang.specs.Code.{Code, StmtAt, DeedAt, Branches, no_stmt, stmt_the
 use Rattle.sj_lang.specs.FileAt.{ProtocolAt, PartyAt, ConnectAt, FileAt}
 use Rattle.sj_grammar.specs.Tables.{Spelling}
 use Rattle.sj_grammar.specs.Files.{names_of}
-use Rattle.sj_party.specs.CanonicalCode.{spaces, newline, in_block, named_text, pair_text, valued_text, given_text, code_text, step_text, act_text, arms_text, arm_text}
+use Rattle.sj_party.specs.CanonicalCode.{spaces, newline, in_block, named_text, pair_text, valued_text, given_text, code_text, stmt_text, deed_text, arms_text, arm_text}
 use Rattle.sj_party.specs.CanonicalFile.{protocol_line, connect_text, protocols_text, parties_text, connects_text, file_text}
-use Rattle.sj_party.specs.Unlined.{unlined_code, unlined_step, unlined_act, unlined_branches, unlined_protocol, unlined_party, unlined_connect, unlined}
+use Rattle.sj_party.specs.Unlined.{unlined_code, unlined_stmt, unlined_deed, unlined_branches, unlined_protocol, unlined_party, unlined_connect, unlined}
 
 module _ (names : Spelling) where
   mutual
     code_same : (n : ℕ) (c : Code) → code_text names n (unlined_code c) ≡ code_text names n c
     code_same n no_stmt = refl
-    code_same n (stmt_then s rest) = λ i. step_same n s i ++ code_same n rest i
+    code_same n (stmt_then s rest) = λ i. stmt_same n s i ++ code_same n rest i
 
-    step_same : (n : ℕ) (s : StmtAt) → step_text names n (unlined_step s) ≡ step_text names n s
-    step_same n (at l a) = λ i. spaces n ++ (act_same n a i ++ newline)
+    stmt_same : (n : ℕ) (s : StmtAt) → stmt_text names n (unlined_stmt s) ≡ stmt_text names n s
+    stmt_same n (at l a) = λ i. spaces n ++ (deed_same n a i ++ newline)
 
-    act_same : (n : ℕ) (a : DeedAt) → act_text names n (unlined_act a) ≡ act_text names n a
-    act_same n (send x t) = refl
-    act_same n (delegate x y) = refl
-    act_same n (take_value x v k) = refl
-    act_same n (take_end x y p) = refl
-    act_same n (outbranch x l) = refl
-    act_same n (inbranch x arms) = λ i. named_text names (codes "inbranch ") x ++ in_block n (arms_same (n + 2) arms i)
-    act_same n (outwhile x t body) = λ i. given_text names (codes "outwhile ") x (codes " ") t ++ in_block n (code_same (n + 2) body i)
-    act_same n (inwhile x body) = λ i. named_text names (codes "inwhile ") x ++ in_block n (code_same (n + 2) body i)
-    act_same n (relay x y body) = λ i. pair_text names (codes "relay ") x y ++ in_block n (code_same (n + 2) body i)
-    act_same n (if_else t first second) = λ i. valued_text names (codes "if ") t ++ (in_block n (code_same (n + 2) first i) ++ (codes " else" ++ in_block n (code_same (n + 2) second i)))
-    act_same n (let_be v t) = refl
-    act_same n (close x) = refl
+    deed_same : (n : ℕ) (a : DeedAt) → deed_text names n (unlined_deed a) ≡ deed_text names n a
+    deed_same n (send x t) = refl
+    deed_same n (delegate x y) = refl
+    deed_same n (take_value x v k) = refl
+    deed_same n (take_end x y p) = refl
+    deed_same n (outbranch x l) = refl
+    deed_same n (inbranch x arms) = λ i. named_text names (codes "inbranch ") x ++ in_block n (arms_same (n + 2) arms i)
+    deed_same n (outwhile x t body) = λ i. given_text names (codes "outwhile ") x (codes " ") t ++ in_block n (code_same (n + 2) body i)
+    deed_same n (inwhile x body) = λ i. named_text names (codes "inwhile ") x ++ in_block n (code_same (n + 2) body i)
+    deed_same n (relay x y body) = λ i. pair_text names (codes "relay ") x y ++ in_block n (code_same (n + 2) body i)
+    deed_same n (if_else t first second) = λ i. valued_text names (codes "if ") t ++ (in_block n (code_same (n + 2) first i) ++ (codes " else" ++ in_block n (code_same (n + 2) second i)))
+    deed_same n (let_be v t) = refl
+    deed_same n (close x) = refl
 
     arms_same : (n : ℕ) (arms : Branches) → arms_text names n (unlined_branches arms) ≡ arms_text names n arms
     arms_same n no_branch = refl

@@ -47,7 +47,7 @@ module _ (names : Spelling) where
     more : {p : Part} {ps : List Part} {a b : List Piece} → PartPieces p a → ArePieces ps b → ArePieces (p ∷ ps) (a ++ b)
 
   -- the parts of a statement are the statement
-  pub statement_is : (o l : ℕ) (act : DeedAt) (a : List Piece) → ArePieces (parts_of o act) a → IsStatement limits names o (at l act) (first_on l (first_word act) ∷ a)
+  pub statement_is : (o l : ℕ) (deed : DeedAt) (a : List Piece) → ArePieces (parts_of o deed) a → IsStatement limits names o (at l deed) (first_on l (first_word deed) ∷ a)
   statement_is o l (send x t) a (more (named is) (more (expressed h) (more one_piece nothing))) = grammar.of_send is h
   statement_is o l (delegate x y) a (more (named is) (more (named also) (more one_piece nothing))) = grammar.of_delegate is also
   statement_is o l (take_value x n k) a (more (named is) (more (named also) (more valued (more one_piece nothing)))) = grammar.of_take is also

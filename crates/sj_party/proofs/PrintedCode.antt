@@ -14,7 +14,7 @@ use Rattle.sj_lang.specs.CodeView.{term_of, code_of, deed_of, arm_of, branches_o
 use Rattle.sj_lang.specs.Code.{Code}
 use Rattle.sj_lang.proofs.Folds.{stmt_of-fields, arm_of-fields, deed_of-If}
 use Rattle.sj_grammar.specs.Tables.{Spelling}
-use Rattle.sj_party.specs.CanonicalCode.{spaces, newline, in_block, valued_text, code_text, step_text, act_text, arms_text, arm_text, block_text}
+use Rattle.sj_party.specs.CanonicalCode.{spaces, newline, in_block, valued_text, code_text, stmt_text, deed_text, arms_text, arm_text, block_text}
 
 pub spaces_cut : (old new : List ℕ) (k n : ℕ) → k ≤ n → new ≡ old ++ spaces k → IsCutShort old (spaces n) new
 spaces_cut old new k n h e = record {
@@ -36,15 +36,15 @@ module _ (names : Spelling) where
   arms_ahead n m i arms = arms_text names m (branches_of (map arm_of (drop i arms))) ++ closing n
 
   pub stmt_step : (n m i : ℕ) (body : List Stmt) (x : Stmt) → i < length body → x ≡ get_or body i x
-      → code_ahead n m i body ≡ spaces m ++ (act_text names m (deed_of x.deed) ++ (newline ++ code_ahead n m (i + 1) body))
+      → code_ahead n m i body ≡ spaces m ++ (deed_text names m (deed_of x.deed) ++ (newline ++ code_ahead n m (i + 1) body))
   stmt_step n m i body x h e =
       let rest = code_text names m (code_of (drop (i + 1) body)) in
-      let act = act_text names m (deed_of x.deed) in
+      let deed = deed_text names m (deed_of x.deed) in
       ap (λ xs. code_text names m (code_of xs) ++ closing n) (open_by i body x h e)
-      ∙ ap (λ s. (step_text names m s ++ rest) ++ closing n) (stmt_of-fields x)
-      ∙ append_assoc (spaces m ++ (act ++ newline)) rest (closing n)
-      ∙ append_assoc (spaces m) (act ++ newline) (rest ++ closing n)
-      ∙ ap (λ xs. spaces m ++ xs) (append_assoc act newline (rest ++ closing n))
+      ∙ ap (λ s. (stmt_text names m s ++ rest) ++ closing n) (stmt_of-fields x)
+      ∙ append_assoc (spaces m ++ (deed ++ newline)) rest (closing n)
+      ∙ append_assoc (spaces m) (deed ++ newline) (rest ++ closing n)
+      ∙ ap (λ xs. spaces m ++ xs) (append_assoc deed newline (rest ++ closing n))
 
   pub arm_step : (n m i : ℕ) (arms : List StmtArm) (x : StmtArm) → i < length arms → x ≡ get_or arms i x
       → arms_ahead n m i arms ≡ spaces m ++ (names.word (out-StmtArm x).label ++ ((codes ":" ++ block_text names m (code_of (out-StmtArm x).body.items)) ++ (newline ++ arms_ahead n m (i + 1) arms)))
@@ -83,7 +83,7 @@ module _ (names : Spelling) where
       (one_more old whole (codes " {\n") (arms_text names (n + 2) (branches_of (map arm_of arms)) ++ closing n) old now (none_yet old whole) g)
 
   pub if_text : (n : ℕ) (d : Deed) (e : Expr) (v w : Vec Stmt Global) (first second : List Stmt) → d ≡ deeds.If e v w → first ≡ v.items → second ≡ w.items
-      → act_text names n (deed_of d) ≡ valued_text names (codes "if ") (term_of e) ++ (block_text names n (code_of first) ++ (codes " else" ++ block_text names n (code_of second)))
+      → deed_text names n (deed_of d) ≡ valued_text names (codes "if ") (term_of e) ++ (block_text names n (code_of first) ++ (codes " else" ++ block_text names n (code_of second)))
   if_text n d e v w first second is one two =
-      ap (λ x. act_text names n (deed_of x)) is ∙ ap (act_text names n) (deed_of-If e v w)
+      ap (λ x. deed_text names n (deed_of x)) is ∙ ap (deed_text names n) (deed_of-If e v w)
       ∙ (λ i. valued_text names (codes "if ") (term_of e) ++ (block_text names n (code_of (sym one i)) ++ (codes " else" ++ block_text names n (code_of (sym two i)))))

@@ -9,6 +9,6 @@ abbrev pub awaited_part : Awaited → Part
 awaited_part (awaits.Value k) = a_value k
 awaited_part (awaits.End p) = an_end p
 
-abbrev pub taken_act : ℕ → ℕ → Awaited → DeedAt
-taken_act x y (awaits.Value k) = take_value x y k
-taken_act x y (awaits.End p) = take_end x y p
+abbrev pub take_deed : ℕ → ℕ → Awaited → DeedAt
+take_deed x y (awaits.Value k) = take_value x y k
+take_deed x y (awaits.End p) = take_end x y p

@@ -43,25 +43,25 @@ module _ (names : Spelling) where
     -- statements that stand so many spaces in
     pub code_text : ℕ → Code → List ℕ
     code_text n no_stmt = []
-    code_text n (stmt_then s rest) = step_text n s ++ code_text n rest
+    code_text n (stmt_then s rest) = stmt_text n s ++ code_text n rest
 
-    pub step_text : ℕ → StmtAt → List ℕ
-    step_text n (at line a) = spaces n ++ (act_text n a ++ newline)
+    pub stmt_text : ℕ → StmtAt → List ℕ
+    stmt_text n (at line a) = spaces n ++ (deed_text n a ++ newline)
 
     -- what a statement is, up to the end of its last line
-    pub act_text : ℕ → DeedAt → List ℕ
-    act_text n (send x t) = given_text (codes "send ") x (codes " ") t ++ codes ";"
-    act_text n (delegate x y) = pair_text (codes "delegate ") x y ++ codes ";"
-    act_text n (take_value x v k) = pair_text (codes "recv ") x v ++ (codes " " ++ (scalar_piece k ++ codes ";"))
-    act_text n (take_end x y p) = pair_text (codes "recv ") x y ++ (named_text (codes " session ") p ++ codes ";")
-    act_text n (outbranch x l) = pair_text (codes "outbranch ") x l ++ codes ";"
-    act_text n (inbranch x arms) = named_text (codes "inbranch ") x ++ in_block n (arms_text (n + 2) arms)
-    act_text n (outwhile x t body) = given_text (codes "outwhile ") x (codes " ") t ++ in_block n (code_text (n + 2) body)
-    act_text n (inwhile x body) = named_text (codes "inwhile ") x ++ in_block n (code_text (n + 2) body)
-    act_text n (relay x y body) = pair_text (codes "relay ") x y ++ in_block n (code_text (n + 2) body)
-    act_text n (if_else t first second) = valued_text (codes "if ") t ++ (in_block n (code_text (n + 2) first) ++ (codes " else" ++ in_block n (code_text (n + 2) second)))
-    act_text n (let_be v t) = given_text (codes "let ") v (codes " = ") t ++ codes ";"
-    act_text n (close x) = named_text (codes "close ") x ++ codes ";"
+    pub deed_text : ℕ → DeedAt → List ℕ
+    deed_text n (send x t) = given_text (codes "send ") x (codes " ") t ++ codes ";"
+    deed_text n (delegate x y) = pair_text (codes "delegate ") x y ++ codes ";"
+    deed_text n (take_value x v k) = pair_text (codes "recv ") x v ++ (codes " " ++ (scalar_piece k ++ codes ";"))
+    deed_text n (take_end x y p) = pair_text (codes "recv ") x y ++ (named_text (codes " session ") p ++ codes ";")
+    deed_text n (outbranch x l) = pair_text (codes "outbranch ") x l ++ codes ";"
+    deed_text n (inbranch x arms) = named_text (codes "inbranch ") x ++ in_block n (arms_text (n + 2) arms)
+    deed_text n (outwhile x t body) = given_text (codes "outwhile ") x (codes " ") t ++ in_block n (code_text (n + 2) body)
+    deed_text n (inwhile x body) = named_text (codes "inwhile ") x ++ in_block n (code_text (n + 2) body)
+    deed_text n (relay x y body) = pair_text (codes "relay ") x y ++ in_block n (code_text (n + 2) body)
+    deed_text n (if_else t first second) = valued_text (codes "if ") t ++ (in_block n (code_text (n + 2) first) ++ (codes " else" ++ in_block n (code_text (n + 2) second)))
+    deed_text n (let_be v t) = given_text (codes "let ") v (codes " = ") t ++ codes ";"
+    deed_text n (close x) = named_text (codes "close ") x ++ codes ";"
 
     -- arms that stand so many spaces in, each on lines of its own
     pub arms_text : ℕ → Branches → List ℕ

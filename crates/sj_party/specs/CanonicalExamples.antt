@@ -12,7 +12,7 @@ use Rattle.sj_lang.specs.FileAt.{FileAt}
 use Rattle.sj_grammar.specs.Tables.{Spelling}
 use Rattle.sj_grammar.specs.Expressions.{whole}
 use Rattle.sj_party.specs.CanonicalExpression.{expression_text}
-use Rattle.sj_party.specs.CanonicalCode.{in_block, named_text, pair_text, valued_text, given_text, step_text, act_text}
+use Rattle.sj_party.specs.CanonicalCode.{in_block, named_text, pair_text, valued_text, given_text, stmt_text, deed_text}
 use Rattle.sj_party.specs.CanonicalFile.{end_text, protocol_line, file_text}
 
 -- names of one letter, from `a` on, and one text
@@ -51,15 +51,15 @@ unfolding digits
 a_negative_number_has_a_minus = refl
 
 -- a block stands two spaces further in, also an empty one
-pub an_empty_block_has_two_lines : step_text letters 2 (at 9 (outwhile 0 (int (pos 3)) no_stmt)) ≡ codes "  outwhile a 3 {\n  }\n"
+pub an_empty_block_has_two_lines : stmt_text letters 2 (at 9 (outwhile 0 (int (pos 3)) no_stmt)) ≡ codes "  outwhile a 3 {\n  }\n"
 unfolding digits in_block named_text valued_text given_text
 an_empty_block_has_two_lines = refl
 
-pub else_stands_between_its_braces : act_text letters 2 (if_else a (stmt_then (at 3 (close 0)) no_stmt) (stmt_then (at 4 (let_be 0 a)) no_stmt)) ≡ codes "if a {\n    close a;\n  } else {\n    let a = a;\n  }"
+pub else_stands_between_its_braces : deed_text letters 2 (if_else a (stmt_then (at 3 (close 0)) no_stmt) (stmt_then (at 4 (let_be 0 a)) no_stmt)) ≡ codes "if a {\n    close a;\n  } else {\n    let a = a;\n  }"
 unfolding in_block named_text valued_text given_text
 else_stands_between_its_braces = refl
 
-pub arms_stand_further_in : act_text letters 2 (inbranch 0 (branch 0 no_stmt (branch 0 (stmt_then (at 5 (outbranch 0 0)) no_stmt) no_branch)))
+pub arms_stand_further_in : deed_text letters 2 (inbranch 0 (branch 0 no_stmt (branch 0 (stmt_then (at 5 (outbranch 0 0)) no_stmt) no_branch)))
     ≡ codes "inbranch a {\n    a: {\n    }\n    a: {\n      outbranch a a;\n    }\n  }"
 unfolding in_block named_text pair_text
 arms_stand_further_in = refl

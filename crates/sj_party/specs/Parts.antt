@@ -76,9 +76,9 @@ ReadsParts a b [] = a ≡ b
 ReadsParts a b (p ∷ ps) = (m : At) × ReadsPart a m p × ReadsParts m b ps
 
 -- from here to there stands, behind that word, what the statement does
-pub record ReadsDeed (word : List ℕ) (o : ℕ) (a b : At) (act : DeedAt) : Type 0 where
-  pub first : first_word act ≡ word
-  pub parts : ReadsParts a b (parts_of o act)
+pub record ReadsDeed (word : List ℕ) (o : ℕ) (a b : At) (deed : DeedAt) : Type 0 where
+  pub first : first_word deed ≡ word
+  pub parts : ReadsParts a b (parts_of o deed)
 
 -- what is due where a part may stand
 abbrev pub due_of : Part → List Due → List Due

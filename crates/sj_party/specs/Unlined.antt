@@ -8,24 +8,24 @@ use Rattle.sj_grammar.specs.Files.{IsFile}
 abbrev mutual
   pub unlined_code : Code → Code
   unlined_code no_stmt = no_stmt
-  unlined_code (stmt_then s rest) = stmt_then (unlined_step s) (unlined_code rest)
+  unlined_code (stmt_then s rest) = stmt_then (unlined_stmt s) (unlined_code rest)
 
-  pub unlined_step : StmtAt → StmtAt
-  unlined_step (at line a) = at 0 (unlined_act a)
+  pub unlined_stmt : StmtAt → StmtAt
+  unlined_stmt (at line a) = at 0 (unlined_deed a)
 
-  pub unlined_act : DeedAt → DeedAt
-  unlined_act (send x t) = send x t
-  unlined_act (delegate x y) = delegate x y
-  unlined_act (take_value x v k) = take_value x v k
-  unlined_act (take_end x y p) = take_end x y p
-  unlined_act (outbranch x l) = outbranch x l
-  unlined_act (inbranch x arms) = inbranch x (unlined_branches arms)
-  unlined_act (outwhile x t body) = outwhile x t (unlined_code body)
-  unlined_act (inwhile x body) = inwhile x (unlined_code body)
-  unlined_act (relay x y body) = relay x y (unlined_code body)
-  unlined_act (if_else t first second) = if_else t (unlined_code first) (unlined_code second)
-  unlined_act (let_be v t) = let_be v t
-  unlined_act (close x) = close x
+  pub unlined_deed : DeedAt → DeedAt
+  unlined_deed (send x t) = send x t
+  unlined_deed (delegate x y) = delegate x y
+  unlined_deed (take_value x v k) = take_value x v k
+  unlined_deed (take_end x y p) = take_end x y p
+  unlined_deed (outbranch x l) = outbranch x l
+  unlined_deed (inbranch x arms) = inbranch x (unlined_branches arms)
+  unlined_deed (outwhile x t body) = outwhile x t (unlined_code body)
+  unlined_deed (inwhile x body) = inwhile x (unlined_code body)
+  unlined_deed (relay x y body) = relay x y (unlined_code body)
+  unlined_deed (if_else t first second) = if_else t (unlined_code first) (unlined_code second)
+  unlined_deed (let_be v t) = let_be v t
+  unlined_deed (close x) = close x
 
   pub unlined_branches : Branches → Branches
   unlined_branches no_branch = no_branch

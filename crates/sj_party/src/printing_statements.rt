@@ -6,7 +6,7 @@ ghost use Rattle.sj_text.specs.Cut.{IsCutShort};
 ghost use Rattle.sj_lang.specs.CodeView.{term_of, arm_of, branches_of, code_of, deed_of};
 ghost use Rattle.sj_grammar.specs.Statements.{scalar_piece};
 ghost use Rattle.sj_party.specs.CanonicalExpression.{spelling_of};
-ghost use Rattle.sj_party.specs.CanonicalCode.{spaces, in_block, named_text, pair_text, valued_text, given_text, act_text, arms_text, block_text};
+ghost use Rattle.sj_party.specs.CanonicalCode.{spaces, in_block, named_text, pair_text, valued_text, given_text, deed_text, arms_text, block_text};
 
 use crate::printing_expressions::{Wanted, put_expression};
 use sj_base::NoMemory;
@@ -252,9 +252,9 @@ fn put_arms(text: &mut Vec<u8>, names: &Names, n: usize, arms: &[StmtArm]) -> Re
 #[cycle(statements)]
 fn put_deed(text: &mut Vec<u8>, names: &Names, n: usize, deed: &Deed) -> Result<(), NoMemory>
     ensures ok { OnOk result (text.new.items
-        ≡ text.old.items ++ act_text (spelling_of names.now) n (deed_of deed.now)) }
+        ≡ text.old.items ++ deed_text (spelling_of names.now) n (deed_of deed.now)) }
     ensures err { OnErr result (IsCutShort text.old.items
-        (act_text (spelling_of names.now) n (deed_of deed.now)) text.new.items) }
+        (deed_text (spelling_of names.now) n (deed_of deed.now)) text.new.items) }
 {
     match deed {
         Deed::Send { end, value } => put_given_line(text, names, b"send ", *end, b" ", value),

@@ -7,7 +7,7 @@ ghost use Rattle.sj_proto.specs.Parsed.{standing, Stops};
 ghost use Rattle.sj_expr.specs.Leaves.{LeavesTables};
 ghost use Rattle.sj_party.specs.Rooms.{HasRoomFor, Uses};
 ghost use Rattle.sj_party.specs.Parts.{ReadsDeed};
-ghost use Rattle.sj_party.specs.Awaits.{taken_act};
+ghost use Rattle.sj_party.specs.Awaits.{take_deed};
 ghost use Rattle.sj_party.specs.Words.{simple_word, simple_dues};
 
 use crate::openings::Word;
@@ -44,7 +44,7 @@ fn delegate(tokens: &mut Tokens, names: &mut Names) -> Result<Deed, ParseRefusal
 
 // What a `recv` does with what it awaits.
 fn taking(end: u16, into: u16, what: Awaited) -> Deed
-    ensures { deed_of result ≡ taken_act end into what }
+    ensures { deed_of result ≡ take_deed end into what }
 {
     match what {
         Awaited::Value(kind) => Deed::Take { end, into, kind },

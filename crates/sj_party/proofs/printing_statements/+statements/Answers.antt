@@ -5,7 +5,7 @@ use Rattle.sj_text.proofs.Cuts.{one_more, ahead_is, cut_here, cut_within, finish
 use Rattle.sj_lang.specs.declared.party.StmtArm.{out-StmtArm}
 use Rattle.sj_lang.specs.CodeView.{term_of, arm_of, branches_of, code_of, deed_of}
 use Rattle.sj_party.specs.CanonicalExpression.{spelling_of}
-use Rattle.sj_party.specs.CanonicalCode.{spaces, newline, in_block, valued_text, act_text, arms_text, block_text}
+use Rattle.sj_party.specs.CanonicalCode.{spaces, newline, in_block, valued_text, deed_text, arms_text, block_text}
 use Rattle.sj_party.proofs.PrintedCode.{closing, code_ahead, arms_ahead, code_done, arms_done, stmt_step, arm_step, block_opened, arms_opened, if_text}
 use Rattle.sj_party.proofs.printing_statements.+statements.Goals as goal
 
@@ -23,10 +23,10 @@ put_block-returns-in_err-put_spaces-clause-err t c =
     let x = c.stmt-item.result in
     let old = c.args.text.now.items in
     let whole = c.args.lead.now ++ block_text names n (code_of body) in
-    let act = act_text names m (deed_of x.deed) in
+    let deed = deed_text names m (deed_of x.deed) in
     let rest = code_ahead names n m (i + 1) body in
-    let start = ahead_is old whole (code_ahead names n m i body) (spaces m ++ (act ++ (newline ++ rest))) c.loop-stmt.text.items (stmt_step names n m i body x c.loop-stmt-test.true c.stmt-item.is) c.loop-stmt.invariant in
-    on_err c.from_residual-in_err-put_spaces.result _ (cut_within old whole (spaces m) (act ++ (newline ++ rest)) c.loop-stmt.text.items c.put_spaces.new.text.items start c.in_err-put_spaces.ensures.err)
+    let start = ahead_is old whole (code_ahead names n m i body) (spaces m ++ (deed ++ (newline ++ rest))) c.loop-stmt.text.items (stmt_step names n m i body x c.loop-stmt-test.true c.stmt-item.is) c.loop-stmt.invariant in
+    on_err c.from_residual-in_err-put_spaces.result _ (cut_within old whole (spaces m) (deed ++ (newline ++ rest)) c.loop-stmt.text.items c.put_spaces.new.text.items start c.in_err-put_spaces.ensures.err)
 
 pub put_block-returns-in_err-put_deed-clause-err : goal.put_block-returns-in_err-put_deed-clause-err
 put_block-returns-in_err-put_deed-clause-err t c =
@@ -38,11 +38,11 @@ put_block-returns-in_err-put_deed-clause-err t c =
     let x = c.stmt-item.result in
     let old = c.args.text.now.items in
     let whole = c.args.lead.now ++ block_text names n (code_of body) in
-    let act = act_text names m (deed_of x.deed) in
+    let deed = deed_text names m (deed_of x.deed) in
     let rest = code_ahead names n m (i + 1) body in
-    let start = ahead_is old whole (code_ahead names n m i body) (spaces m ++ (act ++ (newline ++ rest))) c.loop-stmt.text.items (stmt_step names n m i body x c.loop-stmt-test.true c.stmt-item.is) c.loop-stmt.invariant in
-    let spaced = one_more old whole (spaces m) (act ++ (newline ++ rest)) c.loop-stmt.text.items c.put_spaces.new.text.items start c.in_ok-put_spaces.ensures.ok in
-    on_err c.from_residual-in_err-put_deed.result _ (cut_within old whole act (newline ++ rest) c.put_spaces.new.text.items c.put_deed.new.text.items spaced c.in_err-put_deed.ensures.err)
+    let start = ahead_is old whole (code_ahead names n m i body) (spaces m ++ (deed ++ (newline ++ rest))) c.loop-stmt.text.items (stmt_step names n m i body x c.loop-stmt-test.true c.stmt-item.is) c.loop-stmt.invariant in
+    let spaced = one_more old whole (spaces m) (deed ++ (newline ++ rest)) c.loop-stmt.text.items c.put_spaces.new.text.items start c.in_ok-put_spaces.ensures.ok in
+    on_err c.from_residual-in_err-put_deed.result _ (cut_within old whole deed (newline ++ rest) c.put_spaces.new.text.items c.put_deed.new.text.items spaced c.in_err-put_deed.ensures.err)
 
 pub put_block-returns-in_err-put-2-clause-err : goal.put_block-returns-in_err-put-2-clause-err
 put_block-returns-in_err-put-2-clause-err t c =
@@ -54,11 +54,11 @@ put_block-returns-in_err-put-2-clause-err t c =
     let x = c.stmt-item.result in
     let old = c.args.text.now.items in
     let whole = c.args.lead.now ++ block_text names n (code_of body) in
-    let act = act_text names m (deed_of x.deed) in
+    let deed = deed_text names m (deed_of x.deed) in
     let rest = code_ahead names n m (i + 1) body in
-    let start = ahead_is old whole (code_ahead names n m i body) (spaces m ++ (act ++ (newline ++ rest))) c.loop-stmt.text.items (stmt_step names n m i body x c.loop-stmt-test.true c.stmt-item.is) c.loop-stmt.invariant in
-    let spaced = one_more old whole (spaces m) (act ++ (newline ++ rest)) c.loop-stmt.text.items c.put_spaces.new.text.items start c.in_ok-put_spaces.ensures.ok in
-    let done = one_more old whole act (newline ++ rest) c.put_spaces.new.text.items c.put_deed.new.text.items spaced c.in_ok-put_deed.ensures.ok in
+    let start = ahead_is old whole (code_ahead names n m i body) (spaces m ++ (deed ++ (newline ++ rest))) c.loop-stmt.text.items (stmt_step names n m i body x c.loop-stmt-test.true c.stmt-item.is) c.loop-stmt.invariant in
+    let spaced = one_more old whole (spaces m) (deed ++ (newline ++ rest)) c.loop-stmt.text.items c.put_spaces.new.text.items start c.in_ok-put_spaces.ensures.ok in
+    let done = one_more old whole deed (newline ++ rest) c.put_spaces.new.text.items c.put_deed.new.text.items spaced c.in_ok-put_deed.ensures.ok in
     on_err c.from_residual-in_err-put-2.result _ (cut_here old whole (newline ++ rest) c.put_deed.new.text.items c.put-in-loop-stmt.new.text.items done c.in_err-put-2.ensures.err)
 
 pub put_block-loop-stmt-preserved : goal.put_block-loop-stmt-preserved
@@ -71,11 +71,11 @@ put_block-loop-stmt-preserved t c =
     let x = c.stmt-item.result in
     let old = c.args.text.now.items in
     let whole = c.args.lead.now ++ block_text names n (code_of body) in
-    let act = act_text names m (deed_of x.deed) in
+    let deed = deed_text names m (deed_of x.deed) in
     let rest = code_ahead names n m (i + 1) body in
-    let start = ahead_is old whole (code_ahead names n m i body) (spaces m ++ (act ++ (newline ++ rest))) c.loop-stmt.text.items (stmt_step names n m i body x c.loop-stmt-test.true c.stmt-item.is) c.loop-stmt.invariant in
-    let spaced = one_more old whole (spaces m) (act ++ (newline ++ rest)) c.loop-stmt.text.items c.put_spaces.new.text.items start c.in_ok-put_spaces.ensures.ok in
-    let done = one_more old whole act (newline ++ rest) c.put_spaces.new.text.items c.put_deed.new.text.items spaced c.in_ok-put_deed.ensures.ok in
+    let start = ahead_is old whole (code_ahead names n m i body) (spaces m ++ (deed ++ (newline ++ rest))) c.loop-stmt.text.items (stmt_step names n m i body x c.loop-stmt-test.true c.stmt-item.is) c.loop-stmt.invariant in
+    let spaced = one_more old whole (spaces m) (deed ++ (newline ++ rest)) c.loop-stmt.text.items c.put_spaces.new.text.items start c.in_ok-put_spaces.ensures.ok in
+    let done = one_more old whole deed (newline ++ rest) c.put_spaces.new.text.items c.put_deed.new.text.items spaced c.in_ok-put_deed.ensures.ok in
     one_more old whole newline rest c.put_deed.new.text.items c.put-in-loop-stmt.new.text.items done c.in_ok-put-2.ensures.ok
 
 pub put_block-returns-clause-err : goal.put_block-returns-clause-err

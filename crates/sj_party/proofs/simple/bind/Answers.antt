@@ -31,5 +31,5 @@ returns-clause-reads c = λ o.
     let m = standing c.binding.new.tokens c.binding.new.names in
     let b = standing c.expect.new.self c.binding.new.names in
     let taken = plain c.binding.new.tokens c.expect.new.self c.binding.new.names (codes ";") refl refl c.in_ok-expect.ensures.ok in
-    subst (λ (act : DeedAt). ReadsDeed (codes "let") o a b act) (sym (deed_of-Let c.in_ok-name.name c.in_ok-name.value))
+    subst (λ (deed : DeedAt). ReadsDeed (codes "let") o a b deed) (sym (deed_of-Let c.in_ok-name.name c.in_ok-name.value))
     (record { first = refl; parts = parts_on (a_name c.in_ok-name.name ∷ a_piece (codes "=") ∷ an_expression (term_of c.in_ok-name.value) ∷ []) (a_piece (codes ";") ∷ []) a m b c.in_ok-name.ensures.reads (b, taken, refl) })

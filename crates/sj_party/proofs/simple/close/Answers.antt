@@ -29,5 +29,5 @@ returns-clause-reads c = λ o.
     let m = standing c.one_name.new.tokens c.one_name.new.names in
     let b = standing c.expect.new.self c.one_name.new.names in
     let taken = plain c.one_name.new.tokens c.expect.new.self c.one_name.new.names (codes ";") refl refl c.in_ok-expect.ensures.ok in
-    subst (λ (act : DeedAt). ReadsDeed (codes "close") o a b act) (sym (deed_of-Close c.in_ok-end.end))
+    subst (λ (deed : DeedAt). ReadsDeed (codes "close") o a b deed) (sym (deed_of-Close c.in_ok-end.end))
     (record { first = refl; parts = parts_on (a_name c.in_ok-end.end ∷ []) (a_piece (codes ";") ∷ []) a m b c.in_ok-end.ensures.reads (b, taken, refl) })

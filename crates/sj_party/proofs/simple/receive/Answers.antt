@@ -40,6 +40,6 @@ returns-clause-reads c = λ o.
     let taken = plain c.take_awaited.new.tokens c.expect.new.self c.take_awaited.new.names (codes ";") refl refl c.in_ok-expect.ensures.ok in
     let x = c.in_ok-end.end in
     let y = c.in_ok-end.into in
-    subst (λ (act : DeedAt). ReadsDeed (codes "recv") o a b act) (sym c.taking.ensures)
+    subst (λ (deed : DeedAt). ReadsDeed (codes "recv") o a b deed) (sym c.taking.ensures)
     (taken_deed o x y c.in_ok-what.what a b (parts_on (a_name x ∷ a_name y ∷ []) (awaited_part c.in_ok-what.what ∷ a_piece (codes ";") ∷ []) a m b c.in_ok-end.ensures.reads
     (parts_on (awaited_part c.in_ok-what.what ∷ []) (a_piece (codes ";") ∷ []) m u b c.in_ok-what.ensures.reads (b, taken, refl))))

@@ -29,5 +29,5 @@ returns-clause-reads c = λ o.
     let m = standing c.two_names.new.tokens c.two_names.new.names in
     let b = standing c.expect.new.self c.two_names.new.names in
     let taken = plain c.two_names.new.tokens c.expect.new.self c.two_names.new.names (codes ";") refl refl c.in_ok-expect.ensures.ok in
-    subst (λ (act : DeedAt). ReadsDeed (codes "outbranch") o a b act) (sym (deed_of-Select c.in_ok-end.end c.in_ok-end.label))
+    subst (λ (deed : DeedAt). ReadsDeed (codes "outbranch") o a b deed) (sym (deed_of-Select c.in_ok-end.end c.in_ok-end.label))
     (record { first = refl; parts = parts_on (a_name c.in_ok-end.end ∷ a_name c.in_ok-end.label ∷ []) (a_piece (codes ";") ∷ []) a m b c.in_ok-end.ensures.reads (b, taken, refl) })

@@ -31,5 +31,5 @@ returns-clause-reads c = λ o.
     let m = standing c.name_and_value.new.tokens c.name_and_value.new.names in
     let b = standing c.expect.new.self c.name_and_value.new.names in
     let taken = plain c.name_and_value.new.tokens c.expect.new.self c.name_and_value.new.names (codes ";") refl refl c.in_ok-expect.ensures.ok in
-    subst (λ (act : DeedAt). ReadsDeed (codes "send") o a b act) (sym (deed_of-Send c.in_ok-end.end c.in_ok-end.value))
+    subst (λ (deed : DeedAt). ReadsDeed (codes "send") o a b deed) (sym (deed_of-Send c.in_ok-end.end c.in_ok-end.value))
     (record { first = refl; parts = parts_on (a_name c.in_ok-end.end ∷ an_expression (term_of c.in_ok-end.value) ∷ []) (a_piece (codes ";") ∷ []) a m b c.in_ok-end.ensures.reads (b, taken, refl) })

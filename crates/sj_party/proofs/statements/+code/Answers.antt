@@ -156,7 +156,7 @@ deed-returns-in_ok-body-in-Outwhile-clause-reads t c =
     let m = standing c.name_and_value.new.tokens c.name_and_value.new.names in
     let b = standing c.block.new.tokens c.block.new.names in
     let code = code_of c.in_ok-body-in-Outwhile.body.items in
-    subst (λ (act : DeedAt). ReadsDeed (word_of c.args.opening) o a b act) (sym (deed_of-OutWhile c.in_ok-end-in-Outwhile.end c.in_ok-end-in-Outwhile.count c.in_ok-body-in-Outwhile.body))
+    subst (λ (deed : DeedAt). ReadsDeed (word_of c.args.opening) o a b deed) (sym (deed_of-OutWhile c.in_ok-end-in-Outwhile.end c.in_ok-end-in-Outwhile.count c.in_ok-body-in-Outwhile.body))
     (subst (λ (w : Opening). ReadsDeed (word_of w) o a b (outwhile c.in_ok-end-in-Outwhile.end (term_of c.in_ok-end-in-Outwhile.count) code)) (sym c.in-Outwhile.is)
     (record { first = refl; parts = parts_on (a_name c.in_ok-end-in-Outwhile.end ∷ an_expression (term_of c.in_ok-end-in-Outwhile.count) ∷ []) (a_block o code ∷ []) a m b c.in_ok-end-in-Outwhile.ensures.reads (b, c.in_ok-body-in-Outwhile.ensures.reads, refl) }))
 
@@ -182,7 +182,7 @@ deed-returns-in_ok-body-in-Inwhile-clause-reads t c =
     let m = standing c.one_name.new.tokens c.one_name.new.names in
     let b = standing c.block-in-Inwhile.new.tokens c.block-in-Inwhile.new.names in
     let code = code_of c.in_ok-body-in-Inwhile.body.items in
-    subst (λ (act : DeedAt). ReadsDeed (word_of c.args.opening) o a b act) (sym (deed_of-InWhile c.in_ok-end-in-Inwhile.end c.in_ok-body-in-Inwhile.body))
+    subst (λ (deed : DeedAt). ReadsDeed (word_of c.args.opening) o a b deed) (sym (deed_of-InWhile c.in_ok-end-in-Inwhile.end c.in_ok-body-in-Inwhile.body))
     (subst (λ (w : Opening). ReadsDeed (word_of w) o a b (inwhile c.in_ok-end-in-Inwhile.end code)) (sym c.in-Inwhile.is)
     (record { first = refl; parts = parts_on (a_name c.in_ok-end-in-Inwhile.end ∷ []) (a_block o code ∷ []) a m b c.in_ok-end-in-Inwhile.ensures.reads (b, c.in_ok-body-in-Inwhile.ensures.reads, refl) }))
 
@@ -208,7 +208,7 @@ deed-returns-in_ok-body-in-Relay-clause-reads t c =
     let m = standing c.two_names.new.tokens c.two_names.new.names in
     let b = standing c.block-in-Relay.new.tokens c.block-in-Relay.new.names in
     let code = code_of c.in_ok-body-in-Relay.body.items in
-    subst (λ (act : DeedAt). ReadsDeed (word_of c.args.opening) o a b act) (sym (deed_of-Relay c.in_ok-from-in-Relay.from c.in_ok-from-in-Relay.to c.in_ok-body-in-Relay.body))
+    subst (λ (deed : DeedAt). ReadsDeed (word_of c.args.opening) o a b deed) (sym (deed_of-Relay c.in_ok-from-in-Relay.from c.in_ok-from-in-Relay.to c.in_ok-body-in-Relay.body))
     (subst (λ (w : Opening). ReadsDeed (word_of w) o a b (relay c.in_ok-from-in-Relay.from c.in_ok-from-in-Relay.to code)) (sym c.in-Relay.is)
     (record { first = refl; parts = parts_on (a_name c.in_ok-from-in-Relay.from ∷ a_name c.in_ok-from-in-Relay.to ∷ []) (a_block o code ∷ []) a m b c.in_ok-from-in-Relay.ensures.reads (b, c.in_ok-body-in-Relay.ensures.reads, refl) }))
 
@@ -278,7 +278,7 @@ inbranch-returns-clause-reads t c =
     let front = parts_on (a_name c.in_ok-end.end ∷ []) (a_piece (codes "{") ∷ []) a m u c.in_ok-end.ensures.reads (u, brace, refl) in
     let bs = branches_of (map arm_of c.in_ok-arms.arms.items) in
     let close = plain c.arms.new.tokens c.expect-2.new.self c.arms.new.names (codes "}") refl refl c.in_ok-expect-2.ensures.ok in
-    subst (λ (act : DeedAt). ReadsDeed (codes "inbranch") o a b act) (sym (deed_of-Branch c.in_ok-end.end c.in_ok-arms.arms))
+    subst (λ (deed : DeedAt). ReadsDeed (codes "inbranch") o a b deed) (sym (deed_of-Branch c.in_ok-end.end c.in_ok-arms.arms))
     (record { first = refl; parts = parts_on (a_name c.in_ok-end.end ∷ a_piece (codes "{") ∷ []) (some_arms o bs ∷ a_piece (codes "}") ∷ []) a u b front (v, c.in_ok-arms.ensures.reads, (b, close, refl)) })
 
 pub statements-all-init : goal.statements-all-init
@@ -311,9 +311,9 @@ statements-all-preserved t c =
     let b = standing c.deed.new.tokens c.deed.new.names in
     let begun = c.in-Some.begun in
     let x = c.statement.result in
-    let act = deed_of c.in_ok-deed.deed in
+    let deed = deed_of c.in_ok-deed.deed in
     let one = subst (λ (s : StmtAt). ReadsOnLines m b (λ names ps. IsStatement limits names o s ps)) (sym c.statement.ensures)
-    (statement_read o begun.line act (word_of begun.opening) m u b (word_piece begun.opening begun.line c.all.tokens c.begin.new.tokens c.all.names c.in-Some.ensures.taken c.in-Some.ensures.line) c.in_ok-deed.ensures.reads) in
+    (statement_read o begun.line deed (word_of begun.opening) m u b (word_piece begun.opening begun.line c.all.tokens c.begin.new.tokens c.all.names c.in-Some.ensures.taken c.in-Some.ensures.line) c.in_ok-deed.ensures.reads) in
     record {
       reads = subst (λ (ys : List Stmt). ReadsCode o a b (code_of ys)) (sym c.in_ok-push.ensures.items) (code_more o c.all.list.items x a m b c.all.invariant.reads one);
       room = keeps_on c.args.names.now c.all.names c.deed.new.names c.args.tokens.now c.all.tokens c.begin.new.tokens c.deed.new.tokens c.all.invariant.room c.in-Some.ensures.shorter c.in_ok-deed.ensures.leaves.room;
@@ -370,5 +370,5 @@ test-returns-clause-reads t c =
     let v = standing c.expect.new.self c.block.new.names in
     let b = standing c.block-2.new.tokens c.block-2.new.names in
     let taken = plain c.block.new.tokens c.expect.new.self c.block.new.names (codes "else") no_name_else refl c.in_ok-expect.ensures.ok in
-    subst (λ (act : DeedAt). ReadsDeed (codes "if") o a b act) (sym (deed_of-If c.in_ok-test.test c.in_ok-yes.yes c.in_ok-no.no))
+    subst (λ (deed : DeedAt). ReadsDeed (codes "if") o a b deed) (sym (deed_of-If c.in_ok-test.test c.in_ok-yes.yes c.in_ok-no.no))
     (record { first = refl; parts = (m, c.in_ok-test.ensures.reads, (u, c.in_ok-yes.ensures.reads, (v, taken, (b, c.in_ok-no.ensures.reads, refl)))) })
