@@ -6,7 +6,7 @@ use Rattle.sj_machine.specs.declared.arena.ArmAt.{ArmAt}
 use Rattle.sj_machine.specs.declared.arena.Op.{Op}
 use Rattle.sj_machine.specs.declared.arena.Op.TheVariants.{Send, Delegate, Take, TakeEnd, Select, Branch, OutWhile, InWhile, Relay, If, Let, Close}
 use Rattle.sj_machine.specs.declared.arena.Node.{Node}
-use Rattle.sj_machine.specs.Arena.{code_in, arms_in, act_in, node_code, codes_from, codes_of, IsBelow, AreBelow, IsOpBelow, IsBackward}
+use Rattle.sj_machine.specs.Arena.{code_in, arms_in, deed_in, node_code, codes_from, codes_of, IsBelow, AreBelow, IsOpBelow, IsBackward}
 
 -- ---- below
 
@@ -57,22 +57,22 @@ pub arms_kept : (codes : List Code) (ns : List Node) (arms : List ArmAt) → Are
 arms_kept codes ns [] h = refl
 arms_kept codes ns (a ∷ arms) h = λ i. branch a.label (code_kept codes ns a.body h.0 i) (arms_kept codes ns arms h.1 i)
 
-pub act_kept : (codes : List Code) (ns : List Node) (op : Op) → IsOpBelow (length codes) op → act_in (codes_from codes ns) op ≡ act_in codes op
-act_kept codes ns (Send x e) h = refl
-act_kept codes ns (Delegate x y) h = refl
-act_kept codes ns (Take x n k) h = refl
-act_kept codes ns (TakeEnd x y p) h = refl
-act_kept codes ns (Select x m) h = refl
-act_kept codes ns (Branch x arms) h = ap (inbranch x) (arms_kept codes ns arms.items h)
-act_kept codes ns (OutWhile x e body) h = ap (outwhile x (term_of e)) (code_kept codes ns body h)
-act_kept codes ns (InWhile x body) h = ap (inwhile x) (code_kept codes ns body h)
-act_kept codes ns (Relay x y body) h = ap (relay x y) (code_kept codes ns body h)
-act_kept codes ns (If e first second) h = λ i. if_else (term_of e) (code_kept codes ns first h.0 i) (code_kept codes ns second h.1 i)
-act_kept codes ns (Let n e) h = refl
-act_kept codes ns (Close x) h = refl
+pub deed_kept : (codes : List Code) (ns : List Node) (op : Op) → IsOpBelow (length codes) op → deed_in (codes_from codes ns) op ≡ deed_in codes op
+deed_kept codes ns (Send x e) h = refl
+deed_kept codes ns (Delegate x y) h = refl
+deed_kept codes ns (Take x n k) h = refl
+deed_kept codes ns (TakeEnd x y p) h = refl
+deed_kept codes ns (Select x m) h = refl
+deed_kept codes ns (Branch x arms) h = ap (inbranch x) (arms_kept codes ns arms.items h)
+deed_kept codes ns (OutWhile x e body) h = ap (outwhile x (term_of e)) (code_kept codes ns body h)
+deed_kept codes ns (InWhile x body) h = ap (inwhile x) (code_kept codes ns body h)
+deed_kept codes ns (Relay x y body) h = ap (relay x y) (code_kept codes ns body h)
+deed_kept codes ns (If e first second) h = λ i. if_else (term_of e) (code_kept codes ns first h.0 i) (code_kept codes ns second h.1 i)
+deed_kept codes ns (Let n e) h = refl
+deed_kept codes ns (Close x) h = refl
 
 node_kept : (codes : List Code) (ns : List Node) (n : Node) → IsBelow (length codes) n.next → IsOpBelow (length codes) n.op → node_code (codes_from codes ns) n ≡ node_code codes n
-node_kept codes ns n a b = λ i. stmt_then (at n.line (act_kept codes ns n.op b i)) (code_kept codes ns n.next a i)
+node_kept codes ns n a b = λ i. stmt_then (at n.line (deed_kept codes ns n.op b i)) (code_kept codes ns n.next a i)
 
 -- ---- the block that begins with a node
 

@@ -7,7 +7,7 @@ use Rattle.sj_machine.specs.declared.stack.Stage.TheVariants.{Fresh}
 use Rattle.sj_machine.specs.declared.stack.Frame.{Frame}
 use Rattle.sj_machine.specs.declared.stack.After.{After}
 use Rattle.sj_machine.specs.declared.stack.After.TheVariants.{Past, Stays}
-use Rattle.sj_machine.specs.Arena.{code_in, act_in, node_code, codes_of, IsBelow, IsOpBelow, IsBackward}
+use Rattle.sj_machine.specs.Arena.{code_in, deed_in, node_code, codes_of, IsBelow, IsOpBelow, IsBackward}
 use Rattle.sj_machine.specs.Frames.{entry_frames, frames_after, thing_at, staged, todo_from, todo_after, LeadsBelow, Fits}
 use Rattle.sj_machine.proofs.ArenaLemmas.{node_code_of, backward_at}
 
@@ -19,7 +19,7 @@ todo_append codes (f ∷ fs) gs rest = todo_append codes fs gs (staged f.stage (
 
 staged_fresh : (code : Code) (rest : List Thing) → staged Fresh code rest ≡ block code rest
 staged_fresh no_stmt rest = refl
-staged_fresh (stmt_then (at line act) code) rest = refl
+staged_fresh (stmt_then (at line deed) code) rest = refl
 
 pub todo_entered : (codes : List Code) (b : Option ℕ) (rest : List Thing) → todo_from codes (entry_frames b) rest ≡ block (code_in codes b) rest
 todo_entered codes None rest = refl
@@ -27,11 +27,11 @@ todo_entered codes (Some i) rest = staged_fresh (code_in codes (Some i)) rest
 
 -- the statement of a frame, and what is behind it
 pub todo_top : (codes : List Code) (fs : List Frame) (f : Frame) (n : Node) → code_in codes (Some f.at) ≡ node_code codes n
-    → todo_from codes (fs ++ f ∷ []) [] ≡ thing_at f.stage (act_in codes n.op) ∷ block (code_in codes n.next) (todo_from codes fs [])
+    → todo_from codes (fs ++ f ∷ []) [] ≡ thing_at f.stage (deed_in codes n.op) ∷ block (code_in codes n.next) (todo_from codes fs [])
 todo_top codes fs f n e = todo_append codes fs (f ∷ []) [] ∙ ap (λ (c : Code). staged f.stage c (todo_from codes fs [])) e
 
 todo_leave : (codes : List Code) (f : Frame) (n : Node) (after : After) (rest : List Thing) → code_in codes (Some f.at) ≡ node_code codes n
-    → todo_from codes (frames_after f n.next after) rest ≡ todo_after codes (act_in codes n.op) after (block (code_in codes n.next) rest)
+    → todo_from codes (frames_after f n.next after) rest ≡ todo_after codes (deed_in codes n.op) after (block (code_in codes n.next) rest)
 todo_leave codes f n (Past inside) rest e =
     todo_append codes (entry_frames n.next) (entry_frames inside) rest ∙ todo_entered codes inside (todo_from codes (entry_frames n.next) rest) ∙ ap (block (code_in codes inside)) (todo_entered codes n.next rest)
 todo_leave codes f n (Stays stage inside) rest e =
@@ -92,11 +92,11 @@ popped nodes old fs f n e back h is =
     record { code = node_code_of nodes f.at n back (omega arith) is; below = b.0; inside = b.1; rooms = lt; fits = t.0 }
 
 pub top_is : (nodes : List Node) (old fs : List Frame) (f : Frame) (n : Node) → old ≡ fs ++ f ∷ [] → Popped nodes fs f n
-    → todo_from (codes_of nodes) old [] ≡ thing_at f.stage (act_in (codes_of nodes) n.op) ∷ block (code_in (codes_of nodes) n.next) (todo_from (codes_of nodes) fs [])
+    → todo_from (codes_of nodes) old [] ≡ thing_at f.stage (deed_in (codes_of nodes) n.op) ∷ block (code_in (codes_of nodes) n.next) (todo_from (codes_of nodes) fs [])
 top_is nodes old fs f n e p = ap (λ (t : List Frame). todo_from (codes_of nodes) t []) e ∙ todo_top (codes_of nodes) fs f n p.code
 
 pub left_is : (nodes : List Node) (new fs : List Frame) (f : Frame) (n : Node) (after : After) → new ≡ fs ++ frames_after f n.next after → Popped nodes fs f n
-    → todo_from (codes_of nodes) new [] ≡ todo_after (codes_of nodes) (act_in (codes_of nodes) n.op) after (block (code_in (codes_of nodes) n.next) (todo_from (codes_of nodes) fs []))
+    → todo_from (codes_of nodes) new [] ≡ todo_after (codes_of nodes) (deed_in (codes_of nodes) n.op) after (block (code_in (codes_of nodes) n.next) (todo_from (codes_of nodes) fs []))
 left_is nodes new fs f n after e p =
     ap (λ (t : List Frame). todo_from (codes_of nodes) t []) e ∙ todo_append (codes_of nodes) fs (frames_after f n.next after) [] ∙ todo_leave (codes_of nodes) f n after (todo_from (codes_of nodes) fs []) p.code
 

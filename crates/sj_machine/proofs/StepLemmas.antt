@@ -4,7 +4,7 @@ use Rattle.sj_semantics.specs.Program.{Thing, block}
 use Rattle.sj_machine.specs.declared.arena.Node.{Node}
 use Rattle.sj_machine.specs.declared.stack.Frame.{Frame}
 use Rattle.sj_machine.specs.declared.stack.After.{After}
-use Rattle.sj_machine.specs.Arena.{act_in, code_in, codes_of, IsOpBelow, IsBackward}
+use Rattle.sj_machine.specs.Arena.{deed_in, code_in, codes_of, IsOpBelow, IsBackward}
 use Rattle.sj_machine.specs.Frames.{frames_after, thing_at, todo_from, todo_after, LeadsBelow, Fits}
 use Rattle.sj_machine.specs.Names.{BindsBelow, AllBindBelow}
 use Rattle.sj_machine.proofs.FrameLemmas.{frame_there, popped, top_is, left_is, left_fits, leave_room}
@@ -12,7 +12,7 @@ use Rattle.sj_machine.proofs.FrameLemmas.{frame_there, popped, top_is, left_is, 
 module _ (nodes : List Node) (old fs : List Frame) (f : Frame) (n : Node) (e : old ≡ fs ++ f ∷ []) (back : IsBackward 0 nodes) (fits : Fits (length nodes) 0 old) (is : n ≡ get_or nodes f.at n) where
   -- what the step makes of what is to do
   pub step_todo : (new : List Frame) (after : After) (makes : List Thing → List Thing) → new ≡ fs ++ frames_after f n.next after
-      → ((rest : List Thing) → makes (thing_at f.stage (act_in (codes_of nodes) n.op) ∷ rest) ≡ todo_after (codes_of nodes) (act_in (codes_of nodes) n.op) after rest)
+      → ((rest : List Thing) → makes (thing_at f.stage (deed_in (codes_of nodes) n.op) ∷ rest) ≡ todo_after (codes_of nodes) (deed_in (codes_of nodes) n.op) after rest)
       → todo_from (codes_of nodes) new [] ≡ makes (todo_from (codes_of nodes) old [])
   step_todo new after makes left todo =
       let p = popped nodes old fs f n e back fits is in
@@ -21,7 +21,7 @@ module _ (nodes : List Node) (old fs : List Frame) (f : Frame) (n : Node) (e : o
       ∙ sym (ap makes (top_is nodes old fs f n e p))
 
   -- what else it makes, by the first thing to do
-  pub step_makes : {X : Type 0} (x : X) (makes : List Thing → X) → ((rest : List Thing) → x ≡ makes (thing_at f.stage (act_in (codes_of nodes) n.op) ∷ rest)) → x ≡ makes (todo_from (codes_of nodes) old [])
+  pub step_makes : {X : Type 0} (x : X) (makes : List Thing → X) → ((rest : List Thing) → x ≡ makes (thing_at f.stage (deed_in (codes_of nodes) n.op) ∷ rest)) → x ≡ makes (todo_from (codes_of nodes) old [])
   step_makes x makes by =
       by (block (code_in (codes_of nodes) n.next) (todo_from (codes_of nodes) fs []))
       ∙ sym (ap makes (top_is nodes old fs f n e (popped nodes old fs f n e back fits is)))

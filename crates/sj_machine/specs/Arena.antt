@@ -18,23 +18,23 @@ arms_in codes [] = no_branch
 arms_in codes (a ∷ as') = branch a.label (code_in codes a.body) (arms_in codes as')
 
 -- the statement of an operation
-abbrev pub act_in : List Code → Op → DeedAt
-act_in codes (Send x e) = send x (term_of e)
-act_in codes (Delegate x y) = delegate x y
-act_in codes (Take x n k) = take_value x n k
-act_in codes (TakeEnd x y p) = take_end x y p
-act_in codes (Select x l) = outbranch x l
-act_in codes (Branch x arms) = inbranch x (arms_in codes arms.items)
-act_in codes (OutWhile x e body) = outwhile x (term_of e) (code_in codes body)
-act_in codes (InWhile x body) = inwhile x (code_in codes body)
-act_in codes (Relay x y body) = relay x y (code_in codes body)
-act_in codes (If e first second) = if_else (term_of e) (code_in codes first) (code_in codes second)
-act_in codes (Let n e) = let_be n (term_of e)
-act_in codes (Close x) = close x
+abbrev pub deed_in : List Code → Op → DeedAt
+deed_in codes (Send x e) = send x (term_of e)
+deed_in codes (Delegate x y) = delegate x y
+deed_in codes (Take x n k) = take_value x n k
+deed_in codes (TakeEnd x y p) = take_end x y p
+deed_in codes (Select x l) = outbranch x l
+deed_in codes (Branch x arms) = inbranch x (arms_in codes arms.items)
+deed_in codes (OutWhile x e body) = outwhile x (term_of e) (code_in codes body)
+deed_in codes (InWhile x body) = inwhile x (code_in codes body)
+deed_in codes (Relay x y body) = relay x y (code_in codes body)
+deed_in codes (If e first second) = if_else (term_of e) (code_in codes first) (code_in codes second)
+deed_in codes (Let n e) = let_be n (term_of e)
+deed_in codes (Close x) = close x
 
 -- a node's statement, and the block behind it
 abbrev pub node_code : List Code → Node → Code
-node_code codes n = stmt_then (at n.line (act_in codes n.op)) (code_in codes n.next)
+node_code codes n = stmt_then (at n.line (deed_in codes n.op)) (code_in codes n.next)
 
 -- the blocks that begin with each of these nodes, behind those that there are
 abbrev pub codes_from : List Code → List Node → List Code

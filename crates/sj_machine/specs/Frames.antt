@@ -28,12 +28,12 @@ frames_after f next (Stays stage block) = record { at = f.at; stage = stage } �
 abbrev pub thing_at : Stage → DeedAt → Thing
 thing_at (Turns n) (outwhile x e body) = turns x n body
 thing_at (Passing more) (relay x y body) = passing x y more body
-thing_at stage act = statement act
+thing_at stage deed = statement deed
 
 -- the first statement of the block at that stage, and the others behind it
 abbrev pub staged : Stage → Code → List Thing → List Thing
 staged stage no_stmt rest = rest
-staged stage (stmt_then (at line act) code) rest = thing_at stage act ∷ block code rest
+staged stage (stmt_then (at line deed) code) rest = thing_at stage deed ∷ block code rest
 
 -- what is to do at frames, the outermost first
 abbrev pub todo_from : List Code → List Frame → List Thing → List Thing
@@ -46,8 +46,8 @@ todo_in nodes frames = todo_from (codes_of nodes) frames []
 
 -- what is to do after a step of the statement, where that is behind it
 abbrev pub todo_after : List Code → DeedAt → After → List Thing → List Thing
-todo_after codes act (Past inside) rest = block (code_in codes inside) rest
-todo_after codes act (Stays stage inside) rest = block (code_in codes inside) (thing_at stage act ∷ rest)
+todo_after codes deed (Past inside) rest = block (code_in codes inside) rest
+todo_after codes deed (Stays stage inside) rest = block (code_in codes inside) (thing_at stage deed ∷ rest)
 
 -- the turns that a loop has left: at its beginning what its count comes to
 abbrev pub turns_at : Vars → Stage → Term → ℕ

@@ -2,7 +2,7 @@
 ghost use Rattle.std.specs.Prelude.{◌≡◌, length, IfOk, map};
 ghost use Rattle.sj_lang.specs.Code.{at, stmt_then};
 ghost use Rattle.sj_lang.specs.CodeView.{arm_of, branches_of, code_of, deed_of};
-ghost use Rattle.sj_machine.specs.Arena.{AreBelow, Grown, IsBackward, IsBelow, IsOpBelow, act_in, arms_in, code_in, codes_of};
+ghost use Rattle.sj_machine.specs.Arena.{AreBelow, Grown, IsBackward, IsBelow, IsOpBelow, deed_in, arms_in, code_in, codes_of};
 
 use crate::arena::{ArmAt, Node, Op};
 use sj_base::NoMemory;
@@ -44,7 +44,7 @@ fn add_node(
     requires next { IsBelow (length nodes.old.items) next }
     requires op { IsOpBelow (length nodes.old.items) op }
     ensures code { IfOk result (λ i. code_in (codes_of nodes.new.items) (Some i)
-        ≡ stmt_then (at line (act_in (codes_of nodes.old.items) op))
+        ≡ stmt_then (at line (deed_in (codes_of nodes.old.items) op))
         (code_in (codes_of nodes.old.items) next)) }
     ensures below { IfOk result (λ i. IsBelow (length nodes.new.items) (Some i)) }
     ensures grown { IfOk result (λ _. Grown nodes.old.items nodes.new.items) }
@@ -57,7 +57,7 @@ fn add_node(
 #[cycle(build)]
 fn add_op(alloc: Global, nodes: &mut Vec<Node>, deed: &Deed) -> Result<Op, NoMemory>
     requires { IsBackward 0 nodes.old.items }
-    ensures act { IfOk result (λ op. act_in (codes_of nodes.new.items) op ≡ deed_of deed.now) }
+    ensures deed { IfOk result (λ op. deed_in (codes_of nodes.new.items) op ≡ deed_of deed.now) }
     ensures below { IfOk result (λ op. IsOpBelow (length nodes.new.items) op) }
     ensures grown { IfOk result (λ _. Grown nodes.old.items nodes.new.items) }
 {

@@ -1,7 +1,7 @@
 //! What the steps of a statement do to variables and to ends.
 ghost use Rattle.std.specs.Prelude.{◌≡◌, ◌≤◌, ℕ, List, ◌∷◌, length, vec_capacity};
 ghost use Rattle.sj_lang.specs.Code.{Code};
-ghost use Rattle.sj_machine.specs.Arena.{act_in};
+ghost use Rattle.sj_machine.specs.Arena.{deed_in};
 ghost use Rattle.sj_machine.specs.Frames.{thing_at};
 ghost use Rattle.sj_machine.specs.Names.{AreNamedOnce, BindsBelow};
 ghost use Rattle.sj_machine.specs.Table.{vars_in};
@@ -20,7 +20,7 @@ pub fn vars_local(vars: &mut [Option<Value>], op: &Op)
     requires { BindsBelow (length vars.old) op.now }
     ensures { (codes : List Code) (stage : Stage) (rest : List Thing) →
         vars_in vars.new
-        ≡ vars_after_local (vars_in vars.old) (thing_at stage (act_in codes op.now) ∷ rest) }
+        ≡ vars_after_local (vars_in vars.old) (thing_at stage (deed_in codes op.now) ∷ rest) }
 {
     if let Op::Let { name, value } = op {
         if let Some(value) = worth_of(vars, value) {
@@ -34,7 +34,7 @@ pub fn vars_took(vars: &mut [Option<Value>], op: &Op, msg: Msg)
     requires { BindsBelow (length vars.old) op.now }
     ensures { (codes : List Code) (stage : Stage) (rest : List Thing) →
         vars_in vars.new
-        ≡ vars_after_took (vars_in vars.old) (thing_at stage (act_in codes op.now) ∷ rest) msg }
+        ≡ vars_after_took (vars_in vars.old) (thing_at stage (deed_in codes op.now) ∷ rest) msg }
 {
     if let Op::Take { into, .. } = op {
         match msg {
@@ -50,7 +50,7 @@ pub fn vars_took(vars: &mut [Option<Value>], op: &Op, msg: Msg)
 pub fn ends_sent(ends: &mut Vec<(u16, EndId)>, op: &Op)
     ensures ends { (codes : List Code) (stage : Stage) (rest : List Thing) →
         ends.new.items
-        ≡ ends_after_sent ends.old.items (thing_at stage (act_in codes op.now) ∷ rest) }
+        ≡ ends_after_sent ends.old.items (thing_at stage (deed_in codes op.now) ∷ rest) }
     ensures once { (size : ℕ) → AreNamedOnce size ends.old.items →
         AreNamedOnce size ends.new.items }
     ensures room { vec_capacity ends.old ≤ vec_capacity ends.new }
@@ -66,7 +66,7 @@ pub fn ends_took(ends: &mut Vec<(u16, EndId)>, op: &Op, msg: Msg)
     requires below { BindsBelow (vec_capacity ends.old) op.now }
     ensures ends { (codes : List Code) (stage : Stage) (rest : List Thing) →
         ends.new.items
-        ≡ ends_after_took ends.old.items (thing_at stage (act_in codes op.now) ∷ rest) msg }
+        ≡ ends_after_took ends.old.items (thing_at stage (deed_in codes op.now) ∷ rest) msg }
     ensures once { (size : ℕ) → AreNamedOnce size ends.old.items → BindsBelow size op.now →
         AreNamedOnce size ends.new.items }
     ensures room { vec_capacity ends.old ≤ vec_capacity ends.new }
@@ -82,7 +82,7 @@ pub fn ends_took(ends: &mut Vec<(u16, EndId)>, op: &Op, msg: Msg)
 pub fn ends_closed(ends: &mut Vec<(u16, EndId)>, op: &Op)
     ensures ends { (codes : List Code) (stage : Stage) (rest : List Thing) →
         ends.new.items
-        ≡ ends_after_closed ends.old.items (thing_at stage (act_in codes op.now) ∷ rest) }
+        ≡ ends_after_closed ends.old.items (thing_at stage (deed_in codes op.now) ∷ rest) }
     ensures once { (size : ℕ) → AreNamedOnce size ends.old.items →
         AreNamedOnce size ends.new.items }
     ensures room { vec_capacity ends.old ≤ vec_capacity ends.new }

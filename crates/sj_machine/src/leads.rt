@@ -2,7 +2,7 @@
 ghost use Rattle.std.specs.Prelude.{◌≡◌, ◌<◌, ℕ, List, ◌∷◌};
 ghost use Rattle.sj_lang.specs.Code.{Code};
 ghost use Rattle.sj_lang.specs.CodeView.{term_of};
-ghost use Rattle.sj_machine.specs.Arena.{AreBelow, IsBelow, IsOpBelow, act_in, arms_in, code_in};
+ghost use Rattle.sj_machine.specs.Arena.{AreBelow, IsBelow, IsOpBelow, deed_in, arms_in, code_in};
 ghost use Rattle.sj_machine.specs.Frames.{LeadsBelow, thing_at, todo_after, turn_with, turns_at};
 ghost use Rattle.sj_machine.specs.Table.{vars_in};
 ghost use Rattle.sj_machine.specs.declared.stack.Stage.{Stage};
@@ -19,8 +19,8 @@ use sj_semantics::Value;
 /// After a step without a message.
 pub fn after_local(vars: &[Option<Value>], op: &Op) -> After
     ensures todo { (codes : List Code) (stage : Stage) (rest : List Thing) →
-        todo_after_local (vars_in vars.now) (thing_at stage (act_in codes op.now) ∷ rest)
-        ≡ todo_after codes (act_in codes op.now) result rest }
+        todo_after_local (vars_in vars.now) (thing_at stage (deed_in codes op.now) ∷ rest)
+        ≡ todo_after codes (deed_in codes op.now) result rest }
     ensures below { (k : ℕ) → IsOpBelow k op.now → LeadsBelow k result }
 {
     match op {
@@ -35,8 +35,8 @@ pub fn after_local(vars: &[Option<Value>], op: &Op) -> After
 /// After a step that sends.
 pub fn after_sent(vars: &[Option<Value>], stage: Stage, op: &Op) -> After
     ensures todo { (codes : List Code) (rest : List Thing) →
-        todo_after_sent (vars_in vars.now) (thing_at stage (act_in codes op.now) ∷ rest)
-        ≡ todo_after codes (act_in codes op.now) result rest }
+        todo_after_sent (vars_in vars.now) (thing_at stage (deed_in codes op.now) ∷ rest)
+        ≡ todo_after codes (deed_in codes op.now) result rest }
     ensures below { (k : ℕ) → IsOpBelow k op.now → LeadsBelow k result }
 {
     match op {
@@ -76,8 +76,8 @@ fn turned(left: u16, body: Option<usize>) -> After
 /// After a step that took a message.
 pub fn after_took(stage: Stage, op: &Op, msg: Msg) -> After
     ensures todo { (codes : List Code) (rest : List Thing) →
-        todo_after_took (thing_at stage (act_in codes op.now) ∷ rest) msg
-        ≡ todo_after codes (act_in codes op.now) result rest }
+        todo_after_took (thing_at stage (deed_in codes op.now) ∷ rest) msg
+        ≡ todo_after codes (deed_in codes op.now) result rest }
     ensures below { (k : ℕ) → IsOpBelow k op.now → LeadsBelow k result }
 {
     match op {

@@ -2,7 +2,7 @@
 ghost use Rattle.std.specs.Prelude.{◌≡◌, ◌<◌, List, ◌∷◌, Some, None, option_map, unwrap_or};
 ghost use Rattle.sj_lang.specs.Code.{Code};
 ghost use Rattle.sj_lang.specs.CodeView.{term_of};
-ghost use Rattle.sj_machine.specs.Arena.{act_in, arms_in};
+ghost use Rattle.sj_machine.specs.Arena.{deed_in, arms_in};
 ghost use Rattle.sj_machine.specs.Frames.{more_at, thing_at};
 ghost use Rattle.sj_machine.specs.Table.{vars_in};
 ghost use Rattle.sj_semantics.specs.declared.Want.TheVariants.{Ended};
@@ -23,7 +23,7 @@ use sj_semantics::{Awaits, Value, Want};
 pub fn want_at(vars: &[Option<Value>], ends: &[(u16, EndId)], stage: Stage, op: &Op) -> Want
     ensures { (codes : List Code) (rest : List Thing) →
         result ≡ unwrap_or (want_of_todo (vars_in vars.now) ends.now
-        (thing_at stage (act_in codes op.now) ∷ rest)) Ended }
+        (thing_at stage (deed_in codes op.now) ∷ rest)) Ended }
 {
     match op {
         Op::Send { end, value } => sends(end_named(ends, *end), message_in(vars, value)),
@@ -117,7 +117,7 @@ fn more_in(vars: &[Option<Value>], stage: Stage, count: &Expr) -> Option<Msg>
 /// Whether a statement can take the message.
 pub fn fits_at(stage: Stage, op: &Op, msg: &Msg) -> bool
     ensures { (codes : List Code) (rest : List Thing) →
-        result ≡ fits_todo (thing_at stage (act_in codes op.now) ∷ rest) msg.now }
+        result ≡ fits_todo (thing_at stage (deed_in codes op.now) ∷ rest) msg.now }
 {
     match op {
         Op::Take { kind, .. } => is_of(*kind, msg),

@@ -13,15 +13,15 @@ add_block-loop-at-preserved t c =
       within = let l = h.within in omega arith;
       code =
           c.in_ok-add_node.ensures.code
-          ∙ then_same c.index-stmts-at.result.line _ _ _ _ c.in_ok-op.ensures.act (grown_code c.loop-at.nodes.items c.add_op.new.nodes.items c.loop-at.next c.in_ok-op.ensures.grown h.below ∙ h.code)
+          ∙ then_same c.index-stmts-at.result.line _ _ _ _ c.in_ok-op.ensures.deed (grown_code c.loop-at.nodes.items c.add_op.new.nodes.items c.loop-at.next c.in_ok-op.ensures.grown h.below ∙ h.code)
           ∙ ap (λ (s : StmtAt). stmt_then s (code_of (drop c.loop-at.at c.args.stmts.now))) (sym (stmt_of-fields c.index-stmts-at.result))
           ∙ sym (code_before c.args.stmts.now c.loop-at.at c.index-stmts-at.result c.loop-at-test.true h.within c.index-stmts-at.is);
       below = c.in_ok-add_node.ensures.below;
       grown = grown_twice _ _ _ h.grown (grown_twice _ _ _ c.in_ok-op.ensures.grown c.in_ok-add_node.ensures.grown);
     }
 
-pub add_op-returns-in_ok-no-in-If-clause-act : goal.add_op-returns-in_ok-no-in-If-clause-act
-add_op-returns-in_ok-no-in-If-clause-act t c =
+pub add_op-returns-in_ok-no-in-If-clause-deed : goal.add_op-returns-in_ok-no-in-If-clause-deed
+add_op-returns-in_ok-no-in-If-clause-deed t c =
     let kept = grown_code c.add_block-in-If.new.nodes.items c.add_block-in-If-2.new.nodes.items c.in_ok-yes-in-If.yes c.in_ok-no-in-If.ensures.grown c.in_ok-yes-in-If.ensures.below in
     let first : code_in (codes_of c.add_block-in-If-2.new.nodes.items) c.in_ok-yes-in-If.yes ≡ code_of c.in-If.yes.items = kept ∙ c.in_ok-yes-in-If.ensures.code ∙ ap code_of c.deref-in-If.ensures.value in
     let second : code_in (codes_of c.add_block-in-If-2.new.nodes.items) c.in_ok-no-in-If.no ≡ code_of c.in-If.no.items = c.in_ok-no-in-If.ensures.code ∙ ap code_of c.deref-in-If-2.ensures.value in

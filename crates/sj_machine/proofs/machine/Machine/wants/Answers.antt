@@ -3,7 +3,7 @@ use Rattle.sj_semantics.specs.declared.Value.{Value}
 use Rattle.sj_semantics.specs.declared.Want.TheVariants.{Ended}
 use Rattle.sj_semantics.specs.Wants.{want_of, want_of_todo}
 use Rattle.std.specs.Option.{unwrap_or}
-use Rattle.sj_machine.specs.Arena.{act_in, codes_of}
+use Rattle.sj_machine.specs.Arena.{deed_in, codes_of}
 use Rattle.sj_machine.specs.Frames.{thing_at}
 use Rattle.sj_machine.specs.Table.{vars_in}
 use Rattle.sj_machine.specs.Sound.{program_at}
@@ -20,6 +20,6 @@ returns-in-Some c =
     c.want_at.result (λ todo. unwrap_or (want_of_todo (vars_in c.self.inside.vars.items) c.self.inside.ends.items todo) Ended)
     (λ rest.
     c.want_at.ensures _ rest
-    ∙ ap (λ (t : List (Option Value)). unwrap_or (want_of_todo (vars_in t) c.deref-in-Some.result.now (thing_at c.in-Some.frame.stage (act_in (codes_of c.self.inside.nodes.items) c.index.result.now.op) ∷ rest)) Ended) c.deref.ensures.value
-    ∙ ap (λ t. unwrap_or (want_of_todo (vars_in c.self.inside.vars.items) t (thing_at c.in-Some.frame.stage (act_in (codes_of c.self.inside.nodes.items) c.index.result.now.op) ∷ rest)) Ended) c.deref-in-Some.ensures.value)
+    ∙ ap (λ (t : List (Option Value)). unwrap_or (want_of_todo (vars_in t) c.deref-in-Some.result.now (thing_at c.in-Some.frame.stage (deed_in (codes_of c.self.inside.nodes.items) c.index.result.now.op) ∷ rest)) Ended) c.deref.ensures.value
+    ∙ ap (λ t. unwrap_or (want_of_todo (vars_in c.self.inside.vars.items) t (thing_at c.in-Some.frame.stage (deed_in (codes_of c.self.inside.nodes.items) c.index.result.now.op) ∷ rest)) Ended) c.deref-in-Some.ensures.value)
     ∙ ap (λ m. unwrap_or (want_of (program_at m)) Ended) c.self.view_is
