@@ -1,9 +1,10 @@
 -- The table has an answer for each call.
-use Rattle.std.proofs.Common.{◌≡◌, ◌⊎◌, ℕ, List, [], Option, IfSome, length, inl, inr, refl, sym, subst}
+use Rattle.std.proofs.Common.{◌≡◌, ◌⊎◌, ℕ, Bool, List, [], Option, IfSome, length, inl, inr, refl, sym, subst}
 use Rattle.std.proofs.lemmas.Bool.{cases_lt}
 use Rattle.sj_lang.specs.FileAt.{FileAt}
 use Rattle.sj_grammar.specs.Files.{IsFile}
 use Rattle.sj_lang.specs.Limits.{limits, IsWithin}
+use Rattle.sj_log.specs.Parts.{HasNoPart}
 use Rattle.sj_party.proofs.FileLemmas.{spelled_within}
 use Rattle.sj_party_laws.proofs.AnswerLemmas.{file_or_fault}
 use Rattle.sj_acceptance.specs.Accepted.{IsAccepted}
@@ -47,7 +48,7 @@ module _ (links : LinkUseAt) where
   parts_answered task bytes log text takes parts shows =
       let (a, answers) = text_answered task log text takes shows in (a, answers_bytes links task bytes text log a parts answers)
 
-  replay_answered : (l : _) (bytes : List ℕ) → Parts bytes ⊎ Rattle.sj_log.specs.Parts.HasNoPart bytes → (a : AnswerAt) × AnswersBytes links (tasks.Replay l) bytes a
+  replay_answered : (l : Bool) (bytes : List ℕ) → Parts bytes ⊎ HasNoPart bytes → (a : AnswerAt) × AnswersBytes links (tasks.Replay l) bytes a
   replay_answered l bytes (inr none) = (LogFault 1 0, inl (tt, none, refl, refl))
   replay_answered l bytes (inl p) =
       elim (cases_lt file_limit (length p.text)) [
