@@ -1,4 +1,4 @@
-// An end that comes back. b hands its end to c, which hands it back. Then b takes what a sent.
+// An end that comes back. b delegates its end to c, and c to b. Then b takes what a sent.
 protocol p { begin.!<int> }
 protocol q { begin.?(int) }
 protocol g { begin.!<?(int)>.?(?(int)) }

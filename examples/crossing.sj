@@ -1,4 +1,4 @@
-// Both ends of a session are handed over at once: a gives its end to c, and b gives the other end
+// Both ends of a session are delegated at once: a delegates its end to c, and b the other end
 // to d. c goes on where a stopped, and d takes what both of them sent, in order.
 protocol p { begin.!<int>.!<int> }
 protocol q { begin.?(int).?(int) }

@@ -1,5 +1,5 @@
-// A file that comes to a limit: an end is delegated at most 100 times. b and c hand an end to and
-// fro, 50 times each, and in turn 51 b may not hand it over again.
+// A file that comes to a limit: an end is delegated at most 100 times. b and c delegate an end to
+// and fro, 50 times each, and in turn 51 b may not delegate it again.
 protocol p { begin.!<int> }
 protocol q { begin.?(int) }
 protocol g { begin.![!<?(int)>.?(?(int))]* }

@@ -1,5 +1,5 @@
-// An end that goes to the holder of the other end. a hands its end to b, and b then has both ends
-// of session 0: it takes what it sent itself.
+// An end that goes to the holder of the other end. a delegates its end to b, and b then has both
+// ends of session 0: it takes what it sent itself.
 protocol p { begin.!<int> }
 protocol q { begin.?(int) }
 protocol g { begin.!<!<int>> }

@@ -1,4 +1,4 @@
-// A file that is refused. b hands its end y to c, and then closes it: it has no such end then.
+// A file that is refused. b delegates its end y to c, and then closes it: it has no such end then.
 // Without close y; the file is accepted.
 protocol p { begin.?(int) }
 protocol q { begin.!<int> }

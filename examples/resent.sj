@@ -1,5 +1,5 @@
 // Resending from a closed end. a sends three numbers and closes its end. b takes the first of them,
-// and hands its end to c. What b had not taken a sends again, to c.
+// and delegates its end to c. What b had not taken a sends again, to c.
 protocol p { begin.!<int>.!<int>.!<int> }
 protocol q { begin.?(int).?(int).?(int) }
 protocol r { begin.?(int).?(int) }

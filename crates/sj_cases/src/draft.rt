@@ -1,7 +1,7 @@
 //! Accepted files, one for each number.
 //!
 //! A file is built from its last event to its first: what is ahead of an end is then known wherever
-//! the end is handed on.
+//! the end is delegated.
 use rand_core::{Rng, SeedableRng};
 use rand_pcg::Pcg32;
 use sj_base::NoMemory;
@@ -27,7 +27,7 @@ struct Draft {
     holders: Vec<usize>,
     // Of each party.
     codes: Vec<Code>,
-    // The protocols of the ends that are handed on.
+    // The protocols of the ends that are delegated.
     moved: Vec<u8>,
     moves: u64,
 }
@@ -236,7 +236,7 @@ impl Draft {
         Ok(())
     }
 
-    // The protocol of an end that is handed on.
+    // The protocol of an end that is delegated.
     fn put_moved(&mut self, kind: &[u8]) -> Result<(), NoMemory> {
         put(&mut self.moved, b"protocol m")?;
         put_number(&mut self.moved, self.moves)?;

@@ -139,28 +139,28 @@ pub(crate) const RELAY_TRANSCRIPT: [&str; 16] = [
 
 // Comments at the heads of files whose lines stand in files.
 pub(crate) const AGENCY_LESSON: [&str; 3] = [
-    "// Delegation. A customer asks an agency for prices, and accepts one. The agency then hands its end",
-    "// of that session to the supplier (delegate z y), which takes it at the place where it stands",
+    "// Delegation. A customer asks an agency for prices, and accepts one. The agency then delegates its",
+    "// end of that session to the supplier (delegate z y), which takes it at the place where it stands",
     "// (recv u s session rest). The customer goes on with the same end, and a new holder of the other.",
 ];
 
 pub(crate) const HANDED_ON_LESSON: [&str; 2] = [
     "// Resending from a closed end. a sends three numbers and closes its end. b takes the first of them,",
-    "// and hands its end to c. What b had not taken a sends again, to c.",
+    "// and delegates its end to c. What b had not taken a sends again, to c.",
 ];
 
 pub(crate) const CROSSING_LESSON: [&str; 2] = [
-    "// Both ends of a session are handed over at once: a gives its end to c, and b gives the other end",
+    "// Both ends of a session are delegated at once: a delegates its end to c, and b the other end",
     "// to d. c goes on where a stopped, and d takes what both of them sent, in order.",
 ];
 
 pub(crate) const BACK_AGAIN_LESSON: [&str; 1] = [
-    "// An end that comes back. b hands its end to c, which hands it back. Then b takes what a sent.",
+    "// An end that comes back. b delegates its end to c, and c to b. Then b takes what a sent.",
 ];
 
 pub(crate) const TO_THE_PEER_LESSON: [&str; 2] = [
-    "// An end that goes to the holder of the other end. a hands its end to b, and b then has both ends",
-    "// of session 0: it takes what it sent itself.",
+    "// An end that goes to the holder of the other end. a delegates its end to b, and b then has both",
+    "// ends of session 0: it takes what it sent itself.",
 ];
 
 pub(crate) const OPPOSITE_LESSON: [&str; 2] = [
@@ -169,12 +169,12 @@ pub(crate) const OPPOSITE_LESSON: [&str; 2] = [
 ];
 
 pub(crate) const LIMIT_LESSON: [&str; 2] = [
-    "// A file that comes to a limit: an end is delegated at most 100 times. b and c hand an end to and",
-    "// fro, 50 times each, and in turn 51 b may not hand it over again.",
+    "// A file that comes to a limit: an end is delegated at most 100 times. b and c delegate an end to",
+    "// and fro, 50 times each, and in turn 51 b may not delegate it again.",
 ];
 
 pub(crate) const REFUSED_LESSON: [&str; 2] = [
-    "// A file that is refused. b hands its end y to c, and then closes it: it has no such end then.",
+    "// A file that is refused. b delegates its end y to c, and then closes it: it has no such end then.",
     "// Without close y; the file is accepted.",
 ];
 
@@ -188,5 +188,5 @@ pub(crate) const LIMIT_END: [&str; 4] = [
 
 pub(crate) const BEFORE_THE_END: usize = 3349;
 
-// An end is closed that was handed on.
+// An end is closed that was delegated.
 pub(crate) const CLOSED_AGAIN: [&str; 1] = ["party b { delegate z y; close y; close z; }"];

@@ -21,7 +21,7 @@ pub(crate) const EMPTY: [&str; 5] = [
     "connect a x p to b y q;",
 ];
 
-// A customer, an agency that hands its end to a supplier, and the supplier.
+// A customer, an agency that delegates its end to a supplier, and the supplier.
 pub(crate) const AGENCY: [&str; 27] = [
     "protocol cust { begin.![!<String>.?(int)]*.!{ACCEPT: !<String>.?(String), REJECT:} }",
     "protocol agen { begin.?[?(String).!<int>]*.?{ACCEPT: ?(String).!<String>, REJECT:} }",
@@ -56,7 +56,7 @@ pub(crate) const AGENCY: [&str; 27] = [
 pub(crate) const REJECTED: &str =
     "  if last <= 200 { outbranch x ACCEPT; send x \"1 High Street\"; recv x date String; close x; }";
 
-// A receiver hands its end on after the first of three numbers.
+// A receiver delegates its end after the first of three numbers.
 pub(crate) const HANDED_ON: [&str; 10] = [
     "protocol p { begin.!<int>.!<int>.!<int> }",
     "protocol q { begin.?(int).?(int).?(int) }",
@@ -70,7 +70,7 @@ pub(crate) const HANDED_ON: [&str; 10] = [
     "connect b z g to c u h;",
 ];
 
-// The holder of an end has told how much it took, and hands the end on.
+// The holder of an end has told how much it took, and delegates the end.
 pub(crate) const TOLD: [&str; 10] = [
     "protocol p { begin.?(int).!<int>.!<int> }",
     "protocol q { begin.!<int>.?(int).?(int) }",
@@ -84,7 +84,7 @@ pub(crate) const TOLD: [&str; 10] = [
     "connect b z g to c u h;",
 ];
 
-// An end is handed on before anything passed on it.
+// An end is delegated before anything passed on it.
 pub(crate) const UNUSED: [&str; 9] = [
     "protocol p { begin.?(int) }",
     "protocol q { begin.!<int> }",
@@ -97,7 +97,7 @@ pub(crate) const UNUSED: [&str; 9] = [
     "connect b z g to c u h;",
 ];
 
-// Both ends of a session are handed on.
+// Both ends of a session are delegated.
 pub(crate) const CROSSING: [&str; 14] = [
     "protocol p { begin.!<int>.!<int> }",
     "protocol q { begin.?(int).?(int) }",
@@ -115,7 +115,7 @@ pub(crate) const CROSSING: [&str; 14] = [
     "connect b z gq to d u hq;",
 ];
 
-// The same, where one of them is handed on a second time.
+// The same, where one of them is delegated a second time.
 pub(crate) const MOVED_TWICE: [&str; 16] = [
     "protocol p { begin.!<int>.!<int> }",
     "protocol q { begin.?(int).?(int) }",
@@ -160,7 +160,7 @@ pub(crate) const TO_THE_PEER: [&str; 8] = [
     "connect a z g to b u h;",
 ];
 
-// A party hands an end to itself.
+// A party delegates an end to itself.
 pub(crate) const TO_ITSELF: [&str; 8] = [
     "protocol p { begin.!<int> }",
     "protocol q { begin.?(int) }",

@@ -42,7 +42,7 @@ pub(crate) const HANDED_ON_LOG: [&str; 27] = [
     "21 b from c fin 1.0 0 0",
 ];
 
-// The same where an end is handed on before anything passed on it.
+// The same where an end is delegated before anything passed on it.
 pub(crate) const UNUSED_LOG: [&str; 18] = [
     "1 b send 1.0 session 0.1 b",
     "2 b close 1.0",
