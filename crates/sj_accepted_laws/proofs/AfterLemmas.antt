@@ -88,7 +88,7 @@ pub hands_option : (p c d : ℕ) (o : Option Session) → (unwrap_or (option_map
 hands_option p c d None = refl
 hands_option p c d (Some z) = hands_on_side p c d z
 
--- handing an end on moves no place
+-- delegating an end moves no place
 pub hands_places : (p : ℕ) (zs : List Session) (y f : EndId) → (end_at (touched p zs (y, delegates)) f).place ≡ (end_at zs f).place
 hands_places p zs y f =
     elim (cases_eq y.sess f.sess) [

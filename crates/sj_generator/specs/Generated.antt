@@ -1,4 +1,4 @@
--- The file that `make` prints: five groups of three parties, in each of which the second hands its end of the first session to the third.
+-- The file that `make` prints: five groups of three parties, in each of which the second delegates its end of the first session to the third.
 use Rattle.std.specs.Prelude.{ℕ, ◌+◌, List, [], ◌∷◌, ◌++◌, codes, decimal}
 
 -- lines, each with its newline
@@ -29,7 +29,7 @@ sender n i =
     ++ (numbered (codes "    send x ") (i + 1) (codes ";")
     ++ lines (codes "  }" ∷ codes "  recv x r int;" ∷ codes "  close x;" ∷ codes "}" ∷ [])))
 
--- it hands its end on
+-- it delegates its end
 abbrev pub giver : ℕ → List ℕ
 giver i = numbered (codes "party b") i (codes " {") ++ lines (codes "  delegate z y;" ∷ codes "  close z;" ∷ codes "}" ∷ [])
 

@@ -1,4 +1,4 @@
-//! The generated file: five groups of parties, in each of which an end is handed on.
+//! The generated file: five groups of parties, in each of which an end is delegated.
 #![tactic(auto)]
 
 mod printing;

@@ -75,7 +75,7 @@ sender_leads line a n number =
       no_end = λ m. cleared (put behind.places 5 (Some done)) 5 m (λ other. left behind.places 5 m (Some done) other ∙ left start.places 5 m (Some rest) other ∙ absent 5 m sends_numbers other);
     }
 
--- it hands its end on
+-- it delegates its end
 abbrev pub hands_on : Place
 hands_on = message Out (session numbers) done
 

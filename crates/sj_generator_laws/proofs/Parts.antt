@@ -58,7 +58,7 @@ printed_sender e d v =
     ap (λ x. codes "party a" ++ (e ++ (codes " {\n  outwhile x " ++ x)))
     (push d inner back ∙ ap (λ x. d ++ (codes " {\n    send x " ++ x)) (push v (codes ";") (codes "\n" ∷ [] ∷ codes "  }" ∷ back)))
 
--- one that hands its end on, by the digit of its group
+-- one that delegates its end, by the digit of its group
 abbrev pub giver_by : List ℕ → List ℕ
 giver_by e = (codes "party b" ++ (e ++ codes " {\n")) ++ codes "  delegate z y;\n  close z;\n}\n"
 

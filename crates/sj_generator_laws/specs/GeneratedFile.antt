@@ -1,4 +1,4 @@
--- The file that `make` prints, as a value: five groups of three parties, in each of which the second hands its end of the first session to the third.
+-- The file that `make` prints, as a value: five groups of three parties, in each of which the second delegates its end of the first session to the third.
 use Rattle.std.specs.Prelude.{ℕ, ◌+◌, List, [], ◌∷◌, codes, pos}
 use Rattle.sj_lang.specs.declared.proto.Way.TheVariants.{Out, Into}
 use Rattle.sj_lang.specs.declared.party.Op.TheVariants.{Add}
@@ -74,7 +74,7 @@ module _ (line : ℕ) where
         ∷ at (line + 4) (take_value x r scalars.Int) ∷ at (line + 5) (close x) ∷ []);
   }
 
-  -- it hands its end on
+  -- it delegates its end
   abbrev pub giver : ℕ → PartyAt
   giver b = record { line = line + 7; name = b; code = in_order (at (line + 8) (delegate z y) ∷ at (line + 9) (close z) ∷ []) }
 

@@ -130,7 +130,7 @@ impl Machine {
         self.steps += 1;
     }
 
-    /// Does the next step, one that sends a message or hands an end on.
+    /// Does the next step, one that sends a message or delegates an end.
     pub fn sent(&mut self)
         requires { (program_at self.old).steps < 4294967295 }
         ensures { program_at self.new ≡ sent_of (program_at self.old) }

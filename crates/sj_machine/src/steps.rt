@@ -34,7 +34,7 @@ pub fn local(nodes: &Vec<Node>, stack: &mut Stack, vars: &mut [Option<Value>])
     }
 }
 
-/// A step that sends a message or hands an end on.
+/// A step that sends a message or delegates an end.
 pub fn sent(
     nodes: &Vec<Node>,
     stack: &mut Stack,

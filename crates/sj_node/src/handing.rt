@@ -1,4 +1,4 @@
-//! Steps that take from an end, and steps that hand an end on.
+//! Steps that take from an end, and steps that delegate an end.
 ghost use Rattle.std.specs.Prelude.{◌≡◌, ◌+◌, ◌<◌, OnOk, OnErr, IfErr, IsErrOf, Some, None, true, false};
 ghost use Rattle.sj_end.specs.declared.note.Event.TheVariants as events;
 ghost use Rattle.sj_node.specs.Node.{Does, Stays, act_of, clock_of, main_of, next_head, note_for, slot_count, steps_of, takes_in, wants_of};
@@ -125,7 +125,7 @@ impl Node {
         Ok(())
     }
 
-    // A step that hands an end on.
+    // A step that delegates an end.
     pub(crate) fn step_delegate(&mut self, end: EndId, sent: EndId) -> Result<(), Halt>
         requires step { wants_of self.old ≡ wants.Delegate end sent }
         requires steps { steps_of self.old < 10000 }

@@ -28,7 +28,7 @@ map-same view [] i x y lt there same = absurd (omega arith)
 map-same view (a ∷ xs) zero x y lt there same = ap (λ t. t ∷ map view xs) (same ∙ ap view there)
 map-same view (a ∷ xs) (suc i) x y lt there same = ap (λ t. view a ∷ t) (map-same view xs i x y (omega arith) there same)
 
--- ---- an end that is handed on, and the message that does it
+-- ---- an end that is delegated, and the message that does it
 
 sides_comm : (p c d : ℕ) (m : Msg) (z : model.Session) → on_side d (end_after p delegates) (on_side c (end_after p (sends m)) z) ≡ on_side c (end_after p (sends m)) (on_side d (end_after p delegates) z)
 sides_comm p zero zero m z = refl
@@ -36,7 +36,7 @@ sides_comm p zero (suc d) m z = refl
 sides_comm p (suc c) zero m z = refl
 sides_comm p (suc c) (suc d) m z = refl
 
--- the message of the hand-over can be sent first
+-- the message of the delegation can be sent first
 pub handed_first : (p : ℕ) (e y : EndId) (m : Msg) (zs : List model.Session)
     → altered (altered zs e.sess (on_side e.side (end_after p (sends m)))) y.sess (on_side y.side (end_after p delegates))
     ≡ altered (altered zs y.sess (on_side y.side (end_after p delegates))) e.sess (on_side e.side (end_after p (sends m)))
@@ -60,7 +60,7 @@ hops_if : (p c d : ℕ) (m : Msg) (o : Option model.Session) → (unwrap_or (opt
 hops_if p c d m None = refl
 hops_if p c d m (Some z) = side_hops p c d m z
 
--- a send counts no hand-over
+-- a send counts no delegation
 pub hops_stay : (p : ℕ) (e y : EndId) (m : Msg) (zs : List model.Session) → (end_at (altered zs e.sess (on_side e.side (end_after p (sends m)))) y).hops ≡ (end_at zs y).hops
 hops_stay p e y m zs =
     elim (cases_eq e.sess y.sess) [

@@ -127,7 +127,7 @@ impl Session {
         &self.end(side).takers
     }
 
-    /// How often the end was handed on.
+    /// How often the end was delegated.
     pub(crate) fn hops(&self, side: u8) -> u8
         ensures { result ≡ (end_on side (session_at self.now)).hops }
     {
@@ -174,7 +174,7 @@ impl Session {
         }
     }
 
-    /// Notes that the end was handed on.
+    /// Notes that the end was delegated.
     pub(crate) fn hand_on(&mut self, side: u8)
         requires { (end_on side (session_at self.old)).hops < 100 }
         ensures { (by : ℕ) → session_at self.new

@@ -19,7 +19,7 @@ use std::alloc::Global;
 /// The most steps that a party does.
 pub const MAX_STEPS: u32 = 10_000;
 
-/// The most times that an end is handed on.
+/// The most times that an end is delegated.
 pub const MAX_HOPS: u8 = 100;
 
 /// How a party stands that hasn't ended and isn't at the limit of steps.

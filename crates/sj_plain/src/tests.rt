@@ -1,4 +1,4 @@
-//! Ends of whole files: the agency, a hand-over, a block, and each limit just kept and just passed.
+//! Ends of whole files: the agency, a delegation, a block, and each limit just kept and just passed.
 use crate::{Halt, Plain};
 use sj_base::{EndId, Msg};
 use sj_check::{Accepted, check, is_within_limits};

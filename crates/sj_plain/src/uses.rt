@@ -20,7 +20,7 @@ pub fn next_message(sessions: &[Session], end: EndId) -> Option<Passed>
     }
 }
 
-/// How often the end was handed on.
+/// How often the end was delegated.
 pub fn hops(sessions: &[Session], end: EndId) -> u8
     ensures { result ≡ (end_at (sessions_at sessions.now) end).hops }
 {
@@ -69,7 +69,7 @@ pub fn take_on(
     Ok(())
 }
 
-/// The end is handed on.
+/// The end is delegated.
 fn hand_on(sessions: &mut Vec<Session>, end: EndId)
     requires { (end_at (sessions_at sessions.old.items) end).hops < 100 }
     ensures { (party : ℕ) → sessions_at sessions.new.items
@@ -82,7 +82,7 @@ fn hand_on(sessions: &mut Vec<Session>, end: EndId)
     }
 }
 
-/// The party hands an end on, by a message on the carrier.
+/// The party delegates an end, by a message on the carrier.
 pub fn delegate_on(
     alloc: Global,
     sessions: &mut Vec<Session>,

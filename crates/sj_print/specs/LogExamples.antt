@@ -1,4 +1,4 @@
--- Lines of the log of a run in which b hands an end to c, between two messages of a.
+-- Lines of the log of a run in which b delegates an end to c, between two messages of a.
 use Rattle.std.specs.Prelude.{◌≡◌, refl, ℕ, [], ◌∷◌, Some, None, pos, codes}
 use Rattle.std.specs.Fmt.{digits}
 use Rattle.sj_base.specs.declared.EndId.{EndId}

@@ -1,7 +1,7 @@
 -- The limits of the core's numbers.
 use Rattle.std.specs.Prelude.{ℕ}
 
--- a connection number is at most this; an end that has it is handed over no more
+-- a connection number is at most this; an end that has it is delegated no more
 abbrev pub limit_of_conns : ℕ
 limit_of_conns = 1000
 

@@ -19,7 +19,7 @@ with_program p g plain = record plain { programs = λ q. if q == p then g else p
 abbrev pub with_side : {P Q : Type 0} → EndId → (PlainSide P → PlainSide P) → PlainAt P Q → PlainAt P Q
 with_side e f plain = record plain { sides = λ d. if is_same_end d e then f (plain.sides d) else plain.sides d }
 
--- the session message with which the party hands the end on
+-- the session message with which the party delegates the end
 abbrev pub handing : EndId → ℕ → Msg
 handing e keeper = msgs.Sess e.sess e.side keeper
 
@@ -31,7 +31,7 @@ plain_goes play p taken plain = with_program p (play.goes (plain.programs p) tak
 abbrev pub plain_sends : {P Q : Type 0} → Play P Q → ℕ → EndId → Msg → P → PlainAt P Q → PlainAt P Q
 plain_sends play p e msg place plain = with_side e (λ x. plain_sent x place msg) (plain_goes play p None plain)
 
--- e is handed on and its session message is sent on the carrier
+-- e is delegated and its session message is sent on the carrier
 abbrev pub plain_delegates : {P Q : Type 0} → Play P Q → ℕ → EndId → EndId → P → PlainAt P Q → PlainAt P Q
 plain_delegates play p carrier e place plain =
     with_side carrier (λ x. plain_sent x place (handing e p)) (with_side e plain_parked (plain_goes play p None plain))

@@ -41,7 +41,7 @@ pub data MainAt (P : Type 0) : Type 0 where
   Closed : EndAt P → MainAt P
   Expected : (keeper : ℕ) → (place : P) → (deferred : List (Mail P)) → MainAt P
 
--- the record of an end that a party sent on
+-- the record of an end that a party delegated
 pub data OldAt (P : Type 0) : Type 0 where
   Parked : EndAt P → OldAt P
   Signalled : EndAt P → (to : ℕ) → OldAt P

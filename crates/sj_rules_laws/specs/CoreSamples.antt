@@ -1,4 +1,4 @@
--- Histories that are known: an end is handed over between messages, and both ends are at once.
+-- Histories that are known: an end is delegated between messages, and both ends are at once.
 use Rattle.std.specs.Prelude.{◌≡◌, ℕ, max, List, [], ◌∷◌, map, pos, Option, Some, None, option_map}
 use Rattle.sj_base.specs.declared.EndId.{EndId}
 use Rattle.sj_base.specs.declared.Msg.{Msg}
@@ -31,7 +31,7 @@ lines_of pick file lines = option_map (λ r. r.lines) (replay (play_of file) pic
 abbrev pub IsLoggedSo : FileAt → List LineAt → Type 0
 IsLoggedSo file lines = (lines_of whole_caches file lines ≡ Some lines) × (lines_of max file lines ≡ Some lines)
 
--- a, b and c; b takes one message and hands its end to c
+-- a, b and c; b takes one message and delegates its end to c
 abbrev pub handed_over_lines : List LineAt
 handed_over_lines =
     does 1 0 (Sent (end 0 0) (int 1))
@@ -63,7 +63,7 @@ handed_over_lines =
     ∷ gets 21 1 2 (Fin (end 1 0) 0 0)
     ∷ []
 
--- a hands its end to c and b its to d, and the Signal cross
+-- a delegates its end to c and b its to d, and the Signal cross
 abbrev pub both_moved_lines : List LineAt
 both_moved_lines =
     does 1 0 (Sent (end 0 0) (int 1))

@@ -11,7 +11,7 @@ use Rattle.sj_semantics_laws.specs.Samples.{decl, connects, protocol, party, sen
 use Rattle.sj_rules.specs.Log.{Sent, Took, Shut, Carry, Fin, Claim, Signal, Ack, Give, LineAt}
 use Rattle.sj_rules_laws.specs.CoreSamples.{end, int, does, gets}
 
--- b hands its end to c, which sends on it
+-- b delegates its end to c, which sends on it
 abbrev pub sends_later : FileAt
 sends_later = record {
   words = [];

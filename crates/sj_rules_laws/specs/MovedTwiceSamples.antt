@@ -12,7 +12,7 @@ use Rattle.sj_semantics_laws.specs.Samples.{decl, connects, protocol, party, sen
 use Rattle.sj_rules.specs.Log.{Sent, Took, Shut, Carry, Fin, Claim, Signal, Ack, Give, LineAt}
 use Rattle.sj_rules_laws.specs.CoreSamples.{end, int, does, gets}
 
--- a hands its end to c, which hands it to e, while b hands the other one to d
+-- a delegates its end to c, which delegates it to e, while b delegates the other one to d
 abbrev pub moved_twice : FileAt
 moved_twice = record {
   words = [];

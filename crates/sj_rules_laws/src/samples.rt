@@ -8,7 +8,7 @@ ghost use Rattle.sj_rules_laws.specs.MovedTwiceSamples.{moved_twice, moved_twice
 ghost use Rattle.sj_semantics_laws.specs.HandoverSamples.{both_moved, handed_over};
 
 /// A closed end is resent after a handover; nothing is resent between Signal and Give; Signals
-/// cross; a Carry and a Signal wait for an end that is handed on once more.
+/// cross; a Carry and a Signal wait for an end that is delegated once more.
 pub fn handovers_are_logged_so()
     ensures handed_over { IsLoggedSo handed_over handed_over_lines }
     ensures sends_later { IsLoggedSo sends_later sends_later_lines }

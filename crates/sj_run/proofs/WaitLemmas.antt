@@ -40,7 +40,7 @@ neither : (a b : Bool) → (a || b) ≡ false → (a ≡ false) × (b ≡ false)
 neither false b k = (refl, k)
 neither true b k = absurd (cc k)
 
--- an end that may be handed on no more is no wait
+-- an end that may be delegated no more is no wait
 enough : (b : Bool) (e : EndId) → IsWaiting (if b then None else Some (rules.handed_enough e)) → ⊥
 enough true e w = w
 enough false e w = w

@@ -51,7 +51,7 @@ abbrev pub ends_after_sent : List (ℕ × EndId) → List Thing → List (ℕ ×
 ends_after_sent ends (statement (delegate x y) ∷ rest) = ends_without ends y
 ends_after_sent ends _ = ends
 
--- the party after a send or a handing on
+-- the party after a send or a delegation
 abbrev pub sent_of : Program → Program
 sent_of g = record { todo = todo_after_sent g.vars g.todo; vars = g.vars; ends = ends_after_sent g.ends g.todo; steps = g.steps + 1 }
 

@@ -8,7 +8,7 @@ use Rattle.sj_lang.specs.Place.{Place}
 use Rattle.sj_lang.specs.After.{after_place}
 use Rattle.sj_semantics.specs.Ends.{EndAt, Session}
 
--- a message is sent on the end or taken from it, or the end is handed on
+-- a message is sent on the end or taken from it, or the end is delegated
 pub data Use : Type 0 where
   sends : Msg → Use
   takes : Msg → Use

@@ -54,7 +54,7 @@ on_its_way w e f n x one untaken there names =
 
 -- ---- the act that delegates
 
--- handing an end on sends nothing
+-- delegating an end sends nothing
 hands_on_sends_none : (p : ℕ) (zs : List Session) (y e : EndId) → e.sess < length zs → (end_at (touched p zs (y, delegates)) e).sent ≡ (end_at zs e).sent
 hands_on_sends_none p zs y e lt =
     elim (cases_Bool (is_end y e)) [

@@ -1,4 +1,4 @@
--- Files that hand ends over.
+-- Files that delegate ends.
 use Rattle.std.specs.Prelude.{ℕ, List, [], ◌∷◌, ◌++◌, pos, codes}
 use Rattle.sj_lang.specs.declared.proto.Way.TheVariants.{Out, Into}
 use Rattle.sj_lang.specs.declared.party.Scalar.TheVariants as kinds
@@ -9,7 +9,7 @@ use Rattle.sj_lang.specs.Code.{send, delegate, take_value, take_end, close}
 use Rattle.sj_lang.specs.FileAt.{FileAt}
 use Rattle.sj_semantics_laws.specs.Samples.{decl, connects, protocol, party, sends_int, takes_int}
 
--- an end is handed over between two messages
+-- an end is delegated between two messages
 abbrev pub handed_over : FileAt
 handed_over = record {
   words = codes "p" ∷ codes "q" ∷ codes "r" ∷ codes "g" ∷ codes "h" ∷ codes "a" ∷ codes "x" ∷ codes "b" ∷ codes "y" ∷ codes "n" ∷ codes "z" ∷ codes "c" ∷ codes "u" ∷ [];
@@ -33,7 +33,7 @@ handed_over_text =
     codes "session 0 a x b y\n0.0 0 a b int 1\n0.0 1 a c int 2\n0.0 2 a c int 3\nsession 1 b z c u\n"
     ++ codes "1.0 0 b c session 0.1 b\nparty a ended 4\nparty b ended 3\nparty c ended 5\ndone\n"
 
--- an end is handed on and comes back
+-- an end is delegated and comes back
 abbrev pub returning : FileAt
 returning = record {
   words = codes "p" ∷ codes "q" ∷ codes "g" ∷ codes "h" ∷ codes "a" ∷ codes "x" ∷ codes "b" ∷ codes "z" ∷ codes "y" ∷ codes "n" ∷ codes "c" ∷ codes "u" ∷ [];
@@ -56,7 +56,7 @@ returning_text =
     codes "session 0 a x b y\n0.0 0 a b int 1\nsession 1 b z c u\n1.0 0 b c session 0.1 b\n1.1 0 c b session 0.1 c\n"
     ++ codes "party a ended 2\nparty b ended 5\nparty c ended 3\ndone\n"
 
--- both ends of a session are handed over
+-- both ends of a session are delegated
 abbrev pub both_moved : FileAt
 both_moved = record {
   words = codes "p" ∷ codes "q" ∷ codes "p1" ∷ codes "gp" ∷ codes "hp" ∷ codes "gq" ∷ codes "hq" ∷ codes "a" ∷ codes "x" ∷ codes "z" ∷ codes "b" ∷ codes "y" ∷ codes "c" ∷ codes "u" ∷ codes "d" ∷ codes "n" ∷ [];
@@ -106,7 +106,7 @@ to_its_peer_text =
     codes "session 0 a x b y\n0.0 0 b b int 4\nsession 1 a z b u\n1.0 0 a b session 0.0 a\nparty a ended 2\n"
     ++ codes "party b ended 6\ndone\n"
 
--- a party hands an end to itself
+-- a party delegates an end to itself
 abbrev pub to_itself : FileAt
 to_itself = record {
   words = codes "p" ∷ codes "q" ∷ codes "g" ∷ codes "h" ∷ codes "a" ∷ codes "z" ∷ codes "x" ∷ codes "u" ∷ codes "w" ∷ codes "b" ∷ codes "y" ∷ codes "n" ∷ [];

@@ -147,7 +147,7 @@ fn sends(alloc: Global, carried: Vec<Item>) -> Result<Vec<Item>, Fail> {
     Ok(vec![in alloc; Item::Send(Kind::Session(Proto { items: carried }))]?)
 }
 
-/// a sends 1, 2 and 3; b takes the first, and hands its end on to c.
+/// a sends 1, 2 and 3; b takes the first, and delegates its end to c.
 pub fn handed_over(alloc: Global) -> Result<Accepted, Fail> {
     let numbers = vec![in alloc;
         Item::Send(Kind::Int),
@@ -181,7 +181,7 @@ pub fn handed_over(alloc: Global) -> Result<Accepted, Fail> {
     )
 }
 
-/// Each end of one session is handed on: a's to c and from c to e, b's to d.
+/// Each end of one session is delegated: a's to c and from c to e, b's to d.
 pub fn both_handed_on(alloc: Global) -> Result<Accepted, Fail> {
     let two = vec![in alloc; Item::Send(Kind::Int), Item::Send(Kind::Int)]?;
     let one = vec![in alloc; Item::Send(Kind::Int)]?;

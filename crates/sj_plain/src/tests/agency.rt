@@ -47,7 +47,7 @@ fn customer(alloc: Global) -> Result<Vec<Stmt>, Fail> {
     ]?)
 }
 
-// Offers 100 less each time, and hands the customer on to the supplier.
+// Offers 100 less each time, and delegates the customer to the supplier.
 fn agent(alloc: Global) -> Result<Vec<Stmt>, Fail> {
     let less = two(alloc, Op::Sub, Expr::Var(PRICE), Expr::Int(100))?;
     let offer = stmt(Deed::Send {
@@ -96,7 +96,7 @@ fn supplier(alloc: Global) -> Result<Vec<Stmt>, Fail> {
     Ok(vec![in alloc; stmt(Deed::Branch { end: U, arms })]?)
 }
 
-// A customer, an agency, and the supplier that the agency hands the customer on to.
+// A customer, an agency, and the supplier to which the agency delegates the customer.
 pub fn agency_file(alloc: Global) -> Result<Accepted, Fail> {
     let turn = vec![in alloc; Item::Send(Kind::Text), Item::Recv(Kind::Int)]?;
     let order = vec![in alloc; Item::Send(Kind::Text), Item::Recv(Kind::Text)]?;

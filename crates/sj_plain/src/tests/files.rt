@@ -9,7 +9,7 @@ use sj_lang::{Deed, Expr, Item, Kind, Proto, Scalar};
 use std::alloc::Global;
 use std::test::Fail;
 
-// a sends 1, 2 and 3; b takes the first, and hands its end on to c.
+// a sends 1, 2 and 3; b takes the first, and delegates its end to c.
 pub fn handed_over(alloc: Global) -> Result<Accepted, Fail> {
     let numbers = vec![in alloc;
         Item::Send(Kind::Int),
@@ -43,7 +43,7 @@ pub fn handed_over(alloc: Global) -> Result<Accepted, Fail> {
     )
 }
 
-// a sends a number on x. b and c hand the end for it to and fro, so many turns, before b takes it.
+// a sends a number on x. b and c delegate the end for it to and fro, so many turns, before b takes it.
 pub fn bouncing(alloc: Global, turns: i64) -> Result<Accepted, Fail> {
     let there = vec![in alloc; Item::Recv(Kind::Int)]?;
     let back = vec![in alloc; Item::Recv(Kind::Int)]?;
