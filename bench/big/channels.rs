@@ -1,6 +1,6 @@
 // The work of the generated file by hand: five groups of three threads over the standard library's
 // channels, with no check and no log. The first of a group sends its number so many times, each behind
-// a word that another one comes; the second hands its end of that session to the third, which sums the
+// a word that another one comes; the second delegates its end of that session to the third, which sums the
 // numbers and sends the sum back.
 use std::sync::mpsc::{channel, Receiver, Sender};
 use std::thread::spawn;

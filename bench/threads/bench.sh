@@ -47,7 +47,7 @@ for ((number = 1; number <= files; number++)); do
         runs=$((runs + 1))
     done
 done
-printf '| Files | Done | Blocked | Other | Messages | Ends handed on | Runs | Other answers |\n|---|---|---|---|---|---|---|---|\n'
+printf '| Files | Done | Blocked | Other | Messages | Ends delegated | Runs | Other answers |\n|---|---|---|---|---|---|---|---|\n'
 printf '| %d | %d | %d | %d | %d | %d | %d | %d |\n\n' "$files" "$done" "$blocked" "$other" "$messages" "$handed" "$runs" "$wrong"
 
 printf '| Example | Runs | Other answers | Histories |\n|---|---|---|---|\n'
