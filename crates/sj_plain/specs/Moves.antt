@@ -1,10 +1,10 @@
 -- How the items of a place change as a message moves it.
-use Rattle.std.specs.Prelude.{ℕ, zero, suc, ◌+◌, ◌<◌, List, [], ◌∷◌, ⊤}
+use Rattle.std.specs.Prelude.{ℕ, ◌+◌, ◌<◌, List, [], ◌∷◌, ⊤}
 use Rattle.sj_lang.specs.declared.proto.Item.{Item}
 use Rattle.sj_lang.specs.declared.proto.Item.TheVariants.{Select, Branch, OutLoop, InLoop}
-use Rattle.sj_lang.specs.Place.{Place, Choices, done, message, choice, repeat, no_choice, arm}
+use Rattle.sj_lang.specs.Place.{Place, Choices, done, message, choice, repeat, no_choice}
 use Rattle.sj_lang.specs.View.{place_of}
-use Rattle.sj_lang.specs.After.{followed_by}
+use Rattle.sj_lang.specs.After.{arm_count, arm_rest, followed_by}
 use Rattle.sj_plain.specs.declared.moves.Move.{Move}
 use Rattle.sj_plain.specs.declared.moves.Move.TheVariants.{Stay, Pass, Turn, Enter}
 
@@ -19,17 +19,6 @@ abbrev pub arms_in : Item → Choices
 arms_in (Select arms) = arms
 arms_in (Branch arms) = arms
 arms_in _ = no_choice
-
--- how many arms there are
-abbrev pub arm_count : Choices → ℕ
-arm_count no_choice = 0
-arm_count (arm label p arms) = 1 + arm_count arms
-
--- what the arm of that number leads to
-abbrev pub arm_rest : ℕ → Choices → Place
-arm_rest k no_choice = done
-arm_rest zero (arm label p arms) = p
-arm_rest (suc k) (arm label p arms) = arm_rest k arms
 
 -- how many items are ahead, inner ones not counted
 abbrev pub place_length : Place → ℕ

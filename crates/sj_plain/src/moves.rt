@@ -1,14 +1,14 @@
 //! The place of an end moves past a message, its items moved and not copied.
 #![tactic(auto, using(crate::proofs::MoveLemmas::moves))]
 
-ghost use Rattle.std.specs.Prelude.{◌≡◌, ◌+◌, ◌<◌, ◌≤◌, ◌++◌, vec_len, vec_capacity, IsOk, IfSome, IfNone, OnOk, OnErr, Some, None};
-ghost use Rattle.sj_lang.specs.View.{carried_of, place_of};
-ghost use Rattle.sj_lang.specs.After.{at_label, carries};
+ghost use Rattle.std.specs.Prelude.{◌≡◌, ◌+◌, ◌<◌, ◌≤◌, ◌++◌, vec_len, vec_capacity, IsOk, OnOk, OnErr};
+ghost use Rattle.sj_lang.specs.View.{place_of};
+ghost use Rattle.sj_lang.specs.After.{arm_count, arm_rest};
 ghost use Rattle.sj_semantics.specs.Uses.{place_behind};
-ghost use Rattle.sj_plain.specs.Moves.{arms_in, arm_count, arm_rest, place_length, after_move, IsOpen};
+ghost use Rattle.sj_plain.specs.Moves.{arms_in, place_length, after_move, IsOpen};
 
 use sj_base::{Msg, NoMemory};
-use sj_lang::{Arms, Item, Kind, Proto, Way, copied};
+use sj_lang::{Item, Proto, Way, arm_named, copied, is_carried};
 use std::alloc::Global;
 
 /// How a message moves a place.
@@ -71,32 +71,6 @@ fn move_of(items: &[Item], way: Way, msg: &Msg) -> Move
         },
         _ => Move::Stay,
     }
-}
-
-fn is_carried(kind: &Kind, msg: &Msg) -> bool
-    ensures { result ≡ carries (carried_of kind.now) msg.now }
-{
-    match (kind, msg) {
-        (Kind::Int, Msg::Int(_)) => true,
-        (Kind::Boolean, Msg::Bool(_)) => true,
-        (Kind::Text, Msg::Text(_)) => true,
-        (Kind::Session(_), Msg::Sess { .. }) => true,
-        _ => false,
-    }
-}
-
-// The number of the first arm of that label.
-fn arm_named(choice: &Arms, label: u16) -> Option<usize>
-    ensures within { IfSome result (λ k. k < arm_count choice.now) }
-    ensures found { IfSome result (λ k. at_label label choice.now ≡ Some (arm_rest k choice.now)) }
-    ensures none { IfNone result (at_label label choice.now ≡ None) }
-{
-    for i in 0..choice.arms.len() {
-        if choice.arms[i].label == label {
-            return Some(i);
-        }
-    }
-    None
 }
 
 // Puts one turn of the loop before it.
