@@ -1,15 +1,14 @@
 //! What a token is as an operand of an expression.
-ghost use Rattle.std.specs.Prelude.{◌≡◌, ◌+◌, ◌*◌, ◌-◌, ◌<◌, ◌≤◌, IsTrue, All, length, ◌&&◌, if◌then◌else◌, Some, None, IfSome, IfNone, false, true};
+ghost use Rattle.std.specs.Prelude.{◌≡◌, ◌≤◌, IsTrue, length, ◌&&◌, if◌then◌else◌, Some, None, IfSome, IfNone, false, true};
 ghost use Rattle.std.specs.List.{list_all};
 ghost use Rattle.std.specs.Str.{bytes_eq};
 ghost use Rattle.std.specs.Str.Parse.{digits_value};
 ghost use Rattle.sj_grammar.specs.Bytes.{is_digit, is_printable};
 ghost use Rattle.sj_grammar.specs.Literals.{is_number, is_text, inner, quoted};
 ghost use Rattle.sj_grammar.specs.ExpressionDues.{is_operand};
-ghost use Rattle.sj_proto.specs.Found.{value_of};
 ghost use Rattle.sj_expr.specs.Operands.{IsOperandOf, is_plain};
 
-use sj_proto::is_name_text;
+use sj_proto::{digits_number, is_name_text};
 
 /// What an operand is.
 #[derive(Clone, Copy, Debug, PartialEq, Eq)]
@@ -24,8 +23,6 @@ pub enum Operand {
 
 /// 2^63, which stands behind a factor's own minus alone.
 const LARGEST: &[u8] = b"9223372036854775808";
-
-const MOST: u128 = 1 << 63;
 
 fn all_digits(bytes: &[u8]) -> bool
     ensures { result ≡ list_all is_digit bytes.now }
@@ -54,22 +51,6 @@ fn is_plain_digits(piece: &[u8]) -> bool
     all_digits(piece)
 }
 
-// The number that digits write, up to 2^63.
-#[tactic(auto, using(sj_proto::proofs::Digits::digits))]
-fn value_of_digits(digits: &[u8]) -> Option<u64>
-    requires { All (λ b. is_digit b ≡ true) digits.now }
-    ensures { result ≡ value_of digits.now }
-{
-    let mut value = 0u128;
-    for b in digits {
-        value = value * 10 + u128::from(*b - b'0');
-        if value > MOST {
-            return None;
-        }
-    }
-    Some(value as u64)
-}
-
 /// The number that the piece writes, up to 2^63.
 pub fn number_in(piece: &[u8]) -> Option<u64>
     ensures { result ≡ (if is_number piece.now then Some (digits_value 10 piece.now) else None) }
@@ -77,7 +58,7 @@ pub fn number_in(piece: &[u8]) -> Option<u64>
     if !is_plain_digits(piece) {
         return None;
     }
-    value_of_digits(piece)
+    digits_number(piece)
 }
 
 // Whether the piece begins and ends with a quote.

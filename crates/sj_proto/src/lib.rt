@@ -30,6 +30,7 @@ pub use printing::{print_protocol, put_word};
 pub use printing_laws::{printed_text_is_read_again, printed_text_stands};
 pub use protocols::{parse_protocol, parse_protocols};
 pub use reserved::is_name_text;
+pub use scan::digits_number;
 pub use sj_grammar::{Fault, ParseRefusal, Rule, Token, What};
 pub use tokens::Tokens;
 

@@ -1,7 +1,7 @@
 //! What comes next in a text, by places.
 ghost use Rattle.std.specs.Prelude.{◌≡◌, ℕ, ◌+◌, ◌<◌, ◌≤◌, length, drop, slice_index, All, IsTrue, ◌==◌, ◌||◌, ◌&&◌};
 ghost use Rattle.std.specs.List.{prefix_len, take_while};
-ghost use Rattle.sj_grammar.specs.Bytes.{begins_with};
+ghost use Rattle.sj_grammar.specs.Bytes.{begins_with, is_digit};
 ghost use Rattle.sj_grammar.specs.Lexis.{next_of, token_of, number_of, text_of, has_leading_zero};
 ghost use Rattle.sj_grammar.specs.Refusals.{first_rule};
 ghost use Rattle.sj_proto.specs.declared.bytes.Class.TheVariants as classes;
@@ -63,9 +63,10 @@ fn goes_on_after_zero(digits: &[u8]) -> bool
     digits.len() > 1 && is_there(digits, 0, b'0')
 }
 
+/// The number that digits write, up to 2^63.
 #[tactic(auto, using(crate::proofs::Digits::digits))]
-fn digits_number(digits: &[u8]) -> Option<u64>
-    requires { All (λ b. IsTrue (in_class classes.Digit b)) digits.now }
+pub fn digits_number(digits: &[u8]) -> Option<u64>
+    requires { All (λ b. IsTrue (is_digit b)) digits.now }
     ensures { result ≡ value_of digits.now }
 {
     let mut value = 0u128;
