@@ -6,7 +6,7 @@
 use crate::{CheckRefusal, check, is_within_limits};
 use sj_lang::{
     Arm, Arms, Connect, Deed, EndDecl, Expr, File, Item, Kind, Names, Op, Party, Proto,
-    ProtocolDef, Scalar, Stmt, StmtArm, Words, dual,
+    ProtocolDef, Scalar, Stmt, StmtArm, dual,
 };
 use std::alloc::Global;
 use std::test::Fail;
@@ -101,13 +101,6 @@ fn block(alloc: Global, line: u32, deed: Deed) -> Result<Vec<Stmt>, Fail> {
     Ok(stmts)
 }
 
-fn names(alloc: Global) -> Names {
-    Names {
-        words: Words::new(alloc),
-        texts: Words::new(alloc),
-    }
-}
-
 fn end(party: u16, name: u16, protocol: u16) -> EndDecl {
     EndDecl {
         party,
@@ -182,7 +175,7 @@ fn fault_at(alloc: Global, x: Ahead, w: Ahead, deed: Deed) -> Result<Option<Chec
     let mut body = block(alloc, 3, Deed::Let { name: N, value })?;
     body.push(Stmt { line: 4, deed })?;
     let file = File {
-        names: names(alloc),
+        names: Names::new(alloc),
         protocols: protocols(alloc, x, w)?,
         parties: parties(alloc, body)?,
         connects: connects(alloc)?,

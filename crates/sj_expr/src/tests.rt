@@ -1,21 +1,10 @@
 //! Expressions as texts, their trees and their faults.
-ghost use Rattle.std.specs.Prelude.{◌≡◌, []};
 
 use crate::parse_expression;
-use sj_lang::{Expr, Names, Op, Words};
+use sj_lang::{Expr, Names, Op};
 use sj_proto::{ParseRefusal, Rule, Tokens};
 use std::alloc::Global;
 use std::test::Fail;
-
-fn no_names(alloc: Global) -> Names
-    ensures words { result.words ≡ [] }
-    ensures texts { result.texts ≡ [] }
-{
-    Names {
-        words: Words::new(alloc),
-        texts: Words::new(alloc),
-    }
-}
 
 // The expression at the front, or why there is none; and whether that token comes next.
 fn parsed(
@@ -26,7 +15,7 @@ fn parsed(
     if text.len() > Tokens::MOST_BYTES {
         return Err(Fail::from("too long"));
     }
-    let mut names = no_names(alloc);
+    let mut names = Names::new(alloc);
     let mut tokens = Tokens::over(text);
     let answer = parse_expression(alloc, &mut tokens, &mut names);
     Ok((answer, tokens.sees(next)))
@@ -77,16 +66,6 @@ fn fault_of(alloc: Global, text: &[u8]) -> Result<Option<(Rule, u32)>, Fail> {
         Err(ParseRefusal::At(fault)) => Ok(Some((fault.rule, fault.column))),
         Err(ParseRefusal::NoMemory) => Err(Fail::from("memory")),
     }
-}
-
-// A part so many times, and a tail.
-fn repeated(alloc: Global, part: &[u8], times: usize, tail: &[u8]) -> Result<Vec<u8>, Fail> {
-    let mut text = Vec::new(alloc);
-    for _ in 0..times {
-        text.extend_from_slice(part)?;
-    }
-    text.extend_from_slice(tail)?;
-    Ok(text)
 }
 
 #[test]
@@ -167,53 +146,59 @@ fn faults_stand_at_the_first_token_with_which_none_goes_on(rt: HostRuntime) -> R
 #[test]
 fn each_limit_is_passed_by_one_token(rt: HostRuntime) -> Result<(), Fail> {
     let alloc = rt.alloc();
-    let full = repeated(alloc, b"1+", 255, b"(((1)))")?;
-    assert_eq!(rt; fault_of(alloc, &full)?, None, "256 operands");
-    let more = repeated(alloc, b"1+", 256, b"not \"\"")?;
-    assert_eq!(rt;
-        fault_of(alloc, &more)?,
-        Some((Rule::P4, 517)),
-        "257 operands"
-    );
-    let most = repeated(alloc, b"1+", 256, b"-9223372036854775808")?;
-    assert_eq!(rt;
-        fault_of(alloc, &most)?,
-        Some((Rule::P4, 514)),
-        "2^63 as the 257th"
-    );
-    let other = repeated(alloc, b"1+", 256, b"-x")?;
-    assert_eq!(rt;
-        fault_of(alloc, &other)?,
-        Some((Rule::P1, 514)),
-        "no number, and 257 operands"
-    );
-    let nots = repeated(alloc, b"not ", 32, b"a * not b")?;
-    assert_eq!(rt; fault_of(alloc, &nots)?, None, "32 open");
-    let deep = repeated(alloc, b"not ", 32, b"(a)")?;
-    assert_eq!(rt; fault_of(alloc, &deep)?, Some((Rule::P4, 129)), "33 open");
-    let inside = repeated(alloc, b"(", 32, b"1 + not a")?;
-    assert_eq!(rt;
-        fault_of(alloc, &inside)?,
-        Some((Rule::P4, 37)),
-        "33 open, behind a sum"
-    );
-    let name = repeated(alloc, b"n", 64, b" ")?;
-    assert_eq!(rt; fault_of(alloc, &name)?, None, "a name of 64 bytes");
-    let long = repeated(alloc, b"n", 65, b" ")?;
-    assert_eq!(rt;
-        fault_of(alloc, &long)?,
-        Some((Rule::P4, 1)),
-        "a name of 65 bytes"
-    );
-    let mut text = repeated(alloc, b"\"", 1, b"")?;
-    text.extend_from_slice(&repeated(alloc, b" ", 255, b"\"")?)?;
-    assert_eq!(rt; fault_of(alloc, &text)?, None, "a text of 255 bytes");
-    text.pop();
-    text.extend_from_slice(b" \"")?;
-    assert_eq!(rt;
-        fault_of(alloc, &text)?,
-        Some((Rule::P4, 1)),
-        "a text of 256 bytes"
-    );
+    let rows: [(&str, &str, usize, &str, Option<(Rule, u32)>, &str); 11] = [
+        ("", "1+", 255, "(((1)))", None, "256 operands"),
+        (
+            "",
+            "1+",
+            256,
+            "not \"\"",
+            Some((Rule::P4, 517)),
+            "257 operands",
+        ),
+        (
+            "",
+            "1+",
+            256,
+            "-9223372036854775808",
+            Some((Rule::P4, 514)),
+            "2^63 as the 257th",
+        ),
+        (
+            "",
+            "1+",
+            256,
+            "-x",
+            Some((Rule::P1, 514)),
+            "no number, and 257 operands",
+        ),
+        ("", "not ", 32, "a * not b", None, "32 open"),
+        ("", "not ", 32, "(a)", Some((Rule::P4, 129)), "33 open"),
+        (
+            "",
+            "(",
+            32,
+            "1 + not a",
+            Some((Rule::P4, 37)),
+            "33 open, behind a sum",
+        ),
+        ("", "n", 64, " ", None, "a name of 64 bytes"),
+        ("", "n", 65, " ", Some((Rule::P4, 1)), "a name of 65 bytes"),
+        ("\"", " ", 255, "\"", None, "a text of 255 bytes"),
+        (
+            "\"",
+            " ",
+            256,
+            "\"",
+            Some((Rule::P4, 1)),
+            "a text of 256 bytes",
+        ),
+    ];
+    for (head, part, times, tail, want, what) in rows {
+        let middle = part.repeat(alloc, times)?;
+        let text = format!(in alloc; "{head}{middle}{tail}")?;
+        let found = fault_of(alloc, text.as_bytes())?;
+        assert_eq!(rt; found, want, "{what}");
+    }
     Ok(())
 }

@@ -11,7 +11,7 @@ ghost use Rattle.sj_grammar.specs.Refusals.{OnFault};
 
 use crate::connects::parse_connects;
 use crate::parties::parse_parties;
-use sj_lang::{File, Names, Words};
+use sj_lang::{File, Names};
 use sj_proto::{ParseRefusal, Tokens, parse_protocols};
 use std::alloc::Global;
 
@@ -30,10 +30,7 @@ pub fn parse_file(alloc: Global, bytes: &[u8]) -> Result<File, ParseRefusal>
         file_due f)) }
     ensures none { IfErr result (OnFault (λ _. (g : FileAt) → IsFile bytes.now g → ⊥)) }
 {
-    let mut names = Names {
-        words: Words::new(alloc),
-        texts: Words::new(alloc),
-    };
+    let mut names = Names::new(alloc);
     let mut tokens = Tokens::over(bytes);
     let protocols = parse_protocols(alloc, &mut tokens, &mut names)?;
     let parties = parse_parties(alloc, &mut tokens, &mut names)?;

@@ -1,5 +1,4 @@
 //! Printed expressions, statements and files against the texts of the format.
-ghost use Rattle.std.specs.Prelude.{◌≡◌, []};
 
 use crate::printing_expressions::{Wanted, put_expression};
 use crate::printing_statements::put_block;
@@ -7,25 +6,15 @@ use crate::{print_file, print_protocol_line};
 use sj_expr::parse_expression;
 use sj_lang::{
     Connect, Deed, EndDecl, Expr, File, Item, Kind, Names, Op, Party, Proto, ProtocolDef, Scalar,
-    Stmt, StmtArm, Words, dual,
+    Stmt, StmtArm, dual,
 };
 use sj_proto::Tokens;
 use std::alloc::{AllocError, Global};
 use std::test::Fail;
 
-fn no_names(alloc: Global) -> Names
-    ensures words { result.words ≡ [] }
-    ensures texts { result.texts ≡ [] }
-{
-    Names {
-        words: Words::new(alloc),
-        texts: Words::new(alloc),
-    }
-}
-
 // The tables of the listed words and texts.
 fn names_of(alloc: Global, words: &[&[u8]], texts: &[&[u8]]) -> Result<Names, Fail> {
-    let mut names = no_names(alloc);
+    let mut names = Names::new(alloc);
     for word in words {
         names.words.add(word)?;
     }
@@ -40,7 +29,7 @@ fn printed(alloc: Global, source: &[u8]) -> Result<Vec<u8>, Fail> {
     if source.len() > Tokens::MOST_BYTES {
         return Err(Fail::from("too long"));
     }
-    let mut names = no_names(alloc);
+    let mut names = Names::new(alloc);
     let mut tokens = Tokens::over(source);
     let value = parse_expression(alloc, &mut tokens, &mut names)?;
     let mut text = Vec::new(alloc);

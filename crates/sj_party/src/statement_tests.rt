@@ -1,21 +1,10 @@
 //! Texts of statements, what they are read as, and their faults.
-ghost use Rattle.std.specs.Prelude.{◌≡◌, []};
 
 use crate::statements::statements;
-use sj_lang::{Deed, Expr, Names, Scalar, Stmt, Words};
+use sj_lang::{Deed, Expr, Names, Scalar, Stmt};
 use sj_proto::{ParseRefusal, Rule, Tokens};
 use std::alloc::Global;
 use std::test::Fail;
-
-fn no_names(alloc: Global) -> Names
-    ensures words { result.words ≡ [] }
-    ensures texts { result.texts ≡ [] }
-{
-    Names {
-        words: Words::new(alloc),
-        texts: Words::new(alloc),
-    }
-}
 
 // The statements at the front, or why there are none; and whether that token comes next.
 fn parsed(
@@ -26,7 +15,7 @@ fn parsed(
     if text.len() > Tokens::MOST_BYTES {
         return Err(Fail::from("too long"));
     }
-    let mut names = no_names(alloc);
+    let mut names = Names::new(alloc);
     let mut tokens = Tokens::over(text);
     let answer = statements(alloc, &mut tokens, &mut names, 0);
     Ok((answer, tokens.sees(next)))
@@ -110,16 +99,6 @@ fn told(alloc: Global, statement: &Stmt) -> Result<String, Fail> {
         }
         Deed::Close { end } => Ok(format!(in alloc; "{line} close {end}")?),
     }
-}
-
-// A part so many times, and a tail.
-fn repeated(alloc: Global, part: &[u8], times: usize, tail: &[u8]) -> Result<Vec<u8>, Fail> {
-    let mut text = Vec::new(alloc);
-    for _ in 0..times {
-        text.extend_from_slice(part)?;
-    }
-    text.extend_from_slice(tail)?;
-    Ok(text)
 }
 
 #[test]
@@ -212,33 +191,47 @@ fn blocks_nest_32_deep_and_the_braces_of_an_inbranch_do_not_count(
     rt: HostRuntime,
 ) -> Result<(), Fail> {
     let alloc = rt.alloc();
-    let braces = repeated(alloc, b"}", 32, b"")?;
-    let full = repeated(alloc, b"inwhile a {", 32, &braces)?;
-    assert_eq!(rt; fault_of(alloc, &full)?, None, "32 open");
-    let deep = repeated(alloc, b"inwhile a {", 33, b"")?;
-    assert_eq!(rt;
-        fault_of(alloc, &deep)?,
-        Some((Rule::P4, 1, 363)),
-        "33 open"
-    );
-    let arms = repeated(alloc, b"inbranch a { x: {", 32, b"close a; !")?;
-    assert_eq!(rt;
-        fault_of(alloc, &arms)?,
-        Some((Rule::P1, 1, 554)),
-        "32 open, and as many of `inbranch`"
-    );
-    let more = repeated(alloc, b"inbranch a { x: {", 33, b"")?;
-    assert_eq!(rt;
-        fault_of(alloc, &more)?,
-        Some((Rule::P4, 1, 561)),
-        "33 open in arms"
-    );
-    let name = repeated(alloc, b"n", 65, b";")?;
-    let long = repeated(alloc, b"close ", 1, &name)?;
-    assert_eq!(rt;
-        fault_of(alloc, &long)?,
-        Some((Rule::P4, 1, 7)),
-        "a name of 65 bytes"
-    );
+    let braces = "}".repeat(alloc, 32)?;
+    let rows: [(&str, &str, usize, &str, Option<(Rule, u32, u32)>, &str); 5] = [
+        ("", "inwhile a {", 32, braces.as_str(), None, "32 open"),
+        (
+            "",
+            "inwhile a {",
+            33,
+            "",
+            Some((Rule::P4, 1, 363)),
+            "33 open",
+        ),
+        (
+            "",
+            "inbranch a { x: {",
+            32,
+            "close a; !",
+            Some((Rule::P1, 1, 554)),
+            "32 open, and as many of `inbranch`",
+        ),
+        (
+            "",
+            "inbranch a { x: {",
+            33,
+            "",
+            Some((Rule::P4, 1, 561)),
+            "33 open in arms",
+        ),
+        (
+            "close ",
+            "n",
+            65,
+            ";",
+            Some((Rule::P4, 1, 7)),
+            "a name of 65 bytes",
+        ),
+    ];
+    for (head, part, times, tail, want, what) in rows {
+        let middle = part.repeat(alloc, times)?;
+        let text = format!(in alloc; "{head}{middle}{tail}")?;
+        let found = fault_of(alloc, text.as_bytes())?;
+        assert_eq!(rt; found, want, "{what}");
+    }
     Ok(())
 }

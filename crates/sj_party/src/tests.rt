@@ -43,23 +43,6 @@ fn counts_of(file: &File) -> (usize, usize, usize) {
     )
 }
 
-// A head, a part so many times, and a tail.
-fn repeated(
-    alloc: Global,
-    head: &[u8],
-    part: &[u8],
-    times: usize,
-    tail: &[u8],
-) -> Result<Vec<u8>, Fail> {
-    let mut text = Vec::new(alloc);
-    text.extend_from_slice(head)?;
-    for _ in 0..times {
-        text.extend_from_slice(part)?;
-    }
-    text.extend_from_slice(tail)?;
-    Ok(text)
-}
-
 const FIRST: &[u8] =
     b"protocol p { begin.!<int> }\nprotocol q { begin.?(int) }\nparty a { send x 5; close x; }\nparty b { recv y n int; close y; }\nconnect a x p to b y q;\n";
 
@@ -187,7 +170,8 @@ fn the_first_fault_has_its_place_and_rule(rt: HostRuntime) -> Result<(), Fail> {
         (b"party a { } // \x80", Rule::P2, 3, 16),
     ];
     for (text, rule, line, column) in rows {
-        let whole = repeated(alloc, head, text, 1, b"")?;
+        let mut whole = Vec::from_slice(alloc, head)?;
+        whole.extend_from_slice(text)?;
         let found = fault_of(alloc, &whole)?;
         assert_eq!(rt; found, Some((rule, line, column)), "at {column}");
     }
@@ -254,7 +238,9 @@ fn each_limit_is_passed_by_one_token(rt: HostRuntime) -> Result<(), Fail> {
         (b"", b" ", 65_536, b"", None),
     ];
     for (head, part, times, tail, want) in rows {
-        let text = repeated(alloc, head, part, times, tail)?;
+        let mut text = Vec::from_slice(alloc, head)?;
+        text.extend_from_slice(&part.repeat(alloc, times)?)?;
+        text.extend_from_slice(tail)?;
         let found = fault_of(alloc, &text)?;
         let first_line = want.map(|(rule, column)| (rule, 1, column));
         assert_eq!(rt; found, first_line, "at {times}");

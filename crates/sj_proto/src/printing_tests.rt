@@ -1,20 +1,9 @@
 //! Printed texts against the texts of the format.
-ghost use Rattle.std.specs.Prelude.{◌≡◌, []};
 
 use crate::{parse_protocol, print_protocol};
-use sj_lang::{Names, Words, dual};
+use sj_lang::{Names, dual};
 use std::alloc::Global;
 use std::test::Fail;
-
-fn no_names(alloc: Global) -> Names
-    ensures words { result.words ≡ [] }
-    ensures texts { result.texts ≡ [] }
-{
-    Names {
-        words: Words::new(alloc),
-        texts: Words::new(alloc),
-    }
-}
 
 #[test]
 fn canonical_bodies_are_printed_as_they_were_read(rt: HostRuntime) -> Result<(), Fail> {
@@ -36,7 +25,7 @@ fn canonical_bodies_are_printed_as_they_were_read(rt: HostRuntime) -> Result<(),
     ];
     for body in bodies {
         assert!(rt; body.len() <= 100);
-        let mut names = no_names(rt.alloc());
+        let mut names = Names::new(rt.alloc());
         let p = parse_protocol(rt.alloc(), body, &mut names)?;
         let mut text = Vec::new(rt.alloc());
         print_protocol(&mut text, &names, &p)?;
@@ -60,7 +49,7 @@ fn blanks_and_comments_are_not_printed(rt: HostRuntime) -> Result<(), Fail> {
     ];
     for (source, wanted) in rows {
         assert!(rt; source.len() <= 100);
-        let mut names = no_names(rt.alloc());
+        let mut names = Names::new(rt.alloc());
         let p = parse_protocol(rt.alloc(), source, &mut names)?;
         let mut text = Vec::new(rt.alloc());
         print_protocol(&mut text, &names, &p)?;
@@ -71,7 +60,7 @@ fn blanks_and_comments_are_not_printed(rt: HostRuntime) -> Result<(), Fail> {
 
 #[test]
 fn a_dual_is_printed_behind_what_is_there(rt: HostRuntime) -> Result<(), Fail> {
-    let mut names = no_names(rt.alloc());
+    let mut names = Names::new(rt.alloc());
     let p = parse_protocol(rt.alloc(), b"begin.!<int>", &mut names)?;
     let mut text = Vec::from_slice(rt.alloc(), b"dual p { ")?;
     print_protocol(&mut text, &names, &dual(rt.alloc(), &p)?)?;

@@ -1,27 +1,16 @@
 //! Texts, their values and their faults.
-ghost use Rattle.std.specs.Prelude.{◌≡◌, []};
 
 use crate::{ParseRefusal, Rule, Tokens, What, parse_protocol, parse_protocols};
-use sj_lang::{Names, Words};
+use sj_lang::Names;
 use std::alloc::Global;
 use std::test::Fail;
-
-fn no_names(alloc: Global) -> Names
-    ensures words { result.words ≡ [] }
-    ensures texts { result.texts ≡ [] }
-{
-    Names {
-        words: Words::new(alloc),
-        texts: Words::new(alloc),
-    }
-}
 
 // The rule, the line and the column of the fault; None where the text is a protocol.
 fn fault_of(alloc: Global, text: &[u8]) -> Result<Option<(Rule, u32, u32)>, Fail> {
     if text.len() > Tokens::MOST_BYTES {
         return Err(Fail::from("too long"));
     }
-    let mut names = no_names(alloc);
+    let mut names = Names::new(alloc);
     match parse_protocol(alloc, text, &mut names) {
         Ok(_) => Ok(None),
         Err(ParseRefusal::At(fault)) => Ok(Some((fault.rule, fault.line, fault.column))),
@@ -34,7 +23,7 @@ fn front_fault(alloc: Global, text: &[u8]) -> Result<Option<(Rule, u32, u32)>, F
     if text.len() > Tokens::MOST_BYTES {
         return Err(Fail::from("too long"));
     }
-    let mut names = no_names(alloc);
+    let mut names = Names::new(alloc);
     let mut tokens = Tokens::over(text);
     match parse_protocols(alloc, &mut tokens, &mut names) {
         Ok(_) => Ok(None),
@@ -43,27 +32,10 @@ fn front_fault(alloc: Global, text: &[u8]) -> Result<Option<(Rule, u32, u32)>, F
     }
 }
 
-// A head, a part so many times, and a tail.
-fn repeated(
-    alloc: Global,
-    head: &[u8],
-    part: &[u8],
-    times: usize,
-    tail: &[u8],
-) -> Result<Vec<u8>, Fail> {
-    let mut text = Vec::new(alloc);
-    text.extend_from_slice(head)?;
-    for _ in 0..times {
-        text.extend_from_slice(part)?;
-    }
-    text.extend_from_slice(tail)?;
-    Ok(text)
-}
-
 #[test]
 fn labels_have_their_numbers_by_first_occurrence(rt: HostRuntime) -> Result<(), Fail> {
     let alloc = rt.alloc();
-    let mut names = no_names(alloc);
+    let mut names = Names::new(alloc);
     let text = b"begin .!{ b: ?(int), a:, b: ![ ]* } . ?(!<String>)";
     let p = parse_protocol(alloc, text, &mut names)
         .ok()
@@ -78,7 +50,7 @@ fn labels_have_their_numbers_by_first_occurrence(rt: HostRuntime) -> Result<(), 
 #[test]
 fn a_refusal_leaves_the_old_words_first(rt: HostRuntime) -> Result<(), Fail> {
     let alloc = rt.alloc();
-    let mut names = no_names(alloc);
+    let mut names = Names::new(alloc);
     names.words.add(b"z")?;
     let refused = parse_protocol(alloc, b"begin.!{a: , z: , 5", &mut names).is_err();
     assert!(rt; refused);
@@ -143,7 +115,9 @@ fn each_limit_is_passed_by_one_token(rt: HostRuntime) -> Result<(), Fail> {
         (b"begin.", b"a", 65, b"", Some((Rule::P1, 1, 7))),
     ];
     for (head, part, times, tail, want) in rows {
-        let text = repeated(alloc, head, part, times, tail)?;
+        let mut text = Vec::from_slice(alloc, head)?;
+        text.extend_from_slice(&part.repeat(alloc, times)?)?;
+        text.extend_from_slice(tail)?;
         let found = fault_of(alloc, &text)?;
         assert_eq!(rt; found, want, "at {times}");
     }
@@ -153,7 +127,7 @@ fn each_limit_is_passed_by_one_token(rt: HostRuntime) -> Result<(), Fail> {
 #[test]
 fn protocols_stand_at_the_front(rt: HostRuntime) -> Result<(), Fail> {
     let alloc = rt.alloc();
-    let mut names = no_names(alloc);
+    let mut names = Names::new(alloc);
     let text = b"protocol p { begin.!<int> }\nprotocol q { begin.?(int) }\nparty a { }";
     let mut tokens = Tokens::over(text);
     let list = parse_protocols(alloc, &mut tokens, &mut names)
@@ -220,7 +194,9 @@ fn a_fault_in_front_has_its_place_and_rule(rt: HostRuntime) -> Result<(), Fail> 
         ),
     ];
     for (head, part, times, tail, want) in rows {
-        let text = repeated(alloc, head, part, times, tail)?;
+        let mut text = Vec::from_slice(alloc, head)?;
+        text.extend_from_slice(&part.repeat(alloc, times)?)?;
+        text.extend_from_slice(tail)?;
         let found = front_fault(alloc, &text)?;
         assert_eq!(rt; found, want, "at {times}");
     }

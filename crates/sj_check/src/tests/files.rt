@@ -3,12 +3,12 @@
 //! The file is that of one number: protocols p and q, on lines 1 and 2, party a, which sends it on x, on
 //! line 3, party b, which takes it from y, on line 4, and a connection on line 5.
 use super::{
-    A, Ahead, B, N, NOWHERE, P, Q, R, X, Y, arms, block, end, first_fault, names, nothing, place,
+    A, Ahead, B, N, NOWHERE, P, Q, R, X, Y, arms, block, end, first_fault, nothing, place,
 };
 use crate::{CheckRefusal, check, is_within_limits};
 use sj_lang::{
-    Arm, Arms, Connect, Deed, EndDecl, Expr, File, Item, Kind, Party, Proto, ProtocolDef, Scalar,
-    Stmt,
+    Arm, Arms, Connect, Deed, EndDecl, Expr, File, Item, Kind, Names, Party, Proto, ProtocolDef,
+    Scalar, Stmt,
 };
 use std::alloc::Global;
 use std::test::Fail;
@@ -77,7 +77,7 @@ fn file(
         second,
     })?;
     Ok(File {
-        names: names(alloc),
+        names: Names::new(alloc),
         protocols: protocols(alloc, q)?,
         parties,
         connects,
@@ -93,7 +93,7 @@ fn alone(alloc: Global, body: Proto) -> Result<File, Fail> {
         body,
     })?;
     Ok(File {
-        names: names(alloc),
+        names: Names::new(alloc),
         protocols,
         parties: Vec::new(alloc),
         connects: Vec::new(alloc),

@@ -2,7 +2,7 @@
 use sj_check::{Accepted, check, is_within_limits};
 use sj_lang::{
     Connect, Deed, EndDecl, Expr, File, Item, Kind, Names, Party, Proto, ProtocolDef, Scalar, Stmt,
-    Words, dual,
+    dual,
 };
 use std::alloc::Global;
 use std::test::Fail;
@@ -124,10 +124,7 @@ fn accepted(
         })?;
         name = name.saturating_add(1);
     }
-    let names = Names {
-        words: Words::new(alloc),
-        texts: Words::new(alloc),
-    };
+    let names = Names::new(alloc);
     let file = File {
         names,
         protocols,

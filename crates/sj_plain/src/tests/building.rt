@@ -2,7 +2,7 @@
 use sj_check::{Accepted, check, is_within_limits};
 use sj_lang::{
     Connect, Deed, EndDecl, Expr, File, Item, Kind, Names, Op, Party, Proto, ProtocolDef, Scalar,
-    Stmt, Words, dual,
+    Stmt, dual,
 };
 use std::alloc::{AllocError, Global};
 use std::test::Fail;
@@ -129,10 +129,7 @@ pub fn accepted(
         })?;
         name = name.saturating_add(1);
     }
-    let names = Names {
-        words: Words::new(alloc),
-        texts: Words::new(alloc),
-    };
+    let names = Names::new(alloc);
     let file = File {
         names,
         protocols: defs,

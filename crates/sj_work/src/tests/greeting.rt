@@ -3,7 +3,6 @@ use crate::tests::{A, B};
 use sj_check::{Accepted, check, is_within_limits};
 use sj_lang::{
     Connect, Deed, EndDecl, Expr, File, Item, Kind, Names, Party, Proto, ProtocolDef, Scalar, Stmt,
-    Words,
 };
 use std::alloc::Global;
 use std::test::Fail;
@@ -63,10 +62,7 @@ pub fn greeting(alloc: Global) -> Result<Accepted, Fail> {
         stmt(Deed::Close { end: Y }),
     ]?;
     let file = File {
-        names: Names {
-            words: Words::new(alloc),
-            texts: Words::new(alloc),
-        },
+        names: Names::new(alloc),
         protocols: vec![in alloc;
             protocol(P, vec![in alloc; Item::Send(Kind::Int)]?),
             protocol(Q, vec![in alloc; Item::Recv(Kind::Int)]?),

@@ -15,15 +15,15 @@ pub returns-in_err-protocols-clause-none : goal.returns-in_err-protocols-clause-
 returns-in_err-protocols-clause-none c =
     let bytes = c.args.bytes.now in
     let e = c.in_err-protocols.field-0.0 in
-    let from : at c.over-tokens.result c.new.result c.new-2.result ≡ start bytes [] [] = λ i. at (c.over-tokens.ensures i) (c.new.ensures i) (c.new-2.ensures i) in
-    err_as _ e (NoFile bytes) c.from_residual.ensures.1 (stands_for_none bytes e (at_protocols bytes (at c.over-tokens.result c.new.result c.new-2.result) from e c.in_err-protocols.ensures.fault))
+    let from : at c.over-tokens.result c.new-names.result.words c.new-names.result.texts ≡ start bytes [] [] = λ i. at (c.over-tokens.ensures i) (c.new-names.ensures.words i) (c.new-names.ensures.texts i) in
+    err_as _ e (NoFile bytes) c.from_residual.ensures.1 (stands_for_none bytes e (at_protocols bytes (at c.over-tokens.result c.new-names.result.words c.new-names.result.texts) from e c.in_err-protocols.ensures.fault))
 
 pub returns-in_err-parties-clause-fault : goal.returns-in_err-parties-clause-fault
 returns-in_err-parties-clause-fault c =
     let bytes = c.args.bytes.now in
     let e = c.in_err-parties.field-0.0 in
-    let a = at c.over-tokens.result c.new.result c.new-2.result in
-    let from : a ≡ start bytes [] [] = λ i. at (c.over-tokens.ensures i) (c.new.ensures i) (c.new-2.ensures i) in
+    let a = at c.over-tokens.result c.new-names.result.words c.new-names.result.texts in
+    let from : a ≡ start bytes [] [] = λ i. at (c.over-tokens.ensures i) (c.new-names.ensures.words i) (c.new-names.ensures.texts i) in
     err_as _ e (OnFault (IsFault bytes)) c.from_residual-in_err-parties.ensures.1
     (at_parties bytes a (standing c.parse_protocols.new.tokens c.parse_protocols.new.names) (map protocol_of c.in_ok-protocols.protocols.items) from c.in_ok-protocols.ensures.found e c.in_err-parties.ensures.fault)
 
@@ -31,8 +31,8 @@ pub returns-in_err-parties-clause-none : goal.returns-in_err-parties-clause-none
 returns-in_err-parties-clause-none c =
     let bytes = c.args.bytes.now in
     let e = c.in_err-parties.field-0.0 in
-    let a = at c.over-tokens.result c.new.result c.new-2.result in
-    let from : a ≡ start bytes [] [] = λ i. at (c.over-tokens.ensures i) (c.new.ensures i) (c.new-2.ensures i) in
+    let a = at c.over-tokens.result c.new-names.result.words c.new-names.result.texts in
+    let from : a ≡ start bytes [] [] = λ i. at (c.over-tokens.ensures i) (c.new-names.ensures.words i) (c.new-names.ensures.texts i) in
     err_as _ e (NoFile bytes) c.from_residual-in_err-parties.ensures.1
     (stands_for_none bytes e
     (at_parties bytes a (standing c.parse_protocols.new.tokens c.parse_protocols.new.names) (map protocol_of c.in_ok-protocols.protocols.items) from c.in_ok-protocols.ensures.found e c.in_err-parties.ensures.fault))
@@ -41,8 +41,8 @@ pub returns-in_err-connects-clause-fault : goal.returns-in_err-connects-clause-f
 returns-in_err-connects-clause-fault c =
     let bytes = c.args.bytes.now in
     let e = c.in_err-connects.field-0.0 in
-    let a = at c.over-tokens.result c.new.result c.new-2.result in
-    let from : a ≡ start bytes [] [] = λ i. at (c.over-tokens.ensures i) (c.new.ensures i) (c.new-2.ensures i) in
+    let a = at c.over-tokens.result c.new-names.result.words c.new-names.result.texts in
+    let from : a ≡ start bytes [] [] = λ i. at (c.over-tokens.ensures i) (c.new-names.ensures.words i) (c.new-names.ensures.texts i) in
     err_as _ e (OnFault (IsFault bytes)) c.from_residual-in_err-connects.ensures.1
     (at_connects bytes a (standing c.parse_protocols.new.tokens c.parse_protocols.new.names) (map protocol_of c.in_ok-protocols.protocols.items) from c.in_ok-protocols.ensures.found
     (standing c.parse_parties.new.tokens c.parse_parties.new.names) c.in_ok-parties.parties.items c.in_ok-parties.ensures.reads c.in_ok-parties.ensures.few c.in_ok-parties.ensures.ends e c.in_err-connects.ensures.fault)
@@ -51,8 +51,8 @@ pub returns-in_err-connects-clause-none : goal.returns-in_err-connects-clause-no
 returns-in_err-connects-clause-none c =
     let bytes = c.args.bytes.now in
     let e = c.in_err-connects.field-0.0 in
-    let a = at c.over-tokens.result c.new.result c.new-2.result in
-    let from : a ≡ start bytes [] [] = λ i. at (c.over-tokens.ensures i) (c.new.ensures i) (c.new-2.ensures i) in
+    let a = at c.over-tokens.result c.new-names.result.words c.new-names.result.texts in
+    let from : a ≡ start bytes [] [] = λ i. at (c.over-tokens.ensures i) (c.new-names.ensures.words i) (c.new-names.ensures.texts i) in
     err_as _ e (NoFile bytes) c.from_residual-in_err-connects.ensures.1
     (stands_for_none bytes e
     (at_connects bytes a (standing c.parse_protocols.new.tokens c.parse_protocols.new.names) (map protocol_of c.in_ok-protocols.protocols.items) from c.in_ok-protocols.ensures.found
@@ -62,8 +62,8 @@ pub returns-in_err-finish-clause-fault : goal.returns-in_err-finish-clause-fault
 returns-in_err-finish-clause-fault c =
     let bytes = c.args.bytes.now in
     let f = c.in_err-finish.field-0.0 in
-    let a = at c.over-tokens.result c.new.result c.new-2.result in
-    let from : a ≡ start bytes [] [] = λ i. at (c.over-tokens.ensures i) (c.new.ensures i) (c.new-2.ensures i) in
+    let a = at c.over-tokens.result c.new-names.result.words c.new-names.result.texts in
+    let from : a ≡ start bytes [] [] = λ i. at (c.over-tokens.ensures i) (c.new-names.ensures.words i) (c.new-names.ensures.texts i) in
     err_as _ (refusals.At f) (OnFault (IsFault bytes)) c.from_residual-in_err-finish.ensures.1
     (at_last bytes a (standing c.parse_protocols.new.tokens c.parse_protocols.new.names) (map protocol_of c.in_ok-protocols.protocols.items) from c.in_ok-protocols.ensures.found (standing c.parse_parties.new.tokens c.parse_parties.new.names)
     c.in_ok-parties.parties.items c.in_ok-parties.ensures.reads c.in_ok-parties.ensures.few c.in_ok-parties.ensures.ends (standing c.parse_connects.new.tokens c.parse_connects.new.names) c.in_ok-connects.connects.items
@@ -73,8 +73,8 @@ pub returns-in_err-finish-clause-none : goal.returns-in_err-finish-clause-none
 returns-in_err-finish-clause-none c =
     let bytes = c.args.bytes.now in
     let f = c.in_err-finish.field-0.0 in
-    let a = at c.over-tokens.result c.new.result c.new-2.result in
-    let from : a ≡ start bytes [] [] = λ i. at (c.over-tokens.ensures i) (c.new.ensures i) (c.new-2.ensures i) in
+    let a = at c.over-tokens.result c.new-names.result.words c.new-names.result.texts in
+    let from : a ≡ start bytes [] [] = λ i. at (c.over-tokens.ensures i) (c.new-names.ensures.words i) (c.new-names.ensures.texts i) in
     err_as _ (refusals.At f) (NoFile bytes) c.from_residual-in_err-finish.ensures.1
     (stands_for_none bytes (refusals.At f)
     (at_last bytes a (standing c.parse_protocols.new.tokens c.parse_protocols.new.names) (map protocol_of c.in_ok-protocols.protocols.items) from c.in_ok-protocols.ensures.found (standing c.parse_parties.new.tokens c.parse_parties.new.names)
@@ -84,8 +84,8 @@ returns-in_err-finish-clause-none c =
 pub returns-clause-found : goal.returns-clause-found
 returns-clause-found c =
     let bytes = c.args.bytes.now in
-    let a = at c.over-tokens.result c.new.result c.new-2.result in
-    let from : a ≡ start bytes [] [] = λ i. at (c.over-tokens.ensures i) (c.new.ensures i) (c.new-2.ensures i) in
+    let a = at c.over-tokens.result c.new-names.result.words c.new-names.result.texts in
+    let from : a ≡ start bytes [] [] = λ i. at (c.over-tokens.ensures i) (c.new-names.ensures.words i) (c.new-names.ensures.texts i) in
     all_read bytes a (standing c.parse_protocols.new.tokens c.parse_protocols.new.names) (map protocol_of c.in_ok-protocols.protocols.items) from c.in_ok-protocols.ensures.found (standing c.parse_parties.new.tokens c.parse_parties.new.names)
     c.in_ok-parties.parties.items c.in_ok-parties.ensures.reads c.in_ok-parties.ensures.few c.in_ok-parties.ensures.ends (standing c.parse_connects.new.tokens c.parse_connects.new.names) c.in_ok-connects.connects.items
     c.in_ok-connects.ensures.reads c.in_ok-connects.ensures.few c.in_ok-connects.ensures.ends c.in_ok-finish.ensures.ok
