@@ -2,6 +2,7 @@
 #![tactic(auto)]
 
 mod building;
+mod comparing;
 mod copying;
 mod leading;
 mod table;

@@ -1,19 +1,21 @@
 //! Spots, and the table in which they stand for places.
-ghost use Rattle.std.specs.Prelude.{◌≡◌, ◌+◌, ◌<◌, ℕ, length, map, option_map, IsTrue, ◌↔◌, IfOk};
+ghost use Rattle.std.specs.Prelude.{◌≡◌, ◌+◌, ◌<◌, ℕ, length, map, option_map, IsTrue, ◌↔◌, IfOk, MatchOption};
 ghost use Rattle.sj_lang.specs.After.{after_place};
 ghost use Rattle.sj_lang.specs.FileAt.{body_named, named};
 ghost use Rattle.sj_lang.specs.FileView.{protocol_of};
 ghost use Rattle.sj_lang.specs.Place.{done};
+ghost use Rattle.sj_lang.specs.View.{followed};
 ghost use Rattle.sj_table.specs.Nodes.{nodes_of};
 ghost use Rattle.sj_table.specs.Spots.{HasSpot, place_in, start_in};
 ghost use Rattle.sj_table.specs.Table.{at_node, is_done};
 ghost use Rattle.sj_table.specs.declared.table.Table.{Table};
 
 use crate::building::{add_place, items_at};
+use crate::comparing::{is_node_of, same_nodes};
 use crate::copying::copied_stops;
-use crate::leading::{Stop, after_node, is_done_node};
+use crate::leading::{Stop, after_node, is_done_node, split_node};
 use sj_base::{Msg, NoMemory};
-use sj_lang::{Proto, ProtocolDef, Way};
+use sj_lang::{Item, Proto, ProtocolDef, Way};
 use std::alloc::Global;
 use std::marker::Model;
 
@@ -122,6 +124,30 @@ impl Table {
     {
         let node = after_node(&self.stops, spot.node, way, msg);
         spot_at(node)
+    }
+
+    /// The item that stands first, and the spot of what follows it; none where nothing is ahead.
+    pub fn split(&self, spot: Spot) -> Option<(&Item, Spot)>
+        ensures { let here = place_in self.now spot in
+            MatchOption result (here ≡ done) (λ p. here ≡ followed p.0.now (place_in self.now p.1)) }
+    {
+        let (item, node) = split_node(&self.stops, spot.node)?;
+        Some((item, Spot { node }))
+    }
+
+    /// Whether two spots stand for equal places. Their items are compared up to where both have come
+    /// to one node.
+    pub fn is_same(&self, one: Spot, other: Spot) -> bool
+        ensures { IsTrue result ↔ (place_in self.now one ≡ place_in self.now other) }
+    {
+        same_nodes(&self.stops, one.node, other.node)
+    }
+
+    /// Whether the spot stands for this place.
+    pub fn stands_for(&self, spot: Spot, place: &Proto) -> bool
+        ensures { IsTrue result ↔ (place_in self.now spot ≡ place.now) }
+    {
+        is_node_of(&self.stops, spot.node, &place.items)
     }
 
     /// The place for which the spot stands.

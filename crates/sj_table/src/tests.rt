@@ -183,6 +183,64 @@ fn an_arm_is_followed_by_what_follows_the_choice(rt: HostRuntime) -> Result<(), 
     Ok(())
 }
 
+// ?{7: !<int>, 8: !<int>, 9: !<String>}.?(boolean)
+fn alike(alloc: Global) -> Result<Vec<ProtocolDef>, NoMemory>
+    ensures { IfOk result (λ defs. nodes_of (map protocol_of defs.items) ≡ 5) }
+{
+    let first = Arm {
+        label: 7,
+        rest: one(alloc, Item::Send(Kind::Int))?,
+    };
+    let second = Arm {
+        label: 8,
+        rest: one(alloc, Item::Send(Kind::Int))?,
+    };
+    let third = Arm {
+        label: 9,
+        rest: one(alloc, Item::Send(Kind::Text))?,
+    };
+    let arms = Vec::from_array(alloc, [first, second, third])?;
+    let body = two(
+        alloc,
+        Item::Branch(Arms { arms }),
+        Item::Recv(Kind::Boolean),
+    )?;
+    let defs = Vec::from_array(alloc, [def(W, body)])?;
+    Ok(defs)
+}
+
+fn arm(table: &Table, start: Spot, label: u16) -> Result<Spot, Fail> {
+    let arm = table
+        .after(start, Way::Into, &Msg::Label(label))
+        .ok_or("an arm")?;
+    Ok(arm)
+}
+
+#[test]
+fn spots_are_the_same_where_their_places_are_equal(rt: HostRuntime) -> Result<(), Fail> {
+    let alloc = rt.alloc();
+    let table = Table::compile(alloc, &alike(alloc)?)?;
+    let start = table.start(W);
+    let first = arm(&table, start, 7)?;
+    let second = arm(&table, start, 8)?;
+    let third = arm(&table, start, 9)?;
+    assert!(rt; first != second, "two spots");
+    assert!(rt; table.is_same(first, second), "of equal places");
+    assert!(rt; !table.is_same(first, third), "another kind");
+    assert!(rt; !table.is_same(first, start), "another item");
+    assert!(rt; !table.is_same(table.done(), first), "nothing ahead");
+    let place = two(alloc, Item::Send(Kind::Int), Item::Recv(Kind::Boolean))?;
+    assert!(rt; table.stands_for(second, &place), "the place of an arm");
+    assert!(rt; !table.stands_for(third, &place), "that of another");
+    let front = one(alloc, Item::Send(Kind::Int))?;
+    assert!(rt; !table.stands_for(second, &front), "its first item alone");
+    let (_, behind) = table.split(first).ok_or("the first arm")?;
+    let (_, follows) = table.split(second).ok_or("the second arm")?;
+    assert_eq!(rt; behind, follows, "both lead to one spot");
+    assert!(rt; table.split(table.done()).is_none(), "nothing ahead");
+    Ok(())
+}
+
 #[test]
 fn a_copy_answers_as_its_table(rt: HostRuntime) -> Result<(), Fail> {
     let alloc = rt.alloc();
