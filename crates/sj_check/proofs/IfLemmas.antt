@@ -1,5 +1,6 @@
 -- The tests of `if`, from those of its parts.
-use Rattle.std.proofs.Common.{List, ◌≡◌, ℕ, ◌++◌, Some, None, cond, ◌∙◌}
+use Rattle.std.proofs.Common.{List, [], ◌∷◌, ◌≡◌, ℕ, ◌++◌, Some, None, cond, sym, ap, subst, ◌∙◌}
+use Rattle.std.specs.Prelude.{Result, Ok, Err}
 use Rattle.sj_lang.specs.Term.{Term}
 use Rattle.sj_lang.specs.Code as code
 use Rattle.sj_lang.specs.Code.{Code, StmtAt}
@@ -7,9 +8,11 @@ use Rattle.sj_acceptance.specs.EnvAt.{EnvAt}
 use Rattle.sj_lang.specs.FileAt.{ProtocolAt}
 use Rattle.sj_acceptance.specs.Faults.{first_fault}
 use Rattle.sj_acceptance.specs.Sameness.{is_same_ends}
-use Rattle.sj_acceptance.specs.Tests.{stmt_tests, code_tests, after_code, condition_tests}
+use Rattle.sj_acceptance.specs.Tests.{stmt_tests, after_stmt, code_tests, after_code, condition_tests}
 use Rattle.sj_check.specs.declared.refusal.CheckRefusal.{CheckRefusal}
-use Rattle.sj_check.specs.Told.{Tells}
+use Rattle.sj_acceptance.specs.Arms.{common}
+use Rattle.sj_acceptance.specs.Rules.{arms_differ}
+use Rattle.sj_check.specs.Told.{Tells, Walks}
 use Rattle.sj_check.proofs.FaultLemmas.{behind, Tells-front, Tells-behind}
 
 module _ (ps : List ProtocolAt) (line : ℕ) (env : EnvAt) (w : StmtAt) (e : Term) (first second : Code) (is : w ≡ code.at line (code.if_else e first second)) where
@@ -32,6 +35,12 @@ module _ (ps : List ProtocolAt) (line : ℕ) (env : EnvAt) (w : StmtAt) (e : Ter
           (Tells-behind (condition_tests line env e ++ code_tests ps env first) (code_tests ps env second) r both t))
 
       module _ (s : first_fault (code_tests ps env second) ≡ None) (a b : EnvAt) (ea : a ≡ after_code ps env first) (eb : b ≡ after_code ps env second) where
-        pub if-ends : first_fault (stmt_tests ps env w) ≡ cond (is_same_ends a.ends b.ends) None (Some (9, line))
+        pub if-ends : first_fault (stmt_tests ps env w) ≡ cond (is_same_ends a.ends b.ends) None (Some (arms_differ, line))
         if-ends = rw (is, ea, eb) (behind (condition_tests line env e ++ code_tests ps env first ++ code_tests ps env second) _
             (behind (condition_tests line env e ++ code_tests ps env first) (code_tests ps env second) both ∙ s))
+
+        -- what stands behind the arms
+        pub if-joined : {X : Type 0} (r : Result X CheckRefusal) (new : EnvAt)
+            → Walks ((arms_differ, line, is_same_ends a.ends b.ends) ∷ []) (record a { variables = common a.variables b.variables }) new r → Walks (stmt_tests ps env w) (after_stmt ps env w) new r
+        if-joined (Ok x) new h = (if-ends ∙ h.0, h.1 ∙ (λ i. record { ends = (ea i).ends; variables = common (ea i).variables (eb i).variables }) ∙ ap (after_stmt ps env) (sym is))
+        if-joined (Err e) new h = subst (λ o. Tells o e) (sym if-ends) h

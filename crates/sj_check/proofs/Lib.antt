@@ -1,6 +1,5 @@
 pub mod ArmLemmas
 pub mod BodyLemmas
-pub mod CopyLemmas
 pub mod FaultLemmas
 pub mod IfLemmas
 pub mod ItemLemmas
@@ -8,6 +7,7 @@ pub mod MapLemmas
 pub mod NamedLemmas
 pub mod OnceLemmas
 pub mod PlaceLemmas
+pub mod SeenLemmas
 pub mod TableLemmas
 pub mod TermLemmas
 pub mod UnnamedLemmas

@@ -38,7 +38,8 @@ insert-remove m k v = same_map nat_cmp_total nat_cmp-IsAntisymmetric _ _ (λ q.
     back q true h = refl
     back q false h = h
 
-differ : {x y : ℕ} (b : Bool) → (b ≡ true → x ≡ y) → x ≢ y → b ≡ false
+-- a test of what isn't so fails
+pub differ : {X : Type 0} (b : Bool) → (b ≡ true → X) → (X → ⊥) → b ≡ false
 differ true f h = absurd (h (f refl))
 differ false f h = refl
 

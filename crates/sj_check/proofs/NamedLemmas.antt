@@ -17,8 +17,7 @@ use Rattle.sj_acceptance.specs.LabelTests.{is_among}
 use Rattle.sj_acceptance.specs.Sameness.{is_same_place, is_same_ends}
 use Rattle.sj_acceptance.specs.Tests.{code_tests, after_code}
 use Rattle.sj_acceptance_laws.proofs.SamenessLemmas.{is_same_place-Decides, is_same_ends-Decides}
-use Rattle.sj_check.specs.Named.{ends_named, SameBeyond}
-use Rattle.sj_check.specs.Within.{is_same_option, is_same_at}
+use Rattle.sj_check.specs.Named.{ends_named, SameBeyond, is_same_option, is_same_at}
 use Rattle.sj_check.proofs.UnnamedLemmas.{apart-append, apart-cons, code-unnamed}
 use Rattle.sj_check.proofs.MapLemmas.{get-insert_other}
 

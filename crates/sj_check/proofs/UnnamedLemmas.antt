@@ -1,8 +1,6 @@
 -- A block leaves what it doesn't name.
 use Rattle.std.proofs.Common.{◌≡◌, ◌≢◌, ℕ, List, [], ◌∷◌, ◌++◌, Option, Some, None, Bool, true, false, ◌==◌, ◌||◌, refl, sym, ◌∙◌}
 use Rattle.std.proofs.lemmas.Bool.Decides.{Decides-eqb}
-use Rattle.std.proofs.lemmas.List.{append_assoc, append-nil}
-use Rattle.std.specs.Option.{option_or}
 use Rattle.std.specs.FinMap.{get}
 use Rattle.sj_lang.specs.Code.{Code, StmtAt, DeedAt, no_stmt, stmt_then, at, send, delegate, take_value, take_end, outbranch, inbranch, outwhile, inwhile, relay, if_else, let_be, close, no_branch, branch}
 use Rattle.sj_lang.specs.FileAt.{ProtocolAt}
@@ -12,8 +10,9 @@ use Rattle.sj_acceptance.specs.Faults.{Test, first_fault}
 use Rattle.sj_acceptance.specs.FirstItem.{is_choice, arm_place}
 use Rattle.sj_acceptance.specs.LabelTests.{is_among}
 use Rattle.sj_acceptance.specs.Tests.{code_tests, after_code, stmt_tests, after_stmt, deed_tests, after_deed, branches_tests, branching_tests, condition_tests}
-use Rattle.sj_check.specs.Named.{ends_named, step_ends, act_ends, branch_ends}
-use Rattle.sj_check.proofs.FaultLemmas.{first_fault-append}
+use Rattle.sj_acceptance.specs.Rules.{not_there, other_action, arms_differ, other_arms}
+use Rattle.sj_check.specs.Named.{ends_named, stmt_ends, deed_ends, branch_ends}
+use Rattle.sj_acceptance_laws.proofs.FaultLemmas.{all_pass}
 use Rattle.sj_check.proofs.MapLemmas.{get-insert_other, get-remove_other}
 
 -- a name that isn't among both is in neither
@@ -32,19 +31,11 @@ apart-cons q x xs h =
       | false ↦ λ t e. ((λ s. absurd (let u : (x == q) ≡ true = (Decides-eqb x q).1 (sym s) in cc)), e)
     ] refl h
 
--- tests that pass together pass each
-pub passes-append : (xs ys : List Test) → first_fault (xs ++ ys) ≡ None → (first_fault xs ≡ None) × (first_fault ys ≡ None)
-passes-append xs ys h = parts (first_fault xs) (first_fault ys) (sym (first_fault-append xs ys) ∙ h)
-  where
-    parts : (o p : Option (ℕ × ℕ)) → option_or o p ≡ None → (o ≡ None) × (p ≡ None)
-    parts None p h = (refl, h)
-    parts (Some x) p h = absurd (cc)
-
 -- an `inbranch` without arms doesn't pass
 no_arms : (line : ℕ) (env : EnvAt) (x : ℕ) → first_fault (branching_tests line env x no_branch) ≡ None → ⊥
 no_arms line env x h = third (is_live env x) (is_choice Into (place_at env x)) h
   where
-    third : (a b : Bool) → first_fault ((5, line, a) ∷ (6, line, b) ∷ (14, line, false) ∷ []) ≡ None → ⊥
+    third : (a b : Bool) → first_fault ((not_there, line, a) ∷ (other_action, line, b) ∷ (other_arms, line, false) ∷ []) ≡ None → ⊥
     third true true h = absurd (cc)
     third true false h = absurd (cc)
     third false b h = absurd (cc)
@@ -54,43 +45,41 @@ mutual
       → get (after_code ps env c).ends q ≡ get env.ends q
   code-unnamed ps env no_stmt q h p = refl
   code-unnamed ps env (stmt_then s c) q h p =
-      let n = apart-append q (step_ends s) (ends_named c) h in
-      let t = passes-append (stmt_tests ps env s) (code_tests ps (after_stmt ps env s) c) p in
-      code-unnamed ps (after_stmt ps env s) c q n.1 t.1 ∙ step-unnamed ps env s q n.0 t.0
+      let n = apart-append q (stmt_ends s) (ends_named c) h in
+      let t = all_pass (stmt_tests ps env s) (code_tests ps (after_stmt ps env s) c) p in
+      code-unnamed ps (after_stmt ps env s) c q n.1 t.1 ∙ stmt-unnamed ps env s q n.0 t.0
 
-  step-unnamed : (ps : List ProtocolAt) (env : EnvAt) (s : StmtAt) (q : ℕ) → is_among q (step_ends s) ≡ false → first_fault (stmt_tests ps env s) ≡ None
+  stmt-unnamed : (ps : List ProtocolAt) (env : EnvAt) (s : StmtAt) (q : ℕ) → is_among q (stmt_ends s) ≡ false → first_fault (stmt_tests ps env s) ≡ None
       → get (after_stmt ps env s).ends q ≡ get env.ends q
-  step-unnamed ps env (at line act) q h p = act-unnamed ps line env act q h p
+  stmt-unnamed ps env (at line deed) q h p = deed-unnamed ps line env deed q h p
 
-  act-unnamed : (ps : List ProtocolAt) (line : ℕ) (env : EnvAt) (a : DeedAt) (q : ℕ) → is_among q (act_ends a) ≡ false → first_fault (deed_tests ps line env a) ≡ None
+  deed-unnamed : (ps : List ProtocolAt) (line : ℕ) (env : EnvAt) (a : DeedAt) (q : ℕ) → is_among q (deed_ends a) ≡ false → first_fault (deed_tests ps line env a) ≡ None
       → get (after_deed ps env a).ends q ≡ get env.ends q
-  act-unnamed ps line env (send x e) q h p = get-insert_other env.ends x q _ (apart-cons q x [] h).0
-  act-unnamed ps line env (delegate x y) q h p =
+  deed-unnamed ps line env (send x e) q h p = get-insert_other env.ends x q _ (apart-cons q x [] h).0
+  deed-unnamed ps line env (delegate x y) q h p =
       let n = apart-cons q x (y ∷ []) h in
       get-insert_other (without_live env y).ends x q _ n.0 ∙ get-remove_other env.ends y q (apart-cons q y [] n.1).0
-  act-unnamed ps line env (take_value x n k) q h p = get-insert_other env.ends x q _ (apart-cons q x [] h).0
-  act-unnamed ps line env (take_end x y r) q h p =
+  deed-unnamed ps line env (take_value x n k) q h p = get-insert_other env.ends x q _ (apart-cons q x [] h).0
+  deed-unnamed ps line env (take_end x y r) q h p =
       let n = apart-cons q x (y ∷ []) h in
       get-insert_other (with_live env x _).ends y q _ (apart-cons q y [] n.1).0 ∙ get-insert_other env.ends x q _ n.0
-  act-unnamed ps line env (outbranch x l) q h p = get-insert_other env.ends x q _ (apart-cons q x [] h).0
-  act-unnamed ps line env (inbranch x no_branch) q h p =
-      absurd (no_arms line env x (passes-append (branching_tests line env x no_branch) [] (passes-append (branching_tests line env x no_branch ++ []) ((9, line, true) ∷ []) p).0).0)
-  act-unnamed ps line env (inbranch x (branch l c bs)) q h p =
+  deed-unnamed ps line env (outbranch x l) q h p = get-insert_other env.ends x q _ (apart-cons q x [] h).0
+  deed-unnamed ps line env (inbranch x no_branch) q h p =
+      absurd (no_arms line env x (all_pass (branching_tests line env x no_branch) [] (all_pass (branching_tests line env x no_branch ++ []) ((arms_differ, line, true) ∷ []) p).0).0)
+  deed-unnamed ps line env (inbranch x (branch l c bs)) q h p =
       let n = apart-cons q x (ends_named c ++ branch_ends bs) h in
       let inner = with_live env x (arm_place l (place_at env x)) in
-      let t = passes-append (branching_tests line env x (branch l c bs)) (branches_tests ps env x (branch l c bs)) (passes-append (branching_tests line env x (branch l c bs) ++ branches_tests ps env x (branch l c bs)) _ p).0 in
-      code-unnamed ps inner c q (apart-append q (ends_named c) (branch_ends bs) n.1).0 (passes-append (code_tests ps inner c) (branches_tests ps env x bs) t.1).0
+      let t = all_pass (branching_tests line env x (branch l c bs)) (branches_tests ps env x (branch l c bs)) (all_pass (branching_tests line env x (branch l c bs) ++ branches_tests ps env x (branch l c bs)) _ p).0 in
+      code-unnamed ps inner c q (apart-append q (ends_named c) (branch_ends bs) n.1).0 (all_pass (code_tests ps inner c) (branches_tests ps env x bs) t.1).0
       ∙ get-insert_other env.ends x q _ n.0
-  act-unnamed ps line env (outwhile x e body) q h p = get-insert_other env.ends x q _ (apart-cons q x (ends_named body) h).0
-  act-unnamed ps line env (inwhile x body) q h p = get-insert_other env.ends x q _ (apart-cons q x (ends_named body) h).0
-  act-unnamed ps line env (relay x y body) q h p =
+  deed-unnamed ps line env (outwhile x e body) q h p = get-insert_other env.ends x q _ (apart-cons q x (ends_named body) h).0
+  deed-unnamed ps line env (inwhile x body) q h p = get-insert_other env.ends x q _ (apart-cons q x (ends_named body) h).0
+  deed-unnamed ps line env (relay x y body) q h p =
       let n = apart-cons q x (y ∷ ends_named body) h in
       get-insert_other (with_live env x _).ends y q _ (apart-cons q y (ends_named body) n.1).0 ∙ get-insert_other env.ends x q _ n.0
-  act-unnamed ps line env (if_else e a b) q h p =
-      let t = passes-append (condition_tests line env e ++ code_tests ps env a ++ code_tests ps env b) _ p in
-      let u = passes-append (condition_tests line env e ++ code_tests ps env a) (code_tests ps env b) t.0 in
-      code-unnamed ps env a q (apart-append q (ends_named a) (ends_named b) h).0 (passes-append (condition_tests line env e) (code_tests ps env a) u.0).1
-  act-unnamed ps line env (let_be n e) q h p = refl
-  act-unnamed ps line env (close x) q h p = get-remove_other env.ends x q (apart-cons q x [] h).0
-
-pub ruleset named = (append_assoc, append-nil)
+  deed-unnamed ps line env (if_else e a b) q h p =
+      let t = all_pass (condition_tests line env e ++ code_tests ps env a ++ code_tests ps env b) _ p in
+      let u = all_pass (condition_tests line env e ++ code_tests ps env a) (code_tests ps env b) t.0 in
+      code-unnamed ps env a q (apart-append q (ends_named a) (ends_named b) h).0 (all_pass (condition_tests line env e) (code_tests ps env a) u.0).1
+  deed-unnamed ps line env (let_be n e) q h p = refl
+  deed-unnamed ps line env (close x) q h p = get-remove_other env.ends x q (apart-cons q x [] h).0

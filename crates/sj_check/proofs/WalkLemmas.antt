@@ -40,19 +40,3 @@ module _ (ps : List ProtocolAt) (stmts : List Stmt) (i : ℕ) (s : Stmt) (h : i 
   step-after new n =
       let left = code_of (drop (i + 1) stmts) in
       ap (λ v. after_code ps v left) n ∙ ap (λ c. after_code ps env c) (sym (code_of-drop stmts i s h e))
-
--- no place begins with loops of both ways
-one_way : (p : Place) → is_loop Into p ≡ true → is_loop Out p ≡ true → ⊥
-one_way done h k = absurd (cc)
-one_way (message w c r) h k = absurd (cc)
-one_way (choice w c r) h k = absurd (cc)
-one_way (repeat Out b r) h k = absurd (cc)
-one_way (repeat Into b r) h k = absurd (cc)
-
--- the two ends of a relay are two
-pub relay-after : (env : EnvAt) (x y : ℕ) (p : Place) → is_loop Into (place_at env x) ≡ true → is_loop Out (place_at env y) ≡ true
-    → with_live (with_live env x p) y (rest_of (place_at (with_live env x p) y)) ≡ with_live (with_live env x p) y (rest_of (place_at env y))
-relay-after env x y p h k = ap (λ o. with_live (with_live env x p) y (rest_of (unwrap_or o done))) (get-insert_other env.ends x y p apart)
-  where
-    apart : y ≢ x
-    apart e = one_way (place_at env x) h (subst (λ z. is_loop Out (place_at env z) ≡ true) e k)

@@ -1,7 +1,8 @@
 pub mod Held
+pub mod Known
 pub mod Maps
 pub mod Named
+pub mod Seen
 pub mod Table
 pub mod Told
 pub mod Views
-pub mod Within

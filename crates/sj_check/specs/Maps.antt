@@ -6,9 +6,9 @@ use Rattle.std.specs.FinMap as map
 use Rattle.std.specs.FinMap.{FinMap}
 use Rattle.sj_lang.specs.declared.party.Scalar.{Scalar}
 use Rattle.sj_lang.specs.declared.party.Scalar.TheVariants.{Int, Boolean, Text}
-use Rattle.sj_lang.specs.Place.{Place}
-use Rattle.sj_lang.specs.PlaceCode.{coded_place}
-use Rattle.sj_acceptance.specs.EnvAt.{EnvAt}
+use Rattle.sj_table.specs.declared.table.Spot.{Spot}
+use Rattle.sj_table.specs.contracts.table.Spot as spot
+use Rattle.sj_check.specs.Known.{SpotEnv}
 
 -- the finite map of some entries
 abbrev pub map_at : {X : Type 0} → List (ℕ × X) → FinMap nat_cmp X
@@ -31,7 +31,7 @@ scalar_again Text = refl
 abbrev pub coded_kinds : Coded (FinMap nat_cmp Scalar)
 coded_kinds = map.code coded_ℕ (code_by ℕ coded_ℕ scalar_number scalar_at scalar_again)
 
-abbrev pub coded_known : Coded EnvAt
-coded_known =
-    code_by (FinMap nat_cmp Place × FinMap nat_cmp Scalar) (coded× (map.code coded_ℕ coded_place) coded_kinds)
-    (λ e. (e.ends, e.variables)) (λ p. record { ends = p.0; variables = p.1 }) (λ _. refl)
+abbrev pub coded_env : Coded SpotEnv
+coded_env =
+    code_by (FinMap nat_cmp Spot × FinMap nat_cmp Scalar) (coded× (map.code coded_ℕ spot.the_row.coded) coded_kinds)
+    (λ e. (e.spots, e.variables)) (λ p. record { spots = p.0; variables = p.1 }) (λ _. refl)

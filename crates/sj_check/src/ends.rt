@@ -1,23 +1,25 @@
 //! Connections, and the ends that they give a party.
-#![tactic(auto, using(crate::proofs::FaultLemmas::faults))]
+#![tactic(auto, using(crate::proofs::SeenLemmas::steps))]
 
-ghost use Rattle.std.specs.Prelude.{◌≡◌, [], None, unwrap_or};
+ghost use Rattle.std.specs.Prelude.{◌≡◌, [], unwrap_or};
 ghost use Rattle.std.specs.Prelude.{IfOk, OnOk, IfErr};
 ghost use Rattle.sj_lang.specs.Place.{done};
 ghost use Rattle.sj_lang.specs.FileAt.{protocol_named};
 ghost use Rattle.sj_lang.specs.FileView.{connect_of, decl_of};
-ghost use Rattle.sj_acceptance.specs.Faults.{first_fault};
 ghost use Rattle.sj_acceptance.specs.FileTests as tests;
 ghost use Rattle.sj_acceptance.specs.FileTests.{party_names};
 ghost use Rattle.sj_check.specs.Views.{protocols_of, parties_of, connects_of};
-ghost use Rattle.sj_check.specs.Told.{Tells, IsFault};
+ghost use Rattle.sj_check.specs.Seen.{defs_in, env_in};
+ghost use Rattle.sj_check.specs.Told.{Judges, IsFault};
 
 use crate::CheckRefusal;
+use crate::compiled::Protocols;
 use crate::env::Env;
 use crate::files::is_party;
 use crate::places::{body_named, is_same};
+use crate::rules::{NAME_IN_USE, NO_PARTY, NO_PROTOCOL, NOT_DUAL};
 use sj_base::NoMemory;
-use sj_lang::{Connect, EndDecl, Party, Proto, ProtocolDef, copied, dual};
+use sj_lang::{Connect, EndDecl, Party, Proto, ProtocolDef, dual};
 use std::alloc::Global;
 
 /// The connections, in order.
@@ -27,16 +29,8 @@ pub fn connections(
     protocols: &[ProtocolDef],
     connects: &[Connect],
 ) -> Result<(), CheckRefusal>
-    ensures passes { let ps = protocols_of protocols.now in
-        let names = party_names (parties_of parties.now) in
-        let cs = connects_of connects.now in
-        let tests = tests.connect_tests names ps [] cs in
-        OnOk result (first_fault tests ≡ None) }
-    ensures fault { let ps = protocols_of protocols.now in
-        let names = party_names (parties_of parties.now) in
-        let cs = connects_of connects.now in
-        let tests = tests.connect_tests names ps [] cs in
-        IfErr result (Tells (first_fault tests)) }
+    ensures { let names = party_names (parties_of parties.now) in
+        Judges (tests.connect_tests names (protocols_of protocols.now) [] (connects_of connects.now)) result }
 {
     for i in 0..connects.len() {
         connection(alloc, parties, protocols, &connects[..i], &connects[i])?;
@@ -51,16 +45,9 @@ fn connection(
     earlier: &[Connect],
     connect: &Connect,
 ) -> Result<(), CheckRefusal>
-    ensures passes { let ps = protocols_of protocols.now in
-        let names = party_names (parties_of parties.now) in
+    ensures { let names = party_names (parties_of parties.now) in
         let former = connects_of earlier.now in
-        let tests = tests.connection_tests names ps former (connect_of connect.now) in
-        OnOk result (first_fault tests ≡ None) }
-    ensures fault { let ps = protocols_of protocols.now in
-        let names = party_names (parties_of parties.now) in
-        let former = connects_of earlier.now in
-        let tests = tests.connection_tests names ps former (connect_of connect.now) in
-        IfErr result (Tells (first_fault tests)) }
+        Judges (tests.connection_tests names (protocols_of protocols.now) former (connect_of connect.now)) result }
 {
     let line = connect.line;
     let first = connected(
@@ -73,7 +60,10 @@ fn connection(
     let taken = is_taken(earlier, &connect.second) || is_same_end(&connect.first, &connect.second);
     let second = connected(parties, protocols, line, taken, &connect.second)?;
     if !is_same(first, &dual(alloc, second)?) {
-        return Err(CheckRefusal::At { rule: 4, line });
+        return Err(CheckRefusal::At {
+            rule: NOT_DUAL,
+            line,
+        });
     }
     Ok(())
 }
@@ -88,24 +78,27 @@ fn connected<'a>(
 ) -> Result<&'a Proto, CheckRefusal>
     ensures body { let ps = protocols_of protocols.now in
         IfOk result (λ p. p.now ≡ unwrap_or (protocol_named ps end.now.protocol) done) }
-    ensures passes { let ps = protocols_of protocols.now in
-        let names = party_names (parties_of parties.now) in
-        let tests = tests.end_tests names ps line taken (decl_of end.now) in
-        OnOk result (first_fault tests ≡ None) }
-    ensures fault { let ps = protocols_of protocols.now in
-        let names = party_names (parties_of parties.now) in
-        let tests = tests.end_tests names ps line taken (decl_of end.now) in
-        IfErr result (Tells (first_fault tests)) }
+    ensures tests { let names = party_names (parties_of parties.now) in
+        Judges (tests.end_tests names (protocols_of protocols.now) line taken (decl_of end.now)) result }
     ensures cause { IfErr result IsFault }
 {
     if !is_party(parties, end.party) {
-        return Err(CheckRefusal::At { rule: 2, line });
+        return Err(CheckRefusal::At {
+            rule: NO_PARTY,
+            line,
+        });
     }
     let Some(body) = body_named(protocols, end.protocol) else {
-        return Err(CheckRefusal::At { rule: 1, line });
+        return Err(CheckRefusal::At {
+            rule: NO_PROTOCOL,
+            line,
+        });
     };
     if taken {
-        return Err(CheckRefusal::At { rule: 3, line });
+        return Err(CheckRefusal::At {
+            rule: NAME_IN_USE,
+            line,
+        });
     }
     Ok(body)
 }
@@ -131,42 +124,29 @@ fn is_taken(earlier: &[Connect], end: &EndDecl) -> bool
 /// with one name the former stays.
 pub fn at_start(
     alloc: Global,
-    protocols: &[ProtocolDef],
+    protocols: &Protocols,
     connects: &[Connect],
     party: u16,
 ) -> Result<Env, NoMemory>
-    ensures { let ps = protocols_of protocols.now in
-        let cs = connects_of connects.now in
-        IfOk result (λ e. e ≡ tests.at_start ps cs party) }
+    ensures { let start = tests.at_start (defs_in protocols.now) (connects_of connects.now) party in
+        IfOk result (λ e. env_in protocols.now e ≡ start) }
 {
     let mut env = Env::new(alloc);
     for i in (0..connects.len()).rev() {
         let connect = &connects[i];
-        bind(alloc, protocols, &mut env, party, &connect.second)?;
-        bind(alloc, protocols, &mut env, party, &connect.first)?;
+        bind(protocols, &mut env, party, &connect.second)?;
+        bind(protocols, &mut env, party, &connect.first)?;
     }
     Ok(env)
 }
 
-fn bind(
-    alloc: Global,
-    protocols: &[ProtocolDef],
-    env: &mut Env,
-    party: u16,
-    end: &EndDecl,
-) -> Result<(), NoMemory>
-    ensures { let ps = protocols_of protocols.now in
-        let ends = tests.with_end_of ps party (decl_of end.now) env.old.ends in
-        OnOk result (env.new ≡ record env.old { ends = ends }) }
+fn bind(protocols: &Protocols, env: &mut Env, party: u16, end: &EndDecl) -> Result<(), NoMemory>
+    ensures { let old = env_in protocols.now env.old in
+        let ends = tests.with_end_of (defs_in protocols.now) party (decl_of end.now) old.ends in
+        OnOk result (env_in protocols.now env.new ≡ record old { ends = ends }) }
 {
     if end.party != party {
         return Ok(());
     }
-    let place = match body_named(protocols, end.protocol) {
-        Some(body) => copied(alloc, body)?,
-        None => Proto {
-            items: Vec::new(alloc),
-        },
-    };
-    env.put_place(end.name, place)
+    env.put_spot(end.name, protocols.table.start(end.protocol))
 }

@@ -1,41 +1,56 @@
 //! What stands before and behind the arms of `inbranch` and `if`.
-#![tactic(auto, using(crate::proofs::FaultLemmas::faults))]
+#![tactic(auto, using(crate::proofs::SeenLemmas::steps))]
 
-ghost use Rattle.std.specs.Prelude.{◌≡◌, ◌&&◌, map, Some, None, true, if◌then◌else◌};
-ghost use Rattle.std.specs.Prelude.{IfOk, OnOk, IfErr};
+ghost use Rattle.std.specs.Prelude.{◌≡◌, ◌&&◌, ◌∷◌, [], map, IfOk, IfErr};
 ghost use Rattle.sj_lang.specs.CodeView.{term_of, arm_of, branches_of};
 ghost use Rattle.sj_acceptance.specs.Arms.{common};
-ghost use Rattle.sj_acceptance.specs.Faults.{first_fault};
+ghost use Rattle.sj_acceptance.specs.Rules.{arms_differ};
 ghost use Rattle.sj_acceptance.specs.Sameness.{is_same_ends};
 ghost use Rattle.sj_acceptance.specs.Tests.{condition_tests, branching_tests};
 ghost use Rattle.std.specs.Ordering.{nat_cmp};
 ghost use Rattle.std.specs.BTreeSet.{contains};
 ghost use Rattle.sj_check.specs.Named.{SameBeyond};
-ghost use Rattle.sj_check.specs.Told.{Tells, IsFault};
+ghost use Rattle.sj_check.specs.Seen.{env_in};
+ghost use Rattle.sj_check.specs.Told.{Judges, Walks, IsFault};
 
 use crate::CheckRefusal;
+use crate::compiled::Protocols;
 use crate::env::Env;
 use crate::kinds::{expr_kind, same_kind};
 use crate::named::has_same_ends_at;
-use crate::places::is_branching;
-use sj_lang::{Expr, Scalar, StmtArm};
+use crate::places::is_choice;
+use crate::rules::{ARMS_DIFFER, NOT_THERE, OTHER_ACTION, OTHER_ARMS, OTHER_KIND};
+use sj_lang::{Expr, Scalar, StmtArm, Way};
 use std::collections::BTreeSet;
 
 /// What `inbranch` asks before its arms.
-pub fn branching(env: &Env, line: u32, end: u16, arms: &[StmtArm]) -> Result<(), CheckRefusal>
-    ensures passes { let tests = branching_tests line env.now end (branches_of (map arm_of arms.now)) in
-        OnOk result (first_fault tests ≡ None) }
-    ensures fault { let tests = branching_tests line env.now end (branches_of (map arm_of arms.now)) in
-        IfErr result (Tells (first_fault tests)) }
+pub fn branching(
+    protocols: &Protocols,
+    env: &Env,
+    line: u32,
+    end: u16,
+    arms: &[StmtArm],
+) -> Result<(), CheckRefusal>
+    ensures { let bs = branches_of (map arm_of arms.now) in
+        Judges (branching_tests line (env_in protocols.now env.now) end bs) result }
 {
-    let Some(place) = env.place(end) else {
-        return Err(CheckRefusal::At { rule: 5, line });
+    let Some(spot) = env.spot(end) else {
+        return Err(CheckRefusal::At {
+            rule: NOT_THERE,
+            line,
+        });
     };
-    if !is_branching(place) {
-        return Err(CheckRefusal::At { rule: 6, line });
+    if !is_choice(Way::Into, &protocols.table, spot) {
+        return Err(CheckRefusal::At {
+            rule: OTHER_ACTION,
+            line,
+        });
     }
-    if !env.has_arms(place, arms)? {
-        return Err(CheckRefusal::At { rule: 14, line });
+    if !env.has_arms(&protocols.table, spot, arms)? {
+        return Err(CheckRefusal::At {
+            rule: OTHER_ARMS,
+            line,
+        });
     }
     Ok(())
 }
@@ -50,35 +65,40 @@ pub fn both(first: bool, second: bool) -> bool
 /// Tests the condition, and answers the environment for the second arm.
 pub fn tested(env: &Env, line: u32, test: &Expr) -> Result<Env, CheckRefusal>
     ensures ok { IfOk result (λ e. e ≡ env.now) }
-    ensures passes { let tests = condition_tests line env.now (term_of test.now) in
-        OnOk result (first_fault tests ≡ None) }
-    ensures fault { let tests = condition_tests line env.now (term_of test.now) in
-        IfErr result (Tells (first_fault tests)) }
+    ensures tests { (p : Protocols) → Judges (condition_tests line (env_in p env.now) (term_of test.now)) result }
 {
-    let kind = expr_kind(env, line, test)?;
+    let kind = expr_kind(env.variables(), line, test)?;
     if !same_kind(kind, Scalar::Boolean) {
-        return Err(CheckRefusal::At { rule: 7, line });
+        return Err(CheckRefusal::At {
+            rule: OTHER_KIND,
+            line,
+        });
     }
     Ok(env.copied()?)
 }
 
 /// What two arms leave together, which may differ at these ends alone.
 pub fn join(
+    protocols: &Protocols,
     env: &mut Env,
     line: u32,
     other: &Env,
     named: &BTreeSet<u16>,
 ) -> Result<(), CheckRefusal>
-    requires { SameBeyond (contains nat_cmp named.now) env.old.ends other.now.ends }
-    ensures passes { OnOk result (is_same_ends env.old.ends other.now.ends ≡ true) }
-    ensures after { let known = common env.old.variables other.now.variables in
-        OnOk result (env.new ≡ record env.old { variables = known }) }
-    ensures fault { let same = is_same_ends env.old.ends other.now.ends in
-        IfErr result (Tells (if same then None else Some (9, line))) }
+    requires { let first = (env_in protocols.now env.old).ends in
+        SameBeyond (contains nat_cmp named.now) first (env_in protocols.now other.now).ends }
+    ensures join { let first = env_in protocols.now env.old in
+        let second = env_in protocols.now other.now in
+        let tests = (arms_differ, line, is_same_ends first.ends second.ends) ∷ [] in
+        let after = record first { variables = common first.variables second.variables } in
+        Walks tests after (env_in protocols.now env.new) result }
     ensures cause { IfErr result IsFault }
 {
-    if !has_same_ends_at(env, other, named) {
-        return Err(CheckRefusal::At { rule: 9, line });
+    if !has_same_ends_at(protocols, env, other, named) {
+        return Err(CheckRefusal::At {
+            rule: ARMS_DIFFER,
+            line,
+        });
     }
     env.keep_common(other);
     Ok(())

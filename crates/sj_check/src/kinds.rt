@@ -1,49 +1,55 @@
 //! The kinds of expressions.
 #![tactic(auto, using(crate::proofs::FaultLemmas::faults))]
 
-ghost use Rattle.std.specs.Prelude.{◌≡◌, None, IfOk, OnOk, IfErr};
+ghost use Rattle.std.specs.Prelude.{◌≡◌, IfOk, IfErr};
 ghost use Rattle.sj_lang.specs.CodeView.{term_of};
 ghost use Rattle.sj_lang.specs.View.{carried_of};
-ghost use Rattle.sj_acceptance.specs.Faults.{first_fault};
 ghost use Rattle.sj_acceptance.specs.KindTests as kinds;
 ghost use Rattle.sj_acceptance.specs.Kinds.{given_by};
 ghost use Rattle.sj_acceptance.specs.Sameness.{is_same_kind};
 ghost use Rattle.sj_acceptance.specs.FirstItem as places;
-ghost use Rattle.sj_check.specs.Told.{Tells, IsFault};
+ghost use Rattle.sj_check.specs.Told.{Judges, IsFault};
 
 use crate::CheckRefusal;
-use crate::env::Env;
+use crate::rules::{NOT_THERE, OTHER_KIND};
+use crate::variables::Variables;
 use sj_lang::{Expr, Kind, Op, Scalar};
 
 /// The kind of an expression. Operands come before their operator.
-pub fn expr_kind(env: &Env, line: u32, value: &Expr) -> Result<Scalar, CheckRefusal>
-    ensures ok { IfOk result (λ k. k ≡ kinds.kind_of env.now.variables (term_of value.now)) }
-    ensures passes { let tests = kinds.term_tests line env.now.variables (term_of value.now) in
-        OnOk result (first_fault tests ≡ None) }
-    ensures fault { let tests = kinds.term_tests line env.now.variables (term_of value.now) in
-        IfErr result (Tells (first_fault tests)) }
+pub fn expr_kind(known: &Variables, line: u32, value: &Expr) -> Result<Scalar, CheckRefusal>
+    ensures ok { IfOk result (λ k. k ≡ kinds.kind_of known.now (term_of value.now)) }
+    ensures tests { Judges (kinds.term_tests line known.now (term_of value.now)) result }
     ensures cause { IfErr result IsFault }
 {
     match value {
         Expr::Int(_) => Ok(Scalar::Int),
         Expr::Bool(_) => Ok(Scalar::Boolean),
         Expr::Text(_) => Ok(Scalar::Text),
-        Expr::Var(name) => match env.kind(*name) {
+        Expr::Var(name) => match known.kind(*name) {
             Some(kind) => Ok(kind),
-            None => Err(CheckRefusal::At { rule: 5, line }),
+            None => Err(CheckRefusal::At {
+                rule: NOT_THERE,
+                line,
+            }),
         },
         Expr::Not(inner) => {
-            let kind = expr_kind(env, line, inner)?;
+            let kind = expr_kind(known, line, inner)?;
             if !same_kind(kind, Scalar::Boolean) {
-                return Err(CheckRefusal::At { rule: 7, line });
+                return Err(CheckRefusal::At {
+                    rule: OTHER_KIND,
+                    line,
+                });
             }
             Ok(Scalar::Boolean)
         }
         Expr::Two(op, left, right) => {
-            let first = expr_kind(env, line, left)?;
-            let second = expr_kind(env, line, right)?;
+            let first = expr_kind(known, line, left)?;
+            let second = expr_kind(known, line, right)?;
             if !takes(*op, first, second) {
-                return Err(CheckRefusal::At { rule: 7, line });
+                return Err(CheckRefusal::At {
+                    rule: OTHER_KIND,
+                    line,
+                });
             }
             Ok(gives(*op))
         }

@@ -4,20 +4,27 @@ ghost use Rattle.sj_lang.specs.CodeView.{arm_of, branches_of};
 ghost use Rattle.sj_acceptance.specs.LabelTests as labels;
 ghost use Rattle.sj_acceptance.specs.Labels.{labels_of, branch_labels};
 ghost use Rattle.sj_acceptance.specs.FirstItem.{choices};
+ghost use Rattle.sj_table.specs.Spots.{place_in};
 
 use sj_base::NoMemory;
-use sj_lang::{Arms, Item, Proto, StmtArm};
+use sj_lang::{Arms, Item, StmtArm};
+use sj_table::{Spot, Table};
 use std::alloc::Global;
 
 /// Whether the arms are those of the choice that stands first, each once, and at least one.
-pub fn are_arms_of(alloc: Global, place: &Proto, arms: &[StmtArm]) -> Result<bool, NoMemory>
+pub fn are_arms_of(
+    alloc: Global,
+    table: &Table,
+    spot: Spot,
+    arms: &[StmtArm],
+) -> Result<bool, NoMemory>
     ensures { let bs = branches_of (map arm_of arms.now) in
-        IfOk result (λ r. r ≡ labels.are_labels_of (choices place.now) (branch_labels bs)) }
+        IfOk result (λ r. r ≡ labels.are_labels_of (choices (place_in table.now spot)) (branch_labels bs)) }
 {
     let named = arm_labels(alloc, arms)?;
-    let wanted = match place.items.first() {
-        Some(Item::Select(choice)) => choice_labels(alloc, choice)?,
-        Some(Item::Branch(choice)) => choice_labels(alloc, choice)?,
+    let wanted = match table.split(spot) {
+        Some((Item::Select(choice), _)) => choice_labels(alloc, choice)?,
+        Some((Item::Branch(choice), _)) => choice_labels(alloc, choice)?,
         _ => Vec::new(alloc),
     };
     Ok(

@@ -3,6 +3,7 @@
 
 mod accepted;
 mod checking;
+mod compiled;
 mod ends;
 mod env;
 mod files;
@@ -10,11 +11,12 @@ mod joins;
 mod kinds;
 mod labels;
 mod limits;
+mod moves;
 mod named;
 mod once;
 mod places;
 mod refusal;
-mod shared;
+mod rules;
 mod statements;
 mod variables;
 mod walk;

@@ -1,20 +1,22 @@
 //! The ends that blocks name, and sameness at these.
-#![tactic(auto, using(crate::proofs::UnnamedLemmas::named))]
+#![tactic(auto, using(crate::proofs::SeenLemmas::named))]
 
-ghost use Rattle.std.specs.Prelude.{◌≡◌, ◌++◌, ◌∷◌, [], ℕ, IfOk, OnOk, map};
-ghost use Rattle.std.specs.Option.{option_copied};
+ghost use Rattle.std.specs.Prelude.{◌≡◌, ◌++◌, ◌∷◌, [], ℕ, IfOk, OnOk, map, option_map};
 ghost use Rattle.std.specs.Ordering.{nat_cmp};
 ghost use Rattle.std.specs.BTreeSet.{contains};
 ghost use Rattle.sj_lang.specs.CodeView.{code_of, deed_of, arm_of, branches_of};
 ghost use Rattle.sj_acceptance.specs.LabelTests.{is_among};
 ghost use Rattle.sj_acceptance.specs.Sameness.{is_same_ends};
-ghost use Rattle.sj_check.specs.Named.{ends_named, act_ends, branch_ends, SameBeyond};
-ghost use Rattle.sj_check.specs.Within.{is_same_at, is_same_option};
+ghost use Rattle.sj_table.specs.Spots.{place_in};
+ghost use Rattle.sj_check.specs.Named.{ends_named, deed_ends, branch_ends, SameBeyond, is_same_at, is_same_option};
+ghost use Rattle.sj_check.specs.Seen.{env_in};
 
+use crate::compiled::Protocols;
 use crate::env::Env;
-use crate::places::is_same;
+use crate::places::is_same_spot;
 use sj_base::NoMemory;
-use sj_lang::{Deed, Proto, Stmt, StmtArm};
+use sj_lang::{Deed, Stmt, StmtArm};
+use sj_table::{Spot, Table};
 use std::alloc::Global;
 use std::collections::BTreeSet;
 
@@ -45,30 +47,33 @@ fn distinct(alloc: Global, all: &[u16]) -> Result<BTreeSet<u16>, NoMemory>
 }
 
 /// Whether both have the same live ends at the same places, where they may differ at these alone.
-pub fn has_same_ends_at(a: &Env, b: &Env, named: &BTreeSet<u16>) -> bool
-    requires { SameBeyond (contains nat_cmp named.now) a.now.ends b.now.ends }
-    ensures { result ≡ is_same_ends a.now.ends b.now.ends }
+pub fn has_same_ends_at(protocols: &Protocols, a: &Env, b: &Env, named: &BTreeSet<u16>) -> bool
+    requires { let first = (env_in protocols.now a.now).ends in
+        SameBeyond (contains nat_cmp named.now) first (env_in protocols.now b.now).ends }
+    ensures { result ≡ is_same_ends (env_in protocols.now a.now).ends (env_in protocols.now b.now).ends }
 {
-    is_same_at(a, b, named)
+    is_same_at(protocols, a, b, named)
 }
 
 // Whether both have the same at these names.
-fn is_same_at(a: &Env, b: &Env, named: &BTreeSet<u16>) -> bool
-    ensures { result ≡ is_same_at named.now.keys a.now.ends b.now.ends }
+fn is_same_at(protocols: &Protocols, a: &Env, b: &Env, named: &BTreeSet<u16>) -> bool
+    ensures { let first = (env_in protocols.now a.now).ends in
+        result ≡ is_same_at named.now.keys first (env_in protocols.now b.now).ends }
 {
     for name in named {
-        if !is_same_place(a.place(*name), b.place(*name)) {
+        if !is_same_option(&protocols.table, a.spot(*name), b.spot(*name)) {
             return false;
         }
     }
     true
 }
 
-fn is_same_place(one: Option<&Proto>, other: Option<&Proto>) -> bool
-    ensures { result ≡ is_same_option (option_copied one.entry) (option_copied other.entry) }
+fn is_same_option(table: &Table, one: Option<Spot>, other: Option<Spot>) -> bool
+    ensures { let first = option_map (place_in table.now) one in
+        result ≡ is_same_option first (option_map (place_in table.now) other) }
 {
     match (one, other) {
-        (Some(place), Some(same)) => is_same(place, same),
+        (Some(spot), Some(same)) => is_same_spot(table, spot, same),
         (None, None) => true,
         _ => false,
     }
@@ -86,7 +91,7 @@ fn add_block(all: &mut Vec<u16>, stmts: &[Stmt]) -> Result<(), NoMemory>
 
 #[cycle(named)]
 fn add_deed(all: &mut Vec<u16>, deed: &Deed) -> Result<(), NoMemory>
-    ensures { OnOk result (all.new.items ≡ all.old.items ++ act_ends (deed_of deed.now)) }
+    ensures { OnOk result (all.new.items ≡ all.old.items ++ deed_ends (deed_of deed.now)) }
 {
     match deed {
         Deed::Send { end, value: _ } => add(all, *end),

@@ -99,7 +99,7 @@ fn keep(table: &mut Vec<Option<Scalar>>, other: &[Option<Scalar>])
         ≡ (if agree old (slice_index_or other.now q None) then old else None) }
 {
     for n in 0..table.len() {
-        if !agrees(table[n], kind_at(other, n)) {
+        if table[n].is_some() && !agrees(table[n], kind_at(other, n)) {
             table[n] = None;
         }
     }

@@ -1,65 +1,67 @@
 //! The walk through a body, statement by statement.
-#![tactic(auto, using(crate::proofs::FaultLemmas::faults))]
+#![tactic(auto, using(crate::proofs::SeenLemmas::steps))]
 
-ghost use Rattle.std.specs.Prelude.{◌≡◌, map, None, IfOk, OnOk, IfErr};
+ghost use Rattle.std.specs.Prelude.{◌≡◌, map, IfOk};
 ghost use Rattle.sj_lang.specs.CodeView.{term_of, code_of, stmt_of, arm_of, branches_of};
 ghost use Rattle.sj_lang.specs.Code as code;
-ghost use Rattle.sj_acceptance.specs.Faults.{first_fault};
-ghost use Rattle.sj_check.specs.Views.{protocols_of};
-ghost use Rattle.sj_acceptance.specs.Tests.{deed_tests, after_deed, branches_tests, after_branches};
+ghost use Rattle.sj_acceptance.specs.Tests.{branches_tests, after_branches};
 ghost use Rattle.sj_acceptance.specs.Tests.{stmt_tests, after_stmt, code_tests, after_code};
-ghost use Rattle.sj_acceptance.specs.Arms.{is_one};
-ghost use Rattle.sj_acceptance.specs.Arms as together;
-ghost use Rattle.sj_check.specs.Told.{Tells};
+ghost use Rattle.sj_acceptance.specs.Arms.{is_one, common_env};
+ghost use Rattle.sj_check.specs.Seen.{defs_in, env_in};
+ghost use Rattle.sj_check.specs.Told.{Judges, Walks, Does};
 
 use crate::CheckRefusal;
+use crate::compiled::Protocols;
 use crate::env::Env;
 use crate::joins::{both, branching, join, tested};
 use crate::kinds::{expr_kind, same_kind};
+use crate::moves::{at_arm, enter, pass, pass_both};
 use crate::named::has_same_ends_at;
 use crate::places::is_loop;
+use crate::rules::{ARMS_DIFFER, NOT_THERE, OTHER_ACTION, OTHER_KIND, TURN_DIFFERS};
 use crate::statements::{close, delegate, let_be, select, send, take_end, take_value};
-use sj_lang::{Deed, Expr, ProtocolDef, Scalar, Stmt, StmtArm, Way};
+use sj_lang::{Deed, Expr, Scalar, Stmt, StmtArm, Way};
 
 /// Statements in order.
 #[cycle(walk)]
-pub fn block(protocols: &[ProtocolDef], env: &mut Env, stmts: &[Stmt]) -> Result<(), CheckRefusal>
-    ensures passes { let tests = code_tests (protocols_of protocols.now) env.old (code_of stmts.now) in
-        OnOk result (first_fault tests ≡ None) }
-    ensures after { OnOk result (env.new ≡ after_code (protocols_of protocols.now) env.old (code_of stmts.now)) }
-    ensures fault { let tests = code_tests (protocols_of protocols.now) env.old (code_of stmts.now) in
-        IfErr result (Tells (first_fault tests)) }
+pub fn block(protocols: &Protocols, env: &mut Env, stmts: &[Stmt]) -> Result<(), CheckRefusal>
+    ensures { let ps = defs_in protocols.now in
+        let old = env_in protocols.now env.old in
+        let tests = code_tests ps old (code_of stmts.now) in
+        Walks tests (after_code ps old (code_of stmts.now)) (env_in protocols.now env.new) result }
 {
     for stmt in stmts {
-        step(protocols, env, stmt)?;
+        statement(protocols, env, stmt)?;
     }
     Ok(())
 }
 
 #[cycle(walk)]
-fn step(protocols: &[ProtocolDef], env: &mut Env, stmt: &Stmt) -> Result<(), CheckRefusal>
-    ensures passes { let tests = stmt_tests (protocols_of protocols.now) env.old (stmt_of stmt.now) in
-        OnOk result (first_fault tests ≡ None) }
-    ensures after { OnOk result (env.new ≡ after_stmt (protocols_of protocols.now) env.old (stmt_of stmt.now)) }
-    ensures fault { let tests = stmt_tests (protocols_of protocols.now) env.old (stmt_of stmt.now) in
-        IfErr result (Tells (first_fault tests)) }
+fn statement(protocols: &Protocols, env: &mut Env, stmt: &Stmt) -> Result<(), CheckRefusal>
+    ensures { let ps = defs_in protocols.now in
+        let old = env_in protocols.now env.old in
+        let tests = stmt_tests ps old (stmt_of stmt.now) in
+        Walks tests (after_stmt ps old (stmt_of stmt.now)) (env_in protocols.now env.new) result }
 {
     let line = stmt.line;
     match &stmt.deed {
-        Deed::Send { end, value } => send(env, line, *end, value),
-        Deed::Delegate { end, sent } => delegate(env, line, *end, *sent),
-        Deed::Take { end, into, kind } => take_value(env, line, *end, *into, *kind),
+        Deed::Send { end, value } => send(protocols, env, line, *end, value),
+        Deed::Delegate { end, sent } => delegate(protocols, env, line, *end, *sent),
+        Deed::Take { end, into, kind } => take_value(protocols, env, line, *end, *into, *kind),
         Deed::TakeEnd {
             end,
             into,
             protocol,
-        } => take_end(env, protocols, line, *end, *into, *protocol),
-        Deed::Select { end, label } => select(env, line, *end, *label),
+        } => take_end(protocols, env, line, *end, *into, *protocol),
+        Deed::Select { end, label } => select(protocols, env, line, *end, *label),
         Deed::Branch { end, arms } => {
-            branching(env, line, *end, arms)?;
+            branching(protocols, env, line, *end, arms)?;
             let (left, agree) = all_arms(protocols, env, *end, arms)?;
             if !agree {
-                return Err(CheckRefusal::At { rule: 9, line });
+                return Err(CheckRefusal::At {
+                    rule: ARMS_DIFFER,
+                    line,
+                });
             }
             *env = left;
             Ok(())
@@ -72,129 +74,145 @@ fn step(protocols: &[ProtocolDef], env: &mut Env, stmt: &Stmt) -> Result<(), Che
             block(protocols, env, yes)?;
             block(protocols, &mut other, no)?;
             let named = env.names(&[], yes, no)?;
-            join(env, line, &other, &named)
+            join(protocols, env, line, &other, &named)
         }
-        Deed::Let { name, value } => let_be(env, line, *name, value),
-        Deed::Close { end } => close(env, line, *end),
+        Deed::Let { name, value } => let_be(protocols, env, line, *name, value),
+        Deed::Close { end } => close(protocols, env, line, *end),
     }
 }
 
 #[cycle(walk)]
 fn out_while(
-    protocols: &[ProtocolDef],
+    protocols: &Protocols,
     env: &mut Env,
     line: u32,
     end: u16,
     body: &[Stmt],
     count: &Expr,
 ) -> Result<(), CheckRefusal>
-    ensures passes { let ps = protocols_of protocols.now in
-        let act = code.outwhile end (term_of count.now) (code_of body.now) in
-        let tests = deed_tests ps line env.old act in
-        OnOk result (first_fault tests ≡ None) }
-    ensures after { let ps = protocols_of protocols.now in
-        let act = code.outwhile end (term_of count.now) (code_of body.now) in
-        OnOk result (env.new ≡ after_deed ps env.old act) }
-    ensures fault { let ps = protocols_of protocols.now in
-        let act = code.outwhile end (term_of count.now) (code_of body.now) in
-        let tests = deed_tests ps line env.old act in
-        IfErr result (Tells (first_fault tests)) }
+    ensures { let deed = code.outwhile end (term_of count.now) (code_of body.now) in
+        let old = env_in protocols.now env.old in
+        Does (defs_in protocols.now) line deed old (env_in protocols.now env.new) result }
 {
-    let Some(place) = env.place(end) else {
-        return Err(CheckRefusal::At { rule: 5, line });
+    let Some(spot) = env.spot(end) else {
+        return Err(CheckRefusal::At {
+            rule: NOT_THERE,
+            line,
+        });
     };
-    if !is_loop(Way::Out, place) {
-        return Err(CheckRefusal::At { rule: 6, line });
+    if !is_loop(Way::Out, &protocols.table, spot) {
+        return Err(CheckRefusal::At {
+            rule: OTHER_ACTION,
+            line,
+        });
     }
-    let kind = expr_kind(env, line, count)?;
+    let kind = expr_kind(env.variables(), line, count)?;
     if !same_kind(kind, Scalar::Int) {
-        return Err(CheckRefusal::At { rule: 7, line });
+        return Err(CheckRefusal::At {
+            rule: OTHER_KIND,
+            line,
+        });
     }
     let mut inner = env.copied()?;
-    env.enter(&mut inner, end)?;
+    enter(protocols, env, &mut inner, end)?;
     block(protocols, &mut inner, body)?;
     let named = env.names(&[end], &[], body)?;
-    if !has_same_ends_at(env, &inner, &named) {
-        return Err(CheckRefusal::At { rule: 10, line });
+    if !has_same_ends_at(protocols, env, &inner, &named) {
+        return Err(CheckRefusal::At {
+            rule: TURN_DIFFERS,
+            line,
+        });
     }
     drop(inner);
-    env.pass(end)?;
+    pass(protocols, env, end)?;
     Ok(())
 }
 
 #[cycle(walk)]
 fn in_while(
-    protocols: &[ProtocolDef],
+    protocols: &Protocols,
     env: &mut Env,
     line: u32,
     end: u16,
     body: &[Stmt],
 ) -> Result<(), CheckRefusal>
-    ensures passes { let ps = protocols_of protocols.now in
-        let tests = deed_tests ps line env.old (code.inwhile end (code_of body.now)) in
-        OnOk result (first_fault tests ≡ None) }
-    ensures after { let ps = protocols_of protocols.now in
-        OnOk result (env.new ≡ after_deed ps env.old (code.inwhile end (code_of body.now))) }
-    ensures fault { let ps = protocols_of protocols.now in
-        let tests = deed_tests ps line env.old (code.inwhile end (code_of body.now)) in
-        IfErr result (Tells (first_fault tests)) }
+    ensures { let deed = code.inwhile end (code_of body.now) in
+        let old = env_in protocols.now env.old in
+        Does (defs_in protocols.now) line deed old (env_in protocols.now env.new) result }
 {
-    let Some(place) = env.place(end) else {
-        return Err(CheckRefusal::At { rule: 5, line });
+    let Some(spot) = env.spot(end) else {
+        return Err(CheckRefusal::At {
+            rule: NOT_THERE,
+            line,
+        });
     };
-    if !is_loop(Way::Into, place) {
-        return Err(CheckRefusal::At { rule: 6, line });
+    if !is_loop(Way::Into, &protocols.table, spot) {
+        return Err(CheckRefusal::At {
+            rule: OTHER_ACTION,
+            line,
+        });
     }
     let mut turn = env.copied()?;
-    env.enter(&mut turn, end)?;
+    enter(protocols, env, &mut turn, end)?;
     block(protocols, &mut turn, body)?;
     let named = env.names(&[end], &[], body)?;
-    if !has_same_ends_at(env, &turn, &named) {
-        return Err(CheckRefusal::At { rule: 10, line });
+    if !has_same_ends_at(protocols, env, &turn, &named) {
+        return Err(CheckRefusal::At {
+            rule: TURN_DIFFERS,
+            line,
+        });
     }
     drop(turn);
-    env.pass(end)?;
+    pass(protocols, env, end)?;
     Ok(())
 }
 
 #[cycle(walk)]
 fn relay(
-    protocols: &[ProtocolDef],
+    protocols: &Protocols,
     env: &mut Env,
     line: u32,
     from: u16,
     to: u16,
     body: &[Stmt],
 ) -> Result<(), CheckRefusal>
-    ensures passes { let ps = protocols_of protocols.now in
-        let tests = deed_tests ps line env.old (code.relay from to (code_of body.now)) in
-        OnOk result (first_fault tests ≡ None) }
-    ensures after { let ps = protocols_of protocols.now in
-        OnOk result (env.new ≡ after_deed ps env.old (code.relay from to (code_of body.now))) }
-    ensures fault { let ps = protocols_of protocols.now in
-        let tests = deed_tests ps line env.old (code.relay from to (code_of body.now)) in
-        IfErr result (Tells (first_fault tests)) }
+    ensures { let deed = code.relay from to (code_of body.now) in
+        let old = env_in protocols.now env.old in
+        Does (defs_in protocols.now) line deed old (env_in protocols.now env.new) result }
 {
-    let Some(source) = env.place(from) else {
-        return Err(CheckRefusal::At { rule: 5, line });
+    let Some(source) = env.spot(from) else {
+        return Err(CheckRefusal::At {
+            rule: NOT_THERE,
+            line,
+        });
     };
-    let Some(target) = env.place(to) else {
-        return Err(CheckRefusal::At { rule: 5, line });
+    let Some(target) = env.spot(to) else {
+        return Err(CheckRefusal::At {
+            rule: NOT_THERE,
+            line,
+        });
     };
-    if !is_loop(Way::Into, source) || !is_loop(Way::Out, target) {
-        return Err(CheckRefusal::At { rule: 6, line });
+    if !is_loop(Way::Into, &protocols.table, source)
+        || !is_loop(Way::Out, &protocols.table, target)
+    {
+        return Err(CheckRefusal::At {
+            rule: OTHER_ACTION,
+            line,
+        });
     }
     let mut inner = env.copied()?;
-    env.enter(&mut inner, from)?;
-    env.enter(&mut inner, to)?;
+    enter(protocols, env, &mut inner, from)?;
+    enter(protocols, env, &mut inner, to)?;
     block(protocols, &mut inner, body)?;
     let named = env.names(&[from, to], &[], body)?;
-    if !has_same_ends_at(env, &inner, &named) {
-        return Err(CheckRefusal::At { rule: 10, line });
+    if !has_same_ends_at(protocols, env, &inner, &named) {
+        return Err(CheckRefusal::At {
+            rule: TURN_DIFFERS,
+            line,
+        });
     }
     drop(inner);
-    env.pass(from)?;
-    env.pass(to)?;
+    pass_both(protocols, env, from, to)?;
     Ok(())
 }
 
@@ -202,39 +220,33 @@ fn relay(
 // the same live ends and places.
 #[cycle(walk)]
 fn all_arms(
-    protocols: &[ProtocolDef],
+    protocols: &Protocols,
     env: &Env,
     end: u16,
     arms: &[StmtArm],
 ) -> Result<(Env, bool), CheckRefusal>
-    ensures passes { let ps = protocols_of protocols.now in
-        let bs = branches_of (map arm_of arms.now) in
-        let tests = branches_tests ps env.now end bs in
-        OnOk result (first_fault tests ≡ None) }
-    ensures joined { let ps = protocols_of protocols.now in
-        let bs = branches_of (map arm_of arms.now) in
-        IfOk result (λ r. r.0 ≡ together.common_env (after_branches ps env.now end bs)) }
-    ensures agree { let ps = protocols_of protocols.now in
-        let bs = branches_of (map arm_of arms.now) in
-        IfOk result (λ r. r.1 ≡ is_one (after_branches ps env.now end bs)) }
-    ensures fault { let ps = protocols_of protocols.now in
-        let bs = branches_of (map arm_of arms.now) in
-        let tests = branches_tests ps env.now end bs in
-        IfErr result (Tells (first_fault tests)) }
+    ensures tests { let bs = branches_of (map arm_of arms.now) in
+        Judges (branches_tests (defs_in protocols.now) (env_in protocols.now env.now) end bs) result }
+    ensures joined { let bs = branches_of (map arm_of arms.now) in
+        let left = after_branches (defs_in protocols.now) (env_in protocols.now env.now) end bs in
+        IfOk result (λ r. env_in protocols.now r.0 ≡ common_env left) }
+    ensures agree { let bs = branches_of (map arm_of arms.now) in
+        let left = after_branches (defs_in protocols.now) (env_in protocols.now env.now) end bs in
+        IfOk result (λ r. r.1 ≡ is_one left) }
 {
     if arms.is_empty() {
         return Ok((env.emptied(), true));
     }
     let first = &arms[0];
-    let mut left = env.at_arm(end, first.label)?;
+    let mut left = at_arm(protocols, env, end, first.label)?;
     block(protocols, &mut left, &first.body)?;
     let mut agree = true;
     for i in 1..arms.len() {
         let arm = &arms[i];
-        let mut inner = env.at_arm(end, arm.label)?;
+        let mut inner = at_arm(protocols, env, end, arm.label)?;
         block(protocols, &mut inner, &arm.body)?;
         let named = env.names(&[end], &first.body, &arm.body)?;
-        agree = both(agree, has_same_ends_at(&left, &inner, &named));
+        agree = both(agree, has_same_ends_at(protocols, &left, &inner, &named));
         left.keep_common(&inner);
     }
     Ok((left, agree))

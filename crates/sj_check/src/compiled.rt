@@ -1,0 +1,43 @@
+//! The protocols of a file, with the table of their places.
+ghost use Rattle.std.specs.Prelude.{◌≡◌, ◌<◌, ℕ, IfOk, option_map};
+ghost use Rattle.std.specs.Coded.{Coded-set};
+ghost use Rattle.sj_lang.specs.FileAt.{body_named, protocol_named};
+ghost use Rattle.sj_lang.specs.PlaceCode.{coded_place};
+ghost use Rattle.sj_table.specs.Nodes.{nodes_of};
+ghost use Rattle.sj_table.specs.Spots.{place_in, start_in};
+ghost use Rattle.sj_check.specs.Views.{protocols_of};
+
+use crate::places::body_named;
+use sj_base::NoMemory;
+use sj_lang::ProtocolDef;
+use sj_table::{Spot, Table};
+use std::alloc::Global;
+
+/// The protocols, and the table in which each starts at its body.
+#[derive(Drop)]
+pub struct Protocols<'a> {
+    pub defs: &'a [ProtocolDef],
+    pub table: Table,
+    ghost starts: { (p : ℕ) → start_in table p ≡ body_named (protocols_of defs.now) p } by { Prim.hlevel (Coded-set, coded_place) },
+}
+
+impl<'a> Protocols<'a> {
+    ghost use Rattle.sj_check.specs.Seen.{defs_in};
+
+    pub fn compiled(alloc: Global, defs: &'a [ProtocolDef]) -> Result<Protocols<'a>, NoMemory>
+        requires { nodes_of (protocols_of defs.now) < 4294967295 }
+        ensures { IfOk result (λ p. defs_in p ≡ protocols_of defs.now) }
+    {
+        let table = Table::compile(alloc, defs)?;
+        Ok(Protocols { defs, table })
+    }
+
+    /// The spot at which an end of the protocol of that name begins; none where there is no such
+    /// protocol.
+    pub fn start(&self, name: u16) -> Option<Spot>
+        ensures { option_map (place_in self.now.table) result ≡ protocol_named (defs_in self.now) name }
+    {
+        let _ = body_named(self.defs, name)?;
+        Some(self.table.start(name))
+    }
+}
