@@ -35,7 +35,7 @@ pub struct Fault {
     pub column: u32,
 }
 
-/// A token, the places of its bytes from `from` up to `to`, and where it begins.
+/// A token, the positions of its bytes from `from` up to `to`, and where it begins.
 #[derive(Clone, Copy, Debug, PartialEq, Eq)]
 pub struct Token {
     pub what: What,

@@ -7,7 +7,7 @@ ghost use Rattle.sj_log.specs.Values.{value_within};
 ghost use Rattle.sj_log.specs.Fields.{made, number_read, count_read, clock_read, int_read, end_read, resend_read, bool_read};
 
 use crate::refusal::LogRule;
-use crate::words::{is, place_of, together};
+use crate::words::{first_at, is, together};
 use sj_base::EndId;
 
 fn are_digits(word: &[u8]) -> bool
@@ -115,7 +115,7 @@ fn side(word: &[u8]) -> Result<u8, LogRule>
 pub(crate) fn end(word: &[u8]) -> Result<EndId, LogRule>
     ensures { result ≡ end_read word.now }
 {
-    let dot = place_of(b'.', word);
+    let dot = first_at(b'.', word);
     let behind: &[u8] = if dot < word.len() {
         &word[dot + 1..]
     } else {

@@ -12,7 +12,7 @@ use crate::frames::frame;
 use crate::names::party;
 use crate::notes::act;
 use crate::refusal::{LogRefusal, LogRule, number_of};
-use crate::words::{Fields, is, place_of, together};
+use crate::words::{Fields, first_at, is, together};
 use sj_end::{Entry, Event, Line, Note};
 use sj_lang::File;
 use std::alloc::Global;
@@ -81,7 +81,7 @@ pub fn read_log(alloc: Global, bytes: &[u8], file: &File) -> Result<Vec<Line>, L
     let mut left = bytes;
     let mut number = 1u32;
     while left.len() > 0 {
-        let end = place_of(b'\n', left);
+        let end = first_at(b'\n', left);
         if end == left.len() {
             return Err(LogRefusal::At {
                 rule: number_of(LogRule::L4),

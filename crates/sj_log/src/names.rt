@@ -40,7 +40,7 @@ fn has_word_form(w: &[u8]) -> bool
 }
 
 // The number of a word in its table.
-fn place_in(words: &Words, word: &[u8]) -> Option<usize>
+fn number_in(words: &Words, word: &[u8]) -> Option<usize>
     ensures { result ≡ first_index word.now words.now }
 {
     words.find(word)
@@ -61,11 +61,11 @@ fn first_named(parties: &[Party], name: usize) -> usize
 }
 
 // The number of a name, where it is at most so large.
-fn within(most: usize, place: Option<usize>) -> Result<usize, LogRule>
-    ensures known { result ≡ number_known most place }
+fn within(most: usize, number: Option<usize>) -> Result<usize, LogRule>
+    ensures known { result ≡ number_known most number }
     ensures most { IfOk result (λ n. n ≤ most) }
 {
-    match place {
+    match number {
         Some(n) if n <= most => Ok(n),
         _ => Err(LogRule::L2),
     }
@@ -79,17 +79,17 @@ pub(crate) fn label(file: &File, w: &[u8]) -> Result<u16, LogRule>
     if !has_word_form(w) {
         return Err(LogRule::L1);
     }
-    match within(65_535, place_in(&file.names.words, w)) {
+    match within(65_535, number_in(&file.names.words, w)) {
         Ok(n) => Ok(n as u16),
         Err(rule) => Err(rule),
     }
 }
 
 // The number of the party of that name.
-fn party_place(file: &File, w: &[u8]) -> Option<usize>
+fn party_number(file: &File, w: &[u8]) -> Option<usize>
     ensures { result ≡ party_of_name (file_of file.now).parties (first_index w.now (file_of file.now).words) }
 {
-    let name = place_in(&file.names.words, w)?;
+    let name = number_in(&file.names.words, w)?;
     let parties = file.parties.as_slice();
     let party = first_named(parties, name);
     if party < parties.len() {
@@ -107,7 +107,7 @@ pub(crate) fn party(file: &File, w: &[u8]) -> Result<u16, LogRule>
     if !has_word_form(w) {
         return Err(LogRule::L1);
     }
-    match within(65_535, party_place(file, w)) {
+    match within(65_535, party_number(file, w)) {
         Ok(n) => Ok(n as u16),
         Err(rule) => Err(rule),
     }
@@ -149,7 +149,7 @@ pub(crate) fn text(file: &File, w: &[u8]) -> Result<u32, LogRule>
     let Some(text) = between_quotes(w) else {
         return Err(LogRule::L1);
     };
-    match within(4_294_967_295, place_in(&file.names.texts, text)) {
+    match within(4_294_967_295, number_in(&file.names.texts, text)) {
         Ok(n) => Ok(n as u32),
         Err(rule) => Err(rule),
     }

@@ -53,9 +53,9 @@ pub(crate) fn is(word: &[u8], other: &[u8]) -> bool
     word == other
 }
 
-/// The place of the first such byte, or the length where there is none.
-pub(crate) fn place_of(byte: u8, bytes: &[u8]) -> usize
-    ensures place { result ≡ position_or_len (λ b. b == byte) bytes.now }
+/// The position of the first such byte, or the length where there is none.
+pub(crate) fn first_at(byte: u8, bytes: &[u8]) -> usize
+    ensures first { result ≡ position_or_len (λ b. b == byte) bytes.now }
     ensures within { result ≤ length bytes.now }
 {
     let mut i = 0;
@@ -71,7 +71,7 @@ fn cut(line: &[u8]) -> (&[u8], Option<&[u8]>)
     ensures word { result.0.now ≡ word (words_in line.now) }
     ensures rest { words_left (option_copied result.1) ≡ rest (words_in line.now) }
 {
-    let end = place_of(b' ', line);
+    let end = first_at(b' ', line);
     if end < line.len() {
         (&line[..end], Some(&line[end + 1..]))
     } else {

@@ -1,4 +1,4 @@
--- What was read once the reader stands at a place.
+-- What was read once the reader stands at a position.
 use Rattle.std.proofs.Common.{◌≡◌, subst, ℕ, ◌+◌, ◌-◌, ◌<◌, ◌≤◌, List, ◌++◌, length, take, drop, Ok, Err, Result, ap, sym, ◌∙◌, arith, length-drop}
 use Rattle.std.proofs.Math.Seq.{take-add}
 use Rattle.std.proofs.lemmas.List.{take_all, take-append-drop, length-take-le, drop-drop}
@@ -9,7 +9,7 @@ use Rattle.sj_grammar.specs.declared.tokens.Fault.{Fault}
 use Rattle.sj_grammar.specs.Lexis.{Ahead, bad, token, next_of}
 use Rattle.sj_proto.specs.declared.scan.Found.{Found}
 use Rattle.sj_proto.specs.declared.scan.Found.TheVariants as found
-use Rattle.sj_proto.specs.Found.{found_of, spot_of, IsAhead, IsPlace}
+use Rattle.sj_proto.specs.Found.{found_of, spot_of, IsAhead, IsPosition}
 use Rattle.sj_grammar.specs.Refusals.{first_rule, fault_next}
 use Rattle.sj_grammar.specs.Asked.{TakesText}
 use Rattle.sj_grammar.specs.Reading.{Reading, passed, before_next, token_at, answer_to, reading_after, line_at, column_at}
@@ -31,17 +31,17 @@ piece_and_rest xs from to later =
     ∙ ap (λ r. take (to - from) (drop from xs) ++ r) (sym (drop-drop (to - from) from xs))
     ∙ take-append-drop (to - from) (drop from xs)
 
-pub bad_answer : (xs : List ℕ) (at to : ℕ) (rule : Rule) (l c : ℕ) → at ≤ to → to ≤ length xs → IsPlace xs to l c
+pub bad_answer : (xs : List ℕ) (at to : ℕ) (rule : Rule) (l c : ℕ) → at ≤ to → to ≤ length xs → IsPosition xs to l c
     → ◌≡◌ {A = Result Token Fault} (Err (record { rule = rule; line = l; column = c })) (answer_to (reading_at xs at) (bad rule (drop to xs)))
-bad_answer xs at to rule l c later within place =
-    let line : l ≡ line_at (passed (reading_at xs at) (drop to xs)) = place.line ∙ ap line_at (sym (passed_is xs at to later within)) in
-    let column : c ≡ column_at (passed (reading_at xs at) (drop to xs)) = place.column ∙ ap column_at (sym (passed_is xs at to later within)) in
+bad_answer xs at to rule l c later within position =
+    let line : l ≡ line_at (passed (reading_at xs at) (drop to xs)) = position.line ∙ ap line_at (sym (passed_is xs at to later within)) in
+    let column : c ≡ column_at (passed (reading_at xs at) (drop to xs)) = position.column ∙ ap column_at (sym (passed_is xs at to later within)) in
     λ i. Err (record { rule = rule; line = line i; column = column i })
 
-pub piece_answer : (xs : List ℕ) (at from to : ℕ) (what : What) (l c : ℕ) → at ≤ from → from < to → to ≤ length xs → IsPlace xs from l c
+pub piece_answer : (xs : List ℕ) (at from to : ℕ) (what : What) (l c : ℕ) → at ≤ from → from < to → to ≤ length xs → IsPosition xs from l c
     → ◌≡◌ {A = Result Token Fault} (Ok (record { what = what; from = from; to = to; line = l; column = c }))
     (answer_to (reading_at xs at) (token what (take (to - from) (drop from xs)) (drop to xs)))
-piece_answer xs at from to what l c later some within place =
+piece_answer xs at from to what l c later some within position =
     let piece = take (to - from) (drop from xs) in
     let before : take from xs ≡ passed (reading_at xs at) (piece ++ drop to xs) =
     sym (ap (passed (reading_at xs at)) (piece_and_rest xs from to (omega arith)) ∙ passed_is xs at from later (omega arith)) in
@@ -49,7 +49,7 @@ piece_answer xs at from to what l c later some within place =
     let size : length piece ≡ to - from = length-take-le (to - from) (drop from xs) (omega (arith, length-drop from xs)) in
     let end : to ≡ from + length piece = omega arith in
     let here : ◌≡◌ {A = Token} (record { what = what; from = from; to = to; line = l; column = c }) (token_at (take from xs) what piece) =
-    λ i. record { what = what; from = sym long i; to = (end ∙ ap (λ k. k + length piece) (sym long)) i; line = place.line i; column = place.column i } in
+    λ i. record { what = what; from = sym long i; to = (end ∙ ap (λ k. k + length piece) (sym long)) i; line = position.line i; column = position.column i } in
     ap Ok here ∙ ap (λ b. Ok (token_at b what piece)) before
 
 pub piece_after : (xs : List ℕ) (at from to : ℕ) (what : What) → at ≤ from → from < to → to ≤ length xs
@@ -70,12 +70,12 @@ spot_is xs at found.Nothing within ahead = (within, omega arith)
 spot_is xs at (found.Bad rule p) within ahead = ahead
 spot_is xs at (found.Piece what from to) within ahead = (ahead.0, omega (arith, ahead.1, ahead.2))
 
-pub fault_found : (xs : List ℕ) (at : ℕ) (rule : Rule) (f : Found) (x : Ahead) (r : Reading) (l c : ℕ) → reading_at xs at ≡ r → found_of xs f ≡ x → at ≤ length xs → IsAhead at xs f → IsPlace xs (spot_of xs f) l c
+pub fault_found : (xs : List ℕ) (at : ℕ) (rule : Rule) (f : Found) (x : Ahead) (r : Reading) (l c : ℕ) → reading_at xs at ≡ r → found_of xs f ≡ x → at ≤ length xs → IsAhead at xs f → IsPosition xs (spot_of xs f) l c
     → ◌≡◌ {A = Fault} (record { rule = first_rule rule (found_of xs f); line = l; column = c }) (fault_next r rule x)
-fault_found xs at rule f x r l c same next within ahead place =
+fault_found xs at rule f x r l c same next within ahead position =
     let before : take (spot_of xs f) xs ≡ before_next r x = before_is xs at f within ahead ∙ (λ i. before_next (same i) (next i)) in
-    let line : l ≡ line_at (before_next r x) = place.line ∙ ap line_at before in
-    let column : c ≡ column_at (before_next r x) = place.column ∙ ap column_at before in
+    let line : l ≡ line_at (before_next r x) = position.line ∙ ap line_at before in
+    let column : c ≡ column_at (before_next r x) = position.column ∙ ap column_at before in
     λ i. record { rule = first_rule rule (next i); line = line i; column = column i }
 
 pub taken_is : (xs : List ℕ) (at from to : ℕ) (what : What) (s : List ℕ) (r : Reading) → reading_at xs at ≡ r → found_of xs (found.Piece what from to) ≡ next_of (drop at xs)

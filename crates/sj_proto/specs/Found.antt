@@ -27,8 +27,8 @@ spot_of bytes (found.Piece what from to) = from
 abbrev pub value_of : List ℕ → Option ℕ
 value_of ds = if nat_lt most (digits_value 10 ds) then None else Some (digits_value 10 ds)
 
--- the place, with its line and its column, in a text that isn't too long
-pub record IsPlace (bytes : List ℕ) (at l c : ℕ) : Type 0 where
+-- the position, with its line and its column, in a text that isn't too long
+pub record IsPosition (bytes : List ℕ) (at l c : ℕ) : Type 0 where
   pub within : at ≤ length bytes
   pub short : length bytes ≤ 65536
   pub line : l ≡ line_at (take at bytes)

@@ -1,4 +1,4 @@
-//! What comes next in a text, by places.
+//! What comes next in a text, by positions.
 ghost use Rattle.std.specs.Prelude.{◌≡◌, ℕ, ◌+◌, ◌<◌, ◌≤◌, length, drop, slice_index, All, IsTrue, ◌==◌, ◌||◌, ◌&&◌};
 ghost use Rattle.std.specs.List.{prefix_len, take_while};
 ghost use Rattle.sj_grammar.specs.Bytes.{begins_with, is_digit};
@@ -6,17 +6,17 @@ ghost use Rattle.sj_grammar.specs.Lexis.{next_of, token_of, number_of, text_of, 
 ghost use Rattle.sj_grammar.specs.Refusals.{first_rule};
 ghost use Rattle.sj_proto.specs.declared.bytes.Class.TheVariants as classes;
 ghost use Rattle.sj_proto.specs.Classes.{in_class};
-ghost use Rattle.sj_proto.specs.Found.{IsPlace, found_of, IsAhead, spot_of, value_of};
+ghost use Rattle.sj_proto.specs.Found.{IsPosition, found_of, IsAhead, spot_of, value_of};
 
 use crate::bytes::{Class, is_blank_byte, is_in, is_letter_byte, is_symbol_byte, run_end};
 use sj_grammar::{Rule, What};
 
-/// The line and the column of a place, from those of an earlier one.
-pub fn place(bytes: &[u8], at: usize, to: usize, line: u32, column: u32) -> (u32, u32)
-    requires at { IsPlace bytes.now at line column }
+/// The line and the column of a position, from those of an earlier one.
+pub fn position(bytes: &[u8], at: usize, to: usize, line: u32, column: u32) -> (u32, u32)
+    requires at { IsPosition bytes.now at line column }
     requires later { at ≤ to }
     requires within { to ≤ length bytes.now }
-    ensures { IsPlace bytes.now to result.0 result.1 }
+    ensures { IsPosition bytes.now to result.0 result.1 }
 {
     let mut line = line;
     let mut column = column;
@@ -31,7 +31,7 @@ pub fn place(bytes: &[u8], at: usize, to: usize, line: u32, column: u32) -> (u32
     (line, column)
 }
 
-/// What comes next, by places in the whole text.
+/// What comes next, by positions in the whole text.
 #[derive(Clone, Copy)]
 pub enum Found {
     Nothing,
@@ -142,7 +142,7 @@ fn token_here(bytes: &[u8], from: usize) -> Found
     Found::Bad(Rule::P2, from)
 }
 
-/// What comes next behind a place. A comment may end the text.
+/// What comes next behind a position. A comment may end the text.
 pub fn find(bytes: &[u8], at: usize) -> Found
     requires { at ≤ length bytes.now }
     ensures found { found_of bytes.now result ≡ next_of (drop at bytes.now) }
@@ -183,7 +183,7 @@ pub fn fault_in(bytes: &[u8], found: Found, rule: Rule) -> (Rule, usize)
 {
     match found {
         Found::Nothing => (rule, bytes.len()),
-        Found::Bad(lexical, place) => (lexical, place),
+        Found::Bad(lexical, at) => (lexical, at),
         Found::Piece(_, from, to) => {
             if &bytes[from..to] == LARGEST {
                 (Rule::P3, from)

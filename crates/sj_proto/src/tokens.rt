@@ -10,12 +10,12 @@ ghost use Rattle.sj_proto.specs.Protocols.{IsReadable, IsUnreadable};
 ghost use Rattle.sj_grammar.specs.Asked.{TakesText, is_next, spelled_next, Refuses, but, but_name};
 
 use crate::reserved::is_name_text;
-use crate::scan::{Found, fault_in, find, place};
+use crate::scan::{Found, fault_in, find, position};
 use sj_grammar::{Fault, Rule, Token, What};
 use std::marker::Model;
 
-/// A text that is read token by token: its bytes, the place where the reader stands, and that
-/// place's line and column.
+/// A text that is read token by token: its bytes, the position at which the reader stands, and its
+/// line and column.
 #[derive(Drop)]
 pub struct Tokens<'a> {
     bytes: &'a [u8],
@@ -27,13 +27,13 @@ pub struct Tokens<'a> {
 impl<'a> Model for Tokens<'a> {
     ghost use Rattle.std.specs.Prelude.{take, drop};
     ghost use Rattle.sj_grammar.specs.Reading.{Reading};
-    ghost use Rattle.sj_proto.specs.Found.{IsPlace};
+    ghost use Rattle.sj_proto.specs.Found.{IsPosition};
 
     ghost Value = { Reading };
 
     ghost view = { λ t. record { before = take t.at t.bytes.now; ahead = drop t.at t.bytes.now } };
 
-    ghost invariant = { λ t. IsPlace t.bytes.now t.at t.line t.column };
+    ghost invariant = { λ t. IsPosition t.bytes.now t.at t.line t.column };
 }
 
 impl<'a> Tokens<'a> {
@@ -71,7 +71,7 @@ impl<'a> Tokens<'a> {
         match find(self.bytes, self.at) {
             Found::Nothing => {
                 let end = self.bytes.len();
-                let (line, column) = place(self.bytes, self.at, end, self.line, self.column);
+                let (line, column) = position(self.bytes, self.at, end, self.line, self.column);
                 self.at = end;
                 self.line = line;
                 self.column = column;
@@ -84,12 +84,12 @@ impl<'a> Tokens<'a> {
                 })
             }
             Found::Bad(rule, to) => {
-                let (line, column) = place(self.bytes, self.at, to, self.line, self.column);
+                let (line, column) = position(self.bytes, self.at, to, self.line, self.column);
                 Err(Fault { rule, line, column })
             }
             Found::Piece(what, from, to) => {
-                let (line, column) = place(self.bytes, self.at, from, self.line, self.column);
-                let (last, behind) = place(self.bytes, from, to, line, column);
+                let (line, column) = position(self.bytes, self.at, from, self.line, self.column);
+                let (last, behind) = position(self.bytes, from, to, line, column);
                 self.at = to;
                 self.line = last;
                 self.column = behind;
@@ -124,7 +124,7 @@ impl<'a> Tokens<'a> {
     {
         if let Found::Piece(_, from, to) = find(self.bytes, self.at) {
             if &self.bytes[from..to] == spelled {
-                let (line, column) = place(self.bytes, self.at, to, self.line, self.column);
+                let (line, column) = position(self.bytes, self.at, to, self.line, self.column);
                 self.at = to;
                 self.line = line;
                 self.column = column;
@@ -158,7 +158,7 @@ impl<'a> Tokens<'a> {
     {
         let found = find(self.bytes, self.at);
         let (first, to) = fault_in(self.bytes, found, rule);
-        let (line, column) = place(self.bytes, self.at, to, self.line, self.column);
+        let (line, column) = position(self.bytes, self.at, to, self.line, self.column);
         Fault {
             rule: first,
             line,

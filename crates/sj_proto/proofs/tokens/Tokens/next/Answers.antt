@@ -9,7 +9,7 @@ returns-in-Bad-clause-answer c =
     let xs = c.self.inside.bytes.now in
     let at = c.self.inside.at in
     let ahead = c.in-Bad.ensures.ahead in
-    bad_answer xs at c.in-Bad.to c.in-Bad.rule _ _ ahead.0 ahead.1 c.place-line-in-Bad.ensures
+    bad_answer xs at c.in-Bad.to c.in-Bad.rule _ _ ahead.0 ahead.1 c.position-line-in-Bad.ensures
     ∙ ap (answer_to (reading_at xs at)) c.in-Bad.ensures.found
     ∙ ap (λ (r : Reading). answer_to r (next_of r.ahead)) c.self.view_is
 
@@ -18,7 +18,7 @@ returns-in-Piece-clause-answer c =
     let xs = c.self.inside.bytes.now in
     let at = c.self.inside.at in
     let ahead = c.in-Piece.ensures.ahead in
-    piece_answer xs at c.in-Piece.from c.in-Piece.to c.in-Piece.what _ _ ahead.0 ahead.1 ahead.2 c.place-line-in-Piece.ensures
+    piece_answer xs at c.in-Piece.from c.in-Piece.to c.in-Piece.what _ _ ahead.0 ahead.1 ahead.2 c.position-line-in-Piece.ensures
     ∙ ap (answer_to (reading_at xs at)) c.in-Piece.ensures.found
     ∙ ap (λ (r : Reading). answer_to r (next_of r.ahead)) c.self.view_is
 
