@@ -14,6 +14,7 @@ use Rattle.sj_semantics.specs.Steps.{local_of, sent_of, took_of, closed_of, ends
 use Rattle.sj_semantics.specs.World.{World, session_message}
 use Rattle.sj_semantics.specs.Ends.{Session, other_end, end_at, next_for, is_end}
 use Rattle.sj_semantics.specs.Uses.{Use, sends, takes, delegates}
+use Rattle.sj_semantics.proofs.FittingLemmas.{fits_its_statement}
 use Rattle.sj_semantics_laws.specs.Unshared.{names_end}
 use Rattle.sj_semantics_laws.proofs.EndLemmas.{touched}
 use Rattle.sj_accepted_laws.proofs.NameLemmas.{named-without_other}
@@ -119,7 +120,7 @@ module _ (ps : List ProtocolAt) (w : World) (p : ℕ) (g : Program) (sound : Sou
   )
     where
       bound_now : (e : EndId) (m : Msg) → fits g m ≡ true → names_end e m ≡ true → Held e (ends_after_took g.ends g.todo m)
-      bound_now e (msgs.Sess s d j) can names = let r = took_gains g.ends g.todo s d j can in record { name = r.name; end = side s d; is_named = r.is_named; it_is = names }
+      bound_now e (msgs.Sess s d j) can names = let r = took_gains g.ends g.todo s d j (fits_its_statement g (msgs.Sess s d j) can) in record { name = r.name; end = side s d; is_named = r.is_named; it_is = names }
       bound_now e (msgs.Int n) can names = cc
       bound_now e (msgs.Bool n) can names = cc
       bound_now e (msgs.Text n) can names = cc

@@ -15,7 +15,7 @@ use Rattle.sj_lang.specs.FileAt.{ProtocolAt, named}
 use Rattle.sj_semantics.specs.Value.{Vars}
 use Rattle.sj_semantics.specs.Program.{Thing, statement, turns, passing, Program, block}
 use Rattle.sj_semantics.specs.Wants.{want_of}
-use Rattle.sj_semantics.specs.Fitting.{fits}
+use Rattle.sj_semantics.specs.Fitting.{fits_todo}
 use Rattle.sj_semantics.specs.Steps.{local_of, sent_of, took_of, closed_of}
 use Rattle.sj_acceptance.specs.Environment.{Env, at_place}
 use Rattle.sj_acceptance.specs.Follows.{Follows, Does}
@@ -108,7 +108,7 @@ KeepsNamed old new _ = ⊤
 pub record TakeFits (ps : List ProtocolAt) (zs : List Session) (g : Program) (e : EndId) (m : Msg) (next : Place) : Type 0 where
   pub name : ℕ
   pub is_named : named g.ends name ≡ Some e
-  pub can_take : fits g m ≡ true
+  pub can_take : fits_todo g.todo m ≡ true
   pub onward : (new : List Session) → MovesTo g.ends zs new name next → KeepsNamed zs new m → FitsProgram ps new (took_of g m)
 
 abbrev pub StepFits : List ProtocolAt → List Session → Program → Want → Type 0

@@ -1,9 +1,12 @@
 -- Which messages a party can take next.
-use Rattle.std.specs.Prelude.{ℕ, ◌==◌, Bool, true, false, List, ◌∷◌, if◌then◌else◌}
+use Rattle.std.specs.Prelude.{ℕ, ◌==◌, ◌&&◌, Bool, true, false, List, ◌∷◌, Option, Some, if◌then◌else◌}
 use Rattle.sj_base.specs.declared.Msg.{Msg}
 use Rattle.sj_base.specs.declared.Msg.TheVariants as msgs
 use Rattle.sj_lang.specs.Code.{Branches, take_value, take_end, inbranch, inwhile, relay, no_branch, branch}
+use Rattle.sj_semantics.specs.declared.Want.{Want}
+use Rattle.sj_semantics.specs.declared.Want.TheVariants as wants
 use Rattle.sj_semantics.specs.Program.{Thing, statement, Program}
+use Rattle.sj_semantics.specs.Wants.{want_of}
 use Rattle.sj_lang.specs.declared.party.Scalar.{Scalar}
 use Rattle.sj_lang.specs.declared.party.Scalar.TheVariants as kinds
 
@@ -43,6 +46,11 @@ fits_todo (statement (inwhile x body) ∷ rest) m = is_more m
 fits_todo (statement (relay x y body) ∷ rest) m = is_more m
 fits_todo _ m = false
 
--- the next step can take the message
+-- the next step takes
+abbrev pub is_take : Option Want → Bool
+is_take (Some (wants.Take e a)) = true
+is_take _ = false
+
+-- the next step takes, and can take the message
 abbrev pub fits : Program → Msg → Bool
-fits g m = fits_todo g.todo m
+fits g m = is_take (want_of g) && fits_todo g.todo m
