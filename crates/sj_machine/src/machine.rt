@@ -7,7 +7,6 @@ ghost use Rattle.sj_machine.specs.Sound.{first_program, program_at};
 ghost use Rattle.sj_semantics.specs.World.{start_of};
 ghost use Rattle.sj_semantics.specs.declared.Awaits.{Awaits};
 ghost use Rattle.sj_semantics.specs.declared.Want.TheVariants.{Ended, Take};
-ghost use Rattle.sj_semantics.specs.declared.Want.{Want};
 ghost use Rattle.sj_semantics.specs.Steps.{closed_of, local_of, sent_of, took_of};
 ghost use Rattle.sj_semantics.specs.Wants.{want_of};
 ghost use Rattle.sj_semantics.specs.Fitting.{fits};
@@ -109,12 +108,15 @@ impl Machine {
         }
     }
 
-    /// Whether the next step takes, and can take this message.
+    /// Whether the next step takes, and can take this message: false where `wants` isn't a take.
     pub fn fits(&self, msg: &Msg) -> bool
         ensures fits { result ≡ fits (program_at self.now) msg.now }
-        ensures takes { result ≡ true → (want : Want) → want_of (program_at self.now) ≡ Some want →
-            (e : EndId) × ((a : Awaits) × (want ≡ Take e a)) }
+        ensures takes { result ≡ true →
+            (e : EndId) × ((a : Awaits) × (want_of (program_at self.now) ≡ Some (Take e a))) }
     {
+        let Want::Take { .. } = self.wants() else {
+            return false;
+        };
         match self.stack.top() {
             Some(frame) => fits_at(frame.stage, &self.nodes[frame.at].op, msg),
             None => false,

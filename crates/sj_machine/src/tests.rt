@@ -382,3 +382,16 @@ fn a_party_that_names_what_is_not_there_has_ended(rt: HostRuntime) -> Result<(),
     assert_eq!(rt; party.wants(), Want::Ended);
     Ok(())
 }
+
+#[test]
+fn nothing_fits_where_the_end_is_not_there(rt: HostRuntime) -> Result<(), Fail> {
+    let alloc = rt.alloc();
+    let body = vec![in alloc; take(Y, PLACE, Scalar::Int)]?;
+    let party = Machine::over(alloc, &body, &[(X, FIRST)])?;
+    assert_eq!(rt; party.wants(), Want::Ended);
+    assert!(rt;
+        !party.fits(&Msg::Int(1)),
+        "the party has no end of that name"
+    );
+    Ok(())
+}
