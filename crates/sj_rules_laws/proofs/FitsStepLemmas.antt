@@ -21,6 +21,7 @@ use Rattle.sj_semantics.specs.Program.{Program, ends_without}
 use Rattle.sj_semantics.specs.Wants.{want_of}
 use Rattle.sj_semantics.specs.Fitting.{fits}
 use Rattle.sj_semantics.specs.World.{World, session_message}
+use Rattle.sj_semantics.proofs.FittingLemmas.{fits_its_statement}
 use Rattle.sj_semantics_laws.proofs.BoundLemmas.{is_end-self}
 use Rattle.sj_accepted_laws.proofs.LeadLemmas.{Ahead, coming, for_sender}
 use Rattle.sj_lang.proofs.DualLemmas.{dual_of-dual_of}
@@ -143,7 +144,7 @@ module _ (ps : List ProtocolAt) (n : Size) (w : World) (p : ℕ) (g : Program) (
   names_at : (e : EndId) (a : Awaits) (x : Passed) (m : Msg) → want_of g ≡ Some (wants.Take e a) → next_for w.sessions e ≡ Some x → x.msg ≡ m → IsProperMessage n m
       → fits g m ≡ true → NamesAt (plain_at w) (place_awaited ps a) m
   names_at e a x (msgs.Sess s d k) it next is ok can =
-      let q = awaits_session g.vars g.ends g.todo e a it s d k can in
+      let q = awaits_session g.vars g.ends g.todo e a it s d k (fits_its_statement g (msgs.Sess s d k) can) in
       let want : want_of g ≡ Some (wants.Take e (awaits.Session q.0)) = it ∙ ap (λ (t : Awaits). Some (wants.Take e t)) (sym q.1) in
       let at = taken_at_body ps w p q.0 g e x s d k sound there want next is in
       ap (λ (t : PlainSide Place). t.place) (side_below w.sessions (side s d) ok.1)

@@ -15,6 +15,7 @@ use Rattle.sj_semantics.specs.Steps.{ends_after_took}
 use Rattle.sj_semantics.specs.Wants.{want_of}
 use Rattle.sj_semantics.specs.Fitting.{fits}
 use Rattle.sj_semantics.specs.World.{World}
+use Rattle.sj_semantics.proofs.FittingLemmas.{fits_its_statement}
 use Rattle.sj_semantics_laws.proofs.BoundLemmas.{is_end-self}
 use Rattle.sj_semantics_laws.proofs.EndLemmas.{touched}
 use Rattle.sj_semantics_laws.proofs.FreesLemmas.{want_frees}
@@ -124,7 +125,7 @@ no_end_proper n (msgs.More b) h = tt
 
 pub took_proper : (ps : List ProtocolAt) (zs : List Session) (n : Size) (g : Program) → FitsProgram ps zs g → (m : Msg) → fits g m ≡ true → IsProperMessage n m → AreProper n g.ends → AreProper n (ends_after_took g.ends g.todo m)
 took_proper ps zs n g fit (msgs.Sess s d k) can h a =
-    let t = took_end ps zs g.ends g.vars fit.env fit.agrees g.todo fit.does s d k can in
+    let t = took_end ps zs g.ends g.vars fit.env fit.agrees g.todo fit.does s d k (fits_its_statement g (msgs.Sess s d k) can) in
     subst (AreProper n) (sym t.binds_it) (bound_proper n g.ends t.name (side s d) (h.1, h.0) a)
 took_proper ps zs n g fit (msgs.Int i) can h a = subst (AreProper n) (sym (took_same g.ends g.todo (msgs.Int i) tt)) a
 took_proper ps zs n g fit (msgs.Bool i) can h a = subst (AreProper n) (sym (took_same g.ends g.todo (msgs.Bool i) tt)) a

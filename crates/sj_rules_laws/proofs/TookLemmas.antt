@@ -14,6 +14,7 @@ use Rattle.sj_semantics.specs.Fitting.{is_of_kind, fits, fits_todo, names_arm}
 use Rattle.sj_semantics.specs.Program.{Program, Thing, statement, turns, passing, ends_with}
 use Rattle.sj_semantics.specs.Steps.{ends_after_took, took_of}
 use Rattle.sj_semantics.specs.Ends.{Session, end_at}
+use Rattle.sj_semantics.proofs.FittingLemmas.{fits_its_statement}
 use Rattle.sj_accepted_laws.proofs.NameLemmas.{Agrees, named-bound_same, named-bound_other}
 use Rattle.sj_accepted_laws.proofs.TypedLemmas.{DoesTodo, FitsProgram}
 use Rattle.sj_accepted_laws.proofs.TouchedLemmas.{side}
@@ -119,7 +120,7 @@ binds_same g new h = same_binds g new.ends h
 -- what the program binds after it took a message that fits
 pub binds_taken : (ps : List ProtocolAt) (zs : List Session) (g : Program) → FitsProgram ps zs g → (m : Msg) → fits g m ≡ true → BindsTaken binds g (took_of g m) m
 binds_taken ps zs g fit (msgs.Sess s d k) h =
-    let t = took_end ps zs g.ends g.vars fit.env fit.agrees g.todo fit.does s d k h in
+    let t = took_end ps zs g.ends g.vars fit.env fit.agrees g.todo fit.does s d k (fits_its_statement g (msgs.Sess s d k) h) in
     λ f. subst (λ (bs : List (ℕ × EndId)). (binds_in bs f ≡ true) ↔ ((is_same_end f (side s d) ≡ true) ⊎ (binds g f ≡ true))) (sym t.binds_it) (binds_bound g.ends t.name (side s d) t.free f)
 binds_taken ps zs g fit (msgs.Int n) h = binds_same g (took_of g (msgs.Int n)) (took_same g.ends g.todo (msgs.Int n) tt)
 binds_taken ps zs g fit (msgs.Bool n) h = binds_same g (took_of g (msgs.Bool n)) (took_same g.ends g.todo (msgs.Bool n) tt)
