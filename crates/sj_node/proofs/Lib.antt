@@ -14,4 +14,5 @@ pub mod RowLemmas
 pub mod SignalLemmas
 pub mod SlotLemmas
 pub mod StartingLemmas
+pub mod TakeLemmas
 pub mod UnfitLemmas
