@@ -1,5 +1,5 @@
 # Writes a file of 65,536 bytes of the kind that `-v kind=` names: lets, ifs, sessions, handed, loops, held,
-# beside, passed, turns, arms, variables, labels.
+# beside, passed, turns, arms, alike, variables, known, wide, labels.
 
 # A text of n pieces, the one and the other in turn.
 function many(n, odd, even,    text, i) {
@@ -78,29 +78,36 @@ function passing(head, each,    k, i, piece, body) {
         body = body piece
     }
 }
-# As many as fit of `inbranch`es of 16 empty arms, on 64 ends in turn.
-function branching(n,    i, l, labels, arms, head, k, piece, body) {
+# As many as fit of `inbranch`es of 16 empty arms, on 64 ends in turn, behind `front` and, in the file, `more`.
+# Each arm of the choices has the text `sent` or `taken`, and `behind` stands behind each `inbranch`.
+function branching(n, more, front, sent, taken, behind,    i, l, outs, ins, arms, head, k, piece, body) {
     for (i = 1; i <= 16; i++) {
         l = substr("abcdefghijklmnop", i, 1)
-        labels = labels (i > 1 ? "," : "") l ":"
+        outs = outs (i > 1 ? "," : "") l ":" sent
+        ins = ins (i > 1 ? "," : "") l ":" taken
         arms = arms l ":{}"
     }
-    head = protocol("p", many(n, ".!{" labels "}", ".!{" labels "}")) protocol("q", many(n, ".?{" labels "}", ".?{" labels "}"))
+    head = more protocol("p", many(n, ".!{" outs "}", ".!{" outs "}")) protocol("q", many(n, ".?{" ins "}", ".?{" ins "}"))
+    body = front
     while (1) {
-        piece = "inbranch y" k++ % 64 "{" arms "}"
+        piece = "inbranch y" k % 64 "{" arms "}" (behind ? "recv y" k % 64 " n int;" : "")
+        k++
         if (length(alone(head, body piece)) > size) return alone(head, body)
         body = body piece
     }
 }
+# A protocol whose choices name n labels.
+function naming(n,    k, text) {
+    for (k = 0; k < n; k++) text = text (k % 16 ? "," : k ? "}.!{" : ".!{") name(k) ":"
+    return protocol("r", text "}")
+}
+function given(n,    k, text) { for (k = 0; k < n; k++) text = text "let " name(k) "=1;"; return text }
 # The k-th of many short names.
 function name(k,    letters) {
     letters = "abcdefghijklmnopqrstuvwxyzABCDEFGHIJKLMNOPQRSTUVWXYZ"
     return substr(letters, k % 52 + 1, 1) substr(letters, int(k / 52) % 52 + 1, 1) (k < 2704 ? "" : substr(letters, int(k / 2704), 1)) "_"
 }
-function variables(n,    k, text) {
-    for (k = 0; k < n; k++) text = text "let " name(k) "=1;"
-    return "party a{" text filling("party a{" text "}\n", ifs()) "}\n"
-}
+function variables(n) { return "party a{" given(n) filling("party a{" given(n) "}\n", ifs()) "}\n" }
 function labels(    k, head, tail, body) {
     head = protocol("p", ".?{a:}") protocol("q", ".!{a:}") "party a{inbranch x{"
     tail = "}}\nparty b{}\nconnect a x p to b y q;\n"
@@ -119,6 +126,9 @@ BEGIN {
     if (kind == "passed") text = passing(turns(1024), 1)
     if (kind == "turns") text = passing(turns(1024), 128)
     if (kind == "arms") text = branching(60)
+    if (kind == "alike") text = branching(60, "", "", "!<int>", "?(int)", 1)
+    if (kind == "known") text = branching(60, "", given(2500))
+    if (kind == "wide") text = branching(60, naming(5500), "let z_=1;")
     if (kind == "variables") text = variables(2500)
     if (kind == "labels") text = labels()
     printf "%s%*s", text, size - length(text), ""
