@@ -4,6 +4,7 @@
 
 ghost use Rattle.std.specs.Prelude.{◌≤◌, length, IfSome};
 ghost use Rattle.bench_core.specs.Drains.{HasEvents};
+ghost use Rattle.sj_lang.specs.Limits.{file_limit};
 
 use sj_base::{ReadSource, read_all};
 use sj_check::check;
@@ -14,7 +15,7 @@ use std::process::ExitCode;
 
 /// How many events a drain has from the start of the file on, where that is accepted.
 fn events_in(alloc: Global, bytes: &[u8]) -> Option<usize>
-    requires { length bytes.now ≤ 65536 }
+    requires { length bytes.now ≤ file_limit }
     ensures { IfSome result (HasEvents bytes.now) }
 {
     let Ok(file) = parse_file(alloc, bytes) else {

@@ -4,6 +4,7 @@
 
 ghost use Rattle.std.specs.Prelude.{◌≡◌, ◌≤◌, length, IfOk};
 ghost use Rattle.sj_lang.specs.FileAt.{FileAt};
+ghost use Rattle.sj_lang.specs.Limits.{file_limit};
 ghost use Rattle.sj_grammar.specs.Files.{IsFile};
 
 use sj_base::{ReadSource, read_all};
@@ -13,7 +14,7 @@ use std::process::ExitCode;
 
 /// How many protocols, parties and connections the file has.
 fn parts_in(alloc: Global, bytes: &[u8]) -> Result<(usize, usize, usize), ParseRefusal>
-    requires { length bytes.now ≤ 65536 }
+    requires { length bytes.now ≤ file_limit }
     ensures { IfOk result (λ n. (f : FileAt) × IsFile bytes.now f × (n.0 ≡ length f.protocols)
         × (n.1 ≡ length f.parties) × (n.2 ≡ length f.connects)) }
 {

@@ -22,11 +22,6 @@ abbrev pub is_loop : Way → Place → Bool
 is_loop w (repeat v body rest) = is_same_way v w
 is_loop w _ = false
 
--- nothing is ahead
-abbrev pub is_done : Place → Bool
-is_done done = true
-is_done _ = false
-
 -- what the first message carries
 abbrev pub carried : Place → Carried
 carried (message w k rest) = k

@@ -8,12 +8,13 @@ use Rattle.sj_lang.specs.Term.{Term}
 use Rattle.sj_lang.specs.Code.{Code, StmtAt, DeedAt, Branches, no_stmt, stmt_then, at, send, delegate, take_value, take_end, outbranch, inbranch, outwhile, inwhile, relay, if_else, let_be, close, no_branch, branch}
 use Rattle.sj_lang.specs.FileAt.{ProtocolAt, protocol_named}
 use Rattle.sj_lang.specs.After.{at_label}
+use Rattle.sj_lang.specs.ItemCount.{is_done}
 use Rattle.sj_acceptance.specs.EnvAt.{EnvAt, with_live, without_live, with_known, is_live, is_known, place_at}
 use Rattle.sj_acceptance.specs.Arms.{common, is_one, common_env}
 use Rattle.sj_acceptance.specs.Sameness.{is_same_kind, is_same_ends}
 use Rattle.sj_acceptance.specs.Faults.{Test}
 use Rattle.sj_acceptance.specs.KindTests.{kind_of, term_tests, is_free_for}
-use Rattle.sj_acceptance.specs.FirstItem.{is_message, is_choice, is_loop, is_done, carried, choices, rest_of, turn_of, arm_place, is_carried_as, is_session, is_session_of}
+use Rattle.sj_acceptance.specs.FirstItem.{is_message, is_choice, is_loop, carried, choices, rest_of, turn_of, arm_place, is_carried_as, is_session, is_session_of}
 use Rattle.sj_acceptance.specs.Labels.{branch_labels}
 use Rattle.sj_acceptance.specs.LabelTests.{are_labels_of}
 use Rattle.sj_acceptance.specs.Rules.{no_protocol, name_in_use, not_there, other_action, other_kind, no_label, arms_differ, turn_differs, closed_early, not_to_delegate, other_arms}

@@ -9,12 +9,13 @@ use Rattle.sj_lang.specs.Place as place
 use Rattle.sj_lang.specs.After.{followed_by, at_label}
 use Rattle.sj_lang.specs.Code.{outbranch, delegate}
 use Rattle.sj_lang.specs.FileAt.{ProtocolAt}
+use Rattle.sj_lang.specs.ItemCount.{is_done}
 use Rattle.sj_acceptance.specs.Environment.{Env, at_place, without_end}
 use Rattle.sj_acceptance.specs.EnvAt.{EnvAt, env_of, with_live, without_live}
 use Rattle.sj_acceptance.specs.Statements.{IsSelect, IsDelegate}
 use Rattle.sj_acceptance.specs.Faults.{Test, first_fault}
 use Rattle.sj_acceptance.specs.Sameness.{is_same_place}
-use Rattle.sj_acceptance.specs.FirstItem.{is_message, is_choice, is_done, is_session, is_session_of, carried, choices, rest_of, arm_place}
+use Rattle.sj_acceptance.specs.FirstItem.{is_message, is_choice, is_session, is_session_of, carried, choices, rest_of, arm_place}
 use Rattle.sj_acceptance.specs.Tests.{deed_tests, after_deed}
 use Rattle.sj_acceptance_laws.proofs.FaultLemmas.{first_passes}
 use Rattle.sj_acceptance_laws.proofs.SamenessLemmas.{is_same_place-Decides}

@@ -7,13 +7,14 @@ use Rattle.sj_lang.specs.Term.{Term}
 use Rattle.sj_lang.specs.Place.{Place, done, message, choice, repeat}
 use Rattle.sj_lang.specs.Code.{send, close, let_be}
 use Rattle.sj_lang.specs.FileAt.{ProtocolAt}
+use Rattle.sj_lang.specs.ItemCount.{is_done}
 use Rattle.sj_acceptance.specs.Environment.{Env}
 use Rattle.sj_acceptance.specs.EnvAt.{EnvAt, env_of, with_live, without_live, with_known}
 use Rattle.sj_acceptance.specs.Kinds.{carried_by}
 use Rattle.sj_acceptance.specs.Statements.{IsSend, IsClose, IsLet}
 use Rattle.sj_acceptance.specs.Faults.{Test, first_fault}
 use Rattle.sj_acceptance.specs.KindTests.{kind_of, term_tests, is_free_for}
-use Rattle.sj_acceptance.specs.FirstItem.{is_message, is_done, carried, rest_of, is_carried_as}
+use Rattle.sj_acceptance.specs.FirstItem.{is_message, carried, rest_of, is_carried_as}
 use Rattle.sj_acceptance.specs.Tests.{deed_tests, after_deed}
 use Rattle.sj_acceptance_laws.proofs.FaultLemmas.{first_passes, all_pass, pass_both}
 use Rattle.sj_acceptance_laws.proofs.KindLaws.{has_kind, kind_passes, carried_is, carried_by-passes, free_kind, free_passes}

@@ -18,7 +18,7 @@ use Rattle.sj_semantics.specs.Fitting.{fits}
 use Rattle.sj_semantics.specs.World.{World, act_of, fresh, session_of, program_of, programs_from, start_of}
 use Rattle.sj_semantics.specs.Ends.{Session, end_on, nowhere, other_end, end_at, next_for}
 use Rattle.sj_semantics.specs.Run.{after_acts, IsRun}
-use Rattle.sj_semantics.proofs.FittingLemmas.{fits_where_it_takes}
+use Rattle.sj_semantics.proofs.FittingLemmas.{fits_by_statement}
 use Rattle.sj_semantics_laws.proofs.RunLemmas.{between}
 use Rattle.sj_semantics_laws.proofs.StartLemmas.{start_is_unshared}
 use Rattle.sj_accepted_laws.proofs.KnownLemmas.{forgets_none}
@@ -147,7 +147,7 @@ sound_is_balanced ps w s sound = by (sound.pairs s).even
 pub next_fits : (ps : List ProtocolAt) (w : World) (p : ℕ) (g : Program) (e : EndId) (a : Awaits) (x : Passed) → Sound ps w → slice_get w.parties p ≡ Some g → want_of g ≡ Some (wants.Take e a) → next_for w.sessions e ≡ Some x → fits g x.msg ≡ true
 next_fits ps w p g e a x sound there want h =
     let t = pair_taking w.sessions (end_at w.sessions e) (end_at w.sessions (other_end e)) x (pair_of w.sessions w.sessions e sound.pairs) h in
-    fits_where_it_takes g x.msg e a want (fits_want ps w.sessions g (wants.Take e a) (sound.programs p g there) want x.msg t.next t.after t.fits).can_take
+    sym (fits_by_statement g x.msg e a want) ∙ (fits_want ps w.sessions g (wants.Take e a) (sound.programs p g there) want x.msg t.next t.after t.fits).can_take
 
 pub never_stuck : (ps : List ProtocolAt) (w : World) (p : ℕ) (g : Program) → Sound ps w → slice_get w.parties p ≡ Some g → (want : Want) × (want_of g ≡ Some want)
 never_stuck ps w p g sound there = let st = fits_step ps w.sessions g (sound.programs p g there) in (st.want, st.wants_it)

@@ -6,7 +6,6 @@ pub mod ItemLemmas
 pub mod MapLemmas
 pub mod NamedLemmas
 pub mod OnceLemmas
-pub mod PlaceLemmas
 pub mod SeenLemmas
 pub mod TableLemmas
 pub mod TermLemmas

@@ -3,7 +3,6 @@ use Rattle.std.proofs.Common.{◌≡◌, ℕ, List, [], ◌∷◌, Option, Some,
 use Rattle.std.specs.Ordering.{nat_cmp, eq_by_cmp}
 use Rattle.std.specs.Cmp.{nat_cmp_total, unsigned_tied}
 use Rattle.std.specs.FinMap.{FinMap, get, insert, remove, empty, entries, find, same_map, get-entries, get-from_entries, get-insert, get-remove, get-empty, nat_cmp-IsAntisymmetric}
-use Rattle.sj_lang.specs.Place.{Place}
 use Rattle.sj_table.specs.declared.table.Spot.{Spot}
 use Rattle.sj_table.specs.declared.table.Table.{Table}
 use Rattle.sj_table.specs.Spots.{place_in}
@@ -19,7 +18,7 @@ use Rattle.sj_check.specs.Known.{places_at, no_spots}
 use Rattle.sj_check.specs.Seen.{env_in}
 use Rattle.sj_check.specs.Maps.{map_at}
 use Rattle.sj_check.proofs.FaultLemmas.{first_fault-append}
-use Rattle.sj_check.proofs.MapLemmas.{get-map_at, insert-remove, get-remove_other}
+use Rattle.sj_check.proofs.MapLemmas.{get-map_at}
 use Rattle.std.proofs.lemmas.List.{append_assoc, append-nil}
 
 find_mapped : {X Y : Type 0} (f : X → Y) (es : List (ℕ × X)) (q : ℕ) → find nat_cmp q (map (λ e. (e.0, f e.1)) es) ≡ option_map f (find nat_cmp q es)
@@ -75,6 +74,6 @@ has_none_live t es r h = same_from_decides r (is_same_ends (places_at t (map_at 
 
 pub ruleset seen = (get-places_at, places_at-insert, places_at-remove, places_at-empty)
 
-pub ruleset steps = (get-places_at, places_at-insert, places_at-remove, places_at-empty, first_fault-append, insert-remove, get-remove_other)
+pub ruleset steps = (get-places_at, places_at-insert, places_at-remove, places_at-empty, first_fault-append)
 
 pub ruleset named = (get-places_at, append_assoc, append-nil)

@@ -1,9 +1,6 @@
 -- What spots and environments stand for, over the protocols of a file.
 use Rattle.std.specs.Prelude.{List}
 use Rattle.sj_lang.specs.FileAt.{ProtocolAt}
-use Rattle.sj_lang.specs.Place.{Place}
-use Rattle.sj_table.specs.declared.table.Spot.{Spot}
-use Rattle.sj_table.specs.Spots.{place_in}
 use Rattle.sj_acceptance.specs.EnvAt.{EnvAt}
 use Rattle.sj_check.specs.declared.compiled.Protocols.{Protocols}
 use Rattle.sj_check.specs.Known.{SpotEnv, places_at}
@@ -12,10 +9,6 @@ use Rattle.sj_check.specs.Views.{protocols_of}
 -- the protocols
 abbrev pub defs_in : Protocols → List ProtocolAt
 defs_in p = protocols_of p.defs.now
-
--- the place for which a spot stands
-abbrev pub place_of_spot : Protocols → Spot → Place
-place_of_spot p s = place_in p.table s
 
 -- the environment with places for spots
 abbrev pub env_in : Protocols → SpotEnv → EnvAt

@@ -3,7 +3,7 @@ ghost use Rattle.std.specs.Prelude.{◌≡◌, ◌<◌, ℕ, IfOk, option_map};
 ghost use Rattle.std.specs.Coded.{Coded-set};
 ghost use Rattle.sj_lang.specs.FileAt.{body_named, protocol_named};
 ghost use Rattle.sj_lang.specs.PlaceCode.{coded_place};
-ghost use Rattle.sj_table.specs.Nodes.{nodes_of};
+ghost use Rattle.sj_table.specs.Nodes.{nodes_of, limit_of_nodes};
 ghost use Rattle.sj_table.specs.Spots.{place_in, start_in};
 ghost use Rattle.sj_check.specs.Views.{protocols_of};
 
@@ -25,7 +25,7 @@ impl<'a> Protocols<'a> {
     ghost use Rattle.sj_check.specs.Seen.{defs_in};
 
     pub fn compiled(alloc: Global, defs: &'a [ProtocolDef]) -> Result<Protocols<'a>, NoMemory>
-        requires { nodes_of (protocols_of defs.now) < 4294967295 }
+        requires { nodes_of (protocols_of defs.now) < limit_of_nodes }
         ensures { IfOk result (λ p. defs_in p ≡ protocols_of defs.now) }
     {
         let table = Table::compile(alloc, defs)?;

@@ -17,7 +17,7 @@ use crate::compiled::Protocols;
 use crate::env::Env;
 use crate::files::is_party;
 use crate::places::{body_named, is_same};
-use crate::rules::{NAME_IN_USE, NO_PARTY, NO_PROTOCOL, NOT_DUAL};
+use crate::rules::{NAME_IN_USE, NO_PARTY, NO_PROTOCOL, NOT_DUAL, broken};
 use sj_base::NoMemory;
 use sj_lang::{Connect, EndDecl, Party, Proto, ProtocolDef, dual};
 use std::alloc::Global;
@@ -60,10 +60,7 @@ fn connection(
     let taken = is_taken(earlier, &connect.second) || is_same_end(&connect.first, &connect.second);
     let second = connected(parties, protocols, line, taken, &connect.second)?;
     if !is_same(first, &dual(alloc, second)?) {
-        return Err(CheckRefusal::At {
-            rule: NOT_DUAL,
-            line,
-        });
+        return Err(broken(NOT_DUAL, line));
     }
     Ok(())
 }
@@ -83,22 +80,13 @@ fn connected<'a>(
     ensures cause { IfErr result IsFault }
 {
     if !is_party(parties, end.party) {
-        return Err(CheckRefusal::At {
-            rule: NO_PARTY,
-            line,
-        });
+        return Err(broken(NO_PARTY, line));
     }
     let Some(body) = body_named(protocols, end.protocol) else {
-        return Err(CheckRefusal::At {
-            rule: NO_PROTOCOL,
-            line,
-        });
+        return Err(broken(NO_PROTOCOL, line));
     };
     if taken {
-        return Err(CheckRefusal::At {
-            rule: NAME_IN_USE,
-            line,
-        });
+        return Err(broken(NAME_IN_USE, line));
     }
     Ok(body)
 }

@@ -15,7 +15,7 @@ use crate::CheckRefusal;
 use crate::compiled::Protocols;
 use crate::ends::{at_start, connections};
 use crate::once::names_once;
-use crate::rules::{LEFT_OPEN, NAME_IN_USE};
+use crate::rules::{LEFT_OPEN, NAME_IN_USE, broken};
 use crate::walk::block;
 use sj_lang::{Connect, File, Party, ProtocolDef};
 use std::alloc::Global;
@@ -40,10 +40,7 @@ fn protocols_apart(protocols: &[ProtocolDef]) -> Result<(), CheckRefusal>
     for i in 0..protocols.len() {
         let protocol = &protocols[i];
         if is_protocol(&protocols[..i], protocol.name) || !names_once(&protocol.body) {
-            return Err(CheckRefusal::At {
-                rule: NAME_IN_USE,
-                line: protocol.line,
-            });
+            return Err(broken(NAME_IN_USE, protocol.line));
         }
     }
     Ok(())
@@ -67,10 +64,7 @@ fn parties_apart(parties: &[Party]) -> Result<(), CheckRefusal>
     for i in 0..parties.len() {
         let party = &parties[i];
         if is_party(&parties[..i], party.name) {
-            return Err(CheckRefusal::At {
-                rule: NAME_IN_USE,
-                line: party.line,
-            });
+            return Err(broken(NAME_IN_USE, party.line));
         }
     }
     Ok(())
@@ -114,10 +108,7 @@ fn body(
     let mut env = at_start(alloc, protocols, connects, party.name)?;
     block(protocols, &mut env, &party.body)?;
     if !env.has_no_ends() {
-        return Err(CheckRefusal::At {
-            rule: LEFT_OPEN,
-            line: party.line,
-        });
+        return Err(broken(LEFT_OPEN, party.line));
     }
     Ok(())
 }

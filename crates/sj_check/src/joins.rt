@@ -19,7 +19,7 @@ use crate::env::Env;
 use crate::kinds::{expr_kind, same_kind};
 use crate::named::has_same_ends_at;
 use crate::places::is_choice;
-use crate::rules::{ARMS_DIFFER, NOT_THERE, OTHER_ACTION, OTHER_ARMS, OTHER_KIND};
+use crate::rules::{ARMS_DIFFER, NOT_THERE, OTHER_ACTION, OTHER_ARMS, OTHER_KIND, broken};
 use sj_lang::{Expr, Scalar, StmtArm, Way};
 use std::collections::BTreeSet;
 
@@ -35,22 +35,13 @@ pub fn branching(
         Judges (branching_tests line (env_in protocols.now env.now) end bs) result }
 {
     let Some(spot) = env.spot(end) else {
-        return Err(CheckRefusal::At {
-            rule: NOT_THERE,
-            line,
-        });
+        return Err(broken(NOT_THERE, line));
     };
     if !is_choice(Way::Into, &protocols.table, spot) {
-        return Err(CheckRefusal::At {
-            rule: OTHER_ACTION,
-            line,
-        });
+        return Err(broken(OTHER_ACTION, line));
     }
     if !env.has_arms(&protocols.table, spot, arms)? {
-        return Err(CheckRefusal::At {
-            rule: OTHER_ARMS,
-            line,
-        });
+        return Err(broken(OTHER_ARMS, line));
     }
     Ok(())
 }
@@ -69,10 +60,7 @@ pub fn tested(env: &Env, line: u32, test: &Expr) -> Result<Env, CheckRefusal>
 {
     let kind = expr_kind(env.variables(), line, test)?;
     if !same_kind(kind, Scalar::Boolean) {
-        return Err(CheckRefusal::At {
-            rule: OTHER_KIND,
-            line,
-        });
+        return Err(broken(OTHER_KIND, line));
     }
     Ok(env.copied()?)
 }
@@ -95,10 +83,7 @@ pub fn join(
     ensures cause { IfErr result IsFault }
 {
     if !has_same_ends_at(protocols, env, other, named) {
-        return Err(CheckRefusal::At {
-            rule: ARMS_DIFFER,
-            line,
-        });
+        return Err(broken(ARMS_DIFFER, line));
     }
     env.keep_common(other);
     Ok(())

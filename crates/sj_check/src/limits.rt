@@ -24,7 +24,7 @@ pub fn is_within_limits(file: &File) -> bool
 }
 
 fn are_small(protocols: &[ProtocolDef]) -> bool
-    ensures { IsTrue result ↔ AllByRecursion (λ p. item_count p.body ≤ 1024) (protocols_of protocols.now) }
+    ensures { IsTrue result ↔ AllByRecursion (λ p. item_count p.body ≤ limits.items) (protocols_of protocols.now) }
 {
     for protocol in protocols {
         if !is_small(&protocol.body) {
@@ -35,7 +35,7 @@ fn are_small(protocols: &[ProtocolDef]) -> bool
 }
 
 fn is_small(p: &Proto) -> bool
-    ensures { IsTrue result ↔ (item_count p.now ≤ 1024) }
+    ensures { IsTrue result ↔ (item_count p.now ≤ limits.items) }
 {
     room_behind(p, 1024).is_some()
 }

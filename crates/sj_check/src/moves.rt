@@ -4,7 +4,8 @@
 ghost use Rattle.std.specs.Prelude.{◌≡◌, IfOk, OnOk};
 ghost use Rattle.sj_acceptance.specs.EnvAt.{with_live, place_at};
 ghost use Rattle.sj_acceptance.specs.FirstItem.{turn_of, rest_of, arm_place};
-ghost use Rattle.sj_check.specs.Seen.{env_in, place_of_spot};
+ghost use Rattle.sj_check.specs.Seen.{env_in};
+ghost use Rattle.sj_table.specs.Spots.{place_in};
 
 use crate::compiled::Protocols;
 use crate::env::Env;
@@ -14,7 +15,7 @@ use sj_table::Spot;
 
 // The spot of the end, and that of the empty place where it isn't live.
 fn spot_at(protocols: &Protocols, env: &Env, end: u16) -> Spot
-    ensures { place_of_spot protocols.now result ≡ place_at (env_in protocols.now env.now) end }
+    ensures { place_in protocols.now.table result ≡ place_at (env_in protocols.now env.now) end }
 {
     match env.spot(end) {
         Some(spot) => spot,

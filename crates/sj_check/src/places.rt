@@ -1,5 +1,5 @@
 //! What stands first at a spot.
-ghost use Rattle.std.specs.Prelude.{◌≡◌, false, true, None, is_some, MatchOption, IsTrue};
+ghost use Rattle.std.specs.Prelude.{◌≡◌, false, true, None, is_some, MatchOption};
 ghost use Rattle.sj_lang.specs.declared.proto.Way.TheVariants as ways;
 ghost use Rattle.sj_lang.specs.Place.{message};
 ghost use Rattle.sj_lang.specs.View.{carried_of};
@@ -14,13 +14,6 @@ ghost use Rattle.sj_check.specs.Views.{protocols_of};
 use sj_base::Msg;
 use sj_lang::{Item, Kind, Proto, ProtocolDef, Way, same};
 use sj_table::{Spot, Table};
-
-/// Whether nothing is ahead.
-pub fn is_done(table: &Table, spot: Spot) -> bool
-    ensures { result ≡ places.is_done (place_in table.now spot) }
-{
-    table.split(spot).is_none()
-}
 
 /// What is to be sent next, and what follows.
 pub fn sending(table: &Table, spot: Spot) -> Option<(&Kind, Spot)>

@@ -1,4 +1,8 @@
-//! The numbers of the rules, as refusals tell them.
+//! The numbers of the rules, and the refusal that tells one.
+ghost use Rattle.std.specs.Prelude.{◌≡◌};
+ghost use Rattle.sj_check.specs.declared.refusal.CheckRefusal.TheVariants.{At};
+
+use crate::CheckRefusal;
 
 /// No protocol of that name.
 pub const NO_PROTOCOL: u8 = 1;
@@ -41,3 +45,10 @@ pub const NOT_TO_DELEGATE: u8 = 13;
 
 /// The arms aren't the labels of the choice, each once, or there are none.
 pub const OTHER_ARMS: u8 = 14;
+
+/// The refusal of a file that breaks the rule at that line.
+pub fn broken(rule: u8, line: u32) -> CheckRefusal
+    ensures { result ≡ At rule line }
+{
+    CheckRefusal::At { rule, line }
+}

@@ -1,20 +1,20 @@
 //! The statements without a block.
 #![tactic(auto, using(crate::proofs::SeenLemmas::steps))]
 
-ghost use Rattle.std.specs.Prelude.{[]};
+ghost use Rattle.std.specs.Prelude.{[], IfErr};
 ghost use Rattle.sj_lang.specs.CodeView.{term_of};
 ghost use Rattle.sj_lang.specs.Code as code;
 ghost use Rattle.sj_check.specs.Seen.{defs_in, env_in};
-ghost use Rattle.sj_check.specs.Told.{Does};
+ghost use Rattle.sj_check.specs.Told.{Does, IsFault};
 
 use crate::CheckRefusal;
 use crate::compiled::Protocols;
 use crate::env::Env;
 use crate::kinds::{carries_as, expr_kind, is_free_for};
-use crate::places::{is_choice, is_done, is_session, is_session_of, selected, sending, taking};
+use crate::places::{is_choice, is_session, is_session_of, selected, sending, taking};
 use crate::rules::{
     CLOSED_EARLY, NAME_IN_USE, NO_LABEL, NO_PROTOCOL, NOT_THERE, NOT_TO_DELEGATE, OTHER_ACTION,
-    OTHER_KIND,
+    OTHER_KIND, broken,
 };
 use sj_lang::{Expr, Scalar, Way};
 
@@ -29,42 +29,28 @@ pub fn send(
         Does [] line deed (env_in protocols.now env.old) (env_in protocols.now env.new) result }
 {
     let Some(spot) = env.spot(end) else {
-        return Err(CheckRefusal::At {
-            rule: NOT_THERE,
-            line,
-        });
+        return Err(broken(NOT_THERE, line));
     };
     let Some((wanted, rest)) = sending(&protocols.table, spot) else {
-        return Err(CheckRefusal::At {
-            rule: OTHER_ACTION,
-            line,
-        });
+        return Err(broken(OTHER_ACTION, line));
     };
     let kind = expr_kind(env.variables(), line, value)?;
     if !carries_as(kind, wanted) {
-        return Err(CheckRefusal::At {
-            rule: OTHER_KIND,
-            line,
-        });
+        return Err(broken(OTHER_KIND, line));
     }
     env.put_spot(end, rest)?;
     Ok(())
 }
 
 pub fn close(protocols: &Protocols, env: &mut Env, line: u32, end: u16) -> Result<(), CheckRefusal>
-    ensures { Does [] line (code.close end) (env_in protocols.now env.old) (env_in protocols.now env.new) result }
+    ensures does { Does [] line (code.close end) (env_in protocols.now env.old) (env_in protocols.now env.new) result }
+    ensures cause { IfErr result IsFault }
 {
     let Some(spot) = env.spot(end) else {
-        return Err(CheckRefusal::At {
-            rule: NOT_THERE,
-            line,
-        });
+        return Err(broken(NOT_THERE, line));
     };
-    if !is_done(&protocols.table, spot) {
-        return Err(CheckRefusal::At {
-            rule: CLOSED_EARLY,
-            line,
-        });
+    if !protocols.table.is_done(spot) {
+        return Err(broken(CLOSED_EARLY, line));
     }
     env.remove(end);
     Ok(())
@@ -81,46 +67,25 @@ pub fn delegate(
         Does [] line deed (env_in protocols.now env.old) (env_in protocols.now env.new) result }
 {
     let Some(spot) = env.spot(end) else {
-        return Err(CheckRefusal::At {
-            rule: NOT_THERE,
-            line,
-        });
+        return Err(broken(NOT_THERE, line));
     };
     let Some(given) = env.spot(sent) else {
-        return Err(CheckRefusal::At {
-            rule: NOT_THERE,
-            line,
-        });
+        return Err(broken(NOT_THERE, line));
     };
     if end == sent {
-        return Err(CheckRefusal::At {
-            rule: NOT_TO_DELEGATE,
-            line,
-        });
+        return Err(broken(NOT_TO_DELEGATE, line));
     }
     let Some((wanted, follows)) = sending(&protocols.table, spot) else {
-        return Err(CheckRefusal::At {
-            rule: OTHER_ACTION,
-            line,
-        });
+        return Err(broken(OTHER_ACTION, line));
     };
     if !is_session(wanted) {
-        return Err(CheckRefusal::At {
-            rule: OTHER_KIND,
-            line,
-        });
+        return Err(broken(OTHER_KIND, line));
     }
-    if is_done(&protocols.table, given) {
-        return Err(CheckRefusal::At {
-            rule: NOT_TO_DELEGATE,
-            line,
-        });
+    if protocols.table.is_done(given) {
+        return Err(broken(NOT_TO_DELEGATE, line));
     }
     if !is_session_of(&protocols.table, given, wanted) {
-        return Err(CheckRefusal::At {
-            rule: OTHER_KIND,
-            line,
-        });
+        return Err(broken(OTHER_KIND, line));
     }
     env.remove(sent);
     env.put_spot(end, follows)?;
@@ -139,34 +104,19 @@ pub fn take_value(
         Does [] line deed (env_in protocols.now env.old) (env_in protocols.now env.new) result }
 {
     let Some(spot) = env.spot(end) else {
-        return Err(CheckRefusal::At {
-            rule: NOT_THERE,
-            line,
-        });
+        return Err(broken(NOT_THERE, line));
     };
     let Some((wanted, rest)) = taking(&protocols.table, spot) else {
-        return Err(CheckRefusal::At {
-            rule: OTHER_ACTION,
-            line,
-        });
+        return Err(broken(OTHER_ACTION, line));
     };
     if !carries_as(kind, wanted) {
-        return Err(CheckRefusal::At {
-            rule: OTHER_KIND,
-            line,
-        });
+        return Err(broken(OTHER_KIND, line));
     }
     if env.is_live(into) {
-        return Err(CheckRefusal::At {
-            rule: NAME_IN_USE,
-            line,
-        });
+        return Err(broken(NAME_IN_USE, line));
     }
     if !is_free_for(env.kind(into), kind) {
-        return Err(CheckRefusal::At {
-            rule: OTHER_KIND,
-            line,
-        });
+        return Err(broken(OTHER_KIND, line));
     }
     env.put_spot(end, rest)?;
     env.put_kind(into, kind)?;
@@ -186,34 +136,19 @@ pub fn take_end(
         Does (defs_in protocols.now) line deed old (env_in protocols.now env.new) result }
 {
     let Some(spot) = env.spot(end) else {
-        return Err(CheckRefusal::At {
-            rule: NOT_THERE,
-            line,
-        });
+        return Err(broken(NOT_THERE, line));
     };
     let Some(start) = protocols.start(protocol) else {
-        return Err(CheckRefusal::At {
-            rule: NO_PROTOCOL,
-            line,
-        });
+        return Err(broken(NO_PROTOCOL, line));
     };
     let Some((wanted, rest)) = taking(&protocols.table, spot) else {
-        return Err(CheckRefusal::At {
-            rule: OTHER_ACTION,
-            line,
-        });
+        return Err(broken(OTHER_ACTION, line));
     };
     if !is_session_of(&protocols.table, start, wanted) {
-        return Err(CheckRefusal::At {
-            rule: OTHER_KIND,
-            line,
-        });
+        return Err(broken(OTHER_KIND, line));
     }
     if env.is_live(into) || env.is_known(into) {
-        return Err(CheckRefusal::At {
-            rule: NAME_IN_USE,
-            line,
-        });
+        return Err(broken(NAME_IN_USE, line));
     }
     env.put_spot(end, rest)?;
     env.put_spot(into, start)?;
@@ -231,22 +166,13 @@ pub fn select(
         Does [] line deed (env_in protocols.now env.old) (env_in protocols.now env.new) result }
 {
     let Some(spot) = env.spot(end) else {
-        return Err(CheckRefusal::At {
-            rule: NOT_THERE,
-            line,
-        });
+        return Err(broken(NOT_THERE, line));
     };
     if !is_choice(Way::Out, &protocols.table, spot) {
-        return Err(CheckRefusal::At {
-            rule: OTHER_ACTION,
-            line,
-        });
+        return Err(broken(OTHER_ACTION, line));
     }
     let Some(arm) = selected(&protocols.table, spot, label) else {
-        return Err(CheckRefusal::At {
-            rule: NO_LABEL,
-            line,
-        });
+        return Err(broken(NO_LABEL, line));
     };
     env.put_spot(end, arm)?;
     Ok(())
@@ -264,16 +190,10 @@ pub fn let_be(
 {
     let kind = expr_kind(env.variables(), line, value)?;
     if env.is_live(name) {
-        return Err(CheckRefusal::At {
-            rule: NAME_IN_USE,
-            line,
-        });
+        return Err(broken(NAME_IN_USE, line));
     }
     if !is_free_for(env.kind(name), kind) {
-        return Err(CheckRefusal::At {
-            rule: OTHER_KIND,
-            line,
-        });
+        return Err(broken(OTHER_KIND, line));
     }
     env.put_kind(name, kind)?;
     Ok(())

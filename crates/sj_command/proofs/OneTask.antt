@@ -6,7 +6,7 @@ use Rattle.std.proofs.lemmas.Fmt.{decimal_injective}
 use Rattle.clap.specs.Words.{Text}
 use Rattle.sj_command.specs.declared.tasks.Task.{Task}
 use Rattle.sj_command.specs.declared.tasks.Task.TheVariants.{Check, Show, Sim, Run, Replay, Make, Big}
-use Rattle.sj_command.specs.Task.{Asks, LineAt, Means, StandsForLooks, flag_text}
+use Rattle.sj_command.specs.Task.{Asks, LineAt, Means, StandsForLooks, flag_text, most_looks, most_messages}
 
 -- the name of a task's command
 abbrev name_of : Task → Text
@@ -54,7 +54,7 @@ one_flag true false e = absurd (flags_differ (sym e))
 one_flag true true e = refl
 
 -- two numbers up to a million that are written alike are one
-one_number : (m n : ℕ) → m ≤ 1000000 → n ≤ 1000000 → decimal m ≡ decimal n → m ≡ n
+one_number : (m n : ℕ) → m ≤ most_looks → n ≤ most_looks → decimal m ≡ decimal n → m ≡ n
 one_number m n p q e = decimal_injective m n (omega arith) (omega arith) e
 
 -- the option stands for one number of looks
@@ -63,7 +63,7 @@ one_count None m n a b = a ∙ sym b
 one_count (Some text) m n a b = one_number m n a.1 b.1 (sym a.0 ∙ b.0)
 
 -- a line has one number up to 1,000
-same_count : (l : LineAt) (n m : ℕ) → l.number ≡ Some (decimal n) → l.number ≡ Some (decimal m) → n ≤ 1000 → m ≤ 1000 → n ≡ m
+same_count : (l : LineAt) (n m : ℕ) → l.number ≡ Some (decimal n) → l.number ≡ Some (decimal m) → n ≤ most_messages → m ≤ most_messages → n ≡ m
 same_count l n m a b few few_too =
     let both : Some (decimal n) ≡ Some (decimal m) = sym a ∙ b in
     let digits : decimal n ≡ decimal m = cc in
@@ -111,7 +111,7 @@ one_of_line l (Make n) Show a b = absurd (apart l (Make n) Show refl refl a b)
 one_of_line l (Make n) Sim a b = absurd (apart l (Make n) Sim refl refl a b)
 one_of_line l (Make n) (Run g y) a b = absurd (apart l (Make n) (Run g y) refl refl a b)
 one_of_line l (Make n) (Replay g) a b = absurd (apart l (Make n) (Replay g) refl refl a b)
-one_of_line l (Make n) (Make m) a b = ap (λ k. Make k) (same_count l n m (ap (λ k. k.number) a.0) (ap (λ k. k.number) b.0) a.2 b.2)
+one_of_line l (Make n) (Make m) a b = ap (λ k. Make k) (same_count l n m (ap (λ k. k.number) a.0) (ap (λ k. k.number) b.0) a.1.1 b.1.1)
 one_of_line l (Make n) (Big m) a b = absurd (apart l (Make n) (Big m) refl refl a b)
 one_of_line l (Big n) Check a b = absurd (apart l (Big n) Check refl refl a b)
 one_of_line l (Big n) Show a b = absurd (apart l (Big n) Show refl refl a b)
@@ -119,7 +119,7 @@ one_of_line l (Big n) Sim a b = absurd (apart l (Big n) Sim refl refl a b)
 one_of_line l (Big n) (Run g y) a b = absurd (apart l (Big n) (Run g y) refl refl a b)
 one_of_line l (Big n) (Replay g) a b = absurd (apart l (Big n) (Replay g) refl refl a b)
 one_of_line l (Big n) (Make m) a b = absurd (apart l (Big n) (Make m) refl refl a b)
-one_of_line l (Big n) (Big m) a b = ap (λ k. Big k) (same_count l n m (ap (λ k. k.number) a.0) (ap (λ k. k.number) b.0) a.2 b.2)
+one_of_line l (Big n) (Big m) a b = ap (λ k. Big k) (same_count l n m (ap (λ k. k.number) a.0) (ap (λ k. k.number) b.0) a.1.1 b.1.1)
 
 -- the words ask for one task
 pub one_task : (words : List Text) (t u : Task) → Asks words t → Asks words u → t ≡ u

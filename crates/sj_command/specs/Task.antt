@@ -29,6 +29,14 @@ running log looks = record { command = Some (codes "run"); number = None; log = 
 abbrev pub replaying : (log : Bool) → LineAt
 replaying log = record { command = Some (codes "replay"); number = None; log = Some (flag_text log); looks = None }
 
+-- the most messages in each loop of the generated file
+abbrev pub most_messages : ℕ
+most_messages = 1000
+
+-- that many messages can be asked for
+abbrev pub IsCount : ℕ → Type 0
+IsCount n = (1 ≤ n) × (n ≤ most_messages)
+
 -- the looks of a line without the option
 abbrev pub usual_looks : ℕ
 usual_looks = 1000
@@ -49,8 +57,8 @@ Means line Show = line ≡ alone (codes "show") None
 Means line Sim = line ≡ alone (codes "sim") None
 Means line (Run log looks) = (line ≡ running log line.looks) × StandsForLooks line.looks looks
 Means line (Replay log) = line ≡ replaying log
-Means line (Make n) = (line ≡ alone (codes "make") (Some (decimal n))) × (1 ≤ n) × (n ≤ 1000)
-Means line (Big n) = (line ≡ alone (codes "big") (Some (decimal n))) × (1 ≤ n) × (n ≤ 1000)
+Means line (Make n) = (line ≡ alone (codes "make") (Some (decimal n))) × IsCount n
+Means line (Big n) = (line ≡ alone (codes "big") (Some (decimal n))) × IsCount n
 
 -- the line that the words are
 abbrev pub line_in : List Text → LineAt

@@ -1,6 +1,6 @@
 //! Numbers among the words: decimal digits without a leading zero.
 ghost use Rattle.std.specs.Prelude.{◌≡◌, ◌≤◌, ℕ, IfSome, None, decimal, option_map};
-ghost use Rattle.sj_command.specs.Task.{StandsForLooks};
+ghost use Rattle.sj_command.specs.Task.{IsCount, StandsForLooks};
 
 use itoa::Buffer;
 
@@ -15,8 +15,8 @@ const MOST_LOOKS: u32 = 1_000_000;
 
 /// The number of messages, from 1 to 1,000, that the text is.
 pub(crate) fn count_in(text: &str) -> Option<u16>
-    ensures some { IfSome result (λ n. (text.now ≡ decimal n) × (1 ≤ n) × (n ≤ 1000)) }
-    ensures none { result ≡ None → (n : ℕ) → 1 ≤ n → n ≤ 1000 → text.now ≡ decimal n → ⊥ }
+    ensures some { IfSome result (λ n. (text.now ≡ decimal n) × IsCount n) }
+    ensures none { result ≡ None → (n : ℕ) → IsCount n → text.now ≡ decimal n → ⊥ }
 {
     match number_in(text, 1, MOST_MESSAGES) {
         Some(n) => Some(n as u16),

@@ -2,10 +2,9 @@
 use Rattle.std.specs.Prelude.{◌≡◌, ℕ, max, ⊤, List, ◌++◌, map, Option, Some, option_map}
 use Rattle.sj_end.specs.declared.note.Line.{Line}
 use Rattle.sj_lang.specs.FileAt.{FileAt}
-use Rattle.sj_rules.specs.History.{IsLog, IsMisfit, due}
+use Rattle.sj_rules.specs.History.{IsLog, IsMisfit, due, IsFirstMisfit}
 use Rattle.sj_rules.specs.Log.{LineAt}
 use Rattle.sj_rules.specs.Party.{play_of}
-use Rattle.sj_rules.specs.Start.{core_start}
 use Rattle.sj_core.specs.declared.course.Course.{Course}
 use Rattle.sj_core.specs.declared.refusal.ReplayRefusal.{ReplayRefusal}
 use Rattle.sj_core.specs.declared.refusal.ReplayRefusal.TheVariants as refusals
@@ -35,7 +34,7 @@ pub record StopsAt (c : Course) (lines : List LineAt) (number : ℕ) (logged : L
 
 -- from the start of the file on, that is the first line that isn't the one that is due
 abbrev pub IsMisfitFrom : FileAt → List LineAt → ReplayRefusal → Type 0
-IsMisfitFrom file lines (refusals.Misfit number logged other) = IsMisfit (play_of file) max (core_start file) lines number (line_at logged) (option_map line_at other)
+IsMisfitFrom file lines (refusals.Misfit number logged other) = IsFirstMisfit max file lines number (line_at logged) (option_map line_at other)
 IsMisfitFrom file lines refusals.NoMemory = ⊤
 
 -- some of the lines are done, in order

@@ -10,9 +10,13 @@ use Rattle.sj_draw.specs.Frame.{Outcome, Gathered, Unread, Beyond, empty, gather
 abbrev pub whole_lines : List ℕ → List ℕ
 whole_lines bytes = if slice_index bytes (length bytes - 1) == 10 then take (length bytes - 1) bytes else bytes
 
+-- what stands between the newlines of a text
+abbrev pub parted : List ℕ → List (List ℕ)
+parted bytes = slice_split (λ b. nat_eq b 10) bytes
+
 -- the lines of a text; there is always a first one, which may be empty
 abbrev pub lines_of : List ℕ → List (List ℕ)
-lines_of bytes = slice_split (λ b. nat_eq b 10) (whole_lines bytes)
+lines_of bytes = parted (whole_lines bytes)
 
 abbrev pub outcome_of : List ℕ → Outcome
 outcome_of bytes = gathered empty 1 (lines_of bytes)

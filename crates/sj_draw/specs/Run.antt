@@ -9,6 +9,22 @@ use Rattle.sj_draw.specs.Frame.{Outcome, Gathered, Unread, Beyond}
 abbrev pub most_bytes : ℕ
 most_bytes = 67108864
 
+-- a read failed
+abbrev pub read_fault_status : ℕ
+read_fault_status = 2
+
+-- more bytes came than an input may have
+abbrev pub too_large_status : ℕ
+too_large_status = 3
+
+-- a write failed
+abbrev pub write_fault_status : ℕ
+write_fault_status = 10
+
+-- there was no memory
+abbrev pub no_memory_status : ℕ
+no_memory_status = 11
+
 abbrev pub status_of : Outcome → ℕ
 status_of (Gathered f) = 0
 status_of (Unread n) = 4
@@ -40,14 +56,14 @@ pub record AnswersBytes (i : InputAt) (status : ℕ) (text : List ℕ) : Type 0 
 pub record AnswersFault (i : InputAt) (status : ℕ) (text : List ℕ) : Type 0 where
   pub came : CameOf (λ n. n ≤ most_bytes) i.left i.left_after
   pub rose : Rose i.faults i.faults_after
-  pub status_is : status ≡ 2
+  pub status_is : status ≡ read_fault_status
   pub text_is : text ≡ codes "read fault\n"
 
 -- more bytes came than an input may have, and no fault was counted
 pub record AnswersTooLarge (i : InputAt) (status : ℕ) (text : List ℕ) : Type 0 where
   pub came : CameOf (λ n. most_bytes < n) i.left i.left_after
   pub no_fault : i.faults_after ≡ i.faults
-  pub status_is : status ≡ 3
+  pub status_is : status ≡ too_large_status
   pub text_is : text ≡ codes "too large\n"
 
 -- a status and a text that are due

@@ -1,6 +1,14 @@
 -- Sizes that stay far below the last number of a u64.
-use Rattle.std.specs.Prelude.{◌≤◌}
+use Rattle.std.specs.Prelude.{ℕ, ◌≤◌}
 use Rattle.sj_draw.specs.declared.layout.Layout.{Layout}
+
+-- bytes of a picture, but for its style and its lines
+abbrev pub most_of_frame : ℕ
+most_of_frame = 10000
+
+-- bytes of a picture for each line of what is drawn
+abbrev pub most_of_line : ℕ
+most_of_line = 5320
 
 pub record IsSmall (l : Layout) : Type 0 where
   pub left : l.left ≤ 300

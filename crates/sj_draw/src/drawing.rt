@@ -1,6 +1,6 @@
 //! The picture of a frame: its head, a line for each party, an arrow for each message or frame, and its foot.
 ghost use Rattle.std.specs.Prelude.{◌≡◌, ◌≤◌, ◌<◌, ◌++◌, OnOk, IsTrue, length, map};
-ghost use Rattle.sj_draw.specs.Frame.{is_within};
+ghost use Rattle.sj_draw.specs.Frame.{is_within, most_arrows};
 ghost use Rattle.sj_draw.specs.Drawn.{head_text, party_text, parties_text, class_of, end_class, way_of, arrow_text, arrows_text, picture, picture_at};
 ghost use Rattle.sj_draw.specs.Small.{IsSmall};
 ghost use Rattle.sj_draw.specs.Views.{arrow_at, frame_at};
@@ -24,7 +24,7 @@ pub(crate) fn put_picture(text: &mut Vec<u8>, frame: &Frame<'_>) -> Result<(), N
 
 fn put_picture_at(text: &mut Vec<u8>, layout: Layout, frame: &Frame<'_>) -> Result<(), NoMemory>
     requires small { IsSmall layout }
-    requires few { length frame.now.arrows.items ≤ 1000000 }
+    requires few { length frame.now.arrows.items ≤ most_arrows }
     ensures { OnOk result (text.new.items
         ≡ text.old.items ++ picture_at layout (frame_at frame.now)) }
 {
@@ -89,7 +89,7 @@ fn put_party(text: &mut Vec<u8>, layout: Layout, i: usize, name: &[u8]) -> Resul
 
 fn put_arrows(text: &mut Vec<u8>, layout: Layout, arrows: &[Arrow<'_>]) -> Result<(), NoMemory>
     requires small { IsSmall layout }
-    requires few { length arrows.now ≤ 1000000 }
+    requires few { length arrows.now ≤ most_arrows }
     ensures { OnOk result (text.new.items
         ≡ text.old.items ++ arrows_text layout 0 (map arrow_at arrows.now)) }
 {
@@ -107,7 +107,7 @@ fn put_arrow(
     arrow: &Arrow<'_>,
 ) -> Result<(), NoMemory>
     requires small { IsSmall layout }
-    requires few { k ≤ 1000000 }
+    requires few { k ≤ most_arrows }
     ensures { OnOk result (text.new.items ≡ text.old.items ++ arrow_text layout k (arrow_at arrow.now)) }
 {
     let y = 28 * k as u64;

@@ -1,8 +1,7 @@
 //! From lines to a picture.
-ghost use Rattle.std.specs.Prelude.{◌≡◌, IfOk, IfErr, IsTrue, map, nat_eq};
-ghost use Rattle.std.specs.List.{slice_split};
+ghost use Rattle.std.specs.Prelude.{◌≡◌, IfOk, IfErr, IsTrue, map};
 ghost use Rattle.sj_draw.specs.Frame.{empty, gathered, is_within, Gathered};
-ghost use Rattle.sj_draw.specs.Answer.{IsDrawn, IsRefused, lines_of, outcome_of, whole_lines};
+ghost use Rattle.sj_draw.specs.Answer.{IsDrawn, IsRefused, lines_of, outcome_of, whole_lines, parted};
 ghost use Rattle.sj_draw.specs.Views.{frame_at};
 
 use crate::drawing::put_picture;
@@ -73,7 +72,7 @@ fn lines_in(alloc: Global, bytes: &[u8]) -> Result<Vec<&[u8]>, NoMemory>
 
 // What stands between the newlines of a text.
 fn parts(alloc: Global, text: &[u8]) -> Result<Vec<&[u8]>, AllocError>
-    ensures { IfOk result (λ v. map (λ l. l.now) v.items ≡ slice_split (λ b. nat_eq b 10) text.now) }
+    ensures { IfOk result (λ v. map (λ l. l.now) v.items ≡ parted text.now) }
 {
     text.split(|b| *b == b'\n').collect(alloc)
 }

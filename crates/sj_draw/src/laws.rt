@@ -10,6 +10,7 @@ ghost use Rattle.sj_draw.specs.Answer.{lines_of, outcome_of};
 ghost use Rattle.sj_draw.specs.Drawn.{picture};
 ghost use Rattle.sj_draw.specs.Frame.{FrameAt, Gathered, gathered};
 ghost use Rattle.sj_draw.specs.Told.{HasNoLog, told_arrow, told_in};
+ghost use Rattle.sj_draw.specs.Small.{most_of_frame, most_of_line};
 
 /// Behind what was gathered before, lines add one arrow for each message or delivery that they tell, in order,
 /// and no other; so it is for a transcript, and for the lines behind `%%log`.
@@ -21,5 +22,5 @@ pub fn each_delivery_is_drawn_once()
 /// A picture has at most 5,320 bytes for each line, beyond its style and 10,000 bytes.
 pub fn no_picture_outgrows_its_lines()
     ensures { (bytes : List ℕ) (g : FrameAt) → outcome_of bytes ≡ Gathered g
-        → length (picture g) ≤ length STYLE.now + (10000 + 5320 * length (lines_of bytes)) }
+        → length (picture g) ≤ length STYLE.now + (most_of_frame + most_of_line * length (lines_of bytes)) }
 {}

@@ -2,7 +2,7 @@
 ghost use Rattle.std.specs.Prelude.{◌≡◌, ◌⊎◌, ◌≤◌, ◌++◌, IfOk, codes, decimal};
 ghost use Rattle.sj_base.specs.Stream.{Rose};
 ghost use Rattle.sj_draw.specs.Answer.{outcome_of};
-ghost use Rattle.sj_draw.specs.Run.{AnswersOne, Comes, WroteFront, status_of, text_of};
+ghost use Rattle.sj_draw.specs.Run.{AnswersOne, Comes, WroteFront, status_of, text_of, write_fault_status, no_memory_status};
 
 use crate::gathering::{DrawRefusal, draw_lines};
 use sj_base::{NoMemory, ReadRefusal, Sink, Source, WriteFault, read_all, write_all_of};
@@ -36,15 +36,15 @@ pub fn draw<S: Source, K: Sink>(alloc: Global, src: &mut S, out: &mut K) -> u8
       left_after = S.left src.new;
       faults = S.faults src.old;
       faults_after = S.faults src.new;
-    }) result (K.written out.old) (K.written out.new) ⊎ ((result ≡ 10) ⊎ (result ≡ 11)) }
-    ensures write_fault { result ≡ 10 → Rose (K.faults out.old) (K.faults out.new) }
-    ensures front { result ≡ 10 → WroteFront (record {
+    }) result (K.written out.old) (K.written out.new) ⊎ ((result ≡ write_fault_status) ⊎ (result ≡ no_memory_status)) }
+    ensures write_fault { result ≡ write_fault_status → Rose (K.faults out.old) (K.faults out.new) }
+    ensures front { result ≡ write_fault_status → WroteFront (record {
       left = S.left src.old;
       left_after = S.left src.new;
       faults = S.faults src.old;
       faults_after = S.faults src.new;
     }) (K.written out.old) (K.written out.new) }
-    ensures no_memory { result ≡ 11 → K.written out.new ≡ K.written out.old }
+    ensures no_memory { result ≡ no_memory_status → K.written out.new ≡ K.written out.old }
 {
     let answer = match answer_to(alloc, src) {
         Ok(answer) => answer,

@@ -5,6 +5,7 @@ ghost use Rattle.sj_lang.specs.After.{after_place};
 ghost use Rattle.sj_lang.specs.declared.proto.Way.TheVariants.{Into, Out};
 ghost use Rattle.sj_rules.specs.Node.{sent_on, taken_off};
 ghost use Rattle.sj_rules.specs.Record as rules;
+ghost use Rattle.sj_rules.specs.Limits.{limit_of_messages};
 ghost use Rattle.sj_table.specs.Spots.{place_in};
 ghost use Rattle.sj_table.specs.declared.table.Spot.{Spot};
 ghost use Rattle.sj_end.specs.Bodies.{IsCounted};
@@ -21,7 +22,7 @@ impl Held {
     /// Sends a message on the end, and answers what goes to the peer.
     pub fn send(&mut self, table: &Table, msg: Msg) -> Result<Body, NoMemory>
         requires next { IsSome (after_place (place_in table.now self.old.end.place) Out msg) }
-        requires room { self.old.end.sent < 1000000 }
+        requires room { self.old.end.sent < limit_of_messages }
         ensures ok { OnOk result ((next : Spot)
             × (after_place (place_in table.now self.old.end.place) Out msg ≡ Some (place_in table.now next))
             × (held_at self.new ≡ sent_on (held_at self.old) msg next)) }
@@ -124,7 +125,7 @@ impl Held {
     /// Puts the message of a Carry, which told so many taken, behind the untaken ones.
     pub fn arrived(&mut self, taken: u32, msg: Msg) -> Result<(), NoMemory>
         requires told { taken ≤ self.old.end.sent }
-        requires room { self.old.end.taken + length self.old.untaken.items ≤ 1000000 }
+        requires room { self.old.end.taken + length self.old.untaken.items ≤ limit_of_messages }
         ensures ok { OnOk result (held_at self.new ≡ arrived_at (held_at self.old) taken msg) }
         ensures err { OnErr result (held_at self.new ≡ held_at self.old) }
     {

@@ -14,7 +14,7 @@ use Rattle.sj_grammar.specs.Asked.{Passes}
 use Rattle.sj_grammar.specs.ExpressionDues.{ExpressionDue, expression_at, expression_layer}
 use Rattle.sj_expr.specs.Laws.{Leads}
 use Rattle.sj_expr.specs.Viable.{IsViable}
-use Rattle.sj_proto.specs.Parsed.{Extends, need}
+use Rattle.sj_proto.specs.Parsed.{Extends, need, room_for_names}
 
 -- the spelling has what the tables there have
 pub record Agrees (names : Spelling) (a : At) : Type 0 where
@@ -66,8 +66,8 @@ pub record Grows (old new : Names) : Type 0 where
 
 -- what names and texts may still come: their numbers stay small
 pub record HasRooms (names : Names) (r : Reading) : Type 0 where
-  pub words : need names.words r ≤ 131072
-  pub texts : need names.texts r ≤ 131072
+  pub words : need names.words r ≤ room_for_names
+  pub texts : need names.texts r ≤ room_for_names
 
 -- a name or a text may take one more of the room than its bytes give back
 pub record StaysWithin (old : Names) (r : Reading) (new : Names) (q : Reading) : Type 0 where

@@ -30,13 +30,13 @@ fn factor(
     count: &mut usize,
     depth: usize,
 ) -> Result<Expr, ParseRefusal>
-    requires few { count.old ≤ 256 }
-    requires deep { depth ≤ 32 }
+    requires few { count.old ≤ limits.operands }
+    requires deep { depth ≤ limits.nesting }
     requires room { HasRooms names.old tokens.old }
     ensures reads { IfOk result (λ e. ReadsLevel a_factor depth (standing tokens.old names.old)
         (standing tokens.new names.new) (term_of e)) }
     ensures count { IfOk result (λ e. count.new ≡ count.old + operand_count (term_of e)) }
-    ensures few { IfOk result (λ _. count.new ≤ 256) }
+    ensures few { IfOk result (λ _. count.new ≤ limits.operands) }
     ensures leaves { LeavesTables StaysWithin result names.old tokens.old names.new tokens.new }
     ensures fault { IfErr result (OnFault (λ f. StuckInside expression_layer limits count.old
         (standing tokens.old names.old) (factor_due depth ∷ []) f)) }
@@ -69,14 +69,14 @@ fn term(
     count: &mut usize,
     depth: usize,
 ) -> Result<Expr, ParseRefusal>
-    requires few { count.old ≤ 256 }
-    requires deep { depth ≤ 32 }
+    requires few { count.old ≤ limits.operands }
+    requires deep { depth ≤ limits.nesting }
     requires room { HasRooms names.old tokens.old }
     ensures reads { IfOk result (λ e. ReadsLevel a_term depth (standing tokens.old names.old)
         (standing tokens.new names.new) (term_of e)) }
     ensures ends { IfOk result (λ _. Passes expression_layer (times depth) (next_of tokens.new.ahead)) }
     ensures count { IfOk result (λ e. count.new ≡ count.old + operand_count (term_of e)) }
-    ensures few { IfOk result (λ _. count.new ≤ 256) }
+    ensures few { IfOk result (λ _. count.new ≤ limits.operands) }
     ensures leaves { LeavesTables StaysWithin result names.old tokens.old names.new tokens.new }
     ensures fault { IfErr result (OnFault (λ f. StuckInside expression_layer limits count.old
         (standing tokens.old names.old) (factor_due depth ∷ times depth ∷ []) f)) }
@@ -98,15 +98,15 @@ fn sum(
     count: &mut usize,
     depth: usize,
 ) -> Result<Expr, ParseRefusal>
-    requires few { count.old ≤ 256 }
-    requires deep { depth ≤ 32 }
+    requires few { count.old ≤ limits.operands }
+    requires deep { depth ≤ limits.nesting }
     requires room { HasRooms names.old tokens.old }
     ensures reads { IfOk result (λ e. ReadsLevel a_sum depth (standing tokens.old names.old)
         (standing tokens.new names.new) (term_of e)) }
     ensures ends { IfOk result (λ _. Passes expression_layer (times depth) (next_of tokens.new.ahead)
         × Passes expression_layer (plus depth) (next_of tokens.new.ahead)) }
     ensures count { IfOk result (λ e. count.new ≡ count.old + operand_count (term_of e)) }
-    ensures few { IfOk result (λ _. count.new ≤ 256) }
+    ensures few { IfOk result (λ _. count.new ≤ limits.operands) }
     ensures leaves { LeavesTables StaysWithin result names.old tokens.old names.new tokens.new }
     ensures fault { IfErr result (OnFault (λ f. StuckInside expression_layer limits count.old
         (standing tokens.old names.old) (factor_due depth ∷ times depth ∷ plus depth ∷ []) f)) }
@@ -128,13 +128,13 @@ fn whole(
     count: &mut usize,
     depth: usize,
 ) -> Result<Expr, ParseRefusal>
-    requires few { count.old ≤ 256 }
-    requires deep { depth ≤ 32 }
+    requires few { count.old ≤ limits.operands }
+    requires deep { depth ≤ limits.nesting }
     requires room { HasRooms names.old tokens.old }
     ensures reads { IfOk result (λ e. ReadsWhole count.old depth (standing tokens.old names.old)
         (standing tokens.new names.new) (term_of e)) }
     ensures count { IfOk result (λ e. count.new ≡ count.old + operand_count (term_of e)) }
-    ensures few { IfOk result (λ _. count.new ≤ 256) }
+    ensures few { IfOk result (λ _. count.new ≤ limits.operands) }
     ensures leaves { LeavesTables StaysWithin result names.old tokens.old names.new tokens.new }
     ensures fault { IfErr result (OnFault (λ f. StuckInside expression_layer limits count.old
         (standing tokens.old names.old) (expression_at depth) f)) }

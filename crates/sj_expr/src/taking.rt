@@ -1,10 +1,10 @@
 //! The first tokens of a factor.
-ghost use Rattle.std.specs.Prelude.{◌≡◌, ◌≢◌, ℕ, ◌+◌, ◌*◌, ◌<◌, ◌≤◌, ◌^◌, List, [], ◌∷◌, false, true, length, codes, pos, neg_ℤ, FitsSigned, IfOk, IfErr};
+ghost use Rattle.std.specs.Prelude.{◌≡◌, ◌≢◌, ℕ, ◌+◌, ◌*◌, ◌<◌, ◌≤◌, List, [], ◌∷◌, false, true, length, codes, pos, neg_ℤ, FitsSigned, IfOk, IfErr};
 ghost use Rattle.std.specs.Int.{w64};
 ghost use Rattle.sj_lang.specs.CodeView.{term_of};
 ghost use Rattle.sj_lang.specs.Limits.{limits};
 ghost use Rattle.sj_grammar.specs.declared.tokens.Rule.TheVariants.{P4};
-ghost use Rattle.sj_grammar.specs.Lexis.{next_of};
+ghost use Rattle.sj_grammar.specs.Lexis.{next_of, most};
 ghost use Rattle.sj_grammar.specs.Reading.{before_next, fault_at};
 ghost use Rattle.sj_grammar.specs.Places.{at};
 ghost use Rattle.sj_grammar.specs.Literals.{is_text};
@@ -78,7 +78,7 @@ fn limit_fault(tokens: &Tokens) -> Fault
 }
 
 fn negative_of(value: u64) -> i64
-    requires { value ≤ 2 ^ 63 }
+    requires { value ≤ most }
     ensures value { result ≡ neg_ℤ (pos value) }
     ensures fits { FitsSigned w64 result }
 {
@@ -93,13 +93,13 @@ pub fn take_operand(
     operand: Operand,
 ) -> Result<Expr, ParseRefusal>
     requires stands { IsOperandOf operand (spelled_next (next_of tokens.old.ahead)) }
-    requires few { count.old ≤ 256 }
+    requires few { count.old ≤ limits.operands }
     requires room { HasRooms names.old tokens.old }
     ensures reads { IfOk result (λ e. (o : ℕ) → ReadsLevel a_factor o (standing tokens.old names.old)
         (standing tokens.new names.new) (term_of e)) }
     ensures one { IfOk result (λ e. operand_count (term_of e) ≡ 1) }
     ensures count { IfOk result (λ _. count.new ≡ count.old + 1) }
-    ensures few { IfOk result (λ _. count.new ≤ 256) }
+    ensures few { IfOk result (λ _. count.new ≤ limits.operands) }
     ensures leaves { LeavesTables StaysWithin result names.old tokens.old names.new tokens.new }
     ensures fault { IfErr result (OnFault (λ f. (o : ℕ) → StuckInside expression_layer limits count.old
         (standing tokens.old names.old) (factor_due o ∷ []) f)) }
@@ -135,12 +135,12 @@ pub fn take_operand(
 /// Takes the minus that comes next and the number behind it; so many operands stand before it.
 pub fn take_negative(tokens: &mut Tokens, count: &mut usize) -> Result<Expr, ParseRefusal>
     requires minus { is_next (codes "-") (next_of tokens.old.ahead) ≡ true }
-    requires few { count.old ≤ 256 }
+    requires few { count.old ≤ limits.operands }
     ensures reads { IfOk result (λ e. (o : ℕ) (words texts : List (List ℕ)) → ReadsLevel a_factor o
         (at tokens.old words texts) (at tokens.new words texts) (term_of e)) }
     ensures one { IfOk result (λ e. operand_count (term_of e) ≡ 1) }
     ensures count { IfOk result (λ _. count.new ≡ count.old + 1) }
-    ensures few { IfOk result (λ _. count.new ≤ 256) }
+    ensures few { IfOk result (λ _. count.new ≤ limits.operands) }
     ensures shorter { IfOk result (λ _. length tokens.new.ahead < length tokens.old.ahead) }
     ensures onward { Advances tokens.old tokens.new }
     ensures fault { IfErr result (OnFault (λ f. (o : ℕ) (words texts : List (List ℕ)) → StuckInside

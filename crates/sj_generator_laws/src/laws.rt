@@ -13,6 +13,7 @@ ghost use Rattle.sj_party.specs.CanonicalFile.{file_text};
 ghost use Rattle.sj_semantics.specs.Run.{end_of};
 ghost use Rattle.sj_semantics.specs.State.{verdict_of};
 ghost use Rattle.sj_semantics.specs.declared.Verdict.TheVariants.{Done};
+ghost use Rattle.sj_semantics.specs.Value.{limit_of_turns};
 ghost use Rattle.sj_generator.specs.Generated.{generated};
 ghost use Rattle.sj_generator_laws.specs.Counts.{messages_in, steps_in};
 ghost use Rattle.sj_generator_laws.specs.GeneratedFile.{generated_file};
@@ -37,7 +38,7 @@ pub fn the_generated_file_is_accepted()
 /// At the end of the generated file, whose loops send up to 1,000 messages each, its parties have
 /// sent so many messages and done so many steps, and its verdict is done.
 pub fn the_generated_file_ends_done()
-    ensures messages { (n : ℕ) → n ≤ 1000 → messages_in (end_of (generated_file n)) ≡ 10 * n + 15 }
-    ensures steps { (n : ℕ) → n ≤ 1000 → steps_in (end_of (generated_file n)) ≡ 25 * n + 55 }
-    ensures verdict { (n : ℕ) → n ≤ 1000 → verdict_of (end_of (generated_file n)) ≡ Done }
+    ensures messages { (n : ℕ) → n ≤ limit_of_turns → messages_in (end_of (generated_file n)) ≡ 10 * n + 15 }
+    ensures steps { (n : ℕ) → n ≤ limit_of_turns → steps_in (end_of (generated_file n)) ≡ 25 * n + 55 }
+    ensures verdict { (n : ℕ) → n ≤ limit_of_turns → verdict_of (end_of (generated_file n)) ≡ Done }
 {}

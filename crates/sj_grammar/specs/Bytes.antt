@@ -20,13 +20,16 @@ is_digit b = is_ascii_digit b
 abbrev pub is_word_byte : ℕ → Bool
 is_word_byte b = is_letter b || is_digit b
 
+abbrev pub quote_byte : ℕ
+quote_byte = 34
+
 -- behind an opening quote, up to the next quote or the end of the line
 abbrev pub is_inside : ℕ → Bool
-is_inside b = not (b == 34) && not (b == 10)
+is_inside b = not (b == quote_byte) && not (b == 10)
 
 -- what a text may have: no quote and no backslash
 abbrev pub is_printable : ℕ → Bool
-is_printable b = is_visible b && not (b == 34) && not (b == 92)
+is_printable b = is_visible b && not (b == quote_byte) && not (b == 92)
 
 -- what a comment may have, up to the end of its line
 abbrev pub is_comment : ℕ → Bool
@@ -39,3 +42,7 @@ is_symbol b = list_any (λ c. c == b) (codes "!?<>(){}[]*.,:;+-=")
 abbrev pub begins_with : ℕ → List ℕ → Bool
 begins_with c [] = false
 begins_with c (b ∷ bs) = b == c
+
+-- the byte and those behind it begin with `<=` or `==`
+abbrev pub is_double : ℕ → List ℕ → Bool
+is_double b bs = (b == 60 || b == 61) && begins_with 61 bs

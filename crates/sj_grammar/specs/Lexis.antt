@@ -6,7 +6,7 @@ use Rattle.sj_grammar.specs.declared.tokens.Rule.{Rule}
 use Rattle.sj_grammar.specs.declared.tokens.Rule.TheVariants.{P2, P3, P5}
 use Rattle.sj_grammar.specs.declared.tokens.What.{What}
 use Rattle.sj_grammar.specs.declared.tokens.What.TheVariants.{Word, Number, Text, Symbol}
-use Rattle.sj_grammar.specs.Bytes.{is_blank, is_letter, is_digit, is_word_byte, is_inside, is_printable, is_comment, is_symbol, begins_with}
+use Rattle.sj_grammar.specs.Bytes.{is_blank, is_letter, is_digit, is_word_byte, is_inside, is_printable, is_comment, is_symbol, is_double, begins_with, quote_byte}
 
 -- what comes next in a text
 pub data Ahead : Type 0 where
@@ -38,9 +38,9 @@ number_of ds text =
 -- behind a quote: n bytes up to the next quote or the end of the line
 abbrev pub text_of : ℕ → List ℕ → Ahead
 text_of n bs =
-    if not (begins_with 34 (drop n bs)) then bad P5 (34 ∷ bs)
+    if not (begins_with quote_byte (drop n bs)) then bad P5 (quote_byte ∷ bs)
     else (if nat_lt (prefix_len is_printable bs) n then bad P2 (drop (prefix_len is_printable bs) bs)
-    else cut Text (n + 2) (34 ∷ bs))
+    else cut Text (n + 2) (quote_byte ∷ bs))
 
 -- the token that begins the text
 abbrev pub token_of : List ℕ → Ahead
@@ -48,8 +48,8 @@ token_of [] = at_end
 token_of (b ∷ bs) =
     if is_letter b then cut Word (prefix_len is_word_byte (b ∷ bs)) (b ∷ bs)
     else (if is_digit b then number_of (take_while is_digit (b ∷ bs)) (b ∷ bs)
-    else (if b == 34 then text_of (prefix_len is_inside bs) bs
-    else (if (b == 60 || b == 61) && begins_with 61 bs then cut Symbol 2 (b ∷ bs)
+    else (if b == quote_byte then text_of (prefix_len is_inside bs) bs
+    else (if is_double b bs then cut Symbol 2 (b ∷ bs)
     else (if is_symbol b then cut Symbol 1 (b ∷ bs) else bad P2 (b ∷ bs)))))
 
 -- behind blanks and comments

@@ -3,7 +3,7 @@ use Rattle.std.specs.Prelude.{ℕ, ◌-◌, Bool, not, ◌&&◌, nat_le, nat_lt,
 use Rattle.std.specs.List.{list_all}
 use Rattle.std.specs.Str.{bytes_eq}
 use Rattle.std.specs.Str.Parse.{digits_value}
-use Rattle.sj_grammar.specs.Bytes.{is_digit, is_printable}
+use Rattle.sj_grammar.specs.Bytes.{is_digit, is_printable, quote_byte}
 use Rattle.sj_grammar.specs.Lexis.{has_leading_zero, most}
 
 -- digits without a leading zero, up to 2^63
@@ -16,7 +16,7 @@ is_largest s = bytes_eq s (codes "9223372036854775808")
 
 -- a text with its quotes
 abbrev pub quoted : List ℕ → List ℕ
-quoted t = 34 ∷ (t ++ 34 ∷ [])
+quoted t = quote_byte ∷ (t ++ quote_byte ∷ [])
 
 -- a text without its quotes
 abbrev pub inner : List ℕ → List ℕ

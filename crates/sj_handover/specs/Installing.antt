@@ -7,6 +7,7 @@ use Rattle.sj_base.specs.declared.Msg.{Msg}
 use Rattle.sj_table.specs.declared.table.Spot.{Spot}
 use Rattle.sj_rules.specs.Record.{EndAt, HeldAt, Mail}
 use Rattle.sj_rules.specs.Rows.{Worked, install}
+use Rattle.sj_rules.specs.Limits.{limit_of_messages}
 use Rattle.sj_end.specs.Views.{deferred_at, post_at}
 use Rattle.sj_end.specs.declared.record.Expected.{Expected}
 use Rattle.sj_end.specs.declared.wire.Post.{Post}
@@ -22,7 +23,7 @@ pub record InstallsTo (e : EndAt Spot) (deferred : List (Mail Spot)) (resend : O
   pub row : install max e.place deferred e resend ≡ Some (record { state = held_by e t untaken; posts = posts })
   pub base : e.base ≤ t.base
   pub upto : t.base ≤ e.sent
-  pub room : e.taken + length untaken ≤ 1000001
+  pub room : e.taken + length untaken ≤ limit_of_messages + 1
 
 -- it is, or it doesn't fit
 abbrev pub Installs : EndAt Spot → List (Mail Spot) → Option ℕ → Option (Tally × VecDeque Msg Global × Vec Post Global) → Type 0

@@ -8,6 +8,7 @@ ghost use Rattle.sj_handover.specs.Installing.{installed};
 ghost use Rattle.sj_handover.specs.Working.{IsCounted, IsFalseThen, IsTrueThen, held_by, started};
 ghost use Rattle.sj_rules.specs.Record as bodies;
 ghost use Rattle.sj_rules.specs.Rows as rules;
+ghost use Rattle.sj_rules.specs.Limits.{limit_of_messages};
 ghost use Rattle.sj_table.specs.declared.table.Spot.{Spot};
 
 use crate::working::Tally;
@@ -16,7 +17,7 @@ use sj_end::{Body, Deferred, End, Expected};
 /// Whether the end fits the record: the resend is in its cache, and each deferred body fits in
 /// its turn.
 pub fn fits_install(e: &Expected, end: &End, resend: Option<u32>) -> bool
-    requires { end.now.taken ≤ 1000000 }
+    requires { end.now.taken ≤ limit_of_messages }
     ensures { result ≡ is_some (installed e.now end.now resend) }
 {
     if let Some(start) = resend {
@@ -29,7 +30,7 @@ pub fn fits_install(e: &Expected, end: &End, resend: Option<u32>) -> bool
 
 // Whether each deferred body fits, in order.
 fn fit_all(end: &End, deferred: &[Deferred]) -> bool
-    requires { end.now.taken ≤ 1000000 }
+    requires { end.now.taken ≤ limit_of_messages }
     ensures { (p : Spot) →
         result ≡ is_some (rules.worked_off max (started (placed end.now p)) (map deferred_at deferred.now)) }
 {
@@ -53,14 +54,14 @@ fn fit(end: &End, tally: &mut Tally, untaken: &mut usize, from: u16, body: &Body
     requires base { end.now.base ≤ tally.old.base }
     requires upto { tally.old.base ≤ end.now.sent }
     requires counted { IsCounted (body_at body.now) }
-    requires room { end.now.taken + untaken.old ≤ 1000001 }
+    requires room { end.now.taken + untaken.old ≤ limit_of_messages + 1 }
     ensures ok { IsTrueThen result ((p : Spot) (ms : List Msg) → length ms ≡ untaken.old →
         FitsAs (placed end.now p) tally.old tally.new ms untaken.new from (body_at body.now)) }
     ensures unfit { IsFalseThen result ((p : Spot) (ms : List Msg) → length ms ≡ untaken.old →
         rules.at_held max (held_by (placed end.now p) tally.old ms) from (body_at body.now) ≡ None) }
     ensures base { end.now.base ≤ tally.new.base }
     ensures upto { tally.new.base ≤ end.now.sent }
-    ensures room { end.now.taken + untaken.new ≤ 1000001 }
+    ensures room { end.now.taken + untaken.new ≤ limit_of_messages + 1 }
 {
     match body {
         Body::Carry {
@@ -91,8 +92,8 @@ fn fit_carry(
 ) -> bool
     requires base { end.now.base ≤ tally.old.base }
     requires upto { tally.old.base ≤ end.now.sent }
-    requires number { number ≤ 1000000 }
-    requires room { end.now.taken + untaken.old ≤ 1000001 }
+    requires number { number ≤ limit_of_messages }
+    requires room { end.now.taken + untaken.old ≤ limit_of_messages + 1 }
     ensures ok { IsTrueThen result ((p : Spot) (to : EndId) (msg : Msg) (ms : List Msg) → length ms ≡ untaken.old →
         rules.at_held max (held_by (placed end.now p) tally.old ms) from (bodies.Carry to conn number taken msg)
         ≡ Some (record { state = held_by (placed end.now p) tally.new (ms ++ msg ∷ []); posts = [] })) }
@@ -102,7 +103,7 @@ fn fit_carry(
         (bodies.Carry to conn number taken msg) ≡ None) }
     ensures base { end.now.base ≤ tally.new.base }
     ensures upto { tally.new.base ≤ end.now.sent }
-    ensures room { end.now.taken + untaken.new ≤ 1000001 }
+    ensures room { end.now.taken + untaken.new ≤ limit_of_messages + 1 }
 {
     let next = end.taken as usize + *untaken;
     if conn != tally.conn || from != tally.peer || tally.fin || number as usize != next {
@@ -119,7 +120,7 @@ fn fit_carry(
 fn fit_fin(end: &End, tally: &mut Tally, untaken: usize, from: u16, conn: u32, number: u32) -> bool
     requires base { end.now.base ≤ tally.old.base }
     requires upto { tally.old.base ≤ end.now.sent }
-    requires room { end.now.taken + untaken ≤ 1000001 }
+    requires room { end.now.taken + untaken ≤ limit_of_messages + 1 }
     ensures ok { IsTrueThen result ((p : Spot) (to : EndId) (ms : List Msg) → length ms ≡ untaken →
         FitsAs (placed end.now p) tally.old tally.new ms untaken from (bodies.Fin to conn number)) }
     ensures unfit { IsFalseThen result ((p : Spot) (to : EndId) (ms : List Msg) → length ms ≡ untaken →

@@ -3,6 +3,7 @@ ghost use Rattle.std.specs.Prelude.{◌≡◌, ◌+◌, ◌≤◌, Some, IfOk, I
 ghost use Rattle.sj_end.specs.Views.{deferred_at, held_at, post_at};
 ghost use Rattle.sj_handover.specs.Installing.{Installs, installed};
 ghost use Rattle.sj_handover.specs.Working.{held_by};
+ghost use Rattle.sj_rules.specs.Limits.{limit_of_messages};
 
 use crate::working::{Tally, resend_as, work_off};
 use sj_base::{Msg, NoMemory};
@@ -19,7 +20,7 @@ pub fn install(
     resend: Option<u32>,
 ) -> Result<(Held, Vec<Post>), (Expected, End)>
     requires fits { IsTrue (is_some (installed e end resend)) }
-    requires taken { end.taken ≤ 1000000 }
+    requires taken { end.taken ≤ limit_of_messages }
     ensures ok { IfOk result (λ r. installed e end resend
         ≡ Some (record { state = held_at r.0; posts = map post_at r.1.items })) }
     ensures expected { IfErr result (λ x. x.0 ≡ e) }
@@ -42,7 +43,7 @@ pub fn install(
 pub fn taken_over(end: End, tally: Tally, untaken: VecDeque<Msg>) -> Held
     requires base { end.base ≤ tally.base }
     requires upto { tally.base ≤ end.sent }
-    requires room { end.taken + length untaken.items ≤ 1000001 }
+    requires room { end.taken + length untaken.items ≤ limit_of_messages + 1 }
     ensures { held_at result ≡ held_by end tally untaken.items }
 {
     let mut end = end;
@@ -64,7 +65,7 @@ pub fn worked(
     deferred: &[Deferred],
     resend: Option<u32>,
 ) -> Result<Option<(Tally, VecDeque<Msg>, Vec<Post>)>, NoMemory>
-    requires { end.now.taken ≤ 1000000 }
+    requires { end.now.taken ≤ limit_of_messages }
     ensures { IfOk result (Installs end.now (map deferred_at deferred.now) resend) }
 {
     if let Some(start) = resend {

@@ -1,5 +1,5 @@
 //! The two ends of a ring, as lanes.
-ghost use Rattle.sj_lane.specs.Room.{HasRoom};
+ghost use Rattle.sj_lane.specs.Room.{HasRoom, ring_room};
 
 use crate::lane::{InLane, OutLane, PopRefusal, PushRefusal};
 use rtrb::{Consumer, Producer, PushError};
@@ -34,14 +34,14 @@ impl OutLane for RingOut {
 
     ghost same = { SameOut };
 
-    // The trait's clauses, and that only a full ring refuses, which 64 frames were pushed on.
+    // The trait's clauses, and that only a full ring refuses, on which as many frames were pushed as it has room for.
     fn push(&mut self, frame: Frame) -> Result<(), (Frame, PushRefusal)>
         ensures told { frames_pushed self.new ≡ told_more (frames_pushed self.old) (pushed_by frame result) }
         ensures vain { self.new.vain ≡ vain_push self.old.vain result }
         ensures faults { (0 ≤ 0) × PushCause 0 0 result }
         ensures back { IfErr result (λ e. e.0 ≡ frame) }
         ensures link { SameOut self.old self.new }
-        ensures full { IfErr result (λ e. (e.1 ≡ PushRefusal.Full) × (64 ≤ push_count self.old)) }
+        ensures full { IfErr result (λ e. (e.1 ≡ PushRefusal.Full) × (ring_room ≤ push_count self.old)) }
     {
         match self.producer.push(frame) {
             Ok(()) => Ok(()),

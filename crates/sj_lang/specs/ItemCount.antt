@@ -1,5 +1,5 @@
--- How many items a protocol has, inner ones counted.
-use Rattle.std.specs.Prelude.{ℕ, ◌+◌}
+-- How many items a protocol has, inner ones counted, and whether it has none.
+use Rattle.std.specs.Prelude.{ℕ, ◌+◌, Bool, true, false}
 use Rattle.sj_lang.specs.Place.{Place, Carried, Choices, done, message, choice, repeat, int, boolean, text, session, no_choice, arm}
 
 abbrev mutual
@@ -20,3 +20,10 @@ abbrev mutual
   pub arm_items : Choices → ℕ
   arm_items no_choice = 0
   arm_items (arm label p arms) = item_count p + arm_items arms
+
+-- nothing is ahead
+abbrev pub is_done : Place → Bool
+is_done done = true
+is_done (message w k rest) = false
+is_done (choice w arms rest) = false
+is_done (repeat w body rest) = false

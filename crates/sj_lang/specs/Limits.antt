@@ -3,6 +3,14 @@ use Rattle.std.specs.Prelude.{ℕ, ◌≤◌, length, All}
 use Rattle.sj_lang.specs.FileAt.{FileAt}
 use Rattle.sj_lang.specs.ItemCount.{item_count}
 
+-- bytes of a file
+abbrev pub file_limit : ℕ
+file_limit = 65536
+
+-- bytes of a log, and of a file with a log behind it
+abbrev pub source_limit : ℕ
+source_limit = 16777216
+
 pub record Limits : Type 0 where
   pub protocols : ℕ
   pub parties : ℕ

@@ -115,7 +115,7 @@ fn a_copied_block_has_both_branches(rt: HostRuntime) -> Result<(), Fail> {
 }
 
 #[test]
-fn a_word_has_its_first_place(rt: HostRuntime) -> Result<(), Fail> {
+fn a_word_has_its_first_number(rt: HostRuntime) -> Result<(), Fail> {
     let mut words = Words::new(rt.alloc());
     assert_eq!(rt; words.add(b"int")?, 0);
     assert_eq!(rt; words.add(b"to")?, 1);

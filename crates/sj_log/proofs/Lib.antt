@@ -1,4 +1,3 @@
-pub mod Digits
 pub mod NameLemmas
 pub mod PartLemmas
 pub mod WordLemmas

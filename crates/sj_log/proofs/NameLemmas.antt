@@ -3,7 +3,7 @@ use Rattle.std.proofs.Common.{◌≡◌, ℕ, List, Option, Some, None, refl, ap
 use Rattle.std.specs.Prelude.{IfSome, IfNone}
 use Rattle.std.proofs.lemmas.Bool.{cases_order}
 use Rattle.sj_lang.specs.Words.{IsFirstIndex, IsAbsent}
-use Rattle.sj_lang.proofs.WordLemmas.{IsPlaced}
+use Rattle.sj_lang.proofs.WordLemmas.{IsIndexed}
 
 same_number : (word : List ℕ) (words : List (List ℕ)) (m n : ℕ) → IsFirstIndex word words m → IsFirstIndex word words n → m ≡ n
 same_number word words m n g h = elim (cases_order m n) [
@@ -12,12 +12,12 @@ same_number word words m n g h = elim (cases_order m n) [
   | inr (inr above) ↦ absurd (g.first n above h.here)
 ]
 
-pub number_is : (word : List ℕ) (words : List (List ℕ)) (o r : Option ℕ) → IsPlaced word words o → IsPlaced word words r → r ≡ o
+pub number_is : (word : List ℕ) (words : List (List ℕ)) (o r : Option ℕ) → IsIndexed word words o → IsIndexed word words r → r ≡ o
 number_is word words (Some n) (Some m) h g = ap (λ k. Some k) (same_number word words m n g h)
 number_is word words (Some n) None h g = absurd (g n h.here)
 number_is word words None (Some m) h g = absurd (h m g.here)
 number_is word words None None h g = refl
 
-pub placed_from : (word : List ℕ) (words : List (List ℕ)) (r : Option ℕ) → IfSome r (IsFirstIndex word words) → IfNone r (IsAbsent word words) → IsPlaced word words r
-placed_from word words (Some n) here none = here
-placed_from word words None here none = none
+pub indexed_from : (word : List ℕ) (words : List (List ℕ)) (r : Option ℕ) → IfSome r (IsFirstIndex word words) → IfNone r (IsAbsent word words) → IsIndexed word words r
+indexed_from word words (Some n) here none = here
+indexed_from word words None here none = none

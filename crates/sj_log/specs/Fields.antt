@@ -1,11 +1,12 @@
 -- The words of a line of a log, and numbers and ends among them: what a word stands for, or which rule it breaks.
-use Rattle.std.specs.Prelude.{ℕ, ◌-◌, Bool, true, false, not, ◌==◌, ◌&&◌, ◌||◌, nat_lt, nat_le, if◌then◌else◌, ℤ, pos, negsuc, List, [], ◌∷◌, length, drop, codes, Option, Some, None, Result, Ok, Err, ⊤}
-use Rattle.std.specs.List.{list_all, slice_split, before_first, after_first}
+use Rattle.std.specs.Prelude.{ℕ, ◌+◌, ◌-◌, ◌^◌, Bool, true, false, not, ◌==◌, ◌&&◌, ◌||◌, nat_lt, nat_le, if◌then◌else◌, ℤ, pos, negsuc, List, [], ◌∷◌, length, drop, codes, Option, Some, None, Result, Ok, Err, ⊤}
+use Rattle.std.specs.List.{list_all, slice_split, join_with_byte, before_first, after_first}
 use Rattle.std.specs.Str.{bytes_eq}
 use Rattle.std.specs.Str.Parse.{digits_value}
 use Rattle.sj_base.specs.declared.EndId.{EndId}
 use Rattle.sj_grammar.specs.Bytes.{is_digit, begins_with}
 use Rattle.sj_grammar.specs.Lexis.{has_leading_zero}
+use Rattle.sj_rules.specs.Limits.{clock_end}
 use Rattle.sj_log.specs.declared.refusal.LogRule.{LogRule}
 use Rattle.sj_log.specs.declared.refusal.LogRule.TheVariants.{L1, L2, L3, L4}
 
@@ -35,6 +36,10 @@ made f (Err r) = Err r
 abbrev pub words_in : List ℕ → List (List ℕ)
 words_in line = slice_split (λ b. b == 32) line
 
+-- the bytes of words, with a single space between each two
+abbrev pub spaced : List (List ℕ) → List ℕ
+spaced ws = join_with_byte 32 ws
+
 -- the words of the bytes that are left of a line
 abbrev pub words_left : Option (List ℕ) → List (List ℕ)
 words_left None = []
@@ -58,6 +63,14 @@ next f g ws = both (f (word ws)) (g (rest ws))
 abbrev pub ended : List (List ℕ) → Result ⊤ LogRule
 ended ws = if length ws == 0 then Ok tt else Err L1
 
+-- counts have 32 bits
+abbrev pub last_count : ℕ
+last_count = 2 ^ 32 - 1
+
+-- integers have 64 bits and a sign
+abbrev pub last_int : ℕ
+last_int = 2 ^ 63 - 1
+
 -- digits are a number; one without needless zeros, within the bounds
 unfoldable pub number_read : (least most : ℕ) → List ℕ → Result ℕ LogRule
 number_read least most ds =
@@ -67,17 +80,17 @@ number_read least most ds =
 
 -- a count, a number of a message, a session or a connection
 unfoldable pub count_read : List ℕ → Result ℕ LogRule
-count_read w = number_read 0 4294967295 w
+count_read w = number_read 0 last_count w
 
 -- when it happened
 unfoldable pub clock_read : List ℕ → Result ℕ LogRule
-clock_read w = number_read 1 4611686018427387904 w
+clock_read w = number_read 1 clock_end w
 
 -- 64 bits, with a minus before a negative number
 unfoldable pub int_read : List ℕ → Result ℤ LogRule
 int_read w =
-    if begins_with 45 w then made (λ n. negsuc (n - 1)) (number_read 1 9223372036854775808 (drop 1 w))
-    else made (λ n. pos n) (number_read 0 9223372036854775807 w)
+    if begins_with 45 w then made (λ n. negsuc (n - 1)) (number_read 1 (last_int + 1) (drop 1 w))
+    else made (λ n. pos n) (number_read 0 last_int w)
 
 -- session, dot and side
 unfoldable pub end_read : List ℕ → Result EndId LogRule

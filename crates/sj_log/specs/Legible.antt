@@ -9,40 +9,42 @@ use Rattle.sj_lang.specs.Words.{first_index}
 use Rattle.sj_semantics.specs.Lines.{word_at, name_of}
 use Rattle.sj_rules.specs.Log.{NoteAt, LineAt, Local, Sent, Took, Shut, Carry, Fin, Claim, Signal, Ack, Give}
 use Rattle.sj_rules.specs.World.{Event, Act, Deliver}
+use Rattle.sj_rules.specs.Limits.{clock_end}
 use Rattle.sj_grammar.specs.Bytes.{is_printable}
 use Rattle.sj_grammar.specs.Names.{is_word}
-use Rattle.sj_log.specs.Names.{party_of_name}
+use Rattle.sj_log.specs.Names.{party_of_name, last_name}
+use Rattle.sj_log.specs.Fields.{last_count, last_int}
 
 abbrev pub IsCount : ℕ → Type 0
-IsCount n = n ≤ 4294967295
+IsCount n = n ≤ last_count
 
 abbrev pub IsEnd : EndId → Type 0
 IsEnd e = IsCount e.sess × (e.side ≤ 1)
 
 -- 64 bits
 abbrev pub IsInt : ℤ → Type 0
-IsInt (pos n) = n ≤ 9223372036854775807
-IsInt (negsuc n) = n ≤ 9223372036854775807
+IsInt (pos n) = n ≤ last_int
+IsInt (negsuc n) = n ≤ last_int
 
 -- the party of that number is the first that is called so
 pub record HasParty (file : FileAt) (p : ℕ) : Type 0 where
   pub form : is_word (name_of file p) ≡ true
   pub first : party_of_name file.parties (first_index (name_of file p) file.words) ≡ Some p
-  pub small : p ≤ 65535
+  pub small : p ≤ last_name
 
--- the word of that number stands at no earlier place
+-- the word of that number stands nowhere before it
 pub record HasWord (file : FileAt) (n : ℕ) : Type 0 where
   pub form : is_word (word_at file.words n) ≡ true
   pub first : first_index (word_at file.words n) file.words ≡ Some n
-  pub small : n ≤ 65535
+  pub small : n ≤ last_name
 
--- the text of that number stands at no earlier place
+-- the text of that number stands nowhere before it
 pub record HasText (file : FileAt) (n : ℕ) : Type 0 where
   pub text : List ℕ
   pub here : slice_get file.texts n ≡ Some text
   pub form : list_all is_printable text ≡ true
   pub first : first_index text file.texts ≡ Some n
-  pub small : n ≤ 4294967295
+  pub small : n ≤ last_count
 
 abbrev pub IsMessage : FileAt → Msg → Type 0
 IsMessage file (msgs.Int n) = IsInt n
@@ -83,7 +85,7 @@ IsEvent file (Deliver from) note = HasParty file from × IsSaid file note
 -- its clock is from 1 to 2^62, and its party and its event are of the file
 pub record IsLegible (file : FileAt) (l : LineAt) : Type 0 where
   pub least : 1 ≤ l.entry.clock
-  pub most : l.entry.clock ≤ 4611686018427387904
+  pub most : l.entry.clock ≤ clock_end
   pub party : HasParty file l.party
   pub event : IsEvent file l.entry.event l.entry.note
 

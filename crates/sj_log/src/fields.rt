@@ -1,14 +1,14 @@
 //! Numbers and ends, each from a word of a line.
-ghost use Rattle.std.specs.Prelude.{◌≡◌, ◌-◌, ◌<◌, ◌≤◌, ◌^◌, negsuc, IfOk};
-ghost use Rattle.std.specs.List.{list_all, AllPass};
+ghost use Rattle.std.specs.Prelude.{◌≡◌, ◌-◌, ◌≤◌, negsuc, IfOk, ◌+◌};
+ghost use Rattle.std.specs.List.{list_all};
 ghost use Rattle.sj_grammar.specs.Bytes.{is_digit};
-ghost use Rattle.sj_grammar.specs.Lexis.{has_leading_zero};
-ghost use Rattle.sj_log.specs.Values.{value_within};
-ghost use Rattle.sj_log.specs.Fields.{made, number_read, count_read, clock_read, int_read, end_read, resend_read, bool_read};
+ghost use Rattle.sj_grammar.specs.Lexis.{most as largest};
+ghost use Rattle.sj_log.specs.Fields.{made, number_read, count_read, clock_read, int_read, end_read, resend_read, bool_read, last_int};
 
 use crate::refusal::LogRule;
 use crate::words::{first_at, is, together};
 use sj_base::EndId;
+use sj_proto::{digits_number, goes_on_after_zero};
 
 fn are_digits(word: &[u8]) -> bool
     ensures { result ≡ list_all is_digit word.now }
@@ -16,32 +16,10 @@ fn are_digits(word: &[u8]) -> bool
     word.iter().all(|b| b.is_ascii_digit())
 }
 
-fn goes_on_after_zero(digits: &[u8]) -> bool
-    ensures { result ≡ has_leading_zero digits.now }
-{
-    digits.len() > 1 && digits[0] == b'0'
-}
-
-// The value of digits, where it is at most so large.
-#[tactic(auto, using(crate::proofs::Digits::digits))]
-fn value_up_to(most: u128, digits: &[u8]) -> Option<u64>
-    requires digits { AllPass is_digit digits.now }
-    requires most { most < 2 ^ 64 }
-    ensures { result ≡ value_within most digits.now }
-{
-    let mut value = 0u128;
-    for b in digits {
-        value = value * 10 + u128::from(*b - b'0');
-        if value > most {
-            return None;
-        }
-    }
-    Some(value as u64)
-}
-
 /// A number within the bounds.
-#[tactic(auto, unfolding(crate::specs::Fields::number_read), using(crate::proofs::Digits::digits))]
+#[tactic(auto, unfolding(crate::specs::Fields::number_read))]
 pub(crate) fn number(least: u64, most: u64, word: &[u8]) -> Result<u64, LogRule>
+    requires { most ≤ largest }
     ensures read { result ≡ number_read least most word.now }
     ensures within { IfOk result (λ n. (least ≤ n) × (n ≤ most)) }
 {
@@ -51,8 +29,8 @@ pub(crate) fn number(least: u64, most: u64, word: &[u8]) -> Result<u64, LogRule>
     if goes_on_after_zero(word) {
         return Err(LogRule::L3);
     }
-    match value_up_to(u128::from(most), word) {
-        Some(n) if n >= least => Ok(n),
+    match digits_number(word) {
+        Some(n) if least <= n && n <= most => Ok(n),
         _ => Err(LogRule::L3),
     }
 }
@@ -78,7 +56,7 @@ pub(crate) fn clock(word: &[u8]) -> Result<u64, LogRule>
 
 // A number below zero, by the digits behind its minus.
 fn below_zero(digits: &[u8]) -> Result<i64, LogRule>
-    ensures { result ≡ made (λ n. negsuc (n - 1)) (number_read 1 9223372036854775808 digits.now) }
+    ensures { result ≡ made (λ n. negsuc (n - 1)) (number_read 1 (last_int + 1) digits.now) }
 {
     match number(1, 9_223_372_036_854_775_808, digits) {
         Ok(n) => Ok(-1 - ((n - 1) as i64)),

@@ -1,6 +1,7 @@
 //! A log, line after line.
 ghost use Rattle.std.specs.Prelude.{◌≡◌, ◌≤◌, length, map, IfOk, IfErr};
 ghost use Rattle.sj_lang.specs.FileView.{file_of};
+ghost use Rattle.sj_lang.specs.Limits.{source_limit};
 ghost use Rattle.sj_end.specs.Lines.{line_at, note_seen, event_at};
 ghost use Rattle.sj_end.specs.declared.note.Event.TheVariants as events;
 ghost use Rattle.sj_log.specs.Fields.{made};
@@ -72,7 +73,7 @@ fn line(file: &File, bytes: &[u8]) -> Result<Line, LogRule>
 /// before L1, L1 before L3, and L3 before L2. Takes time linear in the bytes, but for the look-up of
 /// names, which takes time logarithmic in the number of the file's words.
 pub fn read_log(alloc: Global, bytes: &[u8], file: &File) -> Result<Vec<Line>, LogRefusal>
-    requires { length bytes.now ≤ 16777216 }
+    requires { length bytes.now ≤ source_limit }
     ensures ok { IfOk result (λ lines. SpellsLog (file_of file.now) bytes.now
         (map line_at lines.items)) }
     ensures fault { IfErr result (IsFault (file_of file.now) bytes.now) }

@@ -1,7 +1,7 @@
 //! Names and texts, each from a word of a line or from its end.
 ghost use Rattle.std.specs.Prelude.{◌≡◌, ◌≤◌, ◌-◌, ◌==◌, ◌&&◌, IfOk, IfSome, IfNone, true, false, map};
 ghost use Rattle.std.specs.List.{list_all};
-ghost use Rattle.sj_grammar.specs.Bytes.{is_letter, is_printable, is_word_byte};
+ghost use Rattle.sj_grammar.specs.Bytes.{is_printable, is_word_byte};
 ghost use Rattle.sj_grammar.specs.Names.{is_word};
 ghost use Rattle.sj_grammar.specs.Literals.{inner};
 ghost use Rattle.sj_lang.specs.FileAt.{party_named};
@@ -11,23 +11,12 @@ ghost use Rattle.sj_log.specs.Names.{number_known, party_of_name, label_read, pa
 
 use crate::refusal::LogRule;
 use sj_lang::{File, Party, Words};
-
-fn begins_word(b: u8) -> bool
-    ensures { result ≡ is_letter b }
-{
-    b.is_ascii_alphabetic() || b == b'_'
-}
-
-fn goes_on_word(b: u8) -> bool
-    ensures { result ≡ is_word_byte b }
-{
-    begins_word(b) || b.is_ascii_digit()
-}
+use sj_proto::{Class, is_in, is_letter_byte};
 
 fn are_word_bytes(w: &[u8]) -> bool
     ensures { result ≡ list_all is_word_byte w.now }
 {
-    w.iter().all(|b| goes_on_word(*b))
+    w.iter().all(|b| is_in(Class::WordByte, *b))
 }
 
 fn has_word_form(w: &[u8]) -> bool
@@ -35,7 +24,7 @@ fn has_word_form(w: &[u8]) -> bool
 {
     match w {
         [] => false,
-        [first, behind @ ..] => begins_word(*first) && are_word_bytes(behind),
+        [first, behind @ ..] => is_letter_byte(*first) && are_word_bytes(behind),
     }
 }
 
@@ -113,16 +102,10 @@ pub(crate) fn party(file: &File, w: &[u8]) -> Result<u16, LogRule>
     }
 }
 
-fn is_printable_byte(b: u8) -> bool
-    ensures { result ≡ is_printable b }
-{
-    b >= 32 && b <= 126 && b != b'"' && b != b'\\'
-}
-
 fn are_printable(text: &[u8]) -> bool
     ensures { result ≡ list_all is_printable text.now }
 {
-    text.iter().all(|b| is_printable_byte(*b))
+    text.iter().all(|b| is_in(Class::Printable, *b))
 }
 
 // What stands between two quotes, where nothing else does.

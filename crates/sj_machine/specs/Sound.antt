@@ -1,5 +1,5 @@
 -- What is true of every machine, and the party that it stands for.
-use Rattle.std.specs.Prelude.{ℕ, ◌<◌, ◌≤◌, List, [], Option, length}
+use Rattle.std.specs.Prelude.{ℕ, ◌-◌, ◌^◌, ◌<◌, ◌≤◌, List, [], Option, length}
 use Rattle.sj_base.specs.declared.EndId.{EndId}
 use Rattle.sj_lang.specs.declared.party.Stmt.{Stmt}
 use Rattle.sj_lang.specs.CodeView.{code_of}
@@ -21,6 +21,10 @@ pub record IsSound (nodes : List Node) (frames : List Frame) (room names : ℕ) 
   pub named : AllBindBelow names nodes
   pub once : AreNamedOnce names ends
   pub names_room : names ≤ ends_room
+
+-- steps are counted in 32 bits
+abbrev pub last_step : ℕ
+last_step = 2 ^ 32 - 1
 
 -- the party that nodes, frames and their room, variables, ends and steps stand for
 abbrev pub program_at : List Node × (List Frame × ℕ) × List (Option Value) × List (ℕ × EndId) × ℕ → Program

@@ -3,7 +3,7 @@ ghost use Rattle.std.specs.Prelude.{◌≡◌, ◌<◌, IfOk, Some, length, slic
 ghost use Rattle.sj_acceptance.specs.Accepted.{IsAccepted};
 ghost use Rattle.sj_lang.specs.FileView.{file_of};
 ghost use Rattle.sj_machine.specs.Names.{NamesDiffer};
-ghost use Rattle.sj_machine.specs.Sound.{first_program, program_at};
+ghost use Rattle.sj_machine.specs.Sound.{first_program, program_at, last_step};
 ghost use Rattle.sj_semantics.specs.World.{start_of};
 ghost use Rattle.sj_semantics.specs.declared.Awaits.{Awaits};
 ghost use Rattle.sj_semantics.specs.declared.Want.TheVariants.{Ended, Take};
@@ -125,7 +125,7 @@ impl Machine {
 
     /// Does the next step, one without a message.
     pub fn local(&mut self)
-        requires { (program_at self.old).steps < 4294967295 }
+        requires { (program_at self.old).steps < last_step }
         ensures { program_at self.new ≡ local_of (program_at self.old) }
     {
         local(&self.nodes, &mut self.stack, &mut self.vars);
@@ -134,7 +134,7 @@ impl Machine {
 
     /// Does the next step, one that sends a message or delegates an end.
     pub fn sent(&mut self)
-        requires { (program_at self.old).steps < 4294967295 }
+        requires { (program_at self.old).steps < last_step }
         ensures { program_at self.new ≡ sent_of (program_at self.old) }
     {
         sent(&self.nodes, &mut self.stack, &self.vars, &mut self.ends);
@@ -143,7 +143,7 @@ impl Machine {
 
     /// Does the next step, one that takes the message.
     pub fn took(&mut self, msg: Msg)
-        requires { (program_at self.old).steps < 4294967295 }
+        requires { (program_at self.old).steps < last_step }
         ensures { program_at self.new ≡ took_of (program_at self.old) msg }
     {
         took(
@@ -158,7 +158,7 @@ impl Machine {
 
     /// Does the next step, one that closes an end.
     pub fn closed(&mut self)
-        requires { (program_at self.old).steps < 4294967295 }
+        requires { (program_at self.old).steps < last_step }
         ensures { program_at self.new ≡ closed_of (program_at self.old) }
     {
         closed(&self.nodes, &mut self.stack, &mut self.ends);

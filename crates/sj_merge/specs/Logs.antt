@@ -1,5 +1,5 @@
 -- The logs of several parties, in a list by the parties' numbers.
-use Rattle.std.specs.Prelude.{◌+◌, ℕ, ⊤, List, [], ◌∷◌, length, map, Option, Some, None, slice_get}
+use Rattle.std.specs.Prelude.{◌+◌, ◌^◌, ℕ, ⊤, List, [], ◌∷◌, length, map, Option, Some, None, slice_get}
 use Rattle.std.specs.Borrow.{Bor}
 use Rattle.sj_end.specs.declared.note.Entry.{Entry}
 use Rattle.sj_rules.specs.Log.{EntryAt, IsInOrder}
@@ -13,6 +13,10 @@ entries_in (Some log) = map entry_at log.now
 -- the logs as the list has them, and none beside them
 abbrev pub log_of : List (Bor (List Entry)) → ℕ → List EntryAt
 log_of logs p = entries_in (slice_get logs p)
+
+-- a log for each party, as parties have numbers of 16 bits
+abbrev pub most_logs : ℕ
+most_logs = 2 ^ 16
 
 -- each log is in order, where the first of them is that party's, and each further one the next party's
 abbrev pub AreOrdered : ℕ → List (Bor (List Entry)) → Type 0

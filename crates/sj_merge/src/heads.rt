@@ -2,7 +2,7 @@
 ghost use Rattle.std.specs.Prelude.{◌≡◌, ◌≤◌, ℕ, [], IfNone, IfSome, length, map};
 ghost use Rattle.sj_merge.specs.Heads.{IsNext, earlier_of};
 ghost use Rattle.sj_merge.specs.Lines.{entry_at};
-ghost use Rattle.sj_merge.specs.Logs.{log_of};
+ghost use Rattle.sj_merge.specs.Logs.{log_of, most_logs};
 
 use sj_end::Entry;
 
@@ -32,7 +32,7 @@ fn earlier(least: Option<Head>, party: u16, log: &[Entry]) -> Option<Head>
 
 /// The party whose next entry comes first, by clock and then by party; none where no log goes on.
 pub(crate) fn next_party(logs: &[&[Entry]]) -> Option<u16>
-    requires { length logs.now ≤ 65536 }
+    requires { length logs.now ≤ most_logs }
     ensures some { IfSome result (λ p. IsNext (log_of logs.now) p) }
     ensures none { IfNone result ((p : ℕ) → log_of logs.now p ≡ []) }
 {

@@ -2,7 +2,7 @@
 ghost use Rattle.std.specs.Prelude.{◌≡◌, ◌≤◌, [], length, map, IfOk, vec_capacity};
 ghost use Rattle.sj_rules.specs.Log.{IsInOrder, IsJoined, IsMerged, part_of};
 ghost use Rattle.sj_merge.specs.Lines.{entry_at, line_at, line_of};
-ghost use Rattle.sj_merge.specs.Logs.{AreOrdered, count_of, log_of};
+ghost use Rattle.sj_merge.specs.Logs.{AreOrdered, count_of, log_of, most_logs};
 
 use crate::heads::next_party;
 use crate::merging::merge;
@@ -59,7 +59,7 @@ fn room_for(alloc: Global, logs: &[&[Entry]]) -> Result<Vec<Line>, NoMemory>
 /// The logs of the parties from the first on joined, in one pass over all of them: the next line is the
 /// first of those with which the logs go on. The room for all lines is taken before.
 pub fn join_logs(alloc: Global, logs: &[&[Entry]]) -> Result<Vec<Line>, NoMemory>
-    requires parties { length logs.now ≤ 65536 }
+    requires parties { length logs.now ≤ most_logs }
     requires order { AreOrdered 0 logs.now }
     ensures { IfOk result (λ v. IsJoined (log_of logs.now) (map line_at v.items)) }
 {

@@ -16,7 +16,7 @@ use Rattle.sj_rules.specs.Node as rules
 use Rattle.sj_rules.specs.Party.{want_or_ended, place_awaited}
 use Rattle.sj_rules.specs.Premises.{NamesKnown}
 use Rattle.sj_rules.specs.Plays.{IsPlayOf}
-use Rattle.sj_node.proofs.PlayLemmas.{same_done, same_goes}
+use Rattle.sj_node.proofs.PlayLemmas.{same_goes}
 use Rattle.sj_node.specs.Play.{awaited_place, want_with, names_known, play_with}
 
 -- a test that is passed beside another
@@ -59,7 +59,7 @@ module _ (file : FileAt) (starts : ℕ → Place) (slots : ℕ) (named : (q : �
   pub is_play_of : IsPlayOf file (play_with starts slots (length file.parties))
   is_play_of = record {
     next = λ place way m. refl;
-    over = same_done;
+    over = λ p. refl;
     wants = λ g. wants_same (want_of g);
     goes = same_goes;
     parties = refl;

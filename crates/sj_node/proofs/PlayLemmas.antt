@@ -5,8 +5,7 @@ use Rattle.sj_base.specs.declared.EndId.{EndId}
 use Rattle.sj_base.specs.declared.Msg.{Msg}
 use Rattle.sj_lang.specs.After.{after_place}
 use Rattle.sj_lang.specs.FileAt.{ProtocolAt, body_named}
-use Rattle.sj_lang.specs.Place.{Place, done, message, choice, repeat}
-use Rattle.sj_table.specs.Table as table
+use Rattle.sj_lang.specs.ItemCount.{is_done}
 use Rattle.sj_semantics.specs.declared.Want.{Want}
 use Rattle.sj_semantics.specs.declared.Want.TheVariants as wants
 use Rattle.sj_semantics.specs.declared.Awaits.{Awaits}
@@ -23,13 +22,6 @@ use Rattle.sj_table.specs.Spots.{start_in}
 use Rattle.sj_node.specs.declared.node.Node.{Node}
 use Rattle.sj_node.specs.Node.{play_of, slot_count}
 use Rattle.sj_node.specs.Play.{HeadsAre, asking, awaited_place, done_by, goes_on, names_known, play_with, want_with}
-
--- a place that ends
-pub same_done : (p : Place) → table.is_done p ≡ file.is_done p
-same_done done = refl
-same_done (message w k rest) = refl
-same_done (choice w arms rest) = refl
-same_done (repeat w body rest) = refl
 
 same_awaited : (ps : List ProtocolAt) (a : Awaits) → awaited_place (body_named ps) a ≡ file.place_awaited ps a
 same_awaited ps (awaits.Session q) = refl
@@ -64,7 +56,7 @@ same_goes g (Some m) = refl
 pub plays_file : (ps : List ProtocolAt) (slots parties : ℕ) → play_with (body_named ps) slots parties ≡ asking (names_known slots parties) (file.play_for parties ps)
 plays_file ps slots parties = λ i. record {
   next = after_place;
-  is_over = λ p. same_done p i;
+  is_over = λ p. is_done p;
   wants = λ g. same_want ps (want_of g) i;
   goes = λ g o. same_goes g o i;
   fits = λ g m. fits g m && names_known slots parties m;

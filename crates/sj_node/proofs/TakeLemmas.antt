@@ -1,6 +1,6 @@
 -- What a message that can be taken names, and a take that its place doesn't let.
-use Rattle.std.proofs.Common.{◌≡◌, ℕ, ◌+◌, ◌*◌, ◌<◌, Bool, true, false, if◌then◌else◌, List, [], ◌∷◌, Option, Some, None, option_map, refl, sym, ◌∙◌, subst, arith}
-use Rattle.std.specs.Prelude.{is_some, length, nat_lt, slice_get, ◌&&◌}
+use Rattle.std.proofs.Common.{◌≡◌, ℕ, ◌+◌, ◌*◌, ◌<◌, Bool, true, false, if◌then◌else◌, List, [], ◌∷◌, Option, Some, None, option_map, refl, ◌∙◌, subst, arith}
+use Rattle.std.specs.Prelude.{is_some, length, slice_get, ◌&&◌}
 use Rattle.std.proofs.lemmas.Bool.Decides.{nat_tests}
 use Rattle.sj_base.specs.declared.EndId.{EndId}
 use Rattle.sj_base.specs.declared.Msg.{Msg}
@@ -13,6 +13,7 @@ use Rattle.sj_table.specs.Spots.{place_in, start_in}
 use Rattle.sj_semantics.specs.declared.Awaits.{Awaits}
 use Rattle.sj_semantics.specs.declared.Want.TheVariants as wants
 use Rattle.sj_semantics.specs.Fitting.{fits}
+use Rattle.sj_semantics.proofs.FittingLemmas.{second_of}
 use Rattle.sj_machine.specs.Sound.{program_at}
 use Rattle.sj_rules.specs.Record.{MainAt, Held, Closed, Expected}
 use Rattle.sj_rules.specs.Mapped.{held_with, main_with}
@@ -24,13 +25,9 @@ use Rattle.sj_node.specs.Play.{awaited_place, names_known}
 use Rattle.sj_node.specs.Taking.{held_head}
 use Rattle.sj_node.proofs.ActLemmas.{act_at}
 
-second : (a b : Bool) → (a && b) ≡ true → b ≡ true
-second true b h = h
-second false b h = cc
-
 -- what it names is there
 takes_known : (n : Node) (m : Msg) → takes_in n m ≡ true → names_known (length n.mains.items) n.parties m ≡ true
-takes_known n m h = second (fits (program_at n.machine) m) (names_known (length n.mains.items) n.parties m) h
+takes_known n m h = second_of (fits (program_at n.machine) m) (names_known (length n.mains.items) n.parties m) h
 
 -- so its end has a slot
 end_known : (slots parties s d k : ℕ) → names_known slots parties (msgs.Sess s d k) ≡ true → (d < 2) × (2 * s + d < slots)

@@ -6,7 +6,7 @@ use Rattle.sj_lang.specs.Place.{Place}
 use Rattle.sj_lang.specs.declared.proto.Way.{Way}
 use Rattle.sj_lang.specs.declared.proto.Way.TheVariants.{Into, Out}
 use Rattle.sj_lang.specs.After.{after_place}
-use Rattle.sj_table.specs.Table.{is_done}
+use Rattle.sj_lang.specs.ItemCount.{is_done}
 use Rattle.sj_semantics.specs.declared.Want.{Want}
 use Rattle.sj_semantics.specs.declared.Want.TheVariants as wants
 use Rattle.sj_semantics.specs.Fitting.{fits}

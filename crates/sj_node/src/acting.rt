@@ -6,6 +6,7 @@ ghost use Rattle.sj_node.specs.Halts.{is_late};
 ghost use Rattle.sj_node.specs.Unfit.{Agrees, misfit_of};
 ghost use Rattle.sj_node.specs.declared.refusal.Halt.TheVariants as halts;
 ghost use Rattle.sj_semantics.specs.declared.Want.TheVariants as wants;
+ghost use Rattle.sj_rules.specs.Limits.{clock_end, limit_of_steps};
 
 use crate::halting::stop_of;
 use crate::outs::{make_room, put_frame};
@@ -18,7 +19,7 @@ use sj_semantics::Want;
 impl Node {
     /// Does the next step of the program. Whatever it refuses, the node is as it was.
     pub fn act(&mut self) -> Result<(), Halt>
-        requires clock { clock_of self.old < 4611686018427387904 }
+        requires clock { clock_of self.old < clock_end }
 
         // The act of the rules, with the clock raised by one, and noted.
         ensures ok { OnOk result (Does self.old (act_of self.old) (clock_of self.old + 1) events.Act
@@ -50,7 +51,7 @@ impl Node {
 
     fn step(&mut self, want: Want) -> Result<(), Halt>
         requires step { wants_of self.old ≡ want }
-        requires clock { clock_of self.old < 4611686018427387904 }
+        requires clock { clock_of self.old < clock_end }
         requires goes { stop_of self.old ≡ None }
         ensures ok { OnOk result (Does self.old (act_of self.old) (clock_of self.old + 1) events.Act
             (note_for self.old) self.new) }
@@ -72,8 +73,8 @@ impl Node {
     // A step without a message.
     fn step_local(&mut self) -> Result<(), Halt>
         requires step { wants_of self.old ≡ wants.Local }
-        requires steps { steps_of self.old < 10000 }
-        requires clock { clock_of self.old < 4611686018427387904 }
+        requires steps { steps_of self.old < limit_of_steps }
+        requires clock { clock_of self.old < clock_end }
         ensures ok { OnOk result (Does self.old (act_of self.old) (clock_of self.old + 1) events.Act
             (note_for self.old) self.new) }
         ensures err { OnErr result (Stays self.old self.new) }
@@ -95,8 +96,8 @@ impl Node {
     // A step that sends.
     fn step_send(&mut self, end: EndId, msg: Msg) -> Result<(), Halt>
         requires step { wants_of self.old ≡ wants.Send end msg }
-        requires steps { steps_of self.old < 10000 }
-        requires clock { clock_of self.old < 4611686018427387904 }
+        requires steps { steps_of self.old < limit_of_steps }
+        requires clock { clock_of self.old < clock_end }
         ensures ok { OnOk result (Does self.old (act_of self.old) (clock_of self.old + 1) events.Act
             (note_for self.old) self.new) }
         ensures err { OnErr result (Stays self.old self.new) }
@@ -134,8 +135,8 @@ impl Node {
     // A step that closes an end.
     fn step_close(&mut self, end: EndId) -> Result<(), Halt>
         requires step { wants_of self.old ≡ wants.Close end }
-        requires steps { steps_of self.old < 10000 }
-        requires clock { clock_of self.old < 4611686018427387904 }
+        requires steps { steps_of self.old < limit_of_steps }
+        requires clock { clock_of self.old < clock_end }
         ensures ok { OnOk result (Does self.old (act_of self.old) (clock_of self.old + 1) events.Act
             (note_for self.old) self.new) }
         ensures err { OnErr result (Stays self.old self.new) }

@@ -6,6 +6,7 @@ ghost use Rattle.sj_base.specs.declared.Msg.TheVariants as msgs;
 ghost use Rattle.sj_node.specs.Halts.{is_late};
 ghost use Rattle.sj_node.specs.Parking.{IsBelowHops, held_of};
 ghost use Rattle.sj_rules.specs.Record as rules;
+ghost use Rattle.sj_rules.specs.Limits.{clock_end, limit_of_steps};
 ghost use Rattle.sj_semantics.specs.Fitting.{is_session};
 ghost use Rattle.sj_semantics.specs.declared.Want.TheVariants as wants;
 
@@ -25,8 +26,8 @@ impl Node {
     // A step that takes.
     pub(crate) fn step_take(&mut self, end: EndId, awaits: Awaits) -> Result<(), Halt>
         requires step { wants_of self.old ≡ wants.Take end awaits }
-        requires steps { steps_of self.old < 10000 }
-        requires clock { clock_of self.old < 4611686018427387904 }
+        requires steps { steps_of self.old < limit_of_steps }
+        requires clock { clock_of self.old < clock_end }
         ensures ok { OnOk result (Does self.old (act_of self.old) (clock_of self.old + 1) events.Act
             (note_for self.old) self.new) }
         ensures err { OnErr result (Stays self.old self.new) }
@@ -51,8 +52,8 @@ impl Node {
     // A step that takes a message which isn't a session message.
     fn take_value(&mut self, end: EndId, awaits: Awaits, msg: Msg) -> Result<(), Halt>
         requires step { wants_of self.old ≡ wants.Take end awaits }
-        requires steps { steps_of self.old < 10000 }
-        requires clock { clock_of self.old < 4611686018427387904 }
+        requires steps { steps_of self.old < limit_of_steps }
+        requires clock { clock_of self.old < clock_end }
         requires head { next_head self.old end ≡ Some msg }
         requires fits { takes_in self.old msg ≡ true }
         requires value { is_session msg ≡ false }
@@ -80,8 +81,8 @@ impl Node {
     // A step that takes a session message, which names the end `of`.
     fn take_end(&mut self, end: EndId, awaits: Awaits, of: EndId, keeper: u16) -> Result<(), Halt>
         requires step { wants_of self.old ≡ wants.Take end awaits }
-        requires steps { steps_of self.old < 10000 }
-        requires clock { clock_of self.old < 4611686018427387904 }
+        requires steps { steps_of self.old < limit_of_steps }
+        requires clock { clock_of self.old < clock_end }
         requires head { next_head self.old end ≡ Some (msgs.Sess of.sess of.side keeper) }
         requires fits { takes_in self.old (msgs.Sess of.sess of.side keeper) ≡ true }
         ensures ok { OnOk result (Does self.old (act_of self.old) (clock_of self.old + 1) events.Act
@@ -128,8 +129,8 @@ impl Node {
     // A step that delegates an end.
     pub(crate) fn step_delegate(&mut self, end: EndId, sent: EndId) -> Result<(), Halt>
         requires step { wants_of self.old ≡ wants.Delegate end sent }
-        requires steps { steps_of self.old < 10000 }
-        requires clock { clock_of self.old < 4611686018427387904 }
+        requires steps { steps_of self.old < limit_of_steps }
+        requires clock { clock_of self.old < clock_end }
         ensures ok { OnOk result (Does self.old (act_of self.old) (clock_of self.old + 1) events.Act
             (note_for self.old) self.new) }
         ensures err { OnErr result (Stays self.old self.new) }
@@ -153,8 +154,8 @@ impl Node {
 
     fn hand_on(&mut self, end: EndId, sent: EndId) -> Result<(), Halt>
         requires step { wants_of self.old ≡ wants.Delegate end sent }
-        requires steps { steps_of self.old < 10000 }
-        requires clock { clock_of self.old < 4611686018427387904 }
+        requires steps { steps_of self.old < limit_of_steps }
+        requires clock { clock_of self.old < clock_end }
         requires other { rules.is_same_end end sent ≡ false }
         requires hops { IsBelowHops (held_of (main_of self.old sent)) }
         requires side { sent.side < 2 }

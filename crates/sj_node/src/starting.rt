@@ -3,9 +3,11 @@ ghost use Rattle.std.specs.Prelude.{◌≡◌, ◌<◌, ◌≤◌, ℕ, IfOk, le
 ghost use Rattle.sj_check.specs.Held.{file_in};
 ghost use Rattle.sj_lang.specs.FileAt.{ConnectAt, FileAt, body_named};
 ghost use Rattle.sj_lang.specs.FileView.{decl_of, file_of, party_of as party_seen};
+ghost use Rattle.sj_lang.specs.Limits.{limits};
 ghost use Rattle.sj_node.specs.Reading.{table_of};
 ghost use Rattle.sj_node.specs.Starting.{Begins, slot_at_places, slots_from};
 ghost use Rattle.sj_rules.specs.Start.{declared_on, held_by};
+ghost use Rattle.sj_rules.specs.Limits.{clock_end};
 ghost use Rattle.sj_semantics.specs.Ends.{other_side};
 ghost use Rattle.sj_table.specs.Spots.{start_in};
 
@@ -29,7 +31,7 @@ fn first_record(
     own: EndDecl,
     other: EndDecl,
 ) -> Option<Main>
-    requires { length parties.now ≤ 16 }
+    requires { length parties.now ≤ limits.parties }
     ensures { (file : FileAt) (c : ConnectAt) → file.parties ≡ map party_seen parties.now →
         ((p : ℕ) → start_in table.now p ≡ body_named file.protocols p) →
         declared_on id.side c ≡ decl_of own → declared_on (other_side id.side) c ≡ decl_of other →
@@ -50,8 +52,8 @@ fn first_slots(
     table: &Table,
     party: u16,
 ) -> Result<Vec<Option<Main>>, NoMemory>
-    requires parties { length (file_of file.now).parties ≤ 16 }
-    requires connects { length (file_of file.now).connects ≤ 64 }
+    requires parties { length (file_of file.now).parties ≤ limits.parties }
+    requires connects { length (file_of file.now).connects ≤ limits.connects }
     requires starts { (p : ℕ) → start_in table.now p ≡ body_named (file_of file.now).protocols p }
     ensures slots { IfOk result (λ slots. map (slot_at_places table.now) slots.items
         ≡ slots_from (file_of file.now) party 0 (file_of file.now).connects) }
@@ -88,7 +90,7 @@ impl Node {
         clock: u64,
     ) -> Result<Node, NoMemory>
         requires party { party < length (file_of (file_in accepted.now)).parties }
-        requires clock { clock ≤ 4611686018427387904 }
+        requires clock { clock ≤ clock_end }
         ensures { IfOk result (λ n. Begins (file_of (file_in accepted.now)) party clock n) }
     {
         let file = accepted.file();
@@ -106,7 +108,7 @@ impl Node {
         table: Table,
     ) -> Result<Node, NoMemory>
         requires party { party < length (file_of (file_in accepted.now)).parties }
-        requires clock { clock ≤ 4611686018427387904 }
+        requires clock { clock ≤ clock_end }
         requires starts { (p : ℕ) → start_in table p
             ≡ body_named (file_of (file_in accepted.now)).protocols p }
         ensures begins { IfOk result (λ n. Begins (file_of (file_in accepted.now)) party clock n) }

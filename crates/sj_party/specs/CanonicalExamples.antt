@@ -17,7 +17,7 @@ use Rattle.sj_party.specs.CanonicalFile.{end_text, protocol_line, file_text}
 
 -- names of one letter, from `a` on, and one text
 abbrev letters : Spelling
-letters = record { word = λ n. (97 ∷ []); text = λ n. codes "Paris" }
+letters = record { word = λ n. codes "a"; text = λ n. codes "Paris" }
 
 abbrev a : Term
 a = var 0

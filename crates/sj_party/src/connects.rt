@@ -9,7 +9,7 @@ ghost use Rattle.sj_grammar.specs.Faults.{Stuck};
 ghost use Rattle.sj_grammar.specs.Refusals.{OnFault};
 ghost use Rattle.sj_grammar.specs.Asked.{is_next, Passes};
 ghost use Rattle.sj_proto.specs.Leaves.{Leaves};
-ghost use Rattle.sj_proto.specs.Parsed.{standing, GivesOnLines, HasRoom, need};
+ghost use Rattle.sj_proto.specs.Parsed.{standing, GivesOnLines, HasRoom, need, room_for_names};
 
 use sj_lang::{Connect, EndDecl, Names};
 use sj_proto::{ParseRefusal, Tokens, take_first, take_name};
@@ -19,7 +19,7 @@ const MOST_CONNECTS: usize = 64;
 
 // One end of a connection: its party, its own name and its protocol.
 fn end_decl(tokens: &mut Tokens, names: &mut Names) -> Result<EndDecl, ParseRefusal>
-    requires room { need names.old.words tokens.old + 2 ≤ 131072 }
+    requires room { need names.old.words tokens.old + 2 ≤ room_for_names }
     ensures reads { IfOk result (λ d.
         GivesOnLines (standing tokens.old names.old) (standing tokens.new names.new)
         (λ names. end_pieces names.word (decl_of d)) (λ names. IsEnd limits names (decl_of d))) }
@@ -46,7 +46,7 @@ fn connect(tokens: &mut Tokens, names: &mut Names, before: usize) -> Result<Conn
         GivesOnLines (standing tokens.old names.old) (standing tokens.new names.new)
         (λ names. connect_pieces names.word (connect_of c))
         (λ names. IsConnect limits names (connect_of c))) }
-    ensures few { IfOk result (λ _. before < 64) }
+    ensures few { IfOk result (λ _. before < limits.connects) }
     ensures shorter { IfOk result (λ _. length tokens.new.ahead < length tokens.old.ahead) }
     ensures leaves { Leaves 0 result names.old tokens.old names.new tokens.new }
     ensures fault { IfErr result (OnFault (λ f. (n : ℕ) (ds : List Due) → Stuck file_layer limits n
@@ -77,7 +77,7 @@ pub fn parse_connects(
         GivesOnLines (standing tokens.old names.old) (standing tokens.new names.new)
         (λ names. connects_pieces names.word (map connect_of v.items))
         (λ names. All (IsConnect limits names) (map connect_of v.items))) }
-    ensures few { IfOk result (λ v. length v.items ≤ 64) }
+    ensures few { IfOk result (λ v. length v.items ≤ limits.connects) }
     ensures ends { IfOk result (λ v.
         Passes file_layer (connects (length v.items)) (next_of tokens.new.ahead)) }
     ensures leaves { Leaves 0 result names.old tokens.old names.new tokens.new }

@@ -2,7 +2,7 @@
 ghost use Rattle.std.specs.Prelude.{◌≡◌, ◌≤◌, [], length, IfOk, IfErr};
 ghost use Rattle.sj_lang.specs.FileAt.{FileAt};
 ghost use Rattle.sj_lang.specs.FileView.{file_of};
-ghost use Rattle.sj_lang.specs.Limits.{limits, IsWithin};
+ghost use Rattle.sj_lang.specs.Limits.{limits, IsWithin, file_limit};
 ghost use Rattle.sj_grammar.specs.Places.{start};
 ghost use Rattle.sj_grammar.specs.Files.{IsFile};
 ghost use Rattle.sj_grammar.specs.FileDues.{file_layer, file_due};
@@ -18,7 +18,7 @@ use std::alloc::Global;
 /// The file that the bytes spell: protocols, parties and connections, and then blanks and comments
 /// alone. Names and texts have their numbers in order of first occurrence.
 pub fn parse_file(alloc: Global, bytes: &[u8]) -> Result<File, ParseRefusal>
-    requires { length bytes.now ≤ 65536 }
+    requires { length bytes.now ≤ file_limit }
 
     // the value exactly where the text stands for a file, and that value alone
     ensures found { IfOk result (λ f. IsFile bytes.now (file_of f)) }

@@ -32,7 +32,7 @@ fn party(
     ensures reads { IfOk result (λ q.
         ReadsOnLines (standing tokens.old names.old) (standing tokens.new names.new)
         (λ names ps. AreParties limits names (party_of q ∷ []) ps)) }
-    ensures few { IfOk result (λ _. before < 16) }
+    ensures few { IfOk result (λ _. before < limits.parties) }
     ensures room { IfOk result (λ _. KeepsRoom names.old tokens.old names.new tokens.new) }
     ensures shorter { IfOk result (λ _. length tokens.new.ahead < length tokens.old.ahead) }
     ensures onward { Advances tokens.old tokens.new }
@@ -59,7 +59,7 @@ pub fn parse_parties(
     ensures reads { IfOk result (λ v.
         ReadsOnLines (standing tokens.old names.old) (standing tokens.new names.new)
         (λ names ps. AreParties limits names (map party_of v.items) ps)) }
-    ensures few { IfOk result (λ v. length v.items ≤ 16) }
+    ensures few { IfOk result (λ v. length v.items ≤ limits.parties) }
     ensures ends { IfOk result (λ v.
         Passes file_layer (parties (length v.items)) (next_of tokens.new.ahead)) }
     ensures room { IfOk result (λ _. KeepsRoom names.old tokens.old names.new tokens.new) }

@@ -35,7 +35,7 @@ pub(crate) fn statements(
     names: &mut Names,
     depth: usize,
 ) -> Result<Vec<Stmt>, ParseRefusal>
-    requires deep { depth ≤ 32 }
+    requires deep { depth ≤ limits.nesting }
     requires room { HasRooms names.old tokens.old }
     ensures reads { IfOk result (λ v. ReadsCode depth (standing tokens.old names.old)
         (standing tokens.new names.new) (code_of v.items)) }
@@ -64,7 +64,7 @@ fn deed(
     depth: usize,
     opening: Opening,
 ) -> Result<Deed, ParseRefusal>
-    requires deep { depth ≤ 32 }
+    requires deep { depth ≤ limits.nesting }
     requires room { HasRoomFor 2 names.old tokens.old }
     ensures reads { IfOk result (λ d. ReadsDeed (word_of opening) depth
         (standing tokens.old names.old) (standing tokens.new names.new) (deed_of d)) }
@@ -102,7 +102,7 @@ fn test(
     names: &mut Names,
     depth: usize,
 ) -> Result<Deed, ParseRefusal>
-    requires deep { depth ≤ 32 }
+    requires deep { depth ≤ limits.nesting }
     requires room { HasRoomFor 2 names.old tokens.old }
     ensures reads { IfOk result (λ d. ReadsDeed (codes "if") depth (standing tokens.old names.old)
         (standing tokens.new names.new) (deed_of d)) }
@@ -125,7 +125,7 @@ fn inbranch(
     names: &mut Names,
     depth: usize,
 ) -> Result<Deed, ParseRefusal>
-    requires deep { depth ≤ 32 }
+    requires deep { depth ≤ limits.nesting }
     requires room { HasRoomFor 2 names.old tokens.old }
     ensures reads { IfOk result (λ d. ReadsDeed (codes "inbranch") depth
         (standing tokens.old names.old) (standing tokens.new names.new) (deed_of d)) }
@@ -149,7 +149,7 @@ fn arms(
     names: &mut Names,
     depth: usize,
 ) -> Result<Vec<StmtArm>, ParseRefusal>
-    requires deep { depth ≤ 32 }
+    requires deep { depth ≤ limits.nesting }
     requires room { HasRoomFor 1 names.old tokens.old }
     ensures reads { IfOk result (λ v. ReadsPart (standing tokens.old names.old)
         (standing tokens.new names.new) (some_arms depth (branches_of (map arm_of v.items)))) }
@@ -174,7 +174,7 @@ fn arm(
     names: &mut Names,
     depth: usize,
 ) -> Result<StmtArm, ParseRefusal>
-    requires deep { depth ≤ 32 }
+    requires deep { depth ≤ limits.nesting }
     requires room { HasRoomFor 1 names.old tokens.old }
     ensures reads { IfOk result (λ x. ReadsOnLines (standing tokens.old names.old)
         (standing tokens.new names.new)
@@ -197,7 +197,7 @@ fn block(
     names: &mut Names,
     depth: usize,
 ) -> Result<Vec<Stmt>, ParseRefusal>
-    requires deep { depth ≤ 32 }
+    requires deep { depth ≤ limits.nesting }
     requires room { HasRoomFor 0 names.old tokens.old }
     ensures reads { IfOk result (λ v. ReadsPart (standing tokens.old names.old)
         (standing tokens.new names.new) (a_block depth (code_of v.items))) }

@@ -1,6 +1,7 @@
 -- The world of a course of acts, its acts, and the file that it is of.
 use Rattle.std.specs.Prelude.{◌≡◌, ◌≤◌, ℕ, List, ◌++◌, length, map, Some}
 use Rattle.sj_lang.specs.FileAt.{FileAt}
+use Rattle.sj_lang.specs.Limits.{limits}
 use Rattle.sj_machine.specs.Sound.{program_at}
 use Rattle.sj_semantics.specs.Run.{IsRun, after_acts}
 use Rattle.sj_semantics.specs.World.{World}
@@ -30,4 +31,4 @@ pub record GoesOn (v w : Course) : Type 0 where
 -- its acts lead from the start of its file to its world, and an accepted file has 16 parties at most
 pub record IsReached (c : Course) : Type 0 where
   pub run : IsRun (file_in c) (acts_in c) (world_in c)
-  pub few : length (world_in c).parties ≤ 16
+  pub few : length (world_in c).parties ≤ limits.parties

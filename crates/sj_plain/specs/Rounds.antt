@@ -4,12 +4,13 @@ use Rattle.sj_base.specs.declared.EndId.{EndId}
 use Rattle.sj_semantics.specs.declared.State.{State}
 use Rattle.sj_semantics.specs.declared.State.TheVariants as states
 use Rattle.sj_semantics.specs.World.{World}
+use Rattle.sj_semantics.specs.Program.{limit_of_steps}
 use Rattle.sj_plain.specs.declared.halt.Halt.{Halt}
 use Rattle.sj_plain.specs.declared.halt.Halt.TheVariants as halts
 
 -- the steps that all parties have left
 abbrev pub steps_left : World → ℕ
-steps_left w = sum_by (λ g. 10000 - g.steps) w.parties
+steps_left w = sum_by (λ g. limit_of_steps - g.steps) w.parties
 
 -- the party stands as the refusal tells; want of memory comes to a ready party alone
 abbrev pub Shows : State → Halt → Type 0

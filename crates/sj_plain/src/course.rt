@@ -3,6 +3,7 @@ ghost use Rattle.std.specs.List.{list_all, list_any};
 ghost use Rattle.std.specs.Prelude.{◌≡◌, ◌<◌, ◌≤◌, ◌∷◌, ◌++◌, [], None, Some, true, false, length, map, IfOk, MatchResult, OnErr, OnOk};
 ghost use Rattle.sj_acceptance.specs.Accepted.{IsAccepted};
 ghost use Rattle.sj_lang.specs.FileView.{file_of};
+ghost use Rattle.sj_lang.specs.Limits.{limits};
 ghost use Rattle.sj_plain.specs.Finish.{ActsOut, IsFinished, IsRound};
 ghost use Rattle.sj_plain.specs.Finishing.{ActsOnce, BreaksOff, GoesBy, Stays};
 ghost use Rattle.sj_plain.specs.Kept.{without_words};
@@ -138,7 +139,7 @@ impl Course {
 
     /// Gives each party in file order its turn. Answers whether somebody acted.
     fn round(&mut self) -> Result<bool, NoMemory>
-        requires { length (world_in self.old).parties ≤ 16 }
+        requires { length (world_in self.old).parties ≤ limits.parties }
         ensures ok { OnOk result (GoesBy IsRound self.old self.new) }
         ensures err { OnErr result (BreaksOff IsRound self.old self.new) }
         ensures on { GoesOn self.old self.new }
@@ -159,7 +160,7 @@ impl Course {
 
     /// Rounds of all parties, until one has no act.
     pub fn finish(&mut self) -> Result<(), NoMemory>
-        requires { length (world_in self.old).parties ≤ 16 }
+        requires { length (world_in self.old).parties ≤ limits.parties }
         ensures ok { OnOk result (GoesBy IsFinished self.old self.new) }
         ensures err { OnErr result (BreaksOff IsFinished self.old self.new) }
         ensures on { GoesOn self.old self.new }

@@ -3,7 +3,7 @@ ghost use Rattle.std.specs.Prelude.{◌≡◌, ◌<◌, ℕ, map, IfOk, OnOk, On
 ghost use Rattle.std.specs.Option.{option_copied};
 ghost use Rattle.sj_lang.specs.FileAt.{body_named, protocol_named};
 ghost use Rattle.sj_lang.specs.FileView.{protocol_of, connect_of};
-ghost use Rattle.sj_semantics.specs.Ends.{end_on};
+ghost use Rattle.sj_semantics.specs.Ends.{end_on, limit_of_hops};
 ghost use Rattle.sj_semantics.specs.World.{fresh};
 ghost use Rattle.sj_semantics.specs.Uses.{on_side, end_after, sends, takes, delegates};
 ghost use Rattle.sj_plain.specs.Ends.{end_view, session_at, connected, next_on};
@@ -176,7 +176,7 @@ impl Session {
 
     /// Notes that the end was delegated.
     pub(crate) fn hand_on(&mut self, side: u8)
-        requires { (end_on side (session_at self.old)).hops < 100 }
+        requires { (end_on side (session_at self.old)).hops < limit_of_hops }
         ensures { (by : ℕ) → session_at self.new
             ≡ on_side side (end_after by delegates) (session_at self.old) }
     {

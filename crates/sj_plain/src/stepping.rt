@@ -8,6 +8,7 @@ ghost use Rattle.sj_semantics.specs.Steps.{took_of};
 ghost use Rattle.sj_semantics.specs.Uses.{after_uses, takes};
 ghost use Rattle.sj_semantics.specs.declared.Passed.{Passed};
 ghost use Rattle.sj_semantics.specs.declared.State.TheVariants.{Ready};
+ghost use Rattle.sj_semantics.specs.Program.{limit_of_steps};
 
 use crate::ends::Session;
 use crate::uses::{delegate_on, hops, next_message, send_on, take_on};
@@ -70,7 +71,7 @@ fn take(
     party: u16,
     end: EndId,
 ) -> Result<(), NoMemory>
-    requires { (program_at machine.old).steps < 10000 }
+    requires { (program_at machine.old).steps < limit_of_steps }
     ensures ok { OnOk result ((x : Passed) → next_for (sessions_at sessions.old.items) end ≡ Some x →
         (program_at machine.new ≡ took_of (program_at machine.old) x.msg)
         × (sessions_at sessions.new.items

@@ -1,7 +1,7 @@
 //! Uses of the ends of sessions, by the ends' names. An end that no session has is used for nothing.
 ghost use Rattle.std.specs.Prelude.{◌≡◌, ◌<◌, ◌∷◌, [], ℕ, OnErr, OnOk};
 ghost use Rattle.sj_plain.specs.Stepping.{sessions_at};
-ghost use Rattle.sj_semantics.specs.Ends.{end_at, next_for};
+ghost use Rattle.sj_semantics.specs.Ends.{end_at, next_for, limit_of_hops};
 ghost use Rattle.sj_semantics.specs.Uses.{after_uses, delegates, sends, takes};
 ghost use Rattle.sj_semantics.specs.World.{session_message};
 
@@ -71,7 +71,7 @@ pub fn take_on(
 
 /// The end is delegated.
 fn hand_on(sessions: &mut Vec<Session>, end: EndId)
-    requires { (end_at (sessions_at sessions.old.items) end).hops < 100 }
+    requires { (end_at (sessions_at sessions.old.items) end).hops < limit_of_hops }
     ensures { (party : ℕ) → sessions_at sessions.new.items
         ≡ after_uses party ((end, delegates) ∷ []) (sessions_at sessions.old.items) }
 {
@@ -90,7 +90,7 @@ pub fn delegate_on(
     end: EndId,
     party: u16,
 ) -> Result<(), NoMemory>
-    requires { (end_at (sessions_at sessions.old.items) end).hops < 100 }
+    requires { (end_at (sessions_at sessions.old.items) end).hops < limit_of_hops }
     ensures ok { OnOk result (sessions_at sessions.new.items
         ≡ after_uses party ((end, delegates) ∷ (carrier, sends (session_message end party)) ∷ [])
         (sessions_at sessions.old.items)) }

@@ -3,10 +3,10 @@
 //! Want of memory leaves a front of what was to be put behind the text.
 #![tactic(auto, using(sj_text::proofs::Cuts::cuts))]
 
-ghost use Rattle.std.specs.Prelude.{◌≡◌, ◌++◌, ◌∷◌, [], OnOk, OnErr, decimal, map};
+ghost use Rattle.std.specs.Prelude.{◌≡◌, ◌++◌, ◌∷◌, [], OnOk, OnErr, map, None};
 ghost use Rattle.sj_text.specs.Cut.{IsCutShort};
 ghost use Rattle.sj_lang.specs.FileView.{file_of};
-ghost use Rattle.sj_semantics.specs.Lines.{line_of, word_at, quoted_at, name_of, end_text};
+ghost use Rattle.sj_semantics.specs.Lines.{line_of, word_at, or_number, quoted_at, name_of, end_text, in_quotes};
 ghost use Rattle.sj_print.specs.LogLine.{resend_word};
 ghost use Rattle.sj_print.specs.Pieces.{piece_text, spaced_text};
 
@@ -104,9 +104,9 @@ fn put_quoted(text: &mut Vec<u8>, texts: &Words, n: u32) -> Result<(), NoMemory>
 }
 
 fn put_in_quotes(text: &mut Vec<u8>, bytes: &[u8]) -> Result<(), NoMemory>
-    ensures ok { OnOk result (text.new.items ≡ text.old.items ++ 34 ∷ bytes.now ++ 34 ∷ []) }
+    ensures ok { OnOk result (text.new.items ≡ text.old.items ++ in_quotes bytes.now) }
     ensures err { OnErr result (IsCutShort text.old.items
-        (34 ∷ bytes.now ++ 34 ∷ []) text.new.items) }
+        (in_quotes bytes.now) text.new.items) }
 {
     put(text, b"\"")?;
     put(text, bytes)?;
@@ -126,8 +126,8 @@ fn put_word(text: &mut Vec<u8>, words: &Words, n: u32) -> Result<(), NoMemory>
 
 // A number that names nothing.
 fn put_nameless(text: &mut Vec<u8>, n: u32) -> Result<(), NoMemory>
-    ensures ok { OnOk result (text.new.items ≡ text.old.items ++ 35 ∷ decimal n) }
-    ensures err { OnErr result (IsCutShort text.old.items (35 ∷ decimal n) text.new.items) }
+    ensures ok { OnOk result (text.new.items ≡ text.old.items ++ or_number n None) }
+    ensures err { OnErr result (IsCutShort text.old.items (or_number n None) text.new.items) }
 {
     put(text, b"#")?;
     put_number(text, u64::from(n))

@@ -4,6 +4,7 @@
 ghost use Rattle.std.specs.Prelude.{◌≡◌, ◌++◌, ◌<◌, ◌≤◌, length, OnOk, OnErr};
 ghost use Rattle.sj_text.specs.Cut.{IsCutShort};
 ghost use Rattle.sj_lang.specs.FileView.{file_of, connect_of};
+ghost use Rattle.sj_lang.specs.Limits.{limits};
 ghost use Rattle.sj_plain.specs.Kept.{without_words};
 ghost use Rattle.sj_plain.specs.Plain.{acts_of, kept_file, party_count, session_count, world_at};
 ghost use Rattle.sj_semantics.specs.Run.{IsRun};
@@ -18,8 +19,8 @@ use sj_plain::Plain;
 /// Puts the transcript behind the text: sessions and what was sent on them, parties, verdict. The
 /// file is the one that the plain world is of. Want of memory leaves a front of the transcript.
 pub fn print_transcript(text: &mut Vec<u8>, file: &File, plain: &Plain) -> Result<(), NoMemory>
-    requires parties { length (file_of file.now).parties ≤ 16 }
-    requires connects { length (file_of file.now).connects ≤ 64 }
+    requires parties { length (file_of file.now).parties ≤ limits.parties }
+    requires connects { length (file_of file.now).connects ≤ limits.connects }
     requires kept { kept_file plain.now ≡ without_words (file_of file.now) }
     requires run { IsRun (kept_file plain.now) (acts_of plain.now) (world_at plain.now) }
     ensures ok { OnOk result (text.new.items
@@ -33,7 +34,7 @@ pub fn print_transcript(text: &mut Vec<u8>, file: &File, plain: &Plain) -> Resul
 }
 
 fn put_sessions(text: &mut Vec<u8>, file: &File, plain: &Plain) -> Result<(), NoMemory>
-    requires few { length (file_of file.now).connects ≤ 64 }
+    requires few { length (file_of file.now).connects ≤ limits.connects }
     requires all { session_count plain.now ≡ length (file_of file.now).connects }
     ensures ok { OnOk result (text.new.items ≡ text.old.items
         ++ session_lines (file_of file.now) 0 (file_of file.now).connects
@@ -74,7 +75,7 @@ fn put_session_part(
 }
 
 fn put_parties(text: &mut Vec<u8>, file: &File, plain: &Plain) -> Result<(), NoMemory>
-    requires few { length (file_of file.now).parties ≤ 16 }
+    requires few { length (file_of file.now).parties ≤ limits.parties }
     requires all { party_count plain.now ≡ length (file_of file.now).parties }
     ensures ok { OnOk result (text.new.items ≡ text.old.items
         ++ party_lines (file_of file.now) (world_at plain.now).sessions

@@ -5,6 +5,7 @@ use Rattle.sj_grammar.specs.Lexis.{Ahead, at_end, bad, token, most}
 use Rattle.sj_grammar.specs.Reading.{line_at, column_at}
 use Rattle.sj_proto.specs.declared.scan.Found.{Found}
 use Rattle.sj_proto.specs.declared.scan.Found.TheVariants as found
+use Rattle.sj_lang.specs.Limits.{file_limit}
 
 abbrev pub found_of : List ℕ → Found → Ahead
 found_of bytes found.Nothing = at_end
@@ -30,7 +31,7 @@ value_of ds = if nat_lt most (digits_value 10 ds) then None else Some (digits_va
 -- the position, with its line and its column, in a text that isn't too long
 pub record IsPosition (bytes : List ℕ) (at l c : ℕ) : Type 0 where
   pub within : at ≤ length bytes
-  pub short : length bytes ≤ 65536
+  pub short : length bytes ≤ file_limit
   pub line : l ≡ line_at (take at bytes)
   pub column : c ≡ column_at (take at bytes)
   pub few_lines : l ≤ at + 1

@@ -1,5 +1,5 @@
 -- What a call of a parser read, where it went wrong, and what it did to the tables.
-use Rattle.std.specs.Prelude.{◌≡◌, ℕ, ◌+◌, ◌*◌, ◌≤◌, List, ◌++◌, length}
+use Rattle.std.specs.Prelude.{◌≡◌, ℕ, ◌+◌, ◌*◌, ◌^◌, ◌≤◌, List, ◌++◌, length}
 use Rattle.sj_lang.specs.declared.file.Names.{Names}
 use Rattle.sj_grammar.specs.declared.refusal.ParseRefusal.{ParseRefusal}
 use Rattle.sj_lang.specs.Limits.{limits}
@@ -36,9 +36,21 @@ pub record Keeps (old new : Names) : Type 0 where
   pub words : Extends old.words new.words
   pub texts : new.texts ≡ old.texts
 
--- what names may still come: each new one takes two bytes, so that its number stays below 65,536
+-- words have numbers of 16 bits
+abbrev pub limit_of_names : ℕ
+limit_of_names = 2 ^ 16
+
+-- what names may still come: each new one takes two bytes
 abbrev pub need : List (List ℕ) → Reading → ℕ
 need words r = 2 * length words + length r.ahead
 
+-- within it each new one has a number below the limit
+abbrev pub room_for_names : ℕ
+room_for_names = 2 * limit_of_names
+
+-- so many words, and texts, may be there before a text is read: there is room for those of each text
+abbrev pub names_before : ℕ
+names_before = 32768
+
 abbrev pub HasRoom : Names → Reading → Type 0
-HasRoom names r = need names.words r ≤ 131072
+HasRoom names r = need names.words r ≤ room_for_names

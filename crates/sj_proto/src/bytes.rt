@@ -14,6 +14,7 @@ pub enum Class {
     Comment,
 }
 
+/// Whether the byte is of that class.
 pub fn is_in(class: Class, b: u8) -> bool
     ensures { result ≡ in_class class b }
 {
@@ -26,6 +27,7 @@ pub fn is_in(class: Class, b: u8) -> bool
     }
 }
 
+/// Whether a word may begin with the byte.
 pub fn is_letter_byte(b: u8) -> bool
     ensures { result ≡ is_letter b }
 {

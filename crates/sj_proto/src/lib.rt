@@ -18,6 +18,7 @@ mod tests;
 mod tokens;
 
 pub use bodies::body;
+pub use bytes::{Class, is_in, is_letter_byte};
 pub use choices::take_first;
 pub use laws::{
     a_fault_comes_again, first_faults_go_wrong, no_list_in_front_has_a_fault,
@@ -30,7 +31,7 @@ pub use printing::{print_protocol, put_word};
 pub use printing_laws::{printed_text_is_read_again, printed_text_stands};
 pub use protocols::{parse_protocol, parse_protocols};
 pub use reserved::is_name_text;
-pub use scan::digits_number;
+pub use scan::{digits_number, goes_on_after_zero};
 pub use sj_grammar::{Fault, ParseRefusal, Rule, Token, What};
 pub use tokens::Tokens;
 

@@ -6,7 +6,7 @@ ghost use Rattle.sj_grammar.specs.Tables.{with_entry, IsNamed};
 ghost use Rattle.sj_grammar.specs.Refusals.{OnFault};
 ghost use Rattle.sj_grammar.specs.Asked.{Refuses, but_name};
 ghost use Rattle.sj_proto.specs.Leaves.{Leaves};
-ghost use Rattle.sj_proto.specs.Parsed.{standing, Gives, Keeps, HasRoom};
+ghost use Rattle.sj_proto.specs.Parsed.{standing, Gives, Keeps, HasRoom, limit_of_names};
 
 use crate::tokens::Tokens;
 use sj_base::NoMemory;
@@ -15,7 +15,7 @@ use sj_lang::Names;
 
 // The number of a word.
 fn number_of(names: &mut Names, word: &[u8]) -> Result<u16, NoMemory>
-    requires { length names.old.words < 65536 }
+    requires { length names.old.words < limit_of_names }
     ensures table { IfOk result (λ _. names.new.words ≡ with_entry names.old.words word.now) }
     ensures there { IfOk result (λ n. n < length names.new.words) }
     ensures here { IfOk result (λ n. get_or names.new.words n [] ≡ word.now) }

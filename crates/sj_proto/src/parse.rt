@@ -37,8 +37,8 @@ pub fn seq(
     items: &mut usize,
     depth: usize,
 ) -> Result<Proto, ParseRefusal>
-    requires few { items.old ≤ 1024 }
-    requires deep { depth ≤ 32 }
+    requires few { items.old ≤ limits.items }
+    requires deep { depth ≤ limits.nesting }
     requires room { HasRoom names.old tokens.old }
     ensures reads { IfOk result (λ p.
         Gives (standing tokens.old names.old) (standing tokens.new names.new)
@@ -47,7 +47,7 @@ pub fn seq(
     ensures ends { IfOk result (λ _.
         Passes file_layer (proto (more depth)) (next_of tokens.new.ahead)) }
     ensures count { IfOk result (λ p. items.new ≡ items.old + item_count p) }
-    ensures few { IfOk result (λ _. items.new ≤ 1024) }
+    ensures few { IfOk result (λ _. items.new ≤ limits.items) }
     ensures leaves { Leaves 0 result names.old tokens.old names.new tokens.new }
     ensures fault { IfErr result (Stops (λ ds. proto (items_due depth) ∷ ds)
         items.old (standing tokens.old names.old)) }
@@ -70,8 +70,8 @@ fn maybe(
     items: &mut usize,
     depth: usize,
 ) -> Result<Proto, ParseRefusal>
-    requires few { items.old ≤ 1024 }
-    requires deep { depth ≤ 32 }
+    requires few { items.old ≤ limits.items }
+    requires deep { depth ≤ limits.nesting }
     requires room { HasRoom names.old tokens.old }
     ensures reads { IfOk result (λ p.
         Gives (standing tokens.old names.old) (standing tokens.new names.new)
@@ -79,7 +79,7 @@ fn maybe(
     ensures ends { IfOk result (λ p.
         Passes file_layer (proto (due_behind depth p)) (next_of tokens.new.ahead)) }
     ensures count { IfOk result (λ p. items.new ≡ items.old + item_count p) }
-    ensures few { IfOk result (λ _. items.new ≤ 1024) }
+    ensures few { IfOk result (λ _. items.new ≤ limits.items) }
     ensures leaves { Leaves 0 result names.old tokens.old names.new tokens.new }
     ensures fault { IfErr result (Stops (λ ds. proto (maybe_due depth) ∷ ds)
         items.old (standing tokens.old names.old)) }
@@ -100,14 +100,14 @@ fn item(
     items: &mut usize,
     depth: usize,
 ) -> Result<Item, ParseRefusal>
-    requires few { items.old ≤ 1024 }
-    requires deep { depth ≤ 32 }
+    requires few { items.old ≤ limits.items }
+    requires deep { depth ≤ limits.nesting }
     requires room { HasRoom names.old tokens.old }
     ensures reads { IfOk result (λ i.
         Gives (standing tokens.old names.old) (standing tokens.new names.new)
         (λ word. item_pieces word i) (λ word. IsGiven limits word depth (followed i done))) }
     ensures count { IfOk result (λ i. items.new ≡ items.old + item_count (followed i done)) }
-    ensures few { IfOk result (λ _. items.new ≤ 1024) }
+    ensures few { IfOk result (λ _. items.new ≤ limits.items) }
     ensures leaves { Leaves 0 result names.old tokens.old names.new tokens.new }
     ensures fault { IfErr result (Stops (λ ds. proto (items_due depth) ∷ ds)
         items.old (standing tokens.old names.old)) }
@@ -140,15 +140,15 @@ fn carried(
     depth: usize,
     way: Way,
 ) -> Result<Kind, ParseRefusal>
-    requires few { items.old ≤ 1024 }
-    requires deep { depth ≤ 32 }
+    requires few { items.old ≤ limits.items }
+    requires deep { depth ≤ limits.nesting }
     requires room { HasRoom names.old tokens.old }
     ensures reads { IfOk result (λ k.
         Gives (standing tokens.old names.old) (standing tokens.new names.new)
         (λ word. kind_pieces word (carried_of k) ++ close_piece way ∷ [])
         (λ word. IsGivenKind limits word depth (carried_of k))) }
     ensures count { IfOk result (λ k. items.new ≡ items.old + kind_items (carried_of k)) }
-    ensures few { IfOk result (λ _. items.new ≤ 1024) }
+    ensures few { IfOk result (λ _. items.new ≤ limits.items) }
     ensures leaves { Leaves 0 result names.old tokens.old names.new tokens.new }
     ensures fault { IfErr result (Stops (λ ds.
         proto (kind_due depth) ∷ proto (fixed (close_piece way)) ∷ ds)
@@ -180,15 +180,15 @@ fn turns(
     items: &mut usize,
     depth: usize,
 ) -> Result<Proto, ParseRefusal>
-    requires few { items.old ≤ 1024 }
-    requires deep { depth ≤ 32 }
+    requires few { items.old ≤ limits.items }
+    requires deep { depth ≤ limits.nesting }
     requires room { HasRoom names.old tokens.old }
     ensures reads { IfOk result (λ p.
         Gives (standing tokens.old names.old) (standing tokens.new names.new)
         (λ word. seq_pieces word p ++ codes "]" ∷ codes "*" ∷ [])
         (λ word. IsGiven limits word depth p)) }
     ensures count { IfOk result (λ p. items.new ≡ items.old + item_count p) }
-    ensures few { IfOk result (λ _. items.new ≤ 1024) }
+    ensures few { IfOk result (λ _. items.new ≤ limits.items) }
     ensures leaves { Leaves 0 result names.old tokens.old names.new tokens.new }
     ensures fault { IfErr result (Stops (λ ds. proto (maybe_due depth) ∷ proto (fixed (codes "]"))
         ∷ proto (fixed (codes "*")) ∷ ds)
@@ -209,8 +209,8 @@ fn choices(
     items: &mut usize,
     depth: usize,
 ) -> Result<Arms, ParseRefusal>
-    requires few { items.old ≤ 1024 }
-    requires deep { depth ≤ 32 }
+    requires few { items.old ≤ limits.items }
+    requires deep { depth ≤ limits.nesting }
     requires room { HasRoom names.old tokens.old }
     ensures reads { IfOk result (λ a.
         Gives (standing tokens.old names.old) (standing tokens.new names.new)
@@ -218,7 +218,7 @@ fn choices(
         (λ word. AreGiven limits word depth 0 a)) }
     ensures some { IfOk result (λ a. a ≢ no_choice) }
     ensures count { IfOk result (λ a. items.new ≡ items.old + arm_items a) }
-    ensures few { IfOk result (λ _. items.new ≤ 1024) }
+    ensures few { IfOk result (λ _. items.new ≤ limits.items) }
     ensures leaves { Leaves 0 result names.old tokens.old names.new tokens.new }
     ensures fault { IfErr result (Stops (λ ds. proto (label 0) ∷ proto (fixed (codes ":"))
         ∷ proto (maybe_due depth) ∷ proto (arms depth 1) ∷ proto (fixed (codes "}")) ∷ ds)
@@ -245,8 +245,8 @@ fn one_arm(
     depth: usize,
     before: usize,
 ) -> Result<Arm, ParseRefusal>
-    requires few { items.old ≤ 1024 }
-    requires deep { depth ≤ 32 }
+    requires few { items.old ≤ limits.items }
+    requires deep { depth ≤ limits.nesting }
     requires room { HasRoom names.old tokens.old }
     ensures reads { IfOk result (λ a.
         Gives (standing tokens.old names.old) (standing tokens.new names.new)
@@ -255,7 +255,7 @@ fn one_arm(
     ensures ends { IfOk result (λ a.
         Passes file_layer (proto (due_behind depth a.rest)) (next_of tokens.new.ahead)) }
     ensures count { IfOk result (λ a. items.new ≡ items.old + item_count a.rest) }
-    ensures few { IfOk result (λ _. items.new ≤ 1024) }
+    ensures few { IfOk result (λ _. items.new ≤ limits.items) }
     ensures leaves { Leaves 0 result names.old tokens.old names.new tokens.new }
     ensures fault { IfErr result (Stops (λ ds. proto (label before) ∷ proto (fixed (codes ":"))
         ∷ proto (maybe_due depth) ∷ ds)

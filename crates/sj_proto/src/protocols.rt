@@ -4,7 +4,7 @@ ghost use Rattle.sj_lang.specs.FileAt.{ProtocolAt};
 ghost use Rattle.sj_lang.specs.FileView.{protocol_of};
 ghost use Rattle.sj_lang.specs.Place.{Place};
 ghost use Rattle.sj_lang.specs.declared.file.Names.{Names};
-ghost use Rattle.sj_lang.specs.Limits.{limits};
+ghost use Rattle.sj_lang.specs.Limits.{limits, file_limit};
 ghost use Rattle.sj_grammar.specs.Lexis.{next_of};
 ghost use Rattle.sj_grammar.specs.Places.{At};
 ghost use Rattle.sj_grammar.specs.Files.{protocol_pieces, IsProtocolDef};
@@ -13,7 +13,7 @@ ghost use Rattle.sj_grammar.specs.Faults.{Stuck};
 ghost use Rattle.sj_grammar.specs.Refusals.{OnFault};
 ghost use Rattle.sj_grammar.specs.Asked.{is_next};
 ghost use Rattle.sj_proto.specs.Leaves.{Leaves};
-ghost use Rattle.sj_proto.specs.Parsed.{standing, GivesOnLines, Extends, HasRoom};
+ghost use Rattle.sj_proto.specs.Parsed.{standing, GivesOnLines, Extends, HasRoom, names_before};
 ghost use Rattle.sj_proto.specs.Protocols.{IsProtocol, AreProtocols, IsFirstFault, IsFaultInProtocols, IsOnly};
 
 use crate::bodies::body;
@@ -29,9 +29,9 @@ const MOST_PROTOCOLS: usize = 256;
 /// The protocol that the bytes spell: one `body` of the grammar. Its labels are words of `names`,
 /// which grows by the new ones, also where the text is refused.
 pub fn parse_protocol(alloc: Global, bytes: &[u8], names: &mut Names) -> Result<Proto, ParseRefusal>
-    requires short { length bytes.now ≤ 65536 }
-    requires words { length names.old.words ≤ 32768 }
-    requires texts { length names.old.texts ≤ 32768 }
+    requires short { length bytes.now ≤ file_limit }
+    requires words { length names.old.words ≤ names_before }
+    requires texts { length names.old.texts ≤ names_before }
     // the value exactly where the text is a protocol, and that value alone
     ensures found { IfOk result (IsProtocol bytes.now names.old names.new) }
     ensures only { (p : Place) (new : Names) → IsProtocol bytes.now names.old new p
@@ -60,7 +60,7 @@ pub fn protocol_def(
         GivesOnLines (standing tokens.old names.old) (standing tokens.new names.new)
         (λ names. protocol_pieces names.word (protocol_of p))
         (λ names. IsProtocolDef limits names (protocol_of p))) }
-    ensures few { IfOk result (λ _. before < 256) }
+    ensures few { IfOk result (λ _. before < limits.protocols) }
     ensures shorter { IfOk result (λ _. length tokens.new.ahead < length tokens.old.ahead) }
     ensures leaves { Leaves 0 result names.old tokens.old names.new tokens.new }
     ensures fault { IfErr result (OnFault (λ f. (n : ℕ) (ds : List Due)
@@ -83,8 +83,8 @@ pub fn parse_protocols(
     tokens: &mut Tokens,
     names: &mut Names,
 ) -> Result<Vec<ProtocolDef>, ParseRefusal>
-    requires words { length names.old.words ≤ 32768 }
-    requires texts { length names.old.texts ≤ 32768 }
+    requires words { length names.old.words ≤ names_before }
+    requires texts { length names.old.texts ≤ names_before }
     // the value exactly where protocols stand at the front, and that value alone
     ensures found { IfOk result (λ v.
         AreProtocols (standing tokens.old names.old) (map protocol_of v.items)

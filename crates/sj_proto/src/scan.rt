@@ -1,7 +1,7 @@
 //! What comes next in a text, by positions.
 ghost use Rattle.std.specs.Prelude.{◌≡◌, ℕ, ◌+◌, ◌<◌, ◌≤◌, length, drop, slice_index, All, IsTrue, ◌==◌, ◌||◌, ◌&&◌};
 ghost use Rattle.std.specs.List.{prefix_len, take_while};
-ghost use Rattle.sj_grammar.specs.Bytes.{begins_with, is_digit};
+ghost use Rattle.sj_grammar.specs.Bytes.{begins_with, is_digit, quote_byte, is_double};
 ghost use Rattle.sj_grammar.specs.Lexis.{next_of, token_of, number_of, text_of, has_leading_zero};
 ghost use Rattle.sj_grammar.specs.Refusals.{first_rule};
 ghost use Rattle.sj_proto.specs.declared.bytes.Class.TheVariants as classes;
@@ -47,9 +47,9 @@ fn is_there(bytes: &[u8], at: usize, b: u8) -> bool
 }
 
 // Whether that byte and the one behind it are one symbol.
-fn is_double(bytes: &[u8], at: usize, b: u8) -> bool
+fn begins_double(bytes: &[u8], at: usize, b: u8) -> bool
     requires { at < length bytes.now }
-    ensures { result ≡ ((b == 60 || b == 61) && begins_with 61 (drop (at + 1) bytes.now)) }
+    ensures { result ≡ is_double b (drop (at + 1) bytes.now) }
 {
     (b == b'<' || b == b'=') && is_there(bytes, at + 1, b'=')
 }
@@ -57,7 +57,8 @@ fn is_double(bytes: &[u8], at: usize, b: u8) -> bool
 // The largest number.
 const MOST: u128 = 1 << 63;
 
-fn goes_on_after_zero(digits: &[u8]) -> bool
+/// Whether digits begin with a zero that isn't the last.
+pub fn goes_on_after_zero(digits: &[u8]) -> bool
     ensures { result ≡ has_leading_zero digits.now }
 {
     digits.len() > 1 && is_there(digits, 0, b'0')
@@ -101,7 +102,7 @@ fn number_at(bytes: &[u8], from: usize) -> Found
 
 fn text_at(bytes: &[u8], quote: usize) -> Found
     requires within { quote < length bytes.now }
-    requires quote { slice_index bytes.now quote ≡ 34 }
+    requires quote { slice_index bytes.now quote ≡ quote_byte }
     ensures found { found_of bytes.now result
         ≡ text_of (prefix_len (in_class classes.Inside) (drop (quote + 1) bytes.now))
         (drop (quote + 1) bytes.now) }
@@ -133,7 +134,7 @@ fn token_here(bytes: &[u8], from: usize) -> Found
     if b == b'"' {
         return text_at(bytes, from);
     }
-    if is_double(bytes, from, b) {
+    if begins_double(bytes, from, b) {
         return Found::Piece(What::Symbol, from, from + 2);
     }
     if is_symbol_byte(b) {

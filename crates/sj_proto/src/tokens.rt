@@ -8,6 +8,7 @@ ghost use Rattle.sj_grammar.specs.Refusals.{fault_next};
 ghost use Rattle.sj_proto.specs.Onward.{Advances};
 ghost use Rattle.sj_proto.specs.Protocols.{IsReadable, IsUnreadable};
 ghost use Rattle.sj_grammar.specs.Asked.{TakesText, is_next, spelled_next, Refuses, but, but_name};
+ghost use Rattle.sj_lang.specs.Limits.{limits, file_limit};
 
 use crate::reserved::is_name_text;
 use crate::scan::{Found, fault_in, find, position};
@@ -45,7 +46,7 @@ impl<'a> Tokens<'a> {
 
     /// A reader before the first token of a text of at most 65,536 bytes.
     pub fn over(bytes: &'a [u8]) -> Tokens<'a>
-        requires { length bytes.now ≤ 65536 }
+        requires { length bytes.now ≤ file_limit }
         ensures { result ≡ record { before = []; ahead = bytes.now } }
     {
         Tokens {
@@ -58,7 +59,7 @@ impl<'a> Tokens<'a> {
 
     /// Tells the caller that the whole text has at most 65,536 bytes; it does nothing.
     pub fn stays_short(&self)
-        ensures { length self.now.before + length self.now.ahead ≤ 65536 }
+        ensures { length self.now.before + length self.now.ahead ≤ file_limit }
     {
         let _bytes = self.bytes;
     }
@@ -185,7 +186,7 @@ impl<'a> Tokens<'a> {
     pub fn name(&mut self, full: bool) -> Result<&'a [u8], Fault>
         ensures ok { IfOk result (λ s. TakesText self.old s.now self.new) }
         ensures name { IfOk result (λ s. IsTrue (is_name s.now)) }
-        ensures short { IfOk result (λ s. (length s.now ≤ 64) × (full ≡ false)) }
+        ensures short { IfOk result (λ s. (length s.now ≤ limits.name) × (full ≡ false)) }
         ensures fault { IfErr result (Refuses (but_name full) self.old) }
         ensures shorter { IfOk result (λ _. length self.new.ahead < length self.old.ahead) }
         ensures err { IfErr result (λ _. self.new ≡ self.old) }

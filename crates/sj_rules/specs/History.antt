@@ -83,6 +83,10 @@ whole_caches old told = old
 abbrev pub IsHistory : (ℕ → ℕ → ℕ) → FileAt → List LineAt → WorldAt Place Program → Type 0
 IsHistory pick file lines w = IsLog (play_of file) pick (core_start file) lines w
 
+-- they are none: from the start of the file on, that is the first line that isn't the one that is due
+abbrev pub IsFirstMisfit : (ℕ → ℕ → ℕ) → FileAt → List LineAt → (number : ℕ) → LineAt → Option LineAt → Type 0
+IsFirstMisfit pick file lines number logged other = IsMisfit (play_of file) pick (core_start file) lines number logged other
+
 -- nothing is in a lane, and no party can act
 pub record IsQuiescent {P Q : Type 0} (play : Play P Q) (w : WorldAt P Q) : Type 0 where
   pub empty : (from to : ℕ) → w.lanes from to ≡ []

@@ -1,11 +1,12 @@
 -- A party's program as the rules play it.
-use Rattle.std.specs.Prelude.{◌≡◌, ℕ, nat_lt, Bool, true, false, not, List, [], length, Option, Some, None}
+use Rattle.std.specs.Prelude.{◌≡◌, ℕ, nat_lt, Bool, false, not, List, [], length, Option, Some, None}
 use Rattle.std.specs.List.{list_any}
 use Rattle.sj_base.specs.declared.EndId.{EndId}
 use Rattle.sj_base.specs.declared.Msg.{Msg}
-use Rattle.sj_lang.specs.Place.{Place, done, message, choice, repeat}
+use Rattle.sj_lang.specs.Place.{Place, done}
 use Rattle.sj_lang.specs.After.{after_place}
 use Rattle.sj_lang.specs.FileAt.{FileAt, ProtocolAt, body_named, named}
+use Rattle.sj_lang.specs.ItemCount.{is_done}
 use Rattle.sj_semantics.specs.declared.Want.TheVariants as plain
 use Rattle.sj_semantics.specs.declared.Want as step_of
 use Rattle.sj_semantics.specs.declared.Awaits.{Awaits}
@@ -60,13 +61,6 @@ program_after g (Some m) = took_of g m
 program_after g None = after_step g (want_of g)
 
 -- nothing is ahead
-abbrev pub is_done : Place → Bool
-is_done done = true
-is_done (message way kind rest) = false
-is_done (choice way arms rest) = false
-is_done (repeat way body rest) = false
-
--- the same as a fact
 abbrev pub IsDone : Place → Type 0
 IsDone p = p ≡ done
 

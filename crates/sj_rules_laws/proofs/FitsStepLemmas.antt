@@ -33,7 +33,7 @@ use Rattle.sj_accepted_laws.proofs.AcceptedLemmas.{next_fits}
 use Rattle.sj_accepted_laws.proofs.FittingLemmas.{next_has_a_place, taken_at_body}
 use Rattle.sj_rules.specs.Record.{other_end, is_same_end}
 use Rattle.sj_rules.specs.PlainSide.{PlainSide, untaken_of}
-use Rattle.sj_rules.specs.Party.{place_awaited, want_for, after_step, is_done, IsDone, play_for, binds}
+use Rattle.sj_rules.specs.Party.{place_awaited, want_for, after_step, IsDone, play_for, binds}
 use Rattle.sj_rules.specs.Plain.{side_at, plain_side, plain_at}
 use Rattle.sj_rules.specs.Binding.{BindsSame, BindsWithout, NamesAt}
 use Rattle.sj_rules.specs.Premises.{FitsSend, FitsDelegate, FitsHead, FitsTake, FitsClose, FitsStep}
@@ -44,6 +44,7 @@ use Rattle.sj_rules_laws.proofs.ProperLemmas.{Size, AreProper, IsProper, IsPrope
 use Rattle.sj_rules_laws.proofs.WantLemmas.{takes_named, awaits_session}
 use Rattle.sj_rules_laws.proofs.ActLemmas.{waiting_is_next}
 use Rattle.sj_lang.specs.declared.proto.Way.{Way}
+use Rattle.sj_lang.specs.ItemCount.{is_done}
 
 -- ---- places
 

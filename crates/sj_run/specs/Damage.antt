@@ -4,10 +4,9 @@ use Rattle.sj_lang.specs.Place.{Place}
 use Rattle.sj_lang.specs.FileAt.{FileAt}
 use Rattle.sj_semantics.specs.Program.{Program}
 use Rattle.sj_end.specs.Lines.{line_at}
-use Rattle.sj_rules.specs.History.{IsHistory, IsMisfit, due}
+use Rattle.sj_rules.specs.History.{IsHistory, due, IsFirstMisfit}
 use Rattle.sj_rules.specs.Log.{LineAt, IsInOrder}
 use Rattle.sj_rules.specs.Party.{play_of}
-use Rattle.sj_rules.specs.Start.{core_start}
 use Rattle.sj_rules.specs.World.{WorldAt}
 use Rattle.sj_run.specs.declared.refusal.RunRefusal.{RunRefusal}
 use Rattle.sj_run.specs.declared.refusal.RunRefusal.TheVariants as refusals
@@ -28,7 +27,7 @@ pub record IsPastEnd (file : FileAt) (lines : List LineAt) (number : ℕ) (logge
 pub record IsDamage (file : FileAt) (number : ℕ) (logged : LineAt) (other : Option LineAt) : Type 0 where
   pub lines : List LineAt
   pub order : IsInOrder lines
-  pub cause : IsMisfit (play_of file) max (core_start file) lines number logged other ⊎ IsPastEnd file lines number logged other
+  pub cause : IsFirstMisfit max file lines number logged other ⊎ IsPastEnd file lines number logged other
   pub differs : other ≡ Some logged → ⊥
 
 -- what is damaged
@@ -45,7 +44,7 @@ IsDamaged refusals.NoMemory = ⊥
 
 -- lines that don't fit, at the first one that isn't due
 abbrev pub IsMisfitOf : FileAt → List LineAt → RunRefusal → Type 0
-IsMisfitOf file lines (refusals.Damaged number logged other) = IsMisfit (play_of file) max (core_start file) lines number (line_at logged) (option_map line_at other)
+IsMisfitOf file lines (refusals.Damaged number logged other) = IsFirstMisfit max file lines number (line_at logged) (option_map line_at other)
 IsMisfitOf file lines refusals.LinkFault = Unit {0}
 IsMisfitOf file lines refusals.NoMemory = Unit {0}
 

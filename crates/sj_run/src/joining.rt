@@ -4,6 +4,7 @@ ghost use Rattle.sj_end.specs.Lines.{line_at};
 ghost use Rattle.sj_rules.specs.Log.{IsJoined};
 ghost use Rattle.sj_run.specs.Workers.{AllRising, AreLogs, logs_in};
 ghost use Rattle.sj_work.specs.Views.{lanes_of};
+ghost use Rattle.sj_merge.specs.Logs.{most_logs};
 
 use sj_base::NoMemory;
 use sj_end::{Entry, Line};
@@ -31,7 +32,7 @@ pub(crate) fn joined<O: OutLane, I: InLane>(
     alloc: Global,
     workers: &[Worker<O, I>],
 ) -> Result<Vec<Line>, NoMemory>
-    requires few { length workers.now ≤ 65536 }
+    requires few { length workers.now ≤ most_logs }
     requires rising { AllRising workers.now }
     ensures { IfOk result (λ v. IsJoined (logs_in workers.now) (map line_at v.items)) }
 {

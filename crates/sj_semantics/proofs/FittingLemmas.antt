@@ -1,5 +1,5 @@
 -- A message fits where the next step takes and the statement can take the message.
-use Rattle.std.proofs.Common.{◌≡◌, Bool, true, false, Some, refl, ap, ◌∙◌}
+use Rattle.std.proofs.Common.{◌≡◌, Bool, true, false, Some, refl, ap, sym}
 use Rattle.std.specs.Prelude.{◌&&◌}
 use Rattle.sj_base.specs.declared.EndId.{EndId}
 use Rattle.sj_base.specs.declared.Msg.{Msg}
@@ -13,7 +13,7 @@ first_of : (a b : Bool) → (a && b) ≡ true → a ≡ true
 first_of true b h = refl
 first_of false b h = h
 
-second_of : (a b : Bool) → (a && b) ≡ true → b ≡ true
+pub second_of : (a b : Bool) → (a && b) ≡ true → b ≡ true
 second_of true b h = h
 second_of false b h = cc
 
@@ -25,6 +25,6 @@ fits_a_take g m h = first_of (is_take (want_of g)) (fits_todo g.todo m) h
 pub fits_its_statement : (g : Program) (m : Msg) → fits g m ≡ true → fits_todo g.todo m ≡ true
 fits_its_statement g m h = second_of (is_take (want_of g)) (fits_todo g.todo m) h
 
--- and where both hold it fits
-pub fits_where_it_takes : (g : Program) (m : Msg) (e : EndId) (a : Awaits) → want_of g ≡ Some (wants.Take e a) → fits_todo g.todo m ≡ true → fits g m ≡ true
-fits_where_it_takes g m e a wants_it h = ap (λ o. is_take o && fits_todo g.todo m) wants_it ∙ h
+-- where the next step takes, what the statement can take fits, and nothing else
+pub fits_by_statement : (g : Program) (m : Msg) (e : EndId) (a : Awaits) → want_of g ≡ Some (wants.Take e a) → fits_todo g.todo m ≡ fits g m
+fits_by_statement g m e a wants_it = sym (ap (λ o. is_take o && fits_todo g.todo m) wants_it)

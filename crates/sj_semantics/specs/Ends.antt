@@ -5,6 +5,10 @@ use Rattle.sj_base.specs.declared.Msg.{Msg}
 use Rattle.sj_lang.specs.Place.{Place, done}
 use Rattle.sj_semantics.specs.declared.Passed.{Passed}
 
+-- an end is delegated so often at most
+abbrev pub limit_of_hops : ℕ
+limit_of_hops = 100
+
 -- an end: its place, all that was sent on it, who took the first messages of the other end, and how often it was delegated
 pub record EndAt : Type 0 where
   pub place : Place

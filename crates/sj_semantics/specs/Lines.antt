@@ -19,10 +19,14 @@ or_number n (Some word) = word
 abbrev pub word_at : List (List ℕ) → ℕ → List ℕ
 word_at words n = or_number n (slice_get words n)
 
+-- a text in its quotes
+abbrev pub in_quotes : List ℕ → List ℕ
+in_quotes text = 34 ∷ text ++ 34 ∷ []
+
 -- a text in its quotes, or `#` and the number alone
 abbrev pub quoted_or_number : ℕ → Option (List ℕ) → List ℕ
 quoted_or_number n None = or_number n None
-quoted_or_number n (Some text) = 34 ∷ text ++ 34 ∷ []
+quoted_or_number n (Some text) = in_quotes text
 
 -- the text of that number, in its quotes
 abbrev pub quoted_at : List (List ℕ) → ℕ → List ℕ
@@ -30,7 +34,7 @@ quoted_at texts n = quoted_or_number n (slice_get texts n)
 
 -- the party's name, or `#` and its number
 abbrev pub name_if : FileAt → ℕ → Option PartyAt → List ℕ
-name_if file p None = 35 ∷ decimal p
+name_if file p None = or_number p None
 name_if file p (Some q) = word_at file.words q.name
 
 -- the name of a party by its number

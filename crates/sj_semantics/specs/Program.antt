@@ -12,6 +12,10 @@ pub data Thing : Type 0 where
   -- a `relay` between these ends that has taken more or stop and not yet passed it on
   passing : ℕ → ℕ → Bool → Code → Thing
 
+-- a party does so many steps at most
+abbrev pub limit_of_steps : ℕ
+limit_of_steps = 10000
+
 -- what is left to do, the values of variables, the ends bound to names, and the steps done
 pub record Program : Type 0 where
   pub todo : List Thing

@@ -7,22 +7,22 @@ use Rattle.sj_semantics.specs.declared.State.{State}
 use Rattle.sj_semantics.specs.declared.State.TheVariants as states
 use Rattle.sj_semantics.specs.declared.Verdict.{Verdict}
 use Rattle.sj_semantics.specs.declared.Verdict.TheVariants as verdicts
-use Rattle.sj_semantics.specs.Program.{Program}
+use Rattle.sj_semantics.specs.Program.{Program, limit_of_steps}
 use Rattle.sj_semantics.specs.Wants.{want_of}
 use Rattle.sj_semantics.specs.World.{World, act_of}
-use Rattle.sj_semantics.specs.Ends.{Session, end_at, next_for}
+use Rattle.sj_semantics.specs.Ends.{Session, end_at, next_for, limit_of_hops}
 
--- a party that hasn't ended and isn't at 10,000 steps stands so
+-- a party that hasn't ended and has steps left stands so
 abbrev pub state_by : List Session → Want → State
 state_by zs wants.Ended = states.Ended
-state_by zs (wants.Delegate e y) = if nat_lt (end_at zs y).hops 100 then states.Ready else states.AtLimit (Some y)
+state_by zs (wants.Delegate e y) = if nat_lt (end_at zs y).hops limit_of_hops then states.Ready else states.AtLimit (Some y)
 state_by zs (wants.Take e a) = if is_some (next_for zs e) then states.Ready else states.Waits e
 state_by zs _ = states.Ready
 
--- the first that applies: ended, at 10,000 steps, at an end with 100 handovers, waiting, ready
+-- the first that applies: ended, no step left, at an end that is delegated no more, waiting, ready
 abbrev pub state_wanting : List Session → ℕ → Want → State
 state_wanting zs steps wants.Ended = states.Ended
-state_wanting zs steps want = if nat_lt steps 10000 then state_by zs want else states.AtLimit None
+state_wanting zs steps want = if nat_lt steps limit_of_steps then state_by zs want else states.AtLimit None
 
 -- no program of an accepted file is ever stuck; one that is counts as ended
 abbrev pub state_wanting_if : List Session → ℕ → Option Want → State

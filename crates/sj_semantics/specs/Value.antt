@@ -70,9 +70,13 @@ worth vars (terms.var n) = vars n
 worth vars (terms.not e) = option_and_then negation_of (worth vars e)
 worth vars (terms.two op e f) = option_and_then (λ a. option_and_then (result_of op a) (worth vars f)) (worth vars e)
 
--- how often a loop with that count turns: 0 to 1,000 times
+-- a loop turns so often at most
+abbrev pub limit_of_turns : ℕ
+limit_of_turns = 1000
+
+-- how often a loop with that count turns
 abbrev pub turns_of : Value → Option ℕ
-turns_of (Int (pos n)) = Some (min n 1000)
+turns_of (Int (pos n)) = Some (min n limit_of_turns)
 turns_of (Int (negsuc n)) = Some 0
 turns_of _ = None
 

@@ -6,10 +6,10 @@ use Rattle.sj_base.specs.declared.Msg.TheVariants as msgs
 use Rattle.sj_semantics.specs.declared.Want.{Want}
 use Rattle.sj_semantics.specs.declared.Want.TheVariants as wants
 use Rattle.sj_semantics.specs.declared.Passed.{Passed}
-use Rattle.sj_semantics.specs.Program.{Program, block}
+use Rattle.sj_semantics.specs.Program.{Program, block, limit_of_steps}
 use Rattle.sj_semantics.specs.Wants.{want_of}
 use Rattle.sj_semantics.specs.Steps.{local_of, sent_of, took_of, closed_of}
-use Rattle.sj_semantics.specs.Ends.{Session, end_at, next_for, EndAt}
+use Rattle.sj_semantics.specs.Ends.{Session, end_at, next_for, EndAt, limit_of_hops}
 use Rattle.sj_semantics.specs.Uses.{Use, sends, takes, delegates, altered, after_uses}
 use Rattle.sj_lang.specs.Place.{Place}
 use Rattle.sj_lang.specs.FileAt.{FileAt, PartyAt, ConnectAt, body_named, ends_from}
@@ -39,15 +39,15 @@ change_by zs p g wants.Ended = None
 change_by zs p g wants.Local = Some (record { program = local_of g; uses = [] })
 change_by zs p g (wants.Send e m) = Some (record { program = sent_of g; uses = (e, sends m) ∷ [] })
 change_by zs p g (wants.Delegate e y) =
-    if nat_lt (end_at zs y).hops 100
+    if nat_lt (end_at zs y).hops limit_of_hops
     then Some (record { program = sent_of g; uses = (y, delegates) ∷ (e, sends (session_message y p)) ∷ [] })
     else None
 change_by zs p g (wants.Take e a) = option_map (change_by_taking g e) (next_for zs e)
 change_by zs p g (wants.Close e) = Some (record { program = closed_of g; uses = [] })
 
--- the change that the program's next step makes, with 10,000 steps at most
+-- the change that the program's next step makes, where it has a step left
 abbrev pub change_of_program : List Session → ℕ → Program → Option Change
-change_of_program zs p g = if nat_lt g.steps 10000 then option_and_then (change_by zs p g) (want_of g) else None
+change_of_program zs p g = if nat_lt g.steps limit_of_steps then option_and_then (change_by zs p g) (want_of g) else None
 
 -- the change that the party's next step makes
 abbrev pub change_of : World → ℕ → Option Change

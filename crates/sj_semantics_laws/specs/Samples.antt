@@ -1,5 +1,5 @@
 -- Files whose transcripts are known. No transcript has a line number, so all stands on line 1.
-use Rattle.std.specs.Prelude.{ℕ, List, [], ◌∷◌, pos, codes}
+use Rattle.std.specs.Prelude.{ℕ, List, [], ◌∷◌, pos, codes, ◌^◌, ◌-◌}
 use Rattle.sj_lang.specs.declared.proto.Way.TheVariants.{Out, Into}
 use Rattle.sj_lang.specs.declared.party.Scalar.TheVariants as kinds
 use Rattle.sj_lang.specs.declared.party.Op.TheVariants as ops
@@ -59,9 +59,13 @@ greeting = sending (terms.int (pos 5))
 abbrev pub greeting_text : List ℕ
 greeting_text = codes "session 0 a x b y\n0.0 0 a b int 5\nparty a ended 2\nparty b ended 2\ndone\n"
 
+-- the largest integer
+abbrev pub last_int : ℕ
+last_int = 2 ^ 63 - 1
+
 -- the sum of the largest number and one is sent
 abbrev pub wrapping : FileAt
-wrapping = sending (terms.two ops.Add (terms.int (pos 9223372036854775807)) (terms.int (pos 1)))
+wrapping = sending (terms.two ops.Add (terms.int (pos last_int)) (terms.int (pos 1)))
 
 -- its transcript
 abbrev pub wrapping_text : List ℕ

@@ -4,19 +4,18 @@
 //! - `opposite_orders_block`: two sessions that are taken in opposite order.
 //! - `numbers_wrap`, `loop_counts_are_clamped`: expressions and counts.
 
-ghost use Rattle.std.specs.Prelude.{◌≡◌, Some, negsuc, pos};
+ghost use Rattle.std.specs.Prelude.{◌≡◌, Some, negsuc, pos, ◌+◌};
 ghost use Rattle.sj_lang.specs.Term as terms;
 ghost use Rattle.sj_lang.specs.declared.party.Op.TheVariants.{Add, Mul, Sub};
 ghost use Rattle.sj_semantics.specs.Run.{end_of};
 ghost use Rattle.sj_semantics.specs.State.{verdict_of};
 ghost use Rattle.sj_semantics.specs.Transcript.{transcript_of};
 ghost use Rattle.sj_semantics.specs.declared.Value.TheVariants.{Int};
-ghost use Rattle.sj_semantics.specs.Value.{no_vars, turns_of, worth};
+ghost use Rattle.sj_semantics.specs.Value.{no_vars, turns_of, worth, limit_of_turns};
 ghost use Rattle.sj_semantics.specs.declared.Verdict.TheVariants.{Blocked};
 ghost use Rattle.sj_semantics_laws.specs.AgencySamples.{agency, agency_text, refused_text};
 ghost use Rattle.sj_semantics_laws.specs.HandoverSamples.{both_moved, both_moved_text, handed_over, handed_over_text, returning, returning_text, to_its_peer, to_its_peer_text, to_itself, to_itself_text};
-ghost use Rattle.sj_semantics_laws.specs.Samples.{crossed, crossed_text, greeting, greeting_text, silent, silent_text, turning, turnless_text, wrapping, wrapping_text};
-
+ghost use Rattle.sj_semantics_laws.specs.Samples.{crossed, crossed_text, greeting, greeting_text, silent, silent_text, turning, turnless_text, wrapping, wrapping_text, last_int};
 /// A number, a number that wraps, nothing, two sessions that block, and a loop that sends `stop` alone.
 pub fn short_sessions_end_so()
     ensures greeting { transcript_of greeting (end_of greeting) ≡ greeting_text }
@@ -48,17 +47,17 @@ pub fn opposite_orders_block()
 
 /// A sum, a product and a difference beyond 64 bits wrap.
 pub fn numbers_wrap()
-    ensures sum { worth no_vars (terms.two Add (terms.int (pos 9223372036854775807)) (terms.int (pos 1)))
-        ≡ Some (Int (negsuc 9223372036854775807)) }
-    ensures product { worth no_vars (terms.two Mul (terms.int (negsuc 9223372036854775807)) (terms.int (negsuc 0)))
-        ≡ Some (Int (negsuc 9223372036854775807)) }
-    ensures difference { worth no_vars (terms.two Sub (terms.int (negsuc 9223372036854775807)) (terms.int (pos 1)))
-        ≡ Some (Int (pos 9223372036854775807)) }
+    ensures sum { worth no_vars (terms.two Add (terms.int (pos last_int)) (terms.int (pos 1)))
+        ≡ Some (Int (negsuc last_int)) }
+    ensures product { worth no_vars (terms.two Mul (terms.int (negsuc last_int)) (terms.int (negsuc 0)))
+        ≡ Some (Int (negsuc last_int)) }
+    ensures difference { worth no_vars (terms.two Sub (terms.int (negsuc last_int)) (terms.int (pos 1)))
+        ≡ Some (Int (pos last_int)) }
 {}
 
 /// Counts are clamped to 0 to 1,000.
 pub fn loop_counts_are_clamped()
-    ensures largest { turns_of (Int (pos 1000)) ≡ Some 1000 }
-    ensures above { turns_of (Int (pos 1001)) ≡ Some 1000 }
+    ensures largest { turns_of (Int (pos limit_of_turns)) ≡ Some limit_of_turns }
+    ensures above { turns_of (Int (pos (limit_of_turns + 1))) ≡ Some limit_of_turns }
     ensures below { turns_of (Int (negsuc 0)) ≡ Some 0 }
 {}

@@ -1,5 +1,5 @@
 -- How many nodes a table has, and what putting nodes behind others keeps.
-use Rattle.std.specs.Prelude.{◌≡◌, ℕ, suc, ◌+◌, ◌<◌, ◌≤◌, List, [], ◌∷◌, ◌++◌, length, get_or, slice_set, ⊤}
+use Rattle.std.specs.Prelude.{◌≡◌, ℕ, suc, ◌+◌, ◌-◌, ◌^◌, ◌<◌, ◌≤◌, List, [], ◌∷◌, ◌++◌, length, get_or, slice_set, ⊤}
 use Rattle.sj_lang.specs.FileAt.{ProtocolAt}
 use Rattle.sj_lang.specs.Place.{Place, Choices, done, message, choice, repeat, no_choice, arm}
 use Rattle.sj_lang.specs.declared.proto.Item.{Item}
@@ -19,6 +19,10 @@ abbrev mutual
   pub arm_nodes : Choices → ℕ
   arm_nodes no_choice = 0
   arm_nodes (arm label p arms) = node_count p + arm_nodes arms
+
+-- nodes have numbers of 32 bits, and node 0 is the empty place
+abbrev pub limit_of_nodes : ℕ
+limit_of_nodes = 2 ^ 32 - 1
 
 -- those of protocols
 abbrev pub nodes_of : List ProtocolAt → ℕ

@@ -4,7 +4,7 @@
 ghost use Rattle.std.specs.Prelude.{◌≡◌, ◌+◌, ◌<◌, ◌≤◌, ◌++◌, ◌∷◌, [], ℕ, length, IfOk, OnOk};
 ghost use Rattle.sj_lang.specs.Place.{done};
 ghost use Rattle.sj_lang.specs.View.{followed, place_of};
-ghost use Rattle.sj_table.specs.Nodes.{AreBack, Grown, IsLoop, Turned, arm_nodes, node_count};
+ghost use Rattle.sj_table.specs.Nodes.{AreBack, Grown, IsLoop, Turned, arm_nodes, node_count, limit_of_nodes};
 ghost use Rattle.sj_table.specs.Table.{AreEntered, IsEntered, IsTable, Leads, at_node, places_of};
 
 use crate::leading::Stop;
@@ -24,7 +24,7 @@ pub(crate) fn add_place(
 ) -> Result<u32, NoMemory>
     requires back { AreBack stops.old.items }
     requires next { next ≤ length stops.old.items }
-    requires few { length stops.old.items + node_count place.now < 4294967295 }
+    requires few { length stops.old.items + node_count place.now < limit_of_nodes }
     ensures leads { IfOk result (λ n. Leads (places_of stops.new.items) n place.now
         (at_node (places_of stops.old.items) next)) }
     ensures grown { IfOk result (λ n. Grown stops.old.items stops.new.items) }
@@ -43,7 +43,7 @@ pub(crate) fn add_place(
 fn add_item(alloc: Global, stops: &mut Vec<Stop>, item: &Item, next: u32) -> Result<u32, NoMemory>
     requires back { AreBack stops.old.items }
     requires next { next ≤ length stops.old.items }
-    requires few { length stops.old.items + node_count (followed item.now done) < 4294967295 }
+    requires few { length stops.old.items + node_count (followed item.now done) < limit_of_nodes }
     ensures within { IfOk result (λ n. n ≤ length stops.new.items) }
     ensures leads { IfOk result (λ n. at_node (places_of stops.new.items) n
         ≡ followed item.now (at_node (places_of stops.old.items) next)) }
@@ -78,7 +78,7 @@ fn add_loop(
     requires loops { IsLoop item.now body.now }
     requires back { AreBack stops.old.items }
     requires next { next ≤ length stops.old.items }
-    requires few { length stops.old.items + node_count (followed item.now done) < 4294967295 }
+    requires few { length stops.old.items + node_count (followed item.now done) < limit_of_nodes }
     ensures within { IfOk result (λ n. n ≤ length stops.new.items) }
     ensures leads { IfOk result (λ n. at_node (places_of stops.new.items) n
         ≡ followed item.now (at_node (places_of stops.old.items) next)) }
@@ -103,7 +103,7 @@ fn add_arms(
 ) -> Result<Vec<u32>, NoMemory>
     requires back { AreBack stops.old.items }
     requires next { next ≤ length stops.old.items }
-    requires few { length stops.old.items + arm_nodes choice.now < 4294967295 }
+    requires few { length stops.old.items + arm_nodes choice.now < limit_of_nodes }
     ensures entered { IfOk result (λ ns. AreEntered (places_of stops.new.items) choice.now
         (at_node (places_of stops.old.items) next) ns.items) }
     ensures grown { IfOk result (λ ns. Grown stops.old.items stops.new.items) }
@@ -128,7 +128,7 @@ pub(crate) fn copied_item(alloc: Global, item: &Item) -> Result<Item, NoMemory>
 // The node of an item into which its inner nodes lead.
 fn add_node(stops: &mut Vec<Stop>, item: Item, next: u32, inside: Vec<u32>) -> Result<u32, NoMemory>
     requires next { next ≤ length stops.old.items }
-    requires few { length stops.old.items < 4294967295 }
+    requires few { length stops.old.items < limit_of_nodes }
     requires entered { IsEntered (places_of stops.old.items) item
         (at_node (places_of stops.old.items) next) inside.items }
     ensures within { IfOk result (λ n. n ≤ length stops.new.items) }
@@ -142,7 +142,7 @@ fn add_node(stops: &mut Vec<Stop>, item: Item, next: u32, inside: Vec<u32>) -> R
 }
 
 fn add_stop(stops: &mut Vec<Stop>, item: Item, next: u32, inside: Vec<u32>) -> Result<u32, NoMemory>
-    requires { length stops.old.items < 4294967295 }
+    requires { length stops.old.items < limit_of_nodes }
     ensures node { IfOk result (λ n. n ≡ length stops.old.items + 1) }
     ensures pushed { OnOk result (stops.new.items
         ≡ stops.old.items ++ record { item = item; next = next; inside = inside } ∷ []) }

@@ -5,9 +5,10 @@ ghost use Rattle.sj_lang.specs.FileAt.{body_named, named};
 ghost use Rattle.sj_lang.specs.FileView.{protocol_of};
 ghost use Rattle.sj_lang.specs.Place.{done};
 ghost use Rattle.sj_lang.specs.View.{followed};
-ghost use Rattle.sj_table.specs.Nodes.{nodes_of};
+ghost use Rattle.sj_lang.specs.ItemCount.{is_done};
+ghost use Rattle.sj_table.specs.Nodes.{nodes_of, limit_of_nodes};
 ghost use Rattle.sj_table.specs.Spots.{HasSpot, place_in, start_in};
-ghost use Rattle.sj_table.specs.Table.{at_node, is_done};
+ghost use Rattle.sj_table.specs.Table.{at_node};
 ghost use Rattle.sj_table.specs.declared.table.Table.{Table};
 
 use crate::building::{add_place, items_at};
@@ -56,7 +57,7 @@ impl Table {
     /// The table of these protocols.
     pub fn compile(alloc: Global, defs: &[ProtocolDef]) -> Result<Table, NoMemory>
         // With the items inside carried kinds there may be more.
-        requires few { nodes_of (map protocol_of defs.now) < 4294967295 }
+        requires few { nodes_of (map protocol_of defs.now) < limit_of_nodes }
 
         // A protocol starts at its body.
         ensures start { IfOk result (λ t. (p : ℕ) → start_in t p ≡ body_named (map protocol_of defs.now) p) }

@@ -6,10 +6,11 @@ use Rattle.sj_log.specs.Parts.{HasNoPart, IsParted}
 use Rattle.sj_tool.specs.AnswerAt.{AnswerAt, Usage, ReadFault, TooLarge, Syntax, Check, LogFault, Misfit, LinkFault, Damaged, Ran, Printed, Made}
 use Rattle.sj_tool.specs.Answers.{AnswersBytes, AnswersParts, AnswersText}
 use Rattle.sj_tool.specs.Calls.{LinkUseAt}
-use Rattle.sj_tool.specs.Tasks.{HasLongText, HasParts, Replays as IsReplay, Takes, file_limit}
+use Rattle.sj_tool.specs.Tasks.{HasLongText, HasParts, Replays as IsReplay, Takes}
 use Rattle.sj_tool.proofs.InputLemmas.{one_part}
 use Rattle.sj_tool.proofs.OneAnswer.{HoldsFor, one_of_text}
 use Rattle.sj_tool.proofs.ToldOnce.{AreToldOnce, same_told, told}
+use Rattle.sj_lang.specs.Limits.{file_limit}
 
 -- what of the bytes is answered: what stands before the log is too long, no line is `%%log`, or their parts are
 pub data Kind (links : LinkUseAt) (task : Task) (bytes : List ℕ) (a : AnswerAt) : Type 0 where

@@ -5,7 +5,7 @@ use Rattle.sj_lang.specs.FileAt.{FileAt}
 use Rattle.sj_generator.specs.Generated.{generated}
 use Rattle.sj_command.specs.declared.tasks.Task.{Task}
 use Rattle.sj_command.specs.declared.tasks.Task.TheVariants as tasks
-use Rattle.sj_command.specs.Task.{Asks}
+use Rattle.sj_command.specs.Task.{Asks, most_messages}
 use Rattle.sj_command.proofs.OneTask.{one_task}
 use Rattle.sj_tool.specs.AnswerAt.{AnswerAt}
 use Rattle.sj_tool.specs.Answers.{AnswersBytes, AnswersInput, Came, Comes, OrYields}
@@ -85,8 +85,8 @@ module _ (c : CallAt) (file : FileAt) where
     reads_none : (task : Task) → Asks c.words task → Reads task → ⊥
     reads_none task asked reads = subst (λ (t : Task). Reads t) (one_task c.words task (tasks.Big n) asked asks) reads
 
-    few : n ≤ 1000
-    few = let (taken, means) = asks in means.2
+    few : n ≤ most_messages
+    few = let (taken, means) = asks in means.1.1
 
     -- how the generated file ends
     sums_up : (status : ℕ) (text : List ℕ) → Told (tasks.Big n) (generated_file n) status text → Completes (tasks.Big n) file status text

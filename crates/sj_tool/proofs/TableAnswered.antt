@@ -3,7 +3,7 @@ use Rattle.std.proofs.Common.{◌≡◌, ◌⊎◌, ℕ, Bool, List, [], Option,
 use Rattle.std.proofs.lemmas.Bool.{cases_lt}
 use Rattle.sj_lang.specs.FileAt.{FileAt}
 use Rattle.sj_grammar.specs.Files.{IsFile}
-use Rattle.sj_lang.specs.Limits.{limits, IsWithin}
+use Rattle.sj_lang.specs.Limits.{limits, IsWithin, file_limit}
 use Rattle.sj_log.specs.Parts.{HasNoPart}
 use Rattle.sj_party.proofs.FileLemmas.{spelled_within}
 use Rattle.sj_party_laws.proofs.AnswerLemmas.{file_or_fault}
@@ -18,7 +18,7 @@ use Rattle.sj_tool.specs.Answers.{AnswersBytes, AnswersInput, AnswersText, Comes
 use Rattle.sj_tool.specs.Calls.{CallAt, LinkUseAt, LinksHold}
 use Rattle.sj_tool.specs.Runs.{HasBegun}
 use Rattle.sj_tool.specs.Table.{IsReadAsAsked, ShowsItsRun, WasRead}
-use Rattle.sj_tool.specs.Tasks.{HasInput, HasParts, IsRead, IsUnread, Reads, RunsParties, Takes, file_limit}
+use Rattle.sj_tool.specs.Tasks.{HasInput, HasParts, IsRead, IsUnread, Reads, RunsParties, Takes}
 use Rattle.sj_tool.proofs.FileAnswered.{file_answered}
 use Rattle.sj_tool.proofs.FileAnswers.{answers_bytes, answers_text}
 use Rattle.sj_tool.proofs.PartedOrNot.{Parts, parts_or_none}

@@ -5,7 +5,7 @@ use Rattle.std.specs.Prelude.{codes, decimal}
 use Rattle.sj_command.specs.declared.tasks.Task.{Task}
 use Rattle.sj_command.specs.declared.tasks.Task.TheVariants.{Check, Show, Sim, Run, Replay, Make, Big}
 use Rattle.sj_command.specs.CommandLine.{IsTaken}
-use Rattle.sj_command.specs.Task.{Asks, IsUsage, LineAt, Means, StandsForLooks, alone, line_in, most_looks, replaying, running, usual_looks}
+use Rattle.sj_command.specs.Task.{Asks, IsCount, IsUsage, LineAt, Means, StandsForLooks, alone, line_in, most_looks, most_messages, replaying, running, usual_looks}
 use Rattle.sj_tool.proofs.LineLemmas.{made_of, one_list, one_option}
 
 -- the first number below n that has it
@@ -53,24 +53,28 @@ module _ (l : LineAt) where
   counted_dec name zero = no (λ h. omega (arith, h.1))
   counted_dec name (suc n) = made_of (one_line l (alone name (Some (decimal (suc n))))) (λ h. (h, omega arith)) (λ h. h.0)
 
-  counted : (name : List ℕ) (most : ℕ) → 1000 ≡ most → ((n : ℕ) × (l ≡ alone name (Some (decimal n))) × (1 ≤ n) × (n ≤ 1000)) ⊎ ((n : ℕ) → (l ≡ alone name (Some (decimal n))) × (1 ≤ n) × (n ≤ 1000) → ⊥)
+  -- and one of those that can be asked for
+  abbrev Counts : List ℕ → ℕ → Type 0
+  Counts name n = (l ≡ alone name (Some (decimal n))) × IsCount n
+
+  counted : (name : List ℕ) (most : ℕ) → most_messages ≡ most → ((n : ℕ) × Counts name n) ⊎ ((n : ℕ) → Counts name n → ⊥)
   counted name most is = by (first_or_none (IsCounted name) (counted_dec name) (suc most))
     where
       by : First (IsCounted name) (suc most) ⊎ ((k : ℕ) → k < suc most → IsCounted name k → ⊥)
-          → ((n : ℕ) × (l ≡ alone name (Some (decimal n))) × (1 ≤ n) × (n ≤ 1000)) ⊎ ((n : ℕ) → (l ≡ alone name (Some (decimal n))) × (1 ≤ n) × (n ≤ 1000) → ⊥)
-      by (inl f) = inl (f.number, f.has.0, f.has.1, omega (arith, is, f.below))
-      by (inr none) = inr (λ n h. none n (omega (arith, is, h.2)) (h.0, h.1))
+          → ((n : ℕ) × Counts name n) ⊎ ((n : ℕ) → Counts name n → ⊥)
+      by (inl f) = inl (f.number, (f.has.0, (f.has.1, omega (arith, is, f.below))))
+      by (inr none) = inr (λ n h. none n (omega (arith, is, h.1.1)) (h.0, h.1.0))
 
   -- the line asks for a task, or for none
   pub means_or_none : ((t : Task) × Means l t) ⊎ ((t : Task) → Means l t → ⊥)
   means_or_none =
       by (one_line l (alone (codes "check") None)) (one_line l (alone (codes "show") None)) (one_line l (alone (codes "sim") None)) (one_line l (running false l.looks)) (one_line l (running true l.looks))
-      (looks_or_none most_looks refl l.looks) (one_line l (replaying false)) (one_line l (replaying true)) (counted (codes "make") 1000 refl) (counted (codes "big") 1000 refl)
+      (looks_or_none most_looks refl l.looks) (one_line l (replaying false)) (one_line l (replaying true)) (counted (codes "make") most_messages refl) (counted (codes "big") most_messages refl)
     where
       by : Dec (l ≡ alone (codes "check") None) → Dec (l ≡ alone (codes "show") None) → Dec (l ≡ alone (codes "sim") None) → Dec (l ≡ running false l.looks) → Dec (l ≡ running true l.looks)
           → ((n : ℕ) × StandsForLooks l.looks n) ⊎ ((n : ℕ) → StandsForLooks l.looks n → ⊥) → Dec (l ≡ replaying false) → Dec (l ≡ replaying true)
-          → ((n : ℕ) × (l ≡ alone (codes "make") (Some (decimal n))) × (1 ≤ n) × (n ≤ 1000)) ⊎ ((n : ℕ) → (l ≡ alone (codes "make") (Some (decimal n))) × (1 ≤ n) × (n ≤ 1000) → ⊥)
-          → ((n : ℕ) × (l ≡ alone (codes "big") (Some (decimal n))) × (1 ≤ n) × (n ≤ 1000)) ⊎ ((n : ℕ) → (l ≡ alone (codes "big") (Some (decimal n))) × (1 ≤ n) × (n ≤ 1000) → ⊥)
+          → ((n : ℕ) × Counts (codes "make") n) ⊎ ((n : ℕ) → Counts (codes "make") n → ⊥)
+          → ((n : ℕ) × Counts (codes "big") n) ⊎ ((n : ℕ) → Counts (codes "big") n → ⊥)
           → ((t : Task) × Means l t) ⊎ ((t : Task) → Means l t → ⊥)
       by (yes e) b c d f g h i j k = inl (Check, e)
       by (no a) (yes e) c d f g h i j k = inl (Show, e)
@@ -79,8 +83,8 @@ module _ (l : LineAt) where
       by (no a) (no b) (no c) d (yes e) (inl n) h i j k = inl (Run true n.0, (e, n.1))
       by (no a) (no b) (no c) d f g (yes e) i j k = inl (Replay false, e)
       by (no a) (no b) (no c) d f g (no h) (yes e) j k = inl (Replay true, e)
-      by (no a) (no b) (no c) d f g (no h) (no i) (inl (n, e, some, few)) k = inl (Make n, (e, some, few))
-      by (no a) (no b) (no c) d f g (no h) (no i) (inr j) (inl (n, e, some, few)) = inl (Big n, (e, some, few))
+      by (no a) (no b) (no c) d f g (no h) (no i) (inl (n, counts)) k = inl (Make n, counts)
+      by (no a) (no b) (no c) d f g (no h) (no i) (inr j) (inl (n, counts)) = inl (Big n, counts)
       by (no a) (no b) (no c) (no d) (no f) (inl g) (no h) (no i) (inr j) (inr k) = inr none
         where
           none : (t : Task) → Means l t → ⊥

@@ -24,6 +24,7 @@ use Rattle.sj_tool.specs.Entries.{IsDamageText, IsMisfitText}
 use Rattle.sj_tool.specs.Tasks.{AsksFor, Checks, HasInput, HasLongText, HasParts, IsUnread, Reads, Replays, RunsParties, Takes, limit_of}
 use Rattle.sj_tool.specs.Runs.{Plays, Prints}
 use Rattle.sj_tool.specs.Texts.{status_of, text_of}
+use Rattle.sj_tool.specs.declared.top.TheConstants.{WRITE_FAULT, NO_MEMORY}
 
 -- what answers a file, with the log that is replayed
 abbrev pub AnswersFile : LinkUseAt → Task → (log : List ℕ) → FileAt → AnswerAt → Type 0
@@ -109,4 +110,4 @@ pub record WroteFront (c : CallAt) (before after : Option (List ℕ)) : Type 0 w
 
 -- it holds, unless a write failed or there was no memory
 abbrev pub OrYields : ℕ → Type 0 → Type 0
-OrYields status P = P ⊎ ((status ≡ 10) ⊎ (status ≡ 11))
+OrYields status P = P ⊎ ((status ≡ WRITE_FAULT) ⊎ (status ≡ NO_MEMORY))

@@ -4,10 +4,8 @@ use Rattle.sj_lang.specs.FileAt.{FileAt}
 use Rattle.sj_end.specs.Lines.{line_at}
 use Rattle.sj_log.specs.LogText.{IsFault, SpellsLog}
 use Rattle.sj_log.specs.declared.refusal.LogRefusal.TheVariants.{At}
-use Rattle.sj_rules.specs.History.{IsMisfit}
+use Rattle.sj_rules.specs.History.{IsFirstMisfit}
 use Rattle.sj_rules.specs.Log.{LineAt}
-use Rattle.sj_rules.specs.Party.{play_of}
-use Rattle.sj_rules.specs.Start.{core_start}
 use Rattle.sj_tool.specs.Entries.{IsToldMisfit}
 use Rattle.sj_tool.specs.AnswerAt.{AnswerAt, LogFault}
 use Rattle.sj_tool.specs.declared.replaying.ReplayFault.{ReplayFault}
@@ -16,14 +14,14 @@ use Rattle.sj_tool.specs.declared.replaying.ReplayFault.TheVariants as faults
 -- the lines don't lead on from the start of the file; what is told of their text is no matter here
 abbrev pub IsStopped : FileAt → List LineAt → ReplayFault → Type 0
 IsStopped file lines (faults.Text rule line) = ⊥
-IsStopped file lines (faults.Entry number logged other) = IsMisfit (play_of file) max (core_start file) lines number (line_at logged) (option_map line_at other)
+IsStopped file lines (faults.Entry number logged other) = IsFirstMisfit max file lines number (line_at logged) (option_map line_at other)
 IsStopped file lines faults.NoMemory = ⊤
 
 -- the log isn't in its grammar, or its lines don't lead on
 abbrev pub IsRefusedBy : FileAt → (log : List ℕ) → ReplayFault → Type 0
 IsRefusedBy file log (faults.Text rule line) = IsFault file log (At rule line)
 IsRefusedBy file log (faults.Entry number logged other) =
-    (lines : List LineAt) × SpellsLog file log lines × IsMisfit (play_of file) max (core_start file) lines number (line_at logged) (option_map line_at other)
+    (lines : List LineAt) × SpellsLog file log lines × IsFirstMisfit max file lines number (line_at logged) (option_map line_at other)
 IsRefusedBy file log faults.NoMemory = ⊤
 
 -- the answer tells the fault; want of memory has no answer

@@ -7,6 +7,7 @@ use Rattle.sj_command.specs.declared.tasks.Task.TheVariants as tasks
 use Rattle.sj_command.specs.Task.{Asks, usual_looks}
 use Rattle.sj_log.specs.Parts.{IsParted}
 use Rattle.sj_tool.specs.Calls.{CallAt}
+use Rattle.sj_lang.specs.Limits.{file_limit, source_limit}
 
 -- ---- kinds of tasks
 
@@ -50,14 +51,6 @@ HasEvents (tasks.Run log looks) = ⊤
 HasEvents (tasks.Replay log) = ⊤
 HasEvents (tasks.Big n) = ⊤
 HasEvents _ = ⊥
-
--- the most bytes of a file
-abbrev pub file_limit : ℕ
-file_limit = 65536
-
--- the most bytes of a file with the log behind it
-abbrev pub source_limit : ℕ
-source_limit = 16777216
 
 -- the most bytes of what a task reads
 abbrev pub limit_of : Task → ℕ

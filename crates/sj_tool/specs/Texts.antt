@@ -42,7 +42,7 @@ abbrev pub text_of : AnswerAt → List ℕ
 text_of Usage = codes "usage: sj check | show | sim | run [--log] [--looks N] | replay [--log] | make N | big N\n"
 text_of ReadFault = codes "read fault\n"
 text_of TooLarge = codes "too large\n"
-text_of (Syntax fault) = line_of (codes "syntax" ∷ (80 ∷ decimal (rule_number fault.rule)) ∷ codes "at" ∷ (decimal fault.line ++ 58 ∷ decimal fault.column) ∷ [])
+text_of (Syntax fault) = line_of (codes "syntax" ∷ (codes "P" ++ decimal (rule_number fault.rule)) ∷ codes "at" ∷ (decimal fault.line ++ (codes ":" ++ decimal fault.column)) ∷ [])
 text_of (Check rule line) = rule_line (codes "check") (codes "C") rule line
 text_of (LogFault rule line) = rule_line (codes "log") (codes "L") rule line
 text_of (Misfit text) = text

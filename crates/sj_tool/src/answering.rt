@@ -4,7 +4,8 @@ ghost use Rattle.sj_generator.specs.Generated.{generated};
 ghost use Rattle.sj_tool.specs.AnswerAt.{answer_at};
 ghost use Rattle.sj_tool.specs.Answers.{AnswersBytes, AnswersText, Comes};
 ghost use Rattle.sj_tool.specs.Calls.{call, link_use};
-ghost use Rattle.sj_tool.specs.Tasks.{Takes, file_limit, limit_of, source_limit};
+ghost use Rattle.sj_tool.specs.Tasks.{Takes, limit_of};
+ghost use Rattle.sj_lang.specs.Limits.{file_limit, source_limit};
 
 use crate::answers::Answer;
 use crate::files::{counted, ran_by_links, ran_by_log, shown, simulated_file};

@@ -1,13 +1,13 @@
 //! What answers a file that was read.
 ghost use Rattle.std.specs.Prelude.{◌≤◌, ℕ, List, IfOk, length};
 ghost use Rattle.sj_lang.specs.FileView.{file_of};
-ghost use Rattle.sj_lang.specs.Limits.{limits, IsWithin};
+ghost use Rattle.sj_lang.specs.Limits.{limits, IsWithin, source_limit};
 ghost use Rattle.sj_command.specs.declared.tasks.Task.TheVariants as tasks;
 ghost use Rattle.sj_tool.specs.AnswerAt.{answer_at};
 ghost use Rattle.sj_tool.specs.Answers.{AnswersFile};
 ghost use Rattle.sj_tool.specs.Calls.{LinkUseAt, link_use};
 ghost use Rattle.sj_tool.specs.Entries.{IsToldSo};
-ghost use Rattle.sj_tool.specs.Tasks.{Replays as IsReplay, RunsParties, source_limit};
+ghost use Rattle.sj_tool.specs.Tasks.{Replays as IsReplay, RunsParties};
 ghost use Rattle.sj_tool.specs.Outcomes.{IsJudged};
 ghost use Rattle.sj_tool.specs.Replays.{IsToldFault};
 

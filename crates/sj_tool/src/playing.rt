@@ -5,6 +5,7 @@ ghost use Rattle.sj_check.specs.Held.{file_in};
 ghost use Rattle.sj_core.specs.World.{history_of, world_at};
 ghost use Rattle.sj_end.specs.Lines.{line_at};
 ghost use Rattle.sj_lang.specs.FileView.{file_of};
+ghost use Rattle.sj_lang.specs.Limits.{limits};
 ghost use Rattle.sj_plain.specs.Kept.{without_words};
 ghost use Rattle.sj_plain.specs.Plain.{acts_of, kept_file, world_at as plain_at};
 ghost use Rattle.sj_rules.specs.History.{IsHistory, IsQuietAmong};
@@ -69,8 +70,8 @@ fn text_for(
     plain: &Plain,
 ) -> Result<Vec<u8>, NoMemory>
     requires events { HasEvents task }
-    requires parties { length (file_of file.now).parties ≤ 16 }
-    requires connects { length (file_of file.now).connects ≤ 64 }
+    requires parties { length (file_of file.now).parties ≤ limits.parties }
+    requires connects { length (file_of file.now).connects ≤ limits.connects }
     requires kept { kept_file plain.now ≡ without_words (file_of file.now) }
     requires run { IsRun (kept_file plain.now) (acts_of plain.now) (plain_at plain.now) }
     ensures { IfOk result (λ text. text.items
@@ -93,8 +94,8 @@ fn logged_text(
     plain: &Plain,
     log: bool,
 ) -> Result<Vec<u8>, NoMemory>
-    requires parties { length (file_of file.now).parties ≤ 16 }
-    requires connects { length (file_of file.now).connects ≤ 64 }
+    requires parties { length (file_of file.now).parties ≤ limits.parties }
+    requires connects { length (file_of file.now).connects ≤ limits.connects }
     requires kept { kept_file plain.now ≡ without_words (file_of file.now) }
     requires run { IsRun (kept_file plain.now) (acts_of plain.now) (plain_at plain.now) }
     ensures { IfOk result (λ text. text.items ≡ transcript_of (file_of file.now) (plain_at plain.now)

@@ -4,12 +4,13 @@ ghost use Rattle.sj_check.specs.Held.{file_in};
 ghost use Rattle.sj_core.specs.World.{history_of, kept_file, party_count, world_at};
 ghost use Rattle.sj_end.specs.Lines.{line_at};
 ghost use Rattle.sj_lang.specs.FileView.{file_of};
+ghost use Rattle.sj_lang.specs.Limits.{source_limit};
 ghost use Rattle.sj_log.specs.LogText.{SpellsLog};
 ghost use Rattle.sj_plain.specs.Kept.{without_words};
 ghost use Rattle.sj_rules.specs.History.{IsHistory};
 ghost use Rattle.sj_command.specs.declared.tasks.Task.TheVariants as tasks;
 ghost use Rattle.sj_tool.specs.Calls.{LinkUseAt};
-ghost use Rattle.sj_tool.specs.Tasks.{Replays, source_limit};
+ghost use Rattle.sj_tool.specs.Tasks.{Replays};
 ghost use Rattle.sj_tool.specs.Replays.{IsRefusedBy, IsStopped};
 ghost use Rattle.sj_tool.specs.Runs.{HasHistory, HasRun};
 

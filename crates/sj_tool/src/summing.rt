@@ -1,6 +1,7 @@
 //! How much was done in a plain world.
 ghost use Rattle.std.specs.Prelude.{◌≡◌, ◌≤◌, IfOk, OnOk, ◌++◌};
 ghost use Rattle.sj_lang.specs.FileView.{file_of};
+ghost use Rattle.sj_lang.specs.Limits.{limits};
 ghost use Rattle.sj_plain.specs.Plain.{party_count, session_count, world_at};
 ghost use Rattle.sj_generator_laws.specs.Counts.{messages_in, steps_in};
 ghost use Rattle.sj_semantics.specs.Transcript.{line_of, verdict_word};
@@ -22,8 +23,8 @@ pub(crate) fn summary_text(
     file: &File,
     plain: &Plain,
 ) -> Result<Vec<u8>, NoMemory>
-    requires parties { party_count plain.now ≤ 16 }
-    requires sessions { session_count plain.now ≤ 64 }
+    requires parties { party_count plain.now ≤ limits.parties }
+    requires sessions { session_count plain.now ≤ limits.connects }
     ensures { IfOk result (λ text. text.items ≡ summary n (file_of file.now) (world_at plain.now)) }
 {
     let messages = messages(plain)?;
@@ -72,7 +73,7 @@ fn put_verdict(text: &mut Vec<u8>, verdict: Verdict) -> Result<(), NoMemory>
 
 // How many messages the ends of all sessions sent.
 fn messages(plain: &Plain) -> Result<u64, NoMemory>
-    requires { session_count plain.now ≤ 64 }
+    requires { session_count plain.now ≤ limits.connects }
     ensures { IfOk result (λ n. n ≡ messages_in (world_at plain.now)) }
 {
     let mut count = 0u64;
@@ -87,7 +88,7 @@ fn messages(plain: &Plain) -> Result<u64, NoMemory>
 
 // How many steps all parties did.
 fn steps(plain: &Plain) -> Result<u64, NoMemory>
-    requires { party_count plain.now ≤ 16 }
+    requires { party_count plain.now ≤ limits.parties }
     ensures { IfOk result (λ n. n ≡ steps_in (world_at plain.now)) }
 {
     let mut count = 0u64;

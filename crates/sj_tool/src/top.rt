@@ -1,16 +1,18 @@
 //! The top call: from the words and the input to the output.
-ghost use Rattle.std.specs.Prelude.{◌≡◌, IfSome, true};
+ghost use Rattle.std.specs.Prelude.{◌≡◌, IfSome, true, ℕ, List};
 ghost use Rattle.sj_base.specs.Stream.{Rose};
 ghost use Rattle.sj_lane.specs.Told as lanes;
 ghost use Rattle.sj_lang.specs.FileAt.{FileAt};
 ghost use Rattle.sj_command.specs.declared.tasks.Task.{Task as AnyTask};
-ghost use Rattle.sj_tool.specs.AnswerAt.{AnswerAt};
+ghost use Rattle.sj_tool.specs.AnswerAt.{AnswerAt, ReadFault, LinkFault, Damaged};
 ghost use Rattle.sj_tool.specs.Answers.{AnswersOne, Comes, OrYields, WroteFront};
 ghost use Rattle.sj_tool.specs.Calls.{call, link_use};
 ghost use Rattle.sj_tool.specs.Completeness.{CompletesSo, IsValid};
 ghost use Rattle.sj_tool.specs.Headline.{HasHeadline, IsPlaying, IsVerdict};
 ghost use Rattle.sj_tool.specs.Tasks.{AsksFor};
 ghost use Rattle.sj_tool.specs.Table.{AnswersAs, NoFaultAbove};
+ghost use Rattle.sj_tool.specs.Texts.{status_of};
+ghost use Rattle.sj_tool.specs.declared.top.TheConstants.{WRITE_FAULT, NO_MEMORY};
 
 use crate::answering::answer_to;
 use sj_base::{NoMemory, Sink, Source, WriteFault, write_all_of};
@@ -74,16 +76,16 @@ pub fn sj<R: Threads + Sync, S: Source, K: Sink, L: Links, G: Gate>(
 
     // A read fault, a link fault and a write fault come only where a fault was counted, and damage only
     // over links that don't tell.
-    ensures read_fault { result ≡ 2 → Rose (S.faults src.old) (S.faults src.new) }
-    ensures link_fault { result ≡ 8 → lanes.Rose (L.faults links.old) (L.faults links.new) }
-    ensures damaged { result ≡ 9 → L.tells links.old ≡ true → ⊥ }
-    ensures write_fault { result ≡ 10 → Rose (K.faults out.old) (K.faults out.new) }
+    ensures read_fault { result ≡ status_of ReadFault → Rose (S.faults src.old) (S.faults src.new) }
+    ensures link_fault { result ≡ status_of LinkFault → lanes.Rose (L.faults links.old) (L.faults links.new) }
+    ensures damaged { (text : List ℕ) → result ≡ status_of (Damaged text) → L.tells links.old ≡ true → ⊥ }
+    ensures write_fault { result ≡ WRITE_FAULT → Rose (K.faults out.old) (K.faults out.new) }
 
     // A front of the answer's text was written where the sink failed, and nothing without memory.
-    ensures front { result ≡ 10 → WroteFront (call S.left S.faults words.now src.old src.new
+    ensures front { result ≡ WRITE_FAULT → WroteFront (call S.left S.faults words.now src.old src.new
         (link_use L.tells L.faults L.sent L.got L.vain_out L.vain_in links.old links.new))
         (K.written out.old) (K.written out.new) }
-    ensures no_memory { result ≡ 11 → K.written out.new ≡ K.written out.old }
+    ensures no_memory { result ≡ NO_MEMORY → K.written out.new ≡ K.written out.old }
 {
     let answer = match answer_to(rt, alloc, words, src, links, gate) {
         Ok(answer) => answer,

@@ -6,6 +6,7 @@ ghost use Rattle.sj_work.specs.Answers.{SaysHalt, SeesFinished};
 ghost use Rattle.sj_work.specs.Causes.{own_line};
 ghost use Rattle.sj_work.specs.Turns.{IsGoing, IsHalted, Rests, Turns};
 ghost use Rattle.sj_work.specs.Views.{lanes_of, looks_of, node_of, stop_of};
+ghost use Rattle.sj_rules.specs.Limits.{clock_end};
 
 use crate::worker::{Answer, Gate, Worker};
 use sj_end::Line;
@@ -35,7 +36,7 @@ pub(crate) fn finished(node: &Node) -> Option<Answer>
 
 /// The line that an act would have made which the rules don't have.
 fn due_line(node: &Node) -> Line
-    requires clock { clock_of node.now < 4611686018427387904 }
+    requires clock { clock_of node.now < clock_end }
     requires goes { nodes.stop_of node.now ≡ None }
     ensures { Some result ≡ option_map (own_line node.now) (due_of node.now) }
 {
@@ -50,7 +51,7 @@ fn due_line(node: &Node) -> Line
 
 /// What a worker answers whose node refused an act. A party that is halted is no reason to stop.
 fn refused(node: &Node, halt: Halt) -> Option<Answer>
-    requires clock { clock_of node.now < 4611686018427387904 }
+    requires clock { clock_of node.now < clock_end }
     requires goes { halt ≡ Halt.Unfit → nodes.stop_of node.now ≡ None }
     ensures { SaysHalt node.now halt result }
 {

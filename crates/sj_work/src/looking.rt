@@ -7,6 +7,7 @@ ghost use Rattle.sj_work.specs.Causes.{InVain};
 ghost use Rattle.sj_work.specs.Counts.{OnLane, RoseBy};
 ghost use Rattle.sj_work.specs.Turns.{IsGoing, Turns};
 ghost use Rattle.sj_work.specs.Views.{in_of, looks_of, node_of, stop_of};
+ghost use Rattle.sj_rules.specs.Limits.{clock_end};
 
 use crate::acting::{CLOCK_END, finished, show};
 use crate::worker::{Answer, Gate, Worker};
@@ -16,7 +17,7 @@ use sj_node::{DeliverRefusal, Node};
 
 /// The answer to a frame that the node refused.
 fn refused(node: &Node, from: u16, frame: &Frame, refusal: DeliverRefusal) -> Answer
-    requires { clock_of node.now < 4611686018427387904 }
+    requires { clock_of node.now < clock_end }
     ensures { result ≡ delivery_answer node.now from (told_frame frame.now) refusal }
 {
     match refusal {
@@ -34,7 +35,7 @@ fn refused(node: &Node, from: u16, frame: &Frame, refusal: DeliverRefusal) -> An
 
 /// One delivery. Answers why the worker stops, if it does.
 fn deliver<G: Gate>(node: &mut Node, from: u16, frame: Frame, gate: &G) -> Option<Answer>
-    requires { clock_of node.old < 4611686018427387904 }
+    requires { clock_of node.old < clock_end }
     ensures { Comes from frame node.old node.new result }
 {
     match node.deliver(from, frame) {

@@ -13,7 +13,7 @@ returns-in_err-kind-in-Not-clause-tests t c =
 
 pub returns-then-not-same_kind-clause-tests : goal.returns-then-not-same_kind-clause-tests
 returns-then-not-same_kind-clause-tests t c =
-    let k = c.in_ok-kind-in-Not in terms.not-fails c.args.line c.args.known.now (term_of c.args.value.now) (term_of c.deref.result.now) (ap term_of c.in-Not.is ∙ term_of-Not c.in-Not.inner ∙ ap (λ (f : Expr). not (term_of f)) (sym c.deref.ensures)) k.kind k.ensures.tests k.ensures.ok (sym c.same_kind.ensures ∙ c.if-not-same_kind.true)
+    let k = c.in_ok-kind-in-Not in rw c.broken-then-not-same_kind.ensures (terms.not-fails c.args.line c.args.known.now (term_of c.args.value.now) (term_of c.deref.result.now) (ap term_of c.in-Not.is ∙ term_of-Not c.in-Not.inner ∙ ap (λ (f : Expr). not (term_of f)) (sym c.deref.ensures)) k.kind k.ensures.tests k.ensures.ok (sym c.same_kind.ensures ∙ c.if-not-same_kind.true))
 
 pub returns-else-not-same_kind-clause-tests : goal.returns-else-not-same_kind-clause-tests
 returns-else-not-same_kind-clause-tests t c =
@@ -31,8 +31,8 @@ returns-in_err-second-in-Two-clause-tests t c =
 pub returns-then-not-takes-clause-tests : goal.returns-then-not-takes-clause-tests
 returns-then-not-takes-clause-tests t c =
     let j = c.in_ok-first-in-Two in let k = c.in_ok-second-in-Two in
-    terms.two-fails c.args.line c.args.known.now (term_of c.args.value.now) c.in-Two.op (term_of c.deref-in-Two.result.now) (term_of c.deref-in-Two-2.result.now) (ap term_of c.in-Two.is ∙ term_of-Two c.in-Two.op c.in-Two.left c.in-Two.right ∙ ap (λ (f : Expr). two c.in-Two.op (term_of f) (term_of c.in-Two.right.value)) (sym c.deref-in-Two.ensures)
-    ∙ ap (λ (f : Expr). two c.in-Two.op (term_of c.deref-in-Two.result.now) (term_of f)) (sym c.deref-in-Two-2.ensures)) j.first k.second j.ensures.tests k.ensures.tests j.ensures.ok k.ensures.ok (sym c.takes.ensures ∙ c.if-not-takes.true)
+    rw c.broken-then-not-takes.ensures (terms.two-fails c.args.line c.args.known.now (term_of c.args.value.now) c.in-Two.op (term_of c.deref-in-Two.result.now) (term_of c.deref-in-Two-2.result.now) (ap term_of c.in-Two.is ∙ term_of-Two c.in-Two.op c.in-Two.left c.in-Two.right ∙ ap (λ (f : Expr). two c.in-Two.op (term_of f) (term_of c.in-Two.right.value)) (sym c.deref-in-Two.ensures)
+    ∙ ap (λ (f : Expr). two c.in-Two.op (term_of c.deref-in-Two.result.now) (term_of f)) (sym c.deref-in-Two-2.ensures)) j.first k.second j.ensures.tests k.ensures.tests j.ensures.ok k.ensures.ok (sym c.takes.ensures ∙ c.if-not-takes.true))
 
 pub returns-else-not-takes-clause-tests : goal.returns-else-not-takes-clause-tests
 returns-else-not-takes-clause-tests t c =

@@ -151,8 +151,8 @@ statement-returns-then-not-agree t c =
     let is = an_inbranch c.args.stmt.now c.in-Branch.end c.in-Branch.arms c.deref-in-Branch.result.now c.in-Branch.is c.deref-in-Branch.ensures.value in
     let same : c.deref.result.now ≡ c.deref-in-Branch.result.now = c.deref.ensures.value ∙ sym c.deref-in-Branch.ensures.value in
     let asked = rw same at c.in_ok-branching-in-Branch.ensures in
-    branch-ends (defs_in c.args.protocols.now) c.args.stmt.now.line (env_in c.args.protocols.now c.args.env.now) (stmt_of c.args.stmt.now) c.in-Branch.end (branches_of (map arm_of c.deref-in-Branch.result.now)) is asked c.in_ok-left-in-Branch.agree c.in_ok-left-in-Branch.ensures.tests c.in_ok-left-in-Branch.ensures.agree
-    ∙ ap (λ b. cond b None (Some (9, c.args.stmt.now.line))) c.if-not-agree.true
+    rw c.broken.ensures (branch-ends (defs_in c.args.protocols.now) c.args.stmt.now.line (env_in c.args.protocols.now c.args.env.now) (stmt_of c.args.stmt.now) c.in-Branch.end (branches_of (map arm_of c.deref-in-Branch.result.now)) is asked c.in_ok-left-in-Branch.agree c.in_ok-left-in-Branch.ensures.tests c.in_ok-left-in-Branch.ensures.agree
+    ∙ ap (λ b. cond b None (Some (9, c.args.stmt.now.line))) c.if-not-agree.true)
 
 pub statement-returns-else-not-agree : goal.statement-returns-else-not-agree
 statement-returns-else-not-agree t c =

@@ -2,9 +2,10 @@ use Rattle.std.proofs.Common.{◌≤◌, length, sym, subst, arith}
 use Rattle.sj_command.specs.declared.tasks.Task.{Task}
 use Rattle.sj_tool.specs.AnswerAt.{answer_at}
 use Rattle.sj_tool.specs.Calls.{LinkUseAt, link_use}
-use Rattle.sj_tool.specs.Tasks.{HasParts, file_limit}
+use Rattle.sj_tool.specs.Tasks.{HasParts}
 use Rattle.sj_tool.proofs.FileAnswers.{answers_bytes}
 use Rattle.sj_tool.proofs.answering.answer_to_bytes.Goals as goal
+use Rattle.sj_lang.specs.Limits.{file_limit}
 
 pub returns : goal.returns
 returns g c =

@@ -4,7 +4,8 @@ use Rattle.sj_semantics.specs.Fitting.{fits_todo}
 use Rattle.sj_semantics.specs.Wants.{want_of}
 use Rattle.sj_machine.specs.Sound.{program_at}
 use Rattle.sj_machine.proofs.FrameLemmas.{frame_there}
-use Rattle.sj_machine.proofs.FitLemmas.{fits_by_statement, take_wanted}
+use Rattle.sj_semantics.proofs.FittingLemmas.{fits_by_statement}
+use Rattle.sj_machine.proofs.FitLemmas.{take_wanted}
 use Rattle.sj_machine.proofs.StepLemmas.{step_makes}
 use Rattle.sj_machine.proofs.machine.Machine.fits.Goals as goal
 
