@@ -23,9 +23,9 @@ is_loop w (repeat v body rest) = is_same_way v w
 is_loop w _ = false
 
 -- what the first message carries
-abbrev pub carried : Place → Carried
-carried (message w k rest) = k
-carried _ = int
+abbrev pub carried_kind : Place → Carried
+carried_kind (message w k rest) = k
+carried_kind _ = int
 
 -- the arms of the choice that stands first
 abbrev pub choices : Place → Choices

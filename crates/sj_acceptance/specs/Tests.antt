@@ -14,7 +14,7 @@ use Rattle.sj_acceptance.specs.Arms.{common, is_one, common_env}
 use Rattle.sj_acceptance.specs.Sameness.{is_same_kind, is_same_ends}
 use Rattle.sj_acceptance.specs.Faults.{Test}
 use Rattle.sj_acceptance.specs.KindTests.{kind_of, term_tests, is_free_for}
-use Rattle.sj_acceptance.specs.FirstItem.{is_message, is_choice, is_loop, carried, choices, rest_of, turn_of, arm_place, is_carried_as, is_session, is_session_of}
+use Rattle.sj_acceptance.specs.FirstItem.{is_message, is_choice, is_loop, carried_kind, choices, rest_of, turn_of, arm_place, is_carried_as, is_session, is_session_of}
 use Rattle.sj_acceptance.specs.Labels.{branch_labels}
 use Rattle.sj_acceptance.specs.LabelTests.{are_labels_of}
 use Rattle.sj_acceptance.specs.Rules.{no_protocol, name_in_use, not_there, other_action, other_kind, no_label, arms_differ, turn_differs, closed_early, not_to_delegate, other_arms}
@@ -48,17 +48,17 @@ abbrev mutual
   pub deed_tests : List ProtocolAt → ℕ → EnvAt → DeedAt → List Test
   deed_tests ps line env (send x e) =
       (not_there, line, is_live env x) ∷ (other_action, line, is_message Out (place_at env x)) ∷ term_tests line env.variables e
-      ++ (other_kind, line, is_carried_as (kind_of env.variables e) (carried (place_at env x))) ∷ []
+      ++ (other_kind, line, is_carried_as (kind_of env.variables e) (carried_kind (place_at env x))) ∷ []
   deed_tests ps line env (delegate x y) =
       (not_there, line, is_live env x) ∷ (not_there, line, is_live env y) ∷ (not_to_delegate, line, not (x == y)) ∷ (other_action, line, is_message Out (place_at env x))
-      ∷ (other_kind, line, is_session (carried (place_at env x))) ∷ (not_to_delegate, line, not (is_done (place_at env y)))
-      ∷ (other_kind, line, is_session_of (place_at env y) (carried (place_at env x))) ∷ []
+      ∷ (other_kind, line, is_session (carried_kind (place_at env x))) ∷ (not_to_delegate, line, not (is_done (place_at env y)))
+      ∷ (other_kind, line, is_session_of (place_at env y) (carried_kind (place_at env x))) ∷ []
   deed_tests ps line env (take_value x n k) =
-      (not_there, line, is_live env x) ∷ (other_action, line, is_message Into (place_at env x)) ∷ (other_kind, line, is_carried_as k (carried (place_at env x)))
+      (not_there, line, is_live env x) ∷ (other_action, line, is_message Into (place_at env x)) ∷ (other_kind, line, is_carried_as k (carried_kind (place_at env x)))
       ∷ (name_in_use, line, not (is_live env n)) ∷ (other_kind, line, is_free_for (map.get env.variables n) k) ∷ []
   deed_tests ps line env (take_end x y p) =
       (not_there, line, is_live env x) ∷ (no_protocol, line, is_some (protocol_named ps p)) ∷ (other_action, line, is_message Into (place_at env x))
-      ∷ (other_kind, line, is_session_of (unwrap_or (protocol_named ps p) done) (carried (place_at env x)))
+      ∷ (other_kind, line, is_session_of (unwrap_or (protocol_named ps p) done) (carried_kind (place_at env x)))
       ∷ (name_in_use, line, not (is_live env y || is_known env y)) ∷ []
   deed_tests ps line env (outbranch x l) =
       (not_there, line, is_live env x) ∷ (other_action, line, is_choice Out (place_at env x)) ∷ (no_label, line, is_some (at_label l (choices (place_at env x)))) ∷ []

@@ -15,7 +15,7 @@ use Rattle.sj_acceptance.specs.EnvAt.{EnvAt, env_of, with_live, without_live}
 use Rattle.sj_acceptance.specs.Statements.{IsSelect, IsDelegate}
 use Rattle.sj_acceptance.specs.Faults.{Test, first_fault}
 use Rattle.sj_acceptance.specs.Sameness.{is_same_place}
-use Rattle.sj_acceptance.specs.FirstItem.{is_message, is_choice, is_session, is_session_of, carried, choices, rest_of, arm_place}
+use Rattle.sj_acceptance.specs.FirstItem.{is_message, is_choice, is_session, is_session_of, carried_kind, choices, rest_of, arm_place}
 use Rattle.sj_acceptance.specs.Tests.{deed_tests, after_deed}
 use Rattle.sj_acceptance_laws.proofs.FaultLemmas.{first_passes}
 use Rattle.sj_acceptance_laws.proofs.SamenessLemmas.{is_same_place-Decides}
@@ -51,7 +51,7 @@ module _ (ps : List ProtocolAt) (line : ℕ) (env : EnvAt) (x : ℕ) where
 
   module _ (y : ℕ) where
     abbrev del_rest : Place → Place → List Test
-    del_rest p r = (6, line, is_message Out p) ∷ (7, line, is_session (carried p)) ∷ (13, line, common.not (is_done r)) ∷ (7, line, is_session_of r (carried p)) ∷ []
+    del_rest p r = (6, line, is_message Out p) ∷ (7, line, is_session (carried_kind p)) ∷ (13, line, common.not (is_done r)) ∷ (7, line, is_session_of r (carried_kind p)) ∷ []
 
     abbrev del_tests : Option Place → Option Place → List Test
     del_tests o q = (5, line, is_some o) ∷ (5, line, is_some q) ∷ (13, line, common.not (x == y)) ∷ del_rest (unwrap_or o done) (unwrap_or q done)

@@ -14,7 +14,7 @@ use Rattle.sj_acceptance.specs.Kinds.{carried_by}
 use Rattle.sj_acceptance.specs.Statements.{IsSend, IsClose, IsLet}
 use Rattle.sj_acceptance.specs.Faults.{Test, first_fault}
 use Rattle.sj_acceptance.specs.KindTests.{kind_of, term_tests, is_free_for}
-use Rattle.sj_acceptance.specs.FirstItem.{is_message, carried, rest_of, is_carried_as}
+use Rattle.sj_acceptance.specs.FirstItem.{is_message, carried_kind, rest_of, is_carried_as}
 use Rattle.sj_acceptance.specs.Tests.{deed_tests, after_deed}
 use Rattle.sj_acceptance_laws.proofs.FaultLemmas.{first_passes, all_pass, pass_both}
 use Rattle.sj_acceptance_laws.proofs.KindLaws.{has_kind, kind_passes, carried_is, carried_by-passes, free_kind, free_passes}
@@ -28,7 +28,7 @@ no_end (Some p) h = absurd (cc)
 module _ (ps : List ProtocolAt) (line : ℕ) (env : EnvAt) (x : ℕ) where
   -- what `send` asks, by the place of its end
   abbrev send_tests : Term → Option Place → List Test
-  send_tests e o = (5, line, is_some o) ∷ (6, line, is_message Out (unwrap_or o done)) ∷ term_tests line env.variables e ++ (7, line, is_carried_as (kind_of env.variables e) (carried (unwrap_or o done))) ∷ []
+  send_tests e o = (5, line, is_some o) ∷ (6, line, is_message Out (unwrap_or o done)) ∷ term_tests line env.variables e ++ (7, line, is_carried_as (kind_of env.variables e) (carried_kind (unwrap_or o done))) ∷ []
 
   send_from : (e : Term) (o : Option Place) → get env.ends x ≡ o → first_fault (send_tests e o) ≡ None → IsSend (env_of env) x e (env_of (with_live env x (rest_of (unwrap_or o done))))
   send_from e None g h = absurd (cc)

@@ -14,7 +14,7 @@ use Rattle.sj_acceptance.specs.Statements.{IsTakeValue, IsTakeEnd}
 use Rattle.sj_acceptance.specs.Faults.{Test, first_fault}
 use Rattle.sj_acceptance.specs.KindTests.{is_free_for}
 use Rattle.sj_acceptance.specs.Sameness.{is_same_place}
-use Rattle.sj_acceptance.specs.FirstItem.{is_message, is_session_of, carried, rest_of, is_carried_as}
+use Rattle.sj_acceptance.specs.FirstItem.{is_message, is_session_of, carried_kind, rest_of, is_carried_as}
 use Rattle.sj_acceptance.specs.Tests.{deed_tests, after_deed}
 use Rattle.sj_acceptance_laws.proofs.FaultLemmas.{first_passes}
 use Rattle.sj_acceptance_laws.proofs.KindLaws.{carried_is, carried_by-passes, free_kind, free_passes}
@@ -28,7 +28,7 @@ module _ (ps : List ProtocolAt) (line : ℕ) (env : EnvAt) (x : ℕ) where
     end_rest = (3, line, common.not (is_some (get env.ends n))) ∷ (7, line, is_free_for (get env.variables n) k) ∷ []
 
     abbrev take_tests : Option Place → List Test
-    take_tests o = (5, line, is_some o) ∷ (6, line, is_message Into (unwrap_or o done)) ∷ (7, line, is_carried_as k (carried (unwrap_or o done))) ∷ end_rest
+    take_tests o = (5, line, is_some o) ∷ (6, line, is_message Into (unwrap_or o done)) ∷ (7, line, is_carried_as k (carried_kind (unwrap_or o done))) ∷ end_rest
 
     took : (rest : Place) → env_of (with_known (with_live env x rest) n k) ≡ with_kind (at_place (env_of env) x rest) n k
     took rest = seen-knowing (with_live env x rest) n k ∙ ap (λ (v : Env). with_kind v n k) (seen-moved env x rest)
@@ -63,7 +63,7 @@ module _ (ps : List ProtocolAt) (line : ℕ) (env : EnvAt) (x : ℕ) where
 
   module _ (y p : ℕ) where
     abbrev get_tests : Option Place → Option Place → List Test
-    get_tests o b = (5, line, is_some o) ∷ (1, line, is_some b) ∷ (6, line, is_message Into (unwrap_or o done)) ∷ (7, line, is_session_of (unwrap_or b done) (carried (unwrap_or o done)))
+    get_tests o b = (5, line, is_some o) ∷ (1, line, is_some b) ∷ (6, line, is_message Into (unwrap_or o done)) ∷ (7, line, is_session_of (unwrap_or b done) (carried_kind (unwrap_or o done)))
         ∷ (3, line, common.not (is_some (get env.ends y) || is_some (get env.variables y))) ∷ []
 
     unused : (o : Option Place) (v : Option Scalar) → common.not (is_some o || is_some v) ≡ true → (o ≡ None) × (v ≡ None)

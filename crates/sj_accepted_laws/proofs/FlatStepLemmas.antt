@@ -14,7 +14,7 @@ use Rattle.sj_lang.specs.FileAt.{ProtocolAt}
 use Rattle.sj_semantics.specs.declared.Value.{Value}
 use Rattle.sj_semantics.specs.Value.{with_value, Vars, worth}
 use Rattle.sj_semantics.specs.Program.{Thing, statement, Program, block, ends_without}
-use Rattle.sj_semantics.specs.Steps.{assigned}
+use Rattle.sj_semantics.specs.Steps.{assigned_vars}
 use Rattle.sj_semantics.specs.Wants.{want_send}
 use Rattle.sj_acceptance.specs.Statements.{IsSelect, IsClose, IsLet}
 use Rattle.sj_acceptance.specs.Environment.{Env, at_place, without_end, with_kind}
@@ -64,7 +64,7 @@ module _ (ps : List ProtocolAt) (zs : List Session) (vars : Vars) (ends : List (
       record {
         want = wants.Local;
         wants_it = ap (option_map (λ v. wants.Local)) w.it_is;
-        step_fits = subst (λ (o : Option Value). FitsTodo ps zs rest (assigned vars n o) ends) (sym w.it_is)
+        step_fits = subst (λ (o : Option Value). FitsTodo ps zs rest (assigned_vars vars n o) ends) (sym w.it_is)
             (continues_fit ps zs rest (with_value vars n w.value) ends (with_kind env n s.kind) (agrees_assigned zs ends vars env n w.value s.kind a w.kind) (subst (Continues ps rest) s.leaves c));
       }
 

@@ -13,7 +13,7 @@ use Rattle.sj_semantics.specs.Fitting.{fits}
 use Rattle.sj_semantics.specs.Steps.{local_of, sent_of, closed_of}
 use Rattle.sj_semantics.specs.World.{World, Change, session_message, change_by_taking, change_by, act_of}
 use Rattle.sj_semantics.specs.Ends.{Session, other_end, end_at, next_for}
-use Rattle.sj_semantics.specs.Uses.{sends, delegates, altered, after_uses}
+use Rattle.sj_semantics.specs.Uses.{sends, delegates, altered_list, after_uses}
 use Rattle.sj_semantics_laws.proofs.AlteredLemmas.{slice_get-altered, slice_get-altered_other}
 use Rattle.sj_semantics_laws.proofs.ChangeLemmas.{rests_on}
 use Rattle.sj_semantics_laws.proofs.CommuteLemmas.{doing_of}
@@ -52,12 +52,12 @@ by_goes ps w p g sound there (wants.Take k a) it fit d h =
     taking_goes ps w p g sound there k d (next_for w.sessions k) refl (λ x n. next_fits ps w p g k a x sound there it n) h
 by_goes ps w p g sound there (wants.Close k) it fit d h = cond_goes w p g true (record { program = closed_of g; uses = [] }) d (close_goes ps w p g sound there k (ends_go g (wants.Close k) it) fit.0) h
 
-pub found : (parties : List Program) (p : ℕ) (g c : Program) (zs : List Session) (e : EndId) → slice_get parties p ≡ Some g → Held e c.ends ⊎ ((f : EndId) × IsComing zs e f) → Is_at (altered parties p (λ k. c)) zs e
+pub found : (parties : List Program) (p : ℕ) (g c : Program) (zs : List Session) (e : EndId) → slice_get parties p ≡ Some g → Held e c.ends ⊎ ((f : EndId) × IsComing zs e f) → Is_at (altered_list parties p (λ k. c)) zs e
 found parties p g c zs e there (inl h) = held p c (slice_get-altered parties p (λ k. c) ∙ ap (option_map (λ k. c)) there) h
 found parties p g c zs e there (inr k) = on_its_way k.0 k.1
 
 pub held_goes : (w : World) (p q : ℕ) (g h c : Program) (new : List Session) (e : EndId) → slice_get w.parties p ≡ Some g → slice_get w.parties q ≡ Some h → Held e h.ends
-    → (Held e g.ends → Held e c.ends ⊎ ((f : EndId) × IsComing new e f)) → Is_at (altered w.parties p (λ k. c)) new e
+    → (Held e g.ends → Held e c.ends ⊎ ((f : EndId) × IsComing new e f)) → Is_at (altered_list w.parties p (λ k. c)) new e
 held_goes w p q g h c new e there at it go =
     elim (cases_eq p q) [
       | inl same ↦
@@ -67,10 +67,10 @@ held_goes w p q g h c new e there at it go =
       | inr other ↦ held q h (slice_get-altered_other w.parties p q (λ k. c) other ∙ at) it
     ]
 
-pub located_on : (w : World) (p : ℕ) (g c : Program) (new : List Session) → slice_get w.parties p ≡ Some g → AllLocated w.parties w.sessions → Goes w g new c → AllLocated (altered w.parties p (λ k. c)) new
+pub located_on : (w : World) (p : ℕ) (g c : Program) (new : List Session) → slice_get w.parties p ≡ Some g → AllLocated w.parties w.sessions → Goes w g new c → AllLocated (altered_list w.parties p (λ k. c)) new
 located_on w p g c new there all goes e is_open = by (all e (goes e is_open).0)
   where
-    by : Is_at w.parties w.sessions e → Is_at (altered w.parties p (λ k. c)) new e
+    by : Is_at w.parties w.sessions e → Is_at (altered_list w.parties p (λ k. c)) new e
     by (held q h at it) = held_goes w p q g h c new e there at it (goes e is_open).1
     by (on_its_way f k) = found w.parties p g c new e there ((goes e is_open).2 f k)
 

@@ -15,7 +15,7 @@ use Rattle.sj_semantics.specs.declared.Awaits.TheVariants as awaits
 use Rattle.sj_lang.specs.FileAt.{ProtocolAt}
 use Rattle.sj_semantics.specs.Value.{Vars, worth, turns_of}
 use Rattle.sj_semantics.specs.Program.{Thing, statement, turns, Program, block}
-use Rattle.sj_semantics.specs.Steps.{turned}
+use Rattle.sj_semantics.specs.Steps.{turns_ahead}
 use Rattle.sj_semantics.specs.Wants.{want_send, want_take, more_turns}
 use Rattle.sj_acceptance.specs.Environment.{Env, at_place}
 use Rattle.sj_acceptance.specs.Follows.{Does}
@@ -32,7 +32,7 @@ module _ (ps : List ProtocolAt) (zs : List Session) (vars : Vars) (ends : List (
   abbrev pub going : List Thing → Program
   going todo = record { todo = todo; vars = vars; ends = ends; steps = steps }
 
-  pub turned_continues : (x n : ℕ) (body : Code) → (t : IsTurning ps env x body) → Continues ps rest (at_place env x t.outer) → Continues ps (turned x n body rest) (at_place env x (turned_place t.inner t.outer n))
+  pub turned_continues : (x n : ℕ) (body : Code) → (t : IsTurning ps env x body) → Continues ps rest (at_place env x t.outer) → Continues ps (turns_ahead x n body rest) (at_place env x (turned_place t.inner t.outer n))
   turned_continues x zero body t c = c
   turned_continues x (suc n) body t c =
       block_continues ps body (turns x n body ∷ rest) (at_place env x (followed_by t.inner (repeat Out t.inner t.outer))) t.last t.follows
@@ -52,8 +52,8 @@ module _ (ps : List ProtocolAt) (zs : List Session) (vars : Vars) (ends : List (
           next = turned_place s.0 s.1 n.count;
           after = subst (λ (p : Place). after_place p Out (more_turns n.count) ≡ Some (turned_place s.0 s.1 n.count)) (sym b.at) (turned_after s.0 s.1 n.count);
           fits = subst (λ (p : Place). FitsNext zs (dual_of p) (more_turns n.count)) (sym b.at) tt;
-          onward = λ new m. subst (λ (o : Option ℕ). FitsTodo ps new (turned x (unwrap_or o 0) body rest) vars ends) (sym n.it_is)
-              (continues_fit ps new (turned x n.count body rest) vars ends (at_place env x (turned_place s.0 s.1 n.count))
+          onward = λ new m. subst (λ (o : Option ℕ). FitsTodo ps new (turns_ahead x (unwrap_or o 0) body rest) vars ends) (sym n.it_is)
+              (continues_fit ps new (turns_ahead x n.count body rest) vars ends (at_place env x (turned_place s.0 s.1 n.count))
               (agrees_moved zs new ends vars env x b.end (turned_place s.0 s.1 n.count) a b.it_is m) (turned_continues x n.count body t (subst (Continues ps rest) s.7 c)));
         };
       }
@@ -70,7 +70,7 @@ module _ (ps : List ProtocolAt) (zs : List Session) (vars : Vars) (ends : List (
           next = turned_place t.inner t.outer n;
           after = subst (λ (p : Place). after_place p Out (more_turns n) ≡ Some (turned_place t.inner t.outer n)) (sym b.at) (turned_after t.inner t.outer n);
           fits = subst (λ (p : Place). FitsNext zs (dual_of p) (more_turns n)) (sym b.at) tt;
-          onward = λ new m. continues_fit ps new (turned x n body rest) vars ends (at_place env x (turned_place t.inner t.outer n))
+          onward = λ new m. continues_fit ps new (turns_ahead x n body rest) vars ends (at_place env x (turned_place t.inner t.outer n))
               (agrees_moved zs new ends vars env x b.end (turned_place t.inner t.outer n) a b.it_is m) (turned_continues x n body t c);
         };
       }

@@ -16,7 +16,7 @@ use Rattle.sj_lang.specs.FileAt.{ProtocolAt, protocol_named, named}
 use Rattle.sj_semantics.specs.declared.Value.{Value}
 use Rattle.sj_semantics.specs.Value.{with_value, Vars, message_of, worth}
 use Rattle.sj_semantics.specs.Program.{Thing, statement, Program, ends_without, ends_with}
-use Rattle.sj_semantics.specs.Steps.{assigned}
+use Rattle.sj_semantics.specs.Steps.{assigned_vars}
 use Rattle.sj_semantics.specs.Wants.{want_send, want_delegate, want_take}
 use Rattle.sj_acceptance.specs.Statements.{IsSend, IsDelegate, IsTakeValue, IsTakeEnd}
 use Rattle.sj_acceptance.specs.Environment.{Env, at_place, without_end, with_kind}
@@ -83,7 +83,7 @@ module _ (ps : List ProtocolAt) (zs : List Session) (vars : Vars) (ends : List (
               name = x;
               is_named = b.it_is;
               can_take = t.can_take;
-              onward = λ new mv kept. subst (λ (o : Option Value). FitsTodo ps new rest (assigned vars n o) ends) (sym t.carried)
+              onward = λ new mv kept. subst (λ (o : Option Value). FitsTodo ps new rest (assigned_vars vars n o) ends) (sym t.carried)
                   (continues_fit ps new rest (with_value vars n t.value) ends (with_kind (at_place env x nx) n k)
                   (agrees_assigned new ends vars (at_place env x nx) n t.value k (agrees_moved zs new ends vars env x b.end nx a b.it_is mv) t.kind)
                   (subst (λ (p : Place). Continues ps rest (with_kind (at_place env x p) n k)) t.same (subst (Continues ps rest) s.leaves c)));

@@ -16,7 +16,7 @@ use Rattle.sj_semantics.specs.Wants.{want_of}
 use Rattle.sj_semantics.specs.Steps.{local_of, sent_of, closed_of}
 use Rattle.sj_semantics.specs.World.{World, Change, session_message, change_by_taking, change_by, act_of}
 use Rattle.sj_semantics.specs.Ends.{Session, end_at, next_for}
-use Rattle.sj_semantics.specs.Uses.{sends, delegates, altered, after_uses}
+use Rattle.sj_semantics.specs.Uses.{sends, delegates, altered_list, after_uses}
 use Rattle.sj_semantics_laws.specs.Unshared.{IsUnshared}
 use Rattle.sj_semantics_laws.proofs.AlteredLemmas.{slice_get-altered, slice_get-altered_other}
 use Rattle.sj_semantics_laws.specs.Bound.{IsBound}
@@ -66,7 +66,7 @@ change_after ps w v p sound a =
     let r = rests_on w.sessions p a.program a.change a.made in
     by_after ps w p a.program sound a.there r.want r.wants_it (fits_want ps w.sessions a.program r.want (sound.programs p a.program a.there) r.wants_it) a.change r.by_it
 
-own_program : (w : World) (p : ℕ) (g c h : Program) → slice_get w.parties p ≡ Some g → slice_get (altered w.parties p (λ k. c)) p ≡ Some h → c ≡ h
+own_program : (w : World) (p : ℕ) (g c h : Program) → slice_get w.parties p ≡ Some g → slice_get (altered_list w.parties p (λ k. c)) p ≡ Some h → c ≡ h
 own_program w p g c h there at = let both : Some c ≡ Some h = sym (slice_get-altered w.parties p (λ k. c) ∙ ap (option_map (λ k. c)) there) ∙ at in cc
 
 pub act_keeps_sound : (ps : List ProtocolAt) (w v : World) (p : ℕ) → Sound ps w → act_of w p ≡ Some v → Sound ps v
@@ -77,7 +77,7 @@ act_keeps_sound ps w v p sound acted =
       unshared = subst IsUnshared (sym a.result) (act_keeps_unshared w v p sound.unshared acted);
       pairs = r.pairs;
       programs = λ q h at. elim (cases_eq p q) [
-        | inl it ↦ subst (FitsProgram ps (after_uses p a.change.uses w.sessions)) (own_program w p a.program a.change.program h a.there (ap (slice_get (altered w.parties p (λ k. a.change.program))) it ∙ at)) r.own
+        | inl it ↦ subst (FitsProgram ps (after_uses p a.change.uses w.sessions)) (own_program w p a.program a.change.program h a.there (ap (slice_get (altered_list w.parties p (λ k. a.change.program))) it ∙ at)) r.own
         | inr other ↦ r.others q h other (sym (slice_get-altered_other w.parties p q (λ k. a.change.program) other) ∙ at)
       ];
     })

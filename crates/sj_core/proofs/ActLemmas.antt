@@ -12,7 +12,7 @@ use Rattle.sj_semantics.specs.Wants.{want_of}
 use Rattle.sj_table.specs.declared.table.Spot.{Spot}
 use Rattle.sj_rules.specs.Events.{acts_in}
 use Rattle.sj_rules.specs.Halts as rules
-use Rattle.sj_rules.specs.Halts.{halt_by, halt_if, halt_of, has_message, is_at_end, is_expected, is_filled, may_be_handed}
+use Rattle.sj_rules.specs.Halts.{halt_by, halt_if, halt_of, has_message, is_at_end, is_expected, is_filled, may_be_delegated}
 use Rattle.sj_rules.specs.History.{IsCoreRun}
 use Rattle.sj_rules.specs.Mapped.{main_with, node_with}
 use Rattle.sj_rules.specs.Node.{NodeAt, Play, acts}
@@ -28,7 +28,7 @@ use Rattle.sj_rules_laws.proofs.LawfulLemmas.{run_is_lawful}
 use Rattle.sj_rules_laws.proofs.RunLawsLemmas.{run_acts_unless_halted}
 use Rattle.sj_node.specs.declared.refusal.Halt.{Halt}
 use Rattle.sj_node.specs.declared.refusal.Halt.TheVariants as halts
-use Rattle.sj_node.specs.Halts.{held_up, is_awaited, is_empty, is_worn_out, lacks_message, names_awaited, stop_by, stop_wanting}
+use Rattle.sj_node.specs.Halts.{hold_up, is_empty, is_worn_out, lacks_message, names_awaited, stop_by, stop_wanting}
 use Rattle.sj_node.specs.Play.{next_want}
 
 -- what was met on the way to no cause
@@ -55,13 +55,13 @@ filled [] k = absurd (cc k)
 filled (m ∷ ms) k = refl
 
 module _ (f : Spot → Place) where
-  awaited_is : (r : Option (MainAt Spot)) → is_expected (option_map (main_with f) r) ≡ is_awaited r
+  awaited_is : (r : Option (MainAt Spot)) → is_expected (option_map (main_with f) r) ≡ is_expected r
   awaited_is None = refl
   awaited_is (Some (Held x)) = refl
   awaited_is (Some (Closed x)) = refl
   awaited_is (Some (Expected k to ds)) = refl
 
-  unworn : (r : Option (MainAt Spot)) (h : HeldAt Place) → option_map (main_with f) r ≡ Some (Held h) → is_worn_out r ≡ false → may_be_handed (option_map (main_with f) r) ≡ true
+  unworn : (r : Option (MainAt Spot)) (h : HeldAt Place) → option_map (main_with f) r ≡ Some (Held h) → is_worn_out r ≡ false → may_be_delegated (option_map (main_with f) r) ≡ true
   unworn None h is k = absurd (cc is)
   unworn (Some (Held x)) h is k = grind arith
   unworn (Some (Closed x)) h is k = absurd (cc is)
@@ -96,24 +96,24 @@ module _ (file : FileAt) (accepted : IsAccepted file) (turns : List Turn) (core 
   g = (plain_at stands.plain).programs p
 
   -- an end that the program binds is Held, where it isn't awaited
-  held_main : (e : EndId) → binds g e ≡ true → is_awaited (m.main e) ≡ false → (h : HeldAt Place) × (option_map (main_with f) (m.main e) ≡ Some (Held h))
+  held_main : (e : EndId) → binds g e ≡ true → is_expected (m.main e) ≡ false → (h : HeldAt Place) × (option_map (main_with f) (m.main e) ≡ Some (Held h))
   held_main e bound free =
       let own = held_here IsDone play binds (length file.parties) core (plain_at stands.plain) stands.kept lawful p e bound
       (ap (λ n. is_expected (n.main e)) here ∙ awaited_is f (m.main e) ∙ free) in
       (own.0, sym (ap (λ n. n.main e) here) ∙ own.1)
 
   -- the step, where nothing stops the node
-  free_by : (want : Want) → FitsStep IsDone play binds (plain_at stands.plain) p g (want_for file.protocols want) → names_awaited m.main want ≡ false → held_up m.main want ≡ None
+  free_by : (want : Want) → FitsStep IsDone play binds (plain_at stands.plain) p g (want_for file.protocols want) → names_awaited m.main want ≡ false → hold_up m.main want ≡ None
       → is_at_end (want_for file.protocols want) ≡ false → halt_by (node_with f m) (want_for file.protocols want) ≡ None
   free_by wants.Ended fit named up k = absurd (cc k)
   free_by wants.Local fit named up k = refl
   free_by (wants.Send e x) fit named up k = unhalted_by f _ (rules.awaits e) None (awaited_is f (m.main e) ∙ named) refl
   free_by (wants.Delegate e y) fit named up k =
-      let apart = neither (is_awaited (m.main e)) (is_awaited (m.main y)) named in
+      let apart = neither (is_expected (m.main e)) (is_expected (m.main y)) named in
       let own = held_main y fit.handed apart.1 in
       unhalted_by f _ (rules.awaits e) _ (awaited_is f (m.main e) ∙ apart.0)
       (unhalted_by f _ (rules.awaits y) _ (awaited_is f (m.main y) ∙ apart.1)
-      (none_unless f _ (rules.handed_enough y) (unworn f (m.main y) own.0 own.1 (none_if (is_worn_out (m.main y)) halts.AtLimit up))))
+      (none_unless f _ (rules.delegated_enough y) (unworn f (m.main y) own.0 own.1 (none_if (is_worn_out (m.main y)) halts.AtLimit up))))
   free_by (wants.Take e a) fit named up k =
       let own = held_main e fit.bound named in
       unhalted_by f _ (rules.awaits e) _ (awaited_is f (m.main e) ∙ named)
@@ -123,7 +123,7 @@ module _ (file : FileAt) (accepted : IsAccepted file) (turns : List Turn) (core 
   free_step : (want : Want) → FitsStep IsDone play binds (plain_at stands.plain) p g (want_for file.protocols want) → stop_wanting m.main m.program.steps want ≡ None → is_at_end (want_for file.protocols want) ≡ false
       → halt_if (not (nat_lt m.program.steps 10000)) rules.worn (halt_by (node_with f m) (want_for file.protocols want)) ≡ None
   free_step want fit k more =
-      let t = passed (nat_lt m.program.steps 10000) (names_awaited m.main want) (held_up m.main want) k in
+      let t = passed (nat_lt m.program.steps 10000) (names_awaited m.main want) (hold_up m.main want) k in
       goes_on (nat_lt m.program.steps 10000) (halt_by (node_with f m) (want_for file.protocols want)) t.0 (free_by want fit t.1 t.2 more)
 
   free_want : (o : Option Want) → FitsStep IsDone play binds (plain_at stands.plain) p g (want_or_ended file.protocols o) → stop_by m.main m.program.steps (unwrap_or o wants.Ended) ≡ None

@@ -10,7 +10,7 @@ use Rattle.sj_rules.specs.Drain.{numbers_from}
 use Rattle.sj_rules.specs.History.{turn_of}
 use Rattle.sj_rules.specs.Party.{play_of}
 use Rattle.sj_rules.specs.World as rules
-use Rattle.sj_rules.specs.World.{Turn, WorldAt, after_event, delivered, happens}
+use Rattle.sj_rules.specs.World.{Turn, WorldAt, after_event, delivery_of, happens}
 use Rattle.sj_rules_laws.proofs.DrainLemmas.{each_once, empties_once, turn_once, turns_once}
 use Rattle.sj_core.specs.declared.course.Course.{Course}
 use Rattle.sj_core.specs.Course.{file_in, history_in, world_in}
@@ -26,7 +26,7 @@ module _ (file : FileAt) where
   -- a frame came from the lane
   took_rest : (p q : ℕ) (w mid v : WorldAt Place Program) (t : Turn) (ts : List Turn) → t ≡ drain.turn p (rules.Deliver q) → happens (play_of file) max w p (rules.Deliver q) ≡ Some mid
       → drain.Empties (play_of file) max p q w ts v → (rest : List Turn) × ((ts ≡ t ∷ rest) × drain.Empties (play_of file) max p q mid rest v)
-  took_rest p q w mid v t [] is h r = let clash : None ≡ Some mid = sym (ap (delivered (play_of file) max w p q) r.0) ∙ h in absurd (cc clash)
+  took_rest p q w mid v t [] is h r = let clash : None ≡ Some mid = sym (ap (delivery_of (play_of file) max w p q) r.0) ∙ h in absurd (cc clash)
   took_rest p q w mid v t (s ∷ ts) is h r =
       (ts, (ap (λ x. x ∷ ts) (r.0 ∙ sym is), subst (λ (x : WorldAt Place Program). drain.Empties (play_of file) max p q x ts v) (some_same r.1.0 mid (sym r.1.1.0 ∙ h)) r.1.1.1))
 

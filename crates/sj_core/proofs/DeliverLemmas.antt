@@ -20,7 +20,7 @@ use Rattle.sj_rules.specs.Rows.{Worked}
 use Rattle.sj_rules.specs.Start.{first_node}
 use Rattle.sj_rules.specs.History.{front_note}
 use Rattle.sj_rules.specs.World as world
-use Rattle.sj_rules.specs.World.{WorldAt, after_event, delivered, happens, with_lane}
+use Rattle.sj_rules.specs.World.{WorldAt, after_event, delivery_of, happens, with_lane}
 use Rattle.sj_node.specs.declared.node.Node.{Node}
 use Rattle.sj_node.specs.Node.{Does, clock_of, delivery, log_of, node_at, outbox_of}
 use Rattle.sj_node.specs.Outs.{waiting_in}
@@ -124,7 +124,7 @@ module _ (file : FileAt) (nodes : List Node) (p q : ℕ) (giver short : Node) (f
         ∙ seen_after file (set nodes q short) p old new here clock (world_by file (set nodes q short)).lanes left did.node
         (λ to. did.posts to ∙ sym (ap (λ o. box_or o to ++ frames_for to clock left.posts) here)) (λ from to apart. refl) in
         let step : happens play max w p (world.Deliver q) ≡ Some last =
-        ap (delivered play max w p q) lane_is
+        ap (delivery_of play max w p q) lane_is
         ∙ ap (option_map (after_event w p (max (w.nodes p).clock f.clock + 1) lanes_after)) came
         ∙ (λ i. Some (after_event w p (max (node_is i).clock f.clock + 1) lanes_after left))
         ∙ ap Some after in

@@ -16,7 +16,7 @@ use Rattle.sj_rules.specs.Party.{play_of}
 use Rattle.sj_rules.specs.Rows.{Worked}
 use Rattle.sj_joined_laws.proofs.ReplayLemmas.{step_lined}
 use Rattle.sj_rules.specs.World as rules
-use Rattle.sj_rules.specs.World.{WorldAt, after_event, delivered, happens, with_lane}
+use Rattle.sj_rules.specs.World.{WorldAt, after_event, delivery_of, happens, with_lane}
 use Rattle.sj_node.specs.declared.node.Node.{Node}
 use Rattle.sj_node.specs.declared.refusal.Halt.{Halt}
 use Rattle.sj_node.specs.Node.{act_note, clock_of, due_if, due_of, note_for, stop_of}
@@ -72,7 +72,7 @@ module _ (c : Course) (led : IsLed c) (p : ℕ) (n : Node) (there : slice_get (n
 
     -- nothing is due of an empty lane
     pub none_due : waiting_in (outs_of giver) p ≡ [] → due play max w p (rules.Deliver q) ≡ None
-    none_due is = ap (λ l. option_and_then (line_after play w p (rules.Deliver q)) (delivered play max w p q l)) (lane [] is)
+    none_due is = ap (λ l. option_and_then (line_after play w p (rules.Deliver q)) (delivery_of play max w p q l)) (lane [] is)
 
     module _ (f : FrameAt Spot) (rest : List (FrameAt Spot)) (front : waiting_in (outs_of giver) p ≡ f ∷ rest) where
       abbrev seen : FrameAt Place
@@ -89,7 +89,7 @@ module _ (c : Course) (led : IsLed c) (p : ℕ) (n : Node) (there : slice_get (n
           lined (file_in c) w fits.0 p (max (clock_of n) f.clock + 1) (rules.Deliver q) (note_seen (note_at f.body)) fits.1
           (ap front_note (lane (f ∷ rest) front) ∙ ap Some (body_noted (place_in giver.table) f.body))
           (clock_of_step w fits.0 p (max (w.nodes p).clock f.clock + 1) (with_lane q p behind w.lanes) (arrives play.parties max (w.nodes p) q seen)
-          (sym (ap (delivered play max w p q) (lane (f ∷ rest) front)) ∙ fits.1)
+          (sym (ap (delivery_of play max w p q) (lane (f ∷ rest) front)) ∙ fits.1)
           ∙ ap (λ (m : NodeAt Place Program). max m.clock f.clock + 1) at)
 
 -- where no line is due, there is no step
@@ -113,7 +113,7 @@ none_at f (Some a) x is none = let e : Some (f a) ≡ None = sym is ∙ none in 
 -- no line of an event that is abroad
 pub abroad_due : (c : Course) → IsLed c → (p : ℕ) (event : Event) → IsAbroad p event (length (nodes_in c)) → due (play_of (file_in c)) max (world_in c) p (event_at event) ≡ None
 abroad_due c led p events.Act out = no_step_due c p rules.Act (ap (option_map (after_event (world_in c) p (((world_in c).nodes p).clock + 1) (world_in c).lanes)) (idle_outside c led p out))
-abroad_due c led p (events.Deliver q) out = no_step_due c p (rules.Deliver q) (ap (delivered (play_of (file_in c)) max (world_in c) p q) (empty_outside c led q p (elim out [ inl le ↦ inr le | inr le ↦ inl le ])))
+abroad_due c led p (events.Deliver q) out = no_step_due c p (rules.Deliver q) (ap (delivery_of (play_of (file_in c)) max (world_in c) p q) (empty_outside c led q p (elim out [ inl le ↦ inr le | inr le ↦ inl le ])))
 
 -- the clock of a front is below 2^62
 pub low_arrival : (c : Course) → IsLed c → (p q : ℕ) (giver : Node) → slice_get (nodes_in c) q ≡ Some giver → (f : FrameAt Spot) (rest : List (FrameAt Spot)) → waiting_in (outs_of giver) p ≡ f ∷ rest → f.clock < 4611686018427387904

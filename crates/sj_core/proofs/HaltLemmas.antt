@@ -14,9 +14,10 @@ use Rattle.sj_rules.specs.Mapped.{held_with, main_with, node_with}
 use Rattle.sj_rules.specs.Record.{HeldAt, MainAt, Held, Closed, Expected, Parked, is_same_end}
 use Rattle.sj_rules.specs.Node.{NodeAt, act_by, acts, close_act, delegate_act, send_act, take_act, take_from, with_main, with_old}
 use Rattle.sj_rules.specs.Party.{play_for, want_or_ended}
+use Rattle.sj_rules.specs.Halts.{is_expected}
 use Rattle.sj_node.specs.declared.refusal.Halt.{Halt}
 use Rattle.sj_node.specs.declared.refusal.Halt.TheVariants as halts
-use Rattle.sj_node.specs.Halts.{held_up, is_awaited, is_worn_out, lacks_message, names_awaited, stop_by}
+use Rattle.sj_node.specs.Halts.{hold_up, is_worn_out, lacks_message, names_awaited, stop_by}
 use Rattle.sj_node.specs.Play.{next_want}
 
 -- the party without the end, which it has parked
@@ -25,19 +26,19 @@ parked_out n e x = with_main e None (with_old e (Some (Parked (record x.end { ho
 
 module _ (f : Spot → Place) (parties : ℕ) (ps : List ProtocolAt) (p : ℕ) where
   -- an awaited end is neither sent on, taken from nor closed
-  send_awaited : (n : NodeAt Place Program) (e : EndId) (m : Msg) (r : Option (MainAt Spot)) → is_awaited r ≡ true → send_act (play_for parties ps) n e m (option_map (main_with f) r) ≡ None
+  send_awaited : (n : NodeAt Place Program) (e : EndId) (m : Msg) (r : Option (MainAt Spot)) → is_expected r ≡ true → send_act (play_for parties ps) n e m (option_map (main_with f) r) ≡ None
   send_awaited n e m None h = refl
   send_awaited n e m (Some (Held x)) h = absurd (cc h)
   send_awaited n e m (Some (Closed x)) h = refl
   send_awaited n e m (Some (Expected k to ds)) h = refl
 
-  close_awaited : (n : NodeAt Place Program) (e : EndId) (r : Option (MainAt Spot)) → is_awaited r ≡ true → close_act (play_for parties ps) n e (option_map (main_with f) r) ≡ None
+  close_awaited : (n : NodeAt Place Program) (e : EndId) (r : Option (MainAt Spot)) → is_expected r ≡ true → close_act (play_for parties ps) n e (option_map (main_with f) r) ≡ None
   close_awaited n e None h = refl
   close_awaited n e (Some (Held x)) h = absurd (cc h)
   close_awaited n e (Some (Closed x)) h = refl
   close_awaited n e (Some (Expected k to ds)) h = refl
 
-  take_awaited : (n : NodeAt Place Program) (e : EndId) (to : Place) (r : Option (MainAt Spot)) → is_awaited r ≡ true → take_act (play_for parties ps) n e to (option_map (main_with f) r) ≡ None
+  take_awaited : (n : NodeAt Place Program) (e : EndId) (to : Place) (r : Option (MainAt Spot)) → is_expected r ≡ true → take_act (play_for parties ps) n e to (option_map (main_with f) r) ≡ None
   take_awaited n e to None h = refl
   take_awaited n e to (Some (Held x)) h = absurd (cc h)
   take_awaited n e to (Some (Closed x)) h = refl
@@ -62,7 +63,7 @@ module _ (f : Spot → Place) (parties : ℕ) (ps : List ProtocolAt) (p : ℕ) w
   if_none true x h = h
   if_none false x h = refl
 
-  hand_on_awaited : (n : NodeAt Place Program) (c e : EndId) (r : Option (MainAt Spot)) (o : Option (MainAt Place)) → n.main c ≡ option_map (main_with f) r → is_awaited r ≡ true → delegate_act (play_for parties ps) p n c e o ≡ None
+  hand_on_awaited : (n : NodeAt Place Program) (c e : EndId) (r : Option (MainAt Spot)) (o : Option (MainAt Place)) → n.main c ≡ option_map (main_with f) r → is_expected r ≡ true → delegate_act (play_for parties ps) p n c e o ≡ None
   hand_on_awaited n c e r None is h = refl
   hand_on_awaited n c e r (Some (Held x)) is h =
       if_none (nat_lt x.end.hops 100) _
@@ -71,7 +72,7 @@ module _ (f : Spot → Place) (parties : ℕ) (ps : List ProtocolAt) (p : ℕ) w
   hand_on_awaited n c e r (Some (Closed x)) is h = refl
   hand_on_awaited n c e r (Some (Expected k at ds)) is h = refl
 
-  handed_awaited : (n : NodeAt Place Program) (c e : EndId) (r : Option (MainAt Spot)) → is_awaited r ≡ true → delegate_act (play_for parties ps) p n c e (option_map (main_with f) r) ≡ None
+  handed_awaited : (n : NodeAt Place Program) (c e : EndId) (r : Option (MainAt Spot)) → is_expected r ≡ true → delegate_act (play_for parties ps) p n c e (option_map (main_with f) r) ≡ None
   handed_awaited n c e None h = refl
   handed_awaited n c e (Some (Held x)) h = absurd (cc h)
   handed_awaited n c e (Some (Closed x)) h = refl
@@ -93,7 +94,7 @@ module _ (f : Spot → Place) (parties : ℕ) (ps : List ProtocolAt) (p : ℕ) w
   awaited_none n wants.Local h = absurd (cc h)
   awaited_none n (wants.Send e m) h = send_awaited (node_with f n) e m (n.main e) h
   awaited_none n (wants.Delegate e y) h =
-      elim (or_true (is_awaited (n.main e)) (is_awaited (n.main y)) h) [
+      elim (or_true (is_expected (n.main e)) (is_expected (n.main y)) h) [
         | inl t ↦ hand_on_awaited (node_with f n) e y (n.main e) (option_map (main_with f) (n.main y)) refl t
         | inr t ↦ handed_awaited (node_with f n) e y (n.main y) t
       ]
@@ -105,7 +106,7 @@ module _ (f : Spot → Place) (parties : ℕ) (ps : List ProtocolAt) (p : ℕ) w
   some_is true x y h = refl
   some_is false x y h = absurd (cc h)
 
-  held_up_none : (n : NodeAt Spot Program) (want : Want) (h : Halt) → held_up n.main want ≡ Some h → act_by (play_for parties ps) p (node_with f n) (want_or_ended ps (Some want)) ≡ None
+  held_up_none : (n : NodeAt Spot Program) (want : Want) (h : Halt) → hold_up n.main want ≡ Some h → act_by (play_for parties ps) p (node_with f n) (want_or_ended ps (Some want)) ≡ None
   held_up_none n wants.Local h k = absurd (cc k)
   held_up_none n (wants.Send e m) h k = absurd (cc k)
   held_up_none n (wants.Delegate e y) h k = handed_worn (node_with f n) e y (n.main y) (some_is (is_worn_out (n.main y)) halts.AtLimit h k)
@@ -113,12 +114,12 @@ module _ (f : Spot → Place) (parties : ℕ) (ps : List ProtocolAt) (p : ℕ) w
   held_up_none n (wants.Close e) h k = absurd (cc k)
   held_up_none n wants.Ended h k = refl
 
-  named_none : (n : NodeAt Spot Program) (want : Want) (h : Halt) (b : Bool) → names_awaited n.main want ≡ b → (if b then Some halts.Waits else held_up n.main want) ≡ Some h → act_by (play_for parties ps) p (node_with f n) (want_or_ended ps (Some want)) ≡ None
+  named_none : (n : NodeAt Spot Program) (want : Want) (h : Halt) (b : Bool) → names_awaited n.main want ≡ b → (if b then Some halts.Waits else hold_up n.main want) ≡ Some h → act_by (play_for parties ps) p (node_with f n) (want_or_ended ps (Some want)) ≡ None
   named_none n want h true is k = awaited_none n want is
   named_none n want h false is k = held_up_none n want h k
 
   steps_none : (n : NodeAt Spot Program) (want : Want) (h : Halt) (b : Bool)
-      → (if b then (if names_awaited n.main want then Some halts.Waits else held_up n.main want) else Some halts.AtLimit) ≡ Some h
+      → (if b then (if names_awaited n.main want then Some halts.Waits else hold_up n.main want) else Some halts.AtLimit) ≡ Some h
       → (if not b then None else act_by (play_for parties ps) p (node_with f n) (want_or_ended ps (Some want))) ≡ None
   steps_none n want h true k = named_none n want h (names_awaited n.main want) refl k
   steps_none n want h false k = refl

@@ -13,7 +13,7 @@ use Rattle.sj_rules.specs.Mapped.{frame_with}
 use Rattle.sj_rules.specs.Start.{first_node}
 use Rattle.sj_rules.specs.Party.{play_of}
 use Rattle.sj_rules.specs.World as world
-use Rattle.sj_rules.specs.World.{WorldAt, delivered, happens, with_lane}
+use Rattle.sj_rules.specs.World.{WorldAt, delivery_of, happens, with_lane}
 use Rattle.sj_node.specs.declared.node.Node.{Node}
 use Rattle.sj_node.specs.Node.{Stays, is_refused, outbox_of}
 use Rattle.sj_node.specs.declared.refusal.DeliverRefusal.{DeliverRefusal}
@@ -113,7 +113,7 @@ nothing_taken file nodes p q giver short seats there none empty others rest = re
 -- nothing comes out of an empty lane
 pub no_front : (file : FileAt) (nodes : List Node) (p q : ℕ) (giver : Node) → slice_get nodes q ≡ Some giver → waiting_in (outs_of giver) p ≡ [] → happens (play_of file) max (world_by file nodes) p (world.Deliver q) ≡ None
 no_front file nodes p q giver there none =
-    ap (delivered (play_of file) max (world_by file nodes) p q) (ap (λ o. box_or o p) there ∙ ap (map (frame_with (place_in giver.table))) none)
+    ap (delivery_of (play_of file) max (world_by file nodes) p q) (ap (λ o. box_or o p) there ∙ ap (map (frame_with (place_in giver.table))) none)
 
 -- want of memory is no answer that there is no step
 pub no_memory_is : {T : Type 0} → (A : Type 0) (r : StepRefusal) → r ≡ steps.NoMemory → ◌≡◌ {A = Result T StepRefusal} (Err r) (Err steps.NoStep) → A

@@ -13,7 +13,7 @@ use Rattle.sj_rules.specs.World.{after_event, happens}
 use Rattle.sj_node.specs.declared.node.Node.{Node}
 use Rattle.sj_node.specs.declared.refusal.Halt.{Halt}
 use Rattle.sj_node.specs.declared.refusal.Halt.TheVariants as halts
-use Rattle.sj_node.specs.Halts.{held_up, is_worn_out, lacks_message, names_awaited, stop_by, stop_wanting}
+use Rattle.sj_node.specs.Halts.{hold_up, is_worn_out, lacks_message, names_awaited, stop_by, stop_wanting}
 use Rattle.sj_node.specs.Node.{act_of, spot_node, steps_of, stop_of, wants_of}
 use Rattle.sj_node.specs.Slots.{mains_in}
 use Rattle.sj_core.specs.declared.course.Course.{Course}
@@ -27,7 +27,7 @@ stop_if : (b : Bool) (k h : Halt) → IsStop k → (if b then Some k else None) 
 stop_if true k h stop is = let same : k ≡ h = cc in subst IsStop same stop
 stop_if false k h stop is = absurd (cc is)
 
-stop_up : (main : EndId → Option (MainAt Spot)) (want : Want) (h : Halt) → held_up main want ≡ Some h → IsStop h
+stop_up : (main : EndId → Option (MainAt Spot)) (want : Want) (h : Halt) → hold_up main want ≡ Some h → IsStop h
 stop_up main wants.Local h is = absurd (cc is)
 stop_up main (wants.Send e m) h is = absurd (cc is)
 stop_up main (wants.Delegate e y) h is = stop_if (is_worn_out (main y)) halts.AtLimit h tt is
@@ -41,7 +41,7 @@ stop_among true false up h held is = held h is
 stop_among false named up h held is = stop_if true halts.AtLimit h tt is
 
 stop_wants : (main : EndId → Option (MainAt Spot)) (steps : ℕ) (want : Want) (h : Halt) → stop_wanting main steps want ≡ Some h → IsStop h
-stop_wants main steps want h is = stop_among (nat_lt steps 10000) (names_awaited main want) (held_up main want) h (stop_up main want) is
+stop_wants main steps want h is = stop_among (nat_lt steps 10000) (names_awaited main want) (hold_up main want) h (stop_up main want) is
 
 stop_is : (main : EndId → Option (MainAt Spot)) (steps : ℕ) (want : Want) (h : Halt) → stop_by main steps want ≡ Some h → IsStop h
 stop_is main steps wants.Local h is = stop_wants main steps wants.Local h is

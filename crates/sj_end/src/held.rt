@@ -3,7 +3,7 @@ ghost use Rattle.std.specs.Prelude.{◌≡◌, ◌+◌, ◌<◌, ◌≤◌, ◌�
 ghost use Rattle.sj_base.specs.declared.Msg.{Msg};
 ghost use Rattle.sj_lang.specs.After.{after_place};
 ghost use Rattle.sj_lang.specs.declared.proto.Way.TheVariants.{Into, Out};
-ghost use Rattle.sj_rules.specs.Node.{sent_on, taken_off};
+ghost use Rattle.sj_rules.specs.Node.{held_behind_send, held_behind_take};
 ghost use Rattle.sj_rules.specs.Record as rules;
 ghost use Rattle.sj_rules.specs.Limits.{limit_of_messages};
 ghost use Rattle.sj_table.specs.Spots.{place_in};
@@ -25,7 +25,7 @@ impl Held {
         requires room { self.old.end.sent < limit_of_messages }
         ensures ok { OnOk result ((next : Spot)
             × (after_place (place_in table.now self.old.end.place) Out msg ≡ Some (place_in table.now next))
-            × (held_at self.new ≡ sent_on (held_at self.old) msg next)) }
+            × (held_at self.new ≡ held_behind_send (held_at self.old) msg next)) }
         ensures body { IfOk result (λ b. body_at b ≡ rules.Carry (rules.other_end self.old.end.id)
             self.old.end.conn self.old.end.sent self.old.end.taken msg) }
         ensures err { OnErr result (held_at self.new ≡ held_at self.old) }
@@ -80,7 +80,7 @@ impl Held {
         ensures { (next : Spot) × (rest : List Msg) × (self.old.untaken.items ≡ result ∷ rest)
             × (after_place (place_in table.now self.old.end.place) Into result
             ≡ Some (place_in table.now next))
-            × (held_at self.new ≡ taken_off (held_at self.old) rest next) }
+            × (held_at self.new ≡ held_behind_take (held_at self.old) rest next) }
     {
         let Some(msg) = self.untaken.pop_front() else {
             unreachable!()

@@ -4,7 +4,7 @@ use Rattle.sj_semantics.specs.Ends.{Session}
 use Rattle.sj_semantics.specs.Program.{Program}
 use Rattle.sj_semantics.specs.State.{IsSettled}
 use Rattle.sj_semantics.specs.Wants.{want_of_todo}
-use Rattle.sj_semantics.specs.World.{World, Change, change_by, change_of_program, changed}
+use Rattle.sj_semantics.specs.World.{World, Change, change_by, change_of_program, changed_world}
 
 -- none of them has anything left to do
 abbrev pub HaveEnded : List Program → Type 0
@@ -25,4 +25,4 @@ no_change_at zs p zero (g ∷ gs) over = no_change zs p g over.0
 no_change_at zs p (suc i) (g ∷ gs) over = no_change_at zs p i gs over.1
 
 pub ended_is_settled : (w : World) → HaveEnded w.parties → IsSettled w
-ended_is_settled w over = λ p. ap (option_map (changed w p)) (no_change_at w.sessions p p w.parties over)
+ended_is_settled w over = λ p. ap (option_map (changed_world w p)) (no_change_at w.sessions p p w.parties over)

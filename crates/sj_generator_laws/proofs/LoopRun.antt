@@ -14,7 +14,7 @@ use Rattle.sj_semantics.specs.declared.Value.TheVariants.{Int}
 use Rattle.sj_semantics.specs.declared.Want.TheVariants as wants
 use Rattle.sj_semantics.specs.Ends.{Session}
 use Rattle.sj_semantics.specs.Program.{statement, turns, Program}
-use Rattle.sj_semantics.specs.Steps.{assigned, turned}
+use Rattle.sj_semantics.specs.Steps.{assigned_vars, turns_ahead}
 use Rattle.sj_semantics.specs.Uses.{place_behind}
 use Rattle.sj_semantics.specs.Value.{Vars, worth, with_value, result_of}
 use Rattle.sj_semantics.specs.Wants.{more_turns}
@@ -30,7 +30,7 @@ module _ (line v : ℕ) (bp : List Program) (bs : List Session) (other : Program
   -- the sender has said whether it turns once more
   abbrev pub looping : ℕ → ℕ → ℕ → Vars → List Passed → List ℕ → World
   looping n t u vars sent takers =
-      behind bp bs (sender_at bs (turned 5 n (turn line v) sender_rest) t ∷ other ∷ adder_at bs (statement (inwhile 9 (adding line)) ∷ adder_rest) vars u ∷ others)
+      behind bp bs (sender_at bs (turns_ahead 5 n (turn line v) sender_rest) t ∷ other ∷ adder_at bs (statement (inwhile 9 (adding line)) ∷ adder_rest) vars u ∷ others)
       (session_at (place_behind sends_numbers Out (more_turns n)) numbers (sent ++ sending bp (more_turns n) ∷ []) [] takers [] ∷ later)
 
   -- both are behind their loops
@@ -67,10 +67,10 @@ module _ (line v : ℕ) (bp : List Program) (bs : List Session) (other : Program
     sum_is = ap (option_and_then (λ a. option_and_then (result_of Add a) (with_number 13))) known
 
     abbrev with_sum : Vars
-    with_sum = assigned with_number 12 (worth with_number (term.two Add (term.var 12) (term.var 13)))
+    with_sum = assigned_vars with_number 12 (worth with_number (term.two Add (term.var 12) (term.var 13)))
 
     sum_known : with_sum 12 ≡ Some (Int (int_wrapping_add w64 total (pos v)))
-    sum_known = ap (λ o. assigned with_number 12 o 12) sum_is
+    sum_known = ap (λ o. assigned_vars with_number 12 o 12) sum_is
 
     one_turn : Leads (looping (suc m) t u vars sent takers) (looping m (t + 1 + 1) (u + 1 + 1 + 1) with_sum put taken)
     one_turn =

@@ -15,8 +15,8 @@ use Rattle.sj_handover.specs.declared.working.Tally.{Tally}
 use Rattle.sj_handover.specs.Working.{held_by}
 
 -- what the rule makes of the end that comes to that record; None where it doesn't fit
-abbrev pub installed : Expected → EndAt Spot → (resend : Option ℕ) → Option (Worked Spot (HeldAt Spot))
-installed e end resend = install max e.place (map deferred_at e.deferred.items) end resend
+abbrev pub installed_work : Expected → EndAt Spot → (resend : Option ℕ) → Option (Worked Spot (HeldAt Spot))
+installed_work e end resend = install max e.place (map deferred_at e.deferred.items) end resend
 
 -- the end at its own place is installed with what the tally, the untaken messages and the posts say
 pub record InstallsTo (e : EndAt Spot) (deferred : List (Mail Spot)) (resend : Option ℕ) (t : Tally) (untaken : List Msg) (posts : List (Mail Spot)) : Type 0 where

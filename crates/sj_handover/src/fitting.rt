@@ -3,9 +3,9 @@ ghost use Rattle.std.specs.Prelude.{◌≡◌, ◌+◌, ◌-◌, ◌≤◌, ◌+
 ghost use Rattle.sj_base.specs.declared.EndId.{EndId};
 ghost use Rattle.sj_base.specs.declared.Msg.{Msg};
 ghost use Rattle.sj_end.specs.Views.{body_at, deferred_at};
-ghost use Rattle.sj_handover.specs.Fitting.{FitsAs, placed};
-ghost use Rattle.sj_handover.specs.Installing.{installed};
-ghost use Rattle.sj_handover.specs.Working.{IsCounted, IsFalseThen, IsTrueThen, held_by, started};
+ghost use Rattle.sj_handover.specs.Fitting.{FitsAs, end_at_spot};
+ghost use Rattle.sj_handover.specs.Installing.{installed_work};
+ghost use Rattle.sj_handover.specs.Working.{IsCounted, IsFalseThen, IsTrueThen, held_by, held_at_start};
 ghost use Rattle.sj_rules.specs.Record as bodies;
 ghost use Rattle.sj_rules.specs.Rows as rules;
 ghost use Rattle.sj_rules.specs.Limits.{limit_of_messages};
@@ -18,7 +18,7 @@ use sj_end::{Body, Deferred, End, Expected};
 /// its turn.
 pub fn fits_install(e: &Expected, end: &End, resend: Option<u32>) -> bool
     requires { end.now.taken ≤ limit_of_messages }
-    ensures { result ≡ is_some (installed e.now end.now resend) }
+    ensures { result ≡ is_some (installed_work e.now end.now resend) }
 {
     if let Some(start) = resend {
         if start < end.base || end.sent < start {
@@ -32,7 +32,7 @@ pub fn fits_install(e: &Expected, end: &End, resend: Option<u32>) -> bool
 fn fit_all(end: &End, deferred: &[Deferred]) -> bool
     requires { end.now.taken ≤ limit_of_messages }
     ensures { (p : Spot) →
-        result ≡ is_some (rules.worked_off max (started (placed end.now p)) (map deferred_at deferred.now)) }
+        result ≡ is_some (rules.worked_record max (held_at_start (end_at_spot end.now p)) (map deferred_at deferred.now)) }
 {
     let mut tally = Tally {
         conn: end.conn,
@@ -56,9 +56,9 @@ fn fit(end: &End, tally: &mut Tally, untaken: &mut usize, from: u16, body: &Body
     requires counted { IsCounted (body_at body.now) }
     requires room { end.now.taken + untaken.old ≤ limit_of_messages + 1 }
     ensures ok { IsTrueThen result ((p : Spot) (ms : List Msg) → length ms ≡ untaken.old →
-        FitsAs (placed end.now p) tally.old tally.new ms untaken.new from (body_at body.now)) }
+        FitsAs (end_at_spot end.now p) tally.old tally.new ms untaken.new from (body_at body.now)) }
     ensures unfit { IsFalseThen result ((p : Spot) (ms : List Msg) → length ms ≡ untaken.old →
-        rules.at_held max (held_by (placed end.now p) tally.old ms) from (body_at body.now) ≡ None) }
+        rules.at_held max (held_by (end_at_spot end.now p) tally.old ms) from (body_at body.now) ≡ None) }
     ensures base { end.now.base ≤ tally.new.base }
     ensures upto { tally.new.base ≤ end.now.sent }
     ensures room { end.now.taken + untaken.new ≤ limit_of_messages + 1 }
@@ -95,11 +95,11 @@ fn fit_carry(
     requires number { number ≤ limit_of_messages }
     requires room { end.now.taken + untaken.old ≤ limit_of_messages + 1 }
     ensures ok { IsTrueThen result ((p : Spot) (to : EndId) (msg : Msg) (ms : List Msg) → length ms ≡ untaken.old →
-        rules.at_held max (held_by (placed end.now p) tally.old ms) from (bodies.Carry to conn number taken msg)
-        ≡ Some (record { state = held_by (placed end.now p) tally.new (ms ++ msg ∷ []); posts = [] })) }
+        rules.at_held max (held_by (end_at_spot end.now p) tally.old ms) from (bodies.Carry to conn number taken msg)
+        ≡ Some (record { state = held_by (end_at_spot end.now p) tally.new (ms ++ msg ∷ []); posts = [] })) }
     ensures count { IsTrueThen result (untaken.new ≡ untaken.old + 1) }
     ensures unfit { IsFalseThen result ((p : Spot) (to : EndId) (msg : Msg) (ms : List Msg) →
-        length ms ≡ untaken.old → rules.at_held max (held_by (placed end.now p) tally.old ms) from
+        length ms ≡ untaken.old → rules.at_held max (held_by (end_at_spot end.now p) tally.old ms) from
         (bodies.Carry to conn number taken msg) ≡ None) }
     ensures base { end.now.base ≤ tally.new.base }
     ensures upto { tally.new.base ≤ end.now.sent }
@@ -122,9 +122,9 @@ fn fit_fin(end: &End, tally: &mut Tally, untaken: usize, from: u16, conn: u32, n
     requires upto { tally.old.base ≤ end.now.sent }
     requires room { end.now.taken + untaken ≤ limit_of_messages + 1 }
     ensures ok { IsTrueThen result ((p : Spot) (to : EndId) (ms : List Msg) → length ms ≡ untaken →
-        FitsAs (placed end.now p) tally.old tally.new ms untaken from (bodies.Fin to conn number)) }
+        FitsAs (end_at_spot end.now p) tally.old tally.new ms untaken from (bodies.Fin to conn number)) }
     ensures unfit { IsFalseThen result ((p : Spot) (to : EndId) (ms : List Msg) → length ms ≡ untaken →
-        rules.at_held max (held_by (placed end.now p) tally.old ms) from (bodies.Fin to conn number) ≡ None) }
+        rules.at_held max (held_by (end_at_spot end.now p) tally.old ms) from (bodies.Fin to conn number) ≡ None) }
     ensures base { end.now.base ≤ tally.new.base }
     ensures upto { tally.new.base ≤ end.now.sent }
 {
@@ -140,15 +140,15 @@ fn fit_signal(end: &End, tally: &mut Tally, from: u16, conn: u32, party: u16, ta
     requires base { end.now.base ≤ tally.old.base }
     requires upto { tally.old.base ≤ end.now.sent }
     ensures ok { IsTrueThen result ((p : Spot) (to : EndId) (ms : List Msg) →
-        rules.at_held max (held_by (placed end.now p) tally.old ms) from (bodies.Signal to conn party taken)
+        rules.at_held max (held_by (end_at_spot end.now p) tally.old ms) from (bodies.Signal to conn party taken)
         ≡ Some (record {
-          state = held_by (placed end.now p) tally.new ms;
+          state = held_by (end_at_spot end.now p) tally.new ms;
           posts = record { party = from; body = bodies.Ack (bodies.other_end end.now.id) conn }
-              ∷ rules.mailed party (rules.numbered (bodies.other_end end.now.id) (conn + 1) end.now.taken taken
+              ∷ rules.mails_of party (rules.numbered_carries (bodies.other_end end.now.id) (conn + 1) end.now.taken taken
               (drop (taken - end.now.base) end.now.cache));
         })) }
     ensures unfit { IsFalseThen result ((p : Spot) (to : EndId) (ms : List Msg) →
-        rules.at_held max (held_by (placed end.now p) tally.old ms) from (bodies.Signal to conn party taken)
+        rules.at_held max (held_by (end_at_spot end.now p) tally.old ms) from (bodies.Signal to conn party taken)
         ≡ None) }
     ensures base { end.now.base ≤ tally.new.base }
     ensures upto { tally.new.base ≤ end.now.sent }

@@ -1,7 +1,7 @@
 //! The taker of an end gets it.
 ghost use Rattle.std.specs.Prelude.{◌≡◌, ◌+◌, ◌≤◌, Some, IfOk, IfErr, IsTrue, is_some, length, map};
 ghost use Rattle.sj_end.specs.Views.{deferred_at, held_at, post_at};
-ghost use Rattle.sj_handover.specs.Installing.{Installs, installed};
+ghost use Rattle.sj_handover.specs.Installing.{Installs, installed_work};
 ghost use Rattle.sj_handover.specs.Working.{held_by};
 ghost use Rattle.sj_rules.specs.Limits.{limit_of_messages};
 
@@ -19,9 +19,9 @@ pub fn install(
     end: End,
     resend: Option<u32>,
 ) -> Result<(Held, Vec<Post>), (Expected, End)>
-    requires fits { IsTrue (is_some (installed e end resend)) }
+    requires fits { IsTrue (is_some (installed_work e end resend)) }
     requires taken { end.taken ≤ limit_of_messages }
-    ensures ok { IfOk result (λ r. installed e end resend
+    ensures ok { IfOk result (λ r. installed_work e end resend
         ≡ Some (record { state = held_at r.0; posts = map post_at r.1.items })) }
     ensures expected { IfErr result (λ x. x.0 ≡ e) }
     ensures end { IfErr result (λ x. x.1 ≡ end) }

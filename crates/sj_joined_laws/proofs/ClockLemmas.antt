@@ -6,7 +6,7 @@ use Rattle.sj_rules.specs.Record.{Mail}
 use Rattle.sj_rules.specs.Rows.{Worked}
 use Rattle.sj_rules.specs.Node.{Play, NodeAt, acts, arrives}
 use Rattle.sj_rules.specs.Frames.{FrameAt, frames_for}
-use Rattle.sj_rules.specs.World.{WorldAt, Event, Act, Deliver, happens, delivered, after_event, with_lane}
+use Rattle.sj_rules.specs.World.{WorldAt, Event, Act, Deliver, happens, delivery_of, after_event, with_lane}
 use Rattle.sj_rules.specs.Within.{NoneAbove, ClocksWithin}
 use Rattle.sj_rules.specs.Log.{LineAt}
 use Rattle.sj_rules.specs.History.{IsLog}
@@ -76,7 +76,7 @@ module _ {P Q : Type 0} (play : Play P Q) (pick : ℕ → ℕ → ℕ) where
 
   -- a delivery
   delivery_within : (c : ℕ) (w v : WorldAt P Q) (p q : ℕ) (lane : List (FrameAt P)) → ClocksWithin c w → NoneAbove c lane →
-      delivered play pick w p q lane ≡ Some v → ClocksWithin (c + 1) v
+      delivery_of play pick w p q lane ≡ Some v → ClocksWithin (c + 1) v
   delivery_within c w v p q [] within all e = absurd (cc e)
   delivery_within c w v p q (f ∷ rest) within all e = frame_within c w v p q f rest (arrives play.parties pick (w.nodes p) q f) within all e
 

@@ -7,7 +7,7 @@ use Rattle.sj_rules.specs.Record.{MainAt, Held, Closed, Expected, HeldAt}
 use Rattle.sj_rules.specs.Rows.{Worked}
 use Rattle.sj_rules.specs.Node.{Play, NodeAt, Want, ended, local, sends, delegates, takes, closes, acts, act_by, take_act, take_from}
 use Rattle.sj_rules.specs.Frames.{FrameAt}
-use Rattle.sj_rules.specs.World.{WorldAt, Event, Act, Deliver, Turn, happens, delivered}
+use Rattle.sj_rules.specs.World.{WorldAt, Event, Act, Deliver, Turn, happens, delivery_of}
 use Rattle.sj_rules.specs.Log.{NoteAt, LineAt, Took, Local, act_note, take_note, body_note, head_note}
 use Rattle.sj_rules.specs.History.{IsLog, due, line_after, turn_of, Replay, replay, with_line, event_note, front_note}
 use Rattle.sj_joined_laws.proofs.HistoryLemmas.{some_same, same_world}
@@ -43,7 +43,7 @@ module _ {P Q : Type 0} (play : Play P Q) (pick : ℕ → ℕ → ℕ) where
   acts_noted party n false done is row = act_noted party n (play.wants n.program) done (rw is at row)
 
   -- a delivery has a frame
-  came_noted : (w : WorldAt P Q) (p q : ℕ) (lane : List (FrameAt P)) (v : WorldAt P Q) → delivered play pick w p q lane ≡ Some v → (note : NoteAt) × (front_note lane ≡ Some note)
+  came_noted : (w : WorldAt P Q) (p q : ℕ) (lane : List (FrameAt P)) (v : WorldAt P Q) → delivery_of play pick w p q lane ≡ Some v → (note : NoteAt) × (front_note lane ≡ Some note)
   came_noted w p q [] v e = absurd (cc e)
   came_noted w p q (f ∷ rest) v e = (body_note f.body, refl)
 

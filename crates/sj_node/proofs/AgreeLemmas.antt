@@ -21,7 +21,7 @@ use Rattle.sj_rules.specs.Node.{NodeAt, close_act, delegate_act, is_free, put, s
 use Rattle.sj_node.specs.declared.node.Node.{Node}
 use Rattle.sj_node.specs.declared.refusal.Halt.{Halt}
 use Rattle.sj_node.specs.declared.refusal.Halt.TheVariants as halts
-use Rattle.sj_node.specs.Halts.{held_up, is_empty, is_worn_out, lacks_message, names_awaited, stop_by}
+use Rattle.sj_node.specs.Halts.{hold_up, is_empty, is_worn_out, lacks_message, names_awaited, stop_by}
 use Rattle.sj_node.specs.Node.{act_of, is_below_count, main_of, node_at, play_of, steps_of, stop_of, wants_of}
 use Rattle.sj_node.specs.Play.{awaited_place, names_known}
 use Rattle.sj_node.specs.Slots.{mains_in}
@@ -111,12 +111,12 @@ goes true true o h = cc
 goes false b o h = cc
 
 -- it isn't at its last step, and isn't held up
-going : (main : EndId → Option (MainAt Spot)) (steps : ℕ) (w : Want) → stop_by main steps w ≡ None → (nat_lt steps 10000 ≡ true) × (held_up main w ≡ None)
-going main steps wants.Local h = goes (nat_lt steps 10000) (names_awaited main wants.Local) (held_up main wants.Local) h
-going main steps (wants.Send e m) h = goes (nat_lt steps 10000) (names_awaited main (wants.Send e m)) (held_up main (wants.Send e m)) h
-going main steps (wants.Delegate e y) h = goes (nat_lt steps 10000) (names_awaited main (wants.Delegate e y)) (held_up main (wants.Delegate e y)) h
-going main steps (wants.Take e a) h = goes (nat_lt steps 10000) (names_awaited main (wants.Take e a)) (held_up main (wants.Take e a)) h
-going main steps (wants.Close e) h = goes (nat_lt steps 10000) (names_awaited main (wants.Close e)) (held_up main (wants.Close e)) h
+going : (main : EndId → Option (MainAt Spot)) (steps : ℕ) (w : Want) → stop_by main steps w ≡ None → (nat_lt steps 10000 ≡ true) × (hold_up main w ≡ None)
+going main steps wants.Local h = goes (nat_lt steps 10000) (names_awaited main wants.Local) (hold_up main wants.Local) h
+going main steps (wants.Send e m) h = goes (nat_lt steps 10000) (names_awaited main (wants.Send e m)) (hold_up main (wants.Send e m)) h
+going main steps (wants.Delegate e y) h = goes (nat_lt steps 10000) (names_awaited main (wants.Delegate e y)) (hold_up main (wants.Delegate e y)) h
+going main steps (wants.Take e a) h = goes (nat_lt steps 10000) (names_awaited main (wants.Take e a)) (hold_up main (wants.Take e a)) h
+going main steps (wants.Close e) h = goes (nat_lt steps 10000) (names_awaited main (wants.Close e)) (hold_up main (wants.Close e)) h
 going main steps wants.Ended h = cc
 
 some_step : (n : Node) (w : Want) → stop_by (mains_in n.mains.items) (steps_of n) w ≡ None → Agrees n w → misfit_by n w ≡ None → step_of n w ≡ None → ⊥

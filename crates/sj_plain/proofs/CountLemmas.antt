@@ -6,7 +6,7 @@ use Rattle.sj_lang.specs.FileAt.{FileAt}
 use Rattle.sj_semantics.specs.Ends.{Session}
 use Rattle.sj_semantics.specs.Run.{IsRun, after_acts}
 use Rattle.sj_semantics.specs.World.{session_of, start_of, World, act_of}
-use Rattle.sj_semantics.specs.Uses.{Use, after_uses, altered, on_side, end_after}
+use Rattle.sj_semantics.specs.Uses.{Use, after_uses, altered_list, on_side, end_after}
 use Rattle.sj_semantics_laws.proofs.AlteredLemmas.{length-altered}
 use Rattle.sj_semantics_laws.proofs.CommuteLemmas.{doing_of}
 use Rattle.sj_semantics_laws.proofs.RunLemmas.{between}
@@ -14,7 +14,7 @@ use Rattle.sj_plain.proofs.BeginLemmas.{length-start}
 
 length-uses : (p : ℕ) (us : List (EndId × Use)) (zs : List Session) → length (after_uses p us zs) ≡ length zs
 length-uses p [] zs = refl
-length-uses p (u ∷ us) zs = length-uses p us (altered zs u.0.sess (on_side u.0.side (end_after p u.1))) ∙ length-altered zs u.0.sess (on_side u.0.side (end_after p u.1))
+length-uses p (u ∷ us) zs = length-uses p us (altered_list zs u.0.sess (on_side u.0.side (end_after p u.1))) ∙ length-altered zs u.0.sess (on_side u.0.side (end_after p u.1))
 
 -- as many parties and as many sessions
 abbrev SameCounts : World → World → Type 0

@@ -6,9 +6,9 @@ use Rattle.sj_lang.specs.FileAt.{FileAt}
 use Rattle.sj_semantics.specs.Ends.{Session}
 use Rattle.sj_semantics.specs.Program.{Program}
 use Rattle.sj_semantics.specs.Run.{IsRun, after_acts, end_of}
-use Rattle.sj_semantics.specs.World.{start_of, World, Change, act_of, change_of_program, changed}
+use Rattle.sj_semantics.specs.World.{start_of, World, Change, act_of, change_of_program, changed_world}
 use Rattle.sj_semantics.specs.State.{IsSettled}
-use Rattle.sj_semantics.specs.Uses.{altered}
+use Rattle.sj_semantics.specs.Uses.{altered_list}
 use Rattle.sj_semantics_laws.proofs.FinishLemmas.{end_is_reached, end_is_settled}
 use Rattle.sj_semantics_laws.proofs.RoundLemmas.{left_in-act}
 use Rattle.sj_semantics_laws.proofs.RunLemmas.{between, same_end}
@@ -19,21 +19,21 @@ use Rattle.sj_plain.specs.declared.ends.Session.{Session as Lying}
 use Rattle.sj_plain.specs.declared.course.Course.{Course}
 use Rattle.sj_plain.specs.Course.{GoesOn, acts_in, file_in, world_in}
 use Rattle.sj_plain.specs.Rounds.{steps_left}
-use Rattle.sj_plain.specs.Stepping.{after_change, moved_on, sessions_at}
+use Rattle.sj_plain.specs.Stepping.{after_change, next_move, sessions_at}
 use Rattle.sj_plain.proofs.UseLemmas.{map-same, map-set}
 
 -- ---- one act
 
-acted_by : (w : World) (p : ℕ) (g : Program) (zs : List Session) (o : Option Change) → option_map (after_change p w.sessions) o ≡ Some (g, zs) → option_map (changed w p) o ≡ Some (record { parties = altered w.parties p (λ _. g); sessions = zs })
+acted_by : (w : World) (p : ℕ) (g : Program) (zs : List Session) (o : Option Change) → option_map (after_change p w.sessions) o ≡ Some (g, zs) → option_map (changed_world w p) o ≡ Some (record { parties = altered_list w.parties p (λ _. g); sessions = zs })
 acted_by w p g zs None h = cc
 acted_by w p g zs (Some c) h =
     let it : after_change p w.sessions c ≡ (g, zs) = cc in
-    λ i. Some (record { parties = altered w.parties p (λ _. (it i).0); sessions = (it i).1 })
+    λ i. Some (record { parties = altered_list w.parties p (λ _. (it i).0); sessions = (it i).1 })
 
 -- the world after the step of a party that is there
-pub acted : (w : World) (p : ℕ) (g h : Program) (zs : List Session) → slice_get w.parties p ≡ Some g → moved_on p w.sessions g ≡ Some (h, zs) → act_of w p ≡ Some (record { parties = altered w.parties p (λ _. h); sessions = zs })
+pub acted : (w : World) (p : ℕ) (g h : Program) (zs : List Session) → slice_get w.parties p ≡ Some g → next_move p w.sessions g ≡ Some (h, zs) → act_of w p ≡ Some (record { parties = altered_list w.parties p (λ _. h); sessions = zs })
 acted w p g h zs there made =
-    ap (λ o. option_map (changed w p) (option_and_then (change_of_program w.sessions p) o)) there
+    ap (λ o. option_map (changed_world w p) (option_and_then (change_of_program w.sessions p) o)) there
     ∙ acted_by w p h zs (change_of_program w.sessions p g) made
 
 -- the parties and the sessions as they lie in memory
@@ -45,7 +45,7 @@ pub world_same : (ms : List Machine) (ys zs : List Lying) (p : ℕ) (m n : Machi
 world_same ms ys zs p m n lt there same sessions = let parties = map-same program_at ms p m n lt there same in λ i. record { parties = parties i; sessions = sessions i }
 
 -- a party and sessions that have moved on
-pub world_acts : (ms : List Machine) (ys zs : List Lying) (p : ℕ) (m n : Machine) → p < length ms → m ≡ get_or ms p m → moved_on p (sessions_at zs) (program_at m) ≡ Some (program_at n, sessions_at ys) → act_of (world_by ms zs) p ≡ Some (world_by (set ms p n) ys)
+pub world_acts : (ms : List Machine) (ys zs : List Lying) (p : ℕ) (m n : Machine) → p < length ms → m ≡ get_or ms p m → next_move p (sessions_at zs) (program_at m) ≡ Some (program_at n, sessions_at ys) → act_of (world_by ms zs) p ≡ Some (world_by (set ms p n) ys)
 world_acts ms ys zs p m n lt there made =
     acted (world_by ms zs) p (program_at m) (program_at n) (sessions_at ys) (slice_get-map program_at ms p ∙ ap (option_map program_at) (slice_get_read ms (length ms) p m refl lt there)) made
     ∙ (let parties = map-set program_at ms p m n (λ _. program_at n) lt there refl in λ i. Some (record { parties = sym parties i; sessions = sessions_at ys }))

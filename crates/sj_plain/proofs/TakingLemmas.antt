@@ -15,7 +15,7 @@ use Rattle.sj_semantics.specs.Uses.{after_uses}
 use Rattle.sj_semantics.specs.Wants.{want_of}
 use Rattle.sj_semantics.specs.World.{change_by_taking}
 use Rattle.sj_semantics_laws.proofs.ChangeLemmas.{from_rests}
-use Rattle.sj_plain.specs.Stepping.{after_change, moved_on}
+use Rattle.sj_plain.specs.Stepping.{after_change, next_move}
 
 below_limit : (b : Bool) (s : State) → cond b s (states.AtLimit None) ≡ states.Ready → (b ≡ true) × (s ≡ states.Ready)
 below_limit true s h = (refl, h)
@@ -45,7 +45,7 @@ pub can_take : (zs : List Session) (g : Program) (e : EndId) (a : Awaits) → st
 can_take zs g e a ready it = wanting_if zs g e a (want_of g) refl ready it
 
 -- what the take makes
-pub takes_it : (p : ℕ) (zs ys : List Session) (g h : Program) (e : EndId) (a : Awaits) (c : CanTake zs g e a) → h ≡ took_of g c.message.msg → ys ≡ after_uses p (change_by_taking g e c.message).uses zs → moved_on p zs g ≡ Some (h, ys)
+pub takes_it : (p : ℕ) (zs ys : List Session) (g h : Program) (e : EndId) (a : Awaits) (c : CanTake zs g e a) → h ≡ took_of g c.message.msg → ys ≡ after_uses p (change_by_taking g e c.message).uses zs → next_move p zs g ≡ Some (h, ys)
 takes_it p zs ys g h e a c program sessions =
     ap (option_map (after_change p zs)) (from_rests zs p g (change_by_taking g e c.message) (record { steps_left = c.steps_left; want = wants.Take e a; wants_it = c.wants_it; by_it = ap (option_map (change_by_taking g e)) c.there }))
     ∙ (λ i. Some (sym program i, sym sessions i))

@@ -6,18 +6,18 @@ use Rattle.sj_base.specs.declared.EndId.{EndId}
 use Rattle.sj_base.specs.declared.Msg.{Msg}
 use Rattle.sj_semantics.specs.Ends as model
 use Rattle.sj_semantics.specs.Ends.{end_on, end_at, nowhere}
-use Rattle.sj_semantics.specs.Uses.{end_after, sends, delegates, altered, on_side}
+use Rattle.sj_semantics.specs.Uses.{end_after, sends, delegates, altered_list, on_side}
 use Rattle.sj_semantics_laws.proofs.AlteredLemmas.{altered_comm, altered-altered, slice_get-altered, slice_get-altered_other}
 
 -- ---- one element of a list
 
-pub altered-past : {X : Type 0} (xs : List X) (i : ℕ) (f : X → X) → length xs ≤ i → altered xs i f ≡ xs
+pub altered-past : {X : Type 0} (xs : List X) (i : ℕ) (f : X → X) → length xs ≤ i → altered_list xs i f ≡ xs
 altered-past [] i f le = refl
 altered-past (x ∷ xs) zero f le = absurd (omega arith)
 altered-past (x ∷ xs) (suc i) f le = ap (λ t. x ∷ t) (altered-past xs i f (omega arith))
 
 -- an element that is seen as what f makes of the old one
-pub map-set : {X Y : Type 0} (view : X → Y) (xs : List X) (i : ℕ) (x y : X) (f : Y → Y) → i < length xs → x ≡ get_or xs i x → view y ≡ f (view x) → map view (set xs i y) ≡ altered (map view xs) i f
+pub map-set : {X Y : Type 0} (view : X → Y) (xs : List X) (i : ℕ) (x y : X) (f : Y → Y) → i < length xs → x ≡ get_or xs i x → view y ≡ f (view x) → map view (set xs i y) ≡ altered_list (map view xs) i f
 map-set view [] i x y f lt there new = absurd (omega arith)
 map-set view (a ∷ xs) zero x y f lt there new = ap (λ t. t ∷ map view xs) (new ∙ ap (λ t. f (view t)) there)
 map-set view (a ∷ xs) (suc i) x y f lt there new = ap (λ t. view a ∷ t) (map-set view xs i x y f (omega arith) there new)
@@ -38,14 +38,14 @@ sides_comm p (suc c) (suc d) m z = refl
 
 -- the message of the delegation can be sent first
 pub handed_first : (p : ℕ) (e y : EndId) (m : Msg) (zs : List model.Session)
-    → altered (altered zs e.sess (on_side e.side (end_after p (sends m)))) y.sess (on_side y.side (end_after p delegates))
-    ≡ altered (altered zs y.sess (on_side y.side (end_after p delegates))) e.sess (on_side e.side (end_after p (sends m)))
+    → altered_list (altered_list zs e.sess (on_side e.side (end_after p (sends m)))) y.sess (on_side y.side (end_after p delegates))
+    ≡ altered_list (altered_list zs y.sess (on_side y.side (end_after p delegates))) e.sess (on_side e.side (end_after p (sends m)))
 handed_first p e y m zs =
     elim (cases_eq e.sess y.sess) [
       | inl same ↦
-          subst (λ (t : ℕ). altered (altered zs e.sess (on_side e.side (end_after p (sends m)))) t (on_side y.side (end_after p delegates)) ≡ altered (altered zs t (on_side y.side (end_after p delegates))) e.sess (on_side e.side (end_after p (sends m)))) same
+          subst (λ (t : ℕ). altered_list (altered_list zs e.sess (on_side e.side (end_after p (sends m)))) t (on_side y.side (end_after p delegates)) ≡ altered_list (altered_list zs t (on_side y.side (end_after p delegates))) e.sess (on_side e.side (end_after p (sends m)))) same
           (altered-altered zs e.sess (on_side e.side (end_after p (sends m))) (on_side y.side (end_after p delegates))
-          ∙ ap (altered zs e.sess) (λ i z. sides_comm p e.side y.side m z i)
+          ∙ ap (altered_list zs e.sess) (λ i z. sides_comm p e.side y.side m z i)
           ∙ sym (altered-altered zs e.sess (on_side y.side (end_after p delegates)) (on_side e.side (end_after p (sends m)))))
       | inr other ↦ altered_comm zs e.sess y.sess (on_side e.side (end_after p (sends m))) (on_side y.side (end_after p delegates)) other
     ]
@@ -61,11 +61,11 @@ hops_if p c d m None = refl
 hops_if p c d m (Some z) = side_hops p c d m z
 
 -- a send counts no delegation
-pub hops_stay : (p : ℕ) (e y : EndId) (m : Msg) (zs : List model.Session) → (end_at (altered zs e.sess (on_side e.side (end_after p (sends m)))) y).hops ≡ (end_at zs y).hops
+pub hops_stay : (p : ℕ) (e y : EndId) (m : Msg) (zs : List model.Session) → (end_at (altered_list zs e.sess (on_side e.side (end_after p (sends m)))) y).hops ≡ (end_at zs y).hops
 hops_stay p e y m zs =
     elim (cases_eq e.sess y.sess) [
       | inl same ↦
-          subst (λ (t : ℕ). (unwrap_or (option_map (end_on y.side) (slice_get (altered zs e.sess (on_side e.side (end_after p (sends m)))) t)) nowhere).hops ≡ (unwrap_or (option_map (end_on y.side) (slice_get zs t)) nowhere).hops) same
+          subst (λ (t : ℕ). (unwrap_or (option_map (end_on y.side) (slice_get (altered_list zs e.sess (on_side e.side (end_after p (sends m)))) t)) nowhere).hops ≡ (unwrap_or (option_map (end_on y.side) (slice_get zs t)) nowhere).hops) same
           (ap (λ o. (unwrap_or (option_map (end_on y.side) o) nowhere).hops) (slice_get-altered zs e.sess (on_side e.side (end_after p (sends m)))) ∙ hops_if p e.side y.side m (slice_get zs e.sess))
       | inr other ↦ ap (λ o. (unwrap_or (option_map (end_on y.side) o) nowhere).hops) (slice_get-altered_other zs e.sess y.sess (on_side e.side (end_after p (sends m))) other)
     ]

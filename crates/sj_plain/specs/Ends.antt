@@ -17,8 +17,8 @@ abbrev pub session_at : Session → model.Session
 session_at z = record { first = end_view z.first; second = end_view z.second }
 
 -- the session that a connection makes with these protocols, before any act
-abbrev pub connected : List ProtocolAt → ConnectAt → model.Session
-connected ps c = record { first = fresh (body_named ps c.first.protocol); second = fresh (body_named ps c.second.protocol) }
+abbrev pub connected_session : List ProtocolAt → ConnectAt → model.Session
+connected_session ps c = record { first = fresh (body_named ps c.first.protocol); second = fresh (body_named ps c.second.protocol) }
 
 -- of what the other end sent, the first that the end of that side hasn't taken
 abbrev pub next_on : ℕ → model.Session → Option Passed

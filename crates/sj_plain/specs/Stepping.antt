@@ -16,5 +16,5 @@ abbrev pub after_change : ℕ → List model.Session → Change → Program × L
 after_change p zs c = (c.program, after_uses p c.uses zs)
 
 -- the party and the sessions after the next step of party p, where it is ready
-abbrev pub moved_on : ℕ → List model.Session → Program → Option (Program × List model.Session)
-moved_on p zs g = option_map (after_change p zs) (change_of_program zs p g)
+abbrev pub next_move : ℕ → List model.Session → Program → Option (Program × List model.Session)
+next_move p zs g = option_map (after_change p zs) (change_of_program zs p g)

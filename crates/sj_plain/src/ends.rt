@@ -6,7 +6,7 @@ ghost use Rattle.sj_lang.specs.FileView.{protocol_of, connect_of};
 ghost use Rattle.sj_semantics.specs.Ends.{end_on, limit_of_hops};
 ghost use Rattle.sj_semantics.specs.World.{fresh};
 ghost use Rattle.sj_semantics.specs.Uses.{on_side, end_after, sends, takes, delegates};
-ghost use Rattle.sj_plain.specs.Ends.{end_view, session_at, connected, next_on};
+ghost use Rattle.sj_plain.specs.Ends.{end_view, session_at, connected_session, next_on};
 
 use crate::moves::advance;
 use sj_base::{Msg, NoMemory};
@@ -92,7 +92,7 @@ impl Session {
         connect: &Connect,
     ) -> Result<Session, NoMemory>
         ensures { IfOk result (λ z. session_at z
-            ≡ connected (map protocol_of protocols.now) (connect_of connect.now)) }
+            ≡ connected_session (map protocol_of protocols.now) (connect_of connect.now)) }
     {
         Ok(Session {
             first: End::start(alloc, protocols, connect.first.protocol)?,

@@ -1,7 +1,7 @@
 //! How a party stands, and what its next step does.
 ghost use Rattle.std.specs.Prelude.{◌≡◌, ◌<◌, ◌∷◌, [], Some, OnErr, OnOk};
 ghost use Rattle.sj_machine.specs.Sound.{program_at};
-ghost use Rattle.sj_plain.specs.Stepping.{moved_on, sessions_at};
+ghost use Rattle.sj_plain.specs.Stepping.{next_move, sessions_at};
 ghost use Rattle.sj_semantics.specs.Ends.{next_for};
 ghost use Rattle.sj_semantics.specs.State.{state_by, state_of_program};
 ghost use Rattle.sj_semantics.specs.Steps.{took_of};
@@ -95,7 +95,7 @@ pub fn step(
     party: u16,
 ) -> Result<(), NoMemory>
     requires { state_of_program (sessions_at sessions.old.items) (program_at machine.old) ≡ Ready }
-    ensures ok { OnOk result (moved_on party (sessions_at sessions.old.items) (program_at machine.old)
+    ensures ok { OnOk result (next_move party (sessions_at sessions.old.items) (program_at machine.old)
         ≡ Some (program_at machine.new, sessions_at sessions.new.items)) }
     ensures err { OnErr result (program_at machine.new ≡ program_at machine.old) }
     ensures sessions { OnErr result

@@ -9,7 +9,7 @@ use Rattle.sj_lang.specs.declared.proto.Way.TheVariants.{Out, Into}
 use Rattle.sj_rules.specs.Limits.{limit_of_hops}
 use Rattle.sj_rules.specs.Record.{Carry, Fin, HeldAt, MainAt, Held, Closed, Expected, Parked, other_end}
 use Rattle.sj_rules.specs.Rows.{Worked}
-use Rattle.sj_rules.specs.Node.{Want, ended, local, sends, delegates, takes, closes, Play, NodeAt, put, with_main, with_old, quietly, sent_on, taken_off, send_act, delegate_act, brought, is_free, take_from, take_act, close_act, act_by, acts}
+use Rattle.sj_rules.specs.Node.{Want, ended, local, sends, delegates, takes, closes, Play, NodeAt, put, with_main, with_old, quietly, held_behind_send, held_behind_take, send_act, delegate_act, work_of_take, is_free, take_from, take_act, close_act, act_by, acts}
 
 -- what a node asks of a play: the message at the head of the end from which it takes is all that it tests
 pub record AgreeAt {P Q : Type 0} (other play : Play P Q) (n : NodeAt P Q) : Type 0 where
@@ -33,7 +33,7 @@ module _ {P Q : Type 0} (other play : Play P Q) where
     where
       sent : Q → P → Worked P (NodeAt P Q)
       sent g place = record {
-        state = with_main e (Some (Held (sent_on h msg place))) (record n { program = g });
+        state = with_main e (Some (Held (held_behind_send h msg place))) (record n { program = g });
         posts = record { party = h.end.peer; body = Carry (other_end h.end.id) h.end.conn h.end.sent h.end.taken msg } ∷ [];
       }
 
@@ -53,7 +53,7 @@ module _ {P Q : Type 0} (other play : Play P Q) where
     take_alike e place want (Some (Held h)) there = by h.untaken refl
       where
         took : List Msg → Msg → Q → P → Worked P (NodeAt P Q)
-        took rest m g after = brought place m (with_main e (Some (Held (taken_off h rest after))) (record n { program = g }))
+        took rest m g after = work_of_take place m (with_main e (Some (Held (held_behind_take h rest after))) (record n { program = g }))
 
         by : (ms : List Msg) → h.untaken ≡ ms → take_from other n e place h ms ≡ take_from play n e place h ms
         by [] head = refl

@@ -3,7 +3,7 @@ use Rattle.std.specs.Prelude.{ℕ, ◌&&◌, ◌==◌, if◌then◌else◌, [], 
 use Rattle.sj_base.specs.declared.EndId.{EndId}
 use Rattle.sj_rules.specs.Record.{EndAt, BodyAt, Carry, Fin, Claim, Signal, Ack, Give, MainAt, Held, Closed, Expected, OldAt, Parked, Signalled, other_end}
 use Rattle.sj_rules.specs.Frames.{FrameAt, is_proper}
-use Rattle.sj_rules.specs.Rows.{Worked, passive, passive_closed, crossed, acked, at_held, install}
+use Rattle.sj_rules.specs.Rows.{Worked, passive, passive_closed, crossing_body, acked_body, at_held, install}
 use Rattle.sj_rules.specs.Tables.{NodeAt, with_main, with_old, with_number, held_after, closed_after, parked_after, given_after, quietly}
 
 -- a Carry, Fin or Signal that meets no old record: deferred, or by its row
@@ -27,11 +27,11 @@ plain_comes pick n origin e body (Some (Signalled o to)) = if origin == o.peer t
 abbrev pub signal_comes : {P Q : Type 0} → (ℕ → ℕ → ℕ) → NodeAt P Q → (origin : ℕ) → EndId → (conn party taken : ℕ) → Option (OldAt P) → Option (Worked P (NodeAt P Q))
 signal_comes pick n origin e conn party taken None = at_main pick n origin e (Signal e conn party taken) (n.main e)
 signal_comes pick n origin e conn party taken (Some (Parked o)) = option_map (parked_after n e) (passive pick o origin conn party taken)
-signal_comes pick n origin e conn party taken (Some (Signalled o to)) = option_map (given_after n e to) (crossed pick o origin conn party taken)
+signal_comes pick n origin e conn party taken (Some (Signalled o to)) = option_map (given_after n e to) (crossing_body pick o origin conn party taken)
 
 -- an Ack: only at a Signalled record of its number, whose end then leaves
 abbrev pub ack_comes : {P Q : Type 0} → NodeAt P Q → (origin : ℕ) → EndId → (conn : ℕ) → Option (OldAt P) → Option (Worked P (NodeAt P Q))
-ack_comes n origin e conn (Some (Signalled o to)) = option_map (given_after n e to) (acked o origin conn)
+ack_comes n origin e conn (Some (Signalled o to)) = option_map (given_after n e to) (acked_body o origin conn)
 ack_comes n origin e conn _ = None
 
 -- a Claim: only at a Parked record, whatever its number; the peer gets a Signal that names the claimer

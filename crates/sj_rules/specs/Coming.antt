@@ -80,14 +80,14 @@ Comes level to x y s r live = ComesBy level to x y s r live
 Comes (ahead c) to x y s r live = ComesBy (ahead c) to x y s r live
 
 -- under the number of a Signalled end r: what is dropped, and then what shows where s stands
-abbrev pub explained : {P : Type 0} → Pace → EndId → (conn : ℕ) → PlainSide P → Seat P → List (BodyAt P)
-explained level to conn x s = signal_of to conn x.taken s
-explained (ahead by_ack) to conn x s = Ack to conn ∷ []
-explained (ahead by_signal) to conn x s = Signal to conn (sender_of s) x.taken ∷ []
-explained (behind c) to conn x s = []
+abbrev pub explanation : {P : Type 0} → Pace → EndId → (conn : ℕ) → PlainSide P → Seat P → List (BodyAt P)
+explanation level to conn x s = signal_of to conn x.taken s
+explanation (ahead by_ack) to conn x s = Ack to conn ∷ []
+explanation (ahead by_signal) to conn x s = Signal to conn (sender_of s) x.taken ∷ []
+explanation (behind c) to conn x s = []
 
 -- under the number of a Signalled end r: nothing where s is behind, else frames to drop and then what explains; at all other ends nothing is old
 abbrev pub AreOld : {P : Type 0} → Pace → EndId → PlainSide P → (s r : Seat P) → (old : List (BodyAt P)) → Type 0
 AreOld (behind c) to x s (signalled at t e deferred) old = old ≡ []
-AreOld pace to x s (signalled at t e deferred) old = ComesLoose to e.conn (is_over s) (explained pace to e.conn x s) old
+AreOld pace to x s (signalled at t e deferred) old = ComesLoose to e.conn (is_over s) (explanation pace to e.conn x s) old
 AreOld pace to x s _ old = old ≡ []

@@ -10,7 +10,7 @@ pub data Halt : Type 0 where
   at_end : Halt
   worn : Halt
   awaits : EndId → Halt
-  handed_enough : EndId → Halt
+  delegated_enough : EndId → Halt
   no_message : EndId → Halt
 
 -- the record is an Expected one
@@ -21,11 +21,11 @@ is_expected (Some (Closed e)) = false
 is_expected None = false
 
 -- the end may be delegated once more
-abbrev pub may_be_handed : {P : Type 0} → Option (MainAt P) → Bool
-may_be_handed (Some (Held h)) = nat_lt h.end.hops limit_of_hops
-may_be_handed (Some (Closed e)) = false
-may_be_handed (Some (Expected keeper place deferred)) = false
-may_be_handed None = false
+abbrev pub may_be_delegated : {P : Type 0} → Option (MainAt P) → Bool
+may_be_delegated (Some (Held h)) = nat_lt h.end.hops limit_of_hops
+may_be_delegated (Some (Closed e)) = false
+may_be_delegated (Some (Expected keeper place deferred)) = false
+may_be_delegated None = false
 
 -- the list has an element
 abbrev pub is_filled : {X : Type 0} → List X → Bool
@@ -50,7 +50,7 @@ halt_by n local = None
 halt_by n (sends e msg) = halt_if (is_expected (n.main e)) (awaits e) None
 halt_by n (delegates carrier e) =
     halt_if (is_expected (n.main carrier)) (awaits carrier)
-    (halt_if (is_expected (n.main e)) (awaits e) (if may_be_handed (n.main e) then None else Some (handed_enough e)))
+    (halt_if (is_expected (n.main e)) (awaits e) (if may_be_delegated (n.main e) then None else Some (delegated_enough e)))
 halt_by n (takes e place) = halt_if (is_expected (n.main e)) (awaits e) (if has_message (n.main e) then None else Some (no_message e))
 halt_by n (closes e) = halt_if (is_expected (n.main e)) (awaits e) None
 

@@ -10,6 +10,7 @@ use Rattle.sj_rules.specs.Node.{Want, ended, local, sends, delegates, takes, clo
 use Rattle.sj_rules.specs.PlainSide.{PlainSide, PlainAt}
 use Rattle.sj_rules.specs.Linked.{waiting_at}
 use Rattle.sj_rules.specs.Acts.{plain_sent, plain_taken, plain_parked}
+use Rattle.sj_semantics.specs.World.{session_message}
 
 -- the program of a party is another from now on
 abbrev pub with_program : {P Q : Type 0} → ℕ → Q → PlainAt P Q → PlainAt P Q
@@ -18,10 +19,6 @@ with_program p g plain = record plain { programs = λ q. if q == p then g else p
 -- a side is what f makes of it from now on
 abbrev pub with_side : {P Q : Type 0} → EndId → (PlainSide P → PlainSide P) → PlainAt P Q → PlainAt P Q
 with_side e f plain = record plain { sides = λ d. if is_same_end d e then f (plain.sides d) else plain.sides d }
-
--- the session message with which the party delegates the end
-abbrev pub handing : EndId → ℕ → Msg
-handing e keeper = msgs.Sess e.sess e.side keeper
 
 -- the program goes on
 abbrev pub plain_goes : {P Q : Type 0} → Play P Q → ℕ → Option Msg → PlainAt P Q → PlainAt P Q
@@ -34,7 +31,7 @@ plain_sends play p e msg place plain = with_side e (λ x. plain_sent x place msg
 -- e is delegated and its session message is sent on the carrier
 abbrev pub plain_delegates : {P Q : Type 0} → Play P Q → ℕ → EndId → EndId → P → PlainAt P Q → PlainAt P Q
 plain_delegates play p carrier e place plain =
-    with_side carrier (λ x. plain_sent x place (handing e p)) (with_side e plain_parked (plain_goes play p None plain))
+    with_side carrier (λ x. plain_sent x place (session_message e p)) (with_side e plain_parked (plain_goes play p None plain))
 
 -- a message is taken on e
 abbrev pub plain_takes : {P Q : Type 0} → Play P Q → ℕ → EndId → Msg → P → PlainAt P Q → PlainAt P Q
@@ -52,7 +49,7 @@ plain_act_by play plain p local = Some (plain_goes play p None plain)
 plain_act_by play plain p (sends e msg) = option_map (λ place. plain_sends play p e msg place plain) (play.next (plain.sides e).place Out msg)
 plain_act_by play plain p (delegates carrier e) =
     if nat_lt (plain.sides e).hops limit_of_hops
-    then option_map (λ place. plain_delegates play p carrier e place plain) (play.next (plain.sides carrier).place Out (handing e p))
+    then option_map (λ place. plain_delegates play p carrier e place plain) (play.next (plain.sides carrier).place Out (session_message e p))
     else None
 plain_act_by play plain p (takes e named) = plain_takes_head play p e plain (waiting_at plain e 0)
 plain_act_by play plain p (closes e) = Some (plain_goes play p None plain)

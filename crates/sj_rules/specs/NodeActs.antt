@@ -11,19 +11,19 @@ use Rattle.sj_rules.specs.Play.{Want, ended, local, sends, delegates, takes, clo
 use Rattle.sj_rules.specs.Tables.{NodeAt, put, with_main, with_old, quietly}
 
 -- the end once a message was sent on it
-abbrev pub sent_on : {P : Type 0} → HeldAt P → Msg → P → HeldAt P
-sent_on h msg place = record h { end = record h.end { place = place; sent = h.end.sent + 1; cache = h.end.cache ++ msg ∷ [] } }
+abbrev pub held_behind_send : {P : Type 0} → HeldAt P → Msg → P → HeldAt P
+held_behind_send h msg place = record h { end = record h.end { place = place; sent = h.end.sent + 1; cache = h.end.cache ++ msg ∷ [] } }
 
 -- the end once its first untaken message was taken
-abbrev pub taken_off : {P : Type 0} → HeldAt P → List Msg → P → HeldAt P
-taken_off h rest place = record { end = record h.end { place = place; taken = h.end.taken + 1 }; untaken = rest; fin = h.fin }
+abbrev pub held_behind_take : {P : Type 0} → HeldAt P → List Msg → P → HeldAt P
+held_behind_take h rest place = record { end = record h.end { place = place; taken = h.end.taken + 1 }; untaken = rest; fin = h.fin }
 
 -- this party sends the message on a Held end
 abbrev pub send_act : {P Q : Type 0} → Play P Q → NodeAt P Q → EndId → Msg → Option (MainAt P) → Option (Worked P (NodeAt P Q))
 send_act play n e msg (Some (Held h)) =
     option_map
     (λ place. record {
-      state = with_main e (Some (Held (sent_on h msg place))) (record n { program = play.goes n.program None });
+      state = with_main e (Some (Held (held_behind_send h msg place))) (record n { program = play.goes n.program None });
       posts = record { party = h.end.peer; body = Carry (other_end h.end.id) h.end.conn h.end.sent h.end.taken msg } ∷ [];
     })
     (play.next h.end.place Out msg)
@@ -40,13 +40,13 @@ delegate_act play party n carrier e (Some (Held h)) =
 delegate_act play party n carrier e _ = None
 
 -- what taking the message brings: a session message makes an Expected record and a Claim
-abbrev pub brought : {P Q : Type 0} → P → Msg → NodeAt P Q → Worked P (NodeAt P Q)
-brought place (msgs.Sess sess side keeper) n =
+abbrev pub work_of_take : {P Q : Type 0} → P → Msg → NodeAt P Q → Worked P (NodeAt P Q)
+work_of_take place (msgs.Sess sess side keeper) n =
     record {
       state = with_main (record { sess = sess; side = side }) (Some (Expected keeper place [])) n;
       posts = record { party = keeper; body = Claim (record { sess = sess; side = side }) } ∷ [];
     }
-brought place _ n = quietly n
+work_of_take place _ n = quietly n
 
 -- a session message names an end that this party doesn't use, await or close
 abbrev pub is_free : {P Q : Type 0} → NodeAt P Q → Msg → Bool
@@ -59,7 +59,7 @@ take_from play n e place h [] = None
 take_from play n e place h (m ∷ rest) =
     if play.fits n.program m && is_free n m
     then option_map
-    (λ after. brought place m (with_main e (Some (Held (taken_off h rest after))) (record n { program = play.goes n.program (Some m) })))
+    (λ after. work_of_take place m (with_main e (Some (Held (held_behind_take h rest after))) (record n { program = play.goes n.program (Some m) })))
     (play.next h.end.place Into m)
     else None
 

@@ -20,5 +20,5 @@ abbrev pub CountsHold : {P Q : Type 0} → PlainAt P Q → Type 0
 CountsHold plain = (e : EndId) → e.side < 2 → CountsFit (plain.sides (other_end e)) (plain.sides e)
 
 -- the plain world where only the hops of d have risen
-abbrev pub hopped : {P Q : Type 0} → PlainAt P Q → EndId → PlainAt P Q
-hopped plain d = record { programs = plain.programs; sides = λ e. if is_same_end e d then plain_parked (plain.sides d) else plain.sides e }
+abbrev pub plain_with_hop : {P Q : Type 0} → PlainAt P Q → EndId → PlainAt P Q
+plain_with_hop plain d = record { programs = plain.programs; sides = λ e. if is_same_end e d then plain_parked (plain.sides d) else plain.sides e }

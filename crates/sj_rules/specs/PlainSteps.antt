@@ -8,10 +8,10 @@ use Rattle.sj_rules.specs.Limits.{limit_of_hops}
 use Rattle.sj_rules.specs.Record.{other_end, is_same_end}
 use Rattle.sj_rules.specs.Node.{Play, Want, ended, local, sends, delegates, takes, closes}
 use Rattle.sj_rules.specs.PlainSide.{PlainAt}
-use Rattle.sj_rules.specs.PlainChanges.{waits_of, Proceeds, CountsHold, hopped}
+use Rattle.sj_rules.specs.PlainChanges.{waits_of, Proceeds, CountsHold, plain_with_hop}
 use Rattle.sj_rules.specs.Acts.{plain_sent, plain_taken, plain_parked}
 use Rattle.sj_rules.specs.Binding.{NamesNoEnd}
-use Rattle.sj_rules.specs.Moves.{handing}
+use Rattle.sj_semantics.specs.World.{session_message}
 
 module _ {P Q : Type 0} (IsOver : P → Type 0) (binds : Q → EndId → Bool) (play : Play P Q) (plain plain' : PlainAt P Q) (p : ℕ) where
   -- the party binds the same ends
@@ -49,10 +49,10 @@ module _ {P Q : Type 0} (IsOver : P → Type 0) (binds : Q → EndId → Bool) (
   -- the end d is taken on c, and has that place
   pub record PlainTakeEnd (c d : EndId) (keeper : ℕ) (place next : P) : Type 0 where
     pub below : c.side < 2
-    pub wanted : play.fits (plain.programs p) (handing d keeper) ≡ true
-    pub fits : play.next (plain.sides c).place Into (handing d keeper) ≡ Some next
+    pub wanted : play.fits (plain.programs p) (session_message d keeper) ≡ true
+    pub fits : play.next (plain.sides c).place Into (session_message d keeper) ≡ Some next
     pub place_is : place ≡ (plain.sides d).place
-    pub proceeds : Proceeds plain plain' p (play.goes (plain.programs p) (Some (handing d keeper)))
+    pub proceeds : Proceeds plain plain' p (play.goes (plain.programs p) (Some (session_message d keeper)))
     pub side : plain'.sides c ≡ plain_taken (plain.sides c) next
     pub sides : (e : EndId) → is_same_end e c ≡ false → plain'.sides e ≡ plain.sides e
     pub binds_it : binds (plain'.programs p) d ≡ true
@@ -64,11 +64,11 @@ module _ {P Q : Type 0} (IsOver : P → Type 0) (binds : Q → EndId → Bool) (
     pub below_it : d.side < 2
     pub apart : is_same_end c d ≡ false
     pub few : (plain.sides d).hops < limit_of_hops
-    pub counts : CountsHold (hopped plain d)
-    pub fits : play.next (plain.sides c).place Out (handing d p) ≡ Some next
+    pub counts : CountsHold (plain_with_hop plain d)
+    pub fits : play.next (plain.sides c).place Out (session_message d p) ≡ Some next
     pub open_there : IsOver (plain.sides (other_end c)).place → ⊥
     pub proceeds : Proceeds plain plain' p (play.goes (plain.programs p) None)
-    pub side : plain'.sides c ≡ plain_sent (plain.sides c) next (handing d p)
+    pub side : plain'.sides c ≡ plain_sent (plain.sides c) next (session_message d p)
     pub side_it : plain'.sides d ≡ plain_parked (plain.sides d)
     pub sides : (e : EndId) → is_same_end e c ≡ false → is_same_end e d ≡ false → plain'.sides e ≡ plain.sides e
     pub binds_it : binds (plain'.programs p) d ≡ false

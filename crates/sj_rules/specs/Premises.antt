@@ -9,9 +9,9 @@ use Rattle.sj_rules.specs.Record.{other_end, is_same_end}
 use Rattle.sj_rules.specs.Node.{Want, ended, local, sends, delegates, takes, closes, Play}
 use Rattle.sj_rules.specs.PlainSide.{PlainSide, PlainAt, untaken_of}
 use Rattle.sj_rules.specs.Linked.{waiting_at}
-use Rattle.sj_rules.specs.Moves.{handing}
 use Rattle.sj_rules.specs.Binding.{BindsSame, BindsWithout, BindsTaken, NamesNoEnd, NamesAt}
 pub use Rattle.sj_rules.specs.Binding.{NamesKnown}
+use Rattle.sj_semantics.specs.World.{session_message}
 
 -- a value can be sent on e
 pub record FitsSend {P Q : Type 0} (IsOver : P → Type 0) (play : Play P Q) (binds : Q → EndId → Bool) (plain : PlainAt P Q) (g : Q) (e : EndId) (m : Msg) : Type 0 where
@@ -29,7 +29,7 @@ pub record FitsDelegate {P Q : Type 0} (IsOver : P → Type 0) (play : Play P Q)
   pub handed : binds g e ≡ true
   pub apart : is_same_end carrier e ≡ false
   pub place : P
-  pub after : play.next (plain.sides carrier).place Out (handing e p) ≡ Some place
+  pub after : play.next (plain.sides carrier).place Out (session_message e p) ≡ Some place
   pub goes_on : IsOver (plain.sides (other_end carrier)).place → ⊥
   pub names : BindsWithout binds g (play.goes g None) e
 

@@ -1,22 +1,19 @@
 -- Records and lanes: what a world shows of an end that is in some seat.
 use Rattle.std.specs.Prelude.{◌≡◌, ℕ, Bool, false, ◌&&◌, ◌==◌, if◌then◌else◌, List, [], ◌∷◌, ◌++◌, map, filter, Option, Some, None}
 use Rattle.sj_base.specs.declared.EndId.{EndId}
-use Rattle.sj_rules.specs.Record.{BodyAt, Carry, Fin, Claim, Signal, Ack, Give, Mail, MainAt, Held, Closed, Expected, OldAt, Parked, Signalled, is_same_end}
+use Rattle.sj_rules.specs.Record.{BodyAt, Carry, Fin, Claim, Signal, Ack, Give, MainAt, Held, Closed, Expected, OldAt, Parked, Signalled, is_same_end}
 use Rattle.sj_rules.specs.Frames.{FrameAt}
 use Rattle.sj_rules.specs.World.{WorldAt}
 use Rattle.sj_rules.specs.Seat.{Seat, held, parked, claimed, signalled, given, closed, gone, Side, coming_of, taker_of, source_for}
-
--- these bodies, as they came from that party
-abbrev pub mailed_from : {P : Type 0} → ℕ → List (BodyAt P) → List (Mail P)
-mailed_from from bodies = map (λ b. record { party = from; body = b }) bodies
+use Rattle.sj_rules.specs.Worked.{mails_of}
 
 -- what a party's tables show of the end; `from` sent what is deferred
 abbrev pub main_shown : {P : Type 0} → (from : ℕ) → P → Seat P → ℕ → Option (MainAt P)
 main_shown from place (held at h) p = if p == at then Some (Held h) else None
 main_shown from place (parked at e) p = None
 main_shown from place (claimed at to e) p = if p == to then Some (Expected at place []) else None
-main_shown from place (signalled at to e deferred) p = if p == to then Some (Expected at place (mailed_from from deferred)) else None
-main_shown from place (given at to e resend deferred) p = if p == to then Some (Expected at place (mailed_from from deferred)) else None
+main_shown from place (signalled at to e deferred) p = if p == to then Some (Expected at place (mails_of from deferred)) else None
+main_shown from place (given at to e resend deferred) p = if p == to then Some (Expected at place (mails_of from deferred)) else None
 main_shown from place (closed at e) p = if p == at then Some (Closed e) else None
 main_shown from place gone p = None
 

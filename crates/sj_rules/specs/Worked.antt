@@ -7,9 +7,9 @@ pub record Worked (P : Type 0) (R : Type 0) : Type 0 where
   pub state : R
   pub posts : List (Mail P)
 
--- all to that party
-abbrev pub mailed : {P : Type 0} → ℕ → List (BodyAt P) → List (Mail P)
-mailed to bodies = map (λ b. record { party = to; body = b }) bodies
+-- these bodies, all to that party, or as they came from it
+abbrev pub mails_of : {P : Type 0} → ℕ → List (BodyAt P) → List (Mail P)
+mails_of to bodies = map (λ b. record { party = to; body = b }) bodies
 
 -- sent before the rest
 abbrev pub with_first : {P R : Type 0} → List (Mail P) → Worked P R → Worked P R

@@ -35,9 +35,9 @@ after_event w p clock lanes done = record {
 }
 
 -- the first of these frames comes from q to p
-abbrev pub delivered : {P Q : Type 0} → Play P Q → (ℕ → ℕ → ℕ) → WorldAt P Q → (p q : ℕ) → List (FrameAt P) → Option (WorldAt P Q)
-delivered play pick w p q [] = None
-delivered play pick w p q (f ∷ rest) =
+abbrev pub delivery_of : {P Q : Type 0} → Play P Q → (ℕ → ℕ → ℕ) → WorldAt P Q → (p q : ℕ) → List (FrameAt P) → Option (WorldAt P Q)
+delivery_of play pick w p q [] = None
+delivery_of play pick w p q (f ∷ rest) =
     option_map
     (after_event w p (max (w.nodes p).clock f.clock + 1) (with_lane q p rest w.lanes))
     (arrives play.parties pick (w.nodes p) q f)
@@ -45,7 +45,7 @@ delivered play pick w p q (f ∷ rest) =
 -- the world after an event at p; None where it is no step
 abbrev pub happens : {P Q : Type 0} → Play P Q → (ℕ → ℕ → ℕ) → WorldAt P Q → (p : ℕ) → Event → Option (WorldAt P Q)
 happens play pick w p Act = option_map (after_event w p ((w.nodes p).clock + 1) w.lanes) (acts play p (w.nodes p))
-happens play pick w p (Deliver q) = delivered play pick w p q (w.lanes q p)
+happens play pick w p (Deliver q) = delivery_of play pick w p q (w.lanes q p)
 
 -- a step with some choice of bases
 abbrev pub IsStep : {P Q : Type 0} → Play P Q → WorldAt P Q → (p : ℕ) → Event → WorldAt P Q → Type 0

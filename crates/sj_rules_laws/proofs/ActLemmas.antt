@@ -18,7 +18,7 @@ use Rattle.sj_semantics.specs.Uses.{sends, takes, delegates}
 use Rattle.sj_semantics.specs.Program.{Program}
 use Rattle.sj_semantics.specs.Steps.{local_of, sent_of, took_of, closed_of}
 use Rattle.sj_semantics.specs.Wants.{want_of}
-use Rattle.sj_semantics.specs.World.{World, Change, session_message, change_by_taking, change_by, change_of_program, changed, act_of}
+use Rattle.sj_semantics.specs.World.{World, Change, session_message, change_by_taking, change_by, change_of_program, changed_world, act_of}
 use Rattle.sj_semantics_laws.proofs.EndLemmas.{touched}
 use Rattle.sj_accepted_laws.specs.Fitting.{FitsPlaces}
 use Rattle.sj_accepted_laws.proofs.AfterLemmas.{hands_places}
@@ -28,7 +28,7 @@ use Rattle.sj_rules.specs.Linked.{waiting_at}
 use Rattle.sj_rules.specs.Party.{nobody, want_for, want_or_ended, after_step, play_for}
 use Rattle.sj_rules.specs.Plain.{side_at, plain_side, plain_at}
 use Rattle.sj_rules.specs.Acts.{plain_sent, plain_taken, plain_parked}
-use Rattle.sj_rules.specs.Moves.{with_program, with_side, handing, plain_goes, plain_sends, plain_delegates, plain_takes, plain_takes_head, plain_act_by, plain_act}
+use Rattle.sj_rules.specs.Moves.{with_program, with_side, plain_goes, plain_sends, plain_delegates, plain_takes, plain_takes_head, plain_act_by, plain_act}
 use Rattle.sj_rules_laws.proofs.SideLemmas.{other_end_is, other_side_below, side_below, head-drop}
 use Rattle.sj_rules_laws.proofs.SeenLemmas.{sends_seen, takes_seen, hands_seen, change_seen}
 
@@ -66,21 +66,21 @@ module _ (n : ℕ) (ps : List ProtocolAt) (w : World) (p : ℕ) (g : Program) (t
   goes_seen : (c : Program) (taken : Option Msg) → (play_for n ps).goes ((plain_at w).programs p) taken ≡ c → plain_goes (play_for n ps) p taken (plain_at w) ≡ with_program p c (plain_at w)
   goes_seen c taken h = ap (λ (x : Program). with_program p x (plain_at w)) h
 
-  local_seen : (c : Program) → plain_at (changed w p (record { program = c; uses = [] })) ≡ with_program p c (plain_at w)
+  local_seen : (c : Program) → plain_at (changed_world w p (record { program = c; uses = [] })) ≡ with_program p c (plain_at w)
   local_seen c = change_seen w p g (record { program = c; uses = [] }) (plain_side w.sessions) there (λ d. refl)
 
   send_seen : (c : Program) (e : EndId) (m : Msg) (next : Place) → e.side < 2 → after_place (end_at w.sessions e).place Out m ≡ Some next
-      → plain_at (changed w p (record { program = c; uses = (e, sends m) ∷ [] })) ≡ with_side e (λ x. plain_sent x next m) (with_program p c (plain_at w))
+      → plain_at (changed_world w p (record { program = c; uses = (e, sends m) ∷ [] })) ≡ with_side e (λ x. plain_sent x next m) (with_program p c (plain_at w))
   send_seen c e m next lt h = change_seen w p g (record { program = c; uses = (e, sends m) ∷ [] }) _ there (sends_seen p w.sessions e m next lt h)
 
   take_seen : (c : Program) (e : EndId) (m : Msg) (next : Place) → e.side < 2 → after_place (end_at w.sessions e).place Into m ≡ Some next
-      → plain_at (changed w p (record { program = c; uses = (e, takes m) ∷ [] })) ≡ with_side e (λ x. plain_taken x next) (with_program p c (plain_at w))
+      → plain_at (changed_world w p (record { program = c; uses = (e, takes m) ∷ [] })) ≡ with_side e (λ x. plain_taken x next) (with_program p c (plain_at w))
   take_seen c e m next lt h = change_seen w p g (record { program = c; uses = (e, takes m) ∷ [] }) _ there (takes_seen p w.sessions e m next lt h)
 
   -- ---- by what the step wants
 
   abbrev ByWant : Want → Type 0
-  ByWant want = plain_act_by (play_for n ps) (plain_at w) p (want_for ps want) ≡ option_map plain_at (option_map (changed w p) (change_by w.sessions p g want))
+  ByWant want = plain_act_by (play_for n ps) (plain_at w) p (want_for ps want) ≡ option_map plain_at (option_map (changed_world w p) (change_by w.sessions p g want))
 
   local_by : want_of g ≡ Some wants.Local → ByWant wants.Local
   local_by it = ap Some (goes_seen (local_of g) None (goes_on wants.Local it) ∙ sym (local_seen (local_of g)))
@@ -96,8 +96,8 @@ module _ (n : ℕ) (ps : List ProtocolAt) (w : World) (p : ℕ) (g : Program) (t
 
   delegates_seen : (c : Program) (e y : EndId) (next : Place) → e.side < 2 → y.side < 2 → FitsPlaces w.sessions (wants.Delegate e y)
       → after_place (end_at w.sessions e).place Out (session_message y p) ≡ Some next
-      → plain_at (changed w p (record { program = c; uses = (y, delegates) ∷ (e, sends (session_message y p)) ∷ [] }))
-      ≡ with_side e (λ x. plain_sent x next (handing y p)) (with_side y plain_parked (with_program p c (plain_at w)))
+      → plain_at (changed_world w p (record { program = c; uses = (y, delegates) ∷ (e, sends (session_message y p)) ∷ [] }))
+      ≡ with_side e (λ x. plain_sent x next (session_message y p)) (with_side y plain_parked (with_program p c (plain_at w)))
   delegates_seen c e y next lt lt' fit h =
       let mid : List Session = touched p w.sessions (y, delegates) in
       let at : after_place (end_at mid e).place Out (session_message y p) ≡ Some next = ap (λ (q : Place). after_place q Out (session_message y p)) (hands_places p w.sessions y e) ∙ h in
@@ -119,8 +119,8 @@ module _ (n : ℕ) (ps : List ProtocolAt) (w : World) (p : ℕ) (g : Program) (t
       (plain_delegates (play_for n ps) p e y next (plain_at w))
       (ap (λ (x : PlainAt Place Program). with_side e (λ x. plain_sent x next m) (with_side y plain_parked x)) goes ∙ sym seen)
     where
-      by_hops : (b : Bool) (c : Change) (x : PlainAt Place Program) → x ≡ plain_at (changed w p c)
-          → cond b (Some x) None ≡ option_map plain_at (option_map (changed w p) (cond b (Some c) None))
+      by_hops : (b : Bool) (c : Change) (x : PlainAt Place Program) → x ≡ plain_at (changed_world w p c)
+          → cond b (Some x) None ≡ option_map plain_at (option_map (changed_world w p) (cond b (Some c) None))
       by_hops true c x h = ap Some h
       by_hops false c x h = refl
 
@@ -128,7 +128,7 @@ module _ (n : ℕ) (ps : List ProtocolAt) (w : World) (p : ℕ) (g : Program) (t
   take_by e a lt each = ap (plain_takes_head (play_for n ps) p e (plain_at w)) (waiting_is_next w e lt) ∙ by_head (next_for w.sessions e) refl
     where
       by_head : (o : Option Passed) → next_for w.sessions e ≡ o
-          → plain_takes_head (play_for n ps) p e (plain_at w) (option_map (λ x. x.msg) o) ≡ option_map plain_at (option_map (changed w p) (option_map (change_by_taking g e) o))
+          → plain_takes_head (play_for n ps) p e (plain_at w) (option_map (λ x. x.msg) o) ≡ option_map plain_at (option_map (changed_world w p) (option_map (change_by_taking g e) o))
       by_head None h = refl
       by_head (Some x) h =
           let t = each e x h in
@@ -150,7 +150,7 @@ module _ (n : ℕ) (ps : List ProtocolAt) (w : World) (p : ℕ) (g : Program) (t
   Here = plain_act (play_for n ps) (plain_at w) p ≡ option_map plain_at (act_of w p)
 
   worn_by : (b : Bool) → nat_lt g.steps 10000 ≡ b → (o : Option Want) → want_of g ≡ o
-      → plain_act_by (play_for n ps) (plain_at w) p (want_or_ended ps o) ≡ option_map plain_at (option_map (changed w p) (option_and_then (change_by w.sessions p g) o))
+      → plain_act_by (play_for n ps) (plain_at w) p (want_or_ended ps o) ≡ option_map plain_at (option_map (changed_world w p) (option_and_then (change_by w.sessions p g) o))
       → Here
   unfolding Here
   worn_by b steps o it h =
@@ -158,11 +158,11 @@ module _ (n : ℕ) (ps : List ProtocolAt) (w : World) (p : ℕ) (g : Program) (t
       ∙ ap (λ o. cond (not (nat_lt g.steps 10000)) None (plain_act_by (play_for n ps) (plain_at w) p (want_or_ended ps o))) it
       ∙ ap (λ c. cond (not c) None (plain_act_by (play_for n ps) (plain_at w) p (want_or_ended ps o))) steps
       ∙ by b
-      ∙ sym (ap (λ q. option_map plain_at (option_map (changed w p) (option_and_then (change_of_program w.sessions p) q))) there
-      ∙ ap (λ q. option_map plain_at (option_map (changed w p) (cond (nat_lt g.steps 10000) (option_and_then (change_by w.sessions p g) q) None))) it
-      ∙ ap (λ c. option_map plain_at (option_map (changed w p) (cond c (option_and_then (change_by w.sessions p g) o) None))) steps)
+      ∙ sym (ap (λ q. option_map plain_at (option_map (changed_world w p) (option_and_then (change_of_program w.sessions p) q))) there
+      ∙ ap (λ q. option_map plain_at (option_map (changed_world w p) (cond (nat_lt g.steps 10000) (option_and_then (change_by w.sessions p g) q) None))) it
+      ∙ ap (λ c. option_map plain_at (option_map (changed_world w p) (cond c (option_and_then (change_by w.sessions p g) o) None))) steps)
     where
-      by : (b : Bool) → cond (not b) None (plain_act_by (play_for n ps) (plain_at w) p (want_or_ended ps o)) ≡ option_map plain_at (option_map (changed w p) (cond b (option_and_then (change_by w.sessions p g) o) None))
+      by : (b : Bool) → cond (not b) None (plain_act_by (play_for n ps) (plain_at w) p (want_or_ended ps o)) ≡ option_map plain_at (option_map (changed_world w p) (cond b (option_and_then (change_by w.sessions p g) o) None))
       by true = h
       by false = refl
 
@@ -179,4 +179,4 @@ module _ (n : ℕ) (ps : List ProtocolAt) (w : World) (p : ℕ) (g : Program) (t
 pub no_act_seen : (n : ℕ) (ps : List ProtocolAt) (w : World) (p : ℕ) → slice_get w.parties p ≡ None → plain_act (play_for n ps) (plain_at w) p ≡ option_map plain_at (act_of w p)
 no_act_seen n ps w p none =
     ap (λ (o : Option Program). cond (not (nat_lt (unwrap_or o nobody).steps 10000)) None (plain_act_by (play_for n ps) (plain_at w) p (want_or_ended ps (want_of (unwrap_or o nobody))))) none
-    ∙ sym (ap (λ q. option_map plain_at (option_map (changed w p) (option_and_then (change_of_program w.sessions p) q))) none)
+    ∙ sym (ap (λ q. option_map plain_at (option_map (changed_world w p) (option_and_then (change_of_program w.sessions p) q))) none)

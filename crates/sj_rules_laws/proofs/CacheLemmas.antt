@@ -15,11 +15,12 @@ use Rattle.sj_rules.specs.Party.{IsDone, binds}
 use Rattle.sj_rules.specs.Plain.{plain_at}
 use Rattle.sj_rules.specs.PlainSide.{PlainSide, PlainAt}
 use Rattle.sj_rules.specs.Seat.{Seat, held, parked, claimed, signalled, given, closed, gone, Side, source_for}
-use Rattle.sj_rules.specs.Shown.{Shows, main_shown, old_shown, gives_in, is_lane, mailed_from}
+use Rattle.sj_rules.specs.Shown.{Shows, main_shown, old_shown, gives_in, is_lane}
 use Rattle.sj_rules.specs.Linked.{IsKept}
 use Rattle.sj_rules.specs.StandsFor.{EndStands, SeatStands}
 use Rattle.sj_rules.specs.Spots.{Spot, at_main, at_old, on_way}
 use Rattle.sj_rules.specs.Caches.{main_end, old_end, HasEnd, CacheFits}
+use Rattle.sj_rules.specs.Worked.{mails_of}
 use Rattle.sj_world_laws.proofs.SwapLemmas.{other_other}
 use Rattle.sj_rules_laws.proofs.StandsForLemmas.{kept_stands_for}
 use Rattle.sj_rules_laws.proofs.CoreRunLemmas.{StandsAfter, runs_stand}
@@ -54,8 +55,8 @@ module _ {P : Type 0} where
   main_has from place (held at h) p k e = main_there (p == at) (Held h) k e
   main_has from place (parked at c) p k e = absurd (cc e)
   main_has from place (claimed at to c) p k e = let none = main_there (p == to) (Expected at place []) k e in absurd (cc none)
-  main_has from place (signalled at to c ds) p k e = let none = main_there (p == to) (Expected at place (mailed_from from ds)) k e in absurd (cc none)
-  main_has from place (given at to c q ds) p k e = let none = main_there (p == to) (Expected at place (mailed_from from ds)) k e in absurd (cc none)
+  main_has from place (signalled at to c ds) p k e = let none = main_there (p == to) (Expected at place (mails_of from ds)) k e in absurd (cc none)
+  main_has from place (given at to c q ds) p k e = let none = main_there (p == to) (Expected at place (mails_of from ds)) k e in absurd (cc none)
   main_has from place (closed at c) p k e = main_there (p == at) (Closed c) k e
   main_has from place gone p k e = absurd (cc e)
 

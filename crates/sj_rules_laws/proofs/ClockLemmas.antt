@@ -4,7 +4,7 @@ use Rattle.std.proofs.lemmas.Bool.{eq-eqb, ne_eqb}
 use Rattle.sj_rules.specs.Rows.{Worked}
 use Rattle.sj_rules.specs.Node.{Play, NodeAt, acts, arrives}
 use Rattle.sj_rules.specs.Frames.{FrameAt}
-use Rattle.sj_rules.specs.World.{WorldAt, Event, Act, Deliver, with_lane, after_event, delivered, happens}
+use Rattle.sj_rules.specs.World.{WorldAt, Event, Act, Deliver, with_lane, after_event, delivery_of, happens}
 use Rattle.sj_rules_laws.proofs.WithinRowLemmas.{by_map}
 
 module _ {P Q : Type 0} (play : Play P Q) (pick : ℕ → ℕ → ℕ) (w : WorldAt P Q) where
@@ -21,7 +21,7 @@ module _ {P Q : Type 0} (play : Play P Q) (pick : ℕ → ℕ → ℕ) (w : Worl
       own = ap (λ (b : Bool). (cond b (record done.state { clock = clock }) (w.nodes p)).clock) (eq-eqb p p refl)
 
   -- after a delivery
-  delivery_rises : (p q : ℕ) (v : WorldAt P Q) (l : List (FrameAt P)) → delivered play pick w p q l ≡ Some v → Rises p v
+  delivery_rises : (p q : ℕ) (v : WorldAt P Q) (l : List (FrameAt P)) → delivery_of play pick w p q l ≡ Some v → Rises p v
   delivery_rises p q v [] h = cc
   delivery_rises p q v (f ∷ rest) h =
       by_map (Rises p) (after_event w p (max (w.nodes p).clock f.clock + 1) (with_lane q p rest w.lanes)) (arrives play.parties pick (w.nodes p) q f) v h (λ done came.

@@ -7,11 +7,12 @@ use Rattle.sj_base.specs.declared.Msg.TheVariants as msgs
 use Rattle.sj_lang.specs.declared.proto.Way.TheVariants.{Out, Into}
 use Rattle.sj_rules.specs.Record.{HeldAt, MainAt, Held, Closed, Expected, Parked, is_same_end}
 use Rattle.sj_rules.specs.Rows.{Worked}
-use Rattle.sj_rules.specs.Node.{Want, ended, local, sends, delegates, takes, closes, Play, NodeAt, with_main, with_old, put, is_free, send_act, delegate_act, take_act, take_from, act_by, acts, brought, taken_off}
+use Rattle.sj_rules.specs.Node.{Want, ended, local, sends, delegates, takes, closes, Play, NodeAt, with_main, with_old, put, is_free, send_act, delegate_act, take_act, take_from, act_by, acts, work_of_take, held_behind_take}
 use Rattle.sj_rules.specs.PlainSide.{PlainAt}
 use Rattle.sj_rules.specs.Linked.{waiting_at}
-use Rattle.sj_rules.specs.Moves.{handing, plain_sends, plain_delegates, plain_takes, plain_takes_head, plain_act_by, plain_act}
+use Rattle.sj_rules.specs.Moves.{plain_sends, plain_delegates, plain_takes, plain_takes_head, plain_act_by, plain_act}
 use Rattle.sj_rules.specs.HeldStands.{HeldStands}
+use Rattle.sj_semantics.specs.World.{session_message}
 
 -- an option that has something
 pub record Has {X : Type 0} (o : Option X) : Type 0 where
@@ -68,10 +69,10 @@ module _ {P Q : Type 0} (play : Play P Q) (plain : PlainAt P Q) (p : ℕ) (n : N
       by true few k =
           let next = send_has (with_main e None (with_old e (Some (Parked (record h.end { hops = h.end.hops + 1 }))) n)) carrier (msgs.Sess e.sess e.side p) (put e None n.main carrier) w
           (λ c at. (stands carrier c lt (put_held e carrier c at)).place) k in
-          has_by (plain_act_by play plain p (delegates carrier e)) (option_map (λ place. plain_delegates play p carrier e place plain) (play.next (plain.sides carrier).place Out (handing e p)))
-          (ap (λ (x : ℕ). cond (nat_lt x 100) (option_map (λ place. plain_delegates play p carrier e place plain) (play.next (plain.sides carrier).place Out (handing e p))) None) (sym (stands e h lt' there).hops)
-          ∙ ap (λ (b : Bool). cond b (option_map (λ place. plain_delegates play p carrier e place plain) (play.next (plain.sides carrier).place Out (handing e p))) None) few)
-          (has_map (λ place. plain_delegates play p carrier e place plain) (play.next (plain.sides carrier).place Out (handing e p)) next)
+          has_by (plain_act_by play plain p (delegates carrier e)) (option_map (λ place. plain_delegates play p carrier e place plain) (play.next (plain.sides carrier).place Out (session_message e p)))
+          (ap (λ (x : ℕ). cond (nat_lt x 100) (option_map (λ place. plain_delegates play p carrier e place plain) (play.next (plain.sides carrier).place Out (session_message e p))) None) (sym (stands e h lt' there).hops)
+          ∙ ap (λ (b : Bool). cond b (option_map (λ place. plain_delegates play p carrier e place plain) (play.next (plain.sides carrier).place Out (session_message e p))) None) few)
+          (has_map (λ place. plain_delegates play p carrier e place plain) (play.next (plain.sides carrier).place Out (session_message e p)) next)
       by false few k = cc
 
   head_waits : (e : EndId) (h : HeldAt P) (m : Msg) (ms : List Msg) → e.side < 2 → n.main e ≡ Some (Held h) → h.untaken ≡ m ∷ ms → waiting_at plain e 0 ≡ Some m
@@ -85,7 +86,7 @@ module _ {P Q : Type 0} (play : Play P Q) (plain : PlainAt P Q) (p : ℕ) (n : N
   take_has e place lt (Some (Held h)) there w acted = by h.untaken refl acted
     where
       by_test : (m : Msg) (ms : List Msg) (b : Bool) → h.untaken ≡ m ∷ ms
-          → cond b (option_map (λ after. brought place m (with_main e (Some (Held (taken_off h ms after))) (record n { program = play.goes n.program (Some m) }))) (play.next h.end.place Into m)) None ≡ Some w
+          → cond b (option_map (λ after. work_of_take place m (with_main e (Some (Held (held_behind_take h ms after))) (record n { program = play.goes n.program (Some m) }))) (play.next h.end.place Into m)) None ≡ Some w
           → Has (plain_takes_head play p e plain (waiting_at plain e 0))
       by_test m ms true head k =
           has_by (plain_takes_head play p e plain (waiting_at plain e 0)) (option_map (λ q. plain_takes play p e m q plain) (play.next (plain.sides e).place Into m))

@@ -1,7 +1,7 @@
 -- The events of a drain are determined, are a run, and leave nothing to do.
 use Rattle.std.proofs.Common.{◌≡◌, ℕ, ◌+◌, List, [], ◌∷◌, ◌++◌, Some, None, option_map, refl, ap, sym, ◌∙◌, subst}
 use Rattle.sj_rules.specs.Node.{Play, acts}
-use Rattle.sj_rules.specs.World.{WorldAt, Act, Deliver, Turn, happens, after_event, delivered}
+use Rattle.sj_rules.specs.World.{WorldAt, Act, Deliver, Turn, happens, after_event, delivery_of}
 use Rattle.sj_rules.specs.Drain.{numbers_from, Empties, EmptiesEach, ActsOut, TakesTurn, TakeTurns, DrainsBy, IsDrained}
 
 same_some : {X : Type 0} (x y : X) → Some x ≡ Some y → x ≡ y
@@ -11,7 +11,7 @@ module _ {P Q : Type 0} (play : Play P Q) (pick : ℕ → ℕ → ℕ) where
   -- nothing can come from an empty lane, and where an act came it could
   none_delivered : (w mid : WorldAt P Q) (p q : ℕ) → w.lanes q p ≡ [] → happens play pick w p (Deliver q) ≡ Some mid → ⊥
   none_delivered w mid p q empty h =
-      let none : None ≡ Some mid = sym (ap (delivered play pick w p q) empty) ∙ h in cc
+      let none : None ≡ Some mid = sym (ap (delivery_of play pick w p q) empty) ∙ h in cc
 
   none_acted : (w mid : WorldAt P Q) (p : ℕ) → acts play p (w.nodes p) ≡ None → happens play pick w p Act ≡ Some mid → ⊥
   none_acted w mid p none h =

@@ -9,12 +9,13 @@ use Rattle.sj_lang.specs.Place.{Place}
 use Rattle.sj_lang.specs.FileAt.{ProtocolAt}
 use Rattle.sj_rules.specs.Node.{Want, ended, local, sends, delegates, takes, closes, Play, arrives}
 use Rattle.sj_rules.specs.Frames.{FrameAt, is_proper}
-use Rattle.sj_rules.specs.World.{WorldAt, Act, Deliver, after_event, with_lane, delivered, happens}
+use Rattle.sj_rules.specs.World.{WorldAt, Act, Deliver, after_event, with_lane, delivery_of, happens}
 use Rattle.sj_semantics.specs.Program.{Program}
+use Rattle.sj_semantics.specs.World.{session_message}
 use Rattle.sj_rules.specs.Rows.{IsPick}
 use Rattle.sj_rules.specs.PlainSide.{PlainAt}
 use Rattle.sj_rules.specs.Linked.{waiting_at, IsKept}
-use Rattle.sj_rules.specs.Moves.{handing, plain_goes, plain_sends, plain_delegates, plain_takes, plain_takes_head, plain_act_by, plain_act}
+use Rattle.sj_rules.specs.Moves.{plain_goes, plain_sends, plain_delegates, plain_takes, plain_takes_head, plain_act_by, plain_act}
 use Rattle.sj_rules.specs.PlainChanges.{waits_of}
 use Rattle.sj_rules.specs.PlainSteps.{PlainLocal, PlainSend, PlainTake, PlainTakeEnd, PlainDelegate, PlainClose, NamesEnds, PlainGives, PlainTakes}
 use Rattle.sj_rules.specs.Binding.{NamesNoEnd}
@@ -39,10 +40,10 @@ module _ {P Q : Type 0} (IsOver : P → Type 0) (play : Play P Q) (binds : Q →
   by_delegate c d is acted = by (nat_lt (plain.sides d).hops 100) refl acted
     where
       by : (b : Bool) → nat_lt (plain.sides d).hops 100 ≡ b
-          → cond b (option_map (λ place. plain_delegates play p c d place plain) (play.next (plain.sides c).place Out (handing d p))) None ≡ Some next → (place : P) × PlainDelegate IsOver binds play plain next p c d place
+          → cond b (option_map (λ place. plain_delegates play p c d place plain) (play.next (plain.sides c).place Out (session_message d p))) None ≡ Some next → (place : P) × PlainDelegate IsOver binds play plain next p c d place
       by true few t =
           let f = gives_delegate IsOver play binds parties plain lawful p c d is (ltb-true (plain.sides d).hops 100 few) in
-          let it = same_next (λ place. plain_delegates play p c d place plain) (play.next (plain.sides c).place Out (handing d p)) f.0.place next f.0.after t in
+          let it = same_next (λ place. plain_delegates play p c d place plain) (play.next (plain.sides c).place Out (session_message d p)) f.0.place next f.0.after t in
           (f.0.place, subst (λ (z : PlainAt P Q). PlainDelegate IsOver binds play plain z p c d f.0.place) it f.1)
       by false few t = cc
 
@@ -53,11 +54,11 @@ module _ {P Q : Type 0} (IsOver : P → Type 0) (play : Play P Q) (binds : Q →
       let it = same_next (λ q. plain_takes play p c m q plain) (play.next (plain.sides c).place Into m) f.0.place next f.0.after acted in
       (f.0.place, subst (λ (z : PlainAt P Q). PlainTake IsOver binds play plain z p c m f.0.place) it f.1)
 
-  by_end : (c d : EndId) (keeper : ℕ) (place : P) → play.wants (plain.programs p) ≡ takes c place → waiting_at plain c 0 ≡ Some (handing d keeper) → plain_takes_head play p c plain (Some (handing d keeper)) ≡ Some next
+  by_end : (c d : EndId) (keeper : ℕ) (place : P) → play.wants (plain.programs p) ≡ takes c place → waiting_at plain c 0 ≡ Some (session_message d keeper) → plain_takes_head play p c plain (Some (session_message d keeper)) ≡ Some next
       → (q : P) × PlainTakeEnd IsOver binds play plain next p c d keeper place q
   by_end c d keeper place is waits acted =
       let f = gives_take_end IsOver play binds parties plain lawful p c d keeper place is waits in
-      let it = same_next (λ q. plain_takes play p c (handing d keeper) q plain) (play.next (plain.sides c).place Into (handing d keeper)) f.0.place next f.0.after acted in
+      let it = same_next (λ q. plain_takes play p c (session_message d keeper) q plain) (play.next (plain.sides c).place Into (session_message d keeper)) f.0.place next f.0.after acted in
       (f.0.place, subst (λ (z : PlainAt P Q). PlainTakeEnd IsOver binds play plain z p c d keeper place f.0.place) it f.1)
 
   by_head : (c : EndId) (place : P) (m : Msg) → play.wants (plain.programs p) ≡ takes c place → waiting_at plain c 0 ≡ Some m → plain_takes_head play p c plain (Some m) ≡ Some next
@@ -127,7 +128,7 @@ module _ (ps : List ProtocolAt) (parties : ℕ) where
       happens (play_for parties ps) pick core p (Deliver q) ≡ Some after → IsKept IsDone binds after plain
   deliveries_keep pick picks core after plain p q kept lawful h = by (core.lanes q p) refl h
     where
-      by : (l : List (FrameAt Place)) → core.lanes q p ≡ l → delivered (play_for parties ps) pick core p q l ≡ Some after → IsKept IsDone binds after plain
+      by : (l : List (FrameAt Place)) → core.lanes q p ≡ l → delivery_of (play_for parties ps) pick core p q l ≡ Some after → IsKept IsDone binds after plain
       by [] front k = cc
       by (f ∷ rest) front k =
           let row = map_has (after_event core p (max (core.nodes p).clock f.clock + 1) (with_lane q p rest core.lanes)) (arrives parties pick (core.nodes p) q f) after k in

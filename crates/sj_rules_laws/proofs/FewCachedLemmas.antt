@@ -6,10 +6,11 @@ use Rattle.sj_rules.specs.Record.{EndAt, BodyAt, Carry, Fin, Claim, Signal, Ack,
 use Rattle.sj_rules.specs.Frames.{FrameAt}
 use Rattle.sj_rules.specs.World.{WorldAt}
 use Rattle.sj_rules.specs.Seat.{Seat, held, parked, claimed, signalled, given, closed, gone, source_for}
-use Rattle.sj_rules.specs.Shown.{main_shown, old_shown, gives_in, is_lane, is_give, bodies, mailed_from}
+use Rattle.sj_rules.specs.Shown.{main_shown, old_shown, gives_in, is_lane, is_give, bodies}
 use Rattle.sj_rules.specs.PlainSide.{PlainSide, PlainAt}
 use Rattle.sj_rules.specs.Counts.{Agrees, SeatFits}
 use Rattle.sj_rules.specs.Linked.{IsKept, subject_of}
+use Rattle.sj_rules.specs.Worked.{mails_of}
 use Rattle.sj_rules_laws.proofs.SideLemmas.{same_end_self}
 use Rattle.sj_world_laws.proofs.OutcomeLemmas.{sound_at}
 use Rattle.sj_rules_laws.proofs.NodeWeightLemmas.{cached_in, cached_old, cached_with, MeetsFew}
@@ -54,8 +55,8 @@ main_few : {P : Type 0} → (from : ℕ) (place : P) (seat : Seat P) (p : ℕ) �
 main_few from place (held at h) p = main_if (p == at) (Held h) (length h.end.cache) (omega arith)
 main_few from place (parked at e) p = omega arith
 main_few from place (claimed at to e) p = main_if (p == to) (Expected at place []) (length e.cache) (omega arith)
-main_few from place (signalled at to e deferred) p = main_if (p == to) (Expected at place (mailed_from from deferred)) (length e.cache) (omega arith)
-main_few from place (given at to e resend deferred) p = main_if (p == to) (Expected at place (mailed_from from deferred)) (length e.cache) (omega arith)
+main_few from place (signalled at to e deferred) p = main_if (p == to) (Expected at place (mails_of from deferred)) (length e.cache) (omega arith)
+main_few from place (given at to e resend deferred) p = main_if (p == to) (Expected at place (mails_of from deferred)) (length e.cache) (omega arith)
 main_few from place (closed at e) p = main_if (p == at) (Closed e) (length e.cache) (omega arith)
 main_few from place gone p = omega arith
 

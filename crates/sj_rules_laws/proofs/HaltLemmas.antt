@@ -7,15 +7,15 @@ use Rattle.sj_base.specs.declared.Msg.TheVariants as msgs
 use Rattle.sj_lang.specs.declared.proto.Way.TheVariants.{Out, Into}
 use Rattle.sj_rules.specs.Record.{Fin, HeldAt, MainAt, Held, Closed, Expected, Parked, other_end}
 use Rattle.sj_rules.specs.Rows.{Worked}
-use Rattle.sj_rules.specs.Node.{Want, ended, local, sends, delegates, takes, closes, Play, NodeAt, with_main, with_old, put, brought, taken_off, is_free, send_act, delegate_act, take_act, take_from, close_act, act_by, acts}
+use Rattle.sj_rules.specs.Node.{Want, ended, local, sends, delegates, takes, closes, Play, NodeAt, with_main, with_old, put, work_of_take, held_behind_take, is_free, send_act, delegate_act, take_act, take_from, close_act, act_by, acts}
 use Rattle.sj_rules.specs.World.{WorldAt}
 use Rattle.sj_rules.specs.Seat.{Seat, held, parked, claimed, signalled, given, closed, gone, source_for}
-use Rattle.sj_rules.specs.Shown.{mailed_from}
 use Rattle.sj_rules.specs.PlainSide.{PlainAt}
 use Rattle.sj_rules.specs.Linked.{user_of, IsKept}
 use Rattle.sj_rules.specs.HeldStands.{HeldStands}
 use Rattle.sj_rules.specs.Premises.{FitsDelegate, FitsTake, FitsClose, FitsStep, IsLawful}
-use Rattle.sj_rules.specs.Halts.{Halt, awaits, is_expected, may_be_handed, has_message, is_filled, halt_if, halt_by, is_at_end, halt_of}
+use Rattle.sj_rules.specs.Halts.{Halt, awaits, is_expected, may_be_delegated, has_message, is_filled, halt_if, halt_by, is_at_end, halt_of}
+use Rattle.sj_rules.specs.Worked.{mails_of}
 use Rattle.sj_rules_laws.proofs.CoreActLemmas.{Has, has_by, has_map}
 use Rattle.sj_rules_laws.proofs.KeptLemmas.{kept_stands}
 use Rattle.sj_rules_laws.proofs.QuietWorldLemmas.{main_at, free_by}
@@ -52,12 +52,12 @@ module _ {P Q : Type 0} (IsOver : P → Type 0) (play : Play P Q) (binds : Q →
       let it : p ≡ to = (let s : to ≡ p = cc in sym s) in
       let from : ℕ = source_for (kept.sessions.sides (other_end e)).seat (signalled at to k ds) in
       is_awaited (ap is_expected (main_at IsOver binds core plain kept p e lt (signalled at to k ds) is
-      ∙ ap (λ (b : Bool). cond b (Some (Expected at (kept.sessions.sides e).place (mailed_from from ds))) None) (eq-eqb p to it)))
+      ∙ ap (λ (b : Bool). cond b (Some (Expected at (kept.sessions.sides e).place (mails_of from ds))) None) (eq-eqb p to it)))
   bound_by e lt (given at to k resend ds) is user =
       let it : p ≡ to = (let s : to ≡ p = cc in sym s) in
       let from : ℕ = source_for (kept.sessions.sides (other_end e)).seat (given at to k resend ds) in
       is_awaited (ap is_expected (main_at IsOver binds core plain kept p e lt (given at to k resend ds) is
-      ∙ ap (λ (b : Bool). cond b (Some (Expected at (kept.sessions.sides e).place (mailed_from from ds))) None) (eq-eqb p to it)))
+      ∙ ap (λ (b : Bool). cond b (Some (Expected at (kept.sessions.sides e).place (mails_of from ds))) None) (eq-eqb p to it)))
   bound_by e lt (parked at k) is user = cc
   bound_by e lt (closed at k) is user = cc
   bound_by e lt gone is user = cc
@@ -84,7 +84,7 @@ module _ {P Q : Type 0} (IsOver : P → Type 0) (play : Play P Q) (binds : Q →
       let second = no_halt (is_expected (n.main e)) (awaits e) _ first.1 in
       let own = held_here e fit.handed second.0 in
       let on = held_here carrier fit.bound first.0 in
-      let few : nat_lt own.0.end.hops 100 ≡ true = sym (ap may_be_handed own.1) ∙ passes (may_be_handed (n.main e)) _ second.1 in
+      let few : nat_lt own.0.end.hops 100 ≡ true = sym (ap may_be_delegated own.1) ∙ passes (may_be_delegated (n.main e)) _ second.1 in
       let parked : NodeAt P Q = with_main e None (with_old e (Some (Parked (record own.0.end { hops = own.0.end.hops + 1 }))) n) in
       has_by (delegate_act play p n carrier e (n.main e)) (send_act play parked carrier (msgs.Sess e.sess e.side p) (put e None n.main carrier))
       (ap (delegate_act play p n carrier e) own.1
@@ -106,7 +106,7 @@ module _ {P Q : Type 0} (IsOver : P → Type 0) (play : Play P Q) (binds : Q →
           let fits = fit.head m waits in
           let test : (play.fits n.program m && is_free n m) ≡ true =
           and_from (play.fits n.program m) (is_free n m) (ap (λ x. play.fits x m) (kept.programs p) ∙ fits.fits) (free_by IsOver binds core plain kept p e (lawful.proper p e fit.bound).0 m waits) in
-          let after = λ (q : P). brought place m (with_main e (Some (Held (taken_off h ms q))) (record n { program = play.goes n.program (Some m) })) in
+          let after = λ (q : P). work_of_take place m (with_main e (Some (Held (held_behind_take h ms q))) (record n { program = play.goes n.program (Some m) })) in
           has_by (take_from play n e place h (m ∷ ms)) (option_map after (play.next h.end.place Into m))
           (ap (λ (t : Bool). cond t (option_map after (play.next h.end.place Into m)) None) test)
           (has_map after (play.next h.end.place Into m) (record { some = fits.place; is = ap (λ q. play.next q Into m) stands.place ∙ fits.after }))

@@ -14,7 +14,7 @@ use Rattle.sj_rules.specs.Record.{BodyAt, Carry, Fin, Claim, Signal, Ack, Give, 
 use Rattle.sj_rules.specs.Rows.{Worked, IsPick}
 use Rattle.sj_rules.specs.Frames.{FrameAt, is_within, is_proper}
 use Rattle.sj_rules.specs.Node.{NodeAt, arrives}
-use Rattle.sj_rules.specs.World.{WorldAt, Turn, Deliver, after_event, with_lane, delivered, happens}
+use Rattle.sj_rules.specs.World.{WorldAt, Turn, Deliver, after_event, with_lane, delivery_of, happens}
 use Rattle.sj_rules.specs.Party.{IsDone, play_of, binds}
 use Rattle.sj_rules.specs.Plain.{plain_at}
 use Rattle.sj_rules.specs.Start.{core_start}
@@ -109,9 +109,9 @@ module _ (file : FileAt) (accepted : IsAccepted file) (turns : List Turn) (core 
 
   -- what a delivery did by its row
   row_of : (pick : ℕ → ℕ → ℕ) (p q : ℕ) (f : FrameAt Place) (rest : List (FrameAt Place)) (after : WorldAt Place Program) → (l : List (FrameAt Place)) → l ≡ f ∷ rest
-      → delivered (play_of file) pick core p q l ≡ Some after → (done : Worked Place (NodeAt Place Program)) × (arrives (length file.parties) pick (core.nodes p) q f ≡ Some done)
+      → delivery_of (play_of file) pick core p q l ≡ Some after → (done : Worked Place (NodeAt Place Program)) × (arrives (length file.parties) pick (core.nodes p) q f ≡ Some done)
   row_of pick p q f rest after l front h =
-      let there : delivered (play_of file) pick core p q (f ∷ rest) ≡ Some after = subst (λ (l : List (FrameAt Place)). delivered (play_of file) pick core p q l ≡ Some after) front h in
+      let there : delivery_of (play_of file) pick core p q (f ∷ rest) ≡ Some after = subst (λ (l : List (FrameAt Place)). delivery_of (play_of file) pick core p q l ≡ Some after) front h in
       let m = map_has (after_event core p (max (core.nodes p).clock f.clock + 1) (with_lane q p rest core.lanes)) (arrives (length file.parties) pick (core.nodes p) q f) after there in
       (m.some, m.is)
 

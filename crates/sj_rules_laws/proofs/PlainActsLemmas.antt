@@ -9,13 +9,14 @@ use Rattle.sj_rules.specs.Node.{local, sends, delegates, takes, closes, Play}
 use Rattle.sj_rules.specs.PlainSide.{PlainSide, PlainAt, CountsFit}
 use Rattle.sj_rules.specs.Linked.{waiting_at}
 use Rattle.sj_rules.specs.Acts.{plain_sent, plain_taken, plain_parked}
-use Rattle.sj_rules.specs.Moves.{handing, plain_goes, plain_sends, plain_delegates, plain_takes}
+use Rattle.sj_rules.specs.Moves.{plain_goes, plain_sends, plain_delegates, plain_takes}
 use Rattle.sj_rules.specs.Binding.{NamesNoEnd, BindsSame, BindsWithout, BindsAlso, BindsTaken}
 use Rattle.sj_rules.specs.Premises.{FitsSend, FitsDelegate, FitsHead, FitsTake, FitsClose, FitsStep, IsLawful}
-use Rattle.sj_rules.specs.PlainChanges.{CountsHold, hopped, Proceeds}
+use Rattle.sj_rules.specs.PlainChanges.{CountsHold, plain_with_hop, Proceeds}
 use Rattle.sj_rules.specs.PlainSteps.{PlainLocal, PlainSend, PlainTake, PlainTakeEnd, PlainDelegate, PlainClose}
 use Rattle.sj_rules_laws.proofs.SideLemmas.{other_side_below, same_end_self, same_end_is}
 use Rattle.sj_world_laws.proofs.SwapLemmas.{other_other}
+use Rattle.sj_semantics.specs.World.{session_message}
 
 -- truth values that are true together are one
 same_truth : (a b : Bool) → (a ≡ true) ↔ (b ≡ true) → a ≡ b
@@ -32,7 +33,7 @@ record IsSideOf {P : Type 0} (new old : PlainSide P) : Type 0 where
   taken : new.taken ≡ old.taken
   hops : new.hops ≤ old.hops + 1
 
-hopped_side_of : {P Q : Type 0} → (plain : PlainAt P Q) (d e : EndId) → IsSideOf ((hopped plain d).sides e) (plain.sides e)
+hopped_side_of : {P Q : Type 0} → (plain : PlainAt P Q) (d e : EndId) → IsSideOf ((plain_with_hop plain d).sides e) (plain.sides e)
 hopped_side_of {P} plain d e = by (is_same_end e d) (λ t. same_end_is e d t)
   where
     by : (b : Bool) → (b ≡ true → e ≡ d) → IsSideOf (cond b (plain_parked (plain.sides d)) (plain.sides e)) (plain.sides e)
@@ -63,10 +64,10 @@ module _ {P Q : Type 0} (IsOver : P → Type 0) (play : Play P Q) (binds : Q →
       }
 
   -- and with one handover more
-  counts_hopped : (d : EndId) → CountsHold (hopped plain d)
+  counts_hopped : (d : EndId) → CountsHold (plain_with_hop plain d)
   counts_hopped d e lt =
       let few = (lawful.counts e lt).hops in
-      counts_of (plain.sides (other_end e)) (plain.sides e) ((hopped plain d).sides (other_end e)) ((hopped plain d).sides e) (omega (arith, few)) (counts_hold e lt)
+      counts_of (plain.sides (other_end e)) (plain.sides e) ((plain_with_hop plain d).sides (other_end e)) ((plain_with_hop plain d).sides e) (omega (arith, few)) (counts_hold e lt)
       (hopped_side_of plain d (other_end e)) (hopped_side_of plain d e)
 
   module _ (p : ℕ) where
@@ -136,11 +137,11 @@ module _ {P Q : Type 0} (IsOver : P → Type 0) (play : Play P Q) (binds : Q →
             fits = fit.after;
             open_there = fit.goes_on;
             proceeds = proceeds None (plain_delegates play p c d fit.place plain).sides;
-            side = here_side c (λ x. plain_sent x fit.place (handing d p)) (mid c)
-                ∙ ap (λ (b : Bool). plain_sent (cond b (plain_parked (plain.sides c)) (plain.sides c)) fit.place (handing d p)) fit.apart;
-            side_it = ap (λ (b : Bool). cond b (plain_sent (mid d) fit.place (handing d p)) (mid d)) (not_same_back c d fit.apart)
+            side = here_side c (λ x. plain_sent x fit.place (session_message d p)) (mid c)
+                ∙ ap (λ (b : Bool). plain_sent (cond b (plain_parked (plain.sides c)) (plain.sides c)) fit.place (session_message d p)) fit.apart;
+            side_it = ap (λ (b : Bool). cond b (plain_sent (mid d) fit.place (session_message d p)) (mid d)) (not_same_back c d fit.apart)
                 ∙ here_side d plain_parked (plain.sides d);
-            sides = λ e apart apart'. ap (λ (b : Bool). cond b (plain_sent (mid e) fit.place (handing d p)) (mid e)) apart
+            sides = λ e apart apart'. ap (λ (b : Bool). cond b (plain_sent (mid e) fit.place (session_message d p)) (mid e)) apart
                 ∙ ap (λ (b : Bool). cond b (plain_parked (plain.sides e)) (plain.sides e)) apart';
             binds_it = loses_name d fit.names;
             binds_else = λ e lt apart. keeps_others d fit.names e apart;
@@ -191,23 +192,23 @@ module _ {P Q : Type 0} (IsOver : P → Type 0) (play : Play P Q) (binds : Q →
           },
         )
 
-    pub gives_take_end : (c d : EndId) (keeper : ℕ) (place : P) → play.wants g ≡ takes c place → waiting_at plain c 0 ≡ Some (handing d keeper)
-        → (fit : FitsHead play binds plain g c place (handing d keeper)) × PlainTakeEnd IsOver binds play plain (plain_takes play p c (handing d keeper) fit.place plain) p c d keeper place fit.place
+    pub gives_take_end : (c d : EndId) (keeper : ℕ) (place : P) → play.wants g ≡ takes c place → waiting_at plain c 0 ≡ Some (session_message d keeper)
+        → (fit : FitsHead play binds plain g c place (session_message d keeper)) × PlainTakeEnd IsOver binds play plain (plain_takes play p c (session_message d keeper) fit.place plain) p c d keeper place fit.place
     gives_take_end c d keeper place is waits =
-        let h = head_of c place (handing d keeper) is waits in
-        let names : BindsAlso binds g (play.goes g (Some (handing d keeper))) d = h.1.names in (
+        let h = head_of c place (session_message d keeper) is waits in
+        let names : BindsAlso binds g (play.goes g (Some (session_message d keeper))) d = h.1.names in (
           h.1,
           record {
             below = h.0;
             wanted = h.1.fits;
             fits = h.1.after;
             place_is = sym h.1.names_at;
-            proceeds = proceeds (Some (handing d keeper)) (plain_takes play p c (handing d keeper) h.1.place plain).sides;
+            proceeds = proceeds (Some (session_message d keeper)) (plain_takes play p c (session_message d keeper) h.1.place plain).sides;
             side = here_side c (λ x. plain_taken x h.1.place) (plain.sides c);
             sides = λ e apart. ap (λ (b : Bool). cond b (plain_taken (plain.sides e) h.1.place) (plain.sides e)) apart;
-            binds_it = ap (λ q. binds q d) (after_is (Some (handing d keeper))) ∙ (names d).1 (inl (same_end_self d));
-            binds_else = λ e lt apart. ap (λ q. binds q e) (after_is (Some (handing d keeper)))
-                ∙ same_truth (binds (play.goes g (Some (handing d keeper))) e) (binds g e) (λ t. old e apart ((names e).0 t), λ t. (names e).1 (inr t));
+            binds_it = ap (λ q. binds q d) (after_is (Some (session_message d keeper))) ∙ (names d).1 (inl (same_end_self d));
+            binds_else = λ e lt apart. ap (λ q. binds q e) (after_is (Some (session_message d keeper)))
+                ∙ same_truth (binds (play.goes g (Some (session_message d keeper))) e) (binds g e) (λ t. old e apart ((names e).0 t), λ t. (names e).1 (inr t));
           },
         )
       where

@@ -9,7 +9,7 @@ use Rattle.sj_semantics.specs.Program.{Program}
 use Rattle.sj_rules.specs.Rows.{IsPick}
 use Rattle.sj_rules.specs.Frames.{FrameAt, frames_for}
 use Rattle.sj_rules.specs.Node.{Play, takes, acts}
-use Rattle.sj_rules.specs.World.{WorldAt, Event, Act, Deliver, Turn, delivered, happens, after_event}
+use Rattle.sj_rules.specs.World.{WorldAt, Event, Act, Deliver, Turn, delivery_of, happens, after_event}
 use Rattle.sj_rules.specs.Halts.{halt_of, halt_if, halt_by, is_at_end, at_end, worn}
 use Rattle.sj_rules.specs.Party.{IsDone, play_of, binds}
 use Rattle.sj_rules.specs.Plain.{plain_at}
@@ -67,7 +67,7 @@ module _ (file : FileAt) (accepted : IsAccepted file) (play : Play Place Program
     happens_same pick p (Deliver q) = ap (λ k. came_by k (core.lanes q p)) same.parties
       where
         came_by : ℕ → List (FrameAt Place) → Option (WorldAt Place Program)
-        came_by k l = delivered (record own { parties = k }) pick core p q l
+        came_by k l = delivery_of (record own { parties = k }) pick core p q l
 
     lines_same : (p : ℕ) (event : Event) (v : WorldAt Place Program) → line_after play core p event v ≡ line_after own core p event v
     lines_same p Act v =

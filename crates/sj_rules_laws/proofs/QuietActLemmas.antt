@@ -7,13 +7,14 @@ use Rattle.sj_base.specs.declared.Msg.TheVariants as msgs
 use Rattle.sj_lang.specs.declared.proto.Way.TheVariants.{Out, Into}
 use Rattle.sj_rules.specs.Record.{HeldAt, MainAt, Held, Closed, Parked, Fin, other_end}
 use Rattle.sj_rules.specs.Rows.{Worked}
-use Rattle.sj_rules.specs.Node.{Want, ended, local, sends, delegates, takes, closes, Play, NodeAt, with_main, with_old, put, brought, taken_off, is_free, send_act, delegate_act, take_act, take_from, close_act, act_by, acts}
+use Rattle.sj_rules.specs.Node.{Want, ended, local, sends, delegates, takes, closes, Play, NodeAt, with_main, with_old, put, work_of_take, held_behind_take, is_free, send_act, delegate_act, take_act, take_from, close_act, act_by, acts}
 use Rattle.sj_rules.specs.PlainSide.{PlainAt}
 use Rattle.sj_rules.specs.Linked.{waiting_at}
-use Rattle.sj_rules.specs.Moves.{handing, plain_delegates, plain_takes_head, plain_act_by, plain_act}
+use Rattle.sj_rules.specs.Moves.{plain_delegates, plain_takes_head, plain_act_by, plain_act}
 use Rattle.sj_rules.specs.HeldStands.{IsWholeAt}
 use Rattle.sj_rules.specs.Premises.{FitsDelegate, FitsTake, FitsClose, FitsStep}
 use Rattle.sj_rules_laws.proofs.CoreActLemmas.{Has, has_by, has_map}
+use Rattle.sj_semantics.specs.World.{session_message}
 
 -- a list that begins with that message
 record Begins (ms : List Msg) (m : Msg) : Type 0 where
@@ -53,7 +54,7 @@ module _ {P Q : Type 0} (IsOver : P → Type 0) (play : Play P Q) (binds : Q →
       let head = fit.head m waits in
       let b = begins own.record_of.untaken m (ap (λ ms. slice_get ms 0) (sym own.waits) ∙ waits) in
       let fits : (play.fits n.program m && is_free n m) ≡ true = and_from (play.fits n.program m) (is_free n m) (ap (λ g. play.fits g m) same ∙ head.fits) (own.free m waits) in
-      let after = λ (q : P). brought place m (with_main e (Some (Held (taken_off own.record_of b.later q))) (record n { program = play.goes n.program (Some m) })) in
+      let after = λ (q : P). work_of_take place m (with_main e (Some (Held (held_behind_take own.record_of b.later q))) (record n { program = play.goes n.program (Some m) })) in
       has_by (take_act play n e place (n.main e)) (option_map after (play.next own.record_of.end.place Into m))
       (ap (take_act play n e place) own.there
       ∙ ap (take_from play n e place own.record_of) b.split
@@ -76,7 +77,7 @@ module _ {P Q : Type 0} (IsOver : P → Type 0) (play : Play P Q) (binds : Q →
   does (delegates carrier e) fit v acted = by (nat_lt (plain.sides e).hops 100) refl acted
     where
       by : (b : Bool) → nat_lt (plain.sides e).hops 100 ≡ b
-          → cond b (option_map (λ place. plain_delegates play p carrier e place plain) (play.next (plain.sides carrier).place Out (handing e p))) None ≡ Some v → Acts (delegates carrier e)
+          → cond b (option_map (λ place. plain_delegates play p carrier e place plain) (play.next (plain.sides carrier).place Out (session_message e p))) None ≡ Some v → Acts (delegates carrier e)
       by true few k = delegate_does carrier e fit few
       by false few k = cc
   does (takes e place) fit v acted = by (waiting_at plain e 0) refl acted

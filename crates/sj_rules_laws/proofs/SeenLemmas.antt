@@ -8,9 +8,9 @@ use Rattle.sj_lang.specs.declared.proto.Way.TheVariants.{Out, Into}
 use Rattle.sj_lang.specs.Place.{Place, done}
 use Rattle.sj_lang.specs.After.{after_place}
 use Rattle.sj_semantics.specs.Ends.{Session, EndAt, end_at}
-use Rattle.sj_semantics.specs.Uses.{Use, sends, takes, delegates, end_after, altered, after_uses}
+use Rattle.sj_semantics.specs.Uses.{Use, sends, takes, delegates, end_after, altered_list, after_uses}
 use Rattle.sj_semantics.specs.Program.{Program}
-use Rattle.sj_semantics.specs.World.{World, Change, changed}
+use Rattle.sj_semantics.specs.World.{World, Change, changed_world}
 use Rattle.sj_semantics_laws.proofs.AlteredLemmas.{slice_get-altered, slice_get-altered_other}
 use Rattle.sj_semantics_laws.proofs.BoundLemmas.{is_end-self}
 use Rattle.sj_semantics_laws.proofs.EndLemmas.{touched, end_at-touched_other}
@@ -27,12 +27,12 @@ use Rattle.sj_lang.specs.declared.proto.Way.{Way}
 
 -- the program of the party that acted
 pub programs_changed : (gs : List Program) (p : ℕ) (g c : Program) → slice_get gs p ≡ Some g → (q : ℕ)
-    → unwrap_or (slice_get (altered gs p (λ h. c)) q) nobody ≡ cond (q == p) c (unwrap_or (slice_get gs q) nobody)
+    → unwrap_or (slice_get (altered_list gs p (λ h. c)) q) nobody ≡ cond (q == p) c (unwrap_or (slice_get gs q) nobody)
 programs_changed gs p g c there q =
     elim (cases_Bool (q == p)) [
       | inl same ↦
           let it : p ≡ q = sym (eqb-true q p same) in
-          ap (λ (o : Option Program). unwrap_or o nobody) (ap (slice_get (altered gs p (λ h. c))) (sym it) ∙ slice_get-altered gs p (λ h. c) ∙ ap (option_map (λ h. c)) there)
+          ap (λ (o : Option Program). unwrap_or o nobody) (ap (slice_get (altered_list gs p (λ h. c))) (sym it) ∙ slice_get-altered gs p (λ h. c) ∙ ap (option_map (λ h. c)) there)
           ∙ ap (λ (b : Bool). cond b c (unwrap_or (slice_get gs q) nobody)) (sym same)
       | inr other ↦
           ap (λ (o : Option Program). unwrap_or o nobody) (slice_get-altered_other gs p q (λ h. c) (λ e. eqb-false q p other (sym e)))
@@ -91,7 +91,7 @@ hands_seen p zs e lt is_open = sides_touched p zs e delegates plain_parked lt (o
 
 pub change_seen : (w : World) (p : ℕ) (g : Program) (c : Change) (sides : EndId → PlainSide Place) → slice_get w.parties p ≡ Some g
     → ((d : EndId) → plain_side (after_uses p c.uses w.sessions) d ≡ sides d)
-    → plain_at (changed w p c) ≡ record { programs = λ q. cond (q == p) c.program ((plain_at w).programs q); sides = sides }
+    → plain_at (changed_world w p c) ≡ record { programs = λ q. cond (q == p) c.program ((plain_at w).programs q); sides = sides }
 change_seen w p g c sides there same =
     let programs = programs_changed w.parties p g c.program there in
     λ i. record { programs = λ q. programs q i; sides = λ d. same d i }

@@ -12,7 +12,7 @@ use Rattle.sj_rules.specs.Record.{Held}
 use Rattle.sj_rules.specs.Node.{acts, arrives}
 use Rattle.sj_rules.proofs.ArrivalLemmas.{arrived_comes}
 use Rattle.sj_rules.specs.Frames.{FrameAt}
-use Rattle.sj_rules.specs.World.{WorldAt, Event, Act, Deliver, Turn, Run, happens, after_event, delivered, with_lane}
+use Rattle.sj_rules.specs.World.{WorldAt, Event, Act, Deliver, Turn, Run, happens, after_event, delivery_of, with_lane}
 use Rattle.sj_rules.specs.PlainSide.{PlainSide}
 use Rattle.sj_rules.specs.Party.{IsDone, play_of, binds}
 use Rattle.sj_rules.specs.Plain.{plain_at}
@@ -70,7 +70,7 @@ module _ (file : FileAt) (accepted : IsAccepted file) where
 
   module _ (pick : ℕ → ℕ → ℕ) (ps : List ℕ) (core : WorldAt Place Program) (s : StandsAfter file ps core) (l : Credits) (c : Covers limit_of_sent l core) where
     -- a delivery
-    delivery_goes : (p q : ℕ) (after : WorldAt Place Program) (frames : List (FrameAt Place)) → core.lanes q p ≡ frames → delivered (play_of file) pick core p q frames ≡ Some after → Goes after l 0
+    delivery_goes : (p q : ℕ) (after : WorldAt Place Program) (frames : List (FrameAt Place)) → core.lanes q p ≡ frames → delivery_of (play_of file) pick core p q frames ≡ Some after → Goes after l 0
     delivery_goes p q after [] front h = cc
     delivery_goes p q after (f ∷ rest) front h =
         let clock : ℕ = max (core.nodes p).clock f.clock + 1 in

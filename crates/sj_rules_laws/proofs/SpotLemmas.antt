@@ -6,10 +6,11 @@ use Rattle.sj_base.specs.declared.EndId.{EndId}
 use Rattle.sj_rules.specs.Record.{BodyAt, Give, Mail, MainAt, Held, Closed, Expected, OldAt, Parked, Signalled, other_end}
 use Rattle.sj_rules.specs.World.{WorldAt}
 use Rattle.sj_rules.specs.Seat.{Seat, held, parked, claimed, signalled, given, closed, gone, Side, source_for}
-use Rattle.sj_rules.specs.Shown.{Shows, main_shown, old_shown, gives_in, mailed_from}
+use Rattle.sj_rules.specs.Shown.{Shows, main_shown, old_shown, gives_in}
 use Rattle.sj_rules.specs.PlainSide.{PlainAt}
 use Rattle.sj_rules.specs.Linked.{IsKept}
 use Rattle.sj_rules.specs.Spots.{Spot, at_main, at_old, on_way, HasMain, HasOld, LiesAt, LiesOnce}
+use Rattle.sj_rules.specs.Worked.{mails_of}
 
 abbrev pub spot_of : {P : Type 0} → Seat P → Option Spot
 spot_of (held at h) = Some (at_main at)
@@ -44,8 +45,8 @@ module _ {P : Type 0} (from : ℕ) (place : P) where
   main_lies (held at h) p k = ap (λ n. Some (at_main n)) (here p at (Held h) (p == at) refl k)
   main_lies (parked at e) p k = absurd k
   main_lies (claimed at to e) p k = absurd (not_awaited at place [] (p == to) k)
-  main_lies (signalled at to e ds) p k = absurd (not_awaited at place (mailed_from from ds) (p == to) k)
-  main_lies (given at to e q ds) p k = absurd (not_awaited at place (mailed_from from ds) (p == to) k)
+  main_lies (signalled at to e ds) p k = absurd (not_awaited at place (mails_of from ds) (p == to) k)
+  main_lies (given at to e q ds) p k = absurd (not_awaited at place (mails_of from ds) (p == to) k)
   main_lies (closed at e) p k = ap (λ n. Some (at_main n)) (here p at (Closed e) (p == at) refl k)
   main_lies gone p k = absurd k
 
@@ -129,8 +130,8 @@ module _ {P : Type 0} (from : ℕ) (place : P) where
   pub awaited_from : (seat : Seat P) (p keeper : ℕ) (spot : P) (late : List (Mail P)) → main_shown from place seat p ≡ Some (Expected keeper spot late)
       → (awaiter_of seat ≡ Some p) × ((spot_of seat ≡ Some (at_old keeper)) ⊎ (spot_of seat ≡ Some (on_way keeper p)))
   awaited_from (claimed at to e) p keeper spot late h = let l = awaited_here p to at place [] keeper spot late (p == to) refl h in (ap Some l.0, inl (ap (λ n. Some (at_old n)) l.1))
-  awaited_from (signalled at to e ds) p keeper spot late h = let l = awaited_here p to at place (mailed_from from ds) keeper spot late (p == to) refl h in (ap Some l.0, inl (ap (λ n. Some (at_old n)) l.1))
-  awaited_from (given at to e q ds) p keeper spot late h = let l = awaited_here p to at place (mailed_from from ds) keeper spot late (p == to) refl h in (ap Some l.0, inr (rw (l.0, l.1) refl))
+  awaited_from (signalled at to e ds) p keeper spot late h = let l = awaited_here p to at place (mails_of from ds) keeper spot late (p == to) refl h in (ap Some l.0, inl (ap (λ n. Some (at_old n)) l.1))
+  awaited_from (given at to e q ds) p keeper spot late h = let l = awaited_here p to at place (mails_of from ds) keeper spot late (p == to) refl h in (ap Some l.0, inr (rw (l.0, l.1) refl))
   awaited_from (held at k) p keeper spot late h = absurd (never_awaited (Held k) keeper spot late (p == at) (λ t. cc t) h)
   awaited_from (closed at e) p keeper spot late h = absurd (never_awaited (Closed e) keeper spot late (p == at) (λ t. cc t) h)
   awaited_from (parked at e) p keeper spot late h = absurd (cc h)

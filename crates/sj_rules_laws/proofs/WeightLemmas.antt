@@ -5,7 +5,7 @@ use Rattle.sj_base.specs.declared.EndId.{EndId}
 use Rattle.sj_base.specs.declared.Msg.{Msg}
 use Rattle.sj_rules.specs.Record.{EndAt, BodyAt, Carry, Fin, Claim, Signal, Ack, Give, Mail, HeldAt, other_end}
 use Rattle.sj_rules.specs.Limits.{limit_of_conns}
-use Rattle.sj_rules.specs.Rows.{Worked, with_first, with_last, trimmed, handed_on, numbered, mailed, cached_from, resent, signal_fits, passive, passive_closed, crossed, acked, with_end, at_held, worked_off, resend_fits, resent_at, install}
+use Rattle.sj_rules.specs.Rows.{Worked, with_first, with_last, trimmed_end, end_with_peer, numbered_carries, mails_of, cached_from, resent_posts, signal_fits, passive, passive_closed, crossing_body, acked_body, with_end, at_held, worked_record, resend_fits, resent_at, install}
 use Rattle.sj_rules_laws.proofs.WithinRowLemmas.{by_map, by_test, by_some}
 
 -- the events that can come of a frame once it came: a Give resends a cache; an Ack makes a Give; a Signal an Ack, a Fin and a resent
@@ -38,7 +38,7 @@ worths_joined n [] ys = omega arith
 worths_joined n (x ∷ xs) ys = omega (arith, worths_joined n xs ys)
 
 -- Carries weigh one each
-carries_weigh : (P : Type 0) (n party : ℕ) (to : EndId) (conn taken number : ℕ) (ms : List Msg) → weight_of_mails n (mailed {P = P} party (numbered to conn taken number ms)) ≡ length ms
+carries_weigh : (P : Type 0) (n party : ℕ) (to : EndId) (conn taken number : ℕ) (ms : List Msg) → weight_of_mails n (mails_of {P = P} party (numbered_carries to conn taken number ms)) ≡ length ms
 carries_weigh P n party to conn taken number [] = refl
 carries_weigh P n party to conn taken number (m ∷ ms) = omega (arith, carries_weigh P n party to conn taken (number + 1) ms)
 
@@ -48,7 +48,7 @@ dropped_le k xs = omega (arith, length-drop k xs)
 
 module _ {P : Type 0} (n : ℕ) where
   -- what is resent weighs no more than the cache
-  resent_weighs : (e : EndAt P) (start : ℕ) → weight_of_mails n (resent e start) ≤ length e.cache
+  resent_weighs : (e : EndAt P) (start : ℕ) → weight_of_mails n (resent_posts e start) ≤ length e.cache
   resent_weighs e start =
       omega (arith, carries_weigh P n e.peer (other_end e.id) e.conn e.taken start (cached_from e start), dropped_le (start - e.base) e.cache)
 
@@ -59,7 +59,7 @@ module _ {P : Type 0} (n : ℕ) where
   -- a Signal at an end that is Held, Parked or Closed
   pub passive_pays : (pick : ℕ → ℕ → ℕ) (e : EndAt P) (origin conn party taken : ℕ) (w : Worked P (EndAt P)) → length e.cache ≤ n → passive pick e origin conn party taken ≡ Some w → EndPays (n + n + 2) w
   passive_pays pick e origin conn party taken w few h =
-      let new : EndAt P = trimmed pick (handed_on e party) taken in
+      let new : EndAt P = trimmed_end pick (end_with_peer e party) taken in
       let short : length new.cache ≤ length e.cache = dropped_le (pick e.base taken - e.base) e.cache in
       by_test (EndPays (n + n + 2)) (signal_fits e origin conn taken) _ w h (λ k.
       by_some (EndPays (n + n + 2)) _ w k (omega (arith, short, few), omega (arith, resent_weighs new taken, short, few)))
@@ -73,11 +73,11 @@ module _ {P : Type 0} (n : ℕ) where
       (p.0, omega (arith, p.1, weights_joined n x.posts fin)))
 
   -- a Signal and an Ack at a Signalled end make a Give
-  pub crossed_pays : (pick : ℕ → ℕ → ℕ) (e : EndAt P) (origin conn party taken : ℕ) (b : BodyAt P) → crossed pick e origin conn party taken ≡ Some b → worth_of n b ≡ n
+  pub crossed_pays : (pick : ℕ → ℕ → ℕ) (e : EndAt P) (origin conn party taken : ℕ) (b : BodyAt P) → crossing_body pick e origin conn party taken ≡ Some b → worth_of n b ≡ n
   crossed_pays pick e origin conn party taken b h =
       by_test (λ (x : BodyAt P). worth_of n x ≡ n) (signal_fits e origin conn taken) _ b h (λ k. by_some (λ (x : BodyAt P). worth_of n x ≡ n) _ b k refl)
 
-  pub acked_pays : (e : EndAt P) (origin conn : ℕ) (b : BodyAt P) → acked e origin conn ≡ Some b → worth_of n b ≡ n
+  pub acked_pays : (e : EndAt P) (origin conn : ℕ) (b : BodyAt P) → acked_body e origin conn ≡ Some b → worth_of n b ≡ n
   acked_pays e origin conn b h =
       by_test (λ (x : BodyAt P). worth_of n x ≡ n) ((conn == e.conn) && nat_lt e.conn limit_of_conns && (origin == e.peer)) _ b h
       (λ k. by_some (λ (x : BodyAt P). worth_of n x ≡ n) _ b k refl)
@@ -116,10 +116,10 @@ module _ {P : Type 0} (n : ℕ) where
       (q.0, omega (arith, p.1, q.1, weights_joined n x.posts y.posts)))
 
   -- what was deferred pays for itself
-  pub worked_off_pays : (pick : ℕ → ℕ → ℕ) (h : HeldAt P) (ms : List (Mail P)) (w : Worked P (HeldAt P)) → length h.end.cache ≤ n → worked_off pick h ms ≡ Some w → HeldPays (worth_of_mails n ms) w
+  pub worked_off_pays : (pick : ℕ → ℕ → ℕ) (h : HeldAt P) (ms : List (Mail P)) (w : Worked P (HeldAt P)) → length h.end.cache ≤ n → worked_record pick h ms ≡ Some w → HeldPays (worth_of_mails n ms) w
   worked_off_pays pick h [] w few k = by_some (HeldPays 0) (record { state = h; posts = [] }) w k (few, omega arith)
   worked_off_pays pick h (m ∷ ms) w few k =
-      after_first (worth_of n m.body) (worth_of_mails n ms) (at_held pick h m.party m.body) w (λ x. worked_off pick x.state ms)
+      after_first (worth_of n m.body) (worth_of_mails n ms) (at_held pick h m.party m.body) w (λ x. worked_record pick x.state ms)
       (λ x t. at_held_pays pick h m.party m.body x few t)
       (λ x y few' t. worked_off_pays pick x.state ms y few' t) k
 
@@ -133,7 +133,7 @@ module _ {P : Type 0} (n : ℕ) where
       → install pick place deferred e resend ≡ Some w → weight_of_mails n w.posts ≤ n + worth_of_mails n deferred
   install_pays pick place deferred e resend w few k =
       by_test Pays (resend_fits e resend) _ w k (λ t.
-      by_map Pays (with_first (resent_at e resend)) (worked_off pick (record { end = record e { place = place }; untaken = []; fin = false }) deferred) w t (λ y u.
+      by_map Pays (with_first (resent_at e resend)) (worked_record pick (record { end = record e { place = place }; untaken = []; fin = false }) deferred) w t (λ y u.
       let q = worked_off_pays pick (record { end = record e { place = place }; untaken = []; fin = false }) deferred y few u in
       omega (arith, q.1, few, resent_at_weighs e resend, weights_joined n (resent_at e resend) y.posts)))
     where

@@ -7,7 +7,7 @@ use Rattle.sj_base.specs.declared.EndId.{EndId}
 use Rattle.sj_base.specs.declared.Msg.{Msg}
 use Rattle.sj_rules.specs.Record.{EndAt, BodyAt, Carry, Fin, Claim, Signal, Ack, Give, Mail, HeldAt, other_end}
 use Rattle.sj_rules.specs.Limits.{limit_of_conns}
-use Rattle.sj_rules.specs.Rows.{IsPick, Worked, with_first, with_last, trimmed, handed_on, numbered, mailed, cached_from, resent, signal_fits, passive, passive_closed, crossed, acked, with_end, at_held, worked_off, resend_fits, resent_at, install}
+use Rattle.sj_rules.specs.Rows.{IsPick, Worked, with_first, with_last, trimmed_end, end_with_peer, numbered_carries, mails_of, cached_from, resent_posts, signal_fits, passive, passive_closed, crossing_body, acked_body, with_end, at_held, worked_record, resend_fits, resent_at, install}
 use Rattle.sj_rules.specs.Within.{EndWithin, BodyWithin, MailWithin, MailsWithin}
 use Rattle.std.specs.Prelude.{nat_le}
 
@@ -35,7 +35,7 @@ all_joined P (x ∷ xs) ys h k = (h.0, all_joined P xs ys h.1 k)
 
 -- the messages from that number on, as Carries
 carries_within : (P : Type 0) (n party : ℕ) → party < n → (to : EndId) (conn taken number : ℕ) (ms : List Msg) → conn ≤ 1000 → taken ≤ 1000000 → number + length ms ≤ 1000000
-    → MailsWithin n (mailed {P = P} party (numbered to conn taken number ms))
+    → MailsWithin n (mails_of {P = P} party (numbered_carries to conn taken number ms))
 carries_within P n party lt to conn taken number [] few told many = tt
 carries_within P n party lt to conn taken number (m ∷ ms) few told many =
     ((lt, (few, omega (arith, many), told)), carries_within P n party lt to conn taken (number + 1) ms few told (omega (arith, many)))
@@ -48,7 +48,7 @@ signal_tells e origin conn taken h =
     (ltb-true e.conn 1000 b.1, leb-true taken e.sent a.1)
 
 module _ {P : Type 0} (n : ℕ) where
-  resent_within : (e : EndAt P) (start : ℕ) → EndWithin n e → start ≤ e.sent → MailsWithin n (resent e start)
+  resent_within : (e : EndAt P) (start : ℕ) → EndWithin n e → start ≤ e.sent → MailsWithin n (resent_posts e start)
   resent_within e start all le =
       let long : length (cached_from e start) ≡ length e.cache - (start - e.base) = length-drop (start - e.base) e.cache in
       let room : e.base + length e.cache ≤ e.sent = all.cached in
@@ -66,7 +66,7 @@ module _ {P : Type 0} (n : ℕ) where
       omega (arith, long, room, below, above, le)
 
   -- the next number, with a cache that begins later
-  moved_within : (pick : ℕ → ℕ → ℕ) → IsPick pick → (e : EndAt P) (peer told : ℕ) → EndWithin n e → peer < n → e.conn < 1000 → told ≤ e.sent → EndWithin n (trimmed pick (handed_on e peer) told)
+  moved_within : (pick : ℕ → ℕ → ℕ) → IsPick pick → (e : EndAt P) (peer told : ℕ) → EndWithin n e → peer < n → e.conn < 1000 → told ≤ e.sent → EndWithin n (trimmed_end pick (end_with_peer e peer) told)
   moved_within pick picks e peer told all lt few le = record {
     peer = lt;
     conn = omega (arith, few);
@@ -76,7 +76,7 @@ module _ {P : Type 0} (n : ℕ) where
   }
 
   -- the same number, with a cache that begins later
-  later_within : (pick : ℕ → ℕ → ℕ) → IsPick pick → (e : EndAt P) (told : ℕ) → EndWithin n e → told ≤ e.sent → EndWithin n (trimmed pick e told)
+  later_within : (pick : ℕ → ℕ → ℕ) → IsPick pick → (e : EndAt P) (told : ℕ) → EndWithin n e → told ≤ e.sent → EndWithin n (trimmed_end pick e told)
   later_within pick picks e told all le = record { peer = all.peer; conn = all.conn; sent = all.sent; taken = all.taken; cached = later_cached pick picks e told all le }
 
   -- an end that a row leaves, and what it sends
@@ -90,7 +90,7 @@ module _ {P : Type 0} (n : ℕ) where
       let tells = signal_tells e origin conn taken fits in
       let moved = moved_within pick picks e party taken all to tells.0 tells.1 in
       by_some (λ w. EndOut w × (w.state.sent ≡ e.sent) × (w.state.conn ≡ e.conn + 1)) _ w k
-      ((moved, ((from, all.conn), resent_within (trimmed pick (handed_on e party) taken) taken moved tells.1)), refl, refl))
+      ((moved, ((from, all.conn), resent_within (trimmed_end pick (end_with_peer e party) taken) taken moved tells.1)), refl, refl))
 
   pub passive_closed_within : (pick : ℕ → ℕ → ℕ) → IsPick pick → (e : EndAt P) (origin conn party taken : ℕ) (w : Worked P (EndAt P)) → EndWithin n e → origin < n → party < n
       → passive_closed pick e origin conn party taken ≡ Some w → EndOut w
@@ -101,13 +101,13 @@ module _ {P : Type 0} (n : ℕ) where
       let few : x.state.conn ≤ 1000 = p.0.0.conn in
       (p.0.0, all_joined (MailWithin n) x.posts (record { party = party; body = Fin (other_end e.id) (e.conn + 1) e.sent } ∷ []) p.0.1 ((to, (omega (arith, next, few), all.sent)), tt)))
 
-  pub crossed_within : (pick : ℕ → ℕ → ℕ) → IsPick pick → (e : EndAt P) (origin conn party taken : ℕ) (b : BodyAt P) → EndWithin n e → party < n → crossed pick e origin conn party taken ≡ Some b → BodyWithin n b
+  pub crossed_within : (pick : ℕ → ℕ → ℕ) → IsPick pick → (e : EndAt P) (origin conn party taken : ℕ) (b : BodyAt P) → EndWithin n e → party < n → crossing_body pick e origin conn party taken ≡ Some b → BodyWithin n b
   crossed_within pick picks e origin conn party taken b all to h =
       by_true (BodyWithin n) (signal_fits e origin conn taken) _ b h (λ fits k.
       let tells = signal_tells e origin conn taken fits in
       by_some (BodyWithin n) _ b k (moved_within pick picks e party taken all to tells.0 tells.1))
 
-  pub acked_within : (e : EndAt P) (origin conn : ℕ) (b : BodyAt P) → EndWithin n e → acked e origin conn ≡ Some b → BodyWithin n b
+  pub acked_within : (e : EndAt P) (origin conn : ℕ) (b : BodyAt P) → EndWithin n e → acked_body e origin conn ≡ Some b → BodyWithin n b
   acked_within e origin conn b all h =
       by_true (BodyWithin n) ((conn == e.conn) && nat_lt e.conn limit_of_conns && (origin == e.peer)) _ b h (λ fits k.
       let few : e.conn < 1000 = ltb-true e.conn 1000 (and_parts _ _ (and_parts _ _ fits).0).1 in
@@ -143,10 +143,10 @@ module _ {P : Type 0} (n : ℕ) where
         let q = later x y p.0 u in
         (q.0, all_joined (MailWithin n) x.posts y.posts p.1 q.1))
 
-    pub worked_off_within : (h : HeldAt P) (ms : List (Mail P)) (w : Worked P (HeldAt P)) → EndWithin n h.end → MailsWithin n ms → worked_off pick h ms ≡ Some w → HeldOut w
+    pub worked_off_within : (h : HeldAt P) (ms : List (Mail P)) (w : Worked P (HeldAt P)) → EndWithin n h.end → MailsWithin n ms → worked_record pick h ms ≡ Some w → HeldOut w
     worked_off_within h [] w lt all k = by_some HeldOut (record { state = h; posts = [] }) w k (lt, tt)
     worked_off_within h (m ∷ ms) w lt all k =
-        after_first (at_held pick h m.party m.body) w (λ x. worked_off pick x.state ms)
+        after_first (at_held pick h m.party m.body) w (λ x. worked_record pick x.state ms)
         (λ x t. at_held_within h m.party m.body x lt all.0.0 all.0.1 t)
         (λ x y lt' t. worked_off_within x.state ms y lt' all.1 t) k
 
@@ -158,7 +158,7 @@ module _ {P : Type 0} (n : ℕ) where
         → install pick place deferred e resend ≡ Some w → HeldOut w
     install_within place deferred e resend w all mails k =
         by_true HeldOut (resend_fits e resend) _ w k (λ fits t.
-        by_map HeldOut (with_first (resent_at e resend)) (worked_off pick (record { end = record e { place = place }; untaken = []; fin = false }) deferred) w t (λ y u.
+        by_map HeldOut (with_first (resent_at e resend)) (worked_record pick (record { end = record e { place = place }; untaken = []; fin = false }) deferred) w t (λ y u.
         let q = worked_off_within (record { end = record e { place = place }; untaken = []; fin = false }) deferred y
         (record { peer = all.peer; conn = all.conn; sent = all.sent; taken = all.taken; cached = all.cached }) mails u in
         (q.0, all_joined (MailWithin n) (resent_at e resend) y.posts (resent_at_within e resend all fits) q.1)))

@@ -14,7 +14,7 @@ use Rattle.sj_rules.specs.Rows.{IsPick, Worked}
 use Rattle.sj_rules.specs.Node.{Want, ended, local, sends, delegates, takes, closes, Play, NodeAt, arrives, acts, act_by}
 use Rattle.sj_rules.proofs.ArrivalLemmas.{arrived_comes}
 use Rattle.sj_rules.specs.Frames.{FrameAt, frames_for}
-use Rattle.sj_rules.specs.World.{WorldAt, Event, Act, Deliver, with_lane, after_event, delivered, happens}
+use Rattle.sj_rules.specs.World.{WorldAt, Event, Act, Deliver, with_lane, after_event, delivery_of, happens}
 use Rattle.sj_rules.specs.PlainSide.{PlainAt}
 use Rattle.sj_rules.specs.Linked.{waiting_at, IsKept}
 use Rattle.sj_rules.specs.Premises.{FitsStep, IsLawful}
@@ -71,7 +71,7 @@ module _ {P Q : Type 0} (n : ℕ) where
       none from to false is h = outside from to h
 
   -- a delivery
-  delivery_within : (play : Play P Q) (pick : ℕ → ℕ → ℕ) → IsPick pick → (w v : WorldAt P Q) (p q : ℕ) → IsWithin n w → (l : List (FrameAt P)) → w.lanes q p ≡ l → delivered play pick w p q l ≡ Some v → IsWithin n v
+  delivery_within : (play : Play P Q) (pick : ℕ → ℕ → ℕ) → IsPick pick → (w v : WorldAt P Q) (p q : ℕ) → IsWithin n w → (l : List (FrameAt P)) → w.lanes q p ≡ l → delivery_of play pick w p q l ≡ Some v → IsWithin n v
   delivery_within play pick picks w v p q all [] there h = cc
   delivery_within play pick picks w v p q all (f ∷ rest) there h =
       by_map (IsWithin n) (after_event w p (max (w.nodes p).clock f.clock + 1) (with_lane q p rest w.lanes)) (arrives play.parties pick (w.nodes p) q f) v h (λ done k.

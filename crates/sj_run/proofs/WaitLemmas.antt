@@ -9,14 +9,14 @@ use Rattle.sj_semantics.specs.Program.{Program}
 use Rattle.sj_semantics.specs.Wants.{want_of}
 use Rattle.sj_table.specs.declared.table.Spot.{Spot}
 use Rattle.sj_rules.specs.Halts as rules
-use Rattle.sj_rules.specs.Halts.{halt_by, halt_if, halt_of, is_at_end, is_expected, may_be_handed}
+use Rattle.sj_rules.specs.Halts.{halt_by, halt_if, halt_of, is_at_end, is_expected, may_be_delegated}
 use Rattle.sj_rules.specs.Mapped.{main_with, node_with}
 use Rattle.sj_rules.specs.Node.{NodeAt}
 use Rattle.sj_rules.specs.Party.{play_for, want_for, want_or_ended}
 use Rattle.sj_rules.specs.Record.{MainAt, Held, Closed, Expected}
 use Rattle.sj_node.specs.declared.refusal.Halt.{Halt}
 use Rattle.sj_node.specs.declared.refusal.Halt.TheVariants as halts
-use Rattle.sj_node.specs.Halts.{held_up, is_awaited, lacks_message, names_awaited, stop_by, stop_wanting}
+use Rattle.sj_node.specs.Halts.{hold_up, lacks_message, names_awaited, stop_by, stop_wanting}
 use Rattle.sj_node.specs.Play.{next_want}
 use Rattle.sj_run.specs.Shown.{IsWaiting}
 
@@ -41,7 +41,7 @@ neither false b k = (refl, k)
 neither true b k = absurd (cc k)
 
 -- an end that may be delegated no more is no wait
-enough : (b : Bool) (e : EndId) → IsWaiting (if b then None else Some (rules.handed_enough e)) → ⊥
+enough : (b : Bool) (e : EndId) → IsWaiting (if b then None else Some (rules.delegated_enough e)) → ⊥
 enough true e w = w
 enough false e w = w
 
@@ -51,7 +51,7 @@ lacks true h other k = other (let w : Some halts.Waits ≡ Some h = k in cc w)
 lacks false h other k = cc k
 
 module _ (f : Spot → Place) (ps : List ProtocolAt) where
-  awaited_is : (r : Option (MainAt Spot)) → is_expected (option_map (main_with f) r) ≡ is_awaited r
+  awaited_is : (r : Option (MainAt Spot)) → is_expected (option_map (main_with f) r) ≡ is_expected r
   awaited_is None = refl
   awaited_is (Some (Held x)) = refl
   awaited_is (Some (Closed x)) = refl
@@ -59,13 +59,13 @@ module _ (f : Spot → Place) (ps : List ProtocolAt) where
 
   module _ (n : NodeAt Spot Program) (h : Halt) (other : h ≡ halts.Waits → ⊥) where
     -- with no end awaited and that stop, the rules don't wait
-    by_want : (want : Want) → names_awaited n.main want ≡ false → held_up n.main want ≡ Some h → IsWaiting (halt_by (node_with f n) (want_for ps want)) → ⊥
+    by_want : (want : Want) → names_awaited n.main want ≡ false → hold_up n.main want ≡ Some h → IsWaiting (halt_by (node_with f n) (want_for ps want)) → ⊥
     by_want wants.Local named up w = w
     by_want (wants.Send e m) named up w = unless _ (rules.awaits e) None (awaited_is (n.main e) ∙ named) w
     by_want (wants.Delegate e y) named up w =
-        let apart = neither (is_awaited (n.main e)) (is_awaited (n.main y)) named in
+        let apart = neither (is_expected (n.main e)) (is_expected (n.main y)) named in
         let more = unless _ (rules.awaits e) _ (awaited_is (n.main e) ∙ apart.0) w in
-        enough (may_be_handed (option_map (main_with f) (n.main y))) y (unless _ (rules.awaits y) _ (awaited_is (n.main y) ∙ apart.1) more)
+        enough (may_be_delegated (option_map (main_with f) (n.main y))) y (unless _ (rules.awaits y) _ (awaited_is (n.main y) ∙ apart.1) more)
     by_want (wants.Take e a) named up w = lacks (lacks_message (n.main e)) h other up
     by_want (wants.Close e) named up w = unless _ (rules.awaits e) None (awaited_is (n.main e) ∙ named) w
     by_want wants.Ended named up w = w
@@ -74,7 +74,7 @@ module _ (f : Spot → Place) (ps : List ProtocolAt) where
         → IsWaiting (halt_if (not (nat_lt n.program.steps 10000)) rules.worn (halt_by (node_with f n) (want_for ps want))) → ⊥
     stopped want k w =
         let low = below (nat_lt n.program.steps 10000) _ w in
-        let back = held_back (nat_lt n.program.steps 10000) (names_awaited n.main want) (held_up n.main want) h other low.0 k in
+        let back = held_back (nat_lt n.program.steps 10000) (names_awaited n.main want) (hold_up n.main want) h other low.0 k in
         by_want want back.0 back.1 low.1
 
     by_step : (o : Option Want) → stop_by n.main n.program.steps (unwrap_or o wants.Ended) ≡ Some h

@@ -5,7 +5,7 @@ use Rattle.sj_lang.specs.Place.{Place, done}
 use Rattle.sj_lang.specs.FileAt.{FileAt}
 use Rattle.sj_semantics.specs.Program.{Program}
 use Rattle.sj_rules.specs.Frames.{FrameAt}
-use Rattle.sj_rules.specs.Halts.{Halt, halt_of, at_end, worn, awaits, handed_enough, no_message}
+use Rattle.sj_rules.specs.Halts.{Halt, halt_of, at_end, worn, awaits, delegated_enough, no_message}
 use Rattle.sj_rules.specs.Log.{LineAt, body_note, notes_from, part_of}
 use Rattle.sj_rules.specs.Node.{acts}
 use Rattle.sj_rules.specs.NodeRun.{told_frames}
@@ -33,7 +33,7 @@ IsWaiting (Some (awaits e)) = ⊤
 IsWaiting (Some (no_message e)) = ⊤
 IsWaiting (Some at_end) = ⊥
 IsWaiting (Some worn) = ⊥
-IsWaiting (Some (handed_enough e)) = ⊥
+IsWaiting (Some (delegated_enough e)) = ⊥
 IsWaiting None = ⊥
 
 -- the frames that the lines' events post from p to q, as lanes tell them

@@ -4,7 +4,7 @@ use Rattle.sj_base.specs.declared.EndId.{EndId}
 use Rattle.sj_semantics.specs.declared.Passed.{Passed}
 use Rattle.sj_semantics.specs.Ends.{is_end}
 use Rattle.sj_semantics.specs.Uses.{Use, sends, takes, delegates}
-use Rattle.sj_semantics.specs.World.{World, change_of, changed}
+use Rattle.sj_semantics.specs.World.{World, change_of, changed_world}
 
 -- who acted, and what that did to which ends
 pub record ActAt : Type 0 where
@@ -15,7 +15,7 @@ pub record ActAt : Type 0 where
 abbrev pub acts_from : World → List ℕ → List ActAt
 acts_from w [] = []
 acts_from w (p ∷ ps) =
-    unwrap_or (option_map (λ c. record { by = p; uses = c.uses } ∷ acts_from (changed w p c) ps) (change_of w p)) []
+    unwrap_or (option_map (λ c. record { by = p; uses = c.uses } ∷ acts_from (changed_world w p c) ps) (change_of w p)) []
 
 -- what f finds in the uses of the end, with the party that used it
 abbrev pub uses_on : EndId → (ℕ → Use → List Passed) → ℕ → List (EndId × Use) → List Passed

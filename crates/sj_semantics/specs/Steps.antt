@@ -18,13 +18,13 @@ todo_after_local vars (t ∷ rest) = rest
 todo_after_local vars [] = []
 
 -- the variables with that value under the name, where there is one
-abbrev pub assigned : Vars → ℕ → Option Value → Vars
-assigned vars n None = vars
-assigned vars n (Some v) = with_value vars n v
+abbrev pub assigned_vars : Vars → ℕ → Option Value → Vars
+assigned_vars vars n None = vars
+assigned_vars vars n (Some v) = with_value vars n v
 
 -- a `let` gives its variable the value
 abbrev pub vars_after_local : Vars → List Thing → Vars
-vars_after_local vars (statement (let_be n e) ∷ rest) = assigned vars n (worth vars e)
+vars_after_local vars (statement (let_be n e) ∷ rest) = assigned_vars vars n (worth vars e)
 vars_after_local vars _ = vars
 
 -- the party after a step without a message
@@ -34,14 +34,14 @@ local_of g = record { todo = todo_after_local g.vars g.todo; vars = vars_after_l
 -- ---- a step that sends
 
 -- the turns that are left, and then the rest
-abbrev pub turned : ℕ → ℕ → Code → List Thing → List Thing
-turned x zero body rest = rest
-turned x (suc n) body rest = block body (turns x n body ∷ rest)
+abbrev pub turns_ahead : ℕ → ℕ → Code → List Thing → List Thing
+turns_ahead x zero body rest = rest
+turns_ahead x (suc n) body rest = block body (turns x n body ∷ rest)
 
 -- a loop has one turn less; a relay that passed on more has its body and then itself to do
 abbrev pub todo_after_sent : Vars → List Thing → List Thing
-todo_after_sent vars (statement (outwhile x e body) ∷ rest) = turned x (unwrap_or (option_and_then turns_of (worth vars e)) 0) body rest
-todo_after_sent vars (turns x n body ∷ rest) = turned x n body rest
+todo_after_sent vars (statement (outwhile x e body) ∷ rest) = turns_ahead x (unwrap_or (option_and_then turns_of (worth vars e)) 0) body rest
+todo_after_sent vars (turns x n body ∷ rest) = turns_ahead x n body rest
 todo_after_sent vars (passing x y more body ∷ rest) = if more then block body (statement (relay x y body) ∷ rest) else rest
 todo_after_sent vars (t ∷ rest) = rest
 todo_after_sent vars [] = []
@@ -82,7 +82,7 @@ todo_after_took [] m = []
 
 -- a value goes into its variable
 abbrev pub vars_after_took : Vars → List Thing → Msg → Vars
-vars_after_took vars (statement (take_value x n k) ∷ rest) m = assigned vars n (value_of m)
+vars_after_took vars (statement (take_value x n k) ∷ rest) m = assigned_vars vars n (value_of m)
 vars_after_took vars _ m = vars
 
 -- an end that was taken is bound at once

@@ -25,10 +25,10 @@ end_after p (takes m) e = record { place = place_behind e.place Into m; sent = e
 end_after p delegates e = record { place = e.place; sent = e.sent; takers = e.takers; hops = e.hops + 1 }
 
 -- the list with what f makes of the element at that place
-abbrev pub altered : {X : Type 0} → List X → ℕ → (X → X) → List X
-altered [] i f = []
-altered (x ∷ xs) zero f = f x ∷ xs
-altered (x ∷ xs) (suc i) f = x ∷ altered xs i f
+abbrev pub altered_list : {X : Type 0} → List X → ℕ → (X → X) → List X
+altered_list [] i f = []
+altered_list (x ∷ xs) zero f = f x ∷ xs
+altered_list (x ∷ xs) (suc i) f = x ∷ altered_list xs i f
 
 -- the session with what f makes of the end of that side
 abbrev pub on_side : ℕ → (EndAt → EndAt) → Session → Session
@@ -38,4 +38,4 @@ on_side (suc n) f z = record { first = z.first; second = f z.second }
 -- the sessions after the party's uses of ends, one after another
 abbrev pub after_uses : ℕ → List (EndId × Use) → List Session → List Session
 after_uses p [] zs = zs
-after_uses p (u ∷ us) zs = after_uses p us (altered zs u.0.sess (on_side u.0.side (end_after p u.1)))
+after_uses p (u ∷ us) zs = after_uses p us (altered_list zs u.0.sess (on_side u.0.side (end_after p u.1)))

@@ -10,7 +10,7 @@ use Rattle.sj_semantics.specs.Program.{Program, block, limit_of_steps}
 use Rattle.sj_semantics.specs.Wants.{want_of}
 use Rattle.sj_semantics.specs.Steps.{local_of, sent_of, took_of, closed_of}
 use Rattle.sj_semantics.specs.Ends.{Session, end_at, next_for, EndAt, limit_of_hops}
-use Rattle.sj_semantics.specs.Uses.{Use, sends, takes, delegates, altered, after_uses}
+use Rattle.sj_semantics.specs.Uses.{Use, sends, takes, delegates, altered_list, after_uses}
 use Rattle.sj_lang.specs.Place.{Place}
 use Rattle.sj_lang.specs.FileAt.{FileAt, PartyAt, ConnectAt, body_named, ends_from}
 use Rattle.sj_semantics.specs.Value.{no_vars}
@@ -54,12 +54,12 @@ abbrev pub change_of : World → ℕ → Option Change
 change_of w p = option_and_then (change_of_program w.sessions p) (slice_get w.parties p)
 
 -- the world in which the party has made that change
-abbrev pub changed : World → ℕ → Change → World
-changed w p c = record { parties = altered w.parties p (λ g. c.program); sessions = after_uses p c.uses w.sessions }
+abbrev pub changed_world : World → ℕ → Change → World
+changed_world w p c = record { parties = altered_list w.parties p (λ g. c.program); sessions = after_uses p c.uses w.sessions }
 
 -- the world after the next step of the party, where it is ready
 abbrev pub act_of : World → ℕ → Option World
-act_of w p = option_map (changed w p) (change_of w p)
+act_of w p = option_map (changed_world w p) (change_of w p)
 
 -- an end that nobody has used
 abbrev pub fresh : Place → EndAt

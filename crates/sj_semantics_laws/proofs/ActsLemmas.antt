@@ -8,7 +8,7 @@ use Rattle.sj_semantics.specs.declared.Passed.{Passed}
 use Rattle.sj_semantics.specs.Ends.{EndAt, Session, is_same_side, is_end, end_on, nowhere, end_at}
 use Rattle.sj_semantics.specs.Uses.{Use, sends, takes, delegates, end_after, on_side, after_uses}
 use Rattle.sj_semantics.specs.Program.{Program}
-use Rattle.sj_semantics.specs.World.{World, Change, change_of_program, changed, act_of}
+use Rattle.sj_semantics.specs.World.{World, Change, change_of_program, changed_world, act_of}
 use Rattle.sj_semantics.specs.Run.{after_acts}
 use Rattle.sj_semantics.specs.Acts.{ActAt, acts_from, uses_on, acts_on, sent_by, taken_by, sent_on, taken_on}
 use Rattle.sj_semantics_laws.proofs.AlteredLemmas.{slice_get-altered, length-altered}
@@ -51,8 +51,8 @@ pub record StepOf (w v : World) (p : ℕ) (ps : List ℕ) : Type 0 where
   pub there : slice_get w.parties p ≡ Some program
   pub change : Change
   pub made : change_of_program w.sessions p program ≡ Some change
-  pub acts : acts_from w (p ∷ ps) ≡ record { by = p; uses = change.uses } ∷ acts_from (changed w p change) ps
-  pub afterwards : after_acts (changed w p change) ps ≡ Some v
+  pub acts : acts_from w (p ∷ ps) ≡ record { by = p; uses = change.uses } ∷ acts_from (changed_world w p change) ps
+  pub afterwards : after_acts (changed_world w p change) ps ≡ Some v
 
 pub step_of : (w v : World) (p : ℕ) (ps : List ℕ) → after_acts w (p ∷ ps) ≡ Some v → StepOf w v p ps
 step_of w v p ps h =
@@ -63,13 +63,13 @@ step_of w v p ps h =
       there = a.there;
       change = a.change;
       made = a.made;
-      acts = ap (λ o. unwrap_or (option_map (λ (c : Change). record { by = p; uses = c.uses } ∷ acts_from (changed w p c) ps) o) []) (ap (option_and_then (change_of_program w.sessions p)) a.there ∙ a.made);
+      acts = ap (λ o. unwrap_or (option_map (λ (c : Change). record { by = p; uses = c.uses } ∷ acts_from (changed_world w p c) ps) o) []) (ap (option_and_then (change_of_program w.sessions p)) a.there ∙ a.made);
       afterwards = ap (λ t. after_acts t ps) a.result ∙ m.afterwards;
     }
 
 pub length-run : (w v : World) (ps : List ℕ) → after_acts w ps ≡ Some v → length v.sessions ≡ length w.sessions
 length-run w v [] h = let it : w ≡ v = cc in ap (λ (t : World). length t.sessions) (sym it)
-length-run w v (p ∷ ps) h = let s = step_of w v p ps h in length-run (changed w p s.change) v ps s.afterwards ∙ length-after_uses p s.change.uses w.sessions
+length-run w v (p ∷ ps) h = let s = step_of w v p ps h in length-run (changed_world w p s.change) v ps s.afterwards ∙ length-after_uses p s.change.uses w.sessions
 
 -- ---- what a use adds
 
@@ -124,10 +124,10 @@ module _ {X : Type 0} (list : EndAt → List X) (found : ℕ → Use → List Pa
       ap (λ (t : World). list (end_at t.sessions e)) (sym it) ∙ sym (append-nil (list (end_at w.sessions e))) ∙ ap (λ ys. list (end_at w.sessions e) ++ ys) (sym shown-nil)
   acts_add w v (p ∷ ps) e lt h =
       let s = step_of w v p ps h in
-      acts_add (changed w p s.change) v ps e (omega (arith, lt, length-after_uses p s.change.uses w.sessions)) s.afterwards
-      ∙ ap (λ ys. ys ++ shown (acts_on e found (acts_from (changed w p s.change) ps))) (uses_add p s.change.uses w.sessions e lt)
-      ∙ append_assoc (list (end_at w.sessions e)) (shown (uses_on e found p s.change.uses)) (shown (acts_on e found (acts_from (changed w p s.change) ps)))
-      ∙ ap (λ ys. list (end_at w.sessions e) ++ ys) (sym (shown-append (uses_on e found p s.change.uses) (acts_on e found (acts_from (changed w p s.change) ps))))
+      acts_add (changed_world w p s.change) v ps e (omega (arith, lt, length-after_uses p s.change.uses w.sessions)) s.afterwards
+      ∙ ap (λ ys. ys ++ shown (acts_on e found (acts_from (changed_world w p s.change) ps))) (uses_add p s.change.uses w.sessions e lt)
+      ∙ append_assoc (list (end_at w.sessions e)) (shown (uses_on e found p s.change.uses)) (shown (acts_on e found (acts_from (changed_world w p s.change) ps)))
+      ∙ ap (λ ys. list (end_at w.sessions e) ++ ys) (sym (shown-append (uses_on e found p s.change.uses) (acts_on e found (acts_from (changed_world w p s.change) ps))))
       ∙ ap (λ (as' : List ActAt). list (end_at w.sessions e) ++ shown (acts_on e found as')) (sym s.acts)
 
 pub sent_is_of_acts : (w v : World) (ps : List ℕ) (e : EndId) → e.sess < length w.sessions → after_acts w ps ≡ Some v

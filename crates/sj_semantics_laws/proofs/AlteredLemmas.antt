@@ -1,48 +1,48 @@
 -- Lists with one element altered.
 use Rattle.std.proofs.Common.{◌≡◌, ℕ, zero, suc, ◌+◌, ◌≤◌, List, [], ◌∷◌, length, slice_get, Some, option_map, sum_by, refl, ap, arith}
 use Rattle.std.proofs.lemmas.List.Sums.{sum_by-cons}
-use Rattle.sj_semantics.specs.Uses.{altered}
+use Rattle.sj_semantics.specs.Uses.{altered_list}
 
-pub altered_comm : {X : Type 0} (xs : List X) (i j : ℕ) (f g : X → X) → (i ≡ j → ⊥) → altered (altered xs i f) j g ≡ altered (altered xs j g) i f
+pub altered_comm : {X : Type 0} (xs : List X) (i j : ℕ) (f g : X → X) → (i ≡ j → ⊥) → altered_list (altered_list xs i f) j g ≡ altered_list (altered_list xs j g) i f
 altered_comm [] i j f g ne = refl
 altered_comm (x ∷ xs) zero zero f g ne = absurd (ne refl)
 altered_comm (x ∷ xs) zero (suc j) f g ne = refl
 altered_comm (x ∷ xs) (suc i) zero f g ne = refl
 altered_comm (x ∷ xs) (suc i) (suc j) f g ne = ap (λ t. x ∷ t) (altered_comm xs i j f g (λ e. ne (ap suc e)))
 
-pub altered-altered : {X : Type 0} (xs : List X) (i : ℕ) (f g : X → X) → altered (altered xs i f) i g ≡ altered xs i (λ x. g (f x))
+pub altered-altered : {X : Type 0} (xs : List X) (i : ℕ) (f g : X → X) → altered_list (altered_list xs i f) i g ≡ altered_list xs i (λ x. g (f x))
 altered-altered [] i f g = refl
 altered-altered (x ∷ xs) zero f g = refl
 altered-altered (x ∷ xs) (suc i) f g = ap (λ t. x ∷ t) (altered-altered xs i f g)
 
-pub slice_get-altered_other : {X : Type 0} (xs : List X) (i j : ℕ) (f : X → X) → (i ≡ j → ⊥) → slice_get (altered xs i f) j ≡ slice_get xs j
+pub slice_get-altered_other : {X : Type 0} (xs : List X) (i j : ℕ) (f : X → X) → (i ≡ j → ⊥) → slice_get (altered_list xs i f) j ≡ slice_get xs j
 slice_get-altered_other [] i j f ne = refl
 slice_get-altered_other (x ∷ xs) zero zero f ne = absurd (ne refl)
 slice_get-altered_other (x ∷ xs) zero (suc j) f ne = refl
 slice_get-altered_other (x ∷ xs) (suc i) zero f ne = refl
 slice_get-altered_other (x ∷ xs) (suc i) (suc j) f ne = slice_get-altered_other xs i j f (λ e. ne (ap suc e))
 
-pub slice_get-altered : {X : Type 0} (xs : List X) (i : ℕ) (f : X → X) → slice_get (altered xs i f) i ≡ option_map f (slice_get xs i)
+pub slice_get-altered : {X : Type 0} (xs : List X) (i : ℕ) (f : X → X) → slice_get (altered_list xs i f) i ≡ option_map f (slice_get xs i)
 slice_get-altered [] i f = refl
 slice_get-altered (x ∷ xs) zero f = refl
 slice_get-altered (x ∷ xs) (suc i) f = slice_get-altered xs i f
 
-pub length-altered : {X : Type 0} (xs : List X) (i : ℕ) (f : X → X) → length (altered xs i f) ≡ length xs
+pub length-altered : {X : Type 0} (xs : List X) (i : ℕ) (f : X → X) → length (altered_list xs i f) ≡ length xs
 length-altered [] i f = refl
 length-altered (x ∷ xs) zero f = refl
 length-altered (x ∷ xs) (suc i) f = ap suc (length-altered xs i f)
 
 -- a sum goes up by no more than the element does
-pub sum_by-altered_le : {X : Type 0} (h : X → ℕ) (k : ℕ) (xs : List X) (i : ℕ) (f : X → X) → ((x : X) → slice_get xs i ≡ Some x → h (f x) ≤ h x + k) → sum_by h (altered xs i f) ≤ sum_by h xs + k
+pub sum_by-altered_le : {X : Type 0} (h : X → ℕ) (k : ℕ) (xs : List X) (i : ℕ) (f : X → X) → ((x : X) → slice_get xs i ≡ Some x → h (f x) ≤ h x + k) → sum_by h (altered_list xs i f) ≤ sum_by h xs + k
 sum_by-altered_le h k [] i f le = omega arith
 sum_by-altered_le h k (x ∷ xs) zero f le = omega (arith, sum_by-cons h x xs, sum_by-cons h (f x) xs, le x refl)
-sum_by-altered_le h k (x ∷ xs) (suc i) f le = omega (arith, sum_by-cons h x xs, sum_by-cons h x (altered xs i f), sum_by-altered_le h k xs i f le)
+sum_by-altered_le h k (x ∷ xs) (suc i) f le = omega (arith, sum_by-cons h x xs, sum_by-cons h x (altered_list xs i f), sum_by-altered_le h k xs i f le)
 
 -- the sum with what it loses at the element
-pub sum_by-altered : {X : Type 0} (h : X → ℕ) (xs : List X) (i : ℕ) (f : X → X) (x : X) → slice_get xs i ≡ Some x → sum_by h (altered xs i f) + h x ≡ sum_by h xs + h (f x)
+pub sum_by-altered : {X : Type 0} (h : X → ℕ) (xs : List X) (i : ℕ) (f : X → X) (x : X) → slice_get xs i ≡ Some x → sum_by h (altered_list xs i f) + h x ≡ sum_by h xs + h (f x)
 sum_by-altered h [] i f x e = cc
 sum_by-altered h (y ∷ xs) zero f x e = let s : y ≡ x = cc in omega (arith, sum_by-cons h y xs, sum_by-cons h (f y) xs, ap h s, ap (λ t. h (f t)) s)
-sum_by-altered h (y ∷ xs) (suc i) f x e = omega (arith, sum_by-cons h y xs, sum_by-cons h y (altered xs i f), sum_by-altered h xs i f x e)
+sum_by-altered h (y ∷ xs) (suc i) f x e = omega (arith, sum_by-cons h y xs, sum_by-cons h y (altered_list xs i f), sum_by-altered h xs i f x e)
 
 pub one-le-sum_by : {X : Type 0} (h : X → ℕ) (xs : List X) (i : ℕ) (x : X) → slice_get xs i ≡ Some x → h x ≤ sum_by h xs
 one-le-sum_by h [] i x ex = cc

@@ -4,12 +4,12 @@ use Rattle.std.proofs.lemmas.Bool.{cases_eq, and_cases, eqb-false}
 use Rattle.sj_base.specs.declared.EndId.{EndId}
 use Rattle.sj_semantics.specs.declared.Passed.{Passed}
 use Rattle.sj_semantics.specs.Ends.{Session, EndAt, end_on, other_end, nowhere, end_at, next_for, is_same_side, is_end}
-use Rattle.sj_semantics.specs.Uses.{Use, sends, takes, delegates, end_after, altered, on_side, after_uses}
+use Rattle.sj_semantics.specs.Uses.{Use, sends, takes, delegates, end_after, altered_list, on_side, after_uses}
 use Rattle.sj_semantics_laws.proofs.AlteredLemmas.{altered_comm, altered-altered, slice_get-altered_other, slice_get-altered}
 
 -- the sessions after one use
 abbrev pub touched : ℕ → List Session → EndId × Use → List Session
-touched p zs u = altered zs u.0.sess (on_side u.0.side (end_after p u.1))
+touched p zs u = altered_list zs u.0.sess (on_side u.0.side (end_after p u.1))
 
 on_side_comm : (c d : ℕ) (f g : EndAt → EndAt) (z : Session) → is_same_side c d ≡ false → on_side d g (on_side c f z) ≡ on_side c f (on_side d g z)
 on_side_comm zero zero f g z e = cc
@@ -17,9 +17,9 @@ on_side_comm zero (suc d) f g z e = refl
 on_side_comm (suc c) zero f g z e = refl
 on_side_comm (suc c) (suc d) f g z e = cc
 
-altered-on_side_comm : (zs : List Session) (s c d : ℕ) (f g : EndAt → EndAt) → is_same_side c d ≡ false → altered (altered zs s (on_side c f)) s (on_side d g) ≡ altered (altered zs s (on_side d g)) s (on_side c f)
+altered-on_side_comm : (zs : List Session) (s c d : ℕ) (f g : EndAt → EndAt) → is_same_side c d ≡ false → altered_list (altered_list zs s (on_side c f)) s (on_side d g) ≡ altered_list (altered_list zs s (on_side d g)) s (on_side c f)
 altered-on_side_comm zs s c d f g e =
-    altered-altered zs s (on_side c f) (on_side d g) ∙ ap (altered zs s) (λ i z. on_side_comm c d f g z e i) ∙ sym (altered-altered zs s (on_side d g) (on_side c f))
+    altered-altered zs s (on_side c f) (on_side d g) ∙ ap (altered_list zs s) (λ i z. on_side_comm c d f g z e i) ∙ sym (altered-altered zs s (on_side d g) (on_side c f))
 
 pub touched_comm : (p q : ℕ) (zs : List Session) (u v : EndId × Use) → is_end u.0 v.0 ≡ false → touched q (touched p zs u) v ≡ touched p (touched q zs v) u
 touched_comm p q zs u v apart =
@@ -27,7 +27,7 @@ touched_comm p q zs u v apart =
       | inl same ↦
           elim (and_cases (u.0.sess == v.0.sess) (is_same_side u.0.side v.0.side) apart) [
             | inl not_same ↦ absurd (eqb-false _ _ not_same same)
-            | inr sides ↦ subst (λ (t : ℕ). altered (altered zs u.0.sess (on_side u.0.side (end_after p u.1))) t (on_side v.0.side (end_after q v.1)) ≡ altered (altered zs t (on_side v.0.side (end_after q v.1))) u.0.sess (on_side u.0.side (end_after p u.1))) same
+            | inr sides ↦ subst (λ (t : ℕ). altered_list (altered_list zs u.0.sess (on_side u.0.side (end_after p u.1))) t (on_side v.0.side (end_after q v.1)) ≡ altered_list (altered_list zs t (on_side v.0.side (end_after q v.1))) u.0.sess (on_side u.0.side (end_after p u.1))) same
                 (altered-on_side_comm zs u.0.sess u.0.side v.0.side (end_after p u.1) (end_after q v.1) sides)
           ]
       | inr other ↦ altered_comm zs u.0.sess v.0.sess (on_side u.0.side (end_after p u.1)) (on_side v.0.side (end_after q v.1)) other

@@ -6,7 +6,7 @@ use Rattle.sj_semantics.specs.declared.Want.TheVariants as wants
 use Rattle.sj_semantics.specs.Program.{Program}
 use Rattle.sj_semantics.specs.Wants.{want_of}
 use Rattle.sj_semantics.specs.Steps.{closed_of}
-use Rattle.sj_semantics.specs.World.{World, Change, change_by, change_of_program, change_of, changed, act_of}
+use Rattle.sj_semantics.specs.World.{World, Change, change_by, change_of_program, change_of, changed_world, act_of}
 use Rattle.sj_semantics_laws.specs.Bound.{IsBound, UsesBound}
 use Rattle.sj_semantics_laws.specs.Unshared.{bindings_of, carried_in, claims_on, IsUnshared}
 use Rattle.sj_semantics_laws.proofs.AlteredLemmas.{sum_by-altered, one-le-sum_by, two-le-sum_by}
@@ -25,12 +25,12 @@ one_holder w p q g h e one gp hq bg bh other = absurd (omega (arith, one.once e,
 pub none_on_the_way : (w : World) (p : ℕ) (g : Program) (e : EndId) → IsUnshared w → 1 ≤ sum_by (carried_in e) w.sessions → slice_get w.parties p ≡ Some g → bindings_of e g.ends ≡ 0
 none_on_the_way w p g e one carried there = omega (arith, one.once e, one-le-sum_by (binds e) w.parties p g there)
 
-closed_frees : (w v : World) (p : ℕ) (e : EndId) (a : Doing w p v) (want : Want) → IsUnshared w → want ≡ wants.Close e → want_of a.program ≡ Some want → change_by w.sessions p a.program want ≡ Some a.change → claims_on e (changed w p a.change) ≡ 0
+closed_frees : (w v : World) (p : ℕ) (e : EndId) (a : Doing w p v) (want : Want) → IsUnshared w → want ≡ wants.Close e → want_of a.program ≡ Some want → change_by w.sessions p a.program want ≡ Some a.change → claims_on e (changed_world w p a.change) ≡ 0
 closed_frees w v p e a want one it wants_it by_it =
     let close = subst (λ (t : Want). want_of a.program ≡ Some t) it wants_it in
     let made : Some (record { program = closed_of a.program; uses = [] }) ≡ Some a.change = subst (λ (t : Want). change_by w.sessions p a.program t ≡ Some a.change) it by_it in
     let same : record { program = closed_of a.program; uses = [] } ≡ a.change = cc in
-    subst (λ (c : Change). claims_on e (changed w p c) ≡ 0) same
+    subst (λ (c : Change). claims_on e (changed_world w p c) ≡ 0) same
     (omega (
       arith,
       one.once e,

@@ -9,7 +9,7 @@ use Rattle.sj_semantics.specs.declared.Want.TheVariants as wants
 use Rattle.sj_semantics.specs.declared.Passed.{Passed}
 use Rattle.sj_semantics.specs.Program.{Program, Thing, statement, turns, passing}
 use Rattle.sj_semantics.specs.Steps.{ends_after_sent, ends_after_took, ends_after_closed, local_of, sent_of, closed_of}
-use Rattle.sj_semantics.specs.World.{World, Change, session_message, change_by_taking, change_by, changed, act_of}
+use Rattle.sj_semantics.specs.World.{World, Change, session_message, change_by_taking, change_by, changed_world, act_of}
 use Rattle.sj_semantics.specs.Ends.{Session, end_at, next_for}
 use Rattle.sj_semantics.specs.Uses.{sends, delegates, after_uses}
 use Rattle.sj_semantics_laws.specs.Unshared.{bindings_of, names_end, carried_in, claims_on, IsUnshared}
@@ -114,7 +114,7 @@ pub change_keeps : (e : EndId) (p : ℕ) (zs : List Session) (g : Program) (c : 
 change_keeps e p zs g c r = by_keeps e p zs g c r.want (want_frees e g r.want r.wants_it) r.by_it
 
 -- an act makes no claim on an end
-claims_on-changed : (e : EndId) (w v : World) (p : ℕ) → (a : Doing w p v) → claims_on e (changed w p a.change) ≤ claims_on e w
+claims_on-changed : (e : EndId) (w v : World) (p : ℕ) → (a : Doing w p v) → claims_on e (changed_world w p a.change) ≤ claims_on e w
 claims_on-changed e w v p a =
     omega (
       arith,

@@ -12,7 +12,7 @@ use Rattle.sj_semantics.specs.Run.{after_acts}
 use Rattle.sj_semantics.specs.Steps.{sent_of}
 use Rattle.sj_semantics.specs.Uses.{sends, delegates, end_after, on_side, after_uses}
 use Rattle.sj_semantics.specs.Wants.{want_of}
-use Rattle.sj_semantics.specs.World.{World, Change, session_message, change_by, changed, act_of}
+use Rattle.sj_semantics.specs.World.{World, Change, session_message, change_by, changed_world, act_of}
 use Rattle.sj_semantics_laws.specs.Runs.{IsBoundNowhere, IsUntaken}
 use Rattle.sj_semantics_laws.specs.Unshared.{names_end, carried_in, IsUnshared}
 use Rattle.sj_semantics_laws.proofs.ActsLemmas.{step_of, end_at-touched_same}
@@ -101,4 +101,4 @@ pub acts_extend : (w v : World) (ps : List ℕ) (e : EndId) → after_acts w ps 
 acts_extend w v [] e h = subst (λ (t : World). Extends (end_at t.sessions e).sent (end_at w.sessions e).sent) (let it : w ≡ v = cc in it) (λ k x t. t)
 acts_extend w v (p ∷ ps) e h =
     let s = step_of w v p ps h in
-    λ k x t. acts_extend (changed w p s.change) v ps e s.afterwards k x (end_at-after_uses_extends p s.change.uses w.sessions e k x t)
+    λ k x t. acts_extend (changed_world w p s.change) v ps e s.afterwards k x (end_at-after_uses_extends p s.change.uses w.sessions e k x t)

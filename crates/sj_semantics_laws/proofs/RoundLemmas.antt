@@ -8,7 +8,7 @@ use Rattle.sj_semantics.specs.declared.Want.TheVariants as wants
 use Rattle.sj_semantics.specs.declared.Passed.{Passed}
 use Rattle.sj_semantics.specs.Program.{Program}
 use Rattle.sj_semantics.specs.Steps.{local_of, sent_of, closed_of}
-use Rattle.sj_semantics.specs.World.{World, Change, session_message, change_by_taking, change_by, changed, act_of}
+use Rattle.sj_semantics.specs.World.{World, Change, session_message, change_by_taking, change_by, changed_world, act_of}
 use Rattle.sj_semantics.specs.Ends.{Session, end_at, next_for}
 use Rattle.sj_semantics.specs.Uses.{sends, delegates}
 use Rattle.sj_semantics.specs.State.{IsSettled}
@@ -45,7 +45,7 @@ by_steps p zs g d (wants.Take x a) h = taking_steps g d x (next_for zs x) h
 by_steps p zs g d (wants.Close x) h = cond_steps g true (record { program = closed_of g; uses = [] }) d refl h
 
 -- each act leaves one step less
-left_in-changed : (w v : World) (p : ℕ) → (a : Doing w p v) → left_in (changed w p a.change) + 1 ≡ left_in w
+left_in-changed : (w v : World) (p : ℕ) → (a : Doing w p v) → left_in (changed_world w p a.change) + 1 ≡ left_in w
 left_in-changed w v p a =
     let r = rests_on w.sessions p a.program a.change a.made in
     omega (arith, sum_by-altered left_of w.parties p (λ g. a.change.program) a.program a.there, by_steps p w.sessions a.program a.change r.want r.by_it, ltb-true a.program.steps 10000 r.steps_left)
@@ -145,7 +145,7 @@ round_of (suc k) p w =
     ]
 
 no_such_party : (w : World) (p : ℕ) → length w.parties ≤ p → act_of w p ≡ None
-no_such_party w p le = ap (λ o. option_map (changed w p) (option_and_then (Rattle.sj_semantics.specs.World.change_of_program w.sessions p) o)) (slice_get_past w.parties p le)
+no_such_party w p le = ap (λ o. option_map (changed_world w p) (option_and_then (Rattle.sj_semantics.specs.World.change_of_program w.sessions p) o)) (slice_get_past w.parties p le)
 
 pub idle_is_settled : (w : World) → ((q : ℕ) → 0 ≤ q → q < 0 + length w.parties → act_of w q ≡ None) → IsSettled w
 idle_is_settled w none = λ p. elim (cases_lt p (length w.parties)) [ inl lt ↦ none p (omega arith) (omega arith) | inr ge ↦ no_such_party w p ge ]

@@ -11,7 +11,7 @@ use Rattle.sj_semantics.specs.Wants.{want_of}
 use Rattle.sj_semantics.specs.Steps.{local_of, sent_of, closed_of}
 use Rattle.sj_semantics.specs.Ends.{Session, end_at, next_for}
 use Rattle.sj_semantics.specs.Uses.{sends, delegates}
-use Rattle.sj_semantics.specs.World.{World, Change, session_message, change_by_taking, change_by, changed, act_of}
+use Rattle.sj_semantics.specs.World.{World, Change, session_message, change_by_taking, change_by, changed_world, act_of}
 use Rattle.sj_semantics.specs.State.{state_wanting, state_wanting_if, state_if, state_of}
 use Rattle.sj_semantics_laws.proofs.ChangeLemmas.{rests_on, from_rests}
 use Rattle.sj_semantics_laws.proofs.CommuteLemmas.{doing_of, act_from}
@@ -83,7 +83,7 @@ program_makes : (w : World) (p : ℕ) (g : Program) (o : Option Want) → slice_
 program_makes w p g None there wants_it ready = cc
 program_makes w p g (Some want) there wants_it ready =
     let m = want_makes w.sessions p g want ready in
-    (changed w p m.1.change, act_from w p g m.1.change there (from_rests w.sessions p g m.1.change (record { steps_left = m.0; want = want; wants_it = wants_it; by_it = m.1.by_it })))
+    (changed_world w p m.1.change, act_from w p g m.1.change there (from_rests w.sessions p g m.1.change (record { steps_left = m.0; want = want; wants_it = wants_it; by_it = m.1.by_it })))
 
 ready_by : (w : World) (p : ℕ) (o : Option Program) → slice_get w.parties p ≡ o → state_if w.sessions o ≡ states.Ready → (v : World) × (act_of w p ≡ Some v)
 ready_by w p None there ready = cc

@@ -7,7 +7,7 @@ use Rattle.sj_lang.specs.FileAt.{FileAt, ConnectAt}
 use Rattle.sj_semantics.specs.declared.Passed.{Passed}
 use Rattle.sj_semantics.specs.Ends.{Session, end_on, other_end, nowhere, end_at, untaken_for}
 use Rattle.sj_semantics.specs.Uses.{Use, after_uses}
-use Rattle.sj_semantics.specs.World.{World, changed, session_of, start_of}
+use Rattle.sj_semantics.specs.World.{World, changed_world, session_of, start_of}
 use Rattle.sj_semantics.specs.Run.{IsRun, after_acts}
 use Rattle.sj_semantics.specs.Acts.{acts_from, uses_on, acts_on, taken_by, sent_on, taken_on}
 use Rattle.sj_semantics_laws.proofs.EndLemmas.{end_at-after_uses_extends}
@@ -50,8 +50,8 @@ run_so w v (p ∷ ps) e ts lt h so =
     let r = rests_on w.sessions p s.program s.change s.made in
     let us = s.change.uses in
     subst (λ xs. TakenSo v.sessions e xs)
-    (append_assoc ts (uses_on e taken_by p us) (taken_on e (acts_from (changed w p s.change) ps)) ∙ ap (λ as'. ts ++ acts_on e taken_by as') (sym s.acts))
-    (run_so (changed w p s.change) v ps e (ts ++ uses_on e taken_by p us) (omega (arith, lt, length-after_uses p us w.sessions)) s.afterwards
+    (append_assoc ts (uses_on e taken_by p us) (taken_on e (acts_from (changed_world w p s.change) ps)) ∙ ap (λ as'. ts ++ acts_on e taken_by as') (sym s.acts))
+    (run_so (changed_world w p s.change) v ps e (ts ++ uses_on e taken_by p us) (omega (arith, lt, length-after_uses p us w.sessions)) s.afterwards
     (uses_so p us w.sessions e ts lt so (by_taking w.sessions e p s.program s.change r.want r.by_it)))
 
 -- ---- from the start

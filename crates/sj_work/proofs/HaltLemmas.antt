@@ -10,10 +10,11 @@ use Rattle.sj_semantics.specs.Program.{Program}
 use Rattle.sj_rules.specs.Node.{NodeAt}
 use Rattle.sj_rules.specs.Mapped.{frame_with, main_with, old_with}
 use Rattle.sj_rules.specs.Record.{MainAt, Held, Closed, Expected}
+use Rattle.sj_rules.specs.Halts.{is_expected}
 use Rattle.sj_node.specs.declared.node.Node.{Node}
 use Rattle.sj_node.specs.declared.refusal.Halt.{Halt}
 use Rattle.sj_node.specs.declared.refusal.Halt.TheVariants as halts
-use Rattle.sj_node.specs.Halts.{held_up, is_awaited, is_worn_out, lacks_message, names_awaited, stop_by, stop_wanting}
+use Rattle.sj_node.specs.Halts.{hold_up, is_worn_out, lacks_message, names_awaited, stop_by, stop_wanting}
 use Rattle.sj_node.specs.Node.{node_at, outbox_of, steps_of, stop_of, wants_of}
 use Rattle.sj_node.specs.Outs.{waiting_in}
 use Rattle.sj_node.specs.Play.{next_want}
@@ -26,7 +27,7 @@ use Rattle.sj_work.specs.Turns.{IsHalted}
 use Rattle.sj_work.specs.Views.{stop_at, stop_in}
 
 module _ {P R : Type 0} (f : P → R) where
-  awaited_with : (r : Option (MainAt P)) → is_awaited (option_map (main_with f) r) ≡ is_awaited r
+  awaited_with : (r : Option (MainAt P)) → is_expected (option_map (main_with f) r) ≡ is_expected r
   awaited_with None = refl
   awaited_with (Some (Held h)) = refl
   awaited_with (Some (Closed c)) = refl
@@ -52,7 +53,7 @@ module _ {P R : Type 0} (f : P → R) where
   named_with main (wants.Close e) = awaited_with (main e)
   named_with main wants.Ended = refl
 
-  up_with : (main : EndId → Option (MainAt P)) (want : Want) → held_up (λ e. option_map (main_with f) (main e)) want ≡ held_up main want
+  up_with : (main : EndId → Option (MainAt P)) (want : Want) → hold_up (λ e. option_map (main_with f) (main e)) want ≡ hold_up main want
   up_with main wants.Local = refl
   up_with main (wants.Send e m) = refl
   up_with main (wants.Delegate e y) = ap (λ b. if b then Some halts.AtLimit else None) (worn_with (main y))
@@ -88,7 +89,7 @@ if_halted : (b : Bool) (h : Halt) (o : Option Halt) → IsHalted (Some h) → (o
 if_halted true h o halted rest = inr halted
 if_halted false h o halted rest = rest
 
-up_halted : {P : Type 0} (main : EndId → Option (MainAt P)) (want : Want) → (held_up main want ≡ None) ⊎ IsHalted (held_up main want)
+up_halted : {P : Type 0} (main : EndId → Option (MainAt P)) (want : Want) → (hold_up main want ≡ None) ⊎ IsHalted (hold_up main want)
 up_halted main wants.Local = inl refl
 up_halted main (wants.Send e m) = inl refl
 up_halted main (wants.Delegate e y) = if_halted (is_worn_out (main y)) halts.AtLimit None tt (inl refl)
@@ -102,8 +103,8 @@ low_halted false o rest = inr tt
 
 wanting_halted : {P : Type 0} (main : EndId → Option (MainAt P)) (steps : ℕ) (want : Want) → (stop_wanting main steps want ≡ None) ⊎ IsHalted (stop_wanting main steps want)
 wanting_halted main steps want =
-    low_halted (nat_lt steps 10000) (if names_awaited main want then Some halts.Waits else held_up main want)
-    (if_halted (names_awaited main want) halts.Waits (held_up main want) tt (up_halted main want))
+    low_halted (nat_lt steps 10000) (if names_awaited main want then Some halts.Waits else hold_up main want)
+    (if_halted (names_awaited main want) halts.Waits (hold_up main want) tt (up_halted main want))
 
 by_halted : {P : Type 0} (main : EndId → Option (MainAt P)) (steps : ℕ) (want : Want) → (stop_by main steps want ≡ None) ⊎ IsHalted (stop_by main steps want)
 by_halted main steps wants.Local = wanting_halted main steps wants.Local

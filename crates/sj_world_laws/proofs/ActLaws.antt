@@ -6,7 +6,7 @@ use Rattle.sj_base.specs.declared.Msg.{Msg}
 use Rattle.sj_rules.specs.Acts.{plain_parked, plain_sent, plain_taken}
 use Rattle.sj_rules.specs.Record.{EndAt, BodyAt, Carry, Fin, HeldAt}
 use Rattle.sj_rules.specs.Seat.{held, parked, claimed, closed, gone, Side, side_of}
-use Rattle.sj_rules.specs.Node.{sent_on, taken_off}
+use Rattle.sj_rules.specs.Node.{held_behind_send, held_behind_take}
 use Rattle.sj_rules.specs.PlainSide.{PlainSide, untaken_of}
 use Rattle.sj_rules.specs.Numbers.{Pace, level}
 use Rattle.sj_rules.specs.Invariant.{IsSound}
@@ -17,13 +17,13 @@ module _ {P : Type 0} (IsOver : P → Type 0) (x y : PlainSide P) (s : Side P) (
   abbrev pub SendAtHeld : Type 0
   SendAtHeld = (pace : Pace) (b : ℕ) (h : HeldAt P) (ro rl : List (BodyAt P)) (msg : Msg) (after : P) → (IsOver x.place → ⊥) →
       IsSound IsOver pace x y s (side_of id place (held b h) ro rl) →
-      IsSound IsOver pace x (plain_sent y after msg) (with_more pace s (Carry s.id h.end.conn h.end.sent h.end.taken msg ∷ [])) (side_of id after (held b (sent_on h msg after)) ro rl)
+      IsSound IsOver pace x (plain_sent y after msg) (with_more pace s (Carry s.id h.end.conn h.end.sent h.end.taken msg ∷ [])) (side_of id after (held b (held_behind_send h msg after)) ro rl)
 
   -- the first untaken message is taken
   abbrev pub TakeAtHeld : Type 0
   TakeAtHeld = (pace : Pace) (b : ℕ) (h : HeldAt P) (ro rl : List (BodyAt P)) (m : Msg) (rest : List Msg) (after : P) → h.untaken ≡ m ∷ rest →
       IsSound IsOver pace x y s (side_of id place (held b h) ro rl) →
-      (later : List Msg) × (untaken_of x y ≡ m ∷ later) × IsSound IsOver pace x (plain_taken y after) s (side_of id after (held b (taken_off h rest after)) ro rl)
+      (later : List Msg) × (untaken_of x y ≡ m ∷ later) × IsSound IsOver pace x (plain_taken y after) s (side_of id after (held b (held_behind_take h rest after)) ro rl)
 
   -- the end is closed, where all is taken: it stays until the other end's Fin
   abbrev pub CloseAtHeld : Type 0

@@ -7,7 +7,7 @@ use Rattle.sj_base.specs.declared.EndId.{EndId}
 use Rattle.sj_base.specs.declared.Msg.{Msg}
 use Rattle.sj_rules.specs.Acts.{plain_parked, plain_sent, plain_taken}
 use Rattle.sj_rules.specs.Record.{EndAt, BodyAt, Carry, Fin, Mail, MainAt, HeldAt, Held, Closed, Parked, other_end, is_same_end}
-use Rattle.sj_rules.specs.Node.{NodeAt, with_main, with_old, sent_on, taken_off}
+use Rattle.sj_rules.specs.Node.{NodeAt, with_main, with_old, held_behind_send, held_behind_take}
 use Rattle.sj_rules.specs.World.{WorldAt}
 use Rattle.sj_rules.specs.Seat.{Seat, held, parked, closed, gone, Side, source_for, side_of}
 use Rattle.sj_rules.specs.Shown.{Shows, is_lane, goes_to}
@@ -116,31 +116,31 @@ module _ {P Q : Type 0} (IsOver : P → Type 0) (w : WorldAt P Q) (clock : ℕ) 
 
   -- a message is sent
   pub sends_on : SendAtHeld IsOver x y s id place → (msg : Msg) (next : P) → (IsOver x.place → ⊥) →
-      Outcome IsOver w (with_posts (with_tables w b clock (with_main id (Some (Held (sent_on h msg next))) m)) b clock (record { party = h.end.peer; body = Carry (other_end id) h.end.conn h.end.sent h.end.taken msg } ∷ []))
-      id pace x (plain_sent y next msg) (with_more pace s (Carry s.id h.end.conn h.end.sent h.end.taken msg ∷ [])) (side_of id next (held b (sent_on h msg next)) old live)
+      Outcome IsOver w (with_posts (with_tables w b clock (with_main id (Some (Held (held_behind_send h msg next))) m)) b clock (record { party = h.end.peer; body = Carry (other_end id) h.end.conn h.end.sent h.end.taken msg } ∷ []))
+      id pace x (plain_sent y next msg) (with_more pace s (Carry s.id h.end.conn h.end.sent h.end.taken msg ∷ [])) (side_of id next (held b (held_behind_send h msg next)) old live)
   sends_on law msg next never =
-      let n : NodeAt P Q = with_main id (Some (Held (sent_on h msg next))) m in
+      let n : NodeAt P Q = with_main id (Some (Held (held_behind_send h msg next))) m in
       let body : EndId → BodyAt P = λ d. Carry d h.end.conn h.end.sent h.end.taken msg in
       let posts : List (Mail P) = record { party = h.end.peer; body = body (other_end id) } ∷ [] in
-      let own : OwnTables id (w.nodes b) n = own_held (Some (Held (sent_on h msg next))) in
-      acted IsOver w b clock n posts id low own (refl, tt) (omega arith, tt) pace x (plain_sent y next msg) (with_more pace s (body s.id ∷ [])) (side_of id next (held b (sent_on h msg next)) old live) refl name_is
+      let own : OwnTables id (w.nodes b) n = own_held (Some (Held (held_behind_send h msg next))) in
+      acted IsOver w b clock n posts id low own (refl, tt) (omega arith, tt) pace x (plain_sent y next msg) (with_more pace s (body s.id ∷ [])) (side_of id next (held b (held_behind_send h msg next)) old live) refl name_is
       (law pace b h old live msg next never sound)
-      (posts_apart (with_tables w b clock n) b clock posts s.seat (side_of id next (held b (sent_on h msg next)) old live) (other_not id low, tt) (held_turns (sent_on h msg next) next refl))
-      (subst (λ d. Shows (with_posts (with_tables w b clock n) b clock (record { party = h.end.peer; body = body d } ∷ [])) (held b (sent_on h msg next)) (with_more pace s (body s.id ∷ []))) name_is
-      (shown_beside _ (held b h) (held b (sent_on h msg next)) (with_more pace s (body s.id ∷ [])) refl
-      (sent_one (held b h) (Some (Held (sent_on h msg next))) (body s.id) (λ c. rw (same_end s.id) refl) tt (other_tabled IsOver w b clock n posts id low own (held b h) s name_is shown))))
+      (posts_apart (with_tables w b clock n) b clock posts s.seat (side_of id next (held b (held_behind_send h msg next)) old live) (other_not id low, tt) (held_turns (held_behind_send h msg next) next refl))
+      (subst (λ d. Shows (with_posts (with_tables w b clock n) b clock (record { party = h.end.peer; body = body d } ∷ [])) (held b (held_behind_send h msg next)) (with_more pace s (body s.id ∷ []))) name_is
+      (shown_beside _ (held b h) (held b (held_behind_send h msg next)) (with_more pace s (body s.id ∷ [])) refl
+      (sent_one (held b h) (Some (Held (held_behind_send h msg next))) (body s.id) (λ c. rw (same_end s.id) refl) tt (other_tabled IsOver w b clock n posts id low own (held b h) s name_is shown))))
 
   -- a message is taken
   pub takes_off : (msg : Msg) (rest : List Msg) (next : P) → h.untaken ≡ msg ∷ rest →
-      IsSound IsOver pace x (plain_taken y next) s (side_of id next (held b (taken_off h rest next)) old live) →
-      Outcome IsOver w (with_tables w b clock (with_main id (Some (Held (taken_off h rest next))) m))
-      id pace x (plain_taken y next) s (side_of id next (held b (taken_off h rest next)) old live)
+      IsSound IsOver pace x (plain_taken y next) s (side_of id next (held b (held_behind_take h rest next)) old live) →
+      Outcome IsOver w (with_tables w b clock (with_main id (Some (Held (held_behind_take h rest next))) m))
+      id pace x (plain_taken y next) s (side_of id next (held b (held_behind_take h rest next)) old live)
   takes_off msg rest next waits sound1 =
-      let n : NodeAt P Q = with_main id (Some (Held (taken_off h rest next))) m in
-      let own : OwnTables id (w.nodes b) n = own_held (Some (Held (taken_off h rest next))) in
-      tables_acted IsOver w b clock n [] id low own pace x (plain_taken y next) s (side_of id next (held b (taken_off h rest next)) old live) refl name_is sound1
-      (held_turns (taken_off h rest next) next refl)
-      (shown_beside _ (held b h) (held b (taken_off h rest next)) s refl (other_tabled IsOver w b clock n [] id low own (held b h) s name_is shown))
+      let n : NodeAt P Q = with_main id (Some (Held (held_behind_take h rest next))) m in
+      let own : OwnTables id (w.nodes b) n = own_held (Some (Held (held_behind_take h rest next))) in
+      tables_acted IsOver w b clock n [] id low own pace x (plain_taken y next) s (side_of id next (held b (held_behind_take h rest next)) old live) refl name_is sound1
+      (held_turns (held_behind_take h rest next) next refl)
+      (shown_beside _ (held b h) (held b (held_behind_take h rest next)) s refl (other_tabled IsOver w b clock n [] id low own (held b h) s name_is shown))
 
   -- the end is closed
   pub closes : IsSound IsOver pace x y (with_more pace s (Fin s.id h.end.conn h.end.sent ∷ [])) (side_of id place (closed b h.end) old live) →

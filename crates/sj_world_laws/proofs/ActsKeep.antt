@@ -4,7 +4,7 @@ use Rattle.std.specs.Prelude.{Bool, false, Some}
 use Rattle.sj_base.specs.declared.EndId.{EndId}
 use Rattle.sj_base.specs.declared.Msg.{Msg}
 use Rattle.sj_base.specs.declared.Msg.TheVariants as msgs
-use Rattle.sj_rules.specs.PlainChanges.{CountsHold, hopped, waits_of}
+use Rattle.sj_rules.specs.PlainChanges.{CountsHold, plain_with_hop, waits_of}
 use Rattle.sj_rules.specs.PlainSteps.{NamesEnds, PlainGives, PlainTakes}
 use Rattle.sj_rules.specs.Record.{HeldAt, Held, other_end}
 use Rattle.sj_rules.specs.Node.{Play, Want, ended, local, sends, delegates, takes, closes}
@@ -60,7 +60,7 @@ module _ {P Q : Type 0} (IsOver : P → Type 0) (binds : Q → EndId → Bool) (
     keeps_for local e low n g = local_keeps IsOver binds play pick w plain plain' kept p fresh e g
     keeps_for (sends c msg) e low n g = send_keeps IsOver binds play pick w plain plain' kept p fresh c msg g.0 n.0 (laws_at plain counts c low) counts e n.1 g.1
     keeps_for (delegates c d) e low n g =
-        delegate_keeps IsOver binds play pick w plain plain' kept p fresh c d g.0 n.0 n.1 e n.2 n.3 counts g.1 (laws_at plain counts d low.1) (laws_at (hopped plain d) g.1.counts c low.0)
+        delegate_keeps IsOver binds play pick w plain plain' kept p fresh c d g.0 n.0 n.1 e n.2 n.3 counts g.1 (laws_at plain counts d low.1) (laws_at (plain_with_hop plain d) g.1.counts c low.0)
     keeps_for (takes c place) e low n g =
         let f : (later : List Msg) × (waits_of plain c ≡ n.1 ∷ later) = first_waits c n.0 n.1 n.2 low n.3 n.4 in
         let same : g.0 ≡ n.1 = cc (g.2, f.1) in

@@ -5,7 +5,7 @@ use Rattle.std.proofs.lemmas.Bool.{le-leb, eq-eqb}
 use Rattle.sj_base.specs.declared.EndId.{EndId}
 use Rattle.sj_rules.specs.Record.{EndAt, BodyAt, Carry, Fin, Claim, Signal, Ack, Give}
 use Rattle.sj_rules.specs.Limits.{limit_of_conns}
-use Rattle.sj_rules.specs.Rows.{IsPick, trimmed, handed_on, signal_fits, crossed, acked}
+use Rattle.sj_rules.specs.Rows.{IsPick, trimmed_end, end_with_peer, signal_fits, crossing_body, acked_body}
 use Rattle.sj_rules.specs.Seat.{Seat, held, parked, claimed, signalled, given, closed, gone, conn_of, sender_of, side_of}
 use Rattle.sj_rules.specs.PlainSide.{PlainSide, untaken_of, CountsFit}
 use Rattle.sj_rules.specs.Counts.{Agrees, SeatFits}
@@ -158,10 +158,10 @@ module _ {P : Type 0} (IsOver : P → Type 0) (x y : PlainSide P) (counts : Coun
   -- the Ack of r: r goes as a Give, and the two ends are level
   pub acks : (sid rid : EndId) (ps pr : P) (s : Seat P) (b u : ℕ) (er : EndAt P) (dr so sl rl rest : List (BodyAt P)) (d : EndId) (c : ℕ) →
       IsSound IsOver (ahead by_ack) x y (side_of sid ps s so sl) (side_of rid pr (signalled b u er dr) (Ack d c ∷ rest) rl) →
-      (acked er er.peer c ≡ Some (Give (handed_on er er.peer) None))
-      × IsSound IsOver level x y (side_of sid ps s so sl) (side_of rid pr (given b u (handed_on er er.peer) None dr) rest rl)
+      (acked_body er er.peer c ≡ Some (Give (end_with_peer er er.peer) None))
+      × IsSound IsOver level x y (side_of sid ps s so sl) (side_of rid pr (given b u (end_with_peer er er.peer) None dr) rest rl)
   acks sid rid ps pr s b u er dr so sl rl rest d c sound =
-      let went : EndAt P = handed_on er er.peer in
+      let went : EndAt P = end_with_peer er er.peer in
       let only : OnlyAck er.conn c rest = only_ack rid er.conn (is_over s) d c rest sound.there.old in
       let leads : LeadsBy by_ack s (signalled b u er dr) = ahead_numbers by_ack s b u er dr sound.numbers in
       let fits : Agrees rid er y × (er.place ≡ y.place) × (er.base ≤ x.taken) = sound.there.fits in
@@ -197,11 +197,11 @@ module _ {P : Type 0} (IsOver : P → Type 0) (pick : ℕ → ℕ → ℕ) (pick
   -- the second of two Signals that cross: r goes as a Give too, and the two ends are level
   pub crosses_second : (sid rid : EndId) (ps pr : P) (s : Seat P) (b u : ℕ) (er : EndAt P) (dr so sl rl rest : List (BodyAt P)) (d : EndId) (c p k : ℕ) →
       IsSound IsOver (ahead by_signal) x y (side_of sid ps s so sl) (side_of rid pr (signalled b u er dr) (Signal d c p k ∷ rest) rl) →
-      (crossed pick er er.peer c p k ≡ Some (Give (trimmed pick (handed_on er p) k) (Some k)))
+      (crossing_body pick er er.peer c p k ≡ Some (Give (trimmed_end pick (end_with_peer er p) k) (Some k)))
       × IsSound IsOver level x y (side_of sid ps s so sl)
-      (side_of rid pr (given b u (trimmed pick (handed_on er p) k) (Some k) dr) rest rl)
+      (side_of rid pr (given b u (trimmed_end pick (end_with_peer er p) k) (Some k) dr) rest rl)
   crosses_second sid rid ps pr s b u er dr so sl rl rest d c p k sound =
-      let went : EndAt P = trimmed pick (handed_on er p) k in
+      let went : EndAt P = trimmed_end pick (end_with_peer er p) k in
       let only : OnlySignal rid er.conn (sender_of s) x.taken c p k rest = only_signal rid er.conn (sender_of s) x.taken (is_over s) d c p k rest sound.there.old in
       let leads : LeadsBy by_signal s (signalled b u er dr) = ahead_numbers by_signal s b u er dr sound.numbers in
       let fits : Agrees rid er y × (er.place ≡ y.place) × (er.base ≤ x.taken) = sound.there.fits in

@@ -3,7 +3,7 @@ use Rattle.std.specs.Prelude.{◌≡◌, ◌<◌, ◌≤◌, ℕ, true, false, L
 use Rattle.sj_base.specs.declared.EndId.{EndId}
 use Rattle.sj_base.specs.declared.Msg.{Msg}
 use Rattle.sj_rules.specs.Record.{EndAt, BodyAt, HeldAt}
-use Rattle.sj_rules.specs.Node.{sent_on, taken_off}
+use Rattle.sj_rules.specs.Node.{held_behind_send, held_behind_take}
 use Rattle.sj_rules.specs.Seat.{Seat, held, parked, claimed, signalled, closed, gone, side_of}
 use Rattle.sj_rules.specs.PlainSide.{PlainSide, untaken_of}
 use Rattle.sj_rules.specs.Acts.{plain_sent, plain_taken, plain_parked, parked_end, carry_of, fin_of, signal_to}
@@ -24,7 +24,7 @@ module _ {P : Type 0} (IsOver : P → Type 0) (pace : Pace) (x y : PlainSide P) 
       IsSound IsOver pace x y (side_of sid ps s so sl) (side_of rid pr (held a h) ro rl) →
       IsSound IsOver pace x (plain_sent y place m)
       (side_of sid ps s (old_after (turned pace) s so (carry_of sid h.end m)) (live_after (turned pace) s sl (carry_of sid h.end m)))
-      (side_of rid place (held a (sent_on h m place)) ro rl)
+      (side_of rid place (held a (held_behind_send h m place)) ro rl)
   sends_back a h m place goes_on few sound =
       otherwise IsOver pace pace x y x (plain_sent y place m) (side_of sid ps s so sl) (side_of rid pr (held a h) ro rl) _ _ low refl
       (λ k. sends IsOver (turned pace) y x rid sid pr ps a h s ro rl so sl m place goes_on few k) sound
@@ -32,7 +32,7 @@ module _ {P : Type 0} (IsOver : P → Type 0) (pace : Pace) (x y : PlainSide P) 
   -- r takes its first untaken message
   pub takes_back : (a : ℕ) (h : HeldAt P) (m : Msg) (rest : List Msg) (place : P) → h.untaken ≡ m ∷ rest →
       IsSound IsOver pace x y (side_of sid ps s so sl) (side_of rid pr (held a h) ro rl) →
-      IsSound IsOver pace x (plain_taken y place) (side_of sid ps s so sl) (side_of rid place (held a (taken_off h rest place)) ro rl)
+      IsSound IsOver pace x (plain_taken y place) (side_of sid ps s so sl) (side_of rid place (held a (held_behind_take h rest place)) ro rl)
   takes_back a h m rest place front sound =
       otherwise IsOver pace pace x y x (plain_taken y place) (side_of sid ps s so sl) (side_of rid pr (held a h) ro rl) _ _ low refl
       (λ k. takes IsOver (turned pace) y x rid sid pr ps a h s ro rl so sl m rest place front k) sound

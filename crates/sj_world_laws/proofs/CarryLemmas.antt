@@ -5,7 +5,7 @@ use Rattle.std.proofs.lemmas.Bool.{le-leb, eq-eqb}
 use Rattle.sj_base.specs.declared.EndId.{EndId}
 use Rattle.sj_base.specs.declared.Msg.{Msg}
 use Rattle.sj_rules.specs.Record.{BodyAt, Carry, HeldAt}
-use Rattle.sj_rules.specs.Rows.{IsPick, at_held, trimmed}
+use Rattle.sj_rules.specs.Rows.{IsPick, at_held, trimmed_end}
 use Rattle.sj_rules.specs.Seat.{Seat, held, parked, claimed, signalled, given, closed, gone}
 use Rattle.sj_rules.specs.PlainSide.{PlainSide, untaken_of}
 use Rattle.sj_rules.specs.Counts.{Agrees}
@@ -78,7 +78,7 @@ pub first_carry : {P : Type 0} → (to : EndId) (conn number low : ℕ) (x : Pla
 first_carry to conn number low x s msgs d c n t m rest w = first_in to conn number low x s msgs d c n t m rest w.carries w.split w.are
 
 abbrev pub carried : {P : Type 0} → (ℕ → ℕ → ℕ) → HeldAt P → (told : ℕ) → Msg → HeldAt P
-carried pick h told msg = record { end = trimmed pick h.end told; untaken = h.untaken ++ msg ∷ []; fin = h.fin }
+carried pick h told msg = record { end = trimmed_end pick h.end told; untaken = h.untaken ++ msg ∷ []; fin = h.fin }
 
 -- its row, where the Carry is the next one
 carry_fits : {P : Type 0} → (pick : ℕ → ℕ → ℕ) (h : HeldAt P) (d : EndId) (c n t : ℕ) (m : Msg) →

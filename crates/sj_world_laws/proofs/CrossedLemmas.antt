@@ -4,7 +4,7 @@ use Rattle.std.specs.Prelude.{Bool, true, false, ⊤, Some, None}
 use Rattle.std.proofs.lemmas.Bool.{eq-eqb}
 use Rattle.sj_base.specs.declared.EndId.{EndId}
 use Rattle.sj_rules.specs.Record.{EndAt, BodyAt, Carry, Fin, Claim, Signal, Ack, Give, Signalled}
-use Rattle.sj_rules.specs.Rows.{crossed, acked, trimmed, handed_on}
+use Rattle.sj_rules.specs.Rows.{crossing_body, acked_body, trimmed_end, end_with_peer}
 use Rattle.sj_rules.specs.Node.{Play}
 use Rattle.sj_rules.specs.Frames.{FrameAt}
 use Rattle.sj_rules.specs.World.{WorldAt}
@@ -79,12 +79,12 @@ module _ {P Q : Type 0} (IsOver : P → Type 0) (play : Play P Q) (pick : ℕ �
       SoundWith IsOver pick x y s id place pace (signalled b u e ds) (Signal id e.conn p k ∷ left) live →
       Delivered IsOver play pick w e.peer b id x y s.seat (signalled b u e ds)
   signal_at_old p k law front shows sound =
-      let l : (pace' : Pace) × (left ≡ []) × (crossed pick e e.peer e.conn p k ≡ Some (Give (trimmed pick (handed_on e p) k) (Some k))) × SoundWith IsOver pick x y s id place pace' (given b u (trimmed pick (handed_on e p) k) (Some k) ds) [] live =
+      let l : (pace' : Pace) × (left ≡ []) × (crossing_body pick e e.peer e.conn p k ≡ Some (Give (trimmed_end pick (end_with_peer e p) k) (Some k))) × SoundWith IsOver pick x y s id place pace' (given b u (trimmed_end pick (end_with_peer e p) k) (Some k) ds) [] live =
       law pace b u e ds left live e.conn p k sound in
       let bare : (s.live ≡ []) × (deferred_of s.seat ≡ []) = bare_beside pace s.id id x y b u e ds s.seat s.live (Signal id e.conn p k) left tt sound.back.comes sound.there.old in
       let old_here : (w.nodes b).old id ≡ Some (Signalled e u) = shows.olds b ∙ rw (eq-eqb b b refl) refl in
       goes_as_give IsOver play pick w (record { clock = clock; body = Signal id e.conn p k }) rest id low refl x y s place left live pace b u e ds front tt refl shows shown sound
-      (trimmed pick (handed_on e p) k) (Some k) l.0 l.1 sound.there.fits.0.name refl (there_beside pace s.seat (signalled b u e ds) sound.numbers refl) bare.0 bare.1
+      (trimmed_end pick (end_with_peer e p) k) (Some k) l.0 l.1 sound.there.fits.0.name refl (there_beside pace s.seat (signalled b u e ds) sound.numbers refl) bare.0 bare.1
       (rw (old_here, eq-eqb e.conn e.conn refl, l.2) refl) l.3
 
   -- the Ack
@@ -94,10 +94,10 @@ module _ {P Q : Type 0} (IsOver : P → Type 0) (play : Play P Q) (pick : ℕ �
       SoundWith IsOver pick x y s id place pace (signalled b u e ds) (Ack id e.conn ∷ left) live →
       Delivered IsOver play pick w e.peer b id x y s.seat (signalled b u e ds)
   ack_at_old law front shows sound =
-      let l : (pace' : Pace) × (left ≡ []) × (acked e e.peer e.conn ≡ Some (Give (handed_on e e.peer) None)) × SoundWith IsOver pick x y s id place pace' (given b u (handed_on e e.peer) None ds) [] live =
+      let l : (pace' : Pace) × (left ≡ []) × (acked_body e e.peer e.conn ≡ Some (Give (end_with_peer e e.peer) None)) × SoundWith IsOver pick x y s id place pace' (given b u (end_with_peer e e.peer) None ds) [] live =
       law pace b u e ds left live e.conn sound in
       let bare : (s.live ≡ []) × (deferred_of s.seat ≡ []) = bare_beside pace s.id id x y b u e ds s.seat s.live (Ack id e.conn) left tt sound.back.comes sound.there.old in
       let old_here : (w.nodes b).old id ≡ Some (Signalled e u) = shows.olds b ∙ rw (eq-eqb b b refl) refl in
       goes_as_give IsOver play pick w (record { clock = clock; body = Ack id e.conn }) rest id low refl x y s place left live pace b u e ds front tt refl shows shown sound
-      (handed_on e e.peer) None l.0 l.1 sound.there.fits.0.name refl (there_beside pace s.seat (signalled b u e ds) sound.numbers refl) bare.0 bare.1
+      (end_with_peer e e.peer) None l.0 l.1 sound.there.fits.0.name refl (there_beside pace s.seat (signalled b u e ds) sound.numbers refl) bare.0 bare.1
       (rw (old_here, eq-eqb e.conn e.conn refl, l.2) refl) l.3

@@ -6,7 +6,7 @@ use Rattle.std.proofs.lemmas.List.{drop-drop}
 use Rattle.sj_base.specs.declared.EndId.{EndId}
 use Rattle.sj_rules.specs.Record.{EndAt, BodyAt, Carry, Fin, Claim, Signal, Ack, Give}
 use Rattle.sj_rules.specs.Limits.{limit_of_conns}
-use Rattle.sj_rules.specs.Rows.{IsPick, trimmed, handed_on, signal_fits, crossed}
+use Rattle.sj_rules.specs.Rows.{IsPick, trimmed_end, end_with_peer, signal_fits, crossing_body}
 use Rattle.sj_rules.specs.Seat.{signalled, given, side_of}
 use Rattle.sj_rules.specs.PlainSide.{PlainSide, CountsFit}
 use Rattle.sj_rules.specs.Counts.{Agrees}
@@ -38,7 +38,7 @@ only_signal to conn party taken over d c p k rest l = only_in to conn party take
 
 -- a trimmed cache is still what was sent from its base on
 pub trim_agrees : {P : Type 0} → (pick : ℕ → ℕ → ℕ) → IsPick pick → (id : EndId) (e : EndAt P) (y : PlainSide P) (peer told : ℕ) →
-    Agrees id e y → Agrees id (trimmed pick (handed_on e peer) told) y
+    Agrees id e y → Agrees id (trimmed_end pick (end_with_peer e peer) told) y
 trim_agrees pick picks id e y peer told a =
     let up : e.base ≤ pick e.base told = (picks e.base told).0 in
     let sum : e.base + (pick e.base told - e.base) ≡ pick e.base told = omega arith in
@@ -65,9 +65,9 @@ module _ {P : Type 0} (IsOver : P → Type 0) (pick : ℕ → ℕ → ℕ) (pick
   -- the first of two Signals that cross: r goes as a Give, and is ahead of s, whom its own Signal will tell
   pub crosses_first : (sid rid : EndId) (ps pr : P) (a t b u : ℕ) (es er : EndAt P) (ds dr so sl rl rest : List (BodyAt P)) (d : EndId) (c p k : ℕ) →
       IsSound IsOver level x y (side_of sid ps (signalled a t es ds) so sl) (side_of rid pr (signalled b u er dr) (Signal d c p k ∷ rest) rl) →
-      (crossed pick er er.peer c p k ≡ Some (Give (trimmed pick (handed_on er p) k) (Some k)))
+      (crossing_body pick er er.peer c p k ≡ Some (Give (trimmed_end pick (end_with_peer er p) k) (Some k)))
       × IsSound IsOver (behind by_signal) x y (side_of sid ps (signalled a t es ds) so sl)
-      (side_of rid pr (given b u (trimmed pick (handed_on er p) k) (Some k) dr) rest rl)
+      (side_of rid pr (given b u (trimmed_end pick (end_with_peer er p) k) (Some k) dr) rest rl)
   crosses_first sid rid ps pr a t b u es er ds dr so sl rl rest d c p k sound =
       let only : OnlySignal rid er.conn t x.taken c p k rest = only_signal rid er.conn t x.taken false d c p k rest sound.there.old in
       let fits : Agrees rid er y × (er.place ≡ y.place) × (er.base ≤ x.taken) = sound.there.fits in

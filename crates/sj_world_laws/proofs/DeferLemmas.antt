@@ -8,13 +8,14 @@ use Rattle.sj_base.specs.declared.Msg.{Msg}
 use Rattle.sj_rules.specs.Record.{EndAt, BodyAt, Carry, Fin, Signal, Expected, Signalled}
 use Rattle.sj_rules.specs.Node.{NodeAt, comes, quietly, with_main, with_number}
 use Rattle.sj_rules.specs.Seat.{Seat, signalled, given, closed, gone, source_for, side_of}
-use Rattle.sj_rules.specs.Shown.{mailed_from, old_shown}
+use Rattle.sj_rules.specs.Shown.{old_shown}
 use Rattle.sj_rules.specs.PlainSide.{PlainSide, untaken_of}
 use Rattle.sj_rules.specs.Numbers.{Pace, level, ahead, behind, Cause, by_ack, by_signal, NumbersFit}
 use Rattle.sj_rules.specs.Streams.{AreCarries, ComesWhole, mark_of}
 use Rattle.sj_rules.specs.Invariant.{IsSound}
 use Rattle.sj_rules.specs.Coming.{Comes, AreOld, comes_low}
 use Rattle.sj_rules.specs.Counts.{ResendFits}
+use Rattle.sj_rules.specs.Worked.{mails_of}
 use Rattle.sj_world_laws.proofs.LeadLemmas.{behind_is_signalled}
 
 -- a frame that may be deferred, of that number
@@ -59,8 +60,8 @@ under_at to conn (b ∷ bs) f rest u = under_at to conn bs f rest u.1
 
 -- the row
 defer_row : {P Q : Type 0} → (pick : ℕ → ℕ → ℕ) (node : NodeAt P Q) (id : EndId) (conn keeper from : ℕ) (place : P) (late : List (BodyAt P)) (f : BodyAt P) →
-    with_number conn (node.old id) ≡ None → node.main id ≡ Some (Expected keeper place (mailed_from from late)) → IsUnder id conn f →
-    comes pick node from f ≡ Some (quietly (with_main id (Some (Expected keeper place (mailed_from from (late ++ f ∷ [])))) node))
+    with_number conn (node.old id) ≡ None → node.main id ≡ Some (Expected keeper place (mails_of from late)) → IsUnder id conn f →
+    comes pick node from f ≡ Some (quietly (with_main id (Some (Expected keeper place (mails_of from (late ++ f ∷ [])))) node))
 defer_row pick node id conn keeper from place late (Carry d c n t m) old main u = rw (u.0, u.1, old, main, map-append)
 defer_row pick node id conn keeper from place late (Fin d c n) old main u = rw (u.0, u.1, old, main, map-append)
 defer_row pick node id conn keeper from place late (Signal d c p k) old main u = rw (u.0, u.1, old, main, map-append)
@@ -100,10 +101,10 @@ module _ {P Q : Type 0} (IsOver : P → Type 0) (pick : ℕ → ℕ → ℕ) (no
 
   -- at a taker whose keeper is behind: s is ahead already
   pub defers_signalled : (pace : Pace) (ro rest : List (BodyAt P)) →
-      node.old rid ≡ old_shown (signalled b u er dr) u → node.main rid ≡ Some (Expected b pr (mailed_from (source_for s (signalled b u er dr)) dr)) →
+      node.old rid ≡ old_shown (signalled b u er dr) u → node.main rid ≡ Some (Expected b pr (mails_of (source_for s (signalled b u er dr)) dr)) →
       IsSound IsOver pace x y (side_of sid ps s so sl) (side_of rid pr (signalled b u er dr) ro (f ∷ rest)) →
       (comes pick node (source_for s (signalled b u er dr)) f ≡
-      Some (quietly (with_main rid (Some (Expected b pr (mailed_from (source_for s (signalled b u er dr)) (dr ++ f ∷ [])))) node)))
+      Some (quietly (with_main rid (Some (Expected b pr (mails_of (source_for s (signalled b u er dr)) (dr ++ f ∷ [])))) node)))
       × IsSound IsOver pace x y (side_of sid ps s so sl) (side_of rid pr (signalled b u er (dr ++ f ∷ [])) ro rest)
   defers_signalled (ahead z) ro rest old main sound =
       let m : IsUnder rid (er.conn + 1) f × Comes (ahead z) rid x y s (signalled b u er (dr ++ f ∷ [])) rest = more_to_signalled z s rest sound.numbers sound.there.comes in (
@@ -160,10 +161,10 @@ module _ {P Q : Type 0} (IsOver : P → Type 0) (pick : ℕ → ℕ → ℕ) (no
 
   -- at one whose Give is on the way
   pub defers_given : (pace : Pace) (q : Option ℕ) (ro rest : List (BodyAt P)) →
-      node.old rid ≡ None → node.main rid ≡ Some (Expected b pr (mailed_from (source_for s (given b u er q dr)) dr)) →
+      node.old rid ≡ None → node.main rid ≡ Some (Expected b pr (mails_of (source_for s (given b u er q dr)) dr)) →
       IsSound IsOver pace x y (side_of sid ps s so sl) (side_of rid pr (given b u er q dr) ro (f ∷ rest)) →
       (comes pick node (source_for s (given b u er q dr)) f ≡
-      Some (quietly (with_main rid (Some (Expected b pr (mailed_from (source_for s (given b u er q dr)) (dr ++ f ∷ [])))) node)))
+      Some (quietly (with_main rid (Some (Expected b pr (mails_of (source_for s (given b u er q dr)) (dr ++ f ∷ [])))) node)))
       × IsSound IsOver pace x y (side_of sid ps s so sl) (side_of rid pr (given b u er q (dr ++ f ∷ [])) ro rest)
   defers_given level q ro rest old main sound =
       let m : IsUnder rid er.conn f × Comes level rid x y s (given b u er q (dr ++ f ∷ [])) rest = more_to_given q s rest sound.numbers sound.there.comes in (

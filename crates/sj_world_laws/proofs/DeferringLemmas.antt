@@ -8,10 +8,11 @@ use Rattle.sj_rules.specs.Node.{Play, comes, with_main, quietly}
 use Rattle.sj_rules.specs.Frames.{FrameAt}
 use Rattle.sj_rules.specs.World.{WorldAt}
 use Rattle.sj_rules.specs.Seat.{signalled, given, Side, source_for, side_of}
-use Rattle.sj_rules.specs.Shown.{Shows, old_in, is_lane, mailed_from}
+use Rattle.sj_rules.specs.Shown.{Shows, old_in, is_lane}
 use Rattle.sj_rules.specs.PlainSide.{PlainSide}
 use Rattle.sj_rules.specs.Numbers.{Pace}
 use Rattle.sj_rules.specs.Linked.{subject_of}
+use Rattle.sj_rules.specs.Worked.{mails_of}
 use Rattle.sj_world_laws.proofs.TableLemmas.{turned_shows}
 use Rattle.sj_world_laws.proofs.PopLemmas.{popped, popped_live, IsStream, GoesUnder}
 use Rattle.sj_world_laws.proofs.SessionLaws.{IsDeferrable, SoundWith, DefersAtSignalled, DefersAtGiven}
@@ -32,9 +33,9 @@ module _ {P Q : Type 0} (IsOver : P → Type 0) (play : Play P Q) (pick : ℕ �
       let l : IsDeferrable f.body × SoundWith IsOver pick x y s id place pace (signalled b u e (ds ++ f.body ∷ [])) old left = law pace b u e ds old left f.body sound in
       let src : ℕ = source_for s.seat (signalled b u e ds) in
       let from : source_for s.seat (signalled b u e (ds ++ f.body ∷ [])) ≡ source_for s.seat (signalled b u e ds) = same_source s.seat (signalled b u e (ds ++ f.body ∷ [])) (signalled b u e ds) refl in
-      let main : (w.nodes u).main id ≡ Some (Expected b place (mailed_from src ds)) = shows.mains u ∙ rw (eq-eqb u u refl) refl in
+      let main : (w.nodes u).main id ≡ Some (Expected b place (mails_of src ds)) = shows.mains u ∙ rw (eq-eqb u u refl) refl in
       let old_is : (w.nodes u).old id ≡ (if u == b then Some (Signalled e u) else None) = shows.olds u in
-      let entry : Option (MainAt P) = Some (Expected b place (mailed_from src ds ++ record { party = src; body = f.body } ∷ [])) in
+      let entry : Option (MainAt P) = Some (Expected b place (mails_of src ds ++ record { party = src; body = f.body } ∷ [])) in
       let row : comes pick (w.nodes u) src f.body ≡ Some (quietly (with_main id entry (w.nodes u))) =
       comes_to_main pick (w.nodes u) src f.body l.0 (rw (about, old_is, number) (none_of_next e u (u == b))) ∙ rw (about, main) refl in
       let stream : IsStream f.body = deferrable_stream f.body l.0 in
@@ -58,9 +59,9 @@ module _ {P Q : Type 0} (IsOver : P → Type 0) (play : Play P Q) (pick : ℕ �
       let l : IsDeferrable f.body × SoundWith IsOver pick x y s id place pace (given b u e resend (ds ++ f.body ∷ [])) old left = law pace b u e resend ds old left f.body sound in
       let src : ℕ = source_for s.seat (given b u e resend ds) in
       let from : source_for s.seat (given b u e resend (ds ++ f.body ∷ [])) ≡ source_for s.seat (given b u e resend ds) = same_source s.seat (given b u e resend (ds ++ f.body ∷ [])) (given b u e resend ds) refl in
-      let main : (w.nodes u).main id ≡ Some (Expected b place (mailed_from src ds)) = shows.mains u ∙ rw (eq-eqb u u refl) refl in
+      let main : (w.nodes u).main id ≡ Some (Expected b place (mails_of src ds)) = shows.mains u ∙ rw (eq-eqb u u refl) refl in
       let old_is : (w.nodes u).old id ≡ None = shows.olds u in
-      let entry : Option (MainAt P) = Some (Expected b place (mailed_from src ds ++ record { party = src; body = f.body } ∷ [])) in
+      let entry : Option (MainAt P) = Some (Expected b place (mails_of src ds ++ record { party = src; body = f.body } ∷ [])) in
       let row : comes pick (w.nodes u) src f.body ≡ Some (quietly (with_main id entry (w.nodes u))) =
       comes_to_main pick (w.nodes u) src f.body l.0 (rw (about, old_is) refl) ∙ rw (about, main) refl in
       let stream : IsStream f.body = deferrable_stream f.body l.0 in

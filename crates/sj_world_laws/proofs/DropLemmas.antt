@@ -11,7 +11,7 @@ use Rattle.sj_rules.specs.Linked.{subject_of}
 use Rattle.sj_rules.specs.Numbers.{Pace, level, ahead, behind, by_ack, by_signal, NumbersFit, is_over}
 use Rattle.sj_rules.specs.Streams.{AreDropped, ComesLoose, signal_of}
 use Rattle.sj_rules.specs.Invariant.{IsSound}
-use Rattle.sj_rules.specs.Coming.{Comes, AreOld, explained}
+use Rattle.sj_rules.specs.Coming.{Comes, AreOld, explanation}
 use Rattle.sj_world_laws.proofs.LeadLemmas.{behind_is_signalled, with_live}
 
 -- a Carry or a Fin
@@ -132,7 +132,7 @@ module _ {P Q : Type 0} (IsOver : P → Type 0) (pick : ℕ → ℕ → ℕ) (n 
   drops_claimed (behind c) u ro rest old sound = absurd (cc sound.there.comes.0)
 
   -- what explains where s stands is no Carry or Fin
-  explained_not_plain : (pace : Pace) (t : Seat P) → IsNotPlain (explained pace rid e.conn x t)
+  explained_not_plain : (pace : Pace) (t : Seat P) → IsNotPlain (explanation pace rid e.conn x t)
   explained_not_plain level gone = tt
   explained_not_plain level t = tt
   explained_not_plain (ahead by_ack) t = tt
@@ -144,12 +144,12 @@ module _ {P Q : Type 0} (IsOver : P → Type 0) (pick : ℕ → ℕ → ℕ) (n 
       (subject_of f ≡ rid) × (conn_under f ≡ e.conn) × AreOld pace rid x s (signalled b u e dr) rest
   first_of_old (behind c) u dr rest o = absurd (cc o)
   first_of_old level u dr rest o =
-      let d : FirstDropped rid e.conn (is_over s) (explained level rid e.conn x s) f rest =
-      first_dropped rid e.conn (is_over s) (explained level rid e.conn x s) f rest plain (explained_not_plain level s) o in
+      let d : FirstDropped rid e.conn (is_over s) (explanation level rid e.conn x s) f rest =
+      first_dropped rid e.conn (is_over s) (explanation level rid e.conn x s) f rest plain (explained_not_plain level s) o in
       (d.to_is, d.conn_is, d.comes)
   first_of_old (ahead c) u dr rest o =
-      let d : FirstDropped rid e.conn (is_over s) (explained (ahead c) rid e.conn x s) f rest =
-      first_dropped rid e.conn (is_over s) (explained (ahead c) rid e.conn x s) f rest plain (explained_not_plain (ahead c) s) o in
+      let d : FirstDropped rid e.conn (is_over s) (explanation (ahead c) rid e.conn x s) f rest =
+      first_dropped rid e.conn (is_over s) (explanation (ahead c) rid e.conn x s) f rest plain (explained_not_plain (ahead c) s) o in
       (d.to_is, d.conn_is, d.comes)
 
   -- at one that is Signalled, under its own number

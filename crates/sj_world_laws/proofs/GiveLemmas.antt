@@ -7,12 +7,12 @@ use Rattle.std.proofs.lemmas.Bool.{eq-eqb}
 use Rattle.sj_base.specs.declared.EndId.{EndId}
 use Rattle.sj_base.specs.declared.Msg.{Msg}
 use Rattle.sj_rules.specs.Record.{EndAt, BodyAt, Carry, Ack, Give, Mail, HeldAt, Held, Expected, other_end, is_same_end}
-use Rattle.sj_rules.specs.Rows.{numbered, mailed, cached_from, install}
+use Rattle.sj_rules.specs.Rows.{numbered_carries, mails_of, cached_from, install}
 use Rattle.sj_rules.specs.Node.{Play, NodeAt, comes, with_main}
 use Rattle.sj_rules.specs.Frames.{FrameAt}
 use Rattle.sj_rules.specs.World.{WorldAt}
 use Rattle.sj_rules.specs.Seat.{held, signalled, given, Side, source_for, side_of}
-use Rattle.sj_rules.specs.Shown.{Shows, is_lane, goes_to, is_claim, is_give, main_shown, mailed_from}
+use Rattle.sj_rules.specs.Shown.{Shows, is_lane, goes_to, is_claim, is_give, main_shown}
 use Rattle.sj_rules.specs.PlainSide.{PlainSide}
 use Rattle.sj_rules.specs.Numbers.{Pace, level, behind, by_ack, NumbersFit}
 use Rattle.sj_rules.specs.Invariant.{IsSound}
@@ -33,13 +33,13 @@ use Rattle.sj_world_laws.proofs.PassLemmas.{numbered_mails, mails_append, sent_a
 
 -- what goes out again
 pub again_mails : {P : Type 0} → (Is : BodyAt P → Type 0) (party : ℕ) (sid : EndId) (e : EndAt P) (resend : Option ℕ) →
-    ((n : ℕ) (m : Msg) → Is (Carry sid e.conn n e.taken m)) → AreMails Is (mailed party (again_from sid e resend))
+    ((n : ℕ) (m : Msg) → Is (Carry sid e.conn n e.taken m)) → AreMails Is (mails_of party (again_from sid e resend))
 again_mails Is party sid e None h = tt
 again_mails Is party sid e (Some k) h = numbered_mails Is party sid e.conn e.taken k (cached_from e k) h
 
 -- as s sees it
 pub again_sent : (P : Type 0) (sid : EndId) (e : EndAt P) (resend : Option ℕ) (to c party : ℕ) →
-    filter (goes_to {P = P} sid c) (sent_to to (mailed party (again_from sid e resend))) ≡ (if (to == party) && (c == e.conn) then again_from sid e resend else [])
+    filter (goes_to {P = P} sid c) (sent_to to (mails_of party (again_from sid e resend))) ≡ (if (to == party) && (c == e.conn) then again_from sid e resend else [])
 again_sent P sid e None to c party = by ((to == party) && (c == e.conn))
   where
     by : (k : Bool) → ◌≡◌ {A = List (BodyAt P)} [] (if k then [] else [])
@@ -48,15 +48,15 @@ again_sent P sid e None to c party = by ((to == party) && (c == e.conn))
 again_sent P sid e (Some k) to c party = sent_numbered P sid c to party e.conn e.taken k (cached_from e k) (same_end sid)
 
 -- mails of two lists
-mailed_append : {P : Type 0} → (a : ℕ) (k l : List (BodyAt P)) → mailed a (k ++ l) ≡ mailed a k ++ mailed a l
+mailed_append : {P : Type 0} → (a : ℕ) (k l : List (BodyAt P)) → mails_of a (k ++ l) ≡ mails_of a k ++ mails_of a l
 mailed_append a k l = simp map-append
 
 -- and an Ack behind it
 again_ack_sent : (P : Type 0) (sid : EndId) (e : EndAt P) (resend : Option ℕ) (to c party : ℕ) →
-    filter (goes_to {P = P} sid c) (sent_to to (mailed party (again_from sid e resend ++ Ack sid e.conn ∷ []))) ≡ (if (to == party) && (c == e.conn) then again_from sid e resend ++ Ack sid e.conn ∷ [] else [])
+    filter (goes_to {P = P} sid c) (sent_to to (mails_of party (again_from sid e resend ++ Ack sid e.conn ∷ []))) ≡ (if (to == party) && (c == e.conn) then again_from sid e resend ++ Ack sid e.conn ∷ [] else [])
 again_ack_sent P sid e resend to c party =
     ap (λ l. filter (goes_to {P = P} sid c) (sent_to to l)) (mailed_append party (again_from sid e resend) (Ack sid e.conn ∷ []))
-    ∙ sent_append (goes_to {P = P} sid c) to (mailed party (again_from sid e resend)) (record { party = party; body = Ack sid e.conn } ∷ [])
+    ∙ sent_append (goes_to {P = P} sid c) to (mails_of party (again_from sid e resend)) (record { party = party; body = Ack sid e.conn } ∷ [])
     ∙ rw (again_sent P sid e resend to c party, sent_cons (goes_to {P = P} sid c) to (record { party = party; body = Ack sid e.conn }) [], same_end sid) (by (to == party) (c == e.conn) (again_from sid e resend))
   where
     by : (k l : Bool) (more : List (BodyAt P)) → (if k && l then more else []) ++ ((if k && l then Ack sid e.conn ∷ [] else []) ++ []) ≡ (if k && l then more ++ Ack sid e.conn ∷ [] else [])
@@ -106,10 +106,10 @@ module _ {P Q : Type 0} (IsOver : P → Type 0) (play : Play P Q) (pick : ℕ �
       by false = refl
 
   -- it is a row of the node
-  row_is : (g : HeldAt P) (posts : List (Mail P)) → install pick place (mailed_from (source_for s.seat (given b u e resend dr)) dr) e resend ≡ Some (record { state = g; posts = posts }) →
+  row_is : (g : HeldAt P) (posts : List (Mail P)) → install pick place (mails_of (source_for s.seat (given b u e resend dr)) dr) e resend ≡ Some (record { state = g; posts = posts }) →
       comes pick (w.nodes u) b (Give e resend) ≡ Some (record { state = node g; posts = posts })
   row_is g posts i =
-      let main : (w.nodes u).main e.id ≡ Some (Expected b place (mailed_from (source_for s.seat (given b u e resend dr)) dr)) = ap (λ d. (w.nodes u).main d) name ∙ shows.mains u ∙ rw (eq-eqb u u refl) refl in
+      let main : (w.nodes u).main e.id ≡ Some (Expected b place (mails_of (source_for s.seat (given b u e resend dr)) dr)) = ap (λ d. (w.nodes u).main d) name ∙ shows.mains u ∙ rw (eq-eqb u u refl) refl in
       let none : (w.nodes u).old e.id ≡ None = ap (λ d. (w.nodes u).old d) name ∙ shows.olds u in
       rw (main, none, eq-eqb b b refl, i) (ap (λ d. Some (record { state = with_main d (Some (Held g)) (w.nodes u); posts = posts })) name)
 
@@ -118,7 +118,7 @@ module _ {P Q : Type 0} (IsOver : P → Type 0) (play : Play P Q) (pick : ℕ �
   other_side = omega arith
 
   -- no Signal was deferred
-  installed_quietly : (g : HeldAt P) (posts : List (Mail P)) → install pick place (mailed_from (source_for s.seat (given b u e resend dr)) dr) e resend ≡ Some (record { state = g; posts = posts }) →
+  installed_quietly : (g : HeldAt P) (posts : List (Mail P)) → install pick place (mails_of (source_for s.seat (given b u e resend dr)) dr) e resend ≡ Some (record { state = g; posts = posts }) →
       InstallsQuietly IsOver pick x y s id place pace u e resend old live g posts → Delivered IsOver play pick w b u id x y s.seat (given b u e resend dr)
   installed_quietly g posts fits l =
       let f : FrameAt P = record { clock = clock; body = Give e resend } in
@@ -141,7 +141,7 @@ module _ {P Q : Type 0} (IsOver : P → Type 0) (play : Play P Q) (pick : ℕ �
       (refl, λ keeper. (λ i. i, λ i. i)) (refl, λ keeper. (λ i. i, λ i. i))
 
   -- a Signal was deferred
-  installed_passing : (g : HeldAt P) (posts : List (Mail P)) → install pick place (mailed_from (source_for s.seat (given b u e resend dr)) dr) e resend ≡ Some (record { state = g; posts = posts }) →
+  installed_passing : (g : HeldAt P) (posts : List (Mail P)) → install pick place (mails_of (source_for s.seat (given b u e resend dr)) dr) e resend ≡ Some (record { state = g; posts = posts }) →
       pace ≡ level → InstallsPassing IsOver pick x y s id place u e resend old live g posts → Delivered IsOver play pick w b u id x y s.seat (given b u e resend dr)
   installed_passing g posts fits even l =
       let a : ℕ = l.0 in
@@ -153,7 +153,7 @@ module _ {P Q : Type 0} (IsOver : P → Type 0) (play : Play P Q) (pick : ℕ �
       let ms : List Msg = l.6 in
       let seat_is : s.seat ≡ signalled a t es ds = l.7 in
       let again : List (BodyAt P) = again_from s.id e resend in
-      let more : List (BodyAt P) = numbered s.id (e.conn + 1) g.end.taken k ms in
+      let more : List (BodyAt P) = numbered_carries s.id (e.conn + 1) g.end.taken k ms in
       let numbers : (es.conn ≡ e.conn) × (es.peer ≡ u) × (e.peer ≡ a) =
       subst (λ z. NumbersFit z (signalled a t es ds) (given b u e resend dr)) even (subst (λ z. NumbersFit pace z (given b u e resend dr)) seat_is sound.numbers) in
       let f : FrameAt P = record { clock = clock; body = Give e resend } in
@@ -162,16 +162,16 @@ module _ {P Q : Type 0} (IsOver : P → Type 0) (play : Play P Q) (pick : ℕ �
       let shown0 : Shows w (given b u e resend dr) s0 = subst (λ z. Shows w (given b u e resend dr) (side_of s.id s.place z s.old s.live)) seat_is shown in
       let before : Shows (with_tables (popped w b u rest) u now (node g)) (given b u e resend dr) s0 =
       other_before w b u f rest front now (node g) posts id low name own.mains own.olds (given b u e resend dr) s0 sound.others shown0 in
-      let posts_are : posts ≡ mailed e.peer (again ++ Ack s.id e.conn ∷ []) ++ mailed p more = l.10 in
+      let posts_are : posts ≡ mails_of e.peer (again ++ Ack s.id e.conn ∷ []) ++ mails_of p more = l.10 in
       let mails : (Is : BodyAt P → Type 0) → ((n : ℕ) (m : Msg) → Is (Carry s.id e.conn n e.taken m)) → Is (Ack s.id e.conn) → ((n : ℕ) (m : Msg) → Is (Carry s.id (e.conn + 1) n g.end.taken m)) → AreMails Is posts =
       λ Is h i j. subst (λ z. AreMails Is z) (sym posts_are)
-      (mails_append Is (mailed e.peer (again ++ Ack s.id e.conn ∷ [])) (mailed p more)
+      (mails_append Is (mails_of e.peer (again ++ Ack s.id e.conn ∷ [])) (mails_of p more)
       (subst (λ z. AreMails Is z) (sym (mailed_append e.peer again (Ack s.id e.conn ∷ [])))
-      (mails_append Is (mailed e.peer again) (record { party = e.peer; body = Ack s.id e.conn } ∷ []) (again_mails Is e.peer s.id e resend h) (i, tt)))
+      (mails_append Is (mails_of e.peer again) (record { party = e.peer; body = Ack s.id e.conn } ∷ []) (again_mails Is e.peer s.id e resend h) (i, tt)))
       (numbered_mails Is p s.id (e.conn + 1) g.end.taken k ms j)) in
       let sent : (to c : ℕ) → filter (goes_to {P = P} s.id c) (sent_to to posts) ≡ (if (to == a) && (c == es.conn) then again ++ Ack s.id e.conn ∷ [] else []) ++ (if (to == t) && (c == es.conn + 1) then more else []) =
       λ to c. ap (λ z. filter (goes_to {P = P} s.id c) (sent_to to z)) posts_are
-      ∙ sent_append (goes_to {P = P} s.id c) to (mailed e.peer (again ++ Ack s.id e.conn ∷ [])) (mailed p more)
+      ∙ sent_append (goes_to {P = P} s.id c) to (mails_of e.peer (again ++ Ack s.id e.conn ∷ [])) (mails_of p more)
       ∙ rw (again_ack_sent P s.id e resend to c e.peer, sent_numbered P s.id c to p (e.conn + 1) g.end.taken k ms (same_end s.id), numbers.2, ← numbers.0, l.8) refl in
       let sess_is : s.id.sess ≡ id.sess = ap (λ d. d.sess) sound.others in
       let side_is : s.id.side < 2 = rw sound.others other_side in
@@ -187,12 +187,12 @@ module _ {P Q : Type 0} (IsOver : P → Type 0) (play : Play P Q) (pick : ℕ �
   -- the end is Held
   pub give_comes_to : GiveAtGiven IsOver pick x y s id place → Delivered IsOver play pick w b u id x y s.seat (given b u e resend dr)
   give_comes_to law =
-      let l : (g : HeldAt P) × (posts : List (Mail P)) × (install pick place (mailed_from (source_for s.seat (given b u e resend dr)) dr) e resend ≡ Some (record { state = g; posts = posts }))
+      let l : (g : HeldAt P) × (posts : List (Mail P)) × (install pick place (mails_of (source_for s.seat (given b u e resend dr)) dr) e resend ≡ Some (record { state = g; posts = posts }))
       × (InstallsQuietly IsOver pick x y s id place pace u e resend old live g posts ⊎ (pace ≡ level) × InstallsPassing IsOver pick x y s id place u e resend old live g posts) =
       law pace b u e resend dr old live sound in
       by l.0 l.1 l.2 l.3
     where
-      by : (g : HeldAt P) (posts : List (Mail P)) → install pick place (mailed_from (source_for s.seat (given b u e resend dr)) dr) e resend ≡ Some (record { state = g; posts = posts }) →
+      by : (g : HeldAt P) (posts : List (Mail P)) → install pick place (mails_of (source_for s.seat (given b u e resend dr)) dr) e resend ≡ Some (record { state = g; posts = posts }) →
           InstallsQuietly IsOver pick x y s id place pace u e resend old live g posts ⊎ (pace ≡ level) × InstallsPassing IsOver pick x y s id place u e resend old live g posts →
           Delivered IsOver play pick w b u id x y s.seat (given b u e resend dr)
       by g posts fits (inl q) = installed_quietly g posts fits q

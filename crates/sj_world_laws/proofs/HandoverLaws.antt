@@ -4,9 +4,8 @@ use Rattle.std.specs.Prelude.{Option, Some, ◌⊎◌}
 use Rattle.sj_base.specs.declared.EndId.{EndId}
 use Rattle.sj_base.specs.declared.Msg.{Msg}
 use Rattle.sj_rules.specs.Record.{EndAt, BodyAt, Fin, Signal, Ack, Mail, HeldAt, other_end}
-use Rattle.sj_rules.specs.Rows.{with_last, passive_closed, Worked, resent, numbered, cached_from, mailed, trimmed, handed_on, passive, install}
+use Rattle.sj_rules.specs.Rows.{with_last, passive_closed, Worked, resent_posts, numbered_carries, cached_from, mails_of, trimmed_end, end_with_peer, passive, install}
 use Rattle.sj_rules.specs.Seat.{Seat, held, parked, claimed, signalled, given, closed, Side, source_for, side_of}
-use Rattle.sj_rules.specs.Shown.{mailed_from}
 use Rattle.sj_rules.specs.PlainSide.{PlainSide}
 use Rattle.sj_rules.specs.Numbers.{Pace, level, behind, by_ack, IsSignalledTo, IsNoGive}
 use Rattle.sj_rules.specs.Invariant.{IsSound}
@@ -15,13 +14,13 @@ use Rattle.sj_world_laws.proofs.SessionLaws.{AckAtOld, ClaimAtClaimed, DefersAtG
 
 -- what the passive row sends again, and what it leaves
 abbrev pub resends : {P : Type 0} → (ℕ → ℕ → ℕ) → EndId → EndAt P → (p k : ℕ) → List (BodyAt P)
-resends pick sid e p k = numbered sid (e.conn + 1) e.taken k (cached_from (trimmed pick (handed_on e p) k) k)
+resends pick sid e p k = numbered_carries sid (e.conn + 1) e.taken k (cached_from (trimmed_end pick (end_with_peer e p) k) k)
 
 -- what the passive row leaves and sends
 abbrev pub passed : {P : Type 0} → (ℕ → ℕ → ℕ) → EndAt P → (p k : ℕ) → Worked P (EndAt P)
 passed pick e p k = record {
-  state = trimmed pick (handed_on e p) k;
-  posts = record { party = e.peer; body = Ack (other_end e.id) e.conn } ∷ resent (trimmed pick (handed_on e p) k) k;
+  state = trimmed_end pick (end_with_peer e p) k;
+  posts = record { party = e.peer; body = Ack (other_end e.id) e.conn } ∷ resent_posts (trimmed_end pick (end_with_peer e p) k) k;
 }
 
 -- the Signalled end that gets its Ack, and all that waits
@@ -35,49 +34,49 @@ module _ {P : Type 0} (IsOver : P → Type 0) (pick : ℕ → ℕ → ℕ) (x y 
   SignalAtHeld = (b : ℕ) (h : HeldAt P) (ro rest : List (BodyAt P)) (d : EndId) (c p k : ℕ) →
       IsSound IsOver level x y (side_of sid ps (signalled a t es ds) so sl) (side_of id place (held b h) ro (Signal d c p k ∷ rest)) →
       (passive pick h.end h.end.peer c p k ≡ Some (passed pick h.end p k))
-      × IsSound IsOver (behind by_ack) x y (acked_side sid ps a t es ds so sl (resends pick sid h.end p k)) (side_of id place (held b (record h { end = trimmed pick (handed_on h.end p) k })) ro rest)
+      × IsSound IsOver (behind by_ack) x y (acked_side sid ps a t es ds so sl (resends pick sid h.end p k)) (side_of id place (held b (record h { end = trimmed_end pick (end_with_peer h.end p) k })) ro rest)
 
   -- at a Parked end
   abbrev pub SignalAtParked : Type 0
   SignalAtParked = (b : ℕ) (e : EndAt P) (ro rest : List (BodyAt P)) (d : EndId) (c p k : ℕ) →
       IsSound IsOver level x y (side_of sid ps (signalled a t es ds) so sl) (side_of id place (parked b e) ro (Signal d c p k ∷ rest)) →
       (passive pick e e.peer c p k ≡ Some (passed pick e p k))
-      × IsSound IsOver (behind by_ack) x y (acked_side sid ps a t es ds so sl (resends pick sid e p k)) (side_of id place (parked b (trimmed pick (handed_on e p) k)) ro rest)
+      × IsSound IsOver (behind by_ack) x y (acked_side sid ps a t es ds so sl (resends pick sid e p k)) (side_of id place (parked b (trimmed_end pick (end_with_peer e p) k)) ro rest)
 
   -- at a claimed end
   abbrev pub SignalAtClaimed : Type 0
   SignalAtClaimed = (b u : ℕ) (e : EndAt P) (ro rest : List (BodyAt P)) (d : EndId) (c p k : ℕ) →
       IsSound IsOver level x y (side_of sid ps (signalled a t es ds) so sl) (side_of id place (claimed b u e) ro (Signal d c p k ∷ rest)) →
       (passive pick e e.peer c p k ≡ Some (passed pick e p k))
-      × IsSound IsOver (behind by_ack) x y (acked_side sid ps a t es ds so sl (resends pick sid e p k)) (side_of id place (claimed b u (trimmed pick (handed_on e p) k)) ro rest)
+      × IsSound IsOver (behind by_ack) x y (acked_side sid ps a t es ds so sl (resends pick sid e p k)) (side_of id place (claimed b u (trimmed_end pick (end_with_peer e p) k)) ro rest)
 
   -- at a Closed end
   abbrev pub SignalAtClosed : Type 0
   SignalAtClosed = (b : ℕ) (e : EndAt P) (ro rest : List (BodyAt P)) (d : EndId) (c p k : ℕ) →
       IsSound IsOver level x y (side_of sid ps (signalled a t es ds) so sl) (side_of id place (closed b e) ro (Signal d c p k ∷ rest)) →
       (passive_closed pick e e.peer c p k ≡ Some (with_last (record { party = p; body = Fin (other_end e.id) (e.conn + 1) e.sent } ∷ []) (passed pick e p k)))
-      × IsSound IsOver (behind by_ack) x y (acked_side sid ps a t es ds so sl (resends pick sid e p k ++ Fin sid (e.conn + 1) e.sent ∷ [])) (side_of id place (closed b (trimmed pick (handed_on e p) k)) ro rest)
+      × IsSound IsOver (behind by_ack) x y (acked_side sid ps a t es ds so sl (resends pick sid e p k ++ Fin sid (e.conn + 1) e.sent ∷ [])) (side_of id place (closed b (trimmed_end pick (end_with_peer e p) k)) ro rest)
 
 -- a Give: the end is Held, its cache goes out again where the Give says so, and what was deferred is worked off
 module _ {P : Type 0} (IsOver : P → Type 0) (pick : ℕ → ℕ → ℕ) (x y : PlainSide P) (s : Side P) (id : EndId) (place : P) where
   -- no Signal was deferred
   abbrev pub InstallsQuietly : Pace → (u : ℕ) → EndAt P → Option ℕ → (ro rl : List (BodyAt P)) → HeldAt P → List (Mail P) → Type 0
   InstallsQuietly pace u e resend ro rl g posts =
-      (((g.end.conn ≡ e.conn) × (g.end.peer ≡ e.peer)) ⊎ (rl ≡ [])) × (posts ≡ mailed e.peer (again_from s.id e resend))
+      (((g.end.conn ≡ e.conn) × (g.end.peer ≡ e.peer)) ⊎ (rl ≡ [])) × (posts ≡ mails_of e.peer (again_from s.id e resend))
       × IsSound IsOver pace x y (with_more pace s (again_from s.id e resend)) (side_of id place (held u g) ro rl)
 
   -- a Signal was deferred, as the last: the end passes it at once
   abbrev pub InstallsPassing : (u : ℕ) → EndAt P → Option ℕ → (ro rl : List (BodyAt P)) → HeldAt P → List (Mail P) → Type 0
   InstallsPassing u e resend ro rl g posts =
       (a : ℕ) × (t : ℕ) × (es : EndAt P) × (ds : List (BodyAt P)) × (p : ℕ) × (k : ℕ) × (ms : List Msg) × (s.seat ≡ signalled a t es ds)
-      × (p ≡ t) × (rl ≡ []) × (posts ≡ mailed e.peer (again_from s.id e resend ++ Ack s.id e.conn ∷ []) ++ mailed p (numbered s.id (e.conn + 1) g.end.taken k ms))
-      × IsSound IsOver (behind by_ack) x y (side_of s.id s.place (signalled a t es ds) (s.old ++ (again_from s.id e resend ++ Ack s.id e.conn ∷ [])) (s.live ++ numbered s.id (e.conn + 1) g.end.taken k ms)) (side_of id place (held u g) ro rl)
+      × (p ≡ t) × (rl ≡ []) × (posts ≡ mails_of e.peer (again_from s.id e resend ++ Ack s.id e.conn ∷ []) ++ mails_of p (numbered_carries s.id (e.conn + 1) g.end.taken k ms))
+      × IsSound IsOver (behind by_ack) x y (side_of s.id s.place (signalled a t es ds) (s.old ++ (again_from s.id e resend ++ Ack s.id e.conn ∷ [])) (s.live ++ numbered_carries s.id (e.conn + 1) g.end.taken k ms)) (side_of id place (held u g) ro rl)
 
   -- one of the two
   abbrev pub GiveAtGiven : Type 0
   GiveAtGiven = (pace : Pace) (b u : ℕ) (e : EndAt P) (resend : Option ℕ) (dr ro rl : List (BodyAt P)) → IsSound IsOver pace x y s (side_of id place (given b u e resend dr) ro rl) →
       (g : HeldAt P) × (posts : List (Mail P))
-      × (install pick place (mailed_from (source_for s.seat (given b u e resend dr)) dr) e resend ≡ Some (record { state = g; posts = posts }))
+      × (install pick place (mails_of (source_for s.seat (given b u e resend dr)) dr) e resend ≡ Some (record { state = g; posts = posts }))
       × (InstallsQuietly pace u e resend ro rl g posts ⊎ (pace ≡ level) × InstallsPassing u e resend ro rl g posts)
 
 -- an end that isn't Signalled gets a Signal only from one that is

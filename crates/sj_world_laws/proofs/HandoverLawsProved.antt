@@ -5,13 +5,12 @@ use Rattle.std.proofs.lemmas.List.{map-append}
 use Rattle.sj_base.specs.declared.EndId.{EndId}
 use Rattle.sj_base.specs.declared.Msg.{Msg}
 use Rattle.sj_rules.specs.Record.{EndAt, BodyAt, Signal, Ack, Give, HeldAt, Mail, other_end}
-use Rattle.sj_rules.specs.Rows.{IsPick, crossed, acked, trimmed, handed_on, install, mailed, numbered, cached_from, resent_at}
+use Rattle.sj_rules.specs.Rows.{IsPick, crossing_body, acked_body, trimmed_end, end_with_peer, install, mails_of, numbered_carries, cached_from, resent_at}
 use Rattle.sj_rules.specs.Seat.{held, signalled, given, Side, source_for, conn_of, peer_of, sender_of, side_of}
-use Rattle.sj_rules.specs.Shown.{mailed_from}
 use Rattle.sj_rules.specs.PlainSide.{PlainSide, CountsFit}
 use Rattle.sj_rules.specs.Numbers.{Pace, level, ahead, behind, by_ack, by_signal, NumbersFit, is_over}
 use Rattle.sj_rules.specs.Invariant.{IsSound}
-use Rattle.sj_rules.specs.Coming.{Comes, explained}
+use Rattle.sj_rules.specs.Coming.{Comes, explanation}
 use Rattle.sj_world_laws.proofs.CrossingLemmas.{crosses_first}
 use Rattle.sj_world_laws.proofs.AheadLemmas.{acks, crosses_second}
 use Rattle.sj_world_laws.proofs.SignalLemmas.{passes_held}
@@ -33,42 +32,42 @@ module _ {P : Type 0} (IsOver : P → Type 0) (pick : ℕ → ℕ → ℕ) (pick
   -- a Signal at a Signalled end
   pub signal_old_law : SignalAtOld IsOver pick x y s id place
   signal_old_law level b u e ds rest rl c p k sound =
-      let m : (c ≡ e.conn) × IsSignalled s.seat = level_mark_signal id e.conn x s.seat c p k rest (not_dropped id e.conn (is_over s.seat) (explained level id e.conn x s.seat) (Signal id c p k) rest (λ z. z) sound.there.old) in
+      let m : (c ≡ e.conn) × IsSignalled s.seat = level_mark_signal id e.conn x s.seat c p k rest (not_dropped id e.conn (is_over s.seat) (explanation level id e.conn x s.seat) (Signal id c p k) rest (λ z. z) sound.there.old) in
       let here : IsSound IsOver level x y (side_of s.id s.place (signalled m.1.at m.1.to m.1.end m.1.late) s.old s.live) (side_of id place (signalled b u e ds) (Signal id c p k ∷ rest) rl) =
       subst (λ z. IsSound IsOver level x y (side_of s.id s.place z s.old s.live) (side_of id place (signalled b u e ds) (Signal id c p k ∷ rest) rl)) m.1.is sound in
-      let f : (crossed pick e e.peer c p k ≡ Some (Give (trimmed pick (handed_on e p) k) (Some k)))
-      × IsSound IsOver (behind by_signal) x y (side_of s.id s.place (signalled m.1.at m.1.to m.1.end m.1.late) s.old s.live) (side_of id place (given b u (trimmed pick (handed_on e p) k) (Some k) ds) rest rl) =
+      let f : (crossing_body pick e e.peer c p k ≡ Some (Give (trimmed_end pick (end_with_peer e p) k) (Some k)))
+      × IsSound IsOver (behind by_signal) x y (side_of s.id s.place (signalled m.1.at m.1.to m.1.end m.1.late) s.old s.live) (side_of id place (given b u (trimmed_end pick (end_with_peer e p) k) (Some k) ds) rest rl) =
       crosses_first IsOver pick picks x y counts s.id id s.place place m.1.at m.1.to b u m.1.end e m.1.late ds s.old s.live rl rest id c p k here in
       let empty : rest ≡ [] = f.1.there.old in
-      let after : SoundWith IsOver pick x y s id place (behind by_signal) (given b u (trimmed pick (handed_on e p) k) (Some k) ds) rest rl =
-      subst (λ z. IsSound IsOver (behind by_signal) x y (side_of s.id s.place z s.old s.live) (side_of id place (given b u (trimmed pick (handed_on e p) k) (Some k) ds) rest rl)) (sym m.1.is) f.1 in
-      (behind by_signal, empty, f.0, subst (λ l. SoundWith IsOver pick x y s id place (behind by_signal) (given b u (trimmed pick (handed_on e p) k) (Some k) ds) l rl) empty after)
+      let after : SoundWith IsOver pick x y s id place (behind by_signal) (given b u (trimmed_end pick (end_with_peer e p) k) (Some k) ds) rest rl =
+      subst (λ z. IsSound IsOver (behind by_signal) x y (side_of s.id s.place z s.old s.live) (side_of id place (given b u (trimmed_end pick (end_with_peer e p) k) (Some k) ds) rest rl)) (sym m.1.is) f.1 in
+      (behind by_signal, empty, f.0, subst (λ l. SoundWith IsOver pick x y s id place (behind by_signal) (given b u (trimmed_end pick (end_with_peer e p) k) (Some k) ds) l rl) empty after)
   signal_old_law (ahead by_ack) b u e ds rest rl c p k sound =
-      absurd (cc (not_dropped id e.conn (is_over s.seat) (explained (ahead by_ack) id e.conn x s.seat) (Signal id c p k) rest (λ z. z) sound.there.old))
+      absurd (cc (not_dropped id e.conn (is_over s.seat) (explanation (ahead by_ack) id e.conn x s.seat) (Signal id c p k) rest (λ z. z) sound.there.old))
   signal_old_law (ahead by_signal) b u e ds rest rl c p k sound =
-      let f : (crossed pick e e.peer c p k ≡ Some (Give (trimmed pick (handed_on e p) k) (Some k))) × SoundWith IsOver pick x y s id place level (given b u (trimmed pick (handed_on e p) k) (Some k) ds) rest rl =
+      let f : (crossing_body pick e e.peer c p k ≡ Some (Give (trimmed_end pick (end_with_peer e p) k) (Some k))) × SoundWith IsOver pick x y s id place level (given b u (trimmed_end pick (end_with_peer e p) k) (Some k) ds) rest rl =
       crosses_second IsOver pick picks x y counts s.id id s.place place s.seat b u e ds s.old s.live rl rest id c p k sound in
       let empty : rest ≡ [] = f.1.there.old in
-      (level, empty, f.0, subst (λ l. SoundWith IsOver pick x y s id place level (given b u (trimmed pick (handed_on e p) k) (Some k) ds) l rl) empty f.1)
+      (level, empty, f.0, subst (λ l. SoundWith IsOver pick x y s id place level (given b u (trimmed_end pick (end_with_peer e p) k) (Some k) ds) l rl) empty f.1)
   signal_old_law (behind z) b u e ds rest rl c p k sound = absurd (cc sound.there.old)
 
   -- an Ack at a Signalled end
   pub ack_old_law : AckAtOld IsOver pick x y s id place
   ack_old_law level b u e ds rest rl c sound =
-      absurd (level_mark_ack id e.conn x s.seat c rest (not_dropped id e.conn (is_over s.seat) (explained level id e.conn x s.seat) (Ack id c) rest (λ z. z) sound.there.old))
+      absurd (level_mark_ack id e.conn x s.seat c rest (not_dropped id e.conn (is_over s.seat) (explanation level id e.conn x s.seat) (Ack id c) rest (λ z. z) sound.there.old))
   ack_old_law (ahead by_ack) b u e ds rest rl c sound =
-      let f : (acked e e.peer c ≡ Some (Give (handed_on e e.peer) None)) × SoundWith IsOver pick x y s id place level (given b u (handed_on e e.peer) None ds) rest rl =
+      let f : (acked_body e e.peer c ≡ Some (Give (end_with_peer e e.peer) None)) × SoundWith IsOver pick x y s id place level (given b u (end_with_peer e e.peer) None ds) rest rl =
       acks IsOver x y counts s.id id s.place place s.seat b u e ds s.old s.live rl rest id c sound in
       let empty : rest ≡ [] = f.1.there.old in
-      (level, empty, f.0, subst (λ l. SoundWith IsOver pick x y s id place level (given b u (handed_on e e.peer) None ds) l rl) empty f.1)
+      (level, empty, f.0, subst (λ l. SoundWith IsOver pick x y s id place level (given b u (end_with_peer e e.peer) None ds) l rl) empty f.1)
   ack_old_law (ahead by_signal) b u e ds rest rl c sound =
-      absurd (cc (not_dropped id e.conn (is_over s.seat) (explained (ahead by_signal) id e.conn x s.seat) (Ack id c) rest (λ z. z) sound.there.old))
+      absurd (cc (not_dropped id e.conn (is_over s.seat) (explanation (ahead by_signal) id e.conn x s.seat) (Ack id c) rest (λ z. z) sound.there.old))
   ack_old_law (behind z) b u e ds rest rl c sound = absurd (cc sound.there.old)
 
   -- deferred frames came from the peer, or none was deferred
   deferred_source : (pace : Pace) (b u : ℕ) (e : EndAt P) (resend : Option ℕ) (dr rl : List (BodyAt P)) → NumbersFit pace s.seat (given b u e resend dr) → Comes pace id x y s.seat (given b u e resend dr) rl →
-      mailed_from (source_for s.seat (given b u e resend dr)) dr ≡ mailed_from e.peer dr
-  deferred_source level b u e resend dr rl n c = ap (λ (f : ℕ). mailed_from f dr) (source_is_peer s.seat (given b u e resend dr) tt n)
+      mails_of (source_for s.seat (given b u e resend dr)) dr ≡ mails_of e.peer dr
+  deferred_source level b u e resend dr rl n c = ap (λ (f : ℕ). mails_of f dr) (source_is_peer s.seat (given b u e resend dr) tt n)
   deferred_source (ahead z) b u e resend dr rl n c = absurd (numbers_ahead z s.seat (given b u e resend dr) (there_beside (ahead z) s.seat (given b u e resend dr) n refl) tt n).1
   deferred_source (behind by_ack) b u e resend dr rl n c = absurd c.1
   deferred_source (behind by_signal) b u e resend dr rl n c = let none : dr ≡ [] = c.1 in rw none refl
@@ -85,9 +84,9 @@ module _ {P : Type 0} (IsOver : P → Type 0) (pick : ℕ → ℕ → ℕ) (pick
   number_stays (behind z) b u e resend dr rl g n c m = inr c.0
 
   -- what the Give sends again
-  again_is : (e : EndAt P) (resend : Option ℕ) → other_end e.id ≡ s.id → resent_at e resend ≡ mailed e.peer (again_from s.id e resend)
+  again_is : (e : EndAt P) (resend : Option ℕ) → other_end e.id ≡ s.id → resent_at e resend ≡ mails_of e.peer (again_from s.id e resend)
   again_is e None i = refl
-  again_is e (Some k) i = ap (λ d. mailed e.peer (numbered d e.conn e.taken k (cached_from e k))) i
+  again_is e (Some k) i = ap (λ d. mails_of e.peer (numbered_carries d e.conn e.taken k (cached_from e k))) i
 
   -- a Signal was deferred
   passing : (b u : ℕ) (e : EndAt P) (resend : Option ℕ) (dr ro rl : List (BodyAt P)) → IsSound IsOver level x y s (side_of id place (given b u e resend dr) ro rl) →
@@ -101,12 +100,12 @@ module _ {P : Type 0} (IsOver : P → Type 0) (pick : ℕ → ℕ → ℕ) (pick
       let named : other_end w.end.end.id ≡ s.id = ap other_end w.sound.there.fits.0.name ∙ sym sound.others in
       let again : List (BodyAt P) = again_from s.id e resend in
       let given_named : other_end e.id ≡ s.id = ap other_end sound.there.fits.0.name ∙ sym sound.others in
-      let posts : ℕ → EndId → ℕ → List (Mail P) = λ peer d n. record { party = peer; body = Ack d n } ∷ mailed w.party (numbered d (n + 1) w.end.end.taken w.taken ms) in
+      let posts : ℕ → EndId → ℕ → List (Mail P) = λ peer d n. record { party = peer; body = Ack d n } ∷ mails_of w.party (numbered_carries d (n + 1) w.end.end.taken w.taken ms) in
       let same : posts w.end.end.peer (other_end w.end.end.id) w.end.end.conn ≡ posts e.peer s.id e.conn = ap (λ p. posts p (other_end w.end.end.id) w.end.end.conn) w.peer_is ∙ ap (λ d. posts e.peer d w.end.end.conn) named ∙ ap (λ n. posts e.peer s.id n) conn in
-      let split : mailed e.peer (again ++ Ack s.id e.conn ∷ []) ≡ mailed e.peer again ++ record { party = e.peer; body = Ack s.id e.conn } ∷ [] = simp map-append in
+      let split : mails_of e.peer (again ++ Ack s.id e.conn ∷ []) ≡ mails_of e.peer again ++ record { party = e.peer; body = Ack s.id e.conn } ∷ [] = simp map-append in
       let ack : ◌≡◌ {A = BodyAt P} (Ack s.id w.from.conn) (Ack s.id e.conn) = ap (λ n. Ack s.id n) numbers.0 in
       let olds : (s.old ++ again) ++ Ack s.id w.from.conn ∷ [] ≡ s.old ++ (again ++ Ack s.id e.conn ∷ []) = ap (λ k. (s.old ++ again) ++ k ∷ []) ack ∙ append_assoc s.old again (Ack s.id e.conn ∷ []) in
-      let lives : s.live ++ passed_again pick s.id w.end.end w.party w.taken ≡ s.live ++ numbered s.id (e.conn + 1) w.end.end.taken w.taken ms = ap (λ n. s.live ++ numbered s.id (n + 1) w.end.end.taken w.taken ms) conn in (
+      let lives : s.live ++ passed_again pick s.id w.end.end w.party w.taken ≡ s.live ++ numbered_carries s.id (e.conn + 1) w.end.end.taken w.taken ms = ap (λ n. s.live ++ numbered_carries s.id (n + 1) w.end.end.taken w.taken ms) conn in (
         w.at,
         w.to,
         w.from,
@@ -117,9 +116,9 @@ module _ {P : Type 0} (IsOver : P → Type 0) (pick : ℕ → ℕ → ℕ) (pick
         w.seat_is,
         w.sound.numbers.1,
         w.sound.there.comes.0,
-        ap (λ l. l ++ posts w.end.end.peer (other_end w.end.end.id) w.end.end.conn) (again_is e resend given_named) ∙ ap (λ l. mailed e.peer again ++ l) same
-            ∙ sym (append_assoc (mailed e.peer again) (record { party = e.peer; body = Ack s.id e.conn } ∷ []) (mailed w.party (numbered s.id (e.conn + 1) w.end.end.taken w.taken ms)))
-            ∙ ap (λ l. l ++ mailed w.party (numbered s.id (e.conn + 1) w.end.end.taken w.taken ms)) (sym split),
+        ap (λ l. l ++ posts w.end.end.peer (other_end w.end.end.id) w.end.end.conn) (again_is e resend given_named) ∙ ap (λ l. mails_of e.peer again ++ l) same
+            ∙ sym (append_assoc (mails_of e.peer again) (record { party = e.peer; body = Ack s.id e.conn } ∷ []) (mails_of w.party (numbered_carries s.id (e.conn + 1) w.end.end.taken w.taken ms)))
+            ∙ ap (λ l. l ++ mails_of w.party (numbered_carries s.id (e.conn + 1) w.end.end.taken w.taken ms)) (sym split),
         subst (λ l. IsSound IsOver (behind by_ack) x y (side_of s.id s.place (signalled w.at w.to w.from w.late) (s.old ++ (again ++ Ack s.id e.conn ∷ [])) l) (side_of id place (held u (held_on pick w.end w.party w.taken)) ro rl)) lives
             (subst (λ l. IsSound IsOver (behind by_ack) x y (side_of s.id s.place (signalled w.at w.to w.from w.late) l (s.live ++ passed_again pick s.id w.end.end w.party w.taken)) (side_of id place (held u (held_on pick w.end w.party w.taken)) ro rl)) olds w.sound),
       )
@@ -128,7 +127,7 @@ module _ {P : Type 0} (IsOver : P → Type 0) (pick : ℕ → ℕ → ℕ) (pick
   pub give_law : GiveAtGiven IsOver pick x y s id place
   give_law pace b u e resend dr ro rl sound = by (installs IsOver pick x y s.id id s.place place s.old s.live b u ro rl e dr picks pace s.seat resend counts back.fewer sound)
     where
-      source : mailed_from (source_for s.seat (given b u e resend dr)) dr ≡ mailed_from e.peer dr
+      source : mails_of (source_for s.seat (given b u e resend dr)) dr ≡ mails_of e.peer dr
       source = deferred_source pace b u e resend dr rl sound.numbers sound.there.comes
 
       named : other_end e.id ≡ s.id
@@ -136,7 +135,7 @@ module _ {P : Type 0} (IsOver : P → Type 0) (pick : ℕ → ℕ → ℕ) (pick
 
       by : InstalledQuietly IsOver pick x y s.id id s.place place s.seat s.old s.live u ro rl e resend dr pace ⊎ InstalledBySignal IsOver pick x y s.id id s.place place s.seat s.old s.live u ro rl e resend dr pace →
           (g : HeldAt P) × (posts : List (Mail P))
-          × (install pick place (mailed_from (source_for s.seat (given b u e resend dr)) dr) e resend ≡ Some (record { state = g; posts = posts }))
+          × (install pick place (mails_of (source_for s.seat (given b u e resend dr)) dr) e resend ≡ Some (record { state = g; posts = posts }))
           × (InstallsQuietly IsOver pick x y s id place pace u e resend ro rl g posts ⊎ (pace ≡ level) × InstallsPassing IsOver pick x y s id place u e resend ro rl g posts)
       by (inl w) = (
         w.end,

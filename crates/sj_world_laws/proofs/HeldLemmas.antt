@@ -6,7 +6,7 @@ use Rattle.std.proofs.lemmas.List.{length-drop}
 use Rattle.sj_base.specs.declared.EndId.{EndId}
 use Rattle.sj_base.specs.declared.Msg.{Msg}
 use Rattle.sj_rules.specs.Record.{EndAt, BodyAt, Carry, Fin, HeldAt}
-use Rattle.sj_rules.specs.Rows.{IsPick, at_held, trimmed}
+use Rattle.sj_rules.specs.Rows.{IsPick, at_held, trimmed_end}
 use Rattle.sj_rules.specs.Seat.{Seat, held, given, closed, gone, side_of}
 use Rattle.sj_rules.specs.PlainSide.{PlainSide, untaken_of}
 use Rattle.sj_rules.specs.Counts.{Agrees, SeatFits}
@@ -88,9 +88,9 @@ carry_told {P} to x y s h d c n t m rest w = by w.comes
     by (inr p) = absurd (cc p.2)
 
 -- a trimmed cache, under the same number and peer
-trim_fits : {P : Type 0} → (pick : ℕ → ℕ → ℕ) → IsPick pick → (id : EndId) (e : EndAt P) (y : PlainSide P) (told : ℕ) → Agrees id e y → Agrees id (trimmed pick e told) y
+trim_fits : {P : Type 0} → (pick : ℕ → ℕ → ℕ) → IsPick pick → (id : EndId) (e : EndAt P) (y : PlainSide P) (told : ℕ) → Agrees id e y → Agrees id (trimmed_end pick e told) y
 trim_fits pick picks id e y told a =
-    let t : Agrees id (trimmed pick (record e { conn = e.conn + 1; peer = e.peer }) told) y = trim_agrees pick picks id e y e.peer told a in
+    let t : Agrees id (trimmed_end pick (record e { conn = e.conn + 1; peer = e.peer }) told) y = trim_agrees pick picks id e y e.peer told a in
     record { name = t.name; hops = t.hops; sent = t.sent; taken = t.taken; cache = t.cache }
 
 -- a Fin is the mark, and nothing is left before it

@@ -5,7 +5,7 @@ use Rattle.std.proofs.lemmas.List.{drop-drop}
 use Rattle.sj_base.specs.declared.EndId.{EndId}
 use Rattle.sj_base.specs.declared.Msg.{Msg}
 use Rattle.sj_rules.specs.Record.{EndAt, BodyAt, Carry, Fin, Claim, Signal, Ack, Give, HeldAt}
-use Rattle.sj_rules.specs.Rows.{numbered, cached_from}
+use Rattle.sj_rules.specs.Rows.{numbered_carries, cached_from}
 use Rattle.sj_rules.specs.Seat.{Seat, held, parked, claimed, signalled, given, closed, gone, side_of}
 use Rattle.sj_rules.specs.PlainSide.{PlainSide, untaken_of, CountsFit}
 use Rattle.sj_rules.specs.Counts.{Agrees, ResendFits, SeatFits}
@@ -31,11 +31,11 @@ old_after pace s old more = old
 -- the cache from there on, as Carries for s
 abbrev pub again_from : {P : Type 0} → EndId → EndAt P → Option ℕ → List (BodyAt P)
 again_from sid e None = []
-again_from sid e (Some k) = numbered sid e.conn e.taken k (cached_from e k)
+again_from sid e (Some k) = numbered_carries sid e.conn e.taken k (cached_from e k)
 
 -- Carries may be dropped
 pub numbered_dropped : (P : Type 0) (to : EndId) (conn number taken : ℕ) (over : Bool) (msgs : List Msg) →
-    AreDropped {P = P} to conn over (numbered to conn taken number msgs)
+    AreDropped {P = P} to conn over (numbered_carries to conn taken number msgs)
 numbered_dropped P to conn number taken over [] = tt
 numbered_dropped P to conn number taken over (m ∷ ms) = (refl, refl, numbered_dropped P to conn (number + 1) taken over ms)
 
@@ -104,22 +104,22 @@ module _ {P : Type 0} (x y : PlainSide P) (sid rid : EndId) (at u : ℕ) (er : E
 
   -- what comes to s, where the cache goes out again
   module _ (agrees : Agrees rid er y) (k : ℕ) (k_is : k ≡ x.taken) (low : er.base ≤ k) (fewer : x.taken ≤ length y.sent) where
-    again_is : again_from sid er (Some k) ≡ numbered sid er.conn y.taken x.taken (drop x.taken y.sent)
+    again_is : again_from sid er (Some k) ≡ numbered_carries sid er.conn y.taken x.taken (drop x.taken y.sent)
     again_is = rw (given_again rid er y k agrees low, agrees.taken, k_is)
 
     pub whole_again : (conn base : ℕ) (sl : List (BodyAt P)) → conn ≡ er.conn → base ≤ y.taken → sl ≡ [] →
         ComesWhole {P = P} sid conn x.taken base y.taken [] (untaken_of y x) (sl ++ again_from sid er (Some k))
     whole_again conn base sl same lower none = record {
-      carries = numbered sid er.conn y.taken x.taken (drop x.taken y.sent);
-      split = rw (none, again_is) (sym (append-nil (numbered sid er.conn y.taken x.taken (drop x.taken y.sent))));
+      carries = numbered_carries sid er.conn y.taken x.taken (drop x.taken y.sent);
+      split = rw (none, again_is) (sym (append-nil (numbered_carries sid er.conn y.taken x.taken (drop x.taken y.sent))));
       are = rw same (numbered_are P sid er.conn x.taken base y.taken (drop x.taken y.sent) lower);
     }
 
     loose_again : (conn : ℕ) (sl : List (BodyAt P)) → conn ≡ er.conn → sl ≡ [] →
         ComesLoose sid conn false [] (sl ++ again_from sid er (Some k))
     loose_again conn sl same none = record {
-      dropped = numbered sid er.conn y.taken x.taken (drop x.taken y.sent);
-      split = rw (none, again_is) (sym (append-nil (numbered sid er.conn y.taken x.taken (drop x.taken y.sent))));
+      dropped = numbered_carries sid er.conn y.taken x.taken (drop x.taken y.sent);
+      split = rw (none, again_is) (sym (append-nil (numbered_carries sid er.conn y.taken x.taken (drop x.taken y.sent))));
       are = rw same (numbered_dropped P sid er.conn x.taken y.taken false (drop x.taken y.sent));
     }
 

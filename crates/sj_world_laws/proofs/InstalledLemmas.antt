@@ -6,13 +6,13 @@ use Rattle.sj_base.specs.declared.EndId.{EndId}
 use Rattle.sj_rules.specs.Record.{EndAt, BodyAt, Ack, HeldAt}
 use Rattle.sj_rules.specs.Rows.{IsPick, install, resend_fits, resent_at}
 use Rattle.sj_rules.specs.Seat.{Seat, held, signalled, given, gone, side_of}
-use Rattle.sj_rules.specs.Shown.{mailed_from}
 use Rattle.sj_rules.specs.PlainSide.{PlainSide, untaken_of, CountsFit}
 use Rattle.sj_rules.specs.Counts.{Agrees, ResendFits}
 use Rattle.sj_rules.specs.Numbers.{Pace, level, ahead, behind, by_ack, by_signal, NumbersFit}
 use Rattle.sj_rules.specs.Streams.{ComesWhole}
 use Rattle.sj_rules.specs.Invariant.{IsSound}
 use Rattle.sj_rules.specs.Coming.{Comes}
+use Rattle.sj_rules.specs.Worked.{mails_of}
 use Rattle.sj_world_laws.proofs.InstallLemmas.{fresh, live_after, old_after, again_from, installs_level, whole_again}
 use Rattle.sj_world_laws.proofs.PassiveLemmas.{passed_again, passes_to}
 use Rattle.sj_world_laws.proofs.LeadLemmas.{behind_is_signalled}
@@ -24,7 +24,7 @@ module _ {P : Type 0} (IsOver : P → Type 0) (pick : ℕ → ℕ → ℕ) (x y 
   -- the cache goes out again where the Give says so, and nothing else is sent
   pub record InstalledQuietly (pace : Pace) : Type 0 where
     pub end : HeldAt P
-    pub row : install pick pr (mailed_from er.peer dr) er q ≡ Some (record { state = end; posts = resent_at er q })
+    pub row : install pick pr (mails_of er.peer dr) er q ≡ Some (record { state = end; posts = resent_at er q })
     pub sound : IsSound IsOver pace x y (side_of sid ps s (old_after pace s so (again_from sid er q)) (live_after pace s sl (again_from sid er q)))
         (side_of rid pr (held u end) ro rl)
 
@@ -40,7 +40,7 @@ module _ {P : Type 0} (IsOver : P → Type 0) (pick : ℕ → ℕ → ℕ) (x y 
     pub party : ℕ
     pub taken : ℕ
     pub peer_is : end.end.peer ≡ er.peer
-    pub row : install pick pr (mailed_from er.peer dr) er q ≡ Some (record { state = held_on pick end party taken; posts = resent_at er q ++ (passes_to pick end.end party taken).posts })
+    pub row : install pick pr (mails_of er.peer dr) er q ≡ Some (record { state = held_on pick end party taken; posts = resent_at er q ++ (passes_to pick end.end party taken).posts })
     pub sound : IsSound IsOver (behind by_ack) x y
         (side_of sid ps (signalled at to from late) ((so ++ again_from sid er q) ++ Ack sid from.conn ∷ []) (sl ++ passed_again pick sid end.end party taken))
         (side_of rid pr (held u (held_on pick end party taken)) ro rl)

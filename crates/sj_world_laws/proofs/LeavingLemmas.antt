@@ -7,7 +7,7 @@ use Rattle.sj_rules.specs.Seat.{Seat, signalled, gone}
 use Rattle.sj_rules.specs.PlainSide.{PlainSide}
 use Rattle.sj_rules.specs.Numbers.{level}
 use Rattle.sj_rules.specs.Streams.{AreDropped, ComesLoose}
-use Rattle.sj_rules.specs.Coming.{explained}
+use Rattle.sj_rules.specs.Coming.{explanation}
 use Rattle.sj_world_laws.proofs.DropLemmas.{IsPlain}
 use Rattle.sj_world_laws.proofs.SourceLemmas.{IsSignalled}
 
@@ -30,11 +30,11 @@ not_dropped to conn over mark f rest p l = not_in to conn over mark f rest l.dro
 
 -- a Signal in an old stream where the numbers are equal
 pub level_mark_signal : {P : Type 0} → (to : EndId) (conn : ℕ) (x : PlainSide P) (s : Seat P) (c p k : ℕ) (rest : List (BodyAt P)) →
-    Signal to c p k ∷ rest ≡ explained level to conn x s → (c ≡ conn) × IsSignalled s
+    Signal to c p k ∷ rest ≡ explanation level to conn x s → (c ≡ conn) × IsSignalled s
 level_mark_signal to conn x (signalled a t e ds) c p k rest m = (cc m, record { at = a; to = t; end = e; late = ds; is = refl })
 level_mark_signal to conn x s c p k rest m = absurd (cc m)
 
 -- there is no Ack then
-pub level_mark_ack : {P : Type 0} → (to : EndId) (conn : ℕ) (x : PlainSide P) (s : Seat P) (c : ℕ) (rest : List (BodyAt P)) → Ack to c ∷ rest ≡ explained level to conn x s → ⊥
+pub level_mark_ack : {P : Type 0} → (to : EndId) (conn : ℕ) (x : PlainSide P) (s : Seat P) (c : ℕ) (rest : List (BodyAt P)) → Ack to c ∷ rest ≡ explanation level to conn x s → ⊥
 level_mark_ack to conn x gone c rest m = cc m
 level_mark_ack to conn x s c rest m = cc m

@@ -5,7 +5,7 @@ use Rattle.std.specs.List.{filter}
 use Rattle.std.proofs.lemmas.Bool.{eq-eqb}
 use Rattle.sj_base.specs.declared.EndId.{EndId}
 use Rattle.sj_rules.specs.Record.{EndAt, BodyAt, Fin, Signal, Ack, Mail, HeldAt, Held, Closed, Parked, other_end, is_same_end}
-use Rattle.sj_rules.specs.Rows.{with_last, passive_closed, passive, trimmed, handed_on}
+use Rattle.sj_rules.specs.Rows.{with_last, passive_closed, passive, trimmed_end, end_with_peer}
 use Rattle.sj_rules.specs.Node.{Play, NodeAt, with_main, with_old}
 use Rattle.sj_rules.specs.Frames.{FrameAt}
 use Rattle.sj_rules.specs.World.{WorldAt}
@@ -37,7 +37,7 @@ module _ {P Q : Type 0} (IsOver : P → Type 0) (play : Play P Q) (pick : ℕ �
       IsSound IsOver level x y (side_of (other_end id) ps (signalled a t es ds) so sl) (side_of id place (held b h) ro (Signal id h.end.conn p k ∷ left)) →
       Delivered IsOver play pick w a b id x y (signalled a t es ds) (held b h)
   signal_at_held h law front shows shown sound =
-      let went : EndAt P = trimmed pick (handed_on h.end p) k in
+      let went : EndAt P = trimmed_end pick (end_with_peer h.end p) k in
       let g : HeldAt P = record h { end = went } in
       let n : NodeAt P Q = with_main id (Some (Held g)) (w.nodes b) in
       let f : FrameAt P = record { clock = clock; body = Signal id h.end.conn p k } in
@@ -68,7 +68,7 @@ module _ {P Q : Type 0} (IsOver : P → Type 0) (play : Play P Q) (pick : ℕ �
       IsSound IsOver level x y (side_of (other_end id) ps (signalled a t es ds) so sl) (side_of id place (parked b e) ro (Signal id e.conn p k ∷ left)) →
       Delivered IsOver play pick w a b id x y (signalled a t es ds) (parked b e)
   signal_at_parked e law front shows shown sound =
-      let went : EndAt P = trimmed pick (handed_on e p) k in
+      let went : EndAt P = trimmed_end pick (end_with_peer e p) k in
       let n : NodeAt P Q = with_old id (Some (Parked went)) (w.nodes b) in
       let f : FrameAt P = record { clock = clock; body = Signal id e.conn p k } in
       let l : (passive pick e e.peer e.conn p k ≡ Some (passed pick e p k))
@@ -97,7 +97,7 @@ module _ {P Q : Type 0} (IsOver : P → Type 0) (play : Play P Q) (pick : ℕ �
       IsSound IsOver level x y (side_of (other_end id) ps (signalled a t es ds) so sl) (side_of id place (claimed b u e) ro (Signal id e.conn p k ∷ left)) →
       Delivered IsOver play pick w a b id x y (signalled a t es ds) (claimed b u e)
   signal_at_claimed u e law front shows shown sound =
-      let went : EndAt P = trimmed pick (handed_on e p) k in
+      let went : EndAt P = trimmed_end pick (end_with_peer e p) k in
       let n : NodeAt P Q = with_old id (Some (Parked went)) (w.nodes b) in
       let f : FrameAt P = record { clock = clock; body = Signal id e.conn p k } in
       let l : (passive pick e e.peer e.conn p k ≡ Some (passed pick e p k))
@@ -126,7 +126,7 @@ module _ {P Q : Type 0} (IsOver : P → Type 0) (play : Play P Q) (pick : ℕ �
       IsSound IsOver level x y (side_of (other_end id) ps (signalled a t es ds) so sl) (side_of id place (closed b e) ro (Signal id e.conn p k ∷ left)) →
       Delivered IsOver play pick w a b id x y (signalled a t es ds) (closed b e)
   signal_at_closed e law front shows shown sound =
-      let went : EndAt P = trimmed pick (handed_on e p) k in
+      let went : EndAt P = trimmed_end pick (end_with_peer e p) k in
       let n : NodeAt P Q = with_main id (Some (Closed went)) (w.nodes b) in
       let f : FrameAt P = record { clock = clock; body = Signal id e.conn p k } in
       let more : List (BodyAt P) = resends pick (other_end id) e p k ++ Fin (other_end id) (e.conn + 1) e.sent ∷ [] in

@@ -7,7 +7,7 @@ use Rattle.std.proofs.lemmas.List.Elements.{filter-append}
 use Rattle.sj_base.specs.declared.EndId.{EndId}
 use Rattle.sj_base.specs.declared.Msg.{Msg}
 use Rattle.sj_rules.specs.Record.{EndAt, BodyAt, Carry, Fin, Signal, Ack, Mail, other_end, is_same_end}
-use Rattle.sj_rules.specs.Rows.{trimmed, handed_on, numbered, mailed, cached_from, resent}
+use Rattle.sj_rules.specs.Rows.{trimmed_end, end_with_peer, numbered_carries, mails_of, cached_from, resent_posts}
 use Rattle.sj_rules.specs.Node.{Play, NodeAt, comes}
 use Rattle.sj_rules.specs.Frames.{FrameAt}
 use Rattle.sj_rules.specs.World.{WorldAt}
@@ -35,7 +35,7 @@ mails_append Is (k ∷ a) b m n = (m.0, mails_append Is a b m.1 n)
 
 -- mails of Carries
 pub numbered_mails : {P : Type 0} → (Is : BodyAt P → Type 0) (party : ℕ) (to : EndId) (conn told number : ℕ) (ms : List Msg) →
-    ((n : ℕ) (m : Msg) → Is (Carry to conn n told m)) → AreMails Is (mailed party (numbered to conn told number ms))
+    ((n : ℕ) (m : Msg) → Is (Carry to conn n told m)) → AreMails Is (mails_of party (numbered_carries to conn told number ms))
 numbered_mails Is party to conn told number [] h = tt
 numbered_mails Is party to conn told number (m ∷ ms) h = (h number m, numbered_mails Is party to conn told (number + 1) ms h)
 
@@ -53,26 +53,26 @@ nothing_live false false rest e = refl
 module _ (P : Type 0) (pick : ℕ → ℕ → ℕ) (id : EndId) (e : EndAt P) (p k : ℕ) (name : e.id ≡ id) where
   -- the messages that are sent again
   abbrev ms : List Msg
-  ms = cached_from (trimmed pick (handed_on e p) k) k
+  ms = cached_from (trimmed_end pick (end_with_peer e p) k) k
 
   -- the mails, by the other end's name
-  posts_are : ◌≡◌ {A = List (Mail P)} (record { party = e.peer; body = Ack (other_end e.id) e.conn } ∷ resent (trimmed pick (handed_on e p) k) k)
-      (record { party = e.peer; body = Ack (other_end id) e.conn } ∷ mailed p (numbered (other_end id) (e.conn + 1) e.taken k ms))
-  posts_are = ap (λ (i : EndId). record { party = e.peer; body = Ack (other_end i) e.conn } ∷ mailed p (numbered (other_end i) (e.conn + 1) e.taken k ms)) name
+  posts_are : ◌≡◌ {A = List (Mail P)} (record { party = e.peer; body = Ack (other_end e.id) e.conn } ∷ resent_posts (trimmed_end pick (end_with_peer e p) k) k)
+      (record { party = e.peer; body = Ack (other_end id) e.conn } ∷ mails_of p (numbered_carries (other_end id) (e.conn + 1) e.taken k ms))
+  posts_are = ap (λ (i : EndId). record { party = e.peer; body = Ack (other_end i) e.conn } ∷ mails_of p (numbered_carries (other_end i) (e.conn + 1) e.taken k ms)) name
 
   -- what the passive row sends, as s sees it
-  pub pass_sent : (to c : ℕ) → filter (goes_to {P = P} (other_end id) c) (sent_to to (record { party = e.peer; body = Ack (other_end e.id) e.conn } ∷ resent (trimmed pick (handed_on e p) k) k))
-      ≡ (if (to == e.peer) && (c == e.conn) then Ack (other_end id) e.conn ∷ [] else []) ++ (if (to == p) && (c == e.conn + 1) then numbered (other_end id) (e.conn + 1) e.taken k ms else [])
+  pub pass_sent : (to c : ℕ) → filter (goes_to {P = P} (other_end id) c) (sent_to to (record { party = e.peer; body = Ack (other_end e.id) e.conn } ∷ resent_posts (trimmed_end pick (end_with_peer e p) k) k))
+      ≡ (if (to == e.peer) && (c == e.conn) then Ack (other_end id) e.conn ∷ [] else []) ++ (if (to == p) && (c == e.conn + 1) then numbered_carries (other_end id) (e.conn + 1) e.taken k ms else [])
   pass_sent to c = ap (λ l. filter (goes_to {P = P} (other_end id) c) (sent_to to l)) posts_are ∙ by to c
     where
-      by : (to c : ℕ) → filter (goes_to {P = P} (other_end id) c) (sent_to to (record { party = e.peer; body = Ack (other_end id) e.conn } ∷ mailed p (numbered (other_end id) (e.conn + 1) e.taken k ms)))
-          ≡ (if (to == e.peer) && (c == e.conn) then Ack (other_end id) e.conn ∷ [] else []) ++ (if (to == p) && (c == e.conn + 1) then numbered (other_end id) (e.conn + 1) e.taken k ms else [])
-      by to c = sent_cons {P = P} (goes_to (other_end id) c) to (record { party = e.peer; body = Ack (other_end id) e.conn }) (mailed p (numbered (other_end id) (e.conn + 1) e.taken k ms))
+      by : (to c : ℕ) → filter (goes_to {P = P} (other_end id) c) (sent_to to (record { party = e.peer; body = Ack (other_end id) e.conn } ∷ mails_of p (numbered_carries (other_end id) (e.conn + 1) e.taken k ms)))
+          ≡ (if (to == e.peer) && (c == e.conn) then Ack (other_end id) e.conn ∷ [] else []) ++ (if (to == p) && (c == e.conn + 1) then numbered_carries (other_end id) (e.conn + 1) e.taken k ms else [])
+      by to c = sent_cons {P = P} (goes_to (other_end id) c) to (record { party = e.peer; body = Ack (other_end id) e.conn }) (mails_of p (numbered_carries (other_end id) (e.conn + 1) e.taken k ms))
           ∙ rw (same_end (other_end id), sent_numbered P (other_end id) c to p (e.conn + 1) e.taken k ms (same_end (other_end id))) refl
 
   -- what holds of the Ack and the Carries holds of all
   pub pass_mails : (Is : BodyAt P → Type 0) → Is (Ack (other_end id) e.conn) → ((n : ℕ) (m : Msg) → Is (Carry (other_end id) (e.conn + 1) n e.taken m)) →
-      AreMails Is (record { party = e.peer; body = Ack (other_end e.id) e.conn } ∷ resent (trimmed pick (handed_on e p) k) k)
+      AreMails Is (record { party = e.peer; body = Ack (other_end e.id) e.conn } ∷ resent_posts (trimmed_end pick (end_with_peer e p) k) k)
   pass_mails Is a h = subst (λ l. AreMails Is l) (sym posts_are) (a, numbered_mails Is p (other_end id) (e.conn + 1) e.taken k ms h)
 
 module _ {P Q : Type 0} (IsOver : P → Type 0) (play : Play P Q) (pick : ℕ → ℕ → ℕ) (w : WorldAt P Q) (rest : List (FrameAt P))

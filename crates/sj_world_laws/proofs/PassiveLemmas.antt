@@ -4,7 +4,7 @@ use Rattle.std.specs.Prelude.{true, false, Some}
 use Rattle.sj_base.specs.declared.EndId.{EndId}
 use Rattle.sj_rules.specs.Record.{EndAt, BodyAt, Fin, Signal, Ack, other_end}
 use Rattle.sj_rules.specs.Limits.{limit_of_conns}
-use Rattle.sj_rules.specs.Rows.{IsPick, Worked, trimmed, handed_on, signal_fits, passive, passive_closed, numbered, cached_from, resent}
+use Rattle.sj_rules.specs.Rows.{IsPick, Worked, trimmed_end, end_with_peer, signal_fits, passive, passive_closed, numbered_carries, cached_from, resent_posts}
 use Rattle.sj_rules.specs.Seat.{parked, claimed, signalled, closed, side_of}
 use Rattle.sj_rules.specs.PlainSide.{PlainSide, untaken_of, CountsFit}
 use Rattle.sj_rules.specs.Counts.{Agrees}
@@ -15,24 +15,24 @@ use Rattle.sj_world_laws.proofs.SignalLemmas.{numbered_are, cached_is, marked}
 
 -- what a Signal that fits makes of the end
 abbrev pub passed_on : {P : Type 0} → (ℕ → ℕ → ℕ) → EndAt P → (party taken : ℕ) → EndAt P
-passed_on pick e p k = trimmed pick (handed_on e p) k
+passed_on pick e p k = trimmed_end pick (end_with_peer e p) k
 
 -- what the other end gets then, under its coming number
 abbrev pub passed_again : {P : Type 0} → (ℕ → ℕ → ℕ) → EndId → EndAt P → (party taken : ℕ) → List (BodyAt P)
-passed_again pick sid e p k = numbered sid (e.conn + 1) e.taken k (cached_from (passed_on pick e p k) k)
+passed_again pick sid e p k = numbered_carries sid (e.conn + 1) e.taken k (cached_from (passed_on pick e p k) k)
 
 -- what the row gives, at an end that isn't Closed
 abbrev pub passes_to : {P : Type 0} → (ℕ → ℕ → ℕ) → EndAt P → (party taken : ℕ) → Worked P (EndAt P)
 passes_to pick e p k = record {
   state = passed_on pick e p k;
-  posts = record { party = e.peer; body = Ack (other_end e.id) e.conn } ∷ resent (passed_on pick e p k) k;
+  posts = record { party = e.peer; body = Ack (other_end e.id) e.conn } ∷ resent_posts (passed_on pick e p k) k;
 }
 
 -- at one that is
 abbrev pub closes_to : {P : Type 0} → (ℕ → ℕ → ℕ) → EndAt P → (party taken : ℕ) → Worked P (EndAt P)
 closes_to pick e p k = record {
   state = passed_on pick e p k;
-  posts = (record { party = e.peer; body = Ack (other_end e.id) e.conn } ∷ resent (passed_on pick e p k) k)
+  posts = (record { party = e.peer; body = Ack (other_end e.id) e.conn } ∷ resent_posts (passed_on pick e p k) k)
       ++ record { party = p; body = Fin (other_end e.id) (e.conn + 1) e.sent } ∷ [];
 }
 
@@ -41,7 +41,7 @@ record Passed {P : Type 0} (pick : ℕ → ℕ → ℕ) (x y : PlainSide P) (sid
   passes : signal_fits e e.peer c k ≡ true
   agrees : Agrees rid (passed_on pick e p k) y
   base : pick e.base k ≤ x.taken
-  again : passed_again {P = P} pick sid e p k ≡ numbered sid (es.conn + 1) y.taken x.taken (drop x.taken y.sent)
+  again : passed_again {P = P} pick sid e p k ≡ numbered_carries sid (es.conn + 1) y.taken x.taken (drop x.taken y.sent)
 
 -- from the facts of the session
 passed : {P : Type 0} → (pick : ℕ → ℕ → ℕ) → IsPick pick → (x y : PlainSide P) → CountsFit x y → (sid rid : EndId) (e es : EndAt P) (c p k : ℕ) →
@@ -88,7 +88,7 @@ module _ {P : Type 0} (IsOver : P → Type 0) (pick : ℕ → ℕ → ℕ) (pick
             place = sound.back.place;
             resend = tt;
             comes = record {
-              carries = numbered sid (es.conn + 1) y.taken x.taken (drop x.taken y.sent);
+              carries = numbered_carries sid (es.conn + 1) y.taken x.taken (drop x.taken y.sent);
               split = ap (λ l. ds ++ (sl ++ l)) (sym (append-nil (passed_again pick sid e p k))) ∙ behind_nothing ds sl _ _ [] bare.1 bare.0 passed.again;
               are = numbered_are P sid (es.conn + 1) x.taken es.base y.taken (drop x.taken y.sent) mine.2;
             };
@@ -123,7 +123,7 @@ module _ {P : Type 0} (IsOver : P → Type 0) (pick : ℕ → ℕ → ℕ) (pick
             place = sound.back.place;
             resend = tt;
             comes = record {
-              carries = numbered sid (es.conn + 1) y.taken x.taken (drop x.taken y.sent);
+              carries = numbered_carries sid (es.conn + 1) y.taken x.taken (drop x.taken y.sent);
               split = ap (λ l. ds ++ (sl ++ l)) (sym (append-nil (passed_again pick sid e p k))) ∙ behind_nothing ds sl _ _ [] bare.1 bare.0 passed.again;
               are = numbered_are P sid (es.conn + 1) x.taken es.base y.taken (drop x.taken y.sent) mine.2;
             };
@@ -159,9 +159,9 @@ module _ {P : Type 0} (IsOver : P → Type 0) (pick : ℕ → ℕ → ℕ) (pick
             place = sound.back.place;
             resend = tt;
             comes = record {
-              carries = numbered sid (es.conn + 1) y.taken x.taken (drop x.taken y.sent);
+              carries = numbered_carries sid (es.conn + 1) y.taken x.taken (drop x.taken y.sent);
               split = behind_nothing ds sl _ _ (Fin sid (e.conn + 1) e.sent ∷ []) bare.1 bare.0 passed.again
-                  ∙ ap (λ f. numbered sid (es.conn + 1) y.taken x.taken (drop x.taken y.sent) ++ f ∷ []) fin;
+                  ∙ ap (λ f. numbered_carries sid (es.conn + 1) y.taken x.taken (drop x.taken y.sent) ++ f ∷ []) fin;
               are = numbered_are P sid (es.conn + 1) x.taken es.base y.taken (drop x.taken y.sent) mine.2;
             };
             old = marked sid es.conn true so (Ack sid es.conn ∷ []) sound.back.old;

@@ -7,12 +7,13 @@ use Rattle.sj_rules.specs.Record.{EndAt, BodyAt, Carry, Fin, Signal, MainAt, Old
 use Rattle.sj_rules.specs.Rows.{IsPick, at_held}
 use Rattle.sj_rules.specs.Node.{NodeAt}
 use Rattle.sj_rules.specs.Seat.{Seat, held, parked, claimed, signalled, given, closed, gone, Side, source_for}
-use Rattle.sj_rules.specs.Shown.{mailed_from, old_shown}
+use Rattle.sj_rules.specs.Shown.{old_shown}
 use Rattle.sj_rules.specs.PlainSide.{PlainSide, untaken_of, CountsFit}
 use Rattle.sj_rules.specs.Counts.{Agrees}
 use Rattle.sj_rules.specs.Numbers.{Pace, level, ahead, behind, NumbersFit, is_over}
 use Rattle.sj_rules.specs.Coming.{Comes}
 use Rattle.sj_rules.specs.Streams.{AreDropped, signal_of, mark_of}
+use Rattle.sj_rules.specs.Worked.{mails_of}
 use Rattle.sj_world_laws.proofs.CarryLemmas.{carried}
 use Rattle.sj_world_laws.proofs.HeldLemmas.{carry_held, fin_held, from_sender, fin_is_mark}
 use Rattle.sj_world_laws.proofs.DropLemmas.{drops_parked, drops_claimed, drops_signalled}
@@ -122,14 +123,14 @@ module _ {P : Type 0} (IsOver : P → Type 0) (pick : ℕ → ℕ → ℕ) (pick
   pub defers_signalled_law : DefersAtSignalled IsOver pick x y s id place
   defers_signalled_law pace b u e ds ro rest f sound = (
     under_signalled pace b u e ds rest f sound.numbers sound.there.comes,
-    (defers_signalled IsOver pick (stub (Some (Expected b place (mailed_from (source_for s.seat (signalled b u e ds)) ds))) (old_shown (signalled b u e ds) u)) x y s.id id s.place place s.seat s.old s.live b u e ds f pace ro rest refl refl sound).1,
+    (defers_signalled IsOver pick (stub (Some (Expected b place (mails_of (source_for s.seat (signalled b u e ds)) ds))) (old_shown (signalled b u e ds) u)) x y s.id id s.place place s.seat s.old s.live b u e ds f pace ro rest refl refl sound).1,
   )
 
   -- deferred at a Give
   pub defers_given_law : DefersAtGiven IsOver pick x y s id place
   defers_given_law pace b u e resend ds ro rest f sound = (
     under_given pace b u e resend ds rest f sound.numbers sound.there.comes,
-    (defers_given IsOver pick (stub (Some (Expected b place (mailed_from (source_for s.seat (given b u e resend ds)) ds))) None) x y s.id id s.place place s.seat s.old s.live b u e ds f pace resend ro rest refl refl sound).1,
+    (defers_given IsOver pick (stub (Some (Expected b place (mails_of (source_for s.seat (given b u e resend ds)) ds))) None) x y s.id id s.place place s.seat s.old s.live b u e ds f pace resend ro rest refl refl sound).1,
   )
 
   -- what comes to a Parked end

@@ -6,7 +6,7 @@ use Rattle.std.proofs.lemmas.Bool.{eqb-true, ne_eqb}
 use Rattle.sj_base.specs.declared.EndId.{EndId}
 use Rattle.sj_base.specs.declared.Msg.{Msg}
 use Rattle.sj_rules.specs.Record.{EndAt, BodyAt, Carry, Mail, is_same_end}
-use Rattle.sj_rules.specs.Rows.{numbered, mailed}
+use Rattle.sj_rules.specs.Rows.{numbered_carries, mails_of}
 use Rattle.sj_rules.specs.Frames.{FrameAt, frames_for}
 use Rattle.sj_rules.specs.World.{WorldAt, lanes_with}
 use Rattle.sj_rules.specs.Seat.{Seat, signalled, Side, source_for, taker_of, coming_of, side_of}
@@ -56,18 +56,18 @@ mails_by A B h (m ∷ ms) a = (h m.body a.0, mails_by A B h ms a.1)
 
 -- Carries for an end that go to a party
 pub sent_numbered : (P : Type 0) (id : EndId) (c to a n told k : ℕ) (ms : List Msg) → is_same_end id id ≡ true →
-    filter (goes_to {P = P} id c) (sent_to to (mailed a (numbered id n told k ms))) ≡ (if (to == a) && (c == n) then numbered id n told k ms else [])
+    filter (goes_to {P = P} id c) (sent_to to (mails_of a (numbered_carries id n told k ms))) ≡ (if (to == a) && (c == n) then numbered_carries id n told k ms else [])
 sent_numbered P id c to a n told k [] e = by ((to == a) && (c == n))
   where
     by : (b : Bool) → ◌≡◌ {A = List (BodyAt P)} [] (if b then [] else [])
     by true = refl
     by false = refl
 sent_numbered P id c to a n told k (m ∷ ms) e =
-    sent_cons (goes_to id c) to (record { party = a; body = Carry id n k told m }) (mailed a (numbered id n told (k + 1) ms))
+    sent_cons (goes_to id c) to (record { party = a; body = Carry id n k told m }) (mails_of a (numbered_carries id n told (k + 1) ms))
     ∙ rw (e, sent_numbered P id c to a n told (k + 1) ms e) (by (to == a) (c == n))
   where
-    by : (x y : Bool) → ◌≡◌ {A = List (BodyAt P)} ((if x && y then Carry id n k told m ∷ [] else []) ++ (if x && y then numbered id n told (k + 1) ms else []))
-        (if x && y then Carry id n k told m ∷ numbered id n told (k + 1) ms else [])
+    by : (x y : Bool) → ◌≡◌ {A = List (BodyAt P)} ((if x && y then Carry id n k told m ∷ [] else []) ++ (if x && y then numbered_carries id n told (k + 1) ms else []))
+        (if x && y then Carry id n k told m ∷ numbered_carries id n told (k + 1) ms else [])
     by true true = refl
     by true false = refl
     by false y = refl

@@ -9,12 +9,13 @@ use Rattle.sj_rules.specs.Node.{Play, NodeAt, comes, with_number, with_main, wit
 use Rattle.sj_rules.specs.Frames.{FrameAt}
 use Rattle.sj_rules.specs.World.{WorldAt}
 use Rattle.sj_rules.specs.Seat.{Seat, held, parked, claimed, signalled, given, closed, gone, Side, source_for, taker_of, coming_of, peer_of, side_of}
-use Rattle.sj_rules.specs.Shown.{Shows, old_in, is_lane, mailed_from}
+use Rattle.sj_rules.specs.Shown.{Shows, old_in, is_lane}
 use Rattle.sj_rules.specs.PlainSide.{PlainSide}
 use Rattle.sj_rules.specs.Numbers.{Pace, level, NumbersFit}
 use Rattle.sj_rules.specs.Invariant.{IsSound}
 use Rattle.sj_rules.specs.Coming.{Comes}
 use Rattle.sj_rules.specs.Linked.{subject_of}
+use Rattle.sj_rules.specs.Worked.{mails_of}
 use Rattle.sj_world_laws.proofs.TableLemmas.{Turns, with_tables}
 use Rattle.sj_world_laws.proofs.PopLemmas.{popped}
 use Rattle.sj_world_laws.proofs.PostLemmas.{with_posts, posts_apart}
@@ -113,7 +114,7 @@ none_of_next e u true = rw (ne_eqb e.conn (e.conn + 1) (λ i. omega (arith, i)))
 none_of_next e u false = refl
 
 -- one more is deferred
-pub one_more : {P : Type 0} → (from : ℕ) (ds : List (BodyAt P)) (b : BodyAt P) → mailed_from from (ds ++ b ∷ []) ≡ mailed_from from ds ++ record { party = from; body = b } ∷ []
+pub one_more : {P : Type 0} → (from : ℕ) (ds : List (BodyAt P)) (b : BodyAt P) → mails_of from (ds ++ b ∷ []) ≡ mails_of from ds ++ record { party = from; body = b } ∷ []
 one_more from ds b = simp map-append
 
 -- beside an end that was Closed and is gone

@@ -8,11 +8,12 @@ use Rattle.sj_rules.specs.Record.{Held, Closed, Expected, HeldAt, Mail, other_en
 use Rattle.sj_rules.specs.Node.{NodeAt}
 use Rattle.sj_rules.specs.World.{WorldAt}
 use Rattle.sj_rules.specs.Seat.{Seat, held, parked, claimed, signalled, given, closed, gone, Side, source_for, side_of}
-use Rattle.sj_rules.specs.Shown.{Shows, bodies, goes_to, is_claim, is_give, main_shown, mailed_from}
+use Rattle.sj_rules.specs.Shown.{Shows, bodies, goes_to, is_claim, is_give, main_shown}
 use Rattle.sj_rules.specs.PlainSide.{PlainSide}
 use Rattle.sj_rules.specs.Numbers.{Pace}
 use Rattle.sj_rules.specs.Invariant.{IsSound}
 use Rattle.sj_rules.specs.Linked.{Sessions, AreProper, subject_of, end_named}
+use Rattle.sj_rules.specs.Worked.{mails_of}
 use Rattle.sj_world_laws.proofs.TableLemmas.{with_tables}
 use Rattle.sj_world_laws.proofs.PostLemmas.{with_posts}
 use Rattle.sj_world_laws.proofs.SwapLemmas.{other_other}
@@ -96,12 +97,12 @@ held_seat {P} from place (claimed at to g) p h e = by (p == to) e
     by : (k : Bool) → Some (Held h) ≡ (if k then Some (Expected at place []) else None) → claimed at to g ≡ held p h
     by true j = absurd (cc j)
     by false j = absurd (cc j)
-held_seat {P} from place (signalled at to g ds) p h e = by (p == to) (mailed_from from ds) e
+held_seat {P} from place (signalled at to g ds) p h e = by (p == to) (mails_of from ds) e
   where
     by : (k : Bool) (l : List (Mail P)) → Some (Held h) ≡ (if k then Some (Expected at place l) else None) → signalled at to g ds ≡ held p h
     by true l j = absurd (cc j)
     by false l j = absurd (cc j)
-held_seat {P} from place (given at to g r ds) p h e = by (p == to) (mailed_from from ds) e
+held_seat {P} from place (given at to g r ds) p h e = by (p == to) (mails_of from ds) e
   where
     by : (k : Bool) (l : List (Mail P)) → Some (Held h) ≡ (if k then Some (Expected at place l) else None) → given at to g r ds ≡ held p h
     by true l j = absurd (cc j)

@@ -10,7 +10,7 @@ use Rattle.sj_rules.specs.Binding.{NamesNoEnd}
 use Rattle.sj_rules.specs.Acts.{plain_sent, plain_taken}
 use Rattle.sj_rules.specs.PlainSteps.{PlainLocal, PlainSend, PlainTake}
 use Rattle.sj_rules.specs.Record.{Carry, HeldAt, Held, Mail, other_end}
-use Rattle.sj_rules.specs.Node.{Play, NodeAt, local, sends, takes, with_main, sent_on, taken_off, is_free, brought, quietly}
+use Rattle.sj_rules.specs.Node.{Play, NodeAt, local, sends, takes, with_main, held_behind_send, held_behind_take, is_free, work_of_take, quietly}
 use Rattle.sj_rules.specs.World.{WorldAt, Act, happens, after_event}
 use Rattle.sj_rules.specs.Seat.{Seat, held, Side, side_of}
 use Rattle.sj_rules.specs.PlainSide.{PlainAt, untaken_of}
@@ -53,7 +53,7 @@ module _ {P Q : Type 0} (IsOver : P → Type 0) (binds : Q → EndId → Bool) (
       (v : WorldAt P Q) × (happens play pick w p Act ≡ Some v) × IsKept IsOver binds v plain'
   send_keeps c msg next h laws counts wants main facts =
       let m : NodeAt P Q = record (w.nodes p) { program = play.goes (w.nodes p).program None } in
-      let n : NodeAt P Q = with_main c (Some (Held (sent_on h msg next))) m in
+      let n : NodeAt P Q = with_main c (Some (Held (held_behind_send h msg next))) m in
       let clock : ℕ = (w.nodes p).clock + 1 in
       let s : Side P = kept.sessions.sides (other_end c) in
       let r : Side P = kept.sessions.sides c in
@@ -61,7 +61,7 @@ module _ {P Q : Type 0} (IsOver : P → Type 0) (binds : Q → EndId → Bool) (
       let posts : List (Mail P) = record { party = h.end.peer; body = Carry (other_end c) h.end.conn h.end.sent h.end.taken msg } ∷ [] in
       let v : WorldAt P Q = with_posts (with_tables w p clock n) p clock posts in
       let s1 : Side P = with_more here.pace s (Carry s.id h.end.conn h.end.sent h.end.taken msg ∷ []) in
-      let r1 : Side P = side_of c next (held p (sent_on h msg next)) r.old r.live in
+      let r1 : Side P = side_of c next (held p (held_behind_send h msg next)) r.old r.live in
       let out : Outcome IsOver w v c here.pace (plain.sides (other_end c)) (plain_sent (plain.sides c) next msg) s1 r1 =
       sends_on IsOver w clock c facts.below (plain.sides (other_end c)) (plain.sides c) s r.place r.old r.live here.pace p h m (λ d. refl) (λ d. refl) here.shows here.shown here.sound (laws.send s c r.place facts.below) msg next facts.open_there in
       let out1 : Outcome IsOver w v c here.pace (plain'.sides (other_end c)) (plain'.sides c) s1 r1 =
@@ -70,7 +70,7 @@ module _ {P Q : Type 0} (IsOver : P → Type 0) (binds : Q → EndId → Bool) (
       let goes : Goes IsOver w v plain.sides plain'.sides kept.sessions c s1 r1 =
       goes_on IsOver w v plain.sides plain'.sides kept.sessions c here.pace s1 r1 facts.below out1 (λ e i. facts.sides e (apart_from e c i)) in
       let alike : (e : EndId) → e.side < 2 → IsAlike (seat_of e) (goes.after.sides e).seat =
-      alike_after v c facts.below s1 r1 goes (subst (λ z. IsAlike z (held p (sent_on h msg next))) (sym here.seat_is) (refl, λ keeper. (λ i. i, λ i. i))) (same_alike s.seat) in
+      alike_after v c facts.below s1 r1 goes (subst (λ z. IsAlike z (held p (held_behind_send h msg next))) (sym here.seat_is) (refl, λ keeper. (λ i. i, λ i. i))) (same_alike s.seat) in
       let program : (w.nodes p).program ≡ plain.programs p = kept.programs p in
       let place : play.next h.end.place Out msg ≡ Some next = ap (λ z. play.next z Out msg) here.sound.there.fits.1 ∙ facts.fits in
       let fewer : (plain.sides (other_end c)).taken ≤ length (plain.sides c).sent = (counts c facts.below).fewer in
@@ -110,7 +110,7 @@ module _ {P Q : Type 0} (IsOver : P → Type 0) (binds : Q → EndId → Bool) (
   value_free n (msgs.More k) i = refl
 
   -- a value brings nothing
-  value_brought : {A B : Type 0} → (place : A) (m : Msg) (n : NodeAt A B) → NamesNoEnd m → brought place m n ≡ quietly n
+  value_brought : {A B : Type 0} → (place : A) (m : Msg) (n : NodeAt A B) → NamesNoEnd m → work_of_take place m n ≡ quietly n
   value_brought place (msgs.Sess sess side keeper) n i = absurd i
   value_brought place (msgs.Int k) n i = refl
   value_brought place (msgs.Bool k) n i = refl
@@ -124,7 +124,7 @@ module _ {P Q : Type 0} (IsOver : P → Type 0) (binds : Q → EndId → Bool) (
       (v : WorldAt P Q) × (happens play pick w p Act ≡ Some v) × IsKept IsOver binds v plain'
   take_keeps c place msg rest next h laws wants main waits facts =
       let m : NodeAt P Q = record (w.nodes p) { program = play.goes (w.nodes p).program (Some msg) } in
-      let g : HeldAt P = taken_off h rest next in
+      let g : HeldAt P = held_behind_take h rest next in
       let n : NodeAt P Q = with_main c (Some (Held g)) m in
       let clock : ℕ = (w.nodes p).clock + 1 in
       let s : Side P = kept.sessions.sides (other_end c) in

@@ -5,7 +5,7 @@ use Rattle.std.proofs.lemmas.List.{drop-append-le, length-drop, length-append}
 use Rattle.sj_base.specs.declared.EndId.{EndId}
 use Rattle.sj_base.specs.declared.Msg.{Msg}
 use Rattle.sj_rules.specs.Record.{BodyAt, HeldAt}
-use Rattle.sj_rules.specs.Node.{sent_on}
+use Rattle.sj_rules.specs.Node.{held_behind_send}
 use Rattle.sj_rules.specs.Seat.{Seat, held, parked, claimed, signalled, given, closed, gone, side_of}
 use Rattle.sj_rules.specs.PlainSide.{PlainSide, untaken_of}
 use Rattle.sj_rules.specs.Counts.{Agrees, SeatFits}
@@ -57,7 +57,7 @@ module _ {P : Type 0} (IsOver : P → Type 0) (x y : PlainSide P) (sid rid : End
   -- what comes to r where the numbers are equal
   level_sent : (r : Seat P) (rl : List (BodyAt P)) → ¬ IsOver y.place → SeatFits IsOver rid x y r → NumbersFit level (held a h) r →
       Comes level rid x y (held a h) r rl →
-      Comes level rid (plain_sent x place m) y (held a (sent_on h m place)) r (live_after level r rl (carry_of rid h.end m))
+      Comes level rid (plain_sent x place m) y (held a (held_behind_send h m place)) r (live_after level r rl (carry_of rid h.end m))
   level_sent (held b g) rl goes_on f n c =
       rw untaken_more (held_more rid g (untaken_of x y) y.taken x.taken rl m h.end.conn h.end.sent h.end.taken n.0 number_is agrees.taken c)
   level_sent (parked b e) rl goes_on f n c = loose_sent e.conn rl n.0 c
@@ -70,7 +70,7 @@ module _ {P : Type 0} (IsOver : P → Type 0) (x y : PlainSide P) (sid rid : End
   -- what comes to r
   comes_sent : (pace : Pace) (r : Seat P) (rl : List (BodyAt P)) → Meets pace r → ¬ IsOver y.place → SeatFits IsOver rid x y r →
       NumbersFit pace (held a h) r → Comes pace rid x y (held a h) r rl →
-      Comes pace rid (plain_sent x place m) y (held a (sent_on h m place)) r (live_after pace r rl (carry_of rid h.end m))
+      Comes pace rid (plain_sent x place m) y (held a (held_behind_send h m place)) r (live_after pace r rl (carry_of rid h.end m))
   comes_sent pace r rl (at_level s) goes_on f n c = level_sent s rl goes_on f n c
   comes_sent pace r rl (at_ahead by_ack b u e ds) goes_on f n c = whole_sent (e.conn + 1) e.base ds rl n.0 c
   comes_sent pace r rl (at_ahead by_signal b u e ds) goes_on f n c = whole_sent (e.conn + 1) x.taken ds rl n.0 c
@@ -78,7 +78,7 @@ module _ {P : Type 0} (IsOver : P → Type 0) (x y : PlainSide P) (sid rid : End
   -- what comes to r under the number that it leaves
   old_sent : (pace : Pace) (r : Seat P) (ro : List (BodyAt P)) → Meets pace r → NumbersFit pace (held a h) r →
       AreOld pace rid x (held a h) r ro →
-      AreOld pace rid (plain_sent x place m) (held a (sent_on h m place)) r (old_after pace r ro (carry_of rid h.end m))
+      AreOld pace rid (plain_sent x place m) (held a (held_behind_send h m place)) r (old_after pace r ro (carry_of rid h.end m))
   old_sent pace r ro (at_level (held b g)) n o = o
   old_sent pace r ro (at_level (parked b e)) n o = o
   old_sent pace r ro (at_level (claimed b u e)) n o = o
@@ -91,16 +91,16 @@ module _ {P : Type 0} (IsOver : P → Type 0) (x y : PlainSide P) (sid rid : End
 
   -- what comes to s
   back_sent : (pace : Pace) (r : Seat P) (sl : List (BodyAt P)) → NumbersFit pace (held a h) r →
-      Comes (turned pace) sid y x r (held a h) sl → Comes (turned pace) sid y (plain_sent x place m) r (held a (sent_on h m place)) sl
+      Comes (turned pace) sid y x r (held a h) sl → Comes (turned pace) sid y (plain_sent x place m) r (held a (held_behind_send h m place)) sl
   back_sent pace r sl n c = grind arith
 
   -- nothing comes to s under a number that it leaves
   old_kept : (pace : Pace) (r : Seat P) (so : List (BodyAt P)) → AreOld (turned pace) sid y r (held a h) so →
-      AreOld (turned pace) sid y r (held a (sent_on h m place)) so
+      AreOld (turned pace) sid y r (held a (held_behind_send h m place)) so
   old_kept pace r so o = grind arith
 
   -- s's own record
-  agrees_sent : h.end.base ≤ y.taken → Agrees sid (sent_on h m place).end (plain_sent x place m)
+  agrees_sent : h.end.base ≤ y.taken → Agrees sid (held_behind_send h m place).end (plain_sent x place m)
   agrees_sent low = record {
     name = agrees.name;
     hops = agrees.hops;
@@ -113,15 +113,15 @@ module _ {P : Type 0} (IsOver : P → Type 0) (x y : PlainSide P) (sid rid : End
 pub sends : {P : Type 0} → (IsOver : P → Type 0) (pace : Pace) (x y : PlainSide P) (sid rid : EndId) (ps pr : P) (a : ℕ) (h : HeldAt P) (r : Seat P)
     (so sl ro rl : List (BodyAt P)) (m : Msg) (place : P) → ¬ IsOver y.place → y.taken ≤ length x.sent →
     IsSound IsOver pace x y (side_of sid ps (held a h) so sl) (side_of rid pr r ro rl) →
-    IsSound IsOver pace (plain_sent x place m) y (side_of sid place (held a (sent_on h m place)) so sl)
+    IsSound IsOver pace (plain_sent x place m) y (side_of sid place (held a (held_behind_send h m place)) so sl)
     (side_of rid pr r (old_after pace r ro (carry_of rid h.end m)) (live_after pace r rl (carry_of rid h.end m)))
 sends {P} IsOver pace x y sid rid ps pr a h r so sl ro rl m place goes_on few sound =
     let fits : Agrees sid h.end x × (h.end.place ≡ x.place) × (h.end.base ≤ y.taken) = sound.back.fits in
     let met : Meets pace r = held_meets pace a h r sound.numbers in
     record {
       others = sound.others;
-      numbers = numbers_held pace a h (sent_on h m place) r refl refl sound.numbers;
-      hops = hops_held pace (x.hops + y.hops) a h (sent_on h m place) r refl sound.hops;
+      numbers = numbers_held pace a h (held_behind_send h m place) r refl refl sound.numbers;
+      hops = hops_held pace (x.hops + y.hops) a h (held_behind_send h m place) r refl sound.hops;
       there = record {
         fits = fits_sent IsOver x y sid rid a h m place fits.0 few r goes_on sound.there.fits;
         place = sound.there.place;

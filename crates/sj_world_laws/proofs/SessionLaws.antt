@@ -3,7 +3,7 @@ use Rattle.std.proofs.Common.{◌≡◌, ℕ, List, [], ◌∷◌, ◌++◌}
 use Rattle.std.specs.Prelude.{⊤, Option, Some, None}
 use Rattle.sj_base.specs.declared.EndId.{EndId}
 use Rattle.sj_rules.specs.Record.{EndAt, BodyAt, Carry, Fin, Claim, Signal, Ack, Give, HeldAt}
-use Rattle.sj_rules.specs.Rows.{trimmed, handed_on, crossed, acked, at_held}
+use Rattle.sj_rules.specs.Rows.{trimmed_end, end_with_peer, crossing_body, acked_body, at_held}
 use Rattle.sj_rules.specs.Seat.{Seat, held, parked, claimed, signalled, given, closed, gone, Side, side_of}
 use Rattle.sj_rules.specs.PlainSide.{PlainSide}
 use Rattle.sj_rules.specs.Numbers.{Pace, level}
@@ -73,14 +73,14 @@ module _ {P : Type 0} (IsOver : P → Type 0) (pick : ℕ → ℕ → ℕ) (x y 
   -- a Signal or an Ack under the number of a Signalled end: it goes as a Give
   abbrev pub SignalAtOld : Type 0
   SignalAtOld = (pace : Pace) (b u : ℕ) (e : EndAt P) (ds rest rl : List (BodyAt P)) (c p k : ℕ) → SoundWith pace (signalled b u e ds) (Signal id c p k ∷ rest) rl →
-      (pace' : Pace) × (rest ≡ []) × (crossed pick e e.peer c p k ≡ Some (Give (trimmed pick (handed_on e p) k) (Some k)))
-      × SoundWith pace' (given b u (trimmed pick (handed_on e p) k) (Some k) ds) [] rl
+      (pace' : Pace) × (rest ≡ []) × (crossing_body pick e e.peer c p k ≡ Some (Give (trimmed_end pick (end_with_peer e p) k) (Some k)))
+      × SoundWith pace' (given b u (trimmed_end pick (end_with_peer e p) k) (Some k) ds) [] rl
 
   -- an Ack there
   abbrev pub AckAtOld : Type 0
   AckAtOld = (pace : Pace) (b u : ℕ) (e : EndAt P) (ds rest rl : List (BodyAt P)) (c : ℕ) → SoundWith pace (signalled b u e ds) (Ack id c ∷ rest) rl →
-      (pace' : Pace) × (rest ≡ []) × (acked e e.peer c ≡ Some (Give (handed_on e e.peer) None))
-      × SoundWith pace' (given b u (handed_on e e.peer) None ds) [] rl
+      (pace' : Pace) × (rest ≡ []) × (acked_body e e.peer c ≡ Some (Give (end_with_peer e e.peer) None))
+      × SoundWith pace' (given b u (end_with_peer e e.peer) None ds) [] rl
 
 -- frames more that come to an end from the sender of the other, by their pace
 abbrev pub with_more : {P : Type 0} → Pace → Side P → List (BodyAt P) → Side P

@@ -5,7 +5,7 @@ use Rattle.std.proofs.lemmas.List.{drop-drop}
 use Rattle.sj_base.specs.declared.EndId.{EndId}
 use Rattle.sj_base.specs.declared.Msg.{Msg}
 use Rattle.sj_rules.specs.Record.{EndAt, BodyAt, Signal, Ack, HeldAt, other_end}
-use Rattle.sj_rules.specs.Rows.{IsPick, trimmed, handed_on, signal_fits, passive, numbered, cached_from, resent}
+use Rattle.sj_rules.specs.Rows.{IsPick, trimmed_end, end_with_peer, signal_fits, passive, numbered_carries, cached_from, resent_posts}
 use Rattle.sj_rules.specs.Seat.{held, signalled, side_of}
 use Rattle.sj_rules.specs.PlainSide.{PlainSide, untaken_of, CountsFit}
 use Rattle.sj_rules.specs.Counts.{Agrees}
@@ -16,15 +16,15 @@ use Rattle.sj_world_laws.proofs.CrossingLemmas.{trim_agrees, signal_passes}
 
 -- what is sent again is what waits
 pub numbered_are : (P : Type 0) (to : EndId) (conn number low taken : ℕ) (msgs : List Msg) → low ≤ taken →
-    AreCarries {P = P} to conn number low taken msgs (numbered to conn taken number msgs)
+    AreCarries {P = P} to conn number low taken msgs (numbered_carries to conn taken number msgs)
 numbered_are P to conn number low taken [] h = h
 numbered_are P to conn number low taken (m ∷ ms) h =
     (taken, h, refl, numbered_are P to conn (number + 1) taken taken ms (omega arith))
 
 pub cached_is : {P : Type 0} → (pick : ℕ → ℕ → ℕ) → IsPick pick → (id : EndId) (e : EndAt P) (y : PlainSide P) (peer k : ℕ) →
-    Agrees id e y → e.base ≤ k → cached_from (trimmed pick (handed_on e peer) k) k ≡ drop k y.sent
+    Agrees id e y → e.base ≤ k → cached_from (trimmed_end pick (end_with_peer e peer) k) k ≡ drop k y.sent
 cached_is pick picks id e y peer k a low =
-    let b : Agrees id (trimmed pick (handed_on e peer) k) y = trim_agrees pick picks id e y peer k a in
+    let b : Agrees id (trimmed_end pick (end_with_peer e peer) k) y = trim_agrees pick picks id e y peer k a in
     let up : pick e.base k ≤ k = omega (arith, (picks e.base k).1, low) in
     let sum : pick e.base k + (k - pick e.base k) ≡ k = omega arith in
     ap (λ l. drop (k - pick e.base k) l) b.cache
@@ -72,13 +72,13 @@ module _ {P : Type 0} (IsOver : P → Type 0) (pick : ℕ → ℕ → ℕ) (pick
   pub passes_held : (sid rid : EndId) (ps pr : P) (a t b : ℕ) (es : EndAt P) (h : HeldAt P) (ds so sl ro rest : List (BodyAt P)) (d : EndId) (c p k : ℕ) →
       IsSound IsOver level x y (side_of sid ps (signalled a t es ds) so sl) (side_of rid pr (held b h) ro (Signal d c p k ∷ rest)) →
       (passive pick h.end h.end.peer c p k ≡ Some (record {
-        state = trimmed pick (handed_on h.end p) k;
-        posts = record { party = h.end.peer; body = Ack (other_end h.end.id) h.end.conn } ∷ resent (trimmed pick (handed_on h.end p) k) k;
+        state = trimmed_end pick (end_with_peer h.end p) k;
+        posts = record { party = h.end.peer; body = Ack (other_end h.end.id) h.end.conn } ∷ resent_posts (trimmed_end pick (end_with_peer h.end p) k) k;
       }))
       × IsSound IsOver (behind by_ack) x y
       (side_of sid ps (signalled a t es ds) (so ++ Ack sid es.conn ∷ [])
-      (sl ++ numbered sid (h.end.conn + 1) h.end.taken k (cached_from (trimmed pick (handed_on h.end p) k) k)))
-      (side_of rid pr (held b (record h { end = trimmed pick (handed_on h.end p) k })) ro rest)
+      (sl ++ numbered_carries sid (h.end.conn + 1) h.end.taken k (cached_from (trimmed_end pick (end_with_peer h.end p) k) k)))
+      (side_of rid pr (held b (record h { end = trimmed_end pick (end_with_peer h.end p) k })) ro rest)
   passes_held sid rid ps pr a t b es h ds so sl ro rest d c p k sound =
       let comes : ComesToHeld rid h (untaken_of x y) y.taken x.taken false (mark_for rid h.end.conn x (signalled a t es ds)) (Signal d c p k ∷ rest) = sound.there.comes in
       let last : (h.fin ≡ false) × LastSignal rid h.end.conn t x.taken c p k comes.rest rest = last_signal rid h x y a t es ds d c p k rest comes in
@@ -89,11 +89,11 @@ module _ {P : Type 0} (IsOver : P → Type 0) (pick : ℕ → ℕ → ℕ) (pick
       let passes : signal_fits h.end h.end.peer c k ≡ true = signal_passes h.end c k last.1.conn_is
       (omega (arith, hops.1, counts.hops)) low (omega (arith, last.1.taken_is, counts.fewer, fits.0.sent)) in
       let base : pick h.end.base k ≤ x.taken = omega (arith, (picks h.end.base k).1, fits.2, last.1.taken_is) in
-      let again : cached_from (trimmed pick (handed_on h.end p) k) k ≡ drop k y.sent = cached_is pick picks rid h.end y p k fits.0 low in
+      let again : cached_from (trimmed_end pick (end_with_peer h.end p) k) k ≡ drop k y.sent = cached_is pick picks rid h.end y p k fits.0 low in
       let bare : (sl ≡ []) × (ds ≡ []) = sound.back.comes in
       let mine : Agrees sid es x × (es.place ≡ x.place) × (es.base ≤ y.taken) = sound.back.fits in
-      let same : numbered {P = P} sid (h.end.conn + 1) h.end.taken k (cached_from (trimmed pick (handed_on h.end p) k) k)
-      ≡ numbered sid (es.conn + 1) y.taken x.taken (drop x.taken y.sent) =
+      let same : numbered_carries {P = P} sid (h.end.conn + 1) h.end.taken k (cached_from (trimmed_end pick (end_with_peer h.end p) k) k)
+      ≡ numbered_carries sid (es.conn + 1) y.taken x.taken (drop x.taken y.sent) =
       rw (again, last.1.taken_is, sym numbers.0, fits.0.taken) in (
         simp passes,
         record {
@@ -112,7 +112,7 @@ module _ {P : Type 0} (IsOver : P → Type 0) (pick : ℕ → ℕ → ℕ) (pick
             place = sound.back.place;
             resend = tt;
             comes = record {
-              carries = numbered sid (es.conn + 1) y.taken x.taken (drop x.taken y.sent);
+              carries = numbered_carries sid (es.conn + 1) y.taken x.taken (drop x.taken y.sent);
               split = behind_nothing ds sl _ _ bare.1 bare.0 same;
               are = numbered_are P sid (es.conn + 1) x.taken es.base y.taken (drop x.taken y.sent) mine.2;
             };

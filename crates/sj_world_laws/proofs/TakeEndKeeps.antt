@@ -6,10 +6,9 @@ use Rattle.sj_base.specs.declared.EndId.{EndId}
 use Rattle.sj_base.specs.declared.Msg.{Msg}
 use Rattle.sj_lang.specs.declared.proto.Way.TheVariants.{Into}
 use Rattle.sj_rules.specs.PlainSteps.{PlainTakeEnd}
-use Rattle.sj_rules.specs.Moves.{handing}
 use Rattle.sj_rules.specs.Acts.{plain_taken}
 use Rattle.sj_rules.specs.Record.{EndAt, Claim, HeldAt, Held, Expected, Mail, other_end, is_same_end}
-use Rattle.sj_rules.specs.Node.{Play, NodeAt, takes, with_main, taken_off}
+use Rattle.sj_rules.specs.Node.{Play, NodeAt, takes, with_main, held_behind_take}
 use Rattle.sj_rules.specs.World.{WorldAt, Act, happens}
 use Rattle.sj_rules.specs.Seat.{Seat, held, parked, claimed, signalled, given, closed, gone, Side, side_of}
 use Rattle.sj_rules.specs.PlainSide.{PlainAt, untaken_of}
@@ -27,6 +26,7 @@ use Rattle.sj_world_laws.proofs.WaitLemmas.{waits_but_one, waits_less, kept_by, 
 use Rattle.sj_world_laws.proofs.ActLemmas.{takes_off}
 use Rattle.sj_world_laws.proofs.ClaimingLemmas.{claims_end}
 use Rattle.sj_world_laws.proofs.CloseKeeps.{seats_after}
+use Rattle.sj_semantics.specs.World.{session_message}
 
 -- an end that is parked somewhere
 parked_seat : {P : Type 0} → (keeper : ℕ) (seat : Seat P) → IsParkedAt keeper seat → (e : EndAt P) × (seat ≡ parked keeper e)
@@ -40,7 +40,7 @@ parked_seat keeper gone i = absurd i
 
 module _ {P Q : Type 0} (IsOver : P → Type 0) (binds : Q → EndId → Bool) (play : Play P Q) (pick : ℕ → ℕ → ℕ) (w : WorldAt P Q) (plain plain' : PlainAt P Q) (kept : IsKept IsOver binds w plain) (p : ℕ)
     (fresh : play.is_worn (plain.programs p) ≡ false) (c d : EndId) (keeper : ℕ) (place next : P) (h : HeldAt P) (rest : List Msg) (wants : play.wants (plain.programs p) ≡ takes c place)
-    (main : (w.nodes p).main c ≡ Some (Held h)) (waits : h.untaken ≡ handing d keeper ∷ rest)
+    (main : (w.nodes p).main c ≡ Some (Held h)) (waits : h.untaken ≡ session_message d keeper ∷ rest)
     (laws : ActLaws IsOver (plain.sides (other_end c)) (plain.sides c)) (facts : PlainTakeEnd IsOver binds play plain plain' p c d keeper place next) where
   -- where an end is
   abbrev seat_of : EndId → Seat P
@@ -48,11 +48,11 @@ module _ {P Q : Type 0} (IsOver : P → Type 0) (binds : Q → EndId → Bool) (
 
   -- the session message
   abbrev message : Msg
-  message = handing d keeper
+  message = session_message d keeper
 
   -- the tables after the first step
   abbrev node1 : NodeAt P Q
-  node1 = with_main c (Some (Held (taken_off h rest next))) (record (w.nodes p) { program = play.goes (w.nodes p).program (Some message) })
+  node1 = with_main c (Some (Held (held_behind_take h rest next))) (record (w.nodes p) { program = play.goes (w.nodes p).program (Some message) })
 
   -- the tables after both steps
   abbrev node2 : NodeAt P Q
@@ -84,7 +84,7 @@ module _ {P Q : Type 0} (IsOver : P → Type 0) (binds : Q → EndId → Bool) (
 
   -- the end on which it was taken
   abbrev taken_end : Side P
-  taken_end = side_of c next (held p (taken_off h rest next)) (kept.sessions.sides c).old (kept.sessions.sides c).live
+  taken_end = side_of c next (held p (held_behind_take h rest next)) (kept.sessions.sides c).old (kept.sessions.sides c).live
 
   -- that end takes the message
   law : (later : List Msg) × (untaken_of (plain.sides (other_end c)) (plain.sides c) ≡ message ∷ later) × IsSound IsOver here_on.pace (plain.sides (other_end c)) (plain_taken (plain.sides c) next) (kept.sessions.sides (other_end c)) taken_end
@@ -164,7 +164,7 @@ module _ {P Q : Type 0} (IsOver : P → Type 0) (binds : Q → EndId → Bool) (
       let seat_after : EndId → Seat P = λ e. (goes2.after.sides e).seat in
       let it_else : (e : EndId) → e.side < 2 → is_same_end e d ≡ false → seat_after e ≡ (t.sides e).seat = seats_after IsOver mid twice plain'.sides plain'.sides t d (t.sides (other_end d)) (claimed_end t seat_is (laws_it is_parked.0)) is_parked.0 goes2 refl in
       let at_d : seat_after d ≡ claimed keeper p was_parked.0 = ap (λ z. z.seat) goes2.here in
-      let at_c : (t.sides c).seat ≡ held p (taken_off h rest next) = ap (λ z. z.seat) goes1.here in
+      let at_c : (t.sides c).seat ≡ held p (held_behind_take h rest next) = ap (λ z. z.seat) goes1.here in
       let user : (e : EndId) → e.side < 2 → is_same_end e d ≡ false → user_of (seat_after e) ≡ user_of (seat_of e) =
       λ e i j. ap user_of (it_else e i j) ∙ by_c (λ e. user_of (t.sides e).seat ≡ user_of (seat_of e)) e (is_same_end e c) refl (ap user_of at_c ∙ sym (ap user_of here_on.seat_is)) (λ k. ap user_of (on_else e i k)) in
       let keep : (e : EndId) → e.side < 2 → is_same_end e d ≡ false → KeepAlike (seat_of e) (seat_after e) =

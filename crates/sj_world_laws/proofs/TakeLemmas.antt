@@ -5,7 +5,7 @@ use Rattle.std.proofs.lemmas.List.{drop-drop}
 use Rattle.sj_base.specs.declared.EndId.{EndId}
 use Rattle.sj_base.specs.declared.Msg.{Msg}
 use Rattle.sj_rules.specs.Record.{BodyAt, HeldAt}
-use Rattle.sj_rules.specs.Node.{taken_off}
+use Rattle.sj_rules.specs.Node.{held_behind_take}
 use Rattle.sj_rules.specs.Seat.{Seat, held, parked, claimed, signalled, given, closed, gone, side_of}
 use Rattle.sj_rules.specs.PlainSide.{PlainSide, untaken_of}
 use Rattle.sj_rules.specs.Counts.{Agrees, SeatFits, ResendFits}
@@ -65,7 +65,7 @@ module _ {P : Type 0} (IsOver : P → Type 0) (x y : PlainSide P) (sid rid : End
 
   -- what comes to r
   comes_told : (pace : Pace) (r : Seat P) (rl sl : List (BodyAt P)) → Meets pace r → Comes (turned pace) sid y x r (held a h) sl →
-      Comes pace rid x y (held a h) r rl → Comes pace rid (plain_taken x place) y (held a (taken_off h rest place)) r rl
+      Comes pace rid x y (held a h) r rl → Comes pace rid (plain_taken x place) y (held a (held_behind_take h rest place)) r rl
   comes_told pace r rl sl (at_level (held b g)) k c = held_told g rl c
   comes_told pace r rl sl (at_level (parked b e)) k c = c
   comes_told pace r rl sl (at_level (claimed b u e)) k c = c
@@ -78,7 +78,7 @@ module _ {P : Type 0} (IsOver : P → Type 0) (x y : PlainSide P) (sid rid : End
 
   -- what comes to r under the number that it leaves
   old_told : (pace : Pace) (r : Seat P) (ro sl : List (BodyAt P)) → NumbersFit pace (held a h) r → Comes (turned pace) sid y x r (held a h) sl →
-      AreOld pace rid x (held a h) r ro → AreOld pace rid (plain_taken x place) (held a (taken_off h rest place)) r ro
+      AreOld pace rid x (held a h) r ro → AreOld pace rid (plain_taken x place) (held a (held_behind_take h rest place)) r ro
   old_told pace r ro sl n k o = grind arith
 
   -- r isn't in a Give with a resend
@@ -88,7 +88,7 @@ module _ {P : Type 0} (IsOver : P → Type 0) (x y : PlainSide P) (sid rid : End
 
   -- nothing comes to s under a number that it leaves
   old_kept : (pace : Pace) (r : Seat P) (so : List (BodyAt P)) → AreOld (turned pace) sid y r (held a h) so →
-      AreOld (turned pace) sid y r (held a (taken_off h rest place)) so
+      AreOld (turned pace) sid y r (held a (held_behind_take h rest place)) so
   old_kept pace r so o = grind arith
 
   -- what waits after the take
@@ -99,7 +99,7 @@ module _ {P : Type 0} (IsOver : P → Type 0) (x y : PlainSide P) (sid rid : End
 
   -- what comes to s, where the numbers are equal
   held_taken : (over : Bool) (mark live : List (BodyAt P)) → ComesToHeld sid h (untaken_of y x) x.taken y.taken over mark live →
-      ComesToHeld sid (taken_off h rest place) (untaken_of y (plain_taken x place)) (x.taken + 1) y.taken over mark live
+      ComesToHeld sid (held_behind_take h rest place) (untaken_of y (plain_taken x place)) (x.taken + 1) y.taken over mark live
   held_taken over mark live c = record { rest = c.rest; all = waits_after c.rest c.all; comes = by c.comes }
     where
       number : x.taken + length h.untaken ≡ x.taken + 1 + length rest
@@ -114,7 +114,7 @@ module _ {P : Type 0} (IsOver : P → Type 0) (x y : PlainSide P) (sid rid : End
 
   -- what comes to s
   back_taken : (pace : Pace) (r : Seat P) (sl : List (BodyAt P)) → Meets pace r →
-      Comes (turned pace) sid y x r (held a h) sl → Comes (turned pace) sid y (plain_taken x place) r (held a (taken_off h rest place)) sl
+      Comes (turned pace) sid y x r (held a h) sl → Comes (turned pace) sid y (plain_taken x place) r (held a (held_behind_take h rest place)) sl
   back_taken pace r sl (at_level (held b g)) c = held_taken false [] sl c
   back_taken pace r sl (at_level (parked b e)) c = held_taken false [] sl c
   back_taken pace r sl (at_level (claimed b u e)) c = held_taken false [] sl c
@@ -132,14 +132,14 @@ module _ {P : Type 0} (IsOver : P → Type 0) (x y : PlainSide P) (sid rid : End
 pub takes : {P : Type 0} → (IsOver : P → Type 0) (pace : Pace) (x y : PlainSide P) (sid rid : EndId) (ps pr : P) (a : ℕ) (h : HeldAt P) (r : Seat P)
     (so sl ro rl : List (BodyAt P)) (m : Msg) (rest : List Msg) (place : P) → h.untaken ≡ m ∷ rest →
     IsSound IsOver pace x y (side_of sid ps (held a h) so sl) (side_of rid pr r ro rl) →
-    IsSound IsOver pace (plain_taken x place) y (side_of sid place (held a (taken_off h rest place)) so sl) (side_of rid pr r ro rl)
+    IsSound IsOver pace (plain_taken x place) y (side_of sid place (held a (held_behind_take h rest place)) so sl) (side_of rid pr r ro rl)
 takes {P} IsOver pace x y sid rid ps pr a h r so sl ro rl m rest place front sound =
     let fits : Agrees sid h.end x × (h.end.place ≡ x.place) × (h.end.base ≤ y.taken) = sound.back.fits in
     let met : Meets pace r = held_meets pace a h r sound.numbers in
     record {
       others = sound.others;
-      numbers = numbers_held pace a h (taken_off h rest place) r refl refl sound.numbers;
-      hops = hops_held pace (x.hops + y.hops) a h (taken_off h rest place) r refl sound.hops;
+      numbers = numbers_held pace a h (held_behind_take h rest place) r refl refl sound.numbers;
+      hops = hops_held pace (x.hops + y.hops) a h (held_behind_take h rest place) r refl sound.hops;
       there = record {
         fits = fits_taken IsOver x y sid rid a h m rest place front r sound.there.fits;
         place = sound.there.place;

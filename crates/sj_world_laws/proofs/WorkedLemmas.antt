@@ -3,12 +3,12 @@ use Rattle.std.proofs.Common.{◌≡◌, ℕ, ◌≤◌, List, [], ◌∷◌, �
 use Rattle.std.specs.Prelude.{true, Some, ◌⊎◌}
 use Rattle.sj_base.specs.declared.EndId.{EndId}
 use Rattle.sj_rules.specs.Record.{EndAt, BodyAt, Carry, Fin, Signal, Ack, HeldAt}
-use Rattle.sj_rules.specs.Rows.{IsPick, at_held, passive, worked_off}
+use Rattle.sj_rules.specs.Rows.{IsPick, at_held, passive, worked_record}
 use Rattle.sj_rules.specs.Seat.{Seat, held, signalled, side_of}
-use Rattle.sj_rules.specs.Shown.{mailed_from}
 use Rattle.sj_rules.specs.PlainSide.{PlainSide, CountsFit}
 use Rattle.sj_rules.specs.Numbers.{level, behind, by_ack}
 use Rattle.sj_rules.specs.Invariant.{IsSound}
+use Rattle.sj_rules.specs.Worked.{mails_of}
 use Rattle.sj_world_laws.proofs.CarryLemmas.{carried}
 use Rattle.sj_world_laws.proofs.SignalLemmas.{passes_held}
 use Rattle.sj_world_laws.proofs.PassiveLemmas.{passed_on, passed_again, passes_to}
@@ -28,7 +28,7 @@ module _ {P : Type 0} (IsOver : P → Type 0) (pick : ℕ → ℕ → ℕ) (x y 
   -- nothing is sent, and the numbers stay equal
   pub record WorkedQuietly (h : HeldAt P) (dr : List (BodyAt P)) : Type 0 where
     pub end : HeldAt P
-    pub row : worked_off pick h (mailed_from h.end.peer dr) ≡ Some (record { state = end; posts = [] })
+    pub row : worked_record pick h (mails_of h.end.peer dr) ≡ Some (record { state = end; posts = [] })
     pub sound : IsSound IsOver level x y (side_of sid ps s so sl) (side_of rid pr (held u end) ro rl)
 
   -- the last frame is the Signal of s
@@ -42,7 +42,7 @@ module _ {P : Type 0} (IsOver : P → Type 0) (pick : ℕ → ℕ → ℕ) (x y 
     pub party : ℕ
     pub taken : ℕ
     pub peer_is : end.end.peer ≡ h.end.peer
-    pub row : worked_off pick h (mailed_from h.end.peer dr) ≡ Some (record { state = held_on pick end party taken; posts = (passes_to pick end.end party taken).posts })
+    pub row : worked_record pick h (mails_of h.end.peer dr) ≡ Some (record { state = held_on pick end party taken; posts = (passes_to pick end.end party taken).posts })
     pub sound : IsSound IsOver (behind by_ack) x y
         (side_of sid ps (signalled at to from late) (so ++ Ack sid from.conn ∷ []) (sl ++ passed_again pick sid end.end party taken))
         (side_of rid pr (held u (held_on pick end party taken)) ro rl)
@@ -51,7 +51,7 @@ module _ {P : Type 0} (IsOver : P → Type 0) (pick : ℕ → ℕ → ℕ) (x y 
   one_more : (h g : HeldAt P) (f : BodyAt P) (dr : List (BodyAt P)) → g.end.peer ≡ h.end.peer →
       at_held pick h h.end.peer f ≡ Some (record { state = g; posts = [] }) →
       WorkedQuietly g dr ⊎ WorkedBySignal g dr → WorkedQuietly h (f ∷ dr) ⊎ WorkedBySignal h (f ∷ dr)
-  one_more h g f dr peer row (inl w) = inl (record { end = w.end; row = rw (row, ap (λ p. worked_off pick g (mailed_from p dr)) (sym peer) ∙ w.row); sound = w.sound })
+  one_more h g f dr peer row (inl w) = inl (record { end = w.end; row = rw (row, ap (λ p. worked_record pick g (mails_of p dr)) (sym peer) ∙ w.row); sound = w.sound })
   one_more h g f dr peer row (inr w) = inr (record {
     at = w.at;
     to = w.to;
@@ -62,7 +62,7 @@ module _ {P : Type 0} (IsOver : P → Type 0) (pick : ℕ → ℕ → ℕ) (x y 
     party = w.party;
     taken = w.taken;
     peer_is = w.peer_is ∙ peer;
-    row = rw (row, ap (λ p. worked_off pick g (mailed_from p dr)) (sym peer) ∙ w.row);
+    row = rw (row, ap (λ p. worked_record pick g (mails_of p dr)) (sym peer) ∙ w.row);
     sound = w.sound;
   })
 
