@@ -26,17 +26,17 @@ use Rattle.sj_acceptance_laws.proofs.ArmLaws.{label_there, arm_start, choice_at,
 mutual
   pub follows_code : (ps : List ProtocolAt) (c : Code) (env : EnvAt) → first_fault (code_tests ps env c) ≡ None → Follows ps c (env_of env) (env_of (after_code ps env c))
   follows_code ps no_stmt env h = refl
-  follows_code ps (stmt_then (at line act) c) env h =
-      let p = all_pass (deed_tests ps line env act) (code_tests ps (after_deed ps env act) c) h in
-      (env_of (after_deed ps env act), follows_act ps act line env p.0, follows_code ps c (after_deed ps env act) p.1)
+  follows_code ps (stmt_then (at line deed) c) env h =
+      let p = all_pass (deed_tests ps line env deed) (code_tests ps (after_deed ps env deed) c) h in
+      (env_of (after_deed ps env deed), follows_deed ps deed line env p.0, follows_code ps c (after_deed ps env deed) p.1)
 
-  pub follows_act : (ps : List ProtocolAt) (act : DeedAt) (line : ℕ) (env : EnvAt) → first_fault (deed_tests ps line env act) ≡ None → Does ps act (env_of env) (env_of (after_deed ps env act))
-  follows_act ps (send x e) line env h = send_follows ps line env x e h
-  follows_act ps (delegate x y) line env h = delegate_follows ps line env x y h
-  follows_act ps (take_value x n k) line env h = take_follows ps line env x n k h
-  follows_act ps (take_end x y p) line env h = take_end_follows ps line env x y p h
-  follows_act ps (outbranch x l) line env h = select_follows ps line env x l h
-  follows_act ps (inbranch x bs) line env h =
+  pub follows_deed : (ps : List ProtocolAt) (deed : DeedAt) (line : ℕ) (env : EnvAt) → first_fault (deed_tests ps line env deed) ≡ None → Does ps deed (env_of env) (env_of (after_deed ps env deed))
+  follows_deed ps (send x e) line env h = send_follows ps line env x e h
+  follows_deed ps (delegate x y) line env h = delegate_follows ps line env x y h
+  follows_deed ps (take_value x n k) line env h = take_follows ps line env x n k h
+  follows_deed ps (take_end x y p) line env h = take_end_follows ps line env x y p h
+  follows_deed ps (outbranch x l) line env h = select_follows ps line env x l h
+  follows_deed ps (inbranch x bs) line env h =
       let a = all_pass (branching_tests line env x bs ++ branches_tests ps env x bs) _ h in
       let b = all_pass (branching_tests line env x bs) (branches_tests ps env x bs) a.0 in
       let c = choice_at line x env bs (get env.ends x) refl b.0 in (
@@ -48,12 +48,12 @@ mutual
         follows_branches ps bs env x c.0 c.1 c.2 (four_pass c.0 (branch_labels bs) c.3).2 b.1,
         joins_all ps env x c.0 bs c.3 (first_passes 9 line _ [] a.1).0,
       )
-  follows_act ps (outwhile x e body) line env h = outwhile_follows ps line env x e body (λ v. follows_code ps body v) h
-  follows_act ps (inwhile x body) line env h = inwhile_follows ps line env x body (λ v. follows_code ps body v) h
-  follows_act ps (relay x y body) line env h = relay_follows ps line env x y body (λ v. follows_code ps body v) h
-  follows_act ps (if_else e f s) line env h = if_follows ps line env e f s (λ v. follows_code ps f v) (λ v. follows_code ps s v) h
-  follows_act ps (let_be n e) line env h = let_follows ps line env n e h
-  follows_act ps (close x) line env h = close_follows ps line env x h
+  follows_deed ps (outwhile x e body) line env h = outwhile_follows ps line env x e body (λ v. follows_code ps body v) h
+  follows_deed ps (inwhile x body) line env h = inwhile_follows ps line env x body (λ v. follows_code ps body v) h
+  follows_deed ps (relay x y body) line env h = relay_follows ps line env x y body (λ v. follows_code ps body v) h
+  follows_deed ps (if_else e f s) line env h = if_follows ps line env e f s (λ v. follows_code ps f v) (λ v. follows_code ps s v) h
+  follows_deed ps (let_be n e) line env h = let_follows ps line env n e h
+  follows_deed ps (close x) line env h = close_follows ps line env x h
 
   follows_branches : (ps : List ProtocolAt) (bs : Branches) (env : EnvAt) (x : ℕ) (arms : Choices) (rest : Place) → get env.ends x ≡ Some (choice Into arms rest)
       → are_among (branch_labels bs) (labels_of arms) ≡ true → first_fault (branches_tests ps env x bs) ≡ None
@@ -77,18 +77,18 @@ mutual
 mutual
   pub passes_code : (ps : List ProtocolAt) (c : Code) (env : EnvAt) (next : Env) → Follows ps c (env_of env) next → (first_fault (code_tests ps env c) ≡ None) × (next ≡ env_of (after_code ps env c))
   passes_code ps no_stmt env next d = (refl, sym d)
-  passes_code ps (stmt_then (at line act) c) env next d =
-      let p = passes_act ps act line env d.0 d.1 in
-      let q = passes_code ps c (after_deed ps env act) next (subst (λ (v : Env). Follows ps c v next) p.1 d.2) in
-      (pass_both (deed_tests ps line env act) (code_tests ps (after_deed ps env act) c) p.0 q.0, q.1)
+  passes_code ps (stmt_then (at line deed) c) env next d =
+      let p = passes_deed ps deed line env d.0 d.1 in
+      let q = passes_code ps c (after_deed ps env deed) next (subst (λ (v : Env). Follows ps c v next) p.1 d.2) in
+      (pass_both (deed_tests ps line env deed) (code_tests ps (after_deed ps env deed) c) p.0 q.0, q.1)
 
-  pub passes_act : (ps : List ProtocolAt) (act : DeedAt) (line : ℕ) (env : EnvAt) (next : Env) → Does ps act (env_of env) next → (first_fault (deed_tests ps line env act) ≡ None) × (next ≡ env_of (after_deed ps env act))
-  passes_act ps (send x e) line env next d = send_passes ps line env x e next d
-  passes_act ps (delegate x y) line env next d = delegate_passes ps line env x y next d
-  passes_act ps (take_value x n k) line env next d = take_passes ps line env x n k next d
-  passes_act ps (take_end x y p) line env next d = take_end_passes ps line env x y p next d
-  passes_act ps (outbranch x l) line env next d = select_passes ps line env x l next d
-  passes_act ps (inbranch x bs) line env next d =
+  pub passes_deed : (ps : List ProtocolAt) (deed : DeedAt) (line : ℕ) (env : EnvAt) (next : Env) → Does ps deed (env_of env) next → (first_fault (deed_tests ps line env deed) ≡ None) × (next ≡ env_of (after_deed ps env deed))
+  passes_deed ps (send x e) line env next d = send_passes ps line env x e next d
+  passes_deed ps (delegate x y) line env next d = delegate_passes ps line env x y next d
+  passes_deed ps (take_value x n k) line env next d = take_passes ps line env x n k next d
+  passes_deed ps (take_end x y p) line env next d = take_end_passes ps line env x y p next d
+  passes_deed ps (outbranch x l) line env next d = select_passes ps line env x l next d
+  passes_deed ps (inbranch x bs) line env next d =
       let labelled = its_arms_to d.0 bs d.3 in
       let p = passes_branches ps bs env x d.0 d.1 d.2 d.4 d.5 in
       let j = one_and_joined d.0 bs d.4 next ps env x labelled p.1 d.6 in (
@@ -97,12 +97,12 @@ mutual
             (ap (λ b. cond b None (Some (9, line))) j.0),
         j.1,
       )
-  passes_act ps (outwhile x e body) line env next d = outwhile_passes ps line env x e body (λ v n. passes_code ps body v n) next d
-  passes_act ps (inwhile x body) line env next d = inwhile_passes ps line env x body (λ v n. passes_code ps body v n) next d
-  passes_act ps (relay x y body) line env next d = relay_passes ps line env x y body (λ v n. passes_code ps body v n) next d
-  passes_act ps (if_else e f s) line env next d = if_passes ps line env e f s (λ v n. passes_code ps f v n) (λ v n. passes_code ps s v n) next d
-  passes_act ps (let_be n e) line env next d = let_passes ps line env n e next d
-  passes_act ps (close x) line env next d = close_passes ps line env x next d
+  passes_deed ps (outwhile x e body) line env next d = outwhile_passes ps line env x e body (λ v n. passes_code ps body v n) next d
+  passes_deed ps (inwhile x body) line env next d = inwhile_passes ps line env x body (λ v n. passes_code ps body v n) next d
+  passes_deed ps (relay x y body) line env next d = relay_passes ps line env x y body (λ v n. passes_code ps body v n) next d
+  passes_deed ps (if_else e f s) line env next d = if_passes ps line env e f s (λ v n. passes_code ps f v n) (λ v n. passes_code ps s v n) next d
+  passes_deed ps (let_be n e) line env next d = let_passes ps line env n e next d
+  passes_deed ps (close x) line env next d = close_passes ps line env x next d
 
   passes_branches : (ps : List ProtocolAt) (bs : Branches) (env : EnvAt) (x : ℕ) (arms : Choices) (rest : Place) → get env.ends x ≡ Some (choice Into arms rest)
       → (lasts : List Env) → EachArm ps x arms rest bs (env_of env) lasts → (first_fault (branches_tests ps env x bs) ≡ None) × (lasts ≡ map env_of (after_branches ps env x bs))

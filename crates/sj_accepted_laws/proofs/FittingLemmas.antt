@@ -83,23 +83,23 @@ module _ (f : EndId) (q : ℕ) (ends : List (ℕ × EndId)) where
   take_end_takes x y p rest None h = tt
   take_end_takes x y p rest (Some e) h = λ same. (x, y, rest, ap (λ n. statement (take_end x y n) ∷ rest) same.1, h ∙ ap Some same.0)
 
-  act_takes_end : (vars : Vars) (act : DeedAt) (rest : List Thing) → TakesEndIf f q ends (statement act ∷ rest) (want_of_deed vars ends act)
-  act_takes_end vars (send x v) rest = send_takes_no_end (statement (send x v) ∷ rest) (named ends x) (option_map message_of (worth vars v))
-  act_takes_end vars (delegate x y) rest = delegate_takes_no_end (statement (delegate x y) ∷ rest) (named ends x) (named ends y)
-  act_takes_end vars (take_value x n k) rest = take_takes_no_end (statement (take_value x n k) ∷ rest) (named ends x) (awaits.Value k) (λ e. tt)
-  act_takes_end vars (take_end x y p) rest = take_end_takes x y p rest (named ends x) refl
-  act_takes_end vars (outbranch x l) rest = send_takes_no_end (statement (outbranch x l) ∷ rest) (named ends x) (Some (msgs.Label l))
-  act_takes_end vars (inbranch x arms) rest = take_takes_no_end (statement (inbranch x arms) ∷ rest) (named ends x) awaits.OneOf (λ e. tt)
-  act_takes_end vars (outwhile x v body) rest = send_takes_no_end (statement (outwhile x v body) ∷ rest) (named ends x) (option_map more_turns (option_and_then turns_of (worth vars v)))
-  act_takes_end vars (inwhile x body) rest = take_takes_no_end (statement (inwhile x body) ∷ rest) (named ends x) awaits.MoreOrStop (λ e. tt)
-  act_takes_end vars (relay x y body) rest = take_takes_no_end (statement (relay x y body) ∷ rest) (named ends x) awaits.MoreOrStop (λ e. tt)
-  act_takes_end vars (if_else v first second) rest = option_takes_no_end (statement (if_else v first second) ∷ rest) (λ b. wants.Local) (option_and_then truth_of (worth vars v)) (λ b. tt)
-  act_takes_end vars (let_be n v) rest = option_takes_no_end (statement (let_be n v) ∷ rest) (λ b. wants.Local) (worth vars v) (λ b. tt)
-  act_takes_end vars (close x) rest = option_takes_no_end (statement (close x) ∷ rest) wants.Close (named ends x) (λ e. tt)
+  deed_takes_end : (vars : Vars) (deed : DeedAt) (rest : List Thing) → TakesEndIf f q ends (statement deed ∷ rest) (want_of_deed vars ends deed)
+  deed_takes_end vars (send x v) rest = send_takes_no_end (statement (send x v) ∷ rest) (named ends x) (option_map message_of (worth vars v))
+  deed_takes_end vars (delegate x y) rest = delegate_takes_no_end (statement (delegate x y) ∷ rest) (named ends x) (named ends y)
+  deed_takes_end vars (take_value x n k) rest = take_takes_no_end (statement (take_value x n k) ∷ rest) (named ends x) (awaits.Value k) (λ e. tt)
+  deed_takes_end vars (take_end x y p) rest = take_end_takes x y p rest (named ends x) refl
+  deed_takes_end vars (outbranch x l) rest = send_takes_no_end (statement (outbranch x l) ∷ rest) (named ends x) (Some (msgs.Label l))
+  deed_takes_end vars (inbranch x arms) rest = take_takes_no_end (statement (inbranch x arms) ∷ rest) (named ends x) awaits.OneOf (λ e. tt)
+  deed_takes_end vars (outwhile x v body) rest = send_takes_no_end (statement (outwhile x v body) ∷ rest) (named ends x) (option_map more_turns (option_and_then turns_of (worth vars v)))
+  deed_takes_end vars (inwhile x body) rest = take_takes_no_end (statement (inwhile x body) ∷ rest) (named ends x) awaits.MoreOrStop (λ e. tt)
+  deed_takes_end vars (relay x y body) rest = take_takes_no_end (statement (relay x y body) ∷ rest) (named ends x) awaits.MoreOrStop (λ e. tt)
+  deed_takes_end vars (if_else v first second) rest = option_takes_no_end (statement (if_else v first second) ∷ rest) (λ b. wants.Local) (option_and_then truth_of (worth vars v)) (λ b. tt)
+  deed_takes_end vars (let_be n v) rest = option_takes_no_end (statement (let_be n v) ∷ rest) (λ b. wants.Local) (worth vars v) (λ b. tt)
+  deed_takes_end vars (close x) rest = option_takes_no_end (statement (close x) ∷ rest) wants.Close (named ends x) (λ e. tt)
 
   todo_takes_end : (vars : Vars) (todo : List Thing) → TakesEndIf f q ends todo (want_of_todo vars ends todo)
   todo_takes_end vars [] = tt
-  todo_takes_end vars (statement act ∷ rest) = act_takes_end vars act rest
+  todo_takes_end vars (statement deed ∷ rest) = deed_takes_end vars deed rest
   todo_takes_end vars (turns x n body ∷ rest) = send_takes_no_end (turns x n body ∷ rest) (named ends x) (Some (more_turns n))
   todo_takes_end vars (passing x y more body ∷ rest) = send_takes_no_end (passing x y more body ∷ rest) (named ends y) (Some (msgs.More more))
 

@@ -46,9 +46,9 @@ of_arm env first others (suc k) last h knows later = later k h
 mutual
   pub follows_know : (ps : List ProtocolAt) (code : Code) (env next : Env) → Follows ps code env next → Knows env next
   follows_know ps no_stmt env next f = λ n k h. ap (λ (t : Env). t.kinds n) (sym f) ∙ h
-  follows_know ps (stmt_then (at line act) code) env next f = λ n k h. follows_know ps code f.0 next f.2 n k (does_know ps act env f.0 f.1 n k h)
+  follows_know ps (stmt_then (at line deed) code) env next f = λ n k h. follows_know ps code f.0 next f.2 n k (does_know ps deed env f.0 f.1 n k h)
 
-  does_know : (ps : List ProtocolAt) (act : DeedAt) (env next : Env) → Does ps act env next → Knows env next
+  does_know : (ps : List ProtocolAt) (deed : DeedAt) (env next : Env) → Does ps deed env next → Knows env next
   does_know ps (send x e) env next s = same_kinds env _ next s.leaves refl
   does_know ps (delegate x y) env next s = same_kinds env _ next s.leaves refl
   does_know ps (take_value x m j) env next s = λ n k h. ap (λ (t : Env). t.kinds n) s.leaves ∙ with_kind_knows env m j s.free n k h

@@ -58,23 +58,23 @@ delegate_go ends x y rest (Some e) (Some f) h = (y, h, refl)
 delegate_go ends x y rest (Some e) None h = tt
 delegate_go ends x y rest None q h = tt
 
-act_go : (vars : Vars) (ends : List (ℕ × EndId)) (act : DeedAt) (rest : List Thing) → EndsGoIf ends (statement act ∷ rest) (want_of_deed vars ends act)
-act_go vars ends (send x v) rest = send_go ends (statement (send x v) ∷ rest) (named ends x) (option_map message_of (worth vars v)) refl
-act_go vars ends (delegate x y) rest = delegate_go ends x y rest (named ends x) (named ends y) refl
-act_go vars ends (take_value x n k) rest = take_go ends (statement (take_value x n k) ∷ rest) (named ends x) _
-act_go vars ends (take_end x y p) rest = take_go ends (statement (take_end x y p) ∷ rest) (named ends x) _
-act_go vars ends (outbranch x l) rest = send_go ends (statement (outbranch x l) ∷ rest) (named ends x) (Some (msgs.Label l)) refl
-act_go vars ends (inbranch x arms) rest = take_go ends (statement (inbranch x arms) ∷ rest) (named ends x) _
-act_go vars ends (outwhile x v body) rest = send_go ends (statement (outwhile x v body) ∷ rest) (named ends x) (option_map more_turns (option_and_then turns_of (worth vars v))) refl
-act_go vars ends (inwhile x body) rest = take_go ends (statement (inwhile x body) ∷ rest) (named ends x) _
-act_go vars ends (relay x y body) rest = take_go ends (statement (relay x y body) ∷ rest) (named ends x) _
-act_go vars ends (if_else v first second) rest = local_go ends (statement (if_else v first second) ∷ rest) (option_and_then truth_of (worth vars v))
-act_go vars ends (let_be n v) rest = local_go ends (statement (let_be n v) ∷ rest) (worth vars v)
-act_go vars ends (close x) rest = close_go ends x rest (named ends x) refl
+deed_go : (vars : Vars) (ends : List (ℕ × EndId)) (deed : DeedAt) (rest : List Thing) → EndsGoIf ends (statement deed ∷ rest) (want_of_deed vars ends deed)
+deed_go vars ends (send x v) rest = send_go ends (statement (send x v) ∷ rest) (named ends x) (option_map message_of (worth vars v)) refl
+deed_go vars ends (delegate x y) rest = delegate_go ends x y rest (named ends x) (named ends y) refl
+deed_go vars ends (take_value x n k) rest = take_go ends (statement (take_value x n k) ∷ rest) (named ends x) _
+deed_go vars ends (take_end x y p) rest = take_go ends (statement (take_end x y p) ∷ rest) (named ends x) _
+deed_go vars ends (outbranch x l) rest = send_go ends (statement (outbranch x l) ∷ rest) (named ends x) (Some (msgs.Label l)) refl
+deed_go vars ends (inbranch x arms) rest = take_go ends (statement (inbranch x arms) ∷ rest) (named ends x) _
+deed_go vars ends (outwhile x v body) rest = send_go ends (statement (outwhile x v body) ∷ rest) (named ends x) (option_map more_turns (option_and_then turns_of (worth vars v))) refl
+deed_go vars ends (inwhile x body) rest = take_go ends (statement (inwhile x body) ∷ rest) (named ends x) _
+deed_go vars ends (relay x y body) rest = take_go ends (statement (relay x y body) ∷ rest) (named ends x) _
+deed_go vars ends (if_else v first second) rest = local_go ends (statement (if_else v first second) ∷ rest) (option_and_then truth_of (worth vars v))
+deed_go vars ends (let_be n v) rest = local_go ends (statement (let_be n v) ∷ rest) (worth vars v)
+deed_go vars ends (close x) rest = close_go ends x rest (named ends x) refl
 
 todo_go : (vars : Vars) (ends : List (ℕ × EndId)) (todo : List Thing) → EndsGoIf ends todo (want_of_todo vars ends todo)
 todo_go vars ends [] = refl
-todo_go vars ends (statement act ∷ rest) = act_go vars ends act rest
+todo_go vars ends (statement deed ∷ rest) = deed_go vars ends deed rest
 todo_go vars ends (turns x n body ∷ rest) = send_go ends (turns x n body ∷ rest) (named ends x) (Some (more_turns n)) refl
 todo_go vars ends (passing x y more body ∷ rest) = send_go ends (passing x y more body ∷ rest) (named ends y) (Some (msgs.More more)) refl
 

@@ -21,25 +21,25 @@ use Rattle.sj_accepted_laws.proofs.RelayStepLemmas.{relay_step, passing_step}
 going_on : (ps : List ProtocolAt) (rest : List Thing) (mid next : Env) → Forgets mid next → DoesTodo ps rest next → Continues ps rest mid
 going_on ps rest mid next f d = record { next = next; forgets = f; does = d }
 
-act_step : (ps : List ProtocolAt) (zs : List Session) (vars : Vars) (ends : List (ℕ × EndId)) (steps : ℕ) (rest : List Thing) (env : Env) → (a : Agrees zs ends vars env)
-    → (act : DeedAt) (mid : Env) → Does ps act env mid → Continues ps rest mid → StepOf ps zs (record { todo = statement act ∷ rest; vars = vars; ends = ends; steps = steps })
-act_step ps zs vars ends steps rest env a (send x e) mid s c = send_step ps zs vars ends steps rest env a x e mid s c
-act_step ps zs vars ends steps rest env a (delegate x y) mid s c = delegate_step ps zs vars ends steps rest env a x y mid s c
-act_step ps zs vars ends steps rest env a (take_value x n k) mid s c = take_value_step ps zs vars ends steps rest env a x n k mid s c
-act_step ps zs vars ends steps rest env a (take_end x y p) mid s c = take_end_step ps zs vars ends steps rest env a x y p mid s c
-act_step ps zs vars ends steps rest env a (outbranch x l) mid s c = select_step ps zs vars ends steps rest env a x l mid s c
-act_step ps zs vars ends steps rest env a (inbranch x arms) mid s c = inbranch_step ps zs vars ends steps rest env a x arms mid s c
-act_step ps zs vars ends steps rest env a (outwhile x e body) mid s c = outwhile_step ps zs vars ends steps rest env a x e body mid s c
-act_step ps zs vars ends steps rest env a (inwhile x body) mid s c = inwhile_step ps zs vars ends steps rest env a x body mid s c
-act_step ps zs vars ends steps rest env a (relay x y body) mid s c = relay_step ps zs vars ends steps rest env a x y body mid s c
-act_step ps zs vars ends steps rest env a (if_else e first second) mid s c = if_step ps zs vars ends steps rest env a e first second mid s c
-act_step ps zs vars ends steps rest env a (let_be n e) mid s c = let_step ps zs vars ends steps rest env a n e mid s c
-act_step ps zs vars ends steps rest env a (close x) mid s c = close_step ps zs vars ends steps rest env a x mid s c
+deed_step : (ps : List ProtocolAt) (zs : List Session) (vars : Vars) (ends : List (ℕ × EndId)) (steps : ℕ) (rest : List Thing) (env : Env) → (a : Agrees zs ends vars env)
+    → (deed : DeedAt) (mid : Env) → Does ps deed env mid → Continues ps rest mid → StepOf ps zs (record { todo = statement deed ∷ rest; vars = vars; ends = ends; steps = steps })
+deed_step ps zs vars ends steps rest env a (send x e) mid s c = send_step ps zs vars ends steps rest env a x e mid s c
+deed_step ps zs vars ends steps rest env a (delegate x y) mid s c = delegate_step ps zs vars ends steps rest env a x y mid s c
+deed_step ps zs vars ends steps rest env a (take_value x n k) mid s c = take_value_step ps zs vars ends steps rest env a x n k mid s c
+deed_step ps zs vars ends steps rest env a (take_end x y p) mid s c = take_end_step ps zs vars ends steps rest env a x y p mid s c
+deed_step ps zs vars ends steps rest env a (outbranch x l) mid s c = select_step ps zs vars ends steps rest env a x l mid s c
+deed_step ps zs vars ends steps rest env a (inbranch x arms) mid s c = inbranch_step ps zs vars ends steps rest env a x arms mid s c
+deed_step ps zs vars ends steps rest env a (outwhile x e body) mid s c = outwhile_step ps zs vars ends steps rest env a x e body mid s c
+deed_step ps zs vars ends steps rest env a (inwhile x body) mid s c = inwhile_step ps zs vars ends steps rest env a x body mid s c
+deed_step ps zs vars ends steps rest env a (relay x y body) mid s c = relay_step ps zs vars ends steps rest env a x y body mid s c
+deed_step ps zs vars ends steps rest env a (if_else e first second) mid s c = if_step ps zs vars ends steps rest env a e first second mid s c
+deed_step ps zs vars ends steps rest env a (let_be n e) mid s c = let_step ps zs vars ends steps rest env a n e mid s c
+deed_step ps zs vars ends steps rest env a (close x) mid s c = close_step ps zs vars ends steps rest env a x mid s c
 
 todo_step : (ps : List ProtocolAt) (zs : List Session) (vars : Vars) (ends : List (ℕ × EndId)) (steps : ℕ) (env : Env) → (a : Agrees zs ends vars env)
     → (todo : List Thing) → DoesTodo ps todo env → StepOf ps zs (record { todo = todo; vars = vars; ends = ends; steps = steps })
 todo_step ps zs vars ends steps env a [] d = record { want = wants.Ended; wants_it = refl; step_fits = tt }
-todo_step ps zs vars ends steps env a (statement act ∷ rest) d = act_step ps zs vars ends steps rest env a act d.0 d.1.0 (going_on ps rest d.0 d.1.1.0 d.1.1.1.0 d.1.1.1.1)
+todo_step ps zs vars ends steps env a (statement deed ∷ rest) d = deed_step ps zs vars ends steps rest env a deed d.0 d.1.0 (going_on ps rest d.0 d.1.1.0 d.1.1.1.0 d.1.1.1.1)
 todo_step ps zs vars ends steps env a (turns x n body ∷ rest) d = turns_step ps zs vars ends steps rest env a x n body d.0 (going_on ps rest _ d.1.0 d.1.1.0 d.1.1.1)
 todo_step ps zs vars ends steps env a (passing x y more body ∷ rest) d = passing_step ps zs vars ends steps rest env a d.0 x y more body d.1.0 (going_on ps rest _ d.1.1.0 d.1.1.1.0 d.1.1.1.1)
 

@@ -21,22 +21,22 @@ code_of-drop stmts i s h e = rw add-one (ap code_of (drop-cons stmts i s h) ∙ 
 
 module _ (ps : List ProtocolAt) (stmts : List Stmt) (i : ℕ) (s : Stmt) (h : i < length stmts) (e : s ≡ get_or stmts i s) (env : EnvAt) where
   -- a fault of the statement is one of what is left
-  pub step-fault : (o : Option (ℕ × ℕ)) (r : CheckRefusal) → first_fault (code_tests ps env (code_of (drop i stmts))) ≡ o → Tells (first_fault (stmt_tests ps env (stmt_of s))) r → Tells o r
-  step-fault o r all t =
+  pub stmt-fault : (o : Option (ℕ × ℕ)) (r : CheckRefusal) → first_fault (code_tests ps env (code_of (drop i stmts))) ≡ o → Tells (first_fault (stmt_tests ps env (stmt_of s))) r → Tells o r
+  stmt-fault o r all t =
       let left = code_of (drop (i + 1) stmts) in
       subst (λ f. Tells f r) (ap (λ c. first_fault (code_tests ps env c)) (sym (code_of-drop stmts i s h e)) ∙ all)
       (Tells-front (stmt_tests ps env (stmt_of s)) (code_tests ps (after_stmt ps env (stmt_of s)) left) r t)
 
   -- where the statement passes, the rest decides
-  pub step-tests : (new : EnvAt) → first_fault (stmt_tests ps env (stmt_of s)) ≡ None → new ≡ after_stmt ps env (stmt_of s)
+  pub stmt-tests : (new : EnvAt) → first_fault (stmt_tests ps env (stmt_of s)) ≡ None → new ≡ after_stmt ps env (stmt_of s)
       → first_fault (code_tests ps new (code_of (drop (i + 1) stmts))) ≡ first_fault (code_tests ps env (code_of (drop i stmts)))
-  step-tests new p n =
+  stmt-tests new p n =
       let left = code_of (drop (i + 1) stmts) in
       ap (λ v. first_fault (code_tests ps v left)) n ∙ sym (behind (stmt_tests ps env (stmt_of s)) (code_tests ps (after_stmt ps env (stmt_of s)) left) p)
       ∙ ap (λ c. first_fault (code_tests ps env c)) (sym (code_of-drop stmts i s h e))
 
-  pub step-after : (new : EnvAt) → new ≡ after_stmt ps env (stmt_of s)
+  pub stmt-after : (new : EnvAt) → new ≡ after_stmt ps env (stmt_of s)
       → after_code ps new (code_of (drop (i + 1) stmts)) ≡ after_code ps env (code_of (drop i stmts))
-  step-after new n =
+  stmt-after new n =
       let left = code_of (drop (i + 1) stmts) in
       ap (λ v. after_code ps v left) n ∙ ap (λ c. after_code ps env c) (sym (code_of-drop stmts i s h e))

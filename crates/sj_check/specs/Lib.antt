@@ -1,5 +1,5 @@
 pub mod Held
-pub mod Known
+pub mod SpotEnv
 pub mod Maps
 pub mod Named
 pub mod Seen

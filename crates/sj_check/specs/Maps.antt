@@ -8,7 +8,7 @@ use Rattle.sj_lang.specs.declared.party.Scalar.{Scalar}
 use Rattle.sj_lang.specs.declared.party.Scalar.TheVariants.{Int, Boolean, Text}
 use Rattle.sj_table.specs.declared.table.Spot.{Spot}
 use Rattle.sj_table.specs.contracts.table.Spot as spot
-use Rattle.sj_check.specs.Known.{SpotEnv}
+use Rattle.sj_check.specs.SpotEnv.{SpotEnv}
 
 -- the finite map of some entries
 abbrev pub map_at : {X : Type 0} → List (ℕ × X) → FinMap nat_cmp X

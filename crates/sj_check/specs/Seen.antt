@@ -3,7 +3,7 @@ use Rattle.std.specs.Prelude.{List}
 use Rattle.sj_lang.specs.FileAt.{ProtocolAt}
 use Rattle.sj_acceptance.specs.EnvAt.{EnvAt}
 use Rattle.sj_check.specs.declared.compiled.Protocols.{Protocols}
-use Rattle.sj_check.specs.Known.{SpotEnv, places_at}
+use Rattle.sj_check.specs.SpotEnv.{SpotEnv, places_at}
 use Rattle.sj_check.specs.Views.{protocols_of}
 
 -- the protocols

@@ -13,7 +13,7 @@ ghost use Rattle.sj_acceptance.specs.FirstItem.{choices};
 ghost use Rattle.sj_acceptance.specs.Labels.{branch_labels};
 ghost use Rattle.sj_acceptance.specs.LabelTests.{is_among, are_labels_of};
 ghost use Rattle.sj_acceptance.specs.Sameness.{is_same_ends};
-ghost use Rattle.sj_check.specs.Known.{no_spots, with_spot, without_spot, with_kind, places_at};
+ghost use Rattle.sj_check.specs.SpotEnv.{no_spots, with_spot, without_spot, with_kind, places_at};
 ghost use Rattle.sj_check.specs.Named.{ends_named};
 
 use crate::labels::are_arms_of;
@@ -35,7 +35,7 @@ pub struct Env {
 }
 
 impl Model for Env {
-    ghost use Rattle.sj_check.specs.Known.{SpotEnv};
+    ghost use Rattle.sj_check.specs.SpotEnv.{SpotEnv};
     ghost use Rattle.sj_check.specs.Maps.{coded_env, map_at};
 
     ghost Value = { SpotEnv };

@@ -10,9 +10,29 @@ most_of_frame = 10000
 abbrev pub most_of_line : ℕ
 most_of_line = 5320
 
+-- a layout's sizes, where names, texts and arrows are within their limits
+abbrev pub most_left : ℕ
+most_left = 300
+
+abbrev pub most_gap : ℕ
+most_gap = 9000
+
+abbrev pub least_height : ℕ
+least_height = 72
+
+abbrev pub most_height : ℕ
+most_height = 30000000
+
+-- where a party's line stands, and where an arrow ends
+abbrev pub most_x : ℕ
+most_x = 200000
+
+abbrev pub most_tip : ℕ
+most_tip = 300000
+
 pub record IsSmall (l : Layout) : Type 0 where
-  pub left : l.left ≤ 300
-  pub gap : l.gap ≤ 9000
-  pub right : l.right ≤ 9000
-  pub height_low : 72 ≤ l.height
-  pub height : l.height ≤ 30000000
+  pub left : l.left ≤ most_left
+  pub gap : l.gap ≤ most_gap
+  pub right : l.right ≤ most_gap
+  pub height_low : least_height ≤ l.height
+  pub height : l.height ≤ most_height

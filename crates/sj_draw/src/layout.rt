@@ -2,7 +2,7 @@
 ghost use Rattle.std.specs.Prelude.{◌≡◌, ◌≤◌, ◌-◌, IsTrue};
 ghost use Rattle.sj_draw.specs.Frame.{is_within};
 ghost use Rattle.sj_draw.specs.Drawn.{layout_of, x_of, width_of, tip_of};
-ghost use Rattle.sj_draw.specs.Small.{IsSmall};
+ghost use Rattle.sj_draw.specs.Small.{IsSmall, most_x, most_tip};
 ghost use Rattle.sj_draw.specs.Views.{frame_at};
 
 use crate::frame::Frame;
@@ -45,7 +45,7 @@ impl Layout {
     pub fn x_of(&self, party: usize) -> u64
         requires { IsSmall self.now }
         ensures x { result ≡ x_of self.now party }
-        ensures bound { result ≤ 200_000 }
+        ensures bound { result ≤ most_x }
     {
         self.left + self.gap * party.min(MOST_PARTIES) as u64
     }
@@ -62,7 +62,7 @@ impl Layout {
     pub fn tip_of(&self, from: usize, to: Option<usize>) -> u64
         requires { IsSmall self.now }
         ensures x { result ≡ tip_of self.now from to }
-        ensures bound { result ≤ 300_000 }
+        ensures bound { result ≤ most_tip }
     {
         match to {
             Some(to) => self.x_of(to),

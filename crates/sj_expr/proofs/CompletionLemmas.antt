@@ -8,7 +8,7 @@ use Rattle.sj_grammar.specs.Bytes.{is_printable}
 use Rattle.sj_grammar.specs.Literals.{is_number, is_largest, is_text, quoted}
 use Rattle.sj_grammar.specs.Names.{is_name}
 use Rattle.sj_grammar.specs.Tables.{Spelling}
-use Rattle.sj_grammar.specs.Places.{Pieces}
+use Rattle.sj_grammar.specs.Positions.{Pieces}
 use Rattle.sj_grammar.specs.Expressions as level
 use Rattle.sj_grammar.specs.ExpressionDues.{ExpressionDue, whole, factor, times, plus, compare, after_minus, fixed, expression_at, is_operand, factor_follow, expression_layer}
 use Rattle.sj_grammar.proofs.Spellings.{IsHeld}

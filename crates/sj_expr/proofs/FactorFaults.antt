@@ -10,7 +10,7 @@ use Rattle.sj_grammar.specs.Lexis.{Ahead, at_end, bad, token, next_of}
 use Rattle.sj_grammar.specs.Reading.{Reading, before_next, fault_at}
 use Rattle.sj_grammar.specs.Names.{is_name}
 use Rattle.sj_grammar.specs.Literals.{is_number, is_largest, is_text, inner}
-use Rattle.sj_grammar.specs.Places.{At, at, Takes}
+use Rattle.sj_grammar.specs.Positions.{At, at, Takes}
 use Rattle.sj_grammar.specs.Faults.{broken}
 use Rattle.sj_grammar.specs.Refusals.{StuckInside, fault_next, first_rule}
 use Rattle.sj_grammar.specs.Asked.{TakesText, spelled_next, Refuses, refused, but_name}

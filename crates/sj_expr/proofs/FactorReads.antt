@@ -6,7 +6,7 @@ use Rattle.sj_lang.specs.Term as term
 use Rattle.sj_lang.specs.Limits.{limits}
 use Rattle.sj_grammar.specs.Reading.{Reading}
 use Rattle.sj_grammar.specs.Literals.{is_number, is_largest}
-use Rattle.sj_grammar.specs.Places.{Pieces, At, at}
+use Rattle.sj_grammar.specs.Positions.{Pieces, At, at}
 use Rattle.sj_grammar.specs.Asked.{TakesText}
 use Rattle.sj_grammar.specs.Expressions as level
 use Rattle.sj_proto.proofs.ReadLemmas.{took_plain}

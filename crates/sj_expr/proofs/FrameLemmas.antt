@@ -1,7 +1,7 @@
 -- What waits, and what may follow it.
 use Rattle.std.proofs.Common.{◌≡◌, ℕ, ◌≤◌, List, [], ◌∷◌, refl, ap, sym, ◌∙◌, arith}
 use Rattle.sj_lang.specs.declared.party.Op.{Op}
-use Rattle.sj_grammar.specs.Places.{Pieces}
+use Rattle.sj_grammar.specs.Positions.{Pieces}
 use Rattle.sj_grammar.specs.Expressions.{Level}
 use Rattle.sj_grammar.specs.Expressions as level
 use Rattle.sj_expr.proofs.Shapes.{Shape, joined, Frame, negation, group, product, addition, comparison, has, moved, Sign, star, plus, compare, close, other, sign_of, Held, settled, up_product, up_addition, up_comparison, by_sum, by_term, closed, whole_of, at_sum, at_term, reading}

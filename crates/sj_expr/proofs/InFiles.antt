@@ -10,7 +10,7 @@ use Rattle.sj_grammar.specs.declared.refusal.ParseRefusal.TheVariants as refusal
 use Rattle.sj_grammar.specs.declared.tokens.What.{What}
 use Rattle.sj_lang.specs.Limits.{limits}
 use Rattle.sj_grammar.specs.Lexis.{Ahead, at_end, bad, token, next_of}
-use Rattle.sj_grammar.specs.Places.{Pieces, At, Begins}
+use Rattle.sj_grammar.specs.Positions.{Pieces, At, Begins}
 use Rattle.sj_grammar.specs.Layers.{goes, run, may_end, rule_of}
 use Rattle.sj_grammar.specs.Faults.{broken, Halts, Stuck}
 use Rattle.sj_grammar.specs.Refusals.{StuckInside, OnFault}

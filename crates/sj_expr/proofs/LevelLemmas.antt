@@ -8,7 +8,7 @@ use Rattle.sj_lang.specs.Term as term
 use Rattle.sj_lang.specs.Limits.{limits}
 use Rattle.sj_grammar.specs.Lexis.{next_of}
 use Rattle.sj_grammar.specs.Tables.{Spelling}
-use Rattle.sj_grammar.specs.Places.{Pieces, At, Takes}
+use Rattle.sj_grammar.specs.Positions.{Pieces, At, Takes}
 use Rattle.sj_grammar.specs.Layers.{goes, step}
 use Rattle.sj_grammar.specs.Asked.{Passes}
 use Rattle.sj_grammar.specs.Expressions.{Level, Spelt, operand_count}

@@ -9,7 +9,7 @@ use Rattle.sj_grammar.specs.declared.tokens.Fault.{Fault}
 use Rattle.sj_lang.specs.Limits.{limits}
 use Rattle.sj_grammar.specs.Lexis.{Ahead, at_end, bad, token, next_of}
 use Rattle.sj_grammar.specs.Literals.{is_largest}
-use Rattle.sj_grammar.specs.Places.{At, Takes}
+use Rattle.sj_grammar.specs.Positions.{At, Takes}
 use Rattle.sj_grammar.specs.Layers.{goes, stops, step, may_end, rule_of}
 use Rattle.sj_grammar.specs.Faults.{broken, Halts}
 use Rattle.sj_grammar.specs.Asked.{Refuses, refused, but, is_next, spelled_next}

@@ -14,7 +14,7 @@ use Rattle.sj_grammar.specs.Reading.{Reading}
 use Rattle.sj_grammar.specs.Names.{is_name}
 use Rattle.sj_grammar.specs.Literals.{is_text, inner, quoted}
 use Rattle.sj_grammar.specs.Tables.{Spelling, Spells, IsNamed, IsLiteral, with_entry, entry_of}
-use Rattle.sj_grammar.specs.Places.{Pieces, At, at, Takes, Begins}
+use Rattle.sj_grammar.specs.Positions.{Pieces, At, at, Takes, Begins}
 use Rattle.sj_grammar.specs.Asked.{TakesText}
 use Rattle.sj_grammar.specs.Expressions.{Spelt}
 use Rattle.sj_grammar.specs.Expressions as level

@@ -8,7 +8,7 @@ use Rattle.sj_lang.specs.Term as term
 use Rattle.sj_grammar.specs.Literals.{quoted}
 use Rattle.sj_lang.specs.Limits.{Limits}
 use Rattle.sj_grammar.specs.Tables.{Spelling}
-use Rattle.sj_grammar.specs.Places.{Pieces}
+use Rattle.sj_grammar.specs.Positions.{Pieces}
 use Rattle.sj_grammar.specs.Expressions.{Level, Spelt}
 use Rattle.sj_grammar.specs.Expressions as level
 use Rattle.sj_expr.proofs.TokenLemmas.{no_largest, quoted_text, name_no_number, inner_quoted, text_no_number}

@@ -7,7 +7,7 @@ use Rattle.sj_grammar.specs.Names.{is_reserved}
 use Rattle.sj_grammar.specs.Literals.{is_number, quoted}
 use Rattle.sj_lang.specs.Limits.{Limits}
 use Rattle.sj_grammar.specs.Tables.{Spelling}
-use Rattle.sj_grammar.specs.Places.{Pieces}
+use Rattle.sj_grammar.specs.Positions.{Pieces}
 use Rattle.sj_grammar.specs.Layers.{Step, goes, step}
 use Rattle.sj_grammar.specs.Expressions.{Level, Spelt, operand_count}
 use Rattle.sj_grammar.specs.Expressions as level

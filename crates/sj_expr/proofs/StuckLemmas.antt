@@ -5,7 +5,7 @@ use Rattle.sj_lang.specs.declared.party.Op.{Op}
 use Rattle.sj_lang.specs.Term.{Term}
 use Rattle.sj_grammar.specs.declared.tokens.Fault.{Fault}
 use Rattle.sj_lang.specs.Limits.{limits}
-use Rattle.sj_grammar.specs.Places.{At, Takes}
+use Rattle.sj_grammar.specs.Positions.{At, Takes}
 use Rattle.sj_grammar.specs.Refusals.{StuckInside}
 use Rattle.sj_grammar.specs.Expressions.{operand_count}
 use Rattle.sj_grammar.specs.Expressions as level

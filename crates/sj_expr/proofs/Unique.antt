@@ -9,7 +9,7 @@ use Rattle.sj_grammar.specs.Literals.{is_number, is_text}
 use Rattle.sj_grammar.specs.Names.{is_name}
 use Rattle.sj_lang.specs.Limits.{Limits}
 use Rattle.sj_grammar.specs.Tables.{Spelling}
-use Rattle.sj_grammar.specs.Places.{Pieces}
+use Rattle.sj_grammar.specs.Positions.{Pieces}
 use Rattle.sj_grammar.specs.Expressions.{Spelt}
 use Rattle.sj_grammar.specs.Expressions as level
 use Rattle.sj_grammar.proofs.Spellings.{same_first}

@@ -5,7 +5,7 @@ use Rattle.sj_lang.specs.Term.{Term}
 use Rattle.sj_grammar.specs.Literals.{quoted}
 use Rattle.sj_lang.specs.Limits.{Limits}
 use Rattle.sj_grammar.specs.Tables.{Spelling}
-use Rattle.sj_grammar.specs.Places.{Pieces}
+use Rattle.sj_grammar.specs.Positions.{Pieces}
 use Rattle.sj_grammar.specs.Layers.{Step, goes, stops, misfit, instead, step, run, onward, rule_of}
 use Rattle.sj_grammar.specs.Expressions.{Level, Spelt, operand_count, IsExpression}
 use Rattle.sj_grammar.specs.Expressions as level

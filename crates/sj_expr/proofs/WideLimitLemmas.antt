@@ -12,7 +12,7 @@ use Rattle.sj_grammar.specs.Lexis.{most}
 use Rattle.sj_grammar.specs.Literals.{is_number, quoted}
 use Rattle.sj_grammar.specs.Names.{is_name}
 use Rattle.sj_grammar.specs.Tables.{Spelling, IsFirst}
-use Rattle.sj_grammar.specs.Places.{Pieces}
+use Rattle.sj_grammar.specs.Positions.{Pieces}
 use Rattle.sj_grammar.specs.Expressions.{Level, Spelt}
 use Rattle.sj_grammar.specs.Expressions as level
 

@@ -1,7 +1,7 @@
 -- What doesn't go on an expression.
 use Rattle.std.specs.Prelude.{◌≡◌, ℕ, Bool, false, ◌||◌, List, [], ◌∷◌, codes}
 use Rattle.std.specs.Str.{bytes_eq}
-use Rattle.sj_grammar.specs.Places.{Pieces}
+use Rattle.sj_grammar.specs.Positions.{Pieces}
 
 -- between two operands
 abbrev pub is_operator : List ℕ → Bool

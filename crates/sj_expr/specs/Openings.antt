@@ -2,9 +2,9 @@
 use Rattle.std.specs.Prelude.{ℕ, Bool, ◌||◌, nat_lt, List, length, codes, Option, Some, None, if◌then◌else◌}
 use Rattle.std.specs.Str.{bytes_eq}
 use Rattle.sj_grammar.specs.declared.tokens.Rule.{Rule}
-use Rattle.sj_grammar.specs.declared.tokens.Rule.TheVariants.{P1, P4}
 use Rattle.sj_lang.specs.Limits.{limits}
 use Rattle.sj_grammar.specs.Literals.{inner}
+use Rattle.sj_grammar.specs.Rules.{not_due, over_limit}
 use Rattle.sj_expr.specs.declared.taking.Opening.{Opening}
 use Rattle.sj_expr.specs.declared.taking.Opening.TheVariants as openings
 
@@ -14,8 +14,8 @@ opening_piece openings.Parens = codes "("
 
 -- nothing that opens, or one too deep
 abbrev pub but_opening : Bool → List ℕ → Option Rule
-but_opening deep s = if bytes_eq s (codes "not") || bytes_eq s (codes "(") then (if deep then Some P4 else None) else Some P1
+but_opening deep s = if bytes_eq s (codes "not") || bytes_eq s (codes "(") then (if deep then Some over_limit else None) else Some not_due
 
 -- a text that is too long
 abbrev pub but_text : List ℕ → Option Rule
-but_text s = if nat_lt limits.text (length (inner s)) then Some P4 else None
+but_text s = if nat_lt limits.text (length (inner s)) then Some over_limit else None

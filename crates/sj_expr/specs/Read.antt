@@ -6,7 +6,7 @@ use Rattle.sj_lang.specs.Limits.{limits}
 use Rattle.sj_grammar.specs.Reading.{Reading}
 use Rattle.sj_grammar.specs.Literals.{quoted}
 use Rattle.sj_grammar.specs.Tables.{Spelling, Spells, IsLiteral}
-use Rattle.sj_grammar.specs.Places.{Pieces, At, Begins}
+use Rattle.sj_grammar.specs.Positions.{Pieces, At, Begins}
 use Rattle.sj_grammar.specs.Expressions.{Level, Spelt, whole, IsExpression, operand_count}
 use Rattle.sj_grammar.specs.Lexis.{Ahead, at_end, bad, token, next_of}
 use Rattle.sj_grammar.specs.Layers.{may_end}

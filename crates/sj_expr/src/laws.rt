@@ -9,7 +9,7 @@ ghost use Rattle.sj_lang.specs.Term.{Term};
 ghost use Rattle.sj_grammar.specs.declared.tokens.Rule.{Rule};
 ghost use Rattle.sj_lang.specs.Limits.{Limits};
 ghost use Rattle.sj_grammar.specs.Tables.{Spelling};
-ghost use Rattle.sj_grammar.specs.Places.{Pieces};
+ghost use Rattle.sj_grammar.specs.Positions.{Pieces};
 ghost use Rattle.sj_grammar.specs.Layers.{step, may_end, rule_of};
 ghost use Rattle.sj_grammar.specs.Expressions.{IsExpression, operand_count};
 ghost use Rattle.sj_grammar.specs.ExpressionDues.{ExpressionDue, whole, times, plus, compare, expression_layer};

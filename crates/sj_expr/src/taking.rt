@@ -3,15 +3,15 @@ ghost use Rattle.std.specs.Prelude.{◌≡◌, ◌≢◌, ℕ, ◌+◌, ◌*◌,
 ghost use Rattle.std.specs.Int.{w64};
 ghost use Rattle.sj_lang.specs.CodeView.{term_of};
 ghost use Rattle.sj_lang.specs.Limits.{limits};
-ghost use Rattle.sj_grammar.specs.declared.tokens.Rule.TheVariants.{P4};
 ghost use Rattle.sj_grammar.specs.Lexis.{next_of, most};
 ghost use Rattle.sj_grammar.specs.Reading.{before_next, fault_at};
-ghost use Rattle.sj_grammar.specs.Places.{at};
+ghost use Rattle.sj_grammar.specs.Positions.{at};
 ghost use Rattle.sj_grammar.specs.Literals.{is_text};
 ghost use Rattle.sj_grammar.specs.Expressions.{factor as a_factor, operand_count};
 ghost use Rattle.sj_grammar.specs.ExpressionDues.{factor as factor_due, expression_layer};
 ghost use Rattle.sj_grammar.specs.Refusals.{StuckInside, OnFault};
 ghost use Rattle.sj_grammar.specs.Asked.{TakesText, Refuses, spelled_next, is_next};
+ghost use Rattle.sj_grammar.specs.Rules.{over_limit};
 ghost use Rattle.sj_proto.specs.Onward.{Advances};
 ghost use Rattle.sj_proto.specs.Parsed.{standing};
 ghost use Rattle.sj_expr.specs.Operands.{IsOperandOf};
@@ -67,7 +67,7 @@ fn take_text(tokens: &mut Tokens, names: &mut Names) -> Result<u32, ParseRefusal
 
 // The fault that the next token passes a limit, 2^63 too.
 fn limit_fault(tokens: &Tokens) -> Fault
-    ensures { result ≡ fault_at (before_next tokens.now (next_of tokens.now.ahead)) P4 }
+    ensures { result ≡ fault_at (before_next tokens.now (next_of tokens.now.ahead)) over_limit }
 {
     let Fault { line, column, .. } = tokens.fault(Rule::P4);
     Fault {

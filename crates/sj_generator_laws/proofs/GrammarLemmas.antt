@@ -6,7 +6,7 @@ use Rattle.sj_grammar.specs.Bytes.{is_word_byte}
 use Rattle.sj_grammar.specs.Files.{IsFile}
 use Rattle.sj_grammar.specs.Literals.{is_number, is_text, inner}
 use Rattle.sj_grammar.specs.Names.{is_name, is_reserved}
-use Rattle.sj_grammar.specs.Places.{Pieces, at, spellings, start, BeginsOnLines}
+use Rattle.sj_grammar.specs.Positions.{Pieces, at, spellings, start, BeginsOnLines}
 use Rattle.sj_grammar.specs.Tables.{with_entry}
 use Rattle.sj_grammar.proofs.Lexing.{read}
 use Rattle.sj_grammar.proofs.LexedTables.{words_behind, texts_behind}

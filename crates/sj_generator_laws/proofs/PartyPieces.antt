@@ -9,7 +9,7 @@ use Rattle.sj_grammar.specs.Lexis.{most}
 use Rattle.sj_lang.specs.Limits.{limits}
 use Rattle.sj_grammar.specs.Literals.{is_number}
 use Rattle.sj_grammar.specs.Tables.{Spelling, IsNamed}
-use Rattle.sj_grammar.specs.Places.{Piece, plain, first_on}
+use Rattle.sj_grammar.specs.Positions.{Piece, plain, first_on}
 use Rattle.sj_grammar.specs.Expressions.{Spelt, factor, IsExpression}
 use Rattle.sj_grammar.specs.Expressions as spelt
 use Rattle.sj_grammar.specs.Statements.{braced, IsCode}

@@ -8,7 +8,7 @@ use Rattle.sj_grammar.specs.declared.tokens.What.{What}
 use Rattle.sj_grammar.specs.Lexis.{token, next_of}
 use Rattle.sj_grammar.specs.Literals.{is_text, inner}
 use Rattle.sj_grammar.specs.Names.{is_name}
-use Rattle.sj_grammar.specs.Places.{Piece, At, at, plain, first_on, spellings, TakesPiece, BeginsOnLines}
+use Rattle.sj_grammar.specs.Positions.{Piece, At, at, plain, first_on, spellings, TakesPiece, BeginsOnLines}
 use Rattle.sj_grammar.specs.Reading.{passed, line_at}
 use Rattle.sj_grammar.specs.Tables.{with_entry}
 use Rattle.sj_grammar.proofs.Lexing.{read}

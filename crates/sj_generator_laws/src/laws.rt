@@ -4,7 +4,7 @@
 //! - `the_generated_text_stands_for_the_file`: that text is read as that file alone.
 //! - `the_generated_file_is_accepted`: the checker's rules hold of that file.
 //! - `the_generated_file_ends_done`: what is counted at its end.
-ghost use Rattle.std.specs.Prelude.{◌≡◌, ◌≤◌, ◌<◌, ◌+◌, ◌*◌, ℕ};
+ghost use Rattle.std.specs.Prelude.{◌≡◌, ◌≤◌, ◌<◌, ℕ};
 ghost use Rattle.sj_acceptance.specs.Accepted.{IsAccepted};
 ghost use Rattle.sj_grammar.specs.Files.{IsFile};
 ghost use Rattle.sj_grammar.specs.Lexis.{most};
@@ -15,7 +15,7 @@ ghost use Rattle.sj_semantics.specs.State.{verdict_of};
 ghost use Rattle.sj_semantics.specs.declared.Verdict.TheVariants.{Done};
 ghost use Rattle.sj_semantics.specs.Value.{limit_of_turns};
 ghost use Rattle.sj_generator.specs.Generated.{generated};
-ghost use Rattle.sj_generator_laws.specs.Counts.{messages_in, steps_in};
+ghost use Rattle.sj_generator_laws.specs.Counts.{messages_in, steps_in, generated_messages, generated_steps};
 ghost use Rattle.sj_generator_laws.specs.GeneratedFile.{generated_file};
 
 /// The generated text is the canonical text of the generated file.
@@ -38,7 +38,7 @@ pub fn the_generated_file_is_accepted()
 /// At the end of the generated file, whose loops send up to 1,000 messages each, its parties have
 /// sent so many messages and done so many steps, and its verdict is done.
 pub fn the_generated_file_ends_done()
-    ensures messages { (n : ℕ) → n ≤ limit_of_turns → messages_in (end_of (generated_file n)) ≡ 10 * n + 15 }
-    ensures steps { (n : ℕ) → n ≤ limit_of_turns → steps_in (end_of (generated_file n)) ≡ 25 * n + 55 }
+    ensures messages { (n : ℕ) → n ≤ limit_of_turns → messages_in (end_of (generated_file n)) ≡ generated_messages n }
+    ensures steps { (n : ℕ) → n ≤ limit_of_turns → steps_in (end_of (generated_file n)) ≡ generated_steps n }
     ensures verdict { (n : ℕ) → n ≤ limit_of_turns → verdict_of (end_of (generated_file n)) ≡ Done }
 {}

@@ -6,7 +6,7 @@ use Rattle.sj_lang.specs.declared.proto.Way.TheVariants.{Out, Into}
 use Rattle.sj_lang.specs.Place.{Place, Carried, Choices, done, message, choice, repeat, int, boolean, text, session, no_choice, arm}
 use Rattle.sj_grammar.specs.declared.tokens.What.TheVariants.{Symbol}
 use Rattle.sj_lang.specs.Limits.{Limits}
-use Rattle.sj_grammar.specs.Places.{Pieces}
+use Rattle.sj_grammar.specs.Positions.{Pieces}
 use Rattle.sj_grammar.specs.Protocols.{way_piece, open_piece, close_piece, dotted, kind_pieces, listed, seq_pieces, body_pieces, IsGiven, IsGivenKind, AreGiven}
 use Rattle.sj_grammar.specs.Canonical.{gap_before, dotted_text, kind_text, listed_text, seq_text, arms_text, body_text}
 use Rattle.sj_grammar.proofs.Lexing.{HasPieces, Any, NoWordByte, NoEqual, one_piece, no_piece, pieces_append, pieces_less, word_piece, word_behind, name_is_word}

@@ -2,7 +2,7 @@
 use Rattle.std.proofs.Common.{◌≡◌, ℕ, Bool, true, false, List, [], ◌∷◌, ◌++◌, Option, Some, None, refl, ap, sym, subst, ◌∙◌, append_assoc, append-nil}
 use Rattle.std.specs.Prelude.{if◌then◌else◌, ◌&&◌, map}
 use Rattle.sj_lang.specs.Limits.{Limits}
-use Rattle.sj_grammar.specs.Places.{Pieces}
+use Rattle.sj_grammar.specs.Positions.{Pieces}
 use Rattle.sj_grammar.specs.Layers.{Layer, goes, step, run, may_end}
 use Rattle.sj_grammar.proofs.Steps.{due_behind, step_due, onward_goes, or_else}
 use Rattle.sj_grammar.proofs.Spellings.{AllHeld}

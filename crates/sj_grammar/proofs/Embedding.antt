@@ -5,7 +5,7 @@ use Rattle.std.proofs.lemmas.List.{map-append}
 use Rattle.sj_lang.specs.Limits.{Limits}
 use Rattle.sj_grammar.specs.declared.tokens.Fault.{Fault}
 use Rattle.sj_grammar.specs.Lexis.{Ahead, at_end, bad, token, next_of}
-use Rattle.sj_grammar.specs.Places.{Pieces, At}
+use Rattle.sj_grammar.specs.Positions.{Pieces, At}
 use Rattle.sj_grammar.specs.Faults.{broken, Stuck}
 use Rattle.sj_grammar.specs.Layers.{Layer, Step, goes, stops, misfit, instead, onward, rule_of, step, run, may_end}
 

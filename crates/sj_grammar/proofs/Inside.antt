@@ -2,7 +2,7 @@
 use Rattle.std.proofs.Common.{◌≡◌, ℕ, false, List, [], ◌∷◌, ◌++◌, refl, ap, ◌∙◌}
 use Rattle.sj_grammar.specs.declared.tokens.Fault.{Fault}
 use Rattle.sj_lang.specs.Limits.{Limits}
-use Rattle.sj_grammar.specs.Places.{Pieces, At, Takes, Begins}
+use Rattle.sj_grammar.specs.Positions.{Pieces, At, Takes, Begins}
 use Rattle.sj_grammar.specs.Layers.{Layer, Step, goes, onward, step, run, may_end}
 use Rattle.sj_grammar.specs.Faults.{Halts}
 use Rattle.sj_grammar.specs.Refusals.{StuckInside}

@@ -5,7 +5,7 @@ use Rattle.sj_grammar.specs.Reading.{Reading}
 use Rattle.sj_grammar.specs.Names.{is_name}
 use Rattle.sj_grammar.specs.Literals.{is_text, inner}
 use Rattle.sj_grammar.specs.Tables.{with_entry}
-use Rattle.sj_grammar.specs.Places.{Pieces, At, at, Begins}
+use Rattle.sj_grammar.specs.Positions.{Pieces, At, at, Begins}
 use Rattle.sj_grammar.proofs.Lexing.{Lexes}
 
 -- the tables behind tokens

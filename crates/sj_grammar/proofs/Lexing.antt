@@ -10,7 +10,7 @@ use Rattle.sj_grammar.specs.Bytes.{is_blank, is_letter, is_word_byte, begins_wit
 use Rattle.sj_grammar.specs.Lexis.{token, cut, next_of}
 use Rattle.sj_grammar.specs.Names.{is_word, is_name, is_reserved}
 use Rattle.sj_grammar.specs.Reading.{Reading, passed}
-use Rattle.sj_grammar.specs.Places.{Pieces}
+use Rattle.sj_grammar.specs.Positions.{Pieces}
 use Rattle.sj_grammar.specs.Asked.{TakesText}
 
 -- the tokens ahead are spelled so, and the text is then read up to there

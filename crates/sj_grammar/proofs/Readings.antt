@@ -7,7 +7,7 @@ use Rattle.sj_grammar.specs.Layers.{Layer, Step, goes, stops, onward, rule_of, s
 use Rattle.sj_grammar.specs.Faults.{Halts, Stuck}
 use Rattle.sj_grammar.proofs.Steps.{run_split}
 use Rattle.sj_grammar.specs.Lexis.{at_end, next_of}
-use Rattle.sj_grammar.specs.Places.{Pieces, At, Takes, Begins, past}
+use Rattle.sj_grammar.specs.Positions.{Pieces, At, Takes, Begins, past}
 
 -- one of the two readings goes on from the other
 abbrev pub GoesOn : Pieces → At → Pieces → At → Type 0

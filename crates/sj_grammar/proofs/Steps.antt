@@ -5,7 +5,7 @@ use Rattle.sj_grammar.specs.declared.tokens.Rule.{Rule}
 use Rattle.sj_grammar.specs.declared.tokens.Rule.TheVariants.{P1, P3, P4}
 use Rattle.sj_lang.specs.Limits.{Limits}
 use Rattle.sj_grammar.specs.Literals.{is_largest}
-use Rattle.sj_grammar.specs.Places.{Pieces}
+use Rattle.sj_grammar.specs.Positions.{Pieces}
 use Rattle.sj_grammar.specs.Layers.{Layer, Step, goes, stops, instead, onward, misfit, rule_of, step, run}
 
 module _ {D : Type 0} (G : Layer D) (L : Limits) where

@@ -8,7 +8,7 @@ use Rattle.sj_grammar.specs.declared.tokens.What.{What}
 use Rattle.sj_lang.specs.Limits.{Limits}
 use Rattle.sj_grammar.specs.Lexis.{Ahead, at_end, bad, token, next_of}
 use Rattle.sj_grammar.specs.Literals.{is_largest}
-use Rattle.sj_grammar.specs.Places.{Pieces, At, Takes, Begins, past}
+use Rattle.sj_grammar.specs.Positions.{Pieces, At, Takes, Begins, past}
 use Rattle.sj_grammar.specs.Layers.{Layer, Step, goes, stops, onward, rule_of, step, run, may_end}
 use Rattle.sj_grammar.specs.Faults.{broken, Halts, Stuck}
 use Rattle.sj_grammar.specs.Asked.{Refuses, refused, Passes}

@@ -6,7 +6,7 @@ use Rattle.sj_lang.specs.Limits.{limits}
 use Rattle.sj_grammar.specs.Lexis.{next_of, at_end, bad, token}
 use Rattle.sj_grammar.specs.Names.{is_name, is_reserved}
 use Rattle.sj_grammar.specs.Literals.{inner}
-use Rattle.sj_grammar.specs.Places.{start}
+use Rattle.sj_grammar.specs.Positions.{start}
 use Rattle.sj_grammar.specs.Layers.{goes, stops, run}
 use Rattle.sj_grammar.specs.Refusals.{fault_next}
 use Rattle.sj_grammar.specs.ProtocolDues.{body, more, maybe, arms}

@@ -7,7 +7,7 @@ use Rattle.sj_lang.specs.Limits.{Limits}
 use Rattle.sj_grammar.specs.Lexis.{most}
 use Rattle.sj_grammar.specs.Literals.{is_number, quoted}
 use Rattle.sj_grammar.specs.Tables.{Spelling, IsNamed, IsLiteral}
-use Rattle.sj_grammar.specs.Places.{Pieces}
+use Rattle.sj_grammar.specs.Positions.{Pieces}
 
 -- an expression, and what it is made of
 pub data Level : Type 0 where

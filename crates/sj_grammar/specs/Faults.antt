@@ -1,18 +1,18 @@
 -- The first fault of a text.
 use Rattle.std.specs.Prelude.{◌≡◌, ℕ, List, Option, Some, None, if◌then◌else◌}
 use Rattle.sj_grammar.specs.declared.tokens.Rule.{Rule}
-use Rattle.sj_grammar.specs.declared.tokens.Rule.TheVariants.{P1}
 use Rattle.sj_grammar.specs.declared.tokens.Fault.{Fault}
 use Rattle.sj_lang.specs.Limits.{Limits}
 use Rattle.sj_grammar.specs.Lexis.{Ahead, at_end, bad, token, next_of}
 use Rattle.sj_grammar.specs.Reading.{before_next, fault_at}
-use Rattle.sj_grammar.specs.Places.{Pieces, At, Begins}
+use Rattle.sj_grammar.specs.Positions.{Pieces, At, Begins}
 use Rattle.sj_grammar.specs.Layers.{Layer, goes, step, run, may_end, rule_of}
+use Rattle.sj_grammar.specs.Rules.{not_due}
 
 module _ {D : Type 0} (G : Layer D) (L : Limits) where
   -- the rule that what comes next breaks
   abbrev pub broken : ℕ → List D → Ahead → Option Rule
-  broken n ds at_end = if may_end G ds then None else Some P1
+  broken n ds at_end = if may_end G ds then None else Some not_due
   broken n ds (bad lexical rest) = Some lexical
   broken n ds (token what s rest) = rule_of (step G L n ds s)
 

@@ -5,7 +5,7 @@ use Rattle.sj_lang.specs.Code.{Code}
 use Rattle.sj_lang.specs.Limits.{Limits, limits}
 use Rattle.sj_grammar.specs.Lexis.{next_of, at_end}
 use Rattle.sj_grammar.specs.Tables.{Spelling, entry_of, IsNamed}
-use Rattle.sj_grammar.specs.Places.{Piece, plain, first_on, all_plain, At, start, BeginsOnLines}
+use Rattle.sj_grammar.specs.Positions.{Piece, plain, first_on, all_plain, At, start, BeginsOnLines}
 use Rattle.sj_grammar.specs.Protocols.{body_pieces, IsBody}
 use Rattle.sj_grammar.specs.Statements.{braced, IsCode}
 

@@ -1,10 +1,10 @@
 -- What is due at a token, as a list: the first of it comes first. A token takes a due away, and puts others in its place.
 use Rattle.std.specs.Prelude.{ℕ, Bool, true, ◌&&◌, List, [], ◌∷◌, ◌++◌, Option, Some, None, if◌then◌else◌}
 use Rattle.sj_grammar.specs.declared.tokens.Rule.{Rule}
-use Rattle.sj_grammar.specs.declared.tokens.Rule.TheVariants.{P1, P3, P4}
 use Rattle.sj_lang.specs.Limits.{Limits}
 use Rattle.sj_grammar.specs.Literals.{is_largest}
-use Rattle.sj_grammar.specs.Places.{Pieces}
+use Rattle.sj_grammar.specs.Positions.{Pieces}
+use Rattle.sj_grammar.specs.Rules.{bad_number, not_due, over_limit}
 
 -- what tokens do to a kind of dues
 pub record Layer (D : Type 0) : Type 0 where
@@ -29,12 +29,12 @@ rule_of (stops rule) = Some rule
 
 -- the rule that a token breaks where no due takes it
 abbrev pub misfit : List ℕ → Rule
-misfit s = if is_largest s then P3 else P1
+misfit s = if is_largest s then bad_number else not_due
 
 -- where a due doesn't take a token, the others are asked
 abbrev pub instead : {D : Type 0} → Option (List D) → Bool → ℕ → List D → Step D → Step D
 instead None over n ds others = others
-instead (Some es) over n ds others = if over then stops P4 else goes n (es ++ ds)
+instead (Some es) over n ds others = if over then stops over_limit else goes n (es ++ ds)
 
 abbrev pub onward : {D : Type 0} → Step D → (ℕ → List D → Step D) → Step D
 onward (goes n es) f = f n es

@@ -11,10 +11,11 @@ pub mod Layers
 pub mod Lexis
 pub mod Literals
 pub mod Names
-pub mod Places
+pub mod Positions
 pub mod ProtocolDues
 pub mod Protocols
 pub mod Reading
 pub mod Refusals
+pub mod Rules
 pub mod Statements
 pub mod Tables

@@ -6,7 +6,7 @@ use Rattle.sj_lang.specs.Place.{Place, Carried, Choices, done, message, choice, 
 use Rattle.sj_lang.specs.ItemCount.{item_count}
 use Rattle.sj_lang.specs.Limits.{Limits}
 use Rattle.sj_grammar.specs.Tables.{IsNamed}
-use Rattle.sj_grammar.specs.Places.{Pieces}
+use Rattle.sj_grammar.specs.Positions.{Pieces}
 
 abbrev pub way_piece : Way → List ℕ
 way_piece Out = codes "!"

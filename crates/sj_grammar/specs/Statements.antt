@@ -6,7 +6,7 @@ use Rattle.sj_lang.specs.Term.{Term}
 use Rattle.sj_lang.specs.Code.{Code, StmtAt, Branches, no_stmt, stmt_then, at, send, delegate, take_value, take_end, outbranch, inbranch, outwhile, inwhile, relay, if_else, let_be, close, no_branch, branch}
 use Rattle.sj_lang.specs.Limits.{Limits}
 use Rattle.sj_grammar.specs.Tables.{Spelling, IsNamed}
-use Rattle.sj_grammar.specs.Places.{Pieces, Piece, plain, first_on, all_plain}
+use Rattle.sj_grammar.specs.Positions.{Pieces, Piece, plain, first_on, all_plain}
 use Rattle.sj_grammar.specs.Expressions.{IsExpression}
 
 abbrev pub scalar_piece : Scalar → List ℕ

@@ -37,8 +37,8 @@ abbrev pub words_in : List ℕ → List (List ℕ)
 words_in line = slice_split (λ b. b == 32) line
 
 -- the bytes of words, with a single space between each two
-abbrev pub spaced : List (List ℕ) → List ℕ
-spaced ws = join_with_byte 32 ws
+abbrev pub words_text : List (List ℕ) → List ℕ
+words_text ws = join_with_byte 32 ws
 
 -- the words of the bytes that are left of a line
 abbrev pub words_left : Option (List ℕ) → List (List ℕ)

@@ -5,7 +5,7 @@ use Rattle.sj_base.specs.declared.Msg.{Msg}
 use Rattle.sj_base.specs.declared.Msg.TheVariants as msgs
 use Rattle.sj_lang.specs.FileAt.{FileAt}
 use Rattle.sj_rules.specs.Log.{NoteAt, Local, Sent, Took, Shut, Carry, Fin, Claim, Signal, Ack, Give}
-use Rattle.sj_log.specs.Fields.{made, word, rest, next, ended, count_read, int_read, end_read, resend_read, bool_read, spaced}
+use Rattle.sj_log.specs.Fields.{made, word, rest, next, ended, count_read, int_read, end_read, resend_read, bool_read, words_text}
 use Rattle.sj_log.specs.Names.{label_read, party_read, text_read}
 use Rattle.sj_log.specs.declared.refusal.LogRule.{LogRule}
 use Rattle.sj_log.specs.declared.refusal.LogRule.TheVariants.{L1}
@@ -19,7 +19,7 @@ unfoldable pub message_read : FileAt → List (List ℕ) → Result Msg LogRule
 message_read file ws =
     if bytes_eq (word ws) (codes "int") then made (λ x. msgs.Int x.0) (next int_read ended (rest ws))
     else (if bytes_eq (word ws) (codes "boolean") then made (λ x. msgs.Bool x.0) (next bool_read ended (rest ws))
-    else (if bytes_eq (word ws) (codes "String") then made (λ n. msgs.Text n) (text_read file (spaced (rest ws)))
+    else (if bytes_eq (word ws) (codes "String") then made (λ n. msgs.Text n) (text_read file (words_text (rest ws)))
     else (if bytes_eq (word ws) (codes "label") then made (λ x. msgs.Label x.0) (next (label_read file) ended (rest ws))
     else (if bytes_eq (word ws) (codes "more") then made (λ x. msgs.More true) (ended (rest ws))
     else (if bytes_eq (word ws) (codes "stop") then made (λ x. msgs.More false) (ended (rest ws))

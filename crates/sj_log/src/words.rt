@@ -3,7 +3,7 @@ ghost use Rattle.std.specs.Prelude.{◌≡◌, ◌==◌, ◌≤◌, length};
 ghost use Rattle.std.specs.List.{position_or_len};
 ghost use Rattle.std.specs.Option.{option_copied};
 ghost use Rattle.std.specs.Str.{bytes_eq};
-ghost use Rattle.sj_log.specs.Fields.{both, rank, first_of, word, rest, words_in, words_left, ended, spaced};
+ghost use Rattle.sj_log.specs.Fields.{both, rank, first_of, word, rest, words_in, words_left, ended, words_text};
 
 use crate::refusal::LogRule;
 use std::marker::Model;
@@ -121,7 +121,7 @@ impl<'a> Fields<'a> {
     /// What is left of the line, with the spaces in it.
     #[tactic(auto, using(crate::proofs::WordLemmas::parting))]
     pub(crate) fn all(&self) -> &'a [u8]
-        ensures { result.now ≡ spaced self.now }
+        ensures { result.now ≡ words_text self.now }
     {
         match self.left {
             Some(bytes) => bytes,

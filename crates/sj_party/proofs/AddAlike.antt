@@ -4,7 +4,7 @@ use Rattle.std.specs.Prelude.{codes, if◌then◌else◌}
 use Rattle.sj_grammar.specs.Names.{is_name}
 use Rattle.sj_grammar.specs.Literals.{is_text, inner}
 use Rattle.sj_grammar.specs.Tables.{with_entry}
-use Rattle.sj_grammar.specs.Places.{Pieces}
+use Rattle.sj_grammar.specs.Positions.{Pieces}
 use Rattle.sj_grammar.proofs.LexedTables.{words_behind, texts_behind}
 
 pub record AddAlike (a b : Pieces) : Type 0 where

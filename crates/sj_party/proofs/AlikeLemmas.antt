@@ -4,7 +4,7 @@ use Rattle.std.specs.Prelude.{codes}
 use Rattle.sj_lang.specs.Term.{Term}
 use Rattle.sj_lang.specs.Limits.{Limits}
 use Rattle.sj_grammar.specs.Tables.{Spelling}
-use Rattle.sj_grammar.specs.Places.{Pieces, Piece, plain, all_plain, spellings}
+use Rattle.sj_grammar.specs.Positions.{Pieces, Piece, plain, all_plain, spellings}
 use Rattle.sj_grammar.specs.Expressions.{IsExpression}
 use Rattle.sj_proto.proofs.Lines.{spellings-append, spellings-plain}
 use Rattle.sj_expr.specs.Ends.{Ends}

@@ -13,7 +13,7 @@ use Rattle.sj_lang.specs.Limits.{limits}
 use Rattle.sj_grammar.specs.Lexis.{Ahead, token, next_of}
 use Rattle.sj_grammar.specs.Reading.{Reading}
 use Rattle.sj_grammar.specs.Names.{is_name, is_reserved}
-use Rattle.sj_grammar.specs.Places.{At, Takes}
+use Rattle.sj_grammar.specs.Positions.{At, Takes}
 use Rattle.sj_grammar.specs.Layers.{step}
 use Rattle.sj_grammar.specs.FileDues.{Due, name, fixed, awaited, semicolon, file_layer}
 use Rattle.sj_grammar.specs.Statements.{scalar_piece}

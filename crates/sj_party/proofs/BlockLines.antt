@@ -7,7 +7,7 @@ use Rattle.sj_lang.specs.Limits.{Limits}
 use Rattle.sj_grammar.specs.Names.{is_word}
 use Rattle.sj_grammar.specs.Reading.{Reading}
 use Rattle.sj_grammar.specs.Tables.{Spelling}
-use Rattle.sj_grammar.specs.Places.{Piece, plain, first_on, spellings}
+use Rattle.sj_grammar.specs.Positions.{Piece, plain, first_on, spellings}
 use Rattle.sj_grammar.specs.Statements.{braced, IsStatement}
 use Rattle.sj_grammar.proofs.Lexing.{read, Any, NoWordByte}
 use Rattle.sj_party.specs.CanonicalCode.{spaces, newline, in_block}

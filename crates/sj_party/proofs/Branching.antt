@@ -5,7 +5,7 @@ use Rattle.sj_lang.specs.Code.{Code, Branches, at, inbranch, no_branch, branch}
 use Rattle.sj_lang.specs.Limits.{Limits}
 use Rattle.sj_grammar.specs.Reading.{Reading}
 use Rattle.sj_grammar.specs.Tables.{Spelling, IsNamed}
-use Rattle.sj_grammar.specs.Places.{Piece, plain, first_on, spellings}
+use Rattle.sj_grammar.specs.Positions.{Piece, plain, first_on, spellings}
 use Rattle.sj_grammar.specs.Statements.{braced, IsStatement, IsBlock, AreArms}
 use Rattle.sj_grammar.specs.Statements as grammar
 use Rattle.sj_grammar.proofs.Lexing.{read, NoWordByte}

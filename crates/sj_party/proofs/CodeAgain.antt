@@ -5,7 +5,7 @@ use Rattle.sj_lang.specs.Code.{Code, StmtAt, Branches, stmt_then, no_stmt, at, i
 use Rattle.sj_lang.specs.Limits.{Limits}
 use Rattle.sj_grammar.specs.Reading.{Reading}
 use Rattle.sj_grammar.specs.Tables.{Spelling}
-use Rattle.sj_grammar.specs.Places.{Piece, plain, first_on, all_plain, spellings}
+use Rattle.sj_grammar.specs.Positions.{Piece, plain, first_on, all_plain, spellings}
 use Rattle.sj_grammar.specs.Expressions.{whole}
 use Rattle.sj_grammar.specs.Statements.{braced, IsCode, IsStatement, IsBlock, AreArms}
 use Rattle.sj_grammar.specs.Statements as grammar

@@ -8,7 +8,7 @@ use Rattle.sj_lang.specs.declared.party.Stmt.{Stmt}
 use Rattle.sj_lang.specs.declared.party.StmtArm.{StmtArm}
 use Rattle.sj_lang.specs.Limits.{limits}
 use Rattle.sj_grammar.specs.Tables.{Spelling}
-use Rattle.sj_grammar.specs.Places.{Piece, At, Takes, TakesPiece, plain, first_on}
+use Rattle.sj_grammar.specs.Positions.{Piece, At, Takes, TakesPiece, plain, first_on}
 use Rattle.sj_grammar.specs.Statements.{called, IsStatement, IsCode, IsBlock, AreArms}
 use Rattle.sj_grammar.specs.Statements as grammar
 use Rattle.sj_party.specs.Read.{ReadsOnLines, ReadsCode}

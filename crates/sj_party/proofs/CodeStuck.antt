@@ -13,7 +13,7 @@ use Rattle.sj_grammar.specs.Lexis.{Ahead, at_end, bad, token, next_of}
 use Rattle.sj_grammar.specs.Literals.{is_largest}
 use Rattle.sj_grammar.specs.Names.{is_name}
 use Rattle.sj_grammar.specs.Reading.{Reading}
-use Rattle.sj_grammar.specs.Places.{At, Takes}
+use Rattle.sj_grammar.specs.Positions.{At, Takes}
 use Rattle.sj_grammar.specs.Layers.{step, rule_of}
 use Rattle.sj_grammar.specs.FileDues.{Due, stmts, block, branches, name, fixed, file_layer}
 use Rattle.sj_grammar.specs.Faults.{Stuck, broken}

@@ -14,7 +14,7 @@ use Rattle.sj_grammar.specs.Lexis.{Ahead, next_of}
 use Rattle.sj_grammar.specs.Names.{is_name, is_reserved}
 use Rattle.sj_grammar.specs.Reading.{Reading, line_at, before_next}
 use Rattle.sj_grammar.specs.Tables.{Spelling, IsNamed}
-use Rattle.sj_grammar.specs.Places.{At, Takes, plain, first_on}
+use Rattle.sj_grammar.specs.Positions.{At, Takes, plain, first_on}
 use Rattle.sj_grammar.specs.Files.{end_pieces, connect_pieces, connects_pieces, IsEnd, IsConnect}
 use Rattle.sj_grammar.specs.FileDues.{Due, name, fixed, semicolon, connects, file_layer}
 use Rattle.sj_grammar.specs.Faults.{Stuck}

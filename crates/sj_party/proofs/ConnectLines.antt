@@ -6,7 +6,7 @@ use Rattle.sj_lang.specs.FileAt.{DeclAt, ConnectAt}
 use Rattle.sj_grammar.specs.declared.tokens.What.TheVariants.{Symbol}
 use Rattle.sj_lang.specs.Limits.{Limits}
 use Rattle.sj_grammar.specs.Tables.{Spelling}
-use Rattle.sj_grammar.specs.Places.{Piece, plain}
+use Rattle.sj_grammar.specs.Positions.{Piece, plain}
 use Rattle.sj_grammar.specs.Files.{end_pieces, connect_pieces, connects_pieces, IsEnd, IsConnect}
 use Rattle.sj_grammar.proofs.Lexing.{read, Any, NoWordByte}
 use Rattle.sj_party.specs.CanonicalCode.{named_text, pair_text}

@@ -9,7 +9,7 @@ use Rattle.sj_grammar.specs.declared.tokens.What.TheVariants.{Symbol}
 use Rattle.sj_lang.specs.Limits.{Limits}
 use Rattle.sj_grammar.specs.Reading.{Reading, passed}
 use Rattle.sj_grammar.specs.Tables.{Spelling, IsNamed}
-use Rattle.sj_grammar.specs.Places.{Pieces, Piece, plain, all_plain}
+use Rattle.sj_grammar.specs.Positions.{Pieces, Piece, plain, all_plain}
 use Rattle.sj_grammar.specs.Protocols.{dotted, body_pieces, IsBody}
 use Rattle.sj_grammar.specs.Canonical.{body_text}
 use Rattle.sj_grammar.specs.Statements.{braced}

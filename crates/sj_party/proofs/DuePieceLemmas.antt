@@ -6,7 +6,7 @@ use Rattle.sj_lang.specs.declared.party.Scalar.{Scalar}
 use Rattle.sj_lang.specs.Code.{Code, Branches, no_stmt, no_branch}
 use Rattle.sj_lang.specs.FileAt.{ProtocolAt, PartyAt, ConnectAt}
 use Rattle.sj_grammar.specs.Tables.{Spelling, IsNamed}
-use Rattle.sj_grammar.specs.Places.{Pieces, Piece, plain, all_plain, spellings}
+use Rattle.sj_grammar.specs.Positions.{Pieces, Piece, plain, all_plain, spellings}
 use Rattle.sj_grammar.specs.Statements.{scalar_piece, IsCode, IsBlock, AreArms}
 use Rattle.sj_grammar.specs.Statements as statements
 use Rattle.sj_grammar.specs.Files.{protocols_pieces, connects_pieces, IsProtocolDef, IsConnect, AreParties}

@@ -11,11 +11,11 @@ use Rattle.sj_lang.specs.Limits.{Limits}
 use Rattle.sj_grammar.specs.Names.{is_word}
 use Rattle.sj_grammar.specs.Literals.{quoted}
 use Rattle.sj_grammar.specs.Tables.{Spelling}
-use Rattle.sj_grammar.specs.Places.{Pieces, Piece, plain, all_plain}
+use Rattle.sj_grammar.specs.Positions.{Pieces, Piece, plain, all_plain}
 use Rattle.sj_grammar.specs.Expressions.{Level, factor}
 use Rattle.sj_grammar.proofs.Lexing.{Any, NoWordByte, NoEqual, word_next, name_is_word}
 use Rattle.sj_expr.specs.Signs.{op_piece}
-use Rattle.sj_party.specs.CanonicalExpression.{left_of, right_of, needs_parens, enclosed, spaced, boolean_text, expression_text}
+use Rattle.sj_party.specs.CanonicalExpression.{left_of, right_of, needs_parens, enclosed, spaced_op, boolean_text, expression_text}
 use Rattle.sj_party.proofs.TokenText.{number_next, text_next}
 use Rattle.sj_party.proofs.Printable.{int_pieces, enclosed_pieces, expression_pieces, IsWritten, IsPrintableInt, IsPrintable, inside}
 use Rattle.sj_party.proofs.PieceTextLemmas.{HasLines, lines_append, blank_lines, one_line}
@@ -44,7 +44,7 @@ boolean_lines true = word_lines (codes "true") refl
 boolean_lines false = word_lines (codes "false") refl
 
 -- an operator between spaces, and what stands behind it
-sign_lines : (op : Op) (t : List ℕ) (ps : List Piece) → HasLines NoWordByte t ps → HasLines NoWordByte (spaced op ++ t) (plain (op_piece op) ∷ ps)
+sign_lines : (op : Op) (t : List ℕ) (ps : List Piece) → HasLines NoWordByte t ps → HasLines NoWordByte (spaced_op op ++ t) (plain (op_piece op) ∷ ps)
 sign_lines Add t ps h = lines_append Any NoWordByte (codes " +") (32 ∷ t) (plain (codes "+") ∷ []) ps (one_line Any (codes " +") (codes "+") Symbol (λ rest free. refl)) (spaced_lines NoWordByte t ps h) (λ rest free. tt)
 sign_lines Sub t ps h = lines_append Any NoWordByte (codes " -") (32 ∷ t) (plain (codes "-") ∷ []) ps (one_line Any (codes " -") (codes "-") Symbol (λ rest free. refl)) (spaced_lines NoWordByte t ps h) (λ rest free. tt)
 sign_lines Mul t ps h = lines_append Any NoWordByte (codes " *") (32 ∷ t) (plain (codes "*") ∷ []) ps (one_line Any (codes " *") (codes "*") Symbol (λ rest free. refl)) (spaced_lines NoWordByte t ps h) (λ rest free. tt)
@@ -52,7 +52,7 @@ sign_lines Less t ps h = lines_append NoEqual NoWordByte (codes " <") (32 ∷ t)
 sign_lines LessEq t ps h = lines_append Any NoWordByte (codes " <=") (32 ∷ t) (plain (codes "<=") ∷ []) ps (one_line Any (codes " <=") (codes "<=") Symbol (λ rest free. refl)) (spaced_lines NoWordByte t ps h) (λ rest free. tt)
 sign_lines Equal t ps h = lines_append Any NoWordByte (codes " ==") (32 ∷ t) (plain (codes "==") ∷ []) ps (one_line Any (codes " ==") (codes "==") Symbol (λ rest free. refl)) (spaced_lines NoWordByte t ps h) (λ rest free. tt)
 
-sign_free : (op : Op) (t rest : List ℕ) → NoWordByte ((spaced op ++ t) ++ rest)
+sign_free : (op : Op) (t rest : List ℕ) → NoWordByte ((spaced_op op ++ t) ++ rest)
 sign_free Add t rest = refl
 sign_free Sub t rest = refl
 sign_free Mul t rest = refl
@@ -60,10 +60,10 @@ sign_free Less t rest = refl
 sign_free LessEq t rest = refl
 sign_free Equal t rest = refl
 
-two_lines : (op : Op) (t u : List ℕ) (a b : Pieces) → HasLines NoWordByte t (all_plain a) → HasLines NoWordByte u (all_plain b) → HasLines NoWordByte (t ++ (spaced op ++ u)) (all_plain (a ++ op_piece op ∷ b))
+two_lines : (op : Op) (t u : List ℕ) (a b : Pieces) → HasLines NoWordByte t (all_plain a) → HasLines NoWordByte u (all_plain b) → HasLines NoWordByte (t ++ (spaced_op op ++ u)) (all_plain (a ++ op_piece op ∷ b))
 two_lines op t u a b h k =
-    subst (λ (ps : List Piece). HasLines NoWordByte (t ++ (spaced op ++ u)) ps) (sym (plain_append a (op_piece op ∷ b)))
-    (lines_append NoWordByte NoWordByte t (spaced op ++ u) (all_plain a) (plain (op_piece op) ∷ all_plain b) h (sign_lines op u (all_plain b) k) (λ rest free. sign_free op u rest))
+    subst (λ (ps : List Piece). HasLines NoWordByte (t ++ (spaced_op op ++ u)) ps) (sym (plain_append a (op_piece op ∷ b)))
+    (lines_append NoWordByte NoWordByte t (spaced_op op ++ u) (all_plain a) (plain (op_piece op) ∷ all_plain b) h (sign_lines op u (all_plain b) k) (λ rest free. sign_free op u rest))
 
 enclosed_lines : (x : Bool) (t : List ℕ) (a : Pieces) → HasLines NoWordByte t (all_plain a) → HasLines NoWordByte (enclosed x t) (all_plain (enclosed_pieces x a))
 enclosed_lines false t a h = h
@@ -85,5 +85,5 @@ module _ (L : Limits) (names : Spelling) where
       let x = needs_parens l op in
       let a = expression_pieces names (left_of op) t in
       let b = expression_pieces names (right_of op) u in
-      enclosed_lines x (expression_text names (left_of op) t ++ (spaced op ++ expression_text names (right_of op) u)) (a ++ op_piece op ∷ b)
+      enclosed_lines x (expression_text names (left_of op) t ++ (spaced_op op ++ expression_text names (right_of op) u)) (a ++ op_piece op ∷ b)
       (two_lines op (expression_text names (left_of op) t) (expression_text names (right_of op) u) a b (expression_lines (left_of op) (inside x o) t h.1) (expression_lines (right_of op) (inside x o) u h.2))

@@ -5,7 +5,7 @@ use Rattle.sj_grammar.specs.declared.tokens.Rule.{Rule}
 use Rattle.sj_grammar.specs.declared.tokens.Rule.TheVariants.{P4}
 use Rattle.sj_grammar.specs.declared.tokens.Fault.{Fault}
 use Rattle.sj_lang.specs.Limits.{Limits, limits}
-use Rattle.sj_grammar.specs.Places.{Pieces, spellings, start}
+use Rattle.sj_grammar.specs.Positions.{Pieces, spellings, start}
 use Rattle.sj_grammar.specs.Layers.{step, run, may_end, rule_of}
 use Rattle.sj_grammar.specs.Faults.{Stuck}
 use Rattle.sj_grammar.specs.FileDues.{Due, file_layer, file_due}

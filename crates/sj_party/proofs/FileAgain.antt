@@ -5,7 +5,7 @@ use Rattle.std.proofs.lemmas.List.{length-map}
 use Rattle.sj_lang.specs.FileAt.{FileAt}
 use Rattle.sj_lang.specs.Limits.{limits}
 use Rattle.sj_grammar.specs.Lexis.{next_of, at_end}
-use Rattle.sj_grammar.specs.Places.{Piece, At, at, spellings, start, BeginsOnLines}
+use Rattle.sj_grammar.specs.Positions.{Piece, At, at, spellings, start, BeginsOnLines}
 use Rattle.sj_grammar.specs.Files.{protocols_pieces, connects_pieces, names_of, IsFile}
 use Rattle.sj_grammar.proofs.Lexing.{read}
 use Rattle.sj_grammar.proofs.LexedTables.{words_behind, texts_behind}

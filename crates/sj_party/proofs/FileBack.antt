@@ -6,7 +6,7 @@ use Rattle.std.proofs.lemmas.List.Elements.{All-cons}
 use Rattle.sj_lang.specs.FileAt.{ProtocolAt, ConnectAt}
 use Rattle.sj_grammar.specs.Names.{is_name}
 use Rattle.sj_grammar.specs.Tables.{Spelling}
-use Rattle.sj_grammar.specs.Places.{Pieces, Piece, plain, first_on, all_plain, spellings}
+use Rattle.sj_grammar.specs.Positions.{Pieces, Piece, plain, first_on, all_plain, spellings}
 use Rattle.sj_grammar.specs.Protocols.{body_pieces}
 use Rattle.sj_grammar.specs.ProtocolDues.{body, protocol_layer, protocol_follow}
 use Rattle.sj_grammar.specs.ExpressionDues.{expression_layer, expression_follow}

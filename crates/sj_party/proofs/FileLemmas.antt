@@ -12,7 +12,7 @@ use Rattle.sj_grammar.specs.declared.refusal.ParseRefusal.{ParseRefusal}
 use Rattle.sj_lang.specs.Limits.{Limits, limits, IsWithin}
 use Rattle.sj_grammar.specs.Lexis.{Ahead, at_end, bad, token, next_of}
 use Rattle.sj_grammar.specs.Literals.{is_largest}
-use Rattle.sj_grammar.specs.Places.{Piece, At, BeginsOnLines, spellings, start}
+use Rattle.sj_grammar.specs.Positions.{Piece, At, BeginsOnLines, spellings, start}
 use Rattle.sj_grammar.specs.Files.{protocols_pieces, connects_pieces, IsSpelled, IsFile}
 use Rattle.sj_grammar.specs.FileDues.{Due, protocols, parties, connects, file_layer, file_due}
 use Rattle.sj_grammar.specs.Faults.{Stuck, broken}

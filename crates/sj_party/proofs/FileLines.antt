@@ -12,7 +12,7 @@ use Rattle.sj_lang.specs.Limits.{limits}
 use Rattle.sj_grammar.specs.Lexis.{token, next_of}
 use Rattle.sj_grammar.specs.Literals.{is_largest}
 use Rattle.sj_grammar.specs.Reading.{Reading}
-use Rattle.sj_grammar.specs.Places.{Piece, At, BeginsOnLines, spellings}
+use Rattle.sj_grammar.specs.Positions.{Piece, At, BeginsOnLines, spellings}
 use Rattle.sj_grammar.specs.Layers.{goes, stops, step, rule_of}
 use Rattle.sj_grammar.specs.FileDues.{Due, file_layer}
 use Rattle.sj_grammar.specs.Faults.{Stuck, broken}

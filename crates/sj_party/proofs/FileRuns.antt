@@ -5,7 +5,7 @@ use Rattle.std.proofs.lemmas.Bool.{lt-leb}
 use Rattle.sj_lang.specs.FileAt.{PartyAt, DeclAt, ConnectAt, FileAt}
 use Rattle.sj_lang.specs.Limits.{Limits}
 use Rattle.sj_grammar.specs.Tables.{Spelling, IsNamed, entry_of}
-use Rattle.sj_grammar.specs.Places.{Piece, plain, first_on, spellings}
+use Rattle.sj_grammar.specs.Positions.{Piece, plain, first_on, spellings}
 use Rattle.sj_grammar.specs.Layers.{Step, onward, step, run, may_end}
 use Rattle.sj_grammar.specs.FileDues.{Due, protocols, parties, connects, stmts, name, fixed, semicolon, file_layer, file_due}
 use Rattle.sj_grammar.specs.Statements.{braced}

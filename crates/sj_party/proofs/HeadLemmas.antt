@@ -7,7 +7,7 @@ use Rattle.sj_lang.specs.Term.{Term}
 use Rattle.sj_grammar.specs.declared.tokens.What.TheVariants.{Symbol}
 use Rattle.sj_lang.specs.Limits.{Limits}
 use Rattle.sj_grammar.specs.Tables.{Spelling, IsNamed}
-use Rattle.sj_grammar.specs.Places.{Pieces, Piece, plain, all_plain}
+use Rattle.sj_grammar.specs.Positions.{Pieces, Piece, plain, all_plain}
 use Rattle.sj_grammar.specs.Expressions.{IsExpression, whole}
 use Rattle.sj_grammar.specs.Statements.{scalar_piece}
 use Rattle.sj_grammar.proofs.Lexing.{Any, NoWordByte, NoEqual}

@@ -6,7 +6,7 @@ use Rattle.sj_lang.specs.Term.{Term}
 use Rattle.sj_lang.specs.Code.{Code, StmtAt, Branches, at, send, delegate, take_value, take_end, outbranch, inbranch, outwhile, inwhile, relay, if_else, let_be, close, branch}
 use Rattle.sj_lang.specs.Limits.{Limits}
 use Rattle.sj_grammar.specs.Tables.{Spelling, IsNamed}
-use Rattle.sj_grammar.specs.Places.{Pieces, Piece, plain, first_on, all_plain}
+use Rattle.sj_grammar.specs.Positions.{Pieces, Piece, plain, first_on, all_plain}
 use Rattle.sj_grammar.specs.Expressions.{IsExpression}
 use Rattle.sj_grammar.specs.Statements.{scalar_piece, called, IsStatement, IsBlock, AreArms}
 use Rattle.sj_grammar.specs.Statements as grammar

@@ -4,7 +4,7 @@ use Rattle.sj_lang.specs.Term.{Term}
 use Rattle.sj_lang.specs.Limits.{Limits}
 use Rattle.sj_grammar.specs.Names.{is_name}
 use Rattle.sj_grammar.specs.Tables.{Spelling, IsFirst, IsNamed}
-use Rattle.sj_grammar.specs.Places.{Pieces}
+use Rattle.sj_grammar.specs.Positions.{Pieces}
 use Rattle.sj_grammar.specs.Expressions.{IsExpression, operand_count}
 use Rattle.sj_grammar.specs.Expressions as level
 use Rattle.sj_expr.proofs.WideLimitLemmas.{Writes}

@@ -6,7 +6,7 @@ use Rattle.sj_lang.specs.Limits.{Limits}
 use Rattle.sj_grammar.specs.Names.{is_word}
 use Rattle.sj_grammar.specs.Reading.{Reading}
 use Rattle.sj_grammar.specs.Tables.{Spelling, IsNamed}
-use Rattle.sj_grammar.specs.Places.{Pieces, Piece, plain, first_on, all_plain, spellings}
+use Rattle.sj_grammar.specs.Positions.{Pieces, Piece, plain, first_on, all_plain, spellings}
 use Rattle.sj_grammar.specs.Expressions.{IsExpression, whole}
 use Rattle.sj_grammar.proofs.Lexing.{read, Any, NoWordByte, word_next, name_is_word}
 use Rattle.sj_proto.proofs.Lines.{spellings-append, spellings-plain}

@@ -5,7 +5,7 @@ use Rattle.sj_lang.specs.Place.{Place, Carried, Choices, done, message, choice, 
 use Rattle.sj_lang.specs.ItemCount.{item_count}
 use Rattle.sj_grammar.specs.Names.{is_name}
 use Rattle.sj_grammar.specs.Tables.{IsNamed}
-use Rattle.sj_grammar.specs.Places.{Pieces}
+use Rattle.sj_grammar.specs.Positions.{Pieces}
 use Rattle.sj_grammar.specs.Protocols.{way_piece, open_piece, close_piece, dotted, kind_pieces, listed, body_pieces, IsGiven, IsGivenKind, AreGiven, IsBody}
 use Rattle.sj_grammar.proofs.Spellings.{first_of}
 use Rattle.sj_proto.specs.Writable.{IsWritable, CanBeCarried, AreWritable}

@@ -6,7 +6,7 @@ use Rattle.sj_lang.specs.FileAt.{ProtocolAt, PartyAt, DeclAt, ConnectAt, FileAt}
 use Rattle.sj_lang.specs.Limits.{Limits, limits}
 use Rattle.sj_grammar.specs.Reading.{passed, line_at}
 use Rattle.sj_grammar.specs.Tables.{Spelling, entry_of}
-use Rattle.sj_grammar.specs.Places.{Pieces, Piece, At, BeginsOnLines, plain, all_plain, spellings, start}
+use Rattle.sj_grammar.specs.Positions.{Pieces, Piece, At, BeginsOnLines, plain, all_plain, spellings, start}
 use Rattle.sj_grammar.specs.Protocols.{body_pieces}
 use Rattle.sj_grammar.specs.Statements.{braced}
 use Rattle.sj_grammar.specs.Files.{protocol_pieces, protocols_pieces, connects_pieces, IsProtocolDef, IsEnd, IsConnect, AreParties, names_of, IsFile}

@@ -6,7 +6,7 @@ use Rattle.sj_lang.specs.Code.{at, send, delegate, take_value, take_end, outbran
 use Rattle.sj_lang.specs.Term.{Term}
 use Rattle.sj_lang.specs.Limits.{Limits}
 use Rattle.sj_grammar.specs.Tables.{Spelling, IsNamed}
-use Rattle.sj_grammar.specs.Places.{Pieces, plain, first_on, all_plain, spellings}
+use Rattle.sj_grammar.specs.Positions.{Pieces, plain, first_on, all_plain, spellings}
 use Rattle.sj_grammar.specs.Expressions.{IsExpression, whole}
 use Rattle.sj_grammar.specs.Statements.{scalar_piece}
 use Rattle.sj_grammar.specs.Statements as grammar

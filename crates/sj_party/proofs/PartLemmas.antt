@@ -12,7 +12,7 @@ use Rattle.sj_lang.specs.Limits.{limits}
 use Rattle.sj_grammar.specs.Literals.{is_largest}
 use Rattle.sj_grammar.specs.Reading.{Reading}
 use Rattle.sj_grammar.specs.Tables.{Spelling}
-use Rattle.sj_grammar.specs.Places.{Piece, At, BeginsOnLines, spellings, plain}
+use Rattle.sj_grammar.specs.Positions.{Piece, At, BeginsOnLines, spellings, plain}
 use Rattle.sj_grammar.specs.Expressions.{operand_count}
 use Rattle.sj_grammar.specs.FileDues.{Due, name, fixed, awaited, block, branches, file_layer}
 use Rattle.sj_grammar.specs.Faults.{Stuck}

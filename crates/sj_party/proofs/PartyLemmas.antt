@@ -14,7 +14,7 @@ use Rattle.sj_grammar.specs.Lexis.{Ahead, next_of}
 use Rattle.sj_grammar.specs.Names.{is_name, is_reserved}
 use Rattle.sj_grammar.specs.Reading.{Reading, line_at, before_next}
 use Rattle.sj_grammar.specs.Tables.{Spelling, IsNamed, entry_of}
-use Rattle.sj_grammar.specs.Places.{Piece, At, Takes, BeginsOnLines, plain, first_on, spellings}
+use Rattle.sj_grammar.specs.Positions.{Piece, At, Takes, BeginsOnLines, plain, first_on, spellings}
 use Rattle.sj_grammar.specs.Statements.{braced}
 use Rattle.sj_grammar.specs.Files.{AreParties}
 use Rattle.sj_grammar.specs.Files as files

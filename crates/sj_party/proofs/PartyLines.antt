@@ -5,7 +5,7 @@ use Rattle.sj_lang.specs.Code.{Code}
 use Rattle.sj_lang.specs.FileAt.{PartyAt}
 use Rattle.sj_lang.specs.Limits.{Limits}
 use Rattle.sj_grammar.specs.Tables.{Spelling}
-use Rattle.sj_grammar.specs.Places.{Piece, plain, first_on, spellings}
+use Rattle.sj_grammar.specs.Positions.{Piece, plain, first_on, spellings}
 use Rattle.sj_grammar.specs.Statements.{braced, IsCode}
 use Rattle.sj_grammar.specs.Files.{AreParties}
 use Rattle.sj_grammar.specs.Files as files

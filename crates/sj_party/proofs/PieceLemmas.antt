@@ -6,7 +6,7 @@ use Rattle.sj_lang.specs.Code.{Code, DeedAt, Branches, no_branch, branch, at, se
 use Rattle.sj_lang.specs.declared.party.Scalar.{Scalar}
 use Rattle.sj_lang.specs.Limits.{limits}
 use Rattle.sj_grammar.specs.Tables.{Spelling, IsNamed, entry_of}
-use Rattle.sj_grammar.specs.Places.{Pieces, Piece, At, Takes, TakesPiece, spellings, plain, first_on, all_plain}
+use Rattle.sj_grammar.specs.Positions.{Pieces, Piece, At, Takes, TakesPiece, spellings, plain, first_on, all_plain}
 use Rattle.sj_grammar.specs.Expressions.{IsExpression}
 use Rattle.sj_grammar.specs.Statements.{scalar_piece, called, IsStatement, IsBlock, AreArms}
 use Rattle.sj_grammar.specs.Statements as grammar

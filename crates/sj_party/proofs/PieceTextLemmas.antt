@@ -6,7 +6,7 @@ use Rattle.sj_grammar.specs.declared.tokens.What.{What}
 use Rattle.sj_grammar.specs.Bytes.{is_blank}
 use Rattle.sj_grammar.specs.Lexis.{token, next_of}
 use Rattle.sj_grammar.specs.Reading.{Reading, passed, line_at}
-use Rattle.sj_grammar.specs.Places.{Piece, At, at, BeginsOnLines, plain, first_on, spellings}
+use Rattle.sj_grammar.specs.Positions.{Piece, At, at, BeginsOnLines, plain, first_on, spellings}
 use Rattle.sj_grammar.specs.Names.{is_name}
 use Rattle.sj_grammar.specs.Literals.{is_text, inner}
 use Rattle.sj_grammar.specs.Tables.{with_entry}

@@ -10,7 +10,7 @@ use Rattle.sj_lang.specs.Limits.{Limits}
 use Rattle.sj_grammar.specs.Lexis.{most}
 use Rattle.sj_grammar.specs.Literals.{is_number}
 use Rattle.sj_grammar.specs.Tables.{Spelling}
-use Rattle.sj_grammar.specs.Places.{Pieces}
+use Rattle.sj_grammar.specs.Positions.{Pieces}
 use Rattle.sj_grammar.specs.Expressions.{Level, whole, sum, term, factor, Spelt}
 use Rattle.sj_grammar.specs.Expressions as spelt
 use Rattle.sj_expr.specs.Signs.{op_piece}

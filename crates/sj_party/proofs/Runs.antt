@@ -8,7 +8,7 @@ use Rattle.sj_lang.specs.Code.{Code, StmtAt, Branches}
 use Rattle.sj_lang.specs.Limits.{Limits}
 use Rattle.sj_grammar.specs.Names.{is_name}
 use Rattle.sj_grammar.specs.Tables.{Spelling, IsNamed}
-use Rattle.sj_grammar.specs.Places.{Pieces, Piece, plain, first_on, all_plain}
+use Rattle.sj_grammar.specs.Positions.{Pieces, Piece, plain, first_on, all_plain}
 use Rattle.sj_grammar.specs.Layers.{goes, step}
 use Rattle.sj_grammar.specs.Expressions.{IsExpression}
 use Rattle.sj_grammar.specs.ExpressionDues.{whole}

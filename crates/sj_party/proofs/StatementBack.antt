@@ -7,7 +7,7 @@ use Rattle.sj_lang.specs.declared.party.Scalar.TheVariants.{Int, Boolean, Text}
 use Rattle.sj_lang.specs.Code.{branch}
 use Rattle.sj_grammar.specs.Names.{is_name}
 use Rattle.sj_grammar.specs.Tables.{Spelling}
-use Rattle.sj_grammar.specs.Places.{Pieces, plain}
+use Rattle.sj_grammar.specs.Positions.{Pieces, plain}
 use Rattle.sj_grammar.specs.ExpressionDues.{whole}
 use Rattle.sj_grammar.specs.Statements.{scalar_piece, braced}
 use Rattle.sj_grammar.specs.Statements as grammar

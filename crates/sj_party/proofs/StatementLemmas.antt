@@ -3,7 +3,7 @@ use Rattle.std.proofs.Common.{◌≡◌, ℕ, List, [], ◌∷◌, ◌++◌, ap,
 use Rattle.std.specs.Prelude.{codes}
 use Rattle.sj_lang.specs.Code.{StmtAt, stmt_then, at, send, delegate, take_value, take_end, outbranch, inbranch, outwhile, inwhile, relay, if_else, let_be, close, branch}
 use Rattle.sj_grammar.specs.Tables.{Spelling}
-use Rattle.sj_grammar.specs.Places.{Pieces, Piece, plain, first_on, spellings}
+use Rattle.sj_grammar.specs.Positions.{Pieces, Piece, plain, first_on, spellings}
 use Rattle.sj_grammar.specs.ExpressionDues.{whole}
 use Rattle.sj_grammar.specs.Statements.{IsStatement, braced}
 use Rattle.sj_grammar.specs.Statements as grammar

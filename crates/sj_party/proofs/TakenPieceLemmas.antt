@@ -4,7 +4,7 @@ use Rattle.std.specs.Prelude.{map}
 use Rattle.sj_lang.specs.Term.{Term}
 use Rattle.sj_lang.specs.Limits.{Limits}
 use Rattle.sj_grammar.specs.Tables.{Spelling}
-use Rattle.sj_grammar.specs.Places.{Pieces, Piece, spellings, all_plain}
+use Rattle.sj_grammar.specs.Positions.{Pieces, Piece, spellings, all_plain}
 use Rattle.sj_grammar.specs.Layers.{Step, goes, onward, step, run}
 use Rattle.sj_grammar.specs.Expressions.{IsExpression, operand_count}
 use Rattle.sj_grammar.specs.ExpressionDues.{ExpressionDue, whole, times, plus, compare, expression_layer}

@@ -9,7 +9,7 @@ use Rattle.sj_lang.specs.Term.{Term}
 use Rattle.sj_lang.specs.Limits.{Limits}
 use Rattle.sj_grammar.specs.Names.{is_name}
 use Rattle.sj_grammar.specs.Tables.{Spelling, IsNamed}
-use Rattle.sj_grammar.specs.Places.{Pieces, Piece, plain, all_plain}
+use Rattle.sj_grammar.specs.Positions.{Pieces, Piece, plain, all_plain}
 use Rattle.sj_grammar.specs.Expressions.{IsExpression}
 use Rattle.sj_grammar.specs.Statements.{scalar_piece, called, IsStatement, IsCode, IsBlock, AreArms}
 use Rattle.sj_grammar.specs.Statements as grammar

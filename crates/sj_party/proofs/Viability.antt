@@ -10,7 +10,7 @@ use Rattle.sj_lang.specs.Limits.{Limits}
 use Rattle.sj_grammar.specs.Literals.{inner}
 use Rattle.sj_grammar.specs.Names.{is_name}
 use Rattle.sj_grammar.specs.Tables.{Spelling, entry_of}
-use Rattle.sj_grammar.specs.Places.{Pieces, spellings}
+use Rattle.sj_grammar.specs.Positions.{Pieces, spellings}
 use Rattle.sj_grammar.specs.Layers.{step, may_end, rule_of}
 use Rattle.sj_grammar.specs.Statements.{braced}
 use Rattle.sj_grammar.specs.Statements as statements

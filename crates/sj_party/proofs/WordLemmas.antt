@@ -8,7 +8,7 @@ use Rattle.sj_grammar.specs.Lexis.{Ahead, next_of}
 use Rattle.sj_grammar.specs.Literals.{is_text}
 use Rattle.sj_grammar.specs.Names.{is_name, is_reserved}
 use Rattle.sj_grammar.specs.Reading.{Reading, line_at, before_next}
-use Rattle.sj_grammar.specs.Places.{At, Takes, TakesPiece, first_on}
+use Rattle.sj_grammar.specs.Positions.{At, Takes, TakesPiece, first_on}
 use Rattle.sj_grammar.specs.Layers.{goes, step}
 use Rattle.sj_grammar.specs.FileDues.{Due, stmts, statement_follow, file_layer}
 use Rattle.sj_grammar.specs.Asked.{TakesText}

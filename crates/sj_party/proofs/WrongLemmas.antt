@@ -9,7 +9,7 @@ use Rattle.sj_lang.specs.Limits.{limits}
 use Rattle.sj_grammar.specs.Literals.{is_largest}
 use Rattle.sj_grammar.specs.Lexis.{Ahead, at_end, bad, token, next_of}
 use Rattle.sj_grammar.specs.Reading.{before_next, fault_at}
-use Rattle.sj_grammar.specs.Places.{Pieces, start}
+use Rattle.sj_grammar.specs.Positions.{Pieces, start}
 use Rattle.sj_grammar.specs.Layers.{Step, goes, stops, misfit, rule_of, step, may_end}
 use Rattle.sj_grammar.specs.FileDues.{Due, file_layer, file_due}
 use Rattle.sj_grammar.specs.Faults.{Stuck, broken}
@@ -116,7 +116,7 @@ goes_wrong bytes f st =
       viable = viable limits st.pieces st.count st.due st.fits;
       within = record { count = st.count; due = st.due; leads = st.fits };
       wrong = subst (IsWrongNext st.pieces ahead) rule_is (next_wrong st.pieces st.count st.due st.fits ahead st.halts.rule st.halts.breaks);
-      place = st.halts.fault ∙ ap (fault_at (before_next st.there.text ahead)) rule_is;
+      position = st.halts.fault ∙ ap (fault_at (before_next st.there.text ahead)) rule_is;
     }
 
 -- and where it goes wrong it is stuck
@@ -128,5 +128,5 @@ is_first_fault bytes f w = record {
   due = w.within.due;
   front = w.front;
   fits = w.within.leads;
-  halts = record { rule = f.rule; breaks = next_broken w.pieces w.within.count w.within.due w.within.leads (next_of w.there.text.ahead) f.rule w.wrong; fault = w.place };
+  halts = record { rule = f.rule; breaks = next_broken w.pieces w.within.count w.within.due w.within.leads (next_of w.there.text.ahead) f.rule w.wrong; fault = w.position };
 }

@@ -1,7 +1,7 @@
 -- Pieces that are alike, and where a list of statements or of arms ends.
 use Rattle.std.specs.Prelude.{◌≡◌, ℕ, Bool, false, List, [], ◌∷◌, codes, Option, Some, None}
 use Rattle.sj_grammar.specs.Names.{is_among, is_name}
-use Rattle.sj_grammar.specs.Places.{Pieces, Piece}
+use Rattle.sj_grammar.specs.Positions.{Pieces, Piece}
 
 -- one line, where both say which
 abbrev pub OnOneLine : Option ℕ → Option ℕ → Type 0

@@ -54,8 +54,8 @@ abbrev pub enclosed : Bool → List ℕ → List ℕ
 enclosed needed t = if needed then codes "(" ++ (t ++ codes ")") else t
 
 -- an operator between spaces
-abbrev pub spaced : Op → List ℕ
-spaced op = codes " " ++ (op_piece op ++ codes " ")
+abbrev pub spaced_op : Op → List ℕ
+spaced_op op = codes " " ++ (op_piece op ++ codes " ")
 
 abbrev pub boolean_text : Bool → List ℕ
 boolean_text b = if b then codes "true" else codes "false"
@@ -68,4 +68,4 @@ expression_text names l (text n) = quoted (names.text n)
 expression_text names l (var n) = names.word n
 expression_text names l (not t) = codes "not " ++ expression_text names factor t
 expression_text names l (two op t u) =
-    enclosed (needs_parens l op) (expression_text names (left_of op) t ++ (spaced op ++ expression_text names (right_of op) u))
+    enclosed (needs_parens l op) (expression_text names (left_of op) t ++ (spaced_op op ++ expression_text names (right_of op) u))

@@ -1,7 +1,7 @@
 -- Words of the laws: how pieces are taken as what is due.
 use Rattle.std.specs.Prelude.{◌≡◌, ℕ, true, List}
 use Rattle.sj_lang.specs.Limits.{Limits}
-use Rattle.sj_grammar.specs.Places.{Pieces, Piece, spellings}
+use Rattle.sj_grammar.specs.Positions.{Pieces, Piece, spellings}
 use Rattle.sj_grammar.specs.Layers.{goes, run, may_end}
 use Rattle.sj_grammar.specs.FileDues.{Due, file_layer}
 

@@ -5,7 +5,7 @@ use Rattle.sj_lang.specs.Term.{Term}
 use Rattle.sj_lang.specs.Code.{Code, DeedAt, Branches, no_branch, branch, send, delegate, take_value, take_end, outbranch, inbranch, outwhile, inwhile, relay, if_else, let_be, close}
 use Rattle.sj_lang.specs.Limits.{limits}
 use Rattle.sj_grammar.specs.Tables.{IsNamed}
-use Rattle.sj_grammar.specs.Places.{At, Takes}
+use Rattle.sj_grammar.specs.Positions.{At, Takes}
 use Rattle.sj_grammar.specs.Statements.{scalar_piece, IsBlock, AreArms}
 use Rattle.sj_grammar.specs.ExpressionDues.{whole}
 use Rattle.sj_grammar.specs.FileDues.{Due, name, fixed, expr, awaited, block, branches, file_layer}

@@ -5,7 +5,7 @@ use Rattle.sj_lang.specs.Code.{Code}
 use Rattle.sj_lang.specs.Limits.{limits}
 use Rattle.sj_grammar.specs.Reading.{Reading}
 use Rattle.sj_grammar.specs.Tables.{Spelling}
-use Rattle.sj_grammar.specs.Places.{Piece, At, BeginsOnLines}
+use Rattle.sj_grammar.specs.Positions.{Piece, At, BeginsOnLines}
 use Rattle.sj_grammar.specs.Statements.{IsCode}
 use Rattle.sj_proto.specs.Parsed.{need}
 use Rattle.sj_expr.specs.Read.{Agrees}

@@ -2,7 +2,7 @@
 use Rattle.std.specs.Prelude.{◌≡◌, List, ◌++◌}
 use Rattle.sj_lang.specs.FileAt.{FileAt}
 use Rattle.sj_lang.specs.Limits.{Limits}
-use Rattle.sj_grammar.specs.Places.{Pieces, Piece, spellings}
+use Rattle.sj_grammar.specs.Positions.{Pieces, Piece, spellings}
 use Rattle.sj_grammar.specs.Files.{IsSpelled}
 
 -- the pieces are a file within some limits

@@ -1,7 +1,7 @@
 -- The words that statements begin with, and what is due behind them.
 use Rattle.std.specs.Prelude.{◌≡◌, ℕ, false, List, [], ◌∷◌, codes}
 use Rattle.std.specs.Str.{bytes_eq}
-use Rattle.sj_grammar.specs.Places.{Pieces}
+use Rattle.sj_grammar.specs.Positions.{Pieces}
 use Rattle.sj_grammar.specs.ExpressionDues.{whole}
 use Rattle.sj_grammar.specs.FileDues.{Due, name, fixed, expr, awaited, block, branches, semicolon}
 use Rattle.sj_party.specs.declared.openings.Word.{Word}

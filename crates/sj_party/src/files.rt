@@ -3,7 +3,7 @@ ghost use Rattle.std.specs.Prelude.{◌≡◌, ◌≤◌, [], length, IfOk, IfEr
 ghost use Rattle.sj_lang.specs.FileAt.{FileAt};
 ghost use Rattle.sj_lang.specs.FileView.{file_of};
 ghost use Rattle.sj_lang.specs.Limits.{limits, IsWithin, file_limit};
-ghost use Rattle.sj_grammar.specs.Places.{start};
+ghost use Rattle.sj_grammar.specs.Positions.{start};
 ghost use Rattle.sj_grammar.specs.Files.{IsFile};
 ghost use Rattle.sj_grammar.specs.FileDues.{file_layer, file_due};
 ghost use Rattle.sj_grammar.specs.Faults.{Stuck};

@@ -15,7 +15,7 @@ ghost use Rattle.sj_grammar.specs.declared.tokens.Rule.TheVariants.{P4};
 ghost use Rattle.sj_grammar.specs.declared.tokens.Fault.{Fault};
 ghost use Rattle.sj_lang.specs.Limits.{Limits, limits};
 ghost use Rattle.sj_grammar.specs.Tables.{Spelling};
-ghost use Rattle.sj_grammar.specs.Places.{Pieces, Piece, spellings, start};
+ghost use Rattle.sj_grammar.specs.Positions.{Pieces, Piece, spellings, start};
 ghost use Rattle.sj_grammar.specs.Layers.{step, may_end, rule_of};
 ghost use Rattle.sj_grammar.specs.Faults.{Stuck};
 ghost use Rattle.sj_grammar.specs.Statements.{IsStatement, IsCode, IsBlock, AreArms};

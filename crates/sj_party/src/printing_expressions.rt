@@ -6,7 +6,7 @@ ghost use Rattle.sj_text.specs.Cut.{IsCutShort};
 ghost use Rattle.sj_lang.specs.CodeView.{term_of};
 ghost use Rattle.sj_grammar.specs.Literals.{quoted};
 ghost use Rattle.sj_grammar.specs.Tables.{entry_of};
-ghost use Rattle.sj_party.specs.CanonicalExpression.{spelling_of, left_of, right_of, needs_parens, spaced, expression_text};
+ghost use Rattle.sj_party.specs.CanonicalExpression.{spelling_of, left_of, right_of, needs_parens, spaced_op, expression_text};
 ghost use Rattle.sj_party.specs.Levels.{level_of};
 
 use sj_base::NoMemory;
@@ -78,7 +78,7 @@ fn on_right(op: Op) -> Wanted
 
 // An operator between spaces.
 fn sign(op: Op) -> &'static [u8]
-    ensures { result.now ≡ spaced op }
+    ensures { result.now ≡ spaced_op op }
 {
     match op {
         Op::Add => b" + ",

@@ -4,7 +4,7 @@ use Rattle.sj_lang.specs.FileAt.{FileAt}
 use Rattle.sj_grammar.specs.declared.tokens.Fault.{Fault}
 use Rattle.sj_lang.specs.Limits.{Limits, limits}
 use Rattle.sj_grammar.specs.Tables.{entry_of}
-use Rattle.sj_grammar.specs.Places.{Pieces, Piece, At, start, spellings}
+use Rattle.sj_grammar.specs.Positions.{Pieces, Piece, At, start, spellings}
 use Rattle.sj_grammar.specs.Layers.{goes, run}
 use Rattle.sj_grammar.specs.Faults.{Stuck}
 use Rattle.sj_grammar.specs.Files.{protocols_pieces, connects_pieces, IsSpelled, IsFile}

@@ -9,7 +9,7 @@ use Rattle.sj_lang.specs.Code.{branch}
 use Rattle.sj_lang.specs.Limits.{Limits}
 use Rattle.sj_grammar.specs.Names.{is_name}
 use Rattle.sj_grammar.specs.Tables.{Spelling, IsNamed}
-use Rattle.sj_grammar.specs.Places.{Piece, plain}
+use Rattle.sj_grammar.specs.Positions.{Piece, plain}
 use Rattle.sj_grammar.specs.ExpressionDues.{whole}
 use Rattle.sj_grammar.specs.Statements.{scalar_piece, braced}
 use Rattle.sj_grammar.specs.Statements as grammar

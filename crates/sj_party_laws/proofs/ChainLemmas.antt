@@ -3,7 +3,7 @@ use Rattle.std.proofs.Common.{◌≡◌, ℕ, Bool, true, false, List, [], ◌�
 use Rattle.std.specs.Prelude.{if◌then◌else◌, ◌&&◌, map}
 use Rattle.sj_lang.specs.Limits.{Limits}
 use Rattle.sj_grammar.specs.Layers.{Layer, goes, stops, instead, misfit, step, run, may_end}
-use Rattle.sj_grammar.specs.Places.{Pieces, Piece, spellings}
+use Rattle.sj_grammar.specs.Positions.{Pieces, Piece, spellings}
 use Rattle.sj_grammar.proofs.Steps.{onward_goes}
 use Rattle.sj_grammar.proofs.Spellings.{AllHeld}
 use Rattle.sj_proto.proofs.Lines.{spellings-append}

@@ -8,7 +8,7 @@ use Rattle.sj_lang.specs.FileAt.{ProtocolAt, ConnectAt}
 use Rattle.sj_lang.specs.Limits.{Limits}
 use Rattle.sj_grammar.specs.Names.{is_name}
 use Rattle.sj_grammar.specs.Tables.{Spelling}
-use Rattle.sj_grammar.specs.Places.{Piece, plain, first_on, all_plain, spellings}
+use Rattle.sj_grammar.specs.Positions.{Piece, plain, first_on, all_plain, spellings}
 use Rattle.sj_grammar.specs.Protocols.{body_pieces}
 use Rattle.sj_grammar.specs.ProtocolDues.{body, protocol_follow, protocol_counted}
 use Rattle.sj_grammar.specs.ExpressionDues.{expression_follow, expression_counted}

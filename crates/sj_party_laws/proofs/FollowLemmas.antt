@@ -6,7 +6,7 @@ use Rattle.std.proofs.lemmas.Bool.{leb-false}
 use Rattle.sj_lang.specs.Limits.{Limits}
 use Rattle.sj_grammar.specs.Literals.{is_number}
 use Rattle.sj_grammar.specs.Tables.{Spelling}
-use Rattle.sj_grammar.specs.Places.{Pieces}
+use Rattle.sj_grammar.specs.Positions.{Pieces}
 use Rattle.sj_grammar.specs.Expressions.{Spelt, operand_count}
 use Rattle.sj_grammar.specs.Expressions as level
 use Rattle.sj_grammar.specs.ExpressionDues.{ExpressionDue, whole, factor, times, plus, compare, after_minus, fixed, is_operand, factor_follow, factor_passes, then_also, expression_follow, expression_may_be_none, expression_counted, expression_passes}

@@ -8,7 +8,7 @@ use Rattle.sj_lang.specs.Place.{Place, Carried, Choices, done, message, choice, 
 use Rattle.sj_lang.specs.ItemCount.{item_count, kind_items, arm_items}
 use Rattle.sj_lang.specs.Limits.{Limits}
 use Rattle.sj_grammar.specs.Tables.{IsNamed}
-use Rattle.sj_grammar.specs.Places.{Pieces}
+use Rattle.sj_grammar.specs.Positions.{Pieces}
 use Rattle.sj_grammar.specs.Protocols.{way_piece, open_piece, close_piece, dotted, seq_pieces, body_pieces, kind_pieces, listed, IsGiven, IsGivenKind, AreGiven}
 use Rattle.sj_grammar.specs.ProtocolDues.{ProtocolDue, body, more, seq, maybe, behind, kind, label, arms, fixed, item_follow, is_way}
 use Rattle.sj_proto.proofs.Names.{test_is}

@@ -5,7 +5,7 @@ use Rattle.std.specs.List.{list_any}
 use Rattle.std.specs.Str.{bytes_eq}
 use Rattle.std.proofs.Math.Seq.{get_or-append_seam}
 use Rattle.sj_grammar.specs.Literals.{is_text, inner}
-use Rattle.sj_grammar.specs.Places.{Pieces, At, Takes, Begins}
+use Rattle.sj_grammar.specs.Positions.{Pieces, At, Takes, Begins}
 use Rattle.sj_grammar.specs.Tables.{Spelling, with_entry, entry_of}
 use Rattle.sj_grammar.proofs.Spellings.{HasFirst, AllHeld, first_of}
 use Rattle.sj_proto.specs.Parsed.{Extends}

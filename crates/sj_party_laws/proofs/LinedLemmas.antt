@@ -2,7 +2,7 @@
 use Rattle.std.proofs.Common.{◌≡◌, ℕ, List, [], ◌∷◌, ◌++◌, IfSome, Option, Some, None, refl, ap, sym, ◌∙◌}
 use Rattle.sj_grammar.specs.Lexis.{token}
 use Rattle.sj_grammar.specs.Reading.{passed, line_at}
-use Rattle.sj_grammar.specs.Places.{Pieces, Piece, At, past, Takes, TakesPiece, Begins, BeginsOnLines, first_on, spellings}
+use Rattle.sj_grammar.specs.Positions.{Pieces, Piece, At, past, Takes, TakesPiece, Begins, BeginsOnLines, first_on, spellings}
 use Rattle.sj_party.specs.Alike.{OnOneLine, AreAlike}
 
 -- the line on which the next token begins

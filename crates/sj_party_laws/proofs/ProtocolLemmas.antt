@@ -8,7 +8,7 @@ use Rattle.sj_lang.specs.Place.{Carried, done, int, boolean, text, session, no_c
 use Rattle.sj_lang.specs.ItemCount.{item_count, kind_items, arm_items}
 use Rattle.sj_lang.specs.Limits.{Limits}
 use Rattle.sj_grammar.specs.Names.{is_name}
-use Rattle.sj_grammar.specs.Places.{Pieces}
+use Rattle.sj_grammar.specs.Positions.{Pieces}
 use Rattle.sj_grammar.specs.Protocols.{open_piece, close_piece, kind_pieces, listed, IsGivenKind}
 use Rattle.sj_grammar.specs.ProtocolDues.{ProtocolDue, body, more, seq, maybe, behind, kind, label, arms, fixed, protocol_follow, protocol_counted, protocol_passes, protocol_may_be_none, item_follow, is_way}
 use Rattle.sj_grammar.proofs.Spellings.{HasFirst}

@@ -8,7 +8,7 @@ use Rattle.sj_grammar.specs.declared.tokens.Fault.{Fault}
 use Rattle.sj_lang.specs.Limits.{Limits}
 use Rattle.sj_grammar.specs.Lexis.{Ahead, at_end, bad, token, next_of}
 use Rattle.sj_grammar.specs.Reading.{before_next, fault_at}
-use Rattle.sj_grammar.specs.Places.{Pieces, At, Takes, Begins, past}
+use Rattle.sj_grammar.specs.Positions.{Pieces, At, Takes, Begins, past}
 use Rattle.sj_grammar.specs.Layers.{Layer, Step, goes, stops, onward, step, run, may_end, rule_of}
 use Rattle.sj_grammar.specs.Faults.{broken, Stuck}
 use Rattle.sj_grammar.proofs.Splits.{next_split}

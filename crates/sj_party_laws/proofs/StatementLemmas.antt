@@ -4,7 +4,7 @@ use Rattle.std.specs.Prelude.{codes}
 use Rattle.sj_lang.specs.Code.{StmtAt, stmt_then, at, send, delegate, take_value, take_end, outbranch, inbranch, outwhile, inwhile, relay, if_else, let_be, close, branch}
 use Rattle.sj_lang.specs.Limits.{Limits}
 use Rattle.sj_grammar.specs.Tables.{Spelling, IsNamed}
-use Rattle.sj_grammar.specs.Places.{Piece, plain, first_on, spellings}
+use Rattle.sj_grammar.specs.Positions.{Piece, plain, first_on, spellings}
 use Rattle.sj_grammar.specs.Expressions.{IsExpression}
 use Rattle.sj_grammar.specs.ExpressionDues.{whole}
 use Rattle.sj_grammar.specs.Statements.{IsStatement}

@@ -11,7 +11,7 @@ use Rattle.sj_lang.specs.Limits.{Limits}
 use Rattle.sj_grammar.specs.Literals.{is_number, is_largest, is_text, inner, quoted}
 use Rattle.sj_grammar.specs.Names.{is_name}
 use Rattle.sj_grammar.specs.Tables.{Spelling}
-use Rattle.sj_grammar.specs.Places.{Pieces}
+use Rattle.sj_grammar.specs.Positions.{Pieces}
 use Rattle.sj_grammar.specs.Expressions.{Level, Spelt, operand_count}
 use Rattle.sj_grammar.specs.Expressions as level
 use Rattle.sj_grammar.specs.ExpressionDues.{ExpressionDue, whole, factor, times, plus, compare, after_minus, fixed, is_operand, is_long}

@@ -7,7 +7,7 @@ ghost use Rattle.sj_grammar.specs.FileDues.{file_due, file_layer};
 ghost use Rattle.sj_grammar.specs.Faults.{Stuck};
 ghost use Rattle.sj_grammar.specs.Files.{IsFile};
 ghost use Rattle.sj_lang.specs.Limits.{limits};
-ghost use Rattle.sj_grammar.specs.Places.{start};
+ghost use Rattle.sj_grammar.specs.Positions.{start};
 ghost use Rattle.sj_grammar.specs.declared.tokens.Fault.{Fault};
 ghost use Rattle.sj_lang.specs.FileAt.{FileAt};
 

@@ -7,12 +7,12 @@ use Rattle.sj_rules.specs.Log as log
 use Rattle.sj_rules.specs.Log.{NoteAt}
 use Rattle.sj_semantics.specs.Lines.{line_of, message_words}
 use Rattle.sj_print.specs.LogLine.{note_words}
-use Rattle.sj_print.specs.Pieces.{spaced}
+use Rattle.sj_print.specs.Pieces.{closed_words}
 
-spaced_line : (ws : List (List ℕ)) (x : List ℕ) (xs : List (List ℕ)) → spaced ws ++ line_of (x ∷ xs) ≡ line_of (ws ++ x ∷ xs)
+spaced_line : (ws : List (List ℕ)) (x : List ℕ) (xs : List (List ℕ)) → closed_words ws ++ line_of (x ∷ xs) ≡ line_of (ws ++ x ∷ xs)
 spaced_line [] x xs = refl
 spaced_line (w ∷ []) x xs = append_assoc w (32 ∷ []) (line_of (x ∷ xs))
-spaced_line (w ∷ v ∷ ws) x xs = append_assoc w (32 ∷ spaced (v ∷ ws)) (line_of (x ∷ xs)) ∙ ap (λ r. w ++ 32 ∷ r) (spaced_line (v ∷ ws) x xs)
+spaced_line (w ∷ v ∷ ws) x xs = append_assoc w (32 ∷ closed_words (v ∷ ws)) (line_of (x ∷ xs)) ∙ ap (λ r. w ++ 32 ∷ r) (spaced_line (v ∷ ws) x xs)
 
 -- there is at least one word
 record HasFirst (words : List (List ℕ)) : Type 0 where
@@ -23,8 +23,8 @@ record HasFirst (words : List (List ℕ)) : Type 0 where
 first : (x : List ℕ) (xs : List (List ℕ)) → HasFirst (x ∷ xs)
 first x xs = record { word = x; others = xs; is = refl }
 
-line_behind : (ws words : List (List ℕ)) → HasFirst words → spaced ws ++ line_of words ≡ line_of (ws ++ words)
-line_behind ws words f = ap (λ t. spaced ws ++ line_of t) f.is ∙ spaced_line ws f.word f.others ∙ ap (λ t. line_of (ws ++ t)) (sym f.is)
+line_behind : (ws words : List (List ℕ)) → HasFirst words → closed_words ws ++ line_of words ≡ line_of (ws ++ words)
+line_behind ws words f = ap (λ t. closed_words ws ++ line_of t) f.is ∙ spaced_line ws f.word f.others ∙ ap (λ t. line_of (ws ++ t)) (sym f.is)
 
 first-message : (file : FileAt) (m : Msg) → HasFirst (message_words file m)
 first-message file (msgs.Int n) = first _ _
@@ -49,9 +49,9 @@ first-note file (log.Ack of conn) = first _ _
 first-note file (log.Give of conn peer sent taken base resend) = first _ _
 
 -- a line is its first words with their spaces, and then the message
-pub message_behind : (ws : List (List ℕ)) (file : FileAt) (m : Msg) → spaced ws ++ line_of (message_words file m) ≡ line_of (ws ++ message_words file m)
+pub message_behind : (ws : List (List ℕ)) (file : FileAt) (m : Msg) → closed_words ws ++ line_of (message_words file m) ≡ line_of (ws ++ message_words file m)
 message_behind ws file m = line_behind ws (message_words file m) (first-message file m)
 
 -- a line of a log is its head with its spaces, and then the note
-pub note_behind : (ws : List (List ℕ)) (file : FileAt) (n : NoteAt) → spaced ws ++ line_of (note_words file n) ≡ line_of (ws ++ note_words file n)
+pub note_behind : (ws : List (List ℕ)) (file : FileAt) (n : NoteAt) → closed_words ws ++ line_of (note_words file n) ≡ line_of (ws ++ note_words file n)
 note_behind ws file n = line_behind ws (note_words file n) (first-note file n)

@@ -5,7 +5,7 @@ use Rattle.sj_base.specs.declared.EndId.{EndId}
 use Rattle.sj_base.specs.declared.Msg.TheVariants.{Int, Text, Sess}
 use Rattle.sj_rules.specs.Log.{NoteAt, LineAt, Local, Sent, Shut, Carry, Fin, Signal, Give}
 use Rattle.sj_rules.specs.World.{Act, Deliver}
-use Rattle.sj_semantics_laws.specs.HandoverSamples.{handed_over}
+use Rattle.sj_semantics_laws.specs.HandoverSamples.{delegation}
 use Rattle.sj_print.specs.LogLine.{log_line, log_text}
 
 -- an end by its session and side
@@ -20,39 +20,39 @@ did clock party note = record { party = party; entry = record { clock = clock; e
 abbrev pub came : ℕ → ℕ → ℕ → NoteAt → LineAt
 came clock party from note = record { party = party; entry = record { clock = clock; event = Deliver from; note = note } }
 
-pub an_act_without_a_message : log_line handed_over (did 1 0 Local) ≡ codes "1 a local\n"
+pub an_act_without_a_message : log_line delegation (did 1 0 Local) ≡ codes "1 a local\n"
 unfolding digits
 an_act_without_a_message = refl
 
-pub an_end_is_sent : log_line handed_over (did 7 1 (Sent (end 1 0) (Sess 0 1 1))) ≡ codes "7 b send 1.0 session 0.1 b\n"
+pub an_end_is_sent : log_line delegation (did 7 1 (Sent (end 1 0) (Sess 0 1 1))) ≡ codes "7 b send 1.0 session 0.1 b\n"
 unfolding digits
 an_end_is_sent = refl
 
-pub a_message_comes : log_line handed_over (came 13 2 0 (Carry (end 0 1) 1 1 0 (Int (pos 2)))) ≡ codes "13 c from a carry 0.1 1 1 0 int 2\n"
+pub a_message_comes : log_line delegation (came 13 2 0 (Carry (end 0 1) 1 1 0 (Int (pos 2)))) ≡ codes "13 c from a carry 0.1 1 1 0 int 2\n"
 unfolding digits
 a_message_comes = refl
 
-pub its_new_party_is_told : log_line handed_over (came 12 0 1 (Signal (end 0 0) 0 2 1)) ≡ codes "12 a from b signal 0.0 0 c 1\n"
+pub its_new_party_is_told : log_line delegation (came 12 0 1 (Signal (end 0 0) 0 2 1)) ≡ codes "12 a from b signal 0.0 0 c 1\n"
 unfolding digits
 its_new_party_is_told = refl
 
-pub the_end_comes : log_line handed_over (came 16 2 1 (Give (end 0 1) 1 0 0 1 0 None)) ≡ codes "16 c from b give 0.1 1 a 0 1 0 -\n"
+pub the_end_comes : log_line delegation (came 16 2 1 (Give (end 0 1) 1 0 0 1 0 None)) ≡ codes "16 c from b give 0.1 1 a 0 1 0 -\n"
 unfolding digits
 the_end_comes = refl
 
 -- of a cache that was trimmed, where both ends moved at once
-pub the_end_comes_and_resends : log_line handed_over (came 17 2 1 (Give (end 0 1) 1 0 2 0 1 (Some 2))) ≡ codes "17 c from b give 0.1 1 a 2 0 1 2\n"
+pub the_end_comes_and_resends : log_line delegation (came 17 2 1 (Give (end 0 1) 1 0 2 0 1 (Some 2))) ≡ codes "17 c from b give 0.1 1 a 2 0 1 2\n"
 unfolding digits
 the_end_comes_and_resends = refl
 
 -- a party and a text that name nothing
-pub what_names_nothing : log_line handed_over (came 2 1 16 (Carry (end 0 1) 0 0 0 (Text 3))) ≡ codes "2 b from #16 carry 0.1 0 0 0 String #3\n"
+pub what_names_nothing : log_line delegation (came 2 1 16 (Carry (end 0 1) 0 0 0 (Text 3))) ≡ codes "2 b from #16 carry 0.1 0 0 0 String #3\n"
 unfolding digits
 what_names_nothing = refl
 
 -- lines stand one after the other
 pub the_last_lines :
-    log_text handed_over (did 20 2 (Shut (end 1 1)) ∷ came 20 0 2 (Fin (end 0 0) 1 0) ∷ came 21 1 2 (Fin (end 1 0) 0 0) ∷ [])
+    log_text delegation (did 20 2 (Shut (end 1 1)) ∷ came 20 0 2 (Fin (end 0 0) 1 0) ∷ came 21 1 2 (Fin (end 1 0) 0 0) ∷ [])
     ≡ codes "20 c close 1.1\n20 a from c fin 0.0 1 0\n21 b from c fin 1.0 0 0\n"
 unfolding digits
 the_last_lines = refl

@@ -18,10 +18,10 @@ piece_text file (Text n) = quoted_at file.texts n
 piece_text file (Resend n) = resend_word n
 
 -- each word with a space behind it
-abbrev pub spaced : List (List ℕ) → List ℕ
-spaced [] = []
-spaced (x ∷ xs) = x ++ 32 ∷ spaced xs
+abbrev pub closed_words : List (List ℕ) → List ℕ
+closed_words [] = []
+closed_words (x ∷ xs) = x ++ 32 ∷ closed_words xs
 
 -- each piece with a space behind it
 abbrev pub spaced_text : FileAt → List Piece → List ℕ
-spaced_text file ps = spaced (map (piece_text file) ps)
+spaced_text file ps = closed_words (map (piece_text file) ps)

@@ -8,7 +8,7 @@ ghost use Rattle.sj_text.specs.Cut.{IsCutShort};
 ghost use Rattle.sj_lang.specs.FileView.{file_of};
 ghost use Rattle.sj_semantics.specs.Lines.{line_of};
 ghost use Rattle.sj_print.specs.LogLine.{head_words, log_line, note_words};
-ghost use Rattle.sj_print.specs.Pieces.{spaced};
+ghost use Rattle.sj_print.specs.Pieces.{closed_words};
 ghost use Rattle.sj_end.specs.Lines.{line_at, note_seen};
 
 use crate::messages::put_message_line;
@@ -33,9 +33,9 @@ pub fn print_line(text: &mut Vec<u8>, file: &File, line: &Line) -> Result<(), No
 // The clock, the party and the origin, each with a space behind it.
 fn put_head(text: &mut Vec<u8>, file: &File, line: &Line) -> Result<(), NoMemory>
     ensures ok { OnOk result (text.new.items
-        ≡ text.old.items ++ spaced (head_words (file_of file.now) (line_at line.now))) }
+        ≡ text.old.items ++ closed_words (head_words (file_of file.now) (line_at line.now))) }
     ensures err { OnErr result (IsCutShort text.old.items
-        (spaced (head_words (file_of file.now) (line_at line.now))) text.new.items) }
+        (closed_words (head_words (file_of file.now) (line_at line.now))) text.new.items) }
 {
     let clock = Number(line.entry.clock);
     let party = Party(line.party);

@@ -7,7 +7,7 @@ use Rattle.sj_grammar.specs.declared.tokens.Fault.{Fault}
 use Rattle.sj_lang.specs.Limits.{limits}
 use Rattle.sj_grammar.specs.Reading.{Reading}
 use Rattle.sj_grammar.specs.Names.{is_name, is_reserved}
-use Rattle.sj_grammar.specs.Places.{Takes}
+use Rattle.sj_grammar.specs.Positions.{Takes}
 use Rattle.sj_grammar.specs.Protocols.{dotted, seq_pieces}
 use Rattle.sj_grammar.specs.ProtocolDues.{body, more, seq}
 use Rattle.sj_grammar.specs.FileDues.{Due, proto, file_layer}

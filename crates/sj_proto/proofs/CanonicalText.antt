@@ -12,7 +12,7 @@ use Rattle.sj_lang.specs.Limits.{limits}
 use Rattle.sj_grammar.specs.Names.{is_name, is_reserved}
 use Rattle.sj_grammar.specs.Literals.{is_text}
 use Rattle.sj_grammar.specs.Tables.{entry_of, IsNamed}
-use Rattle.sj_grammar.specs.Places.{Pieces, at}
+use Rattle.sj_grammar.specs.Positions.{Pieces, at}
 use Rattle.sj_grammar.specs.Protocols.{way_piece, open_piece, close_piece, dotted, kind_pieces, listed, body_pieces, IsGiven, IsGivenKind, AreGiven, IsBody}
 use Rattle.sj_grammar.specs.Canonical.{body_text}
 use Rattle.sj_grammar.proofs.Lexing.{Lexes, read}

@@ -5,7 +5,7 @@ use Rattle.std.specs.Str.{bytes_eq}
 use Rattle.sj_lang.specs.declared.proto.Way.TheVariants.{Out}
 use Rattle.sj_lang.specs.Place.{Carried, done, message, int, boolean, text, session, no_choice, arm}
 use Rattle.sj_grammar.specs.Names.{is_name}
-use Rattle.sj_grammar.specs.Places.{Pieces}
+use Rattle.sj_grammar.specs.Positions.{Pieces}
 use Rattle.sj_grammar.specs.Protocols.{open_piece, close_piece, seq_pieces, body_pieces, kind_pieces, listed}
 use Rattle.sj_grammar.specs.ProtocolDues.{ProtocolDue, body, more, seq, maybe, behind, kind, label, arms, fixed, protocol_follow, protocol_layer, protocol_may_be_none, item_follow}
 use Rattle.sj_grammar.proofs.Completion.{lone}

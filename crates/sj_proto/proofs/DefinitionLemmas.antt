@@ -15,7 +15,7 @@ use Rattle.sj_grammar.specs.Lexis.{Ahead, token, next_of}
 use Rattle.sj_grammar.specs.Names.{is_name, is_reserved}
 use Rattle.sj_grammar.specs.Reading.{Reading, line_at, before_next}
 use Rattle.sj_grammar.specs.Tables.{Spelling, IsNamed, entry_of}
-use Rattle.sj_grammar.specs.Places.{Pieces, At, Takes, plain, first_on, all_plain, spellings}
+use Rattle.sj_grammar.specs.Positions.{Pieces, At, Takes, plain, first_on, all_plain, spellings}
 use Rattle.sj_grammar.specs.Protocols.{body_pieces, IsBody}
 use Rattle.sj_grammar.specs.Files.{protocol_pieces, IsProtocolDef}
 use Rattle.sj_grammar.specs.Layers.{goes, stops, rule_of, step}

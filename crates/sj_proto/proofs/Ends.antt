@@ -7,7 +7,7 @@ use Rattle.sj_grammar.specs.declared.tokens.Fault.{Fault}
 use Rattle.sj_lang.specs.Limits.{limits}
 use Rattle.sj_grammar.specs.Lexis.{Ahead, at_end, bad, token, next_of}
 use Rattle.sj_grammar.specs.Reading.{Reading, answer_to, reading_after, token_at, fault_at, before_next}
-use Rattle.sj_grammar.specs.Places.{start}
+use Rattle.sj_grammar.specs.Positions.{start}
 use Rattle.sj_grammar.specs.ProtocolDues.{body, protocol_layer}
 use Rattle.sj_grammar.proofs.Splits.{next_split}
 use Rattle.sj_grammar.proofs.Readings.{halts_there, halts_at_token}

@@ -14,7 +14,7 @@ use Rattle.sj_grammar.specs.Lexis.{Ahead, at_end, bad, token, next_of}
 use Rattle.sj_grammar.specs.Reading.{Reading}
 use Rattle.sj_grammar.specs.Names.{is_name, is_reserved}
 use Rattle.sj_grammar.specs.Literals.{is_text}
-use Rattle.sj_grammar.specs.Places.{Pieces, At, Takes}
+use Rattle.sj_grammar.specs.Positions.{Pieces, At, Takes}
 use Rattle.sj_grammar.specs.Protocols.{way_piece, open_piece, close_piece}
 use Rattle.sj_grammar.specs.Layers.{goes, step, rule_of}
 use Rattle.sj_grammar.specs.ProtocolDues.{ProtocolDue, more, seq, maybe, behind, kind, arms, fixed, protocol_layer}

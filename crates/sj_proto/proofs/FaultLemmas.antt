@@ -10,7 +10,7 @@ use Rattle.sj_grammar.specs.declared.tokens.Fault.{Fault}
 use Rattle.sj_lang.specs.Limits.{limits}
 use Rattle.sj_grammar.specs.Lexis.{next_of}
 use Rattle.sj_grammar.specs.Tables.{IsNamed, entry_of}
-use Rattle.sj_grammar.specs.Places.{At, Takes, Begins}
+use Rattle.sj_grammar.specs.Positions.{At, Takes, Begins}
 use Rattle.sj_grammar.specs.Protocols.{seq_pieces, dotted, IsGiven, AreGiven}
 use Rattle.sj_grammar.specs.Layers.{goes, step}
 use Rattle.sj_grammar.specs.ProtocolDues.{ProtocolDue, more, seq, maybe, label, fixed, protocol_layer}

@@ -12,7 +12,7 @@ use Rattle.sj_lang.specs.Limits.{Limits, limits}
 use Rattle.sj_grammar.specs.Lexis.{Ahead, at_end, bad, token, next_of}
 use Rattle.sj_grammar.specs.Reading.{before_next, fault_at}
 use Rattle.sj_grammar.specs.Tables.{Spelling, entry_of}
-use Rattle.sj_grammar.specs.Places.{Pieces, At, spellings}
+use Rattle.sj_grammar.specs.Positions.{Pieces, At, spellings}
 use Rattle.sj_grammar.specs.Files.{protocol_pieces, protocols_pieces, IsProtocolDef}
 use Rattle.sj_grammar.specs.Layers.{goes}
 use Rattle.sj_grammar.specs.FileDues.{Due, protocols, file_layer}

@@ -1,7 +1,7 @@
 -- Pieces on their lines.
 use Rattle.std.proofs.Common.{◌≡◌, ℕ, List, [], ◌∷◌, ◌++◌, refl, ap, sym, subst}
 use Rattle.sj_grammar.specs.Tables.{Spelling}
-use Rattle.sj_grammar.specs.Places.{Pieces, Piece, At, Begins, TakesPiece, BeginsOnLines, all_plain, spellings}
+use Rattle.sj_grammar.specs.Positions.{Pieces, Piece, At, Begins, TakesPiece, BeginsOnLines, all_plain, spellings}
 use Rattle.sj_proto.specs.Parsed.{Gives, GivesOnLines}
 use Rattle.sj_proto.proofs.ReadLemmas.{spells_back}
 

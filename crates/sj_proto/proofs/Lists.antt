@@ -6,7 +6,7 @@ use Rattle.sj_lang.specs.declared.proto.Arm.{Arm}
 use Rattle.sj_lang.specs.Place.{done, no_choice, arm}
 use Rattle.sj_lang.specs.View.{followed, place_of, choices_of}
 use Rattle.sj_lang.specs.Limits.{limits}
-use Rattle.sj_grammar.specs.Places.{At, Takes}
+use Rattle.sj_grammar.specs.Positions.{At, Takes}
 use Rattle.sj_grammar.specs.Protocols.{dotted, listed, seq_pieces, IsGiven, AreGiven}
 use Rattle.sj_proto.specs.Items.{item_pieces}
 use Rattle.sj_proto.specs.Parsed.{Gives}

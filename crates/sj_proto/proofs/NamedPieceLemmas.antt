@@ -9,7 +9,7 @@ use Rattle.sj_lang.specs.Limits.{Limits, limits}
 use Rattle.sj_grammar.specs.Names.{is_name}
 use Rattle.sj_grammar.specs.Literals.{is_largest}
 use Rattle.sj_grammar.specs.Tables.{IsNamed, entry_of}
-use Rattle.sj_grammar.specs.Places.{At}
+use Rattle.sj_grammar.specs.Positions.{At}
 use Rattle.sj_grammar.specs.Layers.{goes, rule_of, step}
 use Rattle.sj_grammar.specs.FileDues.{Due, name, fixed, file_layer}
 use Rattle.sj_grammar.specs.Faults.{Stuck}

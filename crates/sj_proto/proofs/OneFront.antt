@@ -13,7 +13,7 @@ use Rattle.sj_lang.specs.Limits.{limits}
 use Rattle.sj_grammar.specs.Lexis.{Ahead, at_end, bad, token, next_of}
 use Rattle.sj_grammar.specs.Reading.{before_next, fault_at, line_at, passed}
 use Rattle.sj_grammar.specs.Tables.{Spelling}
-use Rattle.sj_grammar.specs.Places.{Pieces, Piece, At, Takes, Begins, BeginsOnLines, TakesPiece, past, spellings}
+use Rattle.sj_grammar.specs.Positions.{Pieces, Piece, At, Takes, Begins, BeginsOnLines, TakesPiece, past, spellings}
 use Rattle.sj_grammar.specs.Protocols.{dotted}
 use Rattle.sj_grammar.specs.Files.{protocol_pieces, protocols_pieces, IsProtocolDef}
 use Rattle.sj_grammar.specs.Layers.{goes, misfit, rule_of, step}

@@ -8,7 +8,7 @@ use Rattle.sj_lang.specs.Place.{Place, done, no_choice, arm}
 use Rattle.sj_lang.specs.View.{followed, place_of, choices_of}
 use Rattle.sj_lang.specs.ItemCount.{item_count, arm_items}
 use Rattle.sj_lang.specs.Limits.{Limits}
-use Rattle.sj_grammar.specs.Places.{Pieces}
+use Rattle.sj_grammar.specs.Positions.{Pieces}
 use Rattle.sj_grammar.specs.Protocols.{dotted, listed, seq_pieces, IsGiven, AreGiven}
 use Rattle.sj_proto.specs.Items.{item_pieces}
 

@@ -13,7 +13,7 @@ use Rattle.sj_lang.specs.Limits.{limits}
 use Rattle.sj_grammar.specs.Names.{is_name}
 use Rattle.sj_grammar.specs.Literals.{is_text}
 use Rattle.sj_grammar.specs.Tables.{with_entry, Spells, IsNamed, entry_of}
-use Rattle.sj_grammar.specs.Places.{Pieces, At, at, Takes, Begins}
+use Rattle.sj_grammar.specs.Positions.{Pieces, At, at, Takes, Begins}
 use Rattle.sj_grammar.specs.Protocols.{way_piece, close_piece}
 use Rattle.sj_grammar.specs.Asked.{TakesText}
 use Rattle.sj_grammar.proofs.Stuckness.{Begins-append}

@@ -8,7 +8,7 @@ use Rattle.sj_lang.specs.declared.proto.Way.TheVariants.{Out, Into}
 use Rattle.sj_lang.specs.Place.{Place, Choices, done, message, choice, repeat, no_choice, arm}
 use Rattle.sj_lang.specs.Limits.{Limits}
 use Rattle.sj_grammar.specs.Names.{is_name}
-use Rattle.sj_grammar.specs.Places.{Pieces}
+use Rattle.sj_grammar.specs.Positions.{Pieces}
 use Rattle.sj_grammar.specs.Protocols.{way_piece, open_piece, close_piece, dotted, kind_pieces, listed}
 use Rattle.sj_grammar.specs.Layers.{Step, goes, onward, step, run}
 use Rattle.sj_grammar.specs.ProtocolDues.{ProtocolDue, more, seq, maybe, behind, kind, label, arms, fixed, protocol_layer}

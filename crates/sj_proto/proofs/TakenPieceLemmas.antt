@@ -5,7 +5,7 @@ use Rattle.std.specs.List.{fold}
 use Rattle.sj_grammar.specs.declared.tokens.Rule.{Rule}
 use Rattle.sj_grammar.specs.declared.tokens.Rule.TheVariants.{P4}
 use Rattle.sj_lang.specs.Limits.{Limits, limits}
-use Rattle.sj_grammar.specs.Places.{Pieces}
+use Rattle.sj_grammar.specs.Positions.{Pieces}
 use Rattle.sj_grammar.specs.Layers.{Step, goes, stops, misfit, onward, rule_of, step, run}
 use Rattle.sj_grammar.specs.ProtocolDues.{ProtocolDue, protocol_layer}
 use Rattle.sj_grammar.proofs.Steps.{IsStep, due_behind, step_due, step_is, onward_goes}

@@ -13,7 +13,7 @@ use Rattle.sj_grammar.specs.Lexis.{Ahead, at_end, bad, token, next_of}
 use Rattle.sj_grammar.specs.Reading.{Reading}
 use Rattle.sj_grammar.specs.Literals.{is_largest}
 use Rattle.sj_grammar.specs.Tables.{entry_of}
-use Rattle.sj_grammar.specs.Places.{Pieces, At, start, Begins}
+use Rattle.sj_grammar.specs.Positions.{Pieces, At, start, Begins}
 use Rattle.sj_grammar.specs.Protocols.{body_pieces, dotted, IsGiven, IsBody}
 use Rattle.sj_grammar.specs.ProtocolDues.{body, more, protocol_layer}
 use Rattle.sj_grammar.specs.FileDues.{Due, proto, file_layer}

@@ -5,7 +5,7 @@ use Rattle.std.proofs.lemmas.Bool.{cases_order}
 use Rattle.sj_lang.specs.Place.{Place, Carried, Choices, done, message, choice, repeat, int, boolean, text, session, no_choice, arm}
 use Rattle.sj_lang.specs.Limits.{Limits}
 use Rattle.sj_grammar.specs.Tables.{IsNamed}
-use Rattle.sj_grammar.specs.Places.{Pieces}
+use Rattle.sj_grammar.specs.Positions.{Pieces}
 use Rattle.sj_grammar.specs.Protocols.{close_piece, dotted, kind_pieces, listed, IsGiven, IsGivenKind, AreGiven}
 use Rattle.sj_proto.proofs.FirstBytes.{byte, Closes, same_way, way_byte, open_byte, close_closes, bracket, brace}
 

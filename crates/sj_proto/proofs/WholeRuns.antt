@@ -5,7 +5,7 @@ use Rattle.sj_lang.specs.declared.proto.Way.{Way}
 use Rattle.sj_lang.specs.Place.{Place, Carried, Choices, done, message, choice, repeat, int, boolean, text, session, no_choice, arm}
 use Rattle.sj_lang.specs.ItemCount.{item_count, kind_items, arm_items}
 use Rattle.sj_lang.specs.Limits.{Limits}
-use Rattle.sj_grammar.specs.Places.{Pieces}
+use Rattle.sj_grammar.specs.Positions.{Pieces}
 use Rattle.sj_grammar.specs.Protocols.{close_piece, open_piece, dotted, kind_pieces, listed, body_pieces, IsGiven, IsBody}
 use Rattle.sj_grammar.specs.Layers.{goes, run}
 use Rattle.sj_grammar.specs.ProtocolDues.{ProtocolDue, body, more, maybe, kind, label, arms, fixed, protocol_layer}

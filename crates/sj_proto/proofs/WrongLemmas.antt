@@ -38,7 +38,7 @@ goes_wrong bytes names f st =
       viable = viable limits st.pieces st.count st.due st.fits;
       within = runs.2;
       wrong = subst (IsWrongNext st.pieces (next_of st.there.text.ahead)) rule_is (by_next (next_of st.there.text.ahead) st.halts.rule runs.0 runs.1 st.halts.breaks);
-      place = st.halts.fault ∙ ap (fault_at before) rule_is;
+      position = st.halts.fault ∙ ap (fault_at before) rule_is;
     }
   where
     by_end : (b : Bool) (rule : Rule) → may_end protocol_layer st.due ≡ b → (if b then None else Some P1) ≡ Some rule → IsWrongNext st.pieces at_end rule
@@ -71,7 +71,7 @@ is_first_fault bytes names f w =
       due = v.1;
       front = w.front;
       fits = r.1;
-      halts = record { rule = f.rule; breaks = by_next r.0 v.1 r.1 b.0 b.1 (next_of w.there.text.ahead) f.rule w.wrong; fault = w.place };
+      halts = record { rule = f.rule; breaks = by_next r.0 v.1 r.1 b.0 b.1 (next_of w.there.text.ahead) f.rule w.wrong; fault = w.position };
     }
   where
     by_end : (n : ℕ) (due : List ProtocolDue) → run protocol_layer limits 0 (body ∷ []) w.pieces ≡ goes n due → (IsWhole w.pieces → ⊥) → (b : Bool) → may_end protocol_layer due ≡ b → ◌≡◌ {A = Option Rule} (if b then None else Some P1) (Some P1)

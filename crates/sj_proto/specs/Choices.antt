@@ -3,26 +3,26 @@ use Rattle.std.specs.Prelude.{ℕ, Bool, ◌||◌, List, codes, Option, Some, No
 use Rattle.std.specs.Str.{bytes_eq}
 use Rattle.sj_lang.specs.declared.proto.Way.{Way}
 use Rattle.sj_grammar.specs.declared.tokens.Rule.{Rule}
-use Rattle.sj_grammar.specs.declared.tokens.Rule.TheVariants.{P1, P4}
 use Rattle.sj_grammar.specs.Protocols.{open_piece}
 use Rattle.sj_grammar.specs.ProtocolDues.{is_way}
+use Rattle.sj_grammar.specs.Rules.{not_due, over_limit}
 use Rattle.sj_proto.specs.declared.choices.Opening.{Opening}
 use Rattle.sj_proto.specs.declared.choices.Opening.TheVariants as openings
 
 -- no item, or one too many
 abbrev pub but_way : Bool → List ℕ → Option Rule
-but_way full s = if is_way s then (if full then Some P4 else None) else Some P1
+but_way full s = if is_way s then (if full then Some over_limit else None) else Some not_due
 
 abbrev pub opens : Way → List ℕ → Bool
 opens w s = bytes_eq s (open_piece w) || (bytes_eq s (codes "{") || bytes_eq s (codes "["))
 
 -- nothing that stands behind that way, or a bracket too deep
 abbrev pub but_open : Way → Bool → List ℕ → Option Rule
-but_open w deep s = if opens w s then (if deep then Some P4 else None) else Some P1
+but_open w deep s = if opens w s then (if deep then Some over_limit else None) else Some not_due
 
 -- this piece, or one too many of what it begins
 abbrev pub but_first : List ℕ → Bool → List ℕ → Option Rule
-but_first spelled full s = if bytes_eq s spelled then (if full then Some P4 else None) else Some P1
+but_first spelled full s = if bytes_eq s spelled then (if full then Some over_limit else None) else Some not_due
 
 -- what opens a bracket
 abbrev pub opening_piece : Way → Opening → List ℕ

@@ -5,7 +5,7 @@ use Rattle.sj_grammar.specs.declared.refusal.ParseRefusal.{ParseRefusal}
 use Rattle.sj_lang.specs.Limits.{limits}
 use Rattle.sj_grammar.specs.Reading.{Reading}
 use Rattle.sj_grammar.specs.Tables.{Spelling, Spells}
-use Rattle.sj_grammar.specs.Places.{Pieces, Piece, At, at, Begins, BeginsOnLines}
+use Rattle.sj_grammar.specs.Positions.{Pieces, Piece, At, at, Begins, BeginsOnLines}
 use Rattle.sj_grammar.specs.FileDues.{Due, file_layer}
 use Rattle.sj_grammar.specs.Faults.{Stuck}
 use Rattle.sj_grammar.specs.Refusals.{OnFault}

@@ -11,7 +11,7 @@ use Rattle.sj_lang.specs.Limits.{limits}
 use Rattle.sj_grammar.specs.Lexis.{Ahead, at_end, bad, token, next_of}
 use Rattle.sj_grammar.specs.Reading.{Reading, passed, fault_at}
 use Rattle.sj_grammar.specs.Tables.{Spelling, Spells, entry_of}
-use Rattle.sj_grammar.specs.Places.{At, start, Begins, BeginsOnLines}
+use Rattle.sj_grammar.specs.Positions.{At, start, Begins, BeginsOnLines}
 use Rattle.sj_grammar.specs.Protocols.{body_pieces, IsBody}
 use Rattle.sj_grammar.specs.Files.{protocols_pieces, IsProtocolDef}
 use Rattle.sj_grammar.specs.ProtocolDues.{body, protocol_layer}

@@ -14,7 +14,7 @@ ghost use Rattle.sj_grammar.specs.declared.tokens.Token.{Token};
 ghost use Rattle.sj_grammar.specs.declared.tokens.What.TheVariants.{End};
 ghost use Rattle.sj_grammar.specs.Lexis.{next_of, at_end, bad};
 ghost use Rattle.sj_grammar.specs.Reading.{Reading, answer_to, reading_after};
-ghost use Rattle.sj_grammar.specs.Places.{At};
+ghost use Rattle.sj_grammar.specs.Positions.{At};
 ghost use Rattle.sj_proto.specs.Onward.{Advances};
 ghost use Rattle.sj_proto.specs.Protocols.{IsProtocol, AreProtocols, IsFirstFault, IsFaultInProtocols};
 ghost use Rattle.sj_proto.specs.Wrong.{GoesWrong};

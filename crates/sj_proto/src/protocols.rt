@@ -6,7 +6,7 @@ ghost use Rattle.sj_lang.specs.Place.{Place};
 ghost use Rattle.sj_lang.specs.declared.file.Names.{Names};
 ghost use Rattle.sj_lang.specs.Limits.{limits, file_limit};
 ghost use Rattle.sj_grammar.specs.Lexis.{next_of};
-ghost use Rattle.sj_grammar.specs.Places.{At};
+ghost use Rattle.sj_grammar.specs.Positions.{At};
 ghost use Rattle.sj_grammar.specs.Files.{protocol_pieces, IsProtocolDef};
 ghost use Rattle.sj_grammar.specs.FileDues.{Due, protocols, file_layer};
 ghost use Rattle.sj_grammar.specs.Faults.{Stuck};

@@ -1,6 +1,5 @@
 //! The tokens of a text, one after another.
 ghost use Rattle.std.specs.Prelude.{◌≡◌, ◌≢◌, ◌+◌, ◌<◌, ◌≤◌, [], length, IsTrue, Some, OnOk, IfErr, IfOk, false};
-ghost use Rattle.sj_grammar.specs.declared.tokens.Rule.TheVariants.{P1};
 ghost use Rattle.sj_grammar.specs.Lexis.{next_of, at_end};
 ghost use Rattle.sj_grammar.specs.Names.{is_name};
 ghost use Rattle.sj_grammar.specs.Reading.{answer_to, reading_after, line_at, before_next};
@@ -8,6 +7,7 @@ ghost use Rattle.sj_grammar.specs.Refusals.{fault_next};
 ghost use Rattle.sj_proto.specs.Onward.{Advances};
 ghost use Rattle.sj_proto.specs.Protocols.{IsReadable, IsUnreadable};
 ghost use Rattle.sj_grammar.specs.Asked.{TakesText, is_next, spelled_next, Refuses, but, but_name};
+ghost use Rattle.sj_grammar.specs.Rules.{not_due};
 ghost use Rattle.sj_lang.specs.Limits.{limits, file_limit};
 
 use crate::reserved::is_name_text;
@@ -218,7 +218,7 @@ impl<'a> Tokens<'a> {
     /// Refuses what is left, but for blanks and comments.
     pub fn finish(&self) -> Result<(), Fault>
         ensures ok { OnOk result (next_of self.now.ahead ≡ at_end) }
-        ensures fault { IfErr result (Refuses (λ _. Some P1) self.now) }
+        ensures fault { IfErr result (Refuses (λ _. Some not_due) self.now) }
         ensures some { IfErr result (λ _. next_of self.now.ahead ≢ at_end) }
     {
         match find(self.bytes, self.at) {

@@ -109,23 +109,23 @@ bound_if ends (Some e) h = h e refl
 named_bound_if : (ends : List (ℕ × EndId)) (x : ℕ) → BoundIf ends (named ends x)
 named_bound_if ends x = bound_if ends (named ends x) (named_is_bound ends x)
 
-act_bound : (vars : Vars) (ends : List (ℕ × EndId)) (act : DeedAt) → AreBoundIf ends (want_of_deed vars ends act)
-act_bound vars ends (send x e) = send_bound ends (named ends x) _ (named_bound_if ends x)
-act_bound vars ends (delegate x y) = delegate_bound ends (named ends x) (named ends y) (named_bound_if ends x) (named_bound_if ends y)
-act_bound vars ends (take_value x n k) = take_bound ends (named ends x) _ (named_bound_if ends x)
-act_bound vars ends (take_end x y p) = take_bound ends (named ends x) _ (named_bound_if ends x)
-act_bound vars ends (outbranch x l) = send_bound ends (named ends x) _ (named_bound_if ends x)
-act_bound vars ends (inbranch x arms) = take_bound ends (named ends x) _ (named_bound_if ends x)
-act_bound vars ends (outwhile x e body) = send_bound ends (named ends x) _ (named_bound_if ends x)
-act_bound vars ends (inwhile x body) = take_bound ends (named ends x) _ (named_bound_if ends x)
-act_bound vars ends (relay x y body) = take_bound ends (named ends x) _ (named_bound_if ends x)
-act_bound vars ends (if_else e first second) = local_bound ends (option_and_then truth_of (worth vars e))
-act_bound vars ends (let_be n e) = local_bound ends (worth vars e)
-act_bound vars ends (close x) = close_bound ends (named ends x) (named_bound_if ends x)
+deed_bound : (vars : Vars) (ends : List (ℕ × EndId)) (deed : DeedAt) → AreBoundIf ends (want_of_deed vars ends deed)
+deed_bound vars ends (send x e) = send_bound ends (named ends x) _ (named_bound_if ends x)
+deed_bound vars ends (delegate x y) = delegate_bound ends (named ends x) (named ends y) (named_bound_if ends x) (named_bound_if ends y)
+deed_bound vars ends (take_value x n k) = take_bound ends (named ends x) _ (named_bound_if ends x)
+deed_bound vars ends (take_end x y p) = take_bound ends (named ends x) _ (named_bound_if ends x)
+deed_bound vars ends (outbranch x l) = send_bound ends (named ends x) _ (named_bound_if ends x)
+deed_bound vars ends (inbranch x arms) = take_bound ends (named ends x) _ (named_bound_if ends x)
+deed_bound vars ends (outwhile x e body) = send_bound ends (named ends x) _ (named_bound_if ends x)
+deed_bound vars ends (inwhile x body) = take_bound ends (named ends x) _ (named_bound_if ends x)
+deed_bound vars ends (relay x y body) = take_bound ends (named ends x) _ (named_bound_if ends x)
+deed_bound vars ends (if_else e first second) = local_bound ends (option_and_then truth_of (worth vars e))
+deed_bound vars ends (let_be n e) = local_bound ends (worth vars e)
+deed_bound vars ends (close x) = close_bound ends (named ends x) (named_bound_if ends x)
 
 todo_bound : (vars : Vars) (ends : List (ℕ × EndId)) (todo : List Thing) → AreBoundIf ends (want_of_todo vars ends todo)
 todo_bound vars ends [] = tt
-todo_bound vars ends (statement act ∷ rest) = act_bound vars ends act
+todo_bound vars ends (statement deed ∷ rest) = deed_bound vars ends deed
 todo_bound vars ends (turns x n body ∷ rest) = send_bound ends (named ends x) _ (named_bound_if ends x)
 todo_bound vars ends (passing x y more body ∷ rest) = send_bound ends (named ends y) _ (named_bound_if ends y)
 

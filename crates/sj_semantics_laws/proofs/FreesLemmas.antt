@@ -73,23 +73,23 @@ delegate_frees e ends x y rest (Some f) (Some g) h = bindings_of-without e ends 
 delegate_frees e ends x y rest (Some f) None h = tt
 delegate_frees e ends x y rest None q h = tt
 
-act_frees : (e : EndId) (vars : Vars) (ends : List (ℕ × EndId)) (act : DeedAt) (rest : List Thing) → FreesIf e ends (statement act ∷ rest) (want_of_deed vars ends act)
-act_frees e vars ends (send x v) rest = send_value_frees e ends (statement (send x v) ∷ rest) (named ends x) (worth vars v)
-act_frees e vars ends (delegate x y) rest = delegate_frees e ends x y rest (named ends x) (named ends y) refl
-act_frees e vars ends (take_value x n k) rest = take_frees e ends (statement (take_value x n k) ∷ rest) (named ends x) _
-act_frees e vars ends (take_end x y p) rest = take_frees e ends (statement (take_end x y p) ∷ rest) (named ends x) _
-act_frees e vars ends (outbranch x l) rest = send_frees e ends (statement (outbranch x l) ∷ rest) (named ends x) _ refl
-act_frees e vars ends (inbranch x arms) rest = take_frees e ends (statement (inbranch x arms) ∷ rest) (named ends x) _
-act_frees e vars ends (outwhile x v body) rest = send_turns_frees e ends (statement (outwhile x v body) ∷ rest) (named ends x) (option_and_then turns_of (worth vars v))
-act_frees e vars ends (inwhile x body) rest = take_frees e ends (statement (inwhile x body) ∷ rest) (named ends x) _
-act_frees e vars ends (relay x y body) rest = take_frees e ends (statement (relay x y body) ∷ rest) (named ends x) _
-act_frees e vars ends (if_else v first second) rest = local_frees e ends (statement (if_else v first second) ∷ rest) (option_and_then truth_of (worth vars v))
-act_frees e vars ends (let_be n v) rest = local_frees e ends (statement (let_be n v) ∷ rest) (worth vars v)
-act_frees e vars ends (close x) rest = close_frees e ends x rest (named ends x) refl
+deed_frees : (e : EndId) (vars : Vars) (ends : List (ℕ × EndId)) (deed : DeedAt) (rest : List Thing) → FreesIf e ends (statement deed ∷ rest) (want_of_deed vars ends deed)
+deed_frees e vars ends (send x v) rest = send_value_frees e ends (statement (send x v) ∷ rest) (named ends x) (worth vars v)
+deed_frees e vars ends (delegate x y) rest = delegate_frees e ends x y rest (named ends x) (named ends y) refl
+deed_frees e vars ends (take_value x n k) rest = take_frees e ends (statement (take_value x n k) ∷ rest) (named ends x) _
+deed_frees e vars ends (take_end x y p) rest = take_frees e ends (statement (take_end x y p) ∷ rest) (named ends x) _
+deed_frees e vars ends (outbranch x l) rest = send_frees e ends (statement (outbranch x l) ∷ rest) (named ends x) _ refl
+deed_frees e vars ends (inbranch x arms) rest = take_frees e ends (statement (inbranch x arms) ∷ rest) (named ends x) _
+deed_frees e vars ends (outwhile x v body) rest = send_turns_frees e ends (statement (outwhile x v body) ∷ rest) (named ends x) (option_and_then turns_of (worth vars v))
+deed_frees e vars ends (inwhile x body) rest = take_frees e ends (statement (inwhile x body) ∷ rest) (named ends x) _
+deed_frees e vars ends (relay x y body) rest = take_frees e ends (statement (relay x y body) ∷ rest) (named ends x) _
+deed_frees e vars ends (if_else v first second) rest = local_frees e ends (statement (if_else v first second) ∷ rest) (option_and_then truth_of (worth vars v))
+deed_frees e vars ends (let_be n v) rest = local_frees e ends (statement (let_be n v) ∷ rest) (worth vars v)
+deed_frees e vars ends (close x) rest = close_frees e ends x rest (named ends x) refl
 
 todo_frees : (e : EndId) (vars : Vars) (ends : List (ℕ × EndId)) (todo : List Thing) → FreesIf e ends todo (want_of_todo vars ends todo)
 todo_frees e vars ends [] = tt
-todo_frees e vars ends (statement act ∷ rest) = act_frees e vars ends act rest
+todo_frees e vars ends (statement deed ∷ rest) = deed_frees e vars ends deed rest
 todo_frees e vars ends (turns x n body ∷ rest) = send_frees e ends (turns x n body ∷ rest) (named ends x) _ (turns_name_none e n)
 todo_frees e vars ends (passing x y more body ∷ rest) = send_frees e ends (passing x y more body ∷ rest) (named ends y) _ refl
 

@@ -10,8 +10,8 @@ use Rattle.sj_lang.specs.FileAt.{FileAt}
 use Rattle.sj_semantics_laws.specs.Samples.{decl, connects, protocol, party, sends_int, takes_int}
 
 -- an end is delegated between two messages
-abbrev pub handed_over : FileAt
-handed_over = record {
+abbrev pub delegation : FileAt
+delegation = record {
   words = codes "p" ∷ codes "q" ∷ codes "r" ∷ codes "g" ∷ codes "h" ∷ codes "a" ∷ codes "x" ∷ codes "b" ∷ codes "y" ∷ codes "n" ∷ codes "z" ∷ codes "c" ∷ codes "u" ∷ [];
   texts = [];
   protocols =

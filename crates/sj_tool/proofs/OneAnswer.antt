@@ -3,7 +3,7 @@ use Rattle.std.proofs.Common.{◌≡◌, ◌⊎◌, ◌∙◌, ℕ, List, [], So
 use Rattle.sj_lang.specs.FileAt.{FileAt}
 use Rattle.sj_grammar.specs.declared.tokens.Fault.{Fault}
 use Rattle.sj_lang.specs.Limits.{limits}
-use Rattle.sj_grammar.specs.Places.{start}
+use Rattle.sj_grammar.specs.Positions.{start}
 use Rattle.sj_grammar.specs.FileDues.{file_layer, file_due}
 use Rattle.sj_grammar.specs.Faults.{Stuck}
 use Rattle.sj_acceptance_laws.proofs.FileLaws.{accepted_to}

@@ -2,7 +2,7 @@
 use Rattle.std.proofs.Common.{◌≡◌, ◌∙◌, ℕ, List, [], Some, ap, sym}
 use Rattle.sj_grammar.specs.declared.tokens.Fault.{Fault}
 use Rattle.sj_lang.specs.Limits.{limits}
-use Rattle.sj_grammar.specs.Places.{start}
+use Rattle.sj_grammar.specs.Positions.{start}
 use Rattle.sj_grammar.specs.Lexis.{next_of}
 use Rattle.sj_grammar.specs.Reading.{fault_at, before_next}
 use Rattle.sj_grammar.specs.FileDues.{file_layer, file_due}

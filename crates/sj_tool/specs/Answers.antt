@@ -4,7 +4,7 @@ use Rattle.sj_base.specs.Stream.{Rose, CameOf, WroteFrontOf, put_behind}
 use Rattle.sj_lane.specs.Told as lanes
 use Rattle.sj_lang.specs.FileAt.{FileAt}
 use Rattle.sj_lang.specs.Limits.{limits}
-use Rattle.sj_grammar.specs.Places.{start}
+use Rattle.sj_grammar.specs.Positions.{start}
 use Rattle.sj_grammar.specs.Files.{IsFile}
 use Rattle.sj_grammar.specs.FileDues.{file_layer, file_due}
 use Rattle.sj_grammar.specs.Faults.{Stuck}

@@ -1,5 +1,5 @@
 -- Inputs that are valid for a task, and what is told of them.
-use Rattle.std.specs.Prelude.{◌≡◌, ◌≤◌, ℕ, ◌+◌, ◌*◌, Bool, false, List, [], ◌∷◌, ◌++◌, Option, Some, codes, decimal, length}
+use Rattle.std.specs.Prelude.{◌≡◌, ◌≤◌, ℕ, Bool, false, List, [], ◌∷◌, ◌++◌, Option, Some, codes, decimal, length}
 use Rattle.sj_base.specs.Stream.{Rose, put_behind}
 use Rattle.sj_lang.specs.FileAt.{FileAt}
 use Rattle.sj_grammar.specs.Files.{IsFile}
@@ -16,6 +16,7 @@ use Rattle.sj_tool.specs.Runs.{HasBegun}
 use Rattle.sj_tool.specs.Tasks.{Checks, HasParts, Replays, RunsParties, limit_of}
 use Rattle.sj_tool.specs.Shown.{shown}
 use Rattle.sj_tool.specs.Texts.{counts_of, verdict_status}
+use Rattle.sj_generator_laws.specs.Counts.{generated_parties, generated_sessions, generated_messages, generated_steps}
 
 -- all that is left, no more than the task takes, has the text of the file, and no fault was counted; the file is accepted where the task checks
 -- it, each line of a log that is replayed is the one that is due, and the links hold where parties run
@@ -49,8 +50,8 @@ pub record TellsEnd (log : Bool) (file : FileAt) (status : ℕ) (text : List ℕ
 abbrev pub big_text : ℕ → List ℕ
 big_text n =
     line_of (
-    codes "big" ∷ decimal n ∷ codes "parties" ∷ decimal 15 ∷ codes "sessions" ∷ decimal 10 ∷ codes "messages" ∷ decimal (10 * n + 15)
-    ∷ codes "steps" ∷ decimal (25 * n + 55) ∷ [])
+    codes "big" ∷ decimal n ∷ codes "parties" ∷ decimal generated_parties ∷ codes "sessions" ∷ decimal generated_sessions ∷ codes "messages" ∷ decimal (generated_messages n)
+    ∷ codes "steps" ∷ decimal (generated_steps n) ∷ [])
     ++ line_of (codes "done" ∷ [])
 
 -- the status and the text that a task has for an input that is valid for it

@@ -1,7 +1,8 @@
 -- The numbers of the wire format.
-use Rattle.std.specs.Prelude.{ℕ}
+use Rattle.std.specs.Prelude.{ℕ, ◌-◌}
 use Rattle.sj_table.specs.declared.table.Spot.{Spot}
 pub use Rattle.sj_rules.specs.Limits.{limit_of_conns, limit_of_messages, limit_of_hops}
+use Rattle.sj_rules.specs.Limits.{clock_end}
 
 -- the version byte
 abbrev pub version : ℕ
@@ -17,7 +18,7 @@ most_length = 2097152
 
 -- the clock of a frame is at most this: it is below 2^62
 abbrev pub last_clock : ℕ
-last_clock = 4611686018427387903
+last_clock = clock_end - 1
 
 -- a Give has at most so many cached messages
 abbrev pub most_cached : ℕ

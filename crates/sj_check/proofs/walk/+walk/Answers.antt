@@ -13,7 +13,7 @@ use Rattle.sj_check.specs.Told.{Tells}
 use Rattle.sj_lang.proofs.Folds.{deed_of-If, deed_of-Branch, stmt_of-fields}
 use Rattle.sj_lang.specs.declared.proto.Way.TheVariants.{Out, Into}
 use Rattle.sj_acceptance.specs.EnvAt.{EnvAt, with_live}
-use Rattle.sj_check.specs.Known.{SpotEnv}
+use Rattle.sj_check.specs.SpotEnv.{SpotEnv}
 use Rattle.sj_check.specs.Seen.{defs_in, env_in}
 use Rattle.sj_acceptance.specs.FirstItem.{is_loop, rest_of}
 use Rattle.sj_acceptance.specs.EnvAt.{place_at}
@@ -24,21 +24,21 @@ use Rattle.sj_lang.specs.Code as code
 use Rattle.sj_check.proofs.IfLemmas.{if-condition, if-first, if-second, if-joined}
 use Rattle.std.proofs.lemmas.Result.{err_from_is_err_and}
 use Rattle.sj_check.proofs.SeenLemmas.{env_in-no_spots}
-use Rattle.sj_check.proofs.WalkLemmas.{step-fault, step-tests, step-after}
+use Rattle.sj_check.proofs.WalkLemmas.{stmt-fault, stmt-tests, stmt-after}
 use Rattle.std.specs.FinMap.{get}
 use Rattle.sj_check.proofs.NamedLemmas.{blocks-beyond, moved-beyond, both-moved-beyond, arms-beyond}
 use Rattle.sj_check.proofs.walk.+walk.Goals as goal
 
 pub block-returns-in_err-statement : goal.block-returns-in_err-statement
-block-returns-in_err-statement t c = let p = err_from_is_err_and c.from_residual.result c.from_residual.ensures.1 in rw (p.1, p.2) (step-fault (defs_in c.args.protocols.now) c.args.stmts.now c.loop-stmt.stmt-index c.stmt-item.result c.loop-stmt-test.true c.stmt-item.is (env_in c.args.protocols.now c.loop-stmt.env) _ _ c.loop-stmt.invariant.tests c.in_err-statement.ensures)
+block-returns-in_err-statement t c = let p = err_from_is_err_and c.from_residual.result c.from_residual.ensures.1 in rw (p.1, p.2) (stmt-fault (defs_in c.args.protocols.now) c.args.stmts.now c.loop-stmt.stmt-index c.stmt-item.result c.loop-stmt-test.true c.stmt-item.is (env_in c.args.protocols.now c.loop-stmt.env) _ _ c.loop-stmt.invariant.tests c.in_err-statement.ensures)
 
 pub block-loop-stmt-preserved : goal.block-loop-stmt-preserved
 block-loop-stmt-preserved t c =
     let ps = defs_in c.args.protocols.now in
     record {
-      tests = step-tests ps c.args.stmts.now c.loop-stmt.stmt-index c.stmt-item.result c.loop-stmt-test.true c.stmt-item.is (env_in c.args.protocols.now c.loop-stmt.env) (env_in c.args.protocols.now c.statement.new.env) c.in_ok-statement.ensures.0 c.in_ok-statement.ensures.1
+      tests = stmt-tests ps c.args.stmts.now c.loop-stmt.stmt-index c.stmt-item.result c.loop-stmt-test.true c.stmt-item.is (env_in c.args.protocols.now c.loop-stmt.env) (env_in c.args.protocols.now c.statement.new.env) c.in_ok-statement.ensures.0 c.in_ok-statement.ensures.1
           ∙ c.loop-stmt.invariant.tests;
-      after = step-after ps c.args.stmts.now c.loop-stmt.stmt-index c.stmt-item.result c.loop-stmt-test.true c.stmt-item.is (env_in c.args.protocols.now c.loop-stmt.env) (env_in c.args.protocols.now c.statement.new.env) c.in_ok-statement.ensures.1
+      after = stmt-after ps c.args.stmts.now c.loop-stmt.stmt-index c.stmt-item.result c.loop-stmt-test.true c.stmt-item.is (env_in c.args.protocols.now c.loop-stmt.env) (env_in c.args.protocols.now c.statement.new.env) c.in_ok-statement.ensures.1
           ∙ c.loop-stmt.invariant.after;
     }
 

@@ -6,7 +6,7 @@ use Rattle.sj_lang.specs.CodeView.{term_of}
 use Rattle.sj_grammar.specs.declared.refusal.ParseRefusal.TheVariants as refusals
 use Rattle.sj_grammar.specs.Lexis.{next_of}
 use Rattle.sj_grammar.specs.Reading.{Reading}
-use Rattle.sj_grammar.specs.Places.{Takes}
+use Rattle.sj_grammar.specs.Positions.{Takes}
 use Rattle.sj_grammar.specs.Refusals.{OnFault}
 use Rattle.sj_grammar.specs.Asked.{TakesText, Passes, spelled_next}
 use Rattle.sj_grammar.specs.Expressions.{operand_count}

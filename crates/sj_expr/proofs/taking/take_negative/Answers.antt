@@ -7,7 +7,7 @@ use Rattle.sj_lang.specs.Term as term
 use Rattle.sj_lang.proofs.Folds.{term_of-Int}
 use Rattle.sj_grammar.specs.Lexis.{next_of}
 use Rattle.sj_grammar.specs.Literals.{is_number}
-use Rattle.sj_grammar.specs.Places.{at}
+use Rattle.sj_grammar.specs.Positions.{at}
 use Rattle.sj_grammar.specs.Asked.{spelled_next}
 use Rattle.sj_grammar.specs.Expressions as level
 use Rattle.sj_expr.specs.Read.{ReadsLevel}

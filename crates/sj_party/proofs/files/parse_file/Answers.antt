@@ -4,7 +4,7 @@ use Rattle.sj_lang.specs.FileView.{protocol_of}
 use Rattle.sj_grammar.specs.declared.refusal.ParseRefusal.TheVariants as refusals
 use Rattle.sj_lang.specs.Limits.{limits}
 use Rattle.sj_grammar.specs.Refusals.{OnFault}
-use Rattle.sj_grammar.specs.Places.{at, start}
+use Rattle.sj_grammar.specs.Positions.{at, start}
 use Rattle.sj_proto.specs.Parsed.{standing}
 use Rattle.sj_proto.proofs.Exits.{err_as}
 use Rattle.sj_party.proofs.OneFile.{one_file}

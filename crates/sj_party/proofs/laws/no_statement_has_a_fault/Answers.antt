@@ -1,5 +1,5 @@
 use Rattle.sj_party.proofs.Faultless.{none_broken}
-use Rattle.sj_grammar.specs.Places.{spellings}
+use Rattle.sj_grammar.specs.Positions.{spellings}
 use Rattle.sj_party.proofs.Runs.{code_leads, block_leads, arms_leads}
 use Rattle.sj_party.proofs.laws.no_statement_has_a_fault.Goals as goal
 

@@ -4,7 +4,7 @@ use Rattle.sj_grammar.specs.declared.refusal.ParseRefusal.TheVariants as refusal
 use Rattle.sj_lang.specs.Limits.{limits}
 use Rattle.sj_grammar.specs.Reading.{Reading}
 use Rattle.sj_grammar.specs.Tables.{IsNamed}
-use Rattle.sj_grammar.specs.Places.{At, Takes}
+use Rattle.sj_grammar.specs.Positions.{At, Takes}
 use Rattle.sj_grammar.specs.FileDues.{awaited}
 use Rattle.sj_grammar.specs.Asked.{Refuses, but}
 use Rattle.sj_proto.specs.Parsed.{standing, Gives}

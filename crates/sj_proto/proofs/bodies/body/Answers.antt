@@ -6,7 +6,7 @@ use Rattle.sj_lang.specs.ItemCount.{item_count}
 use Rattle.sj_grammar.specs.declared.refusal.ParseRefusal.TheVariants as refusals
 use Rattle.sj_lang.specs.Limits.{limits}
 use Rattle.sj_grammar.specs.Reading.{Reading}
-use Rattle.sj_grammar.specs.Places.{Takes}
+use Rattle.sj_grammar.specs.Positions.{Takes}
 use Rattle.sj_grammar.specs.Protocols.{body_pieces, seq_pieces, IsGiven, IsBody}
 use Rattle.sj_grammar.specs.ProtocolDues.{body, seq}
 use Rattle.sj_grammar.specs.FileDues.{Due, proto, file_layer}

@@ -11,7 +11,7 @@ use Rattle.sj_lang.specs.Limits.{limits}
 use Rattle.sj_grammar.specs.Lexis.{next_of}
 use Rattle.sj_grammar.specs.Reading.{Reading}
 use Rattle.sj_grammar.specs.Tables.{IsNamed}
-use Rattle.sj_grammar.specs.Places.{Takes}
+use Rattle.sj_grammar.specs.Positions.{Takes}
 use Rattle.sj_grammar.specs.Protocols.{seq_pieces, dotted, kind_pieces, listed, close_piece, way_piece, open_piece, IsGiven, IsGivenKind, AreGiven}
 use Rattle.sj_grammar.specs.Layers.{step, goes}
 use Rattle.sj_grammar.specs.ProtocolDues.{protocol_layer, seq, maybe, kind, label, fixed, arms, more, behind}

@@ -1,7 +1,7 @@
 use Rattle.std.proofs.Common.{◌∙◌, ap}
 use Rattle.std.specs.FinMap as finite
 use Rattle.sj_acceptance.specs.Sameness.{is_same_ends}
-use Rattle.sj_check.specs.Known.{SpotEnv, places_at}
+use Rattle.sj_check.specs.SpotEnv.{SpotEnv, places_at}
 use Rattle.sj_check.proofs.SeenLemmas.{has_none_live}
 use Rattle.sj_check.proofs.env.Env.has_no_ends.Goals as goal
 

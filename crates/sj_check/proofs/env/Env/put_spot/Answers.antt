@@ -1,5 +1,5 @@
 use Rattle.std.proofs.Common.{ap, ◌∙◌}
-use Rattle.sj_check.specs.Known.{with_spot}
+use Rattle.sj_check.specs.SpotEnv.{with_spot}
 use Rattle.sj_check.proofs.MapLemmas.{map_at-updated}
 use Rattle.sj_check.proofs.env.Env.put_spot.Goals as goal
 

@@ -1,5 +1,5 @@
 use Rattle.std.proofs.Common.{ap, ◌∙◌}
-use Rattle.sj_check.specs.Known.{SpotEnv, without_spot}
+use Rattle.sj_check.specs.SpotEnv.{SpotEnv, without_spot}
 use Rattle.sj_check.proofs.MapLemmas.{map_at-removed}
 use Rattle.sj_check.proofs.env.Env.remove.Goals as goal
 

@@ -1,6 +1,6 @@
 use Rattle.std.proofs.Common.{ap, sym, ◌∙◌}
 use Rattle.std.specs.FinMap as map
-use Rattle.sj_check.specs.Known.{SpotEnv}
+use Rattle.sj_check.specs.SpotEnv.{SpotEnv}
 use Rattle.sj_check.proofs.MapLemmas.{get-map_at}
 use Rattle.sj_check.proofs.env.Env.spot.Goals as goal
 
