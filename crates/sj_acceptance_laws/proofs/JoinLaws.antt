@@ -30,7 +30,7 @@ agreed (Some i) (Some j) k h =
 agree-both : (a b : Option Scalar) (k : Scalar) → a ≡ Some k → b ≡ Some k → cond (agree a b) a None ≡ Some k
 agree-both a b k e f = (λ i. cond (agree (e i) (f i)) (e i) None) ∙ ap (λ v. cond v (Some k) None) (same_kind_refl k)
 
--- what holds of each of these as they are seen, by place and by recursion
+-- what holds of each of these as they are seen, by index and by recursion
 each_at : (P : Env → Type 0) (envs : List EnvAt) → AllByRecursion (λ v. P (env_of v)) envs → (k : ℕ) (last : Env) → slice_get (map env_of envs) k ≡ Some last → P last
 each_at P [] h k last e = absurd (cc)
 each_at P (v ∷ vs) h zero last e = let same : env_of v ≡ last = cc in subst P same h.0

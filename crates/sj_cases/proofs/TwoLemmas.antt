@@ -7,7 +7,7 @@ use Rattle.sj_cases.specs.declared.forged_links.Loses.{Loses}
 use Rattle.sj_cases.specs.declared.forged_links.Gives.{Gives}
 use Rattle.sj_cases.specs.Two.{AreTwo, HasTwo}
 
--- what holds of both of two holds of the one at a place
+-- what holds of both of two holds of the one at an index
 one_of_two : {X : Type 0} (P : X → Type 0) (a b x : X) (k : ℕ) → P a → P b → slice_get (a ∷ b ∷ []) k ≡ Some x → P x
 one_of_two P a b x zero first second at = let same : a ≡ x = cc at in rw (← same) first
 one_of_two P a b x (suc zero) first second at = let same : b ≡ x = cc at in rw (← same) second

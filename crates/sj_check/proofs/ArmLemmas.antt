@@ -17,7 +17,7 @@ use Rattle.sj_check.specs.Told.{Tells}
 use Rattle.sj_check.proofs.FaultLemmas.{behind, Tells-front, Tells-behind}
 use Rattle.sj_lang.proofs.Folds.{arm_of-fields}
 
--- the arms from a place on
+-- the arms from an index on
 abbrev pub from : List StmtArm → ℕ → Branches
 from arms i = branches_of (map arm_of (drop i arms))
 

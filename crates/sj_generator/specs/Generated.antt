@@ -10,7 +10,7 @@ lines (l ∷ ls) = l ++ 10 ∷ lines ls
 abbrev pub numbered : List ℕ → ℕ → List ℕ → List ℕ
 numbered front n back = front ++ (decimal n ++ (back ++ 10 ∷ []))
 
--- a line with a number in it at two places
+-- a line with a number in it at two positions
 abbrev pub numbered_twice : List ℕ → List ℕ → List ℕ → ℕ → List ℕ
 numbered_twice front middle back i = front ++ (decimal i ++ (middle ++ (decimal i ++ (back ++ 10 ∷ []))))
 

@@ -15,7 +15,7 @@ use Rattle.sj_semantics.specs.Wants.{want_of}
 use Rattle.sj_semantics.specs.World.{World, Change, session_message, change_by_taking, change_by, change_of_program, changed_world, act_of}
 use Rattle.sj_semantics_laws.proofs.RunLemmas.{Leads, leads_on}
 
--- the place behind these
+-- the index behind these
 abbrev pub place : {X : Type 0} → List X → ℕ → ℕ
 place [] i = i
 place (x ∷ xs) i = suc (place xs i)
@@ -28,7 +28,7 @@ altered-place : {X : Type 0} (xs ys : List X) (i : ℕ) (f : X → X) → altere
 altered-place [] ys i f = refl
 altered-place (x ∷ xs) ys i f = ap (λ t. x ∷ t) (altered-place xs ys i f)
 
--- the side of the session at the place behind these
+-- the side of the session at the index behind these
 abbrev pub end_behind : List Session → ℕ → ℕ → EndId
 end_behind bs i d = record { sess = place bs i; side = d }
 

@@ -1,4 +1,4 @@
--- Two places of a text differ in their line or their column.
+-- Two positions of a text differ in their line or their column.
 use Rattle.std.proofs.Common.{◌≡◌, ℕ, suc, ◌+◌, ◌-◌, ◌<◌, ◌≤◌, Bool, true, false, List, [], ◌∷◌, ◌++◌, length, take, refl, ap, sym, ◌∙◌, append_assoc, arith, length-append}
 use Rattle.std.specs.Prelude.{if◌then◌else◌, ◌==◌}
 use Rattle.std.specs.List.{fold}

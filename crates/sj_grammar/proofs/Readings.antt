@@ -109,7 +109,7 @@ module _ {D : Type 0} (G : Layer D) (L : Limits) where
       by_order (inl x) = on ps qs x.0 m k es gs b d rp x.1 rq x.2 np
       by_order (inr x) = let back = on qs ps x.0 k m gs es d b rq x.1 rp x.2 nq in (sym back.0, sym back.1)
 
--- the same tokens lead to the same place
+-- the same tokens lead to the same position
 pub one_place : (ps : Pieces) (a b d : At) → Begins a ps b → Begins a ps d → b ≡ d
 one_place [] a b d h g = sym h ∙ g
 one_place (p ∷ ps) a b d h g =

@@ -52,7 +52,7 @@ abbrev pub AllHeld : (List ℕ → Type 0) → Pieces → Type 0
 AllHeld Held [] = Unit {0}
 AllHeld Held (s ∷ ps) = Held s × AllHeld Held ps
 
--- the spelling whose numbers are the places of these pieces
+-- the spelling whose numbers are the positions of these pieces
 abbrev pub spelling_of : Pieces → Spelling
 spelling_of ps = record { word = λ n. get_or ps n []; text = λ n. inner (get_or ps n []) }
 

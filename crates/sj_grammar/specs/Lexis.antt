@@ -12,7 +12,7 @@ use Rattle.sj_grammar.specs.Rules.{bad_byte, bad_number, open_text}
 pub data Ahead : Type 0 where
   -- blanks and comments only
   at_end : Ahead
-  -- no token can be read; the text from the place of the fault on
+  -- no token can be read; the text from the position of the fault on
   bad : Rule → List ℕ → Ahead
   -- a token, its bytes, and the text behind it
   token : What → List ℕ → List ℕ → Ahead

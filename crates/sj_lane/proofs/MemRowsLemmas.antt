@@ -14,7 +14,7 @@ use Rattle.sj_lane.specs.Square.{AllJoined, IsFresh, IsSquare, Kept, in_at, out_
 use Rattle.sj_lane.proofs.Backs.{square_in, square_out}
 use Rattle.sj_lane.proofs.Settles.{in_found, out_found}
 
--- what holds of each holds of the one at a place
+-- what holds of each holds of the one at an index
 all_get : {X : Type 0} (P : X → Type 0) (xs : List X) (k : ℕ) (x : X) → AllByRecursion P xs → slice_get xs k ≡ Some x → P x
 all_get P [] k x all at = absurd (cc at)
 all_get P (y ∷ ys) zero x all at = let same : y ≡ x = cc at in rw (← same) all.0

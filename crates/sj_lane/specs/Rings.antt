@@ -10,7 +10,7 @@ use Rattle.sj_lane.specs.Square.{out_at}
 use Rattle.sj_lane.specs.declared.ends.RingOut.{RingOut}
 use Rattle.sj_lane.specs.declared.ends.RingIn.{RingIn}
 
--- two lists, related at each place
+-- two lists, related at each index
 abbrev pub Each2 : {X Y : Type 0} → (X → Y → Type 0) → List X → List Y → Type 0
 Each2 R [] [] = Unit {0}
 Each2 R [] (y ∷ ys) = ⊥

@@ -1,4 +1,4 @@
-//! Steps over a program's nodes, its place in them, and what it knows.
+//! Steps over a program's nodes, its position in them, and what it knows.
 ghost use Rattle.std.specs.Prelude.{◌≡◌, ◌<◌, ◌≤◌, ℕ, length, vec_capacity};
 ghost use Rattle.sj_machine.specs.Arena.{IsBackward};
 ghost use Rattle.sj_machine.specs.Frames.{Fits, todo_in};

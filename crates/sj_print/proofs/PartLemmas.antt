@@ -59,7 +59,7 @@ get_map f [] i d h = absurd (omega arith)
 get_map f (x ∷ xs) zero d h = refl
 get_map f (x ∷ xs) (suc i) d h = get_map f xs i d (omega arith)
 
--- what is there at that place
+-- what is there at that index
 record Here {X : Type 0} (xs : List X) (i : ℕ) : Type 0 where
   item : X
   is : slice_get xs i ≡ Some item

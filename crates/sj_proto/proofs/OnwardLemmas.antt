@@ -12,7 +12,7 @@ advances_on h k = record { text = k.text ∙ h.text; onward = omega (arith, h.on
 pub advances_none : (a : Reading) → Advances a a
 advances_none a = record { text = refl; onward = omega arith }
 
--- to a later place of the same bytes
+-- to a later position of the same bytes
 pub place_advances : (xs : List ℕ) (at to : ℕ) → at ≤ to → to ≤ length xs → Advances (reading_at xs at) (reading_at xs to)
 place_advances xs at to later within = record {
   text = take-append-drop to xs ∙ sym (take-append-drop at xs);

@@ -1,4 +1,4 @@
--- The token at a place.
+-- The token at a position.
 use Rattle.std.proofs.Common.{◌≡◌, ◌≢◌, ℕ, zero, suc, ◌+◌, ◌-◌, ◌<◌, ◌≤◌, ◌*◌, ◌^◌, ◌==◌, ◌&&◌, ◌||◌, true, false, IsTrue, List, [], ◌∷◌, length, take, drop, get_or, None, refl, ap, sym, ◌∙◌, arith, add-one}
 use Rattle.std.specs.Str.Parse.{digits_value}
 use Rattle.std.specs.Char.{is_ascii_digit}
@@ -16,11 +16,11 @@ use Rattle.sj_grammar.specs.Bytes.{is_blank, is_letter, is_digit, is_symbol, beg
 use Rattle.sj_grammar.specs.Lexis.{bad, token, cut, token_of, next_of, in_comment}
 use Rattle.sj_proto.specs.Found.{value_of}
 
--- the text at a place
+-- the text at a position
 pub open_at : (xs : List ℕ) (i : ℕ) → i < length xs → drop i xs ≡ get_or xs i 0 ∷ drop (i + 1) xs
 open_at xs i h = rw add-one (drop-cons xs i 0 h)
 
--- n bytes from a place on
+-- n bytes from a position on
 pub piece_is : (what : What) (xs : List ℕ) (from to n : ℕ) → to ≡ from + n → token what (take (to - from) (drop from xs)) (drop to xs) ≡ cut what n (drop from xs)
 piece_is what xs from to n e =
     let long : to - from ≡ n = omega arith in

@@ -1,4 +1,4 @@
--- What comes next, by places in the whole text.
+-- What comes next, by positions in the whole text.
 use Rattle.std.specs.Prelude.{◌≡◌, ℕ, ◌+◌, ◌-◌, ◌≤◌, ◌<◌, List, length, take, drop, Option, Some, None, if◌then◌else◌, nat_lt}
 use Rattle.std.specs.Str.Parse.{digits_value}
 use Rattle.sj_grammar.specs.Lexis.{Ahead, at_end, bad, token, most}
@@ -12,7 +12,7 @@ found_of bytes found.Nothing = at_end
 found_of bytes (found.Bad rule place) = bad rule (drop place bytes)
 found_of bytes (found.Piece what from to) = token what (take (to - from) (drop from bytes)) (drop to bytes)
 
--- the places are ahead, and within the text
+-- the positions are ahead, and within the text
 abbrev pub IsAhead : ℕ → List ℕ → Found → Type 0
 IsAhead at bytes found.Nothing = Unit {0}
 IsAhead at bytes (found.Bad rule place) = (at ≤ place) × (place ≤ length bytes)

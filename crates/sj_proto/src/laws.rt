@@ -75,7 +75,7 @@ pub fn what_goes_wrong_is_the_first_fault()
         → IsFirstFault bytes names f }
 {}
 
-/// One list of protocols stands at the front of a text, and ends at one place.
+/// One list of protocols stands at the front of a text, and ends at one position.
 pub fn one_list_in_front()
     ensures { (a b c : At) (ps qs : List ProtocolAt) → AreProtocols a ps b → AreProtocols a qs c
         → (ps ≡ qs) × (b ≡ c) }

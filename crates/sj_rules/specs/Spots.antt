@@ -33,7 +33,7 @@ LiesAt w e (at_main p) = HasMain ((w.nodes p).main e)
 LiesAt w e (at_old p) = HasOld ((w.nodes p).old e)
 LiesAt {P} w e (on_way from to) = (give : BodyAt P) × (filter (is_give e) (bodies (w.lanes from to)) ≡ give ∷ [])
 
--- the end lies in that one place, or is gone where there is none; one party at most awaits it, from where it lies
+-- the end lies once, at that spot, or is gone where there is none; one party at most awaits it, from where it lies
 pub record LiesOnce {P Q : Type 0} (w : WorldAt P Q) (e : EndId) : Type 0 where
   pub spot : Option Spot
   pub lies : (at : Spot) → LiesAt w e at ↔ (spot ≡ Some at)

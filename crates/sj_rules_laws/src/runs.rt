@@ -55,7 +55,7 @@ pub fn core_runs_have_few_acts()
         length (acts_in turns) ≤ limit_of_steps * length file.parties }
 {}
 
-/// Each end lies in one place or is gone, and one party at most awaits it, from where it lies.
+/// Each end lies once or is gone, and one party at most awaits it, from where it lies.
 pub fn each_end_lies_in_one_place()
     ensures { (file : FileAt) (turns : List Turn) (core : WorldAt Place Program) (e : EndId) →
         IsAccepted file → IsCoreRun file turns core → e.side < 2 → LiesOnce core e }

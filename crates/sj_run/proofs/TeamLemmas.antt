@@ -29,7 +29,7 @@ there_is [] p lt = absurd (omega (arith, lt))
 there_is (x ∷ xs) zero lt = (x, refl)
 there_is (x ∷ xs) (suc p) lt = there_is xs p (omega (arith, lt))
 
--- a place in a mapped list
+-- an index of a mapped list
 pub mapped_at : {X Y : Type 0} (f : X → Y) (xs : List X) (p : ℕ) (x : X) → slice_get xs p ≡ Some x → slice_get (map f xs) p ≡ Some (f x)
 mapped_at f [] p x is = absurd (cc is)
 mapped_at f (y ∷ ys) zero x is = let e : Some y ≡ Some x = is in ap (λ o. Some (f o)) (let s : y ≡ x = cc e in s)

@@ -33,7 +33,7 @@ mapped_from f [] p y is = absurd (cc is)
 mapped_from f (x ∷ xs) zero y is = (x, refl, (let e : Some (f x) ≡ Some y = is in cc e))
 mapped_from f (x ∷ xs) (suc p) y is = mapped_from f xs p y is
 
--- lists that end at the same place are as long
+-- lists that end at the same index are as long
 same_length : {X : Type 0} (count : X → ℕ) (R : ℕ → ℕ → Type 0) (xs ys : List X) → ((q : ℕ) → OnLane count R (slice_get xs q) (slice_get ys q)) → length ys ≡ length xs
 same_length count R [] [] h = refl
 same_length count R [] (y ∷ ys) h = absurd (h zero)

@@ -24,7 +24,7 @@ end_after p (sends m) e = record { place = place_behind e.place Out m; sent = e.
 end_after p (takes m) e = record { place = place_behind e.place Into m; sent = e.sent; takers = e.takers ++ p ∷ []; hops = e.hops }
 end_after p delegates e = record { place = e.place; sent = e.sent; takers = e.takers; hops = e.hops + 1 }
 
--- the list with what f makes of the element at that place
+-- the list with what f makes of the element at that index
 abbrev pub altered_list : {X : Type 0} → List X → ℕ → (X → X) → List X
 altered_list [] i f = []
 altered_list (x ∷ xs) zero f = f x ∷ xs

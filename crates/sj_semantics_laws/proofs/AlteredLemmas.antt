@@ -49,7 +49,7 @@ one-le-sum_by h [] i x ex = cc
 one-le-sum_by h (a ∷ xs) zero x ex = let s : a ≡ x = cc in omega (arith, sum_by-cons h a xs, ap h s)
 one-le-sum_by h (a ∷ xs) (suc i) x ex = omega (arith, sum_by-cons h a xs, one-le-sum_by h xs i x ex)
 
--- two elements at different places are no more than the sum
+-- two elements at different indexes are no more than the sum
 pub two-le-sum_by : {X : Type 0} (h : X → ℕ) (xs : List X) (i j : ℕ) (x y : X) → slice_get xs i ≡ Some x → slice_get xs j ≡ Some y → (i ≡ j → ⊥) → h x + h y ≤ sum_by h xs
 two-le-sum_by h [] i j x y ex ey ne = cc
 two-le-sum_by h (a ∷ xs) zero zero x y ex ey ne = absurd (ne refl)

@@ -83,7 +83,7 @@ end_at-after_uses_other p (u ∷ us) zs e unused = end_at-after_uses_other p us 
 
 -- ---- what was sent stays
 
--- each message of the one stands at its place in the other
+-- each message of the one stands at its index in the other
 abbrev pub Extends : List Passed → List Passed → Type 0
 Extends new old = (k : ℕ) (x : Passed) → slice_get old k ≡ Some x → slice_get new k ≡ Some x
 

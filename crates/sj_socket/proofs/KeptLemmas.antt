@@ -34,7 +34,7 @@ lanes_later a b c x y = record {
   ins = each2_trans InKept InKept InKept in_later a.ins.items b.ins.items c.ins.items x.ins y.ins;
 }
 
--- what stands at a place of both lists
+-- what stands at an index of both lists
 at_both : {X Y : Type 0} (R : X → Y → Type 0) (S : Option X → Option Y → Type 0) → S None None → ((x : X) (y : Y) → R x y → S (Some x) (Some y)) →
     (xs : List X) (ys : List Y) (i : ℕ) → Each2 R xs ys → S (slice_get xs i) (slice_get ys i)
 at_both R S none some [] [] i both = none
@@ -43,7 +43,7 @@ at_both R S none some (x ∷ xs) [] i both = absurd both
 at_both R S none some (x ∷ xs) (y ∷ ys) zero both = some x y both.0
 at_both R S none some (x ∷ xs) (y ∷ ys) (suc i) both = at_both R S none some xs ys i both.1
 
--- the counts of what stands in two places, where it stands in both
+-- the counts of what stands at an index of two lists, where it stands in both
 abbrev pub Fell : {X : Type 0} → (X → ℕ) → Option X → Option X → Type 0
 Fell {X} f s t = (a b : X) → s ≡ Some a → t ≡ Some b → f a ≤ f b
 
@@ -68,7 +68,7 @@ module _ (L M : List (Lanes SocketOut SocketIn)) (kept : Each2 LanesKept L M) wh
       let a = l.0.outs.ok in let b = l.0.ins.ok in let c = m.outs.ok in let d = m.ins.ok in
       (omega arith, omega arith)
 
-  -- what holds of each lane and what it became holds at each place
+  -- what holds of each lane and what it became holds at each index
   outs_both : (S : Option SocketOut → Option SocketOut → Type 0) → S None None → ((x y : SocketOut) → OutKept x y → S (Some x) (Some y)) →
       (p q : ℕ) → S (out_at L p q) (out_at M p q)
   outs_both S none some p q = at_both LanesKept (λ s t. S (out_in s q) (out_in t q)) none

@@ -17,7 +17,7 @@ use Rattle.sj_socket.specs.Rows.{AreNewIns, AreNewOuts, Grid, HasSome}
 use Rattle.sj_socket.specs.declared.in_lane.SocketIn.{SocketIn}
 use Rattle.sj_socket.specs.declared.out_lane.SocketOut.{SocketOut}
 
--- what holds of each holds of the one at a place
+-- what holds of each holds of the one at an index
 all_get : {X : Type 0} (P : X → Type 0) (xs : List X) (k : ℕ) (x : X) → AllByRecursion P xs → slice_get xs k ≡ Some x → P x
 all_get P [] k x all at = absurd (cc at)
 all_get P (y ∷ ys) zero x all at = let same : y ≡ x = cc at in rw (← same) all.0

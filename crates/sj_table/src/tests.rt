@@ -11,7 +11,7 @@ use sj_lang::{Arm, Arms, Item, Kind, Proto, ProtocolDef, Way, same};
 use std::alloc::Global;
 use std::test::Fail;
 
-// Protocols are named by their place in the list.
+// Protocols are named by their number in the list.
 const W: u16 = 0;
 
 const V: u16 = 1;
