@@ -27,7 +27,7 @@ pub(crate) fn put_line(text: &mut Vec<u8>, line: &str) -> Result<(), Fail> {
     Ok(())
 }
 
-// The lines with another one at that place; lines count from 1.
+// The lines with another one at that number; lines count from 1.
 pub(crate) fn edited(alloc: Global, lines: &[&str], at: usize, new: &str) -> Result<Vec<u8>, Fail> {
     let mut text = Vec::new(alloc);
     for (n, line) in lines.iter().enumerate() {

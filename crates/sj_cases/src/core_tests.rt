@@ -9,7 +9,7 @@ use std::alloc::Global;
 use std::process::Abort;
 use std::test::Fail;
 
-// A change of a history, the place of it, and what comes of the replay: the number of the line that
+// A change of a history, the line of it, and what comes of the replay: the number of the line that
 // is refused, and the line that is due.
 type Row<'a> = (Change, usize, &'a str);
 

@@ -6,7 +6,7 @@ use sj_lane::RingLinks;
 use sj_work::NoGate;
 use std::test::Fail;
 
-// A file, a place in it, the line that stands there, and the answer of the checker.
+// A file, the number of a line in it, the line that stands there, and the answer of the checker.
 const FAULTS: [(&[&str], usize, &str, &str); 15] = [
     (&FIRST, 5, "connect a x r to b y q;", "check C1 at 5\n"),
     (&FIRST, 5, "connect e x p to b y q;", "check C2 at 5\n"),

@@ -76,7 +76,7 @@ fn a_file_of_nothing_is_replayed(rt: HostRuntime) -> Result<(), Fail> {
 // A file, an edit of it, what stands behind it, and the status and the answer.
 type Fault<'a> = (usize, &'a str, &'a [u8], u8, &'a str);
 
-// The faults of the first file with another line at a place, which come before those of a log.
+// The faults of the first file with another line at a number, which come before those of a log.
 const FAULTS: [Fault; 6] = [
     (
         3,

@@ -11,7 +11,7 @@ use std::process::Abort;
 use std::test::Fail;
 use std::thread::Threads;
 
-// The lines of a file, and another one at a place, which count from 1.
+// The lines of a file, and another one at a number, where lines count from 1.
 const FILES: [(&[&str], usize, &str); 17] = [
     (&[], 0, ""),
     (&FIRST, 0, ""),

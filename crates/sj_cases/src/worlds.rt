@@ -80,7 +80,7 @@ fn step(world: &mut World, word: &[u8]) -> Result<(), Fail> {
     Ok(())
 }
 
-// The lines with that change at that place; places count from 1.
+// The lines with that change at that number; lines count from 1.
 pub(crate) fn changed(
     alloc: Global,
     lines: &[Line],

@@ -40,7 +40,7 @@ abbrev pub todo_from : List Code → List Frame → List Thing → List Thing
 todo_from codes [] rest = rest
 todo_from codes (f ∷ fs) rest = todo_from codes fs (staged f.stage (code_in codes (Some f.at)) rest)
 
--- what a party still has to do, where its place is these frames over these nodes
+-- what a party still has to do, where its position is these frames over these nodes
 abbrev pub todo_in : List Node → List Frame → List Thing
 todo_in nodes frames = todo_from (codes_of nodes) frames []
 

@@ -14,7 +14,7 @@ use sj_lang::{Expr, Names, Op};
 use sj_proto::put_word;
 use sj_text::{put, put_int};
 
-/// What of an expression may stand in a place without parentheses.
+/// What of an expression may stand in a position without parentheses.
 #[derive(Clone, Copy, Debug, PartialEq, Eq)]
 pub enum Wanted {
     Whole,

@@ -84,7 +84,7 @@ fn noted(alloc: Global, bytes: &[u8]) -> Option<(u64, Note)> {
     }
 }
 
-// The bytes with another one at that place.
+// The bytes with another one at that position.
 fn changed(alloc: Global, bytes: &[u8], at: usize, to: u8) -> Result<Vec<u8>, AllocError> {
     let mut changed = Vec::from_slice(alloc, bytes)?;
     if let Some(byte) = changed.get_mut(at) {

@@ -16,7 +16,7 @@ use Rattle.sj_semantics.specs.World.{session_message}
 
 module _ {P Q : Type 0} (plain plain' : PlainAt P Q) (seats seats' : EndId → Seat P) (linked : IsLinked plain seats)
     (c : EndId) (below : c.side < 2) (m : Msg) (shrinks : waits_of plain c ≡ m ∷ waits_of plain' c) (same : (e : EndId) → e.side < 2 → is_same_end e c ≡ false → waits_of plain' e ≡ waits_of plain e) where
-  -- one place further
+  -- one position further
   abbrev shift : Bool → ℕ → ℕ
   shift k n = if k then suc n else n
 
