@@ -1,18 +1,15 @@
 -- The digits of a number are a token of the grammar, and the generated text stands for its file.
-use Rattle.std.proofs.Common.{◌≡◌, ℕ, zero, suc, ◌+◌, ◌%◌, ◌^◌, ◌<◌, true, false, List, [], ◌∷◌, length, get_or, refl, ap, ◌∙◌, arith}
-use Rattle.std.specs.Prelude.{decimal, ◌&&◌, nat_lt}
-use Rattle.std.specs.Fmt.{digits}
-use Rattle.std.specs.List.{list_all}
+use Rattle.std.proofs.Common.{◌≡◌, ℕ, ◌^◌, ◌<◌, true, List, length, refl, arith}
+use Rattle.std.specs.Prelude.{decimal}
 use Rattle.std.specs.Str.Parse.{digits_value}
-use Rattle.std.proofs.lemmas.Bool.{ne_eqb, lt-ltb, le-leb}
-use Rattle.std.proofs.lemmas.Bool.Decides.{nat_tests}
-use Rattle.std.proofs.lemmas.Fmt.{decimal_is_IsNumeral, decimal_by_steps, decimal_nonempty, first_decimal}
-use Rattle.std.proofs.lemmas.List.Folds.{list_all-append}
+use Rattle.std.proofs.lemmas.Bool.{lt-ltb, le-leb}
+use Rattle.std.proofs.lemmas.Fmt.{decimal_is_IsNumeral, decimal_nonempty}
 use Rattle.sj_lang.specs.FileAt.{FileAt}
 use Rattle.sj_grammar.specs.Bytes.{is_digit}
 use Rattle.sj_grammar.specs.Files.{IsFile}
-use Rattle.sj_grammar.specs.Lexis.{most, has_leading_zero}
+use Rattle.sj_grammar.specs.Lexis.{most}
 use Rattle.sj_grammar.specs.Literals.{is_number}
+use Rattle.sj_grammar.proofs.DecimalLemmas.{canonical, printed_digits}
 use Rattle.sj_expr.proofs.NumberLemmas.{digits_are}
 use Rattle.sj_expr.proofs.TokenLemmas.{number_no_name, number_no_text}
 use Rattle.sj_party.proofs.OneFile.{one_file}
@@ -27,30 +24,11 @@ use Rattle.sj_generator_laws.proofs.TextTokens.{text_is_tokens}
 reads : (s : List ℕ) → is_number s ≡ true → AreRead s
 reads s h = record { next = λ rest free. number_next s rest h free; line = λ l. no_newline is_digit refl l s (digits_are s h) }
 
-digit : (n : ℕ) → n < 10 → is_digit (48 + n) ≡ true
-digit n lt = grind (arith, nat_tests)
-
-all_digits : (n : ℕ) → n < 2 ^ 64 → list_all is_digit (decimal n) ≡ true
-all_digits = decimal_by_steps (λ n ds. list_all is_digit ds ≡ true) (λ n lt. rw (digit n lt) refl)
-    (λ n ds le h. list_all-append is_digit ds ((48 + n % 10) ∷ []) ∙ rw (h, digit (n % 10) (omega arith)) refl)
-
-zero_leads : has_leading_zero (decimal 0) ≡ false
-unfolding digits
-zero_leads = refl
-
-no_zero_leads : (ds : List ℕ) → 48 < get_or ds 0 0 → has_leading_zero ds ≡ false
-no_zero_leads [] h = refl
-no_zero_leads (b ∷ ds) h = ap (λ t. t && nat_lt 1 (length (b ∷ ds))) (ne_eqb b 48 (λ e. absurd (omega (arith, e, h))))
-
-no_leading_zero : (n : ℕ) → n < 2 ^ 64 → has_leading_zero (decimal n) ≡ false
-no_leading_zero zero lt = zero_leads
-no_leading_zero (suc n) lt = no_zero_leads (decimal (suc n)) (first_decimal (suc n) (omega arith) lt)
-
 number : (n : ℕ) → n < most → is_number (decimal n) ≡ true
 number n lt =
     let below : n < 2 ^ 64 = omega (arith, lt) in
     let value : digits_value 10 (decimal n) ≡ n = (decimal_is_IsNumeral n below).1 in
-    rw (lt-ltb 0 (length (decimal n)) (decimal_nonempty n below), all_digits n below, no_leading_zero n below, le-leb (digits_value 10 (decimal n)) most (omega (arith, value, lt))) refl
+    rw (lt-ltb 0 (length (decimal n)) (decimal_nonempty n below), printed_digits n below, canonical n below, le-leb (digits_value 10 (decimal n)) most (omega (arith, value, lt))) refl
 
 pub text_stands : (n : ℕ) → n < most → IsFile (generated n) (generated_file n)
 text_stands n lt =

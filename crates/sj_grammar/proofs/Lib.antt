@@ -1,5 +1,6 @@
 pub mod CanonicalText
 pub mod Completion
+pub mod DecimalLemmas
 pub mod Embedding
 pub mod Framing
 pub mod Inside

@@ -15,7 +15,8 @@ use Rattle.sj_print.specs.LogLine.{resend_word}
 use Rattle.sj_log.specs.Fields.{both, made, number_read, count_read, clock_read, int_read, end_read, resend_read}
 use Rattle.sj_log.specs.Names.{label_read, party_read, text_read}
 use Rattle.sj_log.specs.Legible.{IsCount, IsInt, IsResend, HasParty, HasWord, HasText}
-use Rattle.sj_log.proofs.NumberBack.{number_back, printed_digits}
+use Rattle.sj_grammar.proofs.DecimalLemmas.{printed_digits}
+use Rattle.sj_log.proofs.NumberBack.{number_back}
 
 -- digits have no dot and no minus
 apart : (c x : ℕ) → c < 48 → is_digit x ≡ true → (x == c) ≡ false

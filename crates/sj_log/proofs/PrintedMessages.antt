@@ -16,7 +16,7 @@ use Rattle.sj_log.specs.Fields.{both, made, words_in, bool_read}
 use Rattle.sj_log.specs.Names.{text_read}
 use Rattle.sj_log.specs.Notes.{message_read, sess_read}
 use Rattle.sj_log.specs.Legible.{IsCount, IsInt, IsResend, IsMessage}
-use Rattle.sj_log.proofs.NumberBack.{printed_digits}
+use Rattle.sj_grammar.proofs.DecimalLemmas.{printed_digits}
 use Rattle.sj_log.proofs.PrintedFields.{first_holds, second_holds, int_back, end_back, party_back, label_back, text_back}
 use Rattle.sj_log.proofs.PartedWords.{is_plain, parted, all_parted}
 
