@@ -114,7 +114,7 @@ nothing_at_done : (zs : List Session) (p : Place) (ms : List Msg) (q : Place) �
 nothing_at_done zs p [] q e l = refl
 nothing_at_done zs p (m ∷ ms) q e l = let none : None ≡ Some l.0 = sym (ap (λ t. after_place t Into m) e) ∙ l.2 in cc
 
-untaken_by : (zs : List Session) (a b : EndAt) → a.place ≡ done → Ahead zs a b ⊎ Ahead zs b a → map (λ x. x.msg) (coming a b) ≡ []
+pub untaken_by : (zs : List Session) (a b : EndAt) → a.place ≡ done → Ahead zs a b ⊎ Ahead zs b a → map (λ x. x.msg) (coming a b) ≡ []
 untaken_by zs a b e (inl t) = nothing_at_done zs a.place _ (dual_of b.place) e t.leads
 untaken_by zs a b e (inr t) = t.nothing_back
 

@@ -1,5 +1,5 @@
 -- Where all have ended, nothing is untaken.
-use Rattle.std.proofs.Common.{◌≡◌, ℕ, zero, suc, nat_lt, Bool, true, false, cond, List, [], ◌∷◌, slice_get, Some, None, option_map, is_some, refl, ap, sym, ◌∙◌, subst}
+use Rattle.std.proofs.Common.{◌≡◌, ℕ, zero, suc, nat_lt, Bool, true, false, cond, List, [], ◌∷◌, slice_get, Some, None, is_some, refl, ap, sym, ◌∙◌, subst}
 use Rattle.std.specs.List.{list_any, list_all}
 use Rattle.std.proofs.lemmas.Bool.{and_parts}
 use Rattle.sj_base.specs.declared.EndId.{EndId}
@@ -8,7 +8,7 @@ use Rattle.sj_semantics.specs.declared.Want.TheVariants as wants
 use Rattle.sj_semantics.specs.declared.State.{State}
 use Rattle.sj_semantics.specs.declared.State.TheVariants as states
 use Rattle.sj_semantics.specs.declared.Verdict.TheVariants as verdicts
-use Rattle.sj_lang.specs.FileAt.{ProtocolAt, named}
+use Rattle.sj_lang.specs.FileAt.{ProtocolAt}
 use Rattle.sj_semantics.specs.Program.{Thing, Program}
 use Rattle.sj_semantics.specs.State.{state_wanting, state_wanting_if, state_of_program, is_at_limit, has_ended, verdict_of}
 use Rattle.sj_semantics.specs.World.{World}
@@ -16,7 +16,7 @@ use Rattle.sj_semantics.specs.Ends.{Session, end_at, next_for, untaken_for}
 use Rattle.sj_accepted_laws.proofs.TypedLemmas.{FitsProgram, DoesTodo}
 use Rattle.sj_accepted_laws.proofs.StepLemmas.{fits_step}
 use Rattle.sj_accepted_laws.proofs.TouchedLemmas.{Sound}
-use Rattle.sj_accepted_laws.proofs.LocatedLemmas.{ends_go}
+use Rattle.sj_accepted_laws.proofs.LocatedLemmas.{ends_go, named_none as no_name}
 use Rattle.sj_accepted_laws.proofs.DoneLemmas.{IsComing, AllComing, all_taken}
 use Rattle.sj_accepted_laws.proofs.GoesLemmas.{Held, Is_at, held, on_its_way, AllLocated}
 
@@ -49,10 +49,6 @@ ended_by zs steps (wants.Take e a) h = absurd (not_ended (nat_lt steps 10000) (i
     not_ended true true h = cc
     not_ended true false h = cc
     not_ended false c h = cc
-
--- a program that has ended has no end
-no_name : (zs : List Session) (ends : List (ℕ × EndId)) (n : ℕ) (f : EndId) → option_map (λ e. (end_at zs e).place) (named ends n) ≡ None → named ends n ≡ Some f → ⊥
-no_name zs ends n f h k = let clash : Some (end_at zs f).place ≡ None = sym (ap (option_map (λ e. (end_at zs e).place)) k) ∙ h in cc
 
 ended_holds_none : (ps : List ProtocolAt) (zs : List Session) (g : Program) → FitsProgram ps zs g → has_ended (state_of_program zs g) ≡ true → (e : EndId) → Held e g.ends → ⊥
 ended_holds_none ps zs g f ended e h =

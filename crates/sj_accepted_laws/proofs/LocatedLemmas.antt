@@ -83,7 +83,7 @@ ends_go g want h = subst (EndsGoIf g.ends g.todo) h (todo_go g.vars g.ends g.tod
 
 -- ---- taking keeps names, and binds what was taken
 
-named_none : (zs : List Session) (ends : List (ℕ × EndId)) (y : ℕ) (f : EndId) → option_map (λ e. (end_at zs e).place) (named ends y) ≡ None → named ends y ≡ Some f → ⊥
+pub named_none : (zs : List Session) (ends : List (ℕ × EndId)) (y : ℕ) (f : EndId) → option_map (λ e. (end_at zs e).place) (named ends y) ≡ None → named ends y ≡ Some f → ⊥
 named_none zs ends y f h k = let clash : Some (end_at zs f).place ≡ None = sym (ap (option_map (λ e. (end_at zs e).place)) k) ∙ h in cc
 
 took_end_keeps : (zs : List Session) (ends : List (ℕ × EndId)) (x y p : ℕ) (rest : List Thing) (m : Msg) (n : ℕ) (f : EndId) → option_map (λ e. (end_at zs e).place) (named ends y) ≡ None → named ends n ≡ Some f
@@ -119,12 +119,12 @@ pub record Gained (ends : List (ℕ × EndId)) (f : EndId) : Type 0 where
   pub name : ℕ
   pub is_named : named ends name ≡ Some f
 
-no_kind : (k : Scalar) (s d j : ℕ) → is_of_kind k (msgs.Sess s d j) ≡ true → ⊥
+pub no_kind : (k : Scalar) (s d j : ℕ) → is_of_kind k (msgs.Sess s d j) ≡ true → ⊥
 no_kind kinds.Int s d j h = cc
 no_kind kinds.Boolean s d j h = cc
 no_kind kinds.Text s d j h = cc
 
-no_arm : (arms : Branches) (s d j : ℕ) → names_arm arms (msgs.Sess s d j) ≡ true → ⊥
+pub no_arm : (arms : Branches) (s d j : ℕ) → names_arm arms (msgs.Sess s d j) ≡ true → ⊥
 no_arm no_branch s d j h = cc
 no_arm (branch l code arms) s d j h = cc
 

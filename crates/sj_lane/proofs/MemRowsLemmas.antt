@@ -15,13 +15,13 @@ use Rattle.sj_lane.proofs.Backs.{square_in, square_out}
 use Rattle.sj_lane.proofs.Settles.{in_found, out_found}
 
 -- what holds of each holds of the one at an index
-all_get : {X : Type 0} (P : X → Type 0) (xs : List X) (k : ℕ) (x : X) → AllByRecursion P xs → slice_get xs k ≡ Some x → P x
+pub all_get : {X : Type 0} (P : X → Type 0) (xs : List X) (k : ℕ) (x : X) → AllByRecursion P xs → slice_get xs k ≡ Some x → P x
 all_get P [] k x all at = absurd (cc at)
 all_get P (y ∷ ys) zero x all at = let same : y ≡ x = cc at in rw (← same) all.0
 all_get P (y ∷ ys) (suc k) x all at = all_get P ys k x all.1 at
 
 -- one more at the end
-all_more : {X : Type 0} (P : X → Type 0) (xs : List X) (x : X) → AllByRecursion P xs → P x → AllByRecursion P (xs ++ x ∷ [])
+pub all_more : {X : Type 0} (P : X → Type 0) (xs : List X) (x : X) → AllByRecursion P xs → P x → AllByRecursion P (xs ++ x ∷ [])
 all_more P [] x all here = (here, tt)
 all_more P (y ∷ ys) x all here = (all.0, all_more P ys x all.1 here)
 

@@ -4,13 +4,11 @@ use Rattle.std.proofs.lemmas.Bool.{cases_eq}
 use Rattle.sj_base.specs.declared.EndId.{EndId}
 use Rattle.sj_base.specs.declared.Msg.{Msg}
 use Rattle.sj_base.specs.declared.Msg.TheVariants as msgs
-use Rattle.sj_lang.specs.declared.party.Scalar.{Scalar}
-use Rattle.sj_lang.specs.declared.party.Scalar.TheVariants as kinds
-use Rattle.sj_lang.specs.Code.{Branches, send, delegate, take_value, take_end, outbranch, inbranch, outwhile, inwhile, relay, if_else, let_be, close, no_branch, branch}
+use Rattle.sj_lang.specs.Code.{send, delegate, take_value, take_end, outbranch, inbranch, outwhile, inwhile, relay, if_else, let_be, close}
 use Rattle.sj_lang.specs.FileAt.{ProtocolAt, named}
 use Rattle.sj_acceptance.specs.Environment.{Env}
 use Rattle.sj_semantics.specs.Value.{Vars}
-use Rattle.sj_semantics.specs.Fitting.{is_of_kind, fits, fits_todo, names_arm}
+use Rattle.sj_semantics.specs.Fitting.{fits, fits_todo}
 use Rattle.sj_semantics.specs.Program.{Program, Thing, statement, turns, passing, ends_with}
 use Rattle.sj_semantics.specs.Steps.{ends_after_took, took_of}
 use Rattle.sj_semantics.specs.Ends.{Session, end_at}
@@ -23,6 +21,7 @@ use Rattle.sj_rules.specs.Party.{binds}
 use Rattle.sj_rules.specs.Binding.{BindsSame, BindsTaken, NamesNoEnd}
 use Rattle.sj_rules_laws.proofs.SideLemmas.{same_end_self, same_end_is}
 use Rattle.sj_rules_laws.proofs.NamesLemmas.{binds_in, has_name, name_binds}
+use Rattle.sj_accepted_laws.proofs.LocatedLemmas.{no_kind, no_arm}
 
 -- with one name more, its end is bound too
 pub binds_bound : (ends : List (ℕ × EndId)) (y : ℕ) (x : EndId) → named ends y ≡ None → (f : EndId)
@@ -78,15 +77,6 @@ pub record TookEnd (ends new : List (ℕ × EndId)) (s d : ℕ) : Type 0 where
   pub name : ℕ
   pub free : named ends name ≡ None
   pub binds_it : new ≡ ends_with ends name (side s d)
-
-pub no_kind : (k : Scalar) (s d j : ℕ) → is_of_kind k (msgs.Sess s d j) ≡ true → ⊥
-no_kind kinds.Int s d j h = cc
-no_kind kinds.Boolean s d j h = cc
-no_kind kinds.Text s d j h = cc
-
-pub no_arm : (arms : Branches) (s d j : ℕ) → names_arm arms (msgs.Sess s d j) ≡ true → ⊥
-no_arm no_branch s d j h = cc
-no_arm (branch l code arms) s d j h = cc
 
 free_name : (zs : List Session) (o : Option EndId) → option_map (λ e. (end_at zs e).place) o ≡ None → o ≡ None
 free_name zs None h = refl

@@ -1,7 +1,6 @@
 -- Links that are made one after the other.
 use Rattle.std.proofs.Common.{zero, suc, ◌≡◌, ◌⊎◌, ℕ, ◌+◌, ◌<◌, List, [], ◌∷◌, ◌++◌, Some, inl, inr, refl, sym, ap, ◌∙◌, subst, arith, length-append}
 use Rattle.std.specs.Prelude.{slice_get, Option, false}
-use Rattle.std.specs.List.{AllByRecursion}
 use Rattle.std.proofs.Math.ListN.{set, length-set}
 use Rattle.std.proofs.lemmas.Bool.{cases_eq}
 use Rattle.std.proofs.lemmas.Option.{slice_get_within}
@@ -16,17 +15,7 @@ use Rattle.sj_socket.specs.Outs.{IsNewOut}
 use Rattle.sj_socket.specs.Rows.{AreNewIns, AreNewOuts, Grid, HasSome}
 use Rattle.sj_socket.specs.declared.in_lane.SocketIn.{SocketIn}
 use Rattle.sj_socket.specs.declared.out_lane.SocketOut.{SocketOut}
-
--- what holds of each holds of the one at an index
-all_get : {X : Type 0} (P : X → Type 0) (xs : List X) (k : ℕ) (x : X) → AllByRecursion P xs → slice_get xs k ≡ Some x → P x
-all_get P [] k x all at = absurd (cc at)
-all_get P (y ∷ ys) zero x all at = let same : y ≡ x = cc at in rw (← same) all.0
-all_get P (y ∷ ys) (suc k) x all at = all_get P ys k x all.1 at
-
--- one more at the end
-all_more : {X : Type 0} (P : X → Type 0) (xs : List X) (x : X) → AllByRecursion P xs → P x → AllByRecursion P (xs ++ x ∷ [])
-all_more P [] x all here = (here, tt)
-all_more P (y ∷ ys) x all here = (all.0, all_more P ys x all.1 here)
+use Rattle.sj_lane.proofs.MemRowsLemmas.{all_get, all_more}
 
 -- what stands in a list with one more at its end
 found_more : {X : Type 0} (xs : List X) (y : X) (k : ℕ) (x : X) → slice_get (xs ++ y ∷ []) k ≡ Some x → (slice_get xs k ≡ Some x) ⊎ (y ≡ x)
