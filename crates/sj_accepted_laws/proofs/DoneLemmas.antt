@@ -18,6 +18,7 @@ use Rattle.sj_semantics_laws.proofs.AlteredLemmas.{one-le-sum_by}
 use Rattle.sj_accepted_laws.proofs.DepthLemmas.{depth_of, named_depth}
 use Rattle.sj_accepted_laws.proofs.LeadLemmas.{coming, Ahead}
 use Rattle.sj_accepted_laws.proofs.TouchedLemmas.{side, Sound, pair_of}
+use Rattle.sj_semantics_laws.proofs.FrontLemmas.{end_on_same as same_side_end}
 
 -- an end that is named by a message on its way to f
 pub record IsComing (zs : List Session) (e f : EndId) : Type 0 where
@@ -25,13 +26,6 @@ pub record IsComing (zs : List Session) (e f : EndId) : Type 0 where
   pub passed : Passed
   pub there : slice_get (coming (end_at zs f) (end_at zs (other_end f))) number ≡ Some passed
   pub names : names_end e passed.msg ≡ true
-
--- two names of one end
-same_side_end : (c d : ℕ) (z : Session) → is_same_side c d ≡ true → end_on c z ≡ end_on d z
-same_side_end zero zero z h = refl
-same_side_end zero (suc d) z h = cc
-same_side_end (suc c) zero z h = cc
-same_side_end (suc c) (suc d) z h = refl
 
 same_side_option : (c d : ℕ) (o : Option Session) → is_same_side c d ≡ true → unwrap_or (option_map (end_on c) o) nowhere ≡ unwrap_or (option_map (end_on d) o) nowhere
 same_side_option c d None h = refl
@@ -110,7 +104,7 @@ place_is_done (repeat way body rest) h = absurd (h (λ e. cc))
 pub none_open : (ps : List ProtocolAt) (w : World) → Sound ps w → AllComing w.sessions → (e : EndId) → (end_at w.sessions e).place ≡ done
 none_open ps w sound all e = place_is_done (end_at w.sessions e).place (none_open_by ps w sound all (sum_by session_depth w.sessions) e (omega arith))
 
-nothing_at_done : (zs : List Session) (p : Place) (ms : List Msg) (q : Place) → p ≡ done → LeadsTaker zs p ms q → ms ≡ []
+pub nothing_at_done : (zs : List Session) (p : Place) (ms : List Msg) (q : Place) → p ≡ done → LeadsTaker zs p ms q → ms ≡ []
 nothing_at_done zs p [] q e l = refl
 nothing_at_done zs p (m ∷ ms) q e l = let none : None ≡ Some l.0 = sym (ap (λ t. after_place t Into m) e) ∙ l.2 in cc
 

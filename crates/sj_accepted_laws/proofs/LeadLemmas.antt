@@ -12,6 +12,7 @@ use Rattle.sj_semantics.specs.Balanced.{FitsNext, LeadsTaker}
 use Rattle.sj_semantics.specs.Ends.{Session, EndAt}
 use Rattle.sj_semantics.specs.Uses.{sends, takes, delegates, end_after}
 use Rattle.sj_accepted_laws.proofs.DualPlaceLemmas.{after_place-dual, not_both_ways}
+use Rattle.sj_semantics_laws.proofs.ClaimLemmas.{length-push}
 
 -- what the giver sent and the taker hasn't taken
 abbrev pub coming : EndAt → EndAt → List Passed
@@ -51,10 +52,6 @@ pub drop_head : (k : ℕ) (xs : List Passed) (x : Passed) → slice_get xs k ≡
 drop_head k [] x h = cc
 drop_head zero (y ∷ xs) x h = let it : y ≡ x = cc in ap (λ t. t ∷ xs) it
 drop_head (suc k) (y ∷ xs) x h = drop_head k xs x h
-
-pub length-push : (xs : List ℕ) (p : ℕ) → length (xs ++ p ∷ []) ≡ suc (length xs)
-length-push [] p = refl
-length-push (x ∷ xs) p = ap suc (length-push xs p)
 
 pub length-push_passed : (xs : List Passed) (p : Passed) → length (xs ++ p ∷ []) ≡ suc (length xs)
 length-push_passed [] p = refl

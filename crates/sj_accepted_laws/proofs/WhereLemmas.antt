@@ -9,9 +9,11 @@ use Rattle.sj_semantics.specs.Uses.{Use, sends, takes}
 use Rattle.sj_semantics_laws.specs.Unshared.{names_end}
 use Rattle.sj_semantics_laws.proofs.EndLemmas.{touched, end_at-touched_other, Extends, end_at-after_uses_extends}
 use Rattle.sj_accepted_laws.proofs.DoneLemmas.{IsComing, same_end_at}
-use Rattle.sj_accepted_laws.proofs.LeadLemmas.{coming, drop_push, length-push}
+use Rattle.sj_accepted_laws.proofs.LeadLemmas.{coming, drop_push}
 use Rattle.sj_accepted_laws.proofs.TouchedLemmas.{touched_here}
 use Rattle.sj_accepted_laws.proofs.ClosedLemmas.{TakesNothing, takers_stay}
+use Rattle.sj_semantics_laws.proofs.ClaimLemmas.{length-push}
+use Rattle.sj_semantics_laws.proofs.OnItsWayLemmas.{push_there as push_get}
 
 drop_get : (k j n : ℕ) (xs : List Passed) → k + j ≡ n → slice_get (drop k xs) j ≡ slice_get xs n
 drop_get zero j n xs e = ap (slice_get xs) (let i : j ≡ n = omega (arith, e) in i)
@@ -51,10 +53,6 @@ twice_other e = and_from (e.sess == e.sess) (is_same_side e.side (other_side (ot
     sides : (d : ℕ) → is_same_side d (other_side (other_side d)) ≡ true
     sides zero = refl
     sides (suc d) = refl
-
-push_get : (xs : List Passed) (x : Passed) → slice_get (xs ++ x ∷ []) (length xs) ≡ Some x
-push_get [] x = refl
-push_get (y ∷ xs) x = push_get xs x
 
 -- an end that is sent is on its way to the taker
 pub sent_comes : (p : ℕ) (zs : List Session) (k y : EndId) (m : Msg) (z : Session) → slice_get zs k.sess ≡ Some z → length (end_at zs (other_end k)).takers ≤ length (end_at zs k).sent → names_end y m ≡ true → IsComing (touched p zs (k, sends m)) y (other_end k)

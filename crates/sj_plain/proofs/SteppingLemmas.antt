@@ -9,6 +9,7 @@ use Rattle.sj_semantics.specs.Ends.{Session}
 use Rattle.sj_semantics.specs.Program.{Program}
 use Rattle.sj_semantics.specs.State.{state_by, state_wanting, state_wanting_if, state_of_program}
 use Rattle.sj_semantics.specs.Wants.{want_of}
+use Rattle.sj_semantics_laws.proofs.StateLemmas.{when_below}
 
 -- a program that is stuck counts as ended
 pub state_by_want : (zs : List Session) (steps : ℕ) (o : Option Want) → state_wanting_if zs steps o ≡ state_wanting zs steps (unwrap_or o wants.Ended)
@@ -23,10 +24,6 @@ state_going zs steps (wants.Send e m) ne = refl
 state_going zs steps (wants.Delegate e y) ne = refl
 state_going zs steps (wants.Take e a) ne = refl
 state_going zs steps (wants.Close e) ne = refl
-
-when_below : (b : Bool) (s t : State) → b ≡ true → cond b s t ≡ s
-when_below true s t h = refl
-when_below false s t h = cc
 
 -- a party that hasn't ended and has steps left stands as its next step does
 pub stands_so : (zs : List Session) (g : Program) (want : Want) (s : State) → want ≡ unwrap_or (want_of g) wants.Ended → (want ≡ wants.Ended → ⊥) → g.steps < 10000 → s ≡ state_by zs want → s ≡ state_of_program zs g

@@ -1,9 +1,8 @@
 -- A ready party that takes.
-use Rattle.std.proofs.Common.{◌≡◌, ℕ, nat_lt, Bool, true, false, cond, List, Option, Some, None, option_map, is_some, unwrap_or, refl, ap, sym, ◌∙◌}
+use Rattle.std.proofs.Common.{◌≡◌, ℕ, nat_lt, true, cond, List, Option, Some, None, option_map, is_some, unwrap_or, refl, ap, sym, ◌∙◌}
 use Rattle.sj_base.specs.declared.EndId.{EndId}
 use Rattle.sj_semantics.specs.declared.Awaits.{Awaits}
 use Rattle.sj_semantics.specs.declared.Passed.{Passed}
-use Rattle.sj_semantics.specs.declared.State.{State}
 use Rattle.sj_semantics.specs.declared.State.TheVariants as states
 use Rattle.sj_semantics.specs.declared.Want.{Want}
 use Rattle.sj_semantics.specs.declared.Want.TheVariants as wants
@@ -16,10 +15,7 @@ use Rattle.sj_semantics.specs.Wants.{want_of}
 use Rattle.sj_semantics.specs.World.{change_by_taking}
 use Rattle.sj_semantics_laws.proofs.ChangeLemmas.{from_rests}
 use Rattle.sj_plain.specs.Stepping.{after_change, next_move}
-
-below_limit : (b : Bool) (s : State) → cond b s (states.AtLimit None) ≡ states.Ready → (b ≡ true) × (s ≡ states.Ready)
-below_limit true s h = (refl, h)
-below_limit false s h = cc
+use Rattle.sj_semantics_laws.proofs.StateLemmas.{below_if as below_limit}
 
 -- the steps that are left, what the party wants, and the message that is there
 pub record CanTake (zs : List Session) (g : Program) (e : EndId) (a : Awaits) : Type 0 where

@@ -14,11 +14,10 @@ use Rattle.sj_semantics.specs.World.{World, act_of, programs_from, session_of, s
 use Rattle.sj_semantics.specs.Run.{IsRun, after_acts}
 use Rattle.sj_semantics.specs.Lines.{line_of}
 use Rattle.sj_semantics.specs.Transcript.{session_line, sent_lines, session_lines, party_lines, verdict_word, transcript_of}
-use Rattle.sj_semantics_laws.proofs.AlteredLemmas.{length-altered}
 use Rattle.sj_semantics_laws.proofs.ActsLemmas.{length-run}
-use Rattle.sj_semantics_laws.proofs.CommuteLemmas.{doing_of}
 use Rattle.sj_semantics_laws.proofs.RunLemmas.{between}
 use Rattle.sj_print.specs.Parts.{session_part, party_part}
+use Rattle.sj_semantics_laws.proofs.RoundLemmas.{length-act}
 
 -- ---- as many sessions and parties as the file has
 
@@ -29,9 +28,6 @@ length-programs_from file p (q ∷ qs) = ap suc (length-programs_from file (p + 
 pub length-map : {X Y : Type 0} (f : X → Y) (xs : List X) → length (map f xs) ≡ length xs
 length-map f [] = refl
 length-map f (x ∷ xs) = ap suc (length-map f xs)
-
-length-act : (w v : World) (p : ℕ) → act_of w p ≡ Some v → length v.parties ≡ length w.parties
-length-act w v p h = let a = doing_of w p v h in ap (λ (t : World). length t.parties) (sym a.result) ∙ length-altered w.parties p (λ g. a.change.program)
 
 parties-run : (w v : World) (ps : List ℕ) → after_acts w ps ≡ Some v → length v.parties ≡ length w.parties
 parties-run w v [] h = let it : w ≡ v = cc in ap (λ (t : World). length t.parties) (sym it)

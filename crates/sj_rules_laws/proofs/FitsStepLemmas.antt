@@ -1,5 +1,5 @@
 -- The next step of each party of a run of an accepted file fits what the rules see of the plain world.
-use Rattle.std.proofs.Common.{◌≡◌, ◌↔◌, ℕ, ◌<◌, true, false, List, [], ◌∷◌, map, length, drop, slice_get, Option, Some, None, option_map, unwrap_or, refl, ap, sym, ◌∙◌, subst, inl, inr, ◌⊎◌}
+use Rattle.std.proofs.Common.{◌≡◌, ◌↔◌, ℕ, ◌<◌, true, false, List, map, length, drop, slice_get, Option, Some, None, option_map, unwrap_or, refl, ap, sym, ◌∙◌, subst}
 use Rattle.std.proofs.lemmas.Bool.{false_from_ne_true, both_ways}
 use Rattle.sj_base.specs.declared.EndId.{EndId}
 use Rattle.sj_base.specs.declared.Msg.{Msg}
@@ -45,21 +45,13 @@ use Rattle.sj_rules_laws.proofs.WantLemmas.{takes_named, awaits_session}
 use Rattle.sj_rules_laws.proofs.ActLemmas.{waiting_is_next}
 use Rattle.sj_lang.specs.declared.proto.Way.{Way}
 use Rattle.sj_lang.specs.ItemCount.{is_done}
+use Rattle.sj_accepted_laws.proofs.DoneLemmas.{untaken_by as nothing_waits, nothing_at_done}
 
 -- ---- places
 
 pub next_at_side : (zs : List Session) (e : EndId) (way : Way) (m : Msg) (next : Place) → e.side < 2
     → after_place (end_at zs e).place way m ≡ Some next → after_place (plain_side zs e).place way m ≡ Some next
 next_at_side zs e way m next lt h = ap (λ (x : PlainSide Place). after_place x.place way m) (side_below zs e lt) ∙ h
-
-nothing_at_done : (zs : List Session) (p : Place) (ms : List Msg) (q : Place) → p ≡ done → LeadsTaker zs p ms q → ms ≡ []
-nothing_at_done zs p [] q e l = refl
-nothing_at_done zs p (m ∷ ms) q e l = let none : None ≡ Some l.0 = sym (ap (λ t. after_place t Into m) e) ∙ l.2 in cc
-
--- nothing waits for an end whose place is empty
-nothing_waits : (zs : List Session) (a b : EndAt) → a.place ≡ done → Ahead zs a b ⊎ Ahead zs b a → map (λ x. x.msg) (coming a b) ≡ []
-nothing_waits zs a b e (inl t) = nothing_at_done zs a.place _ (dual_of b.place) e t.leads
-nothing_waits zs a b e (inr t) = t.nothing_back
 
 -- what waits, by the sessions
 pub untaken_is : (w : World) (e : EndId) → e.side < 2

@@ -15,7 +15,7 @@ use Rattle.sj_semantics_laws.proofs.AlteredLemmas.{slice_get-altered, slice_get-
 use Rattle.sj_semantics_laws.proofs.BoundLemmas.{is_end-self}
 use Rattle.sj_semantics_laws.proofs.EndLemmas.{touched, end_at-touched_other}
 use Rattle.sj_semantics_laws.proofs.ActsLemmas.{end_at-touched_same}
-use Rattle.sj_accepted_laws.proofs.LeadLemmas.{map_push, moved_to, length-push}
+use Rattle.sj_accepted_laws.proofs.LeadLemmas.{map_push, moved_to}
 use Rattle.sj_accepted_laws.proofs.TouchedLemmas.{exists_at, not_done}
 use Rattle.sj_rules.specs.Record.{is_same_end}
 use Rattle.sj_rules.specs.PlainSide.{PlainSide}
@@ -24,6 +24,7 @@ use Rattle.sj_rules.specs.Plain.{side_at, plain_side, plain_at}
 use Rattle.sj_rules.specs.Acts.{plain_sent, plain_taken, plain_parked}
 use Rattle.sj_rules_laws.proofs.SideLemmas.{same_end_is, apart_ends, side_below, side_above}
 use Rattle.sj_lang.specs.declared.proto.Way.{Way}
+use Rattle.sj_semantics_laws.proofs.ClaimLemmas.{length-push}
 
 -- the program of the party that acted
 pub programs_changed : (gs : List Program) (p : ℕ) (g c : Program) → slice_get gs p ≡ Some g → (q : ℕ)

@@ -66,7 +66,7 @@ sum_by-drop_suc h k [] x e = cc
 sum_by-drop_suc h zero (y ∷ xs) x e = let it : y ≡ x = cc in omega (arith, sum_by-cons h y xs, ap h it)
 sum_by-drop_suc h (suc k) (y ∷ xs) x e = sum_by-drop_suc h k xs x e
 
-length-push : (xs : List ℕ) (p : ℕ) → length (xs ++ p ∷ []) ≡ suc (length xs)
+pub length-push : (xs : List ℕ) (p : ℕ) → length (xs ++ p ∷ []) ≡ suc (length xs)
 length-push [] p = refl
 length-push (x ∷ xs) p = ap suc (length-push xs p)
 

@@ -37,7 +37,7 @@ rounds_settle : (n : ℕ) (w : World) → left_in w ≤ n → IsSettled (rounds 
 rounds_settle zero w le = subst IsSettled (sym (rounds_zero w)) (nothing_left w le)
 rounds_settle (suc n) w le = after_round n w (rounds_settle n (turn_of_each (length w.parties) 0 w)) le (round_of (length w.parties) 0 w)
 
-left_at_start : (file : FileAt) (p : ℕ) (qs : List PartyAt) → sum_by left_of (programs_from file p qs) ≡ 10000 * length qs
+pub left_at_start : (file : FileAt) (p : ℕ) (qs : List PartyAt) → sum_by left_of (programs_from file p qs) ≡ 10000 * length qs
 left_at_start file p [] = refl
 left_at_start file p (q ∷ qs) = omega (arith, sum_by-cons left_of (program_of file p q) (programs_from file (p + 1) qs), left_at_start file (p + 1) qs)
 

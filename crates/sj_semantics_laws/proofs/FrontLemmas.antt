@@ -51,7 +51,7 @@ front_le (t ∷ ts) (x ∷ xs) f = omega (arith, front_le ts xs f.1)
 
 -- ---- what an act takes on an end: nothing, or the next message
 
-end_on_same : (c d : ℕ) (z : Session) → is_same_side c d ≡ true → end_on c z ≡ end_on d z
+pub end_on_same : (c d : ℕ) (z : Session) → is_same_side c d ≡ true → end_on c z ≡ end_on d z
 end_on_same zero zero z e = refl
 end_on_same zero (suc d) z e = cc
 end_on_same (suc c) zero z e = cc

@@ -62,7 +62,7 @@ hands_on_sends_none p zs y e lt =
       | inr other ↦ ap (λ (t : EndAt). t.sent) (end_at-touched_other p zs (y, delegates) e other)
     ]
 
-push_there : (xs : List Passed) (x : Passed) → slice_get (xs ++ x ∷ []) (length xs) ≡ Some x
+pub push_there : (xs : List Passed) (x : Passed) → slice_get (xs ++ x ∷ []) (length xs) ≡ Some x
 push_there [] x = refl
 push_there (y ∷ xs) x = push_there xs x
 

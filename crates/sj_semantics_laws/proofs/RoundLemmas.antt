@@ -53,7 +53,7 @@ left_in-changed w v p a =
 pub left_in-act : (w v : World) (p : ℕ) → act_of w p ≡ Some v → left_in v + 1 ≡ left_in w
 left_in-act w v p h = let a = doing_of w p v h in subst (λ (t : World). left_in t + 1 ≡ left_in w) a.result (left_in-changed w v p a)
 
-length-act : (w v : World) (p : ℕ) → act_of w p ≡ Some v → length v.parties ≡ length w.parties
+pub length-act : (w v : World) (p : ℕ) → act_of w p ≡ Some v → length v.parties ≡ length w.parties
 length-act w v p h = let a = doing_of w p v h in subst (λ (t : World). length t.parties ≡ length w.parties) a.result (length-altered w.parties p (λ g. a.change.program))
 
 -- ---- a party's turn

@@ -16,7 +16,7 @@ use Rattle.sj_semantics.specs.State.{state_wanting, state_wanting_if, state_if, 
 use Rattle.sj_semantics_laws.proofs.ChangeLemmas.{rests_on, from_rests}
 use Rattle.sj_semantics_laws.proofs.CommuteLemmas.{doing_of, act_from}
 
-when_below : (b : Bool) (s t : State) → b ≡ true → cond b s t ≡ s
+pub when_below : (b : Bool) (s t : State) → b ≡ true → cond b s t ≡ s
 when_below true s t h = refl
 when_below false s t h = cc
 
@@ -59,7 +59,7 @@ taking_makes : (zs : List Session) (p : ℕ) (g : Program) (want : Want) (e : En
 taking_makes zs p g want e None h ready = cc
 taking_makes zs p g want e (Some x) h ready = record { change = change_by_taking g e x; by_it = h }
 
-below_if : (b : Bool) (s : State) → cond b s (states.AtLimit None) ≡ states.Ready → (b ≡ true) × (s ≡ states.Ready)
+pub below_if : (b : Bool) (s : State) → cond b s (states.AtLimit None) ≡ states.Ready → (b ≡ true) × (s ≡ states.Ready)
 below_if true s h = (refl, h)
 below_if false s h = cc
 
