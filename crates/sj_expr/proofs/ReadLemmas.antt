@@ -26,7 +26,7 @@ use Rattle.sj_expr.specs.Read.{Agrees, Reads, ReadsLevel, TextSpelled, Grows, St
 use Rattle.sj_expr.specs.Signs.{op_piece}
 use Rattle.sj_expr.proofs.TokenLemmas.{text_quoted}
 
-texts_grow : (ps : Pieces) (a b : At) → Begins a ps b → Extends a.texts b.texts
+pub texts_grow : (ps : Pieces) (a b : At) → Begins a ps b → Extends a.texts b.texts
 texts_grow [] a b h = subst (λ (x : At). Extends a.texts x.texts) h (Extends-refl a.texts)
 texts_grow (p ∷ ps) a b h =
     let first : Extends a.texts h.0.texts = subst (λ (ts : List (List ℕ)). Extends a.texts ts) (sym (ap (λ (x : At). x.texts) h.1.there)) (grows_one a.texts (inner p) (is_text p)) in
@@ -93,7 +93,7 @@ text_read r q ws ts us s n name text short table place t =
     let h = literal_by names.text us (inner s) n g.texts place parts.1 short in
     (h.1, ap (λ x. x ∷ []) (parts.0 ∙ ap quoted (sym h.0))))
 
-same_piece : (a b m : At) (s u : List ℕ) → Takes a s m → Takes a u b → s ≡ u
+pub same_piece : (a b m : At) (s u : List ℕ) → Takes a s m → Takes a u b → s ≡ u
 same_piece a b m s u t v = cc (sym t.token ∙ v.token)
 
 -- a name, from what the reader of names says

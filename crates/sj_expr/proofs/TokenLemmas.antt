@@ -13,7 +13,7 @@ use Rattle.sj_grammar.specs.Literals.{is_number, is_largest, is_text, quoted, in
 use Rattle.sj_expr.proofs.TestLemmas.{bytes_same, bytes_are, and_first, and_second, and_both, and_none}
 
 -- a digit is no letter
-digit_no_letter : (b : ℕ) → is_digit b ≡ true → is_letter b ≡ false
+pub digit_no_letter : (b : ℕ) → is_digit b ≡ true → is_letter b ≡ false
 digit_no_letter b t = grind (arith, nat_tests)
 
 letter_no_digit : (b : ℕ) → is_letter b ≡ true → is_digit b ≡ false

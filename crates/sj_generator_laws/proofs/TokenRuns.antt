@@ -1,8 +1,7 @@
 -- Texts as tokens with the blanks before each, and the lines on which they stand.
-use Rattle.std.proofs.Common.{◌≡◌, ℕ, ◌+◌, ◌-◌, Bool, true, false, List, [], ◌∷◌, ◌++◌, length, take, refl, ap, sym, subst, ◌∙◌, arith, append_assoc, append-nil, length-append}
+use Rattle.std.proofs.Common.{◌≡◌, ℕ, ◌+◌, Bool, true, false, List, [], ◌∷◌, ◌++◌, refl, ap, sym, subst, ◌∙◌, append_assoc, append-nil}
 use Rattle.std.specs.Prelude.{if◌then◌else◌, ◌==◌}
 use Rattle.std.specs.List.{fold}
-use Rattle.std.proofs.Math.Seq.{take-append_seam}
 use Rattle.std.proofs.lemmas.List.Sums.{fold-append}
 use Rattle.sj_grammar.specs.declared.tokens.What.{What}
 use Rattle.sj_grammar.specs.Lexis.{token, next_of}
@@ -11,7 +10,7 @@ use Rattle.sj_grammar.specs.Names.{is_name}
 use Rattle.sj_grammar.specs.Positions.{Piece, At, at, plain, first_on, spellings, TakesPiece, BeginsOnLines}
 use Rattle.sj_grammar.specs.Reading.{passed, line_at}
 use Rattle.sj_grammar.specs.Tables.{with_entry}
-use Rattle.sj_grammar.proofs.Lexing.{read}
+use Rattle.sj_grammar.proofs.Lexing.{read, passed_is}
 use Rattle.sj_grammar.proofs.LexedTables.{words_behind, texts_behind}
 
 -- a token with the blanks before it; a party, a connection, a protocol or a statement may begin with it
@@ -43,11 +42,6 @@ abbrev pub AreTaken : List Tok → List ℕ → Type 0
 AreTaken [] rest = Unit {0}
 AreTaken (k ∷ ks) rest =
     (next_of (k.gap ++ (k.spelled ++ (text_of ks ++ rest))) ≡ token k.what k.spelled (text_of ks ++ rest)) × ((l : ℕ) → line_behind l k.spelled ≡ l) × AreTaken ks rest
-
-passed_is : (before t rest : List ℕ) → passed (read before (t ++ rest)) rest ≡ before ++ t
-passed_is before t rest =
-    let long : length (t ++ rest) - length rest ≡ length t = omega (arith, length-append t rest) in
-    ap (λ xs. before ++ xs) (ap (λ n. take n (t ++ rest)) long ∙ take-append_seam t rest)
 
 line_append : (before xs : List ℕ) → line_at (before ++ xs) ≡ line_behind (line_at before) xs
 line_append before xs = fold-append (λ n b. if b == 10 then n + 1 else n) 1 before xs

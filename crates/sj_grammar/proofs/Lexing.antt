@@ -40,7 +40,7 @@ NoWordByte (b ∷ bs) = is_word_byte b ≡ false
 abbrev pub NoEqual : List ℕ → Type 0
 NoEqual rest = begins_with 61 rest ≡ false
 
-passed_is : (before t rest : List ℕ) → passed (read before (t ++ rest)) rest ≡ before ++ t
+pub passed_is : (before t rest : List ℕ) → passed (read before (t ++ rest)) rest ≡ before ++ t
 passed_is before t rest =
     let long : length (t ++ rest) - length rest ≡ length t = omega (arith, length-append t rest) in
     ap (λ xs. before ++ xs) (ap (λ n. take n (t ++ rest)) long ∙ take-append_seam t rest)
@@ -67,7 +67,7 @@ pub pieces_less : (Behind Then : List ℕ → Type 0) (t : List ℕ) (ps : Piece
 pieces_less Behind Then t ps less h = λ before rest end. h before rest (less rest end)
 
 -- a byte of a kind is none that isn't
-apart : (p : ℕ → Bool) (b c : ℕ) → p b ≡ true → p c ≡ false → nat_eq b c ≡ false
+pub apart : (p : ℕ → Bool) (b c : ℕ) → p b ≡ true → p c ≡ false → nat_eq b c ≡ false
 apart p b c t f = ne_eqb b c (λ e. let same : p b ≡ p c = ap p e in cc)
 
 run_of : (w rest : List ℕ) → list_all is_word_byte w ≡ true → NoWordByte rest → prefix_len is_word_byte (w ++ rest) ≡ length w

@@ -1,16 +1,15 @@
 -- What a `recv` awaits: as tokens, and where a text is stuck in it.
-use Rattle.std.proofs.Common.{◌≡◌, ℕ, Bool, true, false, List, [], ◌∷◌, refl, subst}
+use Rattle.std.proofs.Common.{◌≡◌, ℕ, Bool, true, false, List, [], ◌∷◌, refl}
 use Rattle.std.specs.Prelude.{codes}
 use Rattle.std.specs.Str.{bytes_eq}
 use Rattle.sj_lang.specs.declared.file.Names.{Names}
 use Rattle.sj_lang.specs.declared.party.Scalar.{Scalar}
 use Rattle.sj_lang.specs.declared.party.Scalar.TheVariants as scalars
-use Rattle.sj_grammar.specs.declared.tokens.What.{What}
 use Rattle.sj_grammar.specs.declared.tokens.Fault.{Fault}
 use Rattle.sj_grammar.specs.declared.refusal.ParseRefusal.{ParseRefusal}
 use Rattle.sj_grammar.specs.declared.refusal.ParseRefusal.TheVariants as refusals
 use Rattle.sj_lang.specs.Limits.{limits}
-use Rattle.sj_grammar.specs.Lexis.{Ahead, token, next_of}
+use Rattle.sj_grammar.specs.Lexis.{next_of}
 use Rattle.sj_grammar.specs.Reading.{Reading}
 use Rattle.sj_grammar.specs.Names.{is_name, is_reserved}
 use Rattle.sj_grammar.specs.Positions.{At, Takes}
@@ -20,7 +19,7 @@ use Rattle.sj_grammar.specs.Statements.{scalar_piece}
 use Rattle.sj_grammar.specs.Asked.{TakesText, Refuses, but, is_next}
 use Rattle.sj_grammar.proofs.Stuckness.{stuck_cons, stuck_like, refuses_stuck}
 use Rattle.sj_proto.specs.Parsed.{standing, Stops}
-use Rattle.sj_proto.proofs.Exits.{plain, stops_map, no_name_int, no_name_boolean, no_name_String}
+use Rattle.sj_proto.proofs.Exits.{plain, stops_map, no_name_int, no_name_boolean, no_name_String, next_tests}
 use Rattle.sj_proto.proofs.NamedPieceLemmas.{fixed_rule}
 use Rattle.sj_party.specs.declared.parts.Awaited.{Awaited}
 use Rattle.sj_party.specs.declared.parts.Awaited.TheVariants as awaits
@@ -36,9 +35,6 @@ pub took_scalar : (k : Scalar) (r q : Reading) (names : Names) → TakesText r (
 took_scalar scalars.Int r q names t = plain r q names (codes "int") no_name_int refl t
 took_scalar scalars.Boolean r q names t = plain r q names (codes "boolean") no_name_boolean refl t
 took_scalar scalars.Text r q names t = plain r q names (codes "String") no_name_String refl t
-
-next_tests : (x : Ahead) (p : List ℕ) (what : What) (s rest : List ℕ) → is_next p x ≡ false → x ≡ token what s rest → bytes_eq s p ≡ false
-next_tests x p what s rest h e = subst (λ (y : Ahead). is_next p y ≡ false) e h
 
 -- what is no kind of value is to be `session`
 awaited_same : (n : ℕ) (ds : List Due) (s : List ℕ) → bytes_eq s (codes "int") ≡ false → bytes_eq s (codes "boolean") ≡ false → bytes_eq s (codes "String") ≡ false

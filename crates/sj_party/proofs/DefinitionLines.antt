@@ -1,7 +1,6 @@
 -- Canonical lines of protocols are protocols again, equal but for lines.
-use Rattle.std.proofs.Common.{◌≡◌, ℕ, suc, ◌-◌, List, [], ◌∷◌, ◌++◌, All, length, take, refl, ap, sym, subst, ◌∙◌, arith, append_assoc, length-append}
+use Rattle.std.proofs.Common.{◌≡◌, ℕ, suc, List, [], ◌∷◌, ◌++◌, All, refl, ap, sym, subst, ◌∙◌, arith, append_assoc}
 use Rattle.std.specs.Prelude.{codes, map}
-use Rattle.std.proofs.Math.Seq.{take-append_seam}
 use Rattle.std.proofs.lemmas.List.Elements.{All-cons}
 use Rattle.sj_lang.specs.Place.{Place}
 use Rattle.sj_lang.specs.FileAt.{ProtocolAt}
@@ -14,7 +13,7 @@ use Rattle.sj_grammar.specs.Protocols.{dotted, body_pieces, IsBody}
 use Rattle.sj_grammar.specs.Canonical.{body_text}
 use Rattle.sj_grammar.specs.Statements.{braced}
 use Rattle.sj_grammar.specs.Files.{protocol_pieces, protocols_pieces, IsProtocolDef}
-use Rattle.sj_grammar.proofs.Lexing.{Lexes, read, Any, NoWordByte}
+use Rattle.sj_grammar.proofs.Lexing.{Lexes, read, Any, NoWordByte, passed_is}
 use Rattle.sj_grammar.proofs.CanonicalText.{body_has}
 use Rattle.sj_grammar.proofs.Splits.{next_split}
 use Rattle.sj_party.specs.CanonicalFile.{protocol_line, protocols_text}
@@ -22,11 +21,6 @@ use Rattle.sj_party.specs.Unlined.{unlined_protocol}
 use Rattle.sj_party.proofs.AddAlike.{alike_same}
 use Rattle.sj_party.proofs.PieceTextLemmas.{AreBlank, LexesOnLines, Reaches, HasLines, joins, lines_append, blank_lines, blank_next, one_line}
 use Rattle.sj_party.proofs.LineLemmas.{Relined, adds_append, headed, name_has}
-
-passed_is : (before t rest : List ℕ) → passed (read before (t ++ rest)) rest ≡ before ++ t
-passed_is before t rest =
-    let long : length (t ++ rest) - length rest ≡ length t = omega (arith, length-append t rest) in
-    ap (λ xs. before ++ xs) (ap (λ n. take n (t ++ rest)) long ∙ take-append_seam t rest)
 
 -- blanks before the first token change nothing
 passed_blanks : (before g k rest : List ℕ) → passed (read (before ++ g) (k ++ rest)) rest ≡ passed (read before (g ++ (k ++ rest))) rest

@@ -27,7 +27,7 @@ use Rattle.sj_party.proofs.DuePieceLemmas.{Named, Spelled, AllSpelled, lines_spe
 use Rattle.sj_party.proofs.StatementBack.{met, name_held, statement_back, awaited_back, block_back, arms_back}
 
 -- dues of a layer below
-mapped : {D : Type 0} (up : D → Due) (x : Option (List D)) (es : List Due) → option_map (map up) x ≡ Some es → (gs : List D) × (x ≡ Some gs) × (es ≡ map up gs)
+pub mapped : {D : Type 0} (up : D → Due) (x : Option (List D)) (es : List Due) → option_map (map up) x ≡ Some es → (gs : List D) × (x ≡ Some gs) × (es ≡ map up gs)
 mapped up (Some gs) es e = (gs, refl, cc)
 mapped up None es e = let none : ⊥ = cc in absurd none
 

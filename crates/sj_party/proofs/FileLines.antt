@@ -1,9 +1,8 @@
 -- First words, and what was read on lines in a file.
-use Rattle.std.proofs.Common.{◌≡◌, ℕ, ◌+◌, ◌≤◌, Bool, true, false, List, ◌++◌, length, Some, None, ap, arith, length-append}
+use Rattle.std.proofs.Common.{◌≡◌, ℕ, ◌+◌, ◌≤◌, Bool, true, false, List, ◌++◌, length, Some, ap, arith, length-append}
 use Rattle.std.specs.Prelude.{if◌then◌else◌}
 use Rattle.std.specs.Str.{bytes_eq}
 use Rattle.sj_grammar.specs.declared.tokens.What.{What}
-use Rattle.sj_grammar.specs.declared.tokens.Rule.{Rule}
 use Rattle.sj_grammar.specs.declared.tokens.Rule.TheVariants.{P4}
 use Rattle.sj_grammar.specs.declared.tokens.Fault.{Fault}
 use Rattle.sj_grammar.specs.declared.refusal.ParseRefusal.{ParseRefusal}
@@ -13,7 +12,7 @@ use Rattle.sj_grammar.specs.Lexis.{token, next_of}
 use Rattle.sj_grammar.specs.Literals.{is_largest}
 use Rattle.sj_grammar.specs.Reading.{Reading}
 use Rattle.sj_grammar.specs.Positions.{Piece, At, BeginsOnLines, spellings}
-use Rattle.sj_grammar.specs.Layers.{goes, stops, step, rule_of}
+use Rattle.sj_grammar.specs.Layers.{goes, stops, step}
 use Rattle.sj_grammar.specs.FileDues.{Due, file_layer}
 use Rattle.sj_grammar.specs.Faults.{Stuck, broken}
 use Rattle.sj_grammar.specs.Refusals.{OnFault}
@@ -25,14 +24,11 @@ use Rattle.sj_proto.specs.Parsed.{Stops}
 use Rattle.sj_proto.proofs.Exits.{next_is}
 use Rattle.sj_proto.proofs.Lines.{off_lines}
 use Rattle.sj_party.specs.Leads.{LeadsTo}
+use Rattle.sj_proto.proofs.Rules.{over_rule as over_first}
 
 -- behind pieces that are what is due
 pub leads_stuck : (n : ℕ) (a b : At) (ps : List Piece) (ds es : List Due) (f : Fault) → BeginsOnLines a ps b → LeadsTo limits n ds ps es → ((m : ℕ) → Stuck file_layer limits m b es f) → Stuck file_layer limits n a ds f
 leads_stuck n a b ps ds es f begins leads st = stuck_block file_layer limits n leads.count a b (spellings ps) ds es f (off_lines ps a b begins) (record { steps = leads.steps }) (st leads.count)
-
-over_first : (full : Bool) (n : ℕ) (es : List Due) (r : Rule) → (if full then Some P4 else None) ≡ Some r → rule_of (if full then stops P4 else goes n es) ≡ Some r
-over_first true n es r e = e
-over_first false n es r e = e
 
 -- one too many of what begins with that word
 pub first_fault : (a : At) (w : List ℕ) (full : Bool) (n : ℕ) (ds es : List Due) (f : Fault) → is_largest w ≡ false → bytes_eq w w ≡ true → step file_layer limits n ds w ≡ (if full then stops P4 else goes n es)

@@ -28,7 +28,7 @@ use Rattle.sj_proto.proofs.ReadLemmas.{itself}
 use Rattle.sj_proto.proofs.Exits as exits
 use Rattle.sj_proto.proofs.Lines.{off_lines, OnLines-append}
 use Rattle.sj_proto.proofs.NamedPieceLemmas.{name_stuck}
-use Rattle.sj_expr.proofs.ReadLemmas.{agrees_back, agrees_itself, spelling_at}
+use Rattle.sj_expr.proofs.ReadLemmas.{agrees_back, agrees_itself, spelling_at, same_piece}
 use Rattle.sj_party.specs.Read.{ReadsOnLines, ReadsCode}
 use Rattle.sj_party.proofs.FileLines.{leads_stuck, first_fault}
 use Rattle.sj_party.proofs.FileRuns.{parties_leads}
@@ -51,9 +51,6 @@ ReadsParties a b qs = ReadsOnLines a b (λ names ps. AreParties limits names qs 
 -- one party too many
 pub party_fault : (a : At) (k n : ℕ) (ds : List Due) (f : Fault) → is_next (codes "party") (next_of a.text.ahead) ≡ true → Refuses (but_first (codes "party") (nat_le 16 k)) a.text f → Stuck file_layer limits n a (parties k ∷ ds) f
 party_fault a k n ds f here r = first_fault a (codes "party") (nat_le 16 k) n (parties k ∷ ds) (behind_party k ds) f refl refl refl here r
-
-same_piece : (a b m : At) (s u : List ℕ) → Takes a s m → Takes a u b → s ≡ u
-same_piece a b m s u t v = cc (sym t.token ∙ v.token)
 
 module _ (r q : Reading) (names : Names) (k : ℕ) (room : k < 16) (first : TakesText r (codes "party") q) where
   took_party : Takes (standing r names) (codes "party") (standing q names)

@@ -1,19 +1,19 @@
 -- What the lexer answers at the front of a number and of a text.
 use Rattle.std.proofs.Common.{◌≡◌, ℕ, ◌+◌, Bool, true, false, List, [], ◌∷◌, ◌++◌, length, take, drop, refl, ap, sym, ◌∙◌, arith, append_assoc, length-append}
-use Rattle.std.specs.Prelude.{◌&&◌, ◌||◌, nat_eq, nat_lt}
+use Rattle.std.specs.Prelude.{◌&&◌, ◌||◌, nat_lt}
 use Rattle.std.specs.Prelude as std
 use Rattle.std.specs.List.{prefix_len, list_all}
 use Rattle.std.specs.Str.Parse.{digits_value}
 use Rattle.std.proofs.Math.Seq.{take-append_seam, drop-append_seam}
-use Rattle.std.proofs.lemmas.Bool.{ne_eqb, le-ltb}
-use Rattle.std.proofs.lemmas.Bool.Decides.{nat_tests}
+use Rattle.std.proofs.lemmas.Bool.{le-ltb}
 use Rattle.sj_grammar.specs.declared.tokens.What.TheVariants.{Number, Text}
 use Rattle.sj_grammar.specs.Bytes.{is_blank, is_letter, is_digit, is_inside, is_printable, begins_with}
 use Rattle.sj_grammar.specs.Lexis.{token, cut, next_of, number_of, text_of, has_leading_zero, most}
 use Rattle.sj_grammar.specs.Literals.{is_number, quoted}
-use Rattle.sj_grammar.proofs.Lexing.{NoWordByte}
+use Rattle.sj_grammar.proofs.Lexing.{NoWordByte, apart}
 use Rattle.sj_expr.proofs.TestLemmas.{and_first, and_second}
 use Rattle.sj_expr.proofs.NumberLemmas.{digits_are, no_zero_before, some_digit, number_most}
+use Rattle.sj_expr.proofs.TokenLemmas.{digit_no_letter}
 
 -- bytes that pass, up to one that doesn't
 run_to : (p : ℕ → Bool) (ds rest : List ℕ) → list_all p ds ≡ true → prefix_len p rest ≡ 0 → prefix_len p (ds ++ rest) ≡ length ds
@@ -23,12 +23,6 @@ run_to p (b ∷ ds) rest h none = by_test (p b) refl h (λ t. run_to p ds rest t
     by_test : (x : Bool) → p b ≡ x → (x && list_all p ds) ≡ true → (list_all p ds ≡ true → prefix_len p (ds ++ rest) ≡ length ds) → prefix_len p (b ∷ (ds ++ rest)) ≡ length (b ∷ ds)
     by_test true e t more = let long = more t in rw e (omega arith)
     by_test false e t more = cc
-
-apart : (p : ℕ → Bool) (b c : ℕ) → p b ≡ true → p c ≡ false → nat_eq b c ≡ false
-apart p b c t f = ne_eqb b c (λ e. let same : p b ≡ p c = ap p e in cc)
-
-digit_no_letter : (b : ℕ) → is_digit b ≡ true → is_letter b ≡ false
-digit_no_letter b t = grind (arith, nat_tests)
 
 -- no digit where no word goes on
 no_digit : (rest : List ℕ) → NoWordByte rest → prefix_len is_digit rest ≡ 0

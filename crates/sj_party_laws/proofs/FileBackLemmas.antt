@@ -1,6 +1,6 @@
 -- What is due behind a token of a file, and the token, are what was due before it, within limits.
-use Rattle.std.proofs.Common.{◌≡◌, ℕ, suc, ◌+◌, ◌≤◌, ◌<◌, false, List, [], ◌∷◌, ◌++◌, length, Option, Some, None, refl, sym, subst, append_assoc, append-nil, arith}
-use Rattle.std.specs.Prelude.{codes, map, option_map}
+use Rattle.std.proofs.Common.{◌≡◌, ℕ, suc, ◌+◌, ◌≤◌, ◌<◌, false, List, [], ◌∷◌, ◌++◌, length, Some, sym, subst, append_assoc, append-nil, arith}
+use Rattle.std.specs.Prelude.{codes}
 use Rattle.std.specs.Str.{bytes_eq}
 use Rattle.std.proofs.lemmas.Bool.{leb-false}
 use Rattle.std.proofs.lemmas.List.Elements.{All-cons}
@@ -27,11 +27,7 @@ use Rattle.sj_party_laws.proofs.FollowLemmas as follow
 use Rattle.sj_party_laws.proofs.FilledLemmas.{Spelled, AllSpelled, lines_alike, alike_append, alike_of}
 use Rattle.sj_party_laws.proofs.StatementLemmas.{line_in, on_line}
 use Rattle.sj_party_laws.proofs.BlockLemmas.{met, last_alike, name_held, statement_back, awaited_back, block_back, arms_back}
-
--- dues of a layer below
-mapped : {D : Type 0} (up : D → Due) (x : Option (List D)) (es : List Due) → option_map (map up) x ≡ Some es → (gs : List D) × (x ≡ Some gs) × (es ≡ map up gs)
-mapped up (Some gs) es e = (gs, refl, cc)
-mapped up None es e = let none : ⊥ = cc in absurd none
+use Rattle.sj_party.proofs.FileBack.{mapped}
 
 -- one more, where there is room for it
 one_more : (k most many : ℕ) → k < most → (suc k ≤ most → suc k + many ≤ most) → k ≤ most → k + suc many ≤ most

@@ -4,14 +4,15 @@ use Rattle.std.specs.Prelude.{if◌then◌else◌, ◌||◌}
 use Rattle.std.specs.List.{list_any}
 use Rattle.std.specs.Str.{bytes_eq}
 use Rattle.std.proofs.Math.Seq.{get_or-append_seam}
-use Rattle.sj_grammar.specs.Literals.{is_text, inner}
+use Rattle.sj_grammar.specs.Literals.{inner}
 use Rattle.sj_grammar.specs.Positions.{Pieces, At, Takes, Begins}
 use Rattle.sj_grammar.specs.Tables.{Spelling, with_entry, entry_of}
 use Rattle.sj_grammar.proofs.Spellings.{HasFirst, AllHeld, first_of}
 use Rattle.sj_proto.specs.Parsed.{Extends}
-use Rattle.sj_proto.proofs.ReadLemmas.{Extends-refl, Extends-trans, grows_one, Begins-grows}
+use Rattle.sj_proto.proofs.ReadLemmas.{Begins-grows}
 use Rattle.sj_proto.proofs.Names.{test_is}
 use Rattle.sj_party_laws.proofs.TermLemmas.{IsKnown}
+use Rattle.sj_expr.proofs.ReadLemmas.{texts_grow}
 
 -- the entry stands in the table
 pub record Has (table : List (List ℕ)) (s : List ℕ) : Type 0 where
@@ -47,13 +48,6 @@ has_first : (table : List (List ℕ)) (s : List ℕ) → Has table s → HasFirs
 has_first table s h =
     let here : entry_of table (length h.before) ≡ s = ap (λ (t : List (List ℕ)). entry_of t (length h.before)) h.whole ∙ get_or-append_seam h.before s h.behind [] in
     subst (λ (x : List ℕ). HasFirst (entry_of table) x) here (first_of (entry_of table) (length h.before))
-
--- texts are added as names are
-texts_grow : (ps : Pieces) (a b : At) → Begins a ps b → Extends a.texts b.texts
-texts_grow [] a b h = subst (λ (x : At). Extends a.texts x.texts) h (Extends-refl a.texts)
-texts_grow (p ∷ ps) a b h =
-    let first : Extends a.texts h.0.texts = subst (λ (ts : List (List ℕ)). Extends a.texts ts) (sym (ap (λ (x : At). x.texts) h.1.there)) (grows_one a.texts (inner p) (is_text p)) in
-    Extends-trans a.texts h.0.texts b.texts first (texts_grow ps h.0 b h.2)
 
 -- the spelling of a reader's tables
 abbrev pub names_at : At → Spelling

@@ -1,14 +1,12 @@
 -- Protocols of a file, one after another.
-use Rattle.std.proofs.Common.{◌≡◌, ℕ, suc, ◌<◌, Bool, true, false, List, [], ◌∷◌, ◌++◌, Some, None, refl, ap, sym, subst, ◌∙◌}
-use Rattle.std.specs.Prelude.{codes, if◌then◌else◌, nat_le}
+use Rattle.std.proofs.Common.{◌≡◌, ℕ, suc, ◌<◌, true, false, List, [], ◌∷◌, ◌++◌, Some, refl, ap, sym, subst, ◌∙◌}
+use Rattle.std.specs.Prelude.{codes, nat_le}
 use Rattle.std.proofs.lemmas.Bool.{lt-leb}
 use Rattle.sj_lang.specs.ItemCount.{item_count}
 use Rattle.sj_lang.specs.Place.{Place}
 use Rattle.sj_lang.specs.FileAt.{ProtocolAt}
 use Rattle.sj_lang.specs.declared.file.Names.{Names}
 use Rattle.sj_grammar.specs.declared.tokens.Fault.{Fault}
-use Rattle.sj_grammar.specs.declared.tokens.Rule.{Rule}
-use Rattle.sj_grammar.specs.declared.tokens.Rule.TheVariants.{P4}
 use Rattle.sj_grammar.specs.declared.tokens.What.{What}
 use Rattle.sj_lang.specs.Limits.{Limits, limits}
 use Rattle.sj_grammar.specs.Lexis.{Ahead, token, next_of}
@@ -18,7 +16,7 @@ use Rattle.sj_grammar.specs.Tables.{Spelling, IsNamed, entry_of}
 use Rattle.sj_grammar.specs.Positions.{Pieces, At, Takes, plain, first_on, all_plain, spellings}
 use Rattle.sj_grammar.specs.Protocols.{body_pieces, IsBody}
 use Rattle.sj_grammar.specs.Files.{protocol_pieces, IsProtocolDef}
-use Rattle.sj_grammar.specs.Layers.{goes, stops, rule_of, step}
+use Rattle.sj_grammar.specs.Layers.{goes, step}
 use Rattle.sj_grammar.specs.ProtocolDues.{body, more}
 use Rattle.sj_grammar.specs.FileDues.{Due, name, fixed, proto, protocols, file_layer}
 use Rattle.sj_grammar.specs.Faults.{Stuck, broken}
@@ -33,6 +31,7 @@ use Rattle.sj_proto.proofs.Exits as exits
 use Rattle.sj_proto.proofs.WholeRuns.{body_run, in_file}
 use Rattle.sj_proto.proofs.Lines.{spellings-append, spellings-plain, Lines-cons, Lines-append, Lines-as, Lines-plain, lines_one}
 use Rattle.sj_proto.proofs.NamedPieceLemmas.{name_step, name_stuck}
+use Rattle.sj_proto.proofs.Rules.{over_rule as over_word}
 
 pub no_name_protocol : is_name (codes "protocol") ≡ false
 unfolding is_reserved
@@ -63,10 +62,6 @@ def_run L names p k n ds room is =
     (Runs-append file_layer L (body_pieces names.word p.body) (codes "}" ∷ []) n m m (proto body ∷ after) (proto (more 0) ∷ after) (protocols (suc k) ∷ ds)
     (in_file L n m (body ∷ []) (more 0 ∷ []) after _ (body_run L names.word p.body n [] is.body))
     (Runs-cons file_layer L m m m (proto (more 0) ∷ after) (protocols (suc k) ∷ ds) (protocols (suc k) ∷ ds) (codes "}") [] refl (Runs-none file_layer L m (protocols (suc k) ∷ ds)))))))
-
-over_word : (full : Bool) (n : ℕ) (es : List Due) (r : Rule) → (if full then Some P4 else None) ≡ Some r → rule_of (if full then stops P4 else goes n es) ≡ Some r
-over_word true n es r e = e
-over_word false n es r e = e
 
 -- one protocol too many
 pub word_fault : (a : At) (k n : ℕ) (ds : List Due) (f : Fault) → is_next (codes "protocol") (next_of a.text.ahead) ≡ true → Refuses (but_first (codes "protocol") (nat_le 256 k)) a.text f

@@ -87,7 +87,7 @@ module _ (w : Way) (s : List ℕ) (name : is_name s ≡ false) (text : is_text s
       Gives-cons (standing r names) (standing q names) (standing u names) s (λ word. close_piece w ∷ []) (λ word. Unit {0}) (plain r q names s name text t)
       (takes_one (standing q names) (standing u names) (close_piece w) (took_close w q u names.words names.texts (subst (λ (p : List ℕ). TakesText q p u) e v)))
 
-next_tests : (x : Ahead) (p : List ℕ) (what : What) (s rest : List ℕ) → is_next p x ≡ false → x ≡ token what s rest → bytes_eq s p ≡ false
+pub next_tests : (x : Ahead) (p : List ℕ) (what : What) (s rest : List ℕ) → is_next p x ≡ false → x ≡ token what s rest → bytes_eq s p ≡ false
 next_tests x p what s rest h e = subst (λ (y : Ahead). is_next p y ≡ false) e h
 
 -- a kind that is no word begins as items do
