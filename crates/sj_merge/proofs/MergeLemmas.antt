@@ -2,10 +2,10 @@
 use Rattle.std.proofs.Common.{◌≡◌, ℕ, List, [], ◌∷◌, ◌++◌, refl, sym, ap, ◌∙◌, inl, inr, append-nil, append_assoc}
 use Rattle.std.specs.Prelude.{◌⊎◌}
 use Rattle.std.specs.List.{AllByRecursion}
-use Rattle.std.proofs.lemmas.List.Elements.{filter_map-append}
-use Rattle.sj_rules.specs.Log.{LineAt, IsBefore, IsInOrder, part_of, entry_at}
+use Rattle.sj_rules.specs.Log.{LineAt, IsBefore, IsInOrder, part_of}
 use Rattle.sj_joined_laws.proofs.MergeLemmas.{all_later}
 use Rattle.sj_merge.specs.Merged.{AreApart, AreMerged}
+use Rattle.sj_joined_laws.proofs.MergingLemmas.{part_more}
 
 -- so far these lines came out; what is left of both lists is in order behind them
 pub record Merging (front back out left right : List LineAt) : Type 0 where
@@ -17,10 +17,6 @@ pub record Merging (front back out left right : List LineAt) : Type 0 where
 -- at the start nothing is merged
 pub merging_begins : (front back : List LineAt) → IsInOrder front → IsInOrder back → AreApart front back → Merging front back [] front back
 merging_begins front back a b apart = record { in_front = a; in_back = b; apart = apart; parts = λ p. refl }
-
--- a party's part of two lists
-pub part_more : (p : ℕ) (ks ls : List LineAt) → part_of p (ks ++ ls) ≡ part_of p ks ++ part_of p ls
-part_more p ks ls = filter_map-append (entry_at p) ks ls
 
 -- what holds of both holds with a line of the one before the other
 all_between : (T : LineAt → Type 0) (out left right : List LineAt) (l : LineAt) → AllByRecursion T (out ++ l ∷ left) → AllByRecursion T (out ++ right) →

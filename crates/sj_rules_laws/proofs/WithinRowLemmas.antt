@@ -1,8 +1,7 @@
 -- The rows name only parties of the file, and keep all numbers within the limits.
-use Rattle.std.proofs.Common.{◌≡◌, ℕ, ◌+◌, ◌-◌, ◌<◌, ◌≤◌, ◌==◌, nat_lt, max, Bool, true, false, not, ◌&&◌, cond, List, [], ◌∷◌, ◌++◌, length, drop, Option, Some, None, option_map, option_and_then, refl, subst, arith}
+use Rattle.std.proofs.Common.{◌≡◌, ℕ, ◌+◌, ◌-◌, ◌<◌, ◌≤◌, ◌==◌, nat_lt, max, Bool, true, false, not, ◌&&◌, cond, List, [], ◌∷◌, length, drop, Option, Some, None, option_map, option_and_then, refl, subst, arith}
 use Rattle.std.proofs.lemmas.Bool.{and_parts, ltb-true, leb-true}
 use Rattle.std.proofs.lemmas.List.{length-drop}
-use Rattle.std.specs.List.{AllByRecursion}
 use Rattle.sj_base.specs.declared.EndId.{EndId}
 use Rattle.sj_base.specs.declared.Msg.{Msg}
 use Rattle.sj_rules.specs.Record.{EndAt, BodyAt, Carry, Fin, Claim, Signal, Ack, Give, Mail, HeldAt, other_end}
@@ -10,6 +9,7 @@ use Rattle.sj_rules.specs.Limits.{limit_of_conns}
 use Rattle.sj_rules.specs.Rows.{IsPick, Worked, with_first, with_last, trimmed_end, end_with_peer, numbered_carries, mails_of, cached_from, resent_posts, signal_fits, passive, passive_closed, crossing_body, acked_body, with_end, at_held, worked_record, resend_fits, resent_at, install}
 use Rattle.sj_rules.specs.Within.{EndWithin, BodyWithin, MailWithin, MailsWithin}
 use Rattle.std.specs.Prelude.{nat_le}
+use Rattle.sj_joined_laws.proofs.LateLemmas.{all_joined}
 
 -- what holds of f at what is there holds of the answer
 pub by_map : {X Y : Type 0} → (P : Y → Type 0) (f : X → Y) (o : Option X) (y : Y) → option_map f o ≡ Some y → ((x : X) → o ≡ Some x → P (f x)) → P y
@@ -28,10 +28,6 @@ by_true P false o y h k = cc
 
 pub by_some : {Y : Type 0} → (P : Y → Type 0) (x y : Y) → Some x ≡ Some y → P x → P y
 by_some P x y h k = let it : x ≡ y = cc in subst P it k
-
-pub all_joined : {X : Type 0} → (P : X → Type 0) (xs ys : List X) → AllByRecursion P xs → AllByRecursion P ys → AllByRecursion P (xs ++ ys)
-all_joined P [] ys h k = k
-all_joined P (x ∷ xs) ys h k = (h.0, all_joined P xs ys h.1 k)
 
 -- the messages from that number on, as Carries
 carries_within : (P : Type 0) (n party : ℕ) → party < n → (to : EndId) (conn taken number : ℕ) (ms : List Msg) → conn ≤ 1000 → taken ≤ 1000000 → number + length ms ≤ 1000000

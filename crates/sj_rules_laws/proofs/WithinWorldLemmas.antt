@@ -20,13 +20,14 @@ use Rattle.sj_rules.specs.Linked.{waiting_at, IsKept}
 use Rattle.sj_rules.specs.Premises.{FitsStep, IsLawful}
 use Rattle.sj_rules.specs.Start.{declared_on, connect_of, held_by, first_held, core_start}
 use Rattle.sj_rules.specs.Within.{KeeperWithin, BodyWithin, MailsWithin, MainWithin, NodeWithin, WorkedWithin, IsWithin}
-use Rattle.sj_rules_laws.proofs.WithinRowLemmas.{by_map, by_some, all_joined}
+use Rattle.sj_rules_laws.proofs.WithinRowLemmas.{by_map, by_some}
 use Rattle.sj_rules_laws.proofs.WithinNodeLemmas.{comes_within}
 use Rattle.sj_rules_laws.proofs.WithinActLemmas.{StepIsFew, acts_within}
 use Rattle.sj_world_laws.proofs.SeenLemmas.{here_held}
 use Rattle.sj_rules_laws.proofs.KeptLemmas.{kept_stands}
 use Rattle.sj_rules_laws.proofs.StartNamesLemmas.{party_exists}
 use Rattle.std.specs.Prelude.{length, slice_get, option_and_then, nat_lt}
+use Rattle.sj_joined_laws.proofs.LateLemmas.{all_joined}
 
 -- ---- lanes
 
