@@ -10,15 +10,11 @@ use Rattle.sj_acceptance.specs.Faults.{Test, first_fault}
 use Rattle.sj_acceptance.specs.LabelTests.{is_among}
 use Rattle.sj_acceptance.specs.Sameness.{is_same_place}
 use Rattle.sj_acceptance.specs.FileTests.{party_names, is_taken, is_same_end, end_tests, connection_tests, connect_tests}
-use Rattle.sj_acceptance_laws.proofs.FaultLemmas.{first_passes, all_pass, pass_both, not_true}
+use Rattle.sj_acceptance_laws.proofs.FaultLemmas.{first_passes, all_pass, pass_both, not_true, neither}
 use Rattle.sj_acceptance_laws.proofs.SamenessLemmas.{is_same_place-Decides}
 use Rattle.sj_acceptance_laws.proofs.PairLemmas.{Pairs, pairs_join, pairs_split, each_along}
 use Rattle.sj_acceptance_laws.proofs.PartyLemmas.{among_parties, parties_among}
 use Rattle.sj_acceptance_laws.proofs.EndLaws.{decls, decls-append, OtherEnd, HasParty, free_from, free_to}
-
-neither : (b c : Bool) → (b || c) ≡ false → (b ≡ false) × (c ≡ false)
-neither true c h = absurd (cc)
-neither false c h = (refl, h)
 
 module _ (file : FileAt) where
   abbrev pub tests_at : List ConnectAt → List ConnectAt → List Test

@@ -8,6 +8,7 @@ use Rattle.sj_acceptance.specs.Accepted.{place_of_party, places_from}
 use Rattle.sj_acceptance.specs.FileTests.{is_same_end, is_taken}
 use Rattle.sj_acceptance_laws.proofs.PairLemmas.{Pairs, pairs_from_all, all_from_pairs, pairs_split, pairs_with}
 use Rattle.sj_acceptance_laws.proofs.PartyLemmas.{one_name}
+use Rattle.sj_acceptance_laws.proofs.FaultLemmas.{neither}
 
 -- the ends of connections in order
 abbrev pub decls : List ConnectAt → List DeclAt
@@ -21,10 +22,6 @@ decls-append (c ∷ cs) ds = ap (λ es. c.first ∷ c.second ∷ es) (decls-appe
 -- two ends that aren't one
 abbrev pub OtherEnd : DeclAt → DeclAt → Type 0
 OtherEnd d e = is_same_end d e ≡ false
-
-neither : (b c : Bool) → (b || c) ≡ false → (b ≡ false) × (c ≡ false)
-neither true c h = absurd (cc)
-neither false c h = (refl, h)
 
 pub free_from : (e : DeclAt) (cs : List ConnectAt) → is_taken e cs ≡ false → AllByRecursion (λ d. OtherEnd d e) (decls cs)
 free_from e [] h = tt

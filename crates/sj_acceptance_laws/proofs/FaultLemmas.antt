@@ -1,5 +1,5 @@
 -- Lists of tests that all pass.
-use Rattle.std.proofs.Common.{◌≡◌, ℕ, List, [], ◌∷◌, ◌++◌, Some, None, Bool, true, false, ◌&&◌, cond, refl, ap, ◌∙◌}
+use Rattle.std.proofs.Common.{◌≡◌, ℕ, List, [], ◌∷◌, ◌++◌, Some, None, Bool, true, false, ◌&&◌, ◌||◌, cond, refl, ap, ◌∙◌}
 use Rattle.std.proofs.Common as common
 use Rattle.sj_acceptance.specs.Faults.{Test, first_fault}
 
@@ -29,3 +29,8 @@ both_true false y h = absurd (cc)
 pub not_true : (b : Bool) → common.not b ≡ true → b ≡ false
 not_true true h = absurd (cc)
 not_true false h = refl
+
+-- neither of two holds
+pub neither : (b c : Bool) → (b || c) ≡ false → (b ≡ false) × (c ≡ false)
+neither true c h = absurd (cc)
+neither false c h = (refl, h)

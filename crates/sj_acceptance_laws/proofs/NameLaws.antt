@@ -8,13 +8,9 @@ use Rattle.sj_acceptance.specs.Labels.{NamesOnce}
 use Rattle.sj_acceptance.specs.Faults.{first_fault}
 use Rattle.sj_acceptance.specs.LabelTests.{is_among, names_once}
 use Rattle.sj_acceptance.specs.FileTests.{protocol_names, party_names, protocol_tests, party_tests}
-use Rattle.sj_acceptance_laws.proofs.FaultLemmas.{first_passes, not_true}
+use Rattle.sj_acceptance_laws.proofs.FaultLemmas.{first_passes, not_true, neither}
 use Rattle.sj_acceptance_laws.proofs.OnceLaws.{names_once_from, names_once_to}
 use Rattle.sj_acceptance_laws.proofs.PairLemmas.{EachNew}
-
-neither : (b c : Bool) → (b || c) ≡ false → (b ≡ false) × (c ≡ false)
-neither true c h = absurd (cc)
-neither false c h = (refl, h)
 
 differ : (b : Bool) → (b ≡ true → ⊥) → b ≡ false
 differ true f = absurd (f refl)

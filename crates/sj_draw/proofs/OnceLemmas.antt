@@ -6,7 +6,7 @@ use Rattle.sj_draw.specs.Frame.{ArrowAt, FrameAt, Outcome, Gathered, Unread, Bey
 use Rattle.sj_draw.specs.Lines.{LineAt, Session, Party, Message, Delivery, Log, Verdict, read}
 use Rattle.sj_draw.specs.Told.{ToldAt, told_arrow, told_by, told_in, is_log, HasNoLog}
 
-any_arrows : (f : FrameAt) (name : Option (List ℕ)) → (with_any f name).arrows ≡ f.arrows
+pub any_arrows : (f : FrameAt) (name : Option (List ℕ)) → (with_any f name).arrows ≡ f.arrows
 any_arrows f None = refl
 any_arrows f (Some name) = refl
 

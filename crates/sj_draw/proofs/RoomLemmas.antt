@@ -4,6 +4,7 @@ use Rattle.std.proofs.lemmas.List.{length-append}
 use Rattle.std.specs.List.{AllByRecursion, filter}
 use Rattle.sj_draw.specs.Frame.{ArrowAt, FrameAt, Outcome, Gathered, Unread, Beyond, empty, outcome_with, then_on, gathered, is_within, is_untaken, with_line, with_any, with_party, with_arrow, arrow_of, number_of}
 use Rattle.sj_draw.specs.Lines.{LineAt, Session, Party, Message, Delivery, Log, Verdict, read}
+use Rattle.sj_draw.proofs.OnceLemmas.{any_arrows}
 
 -- what holds of a frame and a number of lines holds behind further lines, where each line keeps it
 module _ (P : ℕ → FrameAt → Type 0) (step : (k : ℕ) (f : FrameAt) (x : LineAt) → P k f → is_within (with_line f x) ≡ true → P (k + 1) (with_line f x)) where
@@ -90,10 +91,6 @@ of_line f (Message p) r = let g = with_any (with_party f p.from) p.to in of_arro
 of_line f (Delivery p) r = let g = with_party (with_any f p.to) p.from in of_arrow g (arrow_of g p) (of_party (with_any f p.to) p.from (of_any f p.to r))
 of_line f Log r = record { parties = r.parties; arrows = kept (λ a. length a.name + length a.text ≤ f.texts) is_untaken f.arrows r.arrows }
 of_line f Verdict r = r
-
-any_arrows : (f : FrameAt) (name : Option (List ℕ)) → (with_any f name).arrows ≡ f.arrows
-any_arrows f None = refl
-any_arrows f (Some name) = refl
 
 one_longer : (xs ys : List ArrowAt) (a : ArrowAt) (k : ℕ) → xs ≡ ys → length ys ≤ k → length (xs ++ a ∷ []) ≤ k + 1
 one_longer xs ys a k e h = omega (arith, length-append xs (a ∷ []), ap (λ (zs : List ArrowAt). length zs) e, h)

@@ -27,8 +27,9 @@ use Rattle.sj_expr.specs.Read.{ReadsWhole, ReadsExpression, AllPass, EndsAt}
 use Rattle.sj_expr.specs.Viable.{IsViable}
 use Rattle.sj_expr.proofs.Runs.{Goes}
 use Rattle.sj_expr.proofs.Viability.{not_viable, viable_next}
-use Rattle.sj_expr.proofs.ReadLemmas.{spelling_at, agrees_itself}
+use Rattle.sj_expr.proofs.ReadLemmas.{agrees_itself}
 use Rattle.sj_expr.proofs.WholeRuns.{first_piece, whole_run, whole_step, is_due}
+use Rattle.sj_proto.proofs.Fronts.{spelling_at}
 
 pub expressions_embedded : IsEmbedded expression_layer file_layer expr
 expressions_embedded = record { follows = λ d s. refl; nones = λ d. refl; counts = λ n d s. refl; limits = λ L n d s. refl }

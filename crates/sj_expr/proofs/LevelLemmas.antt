@@ -18,7 +18,8 @@ use Rattle.sj_grammar.proofs.Stuckness.{Begins-append}
 use Rattle.sj_expr.specs.Read.{ReadsLevel, ReadsWhole}
 use Rattle.sj_expr.specs.Signs.{op_piece, IsSign, IsComparison}
 use Rattle.sj_expr.proofs.Runs.{IsWithin, runs, compared_run}
-use Rattle.sj_expr.proofs.ReadLemmas.{agrees_back, agrees_itself, spelling_at, reads_cons, reads_two, reads_as}
+use Rattle.sj_expr.proofs.ReadLemmas.{agrees_back, agrees_itself, reads_cons, reads_two, reads_as}
+use Rattle.sj_proto.proofs.Fronts.{spelling_at}
 
 pub itself_within : IsWithin limits limits
 itself_within = record { nesting = omega arith; name = omega arith; text = omega arith }

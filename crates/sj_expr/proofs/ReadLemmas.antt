@@ -25,6 +25,7 @@ use Rattle.sj_proto.proofs.Tables.{within_is, here_is}
 use Rattle.sj_expr.specs.Read.{Agrees, Reads, ReadsLevel, TextSpelled, Grows, StaysWithin}
 use Rattle.sj_expr.specs.Signs.{op_piece}
 use Rattle.sj_expr.proofs.TokenLemmas.{text_quoted}
+use Rattle.sj_proto.proofs.Fronts.{spelling_at}
 
 pub texts_grow : (ps : Pieces) (a b : At) → Begins a ps b → Extends a.texts b.texts
 texts_grow [] a b h = subst (λ (x : At). Extends a.texts x.texts) h (Extends-refl a.texts)
@@ -38,10 +39,6 @@ agrees_back names ps a b h g = record {
   words = spells_less names.word a.words b.words (Begins-grows ps a b h) g.words;
   texts = spells_less names.text a.texts b.texts (texts_grow ps a b h) g.texts;
 }
-
--- the spelling of the tables there
-abbrev pub spelling_at : At → Spelling
-spelling_at a = record { word = entry_of a.words; text = entry_of a.texts }
 
 pub agrees_itself : (a : At) → Agrees (spelling_at a) a
 agrees_itself a = record { words = λ n h. refl; texts = λ n h. refl }

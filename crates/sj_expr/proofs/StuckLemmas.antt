@@ -15,8 +15,8 @@ use Rattle.sj_grammar.proofs.Inside.{inside_cons, inside_block}
 use Rattle.sj_expr.specs.Read.{ReadsLevel}
 use Rattle.sj_expr.specs.Signs.{op_piece, IsSign, IsComparison}
 use Rattle.sj_expr.proofs.Runs.{runs}
-use Rattle.sj_expr.proofs.ReadLemmas.{spelling_at}
 use Rattle.sj_expr.proofs.LevelLemmas.{itself_within, spelt_there, sign_step, comparison_step}
+use Rattle.sj_proto.proofs.Fronts.{spelling_at}
 
 abbrev pub Inside : ℕ → At → List ExpressionDue → Fault → Type 0
 Inside n a ds f = StuckInside expression_layer limits n a ds f

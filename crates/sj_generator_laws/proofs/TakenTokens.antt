@@ -8,8 +8,9 @@ use Rattle.sj_grammar.specs.declared.tokens.What.TheVariants.{Number}
 use Rattle.sj_grammar.specs.Bytes.{is_word_byte}
 use Rattle.sj_grammar.specs.Lexis.{Ahead, at_end, token, next_of}
 use Rattle.sj_grammar.proofs.Lexing.{NoWordByte, word_next}
-use Rattle.sj_generator_laws.proofs.TokenRuns.{Tok, text_of, line_behind, AreTaken}
+use Rattle.sj_generator_laws.proofs.TokenRuns.{Tok, text_of, AreTaken}
 use Rattle.sj_generator_laws.proofs.GroupTokens.{protocol_tokens, sender_tokens, giver_tokens, adder_tokens, connect_tokens}
+use Rattle.sj_grammar.proofs.Positions.{lines_from as line_behind}
 
 -- digits that are read as a number
 pub record AreRead (d : List ℕ) : Type 0 where

@@ -12,6 +12,7 @@ use Rattle.sj_grammar.specs.Reading.{passed, line_at}
 use Rattle.sj_grammar.specs.Tables.{with_entry}
 use Rattle.sj_grammar.proofs.Lexing.{read, passed_is}
 use Rattle.sj_grammar.proofs.LexedTables.{words_behind, texts_behind}
+use Rattle.sj_grammar.proofs.Positions.{lines_from as line_behind}
 
 -- a token with the blanks before it; a party, a connection, a protocol or a statement may begin with it
 pub record Tok : Type 0 where
@@ -23,10 +24,6 @@ pub record Tok : Type 0 where
 abbrev pub text_of : List Tok → List ℕ
 text_of [] = []
 text_of (k ∷ ks) = k.gap ++ (k.spelled ++ text_of ks)
-
--- the line behind a text that begins on that line
-abbrev pub line_behind : ℕ → List ℕ → ℕ
-line_behind l xs = fold (λ n b. if b == 10 then n + 1 else n) l xs
 
 abbrev pub piece_on : Bool → ℕ → List ℕ → Piece
 piece_on true l s = first_on l s

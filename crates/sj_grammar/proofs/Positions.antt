@@ -11,7 +11,7 @@ use Rattle.sj_grammar.specs.Lexis.{Ahead, at_end, bad, token, next_of}
 use Rattle.sj_grammar.specs.Reading.{Reading, line_at, column_at, passed, before_next, fault_at}
 use Rattle.sj_grammar.proofs.Splits.{next_split}
 
-abbrev lines_from : ℕ → List ℕ → ℕ
+abbrev pub lines_from : ℕ → List ℕ → ℕ
 lines_from l bs = fold (λ n b. if b == 10 then n + 1 else n) l bs
 
 abbrev columns_from : ℕ → List ℕ → ℕ

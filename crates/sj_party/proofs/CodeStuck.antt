@@ -24,11 +24,12 @@ use Rattle.sj_proto.specs.Parsed.{standing, Stops}
 use Rattle.sj_proto.specs.Choices.{but_first}
 use Rattle.sj_proto.proofs.Names.{test_is}
 use Rattle.sj_proto.proofs.Rules.{Refusing, over_rule}
-use Rattle.sj_expr.proofs.ReadLemmas.{spelling_at, agrees_itself}
+use Rattle.sj_expr.proofs.ReadLemmas.{agrees_itself}
 use Rattle.sj_party.specs.Read.{ReadsOnLines, ReadsCode}
 use Rattle.sj_party.specs.Parts.{AreSome}
 use Rattle.sj_party.proofs.Runs.{code_leads, open_block}
 use Rattle.sj_party.proofs.PartLemmas.{leads_stuck, some_arms_lead}
+use Rattle.sj_proto.proofs.Fronts.{spelling_at}
 
 -- behind statements
 code_stuck : (o : ℕ) (c : Code) (a m : At) (ds : List Due) (f : Fault) → ReadsCode o a m c → ((k : ℕ) → Stuck file_layer limits k m (stmts o ∷ ds) f) → (n : ℕ) → Stuck file_layer limits n a (stmts o ∷ ds) f

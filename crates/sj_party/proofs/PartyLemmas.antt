@@ -28,11 +28,12 @@ use Rattle.sj_proto.proofs.ReadLemmas.{itself}
 use Rattle.sj_proto.proofs.Exits as exits
 use Rattle.sj_proto.proofs.Lines.{off_lines, OnLines-append}
 use Rattle.sj_proto.proofs.NamedPieceLemmas.{name_stuck}
-use Rattle.sj_expr.proofs.ReadLemmas.{agrees_back, agrees_itself, spelling_at, same_piece}
+use Rattle.sj_expr.proofs.ReadLemmas.{agrees_back, agrees_itself, same_piece}
 use Rattle.sj_party.specs.Read.{ReadsOnLines, ReadsCode}
 use Rattle.sj_party.proofs.FileLines.{leads_stuck, first_fault}
 use Rattle.sj_party.proofs.FileRuns.{parties_leads}
 use Rattle.sj_party.proofs.Runs.{code_leads}
+use Rattle.sj_proto.proofs.Fronts.{spelling_at}
 
 no_name_party : is_name (codes "party") ≡ false
 unfolding is_reserved

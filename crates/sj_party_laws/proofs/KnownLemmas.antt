@@ -6,13 +6,14 @@ use Rattle.std.specs.Str.{bytes_eq}
 use Rattle.std.proofs.Math.Seq.{get_or-append_seam}
 use Rattle.sj_grammar.specs.Literals.{inner}
 use Rattle.sj_grammar.specs.Positions.{Pieces, At, Takes, Begins}
-use Rattle.sj_grammar.specs.Tables.{Spelling, with_entry, entry_of}
+use Rattle.sj_grammar.specs.Tables.{with_entry, entry_of}
 use Rattle.sj_grammar.proofs.Spellings.{HasFirst, AllHeld, first_of}
 use Rattle.sj_proto.specs.Parsed.{Extends}
 use Rattle.sj_proto.proofs.ReadLemmas.{Begins-grows}
 use Rattle.sj_proto.proofs.Names.{test_is}
 use Rattle.sj_party_laws.proofs.TermLemmas.{IsKnown}
 use Rattle.sj_expr.proofs.ReadLemmas.{texts_grow}
+use Rattle.sj_proto.proofs.Fronts.{spelling_at as names_at}
 
 -- the entry stands in the table
 pub record Has (table : List (List ℕ)) (s : List ℕ) : Type 0 where
@@ -48,10 +49,6 @@ has_first : (table : List (List ℕ)) (s : List ℕ) → Has table s → HasFirs
 has_first table s h =
     let here : entry_of table (length h.before) ≡ s = ap (λ (t : List (List ℕ)). entry_of t (length h.before)) h.whole ∙ get_or-append_seam h.before s h.behind [] in
     subst (λ (x : List ℕ). HasFirst (entry_of table) x) here (first_of (entry_of table) (length h.before))
-
--- the spelling of a reader's tables
-abbrev pub names_at : At → Spelling
-names_at a = record { word = entry_of a.words; text = entry_of a.texts }
 
 known : (a m b : At) (s : List ℕ) (ps : Pieces) → Takes a s m → Begins m ps b → IsKnown (names_at b) s
 known a m b s ps t h = record {

@@ -16,7 +16,7 @@ use Rattle.sj_semantics_laws.proofs.ClaimLemmas.{one_if}
 use Rattle.sj_semantics_laws.proofs.CommuteLemmas.{Doing, doing_of}
 use Rattle.sj_semantics_laws.proofs.FreesLemmas.{want_frees}
 
-abbrev binds : EndId → Program → ℕ
+abbrev pub binds : EndId → Program → ℕ
 binds e g = bindings_of e g.ends
 
 pub one_holder : (w : World) (p q : ℕ) (g h : Program) (e : EndId) → IsUnshared w → slice_get w.parties p ≡ Some g → slice_get w.parties q ≡ Some h → IsBound e g.ends → IsBound e h.ends → p ≢ q → ⊥

@@ -4,11 +4,11 @@ use Rattle.std.proofs.lemmas.Bool.{cases_Bool, eqb-true, and_parts, leb-true, le
 use Rattle.std.proofs.lemmas.List.Sums.{sum_by-cons, sum_by-append}
 use Rattle.sj_base.specs.declared.EndId.{EndId}
 use Rattle.sj_lang.specs.FileAt.{FileAt, PartyAt, DeclAt, ConnectAt, party_named, end_of_party, ends_from}
-use Rattle.sj_semantics.specs.Program.{Program}
 use Rattle.sj_semantics.specs.World.{session_of, program_of, programs_from, start_of}
 use Rattle.sj_semantics.specs.Ends.{is_end}
 use Rattle.sj_semantics_laws.specs.Unshared.{bindings_of, carried_in, IsUnshared}
 use Rattle.sj_semantics_laws.proofs.ClaimLemmas.{one_if}
+use Rattle.sj_semantics_laws.proofs.HolderLemmas.{binds}
 
 -- the party to which the end belongs, of connections whose first is session n
 abbrev owner_of : List PartyAt → ℕ → List ConnectAt → EndId → ℕ
@@ -139,9 +139,6 @@ one_of_them o p =
 
     not_above : leb p o ≡ false → p + 1 ≤ o → ⊥
     not_above f e = Rattle.std.proofs.lemmas.Bool.true≢false (sym (le-leb p o (omega arith)) ∙ f)
-
-abbrev binds : EndId → Program → ℕ
-binds e g = bindings_of e g.ends
 
 programs_bind : (e : EndId) (file : FileAt) (p : ℕ) (qs : List PartyAt) → sum_by (binds e) (programs_from file p qs) ≤ one_if (leb p (owner_of file.parties 0 file.connects e))
 programs_bind e file p [] = omega arith

@@ -8,6 +8,7 @@ use Rattle.sj_lane.specs.declared.lane.PushRefusal.TheVariants as pushes
 use Rattle.sj_lane.specs.declared.lane.PopRefusal.{PopRefusal}
 use Rattle.sj_lane.specs.Told.{Rose, raised, vain_pop, vain_push}
 use Rattle.sj_work.specs.Counts.{OnLane, RoseBy, SomeRose, Stands, Stood, last_count}
+use Rattle.sj_work.proofs.LaneLemmas.{some_is, none_is}
 
 -- of any last value
 rose_more_to : (l x y z j k : ℕ) → min (x + j) l ≤ y → min (y + k) l ≤ z → min (x + (j + k)) l ≤ z
@@ -75,12 +76,6 @@ pub pop_stood : (n : ℕ) (r : Result (Option Frame) PopRefusal) → Stood n (va
 pop_stood n (Ok None) = stood_raised_to last_count n
 pop_stood n (Ok (Some f)) = stood_itself n
 pop_stood n (Err e) = stood_itself n
-
-some_is : {X : Type 0} (x y : X) → Some x ≡ Some y → x ≡ y
-some_is x y h = cc
-
-none_is : {X : Type 0} (x : X) → None ≡ Some x → ⊥
-none_is x h = cc
 
 module _ {L : Type 0} (count : L → ℕ) where
   -- a lane that is left alone

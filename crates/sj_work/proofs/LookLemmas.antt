@@ -11,6 +11,7 @@ use Rattle.sj_work.proofs.CountLemmas.{on_later, rose_then, then_rose}
 use Rattle.sj_work.proofs.LaneLaws.{LaneLaws, TurnedBy, WentBy}
 use Rattle.sj_work.proofs.TurnLemmas.{going, turned_behind, turned_on, went_of}
 use Rattle.sj_work.proofs.WentLemmas.{went_itself}
+use Rattle.sj_work.proofs.PushLemmas.{below}
 
 neither : (x y : Bool) → IsFalse (x || y) → IsFalse x × IsFalse y
 neither false false h = (refl, refl)
@@ -21,9 +22,6 @@ either : (x y : Bool) → IsTrue (x || y) → IsTrue x ⊎ IsTrue y
 either true y h = inl refl
 either false true h = inr refl
 either false false h = absurd (cc h)
-
-below : (q n : ℕ) → q < n + 1 → (q ≡ n → ⊥) → q < n
-below q n lt not = omega arith
 
 rises_then : (x y z : ℕ) → x < y → y ≤ z → x < z
 rises_then x y z p q = omega arith

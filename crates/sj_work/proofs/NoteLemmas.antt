@@ -17,6 +17,7 @@ use Rattle.sj_end.specs.Views.{note_at}
 use Rattle.sj_node.specs.Node.{act_note, took_if, took_note}
 use Rattle.sj_node.specs.Play.{want_with}
 use Rattle.sj_end.specs.Lines.{note_seen}
+use Rattle.sj_work.proofs.LaneLemmas.{none_is as none_some}
 
 -- the note of a body, whatever its places are
 pub body_noted : {P R : Type 0} (f : P → R) (b : BodyAt P) → body_note (body_with f b) ≡ note_seen (note_at b)
@@ -26,9 +27,6 @@ body_noted f (Claim of) = refl
 body_noted f (Signal to conn party taken) = refl
 body_noted f (Ack of conn) = refl
 body_noted f (Give e resend) = refl
-
-none_some : {X : Type 0} (x : X) → None ≡ Some x → ⊥
-none_some x h = cc
 
 -- a take has a head
 take_noted : (play : Play Place Program) (n : NodeAt Place Program) (e : EndId) (place : Place) (m : Option (MainAt Place)) (left : Worked Place (NodeAt Place Program))

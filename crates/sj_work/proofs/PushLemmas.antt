@@ -11,7 +11,7 @@ use Rattle.sj_work.proofs.RestLemmas.{rests_itself, rests_later}
 use Rattle.sj_work.proofs.TurnLemmas.{going, turned_behind, turned_on, went_of}
 use Rattle.sj_work.proofs.WentLemmas.{went_itself}
 
-below : (q n : ℕ) → q < n + 1 → (q ≡ n → ⊥) → q < n
+pub below : (q n : ℕ) → q < n + 1 → (q ≡ n → ⊥) → q < n
 below q n lt not = omega arith
 
 module _ {O I : Type 0} (k : LaneLaws O I) where

@@ -37,7 +37,7 @@ use Rattle.sj_work.proofs.CauseLemmas.{cause_later}
 use Rattle.sj_work.proofs.CountLemmas.{rose_raised, some_rose}
 use Rattle.sj_work.proofs.HaltLemmas.{Refused, finished_before}
 use Rattle.sj_work.proofs.LaneLaws.{CauseBy, InDid, LaneLaws, TurnedBy, WentBy}
-use Rattle.sj_work.proofs.LaneLemmas.{told_with}
+use Rattle.sj_work.proofs.LaneLemmas.{told_with, none_is as not_none}
 use Rattle.sj_work.proofs.NodeLemmas.{arrives_so, came_stepped, stays_quiet}
 use Rattle.sj_work.proofs.WentLemmas.{went_again, went_came, went_itself, went_later, went_lost, went_still}
 
@@ -54,9 +54,6 @@ arrives_told : (n : Node) (from : ℕ) (f : Frame) → arrives (parties_of n) ma
 arrives_told n from f =
     same_arrives (parties_of n) max done (node_at n) from (told_frame f) (frame_with (place_in n.table) (frame_at f))
     (told_with (λ s. done) (frame_at f) ∙ sym (told_with (place_in n.table) (frame_at f))) ∙ arrives_so n from (frame_at f)
-
-not_none : {X : Type 0} (x : X) → None ≡ Some x → ⊥
-not_none x h = cc
 
 -- a frame that didn't stop the worker raised the clock
 pub came_rises : (a b : Node) (from : ℕ) (f : Frame) (r : Option Answer) → Comes from f a b r → stop_in r ≡ None → clock_of a < clock_of b
