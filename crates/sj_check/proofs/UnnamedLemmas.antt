@@ -1,12 +1,12 @@
 -- A block leaves what it doesn't name.
-use Rattle.std.proofs.Common.{◌≡◌, ◌≢◌, ℕ, List, [], ◌∷◌, ◌++◌, Option, Some, None, Bool, true, false, ◌==◌, ◌||◌, refl, sym, ◌∙◌}
+use Rattle.std.proofs.Common.{◌≡◌, ◌≢◌, ℕ, List, [], ◌∷◌, ◌++◌, None, Bool, true, false, ◌==◌, ◌||◌, refl, sym, ◌∙◌}
 use Rattle.std.proofs.lemmas.Bool.Decides.{Decides-eqb}
 use Rattle.std.specs.FinMap.{get}
 use Rattle.sj_lang.specs.Code.{Code, StmtAt, DeedAt, no_stmt, stmt_then, at, send, delegate, take_value, take_end, outbranch, inbranch, outwhile, inwhile, relay, if_else, let_be, close, no_branch, branch}
 use Rattle.sj_lang.specs.FileAt.{ProtocolAt}
 use Rattle.sj_lang.specs.declared.proto.Way.TheVariants.{Into}
 use Rattle.sj_acceptance.specs.EnvAt.{EnvAt, with_live, without_live, is_live, place_at}
-use Rattle.sj_acceptance.specs.Faults.{Test, first_fault}
+use Rattle.sj_acceptance.specs.Faults.{first_fault}
 use Rattle.sj_acceptance.specs.FirstItem.{is_choice, arm_place}
 use Rattle.sj_acceptance.specs.LabelTests.{is_among}
 use Rattle.sj_acceptance.specs.Tests.{code_tests, after_code, stmt_tests, after_stmt, deed_tests, after_deed, branches_tests, branching_tests, condition_tests}

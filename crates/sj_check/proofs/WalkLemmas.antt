@@ -1,20 +1,15 @@
 -- One statement of a block, and the rest.
-use Rattle.std.proofs.Common.{◌≡◌, ◌≢◌, ℕ, ◌+◌, ◌<◌, suc, List, length, get_or, drop, Option, None, true, ap, sym, ◌∙◌, subst, add-one, drop-cons, unwrap_or}
-use Rattle.sj_lang.specs.declared.proto.Way.TheVariants.{Out, Into}
+use Rattle.std.proofs.Common.{◌≡◌, ℕ, ◌+◌, ◌<◌, suc, List, length, get_or, drop, Option, None, ap, sym, ◌∙◌, subst, add-one, drop-cons}
 use Rattle.sj_lang.specs.declared.party.Stmt.{Stmt}
-use Rattle.sj_lang.specs.Place.{Place, done, message, choice, repeat}
 use Rattle.sj_lang.specs.Code as code
 use Rattle.sj_lang.specs.CodeView.{code_of, stmt_of}
-use Rattle.sj_acceptance.specs.EnvAt.{EnvAt, with_live}
+use Rattle.sj_acceptance.specs.EnvAt.{EnvAt}
 use Rattle.sj_lang.specs.FileAt.{ProtocolAt}
 use Rattle.sj_acceptance.specs.Faults.{first_fault}
-use Rattle.sj_acceptance.specs.FirstItem.{is_loop, rest_of}
 use Rattle.sj_acceptance.specs.Tests.{stmt_tests, after_stmt, code_tests, after_code}
-use Rattle.sj_acceptance.specs.EnvAt.{place_at}
 use Rattle.sj_check.specs.declared.refusal.CheckRefusal.{CheckRefusal}
 use Rattle.sj_check.specs.Told.{Tells}
 use Rattle.sj_check.proofs.FaultLemmas.{behind, Tells-front}
-use Rattle.sj_check.proofs.MapLemmas.{get-insert_other}
 
 pub code_of-drop : (stmts : List Stmt) (i : ℕ) (s : Stmt) → i < length stmts → s ≡ get_or stmts i s → code_of (drop i stmts) ≡ code.stmt_then (stmt_of s) (code_of (drop (i + 1) stmts))
 code_of-drop stmts i s h e = rw add-one (ap code_of (drop-cons stmts i s h) ∙ ap (λ x. code.stmt_then (stmt_of x) (code_of (drop (suc i) stmts))) (sym e))

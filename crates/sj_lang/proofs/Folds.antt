@@ -10,7 +10,6 @@ use Rattle.sj_lang.specs.declared.party.Expr.TheVariants as exprs
 use Rattle.sj_lang.specs.declared.party.Expr.TheOpen.{Expr-F}
 use Rattle.sj_lang.specs.declared.party.Expr.TheFolds.{fold-roll-Expr}
 use Rattle.sj_lang.specs.declared.party.Deed as deed
-use Rattle.sj_lang.specs.declared.party.Deed.{Deed}
 use Rattle.sj_lang.specs.declared.party.Deed.TheVariants as deeds
 use Rattle.sj_lang.specs.declared.party.Deed.TheOpen.{Deed-F}
 use Rattle.sj_lang.specs.declared.party.Deed.TheFolds.{fold-roll-Deed, fold_out-Stmt, fold_out-StmtArm}

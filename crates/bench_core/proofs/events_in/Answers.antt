@@ -1,4 +1,4 @@
-use Rattle.std.proofs.Common.{◌∙◌, ℕ, ap, length, map, max, subst, sym}
+use Rattle.std.proofs.Common.{◌∙◌, ℕ, ap, length, max, subst, sym}
 use Rattle.std.proofs.lemmas.List.{length-map}
 use Rattle.sj_core.specs.World.{history_of, kept_file, world_at}
 use Rattle.sj_end.specs.Lines.{line_at}

@@ -1,8 +1,7 @@
-use Rattle.std.proofs.Common.{◌≡◌, [], ◌∙◌, ap, sym, drop, length, List}
+use Rattle.std.proofs.Common.{◌≡◌, ◌∙◌, ap, sym, List}
 use Rattle.std.proofs.Math.Seq.{drop-length}
 use Rattle.sj_lang.specs.declared.file.Connect.{Connect}
 use Rattle.sj_acceptance.specs.FileTests.{at_start}
-use Rattle.sj_check.specs.SpotEnv.{SpotEnv}
 use Rattle.sj_check.specs.Seen.{defs_in, env_in}
 use Rattle.sj_check.specs.Views.{connects_of}
 use Rattle.sj_check.proofs.SeenLemmas.{env_in-no_spots}

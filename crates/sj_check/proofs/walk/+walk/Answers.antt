@@ -1,22 +1,17 @@
-use Rattle.std.proofs.Common.{◌≡◌, ◌∙◌, ap, sym, refl, subst, true, arith, cond, Some, None, List, [], Vec, ℕ, ◌+◌, ◌<◌, ◌≤◌, ◌∷◌, map, length, ◌&&◌}
+use Rattle.std.proofs.Common.{◌≡◌, ◌∙◌, ap, sym, refl, true, arith, cond, Some, None, List, [], Vec, ℕ, ◌+◌, ◌<◌, ◌≤◌, ◌∷◌, map, length, ◌&&◌}
 use Rattle.std.proofs.lemmas.Bool.Decides.{nat_tests}
 use Rattle.sj_lang.specs.declared.party.StmtArm.{StmtArm}
 use Rattle.sj_check.proofs.ArmLemmas.{from, from-end, and_assoc, and_true, arm-fault, arm-tests, arm-after, branch-arms, branch-ends}
 use Rattle.sj_acceptance.specs.Faults.{first_fault}
 use Rattle.sj_acceptance.specs.Sameness.{is_same_ends}
 use Rattle.std.specs.declared.alloc.Global.{Global}
-use Rattle.std.proofs.lemmas.Result.{on_ok_weaker, IfErr-weaker}
 use Rattle.sj_lang.specs.declared.party.Expr.{Expr}
 use Rattle.sj_lang.specs.declared.party.Stmt.{Stmt}
 use Rattle.sj_lang.specs.declared.party.Deed.TheVariants as deeds
-use Rattle.sj_check.specs.Told.{Tells}
 use Rattle.sj_lang.proofs.Folds.{deed_of-If, deed_of-Branch, stmt_of-fields}
-use Rattle.sj_lang.specs.declared.proto.Way.TheVariants.{Out, Into}
-use Rattle.sj_acceptance.specs.EnvAt.{EnvAt, with_live}
+use Rattle.sj_acceptance.specs.EnvAt.{EnvAt}
 use Rattle.sj_check.specs.SpotEnv.{SpotEnv}
 use Rattle.sj_check.specs.Seen.{defs_in, env_in}
-use Rattle.sj_acceptance.specs.FirstItem.{is_loop, rest_of}
-use Rattle.sj_acceptance.specs.EnvAt.{place_at}
 use Rattle.sj_acceptance.specs.Tests.{branches_tests, after_branches, after_stmt}
 use Rattle.sj_acceptance.specs.Arms.{all_leave, common_of, common_env, is_one}
 use Rattle.sj_lang.specs.CodeView.{term_of, stmt_of, code_of, deed_of, arm_of, branches_of}

@@ -2,7 +2,6 @@ use Rattle.std.proofs.Common.{◌≡◌, ℕ, true, false, List, ap, sym, subst,
 use Rattle.std.specs.Str.Parse.{digits_value}
 use Rattle.std.proofs.Math.Facts.{to_z-of_z}
 use Rattle.sj_lang.specs.Term.{Term}
-use Rattle.sj_lang.specs.CodeView.{term_of}
 use Rattle.sj_lang.specs.Term as term
 use Rattle.sj_lang.proofs.Folds.{term_of-Int}
 use Rattle.sj_grammar.specs.Lexis.{next_of}
