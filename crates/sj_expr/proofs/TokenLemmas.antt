@@ -19,9 +19,6 @@ digit_no_letter b t = grind (arith, nat_tests)
 letter_no_digit : (b : ℕ) → is_letter b ≡ true → is_digit b ≡ false
 letter_no_digit b t = grind (arith, nat_tests)
 
-letter_other : (b c : ℕ) → is_letter b ≡ true → is_letter c ≡ false → nat_eq b c ≡ false
-letter_other b c t f = ne_eqb b c (λ e. let was : is_letter b ≡ is_letter c = ap is_letter e in cc)
-
 digit_other : (b c : ℕ) → is_digit b ≡ true → is_digit c ≡ false → nat_eq b c ≡ false
 digit_other b c t f = ne_eqb b c (λ e. let was : is_digit b ≡ is_digit c = ap is_digit e in cc)
 
