@@ -15,7 +15,7 @@ use Rattle.sj_acceptance.specs.Arms.{is_one}
 use Rattle.sj_check.specs.declared.refusal.CheckRefusal.{CheckRefusal}
 use Rattle.sj_check.specs.Told.{Tells}
 use Rattle.sj_check.proofs.FaultLemmas.{behind, Tells-front, Tells-behind}
-use Rattle.sj_lang.proofs.Folds.{arm_of-fields}
+use Rattle.sj_lang.proofs.FoldLemmas.{arm_of-fields}
 
 -- the arms from an index on
 abbrev pub from : List StmtArm → ℕ → Branches

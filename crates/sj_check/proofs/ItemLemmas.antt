@@ -5,7 +5,7 @@ use Rattle.sj_lang.specs.declared.proto.Item.TheVariants.{Send, Recv, Select, Br
 use Rattle.sj_lang.specs.Place.{Place, done}
 use Rattle.sj_lang.specs.View.{followed}
 use Rattle.sj_lang.specs.ItemCount.{item_count}
-use Rattle.sj_lang.proofs.Within as sizes
+use Rattle.sj_lang.proofs.WithinLemmas as sizes
 
 pub item_count-followed : (i : Item) (rest : Place) → item_count (followed i rest) ≡ item_count (followed i done) + item_count rest
 item_count-followed (Send k) rest = omega arith

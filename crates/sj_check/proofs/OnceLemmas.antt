@@ -4,7 +4,7 @@ use Rattle.sj_lang.specs.declared.proto.Item.{Item}
 use Rattle.sj_lang.specs.declared.proto.Item.TheVariants.{Send, Recv, Select, Branch, OutLoop, InLoop}
 use Rattle.sj_lang.specs.Place.{Place, done}
 use Rattle.sj_lang.specs.View.{followed}
-use Rattle.sj_lang.proofs.Within as sizes
+use Rattle.sj_lang.proofs.WithinLemmas as sizes
 use Rattle.sj_acceptance.specs.LabelTests.{names_once}
 
 and_true : (b : Bool) → b ≡ (b && true)

@@ -11,8 +11,8 @@ use Rattle.sj_grammar.specs.Tables.{Spelling}
 use Rattle.sj_grammar.specs.Positions.{Pieces}
 use Rattle.sj_grammar.specs.Expressions as level
 use Rattle.sj_grammar.specs.ExpressionDues.{ExpressionDue, whole, factor, times, plus, compare, after_minus, fixed, expression_at, is_operand, factor_follow, expression_layer}
-use Rattle.sj_grammar.proofs.Spellings.{IsHeld}
-use Rattle.sj_grammar.proofs.Completion.{Alls}
+use Rattle.sj_grammar.proofs.SpellingLemmas.{IsHeld}
+use Rattle.sj_grammar.proofs.CompletionLemmas.{Alls}
 use Rattle.sj_expr.proofs.TokenLemmas.{text_quoted}
 use Rattle.sj_expr.proofs.NumberLemmas.{small_number}
 use Rattle.sj_expr.proofs.WideLimitLemmas.{Writes, w_as, w_number, w_minus, w_true, w_false, w_text, w_name, w_not, w_parens, w_factor, w_term}

@@ -6,8 +6,8 @@ use Rattle.sj_grammar.specs.Literals.{is_number}
 use Rattle.sj_grammar.specs.Tables.{Spelling}
 use Rattle.sj_grammar.specs.Positions.{Pieces}
 use Rattle.sj_grammar.specs.ExpressionDues.{ExpressionDue, whole, factor, times, plus, compare, after_minus, fixed, factor_follow, then_also, expression_follow, expression_may_be_none, expression_layer}
-use Rattle.sj_grammar.proofs.Spellings.{IsHeld}
-use Rattle.sj_grammar.proofs.Completion.{Alls-split}
+use Rattle.sj_grammar.proofs.SpellingLemmas.{IsHeld}
+use Rattle.sj_grammar.proofs.CompletionLemmas.{Alls-split}
 use Rattle.sj_expr.proofs.WideLimitLemmas.{w_as, w_true, w_factor, w_term, w_sum, w_product, w_addition, w_difference, w_less, w_less_eq, w_equal}
 use Rattle.sj_expr.proofs.CompletionLemmas.{Spelled, AllSpelled, to_term, to_sum, to_whole, done, factor_back}
 use Rattle.sj_expr.proofs.TestLemmas.{bytes_same}

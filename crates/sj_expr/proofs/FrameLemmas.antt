@@ -4,7 +4,7 @@ use Rattle.sj_lang.specs.declared.party.Op.{Op}
 use Rattle.sj_grammar.specs.Positions.{Pieces}
 use Rattle.sj_grammar.specs.Expressions.{Level}
 use Rattle.sj_grammar.specs.Expressions as level
-use Rattle.sj_expr.proofs.Shapes.{Shape, joined, Frame, negation, group, product, addition, comparison, has, moved, Sign, star, plus, compare, close, other, sign_of, Held, settled, up_product, up_addition, up_comparison, by_sum, by_term, closed, whole_of, at_sum, at_term, reading}
+use Rattle.sj_expr.proofs.ShapeLemmas.{Shape, joined, Frame, negation, group, product, addition, comparison, has, moved, Sign, star, plus, compare, close, other, sign_of, Held, settled, up_product, up_addition, up_comparison, by_sum, by_term, closed, whole_of, at_sum, at_term, reading}
 
 -- what a frame binds: the higher, the weaker
 abbrev pub rank : List Frame → ℕ

@@ -14,12 +14,12 @@ use Rattle.sj_grammar.specs.Asked.{Passes}
 use Rattle.sj_grammar.specs.Expressions.{Level, Spelt, operand_count}
 use Rattle.sj_grammar.specs.Expressions as level
 use Rattle.sj_grammar.specs.ExpressionDues.{ExpressionDue, factor, times, plus, compare, expression_layer}
-use Rattle.sj_grammar.proofs.Stuckness.{Begins-append}
+use Rattle.sj_grammar.proofs.StucknessLemmas.{Begins-append}
 use Rattle.sj_expr.specs.Read.{ReadsLevel, ReadsWhole}
 use Rattle.sj_expr.specs.Signs.{op_piece, IsSign, IsComparison}
-use Rattle.sj_expr.proofs.Runs.{IsWithin, runs, compared_run}
+use Rattle.sj_expr.proofs.RunLemmas.{IsWithin, runs, compared_run}
 use Rattle.sj_expr.proofs.ReadLemmas.{agrees_back, agrees_itself, reads_cons, reads_two, reads_as}
-use Rattle.sj_proto.proofs.Fronts.{spelling_at}
+use Rattle.sj_proto.proofs.FrontLemmas.{spelling_at}
 
 pub itself_within : IsWithin limits limits
 itself_within = record { nesting = omega arith; name = omega arith; text = omega arith }

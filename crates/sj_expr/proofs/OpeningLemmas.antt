@@ -15,11 +15,11 @@ use Rattle.sj_grammar.specs.Faults.{broken, Halts}
 use Rattle.sj_grammar.specs.Asked.{Refuses, refused, but, is_next, spelled_next}
 use Rattle.sj_grammar.specs.Expressions.{operand_count}
 use Rattle.sj_grammar.specs.ExpressionDues.{ExpressionDue, factor, fixed, expression_at, expression_may_be_none, is_operand, expression_layer}
-use Rattle.sj_grammar.proofs.Stuckness.{refuses_halts, halts_skip}
-use Rattle.sj_grammar.proofs.Inside.{inside_here, inside_cons, inside_block}
+use Rattle.sj_grammar.proofs.StucknessLemmas.{refuses_halts, halts_skip}
+use Rattle.sj_grammar.proofs.InsideLemmas.{inside_here, inside_cons, inside_block}
 use Rattle.sj_expr.specs.Openings.{but_opening}
 use Rattle.sj_expr.specs.Read.{ReadsWhole, AllPass}
-use Rattle.sj_expr.proofs.Runs.{not_step, open_step}
+use Rattle.sj_expr.proofs.RunLemmas.{not_step, open_step}
 use Rattle.sj_expr.proofs.StuckLemmas.{Inside, before}
 use Rattle.sj_expr.proofs.TestLemmas.{bytes_same}
 

@@ -7,7 +7,7 @@ use Rattle.sj_lang.specs.Limits.{Limits}
 use Rattle.sj_grammar.specs.Names.{is_name, is_reserved}
 use Rattle.sj_grammar.specs.Literals.{is_number, is_largest, is_text, quoted}
 use Rattle.sj_grammar.specs.ExpressionDues.{is_operand, is_long}
-use Rattle.sj_proto.proofs.Names.{name_no_text}
+use Rattle.sj_proto.proofs.NameLemmas.{name_no_text}
 use Rattle.sj_expr.proofs.TokenLemmas.{number_no_text, number_no_name, name_no_number, inner_quoted}
 
 -- each kind of operand is one

@@ -18,14 +18,14 @@ use Rattle.sj_grammar.specs.Positions.{Pieces, At, at, Takes, Begins}
 use Rattle.sj_grammar.specs.Asked.{TakesText}
 use Rattle.sj_grammar.specs.Expressions.{Spelt}
 use Rattle.sj_grammar.specs.Expressions as level
-use Rattle.sj_grammar.proofs.Stuckness.{Begins-append}
+use Rattle.sj_grammar.proofs.StucknessLemmas.{Begins-append}
 use Rattle.sj_proto.specs.Parsed.{Gives, Extends}
 use Rattle.sj_proto.proofs.ReadLemmas.{grows_one, Extends-refl, Extends-trans, Begins-grows, spells_less, took_plain}
-use Rattle.sj_proto.proofs.Tables.{within_is, here_is}
+use Rattle.sj_proto.proofs.TableLemmas.{within_is, here_is}
 use Rattle.sj_expr.specs.Read.{Agrees, Reads, ReadsLevel, TextSpelled, Grows, StaysWithin}
 use Rattle.sj_expr.specs.Signs.{op_piece}
 use Rattle.sj_expr.proofs.TokenLemmas.{text_quoted}
-use Rattle.sj_proto.proofs.Fronts.{spelling_at}
+use Rattle.sj_proto.proofs.FrontLemmas.{spelling_at}
 
 pub texts_grow : (ps : Pieces) (a b : At) → Begins a ps b → Extends a.texts b.texts
 texts_grow [] a b h = subst (λ (x : At). Extends a.texts x.texts) h (Extends-refl a.texts)

@@ -10,13 +10,13 @@ use Rattle.sj_grammar.specs.Refusals.{StuckInside}
 use Rattle.sj_grammar.specs.Expressions.{operand_count}
 use Rattle.sj_grammar.specs.Expressions as level
 use Rattle.sj_grammar.specs.ExpressionDues.{ExpressionDue, factor, times, plus, compare, expression_at, expression_layer}
-use Rattle.sj_grammar.proofs.Framing.{inside_before}
-use Rattle.sj_grammar.proofs.Inside.{inside_cons, inside_block}
+use Rattle.sj_grammar.proofs.FramingLemmas.{inside_before}
+use Rattle.sj_grammar.proofs.InsideLemmas.{inside_cons, inside_block}
 use Rattle.sj_expr.specs.Read.{ReadsLevel}
 use Rattle.sj_expr.specs.Signs.{op_piece, IsSign, IsComparison}
-use Rattle.sj_expr.proofs.Runs.{runs}
+use Rattle.sj_expr.proofs.RunLemmas.{runs}
 use Rattle.sj_expr.proofs.LevelLemmas.{itself_within, spelt_there, sign_step, comparison_step}
-use Rattle.sj_proto.proofs.Fronts.{spelling_at}
+use Rattle.sj_proto.proofs.FrontLemmas.{spelling_at}
 
 abbrev pub Inside : ℕ → At → List ExpressionDue → Fault → Type 0
 Inside n a ds f = StuckInside expression_layer limits n a ds f

@@ -3,7 +3,7 @@ use Rattle.std.proofs.Common.{◌≡◌, ℕ, Bool, true, false, List, refl}
 use Rattle.std.specs.Prelude.{◌&&◌}
 use Rattle.std.specs.Str.{bytes_eq}
 use Rattle.std.proofs.lemmas.Slice.Eq.{bytes_eq-Decides}
-pub use Rattle.sj_proto.proofs.Names.{test_is as bytes_same, first_holds as and_first}
+pub use Rattle.sj_proto.proofs.NameLemmas.{test_is as bytes_same, first_holds as and_first}
 
 pub and_second : (x y : Bool) → (x && y) ≡ true → y ≡ true
 and_second true y t = t

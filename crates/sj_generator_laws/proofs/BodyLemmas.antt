@@ -10,7 +10,7 @@ use Rattle.sj_acceptance.specs.Environment.{Env, put, at_place, with_kind}
 use Rattle.sj_acceptance.specs.Follows.{Follows}
 use Rattle.sj_generator_laws.specs.GeneratedFile as file
 use Rattle.sj_generator_laws.specs.GeneratedFile.{numbers}
-use Rattle.sj_generator_laws.proofs.GroupStates.{sends_numbers}
+use Rattle.sj_generator_laws.proofs.GroupStateLemmas.{sends_numbers}
 
 -- ---- maps at a name
 

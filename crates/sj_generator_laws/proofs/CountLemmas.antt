@@ -4,7 +4,7 @@ use Rattle.std.proofs.lemmas.List.Sums.{sum_by-cons}
 use Rattle.sj_semantics.specs.Ends.{Session}
 use Rattle.sj_semantics.specs.Program.{Program}
 use Rattle.sj_semantics.specs.Value.{no_vars}
-use Rattle.sj_generator_laws.proofs.GroupStates.{ended, Outcome, parties_of, sessions_of, sent_in}
+use Rattle.sj_generator_laws.proofs.GroupStateLemmas.{ended, Outcome, parties_of, sessions_of, sent_in}
 
 -- what a group adds
 pub steps_of : (o : Outcome) (gs : List Program) → sum_by (λ g. g.steps) (parties_of o gs) ≡ o.sender_steps + o.adder_steps + 2 + sum_by (λ g. g.steps) gs

@@ -8,13 +8,13 @@ use Rattle.sj_grammar.specs.Literals.{is_number, is_text, inner}
 use Rattle.sj_grammar.specs.Names.{is_name, is_reserved}
 use Rattle.sj_grammar.specs.Positions.{Pieces, at, spellings, start, BeginsOnLines}
 use Rattle.sj_grammar.specs.Tables.{with_entry}
-use Rattle.sj_grammar.proofs.Lexing.{read}
-use Rattle.sj_grammar.proofs.LexedTables.{words_behind, texts_behind}
+use Rattle.sj_grammar.proofs.LexingLemmas.{read}
+use Rattle.sj_grammar.proofs.LexedTableLemmas.{words_behind, texts_behind}
 use Rattle.sj_generator_laws.specs.GeneratedFile.{words, generated_file}
-use Rattle.sj_generator_laws.proofs.TokenRuns.{Tok, text_of, pieces_of, AreTaken, begins, taken_append}
-use Rattle.sj_generator_laws.proofs.GroupTokens.{nl, protocol_tokens, sender_tokens, giver_tokens, adder_tokens, connect_tokens}
-use Rattle.sj_generator_laws.proofs.TakenTokens.{AreRead, sender_taken, giver_taken, adder_taken, connect_taken, protocol_taken}
-use Rattle.sj_generator_laws.proofs.PartyPieces.{Spell}
+use Rattle.sj_generator_laws.proofs.TokenRunLemmas.{Tok, text_of, pieces_of, AreTaken, begins, taken_append}
+use Rattle.sj_generator_laws.proofs.GroupTokenLemmas.{nl, protocol_tokens, sender_tokens, giver_tokens, adder_tokens, connect_tokens}
+use Rattle.sj_generator_laws.proofs.TakenTokenLemmas.{AreRead, sender_taken, giver_taken, adder_taken, connect_taken, protocol_taken}
+use Rattle.sj_generator_laws.proofs.PartyPieceLemmas.{Spell}
 use Rattle.sj_generator_laws.proofs.SpelledLemmas.{group_tokens, parties_tokens, connects_tokens, all_tokens, file_spelled}
 
 -- ---- all tokens are taken

@@ -13,12 +13,12 @@ use Rattle.sj_grammar.proofs.DecimalLemmas.{canonical, printed_digits}
 use Rattle.sj_expr.proofs.NumberLemmas.{digits_are}
 use Rattle.sj_expr.proofs.TokenLemmas.{number_no_name, number_no_text}
 use Rattle.sj_party.proofs.OneFile.{one_file}
-use Rattle.sj_party.proofs.TokenText.{number_next}
+use Rattle.sj_party.proofs.TokenTextLemmas.{number_next}
 use Rattle.sj_generator.specs.Generated.{generated}
 use Rattle.sj_generator_laws.specs.GeneratedFile.{generated_file}
 use Rattle.sj_generator_laws.proofs.GrammarLemmas.{is_file}
-use Rattle.sj_generator_laws.proofs.TakenTokens.{AreRead, no_newline}
-use Rattle.sj_generator_laws.proofs.TextTokens.{text_is_tokens}
+use Rattle.sj_generator_laws.proofs.TakenTokenLemmas.{AreRead, no_newline}
+use Rattle.sj_generator_laws.proofs.TextTokenLemmas.{text_is_tokens}
 
 -- a number is read whole
 reads : (s : List ℕ) → is_number s ≡ true → AreRead s

@@ -8,10 +8,10 @@ use Rattle.sj_grammar.specs.Files.{IsProtocolDef, IsConnect, AreParties, IsSpell
 use Rattle.sj_grammar.specs.Files as files
 use Rattle.sj_generator_laws.specs.GeneratedFile as file
 use Rattle.sj_generator_laws.specs.GeneratedFile.{generated_file}
-use Rattle.sj_generator_laws.proofs.TokenRuns.{Tok, pieces_of}
-use Rattle.sj_generator_laws.proofs.GroupTokens.{protocol_tokens, sender_tokens, giver_tokens, adder_tokens, connect_tokens}
+use Rattle.sj_generator_laws.proofs.TokenRunLemmas.{Tok, pieces_of}
+use Rattle.sj_generator_laws.proofs.GroupTokenLemmas.{protocol_tokens, sender_tokens, giver_tokens, adder_tokens, connect_tokens}
 use Rattle.sj_generator_laws.proofs.NameLemmas.{name_w, name_v, name_g, name_h, name_a0, name_x, name_b0, name_z, name_y, name_c0, name_u, name_a1, name_b1, name_c1, name_a2, name_b2, name_c2, name_a3, name_b3, name_c3, name_a4, name_b4, name_c4}
-use Rattle.sj_generator_laws.proofs.PartyPieces.{names, Spell, group_pieces, group_spelled}
+use Rattle.sj_generator_laws.proofs.PartyPieceLemmas.{names, Spell, group_pieces, group_spelled}
 
 -- ---- all tokens
 

@@ -10,8 +10,8 @@ use Rattle.sj_lane.specs.declared.mem.MemIn.{MemIn}
 use Rattle.sj_lane.specs.Mem.{IsCarried, frames_popped, frames_pushed}
 use Rattle.sj_lane.specs.MemCarry.{KeptIn, KeptOut, SameMem}
 use Rattle.sj_lane.specs.Square.{AllJoined, IsSquare, in_at, in_in, out_at, out_in}
-use Rattle.sj_lane.proofs.Carries.{Carried, link_carried, lists_later}
-use Rattle.sj_lane.proofs.Cells.{InPut, OutPut, in_put, out_put}
+use Rattle.sj_lane.proofs.CarryingLemmas.{Carried, link_carried, lists_later}
+use Rattle.sj_lane.proofs.CellLemmas.{InPut, OutPut, in_put, out_put}
 
 -- the lanes with another one on which q pops from p
 abbrev pub in_set : List (Lanes MemOut MemIn) → (p q : ℕ) → Lanes MemOut MemIn → MemIn → List (Lanes MemOut MemIn)

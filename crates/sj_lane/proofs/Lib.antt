@@ -1,10 +1,10 @@
-pub mod Backs
-pub mod Carries
+pub mod BackLemmas
+pub mod CarryingLemmas
 pub mod CarryLemmas
-pub mod Cells
-pub mod Columns
-pub mod Each
-pub mod Grids
+pub mod CellLemmas
+pub mod ColumnLemmas
+pub mod EachLemmas
+pub mod GridLemmas
 pub mod MemRowsLemmas
 pub mod PushLemmas
-pub mod Settles
+pub mod SettleLemmas

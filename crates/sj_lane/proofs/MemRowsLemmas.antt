@@ -11,8 +11,8 @@ use Rattle.sj_lane.specs.Mem.{IsCarried, frames_popped, frames_pushed}
 use Rattle.sj_lane.specs.MemKept.{got_in, sent_in, vain_in_in, vain_out_in}
 use Rattle.sj_lane.specs.MemRows.{AreNewIns, AreNewOuts, AreNewRows, IsNewIn, IsNewOut, IsNewRow}
 use Rattle.sj_lane.specs.Square.{AllJoined, IsFresh, IsSquare, Kept, in_at, out_at}
-use Rattle.sj_lane.proofs.Backs.{square_in, square_out}
-use Rattle.sj_lane.proofs.Settles.{in_found, out_found}
+use Rattle.sj_lane.proofs.BackLemmas.{square_in, square_out}
+use Rattle.sj_lane.proofs.SettleLemmas.{in_found, out_found}
 
 -- what holds of each holds of the one at an index
 pub all_get : {X : Type 0} (P : X → Type 0) (xs : List X) (k : ℕ) (x : X) → AllByRecursion P xs → slice_get xs k ≡ Some x → P x

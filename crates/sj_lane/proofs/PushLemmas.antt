@@ -9,7 +9,7 @@ use Rattle.sj_lane.specs.declared.mem.MemOut.{MemOut}
 use Rattle.sj_lane.specs.declared.mem.MemIn.{MemIn}
 use Rattle.sj_lane.specs.Mem.{IsCarried, SameOut, come}
 use Rattle.sj_lane.specs.Square.{AllJoined, IsSquare, out_at, out_in}
-use Rattle.sj_lane.proofs.Cells.{OutPut, out_joined, out_put}
+use Rattle.sj_lane.proofs.CellLemmas.{OutPut, out_joined, out_put}
 
 -- the lanes with the one on which p pushed to q
 abbrev pub with_out : List (Lanes MemOut MemIn) → (p q : ℕ) → Lanes MemOut MemIn → MemOut → List (Lanes MemOut MemIn)

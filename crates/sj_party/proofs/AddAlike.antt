@@ -5,7 +5,7 @@ use Rattle.sj_grammar.specs.Names.{is_name}
 use Rattle.sj_grammar.specs.Literals.{is_text, inner}
 use Rattle.sj_grammar.specs.Tables.{with_entry}
 use Rattle.sj_grammar.specs.Positions.{Pieces}
-use Rattle.sj_grammar.proofs.LexedTables.{words_behind, texts_behind}
+use Rattle.sj_grammar.proofs.LexedTableLemmas.{words_behind, texts_behind}
 
 pub record AddAlike (a b : Pieces) : Type 0 where
   pub words : (ws : List (List ℕ)) → words_behind ws a ≡ words_behind ws b

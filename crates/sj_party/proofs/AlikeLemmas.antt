@@ -6,9 +6,9 @@ use Rattle.sj_lang.specs.Limits.{Limits}
 use Rattle.sj_grammar.specs.Tables.{Spelling}
 use Rattle.sj_grammar.specs.Positions.{Pieces, Piece, plain, all_plain, spellings}
 use Rattle.sj_grammar.specs.Expressions.{IsExpression}
-use Rattle.sj_proto.proofs.Lines.{spellings-append, spellings-plain}
+use Rattle.sj_proto.proofs.LineLemmas.{spellings-append, spellings-plain}
 use Rattle.sj_expr.specs.Ends.{Ends}
-use Rattle.sj_expr.proofs.Unique.{one_expression}
+use Rattle.sj_expr.proofs.UniquenessLemmas.{one_expression}
 use Rattle.sj_party.specs.Alike.{OnOneLine, AreAlike}
 
 line_itself : (l : Option ℕ) → OnOneLine l l

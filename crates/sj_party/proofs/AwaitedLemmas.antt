@@ -17,9 +17,9 @@ use Rattle.sj_grammar.specs.Layers.{step}
 use Rattle.sj_grammar.specs.FileDues.{Due, name, fixed, awaited, semicolon, file_layer}
 use Rattle.sj_grammar.specs.Statements.{scalar_piece}
 use Rattle.sj_grammar.specs.Asked.{TakesText, Refuses, but, is_next}
-use Rattle.sj_grammar.proofs.Stuckness.{stuck_cons, stuck_like, refuses_stuck}
+use Rattle.sj_grammar.proofs.StucknessLemmas.{stuck_cons, stuck_like, refuses_stuck}
 use Rattle.sj_proto.specs.Parsed.{standing, Stops}
-use Rattle.sj_proto.proofs.Exits.{plain, stops_map, no_name_int, no_name_boolean, no_name_String, next_tests}
+use Rattle.sj_proto.proofs.ExitLemmas.{plain, stops_map, no_name_int, no_name_boolean, no_name_String, next_tests}
 use Rattle.sj_proto.proofs.NamedPieceLemmas.{fixed_rule}
 use Rattle.sj_party.specs.declared.parts.Awaited.{Awaited}
 use Rattle.sj_party.specs.declared.parts.Awaited.TheVariants as awaits

@@ -9,18 +9,18 @@ use Rattle.sj_grammar.specs.Positions.{Piece, plain, first_on, all_plain, spelli
 use Rattle.sj_grammar.specs.Expressions.{whole}
 use Rattle.sj_grammar.specs.Statements.{braced, IsCode, IsStatement, IsBlock, AreArms}
 use Rattle.sj_grammar.specs.Statements as grammar
-use Rattle.sj_grammar.proofs.Lexing.{read, name_is_word}
+use Rattle.sj_grammar.proofs.LexingLemmas.{read, name_is_word}
 use Rattle.sj_party.specs.CanonicalExpression.{expression_text}
 use Rattle.sj_party.specs.CanonicalCode.{spaces, newline, in_block, named_text, pair_text, valued_text, given_text, code_text, stmt_text, arms_text}
 use Rattle.sj_party.specs.Unlined.{unlined_code, unlined_branches}
 use Rattle.sj_party.proofs.AddAlike.{alike_same, alike_cons}
-use Rattle.sj_party.proofs.Printable.{expression_pieces}
+use Rattle.sj_party.proofs.PrintableLemmas.{expression_pieces}
 use Rattle.sj_party.proofs.PieceTextLemmas.{AreBlank, Reaches, joins}
 use Rattle.sj_party.proofs.LineLemmas.{Relined, adds_append, blanks_then, expression_again, expression_adds, name_has}
 use Rattle.sj_party.proofs.HeadLemmas.{pair_tail, given_tail, pair_has, behind_space, given_has}
-use Rattle.sj_party.proofs.OneLiners.{named_is, pair_is, valued_is, given_is, send_again, let_again, delegate_again, outbranch_again, take_again, take_end_again, close_again}
-use Rattle.sj_party.proofs.Branching.{ArmsBlock, inbranch_is, Both, unlined_both, block_of, if_free, both_again}
-use Rattle.sj_party.proofs.BlockLines.{StmtAgain, with_block, in_braces, block_free, label_reaches, arm_parts}
+use Rattle.sj_party.proofs.OneLinerLemmas.{named_is, pair_is, valued_is, given_is, send_again, let_again, delegate_again, outbranch_again, take_again, take_end_again, close_again}
+use Rattle.sj_party.proofs.BranchingLemmas.{ArmsBlock, inbranch_is, Both, unlined_both, block_of, if_free, both_again}
+use Rattle.sj_party.proofs.BlockLineLemmas.{StmtAgain, with_block, in_braces, block_free, label_reaches, arm_parts}
 
 module _ (L : Limits) (names : Spelling) where
   abbrev CodeAgain : ℕ → Code → List Piece → Reading → List ℕ → Type 0

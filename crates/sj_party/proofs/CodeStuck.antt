@@ -19,17 +19,17 @@ use Rattle.sj_grammar.specs.FileDues.{Due, stmts, block, branches, name, fixed, 
 use Rattle.sj_grammar.specs.Faults.{Stuck, broken}
 use Rattle.sj_grammar.specs.Statements.{AreArms}
 use Rattle.sj_grammar.specs.Asked.{Refuses, Passes, spelled_next}
-use Rattle.sj_grammar.proofs.Stuckness.{stuck_cons, stuck_by, refuses_stuck, skip}
+use Rattle.sj_grammar.proofs.StucknessLemmas.{stuck_cons, stuck_by, refuses_stuck, skip}
 use Rattle.sj_proto.specs.Parsed.{standing, Stops}
 use Rattle.sj_proto.specs.Choices.{but_first}
-use Rattle.sj_proto.proofs.Names.{test_is}
-use Rattle.sj_proto.proofs.Rules.{Refusing, over_rule}
+use Rattle.sj_proto.proofs.NameLemmas.{test_is}
+use Rattle.sj_proto.proofs.RuleLemmas.{Refusing, over_rule}
 use Rattle.sj_expr.proofs.ReadLemmas.{agrees_itself}
 use Rattle.sj_party.specs.Read.{ReadsOnLines, ReadsCode}
 use Rattle.sj_party.specs.Parts.{AreSome}
-use Rattle.sj_party.proofs.Runs.{code_leads, open_block}
+use Rattle.sj_party.proofs.RunLemmas.{code_leads, open_block}
 use Rattle.sj_party.proofs.PartLemmas.{leads_stuck, some_arms_lead}
-use Rattle.sj_proto.proofs.Fronts.{spelling_at}
+use Rattle.sj_proto.proofs.FrontLemmas.{spelling_at}
 
 -- behind statements
 code_stuck : (o : ℕ) (c : Code) (a m : At) (ds : List Due) (f : Fault) → ReadsCode o a m c → ((k : ℕ) → Stuck file_layer limits k m (stmts o ∷ ds) f) → (n : ℕ) → Stuck file_layer limits n a (stmts o ∷ ds) f

@@ -19,17 +19,17 @@ use Rattle.sj_grammar.specs.Files.{end_pieces, connect_pieces, connects_pieces, 
 use Rattle.sj_grammar.specs.FileDues.{Due, name, fixed, semicolon, connects, file_layer}
 use Rattle.sj_grammar.specs.Faults.{Stuck}
 use Rattle.sj_grammar.specs.Asked.{TakesText, is_next, Refuses}
-use Rattle.sj_grammar.proofs.Steps.{Runs, Runs-cons, Runs-none}
-use Rattle.sj_grammar.proofs.Stuckness.{stuck_cons, stuck_block}
+use Rattle.sj_grammar.proofs.StepLemmas.{Runs, Runs-cons, Runs-none}
+use Rattle.sj_grammar.proofs.StucknessLemmas.{stuck_cons, stuck_block}
 use Rattle.sj_proto.specs.Choices.{but_first}
 use Rattle.sj_proto.specs.Parsed.{standing, Gives, GivesOnLines}
 use Rattle.sj_proto.proofs.ReadLemmas.{itself}
-use Rattle.sj_proto.proofs.Exits as exits
-use Rattle.sj_proto.proofs.Fronts.{spelling_at}
-use Rattle.sj_proto.proofs.Lines.{off_lines, Lines-cons, Lines-append, Lines-as, Lines-plain, lines_one}
+use Rattle.sj_proto.proofs.ExitLemmas as exits
+use Rattle.sj_proto.proofs.FrontLemmas.{spelling_at}
+use Rattle.sj_proto.proofs.LineLemmas.{off_lines, Lines-cons, Lines-append, Lines-as, Lines-plain, lines_one}
 use Rattle.sj_proto.proofs.NamedPieceLemmas.{name_step}
-use Rattle.sj_party.proofs.FileLines.{leads_stuck, first_fault}
-use Rattle.sj_party.proofs.FileRuns.{connects_leads}
+use Rattle.sj_party.proofs.FileLineLemmas.{leads_stuck, first_fault}
+use Rattle.sj_party.proofs.FileRunLemmas.{connects_leads}
 
 no_name_connect : is_name (codes "connect") ≡ false
 unfolding is_reserved

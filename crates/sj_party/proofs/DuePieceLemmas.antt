@@ -12,8 +12,8 @@ use Rattle.sj_grammar.specs.Statements as statements
 use Rattle.sj_grammar.specs.Files.{protocols_pieces, connects_pieces, IsProtocolDef, IsConnect, AreParties}
 use Rattle.sj_grammar.specs.Files as files
 use Rattle.sj_grammar.specs.FileDues.{Due, protocols, parties, connects, stmts, block, branches, awaited, name, fixed, proto, expr, file_layer, file_may_be_none}
-use Rattle.sj_grammar.proofs.Completion.{Alls}
-use Rattle.sj_proto.proofs.Lines.{spellings-append, spellings-plain}
+use Rattle.sj_grammar.proofs.CompletionLemmas.{Alls}
+use Rattle.sj_proto.proofs.LineLemmas.{spellings-append, spellings-plain}
 use Rattle.sj_proto.proofs.DuePieceLemmas as protocol
 use Rattle.sj_proto.proofs.CompletionLemmas as completed
 use Rattle.sj_expr.proofs.CompletionLemmas as expression

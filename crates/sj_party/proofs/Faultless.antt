@@ -10,12 +10,12 @@ use Rattle.sj_grammar.specs.Layers.{step, run, may_end, rule_of}
 use Rattle.sj_grammar.specs.Faults.{Stuck}
 use Rattle.sj_grammar.specs.FileDues.{Due, file_layer, file_due}
 use Rattle.sj_grammar.specs.Files.{IsFile}
-use Rattle.sj_grammar.proofs.Steps.{run_split, onward_goes, step_due, step_refused, one_due, due_behind}
-use Rattle.sj_grammar.proofs.Stuckness.{clash}
-use Rattle.sj_proto.proofs.Lines.{off_lines}
+use Rattle.sj_grammar.proofs.StepLemmas.{run_split, onward_goes, step_due, step_refused, one_due, due_behind}
+use Rattle.sj_grammar.proofs.StucknessLemmas.{clash}
+use Rattle.sj_proto.proofs.LineLemmas.{off_lines}
 use Rattle.sj_party.specs.Leads.{Leads}
 use Rattle.sj_party.specs.Viable.{IsWhole, IsViable}
-use Rattle.sj_party.proofs.FileRuns.{file_completes}
+use Rattle.sj_party.proofs.FileRunLemmas.{file_completes}
 
 module _ (L : Limits) where
   -- up to each token on the way no rule is broken

@@ -7,16 +7,16 @@ use Rattle.sj_lang.specs.Limits.{limits}
 use Rattle.sj_grammar.specs.Lexis.{next_of, at_end}
 use Rattle.sj_grammar.specs.Positions.{Piece, At, at, spellings, start, BeginsOnLines}
 use Rattle.sj_grammar.specs.Files.{protocols_pieces, connects_pieces, names_of, IsFile}
-use Rattle.sj_grammar.proofs.Lexing.{read}
-use Rattle.sj_grammar.proofs.LexedTables.{words_behind, texts_behind}
+use Rattle.sj_grammar.proofs.LexingLemmas.{read}
+use Rattle.sj_grammar.proofs.LexedTableLemmas.{words_behind, texts_behind}
 use Rattle.sj_party.specs.CanonicalFile.{protocols_text, parties_text, connects_text, file_text}
 use Rattle.sj_party.specs.Unlined.{unlined, unlined_protocol, unlined_party, unlined_connect, StandsButLines}
 use Rattle.sj_party.proofs.AddAlike.{AddAlike}
 use Rattle.sj_party.proofs.PieceTextLemmas.{Reaches, joins, blank_next, lines_begin, tables_made}
 use Rattle.sj_party.proofs.LineLemmas.{adds_append}
-use Rattle.sj_party.proofs.DefinitionLines.{protocols_again}
-use Rattle.sj_party.proofs.PartyLines.{parties_again}
-use Rattle.sj_party.proofs.ConnectLines.{connects_again}
+use Rattle.sj_party.proofs.DefinitionLineLemmas.{protocols_again}
+use Rattle.sj_party.proofs.PartyLineLemmas.{parties_again}
+use Rattle.sj_party.proofs.ConnectLineLemmas.{connects_again}
 use Rattle.sj_party.proofs.OneFile.{one_file}
 
 -- as many, but for lines

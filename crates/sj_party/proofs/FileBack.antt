@@ -14,8 +14,8 @@ use Rattle.sj_grammar.specs.Statements.{braced}
 use Rattle.sj_grammar.specs.Files.{protocols_pieces, IsProtocolDef, IsEnd, IsConnect}
 use Rattle.sj_grammar.specs.Files as files
 use Rattle.sj_grammar.specs.FileDues.{Due, protocols, parties, connects, stmts, block, branches, awaited, name, fixed, proto, expr, semicolon, file_layer, file_follow}
-use Rattle.sj_grammar.proofs.Spellings.{IsHeld}
-use Rattle.sj_grammar.proofs.Completion.{alls_below}
+use Rattle.sj_grammar.proofs.SpellingLemmas.{IsHeld}
+use Rattle.sj_grammar.proofs.CompletionLemmas.{alls_below}
 use Rattle.sj_proto.proofs.DuePieceLemmas as protocol
 use Rattle.sj_proto.proofs.CompletionLemmas as completed
 use Rattle.sj_expr.proofs.CompletionLemmas as expression

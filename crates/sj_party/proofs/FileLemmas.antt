@@ -18,12 +18,12 @@ use Rattle.sj_grammar.specs.FileDues.{Due, protocols, parties, connects, file_la
 use Rattle.sj_grammar.specs.Faults.{Stuck, broken}
 use Rattle.sj_grammar.specs.Refusals.{OnFault}
 use Rattle.sj_grammar.specs.Asked.{Refuses, refused, Passes}
-use Rattle.sj_grammar.proofs.Stuckness.{halts_stuck, stuck_block, skip}
+use Rattle.sj_grammar.proofs.StucknessLemmas.{halts_stuck, stuck_block, skip}
 use Rattle.sj_proto.specs.Protocols.{AreProtocols, IsOther, IsFaultInProtocols}
-use Rattle.sj_proto.proofs.Exits.{on_fault_map}
-use Rattle.sj_proto.proofs.Fronts.{protocols_run, spelling_at}
+use Rattle.sj_proto.proofs.ExitLemmas.{on_fault_map}
+use Rattle.sj_proto.proofs.FrontLemmas.{protocols_run, spelling_at}
 use Rattle.sj_proto.proofs.ReadLemmas.{itself}
-use Rattle.sj_proto.proofs.Lines.{off_lines, OnLines-append}
+use Rattle.sj_proto.proofs.LineLemmas.{off_lines, OnLines-append}
 use Rattle.sj_expr.proofs.ReadLemmas.{agrees_back, agrees_itself}
 use Rattle.sj_party.proofs.ConnectLemmas.{GivesConnects, connects_stuck}
 use Rattle.sj_party.proofs.PartyLemmas.{ReadsParties, parties_stuck}

@@ -10,12 +10,12 @@ use Rattle.sj_grammar.specs.Tables.{Spelling, IsNamed}
 use Rattle.sj_grammar.specs.Positions.{Pieces, Piece, plain, all_plain}
 use Rattle.sj_grammar.specs.Expressions.{IsExpression, whole}
 use Rattle.sj_grammar.specs.Statements.{scalar_piece}
-use Rattle.sj_grammar.proofs.Lexing.{Any, NoWordByte, NoEqual}
+use Rattle.sj_grammar.proofs.LexingLemmas.{Any, NoWordByte, NoEqual}
 use Rattle.sj_party.specs.CanonicalExpression.{expression_text}
 use Rattle.sj_party.specs.CanonicalCode.{spaces}
-use Rattle.sj_party.proofs.Printable.{expression_pieces}
+use Rattle.sj_party.proofs.PrintableLemmas.{expression_pieces}
 use Rattle.sj_party.proofs.PieceTextLemmas.{HasLines, lines_append, blank_lines, one_line}
-use Rattle.sj_party.proofs.ExpressionText.{word_lines, spaced_lines}
+use Rattle.sj_party.proofs.ExpressionTextLemmas.{word_lines, spaced_lines}
 use Rattle.sj_party.proofs.LineLemmas.{spaces_blank, expression_has, name_has}
 
 -- a semicolon behind

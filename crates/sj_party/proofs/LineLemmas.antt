@@ -8,15 +8,15 @@ use Rattle.sj_grammar.specs.Reading.{Reading}
 use Rattle.sj_grammar.specs.Tables.{Spelling, IsNamed}
 use Rattle.sj_grammar.specs.Positions.{Pieces, Piece, plain, first_on, all_plain, spellings}
 use Rattle.sj_grammar.specs.Expressions.{IsExpression, whole}
-use Rattle.sj_grammar.proofs.Lexing.{read, Any, NoWordByte, word_next, name_is_word}
-use Rattle.sj_proto.proofs.Lines.{spellings-append, spellings-plain}
+use Rattle.sj_grammar.proofs.LexingLemmas.{read, Any, NoWordByte, word_next, name_is_word}
+use Rattle.sj_proto.proofs.LineLemmas.{spellings-append, spellings-plain}
 use Rattle.sj_party.specs.CanonicalExpression.{expression_text}
 use Rattle.sj_party.specs.CanonicalCode.{spaces, newline}
 use Rattle.sj_party.proofs.AddAlike.{AddAlike, alike_append}
-use Rattle.sj_party.proofs.Printable.{expression_pieces, printable}
+use Rattle.sj_party.proofs.PrintableLemmas.{expression_pieces, printable}
 use Rattle.sj_party.proofs.RespellingLemmas.{spelt_again, adds_alike}
 use Rattle.sj_party.proofs.PieceTextLemmas.{AreBlank, LexesOnLines, Reaches, HasLines, joins, blanks_append, first_line, line_here}
-use Rattle.sj_party.proofs.ExpressionText.{word_lines, spaced_lines, expression_lines}
+use Rattle.sj_party.proofs.ExpressionTextLemmas.{word_lines, spaced_lines, expression_lines}
 
 -- from here up to the rest stand the pieces of a value that is the same but for lines, and adds what the given pieces add
 pub record Relined {X : Type 0} (un : X → X) (Is : X → List Piece → Type 0) (x : X) (a : List Piece) (r : Reading) (rest : List ℕ) : Type 0 where

@@ -7,7 +7,7 @@ use Rattle.sj_grammar.specs.Names.{is_name}
 use Rattle.sj_grammar.specs.Tables.{IsNamed}
 use Rattle.sj_grammar.specs.Positions.{Pieces}
 use Rattle.sj_grammar.specs.Protocols.{way_piece, open_piece, close_piece, dotted, kind_pieces, listed, body_pieces, IsGiven, IsGivenKind, AreGiven, IsBody}
-use Rattle.sj_grammar.proofs.Spellings.{first_of}
+use Rattle.sj_grammar.proofs.SpellingLemmas.{first_of}
 use Rattle.sj_proto.specs.Writable.{IsWritable, CanBeCarried, AreWritable}
 use Rattle.sj_party.proofs.LimitLemmas.{Widely, widely, widely_two, widely_three, named_widely}
 

@@ -11,12 +11,12 @@ use Rattle.sj_grammar.specs.Protocols.{body_pieces}
 use Rattle.sj_grammar.specs.Statements.{braced}
 use Rattle.sj_grammar.specs.Files.{protocol_pieces, protocols_pieces, connects_pieces, IsProtocolDef, IsEnd, IsConnect, AreParties, names_of, IsFile}
 use Rattle.sj_grammar.specs.Files as files
-use Rattle.sj_grammar.proofs.Readings.{one_token, one_reading}
-use Rattle.sj_proto.proofs.Lines.{off_lines, spellings-append, spellings-plain}
-use Rattle.sj_proto.proofs.Unique.{unique}
+use Rattle.sj_grammar.proofs.ReadingLemmas.{one_token, one_reading}
+use Rattle.sj_proto.proofs.LineLemmas.{off_lines, spellings-append, spellings-plain}
+use Rattle.sj_proto.proofs.UniquenessLemmas.{unique}
 use Rattle.sj_party.specs.Alike.{OnOneLine, AreAlike}
 use Rattle.sj_party.proofs.AlikeLemmas.{alike_spelled, regroup, behind_pieces}
-use Rattle.sj_party.proofs.Unique.{one_code, one_name, no_keyword}
+use Rattle.sj_party.proofs.UniquenessLemmas.{one_code, one_name, no_keyword}
 
 on_one_line : (x y : Option ℕ) (l k : ℕ) → l ≡ k → IfSome x (λ i. i ≡ l) → IfSome y (λ i. i ≡ k) → OnOneLine x y
 on_one_line None y l k e h g = tt

@@ -20,18 +20,18 @@ use Rattle.sj_grammar.specs.Refusals.{OnFault}
 use Rattle.sj_grammar.specs.Statements.{scalar_piece, AreArms}
 use Rattle.sj_grammar.specs.Statements as grammar
 use Rattle.sj_grammar.specs.Asked.{Refuses, but, but_name}
-use Rattle.sj_grammar.proofs.Stuckness.{stuck_cons, stuck_block, refuses_stuck, skip}
+use Rattle.sj_grammar.proofs.StucknessLemmas.{stuck_cons, stuck_block, refuses_stuck, skip}
 use Rattle.sj_proto.specs.Parsed.{standing, Stops}
-use Rattle.sj_proto.proofs.Exits.{err_as, on_fault_map}
-use Rattle.sj_proto.proofs.Lines.{off_lines}
+use Rattle.sj_proto.proofs.ExitLemmas.{err_as, on_fault_map}
+use Rattle.sj_proto.proofs.LineLemmas.{off_lines}
 use Rattle.sj_proto.proofs.NamedPieceLemmas.{fixed_rule, name_rule, name_stuck}
-use Rattle.sj_expr.proofs.InFiles.{expression_leads}
+use Rattle.sj_expr.proofs.FileLemmas.{expression_leads}
 use Rattle.sj_expr.proofs.ReadLemmas.{agrees_itself}
 use Rattle.sj_party.specs.Leads.{LeadsTo}
 use Rattle.sj_party.specs.Parts.{Part, a_name, an_expression, a_piece, a_value, an_end, a_block, some_arms, AreSome, ReadsPart, ReadsParts, due_of, dues_of}
 use Rattle.sj_party.proofs.TakenPieceLemmas.{leads_one, leads_on}
-use Rattle.sj_party.proofs.Runs.{scalar_step, name_leads, block_leads, arms_leads}
-use Rattle.sj_proto.proofs.Fronts.{spelling_at}
+use Rattle.sj_party.proofs.RunLemmas.{scalar_step, name_leads, block_leads, arms_leads}
+use Rattle.sj_proto.proofs.FrontLemmas.{spelling_at}
 
 -- behind pieces that are what is due
 pub leads_stuck : (a m : At) (ps : List Piece) (ds es : List Due) (f : Fault) → BeginsOnLines a ps m → ((n : ℕ) → LeadsTo limits n ds ps es) → ((k : ℕ) → Stuck file_layer limits k m es f)

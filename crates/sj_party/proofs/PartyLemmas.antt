@@ -21,19 +21,19 @@ use Rattle.sj_grammar.specs.Files as files
 use Rattle.sj_grammar.specs.FileDues.{Due, name, fixed, stmts, parties, file_layer}
 use Rattle.sj_grammar.specs.Faults.{Stuck}
 use Rattle.sj_grammar.specs.Asked.{TakesText, is_next, Refuses, Passes}
-use Rattle.sj_grammar.proofs.Stuckness.{stuck_cons, skip}
+use Rattle.sj_grammar.proofs.StucknessLemmas.{stuck_cons, skip}
 use Rattle.sj_proto.specs.Choices.{but_first}
 use Rattle.sj_proto.specs.Parsed.{standing, Gives}
 use Rattle.sj_proto.proofs.ReadLemmas.{itself}
-use Rattle.sj_proto.proofs.Exits as exits
-use Rattle.sj_proto.proofs.Lines.{off_lines, OnLines-append}
+use Rattle.sj_proto.proofs.ExitLemmas as exits
+use Rattle.sj_proto.proofs.LineLemmas.{off_lines, OnLines-append}
 use Rattle.sj_proto.proofs.NamedPieceLemmas.{name_stuck}
 use Rattle.sj_expr.proofs.ReadLemmas.{agrees_back, agrees_itself, same_piece}
 use Rattle.sj_party.specs.Read.{ReadsOnLines, ReadsCode}
-use Rattle.sj_party.proofs.FileLines.{leads_stuck, first_fault}
-use Rattle.sj_party.proofs.FileRuns.{parties_leads}
-use Rattle.sj_party.proofs.Runs.{code_leads}
-use Rattle.sj_proto.proofs.Fronts.{spelling_at}
+use Rattle.sj_party.proofs.FileLineLemmas.{leads_stuck, first_fault}
+use Rattle.sj_party.proofs.FileRunLemmas.{parties_leads}
+use Rattle.sj_party.proofs.RunLemmas.{code_leads}
+use Rattle.sj_proto.proofs.FrontLemmas.{spelling_at}
 
 no_name_party : is_name (codes "party") ≡ false
 unfolding is_reserved

@@ -11,7 +11,7 @@ use Rattle.sj_grammar.specs.Expressions.{IsExpression}
 use Rattle.sj_grammar.specs.Statements.{scalar_piece, called, IsStatement, IsBlock, AreArms}
 use Rattle.sj_grammar.specs.Statements as grammar
 use Rattle.sj_proto.specs.Parsed.{Gives}
-use Rattle.sj_proto.proofs.Lines.{off_lines, on_lines, OnLines-append}
+use Rattle.sj_proto.proofs.LineLemmas.{off_lines, on_lines, OnLines-append}
 use Rattle.sj_expr.proofs.ReadLemmas.{agrees_back}
 use Rattle.sj_party.specs.Read.{ReadsOnLines}
 use Rattle.sj_party.specs.Parts.{Part, a_name, an_expression, a_piece, a_value, an_end, a_block, some_arms, parts_of, first_word, AreSome, ReadsPart, ReadsParts}

@@ -11,8 +11,8 @@ use Rattle.sj_grammar.specs.Names.{is_name}
 use Rattle.sj_grammar.specs.Literals.{is_text, inner}
 use Rattle.sj_grammar.specs.Tables.{with_entry}
 use Rattle.sj_grammar.specs.Asked.{TakesText}
-use Rattle.sj_grammar.proofs.Lexing.{read}
-use Rattle.sj_grammar.proofs.LexedTables.{words_behind, texts_behind}
+use Rattle.sj_grammar.proofs.LexingLemmas.{read}
+use Rattle.sj_grammar.proofs.LexedTableLemmas.{words_behind, texts_behind}
 
 abbrev pub AreBlank : List ℕ → Type 0
 AreBlank g = list_all is_blank g ≡ true

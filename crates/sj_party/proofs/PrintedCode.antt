@@ -4,7 +4,7 @@ use Rattle.std.specs.Prelude.{codes, map, Vec}
 use Rattle.std.proofs.lemmas.List.{take-append-drop, take-replicate, drop-replicate, drop_all}
 use Rattle.std.specs.declared.alloc.Global.{Global}
 use Rattle.sj_text.specs.Cut.{IsCutShort}
-use Rattle.sj_text.proofs.Cuts.{StillTo, none_yet, one_more, ahead_is, open_by}
+use Rattle.sj_text.proofs.CutLemmas.{StillTo, none_yet, one_more, ahead_is, open_by}
 use Rattle.sj_lang.specs.declared.party.Expr.{Expr}
 use Rattle.sj_lang.specs.declared.party.Deed.{Deed}
 use Rattle.sj_lang.specs.declared.party.Deed.TheVariants as deeds
@@ -12,7 +12,7 @@ use Rattle.sj_lang.specs.declared.party.Stmt.{Stmt}
 use Rattle.sj_lang.specs.declared.party.StmtArm.{StmtArm, out-StmtArm}
 use Rattle.sj_lang.specs.CodeView.{term_of, code_of, deed_of, arm_of, branches_of}
 use Rattle.sj_lang.specs.Code.{Code}
-use Rattle.sj_lang.proofs.Folds.{stmt_of-fields, arm_of-fields, deed_of-If}
+use Rattle.sj_lang.proofs.FoldLemmas.{stmt_of-fields, arm_of-fields, deed_of-If}
 use Rattle.sj_grammar.specs.Tables.{Spelling}
 use Rattle.sj_party.specs.CanonicalCode.{spaces, newline, in_block, valued_text, code_text, stmt_text, deed_text, arms_text, arm_text, block_text}
 

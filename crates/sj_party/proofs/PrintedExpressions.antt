@@ -7,7 +7,7 @@ use Rattle.sj_lang.specs.declared.party.Op.{Op}
 use Rattle.sj_lang.specs.declared.party.Expr.{Expr}
 use Rattle.sj_lang.specs.declared.party.Expr.TheVariants as exprs
 use Rattle.sj_lang.specs.CodeView.{term_of}
-use Rattle.sj_lang.proofs.Folds.{term_of-Not, term_of-Two}
+use Rattle.sj_lang.proofs.FoldLemmas.{term_of-Not, term_of-Two}
 use Rattle.sj_grammar.specs.Tables.{Spelling}
 use Rattle.sj_grammar.specs.Expressions.{Level, factor}
 use Rattle.sj_party.specs.CanonicalExpression.{left_of, right_of, needs_parens, enclosed, spaced_op, expression_text}

@@ -17,7 +17,7 @@ use Rattle.sj_expr.specs.Signs.{op_piece}
 use Rattle.sj_expr.proofs.TokenLemmas.{number_no_text, number_no_name}
 use Rattle.sj_party.specs.CanonicalExpression.{left_of, right_of, needs_parens}
 use Rattle.sj_party.proofs.AddAlike.{AddAlike, alike_same, alike_back, alike_then, alike_append, alike_cons, alike_less, alike_parens}
-use Rattle.sj_party.proofs.Printable.{int_pieces, enclosed_pieces, expression_pieces, IsPrintableInt, IsPrintable, MayNest, inside, printable, int_adds}
+use Rattle.sj_party.proofs.PrintableLemmas.{int_pieces, enclosed_pieces, expression_pieces, IsPrintableInt, IsPrintable, MayNest, inside, printable, int_adds}
 
 -- what two operands of an operator are
 abbrev made_by : Op → Level

@@ -12,8 +12,8 @@ use Rattle.sj_grammar.specs.ExpressionDues.{whole}
 use Rattle.sj_grammar.specs.Statements.{scalar_piece, braced}
 use Rattle.sj_grammar.specs.Statements as grammar
 use Rattle.sj_grammar.specs.FileDues.{Due, stmts, block, branches, awaited, name, fixed, expr, semicolon, file_layer, file_follow, statement_follow, awaited_follow}
-use Rattle.sj_grammar.proofs.Spellings.{IsHeld}
-use Rattle.sj_grammar.proofs.Completion.{lone}
+use Rattle.sj_grammar.proofs.SpellingLemmas.{IsHeld}
+use Rattle.sj_grammar.proofs.CompletionLemmas.{lone}
 use Rattle.sj_expr.proofs.TestLemmas.{bytes_same}
 use Rattle.sj_party.proofs.LimitLemmas.{widely_two, widely_three, named_widely}
 use Rattle.sj_party.proofs.DuePieceLemmas.{Named, Spelled, AllSpelled, lines_spelled}

@@ -8,8 +8,8 @@ use Rattle.sj_grammar.specs.ExpressionDues.{whole}
 use Rattle.sj_grammar.specs.Statements.{IsStatement, braced}
 use Rattle.sj_grammar.specs.Statements as grammar
 use Rattle.sj_grammar.specs.FileDues.{Due, stmts, block, branches, awaited, name, fixed, expr, semicolon, file_layer}
-use Rattle.sj_grammar.proofs.Completion.{Alls-split, lone}
-use Rattle.sj_proto.proofs.Lines.{spellings-append}
+use Rattle.sj_grammar.proofs.CompletionLemmas.{Alls-split, lone}
+use Rattle.sj_proto.proofs.LineLemmas.{spellings-append}
 use Rattle.sj_party.proofs.LimitLemmas.{Widely, widely, widely_two, widely_three, expression_widely}
 use Rattle.sj_party.proofs.DuePieceLemmas.{Named, Spelled, AllSpelled, awaited_lines, lines_of, lines_spelled}
 

@@ -9,11 +9,11 @@ use Rattle.sj_grammar.specs.Layers.{Step, goes, onward, step, run}
 use Rattle.sj_grammar.specs.Expressions.{IsExpression, operand_count}
 use Rattle.sj_grammar.specs.ExpressionDues.{ExpressionDue, whole, times, plus, compare, expression_layer}
 use Rattle.sj_grammar.specs.FileDues.{Due, expr, file_layer}
-use Rattle.sj_grammar.proofs.Steps.{Runs-append}
-use Rattle.sj_grammar.proofs.Framing.{run_framed}
-use Rattle.sj_proto.proofs.Lines.{spellings-append, spellings-plain}
-use Rattle.sj_expr.proofs.WholeRuns.{is_due}
-use Rattle.sj_expr.proofs.InFiles.{expressions_embedded}
+use Rattle.sj_grammar.proofs.StepLemmas.{Runs-append}
+use Rattle.sj_grammar.proofs.FramingLemmas.{run_framed}
+use Rattle.sj_proto.proofs.LineLemmas.{spellings-append, spellings-plain}
+use Rattle.sj_expr.proofs.WholeRunLemmas.{is_due}
+use Rattle.sj_expr.proofs.FileLemmas.{expressions_embedded}
 use Rattle.sj_party.specs.Leads.{LeadsTo}
 
 module _ (L : Limits) where

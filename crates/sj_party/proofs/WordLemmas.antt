@@ -12,9 +12,9 @@ use Rattle.sj_grammar.specs.Positions.{At, Takes, TakesPiece, first_on}
 use Rattle.sj_grammar.specs.Layers.{goes, step}
 use Rattle.sj_grammar.specs.FileDues.{Due, stmts, statement_follow, file_layer}
 use Rattle.sj_grammar.specs.Asked.{TakesText}
-use Rattle.sj_grammar.proofs.Stuckness.{stuck_cons}
+use Rattle.sj_grammar.proofs.StucknessLemmas.{stuck_cons}
 use Rattle.sj_proto.specs.Parsed.{standing, Stops}
-use Rattle.sj_proto.proofs.Exits.{plain, stops_map}
+use Rattle.sj_proto.proofs.ExitLemmas.{plain, stops_map}
 use Rattle.sj_party.specs.declared.openings.Word.TheVariants as words
 use Rattle.sj_party.specs.declared.openings.Opening.{Opening}
 use Rattle.sj_party.specs.declared.openings.Opening.TheVariants as openings

@@ -13,12 +13,12 @@ use Rattle.sj_grammar.specs.Positions.{Pieces, start}
 use Rattle.sj_grammar.specs.Layers.{Step, goes, stops, misfit, rule_of, step, may_end}
 use Rattle.sj_grammar.specs.FileDues.{Due, file_layer, file_due}
 use Rattle.sj_grammar.specs.Faults.{Stuck, broken}
-use Rattle.sj_grammar.proofs.Steps.{IsStep, due_behind, step_is, Runs-none, Runs-cons, Runs-append}
+use Rattle.sj_grammar.proofs.StepLemmas.{IsStep, due_behind, step_is, Runs-none, Runs-cons, Runs-append}
 use Rattle.sj_party.specs.Leads.{Leads}
 use Rattle.sj_party.specs.Viable.{IsViable, IsWhole}
 use Rattle.sj_party.specs.Wrong.{IsTaken, IsWrongNext, GoesWrong}
 use Rattle.sj_party.proofs.Faultless.{none_broken, not_viable, not_whole}
-use Rattle.sj_party.proofs.Viability.{viable, viable_over, whole}
+use Rattle.sj_party.proofs.ViabilityLemmas.{viable, viable_over, whole}
 
 -- what is no limit's rule
 misfits : (s : List ℕ) → misfit s ≢ P4

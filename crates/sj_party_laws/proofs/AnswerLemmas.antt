@@ -9,16 +9,16 @@ use Rattle.sj_grammar.specs.Layers.{goes, run}
 use Rattle.sj_grammar.specs.Faults.{Stuck}
 use Rattle.sj_grammar.specs.Files.{protocols_pieces, connects_pieces, IsSpelled, IsFile}
 use Rattle.sj_grammar.specs.FileDues.{Due, file_layer, file_due}
-use Rattle.sj_grammar.proofs.Spellings.{AllHeld}
+use Rattle.sj_grammar.proofs.SpellingLemmas.{AllHeld}
 use Rattle.sj_party.specs.Alike.{AreAlike}
 use Rattle.sj_party_laws.proofs.ChainLemmas.{nothing, first, run_back, ends_back}
 use Rattle.sj_party_laws.proofs.TermLemmas.{IsKnown}
 use Rattle.sj_party_laws.proofs.FilledLemmas.{Spelled, AllSpelled, lines_alike, none_spelled}
 use Rattle.sj_party_laws.proofs.FileBackLemmas.{file_back}
-use Rattle.sj_party_laws.proofs.KnownLemmas.{all_known}
+use Rattle.sj_party_laws.proofs.TableLemmas.{all_known}
 use Rattle.sj_party_laws.proofs.LinedLemmas.{lined, lined_spelled, begins_alike}
 use Rattle.sj_party_laws.proofs.RunningLemmas.{Whole, each_ends}
-use Rattle.sj_proto.proofs.Fronts.{spelling_at as names_at}
+use Rattle.sj_proto.proofs.FrontLemmas.{spelling_at as names_at}
 
 module _ (L : Limits) (there : At) where
   -- a file with the tables of that reader, within the limits, in pieces that are alike

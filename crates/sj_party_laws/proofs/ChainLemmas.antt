@@ -4,9 +4,9 @@ use Rattle.std.specs.Prelude.{if◌then◌else◌, ◌&&◌, map}
 use Rattle.sj_lang.specs.Limits.{Limits}
 use Rattle.sj_grammar.specs.Layers.{Layer, goes, stops, instead, misfit, step, run, may_end}
 use Rattle.sj_grammar.specs.Positions.{Pieces, Piece, spellings}
-use Rattle.sj_grammar.proofs.Steps.{onward_goes}
-use Rattle.sj_grammar.proofs.Spellings.{AllHeld}
-use Rattle.sj_proto.proofs.Lines.{spellings-append}
+use Rattle.sj_grammar.proofs.StepLemmas.{onward_goes}
+use Rattle.sj_grammar.proofs.SpellingLemmas.{AllHeld}
+use Rattle.sj_proto.proofs.LineLemmas.{spellings-append}
 
 -- with so much counted before, the tokens are what is due, one due after another; and then so much is counted
 pub data Chain {D T : Type 0} (Spelled : ℕ → D → List T → ℕ → Type 0) : ℕ → List D → List T → ℕ → Type 0 where

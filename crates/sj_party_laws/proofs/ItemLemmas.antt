@@ -11,7 +11,7 @@ use Rattle.sj_grammar.specs.Tables.{IsNamed}
 use Rattle.sj_grammar.specs.Positions.{Pieces}
 use Rattle.sj_grammar.specs.Protocols.{way_piece, open_piece, close_piece, dotted, seq_pieces, body_pieces, kind_pieces, listed, IsGiven, IsGivenKind, AreGiven}
 use Rattle.sj_grammar.specs.ProtocolDues.{ProtocolDue, body, more, seq, maybe, behind, kind, label, arms, fixed, item_follow, is_way}
-use Rattle.sj_proto.proofs.Names.{test_is}
+use Rattle.sj_proto.proofs.NameLemmas.{test_is}
 use Rattle.sj_party_laws.proofs.ChainLemmas.{Chained, nothing, first}
 use Rattle.sj_party_laws.proofs.CountLemmas.{Counts, counts_one, counts_then}
 

@@ -9,7 +9,7 @@ pub mod FilledLemmas
 pub mod StatementLemmas
 pub mod BlockLemmas
 pub mod FileBackLemmas
-pub mod KnownLemmas
+pub mod TableLemmas
 pub mod LinedLemmas
 pub mod RunningLemmas
 pub mod AnswerLemmas

@@ -11,8 +11,8 @@ use Rattle.sj_grammar.specs.Names.{is_name}
 use Rattle.sj_grammar.specs.Positions.{Pieces}
 use Rattle.sj_grammar.specs.Protocols.{open_piece, close_piece, kind_pieces, listed, IsGivenKind}
 use Rattle.sj_grammar.specs.ProtocolDues.{ProtocolDue, body, more, seq, maybe, behind, kind, label, arms, fixed, protocol_follow, protocol_counted, protocol_passes, protocol_may_be_none, item_follow, is_way}
-use Rattle.sj_grammar.proofs.Spellings.{HasFirst}
-use Rattle.sj_proto.proofs.Names.{test_is}
+use Rattle.sj_grammar.proofs.SpellingLemmas.{HasFirst}
+use Rattle.sj_proto.proofs.NameLemmas.{test_is}
 use Rattle.sj_proto.proofs.BodyLemmas.{dotted_some}
 use Rattle.sj_party_laws.proofs.ChainLemmas.{nothing, first}
 use Rattle.sj_party_laws.proofs.CountLemmas.{Counts, counts_none, counts_few}

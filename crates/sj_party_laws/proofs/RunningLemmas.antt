@@ -11,8 +11,8 @@ use Rattle.sj_grammar.specs.Reading.{before_next, fault_at}
 use Rattle.sj_grammar.specs.Positions.{Pieces, At, Takes, Begins, past}
 use Rattle.sj_grammar.specs.Layers.{Layer, Step, goes, stops, onward, step, run, may_end, rule_of}
 use Rattle.sj_grammar.specs.Faults.{broken, Stuck}
-use Rattle.sj_grammar.proofs.Splits.{next_split}
-use Rattle.sj_grammar.proofs.Stuckness.{halts_stuck, stuck_cons}
+use Rattle.sj_grammar.proofs.SplitLemmas.{next_split}
+use Rattle.sj_grammar.proofs.StucknessLemmas.{halts_stuck, stuck_cons}
 
 module _ {D : Type 0} (G : Layer D) (L : Limits) where
   -- all tokens are taken, and nothing need be due behind them

@@ -15,7 +15,7 @@ use Rattle.sj_grammar.specs.Positions.{Pieces}
 use Rattle.sj_grammar.specs.Expressions.{Level, Spelt, operand_count}
 use Rattle.sj_grammar.specs.Expressions as level
 use Rattle.sj_grammar.specs.ExpressionDues.{ExpressionDue, whole, factor, times, plus, compare, after_minus, fixed, is_operand, is_long}
-use Rattle.sj_grammar.proofs.Spellings.{HasFirst}
+use Rattle.sj_grammar.proofs.SpellingLemmas.{HasFirst}
 use Rattle.sj_expr.proofs.TokenLemmas.{text_quoted}
 use Rattle.sj_expr.proofs.NumberLemmas.{small_number}
 use Rattle.sj_expr.proofs.TestLemmas.{bytes_same}

@@ -13,9 +13,9 @@ use Rattle.sj_grammar.specs.ProtocolDues.{body, more, seq}
 use Rattle.sj_grammar.specs.FileDues.{Due, proto, file_layer}
 use Rattle.sj_grammar.specs.Faults.{Stuck}
 use Rattle.sj_grammar.specs.Asked.{TakesText}
-use Rattle.sj_grammar.proofs.Stuckness.{stuck_cons}
+use Rattle.sj_grammar.proofs.StucknessLemmas.{stuck_cons}
 use Rattle.sj_proto.specs.Parsed.{standing}
-use Rattle.sj_proto.proofs.Exits.{plain}
+use Rattle.sj_proto.proofs.ExitLemmas.{plain}
 
 pub no_name_begin : is_name (codes "begin") ≡ false
 unfolding is_reserved

@@ -8,9 +8,9 @@ use Rattle.sj_grammar.specs.Names.{is_name}
 use Rattle.sj_grammar.specs.Positions.{Pieces}
 use Rattle.sj_grammar.specs.Protocols.{open_piece, close_piece, seq_pieces, body_pieces, kind_pieces, listed}
 use Rattle.sj_grammar.specs.ProtocolDues.{ProtocolDue, body, more, seq, maybe, behind, kind, label, arms, fixed, protocol_follow, protocol_layer, protocol_may_be_none, item_follow}
-use Rattle.sj_grammar.proofs.Completion.{lone}
+use Rattle.sj_grammar.proofs.CompletionLemmas.{lone}
 use Rattle.sj_proto.specs.Writable.{CanBeCarried}
-use Rattle.sj_proto.proofs.Names.{test_is}
+use Rattle.sj_proto.proofs.NameLemmas.{test_is}
 use Rattle.sj_proto.proofs.DuePieceLemmas.{Spelled, AllSpelled, from_item, arm_from, from_open}
 use Rattle.sj_proto.proofs.BodyLemmas.{dotted_some}
 

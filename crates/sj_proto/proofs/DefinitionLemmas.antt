@@ -21,17 +21,17 @@ use Rattle.sj_grammar.specs.ProtocolDues.{body, more}
 use Rattle.sj_grammar.specs.FileDues.{Due, name, fixed, proto, protocols, file_layer}
 use Rattle.sj_grammar.specs.Faults.{Stuck, broken}
 use Rattle.sj_grammar.specs.Asked.{TakesText, is_next, Refuses, refused, Passes}
-use Rattle.sj_grammar.proofs.Steps.{Runs, Runs-cons, Runs-none, Runs-append}
-use Rattle.sj_grammar.proofs.Stuckness.{halts_stuck, stuck_cons, stuck_block, skip}
+use Rattle.sj_grammar.proofs.StepLemmas.{Runs, Runs-cons, Runs-none, Runs-append}
+use Rattle.sj_grammar.proofs.StucknessLemmas.{halts_stuck, stuck_cons, stuck_block, skip}
 use Rattle.sj_proto.specs.Choices.{but_first}
 use Rattle.sj_proto.specs.Parsed.{standing, Gives, GivesOnLines}
 use Rattle.sj_proto.proofs.ReadLemmas.{itself}
-use Rattle.sj_proto.proofs.Exits.{next_is}
-use Rattle.sj_proto.proofs.Exits as exits
-use Rattle.sj_proto.proofs.WholeRuns.{body_run, in_file}
-use Rattle.sj_proto.proofs.Lines.{spellings-append, spellings-plain, Lines-cons, Lines-append, Lines-as, Lines-plain, lines_one}
+use Rattle.sj_proto.proofs.ExitLemmas.{next_is}
+use Rattle.sj_proto.proofs.ExitLemmas as exits
+use Rattle.sj_proto.proofs.WholeRunLemmas.{body_run, in_file}
+use Rattle.sj_proto.proofs.LineLemmas.{spellings-append, spellings-plain, Lines-cons, Lines-append, Lines-as, Lines-plain, lines_one}
 use Rattle.sj_proto.proofs.NamedPieceLemmas.{name_step, name_stuck}
-use Rattle.sj_proto.proofs.Rules.{over_rule as over_word}
+use Rattle.sj_proto.proofs.RuleLemmas.{over_rule as over_word}
 
 pub no_name_protocol : is_name (codes "protocol") ≡ false
 unfolding is_reserved

@@ -9,8 +9,8 @@ use Rattle.sj_grammar.specs.Names.{is_name}
 use Rattle.sj_grammar.specs.Protocols.{open_piece, close_piece}
 use Rattle.sj_grammar.specs.ProtocolDues.{ProtocolDue, body, more, seq, maybe, behind, kind, label, arms, fixed, is_way, protocol_follow, protocol_counted, protocol_passes, item_follow}
 use Rattle.sj_proto.specs.Wrong.{is_open, is_close, brackets_behind, items_behind, arms_in, is_over}
-use Rattle.sj_proto.proofs.Names.{test_is, letter_other, first_letter, name_no_way}
-use Rattle.sj_proto.proofs.Exits.{no_name_int, no_name_boolean, no_name_String}
+use Rattle.sj_proto.proofs.NameLemmas.{test_is, letter_other, first_letter, name_no_way}
+use Rattle.sj_proto.proofs.ExitLemmas.{no_name_int, no_name_boolean, no_name_String}
 
 -- a piece that begins no item, no bracket and no arm, and names nothing
 pub record IsPlain (p : List ℕ) : Type 0 where

@@ -9,9 +9,9 @@ use Rattle.sj_grammar.specs.Names.{is_name}
 use Rattle.sj_grammar.specs.Positions.{Pieces}
 use Rattle.sj_grammar.specs.Protocols.{way_piece, open_piece, close_piece, dotted, seq_pieces, body_pieces, kind_pieces, listed}
 use Rattle.sj_grammar.specs.ProtocolDues.{ProtocolDue, body, more, seq, maybe, behind, kind, label, arms, fixed, protocol_layer, protocol_follow, item_follow}
-use Rattle.sj_grammar.proofs.Completion.{Alls}
+use Rattle.sj_grammar.proofs.CompletionLemmas.{Alls}
 use Rattle.sj_proto.specs.Writable.{IsWritable, CanBeCarried, AreWritable}
-use Rattle.sj_proto.proofs.Names.{test_is}
+use Rattle.sj_proto.proofs.NameLemmas.{test_is}
 
 module _ (word : ℕ → List ℕ) where
   abbrev IsTail : Way → Pieces → Type 0

@@ -17,16 +17,16 @@ use Rattle.sj_grammar.specs.ProtocolDues.{ProtocolDue, more, seq, maybe, label, 
 use Rattle.sj_grammar.specs.FileDues.{Due, proto, file_layer}
 use Rattle.sj_grammar.specs.Faults.{Stuck}
 use Rattle.sj_grammar.specs.Asked.{Passes}
-use Rattle.sj_grammar.proofs.Steps.{Runs-cons, Runs-none, Runs-to}
-use Rattle.sj_grammar.proofs.Stuckness.{stuck_block, stuck_cons, skip}
-use Rattle.sj_grammar.proofs.Embedding.{step_embedded, step_map}
-use Rattle.sj_grammar.proofs.Framing.{step_before}
+use Rattle.sj_grammar.proofs.StepLemmas.{Runs-cons, Runs-none, Runs-to}
+use Rattle.sj_grammar.proofs.StucknessLemmas.{stuck_block, stuck_cons, skip}
+use Rattle.sj_grammar.proofs.EmbeddingLemmas.{step_embedded, step_map}
+use Rattle.sj_grammar.proofs.FramingLemmas.{step_before}
 use Rattle.sj_proto.specs.Left.{due_behind}
 use Rattle.sj_proto.specs.Items.{item_pieces}
 use Rattle.sj_proto.specs.Parsed.{Gives}
 use Rattle.sj_proto.proofs.ReadLemmas.{itself}
-use Rattle.sj_proto.proofs.Runs.{Reads, IsLikeItems, seq_like, without_dot, maybe_run, label_step}
-use Rattle.sj_proto.proofs.WholeRuns.{dotted_run, protocol_in_file, in_file}
+use Rattle.sj_proto.proofs.RunLemmas.{Reads, IsLikeItems, seq_like, without_dot, maybe_run, label_step}
+use Rattle.sj_proto.proofs.WholeRunLemmas.{dotted_run, protocol_in_file, in_file}
 
 pub step_in_file : (n m : ℕ) (ds es : List ProtocolDue) (rest : List Due) (s : List ℕ) → step protocol_layer limits n ds s ≡ goes m es → step file_layer limits n (map proto ds ++ rest) s ≡ goes m (map proto es ++ rest)
 step_in_file n m ds es rest s e = step_before file_layer limits n m (map proto ds) (map proto es) rest s (step_embedded protocol_layer file_layer proto protocol_in_file limits n ds s ∙ ap (step_map proto) e)

@@ -14,12 +14,12 @@ use Rattle.sj_grammar.specs.Layers.{goes, rule_of, step}
 use Rattle.sj_grammar.specs.FileDues.{Due, name, fixed, file_layer}
 use Rattle.sj_grammar.specs.Faults.{Stuck}
 use Rattle.sj_grammar.specs.Asked.{but, but_name}
-use Rattle.sj_grammar.proofs.Steps.{Runs-cons, Runs-none}
-use Rattle.sj_grammar.proofs.Stuckness.{stuck_block}
+use Rattle.sj_grammar.proofs.StepLemmas.{Runs-cons, Runs-none}
+use Rattle.sj_grammar.proofs.StucknessLemmas.{stuck_block}
 use Rattle.sj_proto.specs.Parsed.{Gives}
-use Rattle.sj_proto.proofs.Names.{name_not_largest}
+use Rattle.sj_proto.proofs.NameLemmas.{name_not_largest}
 use Rattle.sj_proto.proofs.ReadLemmas.{itself}
-use Rattle.sj_proto.proofs.Rules.{Refusing, over_rule, one_rule}
+use Rattle.sj_proto.proofs.RuleLemmas.{Refusing, over_rule, one_rule}
 
 pub fixed_rule : (p : List ℕ) (n : ℕ) (ds : List Due) → is_largest p ≡ false → Refusing (but p) n (fixed p ∷ ds)
 fixed_rule p n ds small = one_rule (fixed p) p n ds small (λ s e. rw e refl) refl

@@ -20,16 +20,16 @@ use Rattle.sj_grammar.specs.Layers.{goes, misfit, rule_of, step}
 use Rattle.sj_grammar.specs.FileDues.{Due, protocols, fixed, file_layer}
 use Rattle.sj_grammar.specs.Faults.{Halts}
 use Rattle.sj_grammar.specs.Refusals.{OnFault}
-use Rattle.sj_grammar.proofs.Steps.{Runs, Runs-append, Runs-none, Runs-cons}
-use Rattle.sj_grammar.proofs.Stuckness.{Begins-append}
-use Rattle.sj_grammar.proofs.Readings.{halts_there, one_end, one_place}
-use Rattle.sj_grammar.proofs.Positions.{two_faults}
+use Rattle.sj_grammar.proofs.StepLemmas.{Runs, Runs-append, Runs-none, Runs-cons}
+use Rattle.sj_grammar.proofs.StucknessLemmas.{Begins-append}
+use Rattle.sj_grammar.proofs.ReadingLemmas.{halts_there, one_end, one_place}
+use Rattle.sj_grammar.proofs.PositionLemmas.{two_faults}
 use Rattle.sj_proto.specs.Protocols.{IsOther, AreProtocols, IsFaultInProtocols, IsOnly}
 use Rattle.sj_proto.proofs.ReadLemmas.{itself}
-use Rattle.sj_proto.proofs.Lines.{off_lines, spellings-append}
+use Rattle.sj_proto.proofs.LineLemmas.{off_lines, spellings-append}
 use Rattle.sj_proto.proofs.DefinitionLemmas.{def_spelled}
-use Rattle.sj_proto.proofs.Fronts.{spelling_at, protocols_run}
-use Rattle.sj_proto.proofs.Unique.{unique, one_number}
+use Rattle.sj_proto.proofs.FrontLemmas.{spelling_at, protocols_run}
+use Rattle.sj_proto.proofs.UniquenessLemmas.{unique, one_number}
 
 abbrev StopsAt : At → ℕ → ℕ → Type 0
 StopsAt b k m = (s : List ℕ) (c : At) → Takes b s c → (r : Rule) × (rule_of (step file_layer limits m (protocols k ∷ []) s) ≡ Some r)

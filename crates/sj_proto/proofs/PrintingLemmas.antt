@@ -4,7 +4,7 @@ use Rattle.std.specs.Prelude.{codes, nat_lt, if◌then◌else◌}
 use Rattle.std.specs.List.{slice_get}
 use Rattle.std.proofs.lemmas.Bool.{lt-ltb}
 use Rattle.std.proofs.lemmas.Bool.Decides.{nat_tests}
-use Rattle.sj_text.proofs.Cuts.{StillTo, none_yet, one_more, ahead_is, open_by}
+use Rattle.sj_text.proofs.CutLemmas.{StillTo, none_yet, one_more, ahead_is, open_by}
 use Rattle.sj_lang.specs.declared.proto.Item.{Item}
 use Rattle.sj_lang.specs.declared.proto.Item.TheVariants.{Send, Recv, Select, Branch, OutLoop, InLoop}
 use Rattle.sj_lang.specs.declared.proto.Arm.{Arm}

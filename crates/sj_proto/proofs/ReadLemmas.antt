@@ -16,10 +16,10 @@ use Rattle.sj_grammar.specs.Tables.{with_entry, Spells, IsNamed, entry_of}
 use Rattle.sj_grammar.specs.Positions.{Pieces, At, at, Takes, Begins}
 use Rattle.sj_grammar.specs.Protocols.{way_piece, close_piece}
 use Rattle.sj_grammar.specs.Asked.{TakesText}
-use Rattle.sj_grammar.proofs.Stuckness.{Begins-append}
+use Rattle.sj_grammar.proofs.StucknessLemmas.{Begins-append}
 use Rattle.sj_proto.specs.Parsed.{Gives, Extends, Keeps}
-use Rattle.sj_proto.proofs.Names.{name_no_text}
-use Rattle.sj_proto.proofs.Tables.{named_by}
+use Rattle.sj_proto.proofs.NameLemmas.{name_no_text}
+use Rattle.sj_proto.proofs.TableLemmas.{named_by}
 
 pub Extends-refl : (a : List (List ℕ)) → Extends a a
 Extends-refl a = record { more = []; whole = sym (append-nil a) }

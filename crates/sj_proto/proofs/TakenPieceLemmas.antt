@@ -8,9 +8,9 @@ use Rattle.sj_lang.specs.Limits.{Limits, limits}
 use Rattle.sj_grammar.specs.Positions.{Pieces}
 use Rattle.sj_grammar.specs.Layers.{Step, goes, stops, misfit, onward, rule_of, step, run}
 use Rattle.sj_grammar.specs.ProtocolDues.{ProtocolDue, protocol_layer}
-use Rattle.sj_grammar.proofs.Steps.{IsStep, due_behind, step_due, step_is, onward_goes}
+use Rattle.sj_grammar.proofs.StepLemmas.{IsStep, due_behind, step_due, step_is, onward_goes}
 use Rattle.sj_proto.specs.Wrong.{brackets_behind, items_behind, is_over}
-use Rattle.sj_proto.proofs.Counts.{Begun, Goes, begun_step}
+use Rattle.sj_proto.proofs.CountLemmas.{Begun, Goes, begun_step}
 
 -- no piece passes a limit, with so many items and these brackets before them
 abbrev pub NonePasses : ℕ → List ℕ → Pieces → Type 0

@@ -13,13 +13,13 @@ use Rattle.sj_grammar.specs.Reading.{before_next, fault_at}
 use Rattle.sj_grammar.specs.Layers.{goes, stops, misfit, rule_of, step, run, may_end}
 use Rattle.sj_grammar.specs.ProtocolDues.{ProtocolDue, body, protocol_layer}
 use Rattle.sj_grammar.specs.Faults.{broken}
-use Rattle.sj_grammar.proofs.Steps.{due_behind}
+use Rattle.sj_grammar.proofs.StepLemmas.{due_behind}
 use Rattle.sj_proto.specs.Protocols.{IsFirstFault}
 use Rattle.sj_proto.specs.Writable.{IsViable, IsWhole}
 use Rattle.sj_proto.specs.Wrong.{brackets_behind, items_behind, is_over, passes_limit, IsWrongNext, GoesWrong}
-use Rattle.sj_proto.proofs.Within.{wide}
-use Rattle.sj_proto.proofs.Viable.{viable, viable_next, whole, not_viable, not_whole, viable_run}
-use Rattle.sj_proto.proofs.Counts.{Begun, begun_step}
+use Rattle.sj_proto.proofs.WithinLemmas.{wide}
+use Rattle.sj_proto.proofs.ViableLemmas.{viable, viable_next, whole, not_viable, not_whole, viable_run}
+use Rattle.sj_proto.proofs.CountLemmas.{Begun, begun_step}
 use Rattle.sj_proto.proofs.TakenPieceLemmas.{run_begun, run_within, not_due, due_over}
 
 -- at the beginning of a protocol nothing was counted

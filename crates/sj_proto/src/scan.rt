@@ -65,7 +65,7 @@ pub fn goes_on_after_zero(digits: &[u8]) -> bool
 }
 
 /// The number that digits write, up to 2^63.
-#[tactic(auto, using(crate::proofs::Digits::digits))]
+#[tactic(auto, using(crate::proofs::DigitLemmas::digits))]
 pub fn digits_number(digits: &[u8]) -> Option<u64>
     requires { All (λ b. IsTrue (is_digit b)) digits.now }
     ensures { result ≡ value_of digits.now }
@@ -80,7 +80,7 @@ pub fn digits_number(digits: &[u8]) -> Option<u64>
     Some(value as u64)
 }
 
-#[tactic(auto, using(crate::proofs::Digits::runs))]
+#[tactic(auto, using(crate::proofs::DigitLemmas::runs))]
 fn number_at(bytes: &[u8], from: usize) -> Found
     requires within { from < length bytes.now }
     requires digit { IsTrue (in_class classes.Digit (slice_index bytes.now from)) }

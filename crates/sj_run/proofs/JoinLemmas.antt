@@ -42,7 +42,7 @@ use Rattle.sj_run.specs.Workers.{AllWorked, NoneStopped}
 use Rattle.sj_run.proofs.RestLemmas.{is_at_rest}
 use Rattle.sj_run.proofs.ShownLemmas.{IsAtRest, joined_shown}
 use Rattle.sj_run.proofs.TeamLemmas.{losts, mapped_at, news, plays_file, stopped, team_works, turned}
-use Rattle.sj_lane.proofs.Backs.{slice_get_some as there_is}
+use Rattle.sj_lane.proofs.BackLemmas.{slice_get_some as there_is}
 
 -- a told frame tells the same again
 told_body_twice : (b : BodyAt Place) → told_body done (told_body done b) ≡ told_body done b

@@ -22,7 +22,7 @@ use Rattle.sj_work.specs.Laned.{entries_of, laned}
 use Rattle.sj_work.specs.Views.{node_of, stop_of}
 use Rattle.sj_work.specs.Worked.{Turned, WorkedBy, kept_stop}
 use Rattle.sj_run.specs.Workers.{AllWorked, HasWorked}
-use Rattle.sj_lane.proofs.Backs.{slice_get_some as there_is}
+use Rattle.sj_lane.proofs.BackLemmas.{slice_get_some as there_is}
 
 -- an index of a mapped list
 pub mapped_at : {X Y : Type 0} (f : X → Y) (xs : List X) (p : ℕ) (x : X) → slice_get xs p ≡ Some x → slice_get (map f xs) p ≡ Some (f x)

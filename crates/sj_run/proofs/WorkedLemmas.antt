@@ -19,7 +19,7 @@ use Rattle.sj_work.specs.Counts.{OnLane, Stands}
 use Rattle.sj_work.specs.Views.{in_of, lanes_of, node_of, out_of}
 use Rattle.sj_work.specs.Worked.{Turned, Worked, WorkedBy, kept_stop}
 use Rattle.sj_run.specs.Workers.{AllWorked, AreHired, AreNew, IsFirst}
-use Rattle.sj_lane.proofs.Backs.{slice_get_some as there_is}
+use Rattle.sj_lane.proofs.BackLemmas.{slice_get_some as there_is}
 
 -- what is there is below the length
 pub below_length : {X : Type 0} (xs : List X) (p : ℕ) (x : X) → slice_get xs p ≡ Some x → p < length xs

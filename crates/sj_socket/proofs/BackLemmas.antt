@@ -3,7 +3,7 @@ use Rattle.std.proofs.Common.{◌≡◌, ℕ, ◌+◌, ◌<◌, min, List, Some,
 use Rattle.std.specs.Prelude.{slice_get}
 use Rattle.sj_lane.specs.declared.lane.Lanes.{Lanes}
 use Rattle.sj_lane.specs.Square.{HasFault, NoFault, in_in, out_in}
-use Rattle.sj_lane.proofs.Settles.{in_found, out_found}
+use Rattle.sj_lane.proofs.SettleLemmas.{in_found, out_found}
 use Rattle.sj_socket.specs.Counts.{met, met_by}
 use Rattle.sj_socket.specs.declared.in_lane.SocketIn.{SocketIn}
 use Rattle.sj_socket.specs.declared.out_lane.SocketOut.{SocketOut}

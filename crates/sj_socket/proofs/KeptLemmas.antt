@@ -8,7 +8,7 @@ use Rattle.sj_rules.specs.Frames.{FrameAt}
 use Rattle.sj_lane.specs.Rings.{Each2}
 use Rattle.sj_lane.specs.declared.lane.Lanes.{Lanes}
 use Rattle.sj_lane.specs.Square.{IsSquare, NoneFell, SameLists, SameIn, SameOut, in_at, in_in, out_at, out_in}
-use Rattle.sj_lane.proofs.Each.{each2_back, each2_length, each2_put, each2_refl, each2_trans}
+use Rattle.sj_lane.proofs.EachLemmas.{each2_back, each2_length, each2_put, each2_refl, each2_trans}
 use Rattle.sj_socket.specs.Kept.{InKept, LanesKept, OutKept}
 use Rattle.sj_socket.specs.declared.in_lane.SocketIn.{SocketIn}
 use Rattle.sj_socket.specs.declared.out_lane.SocketOut.{SocketOut}

@@ -5,7 +5,7 @@ use Rattle.std.proofs.lemmas.Option.{slice_get_read}
 use Rattle.std.specs.Vec.{with_item}
 use Rattle.sj_lane.specs.declared.lane.Lanes.{Lanes}
 use Rattle.sj_lane.specs.Square.{IsSquare}
-use Rattle.sj_lane.proofs.Cells.{OutPut, out_put}
+use Rattle.sj_lane.proofs.CellLemmas.{OutPut, out_put}
 use Rattle.sj_socket.specs.declared.in_lane.SocketIn.{SocketIn}
 use Rattle.sj_socket.specs.declared.out_lane.SocketOut.{SocketOut}
 

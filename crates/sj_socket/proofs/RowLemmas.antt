@@ -8,8 +8,8 @@ use Rattle.sj_lang.specs.Place.{Place}
 use Rattle.sj_rules.specs.Frames.{FrameAt}
 use Rattle.sj_lane.specs.declared.lane.Lanes.{Lanes}
 use Rattle.sj_lane.specs.Square.{IsFresh, IsSquare, NoFault, in_at, out_at}
-use Rattle.sj_lane.proofs.Cells.{get_set_here, get_set_other}
-use Rattle.sj_lane.proofs.Settles.{in_found, out_found}
+use Rattle.sj_lane.proofs.CellLemmas.{get_set_here, get_set_other}
+use Rattle.sj_lane.proofs.SettleLemmas.{in_found, out_found}
 use Rattle.sj_socket.specs.Ins.{IsNewIn}
 use Rattle.sj_socket.specs.Outs.{IsNewOut}
 use Rattle.sj_socket.specs.Rows.{AreNewIns, AreNewOuts, Grid, HasSome}

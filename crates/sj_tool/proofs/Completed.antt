@@ -15,12 +15,12 @@ use Rattle.sj_tool.specs.Tasks.{HasInput, Reads, Takes, limit_of}
 use Rattle.sj_tool.specs.Texts.{status_of, text_of, verdict_status}
 use Rattle.sj_tool.proofs.BytesAnswer.{takes_file}
 use Rattle.sj_tool.proofs.CompletedFile.{Told, bytes_complete}
-use Rattle.sj_tool.proofs.Exactly.{call_at}
+use Rattle.sj_tool.proofs.ExactnessLemmas.{call_at}
 use Rattle.sj_tool.proofs.InputLemmas.{came_of, read_bytes, read_of, reads_of}
-use Rattle.sj_tool.proofs.RowKinds.{Row, words, fault, large, made, input, made_takes, reads_takes, row_of}
+use Rattle.sj_tool.proofs.RowKindLemmas.{Row, words, fault, large, made, input, made_takes, reads_takes, row_of}
 use Rattle.sj_generator_laws.specs.GeneratedFile.{generated_file}
 use Rattle.sj_generator_laws.proofs.AcceptedLemmas.{file_is_accepted}
-use Rattle.sj_generator_laws.proofs.FileRun.{file_ends_so}
+use Rattle.sj_generator_laws.proofs.FileRunLemmas.{file_ends_so}
 use Rattle.sj_generator_laws.proofs.NumberLemmas.{text_stands}
 use Rattle.sj_semantics.specs.Transcript.{line_of, verdict_word}
 use Rattle.sj_tool.specs.Sums.{sums_line}

@@ -22,7 +22,7 @@ use Rattle.sj_tool.specs.Headline.{IsLogging, IsPlaying, IsVerdict, HasHeadline}
 use Rattle.sj_tool.specs.Tasks.{AsksFor}
 use Rattle.sj_tool.specs.Runs.{Plays, Prints, log_part}
 use Rattle.sj_tool.specs.Texts.{status_of, text_of, verdict_status}
-use Rattle.sj_tool.proofs.Exactly.{call_at}
+use Rattle.sj_tool.proofs.ExactnessLemmas.{call_at}
 use Rattle.sj_tool.proofs.InputLemmas.{playing_reads, read_of}
 
 -- the end of an accepted file has the headline

@@ -14,10 +14,10 @@ pub mod OneAnswer
 pub mod InputLemmas
 pub mod FileAnswers
 pub mod BytesAnswer
-pub mod RowKinds
-pub mod Rows
+pub mod RowKindLemmas
+pub mod RowLemmas
 pub mod TableLemmas
-pub mod Exactly
+pub mod ExactnessLemmas
 pub mod HeadlineOfAnswers
 pub mod CompletedFile
 pub mod Completed

@@ -7,7 +7,7 @@ use Rattle.sj_grammar.specs.Lexis.{next_of}
 use Rattle.sj_grammar.specs.Reading.{fault_at, before_next}
 use Rattle.sj_grammar.specs.FileDues.{file_layer, file_due}
 use Rattle.sj_grammar.specs.Faults.{Stuck}
-use Rattle.sj_grammar.proofs.Readings.{halts_there, halts_at_token}
+use Rattle.sj_grammar.proofs.ReadingLemmas.{halts_there, halts_at_token}
 
 -- a text has one first fault
 pub one_fault : (bytes : List ℕ) (f g : Fault) → Stuck file_layer limits 0 (start bytes [] []) file_due f → Stuck file_layer limits 0 (start bytes [] []) file_due g → f ≡ g

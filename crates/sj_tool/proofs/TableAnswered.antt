@@ -22,7 +22,7 @@ use Rattle.sj_tool.specs.Tasks.{HasInput, HasParts, IsRead, IsUnread, Reads, Run
 use Rattle.sj_tool.proofs.FileAnswered.{file_answered}
 use Rattle.sj_tool.proofs.FileAnswers.{answers_bytes, answers_text}
 use Rattle.sj_tool.proofs.PartedOrNot.{Parts, parts_or_none}
-use Rattle.sj_tool.proofs.RowKinds.{reads_takes}
+use Rattle.sj_tool.proofs.RowKindLemmas.{reads_takes}
 use Rattle.sj_tool.proofs.WordsLemmas.{asks_or_usage}
 
 -- a file of the grammar is within the limits

@@ -6,7 +6,7 @@ use Rattle.sj_tool.specs.Answers.{Comes}
 use Rattle.sj_tool.specs.Calls.{CallAt}
 use Rattle.sj_tool.specs.Table.{AreOne, CanRise, NoFaultAbove, RunsWell}
 use Rattle.sj_tool.proofs.InputLemmas.{no_fault_of}
-use Rattle.sj_tool.proofs.Rows.{are_same, one_comes}
+use Rattle.sj_tool.proofs.RowLemmas.{are_same, one_comes}
 
 -- a count that stays hasn't risen
 stays : (before now : ℕ) → now ≡ before → before ≢ 2 ^ 64 - 1 → Rose before now → ⊥

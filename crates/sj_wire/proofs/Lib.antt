@@ -1,4 +1,4 @@
-pub mod MessageLoop
+pub mod MessageLoopLemmas
 pub mod LawfulLemmas
 pub mod NumberLemmas
 pub mod FieldLemmas

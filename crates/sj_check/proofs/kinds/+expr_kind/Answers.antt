@@ -3,7 +3,7 @@ use Rattle.sj_lang.specs.declared.party.Expr.{Expr}
 use Rattle.sj_lang.specs.Term.{not, two}
 use Rattle.sj_lang.specs.CodeView.{term_of}
 use Rattle.std.proofs.lemmas.Result.{err_from_is_err_and}
-use Rattle.sj_lang.proofs.Folds.{term_of-Not, term_of-Two}
+use Rattle.sj_lang.proofs.FoldLemmas.{term_of-Not, term_of-Two}
 use Rattle.sj_check.proofs.TermLemmas as terms
 use Rattle.sj_check.proofs.kinds.+expr_kind.Goals as goal
 

@@ -8,7 +8,7 @@ use Rattle.std.specs.declared.alloc.Global.{Global}
 use Rattle.sj_lang.specs.declared.party.Expr.{Expr}
 use Rattle.sj_lang.specs.declared.party.Stmt.{Stmt}
 use Rattle.sj_lang.specs.declared.party.Deed.TheVariants as deeds
-use Rattle.sj_lang.proofs.Folds.{deed_of-If, deed_of-Branch, stmt_of-fields}
+use Rattle.sj_lang.proofs.FoldLemmas.{deed_of-If, deed_of-Branch, stmt_of-fields}
 use Rattle.sj_acceptance.specs.EnvAt.{EnvAt}
 use Rattle.sj_check.specs.SpotEnv.{SpotEnv}
 use Rattle.sj_check.specs.Seen.{defs_in, env_in}

@@ -1,4 +1,4 @@
-use Rattle.sj_expr.proofs.Unique.{one_expression}
+use Rattle.sj_expr.proofs.UniquenessLemmas.{one_expression}
 use Rattle.sj_expr.proofs.laws.an_expression_is_read_in_one_way.Goals as goal
 
 pub returns : goal.returns

@@ -22,8 +22,8 @@ use Rattle.sj_expr.specs.Signs.{op_piece}
 use Rattle.sj_expr.proofs.ReadLemmas.{op_taken, grows_on, stays_on}
 use Rattle.sj_expr.proofs.LevelLemmas.{not_read, parens_read, factor_read, term_read, product_read, sign_read, sum_whole, compared_whole}
 use Rattle.sj_expr.proofs.StuckLemmas.{Inside, term_first, sum_first, whole_first, term_next, sum_next, whole_next}
-use Rattle.sj_proto.proofs.Exits.{err_as}
-use Rattle.sj_expr.proofs.Exits.{err_fault}
+use Rattle.sj_proto.proofs.ExitLemmas.{err_as}
+use Rattle.sj_expr.proofs.ExitLemmas.{err_fault}
 use Rattle.sj_expr.proofs.parse.+expression.Goals as goal
 use Rattle.sj_expr.proofs.OpeningLemmas.{not_inside, parens_inside, close_inside, opening_inside}
 use Rattle.sj_expr.proofs.OperandLemmas.{not_no_name}

@@ -1,5 +1,5 @@
 use Rattle.sj_proto.specs.Parsed.{standing}
-use Rattle.sj_expr.proofs.InFiles.{ok_read, err_stops}
+use Rattle.sj_expr.proofs.FileLemmas.{ok_read, err_stops}
 use Rattle.sj_expr.proofs.parse.parse_expression.Goals as goal
 
 pub returns-clause-reads : goal.returns-clause-reads

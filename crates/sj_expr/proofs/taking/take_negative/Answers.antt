@@ -3,7 +3,7 @@ use Rattle.std.specs.Str.Parse.{digits_value}
 use Rattle.std.proofs.Math.Facts.{to_z-of_z}
 use Rattle.sj_lang.specs.Term.{Term}
 use Rattle.sj_lang.specs.Term as term
-use Rattle.sj_lang.proofs.Folds.{term_of-Int}
+use Rattle.sj_lang.proofs.FoldLemmas.{term_of-Int}
 use Rattle.sj_grammar.specs.Lexis.{next_of}
 use Rattle.sj_grammar.specs.Literals.{is_number}
 use Rattle.sj_grammar.specs.Positions.{at}
@@ -12,8 +12,8 @@ use Rattle.sj_grammar.specs.Expressions as level
 use Rattle.sj_expr.specs.Read.{ReadsLevel}
 use Rattle.sj_expr.proofs.NumberLemmas.{no_number, some_number}
 use Rattle.sj_expr.proofs.taking.take_negative.Goals as goal
-use Rattle.sj_expr.proofs.FactorReads.{minus_reads}
-use Rattle.sj_expr.proofs.FactorFaults.{no_number_inside, full_number_inside}
+use Rattle.sj_expr.proofs.FactorReadLemmas.{minus_reads}
+use Rattle.sj_expr.proofs.FactorFaultLemmas.{no_number_inside, full_number_inside}
 
 pub returns-in_default-clause-fault : goal.returns-in_default-clause-fault
 returns-in_default-clause-fault c = λ o words texts.

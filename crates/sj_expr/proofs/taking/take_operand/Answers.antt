@@ -3,7 +3,7 @@ use Rattle.std.proofs.Math.Facts.{to_z_pos}
 use Rattle.std.specs.Int.{w64}
 use Rattle.sj_lang.specs.Term.{Term}
 use Rattle.sj_lang.specs.Term as term
-use Rattle.sj_lang.proofs.Folds.{term_of-Int, term_of-Text, term_of-Var, term_of-Bool}
+use Rattle.sj_lang.proofs.FoldLemmas.{term_of-Int, term_of-Text, term_of-Var, term_of-Bool}
 use Rattle.sj_grammar.specs.Asked.{TakesText, spelled_next}
 use Rattle.sj_grammar.specs.Lexis.{next_of}
 use Rattle.sj_grammar.specs.Expressions as level
@@ -13,10 +13,10 @@ use Rattle.sj_expr.specs.Operands.{IsOperandOf, IsSmall}
 use Rattle.sj_expr.specs.Read.{ReadsLevel}
 use Rattle.sj_expr.proofs.NumberLemmas.{small_number}
 use Rattle.sj_expr.proofs.ReadLemmas.{name_read}
-use Rattle.sj_expr.proofs.Exits.{err_fault}
+use Rattle.sj_expr.proofs.ExitLemmas.{err_fault}
 use Rattle.sj_expr.proofs.taking.take_operand.Goals as goal
-use Rattle.sj_expr.proofs.FactorReads.{number_reads, true_reads, false_reads, text_factor}
-use Rattle.sj_expr.proofs.FactorFaults.{is_an_operand, full_inside, text_inside, name_inside}
+use Rattle.sj_expr.proofs.FactorReadLemmas.{number_reads, true_reads, false_reads, text_factor}
+use Rattle.sj_expr.proofs.FactorFaultLemmas.{is_an_operand, full_inside, text_inside, name_inside}
 
 pub returns-then-count-ge-MOST_OPERANDS-clause-fault : goal.returns-then-count-ge-MOST_OPERANDS-clause-fault
 returns-then-count-ge-MOST_OPERANDS-clause-fault c = λ o.

@@ -3,7 +3,7 @@ use Rattle.sj_lang.specs.Words.{IsFirstIndex}
 use Rattle.sj_grammar.specs.Literals.{is_text, inner}
 use Rattle.sj_grammar.specs.Tables.{with_entry}
 use Rattle.sj_proto.proofs.ReadLemmas.{Extends-refl}
-use Rattle.sj_proto.proofs.Tables.{table_is}
+use Rattle.sj_proto.proofs.TableLemmas.{table_is}
 use Rattle.sj_expr.proofs.TokenLemmas.{text_no_name}
 use Rattle.sj_expr.proofs.ReadLemmas.{text_read}
 use Rattle.sj_expr.proofs.TableLemmas.{one_added}

@@ -1,5 +1,5 @@
 use Rattle.std.proofs.Common.{◌++◌}
-use Rattle.sj_text.proofs.Cuts.{err_behind}
+use Rattle.sj_text.proofs.CutLemmas.{err_behind}
 use Rattle.sj_generator.specs.Generated.{protocols, group, connections, of_each}
 use Rattle.sj_generator.proofs.printing.print_generated.Goals as goal
 

@@ -1,6 +1,6 @@
 use Rattle.std.proofs.Common.{◌≡◌, ℕ, List, [], ◌∷◌, ◌++◌, ap, sym, ◌∙◌, append_assoc}
 use Rattle.std.specs.Prelude.{codes, decimal}
-use Rattle.sj_text.proofs.Cuts.{whole_is, cut_in_first, cut_behind, on_err, err_whole, err_behind}
+use Rattle.sj_text.proofs.CutLemmas.{whole_is, cut_in_first, cut_behind, on_err, err_whole, err_behind}
 use Rattle.sj_generator.specs.Generated.{numbered_twice, connections}
 use Rattle.sj_generator.proofs.printing.put_connections.Goals as goal
 

@@ -1,5 +1,5 @@
 use Rattle.std.specs.Prelude.{codes}
-use Rattle.sj_text.proofs.Cuts.{cut_in_first, on_err}
+use Rattle.sj_text.proofs.CutLemmas.{cut_in_first, on_err}
 use Rattle.sj_generator.specs.Generated.{numbered}
 use Rattle.sj_generator.proofs.printing.put_giver.Goals as goal
 

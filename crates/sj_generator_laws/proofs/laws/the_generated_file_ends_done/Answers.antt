@@ -1,4 +1,4 @@
-use Rattle.sj_generator_laws.proofs.FileRun.{file_ends_so}
+use Rattle.sj_generator_laws.proofs.FileRunLemmas.{file_ends_so}
 use Rattle.sj_generator_laws.proofs.laws.the_generated_file_ends_done.Goals as goal
 
 pub returns-clause-messages : goal.returns-clause-messages

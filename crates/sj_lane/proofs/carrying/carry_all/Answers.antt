@@ -1,5 +1,5 @@
 use Rattle.sj_lane.specs.Mem.{frames_popped, frames_pushed}
-use Rattle.sj_lane.proofs.Carries.{lists_same}
+use Rattle.sj_lane.proofs.CarryingLemmas.{lists_same}
 use Rattle.sj_lane.proofs.CarryLemmas.{carried_later}
 use Rattle.sj_lane.proofs.carrying.carry_all.Goals as goal
 

@@ -1,4 +1,4 @@
-use Rattle.sj_lane.proofs.Carries.{Carried}
+use Rattle.sj_lane.proofs.CarryingLemmas.{Carried}
 use Rattle.sj_lane.proofs.carrying.carry_all.Given as goal
 
 abbrev pub invariant-loop-from : goal.invariant-loop-from

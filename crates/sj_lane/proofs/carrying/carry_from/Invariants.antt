@@ -1,4 +1,4 @@
-use Rattle.sj_lane.proofs.Carries.{Carried}
+use Rattle.sj_lane.proofs.CarryingLemmas.{Carried}
 use Rattle.sj_lane.proofs.carrying.carry_from.Given as goal
 
 abbrev pub invariant-loop-to : goal.invariant-loop-to

@@ -1,7 +1,7 @@
 use Rattle.std.proofs.Common.{◌≡◌, ℕ, List, [], ◌∷◌, ◌++◌, drop, take, map, length, sym, ap, ◌∙◌, arith, subst}
 use Rattle.sj_lang.specs.Code.{Code, StmtAt, stmt_then, at, if_else}
 use Rattle.sj_lang.specs.CodeView.{code_of, arm_of, branches_of}
-use Rattle.sj_lang.proofs.Folds.{stmt_of-fields, arm_of-fields, deed_of-If}
+use Rattle.sj_lang.proofs.FoldLemmas.{stmt_of-fields, arm_of-fields, deed_of-If}
 use Rattle.sj_machine.specs.Arena.{codes_of, code_in, arms_in, AreBelow}
 use Rattle.sj_machine.proofs.BuildLemmas.{grown_code, grown_arms, grown_arms_below, grown_twice, code_before, then_same, arms_push, below_push, map_take_next}
 use Rattle.sj_machine.proofs.building.+build.Goals as goal

@@ -7,13 +7,13 @@ use Rattle.sj_lang.specs.Limits.{limits}
 use Rattle.sj_grammar.specs.FileDues.{Due, fixed, connects, file_layer}
 use Rattle.sj_grammar.specs.Faults.{Stuck}
 use Rattle.sj_grammar.specs.Asked.{but}
-use Rattle.sj_grammar.proofs.Stuckness.{refuses_stuck}
+use Rattle.sj_grammar.proofs.StucknessLemmas.{refuses_stuck}
 use Rattle.sj_proto.specs.Parsed.{standing}
 use Rattle.sj_proto.proofs.ReadLemmas.{kept_on}
 use Rattle.sj_proto.proofs.OnwardLemmas.{advances_on}
-use Rattle.sj_proto.proofs.Exits.{err_as, on_fault_map}
+use Rattle.sj_proto.proofs.ExitLemmas.{err_as, on_fault_map}
 use Rattle.sj_proto.proofs.NamedPieceLemmas.{fixed_rule}
-use Rattle.sj_party.proofs.FileLines.{shorter_by}
+use Rattle.sj_party.proofs.FileLineLemmas.{shorter_by}
 use Rattle.sj_party.proofs.ConnectLemmas.{end_due, behind_first, connect_fault, connect_stuck, first_stuck, to_stuck, second_stuck, connect_gives}
 use Rattle.sj_party.proofs.connects.connect.Goals as goal
 

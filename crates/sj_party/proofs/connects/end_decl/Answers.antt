@@ -3,9 +3,9 @@ use Rattle.sj_lang.specs.Limits.{limits}
 use Rattle.sj_grammar.specs.FileDues.{Due, name, file_layer}
 use Rattle.sj_grammar.specs.Faults.{Stuck}
 use Rattle.sj_grammar.specs.Asked.{Refuses, but_name}
-use Rattle.sj_grammar.proofs.Stuckness.{refuses_stuck}
+use Rattle.sj_grammar.proofs.StucknessLemmas.{refuses_stuck}
 use Rattle.sj_proto.specs.Parsed.{standing}
-use Rattle.sj_proto.proofs.Exits.{err_as, on_fault_map}
+use Rattle.sj_proto.proofs.ExitLemmas.{err_as, on_fault_map}
 use Rattle.sj_proto.proofs.NamedPieceLemmas.{name_rule, name_stuck}
 use Rattle.sj_party.proofs.ConnectLemmas.{end_due, end_gives}
 use Rattle.sj_party.proofs.connects.end_decl.Goals as goal

@@ -9,7 +9,7 @@ use Rattle.sj_grammar.specs.Faults.{Stuck}
 use Rattle.sj_proto.specs.Parsed.{standing}
 use Rattle.sj_proto.proofs.ReadLemmas.{kept_on}
 use Rattle.sj_proto.proofs.OnwardLemmas.{advances_on}
-use Rattle.sj_proto.proofs.Exits.{err_as, on_fault_map}
+use Rattle.sj_proto.proofs.ExitLemmas.{err_as, on_fault_map}
 use Rattle.sj_party.proofs.ConnectLemmas.{GivesConnects, connects_more, connects_stuck}
 use Rattle.sj_party.proofs.connects.parse_connects.Goals as goal
 

@@ -6,7 +6,7 @@ use Rattle.sj_lang.specs.Limits.{limits}
 use Rattle.sj_grammar.specs.Refusals.{OnFault}
 use Rattle.sj_grammar.specs.Positions.{at, start}
 use Rattle.sj_proto.specs.Parsed.{standing}
-use Rattle.sj_proto.proofs.Exits.{err_as}
+use Rattle.sj_proto.proofs.ExitLemmas.{err_as}
 use Rattle.sj_party.proofs.OneFile.{one_file}
 use Rattle.sj_party.proofs.FileLemmas.{IsFault, NoFile, at_protocols, at_parties, at_connects, at_last, all_read, stands_for_none, spelled_within}
 use Rattle.sj_party.proofs.files.parse_file.Goals as goal

@@ -1,4 +1,4 @@
-use Rattle.sj_party.proofs.Viability.{viable, viable_over, whole, not_within}
+use Rattle.sj_party.proofs.ViabilityLemmas.{viable, viable_over, whole, not_within}
 use Rattle.sj_party.proofs.laws.a_file_goes_on_up_to_there.Goals as goal
 
 pub returns-clause-front : goal.returns-clause-front

@@ -1,4 +1,4 @@
-use Rattle.sj_party.proofs.FileRuns.{file_completes}
+use Rattle.sj_party.proofs.FileRunLemmas.{file_completes}
 use Rattle.sj_party.proofs.laws.files_are_what_is_due.Goals as goal
 
 pub returns : goal.returns

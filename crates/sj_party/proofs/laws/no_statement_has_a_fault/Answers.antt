@@ -1,6 +1,6 @@
 use Rattle.sj_party.proofs.Faultless.{none_broken}
 use Rattle.sj_grammar.specs.Positions.{spellings}
-use Rattle.sj_party.proofs.Runs.{code_leads, block_leads, arms_leads}
+use Rattle.sj_party.proofs.RunLemmas.{code_leads, block_leads, arms_leads}
 use Rattle.sj_party.proofs.laws.no_statement_has_a_fault.Goals as goal
 
 pub returns-clause-code : goal.returns-clause-code

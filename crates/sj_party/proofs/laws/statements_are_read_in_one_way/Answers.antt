@@ -1,4 +1,4 @@
-use Rattle.sj_party.proofs.Unique.{one_statement, one_code, one_block, one_arms}
+use Rattle.sj_party.proofs.UniquenessLemmas.{one_statement, one_code, one_block, one_arms}
 use Rattle.sj_party.proofs.laws.statements_are_read_in_one_way.Goals as goal
 
 pub returns-clause-one : goal.returns-clause-one

@@ -1,4 +1,4 @@
-use Rattle.sj_party.proofs.Runs.{statement_leads, code_leads, block_leads, arms_leads}
+use Rattle.sj_party.proofs.RunLemmas.{statement_leads, code_leads, block_leads, arms_leads}
 use Rattle.sj_party.proofs.laws.statements_are_what_is_due.Goals as goal
 
 pub returns-clause-one : goal.returns-clause-one

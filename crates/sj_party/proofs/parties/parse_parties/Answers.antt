@@ -7,7 +7,7 @@ use Rattle.sj_lang.specs.Limits.{limits}
 use Rattle.sj_grammar.specs.FileDues.{Due, parties, file_layer}
 use Rattle.sj_grammar.specs.Faults.{Stuck}
 use Rattle.sj_proto.specs.Parsed.{standing}
-use Rattle.sj_proto.proofs.Exits.{err_as, on_fault_map}
+use Rattle.sj_proto.proofs.ExitLemmas.{err_as, on_fault_map}
 use Rattle.sj_proto.proofs.OnwardLemmas.{advances_on, advances_none}
 use Rattle.sj_party.proofs.PartyLemmas.{ReadsParties, no_parties, parties_more, parties_stuck}
 use Rattle.sj_party.proofs.parties.parse_parties.Goals as goal

@@ -7,11 +7,11 @@ use Rattle.sj_lang.specs.Limits.{limits}
 use Rattle.sj_grammar.specs.FileDues.{Due, fixed, stmts, parties, file_layer}
 use Rattle.sj_grammar.specs.Faults.{Stuck}
 use Rattle.sj_grammar.specs.Asked.{Refuses, but, but_name}
-use Rattle.sj_grammar.proofs.Stuckness.{refuses_stuck}
+use Rattle.sj_grammar.proofs.StucknessLemmas.{refuses_stuck}
 use Rattle.sj_proto.specs.Parsed.{standing}
-use Rattle.sj_proto.proofs.Exits.{err_as, on_fault_map}
+use Rattle.sj_proto.proofs.ExitLemmas.{err_as, on_fault_map}
 use Rattle.sj_proto.proofs.NamedPieceLemmas.{fixed_rule, name_rule}
-use Rattle.sj_party.proofs.FileLines.{always_stuck}
+use Rattle.sj_party.proofs.FileLineLemmas.{always_stuck}
 use Rattle.sj_party.proofs.PartyLemmas.{behind_code, behind_party, party_fault, party_stuck, named_stuck, opened_stuck, coded_stuck, party_reads}
 use Rattle.sj_party.proofs.parties.party.Goals as goal
 

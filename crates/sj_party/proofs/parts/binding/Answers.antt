@@ -5,7 +5,7 @@ use Rattle.sj_grammar.specs.declared.refusal.ParseRefusal.TheVariants as refusal
 use Rattle.sj_grammar.specs.ExpressionDues.{whole}
 use Rattle.sj_grammar.specs.FileDues.{name, fixed, expr}
 use Rattle.sj_proto.specs.Parsed.{standing}
-use Rattle.sj_proto.proofs.Exits.{plain}
+use Rattle.sj_proto.proofs.ExitLemmas.{plain}
 use Rattle.sj_party.specs.Parts.{a_name, an_expression, a_piece}
 use Rattle.sj_party.proofs.PartLemmas.{stops_behind, parts_on, piece_stops}
 use Rattle.sj_party.proofs.parts.binding.Goals as goal

@@ -3,7 +3,7 @@ use Rattle.sj_grammar.specs.FileDues.{name}
 use Rattle.sj_grammar.specs.Refusals.{OnFault}
 use Rattle.sj_grammar.specs.Asked.{Refuses, but_name}
 use Rattle.sj_proto.specs.Parsed.{standing, Stops}
-use Rattle.sj_proto.proofs.Exits.{if_err_map}
+use Rattle.sj_proto.proofs.ExitLemmas.{if_err_map}
 use Rattle.sj_party.proofs.PartLemmas.{name_stops}
 use Rattle.sj_party.proofs.parts.one_name.Goals as goal
 

@@ -8,7 +8,7 @@ use Rattle.sj_grammar.specs.Positions.{At, Takes}
 use Rattle.sj_grammar.specs.FileDues.{awaited}
 use Rattle.sj_grammar.specs.Asked.{Refuses, but}
 use Rattle.sj_proto.specs.Parsed.{standing, Gives}
-use Rattle.sj_proto.proofs.Exits.{plain, from_left}
+use Rattle.sj_proto.proofs.ExitLemmas.{plain, from_left}
 use Rattle.sj_party.proofs.PartLemmas.{stops_behind}
 use Rattle.sj_party.proofs.AwaitedLemmas.{no_name_session, took_scalar, awaited_stops, session_stops}
 use Rattle.sj_party.proofs.parts.take_awaited.Goals as goal

@@ -1,7 +1,7 @@
 use Rattle.std.proofs.Common.{◌≡◌, ◌++◌, OnOk, OnErr, sym, subst}
 use Rattle.std.specs.Prelude.{codes}
 use Rattle.sj_text.specs.Cut.{IsCutShort}
-use Rattle.sj_text.proofs.Cuts.{cut_at_once, cut_in_first, cut_behind, on_err, ok_behind, err_behind, err_at_once}
+use Rattle.sj_text.proofs.CutLemmas.{cut_at_once, cut_in_first, cut_behind, on_err, ok_behind, err_behind, err_at_once}
 use Rattle.sj_grammar.specs.Canonical.{body_text}
 use Rattle.sj_party.specs.CanonicalExpression.{spelling_of}
 use Rattle.sj_party.specs.CanonicalCode.{named_text}

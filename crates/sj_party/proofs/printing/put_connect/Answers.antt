@@ -1,6 +1,6 @@
 use Rattle.std.proofs.Common.{◌++◌}
 use Rattle.std.specs.Prelude.{codes}
-use Rattle.sj_text.proofs.Cuts.{cut_in_first, cut_behind, on_err}
+use Rattle.sj_text.proofs.CutLemmas.{cut_in_first, cut_behind, on_err}
 use Rattle.sj_lang.specs.FileView.{decl_of}
 use Rattle.sj_party.specs.CanonicalExpression.{spelling_of}
 use Rattle.sj_party.specs.CanonicalFile.{end_text}

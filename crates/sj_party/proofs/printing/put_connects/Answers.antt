@@ -1,6 +1,6 @@
 use Rattle.std.proofs.Common.{◌+◌, drop, get_or}
 use Rattle.std.specs.Prelude.{map}
-use Rattle.sj_text.proofs.Cuts.{ahead_is, cut_within, on_err}
+use Rattle.sj_text.proofs.CutLemmas.{ahead_is, cut_within, on_err}
 use Rattle.sj_lang.specs.declared.file.Connect.{Connect}
 use Rattle.sj_lang.specs.FileView.{connect_of}
 use Rattle.sj_party.specs.CanonicalExpression.{spelling_of}

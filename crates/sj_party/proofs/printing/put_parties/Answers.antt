@@ -1,6 +1,6 @@
 use Rattle.std.proofs.Common.{◌+◌, drop}
 use Rattle.std.specs.Prelude.{map}
-use Rattle.sj_text.proofs.Cuts.{ahead_is, cut_within, on_err}
+use Rattle.sj_text.proofs.CutLemmas.{ahead_is, cut_within, on_err}
 use Rattle.sj_lang.specs.FileView.{party_of}
 use Rattle.sj_party.specs.CanonicalExpression.{spelling_of}
 use Rattle.sj_party.specs.CanonicalFile.{party_text, parties_text}

@@ -1,6 +1,6 @@
 use Rattle.std.proofs.Common.{drop}
 use Rattle.std.specs.Prelude.{map}
-use Rattle.sj_text.proofs.Cuts.{StillTo}
+use Rattle.sj_text.proofs.CutLemmas.{StillTo}
 use Rattle.sj_lang.specs.FileView.{protocol_of}
 use Rattle.sj_party.specs.CanonicalExpression.{spelling_of}
 use Rattle.sj_party.specs.CanonicalFile.{protocols_text}

@@ -1,7 +1,7 @@
 use Rattle.std.proofs.Common.{◌≡◌, ◌+◌, ◌++◌, OnErr, ap, sym, subst}
 use Rattle.std.specs.Prelude.{codes, map}
 use Rattle.sj_text.specs.Cut.{IsCutShort}
-use Rattle.sj_text.proofs.Cuts.{one_more, ahead_is, cut_here, cut_within, finish_cut, on_err, err_behind}
+use Rattle.sj_text.proofs.CutLemmas.{one_more, ahead_is, cut_here, cut_within, finish_cut, on_err, err_behind}
 use Rattle.sj_lang.specs.declared.party.StmtArm.{out-StmtArm}
 use Rattle.sj_lang.specs.CodeView.{term_of, arm_of, branches_of, code_of, deed_of}
 use Rattle.sj_party.specs.CanonicalExpression.{spelling_of}

@@ -1,6 +1,6 @@
 use Rattle.std.proofs.Common.{◌+◌, ◌++◌}
 use Rattle.std.specs.Prelude.{map}
-use Rattle.sj_text.proofs.Cuts.{StillTo}
+use Rattle.sj_text.proofs.CutLemmas.{StillTo}
 use Rattle.sj_lang.specs.CodeView.{code_of, arm_of, branches_of}
 use Rattle.sj_party.specs.CanonicalExpression.{spelling_of}
 use Rattle.sj_party.specs.CanonicalCode.{in_block, arms_text, block_text}

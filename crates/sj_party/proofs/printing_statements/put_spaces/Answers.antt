@@ -1,5 +1,5 @@
 use Rattle.std.proofs.Common.{◌∙◌, arith}
-use Rattle.sj_text.proofs.Cuts.{on_err}
+use Rattle.sj_text.proofs.CutLemmas.{on_err}
 use Rattle.sj_party.proofs.PrintedCode.{spaces_cut}
 use Rattle.sj_party.proofs.printing_statements.put_spaces.Goals as goal
 

@@ -2,12 +2,12 @@ use Rattle.std.proofs.Common.{[], ◌∷◌, refl, sym, subst}
 use Rattle.std.specs.Prelude.{codes}
 use Rattle.sj_lang.specs.CodeView.{term_of}
 use Rattle.sj_lang.specs.Code.{DeedAt}
-use Rattle.sj_lang.proofs.Folds.{deed_of-Let}
+use Rattle.sj_lang.proofs.FoldLemmas.{deed_of-Let}
 use Rattle.sj_grammar.specs.declared.refusal.ParseRefusal.TheVariants as refusals
 use Rattle.sj_grammar.specs.ExpressionDues.{whole}
 use Rattle.sj_grammar.specs.FileDues.{name, fixed, expr, semicolon}
 use Rattle.sj_proto.specs.Parsed.{standing}
-use Rattle.sj_proto.proofs.Exits.{plain}
+use Rattle.sj_proto.proofs.ExitLemmas.{plain}
 use Rattle.sj_party.specs.Parts.{a_name, an_expression, a_piece, ReadsDeed}
 use Rattle.sj_party.proofs.PartLemmas.{stops_behind, parts_on, piece_stops}
 use Rattle.sj_party.proofs.simple.bind.Goals as goal

@@ -1,11 +1,11 @@
 use Rattle.std.proofs.Common.{[], ◌∷◌, refl, sym, subst}
 use Rattle.std.specs.Prelude.{codes}
 use Rattle.sj_lang.specs.Code.{DeedAt}
-use Rattle.sj_lang.proofs.Folds.{deed_of-Close}
+use Rattle.sj_lang.proofs.FoldLemmas.{deed_of-Close}
 use Rattle.sj_grammar.specs.declared.refusal.ParseRefusal.TheVariants as refusals
 use Rattle.sj_grammar.specs.FileDues.{name, semicolon}
 use Rattle.sj_proto.specs.Parsed.{standing}
-use Rattle.sj_proto.proofs.Exits.{plain}
+use Rattle.sj_proto.proofs.ExitLemmas.{plain}
 use Rattle.sj_party.specs.Parts.{a_name, a_piece, ReadsDeed}
 use Rattle.sj_party.proofs.PartLemmas.{stops_behind, parts_on, piece_stops}
 use Rattle.sj_party.proofs.simple.close.Goals as goal

@@ -4,7 +4,7 @@ use Rattle.sj_lang.specs.Code.{DeedAt}
 use Rattle.sj_grammar.specs.declared.refusal.ParseRefusal.TheVariants as refusals
 use Rattle.sj_grammar.specs.FileDues.{name, awaited, semicolon}
 use Rattle.sj_proto.specs.Parsed.{standing}
-use Rattle.sj_proto.proofs.Exits.{plain}
+use Rattle.sj_proto.proofs.ExitLemmas.{plain}
 use Rattle.sj_party.specs.Parts.{a_name, a_piece, ReadsDeed}
 use Rattle.sj_party.specs.Awaits.{awaited_part}
 use Rattle.sj_party.proofs.PartLemmas.{stops_behind, parts_on, piece_stops}

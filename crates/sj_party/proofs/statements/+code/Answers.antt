@@ -5,7 +5,7 @@ use Rattle.sj_lang.specs.declared.party.Stmt.{Stmt}
 use Rattle.sj_lang.specs.declared.party.StmtArm.{StmtArm}
 use Rattle.sj_lang.specs.CodeView.{term_of, code_of, arm_of, deed_of, branches_of}
 use Rattle.sj_lang.specs.Code.{Code, StmtAt, DeedAt, outwhile, inwhile, relay}
-use Rattle.sj_lang.proofs.Folds.{deed_of-OutWhile, deed_of-InWhile, deed_of-Relay, deed_of-If, deed_of-Branch}
+use Rattle.sj_lang.proofs.FoldLemmas.{deed_of-OutWhile, deed_of-InWhile, deed_of-Relay, deed_of-If, deed_of-Branch}
 use Rattle.sj_grammar.specs.declared.refusal.ParseRefusal.TheVariants as refusals
 use Rattle.sj_lang.specs.Limits.{limits}
 use Rattle.sj_grammar.specs.Lexis.{next_of}
@@ -16,7 +16,7 @@ use Rattle.sj_grammar.specs.FileDues.{stmts, block, branches, name, fixed, expr,
 use Rattle.sj_grammar.specs.Statements.{IsStatement, AreArms}
 use Rattle.sj_grammar.specs.Asked.{Passes, spelled_next}
 use Rattle.sj_proto.specs.Parsed.{standing}
-use Rattle.sj_proto.proofs.Exits.{plain}
+use Rattle.sj_proto.proofs.ExitLemmas.{plain}
 use Rattle.sj_proto.proofs.OnwardLemmas.{advances_on, advances_none}
 use Rattle.sj_expr.proofs.ReadLemmas.{grows_on}
 use Rattle.sj_party.specs.declared.openings.Opening.{Opening}

@@ -2,7 +2,7 @@ use Rattle.std.proofs.Common.{◌∷◌, ap}
 use Rattle.std.specs.Prelude.{decimal}
 use Rattle.sj_lang.specs.FileView.{file_of}
 use Rattle.sj_semantics.specs.Lines.{line_of, name_of, end_text, message_words}
-use Rattle.sj_text.proofs.Cuts.{ok_whole, err_whole}
+use Rattle.sj_text.proofs.CutLemmas.{ok_whole, err_whole}
 use Rattle.sj_print.proofs.lines.put_passed.Goals as goal
 
 pub returns-clause-ok : goal.returns-clause-ok

@@ -1,7 +1,7 @@
 use Rattle.std.proofs.Common.{◌+◌, drop}
 use Rattle.sj_lang.specs.FileView.{file_of}
 use Rattle.sj_semantics.specs.Transcript.{sent_lines}
-use Rattle.sj_text.proofs.Cuts.{ahead_is, one_more, cut_within, on_err}
+use Rattle.sj_text.proofs.CutLemmas.{ahead_is, one_more, cut_within, on_err}
 use Rattle.sj_print.proofs.LineLemmas.{sent_step}
 use Rattle.sj_print.proofs.lines.put_sent.Goals as goal
 

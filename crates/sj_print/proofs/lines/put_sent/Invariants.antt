@@ -1,7 +1,7 @@
 use Rattle.std.proofs.Common.{drop}
 use Rattle.sj_lang.specs.FileView.{file_of}
 use Rattle.sj_semantics.specs.Transcript.{sent_lines}
-use Rattle.sj_text.proofs.Cuts.{StillTo}
+use Rattle.sj_text.proofs.CutLemmas.{StillTo}
 use Rattle.sj_print.proofs.lines.put_sent.Given as goal
 
 -- what is ahead is the lines of the messages that are left

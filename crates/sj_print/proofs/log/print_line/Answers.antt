@@ -3,7 +3,7 @@ use Rattle.sj_semantics.specs.Lines.{line_of}
 use Rattle.sj_print.specs.LogLine.{head_words, note_words}
 use Rattle.sj_print.specs.Pieces.{closed_words}
 use Rattle.sj_end.specs.Lines.{line_at}
-use Rattle.sj_text.proofs.Cuts.{cut_in_first, whole_is, on_err, ok_behind, err_behind, ok_whole, err_whole}
+use Rattle.sj_text.proofs.CutLemmas.{cut_in_first, whole_is, on_err, ok_behind, err_behind, ok_whole, err_whole}
 use Rattle.sj_print.proofs.WordLemmas.{note_behind}
 use Rattle.sj_print.proofs.log.print_line.Goals as goal
 

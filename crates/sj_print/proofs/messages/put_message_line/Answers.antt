@@ -2,7 +2,7 @@ use Rattle.std.proofs.Common.{map}
 use Rattle.sj_lang.specs.FileView.{file_of}
 use Rattle.sj_semantics.specs.Lines.{line_of, message_words}
 use Rattle.sj_print.specs.Pieces.{piece_text, closed_words}
-use Rattle.sj_text.proofs.Cuts.{cut_in_first, whole_is, on_err, ok_behind, err_behind, ok_whole, err_whole}
+use Rattle.sj_text.proofs.CutLemmas.{cut_in_first, whole_is, on_err, ok_behind, err_behind, ok_whole, err_whole}
 use Rattle.sj_print.proofs.WordLemmas.{message_behind}
 use Rattle.sj_print.proofs.messages.put_message_line.Goals as goal
 

@@ -2,7 +2,7 @@ use Rattle.std.proofs.Common.{◌++◌, [], ◌∷◌, map, sym}
 use Rattle.sj_lang.specs.FileView.{file_of}
 use Rattle.sj_semantics.specs.Lines.{line_of}
 use Rattle.sj_print.specs.Pieces.{piece_text, spaced_text}
-use Rattle.sj_text.proofs.Cuts.{none_yet, ahead_is, one_more, cut_within, on_err, err_at_once, finish_ok, finish_cut}
+use Rattle.sj_text.proofs.CutLemmas.{none_yet, ahead_is, one_more, cut_within, on_err, err_at_once, finish_ok, finish_cut}
 use Rattle.sj_print.proofs.PieceLemmas.{line_apart}
 use Rattle.sj_print.proofs.pieces.put_line.Goals as goal
 

@@ -1,7 +1,7 @@
 use Rattle.std.proofs.Common.{◌++◌, [], ◌∷◌, ◌+◌, drop}
 use Rattle.sj_lang.specs.FileView.{file_of}
 use Rattle.sj_print.specs.Pieces.{spaced_text}
-use Rattle.sj_text.proofs.Cuts.{ahead_is, one_more, cut_within, cut_here, on_err}
+use Rattle.sj_text.proofs.CutLemmas.{ahead_is, one_more, cut_within, cut_here, on_err}
 use Rattle.sj_print.proofs.PieceLemmas.{spaced_step}
 use Rattle.sj_print.proofs.pieces.put_spaced.Goals as goal
 

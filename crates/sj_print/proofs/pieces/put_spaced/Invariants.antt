@@ -1,7 +1,7 @@
 use Rattle.std.proofs.Common.{drop}
 use Rattle.sj_lang.specs.FileView.{file_of}
 use Rattle.sj_print.specs.Pieces.{spaced_text}
-use Rattle.sj_text.proofs.Cuts.{StillTo}
+use Rattle.sj_text.proofs.CutLemmas.{StillTo}
 use Rattle.sj_print.proofs.pieces.put_spaced.Given as goal
 
 -- what is ahead is the pieces that are left

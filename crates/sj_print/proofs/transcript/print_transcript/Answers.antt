@@ -4,7 +4,7 @@ use Rattle.sj_lang.specs.FileView.{file_of}
 use Rattle.sj_plain.specs.Plain.{acts_of, kept_file, world_at}
 use Rattle.sj_semantics.specs.Lines.{line_of}
 use Rattle.sj_semantics.specs.Transcript.{party_lines, session_lines, transcript_of, verdict_word}
-use Rattle.sj_text.proofs.Cuts.{cut_in_first, cut_behind, whole_is, on_err, put_both, ok_behind, err_behind, ok_whole, err_whole}
+use Rattle.sj_text.proofs.CutLemmas.{cut_in_first, cut_behind, whole_is, on_err, put_both, ok_behind, err_behind, ok_whole, err_whole}
 use Rattle.sj_print.proofs.PartLemmas.{session_count-run, party_count-run, transcript_is}
 use Rattle.sj_print.proofs.transcript.print_transcript.Goals as goal
 

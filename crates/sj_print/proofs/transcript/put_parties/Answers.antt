@@ -4,7 +4,7 @@ use Rattle.sj_lang.specs.FileView.{file_of, party_of}
 use Rattle.sj_plain.specs.Plain.{world_at}
 use Rattle.sj_semantics.specs.Transcript.{party_lines}
 use Rattle.sj_print.specs.Parts.{party_part}
-use Rattle.sj_text.proofs.Cuts.{ahead_is, one_more, cut_within, on_err}
+use Rattle.sj_text.proofs.CutLemmas.{ahead_is, one_more, cut_within, on_err}
 use Rattle.sj_print.proofs.PartLemmas.{length-map, party_step}
 use Rattle.sj_print.proofs.transcript.put_parties.Goals as goal
 

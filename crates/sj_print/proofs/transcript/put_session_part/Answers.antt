@@ -1,7 +1,7 @@
 use Rattle.std.proofs.Common.{◌++◌, ◌∙◌, ap}
 use Rattle.sj_lang.specs.FileView.{file_of, connect_of}
 use Rattle.sj_semantics.specs.Transcript.{session_line}
-use Rattle.sj_text.proofs.Cuts.{cut_in_first, cut_behind, whole_is, on_err, put_both, err_behind, err_whole}
+use Rattle.sj_text.proofs.CutLemmas.{cut_in_first, cut_behind, whole_is, on_err, put_both, err_behind, err_whole}
 use Rattle.sj_print.proofs.PartLemmas.{sent_same}
 use Rattle.sj_print.proofs.transcript.put_session_part.Goals as goal
 

@@ -4,7 +4,7 @@ use Rattle.sj_lang.specs.FileView.{file_of, connect_of}
 use Rattle.sj_plain.specs.Plain.{world_at}
 use Rattle.sj_semantics.specs.Transcript.{session_lines}
 use Rattle.sj_print.specs.Parts.{session_part}
-use Rattle.sj_text.proofs.Cuts.{ahead_is, one_more, cut_within, on_err}
+use Rattle.sj_text.proofs.CutLemmas.{ahead_is, one_more, cut_within, on_err}
 use Rattle.sj_print.proofs.PartLemmas.{length-map, session_step}
 use Rattle.sj_print.proofs.transcript.put_sessions.Goals as goal
 

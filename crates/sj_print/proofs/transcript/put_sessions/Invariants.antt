@@ -2,7 +2,7 @@ use Rattle.std.proofs.Common.{drop, map}
 use Rattle.sj_lang.specs.FileView.{file_of, connect_of}
 use Rattle.sj_plain.specs.Plain.{world_at}
 use Rattle.sj_semantics.specs.Transcript.{session_lines}
-use Rattle.sj_text.proofs.Cuts.{StillTo}
+use Rattle.sj_text.proofs.CutLemmas.{StillTo}
 use Rattle.sj_print.proofs.transcript.put_sessions.Given as goal
 
 -- what is ahead is the sessions that are left

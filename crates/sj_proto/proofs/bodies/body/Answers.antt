@@ -12,11 +12,11 @@ use Rattle.sj_grammar.specs.ProtocolDues.{body, seq}
 use Rattle.sj_grammar.specs.FileDues.{Due, proto, file_layer}
 use Rattle.sj_grammar.specs.Faults.{Stuck}
 use Rattle.sj_grammar.specs.Asked.{but}
-use Rattle.sj_grammar.proofs.Stuckness.{refuses_stuck}
+use Rattle.sj_grammar.proofs.StucknessLemmas.{refuses_stuck}
 use Rattle.sj_proto.specs.Parsed.{standing, Gives}
 use Rattle.sj_proto.proofs.ReadLemmas.{Gives-cons, Gives-as, takes_one}
-use Rattle.sj_proto.proofs.Rules.{begin_rule}
-use Rattle.sj_proto.proofs.Exits.{err_as, on_fault_map, plain}
+use Rattle.sj_proto.proofs.RuleLemmas.{begin_rule}
+use Rattle.sj_proto.proofs.ExitLemmas.{err_as, on_fault_map, plain}
 use Rattle.sj_proto.proofs.BodyLemmas.{took_begin, dotted_some, begun_stuck}
 use Rattle.sj_proto.proofs.bodies.body.Goals as goal
 

@@ -1,5 +1,5 @@
 use Rattle.sj_grammar.specs.Lexis.{bad}
-use Rattle.sj_proto.proofs.Ends.{fault_again}
+use Rattle.sj_proto.proofs.EndLemmas.{fault_again}
 use Rattle.sj_proto.proofs.laws.a_fault_comes_again.Goals as goal
 
 pub returns : goal.returns

@@ -1,4 +1,4 @@
-use Rattle.sj_proto.proofs.Tables.{table_is, within_is, here_is}
+use Rattle.sj_proto.proofs.TableLemmas.{table_is, within_is, here_is}
 use Rattle.sj_proto.proofs.naming.number_of.Goals as goal
 
 pub returns-clause-table : goal.returns-clause-table

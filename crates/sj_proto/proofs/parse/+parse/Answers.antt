@@ -18,19 +18,19 @@ use Rattle.sj_grammar.specs.ProtocolDues.{protocol_layer, seq, maybe, kind, labe
 use Rattle.sj_grammar.specs.FileDues.{Due, proto, file_layer}
 use Rattle.sj_grammar.specs.Faults.{Stuck}
 use Rattle.sj_grammar.specs.Asked.{Passes, TakesText, Refuses, is_next, but, but_name}
-use Rattle.sj_grammar.proofs.Stuckness.{stuck_cons, refuses_stuck, skip}
+use Rattle.sj_grammar.proofs.StucknessLemmas.{stuck_cons, refuses_stuck, skip}
 use Rattle.sj_proto.specs.declared.choices.Opening.{Opening}
 use Rattle.sj_proto.specs.Choices.{but_way, but_open, opening_piece}
 use Rattle.sj_proto.specs.Items.{item_pieces}
 use Rattle.sj_proto.specs.Parsed.{standing, Gives, Stops}
 use Rattle.sj_proto.proofs.ReadLemmas.{kept_on, Gives-cons, Gives-append, Gives-as, takes_one, took_way, took_close}
-use Rattle.sj_proto.proofs.Pieces.{item_count-push, arm_items-push, arm_pieces}
-use Rattle.sj_proto.proofs.Runs.{kind_like, way_step, open_step, arms_step, turns_step}
-use Rattle.sj_proto.proofs.Rules.{way_rule, open_rule, piece_rule, label_rule}
+use Rattle.sj_proto.proofs.PieceLemmas.{item_count-push, arm_items-push, arm_pieces}
+use Rattle.sj_proto.proofs.RunLemmas.{kind_like, way_step, open_step, arms_step, turns_step}
+use Rattle.sj_proto.proofs.RuleLemmas.{way_rule, open_rule, piece_rule, label_rule}
 use Rattle.sj_proto.proofs.FaultLemmas.{step_in_file, leads_items, leads_maybe, item_stuck, label_stuck, arm_stuck}
-use Rattle.sj_proto.proofs.Exits.{no_name_int, no_name_boolean, no_name_String, err_as, if_err_map, on_fault_map, stops_map, from_left, plain, close_fault, keyword_fault, keyword_reads, kind_stuck, maybe_stuck, no_comma, open_plain, opened_stuck, opened_gives}
+use Rattle.sj_proto.proofs.ExitLemmas.{no_name_int, no_name_boolean, no_name_String, err_as, if_err_map, on_fault_map, stops_map, from_left, plain, close_fault, keyword_fault, keyword_reads, kind_stuck, maybe_stuck, no_comma, open_plain, opened_stuck, opened_gives}
 use Rattle.sj_proto.proofs.OnwardLemmas.{advances_on}
-use Rattle.sj_proto.proofs.Lists.{item_more, item_and_dot, some_arms, arm_and, arm_and_comma}
+use Rattle.sj_proto.proofs.ListLemmas.{item_more, item_and_dot, some_arms, arm_and, arm_and_comma}
 use Rattle.sj_proto.proofs.parse.+parse.Goals.{maybe-then-sees-via-then-sees, maybe-then-sees-via-else-sees+then-sees-2}
 use Rattle.sj_proto.proofs.parse.+parse.Goals as goal
 

@@ -1,6 +1,6 @@
 use Rattle.std.proofs.Common.{◌≡◌, ◌+◌, ◌++◌, [], drop, ap, sym, ◌∙◌, vec_len}
 use Rattle.std.specs.Prelude.{codes, if◌then◌else◌, nat_lt}
-use Rattle.sj_text.proofs.Cuts.{none_yet, one_more, ahead_is, cut_at_once, cut_within, on_err, finish_ok, finish_cut}
+use Rattle.sj_text.proofs.CutLemmas.{none_yet, one_more, ahead_is, cut_at_once, cut_within, on_err, finish_ok, finish_cut}
 use Rattle.sj_lang.specs.View.{place_of, choices_of, carried_of, followed}
 use Rattle.sj_lang.specs.Place.{done}
 use Rattle.sj_grammar.specs.Tables.{entry_of}

@@ -1,6 +1,6 @@
 use Rattle.std.proofs.Common.{◌+◌, ◌*◌, ◌++◌, drop}
 use Rattle.std.specs.Prelude.{codes}
-use Rattle.sj_text.proofs.Cuts.{StillTo}
+use Rattle.sj_text.proofs.CutLemmas.{StillTo}
 use Rattle.sj_lang.specs.Place.{done}
 use Rattle.sj_lang.specs.PlaceSize.{place_size, carried_size, choices_size}
 use Rattle.sj_lang.specs.View.{place_of, followed, carried_of}

@@ -1,8 +1,8 @@
 use Rattle.sj_grammar.specs.declared.refusal.ParseRefusal.TheVariants as refusals
 use Rattle.sj_grammar.specs.Refusals.{OnFault}
 use Rattle.sj_proto.specs.Protocols.{IsFirstFault}
-use Rattle.sj_proto.proofs.Exits.{err_as}
-use Rattle.sj_proto.proofs.Texts.{first_fault, behind_fault, protocol_is, refused_none, one_protocol}
+use Rattle.sj_proto.proofs.ExitLemmas.{err_as}
+use Rattle.sj_proto.proofs.TextLemmas.{first_fault, behind_fault, protocol_is, refused_none, one_protocol}
 use Rattle.sj_proto.proofs.protocols.parse_protocol.Goals as goal
 
 pub returns-in_err-p-clause-fault : goal.returns-in_err-p-clause-fault

@@ -14,8 +14,8 @@ use Rattle.sj_proto.specs.Parsed.{standing, GivesOnLines}
 use Rattle.sj_proto.specs.Protocols.{IsFaultInProtocols}
 use Rattle.sj_proto.proofs.ReadLemmas.{kept_on}
 use Rattle.sj_proto.proofs.OnwardLemmas.{advances_on}
-use Rattle.sj_proto.proofs.Exits.{err_as, on_fault_map}
-use Rattle.sj_proto.proofs.Fronts.{defs_more, def_stuck, unreadable_stuck, other_next}
+use Rattle.sj_proto.proofs.ExitLemmas.{err_as, on_fault_map}
+use Rattle.sj_proto.proofs.FrontLemmas.{defs_more, def_stuck, unreadable_stuck, other_next}
 use Rattle.sj_proto.proofs.OneFront.{one_front, refused_no_front}
 use Rattle.sj_proto.proofs.protocols.parse_protocols.Goals as goal
 

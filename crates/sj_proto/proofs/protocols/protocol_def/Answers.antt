@@ -7,9 +7,9 @@ use Rattle.sj_grammar.specs.ProtocolDues.{body}
 use Rattle.sj_grammar.specs.FileDues.{Due, fixed, proto, protocols, file_layer}
 use Rattle.sj_grammar.specs.Faults.{Stuck}
 use Rattle.sj_grammar.specs.Asked.{Refuses, but, but_name}
-use Rattle.sj_grammar.proofs.Stuckness.{refuses_stuck}
+use Rattle.sj_grammar.proofs.StucknessLemmas.{refuses_stuck}
 use Rattle.sj_proto.specs.Parsed.{standing}
-use Rattle.sj_proto.proofs.Exits.{err_as, on_fault_map}
+use Rattle.sj_proto.proofs.ExitLemmas.{err_as, on_fault_map}
 use Rattle.sj_proto.proofs.NamedPieceLemmas.{fixed_rule, name_rule}
 use Rattle.sj_proto.proofs.DefinitionLemmas.{behind_word, word_fault, word_stuck, named_stuck, opened_stuck, bodied_stuck, def_gives}
 use Rattle.sj_proto.proofs.protocols.protocol_def.Goals as goal

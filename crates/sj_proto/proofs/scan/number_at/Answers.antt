@@ -1,7 +1,7 @@
 use Rattle.std.proofs.Common.{◌≡◌, ℕ, ◌-◌, subst, All, IsTrue, take, drop, arith}
 use Rattle.std.specs.Char.{is_ascii_digit}
 use Rattle.std.specs.List.{prefix_len}
-use Rattle.sj_proto.proofs.Digits.{All-run}
+use Rattle.sj_proto.proofs.DigitLemmas.{All-run}
 use Rattle.sj_proto.proofs.scan.number_at.Goals as goal
 
 pub digits_number-requires : goal.digits_number-requires

@@ -1,6 +1,6 @@
 use Rattle.std.proofs.Common.{arith, subst, sym}
 use Rattle.sj_lane.specs.declared.lane.Lanes.{Lanes}
-use Rattle.sj_lane.proofs.Each.{each2_length, each2_refl}
+use Rattle.sj_lane.proofs.EachLemmas.{each2_length, each2_refl}
 use Rattle.sj_socket.specs.Kept.{LanesKept}
 use Rattle.sj_socket.specs.declared.in_lane.SocketIn.{SocketIn}
 use Rattle.sj_socket.specs.declared.out_lane.SocketOut.{SocketOut}

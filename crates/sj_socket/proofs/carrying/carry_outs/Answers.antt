@@ -1,6 +1,6 @@
 use Rattle.std.proofs.Common.{arith, length, refl}
 use Rattle.std.proofs.lemmas.Option.{slice_get_read}
-use Rattle.sj_lane.proofs.Each.{each2_length, each2_put, each2_refl}
+use Rattle.sj_lane.proofs.EachLemmas.{each2_length, each2_put, each2_refl}
 use Rattle.sj_socket.specs.Kept.{OutKept}
 use Rattle.sj_socket.proofs.KeptLemmas.{out_itself, out_later}
 use Rattle.sj_socket.proofs.carrying.carry_outs.Goals as goal

@@ -1,7 +1,7 @@
 use Rattle.std.proofs.Common.{rules}
 use Rattle.sj_tool.specs.AnswerAt.{answer_at}
 use Rattle.sj_tool.proofs.Completed.{answered_whole}
-use Rattle.sj_tool.proofs.Exactly.{answered_exactly}
+use Rattle.sj_tool.proofs.ExactnessLemmas.{answered_exactly}
 use Rattle.sj_tool.proofs.HeadlineOfAnswers.{answered_headline}
 use Rattle.sj_tool.proofs.top.sj.Goals as goal
 

@@ -1,7 +1,7 @@
 use Rattle.std.proofs.Common.{◌≡◌, ◌++◌, ◌∷◌, [], arith, length-append}
 use Rattle.std.proofs.lemmas.Result.{err_from_is_err_and}
 use Rattle.sj_wire.specs.Reading.{messages_at}
-use Rattle.sj_wire.proofs.MessageLoop.{goes_on, ends, is_done}
+use Rattle.sj_wire.proofs.MessageLoopLemmas.{goes_on, ends, is_done}
 use Rattle.sj_wire.proofs.messages.messages.Goals as goal
 
 pub returns-in_err-msg-clause-read : goal.returns-in_err-msg-clause-read

@@ -1,6 +1,6 @@
 use Rattle.std.proofs.Common.{◌≡◌, ◌-◌, length}
 use Rattle.sj_wire.specs.Reading.{messages_at}
-use Rattle.sj_wire.proofs.MessageLoop.{with_front}
+use Rattle.sj_wire.proofs.MessageLoopLemmas.{with_front}
 use Rattle.sj_wire.proofs.messages.messages.Given as goal
 
 abbrev pub invariant-loop : goal.invariant-loop
