@@ -1,5 +1,5 @@
 //! The text of the generated file.
-#![tactic(auto, using(sj_text::proofs::Cuts::cuts))]
+#![tactic(auto, using(sj_text::proofs::CutLemmas::cuts))]
 
 ghost use Rattle.std.specs.Prelude.{◌≡◌, ◌++◌, ◌+◌, ◌<◌, OnOk, OnErr, decimal};
 ghost use Rattle.sj_text.specs.Cut.{IsCutShort};
@@ -43,7 +43,7 @@ fn put_all_connections(text: &mut Vec<u8>) -> Result<(), NoMemory>
     put_connections(text, 4)
 }
 
-#[tactic(auto, using(sj_text::proofs::Cuts::cuts), unfolding(crate::specs::Generated::protocols))]
+#[tactic(auto, using(sj_text::proofs::CutLemmas::cuts), unfolding(crate::specs::Generated::protocols))]
 fn put_protocols(text: &mut Vec<u8>) -> Result<(), NoMemory>
     ensures ok { OnOk result (text.new.items ≡ text.old.items ++ protocols) }
     ensures err { OnErr result (IsCutShort text.old.items protocols text.new.items) }
@@ -58,7 +58,7 @@ fn put_protocols(text: &mut Vec<u8>) -> Result<(), NoMemory>
 }
 
 // The three parties of a group.
-#[tactic(auto, using(sj_text::proofs::Cuts::cuts), unfolding(crate::specs::Generated::group))]
+#[tactic(auto, using(sj_text::proofs::CutLemmas::cuts), unfolding(crate::specs::Generated::group))]
 fn put_group(text: &mut Vec<u8>, n: u16, i: u16) -> Result<(), NoMemory>
     requires { i < 5 }
     ensures ok { OnOk result (text.new.items ≡ text.old.items ++ group n i) }
@@ -102,7 +102,7 @@ fn put_adder(text: &mut Vec<u8>, i: u16) -> Result<(), NoMemory>
 }
 
 // The two connections of a group.
-#[tactic(auto, using(sj_text::proofs::Cuts::cuts), unfolding(crate::specs::Generated::connections))]
+#[tactic(auto, using(sj_text::proofs::CutLemmas::cuts), unfolding(crate::specs::Generated::connections))]
 fn put_connections(text: &mut Vec<u8>, i: u16) -> Result<(), NoMemory>
     ensures ok { OnOk result (text.new.items ≡ text.old.items ++ connections i) }
     ensures err { OnErr result (IsCutShort text.old.items (connections i) text.new.items) }

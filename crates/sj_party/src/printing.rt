@@ -1,5 +1,5 @@
 //! Files as text.
-#![tactic(auto, using(sj_text::proofs::Cuts::cuts))]
+#![tactic(auto, using(sj_text::proofs::CutLemmas::cuts))]
 
 ghost use Rattle.std.specs.Prelude.{◌≡◌, ◌++◌, map, OnOk, OnErr};
 ghost use Rattle.sj_text.specs.Cut.{IsCutShort};
@@ -112,7 +112,7 @@ fn put_connect(text: &mut Vec<u8>, names: &Names, connect: &Connect) -> Result<(
 }
 
 // Appends the names of an end, each behind a space.
-#[tactic(auto, using(sj_text::proofs::Cuts::cuts), unfolding(crate::specs::CanonicalFile::end_text))]
+#[tactic(auto, using(sj_text::proofs::CutLemmas::cuts), unfolding(crate::specs::CanonicalFile::end_text))]
 fn put_end(text: &mut Vec<u8>, names: &Names, end: &EndDecl) -> Result<(), NoMemory>
     ensures ok { OnOk result (text.new.items
         ≡ text.old.items ++ end_text (spelling_of names.now) (decl_of end.now)) }

@@ -1,5 +1,5 @@
 //! Expressions as text.
-#![tactic(auto, using(sj_text::proofs::Cuts::cuts))]
+#![tactic(auto, using(sj_text::proofs::CutLemmas::cuts))]
 
 ghost use Rattle.std.specs.Prelude.{◌≡◌, ◌++◌, [], if◌then◌else◌, OnOk, OnErr};
 ghost use Rattle.sj_text.specs.Cut.{IsCutShort};

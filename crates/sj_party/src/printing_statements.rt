@@ -1,5 +1,5 @@
 //! Statements as text.
-#![tactic(auto, using(sj_text::proofs::Cuts::cuts))]
+#![tactic(auto, using(sj_text::proofs::CutLemmas::cuts))]
 
 ghost use Rattle.std.specs.Prelude.{◌≡◌, ◌+◌, ◌++◌, map, codes, IfOk, OnOk, OnErr};
 ghost use Rattle.sj_text.specs.Cut.{IsCutShort};
@@ -26,7 +26,7 @@ fn put_spaces(text: &mut Vec<u8>, n: usize) -> Result<(), NoMemory>
 }
 
 /// Appends a name behind what stands before it.
-#[tactic(auto, using(sj_text::proofs::Cuts::cuts), unfolding(crate::specs::CanonicalCode::named_text))]
+#[tactic(auto, using(sj_text::proofs::CutLemmas::cuts), unfolding(crate::specs::CanonicalCode::named_text))]
 pub fn put_named(text: &mut Vec<u8>, names: &Names, lead: &[u8], n: u16) -> Result<(), NoMemory>
     ensures ok { OnOk result (text.new.items
         ≡ text.old.items ++ named_text (spelling_of names.now) lead.now n) }
@@ -38,7 +38,7 @@ pub fn put_named(text: &mut Vec<u8>, names: &Names, lead: &[u8], n: u16) -> Resu
 }
 
 /// Appends two names.
-#[tactic(auto, using(sj_text::proofs::Cuts::cuts), unfolding(crate::specs::CanonicalCode::pair_text))]
+#[tactic(auto, using(sj_text::proofs::CutLemmas::cuts), unfolding(crate::specs::CanonicalCode::pair_text))]
 pub fn put_pair(
     text: &mut Vec<u8>,
     names: &Names,
@@ -56,7 +56,7 @@ pub fn put_pair(
 }
 
 // Appends an expression behind what stands before it.
-#[tactic(auto, using(sj_text::proofs::Cuts::cuts), unfolding(crate::specs::CanonicalCode::valued_text))]
+#[tactic(auto, using(sj_text::proofs::CutLemmas::cuts), unfolding(crate::specs::CanonicalCode::valued_text))]
 fn put_valued(text: &mut Vec<u8>, names: &Names, lead: &[u8], e: &Expr) -> Result<(), NoMemory>
     ensures ok { OnOk result (text.new.items
         ≡ text.old.items ++ valued_text (spelling_of names.now) lead.now (term_of e.now)) }
@@ -68,7 +68,7 @@ fn put_valued(text: &mut Vec<u8>, names: &Names, lead: &[u8], e: &Expr) -> Resul
 }
 
 // Appends a name, and behind a mark an expression.
-#[tactic(auto, using(sj_text::proofs::Cuts::cuts), unfolding(crate::specs::CanonicalCode::given_text))]
+#[tactic(auto, using(sj_text::proofs::CutLemmas::cuts), unfolding(crate::specs::CanonicalCode::given_text))]
 fn put_given(
     text: &mut Vec<u8>,
     names: &Names,

@@ -1,7 +1,7 @@
 //! Lines that end with a message, of transcripts and of logs.
 //!
 //! Want of memory leaves a front of what was to be put behind the text.
-#![tactic(auto, using(sj_text::proofs::Cuts::cuts))]
+#![tactic(auto, using(sj_text::proofs::CutLemmas::cuts))]
 
 ghost use Rattle.std.specs.Prelude.{◌≡◌, ◌++◌, OnOk, OnErr, map};
 ghost use Rattle.sj_text.specs.Cut.{IsCutShort};

@@ -1,5 +1,5 @@
 //! The whole transcript.
-#![tactic(auto, using(sj_text::proofs::Cuts::cuts))]
+#![tactic(auto, using(sj_text::proofs::CutLemmas::cuts))]
 
 ghost use Rattle.std.specs.Prelude.{◌≡◌, ◌++◌, ◌<◌, ◌≤◌, length, OnOk, OnErr};
 ghost use Rattle.sj_text.specs.Cut.{IsCutShort};

@@ -1,5 +1,5 @@
 //! Protocols as text.
-#![tactic(auto, using(sj_lang::proofs::Within::within, sj_text::proofs::Cuts::cuts, crate::proofs::PrintingLemmas::dot_apart))]
+#![tactic(auto, using(sj_lang::proofs::WithinLemmas::within, sj_text::proofs::CutLemmas::cuts, crate::proofs::PrintingLemmas::dot_apart))]
 
 ghost use Rattle.std.specs.Prelude.{◌≡◌, ◌++◌, ◌<◌, [], nat_lt, if◌then◌else◌, codes, OnOk, OnErr};
 ghost use Rattle.sj_text.specs.Cut.{IsCutShort};
