@@ -1,12 +1,12 @@
 -- The histories compute.
 use Rattle.std.proofs.Common.{refl}
 use Rattle.sj_semantics_laws.specs.HandoverSamples.{delegation, both_moved}
-use Rattle.sj_rules_laws.specs.CoreSamples.{IsLoggedSo, handed_over_lines, both_moved_lines}
+use Rattle.sj_rules_laws.specs.CoreSamples.{IsLoggedSo, delegation_lines, both_moved_lines}
 use Rattle.sj_rules_laws.specs.MoreCoreSamples.{sends_later, sends_later_lines}
 use Rattle.sj_rules_laws.specs.MovedTwiceSamples.{moved_twice, moved_twice_lines}
 
-pub handed_over_gives : IsLoggedSo delegation handed_over_lines
-handed_over_gives = (refl, refl)
+pub delegation_gives : IsLoggedSo delegation delegation_lines
+delegation_gives = (refl, refl)
 
 pub both_moved_gives : IsLoggedSo both_moved both_moved_lines
 both_moved_gives = (refl, refl)

@@ -32,8 +32,8 @@ abbrev pub IsLoggedSo : FileAt → List LineAt → Type 0
 IsLoggedSo file lines = (lines_of whole_caches file lines ≡ Some lines) × (lines_of max file lines ≡ Some lines)
 
 -- a, b and c; b takes one message and delegates its end to c
-abbrev pub handed_over_lines : List LineAt
-handed_over_lines =
+abbrev pub delegation_lines : List LineAt
+delegation_lines =
     does 1 0 (Sent (end 0 0) (int 1))
     ∷ does 2 0 (Sent (end 0 0) (int 2))
     ∷ does 3 0 (Sent (end 0 0) (int 3))

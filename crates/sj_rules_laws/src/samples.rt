@@ -2,7 +2,7 @@
 //!
 //! - `handovers_are_logged_so`: whole histories, with all clocks and notes, however caches are kept.
 
-ghost use Rattle.sj_rules_laws.specs.CoreSamples.{IsLoggedSo, both_moved_lines, handed_over_lines};
+ghost use Rattle.sj_rules_laws.specs.CoreSamples.{IsLoggedSo, both_moved_lines, delegation_lines};
 ghost use Rattle.sj_rules_laws.specs.MoreCoreSamples.{sends_later, sends_later_lines};
 ghost use Rattle.sj_rules_laws.specs.MovedTwiceSamples.{moved_twice, moved_twice_lines};
 ghost use Rattle.sj_semantics_laws.specs.HandoverSamples.{both_moved, delegation};
@@ -10,7 +10,7 @@ ghost use Rattle.sj_semantics_laws.specs.HandoverSamples.{both_moved, delegation
 /// A closed end is resent after a handover; nothing is resent between Signal and Give; Signals
 /// cross; a Carry and a Signal wait for an end that is delegated once more.
 pub fn handovers_are_logged_so()
-    ensures delegation { IsLoggedSo delegation handed_over_lines }
+    ensures delegation { IsLoggedSo delegation delegation_lines }
     ensures sends_later { IsLoggedSo sends_later sends_later_lines }
     ensures both_moved { IsLoggedSo both_moved both_moved_lines }
     ensures moved_twice { IsLoggedSo moved_twice moved_twice_lines }

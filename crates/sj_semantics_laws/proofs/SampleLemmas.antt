@@ -6,7 +6,7 @@ use Rattle.sj_semantics.specs.State.{verdict_of}
 use Rattle.sj_semantics.specs.Run.{as_long_as_ready, turn_of_each, rounds, end_of}
 use Rattle.sj_semantics.specs.Transcript.{transcript_of}
 use Rattle.sj_semantics_laws.specs.Samples.{greeting, greeting_text, wrapping, wrapping_text, silent, silent_text, crossed, crossed_text, turning, turnless_text}
-use Rattle.sj_semantics_laws.specs.HandoverSamples.{delegation, handed_over_text, returning, returning_text, both_moved, both_moved_text, to_its_peer, to_its_peer_text, to_itself, to_itself_text}
+use Rattle.sj_semantics_laws.specs.HandoverSamples.{delegation, delegation_text, returning, returning_text, both_moved, both_moved_text, to_its_peer, to_its_peer_text, to_itself, to_itself_text}
 use Rattle.sj_semantics_laws.specs.AgencySamples.{agency, agency_text, refused_text}
 
 pub greeting_ends : transcript_of greeting (end_of greeting) ≡ greeting_text
@@ -29,9 +29,9 @@ pub turnless_ends : transcript_of (turning 0) (end_of (turning 0)) ≡ turnless_
 unfolding transcript_of digits end_of rounds turn_of_each as_long_as_ready
 turnless_ends = refl
 
-pub handed_over_ends : transcript_of delegation (end_of delegation) ≡ handed_over_text
+pub delegation_ends : transcript_of delegation (end_of delegation) ≡ delegation_text
 unfolding transcript_of digits end_of rounds turn_of_each as_long_as_ready
-handed_over_ends = refl
+delegation_ends = refl
 
 pub returning_ends : transcript_of returning (end_of returning) ≡ returning_text
 unfolding transcript_of digits end_of rounds turn_of_each as_long_as_ready

@@ -28,8 +28,8 @@ delegation = record {
 }
 
 -- its transcript
-abbrev pub handed_over_text : List ℕ
-handed_over_text =
+abbrev pub delegation_text : List ℕ
+delegation_text =
     codes "session 0 a x b y\n0.0 0 a b int 1\n0.0 1 a c int 2\n0.0 2 a c int 3\nsession 1 b z c u\n"
     ++ codes "1.0 0 b c session 0.1 b\nparty a ended 4\nparty b ended 3\nparty c ended 5\ndone\n"
 

@@ -14,7 +14,7 @@ ghost use Rattle.sj_semantics.specs.declared.Value.TheVariants.{Int};
 ghost use Rattle.sj_semantics.specs.Value.{no_vars, turns_of, worth, limit_of_turns};
 ghost use Rattle.sj_semantics.specs.declared.Verdict.TheVariants.{Blocked};
 ghost use Rattle.sj_semantics_laws.specs.AgencySamples.{agency, agency_text, refused_text};
-ghost use Rattle.sj_semantics_laws.specs.HandoverSamples.{both_moved, both_moved_text, delegation, handed_over_text, returning, returning_text, to_its_peer, to_its_peer_text, to_itself, to_itself_text};
+ghost use Rattle.sj_semantics_laws.specs.HandoverSamples.{both_moved, both_moved_text, delegation, delegation_text, returning, returning_text, to_its_peer, to_its_peer_text, to_itself, to_itself_text};
 ghost use Rattle.sj_semantics_laws.specs.Samples.{crossed, crossed_text, greeting, greeting_text, silent, silent_text, turning, turnless_text, wrapping, wrapping_text, last_int};
 /// A number, a number that wraps, nothing, two sessions that block, and a loop that sends `stop` alone.
 pub fn short_sessions_end_so()
@@ -27,7 +27,7 @@ pub fn short_sessions_end_so()
 
 /// Ends that go on, come back, move at once, and go to the other end's holder or to their own.
 pub fn handovers_end_so()
-    ensures delegation { transcript_of delegation (end_of delegation) ≡ handed_over_text }
+    ensures delegation { transcript_of delegation (end_of delegation) ≡ delegation_text }
     ensures returning { transcript_of returning (end_of returning) ≡ returning_text }
     ensures both_moved { transcript_of both_moved (end_of both_moved) ≡ both_moved_text }
     ensures to_its_peer { transcript_of to_its_peer (end_of to_its_peer) ≡ to_its_peer_text }

@@ -1,8 +1,8 @@
-use Rattle.sj_semantics_laws.proofs.SampleLemmas.{both_moved_ends, handed_over_ends, returning_ends, to_its_peer_ends, to_itself_ends}
+use Rattle.sj_semantics_laws.proofs.SampleLemmas.{both_moved_ends, delegation_ends, returning_ends, to_its_peer_ends, to_itself_ends}
 use Rattle.sj_semantics_laws.proofs.samples.handovers_end_so.Goals as goal
 
-pub returns-clause-handed_over : goal.returns-clause-handed_over
-returns-clause-handed_over c = handed_over_ends
+pub returns-clause-delegation : goal.returns-clause-delegation
+returns-clause-delegation c = delegation_ends
 
 pub returns-clause-returning : goal.returns-clause-returning
 returns-clause-returning c = returning_ends
