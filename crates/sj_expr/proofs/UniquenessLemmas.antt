@@ -55,11 +55,11 @@ module _ (L : Limits) (names : Spelling) where
   read_whole s (c ∷ ps) h = by_sign (sign_of c) h
     where
       by_sign : (g : Sign) → IsEnd g → moved (by_term g (s, [])) (λ next. reading next ps) (Some (s, c ∷ ps)) ≡ Some (s, c ∷ ps)
-      by_sign Shapes.star h = absurd h
-      by_sign (Shapes.plus op) h = absurd h
-      by_sign (Shapes.compare op) h = absurd h
-      by_sign Shapes.close h = refl
-      by_sign Shapes.other h = refl
+      by_sign ShapeLemmas.star h = absurd h
+      by_sign (ShapeLemmas.plus op) h = absurd h
+      by_sign (ShapeLemmas.compare op) h = absurd h
+      by_sign ShapeLemmas.close h = refl
+      by_sign ShapeLemmas.other h = refl
 
   abbrev shape_in : Option (Shape × Pieces) → Shape
   shape_in None = leaf []
