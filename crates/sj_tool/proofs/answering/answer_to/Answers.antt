@@ -12,6 +12,6 @@ answer_to_bytes-requires-clause-few g c κs within =
     let asks : Asks words c.in-Some.task = subst (λ (o : Option Task). IfSome o (Asks words)) c.in-Some.is c.in_ok-task.ensures.asked in
     let big : Asks words (tasks.Big c.in-Big.n) = subst (λ (t : Task). Asks words t) c.in-Big.is asks in
     let (taken, means) = big in
-    let few = generated_few c.in-Big.n means.2 in
+    let few = generated_few c.in-Big.n means.1.1 in
     let same = ap length (c.deref.ensures.value ∙ c.in_ok-text.ensures) in
     omega (arith, few, same)
