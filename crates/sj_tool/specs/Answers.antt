@@ -23,8 +23,7 @@ use Rattle.sj_tool.specs.Calls.{CallAt, LinkUseAt}
 use Rattle.sj_tool.specs.Entries.{IsDamageText, IsMisfitText}
 use Rattle.sj_tool.specs.Tasks.{AsksFor, Checks, HasInput, HasLongText, HasParts, IsUnread, Reads, Replays, RunsParties, Takes, limit_of}
 use Rattle.sj_tool.specs.Runs.{Plays, Prints}
-use Rattle.sj_tool.specs.Texts.{status_of, text_of}
-use Rattle.sj_tool.specs.declared.top.TheConstants.{WRITE_FAULT, NO_MEMORY}
+use Rattle.sj_tool.specs.Texts.{status_of, text_of, write_fault_status, no_memory_status}
 
 -- what answers a file, with the log that is replayed
 abbrev pub AnswersFile : LinkUseAt → Task → (log : List ℕ) → FileAt → AnswerAt → Type 0
@@ -110,4 +109,4 @@ pub record WroteFront (c : CallAt) (before after : Option (List ℕ)) : Type 0 w
 
 -- it holds, unless a write failed or there was no memory
 abbrev pub OrYields : ℕ → Type 0 → Type 0
-OrYields status P = P ⊎ ((status ≡ WRITE_FAULT) ⊎ (status ≡ NO_MEMORY))
+OrYields status P = P ⊎ ((status ≡ write_fault_status) ⊎ (status ≡ no_memory_status))

@@ -20,6 +20,13 @@ verdict_status Done = 0
 verdict_status Blocked = 6
 verdict_status Long = 7
 
+-- the answer couldn't be written; there was no memory for it
+abbrev pub write_fault_status : ℕ
+write_fault_status = 10
+
+abbrev pub no_memory_status : ℕ
+no_memory_status = 11
+
 abbrev pub status_of : AnswerAt → ℕ
 status_of Usage = 1
 status_of ReadFault = 2

@@ -11,8 +11,7 @@ ghost use Rattle.sj_tool.specs.Completeness.{CompletesSo, IsValid};
 ghost use Rattle.sj_tool.specs.Headline.{HasHeadline, IsPlaying, IsVerdict};
 ghost use Rattle.sj_tool.specs.Tasks.{AsksFor};
 ghost use Rattle.sj_tool.specs.Table.{AnswersAs, NoFaultAbove};
-ghost use Rattle.sj_tool.specs.Texts.{status_of};
-ghost use Rattle.sj_tool.specs.declared.top.TheConstants.{WRITE_FAULT, NO_MEMORY};
+ghost use Rattle.sj_tool.specs.Texts.{no_memory_status, status_of, write_fault_status};
 
 use crate::answering::answer_to;
 use sj_base::{NoMemory, Sink, Source, WriteFault, write_all_of};
@@ -23,14 +22,12 @@ use std::thread::Threads;
 
 /// The status where the answer's text can't be written.
 const WRITE_FAULT: u8 = 10;
-
 /// The status where there is no memory.
 const NO_MEMORY: u8 = 11;
 
 /// Does what the words say with the input, writes the answer's text, and answers its status.
 ///
-/// The words are those behind the program's name. The text is built whole before any of it is
-/// written.
+/// The words are those behind the program's name. The text is built whole before any is written.
 ///
 /// `run` runs the parties of a file over the links, each on a thread of its own where the runtime gives
 /// one, and shows each event of theirs to the gate.
@@ -79,13 +76,13 @@ pub fn sj<R: Threads + Sync, S: Source, K: Sink, L: Links, G: Gate>(
     ensures read_fault { result ≡ status_of ReadFault → Rose (S.faults src.old) (S.faults src.new) }
     ensures link_fault { result ≡ status_of LinkFault → lanes.Rose (L.faults links.old) (L.faults links.new) }
     ensures damaged { (text : List ℕ) → result ≡ status_of (Damaged text) → L.tells links.old ≡ true → ⊥ }
-    ensures write_fault { result ≡ WRITE_FAULT → Rose (K.faults out.old) (K.faults out.new) }
+    ensures write_fault { result ≡ write_fault_status → Rose (K.faults out.old) (K.faults out.new) }
 
     // A front of the answer's text was written where the sink failed, and nothing without memory.
-    ensures front { result ≡ WRITE_FAULT → WroteFront (call S.left S.faults words.now src.old src.new
+    ensures front { result ≡ write_fault_status → WroteFront (call S.left S.faults words.now src.old src.new
         (link_use L.tells L.faults L.sent L.got L.vain_out L.vain_in links.old links.new))
         (K.written out.old) (K.written out.new) }
-    ensures no_memory { result ≡ NO_MEMORY → K.written out.new ≡ K.written out.old }
+    ensures no_memory { result ≡ no_memory_status → K.written out.new ≡ K.written out.old }
 {
     let answer = match answer_to(rt, alloc, words, src, links, gate) {
         Ok(answer) => answer,
