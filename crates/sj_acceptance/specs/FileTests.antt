@@ -1,24 +1,23 @@
 -- What a file asks, in order.
-use Rattle.std.specs.Prelude.{ℕ, Bool, false, ◌==◌, ◌&&◌, ◌||◌, not, is_some, if◌then◌else◌, List, [], ◌∷◌, ◌++◌, map}
+use Rattle.std.specs.Prelude.{ℕ, Bool, true, false, ◌==◌, ◌&&◌, ◌||◌, not, is_some, if◌then◌else◌, List, [], ◌∷◌, ◌++◌, map}
 use Rattle.std.specs.Ordering.{nat_cmp}
 use Rattle.std.specs.FinMap as finite
 use Rattle.std.specs.FinMap.{FinMap}
 use Rattle.sj_lang.specs.Place.{Place}
-use Rattle.sj_lang.specs.Dual.{dual_of}
+use Rattle.sj_lang.specs.MeetTests.{meets}
 use Rattle.sj_lang.specs.FileAt.{FileAt, ProtocolAt, PartyAt, ConnectAt, DeclAt, protocol_named, body_named}
+pub use Rattle.sj_lang.specs.FileAt.{party_names}
 use Rattle.sj_acceptance.specs.EnvAt.{EnvAt}
-use Rattle.sj_acceptance.specs.Sameness.{is_same_place, is_same_ends}
+use Rattle.sj_acceptance.specs.Sameness.{is_same_ends}
 use Rattle.sj_acceptance.specs.Faults.{Test}
 use Rattle.sj_acceptance.specs.LabelTests.{is_among, names_once}
 use Rattle.sj_acceptance.specs.Tests.{code_tests, after_code}
-use Rattle.sj_acceptance.specs.Rules.{no_protocol, no_party, name_in_use, not_dual, left_open}
+use Rattle.sj_acceptance.specs.Rules.{no_protocol, no_party, name_in_use, do_not_meet, left_open, accept_unmet}
+use Rattle.sj_acceptance.specs.Openings.{OpeningAt, requests_of, accepts_of}
 
--- the names of protocols, and of parties
+-- the names of protocols
 abbrev pub protocol_names : List ProtocolAt → List ℕ
 protocol_names ps = map (λ p. p.name) ps
-
-abbrev pub party_names : List PartyAt → List ℕ
-party_names ps = map (λ p. p.name) ps
 
 -- each protocol, behind the earlier ones
 abbrev pub protocol_tests : List ProtocolAt → List ProtocolAt → List Test
@@ -45,12 +44,12 @@ abbrev pub end_tests : List ℕ → List ProtocolAt → ℕ → Bool → DeclAt 
 end_tests parties ps line taken e =
     (no_party, line, is_among e.party parties) ∷ (no_protocol, line, is_some (protocol_named ps e.protocol)) ∷ (name_in_use, line, not taken) ∷ []
 
--- its first end, its second end, and that they are dual
+-- its first end, its second end, and that they meet
 abbrev pub connection_tests : List ℕ → List ProtocolAt → List ConnectAt → ConnectAt → List Test
 connection_tests parties ps earlier c =
     end_tests parties ps c.line (is_taken c.first earlier) c.first
     ++ end_tests parties ps c.line (is_taken c.second earlier || is_same_end c.first c.second) c.second
-    ++ (not_dual, c.line, is_same_place (body_named ps c.first.protocol) (dual_of (body_named ps c.second.protocol))) ∷ []
+    ++ (do_not_meet, c.line, meets (body_named ps c.first.protocol) (body_named ps c.second.protocol)) ∷ []
 
 -- each connection, behind the earlier ones
 abbrev pub connect_tests : List ℕ → List ProtocolAt → List ConnectAt → List ConnectAt → List Test
@@ -71,18 +70,39 @@ abbrev pub at_start : List ProtocolAt → List ConnectAt → ℕ → EnvAt
 at_start ps cs party = record { ends = ends_of_party ps party cs; variables = finite.empty }
 
 -- its body, and that no end is live behind it
-abbrev pub one_body_tests : List ProtocolAt → List ConnectAt → PartyAt → List Test
-one_body_tests ps cs p =
-    code_tests ps (at_start ps cs p.name) p.code
+abbrev pub one_body_tests : List ProtocolAt → List ℕ → List ConnectAt → PartyAt → List Test
+one_body_tests ps parties cs p =
+    code_tests ps parties (at_start ps cs p.name) p.code
     ++ (left_open, p.line, is_same_ends (after_code ps (at_start ps cs p.name) p.code).ends finite.empty) ∷ []
 
 -- the bodies in order
-abbrev pub body_tests : List ProtocolAt → List ConnectAt → List PartyAt → List Test
-body_tests ps cs [] = []
-body_tests ps cs (p ∷ parties) = one_body_tests ps cs p ++ body_tests ps cs parties
+abbrev pub body_tests : List ProtocolAt → List ℕ → List ConnectAt → List PartyAt → List Test
+body_tests ps parties cs [] = []
+body_tests ps parties cs (p ∷ qs) = one_body_tests ps parties cs p ++ body_tests ps parties cs qs
 
--- protocols, parties, connections, bodies
+-- what the party of that name accepts so meets each of these requests that is to that party
+abbrev pub meets_each : List ProtocolAt → ℕ → OpeningAt → List OpeningAt → Bool
+meets_each ps b a [] = true
+meets_each ps b a (r ∷ rs) = (not (r.party == b) || meets (body_named ps r.protocol) (body_named ps a.protocol)) && meets_each ps b a rs
+
+-- so it does for the requests of the party from which it accepts, among these
+abbrev pub meets_requests : List ProtocolAt → ℕ → OpeningAt → List PartyAt → Bool
+meets_requests ps b a [] = true
+meets_requests ps b a (p ∷ qs) = (not (p.name == a.party) || meets_each ps b a (requests_of p.code)) && meets_requests ps b a qs
+
+-- each of these accepts, of the party of that name
+abbrev pub accept_tests : List ProtocolAt → List PartyAt → ℕ → List OpeningAt → List Test
+accept_tests ps all b [] = []
+accept_tests ps all b (a ∷ as') = (accept_unmet, a.line, meets_requests ps b a all) ∷ accept_tests ps all b as'
+
+-- the accepts of these parties, in order
+abbrev pub opening_tests : List ProtocolAt → List PartyAt → List PartyAt → List Test
+opening_tests ps all [] = []
+opening_tests ps all (p ∷ qs) = accept_tests ps all p.name (accepts_of p.code) ++ opening_tests ps all qs
+
+-- protocols, parties, connections, bodies, and sessions opened at run time
 abbrev pub tests_of : FileAt → List Test
 tests_of f =
     protocol_tests [] f.protocols ++ party_tests [] f.parties
-    ++ connect_tests (party_names f.parties) f.protocols [] f.connects ++ body_tests f.protocols f.connects f.parties
+    ++ connect_tests (party_names f.parties) f.protocols [] f.connects ++ body_tests f.protocols (party_names f.parties) f.connects f.parties
+    ++ opening_tests f.protocols f.parties f.parties

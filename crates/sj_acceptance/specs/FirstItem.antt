@@ -5,6 +5,7 @@ use Rattle.sj_lang.specs.declared.party.Scalar.{Scalar}
 use Rattle.sj_lang.specs.declared.party.Scalar.TheVariants as scalars
 use Rattle.sj_lang.specs.Place.{Place, Carried, Choices, done, message, choice, repeat, int, boolean, text, session, no_choice}
 use Rattle.sj_lang.specs.After.{is_same_way, followed_by, at_label}
+use Rattle.sj_lang.specs.MeetTests.{stands_for}
 use Rattle.sj_acceptance.specs.Sameness.{is_same_place}
 
 -- a message goes that way first
@@ -64,3 +65,8 @@ is_session _ = false
 abbrev pub is_session_of : Place → Carried → Bool
 is_session_of p (session q) = is_same_place p q
 is_session_of p _ = false
+
+-- an end is carried for which one at that place can stand
+abbrev pub stands_for_carried : Place → Carried → Bool
+stands_for_carried p (session q) = stands_for p q
+stands_for_carried p _ = false

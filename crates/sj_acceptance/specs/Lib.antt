@@ -10,6 +10,7 @@ pub mod KindTests
 pub mod Kinds
 pub mod LabelTests
 pub mod Labels
+pub mod Openings
 pub mod Rules
 pub mod Sameness
 pub mod Statements

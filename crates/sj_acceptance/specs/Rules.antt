@@ -12,9 +12,9 @@ no_party = 2
 abbrev pub name_in_use : ℕ
 name_in_use = 3
 
--- the protocols of a connection aren't dual
-abbrev pub not_dual : ℕ
-not_dual = 4
+-- the protocols of a connection don't meet
+abbrev pub do_not_meet : ℕ
+do_not_meet = 4
 
 -- no live end, or no variable, of that name
 abbrev pub not_there : ℕ
@@ -55,3 +55,7 @@ not_to_delegate = 13
 -- the arms aren't the labels of the choice, each once, or there are none
 abbrev pub other_arms : ℕ
 other_arms = 14
+
+-- an accept and a request between two parties don't meet
+abbrev pub accept_unmet : ℕ
+accept_unmet = 15

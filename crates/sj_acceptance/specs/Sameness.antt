@@ -3,20 +3,10 @@ use Rattle.std.specs.Prelude.{ℕ, Bool, true, false, ◌==◌, ◌&&◌, List, 
 use Rattle.std.specs.Ordering.{nat_cmp}
 use Rattle.std.specs.FinMap as map
 use Rattle.std.specs.FinMap.{FinMap}
-use base.Stored.{Gv, gnil, gnum, gcons}
 use Rattle.sj_lang.specs.declared.party.Scalar.{Scalar}
 use Rattle.sj_lang.specs.declared.party.Scalar.TheVariants.{Int, Boolean, Text}
 use Rattle.sj_lang.specs.Place.{Place}
-use Rattle.sj_lang.specs.PlaceCode.{place_code}
-
-abbrev pub is_same_tree : Gv → Gv → Bool
-is_same_tree gnil gnil = true
-is_same_tree (gnum m) (gnum n) = m == n
-is_same_tree (gcons a b) (gcons c d) = is_same_tree a c && is_same_tree b d
-is_same_tree _ _ = false
-
-unfoldable pub is_same_place : Place → Place → Bool
-is_same_place p q = is_same_tree (place_code p) (place_code q)
+pub use Rattle.sj_lang.specs.SamePlace.{is_same_tree, is_same_place}
 
 abbrev pub is_same_kind : Scalar → Scalar → Bool
 is_same_kind Int Int = true

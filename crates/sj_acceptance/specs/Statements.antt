@@ -1,9 +1,10 @@
 -- What a statement without a block needs, and which environment it leaves.
-use Rattle.std.specs.Prelude.{◌≡◌, ◌≢◌, ℕ, Option, Some}
+use Rattle.std.specs.Prelude.{◌≡◌, ◌≢◌, ℕ, List, Contains, Option, Some}
 use Rattle.sj_lang.specs.declared.party.Scalar.{Scalar}
 use Rattle.sj_lang.specs.declared.proto.Way.TheVariants.{Out, Into}
 use Rattle.sj_lang.specs.Place.{Place, Choices, done, message, choice, session}
 use Rattle.sj_lang.specs.After.{followed_by, at_label}
+use Rattle.sj_lang.specs.Meet.{StandsFor}
 use Rattle.sj_lang.specs.Term.{Term}
 use Rattle.sj_acceptance.specs.Environment.{Env, at_place, without_end, with_kind, IsFreeFor, IsUnused}
 use Rattle.sj_acceptance.specs.Kinds.{carried_by, HasKind}
@@ -19,10 +20,12 @@ pub record IsSend (env : Env) (x : ℕ) (e : Term) (next : Env) : Type 0 where
 -- `delegate x y`
 pub record IsDelegate (env : Env) (x y : ℕ) (next : Env) : Type 0 where
   pub place : Place
+  pub own : Place
   pub rest : Place
   pub two_names : x ≢ y
   pub there : env.places x ≡ Some (message Out (session place) rest)
-  pub sent : env.places y ≡ Some place
+  pub sent : env.places y ≡ Some own
+  pub stands : StandsFor own place
   pub not_empty : place ≢ done
   pub leaves : next ≡ without_end (at_place env x rest) y
 
@@ -41,6 +44,14 @@ pub record IsTakeEnd (body : Option Place) (env : Env) (x y : ℕ) (next : Env) 
   pub there : env.places x ≡ Some (message Into (session place) rest)
   pub unused : IsUnused env y
   pub leaves : next ≡ at_place (at_place env x rest) y place
+
+-- `request x p to b` and `accept x p from b`, where p has that body and the parties have these names
+pub record IsOpening (parties : List ℕ) (body : Option Place) (env : Env) (x b : ℕ) (next : Env) : Type 0 where
+  pub place : Place
+  pub unused : IsUnused env x
+  pub exists : body ≡ Some place
+  pub party : Contains parties b
+  pub leaves : next ≡ at_place env x place
 
 -- `outbranch x l`
 pub record IsSelect (env : Env) (x l : ℕ) (next : Env) : Type 0 where

@@ -5,7 +5,7 @@ use Rattle.std.specs.List.{slice_get}
 use Rattle.std.specs.FinMap.{FinMap, get, insert, empty, get-empty}
 use Rattle.std.proofs.lemmas.Bool.Decides.{Decides-eqb, Decides-like, same_from_decides}
 use Rattle.sj_lang.specs.Place.{Place}
-use Rattle.sj_lang.specs.FileAt.{FileAt, ProtocolAt, PartyAt, ConnectAt, DeclAt, named, party_named, body_named}
+use Rattle.sj_lang.specs.FileAt.{FileAt, ProtocolAt, PartyAt, ConnectAt, DeclAt, named, party_named, party_names, body_named}
 use Rattle.sj_acceptance.specs.Environment.{Env, put}
 use Rattle.sj_acceptance.specs.EnvAt.{EnvAt, env_of}
 use Rattle.sj_acceptance.specs.Follows.{Follows}
@@ -52,35 +52,35 @@ module _ (file : FileAt) (p : ℕ) (q : PartyAt) (once : Pairs OtherParty file.p
   seen-start : env_of start ≡ start_env file p
   seen-start = same_env (env_of start) (start_env file p) (λ n. each_end file.connects n) (λ n. get-empty nat_cmp n)
 
-  pub body_from : first_fault (one_body_tests file.protocols file.connects q) ≡ None → EndsWell file p q
+  pub body_from : first_fault (one_body_tests file.protocols (party_names file.parties) file.connects q) ≡ None → EndsWell file p q
   body_from h =
-      let a = all_pass (code_tests file.protocols start q.code) _ h in
+      let a = all_pass (code_tests file.protocols (party_names file.parties) start q.code) _ h in
       let last = after_code file.protocols start q.code in
       let none = (is_same_ends-Decides last.ends empty).0 (first_passes 12 q.line (is_same_ends last.ends empty) [] a.1).0 in
       record {
         last = env_of last;
-        follows = subst (λ (v : Env). Follows file.protocols q.code v (env_of last)) seen-start (follows_code file.protocols q.code start a.0);
+        follows = subst (λ (v : Env). Follows file.protocols (party_names file.parties) q.code v (env_of last)) seen-start (follows_code file.protocols (party_names file.parties) q.code start a.0);
         no_end = λ n. ap (λ m. get m n) none ∙ get-empty nat_cmp n;
       }
 
-  pub body_to : EndsWell file p q → first_fault (one_body_tests file.protocols file.connects q) ≡ None
+  pub body_to : EndsWell file p q → first_fault (one_body_tests file.protocols (party_names file.parties) file.connects q) ≡ None
   body_to w =
       let last = after_code file.protocols start q.code in
-      let a = passes_code file.protocols q.code start w.last (subst (λ (v : Env). Follows file.protocols q.code v w.last) (sym seen-start) w.follows) in
+      let a = passes_code file.protocols (party_names file.parties) q.code start w.last (subst (λ (v : Env). Follows file.protocols (party_names file.parties) q.code v w.last) (sym seen-start) w.follows) in
       let none : last.ends ≡ empty = same_from_get last.ends empty (λ n. ap (λ (v : Env). v.places n) (sym a.1) ∙ w.no_end n ∙ sym (get-empty nat_cmp n)) in
-      pass_both (code_tests file.protocols start q.code) ((12, q.line, is_same_ends last.ends empty) ∷ []) a.0
+      pass_both (code_tests file.protocols (party_names file.parties) start q.code) ((12, q.line, is_same_ends last.ends empty) ∷ []) a.0
       (ap (λ b. cond b None (Some (12, q.line))) ((is_same_ends-Decides last.ends empty).1 none))
 
 -- each body passes exactly where all do
-module _ (ps : List ProtocolAt) (cs : List ConnectAt) where
+module _ (ps : List ProtocolAt) (names : List ℕ) (cs : List ConnectAt) where
   abbrev EachPasses : List PartyAt → Type 0
-  EachPasses parties = (p : ℕ) (q : PartyAt) → slice_get parties p ≡ Some q → first_fault (one_body_tests ps cs q) ≡ None
+  EachPasses parties = (p : ℕ) (q : PartyAt) → slice_get parties p ≡ Some q → first_fault (one_body_tests ps names cs q) ≡ None
 
-  pub each_body : (parties : List PartyAt) → first_fault (body_tests ps cs parties) ≡ None → EachPasses parties
+  pub each_body : (parties : List PartyAt) → first_fault (body_tests ps names cs parties) ≡ None → EachPasses parties
   each_body [] h p q e = absurd (cc)
-  each_body (r ∷ parties) h zero q e = let same : r ≡ q = cc in subst (λ (t : PartyAt). first_fault (one_body_tests ps cs t) ≡ None) same (all_pass (one_body_tests ps cs r) (body_tests ps cs parties) h).0
-  each_body (r ∷ parties) h (suc p) q e = each_body parties (all_pass (one_body_tests ps cs r) (body_tests ps cs parties) h).1 p q e
+  each_body (r ∷ parties) h zero q e = let same : r ≡ q = cc in subst (λ (t : PartyAt). first_fault (one_body_tests ps names cs t) ≡ None) same (all_pass (one_body_tests ps names cs r) (body_tests ps names cs parties) h).0
+  each_body (r ∷ parties) h (suc p) q e = each_body parties (all_pass (one_body_tests ps names cs r) (body_tests ps names cs parties) h).1 p q e
 
-  pub all_bodies : (parties : List PartyAt) → EachPasses parties → first_fault (body_tests ps cs parties) ≡ None
+  pub all_bodies : (parties : List PartyAt) → EachPasses parties → first_fault (body_tests ps names cs parties) ≡ None
   all_bodies [] h = refl
-  all_bodies (r ∷ parties) h = pass_both (one_body_tests ps cs r) (body_tests ps cs parties) (h 0 r refl) (all_bodies parties (λ p q e. h (suc p) q e))
+  all_bodies (r ∷ parties) h = pass_both (one_body_tests ps names cs r) (body_tests ps names cs parties) (h 0 r refl) (all_bodies parties (λ p q e. h (suc p) q e))

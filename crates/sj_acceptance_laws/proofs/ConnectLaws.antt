@@ -3,15 +3,14 @@ use Rattle.std.proofs.Common.{◌≡◌, ℕ, List, [], ◌∷◌, ◌++◌, ◌
 use Rattle.std.proofs.Common as common
 use Rattle.std.specs.List.{AllByRecursion}
 use Rattle.sj_lang.specs.Place.{Place, done}
-use Rattle.sj_lang.specs.Dual.{dual_of}
+use Rattle.sj_lang.specs.MeetTests.{meets}
+use Rattle.sj_lang.proofs.MeetTestLemmas.{meets-Decides}
 use Rattle.sj_lang.specs.FileAt.{FileAt, ConnectAt, DeclAt, protocol_named, body_named}
 use Rattle.sj_acceptance.specs.Accepted.{IsDeclared, IsConnection}
 use Rattle.sj_acceptance.specs.Faults.{Test, first_fault}
 use Rattle.sj_acceptance.specs.LabelTests.{is_among}
-use Rattle.sj_acceptance.specs.Sameness.{is_same_place}
 use Rattle.sj_acceptance.specs.FileTests.{party_names, is_taken, is_same_end, end_tests, connection_tests, connect_tests}
 use Rattle.sj_acceptance_laws.proofs.FaultLemmas.{first_passes, all_pass, pass_both, not_true, neither}
-use Rattle.sj_acceptance_laws.proofs.SamenessLemmas.{is_same_place-Decides}
 use Rattle.sj_acceptance_laws.proofs.PairLemmas.{Pairs, pairs_join, pairs_split, each_along}
 use Rattle.sj_acceptance_laws.proofs.PartyLemmas.{among_parties, parties_among}
 use Rattle.sj_acceptance_laws.proofs.EndLaws.{decls, decls-append, OtherEnd, HasParty, free_from, free_to}
@@ -40,8 +39,8 @@ module _ (file : FileAt) where
   abbrev taken_second : List ConnectAt → ConnectAt → Bool
   taken_second earlier c = is_taken c.second earlier || is_same_end c.first c.second
 
-  abbrev dual_test : ConnectAt → Test
-  dual_test c = (4, c.line, is_same_place (body_named file.protocols c.first.protocol) (dual_of (body_named file.protocols c.second.protocol)))
+  abbrev meet_test : ConnectAt → Test
+  meet_test c = (4, c.line, meets (body_named file.protocols c.first.protocol) (body_named file.protocols c.second.protocol))
 
   abbrev ends_of : List ConnectAt → ConnectAt → List Test
   ends_of earlier c =
@@ -54,22 +53,22 @@ module _ (file : FileAt) where
 
   connection_from : (earlier : List ConnectAt) (c : ConnectAt) → first_fault (connection_tests (party_names file.parties) file.protocols earlier c) ≡ None → IsConnection file c × IsNew earlier c
   connection_from earlier c h =
-      let a = all_pass (ends_of earlier c) (dual_test c ∷ []) h in
+      let a = all_pass (ends_of earlier c) (meet_test c ∷ []) h in
       let b = all_pass (end_tests (party_names file.parties) file.protocols c.line (is_taken c.first earlier) c.first) (end_tests (party_names file.parties) file.protocols c.line (taken_second earlier c) c.second) a.0 in
       let one = end_from c.line (is_taken c.first earlier) c.first b.0 in
       let two = end_from c.line (taken_second earlier c) c.second b.1 in
       let p = body_named file.protocols c.first.protocol in
       let q = body_named file.protocols c.second.protocol in
-      let dual = (is_same_place-Decides p (dual_of q)).0 (first_passes 4 c.line (is_same_place p (dual_of q)) [] a.1).0 in
-      (record { one = p; other = q; first = one.0; second = two.0; dual = dual }, (one.1, two.1))
+      let meet = (meets-Decides p q).0 (first_passes 4 c.line (meets p q) [] a.1).0 in
+      (record { one = p; other = q; first = one.0; second = two.0; meet = meet }, (one.1, two.1))
 
   connection_to : (earlier : List ConnectAt) (c : ConnectAt) → IsConnection file c → IsNew earlier c → first_fault (connection_tests (party_names file.parties) file.protocols earlier c) ≡ None
   connection_to earlier c i new =
-      pass_both (ends_of earlier c) (dual_test c ∷ [])
+      pass_both (ends_of earlier c) (meet_test c ∷ [])
       (pass_both (end_tests (party_names file.parties) file.protocols c.line (is_taken c.first earlier) c.first) (end_tests (party_names file.parties) file.protocols c.line (taken_second earlier c) c.second)
       (end_to c.line (is_taken c.first earlier) c.first i.one i.first new.0) (end_to c.line (taken_second earlier c) c.second i.other i.second new.1))
-      ((λ j. cond (is_same_place (unwrap_or (i.first.protocol j) done) (dual_of (unwrap_or (i.second.protocol j) done))) None (Some (4, c.line)))
-      ∙ ap (λ b. cond b None (Some (4, c.line))) ((is_same_place-Decides i.one (dual_of i.other)).1 i.dual))
+      ((λ j. cond (meets (unwrap_or (i.first.protocol j) done) (unwrap_or (i.second.protocol j) done)) None (Some (4, c.line)))
+      ∙ ap (λ b. cond b None (Some (4, c.line))) ((meets-Decides i.one i.other).1 i.meet))
 
   -- the ends so far, with those of one connection more
   one_more : (earlier : List ConnectAt) (c : ConnectAt) → decls (earlier ++ c ∷ []) ≡ decls earlier ++ (c.first ∷ c.second ∷ [])

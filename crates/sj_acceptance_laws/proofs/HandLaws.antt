@@ -10,18 +10,19 @@ use Rattle.sj_lang.specs.After.{followed_by, at_label}
 use Rattle.sj_lang.specs.Code.{outbranch, delegate}
 use Rattle.sj_lang.specs.FileAt.{ProtocolAt}
 use Rattle.sj_lang.specs.ItemCount.{is_done}
+use Rattle.sj_lang.specs.MeetTests.{stands_for}
+use Rattle.sj_lang.proofs.MeetTestLemmas.{stands_for-Decides}
 use Rattle.sj_acceptance.specs.Environment.{Env, at_place, without_end}
 use Rattle.sj_acceptance.specs.EnvAt.{EnvAt, env_of, with_live, without_live}
 use Rattle.sj_acceptance.specs.Statements.{IsSelect, IsDelegate}
 use Rattle.sj_acceptance.specs.Faults.{Test, first_fault}
-use Rattle.sj_acceptance.specs.Sameness.{is_same_place}
-use Rattle.sj_acceptance.specs.FirstItem.{is_message, is_choice, is_session, is_session_of, carried_kind, choices, rest_of, arm_place}
+use Rattle.sj_acceptance.specs.FirstItem.{is_message, is_choice, is_session, stands_for_carried, carried_kind, choices, rest_of, arm_place}
 use Rattle.sj_acceptance.specs.Tests.{deed_tests, after_deed}
 use Rattle.sj_acceptance_laws.proofs.FaultLemmas.{first_passes}
-use Rattle.sj_acceptance_laws.proofs.SamenessLemmas.{is_same_place-Decides}
+use Rattle.sj_acceptance_laws.proofs.StandLemmas.{stands_empty, empty_stands}
 use Rattle.sj_acceptance_laws.proofs.SeenLemmas.{seen-moved, seen-without, same_env}
 
-module _ (ps : List ProtocolAt) (line : ℕ) (env : EnvAt) (x : ℕ) where
+module _ (ps : List ProtocolAt) (parties : List ℕ) (line : ℕ) (env : EnvAt) (x : ℕ) where
   module _ (l : ℕ) where
     abbrev select_tests : Option Place → List Test
     select_tests o = (5, line, is_some o) ∷ (6, line, is_choice Out (unwrap_or o done)) ∷ (8, line, is_some (at_label l (choices (unwrap_or o done)))) ∷ []
@@ -39,10 +40,10 @@ module _ (ps : List ProtocolAt) (line : ℕ) (env : EnvAt) (x : ℕ) where
     select_from (Some (choice Into arms rest)) g h = absurd (cc)
     select_from (Some (choice Out arms rest)) g h = labelled arms rest (at_label l arms) refl (first_passes 8 line (is_some (at_label l arms)) [] h).0 g
 
-    pub select_follows : first_fault (deed_tests ps line env (outbranch x l)) ≡ None → IsSelect (env_of env) x l (env_of (after_deed ps env (outbranch x l)))
+    pub select_follows : first_fault (deed_tests ps parties line env (outbranch x l)) ≡ None → IsSelect (env_of env) x l (env_of (after_deed ps env (outbranch x l)))
     select_follows h = select_from (get env.ends x) refl h
 
-    pub select_passes : (next : Env) → IsSelect (env_of env) x l next → (first_fault (deed_tests ps line env (outbranch x l)) ≡ None) × (next ≡ env_of (after_deed ps env (outbranch x l)))
+    pub select_passes : (next : Env) → IsSelect (env_of env) x l next → (first_fault (deed_tests ps parties line env (outbranch x l)) ≡ None) × (next ≡ env_of (after_deed ps env (outbranch x l)))
     select_passes next d = (
       ap (λ o. first_fault (select_tests o)) d.there ∙ ap (λ (o : Option Place). cond (is_some o) None (Some (8, line))) d.labelled,
       d.leaves ∙ sym (seen-moved env x (followed_by d.arm_place d.rest)) ∙ ap (λ (o : Option Place). env_of (with_live env x (followed_by (unwrap_or o done) d.rest))) (sym d.labelled)
@@ -51,7 +52,7 @@ module _ (ps : List ProtocolAt) (line : ℕ) (env : EnvAt) (x : ℕ) where
 
   module _ (y : ℕ) where
     abbrev del_rest : Place → Place → List Test
-    del_rest p r = (6, line, is_message Out p) ∷ (7, line, is_session (carried_kind p)) ∷ (13, line, common.not (is_done r)) ∷ (7, line, is_session_of r (carried_kind p)) ∷ []
+    del_rest p r = (6, line, is_message Out p) ∷ (7, line, is_session (carried_kind p)) ∷ (13, line, common.not (is_done r)) ∷ (7, line, stands_for_carried r (carried_kind p)) ∷ []
 
     abbrev del_tests : Option Place → Option Place → List Test
     del_tests o q = (5, line, is_some o) ∷ (5, line, is_some q) ∷ (13, line, common.not (x == y)) ∷ del_rest (unwrap_or o done) (unwrap_or q done)
@@ -79,15 +80,17 @@ module _ (ps : List ProtocolAt) (line : ℕ) (env : EnvAt) (x : ℕ) where
     del_inner (message Out place.boolean rest) r a g f h = absurd (cc)
     del_inner (message Out place.text rest) r a g f h = absurd (cc)
     del_inner (message Out (session s) rest) r a g f h =
-        let p = first_passes 13 line (common.not (is_done r)) ((7, line, is_same_place r s) ∷ []) h in
-        let q = first_passes 7 line (is_same_place r s) [] p.1 in
+        let p = first_passes 13 line (common.not (is_done r)) ((7, line, stands_for r s) ∷ []) h in
+        let stands = (stands_for-Decides r s).0 (first_passes 7 line (stands_for r s) [] p.1).0 in
         record {
           place = s;
+          own = r;
           rest = rest;
           two_names = a;
           there = g;
-          sent = f ∙ ap Some ((is_same_place-Decides r s).0 q.0);
-          not_empty = λ e. not_done r p.0 ((is_same_place-Decides r s).0 q.0 ∙ e);
+          sent = f;
+          stands = stands;
+          not_empty = λ e. not_done r p.0 (stands_empty r s stands e);
           leaves = handed rest a;
         }
 
@@ -98,7 +101,7 @@ module _ (ps : List ProtocolAt) (line : ℕ) (env : EnvAt) (x : ℕ) where
         let a = first_passes 13 line (common.not (x == y)) (del_rest p r) h in
         del_inner p r (λ e. let s : common.not true ≡ true = ap common.not (sym ((Decides-eqb x y).1 e)) ∙ a.0 in absurd (cc)) g f a.1
 
-    pub delegate_follows : first_fault (deed_tests ps line env (delegate x y)) ≡ None → IsDelegate (env_of env) x y (env_of (after_deed ps env (delegate x y)))
+    pub delegate_follows : first_fault (deed_tests ps parties line env (delegate x y)) ≡ None → IsDelegate (env_of env) x y (env_of (after_deed ps env (delegate x y)))
     delegate_follows h = del_from (get env.ends x) (get env.ends y) refl refl h
 
     apart : (b : Bool) → (b ≡ true → ⊥) → common.not b ≡ true
@@ -111,11 +114,11 @@ module _ (ps : List ProtocolAt) (line : ℕ) (env : EnvAt) (x : ℕ) where
     live (choice w arms rest) h = refl
     live (repeat w body rest) h = refl
 
-    pub delegate_passes : (next : Env) → IsDelegate (env_of env) x y next → (first_fault (deed_tests ps line env (delegate x y)) ≡ None) × (next ≡ env_of (after_deed ps env (delegate x y)))
+    pub delegate_passes : (next : Env) → IsDelegate (env_of env) x y next → (first_fault (deed_tests ps parties line env (delegate x y)) ≡ None) × (next ≡ env_of (after_deed ps env (delegate x y)))
     delegate_passes next d = (
       (λ i. first_fault (del_tests (d.there i) (d.sent i)))
-          ∙ ap (λ b. cond b (first_fault (del_rest (message Out (session d.place) d.rest) d.place)) (Some (13, line))) (apart (x == y) (λ e. d.two_names ((Decides-eqb x y).0 e)))
-          ∙ ap (λ b. cond b (first_fault ((7, line, is_same_place d.place d.place) ∷ [])) (Some (13, line))) (live d.place d.not_empty)
-          ∙ ap (λ b. cond b None (Some (7, line))) ((is_same_place-Decides d.place d.place).1 refl),
+          ∙ ap (λ b. cond b (first_fault (del_rest (message Out (session d.place) d.rest) d.own)) (Some (13, line))) (apart (x == y) (λ e. d.two_names ((Decides-eqb x y).0 e)))
+          ∙ ap (λ b. cond b (first_fault ((7, line, stands_for d.own d.place) ∷ [])) (Some (13, line))) (live d.own (λ e. d.not_empty (empty_stands d.own d.place d.stands e)))
+          ∙ ap (λ b. cond b None (Some (7, line))) ((stands_for-Decides d.own d.place).1 d.stands),
       d.leaves ∙ sym (handed d.rest d.two_names) ∙ ap (λ (o : Option Place). env_of (with_live (without_live env y) x (rest_of (unwrap_or o done)))) (sym d.there),
     )

@@ -13,10 +13,13 @@ pub mod LabelLaws
 pub mod LoopLaws
 pub mod NameLaws
 pub mod OnceLaws
+pub mod OpenLaws
+pub mod OpeningLaws
 pub mod PairLemmas
 pub mod PartyLemmas
 pub mod RelayLaws
 pub mod SamenessLemmas
 pub mod SeenLemmas
 pub mod SendLaws
+pub mod StandLemmas
 pub mod TakeLaws

@@ -25,7 +25,7 @@ pub no_end : (o : Option Place) → common.not (is_some o) ≡ true → o ≡ No
 no_end None h = refl
 no_end (Some p) h = absurd (cc)
 
-module _ (ps : List ProtocolAt) (line : ℕ) (env : EnvAt) (x : ℕ) where
+module _ (ps : List ProtocolAt) (parties : List ℕ) (line : ℕ) (env : EnvAt) (x : ℕ) where
   -- what `send` asks, by the place of its end
   abbrev send_tests : Term → Option Place → List Test
   send_tests e o = (5, line, is_some o) ∷ (6, line, is_message Out (unwrap_or o done)) ∷ term_tests line env.variables e ++ (7, line, is_carried_as (kind_of env.variables e) (carried_kind (unwrap_or o done))) ∷ []
@@ -47,10 +47,10 @@ module _ (ps : List ProtocolAt) (line : ℕ) (env : EnvAt) (x : ℕ) where
   send_from e (Some (choice w arms rest)) g h = absurd (cc)
   send_from e (Some (repeat w body rest)) g h = absurd (cc)
 
-  pub send_follows : (e : Term) → first_fault (deed_tests ps line env (send x e)) ≡ None → IsSend (env_of env) x e (env_of (after_deed ps env (send x e)))
+  pub send_follows : (e : Term) → first_fault (deed_tests ps parties line env (send x e)) ≡ None → IsSend (env_of env) x e (env_of (after_deed ps env (send x e)))
   send_follows e h = send_from e (get env.ends x) refl h
 
-  pub send_passes : (e : Term) (next : Env) → IsSend (env_of env) x e next → (first_fault (deed_tests ps line env (send x e)) ≡ None) × (next ≡ env_of (after_deed ps env (send x e)))
+  pub send_passes : (e : Term) (next : Env) → IsSend (env_of env) x e next → (first_fault (deed_tests ps parties line env (send x e)) ≡ None) × (next ≡ env_of (after_deed ps env (send x e)))
   send_passes e next d =
       let p = kind_passes line env.variables e d.kind d.typed in
       let last : cond (is_carried_as (kind_of env.variables e) (carried_by d.kind)) None (Some (7, line)) ≡ None =
@@ -69,14 +69,14 @@ module _ (ps : List ProtocolAt) (line : ℕ) (env : EnvAt) (x : ℕ) where
   close_from (Some (choice w arms rest)) g h = absurd (cc)
   close_from (Some (repeat w body rest)) g h = absurd (cc)
 
-  pub close_follows : first_fault (deed_tests ps line env (close x)) ≡ None → IsClose (env_of env) x (env_of (after_deed ps env (close x)))
+  pub close_follows : first_fault (deed_tests ps parties line env (close x)) ≡ None → IsClose (env_of env) x (env_of (after_deed ps env (close x)))
   close_follows h = close_from (get env.ends x) refl h
 
-  pub close_passes : (next : Env) → IsClose (env_of env) x next → (first_fault (deed_tests ps line env (close x)) ≡ None) × (next ≡ env_of (after_deed ps env (close x)))
+  pub close_passes : (next : Env) → IsClose (env_of env) x next → (first_fault (deed_tests ps parties line env (close x)) ≡ None) × (next ≡ env_of (after_deed ps env (close x)))
   close_passes next d = (ap (λ (o : Option Place). first_fault (close_tests o)) d.there, d.leaves ∙ sym (seen-without env x))
 
-module _ (ps : List ProtocolAt) (line : ℕ) (env : EnvAt) (n : ℕ) (e : Term) where
-  pub let_follows : first_fault (deed_tests ps line env (let_be n e)) ≡ None → IsLet (env_of env) n e (env_of (after_deed ps env (let_be n e)))
+module _ (ps : List ProtocolAt) (parties : List ℕ) (line : ℕ) (env : EnvAt) (n : ℕ) (e : Term) where
+  pub let_follows : first_fault (deed_tests ps parties line env (let_be n e)) ≡ None → IsLet (env_of env) n e (env_of (after_deed ps env (let_be n e)))
   let_follows h =
       let p = all_pass (term_tests line env.variables e) _ h in
       let q = first_passes 3 line (common.not (is_some (get env.ends n))) ((7, line, is_free_for (get env.variables n) (kind_of env.variables e)) ∷ []) p.1 in
@@ -88,7 +88,7 @@ module _ (ps : List ProtocolAt) (line : ℕ) (env : EnvAt) (n : ℕ) (e : Term) 
         leaves = seen-knowing env n (kind_of env.variables e);
       }
 
-  pub let_passes : (next : Env) → IsLet (env_of env) n e next → (first_fault (deed_tests ps line env (let_be n e)) ≡ None) × (next ≡ env_of (after_deed ps env (let_be n e)))
+  pub let_passes : (next : Env) → IsLet (env_of env) n e next → (first_fault (deed_tests ps parties line env (let_be n e)) ≡ None) × (next ≡ env_of (after_deed ps env (let_be n e)))
   let_passes next d =
       let p = kind_passes line env.variables e d.kind d.typed in
       let free : is_free_for (get env.variables n) (kind_of env.variables e) ≡ true = ap (is_free_for (get env.variables n)) (sym p.1) ∙ free_passes (get env.variables n) d.kind d.free.no_other in (

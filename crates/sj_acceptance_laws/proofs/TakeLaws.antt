@@ -22,7 +22,13 @@ use Rattle.sj_acceptance_laws.proofs.SamenessLemmas.{is_same_place-Decides}
 use Rattle.sj_acceptance_laws.proofs.SendLaws.{no_end}
 use Rattle.sj_acceptance_laws.proofs.SeenLemmas.{seen-moved, seen-knowing}
 
-module _ (ps : List ProtocolAt) (line : ℕ) (env : EnvAt) (x : ℕ) where
+-- neither a live end nor a variable
+pub unused : (o : Option Place) (v : Option Scalar) → common.not (is_some o || is_some v) ≡ true → (o ≡ None) × (v ≡ None)
+unused None None h = (refl, refl)
+unused None (Some v) h = absurd (cc)
+unused (Some o) v h = absurd (cc)
+
+module _ (ps : List ProtocolAt) (parties : List ℕ) (line : ℕ) (env : EnvAt) (x : ℕ) where
   module _ (n : ℕ) (k : Scalar) where
     abbrev end_rest : List Test
     end_rest = (3, line, common.not (is_some (get env.ends n))) ∷ (7, line, is_free_for (get env.variables n) k) ∷ []
@@ -50,10 +56,10 @@ module _ (ps : List ProtocolAt) (line : ℕ) (env : EnvAt) (x : ℕ) where
           leaves = took rest;
         }
 
-    pub take_follows : first_fault (deed_tests ps line env (take_value x n k)) ≡ None → IsTakeValue (env_of env) x n k (env_of (after_deed ps env (take_value x n k)))
+    pub take_follows : first_fault (deed_tests ps parties line env (take_value x n k)) ≡ None → IsTakeValue (env_of env) x n k (env_of (after_deed ps env (take_value x n k)))
     take_follows h = take_from (get env.ends x) refl h
 
-    pub take_passes : (next : Env) → IsTakeValue (env_of env) x n k next → (first_fault (deed_tests ps line env (take_value x n k)) ≡ None) × (next ≡ env_of (after_deed ps env (take_value x n k)))
+    pub take_passes : (next : Env) → IsTakeValue (env_of env) x n k next → (first_fault (deed_tests ps parties line env (take_value x n k)) ≡ None) × (next ≡ env_of (after_deed ps env (take_value x n k)))
     take_passes next d = (
       ap (λ o. first_fault (take_tests o)) d.there ∙ ap (λ b. cond b (first_fault end_rest) (Some (7, line))) (carried_by-passes k)
           ∙ ap (λ (o : Option Place). first_fault ((3, line, common.not (is_some o)) ∷ (7, line, is_free_for (get env.variables n) k) ∷ [])) d.free.no_end
@@ -65,11 +71,6 @@ module _ (ps : List ProtocolAt) (line : ℕ) (env : EnvAt) (x : ℕ) where
     abbrev get_tests : Option Place → Option Place → List Test
     get_tests o b = (5, line, is_some o) ∷ (1, line, is_some b) ∷ (6, line, is_message Into (unwrap_or o done)) ∷ (7, line, is_session_of (unwrap_or b done) (carried_kind (unwrap_or o done)))
         ∷ (3, line, common.not (is_some (get env.ends y) || is_some (get env.variables y))) ∷ []
-
-    unused : (o : Option Place) (v : Option Scalar) → common.not (is_some o || is_some v) ≡ true → (o ≡ None) × (v ≡ None)
-    unused None None h = (refl, refl)
-    unused None (Some v) h = absurd (cc)
-    unused (Some o) v h = absurd (cc)
 
     got : (rest body : Place) → env_of (with_live (with_live env x rest) y body) ≡ at_place (at_place (env_of env) x rest) y body
     got rest body = seen-moved (with_live env x rest) y body ∙ ap (λ (v : Env). at_place v y body) (seen-moved env x rest)
@@ -98,10 +99,10 @@ module _ (ps : List ProtocolAt) (line : ℕ) (env : EnvAt) (x : ℕ) where
           leaves = got rest body;
         }
 
-    pub take_end_follows : first_fault (deed_tests ps line env (take_end x y p)) ≡ None → IsTakeEnd (protocol_named ps p) (env_of env) x y (env_of (after_deed ps env (take_end x y p)))
+    pub take_end_follows : first_fault (deed_tests ps parties line env (take_end x y p)) ≡ None → IsTakeEnd (protocol_named ps p) (env_of env) x y (env_of (after_deed ps env (take_end x y p)))
     take_end_follows h = get_from (get env.ends x) (protocol_named ps p) refl refl h
 
-    pub take_end_passes : (next : Env) → IsTakeEnd (protocol_named ps p) (env_of env) x y next → (first_fault (deed_tests ps line env (take_end x y p)) ≡ None) × (next ≡ env_of (after_deed ps env (take_end x y p)))
+    pub take_end_passes : (next : Env) → IsTakeEnd (protocol_named ps p) (env_of env) x y next → (first_fault (deed_tests ps parties line env (take_end x y p)) ≡ None) × (next ≡ env_of (after_deed ps env (take_end x y p)))
     take_end_passes next d = (
       (λ i. first_fault (get_tests (d.there i) (d.exists i)))
           ∙ ap (λ b. cond b (first_fault ((3, line, common.not (is_some (get env.ends y) || is_some (get env.variables y))) ∷ [])) (Some (7, line))) ((is_same_place-Decides d.place d.place).1 refl)

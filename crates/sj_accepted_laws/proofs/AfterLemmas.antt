@@ -1,136 +1,132 @@
--- What a step leaves.
-use Rattle.std.proofs.Common.{◌≡◌, ℕ, zero, suc, false, List, [], ◌∷◌, length, drop, slice_get, Option, Some, None, option_map, unwrap_or, refl, ap, sym, ◌∙◌, arith, subst, inl, inr}
-use Rattle.std.proofs.lemmas.Bool.{cases_eq}
+-- What a step leaves: pairs that are balanced, and the party's program.
+use Rattle.std.proofs.Common.{◌≡◌, ℕ, ◌≤◌, true, false, List, slice_get, Some, unwrap_or, sum_by, ap, sym, ◌∙◌, arith, subst}
 use Rattle.sj_base.specs.declared.EndId.{EndId}
 use Rattle.sj_base.specs.declared.Msg.{Msg}
 use Rattle.sj_base.specs.declared.Msg.TheVariants as msgs
 use Rattle.sj_lang.specs.declared.proto.Way.TheVariants.{Out, Into}
-use Rattle.sj_lang.specs.Place.{Place, message, session}
-use Rattle.sj_lang.specs.Dual.{dual_of}
+use Rattle.sj_lang.specs.Place.{Place, done, message, session}
+use Rattle.sj_lang.specs.Meet.{StandsFor}
 use Rattle.sj_lang.specs.After.{after_place}
+use Rattle.sj_lang.specs.FileAt.{ProtocolAt, body_named, named}
+use Rattle.sj_semantics.specs.declared.Awaits.{Awaits}
+use Rattle.sj_semantics.specs.declared.Awaits.TheVariants as awaits
 use Rattle.sj_semantics.specs.declared.Passed.{Passed}
-use Rattle.sj_lang.specs.FileAt.{ProtocolAt}
 use Rattle.sj_semantics.specs.Balanced.{FitsNext}
 use Rattle.sj_semantics.specs.Program.{Program}
 use Rattle.sj_semantics.specs.Steps.{sent_of, took_of}
-use Rattle.sj_semantics.specs.World.{World, session_message}
-use Rattle.sj_semantics.specs.Ends.{Session, end_on, other_end, nowhere, end_at, next_for}
-use Rattle.sj_semantics.specs.Uses.{sends, takes, delegates, end_after, on_side}
-use Rattle.sj_semantics_laws.specs.Unshared.{names_end}
-use Rattle.sj_semantics_laws.proofs.AlteredLemmas.{slice_get-altered, slice_get-altered_other}
-use Rattle.sj_semantics_laws.proofs.EndLemmas.{touched}
+use Rattle.sj_semantics.specs.World.{World, session_message, begun_at}
+use Rattle.sj_semantics.specs.Ends.{Session, other_end, end_at, next_for, is_end}
+use Rattle.sj_semantics.specs.Uses.{sends, takes, delegates, begins, after_uses}
 use Rattle.sj_semantics_laws.specs.Bound.{IsBound}
-use Rattle.sj_semantics_laws.proofs.BoundLemmas.{named_is_bound}
-use Rattle.sj_semantics_laws.proofs.ClaimLemmas.{carried-hands_on}
-use Rattle.sj_accepted_laws.proofs.TypedLemmas.{FitsProgram, SendFits, DelegateFits, KeepsNamed, TakeFits}
-use Rattle.sj_accepted_laws.proofs.LeadLemmas.{pair_sends, pair_taking, pair_takes, pair_hands}
-use Rattle.sj_accepted_laws.proofs.PairLemmas.{fits_kept, pair_kept}
-use Rattle.sj_accepted_laws.proofs.TouchedLemmas.{side, PairAt, Sound, touched_here, pairs_touched, pair_of, exists_at, not_done}
-use Rattle.sj_accepted_laws.proofs.UnnamedLemmas.{unnamed, keeps_by_name, pairs_kept, todo_kept, names_apart, bindings_once, moves_by, other_programs}
+use Rattle.sj_semantics_laws.specs.Unshared.{bindings_of, names_end, carried_in, IsUnshared}
+use Rattle.sj_semantics_laws.proofs.BoundLemmas.{is_end-self, is_end_sym_false, named_is_bound}
+use Rattle.sj_semantics_laws.proofs.ClaimLemmas.{one_if, carried-hands_on, carried-takes}
+use Rattle.sj_semantics_laws.proofs.EndLemmas.{touched, end_at-touched_other}
+use Rattle.sj_accepted_laws.proofs.AgreeLemmas.{MovesTo}
+use Rattle.sj_accepted_laws.proofs.TypedLemmas.{FitsProgram, SendFits, DelegateFits, TakeFits}
+use Rattle.sj_accepted_laws.proofs.LeadLemmas.{pair_sends, pair_takes, pair_hands}
+use Rattle.sj_accepted_laws.proofs.BeginPairLemmas.{pair_begins}
+use Rattle.sj_accepted_laws.proofs.PairLemmas.{fits_kept}
+use Rattle.sj_accepted_laws.proofs.TouchedLemmas.{side, PairAt, touched_here}
+use Rattle.sj_accepted_laws.proofs.UnnamedLemmas.{IsUncarried, keeps_by_name, pairs_after, bound_uncarried, named_apart, bindings_once, moves_by, moves_behind, moves_before, hands_places}
 
--- sessions and programs after a step of p that leaves it with that program
-pub record After (ps : List ProtocolAt) (w : World) (p : ℕ) (new : List Session) (program : Program) : Type 0 where
-  pub pairs : (s : ℕ) → PairAt new new s
-  pub own : FitsProgram ps new program
-  pub others : (q : ℕ) (h : Program) → (p ≡ q → ⊥) → slice_get w.parties q ≡ Some h → FitsProgram ps new h
+abbrev pub AllPairs : List Session → Type 0
+AllPairs zs = (s : ℕ) → PairAt zs zs s
 
-pub after_nothing : (ps : List ProtocolAt) (w : World) (p : ℕ) (program : Program) → Sound ps w → FitsProgram ps w.sessions program → After ps w p w.sessions program
-after_nothing ps w p program sound f = record { pairs = sound.pairs; own = f; others = λ q h ne there. sound.programs q h there }
+-- the sessions are balanced, and the program fits
+pub record After (ps : List ProtocolAt) (parties : List ℕ) (new : List Session) (program : Program) : Type 0 where
+  pub pairs : AllPairs new
+  pub own : FitsProgram ps parties new program
 
-module _ (ps : List ProtocolAt) (w : World) (p : ℕ) (g : Program) (sound : Sound ps w) (there : slice_get w.parties p ≡ Some g) where
-  pub after_sending : (e : EndId) (m : Msg) → SendFits ps w.sessions g e m → names_end e m ≡ false → After ps w p (touched p w.sessions (e, sends m)) (sent_of g)
-  after_sending e m s apart =
-      let b = named_is_bound g.ends s.name e s.is_named in
-      let ex = exists_at w.sessions e (not_done (end_at w.sessions e).place s.next Out m s.after) in
-      let kept = pairs_kept w p g e (sends m) sound.unshared there b sound.pairs in
-      let new : List Session = touched p w.sessions (e, sends m) in
+-- ---- sending
+
+-- a send, in sessions in which no message on its way names the end
+sent_pairs : (p : ℕ) (zs : List Session) (e : EndId) (m : Msg) (next : Place) → IsUncarried zs e → AllPairs zs → after_place (end_at zs e).place Out m ≡ Some next → FitsNext zs (end_at zs e).place m
+    → names_end e m ≡ false → AllPairs (touched p zs (e, sends m))
+sent_pairs p zs e m next none pairs after fits apart =
+    pairs_after p zs e (sends m) none pairs (λ pair.
+    pair_sends (touched p zs (e, sends m)) (end_at zs e) (end_at zs (other_end e)) p m next pair after
+    (fits_kept zs (touched p zs (e, sends m)) (end_at zs e).place m (keeps_by_name p zs e (sends m) m apart) fits))
+
+sent_moves : (p : ℕ) (ends : List (ℕ × EndId)) (zs : List Session) (x : ℕ) (e : EndId) (m : Msg) (next : Place) → bindings_of e ends ≤ 1 → named ends x ≡ Some e → after_place (end_at zs e).place Out m ≡ Some next
+    → MovesTo ends zs (touched p zs (e, sends m)) x next
+sent_moves p ends zs x e m next le it after = moves_by p ends zs x e (sends m) next le it (ap (λ t. unwrap_or t (end_at zs e).place) after)
+
+module _ (ps : List ProtocolAt) (parties : List ℕ) (w : World) (p : ℕ) (g : Program) (one : IsUnshared w) (pairs : AllPairs w.sessions) (there : slice_get w.parties p ≡ Some g) where
+  bound_name : (x : ℕ) (e : EndId) → named g.ends x ≡ Some e → IsBound e g.ends
+  bound_name x e h = named_is_bound g.ends x e h
+
+  free_name : (x : ℕ) (e : EndId) → named g.ends x ≡ Some e → IsUncarried w.sessions e
+  free_name x e h = bound_uncarried w p g e one there (bound_name x e h)
+
+  pub after_sending : (e : EndId) (m : Msg) → SendFits ps parties w.sessions g e m → names_end e m ≡ false → After ps parties (touched p w.sessions (e, sends m)) (sent_of g)
+  after_sending e m s apart = record {
+    pairs = sent_pairs p w.sessions e m s.next (free_name s.name e s.is_named) pairs s.after s.fits apart;
+    own = s.onward (touched p w.sessions (e, sends m)) (sent_moves p g.ends w.sessions s.name e m s.next (bindings_once w p g e one there) s.is_named s.after);
+  }
+
+  -- delegating an end leaves the pairs
+  pub handed_pairs : (y : EndId) (x : ℕ) → named g.ends x ≡ Some y → AllPairs (touched p w.sessions (y, delegates))
+  handed_pairs y x h =
+      pairs_after p w.sessions y delegates (free_name x y h) pairs (λ pair. pair_hands (touched p w.sessions (y, delegates)) (end_at w.sessions y) (end_at w.sessions (other_end y)) p pair)
+
+  pub after_delegating : (e y : EndId) → DelegateFits ps parties w.sessions g e y → is_end e y ≡ false
+      → After ps parties (touched p (touched p w.sessions (y, delegates)) (e, sends (session_message y p))) (sent_of g)
+  after_delegating e y s apart =
+      let mid : List Session = touched p w.sessions (y, delegates) in
+      let at : (end_at mid e).place ≡ message Out (session s.kind) s.next = hands_places p w.sessions y e ∙ s.carries in
+      let after : after_place (end_at mid e).place Out (session_message y p) ≡ Some s.next = ap (λ t. after_place t Out (session_message y p)) at in
+      let fits : FitsNext mid (end_at mid e).place (session_message y p) =
+      subst (λ (t : Place). FitsNext mid t (session_message y p)) (sym at) (s.not_empty, subst (λ (t : Place). StandsFor t s.kind) (sym (hands_places p w.sessions y y)) s.stands) in
+      let handed : AllPairs mid = handed_pairs y s.sent_name s.sent_named in
       record {
-        pairs = pairs_touched p w.sessions new e (sends m) ex.session ex.there
-            (pair_sends new (end_at w.sessions e) (end_at w.sessions (other_end e)) p m s.next (pair_of w.sessions new e kept) s.after
-            (fits_kept w.sessions new (dual_of (end_at w.sessions e).place) m (keeps_by_name p w.sessions e (sends m) m apart) s.fits)) kept;
-        own = s.onward new (moves_by w p g s.name e (sends m) s.next sound.unshared there s.is_named
-            (ap (λ t. t.place) (touched_here p w.sessions e.sess e.side (sends m) ex.session ex.there) ∙ ap (λ t. unwrap_or t (end_at w.sessions e).place) s.after));
-        others = λ q h ne there'. other_programs ps w p q g h e (sends m) sound.unshared ne there there' b (sound.programs q h there');
+        pairs = sent_pairs p mid e (session_message y p) s.next (omega (arith, free_name s.name e s.is_named, carried-hands_on e p w.sessions y)) handed after fits apart;
+        own = s.onward (touched p mid (e, sends (session_message y p)))
+            (moves_before g.ends w.sessions mid (touched p mid (e, sends (session_message y p))) s.name s.next (λ n f h. hands_places p w.sessions y f)
+            (sent_moves p g.ends mid s.name e (session_message y p) s.next (bindings_once w p g e one there) s.is_named after));
       }
 
-  pub after_taking : (e : EndId) (x : Passed) → next_for w.sessions e ≡ Some x → IsBound e g.ends
-      → ((m : Msg) (next : Place) → after_place (end_at w.sessions e).place Into m ≡ Some next → FitsNext w.sessions (end_at w.sessions e).place m → TakeFits ps w.sessions g e m next)
-      → After ps w p (touched p w.sessions (e, takes x.msg)) (took_of g x.msg)
-  after_taking e x h b fit =
-      let t = pair_taking w.sessions (end_at w.sessions e) (end_at w.sessions (other_end e)) x (pair_of w.sessions w.sessions e sound.pairs) h in
-      let s = fit x.msg t.next t.after t.fits in
-      let ex = exists_at w.sessions e (not_done (end_at w.sessions e).place t.next Into x.msg t.after) in
-      let kept = pairs_kept w p g e (takes x.msg) sound.unshared there b sound.pairs in
-      let new : List Session = touched p w.sessions (e, takes x.msg) in
-      record {
-        pairs = pairs_touched p w.sessions new e (takes x.msg) ex.session ex.there
-            (pair_takes new (end_at w.sessions e) (end_at w.sessions (other_end e)) p x (pair_of w.sessions new e kept) h) kept;
-        own = s.onward new (moves_by w p g s.name e (takes x.msg) t.next sound.unshared there s.is_named
-            (ap (λ r. r.place) (touched_here p w.sessions e.sess e.side (takes x.msg) ex.session ex.there) ∙ ap (λ r. unwrap_or r (end_at w.sessions e).place) t.after))
-            (keeps_by_name p w.sessions e (takes x.msg) x.msg (unnamed w p g e e 0 x sound.unshared there b (first_coming (length (end_at w.sessions e).takers) (end_at w.sessions (other_end e)).sent x h)));
-        others = λ q k ne there'. other_programs ps w p q g k e (takes x.msg) sound.unshared ne there there' b (sound.programs q k there');
-      }
-    where
-      first_coming : (k : ℕ) (xs : List Passed) (x : Passed) → slice_get xs k ≡ Some x → slice_get (drop k xs) 0 ≡ Some x
-      first_coming k [] x h = cc
-      first_coming zero (y ∷ xs) x h = h
-      first_coming (suc k) (y ∷ xs) x h = first_coming k xs x h
+  -- ---- taking
 
--- ---- delegating
+  module _ (e : EndId) (x : Passed) (next : next_for w.sessions e ≡ Some x) where
+    abbrev taken : Msg → List Session
+    taken m = touched p w.sessions (e, takes m)
 
-pub hands_on_side : (p c d : ℕ) (z : Session) → (end_on d (on_side c (end_after p delegates) z)).place ≡ (end_on d z).place
-hands_on_side p zero zero z = refl
-hands_on_side p zero (suc d) z = refl
-hands_on_side p (suc c) zero z = refl
-hands_on_side p (suc c) (suc d) z = refl
+    taken_pairs : (m : Msg) → x.msg ≡ m → IsBound e g.ends → AllPairs (taken m)
+    taken_pairs m it b =
+        subst (λ (n : Msg). AllPairs (taken n)) it
+        (pairs_after p w.sessions e (takes x.msg) (bound_uncarried w p g e one there b) pairs (λ pair. pair_takes (taken x.msg) (end_at w.sessions e) (end_at w.sessions (other_end e)) p x pair next))
 
-pub hands_option : (p c d : ℕ) (o : Option Session) → (unwrap_or (option_map (end_on d) (option_map (on_side c (end_after p delegates)) o)) nowhere).place ≡ (unwrap_or (option_map (end_on d) o) nowhere).place
-hands_option p c d None = refl
-hands_option p c d (Some z) = hands_on_side p c d z
+    taken_moves : (a : Awaits) (m : Msg) (place : Place) → after_place (end_at w.sessions e).place Into m ≡ Some place → (s : TakeFits ps parties w.sessions g e a m place) → MovesTo g.ends w.sessions (taken m) s.name place
+    taken_moves a m place after s = moves_by p g.ends w.sessions s.name e (takes m) place (bindings_once w p g e one there) s.is_named (ap (λ r. unwrap_or r (end_at w.sessions e).place) after)
 
--- delegating an end moves no place
-pub hands_places : (p : ℕ) (zs : List Session) (y f : EndId) → (end_at (touched p zs (y, delegates)) f).place ≡ (end_at zs f).place
-hands_places p zs y f =
-    elim (cases_eq y.sess f.sess) [
-      | inl it ↦
-          ap (λ o. (unwrap_or (option_map (end_on f.side) o) nowhere).place)
-          (subst (λ (t : ℕ). slice_get (touched p zs (y, delegates)) t ≡ option_map (on_side y.side (end_after p delegates)) (slice_get zs t)) it (slice_get-altered zs y.sess (on_side y.side (end_after p delegates))))
-          ∙ hands_option p y.side f.side (slice_get zs f.sess)
-      | inr other ↦ ap (λ o. (unwrap_or (option_map (end_on f.side) o) nowhere).place) (slice_get-altered_other zs y.sess f.sess (on_side y.side (end_after p delegates)) other)
-    ]
+    -- the message names no end of the party
+    named_elsewhere : (m : Msg) → x.msg ≡ m → (y f : EndId) → names_end y m ≡ true → IsBound f g.ends → is_end y f ≡ false
+    named_elsewhere m it y f names b = named_apart w p g y f e x one there b next (ap (names_end y) it ∙ names)
 
-pub hands_named : (p : ℕ) (zs : List Session) (y : EndId) (m : Msg) → KeepsNamed zs (touched p zs (y, delegates)) m
-hands_named p zs y (msgs.Sess s d k) = hands_places p zs y (side s d)
-hands_named p zs y (msgs.Int n) = tt
-hands_named p zs y (msgs.Bool n) = tt
-hands_named p zs y (msgs.Text n) = tt
-hands_named p zs y (msgs.Label n) = tt
-hands_named p zs y (msgs.More n) = tt
+    -- an end that is named by the message begins at a place for which it stands
+    begun_pairs : (m : Msg) → x.msg ≡ m → IsBound e g.ends → (y : EndId) (body : Place) → names_end y m ≡ true → StandsFor (end_at w.sessions y).place body → AllPairs (touched p (taken m) (y, begins body))
+    begun_pairs m it b y body names stands =
+        let apart : is_end e y ≡ false = is_end_sym_false y e (named_elsewhere m it y e names b) in
+        let kept : (end_at (taken m) y).place ≡ (end_at w.sessions y).place = ap (λ t. t.place) (end_at-touched_other p w.sessions (e, takes m) y apart) in
+        let free : IsUncarried (taken m) y =
+        omega (arith, one.once y, carried-takes y p w.sessions e x next, ap {B = ℕ} one_if (ap (names_end y) it ∙ names), ap (λ (n : Msg). sum_by (carried_in y) (taken n)) it) in
+        pairs_after p (taken m) y (begins body) free (taken_pairs m it b)
+        (λ pair. pair_begins (touched p (taken m) (y, begins body)) (end_at (taken m) y) (end_at (taken m) (other_end y)) p body pair (subst (λ (t : Place). StandsFor t body) (sym kept) stands))
 
-pub handed_is_sound : (ps : List ProtocolAt) (w : World) (p : ℕ) (y : EndId) (z : Session) → slice_get w.sessions y.sess ≡ Some z → Sound ps w → Sound ps (record { parties = w.parties; sessions = touched p w.sessions (y, delegates) })
-handed_is_sound ps w p y z there sound =
-    let new : List Session = touched p w.sessions (y, delegates) in
-    let kept : (s : ℕ) → PairAt new w.sessions s = λ s. pair_kept w.sessions new _ _ (λ j x h. hands_named p w.sessions y x.msg) (λ j x h. hands_named p w.sessions y x.msg) (sound.pairs s) in
-    record {
-      unshared = record { once = λ e. omega (arith, sound.unshared.once e, carried-hands_on e p w.sessions y) };
-      pairs = pairs_touched p w.sessions new y delegates z there (pair_hands new (end_at w.sessions y) (end_at w.sessions (other_end y)) p (pair_of w.sessions new y kept)) kept;
-      programs = λ q h at. todo_kept ps w.sessions new h.todo h.vars h.ends (λ f b. hands_places p w.sessions y f) (sound.programs q h at);
-    }
-
-pub after_delegating : (ps : List ProtocolAt) (w : World) (p : ℕ) (g : Program) → (sound : Sound ps w) → slice_get w.parties p ≡ Some g → (e y : EndId) → DelegateFits ps w.sessions g e y
-    → After ps w p (touched p (touched p w.sessions (y, delegates)) (e, sends (session_message y p))) (sent_of g)
-after_delegating ps w p g sound there e y s =
-    let ex = exists_at w.sessions y s.not_empty in
-    let mid : List Session = touched p w.sessions (y, delegates) in
-    let at : (end_at mid e).place ≡ message Out (session (end_at w.sessions y).place) s.next = hands_places p w.sessions y e ∙ s.carries in
-    let r = after_sending ps (record { parties = w.parties; sessions = mid }) p g (handed_is_sound ps w p y ex.session ex.there sound) there e (session_message y p)
-    (record {
-      name = s.name;
-      is_named = s.is_named;
-      next = s.next;
-      after = ap (λ t. after_place t Out (session_message y p)) at;
-      fits = subst (λ (t : Place). FitsNext mid (dual_of t) (session_message y p)) (sym at) (s.not_empty, hands_places p w.sessions y y);
-      onward = λ new m. s.onward new (record { here = m.here; others = λ n f ne h. m.others n f ne h ∙ hands_places p w.sessions y f });
-    })
-    (names_apart g.ends s.name s.sent_name e y (bindings_once w p g e sound.unshared there) s.is_named s.sent_named s.two_names) in
-    record { pairs = r.pairs; own = r.own; others = r.others }
+    pub after_taking : (a : Awaits) (m : Msg) → x.msg ≡ m → (place : Place) → after_place (end_at w.sessions e).place Into m ≡ Some place → TakeFits ps parties w.sessions g e a m place
+        → After ps parties (after_uses p (begun_at ps a m) (taken m)) (took_of g m)
+    after_taking (awaits.Session q) (msgs.Sess t d k) it place after s =
+        let y : EndId = side t d in
+        let m : Msg = msgs.Sess t d k in
+        let body : Place = body_named ps q in
+        let new : List Session = touched p (taken m) (y, begins body) in
+        record {
+          pairs = begun_pairs m it (bound_name s.name e s.is_named) y body (is_end-self y)
+              (subst (λ (t : Place). StandsFor (end_at w.sessions y).place t) (sym (ap (λ o. unwrap_or o done) s.stands.1)) s.stands.2);
+          own = s.onward new
+              (moves_behind g.ends w.sessions (taken m) new s.name place (taken_moves (awaits.Session q) m place after s)
+              (λ n f h. ap (λ u. u.place) (end_at-touched_other p (taken m) (y, begins body) f (named_elsewhere m it y f (is_end-self y) (bound_name n f h)))))
+              (ap (λ u. u.place) (touched_here p (taken m) y (begins body)));
+        }
+    after_taking a m it place after s = record { pairs = taken_pairs m it (bound_name s.name e s.is_named); own = s.onward (taken m) (taken_moves a m place after s) tt }

@@ -51,6 +51,11 @@ agrees_moved old new ends vars env x e p a named_x m = record {
   kinds = a.kinds;
 }
 
+-- where the ends that have names keep their places, nothing changes
+pub agrees_kept : (old new : List Session) (ends : List (ℕ × EndId)) (vars : Vars) (env : Env) → Agrees old ends vars env
+    → ((n : ℕ) (e : EndId) → named ends n ≡ Some e → (end_at new e).place ≡ (end_at old e).place) → Agrees new ends vars env
+agrees_kept old new ends vars env a kept = record { places = λ n. moved_by old new ends n (named ends n) refl (λ e h. kept n e h) ∙ a.places n; kinds = a.kinds }
+
 pub agrees_without : (zs : List Session) (ends : List (ℕ × EndId)) (vars : Vars) (env : Env) (y : ℕ) → Agrees zs ends vars env → Agrees zs (ends_without ends y) vars (without_end env y)
 agrees_without zs ends vars env y a = record {
   places = λ n. elim (cases_eq n y) [

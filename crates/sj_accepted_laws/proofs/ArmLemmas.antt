@@ -25,19 +25,19 @@ at_label_contained l (arm m q arms) p h =
     ]
 
 -- the arm of that label, and where its code leads
-pub record ArmFound (ps : List ProtocolAt) (x : ℕ) (choices : Choices) (rest : Place) (arms : Branches) (env : Env) (lasts : List Env) (l : ℕ) : Type 0 where
+pub record ArmFound (ps : List ProtocolAt) (parties : List ℕ) (x : ℕ) (choices : Choices) (rest : Place) (arms : Branches) (env : Env) (lasts : List Env) (l : ℕ) : Type 0 where
   pub named_it : names_arm arms (msgs.Label l) ≡ true
   pub code : Code
   pub it_is : arm_named arms l ≡ Some code
   pub place : Place
   pub labelled : at_label l choices ≡ Some place
   pub last : Env
-  pub follows : Follows ps code (at_place env x (followed_by place rest)) last
+  pub follows : Follows ps parties code (at_place env x (followed_by place rest)) last
   pub number : ℕ
   pub among : slice_get lasts number ≡ Some last
 
-module _ (ps : List ProtocolAt) (x : ℕ) (choices : Choices) (rest : Place) (env : Env) (l : ℕ) where
-  pub arm_here : (m : ℕ) (code : Code) (arms : Branches) (lasts : List Env) → EachArm ps x choices rest (branch m code arms) env lasts → m == l ≡ true → ArmFound ps x choices rest (branch m code arms) env lasts l
+module _ (ps : List ProtocolAt) (parties : List ℕ) (x : ℕ) (choices : Choices) (rest : Place) (env : Env) (l : ℕ) where
+  pub arm_here : (m : ℕ) (code : Code) (arms : Branches) (lasts : List Env) → EachArm ps parties x choices rest (branch m code arms) env lasts → m == l ≡ true → ArmFound ps parties x choices rest (branch m code arms) env lasts l
   arm_here m code arms lasts each hit = record {
     named_it = ap (λ (t : Bool). cond t true (names_arm arms (msgs.Label l))) hit;
     code = code;
@@ -50,7 +50,7 @@ module _ (ps : List ProtocolAt) (x : ℕ) (choices : Choices) (rest : Place) (en
     among = ap (λ t. slice_get t 0) each.6;
   }
 
-  pub arm_further : (m : ℕ) (code : Code) (arms : Branches) (lasts others : List Env) (last : Env) → lasts ≡ last ∷ others → ArmFound ps x choices rest arms env others l → m == l ≡ false → ArmFound ps x choices rest (branch m code arms) env lasts l
+  pub arm_further : (m : ℕ) (code : Code) (arms : Branches) (lasts others : List Env) (last : Env) → lasts ≡ last ∷ others → ArmFound ps parties x choices rest arms env others l → m == l ≡ false → ArmFound ps parties x choices rest (branch m code arms) env lasts l
   arm_further m code arms lasts others last e f miss = record {
     named_it = ap (λ (t : Bool). cond t true (names_arm arms (msgs.Label l))) miss ∙ f.named_it;
     code = f.code;
@@ -63,7 +63,7 @@ module _ (ps : List ProtocolAt) (x : ℕ) (choices : Choices) (rest : Place) (en
     among = ap (λ t. slice_get t (suc f.number)) e ∙ f.among;
   }
 
-  pub arm_found : (arms : Branches) (lasts : List Env) (k : ℕ) → EachArm ps x choices rest arms env lasts → k < length (branch_labels arms) → slice_index_or (branch_labels arms) k l ≡ l → ArmFound ps x choices rest arms env lasts l
+  pub arm_found : (arms : Branches) (lasts : List Env) (k : ℕ) → EachArm ps parties x choices rest arms env lasts → k < length (branch_labels arms) → slice_index_or (branch_labels arms) k l ≡ l → ArmFound ps parties x choices rest arms env lasts l
   arm_found no_branch lasts k each lt at_k = absurd (omega arith)
   arm_found (branch m code arms) lasts zero each lt at_k = arm_here m code arms lasts each (eq-eqb m l at_k)
   arm_found (branch m code arms) lasts (suc k) each lt at_k =

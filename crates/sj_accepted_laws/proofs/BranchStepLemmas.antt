@@ -22,26 +22,27 @@ use Rattle.sj_accepted_laws.proofs.AgreeLemmas.{Bound, bound_at, agrees_moved}
 use Rattle.sj_accepted_laws.proofs.TypedLemmas.{Continues, FitsTodo, continues_fit, block_continues, TakeFits, StepOf}
 use Rattle.sj_accepted_laws.proofs.ArmLemmas.{at_label_contained, arm_found, common_forgets, arm_taken_at}
 
-module _ (ps : List ProtocolAt) (zs : List Session) (vars : Vars) (ends : List (ℕ × EndId)) (steps : ℕ) (rest : List Thing) (env : Env) (a : Agrees zs ends vars env) where
+module _ (ps : List ProtocolAt) (parties : List ℕ) (zs : List Session) (vars : Vars) (ends : List (ℕ × EndId)) (steps : ℕ) (peers : List ℕ) (rest : List Thing) (env : Env) (a : Agrees zs ends vars env) where
   abbrev pub going : List Thing → Program
-  going todo = record { todo = todo; vars = vars; ends = ends; steps = steps }
+  going todo = record { todo = todo; vars = vars; ends = ends; steps = steps; peers = peers }
 
-  pub inbranch_by : (x : ℕ) (arms : Branches) (mid : Env) → (s : Does ps (inbranch x arms) env mid) → Continues ps rest mid → (b : Bound zs ends x (choice Into s.0 s.1))
-      → (m : Msg) (nx : Place) → after_place (choice Into s.0 s.1) Into m ≡ Some nx → TakeFits ps zs (going (statement (inbranch x arms) ∷ rest)) b.end m nx
+  pub inbranch_by : (x : ℕ) (arms : Branches) (mid : Env) → (s : Does ps parties (inbranch x arms) env mid) → Continues ps parties rest mid → (b : Bound zs ends x (choice Into s.0 s.1))
+      → (m : Msg) (nx : Place) → after_place (choice Into s.0 s.1) Into m ≡ Some nx → TakeFits ps parties zs (going (statement (inbranch x arms) ∷ rest)) b.end awaits.OneOf m nx
   inbranch_by x arms mid s c b (msgs.Label l) nx after =
       let g = arm_taken_at s.0 s.1 l nx (at_label l s.0) refl after in
       let k = (s.3.same l).1 (at_label_contained l s.0 g.place g.labelled) in
-      let f = arm_found ps x s.0 s.1 env l arms s.4 k.0 s.5 k.1 k.2 in
+      let f = arm_found ps parties x s.0 s.1 env l arms s.4 k.0 s.5 k.1 k.2 in
       let same_place : g.place ≡ f.place = let both : Some g.place ≡ Some f.place = sym g.labelled ∙ f.labelled in cc in
       let there : followed_by f.place s.1 ≡ nx = sym (ap (λ p. followed_by p s.1) same_place) ∙ g.goes_on in
       record {
         name = x;
         is_named = b.it_is;
         can_take = f.named_it;
-        onward = λ new mv kept. subst (λ (o : Option Code). FitsTodo ps new (block (unwrap_or o no_stmt) rest) vars ends) (sym f.it_is)
-            (continues_fit ps new (block f.code rest) vars ends (at_place env x nx) (agrees_moved zs new ends vars env x b.end nx a b.it_is mv)
-            (subst (λ (p : Place). Continues ps (block f.code rest) (at_place env x p)) there
-            (block_continues ps f.code rest (at_place env x (followed_by f.place s.1)) f.last f.follows
+        stands = tt;
+        onward = λ new mv begun. subst (λ (o : Option Code). FitsTodo ps parties new (block (unwrap_or o no_stmt) rest) vars ends) (sym f.it_is)
+            (continues_fit ps parties new (block f.code rest) vars ends (at_place env x nx) (agrees_moved zs new ends vars env x b.end nx a b.it_is mv)
+            (subst (λ (p : Place). Continues ps parties (block f.code rest) (at_place env x p)) there
+            (block_continues ps parties f.code rest (at_place env x (followed_by f.place s.1)) f.last f.follows
             (record { next = c.next; forgets = forgets_trans f.last mid c.next (common_forgets s.4 mid f.last f.number s.6 f.among) c.forgets; does = c.does }))));
       }
   inbranch_by x arms mid s c b (msgs.Int n) nx after = cc
@@ -50,7 +51,7 @@ module _ (ps : List ProtocolAt) (zs : List Session) (vars : Vars) (ends : List (
   inbranch_by x arms mid s c b (msgs.More n) nx after = cc
   inbranch_by x arms mid s c b (msgs.Sess t d k) nx after = cc
 
-  pub inbranch_step : (x : ℕ) (arms : Branches) (mid : Env) → Does ps (inbranch x arms) env mid → Continues ps rest mid → StepOf ps zs (going (statement (inbranch x arms) ∷ rest))
+  pub inbranch_step : (x : ℕ) (arms : Branches) (mid : Env) → Does ps parties (inbranch x arms) env mid → Continues ps parties rest mid → StepOf ps parties zs (going (statement (inbranch x arms) ∷ rest))
   inbranch_step x arms mid s c =
       let b = bound_at zs ends vars env x (choice Into s.0 s.1) a s.2 in
       record {

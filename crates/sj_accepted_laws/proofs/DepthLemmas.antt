@@ -7,6 +7,8 @@ use Rattle.sj_lang.specs.declared.proto.Way.{Way}
 use Rattle.sj_lang.specs.declared.proto.Way.TheVariants.{Into}
 use Rattle.sj_lang.specs.Place.{Place, Carried, Choices, done, message, choice, repeat, session, no_choice, arm}
 use Rattle.sj_lang.specs.Place as places
+use Rattle.sj_lang.specs.Meet.{StandsFor}
+use Rattle.sj_lang.proofs.HeadLemmas.{take_standing}
 use Rattle.sj_lang.specs.After.{followed_by, at_label, carries, goes, after_message, after_place}
 use Rattle.sj_semantics.specs.declared.Passed.{Passed}
 use Rattle.sj_semantics.specs.Balanced.{Fits, FitsNext, LeadsTaker}
@@ -83,23 +85,43 @@ when_goes false o q h = cc
 after_depth : (p q : Place) (m : Msg) → after_place p Into m ≡ Some q → depth_of q ≤ depth_of p
 after_depth p q m h = after_message_depth p q m (when_goes (goes p Into) (after_message p m) q h)
 
-kind_of_session : (zs : List Session) (k : Carried) (s d j : ℕ) → Fits zs k (msgs.Sess s d j) → depth_of (end_at zs (side s d)).place < kind_depth k
-kind_of_session zs places.int s d j f = absurd f
-kind_of_session zs places.boolean s d j f = absurd f
-kind_of_session zs places.text s d j f = absurd f
-kind_of_session zs (session p) s d j f = omega (arith, ap depth_of f.1)
+-- ---- what a message on its way carries
 
-session_depth : (zs : List Session) (p q : Place) (s d j : ℕ) → FitsNext zs p (msgs.Sess s d j) → after_message p (msgs.Sess s d j) ≡ Some q → depth_of (end_at zs (side s d)).place < depth_of p
-session_depth zs done q s d j f h = cc
-session_depth zs (message w k rest) q s d j f h = omega (arith, kind_of_session zs k s d j f)
-session_depth zs (choice w arms rest) q s d j f h = cc
-session_depth zs (repeat w body rest) q s d j f h = cc
+-- the kind of a session message that is next, and that it is less deep than each place for which the taker's stands
+pub record Carries (zs : List Session) (p : Place) (s d : ℕ) : Type 0 where
+  pub kind : Place
+  pub stands : StandsFor (end_at zs (side s d)).place kind
+  pub less : (r : Place) → StandsFor p r → depth_of kind < depth_of r
 
--- an end that is named on its way to a taker is less deep than the taker's place
-pub named_depth : (zs : List Session) (p : Place) (xs : List Passed) (q : Place) (i s d j : ℕ) (x : Passed) → LeadsTaker zs p (map (λ y. y.msg) xs) q → slice_get xs i ≡ Some x → x.msg ≡ msgs.Sess s d j → depth_of (end_at zs (side s d)).place < depth_of p
-named_depth zs p [] q i s d j x l h e = cc
-named_depth zs p (y ∷ xs) q zero s d j x l h e =
+message_less : (w : Way) (kind rest r : Place) → StandsFor (message w (session kind) rest) r → depth_of kind < depth_of r
+message_less w kind rest (message v l rest') h = omega (arith, ap kind_depth h.1)
+message_less w kind rest _ h = absurd h
+
+kind_carried : (zs : List Session) (w : Way) (k : Carried) (rest : Place) (s d j : ℕ) → Fits zs k (msgs.Sess s d j) → Carries zs (message w k rest) s d
+kind_carried zs w places.int rest s d j f = absurd f
+kind_carried zs w places.boolean rest s d j f = absurd f
+kind_carried zs w places.text rest s d j f = absurd f
+kind_carried zs w (session kind) rest s d j f = record { kind = kind; stands = f.1; less = λ r h. message_less w kind rest r h }
+
+next_carried : (zs : List Session) (p q : Place) (s d j : ℕ) → FitsNext zs p (msgs.Sess s d j) → after_message p (msgs.Sess s d j) ≡ Some q → Carries zs p s d
+next_carried zs done q s d j f h = cc
+next_carried zs (message w k rest) q s d j f h = kind_carried zs w k rest s d j f
+next_carried zs (choice w arms rest) q s d j f h = cc
+next_carried zs (repeat w body rest) q s d j f h = cc
+
+-- an end that is named on its way to a taker
+pub named_carried : (zs : List Session) (p : Place) (xs : List Passed) (q : Place) (i s d j : ℕ) (x : Passed) → LeadsTaker zs p (map (λ y. y.msg) xs) q → slice_get xs i ≡ Some x → x.msg ≡ msgs.Sess s d j → Carries zs p s d
+named_carried zs p [] q i s d j x l h e = cc
+named_carried zs p (y ∷ xs) q zero s d j x l h e =
     let it : y ≡ x = cc in
     let m : y.msg ≡ msgs.Sess s d j = ap (λ t. t.msg) it ∙ e in
-    session_depth zs p l.0 s d j (subst (FitsNext zs p) m l.1) (sym (ap (after_message p) m) ∙ when_goes (goes p Into) (after_message p y.msg) l.0 l.2)
-named_depth zs p (y ∷ xs) q (suc i) s d j x l h e = omega (arith, named_depth zs l.0 xs q i s d j x l.3 h e, after_depth p l.0 y.msg l.2)
+    next_carried zs p l.0 s d j (subst (FitsNext zs p) m l.1) (sym (ap (after_message p) m) ∙ when_goes (goes p Into) (after_message p y.msg) l.0 l.2)
+named_carried zs p (y ∷ xs) q (suc i) s d j x l h e =
+    let c = named_carried zs l.0 xs q i s d j x l.3 h e in
+    record {
+      kind = c.kind;
+      stands = c.stands;
+      less = λ r stands.
+          let on : (s' : Place) × (after_place r Into y.msg ≡ Some s') × StandsFor l.0 s' = take_standing p r l.0 y.msg stands l.2 in
+          omega (arith, c.less on.0 on.2, after_depth r on.0 y.msg on.1);
+    }

@@ -3,7 +3,7 @@ use Rattle.std.proofs.Common.{◌≡◌, ℕ, zero, suc, Bool, cond, List, [], �
 use Rattle.std.proofs.lemmas.Bool.{cases_eq, eq-eqb, ne_eqb}
 use Rattle.sj_lang.specs.declared.party.Scalar.{Scalar}
 use Rattle.sj_lang.specs.Place.{Place, Choices}
-use Rattle.sj_lang.specs.Code.{Code, DeedAt, Branches, no_stmt, stmt_then, at, send, delegate, take_value, take_end, outbranch, inbranch, outwhile, inwhile, relay, if_else, let_be, close, no_branch, branch}
+use Rattle.sj_lang.specs.Code.{Code, DeedAt, Branches, no_stmt, stmt_then, at, send, delegate, take_value, take_end, outbranch, inbranch, outwhile, inwhile, relay, if_else, let_be, close, request, accept, no_branch, branch}
 use Rattle.sj_lang.specs.FileAt.{ProtocolAt}
 use Rattle.sj_acceptance.specs.Environment.{Env, with_kind, IsFreeFor, SameEnds}
 use Rattle.sj_acceptance.specs.Follows.{Follows, Does, EachArm}
@@ -44,32 +44,34 @@ of_arm env first others zero last h knows later = let it : first ≡ last = cc i
 of_arm env first others (suc k) last h knows later = later k h
 
 mutual
-  pub follows_know : (ps : List ProtocolAt) (code : Code) (env next : Env) → Follows ps code env next → Knows env next
-  follows_know ps no_stmt env next f = λ n k h. ap (λ (t : Env). t.kinds n) (sym f) ∙ h
-  follows_know ps (stmt_then (at line deed) code) env next f = λ n k h. follows_know ps code f.0 next f.2 n k (does_know ps deed env f.0 f.1 n k h)
+  pub follows_know : (ps : List ProtocolAt) (parties : List ℕ) (code : Code) (env next : Env) → Follows ps parties code env next → Knows env next
+  follows_know ps parties no_stmt env next f = λ n k h. ap (λ (t : Env). t.kinds n) (sym f) ∙ h
+  follows_know ps parties (stmt_then (at line deed) code) env next f = λ n k h. follows_know ps parties code f.0 next f.2 n k (does_know ps parties deed env f.0 f.1 n k h)
 
-  does_know : (ps : List ProtocolAt) (deed : DeedAt) (env next : Env) → Does ps deed env next → Knows env next
-  does_know ps (send x e) env next s = same_kinds env _ next s.leaves refl
-  does_know ps (delegate x y) env next s = same_kinds env _ next s.leaves refl
-  does_know ps (take_value x m j) env next s = λ n k h. ap (λ (t : Env). t.kinds n) s.leaves ∙ with_kind_knows env m j s.free n k h
-  does_know ps (take_end x y p) env next s = same_kinds env _ next s.leaves refl
-  does_know ps (outbranch x l) env next s = same_kinds env _ next s.leaves refl
-  does_know ps (inbranch x arms) env next s = λ n kind h. (s.6.kinds n kind).1 (λ k last at_k. arms_know ps x s.0 s.1 arms env s.4 s.5 k last at_k n kind h)
-  does_know ps (outwhile x e body) env next s = same_kinds env _ next s.7 refl
-  does_know ps (inwhile x body) env next s = same_kinds env _ next s.6 refl
-  does_know ps (relay x y body) env next s = same_kinds env _ next s.9 refl
-  does_know ps (if_else e first second) env next s = λ n kind h. (s.5.kinds n kind).1 (λ k last at_k. of_two s.1 s.3 k last at_k n kind (follows_know ps first env s.1 s.2 n kind h) (follows_know ps second env s.3 s.4 n kind h))
-  does_know ps (let_be m e) env next s = λ n k h. ap (λ (t : Env). t.kinds n) s.leaves ∙ with_kind_knows env m s.kind s.free n k h
-  does_know ps (close x) env next s = same_kinds env _ next s.leaves refl
+  does_know : (ps : List ProtocolAt) (parties : List ℕ) (deed : DeedAt) (env next : Env) → Does ps parties deed env next → Knows env next
+  does_know ps parties (send x e) env next s = same_kinds env _ next s.leaves refl
+  does_know ps parties (delegate x y) env next s = same_kinds env _ next s.leaves refl
+  does_know ps parties (take_value x m j) env next s = λ n k h. ap (λ (t : Env). t.kinds n) s.leaves ∙ with_kind_knows env m j s.free n k h
+  does_know ps parties (take_end x y p) env next s = same_kinds env _ next s.leaves refl
+  does_know ps parties (outbranch x l) env next s = same_kinds env _ next s.leaves refl
+  does_know ps parties (inbranch x arms) env next s = λ n kind h. (s.6.kinds n kind).1 (λ k last at_k. arms_know ps parties x s.0 s.1 arms env s.4 s.5 k last at_k n kind h)
+  does_know ps parties (outwhile x e body) env next s = same_kinds env _ next s.7 refl
+  does_know ps parties (inwhile x body) env next s = same_kinds env _ next s.6 refl
+  does_know ps parties (relay x y body) env next s = same_kinds env _ next s.9 refl
+  does_know ps parties (if_else e first second) env next s = λ n kind h. (s.5.kinds n kind).1 (λ k last at_k. of_two s.1 s.3 k last at_k n kind (follows_know ps parties first env s.1 s.2 n kind h) (follows_know ps parties second env s.3 s.4 n kind h))
+  does_know ps parties (let_be m e) env next s = λ n k h. ap (λ (t : Env). t.kinds n) s.leaves ∙ with_kind_knows env m s.kind s.free n k h
+  does_know ps parties (close x) env next s = same_kinds env _ next s.leaves refl
+  does_know ps parties (request x p b) env next s = same_kinds env _ next s.leaves refl
+  does_know ps parties (accept x p b) env next s = same_kinds env _ next s.leaves refl
 
-  arms_know : (ps : List ProtocolAt) (x : ℕ) (choices : Choices) (rest : Place) (arms : Branches) (env : Env) (lasts : List Env) → EachArm ps x choices rest arms env lasts → (k : ℕ) (last : Env) → slice_get lasts k ≡ Some last → Knows env last
-  arms_know ps x choices rest no_branch env lasts each k last at_k = let none : slice_get [] k ≡ Some last = sym (ap (λ ls. slice_get ls k) each) ∙ at_k in cc
-  arms_know ps x choices rest (branch l code arms) env lasts each k last at_k =
-      of_arm env each.2 each.4 k last (sym (ap (λ ls. slice_get ls k) each.6) ∙ at_k) (follows_know ps code _ each.2 each.3) (λ j h. arms_know ps x choices rest arms env each.4 each.5 j last h)
+  arms_know : (ps : List ProtocolAt) (parties : List ℕ) (x : ℕ) (choices : Choices) (rest : Place) (arms : Branches) (env : Env) (lasts : List Env) → EachArm ps parties x choices rest arms env lasts → (k : ℕ) (last : Env) → slice_get lasts k ≡ Some last → Knows env last
+  arms_know ps parties x choices rest no_branch env lasts each k last at_k = let none : slice_get [] k ≡ Some last = sym (ap (λ ls. slice_get ls k) each) ∙ at_k in cc
+  arms_know ps parties x choices rest (branch l code arms) env lasts each k last at_k =
+      of_arm env each.2 each.4 k last (sym (ap (λ ls. slice_get ls k) each.6) ∙ at_k) (follows_know ps parties code _ each.2 each.3) (λ j h. arms_know ps parties x choices rest arms env each.4 each.5 j last h)
 
 -- behind a loop's body that came back to the loop's beginning
-pub back_forgets : (ps : List ProtocolAt) (body : Code) (env inner last : Env) → Follows ps body inner last → inner.kinds ≡ env.kinds → SameEnds env last → Forgets last env
-back_forgets ps body env inner last f same back = record {
+pub back_forgets : (ps : List ProtocolAt) (parties : List ℕ) (body : Code) (env inner last : Env) → Follows ps parties body inner last → inner.kinds ≡ env.kinds → SameEnds env last → Forgets last env
+back_forgets ps parties body env inner last f same back = record {
   places = λ n. sym (back n);
-  kinds = λ n k h. follows_know ps body inner last f n k (ap (λ g. g n) same ∙ h);
+  kinds = λ n k h. follows_know ps parties body inner last f n k (ap (λ g. g n) same ∙ h);
 }

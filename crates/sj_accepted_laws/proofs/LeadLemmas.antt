@@ -1,17 +1,19 @@
 -- Messages that lead a taker from one place to another.
-use Rattle.std.proofs.Common.{◌≡◌, ℕ, zero, suc, ◌≤◌, List, [], ◌∷◌, ◌++◌, map, length, drop, slice_get, Option, Some, option_map, unwrap_or, refl, ap, sym, ◌∙◌, arith, subst, inl, inr, ◌⊎◌}
+use Rattle.std.proofs.Common.{◌≡◌, ℕ, zero, suc, ◌≤◌, List, [], ◌∷◌, ◌++◌, map, length, drop, slice_get, Option, Some, unwrap_or, refl, ap, sym, ◌∙◌, arith, subst, inl, inr, ◌⊎◌}
 use Rattle.std.proofs.lemmas.Option.{slice_get_within}
 use Rattle.sj_base.specs.declared.Msg.{Msg}
 use Rattle.sj_lang.specs.declared.proto.Way.TheVariants.{Out, Into}
 use Rattle.sj_lang.specs.Place.{Place}
-use Rattle.sj_lang.specs.Dual.{dual_of}
+use Rattle.sj_lang.specs.Meet.{Meets}
 use Rattle.sj_lang.specs.After.{after_place}
-use Rattle.sj_lang.proofs.DualLemmas.{dual_of-dual_of}
+use Rattle.sj_lang.proofs.MeetLemmas.{meets_back}
+use Rattle.sj_lang.proofs.HeadLemmas.{send_answered}
 use Rattle.sj_semantics.specs.declared.Passed.{Passed}
 use Rattle.sj_semantics.specs.Balanced.{FitsNext, LeadsTaker}
 use Rattle.sj_semantics.specs.Ends.{Session, EndAt}
 use Rattle.sj_semantics.specs.Uses.{sends, takes, delegates, end_after}
-use Rattle.sj_accepted_laws.proofs.DualPlaceLemmas.{after_place-dual, not_both_ways}
+use Rattle.sj_accepted_laws.proofs.WayLemmas.{not_both_ways}
+use Rattle.sj_accepted_laws.proofs.StandLemmas.{fits_met}
 use Rattle.sj_semantics_laws.proofs.ClaimLemmas.{length-push}
 
 -- what the giver sent and the taker hasn't taken
@@ -23,7 +25,7 @@ coming_messages taker giver = map (λ x. x.msg) (coming taker giver)
 
 pub record Ahead (zs : List Session) (taker giver : EndAt) : Type 0 where
   pub nothing_back : coming_messages giver taker ≡ []
-  pub leads : LeadsTaker zs taker.place (coming_messages taker giver) (dual_of giver.place)
+  pub leads : LeadsTaker zs taker.place (coming_messages taker giver) giver.place
 
 pub record Pair (zs : List Session) (one other : EndAt) : Type 0 where
   pub even : Ahead zs one other ⊎ Ahead zs other one
@@ -59,12 +61,14 @@ length-push_passed (x ∷ xs) p = ap suc (length-push_passed xs p)
 
 -- ---- leading a taker
 
-pub leads_push : (zs : List Session) (p : Place) (ms : List Msg) (last : Place) (m : Msg) (next : Place) → LeadsTaker zs p ms last → FitsNext zs last m → after_place last Into m ≡ Some next → LeadsTaker zs p (ms ++ m ∷ []) next
-leads_push zs p [] last m next l fit h = (next, subst (λ (t : Place). FitsNext zs t m) (sym l) fit, ap (λ t. after_place t Into m) l ∙ h, refl)
+pub leads_push : (zs : List Session) (p : Place) (ms : List Msg) (last : Place) (m : Msg) (next : Place) → LeadsTaker zs p ms last → FitsNext zs last m → after_place last Out m ≡ Some next → LeadsTaker zs p (ms ++ m ∷ []) next
+leads_push zs p [] last m next l fit h =
+    let r : (q : Place) × (after_place p Into m ≡ Some q) × Meets next q = send_answered last p next m (meets_back p last l) h in
+    (r.0, fits_met zs p last m l fit, r.1, meets_back next r.0 r.2)
 leads_push zs p (n ∷ ms) last m next l fit h = (l.0, l.1, l.2, leads_push zs l.0 ms last m next l.3 fit h)
 
 -- where the taker is to send, nothing is coming to it
-pub nothing_coming : (zs : List Session) (p q r : Place) (m : Msg) (ms : List Msg) → after_place p Out m ≡ Some q → LeadsTaker zs p ms r → (ms ≡ []) × (p ≡ r)
+pub nothing_coming : (zs : List Session) (p q r : Place) (m : Msg) (ms : List Msg) → after_place p Out m ≡ Some q → LeadsTaker zs p ms r → (ms ≡ []) × Meets p r
 nothing_coming zs p q r m [] h l = (refl, l)
 nothing_coming zs p q r m (n ∷ ms) h l = absurd (not_both_ways p q l.0 m n h l.2)
 
@@ -72,16 +76,16 @@ nothing_coming zs p q r m (n ∷ ms) h l = absurd (not_both_ways p q l.0 m n h l
 pub for_sender : (zs : List Session) (a b : EndAt) (q : Place) (m : Msg) → after_place a.place Out m ≡ Some q → Ahead zs a b ⊎ Ahead zs b a → Ahead zs b a
 for_sender zs a b q m h (inr t) = t
 for_sender zs a b q m h (inl t) =
-    let none = nothing_coming zs a.place q (dual_of b.place) m (coming_messages a b) h t.leads in
+    let none = nothing_coming zs a.place q b.place m (coming_messages a b) h t.leads in
     record {
       nothing_back = none.0;
-      leads = subst (λ (ms : List Msg). LeadsTaker zs b.place ms (dual_of a.place)) (sym t.nothing_back) (sym (dual_of-dual_of b.place) ∙ sym (ap dual_of none.1));
+      leads = subst (λ (ms : List Msg). LeadsTaker zs b.place ms a.place) (sym t.nothing_back) (meets_back a.place b.place none.1);
     }
 
 pub moved_to : (p q : Place) (o : Option Place) → o ≡ Some q → unwrap_or o p ≡ q
 moved_to p q o h = ap (λ t. unwrap_or t p) h
 
-pub pair_sends : (zs : List Session) (a b : EndAt) (p : ℕ) (m : Msg) (next : Place) → Pair zs a b → after_place a.place Out m ≡ Some next → FitsNext zs (dual_of a.place) m → Pair zs (end_after p (sends m) a) b
+pub pair_sends : (zs : List Session) (a b : EndAt) (p : ℕ) (m : Msg) (next : Place) → Pair zs a b → after_place a.place Out m ≡ Some next → FitsNext zs a.place m → Pair zs (end_after p (sends m) a) b
 pair_sends zs a b p m next pair h fit =
     let t = for_sender zs a b next m h pair.even in
     let grown : coming_messages b (end_after p (sends m) a) ≡ coming_messages b a ++ m ∷ [] =
@@ -89,9 +93,8 @@ pair_sends zs a b p m next pair h fit =
     record {
       even = inr (record {
         nothing_back = t.nothing_back;
-        leads = subst (λ (q : Place). LeadsTaker zs b.place (coming_messages b (end_after p (sends m) a)) (dual_of q)) (sym (moved_to a.place next (after_place a.place Out m) h))
-            (subst (λ (ms : List Msg). LeadsTaker zs b.place ms (dual_of next)) (sym grown)
-            (leads_push zs b.place (coming_messages b a) (dual_of a.place) m (dual_of next) t.leads fit (after_place-dual a.place m ∙ ap (option_map dual_of) h)));
+        leads = subst (λ (q : Place). LeadsTaker zs b.place (coming_messages b (end_after p (sends m) a)) q) (sym (moved_to a.place next (after_place a.place Out m) h))
+            (subst (λ (ms : List Msg). LeadsTaker zs b.place ms next) (sym grown) (leads_push zs b.place (coming_messages b a) a.place m next t.leads fit h));
       });
       one_taken = pair.one_taken;
       other_taken = omega (arith, pair.other_taken, length-push_passed a.sent (record { msg = m; by = p }));
@@ -114,19 +117,19 @@ pub pair_taking : (zs : List Session) (a b : EndAt) (x : Passed) → Pair zs a b
 pair_taking zs a b x pair h =
     let e : coming_is a b x = ap (map (λ y. y.msg)) (drop_head (length a.takers) b.sent x h) in
     let t = for_taker zs a b x e pair.even in
-    let l = subst (λ (ms : List Msg). LeadsTaker zs a.place ms (dual_of b.place)) e t.leads in
+    let l = subst (λ (ms : List Msg). LeadsTaker zs a.place ms b.place) e t.leads in
     record { next = l.0; fits = l.1; after = l.2 }
 
 pub pair_takes : (zs : List Session) (a b : EndAt) (p : ℕ) (x : Passed) → Pair zs a b → slice_get b.sent (length a.takers) ≡ Some x → Pair zs (end_after p (takes x.msg) a) b
 pair_takes zs a b p x pair h =
     let e : coming_is a b x = ap (map (λ y. y.msg)) (drop_head (length a.takers) b.sent x h) in
     let t = for_taker zs a b x e pair.even in
-    let l = subst (λ (ms : List Msg). LeadsTaker zs a.place ms (dual_of b.place)) e t.leads in
+    let l = subst (λ (ms : List Msg). LeadsTaker zs a.place ms b.place) e t.leads in
     record {
       even = inl (record {
         nothing_back = t.nothing_back;
-        leads = subst (λ (k : ℕ). LeadsTaker zs (unwrap_or (after_place a.place Into x.msg) a.place) (map (λ y. y.msg) (drop k b.sent)) (dual_of b.place)) (sym (length-push a.takers p))
-            (subst (λ (q : Place). LeadsTaker zs q (map (λ y. y.msg) (drop (suc (length a.takers)) b.sent)) (dual_of b.place)) (sym (moved_to a.place l.0 (after_place a.place Into x.msg) l.2)) l.3);
+        leads = subst (λ (k : ℕ). LeadsTaker zs (unwrap_or (after_place a.place Into x.msg) a.place) (map (λ y. y.msg) (drop k b.sent)) b.place) (sym (length-push a.takers p))
+            (subst (λ (q : Place). LeadsTaker zs q (map (λ y. y.msg) (drop (suc (length a.takers)) b.sent)) b.place) (sym (moved_to a.place l.0 (after_place a.place Into x.msg) l.2)) l.3);
       });
       one_taken = omega (arith, length-push a.takers p, slice_get_within b.sent (length a.takers) x h);
       other_taken = pair.other_taken;

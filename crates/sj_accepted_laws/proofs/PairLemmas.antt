@@ -1,15 +1,20 @@
 -- Pairs of ends where named ends keep their places.
-use Rattle.std.proofs.Common.{◌≡◌, ℕ, suc, List, [], ◌∷◌, map, slice_get, Some, refl, ◌∙◌, inl, inr, ◌⊎◌}
+use Rattle.std.proofs.Common.{◌≡◌, ℕ, suc, List, [], ◌∷◌, map, slice_get, Some, refl, sym, subst, inl, inr, ◌⊎◌}
+use Rattle.std.specs.Bool.{⊤}
 use Rattle.sj_base.specs.declared.Msg.{Msg}
 use Rattle.sj_base.specs.declared.Msg.TheVariants as msgs
 use Rattle.sj_lang.specs.Place.{Place, Carried, done, message, choice, repeat, session}
 use Rattle.sj_lang.specs.Place as places
-use Rattle.sj_lang.specs.Dual.{dual_of}
+use Rattle.sj_lang.specs.Meet.{StandsFor}
 use Rattle.sj_semantics.specs.declared.Passed.{Passed}
 use Rattle.sj_semantics.specs.Balanced.{Fits, FitsNext, LeadsTaker}
-use Rattle.sj_semantics.specs.Ends.{Session, EndAt}
-use Rattle.sj_accepted_laws.proofs.TypedLemmas.{KeepsNamed}
+use Rattle.sj_semantics.specs.Ends.{Session, EndAt, end_at}
 use Rattle.sj_accepted_laws.proofs.LeadLemmas.{coming, Ahead, Pair}
+
+-- the end that a session message names keeps its place
+abbrev pub KeepsNamed : List Session → List Session → Msg → Type 0
+KeepsNamed old new (msgs.Sess s d k) = (end_at new (record { sess = s; side = d })).place ≡ (end_at old (record { sess = s; side = d })).place
+KeepsNamed old new _ = ⊤
 
 fits_kind_kept : (old new : List Session) (k : Carried) (m : Msg) → KeepsNamed old new m → Fits old k m → Fits new k m
 fits_kind_kept old new places.int (msgs.Int n) kept f = tt
@@ -35,7 +40,7 @@ fits_kind_kept old new (session p) (msgs.Bool n) kept f = absurd f
 fits_kind_kept old new (session p) (msgs.Text n) kept f = absurd f
 fits_kind_kept old new (session p) (msgs.Label n) kept f = absurd f
 fits_kind_kept old new (session p) (msgs.More n) kept f = absurd f
-fits_kind_kept old new (session p) (msgs.Sess s d k) kept f = (f.0, kept ∙ f.1)
+fits_kind_kept old new (session p) (msgs.Sess s d k) kept f = (f.0, subst (λ (t : Place). StandsFor t p) (sym kept) f.1)
 
 pub fits_kept : (old new : List Session) (p : Place) (m : Msg) → KeepsNamed old new m → FitsNext old p m → FitsNext new p m
 fits_kept old new done m kept f = tt
@@ -51,8 +56,8 @@ leads_kept old new p [] q kept l = l
 leads_kept old new p (x ∷ xs) q kept l = (l.0, fits_kept old new p x.msg (kept 0 x refl) l.1, l.2, leads_kept old new l.0 xs q (λ j y h. kept (suc j) y h) l.3)
 
 even_kept : (old new : List Session) (a b : EndAt) → AllKept old new (coming a b) → AllKept old new (coming b a) → Ahead old a b ⊎ Ahead old b a → Ahead new a b ⊎ Ahead new b a
-even_kept old new a b k l (inl t) = inl (record { nothing_back = t.nothing_back; leads = leads_kept old new a.place (coming a b) (dual_of b.place) k t.leads })
-even_kept old new a b k l (inr t) = inr (record { nothing_back = t.nothing_back; leads = leads_kept old new b.place (coming b a) (dual_of a.place) l t.leads })
+even_kept old new a b k l (inl t) = inl (record { nothing_back = t.nothing_back; leads = leads_kept old new a.place (coming a b) b.place k t.leads })
+even_kept old new a b k l (inr t) = inr (record { nothing_back = t.nothing_back; leads = leads_kept old new b.place (coming b a) a.place l t.leads })
 
 pub pair_kept : (old new : List Session) (a b : EndAt) → AllKept old new (coming a b) → AllKept old new (coming b a) → Pair old a b → Pair new a b
 pair_kept old new a b k l p = record { even = even_kept old new a b k l p.even; one_taken = p.one_taken; other_taken = p.other_taken }

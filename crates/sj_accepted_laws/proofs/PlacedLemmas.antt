@@ -1,22 +1,23 @@
 -- At the start of an accepted file each open end is bound at its party.
-use Rattle.std.proofs.Common.{◌≡◌, ◌≢◌, ℕ, zero, suc, ◌+◌, ◌<◌, ◌==◌, Bool, true, false, cond, List, [], ◌∷◌, ◌++◌, map, length, slice_get, slice_index_or, AllPairs, Option, Some, None, option_map, refl, ap, sym, ◌∙◌, arith, subst, inl, inr, ◌⊎◌}
+use Rattle.std.proofs.Common.{◌≡◌, ◌≢◌, ℕ, zero, suc, ◌+◌, ◌<◌, ◌==◌, Bool, true, false, cond, List, [], ◌∷◌, ◌++◌, map, length, slice_get, slice_index_or, AllPairs, Option, Some, None, option_map, unwrap_or, refl, ap, sym, ◌∙◌, arith, subst, inl, inr, ◌⊎◌}
 use Rattle.std.proofs.lemmas.Bool.{cases_Bool, eq-eqb, eqb-true, and_from}
 use Rattle.std.proofs.lemmas.Option.{slice_get-map, slice_get_within, get_or_from_slice_get}
 use Rattle.sj_base.specs.declared.EndId.{EndId}
 use Rattle.sj_lang.specs.Place.{Place}
 use Rattle.sj_semantics.specs.declared.Verdict.TheVariants as verdicts
-use Rattle.sj_lang.specs.FileAt.{FileAt, ProtocolAt, PartyAt, DeclAt, ConnectAt, party_named, end_of_party, ends_from, named}
+use Rattle.sj_lang.specs.FileAt.{FileAt, PartyAt, DeclAt, ConnectAt, party_named, end_of_party, ends_from, named}
 use Rattle.sj_acceptance.specs.Accepted.{IsConnection, IsAccepted}
 use Rattle.sj_semantics.specs.State.{verdict_of}
 use Rattle.sj_semantics.specs.Run.{after_acts, IsRun}
 use Rattle.sj_semantics.specs.World.{World, act_of, session_of, program_of, start_of}
-use Rattle.sj_semantics.specs.Ends.{Session, untaken_for, is_same_side, is_end}
+use Rattle.sj_semantics.specs.Ends.{Session, end_on, nowhere, untaken_for, is_same_side, is_end}
 use Rattle.sj_semantics.proofs.StartLemmas.{program_at_start}
 use Rattle.sj_semantics_laws.proofs.RunLemmas.{between}
-use Rattle.sj_accepted_laws.proofs.TouchedLemmas.{side, Sound, exists_at}
+use Rattle.sj_accepted_laws.proofs.TouchedLemmas.{side}
+use Rattle.sj_accepted_laws.proofs.WorldLemmas.{Sound}
 use Rattle.sj_accepted_laws.proofs.SoundLemmas.{act_keeps_sound}
 use Rattle.sj_accepted_laws.proofs.AcceptedLemmas.{places_shown, all_shown, start_is_sound, run_is_sound}
-use Rattle.sj_accepted_laws.proofs.GoesLemmas.{Is_at, held, AllLocated}
+use Rattle.sj_accepted_laws.proofs.GoesLemmas.{IsLocated, held, AllLocated}
 use Rattle.sj_accepted_laws.proofs.GoingLemmas.{act_keeps_located}
 use Rattle.sj_accepted_laws.proofs.EndedLemmas.{done_is_taken}
 
@@ -114,7 +115,7 @@ pub declared_party : (file : FileAt) (c : ConnectAt) (d : ℕ) → IsConnection 
 declared_party file c zero h = h.first.party
 declared_party file c (suc d) h = h.second.party
 
-located_by : (file : FileAt) → IsAccepted file → (e : EndId) (o : Option ConnectAt) (z : Session) → slice_get file.connects e.sess ≡ o → option_map (session_of file) o ≡ Some z → Is_at (start_of file).parties (start_of file).sessions e
+located_by : (file : FileAt) → IsAccepted file → (e : EndId) (o : Option ConnectAt) (z : Session) → slice_get file.connects e.sess ≡ o → option_map (session_of file) o ≡ Some z → IsLocated (start_of file) e
 located_by file accepted e None z at h = cc
 located_by file accepted e (Some c) z at h =
     let d : DeclAt = decl_at e.side c in
@@ -131,18 +132,20 @@ located_by file accepted e (Some c) z at h =
     held p (program_of file p q.party) (program_at_start file p q.party q.there)
     (record { name = d.name; end = side e.sess (one_side e.side); is_named = has_named zs (ends_from file p 0 file.connects) d.name (side e.sess (one_side e.side)) once has; it_is = canonical e })
 
-start_is_located : (file : FileAt) → IsAccepted file → AllLocated (start_of file).parties (start_of file).sessions
-start_is_located file accepted e is_open =
-    let ex = exists_at (start_of file).sessions e is_open in
-    located_by file accepted e (slice_get file.connects e.sess) ex.session refl (sym (slice_get-map (session_of file) file.connects e.sess) ∙ ex.there)
+start_is_located : (file : FileAt) → IsAccepted file → AllLocated (start_of file)
+start_is_located file accepted e is_open = by (slice_get file.connects e.sess) refl
+  where
+    by : (o : Option ConnectAt) → slice_get file.connects e.sess ≡ o → IsLocated (start_of file) e
+    by None at = absurd (is_open (ap (λ o. (unwrap_or (option_map (end_on e.side) o) nowhere).place) (slice_get-map (session_of file) file.connects e.sess ∙ ap (option_map (session_of file)) at)))
+    by (Some c) at = located_by file accepted e (Some c) (session_of file c) at refl
 
-run_keeps_located : (ps : List ProtocolAt) (w v : World) (acts : List ℕ) → Sound ps w → AllLocated w.parties w.sessions → after_acts w acts ≡ Some v → AllLocated v.parties v.sessions
-run_keeps_located ps w v [] sound all h = subst (λ (t : World). AllLocated t.parties t.sessions) (let it : w ≡ v = cc in it) all
-run_keeps_located ps w v (p ∷ acts) sound all h =
+run_keeps_located : (file : FileAt) (w v : World) (acts : List ℕ) → Sound file w → AllLocated w → after_acts w acts ≡ Some v → AllLocated v
+run_keeps_located file w v [] sound all h = subst AllLocated (let it : w ≡ v = cc in it) all
+run_keeps_located file w v (p ∷ acts) sound all h =
     let m = between (λ x. after_acts x acts) (act_of w p) v h in
-    run_keeps_located ps m.world v acts (act_keeps_sound ps w m.world p sound m.before) (act_keeps_located ps w m.world p sound all m.before) m.afterwards
+    run_keeps_located file m.world v acts (act_keeps_sound file w m.world p sound m.before) (act_keeps_located file w m.world p sound all m.before) m.afterwards
 
 pub done_runs_take_all : (file : FileAt) (acts : List ℕ) (w : World) → IsAccepted file → IsRun file acts w → verdict_of w ≡ verdicts.Done → (e : EndId) → untaken_for w.sessions e ≡ []
 done_runs_take_all file acts w accepted run verdict =
-    done_is_taken file.protocols w (run_is_sound file acts w accepted run)
-    (run_keeps_located file.protocols (start_of file) w acts (start_is_sound file accepted) (start_is_located file accepted) run) verdict
+    done_is_taken file w (run_is_sound file acts w accepted run)
+    (run_keeps_located file (start_of file) w acts (start_is_sound file accepted) (start_is_located file accepted) run) verdict

@@ -1,83 +1,93 @@
--- An act keeps a world sound: sessions are balanced, and programs fit.
-use Rattle.std.proofs.Common.{◌≡◌, ℕ, nat_lt, Bool, true, false, cond, List, [], ◌∷◌, slice_get, Option, Some, None, option_map, refl, ap, sym, ◌∙◌, subst, inl, inr}
+-- An act keeps a world sound.
+use Rattle.std.proofs.Common.{◌≡◌, ℕ, ◌≤◌, List, [], ◌∷◌, length, slice_get, Some, None, option_map, refl, ap, sym, ◌∙◌, arith, subst, inl, inr}
 use Rattle.std.proofs.lemmas.Bool.{cases_eq}
 use Rattle.sj_base.specs.declared.EndId.{EndId}
-use Rattle.sj_base.specs.declared.Msg.{Msg}
-use Rattle.sj_lang.specs.declared.proto.Way.TheVariants.{Into}
-use Rattle.sj_lang.specs.Place.{Place}
-use Rattle.sj_lang.specs.After.{after_place}
-use Rattle.sj_semantics.specs.declared.Want.{Want}
-use Rattle.sj_semantics.specs.declared.Want.TheVariants as wants
-use Rattle.sj_semantics.specs.declared.Passed.{Passed}
-use Rattle.sj_lang.specs.FileAt.{ProtocolAt}
-use Rattle.sj_semantics.specs.Balanced.{FitsNext}
+use Rattle.sj_lang.specs.FileAt.{FileAt, party_names}
 use Rattle.sj_semantics.specs.Program.{Program}
-use Rattle.sj_semantics.specs.Wants.{want_of}
-use Rattle.sj_semantics.specs.Steps.{local_of, sent_of, closed_of}
-use Rattle.sj_semantics.specs.World.{World, Change, session_message, change_by_taking, change_by, act_of}
-use Rattle.sj_semantics.specs.Ends.{Session, end_at, next_for}
-use Rattle.sj_semantics.specs.Uses.{sends, delegates, altered_list, after_uses}
-use Rattle.sj_semantics_laws.specs.Unshared.{IsUnshared}
-use Rattle.sj_semantics_laws.proofs.AlteredLemmas.{slice_get-altered, slice_get-altered_other}
+use Rattle.sj_semantics.specs.Requests.{Request, opened_number}
+use Rattle.sj_semantics.specs.World.{World, changed_world, act_of}
+use Rattle.sj_semantics.specs.Ends.{Session, end_at}
+use Rattle.sj_semantics.specs.Uses.{Use, altered_list, after_uses}
 use Rattle.sj_semantics_laws.specs.Bound.{IsBound}
-use Rattle.sj_semantics_laws.proofs.BoundLemmas.{want_bound}
-use Rattle.sj_semantics_laws.proofs.ChangeLemmas.{rests_on}
+use Rattle.sj_semantics_laws.specs.Unshared.{IsUnshared, IsToCome, to_open, to_accept}
+use Rattle.sj_semantics_laws.proofs.AlteredLemmas.{slice_get-altered, slice_get-altered_other, length-altered}
+use Rattle.sj_semantics_laws.proofs.BoundLemmas.{named_is_bound}
+use Rattle.sj_semantics_laws.proofs.ChangeLemmas.{Rests, rests_on}
 use Rattle.sj_semantics_laws.proofs.CommuteLemmas.{Doing, doing_of}
-use Rattle.sj_semantics_laws.proofs.FreesLemmas.{want_frees}
+use Rattle.sj_semantics_laws.proofs.EndLemmas.{IsUnusedBy, end_at-after_uses_other}
 use Rattle.sj_semantics_laws.proofs.KeepLemmas.{act_keeps_unshared}
-use Rattle.sj_accepted_laws.proofs.TypedLemmas.{FitsProgram, TakeFits, StepFits}
-use Rattle.sj_accepted_laws.proofs.StepLemmas.{fits_step}
-use Rattle.sj_accepted_laws.proofs.TouchedLemmas.{Sound}
-use Rattle.sj_accepted_laws.proofs.AfterLemmas.{After, after_nothing, after_sending, after_taking, after_delegating}
-
-abbrev AfterChange : List ProtocolAt → World → ℕ → Change → Type 0
-AfterChange ps w p c = After ps w p (after_uses p c.uses w.sessions) c.program
-
-cond_after : (ps : List ProtocolAt) (w : World) (p : ℕ) (b : Bool) (c d : Change) → AfterChange ps w p c → cond b (Some c) None ≡ Some d → AfterChange ps w p d
-cond_after ps w p true c d k h = subst (AfterChange ps w p) (let it : c ≡ d = cc in it) k
-cond_after ps w p false c d k h = cc
-
-taking_after : (ps : List ProtocolAt) (w : World) (p : ℕ) (g : Program) → Sound ps w → slice_get w.parties p ≡ Some g → (e : EndId) → IsBound e g.ends
-    → ((m : Msg) (next : Place) → after_place (end_at w.sessions e).place Into m ≡ Some next → FitsNext w.sessions (end_at w.sessions e).place m → TakeFits ps w.sessions g e m next)
-    → (d : Change) (o : Option Passed) → next_for w.sessions e ≡ o → option_map (change_by_taking g e) o ≡ Some d → AfterChange ps w p d
-taking_after ps w p g sound there e b fit d None n h = cc
-taking_after ps w p g sound there e b fit d (Some x) n h =
-    cond_after ps w p true (change_by_taking g e x) d (after_taking ps w p g sound there e x n b fit) h
-
-by_after : (ps : List ProtocolAt) (w : World) (p : ℕ) (g : Program) → Sound ps w → slice_get w.parties p ≡ Some g → (want : Want) → want_of g ≡ Some want → StepFits ps w.sessions g want
-    → (d : Change) → change_by w.sessions p g want ≡ Some d → AfterChange ps w p d
-by_after ps w p g sound there wants.Ended it fit d h = cc
-by_after ps w p g sound there wants.Local it fit d h = cond_after ps w p true (record { program = local_of g; uses = [] }) d (after_nothing ps w p (local_of g) sound fit) h
-by_after ps w p g sound there (wants.Send e m) it fit d h = cond_after ps w p true (record { program = sent_of g; uses = (e, sends m) ∷ [] }) d (after_sending ps w p g sound there e m fit (want_frees e g (wants.Send e m) it)) h
-by_after ps w p g sound there (wants.Delegate e y) it fit d h =
-    cond_after ps w p (nat_lt (end_at w.sessions y).hops 100) (record { program = sent_of g; uses = (y, delegates) ∷ (e, sends (session_message y p)) ∷ [] }) d (after_delegating ps w p g sound there e y fit) h
-by_after ps w p g sound there (wants.Take e a) it fit d h = taking_after ps w p g sound there e (want_bound g (wants.Take e a) it) fit d (next_for w.sessions e) refl h
-by_after ps w p g sound there (wants.Close e) it fit d h = cond_after ps w p true (record { program = closed_of g; uses = [] }) d (after_nothing ps w p (closed_of g) sound fit.1) h
-
--- the step of a program that fits, at the want that it has
-pub fits_want : (ps : List ProtocolAt) (zs : List Session) (g : Program) (want : Want) → FitsProgram ps zs g → want_of g ≡ Some want → StepFits ps zs g want
-fits_want ps zs g want f h =
-    let st = fits_step ps zs g f in
-    let it : st.want ≡ want = (let both : Some st.want ≡ Some want = sym st.wants_it ∙ h in cc) in
-    subst (StepFits ps zs g) it st.step_fits
-
-change_after : (ps : List ProtocolAt) (w v : World) (p : ℕ) → Sound ps w → (a : Doing w p v) → AfterChange ps w p a.change
-change_after ps w v p sound a =
-    let r = rests_on w.sessions p a.program a.change a.made in
-    by_after ps w p a.program sound a.there r.want r.wants_it (fits_want ps w.sessions a.program r.want (sound.programs p a.program a.there) r.wants_it) a.change r.by_it
+use Rattle.sj_semantics_laws.proofs.MineLemmas.{bound, AllMine, all_mine, ends_apart}
+use Rattle.sj_semantics_laws.proofs.ToComeLemmas.{OpeningFits, opening_fits}
+use Rattle.sj_accepted_laws.proofs.TypedLemmas.{FitsProgram}
+use Rattle.sj_accepted_laws.proofs.TouchedLemmas.{side}
+use Rattle.sj_accepted_laws.proofs.UnnamedLemmas.{todo_kept}
+use Rattle.sj_accepted_laws.proofs.OriginLemmas.{InTodo}
+use Rattle.sj_accepted_laws.proofs.OpenedLemmas.{NotOpened, requests_grow, open_not_opened, Offers, was, new, offers_after}
+use Rattle.sj_accepted_laws.proofs.WorldLemmas.{Asks, Takes, IsOffered, Sound}
+use Rattle.sj_accepted_laws.proofs.ChangesLemmas.{OpensWell, Changes}
+use Rattle.sj_accepted_laws.proofs.ChangedLemmas.{change_changes}
 
 own_program : (w : World) (p : ℕ) (g c h : Program) → slice_get w.parties p ≡ Some g → slice_get (altered_list w.parties p (λ k. c)) p ≡ Some h → c ≡ h
 own_program w p g c h there at = let both : Some c ≡ Some h = sym (slice_get-altered w.parties p (λ k. c) ∙ ap (option_map (λ k. c)) there) ∙ at in cc
 
-pub act_keeps_sound : (ps : List ProtocolAt) (w v : World) (p : ℕ) → Sound ps w → act_of w p ≡ Some v → Sound ps v
-act_keeps_sound ps w v p sound acted =
+-- a fact of each party's program, where it holds of the new one and stays for the others
+each_program : (P : ℕ → Program → Type 0) (w : World) (p : ℕ) (g c : Program) → slice_get w.parties p ≡ Some g → P p c → ((q : ℕ) (h : Program) → (p ≡ q → ⊥) → slice_get w.parties q ≡ Some h → P q h)
+    → (q : ℕ) (h : Program) → slice_get (altered_list w.parties p (λ k. c)) q ≡ Some h → P q h
+each_program P w p g c there own others q h at =
+    elim (cases_eq p q) [
+      | inl it ↦ subst (λ (n : ℕ). P n h) it (subst (P p) (own_program w p g c h there (ap (slice_get (altered_list w.parties p (λ k. c))) it ∙ at)) own)
+      | inr other ↦ others q h other (sym (slice_get-altered_other w.parties p q (λ k. c) other) ∙ at)
+    ]
+
+module _ (file : FileAt) (w v : World) (p : ℕ) (sound : Sound file w) (a : Doing w p v) where
+  abbrev rests : Rests w p a.program a.change
+  rests = rests_on w p a.program a.change a.made
+
+  changes : Changes file w p a.program a.change
+  changes = change_changes file w p a.program sound a.there a.change rests
+
+  fits : OpeningFits w p a.change.opening
+  fits = opening_fits w p a.program a.change rests
+
+  abbrev sessions : List Session
+  sessions = after_uses p a.change.uses w.sessions
+
+  mine_unused : (q : ℕ) (h : Program) (f : EndId) (us : List (EndId × Use)) → (p ≡ q → ⊥) → slice_get w.parties q ≡ Some h → IsBound f h.ends → AllMine w p a.program us → IsUnusedBy f us
+  mine_unused q h f [] ne at b mine = tt
+  mine_unused q h f (u ∷ us) ne at b mine = (ends_apart w p q a.program h sound.unshared ne a.there at u.0 f mine.0 (bound b), mine_unused q h f us ne at b mine.1)
+
+  -- an end that is to come stays, where it isn't opened
+  come_stays : (e : EndId) → IsToCome w e → NotOpened w p a.change.opening e → end_at sessions e ≡ end_at w.sessions e
+  come_stays e come other = end_at-after_uses_other p a.change.uses w.sessions e (changes.unused e come other)
+
+  offered_by : (q k : ℕ) (r : Request) → r.second ≡ None → Offers w p a.change.opening q k r → IsOffered file sessions q k r
+  offered_by q k r none (was old other) =
+      let o = sound.offered q k r old none in
+      record { protocol = o.protocol; party = o.party; asks = o.asks; to_it = o.to_it; at = ap (λ t. t.place) (come_stays (side (opened_number q k) 1) (to_accept q k r old none refl refl) other) ∙ o.at }
+  offered_by q k r none (new is same_party number) =
+      let o : IsOffered file sessions p (length (w.requests p)) r = subst (OpensWell file w p sessions) is changes.opened in
+      subst (λ (n : ℕ). IsOffered file sessions n k r) (sym same_party) (subst (λ (n : ℕ). IsOffered file sessions p n r) (sym number) o)
+
+  changed_is_sound : IsUnshared (changed_world w p a.change) → Sound file (changed_world w p a.change)
+  changed_is_sound unshared = record {
+    agree = sound.agree;
+    unshared = unshared;
+    protocols = sound.protocols;
+    many = length-altered w.parties p (λ g. a.change.program) ∙ sound.many;
+    pairs = changes.after.pairs;
+    programs = each_program (λ q h. FitsProgram file.protocols (party_names file.parties) sessions h) w p a.program a.change.program a.there changes.after.own (λ q h ne at.
+        todo_kept file.protocols (party_names file.parties) w.sessions sessions h.todo h.vars h.ends
+        (λ n f hn. ap (λ t. t.place) (end_at-after_uses_other p a.change.uses w.sessions f (mine_unused q h f a.change.uses ne at (named_is_bound h.ends n f hn) (all_mine w p a.program a.change rests))))
+        (sound.programs q h at));
+    peers = each_program (λ q h. h.peers ≡ party_names file.parties) w p a.program a.change.program a.there (changes.same_peers ∙ sound.peers p a.program a.there) (λ q h ne at. sound.peers q h at);
+    origins = each_program (λ q h. InTodo (Asks file q) (Takes file q) h.todo) w p a.program a.change.program a.there changes.origin (λ q h ne at. sound.origins q h at);
+    unopened = λ q k d le lt.
+        let old : length (w.requests q) ≤ k = omega (arith, le, requests_grow p a.change.opening q (w.requests q)) in
+        come_stays (side (opened_number q k) d) (to_open q k old lt refl) (open_not_opened w p a.change.opening q k d fits sound.unshared.few le lt) ∙ sound.unopened q k d old lt;
+    offered = λ q k r at none. offered_by q k r none (offers_after w p a.change.opening q k r fits sound.unshared.few at none);
+  }
+
+pub act_keeps_sound : (file : FileAt) (w v : World) (p : ℕ) → Sound file w → act_of w p ≡ Some v → Sound file v
+act_keeps_sound file w v p sound acted =
     let a = doing_of w p v acted in
-    let r = change_after ps w v p sound a in
-    subst (Sound ps) a.result (record {
-      unshared = subst IsUnshared (sym a.result) (act_keeps_unshared w v p sound.unshared acted);
-      pairs = r.pairs;
-      programs = λ q h at. elim (cases_eq p q) [
-        | inl it ↦ subst (FitsProgram ps (after_uses p a.change.uses w.sessions)) (own_program w p a.program a.change.program h a.there (ap (slice_get (altered_list w.parties p (λ k. a.change.program))) it ∙ at)) r.own
-        | inr other ↦ r.others q h other (sym (slice_get-altered_other w.parties p q (λ k. a.change.program) other) ∙ at)
-      ];
-    })
+    subst (Sound file) a.result (changed_is_sound file w v p sound a (subst IsUnshared (sym a.result) (act_keeps_unshared w v p sound.unshared acted)))

@@ -6,7 +6,6 @@ use Rattle.sj_lang.specs.declared.party.Scalar.{Scalar}
 use Rattle.sj_lang.specs.declared.party.Scalar.TheVariants as kinds
 use Rattle.sj_lang.specs.declared.proto.Way.TheVariants.{Out, Into}
 use Rattle.sj_lang.specs.Place.{Place, message, repeat}
-use Rattle.sj_lang.specs.Dual.{dual_of}
 use Rattle.sj_lang.specs.After.{followed_by, after_place}
 use Rattle.sj_semantics.specs.declared.Value.{Value}
 use Rattle.sj_semantics.specs.declared.Value.TheVariants.{Int, Boolean, Text}
@@ -29,7 +28,7 @@ value_after kinds.Text (Int n) rest h = absurd h
 value_after kinds.Text (Boolean b) rest h = absurd h
 value_after kinds.Text (Text n) rest h = refl
 
-pub value_fits : (zs : List Session) (k : Scalar) (v : Value) (rest : Place) → IsA k v → FitsNext zs (dual_of (message Out (carried_by k) rest)) (message_of v)
+pub value_fits : (zs : List Session) (k : Scalar) (v : Value) (rest : Place) → IsA k v → FitsNext zs (message Out (carried_by k) rest) (message_of v)
 value_fits zs kinds.Int (Int n) rest h = tt
 value_fits zs kinds.Int (Boolean b) rest h = absurd h
 value_fits zs kinds.Int (Text n) rest h = absurd h

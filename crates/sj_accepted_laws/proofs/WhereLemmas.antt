@@ -55,12 +55,12 @@ twice_other e = and_from (e.sess == e.sess) (is_same_side e.side (other_side (ot
     sides (suc d) = refl
 
 -- an end that is sent is on its way to the taker
-pub sent_comes : (p : ℕ) (zs : List Session) (k y : EndId) (m : Msg) (z : Session) → slice_get zs k.sess ≡ Some z → length (end_at zs (other_end k)).takers ≤ length (end_at zs k).sent → names_end y m ≡ true → IsComing (touched p zs (k, sends m)) y (other_end k)
-sent_comes p zs k y m z there le names =
+pub sent_comes : (p : ℕ) (zs : List Session) (k y : EndId) (m : Msg) → length (end_at zs (other_end k)).takers ≤ length (end_at zs k).sent → names_end y m ≡ true → IsComing (touched p zs (k, sends m)) y (other_end k)
+sent_comes p zs k y m le names =
     let new : List Session = touched p zs (k, sends m) in
     let n = length (end_at zs (other_end k)).takers in
     let back : (end_at new (other_end (other_end k))).sent ≡ (end_at zs k).sent ++ record { msg = m; by = p } ∷ [] =
-    ap (λ t. t.sent) (sym (same_end_at new k (other_end (other_end k)) (twice_other k)) ∙ touched_here p zs k.sess k.side (sends m) z there) in
+    ap (λ t. t.sent) (sym (same_end_at new k (other_end (other_end k)) (twice_other k)) ∙ touched_here p zs k (sends m)) in
     record {
       number = length (drop n (end_at zs k).sent);
       passed = record { msg = m; by = p };
@@ -76,20 +76,20 @@ pub data AfterTake (p : ℕ) (zs : List Session) (k : EndId) (x : Passed) (e f :
   still : IsComing (touched p zs (k, takes x.msg)) e f → AfterTake p zs k x e f
   taken : names_end e x.msg ≡ true → AfterTake p zs k x e f
 
-at_taker : (p : ℕ) (zs : List Session) (k : EndId) (x : Passed) (e f : EndId) (z : Session) → slice_get zs k.sess ≡ Some z → next_for zs k ≡ Some x → is_end k f ≡ true
+at_taker : (p : ℕ) (zs : List Session) (k : EndId) (x : Passed) (e f : EndId) → next_for zs k ≡ Some x → is_end k f ≡ true
     → (j : ℕ) (y : Passed) → slice_get (coming (end_at zs f) (end_at zs (other_end f))) j ≡ Some y → names_end e y.msg ≡ true → AfterTake p zs k x e f
-at_taker p zs k x e f z there next same zero y h names =
+at_taker p zs k x e f next same zero y h names =
     let head : slice_get (end_at zs (other_end f)).sent (length (end_at zs f).takers) ≡ Some x =
     ap (λ t. slice_get t.sent (length (end_at zs f).takers)) (sym (same_end_at zs (other_end k) (other_end f) (other_end_same k f same)))
     ∙ ap (λ t. slice_get (end_at zs (other_end k)).sent (length t.takers)) (sym (same_end_at zs k f same)) ∙ next in
     let both : Some y ≡ Some x = sym h ∙ drop_get (length (end_at zs f).takers) 0 (length (end_at zs f).takers) (end_at zs (other_end f)).sent (omega arith) ∙ head in
     let it : y ≡ x = cc in
     taken (sym (ap (λ t. names_end e t.msg) it) ∙ names)
-at_taker p zs k x e f z there next same (suc j) y h names =
+at_taker p zs k x e f next same (suc j) y h names =
     let new : List Session = touched p zs (k, takes x.msg) in
     let n = length (end_at zs f).takers in
     let more : length (end_at new f).takers ≡ suc n =
-    ap (λ t. length t.takers) (sym (same_end_at new k f same) ∙ touched_here p zs k.sess k.side (takes x.msg) z there) ∙ length-push (end_at zs k).takers p ∙ ap (λ t. suc (length t.takers)) (same_end_at zs k f same) in
+    ap (λ t. length t.takers) (sym (same_end_at new k f same) ∙ touched_here p zs k (takes x.msg)) ∙ length-push (end_at zs k).takers p ∙ ap (λ t. suc (length t.takers)) (same_end_at zs k f same) in
     still (record {
       number = j;
       passed = y;
@@ -99,10 +99,10 @@ at_taker p zs k x e f z there next same (suc j) y h names =
       names = names;
     })
 
-pub coming_after_take : (p : ℕ) (zs : List Session) (k : EndId) (x : Passed) (e f : EndId) (z : Session) → slice_get zs k.sess ≡ Some z → next_for zs k ≡ Some x → IsComing zs e f → AfterTake p zs k x e f
-coming_after_take p zs k x e f z there next c =
+pub coming_after_take : (p : ℕ) (zs : List Session) (k : EndId) (x : Passed) (e f : EndId) → next_for zs k ≡ Some x → IsComing zs e f → AfterTake p zs k x e f
+coming_after_take p zs k x e f next c =
     elim (cases_Bool (is_end k f)) [
-      | inl same ↦ at_taker p zs k x e f z there next same c.number c.passed c.there c.names
+      | inl same ↦ at_taker p zs k x e f next same c.number c.passed c.there c.names
       | inr other ↦ still (record {
         number = c.number;
         passed = c.passed;

@@ -1,5 +1,5 @@
 -- The headline: what holds of a run of a file to where nobody can go on, part by part.
-use Rattle.std.specs.Prelude.{◌≡◌, ℕ, ◌<◌, List, ◌∷◌, ◌++◌, map, length, slice_get, Option, Some, option_and_then}
+use Rattle.std.specs.Prelude.{◌≡◌, ℕ, List, ◌∷◌, ◌++◌, map, length, slice_get, Option, Some, option_and_then}
 use Rattle.sj_base.specs.declared.EndId.{EndId}
 use Rattle.sj_base.specs.declared.Msg.{Msg}
 use Rattle.sj_lang.specs.declared.proto.Way.TheVariants.{Into}
@@ -48,11 +48,10 @@ IsFront xs ys = (rest : List Msg) × (ys ≡ xs ++ rest)
 abbrev pub messages : List Passed → List Msg
 messages xs = map (λ x. x.msg) xs
 
--- it holds of each end of the file: of all that the acts took on it, and all that they sent on the other end of its session
+-- it holds of each end: of all that the acts took on it, and all that they sent on the other end of its session
 abbrev pub OfEachEnd : FileAt → List ℕ → (List Msg → List Msg → Type 0) → Type 0
 OfEachEnd file acts P =
-    (e : EndId) → e.sess < length file.connects
-    → P (messages (taken_on e (acts_from (start_of file) acts))) (messages (sent_on (other_end e) (acts_from (start_of file) acts)))
+    (e : EndId) → P (messages (taken_on e (acts_from (start_of file) acts))) (messages (sent_on (other_end e) (acts_from (start_of file) acts)))
 
 -- ---- what an act does
 
@@ -61,7 +60,7 @@ abbrev pub next_step : World → ℕ → Option Want
 next_step w p = option_and_then want_of (slice_get w.parties p)
 
 -- a place follows the message from the place of the end that takes it, and it is of the kind that stands there: the end that a
--- session message names is at the carried place, which isn't empty
+-- session message names stands for the carried place, which isn't empty
 abbrev pub FitsTaker : List Session → EndId → Msg → Type 0
 FitsTaker zs e m = (next : Place) × (after_place (end_at zs e).place Into m ≡ Some next) × FitsNext zs (end_at zs e).place m
 
@@ -70,7 +69,7 @@ abbrev pub TakesWhatFits : World → ℕ → Type 0
 TakesWhatFits w p =
     (c : Change) (n : ℕ) (e : EndId) (m : Msg) → change_of w p ≡ Some c → slice_get c.uses n ≡ Some (e, takes m) → FitsTaker w.sessions e m
 
--- each end that the party's step names is bound at it, and so is each end that its act uses
+-- each end that the party's step names is bound at it, and so is each end that its act uses, unless the use is its beginning
 pub record UsesItsOwn (w : World) (p : ℕ) : Type 0 where
   pub names : (g : Program) (want : Want) → slice_get w.parties p ≡ Some g → want_of g ≡ Some want → AreBound g.ends want
   pub uses : (g : Program) (c : Change) → slice_get w.parties p ≡ Some g → change_of w p ≡ Some c → UsesBound g.ends c.uses

@@ -43,28 +43,28 @@ pub and_true : (a : Bool) → (a && true) ≡ a
 and_true true = refl
 and_true false = refl
 
-module _ (ps : List ProtocolAt) (env : EnvAt) (x : ℕ) (arms : List StmtArm) (i : ℕ) (a : StmtArm) (h : i < length arms) (e : a ≡ get_or arms i a)
+module _ (ps : List ProtocolAt) (names : List ℕ) (env : EnvAt) (x : ℕ) (arms : List StmtArm) (i : ℕ) (a : StmtArm) (h : i < length arms) (e : a ≡ get_or arms i a)
     (xs : List Stmt) (body : xs ≡ (out-StmtArm a).body.items) (inner : EnvAt) (is : inner ≡ with_live env x (arm_place (out-StmtArm a).label (place_at env x))) where
   next : from arms i ≡ code.branch (out-StmtArm a).label (code_of xs) (from arms (i + 1))
   next = from-next arms i a h e ∙ ap (λ ys. code.branch (out-StmtArm a).label (code_of ys) (from arms (i + 1))) (sym body)
 
-  parts : branches_tests ps env x (from arms i) ≡ code_tests ps inner (code_of xs) ++ branches_tests ps env x (from arms (i + 1))
-  parts = ap (branches_tests ps env x) next ∙ ap (λ v. code_tests ps v (code_of xs) ++ branches_tests ps env x (from arms (i + 1))) (sym is)
+  parts : branches_tests ps names env x (from arms i) ≡ code_tests ps names inner (code_of xs) ++ branches_tests ps names env x (from arms (i + 1))
+  parts = ap (branches_tests ps names env x) next ∙ ap (λ v. code_tests ps names v (code_of xs) ++ branches_tests ps names env x (from arms (i + 1))) (sym is)
 
-  pub arm-fault : (o : Option (ℕ × ℕ)) (r : CheckRefusal) → first_fault (branches_tests ps env x (from arms i)) ≡ o → Tells (first_fault (code_tests ps inner (code_of xs))) r → Tells o r
-  arm-fault o r all t = subst (λ f. Tells f r) (ap first_fault (sym parts) ∙ all) (Tells-front (code_tests ps inner (code_of xs)) (branches_tests ps env x (from arms (i + 1))) r t)
+  pub arm-fault : (o : Option (ℕ × ℕ)) (r : CheckRefusal) → first_fault (branches_tests ps names env x (from arms i)) ≡ o → Tells (first_fault (code_tests ps names inner (code_of xs))) r → Tells o r
+  arm-fault o r all t = subst (λ f. Tells f r) (ap first_fault (sym parts) ∙ all) (Tells-front (code_tests ps names inner (code_of xs)) (branches_tests ps names env x (from arms (i + 1))) r t)
 
-  pub arm-tests : first_fault (code_tests ps inner (code_of xs)) ≡ None → first_fault (branches_tests ps env x (from arms (i + 1))) ≡ first_fault (branches_tests ps env x (from arms i))
-  arm-tests p = sym (ap first_fault parts ∙ behind (code_tests ps inner (code_of xs)) (branches_tests ps env x (from arms (i + 1))) p)
+  pub arm-tests : first_fault (code_tests ps names inner (code_of xs)) ≡ None → first_fault (branches_tests ps names env x (from arms (i + 1))) ≡ first_fault (branches_tests ps names env x (from arms i))
+  arm-tests p = sym (ap first_fault parts ∙ behind (code_tests ps names inner (code_of xs)) (branches_tests ps names env x (from arms (i + 1))) p)
 
   pub arm-after : (out : EnvAt) → out ≡ after_code ps inner (code_of xs) → after_branches ps env x (from arms i) ≡ out ∷ after_branches ps env x (from arms (i + 1))
   arm-after out o = ap (after_branches ps env x) next ∙ ap (λ v. after_code ps v (code_of xs) ∷ after_branches ps env x (from arms (i + 1))) (sym is)
       ∙ ap (λ v. v ∷ after_branches ps env x (from arms (i + 1))) (sym o)
 
 -- the tests of the whole statement
-module _ (ps : List ProtocolAt) (line : ℕ) (env : EnvAt) (w : StmtAt) (x : ℕ) (bs : Branches) (is : w ≡ code.at line (code.inbranch x bs)) (p : first_fault (branching_tests line env x bs) ≡ None) where
-  pub branch-arms : (r : CheckRefusal) → Tells (first_fault (branches_tests ps env x bs)) r → Tells (first_fault (stmt_tests ps env w)) r
-  branch-arms r t = rw is (Tells-front (branching_tests line env x bs ++ branches_tests ps env x bs) _ r (Tells-behind (branching_tests line env x bs) (branches_tests ps env x bs) r p t))
+module _ (ps : List ProtocolAt) (names : List ℕ) (line : ℕ) (env : EnvAt) (w : StmtAt) (x : ℕ) (bs : Branches) (is : w ≡ code.at line (code.inbranch x bs)) (p : first_fault (branching_tests line env x bs) ≡ None) where
+  pub branch-arms : (r : CheckRefusal) → Tells (first_fault (branches_tests ps names env x bs)) r → Tells (first_fault (stmt_tests ps names env w)) r
+  branch-arms r t = rw is (Tells-front (branching_tests line env x bs ++ branches_tests ps names env x bs) _ r (Tells-behind (branching_tests line env x bs) (branches_tests ps names env x bs) r p t))
 
-  pub branch-ends : (b : Bool) → first_fault (branches_tests ps env x bs) ≡ None → b ≡ is_one (after_branches ps env x bs) → first_fault (stmt_tests ps env w) ≡ cond b None (Some (9, line))
-  branch-ends b q o = rw (is, o) (behind (branching_tests line env x bs ++ branches_tests ps env x bs) _ (behind (branching_tests line env x bs) (branches_tests ps env x bs) p ∙ q))
+  pub branch-ends : (b : Bool) → first_fault (branches_tests ps names env x bs) ≡ None → b ≡ is_one (after_branches ps env x bs) → first_fault (stmt_tests ps names env w) ≡ cond b None (Some (9, line))
+  branch-ends b q o = rw (is, o) (behind (branching_tests line env x bs ++ branches_tests ps names env x bs) _ (behind (branching_tests line env x bs) (branches_tests ps names env x bs) p ∙ q))

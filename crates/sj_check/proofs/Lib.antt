@@ -6,6 +6,7 @@ pub mod ItemLemmas
 pub mod MapLemmas
 pub mod NamedLemmas
 pub mod OnceLemmas
+pub mod OpeningLemmas
 pub mod SeenLemmas
 pub mod TableLemmas
 pub mod TermLemmas

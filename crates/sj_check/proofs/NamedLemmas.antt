@@ -65,15 +65,15 @@ module _ (a b : FinMap nat_cmp Place) where
       each h q false e = beyond q e
 
 -- two blocks, begun where all is the same beyond some names
-pub blocks-beyond : (ps : List ProtocolAt) (e f a b : EnvAt) (ns : List ℕ) (c d : Code) (xs ys : Code) (s : BTreeSet ℕ) → xs ≡ c → ys ≡ d
+pub blocks-beyond : (ps : List ProtocolAt) (names : List ℕ) (e f a b : EnvAt) (ns : List ℕ) (c d : Code) (xs ys : Code) (s : BTreeSet ℕ) → xs ≡ c → ys ≡ d
     → ((q : ℕ) → contains nat_cmp s q ≡ is_among q (ns ++ ends_named xs ++ ends_named ys))
     → ((q : ℕ) → is_among q ns ≡ false → get e.ends q ≡ get f.ends q)
-    → first_fault (code_tests ps e c) ≡ None → a ≡ after_code ps e c → first_fault (code_tests ps f d) ≡ None → b ≡ after_code ps f d
+    → first_fault (code_tests ps names e c) ≡ None → a ≡ after_code ps e c → first_fault (code_tests ps names f d) ≡ None → b ≡ after_code ps f d
     → SameBeyond (contains nat_cmp s) a.ends b.ends
-blocks-beyond ps e f a b ns c d xs ys s ec ed named begun p is r it q out =
+blocks-beyond ps names e f a b ns c d xs ys s ec ed named begun p is r it q out =
     let n = apart-append q (ns ++ ends_named c) (ends_named d) ((λ i. is_among q (ns ++ ends_named (sym ec i) ++ ends_named (sym ed i))) ∙ sym (named q) ∙ out) in
     let m = apart-append q ns (ends_named c) n.0 in
-    ap (λ (k : EnvAt). get k.ends q) is ∙ code-unnamed ps e c q m.1 p ∙ begun q m.0 ∙ sym (code-unnamed ps f d q n.1 r) ∙ sym (ap (λ (k : EnvAt). get k.ends q) it)
+    ap (λ (k : EnvAt). get k.ends q) is ∙ code-unnamed ps names e c q m.1 p ∙ begun q m.0 ∙ sym (code-unnamed ps names f d q n.1 r) ∙ sym (ap (λ (k : EnvAt). get k.ends q) it)
 
 -- where one end or two moved
 pub moved-beyond : (env old new : EnvAt) (x : ℕ) (p : Place) → old ≡ env → new ≡ with_live old x p → (q : ℕ) → is_among q (x ∷ []) ≡ false → get env.ends q ≡ get new.ends q

@@ -2,7 +2,7 @@
 use Rattle.std.proofs.Common.{◌≡◌, ◌≢◌, ℕ, List, [], ◌∷◌, ◌++◌, None, Bool, true, false, ◌==◌, ◌||◌, refl, sym, ◌∙◌}
 use Rattle.std.proofs.lemmas.Bool.Decides.{Decides-eqb}
 use Rattle.std.specs.FinMap.{get}
-use Rattle.sj_lang.specs.Code.{Code, StmtAt, DeedAt, no_stmt, stmt_then, at, send, delegate, take_value, take_end, outbranch, inbranch, outwhile, inwhile, relay, if_else, let_be, close, no_branch, branch}
+use Rattle.sj_lang.specs.Code.{Code, StmtAt, DeedAt, no_stmt, stmt_then, at, send, delegate, take_value, take_end, outbranch, inbranch, outwhile, inwhile, relay, if_else, let_be, close, request, accept, no_branch, branch}
 use Rattle.sj_lang.specs.FileAt.{ProtocolAt}
 use Rattle.sj_lang.specs.declared.proto.Way.TheVariants.{Into}
 use Rattle.sj_acceptance.specs.EnvAt.{EnvAt, with_live, without_live, is_live, place_at}
@@ -41,45 +41,47 @@ no_arms line env x h = third (is_live env x) (is_choice Into (place_at env x)) h
     third false b h = absurd (cc)
 
 mutual
-  pub code-unnamed : (ps : List ProtocolAt) (env : EnvAt) (c : Code) (q : ℕ) → is_among q (ends_named c) ≡ false → first_fault (code_tests ps env c) ≡ None
+  pub code-unnamed : (ps : List ProtocolAt) (names : List ℕ) (env : EnvAt) (c : Code) (q : ℕ) → is_among q (ends_named c) ≡ false → first_fault (code_tests ps names env c) ≡ None
       → get (after_code ps env c).ends q ≡ get env.ends q
-  code-unnamed ps env no_stmt q h p = refl
-  code-unnamed ps env (stmt_then s c) q h p =
+  code-unnamed ps names env no_stmt q h p = refl
+  code-unnamed ps names env (stmt_then s c) q h p =
       let n = apart-append q (stmt_ends s) (ends_named c) h in
-      let t = all_pass (stmt_tests ps env s) (code_tests ps (after_stmt ps env s) c) p in
-      code-unnamed ps (after_stmt ps env s) c q n.1 t.1 ∙ stmt-unnamed ps env s q n.0 t.0
+      let t = all_pass (stmt_tests ps names env s) (code_tests ps names (after_stmt ps env s) c) p in
+      code-unnamed ps names (after_stmt ps env s) c q n.1 t.1 ∙ stmt-unnamed ps names env s q n.0 t.0
 
-  stmt-unnamed : (ps : List ProtocolAt) (env : EnvAt) (s : StmtAt) (q : ℕ) → is_among q (stmt_ends s) ≡ false → first_fault (stmt_tests ps env s) ≡ None
+  stmt-unnamed : (ps : List ProtocolAt) (names : List ℕ) (env : EnvAt) (s : StmtAt) (q : ℕ) → is_among q (stmt_ends s) ≡ false → first_fault (stmt_tests ps names env s) ≡ None
       → get (after_stmt ps env s).ends q ≡ get env.ends q
-  stmt-unnamed ps env (at line deed) q h p = deed-unnamed ps line env deed q h p
+  stmt-unnamed ps names env (at line deed) q h p = deed-unnamed ps names line env deed q h p
 
-  deed-unnamed : (ps : List ProtocolAt) (line : ℕ) (env : EnvAt) (a : DeedAt) (q : ℕ) → is_among q (deed_ends a) ≡ false → first_fault (deed_tests ps line env a) ≡ None
+  deed-unnamed : (ps : List ProtocolAt) (names : List ℕ) (line : ℕ) (env : EnvAt) (a : DeedAt) (q : ℕ) → is_among q (deed_ends a) ≡ false → first_fault (deed_tests ps names line env a) ≡ None
       → get (after_deed ps env a).ends q ≡ get env.ends q
-  deed-unnamed ps line env (send x e) q h p = get-insert_other env.ends x q _ (apart-cons q x [] h).0
-  deed-unnamed ps line env (delegate x y) q h p =
+  deed-unnamed ps names line env (send x e) q h p = get-insert_other env.ends x q _ (apart-cons q x [] h).0
+  deed-unnamed ps names line env (delegate x y) q h p =
       let n = apart-cons q x (y ∷ []) h in
       get-insert_other (without_live env y).ends x q _ n.0 ∙ get-remove_other env.ends y q (apart-cons q y [] n.1).0
-  deed-unnamed ps line env (take_value x n k) q h p = get-insert_other env.ends x q _ (apart-cons q x [] h).0
-  deed-unnamed ps line env (take_end x y r) q h p =
+  deed-unnamed ps names line env (take_value x n k) q h p = get-insert_other env.ends x q _ (apart-cons q x [] h).0
+  deed-unnamed ps names line env (take_end x y r) q h p =
       let n = apart-cons q x (y ∷ []) h in
       get-insert_other (with_live env x _).ends y q _ (apart-cons q y [] n.1).0 ∙ get-insert_other env.ends x q _ n.0
-  deed-unnamed ps line env (outbranch x l) q h p = get-insert_other env.ends x q _ (apart-cons q x [] h).0
-  deed-unnamed ps line env (inbranch x no_branch) q h p =
+  deed-unnamed ps names line env (outbranch x l) q h p = get-insert_other env.ends x q _ (apart-cons q x [] h).0
+  deed-unnamed ps names line env (inbranch x no_branch) q h p =
       absurd (no_arms line env x (all_pass (branching_tests line env x no_branch) [] (all_pass (branching_tests line env x no_branch ++ []) ((arms_differ, line, true) ∷ []) p).0).0)
-  deed-unnamed ps line env (inbranch x (branch l c bs)) q h p =
+  deed-unnamed ps names line env (inbranch x (branch l c bs)) q h p =
       let n = apart-cons q x (ends_named c ++ branch_ends bs) h in
       let inner = with_live env x (arm_place l (place_at env x)) in
-      let t = all_pass (branching_tests line env x (branch l c bs)) (branches_tests ps env x (branch l c bs)) (all_pass (branching_tests line env x (branch l c bs) ++ branches_tests ps env x (branch l c bs)) _ p).0 in
-      code-unnamed ps inner c q (apart-append q (ends_named c) (branch_ends bs) n.1).0 (all_pass (code_tests ps inner c) (branches_tests ps env x bs) t.1).0
+      let t = all_pass (branching_tests line env x (branch l c bs)) (branches_tests ps names env x (branch l c bs)) (all_pass (branching_tests line env x (branch l c bs) ++ branches_tests ps names env x (branch l c bs)) _ p).0 in
+      code-unnamed ps names inner c q (apart-append q (ends_named c) (branch_ends bs) n.1).0 (all_pass (code_tests ps names inner c) (branches_tests ps names env x bs) t.1).0
       ∙ get-insert_other env.ends x q _ n.0
-  deed-unnamed ps line env (outwhile x e body) q h p = get-insert_other env.ends x q _ (apart-cons q x (ends_named body) h).0
-  deed-unnamed ps line env (inwhile x body) q h p = get-insert_other env.ends x q _ (apart-cons q x (ends_named body) h).0
-  deed-unnamed ps line env (relay x y body) q h p =
+  deed-unnamed ps names line env (outwhile x e body) q h p = get-insert_other env.ends x q _ (apart-cons q x (ends_named body) h).0
+  deed-unnamed ps names line env (inwhile x body) q h p = get-insert_other env.ends x q _ (apart-cons q x (ends_named body) h).0
+  deed-unnamed ps names line env (relay x y body) q h p =
       let n = apart-cons q x (y ∷ ends_named body) h in
       get-insert_other (with_live env x _).ends y q _ (apart-cons q y (ends_named body) n.1).0 ∙ get-insert_other env.ends x q _ n.0
-  deed-unnamed ps line env (if_else e a b) q h p =
-      let t = all_pass (condition_tests line env e ++ code_tests ps env a ++ code_tests ps env b) _ p in
-      let u = all_pass (condition_tests line env e ++ code_tests ps env a) (code_tests ps env b) t.0 in
-      code-unnamed ps env a q (apart-append q (ends_named a) (ends_named b) h).0 (all_pass (condition_tests line env e) (code_tests ps env a) u.0).1
-  deed-unnamed ps line env (let_be n e) q h p = refl
-  deed-unnamed ps line env (close x) q h p = get-remove_other env.ends x q (apart-cons q x [] h).0
+  deed-unnamed ps names line env (if_else e a b) q h p =
+      let t = all_pass (condition_tests line env e ++ code_tests ps names env a ++ code_tests ps names env b) _ p in
+      let u = all_pass (condition_tests line env e ++ code_tests ps names env a) (code_tests ps names env b) t.0 in
+      code-unnamed ps names env a q (apart-append q (ends_named a) (ends_named b) h).0 (all_pass (condition_tests line env e) (code_tests ps names env a) u.0).1
+  deed-unnamed ps names line env (let_be n e) q h p = refl
+  deed-unnamed ps names line env (close x) q h p = get-remove_other env.ends x q (apart-cons q x [] h).0
+  deed-unnamed ps names line env (request x r b) q h p = get-insert_other env.ends x q _ (apart-cons q x [] h).0
+  deed-unnamed ps names line env (accept x r b) q h p = get-insert_other env.ends x q _ (apart-cons q x [] h).0

@@ -14,21 +14,21 @@ use Rattle.sj_check.proofs.FaultLemmas.{behind, Tells-front}
 pub code_of-drop : (stmts : List Stmt) (i : ℕ) (s : Stmt) → i < length stmts → s ≡ get_or stmts i s → code_of (drop i stmts) ≡ code.stmt_then (stmt_of s) (code_of (drop (i + 1) stmts))
 code_of-drop stmts i s h e = rw add-one (ap code_of (drop-cons stmts i s h) ∙ ap (λ x. code.stmt_then (stmt_of x) (code_of (drop (suc i) stmts))) (sym e))
 
-module _ (ps : List ProtocolAt) (stmts : List Stmt) (i : ℕ) (s : Stmt) (h : i < length stmts) (e : s ≡ get_or stmts i s) (env : EnvAt) where
+module _ (ps : List ProtocolAt) (names : List ℕ) (stmts : List Stmt) (i : ℕ) (s : Stmt) (h : i < length stmts) (e : s ≡ get_or stmts i s) (env : EnvAt) where
   -- a fault of the statement is one of what is left
-  pub stmt-fault : (o : Option (ℕ × ℕ)) (r : CheckRefusal) → first_fault (code_tests ps env (code_of (drop i stmts))) ≡ o → Tells (first_fault (stmt_tests ps env (stmt_of s))) r → Tells o r
+  pub stmt-fault : (o : Option (ℕ × ℕ)) (r : CheckRefusal) → first_fault (code_tests ps names env (code_of (drop i stmts))) ≡ o → Tells (first_fault (stmt_tests ps names env (stmt_of s))) r → Tells o r
   stmt-fault o r all t =
       let left = code_of (drop (i + 1) stmts) in
-      subst (λ f. Tells f r) (ap (λ c. first_fault (code_tests ps env c)) (sym (code_of-drop stmts i s h e)) ∙ all)
-      (Tells-front (stmt_tests ps env (stmt_of s)) (code_tests ps (after_stmt ps env (stmt_of s)) left) r t)
+      subst (λ f. Tells f r) (ap (λ c. first_fault (code_tests ps names env c)) (sym (code_of-drop stmts i s h e)) ∙ all)
+      (Tells-front (stmt_tests ps names env (stmt_of s)) (code_tests ps names (after_stmt ps env (stmt_of s)) left) r t)
 
   -- where the statement passes, the rest decides
-  pub stmt-tests : (new : EnvAt) → first_fault (stmt_tests ps env (stmt_of s)) ≡ None → new ≡ after_stmt ps env (stmt_of s)
-      → first_fault (code_tests ps new (code_of (drop (i + 1) stmts))) ≡ first_fault (code_tests ps env (code_of (drop i stmts)))
+  pub stmt-tests : (new : EnvAt) → first_fault (stmt_tests ps names env (stmt_of s)) ≡ None → new ≡ after_stmt ps env (stmt_of s)
+      → first_fault (code_tests ps names new (code_of (drop (i + 1) stmts))) ≡ first_fault (code_tests ps names env (code_of (drop i stmts)))
   stmt-tests new p n =
       let left = code_of (drop (i + 1) stmts) in
-      ap (λ v. first_fault (code_tests ps v left)) n ∙ sym (behind (stmt_tests ps env (stmt_of s)) (code_tests ps (after_stmt ps env (stmt_of s)) left) p)
-      ∙ ap (λ c. first_fault (code_tests ps env c)) (sym (code_of-drop stmts i s h e))
+      ap (λ v. first_fault (code_tests ps names v left)) n ∙ sym (behind (stmt_tests ps names env (stmt_of s)) (code_tests ps names (after_stmt ps env (stmt_of s)) left) p)
+      ∙ ap (λ c. first_fault (code_tests ps names env c)) (sym (code_of-drop stmts i s h e))
 
   pub stmt-after : (new : EnvAt) → new ≡ after_stmt ps env (stmt_of s)
       → after_code ps new (code_of (drop (i + 1) stmts)) ≡ after_code ps env (code_of (drop i stmts))

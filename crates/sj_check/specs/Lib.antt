@@ -2,6 +2,7 @@ pub mod Held
 pub mod SpotEnv
 pub mod Maps
 pub mod Named
+pub mod Openings
 pub mod Seen
 pub mod Table
 pub mod Told

@@ -5,7 +5,7 @@ use Rattle.std.specs.FinMap as map
 use Rattle.std.specs.FinMap.{FinMap}
 use Rattle.sj_lang.specs.Place.{Place}
 use Rattle.sj_acceptance.specs.Sameness.{is_same_place}
-use Rattle.sj_lang.specs.Code.{Code, StmtAt, DeedAt, Branches, no_stmt, stmt_then, at, send, delegate, take_value, take_end, outbranch, inbranch, outwhile, inwhile, relay, if_else, let_be, close, no_branch, branch}
+use Rattle.sj_lang.specs.Code.{Code, StmtAt, DeedAt, Branches, no_stmt, stmt_then, at, send, delegate, take_value, take_end, outbranch, inbranch, outwhile, inwhile, relay, if_else, let_be, close, request, accept, no_branch, branch}
 
 abbrev mutual
   -- the ends that a block names
@@ -29,6 +29,8 @@ abbrev mutual
   deed_ends (if_else e first second) = ends_named first ++ ends_named second
   deed_ends (let_be n e) = []
   deed_ends (close x) = x ∷ []
+  deed_ends (request x p b) = x ∷ []
+  deed_ends (accept x p b) = x ∷ []
 
   -- the ends that the arms name
   pub branch_ends : Branches → List ℕ

@@ -1,4 +1,4 @@
-//! The protocols of a file, with the table of their places.
+//! The protocols of a file, with the table of their places, and its parties.
 ghost use Rattle.std.specs.Prelude.{◌≡◌, ◌<◌, ℕ, IfOk, option_map};
 ghost use Rattle.std.specs.Coded.{Coded-set};
 ghost use Rattle.sj_lang.specs.FileAt.{body_named, protocol_named};
@@ -9,14 +9,15 @@ ghost use Rattle.sj_check.specs.Views.{protocols_of};
 
 use crate::places::body_named;
 use sj_base::NoMemory;
-use sj_lang::ProtocolDef;
+use sj_lang::{Party, ProtocolDef};
 use sj_table::{Spot, Table};
 use std::alloc::Global;
 
-/// The protocols, and the table in which each starts at its body.
+/// The protocols, the table in which each starts at its body, and the parties.
 #[derive(Drop)]
 pub struct Protocols<'a> {
     pub defs: &'a [ProtocolDef],
+    pub parties: &'a [Party],
     pub table: Table,
     ghost starts: { (p : ℕ) → start_in table p ≡ body_named (protocols_of defs.now) p } by { Prim.hlevel (Coded-set, coded_place) },
 }
@@ -24,12 +25,21 @@ pub struct Protocols<'a> {
 impl<'a> Protocols<'a> {
     ghost use Rattle.sj_check.specs.Seen.{defs_in};
 
-    pub fn compiled(alloc: Global, defs: &'a [ProtocolDef]) -> Result<Protocols<'a>, NoMemory>
+    pub fn compiled(
+        alloc: Global,
+        defs: &'a [ProtocolDef],
+        parties: &'a [Party],
+    ) -> Result<Protocols<'a>, NoMemory>
         requires { nodes_of (protocols_of defs.now) < limit_of_nodes }
-        ensures { IfOk result (λ p. defs_in p ≡ protocols_of defs.now) }
+        ensures defs { IfOk result (λ p. defs_in p ≡ protocols_of defs.now) }
+        ensures parties { IfOk result (λ p. p.parties.now ≡ parties.now) }
     {
         let table = Table::compile(alloc, defs)?;
-        Ok(Protocols { defs, table })
+        Ok(Protocols {
+            defs,
+            parties,
+            table,
+        })
     }
 
     /// The spot at which an end of the protocol of that name begins; none where there is no such

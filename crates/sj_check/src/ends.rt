@@ -16,15 +16,14 @@ use crate::CheckRefusal;
 use crate::compiled::Protocols;
 use crate::env::Env;
 use crate::files::is_party;
-use crate::places::{body_named, is_same};
-use crate::rules::{NAME_IN_USE, NO_PARTY, NO_PROTOCOL, NOT_DUAL, broken};
+use crate::places::{body_named, do_meet};
+use crate::rules::{DO_NOT_MEET, NAME_IN_USE, NO_PARTY, NO_PROTOCOL, broken};
 use sj_base::NoMemory;
-use sj_lang::{Connect, EndDecl, Party, Proto, ProtocolDef, dual};
+use sj_lang::{Connect, EndDecl, Party, Proto, ProtocolDef};
 use std::alloc::Global;
 
 /// The connections, in order.
 pub fn connections(
-    alloc: Global,
     parties: &[Party],
     protocols: &[ProtocolDef],
     connects: &[Connect],
@@ -33,13 +32,12 @@ pub fn connections(
         Judges (tests.connect_tests names (protocols_of protocols.now) [] (connects_of connects.now)) result }
 {
     for i in 0..connects.len() {
-        connection(alloc, parties, protocols, &connects[..i], &connects[i])?;
+        connection(parties, protocols, &connects[..i], &connects[i])?;
     }
     Ok(())
 }
 
 fn connection(
-    alloc: Global,
     parties: &[Party],
     protocols: &[ProtocolDef],
     earlier: &[Connect],
@@ -59,8 +57,8 @@ fn connection(
     )?;
     let taken = is_taken(earlier, &connect.second) || is_same_end(&connect.first, &connect.second);
     let second = connected(parties, protocols, line, taken, &connect.second)?;
-    if !is_same(first, &dual(alloc, second)?) {
-        return Err(broken(NOT_DUAL, line));
+    if !do_meet(first, second) {
+        return Err(broken(DO_NOT_MEET, line));
     }
     Ok(())
 }

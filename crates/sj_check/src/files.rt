@@ -8,13 +8,14 @@ ghost use Rattle.sj_acceptance.specs.LabelTests.{is_among};
 ghost use Rattle.sj_acceptance.specs.FileTests as tests;
 ghost use Rattle.sj_acceptance.specs.FileTests.{protocol_names, party_names};
 ghost use Rattle.sj_check.specs.Views.{protocols_of, parties_of, connects_of};
-ghost use Rattle.sj_check.specs.Seen.{defs_in};
+ghost use Rattle.sj_check.specs.Seen.{defs_in, names_in};
 ghost use Rattle.sj_check.specs.Told.{Judges, IsFault};
 
 use crate::CheckRefusal;
 use crate::compiled::Protocols;
 use crate::ends::{at_start, connections};
 use crate::once::names_once;
+use crate::openings::openings_meet;
 use crate::rules::{LEFT_OPEN, NAME_IN_USE, broken};
 use crate::walk::block;
 use sj_lang::{Connect, File, Party, ProtocolDef};
@@ -27,10 +28,10 @@ pub fn walked(alloc: Global, file: &File) -> Result<(), CheckRefusal>
 {
     protocols_apart(&file.protocols)?;
     parties_apart(&file.parties)?;
-    connections(alloc, &file.parties, &file.protocols, &file.connects)?;
-    let protocols = Protocols::compiled(alloc, &file.protocols)?;
+    connections(&file.parties, &file.protocols, &file.connects)?;
+    let protocols = Protocols::compiled(alloc, &file.protocols, &file.parties)?;
     bodies(alloc, &protocols, &file.connects, &file.parties)?;
-    Ok(())
+    openings_meet(alloc, &file.protocols, &file.parties)
 }
 
 fn protocols_apart(protocols: &[ProtocolDef]) -> Result<(), CheckRefusal>
@@ -88,7 +89,7 @@ fn bodies(
     parties: &[Party],
 ) -> Result<(), CheckRefusal>
     ensures { let cs = connects_of connects.now in
-        Judges (tests.body_tests (defs_in protocols.now) cs (parties_of parties.now)) result }
+        Judges (tests.body_tests (defs_in protocols.now) (names_in protocols.now) cs (parties_of parties.now)) result }
 {
     for party in parties {
         body(alloc, protocols, connects, party)?;
@@ -103,7 +104,7 @@ fn body(
     party: &Party,
 ) -> Result<(), CheckRefusal>
     ensures { let cs = connects_of connects.now in
-        Judges (tests.one_body_tests (defs_in protocols.now) cs (party_of party.now)) result }
+        Judges (tests.one_body_tests (defs_in protocols.now) (names_in protocols.now) cs (party_of party.now)) result }
 {
     let mut env = at_start(alloc, protocols, connects, party.name)?;
     block(protocols, &mut env, &party.body)?;

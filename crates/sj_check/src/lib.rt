@@ -14,6 +14,7 @@ mod limits;
 mod moves;
 mod named;
 mod once;
+mod openings;
 mod places;
 mod refusal;
 mod rules;

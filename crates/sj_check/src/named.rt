@@ -133,6 +133,16 @@ fn add_deed(all: &mut Vec<u16>, deed: &Deed) -> Result<(), NoMemory>
         }
         Deed::Let { name: _, value: _ } => Ok(()),
         Deed::Close { end } => add(all, *end),
+        Deed::Request {
+            end,
+            protocol: _,
+            party: _,
+        } => add(all, *end),
+        Deed::Accept {
+            end,
+            protocol: _,
+            party: _,
+        } => add(all, *end),
     }
 }
 

@@ -4,6 +4,7 @@ ghost use Rattle.sj_lang.specs.declared.proto.Way.TheVariants as ways;
 ghost use Rattle.sj_lang.specs.Place.{message};
 ghost use Rattle.sj_lang.specs.View.{carried_of};
 ghost use Rattle.sj_lang.specs.After.{at_label};
+ghost use Rattle.sj_lang.specs.MeetTests.{meets};
 ghost use Rattle.std.specs.Option.{option_copied};
 ghost use Rattle.sj_acceptance.specs.FirstItem as places;
 ghost use Rattle.sj_acceptance.specs.Sameness.{is_same_place};
@@ -12,7 +13,7 @@ ghost use Rattle.sj_table.specs.Spots.{place_in};
 ghost use Rattle.sj_check.specs.Views.{protocols_of};
 
 use sj_base::Msg;
-use sj_lang::{Item, Kind, Proto, ProtocolDef, Way, same};
+use sj_lang::{Item, Kind, Proto, ProtocolDef, Way, meets};
 use sj_table::{Spot, Table};
 
 /// What is to be sent next, and what follows.
@@ -117,13 +118,6 @@ pub fn arm_place(table: &Table, spot: Spot, label: u16) -> Spot
     }
 }
 
-/// Whether the two are equal.
-pub fn is_same(a: &Proto, b: &Proto) -> bool
-    ensures { result ≡ is_same_place a.now b.now }
-{
-    same(a, b)
-}
-
 /// Whether both spots stand for one place.
 pub fn is_same_spot(table: &Table, one: Spot, other: Spot) -> bool
     ensures { result ≡ is_same_place (place_in table.now one) (place_in table.now other) }
@@ -135,7 +129,7 @@ pub fn is_same_spot(table: &Table, one: Spot, other: Spot) -> bool
 fn is_spot_of(table: &Table, spot: Spot, place: &Proto) -> bool
     ensures { result ≡ is_same_place (place_in table.now spot) place.now }
 {
-    table.stands_for(spot, place)
+    table.is_at(spot, place)
 }
 
 /// Whether an end is carried.
@@ -156,6 +150,23 @@ pub fn is_session_of(table: &Table, spot: Spot, carried: &Kind) -> bool
         Kind::Session(wanted) => is_spot_of(table, spot, wanted),
         _ => false,
     }
+}
+
+/// Whether an end is carried for which one at that spot can stand.
+pub fn stands_for_carried(table: &Table, spot: Spot, carried: &Kind) -> bool
+    ensures { result ≡ places.stands_for_carried (place_in table.now spot) (carried_of carried.now) }
+{
+    match carried {
+        Kind::Session(wanted) => table.stands_for(spot, wanted),
+        _ => false,
+    }
+}
+
+/// Whether the one protocol meets the other.
+pub fn do_meet(a: &Proto, b: &Proto) -> bool
+    ensures { result ≡ meets a.now b.now }
+{
+    meets(a, b)
 }
 
 /// The body of the protocol of that name.

@@ -13,8 +13,8 @@ pub const NO_PARTY: u8 = 2;
 /// The name is in use, or a choice names a label twice.
 pub const NAME_IN_USE: u8 = 3;
 
-/// The protocols of a connection aren't dual.
-pub const NOT_DUAL: u8 = 4;
+/// The protocols of a connection don't meet.
+pub const DO_NOT_MEET: u8 = 4;
 
 /// No live end, or no variable, of that name.
 pub const NOT_THERE: u8 = 5;
@@ -45,6 +45,9 @@ pub const NOT_TO_DELEGATE: u8 = 13;
 
 /// The arms aren't the labels of the choice, each once, or there are none.
 pub const OTHER_ARMS: u8 = 14;
+
+/// An accept and a request between two parties don't meet.
+pub const ACCEPT_UNMET: u8 = 15;
 
 /// The refusal of a file that breaks the rule at that line.
 pub fn broken(rule: u8, line: u32) -> CheckRefusal

@@ -4,17 +4,23 @@
 ghost use Rattle.std.specs.Prelude.{[], IfErr};
 ghost use Rattle.sj_lang.specs.CodeView.{term_of};
 ghost use Rattle.sj_lang.specs.Code as code;
-ghost use Rattle.sj_check.specs.Seen.{defs_in, env_in};
-ghost use Rattle.sj_check.specs.Told.{Does, IsFault};
+ghost use Rattle.sj_lang.specs.FileAt.{body_named};
+ghost use Rattle.sj_acceptance.specs.EnvAt.{with_live};
+ghost use Rattle.sj_acceptance.specs.Tests.{opening_tests};
+ghost use Rattle.sj_check.specs.Seen.{defs_in, names_in, env_in};
+ghost use Rattle.sj_check.specs.Told.{Does, Walks, IsFault};
 
 use crate::CheckRefusal;
 use crate::compiled::Protocols;
 use crate::env::Env;
+use crate::files::is_party;
 use crate::kinds::{carries_as, expr_kind, is_free_for};
-use crate::places::{is_choice, is_session, is_session_of, selected, sending, taking};
+use crate::places::{
+    is_choice, is_session, is_session_of, selected, sending, stands_for_carried, taking,
+};
 use crate::rules::{
-    CLOSED_EARLY, NAME_IN_USE, NO_LABEL, NO_PROTOCOL, NOT_THERE, NOT_TO_DELEGATE, OTHER_ACTION,
-    OTHER_KIND, broken,
+    CLOSED_EARLY, NAME_IN_USE, NO_LABEL, NO_PARTY, NO_PROTOCOL, NOT_THERE, NOT_TO_DELEGATE,
+    OTHER_ACTION, OTHER_KIND, broken,
 };
 use sj_lang::{Expr, Scalar, Way};
 
@@ -26,7 +32,7 @@ pub fn send(
     value: &Expr,
 ) -> Result<(), CheckRefusal>
     ensures { let deed = code.send end (term_of value.now) in
-        Does [] line deed (env_in protocols.now env.old) (env_in protocols.now env.new) result }
+        Does [] [] line deed (env_in protocols.now env.old) (env_in protocols.now env.new) result }
 {
     let Some(spot) = env.spot(end) else {
         return Err(broken(NOT_THERE, line));
@@ -43,7 +49,7 @@ pub fn send(
 }
 
 pub fn close(protocols: &Protocols, env: &mut Env, line: u32, end: u16) -> Result<(), CheckRefusal>
-    ensures does { Does [] line (code.close end) (env_in protocols.now env.old) (env_in protocols.now env.new) result }
+    ensures does { Does [] [] line (code.close end) (env_in protocols.now env.old) (env_in protocols.now env.new) result }
     ensures cause { IfErr result IsFault }
 {
     let Some(spot) = env.spot(end) else {
@@ -64,7 +70,7 @@ pub fn delegate(
     sent: u16,
 ) -> Result<(), CheckRefusal>
     ensures { let deed = code.delegate end sent in
-        Does [] line deed (env_in protocols.now env.old) (env_in protocols.now env.new) result }
+        Does [] [] line deed (env_in protocols.now env.old) (env_in protocols.now env.new) result }
 {
     let Some(spot) = env.spot(end) else {
         return Err(broken(NOT_THERE, line));
@@ -84,7 +90,7 @@ pub fn delegate(
     if protocols.table.is_done(given) {
         return Err(broken(NOT_TO_DELEGATE, line));
     }
-    if !is_session_of(&protocols.table, given, wanted) {
+    if !stands_for_carried(&protocols.table, given, wanted) {
         return Err(broken(OTHER_KIND, line));
     }
     env.remove(sent);
@@ -101,7 +107,7 @@ pub fn take_value(
     kind: Scalar,
 ) -> Result<(), CheckRefusal>
     ensures { let deed = code.take_value end into kind in
-        Does [] line deed (env_in protocols.now env.old) (env_in protocols.now env.new) result }
+        Does [] [] line deed (env_in protocols.now env.old) (env_in protocols.now env.new) result }
 {
     let Some(spot) = env.spot(end) else {
         return Err(broken(NOT_THERE, line));
@@ -133,7 +139,7 @@ pub fn take_end(
 ) -> Result<(), CheckRefusal>
     ensures { let deed = code.take_end end into protocol in
         let old = env_in protocols.now env.old in
-        Does (defs_in protocols.now) line deed old (env_in protocols.now env.new) result }
+        Does (defs_in protocols.now) [] line deed old (env_in protocols.now env.new) result }
 {
     let Some(spot) = env.spot(end) else {
         return Err(broken(NOT_THERE, line));
@@ -163,7 +169,7 @@ pub fn select(
     label: u16,
 ) -> Result<(), CheckRefusal>
     ensures { let deed = code.outbranch end label in
-        Does [] line deed (env_in protocols.now env.old) (env_in protocols.now env.new) result }
+        Does [] [] line deed (env_in protocols.now env.old) (env_in protocols.now env.new) result }
 {
     let Some(spot) = env.spot(end) else {
         return Err(broken(NOT_THERE, line));
@@ -186,7 +192,7 @@ pub fn let_be(
     value: &Expr,
 ) -> Result<(), CheckRefusal>
     ensures { let deed = code.let_be name (term_of value.now) in
-        Does [] line deed (env_in protocols.now env.old) (env_in protocols.now env.new) result }
+        Does [] [] line deed (env_in protocols.now env.old) (env_in protocols.now env.new) result }
 {
     let kind = expr_kind(env.variables(), line, value)?;
     if env.is_live(name) {
@@ -196,5 +202,32 @@ pub fn let_be(
         return Err(broken(OTHER_KIND, line));
     }
     env.put_kind(name, kind)?;
+    Ok(())
+}
+
+/// `request` and `accept`.
+pub fn open(
+    protocols: &Protocols,
+    env: &mut Env,
+    line: u32,
+    end: u16,
+    protocol: u16,
+    party: u16,
+) -> Result<(), CheckRefusal>
+    ensures { let ps = defs_in protocols.now in
+        let old = env_in protocols.now env.old in
+        let tests = opening_tests ps (names_in protocols.now) line old end protocol party in
+        Walks tests (with_live old end (body_named ps protocol)) (env_in protocols.now env.new) result }
+{
+    let Some(start) = protocols.start(protocol) else {
+        return Err(broken(NO_PROTOCOL, line));
+    };
+    if !is_party(protocols.parties, party) {
+        return Err(broken(NO_PARTY, line));
+    }
+    if env.is_live(end) || env.is_known(end) {
+        return Err(broken(NAME_IN_USE, line));
+    }
+    env.put_spot(end, start)?;
     Ok(())
 }

@@ -12,6 +12,7 @@ use std::alloc::Global;
 use std::test::Fail;
 
 mod files;
+mod openings;
 mod statements;
 
 const P: u16 = 0;

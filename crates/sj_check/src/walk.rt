@@ -7,7 +7,7 @@ ghost use Rattle.sj_lang.specs.Code as code;
 ghost use Rattle.sj_acceptance.specs.Tests.{branches_tests, after_branches};
 ghost use Rattle.sj_acceptance.specs.Tests.{stmt_tests, after_stmt, code_tests, after_code};
 ghost use Rattle.sj_acceptance.specs.Arms.{is_one, common_env};
-ghost use Rattle.sj_check.specs.Seen.{defs_in, env_in};
+ghost use Rattle.sj_check.specs.Seen.{defs_in, names_in, env_in};
 ghost use Rattle.sj_check.specs.Told.{Judges, Walks, Does};
 
 use crate::CheckRefusal;
@@ -19,7 +19,7 @@ use crate::moves::{at_arm, enter, pass, pass_both};
 use crate::named::has_same_ends_at;
 use crate::places::is_loop;
 use crate::rules::{ARMS_DIFFER, NOT_THERE, OTHER_ACTION, OTHER_KIND, TURN_DIFFERS, broken};
-use crate::statements::{close, delegate, let_be, select, send, take_end, take_value};
+use crate::statements::{close, delegate, let_be, open, select, send, take_end, take_value};
 use sj_lang::{Deed, Expr, Scalar, Stmt, StmtArm, Way};
 
 /// Statements in order.
@@ -27,7 +27,7 @@ use sj_lang::{Deed, Expr, Scalar, Stmt, StmtArm, Way};
 pub fn block(protocols: &Protocols, env: &mut Env, stmts: &[Stmt]) -> Result<(), CheckRefusal>
     ensures { let ps = defs_in protocols.now in
         let old = env_in protocols.now env.old in
-        let tests = code_tests ps old (code_of stmts.now) in
+        let tests = code_tests ps (names_in protocols.now) old (code_of stmts.now) in
         Walks tests (after_code ps old (code_of stmts.now)) (env_in protocols.now env.new) result }
 {
     for stmt in stmts {
@@ -40,7 +40,7 @@ pub fn block(protocols: &Protocols, env: &mut Env, stmts: &[Stmt]) -> Result<(),
 fn statement(protocols: &Protocols, env: &mut Env, stmt: &Stmt) -> Result<(), CheckRefusal>
     ensures { let ps = defs_in protocols.now in
         let old = env_in protocols.now env.old in
-        let tests = stmt_tests ps old (stmt_of stmt.now) in
+        let tests = stmt_tests ps (names_in protocols.now) old (stmt_of stmt.now) in
         Walks tests (after_stmt ps old (stmt_of stmt.now)) (env_in protocols.now env.new) result }
 {
     let line = stmt.line;
@@ -75,6 +75,16 @@ fn statement(protocols: &Protocols, env: &mut Env, stmt: &Stmt) -> Result<(), Ch
         }
         Deed::Let { name, value } => let_be(protocols, env, line, *name, value),
         Deed::Close { end } => close(protocols, env, line, *end),
+        Deed::Request {
+            end,
+            protocol,
+            party,
+        } => open(protocols, env, line, *end, *protocol, *party),
+        Deed::Accept {
+            end,
+            protocol,
+            party,
+        } => open(protocols, env, line, *end, *protocol, *party),
     }
 }
 
@@ -89,7 +99,7 @@ fn out_while(
 ) -> Result<(), CheckRefusal>
     ensures { let deed = code.outwhile end (term_of count.now) (code_of body.now) in
         let old = env_in protocols.now env.old in
-        Does (defs_in protocols.now) line deed old (env_in protocols.now env.new) result }
+        Does (defs_in protocols.now) (names_in protocols.now) line deed old (env_in protocols.now env.new) result }
 {
     let Some(spot) = env.spot(end) else {
         return Err(broken(NOT_THERE, line));
@@ -123,7 +133,7 @@ fn in_while(
 ) -> Result<(), CheckRefusal>
     ensures { let deed = code.inwhile end (code_of body.now) in
         let old = env_in protocols.now env.old in
-        Does (defs_in protocols.now) line deed old (env_in protocols.now env.new) result }
+        Does (defs_in protocols.now) (names_in protocols.now) line deed old (env_in protocols.now env.new) result }
 {
     let Some(spot) = env.spot(end) else {
         return Err(broken(NOT_THERE, line));
@@ -154,7 +164,7 @@ fn relay(
 ) -> Result<(), CheckRefusal>
     ensures { let deed = code.relay from to (code_of body.now) in
         let old = env_in protocols.now env.old in
-        Does (defs_in protocols.now) line deed old (env_in protocols.now env.new) result }
+        Does (defs_in protocols.now) (names_in protocols.now) line deed old (env_in protocols.now env.new) result }
 {
     let Some(source) = env.spot(from) else {
         return Err(broken(NOT_THERE, line));
@@ -190,7 +200,7 @@ fn all_arms(
     arms: &[StmtArm],
 ) -> Result<(Env, bool), CheckRefusal>
     ensures tests { let bs = branches_of (map arm_of arms.now) in
-        Judges (branches_tests (defs_in protocols.now) (env_in protocols.now env.now) end bs) result }
+        Judges (branches_tests (defs_in protocols.now) (names_in protocols.now) (env_in protocols.now env.now) end bs) result }
     ensures joined { let bs = branches_of (map arm_of arms.now) in
         let left = after_branches (defs_in protocols.now) (env_in protocols.now env.now) end bs in
         IfOk result (λ r. env_in protocols.now r.0 ≡ common_env left) }

@@ -26,6 +26,9 @@ note_seen (notes.Claim of) = log.Claim of
 note_seen (notes.Signal to conn party taken) = log.Signal to conn party taken
 note_seen (notes.Ack of conn) = log.Ack of conn
 note_seen (notes.Give of conn peer sent taken base resend) = log.Give of conn peer sent taken base resend
+note_seen (notes.Request sess to) = log.Request sess to
+note_seen (notes.Accept sess from) = log.Accept sess from
+note_seen (notes.Open sess) = log.Open sess
 
 -- an entry, apart from its party
 abbrev pub entry_at : Entry → EntryAt

@@ -3,6 +3,7 @@ ghost use Rattle.std.specs.Prelude.{◌≡◌, ◌+◌, ◌<◌, ◌≤◌, ◌�
 ghost use Rattle.sj_base.specs.declared.Msg.{Msg};
 ghost use Rattle.sj_lang.specs.After.{after_place};
 ghost use Rattle.sj_lang.specs.declared.proto.Way.TheVariants.{Into, Out};
+ghost use Rattle.sj_rules.specs.Node as node;
 ghost use Rattle.sj_rules.specs.Node.{held_behind_send, held_behind_take};
 ghost use Rattle.sj_rules.specs.Record as rules;
 ghost use Rattle.sj_rules.specs.Limits.{limit_of_messages};
@@ -132,6 +133,14 @@ impl Held {
         self.untaken.push_back(msg)?;
         self.end.trim(taken);
         Ok(())
+    }
+
+    /// Gives an offered end the place of the statement that accepts it.
+    pub fn accept(&mut self, place: Spot)
+        requires { self.old.end.place.node ≡ 0 }
+        ensures { held_at self.new ≡ node.held_at place (held_at self.old) }
+    {
+        self.end.place = place;
     }
 
     /// Notes that the peer's Fin is there.

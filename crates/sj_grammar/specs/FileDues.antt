@@ -41,7 +41,9 @@ statement_follow o s =
     else (if bytes_eq s (codes "relay") then Some (name ∷ name ∷ block o ∷ stmts o ∷ [])
     else (if bytes_eq s (codes "if") then Some (expr whole ∷ block o ∷ fixed (codes "else") ∷ block o ∷ stmts o ∷ [])
     else (if bytes_eq s (codes "let") then Some (name ∷ fixed (codes "=") ∷ expr whole ∷ semicolon ∷ stmts o ∷ [])
-    else (if bytes_eq s (codes "close") then Some (name ∷ semicolon ∷ stmts o ∷ []) else None))))))))))
+    else (if bytes_eq s (codes "close") then Some (name ∷ semicolon ∷ stmts o ∷ [])
+    else (if bytes_eq s (codes "request") then Some (name ∷ name ∷ fixed (codes "to") ∷ name ∷ semicolon ∷ stmts o ∷ [])
+    else (if bytes_eq s (codes "accept") then Some (name ∷ name ∷ fixed (codes "from") ∷ name ∷ semicolon ∷ stmts o ∷ []) else None))))))))))))
 
 abbrev pub awaited_follow : List ℕ → Option (List Due)
 awaited_follow s =

@@ -3,7 +3,7 @@ use Rattle.std.specs.Prelude.{ℕ, suc, ◌<◌, List, [], ◌∷◌, ◌++◌, 
 use Rattle.sj_lang.specs.declared.party.Scalar.{Scalar}
 use Rattle.sj_lang.specs.declared.party.Scalar.TheVariants as scalars
 use Rattle.sj_lang.specs.Term.{Term}
-use Rattle.sj_lang.specs.Code.{Code, StmtAt, Branches, no_stmt, stmt_then, at, send, delegate, take_value, take_end, outbranch, inbranch, outwhile, inwhile, relay, if_else, let_be, close, no_branch, branch}
+use Rattle.sj_lang.specs.Code.{Code, StmtAt, Branches, no_stmt, stmt_then, at, send, delegate, take_value, take_end, outbranch, inbranch, outwhile, inwhile, relay, if_else, let_be, close, request, accept, no_branch, branch}
 use Rattle.sj_lang.specs.Limits.{Limits}
 use Rattle.sj_grammar.specs.Tables.{Spelling, IsNamed}
 use Rattle.sj_grammar.specs.Positions.{Pieces, Piece, plain, first_on, all_plain}
@@ -53,6 +53,10 @@ module _ (L : Limits) (names : Spelling) where
           → IsStatement o (at l (let_be n t)) (first_on l (codes "let") ∷ called n ∷ plain (codes "=") ∷ (all_plain e ++ plain (codes ";") ∷ []))
       of_close : {o l x : ℕ} → IsNamed L names.word x
           → IsStatement o (at l (close x)) (first_on l (codes "close") ∷ called x ∷ plain (codes ";") ∷ [])
+      of_request : {o l x p b : ℕ} → IsNamed L names.word x → IsNamed L names.word p → IsNamed L names.word b
+          → IsStatement o (at l (request x p b)) (first_on l (codes "request") ∷ called x ∷ called p ∷ plain (codes "to") ∷ called b ∷ plain (codes ";") ∷ [])
+      of_accept : {o l x p b : ℕ} → IsNamed L names.word x → IsNamed L names.word p → IsNamed L names.word b
+          → IsStatement o (at l (accept x p b)) (first_on l (codes "accept") ∷ called x ∷ called p ∷ plain (codes "from") ∷ called b ∷ plain (codes ";") ∷ [])
 
     pub data IsBlock : ℕ → Code → List Piece → Type 0 where
       of_code : {o : ℕ} {code : Code} {a : List Piece} → o < L.nesting → IsCode (suc o) code a → IsBlock o code (braced a)

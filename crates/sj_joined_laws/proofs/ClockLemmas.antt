@@ -78,7 +78,7 @@ module _ {P Q : Type 0} (play : Play P Q) (pick : ℕ → ℕ → ℕ) where
   delivery_within : (c : ℕ) (w v : WorldAt P Q) (p q : ℕ) (lane : List (FrameAt P)) → ClocksWithin c w → NoneAbove c lane →
       delivery_of play pick w p q lane ≡ Some v → ClocksWithin (c + 1) v
   delivery_within c w v p q [] within all e = absurd (cc e)
-  delivery_within c w v p q (f ∷ rest) within all e = frame_within c w v p q f rest (arrives play.parties pick (w.nodes p) q f) within all e
+  delivery_within c w v p q (f ∷ rest) within all e = frame_within c w v p q f rest (arrives play.blank play.parties pick (w.nodes p) q f) within all e
 
   -- a step raises them by one at most
   pub step_within : (c : ℕ) (w v : WorldAt P Q) (p : ℕ) (event : Event) → ClocksWithin c w → happens play pick w p event ≡ Some v → ClocksWithin (c + 1) v

@@ -2,9 +2,9 @@
 use Rattle.std.proofs.Common.{◌≡◌, ℕ, ◌+◌, List, [], ◌∷◌, length, refl, sym, ap, subst, ◌∙◌, arith}
 use Rattle.std.specs.Prelude.{◌&&◌, nat_lt, if◌then◌else◌, None}
 use Rattle.sj_rules.specs.Limits.{clock_end}
-use Rattle.sj_rules.specs.Record.{BodyAt, Carry, Fin, Claim, Signal, Ack, Give}
+use Rattle.sj_rules.specs.Record.{BodyAt, Carry, Fin, Claim, Signal, Ack, Give, Open}
 use Rattle.sj_rules.specs.Frames.{FrameAt, is_within, is_proper}
-use Rattle.sj_rules.specs.Node.{Play, NodeAt, comes, arrives}
+use Rattle.sj_rules.specs.Node.{Play, NodeAt, comes_or_opens, arrives}
 use Rattle.sj_rules.specs.World.{WorldAt, Turn, Run}
 use Rattle.sj_rules.specs.Within.{ClocksWithin}
 use Rattle.sj_rules.specs.NodeRun.{frame_told, told_body}
@@ -19,6 +19,7 @@ told_within n blank (Claim of) = refl
 told_within n blank (Signal to c party taken) = refl
 told_within n blank (Ack of c) = refl
 told_within n blank (Give e resend) = refl
+told_within n blank (Open sess) = refl
 
 -- so it keeps the limits where the frame does
 pub told_proper : {P : Type 0} → (n : ℕ) (blank : P) (f : FrameAt P) → is_proper n (frame_told blank f) ≡ is_proper n f
@@ -29,11 +30,11 @@ pub same_proper : {P : Type 0} → (n : ℕ) (blank : P) (f g : FrameAt P) → f
 same_proper n blank f g e = sym (told_proper n blank f) ∙ ap (is_proper n) e ∙ told_proper n blank g
 
 -- and do the same at a node, limits and all
-pub same_arrives : {P Q : Type 0} → (n : ℕ) (pick : ℕ → ℕ → ℕ) (blank : P) (m : NodeAt P Q) (origin : ℕ) (f g : FrameAt P) → frame_told blank f ≡ frame_told blank g →
-    arrives n pick m origin f ≡ arrives n pick m origin g
-same_arrives {P} n pick blank m origin f g e =
-    ap (λ b. if b then comes pick m origin f.body else None) (same_proper n blank f g e)
-    ∙ ap (λ o. if is_proper n g then o else None) (same_comes pick blank m origin f.body g.body (ap (λ (h : FrameAt P). h.body) e))
+pub same_arrives : {P Q : Type 0} → (fresh : P) (n : ℕ) (pick : ℕ → ℕ → ℕ) (blank : P) (m : NodeAt P Q) (origin : ℕ) (f g : FrameAt P) → frame_told blank f ≡ frame_told blank g →
+    arrives fresh n pick m origin f ≡ arrives fresh n pick m origin g
+same_arrives {P} fresh n pick blank m origin f g e =
+    ap (λ b. if b then comes_or_opens fresh pick m origin f.body else None) (same_proper n blank f g e)
+    ∙ ap (λ o. if is_proper n g then o else None) (same_comes fresh pick blank m origin f.body g.body (ap (λ (h : FrameAt P). h.body) e))
 
 -- in a run clocks rise by one at most with each event
 pub run_clocks : {P Q : Type 0} → (play : Play P Q) (turns : List Turn) (c : ℕ) (w v : WorldAt P Q) → ClocksWithin c w → Run play w turns v → ClocksWithin (c + length turns) v

@@ -60,7 +60,7 @@ module _ {P Q : Type 0} (play : Play P Q) (pick : ℕ → ℕ → ℕ) (blank : 
     pub rest : List (FrameAt P)
     pub front : v.lanes p q ≡ frame ∷ rest
     pub told_alike : frame_told blank frame ≡ frame_told blank f
-    pub same : arrives play.parties pick (v.nodes q) p frame ≡ arrives play.parties pick (last q) p f
+    pub same : arrives play.blank play.parties pick (v.nodes q) p frame ≡ arrives play.blank play.parties pick (last q) p f
 
   -- the frame that the lane tells first
   pub front_like : (p q : ℕ) (f : FrameAt P) (more : List (FrameAt P)) → left p q ≡ frame_told blank f ∷ more → FrontLike p q f
@@ -71,15 +71,15 @@ module _ {P Q : Type 0} (play : Play P Q) (pick : ℕ → ℕ → ℕ) (blank : 
         rest = g.1;
         front = g.2;
         told_alike = g.3;
-        same = same_arrives play.parties pick blank (v.nodes q) p g.0 f g.3 ∙ ap (λ (n : NodeAt P Q). arrives play.parties pick n p f) (holds.nodes q);
+        same = same_arrives play.blank play.parties pick blank (v.nodes q) p g.0 f g.3 ∙ ap (λ (n : NodeAt P Q). arrives play.blank play.parties pick n p f) (holds.nodes q);
       }
 
   -- where a worker's node refused the frame that it popped last, the front frame of that lane fits no row in the world
-  pub refused_frame : (p q : ℕ) (f : FrameAt P) (more : List (FrameAt P)) → left p q ≡ frame_told blank f ∷ more → arrives play.parties pick (last q) p f ≡ None →
+  pub refused_frame : (p q : ℕ) (f : FrameAt P) (more : List (FrameAt P)) → left p q ≡ frame_told blank f ∷ more → arrives play.blank play.parties pick (last q) p f ≡ None →
       happens play pick v q (Deliver p) ≡ None
   refused_frame p q f more is row =
       let g : FrontLike p q f = front_like p q f more is in
-      let none : arrives play.parties pick (v.nodes q) p g.frame ≡ None = g.same ∙ row in
+      let none : arrives play.blank play.parties pick (v.nodes q) p g.frame ≡ None = g.same ∙ row in
       rw (g.front, none)
 
   -- where its node refused the act, so does the world

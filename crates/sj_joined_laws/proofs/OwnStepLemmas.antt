@@ -26,7 +26,7 @@ module _ {P Q : Type 0} (play : Play P Q) (pick : ℕ → ℕ → ℕ) (blank : 
   deed_happens d lanes done clock by_itself row is = rw (row, is)
   deed_happens d lanes done clock (by_frame q f g rest front same) row is =
       let times : g.clock ≡ f.clock = ap (λ (h : FrameAt P). h.clock) same in
-      let done_here : arrives play.parties pick (w.nodes p) q g ≡ Some done = same_arrives play.parties pick blank (w.nodes p) q g f same ∙ row in
+      let done_here : arrives play.blank play.parties pick (w.nodes p) q g ≡ Some done = same_arrives play.blank play.parties pick blank (w.nodes p) q g f same ∙ row in
       rw (front, done_here, is, times)
 
   -- the rules do what the deed did
@@ -34,7 +34,7 @@ module _ {P Q : Type 0} (play : Play P Q) (pick : ℕ → ℕ → ℕ) (blank : 
       deed_done play pick p (w.nodes p) d ≡ Some done → event_done play pick w p (event_of d) ≡ Some done
   deed_is_done d lanes done by_itself row = row
   deed_is_done d lanes done (by_frame q f g rest front same) row =
-      rw front (same_arrives play.parties pick blank (w.nodes p) q g f same ∙ row)
+      rw front (same_arrives play.blank play.parties pick blank (w.nodes p) q g f same ∙ row)
 
   -- its note is that of the deed
   deed_noted : (d : Deed P) (lanes : ℕ → ℕ → List (FrameAt P)) → Fed blank p w.lanes d lanes →

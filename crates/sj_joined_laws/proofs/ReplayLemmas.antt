@@ -5,10 +5,11 @@ use Rattle.sj_base.specs.declared.EndId.{EndId}
 use Rattle.sj_base.specs.declared.Msg.{Msg}
 use Rattle.sj_rules.specs.Record.{MainAt, Held, Closed, Expected, HeldAt}
 use Rattle.sj_rules.specs.Rows.{Worked}
-use Rattle.sj_rules.specs.Node.{Play, NodeAt, Want, ended, local, sends, delegates, takes, closes, acts, act_by, take_act, take_from}
+use Rattle.sj_rules.specs.Node.{Play, NodeAt, Want, ended, local, sends, delegates, takes, closes, requests, accepts, acts, accept_offered, act_by, take_act, take_from}
 use Rattle.sj_rules.specs.Frames.{FrameAt}
 use Rattle.sj_rules.specs.World.{WorldAt, Event, Act, Deliver, Turn, happens, delivery_of}
-use Rattle.sj_rules.specs.Log.{NoteAt, LineAt, Took, Local, act_note, take_note, body_note, head_note}
+use Rattle.sj_rules.specs.Opened.{opened_number, smallest}
+use Rattle.sj_rules.specs.Log.{NoteAt, LineAt, Took, Local, Request, Accept, act_note, take_note, body_note, head_note}
 use Rattle.sj_rules.specs.History.{IsLog, due, line_after, turn_of, Replay, replay, with_line, event_note, front_note}
 use Rattle.sj_joined_laws.proofs.HistoryLemmas.{some_same, same_world}
 
@@ -27,6 +28,12 @@ module _ {P Q : Type 0} (play : Play P Q) (pick : ℕ → ℕ → ℕ) where
   take_noted n e place (Some (Closed c)) done row = absurd (cc row)
   take_noted n e place (Some (Expected keeper at ds)) done row = absurd (cc row)
 
+  -- what is accepted was offered
+  accept_noted : (n : NodeAt P Q) (place : P) (from : ℕ) (o : Option ℕ) (done : Worked P (NodeAt P Q)) →
+      accept_offered play n place from o ≡ Some done → (note : NoteAt) × (option_map (λ sess. Accept sess from) o ≡ Some note)
+  accept_noted n place from None done row = absurd (cc row)
+  accept_noted n place from (Some sess) done row = (Accept sess from, refl)
+
   -- an act has a note
   act_noted : (party : ℕ) (n : NodeAt P Q) (want : Want P) (done : Worked P (NodeAt P Q)) → act_by play party n want ≡ Some done → (note : NoteAt) × (act_note party n want ≡ Some note)
   act_noted party n ended done row = absurd (cc row)
@@ -35,6 +42,8 @@ module _ {P Q : Type 0} (play : Play P Q) (pick : ℕ → ℕ → ℕ) where
   act_noted party n (delegates carrier e) done row = (_, refl)
   act_noted party n (takes e place) done row = take_noted n e place (n.main e) done row
   act_noted party n (closes e) done row = (_, refl)
+  act_noted party n (requests place to) done row = (Request (opened_number party n.requests) to, refl)
+  act_noted party n (accepts place from) done row = accept_noted n place from (smallest (n.offers from)) done row
 
   -- so has the next step of a program
   acts_noted : (party : ℕ) (n : NodeAt P Q) (worn : Bool) (done : Worked P (NodeAt P Q)) → play.is_worn n.program ≡ worn → acts play party n ≡ Some done →

@@ -31,6 +31,7 @@ body_marked (marks.Claim of) = rules.Claim of
 body_marked (marks.Signal to conn party taken) = rules.Signal to conn party taken
 body_marked (marks.Ack of conn) = rules.Ack of conn
 body_marked (marks.Give end resend) = rules.Give (end_marked end) resend
+body_marked (marks.Open sess) = rules.Open sess
 
 -- a frame
 abbrev pub mark_at : Mark → FrameAt Place

@@ -51,6 +51,9 @@ pub(crate) enum BodyMark {
         end: EndMark,
         resend: Option<u32>,
     },
+    Open {
+        sess: u32,
+    },
 }
 
 /// The fields of a frame.
@@ -122,6 +125,7 @@ fn mark_body(body: &Body) -> Result<BodyMark, NoMemory>
                 resend: *resend,
             })
         }
+        Body::Open { sess } => Ok(BodyMark::Open { sess: *sess }),
     }
 }
 

@@ -25,11 +25,13 @@ fn fin(clock: u64, side: u8, number: u32) -> Frame {
     }
 }
 
-/// The clock of a frame, and the number of the message in it, or so many messages as it says.
+/// The clock of a frame, and the number of the message in it, or so many messages as it says, or the
+/// session that it opens.
 fn shown(frame: Frame) -> (u64, u32) {
     let number = match frame.body {
         Body::Carry { number, .. } => number,
         Body::Fin { number, .. } => number,
+        Body::Open { sess } => sess,
         _ => 99,
     };
     (frame.clock, number)
@@ -112,5 +114,21 @@ fn the_greeting_comes_with_the_carry_in_order(rt: HostRuntime) -> Result<(), Fai
         None,
         "nothing was carried to the first party"
     );
+    Ok(())
+}
+
+#[test]
+fn an_open_is_carried_with_its_session(rt: HostRuntime) -> Result<(), Fail> {
+    let mut links = MemLinks::new();
+    let mut lanes = links.make(rt.alloc(), 2)?;
+    let opening = Frame {
+        clock: 1,
+        body: Body::Open { sess: 64 },
+    };
+    push(&mut lanes, 0, 1, opening)?;
+    links.carry(&mut lanes)?;
+    let second = lanes.get_mut(1).ok_or("no party")?;
+    let lane = second.ins.get_mut(0).ok_or("no lane")?;
+    assert_eq!(rt; lane.pop()?.map(shown), Some((1, 64)));
     Ok(())
 }

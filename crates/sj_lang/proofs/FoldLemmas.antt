@@ -93,6 +93,14 @@ pub deed_of-Close : (x : ℕ) → deed_of (deeds.Close x) ≡ code.close x
 unfolding deed.roll-Deed denote.Hole.Carrier.roll
 deed_of-Close x = fold-roll-Deed DeedAt StmtAt (ℕ × Code) deed_level stmt_level arm_level (Deed-F.Close x)
 
+pub deed_of-Request : (x p b : ℕ) → deed_of (deeds.Request x p b) ≡ code.request x p b
+unfolding deed.roll-Deed denote.Hole.Carrier.roll
+deed_of-Request x p b = fold-roll-Deed DeedAt StmtAt (ℕ × Code) deed_level stmt_level arm_level (Deed-F.Request x p b)
+
+pub deed_of-Accept : (x p b : ℕ) → deed_of (deeds.Accept x p b) ≡ code.accept x p b
+unfolding deed.roll-Deed denote.Hole.Carrier.roll
+deed_of-Accept x p b = fold-roll-Deed DeedAt StmtAt (ℕ × Code) deed_level stmt_level arm_level (Deed-F.Accept x p b)
+
 pub stmt_of-fields : (s : Stmt) → stmt_of s ≡ at s.line (deed_of s.deed)
 stmt_of-fields s = fold_out-Stmt DeedAt StmtAt (ℕ × Code) deed_level stmt_level arm_level s
 

@@ -25,6 +25,9 @@ mutual
     if_else : Term → Code → Code → DeedAt
     let_be : ℕ → Term → DeedAt
     close : ℕ → DeedAt
+    -- an end, a protocol and a party, by their names
+    request : ℕ → ℕ → ℕ → DeedAt
+    accept : ℕ → ℕ → ℕ → DeedAt
 
   pub data Branches : Type 0 where
     no_branch : Branches

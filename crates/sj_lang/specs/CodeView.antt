@@ -5,7 +5,7 @@ use Rattle.sj_lang.specs.declared.party.Deed.TheOpen.{Deed-F, Stmt-F, StmtArm-F}
 use Rattle.sj_lang.specs.declared.party.Stmt.{Stmt, fold-Stmt}
 use Rattle.sj_lang.specs.declared.party.StmtArm.{StmtArm, fold-StmtArm}
 use Rattle.sj_lang.specs.Term.{Term, boolean, int, not, text, two, var}
-use Rattle.sj_lang.specs.Code.{Branches, Code, DeedAt, StmtAt, at, branch, close, delegate, if_else, inbranch, inwhile, let_be, no_branch, no_stmt, outbranch, outwhile, relay, send, stmt_then, take_end, take_value}
+use Rattle.sj_lang.specs.Code.{Branches, Code, DeedAt, StmtAt, accept, at, branch, close, delegate, if_else, inbranch, inwhile, let_be, no_branch, no_stmt, outbranch, outwhile, relay, request, send, stmt_then, take_end, take_value}
 use Rattle.sj_lang.specs.declared.party.Expr.{Expr, fold-Expr}
 use Rattle.sj_lang.specs.declared.party.Expr.TheOpen.{Expr-F}
 
@@ -46,6 +46,8 @@ deed_level (Deed-F.Relay x y body) = relay x y (in_order body.items)
 deed_level (Deed-F.If e first second) = if_else (term_of e) (in_order first.items) (in_order second.items)
 deed_level (Deed-F.Let n e) = let_be n (term_of e)
 deed_level (Deed-F.Close x) = close x
+deed_level (Deed-F.Request x p b) = request x p b
+deed_level (Deed-F.Accept x p b) = accept x p b
 
 abbrev pub stmt_level : Stmt-F DeedAt StmtAt (ℕ × Code) → StmtAt
 stmt_level s = at s.line s.deed

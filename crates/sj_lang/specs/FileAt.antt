@@ -1,5 +1,5 @@
 -- What contracts see of a file.
-use Rattle.std.specs.Prelude.{ℕ, ◌+◌, ◌==◌, List, [], ◌∷◌, ◌++◌, Option, Some, None, unwrap_or, if◌then◌else◌}
+use Rattle.std.specs.Prelude.{ℕ, ◌+◌, ◌==◌, map, List, [], ◌∷◌, ◌++◌, Option, Some, None, unwrap_or, if◌then◌else◌}
 use Rattle.sj_base.specs.declared.EndId.{EndId}
 use Rattle.sj_lang.specs.Place.{Place, done}
 use Rattle.sj_lang.specs.Code.{Code}
@@ -51,6 +51,15 @@ body_named ps n = unwrap_or (protocol_named ps n) done
 abbrev pub party_named : List PartyAt → ℕ → ℕ
 party_named [] n = 0
 party_named (p ∷ ps) n = if p.name == n then 0 else 1 + party_named ps n
+
+-- the names of the parties, in order
+abbrev pub party_names : List PartyAt → List ℕ
+party_names ps = map (λ p. p.name) ps
+
+-- the number at which the name stands first, or how many there are
+abbrev pub number_of_name : List ℕ → ℕ → ℕ
+number_of_name [] n = 0
+number_of_name (m ∷ ms) n = if m == n then 0 else 1 + number_of_name ms n
 
 -- the end by its name, where it belongs to the party
 abbrev pub end_of_party : FileAt → ℕ → DeclAt → EndId → List (ℕ × EndId)

@@ -6,9 +6,12 @@ pub mod FileAt
 pub mod FileView
 pub mod ItemCount
 pub mod Limits
+pub mod Meet
+pub mod MeetTests
 pub mod Place
 pub mod PlaceCode
 pub mod PlaceSize
+pub mod SamePlace
 pub mod Sizes
 pub mod Term
 pub mod View

@@ -118,5 +118,23 @@ fn copied_deed(alloc: Global, deed: &Deed) -> Result<Deed, NoMemory>
             Ok(Deed::Let { name: *name, value })
         }
         Deed::Close { end } => Ok(Deed::Close { end: *end }),
+        Deed::Request {
+            end,
+            protocol,
+            party,
+        } => Ok(Deed::Request {
+            end: *end,
+            protocol: *protocol,
+            party: *party,
+        }),
+        Deed::Accept {
+            end,
+            protocol,
+            party,
+        } => Ok(Deed::Accept {
+            end: *end,
+            protocol: *protocol,
+            party: *party,
+        }),
     }
 }

@@ -85,6 +85,43 @@ fn the_dual_turns_arms_and_loops_but_nothing_carried(rt: HostRuntime) -> Result<
     Ok(())
 }
 
+// A selection of these labels, each with nothing behind it.
+fn selection(alloc: Global, labels: &[u16]) -> Result<Proto, Fail> {
+    let mut arms = Vec::new(alloc);
+    for label in labels {
+        let label = *label;
+        let rest = Proto {
+            items: Vec::new(alloc),
+        };
+        arms.push(Arm { label, rest })?;
+    }
+    let mut items = Vec::new(alloc);
+    items.push(Item::Select(Arms { arms }))?;
+    Ok(Proto { items })
+}
+
+#[test]
+fn a_branching_may_offer_more_than_is_selected(rt: HostRuntime) -> Result<(), Fail> {
+    let alloc = rt.alloc();
+    let narrow = selection(alloc, &[3])?;
+    let wide = selection(alloc, &[4, 3])?;
+    let offered = dual(alloc, &wide)?;
+    assert!(rt; meets(&narrow, &offered), "one of two labels is selected");
+    assert!(rt; meets(&offered, &narrow), "in the other order");
+    assert!(rt;
+        !meets(&wide, &dual(alloc, &narrow)?),
+        "a label that isn't offered"
+    );
+    assert!(rt; !meets(&narrow, &wide), "two selections");
+    assert!(rt; stands_for(&wide, &narrow), "more to choose from");
+    assert!(rt; !stands_for(&narrow, &wide), "less to choose from");
+    let start = sample(alloc)?;
+    assert!(rt; stands_for(&start, &start));
+    assert!(rt; meets(&start, &dual(alloc, &start)?));
+    assert!(rt; !meets(&start, &narrow));
+    Ok(())
+}
+
 #[test]
 fn a_copied_block_has_both_branches(rt: HostRuntime) -> Result<(), Fail> {
     let alloc = rt.alloc();

@@ -4,7 +4,7 @@ use Rattle.sj_lang.specs.CodeView.{term_of}
 use Rattle.sj_lang.specs.Code.{Code, no_stmt, stmt_then, at, inbranch, outwhile, inwhile, relay, if_else, branch}
 use Rattle.sj_machine.specs.declared.arena.ArmAt.{ArmAt}
 use Rattle.sj_machine.specs.declared.arena.Op.{Op}
-use Rattle.sj_machine.specs.declared.arena.Op.TheVariants.{Send, Delegate, Take, TakeEnd, Select, Branch, OutWhile, InWhile, Relay, If, Let, Close}
+use Rattle.sj_machine.specs.declared.arena.Op.TheVariants.{Send, Delegate, Take, TakeEnd, Select, Branch, OutWhile, InWhile, Relay, If, Let, Close, Request, Accept}
 use Rattle.sj_machine.specs.declared.arena.Node.{Node}
 use Rattle.sj_machine.specs.Arena.{code_in, arms_in, deed_in, node_code, codes_from, codes_of, IsBelow, AreBelow, IsOpBelow, IsBackward}
 
@@ -31,6 +31,8 @@ op_below_more a b (Relay x y body) l h = below_more a b body l h
 op_below_more a b (If e first second) l h = (below_more a b first l h.0, below_more a b second l h.1)
 op_below_more a b (Let n e) l h = tt
 op_below_more a b (Close x) l h = tt
+op_below_more a b (Request x p q) l h = tt
+op_below_more a b (Accept x p q) l h = tt
 
 -- ---- blocks that are kept where nodes are put behind
 
@@ -70,6 +72,8 @@ deed_kept codes ns (Relay x y body) h = ap (relay x y) (code_kept codes ns body 
 deed_kept codes ns (If e first second) h = λ i. if_else (term_of e) (code_kept codes ns first h.0 i) (code_kept codes ns second h.1 i)
 deed_kept codes ns (Let n e) h = refl
 deed_kept codes ns (Close x) h = refl
+deed_kept codes ns (Request x p b) h = refl
+deed_kept codes ns (Accept x p b) h = refl
 
 node_kept : (codes : List Code) (ns : List Node) (n : Node) → IsBelow (length codes) n.next → IsOpBelow (length codes) n.op → node_code (codes_from codes ns) n ≡ node_code codes n
 node_kept codes ns n a b = λ i. stmt_then (at n.line (deed_kept codes ns n.op b i)) (code_kept codes ns n.next a i)

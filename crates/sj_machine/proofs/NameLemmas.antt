@@ -4,7 +4,7 @@ use Rattle.std.proofs.lemmas.Bool.{cases_Bool, eqb-true, eqb-false, ne_eqb}
 use Rattle.sj_base.specs.declared.EndId.{EndId}
 use Rattle.sj_semantics.specs.Program.{ends_without, ends_with}
 use Rattle.sj_machine.specs.declared.arena.Op.{Op}
-use Rattle.sj_machine.specs.declared.arena.Op.TheVariants.{Send, Delegate, Take, TakeEnd, Select, Branch, OutWhile, InWhile, Relay, If, Let, Close}
+use Rattle.sj_machine.specs.declared.arena.Op.TheVariants.{Send, Delegate, Take, TakeEnd, Select, Branch, OutWhile, InWhile, Relay, If, Let, Close, Request, Accept}
 use Rattle.sj_machine.specs.Names.{BindsBelow, Lacks, NamesDiffer, AreBelowName, AreNamedOnce}
 
 without_hit : (e : ℕ × EndId) (es : List (ℕ × EndId)) (n : ℕ) → e.0 == n ≡ true → ends_without (e ∷ es) n ≡ ends_without es n
@@ -99,6 +99,8 @@ binds_more a b (Relay x y body) l h = tt
 binds_more a b (If e first second) l h = tt
 binds_more a b (Let n e) l h = omega arith
 binds_more a b (Close x) l h = tt
+binds_more a b (Request x p q) l h = omega arith
+binds_more a b (Accept x p q) l h = omega arith
 
 pub once_from : (size : ℕ) (es : List (ℕ × EndId)) → NamesDiffer es → AreBelowName size es → AreNamedOnce size es
 once_from size [] h b = tt

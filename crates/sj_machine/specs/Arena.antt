@@ -1,10 +1,10 @@
 -- What the nodes of an arena stand for.
 use Rattle.std.specs.Prelude.{◌≡◌, ℕ, suc, ◌<◌, List, [], ◌∷◌, ◌++◌, Option, Some, None, get_or, ⊤}
 use Rattle.sj_lang.specs.CodeView.{term_of}
-use Rattle.sj_lang.specs.Code.{Code, DeedAt, Branches, no_stmt, stmt_then, at, send, delegate, take_value, take_end, outbranch, inbranch, outwhile, inwhile, relay, if_else, let_be, close, no_branch, branch}
+use Rattle.sj_lang.specs.Code.{Code, DeedAt, Branches, no_stmt, stmt_then, at, send, delegate, take_value, take_end, outbranch, inbranch, outwhile, inwhile, relay, if_else, let_be, close, request, accept, no_branch, branch}
 use Rattle.sj_machine.specs.declared.arena.ArmAt.{ArmAt}
 use Rattle.sj_machine.specs.declared.arena.Op.{Op}
-use Rattle.sj_machine.specs.declared.arena.Op.TheVariants.{Send, Delegate, Take, TakeEnd, Select, Branch, OutWhile, InWhile, Relay, If, Let, Close}
+use Rattle.sj_machine.specs.declared.arena.Op.TheVariants.{Send, Delegate, Take, TakeEnd, Select, Branch, OutWhile, InWhile, Relay, If, Let, Close, Request, Accept}
 use Rattle.sj_machine.specs.declared.arena.Node.{Node}
 
 -- the block that begins with that node, where these are the blocks that begin with each node
@@ -31,6 +31,8 @@ deed_in codes (Relay x y body) = relay x y (code_in codes body)
 deed_in codes (If e first second) = if_else (term_of e) (code_in codes first) (code_in codes second)
 deed_in codes (Let n e) = let_be n (term_of e)
 deed_in codes (Close x) = close x
+deed_in codes (Request x p b) = request x p b
+deed_in codes (Accept x p b) = accept x p b
 
 -- a node's statement, and the block behind it
 abbrev pub node_code : List Code → Node → Code

@@ -2,7 +2,7 @@
 use Rattle.std.specs.Prelude.{◌≡◌, ◌≢◌, ℕ, ◌<◌, List, [], ◌∷◌, length, get_or, ⊤}
 use Rattle.sj_base.specs.declared.EndId.{EndId}
 use Rattle.sj_machine.specs.declared.arena.Op.{Op}
-use Rattle.sj_machine.specs.declared.arena.Op.TheVariants.{Take, TakeEnd, Let}
+use Rattle.sj_machine.specs.declared.arena.Op.TheVariants.{Take, TakeEnd, Let, Request, Accept}
 use Rattle.sj_machine.specs.declared.arena.Node.{Node}
 
 -- the name that the operation binds is below that number
@@ -10,6 +10,8 @@ abbrev pub BindsBelow : ℕ → Op → Type 0
 BindsBelow size (Take x n k) = n < size
 BindsBelow size (TakeEnd x n p) = n < size
 BindsBelow size (Let n e) = n < size
+BindsBelow size (Request x p b) = x < size
+BindsBelow size (Accept x p b) = x < size
 BindsBelow size _ = ⊤
 
 -- and so it is in each node

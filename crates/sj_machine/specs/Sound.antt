@@ -13,23 +13,24 @@ use Rattle.sj_machine.specs.Frames.{Fits, todo_in}
 use Rattle.sj_machine.specs.Names.{AllBindBelow, AreNamedOnce}
 use Rattle.sj_machine.specs.Table.{vars_in}
 
--- nodes name only nodes before them, there is room for each step's frames, and for each name that is bound
-pub record IsSound (nodes : List Node) (frames : List Frame) (room names : ℕ) (ends : List (ℕ × EndId)) (ends_room : ℕ) : Type 0 where
+-- nodes name only nodes before them, there is room for each step's frames and for each name that is bound, and parties have numbers of 16 bits
+pub record IsSound (nodes : List Node) (frames : List Frame) (room names : ℕ) (ends : List (ℕ × EndId)) (ends_room : ℕ) (peers : List ℕ) : Type 0 where
   pub back : IsBackward 0 nodes
   pub fits : Fits (length nodes) 0 frames
   pub frames_room : length nodes < room
   pub named : AllBindBelow names nodes
   pub once : AreNamedOnce names ends
   pub names_room : names ≤ ends_room
+  pub few : length peers < 2 ^ 16
 
 -- steps are counted in 32 bits
 abbrev pub last_step : ℕ
 last_step = 2 ^ 32 - 1
 
--- the party that nodes, frames and their room, variables, ends and steps stand for
-abbrev pub program_at : List Node × (List Frame × ℕ) × List (Option Value) × List (ℕ × EndId) × ℕ → Program
-program_at m = record { todo = todo_in m.0 m.1.0; vars = vars_in m.2; ends = m.3; steps = m.4 }
+-- the party that nodes, frames and their room, variables, ends, steps and the names of parties stand for
+abbrev pub program_at : List Node × (List Frame × ℕ) × List (Option Value) × List (ℕ × EndId) × ℕ × List ℕ → Program
+program_at m = record { todo = todo_in m.0 m.1.0; vars = vars_in m.2; ends = m.3; steps = m.4; peers = m.5 }
 
--- a party with these statements to do, these ends, and no variable
-abbrev pub first_program : List Stmt → List (ℕ × EndId) → Program
-first_program body ends = record { todo = block (code_of body) []; vars = no_vars; ends = ends; steps = 0 }
+-- a party with these statements to do and these ends among parties of these names, and no variable
+abbrev pub first_program : List Stmt → List (ℕ × EndId) → List ℕ → Program
+first_program body ends peers = record { todo = block (code_of body) []; vars = no_vars; ends = ends; steps = 0; peers = peers }

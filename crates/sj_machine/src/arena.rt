@@ -57,6 +57,16 @@ pub enum Op {
     Close {
         end: u16,
     },
+    Request {
+        end: u16,
+        protocol: u16,
+        party: u16,
+    },
+    Accept {
+        end: u16,
+        protocol: u16,
+        party: u16,
+    },
 }
 
 /// An arm of an `inbranch`.

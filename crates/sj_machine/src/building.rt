@@ -124,6 +124,24 @@ fn add_op(alloc: Global, nodes: &mut Vec<Node>, deed: &Deed) -> Result<Op, NoMem
             Ok(Op::Let { name: *name, value })
         }
         Deed::Close { end } => Ok(Op::Close { end: *end }),
+        Deed::Request {
+            end,
+            protocol,
+            party,
+        } => Ok(Op::Request {
+            end: *end,
+            protocol: *protocol,
+            party: *party,
+        }),
+        Deed::Accept {
+            end,
+            protocol,
+            party,
+        } => Ok(Op::Accept {
+            end: *end,
+            protocol: *protocol,
+            party: *party,
+        }),
     }
 }
 

@@ -4,6 +4,7 @@ ghost use Rattle.sj_lang.specs.Code.{Code};
 ghost use Rattle.sj_machine.specs.Arena.{deed_in};
 ghost use Rattle.sj_machine.specs.Frames.{thing_at};
 ghost use Rattle.sj_machine.specs.Names.{AreNamedOnce, BindsBelow};
+ghost use Rattle.sj_machine.specs.Opens.{ends_after_opened};
 ghost use Rattle.sj_machine.specs.Table.{vars_in};
 ghost use Rattle.sj_machine.specs.declared.stack.Stage.{Stage};
 ghost use Rattle.sj_semantics.specs.Program.{Thing};
@@ -89,5 +90,23 @@ pub fn ends_closed(ends: &mut Vec<(u16, EndId)>, op: &Op)
 {
     if let Op::Close { end } = op {
         unbind(ends, *end);
+    }
+}
+
+/// An end of a session that was opened or accepted is bound.
+pub fn ends_opened(ends: &mut Vec<(u16, EndId)>, op: &Op, end: EndId)
+    requires once { AreNamedOnce (vec_capacity ends.old) ends.old.items }
+    requires below { BindsBelow (vec_capacity ends.old) op.now }
+    ensures ends { (codes : List Code) (stage : Stage) (rest : List Thing) →
+        ends.new.items
+        ≡ ends_after_opened ends.old.items (thing_at stage (deed_in codes op.now) ∷ rest) end }
+    ensures once { (size : ℕ) → AreNamedOnce size ends.old.items → BindsBelow size op.now →
+        AreNamedOnce size ends.new.items }
+    ensures room { vec_capacity ends.old ≤ vec_capacity ends.new }
+{
+    match op {
+        Op::Request { end: name, .. } => bind(ends, *name, end),
+        Op::Accept { end: name, .. } => bind(ends, *name, end),
+        _ => {}
     }
 }

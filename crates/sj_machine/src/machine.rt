@@ -1,21 +1,22 @@
 //! A party as it runs.
-ghost use Rattle.std.specs.Prelude.{◌≡◌, ◌<◌, IfOk, Some, length, slice_get, true, unwrap_or};
+ghost use Rattle.std.specs.Prelude.{◌≡◌, ◌<◌, ◌^◌, IfOk, Some, length, slice_get, true, unwrap_or};
 ghost use Rattle.sj_acceptance.specs.Accepted.{IsAccepted};
 ghost use Rattle.sj_lang.specs.FileView.{file_of};
 ghost use Rattle.sj_machine.specs.Names.{NamesDiffer};
+ghost use Rattle.sj_machine.specs.Opens.{is_opening};
 ghost use Rattle.sj_machine.specs.Sound.{first_program, program_at, last_step};
 ghost use Rattle.sj_semantics.specs.World.{start_of};
 ghost use Rattle.sj_semantics.specs.declared.Awaits.{Awaits};
 ghost use Rattle.sj_semantics.specs.declared.Want.TheVariants.{Ended, Take};
-ghost use Rattle.sj_semantics.specs.Steps.{closed_of, local_of, sent_of, took_of};
+ghost use Rattle.sj_semantics.specs.Steps.{closed_of, local_of, opened_of, sent_of, took_of};
 ghost use Rattle.sj_semantics.specs.Wants.{want_of};
 ghost use Rattle.sj_semantics.specs.Fitting.{fits};
 
 use crate::arena::Node;
 use crate::building::add_block;
 use crate::stack::Stack;
-use crate::starting::{connected_ends, names_above, unknown, with_room};
-use crate::steps::{closed, local, sent, took};
+use crate::starting::{connected_ends, names_above, names_of, unknown, with_room};
+use crate::steps::{closed, local, opened, sent, took};
 use crate::wanting::{fits_at, want_at};
 use sj_base::{EndId, Msg, NoMemory};
 use sj_lang::{File, Stmt};
@@ -31,6 +32,7 @@ pub struct Machine {
     vars: Vec<Option<Value>>,
     ends: Vec<(u16, EndId)>,
     steps: u32,
+    peers: Vec<u16>,
 }
 
 impl Model for Machine {
@@ -43,14 +45,15 @@ impl Model for Machine {
     ghost use Rattle.sj_lang.specs.contracts.party.Expr as e;
     ghost use Rattle.std.specs.Coded.{codes};
 
-    ghost Value = { List Node × (List Frame × ℕ) × List (Option Known) × List (ℕ × EndId) × ℕ };
+    ghost Value = { List Node × (List Frame × ℕ) × List (Option Known) × List (ℕ × EndId) × ℕ
+        × List ℕ };
 
     ghost coded = { Prim.hlevel (codes, e.the_row.coded) };
 
-    ghost view = { λ m. (m.nodes.items, m.stack, m.vars.items, m.ends.items, m.steps) };
+    ghost view = { λ m. (m.nodes.items, m.stack, m.vars.items, m.ends.items, m.steps, m.peers.items) };
 
     ghost invariant = { λ m. IsSound m.nodes.items m.stack.0 m.stack.1
-        (length m.vars.items) m.ends.items (vec_capacity m.ends) };
+        (length m.vars.items) m.ends.items (vec_capacity m.ends) m.peers.items };
 }
 
 impl Machine {
@@ -64,18 +67,23 @@ impl Machine {
             slice_get (start_of (file_of file.now)).parties party ≡ Some (program_at m)) }
     {
         let connected = connected_ends(alloc, file, party)?;
-        let machine = Machine::over(alloc, &file.parties[party as usize].body, &connected)?;
+        let peers = names_of(alloc, &file.parties)?;
+        let machine = Machine::over(alloc, &file.parties[party as usize].body, &connected, peers)?;
         Ok(machine)
     }
 
-    /// A party with these statements to do, these ends, and no variable.
+    /// A party with these statements to do and these ends among parties of these names, and no
+    /// variable.
     pub(crate) fn over(
         alloc: Global,
         body: &[Stmt],
         connected: &[(u16, EndId)],
+        peers: Vec<u16>,
     ) -> Result<Machine, NoMemory>
-        requires { NamesDiffer connected.now }
-        ensures { IfOk result (λ m. program_at m ≡ first_program body.now connected.now) }
+        requires differ { NamesDiffer connected.now }
+        requires few { length peers.items < 2 ^ 16 }
+        ensures { IfOk result (λ m.
+            program_at m ≡ first_program body.now connected.now peers.items) }
     {
         let mut nodes = Vec::new(alloc);
         let first = add_block(alloc, &mut nodes, body)?;
@@ -90,6 +98,7 @@ impl Machine {
             vars,
             ends,
             steps: 0,
+            peers,
         })
     }
 
@@ -99,6 +108,7 @@ impl Machine {
     {
         match self.stack.top() {
             Some(frame) => want_at(
+                &self.peers,
                 &self.vars,
                 &self.ends,
                 frame.stage,
@@ -162,6 +172,17 @@ impl Machine {
         ensures { program_at self.new ≡ closed_of (program_at self.old) }
     {
         closed(&self.nodes, &mut self.stack, &mut self.ends);
+        self.steps += 1;
+    }
+
+    /// Does the next step, one that opens a session or accepts one, and binds that end.
+    pub fn opened(&mut self, end: EndId)
+        requires steps { (program_at self.old).steps < last_step }
+        requires opens { is_opening (unwrap_or (want_of (program_at self.old)) Ended) ≡ true }
+        ensures { program_at self.new ≡ opened_of (program_at self.old) end }
+    {
+        let names = self.vars.len();
+        opened(&self.nodes, &mut self.stack, names, &mut self.ends, end);
         self.steps += 1;
     }
 

@@ -1,7 +1,7 @@
 //! What a party has at the start: its connected ends, and how many names it may bind.
 ghost use Rattle.std.specs.Prelude.{◌≡◌, ◌<◌, ◌≤◌, ◌^◌, ◌++◌, IfOk, OnOk, length, map, vec_capacity};
 ghost use Rattle.sj_base.specs.declared.EndId.{EndId};
-ghost use Rattle.sj_lang.specs.FileAt.{FileAt, end_of_party, ends_from, party_named};
+ghost use Rattle.sj_lang.specs.FileAt.{FileAt, end_of_party, ends_from, party_named, party_names};
 ghost use Rattle.sj_lang.specs.FileView.{decl_of, file_of, party_of};
 ghost use Rattle.sj_machine.specs.Names.{AllBindBelow, AreBelowName, BindsBelow};
 ghost use Rattle.sj_machine.specs.Table.{vars_in};
@@ -25,6 +25,17 @@ pub fn party_of_name(parties: &[Party], name: u16) -> usize
         at += 1;
     }
     at
+}
+
+/// The names of parties, in order.
+pub fn names_of(alloc: Global, parties: &[Party]) -> Result<Vec<u16>, NoMemory>
+    ensures { IfOk result (λ names. names.items ≡ party_names (map party_of parties.now)) }
+{
+    let mut names = Vec::new(alloc);
+    for party in parties {
+        names.push(party.name)?;
+    }
+    Ok(names)
 }
 
 /// Puts an end behind the others where it belongs to the party.
@@ -82,6 +93,8 @@ fn above_bound(op: &Op) -> usize
         Op::Take { into, .. } => *into as usize + 1,
         Op::TakeEnd { into, .. } => *into as usize + 1,
         Op::Let { name, .. } => *name as usize + 1,
+        Op::Request { end, .. } => *end as usize + 1,
+        Op::Accept { end, .. } => *end as usize + 1,
         _ => 0,
     }
 }

@@ -3,11 +3,12 @@ ghost use Rattle.std.specs.Prelude.{◌≡◌, ◌<◌, ◌≤◌, ℕ, length, 
 ghost use Rattle.sj_machine.specs.Arena.{IsBackward};
 ghost use Rattle.sj_machine.specs.Frames.{Fits, todo_in};
 ghost use Rattle.sj_machine.specs.Names.{AllBindBelow, AreNamedOnce};
+ghost use Rattle.sj_machine.specs.Opens.{ends_after_opened};
 ghost use Rattle.sj_machine.specs.Table.{vars_in};
 ghost use Rattle.sj_semantics.specs.Steps.{ends_after_closed, ends_after_sent, ends_after_took, rest_of, todo_after_local, todo_after_sent, todo_after_took, vars_after_local, vars_after_took};
 
 use crate::arena::Node;
-use crate::knowing::{ends_closed, ends_sent, ends_took, vars_local, vars_took};
+use crate::knowing::{ends_closed, ends_opened, ends_sent, ends_took, vars_local, vars_took};
 use crate::leads::{after_local, after_sent, after_took};
 use crate::stack::{After, Stack};
 use sj_base::{EndId, Msg};
@@ -115,5 +116,35 @@ pub fn closed(nodes: &Vec<Node>, stack: &mut Stack, ends: &mut Vec<(u16, EndId)>
         let node = &nodes[frame.at];
         stack.leave(frame, node.next, After::Past(None));
         ends_closed(ends, &node.op);
+    }
+}
+
+/// A step that opens or accepts a session.
+pub fn opened(
+    nodes: &Vec<Node>,
+    stack: &mut Stack,
+    names: usize,
+    ends: &mut Vec<(u16, EndId)>,
+    end: EndId,
+)
+    requires back { IsBackward 0 nodes.now.items }
+    requires fits { Fits (length nodes.now.items) 0 stack.old.0 }
+    requires room { length nodes.now.items < stack.old.1 }
+    requires named { AllBindBelow names nodes.now.items }
+    requires once { AreNamedOnce names ends.old.items }
+    requires ends_room { names ≤ vec_capacity ends.old }
+    ensures todo { todo_in nodes.now.items stack.new.0
+        ≡ rest_of (todo_in nodes.now.items stack.old.0) }
+    ensures ends { ends.new.items
+        ≡ ends_after_opened ends.old.items (todo_in nodes.now.items stack.old.0) end }
+    ensures fits { Fits (length nodes.now.items) 0 stack.new.0 }
+    ensures room { stack.old.1 ≤ stack.new.1 }
+    ensures once { AreNamedOnce names ends.new.items }
+    ensures ends_room { vec_capacity ends.old ≤ vec_capacity ends.new }
+{
+    if let Some(frame) = stack.pop() {
+        let node = &nodes[frame.at];
+        stack.leave(frame, node.next, After::Past(None));
+        ends_opened(ends, &node.op, end);
     }
 }

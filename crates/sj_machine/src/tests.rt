@@ -32,6 +32,14 @@ const THIRD: EndId = EndId { sess: 1, side: 0 };
 
 const FOURTH: EndId = EndId { sess: 1, side: 1 };
 
+const BUYER: u16 = 9;
+
+const SELLER: u16 = 10;
+
+const OPENED: EndId = EndId { sess: 64, side: 0 };
+
+const ACCEPTED: EndId = EndId { sess: 64, side: 1 };
+
 fn stmt(deed: Deed) -> Stmt {
     Stmt { line: 1, deed }
 }
@@ -64,8 +72,8 @@ fn takes(end: EndId, awaits: Awaits) -> Want {
     Want::Take { end, awaits }
 }
 
-/// The wants of a party that is given these messages, one for each step, up to its end or to a
-/// message that isn't there or doesn't fit.
+/// The wants of a party that is given these messages, one for each step, and one session, up to its
+/// end or to a message that isn't there or doesn't fit.
 fn wants_of(alloc: Global, party: &mut Machine, msgs: &[Msg]) -> Result<Vec<Want>, Fail> {
     let mut wants = Vec::new(alloc);
     let mut next = 0;
@@ -80,6 +88,8 @@ fn wants_of(alloc: Global, party: &mut Machine, msgs: &[Msg]) -> Result<Vec<Want
             Want::Send { .. } => party.sent(),
             Want::Delegate { .. } => party.sent(),
             Want::Close { .. } => party.closed(),
+            Want::Request { .. } => party.opened(OPENED),
+            Want::Accept { .. } => party.opened(ACCEPTED),
             Want::Ended => break,
             Want::Take { .. } => {
                 if next < msgs.len() && party.fits(&msgs[next]) {
@@ -123,7 +133,7 @@ fn customer(alloc: Global) -> Result<Vec<Stmt>, Fail> {
 fn the_customer_accepts_the_second_offer(rt: HostRuntime) -> Result<(), Fail> {
     let alloc = rt.alloc();
     let body = customer(alloc)?;
-    let mut party = Machine::over(alloc, &body, &[(X, FIRST)])?;
+    let mut party = Machine::over(alloc, &body, &[(X, FIRST)], Vec::new(alloc))?;
     let msgs = [Msg::Int(400), Msg::Int(300), Msg::Text(2)];
     let wants = wants_of(alloc, &mut party, &msgs)?;
     let offer = takes(FIRST, Awaits::Value(Scalar::Int));
@@ -190,7 +200,7 @@ fn agency(alloc: Global) -> Result<Vec<Stmt>, Fail> {
 fn the_agency_delegates_to_the_supplier(rt: HostRuntime) -> Result<(), Fail> {
     let alloc = rt.alloc();
     let body = agency(alloc)?;
-    let mut party = Machine::over(alloc, &body, &[(Y, SECOND), (Z, THIRD)])?;
+    let mut party = Machine::over(alloc, &body, &[(Y, SECOND), (Z, THIRD)], Vec::new(alloc))?;
     let more = Msg::More(true);
     let msgs = [
         more,
@@ -259,7 +269,7 @@ fn supplier(alloc: Global) -> Result<Vec<Stmt>, Fail> {
 fn the_supplier_answers_over_the_end_that_it_took(rt: HostRuntime) -> Result<(), Fail> {
     let alloc = rt.alloc();
     let body = supplier(alloc)?;
-    let mut party = Machine::over(alloc, &body, &[(X, FOURTH)])?;
+    let mut party = Machine::over(alloc, &body, &[(X, FOURTH)], Vec::new(alloc))?;
     let handed = Msg::Sess {
         sess: 0,
         side: 1,
@@ -285,7 +295,7 @@ fn the_supplier_answers_over_the_end_that_it_took(rt: HostRuntime) -> Result<(),
 fn the_supplier_closes_where_the_offer_is_refused(rt: HostRuntime) -> Result<(), Fail> {
     let alloc = rt.alloc();
     let body = supplier(alloc)?;
-    let mut party = Machine::over(alloc, &body, &[(X, FOURTH)])?;
+    let mut party = Machine::over(alloc, &body, &[(X, FOURTH)], Vec::new(alloc))?;
     let wants = wants_of(alloc, &mut party, &[Msg::Label(REJECT)])?;
     let shown = [
         takes(FOURTH, Awaits::OneOf),
@@ -308,7 +318,7 @@ fn a_loop_turns_as_often_as_its_count_says_up_to_a_thousand(rt: HostRuntime) -> 
             }),
             close(X),
         ]?;
-        let mut party = Machine::over(alloc, &body, &[(X, FIRST)])?;
+        let mut party = Machine::over(alloc, &body, &[(X, FIRST)], Vec::new(alloc))?;
         let wants = wants_of(alloc, &mut party, &[])?;
         let mores = wants
             .iter()
@@ -338,7 +348,7 @@ fn a_relay_passes_on_what_it_took(rt: HostRuntime) -> Result<(), Fail> {
         close(X),
         close(Y),
     ]?;
-    let mut party = Machine::over(alloc, &body, &[(X, FIRST), (Y, THIRD)])?;
+    let mut party = Machine::over(alloc, &body, &[(X, FIRST), (Y, THIRD)], Vec::new(alloc))?;
     let msgs = [Msg::More(true), Msg::Bool(true), Msg::More(false)];
     let wants = wants_of(alloc, &mut party, &msgs)?;
     let turn = takes(FIRST, Awaits::MoreOrStop);
@@ -361,7 +371,7 @@ fn a_relay_passes_on_what_it_took(rt: HostRuntime) -> Result<(), Fail> {
 fn a_message_of_another_kind_does_not_fit(rt: HostRuntime) -> Result<(), Fail> {
     let alloc = rt.alloc();
     let body = vec![in alloc; take(X, PLACE, Scalar::Int), close(X)]?;
-    let mut party = Machine::over(alloc, &body, &[(X, FIRST)])?;
+    let mut party = Machine::over(alloc, &body, &[(X, FIRST)], Vec::new(alloc))?;
     assert!(rt; party.fits(&Msg::Int(1)));
     assert!(rt; !party.fits(&Msg::Bool(true)));
     assert!(rt; !party.fits(&Msg::Label(ACCEPT)));
@@ -378,7 +388,7 @@ fn a_message_of_another_kind_does_not_fit(rt: HostRuntime) -> Result<(), Fail> {
 fn a_party_that_names_what_is_not_there_has_ended(rt: HostRuntime) -> Result<(), Fail> {
     let alloc = rt.alloc();
     let body = vec![in alloc; send(X, Expr::Var(LAST))]?;
-    let party = Machine::over(alloc, &body, &[(X, FIRST)])?;
+    let party = Machine::over(alloc, &body, &[(X, FIRST)], Vec::new(alloc))?;
     assert_eq!(rt; party.wants(), Want::Ended);
     Ok(())
 }
@@ -387,11 +397,69 @@ fn a_party_that_names_what_is_not_there_has_ended(rt: HostRuntime) -> Result<(),
 fn nothing_fits_where_the_end_is_not_there(rt: HostRuntime) -> Result<(), Fail> {
     let alloc = rt.alloc();
     let body = vec![in alloc; take(Y, PLACE, Scalar::Int)]?;
-    let party = Machine::over(alloc, &body, &[(X, FIRST)])?;
+    let party = Machine::over(alloc, &body, &[(X, FIRST)], Vec::new(alloc))?;
     assert_eq!(rt; party.wants(), Want::Ended);
     assert!(rt;
         !party.fits(&Msg::Int(1)),
         "the party has no end of that name"
     );
+    Ok(())
+}
+
+#[test]
+fn an_opened_session_is_bound_at_the_name_in_its_request(rt: HostRuntime) -> Result<(), Fail> {
+    let alloc = rt.alloc();
+    let body = vec![in alloc;
+        stmt(Deed::Request {
+            end: X,
+            protocol: REST,
+            party: SELLER
+        }),
+        send(X, Expr::Int(5)),
+        close(X),
+    ]?;
+    let peers = vec![in alloc; BUYER, SELLER]?;
+    let mut party = Machine::over(alloc, &body, &[], peers)?;
+    let wants = wants_of(alloc, &mut party, &[])?;
+    let shown = [
+        Want::Request {
+            protocol: REST,
+            to: 1,
+        },
+        sends(OPENED, Msg::Int(5)),
+        Want::Close { end: OPENED },
+        Want::Ended,
+    ];
+    assert_eq!(rt; wants.as_slice(), shown.as_slice());
+    assert_eq!(rt; party.steps(), 3);
+    Ok(())
+}
+
+#[test]
+fn an_accepted_session_is_bound_at_the_name_in_its_accept(rt: HostRuntime) -> Result<(), Fail> {
+    let alloc = rt.alloc();
+    let body = vec![in alloc;
+        stmt(Deed::Accept {
+            end: Y,
+            protocol: REST,
+            party: BUYER
+        }),
+        take(Y, PLACE, Scalar::Int),
+        close(Y),
+    ]?;
+    let peers = vec![in alloc; BUYER, SELLER]?;
+    let mut party = Machine::over(alloc, &body, &[], peers)?;
+    assert!(rt; !party.fits(&Msg::Int(5)), "an accept takes no message");
+    let wants = wants_of(alloc, &mut party, &[Msg::Int(5)])?;
+    let shown = [
+        Want::Accept {
+            protocol: REST,
+            from: 0,
+        },
+        takes(ACCEPTED, Awaits::Value(Scalar::Int)),
+        Want::Close { end: ACCEPTED },
+        Want::Ended,
+    ];
+    assert_eq!(rt; wants.as_slice(), shown.as_slice());
     Ok(())
 }

@@ -1,7 +1,8 @@
 //! What a statement does next, and which messages it can take.
-ghost use Rattle.std.specs.Prelude.{◌≡◌, ◌<◌, List, ◌∷◌, Some, None, option_map, unwrap_or};
+ghost use Rattle.std.specs.Prelude.{◌≡◌, ◌<◌, ◌^◌, List, ◌∷◌, Some, None, length, option_map, unwrap_or};
 ghost use Rattle.sj_lang.specs.Code.{Code};
 ghost use Rattle.sj_lang.specs.CodeView.{term_of};
+ghost use Rattle.sj_lang.specs.FileAt.{number_of_name};
 ghost use Rattle.sj_machine.specs.Arena.{deed_in, arms_in};
 ghost use Rattle.sj_machine.specs.Frames.{more_at, thing_at};
 ghost use Rattle.sj_machine.specs.Table.{vars_in};
@@ -20,9 +21,16 @@ use sj_lang::{Expr, Scalar};
 use sj_semantics::{Awaits, Value, Want};
 
 /// What a statement does next. One that names what isn't there does nothing more.
-pub fn want_at(vars: &[Option<Value>], ends: &[(u16, EndId)], stage: Stage, op: &Op) -> Want
+pub fn want_at(
+    peers: &[u16],
+    vars: &[Option<Value>],
+    ends: &[(u16, EndId)],
+    stage: Stage,
+    op: &Op,
+) -> Want
+    requires { length peers.now < 2 ^ 16 }
     ensures { (codes : List Code) (rest : List Thing) →
-        result ≡ unwrap_or (want_of_todo (vars_in vars.now) ends.now
+        result ≡ unwrap_or (want_of_todo peers.now (vars_in vars.now) ends.now
         (thing_at stage (deed_in codes op.now) ∷ rest)) Ended }
 {
     match op {
@@ -56,7 +64,38 @@ pub fn want_at(vars: &[Option<Value>], ends: &[(u16, EndId)], stage: Stage, op: 
             Some(end) => Want::Close { end },
             None => Want::Ended,
         },
+        Op::Request {
+            protocol,
+            party,
+            ..
+        } => Want::Request {
+            protocol: *protocol,
+            to: number_named(peers, *party),
+        },
+        Op::Accept {
+            protocol,
+            party,
+            ..
+        } => Want::Accept {
+            protocol: *protocol,
+            from: number_named(peers, *party),
+        },
     }
+}
+
+/// The number of the first party of that name, or how many there are.
+fn number_named(peers: &[u16], name: u16) -> u16
+    requires { length peers.now < 2 ^ 16 }
+    ensures { result ≡ number_of_name peers.now name }
+{
+    let mut at = 0;
+    while at < peers.len() {
+        if peers[at] == name {
+            return at as u16;
+        }
+        at += 1;
+    }
+    at as u16
 }
 
 fn sends(end: Option<EndId>, msg: Option<Msg>) -> Want

@@ -18,7 +18,7 @@ use Rattle.sj_party.proofs.PrintableLemmas.{expression_pieces}
 use Rattle.sj_party.proofs.PieceTextLemmas.{AreBlank, Reaches, joins}
 use Rattle.sj_party.proofs.LineLemmas.{Relined, adds_append, blanks_then, expression_again, expression_adds, name_has}
 use Rattle.sj_party.proofs.HeadLemmas.{pair_tail, given_tail, pair_has, behind_space, given_has}
-use Rattle.sj_party.proofs.OneLinerLemmas.{named_is, pair_is, valued_is, given_is, send_again, let_again, delegate_again, outbranch_again, take_again, take_end_again, close_again}
+use Rattle.sj_party.proofs.OneLinerLemmas.{named_is, pair_is, valued_is, given_is, send_again, let_again, delegate_again, outbranch_again, take_again, take_end_again, close_again, request_again, accept_again}
 use Rattle.sj_party.proofs.BranchingLemmas.{ArmsBlock, inbranch_is, Both, unlined_both, block_of, if_free, both_again}
 use Rattle.sj_party.proofs.BlockLineLemmas.{StmtAgain, with_block, in_braces, block_free, label_reaches, arm_parts}
 
@@ -86,6 +86,8 @@ module _ (L : Limits) (names : Spelling) where
     stmt_again {o} (grammar.of_outbranch {l} {x} {m} is also) n before g rest blank = outbranch_again L names o n l before g rest blank x m is also
     stmt_again {o} (grammar.of_let {l} {n = m} {t} {e} is h) n before g rest blank = let_again L names o n l before g rest blank m t e is h
     stmt_again {o} (grammar.of_close {l} {x} is) n before g rest blank = close_again L names o n l before g rest blank x is
+    stmt_again {o} (grammar.of_request {l} {x} {p} {b} is also third) n before g rest blank = request_again L names o n l before g rest blank x p b is also third
+    stmt_again {o} (grammar.of_accept {l} {x} {p} {b} is also third) n before g rest blank = accept_again L names o n l before g rest blank x p b is also third
     stmt_again {o} (grammar.of_inbranch {l} {x} {m} {code} {arms} {a} is h) n before g rest blank =
         let all = branch m code arms in
         with_block L names unlined_branches (ArmsBlock L names o) all (braced a) o n (codes "inbranch") (named_text names (codes "inbranch ") x) (32 ∷ names.word x) (in_block n (arms_text names (n + 2) all)) (plain (names.word x) ∷ [])

@@ -56,6 +56,14 @@ module _ (L : Limits) where
   unfolding statement_follow
   close_step o n ds = refl
 
+  pub request_step : (o n : ℕ) (ds : List Due) → step file_layer L n (stmts o ∷ ds) (codes "request") ≡ goes n (name ∷ name ∷ fixed (codes "to") ∷ name ∷ semicolon ∷ stmts o ∷ ds)
+  unfolding statement_follow
+  request_step o n ds = refl
+
+  pub accept_step : (o n : ℕ) (ds : List Due) → step file_layer L n (stmts o ∷ ds) (codes "accept") ≡ goes n (name ∷ name ∷ fixed (codes "from") ∷ name ∷ semicolon ∷ stmts o ∷ ds)
+  unfolding statement_follow
+  accept_step o n ds = refl
+
   -- and the brace behind the last one
   pub close_block : (o n : ℕ) (ds : List Due) → step file_layer L n (stmts o ∷ fixed (codes "}") ∷ ds) (codes "}") ≡ goes n ds
   unfolding statement_follow

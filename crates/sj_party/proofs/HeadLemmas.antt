@@ -67,9 +67,10 @@ module _ (L : Limits) (names : Spelling) where
       lines_append NoWordByte Any (pair_tail x y) (codes " " ++ (scalar_piece k ++ codes ";")) (plain (names.word x) ∷ plain (names.word y) ∷ []) (plain (scalar_piece k) ∷ plain (codes ";") ∷ []) (pair_has x y h g)
       (ended (32 ∷ scalar_piece k) (plain (scalar_piece k) ∷ []) (scalar_lines k)) (λ rest free. refl)
 
-  pub take_end_has : (x y p : ℕ) → IsNamed L names.word x → IsNamed L names.word y → IsNamed L names.word p
-      → HasLines Any (pair_tail x y ++ ((codes " session" ++ (32 ∷ names.word p)) ++ codes ";")) (plain (names.word x) ∷ plain (names.word y) ∷ plain (codes "session") ∷ plain (names.word p) ∷ plain (codes ";") ∷ [])
-  take_end_has x y p h k g =
-      let session = lines_append NoWordByte NoWordByte (codes " session") (32 ∷ names.word p) (plain (codes "session") ∷ []) (plain (names.word p) ∷ []) (reserved_lines (codes "session") (word_lines (codes "session") refl)) (name_has L names p g) (λ rest free. refl) in
-      lines_append NoWordByte Any (pair_tail x y) ((codes " session" ++ (32 ∷ names.word p)) ++ codes ";") (plain (names.word x) ∷ plain (names.word y) ∷ []) (plain (codes "session") ∷ plain (names.word p) ∷ plain (codes ";") ∷ []) (pair_has x y h k)
-      (ended (codes " session" ++ (32 ∷ names.word p)) (plain (codes "session") ∷ plain (names.word p) ∷ []) session) (λ rest free. refl)
+  -- two names, a word and a third name
+  pub three_has : (w : List ℕ) (x y z : ℕ) → HasLines NoWordByte w (plain w ∷ []) → IsNamed L names.word x → IsNamed L names.word y → IsNamed L names.word z
+      → HasLines Any (pair_tail x y ++ (((32 ∷ w) ++ (32 ∷ names.word z)) ++ codes ";")) (plain (names.word x) ∷ plain (names.word y) ∷ plain w ∷ plain (names.word z) ∷ plain (codes ";") ∷ [])
+  three_has w x y z word h k g =
+      let third = lines_append NoWordByte NoWordByte (32 ∷ w) (32 ∷ names.word z) (plain w ∷ []) (plain (names.word z) ∷ []) (reserved_lines w word) (name_has L names z g) (λ rest free. refl) in
+      lines_append NoWordByte Any (pair_tail x y) (((32 ∷ w) ++ (32 ∷ names.word z)) ++ codes ";") (plain (names.word x) ∷ plain (names.word y) ∷ []) (plain w ∷ plain (names.word z) ∷ plain (codes ";") ∷ []) (pair_has x y h k)
+      (ended ((32 ∷ w) ++ (32 ∷ names.word z)) (plain w ∷ plain (names.word z) ∷ []) third) (λ rest free. refl)

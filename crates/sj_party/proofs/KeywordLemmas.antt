@@ -3,7 +3,7 @@ use Rattle.std.proofs.Common.{◌≡◌, ℕ, true, false, List, [], ◌∷◌, 
 use Rattle.std.specs.Prelude.{codes}
 use Rattle.sj_lang.specs.declared.party.Scalar.{Scalar}
 use Rattle.sj_lang.specs.Term.{Term}
-use Rattle.sj_lang.specs.Code.{Code, StmtAt, Branches, at, send, delegate, take_value, take_end, outbranch, inbranch, outwhile, inwhile, relay, if_else, let_be, close, branch}
+use Rattle.sj_lang.specs.Code.{Code, StmtAt, Branches, at, send, delegate, take_value, take_end, outbranch, inbranch, outwhile, inwhile, relay, if_else, let_be, close, request, accept, branch}
 use Rattle.sj_lang.specs.Limits.{Limits}
 use Rattle.sj_grammar.specs.Tables.{Spelling, IsNamed}
 use Rattle.sj_grammar.specs.Positions.{Pieces, Piece, plain, first_on, all_plain}
@@ -11,7 +11,7 @@ use Rattle.sj_grammar.specs.Expressions.{IsExpression}
 use Rattle.sj_grammar.specs.Statements.{scalar_piece, called, IsStatement, IsBlock, AreArms}
 use Rattle.sj_grammar.specs.Statements as grammar
 use Rattle.sj_party.specs.Alike.{AreAlike, is_keyword, EndsCode}
-pub use Rattle.sj_party.proofs.WordKindLemmas.{Kind, kind_of, sends, delegates, takes, selects, branches_off, loops_out, loops_in, relays, tests, binds, closes, other, sends_kind, delegates_kind, takes_kind, selects_kind, branches_off_kind, loops_out_kind, loops_in_kind, relays_kind, tests_kind, binds_kind, closes_kind}
+pub use Rattle.sj_party.proofs.WordKindLemmas.{Kind, kind_of, sends, delegates, takes, selects, branches_off, loops_out, loops_in, relays, tests, binds, closes, requests, accepts, other, sends_kind, delegates_kind, takes_kind, selects_kind, branches_off_kind, loops_out_kind, loops_in_kind, relays_kind, tests_kind, binds_kind, closes_kind, requests_kind, accepts_kind}
 
 module _ (L : Limits) (names : Spelling) where
   abbrev pub Named : ℕ → Type 0
@@ -34,6 +34,8 @@ module _ (L : Limits) (names : Spelling) where
       × AreAlike a ((all_plain e ++ (p ++ plain (codes "else") ∷ q)) ++ y)
   Like binds o l t a y = (n : ℕ) × (u : Term) × (e : Pieces) × Named n × IsExpression L names u e × (at l (let_be n u) ≡ t) × AreAlike a (called L names n ∷ plain (codes "=") ∷ ((all_plain e ++ plain (codes ";") ∷ []) ++ y))
   Like closes o l t a y = (x : ℕ) × Named x × (at l (close x) ≡ t) × AreAlike a (called L names x ∷ plain (codes ";") ∷ y)
+  Like requests o l t a y = (x : ℕ) × (n : ℕ) × (m : ℕ) × Named x × Named n × Named m × (at l (request x n m) ≡ t) × AreAlike a (called L names x ∷ called L names n ∷ plain (codes "to") ∷ called L names m ∷ plain (codes ";") ∷ y)
+  Like accepts o l t a y = (x : ℕ) × (n : ℕ) × (m : ℕ) × Named x × Named n × Named m × (at l (accept x n m) ≡ t) × AreAlike a (called L names x ∷ called L names n ∷ plain (codes "from") ∷ called L names m ∷ plain (codes ";") ∷ y)
   Like other o l t a y = ⊥
 
   kinds_meet : (s w : List ℕ) (k j : Kind) → kind_of s ≡ k → kind_of w ≡ j → s ≡ w → j ≡ k
@@ -65,6 +67,10 @@ module _ (L : Limits) (names : Spelling) where
       subst (λ (z : Kind). Like z o l t a y) (kinds_meet s (codes "let") k binds ek binds_kind g.0) ((n, u, e, is, h, (λ i. at (g.1 i) (let_be n u)), g.2))
   likes k s ek o l t a b y (grammar.of_close {l = j} {x} is) g =
       subst (λ (z : Kind). Like z o l t a y) (kinds_meet s (codes "close") k closes ek closes_kind g.0) ((x, is, (λ i. at (g.1 i) (close x)), g.2))
+  likes k s ek o l t a b y (grammar.of_request {l = j} {x} {p = n} {b = m} is also third) g =
+      subst (λ (z : Kind). Like z o l t a y) (kinds_meet s (codes "request") k requests ek requests_kind g.0) ((x, n, m, is, also, third, (λ i. at (g.1 i) (request x n m)), g.2))
+  likes k s ek o l t a b y (grammar.of_accept {l = j} {x} {p = n} {b = m} is also third) g =
+      subst (λ (z : Kind). Like z o l t a y) (kinds_meet s (codes "accept") k accepts ek accepts_kind g.0) ((x, n, m, is, also, third, (λ i. at (g.1 i) (accept x n m)), g.2))
 
   -- a statement begins with its word
   pub begins : {o : ℕ} {t : StmtAt} {b : List Piece} → IsStatement L names o t b → (p : Piece) × (ps : List Piece) × (b ≡ p ∷ ps) × (is_keyword p.spelled ≡ true)
@@ -81,6 +87,8 @@ module _ (L : Limits) (names : Spelling) where
   begins (grammar.of_if {l} h g f) = (first_on l (codes "if"), _, refl, refl)
   begins (grammar.of_let {l} h g) = (first_on l (codes "let"), _, refl, refl)
   begins (grammar.of_close {l} h) = (first_on l (codes "close"), _, refl, refl)
+  begins (grammar.of_request {l} h g f) = (first_on l (codes "request"), _, refl, refl)
+  begins (grammar.of_accept {l} h g f) = (first_on l (codes "accept"), _, refl, refl)
 
   -- where none begins there is none
   pub no_statement : {o : ℕ} {t : StmtAt} {b : List Piece} (x y : List Piece) → IsStatement L names o t b → EndsCode x → AreAlike x (b ++ y) → ⊥

@@ -1,7 +1,7 @@
 -- Canonical texts don't rest on lines.
 use Rattle.std.proofs.Common.{◌≡◌, ℕ, ◌+◌, List, [], ◌∷◌, ◌++◌, refl, ap, sym, ◌∙◌}
 use Rattle.std.specs.Prelude.{codes, map}
-use Rattle.sj_lang.specs.Code.{Code, StmtAt, DeedAt, Branches, no_stmt, stmt_then, at, send, delegate, take_value, take_end, outbranch, inbranch, outwhile, inwhile, relay, if_else, let_be, close, no_branch, branch}
+use Rattle.sj_lang.specs.Code.{Code, StmtAt, DeedAt, Branches, no_stmt, stmt_then, at, send, delegate, take_value, take_end, outbranch, inbranch, outwhile, inwhile, relay, if_else, let_be, close, request, accept, no_branch, branch}
 use Rattle.sj_lang.specs.FileAt.{ProtocolAt, PartyAt, ConnectAt, FileAt}
 use Rattle.sj_grammar.specs.Tables.{Spelling}
 use Rattle.sj_grammar.specs.Files.{names_of}
@@ -31,6 +31,8 @@ module _ (names : Spelling) where
     deed_same n (if_else t first second) = λ i. valued_text names (codes "if ") t ++ (in_block n (code_same (n + 2) first i) ++ (codes " else" ++ in_block n (code_same (n + 2) second i)))
     deed_same n (let_be v t) = refl
     deed_same n (close x) = refl
+    deed_same n (request x p b) = refl
+    deed_same n (accept x p b) = refl
 
     arms_same : (n : ℕ) (arms : Branches) → arms_text names n (unlined_branches arms) ≡ arms_text names n arms
     arms_same n no_branch = refl

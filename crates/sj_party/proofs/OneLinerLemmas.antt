@@ -2,7 +2,7 @@
 use Rattle.std.proofs.Common.{◌≡◌, ℕ, List, [], ◌∷◌, ◌++◌, refl, ap, ◌∙◌, append_assoc}
 use Rattle.std.specs.Prelude.{codes}
 use Rattle.sj_lang.specs.declared.party.Scalar.{Scalar}
-use Rattle.sj_lang.specs.Code.{at, send, delegate, take_value, take_end, outbranch, let_be, close}
+use Rattle.sj_lang.specs.Code.{at, send, delegate, take_value, take_end, outbranch, let_be, close, request, accept}
 use Rattle.sj_lang.specs.Term.{Term}
 use Rattle.sj_lang.specs.Limits.{Limits}
 use Rattle.sj_grammar.specs.Tables.{Spelling, IsNamed}
@@ -16,8 +16,9 @@ use Rattle.sj_party.specs.CanonicalCode.{named_text, pair_text, valued_text, giv
 use Rattle.sj_party.proofs.AddAlike.{AddAlike, alike_same, alike_cons}
 use Rattle.sj_party.proofs.PrintableLemmas.{expression_pieces}
 use Rattle.sj_party.proofs.PieceTextLemmas.{AreBlank}
+use Rattle.sj_party.proofs.ExpressionTextLemmas.{word_lines}
 use Rattle.sj_party.proofs.LineLemmas.{adds_append, expression_again, expression_adds, name_has}
-use Rattle.sj_party.proofs.HeadLemmas.{ended, pair_tail, given_tail, pair_has, given_has, let_has, take_has, take_end_has}
+use Rattle.sj_party.proofs.HeadLemmas.{ended, pair_tail, given_tail, pair_has, given_has, let_has, take_has, three_has}
 use Rattle.sj_party.proofs.BlockLineLemmas.{StmtAgain, on_one_line}
 
 module _ (L : Limits) (names : Spelling) where
@@ -44,6 +45,14 @@ module _ (L : Limits) (names : Spelling) where
   take_end_is : (x y p : ℕ) → pair_text names (codes "recv ") x y ++ (named_text names (codes " session ") p ++ codes ";") ≡ codes "recv" ++ (pair_tail L names x y ++ ((codes " session" ++ (32 ∷ names.word p)) ++ codes ";"))
   unfolding named_text
   take_end_is x y p = ap (λ h. h ++ (named_text names (codes " session ") p ++ codes ";")) (pair_is (codes "recv") x y)
+
+  request_is : (x p b : ℕ) → pair_text names (codes "request ") x p ++ (named_text names (codes " to ") b ++ codes ";") ≡ codes "request" ++ (pair_tail L names x p ++ ((codes " to" ++ (32 ∷ names.word b)) ++ codes ";"))
+  unfolding named_text
+  request_is x p b = ap (λ h. h ++ (named_text names (codes " to ") b ++ codes ";")) (pair_is (codes "request") x p)
+
+  accept_is : (x p b : ℕ) → pair_text names (codes "accept ") x p ++ (named_text names (codes " from ") b ++ codes ";") ≡ codes "accept" ++ (pair_tail L names x p ++ ((codes " from" ++ (32 ∷ names.word b)) ++ codes ";"))
+  unfolding named_text
+  accept_is x p b = ap (λ h. h ++ (named_text names (codes " from ") b ++ codes ";")) (pair_is (codes "accept") x p)
 
   module _ (o n l : ℕ) (before g rest : List ℕ) (blank : AreBlank g) where
     pub send_again : (x : ℕ) (t : Term) (e : Pieces) → IsNamed L names.word x → IsExpression L names t e
@@ -88,9 +97,23 @@ module _ (L : Limits) (names : Spelling) where
     take_end_again x y p is also third =
         on_one_line L names o n (codes "recv") (pair_tail L names x y ++ ((codes " session" ++ (32 ∷ names.word p)) ++ codes ";")) (deed_text names n (take_end x y p)) (plain (names.word x) ∷ plain (names.word y) ∷ plain (codes "session") ∷ plain (names.word p) ∷ plain (codes ";") ∷ [])
         (first_on l (codes "recv") ∷ plain (names.word x) ∷ plain (names.word y) ∷ plain (codes "session") ∷ plain (names.word p) ∷ plain (codes ";") ∷ []) (at l (take_end x y p)) (λ k. at k (take_end x y p)) before g rest refl (λ more. refl)
-        (take_end_has L names x y p is also third) blank (take_end_is x y p) (λ k. refl) (λ k. grammar.of_take_end is also third) (alike_same _)
+        (three_has L names (codes "session") x y p (word_lines (codes "session") refl) is also third) blank (take_end_is x y p) (λ k. refl) (λ k. grammar.of_take_end is also third) (alike_same _)
 
     pub close_again : (x : ℕ) → IsNamed L names.word x → StmtAgain L names o (at l (close x)) (first_on l (codes "close") ∷ plain (names.word x) ∷ plain (codes ";") ∷ []) (read before (g ++ (stmt_text names n (at l (close x)) ++ rest))) rest
     close_again x is =
         on_one_line L names o n (codes "close") ((32 ∷ names.word x) ++ codes ";") (deed_text names n (close x)) (plain (names.word x) ∷ plain (codes ";") ∷ []) (first_on l (codes "close") ∷ plain (names.word x) ∷ plain (codes ";") ∷ []) (at l (close x)) (λ k. at k (close x)) before g rest refl (λ more. refl)
         (ended (32 ∷ names.word x) (plain (names.word x) ∷ []) (name_has L names x is)) blank (ap (λ u. u ++ codes ";") (named_is (codes "close") x)) (λ k. refl) (λ k. grammar.of_close is) (alike_same _)
+
+    pub request_again : (x p b : ℕ) → IsNamed L names.word x → IsNamed L names.word p → IsNamed L names.word b
+        → StmtAgain L names o (at l (request x p b)) (first_on l (codes "request") ∷ plain (names.word x) ∷ plain (names.word p) ∷ plain (codes "to") ∷ plain (names.word b) ∷ plain (codes ";") ∷ []) (read before (g ++ (stmt_text names n (at l (request x p b)) ++ rest))) rest
+    request_again x p b is also third =
+        on_one_line L names o n (codes "request") (pair_tail L names x p ++ ((codes " to" ++ (32 ∷ names.word b)) ++ codes ";")) (deed_text names n (request x p b)) (plain (names.word x) ∷ plain (names.word p) ∷ plain (codes "to") ∷ plain (names.word b) ∷ plain (codes ";") ∷ [])
+        (first_on l (codes "request") ∷ plain (names.word x) ∷ plain (names.word p) ∷ plain (codes "to") ∷ plain (names.word b) ∷ plain (codes ";") ∷ []) (at l (request x p b)) (λ k. at k (request x p b)) before g rest refl (λ more. refl)
+        (three_has L names (codes "to") x p b (word_lines (codes "to") refl) is also third) blank (request_is x p b) (λ k. refl) (λ k. grammar.of_request is also third) (alike_same _)
+
+    pub accept_again : (x p b : ℕ) → IsNamed L names.word x → IsNamed L names.word p → IsNamed L names.word b
+        → StmtAgain L names o (at l (accept x p b)) (first_on l (codes "accept") ∷ plain (names.word x) ∷ plain (names.word p) ∷ plain (codes "from") ∷ plain (names.word b) ∷ plain (codes ";") ∷ []) (read before (g ++ (stmt_text names n (at l (accept x p b)) ++ rest))) rest
+    accept_again x p b is also third =
+        on_one_line L names o n (codes "accept") (pair_tail L names x p ++ ((codes " from" ++ (32 ∷ names.word b)) ++ codes ";")) (deed_text names n (accept x p b)) (plain (names.word x) ∷ plain (names.word p) ∷ plain (codes "from") ∷ plain (names.word b) ∷ plain (codes ";") ∷ [])
+        (first_on l (codes "accept") ∷ plain (names.word x) ∷ plain (names.word p) ∷ plain (codes "from") ∷ plain (names.word b) ∷ plain (codes ";") ∷ []) (at l (accept x p b)) (λ k. at k (accept x p b)) before g rest refl (λ more. refl)
+        (three_has L names (codes "from") x p b (word_lines (codes "from") refl) is also third) blank (accept_is x p b) (λ k. refl) (λ k. grammar.of_accept is also third) (alike_same _)

@@ -2,7 +2,7 @@
 use Rattle.std.proofs.Common.{◌≡◌, ℕ, List, [], ◌∷◌, ◌++◌, refl, ap, sym, subst, ◌∙◌, append-nil}
 use Rattle.std.specs.Prelude.{codes}
 use Rattle.sj_lang.specs.Term.{Term}
-use Rattle.sj_lang.specs.Code.{Code, DeedAt, Branches, no_branch, branch, at, send, delegate, take_value, take_end, outbranch, inbranch, outwhile, inwhile, relay, if_else, let_be, close}
+use Rattle.sj_lang.specs.Code.{Code, DeedAt, Branches, no_branch, branch, at, send, delegate, take_value, take_end, outbranch, inbranch, outwhile, inwhile, relay, if_else, let_be, close, request, accept}
 use Rattle.sj_lang.specs.declared.party.Scalar.{Scalar}
 use Rattle.sj_lang.specs.Limits.{limits}
 use Rattle.sj_grammar.specs.Tables.{Spelling, IsNamed, entry_of}
@@ -65,6 +65,8 @@ module _ (names : Spelling) where
       subst (λ (ps : List Piece). IsStatement limits names o (at l (if_else t first second)) (first_on l (codes "if") ∷ (all_plain e ++ (c ++ plain (codes "else") ∷ ps)))) (sym (append-nil d)) (grammar.of_if h body other)
   statement_is o l (let_be n t) a (more (named is) (more one_piece (more (expressed h) (more one_piece nothing)))) = grammar.of_let is h
   statement_is o l (close x) a (more (named is) (more one_piece nothing)) = grammar.of_close is
+  statement_is o l (request x p b) a (more (named is) (more (named also) (more one_piece (more (named third) (more one_piece nothing))))) = grammar.of_request is also third
+  statement_is o l (accept x p b) a (more (named is) (more (named also) (more one_piece (more (named third) (more one_piece nothing))))) = grammar.of_accept is also third
 
 -- a name, whatever its number is spelled as
 name_pieces : (a b : At) (x : ℕ) → Gives a b (λ word. word x ∷ []) (λ word. IsNamed limits word x) → ReadsOnLines a b (λ names ps. (ps ≡ called limits names x ∷ []) × IsNamed limits names.word x)

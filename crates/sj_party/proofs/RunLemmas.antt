@@ -18,7 +18,7 @@ use Rattle.sj_grammar.specs.Statements as grammar
 use Rattle.sj_proto.proofs.NamedPieceLemmas.{name_step}
 use Rattle.sj_party.specs.Leads.{LeadsTo}
 use Rattle.sj_party.proofs.TakenPieceLemmas.{leads_none, leads_one, leads_on, leads_expression}
-pub use Rattle.sj_party.proofs.FirstStepLemmas.{send_step, delegate_step, recv_step, outbranch_step, inbranch_step, outwhile_step, inwhile_step, relay_step, if_step, let_step, close_step, close_block, open_block, scalar_step}
+pub use Rattle.sj_party.proofs.FirstStepLemmas.{send_step, delegate_step, recv_step, outbranch_step, inbranch_step, outwhile_step, inwhile_step, relay_step, if_step, let_step, close_step, request_step, accept_step, close_block, open_block, scalar_step}
 
 module _ (L : Limits) where
   -- a piece that is due
@@ -108,3 +108,9 @@ module _ (L : Limits) where
           piece_leads n n _ _ _ (first_on l (codes "let")) _ (let_step L o n ds) (λ k. name_leads m k _ _ _ is (λ k. piece_leads k k _ _ _ (plain (codes "=")) _ refl (λ k. ended_leads t e k (stmts o ∷ ds) h)))
       statement_leads {o} (grammar.of_close {l} {x} is) n ds =
           piece_leads n n _ _ _ (first_on l (codes "close")) _ (close_step L o n ds) (λ k. name_leads x k _ _ _ is (λ k. semicolon_leads k (stmts o ∷ ds)))
+      statement_leads {o} (grammar.of_request {l} {x} {p} {b} is also third) n ds =
+          piece_leads n n _ _ _ (first_on l (codes "request")) _ (request_step L o n ds) (λ k. name_leads x k _ _ _ is (λ k. name_leads p k _ _ _ also
+          (λ k. piece_leads k k _ (name ∷ semicolon ∷ stmts o ∷ ds) _ (plain (codes "to")) _ refl (λ k. name_leads b k _ _ _ third (λ k. semicolon_leads k (stmts o ∷ ds))))))
+      statement_leads {o} (grammar.of_accept {l} {x} {p} {b} is also third) n ds =
+          piece_leads n n _ _ _ (first_on l (codes "accept")) _ (accept_step L o n ds) (λ k. name_leads x k _ _ _ is (λ k. name_leads p k _ _ _ also
+          (λ k. piece_leads k k _ (name ∷ semicolon ∷ stmts o ∷ ds) _ (plain (codes "from")) _ refl (λ k. name_leads b k _ _ _ third (λ k. semicolon_leads k (stmts o ∷ ds))))))

@@ -17,7 +17,7 @@ use Rattle.sj_grammar.proofs.CompletionLemmas.{lone}
 use Rattle.sj_expr.proofs.TestLemmas.{bytes_same}
 use Rattle.sj_party.proofs.LimitLemmas.{widely_two, widely_three, named_widely}
 use Rattle.sj_party.proofs.DuePieceLemmas.{Named, Spelled, AllSpelled, lines_spelled}
-use Rattle.sj_party.proofs.StatementLemmas.{Makes, send_made, delegate_made, take_made, outbranch_made, inbranch_made, outwhile_made, inwhile_made, relay_made, if_made, let_made, close_made, statement_then}
+use Rattle.sj_party.proofs.StatementLemmas.{Makes, send_made, delegate_made, take_made, outbranch_made, inbranch_made, outwhile_made, inwhile_made, relay_made, if_made, let_made, close_made, request_made, accept_made, statement_then}
 
 module _ (names : Spelling) where
   -- where a test is met these are due; or it is the others'
@@ -43,7 +43,9 @@ module _ (names : Spelling) where
       (λ e. by_word (codes "relay") (name ∷ name ∷ block o ∷ []) _ (relay_made names o) e
       (λ e. by_word (codes "if") (expr whole ∷ block o ∷ fixed (codes "else") ∷ block o ∷ []) _ (if_made names o) e
       (λ e. by_word (codes "let") (name ∷ fixed (codes "=") ∷ expr whole ∷ semicolon ∷ []) _ (let_made names o) e
-      (λ e. by_word (codes "close") (name ∷ semicolon ∷ []) None (close_made names o) e (λ e. let none : ⊥ = cc in absurd none)))))))))))
+      (λ e. by_word (codes "close") (name ∷ semicolon ∷ []) _ (close_made names o) e
+      (λ e. by_word (codes "request") (name ∷ name ∷ fixed (codes "to") ∷ name ∷ semicolon ∷ []) _ (request_made names o) e
+      (λ e. by_word (codes "accept") (name ∷ name ∷ fixed (codes "from") ∷ name ∷ semicolon ∷ []) None (accept_made names o) e (λ e. let none : ⊥ = cc in absurd none)))))))))))))
     where
       by_word : (w : List ℕ) (front : List Due) (others : Option (List Due)) → ((x : Pieces) → AllSpelled names front x → Makes names o w x) → (if bytes_eq s w then Some (front ++ stmts o ∷ []) else others) ≡ Some es
           → (others ≡ Some es → Spelled names (stmts o) (s ∷ ts)) → Spelled names (stmts o) (s ∷ ts)

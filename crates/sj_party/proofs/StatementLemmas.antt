@@ -1,7 +1,7 @@
 -- The statement that a first word and what is due behind it make.
 use Rattle.std.proofs.Common.{◌≡◌, ℕ, List, [], ◌∷◌, ◌++◌, ap, sym, ◌∙◌, append_assoc, inl, inr}
 use Rattle.std.specs.Prelude.{codes}
-use Rattle.sj_lang.specs.Code.{StmtAt, stmt_then, at, send, delegate, take_value, take_end, outbranch, inbranch, outwhile, inwhile, relay, if_else, let_be, close, branch}
+use Rattle.sj_lang.specs.Code.{StmtAt, stmt_then, at, send, delegate, take_value, take_end, outbranch, inbranch, outwhile, inwhile, relay, if_else, let_be, close, request, accept, branch}
 use Rattle.sj_grammar.specs.Tables.{Spelling}
 use Rattle.sj_grammar.specs.Positions.{Pieces, Piece, plain, first_on, spellings}
 use Rattle.sj_grammar.specs.ExpressionDues.{whole}
@@ -86,6 +86,16 @@ module _ (names : Spelling) where
 
     pub close_made : AllSpelled names (name ∷ semicolon ∷ []) x → Makes o (codes "close") x
     close_made h = made o (codes "close") (name ∷ semicolon ∷ []) x h (at 0 (close h.2.0)) (widely _ _ (λ M a. grammar.of_close a) h.2.1)
+
+    pub request_made : AllSpelled names (name ∷ name ∷ fixed (codes "to") ∷ name ∷ semicolon ∷ []) x → Makes o (codes "request") x
+    request_made h =
+        made o (codes "request") (name ∷ name ∷ fixed (codes "to") ∷ name ∷ semicolon ∷ []) x h (at 0 (request h.2.0 h.3.2.0 h.3.3.3.2.0))
+        (widely_three _ _ _ _ (λ M a b c. grammar.of_request a b c) h.2.1 h.3.2.1 h.3.3.3.2.1)
+
+    pub accept_made : AllSpelled names (name ∷ name ∷ fixed (codes "from") ∷ name ∷ semicolon ∷ []) x → Makes o (codes "accept") x
+    accept_made h =
+        made o (codes "accept") (name ∷ name ∷ fixed (codes "from") ∷ name ∷ semicolon ∷ []) x h (at 0 (accept h.2.0 h.3.2.0 h.3.3.3.2.0))
+        (widely_three _ _ _ _ (λ M a b c. grammar.of_accept a b c) h.2.1 h.3.2.1 h.3.3.3.2.1)
 
   -- and the statements behind it
   pub statement_then : (o : ℕ) (s w : List ℕ) (front : List Due) (ts : Pieces) → s ≡ w → ((x : Pieces) → AllSpelled names front x → Makes o w x) → AllSpelled names (front ++ stmts o ∷ []) ts → Spelled names (stmts o) (s ∷ ts)

@@ -4,7 +4,7 @@ use Rattle.std.specs.Prelude.{codes}
 use Rattle.std.proofs.lemmas.Bool.Decides.{nat_tests}
 use Rattle.sj_lang.specs.declared.party.Scalar.{Scalar}
 use Rattle.sj_lang.specs.declared.party.Scalar.TheVariants as scalars
-use Rattle.sj_lang.specs.Code.{Code, StmtAt, Branches, stmt_then, at, send, delegate, take_value, take_end, outbranch, inbranch, outwhile, inwhile, relay, if_else, let_be, close, branch}
+use Rattle.sj_lang.specs.Code.{Code, StmtAt, Branches, stmt_then, at, send, delegate, take_value, take_end, outbranch, inbranch, outwhile, inwhile, relay, if_else, let_be, close, request, accept, branch}
 use Rattle.sj_lang.specs.Term.{Term}
 use Rattle.sj_lang.specs.Limits.{Limits}
 use Rattle.sj_grammar.specs.Names.{is_name}
@@ -16,7 +16,7 @@ use Rattle.sj_grammar.specs.Statements as grammar
 use Rattle.sj_proto.proofs.UniquenessLemmas.{one_number}
 use Rattle.sj_party.specs.Alike.{AreAlike, is_keyword, EndsCode, EndsArms}
 use Rattle.sj_party.proofs.AlikeLemmas.{alike_back, regroup, one_ended, one_tested}
-use Rattle.sj_party.proofs.KeywordLemmas.{likes, no_statement, sends, delegates, takes, selects, branches_off, loops_out, loops_in, relays, tests, binds, closes, sends_kind, delegates_kind, takes_kind, selects_kind, branches_off_kind, loops_out_kind, loops_in_kind, relays_kind, tests_kind, binds_kind, closes_kind}
+use Rattle.sj_party.proofs.KeywordLemmas.{likes, no_statement, sends, delegates, takes, selects, branches_off, loops_out, loops_in, relays, tests, binds, closes, requests, accepts, sends_kind, delegates_kind, takes_kind, selects_kind, branches_off_kind, loops_out_kind, loops_in_kind, relays_kind, tests_kind, binds_kind, closes_kind, requests_kind, accepts_kind}
 
 same_scalar : (k j : Scalar) → scalar_piece k ≡ scalar_piece j → k ≡ j
 same_scalar scalars.Int scalars.Int e = refl
@@ -147,3 +147,15 @@ module _ (L : Limits) (names : Spelling) where
     one_statement {o} {t} {b} (grammar.of_close {l} {x = v} is) st x y g =
         let k = likes L names closes (codes "close") closes_kind o l t (called L names v ∷ plain (codes ";") ∷ x) b y st g in
         ((λ i. at l (close (one_name v k.0 is k.1 k.3.0 i))) ∙ k.2, k.3.2.2)
+    one_statement {o} {t} {b} (grammar.of_request {l} {x = v} {p} {b = w} is also third) st x y g =
+        let k = likes L names requests (codes "request") requests_kind o l t (called L names v ∷ called L names p ∷ plain (codes "to") ∷ called L names w ∷ plain (codes ";") ∷ x) b y st g in
+        let same = one_name v k.0 is k.3 k.7.0 in
+        let second = one_name p k.1 also k.4 k.7.2.0 in
+        let last = one_name w k.2 third k.5 k.7.2.2.2.0 in
+        ((λ i. at l (request (same i) (second i) (last i))) ∙ k.6, k.7.2.2.2.2.2)
+    one_statement {o} {t} {b} (grammar.of_accept {l} {x = v} {p} {b = w} is also third) st x y g =
+        let k = likes L names accepts (codes "accept") accepts_kind o l t (called L names v ∷ called L names p ∷ plain (codes "from") ∷ called L names w ∷ plain (codes ";") ∷ x) b y st g in
+        let same = one_name v k.0 is k.3 k.7.0 in
+        let second = one_name p k.1 also k.4 k.7.2.0 in
+        let last = one_name w k.2 third k.5 k.7.2.2.2.0 in
+        ((λ i. at l (accept (same i) (second i) (last i))) ∙ k.6, k.7.2.2.2.2.2)

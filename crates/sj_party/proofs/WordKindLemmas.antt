@@ -16,6 +16,8 @@ pub data Kind : Type 0 where
   tests : Kind
   binds : Kind
   closes : Kind
+  requests : Kind
+  accepts : Kind
   other : Kind
 
 unfoldable pub kind_of : List ℕ → Kind
@@ -30,7 +32,9 @@ kind_of s =
     else (if bytes_eq s (codes "relay") then relays
     else (if bytes_eq s (codes "if") then tests
     else (if bytes_eq s (codes "let") then binds
-    else (if bytes_eq s (codes "close") then closes else other))))))))))
+    else (if bytes_eq s (codes "close") then closes
+    else (if bytes_eq s (codes "request") then requests
+    else (if bytes_eq s (codes "accept") then accepts else other))))))))))))
 
 pub sends_kind : kind_of (codes "send") ≡ sends
 unfolding kind_of
@@ -75,3 +79,11 @@ binds_kind = refl
 pub closes_kind : kind_of (codes "close") ≡ closes
 unfolding kind_of
 closes_kind = refl
+
+pub requests_kind : kind_of (codes "request") ≡ requests
+unfolding kind_of
+requests_kind = refl
+
+pub accepts_kind : kind_of (codes "accept") ≡ accepts
+unfolding kind_of
+accepts_kind = refl

@@ -18,11 +18,20 @@ use Rattle.sj_proto.proofs.ExitLemmas.{plain, stops_map}
 use Rattle.sj_party.specs.declared.openings.Word.TheVariants as words
 use Rattle.sj_party.specs.declared.openings.Opening.{Opening}
 use Rattle.sj_party.specs.declared.openings.Opening.TheVariants as openings
-use Rattle.sj_party.specs.Words.{word_of, dues_behind}
+use Rattle.sj_party.specs.Words.{word_of, dues_behind, IsFixed}
 
 pub no_name_else : is_name (codes "else") ≡ false
 unfolding is_reserved
 no_name_else = refl
+
+-- what stands before a party's name
+pub fixed_to : IsFixed (codes "to")
+unfolding is_reserved
+fixed_to = record { no_name = refl; no_text = refl; no_largest = refl }
+
+pub fixed_from : IsFixed (codes "from")
+unfolding is_reserved
+fixed_from = record { no_name = refl; no_text = refl; no_largest = refl }
 
 no_name_word : (w : Opening) → is_name (word_of w) ≡ false
 unfolding is_reserved
@@ -32,6 +41,8 @@ no_name_word (openings.Simple words.Recv) = refl
 no_name_word (openings.Simple words.Outbranch) = refl
 no_name_word (openings.Simple words.Let) = refl
 no_name_word (openings.Simple words.Close) = refl
+no_name_word (openings.Simple words.Request) = refl
+no_name_word (openings.Simple words.Accept) = refl
 no_name_word openings.Inbranch = refl
 no_name_word openings.Outwhile = refl
 no_name_word openings.Inwhile = refl
@@ -45,6 +56,8 @@ no_text_word (openings.Simple words.Recv) = refl
 no_text_word (openings.Simple words.Outbranch) = refl
 no_text_word (openings.Simple words.Let) = refl
 no_text_word (openings.Simple words.Close) = refl
+no_text_word (openings.Simple words.Request) = refl
+no_text_word (openings.Simple words.Accept) = refl
 no_text_word openings.Inbranch = refl
 no_text_word openings.Outwhile = refl
 no_text_word openings.Inwhile = refl
@@ -59,6 +72,8 @@ word_step (openings.Simple words.Recv) o n ds = refl
 word_step (openings.Simple words.Outbranch) o n ds = refl
 word_step (openings.Simple words.Let) o n ds = refl
 word_step (openings.Simple words.Close) o n ds = refl
+word_step (openings.Simple words.Request) o n ds = refl
+word_step (openings.Simple words.Accept) o n ds = refl
 word_step openings.Inbranch o n ds = refl
 word_step openings.Outwhile o n ds = refl
 word_step openings.Inwhile o n ds = refl

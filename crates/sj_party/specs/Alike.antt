@@ -19,7 +19,7 @@ AreAlike (p ∷ ps) (q ∷ qs) = (p.spelled ≡ q.spelled) × OnOneLine p.line q
 -- the words that statements begin with
 abbrev pub keywords : Pieces
 keywords =
-    codes "send" ∷ codes "delegate" ∷ codes "recv" ∷ codes "outbranch" ∷ codes "inbranch" ∷ codes "outwhile" ∷ codes "inwhile" ∷ codes "relay" ∷ codes "if" ∷ codes "let" ∷ codes "close" ∷ []
+    codes "send" ∷ codes "delegate" ∷ codes "recv" ∷ codes "outbranch" ∷ codes "inbranch" ∷ codes "outwhile" ∷ codes "inwhile" ∷ codes "relay" ∷ codes "if" ∷ codes "let" ∷ codes "close" ∷ codes "request" ∷ codes "accept" ∷ []
 
 unfoldable pub is_keyword : List ℕ → Bool
 is_keyword s = is_among keywords s

@@ -1,7 +1,7 @@
 -- The canonical text of statements: each on a line, blocks two spaces further in.
 use Rattle.std.specs.Prelude.{ℕ, ◌+◌, List, [], ◌++◌, replicate, codes}
 use Rattle.sj_lang.specs.Term.{Term}
-use Rattle.sj_lang.specs.Code.{Code, StmtAt, DeedAt, Branches, no_stmt, stmt_then, at, send, delegate, take_value, take_end, outbranch, inbranch, outwhile, inwhile, relay, if_else, let_be, close, no_branch, branch}
+use Rattle.sj_lang.specs.Code.{Code, StmtAt, DeedAt, Branches, no_stmt, stmt_then, at, send, delegate, take_value, take_end, outbranch, inbranch, outwhile, inwhile, relay, if_else, let_be, close, request, accept, no_branch, branch}
 use Rattle.sj_grammar.specs.Tables.{Spelling}
 use Rattle.sj_grammar.specs.Expressions.{whole}
 use Rattle.sj_grammar.specs.Statements.{scalar_piece}
@@ -62,6 +62,8 @@ module _ (names : Spelling) where
     deed_text n (if_else t first second) = valued_text (codes "if ") t ++ (in_block n (code_text (n + 2) first) ++ (codes " else" ++ in_block n (code_text (n + 2) second)))
     deed_text n (let_be v t) = given_text (codes "let ") v (codes " = ") t ++ codes ";"
     deed_text n (close x) = named_text (codes "close ") x ++ codes ";"
+    deed_text n (request x p b) = pair_text (codes "request ") x p ++ (named_text (codes " to ") b ++ codes ";")
+    deed_text n (accept x p b) = pair_text (codes "accept ") x p ++ (named_text (codes " from ") b ++ codes ";")
 
     -- arms that stand so many spaces in, each on lines of its own
     pub arms_text : ℕ → Branches → List ℕ

@@ -1,5 +1,5 @@
 -- The canonical text of small files.
-use Rattle.std.specs.Prelude.{◌≡◌, refl, ℕ, List, [], ◌∷◌, pos, negsuc, true, codes}
+use Rattle.std.specs.Prelude.{◌≡◌, refl, ℕ, List, [], ◌∷◌, ◌++◌, pos, negsuc, true, codes}
 use Rattle.std.specs.Fmt.{digits}
 use Rattle.sj_lang.specs.declared.proto.Way.TheVariants.{Out, Into}
 use Rattle.sj_lang.specs.declared.party.Op.TheVariants.{Add, Sub, Mul, Less, LessEq, Equal}
@@ -7,7 +7,7 @@ use Rattle.sj_lang.specs.declared.party.Scalar.TheVariants as scalars
 use Rattle.sj_lang.specs.Place.{done, message}
 use Rattle.sj_lang.specs.Place as place
 use Rattle.sj_lang.specs.Term.{Term, int, boolean, text, var, not, two}
-use Rattle.sj_lang.specs.Code.{no_stmt, stmt_then, at, send, take_value, outbranch, inbranch, outwhile, if_else, let_be, close, no_branch, branch}
+use Rattle.sj_lang.specs.Code.{no_stmt, stmt_then, at, send, take_value, outbranch, inbranch, outwhile, if_else, let_be, close, request, accept, no_branch, branch}
 use Rattle.sj_lang.specs.FileAt.{FileAt}
 use Rattle.sj_grammar.specs.Tables.{Spelling}
 use Rattle.sj_grammar.specs.Expressions.{whole}
@@ -63,6 +63,10 @@ pub arms_stand_further_in : deed_text letters 2 (inbranch 0 (branch 0 no_stmt (b
     ≡ codes "inbranch a {\n    a: {\n    }\n    a: {\n      outbranch a a;\n    }\n  }"
 unfolding in_block named_text pair_text
 arms_stand_further_in = refl
+
+pub a_party_stands_behind_to_or_from : deed_text letters 2 (request 0 0 0) ++ deed_text letters 2 (accept 0 0 0) ≡ codes "request a a to a;accept a a from a;"
+unfolding named_text pair_text
+a_party_stands_behind_to_or_from = refl
 
 pub the_dual_has_a_line : protocol_line (codes "dual") letters.word 0 (message Into place.int done) ≡ codes "dual a { begin.?(int) }\n"
 the_dual_has_a_line = refl

@@ -2,7 +2,7 @@
 use Rattle.std.specs.Prelude.{◌≡◌, ℕ, List, [], ◌∷◌, codes}
 use Rattle.sj_lang.specs.declared.party.Scalar.{Scalar}
 use Rattle.sj_lang.specs.Term.{Term}
-use Rattle.sj_lang.specs.Code.{Code, DeedAt, Branches, no_branch, branch, send, delegate, take_value, take_end, outbranch, inbranch, outwhile, inwhile, relay, if_else, let_be, close}
+use Rattle.sj_lang.specs.Code.{Code, DeedAt, Branches, no_branch, branch, send, delegate, take_value, take_end, outbranch, inbranch, outwhile, inwhile, relay, if_else, let_be, close, request, accept}
 use Rattle.sj_lang.specs.Limits.{limits}
 use Rattle.sj_grammar.specs.Tables.{IsNamed}
 use Rattle.sj_grammar.specs.Positions.{At, Takes}
@@ -41,6 +41,8 @@ parts_of o (relay x y code) = a_name x ∷ a_name y ∷ a_block o code ∷ []
 parts_of o (if_else t first second) = an_expression t ∷ a_block o first ∷ a_piece (codes "else") ∷ a_block o second ∷ []
 parts_of o (let_be n t) = a_name n ∷ a_piece (codes "=") ∷ an_expression t ∷ a_piece (codes ";") ∷ []
 parts_of o (close x) = a_name x ∷ a_piece (codes ";") ∷ []
+parts_of o (request x p b) = a_name x ∷ a_name p ∷ a_piece (codes "to") ∷ a_name b ∷ a_piece (codes ";") ∷ []
+parts_of o (accept x p b) = a_name x ∷ a_name p ∷ a_piece (codes "from") ∷ a_name b ∷ a_piece (codes ";") ∷ []
 
 -- the first word
 abbrev pub first_word : DeedAt → List ℕ
@@ -56,6 +58,8 @@ first_word (relay x y code) = codes "relay"
 first_word (if_else t first second) = codes "if"
 first_word (let_be n t) = codes "let"
 first_word (close x) = codes "close"
+first_word (request x p b) = codes "request"
+first_word (accept x p b) = codes "accept"
 
 abbrev pub AreSome : Branches → Type 0
 AreSome no_branch = ⊥

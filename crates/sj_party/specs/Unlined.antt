@@ -1,6 +1,6 @@
 -- A file but for its lines.
 use Rattle.std.specs.Prelude.{◌≡◌, ℕ, List, map}
-use Rattle.sj_lang.specs.Code.{Code, StmtAt, DeedAt, Branches, no_stmt, stmt_then, at, send, delegate, take_value, take_end, outbranch, inbranch, outwhile, inwhile, relay, if_else, let_be, close, no_branch, branch}
+use Rattle.sj_lang.specs.Code.{Code, StmtAt, DeedAt, Branches, no_stmt, stmt_then, at, send, delegate, take_value, take_end, outbranch, inbranch, outwhile, inwhile, relay, if_else, let_be, close, request, accept, no_branch, branch}
 use Rattle.sj_lang.specs.FileAt.{ProtocolAt, PartyAt, ConnectAt, FileAt}
 use Rattle.sj_grammar.specs.Files.{IsFile}
 
@@ -26,6 +26,8 @@ abbrev mutual
   unlined_deed (if_else t first second) = if_else t (unlined_code first) (unlined_code second)
   unlined_deed (let_be v t) = let_be v t
   unlined_deed (close x) = close x
+  unlined_deed (request x p b) = request x p b
+  unlined_deed (accept x p b) = accept x p b
 
   pub unlined_branches : Branches → Branches
   unlined_branches no_branch = no_branch

@@ -1,6 +1,8 @@
 -- The words that statements begin with, and what is due behind them.
 use Rattle.std.specs.Prelude.{◌≡◌, ℕ, false, List, [], ◌∷◌, codes}
 use Rattle.std.specs.Str.{bytes_eq}
+use Rattle.sj_grammar.specs.Names.{is_name}
+use Rattle.sj_grammar.specs.Literals.{is_text, is_largest}
 use Rattle.sj_grammar.specs.Positions.{Pieces}
 use Rattle.sj_grammar.specs.ExpressionDues.{whole}
 use Rattle.sj_grammar.specs.FileDues.{Due, name, fixed, expr, awaited, block, branches, semicolon}
@@ -16,6 +18,8 @@ simple_word words.Recv = codes "recv"
 simple_word words.Outbranch = codes "outbranch"
 simple_word words.Let = codes "let"
 simple_word words.Close = codes "close"
+simple_word words.Request = codes "request"
+simple_word words.Accept = codes "accept"
 
 abbrev pub word_of : Opening → List ℕ
 word_of (openings.Simple w) = simple_word w
@@ -32,6 +36,8 @@ simple_dues words.Recv ds = name ∷ name ∷ awaited ∷ semicolon ∷ ds
 simple_dues words.Outbranch ds = name ∷ name ∷ semicolon ∷ ds
 simple_dues words.Let ds = name ∷ fixed (codes "=") ∷ expr whole ∷ semicolon ∷ ds
 simple_dues words.Close ds = name ∷ semicolon ∷ ds
+simple_dues words.Request ds = name ∷ name ∷ fixed (codes "to") ∷ name ∷ semicolon ∷ ds
+simple_dues words.Accept ds = name ∷ name ∷ fixed (codes "from") ∷ name ∷ semicolon ∷ ds
 
 -- behind the word, inside so many inner braces
 abbrev pub dues_behind : Opening → ℕ → List Due → List Due
@@ -42,10 +48,16 @@ dues_behind openings.Inwhile o ds = name ∷ block o ∷ ds
 dues_behind openings.Relay o ds = name ∷ name ∷ block o ∷ ds
 dues_behind openings.If o ds = expr whole ∷ block o ∷ fixed (codes "else") ∷ block o ∷ ds
 
+-- neither a name nor a text nor 2^63
+pub record IsFixed (s : List ℕ) : Type 0 where
+  pub no_name : is_name s ≡ false
+  pub no_text : is_text s ≡ false
+  pub no_largest : is_largest s ≡ false
+
 -- none of these words
 abbrev pub NoneOf : Pieces → List ℕ → Type 0
 NoneOf [] s = Unit {0}
 NoneOf (w ∷ ws) s = (bytes_eq s w ≡ false) × NoneOf ws s
 
 abbrev pub simple_words : Pieces
-simple_words = codes "send" ∷ codes "delegate" ∷ codes "recv" ∷ codes "outbranch" ∷ codes "let" ∷ codes "close" ∷ []
+simple_words = codes "send" ∷ codes "delegate" ∷ codes "recv" ∷ codes "outbranch" ∷ codes "let" ∷ codes "close" ∷ codes "request" ∷ codes "accept" ∷ []

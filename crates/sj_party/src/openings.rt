@@ -18,6 +18,8 @@ pub enum Word {
     Outbranch,
     Let,
     Close,
+    Request,
+    Accept,
 }
 
 /// What a statement begins with.
@@ -60,6 +62,12 @@ fn word_in(piece: &[u8]) -> Option<Word>
     }
     if piece == b"close".as_slice() {
         return Some(Word::Close);
+    }
+    if piece == b"request".as_slice() {
+        return Some(Word::Request);
+    }
+    if piece == b"accept".as_slice() {
+        return Some(Word::Accept);
     }
     None
 }

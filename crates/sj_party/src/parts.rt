@@ -8,6 +8,7 @@ ghost use Rattle.sj_expr.specs.Leaves.{LeavesTables};
 ghost use Rattle.sj_party.specs.Rooms.{HasRoomFor, Uses};
 ghost use Rattle.sj_party.specs.Parts.{a_name, an_expression, a_piece, ReadsParts};
 ghost use Rattle.sj_party.specs.Awaits.{awaited_part};
+ghost use Rattle.sj_party.specs.Words.{IsFixed};
 
 use crate::scalars::take_scalar;
 use sj_expr::parse_expression;
@@ -44,6 +45,27 @@ pub fn two_names(tokens: &mut Tokens, names: &mut Names) -> Result<(u16, u16), P
     let first = one_name(tokens, names)?;
     let second = one_name(tokens, names)?;
     Ok((first, second))
+}
+
+/// Two names, that word, and a third name.
+pub fn names_around(
+    tokens: &mut Tokens,
+    names: &mut Names,
+    word: &[u8],
+) -> Result<(u16, u16, u16), ParseRefusal>
+    requires fixed { IsFixed word.now }
+    requires room { HasRoomFor 2 names.old tokens.old }
+    ensures reads { IfOk result (λ x. ReadsParts (standing tokens.old names.old)
+        (standing tokens.new names.new)
+        (a_name x.0 ∷ a_name x.1 ∷ a_piece word.now ∷ a_name x.2 ∷ [])) }
+    ensures leaves { LeavesTables (Uses 2 0) result names.old tokens.old names.new tokens.new }
+    ensures fault { IfErr result (λ e. (n : ℕ) → Stops (λ ds. name_due ∷ name_due
+        ∷ fixed word.now ∷ name_due ∷ ds) n (standing tokens.old names.old) e) }
+{
+    let (first, second) = two_names(tokens, names)?;
+    tokens.expect(word)?;
+    let third = one_name(tokens, names)?;
+    Ok((first, second, third))
 }
 
 pub fn name_and_value(

@@ -162,24 +162,24 @@ fn put_take(
     put(text, kind_bytes(kind))
 }
 
-// Appends the statement that takes an end.
-fn put_take_end(
+// Appends a statement of two names, a mark and a third name.
+fn put_three_line(
     text: &mut Vec<u8>,
     names: &Names,
-    end: u16,
-    into: u16,
-    protocol: u16,
+    lead: &[u8],
+    x: u16,
+    y: u16,
+    mark: &[u8],
+    z: u16,
 ) -> Result<(), NoMemory>
     ensures ok { OnOk result (text.new.items ≡ text.old.items ++ (pair_text (spelling_of names.now)
-        (codes "recv ") end into
-        ++ (named_text (spelling_of names.now) (codes " session ") protocol ++ codes ";"))) }
+        lead.now x y ++ (named_text (spelling_of names.now) mark.now z ++ codes ";"))) }
     ensures err { OnErr result (IsCutShort text.old.items (pair_text (spelling_of names.now)
-        (codes "recv ") end into
-        ++ (named_text (spelling_of names.now) (codes " session ") protocol ++ codes ";"))
+        lead.now x y ++ (named_text (spelling_of names.now) mark.now z ++ codes ";"))
         text.new.items) }
 {
-    put_pair(text, names, b"recv ", end, into)?;
-    put_named_line(text, names, b" session ", protocol)
+    put_pair(text, names, lead, x, y)?;
+    put_named_line(text, names, mark, z)
 }
 
 // Opens a block, and answers how far in it stands. Beyond all memory it answers want of memory.
@@ -264,7 +264,7 @@ fn put_deed(text: &mut Vec<u8>, names: &Names, n: usize, deed: &Deed) -> Result<
             end,
             into,
             protocol,
-        } => put_take_end(text, names, *end, *into, *protocol),
+        } => put_three_line(text, names, b"recv ", *end, *into, b" session ", *protocol),
         Deed::Select { end, label } => put_pair_line(text, names, b"outbranch ", *end, *label),
         Deed::Branch { end, arms } => {
             put_named(text, names, b"inbranch ", *end)?;
@@ -289,5 +289,15 @@ fn put_deed(text: &mut Vec<u8>, names: &Names, n: usize, deed: &Deed) -> Result<
         }
         Deed::Let { name, value } => put_given_line(text, names, b"let ", *name, b" = ", value),
         Deed::Close { end } => put_named_line(text, names, b"close ", *end),
+        Deed::Request {
+            end,
+            protocol,
+            party,
+        } => put_three_line(text, names, b"request ", *end, *protocol, b" to ", *party),
+        Deed::Accept {
+            end,
+            protocol,
+            party,
+        } => put_three_line(text, names, b"accept ", *end, *protocol, b" from ", *party),
     }
 }

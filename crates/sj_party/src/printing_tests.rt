@@ -139,6 +139,16 @@ fn sample(alloc: Global) -> Result<Vec<Stmt>, Fail> {
             body: vec![in alloc; stmt(Deed::Branch { end: Y, arms })]?
         }),
         stmt(Deed::If { test, yes, no }),
+        stmt(Deed::Request {
+            end: X,
+            protocol: N,
+            party: Y
+        }),
+        stmt(Deed::Accept {
+            end: Y,
+            protocol: X,
+            party: N
+        }),
     ]?)
 }
 
@@ -173,6 +183,8 @@ fn each_block_stands_two_spaces_further_in(rt: HostRuntime) -> Result<(), Fail> 
     relay x y {
     }
   }
+  request x n to y;
+  accept y x from n;
 }";
     assert_eq!(rt; text.as_slice(), wanted.as_slice());
     Ok(())

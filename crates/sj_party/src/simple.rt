@@ -11,7 +11,9 @@ ghost use Rattle.sj_party.specs.Awaits.{take_deed};
 ghost use Rattle.sj_party.specs.Words.{simple_word, simple_dues};
 
 use crate::openings::Word;
-use crate::parts::{Awaited, binding, name_and_value, one_name, take_awaited, two_names};
+use crate::parts::{
+    Awaited, binding, name_and_value, names_around, one_name, take_awaited, two_names,
+};
 use sj_lang::{Deed, Names};
 use sj_proto::{ParseRefusal, Tokens};
 use std::alloc::Global;
@@ -109,6 +111,40 @@ fn close(tokens: &mut Tokens, names: &mut Names) -> Result<Deed, ParseRefusal>
     Ok(Deed::Close { end })
 }
 
+fn request(tokens: &mut Tokens, names: &mut Names) -> Result<Deed, ParseRefusal>
+    requires room { HasRoomFor 2 names.old tokens.old }
+    ensures reads { IfOk result (λ d. (o : ℕ) → ReadsDeed (codes "request") o
+        (standing tokens.old names.old) (standing tokens.new names.new) (deed_of d)) }
+    ensures leaves { LeavesTables (Uses 1 0) result names.old tokens.old names.new tokens.new }
+    ensures fault { IfErr result (λ e. (n : ℕ) → Stops (λ ds. name ∷ name ∷ fixed (codes "to")
+        ∷ name ∷ semicolon ∷ ds) n (standing tokens.old names.old) e) }
+{
+    let (end, protocol, party) = names_around(tokens, names, b"to")?;
+    tokens.expect(b";")?;
+    Ok(Deed::Request {
+        end,
+        protocol,
+        party,
+    })
+}
+
+fn accept(tokens: &mut Tokens, names: &mut Names) -> Result<Deed, ParseRefusal>
+    requires room { HasRoomFor 2 names.old tokens.old }
+    ensures reads { IfOk result (λ d. (o : ℕ) → ReadsDeed (codes "accept") o
+        (standing tokens.old names.old) (standing tokens.new names.new) (deed_of d)) }
+    ensures leaves { LeavesTables (Uses 1 0) result names.old tokens.old names.new tokens.new }
+    ensures fault { IfErr result (λ e. (n : ℕ) → Stops (λ ds. name ∷ name ∷ fixed (codes "from")
+        ∷ name ∷ semicolon ∷ ds) n (standing tokens.old names.old) e) }
+{
+    let (end, protocol, party) = names_around(tokens, names, b"from")?;
+    tokens.expect(b";")?;
+    Ok(Deed::Accept {
+        end,
+        protocol,
+        party,
+    })
+}
+
 /// A statement with no block, behind that word.
 pub fn simple(
     alloc: Global,
@@ -130,5 +166,7 @@ pub fn simple(
         Word::Outbranch => select(tokens, names),
         Word::Let => bind(alloc, tokens, names),
         Word::Close => close(tokens, names),
+        Word::Request => request(tokens, names),
+        Word::Accept => accept(tokens, names),
     }
 }

@@ -98,6 +98,16 @@ fn told(alloc: Global, statement: &Stmt) -> Result<String, Fail> {
             Ok(format!(in alloc; "{line} let {name} {value}")?)
         }
         Deed::Close { end } => Ok(format!(in alloc; "{line} close {end}")?),
+        Deed::Request {
+            end,
+            protocol,
+            party,
+        } => Ok(format!(in alloc; "{line} request {end} {protocol} to {party}")?),
+        Deed::Accept {
+            end,
+            protocol,
+            party,
+        } => Ok(format!(in alloc; "{line} accept {end} {protocol} from {party}")?),
     }
 }
 
@@ -123,6 +133,8 @@ fn each_statement_is_read_on_the_line_of_its_first_token(rt: HostRuntime) -> Res
         ("if n { close a; } else { }", "1 if 1000 1 0"),
         ("let n = 3;", "1 let 0 3"),
         ("\t\n\nclose\n\na;", "3 close 0"),
+        ("\nrequest x p\nto b;", "2 request 0 1 to 2"),
+        ("accept x p from x;", "1 accept 0 1 from 0"),
     ] {
         let answer = parsed(alloc, text.as_bytes(), b"")?.0;
         let list = answer.ok().ok_or("refused")?;
@@ -145,7 +157,7 @@ fn statements_end_at_the_first_token_that_begins_none(rt: HostRuntime) -> Result
             "sender",
         ),
         ("Close a;", 0, "Close"),
-        ("recv a n int; request", 1, "request"),
+        ("recv a n int; session", 1, "session"),
     ] {
         let (answer, sees) = parsed(alloc, text.as_bytes(), next.as_bytes())?;
         let list = answer.ok().ok_or("refused")?;
@@ -179,6 +191,11 @@ fn faults_stand_at_the_first_token_with_which_none_goes_on(rt: HostRuntime) -> R
         ("close 9223372036854775808", Rule::P3, 1, 7),
         ("close a;\n send b 05;", Rule::P3, 2, 9),
         ("send a @;", Rule::P2, 1, 8),
+        ("request x to b;", Rule::P1, 1, 11),
+        ("request x p from b;", Rule::P1, 1, 13),
+        ("request x p to b c;", Rule::P1, 1, 18),
+        ("accept x p b;", Rule::P1, 1, 12),
+        ("accept x p from to;", Rule::P1, 1, 17),
     ] {
         let fault = fault_of(alloc, text.as_bytes())?;
         assert_eq!(rt; fault, Some((rule, line, column)), "at {text}");

@@ -148,7 +148,7 @@ fn the_first_fault_has_its_place_and_rule(rt: HostRuntime) -> Result<(), Fail> {
         (b"party a { send x 9223372036854775808;\n", Rule::P3, 3, 18),
         (b"party a { send x 05;\n", Rule::P3, 3, 18),
         (b"party a { send x \"abc;\n", Rule::P5, 3, 18),
-        (b"party a { request x p to b; }", Rule::P1, 3, 11),
+        (b"party a { request x p from b; }", Rule::P1, 3, 23),
         (b"\x80", Rule::P2, 3, 1),
         // a file that ends too early
         (b"protocol p { begin.!<", Rule::P1, 3, 22),

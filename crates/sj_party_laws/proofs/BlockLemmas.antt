@@ -19,7 +19,7 @@ use Rattle.sj_party.specs.Alike.{AreAlike}
 use Rattle.sj_party_laws.proofs.ChainLemmas.{nothing, first}
 use Rattle.sj_party_laws.proofs.TermLemmas.{IsKnown}
 use Rattle.sj_party_laws.proofs.FilledLemmas.{Spelled, AllSpelled, lines_alike}
-use Rattle.sj_party_laws.proofs.StatementLemmas.{Makes, send_made, delegate_made, take_made, outbranch_made, inbranch_made, outwhile_made, inwhile_made, relay_made, if_made, let_made, close_made, lone, statement_then}
+use Rattle.sj_party_laws.proofs.StatementLemmas.{Makes, send_made, delegate_made, take_made, outbranch_made, inbranch_made, outwhile_made, inwhile_made, relay_made, if_made, let_made, close_made, request_made, accept_made, lone, statement_then}
 
 -- a token with nothing behind
 pub last_alike : (L : Limits) (names : Spelling) (n m : ℕ) (p : Piece) (x : List ℕ) (ts : List Piece) → x ≡ p.spelled → AllSpelled L names n [] ts m → AreAlike (plain x ∷ []) (p ∷ ts)
@@ -49,7 +49,9 @@ module _ (L : Limits) (names : Spelling) (n m : ℕ) where
       (λ e. by_word (codes "relay") (name ∷ name ∷ block o ∷ []) _ (λ k. relay_made L names o p n k) e
       (λ e. by_word (codes "if") (expr whole ∷ block o ∷ fixed (codes "else") ∷ block o ∷ []) _ (λ k. if_made L names o p n k) e
       (λ e. by_word (codes "let") (name ∷ fixed (codes "=") ∷ expr whole ∷ semicolon ∷ []) _ (λ k. let_made L names o p n k) e
-      (λ e. by_word (codes "close") (name ∷ semicolon ∷ []) None (λ k. close_made L names o p n k) e (λ e. let none : ⊥ = cc in absurd none)))))))))))
+      (λ e. by_word (codes "close") (name ∷ semicolon ∷ []) _ (λ k. close_made L names o p n k) e
+      (λ e. by_word (codes "request") (name ∷ name ∷ fixed (codes "to") ∷ name ∷ semicolon ∷ []) _ (λ k. request_made L names o p n k) e
+      (λ e. by_word (codes "accept") (name ∷ name ∷ fixed (codes "from") ∷ name ∷ semicolon ∷ []) None (λ k. accept_made L names o p n k) e (λ e. let none : ⊥ = cc in absurd none)))))))))))))
     where
       by_word : (w : List ℕ) (front : List Due) (others : Option (List Due)) → ((k : ℕ) (x : List Piece) → p.spelled ≡ w → AllSpelled L names n front x k → Makes L names o p x) → (if bytes_eq p.spelled w then Some (front ++ stmts o ∷ []) else others) ≡ Some es
           → (others ≡ Some es → Spelled L names n (stmts o) (p ∷ ts) m) → Spelled L names n (stmts o) (p ∷ ts) m

@@ -1,7 +1,7 @@
 -- The statement that a first word and what is due behind it make, on its line.
 use Rattle.std.proofs.Common.{◌≡◌, ℕ, List, [], ◌∷◌, ◌++◌, Option, Some, None, refl, sym, subst, append_assoc, append-nil, inl, inr}
 use Rattle.std.specs.Prelude.{codes}
-use Rattle.sj_lang.specs.Code.{StmtAt, stmt_then, at, send, delegate, take_value, take_end, outbranch, inbranch, outwhile, inwhile, relay, if_else, let_be, close, branch}
+use Rattle.sj_lang.specs.Code.{StmtAt, stmt_then, at, send, delegate, take_value, take_end, outbranch, inbranch, outwhile, inwhile, relay, if_else, let_be, close, request, accept, branch}
 use Rattle.sj_lang.specs.Limits.{Limits}
 use Rattle.sj_grammar.specs.Tables.{Spelling, IsNamed}
 use Rattle.sj_grammar.specs.Positions.{Piece, plain, first_on, spellings}
@@ -97,6 +97,14 @@ module _ (L : Limits) (names : Spelling) (o : ℕ) (p : Piece) where
 
     pub close_made : (x : List Piece) → p.spelled ≡ codes "close" → Behind (name ∷ semicolon ∷ []) x → Makes x
     close_made _ same (first {k = k1} x (first s nothing)) = made (codes "close") (name ∷ semicolon ∷ []) _ (first {k = k1} x (first s nothing)) (at (line_in p.line) (close x.0)) same (grammar.of_close x.1)
+
+    pub request_made : (x : List Piece) → p.spelled ≡ codes "request" → Behind (name ∷ name ∷ fixed (codes "to") ∷ name ∷ semicolon ∷ []) x → Makes x
+    request_made _ same (first {k = k1} x (first {k = k2} y (first {k = k3} f (first {k = k4} z (first s nothing))))) =
+        made (codes "request") (name ∷ name ∷ fixed (codes "to") ∷ name ∷ semicolon ∷ []) _ (first {k = k1} x (first {k = k2} y (first {k = k3} f (first {k = k4} z (first s nothing))))) (at (line_in p.line) (request x.0 y.0 z.0)) same (grammar.of_request x.1 y.1 z.1)
+
+    pub accept_made : (x : List Piece) → p.spelled ≡ codes "accept" → Behind (name ∷ name ∷ fixed (codes "from") ∷ name ∷ semicolon ∷ []) x → Makes x
+    accept_made _ same (first {k = k1} x (first {k = k2} y (first {k = k3} f (first {k = k4} z (first s nothing))))) =
+        made (codes "accept") (name ∷ name ∷ fixed (codes "from") ∷ name ∷ semicolon ∷ []) _ (first {k = k1} x (first {k = k2} y (first {k = k3} f (first {k = k4} z (first s nothing))))) (at (line_in p.line) (accept x.0 y.0 z.0)) same (grammar.of_accept x.1 y.1 z.1)
 
   -- one due alone
   pub lone : (k m : ℕ) (d : Due) (ts : List Piece) → AllSpelled L names k (d ∷ []) ts m → Spelled L names k d ts m

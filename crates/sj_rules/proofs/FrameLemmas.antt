@@ -2,7 +2,7 @@
 use Rattle.std.proofs.Common.{◌≡◌, ℕ, Bool, true, false, if◌then◌else◌, List, [], ◌∷◌, ◌++◌, map, filter, refl, ap}
 use Rattle.std.specs.Prelude.{◌==◌, ◌&&◌, nat_lt}
 use Rattle.sj_rules.specs.Limits.{clock_end}
-use Rattle.sj_rules.specs.Record.{BodyAt, Carry, Fin, Claim, Signal, Ack, Give, Mail}
+use Rattle.sj_rules.specs.Record.{BodyAt, Carry, Fin, Claim, Signal, Ack, Give, Open, Mail}
 use Rattle.sj_rules.specs.Frames.{FrameAt, frames_for, is_within, is_proper}
 use Rattle.sj_rules.specs.Mapped.{body_with, frame_with, mail_with}
 
@@ -37,6 +37,7 @@ within-with f n (Claim of) = refl
 within-with f n (Signal to conn party taken) = refl
 within-with f n (Ack of conn) = refl
 within-with f n (Give e resend) = refl
+within-with f n (Open sess) = refl
 
 -- a frame with other places keeps the limits where the frame does
 pub proper-with : {P R : Type 0} (f : P → R) (n : ℕ) (m : FrameAt P) → is_proper n (frame_with f m) ≡ is_proper n m

@@ -6,10 +6,11 @@ use Rattle.sj_base.specs.declared.Msg.{Msg}
 use Rattle.sj_base.specs.declared.Msg.TheVariants as msgs
 use Rattle.sj_lang.specs.declared.proto.Way.{Way}
 use Rattle.sj_lang.specs.declared.proto.Way.TheVariants.{Out, Into}
-use Rattle.sj_rules.specs.Limits.{limit_of_hops}
-use Rattle.sj_rules.specs.Record.{Carry, Fin, HeldAt, MainAt, Held, Closed, Expected, Parked, other_end}
+use Rattle.sj_rules.specs.Limits.{limit_of_hops, limit_of_requests}
+use Rattle.sj_rules.specs.Record.{Carry, Fin, Open, HeldAt, MainAt, Held, Closed, Expected, Parked, other_end, requested_end, offered_end}
+use Rattle.sj_rules.specs.Opened.{opened_number, new_held, smallest, without}
 use Rattle.sj_rules.specs.Rows.{Worked}
-use Rattle.sj_rules.specs.Node.{Want, ended, local, sends, delegates, takes, closes, Play, NodeAt, put, with_main, with_old, quietly, held_behind_send, held_behind_take, send_act, delegate_act, work_of_take, is_free, take_from, take_act, close_act, act_by, acts}
+use Rattle.sj_rules.specs.Node.{Want, ended, local, sends, delegates, takes, closes, requests, accepts, Play, NodeAt, put, with_main, with_old, with_offers, quietly, held_behind_send, held_behind_take, send_act, delegate_act, work_of_take, is_free, take_from, take_act, close_act, held_at, accept_session, accept_offered, act_by, acts}
 
 -- what a node asks of a play: the message at the head of the end from which it takes is all that it tests
 pub record AgreeAt {P Q : Type 0} (other play : Play P Q) (n : NodeAt P Q) : Type 0 where
@@ -17,6 +18,7 @@ pub record AgreeAt {P Q : Type 0} (other play : Play P Q) (n : NodeAt P Q) : Typ
   pub over : (place : P) → other.is_over place ≡ play.is_over place
   pub wants : other.wants n.program ≡ play.wants n.program
   pub goes : (m : Option Msg) → other.goes n.program m ≡ play.goes n.program m
+  pub opened : (e : EndId) → other.opened n.program e ≡ play.opened n.program e
   pub worn : other.is_worn n.program ≡ play.is_worn n.program
   pub fits : (e : EndId) (place : P) (h : HeldAt P) (m : Msg) (rest : List Msg) → play.wants n.program ≡ takes e place → n.main e ≡ Some (Held h) → h.untaken ≡ m ∷ rest →
       other.fits n.program m ≡ play.fits n.program m
@@ -76,6 +78,18 @@ module _ {P Q : Type 0} (other play : Play P Q) where
           posts = record { party = h.end.peer; body = Fin (other_end h.end.id) h.end.conn h.end.sent } ∷ [];
         }
 
+    session_alike : (place : P) (from sess : ℕ) (o : Option (MainAt P)) → accept_session other n place from sess o ≡ accept_session play n place from sess o
+    session_alike place from sess None = refl
+    session_alike place from sess (Some (Closed c)) = refl
+    session_alike place from sess (Some (Expected keeper q ds)) = refl
+    session_alike place from sess (Some (Held h)) =
+        ap (λ g. Some (quietly (with_offers from (without sess (n.offers from)) (with_main (offered_end sess) (Some (Held (held_at place h))) (record n { program = g })))))
+        (agree.opened (offered_end sess))
+
+    accept_alike : (place : P) (from : ℕ) (o : Option ℕ) → accept_offered other n place from o ≡ accept_offered play n place from o
+    accept_alike place from None = refl
+    accept_alike place from (Some sess) = session_alike place from sess (n.main (offered_end sess))
+
     by_alike : (want : Want P) → play.wants n.program ≡ want → act_by other p n want ≡ act_by play p n want
     by_alike ended is = refl
     by_alike local is = ap (λ g. Some (quietly (record n { program = g }))) (agree.goes None)
@@ -83,6 +97,14 @@ module _ {P Q : Type 0} (other play : Play P Q) where
     by_alike (delegates carrier e) is = delegate_alike carrier e (n.main e)
     by_alike (takes e place) is = take_alike e place is (n.main e) refl
     by_alike (closes e) is = close_alike e (n.main e)
+    by_alike (requests place to) is = ap (λ g. if nat_lt n.requests limit_of_requests then Some (opened (opened_number p n.requests) g) else None) (agree.opened (requested_end (opened_number p n.requests)))
+      where
+        opened : ℕ → Q → Worked P (NodeAt P Q)
+        opened sess g = record {
+          state = with_main (requested_end sess) (Some (Held (new_held (requested_end sess) place to))) (record n { program = g; requests = n.requests + 1 });
+          posts = record { party = to; body = Open sess } ∷ [];
+        }
+    by_alike (accepts place from) is = accept_alike place from (smallest (n.offers from))
 
     -- so does the next step of the program
     pub acts_alike : acts other p n ≡ acts play p n

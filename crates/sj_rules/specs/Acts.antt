@@ -1,5 +1,5 @@
 -- What the acts do to an end of the plain world, and to the end that sends a frame.
-use Rattle.std.specs.Prelude.{ℕ, ◌+◌, List, [], ◌∷◌, ◌++◌}
+use Rattle.std.specs.Prelude.{ℕ, ◌+◌, Bool, false, List, [], ◌∷◌, ◌++◌}
 use Rattle.sj_base.specs.declared.EndId.{EndId}
 use Rattle.sj_base.specs.declared.Msg.{Msg}
 use Rattle.sj_rules.specs.Record.{EndAt, BodyAt, Carry, Fin, Signal}
@@ -8,6 +8,18 @@ use Rattle.sj_rules.specs.PlainSide.{PlainSide}
 -- the message was sent on it
 abbrev pub plain_sent : {P : Type 0} → PlainSide P → P → Msg → PlainSide P
 plain_sent x place m = record x { place = place; sent = x.sent ++ m ∷ [] }
+
+-- an end that is taken gets the place that the statement names
+abbrev pub plain_placed : {P : Type 0} → PlainSide P → P → PlainSide P
+plain_placed x place = record x { place = place }
+
+-- a new session's end at that place; the other party has to accept it, or not
+abbrev pub plain_opened : {P : Type 0} → P → (offered : Bool) → PlainSide P
+plain_opened place offered = record { place = place; hops = 0; sent = []; taken = 0; offered = offered }
+
+-- it was accepted
+abbrev pub plain_accepted : {P : Type 0} → PlainSide P → P → PlainSide P
+plain_accepted x place = record x { place = place; offered = false }
 
 -- a message was taken on it
 abbrev pub plain_taken : {P : Type 0} → PlainSide P → P → PlainSide P

@@ -1,10 +1,11 @@
 -- Which ends a program binds after a step, and what a message names.
-use Rattle.std.specs.Prelude.{◌≡◌, ◌⊎◌, ◌↔◌, ℕ, ◌<◌, Bool, true, false, ⊤}
+use Rattle.std.specs.Prelude.{◌≡◌, ◌⊎◌, ◌↔◌, ℕ, ◌<◌, ◌≤◌, Bool, true, false, ⊤}
 use Rattle.sj_base.specs.declared.EndId.{EndId}
 use Rattle.sj_base.specs.declared.Msg.{Msg}
 use Rattle.sj_base.specs.declared.Msg.TheVariants as msgs
 use Rattle.sj_rules.specs.Record.{is_same_end}
-use Rattle.sj_rules.specs.PlainSide.{PlainAt}
+use Rattle.sj_rules.specs.Limits.{first_opened}
+use Rattle.sj_rules.specs.Opened.{opened_number}
 
 -- the same ends
 abbrev pub BindsSame : {Q : Type 0} → (binds : Q → EndId → Bool) → (old new : Q) → Type 0
@@ -36,20 +37,24 @@ NamesNoEnd (msgs.Text n) = ⊤
 NamesNoEnd (msgs.Label n) = ⊤
 NamesNoEnd (msgs.More b) = ⊤
 
--- what it names is there, among so many parties and sessions
+-- a session message names another end than that
+abbrev pub NamesOther : EndId → Msg → Type 0
+NamesOther e (msgs.Sess sess side keeper) = is_same_end e (record { sess = sess; side = side }) ≡ false
+NamesOther e (msgs.Int n) = ⊤
+NamesOther e (msgs.Bool b) = ⊤
+NamesOther e (msgs.Text n) = ⊤
+NamesOther e (msgs.Label n) = ⊤
+NamesOther e (msgs.More b) = ⊤
+
+-- a session of a connection, or one that a party can open
+abbrev pub IsSession : (parties connects sess : ℕ) → Type 0
+IsSession parties connects s = (s < connects) ⊎ ((first_opened ≤ s) × (s < opened_number parties 0))
+
+-- what it names is there, among so many parties and connections
 abbrev pub NamesKnown : (parties sessions : ℕ) → Msg → Type 0
-NamesKnown parties sessions (msgs.Sess sess side keeper) = (sess < sessions) × (side < 2) × (keeper < parties)
+NamesKnown parties sessions (msgs.Sess sess side keeper) = IsSession parties sessions sess × (side < 2) × (keeper < parties)
 NamesKnown parties sessions (msgs.Int n) = ⊤
 NamesKnown parties sessions (msgs.Bool b) = ⊤
 NamesKnown parties sessions (msgs.Text n) = ⊤
 NamesKnown parties sessions (msgs.Label n) = ⊤
 NamesKnown parties sessions (msgs.More b) = ⊤
-
--- the end that it names is at that place
-abbrev pub NamesAt : {P Q : Type 0} → PlainAt P Q → P → Msg → Type 0
-NamesAt plain place (msgs.Sess sess side keeper) = (plain.sides (record { sess = sess; side = side })).place ≡ place
-NamesAt plain place (msgs.Int n) = ⊤
-NamesAt plain place (msgs.Bool b) = ⊤
-NamesAt plain place (msgs.Text n) = ⊤
-NamesAt plain place (msgs.Label n) = ⊤
-NamesAt plain place (msgs.More b) = ⊤

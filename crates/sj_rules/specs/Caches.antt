@@ -6,7 +6,7 @@ use Rattle.sj_rules.specs.Record.{EndAt, Give, MainAt, Held, Closed, Expected, O
 use Rattle.sj_rules.specs.World.{WorldAt}
 use Rattle.sj_rules.specs.PlainSide.{PlainSide}
 use Rattle.sj_rules.specs.Shown.{bodies, is_give}
-use Rattle.sj_rules.specs.Spots.{Spot, at_main, at_old, on_way}
+use Rattle.sj_rules.specs.Spots.{Spot, at_main, at_old, on_way, in_open}
 
 -- the end in a main record; an Expected one has none
 abbrev pub main_end : {P : Type 0} → Option (MainAt P) → Option (EndAt P)
@@ -26,6 +26,7 @@ abbrev pub HasEnd : {P Q : Type 0} → WorldAt P Q → EndId → Spot → EndAt 
 HasEnd w id (at_main p) e = main_end ((w.nodes p).main id) ≡ Some e
 HasEnd w id (at_old p) e = old_end ((w.nodes p).old id) ≡ Some e
 HasEnd w id (on_way from to) e = (resend : Option ℕ) × (filter (is_give id) (bodies (w.lanes from to)) ≡ Give e resend ∷ [])
+HasEnd w id (in_open p) e = ⊥
 
 -- x is what the plain world knows of the other end, y of this one: what was taken there was sent here, and the cache has
 -- all that was sent from a base on up to which everything was taken

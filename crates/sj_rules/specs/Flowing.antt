@@ -2,7 +2,7 @@
 use Rattle.std.specs.Prelude.{◌≡◌, ◌⊎◌, ℕ, ◌+◌, ◌≤◌, ◌&&◌, ◌==◌, if◌then◌else◌, ⊤, List, [], ◌++◌, filter_map, Contains, Option, Some, None}
 use Rattle.sj_base.specs.declared.EndId.{EndId}
 use Rattle.sj_base.specs.declared.Msg.{Msg}
-use Rattle.sj_rules.specs.Record.{BodyAt, Carry, Fin, Claim, Signal, Ack, Give, is_same_end}
+use Rattle.sj_rules.specs.Record.{BodyAt, Carry, Fin, Claim, Signal, Ack, Give, Open, is_same_end}
 use Rattle.sj_rules.specs.World.{WorldAt}
 use Rattle.sj_rules.specs.Seat.{Seat, held, parked, claimed, signalled, given, closed, gone, Side}
 use Rattle.sj_rules.specs.Shown.{bodies}
@@ -15,6 +15,7 @@ carried_under e c (Claim of) = None
 carried_under e c (Signal to conn party taken) = None
 carried_under e c (Ack of conn) = None
 carried_under e c (Give end resend) = None
+carried_under e c (Open sess) = None
 
 -- all of them, in order
 abbrev pub carries_under : {P : Type 0} → EndId → ℕ → List (BodyAt P) → List Msg
@@ -59,6 +60,7 @@ TellsTaken s k (Fin to conn number) = ⊥
 TellsTaken s k (Claim of) = ⊥
 TellsTaken s k (Ack of conn) = ⊥
 TellsTaken s k (Give end resend) = ⊥
+TellsTaken s k (Open sess) = ⊥
 
 -- what is deferred for an end that is awaited
 abbrev pub deferred_of : {P : Type 0} → Seat P → List (BodyAt P)

@@ -1,17 +1,20 @@
 -- Why a party can't act now.
-use Rattle.std.specs.Prelude.{nat_lt, Bool, true, false, if◌then◌else◌, List, [], ◌∷◌, Option, Some, None}
+use Rattle.std.specs.Prelude.{ℕ, nat_lt, Bool, true, false, if◌then◌else◌, List, [], ◌∷◌, Option, Some, None}
 use Rattle.sj_base.specs.declared.EndId.{EndId}
-use Rattle.sj_rules.specs.Limits.{limit_of_hops}
+use Rattle.sj_rules.specs.Limits.{limit_of_hops, limit_of_requests}
 use Rattle.sj_rules.specs.Record.{MainAt, Held, Closed, Expected}
-use Rattle.sj_rules.specs.Node.{Want, ended, local, sends, delegates, takes, closes, Play, NodeAt}
+use Rattle.sj_rules.specs.Node.{Want, ended, local, sends, delegates, takes, closes, requests, accepts, Play, NodeAt}
 
--- the program is at its end, or has done its steps; a named end is awaited; the end was delegated too often; no message is there
+-- the program is at its end, or has done its steps; a named end is awaited; the end was delegated too often; no message
+-- is there; it opened too many sessions; that party offers none
 pub data Halt : Type 0 where
   at_end : Halt
   worn : Halt
   awaits : EndId → Halt
   delegated_enough : EndId → Halt
   no_message : EndId → Halt
+  requested_enough : Halt
+  no_offer : (from : ℕ) → Halt
 
 -- the record is an Expected one
 abbrev pub is_expected : {P : Type 0} → Option (MainAt P) → Bool
@@ -43,7 +46,7 @@ has_message None = false
 abbrev pub halt_if : Bool → Halt → Option Halt → Option Halt
 halt_if b h rest = if b then Some h else rest
 
--- the causes of a next step, in order: an awaited end, an end with too many handovers, no message
+-- the causes of a next step, in order: an awaited end, an end with too many handovers, no message; too many requests; no offer
 abbrev pub halt_by : {P Q : Type 0} → NodeAt P Q → Want P → Option Halt
 halt_by n ended = Some at_end
 halt_by n local = None
@@ -53,6 +56,8 @@ halt_by n (delegates carrier e) =
     (halt_if (is_expected (n.main e)) (awaits e) (if may_be_delegated (n.main e) then None else Some (delegated_enough e)))
 halt_by n (takes e place) = halt_if (is_expected (n.main e)) (awaits e) (if has_message (n.main e) then None else Some (no_message e))
 halt_by n (closes e) = halt_if (is_expected (n.main e)) (awaits e) None
+halt_by n (requests place to) = if nat_lt n.requests limit_of_requests then None else Some requested_enough
+halt_by n (accepts place from) = if is_filled (n.offers from) then None else Some (no_offer from)
 
 -- the program has no next step
 abbrev pub is_at_end : {P : Type 0} → Want P → Bool
@@ -62,6 +67,8 @@ is_at_end (sends e msg) = false
 is_at_end (delegates carrier e) = false
 is_at_end (takes e place) = false
 is_at_end (closes e) = false
+is_at_end (requests place to) = false
+is_at_end (accepts place from) = false
 
 -- the first cause that applies
 abbrev pub halt_of : {P Q : Type 0} → Play P Q → NodeAt P Q → Option Halt

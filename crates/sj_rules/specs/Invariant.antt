@@ -13,7 +13,7 @@ pub record Direction {P : Type 0} (IsOver : P → Type 0) (pace : Pace) (x y : P
   pub fits : SeatFits IsOver r.id x y r.seat
   -- and so for the place that an Expected record of r awaits
   pub place : r.place ≡ y.place
-  -- counts: a Give of s resends from what r has taken
+  -- counts: a Give of s resends from what r has taken, under its new number
   pub resend : ResendFits y.taken s.seat
   -- frames: what is under r's coming number
   pub comes : Comes pace r.id x y s.seat r.seat r.live

@@ -1,5 +1,6 @@
 pub mod Limits
 pub mod Record
+pub mod Opened
 pub mod Frames
 pub mod Worked
 pub mod Rows
@@ -33,6 +34,7 @@ pub mod Streams
 pub mod Coming
 pub mod Invariant
 pub mod Linked
+pub mod Reading
 pub mod Flowing
 pub mod StandsFor
 pub mod Spots

@@ -1,10 +1,10 @@
 -- The invariant of the whole world: each session is sound, and session messages name the ends that are Parked.
-use Rattle.std.specs.Prelude.{◌≡◌, ◌↔◌, ℕ, ◌<◌, Bool, true, List, slice_get, Option, Some, None}
+use Rattle.std.specs.Prelude.{◌≡◌, ◌↔◌, ℕ, ◌<◌, Bool, true, false, List, slice_get, Option, Some, None}
 use Rattle.std.specs.List.{AllByRecursion}
 use Rattle.sj_base.specs.declared.EndId.{EndId}
 use Rattle.sj_base.specs.declared.Msg.{Msg}
 use Rattle.sj_base.specs.declared.Msg.TheVariants as msgs
-use Rattle.sj_rules.specs.Record.{BodyAt, Carry, Fin, Claim, Signal, Ack, Give, other_end}
+use Rattle.sj_rules.specs.Record.{BodyAt, Carry, Fin, Claim, Signal, Ack, Give, Open, other_end, offered_end}
 use Rattle.sj_rules.specs.Frames.{FrameAt}
 use Rattle.sj_rules.specs.World.{WorldAt}
 use Rattle.sj_rules.specs.Seat.{Seat, held, parked, claimed, signalled, given, closed, gone, Side}
@@ -55,6 +55,7 @@ subject_of (Claim of) = of
 subject_of (Signal to conn party taken) = to
 subject_of (Ack of conn) = of
 subject_of (Give e resend) = e.id
+subject_of (Open sess) = offered_end sess
 
 -- the end of that session and side
 abbrev pub end_named : ℕ → ℕ → EndId
@@ -79,4 +80,5 @@ pub record IsKept {P Q : Type 0} (IsOver : P → Type 0) (binds : Q → EndId �
   pub sessions : Sessions IsOver w plain.sides
   pub linked : IsLinked plain (λ e. (sessions.sides e).seat)
   pub programs : (p : ℕ) → (w.nodes p).program ≡ plain.programs p
-  pub bound : (p : ℕ) (e : EndId) → e.side < 2 → (binds (plain.programs p) e ≡ true) ↔ (user_of (sessions.sides e).seat ≡ Some p)
+  -- an offered end is bound nowhere, but in use all the same
+  pub bound : (p : ℕ) (e : EndId) → e.side < 2 → (plain.sides e).offered ≡ false → (binds (plain.programs p) e ≡ true) ↔ (user_of (sessions.sides e).seat ≡ Some p)

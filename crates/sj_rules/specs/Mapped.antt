@@ -1,7 +1,7 @@
 -- Records whose places are seen as other places, by f.
 use Rattle.std.specs.Prelude.{Option, option_map, map}
 use Rattle.sj_base.specs.declared.EndId.{EndId}
-use Rattle.sj_rules.specs.Record.{EndAt, BodyAt, Carry, Fin, Claim, Signal, Ack, Give, Mail, HeldAt, MainAt, Held, Closed, Expected, OldAt, Parked, Signalled}
+use Rattle.sj_rules.specs.Record.{EndAt, BodyAt, Carry, Fin, Claim, Signal, Ack, Give, Open, Mail, HeldAt, MainAt, Held, Closed, Expected, OldAt, Parked, Signalled}
 use Rattle.sj_rules.specs.Frames.{FrameAt}
 use Rattle.sj_rules.specs.Rows.{Worked}
 use Rattle.sj_rules.specs.Node.{NodeAt}
@@ -28,6 +28,7 @@ body_with f (Claim of) = Claim of
 body_with f (Signal to conn party taken) = Signal to conn party taken
 body_with f (Ack of conn) = Ack of conn
 body_with f (Give e resend) = Give (end_with f e) resend
+body_with f (Open sess) = Open sess
 
 -- of a body with its party
 abbrev pub mail_with : {P R : Type 0} → (P → R) → Mail P → Mail R
@@ -58,7 +59,7 @@ each_with g table = λ e. option_map g (table e)
 
 -- of a node, whose program stays
 abbrev pub node_with : {P R Q : Type 0} → (P → R) → NodeAt P Q → NodeAt R Q
-node_with f n = record { program = n.program; clock = n.clock; main = each_with (main_with f) n.main; old = each_with (old_with f) n.old }
+node_with f n = record { program = n.program; clock = n.clock; requests = n.requests; offers = n.offers; main = each_with (main_with f) n.main; old = each_with (old_with f) n.old }
 
 -- what a row leaves is seen by g
 abbrev pub worked_with : {P R X Y : Type 0} → (P → R) → (X → Y) → Worked P X → Worked R Y

@@ -4,11 +4,12 @@ use Rattle.sj_base.specs.declared.EndId.{EndId}
 use Rattle.sj_base.specs.declared.Msg.{Msg}
 use Rattle.sj_base.specs.declared.Msg.TheVariants as msgs
 use Rattle.sj_lang.specs.declared.proto.Way.TheVariants.{Out, Into}
-use Rattle.sj_rules.specs.Limits.{limit_of_hops}
-use Rattle.sj_rules.specs.Record.{Carry, Fin, Claim, HeldAt, MainAt, Held, Closed, Expected, Parked, other_end}
+use Rattle.sj_rules.specs.Limits.{limit_of_hops, limit_of_requests}
+use Rattle.sj_rules.specs.Record.{Carry, Fin, Claim, Open, HeldAt, MainAt, Held, Closed, Expected, Parked, other_end, requested_end, offered_end}
 use Rattle.sj_rules.specs.Rows.{Worked}
-use Rattle.sj_rules.specs.Play.{Want, ended, local, sends, delegates, takes, closes, Play}
-use Rattle.sj_rules.specs.Tables.{NodeAt, put, with_main, with_old, quietly}
+use Rattle.sj_rules.specs.Opened.{opened_number, new_held, smallest, without}
+use Rattle.sj_rules.specs.Play.{Want, ended, local, sends, delegates, takes, closes, requests, accepts, Play}
+use Rattle.sj_rules.specs.Tables.{NodeAt, put, with_main, with_old, with_offers, quietly}
 
 -- the end once a message was sent on it
 abbrev pub held_behind_send : {P : Type 0} → HeldAt P → Msg → P → HeldAt P
@@ -79,6 +80,41 @@ close_act play n e (Some (Held h)) =
     else None
 close_act play n e _ = None
 
+-- this party opens that session: its end is Held here, and an Open goes out
+abbrev pub open_session : {P Q : Type 0} → Play P Q → NodeAt P Q → P → (to sess : ℕ) → Worked P (NodeAt P Q)
+open_session play n place to sess = record {
+  state = with_main (requested_end sess) (Some (Held (new_held (requested_end sess) place to)))
+      (record n { program = play.opened n.program (requested_end sess); requests = n.requests + 1 });
+  posts = record { party = to; body = Open sess } ∷ [];
+}
+
+-- where it opened few
+abbrev pub request_act : {P Q : Type 0} → Play P Q → (party : ℕ) → NodeAt P Q → P → (to : ℕ) → Option (Worked P (NodeAt P Q))
+request_act play party n place to =
+    if nat_lt n.requests limit_of_requests
+    then Some (open_session play n place to (opened_number party n.requests))
+    else None
+
+-- the end at its place
+abbrev pub held_at : {P : Type 0} → P → HeldAt P → HeldAt P
+held_at place h = record h { end = record h.end { place = place } }
+
+-- this party accepts that session: its end gets the place, and is offered no more
+abbrev pub accept_session : {P Q : Type 0} → Play P Q → NodeAt P Q → P → (from sess : ℕ) → Option (MainAt P) → Option (Worked P (NodeAt P Q))
+accept_session play n place from sess (Some (Held h)) =
+    Some (quietly (with_offers from (without sess (n.offers from))
+    (with_main (offered_end sess) (Some (Held (held_at place h))) (record n { program = play.opened n.program (offered_end sess) }))))
+accept_session play n place from sess _ = None
+
+-- where one is offered
+abbrev pub accept_offered : {P Q : Type 0} → Play P Q → NodeAt P Q → P → (from : ℕ) → Option ℕ → Option (Worked P (NodeAt P Q))
+accept_offered play n place from None = None
+accept_offered play n place from (Some sess) = accept_session play n place from sess (n.main (offered_end sess))
+
+-- of what that party offers the session with the smallest number
+abbrev pub accept_act : {P Q : Type 0} → Play P Q → NodeAt P Q → P → (from : ℕ) → Option (Worked P (NodeAt P Q))
+accept_act play n place from = accept_offered play n place from (smallest (n.offers from))
+
 -- by the next step that the program wants
 abbrev pub act_by : {P Q : Type 0} → Play P Q → (party : ℕ) → NodeAt P Q → Want P → Option (Worked P (NodeAt P Q))
 act_by play party n ended = None
@@ -87,6 +123,8 @@ act_by play party n (sends e msg) = send_act play n e msg (n.main e)
 act_by play party n (delegates carrier e) = delegate_act play party n carrier e (n.main e)
 act_by play party n (takes e place) = take_act play n e place (n.main e)
 act_by play party n (closes e) = close_act play n e (n.main e)
+act_by play party n (requests place to) = request_act play party n place to
+act_by play party n (accepts place from) = accept_act play n place from
 
 -- the next step of the party's program
 abbrev pub acts : {P Q : Type 0} → Play P Q → (party : ℕ) → NodeAt P Q → Option (Worked P (NodeAt P Q))

@@ -1,6 +1,6 @@
 -- A party's own run: its acts, and the frames that came to it, whatever other parties do.
 use Rattle.std.specs.Prelude.{◌≡◌, ℕ, ◌+◌, max, ◌==◌, if◌then◌else◌, List, [], ◌∷◌, map, filter_map, flat_map, Option, Some, None}
-use Rattle.sj_rules.specs.Record.{BodyAt, Carry, Fin, Claim, Signal, Ack, Give, Mail}
+use Rattle.sj_rules.specs.Record.{BodyAt, Carry, Fin, Claim, Signal, Ack, Give, Open, Mail}
 use Rattle.sj_rules.specs.Rows.{Worked}
 use Rattle.sj_rules.specs.Node.{Play, NodeAt, arrives, acts}
 use Rattle.sj_rules.specs.Frames.{FrameAt, frames_for}
@@ -36,7 +36,7 @@ deed_note play party n (Came from f) = Some (body_note f.body)
 -- by the rules, the clock aside
 abbrev pub deed_done : {P Q : Type 0} → Play P Q → (ℕ → ℕ → ℕ) → (party : ℕ) → NodeAt P Q → Deed P → Option (Worked P (NodeAt P Q))
 deed_done play pick party n Acted = acts play party n
-deed_done play pick party n (Came from f) = arrives play.parties pick n from f
+deed_done play pick party n (Came from f) = arrives play.blank play.parties pick n from f
 
 -- the step leads from the one node to the other
 pub record Steps {P Q : Type 0} (play : Play P Q) (pick : ℕ → ℕ → ℕ) (party : ℕ) (old : NodeAt P Q) (s : StepAt P) (new : NodeAt P Q) : Type 0 where
@@ -62,6 +62,7 @@ told_body blank (Claim of) = Claim of
 told_body blank (Signal to conn party taken) = Signal to conn party taken
 told_body blank (Ack of conn) = Ack of conn
 told_body blank (Give e resend) = Give (record e { place = blank }) resend
+told_body blank (Open sess) = Open sess
 
 -- the frame keeps its clock
 abbrev pub frame_told : {P : Type 0} → P → FrameAt P → FrameAt P

@@ -10,10 +10,13 @@ use Rattle.sj_rules.specs.Acts.{plain_parked}
 abbrev pub waits_of : {P Q : Type 0} → PlainAt P Q → EndId → List Msg
 waits_of plain e = untaken_of (plain.sides (other_end e)) (plain.sides e)
 
--- the program of one party goes on
+-- the program of one party goes on, and no session is opened or accepted
 pub record Proceeds {P Q : Type 0} (plain plain' : PlainAt P Q) (p : ℕ) (q : Q) : Type 0 where
   pub here : plain'.programs p ≡ q
   pub away : (k : ℕ) → (k == p) ≡ false → plain'.programs k ≡ plain.programs k
+  pub requests : (k : ℕ) → plain'.requests k ≡ plain.requests k
+  pub offers : (from to : ℕ) → plain'.offers from to ≡ plain.offers from to
+  pub offered : (e : EndId) → (plain'.sides e).offered ≡ (plain.sides e).offered
 
 -- counts of a plain world: no more is taken than was sent, and hops stay below the limit of numbers
 abbrev pub CountsHold : {P Q : Type 0} → PlainAt P Q → Type 0
@@ -21,4 +24,4 @@ CountsHold plain = (e : EndId) → e.side < 2 → CountsFit (plain.sides (other_
 
 -- the plain world where only the hops of d have risen
 abbrev pub plain_with_hop : {P Q : Type 0} → PlainAt P Q → EndId → PlainAt P Q
-plain_with_hop plain d = record { programs = plain.programs; sides = λ e. if is_same_end e d then plain_parked (plain.sides d) else plain.sides e }
+plain_with_hop plain d = record plain { sides = λ e. if is_same_end e d then plain_parked (plain.sides d) else plain.sides e }

@@ -1,5 +1,5 @@
 -- What the rules see of a plain world: of each end its place, its handovers, and two counts.
-use Rattle.std.specs.Prelude.{◌≡◌, ℕ, ◌+◌, ◌<◌, ◌≤◌, List, ◌++◌, drop, length}
+use Rattle.std.specs.Prelude.{◌≡◌, ℕ, Bool, ◌+◌, ◌<◌, ◌≤◌, List, ◌++◌, drop, length}
 use Rattle.sj_base.specs.declared.EndId.{EndId}
 use Rattle.sj_base.specs.declared.Msg.{Msg}
 use Rattle.sj_rules.specs.Limits.{limit_of_conns}
@@ -11,11 +11,15 @@ pub record PlainSide (P : Type 0) : Type 0 where
   pub hops : ℕ
   pub sent : List Msg
   pub taken : ℕ
+  -- it is the end of an opened session that wasn't accepted
+  pub offered : Bool
 
--- all programs, and all ends
+-- all programs and ends; how many sessions each party opened, and which ones from one party to another weren't accepted, in order
 pub record PlainAt (P Q : Type 0) : Type 0 where
   pub programs : ℕ → Q
   pub sides : EndId → PlainSide P
+  pub requests : ℕ → ℕ
+  pub offers : (from to : ℕ) → List ℕ
 
 -- what a session's counts keep: x took of what y sent, and handovers are few
 pub record CountsFit {P : Type 0} (x y : PlainSide P) : Type 0 where

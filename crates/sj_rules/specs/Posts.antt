@@ -10,7 +10,7 @@ use Rattle.sj_rules.specs.Log.{LineAt}
 -- what the rules do at p, and what that posts
 abbrev pub front_done : {P Q : Type 0} → Play P Q → (ℕ → ℕ → ℕ) → NodeAt P Q → (origin : ℕ) → List (FrameAt P) → Option (Worked P (NodeAt P Q))
 front_done play pick n origin [] = None
-front_done play pick n origin (f ∷ rest) = arrives play.parties pick n origin f
+front_done play pick n origin (f ∷ rest) = arrives play.blank play.parties pick n origin f
 
 -- of an act, or of the first frame of the lane
 abbrev pub event_done : {P Q : Type 0} → Play P Q → (ℕ → ℕ → ℕ) → WorldAt P Q → (p : ℕ) → Event → Option (Worked P (NodeAt P Q))

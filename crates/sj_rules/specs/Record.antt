@@ -23,6 +23,7 @@ pub data BodyAt (P : Type 0) : Type 0 where
   Signal : (to : EndId) → (conn party taken : ℕ) → BodyAt P
   Ack : (of : EndId) → (conn : ℕ) → BodyAt P
   Give : EndAt P → (resend : Option ℕ) → BodyAt P
+  Open : (sess : ℕ) → BodyAt P
 
 -- a body with the party to which it goes, or from which it came
 pub record Mail (P : Type 0) : Type 0 where
@@ -49,6 +50,14 @@ pub data OldAt (P : Type 0) : Type 0 where
 -- the other end of the session
 abbrev pub other_end : EndId → EndId
 other_end e = record { sess = e.sess; side = 1 - e.side }
+
+-- the end of an opened session that its requester gets, and the one that is offered
+abbrev pub requested_end : (sess : ℕ) → EndId
+requested_end s = record { sess = s; side = 0 }
+
+-- it is Held where its Open came, until it is accepted
+abbrev pub offered_end : (sess : ℕ) → EndId
+offered_end s = record { sess = s; side = 1 }
 
 -- two names of one end
 abbrev pub is_same_end : EndId → EndId → Bool

@@ -3,7 +3,7 @@ use Rattle.std.specs.Prelude.{ℕ, ◌+◌, ◌-◌, ◌≤◌, max, Bool, true,
 use Rattle.sj_base.specs.declared.EndId.{EndId}
 use Rattle.sj_base.specs.declared.Msg.{Msg}
 use Rattle.sj_rules.specs.Limits.{limit_of_conns}
-use Rattle.sj_rules.specs.Record.{EndAt, BodyAt, Carry, Fin, Claim, Signal, Ack, Give, Mail, HeldAt, other_end}
+use Rattle.sj_rules.specs.Record.{EndAt, BodyAt, Carry, Fin, Claim, Signal, Ack, Give, Open, Mail, HeldAt, other_end}
 pub use Rattle.sj_rules.specs.Worked.{Worked, mails_of, with_first, with_last}
 
 -- a choice of bases: from the old one up to the larger of it and what was told
@@ -88,6 +88,7 @@ at_held pick h origin (Signal to conn party taken) =
 at_held pick h origin (Claim of) = None
 at_held pick h origin (Ack of conn) = None
 at_held pick h origin (Give e resend) = None
+at_held pick h origin (Open sess) = None
 
 -- what was deferred, in order
 abbrev pub worked_record : {P : Type 0} → (ℕ → ℕ → ℕ) → HeldAt P → List (Mail P) → Option (Worked P (HeldAt P))

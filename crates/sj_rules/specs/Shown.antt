@@ -1,7 +1,7 @@
 -- Records and lanes: what a world shows of an end that is in some seat.
 use Rattle.std.specs.Prelude.{◌≡◌, ℕ, Bool, false, ◌&&◌, ◌==◌, if◌then◌else◌, List, [], ◌∷◌, ◌++◌, map, filter, Option, Some, None}
 use Rattle.sj_base.specs.declared.EndId.{EndId}
-use Rattle.sj_rules.specs.Record.{BodyAt, Carry, Fin, Claim, Signal, Ack, Give, MainAt, Held, Closed, Expected, OldAt, Parked, Signalled, is_same_end}
+use Rattle.sj_rules.specs.Record.{BodyAt, Carry, Fin, Claim, Signal, Ack, Give, Open, MainAt, Held, Closed, Expected, OldAt, Parked, Signalled, is_same_end}
 use Rattle.sj_rules.specs.Frames.{FrameAt}
 use Rattle.sj_rules.specs.World.{WorldAt}
 use Rattle.sj_rules.specs.Seat.{Seat, held, parked, claimed, signalled, given, closed, gone, Side, coming_of, taker_of, source_for}
@@ -35,6 +35,7 @@ goes_to e c (Signal to conn party taken) = is_same_end to e && (c == conn)
 goes_to e c (Ack of conn) = is_same_end of e && (c == conn)
 goes_to e c (Claim of) = false
 goes_to e c (Give end resend) = false
+goes_to e c (Open sess) = false
 
 -- it is a Claim of that end
 abbrev pub is_claim : {P : Type 0} → EndId → BodyAt P → Bool
@@ -44,6 +45,7 @@ is_claim e (Fin to conn number) = false
 is_claim e (Signal to conn party taken) = false
 is_claim e (Ack of conn) = false
 is_claim e (Give end resend) = false
+is_claim e (Open sess) = false
 
 -- it is the Give of that end
 abbrev pub is_give : {P : Type 0} → EndId → BodyAt P → Bool
@@ -53,6 +55,7 @@ is_give e (Carry to conn number taken msg) = false
 is_give e (Fin to conn number) = false
 is_give e (Signal to conn party taken) = false
 is_give e (Ack of conn) = false
+is_give e (Open sess) = false
 
 -- what frames say
 abbrev pub bodies : {P : Type 0} → List (FrameAt P) → List (BodyAt P)

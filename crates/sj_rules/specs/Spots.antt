@@ -1,19 +1,22 @@
 -- Where an end lies in a core world, and who awaits it.
-use Rattle.std.specs.Prelude.{◌≡◌, ◌⊎◌, ◌↔◌, ℕ, ⊤, List, [], ◌∷◌, Option, Some, None}
+use Rattle.std.specs.Prelude.{◌≡◌, ◌⊎◌, ◌↔◌, ℕ, ⊤, List, [], ◌∷◌, Contains, Option, Some, None}
 use Rattle.std.specs.List.{filter}
 use Rattle.sj_base.specs.declared.EndId.{EndId}
 use Rattle.sj_base.specs.declared.Msg.TheVariants as msgs
-use Rattle.sj_rules.specs.Record.{EndAt, BodyAt, Mail, MainAt, Held, Closed, Expected, OldAt, Parked, Signalled}
+use Rattle.sj_rules.specs.Record.{EndAt, BodyAt, Open, Mail, MainAt, Held, Closed, Expected, OldAt, Parked, Signalled}
+use Rattle.sj_rules.specs.Opened.{opener_of, is_open_of}
 use Rattle.sj_rules.specs.World.{WorldAt}
 use Rattle.sj_rules.specs.Shown.{bodies, is_give}
 use Rattle.sj_rules.specs.PlainSide.{PlainAt}
 use Rattle.sj_rules.specs.Linked.{waiting_at}
 
--- a Held or Closed record at that party; a Parked or Signalled one; the one Give of the end in that lane
+-- a Held or Closed record at that party; a Parked or Signalled one; the one Give of the end in that lane; its one Open, on
+-- the way to that party
 pub data Spot : Type 0 where
   at_main : ℕ → Spot
   at_old : ℕ → Spot
   on_way : (from to : ℕ) → Spot
+  in_open : (to : ℕ) → Spot
 
 -- the end lies there; an Expected record only awaits it
 abbrev pub HasMain : {P : Type 0} → Option (MainAt P) → Type 0
@@ -32,6 +35,7 @@ abbrev pub LiesAt : {P Q : Type 0} → WorldAt P Q → EndId → Spot → Type 0
 LiesAt w e (at_main p) = HasMain ((w.nodes p).main e)
 LiesAt w e (at_old p) = HasOld ((w.nodes p).old e)
 LiesAt {P} w e (on_way from to) = (give : BodyAt P) × (filter (is_give e) (bodies (w.lanes from to)) ≡ give ∷ [])
+LiesAt w e (in_open p) = filter (is_open_of e) (bodies (w.lanes (opener_of e.sess) p)) ≡ Open e.sess ∷ []
 
 -- the end lies once, at that spot, or is gone where there is none; one party at most awaits it, from where it lies
 pub record LiesOnce {P Q : Type 0} (w : WorldAt P Q) (e : EndId) : Type 0 where
@@ -45,4 +49,6 @@ pub record LiesOnce {P Q : Type 0} (w : WorldAt P Q) (e : EndId) : Type 0 where
 pub record IsAtRest {P Q : Type 0} (w : WorldAt P Q) (plain : PlainAt P Q) (e : EndId) : Type 0 where
   pub not_awaited : (p keeper : ℕ) (place : P) (late : List (Mail P)) → (w.nodes p).main e ≡ Some (Expected keeper place late) → ⊥
   pub not_signalled : (p to : ℕ) (k : EndAt P) → (w.nodes p).old e ≡ Some (Signalled k to) → ⊥
+  -- nor offered, but where its session wasn't accepted
+  pub offered : (from p : ℕ) → Contains ((w.nodes p).offers from) e.sess → Contains (plain.offers from p) e.sess
   pub waits : (p : ℕ) (k : EndAt P) → (w.nodes p).old e ≡ Some (Parked k) → (d : EndId) × (n : ℕ) × (waiting_at plain d n ≡ Some (msgs.Sess e.sess e.side p))

@@ -51,6 +51,8 @@ abbrev pub first_node : FileAt → ℕ → NodeAt Place Program
 first_node file p = record {
   program = unwrap_or (slice_get (start_of file).parties p) nobody;
   clock = 0;
+  requests = 0;
+  offers = λ from. [];
   main = first_main file p;
   old = λ e. None;
 }

@@ -2,7 +2,7 @@
 use Rattle.std.specs.Prelude.{◌≡◌, ◌⊎◌, ℕ, ◌+◌, ◌≤◌, Bool, true, false, ⊤, List, [], ◌∷◌, ◌++◌, length}
 use Rattle.sj_base.specs.declared.EndId.{EndId}
 use Rattle.sj_base.specs.declared.Msg.{Msg}
-use Rattle.sj_rules.specs.Record.{BodyAt, Carry, Fin, Claim, Signal, Ack, Give, HeldAt}
+use Rattle.sj_rules.specs.Record.{BodyAt, Carry, Fin, Claim, Signal, Ack, Give, Open, HeldAt}
 use Rattle.sj_rules.specs.Seat.{Seat, held, parked, claimed, signalled, given, closed, gone}
 use Rattle.sj_rules.specs.PlainSide.{PlainSide}
 use Rattle.sj_rules.specs.Numbers.{is_over}
@@ -24,6 +24,7 @@ AreDropped to conn is_over (Claim of ∷ bs) = ⊥
 AreDropped to conn is_over (Signal d c party taken ∷ bs) = ⊥
 AreDropped to conn is_over (Ack of c ∷ bs) = ⊥
 AreDropped to conn is_over (Give e resend ∷ bs) = ⊥
+AreDropped to conn is_over (Open sess ∷ bs) = ⊥
 
 -- the Signal of a Signalled end s for r
 abbrev pub signal_of : {P : Type 0} → EndId → (conn taken : ℕ) → Seat P → List (BodyAt P)

@@ -1,5 +1,5 @@
--- One party: its program, its clock, and its records of ends in two tables.
-use Rattle.std.specs.Prelude.{ℕ, ◌==◌, if◌then◌else◌, [], ◌∷◌, Option, Some, None}
+-- One party: its program, its clock, what it opened and what is offered to it, and its records of ends in two tables.
+use Rattle.std.specs.Prelude.{ℕ, ◌==◌, if◌then◌else◌, List, [], ◌∷◌, Option, Some, None}
 use Rattle.sj_base.specs.declared.EndId.{EndId}
 use Rattle.sj_rules.specs.Record.{EndAt, BodyAt, HeldAt, MainAt, Held, Closed, OldAt, Parked, Signalled, is_same_end}
 use Rattle.sj_rules.specs.Rows.{Worked}
@@ -8,6 +8,9 @@ use Rattle.sj_rules.specs.Rows.{Worked}
 pub record NodeAt (P Q : Type 0) : Type 0 where
   pub program : Q
   pub clock : ℕ
+  -- how many sessions it opened, and which sessions each party opened to it that it hasn't accepted
+  pub requests : ℕ
+  pub offers : (from : ℕ) → List ℕ
   pub main : EndId → Option (MainAt P)
   pub old : EndId → Option (OldAt P)
 
@@ -22,6 +25,10 @@ with_main e r n = record n { main = put e r n.main }
 -- the old record of e is that from now on
 abbrev pub with_old : {P Q : Type 0} → EndId → Option (OldAt P) → NodeAt P Q → NodeAt P Q
 with_old e r n = record n { old = put e r n.old }
+
+-- what that party offers is this from now on
+abbrev pub with_offers : {P Q : Type 0} → ℕ → List ℕ → NodeAt P Q → NodeAt P Q
+with_offers q sessions n = record n { offers = λ p. if p == q then sessions else n.offers p }
 
 -- the old record of that connection number
 abbrev pub with_number : {P : Type 0} → ℕ → Option (OldAt P) → Option (OldAt P)

@@ -5,7 +5,7 @@ use Rattle.sj_base.specs.declared.EndId.{EndId}
 use Rattle.sj_base.specs.declared.Msg.{Msg}
 use Rattle.sj_base.specs.declared.Msg.TheVariants as msgs
 use Rattle.sj_rules.specs.Limits.{limit_of_conns, limit_of_messages}
-use Rattle.sj_rules.specs.Record.{EndAt, BodyAt, Carry, Fin, Claim, Signal, Ack, Give, Mail, MainAt, Held, Closed, Expected, OldAt, Parked, Signalled}
+use Rattle.sj_rules.specs.Record.{EndAt, BodyAt, Carry, Fin, Claim, Signal, Ack, Give, Open, Mail, MainAt, Held, Closed, Expected, OldAt, Parked, Signalled}
 use Rattle.sj_rules.specs.Rows.{Worked}
 use Rattle.sj_rules.specs.Node.{NodeAt}
 use Rattle.sj_rules.specs.Frames.{FrameAt}
@@ -37,6 +37,7 @@ BodyWithin n (Claim of) = ⊤
 BodyWithin n (Signal to conn party taken) = (conn ≤ limit_of_conns) × (party < n) × (taken ≤ limit_of_messages)
 BodyWithin n (Ack of conn) = conn ≤ limit_of_conns
 BodyWithin n (Give e resend) = EndWithin n e
+BodyWithin n (Open sess) = ⊤
 
 -- and so is the party from which it came
 abbrev pub MailWithin : {P : Type 0} → ℕ → Mail P → Type 0

@@ -40,7 +40,7 @@ delivery_of play pick w p q [] = None
 delivery_of play pick w p q (f ∷ rest) =
     option_map
     (after_event w p (max (w.nodes p).clock f.clock + 1) (with_lane q p rest w.lanes))
-    (arrives play.parties pick (w.nodes p) q f)
+    (arrives play.blank play.parties pick (w.nodes p) q f)
 
 -- the world after an event at p; None where it is no step
 abbrev pub happens : {P Q : Type 0} → Play P Q → (ℕ → ℕ → ℕ) → WorldAt P Q → (p : ℕ) → Event → Option (WorldAt P Q)

@@ -1,7 +1,7 @@
 -- Wherever an end lies, its cache begins where the other end has taken, or before.
 use Rattle.std.proofs.Common.{◌≡◌, ℕ, ◌==◌, ◌<◌, ◌≤◌, Bool, true, false, cond, List, [], ◌∷◌, length, Option, Some, None, ap, sym, ◌∙◌, subst, arith}
 use Rattle.sj_base.specs.declared.EndId.{EndId}
-use Rattle.sj_lang.specs.Place.{Place}
+use Rattle.sj_lang.specs.Place.{Place, done}
 use Rattle.sj_lang.specs.FileAt.{FileAt}
 use Rattle.sj_acceptance.specs.Accepted.{IsAccepted}
 use Rattle.sj_semantics.specs.Program.{Program}
@@ -15,14 +15,18 @@ use Rattle.sj_rules.specs.Party.{IsDone, binds}
 use Rattle.sj_rules.specs.Plain.{plain_at}
 use Rattle.sj_rules.specs.PlainSide.{PlainSide, PlainAt}
 use Rattle.sj_rules.specs.Seat.{Seat, held, parked, claimed, signalled, given, closed, gone, Side, source_for}
-use Rattle.sj_rules.specs.Shown.{Shows, main_shown, old_shown, gives_in, is_lane}
+use Rattle.sj_rules.specs.Shown.{Shows, main_shown, old_shown, gives_in, is_lane, is_give}
 use Rattle.sj_rules.specs.Linked.{IsKept}
 use Rattle.sj_rules.specs.StandsFor.{EndStands, SeatStands}
-use Rattle.sj_rules.specs.Spots.{Spot, at_main, at_old, on_way}
+use Rattle.sj_rules.specs.Spots.{Spot, at_main, at_old, on_way, in_open}
 use Rattle.sj_rules.specs.Caches.{main_end, old_end, HasEnd, CacheFits}
 use Rattle.sj_rules.specs.Worked.{mails_of}
 use Rattle.sj_world_laws.proofs.SwapLemmas.{other_other}
-use Rattle.sj_rules_laws.proofs.StandsForLemmas.{kept_stands_for}
+use Rattle.sj_rules.specs.Opened.{opener_of, new_held}
+use Rattle.sj_rules.specs.Reading.{is_opening, reading, IsOpenKept}
+use Rattle.sj_world_laws.proofs.OutcomeLemmas.{sound_at}
+use Rattle.sj_opened_laws.proofs.OpenStandsLemmas.{filter_without, ends_by}
+use Rattle.std.proofs.Common.{refl}
 use Rattle.sj_rules_laws.proofs.CoreRunLemmas.{StandsAfter, runs_stand}
 use Rattle.sj_rules_laws.proofs.LawfulLemmas.{run_is_lawful}
 
@@ -82,6 +86,7 @@ module _ {P : Type 0} where
 end_seen : {P Q : Type 0} → (w : WorldAt P Q) (other : Seat P) (r : Side P) → Shows w other r → (at : Spot) (k : EndAt P) → HasEnd w r.id at k → seat_end r.seat ≡ Some k
 end_seen w other r shows (at_main p) k h = main_has (source_for other r.seat) r.place r.seat p k (sym (ap main_end (shows.mains p)) ∙ h)
 end_seen w other r shows (at_old p) k h = old_has r.seat p k (sym (ap old_end (shows.olds p)) ∙ h)
+end_seen w other r shows (in_open p) k h = absurd h
 end_seen w other r shows (on_way p q) k h = give_has r.seat p q k h.0 (sym (shows.gives p q) ∙ h.1)
 
 -- and stands for the plain one
@@ -98,10 +103,23 @@ end_at_seat IsOver id x y other gone k e s = absurd (cc e)
 caches_fit : {P Q : Type 0} → (IsOver : P → Type 0) (binds : Q → EndId → Bool) (w : WorldAt P Q) (plain : PlainAt P Q) → IsKept IsOver binds w plain → (e : EndId) → e.side < 2
     → (plain.sides (other_end e)).taken ≤ length (plain.sides e).sent → (at : Spot) (k : EndAt P) → HasEnd w e at k → CacheFits (plain.sides (other_end e)) (plain.sides e) k
 caches_fit IsOver binds w plain kept e low few at k has =
-    let s = kept_stands_for IsOver binds w plain kept in
-    let seen = end_seen w (s.sides (other_end e)).seat (s.sides e) (s.shows e low) at k (subst (λ (id : EndId). HasEnd w id at k) (sym (s.ids e)) has) in
-    let stands = end_at_seat IsOver e (plain.sides (other_end e)) (plain.sides e) (s.sides (other_end e)).seat (s.sides e).seat k seen (s.ends e low) in
+    let r = kept.sessions.sides e in
+    let s = kept.sessions.sides (other_end e) in
+    let t = sound_at IsOver w plain.sides kept.sessions e low in
+    let seen = end_seen w s.seat r (kept.sessions.shows e low) at k (subst (λ (id : EndId). HasEnd w id at k) (sym (kept.sessions.ids e)) has) in
+    let stands = end_at_seat IsOver r.id (plain.sides (other_end e)) (plain.sides e) s.seat r.seat k seen (ends_by IsOver t.0 (plain.sides (other_end e)) (plain.sides e) s r t.1 r.seat t.1.there.fits t.1.numbers) in
     record { base = stands.base; fewer = omega (arith, few, stands.agrees.sent); sent = stands.agrees.sent; taken = stands.agrees.taken; cache = stands.agrees.cache }
+
+-- what a world with Opens has of an end, the reading has
+read_has : {P Q : Type 0} → (IsOver : P → Type 0) (binds : Q → EndId → Bool) (blank : P) (w : WorldAt P Q) (plain : PlainAt P Q) → IsOpenKept IsOver binds blank w plain → (e : EndId) (at : Spot) (k : EndAt P) → HasEnd w e at k → HasEnd (reading blank w) e at k
+read_has {P} IsOver binds blank w plain kept e (at_main p) k h = by (is_opening w p e) refl
+  where
+    by : (b : Bool) → is_opening w p e ≡ b → main_end (cond b (Some (Held (new_held e blank (opener_of e.sess)))) ((w.nodes p).main e)) ≡ Some k
+    by true o = let none : main_end ((w.nodes p).main e) ≡ None = ap main_end (kept.bare p e o) in absurd (cc (none, h))
+    by false o = h
+read_has IsOver binds blank w plain kept e (at_old p) k h = h
+read_has IsOver binds blank w plain kept e (on_way p q) k h = (h.0, sym (filter_without (is_give e) (λ s. refl) (w.lanes p q)) ∙ h.1)
+read_has IsOver binds blank w plain kept e (in_open p) k h = absurd h
 
 -- ---- core runs
 
@@ -110,7 +128,7 @@ module _ (file : FileAt) (accepted : IsAccepted file) (turns : List Turn) (core 
   pub run_caches_fit : (w : World) × IsRun file (acts_in turns) w × ((e : EndId) (at : Spot) (k : EndAt Place) → e.side < 2 → HasEnd core e at k → CacheFits ((plain_at w).sides (other_end e)) ((plain_at w).sides e) k)
   run_caches_fit =
       let s = runs_stand file accepted turns core run in
-      (s.plain, s.run, λ e at k low has. caches_fit IsDone binds core (plain_at s.plain) s.kept e low (few s e low) at k has)
+      (s.plain, s.run, λ e at k low has. caches_fit IsDone binds (reading done core) (plain_at s.plain) s.kept.kept e low (few s e low) at k (read_has IsDone binds done core (plain_at s.plain) s.kept e at k has))
     where
       few : (s : StandsAfter file (acts_in turns) core) (e : EndId) → e.side < 2 → ((plain_at s.plain).sides (other_end e)).taken ≤ length ((plain_at s.plain).sides e).sent
       few s e low =

@@ -24,7 +24,7 @@ module _ {P Q : Type 0} (play : Play P Q) (pick : ℕ → ℕ → ℕ) (w : Worl
   delivery_rises : (p q : ℕ) (v : WorldAt P Q) (l : List (FrameAt P)) → delivery_of play pick w p q l ≡ Some v → Rises p v
   delivery_rises p q v [] h = cc
   delivery_rises p q v (f ∷ rest) h =
-      by_map (Rises p) (after_event w p (max (w.nodes p).clock f.clock + 1) (with_lane q p rest w.lanes)) (arrives play.parties pick (w.nodes p) q f) v h (λ done came.
+      by_map (Rises p) (after_event w p (max (w.nodes p).clock f.clock + 1) (with_lane q p rest w.lanes)) (arrives play.blank play.parties pick (w.nodes p) q f) v h (λ done came.
       event_rises p (max (w.nodes p).clock f.clock + 1) (with_lane q p rest w.lanes) done (omega arith))
 
   -- after any event

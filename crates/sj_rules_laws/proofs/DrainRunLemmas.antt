@@ -1,13 +1,13 @@
 -- Each core run of an accepted file can be drained, and a drain ends at the end of the file.
 use Rattle.std.proofs.Common.{ℕ, ◌+◌, ◌≤◌, List, [], ◌∷◌, ◌++◌, length, refl, arith, length-append}
-use Rattle.sj_lang.specs.Place.{Place}
+use Rattle.sj_lang.specs.Place.{Place, done}
 use Rattle.sj_lang.specs.FileAt.{FileAt}
 use Rattle.sj_acceptance.specs.Accepted.{IsAccepted}
 use Rattle.sj_semantics.specs.Program.{Program}
 use Rattle.sj_semantics.specs.Run.{IsRun, end_of}
 use Rattle.sj_rules.specs.Rows.{IsPick}
 use Rattle.sj_rules.specs.World.{WorldAt, Turn, Run}
-use Rattle.sj_rules.specs.Linked.{IsKept}
+use Rattle.sj_rules.specs.Reading.{IsOpenKept}
 use Rattle.sj_rules.specs.Drain.{turn, IsDrained}
 use Rattle.sj_rules.specs.Events.{acts_in}
 use Rattle.sj_rules.specs.History.{IsCoreRun, IsQuietAmong}
@@ -39,7 +39,7 @@ module _ (file : FileAt) where
     -- to the end of the file
     pub drain_is_at_the_end : (pick : ℕ → ℕ → ℕ) → IsPick pick → (turns more : List Turn) (core last : WorldAt Place Program) → IsCoreRun file turns core
         → IsDrained (play_of file) pick (length file.parties) core more last
-        → IsRun file (acts_in (turns ++ more)) (end_of file) × IsKept IsDone binds last (plain_at (end_of file))
+        → IsRun file (acts_in (turns ++ more)) (end_of file) × IsOpenKept IsDone binds done last (plain_at (end_of file))
     drain_is_at_the_end pick picks turns more core last run drained =
         let d = drain_goes_on pick picks turns more core last run drained in
         quiet_run_ends file accepted (turns ++ more) last d.0 d.1

@@ -1,8 +1,8 @@
 -- In a kept world no cache is longer than what was sent.
-use Rattle.std.proofs.Common.{◌≡◌, ℕ, ◌<◌, ◌≤◌, ◌==◌, Bool, true, false, cond, List, [], ◌∷◌, length, Option, Some, None, ap, sym, ◌∙◌, subst, arith, length-drop}
+use Rattle.std.proofs.Common.{◌≡◌, ℕ, ◌<◌, ◌≤◌, ◌==◌, Bool, true, false, cond, List, [], ◌∷◌, length, Option, Some, None, refl, ap, sym, ◌∙◌, subst, arith, length-drop}
 use Rattle.std.specs.List.{filter, AllByRecursion}
 use Rattle.sj_base.specs.declared.EndId.{EndId}
-use Rattle.sj_rules.specs.Record.{EndAt, BodyAt, Carry, Fin, Claim, Signal, Ack, Give, MainAt, Held, Closed, Expected, OldAt, Parked, Signalled, other_end}
+use Rattle.sj_rules.specs.Record.{EndAt, BodyAt, Carry, Fin, Claim, Signal, Ack, Give, Open, MainAt, Held, Closed, Expected, OldAt, Parked, Signalled, other_end}
 use Rattle.sj_rules.specs.Frames.{FrameAt}
 use Rattle.sj_rules.specs.World.{WorldAt}
 use Rattle.sj_rules.specs.Seat.{Seat, held, parked, claimed, signalled, given, closed, gone, source_for}
@@ -11,6 +11,9 @@ use Rattle.sj_rules.specs.PlainSide.{PlainSide, PlainAt}
 use Rattle.sj_rules.specs.Counts.{Agrees, SeatFits}
 use Rattle.sj_rules.specs.Linked.{IsKept, subject_of}
 use Rattle.sj_rules.specs.Worked.{mails_of}
+use Rattle.std.specs.Prelude.{not}
+use Rattle.sj_rules.specs.Opened.{is_open, opener_of, new_held}
+use Rattle.sj_rules.specs.Reading.{is_opening, reading, without_opens, IsOpenKept}
 use Rattle.sj_rules_laws.proofs.SideLemmas.{same_end_self}
 use Rattle.sj_world_laws.proofs.OutcomeLemmas.{sound_at}
 use Rattle.sj_rules_laws.proofs.NodeWeightLemmas.{cached_in, cached_old, cached_with, MeetsFew}
@@ -134,6 +137,7 @@ module _ {P Q : Type 0} (IsOver : P → Type 0) (binds : Q → EndId → Bool) (
   own_few p q (Claim of) rest lt front = omega arith
   own_few p q (Signal to conn party taken) rest lt front = omega arith
   own_few p q (Ack of conn) rest lt front = omega arith
+  own_few p q (Open sess) rest lt front = omega arith
 
   -- so the front frame of a lane meets short caches
   pub front_meets_few : (p q : ℕ) (f : FrameAt P) (rest : List (FrameAt P)) → w.lanes q p ≡ f ∷ rest → MeetsFew n (w.nodes p) f.body
@@ -141,3 +145,17 @@ module _ {P Q : Type 0} (IsOver : P → Type 0) (binds : Q → EndId → Bool) (
       let below : AllByRecursion (λ (b : BodyAt P). (subject_of b).side < 2) (f.body ∷ bodies rest) =
       subst (λ (l : List (FrameAt P)). AllByRecursion (λ (b : BodyAt P). (subject_of b).side < 2) (bodies l)) front (kept.sessions.proper q p) in
       record { main = mains_few p (subject_of f.body) below.0; old = olds_few p (subject_of f.body) below.0; own = own_few p q f.body (bodies rest) below.0 (ap bodies front) }
+
+-- so does the front frame of a lane in a world with Opens, where it is none
+pub open_front_meets_few : {P Q : Type 0} → (IsOver : P → Type 0) (binds : Q → EndId → Bool) (blank : P) (w : WorldAt P Q) (plain : PlainAt P Q) → IsOpenKept IsOver binds blank w plain
+    → (n : ℕ) → ((e : EndId) → e.side < 2 → length (plain.sides e).sent ≤ n) → (p q : ℕ) (f : FrameAt P) (rest : List (FrameAt P)) → w.lanes q p ≡ f ∷ rest → is_open f.body ≡ false → MeetsFew n (w.nodes p) f.body
+open_front_meets_few {P} IsOver binds blank w plain kept n few p q f rest front old =
+    let e : EndId = subject_of f.body in
+    let lane : (reading blank w).lanes q p ≡ f ∷ without_opens rest = ap without_opens front ∙ ap (λ b. cond (not b) (f ∷ without_opens rest) (without_opens rest)) old in
+    let m : MeetsFew n ((reading blank w).nodes p) f.body = front_meets_few IsOver binds (reading blank w) plain kept.kept n few p q f (without_opens rest) lane in
+    record { main = by (is_opening w p e) refl m.main; old = m.old; own = m.own }
+  where
+    by : (b : Bool) → is_opening w p (subject_of f.body) ≡ b
+        → cached_in (cond b (Some (Held (new_held (subject_of f.body) blank (opener_of (subject_of f.body).sess)))) ((w.nodes p).main (subject_of f.body))) ≤ n → cached_in ((w.nodes p).main (subject_of f.body)) ≤ n
+    by true i le = omega (arith, ap cached_in (kept.bare p (subject_of f.body) i))
+    by false i le = le

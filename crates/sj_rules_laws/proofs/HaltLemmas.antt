@@ -1,29 +1,50 @@
 -- In a kept and lawful world a party acts exactly where no cause keeps it from it.
 use Rattle.std.proofs.Common.{◌≡◌, ℕ, ◌+◌, ◌<◌, nat_lt, Bool, true, false, ◌&&◌, cond, if◌then◌else◌, List, [], ◌∷◌, ◌++◌, slice_get, Option, Some, None, option_map, refl, ap, sym, ◌∙◌}
-use Rattle.std.proofs.lemmas.Bool.{and_from, eq-eqb, true≢false}
+use Rattle.std.proofs.lemmas.Bool.{and_from, eq-eqb, true≢false, false_from_ne_true, both_ways}
 use Rattle.sj_base.specs.declared.EndId.{EndId}
 use Rattle.sj_base.specs.declared.Msg.{Msg}
 use Rattle.sj_base.specs.declared.Msg.TheVariants as msgs
 use Rattle.sj_lang.specs.declared.proto.Way.TheVariants.{Out, Into}
-use Rattle.sj_rules.specs.Record.{Fin, HeldAt, MainAt, Held, Closed, Expected, Parked, other_end}
+use Rattle.sj_rules.specs.Record.{Fin, HeldAt, MainAt, Held, Closed, Expected, Parked, other_end, offered_end}
 use Rattle.sj_rules.specs.Rows.{Worked}
-use Rattle.sj_rules.specs.Node.{Want, ended, local, sends, delegates, takes, closes, Play, NodeAt, with_main, with_old, put, work_of_take, held_behind_take, is_free, send_act, delegate_act, take_act, take_from, close_act, act_by, acts}
-use Rattle.sj_rules.specs.World.{WorldAt}
+use Rattle.sj_rules.specs.Node.{Want, ended, local, sends, delegates, takes, closes, requests, accepts, Play, NodeAt, with_main, with_old, put, work_of_take, held_behind_take, is_free, send_act, delegate_act, take_act, take_from, close_act, act_by, acts}
+use Rattle.sj_rules.specs.World.{WorldAt, after_event}
 use Rattle.sj_rules.specs.Seat.{Seat, held, parked, claimed, signalled, given, closed, gone, source_for}
 use Rattle.sj_rules.specs.PlainSide.{PlainAt}
 use Rattle.sj_rules.specs.Linked.{user_of, IsKept}
 use Rattle.sj_rules.specs.HeldStands.{HeldStands}
 use Rattle.sj_rules.specs.Premises.{FitsDelegate, FitsTake, FitsClose, FitsStep, IsLawful}
-use Rattle.sj_rules.specs.Halts.{Halt, awaits, is_expected, may_be_delegated, has_message, is_filled, halt_if, halt_by, is_at_end, halt_of}
+use Rattle.sj_rules.specs.Halts.{Halt, awaits, requested_enough, no_offer, is_expected, may_be_delegated, has_message, is_filled, halt_if, halt_by, is_at_end, halt_of}
 use Rattle.sj_rules.specs.Worked.{mails_of}
-use Rattle.sj_rules_laws.proofs.CoreActLemmas.{Has, has_by, has_map}
+use Rattle.sj_rules_laws.proofs.CoreActLemmas.{Has, has_by, has_map, map_has}
+use Rattle.std.specs.Bool.{⊤}
+use Rattle.sj_rules.specs.Limits.{limit_of_requests}
+use Rattle.sj_rules.specs.Opened.{opened_in}
+use Rattle.sj_rules.specs.Shown.{bodies}
+use Rattle.sj_rules.specs.Reading.{is_opening, reading, IsOpenKept}
+use Rattle.sj_rules.specs.Acts.{plain_accepted}
+use Rattle.sj_rules.specs.Moves.{with_side, with_opened, with_program}
+use Rattle.sj_opened_laws.proofs.OpenStandsLemmas.{opening_stands}
+use Rattle.sj_opened_laws.proofs.AcceptKeepLemmas.{accept_keeps}
+use Rattle.sj_rules_laws.proofs.PlainActsLemmas.{gives_accept}
 use Rattle.sj_rules_laws.proofs.KeptLemmas.{kept_stands}
-use Rattle.sj_rules_laws.proofs.QuietWorldLemmas.{main_at, free_by}
+use Rattle.sj_rules_laws.proofs.QuietWorldLemmas.{main_at, open_free_by}
 
 -- an end that a party binds is Held there, or awaited
 data BoundMain {P : Type 0} (o : Option (MainAt P)) : Type 0 where
   is_held : (h : HeldAt P) → o ≡ Some (Held h) → BoundMain o
   is_awaited : is_expected o ≡ true → BoundMain o
+
+-- the want is no accept
+abbrev AcceptsNothing : {P : Type 0} → Want P → Type 0
+AcceptsNothing ended = ⊤
+AcceptsNothing local = ⊤
+AcceptsNothing (sends e m) = ⊤
+AcceptsNothing (delegates carrier e) = ⊤
+AcceptsNothing (takes e place) = ⊤
+AcceptsNothing (closes e) = ⊤
+AcceptsNothing (requests place to) = ⊤
+AcceptsNothing (accepts place from) = ⊥
 
 no_halt : (b : Bool) (h : Halt) (rest : Option Halt) → halt_if b h rest ≡ None → (b ≡ false) × (rest ≡ None)
 no_halt true h rest k = cc
@@ -34,44 +55,61 @@ passes true h k = refl
 passes false h k = cc
 
 module _ {P Q : Type 0} (IsOver : P → Type 0) (play : Play P Q) (binds : Q → EndId → Bool) (parties : ℕ) (core : WorldAt P Q) (plain : PlainAt P Q)
-    (kept : IsKept IsOver binds core plain) (lawful : IsLawful IsOver play binds parties plain) (p : ℕ) where
+    (opened : IsOpenKept IsOver binds play.blank core plain) (lawful : IsLawful IsOver play binds parties plain) (p : ℕ) where
   abbrev n : NodeAt P Q
   n = core.nodes p
+
+  abbrev u : WorldAt P Q
+  u = reading play.blank core
+
+  abbrev kept : IsKept IsOver binds u plain
+  kept = opened.kept
 
   abbrev g : Q
   g = plain.programs p
 
-  bound_by : (e : EndId) → e.side < 2 → (seat : Seat P) → (kept.sessions.sides e).seat ≡ seat → user_of seat ≡ Some p → BoundMain (n.main e)
+  bound_by : (e : EndId) → e.side < 2 → (seat : Seat P) → (kept.sessions.sides e).seat ≡ seat → user_of seat ≡ Some p → BoundMain ((u.nodes p).main e)
   bound_by e lt (held at h) is user =
       let it : p ≡ at = (let s : at ≡ p = cc in sym s) in
-      is_held h (main_at IsOver binds core plain kept p e lt (held at h) is ∙ ap (λ (b : Bool). cond b (Some (Held h)) None) (eq-eqb p at it))
+      is_held h (main_at IsOver binds u plain kept p e lt (held at h) is ∙ ap (λ (b : Bool). cond b (Some (Held h)) None) (eq-eqb p at it))
   bound_by e lt (claimed at to k) is user =
       let it : p ≡ to = (let s : to ≡ p = cc in sym s) in
-      is_awaited (ap is_expected (main_at IsOver binds core plain kept p e lt (claimed at to k) is ∙ ap (λ (b : Bool). cond b (Some (Expected at (kept.sessions.sides e).place [])) None) (eq-eqb p to it)))
+      is_awaited (ap is_expected (main_at IsOver binds u plain kept p e lt (claimed at to k) is ∙ ap (λ (b : Bool). cond b (Some (Expected at (kept.sessions.sides e).place [])) None) (eq-eqb p to it)))
   bound_by e lt (signalled at to k ds) is user =
       let it : p ≡ to = (let s : to ≡ p = cc in sym s) in
       let from : ℕ = source_for (kept.sessions.sides (other_end e)).seat (signalled at to k ds) in
-      is_awaited (ap is_expected (main_at IsOver binds core plain kept p e lt (signalled at to k ds) is
+      is_awaited (ap is_expected (main_at IsOver binds u plain kept p e lt (signalled at to k ds) is
       ∙ ap (λ (b : Bool). cond b (Some (Expected at (kept.sessions.sides e).place (mails_of from ds))) None) (eq-eqb p to it)))
   bound_by e lt (given at to k resend ds) is user =
       let it : p ≡ to = (let s : to ≡ p = cc in sym s) in
       let from : ℕ = source_for (kept.sessions.sides (other_end e)).seat (given at to k resend ds) in
-      is_awaited (ap is_expected (main_at IsOver binds core plain kept p e lt (given at to k resend ds) is
+      is_awaited (ap is_expected (main_at IsOver binds u plain kept p e lt (given at to k resend ds) is
       ∙ ap (λ (b : Bool). cond b (Some (Expected at (kept.sessions.sides e).place (mails_of from ds))) None) (eq-eqb p to it)))
   bound_by e lt (parked at k) is user = cc
   bound_by e lt (closed at k) is user = cc
   bound_by e lt gone is user = cc
 
+  accepted : (e : EndId) → binds g e ≡ true → (plain.sides e).offered ≡ false
+  accepted e b = false_from_ne_true (plain.sides e).offered (λ o. both_ways (binds g e) (lawful.unbound p e o) b)
+
+  -- an accepted end is in no Open
+  there_now : (e : EndId) → binds g e ≡ true → is_opening core p e ≡ false
+  there_now e b = false_from_ne_true (is_opening core p e) (λ o.
+      both_ways (plain.sides e).offered (accepted e b) (opening_stands IsOver binds play.blank core plain opened p e o).offered)
+
   -- where it isn't awaited, it is Held
   pub held_here : (e : EndId) → binds g e ≡ true → is_expected (n.main e) ≡ false → (h : HeldAt P) × (n.main e ≡ Some (Held h)) × HeldStands plain e h
-  held_here e b free = by (bound_by e lt (kept.sessions.sides e).seat refl ((kept.bound p e lt).0 b))
+  held_here e b free = by (bound_by e lt (kept.sessions.sides e).seat refl ((kept.bound p e lt (accepted e b)).0 b))
     where
       lt : e.side < 2
       lt = (lawful.proper p e b).0
 
-      by : BoundMain (n.main e) → (h : HeldAt P) × (n.main e ≡ Some (Held h)) × HeldStands plain e h
-      by (is_held h there) = (h, there, kept_stands IsOver binds core plain kept p e h lt there)
-      by (is_awaited waits) = absurd (true≢false (sym waits ∙ free))
+      same : (u.nodes p).main e ≡ n.main e
+      same = rw (there_now e b) refl
+
+      by : BoundMain ((u.nodes p).main e) → (h : HeldAt P) × (n.main e ≡ Some (Held h)) × HeldStands plain e h
+      by (is_held h there) = (h, sym same ∙ there, kept_stands IsOver binds u plain kept p e h lt (accepted e b) there)
+      by (is_awaited waits) = absurd (true≢false (sym waits ∙ ap is_expected same ∙ free))
 
   send_on : (n' : NodeAt P Q) (e : EndId) (m : Msg) (o : Option (MainAt P)) (h : HeldAt P) (place : P) → o ≡ Some (Held h) → HeldStands plain e h → play.next (plain.sides e).place Out m ≡ Some place → Has (send_act play n' e m o)
   send_on n' e m o h place there stands next =
@@ -105,7 +143,7 @@ module _ {P Q : Type 0} (IsOver : P → Type 0) (play : Play P Q) (binds : Q →
           let waits = ap (λ xs. slice_get xs 0) (stands.waits ∙ ap (λ t. t ++ stands.rest) head) in
           let fits = fit.head m waits in
           let test : (play.fits n.program m && is_free n m) ≡ true =
-          and_from (play.fits n.program m) (is_free n m) (ap (λ x. play.fits x m) (kept.programs p) ∙ fits.fits) (free_by IsOver binds core plain kept p e (lawful.proper p e fit.bound).0 m waits) in
+          and_from (play.fits n.program m) (is_free n m) (ap (λ x. play.fits x m) (kept.programs p) ∙ fits.fits) (open_free_by IsOver binds play.blank core plain opened p e (lawful.proper p e fit.bound).0 m waits) in
           let after = λ (q : P). work_of_take place m (with_main e (Some (Held (held_behind_take h ms q))) (record n { program = play.goes n.program (Some m) })) in
           has_by (take_from play n e place h (m ∷ ms)) (option_map after (play.next h.end.place Into m))
           (ap (λ (t : Bool). cond t (option_map after (play.next h.end.place Into m)) None) test)
@@ -120,19 +158,49 @@ module _ {P Q : Type 0} (IsOver : P → Type 0) (play : Play P Q) (binds : Q →
       (ap (close_act play n e) own.1 ∙ ap (λ (b : Bool). cond b (Some done) None) (ap play.is_over own.2.place ∙ fit.is_over))
       (record { some = done; is = refl })
 
-  step_on : (want : Want P) → FitsStep IsOver play binds plain p g want → halt_by n want ≡ None → Has (act_by play p n want)
-  step_on ended fit k = cc
-  step_on local fit k = record { some = _; is = refl }
-  step_on (sends e m) fit k = let own = held_here e fit.bound (no_halt (is_expected (n.main e)) (awaits e) None k).0 in send_on n e m (n.main e) own.0 fit.place own.1 own.2 fit.after
-  step_on (delegates carrier e) fit k = delegate_on carrier e fit k
-  step_on (takes e place) fit k = take_on e place fit k
-  step_on (closes e) fit k = close_on e fit k
+  -- an act that accepts nothing
+  step_on : (want : Want P) → FitsStep IsOver play binds plain p g want → halt_by n want ≡ None → AcceptsNothing want → Has (act_by play p n want)
+  step_on ended fit k other = cc
+  step_on local fit k other = record { some = _; is = refl }
+  step_on (sends e m) fit k other = let own = held_here e fit.bound (no_halt (is_expected (n.main e)) (awaits e) None k).0 in send_on n e m (n.main e) own.0 fit.place own.1 own.2 fit.after
+  step_on (delegates carrier e) fit k other = delegate_on carrier e fit k
+  step_on (takes e place) fit k other = take_on e place fit k
+  step_on (closes e) fit k other = close_on e fit k
+  step_on (requests place to) fit k other =
+      let few : nat_lt n.requests limit_of_requests ≡ true = passes (nat_lt n.requests limit_of_requests) requested_enough k in
+      rw few (record { some = _; is = refl })
+  step_on (accepts place from) fit k other = absurd other
+
+  -- the first session that is offered is accepted
+  accept_acts : (place : P) (from : ℕ) → play.wants g ≡ accepts place from → play.is_worn g ≡ false → (l : List ℕ) → n.offers from ≡ l → is_filled l ≡ true → Has (acts play p n)
+  accept_acts place from is fresh [] there filled = absurd (cc filled)
+  accept_acts place from is fresh (s ∷ others) there filled =
+      let rest : List ℕ = opened_in (bodies (core.lanes from p)) in
+      let first : plain.offers from p ≡ s ∷ (others ++ rest) = sym (opened.offers from p) ∙ ap (λ l. l ++ rest) there in
+      let facts = gives_accept IsOver play binds parties plain lawful p place from s (others ++ rest) is first in
+      let next : PlainAt P Q = with_side (offered_end s) (λ x. plain_accepted x place) (with_opened from p (others ++ rest) (with_program p (play.opened g (offered_end s)) plain)) in
+      let k = accept_keeps IsOver binds play core plain next opened p fresh place from s (others ++ rest) is facts others there (λ old told. old) in
+      map_has (after_event core p (n.clock + 1) core.lanes) (acts play p n) k.0 k.1
+
+  -- the act by a want is the party's act
+  acts_by_want : (want : Want P) → play.wants g ≡ want → play.is_worn g ≡ false → Has (act_by play p n want) → Has (acts play p n)
+  acts_by_want want is fresh has =
+      has_by (acts play p n) (act_by play p n want)
+      (ap (λ x. cond (play.is_worn x) None (act_by play p n (play.wants x))) (kept.programs p) ∙ ap (λ (b : Bool). cond b None (act_by play p n (play.wants g))) fresh ∙ ap (act_by play p n) is) has
+
+  wants_on : (want : Want P) → play.wants g ≡ want → play.is_worn g ≡ false → FitsStep IsOver play binds plain p g want → halt_by n want ≡ None → Has (acts play p n)
+  wants_on ended is fresh fit k = cc
+  wants_on local is fresh fit k = acts_by_want local is fresh (step_on local fit k tt)
+  wants_on (sends e m) is fresh fit k = acts_by_want (sends e m) is fresh (step_on (sends e m) fit k tt)
+  wants_on (delegates carrier e) is fresh fit k = acts_by_want (delegates carrier e) is fresh (step_on (delegates carrier e) fit k tt)
+  wants_on (takes e place) is fresh fit k = acts_by_want (takes e place) is fresh (step_on (takes e place) fit k tt)
+  wants_on (closes e) is fresh fit k = acts_by_want (closes e) is fresh (step_on (closes e) fit k tt)
+  wants_on (requests place to) is fresh fit k = acts_by_want (requests place to) is fresh (step_on (requests place to) fit k tt)
+  wants_on (accepts place from) is fresh fit k = accept_acts place from is fresh (n.offers from) refl (passes (is_filled (n.offers from)) (no_offer from) k)
 
   -- where no cause keeps it from it, the party acts: nothing is ever unfit
   pub acts_unless_halted : halt_of play n ≡ None → Has (acts play p n)
   acts_unless_halted k =
       let first = no_halt (is_at_end (play.wants n.program)) _ _ k in
       let second = no_halt (play.is_worn n.program) _ _ first.1 in
-      has_by (acts play p n) (act_by play p n (play.wants n.program)) (ap (λ (b : Bool). cond b None (act_by play p n (play.wants n.program))) second.0)
-      (has_by (act_by play p n (play.wants n.program)) (act_by play p n (play.wants g)) (ap (λ x. act_by play p n (play.wants x)) (kept.programs p))
-      (step_on (play.wants g) (lawful.steps p) (sym (ap (λ x. halt_by n (play.wants x)) (kept.programs p)) ∙ second.1)))
+      wants_on (play.wants g) refl (ap play.is_worn (sym (kept.programs p)) ∙ second.0) (lawful.steps p) (sym (ap (λ x. halt_by n (play.wants x)) (kept.programs p)) ∙ second.1)

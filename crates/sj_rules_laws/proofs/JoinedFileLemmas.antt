@@ -2,7 +2,7 @@
 use Rattle.std.proofs.Common.{◌≡◌, ℕ, ◌<◌, List, [], ◌∷◌, map, length, slice_get, Some, None, refl, sym, ap, ◌∙◌}
 use Rattle.sj_base.specs.declared.EndId.{EndId}
 use Rattle.sj_base.specs.declared.Msg.{Msg}
-use Rattle.sj_lang.specs.Place.{Place}
+use Rattle.sj_lang.specs.Place.{Place, done}
 use Rattle.sj_lang.specs.FileAt.{FileAt}
 use Rattle.sj_acceptance.specs.Accepted.{IsAccepted}
 use Rattle.sj_semantics.specs.Program.{Program}
@@ -98,15 +98,15 @@ module _ (file : FileAt) (play : Play Place Program) (pick : ℕ → ℕ → ℕ
 
     -- a frame that it popped and lost fits its row there
     pub lost_arrives : (p q : ℕ) (f : FrameAt Place) → q < length file.parties → lost q p ≡ frame_told blank f ∷ []
-        → (done : Worked Place (NodeAt Place Program)) × (arrives (length file.parties) pick (workers q).node p f ≡ Some done)
+        → (worked : Worked Place (NodeAt Place Program)) × (arrives done (length file.parties) pick (workers q).node p f ≡ Some worked)
     lost_arrives p q f lt one =
         let s = seen q in
         let g = lost_is_front play pick blank (length file.parties) (core_start file) workers lost all s.lines s.joined p q f lt one in
         let node : (world_of s.lines s.joined).nodes q ≡ (workers q).node = (file_joined_run s.lines s.joined).nodes q lt in
         let row = run_front_arrives file accepted (map turn_of s.lines) (world_of s.lines s.joined) (lines_are_run s.lines s.joined) pick q p g.frame g.rest picks g.front in (
           row.0,
-          sym (same_arrives (length file.parties) pick blank (workers q).node p g.frame f g.told_alike)
-              ∙ ap (λ (n : NodeAt Place Program). arrives (length file.parties) pick n p g.frame) (sym node) ∙ row.1,
+          sym (same_arrives done (length file.parties) pick blank (workers q).node p g.frame f g.told_alike)
+              ∙ ap (λ (n : NodeAt Place Program). arrives done (length file.parties) pick n p g.frame) (sym node) ∙ row.1,
         )
 
     -- what is untaken at its Held ends names sessions and parties of the file

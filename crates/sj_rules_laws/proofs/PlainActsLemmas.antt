@@ -1,19 +1,21 @@
 -- A lawful plain world gives each step the facts that the core's acts rest on.
-use Rattle.std.proofs.Common.{◌≡◌, ◌↔◌, ℕ, ◌+◌, List, ◌<◌, ◌≤◌, length, Bool, true, false, cond, Option, Some, None, refl, ap, sym, ◌∙◌, subst, arith, inl, inr, ◌⊎◌}
-use Rattle.std.proofs.lemmas.Bool.{eq-eqb, false_from_ne_true, both_ways, true≢false}
+use Rattle.std.proofs.Common.{◌≡◌, ◌↔◌, ℕ, ◌+◌, ◌<◌, ◌≤◌, length, Bool, true, false, cond, ◌==◌, ◌&&◌, List, [], ◌∷◌, ◌++◌, Option, Some, None, refl, ap, sym, ◌∙◌, subst, arith, inl, inr, ◌⊎◌}
+use Rattle.std.proofs.lemmas.Bool.{eq-eqb, false_from_ne_true, both_ways, true≢false, and_from, and_left, and_right}
 use Rattle.sj_base.specs.declared.EndId.{EndId}
 use Rattle.sj_base.specs.declared.Msg.{Msg}
 use Rattle.sj_base.specs.declared.Msg.TheVariants as msgs
-use Rattle.sj_rules.specs.Record.{other_end, is_same_end}
-use Rattle.sj_rules.specs.Node.{local, sends, delegates, takes, closes, Play}
+use Rattle.sj_rules.specs.Record.{other_end, is_same_end, requested_end, offered_end}
+use Rattle.sj_rules.specs.Opened.{opened_number}
+use Rattle.sj_rules.specs.Limits.{limit_of_requests}
+use Rattle.sj_rules.specs.Node.{local, sends, delegates, takes, closes, requests, accepts, Play}
 use Rattle.sj_rules.specs.PlainSide.{PlainSide, PlainAt, CountsFit}
 use Rattle.sj_rules.specs.Linked.{waiting_at}
-use Rattle.sj_rules.specs.Acts.{plain_sent, plain_taken, plain_parked}
-use Rattle.sj_rules.specs.Moves.{plain_goes, plain_sends, plain_delegates, plain_takes}
+use Rattle.sj_rules.specs.Acts.{plain_sent, plain_taken, plain_parked, plain_placed, plain_opened, plain_accepted}
+use Rattle.sj_rules.specs.Moves.{with_side, with_program, with_opened, plain_goes, plain_sends, plain_delegates, plain_takes, plain_names, plain_requests}
 use Rattle.sj_rules.specs.Binding.{NamesNoEnd, BindsSame, BindsWithout, BindsAlso, BindsTaken}
-use Rattle.sj_rules.specs.Premises.{FitsSend, FitsDelegate, FitsHead, FitsTake, FitsClose, FitsStep, IsLawful}
+use Rattle.sj_rules.specs.Premises.{FitsSend, FitsDelegate, FitsHead, FitsTake, FitsClose, FitsAccept, FitsRequest, FitsStep, IsLawful}
 use Rattle.sj_rules.specs.PlainChanges.{CountsHold, plain_with_hop, Proceeds}
-use Rattle.sj_rules.specs.PlainSteps.{PlainLocal, PlainSend, PlainTake, PlainTakeEnd, PlainDelegate, PlainClose}
+use Rattle.sj_rules.specs.PlainSteps.{PlainLocal, PlainSend, PlainTake, PlainTakeEnd, PlainDelegate, PlainClose, PlainOpens, PlainRequest, PlainAccept}
 use Rattle.sj_rules_laws.proofs.SideLemmas.{other_side_below, same_end_self, same_end_is}
 use Rattle.sj_world_laws.proofs.SwapLemmas.{other_other}
 use Rattle.sj_semantics.specs.World.{session_message}
@@ -77,14 +79,27 @@ module _ {P Q : Type 0} (IsOver : P → Type 0) (play : Play P Q) (binds : Q →
     below : (e : EndId) → binds g e ≡ true → e.side < 2
     below e b = (lawful.proper p e b).0
 
-    proceeds : (taken : Option Msg) (sides : EndId → PlainSide P) → Proceeds plain (record { programs = (plain_goes play p taken plain).programs; sides = sides }) p (play.goes g taken)
-    proceeds taken sides = record {
+    -- an end that is bound was accepted
+    accepted : (e : EndId) → binds g e ≡ true → (plain.sides e).offered ≡ false
+    accepted e b = false_from_ne_true (plain.sides e).offered (λ o. both_ways (binds g e) (lawful.unbound p e o) b)
+
+    proceeds : (taken : Option Msg) (sides : EndId → PlainSide P) → ((e : EndId) → (sides e).offered ≡ (plain.sides e).offered)
+        → Proceeds plain (record (plain_goes play p taken plain) { sides = sides }) p (play.goes g taken)
+    proceeds taken sides same = record {
       here = ap (λ (b : Bool). cond b (play.goes g taken) g) (eq-eqb p p refl);
       away = λ k h. ap (λ (b : Bool). cond b (play.goes g taken) (plain.programs k)) h;
+      requests = λ k. refl;
+      offers = λ from to. refl;
+      offered = same;
     }
 
+    -- of one end, or the other
+    either : (b : Bool) (x y z : PlainSide P) → x.offered ≡ z.offered → y.offered ≡ z.offered → (cond b x y).offered ≡ z.offered
+    either true x y z one other = one
+    either false x y z one other = other
+
     after_is : (taken : Option Msg) → (plain_goes play p taken plain).programs p ≡ play.goes g taken
-    after_is taken = (proceeds taken plain.sides).here
+    after_is taken = (proceeds taken plain.sides (λ e. refl)).here
 
     keeps_names : (taken : Option Msg) → BindsSame binds g (play.goes g taken) → (e : EndId) → binds ((plain_goes play p taken plain).programs p) e ≡ binds g e
     keeps_names taken h e = ap (λ q. binds q e) (after_is taken) ∙ same_truth (binds (play.goes g taken) e) (binds g e) (h e)
@@ -104,7 +119,7 @@ module _ {P Q : Type 0} (IsOver : P → Type 0) (play : Play P Q) (binds : Q →
     pub gives_local : play.wants g ≡ local → PlainLocal IsOver binds play plain (plain_goes play p None plain) p
     gives_local is =
         let fit : BindsSame binds g (play.goes g None) = subst (FitsStep IsOver play binds plain p g) is (lawful.steps p) in
-        record { proceeds = proceeds None plain.sides; sides = λ e. refl; binds_same = λ e lt. keeps_names None fit e }
+        record { proceeds = proceeds None plain.sides (λ e. refl); sides = λ e. refl; binds_same = λ e lt. keeps_names None fit e }
 
     pub gives_send : (c : EndId) (m : Msg) → play.wants g ≡ sends c m → (fit : FitsSend IsOver play binds plain g c m) × PlainSend IsOver binds play plain (plain_sends play p c m fit.place plain) p c m fit.place
     gives_send c m is =
@@ -112,10 +127,11 @@ module _ {P Q : Type 0} (IsOver : P → Type 0) (play : Play P Q) (binds : Q →
           fit,
           record {
             below = below c fit.bound;
+            accepted = accepted c fit.bound;
             value = fit.no_end;
             fits = fit.after;
             open_there = fit.goes_on;
-            proceeds = proceeds None (plain_sends play p c m fit.place plain).sides;
+            proceeds = proceeds None (plain_sends play p c m fit.place plain).sides (λ e. either (is_same_end e c) (plain_sent (plain.sides e) fit.place m) (plain.sides e) (plain.sides e) refl refl);
             side = here_side c (λ x. plain_sent x fit.place m) (plain.sides c);
             sides = λ e apart. ap (λ (b : Bool). cond b (plain_sent (plain.sides e) fit.place m) (plain.sides e)) apart;
             binds_same = λ e lt. keeps_names None fit.names e;
@@ -131,12 +147,16 @@ module _ {P Q : Type 0} (IsOver : P → Type 0) (play : Play P Q) (binds : Q →
           record {
             below = below c fit.bound;
             below_it = below d fit.handed;
+            accepted = accepted c fit.bound;
+            accepted_it = accepted d fit.handed;
             apart = fit.apart;
             few = few;
             counts = counts_hopped d;
             fits = fit.after;
             open_there = fit.goes_on;
-            proceeds = proceeds None (plain_delegates play p c d fit.place plain).sides;
+            proceeds = proceeds None (plain_delegates play p c d fit.place plain).sides (λ e.
+                either (is_same_end e c) (plain_sent (mid e) fit.place (session_message d p)) (mid e) (plain.sides e)
+                (either (is_same_end e d) (plain_parked (plain.sides e)) (plain.sides e) (plain.sides e) refl refl) (either (is_same_end e d) (plain_parked (plain.sides e)) (plain.sides e) (plain.sides e) refl refl));
             side = here_side c (λ x. plain_sent x fit.place (session_message d p)) (mid c)
                 ∙ ap (λ (b : Bool). plain_sent (cond b (plain_parked (plain.sides c)) (plain.sides c)) fit.place (session_message d p)) fit.apart;
             side_it = ap (λ (b : Bool). cond b (plain_sent (mid d) fit.place (session_message d p)) (mid d)) (not_same_back c d fit.apart)
@@ -153,19 +173,20 @@ module _ {P Q : Type 0} (IsOver : P → Type 0) (play : Play P Q) (binds : Q →
         let fit : FitsClose IsOver play binds plain g c = subst (FitsStep IsOver play binds plain p g) is (lawful.steps p) in
         record {
           below = below c fit.bound;
+          accepted = accepted c fit.bound;
           over = fit.is_over;
           is_over = fit.over;
           all_taken = fit.nothing_waits;
-          proceeds = proceeds None plain.sides;
+          proceeds = proceeds None plain.sides (λ e. refl);
           sides = λ e. refl;
           binds_it = loses_name c fit.names;
           binds_else = λ e lt apart. keeps_others c fit.names e apart;
         }
 
-    head_of : (c : EndId) (place : P) (m : Msg) → play.wants g ≡ takes c place → waiting_at plain c 0 ≡ Some m → (c.side < 2) × FitsHead play binds plain g c place m
+    head_of : (c : EndId) (place : P) (m : Msg) → play.wants g ≡ takes c place → waiting_at plain c 0 ≡ Some m → (c.side < 2) × ((plain.sides c).offered ≡ false) × FitsHead play binds plain g c place m
     head_of c place m is waits =
         let fit : FitsTake play binds plain g c place = subst (FitsStep IsOver play binds plain p g) is (lawful.steps p) in
-        (below c fit.bound, fit.head m waits)
+        (below c fit.bound, accepted c fit.bound, fit.head m waits)
 
     no_end_binds : (m : Msg) (q : Q) → NamesNoEnd m → BindsTaken binds g q m → BindsSame binds g q
     no_end_binds (msgs.Sess s d k) q none h = absurd none
@@ -175,43 +196,116 @@ module _ {P Q : Type 0} (IsOver : P → Type 0) (play : Play P Q) (binds : Q →
     no_end_binds (msgs.Label i) q none h = h
     no_end_binds (msgs.More b) q none h = h
 
+    -- a value names no end
+    value_names : (place : P) (m : Msg) (z : PlainAt P Q) → NamesNoEnd m → plain_names place m z ≡ z
+    value_names place (msgs.Sess s d k) z none = absurd none
+    value_names place (msgs.Int i) z none = refl
+    value_names place (msgs.Bool b) z none = refl
+    value_names place (msgs.Text i) z none = refl
+    value_names place (msgs.Label i) z none = refl
+    value_names place (msgs.More b) z none = refl
+
     pub gives_take : (c : EndId) (place : P) (m : Msg) → play.wants g ≡ takes c place → waiting_at plain c 0 ≡ Some m → NamesNoEnd m
-        → (fit : FitsHead play binds plain g c place m) × PlainTake IsOver binds play plain (plain_takes play p c m fit.place plain) p c m fit.place
+        → (fit : FitsHead play binds plain g c place m) × PlainTake IsOver binds play plain (plain_names place m (plain_takes play p c m fit.place plain)) p c m fit.place
     gives_take c place m is waits none =
         let h = head_of c place m is waits in (
-          h.1,
+          h.2,
+          subst (λ (z : PlainAt P Q). PlainTake IsOver binds play plain z p c m h.2.place) (sym (value_names place m (plain_takes play p c m h.2.place plain) none))
+              (record {
+                below = h.0;
+                accepted = h.1;
+                value = none;
+                wanted = h.2.fits;
+                fits = h.2.after;
+                proceeds = proceeds (Some m) (plain_takes play p c m h.2.place plain).sides (λ e. either (is_same_end e c) (plain_taken (plain.sides e) h.2.place) (plain.sides e) (plain.sides e) refl refl);
+                side = here_side c (λ x. plain_taken x h.2.place) (plain.sides c);
+                sides = λ e apart. ap (λ (b : Bool). cond b (plain_taken (plain.sides e) h.2.place) (plain.sides e)) apart;
+                binds_same = λ e lt. keeps_names (Some m) (no_end_binds m (play.goes g (Some m)) none h.2.names) e;
+              }),
+        )
+
+    -- the names that a program has once one more end is bound
+    also_bound : (new : Q) (d : EndId) → BindsAlso binds g new d → binds new d ≡ true
+    also_bound new d names = (names d).1 (inl (same_end_self d))
+
+    also_else : (new : Q) (d : EndId) → BindsAlso binds g new d → (e : EndId) → is_same_end e d ≡ false → binds new e ≡ binds g e
+    also_else new d names e apart = same_truth (binds new e) (binds g e) (λ t. old ((names e).0 t), λ t. (names e).1 (inr t))
+      where
+        old : (is_same_end e d ≡ true) ⊎ (binds g e ≡ true) → binds g e ≡ true
+        old (inl same) = absurd (both_ways (is_same_end e d) apart same)
+        old (inr h) = h
+
+    pub gives_take_end : (c d : EndId) (keeper : ℕ) (place : P) → play.wants g ≡ takes c place → waiting_at plain c 0 ≡ Some (session_message d keeper)
+        → (fit : FitsHead play binds plain g c place (session_message d keeper))
+        × PlainTakeEnd IsOver binds play plain (plain_names place (session_message d keeper) (plain_takes play p c (session_message d keeper) fit.place plain)) p c d keeper place fit.place
+    gives_take_end c d keeper place is waits =
+        let h = head_of c place (session_message d keeper) is waits in
+        let names : BindsAlso binds g (play.goes g (Some (session_message d keeper))) d = h.2.names in
+        let other : is_same_end c d ≡ false = h.2.other in
+        let mid = λ (e : EndId). cond (is_same_end e c) (plain_taken (plain.sides e) h.2.place) (plain.sides e) in (
+          h.2,
           record {
             below = h.0;
-            value = none;
-            wanted = h.1.fits;
-            fits = h.1.after;
-            proceeds = proceeds (Some m) (plain_takes play p c m h.1.place plain).sides;
-            side = here_side c (λ x. plain_taken x h.1.place) (plain.sides c);
-            sides = λ e apart. ap (λ (b : Bool). cond b (plain_taken (plain.sides e) h.1.place) (plain.sides e)) apart;
-            binds_same = λ e lt. keeps_names (Some m) (no_end_binds m (play.goes g (Some m)) none h.1.names) e;
+            accepted = h.1;
+            wanted = h.2.fits;
+            fits = h.2.after;
+            proceeds = proceeds (Some (session_message d keeper)) (plain_names place (session_message d keeper) (plain_takes play p c (session_message d keeper) h.2.place plain)).sides (λ e.
+                either (is_same_end e d) (plain_placed (mid e) place) (mid e) (plain.sides e)
+                (either (is_same_end e c) (plain_taken (plain.sides e) h.2.place) (plain.sides e) (plain.sides e) refl refl) (either (is_same_end e c) (plain_taken (plain.sides e) h.2.place) (plain.sides e) (plain.sides e) refl refl));
+            side = ap (λ (b : Bool). cond b (plain_placed (mid c) place) (mid c)) other ∙ here_side c (λ x. plain_taken x h.2.place) (plain.sides c);
+            side_it = here_side d (λ x. plain_placed x place) (mid d) ∙ ap (λ (b : Bool). plain_placed (cond b (plain_taken (plain.sides d) h.2.place) (plain.sides d)) place) (not_same_back c d other);
+            sides = λ e apart apart'. ap (λ (b : Bool). cond b (plain_placed (mid e) place) (mid e)) apart' ∙ ap (λ (b : Bool). cond b (plain_taken (plain.sides e) h.2.place) (plain.sides e)) apart;
+            binds_it = ap (λ q. binds q d) (after_is (Some (session_message d keeper))) ∙ also_bound (play.goes g (Some (session_message d keeper))) d names;
+            binds_else = λ e lt apart. ap (λ q. binds q e) (after_is (Some (session_message d keeper))) ∙ also_else (play.goes g (Some (session_message d keeper))) d names e apart;
           },
         )
 
-    pub gives_take_end : (c d : EndId) (keeper : ℕ) (place : P) → play.wants g ≡ takes c place → waiting_at plain c 0 ≡ Some (session_message d keeper)
-        → (fit : FitsHead play binds plain g c place (session_message d keeper)) × PlainTakeEnd IsOver binds play plain (plain_takes play p c (session_message d keeper) fit.place plain) p c d keeper place fit.place
-    gives_take_end c d keeper place is waits =
-        let h = head_of c place (session_message d keeper) is waits in
-        let names : BindsAlso binds g (play.goes g (Some (session_message d keeper))) d = h.1.names in (
-          h.1,
-          record {
-            below = h.0;
-            wanted = h.1.fits;
-            fits = h.1.after;
-            place_is = sym h.1.names_at;
-            proceeds = proceeds (Some (session_message d keeper)) (plain_takes play p c (session_message d keeper) h.1.place plain).sides;
-            side = here_side c (λ x. plain_taken x h.1.place) (plain.sides c);
-            sides = λ e apart. ap (λ (b : Bool). cond b (plain_taken (plain.sides e) h.1.place) (plain.sides e)) apart;
-            binds_it = ap (λ q. binds q d) (after_is (Some (session_message d keeper))) ∙ (names d).1 (inl (same_end_self d));
-            binds_else = λ e lt apart. ap (λ q. binds q e) (after_is (Some (session_message d keeper)))
-                ∙ same_truth (binds (play.goes g (Some (session_message d keeper))) e) (binds g e) (λ t. old e apart ((names e).0 t), λ t. (names e).1 (inr t));
-          },
-        )
-      where
-        old : (e : EndId) → is_same_end e d ≡ false → (is_same_end e d ≡ true) ⊎ (binds g e ≡ true) → binds g e ≡ true
-        old e apart (inl same) = absurd (both_ways (is_same_end e d) apart same)
-        old e apart (inr h) = h
+    -- ---- sessions
+
+    program_is : (new : Q) → cond (p == p) new g ≡ new
+    program_is new = ap (λ (b : Bool). cond b new g) (eq-eqb p p refl)
+
+    opens_end : (plain' : PlainAt P Q) (new : Q) (d : EndId) → BindsAlso binds g new d → plain'.programs p ≡ new → ((k : ℕ) → (k == p) ≡ false → plain'.programs k ≡ plain.programs k) → PlainOpens IsOver binds play plain plain' p new d
+    opens_end plain' new d names here away = record {
+      here = here;
+      away = away;
+      binds_it = ap (λ q. binds q d) here ∙ also_bound new d names;
+      binds_else = λ e lt apart. ap (λ q. binds q e) here ∙ also_else new d names e apart;
+    }
+
+    both : (m n : ℕ) → ((m == m) && (n == n)) ≡ true
+    both m n = and_from (m == m) (n == n) (eq-eqb m m refl) (eq-eqb n n refl)
+
+    pub gives_request : (place : P) (to : ℕ) → play.wants g ≡ requests place to → plain.requests p < limit_of_requests
+        → PlainRequest IsOver binds play plain (plain_requests play p place to (opened_number p (plain.requests p)) plain) p place (play.dual place) to
+    gives_request place to is few =
+        let fit : FitsRequest play binds plain p g to = subst (FitsStep IsOver play binds plain p g) is (lawful.steps p) in
+        let s : ℕ = opened_number p (plain.requests p) in
+        let far = λ (d : EndId). cond (is_same_end d (offered_end s)) (plain_opened (play.dual place) true) (plain.sides d) in
+        record {
+          few = few;
+          known = fit.0;
+          goes = opens_end (plain_requests play p place to s plain) (play.opened g (requested_end s)) (requested_end s) fit.1 (program_is (play.opened g (requested_end s))) (λ k h. ap (λ (b : Bool). cond b (play.opened g (requested_end s)) (plain.programs k)) h);
+          counts = ap (λ (b : Bool). cond b (plain.requests p + 1) (plain.requests p)) (eq-eqb p p refl);
+          counts_else = λ k h. ap (λ (b : Bool). cond b (plain.requests k + 1) (plain.requests k)) h;
+          near = here_side (requested_end s) (λ x. plain_opened place false) (far (requested_end s));
+          far = ap (λ (b : Bool). cond b (plain_opened place false) (far (offered_end s))) (and_right (s == s) false refl) ∙ here_side (offered_end s) (λ x. plain_opened (play.dual place) true) (plain.sides (offered_end s));
+          sides = λ e h. ap (λ (b : Bool). cond b (plain_opened place false) (far e)) (and_left (e.sess == s) (e.side == 0) h) ∙ ap (λ (b : Bool). cond b (plain_opened (play.dual place) true) (plain.sides e)) (and_left (e.sess == s) (e.side == 1) h);
+          offers = ap (λ (b : Bool). cond b (plain.offers p to ++ s ∷ []) (plain.offers p to)) (both p to);
+          offers_else = λ from q h. ap (λ (b : Bool). cond b (plain.offers p to ++ s ∷ []) (plain.offers from q)) h;
+        }
+
+    pub gives_accept : (place : P) (from sess : ℕ) (later : List ℕ) → play.wants g ≡ accepts place from → plain.offers from p ≡ sess ∷ later
+        → PlainAccept IsOver binds play plain (with_side (offered_end sess) (λ x. plain_accepted x place) (with_opened from p later (with_program p (play.opened g (offered_end sess)) plain))) p place from sess later
+    gives_accept place from sess later is first =
+        let fit : FitsAccept play binds plain p g from = subst (FitsStep IsOver play binds plain p g) is (lawful.steps p) in
+        let d : EndId = offered_end sess in
+        record {
+          first = first;
+          goes = opens_end (with_side d (λ x. plain_accepted x place) (with_opened from p later (with_program p (play.opened g d) plain))) (play.opened g d) d (fit sess later first) (program_is (play.opened g d)) (λ k h. ap (λ (b : Bool). cond b (play.opened g d) (plain.programs k)) h);
+          side = here_side d (λ x. plain_accepted x place) (plain.sides d);
+          sides = λ e h. ap (λ (b : Bool). cond b (plain_accepted (plain.sides e) place) (plain.sides e)) h;
+          requests = λ k. refl;
+          offers = ap (λ (b : Bool). cond b later (plain.offers from p)) (both from p);
+          offers_else = λ q r h. ap (λ (b : Bool). cond b later (plain.offers q r)) h;
+        }

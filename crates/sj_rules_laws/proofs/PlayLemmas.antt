@@ -27,7 +27,7 @@ use Rattle.sj_rules_laws.proofs.LimitLemmas.{core_run_known}
 
 -- the file's own play is one
 pub own_play : (file : FileAt) → IsPlayOf file (play_of file)
-own_play file = record { next = λ place way m. refl; over = λ place. refl; wants = λ g. refl; goes = λ g m. refl; worn = λ g. refl; parties = refl; fits = λ g m known. refl }
+own_play file = record { next = λ place way m. refl; over = λ place. refl; wants = λ g. refl; goes = λ g m. refl; blank = refl; opened = λ g e. refl; worn = λ g. refl; parties = refl; fits = λ g m known. refl }
 
 module _ (file : FileAt) (accepted : IsAccepted file) (play : Play Place Program) (same : IsPlayOf file play) where
   abbrev own : Play Place Program
@@ -39,7 +39,7 @@ module _ (file : FileAt) (accepted : IsAccepted file) (play : Play Place Program
     takes_low p e place want =
         let s = runs_stand file accepted turns core run in
         let lawful = run_is_lawful file (acts_in turns) s.plain accepted s.run in
-        let fit = subst (FitsStep IsDone own binds (plain_at s.plain) p ((plain_at s.plain).programs p)) (sym (ap (λ (g : Program). own.wants g) (s.kept.programs p)) ∙ want) (lawful.steps p) in
+        let fit = subst (FitsStep IsDone own binds (plain_at s.plain) p ((plain_at s.plain).programs p)) (sym (ap (λ (g : Program). own.wants g) (s.kept.kept.programs p)) ∙ want) (lawful.steps p) in
         (lawful.proper p e fit.bound).0
 
     -- the two agree on what a node of a core run asks
@@ -49,6 +49,7 @@ module _ (file : FileAt) (accepted : IsAccepted file) (play : Play Place Program
       over = same.over;
       wants = same.wants (core.nodes p).program;
       goes = same.goes (core.nodes p).program;
+      opened = same.opened (core.nodes p).program;
       worn = same.worn (core.nodes p).program;
       fits = λ e place h m rest want there head.
           same.fits (core.nodes p).program m (core_run_known file accepted turns core run p e h 0 m (takes_low p e place want) there (ap (λ ms. slice_get ms 0) head));
@@ -64,10 +65,10 @@ module _ (file : FileAt) (accepted : IsAccepted file) (play : Play Place Program
 
     happens_same : (pick : ℕ → ℕ → ℕ) (p : ℕ) (event : Event) → happens play pick core p event ≡ happens own pick core p event
     happens_same pick p Act = ap (option_map (after_event core p ((core.nodes p).clock + 1) core.lanes)) (acts_same p)
-    happens_same pick p (Deliver q) = ap (λ k. came_by k (core.lanes q p)) same.parties
+    happens_same pick p (Deliver q) = ap (λ b. came_by b play.parties (core.lanes q p)) same.blank ∙ ap (λ k. came_by own.blank k (core.lanes q p)) same.parties
       where
-        came_by : ℕ → List (FrameAt Place) → Option (WorldAt Place Program)
-        came_by k l = delivery_of (record own { parties = k }) pick core p q l
+        came_by : Place → ℕ → List (FrameAt Place) → Option (WorldAt Place Program)
+        came_by b k l = delivery_of (record own { blank = b; parties = k }) pick core p q l
 
     lines_same : (p : ℕ) (event : Event) (v : WorldAt Place Program) → line_after play core p event v ≡ line_after own core p event v
     lines_same p Act v =
@@ -82,7 +83,9 @@ module _ (file : FileAt) (accepted : IsAccepted file) (play : Play Place Program
 
     done_same : (pick : ℕ → ℕ → ℕ) (p : ℕ) (event : Event) → event_done play pick core p event ≡ event_done own pick core p event
     done_same pick p Act = acts_same p
-    done_same pick p (Deliver q) = ap (λ k. front_done (record own { parties = k }) pick (core.nodes p) q (core.lanes q p)) same.parties
+    done_same pick p (Deliver q) =
+        ap (λ b. front_done (record own { blank = b; parties = play.parties }) pick (core.nodes p) q (core.lanes q p)) same.blank
+        ∙ ap (λ k. front_done (record own { parties = k }) pick (core.nodes p) q (core.lanes q p)) same.parties
 
   -- the run goes on by one event
   goes_on : (pick : ℕ → ℕ → ℕ) → IsPick pick → (turns : List Turn) (core v : WorldAt Place Program) (p : ℕ) (event : Event) → (run : IsCoreRun file turns core) → happens play pick core p event ≡ Some v

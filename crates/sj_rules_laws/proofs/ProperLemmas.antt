@@ -9,7 +9,7 @@ use Rattle.sj_lang.specs.FileAt.{ProtocolAt, named}
 use Rattle.sj_semantics.specs.declared.Want.TheVariants as wants
 use Rattle.sj_semantics.specs.declared.Passed.{Passed}
 use Rattle.sj_semantics.specs.Ends.{Session, EndAt, end_at}
-use Rattle.sj_semantics.specs.Uses.{Use, sends, takes, delegates, end_after}
+use Rattle.sj_semantics.specs.Uses.{Use, sends, takes, delegates, begins, end_after, after_uses}
 use Rattle.sj_semantics.specs.Program.{Program, ends_without, ends_with}
 use Rattle.sj_semantics.specs.Steps.{ends_after_took}
 use Rattle.sj_semantics.specs.Wants.{want_of}
@@ -22,8 +22,8 @@ use Rattle.sj_semantics_laws.proofs.FreesLemmas.{want_frees}
 use Rattle.sj_accepted_laws.proofs.NameLemmas.{named-without_same, named-without_other, named-bound_same, named-bound_other}
 use Rattle.sj_accepted_laws.proofs.TypedLemmas.{FitsProgram}
 use Rattle.sj_accepted_laws.proofs.TouchedLemmas.{side}
-use Rattle.sj_rules.specs.Binding.{NamesNoEnd, NamesKnown}
-use Rattle.sj_rules_laws.proofs.MadeLemmas.{touched_has}
+use Rattle.sj_rules.specs.Binding.{NamesNoEnd, IsSession, NamesKnown}
+use Rattle.sj_rules_laws.proofs.MadeLemmas.{touched_has, AreBegins, begins_keep}
 use Rattle.sj_rules_laws.proofs.TookLemmas.{took_same, took_end}
 
 -- how many parties and sessions a file has
@@ -33,7 +33,7 @@ pub record Size : Type 0 where
 
 -- each name stands for an end of one of these sessions
 pub record AreProper (z : Size) (ends : List (ℕ × EndId)) : Type 0 where
-  pub below : (n : ℕ) (e : EndId) → named ends n ≡ Some e → (e.side < 2) × (e.sess < z.sessions)
+  pub below : (n : ℕ) (e : EndId) → named ends n ≡ Some e → (e.side < 2) × IsSession z.parties z.sessions e.sess
 
 -- a session message names such an end, and one of the parties
 abbrev pub IsProperMessage : Size → Msg → Type 0
@@ -58,13 +58,13 @@ without_proper z ends y a = record {
   ];
 }
 
-pub bound_proper : (z : Size) (ends : List (ℕ × EndId)) (y : ℕ) (x : EndId) → (x.side < 2) × (x.sess < z.sessions) → AreProper z ends → AreProper z (ends_with ends y x)
+pub bound_proper : (z : Size) (ends : List (ℕ × EndId)) (y : ℕ) (x : EndId) → (x.side < 2) × IsSession z.parties z.sessions x.sess → AreProper z ends → AreProper z (ends_with ends y x)
 bound_proper z ends y x lt a = record {
   below = λ n e h. elim (cases_eq n y) [
     | inl same ↦
         let both : Some x ≡ Some e = sym (named-bound_same ends y x) ∙ ap (named (ends_with ends y x)) (sym same) ∙ h in
         let it : x ≡ e = cc in
-        subst (λ (f : EndId). (f.side < 2) × (f.sess < z.sessions)) it lt
+        subst (λ (f : EndId). (f.side < 2) × IsSession z.parties z.sessions f.sess) it lt
     | inr other ↦ a.below n e (sym (named-bound_other ends y n x other) ∙ h)
   ];
 }
@@ -91,15 +91,20 @@ abbrev pub IsProperUse : Size → Use → Type 0
 IsProperUse n (sends m) = IsProperMessage n m
 IsProperUse n (takes m) = ⊤
 IsProperUse n delegates = ⊤
+IsProperUse n (begins place) = ⊤
 
 used_proper : (n : Size) (p : ℕ) (u : Use) (a : EndAt) → IsProperUse n u → AreProperMessages n a.sent → AreProperMessages n (end_after p u a).sent
 used_proper n p (sends m) a h all = push_proper n a.sent (record { msg = m; by = p }) all h
 used_proper n p (takes m) a h all = all
 used_proper n p delegates a h all = all
+used_proper n p (begins place) a h all = all
 
 pub touched_proper : (n : Size) (p : ℕ) (zs : List Session) (k : EndId) (u : Use) → IsProperUse n u → ((e : EndId) → AreProperMessages n (end_at zs e).sent)
     → (e : EndId) → AreProperMessages n (end_at (touched p zs (k, u)) e).sent
-touched_proper n p zs k u h all e = touched_has (λ a. AreProperMessages n a.sent) p zs k u e tt (used_proper n p u (end_at zs k) h (all k)) (all e)
+touched_proper n p zs k u h all e = touched_has (λ a. AreProperMessages n a.sent) p zs k u e (used_proper n p u (end_at zs k) h (all k)) (all e)
+
+pub begins_proper : (n : Size) (p : ℕ) (us : List (EndId × Use)) → AreBegins us → (zs : List Session) → ((e : EndId) → AreProperMessages n (end_at zs e).sent) → (e : EndId) → AreProperMessages n (end_at (after_uses p us zs) e).sent
+begins_proper n p us b zs all = begins_keep (λ ys. (e : EndId) → AreProperMessages n (end_at ys e).sent) p (λ ys e place h. touched_proper n p ys e (begins place) tt h) us b zs all
 
 -- a message that a step sends names no end
 names_none : (e : EndId) (g : Program) (m : Msg) → want_of g ≡ Some (wants.Send e m) → NamesNoEnd m
@@ -123,12 +128,12 @@ no_end_proper n (msgs.More b) h = tt
 
 -- ---- an act
 
-pub took_proper : (ps : List ProtocolAt) (zs : List Session) (n : Size) (g : Program) → FitsProgram ps zs g → (m : Msg) → fits g m ≡ true → IsProperMessage n m → AreProper n g.ends → AreProper n (ends_after_took g.ends g.todo m)
-took_proper ps zs n g fit (msgs.Sess s d k) can h a =
-    let t = took_end ps zs g.ends g.vars fit.env fit.agrees g.todo fit.does s d k (fits_its_statement g (msgs.Sess s d k) can) in
+pub took_proper : (ps : List ProtocolAt) (parties : List ℕ) (zs : List Session) (n : Size) (g : Program) → FitsProgram ps parties zs g → (m : Msg) → fits g m ≡ true → IsProperMessage n m → AreProper n g.ends → AreProper n (ends_after_took g.ends g.todo m)
+took_proper ps parties zs n g fit (msgs.Sess s d k) can h a =
+    let t = took_end ps parties zs g.ends g.vars fit.env fit.agrees g.todo fit.does s d k (fits_its_statement g (msgs.Sess s d k) can) in
     subst (AreProper n) (sym t.binds_it) (bound_proper n g.ends t.name (side s d) (h.1, h.0) a)
-took_proper ps zs n g fit (msgs.Int i) can h a = subst (AreProper n) (sym (took_same g.ends g.todo (msgs.Int i) tt)) a
-took_proper ps zs n g fit (msgs.Bool i) can h a = subst (AreProper n) (sym (took_same g.ends g.todo (msgs.Bool i) tt)) a
-took_proper ps zs n g fit (msgs.Text i) can h a = subst (AreProper n) (sym (took_same g.ends g.todo (msgs.Text i) tt)) a
-took_proper ps zs n g fit (msgs.Label i) can h a = subst (AreProper n) (sym (took_same g.ends g.todo (msgs.Label i) tt)) a
-took_proper ps zs n g fit (msgs.More i) can h a = subst (AreProper n) (sym (took_same g.ends g.todo (msgs.More i) tt)) a
+took_proper ps parties zs n g fit (msgs.Int i) can h a = subst (AreProper n) (sym (took_same g.ends g.todo (msgs.Int i) tt)) a
+took_proper ps parties zs n g fit (msgs.Bool i) can h a = subst (AreProper n) (sym (took_same g.ends g.todo (msgs.Bool i) tt)) a
+took_proper ps parties zs n g fit (msgs.Text i) can h a = subst (AreProper n) (sym (took_same g.ends g.todo (msgs.Text i) tt)) a
+took_proper ps parties zs n g fit (msgs.Label i) can h a = subst (AreProper n) (sym (took_same g.ends g.todo (msgs.Label i) tt)) a
+took_proper ps parties zs n g fit (msgs.More i) can h a = subst (AreProper n) (sym (took_same g.ends g.todo (msgs.More i) tt)) a

@@ -1,16 +1,22 @@
 -- Where a party's ends are Held with all that waits for them, an act of the plain world is one of the core.
-use Rattle.std.proofs.Common.{◌≡◌, ℕ, ◌+◌, nat_lt, Bool, true, false, ◌&&◌, cond, if◌then◌else◌, List, [], ◌∷◌, slice_get, Option, Some, None, option_map, refl, ap, sym, ◌∙◌}
+use Rattle.std.proofs.Common.{◌≡◌, ℕ, ◌+◌, nat_lt, Bool, true, false, ◌&&◌, cond, if◌then◌else◌, List, [], ◌∷◌, slice_get, Option, Some, None, option_map, refl, ap, sym, subst, ◌∙◌}
 use Rattle.std.proofs.lemmas.Bool.{and_from}
 use Rattle.sj_base.specs.declared.EndId.{EndId}
 use Rattle.sj_base.specs.declared.Msg.{Msg}
 use Rattle.sj_base.specs.declared.Msg.TheVariants as msgs
 use Rattle.sj_lang.specs.declared.proto.Way.TheVariants.{Out, Into}
-use Rattle.sj_rules.specs.Record.{HeldAt, MainAt, Held, Closed, Parked, Fin, other_end}
+use Rattle.sj_rules.specs.Record.{HeldAt, MainAt, Held, Closed, Parked, Fin, other_end, offered_end}
+use Rattle.std.specs.Prelude.{Contains}
+use Rattle.sj_rules.specs.Limits.{limit_of_requests}
+use Rattle.sj_rules.specs.Opened.{opened_number, smallest}
+use Rattle.sj_rules.specs.Reading.{AreRising}
+use Rattle.sj_opened_laws.proofs.OpenKeepLemmas.{contains_first}
+use Rattle.sj_opened_laws.proofs.AcceptKeepLemmas.{first_smallest}
 use Rattle.sj_rules.specs.Rows.{Worked}
-use Rattle.sj_rules.specs.Node.{Want, ended, local, sends, delegates, takes, closes, Play, NodeAt, with_main, with_old, put, work_of_take, held_behind_take, is_free, send_act, delegate_act, take_act, take_from, close_act, act_by, acts}
+use Rattle.sj_rules.specs.Node.{Want, ended, local, sends, delegates, takes, closes, requests, accepts, Play, NodeAt, accept_session, accept_offered, with_main, with_old, put, work_of_take, held_behind_take, is_free, send_act, delegate_act, take_act, take_from, close_act, act_by, acts}
 use Rattle.sj_rules.specs.PlainSide.{PlainAt}
 use Rattle.sj_rules.specs.Linked.{waiting_at}
-use Rattle.sj_rules.specs.Moves.{plain_delegates, plain_takes_head, plain_act_by, plain_act}
+use Rattle.sj_rules.specs.Moves.{plain_delegates, plain_takes_head, plain_requests, plain_accepts, plain_act_by, plain_act}
 use Rattle.sj_rules.specs.HeldStands.{IsWholeAt}
 use Rattle.sj_rules.specs.Premises.{FitsDelegate, FitsTake, FitsClose, FitsStep}
 use Rattle.sj_rules_laws.proofs.CoreActLemmas.{Has, has_by, has_map}
@@ -27,7 +33,10 @@ begins (k ∷ ks) m h = record { later = ks; split = let it : k ≡ m = cc in ap
 
 module _ {P Q : Type 0} (IsOver : P → Type 0) (play : Play P Q) (binds : Q → EndId → Bool) (plain : PlainAt P Q) (p : ℕ) (n : NodeAt P Q)
     (same : n.program ≡ plain.programs p)
-    (whole : (e : EndId) → binds (plain.programs p) e ≡ true → IsWholeAt plain n e) where
+    (whole : (e : EndId) → binds (plain.programs p) e ≡ true → IsWholeAt plain n e)
+    (counted : n.requests ≡ plain.requests p) (offers : (from : ℕ) → n.offers from ≡ plain.offers from p)
+    (rising : (from : ℕ) → AreRising (plain.offers from p))
+    (held_there : (from sess : ℕ) → Contains (plain.offers from p) sess → (h : HeldAt P) × (n.main (offered_end sess) ≡ Some (Held h))) where
   abbrev Acts : Want P → Type 0
   Acts want = Has (act_by play p n want)
 
@@ -70,6 +79,18 @@ module _ {P Q : Type 0} (IsOver : P → Type 0) (play : Play P Q) (binds : Q →
       (ap (close_act play n e) own.there ∙ ap (λ (b : Bool). cond b (Some done) None) (ap play.is_over own.place ∙ fit.is_over))
       (record { some = done; is = refl })
 
+  request_does : (place : P) (to : ℕ) → nat_lt (plain.requests p) limit_of_requests ≡ true → Acts (requests place to)
+  request_does place to few =
+      let here : nat_lt n.requests limit_of_requests ≡ true = ap (λ k. nat_lt k limit_of_requests) counted ∙ few in
+      rw here (record { some = _; is = refl })
+
+  accept_does : (place : P) (from sess : ℕ) (later : List ℕ) → plain.offers from p ≡ sess ∷ later → Acts (accepts place from)
+  accept_does place from sess later first =
+      let at : smallest (n.offers from) ≡ Some sess = ap smallest (offers from ∙ first) ∙ ap Some (first_smallest sess later (subst AreRising first (rising from)).0) in
+      let h = held_there from sess (subst (λ l. Contains l sess) (sym first) (contains_first sess later)) in
+      has_by (act_by play p n (accepts place from)) (accept_session play n place from sess (Some (Held h.0)))
+      (ap (accept_offered play n place from) at ∙ ap (accept_session play n place from sess) h.1) (record { some = _; is = refl })
+
   does : (want : Want P) → FitsStep IsOver play binds plain p (plain.programs p) want → (v : PlainAt P Q) → plain_act_by play plain p want ≡ Some v → Acts want
   does ended fit v acted = cc
   does local fit v acted = record { some = _; is = refl }
@@ -82,10 +103,20 @@ module _ {P Q : Type 0} (IsOver : P → Type 0) (play : Play P Q) (binds : Q →
       by false few k = cc
   does (takes e place) fit v acted = by (waiting_at plain e 0) refl acted
     where
-      by : (o : Option Msg) → waiting_at plain e 0 ≡ o → plain_takes_head play p e plain o ≡ Some v → Acts (takes e place)
+      by : (o : Option Msg) → waiting_at plain e 0 ≡ o → plain_takes_head play p e place plain o ≡ Some v → Acts (takes e place)
       by None waits k = cc
       by (Some m) waits k = take_does e place m fit waits
   does (closes e) fit v acted = close_does e fit
+  does (requests place to) fit v acted = by (nat_lt (plain.requests p) limit_of_requests) refl acted
+    where
+      by : (b : Bool) → nat_lt (plain.requests p) limit_of_requests ≡ b → cond b (Some (plain_requests play p place to (opened_number p (plain.requests p)) plain)) None ≡ Some v → Acts (requests place to)
+      by true few k = request_does place to few
+      by false few k = cc
+  does (accepts place from) fit v acted = by (plain.offers from p) refl acted
+    where
+      by : (l : List ℕ) → plain.offers from p ≡ l → plain_accepts play p place from plain l ≡ Some v → Acts (accepts place from)
+      by [] first k = cc
+      by (sess ∷ later) first k = accept_does place from sess later first
 
   -- a plain act is an act of the core
   pub plain_act_is_core : FitsStep IsOver play binds plain p (plain.programs p) (play.wants (plain.programs p)) → (v : PlainAt P Q) → plain_act play plain p ≡ Some v → Has (acts play p n)

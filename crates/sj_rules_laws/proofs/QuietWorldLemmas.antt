@@ -1,22 +1,27 @@
 -- A kept core world with nothing in its lanes, in which no party can act, stands for a settled plain world.
 use Rattle.std.proofs.Common.{◌≡◌, ℕ, ◌<◌, Bool, true, cond, List, [], Option, Some, None, option_map, refl, ap, sym, ◌∙◌, subst}
 use Rattle.std.specs.Prelude.{is_none}
-use Rattle.std.proofs.lemmas.Bool.{eq-eqb}
+use Rattle.std.proofs.lemmas.Bool.{eq-eqb, false_from_ne_true, both_ways}
 use Rattle.sj_base.specs.declared.EndId.{EndId}
 use Rattle.sj_base.specs.declared.Msg.{Msg}
 use Rattle.sj_base.specs.declared.Msg.TheVariants as msgs
-use Rattle.sj_lang.specs.Place.{Place}
+use Rattle.sj_lang.specs.Place.{Place, done}
 use Rattle.sj_lang.specs.FileAt.{FileAt}
 use Rattle.sj_acceptance.specs.Accepted.{IsAccepted}
 use Rattle.sj_semantics.specs.Program.{Program}
 use Rattle.sj_semantics.specs.State.{IsSettled}
 use Rattle.sj_semantics.specs.Run.{IsRun}
 use Rattle.sj_semantics.specs.World.{World, act_of}
-use Rattle.sj_rules.specs.Record.{EndAt, BodyAt, HeldAt, Held, other_end}
+use Rattle.sj_rules.specs.Record.{EndAt, BodyAt, HeldAt, MainAt, Held, other_end, offered_end}
 use Rattle.sj_rules.specs.Node.{is_free}
 use Rattle.sj_rules.specs.World.{WorldAt}
 use Rattle.sj_rules.specs.Seat.{Seat, held, parked, claimed, signalled, given, closed, gone, Side, source_for}
-use Rattle.sj_rules.specs.Shown.{Shows, main_shown}
+use Rattle.sj_rules.specs.Shown.{Shows, main_shown, bodies}
+use Rattle.sj_rules.specs.Opened.{opener_of, opens, opened_in}
+use Rattle.sj_rules.specs.Reading.{is_opening, reading, without_opens, IsOpenKept}
+use Rattle.sj_opened_laws.proofs.DeliverKeepLemmas.{read_none}
+use Rattle.std.specs.Prelude.{false, Contains, ◌++◌}
+use Rattle.std.proofs.Common.{append-nil}
 use Rattle.sj_rules.specs.PlainSide.{PlainSide, PlainAt}
 use Rattle.sj_rules.specs.Numbers.{turned, NumbersFit}
 use Rattle.sj_rules.specs.Coming.{Comes, AreOld}
@@ -121,12 +126,12 @@ module _ {P Q : Type 0} (IsOver : P → Type 0) (binds : Q → EndId → Bool) (
     used_is_held p gone left uses = cc
 
     -- an end that a party binds is Held there with all that waits for it
-    pub bound_is_whole : (p : ℕ) (e : EndId) → e.side < 2 → binds (plain.programs p) e ≡ true → IsWholeAt plain (w.nodes p) e
-    bound_is_whole p e lt b =
-        let u = used_is_held p (kept.sessions.sides e).seat (is_left e lt) ((kept.bound p e lt).0 b) in
+    pub bound_is_whole : (p : ℕ) (e : EndId) → e.side < 2 → (plain.sides e).offered ≡ false → binds (plain.programs p) e ≡ true → IsWholeAt plain (w.nodes p) e
+    bound_is_whole p e lt o b =
+        let u = used_is_held p (kept.sessions.sides e).seat (is_left e lt) ((kept.bound p e lt o).0 b) in
         let h : HeldAt P = u.0 in
         let there : (w.nodes p).main e ≡ Some (Held h) = main_at p e lt (held p h) u.1 ∙ ap (λ (t : Bool). cond t (Some (Held h)) None) (eq-eqb p p refl) in
-        let stands = kept_stands IsOver binds w plain kept p e h lt there in
+        let stands = kept_stands IsOver binds w plain kept p e h lt o there in
         let t = sound_at IsOver w plain.sides kept.sessions e lt in
         let s : Side P = kept.sessions.sides (other_end e) in
         let r : Side P = kept.sessions.sides e in
@@ -143,18 +148,62 @@ module _ {P Q : Type 0} (IsOver : P → Type 0) (binds : Q → EndId → Bool) (
           free = free_by p e lt;
         }
 
+-- ---- with Opens, where the lanes are empty
+
+module _ {P Q : Type 0} (IsOver : P → Type 0) (binds : Q → EndId → Bool) (blank : P) (w : WorldAt P Q) (plain : PlainAt P Q) (kept : IsOpenKept IsOver binds blank w plain) where
+  -- what is free in the reading is free
+  pub open_free_by : (p : ℕ) (e : EndId) → e.side < 2 → (m : Msg) → waiting_at plain e 0 ≡ Some m → is_free (w.nodes p) m ≡ true
+  open_free_by p e lt m h = by m (free_by IsOver binds (reading blank w) plain kept.kept p e lt m h)
+    where
+      none_is : (o : Option (MainAt P)) → is_none o ≡ true → o ≡ None
+      none_is None h = refl
+      none_is (Some r) h = absurd (cc h)
+
+      by : (m : Msg) → is_free ((reading blank w).nodes p) m ≡ true → is_free (w.nodes p) m ≡ true
+      by (msgs.Sess sess side keeper) f =
+          ap is_none (read_none blank (is_opening w p (end_named sess side)) (end_named sess side) ((w.nodes p).main (end_named sess side)) (none_is (((reading blank w).nodes p).main (end_named sess side)) f)).1
+      by (msgs.Int n) f = refl
+      by (msgs.Bool b) f = refl
+      by (msgs.Text n) f = refl
+      by (msgs.Label n) f = refl
+      by (msgs.More b) f = refl
+
+  module _ (empty : (from to : ℕ) → w.lanes from to ≡ []) where
+    -- no end is in an Open, so the reading has the same records
+    pub no_opening : (p : ℕ) (e : EndId) → is_opening w p e ≡ false
+    no_opening p e = ap (λ l. opens e (bodies l)) (empty (opener_of e.sess) p)
+
+    pub same_main : (p : ℕ) (e : EndId) → ((reading blank w).nodes p).main e ≡ (w.nodes p).main e
+    same_main p e = rw (no_opening p e) refl
+
+    pub read_empty : (from to : ℕ) → (reading blank w).lanes from to ≡ []
+    read_empty from to = ap without_opens (empty from to)
+
+    pub same_offers : (from p : ℕ) → (w.nodes p).offers from ≡ plain.offers from p
+    same_offers from p = sym (append-nil ((w.nodes p).offers from)) ∙ ap (λ l. (w.nodes p).offers from ++ opened_in (bodies l)) (sym (empty from p)) ∙ kept.offers from p
+
+    pub open_bound_is_whole : (p : ℕ) (e : EndId) → e.side < 2 → (plain.sides e).offered ≡ false → binds (plain.programs p) e ≡ true → IsWholeAt plain (w.nodes p) e
+    open_bound_is_whole p e lt o b =
+        let u = bound_is_whole IsOver binds (reading blank w) plain kept.kept read_empty p e lt o b in
+        record { record_of = u.record_of; there = sym (same_main p e) ∙ u.there; place = u.place; hops = u.hops; waits = u.waits; free = open_free_by p e lt }
+
+    pub held_offer : (p from sess : ℕ) → Contains (plain.offers from p) sess → (h : HeldAt P) × ((w.nodes p).main (offered_end sess) ≡ Some (Held h))
+    held_offer p from sess c = let h = kept.held from p sess c in (h.0, sym (same_main p (offered_end sess)) ∙ h.1)
+
 -- ---- of a file
 
 no_some : (o : Option World) → ◌≡◌ {A = Option (PlainAt Place Program)} (option_map plain_at o) None → o ≡ None
 no_some None h = refl
 no_some (Some v) h = cc
 
-pub quiet_is_settled : (file : FileAt) (ps : List ℕ) (w : World) (core : WorldAt Place Program) → IsAccepted file → IsRun file ps w → IsKept IsDone binds core (plain_at w)
+pub quiet_is_settled : (file : FileAt) (ps : List ℕ) (w : World) (core : WorldAt Place Program) → IsAccepted file → IsRun file ps w → IsOpenKept IsDone binds done core (plain_at w)
     → IsQuiescent (play_of file) core → IsSettled w
 quiet_is_settled file ps w core accepted run kept quiet p =
     let lawful = run_is_lawful file ps w accepted run in
     let none : plain_act (play_of file) (plain_at w) p ≡ None =
-    no_core_act_no_plain_act IsDone (play_of file) binds (plain_at w) p (core.nodes p) (kept.programs p)
-    (λ e b. bound_is_whole IsDone binds core (plain_at w) kept quiet.empty p e (lawful.proper p e b).0 b)
+    no_core_act_no_plain_act IsDone (play_of file) binds (plain_at w) p (core.nodes p) (kept.kept.programs p)
+    (λ e b. open_bound_is_whole IsDone binds done core (plain_at w) kept quiet.empty p e (lawful.proper p e b).0 (false_from_ne_true ((plain_at w).sides e).offered (λ o. both_ways (binds ((plain_at w).programs p) e) (lawful.unbound p e o) b)) b)
+    (kept.requests p) (λ from. same_offers IsDone binds done core (plain_at w) kept quiet.empty from p) (λ from. kept.rising from p)
+    (λ from sess c. held_offer IsDone binds done core (plain_at w) kept quiet.empty p from sess c)
     (lawful.steps p) (quiet.still p) in
     no_some (act_of w p) (sym (run_acts_are_seen file ps w p accepted run) ∙ none)

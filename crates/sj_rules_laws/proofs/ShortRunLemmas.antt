@@ -1,8 +1,8 @@
 -- Core runs of accepted files are short: each act brings at most a fixed number of events.
-use Rattle.std.proofs.Common.{◌≡◌, ℕ, ◌+◌, ◌*◌, ◌<◌, ◌≤◌, ◌==◌, Bool, true, false, cond, max, List, [], ◌∷◌, ◌++◌, length, Option, Some, None, option_and_then, refl, ap, arith, length-append}
+use Rattle.std.proofs.Common.{◌≡◌, ℕ, ◌+◌, ◌*◌, ◌<◌, ◌≤◌, ◌==◌, Bool, true, false, cond, max, List, [], ◌∷◌, ◌++◌, length, Option, Some, None, option_and_then, refl, ap, sym, ◌∙◌, arith, length-append}
 use Rattle.std.proofs.lemmas.List.{length-map}
 use Rattle.sj_base.specs.declared.EndId.{EndId}
-use Rattle.sj_lang.specs.Place.{Place}
+use Rattle.sj_lang.specs.Place.{Place, done}
 use Rattle.sj_lang.specs.FileAt.{FileAt, ConnectAt, party_named}
 use Rattle.sj_acceptance.specs.Accepted.{IsAccepted}
 use Rattle.sj_semantics.specs.declared.Passed.{Passed}
@@ -10,7 +10,7 @@ use Rattle.sj_semantics.specs.Ends.{end_at}
 use Rattle.sj_semantics.specs.Program.{Program}
 use Rattle.sj_rules.specs.Record.{Held}
 use Rattle.sj_rules.specs.Node.{acts, arrives}
-use Rattle.sj_rules.proofs.ArrivalLemmas.{arrived_comes}
+use Rattle.sj_rules.proofs.ArrivalLemmas.{proper_comes, arrived_proper}
 use Rattle.sj_rules.specs.Frames.{FrameAt}
 use Rattle.sj_rules.specs.World.{WorldAt, Event, Act, Deliver, Turn, Run, happens, after_event, delivery_of, with_lane}
 use Rattle.sj_rules.specs.PlainSide.{PlainSide}
@@ -30,7 +30,7 @@ use Rattle.sj_rules_laws.proofs.LedgerLemmas.{total}
 use Rattle.sj_rules_laws.proofs.NodeWeightLemmas.{late_of}
 use Rattle.sj_rules_laws.proofs.KeyLemmas.{Credits}
 use Rattle.sj_rules_laws.proofs.CoverLemmas.{Covers, act_covered, delivery_covered}
-use Rattle.sj_rules_laws.proofs.FewCachedLemmas.{front_meets_few}
+use Rattle.sj_rules_laws.proofs.FewCachedLemmas.{open_front_meets_few}
 
 -- ---- the start
 
@@ -63,7 +63,7 @@ module _ (file : FileAt) (accepted : IsAccepted file) where
         arith,
         accepted.within.parties,
         (run_is_proper file ps s.plain accepted s.run).many,
-        ap (λ (x : PlainSide Place). length x.sent) (side_below s.plain.sessions e lt),
+        ap (λ (x : PlainSide Place). length x.sent) (side_below s.plain.requests s.plain.sessions e lt),
         length-map (end_at s.plain.sessions e).sent (λ (x : Passed). x.msg),
         few_messages s.plain e (run_is_counted file ps s.plain s.run),
       )
@@ -74,9 +74,9 @@ module _ (file : FileAt) (accepted : IsAccepted file) where
     delivery_goes p q after [] front h = cc
     delivery_goes p q after (f ∷ rest) front h =
         let clock : ℕ = max (core.nodes p).clock f.clock + 1 in
-        by_map (λ (v : WorldAt Place Program). Goes v l 0) (after_event core p clock (with_lane q p rest core.lanes)) (arrives (length file.parties) pick (core.nodes p) q f) after h (λ done came.
-        let meets = front_meets_few IsDone binds core (plain_at s.plain) s.kept limit_of_sent (few_sent ps core s) p q f rest front in
-        let d = delivery_covered limit_of_sent pick core p q clock f rest l done c front meets (arrived_comes (length file.parties) pick (core.nodes p) q f done came) in
+        by_map (λ (v : WorldAt Place Program). Goes v l 0) (after_event core p clock (with_lane q p rest core.lanes)) (arrives done (length file.parties) pick (core.nodes p) q f) after h (λ left came.
+        let meets = open_front_meets_few IsDone binds done core (plain_at s.plain) s.kept limit_of_sent (few_sent ps core s) p q f rest front in
+        let d = delivery_covered limit_of_sent done pick core p q clock f rest l left c front meets (sym (proper_comes done (length file.parties) pick (core.nodes p) q f (arrived_proper done (length file.parties) pick (core.nodes p) q f left came)) ∙ came) in
         record { ledger = d.0.ledger; covers = d.0.covers; few = omega (arith, d.1) })
 
     -- an act

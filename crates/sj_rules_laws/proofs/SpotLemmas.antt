@@ -6,10 +6,13 @@ use Rattle.sj_base.specs.declared.EndId.{EndId}
 use Rattle.sj_rules.specs.Record.{BodyAt, Give, Mail, MainAt, Held, Closed, Expected, OldAt, Parked, Signalled, other_end}
 use Rattle.sj_rules.specs.World.{WorldAt}
 use Rattle.sj_rules.specs.Seat.{Seat, held, parked, claimed, signalled, given, closed, gone, Side, source_for}
-use Rattle.sj_rules.specs.Shown.{Shows, main_shown, old_shown, gives_in}
+use Rattle.sj_rules.specs.Shown.{Shows, bodies, main_shown, old_shown, gives_in}
 use Rattle.sj_rules.specs.PlainSide.{PlainAt}
 use Rattle.sj_rules.specs.Linked.{IsKept}
-use Rattle.sj_rules.specs.Spots.{Spot, at_main, at_old, on_way, HasMain, HasOld, LiesAt, LiesOnce}
+use Rattle.sj_rules.specs.Opened.{opener_of}
+use Rattle.sj_rules.specs.Reading.{is_opening, reading, IsOpenKept}
+use Rattle.sj_opened_laws.proofs.OpenSpotLemmas.{no_opens, open_there, lies_once_read}
+use Rattle.sj_rules.specs.Spots.{Spot, at_main, at_old, on_way, in_open, HasMain, HasOld, LiesAt, LiesOnce}
 use Rattle.sj_rules.specs.Worked.{mails_of}
 
 abbrev pub spot_of : {P : Type 0} → Seat P → Option Spot
@@ -29,6 +32,16 @@ awaiter_of (signalled at to e ds) = Some to
 awaiter_of (given at to e q ds) = Some to
 awaiter_of (closed at e) = None
 awaiter_of gone = None
+
+-- no seat is in an Open
+never_in_open : {P : Type 0} → (seat : Seat P) (p : ℕ) → spot_of seat ≡ Some (in_open p) → ⊥
+never_in_open (held at h) p k = cc k
+never_in_open (parked at e) p k = cc k
+never_in_open (claimed at to e) p k = cc k
+never_in_open (signalled at to e ds) p k = cc k
+never_in_open (given at to e q ds) p k = cc k
+never_in_open (closed at e) p k = cc k
+never_in_open gone p k = cc k
 
 -- ---- main records
 
@@ -139,7 +152,7 @@ module _ {P : Type 0} (from : ℕ) (place : P) where
 
 -- ---- in a world
 
-module _ {P Q : Type 0} (w : WorldAt P Q) (other : Seat P) (r : Side P) (shows : Shows w other r) where
+module _ {P Q : Type 0} (w : WorldAt P Q) (other : Seat P) (r : Side P) (shows : Shows w other r) (shut : (p : ℕ) → is_opening w p r.id ≡ false) where
   lies_there : (at : Spot) → LiesAt w r.id at ↔ (spot_of r.seat ≡ Some at)
   lies_there (at_main p) = (
     λ h. main_lies (source_for other r.seat) r.place r.seat p (subst HasMain (shows.mains p) h),
@@ -150,6 +163,7 @@ module _ {P Q : Type 0} (w : WorldAt P Q) (other : Seat P) (r : Side P) (shows :
     λ h. give_lies r.seat p q (λ none. let some : h.0 ∷ [] ≡ [] = sym h.1 ∙ shows.gives p q ∙ none in cc some),
     λ h. let g = give_is_shown r.seat p q h in (g.0, shows.gives p q ∙ g.1),
   )
+  lies_there (in_open p) = (λ h. let o : is_opening w p r.id ≡ true = open_there r.id (bodies (w.lanes (opener_of r.id.sess) p)) h in absurd (cc (shut p, o)), λ h. absurd (never_in_open r.seat p h))
 
   shown_once : LiesOnce w r.id
   shown_once = record {
@@ -159,5 +173,12 @@ module _ {P Q : Type 0} (w : WorldAt P Q) (other : Seat P) (r : Side P) (shows :
     awaits = λ p keeper place late h. awaited_from (source_for other r.seat) r.place r.seat p keeper place late (sym (shows.mains p) ∙ h);
   }
 
-pub lies_once : {P Q : Type 0} → (IsOver : P → Type 0) (binds : Q → EndId → Bool) (w : WorldAt P Q) (plain : PlainAt P Q) → IsKept IsOver binds w plain → (e : EndId) → e.side < 2 → LiesOnce w e
-lies_once IsOver binds w plain kept e low = subst (LiesOnce w) (kept.sessions.ids e) (shown_once w (kept.sessions.sides (other_end e)).seat (kept.sessions.sides e) (kept.sessions.shows e low))
+lies_once : {P Q : Type 0} → (IsOver : P → Type 0) (binds : Q → EndId → Bool) (w : WorldAt P Q) (plain : PlainAt P Q) → IsKept IsOver binds w plain → (e : EndId) → e.side < 2 → ((p : ℕ) → is_opening w p e ≡ false) → LiesOnce w e
+lies_once IsOver binds w plain kept e low shut =
+    subst (LiesOnce w) (kept.sessions.ids e)
+    (shown_once w (kept.sessions.sides (other_end e)).seat (kept.sessions.sides e) (kept.sessions.shows e low) (λ p. ap (is_opening w p) (kept.sessions.ids e) ∙ shut p))
+
+-- in a world with Opens too
+pub open_lies_once : {P Q : Type 0} → (IsOver : P → Type 0) (binds : Q → EndId → Bool) (blank : P) (w : WorldAt P Q) (plain : PlainAt P Q) → IsOpenKept IsOver binds blank w plain → (e : EndId) → e.side < 2 → LiesOnce w e
+open_lies_once IsOver binds blank w plain kept e low =
+    lies_once_read blank w kept.bare kept.lead e (lies_once IsOver binds (reading blank w) plain kept.kept e low (λ p. no_opens e (w.lanes (opener_of e.sess) p)))

@@ -8,7 +8,13 @@ use Rattle.sj_base.specs.declared.Msg.TheVariants as msgs
 use Rattle.sj_lang.specs.Place.{Place, done}
 use Rattle.sj_lang.specs.FileAt.{FileAt, ConnectAt, body_named, party_named}
 use Rattle.sj_acceptance.specs.Accepted.{IsAccepted}
-use Rattle.sj_semantics.specs.Ends.{EndAt, end_on, nowhere}
+use Rattle.sj_semantics.specs.Ends.{EndAt, end_on, end_at, nowhere}
+use Rattle.sj_semantics.specs.Requests.{no_requests}
+use Rattle.std.specs.Prelude.{nat_le, ◌&&◌, ◌==◌, ◌≤◌, length}
+use Rattle.std.proofs.lemmas.Option.{slice_get_past}
+use Rattle.sj_rules.specs.Limits.{first_opened}
+use Rattle.sj_rules.specs.Reading.{IsOpenKept}
+use Rattle.sj_opened_laws.proofs.OpenRunLemmas.{OpensNothingYet, begins_kept}
 use Rattle.sj_semantics.specs.World.{fresh, session_of, start_of}
 use Rattle.sj_rules.specs.Record.{other_end}
 use Rattle.sj_rules.specs.Seat.{Seat, held, gone, Side, source_for}
@@ -18,7 +24,7 @@ use Rattle.sj_rules.specs.Numbers.{level}
 use Rattle.sj_rules.specs.Invariant.{Direction, IsSound}
 use Rattle.sj_rules.specs.Linked.{waiting_at, user_of, IsParkedAt, IsLinked, IsKept, end_named}
 use Rattle.sj_rules.specs.Party.{IsDone, binds}
-use Rattle.sj_rules.specs.Plain.{side_at, plain_at}
+use Rattle.sj_rules.specs.Plain.{is_offered_end, side_at, plain_at}
 use Rattle.sj_rules.specs.Start.{declared_on, first_held, held_by, connect_of, core_start}
 use Rattle.sj_rules_laws.proofs.SideLemmas.{other_side_below, side_below}
 use Rattle.sj_rules_laws.proofs.StartNamesLemmas.{bound_starts, starts_bound}
@@ -46,7 +52,15 @@ start_end file e None = nowhere
 start_end file e (Some c) = fresh (body_named file.protocols (declared_on e.side c).protocol)
 
 abbrev plain_with : FileAt → EndId → Option ConnectAt → PlainSide Place
-plain_with file e o = side_at (start_end file e o)
+plain_with file e o = side_at false (start_end file e o)
+
+-- nothing is offered
+nothing_offered : (e : EndId) → is_offered_end no_requests e ≡ false
+nothing_offered e = by (nat_le first_opened e.sess && (e.side == 1))
+  where
+    by : (b : Bool) → (b && false) ≡ false
+    by true = refl
+    by false = refl
 
 end_on_start : (file : FileAt) (d : ℕ) (c : ConnectAt) → end_on d (session_of file c) ≡ fresh (body_named file.protocols (declared_on d c).protocol)
 end_on_start file zero c = refl
@@ -58,15 +72,16 @@ by_connect file e (Some c) = end_on_start file e.side c
 
 plain_start : (file : FileAt) (e : EndId) → e.side < 2 → (plain_at (start_of file)).sides e ≡ plain_with file e (slice_get file.connects e.sess)
 plain_start file e lt =
-    side_below (start_of file).sessions e lt
-    ∙ ap side_at (ap (λ o. unwrap_or (option_map (end_on e.side) o) nowhere) (slice_get-map (session_of file) file.connects e.sess) ∙ by_connect file e (slice_get file.connects e.sess))
+    side_below no_requests (start_of file).sessions e lt
+    ∙ ap (λ (b : Bool). side_at b (end_at (start_of file).sessions e)) (nothing_offered e)
+    ∙ ap (side_at false) (ap (λ o. unwrap_or (option_map (end_on e.side) o) nowhere) (slice_get-map (session_of file) file.connects e.sess) ∙ by_connect file e (slice_get file.connects e.sess))
 
 -- ---- a session
 
 direction_with : (file : FileAt) (s r : EndId) (o : Option ConnectAt) → Direction IsDone level (plain_with file s o) (plain_with file r o) (side_with file s o) (side_with file r o)
 direction_with file s r None = record { fits = (refl, refl); place = refl; resend = tt; comes = refl; old = refl }
 direction_with file s r (Some c) = record {
-  fits = (record { name = refl; hops = refl; sent = refl; taken = refl; cache = refl }, refl, omega arith);
+  fits = (record { name = refl; hops = refl; sent = refl; taken = refl; cache = refl }, λ o. refl, omega arith);
   place = refl;
   resend = tt;
   comes = record { rest = []; all = refl; comes = inl (refl, record { carries = []; split = refl; are = omega arith }) };
@@ -194,5 +209,28 @@ start_is_kept file accepted = record {
   };
   linked = start_linked file;
   programs = λ p. refl;
-  bound = λ p e lt. start_bound file accepted p e;
+  bound = λ p e lt o. start_bound file accepted p e;
 }
+
+-- ---- and nothing is opened yet
+
+none_recorded : (file : FileAt) (p : ℕ) (e : EndId) → length file.connects ≤ e.sess → ((core_start file).nodes p).main e ≡ None
+none_recorded file p e past = by (nat_lt e.side 2)
+  where
+    by : (b : Bool) → option_and_then (held_by file p e) (cond b (slice_get file.connects e.sess) None) ≡ None
+    by true = ap (option_and_then (held_by file p e)) (slice_get_past file.connects e.sess past)
+    by false = refl
+
+start_opens_nothing : (file : FileAt) → IsAccepted file → OpensNothingYet (core_start file) (plain_at (start_of file))
+start_opens_nothing file accepted = record {
+  empty = λ from to. refl;
+  requests = λ p. refl;
+  nobody_offers = λ from p. refl;
+  none_offered = λ from p. refl;
+  all_accepted = nothing_offered;
+  no_records = λ s n p e is low. (none_recorded file p e (omega (arith, accepted.within.connects, n.4, is)), refl);
+}
+
+-- so it is kept, with its Opens, of which there are none
+pub start_is_open_kept : (file : FileAt) → IsAccepted file → IsOpenKept IsDone binds done (core_start file) (plain_at (start_of file))
+start_is_open_kept file accepted = begins_kept IsDone binds done (core_start file) (plain_at (start_of file)) (start_is_kept file accepted) (start_opens_nothing file accepted)

@@ -3,7 +3,7 @@ use Rattle.std.proofs.Common.{◌≡◌, ℕ, ◌+◌, ◌-◌, ◌≤◌, ◌==
 use Rattle.std.specs.Prelude.{nat_le}
 use Rattle.sj_base.specs.declared.EndId.{EndId}
 use Rattle.sj_base.specs.declared.Msg.{Msg}
-use Rattle.sj_rules.specs.Record.{EndAt, BodyAt, Carry, Fin, Claim, Signal, Ack, Give, Mail, HeldAt, other_end}
+use Rattle.sj_rules.specs.Record.{EndAt, BodyAt, Carry, Fin, Claim, Signal, Ack, Give, Open, Mail, HeldAt, other_end}
 use Rattle.sj_rules.specs.Limits.{limit_of_conns}
 use Rattle.sj_rules.specs.Rows.{Worked, with_first, with_last, trimmed_end, end_with_peer, numbered_carries, mails_of, cached_from, resent_posts, signal_fits, passive, passive_closed, crossing_body, acked_body, with_end, at_held, worked_record, resend_fits, resent_at, install}
 use Rattle.sj_rules_laws.proofs.WithinRowLemmas.{by_map, by_test, by_some}
@@ -17,6 +17,7 @@ worth_of n (Claim of) = n + n + 4
 worth_of n (Signal to conn party taken) = n + n + 3
 worth_of n (Ack of conn) = n + 1
 worth_of n (Give e resend) = n
+worth_of n (Open sess) = 0
 
 -- of frames that were deferred
 abbrev pub worth_of_mails : {P : Type 0} → ℕ → List (Mail P) → ℕ
@@ -102,6 +103,7 @@ module _ {P : Type 0} (n : ℕ) where
   at_held_pays pick h origin (Claim of) w few k = cc
   at_held_pays pick h origin (Ack of conn) w few k = cc
   at_held_pays pick h origin (Give e resend) w few k = cc
+  at_held_pays pick h origin (Open sess) w few k = cc
 
   -- one frame, and then the others
   after_first : (first later : ℕ) (o : Option (Worked P (HeldAt P))) (w : Worked P (HeldAt P)) (rest : Worked P (HeldAt P) → Option (Worked P (HeldAt P)))

@@ -4,7 +4,7 @@ use Rattle.std.proofs.lemmas.Bool.{and_parts, ltb-true, leb-true}
 use Rattle.std.proofs.lemmas.List.{length-drop}
 use Rattle.sj_base.specs.declared.EndId.{EndId}
 use Rattle.sj_base.specs.declared.Msg.{Msg}
-use Rattle.sj_rules.specs.Record.{EndAt, BodyAt, Carry, Fin, Claim, Signal, Ack, Give, Mail, HeldAt, other_end}
+use Rattle.sj_rules.specs.Record.{EndAt, BodyAt, Carry, Fin, Claim, Signal, Ack, Give, Open, Mail, HeldAt, other_end}
 use Rattle.sj_rules.specs.Limits.{limit_of_conns}
 use Rattle.sj_rules.specs.Rows.{IsPick, Worked, with_first, with_last, trimmed_end, end_with_peer, numbered_carries, mails_of, cached_from, resent_posts, signal_fits, passive, passive_closed, crossing_body, acked_body, with_end, at_held, worked_record, resend_fits, resent_at, install}
 use Rattle.sj_rules.specs.Within.{EndWithin, BodyWithin, MailWithin, MailsWithin}
@@ -127,6 +127,7 @@ module _ {P : Type 0} (n : ℕ) where
     at_held_within h origin (Claim of) w all from named k = cc
     at_held_within h origin (Ack of conn) w all from named k = cc
     at_held_within h origin (Give e resend) w all from named k = cc
+    at_held_within h origin (Open sess) w all from named k = cc
 
     after_first : (o : Option (Worked P (HeldAt P))) (w : Worked P (HeldAt P)) (rest : Worked P (HeldAt P) → Option (Worked P (HeldAt P)))
         → ((x : Worked P (HeldAt P)) → o ≡ Some x → HeldOut x)

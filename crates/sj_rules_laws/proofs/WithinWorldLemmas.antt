@@ -1,7 +1,7 @@
 -- Each event names only parties of the file, keeps all numbers within the limits, and leaves nothing in the lanes of others.
 use Rattle.std.proofs.Common.{◌≡◌, ℕ, ◌+◌, ◌<◌, ◌≤◌, ◌==◌, Bool, true, false, ◌&&◌, cond, List, [], ◌∷◌, ◌++◌, map, max, Option, Some, None, refl, ap, sym, ◌∙◌, subst, arith, inl, inr, ◌⊎◌}
 use Rattle.std.specs.List.{filter, AllByRecursion}
-use Rattle.std.proofs.lemmas.Bool.{cases_lt, eqb-true, ne_eqb, and_parts}
+use Rattle.std.proofs.lemmas.Bool.{false_from_ne_true, both_ways, cases_lt, eqb-true, ne_eqb, and_parts}
 use Rattle.sj_base.specs.declared.EndId.{EndId}
 use Rattle.sj_base.specs.declared.Msg.{Msg}
 use Rattle.sj_base.specs.declared.Msg.TheVariants as msgs
@@ -11,20 +11,21 @@ use Rattle.sj_acceptance.specs.Accepted.{IsAccepted}
 use Rattle.sj_semantics.specs.Ends.{other_side}
 use Rattle.sj_rules.specs.Record.{Mail, HeldAt, MainAt, Held, other_end}
 use Rattle.sj_rules.specs.Rows.{IsPick, Worked}
-use Rattle.sj_rules.specs.Node.{Want, ended, local, sends, delegates, takes, closes, Play, NodeAt, arrives, acts, act_by}
-use Rattle.sj_rules.proofs.ArrivalLemmas.{arrived_comes}
+use Rattle.sj_rules.specs.Node.{Want, ended, local, sends, delegates, takes, closes, requests, accepts, Play, NodeAt, arrives, acts, act_by}
+use Rattle.sj_rules.proofs.ArrivalLemmas.{proper_comes, arrived_proper}
 use Rattle.sj_rules.specs.Frames.{FrameAt, frames_for}
 use Rattle.sj_rules.specs.World.{WorldAt, Event, Act, Deliver, with_lane, after_event, delivery_of, happens}
 use Rattle.sj_rules.specs.PlainSide.{PlainAt}
-use Rattle.sj_rules.specs.Linked.{waiting_at, IsKept}
+use Rattle.sj_rules.specs.Linked.{waiting_at}
+use Rattle.sj_rules.specs.Reading.{reading, IsOpenKept}
 use Rattle.sj_rules.specs.Premises.{FitsStep, IsLawful}
 use Rattle.sj_rules.specs.Start.{declared_on, connect_of, held_by, first_held, core_start}
 use Rattle.sj_rules.specs.Within.{KeeperWithin, BodyWithin, MailsWithin, MainWithin, NodeWithin, WorkedWithin, IsWithin}
 use Rattle.sj_rules_laws.proofs.WithinRowLemmas.{by_map, by_some}
-use Rattle.sj_rules_laws.proofs.WithinNodeLemmas.{comes_within}
+use Rattle.sj_rules_laws.proofs.WithinNodeLemmas.{all_within}
 use Rattle.sj_rules_laws.proofs.WithinActLemmas.{StepIsFew, acts_within}
 use Rattle.sj_world_laws.proofs.SeenLemmas.{here_held}
-use Rattle.sj_rules_laws.proofs.KeptLemmas.{kept_stands}
+use Rattle.sj_rules_laws.proofs.KeptLemmas.{held_read, open_kept_stands}
 use Rattle.sj_rules_laws.proofs.StartNamesLemmas.{party_exists}
 use Rattle.std.specs.Prelude.{length, slice_get, option_and_then, nat_lt}
 use Rattle.sj_joined_laws.proofs.LateLemmas.{all_joined}
@@ -75,12 +76,12 @@ module _ {P Q : Type 0} (n : ℕ) where
   delivery_within : (play : Play P Q) (pick : ℕ → ℕ → ℕ) → IsPick pick → (w v : WorldAt P Q) (p q : ℕ) → IsWithin n w → (l : List (FrameAt P)) → w.lanes q p ≡ l → delivery_of play pick w p q l ≡ Some v → IsWithin n v
   delivery_within play pick picks w v p q all [] there h = cc
   delivery_within play pick picks w v p q all (f ∷ rest) there h =
-      by_map (IsWithin n) (after_event w p (max (w.nodes p).clock f.clock + 1) (with_lane q p rest w.lanes)) (arrives play.parties pick (w.nodes p) q f) v h (λ done k.
+      by_map (IsWithin n) (after_event w p (max (w.nodes p).clock f.clock + 1) (with_lane q p rest w.lanes)) (arrives play.blank play.parties pick (w.nodes p) q f) v h (λ done k.
       let own : FramesWithin n (f ∷ rest) = subst (FramesWithin n) there (all.frames q p) in
       event_within w p (max (w.nodes p).clock f.clock + 1) (with_lane q p rest w.lanes) done (below_to (cases_lt p n)) all
       (λ from to. popped from to ((from == q) && (to == p)) own.1)
       (λ from to past. popped_none from to ((from == q) && (to == p)) refl past)
-      (comes_within n pick picks (w.nodes p) (all.nodes p) q (below_from (cases_lt q n)) f.body done own.0 (arrived_comes play.parties pick (w.nodes p) q f done k)))
+      (all_within n pick picks (w.nodes p) (all.nodes p) q (below_from (cases_lt q n)) play.blank f.body done own.0 (sym (proper_comes play.blank play.parties pick (w.nodes p) q f (arrived_proper play.blank play.parties pick (w.nodes p) q f done k)) ∙ k)))
     where
       filled : w.lanes q p ≡ [] → ⊥
       filled none = let clash : [] ≡ f ∷ rest = sym none ∙ there in cc
@@ -107,7 +108,7 @@ module _ {P Q : Type 0} (n : ℕ) where
 
   -- ---- acts, where the world is kept and lawful
 
-  module _ (IsOver : P → Type 0) (play : Play P Q) (binds : Q → EndId → Bool) (pick : ℕ → ℕ → ℕ) (picks : IsPick pick) (w : WorldAt P Q) (plain : PlainAt P Q) (kept : IsKept IsOver binds w plain) (lawful : IsLawful IsOver play binds n plain) where
+  module _ (IsOver : P → Type 0) (play : Play P Q) (binds : Q → EndId → Bool) (pick : ℕ → ℕ → ℕ) (picks : IsPick pick) (w : WorldAt P Q) (plain : PlainAt P Q) (opened : IsOpenKept IsOver binds play.blank w plain) (lawful : IsLawful IsOver play binds n plain) (same : play.parties ≡ n) where
     keeper_within : (e : EndId) (msg : Msg) → e.side < 2 → waiting_at plain e 0 ≡ Some msg → KeeperWithin n msg
     keeper_within e (msgs.Sess sess side keeper) lt h = (lawful.keepers e 0 sess side keeper lt h).1
     keeper_within e (msgs.Int i) lt h = tt
@@ -117,19 +118,21 @@ module _ {P Q : Type 0} (n : ℕ) where
     keeper_within e (msgs.More b) lt h = tt
 
     -- the end from which a party takes is one of side 0 or 1
-    takes_below : (p : ℕ) (e : EndId) (place : P) → play.wants (plain.programs p) ≡ takes e place → e.side < 2
-    takes_below p e place is = let fit = subst (FitsStep IsOver play binds plain p (plain.programs p)) is (lawful.steps p) in (lawful.proper p e fit.bound).0
+    takes_below : (p : ℕ) (e : EndId) (place : P) → play.wants (plain.programs p) ≡ takes e place → (e.side < 2) × ((plain.sides e).offered ≡ false)
+    takes_below p e place is =
+        let fit = subst (FitsStep IsOver play binds plain p (plain.programs p)) is (lawful.steps p) in
+        ((lawful.proper p e fit.bound).0, false_from_ne_true (plain.sides e).offered (λ o. both_ways (binds (plain.programs p) e) (lawful.unbound p e o) fit.bound))
 
     heads_within : (p : ℕ) (e : EndId) (place : P) (h : HeldAt P) (msg : Msg) (rest : List Msg) → play.wants (w.nodes p).program ≡ takes e place → (w.nodes p).main e ≡ Some (Held h) → h.untaken ≡ msg ∷ rest → KeeperWithin n msg
     heads_within p e place h msg rest is there head =
-        let lt = takes_below p e place (sym (ap play.wants (kept.programs p)) ∙ is) in
-        let s = kept_stands IsOver binds w plain kept p e h lt there in
-        keeper_within e msg lt (ap (λ xs. slice_get xs 0) (s.waits ∙ ap (λ t. t ++ s.rest) head))
+        let t = takes_below p e place (sym (ap play.wants (opened.kept.programs p)) ∙ is) in
+        let s = open_kept_stands IsOver binds play.blank w plain opened p e h t.0 t.1 there in
+        keeper_within e msg t.0 (ap (λ xs. slice_get xs 0) (s.waits ∙ ap (λ t. t ++ s.rest) head))
 
     -- a Held end has sent and taken fewer than 1,000,000 messages
     pub held_few : (p : ℕ) (e : EndId) → e.side < 2 → (h : HeldAt P) → (w.nodes p).main e ≡ Some (Held h) → (h.end.sent < 1000000) × (h.end.taken < 1000000)
     held_few p e lt h there =
-        let agrees = (here_held IsOver w plain.sides kept.sessions e lt p h there).sound.there.fits.0 in
+        let agrees = (here_held IsOver (reading play.blank w) plain.sides opened.kept.sessions e lt p h (held_read IsOver binds play.blank w plain opened p e h there)).sound.there.fits.0 in
         let sent : h.end.sent ≡ length (plain.sides e).sent = agrees.sent in
         let taken : h.end.taken ≡ (plain.sides e).taken = agrees.taken in
         let own : length (plain.sides e).sent < 1000000 = (lawful.counts e lt).messages in
@@ -139,7 +142,7 @@ module _ {P Q : Type 0} (n : ℕ) where
 
     -- so the ends that a step names have
     steps_few : (p : ℕ) (all : NodeWithin n (w.nodes p)) → StepIsFew n play p (w.nodes p) all (play.wants (w.nodes p).program)
-    steps_few p all = subst (λ (want : Want P). StepIsFew n play p (w.nodes p) all want) (sym (ap play.wants (kept.programs p))) (by (play.wants (plain.programs p)) (lawful.steps p))
+    steps_few p all = subst (λ (want : Want P). StepIsFew n play p (w.nodes p) all want) (sym (ap play.wants (opened.kept.programs p))) (by (play.wants (plain.programs p)) (lawful.steps p))
       where
         low : (e : EndId) → binds (plain.programs p) e ≡ true → e.side < 2
         low e bound = (lawful.proper p e bound).0
@@ -151,6 +154,8 @@ module _ {P Q : Type 0} (n : ℕ) where
         by (delegates carrier e) fit = held_few p carrier (low carrier fit.bound)
         by (takes e place) fit = held_few p e (low e fit.bound)
         by (closes e) fit = tt
+        by (requests place to) fit = omega (arith, fit.0, same)
+        by (accepts place from) fit = tt
 
     -- a party that acts is one of the file
     acting_below : (p : ℕ) (done : Worked P (NodeAt P Q)) → acts play p (w.nodes p) ≡ Some done → (p < n) ⊎ (n ≤ p) → p < n
@@ -158,7 +163,7 @@ module _ {P Q : Type 0} (n : ℕ) where
     acting_below p done h (inr le) = absurd (by (play.is_worn (w.nodes p).program) h)
       where
         want : play.wants (w.nodes p).program ≡ ended
-        want = ap play.wants (kept.programs p) ∙ lawful.idle p le
+        want = ap play.wants (opened.kept.programs p) ∙ lawful.idle p le
 
         by : (b : Bool) → cond b None (act_by play p (w.nodes p) (play.wants (w.nodes p).program)) ≡ Some done → ⊥
         by true k = cc

@@ -2,3 +2,4 @@ pub mod CoreSamples
 pub mod MoreCoreSamples
 pub mod MovedTwiceSamples
 pub mod Limits
+pub mod OpeningCoreSamples

@@ -7,11 +7,11 @@
 ghost use Rattle.std.specs.Prelude.{◌≡◌, ◌≢◌, ℕ, ◌+◌, ◌*◌, ◌<◌, ◌≤◌, List, ◌++◌, length, Some};
 ghost use Rattle.sj_acceptance.specs.Accepted.{IsAccepted};
 ghost use Rattle.sj_lang.specs.FileAt.{FileAt};
-ghost use Rattle.sj_lang.specs.Place.{Place};
+ghost use Rattle.sj_lang.specs.Place.{Place, done};
 ghost use Rattle.sj_rules.specs.Drain.{IsDrained};
 ghost use Rattle.sj_rules.specs.Events.{acts_in};
 ghost use Rattle.sj_rules.specs.History.{IsCoreRun, IsQuietAmong};
-ghost use Rattle.sj_rules.specs.Linked.{IsKept};
+ghost use Rattle.sj_rules.specs.Reading.{IsOpenKept};
 ghost use Rattle.sj_rules.specs.Party.{IsDone, binds, play_of};
 ghost use Rattle.sj_rules.specs.Plain.{plain_at};
 ghost use Rattle.sj_rules.specs.Rows.{IsPick};
@@ -54,7 +54,7 @@ pub fn each_drain_ends_at_the_end()
         (pick : ℕ → ℕ → ℕ) → IsAccepted file → IsCoreRun file turns core → IsPick pick →
         IsDrained (play_of file) pick (length file.parties) core more last →
         IsRun file (acts_in (turns ++ more)) (end_of file)
-        × IsKept IsDone binds last (plain_at (end_of file)) }
+        × IsOpenKept IsDone binds done last (plain_at (end_of file)) }
 {}
 
 /// No clock of a party or a frame is above the number of events before, and each event raises its

@@ -11,7 +11,7 @@ ghost use Rattle.sj_acceptance.specs.Accepted.{IsAccepted};
 ghost use Rattle.sj_base.specs.declared.EndId.{EndId};
 ghost use Rattle.sj_base.specs.declared.Msg.{Msg};
 ghost use Rattle.sj_lang.specs.FileAt.{FileAt};
-ghost use Rattle.sj_lang.specs.Place.{Place};
+ghost use Rattle.sj_lang.specs.Place.{Place, done};
 ghost use Rattle.sj_rules.specs.Frames.{FrameAt};
 ghost use Rattle.sj_rules.specs.Halts.{halt_of};
 ghost use Rattle.sj_rules.specs.History.{IsCoreRun, IsHistory, IsMisfit, Replay, replay, turn_of};
@@ -99,8 +99,8 @@ pub fn no_worker_is_unfit()
         IsPick pick →
         PartiesWork play pick blank (length file.parties) (core_start file) workers lost →
         q < length file.parties → lost q p ≡ frame_told blank f ∷ [] →
-        (done : Worked Place (NodeAt Place Program))
-        × (arrives (length file.parties) pick (workers q).node p f ≡ Some done) }
+        (worked : Worked Place (NodeAt Place Program))
+        × (arrives done (length file.parties) pick (workers q).node p f ≡ Some worked) }
     ensures act { (file : FileAt) (play : Play Place Program) (pick : ℕ → ℕ → ℕ)
         (blank : Place) (workers : ℕ → WorkerAt Place Program) (lost : ℕ → ℕ → List (FrameAt Place)) (q : ℕ) →
         IsAccepted file → IsPlayOf file play →
@@ -108,8 +108,8 @@ pub fn no_worker_is_unfit()
         PartiesWork play pick blank (length file.parties) (core_start file) workers lost →
         q < length file.parties →
         halt_of play (workers q).node ≡ None →
-        (done : Worked Place (NodeAt Place Program))
-        × (acts play q (workers q).node ≡ Some done) }
+        (worked : Worked Place (NodeAt Place Program))
+        × (acts play q (workers q).node ≡ Some worked) }
     ensures counts { (file : FileAt) (play : Play Place Program) (pick : ℕ → ℕ → ℕ)
         (blank : Place) (workers : ℕ → WorkerAt Place Program) (lost : ℕ → ℕ → List (FrameAt Place)) (q : ℕ)
         (e : EndId) (h : HeldAt Place) → IsAccepted file → IsPlayOf file play →

@@ -8,11 +8,11 @@
 ghost use Rattle.std.specs.Prelude.{◌≡◌, ℕ, List, None, Some, length, option_map};
 ghost use Rattle.sj_acceptance.specs.Accepted.{IsAccepted};
 ghost use Rattle.sj_lang.specs.FileAt.{FileAt};
-ghost use Rattle.sj_lang.specs.Place.{Place};
+ghost use Rattle.sj_lang.specs.Place.{Place, done};
 ghost use Rattle.sj_rules.specs.Drain.{IsDrained};
 ghost use Rattle.sj_rules.specs.Halts.{halt_of};
 ghost use Rattle.sj_rules.specs.History.{IsQuiescent, IsQuietAmong};
-ghost use Rattle.sj_rules.specs.Linked.{IsKept};
+ghost use Rattle.sj_rules.specs.Reading.{IsOpenKept};
 ghost use Rattle.sj_rules.specs.Moves.{plain_act};
 ghost use Rattle.sj_rules.specs.Node.{NodeAt, acts};
 ghost use Rattle.sj_rules.specs.Party.{IsDone, binds, play_of};
@@ -43,29 +43,29 @@ pub fn plain_worlds_are_lawful()
 /// The core world before any event stands for the plain world before any act.
 pub fn the_start_stands_for_the_plain_one()
     ensures { (file : FileAt) → IsAccepted file →
-        IsKept IsDone binds (core_start file) (plain_at (start_of file)) }
+        IsOpenKept IsDone binds done (core_start file) (plain_at (start_of file)) }
 {}
 
 /// A core world that keeps the invariant stands for its plain world: each end agrees with the
 /// plain one or is gone, and each direction flows or is owed.
 pub fn kept_worlds_stand_for_plain_ones()
-    ensures { (w : World) (core : WorldAt Place Program) → IsKept IsDone binds core (plain_at w) →
-        StandsFor IsDone core (plain_at w) }
+    ensures { (w : World) (core : WorldAt Place Program) → IsOpenKept IsDone binds done core (plain_at w) →
+        StandsFor IsDone done core (plain_at w) }
 {}
 
 /// A party of such a world acts where no cause keeps it from it.
 pub fn nothing_is_ever_unfit()
     ensures { (file : FileAt) (ps : List ℕ) (w : World) (core : WorldAt Place Program) (p : ℕ) →
-        IsAccepted file → IsRun file ps w → IsKept IsDone binds core (plain_at w) →
+        IsAccepted file → IsRun file ps w → IsOpenKept IsDone binds done core (plain_at w) →
         halt_of (play_of file) (core.nodes p) ≡ None →
-        (done : Worked Place (NodeAt Place Program))
-        × (acts (play_of file) p (core.nodes p) ≡ Some done) }
+        (worked : Worked Place (NodeAt Place Program))
+        × (acts (play_of file) p (core.nodes p) ≡ Some worked) }
 {}
 
 /// A core world with nothing in its lanes, in which no party can act, stands for a settled world.
 pub fn a_quiet_world_is_settled()
     ensures { (file : FileAt) (ps : List ℕ) (w : World) (core : WorldAt Place Program) →
-        IsAccepted file → IsRun file ps w → IsKept IsDone binds core (plain_at w) →
+        IsAccepted file → IsRun file ps w → IsOpenKept IsDone binds done core (plain_at w) →
         IsQuiescent (play_of file) core → IsSettled w }
 {}
 

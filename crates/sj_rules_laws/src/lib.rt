@@ -22,4 +22,4 @@ pub use runs::{
     each_end_lies_in_one_place, each_front_fits, each_history_is_a_core_run,
     each_number_is_within_its_limit, each_party_acts_unless_halted, nothing_is_awaited_at_the_end,
 };
-pub use samples::handovers_are_logged_so;
+pub use samples::{handovers_are_logged_so, openings_are_logged_so};

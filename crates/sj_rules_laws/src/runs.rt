@@ -11,23 +11,25 @@
 //! - `a_quiet_core_run_is_at_the_end`, `nothing_is_awaited_at_the_end`: where the core comes to rest.
 
 ghost use Rattle.std.specs.List.{AllByRecursion};
-ghost use Rattle.std.specs.Prelude.{◌≡◌, ℕ, ◌*◌, ◌<◌, ◌≤◌, true, List, ◌∷◌, map, None, Some, length, slice_get};
+ghost use Rattle.std.specs.Prelude.{◌≡◌, ℕ, ◌*◌, ◌<◌, ◌≤◌, true, false, List, ◌∷◌, map, None, Some, length, slice_get};
 ghost use Rattle.sj_acceptance.specs.Accepted.{IsAccepted};
 ghost use Rattle.sj_base.specs.declared.EndId.{EndId};
 ghost use Rattle.sj_base.specs.declared.Msg.{Msg};
 ghost use Rattle.sj_lang.specs.FileAt.{FileAt};
-ghost use Rattle.sj_lang.specs.Place.{Place};
+ghost use Rattle.sj_lang.specs.Place.{Place, done};
 ghost use Rattle.sj_rules.specs.Caches.{CacheFits, HasEnd};
 ghost use Rattle.sj_rules.specs.Events.{acts_in};
 ghost use Rattle.sj_rules.specs.Halts.{halt_of};
 ghost use Rattle.sj_rules.specs.History.{IsCoreRun, IsHistory, IsQuiescent, IsQuietAmong, due, turn_of};
 ghost use Rattle.sj_rules.specs.Limits.{limit_of_messages, limit_of_steps};
 ghost use Rattle.sj_rules.specs.Log.{LineAt, NoteAt};
-ghost use Rattle.sj_rules.specs.Linked.{IsKept};
+ghost use Rattle.sj_rules.specs.Reading.{IsOpenKept};
 ghost use Rattle.sj_rules.specs.Node.{NodeAt, acts, arrives};
 ghost use Rattle.sj_rules.specs.Party.{IsDone, binds, play_of};
 ghost use Rattle.sj_rules.specs.Plain.{plain_at};
 ghost use Rattle.sj_rules.specs.HeldStands.{HeldStands};
+ghost use Rattle.sj_rules.specs.PlainChanges.{waits_of};
+ghost use Rattle.sj_rules.specs.PlainSide.{IsFront};
 ghost use Rattle.sj_rules.specs.Binding.{NamesKnown};
 ghost use Rattle.sj_rules.specs.Record.{EndAt, Held, HeldAt, other_end};
 ghost use Rattle.sj_rules.specs.Rows.{IsPick, Worked};
@@ -44,8 +46,8 @@ ghost use Rattle.sj_semantics.specs.World.{World};
 pub fn each_core_run_stands_for_a_plain_run()
     ensures { (file : FileAt) (turns : List Turn) (core : WorldAt Place Program) →
         IsAccepted file → IsCoreRun file turns core →
-        (w : World) × IsRun file (acts_in turns) w × IsKept IsDone binds core (plain_at w)
-        × StandsFor IsDone core (plain_at w) }
+        (w : World) × IsRun file (acts_in turns) w × IsOpenKept IsDone binds done core (plain_at w)
+        × StandsFor IsDone done core (plain_at w) }
 {}
 
 /// A core run has at most 10,000 acts for each party.
@@ -61,13 +63,20 @@ pub fn each_end_lies_in_one_place()
         IsAccepted file → IsCoreRun file turns core → e.side < 2 → LiesOnce core e }
 {}
 
-/// What is untaken at a Held end is a front of what waits for it in the plain world.
+/// What is untaken at a Held end is a front of what waits for it in the plain world; where the end
+/// was accepted, it has its place and its handovers too.
 pub fn a_held_end_has_a_front()
-    ensures { (file : FileAt) (turns : List Turn) (core : WorldAt Place Program) →
+    ensures accepted { (file : FileAt) (turns : List Turn) (core : WorldAt Place Program) →
         IsAccepted file → IsCoreRun file turns core →
         (w : World) × IsRun file (acts_in turns) w
         × ((p : ℕ) (e : EndId) (h : HeldAt Place) → e.side < 2 →
-        (core.nodes p).main e ≡ Some (Held h) → HeldStands (plain_at w) e h) }
+        ((plain_at w).sides e).offered ≡ false → (core.nodes p).main e ≡ Some (Held h) →
+        HeldStands (plain_at w) e h) }
+    ensures untaken { (file : FileAt) (turns : List Turn) (core : WorldAt Place Program) →
+        IsAccepted file → IsCoreRun file turns core →
+        (w : World) × IsRun file (acts_in turns) w
+        × ((p : ℕ) (e : EndId) (h : HeldAt Place) → e.side < 2 →
+        (core.nodes p).main e ≡ Some (Held h) → IsFront h.untaken (waits_of (plain_at w) e)) }
 {}
 
 /// Wherever an end lies, its cache begins where the other end has taken, or before, and has all that
@@ -95,8 +104,8 @@ pub fn each_front_fits()
     ensures arrives { (file : FileAt) (turns : List Turn) (core : WorldAt Place Program)
         (pick : ℕ → ℕ → ℕ) (p q : ℕ) (f : FrameAt Place) (rest : List (FrameAt Place)) →
         IsAccepted file → IsCoreRun file turns core → IsPick pick → core.lanes q p ≡ f ∷ rest →
-        (done : Worked Place (NodeAt Place Program))
-        × (arrives (length file.parties) pick (core.nodes p) q f ≡ Some done) }
+        (worked : Worked Place (NodeAt Place Program))
+        × (arrives done (length file.parties) pick (core.nodes p) q f ≡ Some worked) }
 {}
 
 /// In a core run all numbers are within their limits, and a Held end has sent and taken fewer than
@@ -123,8 +132,8 @@ pub fn each_party_acts_unless_halted()
     ensures { (file : FileAt) (turns : List Turn) (core : WorldAt Place Program) (p : ℕ) →
         IsAccepted file → IsCoreRun file turns core →
         halt_of (play_of file) (core.nodes p) ≡ None →
-        (done : Worked Place (NodeAt Place Program))
-        × (acts (play_of file) p (core.nodes p) ≡ Some done) }
+        (worked : Worked Place (NodeAt Place Program))
+        × (acts (play_of file) p (core.nodes p) ≡ Some worked) }
 {}
 
 /// A core run that leaves its parties nothing to do is quiescent and stands for the end of its file.
@@ -136,7 +145,7 @@ pub fn a_quiet_core_run_is_at_the_end()
         IsAccepted file → IsCoreRun file turns core →
         IsQuietAmong (play_of file) (length file.parties) core →
         IsRun file (acts_in turns) (end_of file)
-        × IsKept IsDone binds core (plain_at (end_of file)) }
+        × IsOpenKept IsDone binds done core (plain_at (end_of file)) }
 {}
 
 /// There nobody awaits an end, and an end is parked only where its message waits.

@@ -3,7 +3,7 @@ use Rattle.std.specs.Prelude.{ℕ, List, [], ◌∷◌, ◌++◌, option_map, un
 use Rattle.sj_base.specs.declared.EndId.{EndId}
 use Rattle.sj_semantics.specs.declared.Passed.{Passed}
 use Rattle.sj_semantics.specs.Ends.{is_end}
-use Rattle.sj_semantics.specs.Uses.{Use, sends, takes, delegates}
+use Rattle.sj_semantics.specs.Uses.{Use, sends, takes, delegates, begins}
 use Rattle.sj_semantics.specs.World.{World, change_of, changed_world}
 
 -- who acted, and what that did to which ends
@@ -32,12 +32,14 @@ abbrev pub sent_by : ℕ → Use → List Passed
 sent_by p (sends m) = record { msg = m; by = p } ∷ []
 sent_by p (takes m) = []
 sent_by p delegates = []
+sent_by p (begins place) = []
 
 -- the message that was taken, with its taker
 abbrev pub taken_by : ℕ → Use → List Passed
 taken_by p (takes m) = record { msg = m; by = p } ∷ []
 taken_by p (sends m) = []
 taken_by p delegates = []
+taken_by p (begins place) = []
 
 -- the messages of all sends on the end, each with its sender
 abbrev pub sent_on : EndId → List ActAt → List Passed

@@ -49,6 +49,10 @@ is_end e f = (e.sess == f.sess) && is_same_side e.side f.side
 abbrev pub nowhere : EndAt
 nowhere = record { place = done; sent = []; takers = []; hops = 0 }
 
+-- a session that isn't opened
+abbrev pub unopened : Session
+unopened = record { first = nowhere; second = nowhere }
+
 -- the end by its name
 abbrev pub end_at : List Session → EndId → EndAt
 end_at zs e = unwrap_or (option_map (end_on e.side) (slice_get zs e.sess)) nowhere

@@ -4,6 +4,7 @@ pub mod Ends
 pub mod Fitting
 pub mod Lines
 pub mod Program
+pub mod Requests
 pub mod Run
 pub mod State
 pub mod Steps

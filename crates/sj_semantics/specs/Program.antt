@@ -16,12 +16,13 @@ pub data Thing : Type 0 where
 abbrev pub limit_of_steps : ℕ
 limit_of_steps = 10000
 
--- what is left to do, the values of variables, the ends bound to names, and the steps done
+-- what is left to do, the values of variables, the ends bound to names, the steps done, and the names of the file's parties in order
 pub record Program : Type 0 where
   pub todo : List Thing
   pub vars : Vars
   pub ends : List (ℕ × EndId)
   pub steps : ℕ
+  pub peers : List ℕ
 
 -- the statements of a block, in order, and then the rest
 abbrev pub block : Code → List Thing → List Thing

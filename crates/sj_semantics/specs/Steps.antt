@@ -3,7 +3,7 @@ use Rattle.std.specs.Prelude.{ℕ, zero, suc, ◌+◌, ◌==◌, Bool, false, Li
 use Rattle.sj_base.specs.declared.EndId.{EndId}
 use Rattle.sj_base.specs.declared.Msg.{Msg}
 use Rattle.sj_base.specs.declared.Msg.TheVariants as msgs
-use Rattle.sj_lang.specs.Code.{Code, Branches, no_stmt, delegate, take_value, take_end, inbranch, outwhile, inwhile, relay, if_else, let_be, close, no_branch, branch}
+use Rattle.sj_lang.specs.Code.{Code, Branches, no_stmt, delegate, take_value, take_end, inbranch, outwhile, inwhile, relay, if_else, let_be, close, request, accept, no_branch, branch}
 use Rattle.sj_semantics.specs.declared.Value.{Value}
 use Rattle.sj_semantics.specs.Value.{Vars, with_value, value_of, worth, turns_of, truth_of}
 use Rattle.sj_semantics.specs.Program.{Thing, statement, turns, passing, Program, block, ends_without, ends_with}
@@ -29,7 +29,7 @@ vars_after_local vars _ = vars
 
 -- the party after a step without a message
 abbrev pub local_of : Program → Program
-local_of g = record { todo = todo_after_local g.vars g.todo; vars = vars_after_local g.vars g.todo; ends = g.ends; steps = g.steps + 1 }
+local_of g = record { todo = todo_after_local g.vars g.todo; vars = vars_after_local g.vars g.todo; ends = g.ends; steps = g.steps + 1; peers = g.peers }
 
 -- ---- a step that sends
 
@@ -53,7 +53,7 @@ ends_after_sent ends _ = ends
 
 -- the party after a send or a delegation
 abbrev pub sent_of : Program → Program
-sent_of g = record { todo = todo_after_sent g.vars g.todo; vars = g.vars; ends = ends_after_sent g.ends g.todo; steps = g.steps + 1 }
+sent_of g = record { todo = todo_after_sent g.vars g.todo; vars = g.vars; ends = ends_after_sent g.ends g.todo; steps = g.steps + 1; peers = g.peers }
 
 -- ---- a step that takes
 
@@ -92,7 +92,7 @@ ends_after_took ends _ m = ends
 
 -- the party after it took the message
 abbrev pub took_of : Program → Msg → Program
-took_of g m = record { todo = todo_after_took g.todo m; vars = vars_after_took g.vars g.todo m; ends = ends_after_took g.ends g.todo m; steps = g.steps + 1 }
+took_of g m = record { todo = todo_after_took g.todo m; vars = vars_after_took g.vars g.todo m; ends = ends_after_took g.ends g.todo m; steps = g.steps + 1; peers = g.peers }
 
 -- ---- a step that closes
 
@@ -108,4 +108,16 @@ ends_after_closed ends _ = ends
 
 -- the party after it closed an end
 abbrev pub closed_of : Program → Program
-closed_of g = record { todo = rest_of g.todo; vars = g.vars; ends = ends_after_closed g.ends g.todo; steps = g.steps + 1 }
+closed_of g = record { todo = rest_of g.todo; vars = g.vars; ends = ends_after_closed g.ends g.todo; steps = g.steps + 1; peers = g.peers }
+
+-- ---- a step that opens or accepts a session
+
+-- the name under which the statement binds the end
+abbrev pub name_opened : List Thing → ℕ
+name_opened (statement (request x p b) ∷ rest) = x
+name_opened (statement (accept x p b) ∷ rest) = x
+name_opened _ = 0
+
+-- the party after it opened or accepted a session: the end is bound
+abbrev pub opened_of : Program → EndId → Program
+opened_of g e = record { todo = rest_of g.todo; vars = g.vars; ends = ends_with g.ends (name_opened g.todo) e; steps = g.steps + 1; peers = g.peers }

@@ -1,10 +1,10 @@
 -- What a party's next step is.
-use Rattle.std.specs.Prelude.{ℕ, zero, suc, true, false, List, [], ◌∷◌, Option, Some, None, option_map, option_and_then, if◌then◌else◌}
+use Rattle.std.specs.Prelude.{ℕ, zero, suc, true, false, List, [], ◌∷◌, Option, Some, None, option_map, option_and_then}
 use Rattle.sj_base.specs.declared.EndId.{EndId}
 use Rattle.sj_base.specs.declared.Msg.{Msg}
 use Rattle.sj_base.specs.declared.Msg.TheVariants as msgs
-use Rattle.sj_lang.specs.Code.{DeedAt, send, delegate, take_value, take_end, outbranch, inbranch, outwhile, inwhile, relay, if_else, let_be, close}
-use Rattle.sj_lang.specs.FileAt.{named}
+use Rattle.sj_lang.specs.Code.{DeedAt, send, delegate, take_value, take_end, outbranch, inbranch, outwhile, inwhile, relay, if_else, let_be, close, request, accept}
+use Rattle.sj_lang.specs.FileAt.{named, number_of_name}
 use Rattle.sj_semantics.specs.declared.Want.{Want}
 use Rattle.sj_semantics.specs.declared.Want.TheVariants as wants
 use Rattle.sj_semantics.specs.declared.Awaits.{Awaits}
@@ -32,29 +32,31 @@ abbrev pub more_turns : ℕ → Msg
 more_turns zero = msgs.More false
 more_turns (suc n) = msgs.More true
 
--- what a statement does first
-abbrev pub want_of_deed : Vars → List (ℕ × EndId) → DeedAt → Option Want
-want_of_deed vars ends (send x e) = want_send (named ends x) (option_map message_of (worth vars e))
-want_of_deed vars ends (delegate x y) = want_delegate (named ends x) (named ends y)
-want_of_deed vars ends (take_value x n k) = want_take (named ends x) (awaits.Value k)
-want_of_deed vars ends (take_end x y p) = want_take (named ends x) (awaits.Session p)
-want_of_deed vars ends (outbranch x l) = want_send (named ends x) (Some (msgs.Label l))
-want_of_deed vars ends (inbranch x arms) = want_take (named ends x) awaits.OneOf
-want_of_deed vars ends (outwhile x e body) =
+-- what a statement does first, where the file's parties have these names
+abbrev pub want_of_deed : List ℕ → Vars → List (ℕ × EndId) → DeedAt → Option Want
+want_of_deed peers vars ends (send x e) = want_send (named ends x) (option_map message_of (worth vars e))
+want_of_deed peers vars ends (delegate x y) = want_delegate (named ends x) (named ends y)
+want_of_deed peers vars ends (take_value x n k) = want_take (named ends x) (awaits.Value k)
+want_of_deed peers vars ends (take_end x y p) = want_take (named ends x) (awaits.Session p)
+want_of_deed peers vars ends (outbranch x l) = want_send (named ends x) (Some (msgs.Label l))
+want_of_deed peers vars ends (inbranch x arms) = want_take (named ends x) awaits.OneOf
+want_of_deed peers vars ends (outwhile x e body) =
     want_send (named ends x) (option_map more_turns (option_and_then turns_of (worth vars e)))
-want_of_deed vars ends (inwhile x body) = want_take (named ends x) awaits.MoreOrStop
-want_of_deed vars ends (relay x y body) = want_take (named ends x) awaits.MoreOrStop
-want_of_deed vars ends (if_else e first second) = option_map (λ b. wants.Local) (option_and_then truth_of (worth vars e))
-want_of_deed vars ends (let_be n e) = option_map (λ v. wants.Local) (worth vars e)
-want_of_deed vars ends (close x) = option_map wants.Close (named ends x)
+want_of_deed peers vars ends (inwhile x body) = want_take (named ends x) awaits.MoreOrStop
+want_of_deed peers vars ends (relay x y body) = want_take (named ends x) awaits.MoreOrStop
+want_of_deed peers vars ends (if_else e first second) = option_map (λ b. wants.Local) (option_and_then truth_of (worth vars e))
+want_of_deed peers vars ends (let_be n e) = option_map (λ v. wants.Local) (worth vars e)
+want_of_deed peers vars ends (close x) = option_map wants.Close (named ends x)
+want_of_deed peers vars ends (request x p b) = Some (wants.Request p (number_of_name peers b))
+want_of_deed peers vars ends (accept x p b) = Some (wants.Accept p (number_of_name peers b))
 
 -- what the first thing to do does next
-abbrev pub want_of_todo : Vars → List (ℕ × EndId) → List Thing → Option Want
-want_of_todo vars ends [] = Some wants.Ended
-want_of_todo vars ends (statement act ∷ rest) = want_of_deed vars ends act
-want_of_todo vars ends (turns x n body ∷ rest) = want_send (named ends x) (Some (more_turns n))
-want_of_todo vars ends (passing x y more body ∷ rest) = want_send (named ends y) (Some (msgs.More more))
+abbrev pub want_of_todo : List ℕ → Vars → List (ℕ × EndId) → List Thing → Option Want
+want_of_todo peers vars ends [] = Some wants.Ended
+want_of_todo peers vars ends (statement act ∷ rest) = want_of_deed peers vars ends act
+want_of_todo peers vars ends (turns x n body ∷ rest) = want_send (named ends x) (Some (more_turns n))
+want_of_todo peers vars ends (passing x y more body ∷ rest) = want_send (named ends y) (Some (msgs.More more))
 
 -- the next step; a program that names what it hasn't is stuck, and has none
 abbrev pub want_of : Program → Option Want
-want_of g = want_of_todo g.vars g.ends g.todo
+want_of g = want_of_todo g.peers g.vars g.ends g.todo

@@ -5,7 +5,7 @@ use Rattle.std.proofs.lemmas.Bool.{eqb-true, eq-eqb, and_parts, and_from, true�
 use Rattle.std.proofs.lemmas.List.Sums.{sum_by-cons, sum_by-le-sum_by}
 use Rattle.sj_base.specs.declared.EndId.{EndId}
 use Rattle.sj_base.specs.declared.Msg.{Msg}
-use Rattle.sj_lang.specs.Code.{DeedAt, send, delegate, take_value, take_end, outbranch, inbranch, outwhile, inwhile, relay, if_else, let_be, close}
+use Rattle.sj_lang.specs.Code.{DeedAt, send, delegate, take_value, take_end, outbranch, inbranch, outwhile, inwhile, relay, if_else, let_be, close, request, accept}
 use Rattle.sj_semantics.specs.declared.Want.{Want}
 use Rattle.sj_semantics.specs.declared.Want.TheVariants as wants
 use Rattle.sj_semantics.specs.declared.Awaits.{Awaits}
@@ -109,25 +109,27 @@ bound_if ends (Some e) h = h e refl
 named_bound_if : (ends : List (ℕ × EndId)) (x : ℕ) → BoundIf ends (named ends x)
 named_bound_if ends x = bound_if ends (named ends x) (named_is_bound ends x)
 
-deed_bound : (vars : Vars) (ends : List (ℕ × EndId)) (deed : DeedAt) → AreBoundIf ends (want_of_deed vars ends deed)
-deed_bound vars ends (send x e) = send_bound ends (named ends x) _ (named_bound_if ends x)
-deed_bound vars ends (delegate x y) = delegate_bound ends (named ends x) (named ends y) (named_bound_if ends x) (named_bound_if ends y)
-deed_bound vars ends (take_value x n k) = take_bound ends (named ends x) _ (named_bound_if ends x)
-deed_bound vars ends (take_end x y p) = take_bound ends (named ends x) _ (named_bound_if ends x)
-deed_bound vars ends (outbranch x l) = send_bound ends (named ends x) _ (named_bound_if ends x)
-deed_bound vars ends (inbranch x arms) = take_bound ends (named ends x) _ (named_bound_if ends x)
-deed_bound vars ends (outwhile x e body) = send_bound ends (named ends x) _ (named_bound_if ends x)
-deed_bound vars ends (inwhile x body) = take_bound ends (named ends x) _ (named_bound_if ends x)
-deed_bound vars ends (relay x y body) = take_bound ends (named ends x) _ (named_bound_if ends x)
-deed_bound vars ends (if_else e first second) = local_bound ends (option_and_then truth_of (worth vars e))
-deed_bound vars ends (let_be n e) = local_bound ends (worth vars e)
-deed_bound vars ends (close x) = close_bound ends (named ends x) (named_bound_if ends x)
+deed_bound : (peers : List ℕ) (vars : Vars) (ends : List (ℕ × EndId)) (deed : DeedAt) → AreBoundIf ends (want_of_deed peers vars ends deed)
+deed_bound peers vars ends (send x e) = send_bound ends (named ends x) _ (named_bound_if ends x)
+deed_bound peers vars ends (delegate x y) = delegate_bound ends (named ends x) (named ends y) (named_bound_if ends x) (named_bound_if ends y)
+deed_bound peers vars ends (take_value x n k) = take_bound ends (named ends x) _ (named_bound_if ends x)
+deed_bound peers vars ends (take_end x y p) = take_bound ends (named ends x) _ (named_bound_if ends x)
+deed_bound peers vars ends (outbranch x l) = send_bound ends (named ends x) _ (named_bound_if ends x)
+deed_bound peers vars ends (inbranch x arms) = take_bound ends (named ends x) _ (named_bound_if ends x)
+deed_bound peers vars ends (outwhile x e body) = send_bound ends (named ends x) _ (named_bound_if ends x)
+deed_bound peers vars ends (inwhile x body) = take_bound ends (named ends x) _ (named_bound_if ends x)
+deed_bound peers vars ends (relay x y body) = take_bound ends (named ends x) _ (named_bound_if ends x)
+deed_bound peers vars ends (if_else e first second) = local_bound ends (option_and_then truth_of (worth vars e))
+deed_bound peers vars ends (let_be n e) = local_bound ends (worth vars e)
+deed_bound peers vars ends (close x) = close_bound ends (named ends x) (named_bound_if ends x)
+deed_bound peers vars ends (request x p b) = tt
+deed_bound peers vars ends (accept x p b) = tt
 
-todo_bound : (vars : Vars) (ends : List (ℕ × EndId)) (todo : List Thing) → AreBoundIf ends (want_of_todo vars ends todo)
-todo_bound vars ends [] = tt
-todo_bound vars ends (statement deed ∷ rest) = deed_bound vars ends deed
-todo_bound vars ends (turns x n body ∷ rest) = send_bound ends (named ends x) _ (named_bound_if ends x)
-todo_bound vars ends (passing x y more body ∷ rest) = send_bound ends (named ends y) _ (named_bound_if ends y)
+todo_bound : (peers : List ℕ) (vars : Vars) (ends : List (ℕ × EndId)) (todo : List Thing) → AreBoundIf ends (want_of_todo peers vars ends todo)
+todo_bound peers vars ends [] = tt
+todo_bound peers vars ends (statement deed ∷ rest) = deed_bound peers vars ends deed
+todo_bound peers vars ends (turns x n body ∷ rest) = send_bound ends (named ends x) _ (named_bound_if ends x)
+todo_bound peers vars ends (passing x y more body ∷ rest) = send_bound ends (named ends y) _ (named_bound_if ends y)
 
 pub want_bound : (g : Program) (want : Want) → want_of g ≡ Some want → AreBound g.ends want
-want_bound g want h = subst (AreBoundIf g.ends) h (todo_bound g.vars g.ends g.todo)
+want_bound g want h = subst (AreBoundIf g.ends) h (todo_bound g.peers g.vars g.ends g.todo)

@@ -1,5 +1,5 @@
 -- How each use and each binding changes the claims on an end.
-use Rattle.std.proofs.Common.{◌≡◌, ℕ, zero, suc, ◌+◌, ◌≤◌, ◌==◌, Bool, true, false, not, cond, List, [], ◌∷◌, ◌++◌, length, drop, slice_get, Option, Some, None, option_map, unwrap_or, sum_by, refl, ap, sym, ◌∙◌, arith, inl, inr}
+use Rattle.std.proofs.Common.{◌≡◌, ℕ, zero, suc, ◌+◌, ◌≤◌, ◌==◌, Bool, true, false, not, cond, List, [], ◌∷◌, ◌++◌, length, drop, slice_get, Some, sum_by, refl, ap, sym, ◌∙◌, arith, inl, inr}
 use Rattle.std.proofs.lemmas.Bool.{cases_Bool}
 use Rattle.std.proofs.lemmas.List.Sums.{sum_by-cons, sum_by_push}
 use Rattle.sj_base.specs.declared.EndId.{EndId}
@@ -7,11 +7,12 @@ use Rattle.sj_base.specs.declared.Msg.{Msg}
 use Rattle.sj_semantics.specs.Program.{ends_without, ends_with}
 use Rattle.sj_semantics.specs.declared.Passed.{Passed}
 use Rattle.sj_lang.specs.FileAt.{named}
-use Rattle.sj_semantics.specs.Ends.{Session, end_on, other_side, nowhere, next_for, is_end}
-use Rattle.sj_semantics.specs.Uses.{sends, takes, delegates, end_after, on_side}
+use Rattle.sj_semantics.specs.Ends.{Session, end_on, other_side, other_end, next_for, is_end}
+use Rattle.sj_semantics.specs.Uses.{Use, sends, takes, delegates, begins, end_after, on_side}
+use Rattle.sj_lang.specs.Place.{Place}
 use Rattle.sj_semantics_laws.specs.Unshared.{bindings_of, names_end, carried_in}
-use Rattle.sj_semantics_laws.proofs.AlteredLemmas.{sum_by-altered, sum_by-altered_le}
-use Rattle.sj_semantics_laws.proofs.EndLemmas.{touched}
+use Rattle.sj_semantics_laws.proofs.AlteredLemmas.{session_in, sum_by-altered_session}
+use Rattle.sj_semantics_laws.proofs.EndLemmas.{touched, end_at-session}
 
 -- 1 where it holds
 abbrev pub one_if : Bool → ℕ
@@ -81,6 +82,10 @@ hands_on_same : (e : EndId) (p : ℕ) (side : ℕ) (z : Session) → carried_in 
 hands_on_same e p zero z = refl
 hands_on_same e p (suc side) z = refl
 
+begins_same : (e : EndId) (p : ℕ) (place : Place) (side : ℕ) (z : Session) → carried_in e (on_side side (end_after p (begins place)) z) ≡ carried_in e z
+begins_same e p place zero z = refl
+begins_same e p place (suc side) z = refl
+
 takes_less : (e : EndId) (p : ℕ) (x : Passed) (side : ℕ) (z : Session) → slice_get (end_on (other_side side) z).sent (length (end_on side z).takers) ≡ Some x
     → carried_in e (on_side side (end_after p (takes x.msg)) z) + one_if (names_end e x.msg) ≡ carried_in e z
 takes_less e p x zero z h =
@@ -90,19 +95,21 @@ takes_less e p x (suc side) z h =
 
 -- ---- the same over all sessions
 
+carried-used : (e : EndId) (p : ℕ) (zs : List Session) (u : EndId × Use) → sum_by (carried_in e) (touched p zs u) + carried_in e (session_in zs u.0.sess) ≡ sum_by (carried_in e) zs + carried_in e (on_side u.0.side (end_after p u.1) (session_in zs u.0.sess))
+carried-used e p zs u = sum_by-altered_session (carried_in e) refl zs u.0.sess (on_side u.0.side (end_after p u.1))
+
 pub carried-sends : (e : EndId) (p : ℕ) (zs : List Session) (f : EndId) (m : Msg) → sum_by (carried_in e) (touched p zs (f, sends m)) ≤ sum_by (carried_in e) zs + one_if (names_end e m)
-carried-sends e p zs f m = sum_by-altered_le (carried_in e) (one_if (names_end e m)) zs f.sess (on_side f.side (end_after p (sends m))) (λ z there. sends_more e p m f.side z)
+carried-sends e p zs f m = omega (arith, carried-used e p zs (f, sends m), sends_more e p m f.side (session_in zs f.sess))
 
 pub carried-hands_on : (e : EndId) (p : ℕ) (zs : List Session) (f : EndId) → sum_by (carried_in e) (touched p zs (f, delegates)) ≤ sum_by (carried_in e) zs
-carried-hands_on e p zs f =
-    omega (arith, sum_by-altered_le (carried_in e) 0 zs f.sess (on_side f.side (end_after p delegates)) (λ z there. omega (arith, hands_on_same e p f.side z)))
+carried-hands_on e p zs f = omega (arith, carried-used e p zs (f, delegates), hands_on_same e p f.side (session_in zs f.sess))
 
-takes_from : (e : EndId) (p : ℕ) (zs : List Session) (f : EndId) (x : Passed) (o : Option Session) → slice_get zs f.sess ≡ o
-    → slice_get (unwrap_or (option_map (end_on (other_side f.side)) o) nowhere).sent (length (unwrap_or (option_map (end_on f.side) o) nowhere).takers) ≡ Some x
-    → sum_by (carried_in e) (touched p zs (f, takes x.msg)) + one_if (names_end e x.msg) ≤ sum_by (carried_in e) zs
-takes_from e p zs f x None there h = cc
-takes_from e p zs f x (Some z) there h =
-    omega (arith, takes_less e p x f.side z h, sum_by-altered (carried_in e) zs f.sess (on_side f.side (end_after p (takes x.msg))) z there)
+pub carried-begins : (e : EndId) (p : ℕ) (zs : List Session) (f : EndId) (place : Place) → sum_by (carried_in e) (touched p zs (f, begins place)) ≤ sum_by (carried_in e) zs
+carried-begins e p zs f place = omega (arith, carried-used e p zs (f, begins place), begins_same e p place f.side (session_in zs f.sess))
+
+-- the next message, in its session
+pub next_in : (zs : List Session) (f : EndId) (x : Passed) → next_for zs f ≡ Some x → slice_get (end_on (other_side f.side) (session_in zs f.sess)).sent (length (end_on f.side (session_in zs f.sess)).takers) ≡ Some x
+next_in zs f x h = sym (λ i. slice_get (end_at-session zs (other_end f) i).sent (length (end_at-session zs f i).takers)) ∙ h
 
 pub carried-takes : (e : EndId) (p : ℕ) (zs : List Session) (f : EndId) (x : Passed) → next_for zs f ≡ Some x → sum_by (carried_in e) (touched p zs (f, takes x.msg)) + one_if (names_end e x.msg) ≤ sum_by (carried_in e) zs
-carried-takes e p zs f x h = takes_from e p zs f x (slice_get zs f.sess) refl h
+carried-takes e p zs f x h = omega (arith, carried-used e p zs (f, takes x.msg), takes_less e p x f.side (session_in zs f.sess) (next_in zs f x h))

@@ -1,15 +1,15 @@
 -- Uses of two different ends commute, and leave each other alone.
-use Rattle.std.proofs.Common.{◌≡◌, ℕ, zero, suc, ◌==◌, false, List, [], ◌∷◌, ◌++◌, length, slice_get, Option, Some, None, option_map, unwrap_or, refl, ap, sym, ◌∙◌, inl, inr, subst}
-use Rattle.std.proofs.lemmas.Bool.{cases_eq, and_cases, eqb-false}
+use Rattle.std.proofs.Common.{◌≡◌, ℕ, zero, suc, ◌==◌, true, false, List, [], ◌∷◌, ◌++◌, length, slice_get, Option, Some, None, option_map, unwrap_or, refl, ap, sym, ◌∙◌, inl, inr, subst}
+use Rattle.std.proofs.lemmas.Bool.{cases_Bool, cases_eq, and_cases, and_parts, eqb-true, eqb-false}
 use Rattle.sj_base.specs.declared.EndId.{EndId}
 use Rattle.sj_semantics.specs.declared.Passed.{Passed}
-use Rattle.sj_semantics.specs.Ends.{Session, EndAt, end_on, other_end, nowhere, end_at, next_for, is_same_side, is_end}
-use Rattle.sj_semantics.specs.Uses.{Use, sends, takes, delegates, end_after, altered_list, on_side, after_uses}
-use Rattle.sj_semantics_laws.proofs.AlteredLemmas.{altered_comm, altered-altered, slice_get-altered_other, slice_get-altered}
+use Rattle.sj_semantics.specs.Ends.{Session, EndAt, end_on, other_end, nowhere, unopened, end_at, next_for, is_same_side, is_end}
+use Rattle.sj_semantics.specs.Uses.{Use, sends, takes, delegates, begins, end_after, altered_session, on_side, after_uses}
+use Rattle.sj_semantics_laws.proofs.AlteredLemmas.{session_in, altered_session_comm, altered_session-altered, session_in-altered, session_in-altered_other}
 
 -- the sessions after one use
 abbrev pub touched : ℕ → List Session → EndId × Use → List Session
-touched p zs u = altered_list zs u.0.sess (on_side u.0.side (end_after p u.1))
+touched p zs u = altered_session zs u.0.sess (on_side u.0.side (end_after p u.1))
 
 on_side_comm : (c d : ℕ) (f g : EndAt → EndAt) (z : Session) → is_same_side c d ≡ false → on_side d g (on_side c f z) ≡ on_side c f (on_side d g z)
 on_side_comm zero zero f g z e = cc
@@ -17,9 +17,9 @@ on_side_comm zero (suc d) f g z e = refl
 on_side_comm (suc c) zero f g z e = refl
 on_side_comm (suc c) (suc d) f g z e = cc
 
-altered-on_side_comm : (zs : List Session) (s c d : ℕ) (f g : EndAt → EndAt) → is_same_side c d ≡ false → altered_list (altered_list zs s (on_side c f)) s (on_side d g) ≡ altered_list (altered_list zs s (on_side d g)) s (on_side c f)
+altered-on_side_comm : (zs : List Session) (s c d : ℕ) (f g : EndAt → EndAt) → is_same_side c d ≡ false → altered_session (altered_session zs s (on_side c f)) s (on_side d g) ≡ altered_session (altered_session zs s (on_side d g)) s (on_side c f)
 altered-on_side_comm zs s c d f g e =
-    altered-altered zs s (on_side c f) (on_side d g) ∙ ap (altered_list zs s) (λ i z. on_side_comm c d f g z e i) ∙ sym (altered-altered zs s (on_side d g) (on_side c f))
+    altered_session-altered zs s (on_side c f) (on_side d g) ∙ ap (altered_session zs s) (λ i z. on_side_comm c d f g z e i) ∙ sym (altered_session-altered zs s (on_side d g) (on_side c f))
 
 pub touched_comm : (p q : ℕ) (zs : List Session) (u v : EndId × Use) → is_end u.0 v.0 ≡ false → touched q (touched p zs u) v ≡ touched p (touched q zs v) u
 touched_comm p q zs u v apart =
@@ -27,10 +27,10 @@ touched_comm p q zs u v apart =
       | inl same ↦
           elim (and_cases (u.0.sess == v.0.sess) (is_same_side u.0.side v.0.side) apart) [
             | inl not_same ↦ absurd (eqb-false _ _ not_same same)
-            | inr sides ↦ subst (λ (t : ℕ). altered_list (altered_list zs u.0.sess (on_side u.0.side (end_after p u.1))) t (on_side v.0.side (end_after q v.1)) ≡ altered_list (altered_list zs t (on_side v.0.side (end_after q v.1))) u.0.sess (on_side u.0.side (end_after p u.1))) same
+            | inr sides ↦ subst (λ (t : ℕ). altered_session (altered_session zs u.0.sess (on_side u.0.side (end_after p u.1))) t (on_side v.0.side (end_after q v.1)) ≡ altered_session (altered_session zs t (on_side v.0.side (end_after q v.1))) u.0.sess (on_side u.0.side (end_after p u.1))) same
                 (altered-on_side_comm zs u.0.sess u.0.side v.0.side (end_after p u.1) (end_after q v.1) sides)
           ]
-      | inr other ↦ altered_comm zs u.0.sess v.0.sess (on_side u.0.side (end_after p u.1)) (on_side v.0.side (end_after q v.1)) other
+      | inr other ↦ altered_session_comm zs u.0.sess v.0.sess (on_side u.0.side (end_after p u.1)) (on_side v.0.side (end_after q v.1)) other
     ]
 
 -- none of the uses is of the end
@@ -52,7 +52,17 @@ after_uses_comm p q us [] zs apart = refl
 after_uses_comm p q us (v ∷ vs) zs apart =
     ap (after_uses q vs) (sym (after_uses-touched p q us v zs apart.0)) ∙ after_uses_comm p q us vs (touched q zs v) apart.1
 
--- ---- what is left alone
+-- ---- an end is that of its session
+
+end_of_option : (d : ℕ) (o : Option Session) → unwrap_or (option_map (end_on d) o) nowhere ≡ end_on d (unwrap_or o unopened)
+end_of_option zero None = refl
+end_of_option (suc d) None = refl
+end_of_option d (Some z) = refl
+
+pub end_at-session : (zs : List Session) (e : EndId) → end_at zs e ≡ end_on e.side (session_in zs e.sess)
+end_at-session zs e = end_of_option e.side (slice_get zs e.sess)
+
+-- ---- what is left alone, and what isn't
 
 end_on-on_side_other : (c d : ℕ) (f : EndAt → EndAt) (z : Session) → is_same_side c d ≡ false → end_on d (on_side c f z) ≡ end_on d z
 end_on-on_side_other zero zero f z e = cc
@@ -60,22 +70,34 @@ end_on-on_side_other zero (suc d) f z e = refl
 end_on-on_side_other (suc c) zero f z e = refl
 end_on-on_side_other (suc c) (suc d) f z e = cc
 
-end_of_option_other : (c d : ℕ) (f : EndAt → EndAt) (o : Option Session) → is_same_side c d ≡ false → unwrap_or (option_map (end_on d) (option_map (on_side c f) o)) nowhere ≡ unwrap_or (option_map (end_on d) o) nowhere
-end_of_option_other c d f None e = refl
-end_of_option_other c d f (Some z) e = end_on-on_side_other c d f z e
+end_on-on_side_same : (c d : ℕ) (f : EndAt → EndAt) (z : Session) → is_same_side c d ≡ true → end_on d (on_side c f z) ≡ f (end_on d z)
+end_on-on_side_same zero zero f z e = refl
+end_on-on_side_same zero (suc d) f z e = cc
+end_on-on_side_same (suc c) zero f z e = cc
+end_on-on_side_same (suc c) (suc d) f z e = refl
+
+-- the session that was used
+session_in-touched : (p : ℕ) (zs : List Session) (u : EndId × Use) (s : ℕ) → u.0.sess ≡ s → session_in (touched p zs u) s ≡ on_side u.0.side (end_after p u.1) (session_in zs s)
+session_in-touched p zs u s same = subst (λ (t : ℕ). session_in (touched p zs u) t ≡ on_side u.0.side (end_after p u.1) (session_in zs t)) same (session_in-altered zs u.0.sess (on_side u.0.side (end_after p u.1)))
 
 pub end_at-touched_other : (p : ℕ) (zs : List Session) (u : EndId × Use) (e : EndId) → is_end u.0 e ≡ false → end_at (touched p zs u) e ≡ end_at zs e
 end_at-touched_other p zs u e apart =
-    elim (cases_eq u.0.sess e.sess) [
+    end_at-session (touched p zs u) e
+    ∙ elim (cases_eq u.0.sess e.sess) [
       | inl same ↦
           elim (and_cases (u.0.sess == e.sess) (is_same_side u.0.side e.side) apart) [
             | inl not_same ↦ absurd (eqb-false _ _ not_same same)
-            | inr sides ↦
-                ap (λ o. unwrap_or (option_map (end_on e.side) o) nowhere) (subst (λ (t : ℕ). slice_get (touched p zs u) t ≡ option_map (on_side u.0.side (end_after p u.1)) (slice_get zs t)) same (slice_get-altered zs u.0.sess (on_side u.0.side (end_after p u.1))))
-                ∙ end_of_option_other u.0.side e.side (end_after p u.1) (slice_get zs e.sess) sides
+            | inr sides ↦ ap (end_on e.side) (session_in-touched p zs u e.sess same) ∙ end_on-on_side_other u.0.side e.side (end_after p u.1) (session_in zs e.sess) sides
           ]
-      | inr other ↦ ap (λ o. unwrap_or (option_map (end_on e.side) o) nowhere) (slice_get-altered_other zs u.0.sess e.sess (on_side u.0.side (end_after p u.1)) other)
+      | inr other ↦ ap (end_on e.side) (session_in-altered_other zs u.0.sess e.sess (on_side u.0.side (end_after p u.1)) other)
     ]
+    ∙ sym (end_at-session zs e)
+
+pub end_at-touched_same : (p : ℕ) (zs : List Session) (u : EndId × Use) (e : EndId) → is_end u.0 e ≡ true → end_at (touched p zs u) e ≡ end_after p u.1 (end_at zs e)
+end_at-touched_same p zs u e it =
+    let parts = and_parts (u.0.sess == e.sess) (is_same_side u.0.side e.side) it in
+    end_at-session (touched p zs u) e ∙ ap (end_on e.side) (session_in-touched p zs u e.sess (eqb-true u.0.sess e.sess parts.0))
+    ∙ end_on-on_side_same u.0.side e.side (end_after p u.1) (session_in zs e.sess) parts.1 ∙ ap (end_after p u.1) (sym (end_at-session zs e))
 
 pub end_at-after_uses_other : (p : ℕ) (us : List (EndId × Use)) (zs : List Session) (e : EndId) → IsUnusedBy e us → end_at (after_uses p us zs) e ≡ end_at zs e
 end_at-after_uses_other p [] zs e unused = refl
@@ -96,28 +118,13 @@ used_extends : (p : ℕ) (u : Use) (e : EndAt) → Extends (end_after p u e).sen
 used_extends p (sends m) e = slice_get-append e.sent _
 used_extends p (takes m) e = λ k x h. h
 used_extends p delegates e = λ k x h. h
-
-end_on_extends : (p : ℕ) (u : Use) (c d : ℕ) (z : Session) → Extends (end_on d (on_side c (end_after p u) z)).sent (end_on d z).sent
-end_on_extends p u zero zero z = used_extends p u z.first
-end_on_extends p u zero (suc d) z = λ k x h. h
-end_on_extends p u (suc c) zero z = λ k x h. h
-end_on_extends p u (suc c) (suc d) z = used_extends p u z.second
-
-end_of_option_extends : (p : ℕ) (u : Use) (c d : ℕ) (o : Option Session)
-    → Extends (unwrap_or (option_map (end_on d) (option_map (on_side c (end_after p u)) o)) nowhere).sent (unwrap_or (option_map (end_on d) o) nowhere).sent
-end_of_option_extends p u c d None = λ k x h. h
-end_of_option_extends p u c d (Some z) = end_on_extends p u c d z
+used_extends p (begins place) e = λ k x h. h
 
 end_at-touched_extends : (p : ℕ) (zs : List Session) (u : EndId × Use) (e : EndId) → Extends (end_at (touched p zs u) e).sent (end_at zs e).sent
 end_at-touched_extends p zs u e =
-    elim (cases_eq u.0.sess e.sess) [
-      | inl same ↦
-          subst (λ (o : Option Session). Extends (unwrap_or (option_map (end_on e.side) o) nowhere).sent (end_at zs e).sent)
-          (sym (subst (λ (t : ℕ). slice_get (touched p zs u) t ≡ option_map (on_side u.0.side (end_after p u.1)) (slice_get zs t)) same (slice_get-altered zs u.0.sess (on_side u.0.side (end_after p u.1)))))
-          (end_of_option_extends p u.1 u.0.side e.side (slice_get zs e.sess))
-      | inr other ↦
-          subst (λ (o : Option Session). Extends (unwrap_or (option_map (end_on e.side) o) nowhere).sent (end_at zs e).sent)
-          (sym (slice_get-altered_other zs u.0.sess e.sess (on_side u.0.side (end_after p u.1)) other)) (λ k x h. h)
+    elim (cases_Bool (is_end u.0 e)) [
+      | inl it ↦ subst (λ (t : EndAt). Extends t.sent (end_at zs e).sent) (sym (end_at-touched_same p zs u e it)) (used_extends p u.1 (end_at zs e))
+      | inr other ↦ subst (λ (t : EndAt). Extends t.sent (end_at zs e).sent) (sym (end_at-touched_other p zs u e other)) (λ k x h. h)
     ]
 
 pub end_at-after_uses_extends : (p : ℕ) (us : List (EndId × Use)) (zs : List Session) (e : EndId) → Extends (end_at (after_uses p us zs) e).sent (end_at zs e).sent

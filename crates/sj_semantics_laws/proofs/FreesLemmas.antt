@@ -3,7 +3,7 @@ use Rattle.std.proofs.Common.{◌≡◌, ℕ, zero, suc, ◌+◌, ◌≤◌, fal
 use Rattle.std.specs.Bool.{⊤}
 use Rattle.sj_base.specs.declared.EndId.{EndId}
 use Rattle.sj_base.specs.declared.Msg.{Msg}
-use Rattle.sj_lang.specs.Code.{DeedAt, send, delegate, take_value, take_end, outbranch, inbranch, outwhile, inwhile, relay, if_else, let_be, close}
+use Rattle.sj_lang.specs.Code.{DeedAt, send, delegate, take_value, take_end, outbranch, inbranch, outwhile, inwhile, relay, if_else, let_be, close, request, accept}
 use Rattle.sj_semantics.specs.declared.Want.{Want}
 use Rattle.sj_semantics.specs.declared.Want.TheVariants as wants
 use Rattle.sj_semantics.specs.declared.Awaits.{Awaits}
@@ -25,6 +25,8 @@ Frees e ends todo (wants.Delegate f y) = bindings_of e (ends_after_sent ends tod
 Frees e ends todo wants.Local = ⊤
 Frees e ends todo (wants.Take f a) = ⊤
 Frees e ends todo (wants.Close f) = bindings_of e (ends_after_closed ends todo) + one_if (is_end e f) ≤ bindings_of e ends
+Frees e ends todo (wants.Request n q) = ⊤
+Frees e ends todo (wants.Accept n q) = ⊤
 Frees e ends todo wants.Ended = ⊤
 
 abbrev FreesIf : EndId → List (ℕ × EndId) → List Thing → Option Want → Type 0
@@ -73,25 +75,27 @@ delegate_frees e ends x y rest (Some f) (Some g) h = bindings_of-without e ends 
 delegate_frees e ends x y rest (Some f) None h = tt
 delegate_frees e ends x y rest None q h = tt
 
-deed_frees : (e : EndId) (vars : Vars) (ends : List (ℕ × EndId)) (deed : DeedAt) (rest : List Thing) → FreesIf e ends (statement deed ∷ rest) (want_of_deed vars ends deed)
-deed_frees e vars ends (send x v) rest = send_value_frees e ends (statement (send x v) ∷ rest) (named ends x) (worth vars v)
-deed_frees e vars ends (delegate x y) rest = delegate_frees e ends x y rest (named ends x) (named ends y) refl
-deed_frees e vars ends (take_value x n k) rest = take_frees e ends (statement (take_value x n k) ∷ rest) (named ends x) _
-deed_frees e vars ends (take_end x y p) rest = take_frees e ends (statement (take_end x y p) ∷ rest) (named ends x) _
-deed_frees e vars ends (outbranch x l) rest = send_frees e ends (statement (outbranch x l) ∷ rest) (named ends x) _ refl
-deed_frees e vars ends (inbranch x arms) rest = take_frees e ends (statement (inbranch x arms) ∷ rest) (named ends x) _
-deed_frees e vars ends (outwhile x v body) rest = send_turns_frees e ends (statement (outwhile x v body) ∷ rest) (named ends x) (option_and_then turns_of (worth vars v))
-deed_frees e vars ends (inwhile x body) rest = take_frees e ends (statement (inwhile x body) ∷ rest) (named ends x) _
-deed_frees e vars ends (relay x y body) rest = take_frees e ends (statement (relay x y body) ∷ rest) (named ends x) _
-deed_frees e vars ends (if_else v first second) rest = local_frees e ends (statement (if_else v first second) ∷ rest) (option_and_then truth_of (worth vars v))
-deed_frees e vars ends (let_be n v) rest = local_frees e ends (statement (let_be n v) ∷ rest) (worth vars v)
-deed_frees e vars ends (close x) rest = close_frees e ends x rest (named ends x) refl
+deed_frees : (e : EndId) (peers : List ℕ) (vars : Vars) (ends : List (ℕ × EndId)) (deed : DeedAt) (rest : List Thing) → FreesIf e ends (statement deed ∷ rest) (want_of_deed peers vars ends deed)
+deed_frees e peers vars ends (send x v) rest = send_value_frees e ends (statement (send x v) ∷ rest) (named ends x) (worth vars v)
+deed_frees e peers vars ends (delegate x y) rest = delegate_frees e ends x y rest (named ends x) (named ends y) refl
+deed_frees e peers vars ends (take_value x n k) rest = take_frees e ends (statement (take_value x n k) ∷ rest) (named ends x) _
+deed_frees e peers vars ends (take_end x y p) rest = take_frees e ends (statement (take_end x y p) ∷ rest) (named ends x) _
+deed_frees e peers vars ends (outbranch x l) rest = send_frees e ends (statement (outbranch x l) ∷ rest) (named ends x) _ refl
+deed_frees e peers vars ends (inbranch x arms) rest = take_frees e ends (statement (inbranch x arms) ∷ rest) (named ends x) _
+deed_frees e peers vars ends (outwhile x v body) rest = send_turns_frees e ends (statement (outwhile x v body) ∷ rest) (named ends x) (option_and_then turns_of (worth vars v))
+deed_frees e peers vars ends (inwhile x body) rest = take_frees e ends (statement (inwhile x body) ∷ rest) (named ends x) _
+deed_frees e peers vars ends (relay x y body) rest = take_frees e ends (statement (relay x y body) ∷ rest) (named ends x) _
+deed_frees e peers vars ends (if_else v first second) rest = local_frees e ends (statement (if_else v first second) ∷ rest) (option_and_then truth_of (worth vars v))
+deed_frees e peers vars ends (let_be n v) rest = local_frees e ends (statement (let_be n v) ∷ rest) (worth vars v)
+deed_frees e peers vars ends (close x) rest = close_frees e ends x rest (named ends x) refl
+deed_frees e peers vars ends (request x p b) rest = tt
+deed_frees e peers vars ends (accept x p b) rest = tt
 
-todo_frees : (e : EndId) (vars : Vars) (ends : List (ℕ × EndId)) (todo : List Thing) → FreesIf e ends todo (want_of_todo vars ends todo)
-todo_frees e vars ends [] = tt
-todo_frees e vars ends (statement deed ∷ rest) = deed_frees e vars ends deed rest
-todo_frees e vars ends (turns x n body ∷ rest) = send_frees e ends (turns x n body ∷ rest) (named ends x) _ (turns_name_none e n)
-todo_frees e vars ends (passing x y more body ∷ rest) = send_frees e ends (passing x y more body ∷ rest) (named ends y) _ refl
+todo_frees : (e : EndId) (peers : List ℕ) (vars : Vars) (ends : List (ℕ × EndId)) (todo : List Thing) → FreesIf e ends todo (want_of_todo peers vars ends todo)
+todo_frees e peers vars ends [] = tt
+todo_frees e peers vars ends (statement deed ∷ rest) = deed_frees e peers vars ends deed rest
+todo_frees e peers vars ends (turns x n body ∷ rest) = send_frees e ends (turns x n body ∷ rest) (named ends x) _ (turns_name_none e n)
+todo_frees e peers vars ends (passing x y more body ∷ rest) = send_frees e ends (passing x y more body ∷ rest) (named ends y) _ refl
 
 pub want_frees : (e : EndId) (g : Program) (want : Want) → want_of g ≡ Some want → Frees e g.ends g.todo want
-want_frees e g want h = subst (FreesIf e g.ends g.todo) h (todo_frees e g.vars g.ends g.todo)
+want_frees e g want h = subst (FreesIf e g.ends g.todo) h (todo_frees e g.peers g.vars g.ends g.todo)

@@ -10,7 +10,14 @@ use Rattle.sj_semantics.specs.Program.{Program}
 use Rattle.sj_semantics.specs.Steps.{local_of, sent_of, closed_of}
 use Rattle.sj_semantics.specs.Ends.{EndAt, Session, is_same_side, is_end, end_on, other_side, other_end, nowhere, end_at, next_for}
 use Rattle.sj_semantics.specs.Uses.{Use, sends, delegates}
-use Rattle.sj_semantics.specs.World.{Change, session_message, change_by_taking, change_by}
+use Rattle.sj_semantics.specs.World.{World, Change, plain_change, session_message, begun_by, begun_at, change_by_taking, change_by_opening, change_by_accepting, change_by}
+use Rattle.sj_semantics.specs.Requests.{first_offer, opened_number}
+use Rattle.sj_semantics.specs.declared.Awaits.{Awaits}
+use Rattle.sj_semantics.specs.declared.Awaits.TheVariants as awaits
+use Rattle.sj_base.specs.declared.Msg.{Msg}
+use Rattle.sj_base.specs.declared.Msg.TheVariants as msgs
+use Rattle.sj_lang.specs.Place.{Place}
+use Rattle.sj_lang.specs.FileAt.{ProtocolAt, body_named}
 use Rattle.sj_semantics.specs.Acts.{uses_on, taken_by}
 use Rattle.sj_semantics_laws.proofs.EndLemmas.{Extends}
 
@@ -86,27 +93,53 @@ nothing_either_way : (b : Bool) → ◌≡◌ {A = List Passed} (cond b [] []) [
 nothing_either_way true = refl
 nothing_either_way false = refl
 
-taking_next : (zs : List Session) (e : EndId) (p : ℕ) (g : Program) (f : EndId) (x : Passed) → next_for zs f ≡ Some x → Taking zs e p (change_by_taking g f x).uses
-taking_next zs e p g f x h =
+-- a beginning takes nothing
+begun_takes_none : (e : EndId) (p : ℕ) (place : Place) (m : Msg) → uses_on e taken_by p (begun_by place m) ≡ []
+begun_takes_none e p place (msgs.Sess s d k) = ap (λ xs. xs ++ []) (nothing_either_way (is_end e (record { sess = s; side = d })))
+begun_takes_none e p place (msgs.Int n) = refl
+begun_takes_none e p place (msgs.Bool b) = refl
+begun_takes_none e p place (msgs.Text n) = refl
+begun_takes_none e p place (msgs.Label l) = refl
+begun_takes_none e p place (msgs.More b) = refl
+
+begun_at_takes_none : (e : EndId) (p : ℕ) (ps : List ProtocolAt) (a : Awaits) (m : Msg) → uses_on e taken_by p (begun_at ps a m) ≡ []
+begun_at_takes_none e p ps (awaits.Session n) m = begun_takes_none e p (body_named ps n) m
+begun_at_takes_none e p ps (awaits.Value k) m = refl
+begun_at_takes_none e p ps awaits.OneOf m = refl
+begun_at_takes_none e p ps awaits.MoreOrStop m = refl
+
+taking_next : (zs : List Session) (e : EndId) (p : ℕ) (ps : List ProtocolAt) (g : Program) (f : EndId) (a : Awaits) (x : Passed) → next_for zs f ≡ Some x → Taking zs e p (change_by_taking ps g f a x).uses
+taking_next zs e p ps g f a x h =
     elim (cases_Bool (is_end e f)) [
-      | inl it ↦ next_taken x (sym (next_for_same zs e f it) ∙ h) (ap (λ (t : Bool). cond t (record { msg = x.msg; by = p } ∷ []) [] ++ []) it)
-      | inr other ↦ none_taken (ap (λ (t : Bool). cond t (record { msg = x.msg; by = p } ∷ []) [] ++ []) other)
+      | inl it ↦
+          next_taken x (sym (next_for_same zs e f it) ∙ h)
+          (ap (λ (t : Bool). cond t (record { msg = x.msg; by = p } ∷ []) [] ++ uses_on e taken_by p (begun_at ps a x.msg)) it ∙ ap (λ xs. record { msg = x.msg; by = p } ∷ xs) (begun_at_takes_none e p ps a x.msg))
+      | inr other ↦ none_taken (ap (λ (t : Bool). cond t (record { msg = x.msg; by = p } ∷ []) [] ++ uses_on e taken_by p (begun_at ps a x.msg)) other ∙ begun_at_takes_none e p ps a x.msg)
     ]
 
-taking_option : (zs : List Session) (e : EndId) (p : ℕ) (g : Program) (f : EndId) (c : Change) (o : Option Passed) → next_for zs f ≡ o → option_map (change_by_taking g f) o ≡ Some c → Taking zs e p c.uses
-taking_option zs e p g f c None n h = cc
-taking_option zs e p g f c (Some x) n h = subst (λ (t : Change). Taking zs e p t.uses) (let it : change_by_taking g f x ≡ c = cc in it) (taking_next zs e p g f x n)
+taking_option : {X : Type 0} (zs : List Session) (e : EndId) (p : ℕ) (f : X → Change) (c : Change) (o : Option X) → ((x : X) → o ≡ Some x → Taking zs e p (f x).uses) → option_map f o ≡ Some c → Taking zs e p c.uses
+taking_option zs e p f c None n h = cc
+taking_option zs e p f c (Some x) n h = subst (λ (t : Change). Taking zs e p t.uses) (let it : f x ≡ c = cc in it) (n x refl)
 
 taking_if : (zs : List Session) (e : EndId) (p : ℕ) (b : Bool) (d c : Change) → Taking zs e p d.uses → cond b (Some d) None ≡ Some c → Taking zs e p c.uses
 taking_if zs e p true d c t h = subst (λ (t : Change). Taking zs e p t.uses) (let it : d ≡ c = cc in it) t
 taking_if zs e p false d c t h = cc
 
-pub by_taking : (zs : List Session) (e : EndId) (p : ℕ) (g : Program) (c : Change) (want : Want) → change_by zs p g want ≡ Some c → Taking zs e p c.uses
-by_taking zs e p g c wants.Ended h = cc
-by_taking zs e p g c wants.Local h = taking_if zs e p true (record { program = local_of g; uses = [] }) c (none_taken refl) h
-by_taking zs e p g c (wants.Send f m) h = taking_if zs e p true (record { program = sent_of g; uses = (f, sends m) ∷ [] }) c (none_taken (ap (λ xs. xs ++ []) (nothing_either_way (is_end e f)))) h
-by_taking zs e p g c (wants.Delegate f y) h =
-    taking_if zs e p (nat_lt (end_at zs y).hops 100) (record { program = sent_of g; uses = (y, delegates) ∷ (f, sends (session_message y p)) ∷ [] }) c
+pub by_taking : (w : World) (e : EndId) (p : ℕ) (g : Program) (c : Change) (want : Want) → change_by w p g want ≡ Some c → Taking w.sessions e p c.uses
+by_taking w e p g c wants.Ended h = cc
+by_taking w e p g c wants.Local h = taking_if w.sessions e p true (plain_change (local_of g) []) c (none_taken refl) h
+by_taking w e p g c (wants.Send f m) h = taking_if w.sessions e p true (plain_change (sent_of g) ((f, sends m) ∷ [])) c (none_taken (ap (λ xs. xs ++ []) (nothing_either_way (is_end e f)))) h
+by_taking w e p g c (wants.Delegate f y) h =
+    taking_if w.sessions e p (nat_lt (end_at w.sessions y).hops 100) (plain_change (sent_of g) ((y, delegates) ∷ (f, sends (session_message y p)) ∷ [])) c
     (none_taken (ap (λ xs. xs ++ (cond (is_end e f) [] [] ++ [])) (nothing_either_way (is_end e y)) ∙ ap (λ xs. xs ++ []) (nothing_either_way (is_end e f)))) h
-by_taking zs e p g c (wants.Take f a) h = taking_option zs e p g f c (next_for zs f) refl h
-by_taking zs e p g c (wants.Close f) h = taking_if zs e p true (record { program = closed_of g; uses = [] }) c (none_taken refl) h
+by_taking w e p g c (wants.Take f a) h = taking_option w.sessions e p (change_by_taking w.protocols g f a) c (next_for w.sessions f) (λ x n. taking_next w.sessions e p w.protocols g f a x n) h
+by_taking w e p g c (wants.Close f) h = taking_if w.sessions e p true (plain_change (closed_of g) []) c (none_taken refl) h
+by_taking w e p g c (wants.Request n q) h =
+    let k = length (w.requests p) in
+    let first : EndId = record { sess = opened_number p k; side = 0 } in
+    let second : EndId = record { sess = opened_number p k; side = 1 } in
+    taking_if w.sessions e p (nat_lt k 100) (change_by_opening g (opened_number p k) (body_named w.protocols n) q) c
+    (none_taken (ap (λ xs. xs ++ (cond (is_end e second) [] [] ++ [])) (nothing_either_way (is_end e first)) ∙ ap (λ xs. xs ++ []) (nothing_either_way (is_end e second)))) h
+by_taking w e p g c (wants.Accept n q) h =
+    taking_option w.sessions e p (change_by_accepting g q (body_named w.protocols n)) c (first_offer p (w.requests q))
+    (λ k m. none_taken (ap (λ xs. xs ++ []) (nothing_either_way (is_end e (record { sess = opened_number q k; side = 1 }))))) h

@@ -1,5 +1,5 @@
 -- What holds in every world of a run, whatever acts come between.
-use Rattle.std.proofs.Common.{◌≡◌, ◌≢◌, ℕ, ◌≤◌, List, [], ◌∷◌, ◌++◌, slice_get, Some, option_and_then, refl, ap, sym, ◌∙◌, subst, arith, inl, inr}
+use Rattle.std.proofs.Common.{◌≡◌, ◌≢◌, ℕ, ◌≤◌, List, [], ◌∷◌, ◌++◌, length, slice_get, Some, option_and_then, refl, ap, sym, ◌∙◌, subst, arith, inl, inr}
 use Rattle.std.proofs.lemmas.Bool.{cases_eq}
 use Rattle.sj_base.specs.declared.EndId.{EndId}
 use Rattle.sj_lang.specs.FileAt.{FileAt}
@@ -11,17 +11,20 @@ use Rattle.sj_semantics.specs.World.{start_of, World, act_of}
 use Rattle.sj_semantics.specs.State.{state_of}
 use Rattle.sj_semantics.specs.Wants.{want_of}
 use Rattle.sj_semantics_laws.specs.Runs.{IsBoundAt, IsBoundNowhere, IsNoneOf}
-use Rattle.sj_semantics_laws.specs.Unshared.{bindings_of, claims_on, IsUnshared}
+use Rattle.sj_semantics_laws.specs.Unshared.{bindings_of, claims_on, IsToCome, IsUnshared}
 use Rattle.sj_semantics_laws.proofs.AlteredLemmas.{one-le-sum_by}
 use Rattle.sj_semantics_laws.proofs.CommuteLemmas.{acts_meet}
 use Rattle.sj_semantics_laws.proofs.HolderLemmas.{one_holder, closed_nowhere}
-use Rattle.sj_semantics_laws.proofs.KeepLemmas.{act_keeps_unshared, claims_on-act}
+use Rattle.sj_semantics_laws.proofs.KeepLemmas.{act_keeps_unshared, claims_on-act, come_before}
+use Rattle.sj_semantics_laws.proofs.BoundLemmas.{want_bound}
+use Rattle.sj_semantics_laws.specs.Bound.{IsBound}
+use Rattle.sj_lang.specs.Limits.{limits}
 use Rattle.sj_semantics_laws.proofs.RunLemmas.{between, run_keeps_unshared}
 use Rattle.sj_semantics_laws.proofs.StartLemmas.{start_is_unshared}
 use Rattle.sj_semantics_laws.proofs.StateLemmas.{act_is_ready, ready_can_act}
 
-pub run_is_unshared : (file : FileAt) (ps : List ℕ) (w : World) → IsRun file ps w → IsUnshared w
-run_is_unshared file ps w run = run_keeps_unshared (start_of file) w ps (start_is_unshared file) run
+pub run_is_unshared : (file : FileAt) (ps : List ℕ) (w : World) → length file.connects ≤ limits.connects → IsRun file ps w → IsUnshared w
+run_is_unshared file ps w few run = run_keeps_unshared (start_of file) w ps (start_is_unshared file few) run
 
 -- ---- parts of a run
 
@@ -56,17 +59,31 @@ holder_is_one w p q e one b c =
 pub unclaimed_nowhere : (w : World) (e : EndId) → claims_on e w ≡ 0 → IsBoundNowhere w e
 unclaimed_nowhere w e none = λ p b. omega (arith, none, b.2.some_name, one-le-sum_by (λ (g : Program). bindings_of e g.ends) w.parties p b.0 b.1)
 
--- acts make no claim on an end
-pub claims_on-acts : (w v : World) (ps : List ℕ) (e : EndId) → after_acts w ps ≡ Some v → claims_on e v ≤ claims_on e w
-claims_on-acts w v [] e h = let it : w ≡ v = cc in subst (λ (t : World). claims_on e t ≤ claims_on e w) it (omega arith)
-claims_on-acts w v (p ∷ ps) e h =
+-- acts claim no end that isn't to come
+pub claims_on-acts : (w v : World) (ps : List ℕ) (e : EndId) → IsUnshared w → (IsToCome w e → ⊥) → after_acts w ps ≡ Some v → claims_on e v ≤ claims_on e w
+claims_on-acts w v [] e one here h = let it : w ≡ v = cc in subst (λ (t : World). claims_on e t ≤ claims_on e w) it (omega arith)
+claims_on-acts w v (p ∷ ps) e one here h =
     let m = between (λ x. after_acts x ps) (act_of w p) v h in
-    omega (arith, claims_on-act w m.world p e m.before, claims_on-acts m.world v ps e m.afterwards)
+    omega (
+      arith,
+      claims_on-act w m.world p e here m.before,
+      claims_on-acts m.world v ps e (act_keeps_unshared w m.world p one m.before) (λ t. here (come_before w m.world p e one m.before t)) m.afterwards,
+    )
 
-pub closed_stays : (file : FileAt) (ps qs : List ℕ) (w v u : World) (p : ℕ) (g : Program) (e : EndId) → IsRun file ps w → slice_get w.parties p ≡ Some g
+-- an end that is bound isn't to come
+bound_is_here : (w : World) (p : ℕ) (g : Program) (e : EndId) → IsUnshared w → slice_get w.parties p ≡ Some g → IsBound e g.ends → IsToCome w e → ⊥
+bound_is_here w p g e one there b t = absurd (omega (arith, one.to_come e t, b.some_name, one-le-sum_by (λ (k : Program). bindings_of e k.ends) w.parties p g there))
+
+pub closed_stays : (file : FileAt) (ps qs : List ℕ) (w v u : World) (p : ℕ) (g : Program) (e : EndId) → length file.connects ≤ limits.connects → IsRun file ps w → slice_get w.parties p ≡ Some g
     → want_of g ≡ Some (wants.Close e) → act_of w p ≡ Some v → after_acts v qs ≡ Some u → claims_on e u ≡ 0
-closed_stays file ps qs w v u p g e run there want h k =
-    omega (arith, closed_nowhere w v p g e (run_is_unshared file ps w run) there want h, claims_on-acts v u qs e k)
+closed_stays file ps qs w v u p g e few run there want h k =
+    let one = run_is_unshared file ps w few run in
+    let here = bound_is_here w p g e one there (want_bound g (wants.Close e) want) in
+    omega (
+      arith,
+      closed_nowhere w v p g e one there want h,
+      claims_on-acts v u qs e (act_keeps_unshared w v p one h) (λ t. here (come_before w v p e one h t)) k,
+    )
 
 -- ---- ready parties
 

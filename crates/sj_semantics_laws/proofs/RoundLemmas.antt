@@ -1,15 +1,15 @@
 -- A round of all parties: somebody acts, or it changes nothing.
-use Rattle.std.proofs.Common.{◌≡◌, ℕ, zero, suc, ◌+◌, ◌-◌, ◌≤◌, ◌<◌, nat_lt, Bool, true, false, cond, List, [], ◌∷◌, length, Option, Some, None, option_map, option_and_then, sum_by, refl, ap, sym, ◌∙◌, arith, subst, inl, inr}
+use Rattle.std.proofs.Common.{◌≡◌, ℕ, zero, suc, ◌+◌, ◌-◌, ◌≤◌, ◌<◌, nat_lt, Bool, true, false, cond, [], ◌∷◌, length, Option, Some, None, option_map, option_and_then, sum_by, refl, ap, sym, ◌∙◌, arith, subst, inl, inr}
 use Rattle.std.proofs.lemmas.Bool.{cases_lt, cases_eq, ltb-true}
 use Rattle.std.proofs.lemmas.Option.{slice_get_past}
-use Rattle.sj_base.specs.declared.EndId.{EndId}
 use Rattle.sj_semantics.specs.declared.Want.{Want}
 use Rattle.sj_semantics.specs.declared.Want.TheVariants as wants
-use Rattle.sj_semantics.specs.declared.Passed.{Passed}
 use Rattle.sj_semantics.specs.Program.{Program}
 use Rattle.sj_semantics.specs.Steps.{local_of, sent_of, closed_of}
-use Rattle.sj_semantics.specs.World.{World, Change, session_message, change_by_taking, change_by, changed_world, act_of}
-use Rattle.sj_semantics.specs.Ends.{Session, end_at, next_for}
+use Rattle.sj_semantics.specs.World.{World, Change, plain_change, session_message, change_by_taking, change_by_opening, change_by_accepting, change_by, changed_world, act_of}
+use Rattle.sj_semantics.specs.Requests.{first_offer, opened_number}
+use Rattle.sj_lang.specs.FileAt.{body_named}
+use Rattle.sj_semantics.specs.Ends.{end_at, next_for}
 use Rattle.sj_semantics.specs.Uses.{sends, delegates}
 use Rattle.sj_semantics.specs.State.{IsSettled}
 use Rattle.sj_semantics.specs.Run.{or_on, as_long_as_ready, turn_of_each}
@@ -32,23 +32,25 @@ cond_steps : (g : Program) (b : Bool) (c d : Change) → StepsOn g c → cond b 
 cond_steps g true c d k h = subst (StepsOn g) (let it : c ≡ d = cc in it) k
 cond_steps g false c d k h = cc
 
-taking_steps : (g : Program) (d : Change) (f : EndId) (o : Option Passed) → option_map (change_by_taking g f) o ≡ Some d → StepsOn g d
-taking_steps g d f None h = cc
-taking_steps g d f (Some x) h = cond_steps g true (change_by_taking g f x) d refl h
+option_steps : {X : Type 0} (g : Program) (d : Change) (f : X → Change) (o : Option X) → ((x : X) → StepsOn g (f x)) → option_map f o ≡ Some d → StepsOn g d
+option_steps g d f None on h = cc
+option_steps g d f (Some x) on h = cond_steps g true (f x) d (on x) h
 
-by_steps : (p : ℕ) (zs : List Session) (g : Program) (d : Change) (want : Want) → change_by zs p g want ≡ Some d → StepsOn g d
-by_steps p zs g d wants.Ended h = cc
-by_steps p zs g d wants.Local h = cond_steps g true (record { program = local_of g; uses = [] }) d refl h
-by_steps p zs g d (wants.Send x m) h = cond_steps g true (record { program = sent_of g; uses = (x, sends m) ∷ [] }) d refl h
-by_steps p zs g d (wants.Delegate x y) h = cond_steps g (nat_lt (end_at zs y).hops 100) (record { program = sent_of g; uses = (y, delegates) ∷ (x, sends (session_message y p)) ∷ [] }) d refl h
-by_steps p zs g d (wants.Take x a) h = taking_steps g d x (next_for zs x) h
-by_steps p zs g d (wants.Close x) h = cond_steps g true (record { program = closed_of g; uses = [] }) d refl h
+by_steps : (p : ℕ) (w : World) (g : Program) (d : Change) (want : Want) → change_by w p g want ≡ Some d → StepsOn g d
+by_steps p w g d wants.Ended h = cc
+by_steps p w g d wants.Local h = cond_steps g true (plain_change (local_of g) []) d refl h
+by_steps p w g d (wants.Send x m) h = cond_steps g true (plain_change (sent_of g) ((x, sends m) ∷ [])) d refl h
+by_steps p w g d (wants.Delegate x y) h = cond_steps g (nat_lt (end_at w.sessions y).hops 100) (plain_change (sent_of g) ((y, delegates) ∷ (x, sends (session_message y p)) ∷ [])) d refl h
+by_steps p w g d (wants.Take x a) h = option_steps g d (change_by_taking w.protocols g x a) (next_for w.sessions x) (λ y. refl) h
+by_steps p w g d (wants.Close x) h = cond_steps g true (plain_change (closed_of g) []) d refl h
+by_steps p w g d (wants.Request n q) h = cond_steps g (nat_lt (length (w.requests p)) 100) (change_by_opening g (opened_number p (length (w.requests p))) (body_named w.protocols n) q) d refl h
+by_steps p w g d (wants.Accept n q) h = option_steps g d (change_by_accepting g q (body_named w.protocols n)) (first_offer p (w.requests q)) (λ k. refl) h
 
 -- each act leaves one step less
 left_in-changed : (w v : World) (p : ℕ) → (a : Doing w p v) → left_in (changed_world w p a.change) + 1 ≡ left_in w
 left_in-changed w v p a =
-    let r = rests_on w.sessions p a.program a.change a.made in
-    omega (arith, sum_by-altered left_of w.parties p (λ g. a.change.program) a.program a.there, by_steps p w.sessions a.program a.change r.want r.by_it, ltb-true a.program.steps 10000 r.steps_left)
+    let r = rests_on w p a.program a.change a.made in
+    omega (arith, sum_by-altered left_of w.parties p (λ g. a.change.program) a.program a.there, by_steps p w a.program a.change r.want r.by_it, ltb-true a.program.steps 10000 r.steps_left)
 
 pub left_in-act : (w v : World) (p : ℕ) → act_of w p ≡ Some v → left_in v + 1 ≡ left_in w
 left_in-act w v p h = let a = doing_of w p v h in subst (λ (t : World). left_in t + 1 ≡ left_in w) a.result (left_in-changed w v p a)
@@ -145,7 +147,7 @@ round_of (suc k) p w =
     ]
 
 no_such_party : (w : World) (p : ℕ) → length w.parties ≤ p → act_of w p ≡ None
-no_such_party w p le = ap (λ o. option_map (changed_world w p) (option_and_then (Rattle.sj_semantics.specs.World.change_of_program w.sessions p) o)) (slice_get_past w.parties p le)
+no_such_party w p le = ap (λ o. option_map (changed_world w p) (option_and_then (Rattle.sj_semantics.specs.World.change_of_program w p) o)) (slice_get_past w.parties p le)
 
 pub idle_is_settled : (w : World) → ((q : ℕ) → 0 ≤ q → q < 0 + length w.parties → act_of w q ≡ None) → IsSettled w
 idle_is_settled w none = λ p. elim (cases_lt p (length w.parties)) [ inl lt ↦ none p (omega arith) (omega arith) | inr ge ↦ no_such_party w p ge ]

@@ -7,6 +7,7 @@ use Rattle.sj_semantics.specs.Run.{as_long_as_ready, turn_of_each, rounds, end_o
 use Rattle.sj_semantics.specs.Transcript.{transcript_of}
 use Rattle.sj_semantics_laws.specs.Samples.{greeting, greeting_text, wrapping, wrapping_text, silent, silent_text, crossed, crossed_text, turning, turnless_text}
 use Rattle.sj_semantics_laws.specs.HandoverSamples.{delegation, delegation_text, returning, returning_text, both_moved, both_moved_text, to_its_peer, to_its_peer_text, to_itself, to_itself_text}
+use Rattle.sj_semantics_laws.specs.OpeningSamples.{accepted, accepted_text, unaccepted, unaccepted_text, unrequested, unrequested_text, narrower, narrower_text, standing_in, standing_in_text}
 use Rattle.sj_semantics_laws.specs.AgencySamples.{agency, agency_text, refused_text}
 
 pub greeting_ends : transcript_of greeting (end_of greeting) ≡ greeting_text
@@ -60,3 +61,23 @@ refused_ends = refl
 pub crossed_blocks : verdict_of (end_of crossed) ≡ verdicts.Blocked
 unfolding end_of rounds turn_of_each as_long_as_ready
 crossed_blocks = refl
+
+pub accepted_ends : transcript_of accepted (end_of accepted) ≡ accepted_text
+unfolding transcript_of digits end_of rounds turn_of_each as_long_as_ready
+accepted_ends = refl
+
+pub unaccepted_ends : transcript_of unaccepted (end_of unaccepted) ≡ unaccepted_text
+unfolding transcript_of digits end_of rounds turn_of_each as_long_as_ready
+unaccepted_ends = refl
+
+pub unrequested_ends : transcript_of unrequested (end_of unrequested) ≡ unrequested_text
+unfolding transcript_of digits end_of rounds turn_of_each as_long_as_ready
+unrequested_ends = refl
+
+pub narrower_ends : transcript_of narrower (end_of narrower) ≡ narrower_text
+unfolding transcript_of digits end_of rounds turn_of_each as_long_as_ready
+narrower_ends = refl
+
+pub standing_in_ends : transcript_of standing_in (end_of standing_in) ≡ standing_in_text
+unfolding transcript_of digits end_of rounds turn_of_each as_long_as_ready
+standing_in_ends = refl

@@ -1,12 +1,13 @@
 -- At the start of any file no end is shared.
-use Rattle.std.proofs.Common.{◌≡◌, ℕ, zero, suc, ◌+◌, ◌≤◌, ◌<◌, ◌==◌, leb, Bool, true, false, cond, List, [], ◌∷◌, ◌++◌, map, sum_by, refl, ap, sym, ◌∙◌, arith, inl, inr}
+use Rattle.std.proofs.Common.{◌≡◌, ℕ, zero, suc, ◌+◌, ◌≤◌, ◌<◌, ◌==◌, leb, Bool, true, false, cond, List, [], ◌∷◌, ◌++◌, map, sum_by, length, refl, ap, sym, ◌∙◌, arith, inl, inr}
 use Rattle.std.proofs.lemmas.Bool.{cases_Bool, eqb-true, and_parts, leb-true, le-leb, false_from_ne_true}
 use Rattle.std.proofs.lemmas.List.Sums.{sum_by-cons, sum_by-append}
 use Rattle.sj_base.specs.declared.EndId.{EndId}
 use Rattle.sj_lang.specs.FileAt.{FileAt, PartyAt, DeclAt, ConnectAt, party_named, end_of_party, ends_from}
 use Rattle.sj_semantics.specs.World.{session_of, program_of, programs_from, start_of}
 use Rattle.sj_semantics.specs.Ends.{is_end}
-use Rattle.sj_semantics_laws.specs.Unshared.{bindings_of, carried_in, IsUnshared}
+use Rattle.sj_semantics_laws.specs.Unshared.{bindings_of, carried_in, claims_on, IsToCome, to_open, to_accept, IsUnshared}
+use Rattle.sj_lang.specs.Limits.{limits}
 use Rattle.sj_semantics_laws.proofs.ClaimLemmas.{one_if}
 use Rattle.sj_semantics_laws.proofs.HolderLemmas.{binds}
 
@@ -155,11 +156,49 @@ pub nothing_carried : (e : EndId) (file : FileAt) (cs : List ConnectAt) → sum_
 nothing_carried e file [] = refl
 nothing_carried e file (c ∷ cs) = omega (arith, sum_by-cons (carried_in e) (session_of file c) (map (session_of file) cs), nothing_carried e file cs)
 
+not_this : (e : EndId) (n d x : ℕ) (b : Bool) → n < e.sess → bindings_of e (cond b ((x, record { sess = n; side = d }) ∷ []) []) ≡ 0
+not_this e n d x true lt = omega (arith, ap {B = ℕ} (λ (t : Bool). cond t 1 0) (other_session e n d (λ h. omega (arith, h, lt))))
+not_this e n d x false lt = refl
+
+-- connections before number m have no end of a session from m on
+none_before : (e : EndId) (file : FileAt) (p n : ℕ) (cs : List ConnectAt) → n + length cs ≤ e.sess → bindings_of e (ends_from file p n cs) ≡ 0
+none_before e file p n [] le = refl
+none_before e file p n (c ∷ cs) le =
+    let first : EndId = record { sess = n; side = 0 } in
+    let second : EndId = record { sess = n; side = 1 } in
+    omega (
+      arith,
+      bindings_of-append e (end_of_party file p c.first first ++ end_of_party file p c.second second) (ends_from file p (n + 1) cs),
+      bindings_of-append e (end_of_party file p c.first first) (end_of_party file p c.second second),
+      not_this e n 0 c.first.name (party_named file.parties c.first.party == p) (omega (arith, le)),
+      not_this e n 1 c.second.name (party_named file.parties c.second.party == p) (omega (arith, le)),
+      none_before e file p (n + 1) cs (omega (arith, le)),
+    )
+
+pub no_program_binds : (e : EndId) (file : FileAt) (p : ℕ) (qs : List PartyAt) → length file.connects ≤ e.sess → sum_by (binds e) (programs_from file p qs) ≡ 0
+no_program_binds e file p [] le = refl
+no_program_binds e file p (q ∷ qs) le =
+    omega (
+      arith,
+      sum_by-cons (binds e) (program_of file p q) (programs_from file (p + 1) qs),
+      none_before e file p 0 file.connects (omega (arith, le)),
+      no_program_binds e file (p + 1) qs le,
+    )
+
+-- ends that are to come are no connection's
+none_to_come : (file : FileAt) (e : EndId) → length file.connects ≤ limits.connects → IsToCome (start_of file) e → claims_on e (start_of file) ≡ 0
+none_to_come file e few (to_open p k le lt num) =
+    let above : length file.connects ≤ e.sess = omega (arith, num) in
+    omega (arith, no_program_binds e file 0 file.parties above, nothing_carried e file file.connects)
+none_to_come file e few (to_accept p k r there none num side) = cc
+
 one_if_le : (b : Bool) → one_if b ≤ 1
 one_if_le true = omega arith
 one_if_le false = omega arith
 
-pub start_is_unshared : (file : FileAt) → IsUnshared (start_of file)
-start_is_unshared file = record {
+pub start_is_unshared : (file : FileAt) → length file.connects ≤ limits.connects → IsUnshared (start_of file)
+start_is_unshared file few = record {
   once = λ e. omega (arith, programs_bind e file 0 file.parties, nothing_carried e file file.connects, one_if_le (leb 0 (owner_of file.parties 0 file.connects e)));
+  to_come = λ e t. none_to_come file e few t;
+  few = λ p. omega arith;
 }

@@ -1,9 +1,10 @@
--- Each end is bound at one party at most, or on its way in one message.
-use Rattle.std.specs.Prelude.{ℕ, ◌+◌, ◌≤◌, Bool, false, List, length, drop, count_by, sum_by}
+-- Each end is bound at one party at most, or on its way in one message; an end that is still to come is neither.
+use Rattle.std.specs.Prelude.{◌≡◌, ℕ, ◌+◌, ◌≤◌, ◌<◌, Bool, true, false, List, length, drop, count_by, sum_by, slice_get, Some, None}
 use Rattle.sj_base.specs.declared.EndId.{EndId}
 use Rattle.sj_base.specs.declared.Msg.{Msg}
 use Rattle.sj_base.specs.declared.Msg.TheVariants as msgs
-use Rattle.sj_semantics.specs.Ends.{EndAt, Session, is_end}
+use Rattle.sj_semantics.specs.Ends.{EndAt, Session, is_end, is_same_side}
+use Rattle.sj_semantics.specs.Requests.{Request, limit_of_requests, opened_number}
 use Rattle.sj_semantics.specs.World.{World}
 
 -- how many names the end has at a party
@@ -27,6 +28,13 @@ carried_in e z = carried_to e z.first z.second + carried_to e z.second z.first
 abbrev pub claims_on : EndId → World → ℕ
 claims_on e w = sum_by (λ g. bindings_of e g.ends) w.parties + sum_by (carried_in e) w.sessions
 
--- no end is bound or on its way twice
+-- the end's session isn't opened yet, or it is the second end and wasn't accepted
+pub data IsToCome (w : World) (e : EndId) : Type 0 where
+  to_open : (p k : ℕ) → length (w.requests p) ≤ k → k < limit_of_requests → e.sess ≡ opened_number p k → IsToCome w e
+  to_accept : (p k : ℕ) (r : Request) → slice_get (w.requests p) k ≡ Some r → r.second ≡ None → e.sess ≡ opened_number p k → is_same_side 1 e.side ≡ true → IsToCome w e
+
+-- no end is bound or on its way twice, and none that is to come is
 pub record IsUnshared (w : World) : Type 0 where
   pub once : (e : EndId) → claims_on e w ≤ 1
+  pub to_come : (e : EndId) → IsToCome w e → claims_on e w ≡ 0
+  pub few : (p : ℕ) → length (w.requests p) ≤ limit_of_requests

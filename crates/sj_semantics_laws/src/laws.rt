@@ -9,10 +9,17 @@
 //!   `claims_never_grow`: where an end is bound.
 //! - `lists_are_those_of_the_acts`, `taken_is_a_front_of_sent`, `nobody_takes_more_than_was_sent`:
 //!   what was sent and taken in a run.
+//! - `what_leads_an_end_leads_what_it_stands_for`: untaken messages of an end that is taken or accepted.
 
 ghost use Rattle.std.specs.Prelude.{◌≡◌, ◌≢◌, ◌<◌, ◌≤◌, ◌++◌, ℕ, List, length, map, Some, slice_get, sum_by};
 ghost use Rattle.sj_base.specs.declared.EndId.{EndId};
 ghost use Rattle.sj_lang.specs.FileAt.{FileAt};
+ghost use Rattle.sj_lang.specs.Limits.{limits};
+ghost use Rattle.sj_base.specs.declared.Msg.{Msg};
+ghost use Rattle.sj_lang.specs.Meet.{StandsFor};
+ghost use Rattle.sj_lang.specs.Place.{Place};
+ghost use Rattle.sj_semantics.specs.Balanced.{LeadsTaker};
+ghost use Rattle.sj_semantics.specs.Ends.{Session};
 ghost use Rattle.sj_semantics.specs.Acts.{acts_from, sent_on, taken_on};
 ghost use Rattle.sj_semantics.specs.Ends.{end_at, other_end, untaken_for};
 ghost use Rattle.sj_semantics.specs.Program.{Program};
@@ -24,11 +31,11 @@ ghost use Rattle.sj_semantics.specs.declared.State.TheVariants.{Ready};
 ghost use Rattle.sj_semantics.specs.declared.Want.TheVariants.{Close};
 ghost use Rattle.sj_semantics.specs.declared.Want.{Want};
 ghost use Rattle.sj_semantics_laws.specs.Bound.{AreBound, IsBound, UsesBound};
-ghost use Rattle.sj_semantics_laws.specs.Unshared.{IsUnshared, bindings_of, carried_in, claims_on};
+ghost use Rattle.sj_semantics_laws.specs.Unshared.{IsToCome, IsUnshared, bindings_of, carried_in, claims_on};
 
 /// At the start of every file no end is bound twice.
 pub fn ends_are_unshared_at_the_start()
-    ensures { (file : FileAt) → IsUnshared (start_of file) }
+    ensures { (file : FileAt) → length file.connects ≤ limits.connects → IsUnshared (start_of file) }
 {}
 
 /// And so it stays with each act.
@@ -60,8 +67,8 @@ pub fn acts_commute()
 
 /// Two runs of one file that end settled end in the same world.
 pub fn settled_runs_meet()
-    ensures { (file : FileAt) (ps qs : List ℕ) (v w : World) → IsRun file ps v → IsRun file qs w →
-        IsSettled v → IsSettled w → v ≡ w }
+    ensures { (file : FileAt) (ps qs : List ℕ) (v w : World) → length file.connects ≤ limits.connects →
+        IsRun file ps v → IsRun file qs w → IsSettled v → IsSettled w → v ≡ w }
 {}
 
 /// The end of a file is settled, and a run of the file ends there.
@@ -72,8 +79,8 @@ pub fn the_end_is_settled()
 
 /// Each run goes on to the end of its file.
 pub fn each_run_goes_on_to_the_end()
-    ensures { (file : FileAt) (ps : List ℕ) (w : World) → IsRun file ps w →
-        (qs : List ℕ) × (after_acts w qs ≡ Some (end_of file)) }
+    ensures { (file : FileAt) (ps : List ℕ) (w : World) → length file.connects ≤ limits.connects →
+        IsRun file ps w → (qs : List ℕ) × (after_acts w qs ≡ Some (end_of file)) }
 {}
 
 /// Each end that a program's next step names is bound there.
@@ -81,7 +88,7 @@ pub fn steps_name_bound_ends()
     ensures { (g : Program) (want : Want) → want_of g ≡ Some want → AreBound g.ends want }
 {}
 
-/// And so is each end that an act uses.
+/// And so is each end that an act uses, unless the use is its beginning.
 pub fn acts_use_bound_ends()
     ensures { (w : World) (p : ℕ) (g : Program) (c : Change) → slice_get w.parties p ≡ Some g →
         change_of w p ≡ Some c → UsesBound g.ends c.uses }
@@ -108,26 +115,24 @@ pub fn an_end_on_its_way_is_bound_nowhere()
         bindings_of e g.ends ≡ 0 }
 {}
 
-/// No act makes an end bound or on its way more often than it was, so a closed end stays closed.
+/// No act makes an end bound or on its way more often than it was, unless the end is to come; so a
+/// closed end stays closed.
 pub fn claims_never_grow()
-    ensures { (w v : World) (p : ℕ) (e : EndId) → act_of w p ≡ Some v →
+    ensures { (w v : World) (p : ℕ) (e : EndId) → ¬ IsToCome w e → act_of w p ≡ Some v →
         claims_on e v ≤ claims_on e w }
 {}
 
 /// In every run the lists of an end hold what the run's acts sent on it and who took on it.
 pub fn lists_are_those_of_the_acts()
     ensures sent { (file : FileAt) (ps : List ℕ) (w : World) (e : EndId) → IsRun file ps w →
-        e.sess < length file.connects →
         (end_at w.sessions e).sent ≡ sent_on e (acts_from (start_of file) ps) }
     ensures taken { (file : FileAt) (ps : List ℕ) (w : World) (e : EndId) → IsRun file ps w →
-        e.sess < length file.connects →
         (end_at w.sessions e).takers ≡ map (λ x. x.by) (taken_on e (acts_from (start_of file) ps)) }
 {}
 
 /// What was taken on an end, and then what is untaken, is what was sent on the other end, in order.
 pub fn taken_is_a_front_of_sent()
     ensures { (file : FileAt) (ps : List ℕ) (w : World) (e : EndId) → IsRun file ps w →
-        e.sess < length file.connects →
         map (λ x. x.msg) (taken_on e (acts_from (start_of file) ps)) ++ untaken_for w.sessions e
         ≡ map (λ x. x.msg) (sent_on (other_end e) (acts_from (start_of file) ps)) }
 {}
@@ -136,4 +141,11 @@ pub fn taken_is_a_front_of_sent()
 pub fn nobody_takes_more_than_was_sent()
     ensures { (file : FileAt) (ps : List ℕ) (w : World) (e : EndId) → IsRun file ps w →
         length (end_at w.sessions e).takers ≤ length (end_at w.sessions (other_end e)).sent }
+{}
+
+/// Messages that lead the taker at a place to one that meets the last place also lead a taker at
+/// each place for which the first one stands.
+pub fn what_leads_an_end_leads_what_it_stands_for()
+    ensures { (zs : List Session) (t s : Place) (ms : List Msg) (last : Place) → StandsFor t s →
+        LeadsTaker zs t ms last → LeadsTaker zs s ms last }
 {}

@@ -1,6 +1,7 @@
 //! Definitions tried on files whose transcripts are known; each clause computes.
 //!
 //! - `short_sessions_end_so`, `handovers_end_so`, `agencies_end_so`: whole transcripts.
+//! - `openings_end_so`, `widths_end_so`: sessions opened at run time, and choices of different width.
 //! - `opposite_orders_block`: two sessions that are taken in opposite order.
 //! - `numbers_wrap`, `loop_counts_are_clamped`: expressions and counts.
 
@@ -14,6 +15,7 @@ ghost use Rattle.sj_semantics.specs.declared.Value.TheVariants.{Int};
 ghost use Rattle.sj_semantics.specs.Value.{no_vars, turns_of, worth, limit_of_turns};
 ghost use Rattle.sj_semantics.specs.declared.Verdict.TheVariants.{Blocked};
 ghost use Rattle.sj_semantics_laws.specs.AgencySamples.{agency, agency_text, refused_text};
+ghost use Rattle.sj_semantics_laws.specs.OpeningSamples.{accepted, accepted_text, unaccepted, unaccepted_text, unrequested, unrequested_text, narrower, narrower_text, standing_in, standing_in_text};
 ghost use Rattle.sj_semantics_laws.specs.HandoverSamples.{both_moved, both_moved_text, delegation, delegation_text, returning, returning_text, to_its_peer, to_its_peer_text, to_itself, to_itself_text};
 ghost use Rattle.sj_semantics_laws.specs.Samples.{crossed, crossed_text, greeting, greeting_text, silent, silent_text, turning, turnless_text, wrapping, wrapping_text, last_int};
 /// A number, a number that wraps, nothing, two sessions that block, and a loop that sends `stop` alone.
@@ -38,6 +40,19 @@ pub fn handovers_end_so()
 pub fn agencies_end_so()
     ensures agency { transcript_of (agency 400) (end_of (agency 400)) ≡ agency_text }
     ensures refused { transcript_of (agency 200) (end_of (agency 200)) ≡ refused_text }
+{}
+
+/// A session that is requested and accepted, one that nobody accepts, and an accept without a request.
+pub fn openings_end_so()
+    ensures accepted { transcript_of accepted (end_of accepted) ≡ accepted_text }
+    ensures unaccepted { transcript_of unaccepted (end_of unaccepted) ≡ unaccepted_text }
+    ensures unrequested { transcript_of unrequested (end_of unrequested) ≡ unrequested_text }
+{}
+
+/// A selection that is narrower than its branching, and an end that stands for a narrower one.
+pub fn widths_end_so()
+    ensures narrower { transcript_of narrower (end_of narrower) ≡ narrower_text }
+    ensures standing_in { transcript_of standing_in (end_of standing_in) ≡ standing_in_text }
 {}
 
 /// Two parties that take two sessions in opposite order wait for each other.

@@ -4,5 +4,6 @@ pub mod CopyLemmas
 pub mod CountLemmas
 pub mod GrownLemmas
 pub mod LoopLemmas
+pub mod MeetLemmas
 pub mod NodeLemmas
 pub mod StartLemmas

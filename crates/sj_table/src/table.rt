@@ -3,6 +3,7 @@ ghost use Rattle.std.specs.Prelude.{◌≡◌, ◌+◌, ◌<◌, ℕ, length, ma
 ghost use Rattle.sj_lang.specs.After.{after_place};
 ghost use Rattle.sj_lang.specs.FileAt.{body_named, named};
 ghost use Rattle.sj_lang.specs.FileView.{protocol_of};
+ghost use Rattle.sj_lang.specs.MeetTests.{stands_for};
 ghost use Rattle.sj_lang.specs.Place.{done};
 ghost use Rattle.sj_lang.specs.View.{followed};
 ghost use Rattle.sj_lang.specs.ItemCount.{is_done};
@@ -12,7 +13,7 @@ ghost use Rattle.sj_table.specs.Table.{at_node};
 ghost use Rattle.sj_table.specs.declared.table.Table.{Table};
 
 use crate::building::{add_place, items_at};
-use crate::comparing::{is_node_of, same_nodes};
+use crate::comparing::{is_node_of, node_stands_for, same_nodes};
 use crate::copying::copied_stops;
 use crate::leading::{Stop, after_node, is_done_node, split_node};
 use sj_base::{Msg, NoMemory};
@@ -144,11 +145,18 @@ impl Table {
         same_nodes(&self.stops, one.node, other.node)
     }
 
-    /// Whether the spot stands for this place.
-    pub fn stands_for(&self, spot: Spot, place: &Proto) -> bool
+    /// Whether the spot's place is this one.
+    pub fn is_at(&self, spot: Spot, place: &Proto) -> bool
         ensures { IsTrue result ↔ (place_in self.now spot ≡ place.now) }
     {
         is_node_of(&self.stops, spot.node, &place.items)
+    }
+
+    /// Whether an end at the spot can stand where one at this place is wanted.
+    pub fn stands_for(&self, spot: Spot, wanted: &Proto) -> bool
+        ensures { result ≡ stands_for (place_in self.now spot) wanted.now }
+    {
+        node_stands_for(&self.stops, spot.node, &wanted.items)
     }
 
     /// The place for which the spot stands.

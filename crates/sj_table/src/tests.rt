@@ -230,10 +230,10 @@ fn spots_are_the_same_where_their_places_are_equal(rt: HostRuntime) -> Result<()
     assert!(rt; !table.is_same(first, start), "another item");
     assert!(rt; !table.is_same(table.done(), first), "nothing ahead");
     let place = two(alloc, Item::Send(Kind::Int), Item::Recv(Kind::Boolean))?;
-    assert!(rt; table.stands_for(second, &place), "the place of an arm");
-    assert!(rt; !table.stands_for(third, &place), "that of another");
+    assert!(rt; table.is_at(second, &place), "the place of an arm");
+    assert!(rt; !table.is_at(third, &place), "that of another");
     let front = one(alloc, Item::Send(Kind::Int))?;
-    assert!(rt; !table.stands_for(second, &front), "its first item alone");
+    assert!(rt; !table.is_at(second, &front), "its first item alone");
     let (_, behind) = table.split(first).ok_or("the first arm")?;
     let (_, follows) = table.split(second).ok_or("the second arm")?;
     assert_eq!(rt; behind, follows, "both lead to one spot");

@@ -5,13 +5,13 @@ use Rattle.std.specs.List.{flat_map}
 use Rattle.std.proofs.lemmas.Bool.{le-ltb}
 use Rattle.sj_base.specs.declared.EndId.{EndId}
 use Rattle.sj_base.specs.declared.Msg.{Msg}
-use Rattle.sj_rules.specs.Record.{EndAt, BodyAt, Carry, Fin, Claim, Signal, Ack, Give}
+use Rattle.sj_rules.specs.Record.{EndAt, BodyAt, Carry, Fin, Claim, Signal, Ack, Give, Open}
 use Rattle.sj_table.specs.declared.table.Spot.{Spot}
 use Rattle.sj_wire.specs.Kinds.{end_in, kind_of}
 use Rattle.sj_wire.specs.Lawful.{HasSide, IsTypedMessage, IsWithin, IsTypedBody, cached_in, without_place}
 use Rattle.sj_wire.specs.Limits.{limit_of_conns, limit_of_messages, limit_of_hops, most_cached, nowhere}
 use Rattle.sj_wire.specs.Spelling.{number, flag, message, resend, counts, body}
-use Rattle.sj_wire.specs.Reading.{resend_at, carry_at, fin_at, signal_at, ack_at, counts_at, give_at, body_at}
+use Rattle.sj_wire.specs.Reading.{resend_at, carry_at, fin_at, signal_at, ack_at, counts_at, give_at, open_at, body_at}
 use Rattle.sj_wire.proofs.NumberLemmas.{number_again, limited_again}
 use Rattle.sj_wire.proofs.FieldLemmas.{flag_again}
 use Rattle.sj_wire.proofs.MessageLemmas.{message_again, messages_again}
@@ -89,10 +89,11 @@ give_again e r rest h typed short =
     ) refl
 
 pub body_again : {P : Type 0} (b : BodyAt P) (rest : List ℕ) → IsWithin b → IsTypedBody b → cached_in b ≤ most_cached → body_at (kind_of b) (end_in b) (body b ++ rest) ≡ Some (without_place b, rest)
-unfolding body_at body
+unfolding body_at open_at body
 body_again (Carry e conn n taken msg) rest h typed short = carry_again e conn n taken msg rest h typed
 body_again (Fin e conn n) rest h typed short = fin_again e conn n rest h
 body_again (Claim e) rest h typed short = refl
 body_again (Signal e conn party taken) rest h typed short = signal_again e conn party taken rest h typed
 body_again (Ack e conn) rest h typed short = ack_again e conn rest h
 body_again (Give e r) rest h typed short = give_again e r rest h typed short
+body_again (Open sess) rest h typed short = refl

@@ -1,9 +1,10 @@
 -- Bodies that are read are spelt so.
 use Rattle.std.proofs.Common.{◌≡◌, ℕ, ◌-◌, ◌^◌, ◌<◌, ◌≤◌, Bool, true, false, cond, ltb, List, ◌++◌, length, Option, Some, None, refl, sym, ap, subst, arith}
 use Rattle.std.specs.Prelude.{IfSome}
-use Rattle.std.proofs.lemmas.Bool.{ltb-false}
+use Rattle.std.proofs.lemmas.Bool.{eqb-true, ltb-false}
+use Rattle.std.proofs.lemmas.Option.{cond_some}
 use Rattle.sj_base.specs.declared.EndId.{EndId}
-use Rattle.sj_rules.specs.Record.{EndAt, BodyAt, Give}
+use Rattle.sj_rules.specs.Record.{EndAt, BodyAt, Give, Open}
 use Rattle.sj_table.specs.declared.table.Spot.{Spot}
 use Rattle.sj_wire.specs.declared.kind.Kind.{Kind}
 use Rattle.sj_wire.specs.declared.kind.Kind.TheVariants as kinds
@@ -11,7 +12,7 @@ use Rattle.sj_wire.specs.Kinds.{end_in, kind_of}
 use Rattle.sj_wire.specs.Lawful.{IsWithin, IsTypedBody, cached_in, without_place}
 use Rattle.sj_wire.specs.Limits.{limit_of_conns, limit_of_messages, limit_of_hops, most_cached, nowhere}
 use Rattle.sj_wire.specs.Spelling.{number, flag, resend, counts, body}
-use Rattle.sj_wire.specs.Reading.{◌>>=◌, made, limited_at, resend_at, carry_at, fin_at, signal_at, ack_at, counts_at, give_at, body_at}
+use Rattle.sj_wire.specs.Reading.{◌>>=◌, made, limited_at, resend_at, carry_at, fin_at, signal_at, ack_at, counts_at, give_at, open_at, body_at}
 use Rattle.sj_wire.proofs.NumberLemmas.{IsBytes, bind_some, guard_some, some_is, Takes, then_takes, wide1, wide2, wide4, number_takes, limited_takes}
 use Rattle.sj_wire.proofs.FieldLemmas.{made_some, flag_takes}
 use Rattle.sj_wire.proofs.MessageLemmas.{message_takes, messages_take}
@@ -142,6 +143,14 @@ give_takes {e} {bytes} fits is =
       nowhere_is = ap (λ (p : Spot). Give (record a.0.0 { place = p; base = a.0.0.sent - n.0.0; cache = m.0.0 }) r.0.0) (sym ta.place_is);
     })
 
+open_takes : {e : EndId} {bytes : List ℕ} {x : BodyAt Spot × List ℕ} → IsBytes bytes → open_at e bytes ≡ Some x → TakesBody kinds.Open e bytes x
+unfolding open_at body
+open_takes {e} {bytes} fits is =
+    let g = cond_some _ _ _ is in
+    let side : e.side ≡ 1 = eqb-true _ _ g.0 in
+    subst (λ (y : BodyAt Spot × List ℕ). TakesBody kinds.Open e bytes y) g.1
+    (record { took = record { parts = refl; fits = fits }; kind_is = refl; end_is = ap (λ (s : ℕ). record { sess = e.sess; side = s }) (sym side); within = tt; typed = tt; short = omega arith; nowhere_is = refl })
+
 pub body_takes : (kind : Kind) {e : EndId} {bytes : List ℕ} {x : BodyAt Spot × List ℕ} → IsBytes bytes → body_at kind e bytes ≡ Some x → TakesBody kind e bytes x
 unfolding body_at body
 body_takes kinds.Carry fits is = carry_takes fits is
@@ -152,3 +161,4 @@ body_takes kinds.Claim {e} {bytes} fits is =
 body_takes kinds.Signal fits is = signal_takes fits is
 body_takes kinds.Ack fits is = ack_takes fits is
 body_takes kinds.Give fits is = give_takes fits is
+body_takes kinds.Open fits is = open_takes fits is

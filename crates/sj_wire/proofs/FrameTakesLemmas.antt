@@ -13,15 +13,15 @@ use Rattle.sj_wire.specs.declared.kind.Kind.TheVariants as kinds
 use Rattle.sj_wire.specs.declared.refusal.WireRefusal.{WireRefusal}
 use Rattle.sj_wire.specs.declared.refusal.WireRefusal.TheVariants as refusals
 use Rattle.sj_wire.specs.Front.{Front, Cut, Refused, Whole, of_fields, of_kind, whole_of, sized_of, front_of}
-use Rattle.sj_wire.specs.Kinds.{code, end_in, kind_named, kind_of}
+use Rattle.sj_wire.specs.Kinds.{code, end_in, kind_named, kind_in, of_version, kind_of, version_of}
 use Rattle.sj_wire.specs.Lawful.{IsSpelt, on_wire}
-use Rattle.sj_wire.specs.Limits.{version, least_length, most_length}
+use Rattle.sj_wire.specs.Limits.{version, open_version, least_length, most_length}
 use Rattle.sj_wire.specs.Spelling.{number, end_id, body, inside, framed, spelling}
 use Rattle.sj_wire.specs.Reading.{number_at, frame_at}
 use Rattle.sj_wire.proofs.NumberLemmas.{IsBytes, IsBytes-take, bind_some, then_takes, wide4, wide8, number_takes, limited_takes}
 use Rattle.sj_wire.proofs.FieldLemmas.{end_id_takes}
 use Rattle.sj_wire.proofs.BodyTakesLemmas.{body_takes}
-use Rattle.sj_wire.proofs.FrameReadLemmas.{fields, code_small, one_byte}
+use Rattle.sj_wire.proofs.FrameReadLemmas.{fields, code_small, version_small, one_byte}
 
 -- a frame that was read, apart from its bytes
 pub record IsRead (f : FrameAt Spot) : Type 0 where
@@ -52,8 +52,8 @@ fields_take k {bytes} {f} fits is =
     } in
     subst (λ (g : FrameAt Spot). (bytes ≡ fields g) × (kind_of g.body ≡ k) × IsRead g) g.1 (named, tc.kind_is, read)
 
-no_kind : (b : ℕ) → 6 < b → kind_named b ≡ None
-no_kind b lt = rw (ne_eqb b 1 (λ e. omega (arith, e, lt)), ne_eqb b 2 (λ e. omega (arith, e, lt)), ne_eqb b 3 (λ e. omega (arith, e, lt)), ne_eqb b 4 (λ e. omega (arith, e, lt)), ne_eqb b 5 (λ e. omega (arith, e, lt)), ne_eqb b 6 (λ e. omega (arith, e, lt))) refl
+no_kind : (b : ℕ) → 7 < b → kind_named b ≡ None
+no_kind b lt = rw (ne_eqb b 1 (λ e. omega (arith, e, lt)), ne_eqb b 2 (λ e. omega (arith, e, lt)), ne_eqb b 3 (λ e. omega (arith, e, lt)), ne_eqb b 4 (λ e. omega (arith, e, lt)), ne_eqb b 5 (λ e. omega (arith, e, lt)), ne_eqb b 6 (λ e. omega (arith, e, lt)), ne_eqb b 7 (λ e. omega (arith, e, lt))) refl
 
 named_code : (b : ℕ) {k : Kind} → kind_named b ≡ Some k → b ≡ code k
 named_code zero e = absurd cc
@@ -63,7 +63,18 @@ named_code (suc (suc (suc zero))) e = ap code (let same : kinds.Claim ≡ _ = cc
 named_code (suc (suc (suc (suc zero)))) e = ap code (let same : kinds.Signal ≡ _ = cc in same)
 named_code (suc (suc (suc (suc (suc zero))))) e = ap code (let same : kinds.Ack ≡ _ = cc in same)
 named_code (suc (suc (suc (suc (suc (suc zero)))))) e = ap code (let same : kinds.Give ≡ _ = cc in same)
-named_code (suc (suc (suc (suc (suc (suc (suc n))))))) e = let none = no_kind (suc (suc (suc (suc (suc (suc (suc n))))))) (omega arith) in absurd cc
+named_code (suc (suc (suc (suc (suc (suc (suc zero))))))) e = ap code (let same : kinds.Open ≡ _ = cc in same)
+named_code (suc (suc (suc (suc (suc (suc (suc (suc n)))))))) e = let none = no_kind (suc (suc (suc (suc (suc (suc (suc (suc n)))))))) (omega arith) in absurd cc
+
+of_its_version : (v : ℕ) {o : Option Kind} {k : Kind} → of_version v o ≡ Some k → (v ≡ version_of k) × (o ≡ Some k)
+of_its_version v {o = None} e = absurd cc
+of_its_version v {o = Some l} e =
+    let g = cond_some _ _ _ e in
+    (sym (eqb-true _ _ g.0) ∙ ap version_of g.1, ap (λ (k : Kind). Some k) g.1)
+
+-- both bytes of a kind
+bytes_are : (v b : ℕ) {k : Kind} → kind_in v b ≡ Some k → (v ≡ version_of k) × (b ≡ code k)
+bytes_are v b e = let o = of_its_version v e in (o.0, named_code b o.1)
 
 -- the tests before a frame that is there
 not_cut : {b : Bool} {y : Front} {f : FrameAt Spot} {r : List ℕ} → cond b Cut y ≡ Whole f r → (b ≡ false) × (y ≡ Whole f r)
@@ -91,17 +102,17 @@ unfolding whole_of inside
 whole_takes [] fits long is = absurd (omega (arith, long))
 whole_takes (v ∷ []) fits long is = absurd (omega (arith, long))
 whole_takes (v ∷ b ∷ rest) {f = f} fits long is =
-    let t = held_true refusals.Version {b = eqb v version} is in
-    let version_is : v ≡ version = eqb-true v version t.0 in
+    let t = held_true refusals.Version {b = eqb v version || eqb v open_version} is in
     let k = kind_is rest _ t.1 in
-    let code_is : b ≡ code k.0 = named_code b k.1 in
+    let both = bytes_are v b k.1 in
     let g = fields_of k.2 in
     let took = fields_take k.0 (λ i. fits (suc (suc i))) g.0 in
-    let byte : b ≡ code (kind_of f.body) = code_is ∙ ap code (sym took.1) in
-    let first = one_byte version (omega arith) in
+    let head : v ≡ version_of (kind_of f.body) = both.0 ∙ ap version_of (sym took.1) in
+    let byte : b ≡ code (kind_of f.body) = both.1 ∙ ap code (sym took.1) in
+    let first = one_byte (version_of (kind_of f.body)) (version_small (kind_of f.body)) in
     let second = one_byte (code (kind_of f.body)) (code_small (kind_of f.body)) in
-    let text : inside f ≡ version ∷ code (kind_of f.body) ∷ fields f = rw (first, second) refl in
-    let cells : v ∷ b ∷ rest ≡ version ∷ code (kind_of f.body) ∷ fields f = rw (version_is, byte, took.0) refl in
+    let text : inside f ≡ version_of (kind_of f.body) ∷ code (kind_of f.body) ∷ fields f = rw (first, second) refl in
+    let cells : v ∷ b ∷ rest ≡ version_of (kind_of f.body) ∷ code (kind_of f.body) ∷ fields f = rw (head, byte, took.0) refl in
     (cells ∙ sym text, g.1, took.2)
 
 or_no : {a b : Bool} → (a || b) ≡ false → (a ≡ false) × (b ≡ false)

@@ -7,7 +7,7 @@ use Rattle.sj_base.specs.declared.EndId.{EndId}
 use Rattle.sj_base.specs.declared.Msg.{Msg}
 use Rattle.sj_base.specs.declared.Msg.TheVariants as msgs
 use Rattle.sj_rules.specs.Frames.{FrameAt}
-use Rattle.sj_rules.specs.Record.{EndAt, BodyAt, Carry, Fin, Claim, Signal, Ack, Give}
+use Rattle.sj_rules.specs.Record.{EndAt, BodyAt, Carry, Fin, Claim, Signal, Ack, Give, Open}
 use Rattle.sj_wire.specs.Lawful.{cached_in}
 use Rattle.sj_wire.specs.Limits.{least_length, most_length, most_cached}
 use Rattle.sj_wire.specs.Spelling.{flag, end_id, message, resend, counts, body, inside}
@@ -55,6 +55,7 @@ length-body (Give e r) short =
     let m = length-messages e.cache in
     let n = length-resend r in
     simp (length-append, length-number, length-counts) (omega (arith, m, n, short))
+length-body (Open sess) short = omega arith
 
 -- what follows the length of a frame is within the limits
 pub length-inside : {P : Type 0} (f : FrameAt P) → cached_in f.body ≤ most_cached → (least_length ≤ length (inside f)) × (length (inside f) ≤ most_length)

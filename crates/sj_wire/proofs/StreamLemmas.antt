@@ -9,8 +9,8 @@ use Rattle.sj_table.specs.declared.table.Spot.{Spot}
 use Rattle.sj_wire.specs.declared.kind.Kind.{Kind}
 use Rattle.sj_wire.specs.declared.refusal.WireRefusal.{WireRefusal}
 use Rattle.sj_wire.specs.declared.refusal.WireRefusal.TheVariants as refusals
-use Rattle.sj_wire.specs.Kinds.{kind_named}
-use Rattle.sj_wire.specs.Limits.{version, least_length, most_length}
+use Rattle.sj_wire.specs.Kinds.{kind_in}
+use Rattle.sj_wire.specs.Limits.{version, open_version, least_length, most_length}
 use Rattle.sj_wire.specs.Front.{Front, Cut, Refused, Whole, of_fields, of_kind, whole_of, sized_of, front_of}
 use Rattle.sj_wire.specs.Lawful.{IsSpelt, on_wire}
 use Rattle.sj_wire.specs.Spelling.{spelling}
@@ -53,7 +53,7 @@ kind_refused (Some k) bytes r s e = fields_refused (frame_at k bytes) r s e
 
 whole_refused : (bytes r s : List ℕ) {w : WireRefusal} → whole_of bytes r ≡ Refused w → whole_of bytes s ≡ Refused w
 unfolding whole_of
-whole_refused bytes r s e = same_test (eqb (slice_index bytes 0) version) (Refused refusals.Version) (kind_refused (kind_named (slice_index bytes 1)) (drop 2 bytes) r s) e
+whole_refused bytes r s e = same_test (eqb (slice_index bytes 0) version || eqb (slice_index bytes 0) open_version) (Refused refusals.Version) (kind_refused (kind_in (slice_index bytes 0) (slice_index bytes 1)) (drop 2 bytes) r s) e
 
 sized_refused : (size : ℕ) (bytes more : List ℕ) {w : WireRefusal} → sized_of size bytes ≡ Refused w → sized_of size (bytes ++ more) ≡ Refused w
 unfolding sized_of

@@ -2,12 +2,12 @@
 use Rattle.std.specs.Prelude.{◌≡◌, pos, [], ◌∷◌, None, refl}
 use Rattle.sj_base.specs.declared.EndId.{EndId}
 use Rattle.sj_base.specs.declared.Msg.TheVariants as msgs
-use Rattle.sj_rules.specs.Record.{Carry, Fin, Give}
+use Rattle.sj_rules.specs.Record.{Carry, Fin, Give, Open}
 use Rattle.sj_table.specs.declared.table.Spot.{Spot}
 use Rattle.sj_wire.specs.Limits.{nowhere}
 use Rattle.sj_wire.specs.declared.refusal.WireRefusal.TheVariants as refusals
 use Rattle.sj_wire.specs.Front.{Cut, Refused, Whole, front_of, sized_of, whole_of}
-use Rattle.sj_wire.specs.Reading.{frame_at, limited_at, number_at, end_id_at, flag_at, body_at, carry_at, fin_at, counts_at, give_at, message_at, messages_at, value_at, resend_at}
+use Rattle.sj_wire.specs.Reading.{frame_at, limited_at, number_at, end_id_at, flag_at, body_at, carry_at, fin_at, counts_at, give_at, open_at, message_at, messages_at, value_at, resend_at}
 use Rattle.sj_wire.specs.Spelling.{number, end_id, message, flag, resend, counts, body, inside, framed, spelling}
 
 abbrev first : EndId
@@ -28,6 +28,10 @@ a_give : spelling {P = Spot} (record { clock = 13; body = Give (record { id = fi
 unfolding spelling framed inside body counts resend flag end_id number
 a_give = refl
 
+an_open : spelling {P = Spot} (record { clock = 1; body = Open 64 }) ≡ 0 ∷ 0 ∷ 0 ∷ 15 ∷ 2 ∷ 7 ∷ 0 ∷ 0 ∷ 0 ∷ 0 ∷ 0 ∷ 0 ∷ 0 ∷ 1 ∷ 0 ∷ 0 ∷ 0 ∷ 64 ∷ 1 ∷ []
+unfolding spelling framed inside body end_id number
+an_open = refl
+
 length_14 : front_of (0 ∷ 0 ∷ 0 ∷ 14 ∷ 1 ∷ 1 ∷ 0 ∷ 0 ∷ 0 ∷ 0 ∷ 0 ∷ 0 ∷ 0 ∷ 1 ∷ 0 ∷ 0 ∷ 0 ∷ 0 ∷ 1 ∷ 0 ∷ 0 ∷ 0 ∷ 0 ∷ 0 ∷ 0 ∷ 0 ∷ 0 ∷ 0 ∷ 0 ∷ 0 ∷ 0 ∷ 0 ∷ 0 ∷ 0 ∷ 0 ∷ 0 ∷ 0 ∷ 0 ∷ 0 ∷ 5 ∷ []) ≡ Refused refusals.Length
 unfolding front_of sized_of whole_of frame_at limited_at number_at end_id_at flag_at body_at carry_at fin_at counts_at give_at message_at messages_at value_at resend_at
 length_14 = refl
@@ -43,6 +47,22 @@ version_3 = refl
 kind_9 : front_of (0 ∷ 0 ∷ 0 ∷ 36 ∷ 1 ∷ 9 ∷ 0 ∷ 0 ∷ 0 ∷ 0 ∷ 0 ∷ 0 ∷ 0 ∷ 1 ∷ 0 ∷ 0 ∷ 0 ∷ 0 ∷ 1 ∷ 0 ∷ 0 ∷ 0 ∷ 0 ∷ 0 ∷ 0 ∷ 0 ∷ 0 ∷ 0 ∷ 0 ∷ 0 ∷ 0 ∷ 0 ∷ 0 ∷ 0 ∷ 0 ∷ 0 ∷ 0 ∷ 0 ∷ 0 ∷ 5 ∷ []) ≡ Refused refusals.Kind
 unfolding front_of sized_of whole_of frame_at limited_at number_at end_id_at flag_at body_at carry_at fin_at counts_at give_at message_at messages_at value_at resend_at
 kind_9 = refl
+
+a_carry_of_version_2 : front_of (0 ∷ 0 ∷ 0 ∷ 36 ∷ 2 ∷ 1 ∷ 0 ∷ 0 ∷ 0 ∷ 0 ∷ 0 ∷ 0 ∷ 0 ∷ 1 ∷ 0 ∷ 0 ∷ 0 ∷ 0 ∷ 1 ∷ 0 ∷ 0 ∷ 0 ∷ 0 ∷ 0 ∷ 0 ∷ 0 ∷ 0 ∷ 0 ∷ 0 ∷ 0 ∷ 0 ∷ 0 ∷ 0 ∷ 0 ∷ 0 ∷ 0 ∷ 0 ∷ 0 ∷ 0 ∷ 5 ∷ []) ≡ Refused refusals.Kind
+unfolding front_of sized_of whole_of frame_at limited_at number_at end_id_at flag_at body_at carry_at fin_at counts_at give_at message_at messages_at value_at resend_at open_at
+a_carry_of_version_2 = refl
+
+an_open_of_version_1 : front_of (0 ∷ 0 ∷ 0 ∷ 15 ∷ 1 ∷ 7 ∷ 0 ∷ 0 ∷ 0 ∷ 0 ∷ 0 ∷ 0 ∷ 0 ∷ 1 ∷ 0 ∷ 0 ∷ 0 ∷ 64 ∷ 1 ∷ []) ≡ Refused refusals.Kind
+unfolding front_of sized_of whole_of frame_at limited_at number_at end_id_at flag_at body_at carry_at fin_at counts_at give_at message_at messages_at value_at resend_at open_at
+an_open_of_version_1 = refl
+
+an_open_for_side_0 : front_of (0 ∷ 0 ∷ 0 ∷ 15 ∷ 2 ∷ 7 ∷ 0 ∷ 0 ∷ 0 ∷ 0 ∷ 0 ∷ 0 ∷ 0 ∷ 1 ∷ 0 ∷ 0 ∷ 0 ∷ 64 ∷ 0 ∷ []) ≡ Refused refusals.Value
+unfolding front_of sized_of whole_of frame_at limited_at number_at end_id_at flag_at body_at carry_at fin_at counts_at give_at message_at messages_at value_at resend_at open_at
+an_open_for_side_0 = refl
+
+an_open_is_read : front_of (0 ∷ 0 ∷ 0 ∷ 15 ∷ 2 ∷ 7 ∷ 0 ∷ 0 ∷ 0 ∷ 0 ∷ 0 ∷ 0 ∷ 0 ∷ 1 ∷ 0 ∷ 0 ∷ 0 ∷ 64 ∷ 1 ∷ []) ≡ Whole (record { clock = 1; body = Open 64 }) []
+unfolding front_of sized_of whole_of frame_at limited_at number_at end_id_at flag_at body_at carry_at fin_at counts_at give_at message_at messages_at value_at resend_at open_at
+an_open_is_read = refl
 
 side_2 : front_of (0 ∷ 0 ∷ 0 ∷ 23 ∷ 1 ∷ 2 ∷ 0 ∷ 0 ∷ 0 ∷ 0 ∷ 0 ∷ 0 ∷ 0 ∷ 3 ∷ 0 ∷ 0 ∷ 0 ∷ 0 ∷ 2 ∷ 0 ∷ 0 ∷ 0 ∷ 0 ∷ 0 ∷ 0 ∷ 0 ∷ 1 ∷ []) ≡ Refused refusals.Value
 unfolding front_of sized_of whole_of frame_at limited_at number_at end_id_at flag_at body_at carry_at fin_at counts_at give_at message_at messages_at value_at resend_at

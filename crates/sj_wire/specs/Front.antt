@@ -3,8 +3,8 @@ use Rattle.std.specs.Prelude.{ℕ, ◌||◌, ◌==◌, if◌then◌else◌, nat_
 use Rattle.byteorder.specs.Endian.{big_number}
 use Rattle.sj_rules.specs.Frames.{FrameAt}
 use Rattle.sj_table.specs.declared.table.Spot.{Spot}
-use Rattle.sj_wire.specs.Kinds.{kind_named}
-use Rattle.sj_wire.specs.Limits.{version, least_length, most_length}
+use Rattle.sj_wire.specs.Kinds.{kind_in}
+use Rattle.sj_wire.specs.Limits.{version, open_version, least_length, most_length}
 use Rattle.sj_wire.specs.Reading.{frame_at}
 use Rattle.sj_wire.specs.declared.kind.Kind.{Kind}
 use Rattle.sj_wire.specs.declared.refusal.WireRefusal.{WireRefusal}
@@ -28,7 +28,10 @@ of_kind (Some k) fields behind = of_fields (frame_at k fields) behind
 
 -- the version is tested before the kind
 unfoldable pub whole_of : List ℕ → (behind : List ℕ) → Front
-whole_of bytes behind = if slice_index bytes 0 == version then of_kind (kind_named (slice_index bytes 1)) (drop 2 bytes) behind else Refused refusals.Version
+whole_of bytes behind =
+    if slice_index bytes 0 == version || slice_index bytes 0 == open_version
+    then of_kind (kind_in (slice_index bytes 0) (slice_index bytes 1)) (drop 2 bytes) behind
+    else Refused refusals.Version
 
 -- a length that no frame has is refused at once, all else once the whole frame is there
 unfoldable pub sized_of : (size : ℕ) → List ℕ → Front

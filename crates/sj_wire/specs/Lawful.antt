@@ -5,7 +5,7 @@ use Rattle.std.specs.List.{AllByRecursion}
 use Rattle.sj_base.specs.declared.Msg.{Msg}
 use Rattle.sj_base.specs.declared.Msg.TheVariants as msgs
 use Rattle.sj_rules.specs.Frames.{FrameAt}
-use Rattle.sj_rules.specs.Record.{BodyAt, Carry, Fin, Claim, Signal, Ack, Give}
+use Rattle.sj_rules.specs.Record.{BodyAt, Carry, Fin, Claim, Signal, Ack, Give, Open}
 use Rattle.sj_table.specs.declared.table.Spot.{Spot}
 use Rattle.sj_wire.specs.Kinds.{end_in}
 use Rattle.sj_wire.specs.Limits.{last_clock, limit_of_conns, limit_of_messages, limit_of_hops, most_cached, nowhere}
@@ -29,6 +29,7 @@ IsWithin (Ack e conn) = conn ≤ limit_of_conns
 IsWithin (Give e r) =
     (e.conn ≤ limit_of_conns) × (e.sent ≤ limit_of_messages) × (e.taken ≤ limit_of_messages) × (e.hops ≤ limit_of_hops)
     × AllByRecursion HasSide e.cache × IfSome r (λ n. (e.base ≤ n) × (n ≤ e.sent))
+IsWithin (Open sess) = ⊤
 
 -- the frame keeps the limits of the wire
 abbrev pub IsLawful : {P : Type 0} → FrameAt P → Type 0
@@ -42,6 +43,7 @@ cached_in (Claim e) = 0
 cached_in (Signal e conn party taken) = 0
 cached_in (Ack e conn) = 0
 cached_in (Give e r) = length e.cache
+cached_in (Open sess) = 0
 
 -- what the type of a message gives
 abbrev pub IsTypedMessage : Msg → Type 0
@@ -60,6 +62,7 @@ IsTypedBody (Claim e) = ⊤
 IsTypedBody (Signal e conn party taken) = party < 2 ^ 16
 IsTypedBody (Ack e conn) = ⊤
 IsTypedBody (Give e r) = (e.peer < 2 ^ 16) × (e.base + length e.cache ≡ e.sent) × AllByRecursion IsTypedMessage e.cache
+IsTypedBody (Open sess) = ⊤
 
 -- the same body, with no place
 abbrev pub without_place : {P : Type 0} → BodyAt P → BodyAt Spot
@@ -69,6 +72,7 @@ without_place (Claim e) = Claim e
 without_place (Signal e conn party taken) = Signal e conn party taken
 without_place (Ack e conn) = Ack e conn
 without_place (Give e r) = Give (record { id = e.id; place = nowhere; conn = e.conn; peer = e.peer; sent = e.sent; taken = e.taken; base = e.base; cache = e.cache; hops = e.hops }) r
+without_place (Open sess) = Open sess
 
 -- what is read of a frame: all but the place
 abbrev pub on_wire : {P : Type 0} → FrameAt P → FrameAt Spot

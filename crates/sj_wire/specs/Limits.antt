@@ -4,11 +4,15 @@ use Rattle.sj_table.specs.declared.table.Spot.{Spot}
 pub use Rattle.sj_rules.specs.Limits.{limit_of_conns, limit_of_messages, limit_of_hops}
 use Rattle.sj_rules.specs.Limits.{clock_end}
 
--- the version byte
+-- the version byte of all kinds but Open
 abbrev pub version : ℕ
 version = 1
 
--- what follows the length of a frame is at least this long: a Claim
+-- and that of an Open
+abbrev pub open_version : ℕ
+open_version = 2
+
+-- what follows the length of a frame is at least this long: a Claim, an Open
 abbrev pub least_length : ℕ
 least_length = 15
 

@@ -6,7 +6,7 @@ use Rattle.sj_base.specs.declared.EndId.{EndId}
 use Rattle.sj_base.specs.declared.Msg.{Msg}
 use Rattle.sj_base.specs.declared.Msg.TheVariants as msgs
 use Rattle.sj_rules.specs.Frames.{FrameAt}
-use Rattle.sj_rules.specs.Record.{EndAt, BodyAt, Carry, Fin, Claim, Signal, Ack, Give}
+use Rattle.sj_rules.specs.Record.{EndAt, BodyAt, Carry, Fin, Claim, Signal, Ack, Give, Open}
 use Rattle.sj_table.specs.declared.table.Spot.{Spot}
 use Rattle.sj_wire.specs.Tags.{int_tag, bool_tag, text_tag, label_tag, more_tag, sess_tag}
 use Rattle.sj_wire.specs.Limits.{last_clock, nowhere, limit_of_conns, limit_of_messages, limit_of_hops, most_cached}
@@ -138,6 +138,10 @@ give_at e bytes = do
   r ← resend_at (end.0.sent - count.0) end.0.sent cache.1
   Some (Give (record end.0 { base = end.0.sent - count.0; cache = cache.0 }) r.0, r.1)
 
+-- it has none, and is for side 1
+unfoldable pub open_at : EndId → List ℕ → Field (BodyAt Spot)
+open_at e bytes = if e.side == 1 then Some (Open e.sess, bytes) else None
+
 -- the fields of a body of that kind
 unfoldable pub body_at : Kind → EndId → List ℕ → Field (BodyAt Spot)
 body_at kinds.Carry e bytes = carry_at e bytes
@@ -146,6 +150,7 @@ body_at kinds.Claim e bytes = Some (Claim e, bytes)
 body_at kinds.Signal e bytes = signal_at e bytes
 body_at kinds.Ack e bytes = ack_at e bytes
 body_at kinds.Give e bytes = give_at e bytes
+body_at kinds.Open e bytes = open_at e bytes
 
 -- what stands behind the kind of a frame, all of it
 unfoldable pub frame_at : Kind → List ℕ → Option (FrameAt Spot)

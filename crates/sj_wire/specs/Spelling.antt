@@ -7,10 +7,9 @@ use Rattle.sj_base.specs.declared.EndId.{EndId}
 use Rattle.sj_base.specs.declared.Msg.{Msg}
 use Rattle.sj_base.specs.declared.Msg.TheVariants as msgs
 use Rattle.sj_rules.specs.Frames.{FrameAt}
-use Rattle.sj_rules.specs.Record.{EndAt, BodyAt, Carry, Fin, Claim, Signal, Ack, Give}
+use Rattle.sj_rules.specs.Record.{EndAt, BodyAt, Carry, Fin, Claim, Signal, Ack, Give, Open}
 use Rattle.sj_wire.specs.Tags.{int_tag, bool_tag, text_tag, label_tag, more_tag, sess_tag}
-use Rattle.sj_wire.specs.Kinds.{code, end_in, kind_of}
-use Rattle.sj_wire.specs.Limits.{version}
+use Rattle.sj_wire.specs.Kinds.{code, end_in, kind_of, version_of}
 
 -- a number in so many bytes, the highest first
 unfoldable pub number : ℕ → ℕ → List ℕ
@@ -51,10 +50,11 @@ body (Claim e) = []
 body (Signal e conn party taken) = number 4 conn ++ (number 2 party ++ number 4 taken)
 body (Ack e conn) = number 4 conn
 body (Give e r) = counts e ++ (number 4 (length e.cache) ++ (flat_map message e.cache ++ resend r))
+body (Open sess) = []
 
 -- what follows the length of a frame
 unfoldable pub inside : {P : Type 0} → FrameAt P → List ℕ
-inside f = number 1 version ++ (number 1 (code (kind_of f.body)) ++ (number 8 f.clock ++ (end_id (end_in f.body) ++ body f.body)))
+inside f = number 1 (version_of (kind_of f.body)) ++ (number 1 (code (kind_of f.body)) ++ (number 8 f.clock ++ (end_id (end_in f.body) ++ body f.body)))
 
 -- bytes with their length before them
 unfoldable pub framed : List ℕ → List ℕ

@@ -1,7 +1,7 @@
 //! Bodies, read from the front of bytes.
 ghost use Rattle.std.specs.Prelude.{◌-◌};
 ghost use Rattle.sj_end.specs.Bodies as bodies;
-ghost use Rattle.sj_wire.specs.Reading.{ack_at, body_at, carry_at, fin_at, give_at, resend_at, signal_at};
+ghost use Rattle.sj_wire.specs.Reading.{ack_at, body_at, carry_at, fin_at, give_at, open_at, resend_at, signal_at};
 ghost use Rattle.sj_wire.specs.Reads.{Reads};
 
 use crate::WireRefusal;
@@ -108,6 +108,17 @@ fn give(alloc: Global, id: EndId, bytes: &[u8]) -> Result<(Body, &[u8]), WireRef
     Ok((Body::Give { end, resend }, rest))
 }
 
+/// An Open has no fields, and is for side 1.
+#[tactic(auto, unfolding(crate::specs::Reading::open_at))]
+fn opening(end: EndId, bytes: &[u8]) -> Result<(Body, &[u8]), WireRefusal>
+    ensures { Reads (λ x. (bodies.body_at x.0, x.1.now)) result (open_at end bytes.now) }
+{
+    if end.side != 1 {
+        return Err(WireRefusal::Value);
+    }
+    Ok((Body::Open { sess: end.sess }, bytes))
+}
+
 /// The fields of a body of that kind, for that end.
 #[tactic(auto, unfolding(crate::specs::Reading::body_at))]
 pub(crate) fn body(
@@ -125,5 +136,6 @@ pub(crate) fn body(
         Kind::Signal => signal(end, bytes),
         Kind::Ack => ack(end, bytes),
         Kind::Give => give(alloc, end, bytes),
+        Kind::Open => opening(end, bytes),
     }
 }

@@ -14,7 +14,7 @@ ghost use Rattle.sj_wire.specs.declared.refusal.EncodeRefusal.TheVariants as ref
 
 use crate::EncodeRefusal;
 use crate::kind::Kind;
-use crate::limits::{MOST_CACHED, VERSION};
+use crate::limits::MOST_CACHED;
 use crate::writing::{put_end_id, put_message, put_resend, put_u8, put_u16, put_u32, put_u64};
 use byteorder::{BigEndian, ByteOrder};
 use sj_base::{EndId, Msg};
@@ -99,6 +99,7 @@ fn put_body(out: &mut Vec<u8>, body: &Body) -> Result<(), AllocError>
         }
         Body::Ack { conn, .. } => put_u32(out, *conn),
         Body::Give { end, resend } => put_give(out, end, *resend),
+        Body::Open { .. } => Ok(()),
     }
 }
 
@@ -108,8 +109,9 @@ fn put_inside(out: &mut Vec<u8>, frame: &Frame) -> Result<(), AllocError>
     requires { cached_in (body_at frame.now.body) < 2 ^ 32 }
     ensures { OnOk result (out.new.items ≡ out.old.items ++ inside (frame_at frame.now)) }
 {
-    put_u8(out, VERSION)?;
-    put_u8(out, Kind::of(&frame.body).code())?;
+    let kind = Kind::of(&frame.body);
+    put_u8(out, kind.version())?;
+    put_u8(out, kind.code())?;
     put_u64(out, frame.clock)?;
     put_end_id(out, end_of(&frame.body))?;
     put_body(out, &frame.body)
@@ -123,6 +125,10 @@ pub(crate) fn end_of(body: &Body) -> EndId
         Body::Carry { to, .. } | Body::Fin { to, .. } | Body::Signal { to, .. } => *to,
         Body::Claim { of } | Body::Ack { of, .. } => *of,
         Body::Give { end, .. } => end.id,
+        Body::Open { sess } => EndId {
+            sess: *sess,
+            side: 1,
+        },
     }
 }
 

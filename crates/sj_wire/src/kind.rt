@@ -1,8 +1,9 @@
 //! The kinds of frames.
 ghost use Rattle.std.specs.Prelude.{◌≡◌};
-ghost use Rattle.sj_wire.specs.Kinds.{code, kind_named, kind_of};
+ghost use Rattle.sj_wire.specs.Kinds.{code, kind_in, kind_named, kind_of, version_of};
 ghost use Rattle.sj_end.specs.Bodies.{body_at};
 
+use crate::limits::{OPEN_VERSION, VERSION};
 use sj_end::Body;
 
 #[derive(Clone, Copy)]
@@ -13,11 +14,28 @@ pub(crate) enum Kind {
     Signal,
     Ack,
     Give,
+    Open,
 }
 
 impl Kind {
+    /// The kind of that byte behind that version.
+    pub(crate) fn of_bytes(version: u8, byte: u8) -> Option<Kind>
+        ensures { result ≡ kind_in version byte }
+    {
+        match Kind::named(byte) {
+            None => None,
+            Some(kind) => {
+                if kind.version() == version {
+                    Some(kind)
+                } else {
+                    None
+                }
+            }
+        }
+    }
+
     /// The kind of that byte.
-    pub(crate) fn named(byte: u8) -> Option<Kind>
+    fn named(byte: u8) -> Option<Kind>
         ensures { result ≡ kind_named byte }
     {
         match byte {
@@ -27,6 +45,7 @@ impl Kind {
             4 => Some(Kind::Signal),
             5 => Some(Kind::Ack),
             6 => Some(Kind::Give),
+            7 => Some(Kind::Open),
             _ => None,
         }
     }
@@ -42,6 +61,17 @@ impl Kind {
             Kind::Signal => 4,
             Kind::Ack => 5,
             Kind::Give => 6,
+            Kind::Open => 7,
+        }
+    }
+
+    /// The version of its frames.
+    pub(crate) fn version(self) -> u8
+        ensures { result ≡ version_of self }
+    {
+        match self {
+            Kind::Open => OPEN_VERSION,
+            _ => VERSION,
         }
     }
 
@@ -56,6 +86,7 @@ impl Kind {
             Body::Signal { .. } => Kind::Signal,
             Body::Ack { .. } => Kind::Ack,
             Body::Give { .. } => Kind::Give,
+            Body::Open { .. } => Kind::Open,
         }
     }
 }

@@ -83,6 +83,7 @@ fn is_within(body: &Body) -> bool
         Body::Signal { conn, taken, .. } => *conn <= LIMIT_OF_CONNS && *taken <= LIMIT_OF_MESSAGES,
         Body::Ack { conn, .. } => *conn <= LIMIT_OF_CONNS,
         Body::Give { end, resend } => is_given_within(end, *resend),
+        Body::Open { .. } => true,
     }
 }
 

@@ -1,6 +1,8 @@
 //! The numbers of the wire format.
-/// The version byte.
+/// The version byte of all kinds but Open.
 pub(crate) const VERSION: u8 = 1;
+/// And that of an Open.
+pub(crate) const OPEN_VERSION: u8 = 2;
 /// What follows the length of a frame has at least so many bytes.
 pub(crate) const LEAST_LENGTH: u32 = 15;
 /// And at most so many.

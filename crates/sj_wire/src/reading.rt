@@ -9,7 +9,7 @@ use crate::WireRefusal;
 use crate::bodies::body;
 use crate::fields::{end_id, u64_up_to};
 use crate::kind::Kind;
-use crate::limits::{LAST_CLOCK, LEAST_LENGTH, MOST_LENGTH, VERSION};
+use crate::limits::{LAST_CLOCK, LEAST_LENGTH, MOST_LENGTH, OPEN_VERSION, VERSION};
 use byteorder::{BigEndian, ByteOrder};
 use sj_end::Frame;
 use std::alloc::Global;
@@ -36,10 +36,11 @@ fn whole(alloc: Global, bytes: &[u8], size: usize) -> Result<Frame, WireRefusal>
     ensures { MeetsWhole result (whole_of (take size bytes.now) (drop size bytes.now)) (drop size bytes.now) }
 {
     let inside = &bytes[..size];
-    if inside[0] != VERSION {
+    let version = inside[0];
+    if version != VERSION && version != OPEN_VERSION {
         return Err(WireRefusal::Version);
     }
-    match Kind::named(inside[1]) {
+    match Kind::of_bytes(version, inside[1]) {
         None => Err(WireRefusal::Kind),
         Some(kind) => frame_of(alloc, kind, &inside[2..]),
     }

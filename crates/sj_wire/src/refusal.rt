@@ -32,10 +32,10 @@ pub enum WireRefusal {
     /// No frame has that length.
     #[error("length")]
     Length,
-    /// The version isn't 1.
+    /// The version isn't 1 or 2.
     #[error("version")]
     Version,
-    /// No kind of frame has that byte.
+    /// No kind of frame of that version has that byte.
     #[error("kind")]
     Kind,
     /// The fields aren't those of a frame of that kind, or don't fill it.

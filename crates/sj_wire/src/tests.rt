@@ -42,6 +42,9 @@ const GIVE: [u8; 39] = [
     0, 1, 1, 0, 0, 0, 0, 0,
 ];
 
+// Clock 1, for end 64.1.
+const OPEN: [u8; 19] = [0, 0, 0, 15, 2, 7, 0, 0, 0, 0, 0, 0, 0, 1, 0, 0, 0, 64, 1];
+
 // A Give with two messages sent and the second cached, to be sent again from the first.
 const LOW_RESEND: [u8; 52] = [
     0, 0, 0, 48, 1, 6, 0, 0, 0, 0, 0, 0, 0, 13, 0, 0, 0, 0, 1, 0, 0, 0, 1, 0, 0, 0, 0, 0, 2, 0, 0,
@@ -130,6 +133,12 @@ fn frames_have_their_spellings(rt: HostRuntime) -> Result<(), Fail> {
         body: Body::Give { end, resend: None },
     };
     assert_eq!(rt; encode(alloc, &give)?.as_slice(), GIVE.as_slice());
+    let opening = Frame {
+        clock: 1,
+        body: Body::Open { sess: 64 },
+    };
+    assert!(rt; is_lawful(&opening));
+    assert_eq!(rt; encode(alloc, &opening)?.as_slice(), OPEN.as_slice());
     Ok(())
 }
 
@@ -172,12 +181,13 @@ fn spellings_are_read_as_their_frames(rt: HostRuntime) {
         Some((5, Note::Ack { of: END, conn: 1 }))
     );
     assert_eq!(rt; noted(alloc, &GIVE), Some((13, give)));
+    assert_eq!(rt; noted(alloc, &OPEN), Some((1, Note::Open { sess: 64 })));
 }
 
 #[test]
 fn what_is_no_frame_is_refused(rt: HostRuntime) -> Result<(), Fail> {
     let alloc = rt.alloc();
-    let rows: [(&[u8], usize, u8, WireRefusal, &str); 16] = [
+    let rows: [(&[u8], usize, u8, WireRefusal, &str); 22] = [
         (&CARRY, 3, 14, WireRefusal::Length, "a length of 14"),
         (
             &TOO_LONG,
@@ -187,7 +197,13 @@ fn what_is_no_frame_is_refused(rt: HostRuntime) -> Result<(), Fail> {
             "a length of 2,097,153",
         ),
         (&CARRY, 4, 0, WireRefusal::Version, "version 0"),
-        (&CARRY, 4, 2, WireRefusal::Version, "version 2"),
+        (&CARRY, 4, 3, WireRefusal::Version, "version 3"),
+        (&OPEN, 4, 3, WireRefusal::Version, "an Open of version 3"),
+        (&CARRY, 4, 2, WireRefusal::Kind, "a Carry of version 2"),
+        (&OPEN, 4, 1, WireRefusal::Kind, "an Open of version 1"),
+        (&OPEN, 5, 3, WireRefusal::Kind, "a Claim of version 2"),
+        (&OPEN, 3, 14, WireRefusal::Length, "an Open of 14 bytes"),
+        (&OPEN, 18, 0, WireRefusal::Value, "an Open for side 0"),
         (&CARRY, 5, 0, WireRefusal::Kind, "kind 0"),
         (&CARRY, 5, 7, WireRefusal::Kind, "kind 7"),
         (&CARRY, 5, 9, WireRefusal::Kind, "kind 9"),
@@ -241,13 +257,14 @@ fn what_is_no_frame_is_refused(rt: HostRuntime) -> Result<(), Fail> {
 #[test]
 fn a_frame_comes_at_its_last_byte(rt: HostRuntime) -> Result<(), Fail> {
     let alloc = rt.alloc();
-    let frames: [(&[u8], &str); 6] = [
+    let frames: [(&[u8], &str); 7] = [
         (&CARRY, "Carry"),
         (&FIN, "Fin"),
         (&CLAIM, "Claim"),
         (&SIGNAL, "Signal"),
         (&ACK, "Ack"),
         (&GIVE, "Give"),
+        (&OPEN, "Open"),
     ];
     for (bytes, kind) in frames {
         let mut decoder = Decoder::new(alloc);
@@ -278,7 +295,7 @@ fn two_carries_come_out_of_one_piece(rt: HostRuntime) -> Result<(), Fail> {
 fn a_refusal_is_answered_again(rt: HostRuntime) -> Result<(), Fail> {
     let alloc = rt.alloc();
     let mut decoder = Decoder::new(alloc);
-    decoder.feed(&changed(alloc, &CARRY, 4, 2)?)?;
+    decoder.feed(&changed(alloc, &CARRY, 4, 3)?)?;
     for _ in 0..3 {
         assert!(rt; matches!(decoder.next(), Err(WireRefusal::Version)));
         decoder.feed(&CARRY)?;

@@ -27,14 +27,14 @@ module _ {P : Type 0} (IsOver : P → Type 0) (x y : PlainSide P) (s : Side P) (
 
   -- the end is closed, where all is taken: it stays until the other end's Fin
   abbrev pub CloseAtHeld : Type 0
-  CloseAtHeld = (pace : Pace) (b : ℕ) (h : HeldAt P) (ro rl : List (BodyAt P)) → IsOver y.place → untaken_of x y ≡ [] →
+  CloseAtHeld = (pace : Pace) (b : ℕ) (h : HeldAt P) (ro rl : List (BodyAt P)) → y.offered ≡ false → IsOver y.place → untaken_of x y ≡ [] →
       IsSound IsOver pace x y s (side_of id place (held b h) ro rl) →
       (h.fin ≡ false) × IsSound IsOver pace x y (with_more pace s (Fin s.id h.end.conn h.end.sent ∷ [])) (side_of id place (closed b h.end) ro rl)
       ⊎ (h.fin ≡ true) × (pace ≡ level) × (rl ≡ []) × IsSound IsOver pace x y (with_more pace s (Fin s.id h.end.conn h.end.sent ∷ [])) (side_of id place gone ro [])
 
   -- the end is parked, to be sent on
   abbrev pub ParkAtHeld : Type 0
-  ParkAtHeld = (pace : Pace) (b : ℕ) (h : HeldAt P) (ro rl : List (BodyAt P)) →
+  ParkAtHeld = (pace : Pace) (b : ℕ) (h : HeldAt P) (ro rl : List (BodyAt P)) → y.offered ≡ false →
       IsSound IsOver pace x y s (side_of id place (held b h) ro rl) →
       IsSound IsOver pace x (plain_parked y) s (side_of id place (parked b (record h.end { hops = h.end.hops + 1 })) ro rl)
 

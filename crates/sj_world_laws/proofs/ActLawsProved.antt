@@ -54,7 +54,7 @@ module _ {P : Type 0} (IsOver : P → Type 0) (x y : PlainSide P) (s : Side P) (
 
   -- a delegation, of the end that goes
   pub park_law : ParkAtHeld IsOver x y s id place
-  park_law pace b h ro rl sound = parks_back IsOver pace x y s.id id s.place place s.seat s.old s.live ro rl low b h sound
+  park_law pace b h ro rl accepted sound = parks_back IsOver pace x y s.id id s.place place s.seat s.old s.live ro rl low b h accepted sound
 
   -- the take of an end, of that end
   pub take_end_law : TakeAtParked IsOver x y s id place
@@ -66,14 +66,14 @@ module _ {P : Type 0} (IsOver : P → Type 0) (x y : PlainSide P) (s : Side P) (
 
   -- a close
   pub close_law : CloseAtHeld IsOver x y s id place
-  close_law pace b h ro rl over none sound = by h.fin refl
+  close_law pace b h ro rl accepted over none sound = by h.fin refl
     where
       noted : h.fin ≡ true → IsSound IsOver pace x y (with_more pace s (fin_of s.id h.end)) (side_of id place gone ro rl)
       noted k = more_is pace y (side_of id place gone ro rl) (fin_of s.id h.end) (closes_noted_back IsOver pace x y s.id id s.place place s.seat s.old s.live ro rl low b h over none k sound)
 
       by : (k : Bool) → h.fin ≡ k → (h.fin ≡ false) × IsSound IsOver pace x y (with_more pace s (fin_of s.id h.end)) (side_of id place (closed b h.end) ro rl)
           ⊎ (h.fin ≡ true) × (pace ≡ level) × (rl ≡ []) × IsSound IsOver pace x y (with_more pace s (fin_of s.id h.end)) (side_of id place gone ro [])
-      by false k = inl (k, more_is pace y (side_of id place (closed b h.end) ro rl) (fin_of s.id h.end) (closes_back IsOver pace x y s.id id s.place place s.seat s.old s.live ro rl low b h over none k sound))
+      by false k = inl (k, more_is pace y (side_of id place (closed b h.end) ro rl) (fin_of s.id h.end) (closes_back IsOver pace x y s.id id s.place place s.seat s.old s.live ro rl low b h accepted over none k sound))
       by true k =
           let g : IsSound IsOver pace x y (with_more pace s (fin_of s.id h.end)) (side_of id place gone ro rl) = noted k in
           let empty : rl ≡ [] = gone_empty pace id x y s.seat rl g.there.comes in

@@ -7,7 +7,7 @@ use Rattle.sj_base.specs.declared.Msg.TheVariants as msgs
 use Rattle.sj_rules.specs.PlainChanges.{CountsHold, plain_with_hop, waits_of}
 use Rattle.sj_rules.specs.PlainSteps.{NamesEnds, PlainGives, PlainTakes}
 use Rattle.sj_rules.specs.Record.{HeldAt, Held, other_end}
-use Rattle.sj_rules.specs.Node.{Play, Want, ended, local, sends, delegates, takes, closes}
+use Rattle.sj_rules.specs.Node.{Play, Want, ended, local, sends, delegates, takes, closes, requests, accepts}
 use Rattle.sj_rules.specs.World.{WorldAt, Act, happens}
 use Rattle.sj_rules.specs.Seat.{held}
 use Rattle.sj_rules.specs.PlainSide.{PlainSide, PlainAt, CountsFit, IsFront}
@@ -19,7 +19,7 @@ use Rattle.sj_world_laws.proofs.SendKeeps.{send_keeps, take_keeps, local_keeps}
 use Rattle.sj_world_laws.proofs.CloseKeeps.{close_keeps}
 use Rattle.sj_world_laws.proofs.DelegateKeeps.{delegate_keeps}
 use Rattle.sj_world_laws.proofs.TakeEndKeeps.{take_end_keeps}
-use Rattle.sj_world_laws.proofs.StepLemmas.{Needs, needs_met, one_after}
+use Rattle.sj_world_laws.proofs.StepLemmas.{OpensNothing, Needs, needs_met, one_after}
 use Rattle.sj_world_laws.proofs.FlowLemmas.{untaken_front}
 
 module _ {P Q : Type 0} (IsOver : P → Type 0) (binds : Q → EndId → Bool) (play : Play P Q) (pick : ℕ → ℕ → ℕ) (w : WorldAt P Q) (plain : PlainAt P Q) (kept : IsKept IsOver binds w plain) (p : ℕ) where
@@ -48,32 +48,34 @@ module _ {P Q : Type 0} (IsOver : P → Type 0) (binds : Q → EndId → Bool) (
     keeps_take : (c : EndId) (place : P) (m : Msg) (rest : List Msg) (h : HeldAt P) (next : P) → play.wants (plain.programs p) ≡ takes c place → (w.nodes p).main c ≡ Some (Held h) → h.untaken ≡ m ∷ rest →
         PlainTakes IsOver binds play plain p plain' c place m next → Keeps
     keeps_take c place (msgs.Sess sess side keeper) rest h next wants main u f =
-        take_end_keeps IsOver binds play pick w plain plain' kept p fresh c (record { sess = sess; side = side }) keeper place next h rest wants main u (laws_at plain counts c f.below) f (λ low. laws_at plain' counts' (record { sess = sess; side = side }) low)
+        take_end_keeps IsOver binds play pick w plain plain' kept p fresh c (record { sess = sess; side = side }) keeper place next h rest wants main u (laws_at plain counts c f.below) f laws counts'
     keeps_take c place (msgs.Int n) rest h next wants main u f = take_keeps IsOver binds play pick w plain plain' kept p fresh c place (msgs.Int n) rest next h (laws_at plain counts c f.below) wants main u f
     keeps_take c place (msgs.Bool n) rest h next wants main u f = take_keeps IsOver binds play pick w plain plain' kept p fresh c place (msgs.Bool n) rest next h (laws_at plain counts c f.below) wants main u f
     keeps_take c place (msgs.Text n) rest h next wants main u f = take_keeps IsOver binds play pick w plain plain' kept p fresh c place (msgs.Text n) rest next h (laws_at plain counts c f.below) wants main u f
     keeps_take c place (msgs.Label n) rest h next wants main u f = take_keeps IsOver binds play pick w plain plain' kept p fresh c place (msgs.Label n) rest next h (laws_at plain counts c f.below) wants main u f
     keeps_take c place (msgs.More n) rest h next wants main u f = take_keeps IsOver binds play pick w plain plain' kept p fresh c place (msgs.More n) rest next h (laws_at plain counts c f.below) wants main u f
 
-    keeps_for : (want : Want P) → play.wants (plain.programs p) ≡ want → NamesEnds want → Needs (w.nodes p) want → PlainGives IsOver binds play plain p plain' want → Keeps
-    keeps_for ended e low n g = absurd n
-    keeps_for local e low n g = local_keeps IsOver binds play pick w plain plain' kept p fresh e g
-    keeps_for (sends c msg) e low n g = send_keeps IsOver binds play pick w plain plain' kept p fresh c msg g.0 n.0 (laws_at plain counts c low) counts e n.1 g.1
-    keeps_for (delegates c d) e low n g =
+    keeps_for : (want : Want P) → OpensNothing want → play.wants (plain.programs p) ≡ want → NamesEnds want → Needs (w.nodes p) want → PlainGives IsOver binds play plain p plain' want → Keeps
+    keeps_for ended o e low n g = absurd n
+    keeps_for local o e low n g = local_keeps IsOver binds play pick w plain plain' kept p fresh e g
+    keeps_for (sends c msg) o e low n g = send_keeps IsOver binds play pick w plain plain' kept p fresh c msg g.0 n.0 (laws_at plain counts c low) counts e n.1 g.1
+    keeps_for (delegates c d) o e low n g =
         delegate_keeps IsOver binds play pick w plain plain' kept p fresh c d g.0 n.0 n.1 e n.2 n.3 counts g.1 (laws_at plain counts d low.1) (laws_at (plain_with_hop plain d) g.1.counts c low.0)
-    keeps_for (takes c place) e low n g =
+    keeps_for (takes c place) o e low n g =
         let f : (later : List Msg) × (waits_of plain c ≡ n.1 ∷ later) = first_waits c n.0 n.1 n.2 low n.3 n.4 in
         let same : g.0 ≡ n.1 = cc (g.2, f.1) in
         keeps_take c place n.1 n.2 n.0 g.3.0 e n.3 n.4 (subst (λ m. PlainTakes IsOver binds play plain p plain' c place m g.3.0) same g.3.1)
-    keeps_for (closes c) e low n g = close_keeps IsOver binds play pick w plain plain' kept p fresh c n.0 e n.1 g (laws_at plain counts c low)
+    keeps_for (requests place to) o e low n g = absurd o
+    keeps_for (accepts place from) o e low n g = absurd o
+    keeps_for (closes c) o e low n g = close_keeps IsOver binds play pick w plain plain' kept p fresh c n.0 e n.1 g (laws_at plain counts c low)
 
     -- an act for which the records are there fits, and keeps the invariant with the plain step
-    pub act_fits : NamesEnds (play.wants (plain.programs p)) → Needs (w.nodes p) (play.wants (plain.programs p)) → PlainGives IsOver binds play plain p plain' (play.wants (plain.programs p)) → Keeps
-    act_fits low needs gives = keeps_for (play.wants (plain.programs p)) refl low needs gives
+    pub act_fits : OpensNothing (play.wants (plain.programs p)) → NamesEnds (play.wants (plain.programs p)) → Needs (w.nodes p) (play.wants (plain.programs p)) → PlainGives IsOver binds play plain p plain' (play.wants (plain.programs p)) → Keeps
+    act_fits old low needs gives = keeps_for (play.wants (plain.programs p)) old refl low needs gives
 
   -- an act that happens keeps the invariant with the plain step
   pub act_keeps : (v : WorldAt P Q) → happens play pick w p Act ≡ Some v → (plain' : PlainAt P Q) → CountsHold plain → CountsHold plain' → ((x y : PlainSide P) → CountsFit x y → CountsFit y x → ActLaws IsOver x y) →
-      NamesEnds (play.wants (plain.programs p)) → PlainGives IsOver binds play plain p plain' (play.wants (plain.programs p)) → IsKept IsOver binds v plain'
-  act_keeps v step plain' counts counts' laws low gives =
+      OpensNothing (play.wants (plain.programs p)) → NamesEnds (play.wants (plain.programs p)) → PlainGives IsOver binds play plain p plain' (play.wants (plain.programs p)) → IsKept IsOver binds v plain'
+  act_keeps v step plain' counts counts' laws old low gives =
       let met : (play.is_worn (plain.programs p) ≡ false) × Needs (w.nodes p) (play.wants (plain.programs p)) = met_by v step in
-      one_after IsOver binds play pick w v plain' p Act step (act_fits plain' counts counts' laws met.0 low met.1 gives)
+      one_after IsOver binds play pick w v plain' p Act step (act_fits plain' counts counts' laws met.0 old low met.1 gives)

@@ -3,7 +3,7 @@ use Rattle.std.proofs.Common.{◌≡◌, ℕ, suc, ◌+◌, ◌<◌, ◌≤◌, 
 use Rattle.std.specs.Prelude.{Bool, true, false, Option, Some, None, ◌==◌, nat_lt}
 use Rattle.std.proofs.lemmas.Bool.{le-leb, eq-eqb}
 use Rattle.sj_base.specs.declared.EndId.{EndId}
-use Rattle.sj_rules.specs.Record.{EndAt, BodyAt, Carry, Fin, Claim, Signal, Ack, Give}
+use Rattle.sj_rules.specs.Record.{EndAt, BodyAt, Carry, Fin, Claim, Signal, Ack, Give, Open}
 use Rattle.sj_rules.specs.Limits.{limit_of_conns}
 use Rattle.sj_rules.specs.Rows.{IsPick, trimmed_end, end_with_peer, signal_fits, crossing_body, acked_body}
 use Rattle.sj_rules.specs.Seat.{Seat, held, parked, claimed, signalled, given, closed, gone, conn_of, sender_of, side_of}
@@ -29,6 +29,7 @@ ack_in to conn over d c rest (Fin f g n ∷ bs) e a = absurd (cc e)
 ack_in to conn over d c rest (Claim f ∷ bs) e a = absurd a
 ack_in to conn over d c rest (Signal f g q t ∷ bs) e a = absurd a
 ack_in to conn over d c rest (Ack f g ∷ bs) e a = absurd a
+ack_in to conn over d c rest (Open f ∷ bs) e a = absurd a
 ack_in to conn over d c rest (Give f g ∷ bs) e a = absurd a
 
 pub only_ack : {P : Type 0} → (to : EndId) (conn : ℕ) (over : Bool) (d : EndId) (c : ℕ) (rest : List (BodyAt P)) →
@@ -164,7 +165,7 @@ module _ {P : Type 0} (IsOver : P → Type 0) (x y : PlainSide P) (counts : Coun
       let went : EndAt P = end_with_peer er er.peer in
       let only : OnlyAck er.conn c rest = only_ack rid er.conn (is_over s) d c rest sound.there.old in
       let leads : LeadsBy by_ack s (signalled b u er dr) = ahead_numbers by_ack s b u er dr sound.numbers in
-      let fits : Agrees rid er y × (er.place ≡ y.place) × (er.base ≤ x.taken) = sound.there.fits in
+      let fits : Agrees rid er y × (er.base ≤ x.taken) = sound.there.fits in
       let hops : conn_of s + pending s ≤ x.hops + y.hops = sound.hops in
       let few : er.conn < limit_of_conns = omega (arith, hops, leads.0, counts.hops) in
       let e1 : (c == er.conn) ≡ true = eq-eqb c er.conn only.conn_is in
@@ -176,7 +177,7 @@ module _ {P : Type 0} (IsOver : P → Type 0) (x y : PlainSide P) (counts : Coun
           numbers = level_numbers IsOver x y sid rid b u er went dr refl None s (by_any s b u er dr sound.numbers) leads.2;
           hops = (omega (arith, hops), omega (arith, hops, leads.0));
           there = record {
-            fits = (record { name = fits.0.name; hops = fits.0.hops; sent = fits.0.sent; taken = fits.0.taken; cache = fits.0.cache }, fits.1, fits.2);
+            fits = (record { name = fits.0.name; hops = fits.0.hops; sent = fits.0.sent; taken = fits.0.taken; cache = fits.0.cache }, fits.1);
             place = sound.there.place;
             resend = sound.there.resend;
             comes = level_comes IsOver x y sid rid b u er went dr refl er.base None s rl (omega arith) leads.3
@@ -204,18 +205,18 @@ module _ {P : Type 0} (IsOver : P → Type 0) (pick : ℕ → ℕ → ℕ) (pick
       let went : EndAt P = trimmed_end pick (end_with_peer er p) k in
       let only : OnlySignal rid er.conn (sender_of s) x.taken c p k rest = only_signal rid er.conn (sender_of s) x.taken (is_over s) d c p k rest sound.there.old in
       let leads : LeadsBy by_signal s (signalled b u er dr) = ahead_numbers by_signal s b u er dr sound.numbers in
-      let fits : Agrees rid er y × (er.place ≡ y.place) × (er.base ≤ x.taken) = sound.there.fits in
+      let fits : Agrees rid er y × (er.base ≤ x.taken) = sound.there.fits in
       let hops : conn_of s + pending s ≤ x.hops + y.hops = sound.hops in
       let passes : signal_fits er er.peer c k ≡ true = signal_passes er c k only.conn_is
-      (omega (arith, hops, leads.0, counts.hops)) (omega (arith, fits.2, only.taken_is)) (omega (arith, only.taken_is, counts.fewer, fits.0.sent)) in
-      let base : pick er.base k ≤ x.taken = omega (arith, (picks er.base k).1, fits.2, only.taken_is) in (
+      (omega (arith, hops, leads.0, counts.hops)) (omega (arith, fits.1, only.taken_is)) (omega (arith, only.taken_is, counts.fewer, fits.0.sent)) in
+      let base : pick er.base k ≤ x.taken = omega (arith, (picks er.base k).1, fits.1, only.taken_is) in (
         simp passes,
         record {
           others = sound.others;
           numbers = level_numbers IsOver x y sid rid b u er went dr refl (Some k) s sound.numbers only.party_is;
           hops = (omega (arith, hops), omega (arith, hops, leads.0));
           there = record {
-            fits = (trim_agrees pick picks rid er y p k fits.0, fits.1, base);
+            fits = (trim_agrees pick picks rid er y p k fits.0, base);
             place = sound.there.place;
             resend = sound.there.resend;
             comes = signal_comes IsOver x y sid rid b u er went dr refl x.taken (Some k) s rl base refl sound.there.comes;
@@ -224,7 +225,7 @@ module _ {P : Type 0} (IsOver : P → Type 0) (pick : ℕ → ℕ → ℕ) (pick
           back = record {
             fits = sound.back.fits;
             place = sound.back.place;
-            resend = only.taken_is;
+            resend = (only.taken_is, omega arith);
             comes = signal_back IsOver x y sid rid b u er went dr refl k s sl sound.back.comes;
             old = level_old IsOver x y sid rid b u er went dr refl by_signal (Some k) s so sound.back.old;
           };

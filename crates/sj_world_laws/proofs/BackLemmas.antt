@@ -38,14 +38,14 @@ module _ {P : Type 0} (IsOver : P → Type 0) (pace : Pace) (x y : PlainSide P) 
       (λ k. takes IsOver (turned pace) y x rid sid pr ps a h s ro rl so sl m rest place front k) sound
 
   -- r closes, and is Closed
-  pub closes_back : (a : ℕ) (h : HeldAt P) → IsOver y.place → untaken_of x y ≡ [] → h.fin ≡ false →
+  pub closes_back : (a : ℕ) (h : HeldAt P) → y.offered ≡ false → IsOver y.place → untaken_of x y ≡ [] → h.fin ≡ false →
       IsSound IsOver pace x y (side_of sid ps s so sl) (side_of rid pr (held a h) ro rl) →
       IsSound IsOver pace x y
       (side_of sid ps s (old_after (turned pace) s so (fin_of sid h.end)) (live_after (turned pace) s sl (fin_of sid h.end)))
       (side_of rid pr (closed a h.end) ro rl)
-  closes_back a h over none fin sound =
+  closes_back a h accepted over none fin sound =
       otherwise IsOver pace pace x y x y (side_of sid ps s so sl) (side_of rid pr (held a h) ro rl) _ _ low refl
-      (λ k. closes IsOver (turned pace) y x rid sid pr ps a h s ro rl so sl over none fin k) sound
+      (λ k. closes IsOver (turned pace) y x rid sid pr ps a h s ro rl so sl accepted over none fin k) sound
 
   -- r closes, and is gone
   pub closes_noted_back : (a : ℕ) (h : HeldAt P) → IsOver y.place → untaken_of x y ≡ [] → h.fin ≡ true →
@@ -58,12 +58,12 @@ module _ {P : Type 0} (IsOver : P → Type 0) (pace : Pace) (x y : PlainSide P) 
       (λ k. closes_noted IsOver y x rid sid pr ps a h ro rl so sl over none (turned pace) s fin k) sound
 
   -- r is parked
-  pub parks_back : (a : ℕ) (h : HeldAt P) →
+  pub parks_back : (a : ℕ) (h : HeldAt P) → y.offered ≡ false →
       IsSound IsOver pace x y (side_of sid ps s so sl) (side_of rid pr (held a h) ro rl) →
       IsSound IsOver pace x (plain_parked y) (side_of sid ps s so sl) (side_of rid pr (parked a (parked_end h.end)) ro rl)
-  parks_back a h sound =
+  parks_back a h accepted sound =
       otherwise IsOver pace pace x y x (plain_parked y) (side_of sid ps s so sl) (side_of rid pr (held a h) ro rl) _ _ low refl
-      (λ k. parks IsOver (turned pace) y x rid sid pr ps a h s ro rl so sl k) sound
+      (λ k. parks IsOver (turned pace) y x rid sid pr ps a h s ro rl so sl accepted k) sound
 
   -- the session message of r is taken
   pub claims_back : (a t : ℕ) (d : EndAt P) →

@@ -3,7 +3,7 @@ use Rattle.std.proofs.Common.{◌≡◌, ℕ, ◌<◌, List, [], ◌∷◌, ◌+
 use Rattle.std.specs.Prelude.{Bool, true, false, ◌&&◌, ◌==◌, if◌then◌else◌, Some}
 use Rattle.std.proofs.lemmas.Bool.{eq-eqb}
 use Rattle.sj_base.specs.declared.EndId.{EndId}
-use Rattle.sj_rules.specs.Record.{EndAt, BodyAt, Claim, Mail, Expected}
+use Rattle.sj_rules.specs.Record.{EndAt, BodyAt, Claim, Mail, Expected, other_end}
 use Rattle.sj_rules.specs.Node.{NodeAt, with_main}
 use Rattle.sj_rules.specs.World.{WorldAt}
 use Rattle.sj_rules.specs.Seat.{parked, claimed, Side, side_of}
@@ -23,7 +23,7 @@ use Rattle.sj_world_laws.proofs.ActLemmas.{OwnTables, acted, other_tabled}
 module _ {P Q : Type 0} (IsOver : P → Type 0) (w : WorldAt P Q) (clock : ℕ) (id : EndId) (low : id.side < 2) (x y : PlainSide P) (s : Side P) (place : P) (old live : List (BodyAt P)) (pace : Pace)
     (b u : ℕ) (e : EndAt P) (m : NodeAt P Q) (mains : (d : EndId) → m.main d ≡ (w.nodes u).main d) (olds : (d : EndId) → m.old d ≡ (w.nodes u).old d)
     (shows : Shows w s.seat (side_of id place (parked b e) old live)) (shown : Shows w (parked b e) s)
-    (sound : IsSound IsOver pace x y s (side_of id place (parked b e) old live)) where
+    (others : s.id ≡ other_end id) where
   -- the tables with the new Expected record
   abbrev claiming : NodeAt P Q
   claiming = with_main id (Some (Expected b place [])) m
@@ -52,6 +52,6 @@ module _ {P Q : Type 0} (IsOver : P → Type 0) (w : WorldAt P Q) (clock : ℕ) 
       Outcome IsOver w (with_posts (with_tables w u clock claiming) u clock claims_posted) id pace x y s (side_of id place (claimed b u e) old live)
   claims_end sound1 =
       let own : OwnTables id (w.nodes u) claiming = record { mains = λ d i. rw i (mains d); olds = λ d i. olds d } in
-      acted IsOver w u clock claiming claims_posted id low own (refl, tt) (low, tt) pace x y s (side_of id place (claimed b u e) old live) refl sound.others sound1 claimed_shows
-      (posts_apart (with_tables w u clock claiming) u clock claims_posted (claimed b u e) s (rw sound.others (not_other id low), tt)
-      (shown_beside _ (parked b e) (claimed b u e) s refl (other_tabled IsOver w u clock claiming claims_posted id low own (parked b e) s sound.others shown)))
+      acted IsOver w u clock claiming claims_posted id low own (refl, tt) (low, tt) pace x y s (side_of id place (claimed b u e) old live) refl others sound1 claimed_shows
+      (posts_apart (with_tables w u clock claiming) u clock claims_posted (claimed b u e) s (rw others (not_other id low), tt)
+      (shown_beside _ (parked b e) (claimed b u e) s refl (other_tabled IsOver w u clock claiming claims_posted id low own (parked b e) s others shown)))

@@ -83,7 +83,7 @@ module _ {P Q : Type 0} (IsOver : P → Type 0) (binds : Q → EndId → Bool) (
 
   -- the end is closed
   pub close_keeps : ActLaws IsOver (plain.sides (other_end c)) (plain.sides c) → (v : WorldAt P Q) × (happens play pick w p Act ≡ Some v) × IsKept IsOver binds v plain'
-  close_keeps laws = by (laws.close s c r.place facts.below here.pace p h r.old r.live facts.is_over facts.all_taken here.sound)
+  close_keeps laws = by (laws.close s c r.place facts.below here.pace p h r.old r.live facts.accepted facts.is_over facts.all_taken here.sound)
     where
       s : Side P
       s = kept.sessions.sides (other_end c)
@@ -101,7 +101,7 @@ module _ {P Q : Type 0} (IsOver : P → Type 0) (binds : Q → EndId → Bool) (
       wants1 = ap play.wants (kept.programs p) ∙ wants
 
       over : play.is_over h.end.place ≡ true
-      over = ap play.is_over here.sound.there.fits.1 ∙ facts.over
+      over = ap play.is_over (here.sound.there.fits.1 facts.accepted) ∙ facts.over
 
       by : (h.fin ≡ false) × IsSound IsOver here.pace (plain.sides (other_end c)) (plain.sides c) (with_more here.pace s (Fin s.id h.end.conn h.end.sent ∷ [])) (side_of c r.place (closed p h.end) r.old r.live)
           ⊎ (h.fin ≡ true) × (here.pace ≡ level) × (r.live ≡ []) × IsSound IsOver here.pace (plain.sides (other_end c)) (plain.sides c) (with_more here.pace s (Fin s.id h.end.conn h.end.sent ∷ [])) (side_of c r.place gone r.old []) →

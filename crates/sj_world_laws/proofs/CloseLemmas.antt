@@ -130,12 +130,12 @@ module _ {P : Type 0} (x y : PlainSide P) (sid rid : EndId) (a : ℕ) (h : HeldA
 
 -- s closes where no fin was noted: it stays as Closed, and its Fin goes to r
 pub closes : {P : Type 0} → (IsOver : P → Type 0) (pace : Pace) (x y : PlainSide P) (sid rid : EndId) (ps pr : P) (a : ℕ) (h : HeldAt P) (r : Seat P)
-    (so sl ro rl : List (BodyAt P)) → IsOver x.place → untaken_of y x ≡ [] → h.fin ≡ false →
+    (so sl ro rl : List (BodyAt P)) → x.offered ≡ false → IsOver x.place → untaken_of y x ≡ [] → h.fin ≡ false →
     IsSound IsOver pace x y (side_of sid ps (held a h) so sl) (side_of rid pr r ro rl) →
     IsSound IsOver pace x y (side_of sid ps (closed a h.end) so sl)
     (side_of rid pr r (old_after pace r ro (fin_of rid h.end)) (live_after pace r rl (fin_of rid h.end)))
-closes {P} IsOver pace x y sid rid ps pr a h r so sl ro rl over none fin sound =
-    let fits : Agrees sid h.end x × (h.end.place ≡ x.place) × (h.end.base ≤ y.taken) = sound.back.fits in
+closes {P} IsOver pace x y sid rid ps pr a h r so sl ro rl accepted over none fin sound =
+    let fits : Agrees sid h.end x × (x.offered ≡ false → h.end.place ≡ x.place) × (h.end.base ≤ y.taken) = sound.back.fits in
     let met : Meets pace r = held_meets pace a h r sound.numbers in
     record {
       others = sound.others;
@@ -149,7 +149,7 @@ closes {P} IsOver pace x y sid rid ps pr a h r so sl ro rl over none fin sound =
         old = old_closed x y sid rid a h fits.0.sent pace r ro met sound.numbers sound.there.old;
       };
       back = record {
-        fits = (fits.0, fits.1, fits.2, over, none);
+        fits = (fits.0, fits.1 accepted, fits.2, over, none);
         place = sound.back.place;
         resend = sound.back.resend;
         comes = back_closed x y sid rid a h fits.0.sent pace r sl met none fin sound.back.comes;
@@ -164,7 +164,7 @@ module _ {P : Type 0} (IsOver : P → Type 0) (x y : PlainSide P) (sid rid : End
       IsSound IsOver level x y (side_of sid ps (held a h) so sl) (side_of rid pr (closed b e) ro rl) →
       IsSound IsOver level x y (side_of sid ps gone so sl) (side_of rid pr (closed b e) ro (rl ++ fin_of rid h.end))
   closes_last b e empty sound =
-      let fits : Agrees sid h.end x × (h.end.place ≡ x.place) × (h.end.base ≤ y.taken) = sound.back.fits in
+      let fits : Agrees sid h.end x × (x.offered ≡ false → h.end.place ≡ x.place) × (h.end.base ≤ y.taken) = sound.back.fits in
       let hops : (h.end.conn + 0 + 0 ≤ x.hops + y.hops) × (e.conn + 0 + 0 ≤ x.hops + y.hops) = sound.hops in
       record {
         others = sound.others;
@@ -186,7 +186,7 @@ module _ {P : Type 0} (IsOver : P → Type 0) (x y : PlainSide P) (sid rid : End
       IsSound IsOver pace x y (side_of sid ps gone so sl)
       (side_of rid pr r (old_after pace r ro (fin_of rid h.end)) (live_after pace r rl (fin_of rid h.end)))
   closes_noted pace r fin sound =
-      let fits : Agrees sid h.end x × (h.end.place ≡ x.place) × (h.end.base ≤ y.taken) = sound.back.fits in
+      let fits : Agrees sid h.end x × (x.offered ≡ false → h.end.place ≡ x.place) × (h.end.base ≤ y.taken) = sound.back.fits in
       let only : (b : ℕ) × (e : EndAt P) × (pace ≡ level) × (r ≡ closed b e) × (sl ≡ []) =
       only_closed x y sid rid a h fits.0.sent pace r sl (held_meets pace a h r sound.numbers) fin sound.numbers sound.back.comes in
       rw (only.2, only.3) (closes_last only.0 only.1 only.4 (rw (only.2, only.3) at sound))

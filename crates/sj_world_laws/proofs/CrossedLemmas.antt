@@ -3,7 +3,7 @@ use Rattle.std.proofs.Common.{◌≡◌, ℕ, ◌<◌, List, [], ◌∷◌, ◌+
 use Rattle.std.specs.Prelude.{Bool, true, false, ⊤, Some, None}
 use Rattle.std.proofs.lemmas.Bool.{eq-eqb}
 use Rattle.sj_base.specs.declared.EndId.{EndId}
-use Rattle.sj_rules.specs.Record.{EndAt, BodyAt, Carry, Fin, Claim, Signal, Ack, Give, Signalled}
+use Rattle.sj_rules.specs.Record.{EndAt, BodyAt, Carry, Fin, Claim, Signal, Ack, Give, Open, Signalled}
 use Rattle.sj_rules.specs.Rows.{crossing_body, acked_body, trimmed_end, end_with_peer}
 use Rattle.sj_rules.specs.Node.{Play}
 use Rattle.sj_rules.specs.Frames.{FrameAt}
@@ -27,6 +27,7 @@ IsMark (Carry to conn number taken msg) = ⊥
 IsMark (Fin to conn number) = ⊥
 IsMark (Claim of) = ⊥
 IsMark (Give e resend) = ⊥
+IsMark (Open sess) = ⊥
 
 -- a Signal or an Ack isn't dropped
 mark_dropped : {P : Type 0} → (to : EndId) (conn : ℕ) (over : Bool) (g : BodyAt P) (rest dropped : List (BodyAt P)) → IsMark g →
@@ -37,6 +38,7 @@ mark_dropped {P} to conn over g rest (Fin d c n ∷ bs) m e a = let i : ◌≡�
 mark_dropped to conn over g rest (Claim f ∷ bs) m e a = a
 mark_dropped to conn over g rest (Signal f h q t ∷ bs) m e a = a
 mark_dropped to conn over g rest (Ack f h ∷ bs) m e a = a
+mark_dropped to conn over g rest (Open f ∷ bs) m e a = a
 mark_dropped to conn over g rest (Give f h ∷ bs) m e a = a
 
 -- so it is no frame where nothing else may come

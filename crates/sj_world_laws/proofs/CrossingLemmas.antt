@@ -4,7 +4,7 @@ use Rattle.std.specs.Prelude.{Bool, true, false, Some, ◌==◌, nat_lt, nat_le}
 use Rattle.std.proofs.lemmas.Bool.{le-leb, eq-eqb}
 use Rattle.std.proofs.lemmas.List.{drop-drop}
 use Rattle.sj_base.specs.declared.EndId.{EndId}
-use Rattle.sj_rules.specs.Record.{EndAt, BodyAt, Carry, Fin, Claim, Signal, Ack, Give}
+use Rattle.sj_rules.specs.Record.{EndAt, BodyAt, Carry, Fin, Claim, Signal, Ack, Give, Open}
 use Rattle.sj_rules.specs.Limits.{limit_of_conns}
 use Rattle.sj_rules.specs.Rows.{IsPick, trimmed_end, end_with_peer, signal_fits, crossing_body}
 use Rattle.sj_rules.specs.Seat.{signalled, given, side_of}
@@ -30,6 +30,7 @@ only_in to conn party taken over d c p k rest (Fin f g n ∷ bs) e a = absurd (c
 only_in to conn party taken over d c p k rest (Claim f ∷ bs) e a = absurd a
 only_in to conn party taken over d c p k rest (Signal f g q t ∷ bs) e a = absurd a
 only_in to conn party taken over d c p k rest (Ack f g ∷ bs) e a = absurd a
+only_in to conn party taken over d c p k rest (Open f ∷ bs) e a = absurd a
 only_in to conn party taken over d c p k rest (Give f g ∷ bs) e a = absurd a
 
 pub only_signal : {P : Type 0} → (to : EndId) (conn party taken : ℕ) (over : Bool) (d : EndId) (c p k : ℕ) (rest : List (BodyAt P)) →
@@ -70,12 +71,12 @@ module _ {P : Type 0} (IsOver : P → Type 0) (pick : ℕ → ℕ → ℕ) (pick
       (side_of rid pr (given b u (trimmed_end pick (end_with_peer er p) k) (Some k) dr) rest rl)
   crosses_first sid rid ps pr a t b u es er ds dr so sl rl rest d c p k sound =
       let only : OnlySignal rid er.conn t x.taken c p k rest = only_signal rid er.conn t x.taken false d c p k rest sound.there.old in
-      let fits : Agrees rid er y × (er.place ≡ y.place) × (er.base ≤ x.taken) = sound.there.fits in
+      let fits : Agrees rid er y × (er.base ≤ x.taken) = sound.there.fits in
       let numbers : (es.conn ≡ er.conn) × (es.peer ≡ b) × (er.peer ≡ a) = sound.numbers in
       let hops : (es.conn + 1 + 1 ≤ x.hops + y.hops) × (er.conn + 1 + 1 ≤ x.hops + y.hops) = sound.hops in
       let passes : signal_fits er er.peer c k ≡ true = signal_passes er c k only.conn_is
-      (omega (arith, hops.1, counts.hops)) (omega (arith, fits.2, only.taken_is)) (omega (arith, only.taken_is, counts.fewer, fits.0.sent)) in
-      let base : pick er.base k ≤ x.taken = omega (arith, (picks er.base k).1, fits.2, only.taken_is) in
+      (omega (arith, hops.1, counts.hops)) (omega (arith, fits.1, only.taken_is)) (omega (arith, only.taken_is, counts.fewer, fits.0.sent)) in
+      let base : pick er.base k ≤ x.taken = omega (arith, (picks er.base k).1, fits.1, only.taken_is) in
       let there : (rl ≡ []) × (dr ≡ []) = sound.there.comes in (
         simp passes,
         record {
@@ -83,7 +84,7 @@ module _ {P : Type 0} (IsOver : P → Type 0) (pick : ℕ → ℕ → ℕ) (pick
           numbers = (ap (λ n. n + 1) (sym numbers.0), only.party_is);
           hops = omega (arith, hops.1);
           there = record {
-            fits = (trim_agrees pick picks rid er y p k fits.0, fits.1, base);
+            fits = (trim_agrees pick picks rid er y p k fits.0, base);
             place = sound.there.place;
             resend = tt;
             comes = (there.0, there.1);
@@ -92,7 +93,7 @@ module _ {P : Type 0} (IsOver : P → Type 0) (pick : ℕ → ℕ → ℕ) (pick
           back = record {
             fits = sound.back.fits;
             place = sound.back.place;
-            resend = only.taken_is;
+            resend = (only.taken_is, omega arith);
             comes = (sound.back.comes.0, sound.back.comes.1);
             old = sound.back.old;
           };

@@ -106,7 +106,7 @@ module _ {P Q : Type 0} (IsOver : P → Type 0) (binds : Q → EndId → Bool) (
       let r : Side P = kept.sessions.sides d in
       let out : Outcome IsOver w mid d here_it.pace (plain.sides (other_end d)) (plain_parked (plain.sides d)) s parked_side =
       parks IsOver w now d facts.below_it (plain.sides (other_end d)) (plain.sides d) s r.place r.old r.live here_it.pace p g (w.nodes p) (λ e. refl) (λ e. refl) here_it.shows here_it.shown here_it.sound
-      (laws.park s d r.place facts.below_it here_it.pace p g r.old r.live here_it.sound) in
+      (laws.park s d r.place facts.below_it here_it.pace p g r.old r.live facts.accepted_it here_it.sound) in
       goes_on IsOver w mid plain.sides (plain_with_hop plain d).sides kept.sessions d here_it.pace s parked_side facts.below_it
       (subst (λ a. Outcome IsOver w mid d here_it.pace a ((plain_with_hop plain d).sides d) s parked_side) (sym (hopped_else plain d (other_end d) (other_not d facts.below_it)))
       (subst (λ a. Outcome IsOver w mid d here_it.pace (plain.sides (other_end d)) a s parked_side) (sym (hopped_here plain d)) out))
@@ -194,7 +194,7 @@ module _ {P Q : Type 0} (IsOver : P → Type 0) (binds : Q → EndId → Bool) (
       λ e i j. waits_but_other (plain_with_hop plain d) plain' c facts.below plain_else (ap (λ z. z.taken) plain_at) e i j ∙ hopped_waits plain d e in
       let program : node2.program ≡ play.goes (plain.programs p) None = ap (λ z. play.goes z None) (kept.programs p) in (
         after_it,
-        row_is (ap (λ z. play.next z Out (session_message d p)) ((here_held IsOver w plain.sides kept.sessions c facts.below p h main).sound.there.fits.1) ∙ facts.fits),
+        row_is (ap (λ z. play.next z Out (session_message d p)) ((here_held IsOver w plain.sides kept.sessions c facts.below p h main).sound.there.fits.1 facts.accepted) ∙ facts.fits),
         kept_by IsOver binds w after_it plain plain' kept p now node2 (play.goes (plain.programs p) None) facts.proceeds program (λ k. refl) after
             (links_grow_end plain plain' seat_of seat_after kept.linked (other_end c) side (session_message d p) grows same d p refl facts.below_it
             (λ k i. subst (λ z. IsParkedAt k z) here_it.seat_is i) (subst (λ z. IsParkedAt p z) (sym at_d) refl) (λ k i. sym (subst (λ z. IsParkedAt k z) at_d i)) keep)

@@ -1,12 +1,12 @@
 -- A Held end is parked, and its session message is taken.
-use Rattle.std.proofs.Common.{◌≡◌, ℕ, ◌+◌, ◌≤◌, List, ap, refl, arith}
+use Rattle.std.proofs.Common.{false, Some, None, ◌≡◌, ℕ, ◌+◌, ◌≤◌, List, ap, refl, arith}
 use Rattle.sj_base.specs.declared.EndId.{EndId}
 use Rattle.sj_rules.specs.Record.{EndAt, BodyAt, HeldAt}
-use Rattle.sj_rules.specs.Seat.{Seat, held, parked, claimed, side_of}
+use Rattle.sj_rules.specs.Seat.{Seat, held, parked, claimed, signalled, given, side_of}
 use Rattle.sj_rules.specs.PlainSide.{PlainSide}
 use Rattle.sj_rules.specs.Counts.{Agrees, SeatFits}
-use Rattle.sj_rules.specs.Acts.{plain_parked, parked_end}
-use Rattle.sj_rules.specs.Numbers.{Pace, level, by_ack, by_signal, turned, NumbersFit, IsWithinHops}
+use Rattle.sj_rules.specs.Acts.{plain_parked, plain_placed, parked_end}
+use Rattle.sj_rules.specs.Numbers.{Pace, level, ahead, behind, by_ack, by_signal, turned, NumbersFit, IsWithinHops}
 use Rattle.sj_rules.specs.Coming.{Comes, AreOld}
 use Rattle.sj_rules.specs.Invariant.{IsSound}
 use Rattle.sj_world_laws.proofs.AppendLemmas.{Meets, at_level, at_ahead, held_meets}
@@ -52,11 +52,11 @@ module _ {P : Type 0} (IsOver : P → Type 0) (x y : PlainSide P) (sid rid : End
 
 -- s is parked: it counts one hop more, and what was untaken is dropped
 pub parks : {P : Type 0} → (IsOver : P → Type 0) (pace : Pace) (x y : PlainSide P) (sid rid : EndId) (ps pr : P) (a : ℕ) (h : HeldAt P) (r : Seat P)
-    (so sl ro rl : List (BodyAt P)) →
+    (so sl ro rl : List (BodyAt P)) → x.offered ≡ false →
     IsSound IsOver pace x y (side_of sid ps (held a h) so sl) (side_of rid pr r ro rl) →
     IsSound IsOver pace (plain_parked x) y (side_of sid ps (parked a (parked_end h.end)) so sl) (side_of rid pr r ro rl)
-parks IsOver pace x y sid rid ps pr a h r so sl ro rl sound =
-    let fits : Agrees sid h.end x × (h.end.place ≡ x.place) × (h.end.base ≤ y.taken) = sound.back.fits in
+parks IsOver pace x y sid rid ps pr a h r so sl ro rl accepted sound =
+    let fits : Agrees sid h.end x × (x.offered ≡ false → h.end.place ≡ x.place) × (h.end.base ≤ y.taken) = sound.back.fits in
     let met : Meets pace r = held_meets pace a h r sound.numbers in
     record {
       others = sound.others;
@@ -72,7 +72,7 @@ parks IsOver pace x y sid rid ps pr a h r so sl ro rl sound =
       back = record {
         fits = (
           record { name = fits.0.name; hops = ap (λ n. n + 1) fits.0.hops; sent = fits.0.sent; taken = fits.0.taken; cache = fits.0.cache },
-          fits.1,
+          fits.1 accepted,
           fits.2,
         );
         place = sound.back.place;
@@ -127,10 +127,64 @@ claims IsOver pace x y sid rid ps pr a t d r so sl ro rl sound = record {
     old = old_claimed x y sid rid a t d pace r ro sound.numbers sound.there.old;
   };
   back = record {
-    fits = sound.back.fits;
+    fits = (sound.back.fits.0, sound.back.fits.2);
     place = sound.back.place;
     resend = sound.back.resend;
     comes = back_claimed x y sid rid a t d pace r sl sound.numbers sound.back.comes;
     old = old_awaited x y sid rid a t d pace r so sound.back.old;
   };
 }
+
+module _ {P : Type 0} (IsOver : P → Type 0) (x y : PlainSide P) (sid id : EndId) (b u : ℕ) (e : EndAt P) (place : P) where
+  fits_placed : (s : Seat P) → SeatFits IsOver sid y x s → SeatFits IsOver sid (plain_placed y place) x s
+  fits_placed s f = f
+
+  comes_placed : (pace : Pace) (s : Seat P) (live : List (BodyAt P)) → Comes pace id x y s (claimed b u e) live → Comes pace id x (plain_placed y place) s (claimed b u e) live
+  comes_placed (behind by_ack) s live c = c
+  comes_placed (behind by_signal) s live c = c
+  comes_placed level (given a t k None ds) live c = c
+  comes_placed level (given a t k (Some n) ds) live c = c
+  comes_placed level s live c = c
+  comes_placed (ahead z) (given a t k None ds) live c = c
+  comes_placed (ahead z) (given a t k (Some n) ds) live c = c
+  comes_placed (ahead z) s live c = c
+
+  back_placed : (pace : Pace) (s : Seat P) (live : List (BodyAt P)) → Comes pace sid y x (claimed b u e) s live → Comes pace sid (plain_placed y place) x (claimed b u e) s live
+  back_placed (behind by_ack) s live c = c
+  back_placed (behind by_signal) s live c = c
+  back_placed level (signalled a t k ds) live c = c
+  back_placed level s live c = c
+  back_placed (ahead by_ack) s live c = c
+  back_placed (ahead by_signal) s live c = c
+
+  back_old_placed : (pace : Pace) (s : Seat P) (old : List (BodyAt P)) → AreOld pace sid y (claimed b u e) s old → AreOld pace sid (plain_placed y place) (claimed b u e) s old
+  back_old_placed (behind c) s old o = o
+  back_old_placed level s old o = o
+  back_old_placed (ahead by_ack) s old o = o
+  back_old_placed (ahead by_signal) s old o = o
+
+  -- an end that is awaited gets the place of its Expected record
+  pub claimed_placed : (pace : Pace) (ps pr : P) (s : Seat P) (so sl old live : List (BodyAt P)) → IsSound IsOver pace x y (side_of sid ps s so sl) (side_of id pr (claimed b u e) old live) →
+      IsSound IsOver pace x (plain_placed y place) (side_of sid ps s so sl) (side_of id place (claimed b u e) old live)
+  claimed_placed pace ps pr s so sl old live sound = record {
+    others = sound.others;
+    numbers = sound.numbers;
+    hops = sound.hops;
+    there = record {
+      fits = (
+        record { name = sound.there.fits.0.name; hops = sound.there.fits.0.hops; sent = sound.there.fits.0.sent; taken = sound.there.fits.0.taken; cache = sound.there.fits.0.cache },
+        sound.there.fits.1,
+      );
+      place = refl;
+      resend = sound.there.resend;
+      comes = comes_placed pace s live sound.there.comes;
+      old = sound.there.old;
+    };
+    back = record {
+      fits = fits_placed s sound.back.fits;
+      place = sound.back.place;
+      resend = tt;
+      comes = back_placed (turned pace) s sl sound.back.comes;
+      old = back_old_placed (turned pace) s so sound.back.old;
+    };
+  }

@@ -2,7 +2,7 @@
 use Rattle.std.proofs.Common.{◌≡◌, ℕ, ◌<◌, List, [], ◌∷◌, refl, sym, ap, subst, ◌∙◌, inl, inr}
 use Rattle.std.specs.Prelude.{◌⊎◌, Some, None}
 use Rattle.sj_base.specs.declared.EndId.{EndId}
-use Rattle.sj_rules.specs.Record.{EndAt, BodyAt, Carry, Fin, Claim, Signal, Ack, Give, HeldAt, other_end}
+use Rattle.sj_rules.specs.Record.{EndAt, BodyAt, Carry, Fin, Claim, Signal, Ack, Give, Open, HeldAt, other_end}
 use Rattle.sj_rules.specs.Node.{Play}
 use Rattle.sj_rules.specs.Frames.{FrameAt}
 use Rattle.sj_rules.specs.World.{WorldAt}
@@ -53,6 +53,7 @@ kind_of (Claim of) i = absurd i
 kind_of (Signal to conn party taken) i = inr (to, conn, party, taken, refl)
 kind_of (Ack of conn) i = absurd i
 kind_of (Give e resend) i = absurd i
+kind_of (Open sess) i = absurd i
 
 -- a frame of an old number
 old_kind : {P : Type 0} → (b : BodyAt P) → IsStream b → IsPlainBody b ⊎ ((d : EndId) × (c : ℕ) × (p : ℕ) × (k : ℕ) × (b ≡ Signal d c p k)) ⊎ ((d : EndId) × (c : ℕ) × (b ≡ Ack d c))
@@ -62,6 +63,7 @@ old_kind (Claim of) i = absurd i
 old_kind (Signal to conn party taken) i = inr (inl (to, conn, party, taken, refl))
 old_kind (Ack of conn) i = inr (inr (of, conn, refl))
 old_kind (Give e resend) i = absurd i
+old_kind (Open sess) i = absurd i
 
 -- the Signal, with the name and number of the end
 signal_is : {P : Type 0} → (b : BodyAt P) (id : EndId) (n : ℕ) (d : EndId) (c p k : ℕ) → subject_of b ≡ id → number_of b ≡ n → b ≡ Signal d c p k → b ≡ Signal id n p k

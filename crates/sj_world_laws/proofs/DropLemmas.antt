@@ -3,7 +3,7 @@ use Rattle.std.proofs.Common.{◌≡◌, ℕ, List, [], ◌∷◌, ◌++◌, ref
 use Rattle.std.specs.Prelude.{⊤, Bool, false, Some, None}
 use Rattle.std.proofs.lemmas.Bool.{eq-eqb}
 use Rattle.sj_base.specs.declared.EndId.{EndId}
-use Rattle.sj_rules.specs.Record.{EndAt, BodyAt, Carry, Fin, Claim, Signal, Ack, Give, Parked, Signalled}
+use Rattle.sj_rules.specs.Record.{EndAt, BodyAt, Carry, Fin, Claim, Signal, Ack, Give, Open, Parked, Signalled}
 use Rattle.sj_rules.specs.Node.{NodeAt, comes, quietly}
 use Rattle.sj_rules.specs.Seat.{Seat, parked, claimed, signalled, given, gone, side_of}
 use Rattle.sj_rules.specs.PlainSide.{PlainSide}
@@ -28,6 +28,7 @@ conn_under (Signal to conn party taken) = conn
 conn_under (Ack of conn) = conn
 conn_under (Claim of) = 0
 conn_under (Give e resend) = e.conn
+conn_under (Open sess) = 0
 
 -- a mark that begins with neither
 abbrev pub IsNotPlain : {P : Type 0} → List (BodyAt P) → Type 0

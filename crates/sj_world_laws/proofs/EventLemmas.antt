@@ -3,9 +3,11 @@ use Rattle.std.proofs.Common.{◌≡◌, ℕ, ◌-◌, ◌<◌, List, ◌∷◌,
 use Rattle.std.specs.Prelude.{Bool, true, false, ◌&&◌, ◌==◌, ◌↔◌, if◌then◌else◌, Some, None}
 use Rattle.std.proofs.lemmas.Bool.{eqb-true, eqb-false, eq-eqb, ne_eqb}
 use Rattle.sj_base.specs.declared.EndId.{EndId}
-use Rattle.sj_rules.specs.Record.{BodyAt, Carry, Fin, Claim, Signal, Ack, Give, Mail, other_end, is_same_end}
+use Rattle.sj_rules.specs.Record.{BodyAt, Carry, Fin, Claim, Signal, Ack, Give, Open, Mail, other_end, is_same_end}
 use Rattle.sj_rules.specs.Rows.{Worked}
-use Rattle.sj_rules.specs.Node.{Play, NodeAt, comes, at_main, with_number}
+use Rattle.sj_rules.specs.Opened.{is_open}
+use Rattle.sj_rules.proofs.ArrivalLemmas.{comes_unopened}
+use Rattle.sj_rules.specs.Node.{Play, NodeAt, comes, comes_or_opens, at_main, with_number}
 use Rattle.sj_rules.specs.Frames.{FrameAt, is_proper}
 use Rattle.sj_rules.specs.World.{WorldAt, Deliver, happens, after_event, with_lane}
 use Rattle.sj_rules.specs.Seat.{Seat, Side, source_for}
@@ -63,6 +65,7 @@ number_of (Claim of) = 0
 number_of (Signal to conn party taken) = conn
 number_of (Ack of conn) = conn
 number_of (Give e resend) = 0
+number_of (Open sess) = 0
 
 -- a frame goes to its end under its number
 pub goes_under : {P : Type 0} → (b : BodyAt P) → IsStream b → GoesUnder (subject_of b) (number_of b) b
@@ -72,6 +75,7 @@ goes_under (Claim of) i c = absurd i
 goes_under (Signal to conn party taken) i c = rw (same_end to) refl
 goes_under (Ack of conn) i c = rw (same_end of) refl
 goes_under (Give e resend) i c = absurd i
+goes_under (Open sess) i c = absurd i
 
 -- what may be deferred is a frame of a stream
 pub deferrable_stream : {P : Type 0} → (b : BodyAt P) → IsDeferrable b → IsStream b
@@ -81,6 +85,7 @@ deferrable_stream (Claim of) i = absurd i
 deferrable_stream (Signal to conn party taken) i = tt
 deferrable_stream (Ack of conn) i = tt
 deferrable_stream (Give e resend) i = absurd i
+deferrable_stream (Open sess) i = absurd i
 
 -- a frame that meets no old record of its number
 pub comes_to_main : {P Q : Type 0} → (pick : ℕ → ℕ → ℕ) (n : NodeAt P Q) (q : ℕ) (b : BodyAt P) → IsDeferrable b →
@@ -92,10 +97,21 @@ comes_to_main pick n q (Claim of) i e = absurd i
 comes_to_main pick n q (Signal to conn party taken) i e = rw e refl
 comes_to_main pick n q (Ack of conn) i e = absurd i
 comes_to_main pick n q (Give end resend) i e = absurd i
+comes_to_main pick n q (Open sess) i e = absurd i
 
 -- the front frame of the lane from q leads there, where it is within the limits
 abbrev pub LeadsTo : {P Q : Type 0} → Play P Q → (ℕ → ℕ → ℕ) → WorldAt P Q → (q at : ℕ) → WorldAt P Q → Type 0
 LeadsTo {P} {Q} play pick w q at to = (g : FrameAt P) (more : List (FrameAt P)) → w.lanes q at ≡ g ∷ more → is_proper play.parties g ≡ true → happens play pick w at (Deliver q) ≡ Some to
+
+-- what fits a row of an end that is there is no Open
+pub row_unopened : {P Q : Type 0} → (pick : ℕ → ℕ → ℕ) (n : NodeAt P Q) (q : ℕ) (b : BodyAt P) (done : Worked P (NodeAt P Q)) → comes pick n q b ≡ Some done → is_open b ≡ false
+row_unopened pick n q (Carry to conn number taken msg) done e = refl
+row_unopened pick n q (Fin to conn number) done e = refl
+row_unopened pick n q (Claim of) done e = refl
+row_unopened pick n q (Signal to conn party taken) done e = refl
+row_unopened pick n q (Ack of conn) done e = refl
+row_unopened pick n q (Give end resend) done e = refl
+row_unopened pick n q (Open sess) done e = absurd (cc e)
 
 -- it is a step
 pub is_step : {P Q : Type 0} → (play : Play P Q) (pick : ℕ → ℕ → ℕ) (w : WorldAt P Q) (q at : ℕ) (f : FrameAt P) (rest : List (FrameAt P)) (done : Worked P (NodeAt P Q)) →
@@ -104,7 +120,8 @@ pub is_step : {P Q : Type 0} → (play : Play P Q) (pick : ℕ → ℕ → ℕ) 
 is_step play pick w q at f rest done front row g more there proper =
     let same : g ≡ f = cc (front, there) in
     let own : is_proper play.parties f ≡ true = subst (λ x. is_proper play.parties x ≡ true) same proper in
-    rw (front, own, row) refl
+    let plain : comes_or_opens play.blank pick (w.nodes at) q f.body ≡ comes pick (w.nodes at) q f.body = comes_unopened play.blank pick (w.nodes at) q f.body (row_unopened pick (w.nodes at) q f.body done row) in
+    rw (front, own, plain, row) refl
 
 -- parties use and keep the end as before
 abbrev pub IsAlike : {P : Type 0} → Seat P → Seat P → Type 0

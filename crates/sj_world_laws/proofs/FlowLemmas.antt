@@ -6,7 +6,7 @@ use Rattle.std.proofs.lemmas.Bool.{eqb-true, eqb-false, eq-eqb, ne_eqb}
 use Rattle.std.proofs.lemmas.List.Elements.{filter_map-append}
 use Rattle.sj_base.specs.declared.EndId.{EndId}
 use Rattle.sj_base.specs.declared.Msg.{Msg}
-use Rattle.sj_rules.specs.Record.{BodyAt, Carry, Fin, Claim, Signal, Ack, Give, HeldAt, is_same_end}
+use Rattle.sj_rules.specs.Record.{BodyAt, Carry, Fin, Claim, Signal, Ack, Give, Open, HeldAt, is_same_end}
 use Rattle.sj_rules.specs.Seat.{Seat, held, parked, claimed, signalled, given, closed, gone}
 use Rattle.sj_rules.specs.Shown.{goes_to}
 use Rattle.sj_rules.specs.PlainSide.{PlainSide, untaken_of, IsFront}
@@ -44,6 +44,7 @@ unseen_carries id c (Claim of) e = refl
 unseen_carries id c (Signal to conn party taken) e = refl
 unseen_carries id c (Ack of conn) e = refl
 unseen_carries id c (Give g resend) e = refl
+unseen_carries id c (Open sess) e = refl
 
 -- only the frames that go to an end carry for it
 pub carries_seen : {P : Type 0} → (id : EndId) (c : ℕ) (bs : List (BodyAt P)) → carries_under id c bs ≡ carries_under id c (filter (goes_to id c) bs)

@@ -1,10 +1,11 @@
 -- The front frame of a lane always fits a row, and the world is kept by it.
 use Rattle.std.proofs.Common.{◌≡◌, ℕ, ◌<◌, List, [], ◌∷◌, refl, sym, ap, subst, ◌∙◌, arith, inl, inr}
-use Rattle.std.specs.Prelude.{◌⊎◌, Option}
+use Rattle.std.specs.Prelude.{◌⊎◌, false, Option}
 use Rattle.std.specs.List.{AllByRecursion}
 use Rattle.std.proofs.lemmas.Bool.{eq-eqb}
 use Rattle.sj_base.specs.declared.EndId.{EndId}
-use Rattle.sj_rules.specs.Record.{EndAt, BodyAt, Carry, Fin, Claim, Signal, Ack, Give, other_end}
+use Rattle.sj_rules.specs.Record.{EndAt, BodyAt, Carry, Fin, Claim, Signal, Ack, Give, Open, other_end}
+use Rattle.sj_rules.specs.Opened.{is_open}
 use Rattle.sj_rules.specs.Node.{Play}
 use Rattle.sj_rules.specs.Frames.{FrameAt}
 use Rattle.sj_rules.specs.World.{WorldAt}
@@ -25,14 +26,15 @@ use Rattle.sj_world_laws.proofs.DispatchLemmas.{live_delivered, old_delivered}
 use Rattle.sj_world_laws.proofs.ClaimLemmas.{claim_comes_to}
 use Rattle.sj_world_laws.proofs.GiveLemmas.{give_comes_to}
 
--- a frame of a stream, a Claim or a Give
-body_kind : {P : Type 0} → (b : BodyAt P) → IsStream b ⊎ ((d : EndId) × (b ≡ Claim d)) ⊎ ((e : EndAt P) × (resend : Option ℕ) × (b ≡ Give e resend))
-body_kind (Carry to conn number taken msg) = inl tt
-body_kind (Fin to conn number) = inl tt
-body_kind (Claim of) = inr (inl (of, refl))
-body_kind (Signal to conn party taken) = inl tt
-body_kind (Ack of conn) = inl tt
-body_kind (Give e resend) = inr (inr (e, resend, refl))
+-- a frame of a stream, a Claim or a Give, where it is no Open
+body_kind : {P : Type 0} → (b : BodyAt P) → is_open b ≡ false → IsStream b ⊎ ((d : EndId) × (b ≡ Claim d)) ⊎ ((e : EndAt P) × (resend : Option ℕ) × (b ≡ Give e resend))
+body_kind (Carry to conn number taken msg) o = inl tt
+body_kind (Fin to conn number) o = inl tt
+body_kind (Claim of) o = inr (inl (of, refl))
+body_kind (Signal to conn party taken) o = inl tt
+body_kind (Ack of conn) o = inl tt
+body_kind (Give e resend) o = inr (inr (e, resend, refl))
+body_kind (Open sess) o = absurd (cc o)
 
 module _ {P Q : Type 0} (IsOver : P → Type 0) (play : Play P Q) (pick : ℕ → ℕ → ℕ) (w : WorldAt P Q) (q at : ℕ) (f : FrameAt P) (rest : List (FrameAt P)) (front : w.lanes q at ≡ f ∷ rest)
     (id : EndId) (low : id.side < 2) (about : subject_of f.body ≡ id)
@@ -100,8 +102,8 @@ module _ {P Q : Type 0} (IsOver : P → Type 0) (play : Play P Q) (pick : ℕ �
       give_at l.0 l.1 l.2 l.3 l.4 l.5 l.6 l.7 l.8
 
   -- whatever the frame is
-  pub frame_delivered : Delivered IsOver play pick w q at id x y s.seat seat
-  frame_delivered = by (body_kind f.body)
+  pub frame_delivered : is_open f.body ≡ false → Delivered IsOver play pick w q at id x y s.seat seat
+  frame_delivered o = by (body_kind f.body o)
     where
       by : IsStream f.body ⊎ ((d : EndId) × (f.body ≡ Claim d)) ⊎ ((e : EndAt P) × (resend : Option ℕ) × (f.body ≡ Give e resend)) → Delivered IsOver play pick w q at id x y s.seat seat
       by (inl stream) = stream_delivered stream
@@ -109,16 +111,16 @@ module _ {P Q : Type 0} (IsOver : P → Type 0) (play : Play P Q) (pick : ℕ �
       by (inr (inr l)) = give_delivered l.0 l.1 l.2
 
 -- the front frame is about an end
-front_side : {P : Type 0} → (fs : List (FrameAt P)) (f : FrameAt P) (rest : List (FrameAt P)) → fs ≡ f ∷ rest → AllByRecursion (λ b. (subject_of b).side < 2) (bodies fs) → (subject_of f.body).side < 2
+pub front_side : {P : Type 0} → (fs : List (FrameAt P)) (f : FrameAt P) (rest : List (FrameAt P)) → fs ≡ f ∷ rest → AllByRecursion (λ b. (subject_of b).side < 2) (bodies fs) → (subject_of f.body).side < 2
 front_side [] f rest e a = absurd (cc e)
 front_side (g ∷ gs) f rest e a = let i : g ≡ f = cc e in rw i at a.0
 
 -- the front frame of a lane fits a row
 pub front_fits : {P Q : Type 0} → (IsOver : P → Type 0) (play : Play P Q) (pick : ℕ → ℕ → ℕ) (w : WorldAt P Q) (knows : EndId → PlainSide P) (before : Sessions IsOver w knows) →
     ((e : EndId) → e.side < 2 → DeliveryLaws IsOver pick (knows (other_end e)) (knows e)) →
-    (q at : ℕ) (f : FrameAt P) (rest : List (FrameAt P)) → w.lanes q at ≡ f ∷ rest →
+    (q at : ℕ) (f : FrameAt P) (rest : List (FrameAt P)) → w.lanes q at ≡ f ∷ rest → is_open f.body ≡ false →
     ((subject_of f.body).side < 2) × Delivered IsOver play pick w q at (subject_of f.body) (knows (other_end (subject_of f.body))) (knows (subject_of f.body)) (before.sides (other_end (subject_of f.body))).seat (before.sides (subject_of f.body)).seat
-front_fits {P} IsOver play pick w knows before laws q at f rest front =
+front_fits {P} IsOver play pick w knows before laws q at f rest front plain =
     let id : EndId = subject_of f.body in
     let low : id.side < 2 = front_side (w.lanes q at) f rest front (before.proper q at) in
     let r : Side P = before.sides id in
@@ -128,5 +130,5 @@ front_fits {P} IsOver play pick w knows before laws q at f rest front =
       low,
       frame_delivered IsOver play pick w q at f rest front id low refl (knows (other_end id)) (knows id) (laws id low) s r.place r.seat r.old r.live sound.0
           (subst (λ i. Shows w s.seat (side_of i r.place r.seat r.old r.live)) (before.ids id) (before.shows id low)) shown
-          (subst (λ i. IsSound IsOver sound.0 (knows (other_end id)) (knows id) s (side_of i r.place r.seat r.old r.live)) (before.ids id) sound.1),
+          (subst (λ i. IsSound IsOver sound.0 (knows (other_end id)) (knows id) s (side_of i r.place r.seat r.old r.live)) (before.ids id) sound.1) plain,
     )

@@ -148,7 +148,7 @@ module _ {P : Type 0} (IsOver : P → Type 0) (pick : ℕ → ℕ → ℕ) (pick
       (at_held pick h h.end.peer (Carry d c n t m) ≡ Some (record { state = carried pick h t m; posts = [] }))
       × IsSound IsOver pace x y (side_of sid ps s so sl) (side_of rid pr (held b (carried pick h t m)) ro rest)
   carry_held level ro rest c n t m fewer sound =
-      let fits : Agrees rid h.end y × (h.end.place ≡ y.place) × (h.end.base ≤ x.taken) = sound.there.fits in
+      let fits : Agrees rid h.end y × (y.offered ≡ false → h.end.place ≡ y.place) × (h.end.base ≤ x.taken) = sound.there.fits in
       let w : ComesFrom rid x y s h (Carry d c n t m ∷ rest) = from_sender rid x y b h s (Carry d c n t m) rest sound.numbers sound.there.comes in
       let told : (h.fin ≡ false) × (t ≤ x.taken) = carry_told rid x y s h d c n t m rest w in
       let k : (at_held pick h h.end.peer (Carry d c n t m) ≡ Some (record { state = carried pick h t m; posts = [] })) × ComesFrom rid x y s (carried pick h t m) rest =
@@ -169,7 +169,7 @@ module _ {P : Type 0} (IsOver : P → Type 0) (pick : ℕ → ℕ → ℕ) (pick
       (at_held pick h h.end.peer (Fin d c n) ≡ Some (record { state = record h { fin = true }; posts = [] }))
       × IsSound IsOver pace x y (side_of sid ps s so sl) (side_of rid pr (held b (record h { fin = true })) ro rest)
   fin_held level ro rest c n fewer sound =
-      let fits : Agrees rid h.end y × (h.end.place ≡ y.place) × (h.end.base ≤ x.taken) = sound.there.fits in
+      let fits : Agrees rid h.end y × (y.offered ≡ false → h.end.place ≡ y.place) × (h.end.base ≤ x.taken) = sound.there.fits in
       let w : ComesFrom rid x y s h (Fin d c n ∷ rest) = from_sender rid x y b h s (Fin d c n) rest sound.numbers sound.there.comes in
       let l : LastFin rid x y s h c n rest = last_fin rid x y s h d c n rest w in
       let long : length (drop y.taken x.sent) ≡ length x.sent - y.taken = length-drop y.taken x.sent in

@@ -4,7 +4,7 @@ use Rattle.std.specs.Prelude.{Bool, false, Option, Some, None}
 use Rattle.std.proofs.lemmas.List.{drop-drop}
 use Rattle.sj_base.specs.declared.EndId.{EndId}
 use Rattle.sj_base.specs.declared.Msg.{Msg}
-use Rattle.sj_rules.specs.Record.{EndAt, BodyAt, Carry, Fin, Claim, Signal, Ack, Give, HeldAt}
+use Rattle.sj_rules.specs.Record.{EndAt, BodyAt, Carry, Fin, Claim, Signal, Ack, Give, Open, HeldAt}
 use Rattle.sj_rules.specs.Rows.{numbered_carries, cached_from}
 use Rattle.sj_rules.specs.Seat.{Seat, held, parked, claimed, signalled, given, closed, gone, side_of}
 use Rattle.sj_rules.specs.PlainSide.{PlainSide, untaken_of, CountsFit}
@@ -54,6 +54,7 @@ dropped_more to conn over (Fin d c n ∷ bs) more a b = absurd (cc a.2)
 dropped_more to conn over (Claim d ∷ bs) more a b = absurd a
 dropped_more to conn over (Signal d c p k ∷ bs) more a b = absurd a
 dropped_more to conn over (Ack d c ∷ bs) more a b = absurd a
+dropped_more to conn over (Open d ∷ bs) more a b = absurd a
 dropped_more to conn over (Give d r ∷ bs) more a b = absurd a
 
 pub loose_more : {P : Type 0} → (to : EndId) (conn : ℕ) (so more : List (BodyAt P)) →
@@ -143,7 +144,7 @@ module _ {P : Type 0} (x y : PlainSide P) (sid rid : EndId) (at u : ℕ) (er : E
     back_again IsOver (parked a e) sl n f c = loose_again e.conn sl n.0 c.0
     back_again IsOver (claimed a t e) sl n f c = loose_again e.conn sl n.0 c.0
     back_again IsOver (signalled a t e ds) sl n f c = c
-    back_again IsOver (given a t e resend ds) sl n f c = rw c.1 (whole_again e.conn e.base sl n.0 f.2 c.0)
+    back_again IsOver (given a t e resend ds) sl n f c = rw c.1 (whole_again e.conn e.base sl n.0 f.1 c.0)
     back_again IsOver (closed a e) sl n f c =
         let none : drop x.taken y.sent ≡ [] = f.4 in
         rw (c.0, again_is, none)
@@ -184,7 +185,7 @@ module _ {P : Type 0} (x y : PlainSide P) (sid rid : EndId) (at u : ℕ) (er : E
       nothing_more (given d t e q ds) = append-nil sl
       nothing_more (closed d e) = append-nil sl
       nothing_more gone = append-nil sl
-  back_installed IsOver (Some k) s sl a c r n f b = back_again a.0 k r (omega (arith, r, a.1)) c.fewer IsOver s sl n f b
+  back_installed IsOver (Some k) s sl a c r n f b = back_again a.0 k r.0 (omega (arith, r.0, a.1)) c.fewer IsOver s sl n f b
 
 again_dropped : (P : Type 0) (sid : EndId) (e : EndAt P) (resend : Option ℕ) → AreDropped sid e.conn false (again_from sid e resend)
 again_dropped P sid e None = tt
@@ -198,13 +199,13 @@ pub installs_level : {P : Type 0} → (IsOver : P → Type 0) (x y : PlainSide P
     (side_of sid ps s (old_after level s so (again_from sid er resend)) (live_after level s sl (again_from sid er resend)))
     (side_of rid pr (held u (fresh pr er)) ro (dr ++ rl))
 installs_level {P} IsOver x y counts sid rid ps pr s at u er resend dr so sl ro rl sound =
-    let fits : Agrees rid er y × (er.place ≡ y.place) × (er.base ≤ x.taken) = sound.there.fits in
+    let fits : Agrees rid er y × (er.base ≤ x.taken) = sound.there.fits in
     record {
       others = sound.others;
       numbers = numbers_installed x y sid rid at u er pr dr resend s sound.numbers;
       hops = sound.hops;
       there = record {
-        fits = (record { name = fits.0.name; hops = fits.0.hops; sent = fits.0.sent; taken = fits.0.taken; cache = fits.0.cache }, sound.there.place, fits.2);
+        fits = (record { name = fits.0.name; hops = fits.0.hops; sent = fits.0.sent; taken = fits.0.taken; cache = fits.0.cache }, λ unoffered. sound.there.place, fits.1);
         place = sound.there.place;
         resend = sound.there.resend;
         comes = comes_installed x y sid rid at u er pr dr resend s rl sound.there.comes;
@@ -214,7 +215,7 @@ installs_level {P} IsOver x y counts sid rid ps pr s at u er resend dr so sl ro 
         fits = sound.back.fits;
         place = sound.back.place;
         resend = tt;
-        comes = back_installed x y sid rid at u er pr dr IsOver resend s sl (fits.0, fits.2) counts sound.back.resend sound.numbers sound.back.fits sound.back.comes;
+        comes = back_installed x y sid rid at u er pr dr IsOver resend s sl (fits.0, fits.1) counts sound.back.resend sound.numbers sound.back.fits sound.back.comes;
         old = old_installed x y sid rid at u er pr dr resend s so (again_from sid er resend) (again_dropped P sid er resend) sound.numbers sound.back.old;
       };
     }

@@ -49,8 +49,8 @@ module _ {P : Type 0} (IsOver : P → Type 0) (pick : ℕ → ℕ → ℕ) (x y 
   resend_passes : (b : ℕ) (t : Option ℕ) → Agrees rid er y → er.base ≤ x.taken → x.taken ≤ length y.sent → ResendFits x.taken (given b u er t dr) → resend_fits er t ≡ true
   resend_passes b None agrees base fewer r = refl
   resend_passes b (Some k) agrees base fewer r =
-      let a : nat_le er.base k ≡ true = le-leb er.base k (omega (arith, r, base)) in
-      let b : nat_le k er.sent ≡ true = le-leb k er.sent (omega (arith, r, fewer, agrees.sent)) in
+      let a : nat_le er.base k ≡ true = le-leb er.base k (omega (arith, r.0, base)) in
+      let b : nat_le k er.sent ≡ true = le-leb k er.sent (omega (arith, r.0, fewer, agrees.sent)) in
       simp (a, b)
 
   -- from what was worked off
@@ -98,7 +98,7 @@ module _ {P : Type 0} (IsOver : P → Type 0) (pick : ℕ → ℕ → ℕ) (x y 
       record { carries = w.carries; split = ap (λ l. ds ++ l) (append-nil sl) ∙ w.split; are = w.are }
   back_behind (Some k) a t es ds agrees base fewer r conn c =
       let w : ComesWhole {P = P} sid (es.conn + 1) x.taken y.taken y.taken [] (untaken_of y x) (sl ++ again_from sid er (Some k)) =
-      whole_again x y sid rid u u er pr dr agrees k r (omega (arith, r, base)) fewer (es.conn + 1) y.taken sl (sym conn) (omega arith) c.0 in
+      whole_again x y sid rid u u er pr dr agrees k r.0 (omega (arith, r.0, base)) fewer (es.conn + 1) y.taken sl (sym conn) (omega arith) c.0 in
       let none : ds ≡ [] = c.1 in
       record { carries = w.carries; split = ap (λ l. l ++ (sl ++ again_from sid er (Some k))) none ∙ w.split; are = w.are }
 
@@ -107,10 +107,10 @@ module _ {P : Type 0} (IsOver : P → Type 0) (pick : ℕ → ℕ → ℕ) (x y 
       IsSound IsOver (behind by_signal) x y (side_of sid ps (signalled a t es ds) so sl) (side_of rid pr (given b u er q dr) ro rl) →
       InstalledQuietly IsOver pick x y sid rid ps pr (signalled a t es ds) so sl u ro rl er q dr (behind by_signal)
   behind_signalled q a t es ds counts sound =
-      let fits : Agrees rid er y × (er.place ≡ y.place) × (er.base ≤ x.taken) = sound.there.fits in
+      let fits : Agrees rid er y × (er.base ≤ x.taken) = sound.there.fits in
       let none : dr ≡ [] = sound.there.comes.1 in
       let passes : resend_fits er q ≡ true =
-      resend_passes IsOver pick x y sid rid ps pr (signalled a t es ds) so sl u ro rl er q dr b q fits.0 fits.2 counts.fewer sound.back.resend in
+      resend_passes IsOver pick x y sid rid ps pr (signalled a t es ds) so sl u ro rl er q dr b q fits.0 fits.1 counts.fewer sound.back.resend in
       record {
         end = fresh pr er;
         row = rw (passes, none, append-nil);
@@ -119,7 +119,7 @@ module _ {P : Type 0} (IsOver : P → Type 0) (pick : ℕ → ℕ → ℕ) (x y 
           numbers = sound.numbers;
           hops = sound.hops;
           there = record {
-            fits = (placed rid er y pr fits.0, sound.there.place, fits.2);
+            fits = (placed rid er y pr fits.0, λ unoffered. sound.there.place, fits.1);
             place = sound.there.place;
             resend = tt;
             comes = (sound.there.comes.0, (refl, refl));
@@ -129,7 +129,7 @@ module _ {P : Type 0} (IsOver : P → Type 0) (pick : ℕ → ℕ → ℕ) (x y 
             fits = sound.back.fits;
             place = sound.back.place;
             resend = tt;
-            comes = back_behind q a t es ds fits.0 fits.2 counts.fewer sound.back.resend sound.numbers.0 sound.back.comes;
+            comes = back_behind q a t es ds fits.0 fits.1 counts.fewer sound.back.resend sound.numbers.0 sound.back.comes;
             old = sound.back.old;
           };
         };
@@ -141,9 +141,9 @@ module _ {P : Type 0} (IsOver : P → Type 0) (pick : ℕ → ℕ → ℕ) (x y 
       InstalledQuietly IsOver pick x y sid rid ps pr s so sl u ro rl er q dr pace
       ⊎ InstalledBySignal IsOver pick x y sid rid ps pr s so sl u ro rl er q dr pace
   installs picks level s q counts fewer sound =
-      let fits : Agrees rid er y × (er.place ≡ y.place) × (er.base ≤ x.taken) = sound.there.fits in
+      let fits : Agrees rid er y × (er.base ≤ x.taken) = sound.there.fits in
       let passes : resend_fits er q ≡ true =
-      resend_passes IsOver pick x y sid rid ps pr s so sl u ro rl er q dr b q fits.0 fits.2 counts.fewer sound.back.resend in
+      resend_passes IsOver pick x y sid rid ps pr s so sl u ro rl er q dr b q fits.0 fits.1 counts.fewer sound.back.resend in
       by passes (work IsOver pick x y sid rid ps pr s (old_after level s so (again_from sid er q)) (live_after level s sl (again_from sid er q)) u ro rl picks counts fewer dr (fresh pr er)
       (installs_level IsOver x y counts sid rid ps pr s b u er q dr so sl ro rl sound))
     where

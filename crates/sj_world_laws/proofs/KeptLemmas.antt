@@ -4,6 +4,7 @@ use Rattle.std.specs.Prelude.{Bool, true, false, ◌⊎◌, ◌==◌, Some}
 use Rattle.std.proofs.lemmas.Bool.{eqb-true, eqb-false}
 use Rattle.sj_base.specs.declared.EndId.{EndId}
 use Rattle.sj_rules.specs.Record.{other_end}
+use Rattle.sj_rules.specs.Opened.{is_open}
 use Rattle.sj_rules.specs.Node.{Play}
 use Rattle.sj_rules.specs.Frames.{FrameAt, is_proper}
 use Rattle.sj_rules.specs.World.{WorldAt, Deliver, happens}
@@ -55,17 +56,17 @@ module _ {P Q : Type 0} (IsOver : P → Type 0) (binds : Q → EndId → Bool) (
           once = kept.linked.once;
         };
         programs = λ p. d.programs p ∙ kept.programs p;
-        bound = λ p e i. (
-          λ b. (alike e i).0 ∙ (kept.bound p e i).0 b,
-          λ u. (kept.bound p e i).1 (sym (alike e i).0 ∙ u),
+        bound = λ p e i o. (
+          λ b. (alike e i).0 ∙ (kept.bound p e i o).0 b,
+          λ u. (kept.bound p e i o).1 (sym (alike e i).0 ∙ u),
         );
       }
 
   -- every front frame within the limits fits a row, and the world stays kept
   pub delivery_keeps : ((e : EndId) → e.side < 2 → DeliveryLaws IsOver pick (plain.sides (other_end e)) (plain.sides e)) →
-      (q at : ℕ) (f : FrameAt P) (rest : List (FrameAt P)) → w.lanes q at ≡ f ∷ rest → is_proper play.parties f ≡ true →
+      (q at : ℕ) (f : FrameAt P) (rest : List (FrameAt P)) → w.lanes q at ≡ f ∷ rest → is_open f.body ≡ false → is_proper play.parties f ≡ true →
       (v : WorldAt P Q) × (happens play pick w at (Deliver q) ≡ Some v) × IsKept IsOver binds v plain
-  delivery_keeps laws q at f rest front proper =
+  delivery_keeps laws q at f rest front plain_frame proper =
       let d : ((subject_of f.body).side < 2) × Delivered IsOver play pick w q at (subject_of f.body) (plain.sides (other_end (subject_of f.body))) (plain.sides (subject_of f.body)) (kept.sessions.sides (other_end (subject_of f.body))).seat (kept.sessions.sides (subject_of f.body)).seat =
-      front_fits IsOver play pick w plain.sides kept.sessions laws q at f rest front in
+      front_fits IsOver play pick w plain.sides kept.sessions laws q at f rest front plain_frame in
       (d.1.to, d.1.step f rest front proper, delivered_kept q at (subject_of f.body) d.0 d.1)

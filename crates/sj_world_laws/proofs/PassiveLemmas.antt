@@ -76,7 +76,7 @@ module _ {P : Type 0} (IsOver : P → Type 0) (pick : ℕ → ℕ → ℕ) (pick
       let passed : Passed pick x y sid rid e es c p k =
       passed pick picks x y counts sid rid e es c p k fits.0 fits.2 only.conn_is only.taken_is numbers.0 (omega (arith, hops.1, counts.hops)) in
       let bare : (sl ≡ []) × (ds ≡ []) = sound.back.comes in
-      let mine : Agrees sid es x × (es.place ≡ x.place) × (es.base ≤ y.taken) = sound.back.fits in (
+      let mine : Agrees sid es x × (es.base ≤ y.taken) = sound.back.fits in (
         simp passed.passes,
         record {
           others = sound.others;
@@ -90,7 +90,7 @@ module _ {P : Type 0} (IsOver : P → Type 0) (pick : ℕ → ℕ → ℕ) (pick
             comes = record {
               carries = numbered_carries sid (es.conn + 1) y.taken x.taken (drop x.taken y.sent);
               split = ap (λ l. ds ++ (sl ++ l)) (sym (append-nil (passed_again pick sid e p k))) ∙ behind_nothing ds sl _ _ [] bare.1 bare.0 passed.again;
-              are = numbered_are P sid (es.conn + 1) x.taken es.base y.taken (drop x.taken y.sent) mine.2;
+              are = numbered_are P sid (es.conn + 1) x.taken es.base y.taken (drop x.taken y.sent) mine.1;
             };
             old = marked sid es.conn false so (Ack sid es.conn ∷ []) sound.back.old;
           };
@@ -105,19 +105,19 @@ module _ {P : Type 0} (IsOver : P → Type 0) (pick : ℕ → ℕ → ℕ) (pick
       (side_of rid pr (claimed b u (passed_on pick e p k)) ro rest)
   passes_claimed u sound =
       let only : OnlySignal rid e.conn t x.taken c p k rest = only_signal rid e.conn t x.taken false d c p k rest sound.there.comes in
-      let fits : Agrees rid e y × (e.place ≡ y.place) × (e.base ≤ x.taken) = sound.there.fits in
+      let fits : Agrees rid e y × (e.base ≤ x.taken) = sound.there.fits in
       let numbers : (es.conn ≡ e.conn) × (es.peer ≡ b) × (e.peer ≡ a) = sound.numbers in
       let hops : (es.conn + 1 + 1 ≤ x.hops + y.hops) × (e.conn + 1 + 1 ≤ x.hops + y.hops) = sound.hops in
       let passed : Passed pick x y sid rid e es c p k =
-      passed pick picks x y counts sid rid e es c p k fits.0 fits.2 only.conn_is only.taken_is numbers.0 (omega (arith, hops.1, counts.hops)) in
+      passed pick picks x y counts sid rid e es c p k fits.0 fits.1 only.conn_is only.taken_is numbers.0 (omega (arith, hops.1, counts.hops)) in
       let bare : (sl ≡ []) × (ds ≡ []) = sound.back.comes in
-      let mine : Agrees sid es x × (es.place ≡ x.place) × (es.base ≤ y.taken) = sound.back.fits in (
+      let mine : Agrees sid es x × (es.base ≤ y.taken) = sound.back.fits in (
         simp passed.passes,
         record {
           others = sound.others;
           numbers = (ap (λ n. n + 1) (sym numbers.0), only.party_is, numbers.1, tt);
           hops = hops.1;
-          there = record { fits = (passed.agrees, fits.1, passed.base); place = sound.there.place; resend = tt; comes = (only.rest_is, tt); old = sound.there.old };
+          there = record { fits = (passed.agrees, passed.base); place = sound.there.place; resend = tt; comes = (only.rest_is, tt); old = sound.there.old };
           back = record {
             fits = mine;
             place = sound.back.place;
@@ -125,7 +125,7 @@ module _ {P : Type 0} (IsOver : P → Type 0) (pick : ℕ → ℕ → ℕ) (pick
             comes = record {
               carries = numbered_carries sid (es.conn + 1) y.taken x.taken (drop x.taken y.sent);
               split = ap (λ l. ds ++ (sl ++ l)) (sym (append-nil (passed_again pick sid e p k))) ∙ behind_nothing ds sl _ _ [] bare.1 bare.0 passed.again;
-              are = numbered_are P sid (es.conn + 1) x.taken es.base y.taken (drop x.taken y.sent) mine.2;
+              are = numbered_are P sid (es.conn + 1) x.taken es.base y.taken (drop x.taken y.sent) mine.1;
             };
             old = marked sid es.conn false so (Ack sid es.conn ∷ []) sound.back.old;
           };
@@ -146,7 +146,7 @@ module _ {P : Type 0} (IsOver : P → Type 0) (pick : ℕ → ℕ → ℕ) (pick
       let passed : Passed pick x y sid rid e es c p k =
       passed pick picks x y counts sid rid e es c p k fits.0 fits.2 (cc only) (cc only) numbers.0 (omega (arith, hops.1, counts.hops)) in
       let bare : (sl ≡ []) × (ds ≡ []) = sound.back.comes in
-      let mine : Agrees sid es x × (es.place ≡ x.place) × (es.base ≤ y.taken) = sound.back.fits in
+      let mine : Agrees sid es x × (es.base ≤ y.taken) = sound.back.fits in
       let fin : ◌≡◌ {A = BodyAt P} (Fin sid (e.conn + 1) e.sent) (Fin sid (es.conn + 1) (length y.sent)) = rw (numbers.0, fits.0.sent) in (
         simp passed.passes,
         record {
@@ -162,7 +162,7 @@ module _ {P : Type 0} (IsOver : P → Type 0) (pick : ℕ → ℕ → ℕ) (pick
               carries = numbered_carries sid (es.conn + 1) y.taken x.taken (drop x.taken y.sent);
               split = behind_nothing ds sl _ _ (Fin sid (e.conn + 1) e.sent ∷ []) bare.1 bare.0 passed.again
                   ∙ ap (λ f. numbered_carries sid (es.conn + 1) y.taken x.taken (drop x.taken y.sent) ++ f ∷ []) fin;
-              are = numbered_are P sid (es.conn + 1) x.taken es.base y.taken (drop x.taken y.sent) mine.2;
+              are = numbered_are P sid (es.conn + 1) x.taken es.base y.taken (drop x.taken y.sent) mine.1;
             };
             old = marked sid es.conn true so (Ack sid es.conn ∷ []) sound.back.old;
           };

@@ -26,7 +26,7 @@ use Rattle.sj_world_laws.proofs.DispatchLemmas.{gone_empty, live_level}
 
 -- tables with one entry, for rows that no law speaks of
 abbrev stub : {P : Type 0} → Option (MainAt P) → Option (OldAt P) → NodeAt P ℕ
-stub m o = record { program = 0; clock = 0; main = λ d. m; old = λ d. o }
+stub m o = record { program = 0; clock = 0; requests = 0; offers = λ q. []; main = λ d. m; old = λ d. o }
 
 -- a frame of that number may be deferred
 under_deferrable : {P : Type 0} → (id : EndId) (n : ℕ) (f : BodyAt P) → IsUnder id n f → IsDeferrable f

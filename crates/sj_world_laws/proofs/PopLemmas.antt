@@ -4,7 +4,7 @@ use Rattle.std.specs.Prelude.{Bool, true, false, ⊤, ◌&&◌, ◌==◌, if◌t
 use Rattle.std.specs.List.{filter, AllByRecursion}
 use Rattle.std.proofs.lemmas.Bool.{eq-eqb}
 use Rattle.sj_base.specs.declared.EndId.{EndId}
-use Rattle.sj_rules.specs.Record.{EndAt, BodyAt, Carry, Fin, Claim, Signal, Ack, Give, is_same_end}
+use Rattle.sj_rules.specs.Record.{EndAt, BodyAt, Carry, Fin, Claim, Signal, Ack, Give, Open, is_same_end}
 use Rattle.sj_rules.specs.Frames.{FrameAt}
 use Rattle.sj_rules.specs.World.{WorldAt, with_lane}
 use Rattle.sj_rules.specs.Seat.{Seat, signalled, Side, source_for, taker_of, coming_of, side_of}
@@ -25,6 +25,7 @@ goes_apart id c (Claim of) e = refl
 goes_apart id c (Signal to conn party taken) e = rw e
 goes_apart id c (Ack of conn) e = rw e
 goes_apart id c (Give end resend) e = refl
+goes_apart id c (Open sess) e = refl
 
 -- no Claim of it
 pub claim_apart : {P : Type 0} → (id : EndId) (b : BodyAt P) → is_same_end (subject_of b) id ≡ false → is_claim id b ≡ false
@@ -34,6 +35,7 @@ claim_apart id (Claim of) e = e
 claim_apart id (Signal to conn party taken) e = refl
 claim_apart id (Ack of conn) e = refl
 claim_apart id (Give end resend) e = refl
+claim_apart id (Open sess) e = refl
 
 -- no Give of it
 pub give_apart : {P : Type 0} → (id : EndId) (b : BodyAt P) → is_same_end (subject_of b) id ≡ false → is_give id b ≡ false
@@ -43,6 +45,7 @@ give_apart id (Claim of) e = refl
 give_apart id (Signal to conn party taken) e = refl
 give_apart id (Ack of conn) e = refl
 give_apart id (Give end resend) e = e
+give_apart id (Open sess) e = refl
 
 -- without the first
 abbrev pub rest_of : {A : Type 0} → List A → List A
@@ -97,6 +100,7 @@ IsStream (Signal to conn party taken) = ⊤
 IsStream (Ack of conn) = ⊤
 IsStream (Claim of) = ⊥
 IsStream (Give end resend) = ⊥
+IsStream (Open sess) = ⊥
 
 -- a frame of a stream is no Claim
 pub stream_claims : {P : Type 0} → (id : EndId) (b : BodyAt P) → IsStream b → is_claim id b ≡ false
@@ -106,6 +110,7 @@ stream_claims id (Claim of) i = absurd i
 stream_claims id (Signal to conn party taken) i = refl
 stream_claims id (Ack of conn) i = refl
 stream_claims id (Give end resend) i = absurd i
+stream_claims id (Open sess) i = absurd i
 
 -- and no Give
 pub stream_gives : {P : Type 0} → (id : EndId) (b : BodyAt P) → IsStream b → is_give id b ≡ false
@@ -115,6 +120,7 @@ stream_gives id (Claim of) i = refl
 stream_gives id (Signal to conn party taken) i = refl
 stream_gives id (Ack of conn) i = refl
 stream_gives id (Give end resend) i = absurd i
+stream_gives id (Open sess) i = absurd i
 
 -- it goes to the end under that number alone
 abbrev pub GoesUnder : {P : Type 0} → EndId → ℕ → BodyAt P → Type 0

@@ -4,7 +4,7 @@ use Rattle.std.specs.Prelude.{Bool, true, false, ◌&&◌, ◌==◌, if◌then�
 use Rattle.std.proofs.lemmas.Bool.{eq-eqb, ne_eqb}
 use Rattle.std.proofs.lemmas.List.{map-append}
 use Rattle.sj_base.specs.declared.EndId.{EndId}
-use Rattle.sj_rules.specs.Record.{EndAt, BodyAt, Carry, Fin, Claim, Signal, Ack, Give, MainAt, OldAt, Parked, Signalled, other_end, is_same_end}
+use Rattle.sj_rules.specs.Record.{EndAt, BodyAt, Carry, Fin, Claim, Signal, Ack, Give, Open, MainAt, OldAt, Parked, Signalled, other_end, is_same_end}
 use Rattle.sj_rules.specs.Node.{Play, NodeAt, comes, with_number, with_main, with_old, quietly}
 use Rattle.sj_rules.specs.Frames.{FrameAt}
 use Rattle.sj_rules.specs.World.{WorldAt}
@@ -98,6 +98,7 @@ comes_dropped pick n q (Claim of) o i e c p = absurd i
 comes_dropped pick n q (Signal to conn party taken) o i e c p = absurd i
 comes_dropped pick n q (Ack of conn) o i e c p = absurd i
 comes_dropped pick n q (Give end resend) o i e c p = absurd i
+comes_dropped pick n q (Open sess) o i e c p = absurd i
 
 -- nothing turns
 pub same_turns : {P Q : Type 0} → (w : WorldAt P Q) (at : ℕ) (o : Seat P) (id : EndId) (place : P) (seat : Seat P) (old live : List (BodyAt P)) → Shows w o (side_of id place seat old live) →

@@ -72,7 +72,7 @@ module _ {P Q : Type 0} (IsOver : P → Type 0) (binds : Q → EndId → Bool) (
       let alike : (e : EndId) → e.side < 2 → IsAlike (seat_of e) (goes.after.sides e).seat =
       alike_after v c facts.below s1 r1 goes (subst (λ z. IsAlike z (held p (held_behind_send h msg next))) (sym here.seat_is) (refl, λ keeper. (λ i. i, λ i. i))) (same_alike s.seat) in
       let program : (w.nodes p).program ≡ plain.programs p = kept.programs p in
-      let place : play.next h.end.place Out msg ≡ Some next = ap (λ z. play.next z Out msg) here.sound.there.fits.1 ∙ facts.fits in
+      let place : play.next h.end.place Out msg ≡ Some next = ap (λ z. play.next z Out msg) (here.sound.there.fits.1 facts.accepted) ∙ facts.fits in
       let fewer : (plain.sides (other_end c)).taken ≤ length (plain.sides c).sent = (counts c facts.below).fewer in
       let side : (other_end c).side < 2 = omega arith in (
         v,
@@ -145,7 +145,7 @@ module _ {P Q : Type 0} (IsOver : P → Type 0) (binds : Q → EndId → Bool) (
       let alike : (e : EndId) → e.side < 2 → IsAlike (seat_of e) (goes.after.sides e).seat =
       alike_after u c facts.below s r1 goes (subst (λ z. IsAlike z (held p g)) (sym here.seat_is) (refl, λ keeper. (λ i. i, λ i. i))) (same_alike s.seat) in
       let program : (w.nodes p).program ≡ plain.programs p = kept.programs p in
-      let fits : play.next h.end.place Into msg ≡ Some next = ap (λ z. play.next z Into msg) here.sound.there.fits.1 ∙ facts.fits in
+      let fits : play.next h.end.place Into msg ≡ Some next = ap (λ z. play.next z Into msg) (here.sound.there.fits.1 facts.accepted) ∙ facts.fits in
       let fresh1 : play.is_worn (w.nodes p).program ≡ false = ap play.is_worn program ∙ fresh in
       let wants1 : play.wants (w.nodes p).program ≡ takes c place = ap play.wants program ∙ wants in
       let wanted1 : play.fits (w.nodes p).program msg ≡ true = ap (λ z. play.fits z msg) program ∙ facts.wanted in

@@ -116,7 +116,7 @@ pub sends : {P : Type 0} → (IsOver : P → Type 0) (pace : Pace) (x y : PlainS
     IsSound IsOver pace (plain_sent x place m) y (side_of sid place (held a (held_behind_send h m place)) so sl)
     (side_of rid pr r (old_after pace r ro (carry_of rid h.end m)) (live_after pace r rl (carry_of rid h.end m)))
 sends {P} IsOver pace x y sid rid ps pr a h r so sl ro rl m place goes_on few sound =
-    let fits : Agrees sid h.end x × (h.end.place ≡ x.place) × (h.end.base ≤ y.taken) = sound.back.fits in
+    let fits : Agrees sid h.end x × (x.offered ≡ false → h.end.place ≡ x.place) × (h.end.base ≤ y.taken) = sound.back.fits in
     let met : Meets pace r = held_meets pace a h r sound.numbers in
     record {
       others = sound.others;
@@ -130,7 +130,7 @@ sends {P} IsOver pace x y sid rid ps pr a h r so sl ro rl m place goes_on few so
         old = old_sent IsOver x y sid rid a h m place fits.0 few pace r ro met sound.numbers sound.there.old;
       };
       back = record {
-        fits = (agrees_sent IsOver x y sid rid a h m place fits.0 few fits.2, refl, fits.2);
+        fits = (agrees_sent IsOver x y sid rid a h m place fits.0 few fits.2, λ unoffered. refl, fits.2);
         place = refl;
         resend = sound.back.resend;
         comes = back_sent IsOver x y sid rid a h m place fits.0 few pace r sl sound.numbers sound.back.comes;

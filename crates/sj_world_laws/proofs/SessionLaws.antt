@@ -2,7 +2,7 @@
 use Rattle.std.proofs.Common.{◌≡◌, ℕ, List, [], ◌∷◌, ◌++◌}
 use Rattle.std.specs.Prelude.{⊤, Option, Some, None}
 use Rattle.sj_base.specs.declared.EndId.{EndId}
-use Rattle.sj_rules.specs.Record.{EndAt, BodyAt, Carry, Fin, Claim, Signal, Ack, Give, HeldAt}
+use Rattle.sj_rules.specs.Record.{EndAt, BodyAt, Carry, Fin, Claim, Signal, Ack, Give, Open, HeldAt}
 use Rattle.sj_rules.specs.Rows.{trimmed_end, end_with_peer, crossing_body, acked_body, at_held}
 use Rattle.sj_rules.specs.Seat.{Seat, held, parked, claimed, signalled, given, closed, gone, Side, side_of}
 use Rattle.sj_rules.specs.PlainSide.{PlainSide}
@@ -18,6 +18,7 @@ IsPlainBody (Claim of) = ⊥
 IsPlainBody (Signal to conn party taken) = ⊥
 IsPlainBody (Ack of conn) = ⊥
 IsPlainBody (Give e resend) = ⊥
+IsPlainBody (Open sess) = ⊥
 
 -- what is deferred
 abbrev pub IsDeferrable : {P : Type 0} → BodyAt P → Type 0
@@ -27,6 +28,7 @@ IsDeferrable (Signal to conn party taken) = ⊤
 IsDeferrable (Claim of) = ⊥
 IsDeferrable (Ack of conn) = ⊥
 IsDeferrable (Give e resend) = ⊥
+IsDeferrable (Open sess) = ⊥
 
 module _ {P : Type 0} (IsOver : P → Type 0) (pick : ℕ → ℕ → ℕ) (x y : PlainSide P) (s : Side P) (id : EndId) (place : P) where
   -- the session with the end in that seat

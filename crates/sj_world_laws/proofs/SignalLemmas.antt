@@ -82,7 +82,7 @@ module _ {P : Type 0} (IsOver : P → Type 0) (pick : ℕ → ℕ → ℕ) (pick
   passes_held sid rid ps pr a t b es h ds so sl ro rest d c p k sound =
       let comes : ComesToHeld rid h (untaken_of x y) y.taken x.taken false (mark_for rid h.end.conn x (signalled a t es ds)) (Signal d c p k ∷ rest) = sound.there.comes in
       let last : (h.fin ≡ false) × LastSignal rid h.end.conn t x.taken c p k comes.rest rest = last_signal rid h x y a t es ds d c p k rest comes in
-      let fits : Agrees rid h.end y × (h.end.place ≡ y.place) × (h.end.base ≤ x.taken) = sound.there.fits in
+      let fits : Agrees rid h.end y × (y.offered ≡ false → h.end.place ≡ y.place) × (h.end.base ≤ x.taken) = sound.there.fits in
       let numbers : (es.conn ≡ h.end.conn) × (es.peer ≡ b) × (h.end.peer ≡ a) = sound.numbers in
       let hops : (es.conn + 1 + 0 ≤ x.hops + y.hops) × (h.end.conn + 1 + 0 ≤ x.hops + y.hops) = sound.hops in
       let low : h.end.base ≤ k = omega (arith, fits.2, last.1.taken_is) in
@@ -91,7 +91,7 @@ module _ {P : Type 0} (IsOver : P → Type 0) (pick : ℕ → ℕ → ℕ) (pick
       let base : pick h.end.base k ≤ x.taken = omega (arith, (picks h.end.base k).1, fits.2, last.1.taken_is) in
       let again : cached_from (trimmed_end pick (end_with_peer h.end p) k) k ≡ drop k y.sent = cached_is pick picks rid h.end y p k fits.0 low in
       let bare : (sl ≡ []) × (ds ≡ []) = sound.back.comes in
-      let mine : Agrees sid es x × (es.place ≡ x.place) × (es.base ≤ y.taken) = sound.back.fits in
+      let mine : Agrees sid es x × (es.base ≤ y.taken) = sound.back.fits in
       let same : numbered_carries {P = P} sid (h.end.conn + 1) h.end.taken k (cached_from (trimmed_end pick (end_with_peer h.end p) k) k)
       ≡ numbered_carries sid (es.conn + 1) y.taken x.taken (drop x.taken y.sent) =
       rw (again, last.1.taken_is, sym numbers.0, fits.0.taken) in (
@@ -114,7 +114,7 @@ module _ {P : Type 0} (IsOver : P → Type 0) (pick : ℕ → ℕ → ℕ) (pick
             comes = record {
               carries = numbered_carries sid (es.conn + 1) y.taken x.taken (drop x.taken y.sent);
               split = behind_nothing ds sl _ _ bare.1 bare.0 same;
-              are = numbered_are P sid (es.conn + 1) x.taken es.base y.taken (drop x.taken y.sent) mine.2;
+              are = numbered_are P sid (es.conn + 1) x.taken es.base y.taken (drop x.taken y.sent) mine.1;
             };
             old = marked sid es.conn false so (Ack sid es.conn ∷ []) sound.back.old;
           };

@@ -94,7 +94,7 @@ pub signals : {P : Type 0} → (IsOver : P → Type 0) (pace : Pace) (x y : Plai
     IsSound IsOver pace x y (side_of sid ps (signalled a t d []) sl [])
     (side_of rid pr r (old_after pace r ro (signal_to rid d t)) (live_after pace r rl (signal_to rid d t)))
 signals IsOver pace x y sid rid ps pr a t d r so sl ro rl sound =
-    let fits : Agrees sid d x × (d.place ≡ x.place) × (d.base ≤ y.taken) = sound.back.fits in
+    let fits : Agrees sid d x × (d.base ≤ y.taken) = sound.back.fits in
     let met : Meets pace r = claimed_meets pace a t d r sound.numbers in
     record {
       others = sound.others;

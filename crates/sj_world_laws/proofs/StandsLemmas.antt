@@ -1,12 +1,12 @@
 -- Each direction of a session is flowing, or owed.
-use Rattle.std.proofs.Common.{◌≡◌, ℕ, ◌+◌, List, [], ◌∷◌, ◌++◌, length, refl, sym, ap, ◌∙◌, append-nil, inl, inr}
+use Rattle.std.proofs.Common.{◌≡◌, ℕ, ◌+◌, List, [], ◌∷◌, ◌++◌, length, refl, sym, ap, ◌∙◌, append-nil, inl, inr, arith}
 use Rattle.std.specs.Prelude.{Bool, true, false, ◌⊎◌, ◌&&◌, ◌==◌, if◌then◌else◌, Option, Some, None}
 use Rattle.std.specs.List.{filter}
 use Rattle.std.proofs.lemmas.Bool.{eq-eqb}
 use Rattle.sj_base.specs.declared.EndId.{EndId}
 use Rattle.sj_rules.specs.Record.{EndAt, BodyAt, Signal, HeldAt}
 use Rattle.sj_rules.specs.World.{WorldAt}
-use Rattle.sj_rules.specs.Seat.{Seat, held, parked, claimed, signalled, given, closed, gone, taker_of, coming_of, source_for, sender_of, side_of}
+use Rattle.sj_rules.specs.Seat.{Seat, held, parked, claimed, signalled, given, closed, gone, taker_of, coming_of, source_for, sender_of, conn_of, side_of}
 use Rattle.sj_rules.specs.Shown.{Shows, bodies, goes_to, is_lane, old_in}
 use Rattle.sj_rules.specs.PlainSide.{PlainSide, untaken_of}
 use Rattle.sj_rules.specs.Flowing.{carries_under, IsFlowing, HasSign, CanResend, IsOwed, IsTold, party_of, lane_from}
@@ -81,7 +81,7 @@ module _ {P Q : Type 0} (w : WorldAt P Q) (sid id : EndId) (ps place : P) (so sl
   held_stands : (pace : Pace) (s : Seat P) (b : ℕ) (h : HeldAt P) → NumbersFit pace s (held b h) → Comes pace id x y s (held b h) rl → ResendFits y.taken s → AreOld (turned pace) sid y (held b h) s so →
       Shows w s (side_of id place (held b h) ro rl) → Shows w (held b h) (side_of sid ps s so sl) → Stands s (held b h)
   held_stands level (given a t e None ds) b h n c f o v u = inl (held_flows (given a t e None ds) b h n c.1 v)
-  held_stands level (given a t e (Some k) ds) b h n c f o v u = inr (inr (inr (ap Some f)))
+  held_stands level (given a t e (Some k) ds) b h n c f o v u = inr (inr (inr (ap Some f.0)))
   held_stands level s b h n c f o v u = inl (held_flows s b h n c v)
   held_stands (ahead k) gone b h n c f o v u = absurd (cc n.0)
   held_stands (ahead k) s b h n c f o v u = absurd (numbers_ahead k s (held b h) tt tt n).1
@@ -94,6 +94,18 @@ module _ {P Q : Type 0} (w : WorldAt P Q) (sid id : EndId) (ps place : P) (so sl
       nothing true = refl
       nothing false = refl
   held_stands (behind by_signal) s b h n c f o v u = told s (held b h) (explained_told s (held b h) (Signal sid 0 0 0) (there_beside (behind by_signal) s (held b h) n refl) tt n o u)
+
+  -- a Held end under the first number: no Give resends to it, and nothing is owed
+  pub first_flows : (pace : Pace) (s : Seat P) (b : ℕ) (h : HeldAt P) → h.end.conn ≡ 0 → NumbersFit pace s (held b h) → Comes pace id x y s (held b h) rl → ResendFits y.taken s → Shows w s (side_of id place (held b h) ro rl) →
+      h.untaken ++ carries_under id h.end.conn (bodies (w.lanes h.end.peer b)) ≡ untaken_of x y
+  first_flows level (given a t e None ds) b h first n c f v = held_flows (given a t e None ds) b h n c.1 v
+  first_flows level (given a t e (Some k) ds) b h first n c f v = absurd (omega (arith, first, n.0, f.1))
+  first_flows level s b h first n c f v = held_flows s b h n c v
+  first_flows (ahead k) gone b h first n c f v = absurd (cc n.0)
+  first_flows (ahead k) s b h first n c f v = absurd (numbers_ahead k s (held b h) tt tt n).1
+  first_flows (behind k) s b h first n c f v =
+      let numbers : h.end.conn ≡ conn_of s + 1 = (numbers_behind k s (held b h) (there_beside (behind k) s (held b h) n refl) tt n).0 in
+      absurd (omega (arith, first, numbers))
 
   -- what a lane to a party that awaits r carries
   awaited : (s r : Seat P) (u c : ℕ) (ds : List (BodyAt P)) → IsThere s → IsNoGive s → u ≡ taker_of r → c ≡ coming_of r → old_in r ro (source_for s r) u c ≡ [] → Shows w s (side_of id place r ro rl) →
@@ -116,7 +128,7 @@ module _ {P Q : Type 0} (w : WorldAt P Q) (sid id : EndId) (ps place : P) (so sl
   signalled_stands (ahead k) gone b u e ds n c f back o v z = absurd (cc n.0)
   signalled_stands (ahead k) (given a t g None ks) b u e ds n c f back o v z =
       inl (ap (λ l. carries_under id (e.conn + 1) (ds ++ l)) (sym c.0) ∙ whole_carries id (e.conn + 1) y.taken (comes_low (ahead k) e x) x.taken (length x.sent) x.taken (given a t g None ks) (untaken_of x y) (ds ++ rl) c.1)
-  signalled_stands (ahead k) (given a t g (Some m) ks) b u e ds n c f back o v z = inr (inr (inr (ap Some f)))
+  signalled_stands (ahead k) (given a t g (Some m) ks) b u e ds n c f back o v z = inr (inr (inr (ap Some f.0)))
   signalled_stands (ahead k) s b u e ds n c f back o v z =
       inl (awaited s (signalled b u e ds) u (e.conn + 1) ds tt tt refl refl (rw (not_next e.conn, and_false (is_lane (source_for s (signalled b u e ds)) u e.peer b)) refl) v
       (whole_carries id (e.conn + 1) y.taken (comes_low (ahead k) e x) x.taken (length x.sent) x.taken s (untaken_of x y) (ds ++ rl) c))
@@ -129,7 +141,7 @@ module _ {P Q : Type 0} (w : WorldAt P Q) (sid id : EndId) (ps place : P) (so sl
   given_stands level gone b u e resend ds n c f o v z = absurd (cc n.1)
   given_stands level (given a t g None ks) b u e resend ds n c f o v z =
       inl (ap (λ l. carries_under id e.conn (ds ++ l)) (sym c.0) ∙ whole_carries id e.conn y.taken e.base x.taken (length x.sent) x.taken (given a t g None ks) (untaken_of x y) (ds ++ rl) c.1)
-  given_stands level (given a t g (Some m) ks) b u e resend ds n c f o v z = inr (inr (inr (ap Some f)))
+  given_stands level (given a t g (Some m) ks) b u e resend ds n c f o v z = inr (inr (inr (ap Some f.0)))
   given_stands level s b u e resend ds n c f o v z =
       inl (awaited s (given b u e resend ds) u e.conn ds tt tt refl refl refl v (whole_carries id e.conn y.taken e.base x.taken (length x.sent) x.taken s (untaken_of x y) (ds ++ rl) c))
   given_stands (ahead k) gone b u e resend ds n c f o v z = absurd (cc n.0)
@@ -141,9 +153,9 @@ module _ {P Q : Type 0} (w : WorldAt P Q) (sid id : EndId) (ps place : P) (so sl
   can_resend : (IsOver : P → Type 0) (s : Seat P) → IsThere s → SeatFits IsOver sid y x s → CanResend y.taken s
   can_resend IsOver (held a h) i f = f.2
   can_resend IsOver (parked a e) i f = f.2
-  can_resend IsOver (claimed a t e) i f = f.2
-  can_resend IsOver (signalled a t e ds) i f = f.2
-  can_resend IsOver (given a t e q ds) i f = f.2
+  can_resend IsOver (claimed a t e) i f = f.1
+  can_resend IsOver (signalled a t e ds) i f = f.1
+  can_resend IsOver (given a t e q ds) i f = f.1
   can_resend IsOver (closed a e) i f = f.2
   can_resend IsOver gone i f = absurd i
 

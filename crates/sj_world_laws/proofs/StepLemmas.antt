@@ -6,10 +6,21 @@ use Rattle.sj_base.specs.declared.Msg.{Msg}
 use Rattle.sj_base.specs.declared.Msg.TheVariants as msgs
 use Rattle.sj_rules.specs.Record.{MainAt, Held, Closed, Expected, HeldAt, Parked, is_same_end}
 use Rattle.sj_rules.specs.Rows.{Worked}
-use Rattle.sj_rules.specs.Node.{Play, NodeAt, Want, ended, local, sends, delegates, takes, closes, act_by, send_act, take_act, close_act, delegate_act, take_from, with_main, with_old}
+use Rattle.sj_rules.specs.Node.{Play, NodeAt, Want, ended, local, sends, delegates, takes, closes, requests, accepts, act_by, send_act, take_act, close_act, delegate_act, take_from, with_main, with_old}
 use Rattle.sj_rules.specs.World.{WorldAt, Event, Act, happens, after_event}
 use Rattle.sj_rules.specs.PlainSide.{PlainAt}
 use Rattle.sj_rules.specs.Linked.{IsKept}
+
+-- the step opens and accepts no session
+abbrev pub OpensNothing : {P : Type 0} → Want P → Type 0
+OpensNothing ended = ⊤
+OpensNothing local = ⊤
+OpensNothing (sends c msg) = ⊤
+OpensNothing (delegates c d) = ⊤
+OpensNothing (takes c place) = ⊤
+OpensNothing (closes c) = ⊤
+OpensNothing (requests place to) = ⊥
+OpensNothing (accepts place from) = ⊥
 
 -- the records that an act needs
 abbrev pub Needs : {P Q : Type 0} → NodeAt P Q → Want P → Type 0
@@ -18,6 +29,8 @@ Needs n local = ⊤
 Needs {P} n (sends c msg) = (h : HeldAt P) × (n.main c ≡ Some (Held h))
 Needs {P} n (takes c place) = (h : HeldAt P) × (m : Msg) × (rest : List Msg) × (n.main c ≡ Some (Held h)) × (h.untaken ≡ m ∷ rest)
 Needs {P} n (closes c) = (h : HeldAt P) × (n.main c ≡ Some (Held h))
+Needs n (requests place to) = ⊤
+Needs n (accepts place from) = ⊤
 Needs {P} n (delegates c d) = (h : HeldAt P) × (g : HeldAt P) × (n.main c ≡ Some (Held h)) × (n.main d ≡ Some (Held g)) × (is_same_end c d ≡ false)
 
 module _ {P Q : Type 0} (play : Play P Q) (p : ℕ) (n : NodeAt P Q) where
@@ -76,6 +89,8 @@ module _ {P Q : Type 0} (play : Play P Q) (p : ℕ) (n : NodeAt P Q) where
   act_needs (delegates c d) done a = delegate_needs c d done (n.main d) refl a
   act_needs (takes c place) done a = take_needs c place done (n.main c) refl a
   act_needs (closes c) done a = close_needs c done (n.main c) refl a
+  act_needs (requests place to) done a = tt
+  act_needs (accepts place from) done a = tt
 
 -- an act that happens had all that it needs
 pub needs_met : {P Q : Type 0} → (play : Play P Q) (pick : ℕ → ℕ → ℕ) (w v : WorldAt P Q) (p : ℕ) → happens play pick w p Act ≡ Some v →

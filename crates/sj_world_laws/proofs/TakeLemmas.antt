@@ -134,7 +134,7 @@ pub takes : {P : Type 0} → (IsOver : P → Type 0) (pace : Pace) (x y : PlainS
     IsSound IsOver pace x y (side_of sid ps (held a h) so sl) (side_of rid pr r ro rl) →
     IsSound IsOver pace (plain_taken x place) y (side_of sid place (held a (held_behind_take h rest place)) so sl) (side_of rid pr r ro rl)
 takes {P} IsOver pace x y sid rid ps pr a h r so sl ro rl m rest place front sound =
-    let fits : Agrees sid h.end x × (h.end.place ≡ x.place) × (h.end.base ≤ y.taken) = sound.back.fits in
+    let fits : Agrees sid h.end x × (x.offered ≡ false → h.end.place ≡ x.place) × (h.end.base ≤ y.taken) = sound.back.fits in
     let met : Meets pace r = held_meets pace a h r sound.numbers in
     record {
       others = sound.others;
@@ -150,7 +150,7 @@ takes {P} IsOver pace x y sid rid ps pr a h r so sl ro rl m rest place front sou
       back = record {
         fits = (
           record { name = fits.0.name; hops = fits.0.hops; sent = fits.0.sent; taken = ap (λ n. n + 1) fits.0.taken; cache = fits.0.cache },
-          refl,
+          λ unoffered. refl,
           fits.2,
         );
         place = refl;

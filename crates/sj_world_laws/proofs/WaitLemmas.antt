@@ -89,15 +89,15 @@ module _ {P Q : Type 0} (IsOver : P → Type 0) (binds : Q → EndId → Bool) (
 
   -- the world after an act is kept, where its sessions, links and bindings are
   pub kept_by : (after : Sessions IsOver v plain'.sides) → IsLinked plain' (λ e. (after.sides e).seat) →
-      ((k : ℕ) (e : EndId) → e.side < 2 → (binds (plain'.programs k) e ≡ true) ↔ (user_of (after.sides e).seat ≡ Some k)) → IsKept IsOver binds v plain'
+      ((k : ℕ) (e : EndId) → e.side < 2 → (plain'.sides e).offered ≡ false → (binds (plain'.programs k) e ≡ true) ↔ (user_of (after.sides e).seat ≡ Some k)) → IsKept IsOver binds v plain'
   kept_by after linked bound = record { sessions = after; linked = linked; programs = programs_go; bound = bound }
 
   -- where all ends have the users that they had
   pub bound_same : ((e : EndId) → e.side < 2 → binds (plain'.programs p) e ≡ binds (plain.programs p) e) → (seats' : EndId → Seat P) → ((e : EndId) → e.side < 2 → user_of (seats' e) ≡ user_of (kept.sessions.sides e).seat) →
-      (k : ℕ) (e : EndId) → e.side < 2 → (binds (plain'.programs k) e ≡ true) ↔ (user_of (seats' e) ≡ Some k)
-  bound_same same seats' users k e i = (
-    λ b. users e i ∙ (kept.bound k e i).0 (sym (binds_is (k == p) refl) ∙ b),
-    λ u. binds_is (k == p) refl ∙ (kept.bound k e i).1 (sym (users e i) ∙ u),
+      (k : ℕ) (e : EndId) → e.side < 2 → (plain'.sides e).offered ≡ false → (binds (plain'.programs k) e ≡ true) ↔ (user_of (seats' e) ≡ Some k)
+  bound_same same seats' users k e i o = (
+    λ b. users e i ∙ (kept.bound k e i (sym (proceeds.offered e) ∙ o)).0 (sym (binds_is (k == p) refl) ∙ b),
+    λ u. binds_is (k == p) refl ∙ (kept.bound k e i (sym (proceeds.offered e) ∙ o)).1 (sym (users e i) ∙ u),
   )
     where
       binds_is : (b : Bool) → (k == p) ≡ b → binds (plain'.programs k) e ≡ binds (plain.programs k) e
@@ -107,43 +107,43 @@ module _ {P Q : Type 0} (IsOver : P → Type 0) (binds : Q → EndId → Bool) (
   -- where one end gets another user, and all others keep theirs
   pub bound_but : (c : EndId) (seats' : EndId → Seat P) → ((e : EndId) → e.side < 2 → is_same_end e c ≡ false → binds (plain'.programs p) e ≡ binds (plain.programs p) e) →
       ((e : EndId) → e.side < 2 → is_same_end e c ≡ false → user_of (seats' e) ≡ user_of (kept.sessions.sides e).seat) →
-      ((k : ℕ) → (binds (plain'.programs k) c ≡ true) ↔ (user_of (seats' c) ≡ Some k)) →
-      (k : ℕ) (e : EndId) → e.side < 2 → (binds (plain'.programs k) e ≡ true) ↔ (user_of (seats' e) ≡ Some k)
-  bound_but c seats' same users at_c k e i = by (is_same_end e c) refl
+      ((k : ℕ) → (plain'.sides c).offered ≡ false → (binds (plain'.programs k) c ≡ true) ↔ (user_of (seats' c) ≡ Some k)) →
+      (k : ℕ) (e : EndId) → e.side < 2 → (plain'.sides e).offered ≡ false → (binds (plain'.programs k) e ≡ true) ↔ (user_of (seats' e) ≡ Some k)
+  bound_but c seats' same users at_c k e i o = by (is_same_end e c) refl
     where
       binds_is : is_same_end e c ≡ false → (b : Bool) → (k == p) ≡ b → binds (plain'.programs k) e ≡ binds (plain.programs k) e
       binds_is away true j = let o : k ≡ p = eqb-true k p j in subst (λ z. binds (plain'.programs z) e ≡ binds (plain.programs z) e) (sym o) (same e i away)
       binds_is away false j = ap (λ z. binds z e) (proceeds.away k j)
 
       by : (b : Bool) → is_same_end e c ≡ b → (binds (plain'.programs k) e ≡ true) ↔ (user_of (seats' e) ≡ Some k)
-      by true j = subst (λ d. (binds (plain'.programs k) d ≡ true) ↔ (user_of (seats' d) ≡ Some k)) (sym (same_is e c j)) (at_c k)
+      by true j = subst (λ d. (plain'.sides d).offered ≡ false → (binds (plain'.programs k) d ≡ true) ↔ (user_of (seats' d) ≡ Some k)) (sym (same_is e c j)) (at_c k) o
       by false j = (
-        λ b. users e i j ∙ (kept.bound k e i).0 (sym (binds_is j (k == p) refl) ∙ b),
-        λ u. binds_is j (k == p) refl ∙ (kept.bound k e i).1 (sym (users e i j) ∙ u),
+        λ b. users e i j ∙ (kept.bound k e i (sym (proceeds.offered e) ∙ o)).0 (sym (binds_is j (k == p) refl) ∙ b),
+        λ u. binds_is j (k == p) refl ∙ (kept.bound k e i (sym (proceeds.offered e) ∙ o)).1 (sym (users e i j) ∙ u),
       )
 
   -- the end that this party used has no user
   pub bound_none : (c : EndId) → c.side < 2 → user_of (kept.sessions.sides c).seat ≡ Some p → binds (plain'.programs p) c ≡ false → (seat : Seat P) → user_of seat ≡ None →
-      (k : ℕ) → (binds (plain'.programs k) c ≡ true) ↔ (user_of seat ≡ Some k)
-  bound_none c i user gone seat none k = (λ b. absurd (by (k == p) refl b), λ u. absurd (cc (none, u)))
+      (k : ℕ) → (plain'.sides c).offered ≡ false → (binds (plain'.programs k) c ≡ true) ↔ (user_of seat ≡ Some k)
+  bound_none c i user gone seat none k unoffered = (λ b. absurd (by (k == p) refl b), λ u. absurd (cc (none, u)))
     where
       by : (b : Bool) → (k == p) ≡ b → binds (plain'.programs k) c ≡ true → ⊥
       by true j b = let o : k ≡ p = eqb-true k p j in let t : binds (plain'.programs p) c ≡ true = subst (λ z. binds (plain'.programs z) c ≡ true) o b in cc (t, gone)
       by false j b =
-          let u : user_of (kept.sessions.sides c).seat ≡ Some k = (kept.bound k c i).0 (sym (ap (λ z. binds z c) (proceeds.away k j)) ∙ b) in
+          let u : user_of (kept.sessions.sides c).seat ≡ Some k = (kept.bound k c i (sym (proceeds.offered c) ∙ unoffered)).0 (sym (ap (λ z. binds z c) (proceeds.away k j)) ∙ b) in
           let o : p ≡ k = cc (user, u) in
           let t : (k == p) ≡ true = eq-eqb k p (sym o) in
           cc (t, j)
 
   -- an end without a user is used by this party
   pub bound_new : (c : EndId) → c.side < 2 → user_of (kept.sessions.sides c).seat ≡ None → binds (plain'.programs p) c ≡ true → (seat : Seat P) → user_of seat ≡ Some p →
-      (k : ℕ) → (binds (plain'.programs k) c ≡ true) ↔ (user_of seat ≡ Some k)
-  bound_new c i none binds_it seat user k = (λ b. user ∙ ap Some (by (k == p) refl b), λ u. back u)
+      (k : ℕ) → (plain'.sides c).offered ≡ false → (binds (plain'.programs k) c ≡ true) ↔ (user_of seat ≡ Some k)
+  bound_new c i none binds_it seat user k unoffered = (λ b. user ∙ ap Some (by (k == p) refl b), λ u. back u)
     where
       by : (b : Bool) → (k == p) ≡ b → binds (plain'.programs k) c ≡ true → p ≡ k
       by true j b = sym (eqb-true k p j)
       by false j b =
-          let u : user_of (kept.sessions.sides c).seat ≡ Some k = (kept.bound k c i).0 (sym (ap (λ z. binds z c) (proceeds.away k j)) ∙ b) in
+          let u : user_of (kept.sessions.sides c).seat ≡ Some k = (kept.bound k c i (sym (proceeds.offered c) ∙ unoffered)).0 (sym (ap (λ z. binds z c) (proceeds.away k j)) ∙ b) in
           absurd (cc (none, u))
 
       back : user_of seat ≡ Some k → binds (plain'.programs k) c ≡ true

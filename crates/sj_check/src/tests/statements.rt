@@ -1,5 +1,5 @@
 //! The order of faults in each statement.
-use super::{Ahead, N, NOWHERE, P, R, W, X, block, fault_at, told};
+use super::{A, Ahead, N, NOWHERE, P, R, W, X, block, fault_at, told};
 use sj_lang::{Deed, Expr, Op, Scalar, Stmt, StmtArm};
 use std::alloc::Global;
 use std::test::Fail;
@@ -477,6 +477,34 @@ fn close_asks_for_an_empty_place(rt: HostRuntime) -> Result<(), Fail> {
     ] {
         let found = fault_at(alloc, x, Ahead::Sends, Deed::Close { end })?;
         assert_eq!(rt; found, told(rule), "{shows}");
+    }
+    Ok(())
+}
+
+#[test]
+fn request_and_accept_ask_for_protocol_party_and_name(rt: HostRuntime) -> Result<(), Fail> {
+    let alloc = rt.alloc();
+    for (end, protocol, party, rule, shows) in [
+        (X, NOWHERE, NOWHERE, 1, "the protocol first"),
+        (X, P, NOWHERE, 2, "the party before the name"),
+        (X, P, A, 3, "a live end"),
+        (N, P, A, 3, "a variable"),
+        (NOWHERE, P, A, 12, "a new name, and oneself"),
+    ] {
+        let request = Deed::Request {
+            end,
+            protocol,
+            party,
+        };
+        let found = fault_at(alloc, Ahead::Sends, Ahead::Nothing, request)?;
+        assert_eq!(rt; found, told(rule), "a request: {shows}");
+        let accept = Deed::Accept {
+            end,
+            protocol,
+            party,
+        };
+        let found = fault_at(alloc, Ahead::Sends, Ahead::Nothing, accept)?;
+        assert_eq!(rt; found, told(rule), "an accept: {shows}");
     }
     Ok(())
 }

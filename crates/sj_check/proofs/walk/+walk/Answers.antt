@@ -11,7 +11,7 @@ use Rattle.sj_lang.specs.declared.party.Deed.TheVariants as deeds
 use Rattle.sj_lang.proofs.FoldLemmas.{deed_of-If, deed_of-Branch, stmt_of-fields}
 use Rattle.sj_acceptance.specs.EnvAt.{EnvAt}
 use Rattle.sj_check.specs.SpotEnv.{SpotEnv}
-use Rattle.sj_check.specs.Seen.{defs_in, env_in}
+use Rattle.sj_check.specs.Seen.{defs_in, names_in, env_in}
 use Rattle.sj_acceptance.specs.Tests.{branches_tests, after_branches, after_stmt}
 use Rattle.sj_acceptance.specs.Arms.{all_leave, common_of, common_env, is_one}
 use Rattle.sj_lang.specs.CodeView.{term_of, stmt_of, code_of, deed_of, arm_of, branches_of}
@@ -25,15 +25,15 @@ use Rattle.sj_check.proofs.NamedLemmas.{blocks-beyond, moved-beyond, both-moved-
 use Rattle.sj_check.proofs.walk.+walk.Goals as goal
 
 pub block-returns-in_err-statement : goal.block-returns-in_err-statement
-block-returns-in_err-statement t c = let p = err_from_is_err_and c.from_residual.result c.from_residual.ensures.1 in rw (p.1, p.2) (stmt-fault (defs_in c.args.protocols.now) c.args.stmts.now c.loop-stmt.stmt-index c.stmt-item.result c.loop-stmt-test.true c.stmt-item.is (env_in c.args.protocols.now c.loop-stmt.env) _ _ c.loop-stmt.invariant.tests c.in_err-statement.ensures)
+block-returns-in_err-statement t c = let p = err_from_is_err_and c.from_residual.result c.from_residual.ensures.1 in rw (p.1, p.2) (stmt-fault (defs_in c.args.protocols.now) (names_in c.args.protocols.now) c.args.stmts.now c.loop-stmt.stmt-index c.stmt-item.result c.loop-stmt-test.true c.stmt-item.is (env_in c.args.protocols.now c.loop-stmt.env) _ _ c.loop-stmt.invariant.tests c.in_err-statement.ensures)
 
 pub block-loop-stmt-preserved : goal.block-loop-stmt-preserved
 block-loop-stmt-preserved t c =
     let ps = defs_in c.args.protocols.now in
     record {
-      tests = stmt-tests ps c.args.stmts.now c.loop-stmt.stmt-index c.stmt-item.result c.loop-stmt-test.true c.stmt-item.is (env_in c.args.protocols.now c.loop-stmt.env) (env_in c.args.protocols.now c.statement.new.env) c.in_ok-statement.ensures.0 c.in_ok-statement.ensures.1
+      tests = stmt-tests ps (names_in c.args.protocols.now) c.args.stmts.now c.loop-stmt.stmt-index c.stmt-item.result c.loop-stmt-test.true c.stmt-item.is (env_in c.args.protocols.now c.loop-stmt.env) (env_in c.args.protocols.now c.statement.new.env) c.in_ok-statement.ensures.0 c.in_ok-statement.ensures.1
           ∙ c.loop-stmt.invariant.tests;
-      after = stmt-after ps c.args.stmts.now c.loop-stmt.stmt-index c.stmt-item.result c.loop-stmt-test.true c.stmt-item.is (env_in c.args.protocols.now c.loop-stmt.env) (env_in c.args.protocols.now c.statement.new.env) c.in_ok-statement.ensures.1
+      after = stmt-after ps (names_in c.args.protocols.now) c.args.stmts.now c.loop-stmt.stmt-index c.stmt-item.result c.loop-stmt-test.true c.stmt-item.is (env_in c.args.protocols.now c.loop-stmt.env) (env_in c.args.protocols.now c.statement.new.env) c.in_ok-statement.ensures.1
           ∙ c.loop-stmt.invariant.after;
     }
 
@@ -45,18 +45,18 @@ an_if s e a b xs ys h p q = stmt_of-fields s ∙ ap (code.at s.line) (ap deed_of
 pub statement-returns-in_err-other-in-If : goal.statement-returns-in_err-other-in-If
 statement-returns-in_err-other-in-If t c =
     let is = an_if c.args.stmt.now c.in-If.test c.in-If.yes c.in-If.no _ _ c.in-If.is refl refl in
-    let p = err_from_is_err_and c.from_residual-in_err-other-in-If.result c.from_residual-in_err-other-in-If.ensures.1 in rw (p.1, p.2) (if-condition (defs_in c.args.protocols.now) c.args.stmt.now.line (env_in c.args.protocols.now c.args.env.now) (stmt_of c.args.stmt.now) (term_of c.in-If.test) (code_of c.in-If.yes.items) (code_of c.in-If.no.items) is _ (c.in_err-other-in-If.ensures.tests c.args.protocols.now))
+    let p = err_from_is_err_and c.from_residual-in_err-other-in-If.result c.from_residual-in_err-other-in-If.ensures.1 in rw (p.1, p.2) (if-condition (defs_in c.args.protocols.now) (names_in c.args.protocols.now) c.args.stmt.now.line (env_in c.args.protocols.now c.args.env.now) (stmt_of c.args.stmt.now) (term_of c.in-If.test) (code_of c.in-If.yes.items) (code_of c.in-If.no.items) is _ (c.in_err-other-in-If.ensures.tests c.args.protocols.now))
 
 pub statement-returns-in_err-block-in-If : goal.statement-returns-in_err-block-in-If
 statement-returns-in_err-block-in-If t c =
     let is = an_if c.args.stmt.now c.in-If.test c.in-If.yes c.in-If.no c.deref-in-If.result.now _ c.in-If.is c.deref-in-If.ensures.value refl in
-    let p = err_from_is_err_and c.from_residual-in_err-block-in-If.result c.from_residual-in_err-block-in-If.ensures.1 in rw (p.1, p.2) (if-first (defs_in c.args.protocols.now) c.args.stmt.now.line (env_in c.args.protocols.now c.args.env.now) (stmt_of c.args.stmt.now) (term_of c.in-If.test) (code_of c.deref-in-If.result.now) (code_of c.in-If.no.items) is (c.in_ok-other-in-If.ensures.tests c.args.protocols.now) _ c.in_err-block-in-If.ensures)
+    let p = err_from_is_err_and c.from_residual-in_err-block-in-If.result c.from_residual-in_err-block-in-If.ensures.1 in rw (p.1, p.2) (if-first (defs_in c.args.protocols.now) (names_in c.args.protocols.now) c.args.stmt.now.line (env_in c.args.protocols.now c.args.env.now) (stmt_of c.args.stmt.now) (term_of c.in-If.test) (code_of c.deref-in-If.result.now) (code_of c.in-If.no.items) is (c.in_ok-other-in-If.ensures.tests c.args.protocols.now) _ c.in_err-block-in-If.ensures)
 
 pub statement-returns-in_err-block-in-If-2 : goal.statement-returns-in_err-block-in-If-2
 statement-returns-in_err-block-in-If-2 t c =
     let is = an_if c.args.stmt.now c.in-If.test c.in-If.yes c.in-If.no c.deref-in-If.result.now c.deref-in-If-2.result.now c.in-If.is c.deref-in-If.ensures.value c.deref-in-If-2.ensures.value in
     let same : env_in c.args.protocols.now c.in_ok-other-in-If.other ≡ env_in c.args.protocols.now c.args.env.now = ap (env_in c.args.protocols.now) c.in_ok-other-in-If.ensures.ok in
-    let p = err_from_is_err_and c.from_residual-in_err-block-in-If-2.result c.from_residual-in_err-block-in-If-2.ensures.1 in rw (p.1, p.2) (if-second (defs_in c.args.protocols.now) c.args.stmt.now.line (env_in c.args.protocols.now c.args.env.now) (stmt_of c.args.stmt.now) (term_of c.in-If.test) (code_of c.deref-in-If.result.now) (code_of c.deref-in-If-2.result.now) is
+    let p = err_from_is_err_and c.from_residual-in_err-block-in-If-2.result c.from_residual-in_err-block-in-If-2.ensures.1 in rw (p.1, p.2) (if-second (defs_in c.args.protocols.now) (names_in c.args.protocols.now) c.args.stmt.now.line (env_in c.args.protocols.now c.args.env.now) (stmt_of c.args.stmt.now) (term_of c.in-If.test) (code_of c.deref-in-If.result.now) (code_of c.deref-in-If-2.result.now) is
     (c.in_ok-other-in-If.ensures.tests c.args.protocols.now) c.in_ok-block-in-If.ensures.0 _ (rw same at c.in_err-block-in-If-2.ensures))
 
 pub statement-returns-in_ok-named-in-If : goal.statement-returns-in_ok-named-in-If
@@ -64,7 +64,7 @@ statement-returns-in_ok-named-in-If t c =
     let protocols = c.args.protocols.now in
     let is = an_if c.args.stmt.now c.in-If.test c.in-If.yes c.in-If.no c.deref-in-If.result.now c.deref-in-If-2.result.now c.in-If.is c.deref-in-If.ensures.value c.deref-in-If-2.ensures.value in
     let same : env_in protocols c.in_ok-other-in-If.other ≡ env_in protocols c.args.env.now = ap (env_in protocols) c.in_ok-other-in-If.ensures.ok in
-    if-joined (defs_in protocols) c.args.stmt.now.line (env_in protocols c.args.env.now) (stmt_of c.args.stmt.now) (term_of c.in-If.test) (code_of c.deref-in-If.result.now) (code_of c.deref-in-If-2.result.now) is
+    if-joined (defs_in protocols) (names_in protocols) c.args.stmt.now.line (env_in protocols c.args.env.now) (stmt_of c.args.stmt.now) (term_of c.in-If.test) (code_of c.deref-in-If.result.now) (code_of c.deref-in-If-2.result.now) is
     (c.in_ok-other-in-If.ensures.tests protocols) c.in_ok-block-in-If.ensures.0 (rw same at c.in_ok-block-in-If-2.ensures.0) (env_in protocols c.block.new.env) (env_in protocols c.block-in-If.new.env)
     c.in_ok-block-in-If.ensures.1 (rw same at c.in_ok-block-in-If-2.ensures.1) c.join.result (env_in protocols c.join.new.env) c.join.ensures.join
 
@@ -78,12 +78,12 @@ all_arms-returns-then-is_empty-clause-joined t c =
 pub all_arms-returns-in_err-block-clause-tests : goal.all_arms-returns-in_err-block-clause-tests
 all_arms-returns-in_err-block-clause-tests t c =
     let some : 0 < length c.args.arms.now = grind (arith, nat_tests) in
-    let p = err_from_is_err_and c.from_residual-in_err-block.result c.from_residual-in_err-block.ensures.1 in rw (p.1, p.2) (arm-fault (defs_in c.args.protocols.now) (env_in c.args.protocols.now c.args.env.now) c.args.end c.args.arms.now 0 c.index-arms-0.result some c.index-arms-0.is c.deref.result.now c.deref.ensures.value (env_in c.args.protocols.now c.in_ok-left.left) c.in_ok-left.ensures _ _ refl c.in_err-block.ensures)
+    let p = err_from_is_err_and c.from_residual-in_err-block.result c.from_residual-in_err-block.ensures.1 in rw (p.1, p.2) (arm-fault (defs_in c.args.protocols.now) (names_in c.args.protocols.now) (env_in c.args.protocols.now c.args.env.now) c.args.end c.args.arms.now 0 c.index-arms-0.result some c.index-arms-0.is c.deref.result.now c.deref.ensures.value (env_in c.args.protocols.now c.in_ok-left.left) c.in_ok-left.ensures _ _ refl c.in_err-block.ensures)
 
 pub all_arms-returns-in_err-block-2-clause-tests : goal.all_arms-returns-in_err-block-2-clause-tests
 all_arms-returns-in_err-block-2-clause-tests t c =
     let some : 0 < length c.args.arms.now = grind (arith, nat_tests) in
-    let p = err_from_is_err_and c.from_residual-in_err-block-2.result c.from_residual-in_err-block-2.ensures.1 in rw (p.1, p.2) (arm-fault (defs_in c.args.protocols.now) (env_in c.args.protocols.now c.args.env.now) c.args.end c.args.arms.now c.loop-i.i c.index-arms-i.result c.loop-i-test.true c.index-arms-i.is c.deref-in-loop-i.result.now c.deref-in-loop-i.ensures.value (env_in c.args.protocols.now c.in_ok-inner.inner) c.in_ok-inner.ensures _ _ (c.loop-i.invariant.tests ∙ arm-tests (defs_in c.args.protocols.now) (env_in c.args.protocols.now c.args.env.now) c.args.end c.args.arms.now 0 c.index-arms-0.result some c.index-arms-0.is c.deref.result.now c.deref.ensures.value (env_in c.args.protocols.now c.in_ok-left.left) c.in_ok-left.ensures c.in_ok-block.ensures.0) c.in_err-block-2.ensures)
+    let p = err_from_is_err_and c.from_residual-in_err-block-2.result c.from_residual-in_err-block-2.ensures.1 in rw (p.1, p.2) (arm-fault (defs_in c.args.protocols.now) (names_in c.args.protocols.now) (env_in c.args.protocols.now c.args.env.now) c.args.end c.args.arms.now c.loop-i.i c.index-arms-i.result c.loop-i-test.true c.index-arms-i.is c.deref-in-loop-i.result.now c.deref-in-loop-i.ensures.value (env_in c.args.protocols.now c.in_ok-inner.inner) c.in_ok-inner.ensures _ _ (c.loop-i.invariant.tests ∙ arm-tests (defs_in c.args.protocols.now) (names_in c.args.protocols.now) (env_in c.args.protocols.now c.args.env.now) c.args.end c.args.arms.now 0 c.index-arms-0.result some c.index-arms-0.is c.deref.result.now c.deref.ensures.value (env_in c.args.protocols.now c.in_ok-left.left) c.in_ok-left.ensures c.in_ok-block.ensures.0) c.in_err-block-2.ensures)
 
 pub all_arms-loop-i-preserved : goal.all_arms-loop-i-preserved
 all_arms-loop-i-preserved t c =
@@ -92,10 +92,10 @@ all_arms-loop-i-preserved t c =
     let out = (env_in c.args.protocols.now c.block-in-loop-i.new.env) in
     let left = env_in c.args.protocols.now c.loop-i.left in
     let rest = after_branches ps env c.args.end (from c.args.arms.now (c.loop-i.i + 1)) in
-    let after : after_branches ps env c.args.end (from c.args.arms.now c.loop-i.i) ≡ out ∷ rest = arm-after (defs_in c.args.protocols.now) (env_in c.args.protocols.now c.args.env.now) c.args.end c.args.arms.now c.loop-i.i c.index-arms-i.result c.loop-i-test.true c.index-arms-i.is c.deref-in-loop-i.result.now c.deref-in-loop-i.ensures.value (env_in c.args.protocols.now c.in_ok-inner.inner) c.in_ok-inner.ensures out c.in_ok-block-2.ensures.1 in
+    let after : after_branches ps env c.args.end (from c.args.arms.now c.loop-i.i) ≡ out ∷ rest = arm-after (defs_in c.args.protocols.now) (names_in c.args.protocols.now) (env_in c.args.protocols.now c.args.env.now) c.args.end c.args.arms.now c.loop-i.i c.index-arms-i.result c.loop-i-test.true c.index-arms-i.is c.deref-in-loop-i.result.now c.deref-in-loop-i.ensures.value (env_in c.args.protocols.now c.in_ok-inner.inner) c.in_ok-inner.ensures out c.in_ok-block-2.ensures.1 in
     let kept = ap (env_in c.args.protocols.now) c.keep_common.ensures in
     record {
-      tests = arm-tests (defs_in c.args.protocols.now) (env_in c.args.protocols.now c.args.env.now) c.args.end c.args.arms.now c.loop-i.i c.index-arms-i.result c.loop-i-test.true c.index-arms-i.is c.deref-in-loop-i.result.now c.deref-in-loop-i.ensures.value (env_in c.args.protocols.now c.in_ok-inner.inner) c.in_ok-inner.ensures c.in_ok-block-2.ensures.0 ∙ c.loop-i.invariant.tests;
+      tests = arm-tests (defs_in c.args.protocols.now) (names_in c.args.protocols.now) (env_in c.args.protocols.now c.args.env.now) c.args.end c.args.arms.now c.loop-i.i c.index-arms-i.result c.loop-i-test.true c.index-arms-i.is c.deref-in-loop-i.result.now c.deref-in-loop-i.ensures.value (env_in c.args.protocols.now c.in_ok-inner.inner) c.in_ok-inner.ensures c.in_ok-block-2.ensures.0 ∙ c.loop-i.invariant.tests;
       ends = ap (λ (e : EnvAt). e.ends) kept ∙ c.loop-i.invariant.ends;
       agree = ap (λ (e : EnvAt). c.both-agree.result && all_leave e.ends rest) kept
           ∙ ap (λ b. b && all_leave left.ends rest) (c.both-agree.ensures ∙ ap (λ b. c.loop-i.agree && b) c.has_same_ends_at.ensures)
@@ -108,15 +108,15 @@ pub all_arms-returns-clause-tests : goal.all_arms-returns-clause-tests
 all_arms-returns-clause-tests t c =
     let some : 0 < length c.args.arms.now = grind (arith, nat_tests) in
     let end = from-end c.args.arms.now c.loop-i.i (omega arith) in
-    sym (c.loop-i.invariant.tests ∙ arm-tests (defs_in c.args.protocols.now) (env_in c.args.protocols.now c.args.env.now) c.args.end c.args.arms.now 0 c.index-arms-0.result some c.index-arms-0.is c.deref.result.now c.deref.ensures.value (env_in c.args.protocols.now c.in_ok-left.left) c.in_ok-left.ensures c.in_ok-block.ensures.0)
-    ∙ ap (λ bs. first_fault (branches_tests (defs_in c.args.protocols.now) (env_in c.args.protocols.now c.args.env.now) c.args.end bs)) end
+    sym (c.loop-i.invariant.tests ∙ arm-tests (defs_in c.args.protocols.now) (names_in c.args.protocols.now) (env_in c.args.protocols.now c.args.env.now) c.args.end c.args.arms.now 0 c.index-arms-0.result some c.index-arms-0.is c.deref.result.now c.deref.ensures.value (env_in c.args.protocols.now c.in_ok-left.left) c.in_ok-left.ensures c.in_ok-block.ensures.0)
+    ∙ ap (λ bs. first_fault (branches_tests (defs_in c.args.protocols.now) (names_in c.args.protocols.now) (env_in c.args.protocols.now c.args.env.now) c.args.end bs)) end
 
 pub all_arms-returns-clause-joined : goal.all_arms-returns-clause-joined
 all_arms-returns-clause-joined t c =
     let some : 0 < length c.args.arms.now = grind (arith, nat_tests) in
     let ps = defs_in c.args.protocols.now in
     let end = from-end c.args.arms.now c.loop-i.i (omega arith) in
-    let whole = arm-after (defs_in c.args.protocols.now) (env_in c.args.protocols.now c.args.env.now) c.args.end c.args.arms.now 0 c.index-arms-0.result some c.index-arms-0.is c.deref.result.now c.deref.ensures.value (env_in c.args.protocols.now c.in_ok-left.left) c.in_ok-left.ensures (env_in c.args.protocols.now c.block.new.env) c.in_ok-block.ensures.1 in
+    let whole = arm-after (defs_in c.args.protocols.now) (names_in c.args.protocols.now) (env_in c.args.protocols.now c.args.env.now) c.args.end c.args.arms.now 0 c.index-arms-0.result some c.index-arms-0.is c.deref.result.now c.deref.ensures.value (env_in c.args.protocols.now c.in_ok-left.left) c.in_ok-left.ensures (env_in c.args.protocols.now c.block.new.env) c.in_ok-block.ensures.1 in
     let known = ap (λ bs. common_of c.loop-i.left.variables (after_branches ps (env_in c.args.protocols.now c.args.env.now) c.args.end bs)) (sym end) ∙ c.loop-i.invariant.known in
     (λ i. record { ends = c.loop-i.invariant.ends i; variables = known i }) ∙ ap common_env (sym whole)
 
@@ -125,7 +125,7 @@ all_arms-returns-clause-agree t c =
     let some : 0 < length c.args.arms.now = grind (arith, nat_tests) in
     let ps = defs_in c.args.protocols.now in
     let end = from-end c.args.arms.now c.loop-i.i (omega arith) in
-    let whole = arm-after (defs_in c.args.protocols.now) (env_in c.args.protocols.now c.args.env.now) c.args.end c.args.arms.now 0 c.index-arms-0.result some c.index-arms-0.is c.deref.result.now c.deref.ensures.value (env_in c.args.protocols.now c.in_ok-left.left) c.in_ok-left.ensures (env_in c.args.protocols.now c.block.new.env) c.in_ok-block.ensures.1 in
+    let whole = arm-after (defs_in c.args.protocols.now) (names_in c.args.protocols.now) (env_in c.args.protocols.now c.args.env.now) c.args.end c.args.arms.now 0 c.index-arms-0.result some c.index-arms-0.is c.deref.result.now c.deref.ensures.value (env_in c.args.protocols.now c.in_ok-left.left) c.in_ok-left.ensures (env_in c.args.protocols.now c.block.new.env) c.in_ok-block.ensures.1 in
     sym (and_true c.loop-i.agree) ∙ ap (λ bs. c.loop-i.agree && all_leave (env_in c.args.protocols.now c.loop-i.left).ends (after_branches ps (env_in c.args.protocols.now c.args.env.now) c.args.end bs)) (sym end)
     ∙ c.loop-i.invariant.agree ∙ ap is_one (sym whole)
 
@@ -139,14 +139,14 @@ statement-returns-in_err-left-in-Branch t c =
     let is = an_inbranch c.args.stmt.now c.in-Branch.end c.in-Branch.arms c.deref-in-Branch.result.now c.in-Branch.is c.deref-in-Branch.ensures.value in
     let same : c.deref.result.now ≡ c.deref-in-Branch.result.now = c.deref.ensures.value ∙ sym c.deref-in-Branch.ensures.value in
     let asked = rw same at c.in_ok-branching-in-Branch.ensures in
-    let p = err_from_is_err_and c.from_residual-in_err-left-in-Branch.result c.from_residual-in_err-left-in-Branch.ensures.1 in rw (p.1, p.2) (branch-arms (defs_in c.args.protocols.now) c.args.stmt.now.line (env_in c.args.protocols.now c.args.env.now) (stmt_of c.args.stmt.now) c.in-Branch.end (branches_of (map arm_of c.deref-in-Branch.result.now)) is asked _ c.in_err-left-in-Branch.ensures.tests)
+    let p = err_from_is_err_and c.from_residual-in_err-left-in-Branch.result c.from_residual-in_err-left-in-Branch.ensures.1 in rw (p.1, p.2) (branch-arms (defs_in c.args.protocols.now) (names_in c.args.protocols.now) c.args.stmt.now.line (env_in c.args.protocols.now c.args.env.now) (stmt_of c.args.stmt.now) c.in-Branch.end (branches_of (map arm_of c.deref-in-Branch.result.now)) is asked _ c.in_err-left-in-Branch.ensures.tests)
 
 pub statement-returns-then-not-agree : goal.statement-returns-then-not-agree
 statement-returns-then-not-agree t c =
     let is = an_inbranch c.args.stmt.now c.in-Branch.end c.in-Branch.arms c.deref-in-Branch.result.now c.in-Branch.is c.deref-in-Branch.ensures.value in
     let same : c.deref.result.now ≡ c.deref-in-Branch.result.now = c.deref.ensures.value ∙ sym c.deref-in-Branch.ensures.value in
     let asked = rw same at c.in_ok-branching-in-Branch.ensures in
-    rw c.broken.ensures (branch-ends (defs_in c.args.protocols.now) c.args.stmt.now.line (env_in c.args.protocols.now c.args.env.now) (stmt_of c.args.stmt.now) c.in-Branch.end (branches_of (map arm_of c.deref-in-Branch.result.now)) is asked c.in_ok-left-in-Branch.agree c.in_ok-left-in-Branch.ensures.tests c.in_ok-left-in-Branch.ensures.agree
+    rw c.broken.ensures (branch-ends (defs_in c.args.protocols.now) (names_in c.args.protocols.now) c.args.stmt.now.line (env_in c.args.protocols.now c.args.env.now) (stmt_of c.args.stmt.now) c.in-Branch.end (branches_of (map arm_of c.deref-in-Branch.result.now)) is asked c.in_ok-left-in-Branch.agree c.in_ok-left-in-Branch.ensures.tests c.in_ok-left-in-Branch.ensures.agree
     ∙ ap (λ b. cond b None (Some (9, c.args.stmt.now.line))) c.if-not-agree.true)
 
 pub statement-returns-else-not-agree : goal.statement-returns-else-not-agree
@@ -154,7 +154,7 @@ statement-returns-else-not-agree t c =
     let is = an_inbranch c.args.stmt.now c.in-Branch.end c.in-Branch.arms c.deref-in-Branch.result.now c.in-Branch.is c.deref-in-Branch.ensures.value in
     let same : c.deref.result.now ≡ c.deref-in-Branch.result.now = c.deref.ensures.value ∙ sym c.deref-in-Branch.ensures.value in
     let asked = rw same at c.in_ok-branching-in-Branch.ensures in (
-      branch-ends (defs_in c.args.protocols.now) c.args.stmt.now.line (env_in c.args.protocols.now c.args.env.now) (stmt_of c.args.stmt.now) c.in-Branch.end (branches_of (map arm_of c.deref-in-Branch.result.now)) is asked c.in_ok-left-in-Branch.agree c.in_ok-left-in-Branch.ensures.tests c.in_ok-left-in-Branch.ensures.agree
+      branch-ends (defs_in c.args.protocols.now) (names_in c.args.protocols.now) c.args.stmt.now.line (env_in c.args.protocols.now c.args.env.now) (stmt_of c.args.stmt.now) c.in-Branch.end (branches_of (map arm_of c.deref-in-Branch.result.now)) is asked c.in_ok-left-in-Branch.agree c.in_ok-left-in-Branch.ensures.tests c.in_ok-left-in-Branch.ensures.agree
           ∙ ap (λ b. cond b None (Some (9, c.args.stmt.now.line))) c.if-not-agree.false,
       c.in_ok-left-in-Branch.ensures.joined ∙ ap (after_stmt (defs_in c.args.protocols.now) (env_in c.args.protocols.now c.args.env.now)) (sym is),
     )
@@ -162,24 +162,24 @@ statement-returns-else-not-agree t c =
 -- what may differ is named
 pub out_while-has_same_ends_at-requires : goal.out_while-has_same_ends_at-requires
 out_while-has_same_ends_at-requires t c =
-    blocks-beyond (defs_in c.args.protocols.now) (env_in c.args.protocols.now c.args.env.now) _ (env_in c.args.protocols.now c.args.env.now) _ (c.args.end ∷ []) code.no_stmt (code_of c.args.body.now) code.no_stmt (code_of c.args.body.now) _ refl refl
+    blocks-beyond (defs_in c.args.protocols.now) (names_in c.args.protocols.now) (env_in c.args.protocols.now c.args.env.now) _ (env_in c.args.protocols.now c.args.env.now) _ (c.args.end ∷ []) code.no_stmt (code_of c.args.body.now) code.no_stmt (code_of c.args.body.now) _ refl refl
     c.in_ok-named.ensures (moved-beyond (env_in c.args.protocols.now c.args.env.now) _ _ c.args.end _ (ap (env_in c.args.protocols.now) c.in_ok-inner.ensures) c.in_ok-enter.ensures) refl refl c.in_ok-block.ensures.0 c.in_ok-block.ensures.1
 
 pub in_while-has_same_ends_at-requires : goal.in_while-has_same_ends_at-requires
 in_while-has_same_ends_at-requires t c =
-    blocks-beyond (defs_in c.args.protocols.now) (env_in c.args.protocols.now c.args.env.now) _ (env_in c.args.protocols.now c.args.env.now) _ (c.args.end ∷ []) code.no_stmt (code_of c.args.body.now) code.no_stmt (code_of c.args.body.now) _ refl refl
+    blocks-beyond (defs_in c.args.protocols.now) (names_in c.args.protocols.now) (env_in c.args.protocols.now c.args.env.now) _ (env_in c.args.protocols.now c.args.env.now) _ (c.args.end ∷ []) code.no_stmt (code_of c.args.body.now) code.no_stmt (code_of c.args.body.now) _ refl refl
     c.in_ok-named.ensures (moved-beyond (env_in c.args.protocols.now c.args.env.now) _ _ c.args.end _ (ap (env_in c.args.protocols.now) c.in_ok-turn.ensures) c.in_ok-enter.ensures) refl refl c.in_ok-block.ensures.0 c.in_ok-block.ensures.1
 
 pub relay-has_same_ends_at-requires : goal.relay-has_same_ends_at-requires
 relay-has_same_ends_at-requires t c =
-    blocks-beyond (defs_in c.args.protocols.now) (env_in c.args.protocols.now c.args.env.now) _ (env_in c.args.protocols.now c.args.env.now) _ (c.args.from ∷ c.args.to ∷ []) code.no_stmt (code_of c.args.body.now) code.no_stmt (code_of c.args.body.now) _ refl refl
+    blocks-beyond (defs_in c.args.protocols.now) (names_in c.args.protocols.now) (env_in c.args.protocols.now c.args.env.now) _ (env_in c.args.protocols.now c.args.env.now) _ (c.args.from ∷ c.args.to ∷ []) code.no_stmt (code_of c.args.body.now) code.no_stmt (code_of c.args.body.now) _ refl refl
     c.in_ok-named.ensures (both-moved-beyond (env_in c.args.protocols.now c.args.env.now) _ _ _ c.args.from c.args.to _ _ (ap (env_in c.args.protocols.now) c.in_ok-inner.ensures) c.in_ok-enter.ensures c.in_ok-enter-2.ensures) refl refl
     c.in_ok-block.ensures.0 c.in_ok-block.ensures.1
 
 pub all_arms-has_same_ends_at-requires : goal.all_arms-has_same_ends_at-requires
 all_arms-has_same_ends_at-requires t c q out =
     ap (λ m. get m q) c.loop-i.invariant.ends
-    ∙ blocks-beyond (defs_in c.args.protocols.now) _ _ _ _ (c.args.end ∷ []) (code_of c.deref.result.now) (code_of c.deref-in-loop-i.result.now)
+    ∙ blocks-beyond (defs_in c.args.protocols.now) (names_in c.args.protocols.now) _ _ _ _ (c.args.end ∷ []) (code_of c.deref.result.now) (code_of c.deref-in-loop-i.result.now)
     (code_of c.deref-in-loop-i-2.result.now) (code_of c.deref-in-loop-i-3.result.now) _
     (ap code_of (c.deref-in-loop-i-2.ensures.value ∙ sym c.deref.ensures.value)) (ap code_of (c.deref-in-loop-i-3.ensures.value ∙ sym c.deref-in-loop-i.ensures.value))
     c.in_ok-named.ensures (arms-beyond (env_in c.args.protocols.now c.args.env.now) _ _ c.args.end _ _ c.in_ok-left.ensures c.in_ok-inner.ensures)
@@ -187,7 +187,7 @@ all_arms-has_same_ends_at-requires t c q out =
 
 pub statement-join-requires : goal.statement-join-requires
 statement-join-requires t c =
-    blocks-beyond (defs_in c.args.protocols.now) (env_in c.args.protocols.now c.args.env.now) (env_in c.args.protocols.now c.in_ok-other-in-If.other) _ _ [] (code_of c.deref-in-If.result.now) (code_of c.deref-in-If-2.result.now)
+    blocks-beyond (defs_in c.args.protocols.now) (names_in c.args.protocols.now) (env_in c.args.protocols.now c.args.env.now) (env_in c.args.protocols.now c.in_ok-other-in-If.other) _ _ [] (code_of c.deref-in-If.result.now) (code_of c.deref-in-If-2.result.now)
     (code_of c.deref-in-If-3.result.now) (code_of c.deref-in-If-4.result.now) _
     (ap code_of (c.deref-in-If-3.ensures.value ∙ sym c.deref-in-If.ensures.value)) (ap code_of (c.deref-in-If-4.ensures.value ∙ sym c.deref-in-If-2.ensures.value))
     c.in_ok-named-in-If.ensures (λ q n. ap (λ (k : SpotEnv). get (env_in c.args.protocols.now k).ends q) (sym c.in_ok-other-in-If.ensures.ok))

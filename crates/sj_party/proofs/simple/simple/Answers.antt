@@ -54,3 +54,19 @@ returns-in-Close-clause-reads c =
 pub returns-in-Close-clause-fault : goal.returns-in-Close-clause-fault
 returns-in-Close-clause-fault c =
     subst (λ (w : Word). IfErr c.close.result (λ e. (n : ℕ) → Stops (λ ds. simple_dues w ds) n (standing c.args.tokens.now c.args.names.now) e)) (sym c.in-Close.is) c.close.ensures.fault
+
+pub returns-in-Request-clause-reads : goal.returns-in-Request-clause-reads
+returns-in-Request-clause-reads c =
+    subst (λ (w : Word). IfOk c.request.result (λ d. (o : ℕ) → ReadsDeed (simple_word w) o (standing c.args.tokens.now c.args.names.now) (standing c.request.new.tokens c.request.new.names) (deed_of d))) (sym c.in-Request.is) c.request.ensures.reads
+
+pub returns-in-Request-clause-fault : goal.returns-in-Request-clause-fault
+returns-in-Request-clause-fault c =
+    subst (λ (w : Word). IfErr c.request.result (λ e. (n : ℕ) → Stops (λ ds. simple_dues w ds) n (standing c.args.tokens.now c.args.names.now) e)) (sym c.in-Request.is) c.request.ensures.fault
+
+pub returns-in-Accept-clause-reads : goal.returns-in-Accept-clause-reads
+returns-in-Accept-clause-reads c =
+    subst (λ (w : Word). IfOk c.accept.result (λ d. (o : ℕ) → ReadsDeed (simple_word w) o (standing c.args.tokens.now c.args.names.now) (standing c.accept.new.tokens c.accept.new.names) (deed_of d))) (sym c.in-Accept.is) c.accept.ensures.reads
+
+pub returns-in-Accept-clause-fault : goal.returns-in-Accept-clause-fault
+returns-in-Accept-clause-fault c =
+    subst (λ (w : Word). IfErr c.accept.result (λ e. (n : ℕ) → Stops (λ ds. simple_dues w ds) n (standing c.args.tokens.now c.args.names.now) e)) (sym c.in-Accept.is) c.accept.ensures.fault

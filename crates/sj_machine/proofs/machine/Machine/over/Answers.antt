@@ -18,6 +18,7 @@ invariant_of-result c =
       frames_room = grind (arith, common_steps);
       named = subst (λ (n : ℕ). AllBindBelow n nodes) size (subst (AllBindBelow names) c.deref.ensures.value c.names_above-names.ensures.nodes);
       once = subst (λ (es : List (ℕ × EndId)). AreNamedOnce (length c.in_ok-vars.vars.items) es) (sym c.in_ok-ends.ensures.items)
-          (subst (λ (n : ℕ). AreNamedOnce n c.args.connected.now) size (once_from names c.args.connected.now c.requires c.names_above-names.ensures.ends));
+          (subst (λ (n : ℕ). AreNamedOnce n c.args.connected.now) size (once_from names c.args.connected.now c.requires.differ c.names_above-names.ensures.ends));
       names_room = subst (λ (n : ℕ). n ≤ vec_capacity c.in_ok-ends.ends) size c.in_ok-ends.ensures.room;
+      few = c.requires.few;
     }

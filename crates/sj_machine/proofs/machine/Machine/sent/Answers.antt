@@ -9,4 +9,5 @@ invariant_of-self c = record {
   named = c.self.invariant.named;
   once = c.sent.ensures.once _ c.self.invariant.once;
   names_room = omega arith;
+  few = c.self.invariant.few;
 }
