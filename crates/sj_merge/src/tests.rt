@@ -58,25 +58,11 @@ fn an_empty_log_adds_nothing(rt: HostRuntime) -> Result<(), Fail> {
 }
 
 #[test]
-fn sixteen_logs_are_joined(rt: HostRuntime) -> Result<(), Fail> {
-    let (even, odd, none) = ([entry(2), entry(4)], [entry(1), entry(4)], []);
-    let (e, o, n): (&[Entry], &[Entry], &[Entry]) = (&even, &odd, &none);
-    let logs = [e, o, n, n, e, n, n, o, n, n, n, n, n, n, n, o];
-    let lines = join_logs(rt.alloc(), &logs)?;
-    let want = [
-        (1, 1),
-        (7, 1),
-        (15, 1),
-        (0, 2),
-        (4, 2),
-        (0, 4),
-        (1, 4),
-        (4, 4),
-        (7, 4),
-        (15, 4),
-    ];
+fn logs_are_joined_by_clock_then_by_party(rt: HostRuntime) -> Result<(), Fail> {
+    let (even, odd) = ([entry(2), entry(4)], [entry(1), entry(4)]);
+    let (even, odd): (&[Entry], &[Entry]) = (&even, &odd);
+    let lines = join_logs(rt.alloc(), &[even, odd, &[], odd])?;
+    let want = [(1, 1), (3, 1), (0, 2), (0, 4), (1, 4), (3, 4)];
     assert_eq!(rt; clocks(rt.alloc(), &lines)?.as_slice(), want.as_slice());
-    let lines = join_logs(rt.alloc(), &[])?;
-    assert_eq!(rt; lines.len(), 0);
     Ok(())
 }

@@ -4,7 +4,7 @@ use sj_check::{Accepted, check, is_within_limits};
 use sj_lang::{
     Connect, Deed, EndDecl, Expr, File, Item, Kind, Names, Party, Proto, ProtocolDef, Scalar, Stmt,
 };
-use std::alloc::Global;
+use std::alloc::{AllocError, Global};
 use std::test::Fail;
 
 const P: u16 = 10;
@@ -45,37 +45,47 @@ fn declared(party: u16, name: u16, protocol: u16) -> EndDecl {
     }
 }
 
-pub fn greeting(alloc: Global) -> Result<Accepted, Fail> {
-    let says = vec![in alloc;
-        stmt(Deed::Send {
-            end: X,
-            value: Expr::Int(5)
-        }),
-        stmt(Deed::Close { end: X }),
-    ]?;
-    let hears = vec![in alloc;
-        stmt(Deed::Take {
-            end: Y,
-            into: N,
-            kind: Scalar::Int
-        }),
-        stmt(Deed::Close { end: Y }),
-    ]?;
-    let file = File {
-        names: Names::new(alloc),
-        protocols: vec![in alloc;
-            protocol(P, vec![in alloc; Item::Send(Kind::Int)]?),
-            protocol(Q, vec![in alloc; Item::Recv(Kind::Int)]?),
-        ]?,
-        parties: vec![in alloc; party(A, says), party(B, hears)]?,
-        connects: vec![in alloc;
-            Connect {
-                line: 1,
-                first: declared(A, X, P),
-                second: declared(B, Y, Q),
-            },
-        ]?,
+fn protocols(alloc: Global) -> Result<Vec<ProtocolDef>, AllocError> {
+    let sends = Vec::from_array(alloc, [Item::Send(Kind::Int)])?;
+    let takes = Vec::from_array(alloc, [Item::Recv(Kind::Int)])?;
+    Ok(Vec::from_array(alloc, [protocol(P, sends), protocol(Q, takes)])?)
+}
+
+fn parties(alloc: Global) -> Result<Vec<Party>, AllocError> {
+    let value = Expr::Int(5);
+    let take = Deed::Take {
+        end: Y,
+        into: N,
+        kind: Scalar::Int,
     };
+    let says = [
+        stmt(Deed::Send { end: X, value }),
+        stmt(Deed::Close { end: X }),
+    ];
+    let says = Vec::from_array(alloc, says)?;
+    let hears = [stmt(take), stmt(Deed::Close { end: Y })];
+    let hears = Vec::from_array(alloc, hears)?;
+    Ok(Vec::from_array(alloc, [party(A, says), party(B, hears)])?)
+}
+
+fn file(alloc: Global) -> Result<File, AllocError> {
+    let connect = Connect {
+        line: 1,
+        first: declared(A, X, P),
+        second: declared(B, Y, Q),
+    };
+    let protocols = protocols(alloc)?;
+    let parties = parties(alloc)?;
+    Ok(File {
+        names: Names::new(alloc),
+        protocols,
+        parties,
+        connects: Vec::from_array(alloc, [connect])?,
+    })
+}
+
+pub fn greeting(alloc: Global) -> Result<Accepted, Fail> {
+    let file = file(alloc)?;
     if !is_within_limits(&file) {
         return Err(Fail::from("too large"));
     }
