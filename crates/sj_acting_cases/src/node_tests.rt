@@ -1,10 +1,9 @@
 //! Two nodes that hand an end over to each other, and what a node refuses. Whole histories are cases of
 //! the program.
-use crate::limits::CLOCK_END;
-use crate::{DeliverRefusal, Halt, Node};
 use sj_base::{EndId, Msg};
 use sj_check::Accepted;
 use sj_end::{Body, End, Entry, Event, Frame, Note, note_of};
+use sj_node::{DeliverRefusal, Halt, Node};
 use sj_table::Spot;
 use std::alloc::Global;
 use std::collections::VecDeque;
@@ -13,6 +12,9 @@ use std::test::Fail;
 mod building;
 
 use building::to_the_peer;
+
+// No event happens at this clock.
+const CLOCK_END: u64 = 1 << 62;
 
 const A: u16 = 0;
 

@@ -1,11 +1,11 @@
 //! The greeting, whose parties work over rings.
 
-use crate::{Gate, NoGate, Stop, Worker, work, work_all};
 use sj_base::EndId;
 use sj_check::Accepted;
 use sj_end::{Body, Entry, Event, Frame, Line, Note};
 use sj_lane::{Lanes, Links, OutLane, RingIn, RingLinks, RingOut};
 use sj_node::Node;
+use sj_work::{Gate, NoGate, Stop, Worker, work, work_all};
 use std::alloc::Global;
 use std::sync::atomic::{AtomicU64, Ordering};
 use std::test::Fail;

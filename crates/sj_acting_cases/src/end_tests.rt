@@ -3,8 +3,8 @@ ghost use Rattle.std.specs.Prelude.{◌≤◌};
 ghost use Rattle.sj_lang.specs.View.{place_of};
 ghost use Rattle.sj_table.specs.Nodes.{node_count};
 
-use super::*;
 use sj_base::{EndId, Msg, NoMemory};
+use sj_end::{Body, Expected, Held, Note, note_of};
 use sj_lang::{Item, Kind, Proto, ProtocolDef, Way};
 use sj_table::{Spot, Table};
 use std::alloc::Global;

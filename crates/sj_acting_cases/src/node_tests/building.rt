@@ -1,7 +1,7 @@
 //! The file of the tests: a delegates its end x to b, which has the other end y.
 //!
 //! Its protocols are p, `!<int>`, and g, `!<!<int>>`, with their duals q and h.
-use crate::tests::{A, B};
+use crate::node_tests::{A, B};
 use sj_check::{Accepted, check, is_within_limits};
 use sj_lang::{
     Connect, Deed, EndDecl, Expr, File, Item, Kind, Names, Party, Proto, ProtocolDef, Scalar, Stmt,

@@ -1,6 +1,6 @@
 //! The public calls on a file of one party, and what no text of a file can have. First faults of
 //! files are cases of the program.
-use crate::{CheckRefusal, check, is_within_limits};
+use sj_check::{CheckRefusal, check, is_within_limits};
 use sj_lang::{
     Arms, Connect, Deed, EndDecl, Expr, File, Item, Kind, Names, Party, Proto, ProtocolDef, Stmt,
 };

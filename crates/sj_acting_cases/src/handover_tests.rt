@@ -1,9 +1,9 @@
 //! Each call of a handover once. Whole handovers are cases of the program.
 ghost use Rattle.std.specs.Prelude.{◌≡◌};
 
-use super::*;
 use sj_base::{EndId, Msg, NoMemory};
 use sj_end::{Body, End, Expected, Held, Note, Parked, Post, Signalled, note_of};
+use sj_handover::{Usable, acked, claim, crossed, fits_install, install, passive, signal};
 use sj_table::Spot;
 use std::alloc::Global;
 use std::collections::VecDeque;

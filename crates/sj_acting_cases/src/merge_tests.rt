@@ -1,9 +1,9 @@
 //! Small logs joined.
 ghost use Rattle.std.specs.Prelude.{◌≡◌};
 
-use crate::{join_logs, merge_in};
 use sj_base::NoMemory;
 use sj_end::{Entry, Event, Line, Note};
+use sj_merge::{join_logs, merge_in};
 use std::alloc::Global;
 use std::test::Fail;
 

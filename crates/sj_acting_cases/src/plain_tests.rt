@@ -1,9 +1,9 @@
 //! A plain world of two parties, in which a turns so often and b follows, and what refuses an act. Whole
 //! files and their transcripts are cases of the program.
-use crate::{Halt, Plain};
 use sj_base::{EndId, Msg};
 use sj_check::{Accepted, check, is_within_limits};
 use sj_lang::{Connect, Deed, EndDecl, Expr, File, Item, Names, Party, Proto, ProtocolDef, Stmt};
+use sj_plain::{Halt, Plain};
 use sj_semantics::{Awaits, Passed, State, Verdict, Want};
 use std::alloc::{AllocError, Global};
 use std::test::Fail;

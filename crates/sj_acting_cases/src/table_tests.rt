@@ -2,9 +2,9 @@
 ghost use Rattle.std.specs.Prelude.{◌≡◌, IfOk};
 ghost use Rattle.sj_table.specs.Nodes.{node_count};
 
-use super::*;
 use sj_base::{Msg, NoMemory};
 use sj_lang::{Arm, Arms, Item, Kind, Proto, ProtocolDef, Way, same};
+use sj_table::{Spot, Table};
 use std::alloc::Global;
 use std::test::Fail;
 

@@ -1,5 +1,5 @@
 //! The file of the greeting: a sends 5 on x, and b takes it from y.
-use crate::tests::{A, B};
+use crate::work_tests::{A, B};
 use sj_check::{Accepted, check, is_within_limits};
 use sj_lang::{
     Connect, Deed, EndDecl, Expr, File, Item, Kind, Names, Party, Proto, ProtocolDef, Scalar, Stmt,
