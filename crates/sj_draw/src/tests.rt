@@ -4,13 +4,6 @@ use sj_base::{MemSink, MemSource};
 use std::alloc::Global;
 use std::test::Fail;
 
-// How often the piece stands in the text.
-fn times(text: &[u8], piece: &[u8]) -> usize {
-    text.windows(piece.len().max(1))
-        .filter(|w| *w == piece)
-        .count()
-}
-
 // A transcript with a message that nobody took.
 const TRANSCRIPT: &[u8] = b"session 0 a x b y\n\
     0.0 0 a b int 1\n\
@@ -39,130 +32,97 @@ const LOG: &[u8] = b"%%log\n\
     17 c from c give 0.1 1 a 0 1 0 3\n\
     18 c local\n";
 
-fn picture(alloc: Global, parts: &[&[u8]]) -> Result<Vec<u8>, Fail> {
-    let mut bytes = Vec::new(alloc);
-    for part in parts {
-        bytes.extend_from_slice(part)?;
-    }
-    match draw_lines(alloc, &bytes) {
-        Ok(svg) => Ok(svg),
-        Err(_) => Err(Fail::new("no picture")),
-    }
+// How often the piece stands in the picture of the transcript with that log behind it.
+fn times(alloc: Global, log: &[u8], piece: &[u8]) -> Result<usize, Fail> {
+    let mut text = Vec::from_slice(alloc, TRANSCRIPT)?;
+    text.extend_from_slice(log)?;
+    let Ok(svg) = draw_lines(alloc, &text) else {
+        return Err(Fail::from("no picture"));
+    };
+    let many = piece.len().max(1);
+    Ok(svg.windows(many).filter(|w| *w == piece).count())
 }
 
+// A log, a piece, and how often it stands in the picture.
+type Row<'a> = (&'a [u8], &'a [u8], usize);
+
+const PIECES: [Row; 18] = [
+    (b"", b"class='party'", 3),
+    (b"", b"<path class='", 3 + 4),
+    (b"", b"<path class='message' ", 2),
+    (b"", b"<path class='message untaken' ", 1),
+    (b"", b"<path class='session' ", 1),
+    (b"", b">z: session 0.1 b</text>", 1),
+    (b"", b">u: String \"&lt;&amp;&gt;\"</text>", 1),
+    (LOG, b"class='party'", 3),
+    (LOG, b"<path class='", 3 + 9),
+    (LOG, b"<path class='message untaken' ", 1),
+    (LOG, b"<path class='message' ", 1),
+    (LOG, b"<path class='fin' ", 1),
+    (LOG, b"<path class='session' ", 1),
+    (LOG, b"<path class='claim' ", 1),
+    (LOG, b"<path class='signal' ", 1),
+    (LOG, b"<path class='ack' ", 1),
+    (LOG, b"<path class='give' ", 2),
+    (LOG, b">y: carry 0.1 0 0 0 int 1</text>", 1),
+];
+
 #[test]
-fn a_transcript_has_an_arrow_for_each_message(rt: HostRuntime) -> Result<(), Fail> {
-    let svg = picture(rt.alloc(), &[TRANSCRIPT])?;
-    let rows: [(&[u8], usize); 7] = [
-        (b"class='party'", 3),
-        (b"<path class='", 3 + 4),
-        (b"<path class='message' ", 2),
-        (b"<path class='message untaken' ", 1),
-        (b"<path class='session' ", 1),
-        (b">z: session 0.1 b</text>", 1),
-        (b">u: String \"&lt;&amp;&gt;\"</text>", 1),
-    ];
-    for (piece, count) in rows {
-        assert_eq!(rt; times(&svg, piece), count, "{piece:?}");
+fn each_message_or_delivery_has_an_arrow(rt: HostRuntime) -> Result<(), Fail> {
+    for (log, piece, count) in PIECES {
+        assert_eq!(rt; times(rt.alloc(), log, piece)?, count, "{piece:?}");
     }
     Ok(())
 }
 
+const REFUSED: [(&[u8], DrawRefusal); 22] = [
+    (b"", DrawRefusal::Unread(1)),
+    (b"done ", DrawRefusal::Unread(1)),
+    (b"session 0 a x b", DrawRefusal::Unread(1)),
+    (b"session 0 a x b y z", DrawRefusal::Unread(1)),
+    (b"session a a x b y", DrawRefusal::Unread(1)),
+    (b"party a", DrawRefusal::Unread(1)),
+    (b"party a ended", DrawRefusal::Unread(1)),
+    (b"party a ended x", DrawRefusal::Unread(1)),
+    (b"party a waits 3", DrawRefusal::Unread(1)),
+    (b"0.2 0 a b int 1", DrawRefusal::Unread(1)),
+    (b"0.0 0 a b", DrawRefusal::Unread(1)),
+    (b"0.0 0 a b float 1", DrawRefusal::Unread(1)),
+    (b"0.0 0 a b session 0.1", DrawRefusal::Unread(1)),
+    (b"1 a", DrawRefusal::Unread(1)),
+    (b"1 a jump", DrawRefusal::Unread(1)),
+    (b"1 a send 0.0", DrawRefusal::Unread(1)),
+    (b"1 a from b carry 0.1 0 0 int 1", DrawRefusal::Unread(1)),
+    (b"1 a from b give 0.1 1 a 0 1 0 x", DrawRefusal::Unread(1)),
+    (b"1 a local\r", DrawRefusal::Unread(1)),
+    (b"\xc3\xa9", DrawRefusal::Unread(1)),
+    (b"session 0 a x b y\nfoo\ndone\n", DrawRefusal::Unread(2)),
+    // A seventeenth party.
+    (
+        b"1 a local\n1 b local\n1 c local\n1 d local\n1 e local\n1 f local\n1 g local\n1 h local\n\
+        1 i local\n1 j local\n1 k local\n1 l local\n1 m local\n1 n local\n1 o local\n1 p local\n1 q local\n",
+        DrawRefusal::Beyond(17),
+    ),
+];
+
 #[test]
-fn a_log_has_an_arrow_for_each_delivery(rt: HostRuntime) -> Result<(), Fail> {
-    let svg = picture(rt.alloc(), &[TRANSCRIPT, LOG])?;
-    let rows: [(&[u8], usize); 11] = [
-        (b"class='party'", 3),
-        (b"<path class='", 3 + 9),
-        (b"<path class='message untaken' ", 1),
-        (b"<path class='message' ", 1),
-        (b"<path class='fin' ", 1),
-        (b"<path class='session' ", 1),
-        (b"<path class='claim' ", 1),
-        (b"<path class='signal' ", 1),
-        (b"<path class='ack' ", 1),
-        (b"<path class='give' ", 2),
-        (b">y: carry 0.1 0 0 0 int 1</text>", 1),
-    ];
-    for (piece, count) in rows {
-        assert_eq!(rt; times(&svg, piece), count, "{piece:?}");
+fn the_first_line_that_is_none_is_told(rt: HostRuntime) {
+    for (text, refusal) in REFUSED {
+        assert_eq!(rt;
+            draw_lines(rt.alloc(), text).err(),
+            Some(refusal),
+            "{text:?}"
+        );
     }
-    Ok(())
 }
 
 #[test]
-fn a_log_alone_names_ends_by_their_numbers(rt: HostRuntime) -> Result<(), Fail> {
-    let svg = picture(rt.alloc(), &[b"2 b from a claim 0.1"])?;
-    assert_eq!(rt; times(&svg, b">0.1: claim 0.1</text>"), 1);
-    Ok(())
-}
-
-#[test]
-fn lines_that_are_none(rt: HostRuntime) -> Result<(), Fail> {
-    let lines: [&[u8]; 20] = [
-        b"",
-        b"done ",
-        b"session 0 a x b",
-        b"session 0 a x b y z",
-        b"session a a x b y",
-        b"party a",
-        b"party a ended",
-        b"party a ended x",
-        b"party a waits 3",
-        b"0.2 0 a b int 1",
-        b"0.0 0 a b",
-        b"0.0 0 a b float 1",
-        b"0.0 0 a b session 0.1",
-        b"1 a",
-        b"1 a jump",
-        b"1 a send 0.0",
-        b"1 a from b carry 0.1 0 0 int 1",
-        b"1 a from b give 0.1 1 a 0 1 0 x",
-        b"1 a local\r",
-        b"\xc3\xa9",
-    ];
-    for line in lines {
-        let mut bytes = Vec::from_slice(rt.alloc(), b"session 0 a x b y\n")?;
-        bytes.extend_from_slice(line)?;
-        bytes.extend_from_slice(b"\ndone\n")?;
-        match draw_lines(rt.alloc(), &bytes) {
-            Err(refusal) => assert_eq!(rt; refusal, DrawRefusal::Unread(2), "{line:?}"),
-            Ok(_) => return Err(Fail::new("a picture")),
-        }
-    }
-    Ok(())
-}
-
-#[test]
-fn a_seventeenth_party(rt: HostRuntime) -> Result<(), Fail> {
-    let mut bytes = Vec::new(rt.alloc());
-    for i in 0..17_u8 {
-        bytes.extend_from_slice(b"1 p")?;
-        bytes.push(b'a' + i)?;
-        bytes.extend_from_slice(b" local\n")?;
-    }
-    match draw_lines(rt.alloc(), &bytes) {
-        Err(refusal) => assert_eq!(rt; refusal, DrawRefusal::Beyond(17)),
-        Ok(_) => return Err(Fail::new("a picture")),
-    }
-    Ok(())
-}
-
-#[test]
-fn what_the_program_answers(rt: HostRuntime) -> Result<(), Fail> {
-    let rows: [(&[u8], u8, &[u8]); 2] = [
-        (
-            b"1 a local\nfoo\n",
-            4,
-            b"line 2 is none of a transcript or a log\n",
-        ),
-        (b"", 4, b"line 1 is none of a transcript or a log\n"),
-    ];
-    for (input, status, text) in rows {
-        let mut src = MemSource::new(Vec::from_slice(rt.alloc(), input)?, Vec::new(rt.alloc()));
-        let mut out = MemSink::new(rt.alloc(), 10_000, Vec::new(rt.alloc()))?;
-        assert_eq!(rt; draw(rt.alloc(), &mut src, &mut out), status, "{input:?}");
-        assert_eq!(rt; out.text(), text, "{input:?}");
-    }
+fn the_program_answers_with_the_line(rt: HostRuntime) -> Result<(), Fail> {
+    let bytes = Vec::from_slice(rt.alloc(), b"1 a local\nfoo\n")?;
+    let mut src = MemSource::new(bytes, Vec::new(rt.alloc()));
+    let mut out = MemSink::new(rt.alloc(), 100, Vec::new(rt.alloc()))?;
+    assert_eq!(rt; draw(rt.alloc(), &mut src, &mut out), 4);
+    let wanted = b"line 2 is none of a transcript or a log\n";
+    assert_eq!(rt; out.text(), wanted.as_slice());
     Ok(())
 }

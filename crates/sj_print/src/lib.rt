@@ -11,6 +11,4 @@ pub use log::print_line;
 pub use transcript::print_transcript;
 
 #[cfg(test)]
-mod log_tests;
-#[cfg(test)]
 mod tests;

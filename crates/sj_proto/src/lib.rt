@@ -34,6 +34,3 @@ pub use reserved::is_name_text;
 pub use scan::{digits_number, goes_on_after_zero};
 pub use sj_grammar::{Fault, ParseRefusal, Rule, Token, What};
 pub use tokens::Tokens;
-
-#[cfg(test)]
-mod printing_tests;
