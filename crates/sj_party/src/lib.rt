@@ -15,8 +15,6 @@ mod scalars;
 mod shapes;
 mod simple;
 mod statements;
-#[cfg(test)]
-mod tests;
 
 pub use files::parse_file;
 pub use laws::{

@@ -9,6 +9,3 @@ mod transcript;
 
 pub use log::print_line;
 pub use transcript::print_transcript;
-
-#[cfg(test)]
-mod tests;

@@ -13,8 +13,6 @@ mod protocols;
 mod reserved;
 mod scan;
 mod shapes;
-#[cfg(test)]
-mod tests;
 mod tokens;
 
 pub use bodies::body;

@@ -1,8 +1,8 @@
 //! Logs that are read, and what is no log.
-use crate::{LogRefusal, parted, read_log};
 use sj_base::{EndId, Msg};
 use sj_end::{Entry, Event, Line, Note};
 use sj_lang::{File, Names, Party};
+use sj_log::{LogRefusal, parted, read_log};
 use std::alloc::Global;
 use std::test::Fail;
 

@@ -1,10 +1,10 @@
 //! A transcript and a line of a log.
-use crate::{print_line, print_transcript};
 use sj_base::{EndId, Msg};
 use sj_check::{Accepted, check, is_within_limits};
 use sj_end::{Entry, Event, Line, Note};
 use sj_lang::{File, Names, Party};
 use sj_plain::Plain;
+use sj_print::{print_line, print_transcript};
 use std::alloc::Global;
 use std::test::Fail;
 

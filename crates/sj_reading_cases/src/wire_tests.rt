@@ -2,9 +2,9 @@
 ghost use Rattle.sj_end.specs.Views.{frame_at};
 ghost use Rattle.sj_wire.specs.Lawful.{IsLawful};
 
-use super::*;
 use sj_base::{EndId, Msg};
 use sj_end::{Body, Frame, Note, note_of};
+use sj_wire::{Decoder, WireRefusal, encode, is_lawful};
 use std::alloc::Global;
 use std::test::Fail;
 

@@ -1,7 +1,7 @@
 //! A protocol, protocols at the front of a text, and tokens.
 
-use crate::{Tokens, What, parse_protocol, parse_protocols, print_protocol};
 use sj_lang::Names;
+use sj_proto::{Tokens, What, parse_protocol, parse_protocols, print_protocol};
 use std::test::Fail;
 
 const BODY: &[u8] = b"begin.![?{A: !<![?(boolean)]*>, B:}.?[!{B: ?(!{A:})}]*]*.?(String)";

@@ -1,7 +1,7 @@
 //! Files as texts, their parts, their canonical texts, and limits that one token passes.
 
-use crate::{ParseRefusal, Rule, parse_file, print_file, print_protocol_line};
 use sj_lang::{File, dual};
+use sj_party::{ParseRefusal, Rule, parse_file, print_file, print_protocol_line};
 use sj_proto::Tokens;
 use std::alloc::Global;
 use std::test::Fail;

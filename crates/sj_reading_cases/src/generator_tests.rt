@@ -1,5 +1,5 @@
 //! The generated file behind an old text.
-use crate::print_generated;
+use sj_generator::print_generated;
 use std::test::Fail;
 
 #[test]

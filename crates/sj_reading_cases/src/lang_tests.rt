@@ -1,6 +1,9 @@
 //! What the calls do on a small protocol, a block and a table.
-use super::*;
 use sj_base::Msg;
+use sj_lang::{
+    Arm, Arms, Deed, Item, Kind, PlaceRefusal, Proto, Stmt, Way, Words, after, copied_block, dual,
+    same,
+};
 use std::alloc::Global;
 use std::test::Fail;
 

@@ -1,6 +1,6 @@
 //! Expressions at the front of a text, and what comes next.
 
-use crate::parse_expression;
+use sj_expr::parse_expression;
 use sj_lang::{Expr, Names, Op};
 use sj_proto::Tokens;
 use std::test::Fail;

@@ -1,6 +1,6 @@
 //! Pictures of transcripts and logs, and lines that are none.
-use crate::{DrawRefusal, draw, draw_lines};
 use sj_base::{MemSink, MemSource};
+use sj_draw::{DrawRefusal, draw, draw_lines};
 use std::alloc::Global;
 use std::test::Fail;
 
