@@ -231,7 +231,7 @@ module _ {O I : Type 0} (pushed : O → Option (List (FrameAt Place))) (out_faul
     unfit_for q w there mt all_lost (Some l) is c =
         let parties = (turns q w there).went.parties ∙ (all.each q w there).first.parties in
         lost_fits q w l mt there (all_lost l.party ∙ ap (λ o. lost_from o l.party) is ∙ lost_own l) (lost_party q w there l mt is)
-        (subst (λ k. arrives k max (node_at (node_of w)) l.party l.frame ≡ None) parties c.0)
+        (subst (λ k. arrives k max (node_at (node_of w)) l.party l.frame ≡ None) parties c.1)
 
     unfit_or : (q : ℕ) → q < n → (o : Option (Worker O I)) (there : slice_get workers q ≡ o)
         → ((p : ℕ) → lost q p ≡ lost_from (Rattle.sj_run.proofs.TeamLemmas.lost_or pushed out_faults out_vain same_out popped in_faults in_vain same_in joined file looks true workers all q o there) p)

@@ -73,10 +73,11 @@ module _ {O I : Type 0} where
   abbrev pub MetFault : (out_faults : O → ℕ) (in_faults : I → ℕ) → (old new : Worker O I) → Type 0
   MetFault out_faults in_faults old new = SomeRose out_faults (out_of old) (out_of new) ⊎ SomeRose in_faults (in_of old) (in_of new)
 
-  -- the frame that was lost fits no row of the rules; or none was lost, nothing holds the party up, and the rules have no act
+  -- the frame that was lost came from a party of the file and fits no row of the rules; or none was lost, nothing holds the party up, and the rules have no act
   abbrev pub IsUnfit : Option (LostAt Place) → Worker O I → Type 0
   IsUnfit (Some l) new =
-      (arrives (parties_of (node_of new)) max (node_at (node_of new)) l.party l.frame ≡ None)
+      (l.party < parties_of (node_of new))
+      × (arrives (parties_of (node_of new)) max (node_at (node_of new)) l.party l.frame ≡ None)
       × (unfit_of new ≡ Some (lost_line (node_of new) l))
   IsUnfit None new =
       (nodes.stop_of (node_of new) ≡ None)
