@@ -61,7 +61,5 @@ comes_to_rest {P} {Q} IsOver binds w plain kept empty e low =
           nobody_awaits seat p left
           (awaited_from from (kept.sessions.sides e).place seat p keeper place late (sym (shows.mains p) ∙ ap (λ (d : EndId). (w.nodes p).main d) id ∙ h)).0;
       not_signalled = λ p to k h. none_signalled_left seat p to k left (sym (shows.olds p) ∙ ap (λ (d : EndId). (w.nodes p).old d) id ∙ h);
-      waits = λ p k h.
-          let l = kept.linked.named e p low (parked_left seat p k left (sym (shows.olds p) ∙ ap (λ (d : EndId). (w.nodes p).old d) id ∙ h)) in
-          (l.0, l.1, l.3);
+      waits = λ p k h. kept.linked.named e p low (parked_left seat p k left (sym (shows.olds p) ∙ ap (λ (d : EndId). (w.nodes p).old d) id ∙ h));
     }
