@@ -1,5 +1,5 @@
 -- In a kept and lawful world a party acts exactly where no cause keeps it from it.
-use Rattle.std.proofs.Common.{◌≡◌, ℕ, ◌+◌, ◌<◌, nat_lt, Bool, true, false, ◌&&◌, cond, if◌then◌else◌, List, [], ◌∷◌, ◌++◌, slice_get, Option, Some, None, option_map, refl, ap, sym, ◌∙◌}
+use Rattle.std.proofs.Common.{◌≡◌, ℕ, ◌+◌, ◌<◌, nat_lt, Bool, true, false, not, ◌&&◌, cond, if◌then◌else◌, List, [], ◌∷◌, ◌++◌, slice_get, Option, Some, None, option_map, refl, ap, sym, ◌∙◌}
 use Rattle.std.proofs.lemmas.Bool.{and_from, eq-eqb, true≢false}
 use Rattle.sj_base.specs.declared.EndId.{EndId}
 use Rattle.sj_base.specs.declared.Msg.{Msg}
@@ -14,7 +14,7 @@ use Rattle.sj_rules.specs.PlainSide.{PlainAt}
 use Rattle.sj_rules.specs.Linked.{user_of, IsKept}
 use Rattle.sj_rules.specs.HeldStands.{HeldStands}
 use Rattle.sj_rules.specs.Premises.{FitsDelegate, FitsTake, FitsClose, FitsStep, IsLawful}
-use Rattle.sj_rules.specs.Halts.{Halt, awaits, is_expected, may_be_delegated, has_message, is_filled, halt_if, halt_by, is_at_end, halt_of}
+use Rattle.sj_rules.specs.Halts.{Halt, awaits, delegated_enough, no_message, is_expected, is_delegated_enough, lacks_message, is_empty, halt_if, halt_by, is_at_end, halt_of}
 use Rattle.sj_rules.specs.Worked.{mails_of}
 use Rattle.sj_rules_laws.proofs.CoreActLemmas.{Has, has_by, has_map}
 use Rattle.sj_rules_laws.proofs.KeptLemmas.{kept_stands}
@@ -29,9 +29,9 @@ no_halt : (b : Bool) (h : Halt) (rest : Option Halt) → halt_if b h rest ≡ No
 no_halt true h rest k = cc
 no_halt false h rest k = (refl, k)
 
-passes : (b : Bool) (h : Halt) → cond b None (Some h) ≡ None → b ≡ true
-passes true h k = refl
-passes false h k = cc
+is_below : (b : Bool) → not b ≡ false → b ≡ true
+is_below true k = refl
+is_below false k = cc
 
 module _ {P Q : Type 0} (IsOver : P → Type 0) (play : Play P Q) (binds : Q → EndId → Bool) (parties : ℕ) (core : WorldAt P Q) (plain : PlainAt P Q)
     (kept : IsKept IsOver binds core plain) (lawful : IsLawful IsOver play binds parties plain) (p : ℕ) where
@@ -63,7 +63,7 @@ module _ {P Q : Type 0} (IsOver : P → Type 0) (play : Play P Q) (binds : Q →
   bound_by e lt gone is user = cc
 
   -- where it isn't awaited, it is Held
-  pub held_here : (e : EndId) → binds g e ≡ true → is_expected (n.main e) ≡ false → (h : HeldAt P) × (n.main e ≡ Some (Held h)) × HeldStands plain e h
+  held_here : (e : EndId) → binds g e ≡ true → is_expected (n.main e) ≡ false → (h : HeldAt P) × (n.main e ≡ Some (Held h)) × HeldStands plain e h
   held_here e b free = by (bound_by e lt (kept.sessions.sides e).seat refl ((kept.bound p e lt).0 b))
     where
       lt : e.side < 2
@@ -82,9 +82,10 @@ module _ {P Q : Type 0} (IsOver : P → Type 0) (play : Play P Q) (binds : Q →
   delegate_on carrier e fit k =
       let first = no_halt (is_expected (n.main carrier)) (awaits carrier) _ k in
       let second = no_halt (is_expected (n.main e)) (awaits e) _ first.1 in
+      let third = no_halt (is_delegated_enough (n.main e)) (delegated_enough e) None second.1 in
       let own = held_here e fit.handed second.0 in
       let on = held_here carrier fit.bound first.0 in
-      let few : nat_lt own.0.end.hops 100 ≡ true = sym (ap may_be_delegated own.1) ∙ passes (may_be_delegated (n.main e)) _ second.1 in
+      let few : nat_lt own.0.end.hops 100 ≡ true = is_below (nat_lt own.0.end.hops 100) (sym (ap is_delegated_enough own.1) ∙ third.0) in
       let parked : NodeAt P Q = with_main e None (with_old e (Some (Parked (record own.0.end { hops = own.0.end.hops + 1 }))) n) in
       has_by (delegate_act play p n carrier e (n.main e)) (send_act play parked carrier (msgs.Sess e.sess e.side p) (put e None n.main carrier))
       (ap (delegate_act play p n carrier e) own.1
@@ -95,11 +96,12 @@ module _ {P Q : Type 0} (IsOver : P → Type 0) (play : Play P Q) (binds : Q →
   take_on : (e : EndId) (place : P) → FitsTake play binds plain g e place → halt_by n (takes e place) ≡ None → Has (act_by play p n (takes e place))
   take_on e place fit k =
       let first = no_halt (is_expected (n.main e)) (awaits e) _ k in
+      let second = no_halt (lacks_message (n.main e)) (no_message e) None first.1 in
       let own = held_here e fit.bound first.0 in
       has_by (take_act play n e place (n.main e)) (take_from play n e place own.0 own.0.untaken) (ap (take_act play n e place) own.1)
-      (by own.0 own.2 own.0.untaken refl (sym (ap has_message own.1) ∙ passes (has_message (n.main e)) _ first.1))
+      (by own.0 own.2 own.0.untaken refl (sym (ap lacks_message own.1) ∙ second.0))
     where
-      by : (h : HeldAt P) → HeldStands plain e h → (ms : List Msg) → h.untaken ≡ ms → is_filled ms ≡ true → Has (take_from play n e place h ms)
+      by : (h : HeldAt P) → HeldStands plain e h → (ms : List Msg) → h.untaken ≡ ms → is_empty ms ≡ false → Has (take_from play n e place h ms)
       by h stands [] head filled = cc
       by h stands (m ∷ ms) head filled =
           let waits = ap (λ xs. slice_get xs 0) (stands.waits ∙ ap (λ t. t ++ stands.rest) head) in

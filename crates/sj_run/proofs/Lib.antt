@@ -1,3 +1,4 @@
+mod CauseLemmas
 mod HiredLemmas
 mod JoinLemmas
 mod LogLemmas
