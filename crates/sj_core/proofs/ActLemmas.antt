@@ -1,5 +1,5 @@
 -- Where nothing stops a node, no cause keeps its party from acting by the rules.
-use Rattle.std.proofs.Common.{◌≡◌, ℕ, Bool, true, false, ◌||◌, not, nat_lt, if◌then◌else◌, Option, Some, None, option_map, unwrap_or, refl, ap, ◌∙◌}
+use Rattle.std.proofs.Common.{◌≡◌, ℕ, Bool, true, false, ◌||◌, not, nat_lt, if◌then◌else◌, List, Option, Some, None, option_map, unwrap_or, refl, ap, ◌∙◌}
 use Rattle.sj_base.specs.declared.EndId.{EndId}
 use Rattle.sj_lang.specs.Place.{Place}
 use Rattle.sj_lang.specs.FileAt.{FileAt}
@@ -81,10 +81,12 @@ module _ (file : FileAt) (accepted : IsAccepted file) (turns : List Turn) (core 
       let apart = neither (is_expected (m.main e)) (is_expected (m.main y)) named in
       let few = none_if (is_delegated_enough (m.main y)) halts.AtLimit up in
       unhalted_by f _ (rules.awaits e) _ (awaited_is f (m.main e) ∙ apart.0)
-      (unhalted_by f _ (rules.awaits y) _ (awaited_is f (m.main y) ∙ apart.1) (unhalted_by f _ (rules.delegated_enough y) None (enough_is f (m.main y) ∙ few) refl))
+      (unhalted_by f _ (rules.awaits y) _ (awaited_is f (m.main y) ∙ apart.1)
+      (unhalted_by f _ (rules.delegated_enough y) None (enough_is f (m.main y) ∙ few) refl))
   free_by (wants.Take e a) named up k =
       let some = none_if (lacks_message (m.main e)) halts.Waits up in
-      unhalted_by f _ (rules.awaits e) _ (awaited_is f (m.main e) ∙ named) (unhalted_by f _ (rules.no_message e) None (lacks_is f (m.main e) ∙ some) refl)
+      unhalted_by f _ (rules.awaits e) _ (awaited_is f (m.main e) ∙ named)
+      (unhalted_by f _ (rules.no_message e) None (lacks_is f (m.main e) ∙ some) refl)
   free_by (wants.Close e) named up k = unhalted_by f _ (rules.awaits e) None (awaited_is f (m.main e) ∙ named) refl
 
   free_step : (want : Want) → stop_wanting m.main m.program.steps want ≡ None → is_at_end (want_for file.protocols want) ≡ false

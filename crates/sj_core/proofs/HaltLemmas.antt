@@ -44,7 +44,8 @@ module _ (f : Spot → Place) (parties : ℕ) (ps : List ProtocolAt) (p : ℕ) w
   take_awaited n e to (Some (Closed x)) h = refl
   take_awaited n e to (Some (Expected k at ds)) h = refl
 
-  from_nothing : (n : NodeAt Place Program) (e : EndId) (to : Place) (h : HeldAt Place) (ms : List Msg) → is_empty ms ≡ true → take_from (play_for parties ps) n e to h ms ≡ None
+  from_nothing : (n : NodeAt Place Program) (e : EndId) (to : Place) (h : HeldAt Place) (ms : List Msg) → is_empty ms ≡ true
+      → take_from (play_for parties ps) n e to h ms ≡ None
   from_nothing n e to h [] k = refl
   from_nothing n e to h (m ∷ ms) k = absurd (cc k)
 
@@ -82,7 +83,8 @@ module _ (f : Spot → Place) (parties : ℕ) (ps : List ProtocolAt) (p : ℕ) w
   is_false true h = absurd (cc h)
   is_false false h = refl
 
-  handed_enough : (n : NodeAt Place Program) (c e : EndId) (r : Option (MainAt Spot)) → is_delegated_enough r ≡ true → delegate_act (play_for parties ps) p n c e (option_map (main_with f) r) ≡ None
+  handed_enough : (n : NodeAt Place Program) (c e : EndId) (r : Option (MainAt Spot)) → is_delegated_enough r ≡ true
+      → delegate_act (play_for parties ps) p n c e (option_map (main_with f) r) ≡ None
   handed_enough n c e None h = refl
   handed_enough n c e (Some (Held x)) h = let no : nat_lt x.end.hops 100 ≡ false = is_false (nat_lt x.end.hops 100) h in rw no refl
   handed_enough n c e (Some (Closed x)) h = refl

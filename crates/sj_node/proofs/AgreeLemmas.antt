@@ -63,13 +63,15 @@ not_enough : (b : Bool) → ◌≡◌ {A = Option Halt} (if b then Some halts.At
 not_enough true h = cc
 not_enough false h = refl
 
-handed_some : (n : Node) (f : Spot → Place) (e y : EndId) (r : Option (MainAt Spot)) → is_held (option_map (main_with f) r) ≡ true → is_delegated_enough r ≡ false → is_same_end e y ≡ false
+handed_some : (n : Node) (f : Spot → Place) (e y : EndId) (r : Option (MainAt Spot)) → is_held (option_map (main_with f) r) ≡ true
+    → is_delegated_enough r ≡ false → is_same_end e y ≡ false
     → lets Out (msgs.Sess y.sess y.side n.party) ((node_at n).main e) ≡ true → delegate_act (play_of n) n.party (node_at n) e y (option_map (main_with f) r) ≡ None → ⊥
 handed_some n f e y (Some (Held h)) held few other there none =
     let left : lets Out (msgs.Sess y.sess y.side n.party) (put y None (node_at n).main e) ≡ true = (λ i. lets Out (msgs.Sess y.sess y.side n.party) (if other i then None else (node_at n).main e)) ∙ there in
     let at : HeldAt Place = held_with f h in
     let mid : NodeAt Place Program = with_main y None (with_old y (Some (Parked (record at.end { hops = at.end.hops + 1 }))) (node_at n)) in
-    sent_some n mid e (msgs.Sess y.sess y.side n.party) (put y None (node_at n).main e) left (passed (nat_lt h.end.hops 100) _ (is_below (nat_lt h.end.hops 100) few) none)
+    sent_some n mid e (msgs.Sess y.sess y.side n.party) (put y None (node_at n).main e) left
+    (passed (nat_lt h.end.hops 100) _ (is_below (nat_lt h.end.hops 100) few) none)
 handed_some n f e y (Some (Closed c)) held few other there none = cc
 handed_some n f e y (Some (Expected keeper place deferred)) held few other there none = cc
 handed_some n f e y None held few other there none = cc
@@ -125,7 +127,8 @@ some_step : (n : Node) (w : Want) → stop_by (mains_in n.mains.items) (steps_of
 some_step n wants.Local stop agrees fit none = cc
 some_step n (wants.Send e m) stop agrees fit none = sent_some n (node_at n) e m ((node_at n).main e) agrees (passed _ _ (room (place_in n.table) (main_of n e) fit) none)
 some_step n (wants.Delegate e y) stop agrees fit none =
-    handed_some n (place_in n.table) e y (main_of n y) agrees.1 (not_enough (is_delegated_enough (main_of n y)) (going (mains_in n.mains.items) (steps_of n) (wants.Delegate e y) stop).1) agrees.0 agrees.2
+    handed_some n (place_in n.table) e y (main_of n y) agrees.1
+    (not_enough (is_delegated_enough (main_of n y)) (going (mains_in n.mains.items) (steps_of n) (wants.Delegate e y) stop).1) agrees.0 agrees.2
     (passed _ _ (room (place_in n.table) (main_of n e) fit) none)
 some_step n (wants.Take e a) stop agrees fit none =
     taken_some n (place_in n.table) e (awaited_place (start_in n.table) a) (main_of n e) agrees.0 (not_lacking (lacks_message (main_of n e)) (going (mains_in n.mains.items) (steps_of n) (wants.Take e a) stop).1) agrees.1 fit none

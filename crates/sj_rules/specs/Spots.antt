@@ -46,4 +46,5 @@ pub record LiesOnce {P Q : Type 0} (w : WorldAt P Q) (e : EndId) : Type 0 where
 pub record IsAtRest {P Q : Type 0} (w : WorldAt P Q) (plain : PlainAt P Q) (e : EndId) : Type 0 where
   pub not_awaited : (p keeper : ℕ) (place : P) (late : List (Mail P)) → (w.nodes p).main e ≡ Some (Expected keeper place late) → ⊥
   pub not_signalled : (p to : ℕ) (k : EndAt P) → (w.nodes p).old e ≡ Some (Signalled k to) → ⊥
-  pub waits : (p : ℕ) (k : EndAt P) → (w.nodes p).old e ≡ Some (Parked k) → (d : EndId) × (n : ℕ) × (d.side < 2) × (waiting_at plain d n ≡ Some (msgs.Sess e.sess e.side p))
+  pub waits : (p : ℕ) (k : EndAt P) → (w.nodes p).old e ≡ Some (Parked k) →
+      (d : EndId) × (n : ℕ) × (d.side < 2) × (waiting_at plain d n ≡ Some (msgs.Sess e.sess e.side p))

@@ -167,8 +167,9 @@ module _ {P Q : Type 0} (w : WorldAt P Q) (other : Seat P) (r : Side P) (shows :
         give_lies r.seat p q (λ none. subst (Has h.0) (shows.gives p q ∙ none) kept),
     λ h.
         let g = give_is_shown r.seat p q h in
-        let kept : Has g.0 (filter (is_give r.id) (bodies (w.lanes p q))) = subst (Has g.0) (sym (shows.gives p q ∙ g.1)) (inl refl) in
-        (g.0, has_contains g.0 (bodies (w.lanes p q)) (has_filter (is_give r.id) g.0 (bodies (w.lanes p q)) kept), has_passed (is_give r.id) g.0 (bodies (w.lanes p q)) kept),
+        let lane : List (BodyAt P) = bodies (w.lanes p q) in
+        let kept : Has g.0 (filter (is_give r.id) lane) = subst (Has g.0) (sym (shows.gives p q ∙ g.1)) (inl refl) in
+        (g.0, has_contains g.0 lane (has_filter (is_give r.id) g.0 lane kept), has_passed (is_give r.id) g.0 lane kept),
   )
 
   shown_once : LiesOnce w r.id

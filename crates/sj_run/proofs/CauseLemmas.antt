@@ -1,5 +1,6 @@
 -- A node that stops has a cause by the rules.
-use Rattle.std.proofs.Common.{◌≡◌, ◌⊎◌, ℕ, Bool, true, false, ◌||◌, not, nat_lt, if◌then◌else◌, Option, Some, None, option_map, unwrap_or, List, refl, ◌∙◌, inl, inr}
+use Rattle.std.proofs.Common.{◌≡◌, ◌⊎◌, ℕ, Bool, true, false, ◌||◌, not, nat_lt, if◌then◌else◌, refl, ◌∙◌, inl, inr}
+use Rattle.std.proofs.Common.{Option, Some, None, option_map, unwrap_or, List}
 use Rattle.sj_lang.specs.Place.{Place}
 use Rattle.sj_lang.specs.FileAt.{ProtocolAt}
 use Rattle.sj_semantics.specs.declared.Want.{Want}
@@ -36,7 +37,8 @@ so_is true k h e = refl
 so_is false k h e = absurd (cc e)
 
 -- where a node stops with steps left, for an awaited end or what holds it up
-cause_by : (low named : Bool) (up : Option Halt) (h : Halt) (rest : Option rules.Halt) → (if low then (if named then Some halts.Waits else up) else Some halts.AtLimit) ≡ Some h
+cause_by : (low named : Bool) (up : Option Halt) (h : Halt) (rest : Option rules.Halt)
+    → (if low then (if named then Some halts.Waits else up) else Some halts.AtLimit) ≡ Some h
     → (named ≡ true → HasCause rest) → (up ≡ Some h → HasCause rest) → HasCause (halt_if (not low) rules.worn rest)
 cause_by true true up h rest e awaited held = awaited refl
 cause_by true false up h rest e awaited held = held e
@@ -83,16 +85,19 @@ module _ (f : Spot → Place) (ps : List ProtocolAt) where
         let is = enough_is (n.main y) ∙ so_is (is_delegated_enough (n.main y)) halts.AtLimit h k in
         cause_if _ (rules.awaits e) _ (inr (cause_if _ (rules.awaits y) _ (inr (cause_if _ (rules.delegated_enough y) None (inl is)))))
     cause_up (wants.Take e a) k =
-        cause_if _ (rules.awaits e) _ (inr (cause_if _ (rules.no_message e) None (inl (lacks_is (n.main e) ∙ so_is (lacks_message (n.main e)) halts.Waits h k))))
+        let is = lacks_is (n.main e) ∙ so_is (lacks_message (n.main e)) halts.Waits h k in
+        cause_if _ (rules.awaits e) _ (inr (cause_if _ (rules.no_message e) None (inl is)))
     cause_up (wants.Close e) k = absurd (cc k)
     cause_up wants.Ended k = absurd (cc k)
 
     cause_of : (want : Want) → stop_wanting n.main n.program.steps want ≡ Some h
         → HasCause (halt_if (not (nat_lt n.program.steps 10000)) rules.worn (halt_by (node_with f n) (want_for ps want)))
-    cause_of want k = cause_by (nat_lt n.program.steps 10000) (names_awaited n.main want) (hold_up n.main want) h _ k (cause_named want) (cause_up want)
+    cause_of want k =
+        cause_by (nat_lt n.program.steps 10000) (names_awaited n.main want) (hold_up n.main want) h _ k (cause_named want) (cause_up want)
 
     cause_step : (o : Option Want) → stop_by n.main n.program.steps (unwrap_or o wants.Ended) ≡ Some h
-        → HasCause (halt_if (is_at_end (want_or_ended ps o)) rules.at_end (halt_if (not (nat_lt n.program.steps 10000)) rules.worn (halt_by (node_with f n) (want_or_ended ps o))))
+        → HasCause (halt_if (is_at_end (want_or_ended ps o)) rules.at_end
+        (halt_if (not (nat_lt n.program.steps 10000)) rules.worn (halt_by (node_with f n) (want_or_ended ps o))))
     cause_step None k = (rules.at_end, refl)
     cause_step (Some wants.Ended) k = (rules.at_end, refl)
     cause_step (Some wants.Local) k = cause_of wants.Local k
@@ -102,5 +107,6 @@ module _ (f : Spot → Place) (ps : List ProtocolAt) where
     cause_step (Some (wants.Close e)) k = cause_of (wants.Close e) k
 
     -- a node that stops has a cause by the rules
-    pub has_cause : (parties : ℕ) → stop_by n.main n.program.steps (next_want n.program) ≡ Some h → HasCause (halt_of (play_for parties ps) (node_with f n))
+    pub has_cause : (parties : ℕ) → stop_by n.main n.program.steps (next_want n.program) ≡ Some h
+        → HasCause (halt_of (play_for parties ps) (node_with f n))
     has_cause parties k = cause_step (want_of n.program) k

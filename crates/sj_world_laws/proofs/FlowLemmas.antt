@@ -85,11 +85,13 @@ whole_carries {P} to conn number low high sent taken s ms frames w =
     ∙ rw (carries_are to conn number low high ms w.carries w.are, mark_empty to conn sent taken s) (append-nil ms)
 
 -- Carries go to their end under their number, and a mark is no Carry
-are_under : {P : Type 0} → (to : EndId) (conn number low high : ℕ) (ms : List Msg) (bs : List (BodyAt P)) → AreCarries to conn number low high ms bs → AllByRecursion (IsUnder to conn) bs
+are_under : {P : Type 0} → (to : EndId) (conn number low high : ℕ) (ms : List Msg) (bs : List (BodyAt P)) →
+    AreCarries to conn number low high ms bs → AllByRecursion (IsUnder to conn) bs
 are_under to conn number low high [] [] a = tt
 are_under to conn number low high [] (b ∷ bs) a = absurd a
 are_under to conn number low high (m ∷ ms) [] a = absurd a
-are_under to conn number low high (m ∷ ms) (b ∷ bs) a = (subst (IsUnder to conn) (sym a.2) (refl, refl), are_under to conn (number + 1) a.0 high ms bs a.3)
+are_under to conn number low high (m ∷ ms) (b ∷ bs) a =
+    (subst (IsUnder to conn) (sym a.2) (refl, refl), are_under to conn (number + 1) a.0 high ms bs a.3)
 
 mark_under : {P : Type 0} → (to : EndId) (conn sent taken : ℕ) (s : Seat P) → AllByRecursion (IsUnder to conn) (mark_of to conn sent taken s)
 mark_under to conn sent taken (held a h) = tt
@@ -112,7 +114,8 @@ all_joined T (x ∷ a) b h k = (h.0, all_joined T a b h.1 k)
 pub whole_under : {P : Type 0} → (to : EndId) (conn number low high sent taken : ℕ) (s : Seat P) (ms : List Msg) (front rest : List (BodyAt P)) →
     ComesWhole to conn number low high (mark_of to conn sent taken s) ms (front ++ rest) → AllByRecursion (IsUnder to conn) front
 whole_under to conn number low high sent taken s ms front rest w =
-    let both = all_joined (IsUnder to conn) w.carries (mark_of to conn sent taken s) (are_under to conn number low high ms w.carries w.are) (mark_under to conn sent taken s) in
+    let carries = are_under to conn number low high ms w.carries w.are in
+    let both = all_joined (IsUnder to conn) w.carries (mark_of to conn sent taken s) carries (mark_under to conn sent taken s) in
     all_front (IsUnder to conn) front rest (subst (AllByRecursion (IsUnder to conn)) (sym w.split) both)
 
 -- a Held end: what is untaken, and what comes behind it, is what waits

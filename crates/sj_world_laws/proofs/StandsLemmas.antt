@@ -96,8 +96,9 @@ module _ {P Q : Type 0} (w : WorldAt P Q) (sid id : EndId) (ps place : P) (so sl
   held_stands (behind by_signal) s b h n c f o v u = told s (held b h) (explained_told s (held b h) (Signal sid 0 0 0) (there_beside (behind by_signal) s (held b h) n refl) tt n o u)
 
   -- what comes whole to a party that awaits r flows, where the lane carries it
-  flows_whole : (s : Seat P) (low c : ℕ) (ds lane : List (BodyAt P)) → ComesWhole id c y.taken low x.taken (mark_for id c x s) (untaken_of x y) (ds ++ rl) → carries_under id c (ds ++ lane) ≡ carries_under id c (ds ++ rl) →
-      FlowsDeferred id c ds lane (untaken_of x y)
+  flows_whole : (s : Seat P) (low c : ℕ) (ds lane : List (BodyAt P)) →
+      ComesWhole id c y.taken low x.taken (mark_for id c x s) (untaken_of x y) (ds ++ rl) →
+      carries_under id c (ds ++ lane) ≡ carries_under id c (ds ++ rl) → FlowsDeferred id c ds lane (untaken_of x y)
   flows_whole s low c ds lane comes same = record {
     under = whole_under id c y.taken low x.taken (length x.sent) x.taken s (untaken_of x y) ds rl comes;
     waits = same ∙ whole_carries id c y.taken low x.taken (length x.sent) x.taken s (untaken_of x y) (ds ++ rl) comes;
@@ -123,11 +124,13 @@ module _ {P Q : Type 0} (w : WorldAt P Q) (sid id : EndId) (ps place : P) (so sl
   signalled_stands level s b u e ds n c f back o v z = told s (signalled b u e ds) (signal_told b u e ds s n back o z)
   signalled_stands (ahead k) gone b u e ds n c f back o v z = absurd (cc n.0)
   signalled_stands (ahead k) (given a t g None ks) b u e ds n c f back o v z =
-      inl (flows_whole (given a t g None ks) (comes_low (ahead k) e x) (e.conn + 1) ds [] c.1 (ap (λ l. carries_under id (e.conn + 1) (ds ++ l)) (sym c.0)))
+      inl (flows_whole (given a t g None ks) (comes_low (ahead k) e x) (e.conn + 1) ds [] c.1
+      (ap (λ l. carries_under id (e.conn + 1) (ds ++ l)) (sym c.0)))
   signalled_stands (ahead k) (given a t g (Some m) ks) b u e ds n c f back o v z = inr (inr (inr (ap Some f)))
   signalled_stands (ahead k) s b u e ds n c f back o v z =
+      let other = and_false (is_lane (source_for s (signalled b u e ds)) u e.peer b) in
       inl (flows_whole s (comes_low (ahead k) e x) (e.conn + 1) ds (lane_from w (party_of s) u) c
-      (awaited s (signalled b u e ds) u (e.conn + 1) ds tt tt refl refl (rw (not_next e.conn, and_false (is_lane (source_for s (signalled b u e ds)) u e.peer b)) refl) v))
+      (awaited s (signalled b u e ds) u (e.conn + 1) ds tt tt refl refl (rw (not_next e.conn, other) refl) v))
   signalled_stands (behind by_ack) s b u e ds n c f back o v z = told s (signalled b u e ds) (ahead_told b u e ds s (there_beside (behind by_ack) s (signalled b u e ds) n refl) n back z)
   signalled_stands (behind by_signal) s b u e ds n c f back o v z = told s (signalled b u e ds) (explained_told s (signalled b u e ds) (Signal sid 0 0 0) (there_beside (behind by_signal) s (signalled b u e ds) n refl) tt n o z)
 
