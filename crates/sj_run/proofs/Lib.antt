@@ -1,4 +1,5 @@
 mod CauseLemmas
+mod DamageLemmas
 mod HiredLemmas
 mod JoinLemmas
 mod LogLemmas
