@@ -4,9 +4,11 @@
 
 mod failing_links;
 mod forged_links;
+mod odd_links;
 
 pub use failing_links::FailsOnce;
 pub use forged_links::Forged;
+pub use odd_links::Odd;
 
 #[cfg(test)]
 mod again_tests;
@@ -54,5 +56,7 @@ mod replay_tests;
 mod thread_tests;
 #[cfg(test)]
 mod transcripts;
+#[cfg(test)]
+mod unfit_tests;
 #[cfg(test)]
 mod worlds;
