@@ -59,7 +59,12 @@ impl Course {
         let nodes = first_nodes(alloc, accepted)?;
         let kept = copied_file(alloc, accepted.file())?;
         let history = Vec::new(alloc);
-        Ok(Course { alloc, kept, nodes, history })
+        Ok(Course {
+            alloc,
+            kept,
+            nodes,
+            history,
+        })
     }
 }
 

@@ -30,7 +30,7 @@ use Rattle.sj_work.specs.Laned.{entries_of}
 use Rattle.sj_work.specs.Views.{node_of, stop_of, unfit_of}
 use Rattle.sj_run.specs.declared.refusal.RunRefusal.{RunRefusal}
 use Rattle.sj_run.specs.declared.refusal.RunRefusal.TheVariants as refusals
-use Rattle.sj_run.specs.Damage.{AllWent, HasWent, IsDamage, IsDamaged, IsDamagedSo, IsLowestUnfit, IsPastEnd, LeftAt, left_of, logs_left}
+use Rattle.sj_run.specs.Damage.{AllWent, HasWent, IsDamage, IsDamaged, IsLowestUnfit, IsPastEnd, LeftAt, left_of, logs_left}
 use Rattle.sj_run.specs.Refusals.{IsDamageOver, IsDamagedOver, IsPastEndOf, run_refusal}
 use Rattle.sj_run.specs.Workers.{AllWorked, NoneStopped, SomeStopped, log_or, logs_in}
 use Rattle.sj_run.proofs.StopLemmas.{NoneBefore, looked_at}
@@ -156,11 +156,3 @@ module _ {O I : Type 0} (pushed : O → Option (List (FrameAt Place))) (out_faul
         })))
     refused_damage kept w refused refusals.LinkFault same h lowest past = tt {0}
     refused_damage kept w refused refusals.NoMemory same h lowest past = tt {0}
-
--- damage over such lanes is damage
-pub damaged_so : {O I : Type 0} (pushed : O → Option (List (FrameAt Place))) (out_faults out_vain : O → ℕ) (same_out : O → O → Type 0)
-    (popped : I → Option (List (FrameAt Place))) (in_faults in_vain : I → ℕ) (same_in : I → I → Type 0) (joined : O → I → Type 0)
-    (file : FileAt) (looks : ℕ) (tells : Bool) (r : RunRefusal) → IsDamagedOver pushed out_faults out_vain same_out popped in_faults in_vain same_in joined file looks tells r → IsDamagedSo file r
-damaged_so pushed out_faults out_vain same_out popped in_faults in_vain same_in joined file looks tells (refusals.Damaged number logged other) d = d.damage
-damaged_so pushed out_faults out_vain same_out popped in_faults in_vain same_in joined file looks tells refusals.LinkFault d = tt {0}
-damaged_so pushed out_faults out_vain same_out popped in_faults in_vain same_in joined file looks tells refusals.NoMemory d = tt {0}

@@ -3,6 +3,7 @@ mod DamageLemmas
 mod HiredLemmas
 mod JoinLemmas
 mod LogLemmas
+pub mod OverLemmas
 mod RestLemmas
 mod RunLemmas
 mod ShownLemmas

@@ -3,7 +3,7 @@ use Rattle.sj_check.specs.Held.{file_in}
 use Rattle.sj_core.specs.World.{history_of, kept_file, party_count, world_at}
 use Rattle.sj_lang.specs.FileView.{file_of}
 use Rattle.sj_run.specs.Shown.{IsShown, keeps_of}
-use Rattle.sj_run.proofs.DamageLemmas.{damaged_so}
+use Rattle.sj_run.proofs.OverLemmas.{damaged_so}
 use Rattle.sj_tool.proofs.DrainedLemmas.{drained_ran}
 use Rattle.sj_tool.proofs.running.drained.Goals as goal
 
