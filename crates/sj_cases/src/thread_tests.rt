@@ -137,7 +137,7 @@ fn what_a_gate_saw_of_a_party_is_a_front_of_its_lines(rt: HostRuntime) -> Result
 }
 
 // How often parties look, and how often a file is run so.
-const OFTEN: [(&str, usize); 4] = [("0", 100), ("1", 100), ("1000", 100), ("1000000", 10)];
+const OFTEN: [(&str, usize); 4] = [("0", 40), ("1", 40), ("1000", 40), ("1000000", 4)];
 
 #[test]
 fn however_often_parties_look_the_transcript_is_one(rt: HostRuntime) -> Result<(), Fail> {
