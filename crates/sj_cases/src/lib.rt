@@ -11,19 +11,15 @@ pub use forged_links::Forged;
 pub use odd_links::Odd;
 
 #[cfg(test)]
-mod again_tests;
-#[cfg(test)]
 mod big_tests;
 #[cfg(test)]
 mod calls;
 #[cfg(test)]
 mod core_tests;
 #[cfg(test)]
+mod cut_tests;
+#[cfg(test)]
 mod draft;
-#[cfg(test)]
-mod example_files;
-#[cfg(test)]
-mod example_tests;
 #[cfg(test)]
 mod fault_tests;
 #[cfg(test)]
@@ -31,27 +27,15 @@ mod files;
 #[cfg(test)]
 mod generated_tests;
 #[cfg(test)]
-mod histories;
-#[cfg(test)]
 mod history_tests;
 #[cfg(test)]
 mod limit_tests;
 #[cfg(test)]
-mod log_tests;
-#[cfg(test)]
 mod long_files;
-#[cfg(test)]
-mod playing_tests;
-#[cfg(test)]
-mod printing_tests;
-#[cfg(test)]
-mod refusal_tests;
-#[cfg(test)]
-mod replay_input_tests;
 #[cfg(test)]
 mod replay_log_tests;
 #[cfg(test)]
-mod replay_tests;
+mod size_tests;
 #[cfg(test)]
 mod thread_tests;
 #[cfg(test)]
