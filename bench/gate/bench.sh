@@ -2,6 +2,7 @@
 # Says what the gate costs: runs `rt ci` (or `rt ci NAME..`) and looks once a second at the checks that it started, and prints
 # for each crate the seconds of processor time of its own check, of its tests', and of its edits'. What the gate itself says goes
 # to the error stream, and its status is the script's. Only what is done anew is counted: what an earlier run proved costs nothing.
+# Behind the table stand the edits whose refusal says little of a contract.
 set -euo pipefail
 . "$(dirname "$0")/../frame.sh"
 
@@ -22,7 +23,7 @@ look() {
     done 2> "$folder/gone"
 }
 
-(cd "$top" && rt ci "$@") >&2 &
+(cd "$top" && rt ci "$@") > >(tee "$folder/said" >&2) 2>&1 &
 gate=$!
 while kill -0 "$gate" 2> "$folder/gone"; do
     look >> "$folder/looks"
@@ -41,4 +42,6 @@ awk -v tick="$(getconf CLK_TCK)" '
         printf "| all | %d | %d | %d | %d |\n", own, tests, edits, own + tests + edits
     }' "$folder/looks" | sort -t '|' -k 6,6nr |
     (printf '| Crate | Own check, s | Its tests, s | Its edits, s | Sum, s |\n|---|---|---|---|---|\n' && cat)
+printf '\nEdits that were refused for names alone, or by a limit of the prover, or not at all:\n'
+grep -E 'must-fail [^ ]+: (NOT |BAD |refused, as it must be \(only)' "$folder/said" | cut -c 1-200 || echo none
 exit "$status"
