@@ -6,10 +6,21 @@
 set -euo pipefail
 . "$(dirname "$0")/../frame.sh"
 
+# Whether the process was started by this gate.
+is_own() {
+    local at=$1
+    while [ "${at:-0}" -gt 1 ]; do
+        [ "$at" != "$gate" ] || return 0
+        at=$(sed -E 's/^.*\) . ([0-9]+) .*/\1/' "/proc/$at/stat")
+    done
+    return 1
+}
+
 # A line for each check that runs: what tells the process from others, the crate, what is checked, and the ticks that it has used.
 look() {
     local pid words crate kind
     for pid in $(pgrep -x rattle); do
+        is_own "$pid" || continue
         words=$(tr '\0' ' ' < "/proc/$pid/cmdline") || continue
         crate=$(sed -nE 's/.*--crate-name ([a-z0-9_]+) .*/\1/p' <<< "$words")
         [ -n "$crate" ] || continue
