@@ -1,8 +1,11 @@
 #!/bin/sh
 # Runs each example, and compares its output and its status with what they have to be.
-# usage: examples/run.sh [PROGRAM], where PROGRAM is ./sj at the top of this repository if left out
+# usage: examples/run.sh [PROGRAM], where PROGRAM is ./sj at the top of this repository if left out; it is then built first,
+# and one example runs in a copy of the repository, too, where nothing is built
 here=$(cd "$(dirname "$0")" && pwd) || exit 2
 sj=${1:-$here/../sj}
+[ "$#" -gt 0 ] || "$sj" --build || exit 2
+fresh=$#
 passed=0
 failed=0
 
@@ -38,5 +41,18 @@ if [ "$#" -ne $((passed + failed)) ]; then
     echo "of $# examples $((passed + failed)) were run"
     failed=$((failed + 1))
 fi
+if [ "$fresh" -eq 0 ]; then
+    copy=$(mktemp -d) || exit 2
+    (cd "$here/.." && tar --exclude=out -cf - sj start.sh HANDLES crates.txt crates) | tar -xf - -C "$copy"
+    got=$("$copy/sj" sim <"$here/blocked.sj" 2>/dev/null; echo "status $?")
+    rm -rf "$copy"
+    if [ "$got" = "$(cat "$here/blocked.txt"; echo "status 6")" ]; then
+        echo "a copy where nothing is built answers the same"
+    else
+        failed=$((failed + 1))
+        printf 'a copy where nothing is built answered\n%s\n' "$got"
+    fi
+fi
+
 echo "$passed passed, $failed failed"
 [ "$failed" -eq 0 ]

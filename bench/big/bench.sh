@@ -8,7 +8,7 @@ RUNS=${RUNS:-41}
 . "$(dirname "$0")/../frame.sh"
 here=$top/bench/big
 
-"$top/sj" make 1 > /dev/null
+"$top/sj" --build
 program=$top/crates/sj/out/sj
 found=(big run sim)
 command -v rustc > /dev/null && rustc -O -o "$folder/rust" "$here/channels.rs" && found+=(rust)

@@ -6,7 +6,7 @@
 set -euo pipefail
 . "$(dirname "$0")/../frame.sh"
 
-"$top/sj" make 1 > /dev/null
+"$top/sj" --build
 sj=$top/crates/sj/out/sj
 drain=$top/crates/bench_core/out/bench_core
 (cd "$top/crates/bench_core" && rt run < stdin > /dev/null)

@@ -8,7 +8,7 @@ RUNS=${RUNS:-20}
 . "$(dirname "$0")/../frame.sh"
 here=$(cd "$(dirname "$0")" && pwd)
 
-"$top/sj" make 1 > /dev/null
+"$top/sj" --build
 program=$top/crates/sj/out/sj
 printf '%%%%log\n' > "$folder/empty"
 printf '| Turns | Events | Bytes | Replay, best ms | Replay, median ms | With the log, best ms | With the log, median ms | Nanoseconds an event | Peak KiB | Peak to bytes |\n|---|---|---|---|---|---|---|---|---|---|\n'

@@ -6,7 +6,7 @@
 set -euo pipefail
 . "$(dirname "$0")/../frame.sh"
 
-"$top/sj" make 1 > /dev/null
+"$top/sj" --build
 program=$top/crates/sj/out/sj
 printf '| N | Messages | Steps | Best ms | Median ms | Bytes of transcript | Peak KiB |\n|---|---|---|---|---|---|---|\n'
 for n in 100 200 400 700 1000; do

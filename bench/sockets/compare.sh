@@ -11,8 +11,8 @@ answer_of() {
     "$1" "$2" < "$folder/file" && echo "status 0" || echo "status $?"
 }
 
-"$top/sj" make 1 > /dev/null
-"$top/sjnet" make 1 > /dev/null
+"$top/sj" --build
+"$top/sjnet" --build
 sj=$top/crates/sj/out/sj
 sjnet=$top/crates/sjnet/out/sjnet
 refused=0

@@ -10,7 +10,7 @@ here=$(dirname "$0")
 files=${FILES:-300}
 again=${AGAIN:-1000}
 
-"$top/sj" make 1 > /dev/null
+"$top/sj" --build
 program=$top/crates/sj/out/sj
 wrong=0
 

@@ -3,6 +3,7 @@ use crate::{
     Failed, MemSink, MemSource, ReadRefusal, ReadSource, Sink, Source, WriteFault, WriteSink,
     read_all, write_all_of,
 };
+use std::alloc::Global;
 use std::io::{Error, ErrorKind, Read, Write};
 use std::test::Fail;
 
@@ -66,31 +67,29 @@ fn fails_at_the_listed_calls_alone(rt: HostRuntime) -> Result<(), Fail> {
     for wanted in [Err(Failed), Ok(3), Err(Failed), Ok(1), Ok(0), Ok(0)] {
         assert_eq!(rt; src.read(&mut buf), wanted);
     }
-    let bytes = Vec::from_slice(rt.alloc(), b"abcd")?;
-    let mut src = MemSource::new(bytes, vec![in rt.alloc(); 1]?);
-    let found = read_all(rt.alloc(), &mut src, 3);
-    assert_eq!(rt; found.err(), Some(ReadRefusal::TooLarge));
     Ok(())
+}
+
+const TEXT: &[u8] = b"seventeen letters and more";
+
+// What comes of writing the text to a sink with that room, which fails at that call, and how many
+// bytes it has then.
+fn written(alloc: Global, room: usize, call: u64) -> Result<(Result<(), WriteFault>, usize), Fail> {
+    let mut out = MemSink::new(alloc, room, vec![in alloc; call]?)?;
+    let answer = write_all_of(&mut out, TEXT);
+    Ok((answer, out.text().len()))
 }
 
 #[test]
 fn a_sink_takes_sixteen_bytes_at_a_time(rt: HostRuntime) -> Result<(), Fail> {
-    let text = b"seventeen letters and more";
-    let rows = [
-        (26, 5, Ok(()), 26),
-        (20, 5, Err(WriteFault), 20),
-        (26, 1, Err(WriteFault), 16),
-        (26, 0, Err(WriteFault), 0),
-    ];
-    for (room, call, wanted, held) in rows {
-        let mut out = MemSink::new(rt.alloc(), room, vec![in rt.alloc(); call]?)?;
-        assert_eq!(rt;
-            write_all_of(&mut out, text),
-            wanted,
-            "room {room}, call {call}"
-        );
-        assert_eq!(rt; out.text().len(), held, "room {room}, call {call}");
-        assert!(rt; text.starts_with(out.text()));
+    for (room, call, wanted) in [
+        (26, 5, (Ok(()), 26)),
+        (20, 5, (Err(WriteFault), 20)),
+        (26, 1, (Err(WriteFault), 16)),
+        (26, 0, (Err(WriteFault), 0)),
+    ] {
+        let found = written(rt.alloc(), room, call)?;
+        assert_eq!(rt; found, wanted, "room {room}, call {call}");
     }
     Ok(())
 }

@@ -1,1 +1,2 @@
-pub mod TwoLemmas
+mod OddLemmas
+mod TwoLemmas

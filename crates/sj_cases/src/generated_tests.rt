@@ -105,21 +105,21 @@ fn expect_played<R: Abort + Threads + Sync>(rt: &R, alloc: Global, first: u64) -
 }
 
 #[test]
-fn files_to_31(rt: HostRuntime) -> Result<(), Fail> {
+fn files_to_31_run_as_sim_plays_them(rt: HostRuntime) -> Result<(), Fail> {
     expect_played(&rt, rt.alloc(), 0)
 }
 
 #[test]
-fn files_to_63(rt: HostRuntime) -> Result<(), Fail> {
+fn files_to_63_run_as_sim_plays_them(rt: HostRuntime) -> Result<(), Fail> {
     expect_played(&rt, rt.alloc(), 32)
 }
 
 #[test]
-fn files_to_95(rt: HostRuntime) -> Result<(), Fail> {
+fn files_to_95_run_as_sim_plays_them(rt: HostRuntime) -> Result<(), Fail> {
     expect_played(&rt, rt.alloc(), 64)
 }
 
 #[test]
-fn files_to_127(rt: HostRuntime) -> Result<(), Fail> {
+fn files_to_127_run_as_sim_plays_them(rt: HostRuntime) -> Result<(), Fail> {
     expect_played(&rt, rt.alloc(), 96)
 }

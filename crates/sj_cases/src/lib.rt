@@ -4,12 +4,12 @@
 
 mod failing_links;
 mod forged_links;
+mod odd_links;
 
 pub use failing_links::FailsOnce;
 pub use forged_links::Forged;
+pub use odd_links::Odd;
 
-#[cfg(test)]
-mod again_tests;
 #[cfg(test)]
 mod big_tests;
 #[cfg(test)]
@@ -17,11 +17,9 @@ mod calls;
 #[cfg(test)]
 mod core_tests;
 #[cfg(test)]
+mod cut_tests;
+#[cfg(test)]
 mod draft;
-#[cfg(test)]
-mod example_files;
-#[cfg(test)]
-mod example_tests;
 #[cfg(test)]
 mod fault_tests;
 #[cfg(test)]
@@ -29,30 +27,20 @@ mod files;
 #[cfg(test)]
 mod generated_tests;
 #[cfg(test)]
-mod histories;
-#[cfg(test)]
 mod history_tests;
 #[cfg(test)]
 mod limit_tests;
 #[cfg(test)]
-mod log_tests;
-#[cfg(test)]
 mod long_files;
-#[cfg(test)]
-mod playing_tests;
-#[cfg(test)]
-mod printing_tests;
-#[cfg(test)]
-mod refusal_tests;
-#[cfg(test)]
-mod replay_input_tests;
 #[cfg(test)]
 mod replay_log_tests;
 #[cfg(test)]
-mod replay_tests;
+mod size_tests;
 #[cfg(test)]
 mod thread_tests;
 #[cfg(test)]
 mod transcripts;
+#[cfg(test)]
+mod unfit_tests;
 #[cfg(test)]
 mod worlds;

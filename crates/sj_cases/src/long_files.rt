@@ -1,5 +1,4 @@
 //! Files that come to a limit.
-use crate::calls::text_of;
 use std::alloc::Global;
 use std::test::Fail;
 
@@ -10,10 +9,8 @@ pub(crate) fn looping(
     inside: usize,
     behind: usize,
 ) -> Result<Vec<u8>, Fail> {
-    let mut text = text_of(
-        alloc,
-        &["protocol p { begin.![]* }", "protocol q { begin.?[]* }"],
-    )?;
+    let mut text = Vec::new(alloc);
+    text.extend_from_slice(b"protocol p { begin.![]* }\nprotocol q { begin.?[]* }\n")?;
     text.extend_from_slice(b"party a { outwhile x ")?;
     text.extend_from_slice(count.as_bytes())?;
     text.extend_from_slice(b" { ")?;
@@ -29,26 +26,23 @@ pub(crate) fn looping(
     Ok(text)
 }
 
+const ALONG: &str = "protocol p { begin.!<int> }\n\
+    protocol q { begin.?(int) }\n\
+    protocol g { begin.!<?(int)> }\n\
+    protocol h { begin.?(?(int)) }\n\
+    party a { send x 7; close x; }\n\
+    party b { delegate z y; close z; }\n\
+    party p { recv u y session q; recv y n int; close y; close u; }\n";
+
 // An end goes from b through all parties to p, which takes what a has sent.
 pub(crate) fn handed_along(alloc: Global) -> Result<Vec<u8>, Fail> {
     let names = b"bcdefghijklmnop";
-    let mut text = text_of(
-        alloc,
-        &[
-            "protocol p { begin.!<int> }",
-            "protocol q { begin.?(int) }",
-            "protocol g { begin.!<?(int)> }",
-            "protocol h { begin.?(?(int)) }",
-            "party a { send x 7; close x; }",
-            "party b { delegate z y; close z; }",
-        ],
-    )?;
+    let mut text = Vec::from_slice(alloc, ALONG.as_bytes())?;
     for at in 1..14 {
         text.extend_from_slice(b"party ")?;
         text.push(names[at])?;
         text.extend_from_slice(b" { recv u y session q; delegate z y; close z; close u; }\n")?;
     }
-    text.extend_from_slice(b"party p { recv u y session q; recv y n int; close y; close u; }\n")?;
     text.extend_from_slice(b"connect a x p to b y q;\n")?;
     for at in 0..14 {
         text.extend_from_slice(b"connect ")?;

@@ -1,28 +1,53 @@
 //! Parties that run on threads.
-use crate::calls::{answer, call, sink, source, text_of};
+use crate::calls::{answer, answer_past};
 use crate::files::{AGENCY, BACK_AGAIN, CROSSING};
 use crate::transcripts::{AGENCY_TRANSCRIPT, BACK_AGAIN_TRANSCRIPT, CROSSING_TRANSCRIPT};
-use crate::worlds::accepted;
-use sj_core::World;
-use sj_end::Entry;
-use sj_lane::{MemLinks, RingLinks};
-use sj_run::run_parties;
-use sj_work::{Gate, NoGate};
+use crate::worlds::{accepted, log_of};
+use sj_end::{Entry, Line};
+use sj_lane::RingLinks;
+use sj_work::Gate;
+use std::alloc::Global;
 use std::sync::atomic::{AtomicU64, Ordering};
+use std::sync::{Mutex, Wait};
 use std::test::Fail;
 
 // Each of two parties is held at its first event until the other has passed its own, or so many looks
-// didn't show it.
+// didn't show it. Of the entries it notes those whose clock is that number or more.
 #[derive(Drop)]
-struct Meeting {
+struct Meeting<'a, R> {
+    rt: &'a R,
+    from: u64,
+    noted: Mutex<Vec<Line>>,
     first: AtomicU64,
     second: AtomicU64,
     first_saw: AtomicU64,
     second_saw: AtomicU64,
 }
 
-impl Gate for Meeting {
-    fn pass(&self, party: u16, _entry: &Entry) {
+impl<'a, R> Meeting<'a, R> {
+    fn new(rt: &'a R, alloc: Global, from: u64) -> Meeting<'a, R> {
+        Meeting {
+            rt,
+            from,
+            noted: Mutex::new(Vec::new(alloc)),
+            first: AtomicU64::new(0),
+            second: AtomicU64::new(0),
+            first_saw: AtomicU64::new(0),
+            second_saw: AtomicU64::new(0),
+        }
+    }
+}
+
+impl<R: Wait + Sync> Gate for Meeting<'_, R> {
+    fn pass(&self, party: u16, entry: &Entry) {
+        if entry.clock >= self.from {
+            let line = Line {
+                party,
+                entry: *entry,
+            };
+            // Without memory the entry isn't noted.
+            let _ = self.noted.lock(self.rt).push(line);
+        }
         let (own, other, saw) = if party == 0 {
             (&self.first, &self.second, &self.first_saw)
         } else {
@@ -38,89 +63,98 @@ impl Gate for Meeting {
     }
 }
 
-#[test]
-fn two_parties_wait_for_each_other(rt: HostRuntime) -> Result<(), Fail> {
-    let file = [
-        "protocol p { begin.!<int> }",
-        "protocol q { begin.?(int) }",
-        "party a { let m = 1; send x 5; close x; }",
-        "party b { let m = 1; recv y n int; close y; }",
-        "connect a x p to b y q;",
-    ];
-    let wanted = text_of(
-        rt.alloc(),
-        &[
-            "session 0 a x b y",
-            "0.0 0 a b int 5",
-            "party a ended 3",
-            "party b ended 3",
-            "done",
-        ],
-    )?;
-    let gate = Meeting {
-        first: AtomicU64::new(0),
-        second: AtomicU64::new(0),
-        first_saw: AtomicU64::new(0),
-        second_saw: AtomicU64::new(0),
-    };
-    let mut src = source(rt.alloc(), &text_of(rt.alloc(), &file)?, &[])?;
-    let mut out = sink(rt.alloc(), &[])?;
-    let mut links = RingLinks::new();
-    let status = call(
-        &rt,
-        rt.alloc(),
-        &["run"],
-        &mut src,
-        &mut out,
-        &mut links,
-        &gate,
-    )?;
-    assert_eq!(rt; out.text(), wanted.as_slice());
-    assert_eq!(rt; status, 0);
-    assert_eq!(rt; gate.first_saw.load(Ordering::SeqCst), 1);
-    assert_eq!(rt; gate.second_saw.load(Ordering::SeqCst), 1);
-    Ok(())
+const MEETING: &str = "protocol p { begin.!<int> }\n\
+    protocol q { begin.?(int) }\n\
+    party a { let m = 1; send x 5; close x; }\n\
+    party b { let m = 1; recv y n int; close y; }\n\
+    connect a x p to b y q;\n";
+
+const MET: &str = "session 0 a x b y\n\
+    0.0 0 a b int 5\n\
+    party a ended 3\n\
+    party b ended 3\n\
+    done\n";
+
+// The lines of the party of that name.
+fn lines_of(alloc: Global, log: &str, name: &str) -> Result<Vec<u8>, Fail> {
+    let mut text = Vec::new(alloc);
+    for line in log.lines() {
+        if line.split_whitespace().nth(1) == Some(name) {
+            text.extend_from_slice(line.as_bytes())?;
+            text.push(b'\n')?;
+        }
+    }
+    Ok(text)
+}
+
+// Of the party of that name, whether what was noted isn't empty and is a front of its lines in the log.
+fn is_front(alloc: Global, log: &str, party: (u16, &str), noted: &[Line]) -> Result<bool, Fail> {
+    let accepted = accepted(alloc, MEETING.as_bytes())?;
+    let seen = log_of(alloc, accepted.file(), party.0, noted)?;
+    let whole = lines_of(alloc, log, party.1)?;
+    Ok(!seen.is_empty() && whole.starts_with(&seen))
 }
 
 #[test]
-fn however_often_parties_look_the_transcript_is_one(rt: HostRuntime) -> Result<(), Fail> {
-    let rows: [(&[&str], &[&str]); 3] = [
-        (&AGENCY, &AGENCY_TRANSCRIPT),
-        (&CROSSING, &CROSSING_TRANSCRIPT),
-        (&BACK_AGAIN, &BACK_AGAIN_TRANSCRIPT),
-    ];
-    for (lines, wanted) in rows {
-        let wanted = text_of(rt.alloc(), wanted)?;
-        let file = text_of(rt.alloc(), lines)?;
-        for looks in ["0", "1", "1000", "1000000"] {
-            let words = ["run", "--looks", looks];
-            for _ in 0..10 {
-                let (status, out) = answer(&rt, rt.alloc(), &words, &file)?;
-                assert_eq!(rt; out.text(), wanted.as_slice(), "{words:?}");
-                assert_eq!(rt; status, 0, "{words:?}");
-            }
+fn two_parties_wait_for_each_other(rt: HostRuntime) -> Result<(), Fail> {
+    for words in [["run"].as_slice(), &["run", "--log"]] {
+        let gate = Meeting::new(&rt, rt.alloc(), 0);
+        let mut links = RingLinks::new();
+        let file = MEETING.as_bytes();
+        let (status, out) = answer_past(&rt, rt.alloc(), words, file, &mut links, &gate)?;
+        assert!(rt; out.text().starts_with(MET.as_bytes()), "{words:?}");
+        assert!(rt;
+            words.len() > 1 || out.text().len() == MET.len(),
+            "{words:?}"
+        );
+        assert_eq!(rt; status, 0, "{words:?}");
+        assert_eq!(rt; gate.first_saw.load(Ordering::SeqCst), 1, "{words:?}");
+        assert_eq!(rt; gate.second_saw.load(Ordering::SeqCst), 1, "{words:?}");
+    }
+    Ok(())
+}
+
+// A gate that drops the first entry of each party has no front of them.
+#[test]
+fn what_a_gate_saw_of_a_party_is_a_front_of_its_lines(rt: HostRuntime) -> Result<(), Fail> {
+    for (from, wanted) in [(0, true), (2, false)] {
+        let gate = Meeting::new(&rt, rt.alloc(), from);
+        let words = ["run", "--log"];
+        let mut links = RingLinks::new();
+        let file = MEETING.as_bytes();
+        let (_, out) = answer_past(&rt, rt.alloc(), &words, file, &mut links, &gate)?;
+        let Ok(told) = std::str::from_utf8(out.text()) else {
+            return Err(Fail::from("no text"));
+        };
+        let (_, log) = told.split_once("%%log\n").ok_or("no log")?;
+        let noted = gate.noted.into_inner();
+        for party in [(0, "a"), (1, "b")] {
+            let front = is_front(rt.alloc(), log, party, &noted)?;
+            assert_eq!(rt; front, wanted, "{party:?} from {from}");
         }
     }
     Ok(())
 }
 
+// How often parties look, and how often a file is run so.
+const OFTEN: [(&str, usize); 4] = [("0", 40), ("1", 40), ("1000", 40), ("1000000", 4)];
+
 #[test]
-fn what_parties_did_is_replayed(rt: HostRuntime) -> Result<(), Fail> {
-    let accepted = accepted(rt.alloc(), &AGENCY)?;
-    let mut rings = RingLinks::new();
-    let Ok(by_rings) = run_parties(&rt, rt.alloc(), &accepted, 1_000, &mut rings, &NoGate) else {
-        return Err(Fail::from("not run over rings"));
-    };
-    let mut lists = MemLinks::new();
-    let Ok(by_lists) = run_parties(&rt, rt.alloc(), &accepted, 1_000, &mut lists, &NoGate) else {
-        return Err(Fail::from("not run over lists"));
-    };
-    for mut left in [by_rings, by_lists] {
-        left.drain()?;
-        let mut again = World::start(rt.alloc(), &accepted)?;
-        assert!(rt; again.replay(left.history()).is_ok());
-        assert!(rt; again.quiet());
-        assert_eq!(rt; again.history(), left.history());
+fn however_often_parties_look_the_transcript_is_one(rt: HostRuntime) -> Result<(), Fail> {
+    let rows = [
+        (AGENCY, AGENCY_TRANSCRIPT),
+        (CROSSING, CROSSING_TRANSCRIPT),
+        (BACK_AGAIN, BACK_AGAIN_TRANSCRIPT),
+    ];
+    for (file, wanted) in rows {
+        for (looks, times) in OFTEN {
+            let words = ["run", "--looks", looks];
+            for _ in 0..times {
+                let (status, out) = answer(&rt, rt.alloc(), &words, file.as_bytes())?;
+                assert_eq!(rt; out.text(), wanted.as_bytes(), "{words:?}");
+                assert_eq!(rt; status, 0, "{words:?}");
+            }
+        }
     }
     Ok(())
 }

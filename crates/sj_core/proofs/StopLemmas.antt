@@ -5,6 +5,7 @@ use Rattle.sj_semantics.specs.declared.Want.{Want}
 use Rattle.sj_semantics.specs.declared.Want.TheVariants as wants
 use Rattle.sj_table.specs.declared.table.Spot.{Spot}
 use Rattle.sj_table.specs.Spots.{place_in}
+use Rattle.sj_rules.specs.Halts.{is_delegated_enough, lacks_message}
 use Rattle.sj_rules.specs.Node.{acts}
 use Rattle.sj_rules.specs.Party.{play_of}
 use Rattle.sj_rules.specs.Record.{MainAt}
@@ -13,7 +14,7 @@ use Rattle.sj_rules.specs.World.{after_event, happens}
 use Rattle.sj_node.specs.declared.node.Node.{Node}
 use Rattle.sj_node.specs.declared.refusal.Halt.{Halt}
 use Rattle.sj_node.specs.declared.refusal.Halt.TheVariants as halts
-use Rattle.sj_node.specs.Halts.{hold_up, is_worn_out, lacks_message, names_awaited, stop_by, stop_wanting}
+use Rattle.sj_node.specs.Halts.{hold_up, names_awaited, stop_by, stop_wanting}
 use Rattle.sj_node.specs.Node.{act_of, spot_node, steps_of, stop_of, wants_of}
 use Rattle.sj_node.specs.Slots.{mains_in}
 use Rattle.sj_core.specs.declared.course.Course.{Course}
@@ -30,7 +31,7 @@ stop_if false k h stop is = absurd (cc is)
 stop_up : (main : EndId → Option (MainAt Spot)) (want : Want) (h : Halt) → hold_up main want ≡ Some h → IsStop h
 stop_up main wants.Local h is = absurd (cc is)
 stop_up main (wants.Send e m) h is = absurd (cc is)
-stop_up main (wants.Delegate e y) h is = stop_if (is_worn_out (main y)) halts.AtLimit h tt is
+stop_up main (wants.Delegate e y) h is = stop_if (is_delegated_enough (main y)) halts.AtLimit h tt is
 stop_up main (wants.Take e a) h is = stop_if (lacks_message (main e)) halts.Waits h tt is
 stop_up main (wants.Close e) h is = absurd (cc is)
 stop_up main wants.Ended h is = absurd (cc is)

@@ -1,13 +1,12 @@
 //! A core world before any event.
 ghost use Rattle.std.specs.Prelude.{◌≡◌, ℕ, [], IfErr, IfOk, length, map};
 ghost use Rattle.sj_check.specs.Held.{file_in as held};
-ghost use Rattle.sj_core.specs.Course.{IsOfAccepted};
 ghost use Rattle.sj_core.specs.Nodes.{AreFirst};
 ghost use Rattle.sj_core.specs.Replaying.{IsMisfitFrom};
 ghost use Rattle.sj_core.specs.Views.{line_at};
 ghost use Rattle.sj_lang.specs.FileAt.{body_named};
 ghost use Rattle.sj_lang.specs.FileView.{file_of};
-ghost use Rattle.sj_plain.specs.Kept.{file_kept, without_words};
+ghost use Rattle.sj_plain.specs.Kept.{without_words};
 ghost use Rattle.sj_rules.specs.Start.{core_start};
 ghost use Rattle.sj_table.specs.Spots.{start_in};
 
@@ -18,7 +17,7 @@ use sj_base::NoMemory;
 use sj_check::Accepted;
 use sj_end::Line;
 use sj_node::Node;
-use sj_plain::{Kept, copied_file};
+use sj_plain::copied_file;
 use sj_table::Table;
 use std::alloc::Global;
 
@@ -49,21 +48,23 @@ fn nodes_over(alloc: Global, accepted: &Accepted, table: &Table) -> Result<Vec<N
 impl Course {
     ghost use Rattle.sj_core.specs.Course.{IsReached, file_in, history_in, world_in};
 
-    /// The world of nodes that stand at their start.
-    pub fn begin(alloc: Global, kept: Kept, nodes: Vec<Node>) -> Course
-        requires accepted { IsOfAccepted (file_kept kept) }
-        requires first { AreFirst (file_kept kept) nodes.items }
-        ensures reached { IsReached result }
-        ensures file { file_in result ≡ file_kept kept }
-        ensures history { history_in result ≡ [] }
-        ensures world { world_in result ≡ core_start (file_kept kept) }
+    /// The parties of the file before any event, with nothing in their lanes. It copies what it needs
+    /// of the file.
+    fn begin(alloc: Global, accepted: &Accepted) -> Result<Course, NoMemory>
+        ensures reached { IfOk result (λ c. IsReached c) }
+        ensures file { IfOk result (λ c. file_in c ≡ without_words (file_of (held accepted.now))) }
+        ensures history { IfOk result (λ c. history_in c ≡ []) }
+        ensures world { IfOk result (λ c. world_in c ≡ core_start (file_of (held accepted.now))) }
     {
-        Course {
+        let nodes = first_nodes(alloc, accepted)?;
+        let kept = copied_file(alloc, accepted.file())?;
+        let history = Vec::new(alloc);
+        Ok(Course {
             alloc,
             kept,
             nodes,
-            history: Vec::new(alloc),
-        }
+            history,
+        })
     }
 }
 
@@ -72,8 +73,7 @@ impl World {
     ghost use Rattle.sj_rules.specs.History.{IsHistory};
     ghost use Rattle.std.specs.Prelude.{max};
 
-    /// The parties of the file before any event, with nothing in their lanes. It copies what it needs
-    /// of the file.
+    /// The parties of the file before any event.
     pub fn start(alloc: Global, accepted: &Accepted) -> Result<World, NoMemory>
         // The file's start.
         ensures kept { IfOk result (λ w. kept_of w ≡ without_words (file_of (held accepted.now))) }
@@ -84,9 +84,8 @@ impl World {
         ensures run { IfOk result (λ w. IsHistory max (kept_of w) (history_of w) (world_at w)) }
         ensures parties { IfOk result (λ w. party_count w ≡ length (kept_of w).parties) }
     {
-        let nodes = first_nodes(alloc, accepted)?;
-        let kept = copied_file(alloc, accepted.file())?;
-        Ok(World::begin(alloc, kept, nodes))
+        let course = Course::begin(alloc, accepted)?;
+        Ok(World { course })
     }
 
     /// The world to which these lines lead from the file's start on, if each is the one that is due there.
@@ -108,26 +107,10 @@ impl World {
         // The first line that isn't the one that is due.
         ensures misfit { IfErr result (IsMisfitFrom (file_of (held accepted.now)) (map line_at lines.items)) }
     {
-        let nodes = first_nodes(alloc, accepted)?;
-        let kept = copied_file(alloc, accepted.file())?;
-        let course = Course::begin(alloc, kept, nodes);
+        let course = Course::begin(alloc, accepted)?;
         match course.replayed(lines) {
             Ok(course) => Ok(World { course }),
             Err(refusal) => Err(refusal),
-        }
-    }
-
-    /// The world of nodes that stand at their start.
-    fn begin(alloc: Global, kept: Kept, nodes: Vec<Node>) -> World
-        requires accepted { IsOfAccepted (file_kept kept) }
-        requires first { AreFirst (file_kept kept) nodes.items }
-        ensures file { kept_of result ≡ file_kept kept }
-        ensures history { history_of result ≡ [] }
-        ensures world { world_at result ≡ core_start (file_kept kept) }
-        ensures parties { party_count result ≡ length (file_kept kept).parties }
-    {
-        World {
-            course: Course::begin(alloc, kept, nodes),
         }
     }
 }

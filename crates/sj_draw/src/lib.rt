@@ -15,6 +15,3 @@ mod words;
 pub use gathering::{DrawRefusal, draw_lines};
 pub use laws::{each_delivery_is_drawn_once, no_picture_outgrows_its_lines};
 pub use run::draw;
-
-#[cfg(test)]
-mod tests;

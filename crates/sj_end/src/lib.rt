@@ -12,6 +12,3 @@ pub use end::{End, other_end};
 pub use note::{Entry, Event, Line, Note, note_of};
 pub use record::{Closed, Deferred, Expected, Held, Parked, Signalled};
 pub use wire::{Body, Frame, Post};
-
-#[cfg(test)]
-mod tests;

@@ -5,6 +5,7 @@ mod entry;
 mod words;
 
 pub use entry::enter;
+pub use words::Caller;
 
 #[cfg(test)]
 mod tests;

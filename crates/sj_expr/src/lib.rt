@@ -6,8 +6,6 @@ mod operands;
 mod parse;
 mod signs;
 mod taking;
-#[cfg(test)]
-mod tests;
 
 pub use laws::{
     an_expression_ends_where_it_may, an_expression_is_read_in_one_way, expressions_are_what_is_due,

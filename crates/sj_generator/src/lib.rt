@@ -4,6 +4,3 @@
 mod printing;
 
 pub use printing::print_generated;
-
-#[cfg(test)]
-mod tests;

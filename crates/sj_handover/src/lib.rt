@@ -14,6 +14,3 @@ pub use keeper::{acked, crossed, signal};
 pub use passing::{Usable, passive};
 pub use taker::claim;
 pub use working::Tally;
-
-#[cfg(test)]
-mod tests;

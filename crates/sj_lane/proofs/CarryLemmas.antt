@@ -7,10 +7,10 @@ use Rattle.std.specs.Vec.{with_item}
 use Rattle.sj_lane.specs.declared.lane.Lanes.{Lanes}
 use Rattle.sj_lane.specs.declared.mem.MemOut.{MemOut}
 use Rattle.sj_lane.specs.declared.mem.MemIn.{MemIn}
-use Rattle.sj_lane.specs.Mem.{IsCarried, frames_popped, frames_pushed}
-use Rattle.sj_lane.specs.MemCarry.{KeptIn, KeptOut, SameMem}
+use Rattle.sj_lane.specs.Mem.{IsCarried, frames_popped, frames_pushed, in_waits, out_waits}
+use Rattle.sj_lane.specs.MemCarry.{IsStill, KeptIn, KeptOut, OneMoved, Passes, Rests, SameMem}
 use Rattle.sj_lane.specs.Square.{AllJoined, IsSquare, in_at, in_in, out_at, out_in}
-use Rattle.sj_lane.proofs.CarryingLemmas.{Carried, link_carried, lists_later}
+use Rattle.sj_lane.proofs.CarryingLemmas.{Carried, link_carried, link_moved, link_still, lists_later}
 use Rattle.sj_lane.proofs.CellLemmas.{InPut, OutPut, in_put, out_put}
 
 -- the lanes with another one on which q pops from p
@@ -99,6 +99,24 @@ module _ (L : List (Lanes MemOut MemIn)) (p q : ℕ) (d1 d2 d3 : Lanes MemOut Me
       let three = in_was_set (out_set (in_set L p q d1 none) p q d2 r) p q d3 (hp2 r) (hq2 r) (two.square (m1.square is)) j in
       link_carried L (in_set L p q d1 none) (out_set (in_set L p q d1 none) p q d2 r) (in_set (out_set (in_set L p q d1 none) p q d2 r) p q d3 j) p q none i j o r m1 two three
       out_at_first lane_at kept_out kept_in carried is joined
+
+  -- what waited is moved
+  pub put_moved : (r : MemOut) (j : MemIn) → KeptOut o r → KeptIn i j → IsCarried r j → Passes (out_waits o) (in_waits i) (out_waits r) (in_waits j) →
+      OneMoved p q L (in_set (out_set (in_set L p q d1 none) p q d2 r) p q d3 j)
+  put_moved r j kept_out kept_in carried =
+      let two = m2 r in
+      let three = in_was_set (out_set (in_set L p q d1 none) p q d2 r) p q d3 (hp2 r) (hq2 r) (two.square (m1.square is)) j in
+      link_moved L (in_set L p q d1 none) (out_set (in_set L p q d1 none) p q d2 r) (in_set (out_set (in_set L p q d1 none) p q d2 r) p q d3 j) p q none i j o r m1 two three
+      out_at_first lane_at kept_out kept_in carried
+
+  -- or nothing is
+  pub put_still : (r : MemOut) (j : MemIn) → KeptOut o r → KeptIn i j → IsCarried r j → Rests (out_waits o) (in_waits i) (out_waits r) (in_waits j) →
+      (a b : ℕ) → IsStill L (in_set (out_set (in_set L p q d1 none) p q d2 r) p q d3 j) a b
+  put_still r j kept_out kept_in carried =
+      let two = m2 r in
+      let three = in_was_set (out_set (in_set L p q d1 none) p q d2 r) p q d3 (hp2 r) (hq2 r) (two.square (m1.square is)) j in
+      link_still L (in_set L p q d1 none) (out_set (in_set L p q d1 none) p q d2 r) (in_set (out_set (in_set L p q d1 none) p q d2 r) p q d3 j) p q none i j o r m1 two three
+      out_at_first lane_at kept_out kept_in carried
 
 -- one carry after another
 pub carried_later : (K L M : List (Lanes MemOut MemIn)) → SameMem K L → IsSquare M → AllJoined IsCarried M → SameMem L M → Carried K M

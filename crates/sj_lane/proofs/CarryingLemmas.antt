@@ -7,8 +7,8 @@ use Rattle.sj_lane.specs.declared.lane.Lanes.{Lanes}
 use Rattle.sj_lane.specs.declared.mem.MemOut.{MemOut}
 use Rattle.sj_lane.specs.declared.mem.MemIn.{MemIn}
 use Rattle.sj_lane.specs.Marks.{marks_at}
-use Rattle.sj_lane.specs.Mem.{IsCarried, frames_popped, frames_pushed}
-use Rattle.sj_lane.specs.MemCarry.{KeptIn, KeptOut, SameMem}
+use Rattle.sj_lane.specs.Mem.{IsCarried, frames_popped, frames_pushed, in_waits, out_waits}
+use Rattle.sj_lane.specs.MemCarry.{IsStill, KeptIn, KeptOut, OneMoved, Passes, Rests, SameMem}
 use Rattle.sj_lane.specs.Square as square
 use Rattle.sj_lane.specs.Square.{AllJoined, IsSquare, SameLists, in_at, out_at}
 use Rattle.sj_lane.proofs.CellLemmas.{InPut, IsCell, OutPut, at_cell}
@@ -73,6 +73,21 @@ module _ (L L1 L2 L3 : List (Lanes MemOut MemIn)) (p q : ℕ) (none i j : MemIn)
 
   in_other : (a b : ℕ) → (IsCell p q a b → ⊥) → in_at L3 a b ≡ in_at L a b
   in_other a b apart = m3.others a b apart ∙ m2.ins a b ∙ m1.others a b apart
+
+  -- the link is moved where what waited was
+  pub link_moved : Passes (out_waits o) (in_waits i) (out_waits r) (in_waits j) → OneMoved p q L L3
+  link_moved h = record {
+    here = rw (out, lane, out_cell, m3.here) h;
+    others = λ a b apart. rw (out_other a b apart, in_other a b apart) (record { left = refl; there = refl });
+  }
+
+  -- and all links are still where it isn't
+  pub link_still : Rests (out_waits o) (in_waits i) (out_waits r) (in_waits j) → (a b : ℕ) → IsStill L L3 a b
+  link_still h a b = by (at_cell p q a b)
+    where
+      by : IsCell p q a b ⊎ (IsCell p q a b → ⊥) → IsStill L L3 a b
+      by (inl c) = rw (c.0, c.1, out, lane, out_cell, m3.here) h
+      by (inr apart) = rw (out_other a b apart, in_other a b apart) (record { left = refl; there = refl })
 
   lists : SameMem L L3
   lists = record { outs = λ a b. outs a b (at_cell p q a b); ins = λ a b. ins a b (at_cell p q a b) }

@@ -6,5 +6,6 @@ pub mod ColumnLemmas
 pub mod EachLemmas
 pub mod GridLemmas
 pub mod MemRowsLemmas
+pub mod MovedLemmas
 pub mod PushLemmas
 pub mod SettleLemmas

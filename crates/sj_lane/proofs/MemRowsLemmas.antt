@@ -1,6 +1,6 @@
 -- New lanes in memory, and lanes in memory that came back.
 use Rattle.std.proofs.Common.{zero, suc, ◌≡◌, ℕ, ◌+◌, List, [], ◌∷◌, ◌++◌, refl, sym, ap, ◌∙◌, append_assoc, length-append, arith}
-use Rattle.std.specs.Prelude.{Bool, Some, slice_get}
+use Rattle.std.specs.Prelude.{Bool, Option, None, Some, slice_get}
 use Rattle.std.specs.List.{AllByRecursion}
 use Rattle.sj_lane.specs.declared.lane.Lanes.{Lanes}
 use Rattle.sj_lane.specs.declared.mem.MemOut.{MemOut}
@@ -8,6 +8,7 @@ use Rattle.sj_lane.specs.declared.mem.MemIn.{MemIn}
 use Rattle.sj_lane.specs.Told.{told_list}
 use Rattle.sj_lane.specs.Marks.{marks_at}
 use Rattle.sj_lane.specs.Mem.{IsCarried, frames_popped, frames_pushed}
+use Rattle.sj_lane.specs.MemCarry.{NoneWait, sender_waits, taker_waits}
 use Rattle.sj_lane.specs.MemKept.{got_in, sent_in, vain_in_in, vain_out_in}
 use Rattle.sj_lane.specs.MemRows.{AreNewIns, AreNewOuts, AreNewRows, IsNewIn, IsNewOut, IsNewRow}
 use Rattle.sj_lane.specs.Square.{AllJoined, IsFresh, IsSquare, Kept, in_at, out_at}
@@ -67,6 +68,17 @@ module _ (n : ℕ) (L : List (Lanes MemOut MemIn)) (news : AreNewRows n n L) whe
     outs = λ p q o h. let a = new_out p q o h in (λ t. ap (λ ms. Some (marks_at ms)) a.pushed, a.vain);
     ins = λ p q i h. let a = new_in p q i h in (λ t. ap (λ ms. Some (marks_at ms)) a.popped, a.vain);
   }
+
+  pub new_empty : NoneWait L
+  new_empty = record { senders = λ p q. senders p q (out_at L p q) refl; takers = λ p q. takers p q (in_at L p q) refl }
+    where
+      senders : (p q : ℕ) (x : Option MemOut) → out_at L p q ≡ x → sender_waits x ≡ []
+      senders p q None at = refl
+      senders p q (Some o) at = (new_out p q o at).waits
+
+      takers : (p q : ℕ) (x : Option MemIn) → in_at L p q ≡ x → taker_waits x ≡ []
+      takers p q None at = refl
+      takers p q (Some i) at = (new_in p q i at).waits
 
 -- what the kept lanes show
 pub kept_back : (L : List (Lanes MemOut MemIn)) → IsSquare L → AllJoined IsCarried L →

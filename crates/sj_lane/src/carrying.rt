@@ -1,8 +1,8 @@
 //! What waits in lanes in memory, moved to the other side.
-ghost use Rattle.std.specs.Prelude.{◌<◌, length};
+ghost use Rattle.std.specs.Prelude.{ℕ, ◌<◌, length, OnErr, OnOk};
 ghost use Rattle.sj_lane.specs.Square.{AllJoined, IsSquare};
-ghost use Rattle.sj_lane.specs.Mem.{IsCarried};
-ghost use Rattle.sj_lane.specs.MemCarry.{KeptIn, KeptOut, SameMem};
+ghost use Rattle.sj_lane.specs.Mem.{IsCarried, in_waits, out_waits};
+ghost use Rattle.sj_lane.specs.MemCarry.{AreMoved, AreMovedUpTo, IsStill, KeptIn, KeptOut, OneMoved, Passes, Rests, RowMoved, SameMem};
 
 use crate::lane::Lanes;
 use crate::mem::{MemIn, MemOut};
@@ -16,8 +16,12 @@ fn carry_link(out: &mut MemOut, lane: &mut MemIn) -> Result<(), NoMemory>
     ensures joined { IsCarried out.new lane.new }
     ensures out { KeptOut out.old out.new }
     ensures lane { KeptIn lane.old lane.new }
+    ensures moved { OnOk result (Passes (out_waits out.old) (in_waits lane.old) (out_waits out.new) (in_waits lane.new)) }
+    ensures still { OnErr result (Rests (out_waits out.old) (in_waits lane.old) (out_waits out.new) (in_waits lane.new)) }
 {
-    lane.waiting.append(&mut out.waiting)?;
+    if lane.waiting.append(&mut out.waiting).is_err() {
+        return Err(NoMemory);
+    }
     Ok(())
 }
 
@@ -30,6 +34,8 @@ fn carry_between(lanes: &mut [Lanes<MemOut, MemIn>], from: usize, to: usize) -> 
     ensures square { IsSquare lanes.new }
     ensures joined { AllJoined IsCarried lanes.new }
     ensures lists { SameMem lanes.old lanes.new }
+    ensures moved { OnOk result (OneMoved from to lanes.old lanes.new) }
+    ensures still { OnErr result ((p q : ℕ) → IsStill lanes.old lanes.new p q) }
 {
     let alloc = *lanes[to].ins.allocator();
     let none = MemIn {
@@ -50,9 +56,13 @@ pub(crate) fn carry_all(lanes: &mut [Lanes<MemOut, MemIn>]) -> Result<(), NoMemo
     ensures square { IsSquare lanes.new }
     ensures joined { AllJoined IsCarried lanes.new }
     ensures lists { SameMem lanes.old lanes.new }
+    ensures moved { OnOk result (AreMoved lanes.old lanes.new) }
+    ensures short { OnErr result ((p q : ℕ) × AreMovedUpTo p q lanes.old lanes.new) }
 {
     for from in 0..lanes.len() {
-        carry_from(lanes, from)?;
+        if let Err(short) = carry_from(lanes, from) {
+            return Err(short);
+        }
     }
     Ok(())
 }
@@ -65,9 +75,13 @@ fn carry_from(lanes: &mut [Lanes<MemOut, MemIn>], from: usize) -> Result<(), NoM
     ensures square { IsSquare lanes.new }
     ensures joined { AllJoined IsCarried lanes.new }
     ensures lists { SameMem lanes.old lanes.new }
+    ensures moved { OnOk result (RowMoved from (length lanes.old) lanes.old lanes.new) }
+    ensures short { OnErr result ((q : ℕ) × RowMoved from q lanes.old lanes.new) }
 {
     for to in 0..lanes.len() {
-        carry_between(lanes, from, to)?;
+        if let Err(short) = carry_between(lanes, from, to) {
+            return Err(short);
+        }
     }
     Ok(())
 }

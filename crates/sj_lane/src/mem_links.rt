@@ -20,10 +20,11 @@ impl MemLinks {
 }
 
 impl Links for MemLinks {
-    ghost use Rattle.std.specs.Prelude.{◌≡◌, ◌≤◌, ℕ, true};
-    ghost use Rattle.sj_lane.specs.Square.{AllJoined, HasFault, IsSquare, Kept, NoFault};
+    ghost use Rattle.std.specs.Prelude.{◌≡◌, ◌≤◌, ℕ, true, Err, IfOk, OnErr, OnOk, vec_len};
+    ghost use Rattle.sj_lane.specs.Square.{AllJoined, HasFault, IsFresh, IsSquare, Kept, NoFault, NoneFell, SameLists};
     ghost use Rattle.sj_lane.specs.Told.{Rose};
     ghost use Rattle.sj_lane.specs.Mem.{IsCarried};
+    ghost use Rattle.sj_lane.specs.MemCarry.{AreMoved, AreMovedUpTo, NoneWait};
     ghost use Rattle.sj_lane.specs.MemLaws.{carried_later};
     ghost use Rattle.sj_lane.specs.MemKept.{kept_list, sent_in, got_in, vain_out_in, vain_in_in};
 
@@ -45,11 +46,20 @@ impl Links for MemLinks {
 
     ghost vain_in = { λ s. vain_in_in (kept_list s.kept) };
 
+    // The trait's clauses, and that no frame waits.
     fn make(
         &mut self,
         alloc: Global,
         parties: u16,
-    ) -> Result<Vec<Lanes<MemOut, MemIn>>, MakeRefusal> {
+    ) -> Result<Vec<Lanes<MemOut, MemIn>>, MakeRefusal>
+        ensures square { IfOk result (λ v. (vec_len v ≡ parties) × IsSquare v.items) }
+        ensures joined { IfOk result (λ v. AllJoined IsCarried v.items) }
+        ensures fresh { IfOk result (λ v. IsFresh ⟦<MemOut as OutLane>⟧.pushed ⟦<MemIn as InLane>⟧.popped ⟦<MemOut as OutLane>⟧.vain ⟦<MemIn as InLane>⟧.vain true v.items) }
+        ensures faultless { IfOk result (λ v. NoFault ⟦<MemOut as OutLane>⟧.faults ⟦<MemIn as InLane>⟧.faults v.items) }
+        ensures tells { true ≡ true }
+        ensures fault { (0 ≤ 0) × (result ≡ Err MakeRefusal.Fault → Rose 0 0) }
+        ensures empty { IfOk result (λ v. NoneWait v.items) }
+    {
         self.kept = None;
         match lanes_of(alloc, parties) {
             Ok(lanes) => Ok(lanes),
@@ -57,7 +67,23 @@ impl Links for MemLinks {
         }
     }
 
-    fn carry(&mut self, lanes: &mut [Lanes<MemOut, MemIn>]) -> Result<(), NoMemory> {
+    // The trait's clauses, and which frames moved.
+    fn carry(&mut self, lanes: &mut [Lanes<MemOut, MemIn>]) -> Result<(), NoMemory>
+        requires square { IsSquare lanes.old }
+        requires joined { AllJoined IsCarried lanes.old }
+        ensures square { IsSquare lanes.new }
+        ensures joined { AllJoined IsCarried lanes.new }
+        ensures lists { SameLists ⟦<MemOut as OutLane>⟧.pushed ⟦<MemIn as InLane>⟧.popped ⟦<MemOut as OutLane>⟧.vain ⟦<MemIn as InLane>⟧.vain lanes.old lanes.new }
+        ensures faults { NoneFell ⟦<MemOut as OutLane>⟧.faults ⟦<MemIn as InLane>⟧.faults lanes.old lanes.new }
+        ensures shown { (p q : ℕ) → (sent_in (kept_list self.new.kept) p q ≡ sent_in (kept_list self.old.kept) p q)
+            × (got_in (kept_list self.new.kept) p q ≡ got_in (kept_list self.old.kept) p q)
+            × (vain_out_in (kept_list self.new.kept) p q ≡ vain_out_in (kept_list self.old.kept) p q)
+            × (vain_in_in (kept_list self.new.kept) p q ≡ vain_in_in (kept_list self.old.kept) p q) }
+        ensures tells { true ≡ true }
+        ensures fault { ◌≡◌ {A = ℕ} 0 0 }
+        ensures moved { OnOk result (AreMoved lanes.old lanes.new) }
+        ensures short { OnErr result ((p q : ℕ) × AreMovedUpTo p q lanes.old lanes.new) }
+    {
         carry_all(lanes)
     }
 

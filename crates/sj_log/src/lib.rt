@@ -15,6 +15,3 @@ pub use laws::printed_lines_are_read;
 pub use lines::read_log;
 pub use parts::parted;
 pub use refusal::LogRefusal;
-
-#[cfg(test)]
-mod tests;

@@ -4,7 +4,5 @@
 mod heads;
 mod joining;
 mod merging;
-#[cfg(test)]
-mod tests;
 
 pub use joining::{join_logs, merge_in};

@@ -1,5 +1,5 @@
 -- Where none of the causes applies, and the places let the step, the rules have an act.
-use Rattle.std.proofs.Common.{rules, IsSome, ◌≡◌, ℕ, ◌+◌, ◌<◌, Bool, true, false, ltb, if◌then◌else◌, List, [], ◌∷◌, Option, Some, None, option_map, refl, sym, ◌∙◌, arith}
+use Rattle.std.proofs.Common.{rules, IsSome, ◌≡◌, ℕ, ◌+◌, ◌<◌, Bool, true, false, not, if◌then◌else◌, List, [], ◌∷◌, Option, Some, None, option_map, refl, sym, ◌∙◌, arith}
 use Rattle.std.specs.Prelude.{is_some, length, nat_lt, slice_get, ◌&&◌}
 use Rattle.std.proofs.lemmas.Bool.Decides.{nat_tests}
 use Rattle.sj_base.specs.declared.EndId.{EndId}
@@ -16,12 +16,13 @@ use Rattle.sj_semantics.specs.Program.{Program}
 use Rattle.sj_semantics.specs.Fitting.{fits}
 use Rattle.sj_machine.specs.Sound.{program_at}
 use Rattle.sj_rules.specs.Record.{HeldAt, MainAt, Held, Closed, Expected, Parked, is_same_end}
+use Rattle.sj_rules.specs.Halts.{is_delegated_enough, is_empty, lacks_message}
 use Rattle.sj_rules.specs.Mapped.{held_with, main_with}
 use Rattle.sj_rules.specs.Node.{NodeAt, close_act, delegate_act, is_free, put, send_act, take_act, take_from, with_main, with_old}
 use Rattle.sj_node.specs.declared.node.Node.{Node}
 use Rattle.sj_node.specs.declared.refusal.Halt.{Halt}
 use Rattle.sj_node.specs.declared.refusal.Halt.TheVariants as halts
-use Rattle.sj_node.specs.Halts.{hold_up, is_empty, is_worn_out, lacks_message, names_awaited, stop_by}
+use Rattle.sj_node.specs.Halts.{hold_up, names_awaited, stop_by}
 use Rattle.sj_node.specs.Node.{act_of, is_below_count, main_of, node_at, play_of, steps_of, stop_of, wants_of}
 use Rattle.sj_node.specs.Play.{awaited_place, names_known}
 use Rattle.sj_node.specs.Slots.{mains_in}
@@ -54,23 +55,26 @@ passed : {X : Type 0} (a : Bool) (o : Option X) → a ≡ true → (if a then o 
 passed true o h none = none
 passed false o h none = cc
 
-fresh : (k : ℕ) → ltb 99 k ≡ false → ltb k 100 ≡ true
-fresh k h = grind (arith, nat_tests)
+is_below : (b : Bool) → not b ≡ false → b ≡ true
+is_below true h = refl
+is_below false h = cc
 
-not_worn : (b : Bool) → ◌≡◌ {A = Option Halt} (if b then Some halts.AtLimit else None) None → b ≡ false
-not_worn true h = cc
-not_worn false h = refl
+not_enough : (b : Bool) → ◌≡◌ {A = Option Halt} (if b then Some halts.AtLimit else None) None → b ≡ false
+not_enough true h = cc
+not_enough false h = refl
 
-handed_some : (n : Node) (f : Spot → Place) (e y : EndId) (r : Option (MainAt Spot)) → is_held (option_map (main_with f) r) ≡ true → is_worn_out r ≡ false → is_same_end e y ≡ false
+handed_some : (n : Node) (f : Spot → Place) (e y : EndId) (r : Option (MainAt Spot)) → is_held (option_map (main_with f) r) ≡ true
+    → is_delegated_enough r ≡ false → is_same_end e y ≡ false
     → lets Out (msgs.Sess y.sess y.side n.party) ((node_at n).main e) ≡ true → delegate_act (play_of n) n.party (node_at n) e y (option_map (main_with f) r) ≡ None → ⊥
-handed_some n f e y (Some (Held h)) held worn other there none =
+handed_some n f e y (Some (Held h)) held few other there none =
     let left : lets Out (msgs.Sess y.sess y.side n.party) (put y None (node_at n).main e) ≡ true = (λ i. lets Out (msgs.Sess y.sess y.side n.party) (if other i then None else (node_at n).main e)) ∙ there in
     let at : HeldAt Place = held_with f h in
     let mid : NodeAt Place Program = with_main y None (with_old y (Some (Parked (record at.end { hops = at.end.hops + 1 }))) (node_at n)) in
-    sent_some n mid e (msgs.Sess y.sess y.side n.party) (put y None (node_at n).main e) left (passed (nat_lt h.end.hops 100) _ (fresh h.end.hops worn) none)
-handed_some n f e y (Some (Closed c)) held worn other there none = cc
-handed_some n f e y (Some (Expected keeper place deferred)) held worn other there none = cc
-handed_some n f e y None held worn other there none = cc
+    sent_some n mid e (msgs.Sess y.sess y.side n.party) (put y None (node_at n).main e) left
+    (passed (nat_lt h.end.hops 100) _ (is_below (nat_lt h.end.hops 100) few) none)
+handed_some n f e y (Some (Closed c)) held few other there none = cc
+handed_some n f e y (Some (Expected keeper place deferred)) held few other there none = cc
+handed_some n f e y None held few other there none = cc
 
 all_taken : (a b c : Bool) → ◌≡◌ {A = Option Misfit} (if a then (if b then (if c then None else Some taken) else Some unknown) else Some unwanted) None → (a ≡ true) × (((a && b) && c) ≡ true)
 all_taken true true true h = (refl, refl)
@@ -123,7 +127,8 @@ some_step : (n : Node) (w : Want) → stop_by (mains_in n.mains.items) (steps_of
 some_step n wants.Local stop agrees fit none = cc
 some_step n (wants.Send e m) stop agrees fit none = sent_some n (node_at n) e m ((node_at n).main e) agrees (passed _ _ (room (place_in n.table) (main_of n e) fit) none)
 some_step n (wants.Delegate e y) stop agrees fit none =
-    handed_some n (place_in n.table) e y (main_of n y) agrees.1 (not_worn (is_worn_out (main_of n y)) (going (mains_in n.mains.items) (steps_of n) (wants.Delegate e y) stop).1) agrees.0 agrees.2
+    handed_some n (place_in n.table) e y (main_of n y) agrees.1
+    (not_enough (is_delegated_enough (main_of n y)) (going (mains_in n.mains.items) (steps_of n) (wants.Delegate e y) stop).1) agrees.0 agrees.2
     (passed _ _ (room (place_in n.table) (main_of n e) fit) none)
 some_step n (wants.Take e a) stop agrees fit none =
     taken_some n (place_in n.table) e (awaited_place (start_in n.table) a) (main_of n e) agrees.0 (not_lacking (lacks_message (main_of n e)) (going (mains_in n.mains.items) (steps_of n) (wants.Take e a) stop).1) agrees.1 fit none

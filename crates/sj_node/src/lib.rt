@@ -23,8 +23,6 @@ mod sending;
 mod slots;
 mod starting;
 mod taking;
-#[cfg(test)]
-mod tests;
 
 pub use crossing::node_crosses;
 pub use laws::{

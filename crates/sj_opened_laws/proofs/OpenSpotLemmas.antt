@@ -1,6 +1,6 @@
 -- Each end lies once, in an Open too, where it does so in the world read as if each Open had been delivered.
-use Rattle.std.proofs.Common.{◌≡◌, ℕ, List, [], ◌∷◌, refl, sym, ap, subst, ◌∙◌, inl, inr}
-use Rattle.std.specs.Prelude.{Bool, true, false, not, ◌||◌, ◌⊎◌, if◌then◌else◌, Option, Some, None}
+use Rattle.std.proofs.Common.{◌≡◌, ℕ, ◌≤◌, List, [], ◌∷◌, length, refl, sym, ap, subst, ◌∙◌, inl, inr}
+use Rattle.std.specs.Prelude.{Bool, true, false, not, ◌||◌, ◌⊎◌, if◌then◌else◌, Contains, Option, Some, None}
 use Rattle.std.specs.List.{filter}
 use Rattle.sj_base.specs.declared.EndId.{EndId}
 use Rattle.sj_rules.specs.Record.{BodyAt, Carry, Fin, Claim, Signal, Ack, Give, Open, MainAt, Held, Expected, offered_end}
@@ -11,10 +11,24 @@ use Rattle.sj_rules.specs.Shown.{bodies, is_give}
 use Rattle.sj_rules.specs.Spots.{Spot, at_main, at_old, on_way, in_open, HasMain, LiesAt, LiesOnce}
 use Rattle.sj_rules.specs.Linked.{subject_of}
 use Rattle.sj_rules.specs.Reading.{is_opening, without_opens, reading, OpensLead}
+use Rattle.sj_world_laws.proofs.ToldLemmas.{Has, contains_has, has_contains, has_filter, has_kept}
 use Rattle.sj_opened_laws.proofs.NodeReadLemmas.{same_is}
 use Rattle.sj_opened_laws.proofs.LaneReadLemmas.{front_opens}
 use Rattle.sj_opened_laws.proofs.WorldReadLemmas.{AreBare}
 use Rattle.sj_opened_laws.proofs.OpenStandsLemmas.{filter_without}
+
+-- a lane has the Gives of an end where it has them without its Opens, too
+pub gives_read : {P : Type 0} → (e : EndId) (fs : List (FrameAt P)) (b : BodyAt P) → Contains (bodies fs) b → is_give e b ≡ true → Contains (bodies (without_opens fs)) b
+gives_read e fs b there is =
+    let kept = subst (Has b) (filter_without (is_give e) (λ s. refl) fs) (has_kept (is_give e) b (bodies fs) (contains_has b (bodies fs) there) is) in
+    has_contains b (bodies (without_opens fs)) (has_filter (is_give e) b (bodies (without_opens fs)) kept)
+
+-- and the other way
+gives_seen : {P : Type 0} → (e : EndId) (fs : List (FrameAt P)) (b : BodyAt P) → Contains (bodies (without_opens fs)) b → is_give e b ≡ true → Contains (bodies fs) b
+gives_seen e fs b there is =
+    let lane = bodies (without_opens fs) in
+    let kept = subst (Has b) (sym (filter_without (is_give e) (λ s. refl) fs)) (has_kept (is_give e) b lane (contains_has b lane there) is) in
+    has_contains b (bodies fs) (has_filter (is_give e) b (bodies fs) kept)
 
 -- without Opens no end is in one
 pub no_opens : {P : Type 0} → (e : EndId) (fs : List (FrameAt P)) → opens e (bodies (without_opens fs)) ≡ false
@@ -98,7 +112,7 @@ module _ {P Q : Type 0} (blank : P) (w : WorldAt P Q) (bare : AreBare w) (lead :
         let closed : is_opening w p e ≡ false = not_opening p r.0 r.1 in
         ap spot_read ((once.lies (at_main p)).0 (subst HasMain (sym (main_read p closed)) l)) ∙ ap (λ b. spot_there b p) closed
     lies_to (at_old p) l = ap spot_read ((once.lies (at_old p)).0 l)
-    lies_to (on_way from to) l = ap spot_read ((once.lies (on_way from to)).0 (l.0, sym (filter_without (is_give e) (λ s. refl) (w.lanes from to)) ∙ l.1))
+    lies_to (on_way from to) l = ap spot_read ((once.lies (on_way from to)).0 (l.0, gives_read e (w.lanes from to) l.0 l.1 l.2, l.2))
     lies_to (in_open p) l =
         let o : is_opening w p e ≡ true = open_there e (bodies (w.lanes (opener_of e.sess) p)) l in
         let main : ((reading blank w).nodes p).main e ≡ Some (Held (new_held e blank (opener_of e.sess))) = rw o refl in
@@ -116,8 +130,8 @@ module _ {P Q : Type 0} (blank : P) (w : WorldAt P Q) (bare : AreBare w) (lead :
         by false o k = subst (LiesAt w e) (some_is (at_main p) at k) (subst HasMain (main_read p o) ((once.lies (at_main p)).1 i))
     lies_from at (Some (at_old p)) i j = subst (LiesAt w e) (some_is (at_old p) at j) ((once.lies (at_old p)).1 i)
     lies_from at (Some (on_way from to)) i j =
-        let l : (give : BodyAt P) × (filter (is_give e) (bodies ((reading blank w).lanes from to)) ≡ give ∷ []) = (once.lies (on_way from to)).1 i in
-        subst (LiesAt w e) (some_is (on_way from to) at j) (l.0, filter_without (is_give e) (λ s. refl) (w.lanes from to) ∙ l.1)
+        let l = (once.lies (on_way from to)).1 i in
+        subst (LiesAt w e) (some_is (on_way from to) at j) (l.0, gives_seen e (w.lanes from to) l.0 l.1 l.2, l.2)
     lies_from at (Some (in_open p)) i j = let o : is_opening (reading blank w) p e ≡ true = open_there e (bodies ((reading blank w).lanes (opener_of e.sess) p)) ((once.lies (in_open p)).1 i) in absurd (cc (no_opens e (w.lanes (opener_of e.sess) p), o))
 
     -- it lies once
@@ -125,6 +139,7 @@ module _ {P Q : Type 0} (blank : P) (w : WorldAt P Q) (bare : AreBare w) (lead :
     lies_once_read = record {
       spot = spot_read once.spot;
       lies = λ at. (lies_to at, lies_from at once.spot refl);
+      one_give = λ from to. subst (λ l. length l ≤ 1) (sym (filter_without (is_give e) (λ s. refl) (w.lanes from to))) (once.one_give from to);
       awaiter = once.awaiter;
       awaits = λ p keeper place late there.
           let closed : is_opening w p e ≡ false = not_opening p (Expected keeper place late) there in

@@ -14,11 +14,7 @@ mod printing_statements;
 mod scalars;
 mod shapes;
 mod simple;
-#[cfg(test)]
-mod statement_tests;
 mod statements;
-#[cfg(test)]
-mod tests;
 
 pub use files::parse_file;
 pub use laws::{
@@ -31,6 +27,3 @@ pub use printing_laws::{
     printed_file_is_read_again, printed_file_stands, printed_text_comes_again,
 };
 pub use sj_proto::{Fault, ParseRefusal, Rule};
-
-#[cfg(test)]
-mod printing_tests;

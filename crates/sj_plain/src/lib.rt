@@ -13,6 +13,3 @@ mod uses;
 pub use halt::Halt;
 pub use kept::{Kept, copied_file};
 pub use plain::Plain;
-
-#[cfg(test)]
-mod tests;

@@ -9,8 +9,3 @@ mod transcript;
 
 pub use log::print_line;
 pub use transcript::print_transcript;
-
-#[cfg(test)]
-mod log_tests;
-#[cfg(test)]
-mod tests;

@@ -13,8 +13,6 @@ mod protocols;
 mod reserved;
 mod scan;
 mod shapes;
-#[cfg(test)]
-mod tests;
 mod tokens;
 
 pub use bodies::body;
@@ -34,6 +32,3 @@ pub use reserved::is_name_text;
 pub use scan::{digits_number, goes_on_after_zero};
 pub use sj_grammar::{Fault, ParseRefusal, Rule, Token, What};
 pub use tokens::Tokens;
-
-#[cfg(test)]
-mod printing_tests;

@@ -1,6 +1,5 @@
 -- What the cache of an end has, wherever the end lies.
-use Rattle.std.specs.Prelude.{◌≡◌, ℕ, ◌≤◌, [], ◌∷◌, drop, length, Option, Some, None}
-use Rattle.std.specs.List.{filter}
+use Rattle.std.specs.Prelude.{◌≡◌, ℕ, ◌≤◌, true, drop, length, Contains, Option, Some, None}
 use Rattle.sj_base.specs.declared.EndId.{EndId}
 use Rattle.sj_rules.specs.Record.{EndAt, Give, MainAt, Held, Closed, Expected, OldAt, Parked, Signalled}
 use Rattle.sj_rules.specs.World.{WorldAt}
@@ -25,7 +24,7 @@ old_end None = None
 abbrev pub HasEnd : {P Q : Type 0} → WorldAt P Q → EndId → Spot → EndAt P → Type 0
 HasEnd w id (at_main p) e = main_end ((w.nodes p).main id) ≡ Some e
 HasEnd w id (at_old p) e = old_end ((w.nodes p).old id) ≡ Some e
-HasEnd w id (on_way from to) e = (resend : Option ℕ) × (filter (is_give id) (bodies (w.lanes from to)) ≡ Give e resend ∷ [])
+HasEnd w id (on_way from to) e = (resend : Option ℕ) × Contains (bodies (w.lanes from to)) (Give e resend) × (is_give id (Give e resend) ≡ true)
 HasEnd w id (in_open p) e = ⊥
 
 -- x is what the plain world knows of the other end, y of this one: what was taken there was sent here, and the cache has

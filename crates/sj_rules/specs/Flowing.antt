@@ -1,5 +1,6 @@
 -- What waits for an end r is on its way, or its session's other end s owes it.
 use Rattle.std.specs.Prelude.{◌≡◌, ◌⊎◌, ℕ, ◌+◌, ◌≤◌, ◌&&◌, ◌==◌, if◌then◌else◌, ⊤, List, [], ◌++◌, filter_map, Contains, Option, Some, None}
+use Rattle.std.specs.List.{AllByRecursion}
 use Rattle.sj_base.specs.declared.EndId.{EndId}
 use Rattle.sj_base.specs.declared.Msg.{Msg}
 use Rattle.sj_rules.specs.Record.{BodyAt, Carry, Fin, Claim, Signal, Ack, Give, Open, is_same_end}
@@ -21,6 +22,16 @@ carried_under e c (Open sess) = None
 abbrev pub carries_under : {P : Type 0} → EndId → ℕ → List (BodyAt P) → List Msg
 carries_under e c bs = filter_map (carried_under e c) bs
 
+-- a Carry goes to that end under that number; of other frames nothing is asked
+abbrev pub IsUnder : {P : Type 0} → EndId → ℕ → BodyAt P → Type 0
+IsUnder e c (Carry to conn number taken msg) = (to ≡ e) × (conn ≡ c)
+IsUnder e c _ = ⊤
+
+-- the deferred Carries are all of the coming number, and they are, followed by those in the lane, what waits
+pub record FlowsDeferred {P : Type 0} (e : EndId) (coming : ℕ) (deferred lane : List (BodyAt P)) (waiting : List Msg) : Type 0 where
+  pub under : AllByRecursion (IsUnder e coming) deferred
+  pub waits : carries_under e coming (deferred ++ lane) ≡ waiting
+
 -- the party at which an end lies
 abbrev pub party_of : {P : Type 0} → Seat P → Option ℕ
 party_of (held at h) = Some at
@@ -41,8 +52,8 @@ lane_from w (Some from) at = bodies (w.lanes from at)
 -- over nothing waits. To a Parked end nothing flows
 abbrev pub flowing_at : {P Q : Type 0} → WorldAt P Q → (s r : Side P) → (waiting : List Msg) → Seat P → Type 0
 flowing_at w s r waiting (held at h) = h.untaken ++ carries_under r.id h.end.conn (bodies (w.lanes h.end.peer at)) ≡ waiting
-flowing_at w s r waiting (signalled at to e deferred) = carries_under r.id (e.conn + 1) (deferred ++ lane_from w (party_of s.seat) to) ≡ waiting
-flowing_at w s r waiting (given at to e resend deferred) = carries_under r.id e.conn (deferred ++ lane_from w (party_of s.seat) to) ≡ waiting
+flowing_at w s r waiting (signalled at to e deferred) = FlowsDeferred r.id (e.conn + 1) deferred (lane_from w (party_of s.seat) to) waiting
+flowing_at w s r waiting (given at to e resend deferred) = FlowsDeferred r.id e.conn deferred (lane_from w (party_of s.seat) to) waiting
 flowing_at w s r waiting (closed at e) = waiting ≡ []
 flowing_at w s r waiting gone = waiting ≡ []
 flowing_at w s r waiting (parked at e) = ⊥
@@ -66,21 +77,13 @@ TellsTaken s k (Open sess) = ⊥
 abbrev pub deferred_of : {P : Type 0} → Seat P → List (BodyAt P)
 deferred_of (signalled at to e deferred) = deferred
 deferred_of (given at to e resend deferred) = deferred
-deferred_of (held at h) = []
-deferred_of (parked at e) = []
-deferred_of (claimed at to e) = []
-deferred_of (closed at e) = []
-deferred_of gone = []
+deferred_of _ = []
 
 -- the end is at a Parked record
 abbrev pub IsParked : {P : Type 0} → Seat P → Type 0
 IsParked (parked at e) = ⊤
 IsParked (claimed at to e) = ⊤
-IsParked (held at h) = ⊥
-IsParked (signalled at to e deferred) = ⊥
-IsParked (given at to e resend deferred) = ⊥
-IsParked (closed at e) = ⊥
-IsParked gone = ⊥
+IsParked _ = ⊥
 
 -- the end is in a Give that resends from that number
 abbrev pub IsGivenFrom : {P : Type 0} → (number : ℕ) → Seat P → Type 0

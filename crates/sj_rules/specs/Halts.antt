@@ -1,5 +1,5 @@
 -- Why a party can't act now.
-use Rattle.std.specs.Prelude.{ℕ, nat_lt, Bool, true, false, if◌then◌else◌, List, [], ◌∷◌, Option, Some, None}
+use Rattle.std.specs.Prelude.{ℕ, nat_lt, Bool, true, false, not, if◌then◌else◌, List, [], ◌∷◌, Option, Some, None}
 use Rattle.sj_base.specs.declared.EndId.{EndId}
 use Rattle.sj_rules.specs.Limits.{limit_of_hops, limit_of_requests}
 use Rattle.sj_rules.specs.Record.{MainAt, Held, Closed, Expected}
@@ -23,41 +23,42 @@ is_expected (Some (Held h)) = false
 is_expected (Some (Closed e)) = false
 is_expected None = false
 
--- the end may be delegated once more
-abbrev pub may_be_delegated : {P : Type 0} → Option (MainAt P) → Bool
-may_be_delegated (Some (Held h)) = nat_lt h.end.hops limit_of_hops
-may_be_delegated (Some (Closed e)) = false
-may_be_delegated (Some (Expected keeper place deferred)) = false
-may_be_delegated None = false
+-- the end was delegated as often as it may be; one that isn't Held there wasn't
+abbrev pub is_delegated_enough : {P : Type 0} → Option (MainAt P) → Bool
+is_delegated_enough (Some (Held h)) = not (nat_lt h.end.hops limit_of_hops)
+is_delegated_enough (Some (Closed e)) = false
+is_delegated_enough (Some (Expected keeper place deferred)) = false
+is_delegated_enough None = false
 
--- the list has an element
-abbrev pub is_filled : {X : Type 0} → List X → Bool
-is_filled [] = false
-is_filled (x ∷ xs) = true
+-- the list has no element
+abbrev pub is_empty : {X : Type 0} → List X → Bool
+is_empty [] = true
+is_empty (x ∷ xs) = false
 
--- the record is a Held one with an untaken message
-abbrev pub has_message : {P : Type 0} → Option (MainAt P) → Bool
-has_message (Some (Held h)) = is_filled h.untaken
-has_message (Some (Closed e)) = false
-has_message (Some (Expected keeper place deferred)) = false
-has_message None = false
+-- the end is Held, and no message is there; one that isn't Held there lacks none
+abbrev pub lacks_message : {P : Type 0} → Option (MainAt P) → Bool
+lacks_message (Some (Held h)) = is_empty h.untaken
+lacks_message (Some (Closed e)) = false
+lacks_message (Some (Expected keeper place deferred)) = false
+lacks_message None = false
 
 -- this cause where the test says so, else the next ones
 abbrev pub halt_if : Bool → Halt → Option Halt → Option Halt
 halt_if b h rest = if b then Some h else rest
 
--- the causes of a next step, in order: an awaited end, an end with too many handovers, no message; too many requests; no offer
+-- the causes of a next step, in order: an awaited end, an end with too many handovers, no message; too many requests; no offer.
+-- That an end is nowhere at the party is none of them
 abbrev pub halt_by : {P Q : Type 0} → NodeAt P Q → Want P → Option Halt
 halt_by n ended = Some at_end
 halt_by n local = None
 halt_by n (sends e msg) = halt_if (is_expected (n.main e)) (awaits e) None
 halt_by n (delegates carrier e) =
     halt_if (is_expected (n.main carrier)) (awaits carrier)
-    (halt_if (is_expected (n.main e)) (awaits e) (if may_be_delegated (n.main e) then None else Some (delegated_enough e)))
-halt_by n (takes e place) = halt_if (is_expected (n.main e)) (awaits e) (if has_message (n.main e) then None else Some (no_message e))
+    (halt_if (is_expected (n.main e)) (awaits e) (halt_if (is_delegated_enough (n.main e)) (delegated_enough e) None))
+halt_by n (takes e place) = halt_if (is_expected (n.main e)) (awaits e) (halt_if (lacks_message (n.main e)) (no_message e) None)
 halt_by n (closes e) = halt_if (is_expected (n.main e)) (awaits e) None
-halt_by n (requests place to) = if nat_lt n.requests limit_of_requests then None else Some requested_enough
-halt_by n (accepts place from) = if is_filled (n.offers from) then None else Some (no_offer from)
+halt_by n (requests place to) = halt_if (not (nat_lt n.requests limit_of_requests)) requested_enough None
+halt_by n (accepts place from) = halt_if (is_empty (n.offers from)) (no_offer from) None
 
 -- the program has no next step
 abbrev pub is_at_end : {P : Type 0} → Want P → Bool

@@ -1,5 +1,5 @@
 -- Wherever an end lies, its cache begins where the other end has taken, or before.
-use Rattle.std.proofs.Common.{◌≡◌, ℕ, ◌==◌, ◌<◌, ◌≤◌, Bool, true, false, cond, List, [], ◌∷◌, length, Option, Some, None, ap, sym, ◌∙◌, subst, arith}
+use Rattle.std.proofs.Common.{◌≡◌, ℕ, ◌==◌, ◌<◌, ◌≤◌, Bool, true, false, cond, List, [], ◌∷◌, length, Option, Some, None, ap, sym, ◌∙◌, subst, inl, inr, arith}
 use Rattle.sj_base.specs.declared.EndId.{EndId}
 use Rattle.sj_lang.specs.Place.{Place, done}
 use Rattle.sj_lang.specs.FileAt.{FileAt}
@@ -7,7 +7,7 @@ use Rattle.sj_acceptance.specs.Accepted.{IsAccepted}
 use Rattle.sj_semantics.specs.Program.{Program}
 use Rattle.sj_semantics.specs.Run.{IsRun}
 use Rattle.sj_semantics.specs.World.{World}
-use Rattle.sj_rules.specs.Record.{EndAt, BodyAt, Give, MainAt, Held, Closed, Expected, OldAt, Parked, Signalled, other_end}
+use Rattle.sj_rules.specs.Record.{EndAt, Give, MainAt, Held, Closed, Expected, OldAt, Parked, Signalled, other_end}
 use Rattle.sj_rules.specs.World.{WorldAt, Turn}
 use Rattle.sj_rules.specs.Events.{acts_in}
 use Rattle.sj_rules.specs.History.{IsCoreRun}
@@ -15,7 +15,7 @@ use Rattle.sj_rules.specs.Party.{IsDone, binds}
 use Rattle.sj_rules.specs.Plain.{plain_at}
 use Rattle.sj_rules.specs.PlainSide.{PlainSide, PlainAt}
 use Rattle.sj_rules.specs.Seat.{Seat, held, parked, claimed, signalled, given, closed, gone, Side, source_for}
-use Rattle.sj_rules.specs.Shown.{Shows, main_shown, old_shown, gives_in, is_lane, is_give}
+use Rattle.sj_rules.specs.Shown.{Shows, bodies, main_shown, old_shown, gives_in, is_give, is_lane}
 use Rattle.sj_rules.specs.Linked.{IsKept}
 use Rattle.sj_rules.specs.StandsFor.{EndStands, SeatStands}
 use Rattle.sj_rules.specs.Spots.{Spot, at_main, at_old, on_way, in_open}
@@ -25,8 +25,11 @@ use Rattle.sj_world_laws.proofs.SwapLemmas.{other_other}
 use Rattle.sj_rules.specs.Opened.{opener_of, new_held}
 use Rattle.sj_rules.specs.Reading.{is_opening, reading, IsOpenKept}
 use Rattle.sj_world_laws.proofs.OutcomeLemmas.{sound_at}
-use Rattle.sj_opened_laws.proofs.OpenStandsLemmas.{filter_without, ends_by}
+use Rattle.sj_opened_laws.proofs.OpenStandsLemmas.{ends_by}
+use Rattle.sj_opened_laws.proofs.OpenSpotLemmas.{gives_read}
 use Rattle.std.proofs.Common.{refl}
+use Rattle.sj_world_laws.proofs.ToldLemmas.{Has, contains_has, has_kept}
+use Rattle.sj_rules_laws.proofs.StandsForLemmas.{kept_stands_for}
 use Rattle.sj_rules_laws.proofs.CoreRunLemmas.{StandsAfter, runs_stand}
 use Rattle.sj_rules_laws.proofs.LawfulLemmas.{run_is_lawful}
 
@@ -51,9 +54,10 @@ module _ {P : Type 0} where
   old_there true o k h = h
   old_there false o k h = absurd (cc h)
 
-  give_there : (b : Bool) (e k : EndAt P) (q r : Option ℕ) → ◌≡◌ {A = List (BodyAt P)} (cond b (Give e q ∷ []) []) (Give k r ∷ []) → e ≡ k
-  give_there true e k q r h = cc h
-  give_there false e k q r h = absurd (cc h)
+  give_there : (b : Bool) (e k : EndAt P) (q r : Option ℕ) → Has (Give k r) (cond b (Give e q ∷ []) []) → e ≡ k
+  give_there true e k q r (inl h) = cc h
+  give_there true e k q r (inr h) = absurd h
+  give_there false e k q r h = absurd h
 
   main_has : (from : ℕ) (place : P) (seat : Seat P) (p : ℕ) (k : EndAt P) → main_end (main_shown from place seat p) ≡ Some k → seat_end seat ≡ Some k
   main_has from place (held at h) p k e = main_there (p == at) (Held h) k e
@@ -73,21 +77,24 @@ module _ {P : Type 0} where
   old_has (closed at c) p k e = absurd (cc e)
   old_has gone p k e = absurd (cc e)
 
-  give_has : (seat : Seat P) (p q : ℕ) (k : EndAt P) (r : Option ℕ) → gives_in seat p q ≡ Give k r ∷ [] → seat_end seat ≡ Some k
+  give_has : (seat : Seat P) (p q : ℕ) (k : EndAt P) (r : Option ℕ) → Has (Give k r) (gives_in seat p q) → seat_end seat ≡ Some k
   give_has (given at to c resend ds) p q k r e = ap Some (give_there (is_lane p q at to) c k resend r e)
-  give_has (held at h) p q k r e = absurd (cc e)
-  give_has (parked at c) p q k r e = absurd (cc e)
-  give_has (claimed at to c) p q k r e = absurd (cc e)
-  give_has (signalled at to c ds) p q k r e = absurd (cc e)
-  give_has (closed at c) p q k r e = absurd (cc e)
-  give_has gone p q k r e = absurd (cc e)
+  give_has (held at h) p q k r e = absurd e
+  give_has (parked at c) p q k r e = absurd e
+  give_has (claimed at to c) p q k r e = absurd e
+  give_has (signalled at to c ds) p q k r e = absurd e
+  give_has (closed at c) p q k r e = absurd e
+  give_has gone p q k r e = absurd e
 
 -- what the world has of an end is the end at its seat
 end_seen : {P Q : Type 0} → (w : WorldAt P Q) (other : Seat P) (r : Side P) → Shows w other r → (at : Spot) (k : EndAt P) → HasEnd w r.id at k → seat_end r.seat ≡ Some k
 end_seen w other r shows (at_main p) k h = main_has (source_for other r.seat) r.place r.seat p k (sym (ap main_end (shows.mains p)) ∙ h)
 end_seen w other r shows (at_old p) k h = old_has r.seat p k (sym (ap old_end (shows.olds p)) ∙ h)
 end_seen w other r shows (in_open p) k h = absurd h
-end_seen w other r shows (on_way p q) k h = give_has r.seat p q k h.0 (sym (shows.gives p q) ∙ h.1)
+end_seen w other r shows (on_way p q) k h =
+    let give = Give k h.0 in
+    let kept = has_kept (is_give r.id) give (bodies (w.lanes p q)) (contains_has give (bodies (w.lanes p q)) h.1) h.2 in
+    give_has r.seat p q k h.0 (subst (Has give) (shows.gives p q) kept)
 
 -- and stands for the plain one
 end_at_seat : {P : Type 0} → (IsOver : P → Type 0) (id : EndId) (x y : PlainSide P) (other seat : Seat P) (k : EndAt P) → seat_end seat ≡ Some k → SeatStands IsOver id x y other seat → EndStands id x y k
@@ -118,7 +125,7 @@ read_has {P} IsOver binds blank w plain kept e (at_main p) k h = by (is_opening 
     by true o = let none : main_end ((w.nodes p).main e) ≡ None = ap main_end (kept.bare p e o) in absurd (cc (none, h))
     by false o = h
 read_has IsOver binds blank w plain kept e (at_old p) k h = h
-read_has IsOver binds blank w plain kept e (on_way p q) k h = (h.0, sym (filter_without (is_give e) (λ s. refl) (w.lanes p q)) ∙ h.1)
+read_has IsOver binds blank w plain kept e (on_way p q) k h = (h.0, gives_read e (w.lanes p q) (Give k h.0) h.1 h.2, h.2)
 read_has IsOver binds blank w plain kept e (in_open p) k h = absurd h
 
 -- ---- core runs

@@ -1,5 +1,5 @@
 -- In a kept and lawful world a party acts exactly where no cause keeps it from it.
-use Rattle.std.proofs.Common.{◌≡◌, ℕ, ◌+◌, ◌<◌, nat_lt, Bool, true, false, ◌&&◌, cond, if◌then◌else◌, List, [], ◌∷◌, ◌++◌, slice_get, Option, Some, None, option_map, refl, ap, sym, ◌∙◌}
+use Rattle.std.proofs.Common.{◌≡◌, ℕ, ◌+◌, ◌<◌, nat_lt, Bool, true, false, not, ◌&&◌, cond, if◌then◌else◌, List, [], ◌∷◌, ◌++◌, slice_get, Option, Some, None, option_map, refl, ap, sym, ◌∙◌}
 use Rattle.std.proofs.lemmas.Bool.{and_from, eq-eqb, true≢false, false_from_ne_true, both_ways}
 use Rattle.sj_base.specs.declared.EndId.{EndId}
 use Rattle.sj_base.specs.declared.Msg.{Msg}
@@ -14,7 +14,7 @@ use Rattle.sj_rules.specs.PlainSide.{PlainAt}
 use Rattle.sj_rules.specs.Linked.{user_of, IsKept}
 use Rattle.sj_rules.specs.HeldStands.{HeldStands}
 use Rattle.sj_rules.specs.Premises.{FitsDelegate, FitsTake, FitsClose, FitsStep, IsLawful}
-use Rattle.sj_rules.specs.Halts.{Halt, awaits, requested_enough, no_offer, is_expected, may_be_delegated, has_message, is_filled, halt_if, halt_by, is_at_end, halt_of}
+use Rattle.sj_rules.specs.Halts.{Halt, awaits, delegated_enough, no_message, requested_enough, no_offer, is_expected, is_delegated_enough, lacks_message, is_empty, halt_if, halt_by, is_at_end, halt_of}
 use Rattle.sj_rules.specs.Worked.{mails_of}
 use Rattle.sj_rules_laws.proofs.CoreActLemmas.{Has, has_by, has_map, map_has}
 use Rattle.std.specs.Bool.{⊤}
@@ -50,9 +50,9 @@ no_halt : (b : Bool) (h : Halt) (rest : Option Halt) → halt_if b h rest ≡ No
 no_halt true h rest k = cc
 no_halt false h rest k = (refl, k)
 
-passes : (b : Bool) (h : Halt) → cond b None (Some h) ≡ None → b ≡ true
-passes true h k = refl
-passes false h k = cc
+is_below : (b : Bool) → not b ≡ false → b ≡ true
+is_below true k = refl
+is_below false k = cc
 
 module _ {P Q : Type 0} (IsOver : P → Type 0) (play : Play P Q) (binds : Q → EndId → Bool) (parties : ℕ) (core : WorldAt P Q) (plain : PlainAt P Q)
     (opened : IsOpenKept IsOver binds play.blank core plain) (lawful : IsLawful IsOver play binds parties plain) (p : ℕ) where
@@ -120,9 +120,10 @@ module _ {P Q : Type 0} (IsOver : P → Type 0) (play : Play P Q) (binds : Q →
   delegate_on carrier e fit k =
       let first = no_halt (is_expected (n.main carrier)) (awaits carrier) _ k in
       let second = no_halt (is_expected (n.main e)) (awaits e) _ first.1 in
+      let third = no_halt (is_delegated_enough (n.main e)) (delegated_enough e) None second.1 in
       let own = held_here e fit.handed second.0 in
       let on = held_here carrier fit.bound first.0 in
-      let few : nat_lt own.0.end.hops 100 ≡ true = sym (ap may_be_delegated own.1) ∙ passes (may_be_delegated (n.main e)) _ second.1 in
+      let few : nat_lt own.0.end.hops 100 ≡ true = is_below (nat_lt own.0.end.hops 100) (sym (ap is_delegated_enough own.1) ∙ third.0) in
       let parked : NodeAt P Q = with_main e None (with_old e (Some (Parked (record own.0.end { hops = own.0.end.hops + 1 }))) n) in
       has_by (delegate_act play p n carrier e (n.main e)) (send_act play parked carrier (msgs.Sess e.sess e.side p) (put e None n.main carrier))
       (ap (delegate_act play p n carrier e) own.1
@@ -133,11 +134,12 @@ module _ {P Q : Type 0} (IsOver : P → Type 0) (play : Play P Q) (binds : Q →
   take_on : (e : EndId) (place : P) → FitsTake play binds plain g e place → halt_by n (takes e place) ≡ None → Has (act_by play p n (takes e place))
   take_on e place fit k =
       let first = no_halt (is_expected (n.main e)) (awaits e) _ k in
+      let second = no_halt (lacks_message (n.main e)) (no_message e) None first.1 in
       let own = held_here e fit.bound first.0 in
       has_by (take_act play n e place (n.main e)) (take_from play n e place own.0 own.0.untaken) (ap (take_act play n e place) own.1)
-      (by own.0 own.2 own.0.untaken refl (sym (ap has_message own.1) ∙ passes (has_message (n.main e)) _ first.1))
+      (by own.0 own.2 own.0.untaken refl (sym (ap lacks_message own.1) ∙ second.0))
     where
-      by : (h : HeldAt P) → HeldStands plain e h → (ms : List Msg) → h.untaken ≡ ms → is_filled ms ≡ true → Has (take_from play n e place h ms)
+      by : (h : HeldAt P) → HeldStands plain e h → (ms : List Msg) → h.untaken ≡ ms → is_empty ms ≡ false → Has (take_from play n e place h ms)
       by h stands [] head filled = cc
       by h stands (m ∷ ms) head filled =
           let waits = ap (λ xs. slice_get xs 0) (stands.waits ∙ ap (λ t. t ++ stands.rest) head) in
@@ -167,12 +169,13 @@ module _ {P Q : Type 0} (IsOver : P → Type 0) (play : Play P Q) (binds : Q →
   step_on (takes e place) fit k other = take_on e place fit k
   step_on (closes e) fit k other = close_on e fit k
   step_on (requests place to) fit k other =
-      let few : nat_lt n.requests limit_of_requests ≡ true = passes (nat_lt n.requests limit_of_requests) requested_enough k in
+      let few : nat_lt n.requests limit_of_requests ≡ true =
+      is_below (nat_lt n.requests limit_of_requests) (no_halt (not (nat_lt n.requests limit_of_requests)) requested_enough None k).0 in
       rw few (record { some = _; is = refl })
   step_on (accepts place from) fit k other = absurd other
 
   -- the first session that is offered is accepted
-  accept_acts : (place : P) (from : ℕ) → play.wants g ≡ accepts place from → play.is_worn g ≡ false → (l : List ℕ) → n.offers from ≡ l → is_filled l ≡ true → Has (acts play p n)
+  accept_acts : (place : P) (from : ℕ) → play.wants g ≡ accepts place from → play.is_worn g ≡ false → (l : List ℕ) → n.offers from ≡ l → is_empty l ≡ false → Has (acts play p n)
   accept_acts place from is fresh [] there filled = absurd (cc filled)
   accept_acts place from is fresh (s ∷ others) there filled =
       let rest : List ℕ = opened_in (bodies (core.lanes from p)) in
@@ -196,7 +199,7 @@ module _ {P Q : Type 0} (IsOver : P → Type 0) (play : Play P Q) (binds : Q →
   wants_on (takes e place) is fresh fit k = acts_by_want (takes e place) is fresh (step_on (takes e place) fit k tt)
   wants_on (closes e) is fresh fit k = acts_by_want (closes e) is fresh (step_on (closes e) fit k tt)
   wants_on (requests place to) is fresh fit k = acts_by_want (requests place to) is fresh (step_on (requests place to) fit k tt)
-  wants_on (accepts place from) is fresh fit k = accept_acts place from is fresh (n.offers from) refl (passes (is_filled (n.offers from)) (no_offer from) k)
+  wants_on (accepts place from) is fresh fit k = accept_acts place from is fresh (n.offers from) refl (no_halt (is_empty (n.offers from)) (no_offer from) None k).0
 
   -- where no cause keeps it from it, the party acts: nothing is ever unfit
   pub acts_unless_halted : halt_of play n ≡ None → Has (acts play p n)

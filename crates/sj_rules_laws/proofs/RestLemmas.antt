@@ -66,7 +66,5 @@ comes_to_rest {P} {Q} IsOver binds blank w plain opened empty e low =
           (awaited_from from (kept.sessions.sides e).place seat p keeper place late (sym (shows.mains p) ∙ ap (λ (d : EndId). (u.nodes p).main d) id ∙ same_main IsOver binds blank w plain opened empty p e ∙ h)).0;
       not_signalled = λ p to k h. none_signalled_left seat p to k left (sym (shows.olds p) ∙ ap (λ (d : EndId). (w.nodes p).old d) id ∙ h);
       offered = λ q p c. subst (λ l. Contains l e.sess) (same_offers IsOver binds blank w plain opened empty q p) c;
-      waits = λ p k h.
-          let l = kept.linked.named e p low (parked_left seat p k left (sym (shows.olds p) ∙ ap (λ (d : EndId). (w.nodes p).old d) id ∙ h)) in
-          (l.0, l.1, l.3);
+      waits = λ p k h. kept.linked.named e p low (parked_left seat p k left (sym (shows.olds p) ∙ ap (λ (d : EndId). (w.nodes p).old d) id ∙ h));
     }

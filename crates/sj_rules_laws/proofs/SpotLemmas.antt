@@ -1,12 +1,13 @@
 -- Each end lies once or is gone.
-use Rattle.std.proofs.Common.{◌≡◌, ℕ, ◌==◌, ◌<◌, Bool, true, false, ◌&&◌, cond, List, [], ◌∷◌, Option, Some, None, refl, ap, sym, ◌∙◌, subst, inl, inr, ◌⊎◌}
+use Rattle.std.proofs.Common.{◌≡◌, ℕ, ◌==◌, ◌<◌, ◌≤◌, Bool, true, false, ◌&&◌, cond, List, [], ◌∷◌, length, Option, Some, None, refl, ap, sym, ◌∙◌, subst, inl, inr, ◌⊎◌, arith}
+use Rattle.std.specs.List.{filter}
 use Rattle.std.specs.Prelude.{◌≢◌, ◌↔◌}
 use Rattle.std.proofs.lemmas.Bool.{eq-eqb, eqb-true, and_from}
 use Rattle.sj_base.specs.declared.EndId.{EndId}
 use Rattle.sj_rules.specs.Record.{BodyAt, Give, Mail, MainAt, Held, Closed, Expected, OldAt, Parked, Signalled, other_end}
 use Rattle.sj_rules.specs.World.{WorldAt}
 use Rattle.sj_rules.specs.Seat.{Seat, held, parked, claimed, signalled, given, closed, gone, Side, source_for}
-use Rattle.sj_rules.specs.Shown.{Shows, bodies, main_shown, old_shown, gives_in}
+use Rattle.sj_rules.specs.Shown.{Shows, bodies, main_shown, old_shown, gives_in, is_give, is_lane}
 use Rattle.sj_rules.specs.PlainSide.{PlainAt}
 use Rattle.sj_rules.specs.Linked.{IsKept}
 use Rattle.sj_rules.specs.Opened.{opener_of}
@@ -14,6 +15,7 @@ use Rattle.sj_rules.specs.Reading.{is_opening, reading, IsOpenKept}
 use Rattle.sj_opened_laws.proofs.OpenSpotLemmas.{no_opens, open_there, lies_once_read}
 use Rattle.sj_rules.specs.Spots.{Spot, at_main, at_old, on_way, in_open, HasMain, HasOld, LiesAt, LiesOnce}
 use Rattle.sj_rules.specs.Worked.{mails_of}
+use Rattle.sj_world_laws.proofs.ToldLemmas.{Has, contains_has, has_contains, has_filter, has_kept, has_passed}
 
 abbrev pub spot_of : {P : Type 0} → Seat P → Option Spot
 spot_of (held at h) = Some (at_main at)
@@ -128,6 +130,19 @@ module _ {P : Type 0} where
   give_is_shown (closed at e) p q k = absurd (cc k)
   give_is_shown gone p q k = absurd (cc k)
 
+  few_if : (b : Bool) (give : BodyAt P) → length (cond b (give ∷ []) []) ≤ 1
+  few_if true give = omega arith
+  few_if false give = omega arith
+
+  few_gives : (seat : Seat P) (p q : ℕ) → length (gives_in seat p q) ≤ 1
+  few_gives (given at to e r ds) p q = few_if (is_lane p q at to) (Give e r)
+  few_gives (held at h) p q = omega arith
+  few_gives (parked at e) p q = omega arith
+  few_gives (claimed at to e) p q = omega arith
+  few_gives (signalled at to e ds) p q = omega arith
+  few_gives (closed at e) p q = omega arith
+  few_gives gone p q = omega arith
+
 -- ---- Expected records
 
 awaited_here : {P : Type 0} → (p to at : ℕ) (place : P) (ds : List (Mail P)) (keeper : ℕ) (spot : P) (late : List (Mail P)) (b : Bool) → (p == to) ≡ b
@@ -160,8 +175,14 @@ module _ {P Q : Type 0} (w : WorldAt P Q) (other : Seat P) (r : Side P) (shows :
   )
   lies_there (at_old p) = (λ h. old_lies r.seat p (subst HasOld (shows.olds p) h), λ h. subst HasOld (sym (shows.olds p)) (old_is_shown r.seat p h))
   lies_there (on_way p q) = (
-    λ h. give_lies r.seat p q (λ none. let some : h.0 ∷ [] ≡ [] = sym h.1 ∙ shows.gives p q ∙ none in cc some),
-    λ h. let g = give_is_shown r.seat p q h in (g.0, shows.gives p q ∙ g.1),
+    λ h.
+        let kept = has_kept (is_give r.id) h.0 (bodies (w.lanes p q)) (contains_has h.0 (bodies (w.lanes p q)) h.1) h.2 in
+        give_lies r.seat p q (λ none. subst (Has h.0) (shows.gives p q ∙ none) kept),
+    λ h.
+        let g = give_is_shown r.seat p q h in
+        let lane : List (BodyAt P) = bodies (w.lanes p q) in
+        let kept : Has g.0 (filter (is_give r.id) lane) = subst (Has g.0) (sym (shows.gives p q ∙ g.1)) (inl refl) in
+        (g.0, has_contains g.0 lane (has_filter (is_give r.id) g.0 lane kept), has_passed (is_give r.id) g.0 lane kept),
   )
   lies_there (in_open p) = (λ h. let o : is_opening w p r.id ≡ true = open_there r.id (bodies (w.lanes (opener_of r.id.sess) p)) h in absurd (cc (shut p, o)), λ h. absurd (never_in_open r.seat p h))
 
@@ -169,6 +190,7 @@ module _ {P Q : Type 0} (w : WorldAt P Q) (other : Seat P) (r : Side P) (shows :
   shown_once = record {
     spot = spot_of r.seat;
     lies = lies_there;
+    one_give = λ p q. subst (λ l. length l ≤ 1) (sym (shows.gives p q)) (few_gives r.seat p q);
     awaiter = awaiter_of r.seat;
     awaits = λ p keeper place late h. awaited_from (source_for other r.seat) r.place r.seat p keeper place late (sym (shows.mains p) ∙ h);
   }

@@ -36,7 +36,7 @@ use Rattle.sj_work.specs.declared.worker.Stop.TheVariants as stops
 use Rattle.sj_work.specs.declared.worker.Worker.{Worker}
 use Rattle.sj_work.specs.Causes.{Cause, IsUnfit, Loses, MayLose}
 use Rattle.sj_work.specs.Laned.{laned}
-use Rattle.sj_work.specs.Views.{in_of, lanes_of, node_of, out_of, stop_of}
+use Rattle.sj_work.specs.Views.{in_of, lanes_of, node_of, out_of, stop_of, unfit_of}
 use Rattle.sj_run.specs.Shown.{IsShown, LinksAt}
 use Rattle.sj_run.specs.Workers.{AllWorked, NoneStopped}
 use Rattle.sj_run.proofs.RestLemmas.{is_at_rest}
@@ -226,12 +226,12 @@ module _ {O I : Type 0} (pushed : O → Option (List (FrameAt Place))) (out_faul
         own_never_unfit file accepted (map turn_of lines) core run q (node_of w) (node_is q w there mt) (t.went.party ∙ first.party) (t.went.play ∙ first.play) free none
 
     unfit_for : (q : ℕ) (w : Worker O I) (there : slice_get workers q ≡ Some w) → q < n → ((p : ℕ) → lost q p ≡ lost_from (turns q w there).lost p)
-        → (o : Option (LostAt Place)) → (turns q w there).lost ≡ o → IsUnfit o w → ⊥
+        → (o : Option (LostAt Place)) → (turns q w there).lost ≡ o → IsUnfit o (node_of w) (unfit_of w) → ⊥
     unfit_for q w there mt all_lost None is c = act_fits q w there mt c.0 c.1
     unfit_for q w there mt all_lost (Some l) is c =
         let parties = (turns q w there).went.parties ∙ (all.each q w there).first.parties in
         lost_fits q w l mt there (all_lost l.party ∙ ap (λ o. lost_from o l.party) is ∙ lost_own l) (lost_party q w there l mt is)
-        (subst (λ k. arrives k max (node_at (node_of w)) l.party l.frame ≡ None) parties c.0)
+        (subst (λ k. arrives k max (node_at (node_of w)) l.party l.frame ≡ None) parties c.1)
 
     unfit_or : (q : ℕ) → q < n → (o : Option (Worker O I)) (there : slice_get workers q ≡ o)
         → ((p : ℕ) → lost q p ≡ lost_from (Rattle.sj_run.proofs.TeamLemmas.lost_or pushed out_faults out_vain same_out popped in_faults in_vain same_in joined file looks true workers all q o there) p)

@@ -1,6 +1,9 @@
+mod CauseLemmas
+mod DamageLemmas
 mod HiredLemmas
 mod JoinLemmas
 mod LogLemmas
+pub mod OverLemmas
 mod RestLemmas
 mod RunLemmas
 mod ShownLemmas

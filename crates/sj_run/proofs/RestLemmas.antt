@@ -28,6 +28,7 @@ use Rattle.sj_work.specs.Worked.{Turned}
 use Rattle.sj_rules.specs.Limits.{clock_end}
 use Rattle.sj_run.specs.Shown.{IsWaiting, LinksAt}
 use Rattle.sj_run.proofs.ShownLemmas.{IsAtRest}
+use Rattle.sj_run.proofs.CauseLemmas.{HasCause, has_cause}
 use Rattle.sj_run.proofs.WaitLemmas.{waits_not}
 
 -- a lane that is there after the call was there before
@@ -55,6 +56,9 @@ some_vain (suc k) vain rose = inl (omega (arith, rose))
 module _ (file : FileAt) (p : ℕ) (n : Node) where
   stopped_still : (h : Halt) → nodes.stop_of n ≡ Some h → acts (play_of file) p (node_at n) ≡ None
   stopped_still h is = halted (place_in n.table) (length file.parties) file.protocols p (spot_node n) h is
+
+  stopped_halted : (h : Halt) → nodes.stop_of n ≡ Some h → HasCause (halt_of (play_of file) (node_at n))
+  stopped_halted h is = has_cause (place_in n.table) file.protocols (spot_node n) h (length file.parties) is
 
   not_waiting : (h : Halt) → (h ≡ halts.Waits → ⊥) → nodes.stop_of n ≡ Some h → IsWaiting (halt_of (play_of file) (node_at n)) → ⊥
   not_waiting h other is = waits_not (place_in n.table) file.protocols (spot_node n) h other (length file.parties) is
@@ -113,6 +117,7 @@ module _ {O I : Type 0} (pushed : O → Option (List (FrameAt Place))) (out_faul
     rest_by (Some stops.ClockEnd) is c = absurd (omega (arith, low, c))
     rest_by (Some stops.Finished) is c = record {
       still = stopped_still file p (node_of w) halts.Ended (has_ended file p (node_of w) c);
+      halted = stopped_halted file p (node_of w) halts.Ended (has_ended file p (node_of w) c);
       emptied = λ q lt. inl (ap (λ fs. told_frames done (map (Rattle.sj_rules.specs.Mapped.frame_with (place_in (node_of w).table)) fs)) (c.outs q));
       looked = λ q lt waits. absurd (not_waiting file p (node_of w) halts.Ended ended_waits (has_ended file p (node_of w) c) waits);
     }
@@ -122,11 +127,17 @@ module _ {O I : Type 0} (pushed : O → Option (List (FrameAt Place))) (out_faul
             | inl e ↦ stopped_still file p (node_of w) halts.Ended e
             | inr e ↦ stopped_still file p (node_of w) halts.Waits e
           ];
+      halted =
+          elim (idle_cause (nodes.stop_of (node_of w)) c.idle) [
+            | inl e ↦ stopped_halted file p (node_of w) halts.Ended e
+            | inr e ↦ stopped_halted file p (node_of w) halts.Waits e
+          ];
       emptied = λ q lt. idle_box q lt c.outs;
       looked = λ q lt waits. in_rose looks q lt c.ins;
     }
     rest_by (Some stops.AtLimit) is c = record {
       still = stopped_still file p (node_of w) halts.AtLimit c.0;
+      halted = stopped_halted file p (node_of w) halts.AtLimit c.0;
       emptied = λ q lt. limit_box q lt c.1;
       looked = λ q lt waits. absurd (not_waiting file p (node_of w) halts.AtLimit limit_waits c.0 waits);
     }

@@ -1,21 +1,19 @@
 -- What comes of workers that have worked, over any links, and over links that tell.
 use Rattle.std.proofs.Common.{◌≡◌, ◌∙◌, ℕ, ◌<◌, ◌≤◌, nat_lt, max, if◌then◌else◌, Bool, true, false, List, [], ◌++◌, map, length, Option, Some, None, inl, inr, refl, sym, ap, subst, arith}
-use Rattle.std.specs.Prelude.{slice_get, option_map}
+use Rattle.std.specs.Prelude.{slice_get}
 use Rattle.std.proofs.lemmas.Bool.Decides.{nat_tests}
 use Rattle.sj_lang.specs.Place.{Place}
 use Rattle.sj_lang.specs.FileAt.{FileAt}
 use Rattle.sj_acceptance.specs.Accepted.{IsAccepted}
-use Rattle.sj_plain.specs.Kept.{without_words}
 use Rattle.sj_semantics.specs.Program.{Program}
-use Rattle.sj_end.specs.Lines.{line_at}
 use Rattle.sj_rules.specs.Frames.{FrameAt}
-use Rattle.sj_rules.specs.History.{IsHistory, due}
-use Rattle.sj_rules.specs.Log.{EntryAt, IsInOrder, IsJoined, IsRising, LineAt, logs_below}
+use Rattle.sj_rules.specs.History.{IsHistory}
+use Rattle.sj_rules.specs.Log.{EntryAt, IsJoined, IsRising, LineAt, logs_below}
 use Rattle.sj_rules.specs.NodeRun.{StepAt}
 use Rattle.sj_rules.specs.Party.{play_of}
 use Rattle.sj_rules.specs.Start.{core_start}
 use Rattle.sj_rules.specs.World.{WorldAt}
-use Rattle.sj_joined_laws.proofs.HistoryLemmas.{no_misfit, same_world}
+use Rattle.sj_joined_laws.proofs.HistoryLemmas.{same_world}
 use Rattle.sj_joined_laws.proofs.WorkerLemmas.{clocks_rise}
 use Rattle.sj_lane.specs.Square.{HasFault, Kept, in_in, out_in}
 use Rattle.sj_lane.specs.Told.{Rose}
@@ -26,47 +24,10 @@ use Rattle.sj_work.specs.declared.worker.Worker.{Worker}
 use Rattle.sj_work.specs.Causes.{Cause, MetFault}
 use Rattle.sj_work.specs.Laned.{entries_of}
 use Rattle.sj_work.specs.Views.{lanes_of, node_of}
-use Rattle.sj_run.specs.declared.refusal.RunRefusal.{RunRefusal}
-use Rattle.sj_run.specs.declared.refusal.RunRefusal.TheVariants as refusals
-use Rattle.sj_run.specs.Damage.{IsDamaged, IsDamagedSo, IsMisfitOf, IsPastEndOf}
 use Rattle.sj_run.specs.Shown.{IsShown, LinksAt}
 use Rattle.sj_run.specs.Workers.{AllRising, AllWorked, NoneStopped, SomeStopped, log_or, logs_in}
 use Rattle.sj_run.proofs.JoinLemmas.{core, joined_history, none_there, none_unfit, team, team_shown}
 use Rattle.sj_run.proofs.TeamLemmas.{mapped_at, new_or, team_play, team_work, turned}
-
--- ---- refusals
-
--- lines that don't fit are damage
-pub misfit_damage : (file : FileAt) (lines : List LineAt) (r : RunRefusal) → IsInOrder lines → IsMisfitOf file lines r → IsDamagedSo file r
-misfit_damage file lines (refusals.Damaged number logged other) order m = record { lines = lines; order = order; cause = inl m; differs = m.differs }
-misfit_damage file lines refusals.LinkFault order m = tt {0}
-misfit_damage file lines refusals.NoMemory order m = tt {0}
-
--- lines of a history fit
-pub history_fits : (file : FileAt) (lines : List LineAt) (w : WorldAt Place Program) (r : RunRefusal) → IsHistory max file lines w → IsMisfitOf file lines r → IsDamaged r → ⊥
-history_fits file lines w (refusals.Damaged number logged other) h m damaged = no_misfit (play_of file) max lines (core_start file) w number (line_at logged) (option_map line_at other) h m
-history_fits file lines w refusals.LinkFault h m damaged = damaged
-history_fits file lines w refusals.NoMemory h m damaged = damaged
-
--- what was refused behind a history is damage
-pub refused_damage : (file kept : FileAt) (lines : List LineAt) (w : WorldAt Place Program) (r : RunRefusal) → kept ≡ without_words file → IsInOrder lines → IsHistory max file lines w → IsPastEndOf kept w lines r
-    → IsDamagedSo file r
-refused_damage file kept lines w (refusals.Damaged number logged other) same order h past = record {
-  lines = lines;
-  order = order;
-  cause = inr (record {
-    core = w;
-    run = h;
-    refused = record {
-      count = past.count;
-      found = (λ i. due (play_of (sym same i)) max w (line_at logged).party (line_at logged).entry.event) ∙ past.found;
-      differs = past.differs;
-    };
-  });
-  differs = past.differs;
-}
-refused_damage file kept lines w refusals.LinkFault same order h past = tt {0}
-refused_damage file kept lines w refusals.NoMemory same order h past = tt {0}
 
 -- ---- counts of faults
 

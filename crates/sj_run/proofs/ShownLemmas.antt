@@ -1,11 +1,11 @@
 -- What links show of joined lines, from what each worker's own links show.
-use Rattle.std.proofs.Common.{◌≡◌, ◌⊎◌, ◌∙◌, ℕ, ◌<◌, max, List, [], ◌++◌, map, length, None, inl, inr, sym, ap, subst}
+use Rattle.std.proofs.Common.{◌≡◌, ◌⊎◌, ◌∙◌, ℕ, ◌<◌, max, List, [], ◌++◌, map, length, Some, None, inl, inr, sym, ap, subst}
 use Rattle.std.proofs.lemmas.List.{append-nil}
 use Rattle.sj_lang.specs.Place.{Place, done}
 use Rattle.sj_lang.specs.FileAt.{FileAt}
 use Rattle.sj_semantics.specs.Program.{Program}
 use Rattle.sj_rules.specs.Frames.{FrameAt}
-use Rattle.sj_rules.specs.Halts.{halt_of}
+use Rattle.sj_rules.specs.Halts.{Halt, halt_of}
 use Rattle.sj_rules.specs.Joined.{IsJoinedRun, WorkerAt}
 use Rattle.sj_rules.specs.Log.{LineAt, body_note}
 use Rattle.sj_rules.specs.Node.{NodeAt, acts}
@@ -18,6 +18,7 @@ use Rattle.sj_run.specs.Shown.{IsShown, IsWaiting, LinksAt, posted_frames}
 -- why a party has nothing to do, and what its lanes show of it
 pub record IsAtRest (file : FileAt) (looks : ℕ) (p : ℕ) (w : WorkerAt Place Program) (vain_out vain_in : ℕ → ℕ) : Type 0 where
   pub still : acts (play_of file) p w.node ≡ None
+  pub halted : (cause : Halt) × (halt_of (play_of file) w.node ≡ Some cause)
   pub emptied : (q : ℕ) → q < length file.parties → (w.box q ≡ []) ⊎ ((0 < vain_out q) ⊎ (looks ≡ 0))
   pub looked : (q : ℕ) → q < length file.parties → IsWaiting (halt_of (play_of file) w.node) → RoseBy looks 0 (vain_in q)
 
@@ -42,6 +43,7 @@ module _ (file : FileAt) (looks : ℕ) (links : LinksAt) (workers : ℕ → Work
     pushed = λ p q lt mt. ((workers p).box q, sym (all_posted p q lt mt));
     all = λ p q lt mt. whole p q ((workers p).box q) (all_posted p q lt mt) ((rests p lt).emptied q mt);
     still = λ p lt. ap (acts (play_of file) p) (joined.nodes p lt) ∙ (rests p lt).still;
+    halted = λ p lt. let h = (rests p lt).halted in (h.0, ap (halt_of (play_of file)) (joined.nodes p lt) ∙ h.1);
     looked = λ p q lt mt waits.
         (rests q mt).looked p lt (subst (λ (n : NodeAt Place Program). IsWaiting (halt_of (play_of file) n)) (joined.nodes q mt) waits);
   }

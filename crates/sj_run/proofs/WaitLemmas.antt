@@ -9,14 +9,14 @@ use Rattle.sj_semantics.specs.Program.{Program}
 use Rattle.sj_semantics.specs.Wants.{want_of}
 use Rattle.sj_table.specs.declared.table.Spot.{Spot}
 use Rattle.sj_rules.specs.Halts as rules
-use Rattle.sj_rules.specs.Halts.{halt_by, halt_if, halt_of, is_at_end, is_expected, may_be_delegated}
+use Rattle.sj_rules.specs.Halts.{halt_by, halt_if, halt_of, is_at_end, is_delegated_enough, is_expected, lacks_message}
 use Rattle.sj_rules.specs.Mapped.{main_with, node_with}
 use Rattle.sj_rules.specs.Node.{NodeAt}
 use Rattle.sj_rules.specs.Party.{play_for, want_for, want_or_ended}
 use Rattle.sj_rules.specs.Record.{MainAt, Held, Closed, Expected}
 use Rattle.sj_node.specs.declared.refusal.Halt.{Halt}
 use Rattle.sj_node.specs.declared.refusal.Halt.TheVariants as halts
-use Rattle.sj_node.specs.Halts.{hold_up, lacks_message, names_awaited, stop_by, stop_wanting}
+use Rattle.sj_node.specs.Halts.{hold_up, names_awaited, stop_by, stop_wanting}
 use Rattle.sj_node.specs.Play.{next_want}
 use Rattle.sj_run.specs.Shown.{IsWaiting}
 
@@ -41,7 +41,7 @@ neither false b k = (refl, k)
 neither true b k = absurd (cc k)
 
 -- an end that may be delegated no more is no wait
-enough : (b : Bool) (e : EndId) → IsWaiting (if b then None else Some (rules.delegated_enough e)) → ⊥
+enough : (b : Bool) (e : EndId) → IsWaiting (halt_if b (rules.delegated_enough e) None) → ⊥
 enough true e w = w
 enough false e w = w
 
@@ -65,7 +65,7 @@ module _ (f : Spot → Place) (ps : List ProtocolAt) where
     by_want (wants.Delegate e y) named up w =
         let apart = neither (is_expected (n.main e)) (is_expected (n.main y)) named in
         let more = unless _ (rules.awaits e) _ (awaited_is (n.main e) ∙ apart.0) w in
-        enough (may_be_delegated (option_map (main_with f) (n.main y))) y (unless _ (rules.awaits y) _ (awaited_is (n.main y) ∙ apart.1) more)
+        enough (is_delegated_enough (option_map (main_with f) (n.main y))) y (unless _ (rules.awaits y) _ (awaited_is (n.main y) ∙ apart.1) more)
     by_want (wants.Take e a) named up w = lacks (lacks_message (n.main e)) h other up
     by_want (wants.Close e) named up w = unless _ (rules.awaits e) None (awaited_is (n.main e) ∙ named) w
     by_want wants.Ended named up w = w

@@ -1,3 +1,4 @@
 pub mod Damage
+pub mod Refusals
 pub mod Shown
 pub mod Workers

@@ -50,8 +50,9 @@ pub record IsShown (file : FileAt) (looks : ℕ) (links : LinksAt) (lines : List
   -- and all of it, unless a push was in vain, or no look was asked for
   pub all : (p q : ℕ) → p < length file.parties → q < length file.parties
       → (links.sent p q ≡ posted_frames file p q lines) ⊎ ((0 < links.vain_out p q) ⊎ (looks ≡ 0))
-  -- nobody can act there
+  -- nobody can act there, each for one of the causes; that an end is nowhere at the party is none
   pub still : (p : ℕ) → p < length file.parties → acts (play_of file) p (core.nodes p) ≡ None
+  pub halted : (p : ℕ) → p < length file.parties → (cause : Halt) × (halt_of (play_of file) (core.nodes p) ≡ Some cause)
   -- who waits there has looked into each lane to it so often in vain
   pub looked : (p q : ℕ) → p < length file.parties → q < length file.parties → IsWaiting (halt_of (play_of file) (core.nodes q))
       → RoseBy looks 0 (links.vain_in p q)

@@ -2,6 +2,7 @@
 ghost use Rattle.std.specs.Prelude.{◌≡◌};
 
 use sj_base::NoMemory;
+use sj_core::ReplayRefusal;
 use sj_end::Line;
 use thiserror::Error;
 
@@ -29,5 +30,26 @@ impl From<NoMemory> for RunRefusal {
 
     fn from(_: NoMemory) -> Self {
         RunRefusal::NoMemory
+    }
+}
+
+impl From<ReplayRefusal> for RunRefusal {
+    ghost use Rattle.sj_run.specs.Refusals.{run_refusal};
+
+    ghost from_gives = { λ refusal e. e ≡ run_refusal refusal };
+
+    fn from(refusal: ReplayRefusal) -> Self {
+        match refusal {
+            ReplayRefusal::Misfit {
+                number,
+                logged,
+                due,
+            } => RunRefusal::Damaged {
+                number,
+                logged,
+                due,
+            },
+            ReplayRefusal::NoMemory => RunRefusal::NoMemory,
+        }
     }
 }

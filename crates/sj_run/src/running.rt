@@ -1,13 +1,13 @@
 //! A file run by its parties.
-ghost use Rattle.std.specs.Prelude.{◌≡◌, ◌≤◌, Err, IfErr, IfOk, length, map, max, true};
+ghost use Rattle.std.specs.Prelude.{◌≡◌, ◌≤◌, Err, IfErr, IfOk, length, max, true};
 ghost use Rattle.sj_check.specs.Held.{file_in as held};
 ghost use Rattle.sj_core.specs.World.{history_of, kept_file, party_count, world_at};
 ghost use Rattle.sj_lane.specs.Told.{Rose};
 ghost use Rattle.sj_lang.specs.FileView.{file_of};
 ghost use Rattle.sj_plain.specs.Kept.{without_words};
 ghost use Rattle.sj_rules.specs.History.{IsHistory};
-ghost use Rattle.sj_end.specs.Lines.{line_at};
-ghost use Rattle.sj_run.specs.Damage.{IsDamaged, IsDamagedSo, IsMisfitOf, IsPastEndOf};
+ghost use Rattle.sj_run.specs.Damage.{IsDamaged};
+ghost use Rattle.sj_run.specs.Refusals.{IsDamagedOver, IsPastEndOf};
 ghost use Rattle.sj_run.specs.Shown.{IsShown, keeps_of};
 
 use crate::RunRefusal;
@@ -16,42 +16,16 @@ use crate::joining::{given_up, joined};
 use crate::stops::{any_faulty, any_short, first_unfit};
 use sj_base::NoMemory;
 use sj_check::Accepted;
-use sj_core::{ReplayRefusal, World, is_the_line};
+use sj_core::{World, is_the_line};
 use sj_end::Line;
 use sj_lane::Links;
 use sj_work::Gate;
 use std::alloc::Global;
 use std::thread::Threads;
 
-/// The core world to which these lines lead from the file's start on. They become its history.
-fn replayed(alloc: Global, accepted: &Accepted, lines: Vec<Line>) -> Result<World, RunRefusal>
-    ensures kept { IfOk result (λ w. kept_file w ≡ without_words (file_of (held accepted.now))) }
-    ensures history { IfOk result (λ w. history_of w ≡ map line_at lines.items) }
-    ensures run { IfOk result (λ w. IsHistory max (file_of (held accepted.now)) (map line_at lines.items) (world_at w)) }
-    ensures damaged { IfErr result (IsMisfitOf (file_of (held accepted.now)) (map line_at lines.items)) }
-    ensures whole { result ≡ Err RunRefusal.LinkFault → ⊥ }
-{
-    match World::replayed(alloc, accepted, lines) {
-        Ok(world) => Ok(world),
-        Err(
-            ReplayRefusal::Misfit {
-                number,
-                logged,
-                due,
-            },
-        ) => Err(RunRefusal::Damaged {
-            number,
-            logged,
-            due,
-        }),
-        Err(ReplayRefusal::NoMemory) => Err(RunRefusal::NoMemory),
-    }
-}
-
 /// Why a worker that refused an event behind the lines of this history makes them damaged.
 fn past_end(world: &World, refused: Line) -> RunRefusal
-    ensures refused { IsPastEndOf (kept_file world.now) (world_at world.now) (history_of world.now) result }
-    ensures whole { result ≡ RunRefusal.LinkFault → ⊥ }
+    ensures { IsPastEndOf (kept_file world.now) (world_at world.now) (history_of world.now) refused result }
 {
     let due = world.due(refused.party, refused.entry.event);
     if is_the_line(&due, &refused) {
@@ -89,9 +63,11 @@ pub fn run_parties<R: Threads + Sync, L: Links, G: Gate>(
         IsShown (file_of (held accepted.now)) looks (keeps_of L.sent L.got L.vain_out L.vain_in links.new)
         (history_of w) (world_at w)) }
 
-    // A fault comes only where the links counted one, and damage only of links that don't tell.
+    // A fault comes only where the links counted one. Damage is in what workers left that worked over
+    // lanes of these links, of which none stopped at a fault, and comes only of links that don't tell.
     ensures link_fault { result ≡ Err RunRefusal.LinkFault → Rose (L.faults links.old) (L.faults links.new) }
-    ensures damaged { IfErr result (IsDamagedSo (file_of (held accepted.now))) }
+    ensures damaged { IfErr result (IsDamagedOver L.Out.pushed L.Out.faults L.Out.vain L.Out.same L.In.popped L.In.faults
+        L.In.vain L.In.same L.joined (file_of (held accepted.now)) looks (L.tells links.old)) }
     ensures telling { IfErr result (λ r. IsDamaged r → L.tells links.old ≡ true → ⊥) }
 
     // What the links are stays, and their count of faults doesn't fall.
@@ -108,9 +84,9 @@ pub fn run_parties<R: Threads + Sync, L: Links, G: Gate>(
     if faulty {
         return Err(RunRefusal::LinkFault);
     }
-    let world = match replayed(alloc, accepted, lines) {
+    let world = match World::replayed(alloc, accepted, lines) {
         Ok(world) => world,
-        Err(refusal) => return Err(refusal),
+        Err(refusal) => return Err(RunRefusal::from(refusal)),
     };
     if let Some(refused) = unfit {
         return Err(past_end(&world, refused));

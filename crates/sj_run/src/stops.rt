@@ -1,5 +1,7 @@
 //! How the workers stopped.
-ghost use Rattle.std.specs.Prelude.{◌≡◌, ◌↔◌, IsTrue, IfSome, None, Some, false};
+ghost use Rattle.std.specs.Prelude.{◌≡◌, ◌↔◌, IsTrue, IfSome, None, Some, false, map};
+ghost use Rattle.sj_end.specs.Lines.{line_at};
+ghost use Rattle.sj_run.specs.Damage.{IsLowestUnfit, left_of};
 ghost use Rattle.sj_run.specs.Workers.{NoneStopped, SomeStopped};
 ghost use Rattle.sj_work.specs.declared.worker.Stop.TheVariants as stops;
 
@@ -44,9 +46,9 @@ pub(crate) fn any_short<O, I>(workers: &[Worker<O, I>]) -> bool
     false
 }
 
-/// What the first worker of those that stopped as unfit couldn't do.
+/// What the worker of the lowest party couldn't do, of those that stopped as unfit.
 pub(crate) fn first_unfit<O, I>(workers: &[Worker<O, I>]) -> Option<Line>
-    ensures some { IfSome result (λ l. SomeStopped workers.now stops.Unfit) }
+    ensures some { IfSome result (λ l. IsLowestUnfit (map left_of workers.now) (line_at l)) }
     ensures none { result ≡ None → NoneStopped workers.now stops.Unfit }
 {
     for worker in workers {

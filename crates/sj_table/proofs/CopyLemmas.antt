@@ -1,11 +1,13 @@
 -- Nodes that are the same, apart from how they lie in memory, stand for the same places.
-use Rattle.std.proofs.Common.{◌≡◌, ℕ, suc, ◌<◌, ◌++◌, List, [], ◌∷◌, length, get_or, map, refl, ap, sym, subst, ◌∙◌, arith}
+use Rattle.std.proofs.Common.{◌≡◌, ℕ, suc, ◌<◌, ◌++◌, List, [], ◌∷◌, length, get_or, map, IfSome, refl, ap, sym, subst, ◌∙◌, arith}
 use Rattle.std.proofs.lemmas.List.{get_or-map, get_or_default, length-map}
 use Rattle.sj_lang.specs.Place.{Place, done}
 use Rattle.sj_lang.specs.View.{followed}
 use Rattle.sj_table.specs.declared.leading.Stop.{Stop}
+use Rattle.sj_lang.specs.FileAt.{named}
+use Rattle.sj_table.specs.declared.table.Spot.{Spot}
 use Rattle.sj_table.specs.Nodes.{NodeAt, node_of}
-use Rattle.sj_table.specs.Table.{IsEntered, IsStop, IsTable, at_node, places_from, places_of}
+use Rattle.sj_table.specs.Table.{IsEntered, IsStop, IsTable, IsThere, IsWhole, at_node, places_from, places_of}
 
 -- the places of nodes, as they are apart from memory
 abbrev places_by : List Place → List NodeAt → List Place
@@ -39,4 +41,13 @@ same_table ss ts e h = record {
       let one : node_of s ≡ node_of t = sym (get_or-map node_of ss i t (node_of t) (omega (arith, lt, long))) ∙ ap (λ (ns : List NodeAt). get_or ns i (node_of t)) (sym e) ∙ get_or-map node_of ts i t (node_of t) lt ∙ ap node_of (sym there) in
       let place : IsStop (places_of ss) (suc i) s = h.each i s (omega (arith, lt, long)) (get_or_default ss i t s (omega (arith, lt, long))) in
       same_stop (places_of ts) (suc i) s t one (subst (λ (p : List Place). IsStop p (suc i) s) (sym (same_places ss ts e)) place);
+}
+
+-- protocols start at the nodes of the copy
+pub same_whole : (ss ts : List Stop) (xs ys : List (ℕ × Spot)) → map node_of ts ≡ map node_of ss → ys ≡ xs → IsWhole ss xs → IsWhole ts ys
+same_whole ss ts xs ys e starts h = record {
+  nodes = same_table ss ts e h.nodes;
+  begun = λ p.
+      subst (λ (places : List Place). IfSome (named ys p) (λ (s : Spot). s.node < length places)) (sym (same_places ss ts e))
+      (subst (λ (zs : List (ℕ × Spot)). IfSome (named zs p) (λ (s : Spot). IsThere ss s.node)) (sym starts) (h.begun p));
 }

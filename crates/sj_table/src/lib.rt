@@ -8,6 +8,3 @@ mod leading;
 mod table;
 
 pub use table::{Spot, Table};
-
-#[cfg(test)]
-mod tests;

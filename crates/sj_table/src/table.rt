@@ -1,5 +1,5 @@
 //! Spots, and the table in which they stand for places.
-ghost use Rattle.std.specs.Prelude.{◌≡◌, ◌+◌, ◌<◌, ℕ, length, map, option_map, IsTrue, ◌↔◌, IfOk, MatchOption};
+ghost use Rattle.std.specs.Prelude.{◌≡◌, ◌+◌, ◌<◌, ℕ, length, map, option_map, IsTrue, ◌↔◌, IfOk, IfSome, MatchOption};
 ghost use Rattle.sj_lang.specs.After.{after_place};
 ghost use Rattle.sj_lang.specs.FileAt.{body_named, named};
 ghost use Rattle.sj_lang.specs.FileView.{protocol_of};
@@ -47,11 +47,11 @@ impl Model for Table {
 
     ghost coded = { coded× (coded_list coded_place) (coded_list (coded× coded_ℕ s.the_row.coded)) };
 
-    ghost use Rattle.sj_table.specs.Table.{IsTable, places_of};
+    ghost use Rattle.sj_table.specs.Table.{IsWhole, places_of};
 
     ghost view = { λ t. (places_of t.stops.items, t.starts.items) };
 
-    ghost invariant = { λ t. IsTable t.stops.items };
+    ghost invariant = { λ t. IsWhole t.stops.items t.starts.items };
 }
 
 impl Table {
@@ -86,7 +86,8 @@ impl Table {
 
     /// The spot of the body of the protocol of that name, and node 0 where there is none.
     pub fn start(&self, protocol: u16) -> Spot
-        ensures { place_in self.now result ≡ start_in self.now protocol }
+        ensures place { place_in self.now result ≡ start_in self.now protocol }
+        ensures there { HasSpot self.now result }
     {
         match spot_named(&self.starts, protocol) {
             Some(spot) => spot,
@@ -103,7 +104,8 @@ impl Table {
 
     /// The spot of the empty place.
     pub fn done(&self) -> Spot
-        ensures { place_in self.now result ≡ done }
+        ensures place { place_in self.now result ≡ done }
+        ensures there { HasSpot self.now result }
     {
         let _ = &self.stops;
         Spot { node: 0 }
@@ -121,8 +123,9 @@ impl Table {
     /// The spot of the place after a message. A session message counts as of any session kind. A
     /// spot that isn't in the table stands for the empty place.
     pub fn after(&self, spot: Spot, way: Way, msg: &Msg) -> Option<Spot>
-        ensures { option_map (place_in self.now) result
+        ensures place { option_map (place_in self.now) result
             ≡ after_place (place_in self.now spot) way msg.now }
+        ensures there { IfSome result (HasSpot self.now) }
     {
         let node = after_node(&self.stops, spot.node, way, msg);
         spot_at(node)
@@ -130,8 +133,9 @@ impl Table {
 
     /// The item that stands first, and the spot of what follows it; none where nothing is ahead.
     pub fn split(&self, spot: Spot) -> Option<(&Item, Spot)>
-        ensures { let here = place_in self.now spot in
+        ensures item { let here = place_in self.now spot in
             MatchOption result (here ≡ done) (λ p. here ≡ followed p.0.now (place_in self.now p.1)) }
+        ensures there { IfSome result (λ p. HasSpot self.now p.1) }
     {
         let (item, node) = split_node(&self.stops, spot.node)?;
         Some((item, Spot { node }))
@@ -181,7 +185,8 @@ fn spot_named(starts: &[(u16, Spot)], name: u16) -> Option<Spot>
 }
 
 fn spot_at(node: Option<u32>) -> Option<Spot>
-    ensures { (t : Table) → option_map (place_in t) result ≡ option_map (at_node t.0) node }
+    ensures place { (t : Table) → option_map (place_in t) result ≡ option_map (at_node t.0) node }
+    ensures there { (t : Table) → IfSome node (λ n. n < length t.0) → IfSome result (HasSpot t) }
 {
     match node {
         Some(node) => Some(Spot { node }),

@@ -1,5 +1,5 @@
 -- What answers a valid file completes its task.
-use Rattle.std.proofs.Common.{◌≡◌, ◌∙◌, ℕ, Bool, true, false, List, [], Option, None, inl, inr, ap, subst}
+use Rattle.std.proofs.Common.{◌≡◌, ◌∙◌, ℕ, Bool, true, false, List, [], Option, None, inl, inr, ap, subst, sym}
 use Rattle.sj_lang.specs.FileAt.{FileAt}
 use Rattle.sj_grammar.specs.Files.{IsFile}
 use Rattle.sj_acceptance.specs.Accepted.{IsAccepted}
@@ -54,7 +54,7 @@ module _ (links : LinkUseAt) (log : List ℕ) (file : FileAt) (t : ℕ × List �
       played true file t p.verdict p.text (tasks.Replay true) p.are s (λ e. absurd (never e))
   replay_played false p =
       let s = played_so links (tasks.Replay false) log file p.verdict p.text tt p.plays in
-      played false file t p.verdict p.text (tasks.Replay false) p.are s (λ _. s.bare (λ no. no))
+      played false file t p.verdict p.text (tasks.Replay false) p.are s (λ _. s.bare (λ logs. never (sym logs)))
 
   -- what is told of a file that has no fault completes
   faultless : (task : Task) → (Replays task → HasBegun links task log file) → TellsFaultless links task log file t → Told task file t.0 t.1
@@ -62,13 +62,13 @@ module _ (links : LinkUseAt) (log : List ℕ) (file : FileAt) (t : ℕ × List �
   faultless tasks.Show fits e = absurd e
   faultless tasks.Sim fits p =
       let s = played_so links tasks.Sim log file p.verdict p.text tt p.plays in
-      played false file t p.verdict p.text tasks.Sim p.are s (λ _. s.bare (λ no. no))
+      played false file t p.verdict p.text tasks.Sim p.are s (λ _. s.bare (λ logs. never (sym logs)))
   faultless (tasks.Run true looks) fits p =
       let s = played_so links (tasks.Run true looks) log file p.verdict p.text tt p.plays in
       played true file t p.verdict p.text (tasks.Run true looks) p.are s (λ e. absurd (never e))
   faultless (tasks.Run false looks) fits p =
       let s = played_so links (tasks.Run false looks) log file p.verdict p.text tt p.plays in
-      played false file t p.verdict p.text (tasks.Run false looks) p.are s (λ _. s.bare (λ no. no))
+      played false file t p.verdict p.text (tasks.Run false looks) p.are s (λ _. s.bare (λ logs. never (sym logs)))
   faultless (tasks.Replay l) fits (inl (r, k, a, e)) = let fit = fits tt in absurd (fault_or_lines file log r k fit.lines a fit.given)
   faultless (tasks.Replay l) fits (inr (inl (s, a, e))) = let fit = fits tt in absurd (misfit_or_history file log s fit.lines fit.left a fit.given fit.leads)
   faultless (tasks.Replay l) fits (inr (inr p)) = replay_played l p

@@ -5,7 +5,9 @@ use Rattle.sj_lang.specs.Place.{Place}
 use Rattle.sj_acceptance.specs.Accepted.{IsAccepted}
 use Rattle.sj_semantics.specs.declared.Verdict.{Verdict}
 use Rattle.sj_semantics.specs.Program.{Program}
+use Rattle.sj_accepted_laws.proofs.HeadlineLemmas.{settled_run_has_it}
 use Rattle.sj_semantics.specs.Run.{IsRun, end_of}
+use Rattle.sj_semantics_laws.proofs.FinishLemmas.{end_is_settled}
 use Rattle.sj_plain.specs.Kept.{without_words}
 use Rattle.sj_rules.specs.Drain.{IsDrained}
 use Rattle.sj_rules.specs.History.{IsHistory, IsQuietAmong, turn_of}
@@ -86,6 +88,6 @@ told_runs links task log file accepted history core has v text told = record {
   history = history;
   core = core;
   has = has;
-  acts = quiet_ends file accepted history core has.run has.quiet;
+  headline = settled_run_has_it file (actors history) (end_of file) accepted (quiet_ends file accepted history core has.run has.quiet) (end_is_settled file);
   told = told;
 }

@@ -8,10 +8,8 @@ use Rattle.sj_command.specs.declared.tasks.Task.{Task}
 use Rattle.sj_end.specs.Lines.{line_at}
 use Rattle.sj_lane.specs.Told as lanes
 use Rattle.sj_log.specs.LogText.{SpellsLog}
-use Rattle.sj_rules.specs.History.{IsMisfit}
+use Rattle.sj_rules.specs.History.{IsFirstMisfit}
 use Rattle.sj_rules.specs.Log.{LineAt}
-use Rattle.sj_rules.specs.Party.{play_of}
-use Rattle.sj_rules.specs.Start.{core_start}
 use Rattle.sj_run.specs.Damage.{IsDamage, IsDamaged, IsDamagedSo}
 use Rattle.sj_run.specs.declared.refusal.RunRefusal.{RunRefusal}
 use Rattle.sj_run.specs.declared.refusal.RunRefusal.TheVariants as refusals
@@ -88,7 +86,7 @@ damaged_answers links task runs log file number logged other (Printed t) ok blin
 damaged_answers links task runs log file number logged other (Made t) ok blind damage by = absurd by
 
 misfit_answers : (links : LinkUseAt) (task : Task) (replays : IsReplay task) (log : List ℕ) (file : FileAt) (lines : List LineAt) (number : ℕ) (logged : LineAt) (other : Option LineAt) (a : AnswerAt) → IsAccepted file
-    → SpellsLog file log lines → IsMisfit (play_of file) max (core_start file) lines number logged other → IsToldMisfit file number logged other a → AnswersFile links task log file a
+    → SpellsLog file log lines → IsFirstMisfit max file lines number logged other → IsToldMisfit file number logged other a → AnswersFile links task log file a
 misfit_answers links task replays log file lines number logged other Usage ok spells misfit by = absurd by
 misfit_answers links task replays log file lines number logged other ReadFault ok spells misfit by = absurd by
 misfit_answers links task replays log file lines number logged other TooLarge ok spells misfit by = absurd by

@@ -47,10 +47,10 @@ played_so links tasks.Sim log file v text plays p =
     record { behind = []; stands = p.0; printed = p.1 ∙ sym (append-nil (transcript_of file (end_of file))); bare = λ no. refl }
 played_so links (tasks.Run false looks) log file v text plays p = record { behind = []; stands = p.1.told.0; printed = p.1.told.1; bare = λ no. refl }
 played_so links (tasks.Run true looks) log file v text plays p =
-    record { behind = log_part true file p.1.history; stands = p.1.told.0; printed = p.1.told.1; bare = λ no. absurd (no tt) }
+    record { behind = log_part true file p.1.history; stands = p.1.told.0; printed = p.1.told.1; bare = λ no. absurd (no refl) }
 played_so links (tasks.Replay false) log file v text plays p = record { behind = []; stands = p.1.told.0; printed = p.1.told.1; bare = λ no. refl }
 played_so links (tasks.Replay true) log file v text plays p =
-    record { behind = log_part true file p.1.history; stands = p.1.told.0; printed = p.1.told.1; bare = λ no. absurd (no tt) }
+    record { behind = log_part true file p.1.history; stands = p.1.told.0; printed = p.1.told.1; bare = λ no. absurd (no refl) }
 
 -- ---- no other status is a verdict's
 

@@ -3,6 +3,9 @@ use Rattle.std.proofs.Common.{ℕ, List, [], true}
 use Rattle.std.specs.Prelude.{Bool}
 use Rattle.sj_command.specs.declared.tasks.Task.{Task}
 use Rattle.sj_command.specs.declared.tasks.Task.TheVariants as tasks
+use Rattle.sj_core.specs.Replaying.{IsMisfitFrom}
+use Rattle.sj_core.specs.declared.refusal.ReplayRefusal.{ReplayRefusal}
+use Rattle.sj_core.specs.declared.refusal.ReplayRefusal.TheVariants as replays
 use Rattle.sj_lang.specs.Place.{Place}
 use Rattle.sj_rules.specs.World.{WorldAt}
 use Rattle.sj_semantics.specs.Program.{Program}
@@ -12,15 +15,12 @@ use Rattle.sj_tool.specs.Tasks.{Replays as IsReplay}
 use Rattle.sj_lang.specs.FileAt.{FileAt}
 use Rattle.sj_log.specs.LogText.{SpellsLog}
 use Rattle.sj_rules.specs.Log.{LineAt}
-use Rattle.sj_tool.specs.Replays.{IsRefusedBy, IsStopped}
-use Rattle.sj_tool.specs.declared.replaying.ReplayFault.{ReplayFault}
-use Rattle.sj_tool.specs.declared.replaying.ReplayFault.TheVariants as faults
+use Rattle.sj_tool.specs.Replays.{IsRefusedBy, replay_fault}
 
 -- lines that don't lead on refuse the log that spells them
-pub stopped_refused : (file : FileAt) (log : List ℕ) (lines : List LineAt) (r : ReplayFault) → SpellsLog file log lines → IsStopped file lines r → IsRefusedBy file log r
-stopped_refused file log lines (faults.Text rule line) spells stopped = absurd stopped
-stopped_refused file log lines (faults.Entry number logged other) spells stopped = (lines, spells, stopped)
-stopped_refused file log lines faults.NoMemory spells stopped = tt
+pub misfit_refused : (file : FileAt) (log : List ℕ) (lines : List LineAt) (r : ReplayRefusal) → SpellsLog file log lines → IsMisfitFrom file lines r → IsRefusedBy file log (replay_fault r)
+misfit_refused file log lines (replays.Misfit number logged other) spells misfit = (lines, spells, misfit)
+misfit_refused file log lines replays.NoMemory spells misfit = tt
 
 -- links that nothing is carried over
 pub unused : LinkUseAt

@@ -1,10 +1,8 @@
 -- What is told of an entry of a log, or of joined logs, that isn't the one that is due.
 use Rattle.std.specs.Prelude.{◌≡◌, ℕ, max, List, [], ◌∷◌, ◌++◌, Option, Some, None, codes, decimal, option_map}
 use Rattle.sj_lang.specs.FileAt.{FileAt}
-use Rattle.sj_rules.specs.History.{IsMisfit}
+use Rattle.sj_rules.specs.History.{IsFirstMisfit}
 use Rattle.sj_rules.specs.Log.{LineAt}
-use Rattle.sj_rules.specs.Party.{play_of}
-use Rattle.sj_rules.specs.Start.{core_start}
 use Rattle.sj_print.specs.LogLine.{head_words, note_words}
 use Rattle.sj_log.specs.LogText.{SpellsLog}
 use Rattle.sj_end.specs.Lines.{line_at}
@@ -40,7 +38,8 @@ damage_head = codes "damaged entry "
 abbrev pub misfit_head : List ℕ
 misfit_head = codes "log entry "
 
--- the text tells which entry of the joined logs is damaged, and what was due
+-- the text tells the first entry of the joined logs of the parties that isn't due, or what the lowest unfit party refused behind
+-- them, and what was due
 pub record IsDamageText (file : FileAt) (text : List ℕ) : Type 0 where
   pub number : ℕ
   pub logged : LineAt
@@ -55,7 +54,7 @@ pub record IsMisfitText (file : FileAt) (log text : List ℕ) : Type 0 where
   pub number : ℕ
   pub logged : LineAt
   pub other : Option LineAt
-  pub misfit : IsMisfit (play_of file) max (core_start file) lines number logged other
+  pub misfit : IsFirstMisfit max file lines number logged other
   pub told : text ≡ entry_line misfit_head file number logged other
 
 -- the answer tells that damage

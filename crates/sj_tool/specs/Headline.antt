@@ -12,7 +12,7 @@ use Rattle.sj_accepted_laws.specs.Headline.{IsHeadline}
 use Rattle.sj_command.specs.declared.tasks.Task.{Task}
 use Rattle.sj_command.specs.declared.tasks.Task.TheVariants as tasks
 use Rattle.sj_tool.specs.Calls.{CallAt}
-use Rattle.sj_tool.specs.Tasks.{AsksFor, HasParts}
+use Rattle.sj_tool.specs.Tasks.{AsksFor, HasParts, asks_log}
 use Rattle.sj_tool.specs.Texts.{verdict_status}
 
 -- it plays a file to its end
@@ -24,9 +24,7 @@ IsPlaying _ = ⊥
 
 -- it prints the history behind the transcript
 abbrev pub IsLogging : Task → Type 0
-IsLogging (tasks.Run true looks) = ⊤
-IsLogging (tasks.Replay true) = ⊤
-IsLogging _ = ⊥
+IsLogging task = asks_log task ≡ true
 
 -- the status of a file that was played: 0, 6 or 7
 abbrev pub IsVerdict : ℕ → Type 0

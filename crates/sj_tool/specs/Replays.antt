@@ -1,5 +1,7 @@
 -- Why a log isn't replayed.
 use Rattle.std.specs.Prelude.{◌≡◌, ℕ, max, List, option_map, ⊤}
+use Rattle.sj_core.specs.declared.refusal.ReplayRefusal.{ReplayRefusal}
+use Rattle.sj_core.specs.declared.refusal.ReplayRefusal.TheVariants as replays
 use Rattle.sj_lang.specs.FileAt.{FileAt}
 use Rattle.sj_end.specs.Lines.{line_at}
 use Rattle.sj_log.specs.LogText.{IsFault, SpellsLog}
@@ -11,11 +13,10 @@ use Rattle.sj_tool.specs.AnswerAt.{AnswerAt, LogFault}
 use Rattle.sj_tool.specs.declared.replaying.ReplayFault.{ReplayFault}
 use Rattle.sj_tool.specs.declared.replaying.ReplayFault.TheVariants as faults
 
--- the lines don't lead on from the start of the file; what is told of their text is no matter here
-abbrev pub IsStopped : FileAt → List LineAt → ReplayFault → Type 0
-IsStopped file lines (faults.Text rule line) = ⊥
-IsStopped file lines (faults.Entry number logged other) = IsFirstMisfit max file lines number (line_at logged) (option_map line_at other)
-IsStopped file lines faults.NoMemory = ⊤
+-- lines that aren't replayed, as a fault of a log
+abbrev pub replay_fault : ReplayRefusal → ReplayFault
+replay_fault (replays.Misfit number logged other) = faults.Entry number logged other
+replay_fault replays.NoMemory = faults.NoMemory
 
 -- the log isn't in its grammar, or its lines don't lead on
 abbrev pub IsRefusedBy : FileAt → (log : List ℕ) → ReplayFault → Type 0

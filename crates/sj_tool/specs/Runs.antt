@@ -5,7 +5,8 @@ use Rattle.sj_lang.specs.Place.{Place}
 use Rattle.sj_acceptance.specs.Accepted.{IsAccepted}
 use Rattle.sj_semantics.specs.declared.Verdict.{Verdict}
 use Rattle.sj_semantics.specs.Program.{Program}
-use Rattle.sj_semantics.specs.Run.{IsRun, end_of}
+use Rattle.sj_accepted_laws.specs.Headline.{IsHeadline}
+use Rattle.sj_semantics.specs.Run.{end_of}
 use Rattle.sj_semantics.specs.State.{verdict_of}
 use Rattle.sj_semantics.specs.Transcript.{line_of, transcript_of}
 use Rattle.sj_semantics.specs.World.{World}
@@ -21,7 +22,7 @@ use Rattle.sj_command.specs.declared.tasks.Task.{Task}
 use Rattle.sj_command.specs.declared.tasks.Task.TheVariants as tasks
 use Rattle.sj_log.specs.LogText.{SpellsLog}
 use Rattle.sj_tool.specs.Calls.{LinkUseAt}
-use Rattle.sj_tool.specs.Tasks.{HasEvents, looks_of}
+use Rattle.sj_tool.specs.Tasks.{HasEvents, asks_log, looks_of}
 use Rattle.sj_tool.specs.Shown.{shown}
 use Rattle.sj_tool.specs.Sums.{summary}
 use Rattle.sj_tool.specs.Texts.{counts_of}
@@ -63,21 +64,20 @@ log_part true file history = line_of (codes "%%log" ∷ []) ++ log_text file his
 
 -- what a task prints of a history, and of the world to which its acts lead
 abbrev pub run_text : Task → FileAt → List LineAt → World → List ℕ
-run_text (tasks.Run l looks) file history end = transcript_of file end ++ log_part l file history
-run_text (tasks.Replay l) file history end = transcript_of file end ++ log_part l file history
 run_text (tasks.Big n) file history end = summary n file end
-run_text _ file history end = []
+run_text task file history end = transcript_of file end ++ log_part (asks_log task) file history
 
 -- how the file ends, and what the task prints of that history
 abbrev pub IsTold : Task → FileAt → List LineAt → Verdict → List ℕ → Type 0
 IsTold task file history verdict text = (verdict ≡ verdict_of (end_of file)) × (text ≡ run_text task file history (end_of file))
 
--- the file was run, by its parties over these links or by the log: the acts of a history lead to the end of the file, and it is told
+-- the file was run, by its parties over these links or by the log: the acts of a history are a run with the headline, which leads to
+-- the end of the file, and that is told
 pub record HasRun (links : LinkUseAt) (task : Task) (log : List ℕ) (file : FileAt) (verdict : Verdict) (text : List ℕ) : Type 0 where
   pub history : List LineAt
   pub core : WorldAt Place Program
   pub has : HasHistory links task log file history core
-  pub acts : IsRun file (actors history) (end_of file)
+  pub headline : IsHeadline file (actors history) (end_of file)
   pub told : IsTold task file history verdict text
 
 -- it plays the file to its end: how it ended, and what is printed

@@ -1,5 +1,5 @@
 -- Kinds of tasks, the bytes that they take, and what a replay makes of these.
-use Rattle.std.specs.Prelude.{◌≡◌, ◌<◌, ◌≤◌, ℕ, List, [], length, IfSome, ⊤}
+use Rattle.std.specs.Prelude.{◌≡◌, ◌<◌, ◌≤◌, ℕ, Bool, false, List, [], length, IfSome, ⊤}
 use Rattle.sj_base.specs.Stream.{put_before}
 use Rattle.sj_generator.specs.Generated.{generated}
 use Rattle.sj_command.specs.declared.tasks.Task.{Task}
@@ -61,6 +61,12 @@ limit_of _ = file_limit
 abbrev pub looks_of : Task → ℕ
 looks_of (tasks.Run log looks) = looks
 looks_of _ = usual_looks
+
+-- the log is printed behind the transcript
+abbrev pub asks_log : Task → Bool
+asks_log (tasks.Run log looks) = log
+asks_log (tasks.Replay log) = log
+asks_log _ = false
 
 -- ---- their bytes
 

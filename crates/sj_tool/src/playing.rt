@@ -12,7 +12,7 @@ ghost use Rattle.sj_rules.specs.History.{IsHistory, IsQuietAmong};
 ghost use Rattle.sj_rules.specs.Party.{play_of};
 ghost use Rattle.sj_semantics.specs.Run.{IsRun};
 ghost use Rattle.sj_semantics.specs.Transcript.{transcript_of};
-ghost use Rattle.sj_tool.specs.Tasks.{HasEvents};
+ghost use Rattle.sj_tool.specs.Tasks.{asks_log};
 ghost use Rattle.sj_tool.specs.Runs.{HasSimulated, IsTold, log_part, run_text};
 
 use crate::acting::acted;
@@ -48,7 +48,6 @@ pub(crate) fn told(
     task: Task,
     world: &World,
 ) -> Result<(Verdict, Vec<u8>), NoMemory>
-    requires events { HasEvents task }
     requires run { IsHistory max (file_of (file_in accepted.now)) (history_of world.now) (world_at world.now) }
     requires quiet { IsQuietAmong (play_of (file_of (file_in accepted.now)))
         (length (file_of (file_in accepted.now)).parties) (world_at world.now) }
@@ -69,7 +68,6 @@ fn text_for(
     lines: &[Line],
     plain: &Plain,
 ) -> Result<Vec<u8>, NoMemory>
-    requires events { HasEvents task }
     requires parties { length (file_of file.now).parties ≤ limits.parties }
     requires connects { length (file_of file.now).connects ≤ limits.connects }
     requires kept { kept_file plain.now ≡ without_words (file_of file.now) }
@@ -78,11 +76,19 @@ fn text_for(
         ≡ run_text task (file_of file.now) (map line_at lines.now) (plain_at plain.now)) }
 {
     match task {
-        Task::Run { log, .. } => logged_text(alloc, file, lines, plain, log),
-        Task::Replay { log } => logged_text(alloc, file, lines, plain, log),
         Task::Big(n) => summary_text(alloc, n, file, plain),
-        // They have no history.
-        Task::Check | Task::Show | Task::Sim | Task::Make(_) => unreachable!(),
+        _ => logged_text(alloc, file, lines, plain, logs(task)),
+    }
+}
+
+// Whether the task prints the history behind the transcript.
+fn logs(task: Task) -> bool
+    ensures { result ≡ asks_log task }
+{
+    match task {
+        Task::Run { log, .. } => log,
+        Task::Replay { log } => log,
+        _ => false,
     }
 }
 

@@ -1,17 +1,15 @@
 //! Accepted files that are run by a log.
-ghost use Rattle.std.specs.Prelude.{◌≡◌, ◌≤◌, Bool, IfErr, IfOk, length, map, max};
+ghost use Rattle.std.specs.Prelude.{◌≤◌, Bool, IfErr, IfOk, length, map};
 ghost use Rattle.sj_check.specs.Held.{file_in};
-ghost use Rattle.sj_core.specs.World.{history_of, kept_file, party_count, world_at};
+ghost use Rattle.sj_core.specs.World.{history_of, world_at};
 ghost use Rattle.sj_end.specs.Lines.{line_at};
 ghost use Rattle.sj_lang.specs.FileView.{file_of};
 ghost use Rattle.sj_lang.specs.Limits.{source_limit};
 ghost use Rattle.sj_log.specs.LogText.{SpellsLog};
-ghost use Rattle.sj_plain.specs.Kept.{without_words};
-ghost use Rattle.sj_rules.specs.History.{IsHistory};
 ghost use Rattle.sj_command.specs.declared.tasks.Task.TheVariants as tasks;
 ghost use Rattle.sj_tool.specs.Calls.{LinkUseAt};
 ghost use Rattle.sj_tool.specs.Tasks.{Replays};
-ghost use Rattle.sj_tool.specs.Replays.{IsRefusedBy, IsStopped};
+ghost use Rattle.sj_tool.specs.Replays.{IsRefusedBy};
 ghost use Rattle.sj_tool.specs.Runs.{HasHistory, HasRun};
 
 use crate::playing::told;
@@ -52,6 +50,28 @@ impl From<NoMemory> for ReplayFault {
     }
 }
 
+impl From<ReplayRefusal> for ReplayFault {
+    ghost use Rattle.std.specs.Prelude.{◌≡◌};
+    ghost use Rattle.sj_tool.specs.Replays.{replay_fault};
+
+    ghost from_gives = { λ refusal e. e ≡ replay_fault refusal };
+
+    fn from(refusal: ReplayRefusal) -> Self {
+        match refusal {
+            ReplayRefusal::Misfit {
+                number,
+                logged,
+                due,
+            } => ReplayFault::Entry {
+                number,
+                logged,
+                due,
+            },
+            ReplayRefusal::NoMemory => ReplayFault::NoMemory,
+        }
+    }
+}
+
 /// How the file ends, and what the task prints of the history that begins with the log, and goes on
 /// with what is drained of it.
 pub(crate) fn replayed(
@@ -79,7 +99,10 @@ fn drained(alloc: Global, accepted: &Accepted, log: &[u8]) -> Result<World, Repl
     ensures refused { IfErr result (IsRefusedBy (file_of (file_in accepted.now)) log.now) }
 {
     let lines = lines_of(alloc, accepted, log)?;
-    let mut world = started(alloc, accepted, lines)?;
+    let mut world = match World::replayed(alloc, accepted, lines) {
+        Ok(world) => world,
+        Err(refusal) => return Err(ReplayFault::from(refusal)),
+    };
     world.drain()?;
     Ok(world)
 }
@@ -94,30 +117,5 @@ fn lines_of(alloc: Global, accepted: &Accepted, log: &[u8]) -> Result<Vec<Line>,
         Ok(lines) => Ok(lines),
         Err(LogRefusal::At { rule, line }) => Err(ReplayFault::Text { rule, line }),
         Err(LogRefusal::NoMemory) => Err(ReplayFault::NoMemory),
-    }
-}
-
-// The core world to which the lines lead from the file's start on.
-fn started(alloc: Global, accepted: &Accepted, lines: Vec<Line>) -> Result<World, ReplayFault>
-    ensures kept { IfOk result (λ w. kept_file w ≡ without_words (file_of (file_in accepted.now))) }
-    ensures history { IfOk result (λ w. history_of w ≡ map line_at lines.items) }
-    ensures run { IfOk result (λ w. IsHistory max (kept_file w) (history_of w) (world_at w)) }
-    ensures parties { IfOk result (λ w. party_count w ≡ length (kept_file w).parties) }
-    ensures stopped { IfErr result (IsStopped (file_of (file_in accepted.now)) (map line_at lines.items)) }
-{
-    match World::replayed(alloc, accepted, lines) {
-        Ok(world) => Ok(world),
-        Err(
-            ReplayRefusal::Misfit {
-                number,
-                logged,
-                due,
-            },
-        ) => Err(ReplayFault::Entry {
-            number,
-            logged,
-            due,
-        }),
-        Err(ReplayRefusal::NoMemory) => Err(ReplayFault::NoMemory),
     }
 }

@@ -63,7 +63,10 @@ fn drained<R: Threads + Sync, L: Links, G: Gate>(
     ensures damaged { IfErr result (IsDamagedSo (file_of (file_in accepted.now))) }
     ensures telling { IfErr result (λ r. IsDamaged r → L.tells links.old ≡ true → ⊥) }
 {
-    let mut world = run_parties(rt, alloc, accepted, looks_in(task), links, gate)?;
+    let mut world = match run_parties(rt, alloc, accepted, looks_in(task), links, gate) {
+        Ok(world) => world,
+        Err(refusal) => return Err(refusal),
+    };
     world.drain()?;
     Ok(world)
 }

@@ -22,6 +22,3 @@ pub use laws::{
     any_pieces_give_the_same_frames, no_spelling_begins_another, what_is_read_is_spelt_so,
 };
 pub use refusal::{EncodeRefusal, WireRefusal};
-
-#[cfg(test)]
-mod tests;

@@ -10,11 +10,11 @@ use Rattle.sj_semantics.specs.Program.{Program}
 use Rattle.sj_rules.specs.Node.{NodeAt}
 use Rattle.sj_rules.specs.Mapped.{frame_with, main_with, old_with}
 use Rattle.sj_rules.specs.Record.{MainAt, Held, Closed, Expected}
-use Rattle.sj_rules.specs.Halts.{is_expected}
+use Rattle.sj_rules.specs.Halts.{is_delegated_enough, is_expected, lacks_message}
 use Rattle.sj_node.specs.declared.node.Node.{Node}
 use Rattle.sj_node.specs.declared.refusal.Halt.{Halt}
 use Rattle.sj_node.specs.declared.refusal.Halt.TheVariants as halts
-use Rattle.sj_node.specs.Halts.{hold_up, is_worn_out, lacks_message, names_awaited, stop_by, stop_wanting}
+use Rattle.sj_node.specs.Halts.{hold_up, names_awaited, stop_by, stop_wanting}
 use Rattle.sj_node.specs.Node.{node_at, outbox_of, steps_of, stop_of, wants_of}
 use Rattle.sj_node.specs.Outs.{waiting_in}
 use Rattle.sj_node.specs.Play.{next_want}
@@ -33,11 +33,11 @@ module _ {P R : Type 0} (f : P → R) where
   awaited_with (Some (Closed c)) = refl
   awaited_with (Some (Expected keeper place deferred)) = refl
 
-  worn_with : (r : Option (MainAt P)) → is_worn_out (option_map (main_with f) r) ≡ is_worn_out r
-  worn_with None = refl
-  worn_with (Some (Held h)) = refl
-  worn_with (Some (Closed c)) = refl
-  worn_with (Some (Expected keeper place deferred)) = refl
+  enough_with : (r : Option (MainAt P)) → is_delegated_enough (option_map (main_with f) r) ≡ is_delegated_enough r
+  enough_with None = refl
+  enough_with (Some (Held h)) = refl
+  enough_with (Some (Closed c)) = refl
+  enough_with (Some (Expected keeper place deferred)) = refl
 
   lacks_with : (r : Option (MainAt P)) → lacks_message (option_map (main_with f) r) ≡ lacks_message r
   lacks_with None = refl
@@ -56,7 +56,7 @@ module _ {P R : Type 0} (f : P → R) where
   up_with : (main : EndId → Option (MainAt P)) (want : Want) → hold_up (λ e. option_map (main_with f) (main e)) want ≡ hold_up main want
   up_with main wants.Local = refl
   up_with main (wants.Send e m) = refl
-  up_with main (wants.Delegate e y) = ap (λ b. if b then Some halts.AtLimit else None) (worn_with (main y))
+  up_with main (wants.Delegate e y) = ap (λ b. if b then Some halts.AtLimit else None) (enough_with (main y))
   up_with main (wants.Take e a) = ap (λ b. if b then Some halts.Waits else None) (lacks_with (main e))
   up_with main (wants.Close e) = refl
   up_with main wants.Ended = refl
@@ -92,7 +92,7 @@ if_halted false h o halted rest = rest
 up_halted : {P : Type 0} (main : EndId → Option (MainAt P)) (want : Want) → (hold_up main want ≡ None) ⊎ IsHalted (hold_up main want)
 up_halted main wants.Local = inl refl
 up_halted main (wants.Send e m) = inl refl
-up_halted main (wants.Delegate e y) = if_halted (is_worn_out (main y)) halts.AtLimit None tt (inl refl)
+up_halted main (wants.Delegate e y) = if_halted (is_delegated_enough (main y)) halts.AtLimit None tt (inl refl)
 up_halted main (wants.Take e a) = if_halted (lacks_message (main e)) halts.Waits None tt (inl refl)
 up_halted main (wants.Close e) = inl refl
 up_halted main wants.Ended = inl refl

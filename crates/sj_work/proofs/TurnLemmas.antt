@@ -151,16 +151,17 @@ module _ {O I : Type 0} (k : LaneLaws O I) where
 
   -- a frame that was popped, and delivered or lost
   pub frame_came : (a b : Worker O I) (from : ℕ) (f : Frame) (i j : I) (r : Option Answer) → IsGoing a → Comes from f a.node b.node r → b.answer ≡ r → b.lanes.outs.items ≡ a.lanes.outs.items
-      → in_of a from ≡ Some i → b.lanes.ins.items ≡ set a.lanes.ins.items from j → InDid k i j (told_frame f ∷ []) → (looks : ℕ) → TurnedBy k looks a b
-  frame_came a b from f i j r goes came is outs at put did = by r came is
+      → in_of a from ≡ Some i → b.lanes.ins.items ≡ set a.lanes.ins.items from j → InDid k i j (told_frame f ∷ []) → from < parties_of a.node → clock_of a.node < clock_end
+      → (looks : ℕ) → TurnedBy k looks a b
+  frame_came a b from f i j r goes came is outs at put did within before = by r came is
     where
       delivered : Delivered from f a.node b.node → WentBy k None a b
       delivered does =
           went_came k a b from (frame_with (place_in a.node.table) (frame_at f)) i j (came_stepped a.node b.node from (frame_at f) does) outs at put
-          (subst (λ (m : FrameAt Place). InDid k i j (m ∷ [])) (sym (told_with (place_in a.node.table) (frame_at f))) did)
+          (subst (λ (m : FrameAt Place). InDid k i j (m ∷ [])) (sym (told_with (place_in a.node.table) (frame_at f))) did) within before
 
       lost_so : Stays a.node b.node → WentBy k (Some (record { party = from; frame = told_frame f })) a b
-      lost_so s = went_lost k a b from (told_frame f) i j (stays_quiet a.node b.node s) s.posts outs at put did
+      lost_so s = went_lost k a b from (told_frame f) i j (stays_quiet a.node b.node s) s.posts outs at put did within before
 
       by : (r : Option Answer) → Comes from f a.node b.node r → b.answer ≡ r → (looks : ℕ) → TurnedBy k looks a b
       by None c is = turned_on a b (delivered c.0) (ap stop_in is) c.1
@@ -169,7 +170,7 @@ module _ {O I : Type 0} (k : LaneLaws O I) where
           turned_off a b (Some (record { party = from; frame = told_frame f })) stops.NoMemory looks (ap stop_in is) (λ e. cc e) (stays_open a b goes c) (lost_so c) tt tt
       by (Some (answers.Unfit line)) c is = λ looks.
           turned_off a b (Some (record { party = from; frame = told_frame f })) stops.Unfit looks (ap stop_in is) (λ e. cc e) (stays_open a b goes c.0) (lost_so c.0) tt
-          (arrives_told b.node from f ∙ delivery_same a.node b.node from f c.0 ∙ c.1, ap line_in is ∙ ap Some c.2)
+          (subst (λ (n : ℕ). from < n) (sym c.0.parties) within, arrives_told b.node from f ∙ delivery_same a.node b.node from f c.0 ∙ c.1, ap line_in is ∙ ap Some c.2)
       by (Some answers.Idle) c is = absurd c
       by (Some answers.AtLimit) c is = absurd c
       by (Some answers.ClockEnd) c is = absurd c

@@ -1,5 +1,5 @@
 -- How a worker went: by an event, by none, and one after the other.
-use Rattle.std.proofs.Common.{◌≡◌, ℕ, max, true, false, if◌then◌else◌, List, [], ◌∷◌, ◌++◌, map, Option, Some, None, refl, ap, sym, ◌∙◌, arith, subst, append-nil}
+use Rattle.std.proofs.Common.{◌≡◌, ℕ, ◌<◌, ◌≤◌, max, true, false, if◌then◌else◌, List, [], ◌∷◌, ◌++◌, map, Option, Some, None, refl, ap, sym, ◌∙◌, arith, subst, append-nil}
 use Rattle.std.specs.Prelude.{◌==◌, slice_get}
 use Rattle.std.specs.List.{cons_option}
 use Rattle.std.proofs.Math.ListN.{set}
@@ -15,11 +15,13 @@ use Rattle.sj_rules.specs.Node.{Play}
 use Rattle.sj_rules.specs.NodeRun.{Deed, Acted, Came, frame_from, frame_told, told_frames}
 use Rattle.sj_rules.specs.Work.{InStep, LaneWork, LostAt, OutStep, lost_from}
 use Rattle.sj_joined_laws.proofs.LaneWorkLemmas.{event_lane_work, in_itself, lane_work_later, quiet_lane_work}
+use Rattle.sj_rules.specs.Limits.{clock_end}
 use Rattle.sj_lane.specs.Told.{told_frame}
+use Rattle.sj_lane.proofs.CellLemmas.{get_set_other}
 use Rattle.sj_node.specs.declared.node.Node.{Node}
-use Rattle.sj_node.specs.Node.{outbox_of, play_of}
+use Rattle.sj_node.specs.Node.{clock_of, outbox_of, play_of}
 use Rattle.sj_node.specs.Outs.{waiting_in}
-use Rattle.sj_node.specs.Reading.{TakesOut, outs_of, party_of}
+use Rattle.sj_node.specs.Reading.{TakesOut, outs_of, parties_of, party_of}
 use Rattle.sj_work.specs.declared.worker.Answer.{Answer}
 use Rattle.sj_work.specs.declared.worker.Worker.{Worker}
 use Rattle.sj_work.specs.Counts.{OnLane, Stands, Stood}
@@ -35,6 +37,12 @@ if_same k x y = let t : (k == k) ≡ true = grind (arith, nat_tests) in rw t ref
 
 if_other : {X : Type 0} (n k : ℕ) (x y : X) → (n ≡ k → ⊥) → (if n == k then x else y) ≡ y
 if_other n k x y h = let t : (n == k) ≡ false = grind (arith, nat_tests) in rw t refl
+
+not_both : (x y : ℕ) → x < y → y ≤ x → ⊥
+not_both x y lt le = absurd (omega arith)
+
+apart : (from q n : ℕ) → from < n → n ≤ q → q ≡ from → ⊥
+apart from q n lt le is = absurd (omega arith)
 
 -- an outbox as lanes tell it
 abbrev box_of : {O I : Type 0} → Worker O I → ℕ → List (FrameAt Place)
@@ -55,6 +63,8 @@ module _ {O I : Type 0} (k : LaneLaws O I) where
     steps : (q : ℕ) → InStep k.popped k.same_in (in_of a q) (in_of b q) (ts q)
     faults : (q : ℕ) → OnLane k.in_faults Stands (in_of a q) (in_of b q)
     vain : (q : ℕ) → OnLane k.in_vain Stood (in_of a q) (in_of b q)
+    beyond : (q : ℕ) → parties_of a.node ≤ q → in_of b q ≡ in_of a q
+    at_end : clock_end ≤ clock_of a.node → (q : ℕ) → in_of b q ≡ in_of a q
 
   faults_alone : (a b : List O) → b ≡ a → (q : ℕ) → OnLane k.out_faults Stands (slice_get a q) (slice_get b q)
   faults_alone a b same q = subst (λ (xs : List O). OnLane k.out_faults Stands (slice_get a q) (slice_get xs q)) (sym same) (on_itself k.out_faults Stands stands_itself (slice_get a q))
@@ -89,18 +99,22 @@ module _ {O I : Type 0} (k : LaneLaws O I) where
     steps = λ q. subst (λ (xs : List I). InStep k.popped k.same_in (in_of a q) (slice_get xs q) []) (sym same) (in_itself k.popped k.same_in k.in_itself k.in_later (in_of a q));
     faults = λ q. subst (λ (xs : List I). OnLane k.in_faults Stands (in_of a q) (slice_get xs q)) (sym same) (on_itself k.in_faults Stands stands_itself (in_of a q));
     vain = λ q. subst (λ (xs : List I). OnLane k.in_vain Stood (in_of a q) (slice_get xs q)) (sym same) (on_itself k.in_vain Stood stood_itself (in_of a q));
+    beyond = λ q past. ap (λ (xs : List I). slice_get xs q) same;
+    at_end = λ over q. ap (λ (xs : List I). slice_get xs q) same;
   }
 
   -- from one of them these frames came
   ins_put : (a b : Worker O I) (from : ℕ) (i j : I) (ts : ℕ → List (FrameAt Place)) → in_of a from ≡ Some i → b.lanes.ins.items ≡ set a.lanes.ins.items from j → InDid k i j (ts from)
-      → ((q : ℕ) → (q ≡ from → ⊥) → ts q ≡ []) → InsWent a b ts
-  ins_put a b from i j ts at put did others = record {
+      → ((q : ℕ) → (q ≡ from → ⊥) → ts q ≡ []) → from < parties_of a.node → clock_of a.node < clock_end → InsWent a b ts
+  ins_put a b from i j ts at put did others within before = record {
     steps = λ q. subst (λ (xs : List I). InStep k.popped k.same_in (in_of a q) (slice_get xs q) (ts q)) (sym put)
         (in_put k.popped k.same_in k.in_itself k.in_later a.lanes.ins.items from q i j ts at (did.same, did.told) others);
     faults = λ q. subst (λ (xs : List I). OnLane k.in_faults Stands (in_of a q) (slice_get xs q)) (sym put)
         (on_put k.in_faults Stands stands_itself a.lanes.ins.items from q i j at did.faults);
     vain = λ q. subst (λ (xs : List I). OnLane k.in_vain Stood (in_of a q) (slice_get xs q)) (sym put)
         (on_put k.in_vain Stood stood_itself a.lanes.ins.items from q i j at did.vain);
+    beyond = λ q past. ap (λ (xs : List I). slice_get xs q) put ∙ get_set_other a.lanes.ins.items from q j (apart from q (parties_of a.node) within past);
+    at_end = λ over q. absurd (not_both (clock_of a.node) clock_end before over);
   }
 
   -- an event, in which the lanes to parties are left alone
@@ -118,6 +132,8 @@ module _ {O I : Type 0} (k : LaneLaws O I) where
     vain_out = vain_alone a.lanes.outs.items b.lanes.outs.items outs;
     faults_in = ins.faults;
     vain_in = ins.vain;
+    beyond = ins.beyond;
+    at_end = ins.at_end;
   }
 
   -- no event
@@ -132,6 +148,8 @@ module _ {O I : Type 0} (k : LaneLaws O I) where
     vain_out = outs.vain;
     faults_in = ins.faults;
     vain_in = ins.vain;
+    beyond = ins.beyond;
+    at_end = ins.at_end;
   }
 
   -- an act
@@ -140,12 +158,12 @@ module _ {O I : Type 0} (k : LaneLaws O I) where
 
   -- a frame that was popped and delivered
   pub went_came : (a b : Worker O I) (from : ℕ) (f : FrameAt Place) (i j : I) → Stepped a.node b.node (Came from f) → b.lanes.outs.items ≡ a.lanes.outs.items
-      → in_of a from ≡ Some i → b.lanes.ins.items ≡ set a.lanes.ins.items from j → InDid k i j (frame_told done f ∷ []) → WentBy k None a b
-  went_came a b from f i j s outs at put did =
+      → in_of a from ≡ Some i → b.lanes.ins.items ≡ set a.lanes.ins.items from j → InDid k i j (frame_told done f ∷ []) → from < parties_of a.node → clock_of a.node < clock_end → WentBy k None a b
+  went_came a b from f i j s outs at put did within before =
       let ts : ℕ → List (FrameAt Place) = λ q. cons_option (frame_from done q (Came from f)) [] in
       let own : ts from ≡ frame_told done f ∷ [] = ap (λ o. cons_option o []) (if_same from (Some (frame_told done f)) None) in
       event a b (Came from f) s outs
-      (ins_put a b from i j ts at put (subst (λ (l : List (FrameAt Place)). InDid k i j l) (sym own) did) (λ q h. ap (λ o. cons_option o []) (if_other q from (Some (frame_told done f)) None h)))
+      (ins_put a b from i j ts at put (subst (λ (l : List (FrameAt Place)). InDid k i j l) (sym own) did) (λ q h. ap (λ o. cons_option o []) (if_other q from (Some (frame_told done f)) None h)) within before)
 
   -- a worker whose node and lanes are left alone
   pub went_still : (a b : Worker O I) → Quiet a.node b.node → ((q : ℕ) → outbox_of b.node q ≡ outbox_of a.node q) → b.lanes ≡ a.lanes → WentBy k None a b
@@ -158,19 +176,20 @@ module _ {O I : Type 0} (k : LaneLaws O I) where
 
   -- a pop that gave nothing
   pub went_vain : (a b : Worker O I) (from : ℕ) (i j : I) → b.node ≡ a.node → b.lanes.outs.items ≡ a.lanes.outs.items
-      → in_of a from ≡ Some i → b.lanes.ins.items ≡ set a.lanes.ins.items from j → InDid k i j [] → WentBy k None a b
-  went_vain a b from i j node outs at put did =
+      → in_of a from ≡ Some i → b.lanes.ins.items ≡ set a.lanes.ins.items from j → InDid k i j [] → from < parties_of a.node → clock_of a.node < clock_end → WentBy k None a b
+  went_vain a b from i j node outs at put did within before =
       still a b None (subst (λ (n : Node). Quiet a.node n) (sym node) (quiet_itself a.node))
       (outs_alone a b (λ q. ap (λ (n : Node). told_frames done (outbox_of n q)) node) outs)
-      (ins_put a b from i j (λ q. []) at put did (λ q h. refl))
+      (ins_put a b from i j (λ q. []) at put did (λ q h. refl) within before)
 
   -- a frame that was popped and refused
   pub went_lost : (a b : Worker O I) (from : ℕ) (f : FrameAt Place) (i j : I) → Quiet a.node b.node → ((q : ℕ) → outbox_of b.node q ≡ outbox_of a.node q) → b.lanes.outs.items ≡ a.lanes.outs.items
-      → in_of a from ≡ Some i → b.lanes.ins.items ≡ set a.lanes.ins.items from j → InDid k i j (f ∷ []) → WentBy k (Some (record { party = from; frame = f })) a b
-  went_lost a b from f i j n box outs at put did =
+      → in_of a from ≡ Some i → b.lanes.ins.items ≡ set a.lanes.ins.items from j → InDid k i j (f ∷ []) → from < parties_of a.node → clock_of a.node < clock_end
+      → WentBy k (Some (record { party = from; frame = f })) a b
+  went_lost a b from f i j n box outs at put did within before =
       let own : lost_from (Some (record { party = from; frame = f })) from ≡ f ∷ [] = if_same from (f ∷ []) [] in
       still a b (Some (record { party = from; frame = f })) n (outs_alone a b (λ q. ap (told_frames done) (box q)) outs)
-      (ins_put a b from i j (lost_from (Some (record { party = from; frame = f }))) at put (subst (λ (l : List (FrameAt Place)). InDid k i j l) (sym own) did) (λ q h. if_other q from (f ∷ []) [] h))
+      (ins_put a b from i j (lost_from (Some (record { party = from; frame = f }))) at put (subst (λ (l : List (FrameAt Place)). InDid k i j l) (sym own) did) (λ q h. if_other q from (f ∷ []) [] h) within before)
 
   -- pushes to one party
   pushes : (a b : Worker O I) (to : ℕ) (o p : O) (now : List (FrameAt Place)) → Quiet a.node b.node → out_of a to ≡ Some o → b.lanes.outs.items ≡ set a.lanes.outs.items to p
@@ -216,6 +235,8 @@ module _ {O I : Type 0} (k : LaneLaws O I) where
     vain_out = λ q. on_later k.out_vain Stood Stood Stood stood_more (out_of a q) (out_of b q) (out_of c q) (x.vain_out q) (y.vain_out q);
     faults_in = λ q. on_later k.in_faults Stands Stands Stands stands_more (in_of a q) (in_of b q) (in_of c q) (x.faults_in q) (y.faults_in q);
     vain_in = λ q. on_later k.in_vain Stood Stood Stood stood_more (in_of a q) (in_of b q) (in_of c q) (x.vain_in q) (y.vain_in q);
+    beyond = λ q past. y.beyond q (subst (λ (n : ℕ). n ≤ q) (sym x.parties) past) ∙ x.beyond q past;
+    at_end = λ over q. y.at_end (stands_more clock_end (clock_of a.node) (clock_of b.node) over x.clock) q ∙ x.at_end over q;
   }
 
   -- what touches neither node nor lanes
@@ -230,4 +251,6 @@ module _ {O I : Type 0} (k : LaneLaws O I) where
     vain_out = x.vain_out;
     faults_in = x.faults_in;
     vain_in = x.vain_in;
+    beyond = x.beyond;
+    at_end = x.at_end;
   }

@@ -42,6 +42,13 @@ own_line n entry = record { party = party_of n; entry = entry }
 abbrev pub lost_line : Node → LostAt Place → Line
 lost_line n l = own_line n (record { clock = max (clock_of n) (min l.frame.clock clock_end) + 1; event = events.Deliver l.party; note = note_at l.frame.body })
 
+-- the frame that was lost came from a party of the file and fits no row of the rules; or none was lost, nothing holds the party up,
+-- and the rules have no act. The line is that of the delivery, or of the entry that is due
+abbrev pub IsUnfit : Option (LostAt Place) → Node → Option Line → Type 0
+IsUnfit (Some l) n line =
+    (l.party < parties_of n) × (arrives (parties_of n) max (node_at n) l.party l.frame ≡ None) × (line ≡ Some (lost_line n l))
+IsUnfit None n line = (nodes.stop_of n ≡ None) × (act_of n ≡ None) × (line ≡ option_map (own_line n) (due_of n))
+
 module _ {O I : Type 0} where
   -- the calls in vain on the lane from each party rose by so many
   abbrev pub InVain : (in_vain : I → ℕ) → ℕ → (old new : Worker O I) → Type 0
@@ -73,16 +80,6 @@ module _ {O I : Type 0} where
   abbrev pub MetFault : (out_faults : O → ℕ) (in_faults : I → ℕ) → (old new : Worker O I) → Type 0
   MetFault out_faults in_faults old new = SomeRose out_faults (out_of old) (out_of new) ⊎ SomeRose in_faults (in_of old) (in_of new)
 
-  -- the frame that was lost fits no row of the rules; or none was lost, nothing holds the party up, and the rules have no act
-  abbrev pub IsUnfit : Option (LostAt Place) → Worker O I → Type 0
-  IsUnfit (Some l) new =
-      (arrives (parties_of (node_of new)) max (node_at (node_of new)) l.party l.frame ≡ None)
-      × (unfit_of new ≡ Some (lost_line (node_of new) l))
-  IsUnfit None new =
-      (nodes.stop_of (node_of new) ≡ None)
-      × (act_of (node_of new) ≡ None)
-      × (unfit_of new ≡ option_map (own_line (node_of new)) (due_of (node_of new)))
-
 module _ {O I : Type 0} (out_faults out_vain : O → ℕ) (in_faults in_vain : I → ℕ) where
   -- the cause of each answer; want of memory alone is free
   abbrev pub Cause : Option Stop → (looks : ℕ) → Option (LostAt Place) → (old new : Worker O I) → Type 0
@@ -93,4 +90,4 @@ module _ {O I : Type 0} (out_faults out_vain : O → ℕ) (in_faults in_vain : I
   Cause (Some stops.ClockEnd) looks lost old new = IsClockEnd new
   Cause (Some stops.NoMemory) looks lost old new = ⊤
   Cause (Some stops.Fault) looks lost old new = MetFault out_faults in_faults old new
-  Cause (Some stops.Unfit) looks lost old new = IsUnfit lost new
+  Cause (Some stops.Unfit) looks lost old new = IsUnfit lost (node_of new) (unfit_of new)

@@ -2,6 +2,7 @@
 use Rattle.std.specs.Prelude.{◌≡◌, ◌↔◌, ℕ, ◌≤◌, max, List, IsSome, Option, Some, None}
 use Rattle.sj_lang.specs.Place.{Place, done}
 use Rattle.sj_rules.specs.Frames.{FrameAt}
+use Rattle.sj_rules.specs.Limits.{clock_end}
 use Rattle.sj_rules.specs.Work.{LaneWork, LostAt}
 use Rattle.sj_node.specs.Node.{clock_of, play_of}
 use Rattle.sj_node.specs.Reading.{IsFinished, parties_of, party_of}
@@ -23,7 +24,8 @@ kept_stop _ = None
 module _ {O I : Type 0} (pushed : O → Option (List (FrameAt Place))) (out_faults out_vain : O → ℕ) (same_out : O → O → Type 0)
     (popped : I → Option (List (FrameAt Place))) (in_faults in_vain : I → ℕ) (same_in : I → I → Type 0) where
   -- the worker went by steps of the rules, which its log has, and by the frames that its lanes tell; its party plays the same
-  -- part, its clock didn't fall, and no count of a lane did
+  -- part, its clock didn't fall, and no count of a lane did; lanes from no party of the file stay as they are, and where the
+  -- clock stands at its end, so do all lanes from parties
   pub record Went (lost : Option (LostAt Place)) (old new : Worker O I) : Type 0 where
     pub work : LaneWork pushed same_out popped same_in (play_of (node_of old)) max done (party_of (node_of old)) (laned old) (laned new) lost
     pub play : play_of (node_of new) ≡ play_of (node_of old)
@@ -34,6 +36,8 @@ module _ {O I : Type 0} (pushed : O → Option (List (FrameAt Place))) (out_faul
     pub vain_out : (q : ℕ) → OnLane out_vain Stood (out_of old q) (out_of new q)
     pub faults_in : (q : ℕ) → OnLane in_faults Stands (in_of old q) (in_of new q)
     pub vain_in : (q : ℕ) → OnLane in_vain Stood (in_of old q) (in_of new q)
+    pub beyond : (q : ℕ) → parties_of (node_of old) ≤ q → in_of new q ≡ in_of old q
+    pub at_end : clock_end ≤ clock_of (node_of old) → (q : ℕ) → in_of new q ≡ in_of old q
 
   -- so it went, and its stop, if it has one, has its cause: it has finished exactly where that is the stop, and a frame
   -- is lost only with a stop that says so

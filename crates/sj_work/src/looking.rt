@@ -2,6 +2,7 @@
 ghost use Rattle.std.specs.Prelude.{◌≡◌, ◌<◌, IsFalse, IsTrue, None};
 ghost use Rattle.sj_lane.specs.Told.{told_frame};
 ghost use Rattle.sj_node.specs.Node.{clock_of};
+ghost use Rattle.sj_node.specs.Reading.{parties_of};
 ghost use Rattle.sj_work.specs.Answers.{Comes, delivery_answer};
 ghost use Rattle.sj_work.specs.Causes.{InVain};
 ghost use Rattle.sj_work.specs.Counts.{OnLane, RoseBy};
@@ -49,7 +50,8 @@ fn deliver<G: Gate>(node: &mut Node, from: u16, frame: Frame, gate: &G) -> Optio
 
 /// One pop, and its delivery. Answers whether a frame came.
 fn look<O: OutLane, I: InLane, G: Gate>(worker: &mut Worker<O, I>, from: u16, gate: &G) -> bool
-    requires { IsGoing worker.old }
+    requires goes { IsGoing worker.old }
+    requires party { from < parties_of (node_of worker.old) }
     ensures turns { Turns O.pushed O.faults O.vain O.same I.popped I.faults I.vain I.same worker.old worker.new }
     ensures event { IsTrue result → stop_of worker.new ≡ None → clock_of (node_of worker.old) < clock_of (node_of worker.new) }
     ensures rests { IsFalse result → node_of worker.new ≡ node_of worker.old }

@@ -1,7 +1,7 @@
 -- What the frames of a session carry, and what waits at a Held end.
-use Rattle.std.proofs.Common.{◌≡◌, ℕ, ◌+◌, List, [], ◌∷◌, ◌++◌, length, refl, sym, ap, ◌∙◌, append-nil, inl, inr}
+use Rattle.std.proofs.Common.{◌≡◌, ℕ, ◌+◌, List, [], ◌∷◌, ◌++◌, length, refl, sym, ap, ◌∙◌, subst, append-nil, inl, inr}
 use Rattle.std.specs.Prelude.{Bool, true, false, ◌⊎◌, ◌&&◌, ◌==◌, Option, Some, None}
-use Rattle.std.specs.List.{filter}
+use Rattle.std.specs.List.{filter, AllByRecursion}
 use Rattle.std.proofs.lemmas.Bool.{eqb-true, eqb-false, eq-eqb, ne_eqb}
 use Rattle.std.proofs.lemmas.List.Elements.{filter_map-append}
 use Rattle.sj_base.specs.declared.EndId.{EndId}
@@ -10,7 +10,7 @@ use Rattle.sj_rules.specs.Record.{BodyAt, Carry, Fin, Claim, Signal, Ack, Give, 
 use Rattle.sj_rules.specs.Seat.{Seat, held, parked, claimed, signalled, given, closed, gone}
 use Rattle.sj_rules.specs.Shown.{goes_to}
 use Rattle.sj_rules.specs.PlainSide.{PlainSide, untaken_of, IsFront}
-use Rattle.sj_rules.specs.Flowing.{carries_under, carried_under}
+use Rattle.sj_rules.specs.Flowing.{IsUnder, carries_under, carried_under}
 use Rattle.sj_rules.specs.Numbers.{Pace, level, ahead, behind, by_ack, by_signal, NumbersFit}
 use Rattle.sj_rules.specs.Streams.{AreCarries, ComesWhole, ComesToHeld, mark_of}
 use Rattle.sj_rules.specs.Coming.{Comes}
@@ -84,6 +84,40 @@ pub whole_carries : {P : Type 0} → (to : EndId) (conn number low high sent tak
 whole_carries {P} to conn number low high sent taken s ms frames w =
     ap (carries_under to conn) w.split ∙ carries_append to conn w.carries (mark_of to conn sent taken s)
     ∙ rw (carries_are to conn number low high ms w.carries w.are, mark_empty to conn sent taken s) (append-nil ms)
+
+-- Carries go to their end under their number, and a mark is no Carry
+are_under : {P : Type 0} → (to : EndId) (conn number low high : ℕ) (ms : List Msg) (bs : List (BodyAt P)) →
+    AreCarries to conn number low high ms bs → AllByRecursion (IsUnder to conn) bs
+are_under to conn number low high [] [] a = tt
+are_under to conn number low high [] (b ∷ bs) a = absurd a
+are_under to conn number low high (m ∷ ms) [] a = absurd a
+are_under to conn number low high (m ∷ ms) (b ∷ bs) a =
+    (subst (IsUnder to conn) (sym a.2) (refl, refl), are_under to conn (number + 1) a.0 high ms bs a.3)
+
+mark_under : {P : Type 0} → (to : EndId) (conn sent taken : ℕ) (s : Seat P) → AllByRecursion (IsUnder to conn) (mark_of to conn sent taken s)
+mark_under to conn sent taken (held a h) = tt
+mark_under to conn sent taken (parked a e) = tt
+mark_under to conn sent taken (claimed a t e) = tt
+mark_under to conn sent taken (signalled a t e ds) = (tt, tt)
+mark_under to conn sent taken (given a t e r ds) = tt
+mark_under to conn sent taken (closed a e) = (tt, tt)
+mark_under to conn sent taken gone = (tt, tt)
+
+all_front : {A : Type 0} → (T : A → Type 0) (a b : List A) → AllByRecursion T (a ++ b) → AllByRecursion T a
+all_front T [] b h = tt
+all_front T (x ∷ a) b h = (h.0, all_front T a b h.1)
+
+all_joined : {A : Type 0} → (T : A → Type 0) (a b : List A) → AllByRecursion T a → AllByRecursion T b → AllByRecursion T (a ++ b)
+all_joined T [] b h k = k
+all_joined T (x ∷ a) b h k = (h.0, all_joined T a b h.1 k)
+
+-- of what comes whole all Carries go under that number, so those of its front do
+pub whole_under : {P : Type 0} → (to : EndId) (conn number low high sent taken : ℕ) (s : Seat P) (ms : List Msg) (front rest : List (BodyAt P)) →
+    ComesWhole to conn number low high (mark_of to conn sent taken s) ms (front ++ rest) → AllByRecursion (IsUnder to conn) front
+whole_under to conn number low high sent taken s ms front rest w =
+    let carries = are_under to conn number low high ms w.carries w.are in
+    let both = all_joined (IsUnder to conn) w.carries (mark_of to conn sent taken s) carries (mark_under to conn sent taken s) in
+    all_front (IsUnder to conn) front rest (subst (AllByRecursion (IsUnder to conn)) (sym w.split) both)
 
 -- a Held end: what is untaken, and what comes behind it, is what waits
 pub held_carries : {P : Type 0} → (to : EndId) (h : HeldAt P) (waiting : List Msg) (taken high sent : ℕ) (over : Bool) (s : Seat P) (live : List (BodyAt P)) →

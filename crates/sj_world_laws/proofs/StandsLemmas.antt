@@ -9,7 +9,7 @@ use Rattle.sj_rules.specs.World.{WorldAt}
 use Rattle.sj_rules.specs.Seat.{Seat, held, parked, claimed, signalled, given, closed, gone, taker_of, coming_of, source_for, sender_of, conn_of, side_of}
 use Rattle.sj_rules.specs.Shown.{Shows, bodies, goes_to, is_lane, old_in}
 use Rattle.sj_rules.specs.PlainSide.{PlainSide, untaken_of}
-use Rattle.sj_rules.specs.Flowing.{carries_under, IsFlowing, HasSign, CanResend, IsOwed, IsTold, party_of, lane_from}
+use Rattle.sj_rules.specs.Flowing.{FlowsDeferred, carries_under, IsFlowing, HasSign, CanResend, IsOwed, IsTold, party_of, lane_from}
 use Rattle.sj_rules.specs.Numbers.{Pace, level, ahead, behind, by_ack, by_signal, turned, NumbersFit, IsNoGive, is_over}
 use Rattle.sj_rules.specs.Streams.{ComesWhole, ComesToHeld, mark_for}
 use Rattle.sj_rules.specs.Coming.{Comes, AreOld, comes_low}
@@ -20,7 +20,7 @@ use Rattle.sj_world_laws.proofs.SwapLemmas.{IsThere, source_is_peer}
 use Rattle.sj_world_laws.proofs.PaceLemmas.{numbers_ahead, numbers_behind}
 use Rattle.sj_world_laws.proofs.LeaveLemmas.{there_beside}
 use Rattle.sj_world_laws.proofs.QuietLemmas.{not_next}
-use Rattle.sj_world_laws.proofs.FlowLemmas.{carries_seen, carries_append, whole_carries, held_carries}
+use Rattle.sj_world_laws.proofs.FlowLemmas.{carries_seen, carries_append, whole_carries, whole_under, held_carries}
 use Rattle.sj_world_laws.proofs.ToldLemmas.{all_told, live_told, old_told, loose_has, whole_has}
 
 -- a key fits itself
@@ -107,13 +107,22 @@ module _ {P Q : Type 0} (w : WorldAt P Q) (sid id : EndId) (ps place : P) (so sl
       let numbers : h.end.conn ≡ conn_of s + 1 = (numbers_behind k s (held b h) (there_beside (behind k) s (held b h) n refl) tt n).0 in
       absurd (omega (arith, first, numbers))
 
+  -- what comes whole to a party that awaits r flows, where the lane carries it
+  flows_whole : (s : Seat P) (low c : ℕ) (ds lane : List (BodyAt P)) →
+      ComesWhole id c y.taken low x.taken (mark_for id c x s) (untaken_of x y) (ds ++ rl) →
+      carries_under id c (ds ++ lane) ≡ carries_under id c (ds ++ rl) → FlowsDeferred id c ds lane (untaken_of x y)
+  flows_whole s low c ds lane comes same = record {
+    under = whole_under id c y.taken low x.taken (length x.sent) x.taken s (untaken_of x y) ds rl comes;
+    waits = same ∙ whole_carries id c y.taken low x.taken (length x.sent) x.taken s (untaken_of x y) (ds ++ rl) comes;
+  }
+
   -- what a lane to a party that awaits r carries
   awaited : (s r : Seat P) (u c : ℕ) (ds : List (BodyAt P)) → IsThere s → IsNoGive s → u ≡ taker_of r → c ≡ coming_of r → old_in r ro (source_for s r) u c ≡ [] → Shows w s (side_of id place r ro rl) →
-      carries_under id c (ds ++ rl) ≡ untaken_of x y → carries_under id c (ds ++ lane_from w (party_of s) u) ≡ untaken_of x y
-  awaited s r u c ds i g a k none v e =
+      carries_under id c (ds ++ lane_from w (party_of s) u) ≡ carries_under id c (ds ++ rl)
+  awaited s r u c ds i g a k none v =
       let lane : carries_under id c (lane_from w (party_of s) u) ≡ carries_under id c rl =
       ap (λ l. carries_under id c l) (lane_is s r u i g) ∙ lane_carries s r (source_for s r) u c true (rw (← a, ← k) (self_key (source_for s r) u c)) none v in
-      carries_append id c ds (lane_from w (party_of s) u) ∙ ap (λ l. carries_under id c ds ++ l) lane ∙ sym (carries_append id c ds rl) ∙ e
+      carries_append id c ds (lane_from w (party_of s) u) ∙ ap (λ l. carries_under id c ds ++ l) lane ∙ sym (carries_append id c ds rl)
     where
       lane_is : (s r : Seat P) (u : ℕ) → IsThere s → IsNoGive s → lane_from w (party_of s) u ≡ bodies (w.lanes (source_for s r) u)
       lane_is gone r u i g = absurd i
@@ -127,11 +136,13 @@ module _ {P Q : Type 0} (w : WorldAt P Q) (sid id : EndId) (ps place : P) (so sl
   signalled_stands level s b u e ds n c f back o v z = told s (signalled b u e ds) (signal_told b u e ds s n back o z)
   signalled_stands (ahead k) gone b u e ds n c f back o v z = absurd (cc n.0)
   signalled_stands (ahead k) (given a t g None ks) b u e ds n c f back o v z =
-      inl (ap (λ l. carries_under id (e.conn + 1) (ds ++ l)) (sym c.0) ∙ whole_carries id (e.conn + 1) y.taken (comes_low (ahead k) e x) x.taken (length x.sent) x.taken (given a t g None ks) (untaken_of x y) (ds ++ rl) c.1)
+      inl (flows_whole (given a t g None ks) (comes_low (ahead k) e x) (e.conn + 1) ds [] c.1
+      (ap (λ l. carries_under id (e.conn + 1) (ds ++ l)) (sym c.0)))
   signalled_stands (ahead k) (given a t g (Some m) ks) b u e ds n c f back o v z = inr (inr (inr (ap Some f.0)))
   signalled_stands (ahead k) s b u e ds n c f back o v z =
-      inl (awaited s (signalled b u e ds) u (e.conn + 1) ds tt tt refl refl (rw (not_next e.conn, and_false (is_lane (source_for s (signalled b u e ds)) u e.peer b)) refl) v
-      (whole_carries id (e.conn + 1) y.taken (comes_low (ahead k) e x) x.taken (length x.sent) x.taken s (untaken_of x y) (ds ++ rl) c))
+      let other = and_false (is_lane (source_for s (signalled b u e ds)) u e.peer b) in
+      inl (flows_whole s (comes_low (ahead k) e x) (e.conn + 1) ds (lane_from w (party_of s) u) c
+      (awaited s (signalled b u e ds) u (e.conn + 1) ds tt tt refl refl (rw (not_next e.conn, other) refl) v))
   signalled_stands (behind by_ack) s b u e ds n c f back o v z = told s (signalled b u e ds) (ahead_told b u e ds s (there_beside (behind by_ack) s (signalled b u e ds) n refl) n back z)
   signalled_stands (behind by_signal) s b u e ds n c f back o v z = told s (signalled b u e ds) (explained_told s (signalled b u e ds) (Signal sid 0 0 0) (there_beside (behind by_signal) s (signalled b u e ds) n refl) tt n o z)
 
@@ -140,10 +151,10 @@ module _ {P Q : Type 0} (w : WorldAt P Q) (sid id : EndId) (ps place : P) (so sl
       AreOld (turned pace) sid y (given b u e resend ds) s so → Shows w s (side_of id place (given b u e resend ds) ro rl) → Shows w (given b u e resend ds) (side_of sid ps s so sl) → Stands s (given b u e resend ds)
   given_stands level gone b u e resend ds n c f o v z = absurd (cc n.1)
   given_stands level (given a t g None ks) b u e resend ds n c f o v z =
-      inl (ap (λ l. carries_under id e.conn (ds ++ l)) (sym c.0) ∙ whole_carries id e.conn y.taken e.base x.taken (length x.sent) x.taken (given a t g None ks) (untaken_of x y) (ds ++ rl) c.1)
+      inl (flows_whole (given a t g None ks) e.base e.conn ds [] c.1 (ap (λ l. carries_under id e.conn (ds ++ l)) (sym c.0)))
   given_stands level (given a t g (Some m) ks) b u e resend ds n c f o v z = inr (inr (inr (ap Some f.0)))
   given_stands level s b u e resend ds n c f o v z =
-      inl (awaited s (given b u e resend ds) u e.conn ds tt tt refl refl refl v (whole_carries id e.conn y.taken e.base x.taken (length x.sent) x.taken s (untaken_of x y) (ds ++ rl) c))
+      inl (flows_whole s e.base e.conn ds (lane_from w (party_of s) u) c (awaited s (given b u e resend ds) u e.conn ds tt tt refl refl refl v))
   given_stands (ahead k) gone b u e resend ds n c f o v z = absurd (cc n.0)
   given_stands (ahead k) s b u e resend ds n c f o v z = absurd (numbers_ahead k s (given b u e resend ds) tt tt n).1
   given_stands (behind by_ack) s b u e resend ds n c f o v z = absurd c.1

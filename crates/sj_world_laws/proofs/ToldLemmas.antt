@@ -1,6 +1,6 @@
 -- Frames that are somewhere: in a lane, or deferred.
-use Rattle.std.proofs.Common.{◌≡◌, ℕ, suc, ◌+◌, List, [], ◌∷◌, ◌++◌, refl, sym, subst, ◌∙◌, arith, inl, inr}
-use Rattle.std.specs.Prelude.{Bool, true, false, ◌⊎◌, ◌&&◌, ◌==◌, if◌then◌else◌}
+use Rattle.std.proofs.Common.{◌≡◌, ℕ, zero, suc, ◌+◌, ◌<◌, List, [], ◌∷◌, ◌++◌, length, refl, ap, sym, subst, ◌∙◌, arith, inl, inr}
+use Rattle.std.specs.Prelude.{Bool, true, false, ◌⊎◌, ◌&&◌, ◌==◌, if◌then◌else◌, slice_index_or}
 use Rattle.std.specs.List.{filter, Contains}
 use Rattle.std.proofs.lemmas.Bool.{eq-eqb}
 use Rattle.sj_base.specs.declared.EndId.{EndId}
@@ -33,7 +33,7 @@ has_split {A} x (y ∷ a) b (inr h) = by (has_split x a b h)
     by (inr k) = inr k
 
 -- what passes a test is in the list
-has_filter : {A : Type 0} → (test : A → Bool) (x : A) (l : List A) → Has x (filter test l) → Has x l
+pub has_filter : {A : Type 0} → (test : A → Bool) (x : A) (l : List A) → Has x (filter test l) → Has x l
 has_filter test x [] h = h
 has_filter {A} test x (y ∷ l) h = by (has_filter test x l) (test y) h
   where
@@ -42,11 +42,39 @@ has_filter {A} test x (y ∷ l) h = by (has_filter test x l) (test y) h
     by below true (inr k) = inr (below k)
     by below false k = inr (below k)
 
+-- and what is there and passes it is kept
+pub has_kept : {A : Type 0} → (test : A → Bool) (x : A) (l : List A) → Has x l → test x ≡ true → Has x (filter test l)
+has_kept test x [] h t = absurd h
+has_kept test x (y ∷ l) (inl e) t = subst (λ (k : Bool). Has x (if k then y ∷ filter test l else filter test l)) (sym (ap test e ∙ t)) (inl e)
+has_kept {A} test x (y ∷ l) (inr h) t = by (test y) (has_kept test x l h t)
+  where
+    by : (k : Bool) → Has x (filter test l) → Has x (if k then y ∷ filter test l else filter test l)
+    by true below = inr below
+    by false below = below
+
+-- what is kept passes it
+pub has_passed : {A : Type 0} → (test : A → Bool) (x : A) (l : List A) → Has x (filter test l) → test x ≡ true
+has_passed test x [] h = absurd h
+has_passed {A} test x (y ∷ l) h = by (has_passed test x l) (test y) refl h
+  where
+    by : (Has x (filter test l) → test x ≡ true) → (k : Bool) → test y ≡ k → Has x (if k then y ∷ filter test l else filter test l) → test x ≡ true
+    by below true t (inl e) = ap test (sym e) ∙ t
+    by below true t (inr k) = below k
+    by below false t k = below k
+
 -- as std says it
-has_contains : {A : Type 0} → (x : A) (l : List A) → Has x l → Contains l x
+pub has_contains : {A : Type 0} → (x : A) (l : List A) → Has x l → Contains l x
 has_contains x [] h = absurd h
 has_contains x (y ∷ l) (inl e) = (0, omega arith, e)
 has_contains x (y ∷ l) (inr h) = let c : Contains l x = has_contains x l h in (suc c.0, omega (arith, c.1), c.2)
+
+pub contains_has : {A : Type 0} → (x : A) (l : List A) → Contains l x → Has x l
+contains_has x [] c = absurd (omega (arith, c.1))
+contains_has {A} x (y ∷ l) c = by (contains_has x l) c.0 c.1 c.2
+  where
+    by : (Contains l x → Has x l) → (k : ℕ) → k < length (y ∷ l) → slice_index_or (y ∷ l) k x ≡ x → (y ≡ x) ⊎ Has x l
+    by below zero low e = inl e
+    by below (suc k) low e = inr (below (k, omega arith, e))
 
 module _ {P Q : Type 0} (w : WorldAt P Q) (o : Seat P) (s : Side P) (shows : Shows w o s) where
   -- what is shown of a lane is in it

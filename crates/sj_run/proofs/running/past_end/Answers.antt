@@ -1,8 +1,10 @@
-use Rattle.std.proofs.Common.{rules, ◌+◌, ◌∙◌, length, ap, sym}
+use Rattle.std.proofs.Common.{rules, ◌+◌, ◌∙◌, length, ap, refl, sym}
 use Rattle.std.proofs.lemmas.List.{length-map}
 use Rattle.sj_end.specs.Lines.{line_at}
 use Rattle.sj_run.proofs.running.past_end.Goals as goal
 
-pub returns-clause-refused : goal.returns-clause-refused
-returns-clause-refused c =
-    record { count = ap (λ n. n + 1) (sym (length-map c.history.result.now line_at) ∙ ap length c.history.ensures); found = c.due-due.ensures; differs = search rules }
+pub returns : goal.returns
+returns c = (
+  refl,
+  record { count = ap (λ n. n + 1) (sym (length-map c.history.result.now line_at) ∙ ap length c.history.ensures); found = c.due-due.ensures; differs = search rules },
+)

@@ -1,7 +1,7 @@
 use Rattle.std.proofs.Common.{◌≡◌, ℕ, ◌-◌, suc, subst, arith}
 use Rattle.sj_lang.specs.View.{followed}
 use Rattle.sj_table.specs.Table.{at_node, places_of}
-use Rattle.sj_table.proofs.NodeLemmas.{at_node-places_of, past_the_nodes, node_0}
+use Rattle.sj_table.proofs.NodeLemmas.{at_node-places_of, next_there, past_the_nodes, node_0}
 use Rattle.sj_table.proofs.leading.split_node.Goals.{then-node-eq0-via-then-node-eq0, then-node-eq0-via-else-node-eq0+then-stops-node}
 use Rattle.sj_table.proofs.leading.split_node.Goals as goal
 
@@ -18,3 +18,6 @@ returns-clause-item c =
     let e : suc (c.args.node - 1) ≡ c.args.node = omega arith in
     subst (λ (n : ℕ). at_node (places_of stops) n ≡ followed s.item (at_node (places_of stops) s.next)) e
     (at_node-places_of stops (c.args.node - 1) s (omega arith) c.index-stops-node.is (c.requires.each (c.args.node - 1) s (omega arith) c.index-stops-node.is).back)
+
+pub returns-clause-there : goal.returns-clause-there
+returns-clause-there c = next_there c.args.stops.now (c.args.node - 1) c.index-stops-node.result c.requires (omega arith) c.index-stops-node.is

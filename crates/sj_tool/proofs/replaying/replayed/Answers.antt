@@ -3,12 +3,8 @@ use Rattle.sj_check.specs.Held.{file_in}
 use Rattle.sj_core.specs.World.{history_of, world_at}
 use Rattle.sj_lang.specs.FileView.{file_of}
 use Rattle.sj_tool.proofs.DrainedLemmas.{told_runs}
-use Rattle.sj_tool.proofs.KindLemmas.{replay_has_events}
 use Rattle.sj_tool.proofs.ReplayLemmas.{replay_has, unused}
 use Rattle.sj_tool.proofs.replaying.replayed.Goals as goal
-
-pub told-requires-clause-events : goal.told-requires-clause-events
-told-requires-clause-events c = replay_has_events c.args.task c.requires.replays
 
 pub told-requires-clause-run : goal.told-requires-clause-run
 told-requires-clause-run c = (c.in_ok-world.ensures.has unused false).run

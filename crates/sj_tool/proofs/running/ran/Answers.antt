@@ -3,11 +3,7 @@ use Rattle.sj_check.specs.Held.{file_in}
 use Rattle.sj_core.specs.World.{history_of, world_at}
 use Rattle.sj_lang.specs.FileView.{file_of}
 use Rattle.sj_tool.proofs.DrainedLemmas.{told_runs}
-use Rattle.sj_tool.proofs.KindLemmas.{run_has_events}
 use Rattle.sj_tool.proofs.running.ran.Goals as goal
-
-pub told-requires-clause-events : goal.told-requires-clause-events
-told-requires-clause-events g c = run_has_events c.args.task c.requires
 
 pub told-requires-clause-run : goal.told-requires-clause-run
 told-requires-clause-run g c = (c.in_ok-world.ensures.has []).run

@@ -16,7 +16,7 @@ returns-then-clock-ge-CLOCK_END-clause-turns g c =
     let il = g.met.I.InLane g.world.𝓛 g.world.𝓜 g.world.𝓡 (λ s x. x, λ x. x, λ x. x, λ x. x) in
     let k = laws g.O.OutLane.pushed g.O.OutLane.faults g.O.OutLane.vain g.O.OutLane.same g.I.InLane.popped g.I.InLane.faults g.I.InLane.vain g.I.InLane.same
     ol.same_itself ol.same_later il.same_itself il.same_later in
-    λ looks. turned_off k c.args.worker.now _ None stops.ClockEnd looks refl (λ e. cc e) c.requires.open_yet (went_itself k c.args.worker.now _ refl refl) tt (search rules)
+    λ looks. turned_off k c.args.worker.now _ None stops.ClockEnd looks refl (λ e. cc e) c.requires.goes.open_yet (went_itself k c.args.worker.now _ refl refl) tt (search rules)
 
 pub returns-then-from-len-clause-turns : goal.returns-then-from-len-clause-turns
 returns-then-from-len-clause-turns g c =
@@ -24,7 +24,7 @@ returns-then-from-len-clause-turns g c =
     let il = g.met.I.InLane g.world.𝓛 g.world.𝓜 g.world.𝓡 (λ s x. x, λ x. x, λ x. x, λ x. x) in
     let k = laws g.O.OutLane.pushed g.O.OutLane.faults g.O.OutLane.vain g.O.OutLane.same g.I.InLane.popped g.I.InLane.faults g.I.InLane.vain g.I.InLane.same
     ol.same_itself ol.same_later il.same_itself il.same_later in
-    turned_on k c.args.worker.now c.args.worker.now (went_itself k c.args.worker.now c.args.worker.now refl refl) c.requires.stop c.requires.open_yet
+    turned_on k c.args.worker.now c.args.worker.now (went_itself k c.args.worker.now c.args.worker.now refl refl) c.requires.goes.stop c.requires.goes.open_yet
 
 pub returns-then-from-len-clause-vain : goal.returns-then-from-len-clause-vain
 returns-then-from-len-clause-vain g c = λ h none. on_none g.I.InLane.vain (RoseBy 1) c.args.worker.now.lanes.ins.items c.args.from (search rules)
@@ -36,13 +36,14 @@ returns-in-Ok-None-clause-turns g c =
     let k = laws g.O.OutLane.pushed g.O.OutLane.faults g.O.OutLane.vain g.O.OutLane.same g.I.InLane.popped g.I.InLane.faults g.I.InLane.vain g.I.InLane.same
     ol.same_itself ol.same_later il.same_itself il.same_later in
     let w = c.args.worker.now in
+    let e : c.from-2.result ≡ c.args.from = search rules in
     let at = slice_get_read w.lanes.ins.items (length w.lanes.ins.items) c.from-2.result c.index_mut-lane.result.now refl (search rules) c.index_mut-lane.ensures.value in
     turned_on k w _ (went_vain k w _ c.from-2.result c.index_mut-lane.result.now c.pop.new.self refl refl at refl (record {
       same = c.pop.ensures.link;
       told = rw c.in-Ok-None.field-0-is at c.in-Ok-None.ensures.told;
       faults = c.pop.ensures.faults.0;
       vain = rw c.pop.ensures.vain (pop_stood (k.in_vain c.index_mut-lane.result.now) c.pop.result);
-    })) c.requires.stop c.requires.open_yet
+    }) (rw e c.requires.party) (search rules)) c.requires.goes.stop c.requires.goes.open_yet
 
 pub returns-in-Ok-None-clause-vain : goal.returns-in-Ok-None-clause-vain
 returns-in-Ok-None-clause-vain g c = λ h none.
@@ -66,13 +67,13 @@ returns-in-Ok-Some-clause-turns g c =
     let e : c.from-2.result ≡ c.args.from = search rules in
     let at : slice_get w.lanes.ins.items c.args.from ≡ Some c.index_mut-lane.result.now =
     rw e at (slice_get_read w.lanes.ins.items (length w.lanes.ins.items) c.from-2.result c.index_mut-lane.result.now refl (search rules) c.index_mut-lane.ensures.value) in
-    frame_came k w _ c.args.from c.in-Ok-Some.frame c.index_mut-lane.result.now c.pop.new.self c.deliver-worker.result c.requires c.deliver-worker.ensures refl refl at
+    frame_came k w _ c.args.from c.in-Ok-Some.frame c.index_mut-lane.result.now c.pop.new.self c.deliver-worker.result c.requires.goes c.deliver-worker.ensures refl refl at
     (ap (λ n. set w.lanes.ins.items n c.pop.new.self) e) (record {
       same = c.pop.ensures.link;
       told = rw c.in-Ok-Some.field-0-is at c.in-Ok-Some.ensures.told;
       faults = c.pop.ensures.faults.0;
       vain = rw c.pop.ensures.vain (pop_stood (k.in_vain c.index_mut-lane.result.now) c.pop.result);
-    })
+    }) c.requires.party (search rules)
 
 pub returns-in-Ok-Some-clause-event : goal.returns-in-Ok-Some-clause-event
 returns-in-Ok-Some-clause-event g c = λ h none. came_rises c.args.worker.now.node c.deliver-worker.new.node c.args.from c.in-Ok-Some.frame c.deliver-worker.result c.deliver-worker.ensures none
@@ -84,14 +85,15 @@ returns-in-Err-Fault-clause-turns g c =
     let k = laws g.O.OutLane.pushed g.O.OutLane.faults g.O.OutLane.vain g.O.OutLane.same g.I.InLane.popped g.I.InLane.faults g.I.InLane.vain g.I.InLane.same
     ol.same_itself ol.same_later il.same_itself il.same_later in
     let w = c.args.worker.now in
+    let e : c.from-2.result ≡ c.args.from = search rules in
     let at = slice_get_read w.lanes.ins.items (length w.lanes.ins.items) c.from-2.result c.index_mut-lane.result.now refl (search rules) c.index_mut-lane.ensures.value in
-    pop_fault k w _ c.from-2.result c.index_mut-lane.result.now c.pop.new.self c.requires
+    pop_fault k w _ c.from-2.result c.index_mut-lane.result.now c.pop.new.self c.requires.goes
     (went_vain k w _ c.from-2.result c.index_mut-lane.result.now c.pop.new.self refl refl at refl (record {
       same = c.pop.ensures.link;
       told = c.in-Err-Fault.ensures.told;
       faults = c.pop.ensures.faults.0;
       vain = rw c.pop.ensures.vain (pop_stood (k.in_vain c.index_mut-lane.result.now) c.pop.result);
-    })) refl refl at refl (rw c.in-Err-Fault.field-0-is at c.in-Err-Fault.ensures.faults).1
+    }) (rw e c.requires.party) (search rules)) refl refl at refl (rw c.in-Err-Fault.field-0-is at c.in-Err-Fault.ensures.faults).1
 
 pub returns-in-Err-NoMemory-clause-turns : goal.returns-in-Err-NoMemory-clause-turns
 returns-in-Err-NoMemory-clause-turns g c =
@@ -100,11 +102,12 @@ returns-in-Err-NoMemory-clause-turns g c =
     let k = laws g.O.OutLane.pushed g.O.OutLane.faults g.O.OutLane.vain g.O.OutLane.same g.I.InLane.popped g.I.InLane.faults g.I.InLane.vain g.I.InLane.same
     ol.same_itself ol.same_later il.same_itself il.same_later in
     let w = c.args.worker.now in
+    let e : c.from-2.result ≡ c.args.from = search rules in
     let at = slice_get_read w.lanes.ins.items (length w.lanes.ins.items) c.from-2.result c.index_mut-lane.result.now refl (search rules) c.index_mut-lane.ensures.value in
-    λ looks. turned_off k w _ None stops.NoMemory looks refl (λ e. cc e) c.requires.open_yet
+    λ looks. turned_off k w _ None stops.NoMemory looks refl (λ e. cc e) c.requires.goes.open_yet
     (went_vain k w _ c.from-2.result c.index_mut-lane.result.now c.pop.new.self refl refl at refl (record {
       same = c.pop.ensures.link;
       told = c.in-Err-NoMemory.ensures.told;
       faults = c.pop.ensures.faults.0;
       vain = rw c.pop.ensures.vain (pop_stood (k.in_vain c.index_mut-lane.result.now) c.pop.result);
-    })) tt tt
+    }) (rw e c.requires.party) (search rules)) tt tt

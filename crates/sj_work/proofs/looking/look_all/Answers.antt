@@ -1,3 +1,4 @@
+use Rattle.std.proofs.Common.{rules, ℕ, ◌<◌, subst, sym}
 use Rattle.sj_work.proofs.LaneLaws.{laws}
 use Rattle.sj_work.proofs.LookLemmas.{look_event, look_more, look_rests, look_turns, looked_none}
 use Rattle.sj_work.proofs.StopLemmas.{none_if}
@@ -43,3 +44,6 @@ returns-then-is_some-clause-rests g c = λ h.
     let k = laws g.O.OutLane.pushed g.O.OutLane.faults g.O.OutLane.vain g.O.OutLane.same g.I.InLane.popped g.I.InLane.faults g.I.InLane.vain g.I.InLane.same
     ol.same_itself ol.same_later il.same_itself il.same_later in
     look_rests k c.args.worker.now c.loop-from.worker c.look-came.new.worker c.loop-from.from c.loop-from.came c.look-came.result c.loop-from.invariant c.look-came.ensures.turns c.look-came.ensures.rests h
+
+pub look-came-requires-clause-party : goal.look-came-requires-clause-party
+look-came-requires-clause-party g c κs within = subst (λ (n : ℕ). c.loop-from.from < n) (sym (c.loop-from.invariant.turns 0).went.parties) (search rules)

@@ -1,4 +1,4 @@
-use Rattle.std.proofs.Common.{◌≡◌, map, ap, ◌∙◌}
+use Rattle.std.proofs.Common.{◌≡◌, map, ◌∙◌}
 use Rattle.sj_check.specs.Held.{file_in as held}
 use Rattle.sj_end.specs.Lines.{line_at}
 use Rattle.sj_lang.specs.FileView.{file_of}
@@ -11,11 +11,9 @@ pub returns-in-Ok-clause-ok : goal.returns-in-Ok-clause-ok
 returns-in-Ok-clause-ok c =
     let course = c.in-Ok.course in
     let same : file_in course ≡ without_words (file_of (held c.args.accepted.now)) =
-    c.in-Ok.ensures.file ∙ c.begin-course.ensures.file ∙ c.in_ok-kept.ensures ∙ ap (λ f. without_words (file_of f)) c.file.ensures.value in
+    c.in-Ok.ensures.file ∙ c.in_ok-course.ensures.file in
     history_same (file_of (held c.args.accepted.now)) (file_in course) (map line_at c.args.lines.items) (history_in course) (world_in course) same c.in-Ok.ensures.history c.in-Ok.ensures.reached.run
 
 pub returns-in-Err-clause-misfit : goal.returns-in-Err-clause-misfit
 returns-in-Err-clause-misfit c =
-    let same : file_in c.begin-course.result ≡ without_words (file_of (held c.args.accepted.now)) =
-    c.begin-course.ensures.file ∙ c.in_ok-kept.ensures ∙ ap (λ f. without_words (file_of f)) c.file.ensures.value in
-    misfit_kept (file_of (held c.args.accepted.now)) (file_in c.begin-course.result) (map line_at c.args.lines.items) c.in-Err.refusal same c.in-Err.ensures.misfit
+    misfit_kept (file_of (held c.args.accepted.now)) (file_in c.in_ok-course.course) (map line_at c.args.lines.items) c.in-Err.refusal c.in_ok-course.ensures.file c.in-Err.ensures.misfit

@@ -1,0 +1,45 @@
+-- Refusals of a run, with the workers and lanes of which they come.
+use Rattle.std.specs.Prelude.{◌≡◌, ℕ, Bool, List, map, Option, option_map}
+use Rattle.sj_core.specs.declared.refusal.ReplayRefusal.{ReplayRefusal}
+use Rattle.sj_core.specs.declared.refusal.ReplayRefusal.TheVariants as replays
+use Rattle.sj_end.specs.declared.note.Line.{Line}
+use Rattle.sj_end.specs.Lines.{line_at}
+use Rattle.sj_lang.specs.Place.{Place}
+use Rattle.sj_lang.specs.FileAt.{FileAt}
+use Rattle.sj_semantics.specs.Program.{Program}
+use Rattle.sj_rules.specs.Frames.{FrameAt}
+use Rattle.sj_rules.specs.Log.{LineAt}
+use Rattle.sj_rules.specs.World.{WorldAt}
+use Rattle.sj_work.specs.declared.worker.Worker.{Worker}
+use Rattle.sj_run.specs.Damage.{IsDamage, IsRefusedAfter, left_of}
+use Rattle.sj_run.specs.Workers.{AllWorked}
+use Rattle.sj_run.specs.declared.refusal.RunRefusal.{RunRefusal}
+use Rattle.sj_run.specs.declared.refusal.RunRefusal.TheVariants as refusals
+
+-- why lines weren't replayed, as a refusal of the run
+abbrev pub run_refusal : ReplayRefusal → RunRefusal
+run_refusal (replays.Misfit number logged other) = refusals.Damaged number logged other
+run_refusal replays.NoMemory = refusals.NoMemory
+
+-- that line was refused behind the lines of a history that leads to that world
+abbrev pub IsPastEndOf : FileAt → WorldAt Place Program → List LineAt → Line → RunRefusal → Type 0
+IsPastEndOf file core lines refused (refusals.Damaged number logged other) =
+    (logged ≡ refused) × IsRefusedAfter file core lines number (line_at refused) (option_map line_at other)
+IsPastEndOf file core lines refused refusals.LinkFault = ⊥
+IsPastEndOf file core lines refused refusals.NoMemory = Unit {0}
+
+module _ {O I : Type 0} (pushed : O → Option (List (FrameAt Place))) (out_faults out_vain : O → ℕ) (same_out : O → O → Type 0)
+    (popped : I → Option (List (FrameAt Place))) (in_faults in_vain : I → ℕ) (same_in : I → I → Type 0) (joined : O → I → Type 0)
+    (file : FileAt) (looks : ℕ) (tells : Bool) where
+  -- the damage is in what workers left that worked over such lanes
+  pub record IsDamageOver (number : ℕ) (logged : LineAt) (other : Option LineAt) : Type 0 where
+    pub workers : List (Worker O I)
+    pub worked : AllWorked pushed out_faults out_vain same_out popped in_faults in_vain same_in joined file looks tells workers
+    pub damage : IsDamage file number logged other
+    pub theirs : damage.left ≡ map left_of workers
+
+  -- what is damaged so
+  abbrev pub IsDamagedOver : RunRefusal → Type 0
+  IsDamagedOver (refusals.Damaged number logged other) = IsDamageOver number (line_at logged) (option_map line_at other)
+  IsDamagedOver refusals.LinkFault = Unit {0}
+  IsDamagedOver refusals.NoMemory = Unit {0}

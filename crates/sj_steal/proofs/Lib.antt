@@ -1,0 +1,13 @@
+pub mod BackLemmas
+pub mod DealLemmas
+pub mod DoneLemmas
+pub mod EachLemmas
+pub mod HireLemmas
+pub mod MemberLemmas
+pub mod OrderLemmas
+pub mod PartLemmas
+pub mod PieceLemmas
+pub mod PoolLemmas
+pub mod RestLemmas
+pub mod RuleLemmas
+pub mod RunLemmas
