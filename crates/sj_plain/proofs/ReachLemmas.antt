@@ -32,6 +32,10 @@ altered_there (z ∷ zs) (suc s) f lt = ap (λ t. z ∷ t) (altered_there zs s f
 pub altered_reached : (zs : List Session) (s : ℕ) (f : Session → Session) → altered_list (reached zs s) s f ≡ altered_session zs s f
 altered_reached zs s f = altered_there (reached zs s) s f (below_altered_session zs s (λ z. z)) ∙ altered_session-altered zs s (λ z. z) f
 
+-- what is altered once more
+pub altered_further : (zs : List Session) (s : ℕ) (f g : Session → Session) → altered_list (altered_session zs s f) s g ≡ altered_session (altered_session zs s f) s g
+altered_further zs s f g = altered_there (altered_session zs s f) s g (below_altered_session zs s f)
+
 -- two are reached, and then the first is altered
 pub altered_first : (zs : List Session) (s t : ℕ) (f : Session → Session) → altered_list (reached (reached zs s) t) s f ≡ reached (altered_session zs s f) t
 altered_first zs s t f =
