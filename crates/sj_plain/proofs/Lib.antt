@@ -4,6 +4,7 @@ pub mod CourseLemmas
 pub mod FinishLemmas
 pub mod FinishingLemmas
 pub mod MoveLemmas
+pub mod OpenedLemmas
 pub mod SteppingLemmas
 pub mod TakingLemmas
 pub mod UseLemmas

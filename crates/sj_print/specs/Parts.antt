@@ -22,4 +22,4 @@ passed_part file e n taker x =
 
 -- the line of a party of that name
 abbrev pub party_part : FileAt → ℕ → ℕ → State → List ℕ
-party_part file name steps state = line_of (codes "party" ∷ word_at file.words name ∷ state_words steps state)
+party_part file name steps state = line_of (codes "party" ∷ word_at file.words name ∷ state_words file steps state)
