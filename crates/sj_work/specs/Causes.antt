@@ -68,7 +68,7 @@ module _ {O I : Type 0} (out_vain : O → ℕ) (in_vain : I → ℕ) where
     pub outs : OutVain out_vain looks old new
 
 module _ {O I : Type 0} where
-  -- the party has done all steps that it may do, and what waits was tried to push
+  -- the party is at a limit, and what waits was tried to push
   abbrev pub IsAtLimit : (out_vain : O → ℕ) → (old new : Worker O I) → Type 0
   IsAtLimit out_vain old new = (nodes.stop_of (node_of new) ≡ Some halts.AtLimit) × OutVain out_vain 1 old new
 
