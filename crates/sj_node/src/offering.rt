@@ -78,12 +78,14 @@ pub(crate) fn offer(
         ≡ offering from (offers_in offers.old.items from ++ sess ∷ []) (offers_in offers.old.items)) }
     ensures err { OnErr result (offers_in offers.new.items ≡ offers_in offers.old.items) }
 {
-    if make_list(alloc, offers, from).is_err() {
-        return Err(NoMemory);
+    match make_list(alloc, offers, from) {
+        Ok(()) => {
+            let list = &mut offers[from as usize];
+            list.push_reserved(sess);
+            Ok(())
+        }
+        Err(refusal) => Err(refusal),
     }
-    let list = &mut offers[from as usize];
-    list.push_reserved(sess);
-    Ok(())
 }
 
 // Takes the memory for one more session of that party.

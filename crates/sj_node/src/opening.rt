@@ -1,5 +1,5 @@
 //! Steps that open a session or accept one, and the row of an Open.
-ghost use Rattle.std.specs.Prelude.{◌≡◌, ◌<◌, OnOk, OnErr, IfErr, IsErrOf, None, option_map};
+ghost use Rattle.std.specs.Prelude.{◌≡◌, ◌+◌, ◌<◌, OnOk, OnErr, IfErr, IsErrOf, None, option_map};
 ghost use Rattle.sj_end.specs.declared.note.Event.TheVariants as events;
 ghost use Rattle.sj_node.specs.Halts.{is_late};
 ghost use Rattle.sj_node.specs.Node.{Does, Stays, act_of, clock_of, connect_count, note_for, requests_of, steps_of, wants_of};

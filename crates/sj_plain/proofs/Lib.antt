@@ -5,6 +5,9 @@ pub mod FinishLemmas
 pub mod FinishingLemmas
 pub mod MoveLemmas
 pub mod OpenedLemmas
+pub mod OpeningLemmas
+pub mod OrderLemmas
+pub mod ReachLemmas
 pub mod SteppingLemmas
 pub mod TakingLemmas
 pub mod UseLemmas

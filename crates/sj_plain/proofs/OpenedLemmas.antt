@@ -1,12 +1,15 @@
--- Sessions that are opened, each behind the others of its requester, and accepted.
-use Rattle.std.proofs.Common.{◌≡◌, ◌≢◌, ℕ, zero, suc, ◌-◌, ◌<◌, ◌≤◌, ◌==◌, Bool, true, false, cond, List, [], ◌∷◌, ◌++◌, length, drop, take, get_or, Option, Some, None, option_map, is_some, not, ◌&&◌, refl, ap, sym, subst, ◌∙◌, arith, inl, inr}
-use Rattle.std.proofs.lemmas.Bool.{cases_Bool, eq-eqb, eqb-true, ne_eqb}
-use Rattle.std.proofs.lemmas.List.{take-append-drop, append-nil}
+-- The sessions that each party opened, as they lie in a list.
+use Rattle.std.proofs.Common.{◌≡◌, ◌≢◌, ℕ, zero, suc, ◌+◌, ◌<◌, ◌≤◌, ◌==◌, nat_lt, Bool, true, false, cond, List, [], ◌∷◌, ◌++◌, length, refl, ap, sym, ◌∙◌, append-nil, arith, inl, inr}
+use Rattle.std.proofs.lemmas.Bool.{cases_Bool, cases_eq, eq-eqb, eqb-true, ne_eqb, le-ltb, lt-ltb, ltb-true}
 use Rattle.sj_semantics.specs.declared.Opened.{Opened}
-use Rattle.std.proofs.Math.ListN.{set}
-use Rattle.sj_semantics.specs.Requests.{Request, accepted_as, accepts, first_offer, is_offered, requests, requests_after}
-use Rattle.sj_semantics.specs.Uses.{altered_list}
-use Rattle.sj_plain.specs.Opened.{request_of, requests_in}
+use Rattle.sj_semantics.specs.Requests.{Request, Requests, opened_by, opened_from, opened_number}
+use Rattle.sj_plain.specs.Opened.{before_in, request_of, requests_in}
+
+-- the session that party p opened after k others
+abbrev pub session_by : ℕ → ℕ → Request → Opened
+session_by p k r = record { sess = opened_number p k; from = p; first = r.first; to = r.to; second = r.second }
+
+-- ---- of one party
 
 requests_hit : (o : Opened) (os : List Opened) (p : ℕ) (b : Bool) → o.from == p ≡ b → requests_in (o ∷ os) p ≡ cond b (request_of o ∷ requests_in os p) (requests_in os p)
 requests_hit o os p b h = ap (λ t. cond t (request_of o ∷ requests_in os p) (requests_in os p)) h
@@ -19,88 +22,104 @@ requests-append (x ∷ xs) ys p =
       | inr miss ↦ requests_hit x (xs ++ ys) p false miss ∙ requests-append xs ys p ∙ sym (ap (λ t. t ++ requests_in ys p) (requests_hit x xs p false miss))
     ]
 
-requests_split : (os : List Opened) (at p : ℕ) → requests_in os p ≡ requests_in (take at os) p ++ requests_in (drop at os) p
-requests_split os at p = sym (ap (λ t. requests_in t p) (take-append-drop at os)) ∙ requests-append (take at os) (drop at os) p
+own_requests : (p k : ℕ) (rs : List Request) → requests_in (opened_by p k rs) p ≡ rs
+own_requests p k [] = refl
+own_requests p k (r ∷ rs) = requests_hit (session_by p k r) (opened_by p (k + 1) rs) p true (eq-eqb p p refl) ∙ ap (λ t. r ∷ t) (own_requests p (k + 1) rs)
 
--- what each party has requested then
-pub added : (os new : List Opened) (o : Opened) (at p : ℕ) → new ≡ take at os ++ o ∷ drop at os → requests_in (drop at os) o.from ≡ []
-    → requests_in new p ≡ requests_after o.from (requests (request_of o)) p (requests_in os p)
-added os new o at p is last =
-    let whole : requests_in new p ≡ requests_in (take at os) p ++ requests_in (o ∷ drop at os) p = ap (λ t. requests_in t p) is ∙ requests-append (take at os) (o ∷ drop at os) p in
-    elim (cases_Bool (p == o.from)) [
-      | inl hit ↦
-          let same : p ≡ o.from = eqb-true p o.from hit in
-          let mine : o.from == p ≡ true = ap (λ t. o.from == t) same ∙ self o.from in
-          let none : requests_in (drop at os) p ≡ [] = ap (requests_in (drop at os)) same ∙ last in
-          whole ∙ ap (λ t. requests_in (take at os) p ++ t) (requests_hit o (drop at os) p true mine ∙ ap (λ t. request_of o ∷ t) none)
-          ∙ sym (ap (λ t. t ++ request_of o ∷ []) (requests_split os at p ∙ ap (λ t. requests_in (take at os) p ++ t) none ∙ append-nil (requests_in (take at os) p)))
-          ∙ sym (ap (λ (t : Bool). cond t (requests_in os p ++ request_of o ∷ []) (requests_in os p)) hit)
-      | inr miss ↦
-          let other : o.from == p ≡ false = ne_eqb o.from p (λ e. wrong (p == o.from) miss (ap (λ t. p == t) e ∙ self p)) in
-          whole ∙ ap (λ t. requests_in (take at os) p ++ t) (requests_hit o (drop at os) p false other)
-          ∙ sym (requests_split os at p)
-          ∙ sym (ap (λ (t : Bool). cond t (requests_in os p ++ request_of o ∷ []) (requests_in os p)) miss)
+no_requests_of_others : (q k x : ℕ) (rs : List Request) → q ≢ x → requests_in (opened_by q k rs) x ≡ []
+no_requests_of_others q k x [] ne = refl
+no_requests_of_others q k x (r ∷ rs) ne = requests_hit (session_by q k r) (opened_by q (k + 1) rs) x false (ne_eqb q x ne) ∙ no_requests_of_others q (k + 1) x rs ne
+
+pub length-opened_by : (p k : ℕ) (rs : List Request) → length (opened_by p k rs) ≡ length rs
+length-opened_by p k [] = refl
+length-opened_by p k (r ∷ rs) = ap suc (length-opened_by p (k + 1) rs)
+
+-- ---- of all parties
+
+requests_below : (all : Requests) (n q x : ℕ) → x < q → requests_in (opened_from all n q) x ≡ []
+requests_below all zero q x lt = refl
+requests_below all (suc n) q x lt =
+    requests-append (opened_by q 0 (all q)) (opened_from all n (q + 1)) x
+    ∙ ap (λ t. t ++ requests_in (opened_from all n (q + 1)) x) (no_requests_of_others q 0 x (all q) (λ e. absurd (omega (arith, lt, e))))
+    ∙ requests_below all n (q + 1) x (omega (arith, lt))
+
+pub requests_past : (all : Requests) (n q x : ℕ) → q + n ≤ x → requests_in (opened_from all n q) x ≡ []
+requests_past all zero q x le = refl
+requests_past all (suc n) q x le =
+    requests-append (opened_by q 0 (all q)) (opened_from all n (q + 1)) x
+    ∙ ap (λ t. t ++ requests_in (opened_from all n (q + 1)) x) (no_requests_of_others q 0 x (all q) (λ e. absurd (omega (arith, le, e))))
+    ∙ requests_past all n (q + 1) x (omega (arith, le))
+
+pub requests_within : (all : Requests) (n q x : ℕ) → q ≤ x → x < q + n → requests_in (opened_from all n q) x ≡ all x
+requests_within all zero q x le lt = absurd (omega (arith, le, lt))
+requests_within all (suc n) q x le lt =
+    requests-append (opened_by q 0 (all q)) (opened_from all n (q + 1)) x
+    ∙ elim (cases_eq q x) [
+      | inl same ↦
+          ap (λ t. requests_in (opened_by q 0 (all q)) x ++ t) (requests_below all n (q + 1) x (omega (arith, same)))
+          ∙ append-nil (requests_in (opened_by q 0 (all q)) x)
+          ∙ ap (requests_in (opened_by q 0 (all q))) (sym same)
+          ∙ own_requests q 0 (all q)
+          ∙ ap all same
+      | inr other ↦
+          ap (λ t. t ++ requests_in (opened_from all n (q + 1)) x) (no_requests_of_others q 0 x (all q) other)
+          ∙ requests_within all n (q + 1) x (let it : q + 1 ≤ x = omega (arith, le, λ (e : q ≡ x). other e) in it) (omega (arith, lt))
     ]
-  where
-    self : (n : ℕ) → n == n ≡ true
-    self n = eq-eqb n n refl
 
-    wrong : (b : Bool) → b ≡ false → b ≡ true → ⊥
-    wrong true f t = cc
-    wrong false f t = cc
+pub same_opened : (one other : Requests) (n q : ℕ) → ((x : ℕ) → q ≤ x → one x ≡ other x) → opened_from one n q ≡ opened_from other n q
+same_opened one other zero q same = refl
+same_opened one other (suc n) q same =
+    (let first = same q (omega arith) in λ i. opened_by q 0 (first i) ++ opened_from one n (q + 1))
+    ∙ ap (λ t. opened_by q 0 (other q) ++ t) (same_opened one other n (q + 1) (λ x le. same x (omega (arith, le))))
 
--- ---- the first that isn't accepted
+-- ---- how many lie before those of a party
 
--- the session when it was accepted under that name
-abbrev pub accepted_session : Opened → ℕ → Opened
-accepted_session o y = record { sess = o.sess; from = o.from; first = o.first; to = o.to; second = Some y }
+before_hit : (o : Opened) (os : List Opened) (p : ℕ) (b : Bool) → nat_lt o.from p ≡ b → before_in (o ∷ os) p ≡ cond b (suc (before_in os p)) (before_in os p)
+before_hit o os p b h = ap (λ t. cond t (suc (before_in os p)) (before_in os p)) h
 
-offer_here : (to : ℕ) (r : Request) (rs : List Request) (b : Bool) → is_offered to r ≡ b → first_offer to (r ∷ rs) ≡ cond b (Some 0) (option_map (λ k. suc k) (first_offer to rs))
-offer_here to r rs b h = ap (λ t. cond t (Some 0) (option_map (λ k. suc k) (first_offer to rs))) h
+before-append : (xs ys : List Opened) (p : ℕ) → before_in (xs ++ ys) p ≡ before_in xs p + before_in ys p
+before-append [] ys p = omega arith
+before-append (x ∷ xs) ys p =
+    elim (cases_Bool (nat_lt x.from p)) [
+      | inl hit ↦ omega (arith, before_hit x (xs ++ ys) p true hit, before_hit x xs p true hit, before-append xs ys p)
+      | inr miss ↦ omega (arith, before_hit x (xs ++ ys) p false miss, before_hit x xs p false miss, before-append xs ys p)
+    ]
 
--- those of the party that requested it, when the one of index k is accepted
-pub accepted_list : (os : List Opened) (at : ℕ) (o : Opened) (to from name k : ℕ) → at < length os → o ≡ get_or os at o → o.from == from ≡ true → is_offered to (request_of o) ≡ true
-    → first_offer to (requests_in (take at os) from) ≡ None → first_offer to (requests_in os from) ≡ Some k
-    → requests_in (set os at (accepted_session o name)) from ≡ altered_list (requests_in os from) k (accepted_as name)
-accepted_list [] at o to from name k lt is hit fits none first = absurd (omega arith)
-accepted_list (x ∷ os) zero o to from name k lt is hit fits none first =
-    let there : requests_in (x ∷ os) from ≡ request_of o ∷ requests_in os from = ap (λ (t : Opened). requests_in (t ∷ os) from) (sym is) ∙ requests_hit o os from true hit in
-    let zeroth : 0 ≡ k = let s : Some 0 ≡ Some k = sym (ap (first_offer to) there ∙ offer_here to (request_of o) (requests_in os from) true fits) ∙ first in cc in
-    requests_hit (accepted_session o name) os from true hit
-    ∙ sym (ap (λ t. altered_list t 0 (accepted_as name)) there)
-    ∙ ap (λ (t : ℕ). altered_list (requests_in (x ∷ os) from) t (accepted_as name)) zeroth
-accepted_list (x ∷ os) (suc at) o to from name k lt is hit fits none first =
-    elim (cases_Bool (x.from == from)) [
-      | inr miss ↦
-          requests_hit x (set os at (accepted_session o name)) from false miss
-          ∙ accepted_list os at o to from name k (omega arith) is hit fits (sym (ap (first_offer to) (requests_hit x (take at os) from false miss)) ∙ none) (sym (ap (first_offer to) (requests_hit x os from false miss)) ∙ first)
-          ∙ sym (ap (λ t. altered_list t k (accepted_as name)) (requests_hit x os from false miss))
-      | inl mine ↦
-          elim (cases_Bool (is_offered to (request_of x))) [
-            | inl offered ↦ let s : Some 0 ≡ None = sym (ap (first_offer to) (requests_hit x (take at os) from true mine) ∙ offer_here to (request_of x) (requests_in (take at os) from) true offered) ∙ none in absurd cc
-            | inr past ↦
-                later x os at o to from name k lt is hit fits mine
-                (sym (ap (first_offer to) (requests_hit x (take at os) from true mine) ∙ offer_here to (request_of x) (requests_in (take at os) from) false past) ∙ none)
-                (sym (ap (first_offer to) (requests_hit x os from true mine) ∙ offer_here to (request_of x) (requests_in os from) false past) ∙ first)
-                (accepted_list os at o to from name)
+before_of_lower : (q k p : ℕ) (rs : List Request) → q < p → before_in (opened_by q k rs) p ≡ length rs
+before_of_lower q k p [] lt = refl
+before_of_lower q k p (r ∷ rs) lt = before_hit (session_by q k r) (opened_by q (k + 1) rs) p true (lt-ltb q p lt) ∙ ap suc (before_of_lower q (k + 1) p rs lt)
+
+before_of_higher : (q k p : ℕ) (rs : List Request) → p ≤ q → before_in (opened_by q k rs) p ≡ 0
+before_of_higher q k p [] le = refl
+before_of_higher q k p (r ∷ rs) le = before_hit (session_by q k r) (opened_by q (k + 1) rs) p false (le-ltb q p le) ∙ before_of_higher q (k + 1) p rs le
+
+none_before : (all : Requests) (n q p : ℕ) → p ≤ q → before_in (opened_from all n q) p ≡ 0
+none_before all zero q p le = refl
+none_before all (suc n) q p le = omega (arith, before-append (opened_by q 0 (all q)) (opened_from all n (q + 1)) p, before_of_higher q 0 p (all q) le, none_before all n (q + 1) p (omega (arith, le)))
+
+-- those of the party itself come first, and else all those of the first party come before them
+pub before_first : (all : Requests) (n q : ℕ) → before_in (opened_from all (suc n) q) q ≡ 0
+before_first all n q = none_before all (suc n) q q (omega arith)
+
+pub before_later : (all : Requests) (n q p : ℕ) → q < p → before_in (opened_from all (suc n) q) p ≡ length (all q) + before_in (opened_from all n (q + 1)) p
+before_later all n q p lt = before-append (opened_by q 0 (all q)) (opened_from all n (q + 1)) p ∙ ap (λ t. t + before_in (opened_from all n (q + 1)) p) (before_of_lower q 0 p (all q) lt)
+
+-- none is both before those of the party and of the party
+pub all_fit : (os : List Opened) (p : ℕ) → before_in os p + length (requests_in os p) ≤ length os
+all_fit [] p = omega arith
+all_fit (o ∷ os) p =
+    elim (cases_Bool (nat_lt o.from p)) [
+      | inl low ↦
+          elim (cases_Bool (o.from == p)) [
+            | inl hit ↦ absurd (clash o.from p low hit)
+            | inr miss ↦ omega (arith, before_hit o os p true low, ap length (requests_hit o os p false miss), all_fit os p)
+          ]
+      | inr high ↦
+          elim (cases_Bool (o.from == p)) [
+            | inl hit ↦ omega (arith, before_hit o os p false high, ap length (requests_hit o os p true hit), all_fit os p)
+            | inr miss ↦ omega (arith, before_hit o os p false high, ap length (requests_hit o os p false miss), all_fit os p)
           ]
     ]
   where
-    later : (x : Opened) (os : List Opened) (at : ℕ) (o : Opened) (to from name k : ℕ) → suc at < length (x ∷ os) → o ≡ get_or os at o → o.from == from ≡ true → is_offered to (request_of o) ≡ true → x.from == from ≡ true
-        → option_map (λ j. suc j) (first_offer to (requests_in (take at os) from)) ≡ None → option_map (λ j. suc j) (first_offer to (requests_in os from)) ≡ Some k
-        → ((j : ℕ) → at < length os → o ≡ get_or os at o → o.from == from ≡ true → is_offered to (request_of o) ≡ true → first_offer to (requests_in (take at os) from) ≡ None → first_offer to (requests_in os from) ≡ Some j → requests_in (set os at (accepted_session o name)) from ≡ altered_list (requests_in os from) j (accepted_as name))
-        → requests_in (set (x ∷ os) (suc at) (accepted_session o name)) from ≡ altered_list (requests_in (x ∷ os) from) k (accepted_as name)
-    later x os at o to from name k lt is hit fits mine none first on =
-        let p = pred (first_offer to (requests_in os from)) k first in
-        requests_hit x (set os at (accepted_session o name)) from true mine
-        ∙ ap (λ t. request_of x ∷ t) (on p.0 (omega arith) is hit fits (nothing (first_offer to (requests_in (take at os) from)) none) p.1.1)
-        ∙ sym (ap (λ t. altered_list t (suc p.0) (accepted_as name)) (requests_hit x os from true mine))
-        ∙ ap (λ (t : ℕ). altered_list (requests_in (x ∷ os) from) t (accepted_as name)) (sym p.1.0)
-      where
-        pred : (q : Option ℕ) (k : ℕ) → option_map (λ j. suc j) q ≡ Some k → (j : ℕ) × ((k ≡ suc j) × (q ≡ Some j))
-        pred None k h = absurd cc
-        pred (Some j) k h = (j, (let e : suc j ≡ k = cc in sym e, refl))
-
-        nothing : (q : Option ℕ) → option_map (λ j. suc j) q ≡ None → q ≡ None
-        nothing None h = refl
-        nothing (Some j) h = absurd cc
+    clash : (a b : ℕ) → nat_lt a b ≡ true → a == b ≡ true → ⊥
+    clash a b low hit = omega (arith, ltb-true a b low, eqb-true a b hit)

@@ -1,6 +1,6 @@
 -- What a party's next step makes of the party, of the sessions and of the requests.
 use Rattle.std.specs.Prelude.{◌≡◌, ℕ, [], List, map, Option, option_map}
-use Rattle.sj_lang.specs.declared.proto.ProtocolDef.{ProtocolDef}
+use Rattle.sj_lang.specs.declared.file.ProtocolDef.{ProtocolDef}
 use Rattle.sj_lang.specs.FileView.{protocol_of}
 use Rattle.sj_semantics.specs.declared.Opened.{Opened}
 use Rattle.sj_semantics.specs.Ends as model
