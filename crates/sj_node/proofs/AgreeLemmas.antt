@@ -1,6 +1,6 @@
 -- Where none of the causes applies, and the places let the step, the rules have an act.
 use Rattle.std.proofs.Common.{rules, IsSome, ◌≡◌, ℕ, ◌+◌, ◌<◌, Bool, true, false, not, if◌then◌else◌, List, [], ◌∷◌, Option, Some, None, option_map, refl, sym, ◌∙◌, arith}
-use Rattle.std.specs.Prelude.{is_some, length, nat_lt, slice_get, ◌&&◌}
+use Rattle.std.specs.Prelude.{is_some, nat_lt, slice_get, ◌&&◌}
 use Rattle.std.proofs.lemmas.Bool.Decides.{nat_tests}
 use Rattle.sj_base.specs.declared.EndId.{EndId}
 use Rattle.sj_base.specs.declared.Msg.{Msg}
@@ -15,19 +15,20 @@ use Rattle.sj_semantics.specs.declared.Want.TheVariants as wants
 use Rattle.sj_semantics.specs.Program.{Program}
 use Rattle.sj_semantics.specs.Fitting.{fits}
 use Rattle.sj_machine.specs.Sound.{program_at}
-use Rattle.sj_rules.specs.Record.{HeldAt, MainAt, Held, Closed, Expected, Parked, is_same_end}
+use Rattle.sj_rules.specs.Record.{HeldAt, MainAt, Held, Closed, Expected, Parked, is_same_end, offered_end}
+use Rattle.sj_rules.specs.Opened.{smallest, smallest_from}
 use Rattle.sj_rules.specs.Halts.{is_delegated_enough, is_empty, lacks_message}
 use Rattle.sj_rules.specs.Mapped.{held_with, main_with}
-use Rattle.sj_rules.specs.Node.{NodeAt, close_act, delegate_act, is_free, put, send_act, take_act, take_from, with_main, with_old}
+use Rattle.sj_rules.specs.Node.{NodeAt, accept_offered, accept_session, close_act, delegate_act, is_free, put, send_act, take_act, take_from, with_main, with_old}
 use Rattle.sj_node.specs.declared.node.Node.{Node}
 use Rattle.sj_node.specs.declared.refusal.Halt.{Halt}
 use Rattle.sj_node.specs.declared.refusal.Halt.TheVariants as halts
 use Rattle.sj_node.specs.Halts.{hold_up, names_awaited, stop_by}
-use Rattle.sj_node.specs.Node.{act_of, is_below_count, main_of, node_at, play_of, steps_of, stop_of, wants_of}
+use Rattle.sj_node.specs.Node.{act_of, is_below_count, main_of, node_at, offers_of, play_of, steps_of, stop_of, wants_of}
 use Rattle.sj_node.specs.Play.{awaited_place, names_known}
 use Rattle.sj_node.specs.Slots.{mains_in}
 use Rattle.sj_node.specs.Taking.{held_head}
-use Rattle.sj_node.specs.Unfit.{Agrees, Misfit, full, is_held, is_over, lets, misfit_at, misfit_by, misfit_of, misfit_on, taken, unknown, unwanted}
+use Rattle.sj_node.specs.Unfit.{Agrees, Misfit, full, is_held, is_offer_held, is_over, lets, misfit_at, misfit_by, misfit_of, misfit_on, taken, unknown, unwanted}
 use Rattle.sj_node.proofs.ActLemmas.{act_at}
 use Rattle.sj_node.proofs.UnfitLemmas.{step_of}
 
@@ -94,7 +95,7 @@ taken_some n f e place (Some (Held h)) held some agrees fit none = go h.untaken 
     go : (ms : List Msg) → is_empty ms ≡ false → misfit_at n (slice_get ms 0) ≡ None → take_from (play_of n) (node_at n) e place (held_with f h) ms ≡ None → ⊥
     go [] some fit none = cc
     go (m ∷ rest) some fit none =
-        let all = all_taken (fits (program_at n.machine) m) (names_known (length n.mains.items) n.parties m) (is_free (node_at n) m) fit in
+        let all = all_taken (fits (program_at n.machine) m) (names_known n.connects n.parties m) (is_free (node_at n) m) fit in
         mapped _ (after_place (f h.end.place) Into m) (agrees m all.0) (passed _ _ all.1 none)
 taken_some n f e place (Some (Closed c)) held some agrees fit none = cc
 taken_some n f e place (Some (Expected keeper q deferred)) held some agrees fit none = cc
@@ -115,24 +116,47 @@ goes true true o h = cc
 goes false b o h = cc
 
 -- it isn't at its last step, and isn't held up
-going : (main : EndId → Option (MainAt Spot)) (steps : ℕ) (w : Want) → stop_by main steps w ≡ None → (nat_lt steps 10000 ≡ true) × (hold_up main w ≡ None)
-going main steps wants.Local h = goes (nat_lt steps 10000) (names_awaited main wants.Local) (hold_up main wants.Local) h
-going main steps (wants.Send e m) h = goes (nat_lt steps 10000) (names_awaited main (wants.Send e m)) (hold_up main (wants.Send e m)) h
-going main steps (wants.Delegate e y) h = goes (nat_lt steps 10000) (names_awaited main (wants.Delegate e y)) (hold_up main (wants.Delegate e y)) h
-going main steps (wants.Take e a) h = goes (nat_lt steps 10000) (names_awaited main (wants.Take e a)) (hold_up main (wants.Take e a)) h
-going main steps (wants.Close e) h = goes (nat_lt steps 10000) (names_awaited main (wants.Close e)) (hold_up main (wants.Close e)) h
-going main steps wants.Ended h = cc
+going : (main : EndId → Option (MainAt Spot)) (requests : ℕ) (offers : ℕ → List ℕ) (steps : ℕ) (w : Want) → stop_by main requests offers steps w ≡ None → (nat_lt steps 10000 ≡ true) × (hold_up main requests offers w ≡ None)
+going main k o steps wants.Local h = goes (nat_lt steps 10000) (names_awaited main wants.Local) (hold_up main k o wants.Local) h
+going main k o steps (wants.Send e m) h = goes (nat_lt steps 10000) (names_awaited main (wants.Send e m)) (hold_up main k o (wants.Send e m)) h
+going main k o steps (wants.Delegate e y) h = goes (nat_lt steps 10000) (names_awaited main (wants.Delegate e y)) (hold_up main k o (wants.Delegate e y)) h
+going main k o steps (wants.Take e a) h = goes (nat_lt steps 10000) (names_awaited main (wants.Take e a)) (hold_up main k o (wants.Take e a)) h
+going main k o steps (wants.Close e) h = goes (nat_lt steps 10000) (names_awaited main (wants.Close e)) (hold_up main k o (wants.Close e)) h
+going main k o steps (wants.Request p to) h = goes (nat_lt steps 10000) (names_awaited main (wants.Request p to)) (hold_up main k o (wants.Request p to)) h
+going main k o steps (wants.Accept p from) h = goes (nat_lt steps 10000) (names_awaited main (wants.Accept p from)) (hold_up main k o (wants.Accept p from)) h
+going main k o steps wants.Ended h = cc
 
-some_step : (n : Node) (w : Want) → stop_by (mains_in n.mains.items) (steps_of n) w ≡ None → Agrees n w → misfit_by n w ≡ None → step_of n w ≡ None → ⊥
+-- what isn't held up, of this node
+up : (n : Node) (w : Want) → stop_by (mains_in n.mains.items) n.requests (offers_of n) (steps_of n) w ≡ None → hold_up (mains_in n.mains.items) n.requests (offers_of n) w ≡ None
+up n w stop = (going (mains_in n.mains.items) n.requests (offers_of n) (steps_of n) w stop).1
+
+few_open : {X : Type 0} (b : Bool) (x : X) → ◌≡◌ {A = Option Halt} (if b then None else Some halts.AtLimit) None → ◌≡◌ {A = Option X} (if b then Some x else None) None → ⊥
+few_open true x few none = cc
+few_open false x few none = cc
+
+accepted_some : (n : Node) (place : Place) (from sess : ℕ) (r : Option (MainAt Place)) → is_held r ≡ true → accept_session (play_of n) (node_at n) place from sess r ≡ None → ⊥
+accepted_some n place from sess (Some (Held h)) held none = cc
+accepted_some n place from sess (Some (Closed c)) held none = cc
+accepted_some n place from sess (Some (Expected keeper q deferred)) held none = cc
+accepted_some n place from sess None held none = cc
+
+offered_some : (n : Node) (place : Place) (from : ℕ) (offers : List ℕ) → is_empty offers ≡ false → is_offer_held n (smallest offers) ≡ true → accept_offered (play_of n) (node_at n) place from (smallest offers) ≡ None → ⊥
+offered_some n place from [] some held none = cc
+offered_some n place from (s ∷ ss) some held none = accepted_some n place from (smallest_from s ss) ((node_at n).main (offered_end (smallest_from s ss))) held none
+
+some_step : (n : Node) (w : Want) → stop_by (mains_in n.mains.items) n.requests (offers_of n) (steps_of n) w ≡ None → Agrees n w → misfit_by n w ≡ None → step_of n w ≡ None → ⊥
 some_step n wants.Local stop agrees fit none = cc
 some_step n (wants.Send e m) stop agrees fit none = sent_some n (node_at n) e m ((node_at n).main e) agrees (passed _ _ (room (place_in n.table) (main_of n e) fit) none)
 some_step n (wants.Delegate e y) stop agrees fit none =
     handed_some n (place_in n.table) e y (main_of n y) agrees.1
-    (not_enough (is_delegated_enough (main_of n y)) (going (mains_in n.mains.items) (steps_of n) (wants.Delegate e y) stop).1) agrees.0 agrees.2
+    (not_enough (is_delegated_enough (main_of n y)) (up n (wants.Delegate e y) stop)) agrees.0 agrees.2
     (passed _ _ (room (place_in n.table) (main_of n e) fit) none)
 some_step n (wants.Take e a) stop agrees fit none =
-    taken_some n (place_in n.table) e (awaited_place (start_in n.table) a) (main_of n e) agrees.0 (not_lacking (lacks_message (main_of n e)) (going (mains_in n.mains.items) (steps_of n) (wants.Take e a) stop).1) agrees.1 fit none
+    taken_some n (place_in n.table) e (awaited_place (start_in n.table) a) (main_of n e) agrees.0 (not_lacking (lacks_message (main_of n e)) (up n (wants.Take e a) stop)) agrees.1 fit none
 some_step n (wants.Close e) stop agrees fit none = closed_some n e ((node_at n).main e) agrees none
+some_step n (wants.Request p to) stop agrees fit none = few_open (nat_lt n.requests 100) _ (up n (wants.Request p to) stop) none
+some_step n (wants.Accept p from) stop agrees fit none =
+    offered_some n (start_in n.table p) from (offers_of n from) (not_lacking (is_empty (offers_of n from)) (up n (wants.Accept p from) stop)) agrees none
 some_step n wants.Ended stop agrees fit none = cc
 
 -- a step that nothing holds up, and that its places let, has no act for one of the causes alone
@@ -140,7 +164,7 @@ pub only_misfits : (n : Node) → stop_of n ≡ None → Agrees n (wants_of n) �
 only_misfits n stop agrees none = go (misfit_of n) refl
   where
     steps : steps_of n < 10000
-    steps = let lt = (going (mains_in n.mains.items) (steps_of n) (wants_of n) stop).0 in grind (arith, nat_tests)
+    steps = let lt = (going (mains_in n.mains.items) n.requests (offers_of n) (steps_of n) (wants_of n) stop).0 in grind (arith, nat_tests)
 
     go : (o : Option Misfit) → misfit_of n ≡ o → IsSome o
     go (Some x) is = search rules

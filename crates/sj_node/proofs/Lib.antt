@@ -6,6 +6,8 @@ pub mod DueLemmas
 pub mod FilePlayLemmas
 pub mod GiveLemmas
 pub mod NodeLemmas
+pub mod OfferLemmas
+pub mod OpeningLemmas
 pub mod OutLemmas
 pub mod PassLemmas
 pub mod PlayLemmas

@@ -4,6 +4,8 @@ use Rattle.std.specs.Prelude.{unwrap_or, not}
 use Rattle.sj_base.specs.declared.EndId.{EndId}
 use Rattle.sj_base.specs.declared.Msg.{Msg}
 use Rattle.sj_lang.specs.After.{after_place}
+use Rattle.sj_lang.specs.Dual.{dual_of}
+use Rattle.sj_lang.specs.Place.{done}
 use Rattle.sj_lang.specs.FileAt.{ProtocolAt, body_named}
 use Rattle.sj_lang.specs.ItemCount.{is_done}
 use Rattle.sj_semantics.specs.declared.Want.{Want}
@@ -11,6 +13,7 @@ use Rattle.sj_semantics.specs.declared.Want.TheVariants as wants
 use Rattle.sj_semantics.specs.declared.Awaits.{Awaits}
 use Rattle.sj_semantics.specs.declared.Awaits.TheVariants as awaits
 use Rattle.sj_semantics.specs.Program.{Program}
+use Rattle.sj_semantics.specs.Steps.{opened_of}
 use Rattle.sj_semantics.specs.Wants.{want_of}
 use Rattle.sj_semantics.specs.Fitting.{fits}
 use Rattle.sj_rules.specs.Node as rules
@@ -20,7 +23,7 @@ use Rattle.sj_rules.specs.Record.{MainAt, Held, Closed, Expected, HeldAt}
 use Rattle.sj_rules.specs.Rows.{Worked}
 use Rattle.sj_table.specs.Spots.{start_in}
 use Rattle.sj_node.specs.declared.node.Node.{Node}
-use Rattle.sj_node.specs.Node.{play_of, slot_count}
+use Rattle.sj_node.specs.Node.{play_of, connect_count}
 use Rattle.sj_node.specs.Play.{HeadsAre, asking, awaited_place, done_by, goes_on, names_known, play_with, want_with}
 
 same_awaited : (ps : List ProtocolAt) (a : Awaits) → awaited_place (body_named ps) a ≡ file.place_awaited ps a
@@ -37,6 +40,8 @@ same_want ps (Some (wants.Send e m)) = refl
 same_want ps (Some (wants.Delegate e y)) = refl
 same_want ps (Some (wants.Take e a)) = ap (rules.takes e) (same_awaited ps a)
 same_want ps (Some (wants.Close e)) = refl
+same_want ps (Some (wants.Request p to)) = refl
+same_want ps (Some (wants.Accept p from)) = refl
 
 same_step : (g : Program) (o : Option Want) → done_by (unwrap_or o wants.Ended) g ≡ file.after_step g o
 same_step g None = refl
@@ -46,6 +51,8 @@ same_step g (Some (wants.Send e m)) = refl
 same_step g (Some (wants.Delegate e y)) = refl
 same_step g (Some (wants.Take e a)) = refl
 same_step g (Some (wants.Close e)) = refl
+same_step g (Some (wants.Request p to)) = refl
+same_step g (Some (wants.Accept p from)) = refl
 
 -- the program after a step
 pub same_goes : (g : Program) (o : Option Msg) → goes_on g o ≡ file.program_after g o
@@ -53,20 +60,23 @@ same_goes g None = same_step g (want_of g)
 same_goes g (Some m) = refl
 
 -- a node plays as the file's protocols say, but takes no session message that names what isn't there
-pub plays_file : (ps : List ProtocolAt) (slots parties : ℕ) → play_with (body_named ps) slots parties ≡ asking (names_known slots parties) (file.play_for parties ps)
-plays_file ps slots parties = λ i. record {
+pub plays_file : (ps : List ProtocolAt) (connects parties : ℕ) → play_with (body_named ps) connects parties ≡ asking (names_known connects parties) (file.play_for parties ps)
+plays_file ps connects parties = λ i. record {
   next = after_place;
   is_over = λ p. is_done p;
+  blank = done;
+  dual = dual_of;
   wants = λ g. same_want ps (want_of g) i;
   goes = λ g o. same_goes g o i;
-  fits = λ g m. fits g m && names_known slots parties m;
+  opened = opened_of;
+  fits = λ g m. fits g m && names_known connects parties m;
   is_worn = λ g. not (ltb g.steps 10000);
   parties = parties;
 }
 
--- a node with the same table, slots and parties plays alike
-pub same_play : (old new : Node) → new.table ≡ old.table → slot_count new ≡ slot_count old → new.parties ≡ old.parties → play_of new ≡ play_of old
-same_play old new table slots parties = λ i. play_with (start_in (table i)) (slots i) (parties i)
+-- a node with the same table, connections and parties plays alike
+pub same_play : (old new : Node) → new.table ≡ old.table → connect_count new ≡ connect_count old → new.parties ≡ old.parties → play_of new ≡ play_of old
+same_play old new table connects parties = λ i. play_with (start_in (table i)) (connects i) (parties i)
 
 -- ---- a play that asks more
 
@@ -98,6 +108,8 @@ module _ {P Q : Type 0} (play : Play P Q) (known : Msg → Bool) (n : NodeAt P Q
   by_less party (rules.delegates e y) w h = h
   by_less party (rules.takes e place) w h = take_less e place (n.main e) w h
   by_less party (rules.closes e) w h = h
+  by_less party (rules.requests place to) w h = h
+  by_less party (rules.accepts place from) w h = h
 
   unless : {A : Type 0} (b : Bool) (x y : Option A) (w : A) → (x ≡ Some w → y ≡ Some w) → (if b then None else x) ≡ Some w → (if b then None else y) ≡ Some w
   unless true x y w f h = h
@@ -126,6 +138,8 @@ module _ {P Q : Type 0} (play : Play P Q) (known : Msg → Bool) (n : NodeAt P Q
   by_known heads party (rules.delegates e y) = refl
   by_known heads party (rules.takes e place) = take_known e place (n.main e) (λ x m rest there is. heads e x m rest there is)
   by_known heads party (rules.closes e) = refl
+  by_known heads party (rules.requests place to) = refl
+  by_known heads party (rules.accepts place from) = refl
 
   -- where the next messages are such, the plays act alike
   pub acts_known : (party : ℕ) → HeadsAre known n → acts (asking known play) party n ≡ acts play party n

@@ -1,6 +1,6 @@
 -- Where one of the causes applies the rules have no act.
 use Rattle.std.proofs.Common.{◌≡◌, Bool, true, false, if◌then◌else◌, List, [], ◌∷◌, Option, Some, None, option_map, refl}
-use Rattle.std.specs.Prelude.{length, nat_lt, not, slice_get, ◌&&◌}
+use Rattle.std.specs.Prelude.{nat_lt, not, slice_get, ◌&&◌}
 use Rattle.sj_base.specs.declared.EndId.{EndId}
 use Rattle.sj_base.specs.declared.Msg.{Msg}
 use Rattle.sj_lang.specs.Place.{Place}
@@ -56,7 +56,7 @@ none_taken n f e place (Some (Held h)) x is = go h.untaken is
   where
     go : (ms : List Msg) → misfit_at n (slice_get ms 0) ≡ Some x → take_from (play_of n) (node_at n) e place (held_with f h) ms ≡ None
     go [] is = cc
-    go (m ∷ rest) is = not_taken (fits (program_at n.machine) m) (names_known (length n.mains.items) n.parties m) (is_free (node_at n) m) x _ is
+    go (m ∷ rest) is = not_taken (fits (program_at n.machine) m) (names_known n.connects n.parties m) (is_free (node_at n) m) x _ is
 
 no_step : (n : Node) (w : Want) (x : Misfit) → misfit_by n w ≡ Some x → step_of n w ≡ None
 no_step n wants.Local x is = cc
@@ -64,6 +64,8 @@ no_step n (wants.Send e m) x is = rw (full_at (place_in n.table) (main_of n e) x
 no_step n (wants.Delegate e y) x is = rw (full_at (place_in n.table) (main_of n e) x is) refl
 no_step n (wants.Take e a) x is = none_taken n (place_in n.table) e (awaited_place (start_in n.table) a) (main_of n e) x is
 no_step n (wants.Close e) x is = cc
+no_step n (wants.Request p to) x is = cc
+no_step n (wants.Accept p from) x is = cc
 no_step n wants.Ended x is = cc
 
 -- where a cause applies there is no act

@@ -5,6 +5,8 @@ pub mod Giving
 pub mod Halts
 pub mod Keeping
 pub mod Node
+pub mod Offers
+pub mod Opening
 pub mod Outs
 pub mod Parking
 pub mod Passing

@@ -1,5 +1,5 @@
 -- What a party's slots have before any event.
-use Rattle.std.specs.Prelude.{◌≡◌, ℕ, ◌+◌, ◌*◌, List, [], ◌∷◌, length, Option, option_map}
+use Rattle.std.specs.Prelude.{◌≡◌, ℕ, ◌+◌, List, [], ◌∷◌, length, Option, option_map}
 use Rattle.sj_lang.specs.FileAt.{FileAt, ConnectAt, body_named}
 use Rattle.sj_lang.specs.Place.{Place}
 use Rattle.sj_table.specs.declared.table.Table.{Table}
@@ -9,7 +9,7 @@ use Rattle.sj_rules.specs.Record.{MainAt}
 use Rattle.sj_rules.specs.Start.{first_node, held_by}
 use Rattle.sj_node.specs.declared.node.Node.{Node}
 use Rattle.sj_node.specs.declared.slots.Main.{Main}
-use Rattle.sj_node.specs.Node.{clock_of, log_of, node_at, outbox_of, play_of, slot_count}
+use Rattle.sj_node.specs.Node.{clock_of, log_of, node_at, outbox_of, play_of, connect_count}
 use Rattle.sj_node.specs.Play.{play_with}
 use Rattle.sj_node.specs.Reading.{parties_of, party_of, table_of}
 use Rattle.sj_node.specs.Slots.{main_at}
@@ -25,7 +25,7 @@ slots_from file p n (c ∷ cs) =
     held_by file p (record { sess = n; side = 0 }) c ∷ held_by file p (record { sess = n; side = 1 }) c ∷ slots_from file p (n + 1) cs
 
 -- the node is that party's before any event, at that clock: its program and its ends are those of the start, nothing was sent or
--- noted, and it plays by the file's protocols, with two slots for each connection
+-- noted, and it plays by the file's protocols
 pub record Begins (file : FileAt) (p time : ℕ) (n : Node) : Type 0 where
   pub node : node_at n ≡ record (first_node file p) { clock = time }
   pub clock : clock_of n ≡ time
@@ -33,6 +33,6 @@ pub record Begins (file : FileAt) (p time : ℕ) (n : Node) : Type 0 where
   pub log : log_of n ≡ []
   pub party : party_of n ≡ p
   pub parties : parties_of n ≡ length file.parties
-  pub slots : slot_count n ≡ 2 * length file.connects
+  pub connects : connect_count n ≡ length file.connects
   pub starts : (q : ℕ) → start_in (table_of n) q ≡ body_named file.protocols q
-  pub play : play_of n ≡ play_with (body_named file.protocols) (2 * length file.connects) (length file.parties)
+  pub play : play_of n ≡ play_with (body_named file.protocols) (length file.connects) (length file.parties)

@@ -1,5 +1,5 @@
 -- Why a node can't do a step that nothing holds up.
-use Rattle.std.specs.Prelude.{◌≡◌, Bool, true, false, is_some, length, Option, Some, None, if◌then◌else◌, ⊤}
+use Rattle.std.specs.Prelude.{◌≡◌, ℕ, Bool, true, false, is_some, Option, Some, None, if◌then◌else◌, ⊤}
 use Rattle.sj_base.specs.declared.Msg.{Msg}
 use Rattle.sj_base.specs.declared.Msg.TheVariants as msgs
 use Rattle.sj_lang.specs.Place.{Place}
@@ -11,10 +11,11 @@ use Rattle.sj_semantics.specs.declared.Want.{Want}
 use Rattle.sj_semantics.specs.declared.Want.TheVariants as wants
 use Rattle.sj_semantics.specs.Fitting.{fits}
 use Rattle.sj_machine.specs.Sound.{program_at}
-use Rattle.sj_rules.specs.Record.{MainAt, Held, is_same_end}
+use Rattle.sj_rules.specs.Record.{MainAt, Held, is_same_end, offered_end}
+use Rattle.sj_rules.specs.Opened.{smallest}
 use Rattle.sj_rules.specs.Node.{is_free}
 use Rattle.sj_node.specs.declared.node.Node.{Node}
-use Rattle.sj_node.specs.Node.{is_below_count, main_of, next_head, node_at, wants_of}
+use Rattle.sj_node.specs.Node.{is_below_count, main_of, next_head, node_at, offers_of, wants_of}
 use Rattle.sj_node.specs.Play.{names_known}
 
 -- the next message isn't what the statement can take; it names no session, side or party of the file; it names an end that this
@@ -30,7 +31,7 @@ abbrev pub misfit_at : Node → Option Msg → Option Misfit
 misfit_at n None = None
 misfit_at n (Some m) =
     if fits (program_at n.machine) m
-    then (if names_known (length n.mains.items) n.parties m
+    then (if names_known n.connects n.parties m
     then (if is_free (node_at n) m then None else Some taken)
     else Some unknown)
     else Some unwanted
@@ -64,7 +65,12 @@ abbrev pub is_over : Option (MainAt Place) → Bool
 is_over (Some (Held h)) = is_done h.end.place
 is_over _ = false
 
--- the ends that the step names are held, and their places let it: what it sends, whatever it can take, or that it closes
+-- the offered end, where one is offered, is held
+abbrev pub is_offer_held : Node → Option ℕ → Bool
+is_offer_held n None = true
+is_offer_held n (Some sess) = is_held ((node_at n).main (offered_end sess))
+
+-- the ends that the step names or accepts are held, and their places let it: what it sends, whatever it can take, or that it closes
 abbrev pub Agrees : Node → Want → Type 0
 Agrees n wants.Local = ⊤
 Agrees n (wants.Send e m) = lets Out m ((node_at n).main e) ≡ true
@@ -73,4 +79,6 @@ Agrees n (wants.Delegate e y) =
 Agrees n (wants.Take e a) =
     (is_held ((node_at n).main e) ≡ true) × ((m : Msg) → fits (program_at n.machine) m ≡ true → lets Into m ((node_at n).main e) ≡ true)
 Agrees n (wants.Close e) = is_over ((node_at n).main e) ≡ true
+Agrees n (wants.Request p to) = ⊤
+Agrees n (wants.Accept p from) = is_offer_held n (smallest (offers_of n from)) ≡ true
 Agrees n wants.Ended = ⊤

@@ -1,14 +1,13 @@
 //! Acts of a party.
 ghost use Rattle.std.specs.Prelude.{◌≡◌, ◌+◌, ◌<◌, ◌↔◌, OnOk, OnErr, IfErr, IsErrOf, IsSome, Some, None};
 ghost use Rattle.sj_end.specs.declared.note.Event.TheVariants as events;
-ghost use Rattle.sj_node.specs.Node.{Does, Stays, act_of, clock_of, note_for, slot_count, steps_of, stop_of, wants_of};
+ghost use Rattle.sj_node.specs.Node.{Does, Stays, act_of, clock_of, note_for, connect_count, steps_of, stop_of, wants_of};
 ghost use Rattle.sj_node.specs.Halts.{is_late};
 ghost use Rattle.sj_node.specs.Unfit.{Agrees, misfit_of};
 ghost use Rattle.sj_node.specs.declared.refusal.Halt.TheVariants as halts;
 ghost use Rattle.sj_semantics.specs.declared.Want.TheVariants as wants;
 ghost use Rattle.sj_rules.specs.Limits.{clock_end, limit_of_steps};
 
-use crate::halting::stop_of;
 use crate::outs::{make_room, put_frame};
 use crate::sending::{close_on, peer_at, send_on};
 use crate::{Halt, Node};
@@ -29,7 +28,7 @@ impl Node {
         ensures err { OnErr result (Stays self.old self.new) }
 
         // No slot comes or goes.
-        ensures slots { slot_count self.new ≡ slot_count self.old }
+        ensures connects { connect_count self.new ≡ connect_count self.old }
 
         // It refuses a step so only where the rules have no act: where the places of its ends let
         // the step, for one of four causes.
@@ -43,7 +42,7 @@ impl Node {
         ensures waits { IsErrOf result Halt.Waits ↔ (stop_of self.old ≡ Some halts.Waits) }
     {
         let want = self.machine.wants();
-        match stop_of(&self.mains, self.machine.steps(), want) {
+        match self.stop_at(want) {
             Some(halt) => Err(halt),
             None => self.step(want),
         }
@@ -56,7 +55,7 @@ impl Node {
         ensures ok { OnOk result (Does self.old (act_of self.old) (clock_of self.old + 1) events.Act
             (note_for self.old) self.new) }
         ensures err { OnErr result (Stays self.old self.new) }
-        ensures slots { slot_count self.new ≡ slot_count self.old }
+        ensures connects { connect_count self.new ≡ connect_count self.old }
         ensures late { IfErr result is_late }
         ensures unfit { IsErrOf result Halt.Unfit → act_of self.old ≡ None }
     {
@@ -66,6 +65,8 @@ impl Node {
             Want::Delegate { end, sent } => self.step_delegate(end, sent),
             Want::Take { end, awaits } => self.step_take(end, awaits),
             Want::Close { end } => self.step_close(end),
+            Want::Request { protocol, to } => self.step_request(protocol, to),
+            Want::Accept { protocol, from } => self.step_accept(protocol, from),
             Want::Ended => unreachable!(),
         }
     }
@@ -78,7 +79,7 @@ impl Node {
         ensures ok { OnOk result (Does self.old (act_of self.old) (clock_of self.old + 1) events.Act
             (note_for self.old) self.new) }
         ensures err { OnErr result (Stays self.old self.new) }
-        ensures slots { slot_count self.new ≡ slot_count self.old }
+        ensures connects { connect_count self.new ≡ connect_count self.old }
         ensures late { IfErr result is_late }
         ensures unfit { IsErrOf result Halt.Unfit → act_of self.old ≡ None }
     {
@@ -101,7 +102,7 @@ impl Node {
         ensures ok { OnOk result (Does self.old (act_of self.old) (clock_of self.old + 1) events.Act
             (note_for self.old) self.new) }
         ensures err { OnErr result (Stays self.old self.new) }
-        ensures slots { slot_count self.new ≡ slot_count self.old }
+        ensures connects { connect_count self.new ≡ connect_count self.old }
         ensures late { IfErr result is_late }
         ensures unfit { IsErrOf result Halt.Unfit → act_of self.old ≡ None }
     {
@@ -140,7 +141,7 @@ impl Node {
         ensures ok { OnOk result (Does self.old (act_of self.old) (clock_of self.old + 1) events.Act
             (note_for self.old) self.new) }
         ensures err { OnErr result (Stays self.old self.new) }
-        ensures slots { slot_count self.new ≡ slot_count self.old }
+        ensures connects { connect_count self.new ≡ connect_count self.old }
         ensures late { IfErr result is_late }
         ensures unfit { IsErrOf result Halt.Unfit → act_of self.old ≡ None }
     {

@@ -1,7 +1,7 @@
 //! Steps that take from an end, and steps that delegate an end.
 ghost use Rattle.std.specs.Prelude.{◌≡◌, ◌+◌, ◌<◌, OnOk, OnErr, IfErr, IsErrOf, Some, None, true, false};
 ghost use Rattle.sj_end.specs.declared.note.Event.TheVariants as events;
-ghost use Rattle.sj_node.specs.Node.{Does, Stays, act_of, clock_of, main_of, next_head, note_for, slot_count, steps_of, takes_in, wants_of};
+ghost use Rattle.sj_node.specs.Node.{Does, Stays, act_of, clock_of, main_of, next_head, note_for, connect_count, steps_of, takes_in, wants_of};
 ghost use Rattle.sj_base.specs.declared.Msg.TheVariants as msgs;
 ghost use Rattle.sj_node.specs.Halts.{is_late};
 ghost use Rattle.sj_node.specs.Parking.{IsBelowHops, held_of};
@@ -12,7 +12,7 @@ ghost use Rattle.sj_semantics.specs.declared.Want.TheVariants as wants;
 
 use crate::limits::MAX_HOPS;
 use crate::outs::{make_room, put_frame};
-use crate::parking::{hops_at, is_same_end, make_slot, parked, put_old, take_out};
+use crate::parking::{hops_at, is_same_end, make_main_slot, make_slot, parked, put_old, take_out};
 use crate::sending::{peer_at, send_on};
 use crate::slots::Old;
 use crate::taking::{awaited_spot, expect, head_at, is_free, is_known, take_on};
@@ -31,14 +31,14 @@ impl Node {
         ensures ok { OnOk result (Does self.old (act_of self.old) (clock_of self.old + 1) events.Act
             (note_for self.old) self.new) }
         ensures err { OnErr result (Stays self.old self.new) }
-        ensures slots { slot_count self.new ≡ slot_count self.old }
+        ensures connects { connect_count self.new ≡ connect_count self.old }
         ensures late { IfErr result is_late }
         ensures unfit { IsErrOf result Halt.Unfit → act_of self.old ≡ None }
     {
         let Some(msg) = head_at(&self.mains, end) else {
             return Err(Halt::Unfit);
         };
-        if !self.machine.fits(&msg) || !is_known(self.mains.len(), self.parties, &msg) {
+        if !self.machine.fits(&msg) || !is_known(self.connects, self.parties, &msg) {
             return Err(Halt::Unfit);
         }
         match msg {
@@ -60,7 +60,7 @@ impl Node {
         ensures ok { OnOk result (Does self.old (act_of self.old) (clock_of self.old + 1) events.Act
             (note_for self.old) self.new) }
         ensures err { OnErr result (Stays self.old self.new) }
-        ensures slots { slot_count self.new ≡ slot_count self.old }
+        ensures connects { connect_count self.new ≡ connect_count self.old }
         ensures late { IfErr result is_late }
         ensures unfit { IsErrOf result Halt.Unfit → act_of self.old ≡ None }
     {
@@ -88,7 +88,7 @@ impl Node {
         ensures ok { OnOk result (Does self.old (act_of self.old) (clock_of self.old + 1) events.Act
             (note_for self.old) self.new) }
         ensures err { OnErr result (Stays self.old self.new) }
-        ensures slots { slot_count self.new ≡ slot_count self.old }
+        ensures connects { connect_count self.new ≡ connect_count self.old }
         ensures late { IfErr result is_late }
         ensures unfit { IsErrOf result Halt.Unfit → act_of self.old ≡ None }
     {
@@ -102,6 +102,9 @@ impl Node {
         };
         self.log.reserve(1)?;
         make_room(self.alloc, &mut self.outs, keeper, 1)?;
+        if make_main_slot(&mut self.mains, of).is_err() {
+            return Err(Halt::NoMemory);
+        }
         if let Err(halt) = take_on(&mut self.mains, &self.table, end, msg) {
             return Err(halt);
         }
@@ -134,7 +137,7 @@ impl Node {
         ensures ok { OnOk result (Does self.old (act_of self.old) (clock_of self.old + 1) events.Act
             (note_for self.old) self.new) }
         ensures err { OnErr result (Stays self.old self.new) }
-        ensures slots { slot_count self.new ≡ slot_count self.old }
+        ensures connects { connect_count self.new ≡ connect_count self.old }
         ensures late { IfErr result is_late }
         ensures unfit { IsErrOf result Halt.Unfit → act_of self.old ≡ None }
     {
@@ -162,7 +165,7 @@ impl Node {
         ensures ok { OnOk result (Does self.old (act_of self.old) (clock_of self.old + 1) events.Act
             (note_for self.old) self.new) }
         ensures err { OnErr result (Stays self.old self.new) }
-        ensures slots { slot_count self.new ≡ slot_count self.old }
+        ensures connects { connect_count self.new ≡ connect_count self.old }
         ensures late { IfErr result is_late }
         ensures unfit { IsErrOf result Halt.Unfit → act_of self.old ≡ None }
     {

@@ -6,7 +6,7 @@ ghost use Rattle.sj_lang.specs.FileAt.{ProtocolAt, body_named};
 ghost use Rattle.sj_lang.specs.Place.{Place};
 ghost use Rattle.sj_end.specs.declared.note.Event.{Event};
 ghost use Rattle.sj_end.specs.declared.note.Note.{Note};
-ghost use Rattle.sj_node.specs.Node.{Did, act_of, play_of, slot_count, stop_of, wants_of};
+ghost use Rattle.sj_node.specs.Node.{Did, act_of, play_of, stop_of, wants_of};
 ghost use Rattle.sj_node.specs.declared.node.Node.{Node};
 ghost use Rattle.sj_node.specs.Play.{HeadsAre, asking, names_known, play_with};
 ghost use Rattle.sj_node.specs.Unfit.{Agrees, Misfit, misfit_of};
@@ -17,29 +17,29 @@ ghost use Rattle.sj_semantics.specs.Program.{Program};
 
 /// A node plays as the file's protocols say, but takes no session message that names what isn't there.
 pub fn nodes_play_the_file()
-    ensures { (ps : List ProtocolAt) (slots parties : ℕ) → play_with (body_named ps) slots parties
-        ≡ asking (names_known slots parties) (file.play_for parties ps) }
+    ensures { (ps : List ProtocolAt) (connects parties : ℕ) → play_with (body_named ps) connects parties
+        ≡ asking (names_known connects parties) (file.play_for parties ps) }
 {}
 
 /// What a node's act does is an act of the file's protocols.
 pub fn acts_are_of_the_file()
-    ensures { (ps : List ProtocolAt) (slots parties party : ℕ) (n : NodeAt Place Program)
+    ensures { (ps : List ProtocolAt) (connects parties party : ℕ) (n : NodeAt Place Program)
         (w : Worked Place (NodeAt Place Program)) →
-        acts (play_with (body_named ps) slots parties) party n ≡ Some w →
+        acts (play_with (body_named ps) connects parties) party n ≡ Some w →
         acts (file.play_for parties ps) party n ≡ Some w }
 {}
 
 /// Where each next message of a held end names what is there, the two act alike.
 pub fn known_heads_are_taken_by_the_file()
-    ensures { (ps : List ProtocolAt) (slots parties party : ℕ) (n : NodeAt Place Program) →
-        HeadsAre (names_known slots parties) n →
-        acts (play_with (body_named ps) slots parties) party n ≡ acts (file.play_for parties ps) party n }
+    ensures { (ps : List ProtocolAt) (connects parties party : ℕ) (n : NodeAt Place Program) →
+        HeadsAre (names_known connects parties) n →
+        acts (play_with (body_named ps) connects parties) party n ≡ acts (file.play_for parties ps) party n }
 {}
 
-/// A node that did something, and has as many slots as before, plays as before.
+/// A node that did something plays as before.
 pub fn nodes_keep_their_play()
     ensures { (old new : Node) (left : Worked Place (NodeAt Place Program)) (clock : ℕ) (event : Event)
-        (note : Note) → Did old left clock event note new → slot_count new ≡ slot_count old →
+        (note : Note) → Did old left clock event note new →
         play_of new ≡ play_of old }
 {}
 

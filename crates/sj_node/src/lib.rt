@@ -14,6 +14,8 @@ mod keeping;
 mod laws;
 mod limits;
 mod node;
+mod offering;
+mod opening;
 mod outs;
 mod parking;
 mod passing;

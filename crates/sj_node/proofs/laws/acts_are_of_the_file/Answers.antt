@@ -8,5 +8,5 @@ use Rattle.sj_node.proofs.PlayLemmas.{acts_less, plays_file}
 use Rattle.sj_node.proofs.laws.acts_are_of_the_file.Goals as goal
 
 pub returns : goal.returns
-returns c = λ ps slots parties party n w h.
-    acts_less (play_for parties ps) (names_known slots parties) n party w (sym (ap (λ (play : Play Place Program). acts play party n) (plays_file ps slots parties)) ∙ h)
+returns c = λ ps connects parties party n w h.
+    acts_less (play_for parties ps) (names_known connects parties) n party w (sym (ap (λ (play : Play Place Program). acts play party n) (plays_file ps connects parties)) ∙ h)

@@ -8,5 +8,5 @@ use Rattle.sj_node.proofs.PlayLemmas.{acts_known, plays_file}
 use Rattle.sj_node.proofs.laws.known_heads_are_taken_by_the_file.Goals as goal
 
 pub returns : goal.returns
-returns c = λ ps slots parties party n heads.
-    ap (λ (play : Play Place Program). acts play party n) (plays_file ps slots parties) ∙ acts_known (play_for parties ps) (names_known slots parties) n party heads
+returns c = λ ps connects parties party n heads.
+    ap (λ (play : Play Place Program). acts play party n) (plays_file ps connects parties) ∙ acts_known (play_for parties ps) (names_known connects parties) n party heads

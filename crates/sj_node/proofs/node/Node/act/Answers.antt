@@ -1,6 +1,6 @@
 use Rattle.std.proofs.Common.{◌≡◌, None, sym, ◌∙◌}
 use Rattle.sj_node.specs.Halts.{stop_by}
-use Rattle.sj_node.specs.Node.{stop_of}
+use Rattle.sj_node.specs.Node.{offers_of, steps_of, stop_of}
 use Rattle.sj_node.specs.Slots.{mains_in}
 use Rattle.sj_node.proofs.AgreeLemmas.{only_misfits}
 use Rattle.sj_node.proofs.node.Node.act.Goals as goal
@@ -9,5 +9,5 @@ pub returns-in-None-clause-cause : goal.returns-in-None-clause-cause
 returns-in-None-clause-cause c = λ unfit agrees.
     let n = c.args.self.now in
     let goes : stop_of n ≡ None =
-    sym (λ i. stop_by (mains_in (c.deref.ensures.value i)) (c.steps.ensures i) (c.wants-want.ensures i)) ∙ sym c.stop_of.ensures ∙ c.in-None.is in
+    sym (λ i. stop_by (mains_in n.mains.items) n.requests (offers_of n) (steps_of n) (c.wants-want.ensures i)) ∙ sym c.stop_at.ensures ∙ c.in-None.is in
     only_misfits n goes agrees (c.step.ensures.unfit unfit)
