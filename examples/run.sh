@@ -31,6 +31,8 @@ crossing 0 run
 back 0 run
 peer 0 run
 relay 0 run
+width 0 sim
+opened 0 run
 blocked 6 sim
 limit 7 sim
 refused 5 check

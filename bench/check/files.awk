@@ -1,5 +1,5 @@
 # Writes a file of 65,536 bytes of the kind that `-v kind=` names: lets, ifs, sessions, handed, loops, held,
-# beside, passed, turns, arms, alike, variables, known, wide, labels.
+# beside, passed, turns, arms, alike, variables, known, wide, labels, widths.
 
 # A text of n pieces, the one and the other in turn.
 function many(n, odd, even,    text, i) {
@@ -114,6 +114,28 @@ function labels(    k, head, tail, body) {
     while (length(head body tail) < size - 6) body = body name(k++) ":{}"
     return head body tail
 }
+# A choice of n labels whose first arm has the text.
+function narrow(n, text,    i) {
+    text = "!{a:" text
+    for (i = 2; i <= n; i++) text = text "," substr("abcdefghijklmnop", i, 1) ":"
+    return text "}"
+}
+# So many places one after another, each of 31 such choices in one another.
+function chains(count, n,    i, text, all) {
+    for (i = 1; i <= 31; i++) text = narrow(n, text)
+    for (i = 1; i <= count; i++) all = all "." text
+    return all
+}
+# As many delegations as a tree of `if`s of that height has leaves.
+function delegations(height,    half) {
+    if (!height) return "delegate z x;"
+    half = delegations(height - 1)
+    return "if true{" half "}else{" half "}"
+}
+# An end whose choices have 16 labels is delegated where 15 of them are wanted.
+function widths(count) {
+    return protocol("t", chains(count, 16)) protocol("g", ".!<" substr(chains(count, 15), 2) ">") "party a{request x t to a;request z g to a;" delegations(10) "close z;}\n"
+}
 BEGIN {
     size = 65536
     if (kind == "lets") text = plain(1024, filling(plain(1024), "let n=1;"))
@@ -131,5 +153,6 @@ BEGIN {
     if (kind == "wide") text = branching(60, naming(5500), "let z_=1;")
     if (kind == "variables") text = variables(2500)
     if (kind == "labels") text = labels()
+    if (kind == "widths") text = widths(12)
     printf "%s%*s", text, size - length(text), ""
 }

@@ -25,6 +25,11 @@ awk 'NR == 1 { g = $1; w = $2; p = $3 } END {
     printf "\nFrom the first row to the last, a message: %.1f bytes of memory, %.1f bytes of transcript.\n", 1024 * ($3 - p) / ($1 - g), ($2 - w) / ($1 - g)
 }' "$folder/growth"
 
+# a file in which 1,000 sessions are opened and accepted
+awk -f "$top/bench/sim/requests.awk" > "$folder/requests"
+read -r best median <<< "$(times_on "$folder/requests" sim)"
+printf '\nrequests: best %s ms, median %s ms, peak %d KiB\n' "$best" "$median" "$(peak_on "$folder/requests" sim)"
+
 # a file that asks more of each step than any other that was tried; it comes to the limit of steps, and so
 # its runs end with status 7
 set +e

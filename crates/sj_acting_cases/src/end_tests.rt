@@ -86,6 +86,25 @@ fn parking_drops_what_is_not_taken(rt: HostRuntime) -> Result<(), Fail> {
 }
 
 #[test]
+fn an_offered_end_is_accepted_at_a_place(rt: HostRuntime) -> Result<(), Fail> {
+    let alloc = rt.alloc();
+    let takes = Vec::from_array(alloc, [Item::Recv(Kind::Int)])?;
+    let table = table_of(alloc, takes)?;
+    let opening = Body::Open { sess: 64 };
+    assert_eq!(rt; note_of(&opening), Note::Open { sess: 64 });
+    let offered = EndId { sess: 64, side: 1 };
+    let mut held = Held::first(alloc, offered, 0, Spot { node: 0 });
+    arrives(&rt, &mut held, 0, Msg::Int(5))?;
+    assert!(rt; held.end.place.node == 0);
+    held.accept(table.start(0));
+    let head = held.head().ok_or("one came before")?;
+    assert!(rt; table.after(held.end.place, Way::Into, &head).is_some());
+    assert_eq!(rt; held.take(&table), Msg::Int(5));
+    assert_eq!(rt; held.end.place, table.done());
+    Ok(())
+}
+
+#[test]
 fn a_closed_end_whose_peer_is_done_is_gone(rt: HostRuntime) -> Result<(), Fail> {
     let mut held = Held::first(rt.alloc(), FIRST, 1, Spot { node: 0 });
     held.fin_came();

@@ -74,7 +74,8 @@ fn a_copy_has_a_spot_for_each_item_and_the_empty_place(rt: HostRuntime) -> Resul
     let place = choice(alloc)?;
     let start = copy.start(W);
     assert_eq!(rt; start, table.start(W));
-    assert!(rt; copy.stands_for(start, &place), "the choice");
+    assert!(rt; copy.is_at(start, &place), "the choice");
+    assert!(rt; copy.stands_for(start, &place), "it stands for itself");
     assert!(rt; same(&copy.place(alloc, start)?, &place), "its place");
     assert_eq!(rt; copy.start(W + 1), copy.done(), "no such name");
     for node in 0..7 {

@@ -1,10 +1,11 @@
-//! The greeting, whose parties work over rings.
+//! The greeting, whose parties work over rings and over streams.
 
 use sj_base::EndId;
 use sj_check::Accepted;
 use sj_end::{Body, Entry, Event, Frame, Line, Note};
-use sj_lane::{Lanes, Links, OutLane, RingIn, RingLinks, RingOut};
+use sj_lane::{InLane, Lanes, Links, OutLane, RingIn, RingLinks, RingOut};
 use sj_node::Node;
+use sj_socket::SocketLinks;
 use sj_work::{Gate, NoGate, Stop, Worker, work, work_all};
 use std::alloc::Global;
 use std::sync::atomic::{AtomicU64, Ordering};
@@ -12,7 +13,7 @@ use std::test::Fail;
 
 mod greeting;
 
-use greeting::greeting;
+use greeting::{greeting, opened};
 
 const A: u16 = 0;
 
@@ -20,12 +21,12 @@ const B: u16 = 1;
 
 type RingWorker = Worker<RingOut, RingIn>;
 
-fn hired(
+fn hired<O: OutLane, I: InLane>(
     alloc: Global,
     accepted: &Accepted,
     party: u16,
-    lanes: Option<Lanes<RingOut, RingIn>>,
-) -> Result<RingWorker, Fail> {
+    lanes: Option<Lanes<O, I>>,
+) -> Result<Worker<O, I>, Fail> {
     if party as usize >= accepted.file().parties.len() {
         return Err(Fail::from("no such party"));
     }
@@ -117,5 +118,54 @@ fn both_finish_within_three_calls_and_a_gate_sees_each_event(rt: HostRuntime) ->
     // The clocks of the greeting's log: a sends, closes, and takes in the Fin.
     assert_eq!(rt; gate.digits.load(Ordering::Relaxed), 126);
     assert_eq!(rt; b.node().log().len(), 4);
+    Ok(())
+}
+
+/// So often both work, where frames take their time.
+const TRIES: u32 = 1_000_000;
+
+/// The first entry of a, and the first two of b, once a session was opened by a, accepted by b and
+/// closed.
+fn opening_over<O: OutLane, I: InLane>(
+    alloc: Global,
+    lanes: &mut Vec<Lanes<O, I>>,
+) -> Result<[Option<Entry>; 3], Fail> {
+    let accepted = opened(alloc)?;
+    let mut b = hired(alloc, &accepted, B, lanes.pop())?;
+    let mut a = hired(alloc, &accepted, A, lanes.pop())?;
+    for _ in 0..TRIES {
+        let stops = (work(&mut a, 1, &NoGate), work(&mut b, 1, &NoGate));
+        if stops == (Stop::Finished, Stop::Finished) {
+            let (a, b) = (a.node().log(), b.node().log());
+            return Ok([a.get(0).copied(), b.get(0).copied(), b.get(1).copied()]);
+        }
+    }
+    Err(Fail::from("not finished"))
+}
+
+fn entry(clock: u64, event: Event, note: Note) -> Option<Entry> {
+    Some(Entry { clock, event, note })
+}
+
+/// a opens the session, its Open comes to b, and b accepts it.
+fn opening() -> [Option<Entry>; 3] {
+    [
+        entry(1, Event::Act, Note::Request { sess: 64, to: B }),
+        entry(2, Event::Deliver(A), Note::Open { sess: 64 }),
+        entry(3, Event::Act, Note::Accept { sess: 64, from: A }),
+    ]
+}
+
+#[test]
+fn a_session_is_opened_and_accepted_over_rings(rt: HostRuntime) -> Result<(), Fail> {
+    let mut lanes = RingLinks::new().make(rt.alloc(), 2)?;
+    assert_eq!(rt; opening_over(rt.alloc(), &mut lanes)?, opening());
+    Ok(())
+}
+
+#[test]
+fn a_session_is_opened_and_accepted_over_streams(rt: HostRuntime) -> Result<(), Fail> {
+    let mut lanes = SocketLinks::new(&rt).make(rt.alloc(), 2)?;
+    assert_eq!(rt; opening_over(rt.alloc(), &mut lanes)?, opening());
     Ok(())
 }

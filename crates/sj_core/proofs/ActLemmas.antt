@@ -10,7 +10,7 @@ use Rattle.sj_semantics.specs.Program.{Program}
 use Rattle.sj_semantics.specs.Wants.{want_of}
 use Rattle.sj_table.specs.declared.table.Spot.{Spot}
 use Rattle.sj_rules.specs.Halts as rules
-use Rattle.sj_rules.specs.Halts.{halt_by, halt_if, halt_of, is_at_end, is_delegated_enough, is_expected, lacks_message}
+use Rattle.sj_rules.specs.Halts.{halt_by, halt_if, halt_of, is_at_end, is_delegated_enough, is_empty, is_expected, lacks_message}
 use Rattle.sj_rules.specs.History.{IsCoreRun}
 use Rattle.sj_rules.specs.Mapped.{main_with, node_with}
 use Rattle.sj_rules.specs.Node.{NodeAt, Play, acts}
@@ -37,6 +37,10 @@ neither true b k = absurd (cc k)
 none_if : (b : Bool) (h : Halt) → (if b then Some h else None) ≡ None → b ≡ false
 none_if false h k = refl
 none_if true h k = absurd (cc k)
+
+few_by : (b : Bool) (h : Halt) → (if b then None else Some h) ≡ None → not b ≡ false
+few_by true h k = refl
+few_by false h k = absurd (cc k)
 
 -- no cause at all
 goes_on : (low : Bool) (rest : Option rules.Halt) → low ≡ true → rest ≡ None → halt_if (not low) rules.worn rest ≡ None
@@ -72,7 +76,7 @@ module _ (file : FileAt) (accepted : IsAccepted file) (turns : List Turn) (core 
   play = play_of file
 
   -- the step, where nothing stops the node
-  free_by : (want : Want) → names_awaited m.main want ≡ false → hold_up m.main want ≡ None → is_at_end (want_for file.protocols want) ≡ false
+  free_by : (want : Want) → names_awaited m.main want ≡ false → hold_up m.main m.requests m.offers want ≡ None → is_at_end (want_for file.protocols want) ≡ false
       → halt_by (node_with f m) (want_for file.protocols want) ≡ None
   free_by wants.Ended named up k = absurd (cc k)
   free_by wants.Local named up k = refl
@@ -88,14 +92,16 @@ module _ (file : FileAt) (accepted : IsAccepted file) (turns : List Turn) (core 
       unhalted_by f _ (rules.awaits e) _ (awaited_is f (m.main e) ∙ named)
       (unhalted_by f _ (rules.no_message e) None (lacks_is f (m.main e) ∙ some) refl)
   free_by (wants.Close e) named up k = unhalted_by f _ (rules.awaits e) None (awaited_is f (m.main e) ∙ named) refl
+  free_by (wants.Request q to) named up k = unhalted_by f _ rules.requested_enough None (few_by (nat_lt m.requests 100) halts.AtLimit up) refl
+  free_by (wants.Accept q from) named up k = unhalted_by f _ (rules.no_offer from) None (none_if (is_empty (m.offers from)) halts.Waits up) refl
 
-  free_step : (want : Want) → stop_wanting m.main m.program.steps want ≡ None → is_at_end (want_for file.protocols want) ≡ false
+  free_step : (want : Want) → stop_wanting m.main m.requests m.offers m.program.steps want ≡ None → is_at_end (want_for file.protocols want) ≡ false
       → halt_if (not (nat_lt m.program.steps 10000)) rules.worn (halt_by (node_with f m) (want_for file.protocols want)) ≡ None
   free_step want k more =
-      let t = passed (nat_lt m.program.steps 10000) (names_awaited m.main want) (hold_up m.main want) k in
+      let t = passed (nat_lt m.program.steps 10000) (names_awaited m.main want) (hold_up m.main m.requests m.offers want) k in
       goes_on (nat_lt m.program.steps 10000) (halt_by (node_with f m) (want_for file.protocols want)) t.0 (free_by want t.1 t.2 more)
 
-  free_want : (o : Option Want) → stop_by m.main m.program.steps (unwrap_or o wants.Ended) ≡ None
+  free_want : (o : Option Want) → stop_by m.main m.requests m.offers m.program.steps (unwrap_or o wants.Ended) ≡ None
       → halt_if (is_at_end (want_or_ended file.protocols o)) rules.at_end (halt_if (not (nat_lt m.program.steps 10000)) rules.worn (halt_by (node_with f m) (want_or_ended file.protocols o))) ≡ None
   free_want None k = absurd (cc k)
   free_want (Some wants.Ended) k = absurd (cc k)
@@ -104,8 +110,10 @@ module _ (file : FileAt) (accepted : IsAccepted file) (turns : List Turn) (core 
   free_want (Some (wants.Delegate e y)) k = free_step (wants.Delegate e y) k refl
   free_want (Some (wants.Take e a)) k = free_step (wants.Take e a) k refl
   free_want (Some (wants.Close e)) k = free_step (wants.Close e) k refl
+  free_want (Some (wants.Request q to)) k = free_step (wants.Request q to) k refl
+  free_want (Some (wants.Accept q from)) k = free_step (wants.Accept q from) k refl
 
   -- where nothing stops the node its party acts
-  pub acts_freely : stop_by m.main m.program.steps (next_want m.program) ≡ None → (done : Worked Place (NodeAt Place Program)) × (acts play p (core.nodes p) ≡ Some done)
+  pub acts_freely : stop_by m.main m.requests m.offers m.program.steps (next_want m.program) ≡ None → (done : Worked Place (NodeAt Place Program)) × (acts play p (core.nodes p) ≡ Some done)
   acts_freely k =
       run_acts_unless_halted file accepted turns core p run (ap (halt_of play) here ∙ free_want (want_of m.program) k)

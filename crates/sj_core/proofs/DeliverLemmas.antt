@@ -2,7 +2,7 @@
 use Rattle.std.proofs.Common.{◌≡◌, ◌≢◌, ℕ, ◌+◌, ◌<◌, ◌==◌, max, nat_lt, ◌&&◌, if◌then◌else◌, List, [], ◌∷◌, ◌++◌, map, length, slice_get, Option, Some, None, option_map, refl, ap, sym, ◌∙◌, subst, inl, inr, arith}
 use Rattle.std.proofs.Math.ListN.{set}
 use Rattle.std.proofs.lemmas.Bool.Decides.{eqb_tells}
-use Rattle.sj_lang.specs.Place.{Place}
+use Rattle.sj_lang.specs.Place.{Place, done}
 use Rattle.sj_lang.specs.FileAt.{FileAt}
 use Rattle.sj_semantics.specs.Program.{Program}
 use Rattle.sj_table.specs.Spots.{place_in}
@@ -12,9 +12,9 @@ use Rattle.sj_end.specs.declared.note.Entry.{Entry}
 use Rattle.sj_end.specs.declared.note.Event.TheVariants as events
 use Rattle.sj_end.specs.declared.wire.Frame.{Frame}
 use Rattle.sj_rules.specs.Frames.{FrameAt, frames_for, is_proper, is_within}
-use Rattle.sj_rules.specs.Record.{BodyAt, Carry, Fin, Claim, Signal, Ack, Give}
+use Rattle.sj_rules.specs.Record.{BodyAt, Carry, Fin, Claim, Signal, Ack, Give, Open}
 use Rattle.sj_rules.specs.Mapped.{body_with, frame_with}
-use Rattle.sj_rules.specs.Node.{NodeAt, arrives, comes}
+use Rattle.sj_rules.specs.Node.{NodeAt, arrives, comes_or_opens}
 use Rattle.sj_rules.specs.Party.{play_of}
 use Rattle.sj_rules.specs.Rows.{Worked}
 use Rattle.sj_rules.specs.Start.{first_node}
@@ -44,6 +44,7 @@ within_seen n g (Claim of) = refl
 within_seen n g (Signal to conn party taken) = refl
 within_seen n g (Ack of conn) = refl
 within_seen n g (Give e resend) = refl
+within_seen n g (Open sess) = refl
 
 proper_seen : {P R : Type 0} → (n : ℕ) (g : P → R) (f : FrameAt P) → is_proper n (frame_with g f) ≡ is_proper n f
 proper_seen n g f = ap (λ b. nat_lt f.clock 4611686018427387904 && b) (within_seen n g f.body)
@@ -84,7 +85,7 @@ module _ (file : FileAt) (nodes : List Node) (p q : ℕ) (giver short : Node) (f
   popped = seen file nodes q giver short there w.nodes lanes_after (ap (node_or (first_node file q)) there ∙ sym rest.node) (λ r apart. refl) own_lane other_lane
 
   abbrev pub still : AreSeated file (set nodes q short)
-  still = still_seated file nodes q giver short there seats rest.party rest.parties rest.table rest.slots rest.log
+  still = still_seated file nodes q giver short there seats rest.party rest.parties rest.table rest.connects rest.log
 
   module _ (old new : Node) (here : slice_get (set nodes q short) p ≡ Some old) where
     node_is : w.nodes p ≡ node_at old
@@ -98,16 +99,16 @@ module _ (file : FileAt) (nodes : List Node) (p q : ℕ) (giver short : Node) (f
     low_now low = let same = clock_is in omega (arith, same, low)
 
     -- what arrives by the world's rules is what the node's delivery does
-    arrival_is : arrives (length file.parties) max (w.nodes p) q (frame_by seats.table f) ≡ delivery old q (frame_at f)
+    arrival_is : arrives done (length file.parties) max (w.nodes p) q (frame_by seats.table f) ≡ delivery old q (frame_at f)
     arrival_is =
         let own = still.each p old here in
-        (λ i. if proper_seen (length file.parties) (place_in seats.table) (frame_at f) i then comes max (node_is i) q (body_with (place_in (sym own.table i)) (body_at f.body)) else None)
-        ∙ (λ i. if is_proper (sym own.parties i) (frame_at f) then comes max (node_at old) q (body_with (place_in old.table) (body_at f.body)) else None)
+        (λ i. if proper_seen (length file.parties) (place_in seats.table) (frame_at f) i then comes_or_opens done max (node_is i) q (body_with (place_in (sym own.table i)) (body_at f.body)) else None)
+        ∙ (λ i. if is_proper (sym own.parties i) (frame_at f) then comes_or_opens done max (node_at old) q (body_with (place_in old.table) (body_at f.body)) else None)
 
     -- what arrives by the world's rules is delivered by the node's
-    pub not_unfit : (done : Worked Place (NodeAt Place Program)) → arrives (length file.parties) max (w.nodes p) q (frame_by seats.table f) ≡ Some done → delivery old q (frame_at f) ≡ None → ⊥
-    not_unfit done fits none =
-        let e : Some done ≡ None = sym fits ∙ arrival_is ∙ none in
+    pub not_unfit : (worked : Worked Place (NodeAt Place Program)) → arrives done (length file.parties) max (w.nodes p) q (frame_by seats.table f) ≡ Some worked → delivery old q (frame_at f) ≡ None → ⊥
+    not_unfit worked fits none =
+        let e : Some worked ≡ None = sym fits ∙ arrival_is ∙ none in
         cc e
 
     did_deliver : (left : Worked Place (NodeAt Place Program)) → delivery old q (frame_at f) ≡ Some left
@@ -117,7 +118,7 @@ module _ (file : FileAt) (nodes : List Node) (p q : ℕ) (giver short : Node) (f
         let play = play_of file in
         let clock = max (clock_of old) f.clock + 1 in
         let own = still.each p old here in
-        let came : arrives (length file.parties) max (w.nodes p) q (frame_by seats.table f) ≡ Some left = arrival_is ∙ row in
+        let came : arrives done (length file.parties) max (w.nodes p) q (frame_by seats.table f) ≡ Some left = arrival_is ∙ row in
         let last = world_by file (set (set nodes q short) p new) in
         let after : after_event w p clock lanes_after left ≡ last =
         (λ i. after_event (popped i) p clock (popped i).lanes left)
@@ -133,7 +134,7 @@ module _ (file : FileAt) (nodes : List Node) (p q : ℕ) (giver short : Node) (f
           line = lined file w last p clock (world.Deliver q) (note_seen (note_at (body_at f.body))) step
               (ap front_note lane_is ∙ ap Some (body_noted (place_in seats.table) (body_at f.body)))
               (ap (λ n. n.clock) (node_here file (set nodes q short) p old new here ∙ did.node));
-          seats = still_seated file (set nodes q short) p old new here still did.party did.parties did.table did.slots did.log;
+          seats = still_seated file (set nodes q short) p old new here still did.party did.parties did.table did.connects did.log;
         }
 
     -- a delivery, whose entry was taken out of the log

@@ -59,7 +59,7 @@ module _ (c : Course) (led : IsLed c) (p : ℕ) (n : Node) (there : slice_get (n
       let step : happens play max w p rules.Act ≡ Some (after_event w p ((w.nodes p).clock + 1) w.lanes done.0) = ap (option_map (after_event w p ((w.nodes p).clock + 1) w.lanes)) done.1 in
       lined (file_in c) w (after_event w p ((w.nodes p).clock + 1) w.lanes done.0) p (clock_of n + 1) rules.Act (note_seen (note_for n)) step
       (act_noted (length (file_in c).parties) (file_in c).protocols p (w.nodes p) done.0 done.1
-      ∙ (λ i. Some (note_seen (act_note (sym seat.party i) (at i).main (next_want (at i).program)))))
+      ∙ (λ i. Some (note_seen (act_note (sym seat.party i) (at i).main (at i).requests (at i).offers (next_want (at i).program)))))
       (clock_after w p ((w.nodes p).clock + 1) w.lanes done.0 ∙ ap (λ m. m.clock + 1) at)
 
   -- of its act
@@ -88,7 +88,7 @@ module _ (c : Course) (led : IsLed c) (p : ℕ) (n : Node) (there : slice_get (n
           let fits = front_fits c led p q seen behind (lane (f ∷ rest) front) in
           lined (file_in c) w fits.0 p (max (clock_of n) f.clock + 1) (rules.Deliver q) (note_seen (note_at f.body)) fits.1
           (ap front_note (lane (f ∷ rest) front) ∙ ap Some (body_noted (place_in giver.table) f.body))
-          (clock_of_step w fits.0 p (max (w.nodes p).clock f.clock + 1) (with_lane q p behind w.lanes) (arrives play.parties max (w.nodes p) q seen)
+          (clock_of_step w fits.0 p (max (w.nodes p).clock f.clock + 1) (with_lane q p behind w.lanes) (arrives play.blank play.parties max (w.nodes p) q seen)
           (sym (ap (delivery_of play max w p q) (lane (f ∷ rest) front)) ∙ fits.1)
           ∙ ap (λ (m : NodeAt Place Program). max m.clock f.clock + 1) at)
 

@@ -51,6 +51,8 @@ pub first_same : (file : FileAt) (p : ℕ) → first_node (without_words file) p
 first_same file p = λ i. record {
   program = unwrap_or (slice_get (start_same file i).parties p) nobody;
   clock = 0;
+  requests = 0;
+  offers = λ from. [];
   main = first_main file p;
   old = λ e. None;
 }
@@ -66,7 +68,7 @@ all_first file over nodes begun starts = record {
     table = over;
     starts = starts;
     count = begun.count;
-    each = λ p n is. let b = begun.each p n is in record { party = b.0.party; parties = b.0.parties; table = b.1; slots = b.0.slots; log = b.0.log };
+    each = λ p n is. let b = begun.each p n is in record { party = b.0.party; parties = b.0.parties; table = b.1; connects = b.0.connects; log = b.0.log };
   };
   first = λ p n is. (begun.each p n is).0.node ∙ sym (first_same file p);
   boxes = λ p n is. (begun.each p n is).0.boxes;

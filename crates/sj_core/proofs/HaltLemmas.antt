@@ -11,8 +11,9 @@ use Rattle.sj_semantics.specs.Program.{Program}
 use Rattle.sj_semantics.specs.Wants.{want_of}
 use Rattle.sj_table.specs.declared.table.Spot.{Spot}
 use Rattle.sj_rules.specs.Mapped.{held_with, main_with, node_with}
+use Rattle.sj_rules.specs.Opened.{smallest}
 use Rattle.sj_rules.specs.Record.{HeldAt, MainAt, Held, Closed, Expected, Parked, is_same_end}
-use Rattle.sj_rules.specs.Node.{NodeAt, act_by, acts, close_act, delegate_act, send_act, take_act, take_from, with_main, with_old}
+use Rattle.sj_rules.specs.Node.{NodeAt, accept_offered, act_by, acts, close_act, delegate_act, send_act, take_act, take_from, with_main, with_old}
 use Rattle.sj_rules.specs.Party.{play_for, want_or_ended}
 use Rattle.sj_rules.specs.Halts.{is_delegated_enough, is_empty, is_expected, lacks_message}
 use Rattle.sj_node.specs.declared.refusal.Halt.{Halt}
@@ -90,6 +91,11 @@ module _ (f : Spot → Place) (parties : ℕ) (ps : List ProtocolAt) (p : ℕ) w
   handed_enough n c e (Some (Closed x)) h = refl
   handed_enough n c e (Some (Expected k at ds)) h = refl
 
+  -- nothing is accepted where nothing is offered
+  nothing_offered : (n : NodeAt Place Program) (place : Place) (from : ℕ) (sessions : List ℕ) → is_empty sessions ≡ true → accept_offered (play_for parties ps) n place from (smallest sessions) ≡ None
+  nothing_offered n place from [] h = refl
+  nothing_offered n place from (s ∷ ss) h = absurd (cc h)
+
   -- either of two
   or_true : (a b : Bool) → (a || b) ≡ true → (a ≡ true) ⊎ (b ≡ true)
   or_true true b h = inl refl
@@ -106,26 +112,35 @@ module _ (f : Spot → Place) (parties : ℕ) (ps : List ProtocolAt) (p : ℕ) w
       ]
   awaited_none n (wants.Take e a) h = take_awaited (node_with f n) e _ (n.main e) h
   awaited_none n (wants.Close e) h = close_awaited (node_with f n) e (n.main e) h
+  awaited_none n (wants.Request q to) h = absurd (cc h)
+  awaited_none n (wants.Accept q from) h = absurd (cc h)
   awaited_none n wants.Ended h = absurd (cc h)
 
   some_is : {A : Type 0} → (b : Bool) (x y : A) → (if b then Some x else None) ≡ Some y → b ≡ true
   some_is true x y h = refl
   some_is false x y h = absurd (cc h)
 
-  held_up_none : (n : NodeAt Spot Program) (want : Want) (h : Halt) → hold_up n.main want ≡ Some h → act_by (play_for parties ps) p (node_with f n) (want_or_ended ps (Some want)) ≡ None
+  -- what is done where the test fails, and what isn't
+  not_so : {A B : Type 0} → (b : Bool) (x y : A) (act : Option B) → (if b then None else Some x) ≡ Some y → (if b then act else None) ≡ None
+  not_so true x y act h = absurd (cc h)
+  not_so false x y act h = refl
+
+  held_up_none : (n : NodeAt Spot Program) (want : Want) (h : Halt) → hold_up n.main n.requests n.offers want ≡ Some h → act_by (play_for parties ps) p (node_with f n) (want_or_ended ps (Some want)) ≡ None
   held_up_none n wants.Local h k = absurd (cc k)
   held_up_none n (wants.Send e m) h k = absurd (cc k)
   held_up_none n (wants.Delegate e y) h k = handed_enough (node_with f n) e y (n.main y) (some_is (is_delegated_enough (n.main y)) halts.AtLimit h k)
   held_up_none n (wants.Take e a) h k = take_nothing (node_with f n) e _ (n.main e) (some_is (lacks_message (n.main e)) halts.Waits h k)
   held_up_none n (wants.Close e) h k = absurd (cc k)
+  held_up_none n (wants.Request q to) h k = not_so (nat_lt n.requests 100) halts.AtLimit h _ k
+  held_up_none n (wants.Accept q from) h k = nothing_offered (node_with f n) _ from (n.offers from) (some_is (is_empty (n.offers from)) halts.Waits h k)
   held_up_none n wants.Ended h k = refl
 
-  named_none : (n : NodeAt Spot Program) (want : Want) (h : Halt) (b : Bool) → names_awaited n.main want ≡ b → (if b then Some halts.Waits else hold_up n.main want) ≡ Some h → act_by (play_for parties ps) p (node_with f n) (want_or_ended ps (Some want)) ≡ None
+  named_none : (n : NodeAt Spot Program) (want : Want) (h : Halt) (b : Bool) → names_awaited n.main want ≡ b → (if b then Some halts.Waits else hold_up n.main n.requests n.offers want) ≡ Some h → act_by (play_for parties ps) p (node_with f n) (want_or_ended ps (Some want)) ≡ None
   named_none n want h true is k = awaited_none n want is
   named_none n want h false is k = held_up_none n want h k
 
   steps_none : (n : NodeAt Spot Program) (want : Want) (h : Halt) (b : Bool)
-      → (if b then (if names_awaited n.main want then Some halts.Waits else hold_up n.main want) else Some halts.AtLimit) ≡ Some h
+      → (if b then (if names_awaited n.main want then Some halts.Waits else hold_up n.main n.requests n.offers want) else Some halts.AtLimit) ≡ Some h
       → (if not b then None else act_by (play_for parties ps) p (node_with f n) (want_or_ended ps (Some want))) ≡ None
   steps_none n want h true k = named_none n want h (names_awaited n.main want) refl k
   steps_none n want h false k = refl
@@ -134,7 +149,7 @@ module _ (f : Spot → Place) (parties : ℕ) (ps : List ProtocolAt) (p : ℕ) w
   ended_none true x h = refl
   ended_none false x h = h
 
-  want_none : (n : NodeAt Spot Program) (o : Option Want) (h : Halt) → stop_by n.main n.program.steps (unwrap_or o wants.Ended) ≡ Some h
+  want_none : (n : NodeAt Spot Program) (o : Option Want) (h : Halt) → stop_by n.main n.requests n.offers n.program.steps (unwrap_or o wants.Ended) ≡ Some h
       → (if not (nat_lt n.program.steps 10000) then None else act_by (play_for parties ps) p (node_with f n) (want_or_ended ps o)) ≡ None
   want_none n None h k = ended_none (not (nat_lt n.program.steps 10000)) None refl
   want_none n (Some wants.Ended) h k = ended_none (not (nat_lt n.program.steps 10000)) None refl
@@ -142,8 +157,10 @@ module _ (f : Spot → Place) (parties : ℕ) (ps : List ProtocolAt) (p : ℕ) w
   want_none n (Some (wants.Send e m)) h k = steps_none n (wants.Send e m) h (nat_lt n.program.steps 10000) k
   want_none n (Some (wants.Delegate e y)) h k = steps_none n (wants.Delegate e y) h (nat_lt n.program.steps 10000) k
   want_none n (Some (wants.Take e a)) h k = steps_none n (wants.Take e a) h (nat_lt n.program.steps 10000) k
+  want_none n (Some (wants.Request q to)) h k = steps_none n (wants.Request q to) h (nat_lt n.program.steps 10000) k
+  want_none n (Some (wants.Accept q from)) h k = steps_none n (wants.Accept q from) h (nat_lt n.program.steps 10000) k
   want_none n (Some (wants.Close e)) h k = steps_none n (wants.Close e) h (nat_lt n.program.steps 10000) k
 
   -- where a cause applies there is no act
-  pub halted : (n : NodeAt Spot Program) (h : Halt) → stop_by n.main n.program.steps (next_want n.program) ≡ Some h → acts (play_for parties ps) p (node_with f n) ≡ None
+  pub halted : (n : NodeAt Spot Program) (h : Halt) → stop_by n.main n.requests n.offers n.program.steps (next_want n.program) ≡ Some h → acts (play_for parties ps) p (node_with f n) ≡ None
   halted n h k = want_none n (want_of n.program) h k

@@ -2,7 +2,7 @@
 use Rattle.std.proofs.Common.{◌≡◌, ℕ, ◌≤◌, ◌<◌, max, List, [], ◌∷◌, map, length, slice_get, Bool, true, false, if◌then◌else◌, Option, Some, None, inl, inr, ◌⊎◌, refl, ap, sym, ◌∙◌, subst, arith}
 use Rattle.std.proofs.lemmas.Bool.{cases_lt}
 use Rattle.std.proofs.lemmas.List.{length-map}
-use Rattle.sj_lang.specs.Place.{Place}
+use Rattle.sj_lang.specs.Place.{Place, done}
 use Rattle.sj_lang.specs.FileAt.{FileAt}
 use Rattle.sj_semantics.specs.Program.{Program}
 use Rattle.sj_rules.specs.Drain.{IsDrained}
@@ -93,7 +93,7 @@ module _ (c : Course) (led : IsLed c) where
       let lawful = run_is_lawful file (acts_in (map turn_of led.past)) s.plain led.accepted.accepted s.run in
       let parties : length (nodes_in c) ≡ length file.parties = led.seats.count ∙ ap (λ f. length f.parties) led.accepted.same in
       let play = play_of file in
-      let ended = ap play.wants (s.kept.programs p) ∙ lawful.idle p (omega (arith, parties, le)) in
+      let ended = ap play.wants (s.kept.kept.programs p) ∙ lawful.idle p (omega (arith, parties, le)) in
       (λ i. acts (play_of (led.accepted.same i)) p ((world_in c).nodes p))
       ∙ ap (λ t. if play.is_worn ((world_in c).nodes p).program then None else act_by play p ((world_in c).nodes p) t) ended
       ∙ none_either (play.is_worn ((world_in c).nodes p).program)
@@ -117,10 +117,10 @@ module _ (c : Course) (led : IsLed c) where
 
   -- the front of a lane arrives
   pub front_arrives : (p q : ℕ) (f : FrameAt Place) (rest : List (FrameAt Place)) → (world_in c).lanes q p ≡ f ∷ rest
-      → (done : Worked Place (NodeAt Place Program)) × (arrives (length (file_in c).parties) max ((world_in c).nodes p) q f ≡ Some done)
+      → (worked : Worked Place (NodeAt Place Program)) × (arrives done (length (file_in c).parties) max ((world_in c).nodes p) q f ≡ Some worked)
   front_arrives p q f rest is =
       let a = run_front_arrives file led.accepted.accepted (map turn_of led.past) (world_in c) run_of max p q f rest max_picks is in
-      (a.0, (λ i. arrives (length (led.accepted.same i).parties) max ((world_in c).nodes p) q f) ∙ a.1)
+      (a.0, (λ i. arrives done (length (led.accepted.same i).parties) max ((world_in c).nodes p) q f) ∙ a.1)
 
   -- clocks stay below their end
   pub low_clock : (p : ℕ) → ((world_in c).nodes p).clock < 4611686018427387904

@@ -8,7 +8,7 @@ use Rattle.sj_rules.specs.Rows.{Worked}
 use Rattle.sj_rules.specs.Node.{NodeAt, acts}
 use Rattle.sj_rules.specs.Party.{play_for}
 use Rattle.sj_node.specs.declared.node.Node.{Node}
-use Rattle.sj_node.specs.Node.{act_of, has_room, node_at, slot_count}
+use Rattle.sj_node.specs.Node.{act_of, has_room, node_at, connect_count}
 use Rattle.sj_node.proofs.PlayLemmas.{acts_less, plays_file}
 use Rattle.sj_node.specs.Play.{names_known, next_want, play_with}
 
@@ -23,7 +23,7 @@ pub act_is : (n : Node) (ps : List ProtocolAt) (left : Worked Place (NodeAt Plac
 act_is n ps left same k =
     let there = if_there (has_room (node_at n).main (next_want (node_at n).program)) _ left k in
     let named : start_in n.table ≡ body_named ps = λ i q. same q i in
-    acts_less (play_for n.parties ps) (names_known (slot_count n) n.parties) (node_at n) n.party left
-    (ap (λ t. acts t n.party (node_at n)) (sym (plays_file ps (slot_count n) n.parties))
-    ∙ ap (λ starts. acts (play_with starts (slot_count n) n.parties) n.party (node_at n)) (sym named)
+    acts_less (play_for n.parties ps) (names_known (connect_count n) n.parties) (node_at n) n.party left
+    (ap (λ t. acts t n.party (node_at n)) (sym (plays_file ps (connect_count n) n.parties))
+    ∙ ap (λ starts. acts (play_with starts (connect_count n) n.parties) n.party (node_at n)) (sym named)
     ∙ there)

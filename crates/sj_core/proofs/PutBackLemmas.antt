@@ -63,10 +63,10 @@ module _ (file : FileAt) (nodes : List Node) (p q : ℕ) (giver short : Node) (f
     after_refusal = popped ∙ sym (seen_same file (set nodes q short) p old new here stays.node stays.posts)
 
     seats_then : AreSeated file (set (set nodes q short) p new)
-    seats_then = still_seated file (set nodes q short) p old new here still stays.party stays.parties stays.table stays.slots stays.log
+    seats_then = still_seated file (set nodes q short) p old new here still stays.party stays.parties stays.table stays.connects stays.log
 
     over : table_of last ≡ seats.table
-    over = same.table ∙ ((still_seated file (set nodes q short) p old new here still stays.party stays.parties stays.table stays.slots stays.log).each q back again).table
+    over = same.table ∙ ((still_seated file (set nodes q short) p old new here still stays.party stays.parties stays.table stays.connects stays.log).each q back again).table
 
     back_box : (to : ℕ) → outbox_of back to ≡ lanes_after q to
     back_box to = sym (ap (λ o. box_or o to) again) ∙ sym (λ i. (after_refusal i).lanes q to)
@@ -91,7 +91,7 @@ module _ (file : FileAt) (nodes : List Node) (p q : ℕ) (giver short : Node) (f
           (λ r apart i. (after_refusal i).nodes r)
           lane_then
           (λ from to apart. sym (other_lane from to apart) ∙ (λ i. (after_refusal i).lanes from to)));
-      seats = still_seated file (set (set nodes q short) p new) q back last again seats_then same.party same.parties same.table same.slots same.log;
+      seats = still_seated file (set (set nodes q short) p new) q back last again seats_then same.party same.parties same.table same.connects same.log;
     }
 
 -- a frame that is unfit
@@ -104,7 +104,7 @@ pub nothing_taken : (file : FileAt) (nodes : List Node) (p q : ℕ) (giver short
     → ((to : ℕ) → (to ≡ p → ⊥) → waiting_in (outs_of short) to ≡ waiting_in (outs_of giver) to) → TakesOut giver short → Rests file nodes (set nodes q short)
 nothing_taken file nodes p q giver short seats there none empty others rest = record {
   world = seen_same file nodes q giver short there rest.node (λ to i. map (frame_with (place_in (rest.table i))) (box to i));
-  seats = still_seated file nodes q giver short there seats rest.party rest.parties rest.table rest.slots rest.log;
+  seats = still_seated file nodes q giver short there seats rest.party rest.parties rest.table rest.connects rest.log;
 }
   where
     box : (to : ℕ) → waiting_in (outs_of short) to ≡ waiting_in (outs_of giver) to

@@ -66,16 +66,16 @@ module _ (file : FileAt) (nodes : List Node) (p : ℕ) (old new : Node) (seats :
       record {
         step = step;
         line = lined file w (world_by file (set nodes p new)) p (clock_of old + 1) world.Act (note_seen (note_for old)) step
-            (act_noted (length file.parties) file.protocols p (w.nodes p) left acted ∙ (λ i. Some (note_seen (Rattle.sj_node.specs.Node.act_note (sym own.party i) (here i).main (Rattle.sj_node.specs.Play.next_want (here i).program)))))
+            (act_noted (length file.parties) file.protocols p (w.nodes p) left acted ∙ (λ i. Some (note_seen (Rattle.sj_node.specs.Node.act_note (sym own.party i) (here i).main (here i).requests (here i).offers (Rattle.sj_node.specs.Play.next_want (here i).program)))))
             (ap (λ n. n.clock) (node_here file nodes p old new there ∙ did.node));
-        seats = still_seated file nodes p old new there seats did.party did.parties did.table did.slots did.log;
+        seats = still_seated file nodes p old new there seats did.party did.parties did.table did.connects did.log;
       }
 
   -- a refusal
   pub rests : Stays old new → Rests file nodes (set nodes p new)
   rests stays = record {
     world = seen_same file nodes p old new there stays.node stays.posts;
-    seats = still_seated file nodes p old new there seats stays.party stays.parties stays.table stays.slots stays.log;
+    seats = still_seated file nodes p old new there seats stays.party stays.parties stays.table stays.connects stays.log;
   }
 
   -- an act, whose entry was taken out of the log

@@ -23,7 +23,7 @@ pub record DidUnlogged (old : Node) (left : Worked Place (NodeAt Place Program))
   pub table : new.table ≡ old.table
   pub party : new.party ≡ old.party
   pub parties : new.parties ≡ old.parties
-  pub slots : length new.mains.items ≡ length old.mains.items
+  pub connects : new.connects ≡ old.connects
 
 -- lists that are the same with one more are the same, and so is the one
 same_but_last : {X : Type 0} → (xs ys : List X) (x y : X) → xs ++ x ∷ [] ≡ ys ++ y ∷ [] → (xs ≡ ys) × (x ≡ y)
@@ -55,5 +55,5 @@ module _ (old mid new : Node) (left : Worked Place (NodeAt Place Program)) (cloc
     table = took.table ∙ did.table;
     party = took.party ∙ did.party;
     parties = took.parties ∙ did.parties;
-    slots = took.slots ∙ did.slots;
+    connects = took.connects ∙ did.connects;
   }

@@ -1,5 +1,5 @@
 -- The world of nodes that lie in a list. A lane is what its sender has posted and nobody has taken out.
-use Rattle.std.specs.Prelude.{◌≡◌, ℕ, ◌*◌, ◌<◌, max, ⊤, List, [], length, slice_get, Option, Some, None}
+use Rattle.std.specs.Prelude.{◌≡◌, ℕ, ◌<◌, max, ⊤, List, [], length, slice_get, Option, Some, None}
 use Rattle.sj_lang.specs.Place.{Place}
 use Rattle.sj_lang.specs.FileAt.{FileAt, body_named}
 use Rattle.sj_semantics.specs.Program.{Program}
@@ -9,7 +9,7 @@ use Rattle.sj_end.specs.declared.note.Event.{Event}
 use Rattle.sj_end.specs.declared.note.Event.TheVariants as events
 use Rattle.sj_end.specs.declared.note.Entry.{Entry}
 use Rattle.sj_node.specs.declared.node.Node.{Node}
-use Rattle.sj_node.specs.Node.{log_of, node_at, outbox_of, slot_count}
+use Rattle.sj_node.specs.Node.{log_of, node_at, outbox_of, connect_count}
 use Rattle.sj_node.specs.Reading.{parties_of, party_of, table_of}
 use Rattle.sj_node.specs.Starting.{Begins}
 use Rattle.sj_rules.specs.Frames.{FrameAt}
@@ -40,7 +40,7 @@ pub record IsSeated (file : FileAt) (over : Table) (p : ℕ) (n : Node) : Type 0
   pub party : party_of n ≡ p
   pub parties : parties_of n ≡ length file.parties
   pub table : table_of n ≡ over
-  pub slots : slot_count n ≡ 2 * length file.connects
+  pub connects : connect_count n ≡ length file.connects
   pub log : log_of n ≡ []
 
 -- each party of the file has its node, over one table of the file's protocols

@@ -4,6 +4,7 @@
 mod course;
 mod draining;
 mod entries;
+mod opens;
 mod refusal;
 mod replaying;
 mod sameness;

@@ -1,15 +1,15 @@
 //! Expressions from tokens, by what is due.
-ghost use Rattle.std.specs.Prelude.{◌≡◌, ℕ, ◌+◌, ◌*◌, ◌<◌, ◌≤◌, [], ◌∷◌, IfOk, IfErr};
+ghost use Rattle.std.specs.Prelude.{ℕ, ◌≤◌, [], ◌∷◌, IfOk, IfErr};
 ghost use Rattle.sj_lang.specs.CodeView.{term_of};
 ghost use Rattle.sj_lang.specs.Limits.{limits};
 ghost use Rattle.sj_grammar.specs.Lexis.{next_of};
-ghost use Rattle.sj_grammar.specs.Expressions.{factor as a_factor, term as a_term, sum as a_sum, operand_count};
+ghost use Rattle.sj_grammar.specs.Expressions.{factor as a_factor, term as a_term, sum as a_sum};
 ghost use Rattle.sj_grammar.specs.ExpressionDues.{whole as whole_due, factor as factor_due, times, plus, expression_at, expression_layer};
 ghost use Rattle.sj_grammar.specs.FileDues.{expr};
 ghost use Rattle.sj_grammar.specs.Refusals.{StuckInside, OnFault};
 ghost use Rattle.sj_grammar.specs.Asked.{Passes};
 ghost use Rattle.sj_proto.specs.Parsed.{standing, Stops};
-ghost use Rattle.sj_expr.specs.Leaves.{LeavesTables};
+ghost use Rattle.sj_expr.specs.Leaves.{LeavesTables, LeavesOperands};
 ghost use Rattle.sj_expr.specs.Read.{ReadsLevel, ReadsWhole, ReadsExpression, HasRooms, StaysWithin};
 
 use crate::operands::operand_in;
@@ -35,9 +35,8 @@ fn factor(
     requires room { HasRooms names.old tokens.old }
     ensures reads { IfOk result (λ e. ReadsLevel a_factor depth (standing tokens.old names.old)
         (standing tokens.new names.new) (term_of e)) }
-    ensures count { IfOk result (λ e. count.new ≡ count.old + operand_count (term_of e)) }
-    ensures few { IfOk result (λ _. count.new ≤ limits.operands) }
-    ensures leaves { LeavesTables StaysWithin result names.old tokens.old names.new tokens.new }
+    ensures leaves { LeavesOperands result
+        names.old tokens.old count.old names.new tokens.new count.new }
     ensures fault { IfErr result (OnFault (λ f. StuckInside expression_layer limits count.old
         (standing tokens.old names.old) (factor_due depth ∷ []) f)) }
 {
@@ -75,9 +74,8 @@ fn term(
     ensures reads { IfOk result (λ e. ReadsLevel a_term depth (standing tokens.old names.old)
         (standing tokens.new names.new) (term_of e)) }
     ensures ends { IfOk result (λ _. Passes expression_layer (times depth) (next_of tokens.new.ahead)) }
-    ensures count { IfOk result (λ e. count.new ≡ count.old + operand_count (term_of e)) }
-    ensures few { IfOk result (λ _. count.new ≤ limits.operands) }
-    ensures leaves { LeavesTables StaysWithin result names.old tokens.old names.new tokens.new }
+    ensures leaves { LeavesOperands result
+        names.old tokens.old count.old names.new tokens.new count.new }
     ensures fault { IfErr result (OnFault (λ f. StuckInside expression_layer limits count.old
         (standing tokens.old names.old) (factor_due depth ∷ times depth ∷ []) f)) }
 {
@@ -105,9 +103,8 @@ fn sum(
         (standing tokens.new names.new) (term_of e)) }
     ensures ends { IfOk result (λ _. Passes expression_layer (times depth) (next_of tokens.new.ahead)
         × Passes expression_layer (plus depth) (next_of tokens.new.ahead)) }
-    ensures count { IfOk result (λ e. count.new ≡ count.old + operand_count (term_of e)) }
-    ensures few { IfOk result (λ _. count.new ≤ limits.operands) }
-    ensures leaves { LeavesTables StaysWithin result names.old tokens.old names.new tokens.new }
+    ensures leaves { LeavesOperands result
+        names.old tokens.old count.old names.new tokens.new count.new }
     ensures fault { IfErr result (OnFault (λ f. StuckInside expression_layer limits count.old
         (standing tokens.old names.old) (factor_due depth ∷ times depth ∷ plus depth ∷ []) f)) }
 {
@@ -133,9 +130,8 @@ fn whole(
     requires room { HasRooms names.old tokens.old }
     ensures reads { IfOk result (λ e. ReadsWhole count.old depth (standing tokens.old names.old)
         (standing tokens.new names.new) (term_of e)) }
-    ensures count { IfOk result (λ e. count.new ≡ count.old + operand_count (term_of e)) }
-    ensures few { IfOk result (λ _. count.new ≤ limits.operands) }
-    ensures leaves { LeavesTables StaysWithin result names.old tokens.old names.new tokens.new }
+    ensures leaves { LeavesOperands result
+        names.old tokens.old count.old names.new tokens.new count.new }
     ensures fault { IfErr result (OnFault (λ f. StuckInside expression_layer limits count.old
         (standing tokens.old names.old) (expression_at depth) f)) }
 {

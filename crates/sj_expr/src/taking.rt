@@ -15,7 +15,7 @@ ghost use Rattle.sj_grammar.specs.Rules.{over_limit};
 ghost use Rattle.sj_proto.specs.Onward.{Advances};
 ghost use Rattle.sj_proto.specs.Parsed.{standing};
 ghost use Rattle.sj_expr.specs.Operands.{IsOperandOf};
-ghost use Rattle.sj_expr.specs.Leaves.{LeavesTables};
+ghost use Rattle.sj_expr.specs.Leaves.{LeavesTables, LeavesOperands};
 ghost use Rattle.sj_expr.specs.Read.{Reads, ReadsLevel, HasRooms, StaysWithin, TextSpelled};
 ghost use Rattle.sj_expr.specs.Openings.{opening_piece, but_opening, but_text};
 
@@ -98,9 +98,8 @@ pub fn take_operand(
     ensures reads { IfOk result (λ e. (o : ℕ) → ReadsLevel a_factor o (standing tokens.old names.old)
         (standing tokens.new names.new) (term_of e)) }
     ensures one { IfOk result (λ e. operand_count (term_of e) ≡ 1) }
-    ensures count { IfOk result (λ _. count.new ≡ count.old + 1) }
-    ensures few { IfOk result (λ _. count.new ≤ limits.operands) }
-    ensures leaves { LeavesTables StaysWithin result names.old tokens.old names.new tokens.new }
+    ensures leaves { LeavesOperands result
+        names.old tokens.old count.old names.new tokens.new count.new }
     ensures fault { IfErr result (OnFault (λ f. (o : ℕ) → StuckInside expression_layer limits count.old
         (standing tokens.old names.old) (factor_due o ∷ []) f)) }
 {

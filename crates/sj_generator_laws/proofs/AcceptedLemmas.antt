@@ -3,14 +3,15 @@ use Rattle.std.proofs.Common.{◌≡◌, ℕ, zero, suc, ◌+◌, ◌≤◌, Lis
 use Rattle.std.proofs.lemmas.List.Elements.{All-from_recursion}
 use Rattle.sj_lang.specs.FileAt.{FileAt, PartyAt}
 use Rattle.sj_lang.specs.ItemCount.{item_count}
+use Rattle.sj_lang.specs.SamePlace.{is_same_carried}
 use Rattle.sj_acceptance.specs.Accepted.{places_from, IsConnection, EndsWell, IsAccepted}
 use Rattle.sj_lang.specs.Limits.{IsWithin, limits}
 use Rattle.sj_acceptance.specs.Faults.{first_fault}
-use Rattle.sj_acceptance.specs.FileTests.{party_names, protocol_tests, party_tests, connect_tests}
+use Rattle.sj_acceptance.specs.FileTests.{party_names, protocol_tests, party_tests, connect_tests, opening_tests}
 use Rattle.sj_acceptance.specs.Labels.{NamesOnce}
-use Rattle.sj_acceptance.specs.Sameness.{is_same_place}
 use Rattle.sj_acceptance_laws.proofs.ConnectLaws.{connects_from, have_parties}
 use Rattle.sj_acceptance_laws.proofs.EndLaws.{names_once_of}
+use Rattle.sj_acceptance_laws.proofs.OpeningLaws.{openings_meet}
 use Rattle.sj_acceptance_laws.proofs.NameLaws.{OtherProtocol, OtherParty, protocols_from, parties_from}
 use Rattle.sj_acceptance_laws.proofs.PairLemmas.{all_from_pairs, pairs_from_new}
 use Rattle.sj_generator_laws.specs.GeneratedFile as file
@@ -26,8 +27,11 @@ parties_pass : (n : ℕ) → first_fault (party_tests [] (generated_file n).part
 parties_pass n = refl
 
 connects_pass : (n : ℕ) → first_fault (connect_tests (party_names (generated_file n).parties) (generated_file n).protocols [] (generated_file n).connects) ≡ None
-unfolding is_same_place
+unfolding is_same_carried
 connects_pass n = refl
+
+openings_pass : (n : ℕ) → first_fault (opening_tests (generated_file n).protocols (generated_file n).parties (generated_file n).parties) ≡ None
+openings_pass n = refl
 
 -- ---- bodies
 
@@ -118,4 +122,5 @@ file_is_accepted n =
       connections = All-from_recursion (IsConnection f) f.connects connects.0;
       ends_once = names_once_of f f.connects (have_parties f f.connects connects.0) connects.1;
       bodies = λ p q h. subst (λ (t : ℕ). EndsWell f t q) (let e : 0 + p ≡ p = omega arith in e) (one_of_each f 0 p f.parties q (all_end_well n) h);
+      openings = openings_meet f (openings_pass n);
     }

@@ -6,11 +6,12 @@ use Rattle.sj_lang.specs.declared.party.Scalar.TheVariants as kinds
 use Rattle.sj_lang.specs.Place.{Place, done, message, int, session}
 use Rattle.sj_lang.specs.Code.{Code}
 use Rattle.sj_lang.specs.FileAt.{named}
+use Rattle.sj_lang.proofs.MeetLemmas.{stands_for_itself}
 use Rattle.sj_acceptance.specs.Environment.{Env, put, at_place, with_kind}
 use Rattle.sj_acceptance.specs.Follows.{Follows}
 use Rattle.sj_generator_laws.specs.GeneratedFile as file
 use Rattle.sj_generator_laws.specs.GeneratedFile.{numbers}
-use Rattle.sj_generator_laws.proofs.GroupStateLemmas.{sends_numbers}
+use Rattle.sj_generator_laws.proofs.GroupStateLemmas.{peers, sends_numbers}
 
 -- ---- maps at a name
 
@@ -46,7 +47,7 @@ absent_too x y n p q other apart = ap (λ t. cond t (Some p) (named ((y, q) ∷ 
 -- the code leads from these ends to none
 pub record LeadsToNone (code : Code) (ends : List (ℕ × Place)) : Type 0 where
   pub last : Env
-  pub follows : Follows file.protocols code (record { places = named ends; kinds = λ n. None }) last
+  pub follows : Follows file.protocols peers code (record { places = named ends; kinds = λ n. None }) last
   pub no_end : (n : ℕ) → last.places n ≡ None
 
 pub sender_leads : (line a n number : ℕ) → LeadsToNone (file.sender line a n number).code ((5, sends_numbers) ∷ [])
@@ -86,7 +87,7 @@ giver_leads line b =
       last = _;
       follows = (
         _,
-        record { place = numbers; rest = done; two_names = λ e. absurd (omega (arith, e)); there = refl; sent = refl; not_empty = λ e. absurd (cc); leaves = refl },
+        record { place = numbers; own = numbers; rest = done; two_names = λ e. absurd (omega (arith, e)); there = refl; sent = refl; stands = stands_for_itself numbers; not_empty = λ e. absurd (cc); leaves = refl },
         (_, record { there = refl; leaves = refl }, refl),
       );
       no_end = λ m. cleared (put (put start.places 8 (Some done)) 9 None) 8 m (λ other. cleared (put start.places 8 (Some done)) 9 m

@@ -10,7 +10,9 @@ use Rattle.sj_semantics_laws.proofs.FinishLemmas.{end_is_settled, end_is_reached
 use Rattle.sj_semantics_laws.proofs.RunLemmas.{Leads, leads_trans, same_end}
 use Rattle.sj_semantics_laws.proofs.StartLemmas.{start_is_unshared}
 use Rattle.sj_generator_laws.specs.Counts.{messages_in, steps_in}
-use Rattle.sj_generator_laws.specs.GeneratedFile.{generated_file}
+use Rattle.sj_semantics.specs.Requests.{no_requests}
+use Rattle.sj_generator_laws.specs.GeneratedFile.{generated_file, protocols}
+use Rattle.sj_generator_laws.proofs.BehindLemmas.{behind}
 use Rattle.sj_generator_laws.proofs.EndedLemmas.{HaveEnded, ended_is_settled}
 use Rattle.sj_generator_laws.proofs.CountLemmas.{steps_of, messages_of}
 use Rattle.sj_generator_laws.proofs.GroupStateLemmas.{Outcome, parties_of, sessions_of}
@@ -52,8 +54,10 @@ last_twelve n = fresh_three 27 2 two n (last_nine n)
 -- the five groups at their ends
 abbrev all_ended : Outcome → Outcome → Outcome → Outcome → Outcome → World
 all_ended a b c d e = record {
+  protocols = protocols;
   parties = parties_of a (parties_of b (parties_of c (parties_of d (parties_of e []))));
   sessions = sessions_of a (sessions_of b (sessions_of c (sessions_of d (sessions_of e []))));
+  requests = no_requests;
 }
 
 have_ended : (o : Outcome) (gs : List Program) → HaveEnded gs → HaveEnded (parties_of o gs)
@@ -82,10 +86,10 @@ whole_run n le =
     let d = fourth.outcome in
     let last = group_runs 93 5 (parties_of a (parties_of b (parties_of c (parties_of d [])))) (sessions_of a (sessions_of b (sessions_of c (sessions_of d [])))) [] [] n le in
     let e = last.outcome in
-    let to_a : World = record { parties = parties_of a (last_twelve n); sessions = sessions_of a eight } in
-    let to_b : World = record { parties = parties_of a (parties_of b (last_nine n)); sessions = sessions_of a (sessions_of b six) } in
-    let to_c : World = record { parties = parties_of a (parties_of b (parties_of c (last_six n))); sessions = sessions_of a (sessions_of b (sessions_of c four)) } in
-    let to_d : World = record { parties = parties_of a (parties_of b (parties_of c (parties_of d (last_three n)))); sessions = sessions_of a (sessions_of b (sessions_of c (sessions_of d two))) } in
+    let to_a : World = behind [] [] (parties_of a (last_twelve n)) (sessions_of a eight) in
+    let to_b : World = behind [] [] (parties_of a (parties_of b (last_nine n))) (sessions_of a (sessions_of b six)) in
+    let to_c : World = behind [] [] (parties_of a (parties_of b (parties_of c (last_six n)))) (sessions_of a (sessions_of b (sessions_of c four))) in
+    let to_d : World = behind [] [] (parties_of a (parties_of b (parties_of c (parties_of d (last_three n))))) (sessions_of a (sessions_of b (sessions_of c (sessions_of d two)))) in
     let start = start_of (generated_file n) in
     let end = all_ended a b c d e in
     record {
@@ -138,5 +142,5 @@ file_ends_so n le =
     let of_c = parties_of r.c of_d in
     let over = have_ended r.a (parties_of r.b of_c) (have_ended r.b of_c (have_ended r.c of_d (have_ended r.d of_e (have_ended r.e [] tt)))) in
     let reached = end_is_reached file in
-    let same : end ≡ end_of file = same_end (start_of file) end (end_of file) r.leads.acts reached.acts (start_is_unshared file) r.leads.leads reached.leads (ended_is_settled end over) (end_is_settled file) in
+    let same : end ≡ end_of file = same_end (start_of file) end (end_of file) r.leads.acts reached.acts (start_is_unshared file (omega arith)) r.leads.leads reached.leads (ended_is_settled end over) (end_is_settled file) in
     subst (EndsSo n) same (record { messages = r.messages; steps = r.steps; verdict = refl })

@@ -16,8 +16,8 @@ use Rattle.sj_semantics.specs.Value.{Vars, no_vars, with_value, message_of}
 use Rattle.sj_semantics.specs.Wants.{want_send, more_turns}
 use Rattle.sj_semantics_laws.proofs.RunLemmas.{Leads, no_acts, leads_trans}
 use Rattle.sj_generator_laws.specs.GeneratedFile.{numbers}
-use Rattle.sj_generator_laws.proofs.BehindLemmas.{place, end_behind, behind, local_then, close_then, send_then, take_then, delegate_then}
-use Rattle.sj_generator_laws.proofs.GroupStateLemmas.{sends_numbers, turn, adding, sender_rest, adder_rest, sender_at, adder_at, ended, session_at, Outcome, parties_of, sessions_of, sent_in}
+use Rattle.sj_generator_laws.proofs.BehindLemmas.{place, end_behind, behind, local_then, close_then, send_then, take_then, take_end_then, delegate_then}
+use Rattle.sj_generator_laws.proofs.GroupStateLemmas.{peers, sends_numbers, turn, adding, sender_rest, adder_rest, sender_at, adder_at, ended, session_at, Outcome, parties_of, sessions_of, sent_in}
 use Rattle.sj_generator_laws.proofs.LoopRunLemmas.{looping, looped, loop_runs}
 
 -- the three at their starts, by the line of the first and the number that it sends, behind other sessions
@@ -25,13 +25,13 @@ abbrev pub first_sender : ℕ → ℕ → List Session → ℕ → Program
 first_sender line v bs n = sender_at bs (statement (outwhile 5 (term.int (pos n)) (turn line v)) ∷ sender_rest) 0
 
 abbrev pub first_giver : List Session → Program
-first_giver bs = record { todo = statement (delegate 8 9) ∷ statement (close 8) ∷ []; vars = no_vars; ends = (9, end_behind bs 0 1) ∷ (8, end_behind bs 1 0) ∷ []; steps = 0 }
+first_giver bs = record { todo = statement (delegate 8 9) ∷ statement (close 8) ∷ []; vars = no_vars; ends = (9, end_behind bs 0 1) ∷ (8, end_behind bs 1 0) ∷ []; steps = 0; peers = peers }
 
 abbrev summing : ℕ → List Thing
 summing line = statement (let_be 12 (term.int (pos 0))) ∷ statement (inwhile 9 (adding line)) ∷ adder_rest
 
 abbrev pub first_adder : ℕ → List Session → Program
-first_adder line bs = record { todo = statement (take_end 11 9 1) ∷ summing line; vars = no_vars; ends = (11, end_behind bs 1 1) ∷ []; steps = 0 }
+first_adder line bs = record { todo = statement (take_end 11 9 1) ∷ summing line; vars = no_vars; ends = (11, end_behind bs 1 1) ∷ []; steps = 0; peers = peers }
 
 -- their sessions
 abbrev pub first_session : Session
@@ -62,10 +62,10 @@ module _ (line v : ℕ) (bp : List Program) (bs : List Session) (others : List P
       let c = first_adder line bs in
       let half : Session = record { first = (given []).first; second = second_session.second } in
       let opened = session_at sends_numbers numbers [] [] [] [] in
-      let giver : Program = record { todo = statement (close 8) ∷ []; vars = no_vars; ends = (8, end_behind bs 1 0) ∷ []; steps = 1 } in
+      let giver : Program = record { todo = statement (close 8) ∷ []; vars = no_vars; ends = (8, end_behind bs 1 0) ∷ []; steps = 1; peers = peers } in
       delegate_then bp bs (a ∷ first_giver bs ∷ c ∷ others) (first_session ∷ second_session ∷ later) 1 (first_giver bs) end refl (omega arith) 1 0 0 1 refl (omega arith)
       (close_then bp bs (a ∷ giver ∷ c ∷ others) (opened ∷ half ∷ later) 1 giver end refl (omega arith) (end_behind bs 1 0) refl
-      (take_then bp bs (a ∷ ended no_vars 2 ∷ c ∷ others) (opened ∷ half ∷ later) 2 c end refl (omega arith) 1 1 (awaits.Session 1) handed refl refl
+      (take_end_then bp bs (a ∷ ended no_vars 2 ∷ c ∷ others) (opened ∷ half ∷ later) 2 c end refl (omega arith) 1 1 0 1 1 (place bp 1) (place bp 1) refl refl
       (local_then bp bs (a ∷ ended no_vars 2 ∷ adder_at bs (summing line) no_vars 1 ∷ others) (opened ∷ taken ∷ later) 2 (adder_at bs (summing line) no_vars 1) end refl (omega arith) refl
       (send_then bp bs (a ∷ ended no_vars 2 ∷ adder_at bs (statement (inwhile 9 (adding line)) ∷ adder_rest) (with_value no_vars 12 (Int (pos 0))) 2 ∷ others) (opened ∷ taken ∷ later) 0 a end refl
       (omega arith) 0 0 (more_turns (min n 1000)) refl (no_acts end)))))
@@ -89,13 +89,13 @@ module _ (line v : ℕ) (bp : List Program) (bs : List Session) (others : List P
       let a = sender_at bs sender_rest t in
       let c = adder_at bs adder_rest vars u in
       let closing = adder_at bs (statement (close 9) ∷ statement (close 11) ∷ []) vars (u + 1) in
-      let leaving : Program = record { todo = statement (close 11) ∷ []; vars = vars; ends = (11, end_behind bs 1 1) ∷ []; steps = u + 1 + 1 } in
-      let going : Program = record { todo = statement (close 5) ∷ []; vars = sum; ends = (5, end_behind bs 0 0) ∷ []; steps = t + 1 } in
+      let leaving : Program = record { todo = statement (close 11) ∷ []; vars = vars; ends = (11, end_behind bs 1 1) ∷ []; steps = u + 1 + 1; peers = peers } in
+      let going : Program = record { todo = statement (close 5) ∷ []; vars = sum; ends = (5, end_behind bs 0 0) ∷ []; steps = t + 1; peers = peers } in
       let zs = whole total sent takers ∷ taken ∷ later in
       send_then bp bs (a ∷ b ∷ c ∷ others) (session_at (message Into int done) (message Out int done) sent [] takers [] ∷ taken ∷ later) 2 c end refl (omega (arith, few_too)) 0 1 (msgs.Int total)
       (ap (λ o. want_send (Some (end_behind bs 0 1)) (option_map message_of o)) known)
       (take_then bp bs (a ∷ b ∷ closing ∷ others) (session_at (message Into int done) done sent (summed total ∷ []) takers [] ∷ taken ∷ later) 0 a end refl (omega (arith, few)) 0 0 (awaits.Value scalars.Int)
-      (summed total) refl refl
+      (summed total) refl refl refl
       (close_then bp bs (going ∷ b ∷ closing ∷ others) zs 0 going end refl (omega (arith, few)) (end_behind bs 0 0) refl
       (close_then bp bs (ended sum (t + 1 + 1) ∷ b ∷ closing ∷ others) zs 2 closing end refl (omega (arith, few_too)) (end_behind bs 0 1) refl
       (close_then bp bs (ended sum (t + 1 + 1) ∷ b ∷ leaving ∷ others) zs 2 leaving end refl (omega (arith, few_too)) (end_behind bs 1 1) refl (no_acts end)))))

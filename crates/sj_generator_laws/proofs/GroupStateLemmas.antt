@@ -14,6 +14,10 @@ use Rattle.sj_semantics.specs.Program.{Thing, statement, Program}
 use Rattle.sj_semantics.specs.Value.{Vars, no_vars}
 use Rattle.sj_generator_laws.proofs.BehindLemmas.{place, end_behind}
 
+-- the names of the parties
+abbrev pub peers : List ℕ
+peers = 4 ∷ 7 ∷ 10 ∷ 14 ∷ 15 ∷ 16 ∷ 17 ∷ 18 ∷ 19 ∷ 20 ∷ 21 ∷ 22 ∷ 23 ∷ 24 ∷ 25 ∷ []
+
 -- the first end of the session before any message
 abbrev pub sends_numbers : Place
 sends_numbers = repeat Out (message Out int done) (message Into int done)
@@ -35,14 +39,14 @@ adder_rest = statement (send 9 (term.var 12)) ∷ statement (close 9) ∷ statem
 
 -- behind other sessions: the sender with its end, and the adder with both of its ends
 abbrev pub sender_at : List Session → List Thing → ℕ → Program
-sender_at bs todo t = record { todo = todo; vars = no_vars; ends = (5, end_behind bs 0 0) ∷ []; steps = t }
+sender_at bs todo t = record { todo = todo; vars = no_vars; ends = (5, end_behind bs 0 0) ∷ []; steps = t; peers = peers }
 
 abbrev pub adder_at : List Session → List Thing → Vars → ℕ → Program
-adder_at bs todo vars t = record { todo = todo; vars = vars; ends = (11, end_behind bs 1 1) ∷ (9, end_behind bs 0 1) ∷ []; steps = t }
+adder_at bs todo vars t = record { todo = todo; vars = vars; ends = (11, end_behind bs 1 1) ∷ (9, end_behind bs 0 1) ∷ []; steps = t; peers = peers }
 
 -- a party that has ended
 abbrev pub ended : Vars → ℕ → Program
-ended vars t = record { todo = []; vars = vars; ends = []; steps = t }
+ended vars t = record { todo = []; vars = vars; ends = []; steps = t; peers = peers }
 
 -- the session of the loop: the places of its ends, what the sender sent, what the adder sent, and who took each
 abbrev pub session_at : Place → Place → List Passed → List Passed → List ℕ → List ℕ → Session

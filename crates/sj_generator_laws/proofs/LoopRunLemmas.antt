@@ -91,10 +91,10 @@ module _ (line v : ℕ) (bp : List Program) (bs : List Session) (other : Program
         let sent_one = sent ++ said ∷ [] in
         let taken_one = takers ++ place bp 2 ∷ [] in
         take_then bp bs (sender_first ∷ other ∷ adder_first ∷ others) (session_at out numbers sent_one [] takers [] ∷ later) 2 adder_first end refl (omega (arith, few_too)) 0 1 awaits.MoreOrStop said refl
-        (slice_get-last sent takers said even)
+        (slice_get-last sent takers said even) refl
         (send_then bp bs (sender_first ∷ other ∷ adder_second ∷ others) (session_at out into sent_one [] taken_one [] ∷ later) 0 sender_first end refl (omega (arith, few)) 0 0 (msgs.Int (pos v)) refl
         (take_then bp bs (sender_then ∷ other ∷ adder_second ∷ others) (session_at sends_numbers into put [] taken_one [] ∷ later) 2 adder_second end refl (omega (arith, few_too)) 0 1 (awaits.Value scalars.Int) given refl
-        (slice_get-last sent_one taken_one given (both_more sent takers said (place bp 2) even))
+        (slice_get-last sent_one taken_one given (both_more sent takers said (place bp 2) even)) refl
         (local_then bp bs (sender_then ∷ other ∷ adder_third ∷ others) (session_at sends_numbers numbers put [] taken [] ∷ later) 2 adder_third end refl (omega (arith, few_too)) (ap (option_map (λ x. wants.Local)) sum_is)
         (send_then bp bs (sender_then ∷ other ∷ adder_last ∷ others) (session_at sends_numbers numbers put [] taken [] ∷ later) 0 sender_then end refl (omega (arith, few)) 0 0 (more_turns m) refl
         (no_acts end)))))
@@ -107,7 +107,7 @@ module _ (line v : ℕ) (bp : List Program) (bs : List Session) (other : Program
       let said = sending bp (msgs.More false) in
       let adder_first = adder_at bs (statement (inwhile 9 (adding line)) ∷ adder_rest) vars u in
       take_then bp bs (sender_at bs sender_rest t ∷ other ∷ adder_first ∷ others) (session_at (message Into int done) numbers (sent ++ said ∷ []) [] takers [] ∷ later) 2 adder_first end refl (omega (arith, few)) 0 1
-      awaits.MoreOrStop said refl (slice_get-last sent takers said even) (no_acts end)
+      awaits.MoreOrStop said refl (slice_get-last sent takers said even) refl (no_acts end)
 
   -- all turns
   pub loop_runs : (n t u : ℕ) (vars : Vars) (total : ℤ) (sent : List Passed) (takers : List ℕ) → vars 12 ≡ Some (Int total) → length sent ≡ length takers → t + 2 * n < 9000 → u + 3 * n < 9000

@@ -7,7 +7,7 @@ use Rattle.sj_base.specs.declared.Msg.TheVariants as msgs
 use Rattle.sj_lang.specs.FileAt.{FileAt}
 use Rattle.sj_lang.specs.Words.{first_index}
 use Rattle.sj_semantics.specs.Lines.{word_at, name_of}
-use Rattle.sj_rules.specs.Log.{NoteAt, LineAt, Local, Sent, Took, Shut, Carry, Fin, Claim, Signal, Ack, Give}
+use Rattle.sj_rules.specs.Log.{NoteAt, LineAt, Local, Sent, Took, Shut, Carry, Fin, Claim, Signal, Ack, Give, Request, Accept, Open}
 use Rattle.sj_rules.specs.World.{Event, Act, Deliver}
 use Rattle.sj_rules.specs.Limits.{clock_end}
 use Rattle.sj_grammar.specs.Bytes.{is_printable}
@@ -64,6 +64,8 @@ IsAct file Local = ⊤
 IsAct file (Sent end msg) = IsEnd end × IsMessage file msg
 IsAct file (Took end msg) = IsEnd end × IsMessage file msg
 IsAct file (Shut end) = IsEnd end
+IsAct file (Request sess to) = IsCount sess × HasParty file to
+IsAct file (Accept sess from) = IsCount sess × HasParty file from
 IsAct file _ = ⊥
 
 -- what a frame said
@@ -75,6 +77,7 @@ IsSaid file (Signal to conn party taken) = IsEnd to × (IsCount conn × (HasPart
 IsSaid file (Ack of conn) = IsEnd of × IsCount conn
 IsSaid file (Give of conn peer sent taken base resend) =
     IsEnd of × (IsCount conn × (HasParty file peer × (IsCount sent × (IsCount taken × (IsCount base × IsResend resend)))))
+IsSaid file (Open sess) = IsCount sess
 IsSaid file _ = ⊥
 
 -- an act, or a frame from a party of the file

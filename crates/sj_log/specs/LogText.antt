@@ -14,17 +14,17 @@ use Rattle.sj_log.specs.declared.refusal.LogRule.TheVariants.{L4}
 use Rattle.sj_log.specs.declared.refusal.LogRefusal.{LogRefusal}
 use Rattle.sj_log.specs.declared.refusal.LogRefusal.TheVariants as refusals
 
--- an act of the party, or a frame and the party from which it came
-unfoldable pub event_read : FileAt → List (List ℕ) → Result (Event × NoteAt) LogRule
-event_read file ws =
-    if bytes_eq (word ws) (codes "from") then made (λ x. (Deliver x.0, x.1)) (next (party_read file) (frame_read file) (rest ws))
-    else made (λ n. (Act, n)) (act_read file (word ws) (rest ws))
+-- an act of the party, or a frame and the party from which it came, in a log of that version
+unfoldable pub event_read : ℕ → FileAt → List (List ℕ) → Result (Event × NoteAt) LogRule
+event_read version file ws =
+    if bytes_eq (word ws) (codes "from") then made (λ x. (Deliver x.0, x.1)) (next (party_read file) (frame_read version file) (rest ws))
+    else made (λ n. (Act, n)) (act_read version file (word ws) (rest ws))
 
 -- a line without its newline: clock, party and event
-unfoldable pub line_read : FileAt → List ℕ → Result LineAt LogRule
-line_read file bytes =
+unfoldable pub line_read : ℕ → FileAt → List ℕ → Result LineAt LogRule
+line_read version file bytes =
     made (λ x. record { party = x.1.0; entry = record { clock = x.0; event = x.1.1.0; note = x.1.1.1 } })
-    (next clock_read (next (party_read file) (event_read file)) (words_in bytes))
+    (next clock_read (next (party_read file) (event_read version file)) (words_in bytes))
 
 -- a line and the lines behind it, or the first rule that is broken, with its line
 abbrev pub before : ℕ → Result LineAt LogRule → Result (List LineAt) (LogRule × ℕ) → Result (List LineAt) (LogRule × ℕ)
@@ -38,18 +38,18 @@ last_read n [] = Ok []
 last_read n (b ∷ bs) = Err (L4, n)
 
 -- lines from that number on
-abbrev pub lines_read : FileAt → ℕ → List (List ℕ) → Result (List LineAt) (LogRule × ℕ)
-lines_read file n [] = Ok []
-lines_read file n (x ∷ []) = last_read n x
-lines_read file n (x ∷ y ∷ ys) = before n (line_read file x) (lines_read file (n + 1) (y ∷ ys))
+abbrev pub lines_read : ℕ → FileAt → ℕ → List (List ℕ) → Result (List LineAt) (LogRule × ℕ)
+lines_read version file n [] = Ok []
+lines_read version file n (x ∷ []) = last_read n x
+lines_read version file n (x ∷ y ∷ ys) = before n (line_read version file x) (lines_read version file (n + 1) (y ∷ ys))
 
--- a whole log, parted at its newlines; lines count from 1
-abbrev pub log_read : FileAt → List ℕ → Result (List LineAt) (LogRule × ℕ)
-log_read file bytes = lines_read file 1 (slice_split (λ b. b == 10) bytes)
+-- a whole log of that version, parted at its newlines; lines count from 1
+abbrev pub log_read : ℕ → FileAt → List ℕ → Result (List LineAt) (LogRule × ℕ)
+log_read version file bytes = lines_read version file 1 (slice_split (λ b. b == 10) bytes)
 
--- the bytes are the log of these lines
-abbrev pub SpellsLog : FileAt → List ℕ → List LineAt → Type 0
-SpellsLog file bytes lines = log_read file bytes ≡ Ok lines
+-- the bytes are the log of that version of these lines
+abbrev pub SpellsLog : ℕ → FileAt → List ℕ → List LineAt → Type 0
+SpellsLog version file bytes lines = log_read version file bytes ≡ Ok lines
 
 -- the number of the first rule that is broken, and its line
 abbrev pub fault_of : Result (List LineAt) (LogRule × ℕ) → Option (ℕ × ℕ)
@@ -57,6 +57,6 @@ fault_of (Ok lines) = None
 fault_of (Err fault) = Some (rule_number fault.0, fault.1)
 
 -- the first line that isn't in the grammar breaks that rule; want of memory alone says nothing
-abbrev pub IsFault : FileAt → List ℕ → LogRefusal → Type 0
-IsFault file bytes refusals.NoMemory = ⊤
-IsFault file bytes (refusals.At rule line) = fault_of (log_read file bytes) ≡ Some (rule, line)
+abbrev pub IsFault : ℕ → FileAt → List ℕ → LogRefusal → Type 0
+IsFault version file bytes refusals.NoMemory = ⊤
+IsFault version file bytes (refusals.At rule line) = fault_of (log_read version file bytes) ≡ Some (rule, line)

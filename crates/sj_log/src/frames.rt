@@ -3,11 +3,11 @@ ghost use Rattle.std.specs.Prelude.{◌≡◌};
 ghost use Rattle.sj_lang.specs.FileView.{file_of};
 ghost use Rattle.sj_end.specs.Lines.{note_seen};
 ghost use Rattle.sj_log.specs.Fields.{made};
-ghost use Rattle.sj_log.specs.Notes.{carry_read, fin_read, signal_read, counts_read, give_read, frame_read};
+ghost use Rattle.sj_log.specs.Notes.{carry_read, fin_read, signal_read, counts_read, give_read, open_read, frame_read};
 
 use crate::fields::{count, end, resend};
 use crate::names::party;
-use crate::notes::message;
+use crate::notes::{knows_openings, message};
 use crate::refusal::LogRule;
 use crate::words::{Fields, is, together};
 use sj_end::Note;
@@ -102,10 +102,27 @@ fn give(file: &File, fields: &mut Fields) -> Result<Note, LogRule>
     })
 }
 
-/// What a frame said.
+// A session that was opened comes.
+#[tactic(auto, unfolding(crate::specs::Notes::open_read))]
+fn opened(version: u8, word: &[u8], fields: &mut Fields) -> Result<Note, LogRule>
+    ensures { made note_seen result ≡ open_read version word.now fields.old }
+{
+    if !knows_openings(version) {
+        return Err(LogRule::L1);
+    }
+    if is(word, b"open") {
+        let sess = count(fields.next());
+        let (sess, ()) = together(sess, fields.end())?;
+        Ok(Note::Open { sess })
+    } else {
+        Err(LogRule::L1)
+    }
+}
+
+/// What a frame said, in a log of that version.
 #[tactic(auto, unfolding(crate::specs::Notes::frame_read))]
-pub(crate) fn frame(file: &File, fields: &mut Fields) -> Result<Note, LogRule>
-    ensures { made note_seen result ≡ frame_read (file_of file.now) fields.old }
+pub(crate) fn frame(version: u8, file: &File, fields: &mut Fields) -> Result<Note, LogRule>
+    ensures { made note_seen result ≡ frame_read version (file_of file.now) fields.old }
 {
     let word = fields.next();
     if is(word, b"carry") {
@@ -126,6 +143,6 @@ pub(crate) fn frame(file: &File, fields: &mut Fields) -> Result<Note, LogRule>
     } else if is(word, b"give") {
         give(file, fields)
     } else {
-        Err(LogRule::L1)
+        opened(version, word, fields)
     }
 }

@@ -11,7 +11,7 @@ mod parts;
 mod refusal;
 mod words;
 
-pub use laws::printed_lines_are_read;
+pub use laws::{printed_lines_are_read, sources_are_parted_in_one_way};
 pub use lines::read_log;
 pub use parts::parted;
 pub use refusal::LogRefusal;

@@ -5,6 +5,7 @@ ghost use Rattle.sj_lang.specs.Limits.{source_limit};
 ghost use Rattle.sj_end.specs.Lines.{line_at, note_seen, event_at};
 ghost use Rattle.sj_end.specs.declared.note.Event.TheVariants as events;
 ghost use Rattle.sj_log.specs.Fields.{made};
+ghost use Rattle.sj_log.specs.Parts.{IsVersion};
 ghost use Rattle.sj_log.specs.Values.{line_from};
 ghost use Rattle.sj_log.specs.LogText.{event_read, line_read, SpellsLog, IsFault};
 
@@ -30,17 +31,17 @@ fn delivery(read: Result<(u16, Note), LogRule>) -> Result<(Event, Note), LogRule
 
 // An act of the party, or a frame and the party from which it came.
 #[tactic(auto, unfolding(crate::specs::LogText::event_read))]
-fn event(file: &File, fields: &mut Fields) -> Result<(Event, Note), LogRule>
+fn event(version: u8, file: &File, fields: &mut Fields) -> Result<(Event, Note), LogRule>
     ensures { made (λ x. (event_at x.0, note_seen x.1)) result
-        ≡ event_read (file_of file.now) fields.old }
+        ≡ event_read version (file_of file.now) fields.old }
 {
     let word = fields.next();
     if is(word, b"from") {
         let from = party(file, fields.next());
-        let said = frame(file, fields);
+        let said = frame(version, file, fields);
         delivery(together(from, said))
     } else {
-        let note = act(file, word, fields)?;
+        let note = act(version, file, word, fields)?;
         Ok((Event::Act, note))
     }
 }
@@ -58,25 +59,31 @@ fn with_clock(read: Result<(u64, (u16, (Event, Note))), LogRule>) -> Result<Line
 }
 
 // A line without its newline.
-fn line(file: &File, bytes: &[u8]) -> Result<Line, LogRule>
-    ensures { made line_at result ≡ line_read (file_of file.now) bytes.now }
+fn line(version: u8, file: &File, bytes: &[u8]) -> Result<Line, LogRule>
+    ensures { made line_at result ≡ line_read version (file_of file.now) bytes.now }
 {
     let mut fields = Fields::of(bytes);
     let clock = clock(fields.next());
     let party = party(file, fields.next());
-    let event = event(file, &mut fields);
+    let event = event(version, file, &mut fields);
     with_clock(together(clock, together(party, event)))
 }
 
-/// The lines of a log of at most 16,777,216 bytes, for the names of a file. Where the bytes are no
-/// log, the first line that isn't in the grammar is refused; of the rules that it breaks L4 is told
+/// The lines of a log of that version and of at most 16,777,216 bytes, for the names of a file. In version 1
+/// a line of a session that is opened at run time has no form. Where the bytes are no log, the first line that isn't in the grammar is refused; of the rules that it breaks L4 is told
 /// before L1, L1 before L3, and L3 before L2. Takes time linear in the bytes, but for the look-up of
 /// names, which takes time logarithmic in the number of the file's words.
-pub fn read_log(alloc: Global, bytes: &[u8], file: &File) -> Result<Vec<Line>, LogRefusal>
-    requires { length bytes.now ≤ source_limit }
-    ensures ok { IfOk result (λ lines. SpellsLog (file_of file.now) bytes.now
+pub fn read_log(
+    alloc: Global,
+    bytes: &[u8],
+    file: &File,
+    version: u8,
+) -> Result<Vec<Line>, LogRefusal>
+    requires known { IsVersion version }
+    requires few { length bytes.now ≤ source_limit }
+    ensures ok { IfOk result (λ lines. SpellsLog version (file_of file.now) bytes.now
         (map line_at lines.items)) }
-    ensures fault { IfErr result (IsFault (file_of file.now) bytes.now) }
+    ensures fault { IfErr result (IsFault version (file_of file.now) bytes.now) }
 {
     let mut lines = Vec::new(alloc);
     let mut left = bytes;
@@ -89,7 +96,7 @@ pub fn read_log(alloc: Global, bytes: &[u8], file: &File) -> Result<Vec<Line>, L
                 line: number,
             });
         }
-        match line(file, &left[..end]) {
+        match line(version, file, &left[..end]) {
             Ok(line) => lines.push(line)?,
             Err(rule) => {
                 return Err(LogRefusal::At {

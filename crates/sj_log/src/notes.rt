@@ -3,9 +3,10 @@ ghost use Rattle.std.specs.Prelude.{◌≡◌};
 ghost use Rattle.sj_lang.specs.FileView.{file_of};
 ghost use Rattle.sj_end.specs.Lines.{note_seen};
 ghost use Rattle.sj_log.specs.Fields.{made};
-ghost use Rattle.sj_log.specs.Notes.{sess_read, message_read, act_read};
+ghost use Rattle.sj_print.specs.Version.{knows_openings};
+ghost use Rattle.sj_log.specs.Notes.{sess_read, message_read, offer_read, opening_read, act_read};
 
-use crate::fields::{boolean, end, int};
+use crate::fields::{boolean, count, end, int};
 use crate::names::{label, party, text};
 use crate::refusal::LogRule;
 use crate::words::{Fields, is, together};
@@ -62,10 +63,51 @@ pub(crate) fn message(file: &File, fields: &mut Fields) -> Result<Msg, LogRule>
     }
 }
 
-/// What a party did, by that word and those behind it.
+// A session, and a party.
+#[tactic(auto, unfolding(crate::specs::Notes::offer_read))]
+fn offer(file: &File, fields: &mut Fields) -> Result<(u32, (u16, ())), LogRule>
+    ensures { result ≡ offer_read (file_of file.now) fields.old }
+{
+    let sess = count(fields.next());
+    let party = party(file, fields.next());
+    together(sess, together(party, fields.end()))
+}
+
+/// Whether a log of that version tells of sessions that are opened at run time.
+pub(crate) fn knows_openings(version: u8) -> bool
+    ensures { result ≡ knows_openings version }
+{
+    version > 1
+}
+
+// A session is opened or accepted.
+#[tactic(auto, unfolding(crate::specs::Notes::opening_read))]
+fn opening(version: u8, file: &File, word: &[u8], fields: &mut Fields) -> Result<Note, LogRule>
+    ensures { made note_seen result ≡ opening_read version (file_of file.now) word.now fields.old }
+{
+    if !knows_openings(version) {
+        return Err(LogRule::L1);
+    }
+    if is(word, b"request") {
+        let (sess, (to, ())) = offer(file, fields)?;
+        Ok(Note::Request { sess, to })
+    } else if is(word, b"accept") {
+        let (sess, (from, ())) = offer(file, fields)?;
+        Ok(Note::Accept { sess, from })
+    } else {
+        Err(LogRule::L1)
+    }
+}
+
+/// What a party did, by that word and those behind it, in a log of that version.
 #[tactic(auto, unfolding(crate::specs::Notes::act_read))]
-pub(crate) fn act(file: &File, word: &[u8], fields: &mut Fields) -> Result<Note, LogRule>
-    ensures { made note_seen result ≡ act_read (file_of file.now) word.now fields.old }
+pub(crate) fn act(
+    version: u8,
+    file: &File,
+    word: &[u8],
+    fields: &mut Fields,
+) -> Result<Note, LogRule>
+    ensures { made note_seen result ≡ act_read version (file_of file.now) word.now fields.old }
 {
     if is(word, b"local") {
         fields.end()?;
@@ -83,6 +125,6 @@ pub(crate) fn act(file: &File, word: &[u8], fields: &mut Fields) -> Result<Note,
         let (end, ()) = together(end, fields.end())?;
         Ok(Note::Shut { end })
     } else {
-        Err(LogRule::L1)
+        opening(version, file, word, fields)
     }
 }

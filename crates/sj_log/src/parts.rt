@@ -1,21 +1,43 @@
-//! The source of a replay: a file, a line `%%log`, and a log.
-ghost use Rattle.std.specs.Prelude.{◌≡◌, IfSome, None};
-ghost use Rattle.sj_log.specs.Parts.{HasNoPart, IsParted};
+//! The source of a replay: a file, a line `%%log` or `%%log2`, and a log.
+ghost use Rattle.std.specs.Prelude.{◌≡◌, ◌++◌, IfSome, None, codes};
+ghost use Rattle.sj_log.specs.Parts.{HasNoPart, IsFirst, IsParted};
 
 use memchr::arch::all::is_prefix;
 use memchr::memmem;
 
-/// The text of the file and that of the log, parted at the first line that is exactly `%%log`, with
-/// its newline. None where there is no such line. Takes time linear in the bytes, and no memory.
-pub fn parted(source: &[u8]) -> Option<(&[u8], &[u8])>
-    ensures some { IfSome result (λ p. IsParted source.now p.0.now p.1.now) }
+/// The text of the file, the version of the log, and the log, parted at the first line that is exactly
+/// `%%log`, for version 1, or `%%log2`, for version 2, with its newline. None where there is no such line.
+/// Takes time linear in the bytes, and no memory.
+pub fn parted(source: &[u8]) -> Option<(&[u8], u8, &[u8])>
+    ensures some { IfSome result (λ p. IsParted source.now p.0.now p.1 p.2.now) }
     ensures none { result ≡ None → HasNoPart source.now }
 {
-    if is_prefix(source, b"%%log\n") {
-        return Some((&source[..0], &source[6..]));
+    let first = line_at(source, b"%%log\n", b"\n%%log\n");
+    let second = line_at(source, b"%%log2\n", b"\n%%log2\n");
+    match (first, second) {
+        (None, None) => None,
+        (Some(at), None) => Some((&source[..at], 1, &source[at + 6..])),
+        (None, Some(at)) => Some((&source[..at], 2, &source[at + 7..])),
+        (Some(m), Some(n)) => {
+            if m < n {
+                Some((&source[..m], 1, &source[m + 6..]))
+            } else {
+                Some((&source[..n], 2, &source[n + 7..]))
+            }
+        }
     }
-    match memmem::find(source, b"\n%%log\n") {
-        Some(at) => Some((&source[..at + 1], &source[at + 7..])),
+}
+
+// Where that line stands first. The line is given alone, and behind the end of another.
+fn line_at(source: &[u8], mark: &[u8], inner: &[u8]) -> Option<usize>
+    requires { inner.now ≡ codes "\n" ++ mark.now }
+    ensures { IsFirst mark.now source.now result }
+{
+    if is_prefix(source, mark) {
+        return Some(0);
+    }
+    match memmem::find(source, inner) {
+        Some(at) => Some(at + 1),
         None => None,
     }
 }

@@ -8,7 +8,7 @@ ghost use Rattle.sj_machine.specs.Opens.{ends_after_opened};
 ghost use Rattle.sj_machine.specs.Table.{vars_in};
 ghost use Rattle.sj_machine.specs.declared.stack.Stage.{Stage};
 ghost use Rattle.sj_semantics.specs.Program.{Thing};
-ghost use Rattle.sj_semantics.specs.Steps.{ends_after_closed, ends_after_sent, ends_after_took, vars_after_local, vars_after_took};
+ghost use Rattle.sj_semantics.specs.Steps.{ends_after_closed, ends_after_sent, ends_after_took, name_opened, vars_after_local, vars_after_took};
 
 use crate::arena::Op;
 use crate::ends::{bind, unbind};
@@ -90,6 +90,18 @@ pub fn ends_closed(ends: &mut Vec<(u16, EndId)>, op: &Op)
 {
     if let Op::Close { end } = op {
         unbind(ends, *end);
+    }
+}
+
+/// The name of the end that a statement opens or accepts; 0 where it does neither.
+pub fn name_at(op: &Op) -> u16
+    ensures { (codes : List Code) (stage : Stage) (rest : List Thing) →
+        result ≡ name_opened (thing_at stage (deed_in codes op.now) ∷ rest) }
+{
+    match op {
+        Op::Request { end, .. } => *end,
+        Op::Accept { end, .. } => *end,
+        _ => 0,
     }
 }
 

@@ -8,12 +8,13 @@ ghost use Rattle.sj_machine.specs.Sound.{first_program, program_at, last_step};
 ghost use Rattle.sj_semantics.specs.World.{start_of};
 ghost use Rattle.sj_semantics.specs.declared.Awaits.{Awaits};
 ghost use Rattle.sj_semantics.specs.declared.Want.TheVariants.{Ended, Take};
-ghost use Rattle.sj_semantics.specs.Steps.{closed_of, local_of, opened_of, sent_of, took_of};
+ghost use Rattle.sj_semantics.specs.Steps.{closed_of, local_of, name_opened, opened_of, sent_of, took_of};
 ghost use Rattle.sj_semantics.specs.Wants.{want_of};
 ghost use Rattle.sj_semantics.specs.Fitting.{fits};
 
 use crate::arena::Node;
 use crate::building::add_block;
+use crate::knowing::name_at;
 use crate::stack::Stack;
 use crate::starting::{connected_ends, names_above, names_of, unknown, with_room};
 use crate::steps::{closed, local, opened, sent, took};
@@ -184,6 +185,17 @@ impl Machine {
         let names = self.vars.len();
         opened(&self.nodes, &mut self.stack, names, &mut self.ends, end);
         self.steps += 1;
+    }
+
+    /// The name under which the next step binds an end, where it opens a session or accepts one;
+    /// else 0.
+    pub fn name_opened(&self) -> u16
+        ensures { result ≡ name_opened (program_at self.now).todo }
+    {
+        match self.stack.top() {
+            Some(frame) => name_at(&self.nodes[frame.at].op),
+            None => 0,
+        }
     }
 
     /// How many steps it has done.

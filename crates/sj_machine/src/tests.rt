@@ -15,6 +15,10 @@ const M: u16 = 3;
 
 const FIRST: EndId = EndId { sess: 0, side: 0 };
 
+const OPENED: EndId = EndId { sess: 64, side: 0 };
+
+const ACCEPTED: EndId = EndId { sess: 164, side: 1 };
+
 fn stmt(deed: Deed) -> Stmt {
     Stmt { line: 1, deed }
 }
@@ -37,6 +41,8 @@ fn steps(party: &mut Machine, msg: Msg) {
         Want::Send { .. } => party.sent(),
         Want::Delegate { .. } => party.sent(),
         Want::Close { .. } => party.closed(),
+        Want::Request { .. } => party.opened(OPENED),
+        Want::Accept { .. } => party.opened(ACCEPTED),
         Want::Ended => {}
         Want::Take { .. } => {
             if party.fits(&msg) {
@@ -61,7 +67,7 @@ fn a_party_does_its_statements_in_order(rt: HostRuntime) -> Result<(), Fail> {
         stmt(take(X)),
         stmt(Deed::Close { end: X }),
     ];
-    let mut party = Machine::over(alloc, &body, &[(X, FIRST)])?;
+    let mut party = Machine::over(alloc, &body, &[(X, FIRST)], Vec::new(alloc))?;
     for want in [
         Want::Local,
         Want::Send {
@@ -84,10 +90,46 @@ fn a_party_does_its_statements_in_order(rt: HostRuntime) -> Result<(), Fail> {
 }
 
 #[test]
+fn opened_and_accepted_ends_are_bound_under_their_names(rt: HostRuntime) -> Result<(), Fail> {
+    let alloc = rt.alloc();
+    let body = [
+        stmt(Deed::Request {
+            end: X,
+            protocol: M,
+            party: 9,
+        }),
+        stmt(Deed::Accept {
+            end: Y,
+            protocol: N,
+            party: 8,
+        }),
+        stmt(Deed::Close { end: X }),
+        stmt(Deed::Close { end: Y }),
+    ];
+    let peers = Vec::from_array(alloc, [8, 9])?;
+    let mut party = Machine::over(alloc, &body, &[], peers)?;
+    for want in [
+        Want::Request { protocol: M, to: 1 },
+        Want::Accept {
+            protocol: N,
+            from: 0,
+        },
+        Want::Close { end: OPENED },
+        Want::Close { end: ACCEPTED },
+        Want::Ended,
+    ] {
+        assert_eq!(rt; party.wants(), want);
+        assert!(rt; !party.fits(&Msg::Int(5)), "no step of it takes");
+        steps(&mut party, Msg::Int(1));
+    }
+    Ok(())
+}
+
+#[test]
 fn a_message_of_another_kind_does_not_fit(rt: HostRuntime) -> Result<(), Fail> {
     let alloc = rt.alloc();
     let body = [stmt(take(X))];
-    let party = Machine::over(alloc, &body, &[(X, FIRST)])?;
+    let party = Machine::over(alloc, &body, &[(X, FIRST)], Vec::new(alloc))?;
     for (msg, want) in [
         (Msg::Int(1), true),
         (Msg::Bool(true), false),
@@ -104,7 +146,7 @@ fn a_party_that_names_what_is_not_there_has_ended(rt: HostRuntime) -> Result<(),
     let value = Expr::Var(M);
     for deed in [Deed::Send { end: X, value }, take(Y)] {
         let body = [stmt(deed)];
-        let party = Machine::over(alloc, &body, &[(X, FIRST)])?;
+        let party = Machine::over(alloc, &body, &[(X, FIRST)], Vec::new(alloc))?;
         assert_eq!(rt; party.wants(), Want::Ended);
         assert!(rt; !party.fits(&Msg::Int(1)), "nothing is taken");
     }

@@ -176,8 +176,8 @@ module _ {P Q : Type 0} (blank : P) (w : WorldAt P Q) where
 
   flows_there : (s r : Side P) (waiting : List Msg) (seat : Seat P) → flowing_at (reading blank w) s r waiting seat → flowing_at w s r waiting seat
   flows_there s r waiting (held at h) f = ap (λ l. h.untaken ++ l) (sym (carries_without r.id h.end.conn (w.lanes h.end.peer at))) ∙ f
-  flows_there s r waiting (signalled at to e ds) f = awaited_same (party_of s.seat) to r.id (e.conn + 1) ds ∙ f
-  flows_there s r waiting (given at to e resend ds) f = awaited_same (party_of s.seat) to r.id e.conn ds ∙ f
+  flows_there s r waiting (signalled at to e ds) f = record { under = f.under; waits = awaited_same (party_of s.seat) to r.id (e.conn + 1) ds ∙ f.waits }
+  flows_there s r waiting (given at to e resend ds) f = record { under = f.under; waits = awaited_same (party_of s.seat) to r.id e.conn ds ∙ f.waits }
   flows_there s r waiting (closed at e) f = f
   flows_there s r waiting gone f = f
   flows_there s r waiting (parked at e) f = f

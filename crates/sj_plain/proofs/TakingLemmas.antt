@@ -1,47 +1,97 @@
--- A ready party that takes.
-use Rattle.std.proofs.Common.{◌≡◌, ℕ, nat_lt, true, cond, List, Option, Some, None, option_map, is_some, unwrap_or, refl, ap, sym, ◌∙◌}
+-- What a ready party's next step can do.
+use Rattle.std.proofs.Common.{◌≡◌, ℕ, nat_lt, Bool, true, false, cond, List, Option, Some, None, length, map, option_map, is_some, unwrap_or, refl, ap, sym, ◌∙◌}
 use Rattle.sj_base.specs.declared.EndId.{EndId}
+use Rattle.sj_lang.specs.declared.file.ProtocolDef.{ProtocolDef}
+use Rattle.sj_lang.specs.FileView.{protocol_of}
+use Rattle.sj_lang.specs.FileAt.{body_named}
 use Rattle.sj_semantics.specs.declared.Awaits.{Awaits}
+use Rattle.sj_semantics.specs.declared.Opened.{Opened}
 use Rattle.sj_semantics.specs.declared.Passed.{Passed}
+use Rattle.sj_semantics.specs.declared.Limit.TheVariants as limits
+use Rattle.sj_semantics.specs.declared.State.{State}
 use Rattle.sj_semantics.specs.declared.State.TheVariants as states
 use Rattle.sj_semantics.specs.declared.Want.{Want}
 use Rattle.sj_semantics.specs.declared.Want.TheVariants as wants
 use Rattle.sj_semantics.specs.Ends.{Session, next_for}
 use Rattle.sj_semantics.specs.Program.{Program}
-use Rattle.sj_semantics.specs.State.{state_wanting, state_wanting_if, state_of_program}
+use Rattle.sj_semantics.specs.Requests.{first_offer, opened_number}
+use Rattle.sj_semantics.specs.State.{state_by, state_wanting, state_wanting_if, state_of_program}
 use Rattle.sj_semantics.specs.Steps.{took_of}
 use Rattle.sj_semantics.specs.Uses.{after_uses}
 use Rattle.sj_semantics.specs.Wants.{want_of}
-use Rattle.sj_semantics.specs.World.{change_by_taking}
+use Rattle.sj_semantics.specs.World.{World, Change, change_by, change_by_accepting, change_by_opening, change_by_taking}
 use Rattle.sj_semantics_laws.proofs.ChangeLemmas.{from_rests}
-use Rattle.sj_plain.specs.Stepping.{after_change, next_move}
-use Rattle.sj_semantics_laws.proofs.StateLemmas.{below_if as below_limit}
+use Rattle.sj_semantics_laws.proofs.StateLemmas.{below_if}
+use Rattle.sj_plain.specs.declared.ends.Session.{Session as Lying}
+use Rattle.sj_plain.specs.Opened.{requests_in}
+use Rattle.sj_plain.specs.Stepping.{Makes, after_change, next_move, sessions_at, world_around}
 
--- the steps that are left, what the party wants, and the message that is there
-pub record CanTake (zs : List Session) (g : Program) (e : EndId) (a : Awaits) : Type 0 where
+-- the steps that are left, what the party wants, and that it can do that
+pub record CanDo (w : World) (p : ℕ) (g : Program) (want : Want) : Type 0 where
   pub steps_left : nat_lt g.steps 10000 ≡ true
-  pub wants_it : want_of g ≡ Some (wants.Take e a)
-  pub message : Passed
-  pub there : next_for zs e ≡ Some message
+  pub wants_it : want_of g ≡ Some want
+  pub ready : state_by w p want ≡ states.Ready
 
-with_message : (zs : List Session) (g : Program) (e : EndId) (a : Awaits) (o : Option Passed) → next_for zs e ≡ o → nat_lt g.steps 10000 ≡ true → want_of g ≡ Some (wants.Take e a) → cond (is_some o) states.Ready (states.Waits e) ≡ states.Ready → CanTake zs g e a
-with_message zs g e a None there left it ready = cc
-with_message zs g e a (Some x) there left it ready = record { steps_left = left; wants_it = it; message = x; there = there }
+ready_by : (w : World) (p : ℕ) (steps : ℕ) (want : Want) → state_wanting w p steps want ≡ states.Ready → (nat_lt steps 10000 ≡ true) × (state_by w p want ≡ states.Ready)
+ready_by w p steps wants.Ended h = cc
+ready_by w p steps wants.Local h = below_if (nat_lt steps 10000) (state_by w p wants.Local) h
+ready_by w p steps (wants.Send e m) h = below_if (nat_lt steps 10000) (state_by w p (wants.Send e m)) h
+ready_by w p steps (wants.Delegate e y) h = below_if (nat_lt steps 10000) (state_by w p (wants.Delegate e y)) h
+ready_by w p steps (wants.Take e a) h = below_if (nat_lt steps 10000) (state_by w p (wants.Take e a)) h
+ready_by w p steps (wants.Close e) h = below_if (nat_lt steps 10000) (state_by w p (wants.Close e)) h
+ready_by w p steps (wants.Request n q) h = below_if (nat_lt steps 10000) (state_by w p (wants.Request n q)) h
+ready_by w p steps (wants.Accept n q) h = below_if (nat_lt steps 10000) (state_by w p (wants.Accept n q)) h
 
-that_wants : (zs : List Session) (g : Program) (e : EndId) (a : Awaits) → want_of g ≡ Some (wants.Take e a) → state_wanting zs g.steps (wants.Take e a) ≡ states.Ready → CanTake zs g e a
-that_wants zs g e a it ready =
-    let r = below_limit (nat_lt g.steps 10000) (cond (is_some (next_for zs e)) states.Ready (states.Waits e)) ready in
-    with_message zs g e a (next_for zs e) refl r.0 it r.1
+can_do_if : (w : World) (p : ℕ) (g : Program) (want : Want) (o : Option Want) → want_of g ≡ o → state_wanting_if w p g.steps o ≡ states.Ready → want ≡ unwrap_or o wants.Ended → CanDo w p g want
+can_do_if w p g want None h ready it = cc
+can_do_if w p g want (Some v) h ready it =
+    let r = ready_by w p g.steps want (ap (state_wanting w p g.steps) it ∙ ready) in
+    record { steps_left = r.0; wants_it = h ∙ ap Some (sym it); ready = r.1 }
 
-wanting_if : (zs : List Session) (g : Program) (e : EndId) (a : Awaits) (o : Option Want) → want_of g ≡ o → state_wanting_if zs g.steps o ≡ states.Ready → wants.Take e a ≡ unwrap_or o wants.Ended → CanTake zs g e a
-wanting_if zs g e a None h ready it = cc
-wanting_if zs g e a (Some v) h ready it = that_wants zs g e a (h ∙ ap Some (sym it)) (ap (state_wanting zs g.steps) it ∙ ready)
+pub can_do : (w : World) (p : ℕ) (g : Program) (want : Want) → state_of_program w p g ≡ states.Ready → want ≡ unwrap_or (want_of g) wants.Ended → CanDo w p g want
+can_do w p g want ready it = can_do_if w p g want (want_of g) refl ready it
 
-pub can_take : (zs : List Session) (g : Program) (e : EndId) (a : Awaits) → state_of_program zs g ≡ states.Ready → wants.Take e a ≡ unwrap_or (want_of g) wants.Ended → CanTake zs g e a
-can_take zs g e a ready it = wanting_if zs g e a (want_of g) refl ready it
+-- the move that the party's change makes
+moves_by : (w : World) (p : ℕ) (g : Program) (want : Want) (c : Change) → CanDo w p g want → change_by w p g want ≡ Some c → next_move p w g ≡ Some (after_change p w c)
+moves_by w p g want c can made = ap (option_map (after_change p w)) (from_rests w p g c (record { steps_left = can.steps_left; want = want; wants_it = can.wants_it; by_it = made }))
 
--- what the take makes
-pub takes_it : (p : ℕ) (zs ys : List Session) (g h : Program) (e : EndId) (a : Awaits) (c : CanTake zs g e a) → h ≡ took_of g c.message.msg → ys ≡ after_uses p (change_by_taking g e c.message).uses zs → next_move p zs g ≡ Some (h, ys)
-takes_it p zs ys g h e a c program sessions =
-    ap (option_map (after_change p zs)) (from_rests zs p g (change_by_taking g e c.message) (record { steps_left = c.steps_left; want = wants.Take e a; wants_it = c.wants_it; by_it = ap (option_map (change_by_taking g e)) c.there }))
-    ∙ (λ i. Some (sym program i, sym sessions i))
+moves_on : (ps : List ProtocolDef) (zs ys : List Lying) (old new : List Opened) (p : ℕ) (g h : Program) (c : Change) → Makes p c zs ys old new h → after_change p (world_around ps zs old) c ≡ (h, sessions_at ys, requests_in new)
+moves_on ps zs ys old new p g h c made = λ i. (sym made.program i, sym made.sessions i, λ q. sym (made.requests q) i)
+
+pub moves : (ps : List ProtocolDef) (zs ys : List Lying) (old new : List Opened) (p : ℕ) (g h : Program) (want : Want) (c : Change) → CanDo (world_around ps zs old) p g want → change_by (world_around ps zs old) p g want ≡ Some c → Makes p c zs ys old new h
+    → next_move p (world_around ps zs old) g ≡ Some (h, sessions_at ys, requests_in new)
+moves ps zs ys old new p g h want c can by made = moves_by (world_around ps zs old) p g want c can by ∙ ap Some (moves_on ps zs ys old new p g h c made)
+
+-- ---- a message is there, a request is left, and a session is offered
+
+message_if : (o : Option Passed) (e : EndId) → cond (is_some o) states.Ready (states.Waits e) ≡ states.Ready → (x : Passed) × (o ≡ Some x)
+message_if None e h = cc
+message_if (Some x) e h = (x, refl)
+
+pub message_there : (w : World) (p : ℕ) (g : Program) (e : EndId) (a : Awaits) → CanDo w p g (wants.Take e a) → (x : Passed) × (next_for w.sessions e ≡ Some x)
+message_there w p g e a can = message_if (next_for w.sessions e) e can.ready
+
+request_if : (b : Bool) → cond b states.Ready (states.AtLimit limits.Requests) ≡ states.Ready → b ≡ true
+request_if true h = refl
+request_if false h = cc
+
+pub request_left : (w : World) (p : ℕ) (g : Program) (n q : ℕ) → CanDo w p g (wants.Request n q) → nat_lt (length (w.requests p)) 100 ≡ true
+request_left w p g n q can = request_if (nat_lt (length (w.requests p)) 100) can.ready
+
+offer_if : (o : Option ℕ) (q : ℕ) → cond (is_some o) states.Ready (states.WaitsOpen q) ≡ states.Ready → (k : ℕ) × (o ≡ Some k)
+offer_if None q h = cc
+offer_if (Some k) q h = (k, refl)
+
+pub offer_there : (w : World) (p : ℕ) (g : Program) (n q : ℕ) → CanDo w p g (wants.Accept n q) → (k : ℕ) × (first_offer p (w.requests q) ≡ Some k)
+offer_there w p g n q can = offer_if (first_offer p (w.requests q)) q can.ready
+
+-- ---- the changes
+
+pub taking : (w : World) (p : ℕ) (g : Program) (e : EndId) (a : Awaits) (x : Passed) → next_for w.sessions e ≡ Some x → change_by w p g (wants.Take e a) ≡ Some (change_by_taking w.protocols g e a x)
+taking w p g e a x there = ap (option_map (change_by_taking w.protocols g e a)) there
+
+pub opening : (w : World) (p : ℕ) (g : Program) (n q : ℕ) → nat_lt (length (w.requests p)) 100 ≡ true → change_by w p g (wants.Request n q) ≡ Some (change_by_opening g (opened_number p (length (w.requests p))) (body_named w.protocols n) q)
+opening w p g n q few = ap (λ (b : Bool). cond b (Some (change_by_opening g (opened_number p (length (w.requests p))) (body_named w.protocols n) q)) None) few
+
+pub accepting : (w : World) (p : ℕ) (g : Program) (n q k : ℕ) → first_offer p (w.requests q) ≡ Some k → change_by w p g (wants.Accept n q) ≡ Some (change_by_accepting g q (body_named w.protocols n) k)
+accepting w p g n q k there = ap (option_map (change_by_accepting g q (body_named w.protocols n))) there

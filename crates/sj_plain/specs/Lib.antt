@@ -4,6 +4,7 @@ pub mod Finish
 pub mod Finishing
 pub mod Kept
 pub mod Moves
+pub mod Opened
 pub mod Plain
 pub mod Rounds
 pub mod Stepping

@@ -15,7 +15,7 @@ kept_file p = file_in p
 abbrev pub acts_of : Plain → List ℕ
 acts_of p = acts_in p
 
--- the parties and the sessions as those acts left them
+-- the parties, the sessions and the requests as those acts left them
 abbrev pub world_at : Plain → World
 world_at p = world_in p
 
@@ -23,7 +23,7 @@ world_at p = world_in p
 abbrev pub party_count : Plain → ℕ
 party_count p = length (world_at p).parties
 
--- how many sessions there are
+-- how many sessions there are, with those between them that aren't opened
 abbrev pub session_count : Plain → ℕ
 session_count p = length (world_at p).sessions
 

@@ -11,7 +11,7 @@ ghost use Rattle.sj_machine.specs.Sound.{program_at};
 ghost use Rattle.sj_plain.specs.Rounds.{Shows, steps_left};
 ghost use Rattle.sj_plain.specs.Stepping.{sessions_at};
 ghost use Rattle.sj_semantics.specs.World.{start_of, act_of};
-ghost use Rattle.sj_semantics.specs.State.{IsSettled, has_ended, is_at_limit, state_of, state_of_program, verdict_of};
+ghost use Rattle.sj_semantics.specs.State.{IsSettled, has_ended, is_accepted, is_at_limit, state_of, states_of, verdict_of};
 ghost use Rattle.sj_semantics.specs.declared.State.TheVariants.{Ready};
 
 use crate::Halt;
@@ -21,7 +21,7 @@ use crate::stepping::{state_of, step};
 use sj_base::NoMemory;
 use sj_lang::File;
 use sj_machine::Machine;
-use sj_semantics::{State, Verdict};
+use sj_semantics::{Opened, State, Verdict};
 use std::alloc::Global;
 
 /// A file, its parties and sessions, and who acted so far.
@@ -31,11 +31,12 @@ pub struct Course {
     pub kept: Kept,
     pub machines: Vec<Machine>,
     pub sessions: Vec<Session>,
+    pub opened: Vec<Opened>,
     pub acts: Vec<u16>,
 }
 
 impl Course {
-    ghost use Rattle.sj_plain.specs.Course.{GoesOn, acts_in, file_in, world_in};
+    ghost use Rattle.sj_plain.specs.Course.{GoesOn, IsOrdered, acts_in, file_in, world_in};
 
     /// The course before any act.
     pub fn start(alloc: Global, file: &File) -> Result<Course, NoMemory>
@@ -43,6 +44,7 @@ impl Course {
         ensures file { IfOk result (λ c. file_in c ≡ without_words (file_of file.now)) }
         ensures acts { IfOk result (λ c. acts_in c ≡ []) }
         ensures world { IfOk result (λ c. world_in c ≡ start_of (file_of file.now)) }
+        ensures ordered { IfOk result IsOrdered }
     {
         let kept = copied_file(alloc, file)?;
         let machines = first_machines(alloc, file)?;
@@ -52,13 +54,15 @@ impl Course {
             kept,
             machines,
             sessions,
+            opened: Vec::new(alloc),
             acts: Vec::new(alloc),
         })
     }
 
     /// Does the next step of the party.
     pub fn act(&mut self, party: u16) -> Result<(), Halt>
-        requires { party < length (world_in self.old).parties }
+        requires there { party < length (world_in self.old).parties }
+        requires ordered { IsOrdered self.old }
         ensures ok { OnOk result (act_of (world_in self.old) party ≡ Some (world_in self.new)) }
         ensures acts { OnOk result (acts_in self.new ≡ acts_in self.old ++ party ∷ []) }
         ensures file { file_in self.new ≡ file_in self.old }
@@ -66,11 +70,13 @@ impl Course {
         ensures err { OnErr result (world_in self.new ≡ world_in self.old) }
         ensures err_acts { OnErr result (acts_in self.new ≡ acts_in self.old) }
         ensures on { GoesOn self.old self.new }
+        ensures ordered { IsOrdered self.new }
         ensures told { let state = state_of (world_in self.old) party in
             MatchResult result (λ _. state ≡ Ready) (λ h. Shows state h) }
     {
         match self.state(party) {
             State::Waits(_) => Err(Halt::Waits),
+            State::WaitsOpen(_) => Err(Halt::Waits),
             State::Ended => Err(Halt::Ended),
             State::AtLimit(_) => Err(Halt::AtLimit),
             State::Ready => match self.step(party) {
@@ -84,6 +90,7 @@ impl Course {
     fn step(&mut self, party: u16) -> Result<(), NoMemory>
         requires there { party < length (world_in self.old).parties }
         requires ready { state_of (world_in self.old) party ≡ Ready }
+        requires ordered { IsOrdered self.old }
         ensures ok { OnOk result (act_of (world_in self.old) party ≡ Some (world_in self.new)) }
         ensures acts { OnOk result (acts_in self.new ≡ acts_in self.old ++ party ∷ []) }
         ensures file { file_in self.new ≡ file_in self.old }
@@ -91,18 +98,29 @@ impl Course {
         ensures err { OnErr result (world_in self.new ≡ world_in self.old) }
         ensures err_acts { OnErr result (acts_in self.new ≡ acts_in self.old) }
         ensures on { GoesOn self.old self.new }
+        ensures ordered { IsOrdered self.new }
     {
         self.acts.reserve(1)?;
         let machine = &mut self.machines[party as usize];
-        step(self.alloc, &mut self.sessions, machine, party)?;
+        step(
+            self.alloc,
+            &self.kept.protocols,
+            &mut self.sessions,
+            &mut self.opened,
+            machine,
+            party,
+        )?;
         self.acts.push_reserved(party);
         Ok(())
     }
 
     /// Lets the party act once. Answers whether it did.
+    #[tactic(auto, using(crate::proofs::IdleLemmas::idle))]
     fn tried(&mut self, party: u16) -> Result<bool, NoMemory>
-        requires { party < length (world_in self.old).parties }
+        requires there { party < length (world_in self.old).parties }
+        requires ordered { IsOrdered self.old }
         ensures on { GoesOn self.old self.new }
+        ensures ordered { IsOrdered self.new }
         ensures count { length (world_in self.new).parties ≡ length (world_in self.old).parties }
         ensures done { IfOk result (λ b. b ≡ true → ActsOnce self.old party self.new) }
         ensures stays { IfOk result (λ b. b ≡ false → Stays self.old self.new) }
@@ -114,16 +132,20 @@ impl Course {
         match self.act(party) {
             Ok(()) => Ok(true),
             Err(Halt::NoMemory) => Err(NoMemory),
-            Err(_) => Ok(false),
+            Err(Halt::Waits) => Ok(false),
+            Err(Halt::Ended) => Ok(false),
+            Err(Halt::AtLimit) => Ok(false),
         }
     }
 
     /// Lets the party act as long as it is ready. Answers whether it acted.
     fn turn(&mut self, party: u16) -> Result<bool, NoMemory>
-        requires { party < length (world_in self.old).parties }
+        requires there { party < length (world_in self.old).parties }
+        requires ordered { IsOrdered self.old }
         ensures ok { OnOk result (GoesBy (ActsOut party) self.old self.new) }
         ensures err { OnErr result (BreaksOff (ActsOut party) self.old self.new) }
         ensures on { GoesOn self.old self.new }
+        ensures ordered { IsOrdered self.new }
         ensures count { length (world_in self.new).parties ≡ length (world_in self.old).parties }
         ensures same { IfOk result (λ b. b ≡ false → world_in self.new ≡ world_in self.old) }
         ensures idle { IfOk result (λ b. b ≡ false → act_of (world_in self.old) party ≡ None) }
@@ -139,10 +161,12 @@ impl Course {
 
     /// Gives each party in file order its turn. Answers whether somebody acted.
     fn round(&mut self) -> Result<bool, NoMemory>
-        requires { length (world_in self.old).parties ≤ limits.parties }
+        requires few { length (world_in self.old).parties ≤ limits.parties }
+        requires ordered { IsOrdered self.old }
         ensures ok { OnOk result (GoesBy IsRound self.old self.new) }
         ensures err { OnErr result (BreaksOff IsRound self.old self.new) }
         ensures on { GoesOn self.old self.new }
+        ensures ordered { IsOrdered self.new }
         ensures count { length (world_in self.new).parties ≡ length (world_in self.old).parties }
         ensures same { IfOk result (λ b. b ≡ false → world_in self.new ≡ world_in self.old) }
         ensures settled { IfOk result (λ b. b ≡ false → IsSettled (world_in self.new)) }
@@ -160,10 +184,12 @@ impl Course {
 
     /// Rounds of all parties, until one has no act.
     pub fn finish(&mut self) -> Result<(), NoMemory>
-        requires { length (world_in self.old).parties ≤ limits.parties }
+        requires few { length (world_in self.old).parties ≤ limits.parties }
+        requires ordered { IsOrdered self.old }
         ensures ok { OnOk result (GoesBy IsFinished self.old self.new) }
         ensures err { OnErr result (BreaksOff IsFinished self.old self.new) }
         ensures on { GoesOn self.old self.new }
+        ensures ordered { IsOrdered self.new }
         ensures count { length (world_in self.new).parties ≡ length (world_in self.old).parties }
         ensures settled { OnOk result (IsSettled (world_in self.new)) }
     {
@@ -177,17 +203,19 @@ impl Course {
         ensures { result ≡ state_of (world_in self.now) party }
     {
         let machine = &self.machines[party as usize];
-        state_of(&self.sessions, machine)
+        state_of(&self.sessions, &self.opened, party, machine)
     }
 
     /// How the world stands as a whole: long where somebody is at a limit, else done where
-    /// everybody has ended, else blocked.
+    /// everybody has ended and each opened session was accepted, else blocked.
     pub fn verdict(&self) -> Verdict
+        requires few { length (world_in self.now).parties ≤ limits.parties }
+        requires ordered { IsOrdered self.now }
         ensures { result ≡ verdict_of (world_in self.now) }
     {
         if self.some_at_limit() {
             Verdict::Long
-        } else if self.all_ended() {
+        } else if self.all_ended() && all_accepted(&self.opened) {
             Verdict::Done
         } else {
             Verdict::Blocked
@@ -196,11 +224,11 @@ impl Course {
 
     /// Whether a party is at a limit.
     fn some_at_limit(&self) -> bool
-        ensures { let w = world_in self.now in
-            result ≡ list_any (λ g. is_at_limit (state_of_program w.sessions g)) w.parties }
+        requires { length (world_in self.now).parties ≤ limits.parties }
+        ensures { result ≡ list_any is_at_limit (states_of (world_in self.now)) }
     {
-        for machine in &self.machines {
-            if matches!(state_of(&self.sessions, machine), State::AtLimit(_)) {
+        for i in 0..self.machines.len() {
+            if is_at_limit(self.state(i as u16)) {
                 return true;
             }
         }
@@ -209,16 +237,42 @@ impl Course {
 
     /// Whether each party has ended.
     fn all_ended(&self) -> bool
-        ensures { let w = world_in self.now in
-            result ≡ list_all (λ g. has_ended (state_of_program w.sessions g)) w.parties }
+        requires { length (world_in self.now).parties ≤ limits.parties }
+        ensures { result ≡ list_all has_ended (states_of (world_in self.now)) }
     {
-        for machine in &self.machines {
-            if !matches!(state_of(&self.sessions, machine), State::Ended) {
+        for i in 0..self.machines.len() {
+            if !has_ended(self.state(i as u16)) {
                 return false;
             }
         }
         true
     }
+}
+
+/// Whether a party that stands so is at a limit.
+fn is_at_limit(state: State) -> bool
+    ensures { result ≡ is_at_limit state }
+{
+    matches!(state, State::AtLimit(_))
+}
+
+/// Whether a party that stands so has ended.
+fn has_ended(state: State) -> bool
+    ensures { result ≡ has_ended state }
+{
+    matches!(state, State::Ended)
+}
+
+/// Whether each of the sessions was accepted.
+fn all_accepted(opened: &[Opened]) -> bool
+    ensures { result ≡ list_all is_accepted opened.now }
+{
+    for session in opened {
+        if session.second.is_none() {
+            return false;
+        }
+    }
+    true
 }
 
 /// The parties before their first steps.

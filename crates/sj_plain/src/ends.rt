@@ -3,9 +3,9 @@ ghost use Rattle.std.specs.Prelude.{◌≡◌, ◌<◌, ℕ, map, IfOk, OnOk, On
 ghost use Rattle.std.specs.Option.{option_copied};
 ghost use Rattle.sj_lang.specs.FileAt.{body_named, protocol_named};
 ghost use Rattle.sj_lang.specs.FileView.{protocol_of, connect_of};
-ghost use Rattle.sj_semantics.specs.Ends.{end_on, limit_of_hops};
+ghost use Rattle.sj_semantics.specs.Ends.{end_on, limit_of_hops, nowhere, unopened};
 ghost use Rattle.sj_semantics.specs.World.{fresh};
-ghost use Rattle.sj_semantics.specs.Uses.{on_side, end_after, sends, takes, delegates};
+ghost use Rattle.sj_semantics.specs.Uses.{on_side, end_after, begins, sends, takes, delegates};
 ghost use Rattle.sj_plain.specs.Ends.{end_view, session_at, connected_session, next_on};
 
 use crate::moves::advance;
@@ -29,18 +29,28 @@ impl End {
         ensures { IfOk result (λ e. end_view e
             ≡ fresh (body_named (map protocol_of protocols.now) name)) }
     {
-        let place = match body_of(protocols, name) {
-            Some(body) => copied(alloc, body)?,
-            None => Proto {
-                items: Vec::new(alloc),
-            },
-        };
-        Ok(End {
+        let place = copied_body(alloc, protocols, name)?;
+        Ok(End::at(alloc, place))
+    }
+
+    // The end of that place before any act.
+    fn at(alloc: Global, place: Proto) -> End
+        ensures { end_view result ≡ fresh place }
+    {
+        End {
             place,
             sent: Vec::new(alloc),
             takers: Vec::new(alloc),
             hops: 0,
-        })
+        }
+    }
+
+    // The end that no session has.
+    fn nowhere(alloc: Global) -> End
+        ensures { end_view result ≡ nowhere }
+    {
+        let items = Vec::new(alloc);
+        End::at(alloc, Proto { items })
     }
 
     fn send(&mut self, alloc: Global, passed: Passed) -> Result<(), NoMemory>
@@ -62,6 +72,23 @@ impl End {
         advance(alloc, &mut self.place, Way::Into, msg)?;
         self.takers.push_reserved(by);
         Ok(())
+    }
+}
+
+/// A copy of the body of the first protocol of that name; the empty place where there is none.
+pub(crate) fn copied_body(
+    alloc: Global,
+    protocols: &[ProtocolDef],
+    name: u16,
+) -> Result<Proto, NoMemory>
+    ensures { IfOk result (λ p. p ≡ body_named (map protocol_of protocols.now) name) }
+{
+    match body_of(protocols, name) {
+        Some(body) => copied(alloc, body),
+        None => {
+            let items = Vec::new(alloc);
+            Ok(Proto { items })
+        }
     }
 }
 
@@ -98,6 +125,16 @@ impl Session {
             first: End::start(alloc, protocols, connect.first.protocol)?,
             second: End::start(alloc, protocols, connect.second.protocol)?,
         })
+    }
+
+    /// A session that isn't opened.
+    pub(crate) fn unopened(alloc: Global) -> Session
+        ensures { session_at result ≡ unopened }
+    {
+        Session {
+            first: End::nowhere(alloc),
+            second: End::nowhere(alloc),
+        }
     }
 
     fn end(&self, side: u8) -> &End
@@ -171,6 +208,18 @@ impl Session {
             self.first.take(alloc, by, msg)
         } else {
             self.second.take(alloc, by, msg)
+        }
+    }
+
+    /// Puts the end at that place.
+    pub(crate) fn begin(&mut self, side: u8, place: Proto)
+        ensures { (by : ℕ) → session_at self.new
+            ≡ on_side side (end_after by (begins place)) (session_at self.old) }
+    {
+        if side == 0 {
+            self.first.place = place;
+        } else {
+            self.second.place = place;
         }
     }
 

@@ -7,13 +7,14 @@ use thiserror::Error;
 /// Why a party can't act. The world is then as it was.
 #[derive(Clone, Copy, Debug, PartialEq, Eq, Error)]
 pub enum Halt {
-    /// It would take a message where none is there.
+    /// It would take a message or accept a session where none is there.
     #[error("waits")]
     Waits,
     /// It has nothing more to do.
     #[error("ended")]
     Ended,
-    /// It has done 10,000 steps, or would delegate an end that was delegated 100 times.
+    /// It has done 10,000 steps, would delegate an end that was delegated 100 times, or would
+    /// request a 101st session.
     #[error("at limit")]
     AtLimit,
     #[error("no memory")]

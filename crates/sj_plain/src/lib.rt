@@ -6,6 +6,7 @@ mod ends;
 mod halt;
 mod kept;
 mod moves;
+mod opened;
 mod plain;
 mod stepping;
 mod uses;

@@ -1,15 +1,15 @@
 //! The plain world of an accepted file.
-ghost use Rattle.std.specs.Prelude.{◌≡◌, ◌<◌, ◌∷◌, ◌++◌, ◌↔◌, [], Some, IfOk, IsErrOf, OnErr, OnOk, Option, length, option_map, slice_get, unwrap_or};
-ghost use Rattle.sj_base.specs.declared.EndId.{EndId};
+ghost use Rattle.std.specs.Prelude.{◌≡◌, ◌<◌, ◌≤◌, ◌∷◌, ◌++◌, ◌↔◌, [], Some, true, IfOk, IsErrOf, OnErr, OnOk, length, option_map, slice_get, unwrap_or};
 ghost use Rattle.sj_check.specs.Held.{file_in as held};
 ghost use Rattle.sj_lang.specs.FileView.{file_of};
 ghost use Rattle.sj_plain.specs.Finish.{IsFinished};
 ghost use Rattle.sj_plain.specs.Finishing.{BreaksOff, GoesBy};
 ghost use Rattle.sj_plain.specs.Kept.{without_words};
+ghost use Rattle.sj_plain.specs.Rounds.{is_waiting};
 ghost use Rattle.sj_semantics.specs.Ends.{other_end};
 ghost use Rattle.sj_semantics.specs.Run.{IsRun, end_of};
 ghost use Rattle.sj_semantics.specs.World.{start_of, act_of};
-ghost use Rattle.sj_semantics.specs.State.{IsSettled, state_of, verdict_of};
+ghost use Rattle.sj_semantics.specs.State.{IsSettled, is_at_limit, opened_in, state_of, verdict_of};
 ghost use Rattle.sj_semantics.specs.Wants.{want_of};
 ghost use Rattle.sj_semantics.specs.declared.State.TheVariants as states;
 ghost use Rattle.sj_semantics.specs.declared.Want.TheVariants.{Ended};
@@ -19,7 +19,7 @@ use crate::course::Course;
 use sj_base::{EndId, NoMemory};
 use sj_check::Accepted;
 use sj_lang::Proto;
-use sj_semantics::{Passed, State, Verdict, Want};
+use sj_semantics::{Opened, Passed, State, Verdict, Want};
 use std::alloc::Global;
 use std::marker::Model;
 
@@ -58,7 +58,7 @@ impl Plain {
         // What is true of every world.
         ensures run { IfOk result (λ p. IsRun (kept_file p) (acts_of p) (world_at p)) }
         ensures parties { IfOk result (λ p. party_count p ≡ length (kept_file p).parties) }
-        ensures sessions { IfOk result (λ p. session_count p ≡ length (kept_file p).connects) }
+        ensures sessions { IfOk result (λ p. length (kept_file p).connects ≤ session_count p) }
     {
         let course = Course::start(alloc, accepted.file())?;
         Ok(Plain { course })
@@ -76,7 +76,7 @@ impl Plain {
         ensures run { IsRun (kept_file self.new) (acts_of self.new) (world_at self.new) }
         ensures kept { kept_file self.new ≡ kept_file self.old }
         ensures parties { party_count self.new ≡ length (kept_file self.new).parties }
-        ensures sessions { session_count self.new ≡ length (kept_file self.new).connects }
+        ensures sessions { length (kept_file self.new).connects ≤ session_count self.new }
 
         // A refusal changes nothing.
         ensures err { OnErr result (world_at self.new ≡ world_at self.old) }
@@ -84,11 +84,11 @@ impl Plain {
 
         // Each refusal comes exactly where the party stands so.
         ensures waits { IsErrOf result Halt.Waits
-            ↔ ((e : EndId) × (state_of (world_at self.old) party ≡ states.Waits e)) }
+            ↔ (is_waiting (state_of (world_at self.old) party) ≡ true) }
         ensures ended { IsErrOf result Halt.Ended
             ↔ (state_of (world_at self.old) party ≡ states.Ended) }
         ensures at_limit { IsErrOf result Halt.AtLimit
-            ↔ ((e : Option EndId) × (state_of (world_at self.old) party ≡ states.AtLimit e)) }
+            ↔ (is_at_limit (state_of (world_at self.old) party) ≡ true) }
     {
         self.course.act(party)
     }
@@ -109,7 +109,7 @@ impl Plain {
         ensures run { IsRun (kept_file self.new) (acts_of self.new) (world_at self.new) }
         ensures kept { kept_file self.new ≡ kept_file self.old }
         ensures parties { party_count self.new ≡ length (kept_file self.new).parties }
-        ensures sessions { session_count self.new ≡ length (kept_file self.new).connects }
+        ensures sessions { length (kept_file self.new).connects ≤ session_count self.new }
     {
         self.course.finish()
     }
@@ -122,29 +122,41 @@ impl Plain {
         self.course.machines.len()
     }
 
-    /// How many sessions there are.
+    /// How many sessions there are by their numbers: those of connections, then those that
+    /// were opened, and those between them that aren't.
     pub fn sessions(&self) -> usize
         ensures count { result ≡ session_count self.now }
-        ensures kept { result ≡ length (kept_file self.now).connects }
+        ensures kept { length (kept_file self.now).connects ≤ result }
     {
         self.course.sessions.len()
     }
 
-    /// All messages that the end sent, in order.
+    /// The sessions that parties opened, in order of their numbers.
+    pub fn opened(&self) -> &[Opened]
+        ensures { result.now ≡ opened_in (world_at self.now) }
+    {
+        &self.course.opened
+    }
+
+    /// All messages that the end sent, in order; none where there is no such end.
     pub fn sent(&self, end: EndId) -> &[Passed]
-        requires { end.sess < session_count self.now }
         ensures { result.now ≡ (end_in self.now end).sent }
     {
-        self.course.sessions[end.sess as usize].sent(end.side)
+        match self.course.sessions.get(end.sess as usize) {
+            Some(session) => session.sent(end.side),
+            None => &[],
+        }
     }
 
     /// Who took the first of the messages that the end sent, in order.
     pub fn takers(&self, end: EndId) -> &[u16]
-        requires { end.sess < session_count self.now }
         ensures { result.now ≡ (end_in self.now (other_end end)).takers }
     {
         let other = if end.side == 0 { 1 } else { 0 };
-        self.course.sessions[end.sess as usize].takers(other)
+        match self.course.sessions.get(end.sess as usize) {
+            Some(session) => session.takers(other),
+            None => &[],
+        }
     }
 
     /// The items that are still ahead of the end.
@@ -183,7 +195,7 @@ impl Plain {
     }
 
     /// How the world ends: long where a party is at a limit, else done where each party has
-    /// ended, else blocked.
+    /// ended and each session that was opened was accepted, else blocked.
     pub fn verdict(&self) -> Verdict
         ensures { result ≡ verdict_of (world_at self.now) }
     {

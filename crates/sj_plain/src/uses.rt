@@ -1,12 +1,14 @@
-//! Uses of the ends of sessions, by the ends' names. An end that no session has is used for nothing.
-ghost use Rattle.std.specs.Prelude.{◌≡◌, ◌<◌, ◌∷◌, [], ℕ, OnErr, OnOk};
-ghost use Rattle.sj_plain.specs.Stepping.{sessions_at};
+//! Uses of the ends of sessions, by the ends' names. Up to a session of which an end is used there
+//! are sessions then. Without memory all is as it was.
+ghost use Rattle.std.specs.Prelude.{◌≡◌, ◌<◌, ◌∷◌, [], ℕ, length, take, OnErr, OnOk};
+ghost use Rattle.sj_plain.specs.Stepping.{reached, sessions_at};
 ghost use Rattle.sj_semantics.specs.Ends.{end_at, next_for, limit_of_hops};
-ghost use Rattle.sj_semantics.specs.Uses.{after_uses, delegates, sends, takes};
+ghost use Rattle.sj_semantics.specs.Uses.{after_uses, altered_list, begins, delegates, end_after, on_side, sends, takes};
 ghost use Rattle.sj_semantics.specs.World.{session_message};
 
 use crate::ends::Session;
 use sj_base::{EndId, Msg, NoMemory};
+use sj_lang::Proto;
 use sj_semantics::Passed;
 use std::alloc::Global;
 
@@ -30,6 +32,108 @@ pub fn hops(sessions: &[Session], end: EndId) -> u8
     }
 }
 
+/// Puts sessions that aren't opened behind the others, until that number is reached.
+pub fn reach(alloc: Global, sessions: &mut Vec<Session>, number: u32) -> Result<(), NoMemory>
+    ensures ok { OnOk result (sessions_at sessions.new.items
+        ≡ reached (sessions_at sessions.old.items) number) }
+    ensures there { OnOk result (number < length sessions.new.items) }
+    ensures front { OnOk result (take (length sessions.old.items) sessions.new.items
+        ≡ sessions.old.items) }
+    ensures err { OnErr result (sessions.new.items ≡ sessions.old.items) }
+{
+    let before = sessions.len();
+    while sessions.len() <= number as usize {
+        if sessions.push(Session::unopened(alloc)).is_err() {
+            sessions.truncate(before);
+            return Err(NoMemory);
+        }
+    }
+    Ok(())
+}
+
+/// Reaches the one number and then the other.
+fn reach_both(
+    alloc: Global,
+    sessions: &mut Vec<Session>,
+    first: u32,
+    second: u32,
+) -> Result<(), NoMemory>
+    ensures ok { OnOk result (sessions_at sessions.new.items
+        ≡ reached (reached (sessions_at sessions.old.items) first) second) }
+    ensures first { OnOk result (first < length sessions.new.items) }
+    ensures second { OnOk result (second < length sessions.new.items) }
+    ensures front { OnOk result (take (length sessions.old.items) sessions.new.items
+        ≡ sessions.old.items) }
+    ensures err { OnErr result (sessions.new.items ≡ sessions.old.items) }
+{
+    let before = sessions.len();
+    reach(alloc, sessions, first)?;
+    if let Err(error) = reach(alloc, sessions, second) {
+        sessions.truncate(before);
+        return Err(error);
+    }
+    Ok(())
+}
+
+/// The party sends the message on the end, whose session is there.
+fn send_there(
+    alloc: Global,
+    sessions: &mut Vec<Session>,
+    end: EndId,
+    passed: Passed,
+) -> Result<(), NoMemory>
+    requires { end.sess < length sessions.old.items }
+    ensures ok { OnOk result (sessions_at sessions.new.items
+        ≡ altered_list (sessions_at sessions.old.items) end.sess
+        (on_side end.side (end_after passed.by (sends passed.msg)))) }
+    ensures err { OnErr result (sessions_at sessions.new.items ≡ sessions_at sessions.old.items) }
+{
+    let session = &mut sessions[end.sess as usize];
+    session.send(alloc, end.side, passed)
+}
+
+/// The party takes the message from the end, whose session is there.
+fn take_there(
+    alloc: Global,
+    sessions: &mut Vec<Session>,
+    end: EndId,
+    party: u16,
+    msg: &Msg,
+) -> Result<(), NoMemory>
+    requires { end.sess < length sessions.old.items }
+    ensures ok { OnOk result (sessions_at sessions.new.items
+        ≡ altered_list (sessions_at sessions.old.items) end.sess
+        (on_side end.side (end_after party (takes msg.now)))) }
+    ensures err { OnErr result (sessions_at sessions.new.items ≡ sessions_at sessions.old.items) }
+{
+    let session = &mut sessions[end.sess as usize];
+    session.take(alloc, end.side, party, msg)
+}
+
+/// The end, whose session is there, is delegated.
+fn hand_on(sessions: &mut Vec<Session>, end: EndId)
+    requires there { end.sess < length sessions.old.items }
+    requires few { (end_at (sessions_at sessions.old.items) end).hops < limit_of_hops }
+    ensures { (party : ℕ) → sessions_at sessions.new.items
+        ≡ altered_list (sessions_at sessions.old.items) end.sess
+        (on_side end.side (end_after party delegates)) }
+{
+    let session = &mut sessions[end.sess as usize];
+    session.hand_on(end.side);
+}
+
+/// The end, whose session is there, begins at the place.
+pub fn begin(sessions: &mut Vec<Session>, end: EndId, place: Proto)
+    requires { end.sess < length sessions.old.items }
+    ensures there { length sessions.new.items ≡ length sessions.old.items }
+    ensures begun { (party : ℕ) → sessions_at sessions.new.items
+        ≡ altered_list (sessions_at sessions.old.items) end.sess
+        (on_side end.side (end_after party (begins place))) }
+{
+    let session = &mut sessions[end.sess as usize];
+    session.begin(end.side, place);
+}
+
 /// The party sends the message on the end.
 pub fn send_on(
     alloc: Global,
@@ -41,10 +145,11 @@ pub fn send_on(
         ≡ after_uses passed.by ((end, sends passed.msg) ∷ []) (sessions_at sessions.old.items)) }
     ensures err { OnErr result (sessions_at sessions.new.items ≡ sessions_at sessions.old.items) }
 {
-    let at = end.sess as usize;
-    if at < sessions.len() {
-        let session = &mut sessions[at];
-        session.send(alloc, end.side, passed)?;
+    let before = sessions.len();
+    reach(alloc, sessions, end.sess)?;
+    if let Err(error) = send_there(alloc, sessions, end, passed) {
+        sessions.truncate(before);
+        return Err(error);
     }
     Ok(())
 }
@@ -61,25 +166,39 @@ pub fn take_on(
         ≡ after_uses party ((end, takes msg.now) ∷ []) (sessions_at sessions.old.items)) }
     ensures err { OnErr result (sessions_at sessions.new.items ≡ sessions_at sessions.old.items) }
 {
-    let at = end.sess as usize;
-    if at < sessions.len() {
-        let session = &mut sessions[at];
-        session.take(alloc, end.side, party, msg)?;
+    let before = sessions.len();
+    reach(alloc, sessions, end.sess)?;
+    if let Err(error) = take_there(alloc, sessions, end, party, msg) {
+        sessions.truncate(before);
+        return Err(error);
     }
     Ok(())
 }
 
-/// The end is delegated.
-fn hand_on(sessions: &mut Vec<Session>, end: EndId)
-    requires { (end_at (sessions_at sessions.old.items) end).hops < limit_of_hops }
-    ensures { (party : ℕ) → sessions_at sessions.new.items
-        ≡ after_uses party ((end, delegates) ∷ []) (sessions_at sessions.old.items) }
+/// The party takes the message, which is another end, from the end; the taken one begins at the
+/// place.
+pub fn take_end_on(
+    alloc: Global,
+    sessions: &mut Vec<Session>,
+    end: EndId,
+    party: u16,
+    msg: &Msg,
+    taken: EndId,
+    place: Proto,
+) -> Result<(), NoMemory>
+    ensures ok { OnOk result (sessions_at sessions.new.items
+        ≡ after_uses party ((end, takes msg.now) ∷ (taken, begins place) ∷ [])
+        (sessions_at sessions.old.items)) }
+    ensures err { OnErr result (sessions_at sessions.new.items ≡ sessions_at sessions.old.items) }
 {
-    let at = end.sess as usize;
-    if at < sessions.len() {
-        let session = &mut sessions[at];
-        session.hand_on(end.side);
+    let before = sessions.len();
+    reach_both(alloc, sessions, end.sess, taken.sess)?;
+    if let Err(error) = take_there(alloc, sessions, end, party, msg) {
+        sessions.truncate(before);
+        return Err(error);
     }
+    begin(sessions, taken, place);
+    Ok(())
 }
 
 /// The party delegates an end, by a message on the carrier.
@@ -101,7 +220,12 @@ pub fn delegate_on(
         side: end.side,
         keeper: party,
     };
-    send_on(alloc, sessions, carrier, Passed { msg, by: party })?;
+    let before = sessions.len();
+    reach_both(alloc, sessions, end.sess, carrier.sess)?;
+    if let Err(error) = send_there(alloc, sessions, carrier, Passed { msg, by: party }) {
+        sessions.truncate(before);
+        return Err(error);
+    }
     hand_on(sessions, end);
     Ok(())
 }

@@ -2,3 +2,4 @@ pub mod LogExamples
 pub mod LogLine
 pub mod Parts
 pub mod Pieces
+pub mod Version

@@ -2,7 +2,7 @@
 use Rattle.std.specs.Prelude.{ℕ, List, [], ◌∷◌, ◌++◌, Option, Some, None, decimal, codes}
 use Rattle.sj_base.specs.declared.EndId.{EndId}
 use Rattle.sj_lang.specs.FileAt.{FileAt}
-use Rattle.sj_rules.specs.Log.{NoteAt, LineAt, Local, Sent, Took, Shut, Carry, Fin, Claim, Signal, Ack, Give}
+use Rattle.sj_rules.specs.Log.{NoteAt, LineAt, Local, Sent, Took, Shut, Carry, Fin, Claim, Signal, Ack, Give, Request, Accept, Open}
 use Rattle.sj_rules.specs.World.{Event, Act, Deliver}
 use Rattle.sj_semantics.specs.Lines.{line_of, name_of, end_text, message_words}
 
@@ -15,7 +15,8 @@ abbrev pub resend_word : Option ℕ → List ℕ
 resend_word None = codes "-"
 resend_word (Some n) = decimal n
 
--- what was done on an end, or what the frame said to one; a Claim, an Ack and a Give name the end that moves
+-- what was done on an end, or what the frame said to one; a Claim, an Ack and a Give name the end that moves; a session that is opened at run time
+-- is named by its number, with the party to which, or by which, it was opened
 abbrev pub note_words : FileAt → NoteAt → List (List ℕ)
 note_words file Local = codes "local" ∷ []
 note_words file (Sent end msg) = codes "send" ∷ end_word end ∷ message_words file msg
@@ -30,6 +31,9 @@ note_words file (Signal to conn party taken) =
 note_words file (Ack of conn) = codes "ack" ∷ end_word of ∷ decimal conn ∷ []
 note_words file (Give of conn peer sent taken base resend) =
     codes "give" ∷ end_word of ∷ decimal conn ∷ name_of file peer ∷ decimal sent ∷ decimal taken ∷ decimal base ∷ resend_word resend ∷ []
+note_words file (Request sess to) = codes "request" ∷ decimal sess ∷ name_of file to ∷ []
+note_words file (Accept sess from) = codes "accept" ∷ decimal sess ∷ name_of file from ∷ []
+note_words file (Open sess) = codes "open" ∷ decimal sess ∷ []
 
 -- the party from which a frame came
 abbrev pub origin_words : FileAt → Event → List (List ℕ)

@@ -6,6 +6,8 @@ mod log;
 mod messages;
 mod pieces;
 mod transcript;
+mod version;
 
 pub use log::print_line;
 pub use transcript::print_transcript;
+pub use version::print_mark;

@@ -9,7 +9,7 @@ ghost use Rattle.sj_text.specs.Cut.{IsCutShort};
 ghost use Rattle.sj_lang.specs.FileAt.{FileAt};
 ghost use Rattle.sj_lang.specs.FileView.{file_of, connect_of};
 ghost use Rattle.sj_semantics.specs.Lines.{line_of};
-ghost use Rattle.sj_semantics.specs.Transcript.{sent_lines, session_line, taker_text, verdict_word};
+ghost use Rattle.sj_semantics.specs.Transcript.{accepted_text, opened_line, sent_lines, session_line, taker_text, verdict_word};
 ghost use Rattle.sj_print.specs.Parts.{party_part, passed_part};
 ghost use Rattle.sj_print.specs.Pieces.{piece_text};
 
@@ -17,7 +17,7 @@ use crate::messages::put_message_line;
 use crate::pieces::{Piece, put_line};
 use sj_base::{EndId, NoMemory};
 use sj_lang::{Connect, File};
-use sj_semantics::{Passed, State, Verdict};
+use sj_semantics::{Limit, Opened, Passed, State, Verdict};
 
 /// The line of a session: its number, and the party and the name of each end.
 pub(crate) fn put_session(
@@ -39,6 +39,33 @@ pub(crate) fn put_session(
         Piece::Word(connect.second.party),
     ];
     put_line(text, file, &front, Piece::Word(connect.second.name))
+}
+
+/// The line of a session that was opened: its number, the party and the name of the end of its
+/// requester, to whom it was opened, and the name in the accept, or a dash.
+pub(crate) fn put_opened(text: &mut Vec<u8>, file: &File, opened: &Opened) -> Result<(), NoMemory>
+    ensures ok { OnOk result (text.new.items
+        ≡ text.old.items ++ opened_line (file_of file.now) opened.now) }
+    ensures err { OnErr result (IsCutShort text.old.items
+        (opened_line (file_of file.now) opened.now) text.new.items) }
+{
+    let front = [
+        Piece::Plain(b"session"),
+        Piece::Number(opened.sess as u64),
+        Piece::Party(opened.from),
+        Piece::Word(opened.first),
+        Piece::Party(opened.to),
+    ];
+    put_line(text, file, &front, accepted_piece(opened.second))
+}
+
+fn accepted_piece(name: Option<u16>) -> Piece
+    ensures { (f : FileAt) → piece_text f result ≡ accepted_text f name }
+{
+    match name {
+        Some(name) => Piece::Word(name),
+        None => Piece::Plain(b"-"),
+    }
 }
 
 /// A line for each message that the end sent, with the party that took it.
@@ -123,9 +150,17 @@ pub(crate) fn put_party(
         State::Ready => put_line(text, file, &[party], name),
         State::Ended => put_line(text, file, &[party, name, ended], steps),
         State::Waits(end) => put_line(text, file, &[party, name, waits, steps], Piece::End(end)),
-        State::AtLimit(None) => put_line(text, file, &[party, name, limit], steps),
-        State::AtLimit(Some(end)) => {
+        State::WaitsOpen(from) => {
+            let front = [party, name, waits, steps, Piece::Plain(b"from")];
+            put_line(text, file, &front, Piece::Party(from))
+        }
+        State::AtLimit(Limit::Steps) => put_line(text, file, &[party, name, limit], steps),
+        State::AtLimit(Limit::Hops(end)) => {
             put_line(text, file, &[party, name, limit, steps], Piece::End(end))
+        }
+        State::AtLimit(Limit::Requests) => {
+            let front = [party, name, limit, steps];
+            put_line(text, file, &front, Piece::Plain(b"request"))
         }
     }
 }

@@ -121,5 +121,14 @@ fn put_note(text: &mut Vec<u8>, file: &File, note: &Note) -> Result<(), NoMemory
             ];
             put_line(text, file, &front, Resend(resend))
         }
+        Note::Request { sess, to } => {
+            let front = [Plain(b"request"), Number(sess as u64)];
+            put_line(text, file, &front, Party(to))
+        }
+        Note::Accept { sess, from } => {
+            let front = [Plain(b"accept"), Number(sess as u64)];
+            put_line(text, file, &front, Party(from))
+        }
+        Note::Open { sess } => put_line(text, file, &[Plain(b"open")], Number(sess as u64)),
     }
 }

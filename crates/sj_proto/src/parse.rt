@@ -1,5 +1,5 @@
 //! Items of protocols from tokens, by what is due.
-ghost use Rattle.std.specs.Prelude.{◌≡◌, ◌≢◌, ◌+◌, ◌*◌, ◌<◌, ◌≤◌, [], ◌∷◌, ◌++◌, IfOk, IfErr, drop, codes};
+ghost use Rattle.std.specs.Prelude.{◌≢◌, ◌≤◌, [], ◌∷◌, ◌++◌, IfOk, IfErr, drop, codes};
 ghost use Rattle.sj_lang.specs.Place.{done, no_choice, arm as with_arm};
 ghost use Rattle.sj_lang.specs.View.{carried_of, followed};
 ghost use Rattle.sj_lang.specs.ItemCount.{item_count, kind_items, arm_items};
@@ -11,7 +11,7 @@ ghost use Rattle.sj_grammar.specs.FileDues.{proto, file_layer};
 ghost use Rattle.sj_grammar.specs.Asked.{Passes};
 ghost use Rattle.sj_proto.specs.Items.{item_pieces};
 ghost use Rattle.sj_proto.specs.Left.{due_behind};
-ghost use Rattle.sj_proto.specs.Leaves.{Leaves};
+ghost use Rattle.sj_proto.specs.Leaves.{LeavesItems};
 ghost use Rattle.sj_proto.specs.Parsed.{standing, Gives, Stops, HasRoom};
 
 use crate::choices::{Opening, close_bytes, take_opening, take_way};
@@ -46,9 +46,8 @@ pub fn seq(
     ensures some { IfOk result (λ p. p ≢ done) }
     ensures ends { IfOk result (λ _.
         Passes file_layer (proto (more depth)) (next_of tokens.new.ahead)) }
-    ensures count { IfOk result (λ p. items.new ≡ items.old + item_count p) }
-    ensures few { IfOk result (λ _. items.new ≤ limits.items) }
-    ensures leaves { Leaves 0 result names.old tokens.old names.new tokens.new }
+    ensures leaves { LeavesItems item_count result
+        names.old tokens.old items.old names.new tokens.new items.new }
     ensures fault { IfErr result (Stops (λ ds. proto (items_due depth) ∷ ds)
         items.old (standing tokens.old names.old)) }
 {
@@ -78,9 +77,8 @@ fn maybe(
         (λ word. seq_pieces word p) (λ word. IsGiven limits word depth p)) }
     ensures ends { IfOk result (λ p.
         Passes file_layer (proto (due_behind depth p)) (next_of tokens.new.ahead)) }
-    ensures count { IfOk result (λ p. items.new ≡ items.old + item_count p) }
-    ensures few { IfOk result (λ _. items.new ≤ limits.items) }
-    ensures leaves { Leaves 0 result names.old tokens.old names.new tokens.new }
+    ensures leaves { LeavesItems item_count result
+        names.old tokens.old items.old names.new tokens.new items.new }
     ensures fault { IfErr result (Stops (λ ds. proto (maybe_due depth) ∷ ds)
         items.old (standing tokens.old names.old)) }
 {
@@ -106,9 +104,8 @@ fn item(
     ensures reads { IfOk result (λ i.
         Gives (standing tokens.old names.old) (standing tokens.new names.new)
         (λ word. item_pieces word i) (λ word. IsGiven limits word depth (followed i done))) }
-    ensures count { IfOk result (λ i. items.new ≡ items.old + item_count (followed i done)) }
-    ensures few { IfOk result (λ _. items.new ≤ limits.items) }
-    ensures leaves { Leaves 0 result names.old tokens.old names.new tokens.new }
+    ensures leaves { LeavesItems (λ i. item_count (followed i done)) result
+        names.old tokens.old items.old names.new tokens.new items.new }
     ensures fault { IfErr result (Stops (λ ds. proto (items_due depth) ∷ ds)
         items.old (standing tokens.old names.old)) }
 {
@@ -147,9 +144,8 @@ fn carried(
         Gives (standing tokens.old names.old) (standing tokens.new names.new)
         (λ word. kind_pieces word (carried_of k) ++ close_piece way ∷ [])
         (λ word. IsGivenKind limits word depth (carried_of k))) }
-    ensures count { IfOk result (λ k. items.new ≡ items.old + kind_items (carried_of k)) }
-    ensures few { IfOk result (λ _. items.new ≤ limits.items) }
-    ensures leaves { Leaves 0 result names.old tokens.old names.new tokens.new }
+    ensures leaves { LeavesItems (λ k. kind_items (carried_of k)) result
+        names.old tokens.old items.old names.new tokens.new items.new }
     ensures fault { IfErr result (Stops (λ ds.
         proto (kind_due depth) ∷ proto (fixed (close_piece way)) ∷ ds)
         items.old (standing tokens.old names.old)) }
@@ -187,9 +183,8 @@ fn turns(
         Gives (standing tokens.old names.old) (standing tokens.new names.new)
         (λ word. seq_pieces word p ++ codes "]" ∷ codes "*" ∷ [])
         (λ word. IsGiven limits word depth p)) }
-    ensures count { IfOk result (λ p. items.new ≡ items.old + item_count p) }
-    ensures few { IfOk result (λ _. items.new ≤ limits.items) }
-    ensures leaves { Leaves 0 result names.old tokens.old names.new tokens.new }
+    ensures leaves { LeavesItems item_count result
+        names.old tokens.old items.old names.new tokens.new items.new }
     ensures fault { IfErr result (Stops (λ ds. proto (maybe_due depth) ∷ proto (fixed (codes "]"))
         ∷ proto (fixed (codes "*")) ∷ ds)
         items.old (standing tokens.old names.old)) }
@@ -217,9 +212,8 @@ fn choices(
         (λ word. drop 1 (listed word a) ++ codes "}" ∷ [])
         (λ word. AreGiven limits word depth 0 a)) }
     ensures some { IfOk result (λ a. a ≢ no_choice) }
-    ensures count { IfOk result (λ a. items.new ≡ items.old + arm_items a) }
-    ensures few { IfOk result (λ _. items.new ≤ limits.items) }
-    ensures leaves { Leaves 0 result names.old tokens.old names.new tokens.new }
+    ensures leaves { LeavesItems arm_items result
+        names.old tokens.old items.old names.new tokens.new items.new }
     ensures fault { IfErr result (Stops (λ ds. proto (label 0) ∷ proto (fixed (codes ":"))
         ∷ proto (maybe_due depth) ∷ proto (arms depth 1) ∷ proto (fixed (codes "}")) ∷ ds)
         items.old (standing tokens.old names.old)) }
@@ -254,9 +248,8 @@ fn one_arm(
         (λ word. AreGiven limits word depth before (with_arm a.label a.rest no_choice))) }
     ensures ends { IfOk result (λ a.
         Passes file_layer (proto (due_behind depth a.rest)) (next_of tokens.new.ahead)) }
-    ensures count { IfOk result (λ a. items.new ≡ items.old + item_count a.rest) }
-    ensures few { IfOk result (λ _. items.new ≤ limits.items) }
-    ensures leaves { Leaves 0 result names.old tokens.old names.new tokens.new }
+    ensures leaves { LeavesItems (λ a. item_count a.rest) result
+        names.old tokens.old items.old names.new tokens.new items.new }
     ensures fault { IfErr result (Stops (λ ds. proto (label before) ∷ proto (fixed (codes ":"))
         ∷ proto (maybe_due depth) ∷ ds)
         items.old (standing tokens.old names.old)) }

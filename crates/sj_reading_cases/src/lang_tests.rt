@@ -2,7 +2,7 @@
 use sj_base::Msg;
 use sj_lang::{
     Arm, Arms, Deed, Item, Kind, PlaceRefusal, Proto, Stmt, Way, Words, after, copied_block, dual,
-    same,
+    meets, same, stands_for,
 };
 use std::alloc::Global;
 use std::test::Fail;
@@ -57,6 +57,36 @@ fn a_dual_is_another_protocol(rt: HostRuntime) -> Result<(), Fail> {
     let start = sample(rt.alloc())?;
     let other = dual(rt.alloc(), &start)?;
     assert!(rt; !same(&other, &start) && same(&start, &start));
+    Ok(())
+}
+
+// A selection of these labels, each with nothing behind it.
+fn selection(alloc: Global, labels: &[u16]) -> Result<Proto, Fail> {
+    let mut arms = Vec::new(alloc);
+    for label in labels {
+        let label = *label;
+        let rest = Proto {
+            items: Vec::new(alloc),
+        };
+        arms.push(Arm { label, rest })?;
+    }
+    let items = vec![in alloc; Item::Select(Arms { arms })]?;
+    Ok(Proto { items })
+}
+
+#[test]
+fn a_branching_may_offer_more_than_is_selected(rt: HostRuntime) -> Result<(), Fail> {
+    let alloc = rt.alloc();
+    let narrow = selection(alloc, &[3])?;
+    let wide = selection(alloc, &[4, 3])?;
+    let offered = dual(alloc, &wide)?;
+    assert!(rt; meets(&narrow, &offered), "one of two labels is selected");
+    assert!(rt; meets(&offered, &narrow), "in the other order");
+    let lacking = dual(alloc, &narrow)?;
+    assert!(rt; !meets(&wide, &lacking), "a label that isn't offered");
+    assert!(rt; !meets(&narrow, &wide), "two selections");
+    assert!(rt; stands_for(&wide, &narrow), "more to choose from");
+    assert!(rt; !stands_for(&narrow, &wide), "less to choose from");
     Ok(())
 }
 

@@ -33,7 +33,8 @@ party a { let n=0; outwhile x(2){ send x \"Paris\"; }
 party b { let s = ((n)) - (100); let s = (a+b)-n+(m); let s = a-(b-n); let s = a-(b*n);
   let s = (a+b)*(n-m); let s = (a*b)*n; let s = a*(b*n); let s = (a<b)==(n<=m);
   let s = not(not(a))*b; let s = not(a==\"3 May\"); let s = 1--9223372036854775808;
-  let s = -0*-7; let s = ( true )==false; }
+  let s = -0*-7; let s = ( true )==false; request
+ x p to b;accept y p from  a; }
 connect a x p
 to b y p;";
 
@@ -79,6 +80,8 @@ party b {
   let s = 1 - -9223372036854775808;
   let s = 0 * -7;
   let s = true == false;
+  request x p to b;
+  accept y p from a;
 }
 connect a x p to b y p;
 ";

@@ -32,6 +32,9 @@ const ACK: [u8; 23] = [
     0, 0, 0, 19, 1, 5, 0, 0, 0, 0, 0, 0, 0, 5, 0, 0, 0, 0, 1, 0, 0, 0, 1,
 ];
 
+// Clock 1: session 64 was opened.
+const OPEN: [u8; 19] = [0, 0, 0, 15, 2, 7, 0, 0, 0, 0, 0, 0, 0, 1, 0, 0, 0, 64, 1];
+
 const END: EndId = EndId { sess: 0, side: 1 };
 
 fn five() -> Frame
@@ -46,6 +49,15 @@ fn five() -> Frame
             taken: 0,
             msg: Msg::Int(5),
         },
+    }
+}
+
+fn opened() -> Frame
+    ensures { IsLawful (frame_at result) }
+{
+    Frame {
+        clock: 1,
+        body: Body::Open { sess: 64 },
     }
 }
 
@@ -65,9 +77,11 @@ fn noted(alloc: Global, bytes: &[u8]) -> Option<(u64, Note)> {
 }
 
 #[test]
-fn a_frame_that_keeps_the_limits_is_written(rt: HostRuntime) -> Result<(), Fail> {
+fn frames_that_keep_the_limits_are_written(rt: HostRuntime) -> Result<(), Fail> {
     assert!(rt; is_lawful(&five()));
     assert_eq!(rt; encode(rt.alloc(), &five())?.as_slice(), CARRY.as_slice());
+    assert!(rt; is_lawful(&opened()));
+    assert_eq!(rt; encode(rt.alloc(), &opened())?.as_slice(), OPEN.as_slice());
     Ok(())
 }
 
@@ -79,10 +93,11 @@ fn spellings_are_read_as_their_frames(rt: HostRuntime) {
         party: 2,
         taken: 1,
     };
-    let rows: [(&[u8], u64, Note); 3] = [
+    let rows: [(&[u8], u64, Note); 4] = [
         (&CLAIM, 2, Note::Claim { of: END }),
         (&SIGNAL, 4, signal),
         (&ACK, 5, Note::Ack { of: END, conn: 1 }),
+        (&OPEN, 1, Note::Open { sess: 64 }),
     ];
     for (bytes, clock, note) in rows {
         assert_eq!(rt; noted(rt.alloc(), bytes), Some((clock, note)), "{clock}");
@@ -101,15 +116,21 @@ fn refusal_of(alloc: Global, frame: &[u8], at: usize, to: u8) -> Result<Option<W
 // A frame, a position, the byte there, the refusal, and what is wrong.
 type Row<'a> = (&'a [u8], usize, u8, WireRefusal, &'a str);
 
-const REFUSED: [Row; 8] = [
+const REFUSED: [Row; 14] = [
     (&CARRY, 4, 0, WireRefusal::Version, "version 0"),
-    (&CARRY, 4, 2, WireRefusal::Version, "version 2"),
+    (&CARRY, 4, 3, WireRefusal::Version, "version 3"),
+    (&CARRY, 4, 2, WireRefusal::Kind, "kind 1 under version 2"),
     (&CARRY, 5, 0, WireRefusal::Kind, "kind 0"),
-    (&CARRY, 5, 7, WireRefusal::Kind, "kind 7"),
+    (&CARRY, 5, 7, WireRefusal::Kind, "kind 7 under version 1"),
     (&CARRY, 6, 64, WireRefusal::Value, "a clock of 2^62"),
     (&CARRY, 21, 4, WireRefusal::Value, "connection 1024"),
     (&CARRY, 24, 16, WireRefusal::Value, "number 1,048,576"),
     (&FIN, 3, 22, WireRefusal::Value, "a length one too small"),
+    (&OPEN, 3, 14, WireRefusal::Length, "a length of 14"),
+    (&OPEN, 4, 1, WireRefusal::Kind, "an Open under version 1"),
+    (&OPEN, 4, 3, WireRefusal::Version, "an Open under version 3"),
+    (&OPEN, 5, 8, WireRefusal::Kind, "kind 8"),
+    (&OPEN, 18, 0, WireRefusal::Value, "an Open for side 0"),
 ];
 
 #[test]

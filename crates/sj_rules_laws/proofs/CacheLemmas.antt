@@ -1,5 +1,5 @@
 -- Wherever an end lies, its cache begins where the other end has taken, or before.
-use Rattle.std.proofs.Common.{◌≡◌, ℕ, ◌==◌, ◌<◌, ◌≤◌, Bool, true, false, cond, List, [], ◌∷◌, length, Option, Some, None, ap, sym, ◌∙◌, subst, inl, inr, arith}
+use Rattle.std.proofs.Common.{◌≡◌, ℕ, ◌==◌, ◌<◌, ◌≤◌, Bool, true, false, cond, List, [], ◌∷◌, length, Option, Some, None, refl, ap, sym, ◌∙◌, subst, inl, inr, arith}
 use Rattle.sj_base.specs.declared.EndId.{EndId}
 use Rattle.sj_lang.specs.Place.{Place, done}
 use Rattle.sj_lang.specs.FileAt.{FileAt}
@@ -27,9 +27,7 @@ use Rattle.sj_rules.specs.Reading.{is_opening, reading, IsOpenKept}
 use Rattle.sj_world_laws.proofs.OutcomeLemmas.{sound_at}
 use Rattle.sj_opened_laws.proofs.OpenStandsLemmas.{ends_by}
 use Rattle.sj_opened_laws.proofs.OpenSpotLemmas.{gives_read}
-use Rattle.std.proofs.Common.{refl}
 use Rattle.sj_world_laws.proofs.ToldLemmas.{Has, contains_has, has_kept}
-use Rattle.sj_rules_laws.proofs.StandsForLemmas.{kept_stands_for}
 use Rattle.sj_rules_laws.proofs.CoreRunLemmas.{StandsAfter, runs_stand}
 use Rattle.sj_rules_laws.proofs.LawfulLemmas.{run_is_lawful}
 

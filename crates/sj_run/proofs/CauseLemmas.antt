@@ -9,7 +9,7 @@ use Rattle.sj_semantics.specs.Program.{Program}
 use Rattle.sj_semantics.specs.Wants.{want_of}
 use Rattle.sj_table.specs.declared.table.Spot.{Spot}
 use Rattle.sj_rules.specs.Halts as rules
-use Rattle.sj_rules.specs.Halts.{halt_by, halt_if, halt_of, is_at_end, is_delegated_enough, is_expected, lacks_message}
+use Rattle.sj_rules.specs.Halts.{halt_by, halt_if, halt_of, is_at_end, is_delegated_enough, is_empty, is_expected, lacks_message}
 use Rattle.sj_rules.specs.Mapped.{main_with, node_with}
 use Rattle.sj_rules.specs.Node.{NodeAt}
 use Rattle.sj_rules.specs.Party.{play_for, want_for, want_or_ended}
@@ -31,6 +31,10 @@ cause_if false h rest (inr c) = c
 either : (a b : Bool) → (a || b) ≡ true → (a ≡ true) ⊎ (b ≡ true)
 either true b k = inl refl
 either false b k = inr k
+
+not_so : (b : Bool) (k h : Halt) → (if b then None else Some k) ≡ Some h → not b ≡ true
+not_so true k h e = absurd (cc e)
+not_so false k h e = refl
 
 so_is : (b : Bool) (k h : Halt) → (if b then Some k else None) ≡ Some h → b ≡ true
 so_is true k h e = refl
@@ -75,10 +79,12 @@ module _ (f : Spot → Place) (ps : List ProtocolAt) where
         ]
     cause_named (wants.Take e a) k = cause_if _ (rules.awaits e) _ (inl (awaited_is (n.main e) ∙ k))
     cause_named (wants.Close e) k = cause_if _ (rules.awaits e) None (inl (awaited_is (n.main e) ∙ k))
+    cause_named (wants.Request q to) k = absurd (cc k)
+    cause_named (wants.Accept q from) k = absurd (cc k)
     cause_named wants.Ended k = absurd (cc k)
 
     -- and so is what holds a step up
-    cause_up : (want : Want) → hold_up n.main want ≡ Some h → HasCause (halt_by (node_with f n) (want_for ps want))
+    cause_up : (want : Want) → hold_up n.main n.requests n.offers want ≡ Some h → HasCause (halt_by (node_with f n) (want_for ps want))
     cause_up wants.Local k = absurd (cc k)
     cause_up (wants.Send e m) k = absurd (cc k)
     cause_up (wants.Delegate e y) k =
@@ -88,14 +94,16 @@ module _ (f : Spot → Place) (ps : List ProtocolAt) where
         let is = lacks_is (n.main e) ∙ so_is (lacks_message (n.main e)) halts.Waits h k in
         cause_if _ (rules.awaits e) _ (inr (cause_if _ (rules.no_message e) None (inl is)))
     cause_up (wants.Close e) k = absurd (cc k)
+    cause_up (wants.Request q to) k = cause_if _ rules.requested_enough None (inl (not_so (nat_lt n.requests 100) halts.AtLimit h k))
+    cause_up (wants.Accept q from) k = cause_if _ (rules.no_offer from) None (inl (so_is (is_empty (n.offers from)) halts.Waits h k))
     cause_up wants.Ended k = absurd (cc k)
 
-    cause_of : (want : Want) → stop_wanting n.main n.program.steps want ≡ Some h
+    cause_of : (want : Want) → stop_wanting n.main n.requests n.offers n.program.steps want ≡ Some h
         → HasCause (halt_if (not (nat_lt n.program.steps 10000)) rules.worn (halt_by (node_with f n) (want_for ps want)))
     cause_of want k =
-        cause_by (nat_lt n.program.steps 10000) (names_awaited n.main want) (hold_up n.main want) h _ k (cause_named want) (cause_up want)
+        cause_by (nat_lt n.program.steps 10000) (names_awaited n.main want) (hold_up n.main n.requests n.offers want) h _ k (cause_named want) (cause_up want)
 
-    cause_step : (o : Option Want) → stop_by n.main n.program.steps (unwrap_or o wants.Ended) ≡ Some h
+    cause_step : (o : Option Want) → stop_by n.main n.requests n.offers n.program.steps (unwrap_or o wants.Ended) ≡ Some h
         → HasCause (halt_if (is_at_end (want_or_ended ps o)) rules.at_end
         (halt_if (not (nat_lt n.program.steps 10000)) rules.worn (halt_by (node_with f n) (want_or_ended ps o))))
     cause_step None k = (rules.at_end, refl)
@@ -104,9 +112,11 @@ module _ (f : Spot → Place) (ps : List ProtocolAt) where
     cause_step (Some (wants.Send e m)) k = cause_of (wants.Send e m) k
     cause_step (Some (wants.Delegate e y)) k = cause_of (wants.Delegate e y) k
     cause_step (Some (wants.Take e a)) k = cause_of (wants.Take e a) k
+    cause_step (Some (wants.Request q to)) k = cause_of (wants.Request q to) k
+    cause_step (Some (wants.Accept q from)) k = cause_of (wants.Accept q from) k
     cause_step (Some (wants.Close e)) k = cause_of (wants.Close e) k
 
     -- a node that stops has a cause by the rules
-    pub has_cause : (parties : ℕ) → stop_by n.main n.program.steps (next_want n.program) ≡ Some h
+    pub has_cause : (parties : ℕ) → stop_by n.main n.requests n.offers n.program.steps (next_want n.program) ≡ Some h
         → HasCause (halt_of (play_for parties ps) (node_with f n))
     has_cause parties k = cause_step (want_of n.program) k

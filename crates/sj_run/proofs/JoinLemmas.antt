@@ -1,6 +1,6 @@
 -- Over links that tell: the joined logs of workers are a history, no worker stopped as unfit, and where none stopped for another
 -- cause than that it had nothing to do, the links show the lines.
-use Rattle.std.proofs.Common.{◌≡◌, ◌⊎◌, ◌∙◌, ℕ, zero, suc, ◌*◌, ◌<◌, ◌≤◌, nat_lt, ◌==◌, max, Bool, true, false, List, [], ◌∷◌, ◌++◌, map, length, Option, Some, None, inl, inr, refl, sym, ap, subst, arith}
+use Rattle.std.proofs.Common.{◌≡◌, ◌⊎◌, ◌∙◌, ℕ, zero, suc, ◌<◌, ◌≤◌, nat_lt, ◌==◌, max, Bool, true, false, List, [], ◌∷◌, ◌++◌, map, length, Option, Some, None, inl, inr, refl, sym, ap, subst, arith}
 use Rattle.std.specs.Prelude.{slice_get}
 use Rattle.std.proofs.lemmas.Bool.Decides.{nat_tests}
 use Rattle.std.proofs.lemmas.List.{length-map}
@@ -16,7 +16,7 @@ use Rattle.sj_rules.specs.Log.{IsJoined, LineAt, logs_below}
 use Rattle.sj_rules.specs.Node.{NodeAt, arrives}
 use Rattle.sj_rules.specs.NodeRun.{frame_told, told_body, told_frames}
 use Rattle.sj_rules.specs.Party.{play_of}
-use Rattle.sj_rules.specs.Record.{BodyAt, Carry, Fin, Claim, Signal, Ack, Give}
+use Rattle.sj_rules.specs.Record.{BodyAt, Carry, Fin, Claim, Signal, Ack, Give, Open}
 use Rattle.sj_rules.specs.Start.{core_start}
 use Rattle.sj_rules.specs.Work.{InStep, LanedAt, LostAt, lost_from}
 use Rattle.sj_rules.specs.World.{WorldAt}
@@ -52,6 +52,7 @@ told_body_twice (Claim of) = refl
 told_body_twice (Signal to conn party taken) = refl
 told_body_twice (Ack of conn) = refl
 told_body_twice (Give e resend) = refl
+told_body_twice (Open sess) = refl
 
 told_twice : (f : FrameAt Place) → frame_told done (frame_told done f) ≡ frame_told done f
 told_twice f = λ i. record { clock = f.clock; body = told_body_twice f.body i }
@@ -148,7 +149,7 @@ module _ {O I : Type 0} (pushed : O → Option (List (FrameAt Place))) (out_faul
       ap (λ (l : LanedAt Place Program O I). l.ins p) (new_is q w.0 w.1) ∙ none_there (lanes_of w.0).ins.items p (omega (arith, le, sq.1, many))
 
   abbrev play : Rattle.sj_rules.specs.Node.Play Place Program
-  play = play_with (body_named file.protocols) (2 * length file.connects) n
+  play = play_with (body_named file.protocols) (length file.connects) n
 
   pub works : PartiesWork play max done n (core_start file) team lost
   works =
@@ -209,14 +210,14 @@ module _ {O I : Type 0} (pushed : O → Option (List (FrameAt Place))) (out_faul
 
     -- so no worker stopped as unfit: the lost frame fits its row, and the act is one
     lost_fits : (q : ℕ) (w : Worker O I) (l : LostAt Place) → q < n → slice_get workers q ≡ Some w → lost q l.party ≡ l.frame ∷ [] → l.party < n
-        → arrives n max (node_at (node_of w)) l.party l.frame ≡ None → ⊥
+        → arrives done n max (node_at (node_of w)) l.party l.frame ≡ None → ⊥
     lost_fits q w l mt there is lt none =
         let g = lost_told l.party q l.frame lt mt is in
         let fits = lost_arrives file play max max_picks done team lost works accepted same l.party q g.0 mt (is ∙ ap (λ f. f ∷ []) (sym g.1)) in
         let alike : frame_told done l.frame ≡ frame_told done g.0 = ap (frame_told done) (sym g.1) ∙ told_twice g.0 in
-        let row : arrives n max (node_at (node_of w)) l.party g.0 ≡ Some fits.0 =
-        ap (λ (d : LanedAt Place Program O I). arrives n max d.node l.party g.0) (sym (new_is q w there)) ∙ fits.1 in
-        let no : None ≡ Some fits.0 = sym none ∙ same_arrives n max done (node_at (node_of w)) l.party l.frame g.0 alike ∙ row in
+        let row : arrives done n max (node_at (node_of w)) l.party g.0 ≡ Some fits.0 =
+        ap (λ (d : LanedAt Place Program O I). arrives done n max d.node l.party g.0) (sym (new_is q w there)) ∙ fits.1 in
+        let no : None ≡ Some fits.0 = sym none ∙ same_arrives done n max done (node_at (node_of w)) l.party l.frame g.0 alike ∙ row in
         cc no
 
     act_fits : (q : ℕ) (w : Worker O I) (there : slice_get workers q ≡ Some w) → q < n → nodes.stop_of (node_of w) ≡ None → act_of (node_of w) ≡ None → ⊥
@@ -231,7 +232,7 @@ module _ {O I : Type 0} (pushed : O → Option (List (FrameAt Place))) (out_faul
     unfit_for q w there mt all_lost (Some l) is c =
         let parties = (turns q w there).went.parties ∙ (all.each q w there).first.parties in
         lost_fits q w l mt there (all_lost l.party ∙ ap (λ o. lost_from o l.party) is ∙ lost_own l) (lost_party q w there l mt is)
-        (subst (λ k. arrives k max (node_at (node_of w)) l.party l.frame ≡ None) parties c.1)
+        (subst (λ k. arrives done k max (node_at (node_of w)) l.party l.frame ≡ None) parties c.1)
 
     unfit_or : (q : ℕ) → q < n → (o : Option (Worker O I)) (there : slice_get workers q ≡ o)
         → ((p : ℕ) → lost q p ≡ lost_from (Rattle.sj_run.proofs.TeamLemmas.lost_or pushed out_faults out_vain same_out popped in_faults in_vain same_in joined file looks true workers all q o there) p)

@@ -14,7 +14,7 @@ use Rattle.sj_node.specs.declared.refusal.Halt.{Halt}
 use Rattle.sj_node.specs.declared.refusal.Halt.TheVariants as halts
 use Rattle.sj_node.specs.Halts.{stop_by}
 use Rattle.sj_node.specs.Node as nodes
-use Rattle.sj_node.specs.Node.{clock_of, node_at, outbox_of, spot_node, steps_of}
+use Rattle.sj_node.specs.Node.{clock_of, node_at, offers_of, outbox_of, requests_of, spot_node, steps_of}
 use Rattle.sj_node.specs.Reading.{IsFinished, IsIdle, parties_of}
 use Rattle.sj_core.proofs.HaltLemmas.{halted}
 use Rattle.sj_work.specs.declared.worker.Stop.{Stop}
@@ -64,7 +64,7 @@ module _ (file : FileAt) (p : ℕ) (n : Node) where
   not_waiting h other is = waits_not (place_in n.table) file.protocols (spot_node n) h other (length file.parties) is
 
   has_ended : IsFinished n → nodes.stop_of n ≡ Some halts.Ended
-  has_ended f = ap (stop_by (spot_node n).main (steps_of n)) f.ended
+  has_ended f = ap (stop_by (spot_node n).main (requests_of n) (offers_of n) (steps_of n)) f.ended
 
 ended_waits : halts.Ended ≡ halts.Waits → ⊥
 ended_waits e = cc e

@@ -1,5 +1,5 @@
 -- The workers of a file, which began with its first nodes and new lanes, are parties that work together.
-use Rattle.std.proofs.Common.{◌≡◌, ◌∙◌, ℕ, zero, suc, ◌*◌, ◌<◌, ◌≤◌, max, Bool, true, List, [], ◌∷◌, map, length, Option, Some, None, refl, sym, ap, subst, arith}
+use Rattle.std.proofs.Common.{◌≡◌, ◌∙◌, ℕ, zero, suc, ◌<◌, ◌≤◌, max, Bool, true, List, [], ◌∷◌, map, length, Option, Some, None, refl, sym, ap, subst, arith}
 use Rattle.std.specs.Prelude.{slice_get, IsSome}
 use mathlib.Core.List.{IsPrefix}
 use Rattle.sj_lang.specs.Place.{Place, done}
@@ -36,10 +36,10 @@ module _ {O I : Type 0} (pushed : O → Option (List (FrameAt Place))) (out_faul
     (all : AllWorked pushed out_faults out_vain same_out popped in_faults in_vain same_in joined file looks tells workers) where
   -- what all nodes do for places and programs
   abbrev pub team_play : Play Place Program
-  team_play = play_with (body_named file.protocols) (2 * length file.connects) (length file.parties)
+  team_play = play_with (body_named file.protocols) (length file.connects) (length file.parties)
 
   pub plays_file : IsPlayOf file team_play
-  plays_file = is_play_of file (body_named file.protocols) (2 * length file.connects) (λ q. refl) refl
+  plays_file = is_play_of file (body_named file.protocols) (length file.connects) (λ q. refl) refl
 
   abbrev has : (p : ℕ) (w : Worker O I) → slice_get workers p ≡ Some w
       → HasWorked pushed out_faults out_vain same_out popped in_faults in_vain same_in file looks tells p w

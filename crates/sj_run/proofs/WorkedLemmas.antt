@@ -1,5 +1,5 @@
 -- Workers that were hired with their file's first nodes and new lanes, and worked.
-use Rattle.std.proofs.Common.{◌≡◌, ◌∙◌, ℕ, zero, suc, ◌*◌, ◌<◌, Bool, List, [], ◌∷◌, ◌++◌, take, map, length, Option, Some, None, refl, sym, ap, subst, arith}
+use Rattle.std.proofs.Common.{◌≡◌, ◌∙◌, ℕ, zero, suc, ◌<◌, Bool, List, [], ◌∷◌, ◌++◌, take, map, length, Option, Some, None, refl, sym, ap, subst, arith}
 use Rattle.std.specs.Prelude.{slice_get, vec_len}
 use Rattle.sj_lang.specs.Place.{Place}
 use Rattle.sj_lang.specs.FileAt.{FileAt}
@@ -93,8 +93,8 @@ module _ {O I : Type 0} (pushed : O → Option (List (FrameAt Place))) (out_faul
         party = seat.party;
         parties = seat.parties;
         play =
-            (λ i. play_with (start_in (seat.table i)) (seat.slots i) (seat.parties i))
-            ∙ (λ i. play_with (λ q. first.seats.starts q i) (2 * length file.connects) (length file.parties));
+            (λ i. play_with (start_in (seat.table i)) (seat.connects i) (seat.parties i))
+            ∙ (λ i. play_with (λ q. first.seats.starts q i) (length file.connects) (length file.parties));
         node = first.first p (node_of old) at ∙ first_same file p;
         log = (first.seats.each p (node_of old) at).log;
         boxes = first.boxes p (node_of old) at;

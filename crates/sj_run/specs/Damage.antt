@@ -1,5 +1,5 @@
 -- Why joined logs are refused, over links that don't tell what they carried: what the parties left, and the first of it that doesn't fit.
-use Rattle.std.specs.Prelude.{◌≡◌, ◌⊎◌, ℕ, ◌+◌, ◌*◌, ◌<◌, max, List, [], length, map, slice_get, unwrap_or, Option, Some, option_map}
+use Rattle.std.specs.Prelude.{◌≡◌, ◌⊎◌, ℕ, ◌+◌, ◌<◌, max, List, [], length, map, slice_get, unwrap_or, Option, Some, option_map}
 use Rattle.sj_lang.specs.Place.{Place}
 use Rattle.sj_lang.specs.FileAt.{FileAt, body_named}
 use Rattle.sj_semantics.specs.Program.{Program}
@@ -43,7 +43,7 @@ pub record HasWent (file : FileAt) (p : ℕ) (left : LeftAt) : Type 0 where
   pub steps : List (StepAt Place)
   pub run : NodeRun (nodes.play_of left.node) max p (first_node file p) steps (node_at left.node)
   pub log : entries_of (log_of left.node) ≡ map (λ s. s.entry) steps
-  pub play : nodes.play_of left.node ≡ play_with (body_named file.protocols) (2 * length file.connects) (length file.parties)
+  pub play : nodes.play_of left.node ≡ play_with (body_named file.protocols) (length file.connects) (length file.parties)
   pub party : party_of left.node ≡ p
   pub parties : parties_of left.node ≡ length file.parties
   pub refused : left.stop ≡ Some stops.Unfit → (lost : Option (LostAt Place)) × IsUnfit lost left.node left.unfit

@@ -5,7 +5,7 @@ use Rattle.sj_lang.specs.Place.{Place, done}
 use Rattle.sj_lang.specs.FileAt.{FileAt}
 use Rattle.sj_semantics.specs.Program.{Program}
 use Rattle.sj_rules.specs.Frames.{FrameAt}
-use Rattle.sj_rules.specs.Halts.{Halt, halt_of, at_end, worn, awaits, delegated_enough, no_message}
+use Rattle.sj_rules.specs.Halts.{Halt, halt_of, at_end, worn, awaits, delegated_enough, no_message, requested_enough, no_offer}
 use Rattle.sj_rules.specs.Log.{LineAt, body_note, notes_from, part_of}
 use Rattle.sj_rules.specs.Node.{acts}
 use Rattle.sj_rules.specs.NodeRun.{told_frames}
@@ -27,13 +27,15 @@ pub record LinksAt : Type 0 where
 abbrev pub keeps_of : {L : Type 0} → (sent got : L → ℕ → ℕ → List (FrameAt Place)) → (vain_out vain_in : L → ℕ → ℕ → ℕ) → L → LinksAt
 keeps_of sent got vain_out vain_in links = record { sent = sent links; got = got links; vain_out = vain_out links; vain_in = vain_in links }
 
--- the cause is that a message, or an end, isn't there yet
+-- the cause is that a message, an end or an offer isn't there yet
 abbrev pub IsWaiting : Option Halt → Type 0
 IsWaiting (Some (awaits e)) = ⊤
 IsWaiting (Some (no_message e)) = ⊤
+IsWaiting (Some (no_offer from)) = ⊤
 IsWaiting (Some at_end) = ⊥
 IsWaiting (Some worn) = ⊥
 IsWaiting (Some (delegated_enough e)) = ⊥
+IsWaiting (Some requested_enough) = ⊥
 IsWaiting None = ⊥
 
 -- the frames that the lines' events post from p to q, as lanes tell them

@@ -1,5 +1,5 @@
 -- The workers of a file's parties, in a list by the parties' numbers: hired with their lanes, and after their work.
-use Rattle.std.specs.Prelude.{◌≡◌, ℕ, ◌*◌, Bool, true, List, [], map, length, slice_get, Option, Some, None}
+use Rattle.std.specs.Prelude.{◌≡◌, ℕ, Bool, true, List, [], map, length, slice_get, Option, Some, None}
 use Rattle.sj_lang.specs.Place.{Place}
 use Rattle.sj_lang.specs.FileAt.{FileAt, body_named}
 use Rattle.std.specs.Borrow.{Bor}
@@ -30,7 +30,7 @@ pub record AreHired {O I : Type 0} (nodes : List Node) (lanes : List (Lanes O I)
 pub record IsFirst {O I : Type 0} (file : FileAt) (p : ℕ) (w : Worker O I) : Type 0 where
   pub party : party_of (node_of w) ≡ p
   pub parties : parties_of (node_of w) ≡ length file.parties
-  pub play : play_of (node_of w) ≡ play_with (body_named file.protocols) (2 * length file.connects) (length file.parties)
+  pub play : play_of (node_of w) ≡ play_with (body_named file.protocols) (length file.connects) (length file.parties)
   pub node : node_at (node_of w) ≡ first_node file p
   pub log : log_of (node_of w) ≡ []
   pub boxes : (q : ℕ) → outbox_of (node_of w) q ≡ []

@@ -6,7 +6,6 @@ use Rattle.std.proofs.lemmas.Option.{slice_get_within}
 use Rattle.sj_end.specs.declared.note.Line.{Line}
 use Rattle.sj_semantics.specs.declared.State.TheVariants as states
 use Rattle.sj_semantics.specs.Program.{Program}
-use Rattle.sj_semantics.specs.Ends.{Session}
 use Rattle.sj_semantics.specs.Run.{after_acts}
 use Rattle.sj_semantics.specs.State.{state_if, state_of}
 use Rattle.sj_semantics.specs.World.{World, act_of}
@@ -20,12 +19,12 @@ use Rattle.sj_tool.specs.Runs.{actors}
 
 -- ---- a party that is ready is there
 
-ready_if : (zs : List Session) (o : Option Program) → state_if zs o ≡ states.Ready → (g : Program) × (o ≡ Some g)
-ready_if zs None h = let no : ⊥ = cc in absurd no
-ready_if zs (Some g) h = (g, refl)
+ready_if : (w : World) (p : ℕ) (o : Option Program) → state_if w p o ≡ states.Ready → (g : Program) × (o ≡ Some g)
+ready_if w p None h = let no : ⊥ = cc in absurd no
+ready_if w p (Some g) h = (g, refl)
 
 pub ready_is_there : (w : World) (p : ℕ) → state_of w p ≡ states.Ready → p < length w.parties
-ready_is_there w p h = let r = ready_if w.sessions (slice_get w.parties p) h in slice_get_within w.parties p r.0 r.1
+ready_is_there w p h = let r = ready_if w p (slice_get w.parties p) h in slice_get_within w.parties p r.0 r.1
 
 -- ---- the acts of a line and of those behind it
 

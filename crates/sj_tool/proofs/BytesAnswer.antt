@@ -3,16 +3,17 @@ use Rattle.std.proofs.Common.{◌≡◌, ◌∙◌, ◌≤◌, ℕ, List, length
 use Rattle.sj_command.specs.declared.tasks.Task.{Task}
 use Rattle.sj_command.specs.declared.tasks.Task.TheVariants as tasks
 use Rattle.sj_log.specs.Parts.{HasNoPart, IsParted}
+use Rattle.sj_tool.specs.LogAt.{LogAt}
 use Rattle.sj_tool.specs.AnswerAt.{AnswerAt, Usage, ReadFault, TooLarge, Syntax, Check, LogFault, Misfit, LinkFault, Damaged, Ran, Printed, Made}
 use Rattle.sj_tool.specs.Answers.{AnswersBytes, AnswersParts, AnswersText}
 use Rattle.sj_tool.specs.Calls.{LinkUseAt}
 use Rattle.sj_tool.specs.Tasks.{HasLongText, HasParts, Replays as IsReplay, Takes}
-use Rattle.sj_tool.proofs.InputLemmas.{one_part}
+use Rattle.sj_tool.proofs.InputLemmas.{one_of_source, one_part}
 use Rattle.sj_tool.proofs.OneAnswer.{HoldsFor, one_of_text}
 use Rattle.sj_tool.proofs.ToldOnce.{AreToldOnce, same_told, told}
 use Rattle.sj_lang.specs.Limits.{file_limit}
 
--- what of the bytes is answered: what stands before the log is too long, no line is `%%log`, or their parts are
+-- what of the bytes is answered: what stands before the log is too long, no line parts them, or their parts are
 pub data Kind (links : LinkUseAt) (task : Task) (bytes : List ℕ) (a : AnswerAt) : Type 0 where
   long : a ≡ TooLarge → IsReplay task → HasLongText bytes → Kind links task bytes a
   misses : a ≡ LogFault 1 0 → IsReplay task → HasNoPart bytes → Kind links task bytes a
@@ -32,8 +33,8 @@ kind_of links task bytes (Ran v t) x = parts x
 kind_of links task bytes (Printed t) x = parts x
 kind_of links task bytes (Made t) x = parts x
 
--- the parts of a replay stand before and behind its line `%%log`
-pub parted_of : (task : Task) (bytes text log : List ℕ) → IsReplay task → HasParts task bytes text log → IsParted bytes text log × (length text ≤ file_limit)
+-- the parts of a replay stand before and behind the line that parts it
+pub parted_of : (task : Task) (bytes text : List ℕ) (log : LogAt) → IsReplay task → HasParts task bytes text log → IsParted bytes text log.version log.bytes × (length text ≤ file_limit)
 parted_of tasks.Check bytes text log replays p = absurd replays
 parted_of tasks.Show bytes text log replays p = absurd replays
 parted_of tasks.Sim bytes text log replays p = absurd replays
@@ -43,21 +44,21 @@ parted_of (tasks.Make n) bytes text log replays p = absurd replays
 parted_of (tasks.Big n) bytes text log replays p = absurd replays
 
 -- a text that isn't too long is no other that is
-pub not_long : (task : Task) (bytes text log : List ℕ) → IsReplay task → HasParts task bytes text log → HasLongText bytes → ⊥
+pub not_long : (task : Task) (bytes text : List ℕ) (log : LogAt) → IsReplay task → HasParts task bytes text log → HasLongText bytes → ⊥
 not_long task bytes text log replays p x =
     let q = parted_of task bytes text log replays p in
-    let same = Rattle.sj_log.proofs.PartLemmas.one_parting bytes text log x.text x.log q.0 x.parts in
+    let same = one_of_source bytes text log x.text x.log q.0 x.parts in
     omega (arith, q.1, x.long, ap length same.0)
 
-pub not_missed : (task : Task) (bytes text log : List ℕ) → IsReplay task → HasParts task bytes text log → HasNoPart bytes → ⊥
-not_missed task bytes text log replays p none = none text log (parted_of task bytes text log replays p).0.here
+pub not_missed : (task : Task) (bytes text : List ℕ) (log : LogAt) → IsReplay task → HasParts task bytes text log → HasNoPart bytes → ⊥
+not_missed task bytes text log replays p none = none text log.version log.bytes (parted_of task bytes text log replays p).0.here
 
 module _ (links : LinkUseAt) (task : Task) (bytes : List ℕ) (a b : AnswerAt) where
   one_of_kind : Kind links task bytes a → Kind links task bytes b → HoldsFor links task b → AreToldOnce task (told a) (told b)
   one_of_kind (long e replays x) (long d again y) h = same_told task (told a) (told b) (ap told (e ∙ sym d))
-  one_of_kind (long e replays x) (misses d again none) h = absurd (none x.text x.log x.parts.here)
+  one_of_kind (long e replays x) (misses d again none) h = absurd (none x.text x.log.version x.log.bytes x.parts.here)
   one_of_kind (long e replays x) (parts q) h = absurd (not_long task bytes q.text q.log replays q.parts x)
-  one_of_kind (misses e replays none) (long d again y) h = absurd (none y.text y.log y.parts.here)
+  one_of_kind (misses e replays none) (long d again y) h = absurd (none y.text y.log.version y.log.bytes y.parts.here)
   one_of_kind (misses e replays none) (misses d again other) h = same_told task (told a) (told b) (ap told (e ∙ sym d))
   one_of_kind (misses e replays none) (parts q) h = absurd (not_missed task bytes q.text q.log replays q.parts none)
   one_of_kind (parts p) (long d replays y) h = absurd (not_long task bytes p.text p.log replays p.parts y)
@@ -65,14 +66,14 @@ module _ (links : LinkUseAt) (task : Task) (bytes : List ℕ) (a b : AnswerAt) w
   one_of_kind (parts p) (parts q) h =
       let same = one_part task bytes q.text q.log p.text p.log q.parts p.parts in
       one_of_text links task p.log p.text a b p.answers
-      (subst (λ (l : List ℕ). AnswersText links task l p.text b) same.1 (subst (λ (t : List ℕ). AnswersText links task q.log t b) same.0 q.answers)) h
+      (subst (λ (l : LogAt). AnswersText links task l p.text b) same.1 (subst (λ (t : List ℕ). AnswersText links task q.log t b) same.0 q.answers)) h
 
   pub one_of_bytes : AnswersBytes links task bytes a → AnswersBytes links task bytes b → HoldsFor links task b → AreToldOnce task (told a) (told b)
   one_of_bytes x y h = one_of_kind (kind_of links task bytes a x) (kind_of links task bytes b y) h
 
 -- ---- a task whose bytes are answered takes a file
 
-takes_text : (links : LinkUseAt) (task : Task) (log text : List ℕ) (a : AnswerAt) → AnswersText links task log text a → Takes task
+takes_text : (links : LinkUseAt) (task : Task) (log : LogAt) (text : List ℕ) (a : AnswerAt) → AnswersText links task log text a → Takes task
 takes_text links tasks.Check log text a h = tt
 takes_text links tasks.Show log text a h = tt
 takes_text links tasks.Sim log text a h = tt

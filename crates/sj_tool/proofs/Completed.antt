@@ -11,6 +11,7 @@ use Rattle.sj_tool.specs.AnswerAt.{AnswerAt}
 use Rattle.sj_tool.specs.Answers.{AnswersBytes, AnswersInput, Came, Comes, OrYields}
 use Rattle.sj_tool.specs.Calls.{CallAt, LinkUseAt, LinksHold}
 use Rattle.sj_tool.specs.Completeness.{Completes, CompletesSo, IsValid, IsValidFile}
+use Rattle.sj_tool.specs.LogAt.{no_log}
 use Rattle.sj_tool.specs.Tasks.{HasInput, Reads, Takes, limit_of}
 use Rattle.sj_tool.specs.Texts.{status_of, text_of, verdict_status}
 use Rattle.sj_tool.proofs.BytesAnswer.{takes_file}
@@ -104,7 +105,7 @@ module _ (c : CallAt) (file : FileAt) where
         let made = subst (λ (t : Task). HasInput c t x.bytes) tasks_are x.input in
         let answers = subst (λ (t : Task). AnswersBytes c.links t x.bytes a) tasks_are x.answers in
         sums_up (status_of a) (text_of a)
-        (bytes_complete c.links (tasks.Big n) (generated_file n) (generated n) (generated n) [] (refl, refl) (text_stands n (omega (arith, few))) (λ _. file_is_accepted n) (λ replays. absurd replays) (λ _. hold) a
+        (bytes_complete c.links (tasks.Big n) (generated_file n) (generated n) (generated n) no_log (refl, refl) (text_stands n (omega (arith, few))) (λ _. file_is_accepted n) (λ replays. absurd replays) (λ _. hold) a
         (subst (λ (bs : List ℕ). AnswersBytes c.links (tasks.Big n) bs a) made.1 answers))
 
   completes : (task : Task) → IsValid c task file → (a : AnswerAt) → Row c a → Completes task file (status_of a) (text_of a)

@@ -13,6 +13,7 @@ use Rattle.sj_party.proofs.OneFile.{one_file}
 use Rattle.sj_party.proofs.Faultless.{no_fault}
 use Rattle.sj_command.specs.declared.tasks.Task.{Task}
 use Rattle.sj_command.specs.declared.tasks.Task.TheVariants as tasks
+use Rattle.sj_tool.specs.LogAt.{LogAt}
 use Rattle.sj_tool.specs.AnswerAt.{AnswerAt, Usage, ReadFault, TooLarge, Syntax, Check, LogFault, Misfit, LinkFault, Damaged, Ran, Printed, Made}
 use Rattle.sj_tool.specs.Answers.{AnswersBytes, AnswersFile, AnswersText}
 use Rattle.sj_tool.specs.Calls.{LinkUseAt, LinksHold}
@@ -46,7 +47,7 @@ Told task file status text = Completes task file status text
 never : true ≡ false → ⊥
 never e = let no : ⊥ = cc in no
 
-module _ (links : LinkUseAt) (log : List ℕ) (file : FileAt) (t : ℕ × List ℕ) where
+module _ (links : LinkUseAt) (log : LogAt) (file : FileAt) (t : ℕ × List ℕ) where
   -- a run by a log that fits
   replay_played : (l : Bool) → IsPlayed links (tasks.Replay l) log file t → TellsEnd l file t.0 t.1
   replay_played true p =
@@ -90,7 +91,7 @@ module _ (links : LinkUseAt) (log : List ℕ) (file : FileAt) (t : ℕ × List �
   told_valid (tasks.Big n) first fits ok e = checked (tasks.Big n) first fits (ok tt) e
 
 -- links that hold bring no fault of theirs
-unhurt_by : (links : LinkUseAt) (task : Task) (log : List ℕ) (file : FileAt) (a : AnswerAt) → (RunsParties task → LinksHold links) → AnswersFile links task log file a → IsUnhurt a
+unhurt_by : (links : LinkUseAt) (task : Task) (log : LogAt) (file : FileAt) (a : AnswerAt) → (RunsParties task → LinksHold links) → AnswersFile links task log file a → IsUnhurt a
 unhurt_by links task log file Usage hold x = tt
 unhurt_by links task log file ReadFault hold x = tt
 unhurt_by links task log file TooLarge hold x = tt
@@ -104,7 +105,7 @@ unhurt_by links task log file (Ran v t) hold x = tt
 unhurt_by links task log file (Printed t) hold x = tt
 unhurt_by links task log file (Made t) hold x = tt
 
-module _ (links : LinkUseAt) (task : Task) (file : FileAt) (bytes text log : List ℕ) (has : HasParts task bytes text log) (stands : IsFile text file) (accepted : Checks task → IsAccepted file) (fits : Replays task → HasBegun links task log file)
+module _ (links : LinkUseAt) (task : Task) (file : FileAt) (bytes text : List ℕ) (log : LogAt) (has : HasParts task bytes text log) (stands : IsFile text file) (accepted : Checks task → IsAccepted file) (fits : Replays task → HasBegun links task log file)
     (hold : RunsParties task → LinksHold links) where
   -- what answers the text of a valid file completes
   text_completes : (a : AnswerAt) → AnswersText links task log text a → Told task file (status_of a) (text_of a)
@@ -126,4 +127,4 @@ module _ (links : LinkUseAt) (task : Task) (file : FileAt) (bytes text log : Lis
       by_kind (misses e replays none) = absurd (not_missed task bytes text log replays has none)
       by_kind (parts p) =
           let same = one_part task bytes p.text p.log text log p.parts has in
-          text_completes a (subst (λ (l : List ℕ). AnswersText links task l text a) same.1 (subst (λ (t : List ℕ). AnswersText links task p.log t a) same.0 p.answers))
+          text_completes a (subst (λ (l : LogAt). AnswersText links task l text a) same.1 (subst (λ (t : List ℕ). AnswersText links task p.log t a) same.0 p.answers))

@@ -22,6 +22,7 @@ use Rattle.sj_core.proofs.LawLemmas.{max_picks}
 use Rattle.sj_run.specs.Shown.{IsShown}
 use Rattle.sj_command.specs.declared.tasks.Task.{Task}
 use Rattle.sj_command.specs.declared.tasks.Task.TheVariants as tasks
+use Rattle.sj_tool.specs.LogAt.{LogAt}
 use Rattle.sj_tool.specs.Calls.{LinkUseAt}
 use Rattle.sj_tool.specs.Tasks.{RunsParties, looks_of}
 use Rattle.sj_tool.specs.Runs.{HasHistory, HasRun, IsGiven, IsTold, actors}
@@ -33,7 +34,7 @@ kept_history file kept lines w is h =
     (subst (λ (f : FileAt). IsHistory max f lines w) is h)
 
 -- links that tell show what is given to a task that runs parties
-pub shown_given : (links : LinkUseAt) (task : Task) (log : List ℕ) (file : FileAt) (lines : List LineAt) (left : WorldAt Place Program) → RunsParties task
+pub shown_given : (links : LinkUseAt) (task : Task) (log : LogAt) (file : FileAt) (lines : List LineAt) (left : WorldAt Place Program) → RunsParties task
     → (links.tells ≡ true → IsShown file (looks_of task) links.keeps lines left) → IsGiven links task log file lines left
 shown_given links tasks.Check log file lines left h shown = absurd h
 shown_given links tasks.Show log file lines left h shown = absurd h
@@ -52,7 +53,7 @@ module _ (file first kept : FileAt) (of_file : first ≡ without_words file) (sa
       (kept_history file kept history core all_kept run, subst (λ (f : FileAt). IsQuietAmong (play_of f) (length f.parties) core) all_kept rest)
 
   -- lines that are given, and what was drained behind them
-  pub drained_has : (links : LinkUseAt) (task : Task) (log : List ℕ) → n ≡ length first.parties → m ≡ length kept.parties → history ≡ lines ++ more → IsHistory max first lines left
+  pub drained_has : (links : LinkUseAt) (task : Task) (log : LogAt) → n ≡ length first.parties → m ≡ length kept.parties → history ≡ lines ++ more → IsHistory max first lines left
       → IsGiven links task log file lines left → IsHistory max kept history core → IsDrained (play_of first) max n left (map turn_of more) core → IsQuietAmong (play_of kept) m core
       → HasHistory links task log file history core
   drained_has links task log all those listed begins given run drained quiet =
@@ -69,7 +70,7 @@ module _ (file first kept : FileAt) (of_file : first ≡ without_words file) (sa
       }
 
   -- where parties ran
-  pub drained_ran : (links : LinkUseAt) (task : Task) (runs : RunsParties task) (log : List ℕ) → n ≡ length first.parties → m ≡ length kept.parties → history ≡ lines ++ more → IsHistory max first lines left
+  pub drained_ran : (links : LinkUseAt) (task : Task) (runs : RunsParties task) (log : LogAt) → n ≡ length first.parties → m ≡ length kept.parties → history ≡ lines ++ more → IsHistory max first lines left
       → (links.tells ≡ true → IsShown file (looks_of task) links.keeps lines left) → IsHistory max kept history core → IsDrained (play_of first) max n left (map turn_of more) core → IsQuietAmong (play_of kept) m core
       → HasHistory links task log file history core
   drained_ran links task runs log all those listed begins shown run drained quiet =
@@ -82,7 +83,7 @@ quiet_ends file accepted history core run quiet =
     (quiet_run_ends file accepted (map turn_of history) core (log_runs (play_of file) max max_picks history (core_start file) core run) quiet).0
 
 -- so what is told of it is what the task answers
-pub told_runs : (links : LinkUseAt) (task : Task) (log : List ℕ) (file : FileAt) → IsAccepted file → (history : List LineAt) (core : WorldAt Place Program) → HasHistory links task log file history core
+pub told_runs : (links : LinkUseAt) (task : Task) (log : LogAt) (file : FileAt) → IsAccepted file → (history : List LineAt) (core : WorldAt Place Program) → HasHistory links task log file history core
     → (v : Verdict) (text : List ℕ) → IsTold task file history v text → HasRun links task log file v text
 told_runs links task log file accepted history core has v text told = record {
   history = history;

@@ -18,6 +18,7 @@ use Rattle.sj_rules_laws.proofs.DrainEndLemmas.{drained_is_quiet}
 use Rattle.sj_rules_laws.proofs.DrainRunLemmas.{run_drains}
 use Rattle.sj_core.proofs.LawLemmas.{max_picks}
 use Rattle.sj_command.specs.declared.tasks.Task.{Task}
+use Rattle.sj_tool.specs.LogAt.{LogAt}
 use Rattle.sj_tool.specs.Calls.{LinkUseAt}
 use Rattle.sj_tool.specs.Runs.{HasBegun, HasHistory}
 
@@ -72,7 +73,7 @@ module _ {P Q : Type 0} (play : Play P Q) (pick : ℕ → ℕ → ℕ) where
       let x = e.1.1 in both_lined w e.1.0 v ts r e.0 x.1 (turns_lined n (numbers_from 0 n) w e.1.0 r x.2) (drains_lined n rs e.1.0 v e.0 x.3)
 
 -- where given lines lead, a history goes on to where nothing is left to do
-pub begun_goes_on : (links : LinkUseAt) (task : Task) (log : List ℕ) (file : FileAt) → IsAccepted file → HasBegun links task log file
+pub begun_goes_on : (links : LinkUseAt) (task : Task) (log : LogAt) (file : FileAt) → IsAccepted file → HasBegun links task log file
     → (history : List LineAt) × (core : WorldAt Place Program) × HasHistory links task log file history core
 begun_goes_on links task log file accepted b =
     let play = play_of file in

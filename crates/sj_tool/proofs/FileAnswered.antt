@@ -15,6 +15,7 @@ use Rattle.sj_semantics.specs.Transcript.{transcript_of}
 use Rattle.sj_rules.specs.Start.{core_start}
 use Rattle.sj_command.specs.declared.tasks.Task.{Task}
 use Rattle.sj_command.specs.declared.tasks.Task.TheVariants as tasks
+use Rattle.sj_tool.specs.LogAt.{LogAt}
 use Rattle.sj_tool.specs.AnswerAt.{AnswerAt, Check, LinkFault, Printed, Ran}
 use Rattle.sj_tool.specs.Answers.{AnswersFile}
 use Rattle.sj_tool.specs.Calls.{LinkUseAt, LinksHold}
@@ -28,10 +29,10 @@ use Rattle.sj_tool.proofs.KindLemmas.{run_has_events, run_plays}
 use Rattle.sj_tool.proofs.LogLeads.{log_told_or_begun}
 
 -- an answer of a file
-abbrev pub HasAnswer : LinkUseAt → Task → (log : List ℕ) → FileAt → Type 0
+abbrev pub HasAnswer : LinkUseAt → Task → (log : LogAt) → FileAt → Type 0
 HasAnswer links task log file = (a : AnswerAt) × AnswersFile links task log file a
 
-module _ (links : LinkUseAt) (task : Task) (log : List ℕ) (file : FileAt) (accepted : IsAccepted file) where
+module _ (links : LinkUseAt) (task : Task) (log : LogAt) (file : FileAt) (accepted : IsAccepted file) where
   -- where given lines lead, its history is told
   begun_answered : HasEvents task → HasBegun links task log file → HasAnswer links task log file
   begun_answered events begun =
@@ -58,7 +59,7 @@ module _ (links : LinkUseAt) (task : Task) (log : List ℕ) (file : FileAt) (acc
           })
 
 -- of an accepted file
-accepted_answered : (links : LinkUseAt) (task : Task) (log : List ℕ) (file : FileAt) → Takes task → IsAccepted file → (RunsParties task → LinksHold links → HasBegun links task log file) → HasAnswer links task log file
+accepted_answered : (links : LinkUseAt) (task : Task) (log : LogAt) (file : FileAt) → Takes task → IsAccepted file → (RunsParties task → LinksHold links → HasBegun links task log file) → HasAnswer links task log file
 accepted_answered links tasks.Check log file takes accepted shows = (Printed (counts_of file), (accepted, refl))
 accepted_answered links tasks.Show log file takes accepted shows = (Printed (shown file), refl)
 accepted_answered links tasks.Sim log file takes accepted shows = (Ran (verdict_of (end_of file)) (transcript_of file (end_of file)), (accepted, (refl, refl)))
@@ -69,7 +70,7 @@ accepted_answered links (tasks.Make n) log file takes accepted shows = absurd ta
 accepted_answered links (tasks.Big n) log file takes accepted shows = ran_answered links (tasks.Big n) log file accepted tt (shows tt)
 
 -- of each file within the limits
-module _ (links : LinkUseAt) (log : List ℕ) (file : FileAt) (within : IsWithin limits file) where
+module _ (links : LinkUseAt) (log : LogAt) (file : FileAt) (within : IsWithin limits file) where
   checked_answered : (task : Task) → Takes task → ((r k : ℕ) → first_fault (tests_of file) ≡ Some (r, k) → HasAnswer links task log file) → (RunsParties task → IsAccepted file → LinksHold links → HasBegun links task log file)
       → (first : Option (ℕ × ℕ)) → first_fault (tests_of file) ≡ first → HasAnswer links task log file
   checked_answered task takes fault shows (Some (r, k)) e = fault r k e

@@ -7,12 +7,12 @@ use Rattle.sj_acceptance.specs.Accepted.{IsAccepted}
 use Rattle.sj_command.specs.declared.tasks.Task.{Task}
 use Rattle.sj_end.specs.Lines.{line_at}
 use Rattle.sj_lane.specs.Told as lanes
-use Rattle.sj_log.specs.LogText.{SpellsLog}
 use Rattle.sj_rules.specs.History.{IsFirstMisfit}
 use Rattle.sj_rules.specs.Log.{LineAt}
 use Rattle.sj_run.specs.Damage.{IsDamage, IsDamaged, IsDamagedSo}
 use Rattle.sj_run.specs.declared.refusal.RunRefusal.{RunRefusal}
 use Rattle.sj_run.specs.declared.refusal.RunRefusal.TheVariants as refusals
+use Rattle.sj_tool.specs.LogAt.{LogAt, Spells}
 use Rattle.sj_tool.specs.declared.answers.Answer.{Answer}
 use Rattle.sj_tool.specs.AnswerAt.{AnswerAt, answer_at, Usage, ReadFault, TooLarge, Syntax, Check, LogFault, Misfit, LinkFault, Damaged, Ran, Printed, Made}
 use Rattle.sj_tool.specs.declared.replaying.ReplayFault.{ReplayFault}
@@ -25,7 +25,7 @@ use Rattle.sj_tool.specs.Replays.{IsRefusedBy, IsToldFault}
 
 -- ---- from a file to its text, and from there to the bytes
 
-pub answers_text : (links : LinkUseAt) (task : Task) (log text : List ℕ) (file : FileAt) (a : AnswerAt) → IsFile text file → AnswersFile links task log file a → AnswersText links task log text a
+pub answers_text : (links : LinkUseAt) (task : Task) (log : LogAt) (text : List ℕ) (file : FileAt) (a : AnswerAt) → IsFile text file → AnswersFile links task log file a → AnswersText links task log text a
 answers_text links task log text file Usage stands x = absurd x
 answers_text links task log text file ReadFault stands x = absurd x
 answers_text links task log text file TooLarge stands x = absurd x
@@ -41,19 +41,19 @@ answers_text links task log text file (Made t) stands x = absurd x
 
 -- the same of a result, whatever links and log there are, or one of them
 module _ {E : Type 0} (task : Task) (text : List ℕ) (file : FileAt) (stands : IsFile text file) where
-  pub any_answers : (links : LinkUseAt) (log : List ℕ) (r : Result Answer E) → IfOk r (λ a. (l : LinkUseAt) (bytes : List ℕ) → AnswersFile l task bytes file (answer_at a)) → IfOk r (λ a. AnswersText links task log text (answer_at a))
+  pub any_answers : (links : LinkUseAt) (log : LogAt) (r : Result Answer E) → IfOk r (λ a. (l : LinkUseAt) (any : LogAt) → AnswersFile l task any file (answer_at a)) → IfOk r (λ a. AnswersText links task log text (answer_at a))
   any_answers links log (Ok a) x = answers_text links task log text file (answer_at a) stands (x links log)
   any_answers links log (Err e) x = tt
 
-  pub links_answers : (links : LinkUseAt) (log : List ℕ) (r : Result Answer E) → IfOk r (λ a. (bytes : List ℕ) → AnswersFile links task bytes file (answer_at a)) → IfOk r (λ a. AnswersText links task log text (answer_at a))
+  pub links_answers : (links : LinkUseAt) (log : LogAt) (r : Result Answer E) → IfOk r (λ a. (any : LogAt) → AnswersFile links task any file (answer_at a)) → IfOk r (λ a. AnswersText links task log text (answer_at a))
   links_answers links log (Ok a) x = answers_text links task log text file (answer_at a) stands (x log)
   links_answers links log (Err e) x = tt
 
-  pub log_answers : (links : LinkUseAt) (log : List ℕ) (r : Result Answer E) → IfOk r (λ a. (l : LinkUseAt) → AnswersFile l task log file (answer_at a)) → IfOk r (λ a. AnswersText links task log text (answer_at a))
+  pub log_answers : (links : LinkUseAt) (log : LogAt) (r : Result Answer E) → IfOk r (λ a. (l : LinkUseAt) → AnswersFile l task log file (answer_at a)) → IfOk r (λ a. AnswersText links task log text (answer_at a))
   log_answers links log (Ok a) x = answers_text links task log text file (answer_at a) stands (x links)
   log_answers links log (Err e) x = tt
 
-pub answers_bytes : (links : LinkUseAt) (task : Task) (bytes text log : List ℕ) (a : AnswerAt) → HasParts task bytes text log → AnswersText links task log text a → AnswersBytes links task bytes a
+pub answers_bytes : (links : LinkUseAt) (task : Task) (bytes text : List ℕ) (log : LogAt) (a : AnswerAt) → HasParts task bytes text log → AnswersText links task log text a → AnswersBytes links task bytes a
 answers_bytes links task bytes text log Usage parts x = record { text = text; log = log; parts = parts; answers = x }
 answers_bytes links task bytes text log ReadFault parts x = record { text = text; log = log; parts = parts; answers = x }
 answers_bytes links task bytes text log TooLarge parts x = absurd x.answers
@@ -69,7 +69,7 @@ answers_bytes links task bytes text log (Made t) parts x = record { text = text;
 
 -- ---- what tells a refusal
 
-damaged_answers : (links : LinkUseAt) (task : Task) (runs : RunsParties task) (log : List ℕ) (file : FileAt) (number : ℕ) (logged : LineAt) (other : Option LineAt) (a : AnswerAt) → IsAccepted file → (links.tells ≡ true → ⊥)
+damaged_answers : (links : LinkUseAt) (task : Task) (runs : RunsParties task) (log : LogAt) (file : FileAt) (number : ℕ) (logged : LineAt) (other : Option LineAt) (a : AnswerAt) → IsAccepted file → (links.tells ≡ true → ⊥)
     → IsDamage file number logged other → IsDamagedBy file number logged other a → AnswersFile links task log file a
 damaged_answers links task runs log file number logged other Usage ok blind damage by = absurd by
 damaged_answers links task runs log file number logged other ReadFault ok blind damage by = absurd by
@@ -85,8 +85,8 @@ damaged_answers links task runs log file number logged other (Ran v t) ok blind 
 damaged_answers links task runs log file number logged other (Printed t) ok blind damage by = absurd by
 damaged_answers links task runs log file number logged other (Made t) ok blind damage by = absurd by
 
-misfit_answers : (links : LinkUseAt) (task : Task) (replays : IsReplay task) (log : List ℕ) (file : FileAt) (lines : List LineAt) (number : ℕ) (logged : LineAt) (other : Option LineAt) (a : AnswerAt) → IsAccepted file
-    → SpellsLog file log lines → IsFirstMisfit max file lines number logged other → IsToldMisfit file number logged other a → AnswersFile links task log file a
+misfit_answers : (links : LinkUseAt) (task : Task) (replays : IsReplay task) (log : LogAt) (file : FileAt) (lines : List LineAt) (number : ℕ) (logged : LineAt) (other : Option LineAt) (a : AnswerAt) → IsAccepted file
+    → Spells file log lines → IsFirstMisfit max file lines number logged other → IsToldMisfit file number logged other a → AnswersFile links task log file a
 misfit_answers links task replays log file lines number logged other Usage ok spells misfit by = absurd by
 misfit_answers links task replays log file lines number logged other ReadFault ok spells misfit by = absurd by
 misfit_answers links task replays log file lines number logged other TooLarge ok spells misfit by = absurd by
@@ -102,7 +102,7 @@ misfit_answers links task replays log file lines number logged other (Printed t)
 misfit_answers links task replays log file lines number logged other (Made t) ok spells misfit by = absurd by
 
 -- a refusal of the parties' run, told by the answer
-pub told_answers : (links : LinkUseAt) (task : Task) (runs : RunsParties task) (log : List ℕ) (file : FileAt) (r : RunRefusal) (a : AnswerAt) → IsAccepted file → (r ≡ refusals.LinkFault → lanes.Rose links.faults links.faults_after)
+pub told_answers : (links : LinkUseAt) (task : Task) (runs : RunsParties task) (log : LogAt) (file : FileAt) (r : RunRefusal) (a : AnswerAt) → IsAccepted file → (r ≡ refusals.LinkFault → lanes.Rose links.faults links.faults_after)
     → IsDamagedSo file r → (IsDamaged r → links.tells ≡ true → ⊥) → IsToldSo file r a → AnswersFile links task log file a
 told_answers links task runs log file refusals.LinkFault a ok rose damage blind told =
     subst (λ (b : AnswerAt). AnswersFile links task log file b) (sym told) (ok, runs, rose (λ i. refusals.LinkFault))
@@ -111,7 +111,7 @@ told_answers links task runs log file (refusals.Damaged number logged other) a o
 told_answers links task runs log file refusals.NoMemory a ok rose damage blind told = absurd told
 
 -- a fault of a replay, told by the answer
-pub fault_answers : (links : LinkUseAt) (task : Task) (replays : IsReplay task) (log : List ℕ) (file : FileAt) (r : ReplayFault) (a : AnswerAt) → IsAccepted file → IsRefusedBy file log r → IsToldFault file r a
+pub fault_answers : (links : LinkUseAt) (task : Task) (replays : IsReplay task) (log : LogAt) (file : FileAt) (r : ReplayFault) (a : AnswerAt) → IsAccepted file → IsRefusedBy file log r → IsToldFault file r a
     → AnswersFile links task log file a
 fault_answers links task replays log file (faults.Text rule line) a ok fault told =
     subst (λ (z : AnswerAt). AnswersFile links task log file z) (sym told) (ok, replays, fault)

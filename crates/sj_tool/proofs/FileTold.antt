@@ -7,6 +7,7 @@ use Rattle.sj_acceptance.specs.Faults.{first_fault}
 use Rattle.sj_acceptance.specs.FileTests.{tests_of}
 use Rattle.sj_command.specs.declared.tasks.Task.{Task}
 use Rattle.sj_command.specs.declared.tasks.Task.TheVariants as tasks
+use Rattle.sj_tool.specs.LogAt.{LogAt}
 use Rattle.sj_tool.specs.AnswerAt.{AnswerAt, Usage, ReadFault, TooLarge, Syntax, Check, LogFault, Misfit, LinkFault, Damaged, Ran, Printed, Made}
 use Rattle.sj_tool.specs.Answers.{AnswersFile}
 use Rattle.sj_tool.specs.Calls.{LinkUseAt}
@@ -19,14 +20,14 @@ IsUnhurt (Damaged t) = ⊥
 IsUnhurt _ = Unit {0}
 
 -- what an accepted file is told by is told of it by its first fault
-by_no_fault : (links : LinkUseAt) (task : Task) (log : List ℕ) (file : FileAt) (t : ℕ × List ℕ) → IsAccepted file → TellsFaultless links task log file t → TellsChecked links task log file (first_fault (tests_of file)) t
+by_no_fault : (links : LinkUseAt) (task : Task) (log : LogAt) (file : FileAt) (t : ℕ × List ℕ) → IsAccepted file → TellsFaultless links task log file t → TellsChecked links task log file (first_fault (tests_of file)) t
 by_no_fault links task log file t ok x = subst (λ (f : Option (ℕ × ℕ)). TellsChecked links task log file f t) (sym (accepted_to file ok)) x
 
-by_fault : (links : LinkUseAt) (task : Task) (log : List ℕ) (file : FileAt) (r k : ℕ) → first_fault (tests_of file) ≡ Some (r, k) → TellsChecked links task log file (first_fault (tests_of file)) (told (Check r k))
+by_fault : (links : LinkUseAt) (task : Task) (log : LogAt) (file : FileAt) (r k : ℕ) → first_fault (tests_of file) ≡ Some (r, k) → TellsChecked links task log file (first_fault (tests_of file)) (told (Check r k))
 by_fault links task log file r k e = subst (λ (f : Option (ℕ × ℕ)). TellsChecked links task log file f (told (Check r k))) (sym e) refl
 
 -- what answers a file has the status and the text that its first fault tells
-pub file_told : (links : LinkUseAt) (task : Task) (log : List ℕ) (file : FileAt) (a : AnswerAt) → IsUnhurt a → AnswersFile links task log file a → Tells links task log file (first_fault (tests_of file)) (told a)
+pub file_told : (links : LinkUseAt) (task : Task) (log : LogAt) (file : FileAt) (a : AnswerAt) → IsUnhurt a → AnswersFile links task log file a → Tells links task log file (first_fault (tests_of file)) (told a)
 file_told links task log file Usage u x = absurd x
 file_told links task log file ReadFault u x = absurd x
 file_told links task log file TooLarge u x = absurd x

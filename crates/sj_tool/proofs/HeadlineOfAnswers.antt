@@ -15,6 +15,7 @@ use Rattle.sj_accepted_laws.proofs.HeadlineLemmas.{settled_run_has_it}
 use Rattle.sj_command.specs.declared.tasks.Task.{Task}
 use Rattle.sj_command.specs.declared.tasks.Task.TheVariants as tasks
 use Rattle.sj_command.proofs.OneTask.{one_task}
+use Rattle.sj_tool.specs.LogAt.{LogAt}
 use Rattle.sj_tool.specs.AnswerAt.{AnswerAt, Usage, ReadFault, TooLarge, Syntax, Check, LogFault, Misfit, LinkFault, Damaged, Ran, Printed, Made}
 use Rattle.sj_tool.specs.Answers.{Comes, Makes}
 use Rattle.sj_tool.specs.Calls.{CallAt, LinkUseAt}
@@ -38,7 +39,7 @@ pub record IsPlayedSo (task : Task) (file : FileAt) (verdict : Verdict) (text : 
   pub printed : text ≡ transcript_of file (end_of file) ++ behind
   pub bare : (IsLogging task → ⊥) → behind ≡ []
 
-pub played_so : (links : LinkUseAt) (task : Task) (log : List ℕ) (file : FileAt) (v : Verdict) (text : List ℕ) → IsPlaying task → Plays links task log file v text → IsPlayedSo task file v text
+pub played_so : (links : LinkUseAt) (task : Task) (log : LogAt) (file : FileAt) (v : Verdict) (text : List ℕ) → IsPlaying task → Plays links task log file v text → IsPlayedSo task file v text
 played_so links tasks.Check log file v text plays p = absurd plays
 played_so links tasks.Show log file v text plays p = absurd plays
 played_so links (tasks.Make n) log file v text plays p = absurd plays

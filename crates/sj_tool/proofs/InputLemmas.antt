@@ -1,12 +1,14 @@
 -- Where the bytes of a task come from, and their parts.
-use Rattle.std.proofs.Common.{◌≡◌, ◌∙◌, ℕ, List, [], Option, Some, None, IfSome, ◌++◌, ap, sym, append-nil}
+use Rattle.std.proofs.Common.{◌≡◌, ◌∙◌, ℕ, List, [], Option, Some, None, IfSome, ◌++◌, ap, ap₂, sym, append-nil}
 use Rattle.sj_base.specs.Stream.{CameOf, put_before}
 use Rattle.sj_command.specs.declared.tasks.Task.{Task}
 use Rattle.sj_command.specs.declared.tasks.Task.TheVariants as tasks
 use Rattle.sj_log.proofs.PartLemmas.{one_parting}
+use Rattle.sj_log.specs.Parts.{IsParted}
 use Rattle.sj_tool.specs.Answers.{Came}
 use Rattle.sj_tool.specs.Calls.{CallAt}
 use Rattle.sj_tool.specs.Headline.{IsPlaying}
+use Rattle.sj_tool.specs.LogAt.{LogAt, log_at, no_log}
 use Rattle.sj_tool.specs.Tasks.{HasInput, HasParts, IsRead, Reads, limit_of}
 
 -- where all was taken, it is what was left
@@ -70,15 +72,20 @@ reads_of P c x = let (reads, came) = x.kind in reads
 pub came_of : (P : ℕ → ℕ → Type 0) (c : CallAt) (x : Came P c) → CameOf (λ n. P n (limit_of x.task)) c.left c.left_after
 came_of P c x = let (reads, came) = x.kind in came
 
+-- a source is parted in one way
+pub one_of_source : (source s : List ℕ) (l : LogAt) (t : List ℕ) (m : LogAt) → IsParted source s l.version l.bytes → IsParted source t m.version m.bytes → (s ≡ t) × (l ≡ m)
+one_of_source source s l t m x y =
+    let same = one_parting source s l.version l.bytes x t m.version m.bytes y in (same.0, ap₂ log_at same.1.0 same.1.1)
+
 -- what a task takes has one text, and one log
-whole : (bytes s l t m : List ℕ) → (s ≡ bytes) × (l ≡ []) → (t ≡ bytes) × (m ≡ []) → (s ≡ t) × (l ≡ m)
+whole : (bytes s : List ℕ) (l : LogAt) (t : List ℕ) (m : LogAt) → (s ≡ bytes) × (l ≡ no_log) → (t ≡ bytes) × (m ≡ no_log) → (s ≡ t) × (l ≡ m)
 whole bytes s l t m x y = (x.0 ∙ sym y.0, x.1 ∙ sym y.1)
 
-pub one_part : (task : Task) (bytes s l t m : List ℕ) → HasParts task bytes s l → HasParts task bytes t m → (s ≡ t) × (l ≡ m)
+pub one_part : (task : Task) (bytes s : List ℕ) (l : LogAt) (t : List ℕ) (m : LogAt) → HasParts task bytes s l → HasParts task bytes t m → (s ≡ t) × (l ≡ m)
 one_part tasks.Check bytes s l t m x y = whole bytes s l t m x y
 one_part tasks.Show bytes s l t m x y = whole bytes s l t m x y
 one_part tasks.Sim bytes s l t m x y = whole bytes s l t m x y
 one_part (tasks.Run log looks) bytes s l t m x y = whole bytes s l t m x y
-one_part (tasks.Replay log) bytes s l t m x y = one_parting bytes s l t m x.0 y.0
+one_part (tasks.Replay log) bytes s l t m x y = one_of_source bytes s l t m x.0 y.0
 one_part (tasks.Make n) bytes s l t m x y = whole bytes s l t m x y
 one_part (tasks.Big n) bytes s l t m x y = whole bytes s l t m x y

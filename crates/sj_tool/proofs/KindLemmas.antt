@@ -4,6 +4,7 @@ use Rattle.sj_lang.specs.FileAt.{FileAt}
 use Rattle.sj_command.specs.declared.tasks.Task.{Task}
 use Rattle.sj_command.specs.declared.tasks.Task.TheVariants as tasks
 use Rattle.sj_semantics.specs.declared.Verdict.{Verdict}
+use Rattle.sj_tool.specs.LogAt.{LogAt}
 use Rattle.sj_tool.specs.Calls.{LinkUseAt}
 use Rattle.sj_tool.specs.Tasks.{Checks, HasEvents, Replays as IsReplay, RunsParties}
 use Rattle.sj_tool.specs.Runs.{HasRun, Plays}
@@ -45,7 +46,7 @@ replay_has_events (tasks.Make n) h = absurd h
 replay_has_events (tasks.Big n) h = absurd h
 
 -- a task that goes by a history plays the file so
-pub run_plays : (links : LinkUseAt) (task : Task) (log : List ℕ) (file : FileAt) (v : Verdict) (text : List ℕ) → HasEvents task → HasRun links task log file v text → Plays links task log file v text
+pub run_plays : (links : LinkUseAt) (task : Task) (log : LogAt) (file : FileAt) (v : Verdict) (text : List ℕ) → HasEvents task → HasRun links task log file v text → Plays links task log file v text
 run_plays links tasks.Check log file v text h x = absurd h
 run_plays links tasks.Show log file v text h x = absurd h
 run_plays links tasks.Sim log file v text h x = absurd h

@@ -7,7 +7,7 @@ use mathlib.Core.List.{List-discrete}
 use Rattle.sj_base.specs.declared.EndId.{EndId}
 use Rattle.sj_base.specs.declared.Msg.{Msg}
 use Rattle.sj_base.specs.declared.Msg.TheVariants as msgs
-use Rattle.sj_rules.specs.Log.{EntryAt, LineAt, NoteAt, Local, Sent, Took, Shut, Carry, Fin, Claim, Signal, Ack, Give}
+use Rattle.sj_rules.specs.Log.{EntryAt, LineAt, NoteAt, Local, Sent, Took, Shut, Carry, Fin, Claim, Signal, Ack, Give, Request, Accept, Open}
 use Rattle.sj_rules.specs.World.{Event, Act, Deliver}
 
 pub one_list : (xs ys : List ℕ) → Dec (xs ≡ ys)
@@ -84,6 +84,12 @@ one_note (Ack e a) y = no (λ h. absurd (cc h))
 one_note (Give e a b c d g r) (Give f u v w x y s) =
     made_of (one_parts (parts e (a ∷ b ∷ c ∷ d ∷ g ∷ []) None r) (parts f (u ∷ v ∷ w ∷ x ∷ y ∷ []) None s)) (λ h. cc h) (λ h. cc h)
 one_note (Give e a b c d g r) y = no (λ h. absurd (cc h))
+one_note (Request a b) (Request u v) = made_of (one_list (a ∷ b ∷ []) (u ∷ v ∷ [])) (λ h. cc h) (λ h. cc h)
+one_note (Request a b) y = no (λ h. absurd (cc h))
+one_note (Accept a b) (Accept u v) = made_of (one_list (a ∷ b ∷ []) (u ∷ v ∷ [])) (λ h. cc h) (λ h. cc h)
+one_note (Accept a b) y = no (λ h. absurd (cc h))
+one_note (Open a) (Open u) = made_of (ℕ_discrete a u) (λ h. ap Open h) (λ h. cc h)
+one_note (Open a) y = no (λ h. absurd (cc h))
 
 one_event : (x y : Event) → Dec (x ≡ y)
 one_event Act Act = yes (cc)

@@ -2,8 +2,7 @@
 use Rattle.std.proofs.Common.{◌≡◌, ◌∙◌, ◌+◌, ℕ, max, List, [], ◌∷◌, ◌++◌, Option, Some, None, length, ap, ap₂, refl, sym, subst}
 use Rattle.sj_lang.specs.FileAt.{FileAt}
 use Rattle.sj_lang.specs.Place.{Place}
-use Rattle.sj_log.specs.LogText.{IsFault, SpellsLog, fault_of}
-use Rattle.sj_log.specs.declared.refusal.LogRefusal.TheVariants.{At}
+use Rattle.sj_log.specs.LogText.{fault_of}
 use Rattle.sj_rules.specs.History.{IsHistory, IsLog, IsMisfit, due}
 use Rattle.sj_rules.specs.Log.{LineAt}
 use Rattle.sj_rules.specs.Node.{Play}
@@ -11,6 +10,7 @@ use Rattle.sj_rules.specs.Party.{play_of}
 use Rattle.sj_rules.specs.Start.{core_start}
 use Rattle.sj_rules.specs.World.{WorldAt}
 use Rattle.sj_joined_laws.proofs.HistoryLemmas.{no_misfit, some_same}
+use Rattle.sj_tool.specs.LogAt.{Breaks, LogAt, Spells}
 use Rattle.sj_tool.specs.Entries.{IsMisfitText, entry_line, misfit_head}
 use Rattle.sj_tool.proofs.OneRun.{same_spelled}
 
@@ -57,24 +57,24 @@ module _ {P Q : Type 0} (play : Play P Q) (pick : ℕ → ℕ → ℕ) where
 
 -- ---- what is told of a log
 
-pub fault_once : (file : FileAt) (log : List ℕ) (r s k l : ℕ) → IsFault file log (At r k) → IsFault file log (At s l) → (r ≡ s) × (k ≡ l)
+pub fault_once : (file : FileAt) (log : LogAt) (r s k l : ℕ) → Breaks file log r k → Breaks file log s l → (r ≡ s) × (k ≡ l)
 fault_once file log r s k l a b =
     let both : Some (r, k) ≡ Some (s, l) = sym a ∙ b in
     let one : (r, k) ≡ (s, l) = some_same (r, k) (s, l) both in
     (ap (λ x. x.0) one, ap (λ x. x.1) one)
 
-pub fault_or_lines : (file : FileAt) (log : List ℕ) (r k : ℕ) (lines : List LineAt) → IsFault file log (At r k) → SpellsLog file log lines → ⊥
+pub fault_or_lines : (file : FileAt) (log : LogAt) (r k : ℕ) (lines : List LineAt) → Breaks file log r k → Spells file log lines → ⊥
 fault_or_lines file log r k lines a b =
     let clash : None ≡ Some (r, k) = sym (ap fault_of b) ∙ a in cc
 
-pub misfit_once : (file : FileAt) (log s t : List ℕ) → IsMisfitText file log s → IsMisfitText file log t → s ≡ t
+pub misfit_once : (file : FileAt) (log : LogAt) (s t : List ℕ) → IsMisfitText file log s → IsMisfitText file log t → s ≡ t
 misfit_once file log s t x y =
     let lines : x.lines ≡ y.lines = same_spelled file log x.lines y.lines x.spells y.spells in
     let first = subst (λ (ls : List LineAt). IsMisfit (play_of file) max (core_start file) ls x.number x.logged x.other) lines x.misfit in
     let same = one_misfit (play_of file) max (core_start file) y.lines x.number y.number x.logged y.logged x.other y.other first y.misfit in
     x.told ∙ ap (λ (z : (ℕ × LineAt) × Option LineAt). entry_line misfit_head file z.0.0 z.0.1 z.1) (ap₂ (λ a b. (a, b)) (ap₂ (λ a b. (a, b)) same.0 same.1) same.2) ∙ sym y.told
 
-pub misfit_or_history : (file : FileAt) (log text : List ℕ) (lines : List LineAt) (left : WorldAt Place Rattle.sj_semantics.specs.Program.Program) → IsMisfitText file log text → SpellsLog file log lines → IsHistory max file lines left → ⊥
+pub misfit_or_history : (file : FileAt) (log : LogAt) (text : List ℕ) (lines : List LineAt) (left : WorldAt Place Rattle.sj_semantics.specs.Program.Program) → IsMisfitText file log text → Spells file log lines → IsHistory max file lines left → ⊥
 misfit_or_history file log text lines left x spells leads =
     let same : x.lines ≡ lines = same_spelled file log x.lines lines x.spells spells in
     no_misfit (play_of file) max lines (core_start file) left x.number x.logged x.other leads

@@ -3,7 +3,7 @@ use Rattle.std.proofs.Common.{◌≡◌, ◌⊎◌, ◌∙◌, ◌+◌, ℕ, max
 use Rattle.std.specs.Prelude.{option_and_then}
 use Rattle.sj_lang.specs.FileAt.{FileAt}
 use Rattle.sj_acceptance.specs.Accepted.{IsAccepted}
-use Rattle.sj_log.specs.LogText.{SpellsLog, fault_of, log_read}
+use Rattle.sj_log.specs.LogText.{fault_of, log_read}
 use Rattle.sj_log.specs.Rules.{rule_number}
 use Rattle.sj_rules.specs.History.{IsLog, IsMisfit, due, line_after}
 use Rattle.sj_rules.specs.Log.{LineAt}
@@ -13,6 +13,7 @@ use Rattle.sj_rules.specs.Start.{core_start}
 use Rattle.sj_rules.specs.World.{WorldAt, happens}
 use Rattle.sj_command.specs.declared.tasks.Task.TheVariants as tasks
 use Rattle.std.specs.Prelude.{Bool}
+use Rattle.sj_tool.specs.LogAt.{LogAt, Spells}
 use Rattle.sj_tool.specs.AnswerAt.{AnswerAt, LogFault, Misfit}
 use Rattle.sj_tool.specs.Answers.{AnswersFile}
 use Rattle.sj_tool.specs.Calls.{LinkUseAt}
@@ -67,11 +68,11 @@ module _ {P Q : Type 0} (play : Play P Q) (pick : ℕ → ℕ → ℕ) where
       by (yes is) others = let (mid, step) = steps w l is in further mid step is (others mid)
 
 -- the log of an accepted file is told of, or begins a history
-pub log_told_or_begun : (links : LinkUseAt) (l : Bool) (log : List ℕ) (file : FileAt) → IsAccepted file
+pub log_told_or_begun : (links : LinkUseAt) (l : Bool) (log : LogAt) (file : FileAt) → IsAccepted file
     → ((a : AnswerAt) × AnswersFile links (tasks.Replay l) log file a) ⊎ HasBegun links (tasks.Replay l) log file
-log_told_or_begun links l log file accepted = by (log_read file log) refl
+log_told_or_begun links l log file accepted = by (log_read log.version file log.bytes) refl
   where
-    spelled : (lines : List LineAt) → SpellsLog file log lines → Misfits (play_of file) max (core_start file) lines ⊎ Leads (play_of file) max (core_start file) lines
+    spelled : (lines : List LineAt) → Spells file log lines → Misfits (play_of file) max (core_start file) lines ⊎ Leads (play_of file) max (core_start file) lines
         → ((a : AnswerAt) × AnswersFile links (tasks.Replay l) log file a) ⊎ HasBegun links (tasks.Replay l) log file
     spelled lines spells (inl x) =
         inl (
@@ -80,6 +81,6 @@ log_told_or_begun links l log file accepted = by (log_read file log) refl
         )
     spelled lines spells (inr x) = inr (record { lines = lines; left = x.world; leads = x.leads; given = spells })
 
-    by : (r : _) → log_read file log ≡ r → ((a : AnswerAt) × AnswersFile links (tasks.Replay l) log file a) ⊎ HasBegun links (tasks.Replay l) log file
+    by : (r : _) → log_read log.version file log.bytes ≡ r → ((a : AnswerAt) × AnswersFile links (tasks.Replay l) log file a) ⊎ HasBegun links (tasks.Replay l) log file
     by (Ok lines) e = spelled lines e (misfits_or_leads (play_of file) max lines (core_start file))
     by (Err x) e = inl (LogFault (rule_number x.0) x.1, (accepted, tt, ap fault_of e))

@@ -14,6 +14,7 @@ use Rattle.sj_acceptance.specs.Faults.{first_fault}
 use Rattle.sj_acceptance.specs.FileTests.{tests_of}
 use Rattle.sj_command.specs.declared.tasks.Task.{Task}
 use Rattle.sj_command.specs.declared.tasks.Task.TheVariants as tasks
+use Rattle.sj_tool.specs.LogAt.{LogAt}
 use Rattle.sj_tool.specs.AnswerAt.{AnswerAt, Usage, ReadFault, TooLarge, Syntax, Check, LogFault, Misfit, LinkFault, Damaged, Ran, Printed, Made}
 use Rattle.sj_tool.specs.Answers.{AnswersFile, AnswersItsFile, AnswersText}
 use Rattle.sj_tool.specs.Runs.{Prints}
@@ -63,7 +64,7 @@ replays_no_run (tasks.Replay l) runs replays = runs
 replays_no_run (tasks.Make n) runs replays = runs
 replays_no_run (tasks.Big n) runs replays = replays
 
-module _ (links : LinkUseAt) (task : Task) (log : List ℕ) (file : FileAt) where
+module _ (links : LinkUseAt) (task : Task) (log : LogAt) (file : FileAt) where
   -- where the links don't hold, an accepted file whose parties run has no answer but theirs
   beside : IsAccepted file → RunsParties task → (LinksHold links → ⊥) → (b : AnswerAt) → AnswersFile links task log file b → HoldsFor links task b → ⊥
   beside ok runs off Usage y h = y
@@ -98,10 +99,10 @@ module _ (links : LinkUseAt) (task : Task) (log : List ℕ) (file : FileAt) wher
   one_of_file (Made t) b x y h = absurd x
 
 -- the text goes wrong, or the answer answers its file
-abbrev pub IsEither : LinkUseAt → Task → (log text : List ℕ) → AnswerAt → Type 0
+abbrev pub IsEither : LinkUseAt → Task → (log : LogAt) (text : List ℕ) → AnswerAt → Type 0
 IsEither links task log text a = ((f : Fault) × (a ≡ Syntax f) × Stuck file_layer limits 0 (start text [] []) file_due f) ⊎ AnswersItsFile links task log text a
 
-pub either : (links : LinkUseAt) (task : Task) (log text : List ℕ) (a : AnswerAt) → AnswersText links task log text a → IsEither links task log text a
+pub either : (links : LinkUseAt) (task : Task) (log : LogAt) (text : List ℕ) (a : AnswerAt) → AnswersText links task log text a → IsEither links task log text a
 either links task log text Usage x = inr x
 either links task log text ReadFault x = inr x
 either links task log text TooLarge x = inr x
@@ -116,7 +117,7 @@ either links task log text (Printed t) x = inr x
 either links task log text (Made t) x = inr x
 
 -- a text has one answer
-pub one_of_text : (links : LinkUseAt) (task : Task) (log text : List ℕ) (a b : AnswerAt) → AnswersText links task log text a → AnswersText links task log text b → HoldsFor links task b → AreToldOnce task (told a) (told b)
+pub one_of_text : (links : LinkUseAt) (task : Task) (log : LogAt) (text : List ℕ) (a b : AnswerAt) → AnswersText links task log text a → AnswersText links task log text b → HoldsFor links task b → AreToldOnce task (told a) (told b)
 one_of_text links task log text a b x y h = by_kind (either links task log text a x) (either links task log text b y)
   where
     by_kind : IsEither links task log text a → IsEither links task log text b → AreToldOnce task (told a) (told b)

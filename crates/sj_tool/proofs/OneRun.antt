@@ -17,7 +17,7 @@ use Rattle.sj_joined_laws.proofs.HistoryLemmas.{replays, same_world}
 use Rattle.sj_rules_laws.proofs.DrainLemmas.{drained_once}
 use Rattle.sj_command.specs.declared.tasks.Task.{Task}
 use Rattle.sj_command.specs.declared.tasks.Task.TheVariants as tasks
-use Rattle.sj_log.specs.LogText.{SpellsLog}
+use Rattle.sj_tool.specs.LogAt.{LogAt, Spells}
 use Rattle.sj_tool.specs.Calls.{LinkUseAt}
 use Rattle.sj_tool.specs.Tasks.{HasEvents}
 use Rattle.sj_tool.specs.Runs.{HasHistory, HasRun, run_text}
@@ -39,10 +39,10 @@ same_ok : {E : Type 0} (lines others : List LineAt) → ◌≡◌ {A = Result (L
 same_ok lines others e = cc
 
 -- the log spells one list of lines
-pub same_spelled : (file : FileAt) (log : List ℕ) (lines others : List LineAt) → SpellsLog file log lines → SpellsLog file log others → lines ≡ others
+pub same_spelled : (file : FileAt) (log : LogAt) (lines others : List LineAt) → Spells file log lines → Spells file log others → lines ≡ others
 same_spelled file log lines others a b = same_ok lines others (sym a ∙ b)
 
-pub one_history : (first second : LinkUseAt) (l : Bool) (log : List ℕ) (file : FileAt) (history other : List LineAt) (core world : WorldAt Place Program)
+pub one_history : (first second : LinkUseAt) (l : Bool) (log : LogAt) (file : FileAt) (history other : List LineAt) (core world : WorldAt Place Program)
     → HasHistory first (tasks.Replay l) log file history core → HasHistory second (tasks.Replay l) log file other world → history ≡ other
 one_history first second l log file history other core world x y =
     let lines : x.begun.lines ≡ y.begun.lines = same_spelled file log x.begun.lines y.begun.lines x.begun.given y.begun.given in
@@ -62,7 +62,7 @@ one_history first second l log file history other core world x y =
 abbrev pub AreAlike : Task → (v w : Verdict) (s t : List ℕ) → Type 0
 AreAlike task v w s t = (v ≡ w) × ((s ≡ t) ⊎ (LogsRun task × AreOneLog s t))
 
-module _ (links : LinkUseAt) (log : List ℕ) (file : FileAt) (v w : Verdict) (s t : List ℕ) where
+module _ (links : LinkUseAt) (log : LogAt) (file : FileAt) (v w : Verdict) (s t : List ℕ) where
   -- one verdict
   stand : (task : Task) → HasRun links task log file v s → HasRun links task log file w t → v ≡ w
   stand task x y = x.told.0 ∙ sym y.told.0

@@ -9,16 +9,16 @@ use Rattle.sj_core.specs.declared.refusal.ReplayRefusal.TheVariants as replays
 use Rattle.sj_lang.specs.Place.{Place}
 use Rattle.sj_rules.specs.World.{WorldAt}
 use Rattle.sj_semantics.specs.Program.{Program}
+use Rattle.sj_tool.specs.LogAt.{LogAt, Spells}
 use Rattle.sj_tool.specs.Calls.{LinkUseAt}
 use Rattle.sj_tool.specs.Runs.{HasHistory}
 use Rattle.sj_tool.specs.Tasks.{Replays as IsReplay}
 use Rattle.sj_lang.specs.FileAt.{FileAt}
-use Rattle.sj_log.specs.LogText.{SpellsLog}
 use Rattle.sj_rules.specs.Log.{LineAt}
 use Rattle.sj_tool.specs.Replays.{IsRefusedBy, replay_fault}
 
 -- lines that don't lead on refuse the log that spells them
-pub misfit_refused : (file : FileAt) (log : List ℕ) (lines : List LineAt) (r : ReplayRefusal) → SpellsLog file log lines → IsMisfitFrom file lines r → IsRefusedBy file log (replay_fault r)
+pub misfit_refused : (file : FileAt) (log : LogAt) (lines : List LineAt) (r : ReplayRefusal) → Spells file log lines → IsMisfitFrom file lines r → IsRefusedBy file log (replay_fault r)
 misfit_refused file log lines (replays.Misfit number logged other) spells misfit = (lines, spells, misfit)
 misfit_refused file log lines replays.NoMemory spells misfit = tt
 
@@ -32,7 +32,7 @@ unused = record {
 }
 
 -- a task that replays has the history of its log
-pub replay_has : (links : LinkUseAt) (task : Task) (log : List ℕ) (file : FileAt) (history : List LineAt) (core : WorldAt Place Program) → IsReplay task
+pub replay_has : (links : LinkUseAt) (task : Task) (log : LogAt) (file : FileAt) (history : List LineAt) (core : WorldAt Place Program) → IsReplay task
     → ((l : Bool) → HasHistory links (tasks.Replay l) log file history core) → HasHistory links task log file history core
 replay_has links tasks.Check log file history core h has = absurd h
 replay_has links tasks.Show log file history core h has = absurd h

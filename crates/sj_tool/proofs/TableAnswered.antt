@@ -13,6 +13,7 @@ use Rattle.sj_command.specs.declared.tasks.Task.{Task}
 use Rattle.sj_command.specs.declared.tasks.Task.TheVariants as tasks
 use Rattle.sj_command.specs.Task.{Asks}
 use Rattle.sj_command.proofs.OneTask.{one_task}
+use Rattle.sj_tool.specs.LogAt.{LogAt, no_log}
 use Rattle.sj_tool.specs.AnswerAt.{AnswerAt, Usage, ReadFault, TooLarge, Syntax, Check, LogFault, Misfit, LinkFault, Damaged, Ran, Printed, Made}
 use Rattle.sj_tool.specs.Answers.{AnswersBytes, AnswersInput, AnswersText, Comes}
 use Rattle.sj_tool.specs.Calls.{CallAt, LinkUseAt, LinksHold}
@@ -31,10 +32,10 @@ file_within text file stands = spelled_within limits file stands.pieces stands.s
 
 module _ (links : LinkUseAt) where
   -- the links show how each file that the text stands for began, where parties run
-  abbrev Shows : Task → (log text : List ℕ) → Type 0
+  abbrev Shows : Task → (log : LogAt) (text : List ℕ) → Type 0
   Shows task log text = (file : FileAt) → IsFile text file → RunsParties task → IsAccepted file → LinksHold links → HasBegun links task log file
 
-  text_answered : (task : Task) (log text : List ℕ) → Takes task → Shows task log text → (a : AnswerAt) × AnswersText links task log text a
+  text_answered : (task : Task) (log : LogAt) (text : List ℕ) → Takes task → Shows task log text → (a : AnswerAt) × AnswersText links task log text a
   text_answered task log text takes shows =
       elim (file_or_fault text) [
         | inl read ↦
@@ -44,7 +45,7 @@ module _ (links : LinkUseAt) where
         | inr gone ↦ let (fault, stuck) = gone in (Syntax fault, (takes, stuck))
       ]
 
-  parts_answered : (task : Task) (bytes log text : List ℕ) → Takes task → HasParts task bytes text log → Shows task log text → (a : AnswerAt) × AnswersBytes links task bytes a
+  parts_answered : (task : Task) (bytes : List ℕ) (log : LogAt) (text : List ℕ) → Takes task → HasParts task bytes text log → Shows task log text → (a : AnswerAt) × AnswersBytes links task bytes a
   parts_answered task bytes log text takes parts shows =
       let (a, answers) = text_answered task log text takes shows in (a, answers_bytes links task bytes text log a parts answers)
 
@@ -56,14 +57,14 @@ module _ (links : LinkUseAt) where
         | inr few ↦ parts_answered (tasks.Replay l) bytes p.log p.text tt (p.parted, few) (λ file stands runs. absurd runs)
       ]
 
-  bytes_answered : (task : Task) (bytes : List ℕ) → Takes task → Shows task [] bytes → (a : AnswerAt) × AnswersBytes links task bytes a
-  bytes_answered tasks.Check bytes takes shows = parts_answered tasks.Check bytes [] bytes takes (refl, refl) shows
-  bytes_answered tasks.Show bytes takes shows = parts_answered tasks.Show bytes [] bytes takes (refl, refl) shows
-  bytes_answered tasks.Sim bytes takes shows = parts_answered tasks.Sim bytes [] bytes takes (refl, refl) shows
-  bytes_answered (tasks.Run l looks) bytes takes shows = parts_answered (tasks.Run l looks) bytes [] bytes takes (refl, refl) shows
+  bytes_answered : (task : Task) (bytes : List ℕ) → Takes task → Shows task no_log bytes → (a : AnswerAt) × AnswersBytes links task bytes a
+  bytes_answered tasks.Check bytes takes shows = parts_answered tasks.Check bytes no_log bytes takes (refl, refl) shows
+  bytes_answered tasks.Show bytes takes shows = parts_answered tasks.Show bytes no_log bytes takes (refl, refl) shows
+  bytes_answered tasks.Sim bytes takes shows = parts_answered tasks.Sim bytes no_log bytes takes (refl, refl) shows
+  bytes_answered (tasks.Run l looks) bytes takes shows = parts_answered (tasks.Run l looks) bytes no_log bytes takes (refl, refl) shows
   bytes_answered (tasks.Replay l) bytes takes shows = replay_answered l bytes (parts_or_none bytes)
   bytes_answered (tasks.Make n) bytes takes shows = absurd takes
-  bytes_answered (tasks.Big n) bytes takes shows = parts_answered (tasks.Big n) bytes [] bytes takes (refl, refl) shows
+  bytes_answered (tasks.Big n) bytes takes shows = parts_answered (tasks.Big n) bytes no_log bytes takes (refl, refl) shows
 
 -- what answers an input comes
 input_comes : (c : CallAt) (a : AnswerAt) → AnswersInput c a → Comes c a

@@ -4,9 +4,8 @@ use Rattle.std.specs.Prelude.{Bool}
 use Rattle.sj_lang.specs.FileAt.{FileAt}
 use Rattle.sj_command.specs.declared.tasks.Task.{Task}
 use Rattle.sj_command.specs.declared.tasks.Task.TheVariants as tasks
-use Rattle.sj_log.specs.LogText.{IsFault}
-use Rattle.sj_log.specs.declared.refusal.LogRefusal.TheVariants.{At}
 use Rattle.sj_semantics.specs.declared.Verdict.{Verdict}
+use Rattle.sj_tool.specs.LogAt.{Breaks, LogAt}
 use Rattle.sj_tool.specs.AnswerAt.{AnswerAt, Check, LogFault}
 use Rattle.sj_tool.specs.Runs.{Plays}
 use Rattle.sj_tool.specs.Calls.{LinkUseAt}
@@ -33,25 +32,25 @@ pub same_told : (task : Task) (t u : ℕ × List ℕ) → t ≡ u → AreToldOnc
 same_told task t u e = record { status = ap (λ z. z.0) e; text = inl (ap (λ z. z.1) e) }
 
 -- the status and the text are those of a file that is played
-pub record IsPlayed (links : LinkUseAt) (task : Task) (log : List ℕ) (file : FileAt) (t : ℕ × List ℕ) : Type 0 where
+pub record IsPlayed (links : LinkUseAt) (task : Task) (log : LogAt) (file : FileAt) (t : ℕ × List ℕ) : Type 0 where
   pub verdict : Verdict
   pub text : List ℕ
   pub plays : Plays links task log file verdict text
   pub are : t ≡ ended verdict text
 
 -- the status and the text tell that the log is refused
-abbrev pub TellsRule : FileAt → (log : List ℕ) → ℕ × List ℕ → Type 0
-TellsRule file log t = (rule : ℕ) × (line : ℕ) × IsFault file log (At rule line) × (t ≡ (12, text_of (LogFault rule line)))
+abbrev pub TellsRule : FileAt → (log : LogAt) → ℕ × List ℕ → Type 0
+TellsRule file log t = (rule : ℕ) × (line : ℕ) × Breaks file log rule line × (t ≡ (12, text_of (LogFault rule line)))
 
-abbrev pub TellsEntry : FileAt → (log : List ℕ) → ℕ × List ℕ → Type 0
+abbrev pub TellsEntry : FileAt → (log : LogAt) → ℕ × List ℕ → Type 0
 TellsEntry file log t = (text : List ℕ) × IsMisfitText file log text × (t ≡ (12, text))
 
 -- or how the file ends that is run by it
-abbrev pub TellsLog : LinkUseAt → (l : Bool) → (log : List ℕ) → FileAt → ℕ × List ℕ → Type 0
+abbrev pub TellsLog : LinkUseAt → (l : Bool) → (log : LogAt) → FileAt → ℕ × List ℕ → Type 0
 TellsLog links l log file t = TellsRule file log t ⊎ (TellsEntry file log t ⊎ IsPlayed links (tasks.Replay l) log file t)
 
 -- the status and the text that answer a file without a fault
-abbrev pub TellsFaultless : LinkUseAt → Task → (log : List ℕ) → FileAt → ℕ × List ℕ → Type 0
+abbrev pub TellsFaultless : LinkUseAt → Task → (log : LogAt) → FileAt → ℕ × List ℕ → Type 0
 TellsFaultless links tasks.Check log file t = t ≡ (0, counts_of file)
 TellsFaultless links tasks.Show log file t = ⊥
 TellsFaultless links tasks.Sim log file t = IsPlayed links tasks.Sim log file t
@@ -61,17 +60,17 @@ TellsFaultless links (tasks.Make n) log file t = ⊥
 TellsFaultless links (tasks.Big n) log file t = IsPlayed links (tasks.Big n) log file t
 
 -- by its first fault
-abbrev pub TellsChecked : LinkUseAt → Task → (log : List ℕ) → FileAt → Option (ℕ × ℕ) → ℕ × List ℕ → Type 0
+abbrev pub TellsChecked : LinkUseAt → Task → (log : LogAt) → FileAt → Option (ℕ × ℕ) → ℕ × List ℕ → Type 0
 TellsChecked links task log file (Some x) t = t ≡ (5, text_of (Check x.0 x.1))
 TellsChecked links task log file None t = TellsFaultless links task log file t
 
 -- the status and the text that answer a file, by its first fault where the task checks
-abbrev pub Tells : LinkUseAt → Task → (log : List ℕ) → FileAt → Option (ℕ × ℕ) → ℕ × List ℕ → Type 0
+abbrev pub Tells : LinkUseAt → Task → (log : LogAt) → FileAt → Option (ℕ × ℕ) → ℕ × List ℕ → Type 0
 Tells links tasks.Show log file fault t = t ≡ (0, shown file)
 Tells links (tasks.Make n) log file fault t = ⊥
 Tells links task log file fault t = TellsChecked links task log file fault t
 
-module _ (links : LinkUseAt) (log : List ℕ) (file : FileAt) (t u : ℕ × List ℕ) where
+module _ (links : LinkUseAt) (log : LogAt) (file : FileAt) (t u : ℕ × List ℕ) where
   -- a file is played in one way
   played_once : (task : Task) → IsPlayed links task log file t → IsPlayed links task log file u → AreToldOnce task t u
   played_once task x y =

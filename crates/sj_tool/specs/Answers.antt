@@ -12,12 +12,11 @@ use Rattle.sj_acceptance.specs.Accepted.{IsAccepted}
 use Rattle.sj_acceptance.specs.Faults.{first_fault}
 use Rattle.sj_acceptance.specs.FileTests.{tests_of}
 use Rattle.sj_generator.specs.Generated.{generated}
-use Rattle.sj_log.specs.LogText.{IsFault}
 use Rattle.sj_log.specs.Parts.{HasNoPart}
-use Rattle.sj_log.specs.declared.refusal.LogRefusal.TheVariants.{At}
 use Rattle.sj_command.specs.declared.tasks.Task.{Task}
 use Rattle.sj_command.specs.declared.tasks.Task.TheVariants as tasks
 use Rattle.sj_command.specs.Task.{Asks, IsUsage}
+use Rattle.sj_tool.specs.LogAt.{Breaks, LogAt}
 use Rattle.sj_tool.specs.AnswerAt.{AnswerAt, Usage, ReadFault, TooLarge, Syntax, Check, LogFault, Misfit, LinkFault, Damaged, Ran, Printed, Made}
 use Rattle.sj_tool.specs.Calls.{CallAt, LinkUseAt}
 use Rattle.sj_tool.specs.Entries.{IsDamageText, IsMisfitText}
@@ -26,9 +25,9 @@ use Rattle.sj_tool.specs.Runs.{Plays, Prints}
 use Rattle.sj_tool.specs.Texts.{status_of, text_of, write_fault_status, no_memory_status}
 
 -- what answers a file, with the log that is replayed
-abbrev pub AnswersFile : LinkUseAt → Task → (log : List ℕ) → FileAt → AnswerAt → Type 0
+abbrev pub AnswersFile : LinkUseAt → Task → (log : LogAt) → FileAt → AnswerAt → Type 0
 AnswersFile links task log file (Check rule line) = Checks task × (first_fault (tests_of file) ≡ Some (rule, line))
-AnswersFile links task log file (LogFault rule line) = IsAccepted file × Replays task × IsFault file log (At rule line)
+AnswersFile links task log file (LogFault rule line) = IsAccepted file × Replays task × Breaks file log rule line
 AnswersFile links task log file (Misfit text) = IsAccepted file × Replays task × IsMisfitText file log text
 AnswersFile links task log file LinkFault = IsAccepted file × RunsParties task × lanes.Rose links.faults links.faults_after
 AnswersFile links task log file (Damaged text) = IsAccepted file × RunsParties task × (links.tells ≡ true → ⊥) × IsDamageText file text
@@ -37,24 +36,24 @@ AnswersFile links task log file (Printed text) = Prints task file text
 AnswersFile links task log file _ = ⊥
 
 -- the text stands for a file, which the answer answers
-pub record AnswersItsFile (links : LinkUseAt) (task : Task) (log text : List ℕ) (a : AnswerAt) : Type 0 where
+pub record AnswersItsFile (links : LinkUseAt) (task : Task) (log : LogAt) (text : List ℕ) (a : AnswerAt) : Type 0 where
   pub file : FileAt
   pub stands : IsFile text file
   pub answers : AnswersFile links task log file a
 
 -- what answers the text of a file
-abbrev pub AnswersText : LinkUseAt → Task → (log text : List ℕ) → AnswerAt → Type 0
+abbrev pub AnswersText : LinkUseAt → Task → (log : LogAt) (text : List ℕ) → AnswerAt → Type 0
 AnswersText links task log text (Syntax fault) = Takes task × Stuck file_layer limits 0 (start text [] []) file_due fault
 AnswersText links task log text a = AnswersItsFile links task log text a
 
 -- the bytes have the text of a file, and a log where one is replayed, and the answer answers it
 pub record AnswersParts (links : LinkUseAt) (task : Task) (bytes : List ℕ) (a : AnswerAt) : Type 0 where
   pub text : List ℕ
-  pub log : List ℕ
+  pub log : LogAt
   pub parts : HasParts task bytes text log
   pub answers : AnswersText links task log text a
 
--- no line of a source is `%%log`, which is told as rule 1 at line 0
+-- no line of a source is `%%log` or `%%log2`, which is told as rule 1 at line 0
 abbrev pub MissesLog : Task → List ℕ → (rule line : ℕ) → Type 0
 MissesLog task bytes rule line = Replays task × HasNoPart bytes × (rule ≡ 1) × (line ≡ 0)
 

@@ -11,6 +11,7 @@ use Rattle.sj_generator.specs.Generated.{generated}
 use Rattle.sj_command.specs.declared.tasks.Task.{Task}
 use Rattle.sj_command.specs.declared.tasks.Task.TheVariants as tasks
 use Rattle.sj_command.specs.Task.{Asks}
+use Rattle.sj_tool.specs.LogAt.{LogAt}
 use Rattle.sj_tool.specs.Calls.{CallAt, LinksHold}
 use Rattle.sj_tool.specs.Runs.{HasBegun}
 use Rattle.sj_tool.specs.Tasks.{Checks, HasParts, Replays, RunsParties, limit_of}
@@ -25,7 +26,7 @@ pub record IsValidFile (c : CallAt) (task : Task) (file : FileAt) : Type 0 where
   pub left : c.left ≡ Some bytes
   pub few : length bytes ≤ limit_of task
   pub text : List ℕ
-  pub log : List ℕ
+  pub log : LogAt
   pub parts : HasParts task bytes text log
   pub stands : IsFile text file
   pub fits : Replays task → HasBegun c.links task log file

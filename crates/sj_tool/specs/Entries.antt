@@ -4,11 +4,11 @@ use Rattle.sj_lang.specs.FileAt.{FileAt}
 use Rattle.sj_rules.specs.History.{IsFirstMisfit}
 use Rattle.sj_rules.specs.Log.{LineAt}
 use Rattle.sj_print.specs.LogLine.{head_words, note_words}
-use Rattle.sj_log.specs.LogText.{SpellsLog}
 use Rattle.sj_end.specs.Lines.{line_at}
 use Rattle.sj_run.specs.Damage.{IsDamage}
 use Rattle.sj_run.specs.declared.refusal.RunRefusal.{RunRefusal}
 use Rattle.sj_run.specs.declared.refusal.RunRefusal.TheVariants as refusals
+use Rattle.sj_tool.specs.LogAt.{LogAt, Spells}
 use Rattle.sj_tool.specs.AnswerAt.{AnswerAt, LinkFault, Damaged, Misfit}
 
 -- words with one space between each two
@@ -48,9 +48,9 @@ pub record IsDamageText (file : FileAt) (text : List ℕ) : Type 0 where
   pub told : text ≡ entry_line damage_head file number logged other
 
 -- the text tells which entry of the log is the first that isn't due, and what was due
-pub record IsMisfitText (file : FileAt) (log text : List ℕ) : Type 0 where
+pub record IsMisfitText (file : FileAt) (log : LogAt) (text : List ℕ) : Type 0 where
   pub lines : List LineAt
-  pub spells : SpellsLog file log lines
+  pub spells : Spells file log lines
   pub number : ℕ
   pub logged : LineAt
   pub other : Option LineAt

@@ -11,6 +11,7 @@ use Rattle.sj_semantics.specs.World.{World}
 use Rattle.sj_accepted_laws.specs.Headline.{IsHeadline}
 use Rattle.sj_command.specs.declared.tasks.Task.{Task}
 use Rattle.sj_command.specs.declared.tasks.Task.TheVariants as tasks
+use Rattle.sj_tool.specs.LogAt.{LogAt}
 use Rattle.sj_tool.specs.Calls.{CallAt}
 use Rattle.sj_tool.specs.Tasks.{AsksFor, HasParts, asks_log}
 use Rattle.sj_tool.specs.Texts.{verdict_status}
@@ -32,7 +33,7 @@ IsVerdict status = (verdict : Verdict) × (status ≡ verdict_status verdict)
 
 -- the bytes that a task reads have the text of its file
 abbrev pub IsTextOf : Task → (bytes text : List ℕ) → Type 0
-IsTextOf task bytes text = (log : List ℕ) × HasParts task bytes text log
+IsTextOf task bytes text = (log : LogAt) × HasParts task bytes text log
 
 -- a run of the accepted file that was read has the headline; the status is its verdict, and its transcript is written
 pub record HasHeadline (c : CallAt) (status : ℕ) (before after : Option (List ℕ)) : Type 0 where

@@ -5,6 +5,7 @@ pub mod Calls
 pub mod Completeness
 pub mod Entries
 pub mod Headline
+pub mod LogAt
 pub mod Outcomes
 pub mod Replays
 pub mod Runs

@@ -4,10 +4,9 @@ use Rattle.sj_core.specs.declared.refusal.ReplayRefusal.{ReplayRefusal}
 use Rattle.sj_core.specs.declared.refusal.ReplayRefusal.TheVariants as replays
 use Rattle.sj_lang.specs.FileAt.{FileAt}
 use Rattle.sj_end.specs.Lines.{line_at}
-use Rattle.sj_log.specs.LogText.{IsFault, SpellsLog}
-use Rattle.sj_log.specs.declared.refusal.LogRefusal.TheVariants.{At}
 use Rattle.sj_rules.specs.History.{IsFirstMisfit}
 use Rattle.sj_rules.specs.Log.{LineAt}
+use Rattle.sj_tool.specs.LogAt.{Breaks, LogAt, Spells}
 use Rattle.sj_tool.specs.Entries.{IsToldMisfit}
 use Rattle.sj_tool.specs.AnswerAt.{AnswerAt, LogFault}
 use Rattle.sj_tool.specs.declared.replaying.ReplayFault.{ReplayFault}
@@ -19,10 +18,10 @@ replay_fault (replays.Misfit number logged other) = faults.Entry number logged o
 replay_fault replays.NoMemory = faults.NoMemory
 
 -- the log isn't in its grammar, or its lines don't lead on
-abbrev pub IsRefusedBy : FileAt → (log : List ℕ) → ReplayFault → Type 0
-IsRefusedBy file log (faults.Text rule line) = IsFault file log (At rule line)
+abbrev pub IsRefusedBy : FileAt → (log : LogAt) → ReplayFault → Type 0
+IsRefusedBy file log (faults.Text rule line) = Breaks file log rule line
 IsRefusedBy file log (faults.Entry number logged other) =
-    (lines : List LineAt) × SpellsLog file log lines × IsFirstMisfit max file lines number (line_at logged) (option_map line_at other)
+    (lines : List LineAt) × Spells file log lines × IsFirstMisfit max file lines number (line_at logged) (option_map line_at other)
 IsRefusedBy file log faults.NoMemory = ⊤
 
 -- the answer tells the fault; want of memory has no answer

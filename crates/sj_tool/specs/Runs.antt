@@ -1,5 +1,5 @@
 -- Files that are played to their end: in the plain world, or by a history of the core, of parties that ran or of a log, whose acts are done in the plain world.
-use Rattle.std.specs.Prelude.{◌≡◌, ℕ, max, Bool, true, false, List, [], ◌∷◌, ◌++◌, map, length, codes}
+use Rattle.std.specs.Prelude.{◌≡◌, ℕ, max, Bool, true, false, List, [], ◌++◌, map, length}
 use Rattle.sj_lang.specs.FileAt.{FileAt}
 use Rattle.sj_lang.specs.Place.{Place}
 use Rattle.sj_acceptance.specs.Accepted.{IsAccepted}
@@ -8,7 +8,7 @@ use Rattle.sj_semantics.specs.Program.{Program}
 use Rattle.sj_accepted_laws.specs.Headline.{IsHeadline}
 use Rattle.sj_semantics.specs.Run.{end_of}
 use Rattle.sj_semantics.specs.State.{verdict_of}
-use Rattle.sj_semantics.specs.Transcript.{line_of, transcript_of}
+use Rattle.sj_semantics.specs.Transcript.{transcript_of}
 use Rattle.sj_semantics.specs.World.{World}
 use Rattle.sj_rules.specs.Drain.{IsDrained}
 use Rattle.sj_rules.specs.Events.{acts_in}
@@ -17,10 +17,11 @@ use Rattle.sj_rules.specs.Log.{LineAt}
 use Rattle.sj_rules.specs.Party.{play_of}
 use Rattle.sj_rules.specs.World.{WorldAt}
 use Rattle.sj_print.specs.LogLine.{log_text}
+use Rattle.sj_print.specs.Version.{mark_of, version_of}
 use Rattle.sj_run.specs.Shown.{IsShown}
 use Rattle.sj_command.specs.declared.tasks.Task.{Task}
 use Rattle.sj_command.specs.declared.tasks.Task.TheVariants as tasks
-use Rattle.sj_log.specs.LogText.{SpellsLog}
+use Rattle.sj_tool.specs.LogAt.{LogAt, Spells}
 use Rattle.sj_tool.specs.Calls.{LinkUseAt}
 use Rattle.sj_tool.specs.Tasks.{HasEvents, asks_log, looks_of}
 use Rattle.sj_tool.specs.Shown.{shown}
@@ -36,19 +37,19 @@ abbrev pub actors : List LineAt → List ℕ
 actors history = acts_in (map turn_of history)
 
 -- where lines come from that lead to that world: a log spells them, or the links over which parties ran show them, where they tell
-abbrev pub IsGiven : LinkUseAt → Task → (log : List ℕ) → FileAt → List LineAt → WorldAt Place Program → Type 0
-IsGiven links (tasks.Replay l) log file lines left = SpellsLog file log lines
+abbrev pub IsGiven : LinkUseAt → Task → (log : LogAt) → FileAt → List LineAt → WorldAt Place Program → Type 0
+IsGiven links (tasks.Replay l) log file lines left = Spells file log lines
 IsGiven links task log file lines left = links.tells ≡ true → IsShown file (looks_of task) links.keeps lines left
 
 -- lines that are given lead from the start of the file to a core world
-pub record HasBegun (links : LinkUseAt) (task : Task) (log : List ℕ) (file : FileAt) : Type 0 where
+pub record HasBegun (links : LinkUseAt) (task : Task) (log : LogAt) (file : FileAt) : Type 0 where
   pub lines : List LineAt
   pub left : WorldAt Place Program
   pub leads : IsHistory max file lines left
   pub given : IsGiven links task log file lines left
 
 -- a drain goes on from where such lines lead, and leaves nothing to do
-pub record HasHistory (links : LinkUseAt) (task : Task) (log : List ℕ) (file : FileAt) (history : List LineAt) (core : WorldAt Place Program) : Type 0 where
+pub record HasHistory (links : LinkUseAt) (task : Task) (log : LogAt) (file : FileAt) (history : List LineAt) (core : WorldAt Place Program) : Type 0 where
   pub begun : HasBegun links task log file
   pub more : List LineAt
   pub all : history ≡ begun.lines ++ more
@@ -57,10 +58,10 @@ pub record HasHistory (links : LinkUseAt) (task : Task) (log : List ℕ) (file :
   pub run : IsHistory max file history core
   pub quiet : IsQuietAmong (play_of file) (length file.parties) core
 
--- what stands behind the transcript: where the log is asked for, a line `%%log` and then the log
+-- what stands behind the transcript: where the log is asked for, the line of its version and then the log
 abbrev pub log_part : Bool → FileAt → List LineAt → List ℕ
 log_part false file history = []
-log_part true file history = line_of (codes "%%log" ∷ []) ++ log_text file history
+log_part true file history = mark_of (version_of history) ++ log_text file history
 
 -- what a task prints of a history, and of the world to which its acts lead
 abbrev pub run_text : Task → FileAt → List LineAt → World → List ℕ
@@ -73,7 +74,7 @@ IsTold task file history verdict text = (verdict ≡ verdict_of (end_of file)) �
 
 -- the file was run, by its parties over these links or by the log: the acts of a history are a run with the headline, which leads to
 -- the end of the file, and that is told
-pub record HasRun (links : LinkUseAt) (task : Task) (log : List ℕ) (file : FileAt) (verdict : Verdict) (text : List ℕ) : Type 0 where
+pub record HasRun (links : LinkUseAt) (task : Task) (log : LogAt) (file : FileAt) (verdict : Verdict) (text : List ℕ) : Type 0 where
   pub history : List LineAt
   pub core : WorldAt Place Program
   pub has : HasHistory links task log file history core
@@ -81,7 +82,7 @@ pub record HasRun (links : LinkUseAt) (task : Task) (log : List ℕ) (file : Fil
   pub told : IsTold task file history verdict text
 
 -- it plays the file to its end: how it ended, and what is printed
-abbrev pub Plays : LinkUseAt → Task → (log : List ℕ) → FileAt → Verdict → List ℕ → Type 0
+abbrev pub Plays : LinkUseAt → Task → (log : LogAt) → FileAt → Verdict → List ℕ → Type 0
 Plays links tasks.Sim log file verdict text = HasSimulated file verdict text
 Plays links task log file verdict text = HasEvents task × HasRun links task log file verdict text
 

@@ -12,6 +12,7 @@ use Rattle.sj_command.specs.declared.tasks.Task.{Task}
 use Rattle.sj_command.specs.declared.tasks.Task.TheVariants as tasks
 use Rattle.sj_command.specs.Task.{Asks}
 use Rattle.sj_tool.specs.Calls.{CallAt, LinksHold}
+use Rattle.sj_tool.specs.LogAt.{no_log}
 use Rattle.sj_tool.specs.Tasks.{AsksFor, HasInput, Reads, Replays, RunsParties, limit_of}
 use Rattle.sj_tool.specs.Answers.{Answers}
 use Rattle.sj_tool.specs.Runs.{HasBegun, log_part}
@@ -60,7 +61,7 @@ pub record IsReadAsAsked (c : CallAt) : Type 0 where
 abbrev pub ShowsItsRun : CallAt → Type 0
 ShowsItsRun c =
     (task : Task) (bytes : List ℕ) (file : FileAt) → Asks c.words task → RunsParties task → HasInput c task bytes
-    → IsFile bytes file → IsAccepted file → LinksHold c.links → HasBegun c.links task [] file
+    → IsFile bytes file → IsAccepted file → LinksHold c.links → HasBegun c.links task no_log file
 
 -- where parties run, the links hold
 abbrev pub RunsWell : CallAt → Type 0

@@ -6,6 +6,7 @@ use Rattle.sj_command.specs.declared.tasks.Task.{Task}
 use Rattle.sj_command.specs.declared.tasks.Task.TheVariants as tasks
 use Rattle.sj_command.specs.Task.{Asks, usual_looks}
 use Rattle.sj_log.specs.Parts.{IsParted}
+use Rattle.sj_tool.specs.LogAt.{LogAt, no_log}
 use Rattle.sj_tool.specs.Calls.{CallAt}
 use Rattle.sj_lang.specs.Limits.{file_limit, source_limit}
 
@@ -86,14 +87,14 @@ abbrev pub HasInput : CallAt → Task → List ℕ → Type 0
 HasInput c (tasks.Big n) bytes = IsUnread c × (bytes ≡ generated n)
 HasInput c task bytes = IsRead c task bytes
 
--- what stands before the line `%%log` is more than a file may have
+-- what stands before the line that parts the source is more than a file may have
 pub record HasLongText (source : List ℕ) : Type 0 where
   pub text : List ℕ
-  pub log : List ℕ
-  pub parts : IsParted source text log
+  pub log : LogAt
+  pub parts : IsParted source text log.version log.bytes
   pub long : file_limit < length text
 
--- the text of the file, and the log that is replayed: of a source they stand on the two sides of its line `%%log`
-abbrev pub HasParts : Task → (bytes text log : List ℕ) → Type 0
-HasParts (tasks.Replay l) bytes text log = IsParted bytes text log × (length text ≤ file_limit)
-HasParts task bytes text log = (text ≡ bytes) × (log ≡ [])
+-- the text of the file, and the log that is replayed: of a source they stand on the two sides of its first line `%%log` or `%%log2`, which tells the version of the log
+abbrev pub HasParts : Task → (bytes text : List ℕ) (log : LogAt) → Type 0
+HasParts (tasks.Replay l) bytes text log = IsParted bytes text log.version log.bytes × (length text ≤ file_limit)
+HasParts task bytes text log = (text ≡ bytes) × (log ≡ no_log)

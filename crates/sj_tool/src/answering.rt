@@ -4,7 +4,9 @@ ghost use Rattle.sj_generator.specs.Generated.{generated};
 ghost use Rattle.sj_tool.specs.AnswerAt.{answer_at};
 ghost use Rattle.sj_tool.specs.Answers.{AnswersBytes, AnswersText, Comes};
 ghost use Rattle.sj_tool.specs.Calls.{call, link_use};
+ghost use Rattle.sj_tool.specs.LogAt.{log_at};
 ghost use Rattle.sj_tool.specs.Tasks.{Takes, limit_of};
+ghost use Rattle.sj_print.specs.Version.{IsVersion};
 ghost use Rattle.sj_lang.specs.Limits.{file_limit, source_limit};
 
 use crate::answers::Answer;
@@ -75,7 +77,8 @@ fn generated_text(alloc: Global, n: u16) -> Result<Vec<u8>, NoMemory>
     Ok(text)
 }
 
-// The answer to the bytes of a task: of a replay a line `%%log` parts them into a file and a log.
+// The answer to the bytes of a task: of a replay the first line `%%log` or `%%log2` parts them into a
+// file and a log, and tells the log's version.
 fn answer_to_bytes<R: Threads + Sync, L: Links, G: Gate>(
     rt: &R,
     alloc: Global,
@@ -91,35 +94,37 @@ fn answer_to_bytes<R: Threads + Sync, L: Links, G: Gate>(
         task bytes.now (answer_at a)) }
 {
     let Task::Replay { .. } = task else {
-        let answer = answer_to_text(rt, alloc, task, bytes, b"", links, gate)?;
+        let answer = answer_to_text(rt, alloc, task, bytes, 1, b"", links, gate)?;
         return Ok(answer);
     };
-    let Some((text, log)) = parted(bytes) else {
+    let Some((text, version, log)) = parted(bytes) else {
         return Ok(Answer::LogFault(1, 0));
     };
     if text.len() > MAX_FILE {
         return Ok(Answer::TooLarge);
     }
-    let answer = answer_to_text(rt, alloc, task, text, log, links, gate)?;
+    let answer = answer_to_text(rt, alloc, task, text, version, log, links, gate)?;
     Ok(answer)
 }
 
-// The answer to the text of a file, and a log where one is replayed.
+// The answer to the text of a file, and a log of that version where one is replayed.
 fn answer_to_text<R: Threads + Sync, L: Links, G: Gate>(
     rt: &R,
     alloc: Global,
     task: Task,
     text: &[u8],
+    version: u8,
     log: &[u8],
     links: &mut L,
     gate: &G,
 ) -> Result<Answer, NoMemory>
     requires few { length text.now ≤ file_limit }
+    requires version { IsVersion version }
     requires log { length log.now ≤ source_limit }
     requires takes { Takes task }
     ensures { IfOk result (λ a. AnswersText
         (link_use L.tells L.faults L.sent L.got L.vain_out L.vain_in links.old links.new)
-        task log.now text.now (answer_at a)) }
+        task (log_at version log.now) text.now (answer_at a)) }
 {
     let file = match parse_file(alloc, text) {
         Ok(file) => file,
@@ -132,7 +137,7 @@ fn answer_to_text<R: Threads + Sync, L: Links, G: Gate>(
         Task::Sim => simulated_file(alloc, file),
         Task::Run { .. } => ran_by_links(rt, alloc, file, task, links, gate),
         Task::Big(_) => ran_by_links(rt, alloc, file, task, links, gate),
-        Task::Replay { .. } => ran_by_log(alloc, file, task, log),
+        Task::Replay { .. } => ran_by_log(alloc, file, task, version, log),
         // It takes no file.
         Task::Make(_) => unreachable!(),
     }

@@ -23,7 +23,7 @@ pub enum Answer {
     /// The file isn't accepted: the number of the broken rule, and a line.
     Check(u8, u32),
     /// The log isn't in its grammar: the number of the broken rule, and a line. Rule 1 at line 0 tells
-    /// that the source has no line `%%log`.
+    /// that no line of the source is `%%log` or `%%log2`.
     LogFault(u8, u32),
     /// An entry of the log is no step: what is told of the first one.
     Misfit(Vec<u8>),

@@ -1,8 +1,10 @@
 //! What answers a file that was read.
-ghost use Rattle.std.specs.Prelude.{◌≤◌, ℕ, List, IfOk, length};
+ghost use Rattle.std.specs.Prelude.{◌≤◌, IfOk, length};
 ghost use Rattle.sj_lang.specs.FileView.{file_of};
 ghost use Rattle.sj_lang.specs.Limits.{limits, IsWithin, source_limit};
 ghost use Rattle.sj_command.specs.declared.tasks.Task.TheVariants as tasks;
+ghost use Rattle.sj_tool.specs.LogAt.{LogAt, log_at};
+ghost use Rattle.sj_print.specs.Version.{IsVersion};
 ghost use Rattle.sj_tool.specs.AnswerAt.{answer_at};
 ghost use Rattle.sj_tool.specs.Answers.{AnswersFile};
 ghost use Rattle.sj_tool.specs.Calls.{LinkUseAt, link_use};
@@ -30,7 +32,7 @@ use std::thread::Threads;
 
 /// The protocols of a file, and their duals.
 pub(crate) fn shown(alloc: Global, file: &File) -> Result<Answer, NoMemory>
-    ensures { IfOk result (λ a. (links : LinkUseAt) (log : List ℕ)
+    ensures { IfOk result (λ a. (links : LinkUseAt) (log : LogAt)
         → AnswersFile links tasks.Show log (file_of file.now) (answer_at a)) }
 {
     Ok(Answer::Printed(shown_text(alloc, file)?))
@@ -39,7 +41,7 @@ pub(crate) fn shown(alloc: Global, file: &File) -> Result<Answer, NoMemory>
 /// The counts of a file, where it is accepted.
 pub(crate) fn counted(alloc: Global, file: File) -> Result<Answer, NoMemory>
     requires { IsWithin limits (file_of file) }
-    ensures { IfOk result (λ a. (links : LinkUseAt) (log : List ℕ)
+    ensures { IfOk result (λ a. (links : LinkUseAt) (log : LogAt)
         → AnswersFile links tasks.Check log (file_of file) (answer_at a)) }
 {
     match judge(alloc, file)? {
@@ -51,7 +53,7 @@ pub(crate) fn counted(alloc: Global, file: File) -> Result<Answer, NoMemory>
 /// How a file ends and its transcript, where it is accepted.
 pub(crate) fn simulated_file(alloc: Global, file: File) -> Result<Answer, NoMemory>
     requires { IsWithin limits (file_of file) }
-    ensures { IfOk result (λ a. (links : LinkUseAt) (log : List ℕ)
+    ensures { IfOk result (λ a. (links : LinkUseAt) (log : LogAt)
         → AnswersFile links tasks.Sim log (file_of file) (answer_at a)) }
 {
     match judge(alloc, file)? {
@@ -74,7 +76,7 @@ pub(crate) fn ran_by_links<R: Threads + Sync, L: Links, G: Gate>(
 ) -> Result<Answer, NoMemory>
     requires within { IsWithin limits (file_of file) }
     requires runs { RunsParties task }
-    ensures { IfOk result (λ a. (log : List ℕ)
+    ensures { IfOk result (λ a. (log : LogAt)
         → AnswersFile (link_use L.tells L.faults L.sent L.got L.vain_out L.vain_in links.old links.new)
         task log (file_of file) (answer_at a)) }
 {
@@ -91,23 +93,26 @@ pub(crate) fn ran_by_links<R: Threads + Sync, L: Links, G: Gate>(
     }
 }
 
-/// How a file ends that is run by that log, and what the task prints of that.
+/// How a file ends that is run by that log of that version, and what the task prints of that.
 pub(crate) fn ran_by_log(
     alloc: Global,
     file: File,
     task: Task,
+    version: u8,
     log: &[u8],
 ) -> Result<Answer, NoMemory>
     requires within { IsWithin limits (file_of file) }
     requires replays { IsReplay task }
+    requires version { IsVersion version }
     requires few { length log.now ≤ source_limit }
-    ensures { IfOk result (λ a. (links : LinkUseAt) → AnswersFile links task log.now (file_of file) (answer_at a)) }
+    ensures { IfOk result (λ a. (links : LinkUseAt) → AnswersFile links task (log_at version log.now)
+        (file_of file) (answer_at a)) }
 {
     let accepted = match judge(alloc, file)? {
         Judged::Accepted(accepted) => accepted,
         Judged::Fault(rule, line) => return Ok(Answer::Check(rule, line)),
     };
-    match replayed(alloc, &accepted, task, log) {
+    match replayed(alloc, &accepted, task, version, log) {
         Ok((verdict, text)) => Ok(Answer::Ran(verdict, text)),
         Err(fault) => {
             let answer = not_replayed(alloc, accepted.file(), fault)?;

@@ -8,10 +8,9 @@ ghost use Rattle.sj_tool.specs.Runs.{log_part};
 use sj_base::NoMemory;
 use sj_end::Line;
 use sj_lang::File;
-use sj_print::print_line;
-use sj_text::put;
+use sj_print::{print_line, print_mark};
 
-/// Puts the line `%%log` and then the lines behind the text, where the log is asked for.
+/// Puts the line of the log's version and then the lines behind the text, where the log is asked for.
 pub(crate) fn put_log(
     text: &mut Vec<u8>,
     file: &File,
@@ -24,7 +23,7 @@ pub(crate) fn put_log(
     if !log {
         return Ok(());
     }
-    put(text, b"%%log\n")?;
+    print_mark(text, lines)?;
     put_lines(text, file, lines)
 }
 

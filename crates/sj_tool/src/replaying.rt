@@ -5,9 +5,10 @@ ghost use Rattle.sj_core.specs.World.{history_of, world_at};
 ghost use Rattle.sj_end.specs.Lines.{line_at};
 ghost use Rattle.sj_lang.specs.FileView.{file_of};
 ghost use Rattle.sj_lang.specs.Limits.{source_limit};
-ghost use Rattle.sj_log.specs.LogText.{SpellsLog};
+ghost use Rattle.sj_print.specs.Version.{IsVersion};
 ghost use Rattle.sj_command.specs.declared.tasks.Task.TheVariants as tasks;
 ghost use Rattle.sj_tool.specs.Calls.{LinkUseAt};
+ghost use Rattle.sj_tool.specs.LogAt.{Spells, log_at};
 ghost use Rattle.sj_tool.specs.Tasks.{Replays};
 ghost use Rattle.sj_tool.specs.Replays.{IsRefusedBy};
 ghost use Rattle.sj_tool.specs.Runs.{HasHistory, HasRun};
@@ -72,33 +73,41 @@ impl From<ReplayRefusal> for ReplayFault {
     }
 }
 
-/// How the file ends, and what the task prints of the history that begins with the log, and goes on
+/// How the file ends, and what the task prints of the history that begins with the log of that version, and goes on
 /// with what is drained of it.
 pub(crate) fn replayed(
     alloc: Global,
     accepted: &Accepted,
     task: Task,
+    version: u8,
     log: &[u8],
 ) -> Result<(Verdict, Vec<u8>), ReplayFault>
     requires replays { Replays task }
+    requires version { IsVersion version }
     requires few { length log.now ≤ source_limit }
     ensures ran { IfOk result (λ p. (links : LinkUseAt)
-        → HasRun links task log.now (file_of (file_in accepted.now)) p.0 p.1.items) }
-    ensures refused { IfErr result (IsRefusedBy (file_of (file_in accepted.now)) log.now) }
+        → HasRun links task (log_at version log.now) (file_of (file_in accepted.now)) p.0 p.1.items) }
+    ensures refused { IfErr result (IsRefusedBy (file_of (file_in accepted.now)) (log_at version log.now)) }
 {
-    let world = drained(alloc, accepted, log)?;
+    let world = drained(alloc, accepted, version, log)?;
     let answer = told(alloc, accepted, task, &world)?;
     Ok(answer)
 }
 
 // The core world to which the log leads, after all that can still happen in it.
-fn drained(alloc: Global, accepted: &Accepted, log: &[u8]) -> Result<World, ReplayFault>
+fn drained(
+    alloc: Global,
+    accepted: &Accepted,
+    version: u8,
+    log: &[u8],
+) -> Result<World, ReplayFault>
+    requires version { IsVersion version }
     requires few { length log.now ≤ source_limit }
     ensures has { IfOk result (λ w. (links : LinkUseAt) (l : Bool)
-        → HasHistory links (tasks.Replay l) log.now (file_of (file_in accepted.now)) (history_of w) (world_at w)) }
-    ensures refused { IfErr result (IsRefusedBy (file_of (file_in accepted.now)) log.now) }
+        → HasHistory links (tasks.Replay l) (log_at version log.now) (file_of (file_in accepted.now)) (history_of w) (world_at w)) }
+    ensures refused { IfErr result (IsRefusedBy (file_of (file_in accepted.now)) (log_at version log.now)) }
 {
-    let lines = lines_of(alloc, accepted, log)?;
+    let lines = lines_of(alloc, accepted, version, log)?;
     let mut world = match World::replayed(alloc, accepted, lines) {
         Ok(world) => world,
         Err(refusal) => return Err(ReplayFault::from(refusal)),
@@ -108,12 +117,18 @@ fn drained(alloc: Global, accepted: &Accepted, log: &[u8]) -> Result<World, Repl
 }
 
 // The lines of the log.
-fn lines_of(alloc: Global, accepted: &Accepted, log: &[u8]) -> Result<Vec<Line>, ReplayFault>
+fn lines_of(
+    alloc: Global,
+    accepted: &Accepted,
+    version: u8,
+    log: &[u8],
+) -> Result<Vec<Line>, ReplayFault>
+    requires version { IsVersion version }
     requires few { length log.now ≤ source_limit }
-    ensures spells { IfOk result (λ v. SpellsLog (file_of (file_in accepted.now)) log.now (map line_at v.items)) }
-    ensures refused { IfErr result (IsRefusedBy (file_of (file_in accepted.now)) log.now) }
+    ensures spells { IfOk result (λ v. Spells (file_of (file_in accepted.now)) (log_at version log.now) (map line_at v.items)) }
+    ensures refused { IfErr result (IsRefusedBy (file_of (file_in accepted.now)) (log_at version log.now)) }
 {
-    match read_log(alloc, log, accepted.file()) {
+    match read_log(alloc, log, accepted.file(), version) {
         Ok(lines) => Ok(lines),
         Err(LogRefusal::At { rule, line }) => Err(ReplayFault::Text { rule, line }),
         Err(LogRefusal::NoMemory) => Err(ReplayFault::NoMemory),

@@ -5,6 +5,7 @@ ghost use Rattle.sj_core.specs.World.{history_of, world_at};
 ghost use Rattle.sj_lane.specs.Told.{Rose};
 ghost use Rattle.sj_lang.specs.FileView.{file_of};
 ghost use Rattle.sj_run.specs.Damage.{IsDamaged, IsDamagedSo};
+ghost use Rattle.sj_tool.specs.LogAt.{LogAt};
 ghost use Rattle.sj_tool.specs.Calls.{link_use};
 ghost use Rattle.sj_tool.specs.Tasks.{RunsParties, looks_of};
 ghost use Rattle.sj_tool.specs.Runs.{HasHistory, HasRun};
@@ -34,7 +35,7 @@ pub(crate) fn ran<R: Threads + Sync, L: Links, G: Gate>(
     gate: &G,
 ) -> Result<(Verdict, Vec<u8>), RunRefusal>
     requires { RunsParties task }
-    ensures ran { IfOk result (λ p. (log : List ℕ)
+    ensures ran { IfOk result (λ p. (log : LogAt)
         → HasRun (link_use L.tells L.faults L.sent L.got L.vain_out L.vain_in links.old links.new)
         task log (file_of (file_in accepted.now)) p.0 p.1.items) }
     ensures link_fault { result ≡ Err RunRefusal.LinkFault → Rose (L.faults links.old) (L.faults links.new) }
@@ -56,7 +57,7 @@ fn drained<R: Threads + Sync, L: Links, G: Gate>(
     gate: &G,
 ) -> Result<World, RunRefusal>
     requires { RunsParties task }
-    ensures has { IfOk result (λ w. (log : List ℕ)
+    ensures has { IfOk result (λ w. (log : LogAt)
         → HasHistory (link_use L.tells L.faults L.sent L.got L.vain_out L.vain_in links.old links.new)
         task log (file_of (file_in accepted.now)) (history_of w) (world_at w)) }
     ensures link_fault { result ≡ Err RunRefusal.LinkFault → Rose (L.faults links.old) (L.faults links.new) }

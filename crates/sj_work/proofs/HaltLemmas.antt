@@ -10,12 +10,13 @@ use Rattle.sj_semantics.specs.Program.{Program}
 use Rattle.sj_rules.specs.Node.{NodeAt}
 use Rattle.sj_rules.specs.Mapped.{frame_with, main_with, old_with}
 use Rattle.sj_rules.specs.Record.{MainAt, Held, Closed, Expected}
-use Rattle.sj_rules.specs.Halts.{is_delegated_enough, is_expected, lacks_message}
+use Rattle.sj_rules.specs.Halts.{is_delegated_enough, is_empty, is_expected, lacks_message}
+use Rattle.sj_rules.specs.Limits.{limit_of_requests}
 use Rattle.sj_node.specs.declared.node.Node.{Node}
 use Rattle.sj_node.specs.declared.refusal.Halt.{Halt}
 use Rattle.sj_node.specs.declared.refusal.Halt.TheVariants as halts
 use Rattle.sj_node.specs.Halts.{hold_up, names_awaited, stop_by, stop_wanting}
-use Rattle.sj_node.specs.Node.{node_at, outbox_of, steps_of, stop_of, wants_of}
+use Rattle.sj_node.specs.Node.{node_at, offers_of, outbox_of, steps_of, stop_of, wants_of}
 use Rattle.sj_node.specs.Outs.{waiting_in}
 use Rattle.sj_node.specs.Play.{next_want}
 use Rattle.sj_node.specs.Reading.{IsFinished}
@@ -51,34 +52,41 @@ module _ {P R : Type 0} (f : P → R) where
   named_with main (wants.Delegate e y) = λ i. awaited_with (main e) i || awaited_with (main y) i
   named_with main (wants.Take e a) = awaited_with (main e)
   named_with main (wants.Close e) = awaited_with (main e)
+  named_with main (wants.Request p to) = refl
+  named_with main (wants.Accept p from) = refl
   named_with main wants.Ended = refl
 
-  up_with : (main : EndId → Option (MainAt P)) (want : Want) → hold_up (λ e. option_map (main_with f) (main e)) want ≡ hold_up main want
-  up_with main wants.Local = refl
-  up_with main (wants.Send e m) = refl
-  up_with main (wants.Delegate e y) = ap (λ b. if b then Some halts.AtLimit else None) (enough_with (main y))
-  up_with main (wants.Take e a) = ap (λ b. if b then Some halts.Waits else None) (lacks_with (main e))
-  up_with main (wants.Close e) = refl
-  up_with main wants.Ended = refl
+  module _ (requests : ℕ) (offers : ℕ → List ℕ) where
+    up_with : (main : EndId → Option (MainAt P)) (want : Want) → hold_up (λ e. option_map (main_with f) (main e)) requests offers want ≡ hold_up main requests offers want
+    up_with main wants.Local = refl
+    up_with main (wants.Send e m) = refl
+    up_with main (wants.Delegate e y) = ap (λ b. if b then Some halts.AtLimit else None) (enough_with (main y))
+    up_with main (wants.Take e a) = ap (λ b. if b then Some halts.Waits else None) (lacks_with (main e))
+    up_with main (wants.Close e) = refl
+    up_with main (wants.Request p to) = refl
+    up_with main (wants.Accept p from) = refl
+    up_with main wants.Ended = refl
 
-  wanting_with : (main : EndId → Option (MainAt P)) (steps : ℕ) (want : Want) → stop_wanting (λ e. option_map (main_with f) (main e)) steps want ≡ stop_wanting main steps want
-  wanting_with main steps want = λ i. if nat_lt steps 10000 then (if named_with main want i then Some halts.Waits else up_with main want i) else Some halts.AtLimit
+    wanting_with : (main : EndId → Option (MainAt P)) (steps : ℕ) (want : Want) → stop_wanting (λ e. option_map (main_with f) (main e)) requests offers steps want ≡ stop_wanting main requests offers steps want
+    wanting_with main steps want = λ i. if nat_lt steps 10000 then (if named_with main want i then Some halts.Waits else up_with main want i) else Some halts.AtLimit
 
-  -- other places hold nothing up
-  stop_with : (main : EndId → Option (MainAt P)) (steps : ℕ) (want : Want) → stop_by (λ e. option_map (main_with f) (main e)) steps want ≡ stop_by main steps want
-  stop_with main steps wants.Local = wanting_with main steps wants.Local
-  stop_with main steps (wants.Send e m) = wanting_with main steps (wants.Send e m)
-  stop_with main steps (wants.Delegate e y) = wanting_with main steps (wants.Delegate e y)
-  stop_with main steps (wants.Take e a) = wanting_with main steps (wants.Take e a)
-  stop_with main steps (wants.Close e) = wanting_with main steps (wants.Close e)
-  stop_with main steps wants.Ended = refl
+    -- other places hold nothing up
+    stop_with : (main : EndId → Option (MainAt P)) (steps : ℕ) (want : Want) → stop_by (λ e. option_map (main_with f) (main e)) requests offers steps want ≡ stop_by main requests offers steps want
+    stop_with main steps wants.Local = wanting_with main steps wants.Local
+    stop_with main steps (wants.Send e m) = wanting_with main steps (wants.Send e m)
+    stop_with main steps (wants.Delegate e y) = wanting_with main steps (wants.Delegate e y)
+    stop_with main steps (wants.Take e a) = wanting_with main steps (wants.Take e a)
+    stop_with main steps (wants.Close e) = wanting_with main steps (wants.Close e)
+    stop_with main steps (wants.Request p to) = wanting_with main steps (wants.Request p to)
+    stop_with main steps (wants.Accept p from) = wanting_with main steps (wants.Accept p from)
+    stop_with main steps wants.Ended = refl
 
 -- what holds a party up
 abbrev held_at_node : NodeAt Place Program → Option Halt
-held_at_node n = stop_by n.main n.program.steps (next_want n.program)
+held_at_node n = stop_by n.main n.requests n.offers n.program.steps (next_want n.program)
 
 stop_seen : (n : Node) → held_at_node (node_at n) ≡ stop_of n
-stop_seen n = stop_with (place_in n.table) (mains_in n.mains.items) (steps_of n) (wants_of n)
+stop_seen n = stop_with (place_in n.table) n.requests (offers_of n) (mains_in n.mains.items) (steps_of n) (wants_of n)
 
 -- nodes alike are held up alike
 pub stop_same : (a b : Node) → node_at b ≡ node_at a → stop_of b ≡ stop_of a
@@ -89,33 +97,38 @@ if_halted : (b : Bool) (h : Halt) (o : Option Halt) → IsHalted (Some h) → (o
 if_halted true h o halted rest = inr halted
 if_halted false h o halted rest = rest
 
-up_halted : {P : Type 0} (main : EndId → Option (MainAt P)) (want : Want) → (hold_up main want ≡ None) ⊎ IsHalted (hold_up main want)
-up_halted main wants.Local = inl refl
-up_halted main (wants.Send e m) = inl refl
-up_halted main (wants.Delegate e y) = if_halted (is_delegated_enough (main y)) halts.AtLimit None tt (inl refl)
-up_halted main (wants.Take e a) = if_halted (lacks_message (main e)) halts.Waits None tt (inl refl)
-up_halted main (wants.Close e) = inl refl
-up_halted main wants.Ended = inl refl
-
 low_halted : (b : Bool) (o : Option Halt) → (o ≡ None) ⊎ IsHalted o → ((if b then o else Some halts.AtLimit) ≡ None) ⊎ IsHalted (if b then o else Some halts.AtLimit)
 low_halted true o rest = rest
 low_halted false o rest = inr tt
 
-wanting_halted : {P : Type 0} (main : EndId → Option (MainAt P)) (steps : ℕ) (want : Want) → (stop_wanting main steps want ≡ None) ⊎ IsHalted (stop_wanting main steps want)
-wanting_halted main steps want =
-    low_halted (nat_lt steps 10000) (if names_awaited main want then Some halts.Waits else hold_up main want)
-    (if_halted (names_awaited main want) halts.Waits (hold_up main want) tt (up_halted main want))
+module _ {P : Type 0} (main : EndId → Option (MainAt P)) (requests : ℕ) (offers : ℕ → List ℕ) where
+  up_halted : (want : Want) → (hold_up main requests offers want ≡ None) ⊎ IsHalted (hold_up main requests offers want)
+  up_halted wants.Local = inl refl
+  up_halted (wants.Send e m) = inl refl
+  up_halted (wants.Delegate e y) = if_halted (is_delegated_enough (main y)) halts.AtLimit None tt (inl refl)
+  up_halted (wants.Take e a) = if_halted (lacks_message (main e)) halts.Waits None tt (inl refl)
+  up_halted (wants.Close e) = inl refl
+  up_halted (wants.Request p to) = low_halted (nat_lt requests limit_of_requests) None (inl refl)
+  up_halted (wants.Accept p from) = if_halted (is_empty (offers from)) halts.Waits None tt (inl refl)
+  up_halted wants.Ended = inl refl
 
-by_halted : {P : Type 0} (main : EndId → Option (MainAt P)) (steps : ℕ) (want : Want) → (stop_by main steps want ≡ None) ⊎ IsHalted (stop_by main steps want)
-by_halted main steps wants.Local = wanting_halted main steps wants.Local
-by_halted main steps (wants.Send e m) = wanting_halted main steps (wants.Send e m)
-by_halted main steps (wants.Delegate e y) = wanting_halted main steps (wants.Delegate e y)
-by_halted main steps (wants.Take e a) = wanting_halted main steps (wants.Take e a)
-by_halted main steps (wants.Close e) = wanting_halted main steps (wants.Close e)
-by_halted main steps wants.Ended = inr tt
+  wanting_halted : (steps : ℕ) (want : Want) → (stop_wanting main requests offers steps want ≡ None) ⊎ IsHalted (stop_wanting main requests offers steps want)
+  wanting_halted steps want =
+      low_halted (nat_lt steps 10000) (if names_awaited main want then Some halts.Waits else hold_up main requests offers want)
+      (if_halted (names_awaited main want) halts.Waits (hold_up main requests offers want) tt (up_halted want))
+
+  by_halted : (steps : ℕ) (want : Want) → (stop_by main requests offers steps want ≡ None) ⊎ IsHalted (stop_by main requests offers steps want)
+  by_halted steps wants.Local = wanting_halted steps wants.Local
+  by_halted steps (wants.Send e m) = wanting_halted steps (wants.Send e m)
+  by_halted steps (wants.Delegate e y) = wanting_halted steps (wants.Delegate e y)
+  by_halted steps (wants.Take e a) = wanting_halted steps (wants.Take e a)
+  by_halted steps (wants.Close e) = wanting_halted steps (wants.Close e)
+  by_halted steps (wants.Request p to) = wanting_halted steps (wants.Request p to)
+  by_halted steps (wants.Accept p from) = wanting_halted steps (wants.Accept p from)
+  by_halted steps wants.Ended = inr tt
 
 pub goes_or_halts : (n : Node) → (stop_of n ≡ None) ⊎ IsHalted (stop_of n)
-goes_or_halts n = by_halted (mains_in n.mains.items) (steps_of n) (wants_of n)
+goes_or_halts n = by_halted (mains_in n.mains.items) n.requests (offers_of n) (steps_of n) (wants_of n)
 
 none_before : {X Y : Type 0} (g : X → Y) (o : Option X) → option_map g o ≡ None → o ≡ None
 none_before g None h = refl

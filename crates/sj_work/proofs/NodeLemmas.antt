@@ -12,7 +12,7 @@ use Rattle.sj_end.specs.declared.note.Note.{Note}
 use Rattle.sj_end.specs.Views.{note_at}
 use Rattle.sj_rules.specs.Frames.{FrameAt, frames_for}
 use Rattle.sj_rules.specs.Mapped.{body_with, frame_with}
-use Rattle.sj_rules.specs.Node.{NodeAt, acts, act_by, arrives, comes}
+use Rattle.sj_rules.specs.Node.{NodeAt, acts, act_by, arrives, comes_or_opens}
 use Rattle.sj_rules.proofs.FrameLemmas.{proper-with}
 use Rattle.sj_rules.specs.Rows.{Worked}
 use Rattle.sj_rules.specs.NodeRun.{Deed, Acted, Came, StepAt, Steps, frame_told, told_frames}
@@ -53,7 +53,7 @@ did_clock a b left clock event note d = ap (λ (n : NodeAt Place Program). n.clo
 
 did_keeps : (a b : Node) (left : Worked Place (NodeAt Place Program)) (clock : ℕ) (event : happened.Event) (note : Note) → Did a left clock event note b → clock_of a < clock → Keeps a b
 did_keeps a b left clock event note d rises = record {
-  play = λ i. play_with (start_in (d.table i)) (d.slots i) (d.parties i);
+  play = λ i. play_with (start_in (d.table i)) (d.connects i) (d.parties i);
   party = d.party;
   parties = d.parties;
   clock = let e = did_clock a b left clock event note d in omega arith;
@@ -94,8 +94,8 @@ act_stepped a b does =
     }
 
 -- what the rules make of a frame that comes to the node
-pub arrives_so : (n : Node) (from : ℕ) (f : FrameAt Spot) → arrives n.parties max (node_at n) from (frame_with (place_in n.table) f) ≡ delivery n from f
-arrives_so n from f = ap (λ b. if b then comes max (node_at n) from (body_with (place_in n.table) f.body) else None) (proper-with (place_in n.table) n.parties f)
+pub arrives_so : (n : Node) (from : ℕ) (f : FrameAt Spot) → arrives done n.parties max (node_at n) from (frame_with (place_in n.table) f) ≡ delivery n from f
+arrives_so n from f = ap (λ b. if b then comes_or_opens done max (node_at n) from (body_with (place_in n.table) f.body) else None) (proper-with (place_in n.table) n.parties f)
 
 above : (m k : ℕ) → m < max m k + 1
 above m k = omega arith
@@ -107,7 +107,7 @@ came_stepped a b from f does =
     let clock = max (clock_of a) f.clock + 1 in
     let note = note_at f.body in
     let d = did_of a b (delivery a from f) clock (events.Deliver from) note does in
-    let row : arrives a.parties max (node_at a) from (frame_with (place_in a.table) f) ≡ Some d.0 = arrives_so a from f ∙ d.1 in
+    let row : arrives done a.parties max (node_at a) from (frame_with (place_in a.table) f) ≡ Some d.0 = arrives_so a from f ∙ d.1 in
     let rises : clock_of a < clock = above (clock_of a) f.clock in
     record {
       step = record { deed = Came from (frame_with (place_in a.table) f); entry = entry_at (record { clock = clock; event = events.Deliver from; note = note }); posts = d.0.posts };
@@ -142,7 +142,7 @@ stays_quiet a b s = record {
   node = sym s.node;
   log = ap entries_of s.log;
   keeps = record {
-    play = λ i. play_with (start_in (s.table i)) (s.slots i) (s.parties i);
+    play = λ i. play_with (start_in (s.table i)) (s.connects i) (s.parties i);
     party = s.party;
     parties = s.parties;
     clock = let e : clock_of b ≡ clock_of a = ap (λ (n : NodeAt Place Program). n.clock) s.node in omega arith;
@@ -155,7 +155,7 @@ out_quiet a b s = record {
   node = sym s.node;
   log = ap entries_of s.log;
   keeps = record {
-    play = λ i. play_with (start_in (s.table i)) (s.slots i) (s.parties i);
+    play = λ i. play_with (start_in (s.table i)) (s.connects i) (s.parties i);
     party = s.party;
     parties = s.parties;
     clock = let e : clock_of b ≡ clock_of a = ap (λ (n : NodeAt Place Program). n.clock) s.node in omega arith;

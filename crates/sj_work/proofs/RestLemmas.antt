@@ -62,7 +62,7 @@ takes_later a b c x y = record {
   party = y.party ∙ x.party;
   parties = y.parties ∙ x.parties;
   table = y.table ∙ x.table;
-  slots = y.slots ∙ x.slots;
+  connects = y.connects ∙ x.connects;
 }
 
 -- a node that a frame waits in isn't finished

@@ -9,7 +9,7 @@ use Rattle.sj_end.specs.Views.{frame_at}
 use Rattle.sj_rules.specs.Frames.{FrameAt, is_proper}
 use Rattle.sj_rules.specs.Limits.{clock_end}
 use Rattle.sj_rules.specs.Mapped.{body_with, frame_with}
-use Rattle.sj_rules.specs.Node.{acts, arrives, comes}
+use Rattle.sj_rules.specs.Node.{acts, arrives, comes_or_opens}
 use Rattle.sj_rules.specs.Work.{LostAt}
 use Rattle.sj_joined_laws.proofs.LimitLemmas.{same_arrives}
 use Rattle.sj_lane.specs.declared.lane.PushRefusal.{PushRefusal}
@@ -43,16 +43,16 @@ use Rattle.sj_work.proofs.WentLemmas.{went_again, went_came, went_itself, went_l
 
 -- nodes alike act alike
 act_same : (a b : Node) → Stays a b → act_of b ≡ act_of a
-act_same a b s = λ i. if has_room (s.node i).main (next_want (s.node i).program) then acts (play_with (start_in (s.table i)) (s.slots i) (s.parties i)) (s.party i) (s.node i) else None
+act_same a b s = λ i. if has_room (s.node i).main (next_want (s.node i).program) then acts (play_with (start_in (s.table i)) (s.connects i) (s.parties i)) (s.party i) (s.node i) else None
 
 -- and take frames alike
 delivery_same : (a b : Node) (from : ℕ) (f : Frame) → Stays a b → delivery b from (frame_at f) ≡ delivery a from (frame_at f)
-delivery_same a b from f s = λ i. if is_proper (s.parties i) (frame_at f) then comes max (s.node i) from (body_with (place_in (s.table i)) (frame_at f).body) else None
+delivery_same a b from f s = λ i. if is_proper (s.parties i) (frame_at f) then comes_or_opens done max (s.node i) from (body_with (place_in (s.table i)) (frame_at f).body) else None
 
 -- what the rules make of a frame is what they make of it as a lane tells it
-arrives_told : (n : Node) (from : ℕ) (f : Frame) → arrives (parties_of n) max (node_at n) from (told_frame f) ≡ delivery n from (frame_at f)
+arrives_told : (n : Node) (from : ℕ) (f : Frame) → arrives done (parties_of n) max (node_at n) from (told_frame f) ≡ delivery n from (frame_at f)
 arrives_told n from f =
-    same_arrives (parties_of n) max done (node_at n) from (told_frame f) (frame_with (place_in n.table) (frame_at f))
+    same_arrives done (parties_of n) max done (node_at n) from (told_frame f) (frame_with (place_in n.table) (frame_at f))
     (told_with (λ s. done) (frame_at f) ∙ sym (told_with (place_in n.table) (frame_at f))) ∙ arrives_so n from (frame_at f)
 
 -- a frame that didn't stop the worker raised the clock

@@ -1,6 +1,6 @@
 -- Why a call of a worker answered so.
 use Rattle.std.specs.Prelude.{◌≡◌, ◌⊎◌, ℕ, ◌+◌, ◌<◌, ◌≤◌, max, min, ⊤, [], Option, Some, None, option_map}
-use Rattle.sj_lang.specs.Place.{Place}
+use Rattle.sj_lang.specs.Place.{Place, done}
 use Rattle.sj_end.specs.declared.note.Entry.{Entry}
 use Rattle.sj_end.specs.declared.note.Event.TheVariants as events
 use Rattle.sj_end.specs.declared.note.Line.{Line}
@@ -46,7 +46,7 @@ lost_line n l = own_line n (record { clock = max (clock_of n) (min l.frame.clock
 -- and the rules have no act. The line is that of the delivery, or of the entry that is due
 abbrev pub IsUnfit : Option (LostAt Place) → Node → Option Line → Type 0
 IsUnfit (Some l) n line =
-    (l.party < parties_of n) × (arrives (parties_of n) max (node_at n) l.party l.frame ≡ None) × (line ≡ Some (lost_line n l))
+    (l.party < parties_of n) × (arrives done (parties_of n) max (node_at n) l.party l.frame ≡ None) × (line ≡ Some (lost_line n l))
 IsUnfit None n line = (nodes.stop_of n ≡ None) × (act_of n ≡ None) × (line ≡ option_map (own_line n) (due_of n))
 
 module _ {O I : Type 0} where
@@ -68,7 +68,7 @@ module _ {O I : Type 0} (out_vain : O → ℕ) (in_vain : I → ℕ) where
     pub outs : OutVain out_vain looks old new
 
 module _ {O I : Type 0} where
-  -- the party has done all steps that it may do, and what waits was tried to push
+  -- the party is at a limit, and what waits was tried to push
   abbrev pub IsAtLimit : (out_vain : O → ℕ) → (old new : Worker O I) → Type 0
   IsAtLimit out_vain old new = (nodes.stop_of (node_of new) ≡ Some halts.AtLimit) × OutVain out_vain 1 old new
 

@@ -28,7 +28,8 @@ pub enum Stop {
     Finished,
     /// The party waits or has ended, and so many turns in a row had no event.
     Idle,
-    /// The party has done all steps that it may do.
+    /// The party has done all steps that it may do, or would delegate an end or open a session once
+    /// too often.
     AtLimit,
     /// The clock can't rise any more.
     ClockEnd,

@@ -1,4 +1,5 @@
-//! The file of the greeting: a sends 5 on x, and b takes it from y.
+//! The file of the greeting: a sends 5 on x, and b takes it from y. The two ends are connected, or
+//! a requests the session and b accepts it.
 use crate::work_tests::{A, B};
 use sj_check::{Accepted, check, is_within_limits};
 use sj_lang::{
@@ -51,41 +52,42 @@ fn protocols(alloc: Global) -> Result<Vec<ProtocolDef>, AllocError> {
     Ok(Vec::from_array(alloc, [protocol(P, sends), protocol(Q, takes)])?)
 }
 
-fn parties(alloc: Global) -> Result<Vec<Party>, AllocError> {
-    let value = Expr::Int(5);
-    let take = Deed::Take {
+fn send() -> Stmt {
+    stmt(Deed::Send {
+        end: X,
+        value: Expr::Int(5),
+    })
+}
+
+fn take() -> Stmt {
+    stmt(Deed::Take {
         end: Y,
         into: N,
         kind: Scalar::Int,
-    };
-    let says = [
-        stmt(Deed::Send { end: X, value }),
-        stmt(Deed::Close { end: X }),
-    ];
-    let says = Vec::from_array(alloc, says)?;
-    let hears = [stmt(take), stmt(Deed::Close { end: Y })];
-    let hears = Vec::from_array(alloc, hears)?;
-    Ok(Vec::from_array(alloc, [party(A, says), party(B, hears)])?)
+    })
 }
 
-fn file(alloc: Global) -> Result<File, AllocError> {
-    let connect = Connect {
-        line: 1,
-        first: declared(A, X, P),
-        second: declared(B, Y, Q),
-    };
+fn close(end: u16) -> Stmt {
+    stmt(Deed::Close { end })
+}
+
+fn file(
+    alloc: Global,
+    says: Vec<Stmt>,
+    hears: Vec<Stmt>,
+    connects: Vec<Connect>,
+) -> Result<File, AllocError> {
     let protocols = protocols(alloc)?;
-    let parties = parties(alloc)?;
+    let parties = Vec::from_array(alloc, [party(A, says), party(B, hears)])?;
     Ok(File {
         names: Names::new(alloc),
         protocols,
         parties,
-        connects: Vec::from_array(alloc, [connect])?,
+        connects,
     })
 }
 
-pub fn greeting(alloc: Global) -> Result<Accepted, Fail> {
-    let file = file(alloc)?;
+fn accepted(alloc: Global, file: File) -> Result<Accepted, Fail> {
     if !is_within_limits(&file) {
         return Err(Fail::from("too large"));
     }
@@ -93,4 +95,33 @@ pub fn greeting(alloc: Global) -> Result<Accepted, Fail> {
         Ok(accepted) => Ok(accepted),
         Err(_) => Err(Fail::from("refused")),
     }
+}
+
+pub fn greeting(alloc: Global) -> Result<Accepted, Fail> {
+    let says = Vec::from_array(alloc, [send(), close(X)])?;
+    let hears = Vec::from_array(alloc, [take(), close(Y)])?;
+    let connect = Connect {
+        line: 1,
+        first: declared(A, X, P),
+        second: declared(B, Y, Q),
+    };
+    let connects = Vec::from_array(alloc, [connect])?;
+    accepted(alloc, file(alloc, says, hears, connects)?)
+}
+
+/// Without a connection: a requests the session, and b accepts it.
+pub fn opened(alloc: Global) -> Result<Accepted, Fail> {
+    let request = stmt(Deed::Request {
+        end: X,
+        protocol: P,
+        party: B,
+    });
+    let accept = stmt(Deed::Accept {
+        end: Y,
+        protocol: Q,
+        party: A,
+    });
+    let says = Vec::from_array(alloc, [request, send(), close(X)])?;
+    let hears = Vec::from_array(alloc, [accept, take(), close(Y)])?;
+    accepted(alloc, file(alloc, says, hears, Vec::new(alloc))?)
 }

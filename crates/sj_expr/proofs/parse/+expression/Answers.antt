@@ -67,7 +67,7 @@ factor-returns-in_err-expect-in-Parens-clause-fault t c =
     (subst (λ (x : Opening). TakesText c.args.tokens.now (opening_piece x) c.take_opening.new.tokens) c.in-Parens.is c.in_ok-take_opening.ensures.ok) in
     err_as _ (refusals.At f) (OnFault (λ f. Inside c.args.count.now a (factor o ∷ []) f)) c.from_residual-in_err-expect-in-Parens.ensures.1
     (close_inside c.args.count.now c.whole.new.count o (o + 1) a m b (term_of c.in_ok-inner-in-Parens.inner) f (add-one o) (leb-false 32 o c.in_ok-take_opening.ensures.room) taken c.in_ok-inner-in-Parens.ensures.reads
-    c.in_ok-inner-in-Parens.ensures.count c.in_err-expect-in-Parens.ensures.fault)
+    c.in_ok-inner-in-Parens.ensures.leaves.count c.in_err-expect-in-Parens.ensures.fault)
 
 pub factor-returns-in_ok-negated-in-Not-clause-reads : goal.factor-returns-in_ok-negated-in-Not-clause-reads
 factor-returns-in_ok-negated-in-Not-clause-reads t c =
@@ -106,8 +106,8 @@ sum-terms-init t c =
     record {
       reads = term_read c.args.depth (standing c.args.tokens.now c.args.names.now) b (term_of c.in_ok-left.left) was.reads;
       ends = was.ends;
-      count = was.count;
-      few = was.few;
+      count = was.leaves.count;
+      few = was.leaves.few;
       room = was.leaves.room;
       shorter = was.leaves.shorter;
       kept = was.leaves.kept;
@@ -139,8 +139,8 @@ sum-terms-preserved t c =
     record {
       reads = subst (λ (e : Term). ReadsLevel level.sum o a z e) (sym c.in_ok-left-2.ensures) (sign_read op o a b u z (term_of c.terms.left) (term_of c.in_ok-right.right) c.in-Some.ensures.sign c.terms.invariant.reads taken right.reads);
       ends = right.ends;
-      count = omega (arith, both, right.count, c.terms.invariant.count);
-      few = right.few;
+      count = omega (arith, both, right.leaves.count, c.terms.invariant.count);
+      few = right.leaves.few;
       room = stays_on c.args.names.now c.terms.names c.term-in-Some.new.names c.args.tokens.now c.terms.tokens c.take_sign.new.tokens c.term-in-Some.new.tokens c.terms.invariant.room c.in-Some.ensures.shorter right.leaves.room;
       shorter = omega (arith, right.leaves.shorter, c.in-Some.ensures.shorter, c.terms.invariant.shorter);
       kept = grows_on c.args.names.now c.terms.names c.term-in-Some.new.names c.terms.invariant.kept right.leaves.kept;
@@ -160,8 +160,8 @@ term-factors-init t c =
     let was = c.in_ok-left.ensures in
     record {
       reads = factor_read c.args.depth (standing c.args.tokens.now c.args.names.now) b (term_of c.in_ok-left.left) was.reads;
-      count = was.count;
-      few = was.few;
+      count = was.leaves.count;
+      few = was.leaves.few;
       room = was.leaves.room;
       shorter = was.leaves.shorter;
       kept = was.leaves.kept;
@@ -206,8 +206,8 @@ term-factors-preserved t c =
     let both : operand_count (term_of c.in_ok-left-2.left) ≡ operand_count (term_of c.factors.left) + operand_count (term_of c.in_ok-right.right) = ap operand_count c.in_ok-left-2.ensures in
     record {
       reads = subst (λ (e : Term). ReadsLevel level.term o a z e) (sym c.in_ok-left-2.ensures) (product_read o a b u z (term_of c.factors.left) (term_of c.in_ok-right.right) c.factors.invariant.reads taken right.reads);
-      count = omega (arith, both, right.count, c.factors.invariant.count);
-      few = right.few;
+      count = omega (arith, both, right.leaves.count, c.factors.invariant.count);
+      few = right.leaves.few;
       room = stays_on c.args.names.now c.factors.names c.factor-in-factors.new.names c.args.tokens.now c.factors.tokens c.accept.new.self c.factor-in-factors.new.tokens c.factors.invariant.room shorter right.leaves.room;
       shorter = omega (arith, right.leaves.shorter, shorter, c.factors.invariant.shorter);
       kept = grows_on c.args.names.now c.factors.names c.factor-in-factors.new.names c.factors.invariant.kept right.leaves.kept;
@@ -223,7 +223,7 @@ whole-returns-in_err-right-clause-fault t c =
     let u = standing c.take_comparison.new.tokens c.sum.new.names in
     let taken : Takes b (op_piece op) u = op_taken op c.sum.new.tokens c.take_comparison.new.tokens c.sum.new.names.words c.sum.new.names.texts c.in-Some.ensures.taken in
     err_fault _ c.in_err-right.field-0.0 (λ f. Inside c.sum.new.count u (factor o ∷ times o ∷ plus o ∷ []) f) (λ f. Inside c.args.count.now a (expression_at o) f) c.from_residual-in_err-right.ensures.1
-    (λ f st. whole_next op c.args.count.now c.sum.new.count o a b u (term_of c.in_ok-left.left) f c.in-Some.ensures.comparison c.in_ok-left.ensures.reads c.in_ok-left.ensures.count c.in_ok-left.ensures.few taken st) c.in_err-right.ensures.fault
+    (λ f st. whole_next op c.args.count.now c.sum.new.count o a b u (term_of c.in_ok-left.left) f c.in-Some.ensures.comparison c.in_ok-left.ensures.reads c.in_ok-left.ensures.leaves.count c.in_ok-left.ensures.leaves.few taken st) c.in_err-right.ensures.fault
 
 pub whole-returns-in-Some-clause-reads : goal.whole-returns-in-Some-clause-reads
 whole-returns-in-Some-clause-reads t c =
@@ -237,7 +237,7 @@ whole-returns-in-Some-clause-reads t c =
     let left = term_of c.in_ok-left.left in
     let right = term_of c.in_ok-right.right in
     let taken : Takes b (op_piece op) u = op_taken op c.sum.new.tokens c.take_comparison.new.tokens c.sum.new.names.words c.sum.new.names.texts c.in-Some.ensures.taken in
-    let few : n + (operand_count left + operand_count right) ≤ 256 = omega (arith, c.in_ok-left.ensures.count, c.in_ok-right.ensures.count, c.in_ok-right.ensures.few) in
+    let few : n + (operand_count left + operand_count right) ≤ 256 = omega (arith, c.in_ok-left.ensures.leaves.count, c.in_ok-right.ensures.leaves.count, c.in_ok-right.ensures.leaves.few) in
     subst (λ (e : Term). ReadsWhole n o a z e) (sym c.in_ok-joined.ensures)
     (compared_whole op n o a b u z left right few c.in-Some.ensures.comparison c.in_ok-left.ensures.reads taken c.in_ok-right.ensures.reads c.in_ok-right.ensures.ends.0 c.in_ok-right.ensures.ends.1)
 
@@ -247,6 +247,6 @@ whole-returns-clause-reads t c =
     let n = c.args.count.now in
     let a = standing c.args.tokens.now c.args.names.now in
     let left = term_of c.in_ok-left.left in
-    let few : n + operand_count left ≤ 256 = omega (arith, c.in_ok-left.ensures.count, c.in_ok-left.ensures.few) in
+    let few : n + operand_count left ≤ 256 = omega (arith, c.in_ok-left.ensures.leaves.count, c.in_ok-left.ensures.leaves.few) in
     subst (λ (r : Reading). ReadsWhole n o a (standing r c.sum.new.names) left) (sym c.in_default.ensures.kept)
     (sum_whole n o a (standing c.sum.new.tokens c.sum.new.names) left few c.in_ok-left.ensures.reads c.in_ok-left.ensures.ends.0 c.in_ok-left.ensures.ends.1 (c.in_default.ensures.none o))

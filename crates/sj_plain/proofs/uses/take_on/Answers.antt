@@ -1,19 +1,14 @@
-use Rattle.std.proofs.Common.{arith, sym}
-use Rattle.std.proofs.lemmas.List.{length-map}
-use Rattle.std.proofs.lemmas.Result.{err_from_is_err_and}
-use Rattle.sj_plain.specs.Ends.{session_at}
+use Rattle.std.proofs.Common.{arith}
+use Rattle.sj_semantics.specs.Uses.{end_after, on_side, takes}
 use Rattle.sj_plain.specs.Stepping.{sessions_at}
-use Rattle.sj_plain.proofs.UseLemmas.{altered-past, map-same, map-set}
+use Rattle.sj_plain.proofs.ReachLemmas.{altered_once, taken_back}
 use Rattle.sj_plain.proofs.uses.take_on.Goals as goal
 
-pub returns-in_err-take-clause-err : goal.returns-in_err-take-clause-err
-returns-in_err-take-clause-err c =
-    let p = err_from_is_err_and c.from_residual.result c.from_residual.ensures.1 in
-    rw (p.1) (map-same session_at c.args.sessions.now.items c.args.end.sess c.index_mut-session.result.now c.take.new.self (omega arith) c.index_mut-session.ensures.value c.in_err-take.ensures.err)
+pub returns-in-Err-clause-err : goal.returns-in-Err-clause-err
+returns-in-Err-clause-err c =
+    taken_back c.args.sessions.now.items c.reach.new.sessions.items c.take_there.new.sessions.items c.truncate.new.self.items c.len-before.result (omega (arith, c.len-before.ensures)) c.truncate.ensures.items
+    c.in_ok-reach.ensures.front c.in-Err.ensures.err
 
-pub returns-in_ok-take-clause-ok : goal.returns-in_ok-take-clause-ok
-returns-in_ok-take-clause-ok c =
-    map-set session_at c.args.sessions.now.items c.args.end.sess c.index_mut-session.result.now c.take.new.self _ (omega arith) c.index_mut-session.ensures.value c.in_ok-take.ensures.ok
-
-pub returns-else-at-len-clause-ok : goal.returns-else-at-len-clause-ok
-returns-else-at-len-clause-ok c = sym (altered-past (sessions_at c.args.sessions.now.items) c.args.end.sess _ (omega (arith, length-map c.args.sessions.now.items session_at)))
+pub returns-clause-ok : goal.returns-clause-ok
+returns-clause-ok c =
+    altered_once (sessions_at c.args.sessions.now.items) (sessions_at c.reach.new.sessions.items) (sessions_at c.take_there.new.sessions.items) c.args.end.sess (on_side c.args.end.side (end_after c.args.party (takes c.args.msg.now))) c.in_ok-reach.ensures.ok c.in_default.ensures.ok

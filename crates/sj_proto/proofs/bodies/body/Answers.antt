@@ -42,7 +42,7 @@ returns-then-accept-clause-reads c =
     let begun = standing c.expect.new.self names in
     let dot = standing c.accept.new.self names in
     let end = standing c.seq.new.tokens c.seq.new.names in
-    let few : item_count p ≤ 1024 = omega (arith, c.in_ok-p.ensures.count, c.in_ok-p.ensures.few) in
+    let few : item_count p ≤ 1024 = omega (arith, c.in_ok-p.ensures.leaves.count, c.in_ok-p.ensures.leaves.few) in
     Gives-as start end (λ word. codes "begin" ∷ codes "." ∷ seq_pieces word p) (λ word. body_pieces word p) (λ word. IsGiven limits word 0 p) (λ word. IsBody limits word p)
     (λ word. ap (λ ps. codes "begin" ∷ ps) (dotted_some word p c.in_ok-p.ensures.some)) (λ word h. record { given = h; few = few })
     (Gives-cons start begun end (codes "begin") (λ word. codes "." ∷ seq_pieces word p) (λ word. IsGiven limits word 0 p) (took_begin c.args.tokens.now c.expect.new.self names c.in_ok-expect.ensures.ok)

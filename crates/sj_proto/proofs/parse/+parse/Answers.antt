@@ -83,7 +83,7 @@ carried-returns-in_err-expect-4-clause-fault t c =
     let f = c.in_err-expect-4.field-0.0 in
     err_as _ (refusals.At f) _ c.from_residual-in_err-expect-4.ensures.1
     (λ ds. subst (λ (r : Reading). Stuck file_layer limits c.args.items.now (standing r c.args.names.now) (proto (kind c.args.depth) ∷ proto (fixed (close_piece c.args.way)) ∷ ds) f) same
-    (leads_items now there c.in_ok-p.p c.args.depth c.args.items.now c.seq.new.items (proto (fixed (close_piece c.args.way)) ∷ ds) f c.in_ok-p.ensures.reads c.in_ok-p.ensures.count c.in_ok-p.ensures.few (kind c.args.depth) (kind_like limits c.args.depth) c.in_ok-p.ensures.some c.in_ok-p.ensures.ends
+    (leads_items now there c.in_ok-p.p c.args.depth c.args.items.now c.seq.new.items (proto (fixed (close_piece c.args.way)) ∷ ds) f c.in_ok-p.ensures.reads c.in_ok-p.ensures.leaves.count c.in_ok-p.ensures.leaves.few (kind c.args.depth) (kind_like limits c.args.depth) c.in_ok-p.ensures.some c.in_ok-p.ensures.ends
     (close_fault c.args.way c.close_bytes-2.result.now c.seq.new.tokens c.seq.new.names c.seq.new.items ds f c.close_bytes-2.ensures c.in_err-expect-4.ensures.fault)))
 
 pub carried-returns-clause-reads : goal.carried-returns-clause-reads
@@ -254,14 +254,14 @@ pub turns-returns-in_err-expect-clause-fault : goal.turns-returns-in_err-expect-
 turns-returns-in_err-expect-clause-fault t c =
     let f = c.in_err-expect.field-0.0 in
     err_as _ (refusals.At f) _ c.from_residual-in_err-expect.ensures.1
-    (λ ds. leads_maybe (standing c.args.tokens.now c.args.names.now) (standing c.maybe.new.tokens c.maybe.new.names) c.in_ok-body.body c.args.depth c.args.items.now c.maybe.new.items (proto (fixed (codes "]")) ∷ proto (fixed (codes "*")) ∷ ds) f c.in_ok-body.ensures.reads c.in_ok-body.ensures.count c.in_ok-body.ensures.few c.in_ok-body.ensures.ends
+    (λ ds. leads_maybe (standing c.args.tokens.now c.args.names.now) (standing c.maybe.new.tokens c.maybe.new.names) c.in_ok-body.body c.args.depth c.args.items.now c.maybe.new.items (proto (fixed (codes "]")) ∷ proto (fixed (codes "*")) ∷ ds) f c.in_ok-body.ensures.reads c.in_ok-body.ensures.leaves.count c.in_ok-body.ensures.leaves.few c.in_ok-body.ensures.ends
     (refuses_stuck file_layer limits (but (codes "]")) c.maybe.new.items (standing c.maybe.new.tokens c.maybe.new.names) (proto (fixed (codes "]")) ∷ proto (fixed (codes "*")) ∷ ds) f refl (piece_rule (codes "]") c.maybe.new.items (proto (fixed (codes "*")) ∷ ds) refl) c.in_err-expect.ensures.fault))
 
 pub turns-returns-in_err-expect-2-clause-fault : goal.turns-returns-in_err-expect-2-clause-fault
 turns-returns-in_err-expect-2-clause-fault t c =
     let f = c.in_err-expect-2.field-0.0 in
     err_as _ (refusals.At f) _ c.from_residual-in_err-expect-2.ensures.1
-    (λ ds. leads_maybe (standing c.args.tokens.now c.args.names.now) (standing c.maybe.new.tokens c.maybe.new.names) c.in_ok-body.body c.args.depth c.args.items.now c.maybe.new.items (proto (fixed (codes "]")) ∷ proto (fixed (codes "*")) ∷ ds) f c.in_ok-body.ensures.reads c.in_ok-body.ensures.count c.in_ok-body.ensures.few c.in_ok-body.ensures.ends
+    (λ ds. leads_maybe (standing c.args.tokens.now c.args.names.now) (standing c.maybe.new.tokens c.maybe.new.names) c.in_ok-body.body c.args.depth c.args.items.now c.maybe.new.items (proto (fixed (codes "]")) ∷ proto (fixed (codes "*")) ∷ ds) f c.in_ok-body.ensures.reads c.in_ok-body.ensures.leaves.count c.in_ok-body.ensures.leaves.few c.in_ok-body.ensures.ends
     (stuck_cons file_layer limits c.maybe.new.items c.maybe.new.items (standing c.maybe.new.tokens c.maybe.new.names) (standing c.expect.new.self c.maybe.new.names) (codes "]") (proto (fixed (codes "]")) ∷ proto (fixed (codes "*")) ∷ ds) (proto (fixed (codes "*")) ∷ ds) f (plain c.maybe.new.tokens c.expect.new.self c.maybe.new.names (codes "]") refl refl c.in_ok-expect.ensures.ok) refl
     (refuses_stuck file_layer limits (but (codes "*")) c.maybe.new.items (standing c.expect.new.self c.maybe.new.names) (proto (fixed (codes "*")) ∷ ds) f refl (piece_rule (codes "*") c.maybe.new.items ds refl) c.in_err-expect-2.ensures.fault)))
 
@@ -285,9 +285,15 @@ seq-returns-then-not-accept-clause-reads t c =
     (subst (λ (xs : List Item). Gives (standing c.args.tokens.now c.args.names.now) (standing c.item.new.tokens c.item.new.names) (λ word. seq_pieces word (place_of xs)) (λ word. IsGiven limits word c.args.depth (place_of xs))) (sym c.in_ok-push.ensures.items)
     (item_more (standing c.args.tokens.now c.args.names.now) (standing c.loop-list.tokens c.loop-list.names) (standing c.item.new.tokens c.item.new.names) c.loop-list.list.items c.in_ok-item.field-0 c.args.depth c.loop-list.invariant.reads c.in_ok-item.ensures.reads))
 
-pub seq-returns-then-not-accept-clause-count : goal.seq-returns-then-not-accept-clause-count
-seq-returns-then-not-accept-clause-count t c =
-    rw c.in_ok-push.ensures.items (omega (arith, item_count-push c.loop-list.list.items c.in_ok-item.field-0, c.in_ok-item.ensures.count, c.loop-list.invariant.count))
+pub seq-returns-then-not-accept-clause-leaves : goal.seq-returns-then-not-accept-clause-leaves
+seq-returns-then-not-accept-clause-leaves t c =
+    record {
+      onward = advances_on c.loop-list.invariant.onward (advances_on c.item.ensures.leaves.onward c.accept.ensures.onward);
+      kept = kept_on c.loop-list.invariant.kept c.item.ensures.leaves.kept;
+      room = omega (arith, c.in_ok-item.ensures.leaves.room, c.accept.ensures.onward.onward, c.loop-list.invariant.room);
+      count = rw c.in_ok-push.ensures.items (omega (arith, item_count-push c.loop-list.list.items c.in_ok-item.field-0, c.in_ok-item.ensures.leaves.count, c.loop-list.invariant.count));
+      few = c.in_ok-item.ensures.leaves.few;
+    }
 
 pub seq-loop-list-preserved : goal.seq-loop-list-preserved
 seq-loop-list-preserved t c =
@@ -295,13 +301,13 @@ seq-loop-list-preserved t c =
     record {
       reads = subst (λ (xs : List Item). Gives (standing c.args.tokens.now c.args.names.now) (standing c.accept.new.self c.item.new.names) (λ word. drop 1 (dotted word (place_of xs) ++ codes "." ∷ [])) (λ word. IsGiven limits word c.args.depth (place_of xs))) (sym c.in_ok-push.ensures.items)
           (item_and_dot (standing c.args.tokens.now c.args.names.now) (standing c.loop-list.tokens c.loop-list.names) (standing c.item.new.tokens c.item.new.names) (standing c.accept.new.self c.item.new.names) c.loop-list.list.items c.in_ok-item.field-0 c.args.depth c.loop-list.invariant.reads c.in_ok-item.ensures.reads dot);
-      count = rw c.in_ok-push.ensures.items (omega (arith, item_count-push c.loop-list.list.items c.in_ok-item.field-0, c.in_ok-item.ensures.count, c.loop-list.invariant.count));
-      few = c.in_ok-item.ensures.few;
+      count = rw c.in_ok-push.ensures.items (omega (arith, item_count-push c.loop-list.list.items c.in_ok-item.field-0, c.in_ok-item.ensures.leaves.count, c.loop-list.invariant.count));
+      few = c.in_ok-item.ensures.leaves.few;
       room = omega (arith, c.in_ok-item.ensures.leaves.room, c.accept.ensures.shorter c.if-not-accept.false, c.loop-list.invariant.room);
       kept = kept_on c.loop-list.invariant.kept c.item.ensures.leaves.kept;
       onward = advances_on c.loop-list.invariant.onward (advances_on c.item.ensures.leaves.onward c.accept.ensures.onward);
       back = λ ds f st. c.loop-list.invariant.back ds f
-          (item_stuck (standing c.loop-list.tokens c.loop-list.names) (standing c.item.new.tokens c.item.new.names) (standing c.accept.new.self c.item.new.names) c.in_ok-item.field-0 c.args.depth c.loop-list.items c.item.new.items ds f c.in_ok-item.ensures.reads c.in_ok-item.ensures.count c.in_ok-item.ensures.few dot st);
+          (item_stuck (standing c.loop-list.tokens c.loop-list.names) (standing c.item.new.tokens c.item.new.names) (standing c.accept.new.self c.item.new.names) c.in_ok-item.field-0 c.args.depth c.loop-list.items c.item.new.items ds f c.in_ok-item.ensures.reads c.in_ok-item.ensures.leaves.count c.in_ok-item.ensures.leaves.few dot st);
     }
 
 pub choices-returns-in_err-one_arm-clause-fault : goal.choices-returns-in_err-one_arm-clause-fault
@@ -323,7 +329,7 @@ choices-returns-in_err-expect-clause-fault t c =
     (λ ds. c.loop-list.invariant.back ds f
     (arm_stuck (standing c.loop-list.tokens c.loop-list.names) (standing c.one_arm.new.tokens c.one_arm.new.names) c.in_ok-one_arm.field-0.label c.in_ok-one_arm.field-0.rest c.args.depth (length c.loop-list.list.items) c.loop-list.items c.one_arm.new.items (proto (arms c.args.depth (suc (length c.loop-list.list.items))) ∷ proto (fixed (codes "}")) ∷ ds) f
     (subst (λ (j : ℕ). Gives (standing c.loop-list.tokens c.loop-list.names) (standing c.one_arm.new.tokens c.one_arm.new.names) (λ word. arm_pieces word c.in_ok-one_arm.field-0) (λ word. AreGiven limits word c.args.depth j (arm c.in_ok-one_arm.field-0.label c.in_ok-one_arm.field-0.rest no_choice))) long c.in_ok-one_arm.ensures.reads)
-    c.in_ok-one_arm.ensures.count c.in_ok-one_arm.ensures.few c.in_ok-one_arm.ensures.ends
+    c.in_ok-one_arm.ensures.leaves.count c.in_ok-one_arm.ensures.leaves.few c.in_ok-one_arm.ensures.ends
     (skip file_layer limits c.one_arm.new.items (standing c.one_arm.new.tokens c.one_arm.new.names) (proto (arms c.args.depth (suc (length c.loop-list.list.items)))) (proto (fixed (codes "}")) ∷ ds) f refl passes (refuses_stuck file_layer limits (but (codes "}")) c.one_arm.new.items (standing c.one_arm.new.tokens c.one_arm.new.names) (proto (fixed (codes "}")) ∷ ds) f refl (piece_rule (codes "}") c.one_arm.new.items ds refl) refuses))))
 
 pub choices-returns-then-not-accept-clause-reads : goal.choices-returns-then-not-accept-clause-reads
@@ -337,9 +343,15 @@ pub choices-returns-then-not-accept-clause-some : goal.choices-returns-then-not-
 choices-returns-then-not-accept-clause-some t c =
     rw c.in_ok-push.ensures.items (some_arms c.loop-list.list.items c.in_ok-one_arm.field-0)
 
-pub choices-returns-then-not-accept-clause-count : goal.choices-returns-then-not-accept-clause-count
-choices-returns-then-not-accept-clause-count t c =
-    rw c.in_ok-push.ensures.items (omega (arith, arm_items-push c.loop-list.list.items c.in_ok-one_arm.field-0, c.in_ok-one_arm.ensures.count, c.loop-list.invariant.count))
+pub choices-returns-then-not-accept-clause-leaves : goal.choices-returns-then-not-accept-clause-leaves
+choices-returns-then-not-accept-clause-leaves t c =
+    record {
+      onward = advances_on c.loop-list.invariant.onward (advances_on c.one_arm.ensures.leaves.onward (advances_on c.accept.ensures.onward c.expect.ensures.onward));
+      kept = kept_on c.loop-list.invariant.kept c.one_arm.ensures.leaves.kept;
+      room = omega (arith, c.in_ok-one_arm.ensures.leaves.room, c.accept.ensures.onward.onward, c.expect.ensures.onward.onward, c.loop-list.invariant.room);
+      count = rw c.in_ok-push.ensures.items (omega (arith, arm_items-push c.loop-list.list.items c.in_ok-one_arm.field-0, c.in_ok-one_arm.ensures.leaves.count, c.loop-list.invariant.count));
+      few = c.in_ok-one_arm.ensures.leaves.few;
+    }
 
 pub choices-loop-list-preserved : goal.choices-loop-list-preserved
 choices-loop-list-preserved t c =
@@ -349,14 +361,14 @@ choices-loop-list-preserved t c =
     record {
       reads = subst (λ (xs : List Arm). Gives (standing c.args.tokens.now c.args.names.now) (standing c.accept.new.self c.one_arm.new.names) (λ word. drop 1 (listed word (choices_of xs) ++ codes "," ∷ [])) (λ word. AreGiven limits word c.args.depth 0 (choices_of xs))) (sym c.in_ok-push.ensures.items)
           (arm_and_comma (standing c.args.tokens.now c.args.names.now) (standing c.loop-list.tokens c.loop-list.names) (standing c.one_arm.new.tokens c.one_arm.new.names) (standing c.accept.new.self c.one_arm.new.names) c.loop-list.list.items c.in_ok-one_arm.field-0 c.args.depth c.len-before.result long c.loop-list.invariant.reads c.in_ok-one_arm.ensures.reads comma);
-      count = rw c.in_ok-push.ensures.items (omega (arith, arm_items-push c.loop-list.list.items c.in_ok-one_arm.field-0, c.in_ok-one_arm.ensures.count, c.loop-list.invariant.count));
-      few = c.in_ok-one_arm.ensures.few;
+      count = rw c.in_ok-push.ensures.items (omega (arith, arm_items-push c.loop-list.list.items c.in_ok-one_arm.field-0, c.in_ok-one_arm.ensures.leaves.count, c.loop-list.invariant.count));
+      few = c.in_ok-one_arm.ensures.leaves.few;
       room = omega (arith, c.in_ok-one_arm.ensures.leaves.room, c.accept.ensures.shorter c.if-not-accept.false, c.loop-list.invariant.room);
       kept = kept_on c.loop-list.invariant.kept c.one_arm.ensures.leaves.kept;
       onward = advances_on c.loop-list.invariant.onward (advances_on c.one_arm.ensures.leaves.onward c.accept.ensures.onward);
       back = λ ds f st. c.loop-list.invariant.back ds f
           (arm_stuck (standing c.loop-list.tokens c.loop-list.names) (standing c.one_arm.new.tokens c.one_arm.new.names) c.in_ok-one_arm.field-0.label c.in_ok-one_arm.field-0.rest c.args.depth (length c.loop-list.list.items) c.loop-list.items c.one_arm.new.items (proto (arms c.args.depth (suc (length c.loop-list.list.items))) ∷ proto (fixed (codes "}")) ∷ ds) f
           (subst (λ (j : ℕ). Gives (standing c.loop-list.tokens c.loop-list.names) (standing c.one_arm.new.tokens c.one_arm.new.names) (λ word. arm_pieces word c.in_ok-one_arm.field-0) (λ word. AreGiven limits word c.args.depth j (arm c.in_ok-one_arm.field-0.label c.in_ok-one_arm.field-0.rest no_choice))) long c.in_ok-one_arm.ensures.reads)
-          c.in_ok-one_arm.ensures.count c.in_ok-one_arm.ensures.few c.in_ok-one_arm.ensures.ends
+          c.in_ok-one_arm.ensures.leaves.count c.in_ok-one_arm.ensures.leaves.few c.in_ok-one_arm.ensures.ends
           (stuck_cons file_layer limits c.one_arm.new.items c.one_arm.new.items (standing c.one_arm.new.tokens c.one_arm.new.names) (standing c.accept.new.self c.one_arm.new.names) (codes ",") (proto (arms c.args.depth (suc (length c.loop-list.list.items))) ∷ proto (fixed (codes "}")) ∷ ds) (proto (label (suc (length c.loop-list.list.items))) ∷ proto (fixed (codes ":")) ∷ proto (maybe c.args.depth) ∷ proto (arms c.args.depth (suc (suc (length c.loop-list.list.items)))) ∷ proto (fixed (codes "}")) ∷ ds) f comma refl (subst (λ (j : ℕ). Stuck file_layer limits c.one_arm.new.items (standing c.accept.new.self c.one_arm.new.names) (proto (label j) ∷ proto (fixed (codes ":")) ∷ proto (maybe c.args.depth) ∷ proto (arms c.args.depth (suc j)) ∷ proto (fixed (codes "}")) ∷ ds) f) more_long st)));
     }

@@ -2,6 +2,7 @@ use Rattle.std.proofs.Common.{false}
 use Rattle.sj_check.specs.Held.{file_in}
 use Rattle.sj_core.specs.World.{history_of, world_at}
 use Rattle.sj_lang.specs.FileView.{file_of}
+use Rattle.sj_tool.specs.LogAt.{log_at}
 use Rattle.sj_tool.proofs.DrainedLemmas.{told_runs}
 use Rattle.sj_tool.proofs.ReplayLemmas.{replay_has, unused}
 use Rattle.sj_tool.proofs.replaying.replayed.Goals as goal
@@ -16,7 +17,7 @@ pub returns-clause-ran : goal.returns-clause-ran
 returns-clause-ran c links =
     let file = file_of (file_in c.args.accepted.now) in
     let task = c.args.task in
-    let log = c.args.log.now in
+    let log = log_at c.args.version c.args.log.now in
     let world = c.in_ok-world.world in
     let history = history_of world in
     let core = world_at world in
