@@ -31,11 +31,11 @@ delivery_seen (Ok p) (Err s) = refl
 delivery_seen (Err r) (Ok n) = refl
 delivery_seen (Err r) (Err s) = refl
 
-pub delivery_read : (file : FileAt) (ws : List (List ℕ)) (from : Result ℕ LogRule) (note : Result Note LogRule)
-    → bytes_eq (word ws) (codes "from") ≡ true → from ≡ party_read file (word (rest ws)) → made note_seen note ≡ frame_read file (rest (rest ws))
-    → made event_seen (made delivered (both from note)) ≡ event_read file ws
+pub delivery_read : (version : ℕ) (file : FileAt) (ws : List (List ℕ)) (from : Result ℕ LogRule) (note : Result Note LogRule)
+    → bytes_eq (word ws) (codes "from") ≡ true → from ≡ party_read file (word (rest ws)) → made note_seen note ≡ frame_read version file (rest (rest ws))
+    → made event_seen (made delivered (both from note)) ≡ event_read version file ws
 unfolding event_read
-delivery_read file ws from note is e f = rw is (delivery_seen from note ∙ (λ i. made (λ x. (rules.Deliver x.0, x.1)) (both (e i) (f i))))
+delivery_read version file ws from note is e f = rw is (delivery_seen from note ∙ (λ i. made (λ x. (rules.Deliver x.0, x.1)) (both (e i) (f i))))
 
 abbrev line_of_parts : ℕ × (ℕ × (rules.Event × NoteAt)) → LineAt
 line_of_parts x = record { party = x.1.0; entry = record { clock = x.0; event = x.1.1.0; note = x.1.1.1 } }
@@ -52,9 +52,9 @@ line_seen (Err q) (Ok p) (Err s) = refl
 line_seen (Err q) (Err r) (Ok e) = refl
 line_seen (Err q) (Err r) (Err s) = refl
 
-pub parts_read : (file : FileAt) (bytes : List ℕ) (clock party : Result ℕ LogRule) (event : Result (Event × Note) LogRule)
+pub parts_read : (version : ℕ) (file : FileAt) (bytes : List ℕ) (clock party : Result ℕ LogRule) (event : Result (Event × Note) LogRule)
     → clock ≡ clock_read (word (words_in bytes)) → party ≡ party_read file (word (rest (words_in bytes)))
-    → made event_seen event ≡ event_read file (rest (rest (words_in bytes)))
-    → made line_at (made line_from (both clock (both party event))) ≡ line_read file bytes
+    → made event_seen event ≡ event_read version file (rest (rest (words_in bytes)))
+    → made line_at (made line_from (both clock (both party event))) ≡ line_read version file bytes
 unfolding line_read
-parts_read file bytes clock party event c p e = line_seen clock party event ∙ (λ i. made line_of_parts (both (c i) (both (p i) (e i))))
+parts_read version file bytes clock party event c p e = line_seen clock party event ∙ (λ i. made line_of_parts (both (c i) (both (p i) (e i))))

@@ -8,7 +8,7 @@ use Rattle.sj_base.specs.declared.Msg.{Msg}
 use Rattle.sj_base.specs.declared.Msg.TheVariants as msgs
 use Rattle.sj_lang.specs.FileAt.{FileAt}
 use Rattle.sj_semantics.specs.Lines.{word_at, name_of, end_text, int_text, quoted_at, quoted_or_number, message_words}
-use Rattle.sj_rules.specs.Log.{NoteAt, LineAt, Local, Sent, Took, Shut, Carry, Fin, Claim, Signal, Ack, Give}
+use Rattle.sj_rules.specs.Log.{NoteAt, LineAt, Local, Sent, Took, Shut, Carry, Fin, Claim, Signal, Ack, Give, Request, Accept, Open}
 use Rattle.sj_rules.specs.World.{Event, Act, Deliver}
 use Rattle.sj_grammar.specs.Bytes.{is_printable}
 use Rattle.sj_print.specs.LogLine.{end_word, resend_word, note_words, origin_words}
@@ -62,6 +62,11 @@ act_line file (Sent e m) h =
 act_line file (Took e m) h =
     more_words (codes "take" ∷ end_word e ∷ []) (message_words file m) (message_some file m) (refl, (plain_end e.sess e.side h.0, tt)) (message_line file m h.1)
 act_line file (Shut e) h = last_word (codes "close" ∷ []) (end_word e) (refl, tt) (plain_end e.sess e.side h)
+act_line file (Request s q) h =
+    last_word (codes "request" ∷ decimal s ∷ []) (name_of file q) (refl, (plain_count s h.0, tt)) (plain_word (name_of file q) h.1.form)
+act_line file (Accept s q) h =
+    last_word (codes "accept" ∷ decimal s ∷ []) (name_of file q) (refl, (plain_count s h.0, tt)) (plain_word (name_of file q) h.1.form)
+act_line file (Open s) h = elim h [ ]
 act_line file (Carry e c n t m) h = elim h [ ]
 act_line file (Fin e c n) h = elim h [ ]
 act_line file (Claim e) h = elim h [ ]
@@ -84,6 +89,9 @@ said_line file (Give e c p s t b r) h =
     last_word (codes "give" ∷ end_word e ∷ decimal c ∷ name_of file p ∷ decimal s ∷ decimal t ∷ decimal b ∷ []) (resend_word r)
     (refl, (plain_end e.sess e.side h.0, (plain_count c h.1.0, (plain_word (name_of file p) h.1.1.0.form, (plain_count s h.1.1.1.0, (plain_count t h.1.1.1.1.0, (plain_count b h.1.1.1.1.1.0, tt)))))))
     (plain_resend r h.1.1.1.1.1.1)
+said_line file (Open s) h = last_word (codes "open" ∷ []) (decimal s) (refl, tt) (plain_count s h)
+said_line file (Request s q) h = elim h [ ]
+said_line file (Accept s q) h = elim h [ ]
 said_line file Local h = elim h [ ]
 said_line file (Sent e m) h = elim h [ ]
 said_line file (Took e m) h = elim h [ ]

@@ -197,3 +197,12 @@ pub number_there : (os : List Opened) (p k n : ℕ) (d : Opened) → k < length 
 number_there os p k n d there order =
     ap (λ (t : List Opened). (get_or t (before_in os p + k) d).sess) order
     ∙ number_in_order d (requests_in os) p k n 0 (before_in os p + k) (omega arith) (omega (arith, opener_below os n p k order there)) there (ap (λ t. before_in t p + k) order)
+
+-- ---- none are opened yet
+
+nobody_opened : (n q : ℕ) → opened_from (requests_in []) n q ≡ []
+nobody_opened zero q = refl
+nobody_opened (suc n) q = nobody_opened n (q + 1)
+
+pub none_in_order : (os : List Opened) (n : ℕ) → os ≡ [] → IsInOrder n os
+none_in_order os n none = none ∙ sym (nobody_opened n 0) ∙ ap (λ t. opened_from (requests_in t) n 0) (sym none)

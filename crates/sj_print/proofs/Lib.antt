@@ -1,4 +1,5 @@
 pub mod LineLemmas
 pub mod PartLemmas
 pub mod PieceLemmas
+pub mod VersionLemmas
 pub mod WordLemmas

@@ -47,6 +47,9 @@ first-note file (log.Claim of) = first _ _
 first-note file (log.Signal to conn party taken) = first _ _
 first-note file (log.Ack of conn) = first _ _
 first-note file (log.Give of conn peer sent taken base resend) = first _ _
+first-note file (log.Request sess to) = first _ _
+first-note file (log.Accept sess from) = first _ _
+first-note file (log.Open sess) = first _ _
 
 -- a line is its first words with their spaces, and then the message
 pub message_behind : (ws : List (List ℕ)) (file : FileAt) (m : Msg) → closed_words ws ++ line_of (message_words file m) ≡ line_of (ws ++ message_words file m)

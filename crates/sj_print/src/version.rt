@@ -1,7 +1,7 @@
 //! The line that stands before a log.
 //!
 //! Want of memory leaves a front of what was to be put behind the text.
-#![tactic(auto, using(sj_text::proofs::CutLemmas::cuts))]
+#![tactic(auto, using(sj_text::proofs::CutLemmas::cuts, crate::proofs::VersionLemmas::any_map))]
 
 ghost use Rattle.std.specs.Prelude.{◌≡◌, ◌++◌, OnOk, OnErr, map};
 ghost use Rattle.std.specs.List.{list_any};
@@ -26,7 +26,7 @@ fn is_opening(note: &Note) -> bool
 
 // Whether a session is opened in one of the lines.
 fn have_openings(lines: &[Line]) -> bool
-    ensures { result ≡ list_any (λ l. is_opening l.entry.note) (map line_at lines.now) }
+    ensures { result ≡ list_any (λ l. is_opening (note_seen l.entry.note)) lines.now }
 {
     lines.iter().any(|l| is_opening(&l.entry.note))
 }

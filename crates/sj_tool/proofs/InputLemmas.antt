@@ -75,7 +75,7 @@ came_of P c x = let (reads, came) = x.kind in came
 -- a source is parted in one way
 pub one_of_source : (source s : List ℕ) (l : LogAt) (t : List ℕ) (m : LogAt) → IsParted source s l.version l.bytes → IsParted source t m.version m.bytes → (s ≡ t) × (l ≡ m)
 one_of_source source s l t m x y =
-    let same = one_parting source s l.version l.bytes t m.version m.bytes x y in (same.0, ap₂ log_at same.1 same.2)
+    let same = one_parting source s l.version l.bytes x t m.version m.bytes y in (same.0, ap₂ log_at same.1.0 same.1.1)
 
 -- what a task takes has one text, and one log
 whole : (bytes s : List ℕ) (l : LogAt) (t : List ℕ) (m : LogAt) → (s ≡ bytes) × (l ≡ no_log) → (t ≡ bytes) × (m ≡ no_log) → (s ≡ t) × (l ≡ m)

@@ -16,15 +16,15 @@ use sj_text::{put, put_number};
 use std::alloc::Global;
 
 /// The summary of the generated file of that number, as the plain world of it stands. A sum past
-/// 2^64 - 1, for which no memory could hold the messages, is answered as want of memory.
+/// 2^64 - 1, or more sessions than have numbers, which no memory could hold, is answered as want of
+/// memory.
 pub(crate) fn summary_text(
     alloc: Global,
     n: u16,
     file: &File,
     plain: &Plain,
 ) -> Result<Vec<u8>, NoMemory>
-    requires parties { party_count plain.now ≤ limits.parties }
-    requires sessions { session_count plain.now ≤ limits.connects }
+    requires { party_count plain.now ≤ limits.parties }
     ensures { IfOk result (λ text. text.items ≡ summary n (file_of file.now) (world_at plain.now)) }
 {
     let messages = messages(plain)?;
@@ -71,14 +71,23 @@ fn put_verdict(text: &mut Vec<u8>, verdict: Verdict) -> Result<(), NoMemory>
     }
 }
 
+// How many sessions there are by their numbers.
+fn numbers(plain: &Plain) -> Result<u32, NoMemory>
+    ensures { IfOk result (λ n. n ≡ session_count plain.now) }
+{
+    match u32::try_from(plain.sessions()) {
+        Ok(sessions) => Ok(sessions),
+        Err(_) => Err(NoMemory),
+    }
+}
+
 // How many messages the ends of all sessions sent.
 fn messages(plain: &Plain) -> Result<u64, NoMemory>
-    requires { session_count plain.now ≤ limits.connects }
     ensures { IfOk result (λ n. n ≡ messages_in (world_at plain.now)) }
 {
+    let sessions = numbers(plain)?;
     let mut count = 0u64;
-    for i in 0..plain.sessions() {
-        let sess = i as u32;
+    for sess in 0..sessions {
         let first = plain.sent(EndId { sess, side: 0 }).len();
         let second = plain.sent(EndId { sess, side: 1 }).len();
         count = added(added(count, first as u64)?, second as u64)?;

@@ -10,7 +10,7 @@ use Rattle.sj_log.proofs.lines.read_log.Given as goal
 abbrev pub invariant-loop-left : goal.invariant-loop-left
 invariant-loop-left l = record {
   short : l.number + length l.left ≤ 16777217;
-  so_far : log_read (file_of l.file) l.bytes ≡ behind (map line_at l.lines.items) (lines_read (file_of l.file) l.number (slice_split (λ b. b == 10) l.left));
+  so_far : log_read l.version (file_of l.file) l.bytes ≡ behind (map line_at l.lines.items) (lines_read l.version (file_of l.file) l.number (slice_split (λ b. b == 10) l.left));
 }
 
 abbrev pub decreases-loop-left : goal.decreases-loop-left

@@ -8,5 +8,5 @@ use Rattle.sj_print.proofs.transcript.put_parties.Given as goal
 -- what is ahead is the parties that are left
 abbrev pub invariant-loop-i : goal.invariant-loop-i
 invariant-loop-i l =
-    StillTo l.fn.text.items (party_lines (file_of l.file) (world_at l.plain).sessions (file_of l.file).parties (world_at l.plain).parties)
-    (party_lines (file_of l.file) (world_at l.plain).sessions (drop l.i (map party_of l.file.parties.items)) (drop l.i (world_at l.plain).parties)) l.text.items
+    StillTo l.fn.text.items (party_lines (file_of l.file) (world_at l.plain) 0 (file_of l.file).parties (world_at l.plain).parties)
+    (party_lines (file_of l.file) (world_at l.plain) l.i (drop l.i (map party_of l.file.parties.items)) (drop l.i (world_at l.plain).parties)) l.text.items
