@@ -10,6 +10,7 @@ pub mod OpeningLemmas
 pub mod OrderLemmas
 pub mod ReachLemmas
 pub mod StatesLemmas
+pub mod SearchLemmas
 pub mod SteppingLemmas
 pub mod TakingLemmas
 pub mod UseLemmas

@@ -33,12 +33,12 @@ altered_within f [] ys at lt = absurd (omega (arith, lt))
 altered_within f (a ∷ xs) ys zero lt = refl
 altered_within f (a ∷ xs) ys (suc at) lt = ap (λ t. a ∷ t) (altered_within f xs ys at (omega (arith, lt)))
 
-get_behind : {X : Type 0} (d : X) (xs ys : List X) (m at : ℕ) → at ≡ length xs + m → get_or (xs ++ ys) at d ≡ get_or ys m d
+pub get_behind : {X : Type 0} (d : X) (xs ys : List X) (m at : ℕ) → at ≡ length xs + m → get_or (xs ++ ys) at d ≡ get_or ys m d
 get_behind d [] ys m at e = ap (λ t. get_or ys t d) (let it : at ≡ m = omega (arith, e) in it)
 get_behind d (a ∷ xs) ys m zero e = absurd (omega (arith, e))
 get_behind d (a ∷ xs) ys m (suc at) e = get_behind d xs ys m at (omega (arith, e))
 
-get_within : {X : Type 0} (d : X) (xs ys : List X) (at : ℕ) → at < length xs → get_or (xs ++ ys) at d ≡ get_or xs at d
+pub get_within : {X : Type 0} (d : X) (xs ys : List X) (at : ℕ) → at < length xs → get_or (xs ++ ys) at d ≡ get_or xs at d
 get_within d [] ys at lt = absurd (omega (arith, lt))
 get_within d (a ∷ xs) ys zero lt = refl
 get_within d (a ∷ xs) ys (suc at) lt = get_within d xs ys at (omega (arith, lt))

@@ -199,7 +199,8 @@ impl Course {
 
     /// How the party stands.
     pub fn state(&self, party: u16) -> State
-        requires { party < length (world_in self.now).parties }
+        requires there { party < length (world_in self.now).parties }
+        requires ordered { IsOrdered self.now }
         ensures { result ≡ state_of (world_in self.now) party }
     {
         let machine = &self.machines[party as usize];
@@ -224,7 +225,8 @@ impl Course {
 
     /// Whether a party is at a limit.
     fn some_at_limit(&self) -> bool
-        requires { length (world_in self.now).parties ≤ limits.parties }
+        requires few { length (world_in self.now).parties ≤ limits.parties }
+        requires ordered { IsOrdered self.now }
         ensures { result ≡ list_any is_at_limit (states_of (world_in self.now)) }
     {
         for i in 0..self.machines.len() {
@@ -237,7 +239,8 @@ impl Course {
 
     /// Whether each party has ended.
     fn all_ended(&self) -> bool
-        requires { length (world_in self.now).parties ≤ limits.parties }
+        requires few { length (world_in self.now).parties ≤ limits.parties }
+        requires ordered { IsOrdered self.now }
         ensures { result ≡ list_all has_ended (states_of (world_in self.now)) }
     {
         for i in 0..self.machines.len() {
