@@ -2,6 +2,7 @@
 use Rattle.std.proofs.Common.{◌≡◌, ℕ, zero, suc, ◌+◌, ◌<◌, List, [], ◌∷◌, ◌++◌, map, length, take, get_or, slice_get, Some, refl, ap, sym, ◌∙◌, arith}
 use Rattle.std.proofs.lemmas.List.{map-append}
 use Rattle.sj_lang.specs.FileAt.{FileAt, PartyAt, ConnectAt, end_of_party, ends_from}
+use Rattle.sj_semantics.specs.Requests.{no_requests}
 use Rattle.sj_semantics.specs.World.{program_of, programs_from, session_of, start_of}
 use Rattle.sj_semantics.specs.Run.{IsRun, after_acts}
 use Rattle.sj_plain.specs.declared.course.Course.{Course}
@@ -19,7 +20,7 @@ programs_same file p (q ∷ qs) = λ i. record (program_of file p q) { ends = en
 
 -- the start needs no words
 pub start_same : (file : FileAt) → start_of (without_words file) ≡ start_of file
-start_same file = λ i. record { parties = programs_same file 0 file.parties i; sessions = map (session_of file) file.connects }
+start_same file = λ i. record { protocols = file.protocols; parties = programs_same file 0 file.parties i; sessions = map (session_of file) file.connects; requests = no_requests }
 
 length-programs : (file : FileAt) (p : ℕ) (qs : List PartyAt) → length (programs_from file p qs) ≡ length qs
 length-programs file p [] = refl

@@ -1,14 +1,24 @@
 -- Courses go on by acts.
-use Rattle.std.proofs.Common.{◌≡◌, ℕ, ◌+◌, ◌<◌, List, [], ◌∷◌, ◌++◌, map, length, get_or, slice_get, Option, Some, None, option_map, option_and_then, refl, ap, sym, ◌∙◌, subst, append-nil, append_assoc}
+use Rattle.std.proofs.Common.{◌≡◌, ℕ, ◌+◌, ◌<◌, ◌≤◌, nat_lt, cond, List, [], ◌∷◌, ◌++◌, map, length, get_or, slice_get, Option, Some, None, option_map, option_and_then, refl, ap, sym, ◌∙◌, subst, append-nil, append_assoc}
 use Rattle.std.proofs.Math.ListN.{set}
+use Rattle.std.proofs.lemmas.List.{length-map, length-set}
 use Rattle.std.proofs.lemmas.Option.{slice_get-map, slice_get_read}
-use Rattle.sj_lang.specs.FileAt.{FileAt}
+use Rattle.sj_lang.specs.declared.file.ProtocolDef.{ProtocolDef}
+use Rattle.sj_lang.specs.FileAt.{FileAt, ProtocolAt}
+use Rattle.sj_lang.specs.FileView.{protocol_of}
+use Rattle.sj_lang.specs.Limits.{limits}
+use Rattle.sj_semantics.specs.declared.Opened.{Opened}
+use Rattle.sj_semantics.specs.declared.State.TheVariants as states
+use Rattle.sj_semantics.specs.declared.Want.{Want}
+use Rattle.sj_semantics.specs.declared.Want.TheVariants as wants
 use Rattle.sj_semantics.specs.Ends.{Session}
 use Rattle.sj_semantics.specs.Program.{Program}
 use Rattle.sj_semantics.specs.Run.{IsRun, after_acts, end_of}
-use Rattle.sj_semantics.specs.World.{start_of, World, Change, act_of, change_of_program, changed_world}
-use Rattle.sj_semantics.specs.State.{IsSettled}
+use Rattle.sj_semantics.specs.Requests.{Requests}
+use Rattle.sj_semantics.specs.World.{start_of, World, Change, act_of, change_by, change_of_program, changed_world}
+use Rattle.sj_semantics.specs.State.{IsSettled, state_if, state_of, state_of_program, state_wanting_if}
 use Rattle.sj_semantics.specs.Uses.{altered_list}
+use Rattle.sj_semantics.specs.Wants.{want_of}
 use Rattle.sj_semantics_laws.proofs.FinishLemmas.{end_is_reached, end_is_settled}
 use Rattle.sj_semantics_laws.proofs.RoundLemmas.{left_in-act}
 use Rattle.sj_semantics_laws.proofs.RunLemmas.{between, same_end}
@@ -19,36 +29,88 @@ use Rattle.sj_plain.specs.declared.ends.Session.{Session as Lying}
 use Rattle.sj_plain.specs.declared.course.Course.{Course}
 use Rattle.sj_plain.specs.Course.{GoesOn, acts_in, file_in, world_in}
 use Rattle.sj_plain.specs.Rounds.{steps_left}
-use Rattle.sj_plain.specs.Stepping.{after_change, next_move, sessions_at}
+use Rattle.sj_plain.specs.Opened.{IsInOrder, requests_in, world_with}
+use Rattle.sj_plain.specs.Stepping.{after_change, next_move, sessions_at, world_around}
 use Rattle.sj_plain.proofs.UseLemmas.{map-same, map-set}
+
+-- ---- a party sees nothing of the others
+
+-- how it stands, and what it makes, whoever else is there
+stands_if : (qs : List ProtocolAt) (fs gs : List Program) (zs : List Session) (os : List Opened) (p steps : ℕ) (o : Option Want) → state_wanting_if (world_with qs fs zs os) p steps o ≡ state_wanting_if (world_with qs gs zs os) p steps o
+stands_if qs fs gs zs os p steps None = refl
+stands_if qs fs gs zs os p steps (Some wants.Ended) = refl
+stands_if qs fs gs zs os p steps (Some wants.Local) = refl
+stands_if qs fs gs zs os p steps (Some (wants.Send e m)) = refl
+stands_if qs fs gs zs os p steps (Some (wants.Delegate e y)) = refl
+stands_if qs fs gs zs os p steps (Some (wants.Take e a)) = refl
+stands_if qs fs gs zs os p steps (Some (wants.Close e)) = refl
+stands_if qs fs gs zs os p steps (Some (wants.Request n q)) = refl
+stands_if qs fs gs zs os p steps (Some (wants.Accept n q)) = refl
+
+makes_if : (qs : List ProtocolAt) (fs gs : List Program) (zs : List Session) (os : List Opened) (p : ℕ) (g : Program) (o : Option Want) → option_and_then (change_by (world_with qs fs zs os) p g) o ≡ option_and_then (change_by (world_with qs gs zs os) p g) o
+makes_if qs fs gs zs os p g None = refl
+makes_if qs fs gs zs os p g (Some wants.Ended) = refl
+makes_if qs fs gs zs os p g (Some wants.Local) = refl
+makes_if qs fs gs zs os p g (Some (wants.Send e m)) = refl
+makes_if qs fs gs zs os p g (Some (wants.Delegate e y)) = refl
+makes_if qs fs gs zs os p g (Some (wants.Take e a)) = refl
+makes_if qs fs gs zs os p g (Some (wants.Close e)) = refl
+makes_if qs fs gs zs os p g (Some (wants.Request n q)) = refl
+makes_if qs fs gs zs os p g (Some (wants.Accept n q)) = refl
+
+moves_alone : (qs : List ProtocolAt) (fs gs : List Program) (zs : List Session) (os : List Opened) (p : ℕ) (g : Program) → next_move p (world_with qs fs zs os) g ≡ next_move p (world_with qs gs zs os) g
+moves_alone qs fs gs zs os p g = ap (λ o. option_map (after_change p (world_with qs gs zs os)) (cond (nat_lt g.steps 10000) o None)) (makes_if qs fs gs zs os p g (want_of g))
 
 -- ---- one act
 
-acted_by : (w : World) (p : ℕ) (g : Program) (zs : List Session) (o : Option Change) → option_map (after_change p w.sessions) o ≡ Some (g, zs) → option_map (changed_world w p) o ≡ Some (record { parties = altered_list w.parties p (λ _. g); sessions = zs })
-acted_by w p g zs None h = cc
-acted_by w p g zs (Some c) h =
-    let it : after_change p w.sessions c ≡ (g, zs) = cc in
-    λ i. Some (record { parties = altered_list w.parties p (λ _. (it i).0); sessions = (it i).1 })
+acted_by : (w : World) (p : ℕ) (g : Program) (zs : List Session) (rs : Requests) (o : Option Change) → option_map (after_change p w) o ≡ Some (g, zs, rs)
+    → option_map (changed_world w p) o ≡ Some (record { protocols = w.protocols; parties = altered_list w.parties p (λ _. g); sessions = zs; requests = rs })
+acted_by w p g zs rs None h = cc
+acted_by w p g zs rs (Some c) h =
+    let it : after_change p w c ≡ (g, zs, rs) = cc in
+    λ i. Some (record { protocols = w.protocols; parties = altered_list w.parties p (λ _. (it i).0); sessions = (it i).1; requests = (it i).2 })
 
 -- the world after the step of a party that is there
-pub acted : (w : World) (p : ℕ) (g h : Program) (zs : List Session) → slice_get w.parties p ≡ Some g → next_move p w.sessions g ≡ Some (h, zs) → act_of w p ≡ Some (record { parties = altered_list w.parties p (λ _. h); sessions = zs })
-acted w p g h zs there made =
-    ap (λ o. option_map (changed_world w p) (option_and_then (change_of_program w.sessions p) o)) there
-    ∙ acted_by w p h zs (change_of_program w.sessions p g) made
+acted : (w : World) (p : ℕ) (g h : Program) (zs : List Session) (rs : Requests) → slice_get w.parties p ≡ Some g → next_move p w g ≡ Some (h, zs, rs)
+    → act_of w p ≡ Some (record { protocols = w.protocols; parties = altered_list w.parties p (λ _. h); sessions = zs; requests = rs })
+acted w p g h zs rs there made =
+    ap (λ o. option_map (changed_world w p) (option_and_then (change_of_program w p) o)) there
+    ∙ acted_by w p h zs rs (change_of_program w p g) made
 
--- the parties and the sessions as they lie in memory
-abbrev world_by : List Machine → List Lying → World
-world_by ms zs = record { parties = map program_at ms; sessions = sessions_at zs }
+-- the parties, the sessions and the opened sessions as they lie in memory
+abbrev pub world_by : List ProtocolDef → List Machine → List Lying → List Opened → World
+world_by ps ms zs os = world_with (map protocol_of ps) (map program_at ms) (sessions_at zs) os
 
--- a party and sessions that are seen as they were
-pub world_same : (ms : List Machine) (ys zs : List Lying) (p : ℕ) (m n : Machine) → p < length ms → m ≡ get_or ms p m → program_at n ≡ program_at m → sessions_at ys ≡ sessions_at zs → world_by (set ms p n) ys ≡ world_by ms zs
-world_same ms ys zs p m n lt there same sessions = let parties = map-same program_at ms p m n lt there same in λ i. record { parties = parties i; sessions = sessions i }
+party_there : (ms : List Machine) (p : ℕ) (m : Machine) → p < length ms → m ≡ get_or ms p m → slice_get (map program_at ms) p ≡ Some (program_at m)
+party_there ms p m lt there = slice_get-map program_at ms p ∙ ap (option_map program_at) (slice_get_read ms (length ms) p m refl lt there)
 
--- a party and sessions that have moved on
-pub world_acts : (ms : List Machine) (ys zs : List Lying) (p : ℕ) (m n : Machine) → p < length ms → m ≡ get_or ms p m → next_move p (sessions_at zs) (program_at m) ≡ Some (program_at n, sessions_at ys) → act_of (world_by ms zs) p ≡ Some (world_by (set ms p n) ys)
-world_acts ms ys zs p m n lt there made =
-    acted (world_by ms zs) p (program_at m) (program_at n) (sessions_at ys) (slice_get-map program_at ms p ∙ ap (option_map program_at) (slice_get_read ms (length ms) p m refl lt there)) made
-    ∙ (let parties = map-set program_at ms p m n (λ _. program_at n) lt there refl in λ i. Some (record { parties = sym parties i; sessions = sessions_at ys }))
+-- a party stands alone as it does among the others
+pub ready_alone : (ps : List ProtocolDef) (ms : List Machine) (zs : List Lying) (os : List Opened) (p : ℕ) (m : Machine) → p < length ms → m ≡ get_or ms p m → state_of (world_by ps ms zs os) p ≡ states.Ready → state_of_program (world_around ps zs os) p (program_at m) ≡ states.Ready
+ready_alone ps ms zs os p m lt there ready =
+    stands_if (map protocol_of ps) [] (map program_at ms) (sessions_at zs) os p (program_at m).steps (want_of (program_at m))
+    ∙ sym (ap (state_if (world_by ps ms zs os) p) (party_there ms p m lt there))
+    ∙ ready
+
+pub stands_among : (ps : List ProtocolDef) (ms : List Machine) (zs : List Lying) (os : List Opened) (p : ℕ) (m : Machine) → p < length ms → m ≡ get_or ms p m → state_of_program (world_by ps ms zs os) p (program_at m) ≡ state_of (world_by ps ms zs os) p
+stands_among ps ms zs os p m lt there = sym (ap (state_if (world_by ps ms zs os) p) (party_there ms p m lt there))
+
+-- a party, sessions and opened sessions that are seen as they were
+pub world_same : (ps : List ProtocolDef) (ms : List Machine) (ys zs : List Lying) (ns os : List Opened) (p : ℕ) (m n : Machine) → p < length ms → m ≡ get_or ms p m → program_at n ≡ program_at m → sessions_at ys ≡ sessions_at zs → ns ≡ os
+    → world_by ps (set ms p n) ys ns ≡ world_by ps ms zs os
+world_same ps ms ys zs ns os p m n lt there same sessions opened =
+    let parties = map-same program_at ms p m n lt there same in
+    λ i. world_with (map protocol_of ps) (parties i) (sessions i) (opened i)
+
+-- a party, sessions and opened sessions that have moved on
+pub world_acts : (ps : List ProtocolDef) (ms : List Machine) (ys zs : List Lying) (ns os : List Opened) (p : ℕ) (m n : Machine) → p < length ms → m ≡ get_or ms p m → next_move p (world_around ps zs os) (program_at m) ≡ Some (program_at n, sessions_at ys, requests_in ns)
+    → act_of (world_by ps ms zs os) p ≡ Some (world_by ps (set ms p n) ys ns)
+world_acts ps ms ys zs ns os p m n lt there made =
+    acted (world_by ps ms zs os) p (program_at m) (program_at n) (sessions_at ys) (requests_in ns) (party_there ms p m lt there) (moves_alone (map protocol_of ps) (map program_at ms) [] (sessions_at zs) os p (program_at m) ∙ made)
+    ∙ (let parties = map-set program_at ms p m n (λ _. program_at n) lt there refl in λ i. Some (world_with (map protocol_of ps) (sym parties i) (sessions_at ys) ns))
+
+-- sessions that lie in order, with as many parties
+pub ordered_on : (os : List Opened) (ms : List Machine) (p : ℕ) (m : Machine) → IsInOrder (length (map program_at ms)) os → IsInOrder (length (map program_at (set ms p m))) os
+ordered_on os ms p m order = subst (λ (n : ℕ). IsInOrder n os) (length-map ms program_at ∙ sym (length-set ms p m) ∙ sym (length-map (set ms p m) program_at)) order
 
 -- ---- acts one after another
 
@@ -81,10 +143,10 @@ still_run v w run on =
     (after_acts-append (start_of (file_in v)) (world_in v) (world_in w) (acts_in v) on.acts run on.leads))
 
 -- a settled run is at the end of its file
-pub at_the_end : (file : FileAt) (ps : List ℕ) (w : World) → IsRun file ps w → IsSettled w → w ≡ end_of file
-at_the_end file ps w run settled =
+pub at_the_end : (file : FileAt) (ps : List ℕ) (w : World) → length file.connects ≤ limits.connects → IsRun file ps w → IsSettled w → w ≡ end_of file
+at_the_end file ps w few run settled =
     let l = end_is_reached file in
-    same_end (start_of file) w (end_of file) ps l.acts (start_is_unshared file) run l.leads settled (end_is_settled file)
+    same_end (start_of file) w (end_of file) ps l.acts (start_is_unshared file few) run l.leads settled (end_is_settled file)
 
 -- an act leaves one step less
 pub act_costs : (w v : World) (p : ℕ) → act_of w p ≡ Some v → steps_left v + 1 ≡ steps_left w

@@ -3,11 +3,14 @@ pub mod CountLemmas
 pub mod CourseLemmas
 pub mod FinishLemmas
 pub mod FinishingLemmas
+pub mod IdleLemmas
 pub mod MoveLemmas
 pub mod OpenedLemmas
 pub mod OpeningLemmas
 pub mod OrderLemmas
 pub mod ReachLemmas
+pub mod StatesLemmas
+pub mod SearchLemmas
 pub mod SteppingLemmas
 pub mod TakingLemmas
 pub mod UseLemmas

@@ -1,6 +1,6 @@
 -- The sessions that each party opened, as they lie in a list.
 use Rattle.std.proofs.Common.{◌≡◌, ◌≢◌, ℕ, zero, suc, ◌+◌, ◌<◌, ◌≤◌, ◌==◌, nat_lt, Bool, true, false, cond, List, [], ◌∷◌, ◌++◌, length, refl, ap, sym, ◌∙◌, append-nil, arith, inl, inr}
-use Rattle.std.proofs.lemmas.Bool.{cases_Bool, cases_eq, eq-eqb, eqb-true, ne_eqb, le-ltb, lt-ltb, ltb-true}
+use Rattle.std.proofs.lemmas.Bool.{cases_Bool, cases_eq, cases_lt, eq-eqb, ne_eqb, le-ltb, lt-ltb}
 use Rattle.sj_semantics.specs.declared.Opened.{Opened}
 use Rattle.sj_semantics.specs.Requests.{Request, Requests, opened_by, opened_from, opened_number}
 use Rattle.sj_plain.specs.Opened.{before_in, request_of, requests_in}
@@ -14,7 +14,7 @@ session_by p k r = record { sess = opened_number p k; from = p; first = r.first;
 requests_hit : (o : Opened) (os : List Opened) (p : ℕ) (b : Bool) → o.from == p ≡ b → requests_in (o ∷ os) p ≡ cond b (request_of o ∷ requests_in os p) (requests_in os p)
 requests_hit o os p b h = ap (λ t. cond t (request_of o ∷ requests_in os p) (requests_in os p)) h
 
-requests-append : (xs ys : List Opened) (p : ℕ) → requests_in (xs ++ ys) p ≡ requests_in xs p ++ requests_in ys p
+pub requests-append : (xs ys : List Opened) (p : ℕ) → requests_in (xs ++ ys) p ≡ requests_in xs p ++ requests_in ys p
 requests-append [] ys p = refl
 requests-append (x ∷ xs) ys p =
     elim (cases_Bool (x.from == p)) [
@@ -26,7 +26,7 @@ own_requests : (p k : ℕ) (rs : List Request) → requests_in (opened_by p k rs
 own_requests p k [] = refl
 own_requests p k (r ∷ rs) = requests_hit (session_by p k r) (opened_by p (k + 1) rs) p true (eq-eqb p p refl) ∙ ap (λ t. r ∷ t) (own_requests p (k + 1) rs)
 
-no_requests_of_others : (q k x : ℕ) (rs : List Request) → q ≢ x → requests_in (opened_by q k rs) x ≡ []
+pub no_requests_of_others : (q k x : ℕ) (rs : List Request) → q ≢ x → requests_in (opened_by q k rs) x ≡ []
 no_requests_of_others q k x [] ne = refl
 no_requests_of_others q k x (r ∷ rs) ne = requests_hit (session_by q k r) (opened_by q (k + 1) rs) x false (ne_eqb q x ne) ∙ no_requests_of_others q (k + 1) x rs ne
 
@@ -36,7 +36,7 @@ length-opened_by p k (r ∷ rs) = ap suc (length-opened_by p (k + 1) rs)
 
 -- ---- of all parties
 
-requests_below : (all : Requests) (n q x : ℕ) → x < q → requests_in (opened_from all n q) x ≡ []
+pub requests_below : (all : Requests) (n q x : ℕ) → x < q → requests_in (opened_from all n q) x ≡ []
 requests_below all zero q x lt = refl
 requests_below all (suc n) q x lt =
     requests-append (opened_by q 0 (all q)) (opened_from all n (q + 1)) x
@@ -93,7 +93,7 @@ before_of_higher : (q k p : ℕ) (rs : List Request) → p ≤ q → before_in (
 before_of_higher q k p [] le = refl
 before_of_higher q k p (r ∷ rs) le = before_hit (session_by q k r) (opened_by q (k + 1) rs) p false (le-ltb q p le) ∙ before_of_higher q (k + 1) p rs le
 
-none_before : (all : Requests) (n q p : ℕ) → p ≤ q → before_in (opened_from all n q) p ≡ 0
+pub none_before : (all : Requests) (n q p : ℕ) → p ≤ q → before_in (opened_from all n q) p ≡ 0
 none_before all zero q p le = refl
 none_before all (suc n) q p le = omega (arith, before-append (opened_by q 0 (all q)) (opened_from all n (q + 1)) p, before_of_higher q 0 p (all q) le, none_before all n (q + 1) p (omega (arith, le)))
 
@@ -104,22 +104,43 @@ before_first all n q = none_before all (suc n) q q (omega arith)
 pub before_later : (all : Requests) (n q p : ℕ) → q < p → before_in (opened_from all (suc n) q) p ≡ length (all q) + before_in (opened_from all n (q + 1)) p
 before_later all n q p lt = before-append (opened_by q 0 (all q)) (opened_from all n (q + 1)) p ∙ ap (λ t. t + before_in (opened_from all n (q + 1)) p) (before_of_lower q 0 p (all q) lt)
 
--- none is both before those of the party and of the party
-pub all_fit : (os : List Opened) (p : ℕ) → before_in os p + length (requests_in os p) ≤ length os
-all_fit [] p = omega arith
-all_fit (o ∷ os) p =
-    elim (cases_Bool (nat_lt o.from p)) [
+-- those before the next party are those before the party, and its own
+pub before_next : (os : List Opened) (p : ℕ) → before_in os (p + 1) ≡ before_in os p + length (requests_in os p)
+before_next [] p = omega arith
+before_next (o ∷ os) p =
+    elim (cases_lt o.from p) [
       | inl low ↦
-          elim (cases_Bool (o.from == p)) [
-            | inl hit ↦ absurd (clash o.from p low hit)
-            | inr miss ↦ omega (arith, before_hit o os p true low, ap length (requests_hit o os p false miss), all_fit os p)
-          ]
+          omega (
+            arith,
+            before_hit o os (p + 1) true (lt-ltb o.from (p + 1) (omega (arith, low))),
+            before_hit o os p true (lt-ltb o.from p low),
+            ap length (requests_hit o os p false (ne_eqb o.from p (λ e. absurd (omega (arith, low, e))))),
+            before_next os p,
+          )
       | inr high ↦
-          elim (cases_Bool (o.from == p)) [
-            | inl hit ↦ omega (arith, before_hit o os p false high, ap length (requests_hit o os p true hit), all_fit os p)
-            | inr miss ↦ omega (arith, before_hit o os p false high, ap length (requests_hit o os p false miss), all_fit os p)
+          elim (cases_eq o.from p) [
+            | inl same ↦
+                omega (
+                  arith,
+                  before_hit o os (p + 1) true (lt-ltb o.from (p + 1) (omega (arith, same))),
+                  before_hit o os p false (le-ltb o.from p high),
+                  ap length (requests_hit o os p true (eq-eqb o.from p same)),
+                  before_next os p,
+                )
+            | inr other ↦
+                let more : p + 1 ≤ o.from = omega (arith, high, λ (e : o.from ≡ p). other e) in
+                omega (arith, before_hit o os (p + 1) false (le-ltb o.from (p + 1) more), before_hit o os p false (le-ltb o.from p high), ap length (requests_hit o os p false (ne_eqb o.from p other)), before_next os p)
           ]
     ]
-  where
-    clash : (a b : ℕ) → nat_lt a b ≡ true → a == b ≡ true → ⊥
-    clash a b low hit = omega (arith, ltb-true a b low, eqb-true a b hit)
+
+pub before_fits : (os : List Opened) (p : ℕ) → before_in os p ≤ length os
+before_fits [] p = omega arith
+before_fits (o ∷ os) p =
+    elim (cases_Bool (nat_lt o.from p)) [
+      | inl low ↦ omega (arith, before_hit o os p true low, before_fits os p)
+      | inr high ↦ omega (arith, before_hit o os p false high, before_fits os p)
+    ]
+
+-- none is both before those of the party and of the party
+pub all_fit : (os : List Opened) (p : ℕ) → before_in os p + length (requests_in os p) ≤ length os
+all_fit os p = omega (arith, before_next os p, before_fits os (p + 1))

@@ -33,12 +33,12 @@ altered_within f [] ys at lt = absurd (omega (arith, lt))
 altered_within f (a ∷ xs) ys zero lt = refl
 altered_within f (a ∷ xs) ys (suc at) lt = ap (λ t. a ∷ t) (altered_within f xs ys at (omega (arith, lt)))
 
-get_behind : {X : Type 0} (d : X) (xs ys : List X) (m at : ℕ) → at ≡ length xs + m → get_or (xs ++ ys) at d ≡ get_or ys m d
+pub get_behind : {X : Type 0} (d : X) (xs ys : List X) (m at : ℕ) → at ≡ length xs + m → get_or (xs ++ ys) at d ≡ get_or ys m d
 get_behind d [] ys m at e = ap (λ t. get_or ys t d) (let it : at ≡ m = omega (arith, e) in it)
 get_behind d (a ∷ xs) ys m zero e = absurd (omega (arith, e))
 get_behind d (a ∷ xs) ys m (suc at) e = get_behind d xs ys m at (omega (arith, e))
 
-get_within : {X : Type 0} (d : X) (xs ys : List X) (at : ℕ) → at < length xs → get_or (xs ++ ys) at d ≡ get_or xs at d
+pub get_within : {X : Type 0} (d : X) (xs ys : List X) (at : ℕ) → at < length xs → get_or (xs ++ ys) at d ≡ get_or xs at d
 get_within d [] ys at lt = absurd (omega (arith, lt))
 get_within d (a ∷ xs) ys zero lt = refl
 get_within d (a ∷ xs) ys (suc at) lt = get_within d xs ys at (omega (arith, lt))
@@ -197,3 +197,12 @@ pub number_there : (os : List Opened) (p k n : ℕ) (d : Opened) → k < length 
 number_there os p k n d there order =
     ap (λ (t : List Opened). (get_or t (before_in os p + k) d).sess) order
     ∙ number_in_order d (requests_in os) p k n 0 (before_in os p + k) (omega arith) (omega (arith, opener_below os n p k order there)) there (ap (λ t. before_in t p + k) order)
+
+-- ---- none are opened yet
+
+nobody_opened : (n q : ℕ) → opened_from (requests_in []) n q ≡ []
+nobody_opened zero q = refl
+nobody_opened (suc n) q = nobody_opened n (q + 1)
+
+pub none_in_order : (os : List Opened) (n : ℕ) → os ≡ [] → IsInOrder n os
+none_in_order os n none = none ∙ sym (nobody_opened n 0) ∙ ap (λ t. opened_from (requests_in t) n 0) (sym none)

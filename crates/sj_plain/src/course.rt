@@ -115,6 +115,7 @@ impl Course {
     }
 
     /// Lets the party act once. Answers whether it did.
+    #[tactic(auto, using(crate::proofs::IdleLemmas::idle))]
     fn tried(&mut self, party: u16) -> Result<bool, NoMemory>
         requires there { party < length (world_in self.old).parties }
         requires ordered { IsOrdered self.old }
@@ -131,7 +132,9 @@ impl Course {
         match self.act(party) {
             Ok(()) => Ok(true),
             Err(Halt::NoMemory) => Err(NoMemory),
-            Err(_) => Ok(false),
+            Err(Halt::Waits) => Ok(false),
+            Err(Halt::Ended) => Ok(false),
+            Err(Halt::AtLimit) => Ok(false),
         }
     }
 
@@ -196,7 +199,8 @@ impl Course {
 
     /// How the party stands.
     pub fn state(&self, party: u16) -> State
-        requires { party < length (world_in self.now).parties }
+        requires there { party < length (world_in self.now).parties }
+        requires ordered { IsOrdered self.now }
         ensures { result ≡ state_of (world_in self.now) party }
     {
         let machine = &self.machines[party as usize];
@@ -221,11 +225,12 @@ impl Course {
 
     /// Whether a party is at a limit.
     fn some_at_limit(&self) -> bool
-        requires { length (world_in self.now).parties ≤ limits.parties }
+        requires few { length (world_in self.now).parties ≤ limits.parties }
+        requires ordered { IsOrdered self.now }
         ensures { result ≡ list_any is_at_limit (states_of (world_in self.now)) }
     {
         for i in 0..self.machines.len() {
-            if matches!(self.state(i as u16), State::AtLimit(_)) {
+            if is_at_limit(self.state(i as u16)) {
                 return true;
             }
         }
@@ -234,11 +239,12 @@ impl Course {
 
     /// Whether each party has ended.
     fn all_ended(&self) -> bool
-        requires { length (world_in self.now).parties ≤ limits.parties }
+        requires few { length (world_in self.now).parties ≤ limits.parties }
+        requires ordered { IsOrdered self.now }
         ensures { result ≡ list_all has_ended (states_of (world_in self.now)) }
     {
         for i in 0..self.machines.len() {
-            if !matches!(self.state(i as u16), State::Ended) {
+            if !has_ended(self.state(i as u16)) {
                 return false;
             }
         }
@@ -246,11 +252,30 @@ impl Course {
     }
 }
 
+/// Whether a party that stands so is at a limit.
+fn is_at_limit(state: State) -> bool
+    ensures { result ≡ is_at_limit state }
+{
+    matches!(state, State::AtLimit(_))
+}
+
+/// Whether a party that stands so has ended.
+fn has_ended(state: State) -> bool
+    ensures { result ≡ has_ended state }
+{
+    matches!(state, State::Ended)
+}
+
 /// Whether each of the sessions was accepted.
 fn all_accepted(opened: &[Opened]) -> bool
     ensures { result ≡ list_all is_accepted opened.now }
 {
-    opened.iter().all(|session| session.second.is_some())
+    for session in opened {
+        if session.second.is_none() {
+            return false;
+        }
+    }
+    true
 }
 
 /// The parties before their first steps.

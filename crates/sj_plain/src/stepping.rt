@@ -41,6 +41,7 @@ const FIRST_OPENED: u32 = 64;
 
 /// How a party stands that hasn't ended and isn't at the limit of steps.
 fn state_by(sessions: &[Session], opened: &[Opened], party: u16, want: Want) -> State
+    requires order { AreInOrder party opened.now }
     ensures { (ps : List ProtocolAt) (gs : List Program) →
         result ≡ state_by (world_with ps gs (sessions_at sessions.now) opened.now) party want }
 {
@@ -80,6 +81,7 @@ fn state_by(sessions: &[Session], opened: &[Opened], party: u16, want: Want) -> 
 
 /// How the party stands among the sessions.
 pub fn state_of(sessions: &[Session], opened: &[Opened], party: u16, machine: &Machine) -> State
+    requires order { AreInOrder party opened.now }
     ensures { (ps : List ProtocolAt) (gs : List Program) →
         result ≡ state_of_program (world_with ps gs (sessions_at sessions.now) opened.now)
         party (program_at machine.now) }

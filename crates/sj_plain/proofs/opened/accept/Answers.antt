@@ -7,17 +7,17 @@ use Rattle.sj_plain.proofs.OpenedLemmas.{all_fit}
 use Rattle.sj_plain.proofs.OrderLemmas.{accepted_order, accepted_requests, set_session, still_in_order}
 use Rattle.sj_plain.proofs.opened.accept.Goals as goal
 
-pub overflow_add-at : goal.overflow_add-at
-overflow_add-at c = omega (arith, c.requires.there, c.before-2.ensures, ap (λ (t : List Opened). before_in t c.args.from) c.deref.ensures.value, all_fit c.args.opened.now.items c.args.from)
+pub overflow_add-start : goal.overflow_add-start
+overflow_add-start c = omega (arith, c.requires.there, c.own-start.ensures.start, ap (λ (t : List Opened). before_in t c.args.from) c.deref.ensures.value, all_fit c.args.opened.now.items c.args.from)
 
 pub index_mut-session-requires : goal.index_mut-session-requires
-index_mut-session-requires c = omega (arith, c.requires.there, c.before-2.ensures, ap (λ (t : List Opened). before_in t c.args.from) c.deref.ensures.value, all_fit c.args.opened.now.items c.args.from)
+index_mut-session-requires c = omega (arith, c.requires.there, c.own-start.ensures.start, ap (λ (t : List Opened). before_in t c.args.from) c.deref.ensures.value, all_fit c.args.opened.now.items c.args.from)
 
-abbrev lies : (c : goal.After-opened-1) → set c.args.opened.now.items (c.before-2.result + c.args.number) (accepted_session c.args.name c.index_mut-session.result.now) ≡ altered_list c.args.opened.now.items (before_in c.args.opened.now.items c.args.from + c.args.number) (accepted_session c.args.name)
+abbrev lies : (c : goal.After-opened-1) → set c.args.opened.now.items (c.own-start.result.0 + c.args.number) (accepted_session c.args.name c.index_mut-session.result.now) ≡ altered_list c.args.opened.now.items (before_in c.args.opened.now.items c.args.from + c.args.number) (accepted_session c.args.name)
 lies c =
-    set_session c.args.opened.now.items (c.before-2.result + c.args.number) c.args.name c.index_mut-session.result.now (accepted_session c.args.name c.index_mut-session.result.now)
-    (omega (arith, c.requires.there, c.before-2.ensures, ap (λ (t : List Opened). before_in t c.args.from) c.deref.ensures.value, all_fit c.args.opened.now.items c.args.from)) c.index_mut-session.ensures.value refl
-    ∙ ap (λ t. altered_list c.args.opened.now.items (t + c.args.number) (accepted_session c.args.name)) (c.before-2.ensures ∙ ap (λ (t : List Opened). before_in t c.args.from) c.deref.ensures.value)
+    set_session c.args.opened.now.items (c.own-start.result.0 + c.args.number) c.args.name c.index_mut-session.result.now (accepted_session c.args.name c.index_mut-session.result.now)
+    (omega (arith, c.requires.there, c.own-start.ensures.start, ap (λ (t : List Opened). before_in t c.args.from) c.deref.ensures.value, all_fit c.args.opened.now.items c.args.from)) c.index_mut-session.ensures.value refl
+    ∙ ap (λ t. altered_list c.args.opened.now.items (t + c.args.number) (accepted_session c.args.name)) (c.own-start.ensures.start ∙ ap (λ (t : List Opened). before_in t c.args.from) c.deref.ensures.value)
 
 pub returns-clause-ok : goal.returns-clause-ok
 returns-clause-ok c = λ p q.

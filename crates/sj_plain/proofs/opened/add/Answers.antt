@@ -1,18 +1,12 @@
 use Rattle.std.proofs.Common.{◌≡◌, ◌+◌, ◌∙◌, ap, arith, sym, length, List}
 use Rattle.sj_semantics.specs.declared.Opened.{Opened}
 use Rattle.sj_plain.specs.Opened.{before_in, requests_in}
-use Rattle.sj_plain.proofs.OpenedLemmas.{all_fit}
+use Rattle.sj_plain.proofs.OpenedLemmas.{before_next}
 use Rattle.sj_plain.proofs.OrderLemmas.{added_in_order, added_requests, put_in, still_in_order}
 use Rattle.sj_plain.proofs.opened.add.Goals as goal
 
-abbrev place : (c : goal.In_ok-insert) → c.before-2.result + c.requests_of.result ≡ before_in c.args.opened.now.items c.args.session.from + length (requests_in c.args.opened.now.items c.args.session.from)
-place c = omega (arith, c.before-2.ensures, c.requests_of.ensures, ap (λ (t : List Opened). before_in t c.args.session.from) c.deref.ensures.value, ap (λ (t : List Opened). length (requests_in t c.args.session.from)) c.deref-2.ensures.value)
-
-pub overflow_add-at : goal.overflow_add-at
-overflow_add-at c = omega (arith, c.before-2.ensures, c.requests_of.ensures, ap (λ (t : List Opened). before_in t c.args.session.from) c.deref.ensures.value, ap (λ (t : List Opened). length (requests_in t c.args.session.from)) c.deref-2.ensures.value, all_fit c.args.opened.now.items c.args.session.from)
-
-pub insert-requires : goal.insert-requires
-insert-requires c = omega (arith, c.before-2.ensures, c.requests_of.ensures, ap (λ (t : List Opened). before_in t c.args.session.from) c.deref.ensures.value, ap (λ (t : List Opened). length (requests_in t c.args.session.from)) c.deref-2.ensures.value, all_fit c.args.opened.now.items c.args.session.from)
+abbrev place : (c : goal.In_ok-insert) → c.own-at.result.1 ≡ before_in c.args.opened.now.items c.args.session.from + length (requests_in c.args.opened.now.items c.args.session.from)
+place c = omega (arith, c.own-at.ensures.end, ap (λ (t : List Opened). before_in t (c.args.session.from + 1)) c.deref.ensures.value, before_next c.args.opened.now.items c.args.session.from)
 
 abbrev lies : (c : goal.In_ok-insert) → c.insert.new.self.items ≡ put_in (before_in c.args.opened.now.items c.args.session.from + length (requests_in c.args.opened.now.items c.args.session.from)) c.args.session c.args.opened.now.items
 lies c = c.in_ok-insert.ensures.items ∙ ap (λ t. put_in t c.args.session c.args.opened.now.items) (place c)

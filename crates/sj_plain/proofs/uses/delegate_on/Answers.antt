@@ -18,11 +18,15 @@ hand_on-requires-clause-there c =
 
 pub hand_on-requires-clause-few : goal.hand_on-requires-clause-few
 hand_on-requires-clause-few c =
-    omega (arith, c.requires, ap (λ zs. (end_at zs c.args.end).hops) c.in_default.ensures.ok,
-    hops_stay c.args.party c.args.carrier c.args.end (session_message c.args.end c.args.party) (sessions_at c.reach_both.new.sessions.items),
-    ap (λ zs. (end_at zs c.args.end).hops) c.in_ok-reach_both.ensures.ok,
-    ap (λ t. t.hops) (end_at-reached (reached (sessions_at c.args.sessions.now.items) c.args.end.sess) c.args.carrier.sess c.args.end),
-    ap (λ t. t.hops) (end_at-reached (sessions_at c.args.sessions.now.items) c.args.end.sess c.args.end))
+    omega (
+      arith,
+      c.requires,
+      ap (λ zs. (end_at zs c.args.end).hops) c.in_default.ensures.ok,
+      hops_stay c.args.party c.args.carrier c.args.end (session_message c.args.end c.args.party) (sessions_at c.reach_both.new.sessions.items),
+      ap (λ zs. (end_at zs c.args.end).hops) c.in_ok-reach_both.ensures.ok,
+      ap (λ t. t.hops) (end_at-reached (reached (sessions_at c.args.sessions.now.items) c.args.end.sess) c.args.carrier.sess c.args.end),
+      ap (λ t. t.hops) (end_at-reached (sessions_at c.args.sessions.now.items) c.args.end.sess c.args.end),
+    )
 
 pub returns-clause-ok : goal.returns-clause-ok
 returns-clause-ok c =

@@ -1,11 +1,9 @@
-use Rattle.std.proofs.Common.{◌≡◌, map, drop}
+use Rattle.std.proofs.Common.{◌≡◌}
 use Rattle.std.specs.List.{list_all}
-use Rattle.sj_machine.specs.Sound.{program_at}
-use Rattle.sj_semantics.specs.State.{has_ended, state_of_program}
-use Rattle.sj_plain.specs.Stepping.{sessions_at}
+use Rattle.sj_semantics.specs.State.{has_ended, states_of}
+use Rattle.sj_plain.specs.Course.{world_in}
+use Rattle.sj_plain.proofs.StatesLemmas.{states_on}
 use Rattle.sj_plain.proofs.course.Course.all_ended.Given as goal
 
-abbrev pub invariant-loop-machine : goal.invariant-loop-machine
-invariant-loop-machine l =
-    list_all (λ g. has_ended (state_of_program (sessions_at l.self.sessions.items) g)) (map program_at (drop l.machine-index l.self.machines.items))
-    ≡ list_all (λ g. has_ended (state_of_program (sessions_at l.self.sessions.items) g)) (map program_at l.self.machines.items)
+abbrev pub invariant-loop-i : goal.invariant-loop-i
+invariant-loop-i l = list_all has_ended (states_on (world_in l.self) l.i) ≡ list_all has_ended (states_of (world_in l.self))

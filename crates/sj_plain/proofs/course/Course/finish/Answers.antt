@@ -9,6 +9,7 @@ returns-in_err-round-clause-on c = goes_on c.args.self.now c.loop.self c.round.n
 pub loop-preserved : goal.loop-preserved
 loop-preserved c = record {
   on = goes_on c.args.self.now c.loop.self c.round.new.self c.loop.invariant.on c.round.ensures.on;
+  ordered = c.round.ensures.ordered;
   count = c.round.ensures.count ∙ c.loop.invariant.count;
   ahead = next_round c.args.self.now c.loop.self c.round.new.self c.loop.invariant.ahead c.in_ok-round.ensures.ok (c.in_ok-round.ensures.busy c.if-branch.true);
 }

@@ -25,6 +25,7 @@ loop-party-preserved c =
           let less = c.in_ok-turn.ensures.busy w.if-branch.true in
           record {
             on = goes_on c.args.self.now c.loop-party.self c.turn.new.self h.on c.turn.ensures.on;
+            ordered = c.turn.ensures.ordered;
             count = c.turn.ensures.count ∙ h.count;
             ahead = ahead;
             same = λ e. absurd (false≢true (sym e ∙ w.acted-is));
@@ -36,6 +37,7 @@ loop-party-preserved c =
           let same = c.in_ok-turn.ensures.same w.if-branch.false in
           record {
             on = goes_on c.args.self.now c.loop-party.self c.turn.new.self h.on c.turn.ensures.on;
+            ordered = c.turn.ensures.ordered;
             count = c.turn.ensures.count ∙ h.count;
             ahead = ahead;
             same = λ e. same ∙ h.same (sym w.acted-is ∙ e);

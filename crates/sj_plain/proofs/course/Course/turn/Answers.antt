@@ -10,6 +10,7 @@ returns-in_err-tried-clause-on c = goes_on c.args.self.now c.loop.self c.tried-i
 pub loop-preserved : goal.loop-preserved
 loop-preserved c = record {
   on = goes_on c.args.self.now c.loop.self c.tried-in-loop.new.self c.loop.invariant.on c.tried-in-loop.ensures.on;
+  ordered = c.tried-in-loop.ensures.ordered;
   count = c.tried-in-loop.ensures.count ∙ c.loop.invariant.count;
   ahead = acts_again c.args.party c.args.self.now c.loop.self c.tried-in-loop.new.self c.loop.invariant.ahead (c.in_ok-tried.ensures.done c.if-branch.true);
   busy = omega (arith, c.in_ok-tried.ensures.busy c.if-branch.true);

@@ -8,7 +8,9 @@ use Rattle.sj_plain.proofs.plain.Plain.start.Goals as goal
 pub invariant_of-result : goal.invariant_of-result
 invariant_of-result c = record {
   run = begins (file_of c.file.result.now) c.in_ok-course.course c.in_ok-course.ensures.file c.in_ok-course.ensures.acts c.in_ok-course.ensures.world;
+  ordered = c.in_ok-course.ensures.ordered;
   few = omega (arith, ap (λ w. length w.parties) c.in_ok-course.ensures.world, length-start (file_of c.file.result.now), c.file.ensures.accepted.within.parties);
+  connects = omega (arith, ap (λ v. length v.connects) c.in_ok-course.ensures.file, c.file.ensures.accepted.within.connects);
 }
 
 pub returns-clause-parties : goal.returns-clause-parties
