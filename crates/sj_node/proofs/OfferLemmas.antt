@@ -1,8 +1,7 @@
 -- Lists of offers, and what is put into them and taken out.
 use Rattle.std.proofs.Common.{◌≡◌, ◌≢◌, ℕ, zero, suc, ◌+◌, ◌<◌, true, false, eqb, List, [], ◌∷◌, ◌++◌, length, get_or, slice_get, drop, Some, None, refl, ap, sym, ◌∙◌, subst, arith, inl, inr}
 use Rattle.std.proofs.Common.{Result, Ok, Err, OnOk}
-use Rattle.core.specs.Result.{is_err}
-use Rattle.std.specs.Prelude.{Vec, min, vec_capacity, vec_len}
+use Rattle.std.specs.Prelude.{is_err, Vec, min, vec_capacity, vec_len}
 use Rattle.std.proofs.lemmas.Bool.{cases_eq, cases_lt}
 use Rattle.std.proofs.lemmas.Bool.Decides.{nat_tests}
 use Rattle.std.proofs.lemmas.Option.{slice_get-get_or, slice_get_past}
