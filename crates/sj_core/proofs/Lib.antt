@@ -12,6 +12,7 @@ pub mod HistoryLemmas
 pub mod LawLemmas
 pub mod NodesLemmas
 pub mod NoteLemmas
+pub mod OpensLemmas
 pub mod PutBackLemmas
 pub mod QuietLemmas
 pub mod ReachedLemmas

@@ -1,10 +1,11 @@
 //! Whether sessions are opened at run time, as a history tells it.
+ghost use Rattle.std.specs.List.{list_any};
 ghost use Rattle.std.specs.Prelude.{◌≡◌};
 ghost use Rattle.sj_core.specs.Opens.{is_opening, opens_sessions};
 ghost use Rattle.sj_core.specs.Views.{note_seen};
 
 use crate::World;
-use sj_end::Note;
+use sj_end::{Line, Note};
 
 /// Whether the note is of a session's request, of its Open or of its accept.
 fn is_opening(note: &Note) -> bool
@@ -16,6 +17,12 @@ fn is_opening(note: &Note) -> bool
     )
 }
 
+fn any_opens(lines: &[Line]) -> bool
+    ensures { result ≡ list_any (λ l. is_opening (note_seen l.entry.note)) lines.now }
+{
+    lines.iter().any(|line| is_opening(&line.entry.note))
+}
+
 impl World {
     ghost use Rattle.sj_core.specs.World.{history_of};
 
@@ -24,9 +31,6 @@ impl World {
     pub fn opens(&self) -> bool
         ensures { result ≡ opens_sessions (history_of self.now) }
     {
-        self.course
-            .history
-            .iter()
-            .any(|line| is_opening(&line.entry.note))
+        any_opens(self.history())
     }
 }

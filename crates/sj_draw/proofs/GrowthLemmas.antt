@@ -35,12 +35,12 @@ both false b h = cc
 le_of : (m n : ℕ) → nat_le m n ≡ true → m ≤ n
 le_of m n h = search (rules, tests)
 
-within : (a b c d e : ℕ) → (nat_le a 16 && nat_le b 64 && nat_le c 1000000 && nat_le d 64 && nat_le e 1024) ≡ true → IsWithin a c d e
+within : (a b c d e : ℕ) → (nat_le a 16 && nat_le b 1664 && nat_le c 1000000 && nat_le d 64 && nat_le e 1024) ≡ true → IsWithin a c d e
 within a b c d e h =
-    let h4 = both (nat_le a 16 && nat_le b 64 && nat_le c 1000000 && nat_le d 64) (nat_le e 1024) h in
-    let h3 = both (nat_le a 16 && nat_le b 64 && nat_le c 1000000) (nat_le d 64) h4.0 in
-    let h2 = both (nat_le a 16 && nat_le b 64) (nat_le c 1000000) h3.0 in
-    let h1 = both (nat_le a 16) (nat_le b 64) h2.0 in
+    let h4 = both (nat_le a 16 && nat_le b 1664 && nat_le c 1000000 && nat_le d 64) (nat_le e 1024) h in
+    let h3 = both (nat_le a 16 && nat_le b 1664 && nat_le c 1000000) (nat_le d 64) h4.0 in
+    let h2 = both (nat_le a 16 && nat_le b 1664) (nat_le c 1000000) h3.0 in
+    let h1 = both (nat_le a 16) (nat_le b 1664) h2.0 in
     record { few_parties = le_of a 16 h1.0; few_arrows = le_of c 1000000 h2.1; low_names = le_of d 64 h3.1; low_texts = le_of e 1024 h4.1 }
 
 right_low : (b : Bool) (x y : ℕ) → x ≤ 9000 → y ≤ 9000 → (if b then x else y) ≤ 9000

@@ -2,8 +2,8 @@
 use Rattle.std.proofs.Common.{◌≡◌, ℕ, ◌+◌, Bool, true, false, List, [], ◌∷◌, ◌++◌, map, Option, Some, None, if◌then◌else◌, refl, ap, sym, ◌∙◌, append_assoc, append-nil}
 use Rattle.std.proofs.lemmas.List.{map-append}
 use Rattle.std.specs.List.{filter_map, cons_option}
-use Rattle.sj_draw.specs.Frame.{ArrowAt, FrameAt, Outcome, Gathered, Unread, Beyond, empty, outcome_with, then_on, gathered, is_within, with_line, with_any, with_party, arrow_of}
-use Rattle.sj_draw.specs.Lines.{LineAt, Session, Party, Message, Delivery, Log, Verdict, read}
+use Rattle.sj_draw.specs.Frame.{ArrowAt, FrameAt, Outcome, Gathered, Unread, Beyond, empty, outcome_with, then_on, gathered, is_within, with_line, with_any, with_party, with_session, arrow_of, request_of}
+use Rattle.sj_draw.specs.Lines.{LineAt, Session, Opened, Party, Message, Delivery, Log, Verdict, read}
 use Rattle.sj_draw.specs.Told.{ToldAt, told_arrow, told_by, told_in, is_log, HasNoLog}
 
 pub any_arrows : (f : FrameAt) (name : Option (List ℕ)) → (with_any f name).arrows ≡ f.arrows
@@ -17,6 +17,8 @@ pushed xs ys a e = ap (λ zs. map told_arrow (zs ++ a ∷ [])) e ∙ map-append 
 -- what a line adds
 added : (f : FrameAt) (x : LineAt) → is_log (Some x) ≡ false → map told_arrow (with_line f x).arrows ≡ map told_arrow f.arrows ++ cons_option (told_by (Some x)) []
 added f (Session s) h = sym (append-nil (map told_arrow f.arrows))
+added f (Opened s) h =
+    let g = with_session (with_party (with_party f s.first_party) s.second_party) s in pushed g.arrows f.arrows (arrow_of g (request_of s)) refl
 added f (Party name) h = sym (append-nil (map told_arrow f.arrows))
 added f (Message p) h = let g = with_any (with_party f p.from) p.to in pushed g.arrows f.arrows (arrow_of g p) (any_arrows (with_party f p.from) p.to)
 added f (Delivery p) h = let g = with_party (with_any f p.to) p.from in pushed g.arrows f.arrows (arrow_of g p) (any_arrows f p.to)

@@ -2,8 +2,8 @@
 use Rattle.std.proofs.Common.{◌≡◌, ℕ, ◌+◌, ◌≤◌, Bool, true, false, List, [], ◌∷◌, ◌++◌, length, max, cond, nat_lt, Option, Some, None, if◌then◌else◌, refl, ap, subst, arith}
 use Rattle.std.proofs.lemmas.List.{length-append}
 use Rattle.std.specs.List.{AllByRecursion, filter}
-use Rattle.sj_draw.specs.Frame.{ArrowAt, FrameAt, Outcome, Gathered, Unread, Beyond, empty, outcome_with, then_on, gathered, is_within, is_untaken, with_line, with_any, with_party, with_arrow, arrow_of, number_of}
-use Rattle.sj_draw.specs.Lines.{LineAt, Session, Party, Message, Delivery, Log, Verdict, read}
+use Rattle.sj_draw.specs.Frame.{ArrowAt, FrameAt, Outcome, Gathered, Unread, Beyond, empty, outcome_with, then_on, gathered, is_within, is_untaken, with_line, with_any, with_party, with_session, with_arrow, arrow_of, request_of, number_of}
+use Rattle.sj_draw.specs.Lines.{LineAt, Session, Opened, Party, Message, Delivery, Log, Verdict, read}
 use Rattle.sj_draw.proofs.OnceLemmas.{any_arrows}
 
 -- what holds of a frame and a number of lines holds behind further lines, where each line keeps it
@@ -86,6 +86,9 @@ of_arrow f a r =
 
 of_line : (f : FrameAt) (x : LineAt) → Rooms f → Rooms (with_line f x)
 of_line f (Session s) r = let q = of_party (with_party f s.first_party) s.second_party (of_party f s.first_party r) in record { parties = q.parties; arrows = q.arrows }
+of_line f (Opened s) r =
+    let q = of_party (with_party f s.first_party) s.second_party (of_party f s.first_party r) in
+    let g = with_session (with_party (with_party f s.first_party) s.second_party) s in of_arrow g (arrow_of g (request_of s)) (record { parties = q.parties; arrows = q.arrows })
 of_line f (Party name) r = of_party f name r
 of_line f (Message p) r = let g = with_any (with_party f p.from) p.to in of_arrow g (arrow_of g p) (of_any (with_party f p.from) p.to (of_party f p.from r))
 of_line f (Delivery p) r = let g = with_party (with_any f p.to) p.from in of_arrow g (arrow_of g p) (of_party (with_any f p.to) p.from (of_any f p.to r))
@@ -97,6 +100,8 @@ one_longer xs ys a k e h = omega (arith, length-append xs (a ∷ []), ap (λ (zs
 
 few_more : (k : ℕ) (f : FrameAt) (x : LineAt) → length f.arrows ≤ k → length (with_line f x).arrows ≤ k + 1
 few_more k f (Session s) h = omega (arith, h)
+few_more k f (Opened s) h =
+    let g = with_session (with_party (with_party f s.first_party) s.second_party) s in one_longer g.arrows f.arrows (arrow_of g (request_of s)) k refl h
 few_more k f (Party name) h = omega (arith, h)
 few_more k f (Message p) h = let g = with_any (with_party f p.from) p.to in one_longer g.arrows f.arrows (arrow_of g p) k (any_arrows (with_party f p.from) p.to) h
 few_more k f (Delivery p) h = let g = with_party (with_any f p.to) p.from in one_longer g.arrows f.arrows (arrow_of g p) k (any_arrows f p.to) h

@@ -4,7 +4,7 @@ use Rattle.std.proofs.lemmas.List.{length-append}
 use Rattle.std.proofs.lemmas.Fmt.{length-decimal-le}
 use Rattle.std.specs.List.{concat}
 use Rattle.sj_draw.specs.declared.lines.Mark.{Mark}
-use Rattle.sj_draw.specs.declared.lines.Mark.TheVariants.{Message, Fin, Session, Claim, Signal, Ack, Give}
+use Rattle.sj_draw.specs.declared.lines.Mark.TheVariants.{Message, Fin, Session, Claim, Signal, Ack, Give, Request, Open, Accept}
 use Rattle.sj_draw.specs.declared.layout.Layout.{Layout}
 use Rattle.sj_draw.specs.Drawn.{class_of, end_class, head_text, way_of, x_of, y_of, tip_of, arrow_text, party_text}
 use Rattle.sj_draw.specs.Frame.{ArrowAt, most_parties}
@@ -55,6 +55,9 @@ class_7 Claim = lit≤ tt
 class_7 Signal = lit≤ tt
 class_7 Ack = lit≤ tt
 class_7 Give = lit≤ tt
+class_7 Request = lit≤ tt
+class_7 Open = lit≤ tt
+class_7 Accept = lit≤ tt
 
 end_8 : (to : Option ℕ) → length (end_class to) ≤ 8
 end_8 None = lit≤ tt

@@ -2,7 +2,7 @@
 use Rattle.std.specs.Prelude.{ℕ, ◌+◌, ◌*◌, ◌-◌, ◌==◌, List, [], ◌∷◌, ◌++◌, length, min, max, Option, Some, None, if◌then◌else◌, decimal, codes}
 use Rattle.std.specs.List.{concat}
 use Rattle.sj_draw.specs.declared.lines.Mark.{Mark}
-use Rattle.sj_draw.specs.declared.lines.Mark.TheVariants.{Message, Fin, Session, Claim, Signal, Ack, Give}
+use Rattle.sj_draw.specs.declared.lines.Mark.TheVariants.{Message, Fin, Session, Claim, Signal, Ack, Give, Request, Open, Accept}
 use Rattle.sj_draw.specs.declared.layout.Layout.{Layout}
 use Rattle.sj_draw.specs.declared.style.TheConstants.{STYLE}
 use Rattle.sj_draw.specs.Frame.{ArrowAt, FrameAt, most_parties}
@@ -59,6 +59,9 @@ class_of Claim = codes "claim"
 class_of Signal = codes "signal"
 class_of Ack = codes "ack"
 class_of Give = codes "give"
+class_of Request = codes "request"
+class_of Open = codes "open"
+class_of Accept = codes "accept"
 
 -- a message that nobody took ends in an open circle
 abbrev pub end_class : Option ℕ → List ℕ

@@ -1,10 +1,11 @@
 -- What is gathered of lines: parties and sessions in order, and the arrows that a picture shows.
-use Rattle.std.specs.Prelude.{ℕ, ◌+◌, List, [], ◌∷◌, ◌++◌, length, max, Bool, true, false, ◌&&◌, ◌||◌, Option, Some, None, is_none, if◌then◌else◌, nat_le, nat_lt, nat_eq, filter, codes}
+use Rattle.std.specs.Prelude.{ℕ, ◌+◌, ◌*◌, List, [], ◌∷◌, ◌++◌, length, max, Bool, true, false, ◌&&◌, ◌||◌, Option, Some, None, is_none, if◌then◌else◌, nat_le, nat_lt, nat_eq, filter, codes}
 use Rattle.std.specs.Option.{option_map}
 use Rattle.std.specs.Str.{bytes_eq}
 use Rattle.sj_draw.specs.declared.lines.Mark.{Mark}
-use Rattle.sj_draw.specs.Lines.{SessionAt, PassedAt, LineAt, Session, Party, Message, Delivery, Log, Verdict, read}
-use Rattle.sj_draw.specs.Words.{before, behind}
+use Rattle.sj_draw.specs.declared.lines.Mark.TheVariants.{Request}
+use Rattle.sj_draw.specs.Lines.{SessionAt, PassedAt, LineAt, Session, Opened, Party, Message, Delivery, Log, Verdict, read}
+use Rattle.sj_draw.specs.Words.{before}
 
 -- an arrow between the lines of two parties, by their numbers; to none where nobody took the message
 pub record ArrowAt : Type 0 where
@@ -37,12 +38,16 @@ number_of (p ∷ ps) name = if bytes_eq p name then 0 else number_of ps name + 1
 abbrev pub joined_by : List (List ℕ) → List ℕ → List (List ℕ)
 joined_by ps name = if nat_lt (number_of ps name) (length ps) then ps else ps ++ name ∷ []
 
--- the name of an end of a session, or the end as it is written where no session has that number
-abbrev pub name_of : List SessionAt → List ℕ → List ℕ
-name_of [] end = end
-name_of (s ∷ ss) end =
-    if bytes_eq s.number (before 46 end) then (if bytes_eq (behind 46 end) (codes "0") then s.first_end else s.second_end)
-    else name_of ss end
+-- an end that nobody accepted has no name
+abbrev pub named : List ℕ → List ℕ → List ℕ
+named name end = if bytes_eq name (codes "-") then end else name
+
+-- the name of an end of a session, or the end as it is written where it has none, or no session has that number
+abbrev pub name_of : List SessionAt → List ℕ → Bool → List ℕ
+name_of [] end first = end
+name_of (s ∷ ss) end first =
+    if bytes_eq s.number (before 46 end) then named (if first then s.first_end else s.second_end) end
+    else name_of ss end first
 
 -- a party is mentioned
 abbrev pub with_party : FrameAt → List ℕ → FrameAt
@@ -57,8 +62,19 @@ arrow_of f p = record {
   mark = p.mark;
   from = number_of f.parties p.from;
   to = option_map (number_of f.parties) p.to;
-  name = name_of f.sessions p.end;
+  name = name_of f.sessions p.end p.first;
   text = p.text;
+}
+
+-- the request of a session that was opened: to whom accepted it, if anybody did
+abbrev pub request_of : SessionAt → PassedAt
+request_of s = record {
+  mark = Request;
+  from = s.first_party;
+  to = if bytes_eq s.second_end (codes "-") then None else Some s.second_party;
+  end = s.number;
+  first = true;
+  text = codes "request";
 }
 
 -- it goes to no other party
@@ -85,9 +101,10 @@ with_any f (Some name) = with_party f name
 abbrev pub is_untaken : ArrowAt → Bool
 is_untaken a = is_none a.to
 
--- what a line adds; where a log begins, the arrows of messages that were taken go, since the log has their frames
+-- what a line adds; the arrows of an opened session begin with that of its request; where a log begins, the arrows of messages that were taken go, since the log has their frames
 abbrev pub with_line : FrameAt → LineAt → FrameAt
 with_line f (Session s) = with_session (with_party (with_party f s.first_party) s.second_party) s
+with_line f (Opened s) = with_passed (with_session (with_party (with_party f s.first_party) s.second_party) s) (request_of s)
 with_line f (Party name) = with_party f name
 with_line f (Message p) = with_passed (with_any (with_party f p.from) p.to) p
 with_line f (Delivery p) = with_passed (with_party (with_any f p.to) p.from) p
@@ -98,8 +115,9 @@ with_line f Verdict = f
 abbrev pub most_parties : ℕ
 most_parties = 16
 
+-- of connections, and 100 of each party
 abbrev pub most_sessions : ℕ
-most_sessions = 64
+most_sessions = 64 + 16 * 100
 
 abbrev pub most_arrows : ℕ
 most_arrows = 1000000

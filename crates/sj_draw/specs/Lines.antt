@@ -1,5 +1,5 @@
 -- Lines of transcripts and logs, as far as a picture shows them.
-use Rattle.std.specs.Prelude.{ℕ, ◌==◌, List, [], ◌∷◌, length, Bool, false, not, ◌&&◌, ◌||◌, Option, Some, None, is_some, if◌then◌else◌, nat_le, codes, slice_index, ◌-◌}
+use Rattle.std.specs.Prelude.{ℕ, ◌==◌, List, [], ◌∷◌, length, Bool, true, false, not, ◌&&◌, ◌||◌, Option, Some, None, is_some, if◌then◌else◌, nat_le, nat_lt, codes, slice_index, ◌-◌}
 use Rattle.std.specs.List.{list_all}
 use Rattle.std.specs.Option.{option_map}
 use Rattle.std.specs.Str.{bytes_eq}
@@ -7,7 +7,7 @@ use Rattle.sj_draw.specs.declared.words.Field.{Field}
 use Rattle.sj_draw.specs.declared.words.Field.TheVariants.{Number, End, Name, Resend}
 use Rattle.sj_draw.specs.declared.lines.Mark.{Mark}
 use Rattle.sj_draw.specs.declared.lines.Mark.TheVariants as marks
-use Rattle.sj_draw.specs.Words.{word, words_behind, is_number, is_end, behind_fields, is_just}
+use Rattle.sj_draw.specs.Words.{word, words_behind, behind, is_number, is_end, behind_fields, is_just}
 
 -- a session: its number, and its two parties with their ends
 pub record SessionAt : Type 0 where
@@ -17,17 +17,20 @@ pub record SessionAt : Type 0 where
   pub second_party : List ℕ
   pub second_end : List ℕ
 
--- a message or a frame: from whom to whom, if anybody took it; the end that it names, and its text
+-- a message, a frame or an opening: from whom to whom, if anybody took it; the end or the session that it names, whether
+-- that is the session's first end, and its text
 pub record PassedAt : Type 0 where
   pub mark : Mark
   pub from : List ℕ
   pub to : Option (List ℕ)
   pub end : List ℕ
+  pub first : Bool
   pub text : List ℕ
 
 -- what a line tells
 pub data LineAt : Type 0 where
   Session : SessionAt → LineAt
+  Opened : SessionAt → LineAt
   Party : List ℕ → LineAt
   Message : PassedAt → LineAt
   Delivery : PassedAt → LineAt
@@ -67,14 +70,19 @@ frame_mark kind rest =
     else (if bytes_eq kind (codes "signal") then mark_if (is_just (End ∷ Number ∷ Name ∷ Number ∷ []) rest) marks.Signal
     else (if bytes_eq kind (codes "ack") then mark_if (is_just (End ∷ Number ∷ []) rest) marks.Ack
     else (if bytes_eq kind (codes "give") then mark_if (is_just (End ∷ Number ∷ Name ∷ Number ∷ Number ∷ Number ∷ Resend ∷ []) rest) marks.Give
-    else None)))))
+    else (if bytes_eq kind (codes "open") then mark_if (is_just (Number ∷ []) rest) marks.Open
+    else None))))))
+
+-- it is an end of side 0; a session that comes is named by its number alone, and its end of side 1 is meant
+abbrev pub is_first : List ℕ → Bool
+is_first end = bytes_eq (behind 46 end) (codes "0")
 
 -- a frame that came to the party: from whom, and what it says
 abbrev pub frame_line : List ℕ → List ℕ → Option LineAt
 frame_line to rest =
     let text = words_behind rest in
     if length (word rest) == 0 then None
-    else option_map (λ m. Delivery (record { mark = m; from = word rest; to = Some to; end = word (words_behind text); text = text }))
+    else option_map (λ m. Delivery (record { mark = m; from = word rest; to = Some to; end = word (words_behind text); first = is_first (word (words_behind text)); text = text }))
     (frame_mark (word text) (words_behind text))
 
 -- whether that is what a party did
@@ -83,14 +91,29 @@ is_act verb rest =
     if bytes_eq verb (codes "close") then is_just (End ∷ []) rest
     else (if bytes_eq verb (codes "send") || bytes_eq verb (codes "take") then is_some (mark_behind (End ∷ []) rest) else false)
 
--- an event at a party: a frame that came, or what the party did, which only names it
+-- a session is opened to a party, or accepted from one
+abbrev pub opening : Mark → Bool → List ℕ → List ℕ → Option LineAt
+opening mark first party deed =
+    let rest = words_behind deed in
+    if is_just (Number ∷ Name ∷ []) rest
+    then Some (Message (record { mark = mark; from = party; to = Some (word (words_behind rest)); end = word rest; first = first; text = deed }))
+    else None
+
+-- the same by what the party did: a request is drawn at its own end, an accept at the other
+abbrev pub opening_line : List ℕ → List ℕ → Option LineAt
+opening_line party deed =
+    if bytes_eq (word deed) (codes "request") then opening marks.Request true party deed
+    else (if bytes_eq (word deed) (codes "accept") then opening marks.Accept false party deed
+    else None)
+
+-- an event at a party: a frame that came, or what the party did, which only names it where no session is opened
 abbrev pub event_line : List ℕ → Option LineAt
 event_line rest =
     let party = word rest in let deed = words_behind rest in
     if length party == 0 then None
     else (if bytes_eq deed (codes "local") then Some (Party party)
     else (if bytes_eq (word deed) (codes "from") then frame_line party (words_behind deed)
-    else (if is_act (word deed) (words_behind deed) then Some (Party party) else None)))
+    else (if is_act (word deed) (words_behind deed) then Some (Party party) else opening_line party deed)))
 
 -- the party that took a message, or a dash
 abbrev pub taker_in : List ℕ → Option (List ℕ)
@@ -100,15 +123,23 @@ taker_in w = if bytes_eq w (codes "-") then None else Some w
 abbrev pub message_line : List ℕ → List ℕ → Option LineAt
 message_line end rest =
     let from = words_behind rest in let taker = words_behind from in
-    option_map (λ m. Message (record { mark = m; from = word from; to = taker_in (word taker); end = end; text = words_behind taker }))
+    option_map (λ m. Message (record { mark = m; from = word from; to = taker_in (word taker); end = end; first = is_first end; text = words_behind taker }))
     (mark_behind (Number ∷ Name ∷ Name ∷ []) rest)
+
+-- steps, and the party from which it would accept
+abbrev pub is_steps_from : List ℕ → Bool
+is_steps_from rest = is_just (Number ∷ Name ∷ Name ∷ []) rest && bytes_eq (word (words_behind rest)) (codes "from")
+
+-- steps, and the word for a request that is one too many
+abbrev pub is_steps_request : List ℕ → Bool
+is_steps_request rest = is_just (Number ∷ Name ∷ []) rest && bytes_eq (words_behind rest) (codes "request")
 
 -- how a party stands
 abbrev pub is_state : List ℕ → List ℕ → Bool
 is_state how rest =
     if bytes_eq how (codes "ended") then is_just (Number ∷ []) rest
-    else (if bytes_eq how (codes "waits") then is_just (Number ∷ End ∷ []) rest
-    else (if bytes_eq how (codes "limit") then is_just (Number ∷ []) rest || is_just (Number ∷ End ∷ []) rest
+    else (if bytes_eq how (codes "waits") then is_just (Number ∷ End ∷ []) rest || is_steps_from rest
+    else (if bytes_eq how (codes "limit") then is_just (Number ∷ []) rest || is_just (Number ∷ End ∷ []) rest || is_steps_request rest
     else false))
 
 abbrev pub party_line : List ℕ → Option LineAt
@@ -117,11 +148,19 @@ party_line rest =
     if length party == 0 then None
     else (if is_state (word state) (words_behind state) then Some (Party party) else None)
 
+-- sessions that are opened have numbers from 64 on: two digits, not below "64", or more
+abbrev pub is_opened : List ℕ → Bool
+is_opened (tens ∷ ones ∷ []) = nat_lt 54 tens || ((tens == 54) && nat_le 52 ones)
+is_opened number = nat_lt 2 (length number)
+
+abbrev pub session_told : SessionAt → LineAt
+session_told s = if is_opened s.number then Opened s else Session s
+
 abbrev pub session_line : List ℕ → Option LineAt
 session_line rest =
     let first = words_behind rest in let first_end = words_behind first in let second = words_behind first_end in
     if is_just (Number ∷ Name ∷ Name ∷ Name ∷ Name ∷ []) rest
-    then Some (Session (record { number = word rest; first_party = word first; first_end = word first_end; second_party = word second; second_end = word (words_behind second) }))
+    then Some (session_told (record { number = word rest; first_party = word first; first_end = word first_end; second_party = word second; second_end = word (words_behind second) }))
     else None
 
 abbrev pub is_printing : List ℕ → Bool
@@ -150,7 +189,7 @@ split_line line = worded_line (word line) (words_behind line)
 
 abbrev pub plain_line : List ℕ → Option LineAt
 plain_line line =
-    if bytes_eq line (codes "%%log") then Some Log
+    if bytes_eq line (codes "%%log") || bytes_eq line (codes "%%log2") then Some Log
     else (if is_verdict line then Some Verdict else split_line line)
 
 -- what a line tells, where it is one of a transcript or a log

@@ -1,8 +1,8 @@
 -- What arrows tell, and what the lines do from which they come.
 use Rattle.std.specs.Prelude.{◌≡◌, ℕ, Bool, true, false, List, [], ◌∷◌, Option, Some, None, ⊤}
 use Rattle.sj_draw.specs.declared.lines.Mark.{Mark}
-use Rattle.sj_draw.specs.Frame.{ArrowAt}
-use Rattle.sj_draw.specs.Lines.{PassedAt, LineAt, Message, Delivery, Log, read}
+use Rattle.sj_draw.specs.Frame.{ArrowAt, request_of}
+use Rattle.sj_draw.specs.Lines.{PassedAt, LineAt, Opened, Message, Delivery, Log, read}
 
 -- a kind and a text
 pub record ToldAt : Type 0 where
@@ -15,8 +15,9 @@ told_arrow a = record { mark = a.mark; text = a.text }
 abbrev pub passed_told : PassedAt → ToldAt
 passed_told p = record { mark = p.mark; text = p.text }
 
--- a message of a transcript, or a delivery of a log
+-- a session that was opened, a message of a transcript or an opening of a log, or a delivery
 abbrev pub told_by : Option LineAt → Option ToldAt
+told_by (Some (Opened s)) = Some (passed_told (request_of s))
 told_by (Some (Message p)) = Some (passed_told p)
 told_by (Some (Delivery p)) = Some (passed_told p)
 told_by _ = None

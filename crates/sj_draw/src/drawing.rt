@@ -149,6 +149,9 @@ fn class_of(mark: Mark) -> &'static [u8]
         Mark::Signal => b"signal",
         Mark::Ack => b"ack",
         Mark::Give => b"give",
+        Mark::Request => b"request",
+        Mark::Open => b"open",
+        Mark::Accept => b"accept",
     }
 }
 

@@ -1,7 +1,7 @@
 //! What is gathered of lines: parties and sessions in order, and the arrows that a picture shows.
 ghost use Rattle.std.specs.Prelude.{◌≡◌, ◌≤◌, OnOk, map, length};
 ghost use Rattle.std.specs.Option.{option_map};
-ghost use Rattle.sj_draw.specs.Frame.{empty, number_of, name_of, with_party, with_any, with_passed, with_line, is_within, is_hook};
+ghost use Rattle.sj_draw.specs.Frame.{empty, number_of, named, name_of, request_of, with_party, with_any, with_passed, with_line, is_within, is_hook};
 ghost use Rattle.sj_draw.specs.Lines.{Log};
 ghost use Rattle.sj_draw.specs.Views.{session_at, passed_at, line_at, frame_at};
 
@@ -13,7 +13,8 @@ use std::alloc::Global;
 /// The most parties, sessions and arrows.
 const MOST_PARTIES: usize = 16;
 
-const MOST_SESSIONS: usize = 64;
+/// Of connections, and 100 of each party.
+const MOST_SESSIONS: usize = 1_664;
 
 const MOST_ARROWS: usize = 1_000_000;
 
@@ -87,6 +88,12 @@ impl<'a> Frame<'a> {
                 self.sessions.push(session)?;
                 Ok(())
             }
+            Line::Opened(session) => {
+                self.mention(session.first_party)?;
+                self.mention(session.second_party)?;
+                self.sessions.push(session)?;
+                self.draw(request_of(session))
+            }
             Line::Party(name) => self.mention(name),
             Line::Message(passed) => {
                 self.mention(passed.from)?;
@@ -143,7 +150,7 @@ impl<'a> Frame<'a> {
             Some(name) => Some(number_of(&self.parties, name)),
             None => None,
         };
-        let name = name_of(&self.sessions, passed.end);
+        let name = name_of(&self.sessions, passed.end, passed.first);
         self.texts = self.texts.max(name.len() + passed.text.len());
         self.hooks = self.hooks || is_hook(from, to);
         self.arrows.push(Arrow {
@@ -180,19 +187,46 @@ fn number_of(parties: &[&[u8]], name: &[u8]) -> usize
     parties.len()
 }
 
-// The name of an end of a session, or the end as it is written where no session has that number.
-fn name_of<'a>(sessions: &[Session<'a>], end: &'a [u8]) -> &'a [u8]
-    ensures { result.now ≡ name_of (map session_at sessions.now) end.entry.now }
+// The name of an end of a session, or the end as it is written where it has none, or no session has
+// that number.
+fn name_of<'a>(sessions: &[Session<'a>], end: &'a [u8], first: bool) -> &'a [u8]
+    ensures { result.now ≡ name_of (map session_at sessions.now) end.entry.now first }
 {
-    let (number, side) = cut(end, b'.');
+    let (number, _) = cut(end, b'.');
     for session in sessions {
         if session.number == number {
-            return if side == b"0".as_slice() {
-                session.first_end
+            return if first {
+                named(session.first_end, end)
             } else {
-                session.second_end
+                named(session.second_end, end)
             };
         }
     }
     end
+}
+
+// An end that nobody accepted has no name.
+fn named<'a>(name: &'a [u8], end: &'a [u8]) -> &'a [u8]
+    ensures { result.now ≡ named name.entry.now end.entry.now }
+{
+    if name == b"-".as_slice() { end } else { name }
+}
+
+// The request of a session that was opened: to whom accepted it, if anybody did.
+fn request_of<'a>(session: Session<'a>) -> Passed<'a>
+    ensures { passed_at result ≡ request_of (session_at session.entry) }
+{
+    let to = if session.second_end == b"-".as_slice() {
+        None
+    } else {
+        Some(session.second_party)
+    };
+    Passed {
+        mark: Mark::Request,
+        from: session.first_party,
+        to,
+        end: session.number,
+        first: true,
+        text: b"request",
+    }
 }

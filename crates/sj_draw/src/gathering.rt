@@ -15,7 +15,7 @@ use std::alloc::{AllocError, Global};
 pub enum DrawRefusal {
     /// The line is none of a transcript or a log, and those before it are drawn.
     Unread(usize),
-    /// The line is one, and with it there are more than 16 parties, 64 sessions, 1,000,000 arrows, 64 bytes
+    /// The line is one, and with it there are more than 16 parties, 1,664 sessions, 1,000,000 arrows, 64 bytes
     /// of a party's name, or 1,024 of an end's name and a text.
     Beyond(usize),
     NoMemory,

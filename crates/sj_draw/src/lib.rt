@@ -7,6 +7,8 @@ mod gathering;
 mod laws;
 mod layout;
 mod lines;
+mod marks;
+mod openings;
 mod pieces;
 mod run;
 mod style;

@@ -1,10 +1,12 @@
 //! Lines of transcripts and logs, as far as a picture shows them.
 ghost use Rattle.std.specs.Prelude.{◌≡◌};
 ghost use Rattle.std.specs.Option.{option_map};
-ghost use Rattle.sj_draw.specs.Lines.{mark_if, valued_mark, message_mark, mark_behind, frame_mark, frame_line, is_act, event_line, message_line, is_state, party_line, session_line, is_printing, ends_in_space, is_plain, is_verdict, plain_line, split_line, worded_line, read};
+ghost use Rattle.sj_draw.specs.Lines.{frame_line, is_act, event_line, message_line, is_state, party_line, session_line, is_printing, ends_in_space, is_plain, is_verdict, plain_line, split_line, worded_line, read};
 ghost use Rattle.sj_draw.specs.Views.{line_at};
 
-use crate::words::{Field, behind_fields, cut, is_end, is_just, is_number};
+use crate::marks::{frame_mark, mark_behind};
+use crate::openings::{is_first, is_steps_from, is_steps_request, opening_line, session_told};
+use crate::words::{Field, cut, is_end, is_just, is_number};
 
 /// How a message or a frame is drawn.
 #[derive(Clone, Copy)]
@@ -18,6 +20,11 @@ pub(crate) enum Mark {
     Signal,
     Ack,
     Give,
+    /// A session is opened.
+    Request,
+    /// That session comes to whom it was opened to.
+    Open,
+    Accept,
 }
 
 /// A session: its number, and its two parties with their ends.
@@ -30,15 +37,17 @@ pub(crate) struct Session<'a> {
     pub second_end: &'a [u8],
 }
 
-/// A message or a frame that was passed on.
+/// A message or a frame that was passed on, or a session that is opened or accepted.
 #[derive(Clone, Copy)]
 pub(crate) struct Passed<'a> {
     pub mark: Mark,
     pub from: &'a [u8],
     /// None where nobody took it.
     pub to: Option<&'a [u8]>,
-    /// The end from which a message was sent, or that a frame names, as `0.1`.
+    /// The end from which a message was sent, or that a frame names, as `0.1`; or an opened session's number.
     pub end: &'a [u8],
+    /// Whether the session's first end is meant.
+    pub first: bool,
     pub text: &'a [u8],
 }
 
@@ -46,9 +55,11 @@ pub(crate) struct Passed<'a> {
 #[derive(Clone, Copy)]
 pub(crate) enum Line<'a> {
     Session(Session<'a>),
+    /// A session that was opened at run time.
+    Opened(Session<'a>),
     /// It names a party, and draws nothing.
     Party(&'a [u8]),
-    /// A message of a transcript.
+    /// A message of a transcript, or an act of a log that opens or accepts a session.
     Message(Passed<'a>),
     /// A frame that came, of a log.
     Delivery(Passed<'a>),
@@ -70,7 +81,7 @@ pub(crate) fn read_line<'a>(line: &'a [u8]) -> Option<Line<'a>>
 fn plain_line<'a>(line: &'a [u8]) -> Option<Line<'a>>
     ensures { option_map line_at result ≡ plain_line line.entry.now }
 {
-    if line == b"%%log".as_slice() {
+    if line == b"%%log".as_slice() || line == b"%%log2".as_slice() {
         return Some(Line::Log);
     }
     if is_verdict(line) {
@@ -149,7 +160,7 @@ fn session_line<'a>(rest: &'a [u8]) -> Option<Line<'a>>
     let (first_end, rest) = cut(rest, b' ');
     let (second_party, rest) = cut(rest, b' ');
     let (second_end, _) = cut(rest, b' ');
-    Some(Line::Session(Session {
+    Some(session_told(Session {
         number,
         first_party,
         first_end,
@@ -176,9 +187,11 @@ fn is_state(how: &[u8], rest: &[u8]) -> bool
     if how == b"ended".as_slice() {
         is_just(&[Field::Number], rest)
     } else if how == b"waits".as_slice() {
-        is_just(&[Field::Number, Field::End], rest)
+        is_just(&[Field::Number, Field::End], rest) || is_steps_from(rest)
     } else if how == b"limit".as_slice() {
-        is_just(&[Field::Number], rest) || is_just(&[Field::Number, Field::End], rest)
+        is_just(&[Field::Number], rest)
+            || is_just(&[Field::Number, Field::End], rest)
+            || is_steps_request(rest)
     } else {
         false
     }
@@ -204,6 +217,7 @@ fn message_line<'a>(end: &'a [u8], rest: &'a [u8]) -> Option<Line<'a>>
         from,
         to,
         end,
+        first: is_first(end),
         text,
     }))
 }
@@ -226,7 +240,7 @@ fn event_line<'a>(rest: &'a [u8]) -> Option<Line<'a>>
     if is_act(verb, rest) {
         Some(Line::Party(party))
     } else {
-        None
+        opening_line(party, deed)
     }
 }
 
@@ -261,75 +275,7 @@ fn frame_line<'a>(to: &'a [u8], rest: &'a [u8]) -> Option<Line<'a>>
         from,
         to: Some(to),
         end,
+        first: is_first(end),
         text,
     }))
-}
-
-// How a frame is drawn, by its kind and what stands behind that.
-fn frame_mark(kind: &[u8], rest: &[u8]) -> Option<Mark>
-    ensures { result ≡ frame_mark kind.now rest.now }
-{
-    use Field::{End, Name, Number, Resend};
-    if kind == b"carry".as_slice() {
-        return mark_behind(&[End, Number, Number, Number], rest);
-    }
-    if kind == b"fin".as_slice() {
-        return mark_if(is_just(&[End, Number, Number], rest), Mark::Fin);
-    }
-    if kind == b"claim".as_slice() {
-        return mark_if(is_just(&[End], rest), Mark::Claim);
-    }
-    if kind == b"signal".as_slice() {
-        return mark_if(is_just(&[End, Number, Name, Number], rest), Mark::Signal);
-    }
-    if kind == b"ack".as_slice() {
-        return mark_if(is_just(&[End, Number], rest), Mark::Ack);
-    }
-    if kind == b"give".as_slice() {
-        let fields = [End, Number, Name, Number, Number, Number, Resend];
-        return mark_if(is_just(&fields, rest), Mark::Give);
-    }
-    None
-}
-
-fn mark_if(fits: bool, mark: Mark) -> Option<Mark>
-    ensures { result ≡ mark_if fits mark }
-{
-    if fits { Some(mark) } else { None }
-}
-
-// How a message is drawn that stands behind these words.
-fn mark_behind(fields: &[Field], text: &[u8]) -> Option<Mark>
-    ensures { result ≡ mark_behind fields.now text.now }
-{
-    match behind_fields(fields, text) {
-        Some(message) => message_mark(message),
-        None => None,
-    }
-}
-
-fn message_mark(text: &[u8]) -> Option<Mark>
-    ensures { result ≡ message_mark text.now }
-{
-    if text == b"more".as_slice() || text == b"stop".as_slice() {
-        return Some(Mark::Message);
-    }
-    let (kind, value) = cut(text, b' ');
-    valued_mark(kind, value)
-}
-
-// A message by its kind and its value.
-fn valued_mark(kind: &[u8], value: &[u8]) -> Option<Mark>
-    ensures { result ≡ valued_mark kind.now value.now }
-{
-    if kind == b"String".as_slice() {
-        return mark_if(!value.is_empty(), Mark::Message);
-    }
-    if kind == b"session".as_slice() {
-        return mark_if(is_just(&[Field::End, Field::Name], value), Mark::Session);
-    }
-    if kind == b"int".as_slice() || kind == b"boolean".as_slice() || kind == b"label".as_slice() {
-        return mark_if(is_just(&[Field::Name], value), Mark::Message);
-    }
-    None
 }

@@ -1,4 +1,4 @@
-//! How lines and arrows look: each kind of frame has a colour and dashes of its own.
+//! How lines and arrows look: each kind of frame has a colour and dashes of its own, and openings have one colour.
 
 /// The looks of the classes, the tips of the arrows, and a white page.
 pub(crate) const STYLE: &[u8] = b"\
@@ -14,6 +14,9 @@ path{fill:none;stroke-width:1.5}\
 .signal{stroke:#c2410c;stroke-dasharray:12 3 2 3;marker-end:url(#signal)}\
 .ack{stroke:#1d4ed8;stroke-dasharray:4 4;marker-end:url(#ack)}\
 .give{stroke:#6d28d9;stroke-width:3;stroke-dasharray:16 4;marker-end:url(#give)}\
+.request{stroke:#a16207;stroke-width:3;stroke-dasharray:4 4;marker-end:url(#request)}\
+.open{stroke:#a16207;stroke-width:3;marker-end:url(#open)}\
+.accept{stroke:#a16207;stroke-dasharray:8 4;marker-end:url(#accept)}\
 .untaken{marker-end:url(#untaken)}\
 </style>\n\
 <marker id='message' viewBox='0 0 10 10' refX='10' refY='5' markerWidth='10' markerHeight='10' \
@@ -30,6 +33,12 @@ markerUnits='userSpaceOnUse' orient='auto'><path d='M 0 0 L 10 5 L 0 10 z' style
 markerUnits='userSpaceOnUse' orient='auto'><path d='M 0 0 L 10 5 L 0 10 z' style='fill:#1d4ed8'/></marker>\
 <marker id='give' viewBox='0 0 10 10' refX='10' refY='5' markerWidth='10' markerHeight='10' \
 markerUnits='userSpaceOnUse' orient='auto'><path d='M 0 0 L 10 5 L 0 10 z' style='fill:#6d28d9'/></marker>\
+<marker id='request' viewBox='0 0 10 10' refX='10' refY='5' markerWidth='10' markerHeight='10' \
+markerUnits='userSpaceOnUse' orient='auto'><path d='M 0 0 L 10 5 L 0 10 z' style='fill:#a16207'/></marker>\
+<marker id='open' viewBox='0 0 10 10' refX='10' refY='5' markerWidth='10' markerHeight='10' \
+markerUnits='userSpaceOnUse' orient='auto'><path d='M 0 0 L 10 5 L 0 10 z' style='fill:#a16207'/></marker>\
+<marker id='accept' viewBox='0 0 10 10' refX='10' refY='5' markerWidth='10' markerHeight='10' \
+markerUnits='userSpaceOnUse' orient='auto'><path d='M 0 0 L 10 5 L 0 10 z' style='fill:#a16207'/></marker>\
 \n<marker id='untaken' viewBox='0 0 10 10' refX='5' refY='5' markerWidth='10' markerHeight='10' \
 markerUnits='userSpaceOnUse'><circle cx='5' cy='5' r='4' style='fill:#fff;stroke:#111'/></marker>\n\
 <rect width='100%' height='100%' fill='#fff'/>\n";

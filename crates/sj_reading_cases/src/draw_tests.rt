@@ -11,9 +11,14 @@ const TRANSCRIPT: &[u8] = b"session 0 a x b y\n\
     session 1 b z c u\n\
     1.0 0 b c session 0.1 b\n\
     1.1 0 c - String \"<&>\"\n\
+    session 64 a o b p\n\
+    64.0 0 a b int 2\n\
+    session 65 a q c -\n\
     party a ended 4\n\
     party b waits 3 1.0\n\
+    party b waits 3 from a\n\
     party c limit 5 0.1\n\
+    party c limit 5 request\n\
     long\n";
 
 // Lines of its log, one of each form.
@@ -32,6 +37,15 @@ const LOG: &[u8] = b"%%log\n\
     17 c from c give 0.1 1 a 0 1 0 3\n\
     18 c local\n";
 
+// The openings of such a log.
+const OPENINGS: &[u8] = b"%%log2\n\
+    1 a request 64 b\n\
+    2 a request 65 c\n\
+    2 b from a open 64\n\
+    3 b accept 64 a\n\
+    3 c from a open 65\n\
+    4 c from a carry 65.1 0 0 0 int 2\n";
+
 // How often the piece stands in the picture of the transcript with that log behind it.
 fn times(alloc: Global, log: &[u8], piece: &[u8]) -> Result<usize, Fail> {
     let mut text = Vec::from_slice(alloc, TRANSCRIPT)?;
@@ -46,16 +60,21 @@ fn times(alloc: Global, log: &[u8], piece: &[u8]) -> Result<usize, Fail> {
 // A log, a piece, and how often it stands in the picture.
 type Row<'a> = (&'a [u8], &'a [u8], usize);
 
-const PIECES: [Row; 18] = [
+const PIECES: [Row; 31] = [
     (b"", b"class='party'", 3),
-    (b"", b"<path class='", 3 + 4),
-    (b"", b"<path class='message' ", 2),
+    (b"", b"<path class='", 3 + 7),
+    (b"", b"<path class='message' ", 3),
+    (b"", b"<path class='request' ", 1),
+    (b"", b"<path class='request untaken' ", 1),
+    (b"", b">o: request</text>", 1),
+    (b"", b">q: request</text>", 1),
+    (b"", b">o: int 2</text>", 1),
     (b"", b"<path class='message untaken' ", 1),
     (b"", b"<path class='session' ", 1),
     (b"", b">z: session 0.1 b</text>", 1),
     (b"", b">u: String \"&lt;&amp;&gt;\"</text>", 1),
     (LOG, b"class='party'", 3),
-    (LOG, b"<path class='", 3 + 9),
+    (LOG, b"<path class='", 3 + 10),
     (LOG, b"<path class='message untaken' ", 1),
     (LOG, b"<path class='message' ", 1),
     (LOG, b"<path class='fin' ", 1),
@@ -65,6 +84,14 @@ const PIECES: [Row; 18] = [
     (LOG, b"<path class='ack' ", 1),
     (LOG, b"<path class='give' ", 2),
     (LOG, b">y: carry 0.1 0 0 0 int 1</text>", 1),
+    (OPENINGS, b"<path class='", 3 + 8),
+    (OPENINGS, b"<path class='request' ", 2),
+    (OPENINGS, b"<path class='open' ", 2),
+    (OPENINGS, b"<path class='accept' ", 1),
+    (OPENINGS, b">o: request 64 b</text>", 1),
+    (OPENINGS, b">p: accept 64 a</text>", 1),
+    (OPENINGS, b">65: open 65</text>", 1),
+    (OPENINGS, b">65.1: carry 65.1 0 0 0 int 2</text>", 1),
 ];
 
 #[test]
@@ -75,7 +102,7 @@ fn each_message_or_delivery_has_an_arrow(rt: HostRuntime) -> Result<(), Fail> {
     Ok(())
 }
 
-const REFUSED: [(&[u8], DrawRefusal); 22] = [
+const REFUSED: [(&[u8], DrawRefusal); 27] = [
     (b"", DrawRefusal::Unread(1)),
     (b"done ", DrawRefusal::Unread(1)),
     (b"session 0 a x b", DrawRefusal::Unread(1)),
@@ -85,6 +112,11 @@ const REFUSED: [(&[u8], DrawRefusal); 22] = [
     (b"party a ended", DrawRefusal::Unread(1)),
     (b"party a ended x", DrawRefusal::Unread(1)),
     (b"party a waits 3", DrawRefusal::Unread(1)),
+    (b"party a waits 3 for b", DrawRefusal::Unread(1)),
+    (b"party a limit 3 requests", DrawRefusal::Unread(1)),
+    (b"1 a request 64.0 b", DrawRefusal::Unread(1)),
+    (b"1 a accept 64", DrawRefusal::Unread(1)),
+    (b"1 a from b open 64.1", DrawRefusal::Unread(1)),
     (b"0.2 0 a b int 1", DrawRefusal::Unread(1)),
     (b"0.0 0 a b", DrawRefusal::Unread(1)),
     (b"0.0 0 a b float 1", DrawRefusal::Unread(1)),

@@ -4,7 +4,7 @@ use sj_check::{Accepted, check, is_within_limits};
 use sj_end::{Entry, Event, Line, Note};
 use sj_lang::{File, Names, Party};
 use sj_plain::Plain;
-use sj_print::{print_line, print_transcript};
+use sj_print::{print_line, print_mark, print_transcript};
 use std::alloc::Global;
 use std::test::Fail;
 
@@ -40,6 +40,48 @@ fn a_transcript_is_printed_behind_what_is_there(rt: HostRuntime) -> Result<(), F
     let mut text = Vec::from_slice(rt.alloc(), b"> ")?;
     print_transcript(&mut text, accepted.file(), &plain)?;
     assert_eq!(rt; text.as_slice(), b"> party a ended 0\ndone\n".as_slice());
+    Ok(())
+}
+
+// What is printed of acts of the one party with these notes, behind the line before a log of them.
+fn printed(alloc: Global, notes: &[Note]) -> Result<Vec<u8>, Fail> {
+    let file = one_party(alloc)?;
+    let mut lines = Vec::new(alloc);
+    for note in notes {
+        let entry = Entry {
+            clock: 1,
+            event: Event::Act,
+            note: *note,
+        };
+        lines.push(Line { party: 0, entry })?;
+    }
+    let mut text = Vec::new(alloc);
+    print_mark(&mut text, &lines)?;
+    for line in &lines {
+        print_line(&mut text, &file, line)?;
+    }
+    Ok(text)
+}
+
+#[test]
+fn openings_make_a_log_of_version_2(rt: HostRuntime) -> Result<(), Fail> {
+    let rows: [(&[Note], &[u8]); 5] = [
+        (&[], b"%%log\n"),
+        (&[Note::Local], b"%%log\n1 a local\n"),
+        (
+            &[Note::Local, Note::Request { sess: 64, to: 0 }],
+            b"%%log2\n1 a local\n1 a request 64 a\n",
+        ),
+        (
+            &[Note::Accept { sess: 64, from: 0 }],
+            b"%%log2\n1 a accept 64 a\n",
+        ),
+        (&[Note::Open { sess: 64 }], b"%%log2\n1 a open 64\n"),
+    ];
+    for (notes, wanted) in rows {
+        let text = printed(rt.alloc(), notes)?;
+        assert_eq!(rt; text.as_slice(), wanted);
+    }
     Ok(())
 }
 
