@@ -10,6 +10,7 @@ use std::collections::VecDeque;
 use std::test::Fail;
 
 mod building;
+mod opening;
 
 use building::to_the_peer;
 

@@ -1,17 +1,16 @@
 -- Acts that open a session or accept one.
-use Rattle.std.proofs.Common.{◌≡◌, ℕ, ◌+◌, ◌<◌, Bool, true, false, ltb, if◌then◌else◌, List, [], ◌∷◌, Option, Some, None, option_map, refl, ap, sym, ◌∙◌, arith}
+use Rattle.std.proofs.Common.{◌≡◌, ℕ, ◌+◌, ◌<◌, true, ltb, if◌then◌else◌, [], ◌∷◌, Option, Some, None, option_map, refl, ap, sym, ◌∙◌, arith}
 use Rattle.std.proofs.lemmas.Bool.Decides.{nat_tests}
 use Rattle.sj_base.specs.declared.EndId.{EndId}
 use Rattle.sj_lang.specs.Place.{Place}
 use Rattle.sj_table.specs.declared.table.Spot.{Spot}
 use Rattle.sj_table.specs.Spots.{place_in, start_in}
 use Rattle.sj_semantics.specs.declared.Want.TheVariants as wants
-use Rattle.sj_semantics.specs.Program.{Program}
 use Rattle.sj_semantics.specs.Steps.{opened_of}
 use Rattle.sj_machine.specs.Sound.{program_at}
 use Rattle.sj_rules.specs.Record.{Open, MainAt, Held, Closed, Expected, offered_end, requested_end}
 use Rattle.sj_rules.specs.Mapped.{each_with, held_with, main_with}
-use Rattle.sj_rules.specs.Node.{NodeAt, Play, accept_offered, accept_session, held_at, open_session, put}
+use Rattle.sj_rules.specs.Node.{accept_offered, accept_session, held_at, open_session, put}
 use Rattle.sj_rules.specs.Opened.{new_held, opened_number, smallest, without}
 use Rattle.sj_rules.proofs.NodeMapLemmas.{put-each}
 use Rattle.sj_end.specs.declared.note.Note.TheVariants as notes

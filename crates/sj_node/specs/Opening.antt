@@ -1,5 +1,5 @@
 -- Sessions that are opened and accepted, seen from the main records alone.
-use Rattle.std.specs.Prelude.{◌≡◌, Option, Some, None}
+use Rattle.std.specs.Prelude.{◌≡◌, Option, Some}
 use Rattle.sj_base.specs.declared.EndId.{EndId}
 use Rattle.sj_table.specs.declared.table.Spot.{Spot}
 use Rattle.sj_rules.specs.Record.{HeldAt, MainAt, Held}

@@ -1,6 +1,7 @@
-//! The file of the tests: a delegates its end x to b, which has the other end y.
+//! The files of the tests: a delegates its end x to b, which has the other end y, and a opens a
+//! session to b.
 //!
-//! Its protocols are p, `!<int>`, and g, `!<!<int>>`, with their duals q and h.
+//! Their protocols are p, `!<int>`, and g, `!<!<int>>`, with their duals q and h.
 use crate::node_tests::{A, B};
 use sj_check::{Accepted, check, is_within_limits};
 use sj_lang::{
@@ -133,9 +134,64 @@ fn file(alloc: Global) -> Result<File, AllocError> {
     })
 }
 
-/// That file, accepted.
+/// The file in which an end is delegated, accepted.
 pub fn to_the_peer(alloc: Global) -> Result<Accepted, Fail> {
-    let file = file(alloc)?;
+    accepted(alloc, file(alloc)?)
+}
+
+// party a { request x p to b; send x 5; close x; }
+fn requester(alloc: Global) -> Result<Party, AllocError> {
+    let value = Expr::Int(5);
+    let opens = Deed::Request {
+        end: X,
+        protocol: P,
+        party: B,
+    };
+    let body = Vec::from_array(
+        alloc,
+        [
+            stmt(opens),
+            stmt(Deed::Send { end: X, value }),
+            stmt(Deed::Close { end: X }),
+        ],
+    )?;
+    Ok(party(A, body))
+}
+
+// party b { accept y q from a; recv y n int; close y; }
+fn accepter(alloc: Global) -> Result<Party, AllocError> {
+    let accepts = Deed::Accept {
+        end: Y,
+        protocol: Q,
+        party: A,
+    };
+    let takes = Deed::Take {
+        end: Y,
+        into: N,
+        kind: Scalar::Int,
+    };
+    let body = Vec::from_array(
+        alloc,
+        [stmt(accepts), stmt(takes), stmt(Deed::Close { end: Y })],
+    )?;
+    Ok(party(B, body))
+}
+
+/// The file in which a session is opened, accepted.
+pub fn by_request(alloc: Global) -> Result<Accepted, Fail> {
+    let protocols = protocols(alloc)?;
+    let a = requester(alloc)?;
+    let b = accepter(alloc)?;
+    let file = File {
+        names: Names::new(alloc),
+        protocols,
+        parties: Vec::from_array(alloc, [a, b])?,
+        connects: Vec::new(alloc),
+    };
+    accepted(alloc, file)
+}
+
+fn accepted(alloc: Global, file: File) -> Result<Accepted, Fail> {
     if !is_within_limits(&file) {
         return Err(Fail::from("too large"));
     }

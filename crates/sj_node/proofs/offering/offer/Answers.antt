@@ -1,4 +1,4 @@
-use Rattle.std.proofs.Common.{◌∷◌, ◌++◌, [], ap, sym, ◌∙◌}
+use Rattle.std.proofs.Common.{◌∷◌, ◌++◌, [], sym, ◌∙◌}
 use Rattle.sj_node.specs.Offers.{offering, offers_in}
 use Rattle.sj_node.proofs.OfferLemmas.{list_there, offers_here, offers_set}
 use Rattle.sj_node.proofs.offering.offer.Goals as goal

@@ -1,4 +1,4 @@
-use Rattle.std.proofs.Common.{◌≡◌, ◌+◌, [], ◌∷◌, ◌++◌, Some, ◌∙◌, sym, refl}
+use Rattle.std.proofs.Common.{◌≡◌, ◌+◌, [], ◌∷◌, ◌++◌, Some, ◌∙◌, refl}
 use Rattle.sj_semantics.specs.Steps.{opened_of}
 use Rattle.sj_machine.specs.Sound.{program_at}
 use Rattle.sj_rules.specs.Frames.{frames_for}
