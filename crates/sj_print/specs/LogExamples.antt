@@ -3,9 +3,10 @@ use Rattle.std.specs.Prelude.{◌≡◌, refl, ℕ, [], ◌∷◌, Some, None, p
 use Rattle.std.specs.Fmt.{digits}
 use Rattle.sj_base.specs.declared.EndId.{EndId}
 use Rattle.sj_base.specs.declared.Msg.TheVariants.{Int, Text, Sess}
-use Rattle.sj_rules.specs.Log.{NoteAt, LineAt, Local, Sent, Shut, Carry, Fin, Signal, Give}
+use Rattle.sj_rules.specs.Log.{NoteAt, LineAt, Local, Sent, Shut, Carry, Fin, Signal, Give, Request, Accept, Open}
 use Rattle.sj_rules.specs.World.{Act, Deliver}
 use Rattle.sj_semantics_laws.specs.HandoverSamples.{delegation}
+use Rattle.sj_print.specs.Version.{mark_of, version_of}
 use Rattle.sj_print.specs.LogLine.{log_line, log_text}
 
 -- an end by its session and side
@@ -44,6 +45,25 @@ the_end_comes = refl
 pub the_end_comes_and_resends : log_line delegation (came 17 2 1 (Give (end 0 1) 1 0 2 0 1 (Some 2))) ≡ codes "17 c from b give 0.1 1 a 2 0 1 2\n"
 unfolding digits
 the_end_comes_and_resends = refl
+
+pub a_session_is_opened : log_line delegation (did 1 0 (Request 64 1)) ≡ codes "1 a request 64 b\n"
+unfolding digits
+a_session_is_opened = refl
+
+pub it_comes : log_line delegation (came 2 1 0 (Open 64)) ≡ codes "2 b from a open 64\n"
+unfolding digits
+it_comes = refl
+
+pub it_is_accepted : log_line delegation (did 5 1 (Accept 64 0)) ≡ codes "5 b accept 64 a\n"
+unfolding digits
+it_is_accepted = refl
+
+-- a log has version 2 where a session is opened in it
+pub openings_are_of_version_2 : mark_of (version_of (did 1 0 Local ∷ came 2 1 0 (Open 64) ∷ [])) ≡ codes "%%log2\n"
+openings_are_of_version_2 = refl
+
+pub others_are_of_version_1 : mark_of (version_of (did 1 0 Local ∷ [])) ≡ codes "%%log\n"
+others_are_of_version_1 = refl
 
 -- a party and a text that name nothing
 pub what_names_nothing : log_line delegation (came 2 1 16 (Carry (end 0 1) 0 0 0 (Text 3))) ≡ codes "2 b from #16 carry 0.1 0 0 0 String #3\n"
