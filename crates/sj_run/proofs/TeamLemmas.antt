@@ -39,7 +39,7 @@ module _ {O I : Type 0} (pushed : O → Option (List (FrameAt Place))) (out_faul
   team_play = play_with (body_named file.protocols) (length file.connects) (length file.parties)
 
   pub plays_file : IsPlayOf file team_play
-  plays_file = is_play_of file (body_named file.protocols) (length file.connects) (λ q. refl) refl
+  plays_file = is_play_of file (body_named file.protocols) (λ q. refl)
 
   abbrev has : (p : ℕ) (w : Worker O I) → slice_get workers p ≡ Some w
       → HasWorked pushed out_faults out_vain same_out popped in_faults in_vain same_in file looks tells p w
