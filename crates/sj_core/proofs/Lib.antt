@@ -12,7 +12,6 @@ pub mod HistoryLemmas
 pub mod LawLemmas
 pub mod NodesLemmas
 pub mod NoteLemmas
-pub mod OpensLemmas
 pub mod PutBackLemmas
 pub mod QuietLemmas
 pub mod ReachedLemmas

@@ -4,6 +4,5 @@ pub mod Nodes
 pub mod Course
 pub mod Quiet
 pub mod World
-pub mod Opens
 pub mod Replaying
 pub mod Draining

@@ -4,7 +4,6 @@
 mod course;
 mod draining;
 mod entries;
-mod opens;
 mod refusal;
 mod replaying;
 mod sameness;
