@@ -45,6 +45,20 @@ const FORGED: [(&[&str], u8, &str); 4] = [
     (&["run", "--looks", "0"], 0, FIRST_TRANSCRIPT),
 ];
 
+// The same where the frame is an Open.
+const OPENED: &str =
+    "damaged entry 3 logged 2 b from a open 64 due 2 b from a carry 0.1 0 0 0 int 5\n";
+
+#[test]
+fn an_open_that_nobody_sent(rt: HostRuntime) -> Result<(), Fail> {
+    for words in [["run"].as_slice(), &["run", "--log"]] {
+        let mut links = Forged::open();
+        let wanted = (9, OPENED.as_bytes());
+        expect_over(&rt, rt.alloc(), words, FIRST.as_bytes(), &mut links, wanted)?;
+    }
+    Ok(())
+}
+
 #[test]
 fn a_carry_that_nobody_sent(rt: HostRuntime) -> Result<(), Fail> {
     for (words, status, text) in FORGED {
@@ -54,7 +68,7 @@ fn a_carry_that_nobody_sent(rt: HostRuntime) -> Result<(), Fail> {
             rt.alloc(),
             words,
             FIRST.as_bytes(),
-            &mut Forged,
+            &mut Forged::carry(),
             wanted,
         )?;
     }

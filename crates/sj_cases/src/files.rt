@@ -162,3 +162,35 @@ pub(crate) const AND_BACK: &str = "protocol p { begin.!<int> }\n\
     party c { inwhile u { recv u y session q; delegate u y; } close u; }\n\
     connect a x p to b y q;\n\
     connect b z g to c u h;\n";
+
+// An agency opens a session to a supplier for each of two customers; the second goes to that customer.
+pub(crate) const OPENED: &str = "protocol ask { begin.!<String>.?(int) }\n\
+    protocol tell { begin.?(String).!<int> }\n\
+    protocol gives { begin.!<!<String>.?(int)> }\n\
+    protocol gets { begin.?(!<String>.?(int)) }\n\
+    party ann { send x \"Rome\"; recv x price int; close x; }\n\
+    party agency {\n\
+    recv y place String;\n\
+    request s ask to supplier;\n\
+    send s place;\n\
+    recv s price int;\n\
+    close s;\n\
+    send y price;\n\
+    close y;\n\
+    request t ask to supplier;\n\
+    delegate z t;\n\
+    close z;\n\
+    }\n\
+    party bob { recv u t session ask; send t \"Oslo\"; recv t price int; close t; close u; }\n\
+    party supplier {\n\
+    accept s tell from agency;\n\
+    recv s place String;\n\
+    send s 300;\n\
+    close s;\n\
+    accept s tell from agency;\n\
+    recv s place String;\n\
+    send s 200;\n\
+    close s;\n\
+    }\n\
+    connect ann x ask to agency y tell;\n\
+    connect agency z gives to bob u gets;\n";

@@ -64,10 +64,24 @@ impl InLane for Gives {
     ghost same_later = { λ _ _ _ _ _. tt };
 }
 
-/// Links of two parties, over which nothing comes but a Carry of the number 6 to the second party, as
-/// if from the first.
+/// Links of two parties, over which nothing comes but one frame to the second party, as if from the
+/// first: a Carry of the number 6, or the Open of a session.
 #[derive(Drop)]
-pub struct Forged;
+pub struct Forged {
+    opens: bool,
+}
+
+impl Forged {
+    /// Links over which the Carry comes.
+    pub fn carry() -> Forged {
+        Forged { opens: false }
+    }
+
+    /// Links over which the Open comes.
+    pub fn open() -> Forged {
+        Forged { opens: true }
+    }
+}
 
 // The lanes of one party, where that frame comes from the first.
 fn party_lanes(alloc: Global, first: Option<Frame>) -> Result<Lanes<Loses, Gives>, AllocError>
@@ -88,22 +102,22 @@ fn party_lanes(alloc: Global, first: Option<Frame>) -> Result<Lanes<Loses, Gives
     Ok(Lanes { outs, ins })
 }
 
-fn both(alloc: Global) -> Result<Vec<Lanes<Loses, Gives>>, AllocError>
+fn both(alloc: Global, opens: bool) -> Result<Vec<Lanes<Loses, Gives>>, AllocError>
     ensures { IfOk result (λ v. AreTwo v.items) }
 {
-    let carry = Frame {
-        clock: 1,
-        body: Body::Carry {
-            to: EndId { sess: 0, side: 1 },
-            conn: 0,
-            number: 0,
-            taken: 0,
-            msg: Msg::Int(6),
-        },
+    let carry = Body::Carry {
+        to: EndId { sess: 0, side: 1 },
+        conn: 0,
+        number: 0,
+        taken: 0,
+        msg: Msg::Int(6),
     };
+    let open = Body::Open { sess: 64 };
+    let body = if opens { open } else { carry };
+    let forged = Frame { clock: 1, body };
     let mut lanes = Vec::new(alloc);
     lanes.push(party_lanes(alloc, None)?)?;
-    lanes.push(party_lanes(alloc, Some(carry))?)?;
+    lanes.push(party_lanes(alloc, Some(forged))?)?;
     Ok(lanes)
 }
 
@@ -138,7 +152,7 @@ impl Links for Forged {
         if parties != 2 {
             return Err(MakeRefusal::NoMemory);
         }
-        match both(alloc) {
+        match both(alloc, self.opens) {
             Ok(lanes) => Ok(lanes),
             Err(_) => Err(MakeRefusal::NoMemory),
         }

@@ -1,7 +1,7 @@
 //! Files that are run, and whose printed logs are replayed by the command.
 use crate::calls::{answer, answer_over, joined};
 use crate::files::{
-    AGENCY, AND_BACK, BACK_AGAIN, CROSSING, EMPTY, FIRST, HANDED_ON, MOVED_TWICE, OPPOSITE,
+    AGENCY, AND_BACK, BACK_AGAIN, CROSSING, EMPTY, FIRST, HANDED_ON, MOVED_TWICE, OPENED, OPPOSITE,
     TO_ITSELF, TO_THE_PEER, TOLD, UNUSED,
 };
 use crate::long_files::{handed_along, looping};
@@ -12,7 +12,7 @@ use std::test::Fail;
 use std::thread::Threads;
 
 // A file, a piece of it, and what stands there instead.
-const FILES: [(&str, &str, &str); 17] = [
+const FILES: [(&str, &str, &str); 18] = [
     ("", "", ""),
     (FIRST, "", ""),
     (FIRST, "5", "9223372036854775807 + 1"),
@@ -30,6 +30,7 @@ const FILES: [(&str, &str, &str); 17] = [
     (OPPOSITE, "", ""),
     (AND_BACK, "", ""),
     (AND_BACK, "50", "51"),
+    (OPENED, "", ""),
 ];
 
 // What `run --log` prints of the file over these links, `replay --log` prints of the file and that log,
@@ -46,8 +47,14 @@ fn expect_again<R: Abort + Threads + Sync, L: Links>(
     let Ok(told) = std::str::from_utf8(out.text()) else {
         return Err(Fail::from("no text"));
     };
-    let (transcript, log) = told.split_once("%%log\n").ok_or("no log")?;
-    let source = joined(alloc, &[file, b"%%log\n", log.as_bytes()])?;
+    // The mark stands alone on its line, and what stands before it is no log.
+    let mark = if told.contains("%%log2\n") {
+        "%%log2\n"
+    } else {
+        "%%log\n"
+    };
+    let (transcript, log) = told.split_once(mark).ok_or("no log")?;
+    let source = joined(alloc, &[file, mark.as_bytes(), log.as_bytes()])?;
     let (again, whole) = answer(rt, alloc, &["replay", "--log"], &source)?;
     assert_eq!(rt; whole.text(), out.text(), "{looks} looks");
     assert_eq!(rt; again, status, "{looks} looks");

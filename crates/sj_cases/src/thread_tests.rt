@@ -1,7 +1,9 @@
 //! Parties that run on threads.
 use crate::calls::{answer, answer_past};
-use crate::files::{AGENCY, BACK_AGAIN, CROSSING};
-use crate::transcripts::{AGENCY_TRANSCRIPT, BACK_AGAIN_TRANSCRIPT, CROSSING_TRANSCRIPT};
+use crate::files::{AGENCY, BACK_AGAIN, CROSSING, OPENED};
+use crate::transcripts::{
+    AGENCY_TRANSCRIPT, BACK_AGAIN_TRANSCRIPT, CROSSING_TRANSCRIPT, OPENED_TRANSCRIPT,
+};
 use crate::worlds::{accepted, log_of};
 use sj_end::{Entry, Line};
 use sj_lane::RingLinks;
@@ -155,6 +157,18 @@ fn however_often_parties_look_the_transcript_is_one(rt: HostRuntime) -> Result<(
                 assert_eq!(rt; status, 0, "{words:?}");
             }
         }
+    }
+    Ok(())
+}
+
+#[test]
+fn a_session_for_each_customer_has_one_transcript_in_a_thousand_runs(
+    rt: HostRuntime,
+) -> Result<(), Fail> {
+    for _ in 0..1000 {
+        let (status, out) = answer(&rt, rt.alloc(), &["run"], OPENED.as_bytes())?;
+        assert_eq!(rt; out.text(), OPENED_TRANSCRIPT.as_bytes());
+        assert_eq!(rt; status, 0);
     }
     Ok(())
 }

@@ -174,3 +174,20 @@ pub(crate) const TOLD_HISTORY: &str = "session 0 a x b y\n\
     20 c close 1.1\n\
     20 a from c fin 0.0 1 1\n\
     21 b from c fin 1.0 0 0\n";
+
+pub(crate) const OPENED_TRANSCRIPT: &str = "session 0 ann x agency y\n\
+    0.0 0 ann agency String \"Rome\"\n\
+    0.1 0 agency ann int 300\n\
+    session 1 agency z bob u\n\
+    1.0 0 agency bob session 165.0 agency\n\
+    session 164 agency s supplier s\n\
+    164.0 0 agency supplier String \"Rome\"\n\
+    164.1 0 supplier agency int 300\n\
+    session 165 agency t supplier s\n\
+    165.0 0 bob supplier String \"Oslo\"\n\
+    165.1 0 supplier bob int 200\n\
+    party ann ended 3\n\
+    party agency ended 10\n\
+    party bob ended 5\n\
+    party supplier ended 8\n\
+    done\n";
