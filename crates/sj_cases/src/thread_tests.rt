@@ -9,9 +9,11 @@ use sj_end::{Entry, Line};
 use sj_lane::RingLinks;
 use sj_work::Gate;
 use std::alloc::Global;
+use std::process::Abort;
 use std::sync::atomic::{AtomicU64, Ordering};
 use std::sync::{Mutex, Wait};
 use std::test::Fail;
+use std::thread::Threads;
 
 // Each of two parties is held at its first event until the other has passed its own, or so many looks
 // didn't show it. Of the entries it notes those whose clock is that number or more.
@@ -161,14 +163,26 @@ fn however_often_parties_look_the_transcript_is_one(rt: HostRuntime) -> Result<(
     Ok(())
 }
 
-#[test]
-fn a_session_for_each_customer_has_one_transcript_in_a_thousand_runs(
-    rt: HostRuntime,
+// A session for each customer has one transcript in five hundred runs.
+fn expect_opened<R: Abort + Threads + Sync>(
+    rt: &R,
+    alloc: Global,
+    looks: &str,
 ) -> Result<(), Fail> {
-    for _ in 0..1000 {
-        let (status, out) = answer(&rt, rt.alloc(), &["run"], OPENED.as_bytes())?;
+    for _ in 0..500 {
+        let (status, out) = answer(rt, alloc, &["run", "--looks", looks], OPENED.as_bytes())?;
         assert_eq!(rt; out.text(), OPENED_TRANSCRIPT.as_bytes());
         assert_eq!(rt; status, 0);
     }
     Ok(())
+}
+
+#[test]
+fn sessions_for_customers_are_opened_where_parties_look_often(rt: HostRuntime) -> Result<(), Fail> {
+    expect_opened(&rt, rt.alloc(), "1000")
+}
+
+#[test]
+fn sessions_for_customers_are_opened_where_parties_look_once(rt: HostRuntime) -> Result<(), Fail> {
+    expect_opened(&rt, rt.alloc(), "1")
 }
