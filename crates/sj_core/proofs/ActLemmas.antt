@@ -1,6 +1,5 @@
 -- Where nothing stops a node, no cause keeps its party from acting by the rules.
 use Rattle.std.proofs.Common.{◌≡◌, ℕ, Bool, true, false, ◌||◌, not, nat_lt, if◌then◌else◌, List, Option, Some, None, option_map, unwrap_or, refl, ap, ◌∙◌}
-use Rattle.sj_base.specs.declared.EndId.{EndId}
 use Rattle.sj_lang.specs.Place.{Place}
 use Rattle.sj_lang.specs.FileAt.{FileAt}
 use Rattle.sj_acceptance.specs.Accepted.{IsAccepted}

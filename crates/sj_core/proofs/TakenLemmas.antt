@@ -1,5 +1,5 @@
 -- A node that did an event, and whose entry was taken out of its log.
-use Rattle.std.proofs.Common.{◌≡◌, ℕ, List, [], ◌∷◌, ◌++◌, length, map, refl, sym, ap, ◌∙◌}
+use Rattle.std.proofs.Common.{◌≡◌, ℕ, List, [], ◌∷◌, ◌++◌, map, refl, sym, ap, ◌∙◌}
 use Rattle.sj_lang.specs.Place.{Place}
 use Rattle.sj_semantics.specs.Program.{Program}
 use Rattle.sj_table.specs.Spots.{place_in}

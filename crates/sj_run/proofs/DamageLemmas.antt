@@ -1,5 +1,5 @@
 -- What workers left, and what is damaged of it.
-use Rattle.std.proofs.Common.{◌≡◌, ◌⊎◌, ◌∙◌, ℕ, zero, suc, ◌+◌, ◌<◌, max, Bool, List, [], ◌∷◌, ◌++◌, map, length, get_or, unwrap_or, Option, Some, None, option_map, inl, inr, refl, sym, ap, subst}
+use Rattle.std.proofs.Common.{◌≡◌, ◌⊎◌, ◌∙◌, ℕ, zero, suc, ◌<◌, max, Bool, List, [], ◌∷◌, ◌++◌, map, length, get_or, Option, Some, option_map, inl, inr, refl, sym, ap, subst}
 use Rattle.std.specs.Prelude.{slice_get}
 use Rattle.std.proofs.lemmas.List.{length-map}
 use Rattle.sj_core.specs.Replaying.{IsMisfitFrom}
@@ -30,11 +30,11 @@ use Rattle.sj_work.specs.Laned.{entries_of}
 use Rattle.sj_work.specs.Views.{node_of, stop_of, unfit_of}
 use Rattle.sj_run.specs.declared.refusal.RunRefusal.{RunRefusal}
 use Rattle.sj_run.specs.declared.refusal.RunRefusal.TheVariants as refusals
-use Rattle.sj_run.specs.Damage.{AllWent, HasWent, IsDamage, IsDamaged, IsLowestUnfit, IsPastEnd, LeftAt, left_of, logs_left}
+use Rattle.sj_run.specs.Damage.{AllWent, HasWent, IsDamaged, IsLowestUnfit, IsPastEnd, LeftAt, left_of, logs_left}
 use Rattle.sj_run.specs.Refusals.{IsDamageOver, IsDamagedOver, IsPastEndOf, run_refusal}
-use Rattle.sj_run.specs.Workers.{AllWorked, NoneStopped, SomeStopped, log_or, logs_in}
+use Rattle.sj_run.specs.Workers.{AllWorked, NoneStopped, SomeStopped, logs_in}
 use Rattle.sj_run.proofs.StopLemmas.{NoneBefore, looked_at}
-use Rattle.sj_run.proofs.TeamLemmas.{mapped_at, team_work, turned}
+use Rattle.sj_run.proofs.TeamLemmas.{mapped_at, turned}
 use Rattle.sj_run.proofs.WorkedLemmas.{mapped_from}
 
 -- ---- refusals
