@@ -1,5 +1,6 @@
 -- Where the bytes of a task come from, and their parts.
-use Rattle.std.proofs.Common.{◌≡◌, ◌∙◌, ℕ, List, [], Option, Some, None, IfSome, ◌++◌, ap, ap₂, sym, append-nil}
+use Rattle.std.proofs.Common.{◌≡◌, ◌∙◌, ℕ, List, [], Option, Some, None, IfSome, ◌++◌, ap, ap₂, sym, refl, append-nil}
+use Rattle.std.specs.Prelude.{Bool}
 use Rattle.sj_base.specs.Stream.{CameOf, put_before}
 use Rattle.sj_command.specs.declared.tasks.Task.{Task}
 use Rattle.sj_command.specs.declared.tasks.Task.TheVariants as tasks
@@ -89,3 +90,13 @@ one_part (tasks.Run log looks) bytes s l t m x y = whole bytes s l t m x y
 one_part (tasks.Replay log) bytes s l t m x y = one_of_source bytes s l t m x.0 y.0
 one_part (tasks.Make n) bytes s l t m x y = whole bytes s l t m x y
 one_part (tasks.Big n) bytes s l t m x y = whole bytes s l t m x y
+
+-- where none is replayed, the bytes are the text
+pub whole_parts : (task : Task) (bytes : List ℕ) → ((l : Bool) → task ≡ tasks.Replay l → ⊥) → HasParts task bytes bytes no_log
+whole_parts tasks.Check bytes other = (refl, refl)
+whole_parts tasks.Show bytes other = (refl, refl)
+whole_parts tasks.Sim bytes other = (refl, refl)
+whole_parts (tasks.Run log looks) bytes other = (refl, refl)
+whole_parts (tasks.Replay log) bytes other = absurd (other log refl)
+whole_parts (tasks.Make n) bytes other = (refl, refl)
+whole_parts (tasks.Big n) bytes other = (refl, refl)
