@@ -45,8 +45,7 @@ module _ (mark source : List ℕ) where
         sym (take-append-drop at source) ∙ ap (λ t. front ++ t) split ∙ sym (append_assoc front (codes "\n") (mark ++ rest)) in
         let size : length (front ++ codes "\n") ≡ at + 1 = length-append front (codes "\n") ∙ ap (λ n. n + 1) long in
         let text : take (at + 1) source ≡ front ++ codes "\n" =
-        ap (λ n. take n source) (sym size) ∙ ap (take (length (front ++ codes "\n"))) all ∙ take-append_seam (front ++ codes "\n") (mark ++ rest) in
-        (
+        ap (λ n. take n source) (sym size) ∙ ap (take (length (front ++ codes "\n"))) all ∙ take-append_seam (front ++ codes "\n") (mark ++ rest) in (
           record { lines = inr (front, text); whole = all ∙ ap (λ t. t ++ (mark ++ rest)) (sym text) },
           λ other more part.
               let (n, long_other, there) = line_occurs other more part in

@@ -1,10 +1,9 @@
 -- What a request and an accept make.
-use Rattle.std.proofs.Common.{◌≡◌, ℕ, zero, suc, ◌<◌, Bool, true, false, cond, List, [], ◌∷◌, Option, Some, None, length, option_map, refl, ap, sym, ◌∙◌, arith, inl, inr}
+use Rattle.std.proofs.Common.{◌≡◌, ℕ, suc, ◌<◌, Bool, cond, List, [], ◌∷◌, Some, None, length, option_map, ap, sym, ◌∙◌, arith, inl, inr}
 use Rattle.std.proofs.lemmas.Bool.{cases_Bool}
 use Rattle.sj_lang.specs.Dual.{dual_of}
 use Rattle.sj_lang.specs.Place.{Place}
 use Rattle.sj_semantics.specs.declared.Opened.{Opened}
-use Rattle.sj_semantics.specs.Ends.{Session}
 use Rattle.sj_semantics.specs.Program.{Program}
 use Rattle.sj_semantics.specs.Requests.{Request, accepts, first_offer, is_offered, opened_number, requests, requests_after}
 use Rattle.sj_semantics.specs.Steps.{name_opened, opened_of}

@@ -1,12 +1,12 @@
 -- Sessions that are opened and accepted, in a list in order of their numbers.
-use Rattle.std.proofs.Common.{◌≡◌, ◌≢◌, ℕ, zero, suc, ◌+◌, ◌<◌, ◌≤◌, ◌==◌, Bool, true, false, cond, List, [], ◌∷◌, ◌++◌, length, take, drop, get_or, refl, ap, sym, ◌∙◌, append_assoc, arith, inl, inr}
+use Rattle.std.proofs.Common.{◌≡◌, ℕ, zero, suc, ◌+◌, ◌<◌, ◌≤◌, Bool, cond, List, [], ◌∷◌, ◌++◌, length, take, drop, get_or, refl, ap, sym, ◌∙◌, append_assoc, arith, inl, inr}
 use Rattle.std.proofs.Math.ListN.{set}
 use Rattle.std.proofs.lemmas.Bool.{cases_eq, cases_lt, eq-eqb, ne_eqb}
 use Rattle.sj_semantics.specs.declared.Opened.{Opened}
 use Rattle.sj_semantics.specs.Requests.{Request, Requests, Opening, accepted_as, accepts, after_opening, opened_by, opened_from, opened_number, requests, requests_after}
 use Rattle.sj_semantics.specs.Uses.{altered_list}
 use Rattle.sj_plain.specs.Opened.{IsInOrder, accepted_session, before_in, request_of, requests_in}
-use Rattle.sj_plain.proofs.OpenedLemmas.{all_fit, before_first, before_later, length-opened_by, requests_past, requests_within, same_opened, session_by}
+use Rattle.sj_plain.proofs.OpenedLemmas.{before_first, before_later, length-opened_by, requests_past, requests_within, same_opened, session_by}
 
 -- ---- lists
 

@@ -1,23 +1,19 @@
 -- What a ready party's next step can do.
-use Rattle.std.proofs.Common.{◌≡◌, ℕ, nat_lt, Bool, true, false, cond, List, Option, Some, None, length, map, option_map, is_some, unwrap_or, refl, ap, sym, ◌∙◌}
+use Rattle.std.proofs.Common.{◌≡◌, ℕ, nat_lt, Bool, true, false, cond, List, Option, Some, None, length, option_map, is_some, unwrap_or, refl, ap, sym, ◌∙◌}
 use Rattle.sj_base.specs.declared.EndId.{EndId}
 use Rattle.sj_lang.specs.declared.file.ProtocolDef.{ProtocolDef}
-use Rattle.sj_lang.specs.FileView.{protocol_of}
 use Rattle.sj_lang.specs.FileAt.{body_named}
 use Rattle.sj_semantics.specs.declared.Awaits.{Awaits}
 use Rattle.sj_semantics.specs.declared.Opened.{Opened}
 use Rattle.sj_semantics.specs.declared.Passed.{Passed}
 use Rattle.sj_semantics.specs.declared.Limit.TheVariants as limits
-use Rattle.sj_semantics.specs.declared.State.{State}
 use Rattle.sj_semantics.specs.declared.State.TheVariants as states
 use Rattle.sj_semantics.specs.declared.Want.{Want}
 use Rattle.sj_semantics.specs.declared.Want.TheVariants as wants
-use Rattle.sj_semantics.specs.Ends.{Session, next_for}
+use Rattle.sj_semantics.specs.Ends.{next_for}
 use Rattle.sj_semantics.specs.Program.{Program}
 use Rattle.sj_semantics.specs.Requests.{first_offer, opened_number}
 use Rattle.sj_semantics.specs.State.{state_by, state_wanting, state_wanting_if, state_of_program}
-use Rattle.sj_semantics.specs.Steps.{took_of}
-use Rattle.sj_semantics.specs.Uses.{after_uses}
 use Rattle.sj_semantics.specs.Wants.{want_of}
 use Rattle.sj_semantics.specs.World.{World, Change, change_by, change_by_accepting, change_by_opening, change_by_taking}
 use Rattle.sj_semantics_laws.proofs.ChangeLemmas.{from_rests}

@@ -1,8 +1,8 @@
-use Rattle.std.proofs.Common.{◌≡◌, ◌+◌, ◌∙◌, Some, ap, arith, refl, sym, length, List}
+use Rattle.std.proofs.Common.{◌≡◌, ◌+◌, ◌∙◌, ap, arith, refl, List}
 use Rattle.std.proofs.Math.ListN.{set}
 use Rattle.sj_semantics.specs.declared.Opened.{Opened}
 use Rattle.sj_semantics.specs.Uses.{altered_list}
-use Rattle.sj_plain.specs.Opened.{accepted_session, before_in, requests_in}
+use Rattle.sj_plain.specs.Opened.{accepted_session, before_in}
 use Rattle.sj_plain.proofs.OpenedLemmas.{all_fit}
 use Rattle.sj_plain.proofs.OrderLemmas.{accepted_order, accepted_requests, set_session, still_in_order}
 use Rattle.sj_plain.proofs.opened.accept.Goals as goal

@@ -1,4 +1,4 @@
-use Rattle.std.proofs.Common.{◌≡◌, ◌+◌, ◌∙◌, ap, arith, sym, length, List}
+use Rattle.std.proofs.Common.{◌≡◌, ◌+◌, ◌∙◌, ap, arith, length, List}
 use Rattle.sj_semantics.specs.declared.Opened.{Opened}
 use Rattle.sj_plain.specs.Opened.{before_in, requests_in}
 use Rattle.sj_plain.proofs.OpenedLemmas.{before_next}

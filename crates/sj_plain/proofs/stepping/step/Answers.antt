@@ -1,5 +1,4 @@
-use Rattle.std.proofs.Common.{◌≡◌, ◌∙◌, ap, arith, length, map, refl, subst, sym}
-use Rattle.std.proofs.lemmas.Bool.{ltb-true}
+use Rattle.std.proofs.Common.{length, map, refl, subst}
 use Rattle.std.proofs.lemmas.Result.{on_ok_weaker}
 use Rattle.sj_lang.specs.FileView.{protocol_of}
 use Rattle.sj_lang.specs.Place.{Place}
@@ -8,8 +7,8 @@ use Rattle.sj_semantics.specs.Requests.{opened_number}
 use Rattle.sj_semantics.specs.World.{change_by_accepting, change_by_opening, change_by_taking}
 use Rattle.sj_machine.specs.Sound.{program_at}
 use Rattle.sj_plain.specs.Opened.{requests_in}
-use Rattle.sj_plain.specs.Stepping.{Makes, sessions_at, world_around}
-use Rattle.sj_plain.proofs.TakingLemmas.{CanDo, accepting, can_do, message_there, moves, offer_there, opening, request_left, taking}
+use Rattle.sj_plain.specs.Stepping.{Makes, world_around}
+use Rattle.sj_plain.proofs.TakingLemmas.{accepting, can_do, message_there, moves, offer_there, opening, request_left, taking}
 use Rattle.sj_plain.proofs.stepping.step.Goals as goal
 
 pub returns-in-Take-clause-ok : goal.returns-in-Take-clause-ok

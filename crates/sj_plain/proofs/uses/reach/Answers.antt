@@ -1,6 +1,5 @@
 use Rattle.std.proofs.Common.{◌≡◌, ◌∷◌, ◌++◌, [], ◌∙◌, ap, arith, sym, subst, take, length, List}
 use Rattle.std.proofs.lemmas.List.{length-map, map-append}
-use Rattle.sj_semantics.specs.Ends.{unopened}
 use Rattle.sj_plain.specs.declared.ends.Session.{Session}
 use Rattle.sj_plain.specs.Ends.{session_at}
 use Rattle.sj_plain.specs.Stepping.{reached, sessions_at}

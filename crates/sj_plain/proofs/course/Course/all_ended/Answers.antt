@@ -1,4 +1,4 @@
-use Rattle.std.proofs.Common.{◌∙◌, arith, sym, length}
+use Rattle.std.proofs.Common.{◌∙◌, arith, sym}
 use Rattle.std.proofs.lemmas.List.{length-map}
 use Rattle.sj_machine.specs.Sound.{program_at}
 use Rattle.sj_plain.specs.Course.{world_in}

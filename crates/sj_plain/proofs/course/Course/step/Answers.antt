@@ -1,11 +1,11 @@
-use Rattle.std.proofs.Common.{◌≡◌, ◌∙◌, ◌∷◌, ◌++◌, [], Some, ap, arith, length, map, refl, subst, List}
+use Rattle.std.proofs.Common.{◌≡◌, ◌∙◌, ◌∷◌, ◌++◌, [], Some, ap, arith, refl, subst, List}
 use Rattle.std.proofs.lemmas.List.{length-map}
 use Rattle.std.proofs.lemmas.Result.{err_from_is_err_and}
 use Rattle.sj_lang.specs.declared.file.ProtocolDef.{ProtocolDef}
 use Rattle.sj_machine.specs.Sound.{program_at}
 use Rattle.sj_plain.specs.Opened.{requests_in}
 use Rattle.sj_plain.specs.Stepping.{next_move, sessions_at, world_around}
-use Rattle.sj_plain.proofs.CourseLemmas.{by_act, ordered_on, ready_alone, stays, world_acts, world_same}
+use Rattle.sj_plain.proofs.CourseLemmas.{by_act, stays, world_acts, world_same}
 use Rattle.sj_plain.proofs.course.Course.step.Goals as goal
 
 pub returns-in_err-step-clause-err : goal.returns-in_err-step-clause-err
