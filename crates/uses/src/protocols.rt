@@ -3,12 +3,12 @@ ghost use Rattle.std.specs.Prelude.{◌≤◌, length, IfSome};
 ghost use Rattle.uses.specs.Talks.{CanTalk};
 ghost use Rattle.sj_lang.specs.Limits.{file_limit};
 
-use sj_lang::{dual, same};
+use sj_lang::meets;
 use sj_party::parse_file;
 use std::alloc::Global;
 
-/// Whether the two protocols of the text, a program's own and that of its peer, are dual. None where the
-/// text doesn't stand for two protocols, or where there is no memory.
+/// Whether the two protocols of the text, a program's own and that of its peer, meet: what the one sends,
+/// the other can take. None where the text doesn't stand for two protocols, or where there is no memory.
 pub fn can_talk(alloc: Global, text: &[u8]) -> Option<bool>
     requires { length text.now ≤ file_limit }
     ensures { IfSome result (CanTalk text.now) }
@@ -19,8 +19,5 @@ pub fn can_talk(alloc: Global, text: &[u8]) -> Option<bool>
     let [own, peers] = file.protocols.as_slice() else {
         return None;
     };
-    match dual(alloc, &peers.body) {
-        Ok(wanted) => Some(same(&own.body, &wanted)),
-        Err(_) => None,
-    }
+    Some(meets(&own.body, &peers.body))
 }

@@ -18,13 +18,15 @@ fn a_text_has_its_transcript(rt: HostRuntime) -> Result<(), Fail> {
 }
 
 #[test]
-fn protocols_are_dual_or_not(rt: HostRuntime) -> Result<(), Fail> {
+fn protocols_meet_or_not(rt: HostRuntime) -> Result<(), Fail> {
     let dual = b"protocol own { begin.!<int>.?(String) } protocol peers { begin.?(int).!<String> }";
     let other =
         b"protocol own { begin.!<int>.?(String) } protocol peers { begin.!<int>.?(String) }";
+    let wider = b"protocol own { begin.!{YES:} } protocol peers { begin.?{YES:, NO:} }";
     let one = b"protocol own { begin.!<int> }";
     assert_eq!(rt; can_talk(rt.alloc(), dual), Some(true));
     assert_eq!(rt; can_talk(rt.alloc(), other), Some(false));
+    assert_eq!(rt; can_talk(rt.alloc(), wider), Some(true));
     assert_eq!(rt; can_talk(rt.alloc(), one), None);
     Ok(())
 }

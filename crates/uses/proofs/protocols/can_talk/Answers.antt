@@ -1,13 +1,11 @@
-use Rattle.std.proofs.Common.{◌≡◌, ◌∙◌, ◌∷◌, [], List, ap, ap₂, sym, subst, arith, map}
-use Rattle.std.specs.Prelude.{IsTrue, ◌↔◌}
+use Rattle.std.proofs.Common.{◌≡◌, ◌∙◌, ◌∷◌, [], List, ap, ap₂, sym, arith, map}
 use Rattle.sj_lang.specs.FileView.{file_of, protocol_of}
-use Rattle.sj_lang.specs.Place.{Place}
 use Rattle.sj_lang.specs.declared.file.ProtocolDef.{ProtocolDef}
 use Rattle.uses.proofs.TwoLemmas.{two_of}
 use Rattle.uses.proofs.protocols.can_talk.Goals as goal
 
-pub returns-in-Ok-dual : goal.returns-in-Ok-dual
-returns-in-Ok-dual c =
+pub returns : goal.returns
+returns c =
     let ps : List ProtocolDef = c.as_slice.result.now in
     let own = c.own-item.result in
     let peers = c.peers-item.result in
@@ -19,5 +17,5 @@ returns-in-Ok-dual c =
       own = protocol_of own;
       peers = protocol_of peers;
       two = ap (map protocol_of) (sym c.as_slice.ensures.value ∙ two);
-      dual = subst (λ (p : Place). IsTrue c.same.result ↔ (own.body ≡ p)) c.in-Ok-dual.ensures c.same.ensures;
+      meet = c.meets.ensures;
     }
