@@ -14,14 +14,14 @@ fi
 if [ "$*" = --build ]; then
     [ -x "$built" ] && [ -z "$newer" ] && exit 0
     rm -f "$built"
-    echo "$name: proving all that it stands on and building it, which takes some 36 minutes of processor time the first time" >&2
+    echo "$name: proving all that it stands on and building it, which takes some 50 minutes of processor time the first time" >&2
     log=$(cd "$here/crates/$name" && rt run </dev/null 2>&1)
     [ -x "$built" ] && exit 0
     printf '%s\n' "$log" >&2
     exit 127
 fi
 echo "$name: not built, so this call is answered by a run without proofs, in some two minutes;" \
-    "./$name --build proves and builds it in some 36 minutes of processor time, and then it starts at once" >&2
+    "./$name --build proves and builds it in some 50 minutes of processor time, and then it starts at once" >&2
 said=$(mktemp) || exit 127
 trap 'rm -f "$said"' EXIT
 (cd "$here/crates/$name" && rt try -- "$@" 2>"$said")
