@@ -67,7 +67,7 @@ ended_by w p steps (wants.Request n q) h =
     absurd (steps_not_ended steps _ (not_ended_if (nat_lt (length (w.requests p)) limit_of_requests) states.Ready (states.AtLimit limits.Requests) ready_not_ended (limit_not_ended limits.Requests)) h)
 ended_by w p steps (wants.Accept n q) h = absurd (steps_not_ended steps _ (not_ended_if (is_some (first_offer p (w.requests q))) states.Ready (states.WaitsOpen q) ready_not_ended (waits_open_not_ended q)) h)
 
-ended_holds_none : (file : FileAt) (w : World) (p : ℕ) (g : Program) → Sound file w → slice_get w.parties p ≡ Some g → has_ended (state_of_program w p g) ≡ true → (e : EndId) → Held e g.ends → ⊥
+pub ended_holds_none : (file : FileAt) (w : World) (p : ℕ) (g : Program) → Sound file w → slice_get w.parties p ≡ Some g → has_ended (state_of_program w p g) ≡ true → (e : EndId) → Held e g.ends → ⊥
 ended_holds_none file w p g sound there ended e h =
     let f = sound.programs p g there in
     let st = fits_step file.protocols (party_names file.parties) w.sessions g f in

@@ -104,7 +104,7 @@ party_there [] p lt = absurd (omega arith)
 party_there (q ∷ qs) zero lt = record { party = q; there = refl }
 party_there (q ∷ qs) (suc p) lt = let r = party_there qs p (omega arith) in record { party = r.party; there = r.there }
 
-canonical : (e : EndId) → is_end e (side e.sess (one_side e.side)) ≡ true
+pub canonical : (e : EndId) → is_end e (side e.sess (one_side e.side)) ≡ true
 canonical e = and_from (e.sess == e.sess) (is_same_side e.side (one_side e.side)) (eq-eqb e.sess e.sess refl) (sides e.side)
   where
     sides : (d : ℕ) → is_same_side d (one_side d) ≡ true
@@ -132,7 +132,7 @@ located_by file accepted e (Some c) z at h =
     held p (program_of file p q.party) (program_at_start file p q.party q.there)
     (record { name = d.name; end = side e.sess (one_side e.side); is_named = has_named zs (ends_from file p 0 file.connects) d.name (side e.sess (one_side e.side)) once has; it_is = canonical e })
 
-start_is_located : (file : FileAt) → IsAccepted file → AllLocated (start_of file)
+pub start_is_located : (file : FileAt) → IsAccepted file → AllLocated (start_of file)
 start_is_located file accepted e is_open = by (slice_get file.connects e.sess) refl
   where
     by : (o : Option ConnectAt) → slice_get file.connects e.sess ≡ o → IsLocated (start_of file) e

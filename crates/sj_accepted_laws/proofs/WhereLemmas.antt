@@ -47,7 +47,7 @@ other_end_same e f h =
     sides (suc c) zero h = cc
     sides (suc c) (suc d) h = refl
 
-twice_other : (e : EndId) → is_end e (other_end (other_end e)) ≡ true
+pub twice_other : (e : EndId) → is_end e (other_end (other_end e)) ≡ true
 twice_other e = and_from (e.sess == e.sess) (is_same_side e.side (other_side (other_side e.side))) (eq-eqb e.sess e.sess refl) (sides e.side)
   where
     sides : (d : ℕ) → is_same_side d (other_side (other_side d)) ≡ true

@@ -1,5 +1,5 @@
 -- A source is parted at its first line `%%log` or `%%log2`, in one way.
-use Rattle.std.proofs.Common.{◌≡◌, ◌∙◌, ◌+◌, ◌<◌, ◌≤◌, ◌⊎◌, ℕ, List, [], ◌∷◌, ◌++◌, length, take, drop, Option, Some, None, get_or, inl, inr, refl, sym, ap, subst, arith, take-append-drop, append_assoc, length-append, length-take, length-take-le}
+use Rattle.std.proofs.Common.{◌≡◌, ◌∙◌, ◌+◌, ◌<◌, ◌≤◌, ℕ, List, [], ◌++◌, length, take, drop, Some, None, get_or, inl, inr, refl, sym, ap, subst, arith, take-append-drop, append_assoc, length-append, length-take, length-take-le}
 use Rattle.std.specs.Prelude.{codes}
 use Rattle.std.proofs.Math.Seq.{drop-append_seam, take-append_seam}
 use Rattle.memchr.specs.Find.{OccursAt, Nowhere}

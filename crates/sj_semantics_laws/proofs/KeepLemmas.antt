@@ -76,7 +76,7 @@ took_end_le e ends x y p rest (msgs.Label l) = omega arith
 took_end_le e ends x y p rest (msgs.More b) = omega arith
 took_end_le e ends x y p rest (msgs.Sess s d k) = bindings_of-bound e ends y (record { sess = s; side = d })
 
-took_le : (e : EndId) (ends : List (ℕ × EndId)) (todo : List Thing) (m : Msg) → bindings_of e (ends_after_took ends todo m) ≤ bindings_of e ends + one_if (names_end e m)
+pub took_le : (e : EndId) (ends : List (ℕ × EndId)) (todo : List Thing) (m : Msg) → bindings_of e (ends_after_took ends todo m) ≤ bindings_of e ends + one_if (names_end e m)
 took_le e ends [] m = omega arith
 took_le e ends (statement (send x v) ∷ rest) m = omega arith
 took_le e ends (statement (delegate x y) ∷ rest) m = omega arith

@@ -1,5 +1,5 @@
 -- Each file has an answer.
-use Rattle.std.proofs.Common.{◌≡◌, ◌∙◌, ◌+◌, ◌-◌, ◌^◌, ◌<◌, ◌⊎◌, ℕ, min, true, false, List, [], Option, Some, None, inl, inr, not-le_of_lt, refl, sym}
+use Rattle.std.proofs.Common.{◌≡◌, ◌∙◌, ◌+◌, ◌-◌, ◌^◌, ◌<◌, ◌⊎◌, ℕ, min, true, false, [], Option, Some, None, inl, inr, not-le_of_lt, refl, sym}
 use Rattle.std.proofs.lemmas.Bool.{cases_lt}
 use Rattle.std.specs.Prelude.{Bool}
 use Rattle.sj_lane.specs.Told as lanes

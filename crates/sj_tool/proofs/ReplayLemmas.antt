@@ -1,5 +1,5 @@
 -- What a log is replayed to, and why it isn't.
-use Rattle.std.proofs.Common.{ℕ, List, [], true}
+use Rattle.std.proofs.Common.{List, [], true}
 use Rattle.std.specs.Prelude.{Bool}
 use Rattle.sj_command.specs.declared.tasks.Task.{Task}
 use Rattle.sj_command.specs.declared.tasks.Task.TheVariants as tasks
