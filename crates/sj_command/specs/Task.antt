@@ -2,7 +2,7 @@
 use Rattle.std.specs.Prelude.{◌≡◌, ◌≤◌, ℕ, Bool, true, false, List, Option, Some, None, codes, decimal}
 use Rattle.clap.specs.Words.{Text}
 use Rattle.sj_command.specs.declared.tasks.Task.{Task}
-use Rattle.sj_command.specs.declared.tasks.Task.TheVariants.{Check, Show, Sim, Run, Replay, Make, Big}
+use Rattle.sj_command.specs.declared.tasks.Task.TheVariants.{Check, Show, Forest, Sim, Run, Replay, Make, Big}
 use Rattle.sj_command.specs.CommandLine.{IsTaken, text_given}
 
 -- what a line has: a command and a number, a flag and an option
@@ -54,6 +54,7 @@ StandsForLooks (Some text) looks = (text ≡ decimal looks) × (looks ≤ most_l
 abbrev pub Means : LineAt → Task → Type 0
 Means line Check = line ≡ alone (codes "check") None
 Means line Show = line ≡ alone (codes "show") None
+Means line Forest = line ≡ alone (codes "forest") None
 Means line Sim = line ≡ alone (codes "sim") None
 Means line (Run log looks) = (line ≡ running log line.looks) × StandsForLooks line.looks looks
 Means line (Replay log) = line ≡ replaying log
