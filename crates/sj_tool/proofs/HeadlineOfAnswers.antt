@@ -40,10 +40,6 @@ pub record IsPlayedSo (task : Task) (file : FileAt) (verdict : Verdict) (text : 
   pub bare : (IsLogging task → ⊥) → behind ≡ []
 
 pub played_so : (links : LinkUseAt) (task : Task) (log : LogAt) (file : FileAt) (v : Verdict) (text : List ℕ) → IsPlaying task → Plays links task log file v text → IsPlayedSo task file v text
-played_so links tasks.Check log file v text plays p = absurd plays
-played_so links tasks.Show log file v text plays p = absurd plays
-played_so links (tasks.Make n) log file v text plays p = absurd plays
-played_so links (tasks.Big n) log file v text plays p = absurd plays
 played_so links tasks.Sim log file v text plays p =
     record { behind = []; stands = p.0; printed = p.1 ∙ sym (append-nil (transcript_of file (end_of file))); bare = λ no. refl }
 played_so links (tasks.Run false looks) log file v text plays p = record { behind = []; stands = p.1.told.0; printed = p.1.told.1; bare = λ no. refl }
@@ -52,6 +48,7 @@ played_so links (tasks.Run true looks) log file v text plays p =
 played_so links (tasks.Replay false) log file v text plays p = record { behind = []; stands = p.1.told.0; printed = p.1.told.1; bare = λ no. refl }
 played_so links (tasks.Replay true) log file v text plays p =
     record { behind = log_part true file p.1.history; stands = p.1.told.0; printed = p.1.told.1; bare = λ no. absurd (no refl) }
+played_so links task log file v text plays p = absurd plays
 
 -- ---- no other status is a verdict's
 
@@ -71,10 +68,7 @@ prints_none : (task : Task) (file : FileAt) (text : List ℕ) → IsPlaying task
 prints_none tasks.Sim file text plays p = p
 prints_none (tasks.Run log looks) file text plays p = p
 prints_none (tasks.Replay log) file text plays p = p
-prints_none tasks.Check file text plays p = plays
-prints_none tasks.Show file text plays p = plays
-prints_none (tasks.Make n) file text plays p = plays
-prints_none (tasks.Big n) file text plays p = plays
+prints_none task file text plays p = plays
 
 makes_none : (c : CallAt) (text : List ℕ) → AsksFor IsPlaying c → Makes c text → ⊥
 makes_none c text plays m = subst IsPlaying (one_task c.words plays.task (tasks.Make m.count) plays.asks m.asks) plays.kind

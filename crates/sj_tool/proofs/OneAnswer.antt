@@ -47,22 +47,13 @@ unhurt links task (Made t) h = tt
 
 -- a task that runs parties neither prints a file nor replays a log
 prints_no_run : (task : Task) (file : FileAt) (text : List ℕ) → RunsParties task → Prints task file text → ⊥
-prints_no_run tasks.Check file text runs p = runs
-prints_no_run tasks.Show file text runs p = runs
-prints_no_run tasks.Sim file text runs p = runs
 prints_no_run (tasks.Run l looks) file text runs p = p
-prints_no_run (tasks.Replay l) file text runs p = runs
-prints_no_run (tasks.Make n) file text runs p = runs
 prints_no_run (tasks.Big n) file text runs p = p
+prints_no_run task file text runs p = runs
 
 replays_no_run : (task : Task) → RunsParties task → IsReplay task → ⊥
-replays_no_run tasks.Check runs replays = runs
-replays_no_run tasks.Show runs replays = runs
-replays_no_run tasks.Sim runs replays = runs
-replays_no_run (tasks.Run l looks) runs replays = replays
 replays_no_run (tasks.Replay l) runs replays = runs
-replays_no_run (tasks.Make n) runs replays = runs
-replays_no_run (tasks.Big n) runs replays = replays
+replays_no_run task runs replays = replays
 
 module _ (links : LinkUseAt) (task : Task) (log : LogAt) (file : FileAt) where
   -- where the links don't hold, an accepted file whose parties run has no answer but theirs
