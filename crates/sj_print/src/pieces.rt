@@ -73,15 +73,15 @@ fn put_piece(text: &mut Vec<u8>, file: &File, piece: Piece) -> Result<(), NoMemo
         Piece::Number(n) => put_number(text, n),
         Piece::Int(n) => put_int(text, n),
         Piece::End(end) => put_end(text, end),
-        Piece::Party(party) => put_name(text, file, party),
+        Piece::Party(party) => print_name(text, file, party),
         Piece::Word(n) => put_word(text, &file.names.words, u32::from(n)),
         Piece::Text(n) => put_quoted(text, &file.names.texts, n),
         Piece::Resend(number) => put_resend(text, number),
     }
 }
 
-// The name of the party of that number, or `#` and the number.
-fn put_name(text: &mut Vec<u8>, file: &File, party: u16) -> Result<(), NoMemory>
+/// Puts the name of the party of that number behind the text, or `#` and the number where none has it.
+pub fn print_name(text: &mut Vec<u8>, file: &File, party: u16) -> Result<(), NoMemory>
     ensures ok { OnOk result (text.new.items ≡ text.old.items ++ name_of (file_of file.now) party) }
     ensures err { OnErr result (IsCutShort text.old.items
         (name_of (file_of file.now) party) text.new.items) }
