@@ -18,6 +18,7 @@ use Rattle.sj_tool.specs.AnswerAt.{AnswerAt, Usage, ReadFault, TooLarge, Syntax,
 use Rattle.sj_tool.specs.Answers.{AnswersBytes, AnswersFile, AnswersText}
 use Rattle.sj_tool.specs.Calls.{LinkUseAt, LinksHold}
 use Rattle.sj_tool.specs.Completeness.{Completes, TellsEnd}
+use Rattle.sj_tool.specs.ForestTexts.{IsForestText}
 use Rattle.sj_tool.specs.Tasks.{Checks, HasParts, Replays, RunsParties}
 use Rattle.sj_tool.specs.Runs.{HasBegun}
 use Rattle.sj_tool.specs.Sums.{summary}

@@ -23,6 +23,7 @@ use Rattle.sj_tool.specs.Runs.{HasBegun, run_text}
 use Rattle.sj_tool.specs.Shown.{shown}
 use Rattle.sj_tool.specs.Tasks.{HasEvents, RunsParties, Takes}
 use Rattle.sj_tool.specs.Texts.{counts_of}
+use Rattle.sj_tool.proofs.ForestLemmas.{has_forest_text}
 use Rattle.sj_tool.proofs.DrainedLemmas.{shown_given, told_runs}
 use Rattle.sj_tool.proofs.DrainedLines.{begun_goes_on}
 use Rattle.sj_tool.proofs.KindLemmas.{run_has_events, run_plays}

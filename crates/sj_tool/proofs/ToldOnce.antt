@@ -5,6 +5,7 @@ use Rattle.sj_lang.specs.FileAt.{FileAt}
 use Rattle.sj_command.specs.declared.tasks.Task.{Task}
 use Rattle.sj_command.specs.declared.tasks.Task.TheVariants as tasks
 use Rattle.sj_semantics.specs.declared.Verdict.{Verdict}
+use Rattle.sj_tool.specs.ForestTexts.{IsForestText}
 use Rattle.sj_tool.specs.LogAt.{Breaks, LogAt}
 use Rattle.sj_tool.specs.AnswerAt.{AnswerAt, Check, LogFault}
 use Rattle.sj_tool.specs.Runs.{Plays}
@@ -13,6 +14,7 @@ use Rattle.sj_tool.specs.Entries.{IsMisfitText}
 use Rattle.sj_tool.specs.Shown.{shown}
 use Rattle.sj_tool.specs.Table.{AreOneLog, LogsRun}
 use Rattle.sj_tool.specs.Texts.{counts_of, status_of, text_of, verdict_status}
+use Rattle.sj_tool.proofs.ForestLemmas.{one_forest_text}
 use Rattle.sj_tool.proofs.LogAnswers.{fault_once, fault_or_lines, misfit_once, misfit_or_history}
 use Rattle.sj_tool.proofs.OneRun.{one_run}
 
