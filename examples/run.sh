@@ -22,6 +22,7 @@ while read -r name status words; do
     fi
 done <<'END'
 first 0 sim
+desk 0 run
 greeting 0 sim
 choice 0 sim
 loop 0 sim
