@@ -9,5 +9,6 @@ mod transcript;
 mod version;
 
 pub use log::print_line;
+pub use messages::print_message;
 pub use transcript::print_transcript;
 pub use version::print_mark;
