@@ -112,7 +112,7 @@ module _ (c : CallAt) (file : FileAt) where
   completes tasks.Check v a row = row_completes tasks.Check tt v.0 v.1 a row
   completes tasks.Show v a row = row_completes tasks.Show tt v.0 v.1 a row
   completes tasks.Sim v a row = row_completes tasks.Sim tt v.0 v.1 a row
-  completes (tasks.Run log looks) v a row = row_completes (tasks.Run log looks) tt v.0 v.1 a row
+  completes (tasks.Run log looks workers) v a row = row_completes (tasks.Run log looks workers) tt v.0 v.1 a row
   completes (tasks.Replay log) v a row = row_completes (tasks.Replay log) tt v.0 v.1 a row
   completes (tasks.Make n) v a row = make_completes n v a row
   completes (tasks.Big n) v a row = big_completes n v.0 v.1 a row

@@ -46,7 +46,7 @@ played_so links (tasks.Make n) log file v text plays p = absurd plays
 played_so links (tasks.Big n) log file v text plays p = absurd plays
 played_so links tasks.Sim log file v text plays p =
     record { behind = []; stands = p.0; printed = p.1 ∙ sym (append-nil (transcript_of file (end_of file))); bare = λ no. refl }
-played_so links (tasks.Run false looks) log file v text plays p = record { behind = []; stands = p.1.told.0; printed = p.1.told.1; bare = λ no. refl }
+played_so links (tasks.Run false looks workers) log file v text plays p = record { behind = []; stands = p.1.told.0; printed = p.1.told.1; bare = λ no. refl }
 played_so links (tasks.Run true looks) log file v text plays p =
     record { behind = log_part true file p.1.history; stands = p.1.told.0; printed = p.1.told.1; bare = λ no. absurd (no refl) }
 played_so links (tasks.Replay false) log file v text plays p = record { behind = []; stands = p.1.told.0; printed = p.1.told.1; bare = λ no. refl }
@@ -69,7 +69,7 @@ beyond Long n above e = omega (arith, above, e)
 
 prints_none : (task : Task) (file : FileAt) (text : List ℕ) → IsPlaying task → Prints task file text → ⊥
 prints_none tasks.Sim file text plays p = p
-prints_none (tasks.Run log looks) file text plays p = p
+prints_none (tasks.Run log looks workers) file text plays p = p
 prints_none (tasks.Replay log) file text plays p = p
 prints_none tasks.Check file text plays p = plays
 prints_none tasks.Show file text plays p = plays

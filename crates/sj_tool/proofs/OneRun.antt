@@ -78,7 +78,7 @@ module _ (links : LinkUseAt) (log : LogAt) (file : FileAt) (v w : Verdict) (s t 
   one_run tasks.Sim h x y = absurd h
   one_run (tasks.Make n) h x y = absurd h
   one_run (tasks.Big n) h x y = print (tasks.Big n) x y refl
-  one_run (tasks.Run false looks) h x y = print (tasks.Run false looks) x y refl
+  one_run (tasks.Run false looks workers) h x y = print (tasks.Run false looks workers) x y refl
   one_run (tasks.Run true looks) h x y = (
     stand (tasks.Run true looks) x y,
     inr (tt, record { file = file; first = x.history; second = y.history; first_text = x.told.1; second_text = y.told.1 }),

@@ -39,7 +39,7 @@ pub reads_takes : (task : Task) → Reads task → Takes task
 reads_takes tasks.Check reads = tt
 reads_takes tasks.Show reads = tt
 reads_takes tasks.Sim reads = tt
-reads_takes (tasks.Run log looks) reads = tt
+reads_takes (tasks.Run log looks workers) reads = tt
 reads_takes (tasks.Replay log) reads = tt
 reads_takes (tasks.Make n) reads = reads
 reads_takes (tasks.Big n) reads = tt

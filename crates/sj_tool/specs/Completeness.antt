@@ -60,7 +60,7 @@ abbrev pub Completes : Task → FileAt → ℕ → List ℕ → Type 0
 Completes tasks.Check file status text = (status ≡ 0) × (text ≡ counts_of file)
 Completes tasks.Show file status text = (status ≡ 0) × (text ≡ shown file)
 Completes tasks.Sim file status text = TellsEnd false file status text
-Completes (tasks.Run log looks) file status text = TellsEnd log file status text
+Completes (tasks.Run log looks workers) file status text = TellsEnd log file status text
 Completes (tasks.Replay log) file status text = TellsEnd log file status text
 Completes (tasks.Make n) file status text = (status ≡ 0) × (text ≡ generated n)
 Completes (tasks.Big n) file status text = (status ≡ 0) × (text ≡ big_text n)
