@@ -38,7 +38,7 @@ unhurt links task a h = tt
 
 -- a task that runs parties neither prints a file nor replays a log
 prints_no_run : (task : Task) (file : FileAt) (text : List ℕ) → RunsParties task → Prints task file text → ⊥
-prints_no_run (tasks.Run l looks) file text runs p = p
+prints_no_run (tasks.Run l looks workers) file text runs p = p
 prints_no_run (tasks.Big n) file text runs p = p
 prints_no_run task file text runs p = runs
 
