@@ -117,11 +117,11 @@ module _ (l : LineAt) where
   asked_run = by (one_line l (running false l.looks l.workers)) (one_line l (running true l.looks l.workers)) (options_or_none (looks_or_none most_looks refl l.looks) (workers_or_none most_workers refl l.workers))
     where
       none : (l ≡ running false l.looks l.workers → ⊥) → (l ≡ running true l.looks l.workers → ⊥) → Runs → ⊥
-      none a b (false, (n, (w, m))) = a m.0
-      none a b (true, (n, (w, m))) = b m.0
+      none a b (false, n, w, m) = a m.0
+      none a b (true, n, w, m) = b m.0
 
       unfit : ((n : ℕ) (w : Option ℕ) → StandsForLooks l.looks n → StandsForWorkers l.workers w → ⊥) → Runs → ⊥
-      unfit off (log, (n, (w, m))) = off n w m.1 m.2
+      unfit off (log, n, w, m) = off n w m.1 m.2
 
       by : Dec (l ≡ running false l.looks l.workers) → Dec (l ≡ running true l.looks l.workers)
           → ((n : ℕ) × (w : Option ℕ) × StandsForLooks l.looks n × StandsForWorkers l.workers w)
@@ -166,7 +166,7 @@ module _ (l : LineAt) where
       none check show forest sim run replay make big Show m = show m
       none check show forest sim run replay make big Forest m = forest m
       none check show forest sim run replay make big Sim m = sim m
-      none check show forest sim run replay make big (Run log n w) m = run (log, (n, (w, m)))
+      none check show forest sim run replay make big (Run log n w) m = run (log, n, w, m)
       none check show forest sim run replay make big (Replay log) m = replay (log, m)
       none check show forest sim run replay make big (Make n) m = make (n, m)
       none check show forest sim run replay make big (Big n) m = big (n, m)
