@@ -3,14 +3,13 @@ use Rattle.std.proofs.Common.{◌≡◌, ℕ, List, [], ◌∷◌, ◌++◌, Opt
 use Rattle.sj_acceptance.specs.Openings.{OpeningAt}
 use Rattle.sj_forest_laws.specs.Opens.{first_line}
 
--- where there is none before, the first is behind
-pub behind : (xs ys : List OpeningAt) → first_line xs ≡ None → first_line (xs ++ ys) ≡ first_line ys
-behind [] ys h = refl
-behind (x ∷ xs) ys h = cc
+-- the one line, or where there is none the other
+abbrev pub or_else : Option ℕ → Option ℕ → Option ℕ
+or_else None other = other
+or_else (Some line) other = Some line
 
--- the first stays the first
-pub in_front : (xs ys : List OpeningAt) (line : ℕ) → first_line xs ≡ Some line → first_line (xs ++ ys) ≡ Some line
-in_front [] ys line h = cc
-in_front (x ∷ xs) ys line h = h
+pub first_line-append : (xs ys : List OpeningAt) → first_line (xs ++ ys) ≡ or_else (first_line xs) (first_line ys)
+first_line-append [] ys = refl
+first_line-append (x ∷ xs) ys = refl
 
-pub ruleset firsts = (behind, in_front)
+pub ruleset firsts = (first_line-append)

@@ -12,6 +12,3 @@ pub use edges::Edge;
 pub use ending::{Ending, finish_forest};
 pub use shape::{Forest, Shape};
 pub use testing::forest;
-
-#[cfg(test)]
-mod tests;

@@ -3,17 +3,18 @@
 
 ghost use Rattle.std.specs.Prelude.{◌≡◌, ◌++◌, map};
 ghost use Rattle.sj_acceptance.specs.Openings.{found_in, found_in_arms, found_inside};
-ghost use Rattle.sj_forest_laws.specs.Opens.{as_opening, first_line, openings_of};
+ghost use Rattle.sj_forest_laws.specs.Opens as model;
+ghost use Rattle.sj_forest_laws.specs.Opens.{as_opening, first_line};
 ghost use Rattle.sj_lang.specs.CodeView.{arm_of, branches_of, code_of, deed_of};
-ghost use Rattle.sj_lang.specs.FileView.{party_of};
+ghost use Rattle.sj_lang.specs.FileView.{file_of};
 
-use sj_lang::{Deed, Party, Stmt, StmtArm};
+use sj_lang::{Deed, File, Stmt, StmtArm};
 
-/// The line of the first request or accept of the parties.
-pub fn first_opening(parties: &[Party]) -> Option<u32>
-    ensures { result ≡ first_line (openings_of (map party_of parties.now)) }
+/// The line of the file's first request or accept.
+pub fn first_opening(file: &File) -> Option<u32>
+    ensures { result ≡ model.first_opening (file_of file.now) }
 {
-    for party in parties {
+    for party in &file.parties {
         if let Some(line) = in_block(&party.body) {
             return Some(line);
         }
