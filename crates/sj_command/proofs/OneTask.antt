@@ -1,5 +1,5 @@
 -- Words ask for one task.
-use Rattle.std.proofs.Common.{◌≡◌, ◌∙◌, ◌≤◌, ℕ, Bool, List, Option, Some, None, ap, ap₂, sym, refl, arith}
+use Rattle.std.proofs.Common.{◌≡◌, ◌∙◌, ◌⊎◌, ◌≤◌, ℕ, Bool, List, Option, Some, None, ap, ap₂, sym, refl, arith, inl, inr}
 use Rattle.std.specs.Prelude.{codes, decimal, true, false}
 use Rattle.std.specs.Str.{bytes_eq}
 use Rattle.std.proofs.lemmas.Fmt.{decimal_injective}
@@ -96,3 +96,15 @@ one_of_line l t u a b = absurd (apart l t u refl refl a b)
 -- the words ask for one task
 pub one_task : (words : List Text) (t u : Task) → Asks words t → Asks words u → t ≡ u
 one_task words t u a b = one_of_line _ t u a.1 b.1
+
+-- a line that asks for a task has `run` or `replay`, or no flag and no option
+pub means_alone : (l : LineAt) (t : Task) → Means l t
+    → (l.command ≡ Some (codes "run")) ⊎ ((l.command ≡ Some (codes "replay")) ⊎ ((l.log ≡ Some (codes "false")) × (l.looks ≡ None) × (l.workers ≡ None)))
+means_alone l Check m = inr (inr (ap (λ k. k.log) m, ap (λ k. k.looks) m, ap (λ k. k.workers) m))
+means_alone l Show m = inr (inr (ap (λ k. k.log) m, ap (λ k. k.looks) m, ap (λ k. k.workers) m))
+means_alone l Forest m = inr (inr (ap (λ k. k.log) m, ap (λ k. k.looks) m, ap (λ k. k.workers) m))
+means_alone l Sim m = inr (inr (ap (λ k. k.log) m, ap (λ k. k.looks) m, ap (λ k. k.workers) m))
+means_alone l (Run log looks workers) m = inl (named l (Run log looks workers) m)
+means_alone l (Replay log) m = inr (inl (named l (Replay log) m))
+means_alone l (Make n) m = inr (inr (ap (λ k. k.log) m.0, ap (λ k. k.looks) m.0, ap (λ k. k.workers) m.0))
+means_alone l (Big n) m = inr (inr (ap (λ k. k.log) m.0, ap (λ k. k.looks) m.0, ap (λ k. k.workers) m.0))
