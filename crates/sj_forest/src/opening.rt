@@ -1,5 +1,4 @@
 //! The first request or accept of a file.
-#![tactic(auto, using(crate::proofs::OpeningLemmas::firsts))]
 
 ghost use Rattle.std.specs.Prelude.{◌≡◌, ◌++◌, map};
 ghost use Rattle.sj_acceptance.specs.Openings.{found_in, found_in_arms, found_inside};
@@ -15,8 +14,9 @@ pub fn first_opening(file: &File) -> Option<u32>
     ensures { result ≡ model.first_opening (file_of file.now) }
 {
     for party in &file.parties {
-        if let Some(line) = in_block(&party.body) {
-            return Some(line);
+        match in_block(&party.body) {
+            Some(line) => return Some(line),
+            None => {}
         }
     }
     None
@@ -27,8 +27,9 @@ fn in_block(stmts: &[Stmt]) -> Option<u32>
     ensures { result ≡ first_line (found_in as_opening (code_of stmts.now)) }
 {
     for stmt in stmts {
-        if let Some(line) = in_stmt(stmt.line, &stmt.deed) {
-            return Some(line);
+        match in_stmt(stmt.line, &stmt.deed) {
+            Some(line) => return Some(line),
+            None => {}
         }
     }
     None
@@ -89,8 +90,9 @@ fn in_arms(arms: &[StmtArm]) -> Option<u32>
     ensures { result ≡ first_line (found_in_arms as_opening (branches_of (map arm_of arms.now))) }
 {
     for arm in arms {
-        if let Some(line) = in_block(&arm.body) {
-            return Some(line);
+        match in_block(&arm.body) {
+            Some(line) => return Some(line),
+            None => {}
         }
     }
     None
