@@ -20,7 +20,9 @@ pub enum Task {
         workers: Option<u16>,
     },
     /// Replays the log behind a file, drains what is left, and prints as `Run` does.
-    Replay { log: bool },
+    Replay {
+        log: bool,
+    },
     /// Prints the generated file with this many messages in each loop, from 1 to 1,000.
     Make(u16),
     /// Runs that file and prints a summary.

@@ -25,7 +25,12 @@ const RUNS: [(&[&str], bool, u32, Option<u16>); 14] = [
     (&["run", "--workers", "1"], false, 1000, Some(1)),
     (&["--workers", "16", "run"], false, 1000, Some(16)),
     (&["run", "--workers=2", "--looks", "0"], false, 0, Some(2)),
-    (&["run", "--log", "--looks=5", "--workers", "9"], true, 5, Some(9)),
+    (
+        &["run", "--log", "--looks=5", "--workers", "9"],
+        true,
+        5,
+        Some(9),
+    ),
 ];
 
 #[test]

@@ -1,9 +1,10 @@
 -- Words with a space between each two.
 use Rattle.std.proofs.Common.{◌≡◌, ℕ, true, false, List, [], ◌∷◌, ◌++◌, map, refl, ap, ◌∙◌, append_assoc}
+use Rattle.std.specs.Prelude.{codes}
 use Rattle.sj_base.specs.declared.Msg.{Msg}
 use Rattle.sj_base.specs.declared.Msg.TheVariants as msgs
 use Rattle.sj_lang.specs.FileAt.{FileAt}
-use Rattle.sj_semantics.specs.Lines.{line_of, message_words}
+use Rattle.sj_semantics.specs.Lines.{end_text, int_text, line_of, message_words, name_of, quoted_at, word_at}
 use Rattle.sj_print.specs.declared.pieces.Piece.{Piece}
 use Rattle.sj_print.specs.Pieces.{message_text, piece_text, spaced_text, words_text}
 
@@ -23,11 +24,11 @@ line_apart x (y ∷ ys) = append_assoc x (32 ∷ words_text (y ∷ ys)) (10 ∷ 
 
 -- and so it is with a message
 pub message_line : (file : FileAt) (m : Msg) → message_text file m ++ 10 ∷ [] ≡ line_of (message_words file m)
-message_line file (msgs.Int n) = line_apart _ _
-message_line file (msgs.Bool true) = line_apart _ _
-message_line file (msgs.Bool false) = line_apart _ _
-message_line file (msgs.Text n) = line_apart _ _
-message_line file (msgs.Label l) = line_apart _ _
-message_line file (msgs.More true) = line_apart _ _
-message_line file (msgs.More false) = line_apart _ _
-message_line file (msgs.Sess s d k) = line_apart _ _
+message_line file (msgs.Int n) = line_apart (codes "int") (int_text n ∷ [])
+message_line file (msgs.Bool true) = line_apart (codes "boolean") (codes "true" ∷ [])
+message_line file (msgs.Bool false) = line_apart (codes "boolean") (codes "false" ∷ [])
+message_line file (msgs.Text n) = line_apart (codes "String") (quoted_at file.texts n ∷ [])
+message_line file (msgs.Label l) = line_apart (codes "label") (word_at file.words l ∷ [])
+message_line file (msgs.More true) = line_apart (codes "more") []
+message_line file (msgs.More false) = line_apart (codes "stop") []
+message_line file (msgs.Sess s d k) = line_apart (codes "session") (end_text s d ∷ name_of file k ∷ [])

@@ -23,14 +23,15 @@ module _ {W F : Type 0} where
   abbrev pub number_of : Task W F → ℕ
   number_of task = task.number
 
-  pub no_tasks : (call : F) → AreTasks call [] []
+  pub no_tasks : (call : F) → AreTasks {W = W} {F = F} call [] []
   no_tasks call = record { each = tt; numbers = λ i d lt. absurd (omega (arith, lt)) }
 
   pub one_more : (call : F) (values : List W) (tasks : List (Task W F)) (v : W) (t : Task W F) → AreTasks call values tasks → IsTaskAt call v t
       → t.number ≡ length tasks → AreTasks call (values ++ v ∷ []) (tasks ++ t ∷ [])
   one_more call values tasks v t are is number = record {
     each = each2_append (IsTaskAt call) values tasks (v ∷ []) (t ∷ []) are.each (is, tt);
-    numbers = λ i d lt. counts_on number_of 0 tasks t (λ j e less. are.numbers j e less) number i d lt;
+    numbers = λ i d lt.
+        let on = counts_on number_of 0 tasks t (λ j e less. let a = are.numbers j e less in omega (arith, a)) (omega (arith, number)) i d lt in omega (arith, on);
   }
 
   pub tasks_rise : (call : F) (values : List W) (tasks : List (Task W F)) → AreTasks call values tasks → Rises number_of tasks

@@ -58,8 +58,10 @@ pub fn call_each<R: Threads + Sync, W: Send + Drop, F: Fn(&mut W) + Sync>(
 {
     jobs_in_order_stay::<Task<W, F>>();
     let tasks = tasks_of(alloc, values, call)?;
-    match pool(rt, alloc, tasks, threads) {
-        Ok(done) => values_of(alloc, done),
-        Err(_) => Err(NoMemory),
-    }
+    let done = match pool(rt, alloc, tasks, threads) {
+        Ok(done) => done,
+        Err(_) => return Err(NoMemory),
+    };
+    let values = values_of(alloc, done)?;
+    Ok(values)
 }
