@@ -1,5 +1,5 @@
 //! Whether a file's parties and connections are a forest.
-ghost use Rattle.std.specs.Prelude.{◌≡◌, ◌++◌, IfOk, OnOk, codes, decimal, map};
+ghost use Rattle.std.specs.Prelude.{◌≡◌, ◌∷◌, IfOk, [], codes, decimal, map};
 ghost use Rattle.sj_check.specs.Held.{file_in as held};
 ghost use Rattle.sj_lang.specs.FileView.{file_of};
 ghost use Rattle.sj_semantics.specs.Lines.{line_of, name_of};
