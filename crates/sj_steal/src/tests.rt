@@ -94,10 +94,10 @@ fn a_task_makes_its_call_once(rt: HostRuntime) -> Result<(), Fail> {
 fn each_value_comes_back_at_its_index_after_one_call(rt: HostRuntime) -> Result<(), Fail> {
     let double = |value: &mut u8| *value = value.saturating_mul(2);
     let mut values = Vec::new(rt.alloc());
-    for value in [3u8, 7, 3, 1] {
-        values.push(value)?;
-    }
+    values.push(3u8)?;
+    values.push(7)?;
+    values.push(1)?;
     let done = call_each(&rt, rt.alloc(), values, 3, &double)?;
-    assert_eq!(rt; done.as_slice(), [6u8, 14, 6, 2].as_slice());
+    assert_eq!(rt; done.as_slice(), [6u8, 14, 2].as_slice());
     Ok(())
 }
