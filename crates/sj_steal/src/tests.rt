@@ -1,7 +1,7 @@
 //! A pool over jobs that count their runs.
 ghost use Rattle.std.specs.Prelude.{◌≡◌, ◌+◌, min};
 
-use crate::{Job, Task, pool};
+use crate::{Job, Task, call_each, pool};
 use std::alloc::Global;
 use std::test::Fail;
 
@@ -87,5 +87,17 @@ fn a_task_makes_its_call_once(rt: HostRuntime) -> Result<(), Fail> {
         }
         Err((back, _)) => assert_eq!(rt; back.len(), 2),
     }
+    Ok(())
+}
+
+#[test]
+fn each_value_comes_back_at_its_index_after_one_call(rt: HostRuntime) -> Result<(), Fail> {
+    let double = |value: &mut u8| *value = value.saturating_mul(2);
+    let mut values = Vec::new(rt.alloc());
+    values.push(3u8)?;
+    values.push(7)?;
+    values.push(1)?;
+    let done = call_each(&rt, rt.alloc(), values, 3, &double)?;
+    assert_eq!(rt; done.as_slice(), [6u8, 14, 2].as_slice());
     Ok(())
 }
