@@ -1,5 +1,5 @@
 -- Lists that are related index by index.
-use Rattle.std.proofs.Common.{◌≡◌, ℕ, zero, suc, List, [], ◌∷◌, length, Some, subst, arith}
+use Rattle.std.proofs.Common.{◌≡◌, ℕ, zero, suc, List, [], ◌∷◌, length, Some, refl, subst, arith}
 use Rattle.std.specs.Prelude.{slice_get}
 use Rattle.sj_steal.specs.Runs.{Each2}
 
@@ -17,4 +17,4 @@ module _ {X Y : Type 0} (R : X → Y → Type 0) where
   each2_from [] [] n h = tt
   each2_from [] (y ∷ ys) n h = absurd (omega arith)
   each2_from (x ∷ xs) [] n h = absurd (omega arith)
-  each2_from (x ∷ xs) (y ∷ ys) n h = (h zero x y (cc tt) (cc tt), each2_from xs ys (omega arith) (λ i v w. h (suc i) v w))
+  each2_from (x ∷ xs) (y ∷ ys) n h = (h zero x y refl refl, each2_from xs ys (omega arith) (λ i v w. h (suc i) v w))

@@ -11,5 +11,4 @@ pub fn calls_compose<O: OutLane, I: InLane>()
         Worked O.pushed O.faults O.vain O.same I.popped I.faults I.vain I.same looks first next →
         Worked O.pushed O.faults O.vain O.same I.popped I.faults I.vain I.same looks next last →
         Worked O.pushed O.faults O.vain O.same I.popped I.faults I.vain I.same looks first last }
-{
-}
+{}

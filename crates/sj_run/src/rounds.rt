@@ -47,13 +47,14 @@ fn round<R: Threads + Sync, O: OutLane, I: InLane, G: Gate>(
         workers.items new.items) }
 {
     node_crosses();
-    call_each(
+    let workers = call_each(
         rt,
         alloc,
         workers,
         threads,
         &|worker: &mut Worker<O, I>| turns(worker, looks, gate),
-    )
+    )?;
+    Ok(workers)
 }
 
 /// The workers after rounds on so many threads, until one without an event, or the last. All their
