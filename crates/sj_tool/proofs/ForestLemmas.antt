@@ -15,7 +15,7 @@ use Rattle.sj_forest.specs.Shape.{IsCycle}
 use Rattle.sj_forest.proofs.LeftLemmas.{all_marked, fewer_marks, left_same, mark_off, marked_within, marks, none_listed}
 use Rattle.sj_forest_laws.proofs.OpensLemmas.{none_is_first, openless_from}
 use Rattle.sj_forest.proofs.ShapeLemmas.{cycle_is_none}
-use Rattle.sj_tool.specs.ForestTexts.{IsForestText, IsLeftText, IsOpensText, IsYesText}
+use Rattle.sj_tool.specs.ForestTexts.{IsForestText, spaced_line}
 
 -- ---- parties can be taken away until each that is left has two remaining edges
 
@@ -114,7 +114,7 @@ has_forest_text file = by (opens_or_none file)
           listed = refl;
           some_one = some;
         } in
-        (line_of (codes "forest" ∷ codes "no" ∷ map (name_of file) those), inr (inl (those, cycle, refl)))
+        (codes "forest no" ++ spaced_line (map (name_of file) those), inr (inl (those, cycle, refl)))
 
     by : ((line : ℕ) × (first_opening file ≡ Some line)) ⊎ (first_opening file ≡ None) → (text : List ℕ) × IsForestText file text
     by (inl (line, it)) = (line_of (codes "forest" ∷ codes "opens" ∷ decimal line ∷ []), inl (line, it, refl))
@@ -139,7 +139,7 @@ one_forest_text file s t (inl (line, x, e)) (inr (inl (ys, y, d))) = absurd (not
 one_forest_text file s t (inl (line, x, e)) (inr (inr (y, d))) = absurd (not_both file line x y.openless)
 one_forest_text file s t (inr (inl (xs, x, e))) (inl (other, y, d)) = absurd (not_both file other y x.openless)
 one_forest_text file s t (inr (inl (xs, x, e))) (inr (inl (ys, y, d))) =
-    e ∙ ap (λ ns. line_of (codes "forest" ∷ codes "no" ∷ map (name_of file) ns)) (one_cycle file xs ys x y) ∙ sym d
+    e ∙ ap (λ ns. codes "forest no" ++ spaced_line (map (name_of file) ns)) (one_cycle file xs ys x y) ∙ sym d
 one_forest_text file s t (inr (inl (xs, x, e))) (inr (inr (y, d))) = absurd (cycle_is_none xs file x y)
 one_forest_text file s t (inr (inr (x, e))) (inl (other, y, d)) = absurd (not_both file other y x.openless)
 one_forest_text file s t (inr (inr (x, e))) (inr (inl (ys, y, d))) = absurd (cycle_is_none ys file y x)

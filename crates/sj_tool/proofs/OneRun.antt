@@ -83,4 +83,3 @@ module _ (links : LinkUseAt) (log : LogAt) (file : FileAt) (v w : Verdict) (s t 
       let same : x.history ≡ y.history = one_history links links l log file x.history y.history x.core y.core x.has y.has in
       print (tasks.Replay l) x y (ap (λ (h : List LineAt). run_text (tasks.Replay l) file h (end_of file)) same)
   one_run task h x y = absurd h
-  )

@@ -1,9 +1,9 @@
 //! Whether a file's parties and connections are a forest.
-ghost use Rattle.std.specs.Prelude.{◌≡◌, ◌∷◌, IfOk, [], codes, decimal, map};
+ghost use Rattle.std.specs.Prelude.{◌≡◌, ◌∷◌, ◌++◌, IfOk, [], codes, decimal, map};
 ghost use Rattle.sj_check.specs.Held.{file_in as held};
 ghost use Rattle.sj_lang.specs.FileView.{file_of};
 ghost use Rattle.sj_semantics.specs.Lines.{line_of, name_of};
-ghost use Rattle.sj_tool.specs.ForestTexts.{IsForestText};
+ghost use Rattle.sj_tool.specs.ForestTexts.{IsForestText, spaced_line};
 
 use sj_base::NoMemory;
 use sj_check::Accepted;
@@ -25,7 +25,8 @@ pub(crate) fn forest_text(alloc: Global, accepted: &Accepted) -> Result<Vec<u8>,
 }
 
 fn opens_text(alloc: Global, line: u32) -> Result<Vec<u8>, NoMemory>
-    ensures { IfOk result (λ text. text.items ≡ line_of (codes "forest" ∷ codes "opens" ∷ decimal line ∷ [])) }
+    ensures { IfOk result (λ text. text.items
+        ≡ line_of (codes "forest" ∷ codes "opens" ∷ decimal line ∷ [])) }
 {
     let mut text = Vec::new(alloc);
     put(&mut text, b"forest opens ")?;
@@ -36,7 +37,8 @@ fn opens_text(alloc: Global, line: u32) -> Result<Vec<u8>, NoMemory>
 
 // The names of the parties of these numbers.
 fn left_text(alloc: Global, file: &File, parties: &[u16]) -> Result<Vec<u8>, NoMemory>
-    ensures { IfOk result (λ text. text.items ≡ line_of (codes "forest" ∷ codes "no" ∷ map (name_of (file_of file.now)) parties.now)) }
+    ensures { IfOk result (λ text. text.items ≡ codes "forest no"
+        ++ spaced_line (map (name_of (file_of file.now)) parties.now)) }
 {
     let mut text = Vec::new(alloc);
     put(&mut text, b"forest no")?;
