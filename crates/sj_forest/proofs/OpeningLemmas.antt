@@ -5,7 +5,7 @@ use Rattle.sj_acceptance.specs.Openings.{OpeningAt, found_in, found_inside, foun
 use Rattle.sj_forest_laws.specs.Opens.{as_opening, first_line, openings_of}
 use Rattle.sj_lang.specs.Code as code
 use Rattle.sj_lang.specs.Code.{Code, DeedAt, StmtAt}
-use Rattle.sj_lang.specs.CodeView.{arm_of, branches_of, code_of, deed_of, stmt_of, term_of}
+use Rattle.sj_lang.specs.CodeView.{arm_of, branches_of, code_of, deed_of, stmt_of}
 use Rattle.sj_lang.specs.FileView.{party_of}
 use Rattle.sj_lang.specs.declared.file.Party.{Party}
 use Rattle.sj_lang.specs.declared.party.Deed.{Deed}

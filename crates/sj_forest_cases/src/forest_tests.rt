@@ -90,7 +90,6 @@ fn accepted(alloc: Global, text: &[u8]) -> Result<Accepted, Fail> {
 }
 
 // How a forest ends.
-#[tactic(auto, using(sj_forest::proofs::KeptLemmas::kept_has_shape))]
 fn ending(alloc: Global, text: &[u8]) -> Result<Ending, Fail> {
     let accepted = accepted(alloc, text)?;
     let mut plain = Plain::start(alloc, &accepted)?;
