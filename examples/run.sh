@@ -9,11 +9,13 @@ fresh=$#
 passed=0
 failed=0
 
-# An example, its status, and the words of its command.
+# An example, its status, and the words of its command; what `forest` answers stands in NAME.forest.txt.
 while read -r name status words; do
+    text=$here/$name.txt
+    [ "$words" != forest ] || text=$here/$name.forest.txt
     # shellcheck disable=SC2086 # these are the words, one by one
     got=$("$sj" $words <"$here/$name.sj"; echo "status $?")
-    wanted=$(cat "$here/$name.txt"; echo "status $status")
+    wanted=$(cat "$text"; echo "status $status")
     if [ "$got" = "$wanted" ]; then
         passed=$((passed + 1))
     else
@@ -22,6 +24,7 @@ while read -r name status words; do
     fi
 done <<'END'
 first 0 sim
+desk 0 run
 greeting 0 sim
 choice 0 sim
 loop 0 sim
@@ -34,13 +37,17 @@ relay 0 run
 width 0 sim
 opened 0 run
 blocked 6 sim
+ring 6 sim
+ring 0 forest
+tree 0 sim
+tree 0 forest
 limit 7 sim
 refused 5 check
 END
 
-set -- "$here"/*.sj
+set -- "$here"/*.txt
 if [ "$#" -ne $((passed + failed)) ]; then
-    echo "of $# examples $((passed + failed)) were run"
+    echo "of $# outputs $((passed + failed)) were compared"
     failed=$((failed + 1))
 fi
 if [ "$fresh" -eq 0 ]; then

@@ -1,17 +1,18 @@
 -- Words ask for one task.
-use Rattle.std.proofs.Common.{◌≡◌, ◌∙◌, ◌≤◌, ℕ, Bool, List, Option, Some, None, ap, ap₂, sym, refl, arith}
+use Rattle.std.proofs.Common.{◌≡◌, ◌∙◌, ◌⊎◌, ◌≤◌, ℕ, Bool, List, Option, Some, None, ap, ap₂, sym, refl, arith, inl, inr}
 use Rattle.std.specs.Prelude.{codes, decimal, true, false}
 use Rattle.std.specs.Str.{bytes_eq}
 use Rattle.std.proofs.lemmas.Fmt.{decimal_injective}
 use Rattle.clap.specs.Words.{Text}
 use Rattle.sj_command.specs.declared.tasks.Task.{Task}
-use Rattle.sj_command.specs.declared.tasks.Task.TheVariants.{Check, Show, Sim, Run, Replay, Make, Big}
+use Rattle.sj_command.specs.declared.tasks.Task.TheVariants.{Check, Show, Forest, Sim, Run, Replay, Make, Big}
 use Rattle.sj_command.specs.Task.{Asks, LineAt, Means, StandsForLooks, StandsForWorkers, flag_text, most_looks, most_messages}
 
 -- the name of a task's command
 abbrev name_of : Task → Text
 name_of Check = codes "check"
 name_of Show = codes "show"
+name_of Forest = codes "forest"
 name_of Sim = codes "sim"
 name_of (Run log looks workers) = codes "run"
 name_of (Replay log) = codes "replay"
@@ -22,6 +23,7 @@ name_of (Big n) = codes "big"
 named : (l : LineAt) (t : Task) → Means l t → l.command ≡ Some (name_of t)
 named l Check m = ap (λ k. k.command) m
 named l Show m = ap (λ k. k.command) m
+named l Forest m = ap (λ k. k.command) m
 named l Sim m = ap (λ k. k.command) m
 named l (Run log looks workers) m = ap (λ k. k.command) m.0
 named l (Replay log) m = ap (λ k. k.command) m
@@ -78,59 +80,31 @@ same_count l n m a b few few_too =
     let digits : decimal n ≡ decimal m = cc in
     one_number n m (omega (arith, few)) (omega (arith, few_too)) digits
 
--- a line asks for one task
+-- a line asks for one task, since commands have different names
 pub one_of_line : (l : LineAt) (t u : Task) → Means l t → Means l u → t ≡ u
 one_of_line l Check Check a b = refl
-one_of_line l Check Show a b = absurd (apart l Check Show refl refl a b)
-one_of_line l Check Sim a b = absurd (apart l Check Sim refl refl a b)
-one_of_line l Check (Run g y v) a b = absurd (apart l Check (Run g y v) refl refl a b)
-one_of_line l Check (Replay g) a b = absurd (apart l Check (Replay g) refl refl a b)
-one_of_line l Check (Make m) a b = absurd (apart l Check (Make m) refl refl a b)
-one_of_line l Check (Big m) a b = absurd (apart l Check (Big m) refl refl a b)
-one_of_line l Show Check a b = absurd (apart l Show Check refl refl a b)
 one_of_line l Show Show a b = refl
-one_of_line l Show Sim a b = absurd (apart l Show Sim refl refl a b)
-one_of_line l Show (Run g y v) a b = absurd (apart l Show (Run g y v) refl refl a b)
-one_of_line l Show (Replay g) a b = absurd (apart l Show (Replay g) refl refl a b)
-one_of_line l Show (Make m) a b = absurd (apart l Show (Make m) refl refl a b)
-one_of_line l Show (Big m) a b = absurd (apart l Show (Big m) refl refl a b)
-one_of_line l Sim Check a b = absurd (apart l Sim Check refl refl a b)
-one_of_line l Sim Show a b = absurd (apart l Sim Show refl refl a b)
+one_of_line l Forest Forest a b = refl
 one_of_line l Sim Sim a b = refl
-one_of_line l Sim (Run g y v) a b = absurd (apart l Sim (Run g y v) refl refl a b)
-one_of_line l Sim (Replay g) a b = absurd (apart l Sim (Replay g) refl refl a b)
-one_of_line l Sim (Make m) a b = absurd (apart l Sim (Make m) refl refl a b)
-one_of_line l Sim (Big m) a b = absurd (apart l Sim (Big m) refl refl a b)
-one_of_line l (Run f x w) Check a b = absurd (apart l (Run f x w) Check refl refl a b)
-one_of_line l (Run f x w) Show a b = absurd (apart l (Run f x w) Show refl refl a b)
-one_of_line l (Run f x w) Sim a b = absurd (apart l (Run f x w) Sim refl refl a b)
 one_of_line l (Run f x w) (Run g y v) a b =
     ap₂ (λ h k. Run h k w) (one_flag f g (sym (ap (λ k. k.log) a.0) ∙ ap (λ k. k.log) b.0)) (one_count l.looks x y a.1 b.1) ∙ ap (λ k. Run g y k) (one_team l.workers w v a.2 b.2)
-one_of_line l (Run f x w) (Replay g) a b = absurd (apart l (Run f x w) (Replay g) refl refl a b)
-one_of_line l (Run f x w) (Make m) a b = absurd (apart l (Run f x w) (Make m) refl refl a b)
-one_of_line l (Run f x w) (Big m) a b = absurd (apart l (Run f x w) (Big m) refl refl a b)
-one_of_line l (Replay f) Check a b = absurd (apart l (Replay f) Check refl refl a b)
-one_of_line l (Replay f) Show a b = absurd (apart l (Replay f) Show refl refl a b)
-one_of_line l (Replay f) Sim a b = absurd (apart l (Replay f) Sim refl refl a b)
-one_of_line l (Replay f) (Run g y v) a b = absurd (apart l (Replay f) (Run g y v) refl refl a b)
 one_of_line l (Replay f) (Replay g) a b = ap Replay (one_flag f g (sym (ap (λ k. k.log) a) ∙ ap (λ k. k.log) b))
-one_of_line l (Replay f) (Make m) a b = absurd (apart l (Replay f) (Make m) refl refl a b)
-one_of_line l (Replay f) (Big m) a b = absurd (apart l (Replay f) (Big m) refl refl a b)
-one_of_line l (Make n) Check a b = absurd (apart l (Make n) Check refl refl a b)
-one_of_line l (Make n) Show a b = absurd (apart l (Make n) Show refl refl a b)
-one_of_line l (Make n) Sim a b = absurd (apart l (Make n) Sim refl refl a b)
-one_of_line l (Make n) (Run g y v) a b = absurd (apart l (Make n) (Run g y v) refl refl a b)
-one_of_line l (Make n) (Replay g) a b = absurd (apart l (Make n) (Replay g) refl refl a b)
 one_of_line l (Make n) (Make m) a b = ap (λ k. Make k) (same_count l n m (ap (λ k. k.number) a.0) (ap (λ k. k.number) b.0) a.1.1 b.1.1)
-one_of_line l (Make n) (Big m) a b = absurd (apart l (Make n) (Big m) refl refl a b)
-one_of_line l (Big n) Check a b = absurd (apart l (Big n) Check refl refl a b)
-one_of_line l (Big n) Show a b = absurd (apart l (Big n) Show refl refl a b)
-one_of_line l (Big n) Sim a b = absurd (apart l (Big n) Sim refl refl a b)
-one_of_line l (Big n) (Run g y v) a b = absurd (apart l (Big n) (Run g y v) refl refl a b)
-one_of_line l (Big n) (Replay g) a b = absurd (apart l (Big n) (Replay g) refl refl a b)
-one_of_line l (Big n) (Make m) a b = absurd (apart l (Big n) (Make m) refl refl a b)
 one_of_line l (Big n) (Big m) a b = ap (λ k. Big k) (same_count l n m (ap (λ k. k.number) a.0) (ap (λ k. k.number) b.0) a.1.1 b.1.1)
+one_of_line l t u a b = absurd (apart l t u refl refl a b)
 
 -- the words ask for one task
 pub one_task : (words : List Text) (t u : Task) → Asks words t → Asks words u → t ≡ u
 one_task words t u a b = one_of_line _ t u a.1 b.1
+
+-- a line that asks for a task has `run` or `replay`, or no flag and no option
+pub means_alone : (l : LineAt) (t : Task) → Means l t
+    → (l.command ≡ Some (codes "run")) ⊎ ((l.command ≡ Some (codes "replay")) ⊎ ((l.log ≡ Some (codes "false")) × (l.looks ≡ None) × (l.workers ≡ None)))
+means_alone l Check m = inr (inr (ap (λ k. k.log) m, ap (λ k. k.looks) m, ap (λ k. k.workers) m))
+means_alone l Show m = inr (inr (ap (λ k. k.log) m, ap (λ k. k.looks) m, ap (λ k. k.workers) m))
+means_alone l Forest m = inr (inr (ap (λ k. k.log) m, ap (λ k. k.looks) m, ap (λ k. k.workers) m))
+means_alone l Sim m = inr (inr (ap (λ k. k.log) m, ap (λ k. k.looks) m, ap (λ k. k.workers) m))
+means_alone l (Run log looks workers) m = inl (named l (Run log looks workers) m)
+means_alone l (Replay log) m = inr (inl (named l (Replay log) m))
+means_alone l (Make n) m = inr (inr (ap (λ k. k.log) m.0, ap (λ k. k.looks) m.0, ap (λ k. k.workers) m.0))
+means_alone l (Big n) m = inr (inr (ap (λ k. k.log) m.0, ap (λ k. k.looks) m.0, ap (λ k. k.workers) m.0))

@@ -2,7 +2,7 @@
 use Rattle.std.specs.Prelude.{◌≡◌, ◌≤◌, ℕ, ⊤, Bool, true, false, List, Option, Some, None, codes, decimal}
 use Rattle.clap.specs.Words.{Text}
 use Rattle.sj_command.specs.declared.tasks.Task.{Task}
-use Rattle.sj_command.specs.declared.tasks.Task.TheVariants.{Check, Show, Sim, Run, Replay, Make, Big}
+use Rattle.sj_command.specs.declared.tasks.Task.TheVariants.{Check, Show, Forest, Sim, Run, Replay, Make, Big}
 use Rattle.sj_command.specs.CommandLine.{IsTaken, text_given}
 
 -- what a line has: a command and a number, a flag and two options
@@ -66,6 +66,7 @@ StandsForWorkers (Some text) (Some workers) = (text ≡ decimal workers) × (1 �
 abbrev pub Means : LineAt → Task → Type 0
 Means line Check = line ≡ alone (codes "check") None
 Means line Show = line ≡ alone (codes "show") None
+Means line Forest = line ≡ alone (codes "forest") None
 Means line Sim = line ≡ alone (codes "sim") None
 Means line (Run log looks workers) =
     (line ≡ running log line.looks line.workers) × StandsForLooks line.looks looks × StandsForWorkers line.workers workers

@@ -168,6 +168,8 @@ fn task_alone(name: &[u8]) -> Option<Task>
         Some(Task::Check)
     } else if name == b"show".as_slice() {
         Some(Task::Show)
+    } else if name == b"forest".as_slice() {
+        Some(Task::Forest)
     } else if name == b"sim".as_slice() {
         Some(Task::Sim)
     } else {

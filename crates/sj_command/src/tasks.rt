@@ -7,6 +7,8 @@ pub enum Task {
     Check,
     /// Prints each protocol of a file and its dual.
     Show,
+    /// Checks a file and tells whether its parties and connections are a forest.
+    Forest,
     /// Runs a file in the plain world and prints the transcript.
     Sim,
     /// Runs a file and prints the transcript, and behind it the history where a log is asked for.

@@ -46,9 +46,10 @@ fn words_of_run(rt: HostRuntime) -> Result<(), Fail> {
     Ok(())
 }
 
-const OTHERS: [(&[&str], Option<Task>); 17] = [
+const OTHERS: [(&[&str], Option<Task>); 18] = [
     (&["check"], Some(Task::Check)),
     (&["show"], Some(Task::Show)),
+    (&["forest"], Some(Task::Forest)),
     (&["sim"], Some(Task::Sim)),
     (&["replay"], Some(Task::Replay { log: false })),
     (&["replay", "--log"], Some(Task::Replay { log: true })),

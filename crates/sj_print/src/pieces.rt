@@ -8,7 +8,7 @@ ghost use Rattle.sj_text.specs.Cut.{IsCutShort};
 ghost use Rattle.sj_lang.specs.FileView.{file_of};
 ghost use Rattle.sj_semantics.specs.Lines.{line_of, word_at, or_number, quoted_at, name_of, end_text, in_quotes};
 ghost use Rattle.sj_print.specs.LogLine.{resend_word};
-ghost use Rattle.sj_print.specs.Pieces.{piece_text, spaced_text};
+ghost use Rattle.sj_print.specs.Pieces.{piece_text, spaced_text, words_text};
 
 use sj_base::{EndId, NoMemory};
 use sj_lang::{File, Words};
@@ -48,6 +48,22 @@ pub(crate) fn put_line(
     put(text, b"\n")
 }
 
+/// Puts words behind the text, with a space between each two.
+pub(crate) fn put_words(
+    text: &mut Vec<u8>,
+    file: &File,
+    front: &[Piece],
+    last: Piece,
+) -> Result<(), NoMemory>
+    ensures ok { OnOk result (text.new.items ≡ text.old.items
+        ++ words_text (map (piece_text (file_of file.now)) (front.now ++ last ∷ []))) }
+    ensures err { OnErr result (IsCutShort text.old.items
+        (words_text (map (piece_text (file_of file.now)) (front.now ++ last ∷ []))) text.new.items) }
+{
+    put_spaced(text, file, front)?;
+    put_piece(text, file, last)
+}
+
 /// Puts these behind the text, each with a space behind it.
 pub(crate) fn put_spaced(text: &mut Vec<u8>, file: &File, front: &[Piece]) -> Result<(), NoMemory>
     ensures ok { OnOk result (text.new.items
@@ -73,15 +89,15 @@ fn put_piece(text: &mut Vec<u8>, file: &File, piece: Piece) -> Result<(), NoMemo
         Piece::Number(n) => put_number(text, n),
         Piece::Int(n) => put_int(text, n),
         Piece::End(end) => put_end(text, end),
-        Piece::Party(party) => put_name(text, file, party),
+        Piece::Party(party) => print_name(text, file, party),
         Piece::Word(n) => put_word(text, &file.names.words, u32::from(n)),
         Piece::Text(n) => put_quoted(text, &file.names.texts, n),
         Piece::Resend(number) => put_resend(text, number),
     }
 }
 
-// The name of the party of that number, or `#` and the number.
-fn put_name(text: &mut Vec<u8>, file: &File, party: u16) -> Result<(), NoMemory>
+/// Puts the name of the party of that number behind the text, or `#` and the number where none has it.
+pub fn print_name(text: &mut Vec<u8>, file: &File, party: u16) -> Result<(), NoMemory>
     ensures ok { OnOk result (text.new.items ≡ text.old.items ++ name_of (file_of file.now) party) }
     ensures err { OnErr result (IsCutShort text.old.items
         (name_of (file_of file.now) party) text.new.items) }

@@ -20,28 +20,14 @@ pub data Kind (links : LinkUseAt) (task : Task) (bytes : List ℕ) (a : AnswerAt
   parts : AnswersParts links task bytes a → Kind links task bytes a
 
 pub kind_of : (links : LinkUseAt) (task : Task) (bytes : List ℕ) (a : AnswerAt) → AnswersBytes links task bytes a → Kind links task bytes a
-kind_of links task bytes Usage x = parts x
-kind_of links task bytes ReadFault x = parts x
 kind_of links task bytes TooLarge x = long refl x.0 x.1
-kind_of links task bytes (Syntax f) x = parts x
-kind_of links task bytes (Check r k) x = parts x
 kind_of links task bytes (LogFault r k) x = elim x [ inl m ↦ misses (ap (λ s. LogFault s k) m.2 ∙ ap (λ n. LogFault 1 n) m.3) m.0 m.1 | inr p ↦ parts p ]
-kind_of links task bytes (Misfit t) x = parts x
-kind_of links task bytes LinkFault x = parts x
-kind_of links task bytes (Damaged t) x = parts x
-kind_of links task bytes (Ran v t) x = parts x
-kind_of links task bytes (Printed t) x = parts x
-kind_of links task bytes (Made t) x = parts x
+kind_of links task bytes a x = parts x
 
 -- the parts of a replay stand before and behind the line that parts it
 pub parted_of : (task : Task) (bytes text : List ℕ) (log : LogAt) → IsReplay task → HasParts task bytes text log → IsParted bytes text log.version log.bytes × (length text ≤ file_limit)
-parted_of tasks.Check bytes text log replays p = absurd replays
-parted_of tasks.Show bytes text log replays p = absurd replays
-parted_of tasks.Sim bytes text log replays p = absurd replays
-parted_of (tasks.Run l looks) bytes text log replays p = absurd replays
 parted_of (tasks.Replay l) bytes text log replays p = p
-parted_of (tasks.Make n) bytes text log replays p = absurd replays
-parted_of (tasks.Big n) bytes text log replays p = absurd replays
+parted_of task bytes text log replays p = absurd replays
 
 -- a text that isn't too long is no other that is
 pub not_long : (task : Task) (bytes text : List ℕ) (log : LogAt) → IsReplay task → HasParts task bytes text log → HasLongText bytes → ⊥
@@ -74,15 +60,6 @@ module _ (links : LinkUseAt) (task : Task) (bytes : List ℕ) (a b : AnswerAt) w
 -- ---- a task whose bytes are answered takes a file
 
 takes_text : (links : LinkUseAt) (task : Task) (log : LogAt) (text : List ℕ) (a : AnswerAt) → AnswersText links task log text a → Takes task
-takes_text links tasks.Check log text a h = tt
-takes_text links tasks.Show log text a h = tt
-takes_text links tasks.Sim log text a h = tt
-takes_text links (tasks.Run l looks) log text a h = tt
-takes_text links (tasks.Replay l) log text a h = tt
-takes_text links (tasks.Big n) log text a h = tt
-takes_text links (tasks.Make n) log text Usage h = absurd h.answers
-takes_text links (tasks.Make n) log text ReadFault h = absurd h.answers
-takes_text links (tasks.Make n) log text TooLarge h = absurd h.answers
 takes_text links (tasks.Make n) log text (Syntax f) h = absurd h.0
 takes_text links (tasks.Make n) log text (Check r k) h = absurd h.answers.0
 takes_text links (tasks.Make n) log text (LogFault r k) h = absurd h.answers.1
@@ -90,17 +67,12 @@ takes_text links (tasks.Make n) log text (Misfit t) h = absurd h.answers.1
 takes_text links (tasks.Make n) log text LinkFault h = absurd h.answers.1
 takes_text links (tasks.Make n) log text (Damaged t) h = absurd h.answers.1
 takes_text links (tasks.Make n) log text (Ran v t) h = absurd h.answers.1.0
-takes_text links (tasks.Make n) log text (Printed t) h = absurd h.answers
-takes_text links (tasks.Make n) log text (Made t) h = absurd h.answers
+takes_text links (tasks.Make n) log text a h = absurd h.answers
+takes_text links task log text a h = tt
 
 replay_takes : (task : Task) → IsReplay task → Takes task
-replay_takes tasks.Check h = tt
-replay_takes tasks.Show h = tt
-replay_takes tasks.Sim h = tt
-replay_takes (tasks.Run l looks) h = tt
-replay_takes (tasks.Replay l) h = tt
 replay_takes (tasks.Make n) h = h
-replay_takes (tasks.Big n) h = tt
+replay_takes task h = tt
 
 pub takes_file : (links : LinkUseAt) (task : Task) (bytes : List ℕ) (a : AnswerAt) → AnswersBytes links task bytes a → Takes task
 takes_file links task bytes a x = by (kind_of links task bytes a x)

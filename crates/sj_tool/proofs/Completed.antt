@@ -109,13 +109,9 @@ module _ (c : CallAt) (file : FileAt) where
         (subst (λ (bs : List ℕ). AnswersBytes c.links (tasks.Big n) bs a) made.1 answers))
 
   completes : (task : Task) → IsValid c task file → (a : AnswerAt) → Row c a → Completes task file (status_of a) (text_of a)
-  completes tasks.Check v a row = row_completes tasks.Check tt v.0 v.1 a row
-  completes tasks.Show v a row = row_completes tasks.Show tt v.0 v.1 a row
-  completes tasks.Sim v a row = row_completes tasks.Sim tt v.0 v.1 a row
-  completes (tasks.Run log looks workers) v a row = row_completes (tasks.Run log looks workers) tt v.0 v.1 a row
-  completes (tasks.Replay log) v a row = row_completes (tasks.Replay log) tt v.0 v.1 a row
   completes (tasks.Make n) v a row = make_completes n v a row
   completes (tasks.Big n) v a row = big_completes n v.0 v.1 a row
+  completes task v a row = row_completes task tt v.0 v.1 a row
 
 -- the answer that is written completes the task
 pub answered_whole : (said : List (List ℕ)) (left after : Option (List ℕ)) (f g : ℕ) (links : LinkUseAt) (a : AnswerAt) (status : ℕ) (before now : Option (List ℕ))

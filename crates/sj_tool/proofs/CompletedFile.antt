@@ -18,6 +18,7 @@ use Rattle.sj_tool.specs.AnswerAt.{AnswerAt, Usage, ReadFault, TooLarge, Syntax,
 use Rattle.sj_tool.specs.Answers.{AnswersBytes, AnswersFile, AnswersText}
 use Rattle.sj_tool.specs.Calls.{LinkUseAt, LinksHold}
 use Rattle.sj_tool.specs.Completeness.{Completes, TellsEnd}
+use Rattle.sj_tool.specs.ForestTexts.{IsForestText}
 use Rattle.sj_tool.specs.Tasks.{Checks, HasParts, Replays, RunsParties}
 use Rattle.sj_tool.specs.Runs.{HasBegun}
 use Rattle.sj_tool.specs.Sums.{summary}
@@ -61,12 +62,13 @@ module _ (links : LinkUseAt) (log : LogAt) (file : FileAt) (t : ℕ × List ℕ)
   faultless : (task : Task) → (Replays task → HasBegun links task log file) → TellsFaultless links task log file t → Told task file t.0 t.1
   faultless tasks.Check fits e = (ap (λ z. z.0) e, ap (λ z. z.1) e)
   faultless tasks.Show fits e = absurd e
+  faultless tasks.Forest fits (text, is, e) = (ap (λ z. z.0) e, subst (λ (s : List ℕ). IsForestText file s) (sym (ap (λ z. z.1) e)) is)
   faultless tasks.Sim fits p =
       let s = played_so links tasks.Sim log file p.verdict p.text tt p.plays in
       played false file t p.verdict p.text tasks.Sim p.are s (λ _. s.bare (λ logs. never (sym logs)))
-  faultless (tasks.Run true looks) fits p =
-      let s = played_so links (tasks.Run true looks) log file p.verdict p.text tt p.plays in
-      played true file t p.verdict p.text (tasks.Run true looks) p.are s (λ e. absurd (never e))
+  faultless (tasks.Run true looks workers) fits p =
+      let s = played_so links (tasks.Run true looks workers) log file p.verdict p.text tt p.plays in
+      played true file t p.verdict p.text (tasks.Run true looks workers) p.are s (λ e. absurd (never e))
   faultless (tasks.Run false looks workers) fits p =
       let s = played_so links (tasks.Run false looks workers) log file p.verdict p.text tt p.plays in
       played false file t p.verdict p.text (tasks.Run false looks workers) p.are s (λ _. s.bare (λ logs. never (sym logs)))
@@ -84,26 +86,13 @@ module _ (links : LinkUseAt) (log : LogAt) (file : FileAt) (t : ℕ × List ℕ)
   told_valid : (task : Task) (first : Option (ℕ × ℕ)) → (Replays task → HasBegun links task log file) → (Checks task → first ≡ None) → Tells links task log file first t → Told task file t.0 t.1
   told_valid tasks.Show first fits ok e = (ap (λ z. z.0) e, ap (λ z. z.1) e)
   told_valid (tasks.Make n) first fits ok e = absurd e
-  told_valid tasks.Check first fits ok e = checked tasks.Check first fits (ok tt) e
-  told_valid tasks.Sim first fits ok e = checked tasks.Sim first fits (ok tt) e
-  told_valid (tasks.Run l looks) first fits ok e = checked (tasks.Run l looks) first fits (ok tt) e
-  told_valid (tasks.Replay l) first fits ok e = checked (tasks.Replay l) first fits (ok tt) e
-  told_valid (tasks.Big n) first fits ok e = checked (tasks.Big n) first fits (ok tt) e
+  told_valid task first fits ok e = checked task first fits (ok tt) e
 
 -- links that hold bring no fault of theirs
 unhurt_by : (links : LinkUseAt) (task : Task) (log : LogAt) (file : FileAt) (a : AnswerAt) → (RunsParties task → LinksHold links) → AnswersFile links task log file a → IsUnhurt a
-unhurt_by links task log file Usage hold x = tt
-unhurt_by links task log file ReadFault hold x = tt
-unhurt_by links task log file TooLarge hold x = tt
-unhurt_by links task log file (Syntax f) hold x = tt
-unhurt_by links task log file (Check r k) hold x = tt
-unhurt_by links task log file (LogFault r k) hold x = tt
-unhurt_by links task log file (Misfit t) hold x = tt
 unhurt_by links task log file LinkFault hold x = let holds = hold x.1 in holds.1 x.2
 unhurt_by links task log file (Damaged t) hold x = let holds = hold x.1 in x.2 holds.0
-unhurt_by links task log file (Ran v t) hold x = tt
-unhurt_by links task log file (Printed t) hold x = tt
-unhurt_by links task log file (Made t) hold x = tt
+unhurt_by links task log file a hold x = tt
 
 module _ (links : LinkUseAt) (task : Task) (file : FileAt) (bytes text : List ℕ) (log : LogAt) (has : HasParts task bytes text log) (stands : IsFile text file) (accepted : Checks task → IsAccepted file) (fits : Replays task → HasBegun links task log file)
     (hold : RunsParties task → LinksHold links) where

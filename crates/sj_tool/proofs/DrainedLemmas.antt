@@ -36,13 +36,9 @@ kept_history file kept lines w is h =
 -- links that tell show what is given to a task that runs parties
 pub shown_given : (links : LinkUseAt) (task : Task) (log : LogAt) (file : FileAt) (lines : List LineAt) (left : WorldAt Place Program) → RunsParties task
     → (links.tells ≡ true → IsShown file (looks_of task) links.keeps lines left) → IsGiven links task log file lines left
-shown_given links tasks.Check log file lines left h shown = absurd h
-shown_given links tasks.Show log file lines left h shown = absurd h
-shown_given links tasks.Sim log file lines left h shown = absurd h
-shown_given links (tasks.Run l looks) log file lines left h shown = shown
-shown_given links (tasks.Replay l) log file lines left h shown = absurd h
-shown_given links (tasks.Make n) log file lines left h shown = absurd h
+shown_given links (tasks.Run l looks workers) log file lines left h shown = shown
 shown_given links (tasks.Big n) log file lines left h shown = shown
+shown_given links task log file lines left h shown = absurd h
 
 module _ (file first kept : FileAt) (of_file : first ≡ without_words file) (same : kept ≡ first) (n m : ℕ) (left core : WorldAt Place Program) (lines more history : List LineAt) where
   -- what is drained is a history of the file, and leaves nothing to do

@@ -23,6 +23,7 @@ use Rattle.sj_tool.specs.Runs.{HasBegun, run_text}
 use Rattle.sj_tool.specs.Shown.{shown}
 use Rattle.sj_tool.specs.Tasks.{HasEvents, RunsParties, Takes}
 use Rattle.sj_tool.specs.Texts.{counts_of}
+use Rattle.sj_tool.proofs.ForestLemmas.{has_forest_text}
 use Rattle.sj_tool.proofs.DrainedLemmas.{shown_given, told_runs}
 use Rattle.sj_tool.proofs.DrainedLines.{begun_goes_on}
 use Rattle.sj_tool.proofs.KindLemmas.{run_has_events, run_plays}
@@ -62,12 +63,12 @@ module _ (links : LinkUseAt) (task : Task) (log : LogAt) (file : FileAt) (accept
 accepted_answered : (links : LinkUseAt) (task : Task) (log : LogAt) (file : FileAt) → Takes task → IsAccepted file → (RunsParties task → LinksHold links → HasBegun links task log file) → HasAnswer links task log file
 accepted_answered links tasks.Check log file takes accepted shows = (Printed (counts_of file), (accepted, refl))
 accepted_answered links tasks.Show log file takes accepted shows = (Printed (shown file), refl)
+accepted_answered links tasks.Forest log file takes accepted shows = let (text, is) = has_forest_text file in (Printed text, (accepted, is))
 accepted_answered links tasks.Sim log file takes accepted shows = (Ran (verdict_of (end_of file)) (transcript_of file (end_of file)), (accepted, (refl, refl)))
-accepted_answered links (tasks.Run l looks) log file takes accepted shows = ran_answered links (tasks.Run l looks) log file accepted tt (shows tt)
 accepted_answered links (tasks.Replay l) log file takes accepted shows =
     elim (log_told_or_begun links l log file accepted) [ inl told ↦ told | inr begun ↦ begun_answered links (tasks.Replay l) log file accepted tt begun ]
 accepted_answered links (tasks.Make n) log file takes accepted shows = absurd takes
-accepted_answered links (tasks.Big n) log file takes accepted shows = ran_answered links (tasks.Big n) log file accepted tt (shows tt)
+accepted_answered links task log file takes accepted shows = ran_answered links task log file accepted tt (shows tt)
 
 -- of each file within the limits
 module _ (links : LinkUseAt) (log : LogAt) (file : FileAt) (within : IsWithin limits file) where
@@ -79,8 +80,4 @@ module _ (links : LinkUseAt) (log : LogAt) (file : FileAt) (within : IsWithin li
   pub file_answered : (task : Task) → Takes task → (RunsParties task → IsAccepted file → LinksHold links → HasBegun links task log file) → HasAnswer links task log file
   file_answered tasks.Show takes shows = (Printed (shown file), refl)
   file_answered (tasks.Make n) takes shows = absurd takes
-  file_answered tasks.Check takes shows = checked_answered tasks.Check tt (λ r k e. (Check r k, (tt, e))) shows (first_fault (tests_of file)) refl
-  file_answered tasks.Sim takes shows = checked_answered tasks.Sim tt (λ r k e. (Check r k, (tt, e))) shows (first_fault (tests_of file)) refl
-  file_answered (tasks.Run l looks) takes shows = checked_answered (tasks.Run l looks) tt (λ r k e. (Check r k, (tt, e))) shows (first_fault (tests_of file)) refl
-  file_answered (tasks.Replay l) takes shows = checked_answered (tasks.Replay l) tt (λ r k e. (Check r k, (tt, e))) shows (first_fault (tests_of file)) refl
-  file_answered (tasks.Big n) takes shows = checked_answered (tasks.Big n) tt (λ r k e. (Check r k, (tt, e))) shows (first_fault (tests_of file)) refl
+  file_answered task takes shows = checked_answered task tt (λ r k e. (Check r k, (tt, e))) shows (first_fault (tests_of file)) refl

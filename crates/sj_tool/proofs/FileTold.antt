@@ -35,38 +35,20 @@ file_told links task log file (Syntax f) u x = absurd x
 file_told links task log file (Made t) u x = absurd x
 file_told links task log file LinkFault u x = absurd u
 file_told links task log file (Damaged t) u x = absurd u
-file_told links tasks.Check log file (Check r k) u x = by_fault links tasks.Check log file r k x.1
-file_told links tasks.Sim log file (Check r k) u x = by_fault links tasks.Sim log file r k x.1
-file_told links (tasks.Run l looks) log file (Check r k) u x = by_fault links (tasks.Run l looks) log file r k x.1
-file_told links (tasks.Replay l) log file (Check r k) u x = by_fault links (tasks.Replay l) log file r k x.1
-file_told links (tasks.Big n) log file (Check r k) u x = by_fault links (tasks.Big n) log file r k x.1
 file_told links tasks.Show log file (Check r k) u x = absurd x.0
 file_told links (tasks.Make n) log file (Check r k) u x = absurd x.0
+file_told links task log file (Check r k) u x = by_fault links task log file r k x.1
 file_told links (tasks.Replay l) log file (LogFault r k) u x = by_no_fault links (tasks.Replay l) log file (told (LogFault r k)) x.0 (inl (r, k, x.2, refl))
+file_told links task log file (LogFault r k) u x = absurd x.1
 file_told links (tasks.Replay l) log file (Misfit t) u x = by_no_fault links (tasks.Replay l) log file (told (Misfit t)) x.0 (inr (inl (t, x.2, refl)))
-file_told links tasks.Check log file (LogFault r k) u x = absurd x.1
-file_told links tasks.Check log file (Misfit t) u x = absurd x.1
-file_told links tasks.Show log file (LogFault r k) u x = absurd x.1
-file_told links tasks.Show log file (Misfit t) u x = absurd x.1
-file_told links tasks.Sim log file (LogFault r k) u x = absurd x.1
-file_told links tasks.Sim log file (Misfit t) u x = absurd x.1
-file_told links (tasks.Run l looks) log file (LogFault r k) u x = absurd x.1
-file_told links (tasks.Run l looks) log file (Misfit t) u x = absurd x.1
-file_told links (tasks.Make n) log file (LogFault r k) u x = absurd x.1
-file_told links (tasks.Make n) log file (Misfit t) u x = absurd x.1
-file_told links (tasks.Big n) log file (LogFault r k) u x = absurd x.1
-file_told links (tasks.Big n) log file (Misfit t) u x = absurd x.1
-file_told links tasks.Sim log file (Ran v t) u x = by_no_fault links tasks.Sim log file (told (Ran v t)) x.0 (record { verdict = v; text = t; plays = x.1; are = refl })
-file_told links (tasks.Run l looks) log file (Ran v t) u x = by_no_fault links (tasks.Run l looks) log file (told (Ran v t)) x.0 (record { verdict = v; text = t; plays = x.1; are = refl })
-file_told links (tasks.Big n) log file (Ran v t) u x = by_no_fault links (tasks.Big n) log file (told (Ran v t)) x.0 (record { verdict = v; text = t; plays = x.1; are = refl })
+file_told links task log file (Misfit t) u x = absurd x.1
 file_told links (tasks.Replay l) log file (Ran v t) u x = by_no_fault links (tasks.Replay l) log file (told (Ran v t)) x.0 (inr (inr (record { verdict = v; text = t; plays = x.1; are = refl })))
 file_told links tasks.Check log file (Ran v t) u x = absurd x.1.0
 file_told links tasks.Show log file (Ran v t) u x = absurd x.1.0
+file_told links tasks.Forest log file (Ran v t) u x = absurd x.1.0
 file_told links (tasks.Make n) log file (Ran v t) u x = absurd x.1.0
+file_told links task log file (Ran v t) u x = by_no_fault links task log file (told (Ran v t)) x.0 (record { verdict = v; text = t; plays = x.1; are = refl })
 file_told links tasks.Check log file (Printed t) u x = by_no_fault links tasks.Check log file (told (Printed t)) x.0 (ap (λ y. (0, y)) x.1)
 file_told links tasks.Show log file (Printed t) u x = ap (λ y. (0, y)) x
-file_told links tasks.Sim log file (Printed t) u x = absurd x
-file_told links (tasks.Run l looks) log file (Printed t) u x = absurd x
-file_told links (tasks.Replay l) log file (Printed t) u x = absurd x
-file_told links (tasks.Make n) log file (Printed t) u x = absurd x
-file_told links (tasks.Big n) log file (Printed t) u x = absurd x
+file_told links tasks.Forest log file (Printed t) u x = by_no_fault links tasks.Forest log file (told (Printed t)) x.0 (t, x.1, refl)
+file_told links task log file (Printed t) u x = absurd x

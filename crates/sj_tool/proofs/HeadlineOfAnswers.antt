@@ -12,6 +12,8 @@ use Rattle.sj_semantics.specs.Transcript.{transcript_of}
 use Rattle.sj_semantics_laws.proofs.FinishLemmas.{end_is_settled, end_is_reached}
 use Rattle.sj_accepted_laws.specs.Headline.{IsHeadline}
 use Rattle.sj_accepted_laws.proofs.HeadlineLemmas.{settled_run_has_it}
+use Rattle.sj_forest_laws.specs.Forest.{IsForest}
+use Rattle.sj_forest_laws.proofs.BlockedLemmas.{never_blocked}
 use Rattle.sj_command.specs.declared.tasks.Task.{Task}
 use Rattle.sj_command.specs.declared.tasks.Task.TheVariants as tasks
 use Rattle.sj_command.proofs.OneTask.{one_task}
@@ -19,7 +21,7 @@ use Rattle.sj_tool.specs.LogAt.{LogAt}
 use Rattle.sj_tool.specs.AnswerAt.{AnswerAt, Usage, ReadFault, TooLarge, Syntax, Check, LogFault, Misfit, LinkFault, Damaged, Ran, Printed, Made}
 use Rattle.sj_tool.specs.Answers.{Comes, Makes}
 use Rattle.sj_tool.specs.Calls.{CallAt, LinkUseAt}
-use Rattle.sj_tool.specs.Headline.{IsLogging, IsPlaying, IsVerdict, HasHeadline}
+use Rattle.sj_tool.specs.Headline.{IsLogging, IsPlaying, IsVerdict, HasHeadline, ReadsNoForest}
 use Rattle.sj_tool.specs.Tasks.{AsksFor}
 use Rattle.sj_tool.specs.Runs.{Plays, Prints, log_part}
 use Rattle.sj_tool.specs.Texts.{status_of, text_of, verdict_status}
@@ -40,18 +42,15 @@ pub record IsPlayedSo (task : Task) (file : FileAt) (verdict : Verdict) (text : 
   pub bare : (IsLogging task → ⊥) → behind ≡ []
 
 pub played_so : (links : LinkUseAt) (task : Task) (log : LogAt) (file : FileAt) (v : Verdict) (text : List ℕ) → IsPlaying task → Plays links task log file v text → IsPlayedSo task file v text
-played_so links tasks.Check log file v text plays p = absurd plays
-played_so links tasks.Show log file v text plays p = absurd plays
-played_so links (tasks.Make n) log file v text plays p = absurd plays
-played_so links (tasks.Big n) log file v text plays p = absurd plays
 played_so links tasks.Sim log file v text plays p =
     record { behind = []; stands = p.0; printed = p.1 ∙ sym (append-nil (transcript_of file (end_of file))); bare = λ no. refl }
 played_so links (tasks.Run false looks workers) log file v text plays p = record { behind = []; stands = p.1.told.0; printed = p.1.told.1; bare = λ no. refl }
-played_so links (tasks.Run true looks) log file v text plays p =
+played_so links (tasks.Run true looks workers) log file v text plays p =
     record { behind = log_part true file p.1.history; stands = p.1.told.0; printed = p.1.told.1; bare = λ no. absurd (no refl) }
 played_so links (tasks.Replay false) log file v text plays p = record { behind = []; stands = p.1.told.0; printed = p.1.told.1; bare = λ no. refl }
 played_so links (tasks.Replay true) log file v text plays p =
     record { behind = log_part true file p.1.history; stands = p.1.told.0; printed = p.1.told.1; bare = λ no. absurd (no refl) }
+played_so links task log file v text plays p = absurd plays
 
 -- ---- no other status is a verdict's
 
@@ -71,10 +70,7 @@ prints_none : (task : Task) (file : FileAt) (text : List ℕ) → IsPlaying task
 prints_none tasks.Sim file text plays p = p
 prints_none (tasks.Run log looks workers) file text plays p = p
 prints_none (tasks.Replay log) file text plays p = p
-prints_none tasks.Check file text plays p = plays
-prints_none tasks.Show file text plays p = plays
-prints_none (tasks.Make n) file text plays p = plays
-prints_none (tasks.Big n) file text plays p = plays
+prints_none task file text plays p = plays
 
 makes_none : (c : CallAt) (text : List ℕ) → AsksFor IsPlaying c → Makes c text → ⊥
 makes_none c text plays m = subst IsPlaying (one_task c.words plays.task (tasks.Make m.count) plays.asks m.asks) plays.kind
@@ -124,6 +120,38 @@ pub answered_headline : (words : List (List ℕ)) (left after : Option (List ℕ
     → Comes (call_at words left after f g links) a → status ≡ status_of a → now ≡ put_behind before (text_of a)
     → IsVerdict status → AsksFor IsPlaying (call_at words left after f g links) → HasHeadline (call_at words left after f g links) status before now
 answered_headline words left after f g links a status before now comes e d verdict plays = answer_has_it (call_at words left after f g links) status before now verdict plays a comes e d
+
+-- ---- a blocked file is no forest
+
+blocked_alone : (v : Verdict) → verdict_status v ≡ 6 → v ≡ Blocked
+blocked_alone Done e = absurd (let no : ⊥ = omega (arith, e) in no)
+blocked_alone Blocked e = refl
+blocked_alone Long e = absurd (let no : ⊥ = omega (arith, e) in no)
+
+-- the file of a headline with 6 is no forest
+blocked_by : (c : CallAt) (status : ℕ) (before after : Option (List ℕ)) → status ≡ verdict_status Blocked → HasHeadline c status before after → ReadsNoForest c
+blocked_by c status before after six h = record {
+  bytes = h.bytes;
+  came = h.came;
+  all = h.all;
+  text = h.text;
+  has = h.has;
+  file = h.file;
+  stands = h.stands;
+  accepted = h.accepted;
+  no_forest = λ forest. never_blocked h.file h.acts h.end h.accepted forest h.headline.run h.headline.settled (blocked_alone (verdict_of h.end) (sym h.verdict ∙ six));
+}
+
+pub answered_forest : (words : List (List ℕ)) (left after : Option (List ℕ)) (f g : ℕ) (links : LinkUseAt) (a : AnswerAt) (status : ℕ) (before now : Option (List ℕ))
+    → Comes (call_at words left after f g links) a → status ≡ status_of a → now ≡ put_behind before (text_of a)
+    → status ≡ verdict_status Blocked → AsksFor IsPlaying (call_at words left after f g links) → ReadsNoForest (call_at words left after f g links)
+answered_forest words left after f g links a status before now comes e d six plays =
+    let c = call_at words left after f g links in
+    blocked_by c status before now six (answer_has_it c status before now (Blocked, six) plays a comes e d)
+
+-- a status above 7 is not that of a blocked file
+pub no_blocked : (c : CallAt) (status : ℕ) → 8 ≤ status → status ≡ verdict_status Blocked → AsksFor IsPlaying c → ReadsNoForest c
+no_blocked c status above six plays = absurd (beyond Blocked status above six)
 
 -- a status above 7 is no verdict's
 pub no_headline : (c : CallAt) (status : ℕ) (before now : Option (List ℕ)) → 8 ≤ status → IsVerdict status → AsksFor IsPlaying c → HasHeadline c status before now

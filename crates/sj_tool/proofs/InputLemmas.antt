@@ -28,43 +28,25 @@ two_reads c task left s t e x y = sym (read_bytes c task left s e x) ∙ read_by
 
 -- a task has one input
 pub one_input : (c : CallAt) (left : List ℕ) → c.left ≡ Some left → (task : Task) (s t : List ℕ) → HasInput c task s → HasInput c task t → s ≡ t
-one_input c left e tasks.Check s t x y = two_reads c tasks.Check left s t e x y
-one_input c left e tasks.Show s t x y = two_reads c tasks.Show left s t e x y
-one_input c left e tasks.Sim s t x y = two_reads c tasks.Sim left s t e x y
-one_input c left e (tasks.Run log looks workers) s t x y = two_reads c (tasks.Run log looks workers) left s t e x y
-one_input c left e (tasks.Replay log) s t x y = two_reads c (tasks.Replay log) left s t e x y
-one_input c left e (tasks.Make n) s t x y = two_reads c (tasks.Make n) left s t e x y
 one_input c left e (tasks.Big n) s t x y = x.1 ∙ sym y.1
+one_input c left e task s t x y = two_reads c task left s t e x y
 
 -- a task that reads has what is read
 pub read_of : (c : CallAt) (task : Task) (bytes : List ℕ) → Reads task → HasInput c task bytes → IsRead c task bytes
-read_of c tasks.Check bytes reads x = x
-read_of c tasks.Show bytes reads x = x
-read_of c tasks.Sim bytes reads x = x
-read_of c (tasks.Run log looks workers) bytes reads x = x
-read_of c (tasks.Replay log) bytes reads x = x
 read_of c (tasks.Make n) bytes reads x = absurd reads
 read_of c (tasks.Big n) bytes reads x = absurd reads
+read_of c task bytes reads x = x
 
 -- no fault was counted
 pub no_fault_of : (c : CallAt) (task : Task) (bytes : List ℕ) → HasInput c task bytes → c.faults_after ≡ c.faults
-no_fault_of c tasks.Check bytes x = x.no_fault
-no_fault_of c tasks.Show bytes x = x.no_fault
-no_fault_of c tasks.Sim bytes x = x.no_fault
-no_fault_of c (tasks.Run log looks workers) bytes x = x.no_fault
-no_fault_of c (tasks.Replay log) bytes x = x.no_fault
-no_fault_of c (tasks.Make n) bytes x = x.no_fault
 no_fault_of c (tasks.Big n) bytes x = let (unread, made) = x in unread.1
+no_fault_of c task bytes x = x.no_fault
 
 -- a task that plays a file reads it
 pub playing_reads : (task : Task) → IsPlaying task → Reads task
-playing_reads tasks.Sim plays = tt
-playing_reads (tasks.Run log looks workers) plays = tt
-playing_reads (tasks.Replay log) plays = tt
-playing_reads tasks.Check plays = absurd plays
-playing_reads tasks.Show plays = absurd plays
 playing_reads (tasks.Make n) plays = absurd plays
 playing_reads (tasks.Big n) plays = absurd plays
+playing_reads task plays = tt
 
 -- a task for which so many bytes came reads, and they came
 pub reads_of : (P : ℕ → ℕ → Type 0) (c : CallAt) (x : Came P c) → Reads x.task
@@ -83,20 +65,10 @@ whole : (bytes s : List ℕ) (l : LogAt) (t : List ℕ) (m : LogAt) → (s ≡ b
 whole bytes s l t m x y = (x.0 ∙ sym y.0, x.1 ∙ sym y.1)
 
 pub one_part : (task : Task) (bytes s : List ℕ) (l : LogAt) (t : List ℕ) (m : LogAt) → HasParts task bytes s l → HasParts task bytes t m → (s ≡ t) × (l ≡ m)
-one_part tasks.Check bytes s l t m x y = whole bytes s l t m x y
-one_part tasks.Show bytes s l t m x y = whole bytes s l t m x y
-one_part tasks.Sim bytes s l t m x y = whole bytes s l t m x y
-one_part (tasks.Run log looks workers) bytes s l t m x y = whole bytes s l t m x y
 one_part (tasks.Replay log) bytes s l t m x y = one_of_source bytes s l t m x.0 y.0
-one_part (tasks.Make n) bytes s l t m x y = whole bytes s l t m x y
-one_part (tasks.Big n) bytes s l t m x y = whole bytes s l t m x y
+one_part task bytes s l t m x y = whole bytes s l t m x y
 
 -- where none is replayed, the bytes are the text
 pub whole_parts : (task : Task) (bytes : List ℕ) → ((l : Bool) → task ≡ tasks.Replay l → ⊥) → HasParts task bytes bytes no_log
-whole_parts tasks.Check bytes other = (refl, refl)
-whole_parts tasks.Show bytes other = (refl, refl)
-whole_parts tasks.Sim bytes other = (refl, refl)
-whole_parts (tasks.Run log looks workers) bytes other = (refl, refl)
 whole_parts (tasks.Replay log) bytes other = absurd (other log refl)
-whole_parts (tasks.Make n) bytes other = (refl, refl)
-whole_parts (tasks.Big n) bytes other = (refl, refl)
+whole_parts task bytes other = (refl, refl)

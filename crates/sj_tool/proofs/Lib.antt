@@ -7,6 +7,7 @@ pub mod SumLemmas
 pub mod OneRun
 pub mod OneFault
 pub mod ReplayLemmas
+pub mod ForestLemmas
 pub mod LogAnswers
 pub mod ToldOnce
 pub mod FileTold

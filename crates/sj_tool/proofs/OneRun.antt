@@ -73,16 +73,14 @@ module _ (links : LinkUseAt) (log : LogAt) (file : FileAt) (v w : Verdict) (s t 
   print task x y same = (stand task x y, inl (x.told.1 ∙ same ∙ sym y.told.1))
 
   pub one_run : (task : Task) → HasEvents task → HasRun links task log file v s → HasRun links task log file w t → AreAlike task v w s t
-  one_run tasks.Check h x y = absurd h
-  one_run tasks.Show h x y = absurd h
-  one_run tasks.Sim h x y = absurd h
-  one_run (tasks.Make n) h x y = absurd h
   one_run (tasks.Big n) h x y = print (tasks.Big n) x y refl
   one_run (tasks.Run false looks workers) h x y = print (tasks.Run false looks workers) x y refl
-  one_run (tasks.Run true looks) h x y = (
-    stand (tasks.Run true looks) x y,
+  one_run (tasks.Run true looks workers) h x y = (
+    stand (tasks.Run true looks workers) x y,
     inr (tt, record { file = file; first = x.history; second = y.history; first_text = x.told.1; second_text = y.told.1 }),
   )
   one_run (tasks.Replay l) h x y =
       let same : x.history ≡ y.history = one_history links links l log file x.history y.history x.core y.core x.has y.has in
       print (tasks.Replay l) x y (ap (λ (h : List LineAt). run_text (tasks.Replay l) file h (end_of file)) same)
+  one_run task h x y = absurd h
+  )

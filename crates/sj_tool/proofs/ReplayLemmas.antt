@@ -34,10 +34,5 @@ unused = record {
 -- a task that replays has the history of its log
 pub replay_has : (links : LinkUseAt) (task : Task) (log : LogAt) (file : FileAt) (history : List LineAt) (core : WorldAt Place Program) → IsReplay task
     → ((l : Bool) → HasHistory links (tasks.Replay l) log file history core) → HasHistory links task log file history core
-replay_has links tasks.Check log file history core h has = absurd h
-replay_has links tasks.Show log file history core h has = absurd h
-replay_has links tasks.Sim log file history core h has = absurd h
-replay_has links (tasks.Run l looks) log file history core h has = absurd h
 replay_has links (tasks.Replay l) log file history core h has = has l
-replay_has links (tasks.Make n) log file history core h has = absurd h
-replay_has links (tasks.Big n) log file history core h has = absurd h
+replay_has links task log file history core h has = absurd h

@@ -24,25 +24,13 @@ pub row_of : (c : CallAt) (a : AnswerAt) → Comes c a → Row c a
 row_of c Usage h = words refl h.0
 row_of c ReadFault h = fault refl h.0 h.1
 row_of c TooLarge h = elim h [ inl l ↦ large refl l.0 l.1 | inr x ↦ input x ]
-row_of c (Syntax f) h = input h
-row_of c (Check r l) h = input h
-row_of c (LogFault r l) h = input h
-row_of c (Misfit t) h = input h
-row_of c LinkFault h = input h
-row_of c (Damaged t) h = input h
-row_of c (Ran v t) h = input h
-row_of c (Printed t) h = input h
 row_of c (Made t) h = made t refl refl h
+row_of c a h = input h
 
 -- a task that reads a file takes one
 pub reads_takes : (task : Task) → Reads task → Takes task
-reads_takes tasks.Check reads = tt
-reads_takes tasks.Show reads = tt
-reads_takes tasks.Sim reads = tt
-reads_takes (tasks.Run log looks workers) reads = tt
-reads_takes (tasks.Replay log) reads = tt
 reads_takes (tasks.Make n) reads = reads
-reads_takes (tasks.Big n) reads = tt
+reads_takes task reads = tt
 
 -- the file that is made is no task that takes one
 pub made_takes : (c : CallAt) (text : List ℕ) (task : Task) → Makes c text → Asks c.words task → Takes task → ⊥
@@ -53,12 +41,8 @@ pub no_rise : (c : CallAt) (a : AnswerAt) → AnswersInput c a → NoFaultAbove 
 no_rise c Usage x h r = absurd x.answers.answers.answers
 no_rise c ReadFault x h r = absurd h
 no_rise c TooLarge x h r = h (record { task = x.task; asks = x.asks; kind = x.answers.0 }) r
-no_rise c (Syntax f) x h r = h r
-no_rise c (Check s l) x h r = h r
-no_rise c (LogFault s l) x h r = h r
-no_rise c (Misfit t) x h r = h r
 no_rise c LinkFault x h r = absurd h
 no_rise c (Damaged t) x h r = absurd h
 no_rise c (Ran v t) x h r = h.0 r
-no_rise c (Printed t) x h r = h r
 no_rise c (Made t) x h r = absurd x.answers.answers.answers
+no_rise c a x h r = h r

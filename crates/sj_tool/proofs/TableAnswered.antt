@@ -58,28 +58,17 @@ module _ (links : LinkUseAt) where
       ]
 
   bytes_answered : (task : Task) (bytes : List ℕ) → Takes task → Shows task no_log bytes → (a : AnswerAt) × AnswersBytes links task bytes a
-  bytes_answered tasks.Check bytes takes shows = parts_answered tasks.Check bytes no_log bytes takes (refl, refl) shows
-  bytes_answered tasks.Show bytes takes shows = parts_answered tasks.Show bytes no_log bytes takes (refl, refl) shows
-  bytes_answered tasks.Sim bytes takes shows = parts_answered tasks.Sim bytes no_log bytes takes (refl, refl) shows
-  bytes_answered (tasks.Run l looks) bytes takes shows = parts_answered (tasks.Run l looks) bytes no_log bytes takes (refl, refl) shows
   bytes_answered (tasks.Replay l) bytes takes shows = replay_answered l bytes (parts_or_none bytes)
   bytes_answered (tasks.Make n) bytes takes shows = absurd takes
-  bytes_answered (tasks.Big n) bytes takes shows = parts_answered (tasks.Big n) bytes no_log bytes takes (refl, refl) shows
+  bytes_answered task bytes takes shows = parts_answered task bytes no_log bytes takes (refl, refl) shows
 
 -- what answers an input comes
 input_comes : (c : CallAt) (a : AnswerAt) → AnswersInput c a → Comes c a
 input_comes c Usage x = absurd x.answers.answers.answers
 input_comes c ReadFault x = absurd x.answers.answers.answers
 input_comes c TooLarge x = inr x
-input_comes c (Syntax f) x = x
-input_comes c (Check r k) x = x
-input_comes c (LogFault r k) x = x
-input_comes c (Misfit t) x = x
-input_comes c LinkFault x = x
-input_comes c (Damaged t) x = x
-input_comes c (Ran v t) x = x
-input_comes c (Printed t) x = x
 input_comes c (Made t) x = absurd x.answers.answers.answers
+input_comes c a x = x
 
 module _ (c : CallAt) (same : c.faults_after ≡ c.faults) (was : IsReadAsAsked c) (shows : ShowsItsRun c) where
   input_answered : (task : Task) → Asks c.words task → Takes task → (bytes : List ℕ) → HasInput c task bytes → (a : AnswerAt) × Comes c a
@@ -98,13 +87,9 @@ module _ (c : CallAt) (same : c.faults_after ≡ c.faults) (was : IsReadAsAsked 
       (input bytes (record { few = few; came = came; all = subst (λ (o : Option (List ℕ)). IfSome o (λ rest. rest ≡ [])) (sym none) refl; no_fault = same }))
 
   asked_answered : (task : Task) → Asks c.words task → (a : AnswerAt) × Comes c a
-  asked_answered tasks.Check asks = read_answered tasks.Check asks tt (λ bytes x. x) (was.read tasks.Check asks tt)
-  asked_answered tasks.Show asks = read_answered tasks.Show asks tt (λ bytes x. x) (was.read tasks.Show asks tt)
-  asked_answered tasks.Sim asks = read_answered tasks.Sim asks tt (λ bytes x. x) (was.read tasks.Sim asks tt)
-  asked_answered (tasks.Run l looks) asks = read_answered (tasks.Run l looks) asks tt (λ bytes x. x) (was.read (tasks.Run l looks) asks tt)
-  asked_answered (tasks.Replay l) asks = read_answered (tasks.Replay l) asks tt (λ bytes x. x) (was.read (tasks.Replay l) asks tt)
   asked_answered (tasks.Make n) asks = (Made (generated n), record { count = n; asks = asks; text = refl; unread = unread (tasks.Make n) asks (λ no. no) })
   asked_answered (tasks.Big n) asks = input_answered (tasks.Big n) asks tt (generated n) (unread (tasks.Big n) asks (λ no. no), refl)
+  asked_answered task asks = read_answered task asks tt (λ bytes x. x) (was.read task asks tt)
 
   pub has_answer : (a : AnswerAt) × Comes c a
   has_answer =

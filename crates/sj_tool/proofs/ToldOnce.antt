@@ -5,6 +5,7 @@ use Rattle.sj_lang.specs.FileAt.{FileAt}
 use Rattle.sj_command.specs.declared.tasks.Task.{Task}
 use Rattle.sj_command.specs.declared.tasks.Task.TheVariants as tasks
 use Rattle.sj_semantics.specs.declared.Verdict.{Verdict}
+use Rattle.sj_tool.specs.ForestTexts.{IsForestText}
 use Rattle.sj_tool.specs.LogAt.{Breaks, LogAt}
 use Rattle.sj_tool.specs.AnswerAt.{AnswerAt, Check, LogFault}
 use Rattle.sj_tool.specs.Runs.{Plays}
@@ -13,6 +14,7 @@ use Rattle.sj_tool.specs.Entries.{IsMisfitText}
 use Rattle.sj_tool.specs.Shown.{shown}
 use Rattle.sj_tool.specs.Table.{AreOneLog, LogsRun}
 use Rattle.sj_tool.specs.Texts.{counts_of, status_of, text_of, verdict_status}
+use Rattle.sj_tool.proofs.ForestLemmas.{one_forest_text}
 use Rattle.sj_tool.proofs.LogAnswers.{fault_once, fault_or_lines, misfit_once, misfit_or_history}
 use Rattle.sj_tool.proofs.OneRun.{one_run}
 
@@ -53,11 +55,10 @@ TellsLog links l log file t = TellsRule file log t ⊎ (TellsEntry file log t �
 abbrev pub TellsFaultless : LinkUseAt → Task → (log : LogAt) → FileAt → ℕ × List ℕ → Type 0
 TellsFaultless links tasks.Check log file t = t ≡ (0, counts_of file)
 TellsFaultless links tasks.Show log file t = ⊥
-TellsFaultless links tasks.Sim log file t = IsPlayed links tasks.Sim log file t
-TellsFaultless links (tasks.Run l looks) log file t = IsPlayed links (tasks.Run l looks) log file t
+TellsFaultless links tasks.Forest log file t = (text : List ℕ) × IsForestText file text × (t ≡ (0, text))
 TellsFaultless links (tasks.Replay l) log file t = TellsLog links l log file t
 TellsFaultless links (tasks.Make n) log file t = ⊥
-TellsFaultless links (tasks.Big n) log file t = IsPlayed links (tasks.Big n) log file t
+TellsFaultless links task log file t = IsPlayed links task log file t
 
 -- by its first fault
 abbrev pub TellsChecked : LinkUseAt → Task → (log : LogAt) → FileAt → Option (ℕ × ℕ) → ℕ × List ℕ → Type 0
@@ -82,12 +83,10 @@ module _ (links : LinkUseAt) (log : LogAt) (file : FileAt) (t u : ℕ × List �
 
       by : (task : Task) (v w : Verdict) (s r : List ℕ) → Plays links task log file v s → Plays links task log file w r → AreToldOnce task (ended v s) (ended w r)
       by tasks.Sim v w s r p q = same_told tasks.Sim (ended v s) (ended w r) (ap₂ ended (p.0 ∙ sym q.0) (p.1 ∙ sym q.1))
-      by (tasks.Run l looks) v w s r p q = ran (tasks.Run l looks) v w s r (one_run links log file v w s r (tasks.Run l looks) tt p.1 q.1)
+      by (tasks.Run l looks workers) v w s r p q = ran (tasks.Run l looks workers) v w s r (one_run links log file v w s r (tasks.Run l looks workers) tt p.1 q.1)
       by (tasks.Replay l) v w s r p q = ran (tasks.Replay l) v w s r (one_run links log file v w s r (tasks.Replay l) tt p.1 q.1)
       by (tasks.Big n) v w s r p q = ran (tasks.Big n) v w s r (one_run links log file v w s r (tasks.Big n) tt p.1 q.1)
-      by tasks.Check v w s r p q = absurd p.0
-      by tasks.Show v w s r p q = absurd p.0
-      by (tasks.Make n) v w s r p q = absurd p.0
+      by task v w s r p q = absurd p.0
 
   -- a log is told of in one way
   log_once : (l : Bool) → TellsLog links l log file t → TellsLog links l log file u → AreToldOnce (tasks.Replay l) t u
@@ -107,11 +106,10 @@ module _ (links : LinkUseAt) (log : LogAt) (file : FileAt) (t u : ℕ × List �
   faultless_once : (task : Task) → TellsFaultless links task log file t → TellsFaultless links task log file u → AreToldOnce task t u
   faultless_once tasks.Check x y = same_told tasks.Check t u (x ∙ sym y)
   faultless_once tasks.Show x y = absurd x
-  faultless_once tasks.Sim x y = played_once tasks.Sim x y
-  faultless_once (tasks.Run l looks) x y = played_once (tasks.Run l looks) x y
+  faultless_once tasks.Forest x y = same_told tasks.Forest t u (x.2 ∙ ap (λ s. (0, s)) (one_forest_text file x.0 y.0 x.1 y.1) ∙ sym y.2)
   faultless_once (tasks.Replay l) x y = log_once l x y
   faultless_once (tasks.Make n) x y = absurd x
-  faultless_once (tasks.Big n) x y = played_once (tasks.Big n) x y
+  faultless_once task x y = played_once task x y
 
   checked_once : (task : Task) (fault : Option (ℕ × ℕ)) → TellsChecked links task log file fault t → TellsChecked links task log file fault u → AreToldOnce task t u
   checked_once task (Some f) x y = same_told task t u (x ∙ sym y)
@@ -121,8 +119,4 @@ module _ (links : LinkUseAt) (log : LogAt) (file : FileAt) (t u : ℕ × List �
   pub told_once : (task : Task) (fault : Option (ℕ × ℕ)) → Tells links task log file fault t → Tells links task log file fault u → AreToldOnce task t u
   told_once tasks.Show fault x y = same_told tasks.Show t u (x ∙ sym y)
   told_once (tasks.Make n) fault x y = absurd x
-  told_once tasks.Check fault x y = checked_once tasks.Check fault x y
-  told_once tasks.Sim fault x y = checked_once tasks.Sim fault x y
-  told_once (tasks.Run l looks) fault x y = checked_once (tasks.Run l looks) fault x y
-  told_once (tasks.Replay l) fault x y = checked_once (tasks.Replay l) fault x y
-  told_once (tasks.Big n) fault x y = checked_once (tasks.Big n) fault x y
+  told_once task fault x y = checked_once task fault x y

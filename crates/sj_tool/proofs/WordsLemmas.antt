@@ -1,9 +1,9 @@
 -- Words ask for a task, or are no command.
 use Rattle.std.proofs.Common.{◌≡◌, ◌⊎◌, ◌≤◌, ◌<◌, ℕ, zero, suc, true, false, List, [], ◌∷◌, Option, Some, None, inl, inr, ap, subst, refl, arith}
 use Rattle.std.proofs.lemmas.Bool.{cases_eq}
-use Rattle.std.specs.Prelude.{codes, decimal}
+use Rattle.std.specs.Prelude.{Bool, codes, decimal}
 use Rattle.sj_command.specs.declared.tasks.Task.{Task}
-use Rattle.sj_command.specs.declared.tasks.Task.TheVariants.{Check, Show, Sim, Run, Replay, Make, Big}
+use Rattle.sj_command.specs.declared.tasks.Task.TheVariants.{Check, Show, Forest, Sim, Run, Replay, Make, Big}
 use Rattle.sj_command.specs.CommandLine.{IsTaken}
 use Rattle.sj_command.specs.Task.{Asks, IsCount, IsUsage, LineAt, Means, StandsForLooks, StandsForWorkers, alone, line_in, most_looks, most_messages, most_workers, replaying, running, usual_looks}
 use Rattle.sj_tool.proofs.LineLemmas.{made_of, one_list, one_option}
@@ -93,50 +93,83 @@ module _ (l : LineAt) where
       by (inl f) = inl (f.number, (f.has.0, (f.has.1, omega (arith, is, f.below))))
       by (inr none) = inr (λ n h. none n (omega (arith, is, h.1.1)) (h.0, h.1.0))
 
-  -- the line asks for a task, or for none
-  pub means_or_none : ((t : Task) × Means l t) ⊎ ((t : Task) → Means l t → ⊥)
-  means_or_none =
-      by (one_line l (alone (codes "check") None)) (one_line l (alone (codes "show") None)) (one_line l (alone (codes "sim") None)) (one_line l (running false l.looks l.workers)) (one_line l (running true l.looks l.workers))
-      (options_or_none (looks_or_none most_looks refl l.looks) (workers_or_none most_workers refl l.workers)) (one_line l (replaying false)) (one_line l (replaying true)) (counted (codes "make") most_messages refl) (counted (codes "big") most_messages refl)
+  -- a task that the line asks for
+  abbrev Asked : Type 0
+  Asked = (t : Task) × Means l t
+
+  -- a kind of tasks that it doesn't ask for leaves the others
+  or_others : {X : Type 0} → Asked ⊎ (X → ⊥) → ((X → ⊥) → Asked ⊎ ((t : Task) → Means l t → ⊥)) → Asked ⊎ ((t : Task) → Means l t → ⊥)
+  or_others (inl asked) others = inl asked
+  or_others (inr none) others = others none
+
+  -- a command without a number and an option
+  asked_alone : (t : Task) (name : List ℕ) → (l ≡ alone name None → Means l t) → Asked ⊎ (l ≡ alone name None → ⊥)
+  asked_alone t name means = elim (one_line l (alone name None)) [ yes e ↦ inl (t, means e) | no off ↦ inr off ]
+
+  asked_counted : (t : ℕ → Task) (name : List ℕ) → ((n : ℕ) → Counts name n → Means l (t n)) → Asked ⊎ (((n : ℕ) × Counts name n) → ⊥)
+  asked_counted t name means = elim (counted name most_messages refl) [ inl f ↦ inl (t f.0, means f.0 f.1) | inr none ↦ inr (λ f. none f.0 f.1) ]
+
+  -- `run`, with the log or without it
+  abbrev Runs : Type 0
+  Runs = (log : Bool) × (n : ℕ) × (w : Option ℕ) × Means l (Run log n w)
+
+  asked_run : Asked ⊎ (Runs → ⊥)
+  asked_run = by (one_line l (running false l.looks l.workers)) (one_line l (running true l.looks l.workers)) (options_or_none (looks_or_none most_looks refl l.looks) (workers_or_none most_workers refl l.workers))
     where
-      by : Dec (l ≡ alone (codes "check") None) → Dec (l ≡ alone (codes "show") None) → Dec (l ≡ alone (codes "sim") None) → Dec (l ≡ running false l.looks l.workers) → Dec (l ≡ running true l.looks l.workers)
+      none : (l ≡ running false l.looks l.workers → ⊥) → (l ≡ running true l.looks l.workers → ⊥) → Runs → ⊥
+      none a b (false, n, w, m) = a m.0
+      none a b (true, n, w, m) = b m.0
+
+      unfit : ((n : ℕ) (w : Option ℕ) → StandsForLooks l.looks n → StandsForWorkers l.workers w → ⊥) → Runs → ⊥
+      unfit off (log, n, w, m) = off n w m.1 m.2
+
+      by : Dec (l ≡ running false l.looks l.workers) → Dec (l ≡ running true l.looks l.workers)
           → ((n : ℕ) × (w : Option ℕ) × StandsForLooks l.looks n × StandsForWorkers l.workers w)
-          ⊎ ((n : ℕ) (w : Option ℕ) → StandsForLooks l.looks n → StandsForWorkers l.workers w → ⊥) → Dec (l ≡ replaying false) → Dec (l ≡ replaying true)
-          → ((n : ℕ) × Counts (codes "make") n) ⊎ ((n : ℕ) → Counts (codes "make") n → ⊥)
-          → ((n : ℕ) × Counts (codes "big") n) ⊎ ((n : ℕ) → Counts (codes "big") n → ⊥)
-          → ((t : Task) × Means l t) ⊎ ((t : Task) → Means l t → ⊥)
-      by (yes e) b c d f g h i j k = inl (Check, e)
-      by (no a) (yes e) c d f g h i j k = inl (Show, e)
-      by (no a) (no b) (yes e) d f g h i j k = inl (Sim, e)
-      by (no a) (no b) (no c) (yes e) f (inl n) h i j k = inl (Run false n.0 n.1, (e, n.2, n.3))
-      by (no a) (no b) (no c) d (yes e) (inl n) h i j k = inl (Run true n.0 n.1, (e, n.2, n.3))
-      by (no a) (no b) (no c) d f g (yes e) i j k = inl (Replay false, e)
-      by (no a) (no b) (no c) d f g (no h) (yes e) j k = inl (Replay true, e)
-      by (no a) (no b) (no c) d f g (no h) (no i) (inl (n, counts)) k = inl (Make n, counts)
-      by (no a) (no b) (no c) d f g (no h) (no i) (inr j) (inl (n, counts)) = inl (Big n, counts)
-      by (no a) (no b) (no c) (no d) (no f) (inl g) (no h) (no i) (inr j) (inr k) = inr none
-        where
-          none : (t : Task) → Means l t → ⊥
-          none Check m = a m
-          none Show m = b m
-          none Sim m = c m
-          none (Run false n w) m = d m.0
-          none (Run true n w) m = f m.0
-          none (Replay false) m = h m
-          none (Replay true) m = i m
-          none (Make n) m = j n m
-          none (Big n) m = k n m
-      by (no a) (no b) (no c) d f (inr g) (no h) (no i) (inr j) (inr k) = inr none
-        where
-          none : (t : Task) → Means l t → ⊥
-          none Check m = a m
-          none Show m = b m
-          none Sim m = c m
-          none (Run log n w) m = g n w m.1 m.2
-          none (Replay false) m = h m
-          none (Replay true) m = i m
-          none (Make n) m = j n m
-          none (Big n) m = k n m
+          ⊎ ((n : ℕ) (w : Option ℕ) → StandsForLooks l.looks n → StandsForWorkers l.workers w → ⊥) → Asked ⊎ (Runs → ⊥)
+      by a b (inr off) = inr (unfit off)
+      by (yes e) b (inl n) = inl (Run false n.0 n.1, (e, n.2, n.3))
+      by (no a) (yes e) (inl n) = inl (Run true n.0 n.1, (e, n.2, n.3))
+      by (no a) (no b) (inl n) = inr (none a b)
+
+  -- `replay` likewise
+  abbrev Replays : Type 0
+  Replays = (log : Bool) × Means l (Replay log)
+
+  asked_replay : Asked ⊎ (Replays → ⊥)
+  asked_replay = by (one_line l (replaying false)) (one_line l (replaying true))
+    where
+      none : (l ≡ replaying false → ⊥) → (l ≡ replaying true → ⊥) → Replays → ⊥
+      none a b (false, m) = a m
+      none a b (true, m) = b m
+
+      by : Dec (l ≡ replaying false) → Dec (l ≡ replaying true) → Asked ⊎ (Replays → ⊥)
+      by (yes e) b = inl (Replay false, e)
+      by (no a) (yes e) = inl (Replay true, e)
+      by (no a) (no b) = inr (none a b)
+
+  -- the line asks for a task, or for none
+  pub means_or_none : Asked ⊎ ((t : Task) → Means l t → ⊥)
+  means_or_none =
+      or_others (asked_alone Check (codes "check") (λ e. e))
+      (λ check. or_others (asked_alone Show (codes "show") (λ e. e))
+      (λ show. or_others (asked_alone Forest (codes "forest") (λ e. e))
+      (λ forest. or_others (asked_alone Sim (codes "sim") (λ e. e))
+      (λ sim. or_others asked_run
+      (λ run. or_others asked_replay
+      (λ replay. or_others (asked_counted (λ n. Make n) (codes "make") (λ n m. m))
+      (λ make. or_others (asked_counted (λ n. Big n) (codes "big") (λ n m. m))
+      (λ big. inr (none check show forest sim run replay make big)))))))))
+    where
+      none : (l ≡ alone (codes "check") None → ⊥) → (l ≡ alone (codes "show") None → ⊥) → (l ≡ alone (codes "forest") None → ⊥) → (l ≡ alone (codes "sim") None → ⊥) → (Runs → ⊥) → (Replays → ⊥)
+          → (((n : ℕ) × Counts (codes "make") n) → ⊥) → (((n : ℕ) × Counts (codes "big") n) → ⊥) → (t : Task) → Means l t → ⊥
+      none check show forest sim run replay make big Check m = check m
+      none check show forest sim run replay make big Show m = show m
+      none check show forest sim run replay make big Forest m = forest m
+      none check show forest sim run replay make big Sim m = sim m
+      none check show forest sim run replay make big (Run log n w) m = run (log, n, w, m)
+      none check show forest sim run replay make big (Replay log) m = replay (log, m)
+      none check show forest sim run replay make big (Make n) m = make (n, m)
+      none check show forest sim run replay make big (Big n) m = big (n, m)
 
 none_or_some : {X : Type 0} (xs : List X) → Dec (xs ≡ [])
 none_or_some [] = yes refl

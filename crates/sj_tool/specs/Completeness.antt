@@ -16,6 +16,7 @@ use Rattle.sj_tool.specs.Calls.{CallAt, LinksHold}
 use Rattle.sj_tool.specs.Runs.{HasBegun}
 use Rattle.sj_tool.specs.Tasks.{Checks, HasParts, Replays, RunsParties, limit_of}
 use Rattle.sj_tool.specs.Shown.{shown}
+use Rattle.sj_tool.specs.ForestTexts.{IsForestText}
 use Rattle.sj_tool.specs.Texts.{counts_of, verdict_status}
 use Rattle.sj_generator_laws.specs.Counts.{generated_parties, generated_sessions, generated_messages, generated_steps}
 
@@ -59,6 +60,7 @@ big_text n =
 abbrev pub Completes : Task → FileAt → ℕ → List ℕ → Type 0
 Completes tasks.Check file status text = (status ≡ 0) × (text ≡ counts_of file)
 Completes tasks.Show file status text = (status ≡ 0) × (text ≡ shown file)
+Completes tasks.Forest file status text = (status ≡ 0) × IsForestText file text
 Completes tasks.Sim file status text = TellsEnd false file status text
 Completes (tasks.Run log looks workers) file status text = TellsEnd log file status text
 Completes (tasks.Replay log) file status text = TellsEnd log file status text

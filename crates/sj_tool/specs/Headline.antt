@@ -9,6 +9,7 @@ use Rattle.sj_semantics.specs.State.{verdict_of}
 use Rattle.sj_semantics.specs.Transcript.{transcript_of}
 use Rattle.sj_semantics.specs.World.{World}
 use Rattle.sj_accepted_laws.specs.Headline.{IsHeadline}
+use Rattle.sj_forest_laws.specs.Forest.{IsForest}
 use Rattle.sj_command.specs.declared.tasks.Task.{Task}
 use Rattle.sj_command.specs.declared.tasks.Task.TheVariants as tasks
 use Rattle.sj_tool.specs.LogAt.{LogAt}
@@ -57,3 +58,15 @@ pub record HasHeadline (c : CallAt) (status : ℕ) (before after : Option (List 
   pub written : after ≡ put_behind before (transcript_of file end ++ behind)
   -- nothing stands behind the transcript but where the words ask for the log
   pub bare : (AsksFor IsLogging c → ⊥) → behind ≡ []
+
+-- the bytes that came have the text of an accepted file that is no forest
+pub record ReadsNoForest (c : CallAt) : Type 0 where
+  pub bytes : List ℕ
+  pub came : c.left ≡ put_before bytes c.left_after
+  pub all : IfSome c.left_after (λ rest. rest ≡ [])
+  pub text : List ℕ
+  pub has : AsksFor (λ task. IsTextOf task bytes text) c
+  pub file : FileAt
+  pub stands : IsFile text file
+  pub accepted : IsAccepted file
+  pub no_forest : IsForest file → ⊥

@@ -4,6 +4,7 @@ pub mod Answers
 pub mod Calls
 pub mod Completeness
 pub mod Entries
+pub mod ForestTexts
 pub mod Headline
 pub mod LogAt
 pub mod Outcomes

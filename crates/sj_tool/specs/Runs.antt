@@ -25,6 +25,7 @@ use Rattle.sj_tool.specs.LogAt.{LogAt, Spells}
 use Rattle.sj_tool.specs.Calls.{LinkUseAt}
 use Rattle.sj_tool.specs.Tasks.{HasEvents, asks_log, looks_of}
 use Rattle.sj_tool.specs.Shown.{shown}
+use Rattle.sj_tool.specs.ForestTexts.{IsForestText}
 use Rattle.sj_tool.specs.Sums.{summary}
 use Rattle.sj_tool.specs.Texts.{counts_of}
 
@@ -90,4 +91,5 @@ Plays links task log file verdict text = HasEvents task × HasRun links task log
 abbrev pub Prints : Task → FileAt → List ℕ → Type 0
 Prints tasks.Check file text = IsAccepted file × (text ≡ counts_of file)
 Prints tasks.Show file text = text ≡ shown file
+Prints tasks.Forest file text = IsAccepted file × IsForestText file text
 Prints _ file text = ⊥

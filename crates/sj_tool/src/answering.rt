@@ -10,7 +10,7 @@ ghost use Rattle.sj_print.specs.Version.{IsVersion};
 ghost use Rattle.sj_lang.specs.Limits.{file_limit, source_limit};
 
 use crate::answers::Answer;
-use crate::files::{counted, ran_by_links, ran_by_log, shown, simulated_file};
+use crate::files::{counted, ran_by_links, ran_by_log, shaped, shown, simulated_file};
 use sj_base::{NoMemory, ReadRefusal, Source, read_all};
 use sj_command::{Task, task_in};
 use sj_generator::print_generated;
@@ -134,6 +134,7 @@ fn answer_to_text<R: Threads + Sync, L: Links, G: Gate>(
     match task {
         Task::Show => shown(alloc, &file),
         Task::Check => counted(alloc, file),
+        Task::Forest => shaped(alloc, file),
         Task::Sim => simulated_file(alloc, file),
         Task::Run { .. } => ran_by_links(rt, alloc, file, task, links, gate),
         Task::Big(_) => ran_by_links(rt, alloc, file, task, links, gate),

@@ -16,6 +16,7 @@ ghost use Rattle.sj_tool.specs.Replays.{IsToldFault};
 use crate::answers::Answer;
 use crate::counting::counts_text;
 use crate::entries::told_entry;
+use crate::forests::forest_text;
 use crate::playing::simulated;
 use crate::replaying::{ReplayFault, replayed};
 use crate::running::ran;
@@ -46,6 +47,18 @@ pub(crate) fn counted(alloc: Global, file: File) -> Result<Answer, NoMemory>
 {
     match judge(alloc, file)? {
         Judged::Accepted(accepted) => { Ok(Answer::Printed(counts_text(alloc, accepted.file())?)) }
+        Judged::Fault(rule, line) => Ok(Answer::Check(rule, line)),
+    }
+}
+
+/// Whether a file is a forest, where it is accepted.
+pub(crate) fn shaped(alloc: Global, file: File) -> Result<Answer, NoMemory>
+    requires { IsWithin limits (file_of file) }
+    ensures { IfOk result (λ a. (links : LinkUseAt) (log : LogAt)
+        → AnswersFile links tasks.Forest log (file_of file) (answer_at a)) }
+{
+    match judge(alloc, file)? {
+        Judged::Accepted(accepted) => Ok(Answer::Printed(forest_text(alloc, &accepted)?)),
         Judged::Fault(rule, line) => Ok(Answer::Check(rule, line)),
     }
 }

@@ -7,6 +7,7 @@ mod answers;
 mod counting;
 mod entries;
 mod files;
+mod forests;
 mod laws;
 mod logging;
 mod playing;

@@ -8,10 +8,11 @@ ghost use Rattle.sj_tool.specs.AnswerAt.{AnswerAt, ReadFault, LinkFault, Damaged
 ghost use Rattle.sj_tool.specs.Answers.{AnswersOne, Comes, OrYields, WroteFront};
 ghost use Rattle.sj_tool.specs.Calls.{call, link_use};
 ghost use Rattle.sj_tool.specs.Completeness.{CompletesSo, IsValid};
-ghost use Rattle.sj_tool.specs.Headline.{HasHeadline, IsPlaying, IsVerdict};
+ghost use Rattle.sj_tool.specs.Headline.{HasHeadline, IsPlaying, IsVerdict, ReadsNoForest};
 ghost use Rattle.sj_tool.specs.Tasks.{AsksFor};
 ghost use Rattle.sj_tool.specs.Table.{AnswersAs, NoFaultAbove};
-ghost use Rattle.sj_tool.specs.Texts.{no_memory_status, status_of, write_fault_status};
+ghost use Rattle.sj_semantics.specs.declared.Verdict.TheVariants.{Blocked};
+ghost use Rattle.sj_tool.specs.Texts.{no_memory_status, status_of, verdict_status, write_fault_status};
 
 use crate::answering::answer_to;
 use sj_base::{NoMemory, Sink, Source, WriteFault, write_all_of};
@@ -31,7 +32,7 @@ const NO_MEMORY: u8 = 11;
 ///
 /// `run` runs the parties of a file over the links, each on a thread of its own where the runtime gives
 /// one, and shows each event of theirs to the gate.
-#[tactic(auto, using(crate::proofs::HeadlineOfAnswers::no_headline))]
+#[tactic(auto, using(crate::proofs::HeadlineOfAnswers::no_blocked, crate::proofs::HeadlineOfAnswers::no_headline))]
 pub fn sj<R: Threads + Sync, S: Source, K: Sink, L: Links, G: Gate>(
     rt: &R,
     alloc: Global,
@@ -64,6 +65,13 @@ pub fn sj<R: Threads + Sync, S: Source, K: Sink, L: Links, G: Gate>(
         → HasHeadline (call S.left S.faults words.now src.old src.new
         (link_use L.tells L.faults L.sent L.got L.vain_out L.vain_in links.old links.new)) result
         (K.written out.old) (K.written out.new) }
+
+    // `sim`, `run` and `replay` answer 6 only of a file that is no forest.
+    ensures forest { result ≡ verdict_status Blocked
+        → AsksFor IsPlaying (call S.left S.faults words.now src.old src.new
+        (link_use L.tells L.faults L.sent L.got L.vain_out L.vain_in links.old links.new))
+        → ReadsNoForest (call S.left S.faults words.now src.old src.new
+        (link_use L.tells L.faults L.sent L.got L.vain_out L.vain_in links.old links.new)) }
 
     // Of an input that is valid for the task the answer is what the task tells of it.
     ensures complete { (task : AnyTask) → (file : FileAt)

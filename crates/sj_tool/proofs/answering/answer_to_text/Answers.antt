@@ -21,6 +21,12 @@ returns-in-Check g c =
     subst (λ (t : Task). IfOk c.counted.result (λ a. AnswersText links t (log_at c.args.version c.args.log.now) c.args.text.now (answer_at a))) (sym c.in-Check.is)
     (any_answers tasks.Check c.args.text.now (file_of c.in-Ok.file) c.in-Ok.ensures.found links (log_at c.args.version c.args.log.now) c.counted.result c.counted.ensures)
 
+pub returns-in-Forest : goal.returns-in-Forest
+returns-in-Forest g c =
+    let links : LinkUseAt = link_use g.L.Links.tells g.L.Links.faults g.L.Links.sent g.L.Links.got g.L.Links.vain_out g.L.Links.vain_in c.args.links.now c.args.links.now in
+    subst (λ (t : Task). IfOk c.shaped.result (λ a. AnswersText links t (log_at c.args.version c.args.log.now) c.args.text.now (answer_at a))) (sym c.in-Forest.is)
+    (any_answers tasks.Forest c.args.text.now (file_of c.in-Ok.file) c.in-Ok.ensures.found links (log_at c.args.version c.args.log.now) c.shaped.result c.shaped.ensures)
+
 pub returns-in-Sim : goal.returns-in-Sim
 returns-in-Sim g c =
     let links : LinkUseAt = link_use g.L.Links.tells g.L.Links.faults g.L.Links.sent g.L.Links.got g.L.Links.vain_out g.L.Links.vain_in c.args.links.now c.args.links.now in

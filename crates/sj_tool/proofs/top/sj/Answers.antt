@@ -2,7 +2,7 @@ use Rattle.std.proofs.Common.{rules}
 use Rattle.sj_tool.specs.AnswerAt.{answer_at}
 use Rattle.sj_tool.proofs.Completed.{answered_whole}
 use Rattle.sj_tool.proofs.ExactnessLemmas.{answered_exactly}
-use Rattle.sj_tool.proofs.HeadlineOfAnswers.{answered_headline}
+use Rattle.sj_tool.proofs.HeadlineOfAnswers.{answered_forest, answered_headline}
 use Rattle.sj_tool.proofs.top.sj.Goals as goal
 
 pub returns-in-Ok-write_all_of-clause-exactly : goal.returns-in-Ok-write_all_of-clause-exactly
@@ -18,4 +18,9 @@ returns-in-Ok-write_all_of-clause-headline g c =
 pub returns-in-Ok-write_all_of-clause-complete : goal.returns-in-Ok-write_all_of-clause-complete
 returns-in-Ok-write_all_of-clause-complete g c =
     answered_whole _ _ _ (g.S.Source.faults c.args.src.now) (g.S.Source.faults c.answer_to.new.src) _ (answer_at c.in-Ok.answer) _ (g.K.Sink.written c.args.out.now) (g.K.Sink.written c.write_all_of.new.out)
+    c.in-Ok.ensures c.status-status.ensures (search rules)
+
+pub returns-in-Ok-write_all_of-clause-forest : goal.returns-in-Ok-write_all_of-clause-forest
+returns-in-Ok-write_all_of-clause-forest g c =
+    answered_forest _ _ _ (g.S.Source.faults c.args.src.now) (g.S.Source.faults c.answer_to.new.src) _ (answer_at c.in-Ok.answer) _ (g.K.Sink.written c.args.out.now) (g.K.Sink.written c.write_all_of.new.out)
     c.in-Ok.ensures c.status-status.ensures (search rules)

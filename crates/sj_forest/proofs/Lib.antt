@@ -1,0 +1,5 @@
+pub mod LeftLemmas
+pub mod OpeningLemmas
+pub mod ShapeLemmas
+pub mod EndingLemmas
+pub mod KeptLemmas
