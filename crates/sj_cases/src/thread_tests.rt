@@ -101,14 +101,19 @@ fn is_front(alloc: Global, log: &str, party: (u16, &str), noted: &[Line]) -> Res
 
 #[test]
 fn two_parties_wait_for_each_other(rt: HostRuntime) -> Result<(), Fail> {
-    for words in [["run"].as_slice(), &["run", "--log"]] {
+    let rows = [
+        (["run"].as_slice(), false),
+        (&["run", "--log"], true),
+        (&["run", "--workers", "2"], false),
+    ];
+    for (words, logs) in rows {
         let gate = Meeting::new(&rt, rt.alloc(), 0);
         let mut links = RingLinks::new();
         let file = MEETING.as_bytes();
         let (status, out) = answer_past(&rt, rt.alloc(), words, file, &mut links, &gate)?;
         assert!(rt; out.text().starts_with(MET.as_bytes()), "{words:?}");
         assert!(rt;
-            words.len() > 1 || out.text().len() == MET.len(),
+            logs || out.text().len() == MET.len(),
             "{words:?}"
         );
         assert_eq!(rt; status, 0, "{words:?}");
