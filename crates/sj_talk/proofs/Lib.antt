@@ -1,2 +1,0 @@
-mod SettledLemmas
-mod WordLemmas
