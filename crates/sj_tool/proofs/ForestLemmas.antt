@@ -1,5 +1,5 @@
 -- Each file has one text by `forest`.
-use Rattle.std.proofs.Common.{◌≡◌, ◌≢◌, ◌∙◌, ◌⊎◌, ◌+◌, ◌<◌, ◌≤◌, ℕ, zero, suc, nat_lt, Bool, true, false, List, [], ◌∷◌, ◌++◌, length, map, replicate, slice_set, Option, Some, None, inl, inr, ap, sym, refl, subst, arith}
+use Rattle.std.proofs.Common.{◌≡◌, ◌≢◌, ◌∙◌, ◌⊎◌, ◌+◌, ◌<◌, ◌≤◌, ℕ, zero, suc, nat_lt, Bool, true, false, List, [], ◌∷◌, ◌++◌, length, map, replicate, slice_set, Option, Some, None, Result, Ok, Err, IfOk, inl, inr, ap, sym, refl, subst, arith}
 use Rattle.std.specs.Prelude.{codes, decimal}
 use mathlib.Core.Path.{fun_ext}
 use Rattle.std.proofs.lemmas.Bool.{cases_Bool, cases_lt, cases_eq}
@@ -144,3 +144,14 @@ one_forest_text file s t (inr (inl (xs, x, e))) (inr (inr (y, d))) = absurd (cyc
 one_forest_text file s t (inr (inr (x, e))) (inl (other, y, d)) = absurd (not_both file other y x.openless)
 one_forest_text file s t (inr (inr (x, e))) (inr (inl (ys, y, d))) = absurd (cycle_is_none ys file y x)
 one_forest_text file s t (inr (inr (x, e))) (inr (inr (y, d))) = e ∙ sym d
+
+-- ---- what is told by the shape of a file
+
+module _ {V E : Type 0} (items : V → List ℕ) (file : FileAt) where
+  pub opens_answer : (line : ℕ) (r : Result V E) → first_opening file ≡ Some line → IfOk r (λ t. items t ≡ line_of (codes "forest" ∷ codes "opens" ∷ decimal line ∷ [])) → IfOk r (λ t. IsForestText file (items t))
+  opens_answer line (Ok t) is e = inl (line, is, e)
+  opens_answer line (Err x) is e = tt
+
+  pub left_answer : (numbers : List ℕ) (r : Result V E) → IsCycle numbers file → IfOk r (λ t. items t ≡ codes "forest no" ++ spaced_line (map (name_of file) numbers)) → IfOk r (λ t. IsForestText file (items t))
+  left_answer numbers (Ok t) is e = inr (inl (numbers, is, e))
+  left_answer numbers (Err x) is e = tt
