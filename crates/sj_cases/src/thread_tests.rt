@@ -112,10 +112,7 @@ fn two_parties_wait_for_each_other(rt: HostRuntime) -> Result<(), Fail> {
         let file = MEETING.as_bytes();
         let (status, out) = answer_past(&rt, rt.alloc(), words, file, &mut links, &gate)?;
         assert!(rt; out.text().starts_with(MET.as_bytes()), "{words:?}");
-        assert!(rt;
-            logs || out.text().len() == MET.len(),
-            "{words:?}"
-        );
+        assert!(rt; logs || out.text().len() == MET.len(), "{words:?}");
         assert_eq!(rt; status, 0, "{words:?}");
         assert_eq!(rt; gate.first_saw.load(Ordering::SeqCst), 1, "{words:?}");
         assert_eq!(rt; gate.second_saw.load(Ordering::SeqCst), 1, "{words:?}");
