@@ -4,7 +4,7 @@ use Rattle.sj_command.specs.declared.tasks.Task.{Task}
 use Rattle.sj_command.specs.declared.tasks.Task.TheVariants as tasks
 use Rattle.sj_log.specs.Parts.{HasNoPart, IsParted}
 use Rattle.sj_tool.specs.LogAt.{LogAt}
-use Rattle.sj_tool.specs.AnswerAt.{AnswerAt, Usage, ReadFault, TooLarge, Syntax, Check, LogFault, Misfit, LinkFault, Damaged, Ran, Printed, Made}
+use Rattle.sj_tool.specs.AnswerAt.{AnswerAt, TooLarge, Syntax, Check, LogFault, Misfit, LinkFault, Damaged, Ran}
 use Rattle.sj_tool.specs.Answers.{AnswersBytes, AnswersParts, AnswersText}
 use Rattle.sj_tool.specs.Calls.{LinkUseAt}
 use Rattle.sj_tool.specs.Tasks.{HasLongText, HasParts, Replays as IsReplay, Takes}

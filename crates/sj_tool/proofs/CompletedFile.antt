@@ -14,7 +14,7 @@ use Rattle.sj_party.proofs.Faultless.{no_fault}
 use Rattle.sj_command.specs.declared.tasks.Task.{Task}
 use Rattle.sj_command.specs.declared.tasks.Task.TheVariants as tasks
 use Rattle.sj_tool.specs.LogAt.{LogAt}
-use Rattle.sj_tool.specs.AnswerAt.{AnswerAt, Usage, ReadFault, TooLarge, Syntax, Check, LogFault, Misfit, LinkFault, Damaged, Ran, Printed, Made}
+use Rattle.sj_tool.specs.AnswerAt.{AnswerAt, LinkFault, Damaged}
 use Rattle.sj_tool.specs.Answers.{AnswersBytes, AnswersFile, AnswersText}
 use Rattle.sj_tool.specs.Calls.{LinkUseAt, LinksHold}
 use Rattle.sj_tool.specs.Completeness.{Completes, TellsEnd}

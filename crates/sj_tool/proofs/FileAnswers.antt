@@ -14,7 +14,7 @@ use Rattle.sj_run.specs.declared.refusal.RunRefusal.{RunRefusal}
 use Rattle.sj_run.specs.declared.refusal.RunRefusal.TheVariants as refusals
 use Rattle.sj_tool.specs.LogAt.{LogAt, Spells}
 use Rattle.sj_tool.specs.declared.answers.Answer.{Answer}
-use Rattle.sj_tool.specs.AnswerAt.{AnswerAt, answer_at, Usage, ReadFault, TooLarge, Syntax, Check, LogFault, Misfit, LinkFault, Damaged, Ran, Printed, Made}
+use Rattle.sj_tool.specs.AnswerAt.{AnswerAt, answer_at, Usage, ReadFault, TooLarge, Syntax, LogFault, Misfit, Damaged, Made}
 use Rattle.sj_tool.specs.declared.replaying.ReplayFault.{ReplayFault}
 use Rattle.sj_tool.specs.declared.replaying.ReplayFault.TheVariants as faults
 use Rattle.sj_tool.specs.Answers.{AnswersBytes, AnswersFile, AnswersText}

@@ -1,5 +1,5 @@
 -- Each file has one text by `forest`.
-use Rattle.std.proofs.Common.{◌≡◌, ◌≢◌, ◌∙◌, ◌⊎◌, ◌+◌, ◌<◌, ◌≤◌, ℕ, zero, suc, nat_lt, Bool, true, false, List, [], ◌∷◌, ◌++◌, length, map, replicate, slice_set, Option, Some, None, Result, Ok, Err, IfOk, inl, inr, ap, sym, refl, subst, arith}
+use Rattle.std.proofs.Common.{◌≡◌, ◌≢◌, ◌∙◌, ◌⊎◌, ◌<◌, ◌≤◌, ℕ, zero, suc, nat_lt, Bool, true, false, List, [], ◌∷◌, ◌++◌, length, map, replicate, slice_set, Option, Some, None, Result, Ok, Err, IfOk, inl, inr, ap, sym, refl, subst, arith}
 use Rattle.std.specs.Prelude.{codes, decimal}
 use mathlib.Core.Path.{fun_ext}
 use Rattle.std.proofs.lemmas.Bool.{cases_Bool, cases_lt, cases_eq}
@@ -7,7 +7,7 @@ use Rattle.std.proofs.lemmas.List.{length-set, length-replicate}
 use Rattle.sj_lang.specs.FileAt.{FileAt}
 use Rattle.sj_semantics.specs.Lines.{line_of, name_of}
 use Rattle.sj_semantics_laws.specs.Openless.{IsOpenless}
-use Rattle.sj_forest_laws.specs.Forest.{AreLeft, AreTaken, IsForest, edges_at, edges_of, nobody, without}
+use Rattle.sj_forest_laws.specs.Forest.{AreLeft, AreTaken, IsForest, edges_at, edges_of, nobody}
 use Rattle.sj_forest_laws.specs.Opens.{first_opening}
 use Rattle.sj_forest_laws.proofs.OrderLemmas.{same_left, taken_one_more}
 use Rattle.sj_forest.specs.Left.{left_in, those_left}

@@ -12,7 +12,6 @@ use Rattle.sj_semantics.specs.Transcript.{transcript_of}
 use Rattle.sj_semantics_laws.proofs.FinishLemmas.{end_is_settled, end_is_reached}
 use Rattle.sj_accepted_laws.specs.Headline.{IsHeadline}
 use Rattle.sj_accepted_laws.proofs.HeadlineLemmas.{settled_run_has_it}
-use Rattle.sj_forest_laws.specs.Forest.{IsForest}
 use Rattle.sj_forest_laws.proofs.BlockedLemmas.{never_blocked}
 use Rattle.sj_command.specs.declared.tasks.Task.{Task}
 use Rattle.sj_command.specs.declared.tasks.Task.TheVariants as tasks

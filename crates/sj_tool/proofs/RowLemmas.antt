@@ -6,7 +6,7 @@ use Rattle.sj_command.specs.declared.tasks.Task.TheVariants as tasks
 use Rattle.sj_command.specs.Task.{Asks}
 use Rattle.sj_command.proofs.OneTask.{one_task}
 use Rattle.sj_generator.specs.Generated.{generated}
-use Rattle.sj_tool.specs.AnswerAt.{AnswerAt, Usage, ReadFault, TooLarge, Syntax, Check, LogFault, Misfit, LinkFault, Damaged, Ran, Printed, Made}
+use Rattle.sj_tool.specs.AnswerAt.{AnswerAt, LinkFault, Damaged, Ran}
 use Rattle.sj_tool.specs.Texts.{status_of, text_of}
 use Rattle.sj_tool.specs.Answers.{AnswersBytes, AnswersInput, Came, Comes, Makes}
 use Rattle.sj_tool.specs.Calls.{CallAt}

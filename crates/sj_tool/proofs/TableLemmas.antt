@@ -1,7 +1,7 @@
 -- The table gives one answer for a call.
 use Rattle.std.proofs.Common.{◌≡◌, ◌≢◌, ◌⊎◌, ◌∙◌, ◌-◌, ◌^◌, ℕ, List, Some, inl, inr, refl, sym, arith}
 use Rattle.sj_base.specs.Stream.{Rose}
-use Rattle.sj_tool.specs.AnswerAt.{AnswerAt, Usage, ReadFault, TooLarge, Syntax, Check, LogFault, Misfit, LinkFault, Damaged, Ran, Printed, Made}
+use Rattle.sj_tool.specs.AnswerAt.{AnswerAt, Usage, ReadFault, TooLarge, LinkFault, Damaged, Ran, Made}
 use Rattle.sj_tool.specs.Answers.{Comes}
 use Rattle.sj_tool.specs.Calls.{CallAt}
 use Rattle.sj_tool.specs.Table.{AreOne, CanRise, NoFaultAbove, RunsWell}

@@ -1,5 +1,5 @@
 -- Why a log isn't replayed.
-use Rattle.std.specs.Prelude.{◌≡◌, ℕ, max, List, option_map, ⊤}
+use Rattle.std.specs.Prelude.{◌≡◌, max, List, option_map, ⊤}
 use Rattle.sj_core.specs.declared.refusal.ReplayRefusal.{ReplayRefusal}
 use Rattle.sj_core.specs.declared.refusal.ReplayRefusal.TheVariants as replays
 use Rattle.sj_lang.specs.FileAt.{FileAt}
