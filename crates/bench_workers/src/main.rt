@@ -3,6 +3,9 @@
 //! had, how many there are after the drain, and the rounds. `bench/workers` calls it.
 #![tactic(auto)]
 
+ghost use Rattle.std.specs.Prelude.{◌≤◌, length};
+ghost use Rattle.sj_lang.specs.Limits.{file_limit};
+
 use sj_base::{ReadSource, read_all};
 use sj_check::{Accepted, check};
 use sj_end::Entry;
@@ -19,6 +22,7 @@ use std::thread::Threads;
 
 /// The party that had the last event, and how often that is a lower one than the one before: on one
 /// worker, which works the parties off in order, once for each round behind the first with an event.
+#[derive(Drop)]
 struct Turns {
     last: AtomicU64,
     back: AtomicU64,
@@ -57,7 +61,9 @@ fn events_on<R: Threads + Sync>(
 }
 
 /// The accepted file that the bytes are.
-fn accepted_in(alloc: Global, bytes: &[u8]) -> Option<Accepted> {
+fn accepted_in(alloc: Global, bytes: &[u8]) -> Option<Accepted>
+    requires { length bytes.now ≤ file_limit }
+{
     let Ok(file) = parse_file(alloc, bytes) else {
         return None;
     };
