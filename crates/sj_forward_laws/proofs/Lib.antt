@@ -1,0 +1,3 @@
+pub mod DrainLemmas
+pub mod CountLemmas
+pub mod SampleLemmas

@@ -1,0 +1,4 @@
+pub mod Roads
+pub mod Pipe
+pub mod Kept
+pub mod Samples

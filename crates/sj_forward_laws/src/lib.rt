@@ -1,0 +1,8 @@
+//! Laws of handover by forwarding: what it stands for in the plain world.
+#![tactic(auto)]
+
+mod drains;
+mod samples;
+
+pub use drains::a_drain_is_one_list_of_events;
+pub use samples::{a_file_begins_with_an_act, deliveries_are_counted_so};
