@@ -61,23 +61,26 @@ module _ {P Q : Type 0} (plain : PlainAt P Q) where
   same_plain : (a b : PlainAt P Q) → ◌≡◌ {A = Option (PlainAt P Q)} (Some a) (Some b) → a ≡ b
   same_plain a b e = cc e
 
+  by_none : OldBy None
+  by_none next is = absurd (cc is)
+
   by_some : (a : PlainAt P Q) → IsOldPlain plain a → OldBy (Some a)
   by_some a old next is = subst (λ (x : PlainAt P Q). IsOldPlain plain x) (same_plain a next is) old
 
   by_map : (f : P → PlainAt P Q) → ((place : P) → IsOldPlain plain (f place)) → (o : Option P) → OldBy (option_map f o)
-  by_map f old None next is = absurd (cc is)
-  by_map f old (Some place) next is = by_some (f place) (old place) next is
+  by_map f old None = by_none
+  by_map f old (Some place) = by_some (f place) (old place)
 
   by_if : (b : Bool) (o : Option (PlainAt P Q)) → OldBy o → OldBy (if b then o else None)
   by_if true o old = old
-  by_if false o old next is = absurd (cc is)
+  by_if false o old = by_none
 
   module _ (play : Play P Q) (p : ℕ) where
     goes_old : (taken : Option Msg) → IsOldPlain plain (plain_goes play p taken plain)
     goes_old taken = record { requests = λ k. refl; offers = λ from to. refl; offered = λ d. refl }
 
     head_old : (e : EndId) (named : P) (o : Option Msg) → OldBy (plain_takes_head play p e named plain o)
-    head_old e named None next is = absurd (cc is)
+    head_old e named None = by_none
     head_old e named (Some m) =
         by_map (λ place. plain_names named m (plain_takes play p e m place plain))
         (λ place. names_old (plain_takes play p e m place plain) named m (side_old (plain_goes play p (Some m) plain) e (λ x. plain_taken x place) (λ x. refl) (goes_old (Some m))))
@@ -85,7 +88,7 @@ module _ {P Q : Type 0} (plain : PlainAt P Q) where
 
     -- a step that opens and accepts nothing
     pub plain_is_old : (want : Want P) → OpensNothing want → OldBy (plain_act_by play plain p want)
-    plain_is_old ended old next is = absurd (cc is)
+    plain_is_old ended old = by_none
     plain_is_old local old = by_some (plain_goes play p None plain) (goes_old None)
     plain_is_old (sends e msg) old =
         by_map (λ place. plain_sends play p e msg place plain) (λ place. side_old (plain_goes play p None plain) e (λ x. plain_sent x place msg) (λ x. refl) (goes_old None)) (play.next (plain.sides e).place ways.Out msg)

@@ -142,8 +142,8 @@ module _ {P Q : Type 0} (IsOver : P → Type 0) (binds : Q → EndId → Bool) (
           (sym (written_away kept.states e 0 (Held []) d (c.top d) (other_name d e (c.top d) 0 t))) (kept.last d i)
 
   -- what is on its way is another end
-  ways : (y d : EndId) (n : ℕ) → kept.seats y ≡ on_its_way d n → IsSameWay c c kept.seats seats' y
-  ways y d n way = record { seat = by (is_same_end y e) refl; at = refl; top = refl }
+  ways : (y d : EndId) (n : ℕ) → kept.seats y ≡ on_its_way d n → y.side < 2 → IsSameWay c c kept.seats seats' y
+  ways y d n way low = record { seat = by (is_same_end y e) refl; at = refl; top = refl }
     where
       by : (b : Bool) → is_same_end y e ≡ b → (if b then in_use else kept.seats y) ≡ kept.seats y
       by true t =

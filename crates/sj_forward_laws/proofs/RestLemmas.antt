@@ -34,12 +34,12 @@ module _ {P Q : Type 0} (IsOver : P → Type 0) (binds : Q → EndId → Bool) (
   behind_below e zero = kept.below some (other_end e) 0
   behind_below e (suc h) = kept.below some e h
 
-  start_below : (r : Road) → start_of kept.chains r < parties
+  pub start_below : (r : Road) → start_of kept.chains r < parties
   start_below (inward e h) = behind_below e h
   start_below (outward e h) = kept.below some e (suc h)
   start_below (claiming e h) = kept.below some e (suc h)
 
-  goal_below : (r : Road) → goal_of kept.chains r < parties
+  pub goal_below : (r : Road) → goal_of kept.chains r < parties
   goal_below (inward e h) = kept.below some e h
   goal_below (outward e h) = kept.below some e h
   goal_below (claiming e h) = kept.below some e h
