@@ -139,7 +139,7 @@ module _ (file : FileAt) (accepted : IsAccepted file) where
   quiet_run_ends turns w run quiet =
       let s = runs_stand turns w run in
       let l = end_is_reached file in
-      let same : s.plain ≡ end_of file = same_end (start_of file) s.plain (end_of file) (acts_in turns) l.acts (start_is_unshared file) s.run l.leads (quiet_is_settled (acts_in turns) w s quiet) (end_is_settled file) in
+      let same : s.plain ≡ end_of file = same_end (start_of file) s.plain (end_of file) (acts_in turns) l.acts (start_is_unshared file (omega (arith, accepted.within.connects))) s.run l.leads (quiet_is_settled (acts_in turns) w s quiet) (end_is_settled file) in
       (subst (λ v. IsRun file (acts_in turns) v) same s.run, subst (λ v. IsOpenKept IsOver binds (length file.parties) w (plain_at v)) same s.kept)
 
 -- a run has one end
@@ -214,7 +214,7 @@ module _ (file : FileAt) (accepted : IsAccepted file) where
   run_steps turns w p run (Deliver q) has = by (w.lanes q p) refl has
     where
       by : (l : List FrameAt) → w.lanes q p ≡ l → is_filled l ≡ true → (v : WorldAt Program) × (happens (play_of file) w p (Deliver q) ≡ Some v)
-      by [] is no = absurd (cc no)
+      by [] is filled = absurd (cc filled)
       by (f ∷ rest) is some = let d = run_front turns w p q f rest run is in (_, d.1.happened)
 
   pub run_steps_not : (turns : List Turn) (w : WorldAt Program) (p : ℕ) → IsForwardRun file turns w → (event : Event) → has_step (play_of file) w p event ≡ false
@@ -227,7 +227,7 @@ module _ (file : FileAt) (accepted : IsAccepted file) where
   run_steps_not turns w p run (Deliver q) none = by (w.lanes q p) refl none
     where
       by : (l : List FrameAt) → w.lanes q p ≡ l → is_filled l ≡ false → delivery_of w p q l ≡ None
-      by [] is no = refl
+      by [] is unfilled = refl
       by (f ∷ rest) is some = absurd (cc some)
 
   -- a drain goes on with a run, to the end of the file
