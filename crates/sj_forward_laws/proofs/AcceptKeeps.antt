@@ -1,7 +1,7 @@
 -- A party accepts the first session that is offered to it: the invariant is kept, and what is open between parties.
-use Rattle.std.proofs.Common.{◌≡◌, ℕ, zero, suc, ◌<◌, ◌≤◌, List, [], ◌∷◌, ◌++◌, refl, sym, subst, ap, ◌∙◌, arith, inl, inr}
-use Rattle.std.specs.Prelude.{◌⊎◌, Bool, true, false, not, ◌&&◌, ◌==◌, if◌then◌else◌, Option, Some, None}
-use Rattle.std.specs.List.{AllByRecursion, filter}
+use Rattle.std.proofs.Common.{◌≡◌, ℕ, ◌<◌, ◌≤◌, List, [], ◌∷◌, ◌++◌, refl, sym, subst, ap, ◌∙◌, arith, inl, inr}
+use Rattle.std.specs.Prelude.{◌⊎◌, Bool, true, false, not, ◌&&◌, ◌==◌, if◌then◌else◌, Some, None}
+use Rattle.std.specs.List.{AllByRecursion}
 use Rattle.std.proofs.lemmas.Bool.{cases_lt, eqb-true, eq-eqb, ne_eqb}
 use Rattle.sj_base.specs.declared.EndId.{EndId}
 use Rattle.sj_base.specs.declared.Msg.{Msg}
@@ -22,7 +22,7 @@ use Rattle.sj_forward_laws.specs.Pipe.{traffic}
 use Rattle.sj_forward_laws.specs.Roads.{Chains, claiming, behind_of, IsOnRoad}
 use Rattle.sj_forward_laws.proofs.ActLemmas.{is_in_use, program_goes, bound_goes}
 use Rattle.sj_forward_laws.proofs.ChainLemmas.{all_map}
-use Rattle.sj_forward_laws.proofs.EndLemmas.{both_true, same_end, same_is}
+use Rattle.sj_forward_laws.proofs.EndLemmas.{both_true, same_is}
 use Rattle.sj_forward_laws.proofs.MovedLemmas.{quiet_lane, uses_stay}
 use Rattle.sj_forward_laws.proofs.OfferLemmas.{all_front, all_two, one_opener}
 use Rattle.sj_forward_laws.proofs.QuietKeeps.{quiet_keeps}

@@ -4,7 +4,6 @@ use Rattle.std.specs.Prelude.{◌⊎◌, Bool, true, false, ◌&&◌, ◌==◌, 
 use Rattle.std.specs.List.{AllByRecursion}
 use Rattle.std.proofs.lemmas.Bool.{eqb-true, eq-eqb, ne_eqb}
 use Rattle.sj_base.specs.declared.EndId.{EndId}
-use Rattle.sj_base.specs.declared.Msg.{Msg}
 use Rattle.sj_rules.specs.Acts.{plain_opened}
 use Rattle.sj_rules.specs.Binding.{BindsAlso}
 use Rattle.sj_rules.specs.Limits.{limit_of_requests}
@@ -17,14 +16,14 @@ use Rattle.sj_rules.specs.Reading.{IsUnopened}
 use Rattle.sj_rules.specs.Record.{is_same_end, other_end}
 use Rattle.sj_forward_rules.specs.Acts.{open_session}
 use Rattle.sj_forward_rules.specs.Node.{NodeAt, HasRecord}
-use Rattle.sj_forward_rules.specs.Record.{RecordAt, SentAt, StateAt, Held, Closed, FrameAt, Open, Mail, opened_in, stored}
+use Rattle.sj_forward_rules.specs.Record.{RecordAt, SentAt, StateAt, Held, Closed, Open, Mail, opened_in, stored}
 use Rattle.sj_forward_rules.specs.World.{WorldAt, after_event}
 use Rattle.sj_forward_laws.specs.Kept.{Seat, in_use, on_its_way, at_its_end, in_open, OpensFit, IsLeft, IsLast, IsRecorded, IsInChain, NamesFit, IsKept, IsOpenKept}
 use Rattle.sj_forward_laws.specs.Pipe.{traffic, from_last, from_first, in_part, out_part, pipe}
 use Rattle.sj_forward_laws.specs.Roads.{Chains, Road, inward, outward, claiming, is_road, behind_of, start_of, on_road, messages_in}
 use Rattle.sj_forward_laws.proofs.AbsentLemmas.{road_end, seat_end, top_zero, no_frames}
 use Rattle.sj_forward_laws.proofs.ActLemmas.{is_in_use, program_goes, bound_goes}
-use Rattle.sj_forward_laws.proofs.EndLemmas.{same_end, same_is, both_true, other_low}
+use Rattle.sj_forward_laws.proofs.EndLemmas.{same_end, same_is, both_true}
 use Rattle.sj_forward_laws.proofs.NamedLemmas.{IsSameWay, names_stay}
 use Rattle.sj_forward_laws.proofs.NewSession.{near, far, choose, choose_near, choose_far, choose_else, choose_both, by_ends, else_apart, far_apart, other_near, other_far, opened, at_else, top_else, top_new, behind_else, behind_near, behind_far, traffic_else, lanes_else, road_apart}
 use Rattle.sj_forward_laws.proofs.PartLemmas.{same_last, same_first}

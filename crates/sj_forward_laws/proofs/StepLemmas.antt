@@ -21,18 +21,17 @@ use Rattle.sj_forward_rules.specs.Node.{Worked, quietly}
 use Rattle.sj_forward_rules.specs.Ready.{is_filled, state_by, state_at, is_ready}
 use Rattle.sj_forward_rules.specs.Record.{FrameAt, In, Out, Claim, Open, opened_in}
 use Rattle.sj_forward_rules.specs.World.{WorldAt, after_event, with_lane, delivery_of, happens}
-use Rattle.sj_forward_laws.specs.Kept.{IsKept, IsOpenKept}
-use Rattle.sj_forward_laws.specs.Roads.{Chains, Road, inward, outward, claiming, road_of, behind_of, start_of, goal_of, IsOnRoad}
-use Rattle.sj_forward_laws.proofs.AcceptKeeps.{offers_are, smallest_is, done, plain_accepted_it, accept_opens}
+use Rattle.sj_forward_laws.specs.Kept.{IsOpenKept}
+use Rattle.sj_forward_laws.specs.Roads.{road_of, IsOnRoad}
+use Rattle.sj_forward_laws.proofs.AcceptKeeps.{smallest_is, done, plain_accepted_it, accept_opens}
 use Rattle.sj_forward_laws.proofs.DeliveryLemmas.{front_arrives, moved_kept}
 use Rattle.sj_forward_laws.proofs.EndLemmas.{both_true, same_is}
 use Rattle.sj_forward_laws.proofs.InLemmas.{Arrives}
-use Rattle.sj_forward_laws.proofs.OldKeeps.{IsOldPlain, plain_is_old, old_keeps}
-use Rattle.sj_forward_laws.proofs.OldWorkLemmas.{OpensNothing, Leaves, Any, IsOldWork, comes_old, act_old}
+use Rattle.sj_forward_laws.proofs.OldKeeps.{plain_is_old, old_keeps}
+use Rattle.sj_forward_laws.proofs.OldWorkLemmas.{OpensNothing, Leaves, Any, comes_old, act_old}
 use Rattle.sj_forward_laws.proofs.OpenArrives.{node_opened}
 use Rattle.sj_forward_laws.proofs.OpenDelivered.{open_fits, opened_keeps}
 use Rattle.sj_forward_laws.proofs.OpensLemmas.{IsNoOpen, front_opened}
-use Rattle.sj_forward_laws.proofs.RequestKeeps.{plain_requested}
 use Rattle.sj_forward_laws.proofs.RequestOpens.{request_opens}
 use Rattle.sj_forward_laws.proofs.RestLemmas.{start_below, goal_below}
 use Rattle.sj_forward_laws.proofs.SendActs.{IsActed, IsStill, local_acted, sends_acted, delegates_act}

@@ -1,5 +1,5 @@
 -- Steps that take a message, and steps that close an end.
-use Rattle.sj_forward_rules.specs.Node.{HasRecord, held_of}
+use Rattle.sj_forward_rules.specs.Node.{HasRecord}
 use Rattle.sj_semantics.specs.declared.State.TheVariants as states
 use Rattle.sj_forward_rules.specs.Ready.{has_message, is_filled, state_by, is_ready}
 use Rattle.sj_forward_laws.proofs.WeightLemmas.{claim_light, none_light}
