@@ -1,18 +1,19 @@
 -- A session that nobody opened: its ends have no record, and no frame is about them.
-use Rattle.std.proofs.Common.{◌≡◌, ℕ, zero, suc, ◌<◌, ◌≤◌, List, [], ◌∷◌, refl, sym, subst, ap, ◌∙◌, arith, inl, inr}
-use Rattle.std.specs.Prelude.{◌⊎◌, Bool, true, false, ◌==◌, if◌then◌else◌, None}
+use Rattle.std.proofs.Common.{◌≡◌, ℕ, zero, suc, ◌<◌, ◌≤◌, List, [], ◌∷◌, ◌++◌, refl, sym, subst, ap, ◌∙◌, arith, inl, inr}
+use Rattle.std.specs.Prelude.{◌⊎◌, Bool, true, false, ◌==◌, if◌then◌else◌, Some, None}
 use Rattle.std.specs.List.{AllByRecursion}
-use Rattle.std.proofs.lemmas.Bool.{cases_lt, eq-eqb, ne_eqb}
+use Rattle.std.proofs.lemmas.Bool.{cases_lt, eqb-true, eq-eqb, ne_eqb}
 use Rattle.sj_base.specs.declared.EndId.{EndId}
 use Rattle.sj_base.specs.declared.Msg.{Msg}
 use Rattle.sj_rules.specs.PlainChanges.{waits_of}
 use Rattle.sj_rules.specs.PlainSide.{PlainSide, PlainAt}
 use Rattle.sj_rules.specs.Reading.{IsUnopened}
-use Rattle.sj_forward_rules.specs.Record.{StateAt, Held, Parked, Passing, Closed, FrameAt, In, Out, Claim, Open, opened_in, stored}
-use Rattle.sj_forward_rules.specs.World.{WorldAt}
+use Rattle.sj_forward_rules.specs.Record.{SentAt, StateAt, Held, Parked, Passing, Closed, FrameAt, In, Out, Claim, Open, opened_in, stored}
+use Rattle.sj_forward_rules.specs.World.{WorldAt, Lanes}
 use Rattle.sj_forward_laws.specs.Kept.{Seat, in_use, on_its_way, at_its_end, in_open, OpensFit, IsLeft, IsLast, IsRecorded, IsOffer, IsOpenKept}
 use Rattle.sj_forward_laws.specs.Pipe.{traffic}
-use Rattle.sj_forward_laws.specs.Roads.{Chains, Road, inward, outward, claiming, road_of, is_road, behind_of, start_of, goal_of, on_road, messages_in, IsOnRoad}
+use Rattle.sj_forward_laws.specs.Roads.{Chains, Road, inward, outward, claiming, road_of, is_road, behind_of, start_of, goal_of, on_road}
+use Rattle.sj_forward_laws.specs.Roads.{messages_in, IsThere, IsOnRoad}
 use Rattle.sj_forward_laws.proofs.ChainLemmas.{all_map}
 use Rattle.sj_forward_laws.proofs.DeliveryLemmas.{nothing_here, nil_back}
 use Rattle.sj_forward_laws.proofs.OfferLemmas.{all_back, offer_is_opened}
@@ -39,7 +40,8 @@ none_closed behind (Passing p) recorded = absurd (cc recorded)
 none_closed behind Closed recorded = refl
 
 -- and the end too, if no Open is on its way
-closed_seat : {P : Type 0} (IsOver : P → Type 0) (x : PlainSide P) (waits : List Msg) (top : ℕ) (seat : Seat) → (seat ≡ in_open → ⊥) → IsLast IsOver x waits top seat Closed
+closed_seat : {P : Type 0} (IsOver : P → Type 0) (x : PlainSide P) (waits : List Msg) (top : ℕ) (seat : Seat) → (seat ≡ in_open → ⊥)
+    → IsLast IsOver x waits top seat Closed
     → (seat ≡ at_its_end) × (waits ≡ [])
 closed_seat IsOver x waits top in_use shut last = absurd last
 closed_seat IsOver x waits top (on_its_way e n) shut last = absurd last
@@ -56,12 +58,14 @@ opened_on_road A r (In e h m ∷ fs) all = by (is_road r (inward e h)) (opened_o
     by false rest = rest
 opened_on_road A r (Out e h m ∷ fs) all = by (is_road r (outward e h)) (opened_on_road A r fs all)
   where
-    by : (b : Bool) → AllByRecursion A (opened_in (on_road r fs)) → AllByRecursion A (opened_in (if b then Out e h m ∷ on_road r fs else on_road r fs))
+    by : (b : Bool) → AllByRecursion A (opened_in (on_road r fs))
+        → AllByRecursion A (opened_in (if b then Out e h m ∷ on_road r fs else on_road r fs))
     by true rest = rest
     by false rest = rest
 opened_on_road A r (Claim e h ∷ fs) all = by (is_road r (claiming e h)) (opened_on_road A r fs all)
   where
-    by : (b : Bool) → AllByRecursion A (opened_in (on_road r fs)) → AllByRecursion A (opened_in (if b then Claim e h ∷ on_road r fs else on_road r fs))
+    by : (b : Bool) → AllByRecursion A (opened_in (on_road r fs))
+        → AllByRecursion A (opened_in (if b then Claim e h ∷ on_road r fs else on_road r fs))
     by true rest = rest
     by false rest = rest
 opened_on_road A r (Open s ∷ fs) all = by (is_road r (road_of (Open s))) (opened_on_road A r fs all.1)
@@ -71,7 +75,8 @@ opened_on_road A r (Open s ∷ fs) all = by (is_road r (road_of (Open s))) (open
     by false rest = rest
 
 -- a road to a first record with neither a message nor an Open is empty
-empty_road : (e : EndId) (fs : List FrameAt) → messages_in (on_road (inward e 0) fs) ≡ [] → opened_in (on_road (inward e 0) fs) ≡ [] → on_road (inward e 0) fs ≡ []
+empty_road : (e : EndId) (fs : List FrameAt) → messages_in (on_road (inward e 0) fs) ≡ [] → opened_in (on_road (inward e 0) fs) ≡ []
+    → on_road (inward e 0) fs ≡ []
 empty_road e [] none shut = refl
 empty_road e (In d k m ∷ fs) none shut = by (is_road (inward e 0) (inward d k)) none shut (λ a b. empty_road e fs a b)
   where
@@ -93,7 +98,8 @@ empty_road e (Open s ∷ fs) none shut = by (is_road (inward e 0) (road_of (Open
     by false a b rest = rest a b
 
 -- frames of a road are in its lane alone
-elsewhere : (c : Chains) (x y : ℕ) (r : Road) (fs : List FrameAt) → AllByRecursion (IsOnRoad c x y) fs → (on_road r fs ≡ []) ⊎ ((start_of c r ≡ x) × (goal_of c r ≡ y))
+elsewhere : (c : Chains) (x y : ℕ) (r : Road) (fs : List FrameAt) → AllByRecursion (IsOnRoad c x y) fs → (on_road r fs ≡ [])
+    ⊎ ((start_of c r ≡ x) × (goal_of c r ≡ y))
 elsewhere c x y r [] all = inl refl
 elsewhere c x y r (f ∷ fs) all = by (is_road r (road_of f)) refl (elsewhere c x y r fs all.1)
   where
@@ -106,7 +112,8 @@ elsewhere c x y r (f ∷ fs) all = by (is_road r (road_of f)) refl (elsewhere c 
         )
     by false t rest = rest
 
-module _ {P Q : Type 0} (IsOver : P → Type 0) (binds : Q → EndId → Bool) (parties : ℕ) (w : WorldAt Q) (plain : PlainAt P Q) (kept : IsOpenKept IsOver binds parties w plain)
+module _ {P Q : Type 0} (IsOver : P → Type 0) (binds : Q → EndId → Bool) (parties : ℕ) (w : WorldAt Q) (plain : PlainAt P Q)
+    (kept : IsOpenKept IsOver binds parties w plain)
     (sess : ℕ) (new : IsUnopened plain sess) where
   abbrev c : Chains
   c = kept.kept.chains
@@ -117,21 +124,26 @@ module _ {P Q : Type 0} (IsOver : P → Type 0) (binds : Q → EndId → Bool) (
   -- no Open is of the session
   pub no_open_of : (x y : ℕ) → AllByRecursion IsOther (opened_in (w.lanes x y))
   no_open_of x y =
-      all_map (IsOffer plain x) IsOther (λ s o. ne_eqb s sess (λ is. offer_is_opened plain x s o (subst (λ (n : ℕ). IsUnopened plain n) (sym is) new))) (opened_in (w.lanes x y))
-      (all_back (IsOffer plain x) ((w.nodes y).offers x) (opened_in (w.lanes x y)) (subst (λ l. AllByRecursion (IsOffer plain x) l) (sym (kept.offers x y)) (kept.opened x y)))
+      all_map (IsOffer plain x) IsOther (λ s o. ne_eqb s sess
+      (λ is. offer_is_opened plain x s o (subst (λ (n : ℕ). IsUnopened plain n) (sym is) new))) (opened_in (w.lanes x y))
+      (all_back (IsOffer plain x) ((w.nodes y).offers x) (opened_in (w.lanes x y))
+      (subst (λ l. AllByRecursion (IsOffer plain x) l) (sym (kept.offers x y)) (kept.opened x y)))
 
   module _ (d : EndId) (is : d.sess ≡ sess) (low : d.side < 2) where
     none_at : (x : ℕ) → (w.nodes x).records d 0 ≡ None
     none_at x = kept.unopened sess new x d is low
 
     recorded : IsRecorded None (behind_of c d 0) (kept.kept.states d 0)
-    recorded = subst (λ o. IsRecorded o (behind_of c d 0) (kept.kept.states d 0)) (none_at (c.at d 0)) (kept.kept.joined.records d 0 low (omega arith))
+    recorded =
+        subst (λ o. IsRecorded o (behind_of c d 0) (kept.kept.states d 0)) (none_at (c.at d 0)) (kept.kept.joined.records d 0 low (omega arith))
 
     pub top_zero : c.top d ≡ 0
     top_zero = by (cases_lt 0 (c.top d))
       where
         by : (0 < c.top d) ⊎ (c.top d ≤ 0) → c.top d ≡ 0
-        by (inl lt) = absurd (none_left d 0 (c.at d 1) (traffic w.lanes c (claiming d 0)) (behind_of c d 0) (kept.kept.states d 0) (kept.kept.joined.left d 0 low lt) recorded)
+        by (inl lt) =
+            absurd (none_left d 0 (c.at d 1) (traffic w.lanes c (claiming d 0)) (behind_of c d 0) (kept.kept.states d 0)
+            (kept.kept.joined.left d 0 low lt) recorded)
         by (inr le) = omega (arith, le)
 
     closed : kept.kept.states d (c.top d) ≡ Closed
@@ -139,9 +151,11 @@ module _ {P Q : Type 0} (IsOver : P → Type 0) (binds : Q → EndId → Bool) (
 
     shut : kept.kept.seats d ≡ in_open → ⊥
     shut seat =
-        let fit : OpensFit in_open d.sess (traffic w.lanes c (inward d 0)) = subst (λ s. OpensFit s d.sess (traffic w.lanes c (inward d 0))) seat (kept.kept.opens d low) in
+        let fit : OpensFit in_open d.sess (traffic w.lanes c (inward d 0)) =
+        subst (λ s. OpensFit s d.sess (traffic w.lanes c (inward d 0))) seat (kept.kept.opens d low) in
         let others : AllByRecursion IsOther (opened_in (traffic w.lanes c (inward d 0))) =
-        opened_on_road IsOther (inward d 0) (w.lanes (start_of c (inward d 0)) (goal_of c (inward d 0))) (no_open_of (start_of c (inward d 0)) (goal_of c (inward d 0))) in
+        opened_on_road IsOther (inward d 0) (w.lanes (start_of c (inward d 0)) (goal_of c (inward d 0)))
+        (no_open_of (start_of c (inward d 0)) (goal_of c (inward d 0))) in
         let these : AllByRecursion IsOther (opened_in (Open d.sess ∷ fit.0)) = subst (λ l. AllByRecursion IsOther (opened_in l)) fit.1 others in
         let same : (d.sess == sess) ≡ true = eq-eqb d.sess sess is in
         cc (same, these.0)
@@ -159,7 +173,8 @@ module _ {P Q : Type 0} (IsOver : P → Type 0) (binds : Q → EndId → Bool) (
     no_traffic =
         empty_road d (w.lanes (start_of c (inward d 0)) (goal_of c (inward d 0)))
         (subst (λ (h : ℕ). messages_in (traffic w.lanes c (inward d h)) ≡ []) top_zero
-        (nil_back (stored (kept.kept.states d (c.top d))) (messages_in (traffic w.lanes c (inward d (c.top d)))) (nothing_here IsOver binds parties w plain kept.kept d low known.1)))
+        (nil_back (stored (kept.kept.states d (c.top d))) (messages_in (traffic w.lanes c (inward d (c.top d))))
+        (nothing_here IsOver binds parties w plain kept.kept d low known.1)))
         (subst (λ s. OpensFit s d.sess (traffic w.lanes c (inward d 0))) seat_end (kept.kept.opens d low))
 
     -- nor is any about it in a lane
@@ -175,8 +190,10 @@ module _ {P Q : Type 0} (IsOver : P → Type 0) (binds : Q → EndId → Bool) (
         (λ t. let le : suc k ≤ c.top d = subst (λ z. suc k ≤ c.top z) at t.1 in let top = top_zero in omega (arith, le, top))
     no_frames (inward e zero) at x y = by (elsewhere c x y (inward e 0) (w.lanes x y) (kept.kept.joined.lanes x y))
       where
-        by : (on_road (inward e 0) (w.lanes x y) ≡ []) ⊎ ((start_of c (inward e 0) ≡ x) × (goal_of c (inward e 0) ≡ y)) → on_road (inward e 0) (w.lanes x y) ≡ []
+        by : (on_road (inward e 0) (w.lanes x y) ≡ []) ⊎ ((start_of c (inward e 0) ≡ x) × (goal_of c (inward e 0) ≡ y))
+            → on_road (inward e 0) (w.lanes x y) ≡ []
         by (inl none) = none
         by (inr same) =
             let here : traffic w.lanes c (inward e 0) ≡ [] = subst (λ z. traffic w.lanes c (inward z 0) ≡ []) (sym at) no_traffic in
-            ap (λ (s : ℕ). on_road (inward e 0) (w.lanes s y)) (sym same.0) ∙ ap (λ (g : ℕ). on_road (inward e 0) (w.lanes (start_of c (inward e 0)) g)) (sym same.1) ∙ here
+            ap (λ (s : ℕ). on_road (inward e 0) (w.lanes s y)) (sym same.0)
+            ∙ ap (λ (g : ℕ). on_road (inward e 0) (w.lanes (start_of c (inward e 0)) g)) (sym same.1) ∙ here

@@ -1,7 +1,7 @@
 -- A party accepts the first session that is offered to it: the invariant is kept, and what is open between parties.
-use Rattle.std.proofs.Common.{◌≡◌, ℕ, ◌<◌, ◌≤◌, List, [], ◌∷◌, ◌++◌, refl, sym, subst, ap, ◌∙◌, arith, inl, inr}
-use Rattle.std.specs.Prelude.{◌⊎◌, Bool, true, false, not, ◌&&◌, ◌==◌, if◌then◌else◌, Some, None}
-use Rattle.std.specs.List.{AllByRecursion}
+use Rattle.std.proofs.Common.{◌≡◌, ℕ, zero, suc, ◌<◌, ◌≤◌, List, [], ◌∷◌, ◌++◌, refl, sym, subst, ap, ◌∙◌, arith, inl, inr}
+use Rattle.std.specs.Prelude.{◌⊎◌, Bool, true, false, not, ◌&&◌, ◌==◌, if◌then◌else◌, Option, Some, None}
+use Rattle.std.specs.List.{AllByRecursion, filter}
 use Rattle.std.proofs.lemmas.Bool.{cases_lt, eqb-true, eq-eqb, ne_eqb}
 use Rattle.sj_base.specs.declared.EndId.{EndId}
 use Rattle.sj_base.specs.declared.Msg.{Msg}
@@ -17,12 +17,13 @@ use Rattle.sj_forward_rules.specs.Acts.{accept_session}
 use Rattle.sj_forward_rules.specs.Node.{NodeAt, Worked}
 use Rattle.sj_forward_rules.specs.Record.{RecordAt, SentAt, StateAt, Held, Parked, Passing, Closed, FrameAt, In, Out, Claim, Open, opened_in}
 use Rattle.sj_forward_rules.specs.World.{WorldAt, after_event, lanes_with}
-use Rattle.sj_forward_laws.specs.Kept.{Seat, in_use, on_its_way, at_its_end, in_open, IsLeft, IsLast, IsRecorded, IsHeldRecord, AreRising, IsOffer, IsKept, IsOpenKept}
+use Rattle.sj_forward_laws.specs.Kept.{Seat, in_use, on_its_way, at_its_end, in_open, IsLeft, IsLast, IsRecorded, IsHeldRecord, AreRising}
+use Rattle.sj_forward_laws.specs.Kept.{IsOffer, IsKept, IsOpenKept}
 use Rattle.sj_forward_laws.specs.Pipe.{traffic}
 use Rattle.sj_forward_laws.specs.Roads.{Chains, claiming, behind_of, IsOnRoad}
 use Rattle.sj_forward_laws.proofs.ActLemmas.{is_in_use, program_goes, bound_goes}
 use Rattle.sj_forward_laws.proofs.ChainLemmas.{all_map}
-use Rattle.sj_forward_laws.proofs.EndLemmas.{both_true, same_is}
+use Rattle.sj_forward_laws.proofs.EndLemmas.{both_true, same_end, same_is}
 use Rattle.sj_forward_laws.proofs.MovedLemmas.{quiet_lane, uses_stay}
 use Rattle.sj_forward_laws.proofs.OfferLemmas.{all_front, all_two, one_opener}
 use Rattle.sj_forward_laws.proofs.QuietKeeps.{quiet_keeps}
@@ -30,111 +31,11 @@ use Rattle.sj_forward_laws.proofs.RecordLemmas.{kept_records, kept_alone}
 use Rattle.sj_forward_laws.proofs.RoadLemmas.{all_both}
 use Rattle.sj_forward_laws.proofs.SendKeeps.{last_by}
 use Rattle.sj_forward_laws.proofs.StayLemmas.{still_there}
+use Rattle.sj_forward_laws.proofs.FirstOffers.{first_smallest, without_first}
+use Rattle.sj_forward_laws.proofs.HeldSeats.{opens_on_road, IsHeldAt, held_lies}
 
--- ---- the smallest number is the first of numbers that rise
-
-below_smallest : (n m : ℕ) (ms : List ℕ) → n < m → AllByRecursion (λ k. n < k) ms → n < smallest_from m ms
-below_smallest n m [] lt all = lt
-below_smallest n m (k ∷ ks) lt all = let rest : n < smallest_from k ks = below_smallest n k ks all.0 all.1 in omega (arith, lt, rest)
-
-pub first_smallest : (n : ℕ) (ns : List ℕ) → AllByRecursion (λ m. n < m) ns → smallest (n ∷ ns) ≡ Some n
-first_smallest n [] all = refl
-first_smallest n (m ∷ ms) all =
-    let lt : n < smallest_from m ms = below_smallest n m ms all.0 all.1 in
-    let is : smallest_from n (m ∷ ms) ≡ n = omega (arith, lt) in
-    ap (λ (k : ℕ). Some k) is
-
-keep_others : (n : ℕ) (ns : List ℕ) → AllByRecursion (λ m. n < m) ns → without n ns ≡ ns
-keep_others n [] all = refl
-keep_others n (m ∷ ms) all =
-    let lt : n < m = all.0 in
-    ap (λ (b : Bool). if not b then m ∷ without n ms else without n ms) (ne_eqb m n (λ i. omega (arith, lt, i))) ∙ ap (λ l. m ∷ l) (keep_others n ms all.1)
-
-pub without_first : (n : ℕ) (ns : List ℕ) → AllByRecursion (λ m. n < m) ns → without n (n ∷ ns) ≡ ns
-without_first n ns all = ap (λ (b : Bool). if not b then n ∷ without n ns else without n ns) (eq-eqb n n refl) ∙ keep_others n ns all
-
--- ---- where an end lies whose record of hop 0 is Held
-
-held_is_last : (e : EndId) (next : ℕ) (claims : List FrameAt) (behind : ℕ) (ms : List SentAt) (at : ℕ) (st : StateAt) → IsLeft e 0 next claims st
-    → IsRecorded (Some (record { behind = at; state = Held ms })) behind st → ⊥
-held_is_last e next claims behind ms at (Held ns) left recorded = left
-held_is_last e next claims behind ms at (Parked ns) left recorded = let it : record { behind = at; state = Held ms } ≡ record { behind = behind; state = Parked ns } = cc recorded in apart (ap (λ (r : RecordAt). r.state) it)
-  where
-    apart : Held ms ≡ Parked ns → ⊥
-    apart i = cc i
-held_is_last e next claims behind ms at (Passing p) left recorded = let it : record { behind = at; state = Held ms } ≡ record { behind = behind; state = Passing p } = cc recorded in apart (ap (λ (r : RecordAt). r.state) it)
-  where
-    apart : Held ms ≡ Passing p → ⊥
-    apart i = cc i
-held_is_last e next claims behind ms at Closed left recorded = left
-
-held_seat : {P : Type 0} (IsOver : P → Type 0) (x : PlainSide P) (waits : List Msg) (top : ℕ) (behind : ℕ) (ms : List SentAt) (at : ℕ) (seat : Seat) (st : StateAt)
-    → IsRecorded (Some (record { behind = at; state = Held ms })) behind st → IsLast IsOver x waits top seat st → seat ≡ in_use
-held_seat IsOver x waits top behind ms at in_use st recorded last = refl
-held_seat IsOver x waits top behind ms at (on_its_way e n) (Parked ns) recorded last =
-    let it : record { behind = at; state = Held ms } ≡ record { behind = behind; state = Parked ns } = cc recorded in
-    let bad : Held ms ≡ Parked ns = ap (λ (r : RecordAt). r.state) it in
-    absurd (cc bad)
-held_seat IsOver x waits top behind ms at (on_its_way e n) (Held ns) recorded last = absurd last
-held_seat IsOver x waits top behind ms at (on_its_way e n) (Passing p) recorded last = absurd last
-held_seat IsOver x waits top behind ms at (on_its_way e n) Closed recorded last = absurd last
-held_seat IsOver x waits top behind ms at at_its_end (Parked ns) recorded last = absurd last
-held_seat IsOver x waits top behind ms at at_its_end (Held ns) recorded last = absurd last
-held_seat IsOver x waits top behind ms at at_its_end (Passing p) recorded last = absurd last
-held_seat IsOver x waits top behind ms at at_its_end Closed (inl none) last = absurd (cc none)
-held_seat IsOver x waits top behind ms at at_its_end Closed (inr some) last =
-    let it : record { behind = at; state = Held ms } ≡ record { behind = behind; state = Closed } = cc some in
-    let bad : Held ms ≡ Closed = ap (λ (r : RecordAt). r.state) it in
-    absurd (cc bad)
-held_seat IsOver x waits top behind ms at in_open (Parked ns) recorded last = absurd last
-held_seat IsOver x waits top behind ms at in_open (Held ns) recorded last = absurd last
-held_seat IsOver x waits top behind ms at in_open (Passing p) recorded last = absurd last
-held_seat IsOver x waits top behind ms at in_open Closed (inl none) last = absurd (cc none)
-held_seat IsOver x waits top behind ms at in_open Closed (inr some) last =
-    let it : record { behind = at; state = Held ms } ≡ record { behind = behind; state = Closed } = cc some in
-    let bad : Held ms ≡ Closed = ap (λ (r : RecordAt). r.state) it in
-    absurd (cc bad)
-
--- the Opens of a lane are on their roads
-opens_on_road : (A : FrameAt → Type 0) (fs : List FrameAt) → AllByRecursion A fs → AllByRecursion (λ s. A (Open s)) (opened_in fs)
-opens_on_road A [] all = tt
-opens_on_road A (In e h m ∷ fs) all = opens_on_road A fs all.1
-opens_on_road A (Out e h m ∷ fs) all = opens_on_road A fs all.1
-opens_on_road A (Claim e h ∷ fs) all = opens_on_road A fs all.1
-opens_on_road A (Open s ∷ fs) all = (all.0, opens_on_road A fs all.1)
-
-module _ {P Q : Type 0} (IsOver : P → Type 0) (binds : Q → EndId → Bool) (parties : ℕ) (w : WorldAt Q) (plain : PlainAt P Q) (kept : IsKept IsOver binds parties w plain) where
-  -- the end is in use there
-  pub record IsHeldAt (p : ℕ) (e : EndId) : Type 0 where
-    pub home : kept.chains.at e 0 ≡ p
-    pub top : kept.chains.top e ≡ 0
-    pub seat : kept.seats e ≡ in_use
-
-  pub held_lies : (p : ℕ) (e : EndId) → e.side < 2 → IsHeldRecord ((w.nodes p).records e 0) → IsHeldAt p e
-  held_lies p e low held = record { home = chain.1; top = top_zero; seat = seat_is }
-    where
-      chain : (0 ≤ kept.chains.top e) × (kept.chains.at e 0 ≡ p)
-      chain = kept.joined.alone e 0 p (record { behind = held.0; state = Held held.1 }) low held.2
-
-      recorded : IsRecorded (Some (record { behind = held.0; state = Held held.1 })) (behind_of kept.chains e 0) (kept.states e 0)
-      recorded =
-          subst (λ o. IsRecorded o (behind_of kept.chains e 0) (kept.states e 0)) held.2
-          (subst (λ (x : ℕ). IsRecorded ((w.nodes x).records e 0) (behind_of kept.chains e 0) (kept.states e 0)) chain.1 (kept.joined.records e 0 low (omega arith)))
-
-      top_zero : kept.chains.top e ≡ 0
-      top_zero = by (cases_lt 0 (kept.chains.top e))
-        where
-          by : (0 < kept.chains.top e) ⊎ (kept.chains.top e ≤ 0) → kept.chains.top e ≡ 0
-          by (inl lt) =
-              absurd (held_is_last e (kept.chains.at e 1) (traffic w.lanes kept.chains (claiming e 0)) (behind_of kept.chains e 0) held.1 held.0 (kept.states e 0) (kept.joined.left e 0 low lt) recorded)
-          by (inr le) = omega (arith, le)
-
-      seat_is : kept.seats e ≡ in_use
-      seat_is =
-          held_seat IsOver (plain.sides e) (waits_of plain e) 0 (behind_of kept.chains e 0) held.1 held.0 (kept.seats e) (kept.states e 0) recorded
-          (subst (λ (n : ℕ). IsLast IsOver (plain.sides e) (waits_of plain e) n (kept.seats e) (kept.states e n)) top_zero (kept.last e low))
-
-module _ {P Q : Type 0} (IsOver : P → Type 0) (play : Play P Q) (binds : Q → EndId → Bool) (parties : ℕ) (w : WorldAt Q) (plain : PlainAt P Q) (kept : IsOpenKept IsOver binds parties w plain)
+module _ {P Q : Type 0} (IsOver : P → Type 0) (play : Play P Q) (binds : Q → EndId → Bool) (parties : ℕ) (w : WorldAt Q) (plain : PlainAt P Q)
+    (kept : IsOpenKept IsOver binds parties w plain)
     (p : ℕ) (place : P) (from sess : ℕ) (others : List ℕ) (there : (w.nodes p).offers from ≡ sess ∷ others)
     (binds_it : BindsAlso binds (plain.programs p) (play.opened (plain.programs p) (offered_end sess)) (offered_end sess)) where
   abbrev e : EndId
@@ -182,7 +83,8 @@ module _ {P Q : Type 0} (IsOver : P → Type 0) (play : Play P Q) (binds : Q →
   abbrev plain' : PlainAt P Q
   plain' = plain_accepted_it
 
-  side_part : {X : Type 0} (f : PlainSide P → X) → ((x : PlainSide P) → f (plain_accepted x place) ≡ f x) → (d : EndId) → f (plain'.sides d) ≡ f (plain.sides d)
+  side_part : {X : Type 0} (f : PlainSide P → X) → ((x : PlainSide P) → f (plain_accepted x place) ≡ f x) → (d : EndId)
+      → f (plain'.sides d) ≡ f (plain.sides d)
   side_part f same d = by (is_same_end d e)
     where
       by : (b : Bool) → f (if b then plain_accepted (plain.sides d) place else plain.sides d) ≡ f (plain.sides d)
@@ -194,7 +96,8 @@ module _ {P Q : Type 0} (IsOver : P → Type 0) (play : Play P Q) (binds : Q →
 
   lasts : (d : EndId) → d.side < 2 → IsLast IsOver (plain'.sides d) (waits_of plain d) (c.top d) (kept.kept.seats d) (kept.kept.states d (c.top d))
   lasts d low =
-      last_by IsOver (plain.sides d) (plain'.sides d) (waits_of plain d) (waits_of plain d) (c.top d) (kept.kept.seats d) (kept.kept.states d (c.top d)) (kept.kept.last d low)
+      last_by IsOver (plain.sides d) (plain'.sides d) (waits_of plain d) (waits_of plain d) (c.top d) (kept.kept.seats d)
+      (kept.kept.states d (c.top d)) (kept.kept.last d low)
       (side_part (λ x. x.hops) (λ x. refl) d) (λ closed over none. (by (is_same_end d e) refl closed over, none))
     where
       by : (b : Bool) → is_same_end d e ≡ b → kept.kept.seats d ≡ at_its_end → IsOver (plain.sides d).place → IsOver (plain'.sides d).place
@@ -207,7 +110,9 @@ module _ {P Q : Type 0} (IsOver : P → Type 0) (play : Play P Q) (binds : Q →
   Bound k d = (d.side < 2) × (kept.kept.seats d ≡ in_use) × (c.at d (c.top d) ≡ k)
 
   bound : (k : ℕ) (d : EndId) → binds (plain'.programs k) d ≡ true → Bound k d
-  bound = bound_goes IsOver binds parties w plain kept.kept p Bound (play.opened (plain.programs p) e) (λ d b. now d ((binds_it d).0 b)) (λ k d apart b. kept.kept.bound k d b)
+  bound =
+      bound_goes IsOver binds parties w plain kept.kept p Bound (play.opened (plain.programs p) e) (λ d b. now d ((binds_it d).0 b))
+      (λ k d apart b. kept.kept.bound k d b)
     where
       now : (d : EndId) → (is_same_end d e ≡ true) ⊎ (binds (plain.programs p) d ≡ true) → Bound p d
       now d (inl t) = subst (λ x. Bound p x) (sym (same_is d e t)) (omega arith, lies.seat, ap (λ (n : ℕ). c.at e n) lies.top ∙ lies.home)
@@ -215,13 +120,15 @@ module _ {P Q : Type 0} (IsOver : P → Type 0) (play : Play P Q) (binds : Q →
 
   accept_keeps : IsKept IsOver binds parties v plain'
   accept_keeps =
-      quiet_keeps IsOver binds parties w plain plain' kept.kept (λ k. if k == p then done.node else w.nodes k) (lanes_with p [] w.lanes) kept.kept.states kept.kept.seats
+      quiet_keeps IsOver binds parties w plain plain' kept.kept (λ k. if k == p then done.node else w.nodes k) (lanes_with p [] w.lanes)
+      kept.kept.states kept.kept.seats
       (side_part (λ x. x.sent) (λ x. refl)) (side_part (λ x. x.taken) (λ x. refl)) (quiet_lane p w.lanes) (λ d k. refl)
       (λ d k i le. kept_records c kept.kept.states w.nodes p done.node (λ d k. refl) d k (kept.kept.joined.records d k i le))
       (still_there w.nodes p done.node (λ d k has. has))
       (λ d k x r i is. kept_alone c kept.kept.states w.nodes p done.node (λ d k. refl) d k (λ x r is. kept.kept.joined.alone d k x r i is) x r is)
       (λ d k lt. refl) lasts (λ d sess fs fit. fit) (λ d n a fit. fit)
-      (program_goes IsOver binds parties w plain kept.kept p done.node (play.opened (plain.programs p) e) (ap (λ g. play.opened g e) (kept.kept.programs p)))
+      (program_goes IsOver binds parties w plain kept.kept p done.node (play.opened (plain.programs p) e)
+      (ap (λ g. play.opened g e) (kept.kept.programs p)))
       (λ d i s. uses_stay w.nodes p done.node (λ d. refl) (c.at d (c.top d)) d ∙ kept.kept.uses d i s) bound
 
   -- ---- what is open
@@ -240,7 +147,8 @@ module _ {P Q : Type 0} (IsOver : P → Type 0) (play : Play P Q) (binds : Q →
   offers_at : (q k : ℕ) → (v.nodes k).offers q ≡ (if (q == from) && (k == p) then others else (w.nodes k).offers q)
   offers_at q k = by (k == p) (q == from) refl refl
     where
-      by : (a b : Bool) → (k == p) ≡ a → (q == from) ≡ b → (if a then done.node else w.nodes k).offers q ≡ (if b && a then others else (w.nodes k).offers q)
+      by : (a b : Bool) → (k == p) ≡ a → (q == from) ≡ b
+          → (if a then done.node else w.nodes k).offers q ≡ (if b && a then others else (w.nodes k).offers q)
       by true true t u =
           ap (λ (b : Bool). if b then without sess ((w.nodes p).offers from) else (w.nodes p).offers q) u
           ∙ ap (λ (l : List ℕ). without sess l) there ∙ without_first sess others above_others
@@ -255,10 +163,13 @@ module _ {P Q : Type 0} (IsOver : P → Type 0) (play : Play P Q) (binds : Q →
 
   offers_now : (q k : ℕ) → (v.nodes k).offers q ++ opened_in (v.lanes q k) ≡ plain'.offers q k
   offers_now q k =
-      ap (λ (l : List ℕ). (v.nodes k).offers q ++ l) (lane_same q k) ∙ ap (λ (l : List ℕ). l ++ opened_in (w.lanes q k)) (offers_at q k) ∙ by ((q == from) && (k == p)) refl
+      ap (λ (l : List ℕ). (v.nodes k).offers q ++ l) (lane_same q k) ∙ ap (λ (l : List ℕ). l ++ opened_in (w.lanes q k)) (offers_at q k)
+      ∙ by ((q == from) && (k == p)) refl
     where
-      by : (b : Bool) → ((q == from) && (k == p)) ≡ b → (if b then others else (w.nodes k).offers q) ++ opened_in (w.lanes q k) ≡ (if b then later else plain.offers q k)
-      by true t = ap (λ (x : ℕ). others ++ opened_in (w.lanes x k)) (both q k t).0 ∙ ap (λ (y : ℕ). others ++ opened_in (w.lanes from y)) (both q k t).1
+      by : (b : Bool) → ((q == from) && (k == p)) ≡ b
+          → (if b then others else (w.nodes k).offers q) ++ opened_in (w.lanes q k) ≡ (if b then later else plain.offers q k)
+      by true t =
+          ap (λ (x : ℕ). others ++ opened_in (w.lanes x k)) (both q k t).0 ∙ ap (λ (y : ℕ). others ++ opened_in (w.lanes from y)) (both q k t).1
       by false t = kept.offers q k
 
   -- an end that is offered to a party begins its chain there
@@ -280,7 +191,8 @@ module _ {P Q : Type 0} (IsOver : P → Type 0) (play : Play P Q) (binds : Q →
       by : (b : Bool) → ((q == from) && (k == p)) ≡ b → AllByRecursion IsOther (if b then later else plain.offers q k)
       by true t = all_map (λ m. sess < m) IsOther (λ m lt. ne_eqb m sess (λ i. omega (arith, lt, i))) later above
       by false t =
-          all_two (IsOffer plain q) (λ s. c.at (offered_end s) 0 ≡ k) IsOther (λ s o at. ne_eqb s sess (λ is. clash s o at is)) (plain.offers q k) (kept.opened q k) (homes q k)
+          all_two (IsOffer plain q) (λ s. c.at (offered_end s) 0 ≡ k) IsOther (λ s o at. ne_eqb s sess (λ is. clash s o at is)) (plain.offers q k)
+          (kept.opened q k) (homes q k)
         where
           clash : (s : ℕ) → IsOffer plain q s → c.at (offered_end s) 0 ≡ k → s ≡ sess → ⊥
           clash s o at is =
@@ -313,14 +225,18 @@ module _ {P Q : Type 0} (IsOver : P → Type 0) (play : Play P Q) (binds : Q →
       by false t = kept.opened q k
 
   held_now : (q k : ℕ) → AllByRecursion (λ s. IsHeldRecord ((v.nodes k).records (offered_end s) 0)) ((v.nodes k).offers q)
-  held_now q k = subst (λ l. AllByRecursion (λ s. IsHeldRecord ((v.nodes k).records (offered_end s) 0)) l) (sym (offers_at q k)) (by ((q == from) && (k == p)) refl)
+  held_now q k =
+      subst (λ l. AllByRecursion (λ s. IsHeldRecord ((v.nodes k).records (offered_end s) 0)) l) (sym (offers_at q k))
+      (by ((q == from) && (k == p)) refl)
     where
-      these : (l : List ℕ) → AllByRecursion (λ s. IsHeldRecord ((w.nodes k).records (offered_end s) 0)) l → AllByRecursion (λ s. IsHeldRecord ((v.nodes k).records (offered_end s) 0)) l
+      these : (l : List ℕ) → AllByRecursion (λ s. IsHeldRecord ((w.nodes k).records (offered_end s) 0)) l
+          → AllByRecursion (λ s. IsHeldRecord ((v.nodes k).records (offered_end s) 0)) l
       these l all =
           all_map (λ s. IsHeldRecord ((w.nodes k).records (offered_end s) 0)) (λ s. IsHeldRecord ((v.nodes k).records (offered_end s) 0))
           (λ s h. subst IsHeldRecord (sym (node_part (λ n. n.records (offered_end s) 0) refl k)) h) l all
 
-      by : (b : Bool) → ((q == from) && (k == p)) ≡ b → AllByRecursion (λ s. IsHeldRecord ((v.nodes k).records (offered_end s) 0)) (if b then others else (w.nodes k).offers q)
+      by : (b : Bool) → ((q == from) && (k == p)) ≡ b
+          → AllByRecursion (λ s. IsHeldRecord ((v.nodes k).records (offered_end s) 0)) (if b then others else (w.nodes k).offers q)
       by true t =
           these others
           (subst (λ (x : ℕ). AllByRecursion (λ s. IsHeldRecord ((w.nodes x).records (offered_end s) 0)) others) (sym (both q k t).1)

@@ -70,31 +70,37 @@ pub record IsHeldLast {P : Type 0} (x : PlainSide P) (top : ℕ) (st : StateAt) 
   pub is : st ≡ Held untaken
   pub hops : x.hops ≡ top
 
-held_last : {P : Type 0} (IsOver : P → Type 0) (x : PlainSide P) (waits : List Msg) (top : ℕ) (st : StateAt) → IsLast IsOver x waits top in_use st → IsHeldLast x top st
+held_last : {P : Type 0} (IsOver : P → Type 0) (x : PlainSide P) (waits : List Msg) (top : ℕ) (st : StateAt) → IsLast IsOver x waits top in_use st
+    → IsHeldLast x top st
 held_last IsOver x waits top (Held ms) last = record { untaken = ms; is = refl; hops = last }
 held_last IsOver x waits top (Parked ms) last = absurd last
 held_last IsOver x waits top (Passing p) last = absurd last
 held_last IsOver x waits top Closed last = absurd last
 
-module _ {P Q : Type 0} (IsOver : P → Type 0) (binds : Q → EndId → Bool) (parties : ℕ) (w : WorldAt Q) (plain : PlainAt P Q) (kept : IsKept IsOver binds parties w plain) (p : ℕ) where
+module _ {P Q : Type 0} (IsOver : P → Type 0) (binds : Q → EndId → Bool) (parties : ℕ) (w : WorldAt Q) (plain : PlainAt P Q)
+    (kept : IsKept IsOver binds parties w plain) (p : ℕ) where
   -- what is known of an end that the party binds
   pub record IsHeldHere (e : EndId) : Type 0 where
     pub low : e.side < 2
     pub seat : kept.seats e ≡ in_use
     pub at : kept.chains.at e (kept.chains.top e) ≡ p
     pub held : IsHeldLast (plain.sides e) (kept.chains.top e) (kept.states e (kept.chains.top e))
-    pub found : held_of (w.nodes p) e ≡ Some (record { hop = kept.chains.top e; behind = behind_of kept.chains e (kept.chains.top e); untaken = held.untaken })
+    pub found : held_of (w.nodes p) e
+        ≡ Some (record { hop = kept.chains.top e; behind = behind_of kept.chains e (kept.chains.top e); untaken = held.untaken })
 
   pub held_here : (e : EndId) → binds (plain.programs p) e ≡ true → IsHeldHere e
   held_here e b =
       let known = kept.bound p e b in
       let last : IsLast IsOver (plain.sides e) (waits_of plain e) (kept.chains.top e) in_use (kept.states e (kept.chains.top e)) =
-      subst (λ s. IsLast IsOver (plain.sides e) (waits_of plain e) (kept.chains.top e) s (kept.states e (kept.chains.top e))) known.1 (kept.last e known.0) in
+      subst (λ s. IsLast IsOver (plain.sides e) (waits_of plain e) (kept.chains.top e) s (kept.states e (kept.chains.top e))) known.1
+      (kept.last e known.0) in
       let held = held_last IsOver (plain.sides e) (waits_of plain e) (kept.chains.top e) (kept.states e (kept.chains.top e)) last in
-      let use_is : (w.nodes p).uses e ≡ Some (kept.chains.top e) = subst (λ (x : ℕ). (w.nodes x).uses e ≡ Some (kept.chains.top e)) known.2 (kept.uses e known.0 known.1) in
+      let use_is : (w.nodes p).uses e ≡ Some (kept.chains.top e) =
+      subst (λ (x : ℕ). (w.nodes x).uses e ≡ Some (kept.chains.top e)) known.2 (kept.uses e known.0 known.1) in
       let there : (w.nodes p).records e (kept.chains.top e) ≡ record_with (behind_of kept.chains e (kept.chains.top e)) (Held held.untaken) =
       subst (λ s. IsRecorded ((w.nodes p).records e (kept.chains.top e)) (behind_of kept.chains e (kept.chains.top e)) s) held.is
-      (subst (λ (x : ℕ). IsRecorded ((w.nodes x).records e (kept.chains.top e)) (behind_of kept.chains e (kept.chains.top e)) (kept.states e (kept.chains.top e))) known.2
+      (subst (λ (x : ℕ). IsRecorded ((w.nodes x).records e (kept.chains.top e)) (behind_of kept.chains e (kept.chains.top e))
+      (kept.states e (kept.chains.top e))) known.2
       (kept.joined.records e (kept.chains.top e) known.0 (omega arith))) in
       record {
         low = known.0;
@@ -106,7 +112,8 @@ module _ {P Q : Type 0} (IsOver : P → Type 0) (binds : Q → EndId → Bool) (
       }
 
   -- the programs once the party's goes on
-  pub program_goes : (n : NodeAt Q) (g : Q) → n.program ≡ g → (k : ℕ) → (if k == p then n else w.nodes k).program ≡ (if k == p then g else plain.programs k)
+  pub program_goes : (n : NodeAt Q) (g : Q) → n.program ≡ g → (k : ℕ)
+      → (if k == p then n else w.nodes k).program ≡ (if k == p then g else plain.programs k)
   program_goes n g is k = by (k == p)
     where
       by : (b : Bool) → (if b then n else w.nodes k).program ≡ (if b then g else plain.programs k)
@@ -114,7 +121,8 @@ module _ {P Q : Type 0} (IsOver : P → Type 0) (binds : Q → EndId → Bool) (
       by false = kept.programs k
 
   -- what the programs bind then
-  pub bound_goes : (F : ℕ → EndId → Type 0) (g : Q) → ((d : EndId) → binds g d ≡ true → F p d) → ((k : ℕ) (d : EndId) → (k ≡ p → ⊥) → binds (plain.programs k) d ≡ true → F k d)
+  pub bound_goes : (F : ℕ → EndId → Type 0) (g : Q) → ((d : EndId) → binds g d ≡ true → F p d)
+      → ((k : ℕ) (d : EndId) → (k ≡ p → ⊥) → binds (plain.programs k) d ≡ true → F k d)
       → (k : ℕ) (d : EndId) → binds (if k == p then g else plain.programs k) d ≡ true → F k d
   bound_goes F g here away k d = by (k == p) refl
     where
@@ -146,12 +154,19 @@ module _ {P Q : Type 0} (IsOver : P → Type 0) (binds : Q → EndId → Bool) (
     pub names_left : (d : EndId) (n : ℕ) (m : Msg) (hop : ℕ) → NamesFit kept.chains kept.seats d n m hop → NamesFit kept.chains seats_left d n m hop
     names_left d n (msgs.Sess sess side k) hop fit = by (is_same_end (record { sess = sess; side = side }) y) refl
       where
-        by : (b : Bool) → is_same_end (record { sess = sess; side = side }) y ≡ b → IsNamed kept.chains seats_left d n (record { sess = sess; side = side }) k hop
+        by : (b : Bool) → is_same_end (record { sess = sess; side = side }) y ≡ b
+            → IsNamed kept.chains seats_left d n (record { sess = sess; side = side }) k hop
         by true t =
             let way : kept.seats y ≡ on_its_way d n = ap kept.seats (sym (same_is (record { sess = sess; side = side }) y t)) ∙ fit.seat in
             let bad : true ≡ false = ap is_in_use (sym held.seat ∙ way) in
             absurd (cc bad)
-        by false t = record { below = fit.below; seat = seat_away (record { sess = sess; side = side }) t ∙ fit.seat; keeper_is = fit.keeper_is; hop_is = fit.hop_is }
+        by false t = record {
+          below = fit.below;
+          seat = seat_away (record { sess = sess; side = side }) t
+              ∙ fit.seat;
+          keeper_is = fit.keeper_is;
+          hop_is = fit.hop_is;
+        }
     names_left d n (msgs.Int x) hop fit = tt
     names_left d n (msgs.Bool x) hop fit = tt
     names_left d n (msgs.Text x) hop fit = tt
@@ -164,28 +179,34 @@ module _ {P Q : Type 0} (IsOver : P → Type 0) (binds : Q → EndId → Bool) (
 
     pub bound_left : (g : Q) → ((d : EndId) → binds g d ≡ true → (binds (plain.programs p) d ≡ true) × (is_same_end d y ≡ false))
         → (k : ℕ) (d : EndId) → binds (if k == p then g else plain.programs k) d ≡ true → BoundLeft k d
-    bound_left g less = bound_goes BoundLeft g (λ d b. let known = kept.bound p d (less d b).0 in (known.0, seat_away d (less d b).1 ∙ known.1, known.2)) away
+    bound_left g less =
+        bound_goes BoundLeft g (λ d b. let known = kept.bound p d (less d b).0 in (known.0, seat_away d (less d b).1 ∙ known.1, known.2)) away
       where
         away : (k : ℕ) (d : EndId) → (k ≡ p → ⊥) → binds (plain.programs k) d ≡ true → BoundLeft k d
         away k d apart b = by (is_same_end d y) refl
           where
             by : (t : Bool) → is_same_end d y ≡ t → BoundLeft k d
             by true t =
-                let there : kept.chains.at y (kept.chains.top y) ≡ k = subst (λ x. kept.chains.at x (kept.chains.top x) ≡ k) (same_is d y t) (kept.bound k d b).2 in
+                let there : kept.chains.at y (kept.chains.top y) ≡ k =
+                subst (λ x. kept.chains.at x (kept.chains.top x) ≡ k) (same_is d y t) (kept.bound k d b).2 in
                 absurd (apart (sym there ∙ held.at))
             by false t = let known = kept.bound k d b in (known.0, seat_away d t ∙ known.1, known.2)
 
     -- the ends in use
-    pub uses_left : (n : NodeAt Q) → ((d : EndId) → is_same_end d y ≡ false → n.uses d ≡ (w.nodes p).uses d) → (d : EndId) → d.side < 2 → seats_left d ≡ in_use
+    pub uses_left : (n : NodeAt Q) → ((d : EndId) → is_same_end d y ≡ false → n.uses d ≡ (w.nodes p).uses d) → (d : EndId) → d.side < 2
+        → seats_left d ≡ in_use
         → (if kept.chains.at d (kept.chains.top d) == p then n else w.nodes (kept.chains.at d (kept.chains.top d))).uses d ≡ Some (kept.chains.top d)
     uses_left n same d i used = by (is_same_end d y) refl
       where
-        by : (t : Bool) → is_same_end d y ≡ t → (if kept.chains.at d (kept.chains.top d) == p then n else w.nodes (kept.chains.at d (kept.chains.top d))).uses d ≡ Some (kept.chains.top d)
+        by : (t : Bool) → is_same_end d y ≡ t
+            → (if kept.chains.at d (kept.chains.top d) == p then n else w.nodes (kept.chains.at d (kept.chains.top d))).uses d
+            ≡ Some (kept.chains.top d)
         by true t =
             let bad : true ≡ false = sym (ap is_in_use (sym (ap (λ (b : Bool). if b then s else kept.seats d) t) ∙ used)) ∙ not_used in
             absurd (cc bad)
         by false t = at (kept.chains.at d (kept.chains.top d) == p) refl ∙ kept.uses d i (sym (seat_away d t) ∙ used)
           where
-            at : (b : Bool) → (kept.chains.at d (kept.chains.top d) == p) ≡ b → (if b then n else w.nodes (kept.chains.at d (kept.chains.top d))).uses d ≡ (w.nodes (kept.chains.at d (kept.chains.top d))).uses d
+            at : (b : Bool) → (kept.chains.at d (kept.chains.top d) == p) ≡ b
+                → (if b then n else w.nodes (kept.chains.at d (kept.chains.top d))).uses d ≡ (w.nodes (kept.chains.at d (kept.chains.top d))).uses d
             at true u = same d t ∙ ap (λ (x : ℕ). (w.nodes x).uses d) (sym (eqb-true (kept.chains.at d (kept.chains.top d)) p u))
             at false u = refl

@@ -79,15 +79,20 @@ module _ (c : Chains) (y : EndId) (p : ℕ) where
     goal = goal_old (road_of f) on.there ∙ on.goal;
   }
 
-  pub lanes_old : (lanes : Lanes) → ((from to : ℕ) → AllByRecursion (IsOnRoad c from to) (lanes from to)) → (from to : ℕ) → AllByRecursion (IsOnRoad longer from to) (lanes from to)
+  pub lanes_old : (lanes : Lanes) → ((from to : ℕ) → AllByRecursion (IsOnRoad c from to) (lanes from to)) → (from to : ℕ)
+      → AllByRecursion (IsOnRoad longer from to) (lanes from to)
   lanes_old lanes all from to = all_map (IsOnRoad c from to) (IsOnRoad longer from to) (on_old from to) (lanes from to) (all from to)
 
   pub traffic_old : (lanes : Lanes) (r : Road) → IsThere c r → traffic lanes longer r ≡ traffic lanes c r
   traffic_old lanes r there =
-      ap (λ (s : ℕ). on_road r (lanes s (goal_of longer r))) (start_old r there) ∙ ap (λ (g : ℕ). on_road r (lanes (start_of c r) g)) (goal_old r there)
+      ap (λ (s : ℕ). on_road r (lanes s (goal_of longer r))) (start_old r there)
+      ∙ ap (λ (g : ℕ). on_road r (lanes (start_of c r) g)) (goal_old r there)
 
-  pub traffic_none : (lanes : Lanes) → ((from to : ℕ) → AllByRecursion (IsOnRoad c from to) (lanes from to)) → (r : Road) → (IsThere c r → ⊥) → traffic lanes longer r ≡ []
-  traffic_none lanes all r not = none_there c (start_of longer r) (goal_of longer r) (lanes (start_of longer r) (goal_of longer r)) r (all (start_of longer r) (goal_of longer r)) not
+  pub traffic_none : (lanes : Lanes) → ((from to : ℕ) → AllByRecursion (IsOnRoad c from to) (lanes from to)) → (r : Road) → (IsThere c r → ⊥)
+      → traffic lanes longer r ≡ []
+  traffic_none lanes all r not =
+      none_there c (start_of longer r) (goal_of longer r) (lanes (start_of longer r) (goal_of longer r)) r
+      (all (start_of longer r) (goal_of longer r)) not
 
   -- a hop below the last one that isn't the one before it
   pub below_old : (d : EndId) (k : ℕ) → (is_same_end d y && (k == c.top y)) ≡ false → k < longer.top d → k < c.top d

@@ -103,13 +103,16 @@ pub nil_last : (part : ℕ → List SentAt) (t : ℕ) → from_last part t ≡ [
 nil_last part zero e = e
 nil_last part (suc k) e = nil_front (part (suc k)) (from_last part k) e
 
-module _ {P Q : Type 0} (IsOver : P → Type 0) (binds : Q → EndId → Bool) (parties : ℕ) (w : WorldAt Q) (plain : PlainAt P Q) (kept : IsKept IsOver binds parties w plain) where
+module _ {P Q : Type 0} (IsOver : P → Type 0) (binds : Q → EndId → Bool) (parties : ℕ) (w : WorldAt Q) (plain : PlainAt P Q)
+    (kept : IsKept IsOver binds parties w plain) where
   -- nothing is at the last record of an end for which nothing waits
   pub nothing_here : (e : EndId) → e.side < 2 → waits_of plain e ≡ [] → in_part w.lanes kept.chains kept.states e (kept.chains.top e) ≡ []
   nothing_here e low none =
-      let all : pipe w.lanes kept.chains kept.states e ≡ [] = nil_of_map (λ m. m.msg) (pipe w.lanes kept.chains kept.states e) (kept.waits e low ∙ none) in
+      let all : pipe w.lanes kept.chains kept.states e ≡ [] =
+      nil_of_map (λ m. m.msg) (pipe w.lanes kept.chains kept.states e) (kept.waits e low ∙ none) in
       nil_last (in_part w.lanes kept.chains kept.states e) (kept.chains.top e)
-      (nil_front (from_last (in_part w.lanes kept.chains kept.states e) (kept.chains.top e)) (from_first (out_part w.lanes kept.chains kept.states (other_end e)) (kept.chains.top (other_end e))) all)
+      (nil_front (from_last (in_part w.lanes kept.chains kept.states e) (kept.chains.top e))
+      (from_first (out_part w.lanes kept.chains kept.states (other_end e)) (kept.chains.top (other_end e))) all)
 
   module _ (q p : ℕ) where
     -- no message comes to a closed record
@@ -135,19 +138,24 @@ module _ {P Q : Type 0} (IsOver : P → Type 0) (binds : Q → EndId → Bool) (
 
         came_first : kept.seats e ≡ in_open → ⊥
         came_first i =
-            let top : kept.chains.top e ≡ 0 = open_top IsOver (plain.sides e) (waits_of plain e) (kept.chains.top e) (kept.seats e) (kept.states e (kept.chains.top e)) i (kept.last e on.there.0) in
+            let top : kept.chains.top e ≡ 0 =
+            open_top IsOver (plain.sides e) (waits_of plain e) (kept.chains.top e) (kept.seats e) (kept.states e (kept.chains.top e)) i
+            (kept.last e on.there.0) in
             first (kept.seats e) i (omega (arith, top, on.there.1)) (kept.opens e on.there.0)
 
         by : (h < kept.chains.top e) ⊎ (kept.chains.top e ≤ h) → ⊥
-        by (inl lt) = subst (λ s. IsLeft e h (kept.chains.at e (suc h)) (traffic w.lanes kept.chains (claiming e h)) s) is (kept.joined.left e h on.there.0 lt)
+        by (inl lt) =
+            subst (λ s. IsLeft e h (kept.chains.at e (suc h)) (traffic w.lanes kept.chains (claiming e h)) s) is (kept.joined.left e h on.there.0 lt)
         by (inr le) =
             let i : kept.chains.top e ≡ h = omega (arith, le, on.there.1) in
             let closed : kept.states e (kept.chains.top e) ≡ Closed = ap (λ (x : ℕ). kept.states e x) i ∙ is in
             let none : waits_of plain e ≡ [] =
             closed_last IsOver (plain.sides e) (waits_of plain e) (kept.chains.top e) (kept.seats e) came_first
             (subst (λ s. IsLast IsOver (plain.sides e) (waits_of plain e) (kept.chains.top e) (kept.seats e) s) closed (kept.last e on.there.0)) in
-            let part : in_part w.lanes kept.chains kept.states e h ≡ [] = subst (λ (x : ℕ). in_part w.lanes kept.chains kept.states e x ≡ []) i (nothing_here e on.there.0 none) in
-            let there : messages_in (traffic w.lanes kept.chains (inward e h)) ≡ [] = nil_back (stored (kept.states e h)) (messages_in (traffic w.lanes kept.chains (inward e h))) part in
+            let part : in_part w.lanes kept.chains kept.states e h ≡ [] =
+            subst (λ (x : ℕ). in_part w.lanes kept.chains kept.states e x ≡ []) i (nothing_here e on.there.0 none) in
+            let there : messages_in (traffic w.lanes kept.chains (inward e h)) ≡ [] =
+            nil_back (stored (kept.states e h)) (messages_in (traffic w.lanes kept.chains (inward e h))) part in
             let one = came w kept.chains kept.states kept.joined q p e h m rest front in
             cc (there, one)
 
@@ -156,7 +164,8 @@ module _ {P Q : Type 0} (IsOver : P → Type 0) (binds : Q → EndId → Bool) (
     front_arrives (In e h m) rest none front =
         let on : IsOnRoad kept.chains q p (In e h m) = (subst (λ l. AllByRecursion (IsOnRoad kept.chains q p) l) front (kept.joined.lanes q p)).0 in
         in_arrives w kept.chains kept.states kept.joined q p e h m rest front (not_closed e h m rest front)
-        (last_no_passing IsOver (plain.sides e) (waits_of plain e) (kept.chains.top e) (kept.seats e) (kept.states e (kept.chains.top e)) (kept.last e on.there.0))
+        (last_no_passing IsOver (plain.sides e) (waits_of plain e) (kept.chains.top e) (kept.seats e) (kept.states e (kept.chains.top e))
+        (kept.last e on.there.0))
     front_arrives (Out e h m) rest none front = out_arrives w kept.chains kept.states kept.joined q p e m rest h front
     front_arrives (Claim e h) rest none front = claim_arrives w kept.chains kept.states kept.joined q p e h rest front
     front_arrives (Open sess) rest none front = absurd (cc none)
@@ -170,7 +179,8 @@ module _ {P Q : Type 0} (IsOver : P → Type 0) (binds : Q → EndId → Bool) (
     joined = moved.joined;
     below = kept.below;
     opens = λ e low. moved.opens e (kept.seats e) (kept.opens e low);
-    last = λ e low. alike_last IsOver (plain.sides e) (waits_of plain e) (kept.chains.top e) (kept.seats e) (kept.states e (kept.chains.top e)) (moved.after e (kept.chains.top e)) (moved.lasts e low) (kept.last e low);
+    last = λ e low. alike_last IsOver (plain.sides e) (waits_of plain e) (kept.chains.top e) (kept.seats e) (kept.states e (kept.chains.top e))
+        (moved.after e (kept.chains.top e)) (moved.lasts e low) (kept.last e low);
     waits = λ e low. ap (λ l. map (λ m. m.msg) l) (moved.pipes e low) ∙ kept.waits e low;
     names = λ e n m low is. kept.names e n m low (ap (λ l. slice_get l n) (sym (moved.pipes e low)) ∙ is);
     programs = λ k. moved.programs k ∙ kept.programs k;

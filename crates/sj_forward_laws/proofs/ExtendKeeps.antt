@@ -22,10 +22,12 @@ use Rattle.sj_forward_laws.proofs.RoadLemmas.{road_self, IsPost, push_same, push
 use Rattle.sj_forward_laws.proofs.OpensLemmas.{OpensLike}
 use Rattle.sj_forward_laws.proofs.StayLemmas.{Stays}
 use Rattle.sj_forward_laws.proofs.RecordLemmas.{written, written_here, written_away, for_all, record_with}
-use Rattle.sj_forward_laws.proofs.ChainLemmas.{longer, not_new, at_old, at_new, top_old, top_new, top_more, behind_old, lanes_old, within, traffic_old, traffic_none, below_old}
+use Rattle.sj_forward_laws.proofs.ChainLemmas.{longer, not_new, at_old, at_new, top_old, top_new, top_more, behind_old, lanes_old, within}
+use Rattle.sj_forward_laws.proofs.ChainLemmas.{traffic_old, traffic_none, below_old}
 
 -- a record of an end on its way is Parked, and waits for its Claim
-parked_left : {P : Type 0} (IsOver : P → Type 0) (x : PlainSide P) (waits : List Msg) (e : EndId) (top n next : ℕ) (d : EndId) (claims : List FrameAt) (st : StateAt)
+parked_left : {P : Type 0} (IsOver : P → Type 0) (x : PlainSide P) (waits : List Msg) (e : EndId) (top n next : ℕ) (d : EndId)
+    (claims : List FrameAt) (st : StateAt)
     → claims ≡ Claim e top ∷ [] → IsLast IsOver x waits top (on_its_way d n) st → IsLeft e top next claims st
 parked_left IsOver x waits e top n next d claims (Parked ms) one last = one
 parked_left IsOver x waits e top n next d claims (Held ms) one last = absurd last
@@ -33,7 +35,8 @@ parked_left IsOver x waits e top n next d claims (Passing q) one last = absurd l
 parked_left IsOver x waits e top n next d claims Closed one last = absurd last
 
 -- and it was delegated once more than it was taken
-hops_on_way : {P : Type 0} (IsOver : P → Type 0) (x : PlainSide P) (waits : List Msg) (top n : ℕ) (d : EndId) (st : StateAt) → IsLast IsOver x waits top (on_its_way d n) st → x.hops ≡ suc top
+hops_on_way : {P : Type 0} (IsOver : P → Type 0) (x : PlainSide P) (waits : List Msg) (top n : ℕ) (d : EndId) (st : StateAt)
+    → IsLast IsOver x waits top (on_its_way d n) st → x.hops ≡ suc top
 hops_on_way IsOver x waits top n d (Parked ms) last = last
 hops_on_way IsOver x waits top n d (Held ms) last = absurd last
 hops_on_way IsOver x waits top n d (Passing q) last = absurd last
@@ -44,25 +47,30 @@ abbrev pub IsPlaced : {P : Type 0} → (named : P) → (is_it : Bool) → PlainS
 IsPlaced named true x z = z ≡ plain_placed x named
 IsPlaced named false x z = z ≡ x
 
-placed_part : {P X : Type 0} (named : P) (f : PlainSide P → X) → ((x : PlainSide P) → f (plain_placed x named) ≡ f x) → (b : Bool) (x z : PlainSide P) → IsPlaced named b x z → f z ≡ f x
+placed_part : {P X : Type 0} (named : P) (f : PlainSide P → X) → ((x : PlainSide P) → f (plain_placed x named) ≡ f x)
+    → (b : Bool) (x z : PlainSide P) → IsPlaced named b x z → f z ≡ f x
 placed_part named f same true x z is = ap f is ∙ same x
 placed_part named f same false x z is = ap f is
 
-module _ {P Q : Type 0} (IsOver : P → Type 0) (binds : Q → EndId → Bool) (parties : ℕ) (w : WorldAt Q) (plain plain' : PlainAt P Q) (kept : IsKept IsOver binds parties w plain)
+module _ {P Q : Type 0} (IsOver : P → Type 0) (binds : Q → EndId → Bool) (parties : ℕ) (w : WorldAt Q) (plain plain' : PlainAt P Q)
+    (kept : IsKept IsOver binds parties w plain)
     (y e0 : EndId) (low : y.side < 2) (p n0 keeper : ℕ) (named : P) (nodes' : ℕ → NodeAt Q)
     (p_below : p < parties) (sides : (d : EndId) → IsPlaced named (is_same_end d y) (plain.sides d) (plain'.sides d))
     (keeper_is : kept.chains.at y (kept.chains.top y) ≡ keeper) (seat : kept.seats y ≡ on_its_way e0 n0)
     (gone : (d : EndId) (n : ℕ) → kept.seats y ≡ on_its_way d ((plain.sides d).taken + n) → ⊥)
-    (recs_old : (d : EndId) (k : ℕ) → d.side < 2 → k ≤ kept.chains.top d → IsRecorded ((nodes' (kept.chains.at d k)).records d k) (behind_of kept.chains d k) (kept.states d k))
+    (recs_old : (d : EndId) (k : ℕ) → d.side < 2 → k ≤ kept.chains.top d
+    → IsRecorded ((nodes' (kept.chains.at d k)).records d k) (behind_of kept.chains d k) (kept.states d k))
     (stays : (x : ℕ) → Stays (w.nodes x) (nodes' x))
     (alone_now : (d : EndId) (k x : ℕ) (r : RecordAt) → d.side < 2 → (nodes' x).records d k ≡ Some r
     → IsInChain kept.chains d k x ⊎ (((is_same_end d y && (k == suc (kept.chains.top y))) ≡ true) × (x ≡ p)))
     (rec_new : (nodes' p).records y (suc (kept.chains.top y)) ≡ Some (record { behind = keeper; state = Held [] }))
     (uses_new : (nodes' p).uses y ≡ Some (suc (kept.chains.top y)))
-    (uses_old : (d : EndId) → is_same_end d y ≡ false → d.side < 2 → kept.seats d ≡ in_use → (nodes' (kept.chains.at d (kept.chains.top d))).uses d ≡ Some (kept.chains.top d))
+    (uses_old : (d : EndId) → is_same_end d y ≡ false → d.side < 2 → kept.seats d ≡ in_use
+    → (nodes' (kept.chains.at d (kept.chains.top d))).uses d ≡ Some (kept.chains.top d))
     (programs : (k : ℕ) → (nodes' k).program ≡ plain'.programs k)
     (bound : (k : ℕ) (d : EndId) → binds (plain'.programs k) d ≡ true
-    → ((is_same_end d y ≡ true) × (k ≡ p)) ⊎ ((is_same_end d y ≡ false) × (d.side < 2) × (kept.seats d ≡ in_use) × (kept.chains.at d (kept.chains.top d) ≡ k)))
+    → ((is_same_end d y ≡ true) × (k ≡ p))
+    ⊎ ((is_same_end d y ≡ false) × (d.side < 2) × (kept.seats d ≡ in_use) × (kept.chains.at d (kept.chains.top d) ≡ k)))
   where
     abbrev c : Chains
     c = kept.chains
@@ -88,7 +96,8 @@ module _ {P Q : Type 0} (IsOver : P → Type 0) (binds : Q → EndId → Bool) (
     waits_same : (d : EndId) → waits_of plain' d ≡ waits_of plain d
     waits_same d =
         ap (λ l. drop (plain'.sides d).taken l)
-        (placed_part named (λ x. x.sent) (λ x. refl) (is_same_end (other_end d) y) (plain.sides (other_end d)) (plain'.sides (other_end d)) (sides (other_end d)))
+        (placed_part named (λ x. x.sent) (λ x. refl) (is_same_end (other_end d) y) (plain.sides (other_end d)) (plain'.sides (other_end d))
+        (sides (other_end d)))
         ∙ ap (λ (n : ℕ). drop n (plain.sides (other_end d)).sent) (taken_same d)
 
     mails : AllByRecursion (IsPost c' (claiming y (c.top y))) posts_claim
@@ -111,39 +120,49 @@ module _ {P Q : Type 0} (IsOver : P → Type 0) (binds : Q → EndId → Bool) (
     records : (d : EndId) (k : ℕ) → d.side < 2 → k ≤ c'.top d → IsRecorded ((nodes' (c'.at d k)).records d k) (behind_of c' d k) (states' d k)
     records d k i le =
         for_all (λ d k. d.side < 2 → k ≤ c'.top d → IsRecorded ((nodes' (c'.at d k)).records d k) (behind_of c' d k) (states' d k)) y (suc (c.top y))
-        (λ _ _. subst (λ s. IsRecorded ((nodes' (c'.at y (suc (c.top y)))).records y (suc (c.top y))) (behind_of c' y (suc (c.top y))) s) (sym new_state)
+        (λ _ _. subst (λ s. IsRecorded ((nodes' (c'.at y (suc (c.top y)))).records y (suc (c.top y))) (behind_of c' y (suc (c.top y))) s)
+        (sym new_state)
         (ap (λ (x : ℕ). (nodes' x).records y (suc (c.top y))) (at_new c y p) ∙ rec_new
         ∙ ap (λ (x : ℕ). record_with x (Held [])) (sym keeper_is ∙ sym (at_old c y p y (c.top y) (omega arith)))))
         d k (λ apart i le. old d k apart i le) i le
       where
-        old : (d : EndId) (k : ℕ) → (is_same_end d y && (k == suc (c.top y))) ≡ false → d.side < 2 → k ≤ c'.top d → IsRecorded ((nodes' (c'.at d k)).records d k) (behind_of c' d k) (states' d k)
+        old : (d : EndId) (k : ℕ) → (is_same_end d y && (k == suc (c.top y))) ≡ false → d.side < 2 → k ≤ c'.top d
+            → IsRecorded ((nodes' (c'.at d k)).records d k) (behind_of c' d k) (states' d k)
         old d k apart i le =
             let less : k ≤ c.top d = within c y p d k apart le in
             subst (λ s. IsRecorded ((nodes' (c'.at d k)).records d k) (behind_of c' d k) s) (sym (old_state d k less))
             (subst (λ (x : ℕ). IsRecorded ((nodes' (c'.at d k)).records d k) x (kept.states d k)) (sym (behind_old c y p d k less))
-            (subst (λ (x : ℕ). IsRecorded ((nodes' x).records d k) (behind_of c d k) (kept.states d k)) (sym (at_old c y p d k less)) (recs_old d k i less)))
+            (subst (λ (x : ℕ). IsRecorded ((nodes' x).records d k) (behind_of c d k) (kept.states d k)) (sym (at_old c y p d k less))
+            (recs_old d k i less)))
 
     there_now : (d : EndId) (k : ℕ) → d.side < 2 → 0 < k → k ≤ c'.top d → HasRecord (nodes' (c'.at d k)) d k
     there_now d k i some le =
         for_all (λ d k. d.side < 2 → 0 < k → k ≤ c'.top d → HasRecord (nodes' (c'.at d k)) d k) y (suc (c.top y))
-        (λ i some le. subst (λ (z : ℕ). HasRecord (nodes' z) y (suc (c.top y))) (sym (at_new c y p)) (record { behind = keeper; state = Held [] }, rec_new))
+        (λ i some le. subst (λ (z : ℕ). HasRecord (nodes' z) y (suc (c.top y))) (sym (at_new c y p))
+        (record { behind = keeper; state = Held [] }, rec_new))
         d k
         (λ apart i some le.
         let less : k ≤ c.top d = within c y p d k apart le in
-        subst (λ (z : ℕ). HasRecord (nodes' z) d k) (sym (at_old c y p d k less)) (stays (c.at d k) d k (kept.joined.there d k i some less))) i some le
+        subst (λ (z : ℕ). HasRecord (nodes' z) d k) (sym (at_old c y p d k less)) (stays (c.at d k) d k (kept.joined.there d k i some less))) i
+        some le
 
     lies : (d : EndId) (k x : ℕ) → IsInChain c d k x ⊎ (((is_same_end d y && (k == suc (c.top y))) ≡ true) × (x ≡ p)) → IsInChain c' d k x
     lies d k x (inl old) = ((let le = old.0 in let more = top_more c y p d in omega (arith, le, more)), at_old c y p d k old.0 ∙ old.1)
     lies d k x (inr new) =
         let both = both_true (is_same_end d y) (k == suc (c.top y)) new.0 in
         subst (λ z. IsInChain c' z k x) (sym (same_is d y both.0))
-        (subst (λ (z : ℕ). IsInChain c' y z x) (sym (eqb-true k (suc (c.top y)) both.1)) ((let more = top_new c y p in omega (arith, more)), at_new c y p ∙ sym new.1))
+        (subst (λ (z : ℕ). IsInChain c' y z x) (sym (eqb-true k (suc (c.top y)) both.1))
+        ((let more = top_new c y p in omega (arith, more)), at_new c y p ∙ sym new.1))
 
-    lefts : (d : EndId) (k : ℕ) → d.side < 2 → k < c'.top d → IsLeft d k (c'.at d (suc k)) (traffic world_longer.lanes c' (claiming d k)) (states' d k)
+    lefts : (d : EndId) (k : ℕ) → d.side < 2 → k < c'.top d
+        → IsLeft d k (c'.at d (suc k)) (traffic world_longer.lanes c' (claiming d k)) (states' d k)
     lefts d k i lt =
-        for_all (λ d k. d.side < 2 → k < c'.top d → IsLeft d k (c'.at d (suc k)) (traffic world_longer.lanes c' (claiming d k)) (states' d k)) y (c.top y)
-        (λ _ _. subst (λ s. IsLeft y (c.top y) (c'.at y (suc (c.top y))) (traffic world_longer.lanes c' (claiming y (c.top y))) s) (sym (old_state y (c.top y) (omega arith)))
-        (parked_left IsOver (plain.sides y) (waits_of plain y) y (c.top y) n0 (c'.at y (suc (c.top y))) e0 (traffic world_longer.lanes c' (claiming y (c.top y))) (kept.states y (c.top y)) one last_old))
+        for_all (λ d k. d.side < 2 → k < c'.top d → IsLeft d k (c'.at d (suc k)) (traffic world_longer.lanes c' (claiming d k)) (states' d k)) y
+        (c.top y)
+        (λ _ _. subst (λ s. IsLeft y (c.top y) (c'.at y (suc (c.top y))) (traffic world_longer.lanes c' (claiming y (c.top y))) s)
+        (sym (old_state y (c.top y) (omega arith)))
+        (parked_left IsOver (plain.sides y) (waits_of plain y) y (c.top y) n0 (c'.at y (suc (c.top y))) e0
+        (traffic world_longer.lanes c' (claiming y (c.top y))) (kept.states y (c.top y)) one last_old))
         d k (λ apart i lt. away d k apart i lt) i lt
       where
         one : traffic world_longer.lanes c' (claiming y (c.top y)) ≡ Claim y (c.top y) ∷ []
@@ -151,12 +170,15 @@ module _ {P Q : Type 0} (IsOver : P → Type 0) (binds : Q → EndId → Bool) (
             push_here c' w.lanes p (claiming y (c.top y)) (at_new c y p) posts_claim mails
             ∙ ap (λ l. l ++ Claim y (c.top y) ∷ []) (traffic_none c y p w.lanes kept.joined.lanes (claiming y (c.top y)) (λ t. omega (arith, t.1)))
 
-        away : (d : EndId) (k : ℕ) → (is_same_end d y && (k == c.top y)) ≡ false → d.side < 2 → k < c'.top d → IsLeft d k (c'.at d (suc k)) (traffic world_longer.lanes c' (claiming d k)) (states' d k)
+        away : (d : EndId) (k : ℕ) → (is_same_end d y && (k == c.top y)) ≡ false → d.side < 2 → k < c'.top d
+            → IsLeft d k (c'.at d (suc k)) (traffic world_longer.lanes c' (claiming d k)) (states' d k)
         away d k apart i lt =
             let less : k < c.top d = below_old c y p d k apart lt in
             subst (λ s. IsLeft d k (c'.at d (suc k)) (traffic world_longer.lanes c' (claiming d k)) s) (sym (old_state d k (omega (arith, less))))
-            (subst (λ l. IsLeft d k (c'.at d (suc k)) l (kept.states d k)) (sym (pushed (claiming d k) apart ∙ traffic_old c y p w.lanes (claiming d k) (i, less)))
-            (subst (λ (x : ℕ). IsLeft d k x (traffic w.lanes c (claiming d k)) (kept.states d k)) (sym (at_old c y p d (suc k) less)) (kept.joined.left d k i less)))
+            (subst (λ l. IsLeft d k (c'.at d (suc k)) l (kept.states d k))
+            (sym (pushed (claiming d k) apart ∙ traffic_old c y p w.lanes (claiming d k) (i, less)))
+            (subst (λ (x : ℕ). IsLeft d k x (traffic w.lanes c (claiming d k)) (kept.states d k)) (sym (at_old c y p d (suc k) less))
+            (kept.joined.left d k i less)))
 
     -- ---- what is on its way
 
@@ -168,20 +190,26 @@ module _ {P Q : Type 0} (IsOver : P → Type 0) (binds : Q → EndId → Bool) (
     in_new : in_part world_longer.lanes c' states' y (suc (c.top y)) ≡ []
     in_new =
         ap (λ s. stored s ++ messages_in (traffic world_longer.lanes c' (inward y (suc (c.top y))))) new_state
-        ∙ ap (λ l. messages_in l) (pushed (inward y (suc (c.top y))) refl ∙ traffic_none c y p w.lanes kept.joined.lanes (inward y (suc (c.top y))) (λ t. omega (arith, t.1)))
+        ∙ ap (λ l. messages_in l) (pushed (inward y (suc (c.top y))) refl
+        ∙ traffic_none c y p w.lanes kept.joined.lanes (inward y (suc (c.top y))) (λ t. omega (arith, t.1)))
 
     out_old : (d : EndId) (k : ℕ) → d.side < 2 → k < c.top d → out_part world_longer.lanes c' states' d k ≡ out_part w.lanes c kept.states d k
     out_old d k i lt = ap (λ l. messages_in l) (pushed (outward d k) refl ∙ traffic_old c y p w.lanes (outward d k) (i, lt))
 
     out_new : out_part world_longer.lanes c' states' y (c.top y) ≡ []
-    out_new = ap (λ l. messages_in l) (pushed (outward y (c.top y)) refl ∙ traffic_none c y p w.lanes kept.joined.lanes (outward y (c.top y)) (λ t. omega (arith, t.1)))
+    out_new =
+        ap (λ l. messages_in l) (pushed (outward y (c.top y)) refl
+        ∙ traffic_none c y p w.lanes kept.joined.lanes (outward y (c.top y)) (λ t. omega (arith, t.1)))
 
-    ins : (d : EndId) → d.side < 2 → from_last (in_part world_longer.lanes c' states' d) (c'.top d) ≡ from_last (in_part w.lanes c kept.states d) (c.top d)
+    ins : (d : EndId) → d.side < 2 → from_last (in_part world_longer.lanes c' states' d) (c'.top d)
+        ≡ from_last (in_part w.lanes c kept.states d) (c.top d)
     ins d i = by (is_same_end d y) refl
       where
-        by : (b : Bool) → is_same_end d y ≡ b → from_last (in_part world_longer.lanes c' states' d) (c'.top d) ≡ from_last (in_part w.lanes c kept.states d) (c.top d)
+        by : (b : Bool) → is_same_end d y ≡ b
+            → from_last (in_part world_longer.lanes c' states' d) (c'.top d) ≡ from_last (in_part w.lanes c kept.states d) (c.top d)
         by true t =
-            subst (λ x. from_last (in_part world_longer.lanes c' states' x) (c'.top x) ≡ from_last (in_part w.lanes c kept.states x) (c.top x)) (sym (same_is d y t))
+            subst (λ x. from_last (in_part world_longer.lanes c' states' x) (c'.top x) ≡ from_last (in_part w.lanes c kept.states x) (c.top x))
+            (sym (same_is d y t))
             (ap (λ (n : ℕ). from_last (in_part world_longer.lanes c' states' y) n) (top_new c y p)
             ∙ ap (λ z. z ++ from_last (in_part world_longer.lanes c' states' y) (c.top y)) in_new
             ∙ same_last (in_part w.lanes c kept.states y) (in_part world_longer.lanes c' states' y) (c.top y) (λ k le. in_old y k low le))
@@ -189,12 +217,15 @@ module _ {P Q : Type 0} (IsOver : P → Type 0) (binds : Q → EndId → Bool) (
             ap (λ (n : ℕ). from_last (in_part world_longer.lanes c' states' d) n) (top_old c y p d t)
             ∙ same_last (in_part w.lanes c kept.states d) (in_part world_longer.lanes c' states' d) (c.top d) (λ k le. in_old d k i le)
 
-    outs : (d : EndId) → d.side < 2 → from_first (out_part world_longer.lanes c' states' d) (c'.top d) ≡ from_first (out_part w.lanes c kept.states d) (c.top d)
+    outs : (d : EndId) → d.side < 2
+        → from_first (out_part world_longer.lanes c' states' d) (c'.top d) ≡ from_first (out_part w.lanes c kept.states d) (c.top d)
     outs d i = by (is_same_end d y) refl
       where
-        by : (b : Bool) → is_same_end d y ≡ b → from_first (out_part world_longer.lanes c' states' d) (c'.top d) ≡ from_first (out_part w.lanes c kept.states d) (c.top d)
+        by : (b : Bool) → is_same_end d y ≡ b
+            → from_first (out_part world_longer.lanes c' states' d) (c'.top d) ≡ from_first (out_part w.lanes c kept.states d) (c.top d)
         by true t =
-            subst (λ x. from_first (out_part world_longer.lanes c' states' x) (c'.top x) ≡ from_first (out_part w.lanes c kept.states x) (c.top x)) (sym (same_is d y t))
+            subst (λ x. from_first (out_part world_longer.lanes c' states' x) (c'.top x) ≡ from_first (out_part w.lanes c kept.states x) (c.top x))
+            (sym (same_is d y t))
             (ap (λ (n : ℕ). from_first (out_part world_longer.lanes c' states' y) n) (top_new c y p)
             ∙ ap (λ z. from_first (out_part world_longer.lanes c' states' y) (c.top y) ++ z) out_new
             ∙ append-nil (from_first (out_part world_longer.lanes c' states' y) (c.top y))
@@ -213,7 +244,8 @@ module _ {P Q : Type 0} (IsOver : P → Type 0) (binds : Q → EndId → Bool) (
     last_new : IsLast IsOver (plain'.sides y) (waits_of plain y) (c'.top y) (seats' y) (states' y (c'.top y))
     last_new =
         subst (λ (n : ℕ). IsLast IsOver (plain'.sides y) (waits_of plain y) n (seats' y) (states' y n)) (sym (top_new c y p))
-        (subst (λ (b : Bool). IsLast IsOver (plain'.sides y) (waits_of plain y) (suc (c.top y)) (if b then in_use else kept.seats y) (states' y (suc (c.top y)))) (sym (same_end y))
+        (subst (λ (b : Bool). IsLast IsOver (plain'.sides y) (waits_of plain y) (suc (c.top y)) (if b then in_use else kept.seats y)
+        (states' y (suc (c.top y)))) (sym (same_end y))
         (subst (λ s. IsLast IsOver (plain'.sides y) (waits_of plain y) (suc (c.top y)) in_use s) (sym new_state)
         (placed_part named (λ x. x.hops) (λ x. refl) (is_same_end y y) (plain.sides y) (plain'.sides y) (sides y)
         ∙ hops_on_way IsOver (plain.sides y) (waits_of plain y) (c.top y) n0 e0 (kept.states y (c.top y)) last_old)))
@@ -222,13 +254,16 @@ module _ {P Q : Type 0} (IsOver : P → Type 0) (binds : Q → EndId → Bool) (
     lasts d i = by (is_same_end d y) refl
       where
         by : (b : Bool) → is_same_end d y ≡ b → IsLast IsOver (plain'.sides d) (waits_of plain d) (c'.top d) (seats' d) (states' d (c'.top d))
-        by true t = subst (λ x. IsLast IsOver (plain'.sides x) (waits_of plain x) (c'.top x) (seats' x) (states' x (c'.top x))) (sym (same_is d y t)) last_new
+        by true t =
+            subst (λ x. IsLast IsOver (plain'.sides x) (waits_of plain x) (c'.top x) (seats' x) (states' x (c'.top x))) (sym (same_is d y t)) last_new
         by false t =
             let same : plain'.sides d ≡ plain.sides d = subst (λ (b : Bool). IsPlaced named b (plain.sides d) (plain'.sides d)) t (sides d) in
             subst (λ (x : PlainSide P). IsLast IsOver x (waits_of plain d) (c'.top d) (seats' d) (states' d (c'.top d))) (sym same)
             (subst (λ (n : ℕ). IsLast IsOver (plain.sides d) (waits_of plain d) n (seats' d) (states' d n)) (sym (top_old c y p d t))
-            (subst (λ (b : Bool). IsLast IsOver (plain.sides d) (waits_of plain d) (c.top d) (if b then in_use else kept.seats d) (states' d (c.top d))) (sym t)
-            (subst (λ s. IsLast IsOver (plain.sides d) (waits_of plain d) (c.top d) (kept.seats d) s) (sym (old_state d (c.top d) (omega arith))) (kept.last d i))))
+            (subst (λ (b : Bool). IsLast IsOver (plain.sides d) (waits_of plain d) (c.top d) (if b then in_use else kept.seats d)
+            (states' d (c.top d))) (sym t)
+            (subst (λ s. IsLast IsOver (plain.sides d) (waits_of plain d) (c.top d) (kept.seats d) s) (sym (old_state d (c.top d) (omega arith)))
+            (kept.last d i))))
 
     opens_stay : (d : EndId) → OpensLike (kept.seats d) (seats' d)
     opens_stay d sess fs fit = by (is_same_end d y) refl
@@ -237,10 +272,12 @@ module _ {P Q : Type 0} (IsOver : P → Type 0) (binds : Q → EndId → Bool) (
         by true t = subst (λ s. OpensFit s sess fs) (ap kept.seats (same_is d y t) ∙ seat) fit
         by false t = fit
 
-    names_stay : (d : EndId) (n : ℕ) (m : Msg) (hop : ℕ) → NamesFit c kept.seats d ((plain.sides d).taken + n) m hop → NamesFit c' seats' d ((plain.sides d).taken + n) m hop
+    names_stay : (d : EndId) (n : ℕ) (m : Msg) (hop : ℕ) → NamesFit c kept.seats d ((plain.sides d).taken + n) m hop
+        → NamesFit c' seats' d ((plain.sides d).taken + n) m hop
     names_stay d n (msgs.Sess sess side k) hop fit = by (is_same_end (record { sess = sess; side = side }) y) refl
       where
-        by : (b : Bool) → is_same_end (record { sess = sess; side = side }) y ≡ b → NamesFit c' seats' d ((plain.sides d).taken + n) (msgs.Sess sess side k) hop
+        by : (b : Bool) → is_same_end (record { sess = sess; side = side }) y ≡ b
+            → NamesFit c' seats' d ((plain.sides d).taken + n) (msgs.Sess sess side k) hop
         by true t = absurd (gone d n (ap kept.seats (sym (same_is (record { sess = sess; side = side }) y t)) ∙ fit.seat))
         by false t = record {
           below = fit.below;
@@ -276,7 +313,8 @@ module _ {P Q : Type 0} (IsOver : P → Type 0) (binds : Q → EndId → Bool) (
             ∙ uses_old d t i (ap (λ (b : Bool). if b then in_use else kept.seats d) (sym t) ∙ s)
             ∙ ap (λ (x : ℕ). Some x) (sym (top_old c y p d t))
 
-    binds_now : (k : ℕ) (d : EndId) → ((is_same_end d y ≡ true) × (k ≡ p)) ⊎ ((is_same_end d y ≡ false) × (d.side < 2) × (kept.seats d ≡ in_use) × (c.at d (c.top d) ≡ k))
+    binds_now : (k : ℕ) (d : EndId) → ((is_same_end d y ≡ true) × (k ≡ p))
+        ⊎ ((is_same_end d y ≡ false) × (d.side < 2) × (kept.seats d ≡ in_use) × (c.at d (c.top d) ≡ k))
         → (d.side < 2) × (seats' d ≡ in_use) × (c'.at d (c'.top d) ≡ k)
     binds_now k d (inl b) =
         subst (λ x. (x.side < 2) × (seats' x ≡ in_use) × (c'.at x (c'.top x) ≡ k)) (sym (same_is d y b.0)) (low, seat_new, last_at ∙ sym b.1)
@@ -299,11 +337,13 @@ module _ {P Q : Type 0} (IsOver : P → Type 0) (binds : Q → EndId → Bool) (
         there = there_now;
         alone = λ d k x r i is. lies d k x (alone_now d k x r i is);
         left = lefts;
-        lanes = push_lanes c' w.lanes p (claiming y (c.top y)) (at_new c y p) (low, (let more = top_new c y p in omega (arith, more))) posts_claim mails (lanes_old c y p w.lanes kept.joined.lanes);
+        lanes = push_lanes c' w.lanes p (claiming y (c.top y)) (at_new c y p) (low, (let more = top_new c y p in omega (arith, more))) posts_claim
+            mails (lanes_old c y p w.lanes kept.joined.lanes);
       };
       below = λ some d k. below_longer some d k;
       opens = λ d i. opens_stay d d.sess (traffic world_longer.lanes c' (inward d 0))
-          (subst (λ l. OpensFit (kept.seats d) d.sess l) (sym (pushed (inward d 0) refl ∙ traffic_old c y p w.lanes (inward d 0) (i, omega arith))) (kept.opens d i));
+          (subst (λ l. OpensFit (kept.seats d) d.sess l) (sym (pushed (inward d 0) refl ∙ traffic_old c y p w.lanes (inward d 0) (i, omega arith)))
+          (kept.opens d i));
       last = λ d i. subst (λ l. IsLast IsOver (plain'.sides d) l (c'.top d) (seats' d) (states' d (c'.top d))) (sym (waits_same d)) (lasts d i);
       waits = λ d i. ap (λ l. map (λ (x : SentAt). x.msg) l) (pipe_same d i) ∙ kept.waits d i ∙ sym (waits_same d);
       names = λ d n a i got.

@@ -31,14 +31,16 @@ alike_self (Passing p) = refl
 alike_self Closed = tt
 
 -- one record is written, with more stored
-pub alike_written : (states : EndId → ℕ → StateAt) (e : EndId) (h : ℕ) (st : StateAt) → IsAlike (states e h) st → (d : EndId) (k : ℕ) → IsAlike (states d k) (written states e h st d k)
+pub alike_written : (states : EndId → ℕ → StateAt) (e : EndId) (h : ℕ) (st : StateAt) → IsAlike (states e h) st → (d : EndId) (k : ℕ)
+    → IsAlike (states d k) (written states e h st d k)
 alike_written states e h st alike d k =
     for_all (λ d k. IsAlike (states d k) (written states e h st d k)) e h
     (let t : (is_same_end e e && (h == h)) ≡ true = ap (λ b. b && (h == h)) (same_end e) ∙ eq-eqb h h refl in
     subst (λ b. IsAlike (states e h) (if b then st else states e h)) (sym t) alike)
     d k (λ t. subst (λ b. IsAlike (states d k) (if b then st else states d k)) (sym t) (alike_self (states d k)))
 
-pub left_alike : (e : EndId) (h next : ℕ) (claims : List FrameAt) (st st' : StateAt) → IsAlike st st' → IsLeft e h next claims st → IsLeft e h next claims st'
+pub left_alike : (e : EndId) (h next : ℕ) (claims : List FrameAt) (st st' : StateAt) → IsAlike st st' → IsLeft e h next claims st
+    → IsLeft e h next claims st'
 left_alike e h next claims (Held ms) st' alike left = absurd left
 left_alike e h next claims (Parked ms) (Parked ns) alike left = left
 left_alike e h next claims (Parked ms) (Held ns) alike left = absurd alike
@@ -108,7 +110,8 @@ module _ {Q : Type 0} (nodes : ℕ → NodeAt Q) (p : ℕ) (n : NodeAt Q) where
 module _ (c : Chains) (lanes lanes' : Lanes) (states states' : EndId → ℕ → StateAt) (e : EndId) (h : ℕ) (xs : List SentAt) (below : h < c.top e)
     (pop : in_part lanes c states e h ≡ xs ++ in_part lanes' c states' e h)
     (push : in_part lanes' c states' e (suc h) ≡ in_part lanes c states e (suc h) ++ xs)
-    (ins : (d : EndId) (k : ℕ) → (is_same_end d e && (k == h)) ≡ false → (is_same_end d e && (k == suc h)) ≡ false → in_part lanes' c states' d k ≡ in_part lanes c states d k)
+    (ins : (d : EndId) (k : ℕ) → (is_same_end d e && (k == h)) ≡ false → (is_same_end d e && (k == suc h)) ≡ false
+    → in_part lanes' c states' d k ≡ in_part lanes c states d k)
     (outs : (d : EndId) (k : ℕ) → out_part lanes' c states' d k ≡ out_part lanes c states d k)
   where
     moved_here : pipe lanes' c states' e ≡ pipe lanes c states e
@@ -117,11 +120,14 @@ module _ (c : Chains) (lanes lanes' : Lanes) (states states' : EndId → ℕ →
         (move_last (in_part lanes c states e) (in_part lanes' c states' e) (c.top e) h xs below pop push
         (λ k i j. ins e k (other_hop e e k h i) (other_hop e e k (suc h) j)))
         ∙ ap (λ z. from_last (in_part lanes c states e) (c.top e) ++ z)
-        (same_first (out_part lanes c states (other_end e)) (out_part lanes' c states' (other_end e)) (c.top (other_end e)) (λ k l. outs (other_end e) k))
+        (same_first (out_part lanes c states (other_end e)) (out_part lanes' c states' (other_end e)) (c.top (other_end e))
+        (λ k l. outs (other_end e) k))
 
     pub pipes_on : (d : EndId) → pipe lanes' c states' d ≡ pipe lanes c states d
     pipes_on d = by (is_same_end d e) refl
       where
         by : (b : Bool) → is_same_end d e ≡ b → pipe lanes' c states' d ≡ pipe lanes c states d
         by true t = subst (λ x. pipe lanes' c states' x ≡ pipe lanes c states x) (sym (same_is d e t)) moved_here
-        by false t = same_pipe c states lanes lanes' states' d (λ k l. ins d k (other_name d e k h t) (other_name d e k (suc h) t)) (λ k l. outs (other_end d) k)
+        by false t =
+            same_pipe c states lanes lanes' states' d (λ k l. ins d k (other_name d e k h t) (other_name d e k (suc h) t))
+            (λ k l. outs (other_end d) k)

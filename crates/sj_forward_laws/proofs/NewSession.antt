@@ -8,7 +8,8 @@ use Rattle.sj_rules.specs.Record.{is_same_end, other_end, requested_end, offered
 use Rattle.sj_forward_rules.specs.Record.{FrameAt}
 use Rattle.sj_forward_rules.specs.World.{Lanes}
 use Rattle.sj_forward_laws.specs.Pipe.{traffic}
-use Rattle.sj_forward_laws.specs.Roads.{Chains, Road, inward, outward, claiming, road_of, is_road, behind_of, start_of, goal_of, on_road, IsThere, IsOnRoad}
+use Rattle.sj_forward_laws.specs.Roads.{Chains, Road, inward, outward, claiming, road_of, is_road, behind_of, start_of, goal_of, on_road}
+use Rattle.sj_forward_laws.specs.Roads.{IsThere, IsOnRoad}
 use Rattle.sj_forward_laws.proofs.AbsentLemmas.{road_end}
 use Rattle.sj_forward_laws.proofs.RoadLemmas.{road_self}
 
@@ -28,10 +29,13 @@ module _ (sess : ℕ) where
   choose d x y z = if d.sess == sess then (if d.side == 0 then x else y) else z
 
   pub choose_near : {X : Type 0} (x y z : X) → choose near x y z ≡ x
-  choose_near x y z = ap (λ (b : Bool). if b then (if 0 == 0 then x else y) else z) (eq-eqb sess sess refl) ∙ ap (λ (b : Bool). if b then x else y) (eq-eqb 0 0 refl)
+  choose_near x y z =
+      ap (λ (b : Bool). if b then (if 0 == 0 then x else y) else z) (eq-eqb sess sess refl) ∙ ap (λ (b : Bool). if b then x else y) (eq-eqb 0 0 refl)
 
   pub choose_far : {X : Type 0} (x y z : X) → choose far x y z ≡ y
-  choose_far x y z = ap (λ (b : Bool). if b then (if 1 == 0 then x else y) else z) (eq-eqb sess sess refl) ∙ ap (λ (b : Bool). if b then x else y) (ne_eqb 1 0 (λ i. omega (arith, i)))
+  choose_far x y z =
+      ap (λ (b : Bool). if b then (if 1 == 0 then x else y) else z) (eq-eqb sess sess refl)
+      ∙ ap (λ (b : Bool). if b then x else y) (ne_eqb 1 0 (λ i. omega (arith, i)))
 
   pub choose_else : {X : Type 0} (d : EndId) (x y z : X) → (d.sess == sess) ≡ false → choose d x y z ≡ z
   choose_else d x y z not = ap (λ (b : Bool). if b then (if d.side == 0 then x else y) else z) not
@@ -117,7 +121,8 @@ module _ (sess : ℕ) where
 
     pub traffic_else : (lanes : Lanes) (r : Road) → ((road_end r).sess == sess) ≡ false → traffic lanes opened r ≡ traffic lanes c r
     traffic_else lanes r not =
-        ap (λ (s : ℕ). on_road r (lanes s (goal_of opened r))) (start_else r not) ∙ ap (λ (g : ℕ). on_road r (lanes (start_of c r) g)) (goal_else r not)
+        ap (λ (s : ℕ). on_road r (lanes s (goal_of opened r))) (start_else r not)
+        ∙ ap (λ (g : ℕ). on_road r (lanes (start_of c r) g)) (goal_else r not)
 
     road_low : (r : Road) → IsThere c r → (road_end r).side < 2
     road_low (inward d k) there = there.0
@@ -125,15 +130,19 @@ module _ (sess : ℕ) where
     road_low (claiming d k) there = there.0
 
     -- frames are on their roads where none is about the session
-    pub lanes_else : (x y : ℕ) (fs : List FrameAt) → AllByRecursion (IsOnRoad c x y) fs → ((r : Road) → (road_end r).sess ≡ sess → (road_end r).side < 2 → on_road r fs ≡ [])
+    pub lanes_else : (x y : ℕ) (fs : List FrameAt) → AllByRecursion (IsOnRoad c x y) fs
+        → ((r : Road) → (road_end r).sess ≡ sess → (road_end r).side < 2 → on_road r fs ≡ [])
         → AllByRecursion (IsOnRoad opened x y) fs
     lanes_else x y [] all none = tt
-    lanes_else x y (f ∷ fs) all none = (first ((road_end (road_of f)).sess == sess) refl, lanes_else x y fs all.1 (λ r is low. rest r (none r is low)))
+    lanes_else x y (f ∷ fs) all none =
+        (first ((road_end (road_of f)).sess == sess) refl, lanes_else x y fs all.1 (λ r is low. rest r (none r is low)))
       where
         first : (b : Bool) → ((road_end (road_of f)).sess == sess) ≡ b → IsOnRoad opened x y f
         first true t =
-            let empty : on_road (road_of f) (f ∷ fs) ≡ [] = none (road_of f) (eqb-true (road_end (road_of f)).sess sess t) (road_low (road_of f) all.0.there) in
-            let some : on_road (road_of f) (f ∷ fs) ≡ f ∷ on_road (road_of f) fs = ap (λ (b : Bool). if b then f ∷ on_road (road_of f) fs else on_road (road_of f) fs) (road_self (road_of f)) in
+            let empty : on_road (road_of f) (f ∷ fs) ≡ [] =
+            none (road_of f) (eqb-true (road_end (road_of f)).sess sess t) (road_low (road_of f) all.0.there) in
+            let some : on_road (road_of f) (f ∷ fs) ≡ f ∷ on_road (road_of f) fs =
+            ap (λ (b : Bool). if b then f ∷ on_road (road_of f) fs else on_road (road_of f) fs) (road_self (road_of f)) in
             absurd (cc (empty, some))
         first false t = record {
           there = there_else (road_of f) t all.0.there;

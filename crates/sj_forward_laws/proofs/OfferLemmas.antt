@@ -1,7 +1,9 @@
 -- Lists of sessions that are offered: parts of lists, numbers that rise, and sessions that weren't opened.
-use Rattle.std.proofs.Common.{◌≡◌, ℕ, ◌<◌, ◌≤◌, List, [], ◌∷◌, ◌++◌, sym, subst, ap, ◌∙◌, arith}
-use Rattle.std.specs.Prelude.{true}
+use Rattle.std.proofs.Common.{◌≡◌, ℕ, ◌<◌, ◌≤◌, List, [], ◌∷◌, ◌++◌, refl, sym, subst, ap, ◌∙◌, arith}
+use Rattle.std.specs.Prelude.{Bool, true, false, ◌==◌}
 use Rattle.std.specs.List.{AllByRecursion}
+use Rattle.std.proofs.lemmas.Bool.{eqb-true, ne_eqb}
+use Rattle.sj_rules.specs.Limits.{limit_of_requests}
 use Rattle.sj_rules.specs.Opened.{opened_number, opener_of, is_opened_by}
 use Rattle.sj_rules.specs.PlainSide.{PlainAt}
 use Rattle.sj_rules.specs.Reading.{IsUnopened}
@@ -18,7 +20,8 @@ pub all_back : {X : Type 0} (A : X → Type 0) (xs ys : List X) → AllByRecursi
 all_back A [] ys all = all
 all_back A (x ∷ xs) ys all = all_back A xs ys all.1
 
-pub all_two : {X : Type 0} (A B C : X → Type 0) → ((x : X) → A x → B x → C x) → (xs : List X) → AllByRecursion A xs → AllByRecursion B xs → AllByRecursion C xs
+pub all_two : {X : Type 0} (A B C : X → Type 0) → ((x : X) → A x → B x → C x) → (xs : List X) → AllByRecursion A xs → AllByRecursion B xs
+    → AllByRecursion C xs
 all_two A B C f [] a b = tt
 all_two A B C f (x ∷ xs) a b = (f x a.0 b.0, all_two A B C f xs a.1 b.1)
 

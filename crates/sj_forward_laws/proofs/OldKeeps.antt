@@ -1,6 +1,6 @@
 -- An event that opens and accepts no session keeps what is open between parties.
-use Rattle.std.proofs.Common.{◌≡◌, ℕ, ◌<◌, ◌≤◌, List, ◌++◌, refl, sym, subst, ap, ◌∙◌, option_map}
-use Rattle.std.specs.Prelude.{Bool, true, false, nat_lt, ◌==◌, if◌then◌else◌, Option, Some, None}
+use Rattle.std.proofs.Common.{◌≡◌, ℕ, ◌<◌, ◌≤◌, List, [], ◌∷◌, ◌++◌, refl, sym, subst, ap, ◌∙◌, option_map}
+use Rattle.std.specs.Prelude.{⊤, Bool, true, false, nat_lt, ◌==◌, if◌then◌else◌, Option, Some, None}
 use Rattle.std.specs.List.{AllByRecursion}
 use Rattle.std.proofs.lemmas.Bool.{eqb-true}
 use Rattle.std.proofs.lemmas.List.Elements.{filter_map-append}
@@ -17,15 +17,16 @@ use Rattle.sj_rules.specs.Moves.{with_side, plain_goes, plain_sends, plain_deleg
 use Rattle.sj_rules.specs.Opened.{opened_number}
 use Rattle.sj_rules.specs.PlainSide.{PlainSide, PlainAt}
 use Rattle.sj_rules.specs.Play.{Want, ended, local, sends, delegates, takes, closes, requests, accepts, Play}
+use Rattle.sj_rules.specs.Reading.{IsUnopened}
 use Rattle.sj_rules.specs.Record.{is_same_end, offered_end}
 use Rattle.sj_forward_rules.specs.Node.{NodeAt, Worked}
-use Rattle.sj_forward_rules.specs.Record.{session_opened, opened_in}
-use Rattle.sj_forward_rules.specs.World.{WorldAt, Lanes, frames_for, after_event}
+use Rattle.sj_forward_rules.specs.Record.{FrameAt, Mail, session_opened, opened_in}
+use Rattle.sj_forward_rules.specs.World.{WorldAt, Lanes, frames_for, lanes_with, after_event}
 use Rattle.sj_forward_laws.specs.Kept.{IsKept, IsHeldRecord, AreRising, IsOffer, IsOpenKept}
 use Rattle.sj_forward_laws.proofs.ChainLemmas.{all_map}
 use Rattle.sj_forward_laws.proofs.OfferLemmas.{all_front, all_two}
 use Rattle.sj_forward_laws.proofs.OldWorkLemmas.{OpensNothing, IsOldWork}
-use Rattle.sj_forward_laws.proofs.OpensLemmas.{none_opened, frames_none}
+use Rattle.sj_forward_laws.proofs.OpensLemmas.{AreNoOpens, none_opened, frames_none}
 
 -- as much is open in both plain worlds
 pub record IsOldPlain {P Q : Type 0} (plain next : PlainAt P Q) : Type 0 where
@@ -34,7 +35,8 @@ pub record IsOldPlain {P Q : Type 0} (plain next : PlainAt P Q) : Type 0 where
   pub offered : (d : EndId) → (next.sides d).offered ≡ (plain.sides d).offered
 
 module _ {P Q : Type 0} (plain : PlainAt P Q) where
-  side_old : (base : PlainAt P Q) (e : EndId) (f : PlainSide P → PlainSide P) → ((x : PlainSide P) → (f x).offered ≡ x.offered) → IsOldPlain plain base → IsOldPlain plain (with_side e f base)
+  side_old : (base : PlainAt P Q) (e : EndId) (f : PlainSide P → PlainSide P) → ((x : PlainSide P) → (f x).offered ≡ x.offered)
+      → IsOldPlain plain base → IsOldPlain plain (with_side e f base)
   side_old base e f same old = record {
     requests = old.requests;
     offers = old.offers;
@@ -46,7 +48,8 @@ module _ {P Q : Type 0} (plain : PlainAt P Q) where
       by d false = refl
 
   names_old : (base : PlainAt P Q) (named : P) (m : Msg) → IsOldPlain plain base → IsOldPlain plain (plain_names named m base)
-  names_old base named (msgs.Sess sess side keeper) old = side_old base (record { sess = sess; side = side }) (λ x. plain_placed x named) (λ x. refl) old
+  names_old base named (msgs.Sess sess side keeper) old =
+      side_old base (record { sess = sess; side = side }) (λ x. plain_placed x named) (λ x. refl) old
   names_old base named (msgs.Int n) old = old
   names_old base named (msgs.Bool n) old = old
   names_old base named (msgs.Text n) old = old
@@ -82,7 +85,8 @@ module _ {P Q : Type 0} (plain : PlainAt P Q) where
     head_old e named None = by_none
     head_old e named (Some m) =
         by_map (λ place. plain_names named m (plain_takes play p e m place plain))
-        (λ place. names_old (plain_takes play p e m place plain) named m (side_old (plain_goes play p (Some m) plain) e (λ x. plain_taken x place) (λ x. refl) (goes_old (Some m))))
+        (λ place. names_old (plain_takes play p e m place plain) named m
+        (side_old (plain_goes play p (Some m) plain) e (λ x. plain_taken x place) (λ x. refl) (goes_old (Some m))))
         (play.next (plain.sides e).place ways.Into m)
 
     -- a step that opens and accepts nothing
@@ -90,11 +94,15 @@ module _ {P Q : Type 0} (plain : PlainAt P Q) where
     plain_is_old ended old = by_none
     plain_is_old local old = by_some (plain_goes play p None plain) (goes_old None)
     plain_is_old (sends e msg) old =
-        by_map (λ place. plain_sends play p e msg place plain) (λ place. side_old (plain_goes play p None plain) e (λ x. plain_sent x place msg) (λ x. refl) (goes_old None)) (play.next (plain.sides e).place ways.Out msg)
+        by_map (λ place. plain_sends play p e msg place plain)
+        (λ place. side_old (plain_goes play p None plain) e (λ x. plain_sent x place msg) (λ x. refl) (goes_old None))
+        (play.next (plain.sides e).place ways.Out msg)
     plain_is_old (delegates carrier e) old =
-        by_if (nat_lt (plain.sides e).hops limit_of_hops) (option_map (λ place. plain_delegates play p carrier e place plain) (play.next (plain.sides carrier).place ways.Out (session_message e p)))
+        by_if (nat_lt (plain.sides e).hops limit_of_hops)
+        (option_map (λ place. plain_delegates play p carrier e place plain) (play.next (plain.sides carrier).place ways.Out (session_message e p)))
         (by_map (λ place. plain_delegates play p carrier e place plain)
-        (λ place. side_old (with_side e plain_parked (plain_goes play p None plain)) carrier (λ x. plain_sent x place (session_message e p)) (λ x. refl)
+        (λ place. side_old (with_side e plain_parked (plain_goes play p None plain)) carrier (λ x. plain_sent x place (session_message e p))
+        (λ x. refl)
         (side_old (plain_goes play p None plain) e plain_parked (λ x. refl) (goes_old None)))
         (play.next (plain.sides carrier).place ways.Out (session_message e p)))
     plain_is_old (takes e named) old = head_old e named (waiting_at plain e 0)
@@ -102,7 +110,8 @@ module _ {P Q : Type 0} (plain : PlainAt P Q) where
     plain_is_old (requests place to) old = absurd old
     plain_is_old (accepts place from) old = absurd old
 
-module _ {P Q : Type 0} (IsOver : P → Type 0) (binds : Q → EndId → Bool) (parties : ℕ) (w : WorldAt Q) (plain plain' : PlainAt P Q) (kept : IsOpenKept IsOver binds parties w plain)
+module _ {P Q : Type 0} (IsOver : P → Type 0) (binds : Q → EndId → Bool) (parties : ℕ) (w : WorldAt Q) (plain plain' : PlainAt P Q)
+    (kept : IsOpenKept IsOver binds parties w plain)
     (p : ℕ) (lanes : Lanes) (done : Worked Q) (Stays : EndId → Type 0) (old : IsOldWork (w.nodes p) Stays done)
     (opened : (from to : ℕ) → opened_in (lanes from to) ≡ opened_in (w.lanes from to)) (old_plain : IsOldPlain plain plain')
     (stays : (d : EndId) → (plain.sides d).offered ≡ true → Stays d) (kept' : IsKept IsOver binds parties (after_event w p lanes done) plain')
@@ -164,12 +173,16 @@ module _ {P Q : Type 0} (IsOver : P → Type 0) (binds : Q → EndId → Bool) (
       rising = λ from k. subst AreRising (sym (old_plain.offers from k)) (kept.rising from k);
       opened = λ from k. subst (λ l. AllByRecursion (IsOffer plain' from) l) (sym (old_plain.offers from k))
           (all_map (IsOffer plain from) (IsOffer plain' from) (offer_still from) (plain.offers from k) (kept.opened from k));
-      held = λ from k. subst (λ l. AllByRecursion (λ s. IsHeldRecord ((v.nodes k).records (offered_end s) 0)) l) (sym (at_node (λ n. n.offers from) (old.offers from) k))
-          (all_two (IsOffer plain from) (λ s. IsHeldRecord ((w.nodes k).records (offered_end s) 0)) (λ s. IsHeldRecord ((v.nodes k).records (offered_end s) 0))
-          (λ s o h. held_still k (offered_end s) (stays (offered_end s) o.offered) h) ((w.nodes k).offers from) (offered_at from k) (kept.held from k));
+      held = λ from k. subst (λ l. AllByRecursion (λ s. IsHeldRecord ((v.nodes k).records (offered_end s) 0)) l)
+          (sym (at_node (λ n. n.offers from) (old.offers from) k))
+          (all_two (IsOffer plain from) (λ s. IsHeldRecord ((w.nodes k).records (offered_end s) 0))
+          (λ s. IsHeldRecord ((v.nodes k).records (offered_end s) 0))
+          (λ s o h. held_still k (offered_end s) (stays (offered_end s) o.offered) h) ((w.nodes k).offers from) (offered_at from k)
+          (kept.held from k));
       bare = λ from k. subst (λ l. AllByRecursion (λ s. (v.nodes k).records (offered_end s) 0 ≡ None) l) (sym (lanes_same from k))
           (all_map (λ s. (w.nodes k).records (offered_end s) 0 ≡ None) (λ s. (v.nodes k).records (offered_end s) 0 ≡ None)
           (λ s none. none_still k (offered_end s) none) (opened_in (w.lanes from k)) (kept.bare from k));
       unopened = λ s none k e is low.
-          none_still k e (kept.unopened s (none.0, none.1, subst (λ (n : ℕ). n ≤ none.1) (old_plain.requests none.0) none.2, none.3, none.4) k e is low);
+          none_still k e (kept.unopened s (none.0, none.1, subst (λ (n : ℕ). n ≤ none.1) (old_plain.requests none.0) none.2, none.3, none.4) k e is
+          low);
     }

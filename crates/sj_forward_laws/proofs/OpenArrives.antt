@@ -1,5 +1,5 @@
 -- An Open comes: its end is Held at its first record, with nothing untaken. The invariant is kept.
-use Rattle.std.proofs.Common.{◌≡◌, ℕ, suc, ◌+◌, ◌<◌, List, [], ◌∷◌, ◌++◌, refl, sym, subst, ap, ◌∙◌, arith}
+use Rattle.std.proofs.Common.{◌≡◌, ℕ, zero, suc, ◌+◌, ◌<◌, ◌≤◌, List, [], ◌∷◌, ◌++◌, refl, sym, subst, ap, ◌∙◌, arith}
 use Rattle.std.specs.Prelude.{Bool, true, false, ◌&&◌, ◌==◌, if◌then◌else◌, map, Some, None, is_none, slice_get}
 use Rattle.std.specs.List.{AllByRecursion}
 use Rattle.std.proofs.lemmas.Bool.{eqb-true, eq-eqb}
@@ -10,16 +10,18 @@ use Rattle.sj_rules.specs.PlainChanges.{waits_of}
 use Rattle.sj_rules.specs.PlainSide.{PlainSide, PlainAt}
 use Rattle.sj_rules.specs.Record.{is_same_end, other_end, offered_end}
 use Rattle.sj_forward_rules.specs.Arrivals.{comes}
-use Rattle.sj_forward_rules.specs.Node.{NodeAt, quietly, with_first, with_offers, with_record}
+use Rattle.sj_forward_rules.specs.Node.{NodeAt, Worked, quietly, with_first, with_offers, with_record}
 use Rattle.sj_forward_rules.specs.Record.{SentAt, StateAt, Held, Parked, Passing, Closed, FrameAt, Open, opened_in, stored}
-use Rattle.sj_forward_rules.specs.World.{WorldAt, Lanes, after_event, with_lane}
+use Rattle.sj_forward_rules.specs.World.{WorldAt, Lanes, after_event, lanes_with, with_lane}
 use Rattle.sj_forward_laws.specs.Kept.{Seat, in_use, on_its_way, at_its_end, in_open, OpensFit, IsLeft, IsLast, IsKept}
 use Rattle.sj_forward_laws.specs.Pipe.{traffic, in_part, pipe}
-use Rattle.sj_forward_laws.specs.Roads.{Chains, Road, inward, outward, claiming, is_road, start_of, goal_of, on_road, messages_in, IsOnRoad}
+use Rattle.sj_forward_laws.specs.Roads.{Chains, Road, inward, outward, claiming, road_of, is_road, behind_of, start_of, goal_of, on_road}
+use Rattle.sj_forward_laws.specs.Roads.{messages_in, IsOnRoad}
 use Rattle.sj_forward_laws.proofs.EndLemmas.{same_end, same_is}
 use Rattle.sj_forward_laws.proofs.MovedLemmas.{quiet_lane, other_name, programs_stay}
 use Rattle.sj_forward_laws.proofs.NamedLemmas.{IsSameWay, names_stay}
-use Rattle.sj_forward_laws.proofs.RecordLemmas.{written, written_here, written_away, for_all, written_records, written_alone, same_pipe, same_in, same_out}
+use Rattle.sj_forward_laws.proofs.RecordLemmas.{written, written_here, written_away, for_all, written_records, written_alone, same_pipe}
+use Rattle.sj_forward_laws.proofs.RecordLemmas.{same_in, same_out}
 use Rattle.sj_forward_laws.proofs.RoadLemmas.{road_self, pop_here, pop_same, pop_lanes}
 use Rattle.sj_forward_laws.proofs.StayLemmas.{written_stays, still_there}
 
@@ -29,7 +31,8 @@ pub record IsComing {P : Type 0} (x : PlainSide P) (top : ℕ) (st : StateAt) : 
   pub hops : x.hops ≡ 0
   pub top_is : top ≡ 0
 
-coming_last : {P : Type 0} (IsOver : P → Type 0) (x : PlainSide P) (waits : List Msg) (top : ℕ) (st : StateAt) → IsLast IsOver x waits top in_open st → IsComing x top st
+coming_last : {P : Type 0} (IsOver : P → Type 0) (x : PlainSide P) (waits : List Msg) (top : ℕ) (st : StateAt)
+    → IsLast IsOver x waits top in_open st → IsComing x top st
 coming_last IsOver x waits top Closed last = record { is = refl; hops = last.0; top_is = last.1 }
 coming_last IsOver x waits top (Held ms) last = absurd last
 coming_last IsOver x waits top (Parked ms) last = absurd last
@@ -48,7 +51,8 @@ arriving in_use sess fs rest is fit = let bad : sess ∷ opened_in rest ≡ [] =
 arriving (on_its_way e n) sess fs rest is fit = let bad : sess ∷ opened_in rest ≡ [] = sym (ap opened_in is) ∙ fit in absurd (cc bad)
 arriving at_its_end sess fs rest is fit = let bad : sess ∷ opened_in rest ≡ [] = sym (ap opened_in is) ∙ fit in absurd (cc bad)
 
-module _ {P Q : Type 0} (IsOver : P → Type 0) (binds : Q → EndId → Bool) (parties : ℕ) (w : WorldAt Q) (plain : PlainAt P Q) (kept : IsKept IsOver binds parties w plain)
+module _ {P Q : Type 0} (IsOver : P → Type 0) (binds : Q → EndId → Bool) (parties : ℕ) (w : WorldAt Q) (plain : PlainAt P Q)
+    (kept : IsKept IsOver binds parties w plain)
     (q p sess : ℕ) (rest : List FrameAt) (front : w.lanes q p ≡ Open sess ∷ rest) where
   abbrev pub e : EndId
   e = offered_end sess
@@ -124,7 +128,9 @@ module _ {P Q : Type 0} (IsOver : P → Type 0) (binds : Q → EndId → Bool) (
   opens_now d i = by (is_same_end d e) refl
     where
       by : (b : Bool) → is_same_end d e ≡ b → OpensFit (if b then in_use else kept.seats d) d.sess (traffic world_opened.lanes c (inward d 0))
-      by true t = subst (λ x. opened_in (traffic world_opened.lanes c (inward x 0)) ≡ []) (sym (same_is d e t)) (ap opened_in (quiet (inward e 0)) ∙ arrives.none)
+      by true t =
+          subst (λ x. opened_in (traffic world_opened.lanes c (inward x 0)) ≡ []) (sym (same_is d e t))
+          (ap opened_in (quiet (inward e 0)) ∙ arrives.none)
       by false t = subst (λ l. OpensFit (kept.seats d) d.sess l) (sym (same (inward d 0) (other_name d e 0 0 t))) (kept.opens d i)
 
   lasts : (d : EndId) → d.side < 2 → IsLast IsOver (plain.sides d) (waits_of plain d) (c.top d) (seats' d) (states' d (c.top d))
@@ -133,9 +139,11 @@ module _ {P Q : Type 0} (IsOver : P → Type 0) (binds : Q → EndId → Bool) (
       held_now : IsLast IsOver (plain.sides e) (waits_of plain e) (c.top e) in_use (states' e (c.top e))
       held_now =
           subst (λ (h : ℕ). IsLast IsOver (plain.sides e) (waits_of plain e) h in_use (states' e h)) (sym coming.top_is)
-          (subst (λ s. IsLast IsOver (plain.sides e) (waits_of plain e) 0 in_use s) (sym (written_here kept.states e 0 (Held []) e 0 here)) coming.hops)
+          (subst (λ s. IsLast IsOver (plain.sides e) (waits_of plain e) 0 in_use s) (sym (written_here kept.states e 0 (Held []) e 0 here))
+          coming.hops)
 
-      by : (b : Bool) → is_same_end d e ≡ b → IsLast IsOver (plain.sides d) (waits_of plain d) (c.top d) (if b then in_use else kept.seats d) (states' d (c.top d))
+      by : (b : Bool) → is_same_end d e ≡ b
+          → IsLast IsOver (plain.sides d) (waits_of plain d) (c.top d) (if b then in_use else kept.seats d) (states' d (c.top d))
       by true t = subst (λ x. IsLast IsOver (plain.sides x) (waits_of plain x) (c.top x) in_use (states' x (c.top x))) (sym (same_is d e t)) held_now
       by false t =
           subst (λ s. IsLast IsOver (plain.sides d) (waits_of plain d) (c.top d) (kept.seats d) s)
@@ -167,7 +175,8 @@ module _ {P Q : Type 0} (IsOver : P → Type 0) (binds : Q → EndId → Bool) (
 
       else_uses : (b : Bool) → (c.at d (c.top d) == p) ≡ b → is_same_end d e ≡ false
           → (if b then node_opened else w.nodes (c.at d (c.top d))).uses d ≡ (w.nodes (c.at d (c.top d))).uses d
-      else_uses true u t = ap (λ (b : Bool). if b then Some 0 else (w.nodes p).uses d) t ∙ ap (λ (x : ℕ). (w.nodes x).uses d) (sym (eqb-true (c.at d (c.top d)) p u))
+      else_uses true u t =
+          ap (λ (b : Bool). if b then Some 0 else (w.nodes p).uses d) t ∙ ap (λ (x : ℕ). (w.nodes x).uses d) (sym (eqb-true (c.at d (c.top d)) p u))
       else_uses false u t = refl
 
       by : (b : Bool) → is_same_end d e ≡ b → (world_opened.nodes (c.at d (c.top d))).uses d ≡ Some (c.top d)
@@ -194,20 +203,26 @@ module _ {P Q : Type 0} (IsOver : P → Type 0) (binds : Q → EndId → Bool) (
     seats = seats';
     joined = record {
       records = λ d k low le. written_records c kept.states w.nodes p node_opened e 0 (Held []) on.goal
-          (λ d k. ap (λ (x : ℕ). (with_record e 0 (record { behind = x; state = Held [] }) (w.nodes p)).records d k) (sym on.start)) d k (kept.joined.records d k low le);
-      there = λ d k low some le. still_there w.nodes p node_opened (written_stays (w.nodes p) e 0 (record { behind = q; state = Held [] })) (c.at d k) d k (kept.joined.there d k low some le);
-      alone = λ d k x r low is. written_alone c kept.states w.nodes p node_opened e 0 (record { behind = q; state = Held [] }) (omega arith, on.goal) (λ d k. refl) d k
+          (λ d k. ap (λ (x : ℕ). (with_record e 0 (record { behind = x; state = Held [] }) (w.nodes p)).records d k) (sym on.start)) d k
+          (kept.joined.records d k low le);
+      there = λ d k low some le. still_there w.nodes p node_opened (written_stays (w.nodes p) e 0 (record { behind = q; state = Held [] }))
+          (c.at d k) d k (kept.joined.there d k low some le);
+      alone = λ d k x r low is. written_alone c kept.states w.nodes p node_opened e 0 (record { behind = q; state = Held [] })
+          (omega arith, on.goal) (λ d k. refl) d k
           (λ x r is. kept.joined.alone d k x r low is) x r is;
       left = λ d k low lt.
-          subst (λ s. IsLeft d k (c.at d (suc k)) (traffic world_opened.lanes c (claiming d k)) s) (sym (written_away kept.states e 0 (Held []) d k (not_here d k lt)))
+          subst (λ s. IsLeft d k (c.at d (suc k)) (traffic world_opened.lanes c (claiming d k)) s)
+          (sym (written_away kept.states e 0 (Held []) d k (not_here d k lt)))
           (subst (λ l. IsLeft d k (c.at d (suc k)) l (kept.states d k)) (sym (same (claiming d k) refl)) (kept.joined.left d k low lt));
-      lanes = λ from to. subst (λ l. AllByRecursion (IsOnRoad c from to) l) (sym (quiet_lane p popped from to)) (pop_lanes c w.lanes q p (Open sess) rest front kept.joined.lanes from to);
+      lanes = λ from to. subst (λ l. AllByRecursion (IsOnRoad c from to) l) (sym (quiet_lane p popped from to))
+          (pop_lanes c w.lanes q p (Open sess) rest front kept.joined.lanes from to);
     };
     below = kept.below;
     opens = opens_now;
     last = lasts;
     waits = λ d low. ap (λ l. map (λ (m : SentAt). m.msg) l) (pipes d) ∙ kept.waits d low;
-    names = λ d n m low is. names_stay c c kept.seats seats' ways d ((plain.sides d).taken + n) m.hop m.msg (kept.names d n m low (ap (λ l. slice_get l n) (sym (pipes d)) ∙ is));
+    names = λ d n m low is. names_stay c c kept.seats seats' ways d ((plain.sides d).taken + n) m.hop m.msg
+        (kept.names d n m low (ap (λ l. slice_get l n) (sym (pipes d)) ∙ is));
     programs = λ k. programs_stay w.nodes p node_opened refl k ∙ kept.programs k;
     uses = uses_now;
     bound = bound_now;

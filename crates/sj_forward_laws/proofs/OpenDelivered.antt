@@ -2,7 +2,7 @@
 use Rattle.std.proofs.Common.{◌≡◌, ℕ, ◌<◌, List, [], ◌∷◌, ◌++◌, refl, sym, subst, ap, ◌∙◌, arith, append_assoc}
 use Rattle.std.specs.Prelude.{Bool, true, false, ◌&&◌, ◌==◌, if◌then◌else◌, Option, Some, None}
 use Rattle.std.specs.List.{AllByRecursion}
-use Rattle.std.proofs.lemmas.Bool.{eqb-true, eq-eqb, ne_eqb}
+use Rattle.std.proofs.lemmas.Bool.{eqb-true, eqb-false, eq-eqb, ne_eqb}
 use Rattle.sj_base.specs.declared.EndId.{EndId}
 use Rattle.sj_rules.specs.Opened.{is_opened_by}
 use Rattle.sj_rules.specs.PlainSide.{PlainAt}
@@ -21,7 +21,8 @@ use Rattle.sj_forward_laws.proofs.OfferLemmas.{all_back, all_two, rising_behind,
 use Rattle.sj_forward_laws.proofs.OpenArrives.{node_opened, world_opened, open_row, open_keeps}
 use Rattle.sj_forward_laws.proofs.RoadLemmas.{all_both, road_self}
 
-module _ {P Q : Type 0} (IsOver : P → Type 0) (binds : Q → EndId → Bool) (parties : ℕ) (w : WorldAt Q) (plain : PlainAt P Q) (kept : IsOpenKept IsOver binds parties w plain)
+module _ {P Q : Type 0} (IsOver : P → Type 0) (binds : Q → EndId → Bool) (parties : ℕ) (w : WorldAt Q) (plain : PlainAt P Q)
+    (kept : IsOpenKept IsOver binds parties w plain)
     (q p sess : ℕ) (rest : List FrameAt) (front : w.lanes q p ≡ Open sess ∷ rest) where
   abbrev e : EndId
   e = offered_end sess
@@ -34,7 +35,9 @@ module _ {P Q : Type 0} (IsOver : P → Type 0) (binds : Q → EndId → Bool) (
   split = sym (ap (λ l. (w.nodes p).offers q ++ opened_in l) front) ∙ kept.offers q p
 
   offer_here : IsOffer plain q sess
-  offer_here = (all_back (IsOffer plain q) ((w.nodes p).offers q) (sess ∷ opened_in rest) (subst (λ l. AllByRecursion (IsOffer plain q) l) (sym split) (kept.opened q p))).0
+  offer_here =
+      (all_back (IsOffer plain q) ((w.nodes p).offers q) (sess ∷ opened_in rest)
+      (subst (λ l. AllByRecursion (IsOffer plain q) l) (sym split) (kept.opened q p))).0
 
   bare_all : AllByRecursion (λ s. (w.nodes p).records (offered_end s) 0 ≡ None) (sess ∷ opened_in rest)
   bare_all = subst (λ l. AllByRecursion (λ s. (w.nodes p).records (offered_end s) 0 ≡ None) (opened_in l)) front (kept.bare q p)
@@ -50,7 +53,8 @@ module _ {P Q : Type 0} (IsOver : P → Type 0) (binds : Q → EndId → Bool) (
   offers_now from k = ap (λ l. (v.nodes k).offers from ++ opened_in l) (lane_now from k) ∙ by (k == p) (from == q) refl refl
     where
       by : (at own : Bool) → (k == p) ≡ at → (from == q) ≡ own
-          → (if at then node_opened IsOver binds parties w plain kept.kept q p sess rest front else w.nodes k).offers from ++ opened_in (if own && at then rest else w.lanes from k)
+          → (if at then node_opened IsOver binds parties w plain kept.kept q p sess rest front else w.nodes k).offers from ++ opened_in
+          (if own && at then rest else w.lanes from k)
           ≡ (w.nodes k).offers from ++ opened_in (w.lanes from k)
       by true true i j =
           let here : k ≡ p = eqb-true k p i in
@@ -70,7 +74,8 @@ module _ {P Q : Type 0} (IsOver : P → Type 0) (binds : Q → EndId → Bool) (
       here true h = (q, [], refl)
       here false h = h
 
-      by : (b : Bool) → (k == p) ≡ b → IsHeldRecord ((if b then node_opened IsOver binds parties w plain kept.kept q p sess rest front else w.nodes k).records d 0)
+      by : (b : Bool) → (k == p) ≡ b → IsHeldRecord
+          ((if b then node_opened IsOver binds parties w plain kept.kept q p sess rest front else w.nodes k).records d 0)
       by true t = here (is_same_end d e && (0 == 0)) (subst (λ (x : ℕ). IsHeldRecord ((w.nodes x).records d 0)) (eqb-true k p t) held)
       by false t = held
 
@@ -94,10 +99,12 @@ module _ {P Q : Type 0} (IsOver : P → Type 0) (binds : Q → EndId → Bool) (
       own : (k == p) ≡ true → (o : Bool) → (from == q) ≡ o → AreHeld k (if o then (w.nodes p).offers q ++ sess ∷ [] else (w.nodes p).offers from)
       own t true u =
           all_both (λ s. IsHeldRecord ((v.nodes k).records (offered_end s) 0)) ((w.nodes p).offers q) (sess ∷ [])
-          (subst (λ (x : ℕ). AreHeld k ((w.nodes p).offers x)) (eqb-true from q u) (subst (λ (x : ℕ). AreHeld k ((w.nodes x).offers from)) (eqb-true k p t) old)) (new t, tt)
+          (subst (λ (x : ℕ). AreHeld k ((w.nodes p).offers x)) (eqb-true from q u)
+          (subst (λ (x : ℕ). AreHeld k ((w.nodes x).offers from)) (eqb-true k p t) old)) (new t, tt)
       own t false u = subst (λ (x : ℕ). AreHeld k ((w.nodes x).offers from)) (eqb-true k p t) old
 
-      by : (b : Bool) → (k == p) ≡ b → AreHeld k ((if b then node_opened IsOver binds parties w plain kept.kept q p sess rest front else w.nodes k).offers from)
+      by : (b : Bool) → (k == p) ≡ b → AreHeld k
+          ((if b then node_opened IsOver binds parties w plain kept.kept q p sess rest front else w.nodes k).offers from)
       by true t = own t (from == q) refl
       by false t = old
 
@@ -105,7 +112,8 @@ module _ {P Q : Type 0} (IsOver : P → Type 0) (binds : Q → EndId → Bool) (
   none_still : (k : ℕ) (d : EndId) → (k ≡ p → is_same_end d e ≡ false) → (w.nodes k).records d 0 ≡ None → (v.nodes k).records d 0 ≡ None
   none_still k d apart none = by (k == p) refl
     where
-      by : (b : Bool) → (k == p) ≡ b → (if b then node_opened IsOver binds parties w plain kept.kept q p sess rest front else w.nodes k).records d 0 ≡ None
+      by : (b : Bool) → (k == p) ≡ b → (if b then node_opened IsOver binds parties w plain kept.kept q p sess rest front else w.nodes k).records d
+          0 ≡ None
       by true t =
           ap (λ (b : Bool). if b && (0 == 0) then new_record else (w.nodes p).records d 0) (apart (eqb-true k p t))
           ∙ ap (λ (x : ℕ). (w.nodes x).records d 0) (sym (eqb-true k p t)) ∙ none
@@ -121,7 +129,8 @@ module _ {P Q : Type 0} (IsOver : P → Type 0) (binds : Q → EndId → Bool) (
   else_lane : (from k : ℕ) → ((from == q) && (k == p)) ≡ false → AllByRecursion (IsElse k) (opened_in (w.lanes from k))
   else_lane from k other =
       all_map (IsOffer plain from) (IsElse k) (λ s o at. not_it s (λ is. clash s o at is)) (opened_in (w.lanes from k))
-      (all_back (IsOffer plain from) ((w.nodes k).offers from) (opened_in (w.lanes from k)) (subst (λ l. AllByRecursion (IsOffer plain from) l) (sym (kept.offers from k)) (kept.opened from k)))
+      (all_back (IsOffer plain from) ((w.nodes k).offers from) (opened_in (w.lanes from k))
+      (subst (λ l. AllByRecursion (IsOffer plain from) l) (sym (kept.offers from k)) (kept.opened from k)))
     where
       clash : (s : ℕ) → IsOffer plain from s → k ≡ p → s ≡ sess → ⊥
       clash s o at is =
@@ -135,14 +144,18 @@ module _ {P Q : Type 0} (IsOver : P → Type 0) (binds : Q → EndId → Bool) (
       (rising_behind ((w.nodes p).offers q) sess (opened_in rest) (subst (λ l. AreRising l) (sym split) (kept.rising q p)))
 
   bare_now : (from k : ℕ) → AllByRecursion (λ s. (v.nodes k).records (offered_end s) 0 ≡ None) (opened_in (v.lanes from k))
-  bare_now from k = subst (λ l. AllByRecursion (λ s. (v.nodes k).records (offered_end s) 0 ≡ None) (opened_in l)) (sym (lane_now from k)) (by ((from == q) && (k == p)) refl)
+  bare_now from k =
+      subst (λ l. AllByRecursion (λ s. (v.nodes k).records (offered_end s) 0 ≡ None) (opened_in l)) (sym (lane_now from k))
+      (by ((from == q) && (k == p)) refl)
     where
-      these : (l : List ℕ) → AllByRecursion (IsElse k) l → AllByRecursion (λ s. (w.nodes k).records (offered_end s) 0 ≡ None) l → AllByRecursion (λ s. (v.nodes k).records (offered_end s) 0 ≡ None) l
+      these : (l : List ℕ) → AllByRecursion (IsElse k) l → AllByRecursion (λ s. (w.nodes k).records (offered_end s) 0 ≡ None) l
+          → AllByRecursion (λ s. (v.nodes k).records (offered_end s) 0 ≡ None) l
       these l a b =
           all_two (IsElse k) (λ s. (w.nodes k).records (offered_end s) 0 ≡ None) (λ s. (v.nodes k).records (offered_end s) 0 ≡ None)
           (λ s apart none. none_still k (offered_end s) apart none) l a b
 
-      by : (b : Bool) → ((from == q) && (k == p)) ≡ b → AllByRecursion (λ s. (v.nodes k).records (offered_end s) 0 ≡ None) (opened_in (if b then rest else w.lanes from k))
+      by : (b : Bool) → ((from == q) && (k == p)) ≡ b
+          → AllByRecursion (λ s. (v.nodes k).records (offered_end s) 0 ≡ None) (opened_in (if b then rest else w.lanes from k))
       by true t =
           let here : k ≡ p = eqb-true k p (both_true (from == q) (k == p) t).1 in
           these (opened_in rest) (subst (λ (x : ℕ). AllByRecursion (IsElse x) (opened_in rest)) (sym here) later_apart)
@@ -152,7 +165,8 @@ module _ {P Q : Type 0} (IsOver : P → Type 0) (binds : Q → EndId → Bool) (
   requests_now : (k : ℕ) → (v.nodes k).requests ≡ (w.nodes k).requests
   requests_now k = by (k == p) refl
     where
-      by : (b : Bool) → (k == p) ≡ b → (if b then node_opened IsOver binds parties w plain kept.kept q p sess rest front else w.nodes k).requests ≡ (w.nodes k).requests
+      by : (b : Bool) → (k == p) ≡ b → (if b then node_opened IsOver binds parties w plain kept.kept q p sess rest front else w.nodes k).requests
+          ≡ (w.nodes k).requests
       by true t = ap (λ (x : ℕ). (w.nodes x).requests) (sym (eqb-true k p t))
       by false t = refl
 

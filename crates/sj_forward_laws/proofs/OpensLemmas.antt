@@ -89,7 +89,8 @@ module _ (c : Chains) (lanes : Lanes) (d : EndId) where
       → OpensKeep d.sess (traffic lanes c (inward d 0)) (traffic (with_lane q p rest lanes) c (inward d 0))
   pop_opens q p f rest front on none = by (is_road (inward d 0) (road_of f)) refl
     where
-      by : (b : Bool) → is_road (inward d 0) (road_of f) ≡ b → OpensKeep d.sess (traffic lanes c (inward d 0)) (traffic (with_lane q p rest lanes) c (inward d 0))
+      by : (b : Bool) → is_road (inward d 0) (road_of f) ≡ b
+          → OpensKeep d.sess (traffic lanes c (inward d 0)) (traffic (with_lane q p rest lanes) c (inward d 0))
       by true t s e =
           let here : traffic lanes c (inward d 0) ≡ f ∷ traffic (with_lane q p rest lanes) c (inward d 0) =
           subst (λ r. traffic lanes c r ≡ f ∷ traffic (with_lane q p rest lanes) c r) (sym (road_is (inward d 0) (road_of f) t))

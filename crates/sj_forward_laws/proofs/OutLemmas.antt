@@ -8,7 +8,8 @@ use Rattle.sj_forward_rules.specs.Record.{SentAt, StateAt, Held, Parked, Passing
 use Rattle.sj_forward_rules.specs.Node.{onward}
 use Rattle.sj_forward_rules.specs.Arrivals.{comes, at_record, out_by}
 use Rattle.sj_forward_rules.specs.World.{WorldAt, Lanes, lanes_with, with_lane, after_event}
-use Rattle.sj_forward_laws.specs.Roads.{Chains, Road, inward, outward, claiming, is_road, behind_of, start_of, IsThere, IsOnRoad, messages_in, message_in}
+use Rattle.sj_forward_laws.specs.Roads.{Chains, Road, inward, outward, claiming, is_road, behind_of, start_of, IsThere, IsOnRoad}
+use Rattle.sj_forward_laws.specs.Roads.{messages_in, message_in}
 use Rattle.sj_forward_laws.specs.Pipe.{traffic, from_last, from_first, in_part, out_part, pipe}
 use Rattle.sj_forward_laws.specs.Kept.{IsRecorded, IsLeft, IsJoined}
 use Rattle.sj_forward_laws.proofs.EndLemmas.{same_is, other_other, other_low, other_apart}
@@ -56,9 +57,12 @@ module _ (c : Chains) (states : EndId → ℕ → StateAt) (lanes popped lanes' 
       across =
           ap (λ z. z ++ from_first (out_part lanes' c states e) (c.top e))
           (push_last (in_part lanes c states (other_end e)) (in_part lanes' c states (other_end e)) (c.top (other_end e)) (m ∷ [])
-          (ap (λ l. stored (states (other_end e) 0) ++ l) sent ∙ sym (append_assoc (stored (states (other_end e) 0)) (messages_in (traffic lanes c (inward (other_end e) 0))) (m ∷ [])))
-          (λ k apart. same_part c states lanes lanes' (other_end e) k (same (inward (other_end e) k) refl (other_hop (other_end e) (other_end e) k 0 apart))))
-          ∙ append_assoc (from_last (in_part lanes c states (other_end e)) (c.top (other_end e))) (m ∷ []) (from_first (out_part lanes' c states e) (c.top e))
+          (ap (λ l. stored (states (other_end e) 0) ++ l) sent
+          ∙ sym (append_assoc (stored (states (other_end e) 0)) (messages_in (traffic lanes c (inward (other_end e) 0))) (m ∷ [])))
+          (λ k apart. same_part c states lanes lanes' (other_end e) k
+          (same (inward (other_end e) k) refl (other_hop (other_end e) (other_end e) k 0 apart))))
+          ∙ append_assoc (from_last (in_part lanes c states (other_end e)) (c.top (other_end e))) (m ∷ [])
+          (from_first (out_part lanes' c states e) (c.top e))
           ∙ ap (λ z. from_last (in_part lanes c states (other_end e)) (c.top (other_end e)) ++ z)
           (sym (pop_front (out_part lanes c states e) (out_part lanes' c states e) (c.top e) (m ∷ []) below came
           (λ k apart. same_out c states lanes lanes' states e k (same (outward e k) (other_hop e e k 0 apart) refl))))
@@ -69,12 +73,15 @@ module _ (c : Chains) (states : EndId → ℕ → StateAt) (lanes popped lanes' 
           by : (b : Bool) → is_same_end d (other_end e) ≡ b → pipe lanes' c states d ≡ pipe lanes c states d
           by true t =
               subst (λ x. pipe lanes' c states x ≡ pipe lanes c states x) (sym (same_is d (other_end e) t))
-              (subst (λ x. from_last (in_part lanes' c states (other_end e)) (c.top (other_end e)) ++ from_first (out_part lanes' c states x) (c.top x)
-              ≡ from_last (in_part lanes c states (other_end e)) (c.top (other_end e)) ++ from_first (out_part lanes c states x) (c.top x)) (sym (other_other e low)) across)
+              (subst (λ x. from_last (in_part lanes' c states (other_end e)) (c.top (other_end e)) ++ from_first (out_part lanes' c states x)
+              (c.top x)
+              ≡ from_last (in_part lanes c states (other_end e)) (c.top (other_end e)) ++ from_first (out_part lanes c states x) (c.top x))
+              (sym (other_other e low)) across)
           by false t =
               same_pipe c states lanes lanes' states d
               (λ k l. same_part c states lanes lanes' d k (same (inward d k) refl (other_name d (other_end e) k 0 t)))
-              (λ k l. same_out c states lanes lanes' states (other_end d) k (same (outward (other_end d) k) (other_name (other_end d) e k 0 (other_apart d e i t)) refl))
+              (λ k l. same_out c states lanes lanes' states (other_end d) k
+              (same (outward (other_end d) k) (other_name (other_end d) e k 0 (other_apart d e i t)) refl))
 
   -- from a later record, to the one before
   module _ (j : ℕ) (below : suc j < c.top e)
@@ -91,20 +98,28 @@ module _ (c : Chains) (states : EndId → ℕ → StateAt) (lanes popped lanes' 
       pipes_back d = by (is_same_end (other_end d) e) refl
         where
           ins : from_last (in_part lanes' c states d) (c.top d) ≡ from_last (in_part lanes c states d) (c.top d)
-          ins = same_last (in_part lanes c states d) (in_part lanes' c states d) (c.top d) (λ k l. same_part c states lanes lanes' d k (same (inward d k) refl refl))
+          ins =
+              same_last (in_part lanes c states d) (in_part lanes' c states d) (c.top d)
+              (λ k l. same_part c states lanes lanes' d k (same (inward d k) refl refl))
 
-          outs : (b : Bool) → is_same_end (other_end d) e ≡ b → from_first (out_part lanes' c states (other_end d)) (c.top (other_end d)) ≡ from_first (out_part lanes c states (other_end d)) (c.top (other_end d))
-          outs true t = subst (λ x. from_first (out_part lanes' c states x) (c.top x) ≡ from_first (out_part lanes c states x) (c.top x)) (sym (same_is (other_end d) e t)) back
+          outs : (b : Bool) → is_same_end (other_end d) e ≡ b
+              → from_first (out_part lanes' c states (other_end d)) (c.top (other_end d))
+              ≡ from_first (out_part lanes c states (other_end d)) (c.top (other_end d))
+          outs true t =
+              subst (λ x. from_first (out_part lanes' c states x) (c.top x) ≡ from_first (out_part lanes c states x) (c.top x))
+              (sym (same_is (other_end d) e t)) back
           outs false t =
               same_first (out_part lanes c states (other_end d)) (out_part lanes' c states (other_end d)) (c.top (other_end d))
-              (λ k l. same_out c states lanes lanes' states (other_end d) k (same (outward (other_end d) k) (other_name (other_end d) e k (suc j) t) (other_name (other_end d) e k j t)))
+              (λ k l. same_out c states lanes lanes' states (other_end d) k
+              (same (outward (other_end d) k) (other_name (other_end d) e k (suc j) t) (other_name (other_end d) e k j t)))
 
           by : (b : Bool) → is_same_end (other_end d) e ≡ b → pipe lanes' c states d ≡ pipe lanes c states d
           by b t =
               ap (λ z. z ++ from_first (out_part lanes' c states (other_end d)) (c.top (other_end d))) ins
               ∙ ap (λ z. from_last (in_part lanes c states d) (c.top d) ++ z) (outs b t)
 
-module _ {Q : Type 0} (w : WorldAt Q) (c : Chains) (states : EndId → ℕ → StateAt) (joined : IsJoined w c states) (q p : ℕ) (e : EndId) (m : SentAt) (rest : List FrameAt) where
+module _ {Q : Type 0} (w : WorldAt Q) (c : Chains) (states : EndId → ℕ → StateAt) (joined : IsJoined w c states) (q p : ℕ) (e : EndId) (m : SentAt)
+    (rest : List FrameAt) where
   -- the lanes once it came and left
   abbrev pub passed : ℕ → Lanes
   passed h = lanes_with p (onward e h (behind_of c e h) m ∷ []) (with_lane q p rest w.lanes)
@@ -122,21 +137,27 @@ module _ {Q : Type 0} (w : WorldAt Q) (c : Chains) (states : EndId → ℕ → S
         ∙ pop_same c w.lanes q p (Out e h m) rest front r i
 
     -- the road by which it came is another one
-    pub came_by : is_road (outward e h) (road_onward e h) ≡ false → messages_in (traffic w.lanes c (outward e h)) ≡ m ∷ messages_in (traffic (passed h) c (outward e h))
+    pub came_by : is_road (outward e h) (road_onward e h) ≡ false
+        → messages_in (traffic w.lanes c (outward e h)) ≡ m ∷ messages_in (traffic (passed h) c (outward e h))
     came_by apart =
-        first_message (Out e h m) m (traffic w.lanes c (outward e h)) (traffic (with_lane q p rest w.lanes) c (outward e h)) refl (pop_here c w.lanes q p (Out e h m) rest front on)
-        ∙ ap (λ l. m ∷ messages_in l) (sym (push_same c (with_lane q p rest w.lanes) p (road_onward e h) start (onward e h (behind_of c e h) m ∷ []) (onward_post c e h m) (outward e h) apart))
+        first_message (Out e h m) m (traffic w.lanes c (outward e h)) (traffic (with_lane q p rest w.lanes) c (outward e h)) refl
+        (pop_here c w.lanes q p (Out e h m) rest front on)
+        ∙ ap (λ l. m ∷ messages_in l) (sym (push_same c (with_lane q p rest w.lanes) p (road_onward e h) start
+        (onward e h (behind_of c e h) m ∷ []) (onward_post c e h m) (outward e h) apart))
 
     pub left_by : message_in (onward e h (behind_of c e h) m).frame ≡ Some m → is_road (road_onward e h) (outward e h) ≡ false
         → messages_in (traffic (passed h) c (road_onward e h)) ≡ messages_in (traffic w.lanes c (road_onward e h)) ++ m ∷ []
     left_by is apart =
-        last_messages (traffic (passed h) c (road_onward e h)) (traffic w.lanes c (road_onward e h)) ((onward e h (behind_of c e h) m).frame ∷ []) (m ∷ [])
+        last_messages (traffic (passed h) c (road_onward e h)) (traffic w.lanes c (road_onward e h)) ((onward e h (behind_of c e h) m).frame ∷ [])
+        (m ∷ [])
         (first_message (onward e h (behind_of c e h) m).frame m ((onward e h (behind_of c e h) m).frame ∷ []) [] is refl)
         (push_here c (with_lane q p rest w.lanes) p (road_onward e h) start (onward e h (behind_of c e h) m ∷ []) (onward_post c e h m)
         ∙ ap (λ l. l ++ (onward e h (behind_of c e h) m).frame ∷ []) (pop_same c w.lanes q p (Out e h m) rest front (road_onward e h) apart))
 
     found : IsRecorded ((w.nodes p).records e h) (behind_of c e h) (states e h)
-    found = subst (λ (x : ℕ). IsRecorded ((w.nodes x).records e h) (behind_of c e h) (states e h)) on.goal (joined.records e h on.there.0 (omega (arith, on.there.1)))
+    found =
+        subst (λ (x : ℕ). IsRecorded ((w.nodes x).records e h) (behind_of c e h) (states e h)) on.goal
+        (joined.records e h on.there.0 (omega (arith, on.there.1)))
 
     goes_back : ((d : EndId) → d.side < 2 → pipe (passed h) c states d ≡ pipe w.lanes c states d)
         → IsMoved w (after_event w p (with_lane q p rest w.lanes) (record { node = w.nodes p; posts = onward e h (behind_of c e h) m ∷ [] })) c states
@@ -146,8 +167,11 @@ module _ {Q : Type 0} (w : WorldAt Q) (c : Chains) (states : EndId → ℕ → S
         records = λ d k low le. kept_records c states w.nodes p (w.nodes p) (λ d k. refl) d k (joined.records d k low le);
         there = λ d k low some le. still_there w.nodes p (w.nodes p) (λ d k has. has) (c.at d k) d k (joined.there d k low some le);
         alone = λ d k x r low is. kept_alone c states w.nodes p (w.nodes p) (λ d k. refl) d k (λ x r is. joined.alone d k x r low is) x r is;
-        left = λ d k low lt. subst (λ l. IsLeft d k (c.at d (suc k)) l (states d k)) (sym (same_roads (claiming d k) refl (onward_no_claim e h d k))) (joined.left d k low lt);
-        lanes = push_lanes c (with_lane q p rest w.lanes) p (road_onward e h) start (onward_there c e h on.there.0 (omega (arith, on.there.1))) (onward e h (behind_of c e h) m ∷ []) (onward_post c e h m)
+        left = λ d k low lt. subst (λ l. IsLeft d k (c.at d (suc k)) l (states d k))
+            (sym (same_roads (claiming d k) refl (onward_no_claim e h d k))) (joined.left d k low lt);
+        lanes =
+            push_lanes c (with_lane q p rest w.lanes) p (road_onward e h) start (onward_there c e h on.there.0 (omega (arith, on.there.1)))
+            (onward e h (behind_of c e h) m ∷ []) (onward_post c e h m)
             (pop_lanes c w.lanes q p (Out e h m) rest front joined.lanes);
       };
       opens = λ d s fit. push_opens c (with_lane q p rest w.lanes) d p (onward e h (behind_of c e h) m ∷ []) (onward_none e h (behind_of c e h) m) s
@@ -165,7 +189,8 @@ module _ {Q : Type 0} (w : WorldAt Q) (c : Chains) (states : EndId → ℕ → S
         left : (st : StateAt) → states e h ≡ st → IsLeft e h (c.at e (suc h)) (traffic w.lanes c (claiming e h)) st
         left st is = subst (λ s. IsLeft e h (c.at e (suc h)) (traffic w.lanes c (claiming e h)) s) is (joined.left e h on.there.0 on.there.1)
 
-        row : (st : StateAt) → (w.nodes p).records e h ≡ record_with (behind_of c e h) st → comes (w.nodes p) q (Out e h m) ≡ out_by (w.nodes p) e h m (behind_of c e h) st
+        row : (st : StateAt) → (w.nodes p).records e h ≡ record_with (behind_of c e h) st
+            → comes (w.nodes p) q (Out e h m) ≡ out_by (w.nodes p) e h m (behind_of c e h) st
         row st there = ap (λ r. at_record (out_by (w.nodes p) e h m) r) there
 
         there_is : (st : StateAt) → states e h ≡ st → IsRecorded ((w.nodes p).records e h) (behind_of c e h) st
@@ -173,8 +198,18 @@ module _ {Q : Type 0} (w : WorldAt Q) (c : Chains) (states : EndId → ℕ → S
 
         by : (st : StateAt) → states e h ≡ st → Arrives w c states q p (Out e h m) rest
         by (Held ms) is = absurd (left (Held ms) is)
-        by (Parked ms) is = record { done = record { node = w.nodes p; posts = onward e h (behind_of c e h) m ∷ [] }; is = row (Parked ms) (there_is (Parked ms) is); moved = goes_back pipes }
-        by (Passing next) is = record { done = record { node = w.nodes p; posts = onward e h (behind_of c e h) m ∷ [] }; is = row (Passing next) (there_is (Passing next) is); moved = goes_back pipes }
+        by (Parked ms) is = record {
+          done = record { node = w.nodes p; posts = onward e h (behind_of c e h) m ∷ [] };
+          is = row (Parked ms)
+              (there_is (Parked ms) is);
+          moved = goes_back pipes;
+        }
+        by (Passing next) is = record {
+          done = record { node = w.nodes p; posts = onward e h (behind_of c e h) m ∷ [] };
+          is = row (Passing next)
+              (there_is (Passing next) is);
+          moved = goes_back pipes;
+        }
         by Closed is = absurd (left Closed is)
 
   pub out_arrives : (h : ℕ) → w.lanes q p ≡ Out e h m ∷ rest → Arrives w c states q p (Out e h m) rest
@@ -185,4 +220,5 @@ module _ {Q : Type 0} (w : WorldAt Q) (c : Chains) (states : EndId → ℕ → S
   out_arrives (suc j) front =
       arrives_by (suc j) front
       (λ d low. pipes_back c states w.lanes w.lanes (passed (suc j)) e (on (suc j) front).there.0 m j (on (suc j) front).there.1
-      (came_by (suc j) front (other_hop e e (suc j) j (λ i. omega (arith, i)))) (left_by (suc j) front refl (other_hop e e j (suc j) (λ i. omega (arith, i)))) (same_roads (suc j) front) d)
+      (came_by (suc j) front (other_hop e e (suc j) j (λ i. omega (arith, i))))
+      (left_by (suc j) front refl (other_hop e e j (suc j) (λ i. omega (arith, i)))) (same_roads (suc j) front) d)

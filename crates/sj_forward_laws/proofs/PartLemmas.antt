@@ -54,7 +54,8 @@ module _ (old new : ℕ → List SentAt) where
       ∙ sym (append_assoc (old (suc k)) (from_last old k) xs)
 
   -- a front of the first part goes
-  pub pop_first : (t : ℕ) (xs : List SentAt) → old 0 ≡ xs ++ new 0 → ((h : ℕ) → (h ≡ 0 → ⊥) → new h ≡ old h) → from_first old (suc t) ≡ xs ++ from_first new (suc t)
+  pub pop_first : (t : ℕ) (xs : List SentAt) → old 0 ≡ xs ++ new 0 → ((h : ℕ) → (h ≡ 0 → ⊥) → new h ≡ old h)
+      → from_first old (suc t) ≡ xs ++ from_first new (suc t)
   pop_first zero xs pop same = pop
   pop_first (suc k) xs pop same =
       ap (λ z. z ++ old (suc k)) (pop_first k xs pop same)
@@ -62,7 +63,8 @@ module _ (old new : ℕ → List SentAt) where
       ∙ ap (λ z. xs ++ (from_first new (suc k) ++ z)) (sym (same (suc k) (λ i. omega (arith, i))))
 
   -- messages come behind the last part
-  pub push_first : (t : ℕ) (xs : List SentAt) → new t ≡ old t ++ xs → ((h : ℕ) → h < t → new h ≡ old h) → from_first new (suc t) ≡ from_first old (suc t) ++ xs
+  pub push_first : (t : ℕ) (xs : List SentAt) → new t ≡ old t ++ xs → ((h : ℕ) → h < t → new h ≡ old h)
+      → from_first new (suc t) ≡ from_first old (suc t) ++ xs
   push_first t xs push same =
       ap (λ z. from_first new t ++ z) push
       ∙ ap (λ z. z ++ (old t ++ xs)) (same_first t same)
@@ -89,6 +91,7 @@ module _ (old new : ℕ → List SentAt) where
           ∙ ap (λ z. from_first old k ++ z) (sym pop_k)
 
   -- the same, where there is a part
-  pub pop_front : (t : ℕ) (xs : List SentAt) → 0 < t → old 0 ≡ xs ++ new 0 → ((h : ℕ) → (h ≡ 0 → ⊥) → new h ≡ old h) → from_first old t ≡ xs ++ from_first new t
+  pub pop_front : (t : ℕ) (xs : List SentAt) → 0 < t → old 0 ≡ xs ++ new 0 → ((h : ℕ) → (h ≡ 0 → ⊥) → new h ≡ old h)
+      → from_first old t ≡ xs ++ from_first new t
   pop_front zero xs lt pop same = absurd (omega (arith, lt))
   pop_front (suc k) xs lt pop same = pop_first k xs pop same

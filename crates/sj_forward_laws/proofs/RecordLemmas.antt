@@ -41,11 +41,13 @@ for_all F e h here d k away = by (is_same_end d e && (k == h)) refl
     by false t = away t
 
 -- of that record
-pub written_here : (states : EndId → ℕ → StateAt) (e : EndId) (h : ℕ) (st : StateAt) (d : EndId) (k : ℕ) → (is_same_end d e && (k == h)) ≡ true → written states e h st d k ≡ st
+pub written_here : (states : EndId → ℕ → StateAt) (e : EndId) (h : ℕ) (st : StateAt) (d : EndId) (k : ℕ) → (is_same_end d e && (k == h)) ≡ true
+    → written states e h st d k ≡ st
 written_here states e h st d k t = ap (λ (b : Bool). if b then st else states d k) t
 
 -- of others
-pub written_away : (states : EndId → ℕ → StateAt) (e : EndId) (h : ℕ) (st : StateAt) (d : EndId) (k : ℕ) → (is_same_end d e && (k == h)) ≡ false → written states e h st d k ≡ states d k
+pub written_away : (states : EndId → ℕ → StateAt) (e : EndId) (h : ℕ) (st : StateAt) (d : EndId) (k : ℕ) → (is_same_end d e && (k == h)) ≡ false
+    → written states e h st d k ≡ states d k
 written_away states e h st d k t = ap (λ (b : Bool). if b then st else states d k) t
 
 module _ {Q : Type 0} (c : Chains) (states : EndId → ℕ → StateAt) (nodes : ℕ → NodeAt Q) (p : ℕ) (n : NodeAt Q) where
@@ -58,11 +60,14 @@ module _ {Q : Type 0} (c : Chains) (states : EndId → ℕ → StateAt) (nodes :
   after k = if k == p then n else nodes k
 
   -- no record is written
-  pub kept_records : ((d : EndId) (k : ℕ) → n.records d k ≡ (nodes p).records d k) → (d : EndId) (k : ℕ) → Recorded nodes states d k → Recorded after states d k
+  pub kept_records : ((d : EndId) (k : ℕ) → n.records d k ≡ (nodes p).records d k) → (d : EndId) (k : ℕ) → Recorded nodes states d k
+      → Recorded after states d k
   kept_records same d k old = by (c.at d k == p) refl
     where
       by : (b : Bool) → (c.at d k == p) ≡ b → IsRecorded ((if b then n else nodes (c.at d k)).records d k) (behind_of c d k) (states d k)
-      by true t = subst (λ o. IsRecorded o (behind_of c d k) (states d k)) (sym (same d k ∙ ap (λ (x : ℕ). (nodes x).records d k) (sym (eqb-true (c.at d k) p t)))) old
+      by true t =
+          subst (λ o. IsRecorded o (behind_of c d k) (states d k))
+          (sym (same d k ∙ ap (λ (x : ℕ). (nodes x).records d k) (sym (eqb-true (c.at d k) p t)))) old
       by false t = old
 
   -- one record is written
@@ -131,19 +136,23 @@ module _ (c : Chains) (states : EndId → ℕ → StateAt) (lanes lanes' : Lanes
       → ((k : ℕ) → k < c.top (other_end d) → out_part lanes' c states' (other_end d) k ≡ out_part lanes c states (other_end d) k)
       → pipe lanes' c states' d ≡ pipe lanes c states d
   same_pipe states' d ins outs =
-      ap (λ z. z ++ from_first (out_part lanes' c states' (other_end d)) (c.top (other_end d))) (same_last (in_part lanes c states d) (in_part lanes' c states' d) (c.top d) ins)
+      ap (λ z. z ++ from_first (out_part lanes' c states' (other_end d)) (c.top (other_end d)))
+      (same_last (in_part lanes c states d) (in_part lanes' c states' d) (c.top d) ins)
       ∙ ap (λ z. from_last (in_part lanes c states d) (c.top d) ++ z)
       (same_first (out_part lanes c states (other_end d)) (out_part lanes' c states' (other_end d)) (c.top (other_end d)) outs)
 
   -- a part whose record and road are as before
-  pub same_in : (e : EndId) (h : ℕ) (st : StateAt) (d : EndId) (k : ℕ) → (is_same_end d e && (k == h)) ≡ false → traffic lanes' c (inward d k) ≡ traffic lanes c (inward d k)
+  pub same_in : (e : EndId) (h : ℕ) (st : StateAt) (d : EndId) (k : ℕ) → (is_same_end d e && (k == h)) ≡ false
+      → traffic lanes' c (inward d k) ≡ traffic lanes c (inward d k)
       → in_part lanes' c (written states e h st) d k ≡ in_part lanes c states d k
   same_in e h st d k t road =
       ap (λ s. stored s ++ messages_in (traffic lanes' c (inward d k))) (written_away states e h st d k t)
       ∙ ap (λ l. stored (states d k) ++ messages_in l) road
 
-  pub same_part : (d : EndId) (k : ℕ) → traffic lanes' c (inward d k) ≡ traffic lanes c (inward d k) → in_part lanes' c states d k ≡ in_part lanes c states d k
+  pub same_part : (d : EndId) (k : ℕ) → traffic lanes' c (inward d k) ≡ traffic lanes c (inward d k)
+      → in_part lanes' c states d k ≡ in_part lanes c states d k
   same_part d k road = ap (λ l. stored (states d k) ++ messages_in l) road
 
-  pub same_out : (states' : EndId → ℕ → StateAt) (d : EndId) (k : ℕ) → traffic lanes' c (outward d k) ≡ traffic lanes c (outward d k) → out_part lanes' c states' d k ≡ out_part lanes c states d k
+  pub same_out : (states' : EndId → ℕ → StateAt) (d : EndId) (k : ℕ) → traffic lanes' c (outward d k) ≡ traffic lanes c (outward d k)
+      → out_part lanes' c states' d k ≡ out_part lanes c states d k
   same_out states' d k road = ap (λ l. messages_in l) road

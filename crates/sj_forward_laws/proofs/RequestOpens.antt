@@ -1,32 +1,38 @@
 -- A party opens a session: what is open between parties is kept.
 use Rattle.std.proofs.Common.{◌≡◌, ℕ, ◌+◌, ◌<◌, ◌≤◌, List, [], ◌∷◌, ◌++◌, refl, sym, subst, ap, ◌∙◌, arith, append-nil, append_assoc}
-use Rattle.std.specs.Prelude.{Bool, true, false, ◌&&◌, ◌==◌, if◌then◌else◌, map, None}
-use Rattle.std.specs.List.{AllByRecursion}
+use Rattle.std.specs.Prelude.{Bool, true, false, ◌&&◌, ◌==◌, nat_le, if◌then◌else◌, map, Some, None}
+use Rattle.std.specs.List.{AllByRecursion, filter}
 use Rattle.std.proofs.lemmas.Bool.{eqb-true, eq-eqb, ne_eqb, le-leb}
 use Rattle.std.proofs.lemmas.List.Elements.{filter_map-append}
 use Rattle.sj_base.specs.declared.EndId.{EndId}
+use Rattle.sj_rules.specs.Acts.{plain_opened}
 use Rattle.sj_rules.specs.Binding.{BindsAlso}
 use Rattle.sj_rules.specs.Limits.{limit_of_requests, first_opened}
-use Rattle.sj_rules.specs.Opened.{opened_number, opener_of}
+use Rattle.sj_rules.specs.Opened.{opened_number, opener_of, is_opened_by}
 use Rattle.sj_rules.specs.PlainSide.{PlainSide, PlainAt}
 use Rattle.sj_rules.specs.Play.{Play}
 use Rattle.sj_rules.specs.Reading.{IsUnopened}
-use Rattle.sj_rules.specs.Record.{is_same_end, offered_end}
+use Rattle.sj_rules.specs.Record.{is_same_end, requested_end, offered_end}
 use Rattle.sj_opened_laws.proofs.RequestKeepLemmas.{opener_of_opened}
 use Rattle.sj_forward_rules.specs.Acts.{open_session}
-use Rattle.sj_forward_rules.specs.Record.{Open, Mail, session_opened, opened_in}
+use Rattle.sj_forward_rules.specs.Record.{FrameAt, Open, Mail, session_opened, opened_in}
 use Rattle.sj_forward_rules.specs.World.{WorldAt, frames_for}
 use Rattle.sj_forward_laws.specs.Kept.{IsHeldRecord, AreRising, IsOffer, IsOpenKept}
 use Rattle.sj_forward_laws.proofs.ChainLemmas.{all_map}
-use Rattle.sj_forward_laws.proofs.EndLemmas.{both_true, same_is}
-use Rattle.sj_forward_laws.proofs.NewSession.{near, far_apart}
+use Rattle.sj_forward_laws.proofs.EndLemmas.{both_true, same_end, same_is}
+use Rattle.sj_forward_laws.proofs.NewSession.{near, far, far_apart}
 use Rattle.sj_forward_laws.proofs.OfferLemmas.{rising_push, offer_is_opened}
-use Rattle.sj_forward_laws.proofs.RequestKeeps.{world_requested, plain_requested, new_session, rec_else, sides_else, sides_far, none_was, request_keeps}
+use Rattle.sj_forward_laws.proofs.RequestRecords.{world_requested, plain_requested, new_session, rec_else, none_was}
+use Rattle.sj_forward_laws.proofs.RequestKeeps.{sides_else, sides_far, request_keeps}
+use Rattle.sj_forward_laws.proofs.RequestRecords.{world_requested, plain_requested, new_session, rec_else, none_was}
+use Rattle.sj_forward_laws.proofs.RequestKeeps.{sides_else, sides_far, request_keeps}
 use Rattle.sj_forward_laws.proofs.RoadLemmas.{all_both}
 
-module _ {P Q : Type 0} (IsOver : P → Type 0) (play : Play P Q) (binds : Q → EndId → Bool) (parties : ℕ) (w : WorldAt Q) (plain : PlainAt P Q) (kept : IsOpenKept IsOver binds parties w plain)
+module _ {P Q : Type 0} (IsOver : P → Type 0) (play : Play P Q) (binds : Q → EndId → Bool) (parties : ℕ) (w : WorldAt Q) (plain : PlainAt P Q)
+    (kept : IsOpenKept IsOver binds parties w plain)
     (p : ℕ) (place : P) (to : ℕ) (few : plain.requests p < limit_of_requests) (p_below : p < parties) (to_below : to < parties)
-    (binds_it : BindsAlso binds (plain.programs p) (play.opened (plain.programs p) (near (opened_number p (plain.requests p)))) (near (opened_number p (plain.requests p)))) where
+    (binds_it : BindsAlso binds (plain.programs p) (play.opened (plain.programs p) (near (opened_number p (plain.requests p))))
+    (near (opened_number p (plain.requests p)))) where
   abbrev sess : ℕ
   sess = opened_number p (plain.requests p)
 
@@ -52,14 +58,18 @@ module _ {P Q : Type 0} (IsOver : P → Type 0) (play : Play P Q) (binds : Q →
   sent_to : (k : ℕ) → opened_in (frames_for k (record { party = to; frame = Open sess } ∷ [])) ≡ (if k == to then sess ∷ [] else [])
   sent_to k = by (k == to)
     where
-      by : (b : Bool) → opened_in (map (λ (m : Mail). m.frame) (if b then record { party = to; frame = Open sess } ∷ [] else [])) ≡ (if b then sess ∷ [] else [])
+      by : (b : Bool) → opened_in (map (λ (m : Mail). m.frame) (if b then record { party = to; frame = Open sess } ∷ [] else []))
+          ≡ (if b then sess ∷ [] else [])
       by true = refl
       by false = refl
 
-  opened_lane : (from k : ℕ) → opened_in (v.lanes from k) ≡ (if (from == p) && (k == to) then opened_in (w.lanes from k) ++ sess ∷ [] else opened_in (w.lanes from k))
+  opened_lane : (from k : ℕ) → opened_in (v.lanes from k)
+      ≡ (if (from == p) && (k == to) then opened_in (w.lanes from k) ++ sess ∷ [] else opened_in (w.lanes from k))
   opened_lane from k = by (from == p)
     where
-      here : (b : Bool) → (k == to) ≡ b → opened_in (w.lanes from k) ++ (if b then sess ∷ [] else []) ≡ (if true && b then opened_in (w.lanes from k) ++ sess ∷ [] else opened_in (w.lanes from k))
+      here : (b : Bool) → (k == to) ≡ b
+          → opened_in (w.lanes from k) ++ (if b then sess ∷ [] else [])
+          ≡ (if true && b then opened_in (w.lanes from k) ++ sess ∷ [] else opened_in (w.lanes from k))
       here true t = refl
       here false t = append-nil (opened_in (w.lanes from k))
 
@@ -80,7 +90,8 @@ module _ {P Q : Type 0} (IsOver : P → Type 0) (play : Play P Q) (binds : Q →
       ∙ ap (λ (l : List ℕ). (w.nodes k).offers from ++ l) (opened_lane from k) ∙ by ((from == p) && (k == to)) refl
     where
       by : (b : Bool) → ((from == p) && (k == to)) ≡ b
-          → (w.nodes k).offers from ++ (if b then opened_in (w.lanes from k) ++ sess ∷ [] else opened_in (w.lanes from k)) ≡ (if b then plain.offers p to ++ sess ∷ [] else plain.offers from k)
+          → (w.nodes k).offers from ++ (if b then opened_in (w.lanes from k) ++ sess ∷ [] else opened_in (w.lanes from k))
+          ≡ (if b then plain.offers p to ++ sess ∷ [] else plain.offers from k)
       by true t =
           sym (append_assoc ((w.nodes k).offers from) (opened_in (w.lanes from k)) (sess ∷ []))
           ∙ ap (λ (l : List ℕ). l ++ sess ∷ []) (kept.offers from k)
@@ -91,7 +102,9 @@ module _ {P Q : Type 0} (IsOver : P → Type 0) (play : Play P Q) (binds : Q →
   rising_now from k = by ((from == p) && (k == to))
     where
       by : (b : Bool) → AreRising (if b then plain.offers p to ++ sess ∷ [] else plain.offers from k)
-      by true = rising_push (plain.offers p to) sess (kept.rising p to) (all_map (IsOffer plain p) (λ s. s < sess) (λ s o. o.below) (plain.offers p to) (kept.opened p to))
+      by true =
+          rising_push (plain.offers p to) sess (kept.rising p to)
+          (all_map (IsOffer plain p) (λ s. s < sess) (λ s o. o.below) (plain.offers p to) (kept.opened p to))
       by false = kept.rising from k
 
   more_requests : (k : ℕ) → plain.requests k ≤ plain'.requests k
@@ -110,13 +123,16 @@ module _ {P Q : Type 0} (IsOver : P → Type 0) (play : Play P Q) (binds : Q →
     below = (let lt = o.below in let more = more_requests from in omega (arith, lt, more));
     offered = ap (λ (x : PlainSide P). x.offered)
         (sides_else IsOver play binds parties w plain kept p place to few p_below to_below binds_it (offered_end s)
-        (ne_eqb s sess (λ is. offer_is_opened plain from s o (subst (λ (n : ℕ). IsUnopened plain n) (sym is) (new_session IsOver play binds parties w plain kept p place to few p_below to_below binds_it)))))
+        (ne_eqb s sess (λ is. offer_is_opened plain from s o
+        (subst (λ (n : ℕ). IsUnopened plain n) (sym is)
+        (new_session IsOver play binds parties w plain kept p place to few p_below to_below binds_it)))))
         ∙ o.offered;
   }
 
   offer_new : IsOffer plain' p sess
   offer_new = record {
-    opener = ap (λ (b : Bool). b && (opener_of sess == p)) (le-leb first_opened sess (omega arith)) ∙ eq-eqb (opener_of sess) p (opener_of_opened p (plain.requests p) few);
+    opener = ap (λ (b : Bool). b && (opener_of sess == p)) (le-leb first_opened sess (omega arith))
+        ∙ eq-eqb (opener_of sess) p (opener_of_opened p (plain.requests p) few);
     below = (let own = own_requests in omega (arith, own));
     offered = ap (λ (x : PlainSide P). x.offered) (sides_far IsOver play binds parties w plain kept p place to few p_below to_below binds_it);
   }
@@ -124,32 +140,41 @@ module _ {P Q : Type 0} (IsOver : P → Type 0) (play : Play P Q) (binds : Q →
   opened_now : (from k : ℕ) → AllByRecursion (IsOffer plain' from) (plain'.offers from k)
   opened_now from k = by ((from == p) && (k == to)) refl
     where
-      by : (b : Bool) → ((from == p) && (k == to)) ≡ b → AllByRecursion (IsOffer plain' from) (if b then plain.offers p to ++ sess ∷ [] else plain.offers from k)
+      by : (b : Bool) → ((from == p) && (k == to)) ≡ b
+          → AllByRecursion (IsOffer plain' from) (if b then plain.offers p to ++ sess ∷ [] else plain.offers from k)
       by true t =
           subst (λ (x : ℕ). AllByRecursion (IsOffer plain' x) (plain.offers p to ++ sess ∷ [])) (sym (both from k t).0)
-          (all_both (IsOffer plain' p) (plain.offers p to) (sess ∷ []) (all_map (IsOffer plain p) (IsOffer plain' p) (offer_still p) (plain.offers p to) (kept.opened p to)) (offer_new, tt))
+          (all_both (IsOffer plain' p) (plain.offers p to) (sess ∷ [])
+          (all_map (IsOffer plain p) (IsOffer plain' p) (offer_still p) (plain.offers p to) (kept.opened p to)) (offer_new, tt))
       by false t = all_map (IsOffer plain from) (IsOffer plain' from) (offer_still from) (plain.offers from k) (kept.opened from k)
 
   -- ---- the records
 
   bare_now : (from k : ℕ) → AllByRecursion (λ s. (v.nodes k).records (offered_end s) 0 ≡ None) (opened_in (v.lanes from k))
-  bare_now from k = subst (λ l. AllByRecursion (λ s. (v.nodes k).records (offered_end s) 0 ≡ None) l) (sym (opened_lane from k)) (by ((from == p) && (k == to)))
+  bare_now from k =
+      subst (λ l. AllByRecursion (λ s. (v.nodes k).records (offered_end s) 0 ≡ None) l) (sym (opened_lane from k)) (by ((from == p) && (k == to)))
     where
       old : AllByRecursion (λ s. (v.nodes k).records (offered_end s) 0 ≡ None) (opened_in (w.lanes from k))
       old =
-          all_map (λ s. (w.nodes k).records (offered_end s) 0 ≡ None) (λ s. (v.nodes k).records (offered_end s) 0 ≡ None) (λ s none. record_same k s ∙ none)
+          all_map (λ s. (w.nodes k).records (offered_end s) 0 ≡ None) (λ s. (v.nodes k).records (offered_end s) 0 ≡ None)
+          (λ s none. record_same k s ∙ none)
           (opened_in (w.lanes from k)) (kept.bare from k)
 
-      by : (b : Bool) → AllByRecursion (λ s. (v.nodes k).records (offered_end s) 0 ≡ None) (if b then opened_in (w.lanes from k) ++ sess ∷ [] else opened_in (w.lanes from k))
+      by : (b : Bool) → AllByRecursion (λ s. (v.nodes k).records (offered_end s) 0 ≡ None)
+          (if b then opened_in (w.lanes from k) ++ sess ∷ [] else opened_in (w.lanes from k))
       by true =
-          all_both (λ s. (v.nodes k).records (offered_end s) 0 ≡ None) (opened_in (w.lanes from k)) (sess ∷ []) old
-          (record_same k sess ∙ none_was IsOver play binds parties w plain kept p place to few p_below to_below binds_it (offered_end sess) refl (omega arith) k, tt)
+          all_both (λ s. (v.nodes k).records (offered_end s) 0 ≡ None) (opened_in (w.lanes from k)) (sess ∷ []) old (
+            record_same k sess ∙ none_was IsOver play binds parties w plain kept p place to few p_below to_below binds_it (offered_end sess) refl
+                (omega arith) k,
+            tt,
+          )
       by false = old
 
   requests_now : (k : ℕ) → (v.nodes k).requests ≡ plain'.requests k
   requests_now k = by (k == p) refl
     where
-      by : (b : Bool) → (k == p) ≡ b → (if b then (open_session play (w.nodes p) to sess).node else w.nodes k).requests ≡ (if b then plain.requests k + 1 else plain.requests k)
+      by : (b : Bool) → (k == p) ≡ b → (if b then (open_session play (w.nodes p) to sess).node else w.nodes k).requests
+          ≡ (if b then plain.requests k + 1 else plain.requests k)
       by true t = ap (λ (n : ℕ). n + 1) (kept.requests p) ∙ ap (λ (x : ℕ). plain.requests x + 1) (sym (eqb-true k p t))
       by false t = kept.requests k
 
@@ -178,10 +203,12 @@ module _ {P Q : Type 0} (IsOver : P → Type 0) (play : Play P Q) (binds : Q →
         (λ s h. subst IsHeldRecord (sym (record_same k s)) h) ((w.nodes k).offers from) (kept.held from k));
     bare = bare_now;
     unopened = λ s none k e is low.
-        rec_else IsOver play binds parties w plain kept p place to few p_below to_below binds_it k e 0 (apart s none e is (is_same_end e (near sess)) refl)
+        rec_else IsOver play binds parties w plain kept p place to few p_below to_below binds_it k e 0
+        (apart s none e is (is_same_end e (near sess)) refl)
         ∙ kept.unopened s (still s none) k e is low;
   }
     where
-      apart : (s : ℕ) → IsUnopened plain' s → (e : EndId) → e.sess ≡ s → (b : Bool) → is_same_end e (near sess) ≡ b → is_same_end e (near sess) ≡ false
+      apart : (s : ℕ) → IsUnopened plain' s → (e : EndId) → e.sess ≡ s → (b : Bool) → is_same_end e (near sess) ≡ b
+          → is_same_end e (near sess) ≡ false
       apart s none e is true t = absurd (not_it s none (sym is ∙ ap (λ x. x.sess) (same_is e (near sess) t)))
       apart s none e is false t = t

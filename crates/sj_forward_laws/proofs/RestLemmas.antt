@@ -28,7 +28,8 @@ left_empty e h next claims (Parked ms) none left = absurd (cc (none, left))
 left_empty e h next claims (Passing p) none left = refl
 left_empty e h next claims Closed none left = absurd left
 
-module _ {P Q : Type 0} (IsOver : P → Type 0) (binds : Q → EndId → Bool) (parties : ℕ) (w : WorldAt Q) (plain : PlainAt P Q) (kept : IsKept IsOver binds parties w plain)
+module _ {P Q : Type 0} (IsOver : P → Type 0) (binds : Q → EndId → Bool) (parties : ℕ) (w : WorldAt Q) (plain : PlainAt P Q)
+    (kept : IsKept IsOver binds parties w plain)
     (some : 0 < parties) (empty : (from to : ℕ) → from < parties → to < parties → w.lanes from to ≡ []) where
   behind_below : (e : EndId) (h : ℕ) → behind_of kept.chains e h < parties
   behind_below e zero = kept.below some (other_end e) 0
@@ -50,7 +51,8 @@ module _ {P Q : Type 0} (IsOver : P → Type 0) (binds : Q → EndId → Bool) (
   in_empty : (e : EndId) (h : ℕ) → e.side < 2 → h < kept.chains.top e → in_part w.lanes kept.chains kept.states e h ≡ []
   in_empty e h low lt =
       ap (λ s. s ++ messages_in (traffic w.lanes kept.chains (inward e h)))
-      (left_empty e h (kept.chains.at e (suc h)) (traffic w.lanes kept.chains (claiming e h)) (kept.states e h) (traffic_empty (claiming e h)) (kept.joined.left e h low lt))
+      (left_empty e h (kept.chains.at e (suc h)) (traffic w.lanes kept.chains (claiming e h)) (kept.states e h) (traffic_empty (claiming e h))
+      (kept.joined.left e h low lt))
       ∙ ap (λ l. messages_in l) (traffic_empty (inward e h))
 
   pipe_rests : (e : EndId) → e.side < 2 → pipe w.lanes kept.chains kept.states e ≡ stored (kept.states e (kept.chains.top e))
@@ -58,7 +60,8 @@ module _ {P Q : Type 0} (IsOver : P → Type 0) (binds : Q → EndId → Bool) (
       ap (λ z. z ++ from_first (out_part w.lanes kept.chains kept.states (other_end e)) (kept.chains.top (other_end e)))
       (last_alone (in_part w.lanes kept.chains kept.states e) (kept.chains.top e) (λ h lt. in_empty e h low lt))
       ∙ ap (λ z. in_part w.lanes kept.chains kept.states e (kept.chains.top e) ++ z)
-      (none_first (out_part w.lanes kept.chains kept.states (other_end e)) (kept.chains.top (other_end e)) (λ h lt. ap (λ l. messages_in l) (traffic_empty (outward (other_end e) h))))
+      (none_first (out_part w.lanes kept.chains kept.states (other_end e)) (kept.chains.top (other_end e))
+      (λ h lt. ap (λ l. messages_in l) (traffic_empty (outward (other_end e) h))))
       ∙ append-nil (in_part w.lanes kept.chains kept.states e (kept.chains.top e))
       ∙ ap (λ l. stored (kept.states e (kept.chains.top e)) ++ messages_in l) (traffic_empty (inward e (kept.chains.top e)))
       ∙ append-nil (stored (kept.states e (kept.chains.top e)))

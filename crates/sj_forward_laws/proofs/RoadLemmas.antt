@@ -79,12 +79,14 @@ module _ (c : Chains) (lanes : Lanes) (q p : ℕ) (f : FrameAt) (rest : List Fra
       ∙ ap (λ (x : Bool). f ∷ on_road (road_of f) (if x then rest else lanes (start_of c (road_of f)) (goal_of c (road_of f)))) (sym b)
 
   -- all other frames are on their roads
-  pub pop_lanes : ((from to : ℕ) → AllByRecursion (IsOnRoad c from to) (lanes from to)) → (from to : ℕ) → AllByRecursion (IsOnRoad c from to) (with_lane q p rest lanes from to)
+  pub pop_lanes : ((from to : ℕ) → AllByRecursion (IsOnRoad c from to) (lanes from to)) → (from to : ℕ)
+      → AllByRecursion (IsOnRoad c from to) (with_lane q p rest lanes from to)
   pop_lanes all from to = by ((from == q) && (to == p)) refl
     where
       by : (b : Bool) → ((from == q) && (to == p)) ≡ b → AllByRecursion (IsOnRoad c from to) (if b then rest else lanes from to)
       by true e =
-          let whole : AllByRecursion (IsOnRoad c from to) (f ∷ rest) = subst (λ l. AllByRecursion (IsOnRoad c from to) l) (at_pop from to e) (all from to) in
+          let whole : AllByRecursion (IsOnRoad c from to) (f ∷ rest) =
+          subst (λ l. AllByRecursion (IsOnRoad c from to) l) (at_pop from to e) (all from to) in
           whole.1
       by false e = all from to
 
@@ -96,11 +98,13 @@ pub record IsPost (c : Chains) (r : Road) (m : Mail) : Type 0 where
   pub party : m.party ≡ goal_of c r
 
 module _ (c : Chains) (lanes : Lanes) (p : ℕ) (r : Road) (start : start_of c r ≡ p) where
-  none_sent : (s : Road) → is_road s r ≡ false → (to : ℕ) (posts : List Mail) → AllByRecursion (IsPost c r) posts → on_road s (frames_for to posts) ≡ []
+  none_sent : (s : Road) → is_road s r ≡ false → (to : ℕ) (posts : List Mail) → AllByRecursion (IsPost c r) posts
+      → on_road s (frames_for to posts) ≡ []
   none_sent s not to [] all = refl
   none_sent s not to (m ∷ ms) all = by (to == m.party) (none_sent s not to ms all.1)
     where
-      by : (b : Bool) → on_road s (frames_for to ms) ≡ [] → on_road s (map (λ m. m.frame) (if b then m ∷ filter (λ m. to == m.party) ms else filter (λ m. to == m.party) ms)) ≡ []
+      by : (b : Bool) → on_road s (frames_for to ms) ≡ []
+          → on_road s (map (λ m. m.frame) (if b then m ∷ filter (λ m. to == m.party) ms else filter (λ m. to == m.party) ms)) ≡ []
       by true none = on_unseen s m.frame (frames_for to ms) (ap (λ x. is_road s x) all.0.road ∙ not) ∙ none
       by false none = none
 
@@ -108,15 +112,18 @@ module _ (c : Chains) (lanes : Lanes) (p : ℕ) (r : Road) (start : start_of c r
   all_sent [] all = refl
   all_sent (m ∷ ms) all =
       let b : (goal_of c r == m.party) ≡ true = eq-eqb (goal_of c r) m.party (sym all.0.party) in
-      ap (λ (x : Bool). on_road r (map (λ m. m.frame) (if x then m ∷ filter (λ m. goal_of c r == m.party) ms else filter (λ m. goal_of c r == m.party) ms))) b
+      ap (λ (x : Bool). on_road r (map (λ m. m.frame)
+      (if x then m ∷ filter (λ m. goal_of c r == m.party) ms else filter (λ m. goal_of c r == m.party) ms))) b
       ∙ on_seen r m.frame (frames_for (goal_of c r) ms) all.0.road
       ∙ ap (λ l. m.frame ∷ l) (all_sent ms all.1)
 
   -- of another road
-  pub push_same : (posts : List Mail) → AllByRecursion (IsPost c r) posts → (s : Road) → is_road s r ≡ false → traffic (lanes_with p posts lanes) c s ≡ traffic lanes c s
+  pub push_same : (posts : List Mail) → AllByRecursion (IsPost c r) posts → (s : Road) → is_road s r ≡ false
+      → traffic (lanes_with p posts lanes) c s ≡ traffic lanes c s
   push_same posts all s not = by (start_of c s == p)
     where
-      by : (b : Bool) → on_road s (if b then lanes (start_of c s) (goal_of c s) ++ frames_for (goal_of c s) posts else lanes (start_of c s) (goal_of c s))
+      by : (b : Bool) → on_road s (if b then lanes (start_of c s) (goal_of c s) ++ frames_for (goal_of c s) posts else lanes (start_of c s)
+          (goal_of c s))
           ≡ on_road s (lanes (start_of c s) (goal_of c s))
       by true =
           filter-append (λ f. is_road s (road_of f)) (lanes (start_of c s) (goal_of c s)) (frames_for (goal_of c s) posts)
@@ -125,14 +132,17 @@ module _ (c : Chains) (lanes : Lanes) (p : ℕ) (r : Road) (start : start_of c r
       by false = refl
 
   -- of their road
-  pub push_here : (posts : List Mail) → AllByRecursion (IsPost c r) posts → traffic (lanes_with p posts lanes) c r ≡ traffic lanes c r ++ map (λ m. m.frame) posts
+  pub push_here : (posts : List Mail) → AllByRecursion (IsPost c r) posts
+      → traffic (lanes_with p posts lanes) c r ≡ traffic lanes c r ++ map (λ m. m.frame) posts
   push_here posts all =
-      ap (λ (b : Bool). on_road r (if b then lanes (start_of c r) (goal_of c r) ++ frames_for (goal_of c r) posts else lanes (start_of c r) (goal_of c r))) (eq-eqb (start_of c r) p start)
+      ap (λ (b : Bool). on_road r (if b then lanes (start_of c r) (goal_of c r) ++ frames_for (goal_of c r) posts else lanes (start_of c r)
+      (goal_of c r))) (eq-eqb (start_of c r) p start)
       ∙ filter-append (λ f. is_road r (road_of f)) (lanes (start_of c r) (goal_of c r)) (frames_for (goal_of c r) posts)
       ∙ ap (λ l. on_road r (lanes (start_of c r) (goal_of c r)) ++ l) (all_sent posts all)
 
   -- they are on their road
-  pub push_lanes : IsThere c r → (posts : List Mail) → AllByRecursion (IsPost c r) posts → ((from to : ℕ) → AllByRecursion (IsOnRoad c from to) (lanes from to))
+  pub push_lanes : IsThere c r → (posts : List Mail) → AllByRecursion (IsPost c r) posts
+      → ((from to : ℕ) → AllByRecursion (IsOnRoad c from to) (lanes from to))
       → (from to : ℕ) → AllByRecursion (IsOnRoad c from to) (lanes_with p posts lanes from to)
   push_lanes there posts all old from to = by (from == p) refl
     where
@@ -141,7 +151,8 @@ module _ (c : Chains) (lanes : Lanes) (p : ℕ) (r : Road) (start : start_of c r
       sent e (m ∷ ms) a = one (to == m.party) refl (sent e ms a.1)
         where
           one : (b : Bool) → (to == m.party) ≡ b → AllByRecursion (IsOnRoad c from to) (frames_for to ms)
-              → AllByRecursion (IsOnRoad c from to) (map (λ m. m.frame) (if b then m ∷ filter (λ m. to == m.party) ms else filter (λ m. to == m.party) ms))
+              → AllByRecursion (IsOnRoad c from to) (map (λ m. m.frame)
+              (if b then m ∷ filter (λ m. to == m.party) ms else filter (λ m. to == m.party) ms))
           one true t more = (
             record {
               there = subst (λ x. IsThere c x) (sym a.0.road) there;
@@ -158,7 +169,8 @@ module _ (c : Chains) (lanes : Lanes) (p : ℕ) (r : Road) (start : start_of c r
 
 -- ---- a road that isn't there is empty
 
-pub none_there : (c : Chains) (from to : ℕ) (fs : List FrameAt) (r : Road) → AllByRecursion (IsOnRoad c from to) fs → (IsThere c r → ⊥) → on_road r fs ≡ []
+pub none_there : (c : Chains) (from to : ℕ) (fs : List FrameAt) (r : Road) → AllByRecursion (IsOnRoad c from to) fs → (IsThere c r → ⊥)
+    → on_road r fs ≡ []
 none_there c from to [] r all not = refl
 none_there c from to (f ∷ fs) r all not = by (is_road r (road_of f)) refl (none_there c from to fs r all.1 not)
   where

@@ -1,4 +1,6 @@
 -- The acts of a run are a plain run, and the world keeps the invariant beside the plain world that they reach.
+use Rattle.sj_forward_laws.proofs.StepLemmas.{IsDone, IsIdle, party_acts}
+use Rattle.sj_forward_laws.proofs.FrontLemmas.{delivery_keeps, IsDelivered, front_delivered}
 use Rattle.sj_forward_rules.specs.Acts.{acts}
 use Rattle.sj_forward_rules.specs.Ready.{state_at, is_ready, is_filled, has_step}
 use Rattle.sj_forward_rules.specs.Node.{Worked}
@@ -6,7 +8,8 @@ use Rattle.std.specs.Prelude.{◌↔◌}
 use Rattle.sj_forward_rules.specs.Drain.{IsDrained}
 use Rattle.sj_forward_laws.proofs.DrainEndLemmas.{run_joined, drained_is_run, drained_is_quiet}
 use Rattle.sj_rules.specs.Moves.{plain_act, plain_act_by}
-use Rattle.std.proofs.Common.{◌≡◌, ℕ, zero, suc, arith, List, [], ◌∷◌, ◌++◌, length, Option, Some, None, option_map, option_and_then, refl, ap, sym, ◌∙◌, subst, append-nil, append_assoc, inl, inr}
+use Rattle.std.proofs.Common.{◌≡◌, ℕ, zero, suc, arith, List, [], ◌∷◌, ◌++◌, length, Option, Some, None, option_map, option_and_then, refl}
+use Rattle.std.proofs.Common.{ap, sym, ◌∙◌, subst, append-nil, append_assoc, inl, inr}
 use Rattle.std.specs.Prelude.{◌⊎◌, ◌≤◌, Bool, true, false, if◌then◌else◌}
 use Rattle.std.proofs.lemmas.Bool.{cases_lt}
 use Rattle.sj_lang.specs.Place.{Place}
@@ -26,7 +29,6 @@ use Rattle.sj_rules_laws.proofs.LawfulLemmas.{run_is_lawful, run_acts_are_seen}
 use Rattle.sj_forward_rules.specs.World.{WorldAt, after_event, delivery_of, happens, Run, IsQuietAmong}
 use Rattle.sj_forward_laws.specs.Kept.{IsOpenKept}
 use Rattle.sj_forward_rules.specs.Start.{home_by, forward_start, IsForwardRun}
-use Rattle.sj_forward_laws.proofs.StepLemmas.{IsDone, IsIdle, party_acts, delivery_keeps}
 use Rattle.sj_forward_laws.proofs.StartLemmas.{start_is_open_kept, home_has}
 use Rattle.sj_forward_laws.proofs.StayLemmas.{run_stays}
 use Rattle.sj_forward_rules.specs.Node.{HasRecord}
@@ -49,7 +51,6 @@ use Rattle.sj_rules_laws.proofs.SideLemmas.{side_below, other_side_below, other_
 use Rattle.sj_forward_rules.specs.Record.{FrameAt, SentAt, StateAt}
 use Rattle.sj_forward_laws.specs.Roads.{Chains}
 use Rattle.sj_forward_laws.specs.Pipe.{pipe}
-use Rattle.sj_forward_laws.proofs.StepLemmas.{IsDelivered, front_delivered}
 
 -- one act more
 after_one_more : (w u v : World) (ps : List ℕ) (p : ℕ) → after_acts w ps ≡ Some u → act_of u p ≡ Some v → after_acts w (ps ++ p ∷ []) ≡ Some v
@@ -66,12 +67,13 @@ pub record StandsAfter (file : FileAt) (ps : List ℕ) (w : WorldAt Program) : T
   pub run : IsRun file ps plain
   pub kept : IsOpenKept IsOver binds (length file.parties) w (plain_at plain)
 
-record Acted (w : World) (p : ℕ) (next : PlainAt Place Program) : Type 0 where
-  after : World
-  is : act_of w p ≡ Some after
-  seen : next ≡ plain_at after
+-- the act of the plain world
+pub record Acted (w : World) (p : ℕ) (next : PlainAt Place Program) : Type 0 where
+  pub after : World
+  pub is : act_of w p ≡ Some after
+  pub seen : next ≡ plain_at after
 
-acted_by : (w : World) (p : ℕ) (next : PlainAt Place Program) (o : Option World) → act_of w p ≡ o → option_map plain_at o ≡ Some next → Acted w p next
+pub acted_by : (w : World) (p : ℕ) (next : PlainAt Place Program) (o : Option World) → act_of w p ≡ o → option_map plain_at o ≡ Some next → Acted w p next
 acted_by w p next None is h = cc
 acted_by w p next (Some v) is h = record { after = v; is = is; seen = let it : plain_at v ≡ next = cc in sym it }
 
@@ -83,27 +85,40 @@ pub same_world : (a b : WorldAt Program) → ◌≡◌ {A = Option (WorldAt Prog
 same_world a b e = cc e
 
 module _ (file : FileAt) (accepted : IsAccepted file) where
-  act_stands : (w v : WorldAt Program) (ps : List ℕ) (p : ℕ) → StandsAfter file ps w → happens (play_of file) w p Act ≡ Some v → StandsAfter file (ps ++ p ∷ []) v
-  act_stands w v ps p s h = by (party_acts IsOver (play_of file) binds (length file.parties) refl w (plain_at s.plain) s.kept (run_is_lawful file ps s.plain accepted s.run) p)
+  act_stands : (w v : WorldAt Program) (ps : List ℕ) (p : ℕ) → StandsAfter file ps w → happens (play_of file) w p Act ≡ Some v
+      → StandsAfter file (ps ++ p ∷ []) v
+  act_stands w v ps p s h =
+      by (party_acts IsOver (play_of file) binds (length file.parties) refl w (plain_at s.plain) s.kept
+      (run_is_lawful file ps s.plain accepted s.run) p)
     where
-      by : IsDone IsOver (play_of file) binds (length file.parties) w (plain_at s.plain) p ⊎ IsIdle (play_of file) (length file.parties) w (plain_at s.plain) p → StandsAfter file (ps ++ p ∷ []) v
+      by : IsDone IsOver (play_of file) binds (length file.parties) w (plain_at s.plain) p
+          ⊎ IsIdle (play_of file) (length file.parties) w (plain_at s.plain) p → StandsAfter file (ps ++ p ∷ []) v
       by (inl d) =
           let acted = acted_by s.plain p d.next (act_of s.plain p) refl (sym (run_acts_are_seen file ps s.plain p accepted s.run) ∙ d.plain_is) in
-          let same : after_event w p w.lanes d.done ≡ v = same_world (after_event w p w.lanes d.done) v (sym (ap (option_map (after_event w p w.lanes)) d.is) ∙ h) in
+          let same : after_event w p w.lanes d.done ≡ v =
+          same_world (after_event w p w.lanes d.done) v (sym (ap (option_map (after_event w p w.lanes)) d.is) ∙ h) in
           record {
             plain = acted.after;
             run = after_one_more (start_of file) s.plain acted.after ps p s.run acted.is;
-            kept = subst (λ x. IsOpenKept IsOver binds (length file.parties) x (plain_at acted.after)) same (subst (λ x. IsOpenKept IsOver binds (length file.parties) (after_event w p w.lanes d.done) x) acted.seen d.kept);
+            kept = subst (λ x. IsOpenKept IsOver binds (length file.parties) x (plain_at acted.after)) same
+                (subst (λ x. IsOpenKept IsOver binds (length file.parties) (after_event w p w.lanes d.done) x) acted.seen d.kept);
           }
       by (inr i) = absurd (let none : happens (play_of file) w p Act ≡ None = ap (option_map (after_event w p w.lanes)) i.is in cc (h, none))
 
-  event_stands : (w v : WorldAt Program) (ps : List ℕ) (p : ℕ) (event : Event) → StandsAfter file ps w → happens (play_of file) w p event ≡ Some v → StandsAfter file (ps ++ acts_by event p) v
+  event_stands : (w v : WorldAt Program) (ps : List ℕ) (p : ℕ) (event : Event) → StandsAfter file ps w → happens (play_of file) w p event ≡ Some v
+      → StandsAfter file (ps ++ acts_by event p) v
   event_stands w v ps p Act s h = act_stands w v ps p s h
   event_stands w v ps p (Deliver q) s h =
       subst (λ (acts : List ℕ). StandsAfter file acts v) (sym (append-nil ps))
-      (record { plain = s.plain; run = s.run; kept = delivery_keeps IsOver (play_of file) binds (length file.parties) w (plain_at s.plain) s.kept q p v h })
+      (record {
+        plain = s.plain;
+        run = s.run;
+        kept = delivery_keeps IsOver (play_of file) binds (length file.parties) w (plain_at s.plain) s.kept q
+            p v h;
+      })
 
-  pub run_stands : (w v : WorldAt Program) (ps : List ℕ) (turns : List Turn) → StandsAfter file ps w → Run (play_of file) w turns v → StandsAfter file (ps ++ acts_in turns) v
+  pub run_stands : (w v : WorldAt Program) (ps : List ℕ) (turns : List Turn) → StandsAfter file ps w → Run (play_of file) w turns v
+      → StandsAfter file (ps ++ acts_in turns) v
   run_stands w v ps [] s run = subst (λ (acts : List ℕ). StandsAfter file acts v) (sym (append-nil ps)) (subst (StandsAfter file ps) run s)
   run_stands w v ps (t ∷ ts) s run =
       let next = event_stands w run.0 ps t.party t.event s run.1 in
@@ -112,11 +127,15 @@ module _ (file : FileAt) (accepted : IsAccepted file) where
 
   -- the acts of a run are a plain run
   pub runs_stand : (turns : List Turn) (w : WorldAt Program) → IsForwardRun file turns w → StandsAfter file (acts_in turns) w
-  runs_stand turns w run = run_stands (forward_start file) w [] turns (record { plain = start_of file; run = refl; kept = start_is_open_kept file accepted }) run
+  runs_stand turns w run =
+      run_stands (forward_start file) w [] turns (record { plain = start_of file; run = refl; kept = start_is_open_kept file accepted }) run
 
   -- where nothing is left to do the plain world is settled
-  pub quiet_is_settled : (ps : List ℕ) (w : WorldAt Program) → (s : StandsAfter file ps w) → IsQuietAmong (play_of file) (length file.parties) w → IsSettled s.plain
-  quiet_is_settled ps w s quiet p = by (cases_lt p (length file.parties)) (party_acts IsOver (play_of file) binds (length file.parties) refl w (plain_at s.plain) s.kept (run_is_lawful file ps s.plain accepted s.run) p)
+  pub quiet_is_settled : (ps : List ℕ) (w : WorldAt Program) → (s : StandsAfter file ps w) → IsQuietAmong (play_of file) (length file.parties) w
+      → IsSettled s.plain
+  quiet_is_settled ps w s quiet p =
+      by (cases_lt p (length file.parties)) (party_acts IsOver (play_of file) binds (length file.parties) refl w (plain_at s.plain) s.kept
+      (run_is_lawful file ps s.plain accepted s.run) p)
     where
       idle : length file.parties ≤ p → plain_act (play_of file) (plain_at s.plain) p ≡ None
       idle le =
@@ -128,7 +147,8 @@ module _ (file : FileAt) (accepted : IsAccepted file) where
           either_none false = refl
 
       by : (p < length file.parties) ⊎ (length file.parties ≤ p)
-          → IsDone IsOver (play_of file) binds (length file.parties) w (plain_at s.plain) p ⊎ IsIdle (play_of file) (length file.parties) w (plain_at s.plain) p → act_of s.plain p ≡ None
+          → IsDone IsOver (play_of file) binds (length file.parties) w (plain_at s.plain) p
+          ⊎ IsIdle (play_of file) (length file.parties) w (plain_at s.plain) p → act_of s.plain p ≡ None
       by (inl lt) (inl d) = absurd (let none = quiet.still p lt in let some = d.is in cc (none, some))
       by (inl lt) (inr i) = none_seen (act_of s.plain p) (sym (run_acts_are_seen file ps s.plain p accepted s.run) ∙ i.plain_is quiet.empty)
       by (inr le) either = none_seen (act_of s.plain p) (sym (run_acts_are_seen file ps s.plain p accepted s.run) ∙ idle le)
@@ -139,103 +159,7 @@ module _ (file : FileAt) (accepted : IsAccepted file) where
   quiet_run_ends turns w run quiet =
       let s = runs_stand turns w run in
       let l = end_is_reached file in
-      let same : s.plain ≡ end_of file = same_end (start_of file) s.plain (end_of file) (acts_in turns) l.acts (start_is_unshared file (omega (arith, accepted.within.connects))) s.run l.leads (quiet_is_settled (acts_in turns) w s quiet) (end_is_settled file) in
+      let same : s.plain ≡ end_of file =
+      same_end (start_of file) s.plain (end_of file) (acts_in turns) l.acts (start_is_unshared file (omega (arith, accepted.within.connects))) s.run l.leads
+      (quiet_is_settled (acts_in turns) w s quiet) (end_is_settled file) in
       (subst (λ v. IsRun file (acts_in turns) v) same s.run, subst (λ v. IsOpenKept IsOver binds (length file.parties) w (plain_at v)) same s.kept)
-
--- a run has one end
-one_end : (v u : World) → ◌≡◌ {A = Option World} (Some v) (Some u) → v ≡ u
-one_end v u e = cc e
-
--- what the rules see waiting is untaken
-waits_untaken : (v : World) (e : EndId) → e.side < 2 → waits_of (plain_at v) e ≡ untaken_for v.sessions e
-waits_untaken v e low =
-    ap (λ (x : PlainSide Place). untaken_of (plain_side v.requests v.sessions (other_end e)) x) (side_below v.requests v.sessions e low)
-    ∙ ap (λ (x : PlainSide Place). drop (length (end_at v.sessions e).takers) x.sent) (side_below v.requests v.sessions (other_end e) (other_side_below e))
-    ∙ ap (λ d. drop (length (end_at v.sessions e).takers) (map (λ x. x.msg) (end_at v.sessions d).sent)) (other_end_is e)
-    ∙ drop-map (λ x. x.msg) (length (end_at v.sessions e).takers) (end_at v.sessions (semantics.other_end e)).sent
-
-module _ (file : FileAt) (accepted : IsAccepted file) where
-  -- where the records of a run lie
-  laid_out : (turns : List Turn) (w : WorldAt Program) → IsForwardRun file turns w → (s : StandsAfter file (acts_in turns) w) → IsLaidOut file w s.kept.kept.chains s.kept.kept.states
-  laid_out turns w run s = record {
-    joined = s.kept.kept.joined;
-    home = home_is;
-    there = λ e x h low is le. has_there e x h low is le;
-    in_use = λ p e b.
-        let held = held_here IsOver binds (length file.parties) w (plain_at s.plain) s.kept.kept p e (subst (λ (g : Program). binds g e ≡ true) (s.kept.kept.programs p) b) in
-        record { below = held.low; at = held.at; untaken = held.held.untaken; is = held.held.is; found = held.found };
-  }
-    where
-      at_home : (e : EndId) (x : ConnectAt) → connect_of file e ≡ Some x → HasRecord (w.nodes (home_by file e x)) e 0
-      at_home e x is = run_stays (play_of file) e 0 (home_by file e x) (forward_start file) w turns run (home_has file e x is)
-
-      home_is : (e : EndId) (x : ConnectAt) → e.side < 2 → connect_of file e ≡ Some x → s.kept.kept.chains.at e 0 ≡ home_by file e x
-      home_is e x low is = let has = at_home e x is in (s.kept.kept.joined.alone e 0 (home_by file e x) has.0 low has.1).1
-
-      has_there : (e : EndId) (x : ConnectAt) (h : ℕ) → e.side < 2 → connect_of file e ≡ Some x → h ≤ s.kept.kept.chains.top e → HasRecord (w.nodes (s.kept.kept.chains.at e h)) e h
-      has_there e x zero low is le = subst (λ (p : ℕ). HasRecord (w.nodes p) e 0) (sym (home_is e x low is)) (at_home e x is)
-      has_there e x (suc h) low is le = s.kept.kept.joined.there e (suc h) low (omega arith) le
-
-  pub run_untaken : (turns : List Turn) (w : WorldAt Program) (v : World) → IsForwardRun file turns w → IsRun file (acts_in turns) v
-      → (c : Chains) × (states : EndId → ℕ → StateAt) × IsLaidOut file w c states
-      × ((e : EndId) → e.side < 2 → map (λ (m : SentAt). m.msg) (pipe w.lanes c states e) ≡ untaken_for v.sessions e)
-  run_untaken turns w v run plain_run =
-      let s = runs_stand file accepted turns w run in
-      let same : s.plain ≡ v = one_end s.plain v (sym s.run ∙ plain_run) in (
-        s.kept.kept.chains,
-        s.kept.kept.states,
-        laid_out turns w run s,
-        λ e low. s.kept.kept.waits e low ∙ waits_untaken s.plain e low ∙ ap (λ (x : World). untaken_for x.sessions e) same,
-      )
-
-  pub run_ready : (turns : List Turn) (w : WorldAt Program) (p : ℕ) → IsForwardRun file turns w
-      → ((done : Worked Program) × (acts (play_of file) p (w.nodes p) ≡ Some done)) ↔ (is_ready (state_at (play_of file) (w.nodes p)) ≡ true)
-  run_ready turns w p run =
-      let s = runs_stand file accepted turns w run in
-      by (party_acts IsOver (play_of file) binds (length file.parties) refl w (plain_at s.plain) s.kept (run_is_lawful file (acts_in turns) s.plain accepted s.run) p)
-    where
-      by : {plain : PlainAt Place Program} → IsDone IsOver (play_of file) binds (length file.parties) w plain p ⊎ IsIdle (play_of file) (length file.parties) w plain p
-          → ((done : Worked Program) × (acts (play_of file) p (w.nodes p) ≡ Some done)) ↔ (is_ready (state_at (play_of file) (w.nodes p)) ≡ true)
-      by (inl d) = (λ some. d.ready, λ ready. (d.done, d.is))
-      by (inr i) = (λ some. absurd (let none = i.is in let one = some.1 in cc (none, one)), λ ready. absurd (let no = i.unready in cc (ready, no)))
-
-  pub run_front : (turns : List Turn) (w : WorldAt Program) (p q : ℕ) (f : FrameAt) (rest : List FrameAt) → IsForwardRun file turns w → w.lanes q p ≡ f ∷ rest
-      → (s : StandsAfter file (acts_in turns) w) × IsDelivered IsOver (play_of file) binds (length file.parties) w (plain_at s.plain) q p f
-  run_front turns w p q f rest run front =
-      let s = runs_stand file accepted turns w run in
-      (s, front_delivered IsOver (play_of file) binds (length file.parties) w (plain_at s.plain) s.kept q p f rest front)
-
-  -- an event is a step exactly where it is told so
-  pub run_steps : (turns : List Turn) (w : WorldAt Program) (p : ℕ) → IsForwardRun file turns w → (event : Event) → has_step (play_of file) w p event ≡ true
-      → (v : WorldAt Program) × (happens (play_of file) w p event ≡ Some v)
-  run_steps turns w p run Act has =
-      let d = (run_ready turns w p run).1 has in
-      (after_event w p w.lanes d.0, ap (option_map (after_event w p w.lanes)) d.1)
-  run_steps turns w p run (Deliver q) has = by (w.lanes q p) refl has
-    where
-      by : (l : List FrameAt) → w.lanes q p ≡ l → is_filled l ≡ true → (v : WorldAt Program) × (happens (play_of file) w p (Deliver q) ≡ Some v)
-      by [] is filled = absurd (cc filled)
-      by (f ∷ rest) is some = let d = run_front turns w p q f rest run is in (_, d.1.happened)
-
-  pub run_steps_not : (turns : List Turn) (w : WorldAt Program) (p : ℕ) → IsForwardRun file turns w → (event : Event) → has_step (play_of file) w p event ≡ false
-      → happens (play_of file) w p event ≡ None
-  run_steps_not turns w p run Act none = by (acts (play_of file) p (w.nodes p)) refl
-    where
-      by : (o : Option (Worked Program)) → acts (play_of file) p (w.nodes p) ≡ o → option_map (after_event w p w.lanes) o ≡ None
-      by None is = refl
-      by (Some done) is = absurd (let ready = (run_ready turns w p run).0 (done, is) in cc (ready, none))
-  run_steps_not turns w p run (Deliver q) none = by (w.lanes q p) refl none
-    where
-      by : (l : List FrameAt) → w.lanes q p ≡ l → is_filled l ≡ false → delivery_of w p q l ≡ None
-      by [] is unfilled = refl
-      by (f ∷ rest) is some = absurd (cc some)
-
-  -- a drain goes on with a run, to the end of the file
-  pub drain_is_at_the_end : (turns more : List Turn) (w last : WorldAt Program) → IsForwardRun file turns w → IsDrained (play_of file) (length file.parties) w more last
-      → IsForwardRun file (turns ++ more) last × IsQuietAmong (play_of file) (length file.parties) last
-      × IsRun file (acts_in (turns ++ more)) (end_of file) × IsOpenKept IsOver binds (length file.parties) last (plain_at (end_of file))
-  drain_is_at_the_end turns more w last run drained =
-      let goes_on : IsForwardRun file (turns ++ more) last = run_joined (play_of file) (forward_start file) w last turns more run (drained_is_run (play_of file) (length file.parties) w last more drained) in
-      let quiet = drained_is_quiet (play_of file) (length file.parties) w last more drained in
-      let end = quiet_run_ends file accepted (turns ++ more) last goes_on quiet in
-      (goes_on, quiet, end.0, end.1)

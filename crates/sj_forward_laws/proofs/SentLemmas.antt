@@ -15,7 +15,8 @@ use Rattle.sj_forward_laws.proofs.MovedLemmas.{other_hop, other_name, first_mess
 use Rattle.sj_forward_laws.proofs.OutLemmas.{road_onward, onward_post, onward_start}
 
 -- as much is stored everywhere
-pub stored_in : (c : Chains) (states states' : EndId → ℕ → StateAt) (lanes lanes' : Lanes) → ((d : EndId) (k : ℕ) → stored (states' d k) ≡ stored (states d k)) → (d : EndId) (k : ℕ)
+pub stored_in : (c : Chains) (states states' : EndId → ℕ → StateAt) (lanes lanes' : Lanes)
+    → ((d : EndId) (k : ℕ) → stored (states' d k) ≡ stored (states d k)) → (d : EndId) (k : ℕ)
     → traffic lanes' c (inward d k) ≡ traffic lanes c (inward d k) → in_part lanes' c states' d k ≡ in_part lanes c states d k
 stored_in c states states' lanes lanes' same d k road =
     ap (λ s. s ++ messages_in (traffic lanes' c (inward d k))) (same d k) ∙ ap (λ l. stored (states d k) ++ messages_in l) road
@@ -26,12 +27,14 @@ module _ (c : Chains) (lanes : Lanes) (p : ℕ) (e : EndId) (low : e.side < 2) (
   posted t = lanes_with p (onward e t (behind_of c e t) m ∷ []) lanes
 
   pub sent_same : (t : ℕ) → c.at e t ≡ p → (r : Road) → is_road r (road_onward e t) ≡ false → traffic (posted t) c r ≡ traffic lanes c r
-  sent_same t at r apart = push_same c lanes p (road_onward e t) (onward_start c e t low ∙ at) (onward e t (behind_of c e t) m ∷ []) (onward_post c e t m) r apart
+  sent_same t at r apart =
+      push_same c lanes p (road_onward e t) (onward_start c e t low ∙ at) (onward e t (behind_of c e t) m ∷ []) (onward_post c e t m) r apart
 
   sent_here : (t : ℕ) → c.at e t ≡ p → message_in (onward e t (behind_of c e t) m).frame ≡ Some m
       → messages_in (traffic (posted t) c (road_onward e t)) ≡ messages_in (traffic lanes c (road_onward e t)) ++ m ∷ []
   sent_here t at is =
-      last_messages (traffic (posted t) c (road_onward e t)) (traffic lanes c (road_onward e t)) ((onward e t (behind_of c e t) m).frame ∷ []) (m ∷ [])
+      last_messages (traffic (posted t) c (road_onward e t)) (traffic lanes c (road_onward e t)) ((onward e t (behind_of c e t) m).frame ∷ [])
+      (m ∷ [])
       (first_message (onward e t (behind_of c e t) m).frame m ((onward e t (behind_of c e t) m).frame ∷ []) [] is refl)
       (push_here c lanes p (road_onward e t) (onward_start c e t low ∙ at) (onward e t (behind_of c e t) m ∷ []) (onward_post c e t m))
 
@@ -42,15 +45,18 @@ module _ (c : Chains) (lanes : Lanes) (p : ℕ) (e : EndId) (low : e.side < 2) (
 
     core : (t : ℕ) → c.at e t ≡ p → c.top e ≡ t → Both (posted t) states' e ≡ Both lanes states e ++ m ∷ []
     core zero at top =
-        ap (λ z. from_last (in_part (posted 0) c states' (other_end e)) (c.top (other_end e)) ++ z) (ap (λ (n : ℕ). from_first (out_part (posted 0) c states' e) n) top)
+        ap (λ z. from_last (in_part (posted 0) c states' (other_end e)) (c.top (other_end e)) ++ z)
+        (ap (λ (n : ℕ). from_first (out_part (posted 0) c states' e) n) top)
         ∙ append-nil (from_last (in_part (posted 0) c states' (other_end e)) (c.top (other_end e)))
         ∙ push_last (in_part lanes c states (other_end e)) (in_part (posted 0) c states' (other_end e)) (c.top (other_end e)) (m ∷ [])
         (ap (λ s. s ++ messages_in (traffic (posted 0) c (inward (other_end e) 0))) (same (other_end e) 0)
         ∙ ap (λ l. stored (states (other_end e) 0) ++ l) (sent_here 0 at refl)
         ∙ sym (append_assoc (stored (states (other_end e) 0)) (messages_in (traffic lanes c (inward (other_end e) 0))) (m ∷ [])))
-        (λ k apart. stored_in c states states' lanes (posted 0) same (other_end e) k (sent_same 0 at (inward (other_end e) k) (other_hop (other_end e) (other_end e) k 0 apart)))
+        (λ k apart. stored_in c states states' lanes (posted 0) same (other_end e) k
+        (sent_same 0 at (inward (other_end e) k) (other_hop (other_end e) (other_end e) k 0 apart)))
         ∙ ap (λ z. z ++ m ∷ []) (sym (append-nil (from_last (in_part lanes c states (other_end e)) (c.top (other_end e)))))
-        ∙ ap (λ z. (from_last (in_part lanes c states (other_end e)) (c.top (other_end e)) ++ z) ++ m ∷ []) (sym (ap (λ (n : ℕ). from_first (out_part lanes c states e) n) top))
+        ∙ ap (λ z. (from_last (in_part lanes c states (other_end e)) (c.top (other_end e)) ++ z) ++ m ∷ [])
+        (sym (ap (λ (n : ℕ). from_first (out_part lanes c states e) n) top))
     core (suc k) at top =
         ap (λ z. z ++ from_first (out_part (posted (suc k)) c states' e) (c.top e))
         (same_last (in_part lanes c states (other_end e)) (in_part (posted (suc k)) c states' (other_end e)) (c.top (other_end e))
@@ -60,7 +66,8 @@ module _ (c : Chains) (lanes : Lanes) (p : ℕ) (e : EndId) (low : e.side < 2) (
         ∙ push_first (out_part lanes c states e) (out_part (posted (suc k)) c states' e) k (m ∷ []) (sent_here (suc k) at refl)
         (λ j lt. ap (λ l. messages_in l) (sent_same (suc k) at (outward e j) (other_hop e e j k (λ i. omega (arith, lt, i)))))
         ∙ ap (λ (n : ℕ). from_first (out_part lanes c states e) n ++ m ∷ []) (sym top))
-        ∙ sym (append_assoc (from_last (in_part lanes c states (other_end e)) (c.top (other_end e))) (from_first (out_part lanes c states e) (c.top e)) (m ∷ []))
+        ∙ sym (append_assoc (from_last (in_part lanes c states (other_end e)) (c.top (other_end e)))
+        (from_first (out_part lanes c states e) (c.top e)) (m ∷ []))
 
     -- a message more is on its way to the other end
     pub pipe_more : (t : ℕ) → c.at e t ≡ p → c.top e ≡ t → pipe (posted t) c states' (other_end e) ≡ pipe lanes c states (other_end e) ++ m ∷ []
@@ -75,7 +82,8 @@ module _ (c : Chains) (lanes : Lanes) (p : ℕ) (e : EndId) (low : e.side < 2) (
     apart_road_out (suc t) d k apart = other_name d e k t apart
 
     -- the same is on its way to others
-    pub pipe_else : (t : ℕ) → c.at e t ≡ p → (d : EndId) → d.side < 2 → is_same_end d (other_end e) ≡ false → pipe (posted t) c states' d ≡ pipe lanes c states d
+    pub pipe_else : (t : ℕ) → c.at e t ≡ p → (d : EndId) → d.side < 2 → is_same_end d (other_end e) ≡ false
+        → pipe (posted t) c states' d ≡ pipe lanes c states d
     pipe_else t at d i apart =
         ap (λ z. z ++ from_first (out_part (posted t) c states' (other_end d)) (c.top (other_end d)))
         (same_last (in_part lanes c states d) (in_part (posted t) c states' d) (c.top d)

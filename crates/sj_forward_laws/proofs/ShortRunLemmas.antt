@@ -1,5 +1,8 @@
 -- Runs of accepted files are short, so drains exist.
-use Rattle.std.proofs.Common.{◌≡◌, ℕ, ◌+◌, ◌*◌, ◌≤◌, List, [], ◌∷◌, ◌++◌, length, Some, None, option_map, refl, sym, subst, ap, ◌∙◌, arith, inl, inr, ◌⊎◌, length-append}
+use Rattle.sj_forward_laws.proofs.StepLemmas.{IsDone, IsIdle, party_acts}
+use Rattle.sj_forward_laws.proofs.FrontLemmas.{front_delivered}
+use Rattle.std.proofs.Common.{◌≡◌, ℕ, ◌+◌, ◌*◌, ◌≤◌, List, [], ◌∷◌, ◌++◌, length, Some, None, option_map, refl, sym, subst, ap, ◌∙◌, arith}
+use Rattle.std.proofs.Common.{inl, inr, ◌⊎◌, length-append}
 use Rattle.sj_lang.specs.FileAt.{FileAt}
 use Rattle.sj_acceptance.specs.Accepted.{IsAccepted}
 use Rattle.sj_semantics.specs.Program.{Program}
@@ -22,10 +25,10 @@ use Rattle.sj_forward_rules.specs.World.{WorldAt, Run, happens, after_event, wit
 use Rattle.sj_forward_rules.specs.Drain.{IsDrained}
 use Rattle.sj_forward_rules.specs.Start.{forward_start, IsForwardRun}
 use Rattle.sj_forward_laws.specs.Limits.{limit_of_events_for_act, limit_of_events}
-use Rattle.sj_forward_laws.proofs.StepLemmas.{IsDone, IsIdle, party_acts, front_delivered}
 use Rattle.sj_forward_laws.proofs.CoverLemmas.{Covers, act_covered, delivery_covered}
 use Rattle.sj_forward_laws.proofs.FewLemmas.{front_meets_few}
-use Rattle.sj_forward_laws.proofs.RunLemmas.{StandsAfter, same_world, run_stands, runs_stand, run_front}
+use Rattle.sj_forward_laws.proofs.RunLemmas.{StandsAfter, same_world, run_stands, runs_stand}
+use Rattle.sj_forward_laws.proofs.RunLawsLemmas.{run_front}
 use Rattle.sj_forward_laws.proofs.DrainEndLemmas.{run_joined}
 use Rattle.sj_forward_laws.proofs.DrainExistsLemmas.{drain_exists}
 
@@ -49,12 +52,16 @@ module _ (file : FileAt) (accepted : IsAccepted file) where
 
   module _ (ps : List ℕ) (w : WorldAt Program) (s : StandsAfter file ps w) (l : Credits) (c : Covers limit_of_messages l w) where
     act_goes : (p : ℕ) (v : WorldAt Program) → happens (play_of file) w p Act ≡ Some v → Goes v l 1
-    act_goes p v h = by (party_acts IsOver (play_of file) binds (length file.parties) refl w (plain_at s.plain) s.kept (run_is_lawful file ps s.plain accepted s.run) p)
+    act_goes p v h =
+        by (party_acts IsOver (play_of file) binds (length file.parties) refl w (plain_at s.plain) s.kept
+        (run_is_lawful file ps s.plain accepted s.run) p)
       where
-        by : IsDone IsOver (play_of file) binds (length file.parties) w (plain_at s.plain) p ⊎ IsIdle (play_of file) (length file.parties) w (plain_at s.plain) p → Goes v l 1
+        by : IsDone IsOver (play_of file) binds (length file.parties) w (plain_at s.plain) p
+            ⊎ IsIdle (play_of file) (length file.parties) w (plain_at s.plain) p → Goes v l 1
         by (inl d) =
             let k = act_covered limit_of_messages w p l d.done c d.light in
-            let same : after_event w p w.lanes d.done ≡ v = same_world (after_event w p w.lanes d.done) v (sym (ap (option_map (after_event w p w.lanes)) d.is) ∙ h) in
+            let same : after_event w p w.lanes d.done ≡ v =
+            same_world (after_event w p w.lanes d.done) v (sym (ap (option_map (after_event w p w.lanes)) d.is) ∙ h) in
             record { ledger = k.0.ledger; covers = subst (λ x. Covers limit_of_messages k.0.ledger x) same k.0.covers; few = omega (arith, k.1) }
         by (inr i) = absurd (let none : happens (play_of file) w p Act ≡ None = ap (option_map (after_event w p w.lanes)) i.is in cc (h, none))
 
@@ -65,16 +72,20 @@ module _ (file : FileAt) (accepted : IsAccepted file) where
         by [] front = absurd (let none : happens (play_of file) w p (Deliver q) ≡ None = ap (λ fs. delivery_of w p q fs) front in cc (h, none))
         by (f ∷ rest) front =
             let d = front_delivered IsOver (play_of file) binds (length file.parties) w (plain_at s.plain) s.kept q p f rest front in
-            let few = front_meets_few IsOver (play_of file) binds (length file.parties) w (plain_at s.plain) s.kept.kept (run_is_lawful file ps s.plain accepted s.run) q p f d.rest d.front in
+            let few =
+            front_meets_few IsOver (play_of file) binds (length file.parties) w (plain_at s.plain) s.kept.kept
+            (run_is_lawful file ps s.plain accepted s.run) q p f d.rest d.front in
             let k = delivery_covered limit_of_messages w p q f d.rest l d.done c d.front few d.is in
-            let same : after_event w p (with_lane q p d.rest w.lanes) d.done ≡ v = same_world (after_event w p (with_lane q p d.rest w.lanes) d.done) v (sym d.happened ∙ h) in
+            let same : after_event w p (with_lane q p d.rest w.lanes) d.done ≡ v =
+            same_world (after_event w p (with_lane q p d.rest w.lanes) d.done) v (sym d.happened ∙ h) in
             record { ledger = k.0.ledger; covers = subst (λ x. Covers limit_of_messages k.0.ledger x) same k.0.covers; few = omega (arith, k.1) }
 
     event_goes : (p : ℕ) (event : Event) (v : WorldAt Program) → happens (play_of file) w p event ≡ Some v → Goes v l (length (acts_by event p))
     event_goes p Act v h = act_goes p v h
     event_goes p (Deliver q) v h = delivery_goes p q v h
 
-  short_from : (ps : List ℕ) (w v : WorldAt Program) (turns : List Turn) (l : Credits) → StandsAfter file ps w → Covers limit_of_messages l w → Run (play_of file) w turns v
+  short_from : (ps : List ℕ) (w v : WorldAt Program) (turns : List Turn) (l : Credits) → StandsAfter file ps w → Covers limit_of_messages l w
+      → Run (play_of file) w turns v
       → length turns ≤ total l + limit_of_events_for_act * length (acts_in turns)
   short_from ps w v [] l s c run = omega arith
   short_from ps w v (t ∷ ts) l s c run =
@@ -89,20 +100,30 @@ module _ (file : FileAt) (accepted : IsAccepted file) where
   runs_are_short turns w run =
       let none : IsForwardRun file [] (forward_start file) = refl in
       let covered : Covers limit_of_messages [] (forward_start file) = record { lanes = λ from to. omega arith } in
-      omega (arith, short_from [] (forward_start file) w turns [] (runs_stand file accepted [] (forward_start file) none) covered run, few_acts turns w run, accepted.within.parties)
+      omega (
+        arith,
+        short_from [] (forward_start file) w turns [] (runs_stand file accepted [] (forward_start file) none) covered run,
+        few_acts
+            turns w run,
+        accepted.within.parties,
+      )
 
-  run_goes_on : (w last : WorldAt Program) (turns more : List Turn) → IsForwardRun file turns w → Run (play_of file) w more last → IsForwardRun file (turns ++ more) last
+  run_goes_on : (w last : WorldAt Program) (turns more : List Turn) → IsForwardRun file turns w → Run (play_of file) w more last
+      → IsForwardRun file (turns ++ more) last
   run_goes_on w last turns more run rest = run_joined (play_of file) (forward_start file) w last turns more run rest
 
-  further_is_short : (w last : WorldAt Program) (turns more : List Turn) → IsForwardRun file turns w → Run (play_of file) w more last → length turns + length more ≤ limit_of_events
-  further_is_short w last turns more run rest = omega (arith, runs_are_short (turns ++ more) last (run_goes_on w last turns more run rest), length-append turns more)
+  further_is_short : (w last : WorldAt Program) (turns more : List Turn) → IsForwardRun file turns w → Run (play_of file) w more last
+      → length turns + length more ≤ limit_of_events
+  further_is_short w last turns more run rest =
+      omega (arith, runs_are_short (turns ++ more) last (run_goes_on w last turns more run rest), length-append turns more)
 
   -- a world of a run
   abbrev Reached : WorldAt Program → Type 0
   Reached w = (turns : List Turn) × IsForwardRun file turns w
 
   -- each run has a drain
-  pub run_drains : (turns : List Turn) (w : WorldAt Program) → IsForwardRun file turns w → (more : List Turn) × (last : WorldAt Program) × IsDrained (play_of file) (length file.parties) w more last
+  pub run_drains : (turns : List Turn) (w : WorldAt Program) → IsForwardRun file turns w → (more : List Turn) × (last : WorldAt Program)
+      × IsDrained (play_of file) (length file.parties) w more last
   run_drains turns w run =
       drain_exists (play_of file) Reached
       (λ w v p event good h. (good.0 ++ turn p event ∷ [], run_goes_on w v good.0 (turn p event ∷ []) good.1 (v, h, refl)))

@@ -1,6 +1,7 @@
 -- The start of an accepted file keeps the invariant.
 use Rattle.std.specs.Prelude.{nat_lt}
-use Rattle.std.proofs.Common.{◌≡◌, ℕ, zero, suc, ◌<◌, ◌≤◌, Bool, true, false, List, [], ◌++◌, drop, slice_get, Option, Some, None, option_map, option_and_then, unwrap_or, refl, ap, sym, ◌∙◌, subst, arith, inl}
+use Rattle.std.proofs.Common.{◌≡◌, ℕ, zero, suc, ◌<◌, ◌≤◌, Bool, true, false, List, [], ◌++◌, drop, slice_get, Option, Some, None}
+use Rattle.std.proofs.Common.{option_map, option_and_then, unwrap_or, refl, ap, sym, ◌∙◌, subst, arith, inl}
 use Rattle.std.specs.Prelude.{◌==◌, if◌then◌else◌, map}
 use Rattle.std.proofs.lemmas.Bool.{lt-ltb, eq-eqb, eqb-true, ne_eqb}
 use Rattle.std.proofs.lemmas.Option.{slice_get-map, slice_get_past}
@@ -25,48 +26,9 @@ use Rattle.sj_forward_laws.specs.Roads.{Chains, behind_of}
 use Rattle.sj_forward_laws.specs.Pipe.{pipe}
 use Rattle.sj_forward_laws.specs.Kept.{Seat, in_use, on_its_way, at_its_end, in_open, OpensFit, IsLast, IsRecorded, IsInChain, IsKept, IsOpenKept}
 use Rattle.sj_forward_rules.specs.Start.{home_by, first_record, first_use, first_node, forward_start}
+use Rattle.sj_forward_laws.proofs.StartSides.{start_end, connect_is, connect_other, plain_start, nothing_waits}
 use Rattle.sj_forward_laws.proofs.EndLemmas.{other_low}
 use Rattle.sj_forward_rules.specs.Node.{HasRecord}
-
--- ---- what the plain world knows
-
-abbrev start_end : FileAt → EndId → Option ConnectAt → EndAt
-start_end file e None = nowhere
-start_end file e (Some c) = fresh (body_named file.protocols (declared_on e.side c).protocol)
-
-end_on_start : (file : FileAt) (d : ℕ) (c : ConnectAt) → end_on d (session_of file c) ≡ fresh (body_named file.protocols (declared_on d c).protocol)
-end_on_start file zero c = refl
-end_on_start file (suc d) c = refl
-
-by_connect : (file : FileAt) (e : EndId) (o : Option ConnectAt) → unwrap_or (option_map (end_on e.side) (option_map (session_of file) o)) nowhere ≡ start_end file e o
-by_connect file e None = refl
-by_connect file e (Some c) = end_on_start file e.side c
-
-connect_is : (file : FileAt) (e : EndId) → e.side < 2 → connect_of file e ≡ slice_get file.connects e.sess
-connect_is file e low = ap (λ (b : Bool). if b then slice_get file.connects e.sess else None) (lt-ltb e.side 2 low)
-
-connect_other : (file : FileAt) (e : EndId) → e.side < 2 → connect_of file (other_end e) ≡ connect_of file e
-connect_other file e low = connect_is file (other_end e) (other_low e) ∙ sym (connect_is file e low)
-
-plain_start : (file : FileAt) (e : EndId) → e.side < 2 → (plain_at (start_of file)).sides e ≡ side_at (is_offered_end no_requests e) (start_end file e (connect_of file e))
-plain_start file e low =
-    side_below no_requests (start_of file).sessions e low
-    ∙ ap (side_at (is_offered_end no_requests e)) (ap (λ o. unwrap_or (option_map (end_on e.side) o) nowhere) (slice_get-map (session_of file) file.connects e.sess)
-    ∙ by_connect file e (slice_get file.connects e.sess) ∙ ap (λ o. start_end file e o) (sym (connect_is file e low)))
-
-nothing_sent : (file : FileAt) (offered : Bool) (e : EndId) (o : Option ConnectAt) → (side_at offered (start_end file e o)).sent ≡ []
-nothing_sent file offered e None = refl
-nothing_sent file offered e (Some c) = refl
-
-drop_nil : {A : Type 0} (k : ℕ) → ◌≡◌ {A = List A} (drop k []) []
-drop_nil zero = refl
-drop_nil (suc k) = refl
-
-nothing_waits : (file : FileAt) (e : EndId) → waits_of (plain_at (start_of file)) e ≡ []
-nothing_waits file e =
-    ap (λ (x : PlainSide Place). drop ((plain_at (start_of file)).sides e).taken x.sent) (plain_start file (other_end e) (other_low e))
-    ∙ ap (λ l. drop ((plain_at (start_of file)).sides e).taken l) (nothing_sent file (is_offered_end no_requests (other_end e)) (other_end e) (connect_of file (other_end e)))
-    ∙ drop_nil ((plain_at (start_of file)).sides e).taken
 
 -- ---- where ends lie
 
@@ -88,15 +50,18 @@ start_chains file = record { at = λ e h. home_with file e (connect_of file e); 
 abbrev start_states : FileAt → EndId → ℕ → StateAt
 start_states file e h = state_with (connect_of file e)
 
-recorded_with : (file : FileAt) (e : EndId) (o : Option ConnectAt) → IsRecorded (option_and_then (first_record file (home_with file e o) e) o) (home_with file (other_end e) o) (state_with o)
+recorded_with : (file : FileAt) (e : EndId) (o : Option ConnectAt)
+    → IsRecorded (option_and_then (first_record file (home_with file e o) e) o) (home_with file (other_end e) o) (state_with o)
 recorded_with file e None = inl refl
 recorded_with file e (Some c) =
-    ap (λ (b : Bool). start_record (if b then Some (record { behind = home_by file (other_end e) c; state = Held [] }) else None)) (eq-eqb (home_by file e c) (home_by file e c) refl)
+    ap (λ (b : Bool). start_record (if b then Some (record { behind = home_by file (other_end e) c; state = Held [] }) else None))
+    (eq-eqb (home_by file e c) (home_by file e c) refl)
   where
     start_record : Option RecordAt → Option RecordAt
     start_record o = o
 
-used_with : (file : FileAt) (e : EndId) (o : Option ConnectAt) → seat_with o ≡ in_use → option_and_then (first_use file (home_with file e o) e) o ≡ Some 0
+used_with : (file : FileAt) (e : EndId) (o : Option ConnectAt) → seat_with o ≡ in_use
+    → option_and_then (first_use file (home_with file e o) e) o ≡ Some 0
 used_with file e None used = absurd (let bad : false ≡ true = ap is_used used in cc bad)
   where
     is_used : Seat → Bool
@@ -106,7 +71,8 @@ used_with file e None used = absurd (let bad : false ≡ true = ap is_used used 
     is_used in_open = false
 used_with file e (Some c) used = ap (λ (b : Bool). if b then Some 0 else None) (eq-eqb (home_by file e c) (home_by file e c) refl)
 
-last_with : (file : FileAt) (offered : Bool) (e : EndId) (o : Option ConnectAt) → IsLast IsDone (side_at offered (start_end file e o)) [] 0 (seat_with o) (state_with o)
+last_with : (file : FileAt) (offered : Bool) (e : EndId) (o : Option ConnectAt)
+    → IsLast IsDone (side_at offered (start_end file e o)) [] 0 (seat_with o) (state_with o)
 last_with file offered e None = (refl, refl)
 last_with file offered e (Some c) = refl
 
@@ -125,7 +91,8 @@ no_pipe file e = ap (λ (s : List SentAt). (s ++ []) ++ []) (nothing_stored (con
 first_records : (file : FileAt) (e : EndId) (h : ℕ) → e.side < 2 → h ≤ 0
     → IsRecorded ((first_node file (home_with file e (connect_of file e))).records e h) (behind_of (start_chains file) e h) (start_states file e h)
 first_records file e zero low le =
-    subst (λ o. IsRecorded (option_and_then (first_record file (home_with file e (connect_of file e)) e) (connect_of file e)) (home_with file (other_end e) o) (state_with (connect_of file e)))
+    subst (λ o. IsRecorded (option_and_then (first_record file (home_with file e (connect_of file e)) e) (connect_of file e))
+    (home_with file (other_end e) o) (state_with (connect_of file e)))
     (sym (connect_other file e low)) (recorded_with file e (connect_of file e))
 first_records file e (suc h) low le = absurd (omega (arith, le))
 
@@ -145,17 +112,20 @@ first_alone file e (suc h) p r is =
     absurd (cc (none, is))
 
 -- at the home of an end there is a record
-pub home_has : (file : FileAt) (e : EndId) (c : ConnectAt) → connect_of file e ≡ Some c → HasRecord ((forward_start file).nodes (home_by file e c)) e 0
+pub home_has : (file : FileAt) (e : EndId) (c : ConnectAt) → connect_of file e ≡ Some c
+    → HasRecord ((forward_start file).nodes (home_by file e c)) e 0
 home_has file e c is = (
   record { behind = home_by file (other_end e) c; state = Held [] },
   ap (λ o. option_and_then (first_record file (home_by file e c) e) o) is
-      ∙ ap (λ (b : Bool). start_record (if b then Some (record { behind = home_by file (other_end e) c; state = Held [] }) else None)) (eq-eqb (home_by file e c) (home_by file e c) refl),
+      ∙ ap (λ (b : Bool). start_record (if b then Some (record { behind = home_by file (other_end e) c; state = Held [] }) else None))
+      (eq-eqb (home_by file e c) (home_by file e c) refl),
 )
   where
     start_record : Option RecordAt → Option RecordAt
     start_record o = o
 
-home_below : (file : FileAt) → IsAccepted file → 0 < length file.parties → (e : EndId) (o : Option ConnectAt) → connect_of file e ≡ o → home_with file e o < length file.parties
+home_below : (file : FileAt) → IsAccepted file → 0 < length file.parties → (e : EndId) (o : Option ConnectAt) → connect_of file e ≡ o
+    → home_with file e o < length file.parties
 home_below file accepted some e None is = some
 home_below file accepted some e (Some c) is = by (nat_lt e.side 2) is
   where
@@ -178,8 +148,11 @@ start_is_kept file accepted = record {
   below = λ some e h. home_below file accepted some e (connect_of file e) refl;
   opens = λ e low. opens_with e.sess (connect_of file e);
   last = λ e low.
-      subst (λ (x : PlainSide Place). IsLast IsDone x (waits_of (plain_at (start_of file)) e) 0 (seat_with (connect_of file e)) (state_with (connect_of file e))) (sym (plain_start file e low))
-      (subst (λ l. IsLast IsDone (side_at (is_offered_end no_requests e) (start_end file e (connect_of file e))) l 0 (seat_with (connect_of file e)) (state_with (connect_of file e))) (sym (nothing_waits file e)) (last_with file (is_offered_end no_requests e) e (connect_of file e)));
+      subst (λ (x : PlainSide Place). IsLast IsDone x (waits_of (plain_at (start_of file)) e) 0 (seat_with (connect_of file e))
+      (state_with (connect_of file e))) (sym (plain_start file e low))
+      (subst (λ l. IsLast IsDone (side_at (is_offered_end no_requests e) (start_end file e (connect_of file e))) l 0
+      (seat_with (connect_of file e)) (state_with (connect_of file e))) (sym (nothing_waits file e))
+      (last_with file (is_offered_end no_requests e) e (connect_of file e)));
   waits = λ e low. ap (λ l. map (λ (x : SentAt). x.msg) l) (no_pipe file e) ∙ sym (nothing_waits file e);
   names = λ e n m low got. absurd (let none : slice_get [] n ≡ Some m = ap (λ l. slice_get l n) (sym (no_pipe file e)) ∙ got in cc none);
   programs = λ p. refl;
@@ -193,13 +166,15 @@ start_is_kept file accepted = record {
 -- ---- and nothing is opened yet
 
 none_recorded : (file : FileAt) (p : ℕ) (e : EndId) → length file.connects ≤ e.sess → ((forward_start file).nodes p).records e 0 ≡ None
-none_recorded file p e past = ap (λ (b : Bool). if b then option_and_then (first_record file p e) (connect_of file e) else None) (eq-eqb 0 0 refl) ∙ by (nat_lt e.side 2)
+none_recorded file p e past =
+    ap (λ (b : Bool). if b then option_and_then (first_record file p e) (connect_of file e) else None) (eq-eqb 0 0 refl) ∙ by (nat_lt e.side 2)
   where
     by : (b : Bool) → option_and_then (first_record file p e) (if b then slice_get file.connects e.sess else None) ≡ None
     by true = ap (option_and_then (first_record file p e)) (slice_get_past file.connects e.sess past)
     by false = refl
 
-pub start_is_open_kept : (file : FileAt) → IsAccepted file → IsOpenKept IsDone binds (length file.parties) (forward_start file) (plain_at (start_of file))
+pub start_is_open_kept : (file : FileAt) → IsAccepted file
+    → IsOpenKept IsDone binds (length file.parties) (forward_start file) (plain_at (start_of file))
 start_is_open_kept file accepted = record {
   kept = start_is_kept file accepted;
   requests = λ p. refl;

@@ -14,7 +14,8 @@ use Rattle.sj_rules.specs.World.{Event, Act, Deliver, Turn}
 use Rattle.sj_forward_rules.specs.Record.{SentAt, StateAt, Held, Parked, Passing, Closed, RecordAt, FrameAt, In, Out, Claim, Open}
 use Rattle.sj_forward_rules.specs.Node.{NodeAt, HasRecord, Worked, quietly, with_record, with_first, with_offers, with_program, HeldAt, held_of}
 use Rattle.sj_forward_rules.specs.Arrivals.{in_by, out_by, claim_by, at_record, comes}
-use Rattle.sj_forward_rules.specs.Acts.{send_act, parked, delegate_act, work_of_take, take_from, take_act, close_act, open_session, request_act, accept_offered, act_by, acts}
+use Rattle.sj_forward_rules.specs.Acts.{send_act, parked, delegate_act, work_of_take, take_from, take_act, close_act, open_session}
+use Rattle.sj_forward_rules.specs.Acts.{request_act, accept_offered, act_by, acts}
 use Rattle.sj_forward_rules.specs.World.{WorldAt, Lanes, after_event, with_lane, delivery_of, happens, Run}
 
 -- the one has each record that the other has
@@ -73,7 +74,8 @@ module _ {Q : Type 0} where
   claim_stays n e h origin behind (Passing p) = by_none n
   claim_stays n e h origin behind Closed = by_none n
 
-  at_stays : (n : NodeAt Q) (f : ℕ → StateAt → Option (Worked Q)) → ((behind : ℕ) (st : StateAt) → WorkStays n (f behind st)) → (o : Option RecordAt) → WorkStays n (at_record f o)
+  at_stays : (n : NodeAt Q) (f : ℕ → StateAt → Option (Worked Q)) → ((behind : ℕ) (st : StateAt) → WorkStays n (f behind st))
+      → (o : Option RecordAt) → WorkStays n (at_record f o)
   at_stays n f each None = by_none n
   at_stays n f each (Some r) = each r.behind r.state
 
@@ -84,7 +86,8 @@ module _ {Q : Type 0} where
   comes_stays n origin (Open sess) = by (is_opened_by origin sess && is_none (n.records (offered_end sess) 0))
     where
       by : (b : Bool)
-          → WorkStays n (if b then Some (quietly (with_offers origin (n.offers origin ++ sess ∷ []) (with_first (offered_end sess) origin n))) else None)
+          → WorkStays n (if b then Some (quietly (with_offers origin (n.offers origin ++ sess ∷ []) (with_first (offered_end sess) origin n))) else
+          None)
       by true = by_some n _ (written_stays n (offered_end sess) 0 (record { behind = origin; state = Held [] }))
       by false = by_none n
 
@@ -98,7 +101,8 @@ module _ {Q : Type 0} where
   delegate_stays n v p carrier e None stays = by_none n
   delegate_stays n v p carrier e (Some h) stays = by (nat_lt h.hop limit_of_hops)
     where
-      by : (b : Bool) → WorkStays n (if b then send_act (parked e h v) carrier (record { msg = session_message e p; hop = h.hop }) (held_of (parked e h v) carrier) else None)
+      by : (b : Bool) → WorkStays n (if b then send_act (parked e h v) carrier (record { msg = session_message e p; hop = h.hop })
+          (held_of (parked e h v) carrier) else None)
       by true =
           send_stays n (parked e h v) carrier (record { msg = session_message e p; hop = h.hop }) (held_of (parked e h v) carrier)
           (λ d k has. written_stays v e h.hop (record { behind = h.behind; state = Parked h.untaken }) d k (stays d k has))
@@ -142,7 +146,8 @@ module _ {P Q : Type 0} (play : Play P Q) where
   by_stays : (p : ℕ) (n : NodeAt Q) (want : Want P) → WorkStays n (act_by play p n want)
   by_stays p n ended = by_none n
   by_stays p n local = by_some n _ (λ d k has. has)
-  by_stays p n (sends e msg) = send_stays n (with_program (play.goes n.program None) n) e (record { msg = msg; hop = 0 }) (held_of n e) (λ d k has. has)
+  by_stays p n (sends e msg) =
+      send_stays n (with_program (play.goes n.program None) n) e (record { msg = msg; hop = 0 }) (held_of n e) (λ d k has. has)
   by_stays p n (delegates carrier e) = delegate_stays n (with_program (play.goes n.program None) n) p carrier e (held_of n e) (λ d k has. has)
   by_stays p n (takes e place) = take_stays n e (held_of n e)
   by_stays p n (closes e) = close_stays n (with_program (play.goes n.program None) n) e (held_of n e) (λ d k has. has)
@@ -159,17 +164,22 @@ module _ {P Q : Type 0} (play : Play P Q) where
   -- ---- events and runs
 
   module _ (e : EndId) (h : ℕ) (x : ℕ) where
-    event_stays : (w v : WorldAt Q) (p : ℕ) (lanes : Lanes) (o : Option (Worked Q)) → WorkStays (w.nodes p) o → option_map (after_event w p lanes) o ≡ Some v
+    event_stays : (w v : WorldAt Q) (p : ℕ) (lanes : Lanes) (o : Option (Worked Q)) → WorkStays (w.nodes p) o
+        → option_map (after_event w p lanes) o ≡ Some v
         → HasRecord (w.nodes x) e h → HasRecord (v.nodes x) e h
     event_stays w v p lanes None stays is has = absurd (cc is)
     event_stays w v p lanes (Some done) stays is has =
-        subst (λ (u : WorldAt Q). HasRecord (u.nodes x) e h) (same_world (after_event w p lanes done) v is) (still_there w.nodes p done.node (stays done refl) x e h has)
+        subst (λ (u : WorldAt Q). HasRecord (u.nodes x) e h) (same_world (after_event w p lanes done) v is)
+        (still_there w.nodes p done.node (stays done refl) x e h has)
 
-    delivery_stays : (w v : WorldAt Q) (p q : ℕ) (fs : List FrameAt) → delivery_of w p q fs ≡ Some v → HasRecord (w.nodes x) e h → HasRecord (v.nodes x) e h
+    delivery_stays : (w v : WorldAt Q) (p q : ℕ) (fs : List FrameAt) → delivery_of w p q fs ≡ Some v → HasRecord (w.nodes x) e h
+        → HasRecord (v.nodes x) e h
     delivery_stays w v p q [] is has = absurd (cc is)
-    delivery_stays w v p q (f ∷ rest) is has = event_stays w v p (with_lane q p rest w.lanes) (comes (w.nodes p) q f) (comes_stays (w.nodes p) q f) is has
+    delivery_stays w v p q (f ∷ rest) is has =
+        event_stays w v p (with_lane q p rest w.lanes) (comes (w.nodes p) q f) (comes_stays (w.nodes p) q f) is has
 
-    happens_stays : (w v : WorldAt Q) (p : ℕ) (event : Event) → happens play w p event ≡ Some v → HasRecord (w.nodes x) e h → HasRecord (v.nodes x) e h
+    happens_stays : (w v : WorldAt Q) (p : ℕ) (event : Event) → happens play w p event ≡ Some v → HasRecord (w.nodes x) e h
+        → HasRecord (v.nodes x) e h
     happens_stays w v p Act is has = event_stays w v p w.lanes (acts play p (w.nodes p)) (acts_stay p (w.nodes p)) is has
     happens_stays w v p (Deliver q) is has = delivery_stays w v p q (w.lanes q p) is has
 

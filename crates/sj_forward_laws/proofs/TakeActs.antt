@@ -1,5 +1,5 @@
--- Steps that take a message, and steps that close an end.
-use Rattle.sj_forward_rules.specs.Node.{HasRecord}
+-- Steps that take a message.
+use Rattle.sj_forward_rules.specs.Node.{HasRecord, held_of}
 use Rattle.sj_semantics.specs.declared.State.TheVariants as states
 use Rattle.sj_forward_rules.specs.Ready.{has_message, is_filled, state_by, is_ready}
 use Rattle.sj_forward_laws.proofs.WeightLemmas.{claim_light, none_light}
@@ -31,74 +31,17 @@ use Rattle.sj_forward_laws.proofs.RecordLemmas.{written, written_here, written_a
 use Rattle.sj_forward_laws.proofs.MovedLemmas.{other_name, quiet_lane}
 use Rattle.sj_forward_laws.proofs.ChainLemmas.{not_new}
 use Rattle.sj_forward_laws.proofs.DeliveryLemmas.{nothing_here, nil_front}
-use Rattle.sj_forward_laws.proofs.QuietKeeps.{quiet_keeps, take_keeps, node_taken, world_taken, plain_without, states_taken, first_fits, pipe_first}
+use Rattle.sj_forward_laws.proofs.QuietKeeps.{quiet_keeps}
+use Rattle.sj_forward_laws.proofs.TakeKeeps.{take_keeps, node_taken, world_taken, plain_without, states_taken, first_fits, pipe_first}
 use Rattle.sj_forward_laws.proofs.ExtendKeeps.{IsPlaced, extend_keeps}
 use Rattle.sj_forward_laws.proofs.RestLemmas.{waits_rest}
-use Rattle.sj_forward_laws.proofs.ActLemmas.{not_top, is_in_use, way_end, way_number, IsHeldHere, held_here, program_goes, bound_goes, seats_left, seat_here, opens_left, names_left, bound_left, uses_left}
+use Rattle.sj_forward_laws.proofs.ActLemmas.{not_top, is_in_use, way_end, way_number, IsHeldHere, held_here, program_goes, bound_goes}
+use Rattle.sj_forward_laws.proofs.ActLemmas.{seats_left, seat_here, opens_left, names_left, bound_left, uses_left}
 use Rattle.sj_forward_laws.proofs.SendActs.{IsActed, IsStill, bound_same}
 
-module _ {P Q : Type 0} (IsOver : P → Type 0) (play : Play P Q) (binds : Q → EndId → Bool) (parties : ℕ) (w : WorldAt Q) (plain : PlainAt P Q) (kept : IsKept IsOver binds parties w plain)
+module _ {P Q : Type 0} (IsOver : P → Type 0) (play : Play P Q) (binds : Q → EndId → Bool) (parties : ℕ) (w : WorldAt Q) (plain : PlainAt P Q)
+    (kept : IsKept IsOver binds parties w plain)
     (lawful : IsLawful IsOver play binds parties plain) (p : ℕ) where
-  -- ---- an end is closed
-
-  module _ (e : EndId) (fit : FitsClose IsOver play binds plain (plain.programs p) e) where
-    held_e : IsHeldHere IsOver binds parties w plain kept p e
-    held_e = held_here IsOver binds parties w plain kept p e fit.bound
-
-    abbrev closed_states : EndId → ℕ → StateAt
-    closed_states = written kept.states e (kept.chains.top e) Closed
-
-    abbrev closed_node : NodeAt Q
-    closed_node = with_use e None (with_record e (kept.chains.top e) (record { behind = behind_of kept.chains e (kept.chains.top e); state = Closed }) (with_program (play.goes (w.nodes p).program None) (w.nodes p)))
-
-    nothing_stored : stored (kept.states e (kept.chains.top e)) ≡ []
-    nothing_stored = nil_front (stored (kept.states e (kept.chains.top e))) _ (nothing_here IsOver binds parties w plain kept e held_e.low fit.nothing_waits)
-
-    last_e : IsLast IsOver (plain.sides e) (waits_of plain e) (kept.chains.top e) (seats_left IsOver binds parties w plain kept p e held_e at_its_end refl e) (closed_states e (kept.chains.top e))
-    last_e =
-        subst (λ s. IsLast IsOver (plain.sides e) (waits_of plain e) (kept.chains.top e) s (closed_states e (kept.chains.top e))) (sym (seat_here IsOver binds parties w plain kept p e held_e at_its_end refl))
-        (subst (λ s. IsLast IsOver (plain.sides e) (waits_of plain e) (kept.chains.top e) at_its_end s)
-        (sym (written_here kept.states e (kept.chains.top e) Closed e (kept.chains.top e) (road_self (inward e (kept.chains.top e))))) (fit.over, fit.nothing_waits))
-
-    closed_lasts : (d : EndId) → d.side < 2
-        → IsLast IsOver (plain.sides d) (waits_of plain d) (kept.chains.top d) (seats_left IsOver binds parties w plain kept p e held_e at_its_end refl d) (closed_states d (kept.chains.top d))
-    closed_lasts d i = by (is_same_end d e) refl
-      where
-        by : (b : Bool) → is_same_end d e ≡ b
-            → IsLast IsOver (plain.sides d) (waits_of plain d) (kept.chains.top d) (seats_left IsOver binds parties w plain kept p e held_e at_its_end refl d) (closed_states d (kept.chains.top d))
-        by true t =
-            subst (λ x. IsLast IsOver (plain.sides x) (waits_of plain x) (kept.chains.top x) (seats_left IsOver binds parties w plain kept p e held_e at_its_end refl x) (closed_states x (kept.chains.top x))) (sym (same_is d e t)) last_e
-        by false t =
-            subst (λ (b : Bool). IsLast IsOver (plain.sides d) (waits_of plain d) (kept.chains.top d) (if b then at_its_end else kept.seats d) (closed_states d (kept.chains.top d))) (sym t)
-            (subst (λ s. IsLast IsOver (plain.sides d) (waits_of plain d) (kept.chains.top d) (kept.seats d) s)
-            (sym (written_away kept.states e (kept.chains.top e) Closed d (kept.chains.top d) (other_name d e (kept.chains.top d) (kept.chains.top e) t))) (kept.last d i))
-
-    pub closes_acted : IsActed IsOver play binds parties w plain p (closes e)
-    closes_acted = record {
-      done = quietly closed_node;
-      next = plain_goes play p None plain;
-      is = ap (λ h. close_act (with_program (play.goes (w.nodes p).program None) (w.nodes p)) e h) held_e.found;
-      plain_is = refl;
-      light = none_light;
-      ready = refl;
-      kept = quiet_keeps IsOver binds parties w plain (plain_goes play p None plain) kept (λ k. if k == p then closed_node else w.nodes k) (lanes_with p [] w.lanes) closed_states
-          (seats_left IsOver binds parties w plain kept p e held_e at_its_end refl) (λ d. refl) (λ d. refl) (quiet_lane p w.lanes)
-          (λ d k. for_all (λ d k. stored (closed_states d k) ≡ stored (kept.states d k)) e (kept.chains.top e)
-          (ap stored (written_here kept.states e (kept.chains.top e) Closed e (kept.chains.top e) (road_self (inward e (kept.chains.top e)))) ∙ sym nothing_stored)
-          d k (λ t. ap stored (written_away kept.states e (kept.chains.top e) Closed d k t)))
-          (λ d k i le. written_records kept.chains kept.states w.nodes p closed_node e (kept.chains.top e) Closed held_e.at (λ d k. refl) d k (kept.joined.records d k i le))
-          (still_there w.nodes p closed_node (λ d k has. written_stays (w.nodes p) e (kept.chains.top e) (record { behind = behind_of kept.chains e (kept.chains.top e); state = Closed }) d k has))
-          (λ d k x r i is. written_alone kept.chains kept.states w.nodes p closed_node e (kept.chains.top e) (record { behind = behind_of kept.chains e (kept.chains.top e); state = Closed }) (omega arith, held_e.at) (λ d k. refl) d k
-          (λ x r is. kept.joined.alone d k x r i is) x r is)
-          (λ d k lt. written_away kept.states e (kept.chains.top e) Closed d k (not_top kept.chains e d k lt))
-          closed_lasts (opens_left IsOver binds parties w plain kept p e held_e at_its_end refl refl) (λ d n a named. names_left IsOver binds parties w plain kept p e held_e at_its_end refl d n a.msg a.hop named)
-          (program_goes IsOver binds parties w plain kept p closed_node (play.goes (plain.programs p) None) (ap (λ g. play.goes g None) (kept.programs p)))
-          (uses_left IsOver binds parties w plain kept p e held_e at_its_end refl closed_node (λ d t. ap (λ (b : Bool). if b then None else (w.nodes p).uses d) t))
-          (bound_left IsOver binds parties w plain kept p e held_e at_its_end refl (play.goes (plain.programs p) None) (λ d b. (fit.names d).0 b));
-    }
-
-  -- ---- a message is taken
-
   module _ (e : EndId) (named : P) (fit : FitsTake play binds plain (plain.programs p) e named) where
     held_t : IsHeldHere IsOver binds parties w plain kept p e
     held_t = held_here IsOver binds parties w plain kept p e fit.bound
@@ -107,42 +50,55 @@ module _ {P Q : Type 0} (IsOver : P → Type 0) (play : Play P Q) (binds : Q →
       waits_first : waiting_at plain e 0 ≡ Some m.msg
       waits_first =
           ap (λ l. slice_get l 0) (sym (kept.waits e held_t.low))
-          ∙ ap (λ l. slice_get (map (λ (x : SentAt). x.msg) l) 0) (pipe_first IsOver binds parties w plain kept p e held_t.low named m rest held_t.seat held_t.at is)
+          ∙ ap (λ l. slice_get (map (λ (x : SentAt). x.msg) l) 0)
+          (pipe_first IsOver binds parties w plain kept p e held_t.low named m rest held_t.seat held_t.at is)
 
       head : FitsHead play binds plain (plain.programs p) e named m.msg
       head = fit.head m.msg waits_first
 
-      abbrev k1 : IsKept IsOver binds parties (world_taken IsOver binds parties w plain kept p e held_t.low head.place m rest held_t.seat held_t.at is) (plain_without IsOver binds parties w plain kept p e held_t.low head.place m rest held_t.seat held_t.at is)
+      abbrev k1 : IsKept IsOver binds parties (world_taken IsOver binds parties w plain kept p e held_t.low head.place m rest held_t.seat held_t.at
+          is) (plain_without IsOver binds parties w plain kept p e held_t.low head.place m rest held_t.seat held_t.at is)
       k1 = take_keeps IsOver binds parties w plain kept p e held_t.low head.place m rest held_t.seat held_t.at is
 
       abbrev g' : Q
       g' = play.goes (plain.programs p) (Some m.msg)
 
       abbrev n1 : NodeAt Q
-      n1 = with_record e (kept.chains.top e) (record { behind = behind_of kept.chains e (kept.chains.top e); state = Held rest }) (with_program (play.goes (w.nodes p).program (Some m.msg)) (w.nodes p))
+      n1 =
+          with_record e (kept.chains.top e) (record { behind = behind_of kept.chains e (kept.chains.top e); state = Held rest })
+          (with_program (play.goes (w.nodes p).program (Some m.msg)) (w.nodes p))
 
       -- the tables are those of the party without the message
-      tables : {X : Type 0} (f : NodeAt Q → X) → f n1 ≡ f (node_taken IsOver binds parties w plain kept p e held_t.low head.place m rest held_t.seat held_t.at is) → (x : ℕ)
-          → f (if x == p then n1 else w.nodes x) ≡ f (if x == p then node_taken IsOver binds parties w plain kept p e held_t.low head.place m rest held_t.seat held_t.at is else w.nodes x)
+      tables : {X : Type 0} (f : NodeAt Q → X)
+          → f n1 ≡ f (node_taken IsOver binds parties w plain kept p e held_t.low head.place m rest held_t.seat held_t.at is) → (x : ℕ)
+          → f (if x == p then n1 else w.nodes x)
+          ≡ f (if x == p then node_taken IsOver binds parties w plain kept p e held_t.low head.place m rest held_t.seat held_t.at is else w.nodes x)
       tables f same x = by (x == p)
         where
-          by : (b : Bool) → f (if b then n1 else w.nodes x) ≡ f (if b then node_taken IsOver binds parties w plain kept p e held_t.low head.place m rest held_t.seat held_t.at is else w.nodes x)
+          by : (b : Bool) → f (if b then n1 else w.nodes x)
+              ≡ f (if b then node_taken IsOver binds parties w plain kept p e held_t.low head.place m rest held_t.seat held_t.at is else w.nodes x)
           by true = same
           by false = refl
 
-      program_now : (n : NodeAt Q) → n.program ≡ play.goes (w.nodes p).program (Some m.msg) → (k : ℕ) → (if k == p then n else w.nodes k).program ≡ (if k == p then g' else plain.programs k)
+      program_now : (n : NodeAt Q) → n.program ≡ play.goes (w.nodes p).program (Some m.msg) → (k : ℕ)
+          → (if k == p then n else w.nodes k).program ≡ (if k == p then g' else plain.programs k)
       program_now n same = program_goes IsOver binds parties w plain kept p n g' (same ∙ ap (λ g. play.goes g (Some m.msg)) (kept.programs p))
 
-      value_kept : BindsSame binds (plain.programs p) g' → IsKept IsOver binds parties (after_event w p w.lanes (quietly n1)) (plain_takes play p e m.msg head.place plain)
+      value_kept : BindsSame binds (plain.programs p) g'
+          → IsKept IsOver binds parties (after_event w p w.lanes (quietly n1)) (plain_takes play p e m.msg head.place plain)
       value_kept names =
           quiet_keeps IsOver binds parties (world_taken IsOver binds parties w plain kept p e held_t.low head.place m rest held_t.seat held_t.at is)
-          (plain_without IsOver binds parties w plain kept p e held_t.low head.place m rest held_t.seat held_t.at is) (plain_takes play p e m.msg head.place plain) k1
-          (λ k. if k == p then n1 else w.nodes k) (lanes_with p [] w.lanes) (states_taken IsOver binds parties w plain kept p e held_t.low head.place m rest held_t.seat held_t.at is) kept.seats
+          (plain_without IsOver binds parties w plain kept p e held_t.low head.place m rest held_t.seat held_t.at is)
+          (plain_takes play p e m.msg head.place plain) k1
+          (λ k. if k == p then n1 else w.nodes k) (lanes_with p [] w.lanes)
+          (states_taken IsOver binds parties w plain kept p e held_t.low head.place m rest held_t.seat held_t.at is) kept.seats
           (λ d. refl) (λ d. refl) (quiet_lane p w.lanes) (λ d k. refl)
-          (λ d k i le. subst (λ o. IsRecorded o (behind_of kept.chains d k) (states_taken IsOver binds parties w plain kept p e held_t.low head.place m rest held_t.seat held_t.at is d k))
+          (λ d k i le. subst (λ o. IsRecorded o (behind_of kept.chains d k)
+          (states_taken IsOver binds parties w plain kept p e held_t.low head.place m rest held_t.seat held_t.at is d k))
           (sym (tables (λ n. n.records d k) refl (kept.chains.at d k))) (k1.joined.records d k i le))
           (λ x d k has. (has.0, tables (λ n. n.records d k) refl x ∙ has.1))
-          (λ d k x r i is. k1.joined.alone d k x r i (sym (tables (λ n. n.records d k) refl x) ∙ is)) (λ d k lt. refl) k1.last (λ d sess fs fit. fit) (λ d n a fit. fit)
+          (λ d k x r i is. k1.joined.alone d k x r i (sym (tables (λ n. n.records d k) refl x) ∙ is)) (λ d k lt. refl) k1.last
+          (λ d sess fs fit. fit) (λ d n a fit. fit)
           (program_now n1 refl) (λ d i s. tables (λ n. n.uses d) refl (kept.chains.at d (kept.chains.top d)) ∙ k1.uses d i s)
           (bound_same IsOver play binds parties w plain kept lawful p g' names)
 
@@ -154,7 +110,8 @@ module _ {P Q : Type 0} (IsOver : P → Type 0) (play : Play P Q) (binds : Q →
       row : act_by play p (w.nodes p) (takes e named) ≡ Some (work_of_take m.msg m.hop n1)
       row =
           ap (λ h. take_act play (w.nodes p) e h) held_t.found
-          ∙ ap (λ l. take_from play (w.nodes p) e (record { hop = kept.chains.top e; behind = behind_of kept.chains e (kept.chains.top e); untaken = l }) l) untaken_is
+          ∙ ap (λ l. take_from play (w.nodes p) e (record
+          { hop = kept.chains.top e; behind = behind_of kept.chains e (kept.chains.top e); untaken = l }) l) untaken_is
         where
           untaken_is : held_t.held.untaken ≡ m ∷ rest
           untaken_is = sym (ap stored held_t.held.is) ∙ ap stored is
@@ -165,7 +122,8 @@ module _ {P Q : Type 0} (IsOver : P → Type 0) (play : Play P Q) (binds : Q →
           (ap (λ h. has_message h) held_t.found ∙ ap (λ l. is_filled l) (sym (ap stored held_t.held.is) ∙ ap stored is))
 
       value_acted : work_of_take m.msg m.hop n1 ≡ quietly n1
-          → ((x : PlainAt P Q) → plain_names named m.msg x ≡ x) → BindsSame binds (plain.programs p) g' → IsActed IsOver play binds parties w plain p (takes e named)
+          → ((x : PlainAt P Q) → plain_names named m.msg x ≡ x) → BindsSame binds (plain.programs p) g'
+          → IsActed IsOver play binds parties w plain p (takes e named)
       value_acted quiet unnamed names = record {
         done = quietly n1;
         next = plain_takes play p e m.msg head.place plain;
@@ -197,29 +155,44 @@ module _ {P Q : Type 0} (IsOver : P → Type 0) (play : Play P Q) (binds : Q →
             let bad : true ≡ false = ap is_in_use (sym (sym (ap kept.seats (same_is d y t)) ∙ used) ∙ named_fit.seat) in
             cc bad
 
-        gone : (d : EndId) (n : ℕ) → kept.seats y ≡ on_its_way d (((plain_without IsOver binds parties w plain kept p e held_t.low head.place m rest held_t.seat held_t.at is).sides d).taken + n) → ⊥
+        gone : (d : EndId) (n : ℕ) → kept.seats y
+            ≡ on_its_way d (((plain_without IsOver binds parties w plain kept p e held_t.low head.place m rest held_t.seat held_t.at is).sides
+            d).taken + n) → ⊥
         gone d n way =
-            let same : on_its_way e ((plain.sides e).taken) ≡ on_its_way d (((plain_without IsOver binds parties w plain kept p e held_t.low head.place m rest held_t.seat held_t.at is).sides d).taken + n) = sym named_fit.seat ∙ way in
+            let same : on_its_way e ((plain.sides e).taken)
+            ≡ on_its_way d (((plain_without IsOver binds parties w plain kept p e held_t.low head.place m rest held_t.seat held_t.at is).sides
+            d).taken + n) = sym named_fit.seat ∙ way in
             let d_is : e ≡ d = ap (way_end e) same in
-            let number : (plain.sides e).taken ≡ ((plain_without IsOver binds parties w plain kept p e held_t.low head.place m rest held_t.seat held_t.at is).sides d).taken + n = ap way_number same in
-            let number_e : (plain.sides e).taken ≡ ((plain_without IsOver binds parties w plain kept p e held_t.low head.place m rest held_t.seat held_t.at is).sides e).taken + n =
-            subst (λ x. (plain.sides e).taken ≡ ((plain_without IsOver binds parties w plain kept p e held_t.low head.place m rest held_t.seat held_t.at is).sides x).taken + n) (sym d_is) number in
-            let more : ((plain_without IsOver binds parties w plain kept p e held_t.low head.place m rest held_t.seat held_t.at is).sides e).taken ≡ (plain.sides e).taken + 1 =
+            let number : (plain.sides e).taken
+            ≡ ((plain_without IsOver binds parties w plain kept p e held_t.low head.place m rest held_t.seat held_t.at is).sides d).taken + n =
+            ap way_number same in
+            let number_e : (plain.sides e).taken
+            ≡ ((plain_without IsOver binds parties w plain kept p e held_t.low head.place m rest held_t.seat held_t.at is).sides e).taken + n =
+            subst (λ x. (plain.sides e).taken
+            ≡ ((plain_without IsOver binds parties w plain kept p e held_t.low head.place m rest held_t.seat held_t.at is).sides x).taken + n)
+            (sym d_is) number in
+            let more : ((plain_without IsOver binds parties w plain kept p e held_t.low head.place m rest held_t.seat held_t.at is).sides e).taken
+            ≡ (plain.sides e).taken + 1 =
             ap (λ (b : Bool). (if b then plain_taken (plain.sides e) head.place else plain.sides e).taken) (same_end e) in
             omega (arith, number_e, more)
 
         records_old : (d : EndId) (k : ℕ) → d.side < 2 → k ≤ kept.chains.top d
-            → IsRecorded ((if kept.chains.at d k == p then n2 (kept.chains.top y) else w.nodes (kept.chains.at d k)).records d k) (behind_of kept.chains d k)
+            → IsRecorded ((if kept.chains.at d k == p then n2 (kept.chains.top y) else w.nodes (kept.chains.at d k)).records d k)
+            (behind_of kept.chains d k)
             (states_taken IsOver binds parties w plain kept p e held_t.low head.place m rest held_t.seat held_t.at is d k)
         records_old d k i le =
-            subst (λ o. IsRecorded o (behind_of kept.chains d k) (states_taken IsOver binds parties w plain kept p e held_t.low head.place m rest held_t.seat held_t.at is d k))
+            subst (λ o. IsRecorded o (behind_of kept.chains d k)
+            (states_taken IsOver binds parties w plain kept p e held_t.low head.place m rest held_t.seat held_t.at is d k))
             (sym (both (kept.chains.at d k == p) ∙ tables (λ n. n.records d k) refl (kept.chains.at d k))) (k1.joined.records d k i le)
           where
-            both : (b : Bool) → (if b then n2 (kept.chains.top y) else w.nodes (kept.chains.at d k)).records d k ≡ (if b then n1 else w.nodes (kept.chains.at d k)).records d k
-            both true = ap (λ (b : Bool). if b then Some (record { behind = keeper; state = Held [] }) else n1.records d k) (not_new kept.chains y p d k le)
+            both : (b : Bool) → (if b then n2 (kept.chains.top y) else w.nodes (kept.chains.at d k)).records d k
+                ≡ (if b then n1 else w.nodes (kept.chains.at d k)).records d k
+            both true =
+                ap (λ (b : Bool). if b then Some (record { behind = keeper; state = Held [] }) else n1.records d k) (not_new kept.chains y p d k le)
             both false = refl
 
-        stays_now : (x : ℕ) → Stays (if x == p then node_taken IsOver binds parties w plain kept p e held_t.low head.place m rest held_t.seat held_t.at is else w.nodes x) (if x == p then n2 (kept.chains.top y) else w.nodes x)
+        stays_now : (x : ℕ) → Stays (if x == p then node_taken IsOver binds parties w plain kept p e held_t.low head.place m rest held_t.seat
+            held_t.at is else w.nodes x) (if x == p then n2 (kept.chains.top y) else w.nodes x)
         stays_now x d k has = by (x == p) (has.0, tables (λ n. n.records d k) refl x ∙ has.1)
           where
             by : (b : Bool) → HasRecord (if b then n1 else w.nodes x) d k → HasRecord (if b then n2 (kept.chains.top y) else w.nodes x) d k
@@ -231,25 +204,35 @@ module _ {P Q : Type 0} (IsOver : P → Type 0) (play : Play P Q) (binds : Q →
         alone_now d k x r i is = by (x == p) refl is
           where
             here : (x == p) ≡ true → (b : Bool) → (is_same_end d y && (k == suc (kept.chains.top y))) ≡ b
-                → (if b then Some (record { behind = keeper; state = Held [] }) else n1.records d k) ≡ Some r → IsInChain kept.chains d k x ⊎ (((is_same_end d y && (k == suc (kept.chains.top y))) ≡ true) × (x ≡ p))
+                → (if b then Some (record { behind = keeper; state = Held [] }) else n1.records d k) ≡ Some r → IsInChain kept.chains d k x
+                ⊎ (((is_same_end d y && (k == suc (kept.chains.top y))) ≡ true) × (x ≡ p))
             here t true u got = inr (u, eqb-true x p t)
-            here t false u got = inl (k1.joined.alone d k x r i (sym (tables (λ n. n.records d k) refl x) ∙ ap (λ (b : Bool). (if b then n1 else w.nodes x).records d k) t ∙ got))
+            here t false u got =
+                inl (k1.joined.alone d k x r i (sym (tables (λ n. n.records d k) refl x)
+                ∙ ap (λ (b : Bool). (if b then n1 else w.nodes x).records d k) t ∙ got))
 
             by : (b : Bool) → (x == p) ≡ b → (if b then n2 (kept.chains.top y) else w.nodes x).records d k ≡ Some r
                 → IsInChain kept.chains d k x ⊎ (((is_same_end d y && (k == suc (kept.chains.top y))) ≡ true) × (x ≡ p))
             by true t got = here t (is_same_end d y && (k == suc (kept.chains.top y))) refl got
-            by false t got = inl (k1.joined.alone d k x r i (sym (tables (λ n. n.records d k) refl x) ∙ ap (λ (b : Bool). (if b then n1 else w.nodes x).records d k) t ∙ got))
+            by false t got =
+                inl (k1.joined.alone d k x r i (sym (tables (λ n. n.records d k) refl x)
+                ∙ ap (λ (b : Bool). (if b then n1 else w.nodes x).records d k) t ∙ got))
 
         uses_old : (d : EndId) → is_same_end d y ≡ false → d.side < 2 → kept.seats d ≡ in_use
-            → (if kept.chains.at d (kept.chains.top d) == p then n2 (kept.chains.top y) else w.nodes (kept.chains.at d (kept.chains.top d))).uses d ≡ Some (kept.chains.top d)
-        uses_old d t i s = both (kept.chains.at d (kept.chains.top d) == p) ∙ tables (λ n. n.uses d) refl (kept.chains.at d (kept.chains.top d)) ∙ k1.uses d i s
+            → (if kept.chains.at d (kept.chains.top d) == p then n2 (kept.chains.top y) else w.nodes (kept.chains.at d (kept.chains.top d))).uses d
+            ≡ Some (kept.chains.top d)
+        uses_old d t i s =
+            both (kept.chains.at d (kept.chains.top d) == p) ∙ tables (λ n. n.uses d) refl (kept.chains.at d (kept.chains.top d)) ∙ k1.uses d i s
           where
-            both : (b : Bool) → (if b then n2 (kept.chains.top y) else w.nodes (kept.chains.at d (kept.chains.top d))).uses d ≡ (if b then n1 else w.nodes (kept.chains.at d (kept.chains.top d))).uses d
+            both : (b : Bool) → (if b then n2 (kept.chains.top y) else w.nodes (kept.chains.at d (kept.chains.top d))).uses d
+                ≡ (if b then n1 else w.nodes (kept.chains.at d (kept.chains.top d))).uses d
             both true = ap (λ (b : Bool). if b then Some (suc (kept.chains.top y)) else n1.uses d) t
             both false = refl
 
         abbrev IsUser : ℕ → EndId → Type 0
-        IsUser k d = ((is_same_end d y ≡ true) × (k ≡ p)) ⊎ ((is_same_end d y ≡ false) × (d.side < 2) × (kept.seats d ≡ in_use) × (kept.chains.at d (kept.chains.top d) ≡ k))
+        IsUser k d =
+            ((is_same_end d y ≡ true) × (k ≡ p))
+            ⊎ ((is_same_end d y ≡ false) × (d.side < 2) × (kept.seats d ≡ in_use) × (kept.chains.at d (kept.chains.top d) ≡ k))
 
         was_bound : (k : ℕ) (d : EndId) → binds (plain.programs k) d ≡ true → IsUser k d
         was_bound k d b = by (is_same_end d y) refl
@@ -276,17 +259,26 @@ module _ {P Q : Type 0} (IsOver : P → Type 0) (play : Play P Q) (binds : Q →
         sides_now d = by (is_same_end d y)
           where
             by : (b : Bool) → IsPlaced named b ((plain_takes play p e m.msg head.place plain).sides d)
-                (if b then plain_placed ((plain_takes play p e m.msg head.place plain).sides d) named else (plain_takes play p e m.msg head.place plain).sides d)
+                (if b then plain_placed ((plain_takes play p e m.msg head.place plain).sides d) named else
+                (plain_takes play p e m.msg head.place plain).sides d)
             by true = refl
             by false = refl
 
-        session_kept : IsKept IsOver binds parties (after_event w p w.lanes (record { node = n2 (kept.chains.top y); posts = record { party = keeper; frame = Claim y (kept.chains.top y) } ∷ [] })) plain_placed_it
+        session_kept : IsKept IsOver binds parties
+            (after_event w p w.lanes (record {
+              node = n2 (kept.chains.top y);
+              posts = record
+                  { party = keeper; frame = Claim y (kept.chains.top y) } ∷ [];
+            })) plain_placed_it
         session_kept =
-            extend_keeps IsOver binds parties (world_taken IsOver binds parties w plain kept p e held_t.low head.place m rest held_t.seat held_t.at is)
+            extend_keeps IsOver binds parties (world_taken IsOver binds parties w plain kept p e held_t.low head.place m rest held_t.seat held_t.at
+            is)
             (plain_without IsOver binds parties w plain kept p e held_t.low head.place m rest held_t.seat held_t.at is) plain_placed_it k1
-            y e named_fit.below p ((plain.sides e).taken) keeper named (λ k. if k == p then n2 (kept.chains.top y) else w.nodes k) (lawful.proper p e fit.bound).1 sides_now named_fit.keeper_is named_fit.seat gone records_old stays_now alone_now
+            y e named_fit.below p ((plain.sides e).taken) keeper named (λ k. if k == p then n2 (kept.chains.top y) else w.nodes k)
+            (lawful.proper p e fit.bound).1 sides_now named_fit.keeper_is named_fit.seat gone records_old stays_now alone_now
             (at_party (λ n. n.records y (suc (kept.chains.top y)))
-            ∙ ap (λ (b : Bool). if b then Some (record { behind = keeper; state = Held [] }) else n1.records y (suc (kept.chains.top y))) (road_self (inward y (suc (kept.chains.top y)))))
+            ∙ ap (λ (b : Bool). if b then Some (record { behind = keeper; state = Held [] }) else n1.records y (suc (kept.chains.top y)))
+            (road_self (inward y (suc (kept.chains.top y)))))
             (at_party (λ n. n.uses y) ∙ ap (λ (b : Bool). if b then Some (suc (kept.chains.top y)) else n1.uses y) (same_end y))
             uses_old (program_now (n2 (kept.chains.top y)) refl) is_bound
 
@@ -310,23 +302,37 @@ module _ {P Q : Type 0} (IsOver : P → Type 0) (play : Play P Q) (binds : Q →
 
       taken_acted : (msg : Msg) → m.msg ≡ msg → IsActed IsOver play binds parties w plain p (takes e named)
       taken_acted (msgs.Sess sess side keeper) i = session_acted sess side keeper i
-      taken_acted (msgs.Int x) i = value_acted (ap (λ z. work_of_take z m.hop n1) i) (λ x. ap (λ z. plain_names named z x) i) (subst (λ z. BindsTaken binds (plain.programs p) g' z) i head.names)
-      taken_acted (msgs.Bool x) i = value_acted (ap (λ z. work_of_take z m.hop n1) i) (λ x. ap (λ z. plain_names named z x) i) (subst (λ z. BindsTaken binds (plain.programs p) g' z) i head.names)
-      taken_acted (msgs.Text x) i = value_acted (ap (λ z. work_of_take z m.hop n1) i) (λ x. ap (λ z. plain_names named z x) i) (subst (λ z. BindsTaken binds (plain.programs p) g' z) i head.names)
-      taken_acted (msgs.Label x) i = value_acted (ap (λ z. work_of_take z m.hop n1) i) (λ x. ap (λ z. plain_names named z x) i) (subst (λ z. BindsTaken binds (plain.programs p) g' z) i head.names)
-      taken_acted (msgs.More x) i = value_acted (ap (λ z. work_of_take z m.hop n1) i) (λ x. ap (λ z. plain_names named z x) i) (subst (λ z. BindsTaken binds (plain.programs p) g' z) i head.names)
+      taken_acted (msgs.Int x) i =
+          value_acted (ap (λ z. work_of_take z m.hop n1) i) (λ x. ap (λ z. plain_names named z x) i)
+          (subst (λ z. BindsTaken binds (plain.programs p) g' z) i head.names)
+      taken_acted (msgs.Bool x) i =
+          value_acted (ap (λ z. work_of_take z m.hop n1) i) (λ x. ap (λ z. plain_names named z x) i)
+          (subst (λ z. BindsTaken binds (plain.programs p) g' z) i head.names)
+      taken_acted (msgs.Text x) i =
+          value_acted (ap (λ z. work_of_take z m.hop n1) i) (λ x. ap (λ z. plain_names named z x) i)
+          (subst (λ z. BindsTaken binds (plain.programs p) g' z) i head.names)
+      taken_acted (msgs.Label x) i =
+          value_acted (ap (λ z. work_of_take z m.hop n1) i) (λ x. ap (λ z. plain_names named z x) i)
+          (subst (λ z. BindsTaken binds (plain.programs p) g' z) i head.names)
+      taken_acted (msgs.More x) i =
+          value_acted (ap (λ z. work_of_take z m.hop n1) i) (λ x. ap (λ z. plain_names named z x) i)
+          (subst (λ z. BindsTaken binds (plain.programs p) g' z) i head.names)
 
     pub takes_act : IsActed IsOver play binds parties w plain p (takes e named) ⊎ IsStill play parties w plain p (takes e named)
     takes_act = by held_t.held.untaken refl
       where
-        by : (ms : List SentAt) → held_t.held.untaken ≡ ms → IsActed IsOver play binds parties w plain p (takes e named) ⊎ IsStill play parties w plain p (takes e named)
+        by : (ms : List SentAt) → held_t.held.untaken ≡ ms → IsActed IsOver play binds parties w plain p (takes e named)
+            ⊎ IsStill play parties w plain p (takes e named)
         by [] none = inr (record {
           is = ap (λ h. take_act play (w.nodes p) e h) held_t.found
-              ∙ ap (λ l. take_from play (w.nodes p) e (record { hop = kept.chains.top e; behind = behind_of kept.chains e (kept.chains.top e); untaken = l }) l) none;
-          unready = ap (λ (b : Bool). is_ready (if b then states.Ready else states.Waits e)) (ap (λ h. has_message h) held_t.found ∙ ap (λ l. is_filled l) none);
+              ∙ ap (λ l. take_from play (w.nodes p) e (record
+              { hop = kept.chains.top e; behind = behind_of kept.chains e (kept.chains.top e); untaken = l }) l) none;
+          unready = ap (λ (b : Bool). is_ready (if b then states.Ready else states.Waits e))
+              (ap (λ h. has_message h) held_t.found ∙ ap (λ l. is_filled l) none);
           plain_is = λ empty.
               let nothing : waits_of plain e ≡ [] =
-              waits_rest IsOver binds parties w plain kept (let some = (lawful.proper p e fit.bound).1 in omega (arith, some)) empty e held_t.low ∙ ap (λ s. map (λ (x : SentAt). x.msg) (stored s)) held_t.held.is ∙ ap (λ l. map (λ (x : SentAt). x.msg) l) none in
+              waits_rest IsOver binds parties w plain kept (let some = (lawful.proper p e fit.bound).1 in omega (arith, some)) empty e held_t.low
+              ∙ ap (λ s. map (λ (x : SentAt). x.msg) (stored s)) held_t.held.is ∙ ap (λ l. map (λ (x : SentAt). x.msg) l) none in
               ap (λ l. plain_takes_head play p e named plain (slice_get l 0)) nothing;
         })
         by (m ∷ rest) some = inl (taken_acted m rest (held_t.held.is ∙ ap (λ l. Held l) some) m.msg refl)

@@ -127,16 +127,17 @@ pub record IsOffer {P Q : Type 0} (plain : PlainAt P Q) (from sess : ℕ) : Type
   pub offered : (plain.sides (offered_end sess)).offered ≡ true
 
 -- the invariant, and what is open between parties
-pub record IsOpenKept {P Q : Type 0} (IsOver : P → Type 0) (binds : Q → EndId → Bool) (parties : ℕ) (w : WorldAt Q) (plain : PlainAt P Q) : Type 0 where
-  pub kept : IsKept IsOver binds parties w plain
-  pub requests : (p : ℕ) → (w.nodes p).requests ≡ plain.requests p
-  -- what is offered, and then what is in Opens, is what was opened and not accepted, in order of number
-  pub offers : (from p : ℕ) → (w.nodes p).offers from ++ opened_in (w.lanes from p) ≡ plain.offers from p
-  pub rising : (from p : ℕ) → AreRising (plain.offers from p)
-  pub opened : (from p : ℕ) → AllByRecursion (IsOffer plain from) (plain.offers from p)
-  -- an offered end is Held where it is offered
-  pub held : (from p : ℕ) → AllByRecursion (λ s. IsHeldRecord ((w.nodes p).records (offered_end s) 0)) ((w.nodes p).offers from)
-  -- and where its Open goes there is no record yet
-  pub bare : (from p : ℕ) → AllByRecursion (λ s. (w.nodes p).records (offered_end s) 0 ≡ None) (opened_in (w.lanes from p))
-  -- nobody has a record of an end of a session that wasn't opened
-  pub unopened : (s : ℕ) → IsUnopened plain s → (p : ℕ) (e : EndId) → e.sess ≡ s → e.side < 2 → (w.nodes p).records e 0 ≡ None
+pub record IsOpenKept {P Q : Type 0} (IsOver : P → Type 0) (binds : Q → EndId → Bool) (parties : ℕ) (w : WorldAt Q) (plain : PlainAt P Q) : Type 0
+  where
+    pub kept : IsKept IsOver binds parties w plain
+    pub requests : (p : ℕ) → (w.nodes p).requests ≡ plain.requests p
+    -- what is offered, and then what is in Opens, is what was opened and not accepted, in order of number
+    pub offers : (from p : ℕ) → (w.nodes p).offers from ++ opened_in (w.lanes from p) ≡ plain.offers from p
+    pub rising : (from p : ℕ) → AreRising (plain.offers from p)
+    pub opened : (from p : ℕ) → AllByRecursion (IsOffer plain from) (plain.offers from p)
+    -- an offered end is Held where it is offered
+    pub held : (from p : ℕ) → AllByRecursion (λ s. IsHeldRecord ((w.nodes p).records (offered_end s) 0)) ((w.nodes p).offers from)
+    -- and where its Open goes there is no record yet
+    pub bare : (from p : ℕ) → AllByRecursion (λ s. (w.nodes p).records (offered_end s) 0 ≡ None) (opened_in (w.lanes from p))
+    -- nobody has a record of an end of a session that wasn't opened
+    pub unopened : (s : ℕ) → IsUnopened plain s → (p : ℕ) (e : EndId) → e.sess ≡ s → e.side < 2 → (w.nodes p).records e 0 ≡ None

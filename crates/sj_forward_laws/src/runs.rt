@@ -31,7 +31,9 @@ ghost use Rattle.sj_rules.specs.World.{Deliver, Event, Turn};
 ghost use Rattle.sj_semantics.specs.Ends.{untaken_for};
 ghost use Rattle.sj_semantics.specs.Program.{Program};
 ghost use Rattle.sj_semantics.specs.Run.{IsRun, end_of};
+ghost use Rattle.sj_semantics.specs.State.{state_of};
 ghost use Rattle.sj_semantics.specs.World.{World};
+ghost use Rattle.sj_semantics.specs.declared.State.TheVariants as states;
 
 /// The acts of a run are a plain run, and the world keeps the invariant beside the plain world
 /// that they reach: the programs and the counts of requests are the same, what is bound is in use,
@@ -56,12 +58,15 @@ pub fn what_is_on_its_way_is_untaken()
         map (λ (m : SentAt). m.msg) (pipe w.lanes c states e) ≡ untaken_for v.sessions e) }
 {}
 
-/// A party acts exactly where it is ready by what it holds.
+/// A party acts exactly where it is ready by what it holds, and then it is ready in the plain world.
 pub fn a_party_acts_where_it_is_ready()
-    ensures { (file : FileAt) (turns : List Turn) (w : WorldAt Program) (p : ℕ) → IsAccepted file →
+    ensures acts { (file : FileAt) (turns : List Turn) (w : WorldAt Program) (p : ℕ) → IsAccepted file →
         IsForwardRun file turns w →
         ((done : Worked Program) × (acts (play_of file) p (w.nodes p) ≡ Some done))
         ↔ (is_ready (state_at (play_of file) (w.nodes p)) ≡ true) }
+    ensures plain { (file : FileAt) (turns : List Turn) (w : WorldAt Program) (v : World) (p : ℕ) →
+        IsAccepted file → IsForwardRun file turns w → IsRun file (acts_in turns) v →
+        is_ready (state_at (play_of file) (w.nodes p)) ≡ true → state_of v p ≡ states.Ready }
 {}
 
 /// The front frame of a lane always fits its row.

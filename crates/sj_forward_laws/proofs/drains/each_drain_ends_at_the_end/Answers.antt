@@ -1,4 +1,4 @@
-use Rattle.sj_forward_laws.proofs.RunLemmas.{drain_is_at_the_end}
+use Rattle.sj_forward_laws.proofs.RunLawsLemmas.{drain_is_at_the_end}
 use Rattle.sj_forward_laws.proofs.drains.each_drain_ends_at_the_end.Goals as goal
 
 pub returns-clause-quiet : goal.returns-clause-quiet

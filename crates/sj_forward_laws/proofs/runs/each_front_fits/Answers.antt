@@ -1,4 +1,4 @@
-use Rattle.sj_forward_laws.proofs.RunLemmas.{run_front}
+use Rattle.sj_forward_laws.proofs.RunLawsLemmas.{run_front}
 use Rattle.sj_forward_laws.proofs.runs.each_front_fits.Goals as goal
 
 pub returns-clause-row : goal.returns-clause-row

@@ -1,4 +1,4 @@
-use Rattle.sj_forward_laws.proofs.RunLemmas.{run_steps, run_steps_not}
+use Rattle.sj_forward_laws.proofs.RunLawsLemmas.{run_steps, run_steps_not}
 use Rattle.sj_forward_laws.proofs.runs.has_step_tells_the_steps.Goals as goal
 
 pub returns-clause-step : goal.returns-clause-step

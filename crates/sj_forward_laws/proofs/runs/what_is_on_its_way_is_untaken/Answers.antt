@@ -1,4 +1,4 @@
-use Rattle.sj_forward_laws.proofs.RunLemmas.{run_untaken}
+use Rattle.sj_forward_laws.proofs.RunLawsLemmas.{run_untaken}
 use Rattle.sj_forward_laws.proofs.runs.what_is_on_its_way_is_untaken.Goals as goal
 
 pub returns : goal.returns
