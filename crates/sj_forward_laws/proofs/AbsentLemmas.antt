@@ -1,19 +1,19 @@
 -- A session that nobody opened: its ends have no record, and no frame is about them.
-use Rattle.std.proofs.Common.{◌≡◌, ℕ, zero, suc, ◌<◌, ◌≤◌, List, [], ◌∷◌, ◌++◌, refl, sym, subst, ap, ◌∙◌, arith, inl, inr}
-use Rattle.std.specs.Prelude.{◌⊎◌, Bool, true, false, ◌==◌, if◌then◌else◌, Some, None}
+use Rattle.std.proofs.Common.{◌≡◌, ℕ, zero, suc, ◌<◌, ◌≤◌, List, [], ◌∷◌, refl, sym, subst, ap, ◌∙◌, arith, inl, inr}
+use Rattle.std.specs.Prelude.{◌⊎◌, Bool, true, false, ◌==◌, if◌then◌else◌, None}
 use Rattle.std.specs.List.{AllByRecursion}
-use Rattle.std.proofs.lemmas.Bool.{cases_lt, eqb-true, eq-eqb, ne_eqb}
+use Rattle.std.proofs.lemmas.Bool.{cases_lt, eq-eqb, ne_eqb}
 use Rattle.sj_base.specs.declared.EndId.{EndId}
 use Rattle.sj_base.specs.declared.Msg.{Msg}
 use Rattle.sj_rules.specs.PlainChanges.{waits_of}
 use Rattle.sj_rules.specs.PlainSide.{PlainSide, PlainAt}
 use Rattle.sj_rules.specs.Reading.{IsUnopened}
-use Rattle.sj_forward_rules.specs.Record.{SentAt, StateAt, Held, Parked, Passing, Closed, FrameAt, In, Out, Claim, Open, opened_in, stored}
-use Rattle.sj_forward_rules.specs.World.{WorldAt, Lanes}
+use Rattle.sj_forward_rules.specs.Record.{StateAt, Held, Parked, Passing, Closed, FrameAt, In, Out, Claim, Open, opened_in, stored}
+use Rattle.sj_forward_rules.specs.World.{WorldAt}
 use Rattle.sj_forward_laws.specs.Kept.{Seat, in_use, on_its_way, at_its_end, in_open, OpensFit, IsLeft, IsLast, IsRecorded, IsOffer, IsOpenKept}
 use Rattle.sj_forward_laws.specs.Pipe.{traffic}
 use Rattle.sj_forward_laws.specs.Roads.{Chains, Road, inward, outward, claiming, road_of, is_road, behind_of, start_of, goal_of, on_road}
-use Rattle.sj_forward_laws.specs.Roads.{messages_in, IsThere, IsOnRoad}
+use Rattle.sj_forward_laws.specs.Roads.{messages_in, IsOnRoad}
 use Rattle.sj_forward_laws.proofs.ChainLemmas.{all_map}
 use Rattle.sj_forward_laws.proofs.DeliveryLemmas.{nothing_here, nil_back}
 use Rattle.sj_forward_laws.proofs.OfferLemmas.{all_back, offer_is_opened}

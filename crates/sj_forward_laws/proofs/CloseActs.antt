@@ -1,43 +1,30 @@
 -- Steps that close an end.
-use Rattle.sj_forward_rules.specs.Node.{HasRecord, held_of}
-use Rattle.sj_semantics.specs.declared.State.TheVariants as states
-use Rattle.sj_forward_rules.specs.Ready.{has_message, is_filled, state_by, is_ready}
-use Rattle.sj_forward_laws.proofs.WeightLemmas.{claim_light, none_light}
-use Rattle.std.proofs.Common.{◌≡◌, ℕ, suc, ◌+◌, ◌<◌, ◌≤◌, List, [], ◌∷◌, refl, sym, subst, ap, ◌∙◌, arith, inl, inr, option_map}
-use Rattle.std.specs.Prelude.{Bool, true, false, ◌&&◌, ◌==◌, if◌then◌else◌, map, slice_get, Option, Some, None, ◌⊎◌}
-use Rattle.std.proofs.lemmas.Bool.{eq-eqb, eqb-true}
+use Rattle.sj_forward_laws.proofs.WeightLemmas.{none_light}
+use Rattle.std.proofs.Common.{◌≡◌, ℕ, ◌<◌, [], refl, sym, subst, ap, ◌∙◌, arith}
+use Rattle.std.specs.Prelude.{Bool, true, false, ◌==◌, if◌then◌else◌, None}
 use Rattle.sj_base.specs.declared.EndId.{EndId}
-use Rattle.sj_base.specs.declared.Msg.{Msg}
-use Rattle.sj_base.specs.declared.Msg.TheVariants as msgs
-use Rattle.sj_rules.specs.Acts.{plain_taken, plain_placed}
 use Rattle.sj_rules.specs.Record.{is_same_end}
-use Rattle.sj_rules.specs.Binding.{BindsSame, BindsTaken}
-use Rattle.sj_rules.specs.Linked.{waiting_at}
-use Rattle.sj_rules.specs.Moves.{plain_goes, plain_takes, plain_takes_head, plain_names, plain_act_by}
-use Rattle.sj_rules.specs.Play.{takes, closes, Play}
-use Rattle.sj_rules.specs.Premises.{IsLawful, FitsHead, FitsTake, FitsClose}
+use Rattle.sj_rules.specs.Moves.{plain_goes}
+use Rattle.sj_rules.specs.Play.{closes, Play}
+use Rattle.sj_rules.specs.Premises.{IsLawful, FitsClose}
 use Rattle.sj_rules.specs.PlainSide.{PlainAt}
 use Rattle.sj_rules.specs.PlainChanges.{waits_of}
-use Rattle.sj_forward_rules.specs.Record.{RecordAt, SentAt, StateAt, Held, Closed, Claim, stored}
-use Rattle.sj_forward_rules.specs.Node.{NodeAt, with_program, with_use, with_record, quietly, Worked}
-use Rattle.sj_forward_rules.specs.Acts.{act_by, take_act, take_from, work_of_take, with_taken, close_act}
-use Rattle.sj_forward_rules.specs.World.{WorldAt, after_event, lanes_with}
+use Rattle.sj_forward_rules.specs.Record.{StateAt, Closed, stored}
+use Rattle.sj_forward_rules.specs.Node.{NodeAt, with_program, with_use, with_record, quietly}
+use Rattle.sj_forward_rules.specs.Acts.{close_act}
+use Rattle.sj_forward_rules.specs.World.{WorldAt, lanes_with}
 use Rattle.sj_forward_laws.specs.Roads.{behind_of, inward}
-use Rattle.sj_forward_laws.specs.Kept.{IsRecorded, IsInChain, in_use, on_its_way, at_its_end, IsLast, IsNamed, NamesFit, IsKept}
-use Rattle.sj_forward_laws.proofs.EndLemmas.{same_end, same_is}
+use Rattle.sj_forward_laws.specs.Kept.{at_its_end, IsLast, IsKept}
+use Rattle.sj_forward_laws.proofs.EndLemmas.{same_is}
 use Rattle.sj_forward_laws.proofs.RoadLemmas.{road_self}
-use Rattle.sj_forward_laws.proofs.StayLemmas.{Stays, written_stays, still_there}
+use Rattle.sj_forward_laws.proofs.StayLemmas.{written_stays, still_there}
 use Rattle.sj_forward_laws.proofs.RecordLemmas.{written, written_here, written_away, for_all, written_records, written_alone}
 use Rattle.sj_forward_laws.proofs.MovedLemmas.{other_name, quiet_lane}
-use Rattle.sj_forward_laws.proofs.ChainLemmas.{not_new}
 use Rattle.sj_forward_laws.proofs.DeliveryLemmas.{nothing_here, nil_front}
 use Rattle.sj_forward_laws.proofs.QuietKeeps.{quiet_keeps}
-use Rattle.sj_forward_laws.proofs.TakeKeeps.{take_keeps, node_taken, world_taken, plain_without, states_taken, first_fits, pipe_first}
-use Rattle.sj_forward_laws.proofs.ExtendKeeps.{IsPlaced, extend_keeps}
-use Rattle.sj_forward_laws.proofs.RestLemmas.{waits_rest}
-use Rattle.sj_forward_laws.proofs.ActLemmas.{not_top, is_in_use, way_end, way_number, IsHeldHere, held_here, program_goes, bound_goes}
+use Rattle.sj_forward_laws.proofs.ActLemmas.{not_top, IsHeldHere, held_here, program_goes}
 use Rattle.sj_forward_laws.proofs.ActLemmas.{seats_left, seat_here, opens_left, names_left, bound_left, uses_left}
-use Rattle.sj_forward_laws.proofs.SendActs.{IsActed, IsStill, bound_same}
+use Rattle.sj_forward_laws.proofs.SendActs.{IsActed}
 
 module _ {P Q : Type 0} (IsOver : P → Type 0) (play : Play P Q) (binds : Q → EndId → Bool) (parties : ℕ) (w : WorldAt Q) (plain : PlainAt P Q)
     (kept : IsKept IsOver binds parties w plain)

@@ -1,36 +1,9 @@
 -- The smallest number is the first of numbers that rise, and all others are left without it.
-use Rattle.std.proofs.Common.{◌≡◌, ℕ, zero, suc, ◌<◌, ◌≤◌, List, [], ◌∷◌, ◌++◌, refl, sym, subst, ap, ◌∙◌, arith, inl, inr}
-use Rattle.std.specs.Prelude.{◌⊎◌, Bool, true, false, not, ◌&&◌, ◌==◌, if◌then◌else◌, Option, Some, None}
-use Rattle.std.specs.List.{AllByRecursion, filter}
-use Rattle.std.proofs.lemmas.Bool.{cases_lt, eqb-true, eq-eqb, ne_eqb}
-use Rattle.sj_base.specs.declared.EndId.{EndId}
-use Rattle.sj_base.specs.declared.Msg.{Msg}
-use Rattle.sj_rules.specs.Acts.{plain_accepted}
-use Rattle.sj_rules.specs.Binding.{BindsAlso}
-use Rattle.sj_rules.specs.Moves.{with_program, with_opened, with_side}
-use Rattle.sj_rules.specs.Opened.{is_opened_by, smallest, smallest_from, without}
-use Rattle.sj_rules.specs.PlainChanges.{waits_of}
-use Rattle.sj_rules.specs.PlainSide.{PlainSide, PlainAt}
-use Rattle.sj_rules.specs.Play.{Play}
-use Rattle.sj_rules.specs.Record.{is_same_end, offered_end}
-use Rattle.sj_forward_rules.specs.Acts.{accept_session}
-use Rattle.sj_forward_rules.specs.Node.{NodeAt, Worked}
-use Rattle.sj_forward_rules.specs.Record.{RecordAt, SentAt, StateAt, Held, Parked, Passing, Closed, FrameAt, In, Out, Claim, Open, opened_in}
-use Rattle.sj_forward_rules.specs.World.{WorldAt, after_event, lanes_with}
-use Rattle.sj_forward_laws.specs.Kept.{Seat, in_use, on_its_way, at_its_end, in_open, IsLeft, IsLast, IsRecorded, IsHeldRecord, AreRising}
-use Rattle.sj_forward_laws.specs.Kept.{IsOffer, IsKept, IsOpenKept}
-use Rattle.sj_forward_laws.specs.Pipe.{traffic}
-use Rattle.sj_forward_laws.specs.Roads.{Chains, claiming, behind_of, IsOnRoad}
-use Rattle.sj_forward_laws.proofs.ActLemmas.{is_in_use, program_goes, bound_goes}
-use Rattle.sj_forward_laws.proofs.ChainLemmas.{all_map}
-use Rattle.sj_forward_laws.proofs.EndLemmas.{both_true, same_end, same_is}
-use Rattle.sj_forward_laws.proofs.MovedLemmas.{quiet_lane, uses_stay}
-use Rattle.sj_forward_laws.proofs.OfferLemmas.{all_front, all_two, one_opener}
-use Rattle.sj_forward_laws.proofs.QuietKeeps.{quiet_keeps}
-use Rattle.sj_forward_laws.proofs.RecordLemmas.{kept_records, kept_alone}
-use Rattle.sj_forward_laws.proofs.RoadLemmas.{all_both}
-use Rattle.sj_forward_laws.proofs.SendKeeps.{last_by}
-use Rattle.sj_forward_laws.proofs.StayLemmas.{still_there}
+use Rattle.std.proofs.Common.{◌≡◌, ℕ, ◌<◌, List, [], ◌∷◌, refl, ap, ◌∙◌, arith}
+use Rattle.std.specs.Prelude.{Bool, not, if◌then◌else◌, Some}
+use Rattle.std.specs.List.{AllByRecursion}
+use Rattle.std.proofs.lemmas.Bool.{eq-eqb, ne_eqb}
+use Rattle.sj_rules.specs.Opened.{smallest, smallest_from, without}
 
 below_smallest : (n m : ℕ) (ms : List ℕ) → n < m → AllByRecursion (λ k. n < k) ms → n < smallest_from m ms
 below_smallest n m [] lt all = lt

@@ -1,36 +1,18 @@
 -- Where an end lies whose record of hop 0 is Held: it is in use there, and was never delegated.
-use Rattle.std.proofs.Common.{◌≡◌, ℕ, zero, suc, ◌<◌, ◌≤◌, List, [], ◌∷◌, ◌++◌, refl, sym, subst, ap, ◌∙◌, arith, inl, inr}
-use Rattle.std.specs.Prelude.{◌⊎◌, Bool, true, false, not, ◌&&◌, ◌==◌, if◌then◌else◌, Option, Some, None}
-use Rattle.std.specs.List.{AllByRecursion, filter}
-use Rattle.std.proofs.lemmas.Bool.{cases_lt, eqb-true, eq-eqb, ne_eqb}
+use Rattle.std.proofs.Common.{◌≡◌, ℕ, ◌<◌, ◌≤◌, List, [], ◌∷◌, refl, sym, subst, ap, arith, inl, inr}
+use Rattle.std.specs.Prelude.{◌⊎◌, Bool, Option, Some, None}
+use Rattle.std.specs.List.{AllByRecursion}
+use Rattle.std.proofs.lemmas.Bool.{cases_lt}
 use Rattle.sj_base.specs.declared.EndId.{EndId}
 use Rattle.sj_base.specs.declared.Msg.{Msg}
-use Rattle.sj_rules.specs.Acts.{plain_accepted}
-use Rattle.sj_rules.specs.Binding.{BindsAlso}
-use Rattle.sj_rules.specs.Moves.{with_program, with_opened, with_side}
-use Rattle.sj_rules.specs.Opened.{is_opened_by, smallest, smallest_from, without}
 use Rattle.sj_rules.specs.PlainChanges.{waits_of}
 use Rattle.sj_rules.specs.PlainSide.{PlainSide, PlainAt}
-use Rattle.sj_rules.specs.Play.{Play}
-use Rattle.sj_rules.specs.Record.{is_same_end, offered_end}
-use Rattle.sj_forward_rules.specs.Acts.{accept_session}
-use Rattle.sj_forward_rules.specs.Node.{NodeAt, Worked}
 use Rattle.sj_forward_rules.specs.Record.{RecordAt, SentAt, StateAt, Held, Parked, Passing, Closed, FrameAt, In, Out, Claim, Open, opened_in}
-use Rattle.sj_forward_rules.specs.World.{WorldAt, after_event, lanes_with}
-use Rattle.sj_forward_laws.specs.Kept.{Seat, in_use, on_its_way, at_its_end, in_open, IsLeft, IsLast, IsRecorded, IsHeldRecord, AreRising}
-use Rattle.sj_forward_laws.specs.Kept.{IsOffer, IsKept, IsOpenKept}
+use Rattle.sj_forward_rules.specs.World.{WorldAt}
+use Rattle.sj_forward_laws.specs.Kept.{Seat, in_use, on_its_way, at_its_end, in_open, IsLeft, IsLast, IsRecorded, IsHeldRecord}
+use Rattle.sj_forward_laws.specs.Kept.{IsKept}
 use Rattle.sj_forward_laws.specs.Pipe.{traffic}
-use Rattle.sj_forward_laws.specs.Roads.{Chains, claiming, behind_of, IsOnRoad}
-use Rattle.sj_forward_laws.proofs.ActLemmas.{is_in_use, program_goes, bound_goes}
-use Rattle.sj_forward_laws.proofs.ChainLemmas.{all_map}
-use Rattle.sj_forward_laws.proofs.EndLemmas.{both_true, same_end, same_is}
-use Rattle.sj_forward_laws.proofs.MovedLemmas.{quiet_lane, uses_stay}
-use Rattle.sj_forward_laws.proofs.OfferLemmas.{all_front, all_two, one_opener}
-use Rattle.sj_forward_laws.proofs.QuietKeeps.{quiet_keeps}
-use Rattle.sj_forward_laws.proofs.RecordLemmas.{kept_records, kept_alone}
-use Rattle.sj_forward_laws.proofs.RoadLemmas.{all_both}
-use Rattle.sj_forward_laws.proofs.SendKeeps.{last_by}
-use Rattle.sj_forward_laws.proofs.StayLemmas.{still_there}
+use Rattle.sj_forward_laws.specs.Roads.{claiming, behind_of}
 
 -- the state of a record, where there is one
 abbrev state_or : Option RecordAt → StateAt
@@ -38,7 +20,8 @@ state_or None = Closed
 state_or (Some r) = r.state
 
 -- a record that is Held is so in its chain
-recorded_held : (behind at : ℕ) (ms : List SentAt) (st : StateAt) → IsRecorded (Some (record { behind = at; state = Held ms })) behind st → st ≡ Held ms
+recorded_held : (behind at : ℕ) (ms : List SentAt) (st : StateAt) → IsRecorded (Some (record { behind = at; state = Held ms })) behind st
+    → st ≡ Held ms
 recorded_held behind at ms (Held ns) recorded = sym (ap state_or recorded)
 recorded_held behind at ms (Parked ns) recorded = let bad : Held ms ≡ Parked ns = ap state_or recorded in absurd (cc bad)
 recorded_held behind at ms (Passing p) recorded = let bad : Held ms ≡ Passing p = ap state_or recorded in absurd (cc bad)
@@ -89,7 +72,8 @@ module _ {P Q : Type 0} (IsOver : P → Type 0) (binds : Q → EndId → Bool) (
         where
           by : (0 < kept.chains.top e) ⊎ (kept.chains.top e ≤ 0) → kept.chains.top e ≡ 0
           by (inl lt) =
-              absurd (subst (λ s. IsLeft e 0 (kept.chains.at e 1) (traffic w.lanes kept.chains (claiming e 0)) s) state_is (kept.joined.left e 0 low lt))
+              absurd (subst (λ s. IsLeft e 0 (kept.chains.at e 1) (traffic w.lanes kept.chains (claiming e 0)) s) state_is
+              (kept.joined.left e 0 low lt))
           by (inr le) = omega (arith, le)
 
       seat_is : kept.seats e ≡ in_use

@@ -4,7 +4,7 @@ use Rattle.sj_base.specs.declared.EndId.{EndId}
 use Rattle.sj_base.specs.declared.Msg.{Msg}
 use Rattle.sj_base.specs.declared.Msg.TheVariants as msgs
 use Rattle.sj_forward_laws.specs.Roads.{Chains}
-use Rattle.sj_forward_laws.specs.Kept.{Seat, on_its_way, IsNamed, NamesFit}
+use Rattle.sj_forward_laws.specs.Kept.{Seat, on_its_way, NamesFit}
 
 -- an end that is on its way is so still, from the same record
 pub record IsSameWay (c c' : Chains) (seats seats' : EndId → Seat) (y : EndId) : Type 0 where

@@ -1,9 +1,7 @@
 -- Lists of sessions that are offered: parts of lists, numbers that rise, and sessions that weren't opened.
-use Rattle.std.proofs.Common.{◌≡◌, ℕ, ◌<◌, ◌≤◌, List, [], ◌∷◌, ◌++◌, refl, sym, subst, ap, ◌∙◌, arith}
-use Rattle.std.specs.Prelude.{Bool, true, false, ◌==◌}
+use Rattle.std.proofs.Common.{◌≡◌, ℕ, ◌<◌, ◌≤◌, List, [], ◌∷◌, ◌++◌, sym, subst, ap, ◌∙◌, arith}
+use Rattle.std.specs.Prelude.{true}
 use Rattle.std.specs.List.{AllByRecursion}
-use Rattle.std.proofs.lemmas.Bool.{eqb-true, ne_eqb}
-use Rattle.sj_rules.specs.Limits.{limit_of_requests}
 use Rattle.sj_rules.specs.Opened.{opened_number, opener_of, is_opened_by}
 use Rattle.sj_rules.specs.PlainSide.{PlainAt}
 use Rattle.sj_rules.specs.Reading.{IsUnopened}

@@ -1,25 +1,13 @@
 -- What the row of a frame leaves that opens no session.
-use Rattle.std.proofs.Common.{◌≡◌, ℕ, zero, suc, List, [], ◌∷◌, ◌++◌, refl, sym, subst, ap, ◌∙◌, option_map}
-use Rattle.std.specs.Prelude.{⊤, Bool, true, false, nat_lt, ◌&&◌, ◌==◌, if◌then◌else◌, Option, Some, None, option_and_then}
-use Rattle.std.specs.List.{AllByRecursion}
-use Rattle.std.proofs.lemmas.Bool.{eqb-true, ne_eqb}
-use Rattle.std.proofs.Common.{arith}
+use Rattle.std.proofs.Common.{◌≡◌, ℕ, suc, List, [], ◌∷◌, ◌++◌, refl, subst}
+use Rattle.std.specs.Prelude.{Option, Some, None}
 use Rattle.sj_base.specs.declared.EndId.{EndId}
-use Rattle.sj_base.specs.declared.Msg.{Msg}
-use Rattle.sj_base.specs.declared.Msg.TheVariants as msgs
-use Rattle.sj_semantics.specs.World.{session_message}
-use Rattle.sj_rules.specs.Limits.{limit_of_hops}
-use Rattle.sj_rules.specs.Play.{Want, ended, local, sends, delegates, takes, closes, requests, accepts, Play}
-use Rattle.sj_rules.specs.Record.{is_same_end}
 use Rattle.sj_forward_rules.specs.Record.{SentAt, StateAt, Held, Parked, Passing, Closed, RecordAt, FrameAt, In, Out, Claim, Open, Mail}
-use Rattle.sj_forward_rules.specs.Node.{NodeAt, Worked, quietly, with_record, with_program, onward, HeldAt, held_in, held_at, held_of}
+use Rattle.sj_forward_rules.specs.Node.{NodeAt, Worked, with_record, onward}
 use Rattle.sj_forward_rules.specs.Arrivals.{in_by, out_by, claim_by, at_record, comes, passed_on}
-use Rattle.sj_forward_rules.specs.Acts.{send_act, parked, delegate_act, work_of_take, with_taken, take_from, take_act, close_act, act_by}
-use Rattle.sj_forward_laws.specs.Kept.{IsHeldRecord}
-use Rattle.sj_forward_laws.proofs.EndLemmas.{both_true, same_is}
 use Rattle.sj_forward_laws.proofs.OpensLemmas.{IsNoOpen, AreNoOpens, onward_none, passed_none}
-use Rattle.sj_forward_laws.proofs.OldWorkLemmas.{OpensNothing, Leaves, Any, IsNoneStill, IsHeldStill, IsOldWork, same_work, held_is}
-use Rattle.sj_forward_laws.proofs.OldWorkLemmas.{not_held, later_hop, written_none, written_held, written_held_so}
+use Rattle.sj_forward_laws.proofs.OldWorkLemmas.{Any, IsHeldStill, IsOldWork, same_work}
+use Rattle.sj_forward_laws.proofs.OldWorkLemmas.{not_held, written_none, written_held_so}
 
 module _ {Q : Type 0} where
   -- what the rule leaves, where it fits

@@ -1,6 +1,6 @@
 -- An event that opens and accepts no session keeps what is open between parties.
-use Rattle.std.proofs.Common.{◌≡◌, ℕ, ◌<◌, ◌≤◌, List, [], ◌∷◌, ◌++◌, refl, sym, subst, ap, ◌∙◌, option_map}
-use Rattle.std.specs.Prelude.{⊤, Bool, true, false, nat_lt, ◌==◌, if◌then◌else◌, Option, Some, None}
+use Rattle.std.proofs.Common.{◌≡◌, ℕ, ◌<◌, ◌≤◌, List, ◌++◌, refl, sym, subst, ap, ◌∙◌, option_map}
+use Rattle.std.specs.Prelude.{Bool, true, false, nat_lt, ◌==◌, if◌then◌else◌, Option, Some, None}
 use Rattle.std.specs.List.{AllByRecursion}
 use Rattle.std.proofs.lemmas.Bool.{eqb-true}
 use Rattle.std.proofs.lemmas.List.Elements.{filter_map-append}
@@ -17,16 +17,15 @@ use Rattle.sj_rules.specs.Moves.{with_side, plain_goes, plain_sends, plain_deleg
 use Rattle.sj_rules.specs.Opened.{opened_number}
 use Rattle.sj_rules.specs.PlainSide.{PlainSide, PlainAt}
 use Rattle.sj_rules.specs.Play.{Want, ended, local, sends, delegates, takes, closes, requests, accepts, Play}
-use Rattle.sj_rules.specs.Reading.{IsUnopened}
 use Rattle.sj_rules.specs.Record.{is_same_end, offered_end}
 use Rattle.sj_forward_rules.specs.Node.{NodeAt, Worked}
-use Rattle.sj_forward_rules.specs.Record.{FrameAt, Mail, session_opened, opened_in}
-use Rattle.sj_forward_rules.specs.World.{WorldAt, Lanes, frames_for, lanes_with, after_event}
+use Rattle.sj_forward_rules.specs.Record.{session_opened, opened_in}
+use Rattle.sj_forward_rules.specs.World.{WorldAt, Lanes, frames_for, after_event}
 use Rattle.sj_forward_laws.specs.Kept.{IsKept, IsHeldRecord, AreRising, IsOffer, IsOpenKept}
 use Rattle.sj_forward_laws.proofs.ChainLemmas.{all_map}
 use Rattle.sj_forward_laws.proofs.OfferLemmas.{all_front, all_two}
 use Rattle.sj_forward_laws.proofs.OldWorkLemmas.{OpensNothing, IsOldWork}
-use Rattle.sj_forward_laws.proofs.OpensLemmas.{AreNoOpens, none_opened, frames_none}
+use Rattle.sj_forward_laws.proofs.OpensLemmas.{none_opened, frames_none}
 
 -- as much is open in both plain worlds
 pub record IsOldPlain {P Q : Type 0} (plain next : PlainAt P Q) : Type 0 where

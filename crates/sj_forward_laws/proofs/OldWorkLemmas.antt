@@ -1,23 +1,16 @@
 -- What rules that open and accept no session leave: no new record of hop 0, Held records that aren't given up, and no Open.
-use Rattle.std.proofs.Common.{◌≡◌, ℕ, zero, suc, List, [], ◌∷◌, ◌++◌, refl, sym, subst, ap, ◌∙◌, option_map}
-use Rattle.std.specs.Prelude.{⊤, Bool, true, false, nat_lt, ◌&&◌, ◌==◌, if◌then◌else◌, Option, Some, None, option_and_then}
-use Rattle.std.specs.List.{AllByRecursion}
+use Rattle.std.proofs.Common.{◌≡◌, ℕ, suc, List, refl, sym, subst, ap, ◌∙◌}
+use Rattle.std.specs.Prelude.{⊤, Bool, true, false, ◌&&◌, ◌==◌, if◌then◌else◌, Option, Some, None, option_and_then}
 use Rattle.std.proofs.lemmas.Bool.{eqb-true, ne_eqb}
 use Rattle.std.proofs.Common.{arith}
 use Rattle.sj_base.specs.declared.EndId.{EndId}
-use Rattle.sj_base.specs.declared.Msg.{Msg}
-use Rattle.sj_base.specs.declared.Msg.TheVariants as msgs
-use Rattle.sj_semantics.specs.World.{session_message}
-use Rattle.sj_rules.specs.Limits.{limit_of_hops}
-use Rattle.sj_rules.specs.Play.{Want, ended, local, sends, delegates, takes, closes, requests, accepts, Play}
+use Rattle.sj_rules.specs.Play.{Want, ended, local, sends, delegates, takes, closes, requests, accepts}
 use Rattle.sj_rules.specs.Record.{is_same_end}
-use Rattle.sj_forward_rules.specs.Record.{SentAt, StateAt, Held, Parked, Passing, Closed, RecordAt, FrameAt, In, Out, Claim, Open, Mail}
-use Rattle.sj_forward_rules.specs.Node.{NodeAt, Worked, quietly, with_record, with_program, onward, HeldAt, held_in, held_at, held_of}
-use Rattle.sj_forward_rules.specs.Arrivals.{in_by, out_by, claim_by, at_record, comes, passed_on}
-use Rattle.sj_forward_rules.specs.Acts.{send_act, parked, delegate_act, work_of_take, with_taken, take_from, take_act, close_act, act_by}
+use Rattle.sj_forward_rules.specs.Record.{SentAt, StateAt, Held, Parked, Passing, Closed, RecordAt}
+use Rattle.sj_forward_rules.specs.Node.{NodeAt, Worked, with_record, HeldAt, held_in, held_at, held_of}
 use Rattle.sj_forward_laws.specs.Kept.{IsHeldRecord}
 use Rattle.sj_forward_laws.proofs.EndLemmas.{both_true, same_is}
-use Rattle.sj_forward_laws.proofs.OpensLemmas.{IsNoOpen, AreNoOpens, onward_none, passed_none}
+use Rattle.sj_forward_laws.proofs.OpensLemmas.{AreNoOpens}
 
 -- the step opens and accepts no session
 abbrev pub OpensNothing : {P : Type 0} → Want P → Type 0

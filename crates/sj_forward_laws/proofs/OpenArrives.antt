@@ -1,5 +1,5 @@
 -- An Open comes: its end is Held at its first record, with nothing untaken. The invariant is kept.
-use Rattle.std.proofs.Common.{◌≡◌, ℕ, zero, suc, ◌+◌, ◌<◌, ◌≤◌, List, [], ◌∷◌, ◌++◌, refl, sym, subst, ap, ◌∙◌, arith}
+use Rattle.std.proofs.Common.{◌≡◌, ℕ, suc, ◌+◌, ◌<◌, List, [], ◌∷◌, ◌++◌, refl, sym, subst, ap, ◌∙◌, arith}
 use Rattle.std.specs.Prelude.{Bool, true, false, ◌&&◌, ◌==◌, if◌then◌else◌, map, Some, None, is_none, slice_get}
 use Rattle.std.specs.List.{AllByRecursion}
 use Rattle.std.proofs.lemmas.Bool.{eqb-true, eq-eqb}
@@ -10,12 +10,12 @@ use Rattle.sj_rules.specs.PlainChanges.{waits_of}
 use Rattle.sj_rules.specs.PlainSide.{PlainSide, PlainAt}
 use Rattle.sj_rules.specs.Record.{is_same_end, other_end, offered_end}
 use Rattle.sj_forward_rules.specs.Arrivals.{comes}
-use Rattle.sj_forward_rules.specs.Node.{NodeAt, Worked, quietly, with_first, with_offers, with_record}
+use Rattle.sj_forward_rules.specs.Node.{NodeAt, quietly, with_first, with_offers, with_record}
 use Rattle.sj_forward_rules.specs.Record.{SentAt, StateAt, Held, Parked, Passing, Closed, FrameAt, Open, opened_in, stored}
-use Rattle.sj_forward_rules.specs.World.{WorldAt, Lanes, after_event, lanes_with, with_lane}
+use Rattle.sj_forward_rules.specs.World.{WorldAt, Lanes, after_event, with_lane}
 use Rattle.sj_forward_laws.specs.Kept.{Seat, in_use, on_its_way, at_its_end, in_open, OpensFit, IsLeft, IsLast, IsKept}
 use Rattle.sj_forward_laws.specs.Pipe.{traffic, in_part, pipe}
-use Rattle.sj_forward_laws.specs.Roads.{Chains, Road, inward, outward, claiming, road_of, is_road, behind_of, start_of, goal_of, on_road}
+use Rattle.sj_forward_laws.specs.Roads.{Chains, Road, inward, outward, claiming, is_road, start_of, goal_of, on_road}
 use Rattle.sj_forward_laws.specs.Roads.{messages_in, IsOnRoad}
 use Rattle.sj_forward_laws.proofs.EndLemmas.{same_end, same_is}
 use Rattle.sj_forward_laws.proofs.MovedLemmas.{quiet_lane, other_name, programs_stay}

@@ -1,42 +1,29 @@
 -- Steps that open a session, and steps that accept one.
-use Rattle.std.proofs.Common.{◌≡◌, ℕ, ◌<◌, ◌≤◌, List, [], ◌∷◌, ◌++◌, refl, sym, subst, ap, ◌∙◌, inl, inr, option_map, arith}
-use Rattle.std.specs.Prelude.{Bool, true, false, nat_lt, ◌&&◌, ◌==◌, if◌then◌else◌, Option, Some, None, ◌⊎◌}
+use Rattle.std.proofs.Common.{◌≡◌, ℕ, ◌<◌, ◌≤◌, List, [], ◌∷◌, ◌++◌, refl, sym, subst, ap, ◌∙◌, inl, inr, arith}
+use Rattle.std.specs.Prelude.{Bool, true, false, nat_lt, if◌then◌else◌, Option, Some, None, ◌⊎◌}
 use Rattle.std.specs.List.{AllByRecursion}
-use Rattle.std.proofs.lemmas.Bool.{cases_lt, eqb-true, ltb-true}
+use Rattle.std.proofs.lemmas.Bool.{cases_lt, ltb-true}
 use Rattle.sj_base.specs.declared.EndId.{EndId}
 use Rattle.sj_semantics.specs.declared.Limit.TheVariants as limits
 use Rattle.sj_semantics.specs.declared.State.TheVariants as states
 use Rattle.sj_rules.specs.Halts.{is_at_end}
 use Rattle.sj_rules.specs.Limits.{limit_of_requests}
-use Rattle.sj_rules.specs.Moves.{plain_act, plain_act_by, plain_requests, plain_accepts}
+use Rattle.sj_rules.specs.Moves.{plain_act_by, plain_requests, plain_accepts}
 use Rattle.sj_rules.specs.Opened.{opened_number, smallest}
 use Rattle.sj_rules.specs.PlainSide.{PlainAt}
-use Rattle.sj_rules.specs.Play.{Want, ended, local, sends, delegates, takes, closes, requests, accepts, Play}
-use Rattle.sj_rules.specs.Premises.{IsLawful, FitsStep, FitsRequest, FitsAccept}
-use Rattle.sj_rules.specs.Record.{is_same_end}
-use Rattle.sj_rules.specs.World.{Deliver}
-use Rattle.sj_forward_rules.specs.Acts.{acts, act_by, open_session, accept_offered}
-use Rattle.sj_forward_rules.specs.Arrivals.{comes}
-use Rattle.sj_forward_rules.specs.Node.{Worked, quietly}
-use Rattle.sj_forward_rules.specs.Ready.{is_filled, state_by, state_at, is_ready}
-use Rattle.sj_forward_rules.specs.Record.{FrameAt, In, Out, Claim, Open, opened_in}
-use Rattle.sj_forward_rules.specs.World.{WorldAt, after_event, with_lane, delivery_of, happens}
-use Rattle.sj_forward_laws.specs.Kept.{IsKept, IsOpenKept}
-use Rattle.sj_forward_laws.specs.Roads.{Chains, Road, inward, outward, claiming, road_of, behind_of, start_of, goal_of, IsOnRoad}
-use Rattle.sj_forward_laws.proofs.AcceptKeeps.{offers_are, smallest_is, done, plain_accepted_it, accept_opens}
-use Rattle.sj_forward_laws.proofs.DeliveryLemmas.{front_arrives, moved_kept}
-use Rattle.sj_forward_laws.proofs.EndLemmas.{both_true, same_is}
-use Rattle.sj_forward_laws.proofs.InLemmas.{Arrives}
-use Rattle.sj_forward_laws.proofs.OldKeeps.{IsOldPlain, plain_is_old, old_keeps}
-use Rattle.sj_forward_laws.proofs.OldWorkLemmas.{OpensNothing, Leaves, Any, IsOldWork}
-use Rattle.sj_forward_laws.proofs.OldArrivals.{comes_old}
-use Rattle.sj_forward_laws.proofs.OldActs.{act_old}
-use Rattle.sj_forward_laws.proofs.OpenArrives.{node_opened}
-use Rattle.sj_forward_laws.proofs.OpenDelivered.{open_fits, opened_keeps}
-use Rattle.sj_forward_laws.proofs.OpensLemmas.{IsNoOpen, front_opened}
+use Rattle.sj_rules.specs.Play.{Want, ended, requests, accepts, Play}
+use Rattle.sj_rules.specs.Premises.{IsLawful, FitsRequest, FitsAccept}
+use Rattle.sj_forward_rules.specs.Acts.{act_by, open_session, accept_offered}
+use Rattle.sj_forward_rules.specs.Node.{Worked}
+use Rattle.sj_forward_rules.specs.Ready.{is_filled, state_by, is_ready}
+use Rattle.sj_forward_rules.specs.Record.{FrameAt, opened_in}
+use Rattle.sj_forward_rules.specs.World.{WorldAt, after_event}
+use Rattle.sj_forward_laws.specs.Kept.{IsOpenKept}
+use Rattle.sj_forward_laws.specs.Roads.{road_of, IsOnRoad}
+use Rattle.sj_forward_laws.proofs.AcceptKeeps.{smallest_is, done, plain_accepted_it, accept_opens}
 use Rattle.sj_forward_laws.proofs.RequestOpens.{request_opens}
 use Rattle.sj_forward_laws.proofs.RestLemmas.{start_below, goal_below}
-use Rattle.sj_forward_laws.proofs.SendActs.{IsActed, IsStill, local_acted, sends_acted}
+use Rattle.sj_forward_laws.proofs.SendActs.{IsStill}
 use Rattle.sj_forward_laws.proofs.WeightLemmas.{IsLight, open_light, none_light}
 
 -- the step is done by the party and in the plain world, and keeps the invariant, with what is open

@@ -1,39 +1,32 @@
 -- A party opens a session: its own end is in use, and the other one is in an Open. The invariant is kept.
-use Rattle.std.proofs.Common.{◌≡◌, ℕ, zero, suc, ◌+◌, ◌<◌, ◌≤◌, List, [], ◌∷◌, ◌++◌, drop, refl, sym, subst, ap, ◌∙◌, arith, inl, inr, append-nil}
-use Rattle.std.specs.Prelude.{◌⊎◌, Bool, true, false, ◌&&◌, ◌==◌, if◌then◌else◌, map, Some, None, slice_get}
-use Rattle.std.specs.List.{AllByRecursion}
-use Rattle.std.proofs.lemmas.Bool.{eqb-true, eq-eqb, ne_eqb}
+use Rattle.std.proofs.Common.{◌≡◌, ℕ, ◌+◌, ◌<◌, List, [], ◌∷◌, ◌++◌, drop, refl, sym, subst, ap, ◌∙◌, arith, inl, inr, append-nil}
+use Rattle.std.specs.Prelude.{◌⊎◌, Bool, true, false, ◌==◌, if◌then◌else◌, map, Some, slice_get}
+use Rattle.std.proofs.lemmas.Bool.{eqb-true, eq-eqb}
 use Rattle.sj_base.specs.declared.EndId.{EndId}
-use Rattle.sj_base.specs.declared.Msg.{Msg}
 use Rattle.sj_rules.specs.Acts.{plain_opened}
 use Rattle.sj_rules.specs.Binding.{BindsAlso}
 use Rattle.sj_rules.specs.Limits.{limit_of_requests}
-use Rattle.sj_rules.specs.Moves.{plain_requests}
 use Rattle.sj_rules.specs.Opened.{opened_number}
 use Rattle.sj_rules.specs.PlainChanges.{waits_of}
 use Rattle.sj_rules.specs.PlainSide.{PlainSide, PlainAt}
 use Rattle.sj_rules.specs.Play.{Play}
-use Rattle.sj_rules.specs.Reading.{IsUnopened}
 use Rattle.sj_rules.specs.Record.{is_same_end, other_end}
 use Rattle.sj_forward_rules.specs.Acts.{open_session}
-use Rattle.sj_forward_rules.specs.Node.{NodeAt, HasRecord}
-use Rattle.sj_forward_rules.specs.Record.{RecordAt, SentAt, StateAt, Held, Closed, FrameAt, Open, Mail, opened_in, stored}
-use Rattle.sj_forward_rules.specs.World.{WorldAt, after_event}
-use Rattle.sj_forward_laws.specs.Kept.{Seat, in_use, on_its_way, at_its_end, in_open, OpensFit, IsLeft, IsLast, IsRecorded, IsInChain}
+use Rattle.sj_forward_rules.specs.Node.{NodeAt}
+use Rattle.sj_forward_rules.specs.Record.{SentAt, StateAt, Held, Closed, Open, Mail, opened_in, stored}
+use Rattle.sj_forward_rules.specs.World.{WorldAt}
+use Rattle.sj_forward_laws.specs.Kept.{Seat, in_use, on_its_way, at_its_end, in_open, OpensFit, IsLast}
 use Rattle.sj_forward_laws.specs.Kept.{NamesFit, IsKept, IsOpenKept}
 use Rattle.sj_forward_laws.specs.Pipe.{traffic, from_last, from_first, in_part, out_part, pipe}
-use Rattle.sj_forward_laws.specs.Roads.{Chains, Road, inward, outward, claiming, is_road, behind_of, start_of, on_road, messages_in}
-use Rattle.sj_forward_laws.proofs.AbsentLemmas.{road_end, seat_end, top_zero, no_frames}
+use Rattle.sj_forward_laws.specs.Roads.{Chains, inward, outward, messages_in}
 use Rattle.sj_forward_laws.proofs.ActLemmas.{is_in_use, program_goes, bound_goes}
-use Rattle.sj_forward_laws.proofs.EndLemmas.{same_end, same_is, both_true, other_low}
+use Rattle.sj_forward_laws.proofs.EndLemmas.{same_end, same_is}
 use Rattle.sj_forward_laws.proofs.NamedLemmas.{IsSameWay, names_stay}
 use Rattle.sj_forward_laws.proofs.NewSession.{near, far, choose, choose_near, choose_far, choose_else, choose_both, by_ends, else_apart}
-use Rattle.sj_forward_laws.proofs.NewSession.{far_apart, other_near, other_far, opened, at_else, top_else, top_new, behind_else}
-use Rattle.sj_forward_laws.proofs.NewSession.{behind_near, behind_far, traffic_else, lanes_else, road_apart}
+use Rattle.sj_forward_laws.proofs.NewSession.{far_apart, other_near, other_far, opened, at_else, top_else, top_new}
+use Rattle.sj_forward_laws.proofs.NewSession.{lanes_else}
 use Rattle.sj_forward_laws.proofs.PartLemmas.{same_last, same_first}
-use Rattle.sj_forward_laws.proofs.RecordLemmas.{record_with}
-use Rattle.sj_forward_laws.proofs.RoadLemmas.{IsPost, push_same, push_here, push_lanes, road_self}
-use Rattle.sj_forward_laws.proofs.StayLemmas.{written_stays, still_there}
+use Rattle.sj_forward_laws.proofs.RoadLemmas.{push_lanes}
 use Rattle.sj_forward_laws.proofs.RequestRecords.{world_requested, plain_requested, seat_was, none_about, start, mails, old_road, far_road}
 use Rattle.sj_forward_laws.proofs.RequestRecords.{near_road, records, alone, there, left}
 

@@ -1,26 +1,25 @@
 -- A party opens a session: what is open between parties is kept.
 use Rattle.std.proofs.Common.{◌≡◌, ℕ, ◌+◌, ◌<◌, ◌≤◌, List, [], ◌∷◌, ◌++◌, refl, sym, subst, ap, ◌∙◌, arith, append-nil, append_assoc}
-use Rattle.std.specs.Prelude.{Bool, true, false, ◌&&◌, ◌==◌, nat_le, if◌then◌else◌, map, Some, None}
-use Rattle.std.specs.List.{AllByRecursion, filter}
+use Rattle.std.specs.Prelude.{Bool, true, false, ◌&&◌, ◌==◌, if◌then◌else◌, map, None}
+use Rattle.std.specs.List.{AllByRecursion}
 use Rattle.std.proofs.lemmas.Bool.{eqb-true, eq-eqb, ne_eqb, le-leb}
 use Rattle.std.proofs.lemmas.List.Elements.{filter_map-append}
 use Rattle.sj_base.specs.declared.EndId.{EndId}
-use Rattle.sj_rules.specs.Acts.{plain_opened}
 use Rattle.sj_rules.specs.Binding.{BindsAlso}
 use Rattle.sj_rules.specs.Limits.{limit_of_requests, first_opened}
-use Rattle.sj_rules.specs.Opened.{opened_number, opener_of, is_opened_by}
+use Rattle.sj_rules.specs.Opened.{opened_number, opener_of}
 use Rattle.sj_rules.specs.PlainSide.{PlainSide, PlainAt}
 use Rattle.sj_rules.specs.Play.{Play}
 use Rattle.sj_rules.specs.Reading.{IsUnopened}
-use Rattle.sj_rules.specs.Record.{is_same_end, requested_end, offered_end}
+use Rattle.sj_rules.specs.Record.{is_same_end, offered_end}
 use Rattle.sj_opened_laws.proofs.RequestKeepLemmas.{opener_of_opened}
 use Rattle.sj_forward_rules.specs.Acts.{open_session}
-use Rattle.sj_forward_rules.specs.Record.{FrameAt, Open, Mail, session_opened, opened_in}
+use Rattle.sj_forward_rules.specs.Record.{Open, Mail, session_opened, opened_in}
 use Rattle.sj_forward_rules.specs.World.{WorldAt, frames_for}
 use Rattle.sj_forward_laws.specs.Kept.{IsHeldRecord, AreRising, IsOffer, IsOpenKept}
 use Rattle.sj_forward_laws.proofs.ChainLemmas.{all_map}
-use Rattle.sj_forward_laws.proofs.EndLemmas.{both_true, same_end, same_is}
-use Rattle.sj_forward_laws.proofs.NewSession.{near, far, far_apart}
+use Rattle.sj_forward_laws.proofs.EndLemmas.{both_true, same_is}
+use Rattle.sj_forward_laws.proofs.NewSession.{near, far_apart}
 use Rattle.sj_forward_laws.proofs.OfferLemmas.{rising_push, offer_is_opened}
 use Rattle.sj_forward_laws.proofs.RequestRecords.{world_requested, plain_requested, new_session, rec_else, none_was}
 use Rattle.sj_forward_laws.proofs.RequestKeeps.{sides_else, sides_far, request_keeps}

@@ -1,38 +1,32 @@
 -- A party opens a session: the lanes and the records then, beside the chains with those of the session.
-use Rattle.std.proofs.Common.{◌≡◌, ℕ, zero, suc, ◌+◌, ◌<◌, ◌≤◌, List, [], ◌∷◌, ◌++◌, drop, refl, sym, subst, ap, ◌∙◌, arith, inl, inr, append-nil}
-use Rattle.std.specs.Prelude.{◌⊎◌, Bool, true, false, ◌&&◌, ◌==◌, if◌then◌else◌, map, Some, None, slice_get}
+use Rattle.std.proofs.Common.{◌≡◌, ℕ, zero, suc, ◌<◌, ◌≤◌, List, [], ◌∷◌, ◌++◌, refl, sym, subst, ap, ◌∙◌, arith, inl}
+use Rattle.std.specs.Prelude.{Bool, true, false, ◌&&◌, ◌==◌, if◌then◌else◌, Some, None}
 use Rattle.std.specs.List.{AllByRecursion}
 use Rattle.std.proofs.lemmas.Bool.{eqb-true, eq-eqb, ne_eqb}
 use Rattle.sj_base.specs.declared.EndId.{EndId}
-use Rattle.sj_base.specs.declared.Msg.{Msg}
-use Rattle.sj_rules.specs.Acts.{plain_opened}
 use Rattle.sj_rules.specs.Binding.{BindsAlso}
 use Rattle.sj_rules.specs.Limits.{limit_of_requests}
 use Rattle.sj_rules.specs.Moves.{plain_requests}
 use Rattle.sj_rules.specs.Opened.{opened_number}
-use Rattle.sj_rules.specs.PlainChanges.{waits_of}
-use Rattle.sj_rules.specs.PlainSide.{PlainSide, PlainAt}
+use Rattle.sj_rules.specs.PlainSide.{PlainAt}
 use Rattle.sj_rules.specs.Play.{Play}
 use Rattle.sj_rules.specs.Reading.{IsUnopened}
-use Rattle.sj_rules.specs.Record.{is_same_end, other_end}
+use Rattle.sj_rules.specs.Record.{is_same_end}
 use Rattle.sj_forward_rules.specs.Acts.{open_session}
-use Rattle.sj_forward_rules.specs.Node.{NodeAt, HasRecord}
-use Rattle.sj_forward_rules.specs.Record.{RecordAt, SentAt, StateAt, Held, Closed, FrameAt, Open, Mail, opened_in, stored}
+use Rattle.sj_forward_rules.specs.Node.{HasRecord}
+use Rattle.sj_forward_rules.specs.Record.{RecordAt, StateAt, Held, Closed, Open, Mail}
 use Rattle.sj_forward_rules.specs.World.{WorldAt, after_event}
-use Rattle.sj_forward_laws.specs.Kept.{Seat, in_use, on_its_way, at_its_end, in_open, OpensFit, IsLeft, IsLast, IsRecorded, IsInChain}
-use Rattle.sj_forward_laws.specs.Kept.{NamesFit, IsKept, IsOpenKept}
-use Rattle.sj_forward_laws.specs.Pipe.{traffic, from_last, from_first, in_part, out_part, pipe}
-use Rattle.sj_forward_laws.specs.Roads.{Chains, Road, inward, outward, claiming, is_road, behind_of, start_of, on_road, messages_in}
+use Rattle.sj_forward_laws.specs.Kept.{Seat, in_use, at_its_end, in_open, IsLeft, IsRecorded, IsInChain}
+use Rattle.sj_forward_laws.specs.Kept.{IsOpenKept}
+use Rattle.sj_forward_laws.specs.Pipe.{traffic}
+use Rattle.sj_forward_laws.specs.Roads.{Chains, Road, inward, claiming, is_road, behind_of, start_of, on_road}
 use Rattle.sj_forward_laws.proofs.AbsentLemmas.{road_end, seat_end, top_zero, no_frames}
-use Rattle.sj_forward_laws.proofs.ActLemmas.{is_in_use, program_goes, bound_goes}
-use Rattle.sj_forward_laws.proofs.EndLemmas.{same_end, same_is, both_true, other_low}
-use Rattle.sj_forward_laws.proofs.NamedLemmas.{IsSameWay, names_stay}
-use Rattle.sj_forward_laws.proofs.NewSession.{near, far, choose, choose_near, choose_far, choose_else, choose_both, by_ends, else_apart}
-use Rattle.sj_forward_laws.proofs.NewSession.{far_apart, other_near, other_far, opened, at_else, top_else, top_new, behind_else}
-use Rattle.sj_forward_laws.proofs.NewSession.{behind_near, behind_far, traffic_else, lanes_else, road_apart}
-use Rattle.sj_forward_laws.proofs.PartLemmas.{same_last, same_first}
+use Rattle.sj_forward_laws.proofs.EndLemmas.{both_true}
+use Rattle.sj_forward_laws.proofs.NewSession.{near, far, choose, choose_near, choose_far, choose_else, by_ends, else_apart}
+use Rattle.sj_forward_laws.proofs.NewSession.{far_apart, opened, at_else, top_else, top_new, behind_else}
+use Rattle.sj_forward_laws.proofs.NewSession.{behind_near, behind_far, traffic_else, road_apart}
 use Rattle.sj_forward_laws.proofs.RecordLemmas.{record_with}
-use Rattle.sj_forward_laws.proofs.RoadLemmas.{IsPost, push_same, push_here, push_lanes, road_self}
+use Rattle.sj_forward_laws.proofs.RoadLemmas.{IsPost, push_same, push_here, road_self}
 use Rattle.sj_forward_laws.proofs.StayLemmas.{written_stays, still_there}
 
 module _ {P Q : Type 0} (IsOver : P → Type 0) (play : Play P Q) (binds : Q → EndId → Bool) (parties : ℕ) (w : WorldAt Q) (plain : PlainAt P Q)

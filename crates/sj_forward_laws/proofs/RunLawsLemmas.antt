@@ -1,35 +1,32 @@
 -- What is said of the worlds of runs: what is on its way, which events are steps, and where a drain ends.
 use Rattle.sj_forward_laws.proofs.StepLemmas.{IsDone, IsIdle, party_acts}
-use Rattle.sj_forward_laws.proofs.FrontLemmas.{delivery_keeps, IsDelivered, front_delivered}
+use Rattle.sj_forward_laws.proofs.FrontLemmas.{IsDelivered, front_delivered}
 use Rattle.sj_forward_rules.specs.Acts.{acts}
 use Rattle.sj_forward_rules.specs.Ready.{state_at, is_ready, is_filled, has_step}
 use Rattle.sj_forward_rules.specs.Node.{Worked}
 use Rattle.std.specs.Prelude.{◌↔◌}
 use Rattle.sj_forward_rules.specs.Drain.{IsDrained}
 use Rattle.sj_forward_laws.proofs.DrainEndLemmas.{run_joined, drained_is_run, drained_is_quiet}
-use Rattle.sj_rules.specs.Moves.{plain_act, plain_act_by}
-use Rattle.std.proofs.Common.{◌≡◌, ℕ, zero, suc, arith, List, [], ◌∷◌, ◌++◌, length, Option, Some, None, option_map, option_and_then, refl}
-use Rattle.std.proofs.Common.{ap, sym, ◌∙◌, subst, append-nil, append_assoc, inl, inr}
-use Rattle.std.specs.Prelude.{◌⊎◌, ◌≤◌, Bool, true, false, if◌then◌else◌}
-use Rattle.std.proofs.lemmas.Bool.{cases_lt}
+use Rattle.sj_rules.specs.Moves.{plain_act}
+use Rattle.std.proofs.Common.{◌≡◌, ℕ, zero, suc, arith, List, [], ◌∷◌, ◌++◌, length, Option, Some, None, option_map, refl}
+use Rattle.std.proofs.Common.{ap, sym, ◌∙◌, subst, inl, inr}
+use Rattle.std.specs.Prelude.{◌⊎◌, ◌≤◌, true, false}
 use Rattle.sj_lang.specs.Place.{Place}
 use Rattle.sj_lang.specs.FileAt.{FileAt, ConnectAt}
 use Rattle.sj_acceptance.specs.Accepted.{IsAccepted}
 use Rattle.sj_semantics.specs.Program.{Program}
-use Rattle.sj_semantics.specs.World.{start_of, World, act_of}
-use Rattle.sj_semantics.specs.State.{IsSettled}
-use Rattle.sj_semantics.specs.Run.{IsRun, after_acts}
-use Rattle.sj_semantics_laws.proofs.RunLemmas.{between}
+use Rattle.sj_semantics.specs.World.{World, act_of}
+use Rattle.sj_semantics.specs.Run.{IsRun}
 use Rattle.sj_rules.specs.World.{Event, Act, Deliver, Turn}
 use Rattle.sj_rules.specs.PlainSide.{PlainAt}
 use Rattle.sj_rules.specs.Party.{IsDone as IsOver, play_of, binds}
 use Rattle.sj_rules.specs.Plain.{plain_at}
-use Rattle.sj_rules.specs.Events.{acts_by, acts_in}
+use Rattle.sj_rules.specs.Events.{acts_in}
 use Rattle.sj_rules_laws.proofs.LawfulLemmas.{run_is_lawful, run_acts_are_seen}
-use Rattle.sj_forward_rules.specs.World.{WorldAt, after_event, delivery_of, happens, Run, IsQuietAmong}
+use Rattle.sj_forward_rules.specs.World.{WorldAt, after_event, delivery_of, happens, IsQuietAmong}
 use Rattle.sj_forward_laws.specs.Kept.{IsOpenKept}
 use Rattle.sj_forward_rules.specs.Start.{home_by, forward_start, IsForwardRun}
-use Rattle.sj_forward_laws.proofs.StartLemmas.{start_is_open_kept, home_has}
+use Rattle.sj_forward_laws.proofs.StartLemmas.{home_has}
 use Rattle.sj_forward_laws.proofs.StayLemmas.{run_stays}
 use Rattle.sj_forward_rules.specs.Node.{HasRecord}
 use Rattle.sj_rules.specs.Start.{connect_of}
@@ -40,9 +37,6 @@ use Rattle.sj_base.specs.declared.EndId.{EndId}
 use Rattle.sj_semantics.specs.Ends as semantics
 use Rattle.sj_semantics.specs.Ends.{end_at, untaken_for}
 use Rattle.sj_semantics.specs.Run.{end_of}
-use Rattle.sj_semantics_laws.proofs.FinishLemmas.{end_is_settled, end_is_reached}
-use Rattle.sj_semantics_laws.proofs.RunLemmas.{same_end}
-use Rattle.sj_semantics_laws.proofs.StartLemmas.{start_is_unshared}
 use Rattle.sj_rules.specs.Record.{other_end}
 use Rattle.sj_rules.specs.Plain.{plain_side}
 use Rattle.sj_rules.specs.PlainSide.{PlainSide, untaken_of}
@@ -51,7 +45,7 @@ use Rattle.sj_rules_laws.proofs.SideLemmas.{side_below, other_side_below, other_
 use Rattle.sj_forward_rules.specs.Record.{FrameAt, SentAt, StateAt}
 use Rattle.sj_forward_laws.specs.Roads.{Chains}
 use Rattle.sj_forward_laws.specs.Pipe.{pipe}
-use Rattle.sj_forward_laws.proofs.RunLemmas.{StandsAfter, same_world, acted_by, runs_stand, quiet_run_ends}
+use Rattle.sj_forward_laws.proofs.RunLemmas.{StandsAfter, acted_by, runs_stand, quiet_run_ends}
 use Rattle.sj_semantics.specs.State.{state_of}
 use Rattle.sj_semantics.specs.declared.State.TheVariants as states
 use Rattle.sj_semantics_laws.proofs.StateLemmas.{act_is_ready}
@@ -128,10 +122,12 @@ module _ (file : FileAt) (accepted : IsAccepted file) where
       let same : s.plain ≡ v = one_end s.plain v (sym s.run ∙ plain_run) in
       subst (λ (x : World). state_of x p ≡ states.Ready) same
       (by s.plain (run_acts_are_seen file (acts_in turns) s.plain p accepted s.run)
-      (party_acts IsOver (play_of file) binds (length file.parties) refl w (plain_at s.plain) s.kept (run_is_lawful file (acts_in turns) s.plain accepted s.run) p))
+      (party_acts IsOver (play_of file) binds (length file.parties) refl w (plain_at s.plain) s.kept
+      (run_is_lawful file (acts_in turns) s.plain accepted s.run) p))
     where
       by : (plain : World) → plain_act (play_of file) (plain_at plain) p ≡ option_map plain_at (act_of plain p)
-          → IsDone IsOver (play_of file) binds (length file.parties) w (plain_at plain) p ⊎ IsIdle (play_of file) (length file.parties) w (plain_at plain) p
+          → IsDone IsOver (play_of file) binds (length file.parties) w (plain_at plain) p
+          ⊎ IsIdle (play_of file) (length file.parties) w (plain_at plain) p
           → state_of plain p ≡ states.Ready
       by plain seen (inl d) =
           let acted = acted_by plain p d.next (act_of plain p) refl (sym seen ∙ d.plain_is) in

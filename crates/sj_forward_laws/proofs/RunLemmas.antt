@@ -1,19 +1,13 @@
 -- The acts of a run are a plain run, and the world keeps the invariant beside the plain world that they reach.
 use Rattle.sj_forward_laws.proofs.StepLemmas.{IsDone, IsIdle, party_acts}
-use Rattle.sj_forward_laws.proofs.FrontLemmas.{delivery_keeps, IsDelivered, front_delivered}
-use Rattle.sj_forward_rules.specs.Acts.{acts}
-use Rattle.sj_forward_rules.specs.Ready.{state_at, is_ready, is_filled, has_step}
-use Rattle.sj_forward_rules.specs.Node.{Worked}
-use Rattle.std.specs.Prelude.{◌↔◌}
-use Rattle.sj_forward_rules.specs.Drain.{IsDrained}
-use Rattle.sj_forward_laws.proofs.DrainEndLemmas.{run_joined, drained_is_run, drained_is_quiet}
+use Rattle.sj_forward_laws.proofs.FrontLemmas.{delivery_keeps}
 use Rattle.sj_rules.specs.Moves.{plain_act, plain_act_by}
-use Rattle.std.proofs.Common.{◌≡◌, ℕ, zero, suc, arith, List, [], ◌∷◌, ◌++◌, length, Option, Some, None, option_map, option_and_then, refl}
+use Rattle.std.proofs.Common.{◌≡◌, ℕ, arith, List, [], ◌∷◌, ◌++◌, length, Option, Some, None, option_map, option_and_then, refl}
 use Rattle.std.proofs.Common.{ap, sym, ◌∙◌, subst, append-nil, append_assoc, inl, inr}
 use Rattle.std.specs.Prelude.{◌⊎◌, ◌≤◌, Bool, true, false, if◌then◌else◌}
 use Rattle.std.proofs.lemmas.Bool.{cases_lt}
 use Rattle.sj_lang.specs.Place.{Place}
-use Rattle.sj_lang.specs.FileAt.{FileAt, ConnectAt}
+use Rattle.sj_lang.specs.FileAt.{FileAt}
 use Rattle.sj_acceptance.specs.Accepted.{IsAccepted}
 use Rattle.sj_semantics.specs.Program.{Program}
 use Rattle.sj_semantics.specs.World.{start_of, World, act_of}
@@ -26,31 +20,15 @@ use Rattle.sj_rules.specs.Party.{IsDone as IsOver, play_of, binds}
 use Rattle.sj_rules.specs.Plain.{plain_at}
 use Rattle.sj_rules.specs.Events.{acts_by, acts_in}
 use Rattle.sj_rules_laws.proofs.LawfulLemmas.{run_is_lawful, run_acts_are_seen}
-use Rattle.sj_forward_rules.specs.World.{WorldAt, after_event, delivery_of, happens, Run, IsQuietAmong}
+use Rattle.sj_forward_rules.specs.World.{WorldAt, after_event, happens, Run, IsQuietAmong}
 use Rattle.sj_forward_laws.specs.Kept.{IsOpenKept}
-use Rattle.sj_forward_rules.specs.Start.{home_by, forward_start, IsForwardRun}
-use Rattle.sj_forward_laws.proofs.StartLemmas.{start_is_open_kept, home_has}
-use Rattle.sj_forward_laws.proofs.StayLemmas.{run_stays}
-use Rattle.sj_forward_rules.specs.Node.{HasRecord}
-use Rattle.sj_rules.specs.Start.{connect_of}
-use Rattle.sj_forward_laws.proofs.ActLemmas.{held_here}
-use Rattle.sj_forward_laws.specs.Layout.{IsLaidOut}
-use Rattle.std.specs.Prelude.{◌<◌, map, drop}
-use Rattle.sj_base.specs.declared.EndId.{EndId}
-use Rattle.sj_semantics.specs.Ends as semantics
-use Rattle.sj_semantics.specs.Ends.{end_at, untaken_for}
+use Rattle.sj_forward_rules.specs.Start.{forward_start, IsForwardRun}
+use Rattle.sj_forward_laws.proofs.StartLemmas.{start_is_open_kept}
+use Rattle.std.specs.Prelude.{◌<◌}
 use Rattle.sj_semantics.specs.Run.{end_of}
 use Rattle.sj_semantics_laws.proofs.FinishLemmas.{end_is_settled, end_is_reached}
 use Rattle.sj_semantics_laws.proofs.RunLemmas.{same_end}
 use Rattle.sj_semantics_laws.proofs.StartLemmas.{start_is_unshared}
-use Rattle.sj_rules.specs.Record.{other_end}
-use Rattle.sj_rules.specs.Plain.{plain_side}
-use Rattle.sj_rules.specs.PlainSide.{PlainSide, untaken_of}
-use Rattle.sj_rules.specs.PlainChanges.{waits_of}
-use Rattle.sj_rules_laws.proofs.SideLemmas.{side_below, other_side_below, other_end_is, drop-map}
-use Rattle.sj_forward_rules.specs.Record.{FrameAt, SentAt, StateAt}
-use Rattle.sj_forward_laws.specs.Roads.{Chains}
-use Rattle.sj_forward_laws.specs.Pipe.{pipe}
 
 -- one act more
 after_one_more : (w u v : World) (ps : List ℕ) (p : ℕ) → after_acts w ps ≡ Some u → act_of u p ≡ Some v → after_acts w (ps ++ p ∷ []) ≡ Some v
@@ -73,7 +51,8 @@ pub record Acted (w : World) (p : ℕ) (next : PlainAt Place Program) : Type 0 w
   pub is : act_of w p ≡ Some after
   pub seen : next ≡ plain_at after
 
-pub acted_by : (w : World) (p : ℕ) (next : PlainAt Place Program) (o : Option World) → act_of w p ≡ o → option_map plain_at o ≡ Some next → Acted w p next
+pub acted_by : (w : World) (p : ℕ) (next : PlainAt Place Program) (o : Option World) → act_of w p ≡ o → option_map plain_at o ≡ Some next
+    → Acted w p next
 acted_by w p next None is h = cc
 acted_by w p next (Some v) is h = record { after = v; is = is; seen = let it : plain_at v ≡ next = cc in sym it }
 
@@ -160,6 +139,7 @@ module _ (file : FileAt) (accepted : IsAccepted file) where
       let s = runs_stand turns w run in
       let l = end_is_reached file in
       let same : s.plain ≡ end_of file =
-      same_end (start_of file) s.plain (end_of file) (acts_in turns) l.acts (start_is_unshared file (omega (arith, accepted.within.connects))) s.run l.leads
+      same_end (start_of file) s.plain (end_of file) (acts_in turns) l.acts (start_is_unshared file (omega (arith, accepted.within.connects)))
+      s.run l.leads
       (quiet_is_settled (acts_in turns) w s quiet) (end_is_settled file) in
       (subst (λ v. IsRun file (acts_in turns) v) same s.run, subst (λ v. IsOpenKept IsOver binds (length file.parties) w (plain_at v)) same s.kept)

@@ -1,41 +1,30 @@
 -- Steps that send nothing, and steps that send a message on an end.
-use Rattle.sj_semantics.specs.declared.Limit.TheVariants as limits
-use Rattle.sj_semantics.specs.declared.State.TheVariants as states
-use Rattle.sj_forward_rules.specs.Ready.{state_by, may_leave, is_ready}
+use Rattle.sj_forward_rules.specs.Ready.{state_by, is_ready}
 use Rattle.sj_forward_laws.proofs.WeightLemmas.{IsLight, onward_light, none_light}
-use Rattle.std.proofs.Common.{◌≡◌, ℕ, suc, ◌+◌, ◌<◌, ◌≤◌, List, [], ◌∷◌, length, refl, sym, subst, ap, ◌∙◌, arith, inl, inr}
-use Rattle.std.proofs.Common.{option_and_then, option_map}
-use Rattle.std.specs.Prelude.{Bool, true, false, nat_lt, ◌&&◌, ◌==◌, if◌then◌else◌, Some, None, ◌⊎◌}
+use Rattle.std.proofs.Common.{◌≡◌, ℕ, ◌+◌, ◌<◌, ◌≤◌, [], ◌∷◌, length, refl, subst, ap, ◌∙◌, arith}
+use Rattle.std.proofs.Common.{option_map}
+use Rattle.std.specs.Prelude.{Bool, true, false, ◌==◌, if◌then◌else◌, Some, None}
 use Rattle.sj_base.specs.declared.EndId.{EndId}
 use Rattle.sj_base.specs.declared.Msg.{Msg}
-use Rattle.sj_lang.specs.declared.proto.Way.TheVariants as ways
-use Rattle.sj_rules.specs.Limits.{limit_of_hops}
-use Rattle.sj_semantics.specs.World.{session_message}
-use Rattle.sj_rules.specs.Acts.{plain_parked}
-use Rattle.sj_rules.specs.Record.{is_same_end, other_end}
+use Rattle.sj_rules.specs.Record.{other_end}
 use Rattle.sj_rules.specs.Binding.{BindsSame}
-use Rattle.sj_rules.specs.Moves.{with_side, plain_goes, plain_sends, plain_delegates, plain_act_by}
-use Rattle.sj_rules.specs.Play.{Want, local, sends, delegates, Play}
-use Rattle.sj_rules.specs.Premises.{IsLawful, FitsSend, FitsDelegate}
-use Rattle.sj_rules.specs.PlainSide.{PlainSide, PlainAt}
+use Rattle.sj_rules.specs.Moves.{plain_goes, plain_sends, plain_act_by}
+use Rattle.sj_rules.specs.Play.{Want, local, sends, Play}
+use Rattle.sj_rules.specs.Premises.{IsLawful, FitsSend}
+use Rattle.sj_rules.specs.PlainSide.{PlainAt}
 use Rattle.sj_rules.specs.PlainChanges.{waits_of}
-use Rattle.sj_forward_rules.specs.Record.{SentAt, StateAt, Parked, stored}
-use Rattle.sj_forward_rules.specs.Node.{NodeAt, HeldAt, held_at, held_of, with_program, quietly, Worked, onward}
-use Rattle.sj_forward_rules.specs.Acts.{act_by, send_act, delegate_act, parked}
+use Rattle.sj_forward_rules.specs.Node.{NodeAt, with_program, quietly, Worked, onward}
+use Rattle.sj_forward_rules.specs.Acts.{act_by, send_act}
 use Rattle.sj_forward_rules.specs.World.{WorldAt, after_event, lanes_with}
 use Rattle.sj_forward_laws.specs.Roads.{behind_of}
-use Rattle.sj_forward_laws.specs.Kept.{Seat, in_use, on_its_way, IsLast, IsKept}
-use Rattle.sj_forward_laws.proofs.EndLemmas.{same_end, same_is, other_other, other_low}
-use Rattle.sj_forward_laws.proofs.RoadLemmas.{road_self}
-use Rattle.sj_forward_laws.specs.Roads.{inward}
-use Rattle.sj_forward_laws.proofs.StayLemmas.{written_stays, still_there}
-use Rattle.sj_forward_laws.proofs.RecordLemmas.{written, written_here, written_away, for_all, kept_records, written_records, kept_alone}
-use Rattle.sj_forward_laws.proofs.RecordLemmas.{written_alone}
-use Rattle.sj_forward_laws.proofs.MovedLemmas.{other_name, uses_stay, quiet_lane}
+use Rattle.sj_forward_laws.specs.Kept.{in_use, IsKept}
+use Rattle.sj_forward_laws.proofs.EndLemmas.{other_other, other_low}
+use Rattle.sj_forward_laws.proofs.StayLemmas.{still_there}
+use Rattle.sj_forward_laws.proofs.RecordLemmas.{kept_records, kept_alone}
+use Rattle.sj_forward_laws.proofs.MovedLemmas.{uses_stay, quiet_lane}
 use Rattle.sj_forward_laws.proofs.SendKeeps.{send_keeps}
 use Rattle.sj_forward_laws.proofs.QuietKeeps.{quiet_keeps}
-use Rattle.sj_forward_laws.proofs.ActLemmas.{not_top, value_fits, IsHeldHere, held_here, program_goes, bound_goes, seats_left, seat_away}
-use Rattle.sj_forward_laws.proofs.ActLemmas.{seat_here, opens_left, names_left, bound_left, uses_left}
+use Rattle.sj_forward_laws.proofs.ActLemmas.{value_fits, IsHeldHere, held_here, program_goes, bound_goes}
 
 -- the step is done by the party and in the plain world, and keeps the invariant
 pub record IsActed {P Q : Type 0} (IsOver : P → Type 0) (play : Play P Q) (binds : Q → EndId → Bool) (parties : ℕ) (w : WorldAt Q)

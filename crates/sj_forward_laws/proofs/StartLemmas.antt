@@ -1,23 +1,21 @@
 -- The start of an accepted file keeps the invariant.
 use Rattle.std.specs.Prelude.{nat_lt}
-use Rattle.std.proofs.Common.{◌≡◌, ℕ, zero, suc, ◌<◌, ◌≤◌, Bool, true, false, List, [], ◌++◌, drop, slice_get, Option, Some, None}
-use Rattle.std.proofs.Common.{option_map, option_and_then, unwrap_or, refl, ap, sym, ◌∙◌, subst, arith, inl}
+use Rattle.std.proofs.Common.{◌≡◌, ℕ, zero, suc, ◌<◌, ◌≤◌, Bool, true, false, List, [], ◌++◌, slice_get, Option, Some, None}
+use Rattle.std.proofs.Common.{option_and_then, refl, ap, sym, ◌∙◌, subst, arith, inl}
 use Rattle.std.specs.Prelude.{◌==◌, if◌then◌else◌, map}
-use Rattle.std.proofs.lemmas.Bool.{lt-ltb, eq-eqb, eqb-true, ne_eqb}
-use Rattle.std.proofs.lemmas.Option.{slice_get-map, slice_get_past}
+use Rattle.std.proofs.lemmas.Bool.{eq-eqb, eqb-true, ne_eqb}
+use Rattle.std.proofs.lemmas.Option.{slice_get_past}
 use Rattle.sj_base.specs.declared.EndId.{EndId}
 use Rattle.sj_lang.specs.Place.{Place}
-use Rattle.sj_lang.specs.FileAt.{FileAt, ConnectAt, body_named}
-use Rattle.sj_semantics.specs.Ends.{EndAt, end_on, nowhere}
-use Rattle.sj_semantics.specs.World.{fresh, session_of, start_of}
+use Rattle.sj_lang.specs.FileAt.{FileAt, ConnectAt}
+use Rattle.sj_semantics.specs.World.{start_of}
 use Rattle.sj_rules.specs.Record.{other_end}
 use Rattle.sj_rules.specs.PlainSide.{PlainSide}
 use Rattle.sj_rules.specs.PlainChanges.{waits_of}
 use Rattle.sj_rules.specs.Party.{IsDone, binds}
 use Rattle.sj_semantics.specs.Requests.{no_requests}
 use Rattle.sj_rules.specs.Plain.{side_at, is_offered_end, plain_at}
-use Rattle.sj_rules.specs.Start.{declared_on, connect_of}
-use Rattle.sj_rules_laws.proofs.SideLemmas.{side_below}
+use Rattle.sj_rules.specs.Start.{connect_of}
 use Rattle.sj_rules_laws.proofs.StartNamesLemmas.{bound_starts, party_exists}
 use Rattle.sj_acceptance.specs.Accepted.{IsAccepted}
 use Rattle.std.specs.Prelude.{length}
@@ -27,7 +25,6 @@ use Rattle.sj_forward_laws.specs.Pipe.{pipe}
 use Rattle.sj_forward_laws.specs.Kept.{Seat, in_use, on_its_way, at_its_end, in_open, OpensFit, IsLast, IsRecorded, IsInChain, IsKept, IsOpenKept}
 use Rattle.sj_forward_rules.specs.Start.{home_by, first_record, first_use, first_node, forward_start}
 use Rattle.sj_forward_laws.proofs.StartSides.{start_end, connect_is, connect_other, plain_start, nothing_waits}
-use Rattle.sj_forward_laws.proofs.EndLemmas.{other_low}
 use Rattle.sj_forward_rules.specs.Node.{HasRecord}
 
 -- ---- where ends lie

@@ -1,7 +1,6 @@
 -- The first message of an end in use is taken: the invariant is kept, as far as the end goes.
-use Rattle.std.proofs.Common.{◌≡◌, ℕ, suc, ◌+◌, ◌<◌, ◌≤◌, List, [], ◌∷◌, ◌++◌, drop, refl, sym, subst, ap, ◌∙◌, arith}
+use Rattle.std.proofs.Common.{◌≡◌, ℕ, suc, ◌+◌, ◌<◌, List, [], ◌∷◌, ◌++◌, drop, refl, sym, subst, ap, ◌∙◌, arith}
 use Rattle.std.specs.Prelude.{Bool, true, false, ◌&&◌, ◌==◌, if◌then◌else◌, map, Some, slice_get}
-use Rattle.std.specs.List.{AllByRecursion}
 use Rattle.sj_base.specs.declared.EndId.{EndId}
 use Rattle.sj_rules.specs.Record.{is_same_end, other_end}
 use Rattle.sj_rules.specs.Acts.{plain_taken}
@@ -9,20 +8,18 @@ use Rattle.sj_rules.specs.Moves.{with_side}
 use Rattle.sj_rules.specs.PlainSide.{PlainSide, PlainAt}
 use Rattle.sj_rules.specs.PlainChanges.{waits_of}
 use Rattle.sj_world_laws.proofs.WaitLemmas.{waits_but_one, waits_less}
-use Rattle.sj_forward_rules.specs.Record.{RecordAt, SentAt, StateAt, Held, stored}
+use Rattle.sj_forward_rules.specs.Record.{SentAt, StateAt, Held, stored}
 use Rattle.sj_forward_rules.specs.Node.{NodeAt, with_record}
-use Rattle.sj_forward_rules.specs.World.{WorldAt, Lanes}
-use Rattle.sj_forward_laws.specs.Roads.{Chains, Road, inward, outward, claiming, behind_of, start_of, goal_of, IsOnRoad, on_road, messages_in}
+use Rattle.sj_forward_rules.specs.World.{WorldAt}
+use Rattle.sj_forward_laws.specs.Roads.{inward, claiming, behind_of, messages_in}
 use Rattle.sj_forward_laws.specs.Pipe.{traffic, from_first, in_part, out_part, pipe}
-use Rattle.sj_forward_laws.specs.Kept.{IsRecorded, IsInChain, Seat, in_use, OpensFit, IsLeft, IsLast, NamesFit, IsKept}
+use Rattle.sj_forward_laws.specs.Kept.{in_use, IsLeft, IsLast, NamesFit, IsKept}
 use Rattle.sj_forward_laws.proofs.EndLemmas.{same_end, same_is}
 use Rattle.sj_forward_laws.proofs.PartLemmas.{pop_last}
 use Rattle.sj_forward_laws.proofs.RoadLemmas.{road_self}
-use Rattle.sj_forward_laws.proofs.OpensLemmas.{OpensLike}
-use Rattle.sj_forward_laws.proofs.StayLemmas.{Stays, written_stays, still_there}
+use Rattle.sj_forward_laws.proofs.StayLemmas.{written_stays, still_there}
 use Rattle.sj_forward_laws.proofs.RecordLemmas.{written, written_here, written_away, written_records, written_alone, same_pipe}
 use Rattle.sj_forward_laws.proofs.MovedLemmas.{other_hop, other_name, uses_stay, programs_stay}
-use Rattle.sj_forward_laws.proofs.SentLemmas.{stored_in}
 
 module _ {P Q : Type 0} (IsOver : P → Type 0) (binds : Q → EndId → Bool) (parties : ℕ) (w : WorldAt Q) (plain : PlainAt P Q)
     (kept : IsKept IsOver binds parties w plain)

@@ -1,14 +1,16 @@
-//! Laws over runs of the forwarding world from the start of an accepted file; each is the one
-//! clause of a function that does nothing.
+//! Laws over runs of the forwarding world from the start of an accepted file; each is a clause of
+//! a function that does nothing.
 //!
 //! - `each_run_stands_for_a_plain_run`: the acts are a plain run.
-//! - `what_is_on_its_way_is_untaken`: what is stored and in lanes is what the plain world waits for.
+//! - `what_is_on_its_way_is_untaken`: what is stored and in lanes is what the plain world waits
+//!   for.
 //! - `a_party_acts_where_it_is_ready`, `each_front_fits`, `has_step_tells_the_steps`: which events
 //!   are steps; nothing is ever unfit.
 //! - `a_quiet_run_is_at_the_end`: where nothing is left to do.
 //! - `runs_are_short`: events are few.
 
-ghost use Rattle.std.specs.Prelude.{◌≡◌, ◌↔◌, ◌<◌, ◌≤◌, ℕ, List, ◌∷◌, length, map, None, Some, false, true};
+ghost use Rattle.std.specs.Prelude.{◌≡◌, ◌↔◌, ◌<◌, ◌≤◌, ℕ, List, ◌∷◌, length, map};
+ghost use Rattle.std.specs.Prelude.{None, Some, false, true};
 ghost use Rattle.sj_acceptance.specs.Accepted.{IsAccepted};
 ghost use Rattle.sj_base.specs.declared.EndId.{EndId};
 ghost use Rattle.sj_forward_laws.specs.Kept.{IsOpenKept};
@@ -58,14 +60,14 @@ pub fn what_is_on_its_way_is_untaken()
         map (λ (m : SentAt). m.msg) (pipe w.lanes c states e) ≡ untaken_for v.sessions e) }
 {}
 
-/// A party acts exactly where it is ready by what it holds, and then it is ready in the plain world.
+/// A party acts exactly where it is ready by what it holds, and then it is so in the plain world.
 pub fn a_party_acts_where_it_is_ready()
-    ensures acts { (file : FileAt) (turns : List Turn) (w : WorldAt Program) (p : ℕ) → IsAccepted file →
-        IsForwardRun file turns w →
+    ensures acts { (file : FileAt) (turns : List Turn) (w : WorldAt Program) (p : ℕ) →
+        IsAccepted file → IsForwardRun file turns w →
         ((done : Worked Program) × (acts (play_of file) p (w.nodes p) ≡ Some done))
         ↔ (is_ready (state_at (play_of file) (w.nodes p)) ≡ true) }
-    ensures plain { (file : FileAt) (turns : List Turn) (w : WorldAt Program) (v : World) (p : ℕ) →
-        IsAccepted file → IsForwardRun file turns w → IsRun file (acts_in turns) v →
+    ensures plain { (file : FileAt) (turns : List Turn) (w : WorldAt Program) (v : World)
+        (p : ℕ) → IsAccepted file → IsForwardRun file turns w → IsRun file (acts_in turns) v →
         is_ready (state_at (play_of file) (w.nodes p)) ≡ true → state_of v p ≡ states.Ready }
 {}
 
@@ -83,12 +85,12 @@ pub fn each_front_fits()
 
 /// An event is no step exactly where the lane is empty, or the party isn't ready by what it holds.
 pub fn has_step_tells_the_steps()
-    ensures step { (file : FileAt) (turns : List Turn) (w : WorldAt Program) (p : ℕ) (event : Event) →
-        IsAccepted file → IsForwardRun file turns w →
+    ensures step { (file : FileAt) (turns : List Turn) (w : WorldAt Program) (p : ℕ)
+        (event : Event) → IsAccepted file → IsForwardRun file turns w →
         has_step (play_of file) w p event ≡ true →
         (v : WorldAt Program) × (happens (play_of file) w p event ≡ Some v) }
-    ensures none { (file : FileAt) (turns : List Turn) (w : WorldAt Program) (p : ℕ) (event : Event) →
-        IsAccepted file → IsForwardRun file turns w →
+    ensures none { (file : FileAt) (turns : List Turn) (w : WorldAt Program) (p : ℕ)
+        (event : Event) → IsAccepted file → IsForwardRun file turns w →
         has_step (play_of file) w p event ≡ false → happens (play_of file) w p event ≡ None }
 {}
 

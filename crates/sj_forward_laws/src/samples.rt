@@ -13,9 +13,9 @@ ghost use Rattle.sj_rules_laws.specs.OpeningCoreSamples.{opened_and_moved};
 ghost use Rattle.sj_semantics_laws.specs.HandoverSamples.{both_moved, delegation};
 ghost use Rattle.sj_semantics_laws.specs.OpeningSamples.{accepted};
 
-/// Where an end is delegated between messages each drain has seven deliveries, and where both ends are
-/// delegated at once nine; a session that is opened takes one more than its messages, and where its
-/// first end is delegated before it is used there are five.
+/// Where an end is delegated between messages each drain has seven deliveries, and where both ends
+/// are delegated at once nine; a session that is opened takes one more than its messages, and where
+/// its first end is delegated before it is used there are five.
 pub fn deliveries_are_counted_so()
     ensures one { Passes delegation 7 }
     ensures both { Passes both_moved 9 }
@@ -25,6 +25,7 @@ pub fn deliveries_are_counted_so()
 
 /// At the start no delivery is a step, and the first party's act is one.
 pub fn a_file_begins_with_an_act()
-    ensures delivery { has_step (play_of delegation) (forward_start delegation) 0 (Deliver 1) ≡ false }
+    ensures delivery { has_step (play_of delegation) (forward_start delegation) 0 (Deliver 1)
+        ≡ false }
     ensures act { has_step (play_of delegation) (forward_start delegation) 0 Act ≡ true }
 {}
