@@ -1,5 +1,6 @@
 """Calls of the programs, for the trials."""
 import os
+import struct
 import subprocess
 import sys
 
@@ -17,6 +18,12 @@ def answer(words, text, program=None, prefix=(), seconds=60, env=None):
     except subprocess.TimeoutExpired:
         return None, b""
     return done.returncode, done.stdout
+
+
+def counted(name):
+    """The numbers of allocations, reads and writes that refuse.c counted into that file."""
+    with open(name, "rb") as it:
+        return struct.unpack("3l", it.read())
 
 
 def arguments(usual):

@@ -4,7 +4,7 @@ status 11 and no byte, or the one without a refusal. Where valgrind is there, on
 import os
 import shutil
 import tempfile
-from calls import SJ, TOP, Tally, answer, arguments
+from calls import SJ, TOP, Tally, answer, arguments, counted
 from files import seeded
 
 seed, count = arguments(2000)
@@ -23,9 +23,9 @@ with tempfile.TemporaryDirectory() as folder:
         if plain[0] == 1:
             print("not built here:", " ".join(words))
             continue
-        env = {**os.environ, "LD_PRELOAD": library, "COUNT": folder + "/count", "FAIL_ALLOC": "-1"}
+        env = {**os.environ, "LD_PRELOAD": library, "COUNT": folder + "/count"}
         answer(words, text, env=env)
-        allocs = int(open(folder + "/count").read().split()[0])
+        allocs = counted(folder + "/count")[0]
         chosen = range(1, allocs + 1) if allocs <= count else sorted(seeded(seed, allocs).sample(range(1, allocs + 1), count))
         for at in chosen:
             got = answer(words, text, env={**env, "FAIL_ALLOC": str(at)})

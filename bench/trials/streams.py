@@ -4,7 +4,7 @@ closed: the answer is that of the plain call, or status 2 with `read fault`, or 
 import os
 import subprocess
 import tempfile
-from calls import SJ, TOP, Tally, answer, arguments
+from calls import SJ, TOP, Tally, answer, arguments, counted
 
 seed, count = arguments(500)
 tally = Tally()
@@ -18,7 +18,7 @@ with tempfile.TemporaryDirectory() as folder:
         got = answer(words, text, env={**base, "SHORT": "1"})
         tally.one(got == plain, "%s, a byte at a time: %s" % (words, got[0]), text)
         answer(words, text, env=base)
-        _, reads, writes = map(int, open(folder + "/count").read().split())
+        _, reads, writes = counted(folder + "/count")
         for at in range(1, min(reads, count) + 1):
             got = answer(words, text, env={**base, "FAIL_READ": str(at)})
             tally.one(got in (plain, (2, b"read fault\n")), "%s, read %d: %s" % (words, at, got[0]), text)
