@@ -1,2 +1,5 @@
+mod LineLemmas
+mod NameLemmas
 mod SettledLemmas
+mod StartLemmas
 mod WordLemmas

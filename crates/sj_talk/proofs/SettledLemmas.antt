@@ -7,7 +7,8 @@ use Rattle.sj_semantics.specs.State.{IsSettled}
 use Rattle.sj_semantics.specs.Run.{or_on, as_long_as_ready, turn_of_each, rounds}
 use Rattle.sj_semantics_laws.proofs.AlteredLemmas.{slice_get-altered, sum_by-altered}
 use Rattle.sj_semantics_laws.proofs.CommuteLemmas.{Doing, doing_of}
-use Rattle.sj_semantics_laws.proofs.RoundLemmas.{left_of, left_in, left_in-act, outcome_of, Round, round_of, idle_is_settled, no_act, an_act, idle, busy}
+use Rattle.sj_semantics_laws.proofs.RoundLemmas.{left_of, left_in, left_in-act, outcome_of, Round, round_of, idle_is_settled, no_act, an_act, idle, busy, round_leads}
+use Rattle.sj_semantics_laws.proofs.RunLemmas.{Leads, no_acts, leads_trans}
 use Rattle.sj_plain.specs.Finish.{ActInTurn, ActsOut, FinishesBy, IsFinished, IsRound}
 use Rattle.sj_talk.specs.TalkWorld.{settled_from}
 
@@ -159,3 +160,14 @@ settled_from_is w = refl
 -- rounds from the world, until one has no act, lead to the world that is settled from there
 pub settled_is : (w v : World) (ps : List ℕ) → IsFinished w ps v → v ≡ settled_from w
 settled_is w v ps h = sym (settled_from_is w ∙ finishes_are h.0 (10000 * length w.parties) w v ps h.1 (rounds_settle (10000 * length w.parties) w (left_within w.parties)))
+
+-- ---- acts that lead there
+
+rounds_lead : (n : ℕ) (w : World) → Leads w (rounds n w)
+rounds_lead zero w = subst (Leads w) (sym (rounds_zero w)) (no_acts w)
+rounds_lead (suc n) w =
+    subst (Leads w) (sym (rounds_suc n w)) (leads_trans w (turn_of_each (length w.parties) 0 w) (rounds n (turn_of_each (length w.parties) 0 w)) (round_leads (length w.parties) 0 w) (rounds_lead n (turn_of_each (length w.parties) 0 w)))
+
+-- some acts lead to the world that is settled from the one
+pub settled_leads : (w : World) → Leads w (settled_from w)
+settled_leads w = subst (Leads w) (sym (settled_from_is w)) (rounds_lead (10000 * length w.parties) w)

@@ -1,9 +1,9 @@
 -- What the parts of a running talk stand for.
-use Rattle.std.specs.Prelude.{ℕ, Bool, not, ◌&&◌, nat_lt, ◌≤◌, List, length, map, Option, Some, None, if◌then◌else◌}
-use Rattle.std.specs.List.{list_all}
+use Rattle.std.specs.Prelude.{ℕ, ◌≤◌, List, [], length, map, Option, Some, None, if◌then◌else◌}
 use Rattle.std.specs.Str.Parse.{digits_value}
-use Rattle.sj_base.specs.declared.EndId.{EndId}
 use Rattle.sj_grammar.specs.Literals.{is_number}
+use Rattle.sj_lang.specs.Code.{no_stmt}
+use Rattle.sj_lang.specs.FileAt.{FileAt, PartyAt}
 use Rattle.sj_lang.specs.FileView.{file_of}
 use Rattle.sj_lang.specs.Limits.{limits}
 use Rattle.sj_plain.specs.Course.{IsOrdered, world_in}
@@ -38,6 +38,14 @@ form_at (Delegate x y) = forms.delegate x.now y.now
 form_at (Take x) = forms.take x.now
 form_at (TakeEnd x y) = forms.take_end x.now y.now
 form_at (Close x) = forms.close x.now
+
+-- the parties with nothing to do
+abbrev pub idle_parties : List PartyAt → List PartyAt
+idle_parties qs = map (λ q. record { line = q.line; name = q.name; code = no_stmt }) qs
+
+-- the file with these parties alone
+abbrev pub idle_file : FileAt → FileAt
+idle_file file = record { words = []; texts = []; protocols = []; parties = idle_parties file.parties; connects = [] }
 
 -- ends under their names
 abbrev pub ends_at : List Bound → Ends

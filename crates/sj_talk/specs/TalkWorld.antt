@@ -1,11 +1,12 @@
 -- The talk world: a plain world in which one party is played, and how the other parties act in it.
 use Rattle.std.specs.Prelude.{◌≡◌, ℕ, ◌*◌, List, [], ◌∷◌, length, Some}
-use Rattle.sj_lang.specs.Code.{no_stmt}
-use Rattle.sj_lang.specs.FileAt.{FileAt, PartyAt}
+use Rattle.sj_lang.specs.FileAt.{FileAt, party_names}
 use Rattle.sj_semantics.specs.Program.{Program, limit_of_steps}
 use Rattle.sj_semantics.specs.Run.{after_acts, rounds}
 use Rattle.sj_semantics.specs.Uses.{altered_list}
-use Rattle.sj_semantics.specs.World.{World, program_of, start_of}
+use Rattle.sj_semantics.specs.Requests.{no_requests}
+use Rattle.sj_semantics.specs.Value.{no_vars}
+use Rattle.sj_semantics.specs.World.{World, start_of}
 use Rattle.sj_semantics.specs.State.{verdict_of}
 use Rattle.sj_semantics.specs.declared.Verdict.{Verdict}
 use Rattle.sj_semantics.specs.declared.Verdict.TheVariants as verdicts
@@ -25,24 +26,17 @@ pub record TalkWorld : Type 0 where
 
 -- ---- the start
 
--- a party with nothing to do, and the file that has it alone
-abbrev pub idle_party : PartyAt
-idle_party = record { line = 1; name = 0; code = no_stmt }
+-- no program among the parties of the file: nothing to do, no end, no step
+abbrev pub no_program : FileAt → Program
+no_program file = record { todo = []; vars = no_vars; ends = []; steps = 0; peers = party_names file.parties }
 
-abbrev pub idle_file : FileAt
-idle_file = record { words = []; texts = []; protocols = []; parties = idle_party ∷ []; connects = [] }
-
--- no program: nothing to do, no end, no step
-abbrev pub no_program : Program
-no_program = program_of idle_file 0 idle_party
-
--- the world without the program of that party
-abbrev pub without_program : World → ℕ → World
-without_program w p = record {
-  protocols = w.protocols;
-  parties = altered_list w.parties p (λ g. no_program);
-  sessions = w.sessions;
-  requests = w.requests;
+-- the start of the file, where that party has no program
+abbrev pub world_without : FileAt → ℕ → World
+world_without file p = record {
+  protocols = file.protocols;
+  parties = altered_list (start_of file).parties p (λ g. no_program file);
+  sessions = (start_of file).sessions;
+  requests = no_requests;
 }
 
 -- the start of the file, where the party is played and holds its connected ends
@@ -50,7 +44,7 @@ abbrev pub talk_start : FileAt → ℕ → TalkWorld
 talk_start file p = record {
   file = shown_file file;
   party = p;
-  world = without_program (start_of file) p;
+  world = world_without file p;
   ends = connected_ends file p;
   lines = 0;
 }

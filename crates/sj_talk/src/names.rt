@@ -34,11 +34,18 @@ pub fn unbind(ends: &mut Vec<Bound>, name: &[u8])
     ends.retain(|bound| bound.name.as_slice() != name);
 }
 
+// The number at which the word stands.
+fn index(words: &Words, word: &[u8]) -> Option<usize>
+    ensures { result ≡ first_index word.now words.now }
+{
+    words.find(word)
+}
+
 /// The number of the word; none where it isn't in the table, or comes too late to be a label.
 pub fn label_number(words: &Words, word: &[u8]) -> Option<u16>
     ensures { result ≡ option_and_then label_if (first_index word.now words.now) }
 {
-    match words.find(word) {
+    match index(words, word) {
         Some(n) if n <= 65_535 => Some(n as u16),
         _ => None,
     }

@@ -141,8 +141,8 @@ pub fn carried_next(items: &[Item]) -> Option<&Proto>
 /// Whether an end at the one place can stand where one at the other is wanted; a place that isn't
 /// there is empty.
 pub fn stands(own: Option<&Proto>, wanted: Option<&Proto>) -> bool
-    ensures { result ≡ stands_by (unwrap_or (option_copied own) done)
-        (unwrap_or (option_copied wanted) done) }
+    ensures { result ≡ stands_by (unwrap_or (option_copied own.entry) done)
+        (unwrap_or (option_copied wanted.entry) done) }
 {
     match (own, wanted) {
         (Some(own), Some(wanted)) => stands_for(own, wanted),

@@ -1,11 +1,12 @@
 //! How a talk begins.
 ghost use Rattle.std.specs.Prelude.{◌≡◌, ◌<◌, ◌^◌, ◌++◌, IfOk, OnOk, length, map};
+ghost use Rattle.sj_acceptance.specs.Accepted.{IsAccepted};
 ghost use Rattle.sj_check.specs.Held.{file_in as held};
 ghost use Rattle.sj_lang.specs.FileAt.{FileAt, end_of_party, ends_from};
 ghost use Rattle.sj_lang.specs.FileView.{decl_of, file_of, party_of};
 ghost use Rattle.sj_machine.specs.Sound.{program_at};
 ghost use Rattle.sj_talk.specs.Names.{shown_file, spelled, word_at};
-ghost use Rattle.sj_talk.specs.Play.{IsPlayed, ends_at, talk_at};
+ghost use Rattle.sj_talk.specs.Play.{IsPlayed, ends_at, idle_parties, talk_at};
 ghost use Rattle.sj_talk.specs.TalkWorld.{no_program, talk_start};
 
 use crate::names::{Bound, once};
@@ -25,7 +26,7 @@ pub fn start(alloc: Global, accepted: &Accepted, party: u16) -> Result<Play, NoM
 {
     let file = accepted.file();
     let mut course = Course::start(alloc, file)?;
-    course.machines[party as usize] = no_program(alloc)?;
+    course.machines[party as usize] = no_program(alloc, file, party)?;
     let ends = spelled(alloc, &file.names.words, &numbered_ends(alloc, file, party)?)?;
     let file = shown_file(alloc, file)?;
     Ok(Play {
@@ -37,24 +38,33 @@ pub fn start(alloc: Global, accepted: &Accepted, party: u16) -> Result<Play, NoM
     })
 }
 
-// A machine with nothing to do: that of a file of one such party.
-fn no_program(alloc: Global) -> Result<Machine, NoMemory>
-    ensures { IfOk result (λ m. program_at m ≡ no_program) }
+// The party with nothing to do: that of a file whose parties have nothing to do.
+fn no_program(alloc: Global, file: &File, party: u16) -> Result<Machine, NoMemory>
+    requires accepted { IsAccepted (file_of file.now) }
+    requires party { party < length (file_of file.now).parties }
+    ensures { IfOk result (λ m. program_at m ≡ no_program (file_of file.now)) }
 {
-    let body = Vec::new(alloc);
-    let mut parties = Vec::new(alloc);
-    parties.push(Party {
-        line: 1,
-        name: 0,
-        body,
-    })?;
-    let file = File {
+    let idle = File {
         names: Names::new(alloc),
         protocols: Vec::new(alloc),
-        parties,
+        parties: idle_parties(alloc, &file.parties)?,
         connects: Vec::new(alloc),
     };
-    Machine::start(alloc, &file, 0)
+    Machine::start(alloc, &idle, party)
+}
+
+// The parties with nothing to do.
+fn idle_parties(alloc: Global, parties: &[Party]) -> Result<Vec<Party>, NoMemory>
+    ensures { IfOk result (λ out. map party_of out.items ≡ idle_parties (map party_of parties.now)) }
+{
+    let mut out = Vec::new(alloc);
+    for party in parties {
+        let line = party.line;
+        let name = party.name;
+        let body = Vec::new(alloc);
+        out.push(Party { line, name, body })?;
+    }
+    Ok(out)
 }
 
 // The file with each word and each text once.

@@ -1,0 +1,36 @@
+-- What a line does, by what was found of it.
+use Rattle.std.proofs.Common.{◌≡◌, ℕ, List, Option, Some, None, refl, ap, sym, ◌∙◌}
+use Rattle.sj_semantics_laws.proofs.RunLemmas.{Leads}
+use Rattle.sj_talk.specs.Doing.{after_by_rule, after_form, after_line, answer_to, said_by_rule, said_of}
+use Rattle.sj_talk.specs.Forms.{FormAt, form_of}
+use Rattle.sj_talk.specs.Rules.{refusal_of}
+use Rattle.sj_talk.specs.TalkWorld.{OnlyOthers, OnlyTexts, TalkWorld, others_acted, with_texts}
+use Rattle.sj_talk.specs.declared.said.Said.TheVariants as said
+use Rattle.sj_talk.proofs.SettledLemmas.{settled_leads}
+
+-- a line that a rule refuses
+pub line_refused : (t : TalkWorld) (line : List ℕ) (o : Option FormAt) (n : ℕ) → o ≡ form_of line → refusal_of t o ≡ Some n → (said.Refused n ≡ said_of t line) × (t ≡ after_line t line)
+line_refused t line o n is refused = (
+  sym (ap (λ x. said_by_rule t x (refusal_of t x)) (sym is) ∙ ap (said_by_rule t o) refused),
+  sym (ap (λ x. after_by_rule t x (refusal_of t x)) (sym is) ∙ ap (after_by_rule t o) refused),
+)
+
+-- a line that no rule refuses
+pub line_done : (t : TalkWorld) (line : List ℕ) (f : FormAt) → Some f ≡ form_of line → refusal_of t (Some f) ≡ None → (answer_to t f ≡ said_of t line) × (after_form t f ≡ after_line t line)
+line_done t line f is allowed = (
+  sym (ap (λ x. said_by_rule t x (refusal_of t x)) (sym is) ∙ ap (said_by_rule t (Some f)) allowed),
+  sym (ap (λ x. after_by_rule t x (refusal_of t x)) (sym is) ∙ ap (after_by_rule t (Some f)) allowed),
+)
+
+-- the others acted, and nothing else was done
+pub only_others : (t u : TalkWorld) → OnlyTexts (others_acted t) u → OnlyOthers t u
+only_others t u h =
+    let l = settled_leads t.world in
+    record {
+      acts = l.acts;
+      leads = l.leads ∙ ap (λ x. Some x.world) (sym h);
+      file = ap (λ x. x.file) h;
+      party = ap (λ x. x.party) h;
+      ends = ap (λ x. x.ends) h;
+      lines = ap (λ x. x.lines) h;
+    }
