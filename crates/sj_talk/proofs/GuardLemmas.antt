@@ -32,7 +32,7 @@ use Rattle.sj_accepted_laws.proofs.UnnamedLemmas.{IsUncarried, bound_claims, han
 use Rattle.sj_accepted_laws.proofs.WorldLemmas.{Sound}
 use Rattle.sj_talk.specs.Doing.{used_by}
 use Rattle.sj_talk.specs.Names.{Ends, end_named, ends_without}
-use Rattle.sj_talk.specs.TalkWorld.{TalkWorld}
+use Rattle.sj_talk.specs.TalkWorld.{TalkWorld, with_world}
 use Rattle.sj_talk.proofs.HeldLemmas.{holds, holds-push, holds-same, holds-without, holds-without_le}
 
 -- in how many ways an end is bound at the others
@@ -45,9 +45,6 @@ pub record Guarded (file : FileAt) (t : TalkWorld) : Type 0 where
   pub apart : (e : EndId) → IsToCome t.world e → holds e t.ends ≡ 0
 
 -- ---- acts of the others
-
-abbrev with_world : TalkWorld → World → TalkWorld
-with_world t w = record { file = t.file; party = t.party; world = w; ends = t.ends; lines = t.lines }
 
 once_by : (n a b : ℕ) → (n ≡ 0 → a ≤ 1) → (1 ≤ n → a ≤ b) → b + n ≤ 1 → a + n ≤ 1
 once_by zero a b none some le = omega (arith, none refl)

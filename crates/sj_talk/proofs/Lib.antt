@@ -1,5 +1,10 @@
+mod AllowedLemmas
+mod GuardLemmas
+mod HeldLemmas
 mod LineLemmas
+mod MoveLemmas
 mod NameLemmas
+mod SafeLemmas
 mod SettledLemmas
 mod StartLemmas
 mod WordLemmas

@@ -1,10 +1,11 @@
 -- What a line does, by what was found of it.
-use Rattle.std.proofs.Common.{◌≡◌, ℕ, List, Option, Some, None, refl, ap, sym, ◌∙◌}
+use Rattle.std.proofs.Common.{◌≡◌, ℕ, List, Option, Some, None, refl, ap, sym, ◌∙◌, subst, inl, inr}
+use Rattle.sj_semantics.specs.World.{World}
 use Rattle.sj_semantics_laws.proofs.RunLemmas.{Leads}
 use Rattle.sj_talk.specs.Doing.{after_by_rule, after_form, after_line, answer_to, said_by_rule, said_of}
 use Rattle.sj_talk.specs.Forms.{FormAt, form_of}
 use Rattle.sj_talk.specs.Rules.{refusal_of}
-use Rattle.sj_talk.specs.TalkWorld.{OnlyOthers, OnlyTexts, TalkWorld, others_acted, with_texts}
+use Rattle.sj_talk.specs.TalkWorld.{OnlyOthers, OnlyTexts, TalkWorld, others_acted, settled_from, with_world}
 use Rattle.sj_talk.specs.declared.said.Said.TheVariants as said
 use Rattle.sj_talk.proofs.SettledLemmas.{settled_leads}
 
@@ -23,14 +24,12 @@ line_done t line f is allowed = (
 )
 
 -- the others acted, and nothing else was done
+rest_is : (t u : TalkWorld) → OnlyTexts (others_acted t) u → u.world ≡ settled_from t.world
+rest_is t u (inl same) = ap (λ x. x.world) same
+rest_is t u (inr noted) = ap (λ x. x.world) noted.1
+
 pub only_others : (t u : TalkWorld) → OnlyTexts (others_acted t) u → OnlyOthers t u
 only_others t u h =
     let l = settled_leads t.world in
-    record {
-      acts = l.acts;
-      leads = l.leads ∙ ap (λ x. Some x.world) (sym h);
-      file = ap (λ x. x.file) h;
-      party = ap (λ x. x.party) h;
-      ends = ap (λ x. x.ends) h;
-      lines = ap (λ x. x.lines) h;
-    }
+    let is = rest_is t u h in
+    record { acts = l.acts; leads = l.leads ∙ ap Some (sym is); rest = subst (λ (w : World). OnlyTexts (with_world t w) u) (sym is) h }

@@ -4,6 +4,7 @@ pub mod Names
 pub mod TalkWorld
 pub mod Rules
 pub mod Doing
+pub mod Moves
 pub mod Output
 pub mod Play
 pub mod Talk

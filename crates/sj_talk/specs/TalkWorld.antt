@@ -1,5 +1,5 @@
 -- The talk world: a plain world in which one party is played, and how the other parties act in it.
-use Rattle.std.specs.Prelude.{◌≡◌, ℕ, ◌*◌, List, [], ◌∷◌, length, Some}
+use Rattle.std.specs.Prelude.{◌≡◌, ◌⊎◌, ℕ, ◌*◌, List, [], ◌∷◌, length, Some}
 use Rattle.sj_lang.specs.FileAt.{FileAt, party_names}
 use Rattle.sj_semantics.specs.Program.{Program, limit_of_steps}
 use Rattle.sj_semantics.specs.Run.{after_acts, rounds}
@@ -10,7 +10,7 @@ use Rattle.sj_semantics.specs.World.{World, start_of}
 use Rattle.sj_semantics.specs.State.{verdict_of}
 use Rattle.sj_semantics.specs.declared.Verdict.{Verdict}
 use Rattle.sj_semantics.specs.declared.Verdict.TheVariants as verdicts
-use Rattle.sj_talk.specs.Names.{Ends, connected_ends, shown_file, with_texts}
+use Rattle.sj_talk.specs.Names.{Ends, connected_ends, shown_file, with_texts, with_word}
 
 pub record TalkWorld : Type 0 where
   -- the file, with the texts that lines added
@@ -55,26 +55,27 @@ talk_start file p = record {
 unfoldable pub settled_from : World → World
 settled_from w = rounds (limit_of_steps * length w.parties) w
 
+-- the talk world with that plain world
+abbrev pub with_world : TalkWorld → World → TalkWorld
+with_world t w = record { file = t.file; party = t.party; world = w; ends = t.ends; lines = t.lines }
+
 -- the other parties acted until none can
 abbrev pub others_acted : TalkWorld → TalkWorld
-others_acted t = record { file = t.file; party = t.party; world = settled_from t.world; ends = t.ends; lines = t.lines }
+others_acted t = with_world t (settled_from t.world)
 
 -- the talk world with these texts
 abbrev pub with_table : TalkWorld → List (List ℕ) → TalkWorld
 with_table t texts = record { file = with_texts t.file texts; party = t.party; world = t.world; ends = t.ends; lines = t.lines }
 
--- nothing is done, but that a text may stand in the table
+-- nothing is done, or a text was put into the table alone
 abbrev pub OnlyTexts : TalkWorld → TalkWorld → Type 0
-OnlyTexts t u = u ≡ with_table t u.file.texts
+OnlyTexts t u = (u ≡ t) ⊎ ((text : List ℕ) × (u ≡ with_table t (with_word t.file.texts text)))
 
--- some acts of other parties are done, and no line; a text may stand in the table
+-- some acts of other parties are done, and no line
 pub record OnlyOthers (t u : TalkWorld) : Type 0 where
   pub acts : List ℕ
   pub leads : after_acts t.world acts ≡ Some u.world
-  pub file : u.file ≡ with_texts t.file u.file.texts
-  pub party : u.party ≡ t.party
-  pub ends : u.ends ≡ t.ends
-  pub lines : u.lines ≡ t.lines
+  pub rest : OnlyTexts (with_world t u.world) u
 
 -- ---- the end
 

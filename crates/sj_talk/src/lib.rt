@@ -3,6 +3,7 @@
 
 mod acts;
 mod form;
+mod laws;
 mod names;
 mod output;
 mod places;
@@ -13,6 +14,7 @@ mod start;
 mod talk;
 mod words;
 
+pub use laws::{talks_serve_the_others, talks_stay_balanced};
 pub use output::talk_lines;
 pub use said::Said;
 pub use talk::Talk;

@@ -3,6 +3,7 @@ ghost use Rattle.std.specs.Prelude.{◌≡◌, ◌<◌, IfOk, OnErr, OnOk, lengt
 ghost use Rattle.sj_check.specs.Held.{file_in as held};
 ghost use Rattle.sj_lang.specs.FileView.{file_of};
 ghost use Rattle.sj_talk.specs.Doing.{after_line, said_of};
+ghost use Rattle.sj_talk.specs.Moves.{GoesOn};
 ghost use Rattle.sj_talk.specs.TalkWorld.{OnlyOthers, others_acted, talk_start, talk_verdict};
 
 use crate::Said;
@@ -54,6 +55,7 @@ impl Talk {
         ensures ok { OnOk result (talk_of self.new
             ≡ after_line (others_acted (talk_of self.old)) line.now) }
         ensures err { OnErr result (OnlyOthers (talk_of self.old) (talk_of self.new)) }
+        ensures on { GoesOn (talk_of self.old) (talk_of self.new) }
     {
         self.play.line(line)
     }
@@ -65,6 +67,7 @@ impl Talk {
         ensures verdict { IfOk result (λ v. v ≡ talk_verdict (talk_of self.new)) }
         ensures ok { OnOk result (talk_of self.new ≡ others_acted (talk_of self.old)) }
         ensures err { OnErr result (OnlyOthers (talk_of self.old) (talk_of self.new)) }
+        ensures on { GoesOn (talk_of self.old) (talk_of self.new) }
     {
         self.play.finish()
     }
