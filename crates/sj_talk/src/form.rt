@@ -1,12 +1,11 @@
 //! What a line says, where it has one of the six forms.
-ghost use Rattle.std.specs.Prelude.{◌≡◌, ◌≤◌, negsuc, pos, map, IfSome, IfNone, IsTrue, None, Some, option_map};
+ghost use Rattle.std.specs.Prelude.{◌≡◌, ◌≤◌, IfNone, IfSome, false, option_map, true};
 ghost use Rattle.std.specs.List.{list_all};
 ghost use Rattle.std.specs.Str.{bytes_eq};
 ghost use Rattle.sj_grammar.specs.Bytes.{is_digit, is_printable};
-ghost use Rattle.sj_grammar.specs.Literals.{inner, is_largest, is_number};
+ghost use Rattle.sj_grammar.specs.Literals.{inner};
 ghost use Rattle.sj_talk.specs.Forms.{alone, form_of, int_of, is_short_name, is_short_text, minus, value_of, with_name, with_words};
 ghost use Rattle.sj_talk.specs.Play.{form_at, number_written, value_at};
-ghost use Rattle.sj_talk.specs.Words.{words_text};
 
 use crate::words::Words;
 use sj_proto::{Class, digits_number, goes_on_after_zero, is_in, is_name_text};
@@ -172,7 +171,7 @@ fn with_name<'a>(verb: &[u8], end: &'a [u8], name: &'a [u8]) -> Option<Form<'a>>
 // A verb and an end, with the words behind them.
 #[tactic(auto, unfolding(crate::specs::Forms::with_words))]
 fn with_words<'a>(verb: &[u8], end: &'a [u8], more: Words<'a>) -> Option<Form<'a>>
-    ensures { option_map form_at result ≡ with_words verb.now end.now more }
+    ensures { option_map form_at result ≡ with_words verb.now end.now more.entry }
 {
     let mut more = more;
     if is(verb, b"send") {

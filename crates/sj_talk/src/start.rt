@@ -141,7 +141,8 @@ fn spelled(alloc: Global, words: &Words, ends: &[(u16, EndId)]) -> Result<Vec<Bo
 }
 
 fn spelled_end(alloc: Global, words: &Words, entry: (u16, EndId)) -> Result<Bound, NoMemory>
-    ensures { IfOk result (λ b. (b.name.items, b.end) ≡ (word_at words.now entry.0, entry.1)) }
+    ensures name { IfOk result (λ b. b.name.items ≡ word_at words.now entry.0) }
+    ensures end { IfOk result (λ b. b.end ≡ entry.1) }
 {
     let word = match words.get(entry.0 as usize) {
         Some(word) => word,
