@@ -266,15 +266,15 @@ module _ (file : FileAt) (t : TalkWorld) (g : Guarded file t) where
         pairs_after t.party taken y (begins kind) free (taken_pairs e x next h)
         (λ pair. pair_begins begun (end_at taken y) (end_at taken (other_end y)) t.party kind pair (subst (λ (p : Place). StandsFor p kind) (sym kept_y) stands))
 
-    less : (f : EndId) → sum_by (carried_in f) begun + one_if (is_end f y) ≤ sum_by (carried_in f) zs
-    less f = omega (arith, weight f, carried-begins f t.party taken y kind)
+    fewer : (f : EndId) → sum_by (carried_in f) begun + one_if (is_end f y) ≤ sum_by (carried_in f) zs
+    fewer f = omega (arith, weight f, carried-begins f t.party taken y kind)
 
     pub guards_take_end : Guarded file (used_by t ((e, takes x.msg) ∷ (y, begins kind) ∷ []) (t.ends ++ (n, y) ∷ []))
     guards_take_end = record {
       sound = serves_sound file t.world begun g.sound (record {
         pairs = begun_pairs;
-        claims = λ f. omega (arith, less f, g.sound.unshared.once f);
-        none_to_come = λ f come. omega (arith, less f, g.sound.unshared.to_come f come);
+        claims = λ f. omega (arith, fewer f, g.sound.unshared.once f);
+        none_to_come = λ f come. omega (arith, fewer f, g.sound.unshared.to_come f come);
         kept = λ f b.
             ap (λ u. u.place) (end_at-touched_other t.party taken (y, begins kind) f (unnamed f (omega (arith, b, g.sound.unshared.once f))))
             ∙ ap (λ u. u.place) (end_at-touched_other t.party zs (e, takes x.msg) f (bound_apart e f h b));
@@ -282,8 +282,8 @@ module _ (file : FileAt) (t : TalkWorld) (g : Guarded file t) where
             end_at-touched_other t.party taken (y, begins kind) f (unnamed f (omega (arith, g.sound.unshared.to_come f come)))
             ∙ end_at-touched_other t.party zs (e, takes x.msg) f (come_apart e f h come);
       });
-      once = λ f. omega (arith, less f, g.once f, holds-push f t.ends (n, y));
+      once = λ f. omega (arith, fewer f, g.once f, holds-push f t.ends (n, y));
       apart = λ f come.
           let c = come_same t.world begun f come in
-          omega (arith, g.apart f c, holds-push f t.ends (n, y), less f, g.sound.unshared.to_come f c);
+          omega (arith, g.apart f c, holds-push f t.ends (n, y), fewer f, g.sound.unshared.to_come f c);
     }

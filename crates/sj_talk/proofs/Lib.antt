@@ -1,9 +1,12 @@
+mod ActLemmas
 mod AllowedLemmas
 mod GuardLemmas
 mod HeldLemmas
 mod LineLemmas
 mod MoveLemmas
 mod NameLemmas
+mod OutputLemmas
+mod PlaceLemmas
 mod SafeLemmas
 mod SettledLemmas
 mod StartLemmas

@@ -1,5 +1,5 @@
 -- Tables of words, and ends under names.
-use Rattle.std.proofs.Common.{◌≡◌, ℕ, zero, suc, ◌+◌, ◌<◌, ◌≤◌, nat_lt, not, Bool, true, false, cond, List, [], ◌∷◌, ◌++◌, length, map, filter, slice_get, Option, Some, None, refl, ap, sym, ◌∙◌, arith, subst, inl, inr, length-append, ltb-true, ltb-false}
+use Rattle.std.proofs.Common.{if◌then◌else◌, ◌≡◌, ℕ, zero, suc, ◌+◌, ◌<◌, ◌≤◌, nat_lt, not, Bool, true, false, cond, List, [], ◌∷◌, ◌++◌, length, map, filter, slice_get, Option, Some, None, Result, Ok, Err, IfOk, OnOk, refl, ap, sym, ◌∙◌, arith, subst, inl, inr, length-append, ltb-true, ltb-false}
 use Rattle.std.specs.Prelude.{IfSome, IfNone, is_some, unwrap_or}
 use Rattle.std.specs.Str.{bytes_eq}
 use Rattle.std.proofs.lemmas.Bool.{cases_Bool, cases_lt, cases_order}
@@ -70,6 +70,16 @@ pub added_is : (word : List ℕ) (old new : List (List ℕ)) (n : ℕ) → IsFir
 added_is word old new n h is =
     let both = added_by word old new n (nat_lt n (length old)) (first_index word old) refl (indexed word old) is h in
     record { number = both.0; table = both.1 }
+
+-- as the call answers it
+module _ {E : Type 0} (word : List ℕ) (old new : List (List ℕ)) where
+  pub added_number : (r : Result ℕ E) → IfOk r (IsFirstIndex word new) → IfOk r (λ n. new ≡ (if nat_lt n (length old) then old else old ++ word ∷ [])) → IfOk r (λ n. n ≡ number_in old word)
+  added_number (Ok n) h is = (added_is word old new n h is).number
+  added_number (Err e) h is = tt
+
+  pub added_table : (r : Result ℕ E) → IfOk r (IsFirstIndex word new) → IfOk r (λ n. new ≡ (if nat_lt n (length old) then old else old ++ word ∷ [])) → OnOk r (new ≡ with_word old word)
+  added_table (Ok n) h is = (added_is word old new n h is).table
+  added_table (Err e) h is = tt
 
 -- ---- an end whose name is freed
 

@@ -1,5 +1,5 @@
 -- How a talk begins.
-use Rattle.std.proofs.Common.{◌≡◌, ◌≢◌, ℕ, zero, suc, ◌<◌, ◌≤◌, List, [], ◌∷◌, ◌++◌, length, map, get_or, slice_get, slice_index_or, Option, Some, None, option_map, All, AllPairs, refl, ap, sym, ◌∙◌, subst, arith}
+use Rattle.std.proofs.Common.{◌≡◌, ◌≢◌, ℕ, zero, suc, ◌<◌, ◌≤◌, List, [], ◌∷◌, ◌++◌, length, map, get_or, slice_get, slice_index_or, Option, Some, None, option_map, Result, Ok, Err, IfOk, All, AllPairs, refl, ap, sym, ◌∙◌, subst, arith}
 use Rattle.std.specs.List.{Contains}
 use Rattle.std.proofs.Math.ListN.{set}
 use Rattle.std.proofs.lemmas.List.{length-map}
@@ -11,13 +11,13 @@ use Rattle.sj_semantics.proofs.StartLemmas.{program_at_start}
 use Rattle.sj_semantics.specs.Program.{Program}
 use Rattle.sj_semantics.specs.Uses.{altered_list}
 use Rattle.sj_semantics.specs.Value.{no_vars}
-use Rattle.sj_semantics.specs.World.{program_of, start_of}
+use Rattle.sj_semantics.specs.World.{World, program_of, start_of}
 use Rattle.sj_accepted_laws.proofs.PlacedLemmas.{party_there}
 use Rattle.sj_machine.specs.declared.machine.Machine.{Machine}
 use Rattle.sj_machine.specs.Sound.{program_at}
 use Rattle.sj_plain.proofs.UseLemmas.{map-set}
 use Rattle.sj_talk.specs.Play.{idle_file, idle_parties}
-use Rattle.sj_talk.specs.TalkWorld.{no_program}
+use Rattle.sj_talk.specs.TalkWorld.{no_program, world_without}
 
 abbrev idle_party : PartyAt → PartyAt
 idle_party q = record { line = q.line; name = q.name; code = no_stmt }
@@ -57,15 +57,19 @@ opens_nothing file qs a k d lt = record { meet = λ r c one other named from. ab
 pub idle_is_accepted : (file : FileAt) → IsAccepted file → IsAccepted (idle_file file)
 idle_is_accepted file accepted = record {
   within = record { protocols = omega arith; items = none_hold _; parties = omega (arith, accepted.within.parties, length-map file.parties idle_party); connects = omega arith };
-  protocols_once = no_pair _;
+  protocols_once = no_pair (λ p q. p.name ≢ q.name);
   labels_once = none_hold _;
   parties_once = idle_once file.parties accepted.parties_once;
   connections = none_hold _;
-  ends_once = λ p. no_pair _;
+  ends_once = λ p. no_pair (λ b c. b.0 ≢ c.0);
   bodies = body_ends file;
   openings = λ k d lt.
       subst (λ (a : PartyAt). All (λ b. OpeningsMeet (idle_file file) a b) (idle_parties file.parties)) (sym (at_idle file.parties k d lt)) (opens_nothing file file.parties (slice_index_or file.parties k d));
 }
+
+-- a file with these parts alone
+pub idle_is : (file f : FileAt) → f.words ≡ [] → f.texts ≡ [] → f.protocols ≡ [] → f.parties ≡ idle_parties file.parties → f.connects ≡ [] → f ≡ idle_file file
+idle_is file f words texts protocols parties connects = λ i. record { words = words i; texts = texts i; protocols = protocols i; parties = parties i; connects = connects i }
 
 same_names : (qs : List PartyAt) → party_names (idle_parties qs) ≡ party_names qs
 same_names [] = refl
@@ -84,3 +88,15 @@ idle_program file p g lt h =
 -- the parties, of which one has no program
 pub one_idle : (file : FileAt) (ms : List Machine) (p : ℕ) (m d : Machine) → p < length ms → d ≡ get_or ms p d → program_at m ≡ no_program file → map program_at (set ms p m) ≡ altered_list (map program_at ms) p (λ g. no_program file)
 one_idle file ms p m d lt there is = map-set program_at ms p d m (λ g. no_program file) lt there is
+
+-- what follows of an Ok
+pub if_ok : {T E : Type 0} (r : Result T E) (P Q : T → Type 0) → ((x : T) → P x → Q x) → IfOk r P → IfOk r Q
+if_ok (Ok x) P Q f h = f x h
+if_ok (Err e) P Q f h = tt
+
+-- the world in which that party has no program
+pub world_begun : (file : FileAt) (w : World) (gs : List Program) (p : ℕ) → w ≡ start_of file → gs ≡ altered_list w.parties p (λ g. no_program file)
+    → record { protocols = w.protocols; parties = gs; sessions = w.sessions; requests = w.requests } ≡ world_without file p
+world_begun file w gs p e h =
+    let parts : gs ≡ altered_list (start_of file).parties p (λ g. no_program file) = h ∙ ap (λ u. altered_list u.parties p (λ g. no_program file)) e in
+    λ i. record { protocols = (e i).protocols; parties = parts i; sessions = (e i).sessions; requests = (e i).requests }

@@ -1,10 +1,11 @@
 -- The forms of a line, and what a line says.
-use Rattle.std.specs.Prelude.{ℕ, zero, suc, ◌-◌, Bool, true, false, not, ◌==◌, ◌&&◌, nat_le, nat_lt, if◌then◌else◌, ℤ, pos, negsuc, List, [], ◌∷◌, length, drop, slice_index, codes, Option, Some, None, option_map}
+use Rattle.std.specs.Prelude.{ℕ, zero, suc, ◌-◌, Bool, true, false, ◌==◌, ◌&&◌, nat_le, nat_lt, if◌then◌else◌, ℤ, pos, negsuc, List, [], ◌∷◌, length, drop, slice_index, codes, Option, Some, None, option_and_then, option_map}
 use Rattle.std.specs.List.{list_all}
 use Rattle.std.specs.Str.{bytes_eq}
 use Rattle.std.specs.Str.Parse.{digits_value}
 use Rattle.sj_grammar.specs.Bytes.{begins_with, is_printable, quote_byte}
-use Rattle.sj_grammar.specs.Literals.{inner, is_largest, is_number}
+use Rattle.sj_grammar.specs.Lexis.{most}
+use Rattle.sj_grammar.specs.Literals.{inner, is_number}
 use Rattle.sj_grammar.specs.Names.{is_name}
 use Rattle.sj_lang.specs.Limits.{limits}
 use Rattle.sj_talk.specs.Words.{rest, word, words_in, words_text}
@@ -42,11 +43,17 @@ abbrev pub minus : ℕ → ℤ
 minus zero = pos 0
 minus (suc n) = negsuc n
 
+-- the number that digits write, up to 2^63
+abbrev pub number_of : List ℕ → Option ℕ
+number_of w = if is_number w then Some (digits_value 10 w) else None
+
+-- without a minus a number is below 2^63
+abbrev pub plus : ℕ → Option ℤ
+plus n = if nat_lt n most then Some (pos n) else None
+
 -- digits, or `-` and digits
 unfoldable pub int_of : List ℕ → Option ℤ
-int_of w =
-    if begins_with 45 w then (if is_number (drop 1 w) then Some (minus (digits_value 10 (drop 1 w))) else None)
-    else (if is_number w && not (is_largest w) then Some (pos (digits_value 10 w)) else None)
+int_of w = if begins_with 45 w then option_map minus (number_of (drop 1 w)) else option_and_then plus (number_of w)
 
 -- what the bytes of a value stand for
 unfoldable pub value_of : List ℕ → Option ValueAt

@@ -21,11 +21,11 @@ abbrev pub played_from : TalkWorld → List (List ℕ) → TalkWorld
 played_from t [] = others_acted t
 played_from t (l ∷ ls) = played_from (after_line (others_acted t) l) ls
 
--- what is told of them
+-- what is told of them, by the file with the texts that they added
 abbrev pub told_from : ℕ → TalkWorld → List (List ℕ) → List ℕ
 told_from n t [] = []
 told_from n t (l ∷ ls) =
-    line_of (said_words t.file n (said_of (others_acted t) l)) ++ told_from (n + 1) (after_line (others_acted t) l) ls
+    line_of (said_words (after_line (others_acted t) l).file n (said_of (others_acted t) l)) ++ told_from (n + 1) (after_line (others_acted t) l) ls
 
 -- the line of a verdict
 abbrev pub verdict_line : Verdict → List ℕ

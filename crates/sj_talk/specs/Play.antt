@@ -1,7 +1,5 @@
 -- What the parts of a running talk stand for.
-use Rattle.std.specs.Prelude.{ℕ, ◌≤◌, List, [], length, map, Option, Some, None, if◌then◌else◌}
-use Rattle.std.specs.Str.Parse.{digits_value}
-use Rattle.sj_grammar.specs.Literals.{is_number}
+use Rattle.std.specs.Prelude.{ℕ, ◌≤◌, List, [], length, map}
 use Rattle.sj_lang.specs.Code.{no_stmt}
 use Rattle.sj_lang.specs.FileAt.{FileAt, PartyAt}
 use Rattle.sj_lang.specs.FileView.{file_of}
@@ -18,10 +16,6 @@ use Rattle.sj_talk.specs.declared.form.Value.{Value}
 use Rattle.sj_talk.specs.declared.form.Value.TheVariants.{Int, Bool as Truth, Text}
 use Rattle.sj_talk.specs.declared.names.Bound.{Bound}
 use Rattle.sj_talk.specs.declared.play.Play.{Play}
-
--- the number that digits write, where they are a number of the grammar
-abbrev pub number_written : List ℕ → Option ℕ
-number_written w = if is_number w then Some (digits_value 10 w) else None
 
 -- a value apart from how it lies in memory
 abbrev pub value_at : Value → ValueAt

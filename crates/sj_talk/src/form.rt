@@ -1,11 +1,12 @@
 //! What a line says, where it has one of the six forms.
-ghost use Rattle.std.specs.Prelude.{◌≡◌, ◌≤◌, IfNone, IfSome, false, option_map, true};
+ghost use Rattle.std.specs.Prelude.{◌≡◌, ◌≤◌, IfNone, IfSome, false, option_and_then, option_map, true};
 ghost use Rattle.std.specs.List.{list_all};
 ghost use Rattle.std.specs.Str.{bytes_eq};
 ghost use Rattle.sj_grammar.specs.Bytes.{is_digit, is_printable};
+ghost use Rattle.sj_grammar.specs.Lexis.{most};
 ghost use Rattle.sj_grammar.specs.Literals.{inner};
-ghost use Rattle.sj_talk.specs.Forms.{alone, form_of, int_of, is_short_name, is_short_text, minus, value_of, with_name, with_words};
-ghost use Rattle.sj_talk.specs.Play.{form_at, number_written, value_at};
+ghost use Rattle.sj_talk.specs.Forms.{alone, form_of, int_of, is_short_name, is_short_text, minus, number_of, plus, value_of, with_name, with_words};
+ghost use Rattle.sj_talk.specs.Play.{form_at, value_at};
 
 use crate::words::Words;
 use sj_proto::{Class, digits_number, goes_on_after_zero, is_in, is_name_text};
@@ -62,12 +63,33 @@ fn are_digits(word: &[u8]) -> bool
 
 // The number that a word writes without a sign, up to 2^63.
 fn number(word: &[u8]) -> Option<u64>
-    ensures { result ≡ number_written word.now }
+    ensures number { result ≡ number_of word.now }
+    ensures bound { IfSome result (λ n. n ≤ most) }
 {
     if word.len() == 0 || !are_digits(word) || goes_on_after_zero(word) {
         return None;
     }
     digits_number(word)
+}
+
+// The number below zero that a word writes behind its minus.
+fn with_minus(digits: &[u8]) -> Option<i64>
+    ensures { result ≡ option_map minus (number_of digits.now) }
+{
+    match number(digits) {
+        Some(n) => Some(below_zero(n)),
+        None => None,
+    }
+}
+
+// The number that a word without a minus writes.
+fn without_minus(word: &[u8]) -> Option<i64>
+    ensures { result ≡ option_and_then plus (number_of word.now) }
+{
+    match number(word) {
+        Some(n) if n < LARGEST => Some(n as i64),
+        _ => None,
+    }
 }
 
 // The number that a word writes with a minus before it where it is below zero.
@@ -76,17 +98,13 @@ fn int(word: &[u8]) -> Option<i64>
     ensures { result ≡ int_of word.now }
 {
     if word.len() > 0 && word[0] == b'-' {
-        let n = number(&word[1..])?;
-        return Some(below_zero(n));
+        return with_minus(&word[1..]);
     }
-    match number(word) {
-        Some(n) if n < LARGEST => Some(n as i64),
-        _ => None,
-    }
+    without_minus(word)
 }
 
 fn below_zero(n: u64) -> i64
-    requires { n ≤ 9223372036854775808 }
+    requires { n ≤ most }
     ensures { result ≡ minus n }
 {
     if n == 0 { 0 } else { -1 - ((n - 1) as i64) }

@@ -14,6 +14,7 @@ use crate::form::Value;
 use sj_base::EndId;
 use sj_lang::{Item, Kind, Proto, arm_named, stands_for};
 use sj_plain::Session;
+use std::alloc::Global;
 
 /// The place of the end, where there are sessions up to its own.
 pub fn place(sessions: &[Session], end: EndId) -> Option<&Proto>
@@ -138,16 +139,25 @@ pub fn carried_next(items: &[Item]) -> Option<&Proto>
     }
 }
 
+// Whether an end at the one place can stand where one at the other is wanted.
+fn stands_in(own: &Proto, wanted: &Proto) -> bool
+    ensures { result ≡ stands_by own.now wanted.now }
+{
+    stands_for(own, wanted)
+}
+
 /// Whether an end at the one place can stand where one at the other is wanted; a place that isn't
 /// there is empty.
-pub fn stands(own: Option<&Proto>, wanted: Option<&Proto>) -> bool
+pub fn stands(alloc: Global, own: Option<&Proto>, wanted: Option<&Proto>) -> bool
     ensures { result ≡ stands_by (unwrap_or (option_copied own.entry) done)
         (unwrap_or (option_copied wanted.entry) done) }
 {
+    let items = Vec::new(alloc);
+    let empty = Proto { items };
     match (own, wanted) {
-        (Some(own), Some(wanted)) => stands_for(own, wanted),
-        (Some(own), None) => own.items.is_empty(),
-        (None, Some(wanted)) => wanted.items.is_empty(),
-        (None, None) => true,
+        (Some(own), Some(wanted)) => stands_in(own, wanted),
+        (Some(own), None) => stands_in(own, &empty),
+        (None, Some(wanted)) => stands_in(&empty, wanted),
+        (None, None) => stands_in(&empty, &empty),
     }
 }

@@ -93,7 +93,7 @@ impl Play {
             (NOT_BOUND, self.is_free(end) || self.is_free(sent)),
             (BEGINS_OTHERWISE, !sends_end(items)),
             (WRONG_END, end == sent || is_done(self.items(sent))),
-            (WRONG_KIND, !stands(own, carried_next(items))),
+            (WRONG_KIND, !stands(self.course.alloc, own, carried_next(items))),
             (AT_LIMIT, self.is_full() || self.is_worn(sent)),
         ])
     }
