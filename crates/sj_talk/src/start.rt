@@ -26,11 +26,13 @@ pub fn start(alloc: Global, accepted: &Accepted, party: u16) -> Result<Play, NoM
 {
     let file = accepted.file();
     let mut course = Course::start(alloc, file)?;
-    course.machines[party as usize] = no_program(alloc, file, party)?;
-    let ends = spelled(alloc, &file.names.words, &numbered_ends(alloc, file, party)?)?;
-    let file = shown_file(alloc, file)?;
+    let machine = no_program(alloc, file, party)?;
+    course.machines[party as usize] = machine;
+    let numbered = numbered_ends(alloc, file, party)?;
+    let ends = spelled(alloc, &file.names.words, &numbered)?;
+    let shown = shown_file(alloc, file)?;
     Ok(Play {
-        file,
+        file: shown,
         party,
         course,
         ends,
