@@ -1,5 +1,5 @@
 -- Tables of words, and ends under names.
-use Rattle.std.proofs.Common.{if◌then◌else◌, ◌≡◌, ℕ, zero, suc, ◌+◌, ◌<◌, ◌≤◌, nat_lt, not, Bool, true, false, cond, List, [], ◌∷◌, ◌++◌, length, map, filter, slice_get, Option, Some, None, Result, Ok, Err, IfOk, OnOk, refl, ap, sym, ◌∙◌, arith, subst, inl, inr, length-append, ltb-true, ltb-false}
+use Rattle.std.proofs.Common.{if◌then◌else◌, ◌≡◌, ℕ, zero, suc, ◌+◌, ◌<◌, ◌≤◌, nat_lt, not, Bool, true, false, cond, List, [], ◌∷◌, ◌++◌, length, drop, map, filter, slice_get, Option, Some, None, Result, Ok, Err, IfOk, OnOk, refl, ap, sym, ◌∙◌, arith, subst, inl, inr, length-append, ltb-true, ltb-false}
 use Rattle.std.specs.Prelude.{IfSome, IfNone, is_some, unwrap_or}
 use Rattle.std.specs.Str.{bytes_eq}
 use Rattle.std.proofs.lemmas.Bool.{cases_Bool, cases_lt, cases_order}
@@ -7,7 +7,7 @@ use Rattle.std.proofs.lemmas.Option.{slice_get_past}
 use Rattle.sj_base.specs.declared.EndId.{EndId}
 use Rattle.sj_lang.specs.Words.{IsAbsent, IsFirstIndex, first_index}
 use Rattle.sj_lang.proofs.WordLemmas.{IsIndexed, indexed}
-use Rattle.sj_talk.specs.Names.{Ends, ends_without, number_in, with_word}
+use Rattle.sj_talk.specs.Names.{Ends, ends_without, number_in, once, with_word, with_words}
 use Rattle.sj_talk.specs.Play.{ends_at}
 use Rattle.sj_talk.specs.declared.names.Bound.{Bound}
 
@@ -80,6 +80,30 @@ module _ {E : Type 0} (word : List ℕ) (old new : List (List ℕ)) where
   pub added_table : (r : Result ℕ E) → IfOk r (IsFirstIndex word new) → IfOk r (λ n. new ≡ (if nat_lt n (length old) then old else old ++ word ∷ [])) → OnOk r (new ≡ with_word old word)
   added_table (Ok n) h is = (added_is word old new n h is).table
   added_table (Err e) h is = tt
+
+-- ---- a table with each word once
+
+drop_suc : (ws : List (List ℕ)) (n : ℕ) (w : List ℕ) → slice_get ws n ≡ Some w → drop n ws ≡ w ∷ drop (suc n) ws
+drop_suc [] n w h = cc
+drop_suc (x ∷ ws) zero w h = let it : x ≡ w = cc in ap (λ t. t ∷ ws) it
+drop_suc (x ∷ ws) (suc n) w h = drop_suc ws n w h
+
+drop_past : (ws : List (List ℕ)) (n : ℕ) → slice_get ws n ≡ None → drop n ws ≡ []
+drop_past [] zero h = refl
+drop_past [] (suc n) h = refl
+drop_past (x ∷ ws) zero h = cc
+drop_past (x ∷ ws) (suc n) h = drop_past ws n h
+
+-- one more word
+pub once_next : (words out new : List (List ℕ)) (n : ℕ) (w : List ℕ) → slice_get words n ≡ Some w → new ≡ with_word out w → with_words out (drop n words) ≡ once words
+    → (n + 1 ≤ length words) × (with_words new (drop (n + 1) words) ≡ once words)
+once_next words out new n w at is so_far =
+    let next : drop n words ≡ w ∷ drop (n + 1) words = drop_suc words n w at ∙ ap (λ k. w ∷ drop k words) (let e : suc n ≡ n + 1 = omega arith in e) in
+    (omega (arith, get_within words n w at), ap (λ t. with_words t (drop (n + 1) words)) is ∙ sym (ap (with_words out) next) ∙ so_far)
+
+-- no word is left
+pub once_all : (words out : List (List ℕ)) (n : ℕ) → slice_get words n ≡ None → with_words out (drop n words) ≡ once words → out ≡ once words
+once_all words out n none so_far = sym (ap (with_words out) (drop_past words n none)) ∙ so_far
 
 -- ---- an end whose name is freed
 
