@@ -5,7 +5,7 @@ use Rattle.std.specs.Str.{bytes_eq}
 use Rattle.std.proofs.lemmas.Fmt.{decimal_injective}
 use Rattle.clap.specs.Words.{Text}
 use Rattle.sj_command.specs.declared.tasks.Task.{Task}
-use Rattle.sj_command.specs.declared.tasks.Task.TheVariants.{Check, Show, Forest, Sim, Run, Replay, Make, Big}
+use Rattle.sj_command.specs.declared.tasks.Task.TheVariants.{Check, Show, Forest, Sim, Run, Replay, Talk, Make, Big}
 use Rattle.sj_command.specs.Task.{Asks, LineAt, Means, StandsForLooks, flag_text, most_looks, most_messages}
 
 -- the name of a task's command
@@ -16,6 +16,7 @@ name_of Forest = codes "forest"
 name_of Sim = codes "sim"
 name_of (Run log looks) = codes "run"
 name_of (Replay log) = codes "replay"
+name_of (Talk n) = codes "talk"
 name_of (Make n) = codes "make"
 name_of (Big n) = codes "big"
 
@@ -27,6 +28,7 @@ named l Forest m = ap (λ k. k.command) m
 named l Sim m = ap (λ k. k.command) m
 named l (Run log looks) m = ap (λ k. k.command) m.0
 named l (Replay log) m = ap (λ k. k.command) m
+named l (Talk n) m = ap (λ k. k.command) m.0
 named l (Make n) m = ap (λ k. k.command) m.0
 named l (Big n) m = ap (λ k. k.command) m.0
 
@@ -79,6 +81,7 @@ one_of_line l Forest Forest a b = refl
 one_of_line l Sim Sim a b = refl
 one_of_line l (Run f x) (Run g y) a b = ap₂ Run (one_flag f g (sym (ap (λ k. k.log) a.0) ∙ ap (λ k. k.log) b.0)) (one_count l.looks x y a.1 b.1)
 one_of_line l (Replay f) (Replay g) a b = ap Replay (one_flag f g (sym (ap (λ k. k.log) a) ∙ ap (λ k. k.log) b))
+one_of_line l (Talk n) (Talk m) a b = ap (λ k. Talk k) (same_count l n m (ap (λ k. k.number) a.0) (ap (λ k. k.number) b.0) (omega (arith, a.1)) (omega (arith, b.1)))
 one_of_line l (Make n) (Make m) a b = ap (λ k. Make k) (same_count l n m (ap (λ k. k.number) a.0) (ap (λ k. k.number) b.0) a.1.1 b.1.1)
 one_of_line l (Big n) (Big m) a b = ap (λ k. Big k) (same_count l n m (ap (λ k. k.number) a.0) (ap (λ k. k.number) b.0) a.1.1 b.1.1)
 one_of_line l t u a b = absurd (apart l t u refl refl a b)

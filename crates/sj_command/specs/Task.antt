@@ -2,7 +2,7 @@
 use Rattle.std.specs.Prelude.{◌≡◌, ◌≤◌, ℕ, Bool, true, false, List, Option, Some, None, codes, decimal}
 use Rattle.clap.specs.Words.{Text}
 use Rattle.sj_command.specs.declared.tasks.Task.{Task}
-use Rattle.sj_command.specs.declared.tasks.Task.TheVariants.{Check, Show, Forest, Sim, Run, Replay, Make, Big}
+use Rattle.sj_command.specs.declared.tasks.Task.TheVariants.{Check, Show, Forest, Sim, Run, Replay, Talk, Make, Big}
 use Rattle.sj_command.specs.CommandLine.{IsTaken, text_given}
 
 -- what a line has: a command and a number, a flag and an option
@@ -37,6 +37,14 @@ most_messages = 1000
 abbrev pub IsCount : ℕ → Type 0
 IsCount n = (1 ≤ n) × (n ≤ most_messages)
 
+-- the highest number of a party
+abbrev pub last_party : ℕ
+last_party = 15
+
+-- that party can be asked for
+abbrev pub IsParty : ℕ → Type 0
+IsParty n = n ≤ last_party
+
 -- the looks of a line without the option
 abbrev pub usual_looks : ℕ
 usual_looks = 1000
@@ -58,6 +66,7 @@ Means line Forest = line ≡ alone (codes "forest") None
 Means line Sim = line ≡ alone (codes "sim") None
 Means line (Run log looks) = (line ≡ running log line.looks) × StandsForLooks line.looks looks
 Means line (Replay log) = line ≡ replaying log
+Means line (Talk n) = (line ≡ alone (codes "talk") (Some (decimal n))) × IsParty n
 Means line (Make n) = (line ≡ alone (codes "make") (Some (decimal n))) × IsCount n
 Means line (Big n) = (line ≡ alone (codes "big") (Some (decimal n))) × IsCount n
 

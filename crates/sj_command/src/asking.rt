@@ -3,7 +3,7 @@ ghost use Rattle.std.specs.Prelude.{◌≡◌, Bool, map, string_bytes, Some, No
 ghost use Rattle.sj_command.specs.Task.{Asks, IsUsage, Means, alone, flag_text};
 ghost use Rattle.sj_command.specs.declared.tasks.Task.{Task as Asked};
 
-use crate::counts::{count_in, looks_in};
+use crate::counts::{count_in, looks_in, party_in};
 use crate::line::matches_in;
 use crate::tasks::Task;
 use sj_base::NoMemory;
@@ -129,6 +129,9 @@ fn task_named(name: &str, number: Option<&str>) -> Option<Task>
             count_in(number).map(Task::Make)
         }
         Some(number) if name.as_bytes() == b"big".as_slice() => { count_in(number).map(Task::Big) }
+        Some(number) if name.as_bytes() == b"talk".as_slice() => {
+            party_in(number).map(Task::Talk)
+        }
         Some(_) => None,
     }
 }

@@ -16,6 +16,9 @@ pub enum Task {
     Run { log: bool, looks: u32 },
     /// Replays the log behind a file, drains what is left, and prints as `Run` does.
     Replay { log: bool },
+    /// Reads a file, a line `%%talk` and lines that play the party of this number, from 0 to 15, and prints
+    /// what is answered to each.
+    Talk(u16),
     /// Prints the generated file with this many messages in each loop, from 1 to 1,000.
     Make(u16),
     /// Runs that file and prints a summary.
