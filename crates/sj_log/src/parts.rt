@@ -28,8 +28,9 @@ pub fn parted(source: &[u8]) -> Option<(&[u8], u8, &[u8])>
     }
 }
 
-// Where that line stands first. The line is given alone, and behind the end of another.
-fn line_at(source: &[u8], mark: &[u8], inner: &[u8]) -> Option<usize>
+/// Behind how many bytes that line stands first; None where no line is that one. The line is given with
+/// its newline, alone and behind the newline of another.
+pub fn line_at(source: &[u8], mark: &[u8], inner: &[u8]) -> Option<usize>
     requires { inner.now ≡ codes "\n" ++ mark.now }
     ensures { IsFirst mark.now source.now result }
 {

@@ -106,7 +106,7 @@ fn body_of(protocols: &[ProtocolDef], name: u16) -> Option<&Proto>
 
 /// A session: the end of side 0, and the end of side 1.
 #[derive(Drop)]
-pub(crate) struct Session {
+pub struct Session {
     first: End,
     second: End,
 }
@@ -144,7 +144,7 @@ impl Session {
     }
 
     /// The items that are still ahead of the end.
-    pub(crate) fn place(&self, side: u8) -> &Proto
+    pub fn place(&self, side: u8) -> &Proto
         ensures { result.now ≡ (end_on side (session_at self.now)).place }
     {
         &self.end(side).place

@@ -1,3 +1,4 @@
+pub mod JoinLemmas
 pub mod LineLemmas
 pub mod PartLemmas
 pub mod PieceLemmas

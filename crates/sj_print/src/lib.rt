@@ -9,6 +9,7 @@ mod transcript;
 mod version;
 
 pub use log::print_line;
+pub use messages::print_message;
 pub use pieces::print_name;
 pub use transcript::print_transcript;
 pub use version::print_mark;

@@ -7,11 +7,12 @@ ghost use Rattle.std.specs.Prelude.{◌≡◌, ◌++◌, OnOk, OnErr, map};
 ghost use Rattle.sj_text.specs.Cut.{IsCutShort};
 ghost use Rattle.sj_lang.specs.FileView.{file_of};
 ghost use Rattle.sj_semantics.specs.Lines.{line_of, message_words};
-ghost use Rattle.sj_print.specs.Pieces.{piece_text};
+ghost use Rattle.sj_print.specs.Pieces.{message_text, piece_text};
 
-use crate::pieces::{Piece, put_line, put_spaced};
+use crate::pieces::{Piece, put_spaced, put_words};
 use sj_base::{EndId, Msg, NoMemory};
 use sj_lang::File;
+use sj_text::put;
 
 /// Puts a line of these and then the message behind the text.
 pub(crate) fn put_message_line(
@@ -37,10 +38,22 @@ fn put_message(text: &mut Vec<u8>, file: &File, msg: &Msg) -> Result<(), NoMemor
     ensures err { OnErr result (IsCutShort text.old.items
         (line_of (message_words (file_of file.now) msg.now)) text.new.items) }
 {
+    print_message(text, file, msg)?;
+    put(text, b"\n")
+}
+
+/// Puts the text of a message behind the text, without a newline. Want of memory leaves a front of
+/// the message.
+pub fn print_message(text: &mut Vec<u8>, file: &File, msg: &Msg) -> Result<(), NoMemory>
+    ensures ok { OnOk result (text.new.items
+        ≡ text.old.items ++ message_text (file_of file.now) msg.now) }
+    ensures err { OnErr result (IsCutShort text.old.items
+        (message_text (file_of file.now) msg.now) text.new.items) }
+{
     match *msg {
-        Msg::Int(n) => put_line(text, file, &[Piece::Plain(b"int")], Piece::Int(n)),
+        Msg::Int(n) => put_words(text, file, &[Piece::Plain(b"int")], Piece::Int(n)),
         Msg::Bool(true) => {
-            put_line(
+            put_words(
                 text,
                 file,
                 &[Piece::Plain(b"boolean")],
@@ -48,20 +61,20 @@ fn put_message(text: &mut Vec<u8>, file: &File, msg: &Msg) -> Result<(), NoMemor
             )
         }
         Msg::Bool(false) => {
-            put_line(
+            put_words(
                 text,
                 file,
                 &[Piece::Plain(b"boolean")],
                 Piece::Plain(b"false"),
             )
         }
-        Msg::Text(n) => put_line(text, file, &[Piece::Plain(b"String")], Piece::Text(n)),
-        Msg::Label(n) => put_line(text, file, &[Piece::Plain(b"label")], Piece::Word(n)),
-        Msg::More(true) => put_line(text, file, &[], Piece::Plain(b"more")),
-        Msg::More(false) => put_line(text, file, &[], Piece::Plain(b"stop")),
+        Msg::Text(n) => put_words(text, file, &[Piece::Plain(b"String")], Piece::Text(n)),
+        Msg::Label(n) => put_words(text, file, &[Piece::Plain(b"label")], Piece::Word(n)),
+        Msg::More(true) => put_words(text, file, &[], Piece::Plain(b"more")),
+        Msg::More(false) => put_words(text, file, &[], Piece::Plain(b"stop")),
         Msg::Sess { sess, side, keeper } => {
             let end = Piece::End(EndId { sess, side });
-            put_line(
+            put_words(
                 text,
                 file,
                 &[Piece::Plain(b"session"), end],

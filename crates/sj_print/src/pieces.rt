@@ -8,7 +8,7 @@ ghost use Rattle.sj_text.specs.Cut.{IsCutShort};
 ghost use Rattle.sj_lang.specs.FileView.{file_of};
 ghost use Rattle.sj_semantics.specs.Lines.{line_of, word_at, or_number, quoted_at, name_of, end_text, in_quotes};
 ghost use Rattle.sj_print.specs.LogLine.{resend_word};
-ghost use Rattle.sj_print.specs.Pieces.{piece_text, spaced_text};
+ghost use Rattle.sj_print.specs.Pieces.{piece_text, spaced_text, words_text};
 
 use sj_base::{EndId, NoMemory};
 use sj_lang::{File, Words};
@@ -46,6 +46,22 @@ pub(crate) fn put_line(
     put_spaced(text, file, front)?;
     put_piece(text, file, last)?;
     put(text, b"\n")
+}
+
+/// Puts words behind the text, with a space between each two.
+pub(crate) fn put_words(
+    text: &mut Vec<u8>,
+    file: &File,
+    front: &[Piece],
+    last: Piece,
+) -> Result<(), NoMemory>
+    ensures ok { OnOk result (text.new.items ≡ text.old.items
+        ++ words_text (map (piece_text (file_of file.now)) (front.now ++ last ∷ []))) }
+    ensures err { OnErr result (IsCutShort text.old.items
+        (words_text (map (piece_text (file_of file.now)) (front.now ++ last ∷ []))) text.new.items) }
+{
+    put_spaced(text, file, front)?;
+    put_piece(text, file, last)
 }
 
 /// Puts these behind the text, each with a space behind it.

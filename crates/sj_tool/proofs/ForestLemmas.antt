@@ -13,7 +13,7 @@ use Rattle.sj_forest_laws.proofs.OrderLemmas.{same_left, taken_one_more}
 use Rattle.sj_forest.specs.Left.{left_in, those_left}
 use Rattle.sj_forest.specs.Shape.{IsCycle}
 use Rattle.sj_forest.proofs.LeftLemmas.{all_marked, fewer_marks, left_same, mark_off, marked_within, marks, none_listed}
-use Rattle.sj_forest_laws.proofs.OpensLemmas.{none_where_openless, openless_where_none}
+use Rattle.sj_forest_laws.proofs.OpensLemmas.{none_is_first, openless_from}
 use Rattle.sj_forest.proofs.ShapeLemmas.{cycle_is_none}
 use Rattle.sj_tool.specs.ForestTexts.{IsForestText, IsLeftText, IsOpensText, IsYesText}
 
@@ -118,7 +118,7 @@ has_forest_text file = by (opens_or_none file)
 
     by : ((line : ℕ) × (first_opening file ≡ Some line)) ⊎ (first_opening file ≡ None) → (text : List ℕ) × IsForestText file text
     by (inl (line, it)) = (line_of (codes "forest" ∷ codes "opens" ∷ decimal line ∷ []), inl (line, (it, refl)))
-    by (inr none) = left (openless_where_none file none) (empty_or_not those)
+    by (inr none) = left (openless_from file none) (empty_or_not those)
 
 -- ---- and one alone
 
@@ -129,7 +129,7 @@ one_cycle file xs ys a b =
 
 not_both : (file : FileAt) (line : ℕ) → first_opening file ≡ Some line → IsOpenless file → ⊥
 not_both file line opens openless =
-    let both : Some line ≡ None = sym opens ∙ none_where_openless file openless in let no : ⊥ = cc in no
+    let both : Some line ≡ None = sym opens ∙ none_is_first file openless in let no : ⊥ = cc in no
 
 pub one_forest_text : (file : FileAt) (s t : List ℕ) → IsForestText file s → IsForestText file t → s ≡ t
 one_forest_text file s t (inl (line, x, e)) (inl (other, y, d)) =

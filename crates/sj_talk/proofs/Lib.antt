@@ -1,0 +1,2 @@
+mod SettledLemmas
+mod WordLemmas
