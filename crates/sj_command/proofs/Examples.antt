@@ -19,17 +19,22 @@ pub a_command_and_a_number : line_in (codes "make" ∷ codes "12" ∷ []) ≡ al
 unfolding clap_on_literals
 a_command_and_a_number = refl
 
-pub a_command_and_the_flag : line_in (codes "run" ∷ codes "--log" ∷ []) ≡ running true None
+pub a_command_and_the_flag : line_in (codes "run" ∷ codes "--log" ∷ []) ≡ running true None None
 unfolding clap_on_literals
 a_command_and_the_flag = refl
 
-pub a_command_and_the_option : line_in (codes "run" ∷ codes "--looks" ∷ codes "5" ∷ []) ≡ running false (Some (codes "5"))
+pub a_command_and_the_option : line_in (codes "run" ∷ codes "--looks" ∷ codes "5" ∷ []) ≡ running false (Some (codes "5")) None
 unfolding clap_on_literals
 a_command_and_the_option = refl
 
-pub the_option_has_a_sign : line_in (codes "--looks=5" ∷ codes "run" ∷ []) ≡ running false (Some (codes "5"))
+pub the_option_has_a_sign : line_in (codes "--looks=5" ∷ codes "run" ∷ []) ≡ running false (Some (codes "5")) None
 unfolding clap_on_literals
 the_option_has_a_sign = refl
+
+pub both_options_and_the_flag :
+    line_in (codes "run" ∷ codes "--workers" ∷ codes "4" ∷ codes "--log" ∷ codes "--looks" ∷ codes "5" ∷ []) ≡ running true (Some (codes "5")) (Some (codes "4"))
+unfolding clap_on_literals
+both_options_and_the_flag = refl
 
 pub another_command_and_the_flag : line_in (codes "replay" ∷ codes "--log" ∷ []) ≡ replaying true
 unfolding clap_on_literals

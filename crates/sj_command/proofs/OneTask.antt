@@ -6,7 +6,7 @@ use Rattle.std.proofs.lemmas.Fmt.{decimal_injective}
 use Rattle.clap.specs.Words.{Text}
 use Rattle.sj_command.specs.declared.tasks.Task.{Task}
 use Rattle.sj_command.specs.declared.tasks.Task.TheVariants.{Check, Show, Forest, Sim, Run, Replay, Talk, Make, Big}
-use Rattle.sj_command.specs.Task.{Asks, LineAt, Means, StandsForLooks, flag_text, most_looks, most_messages}
+use Rattle.sj_command.specs.Task.{Asks, LineAt, Means, StandsForLooks, StandsForWorkers, flag_text, most_looks, most_messages}
 
 -- the name of a task's command
 abbrev name_of : Task → Text
@@ -14,7 +14,7 @@ name_of Check = codes "check"
 name_of Show = codes "show"
 name_of Forest = codes "forest"
 name_of Sim = codes "sim"
-name_of (Run log looks) = codes "run"
+name_of (Run log looks workers) = codes "run"
 name_of (Replay log) = codes "replay"
 name_of (Talk n) = codes "talk"
 name_of (Make n) = codes "make"
@@ -26,7 +26,7 @@ named l Check m = ap (λ k. k.command) m
 named l Show m = ap (λ k. k.command) m
 named l Forest m = ap (λ k. k.command) m
 named l Sim m = ap (λ k. k.command) m
-named l (Run log looks) m = ap (λ k. k.command) m.0
+named l (Run log looks workers) m = ap (λ k. k.command) m.0
 named l (Replay log) m = ap (λ k. k.command) m
 named l (Talk n) m = ap (λ k. k.command) m.0
 named l (Make n) m = ap (λ k. k.command) m.0
@@ -66,6 +66,15 @@ one_count : (option : Option Text) (m n : ℕ) → StandsForLooks option m → S
 one_count None m n a b = a ∙ sym b
 one_count (Some text) m n a b = one_number m n a.1 b.1 (sym a.0 ∙ b.0)
 
+-- the option stands for one number of workers, or none
+one_team : (option : Option Text) (m n : Option ℕ) → StandsForWorkers option m → StandsForWorkers option n → m ≡ n
+one_team None None None a b = refl
+one_team None None (Some n) a b = absurd b
+one_team None (Some m) n a b = absurd a
+one_team (Some text) None n a b = absurd a
+one_team (Some text) (Some m) None a b = absurd b
+one_team (Some text) (Some m) (Some n) a b = ap Some (one_number m n (omega (arith, a.2)) (omega (arith, b.2)) (sym a.0 ∙ b.0))
+
 -- a line has one number up to 1,000
 same_count : (l : LineAt) (n m : ℕ) → l.number ≡ Some (decimal n) → l.number ≡ Some (decimal m) → n ≤ most_messages → m ≤ most_messages → n ≡ m
 same_count l n m a b few few_too =
@@ -79,7 +88,8 @@ one_of_line l Check Check a b = refl
 one_of_line l Show Show a b = refl
 one_of_line l Forest Forest a b = refl
 one_of_line l Sim Sim a b = refl
-one_of_line l (Run f x) (Run g y) a b = ap₂ Run (one_flag f g (sym (ap (λ k. k.log) a.0) ∙ ap (λ k. k.log) b.0)) (one_count l.looks x y a.1 b.1)
+one_of_line l (Run f x w) (Run g y v) a b =
+    ap₂ (λ h k. Run h k w) (one_flag f g (sym (ap (λ k. k.log) a.0) ∙ ap (λ k. k.log) b.0)) (one_count l.looks x y a.1 b.1) ∙ ap (λ k. Run g y k) (one_team l.workers w v a.2 b.2)
 one_of_line l (Replay f) (Replay g) a b = ap Replay (one_flag f g (sym (ap (λ k. k.log) a) ∙ ap (λ k. k.log) b))
 one_of_line l (Talk n) (Talk m) a b = ap (λ k. Talk k) (same_count l n m (ap (λ k. k.number) a.0) (ap (λ k. k.number) b.0) (omega (arith, a.1)) (omega (arith, b.1)))
 one_of_line l (Make n) (Make m) a b = ap (λ k. Make k) (same_count l n m (ap (λ k. k.number) a.0) (ap (λ k. k.number) b.0) a.1.1 b.1.1)

@@ -18,9 +18,13 @@ log_rule = record (new_rule (codes "log")) { long = Some (codes "log"); action =
 abbrev pub looks_rule : Rule
 looks_rule = record (new_rule (codes "looks")) { long = Some (codes "looks"); action = Some Set }
 
+abbrev pub workers_rule : Rule
+workers_rule = record (new_rule (codes "workers")) { long = Some (codes "workers"); action = Some Set }
+
 -- the whole line; its words are those behind the program's name
 abbrev pub line : App
-line = with_rule (with_rule (with_rule (with_rule (on_top (λ s. record s { no_binary_name = true }) (new_app (codes "sj"))) command_rule) number_rule) log_rule) looks_rule
+line = with_rule (with_rule (with_rule (with_rule (with_rule (on_top (λ s. record s { no_binary_name = true }) (new_app (codes "sj"))) command_rule) number_rule) log_rule) looks_rule)
+    workers_rule
 
 -- no rule of the line is broken
 abbrev pub IsTaken : List Text → Type 0

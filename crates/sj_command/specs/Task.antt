@@ -1,33 +1,34 @@
 -- What words ask for.
-use Rattle.std.specs.Prelude.{◌≡◌, ◌≤◌, ℕ, Bool, true, false, List, Option, Some, None, codes, decimal}
+use Rattle.std.specs.Prelude.{◌≡◌, ◌≤◌, ℕ, ⊤, Bool, true, false, List, Option, Some, None, codes, decimal}
 use Rattle.clap.specs.Words.{Text}
 use Rattle.sj_command.specs.declared.tasks.Task.{Task}
 use Rattle.sj_command.specs.declared.tasks.Task.TheVariants.{Check, Show, Forest, Sim, Run, Replay, Talk, Make, Big}
 use Rattle.sj_command.specs.CommandLine.{IsTaken, text_given}
 
--- what a line has: a command and a number, a flag and an option
+-- what a line has: a command and a number, a flag and two options
 pub record LineAt : Type 0 where
   pub command : Option Text
   pub number : Option Text
   pub log : Option Text
   pub looks : Option Text
+  pub workers : Option Text
 
 -- a command of that name with that number alone
 abbrev pub alone : Text → Option Text → LineAt
-alone name number = record { command = Some name; number = number; log = Some (codes "false"); looks = None }
+alone name number = record { command = Some name; number = number; log = Some (codes "false"); looks = None; workers = None }
 
 -- what a line has of a flag
 abbrev pub flag_text : (text_given : Bool) → Text
 flag_text false = codes "false"
 flag_text true = codes "true"
 
--- `run`, with that flag or without it, and with that option or without it
-abbrev pub running : (log : Bool) (looks : Option Text) → LineAt
-running log looks = record { command = Some (codes "run"); number = None; log = Some (flag_text log); looks = looks }
+-- `run`, with that flag or without it, and with those options or without them
+abbrev pub running : (log : Bool) (looks workers : Option Text) → LineAt
+running log looks workers = record { command = Some (codes "run"); number = None; log = Some (flag_text log); looks = looks; workers = workers }
 
 -- `replay`, with that flag or without it
 abbrev pub replaying : (log : Bool) → LineAt
-replaying log = record { command = Some (codes "replay"); number = None; log = Some (flag_text log); looks = None }
+replaying log = record { command = Some (codes "replay"); number = None; log = Some (flag_text log); looks = None; workers = None }
 
 -- the most messages in each loop of the generated file
 abbrev pub most_messages : ℕ
@@ -58,13 +59,25 @@ abbrev pub StandsForLooks : Option Text → ℕ → Type 0
 StandsForLooks None looks = looks ≡ usual_looks
 StandsForLooks (Some text) looks = (text ≡ decimal looks) × (looks ≤ most_looks)
 
+-- the most workers
+abbrev pub most_workers : ℕ
+most_workers = 16
+
+-- the option stands for that many workers, and its absence for no number of them
+abbrev pub StandsForWorkers : Option Text → Option ℕ → Type 0
+StandsForWorkers None None = ⊤
+StandsForWorkers None (Some workers) = ⊥
+StandsForWorkers (Some text) None = ⊥
+StandsForWorkers (Some text) (Some workers) = (text ≡ decimal workers) × (1 ≤ workers) × (workers ≤ most_workers)
+
 -- the line asks for that
 abbrev pub Means : LineAt → Task → Type 0
 Means line Check = line ≡ alone (codes "check") None
 Means line Show = line ≡ alone (codes "show") None
 Means line Forest = line ≡ alone (codes "forest") None
 Means line Sim = line ≡ alone (codes "sim") None
-Means line (Run log looks) = (line ≡ running log line.looks) × StandsForLooks line.looks looks
+Means line (Run log looks workers) =
+    (line ≡ running log line.looks line.workers) × StandsForLooks line.looks looks × StandsForWorkers line.workers workers
 Means line (Replay log) = line ≡ replaying log
 Means line (Talk n) = (line ≡ alone (codes "talk") (Some (decimal n))) × IsParty n
 Means line (Make n) = (line ≡ alone (codes "make") (Some (decimal n))) × IsCount n
@@ -77,6 +90,7 @@ line_in words = record {
   number = text_given (codes "number") words;
   log = text_given (codes "log") words;
   looks = text_given (codes "looks") words;
+  workers = text_given (codes "workers") words;
 }
 
 -- the words ask for that

@@ -3,7 +3,7 @@ ghost use Rattle.std.specs.Prelude.{◌≡◌, Bool, map, string_bytes, Some, No
 ghost use Rattle.sj_command.specs.Task.{Asks, IsUsage, Means, alone, flag_text};
 ghost use Rattle.sj_command.specs.declared.tasks.Task.{Task as Asked};
 
-use crate::counts::{count_in, looks_in, party_in};
+use crate::counts::{count_in, looks_in, party_in, workers_in};
 use crate::line::matches_in;
 use crate::tasks::Task;
 use sj_base::NoMemory;
@@ -21,7 +21,8 @@ pub fn task_in(alloc: Global, words: &[String]) -> Result<Option<Task>, NoMemory
     let number = matches.get_str("number");
     let log = matches.get_str("log");
     let looks = matches.get_str("looks");
-    Ok(task_of(command, number, log, looks))
+    let workers = matches.get_str("workers");
+    Ok(task_of(command, number, log, looks, workers))
 }
 
 // The task of a line.
@@ -30,71 +31,94 @@ fn task_of(
     number: Option<&str>,
     log: Option<&str>,
     looks: Option<&str>,
+    workers: Option<&str>,
 ) -> Option<Task>
     ensures some { IfSome result (Means (record {
       command = option_map (λ s. s.now) command.entry;
       number = option_map (λ s. s.now) number.entry;
       log = option_map (λ s. s.now) log.entry;
       looks = option_map (λ s. s.now) looks.entry;
+      workers = option_map (λ s. s.now) workers.entry;
     })) }
     ensures none { result ≡ None → (t : Asked) → Means (record {
       command = option_map (λ s. s.now) command.entry;
       number = option_map (λ s. s.now) number.entry;
       log = option_map (λ s. s.now) log.entry;
       looks = option_map (λ s. s.now) looks.entry;
+      workers = option_map (λ s. s.now) workers.entry;
     }) t → ⊥ }
 {
     let name = command?;
     if name.as_bytes() == b"run".as_slice() {
-        return run_in(number, log, looks);
+        return run_in(number, log, looks, workers);
     }
     if name.as_bytes() == b"replay".as_slice() {
-        return replay_in(number, log, looks);
+        return replay_in(number, log, looks, workers);
     }
-    match (flag_in(log), looks) {
-        (Some(false), None) => task_named(name, number),
+    match (flag_in(log), looks, workers) {
+        (Some(false), None, None) => task_named(name, number),
         _ => None,
     }
 }
 
-// `run` with that number, that flag and that option.
-fn run_in(number: Option<&str>, log: Option<&str>, looks: Option<&str>) -> Option<Task>
+// `run` with that number, that flag and those options.
+fn run_in(
+    number: Option<&str>,
+    log: Option<&str>,
+    looks: Option<&str>,
+    workers: Option<&str>,
+) -> Option<Task>
     ensures some { IfSome result (Means (record {
       command = Some (codes "run");
       number = option_map (λ s. s.now) number.entry;
       log = option_map (λ s. s.now) log.entry;
       looks = option_map (λ s. s.now) looks.entry;
+      workers = option_map (λ s. s.now) workers.entry;
     })) }
     ensures none { result ≡ None → (t : Asked) → Means (record {
       command = Some (codes "run");
       number = option_map (λ s. s.now) number.entry;
       log = option_map (λ s. s.now) log.entry;
       looks = option_map (λ s. s.now) looks.entry;
+      workers = option_map (λ s. s.now) workers.entry;
     }) t → ⊥ }
 {
-    match (number, flag_in(log), looks_in(looks)) {
-        (None, Some(log), Some(looks)) => Some(Task::Run { log, looks }),
+    match (number, flag_in(log), looks_in(looks), workers_in(workers)) {
+        (None, Some(log), Some(looks), Some(workers)) => {
+            Some(Task::Run {
+                log,
+                looks,
+                workers,
+            })
+        }
         _ => None,
     }
 }
 
-// `replay` with that number, that flag and that option.
-fn replay_in(number: Option<&str>, log: Option<&str>, looks: Option<&str>) -> Option<Task>
+// `replay` with that number, that flag and those options.
+fn replay_in(
+    number: Option<&str>,
+    log: Option<&str>,
+    looks: Option<&str>,
+    workers: Option<&str>,
+) -> Option<Task>
     ensures some { IfSome result (Means (record {
       command = Some (codes "replay");
       number = option_map (λ s. s.now) number.entry;
       log = option_map (λ s. s.now) log.entry;
       looks = option_map (λ s. s.now) looks.entry;
+      workers = option_map (λ s. s.now) workers.entry;
     })) }
     ensures none { result ≡ None → (t : Asked) → Means (record {
       command = Some (codes "replay");
       number = option_map (λ s. s.now) number.entry;
       log = option_map (λ s. s.now) log.entry;
       looks = option_map (λ s. s.now) looks.entry;
+      workers = option_map (λ s. s.now) workers.entry;
     }) t → ⊥ }
 {
-    match (number, flag_in(log), looks) {
-        (None, Some(log), None) => Some(Task::Replay { log }),
+    match (number, flag_in(log), looks, workers) {
+        (None, Some(log), None, None) => Some(Task::Replay { log }),
         _ => None,
     }
 }

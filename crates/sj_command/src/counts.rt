@@ -1,6 +1,6 @@
 //! Numbers among the words: decimal digits without a leading zero.
-ghost use Rattle.std.specs.Prelude.{◌≡◌, ◌≤◌, ℕ, IfSome, None, decimal, option_map};
-ghost use Rattle.sj_command.specs.Task.{IsCount, IsParty, StandsForLooks};
+ghost use Rattle.std.specs.Prelude.{◌≡◌, ◌≤◌, ℕ, Option, IfSome, None, decimal, option_map};
+ghost use Rattle.sj_command.specs.Task.{IsCount, IsParty, StandsForLooks, StandsForWorkers};
 
 use itoa::Buffer;
 
@@ -15,6 +15,9 @@ const USUAL_LOOKS: u32 = 1000;
 
 /// The most looks.
 const MOST_LOOKS: u32 = 1_000_000;
+
+/// The most workers.
+const MOST_WORKERS: u32 = 16;
 
 /// The number of messages, from 1 to 1,000, that the text is.
 pub(crate) fn count_in(text: &str) -> Option<u16>
@@ -47,6 +50,21 @@ pub(crate) fn looks_in(option: Option<&str>) -> Option<u32>
     match option {
         None => Some(USUAL_LOOKS),
         Some(text) => number_in(text, 0, MOST_LOOKS),
+    }
+}
+
+/// The number of workers that the option stands for, and none where there is no option.
+pub(crate) fn workers_in(option: Option<&str>) -> Option<Option<u16>>
+    ensures some { IfSome result (StandsForWorkers (option_map (λ s. s.now) option.entry)) }
+    ensures none { result ≡ None → (n : Option ℕ)
+        → StandsForWorkers (option_map (λ s. s.now) option.entry) n → ⊥ }
+{
+    let Some(text) = option else {
+        return Some(None);
+    };
+    match number_in(text, 1, MOST_WORKERS) {
+        Some(n) => Some(Some(n as u16)),
+        None => None,
     }
 }
 

@@ -1,7 +1,7 @@
 //! The command line as `clap` reads it.
 ghost use Rattle.std.specs.Prelude.{◌≡◌, ℕ, List, map, string_bytes, false, None, Ok, IfOk, IfSome};
 ghost use Rattle.clap.specs.Words.{app_of, found_of, first_value, rule_of};
-ghost use Rattle.sj_command.specs.CommandLine.{IsTaken, command_rule, line, log_rule, looks_rule, number_rule, text_given};
+ghost use Rattle.sj_command.specs.CommandLine.{IsTaken, command_rule, line, log_rule, looks_rule, number_rule, text_given, workers_rule};
 
 use clap::error::ErrorKind;
 use clap::{Arg, ArgAction, ArgMatches, Command, Error};
@@ -46,7 +46,17 @@ fn looks_arg<'a>(alloc: Global) -> Arg<'a>
         .action(ArgAction::Set)
 }
 
-// The line whole: a command, a number, a flag and an option.
+// The option with the number of workers.
+fn workers_arg<'a>(alloc: Global) -> Arg<'a>
+    ensures rule { rule_of result ≡ workers_rule }
+    ensures local { result.global ≡ false }
+{
+    Arg::new(alloc, "workers")
+        .long("workers")
+        .action(ArgAction::Set)
+}
+
+// The line whole: a command, a number, a flag and two options.
 fn whole_line<'a>(alloc: Global) -> Result<Command<'a>, AllocError>
     ensures { IfOk result (λ c. app_of c ≡ line) }
 {
@@ -55,7 +65,8 @@ fn whole_line<'a>(alloc: Global) -> Result<Command<'a>, AllocError>
         .arg(command_arg(alloc))?
         .arg(number_arg(alloc))?
         .arg(log_arg(alloc))?
-        .arg(looks_arg(alloc))?;
+        .arg(looks_arg(alloc))?
+        .arg(workers_arg(alloc))?;
     Ok(line)
 }
 

@@ -12,8 +12,13 @@ pub enum Task {
     /// Runs a file in the plain world and prints the transcript.
     Sim,
     /// Runs a file and prints the transcript, and behind it the history where a log is asked for.
-    /// A party that finds nothing to do looks again so many times, from 0 to 1,000,000.
-    Run { log: bool, looks: u32 },
+    /// A party that finds nothing to do looks again so many times, from 0 to 1,000,000. So many workers
+    /// work the parties off, from 1 to 16; where none are named, each party has a thread of its own.
+    Run {
+        log: bool,
+        looks: u32,
+        workers: Option<u16>,
+    },
     /// Replays the log behind a file, drains what is left, and prints as `Run` does.
     Replay { log: bool },
     /// Reads a file, a line `%%talk` and lines that play the party of this number, from 0 to 15, and prints

@@ -11,24 +11,32 @@ fn asked(alloc: Global, words: &[&str]) -> Result<Option<Task>, Fail> {
     Ok(task_in(alloc, &owned)?)
 }
 
-const RUNS: [(&[&str], bool, u32); 10] = [
-    (&["run"], false, 1000),
-    (&["--", "run"], false, 1000),
-    (&["run", "--log"], true, 1000),
-    (&["--log", "run"], true, 1000),
-    (&["run", "--looks", "0"], false, 0),
-    (&["run", "--looks=5"], false, 5),
-    (&["--looks", "7", "run"], false, 7),
-    (&["run", "--looks", "1000000"], false, 1_000_000),
-    (&["run", "--log", "--looks", "5"], true, 5),
-    (&["--looks=1000", "--log", "run"], true, 1000),
+const RUNS: [(&[&str], bool, u32, Option<u16>); 14] = [
+    (&["run"], false, 1000, None),
+    (&["--", "run"], false, 1000, None),
+    (&["run", "--log"], true, 1000, None),
+    (&["--log", "run"], true, 1000, None),
+    (&["run", "--looks", "0"], false, 0, None),
+    (&["run", "--looks=5"], false, 5, None),
+    (&["--looks", "7", "run"], false, 7, None),
+    (&["run", "--looks", "1000000"], false, 1_000_000, None),
+    (&["run", "--log", "--looks", "5"], true, 5, None),
+    (&["--looks=1000", "--log", "run"], true, 1000, None),
+    (&["run", "--workers", "1"], false, 1000, Some(1)),
+    (&["--workers", "16", "run"], false, 1000, Some(16)),
+    (&["run", "--workers=2", "--looks", "0"], false, 0, Some(2)),
+    (&["run", "--log", "--looks=5", "--workers", "9"], true, 5, Some(9)),
 ];
 
 #[test]
 fn words_of_run(rt: HostRuntime) -> Result<(), Fail> {
-    for (words, log, looks) in RUNS {
-        let task = asked(rt.alloc(), words)?;
-        assert_eq!(rt; task, Some(Task::Run { log, looks }), "{words:?}");
+    for (words, log, looks, workers) in RUNS {
+        let wanted = Task::Run {
+            log,
+            looks,
+            workers,
+        };
+        assert_eq!(rt; asked(rt.alloc(), words)?, Some(wanted), "{words:?}");
     }
     Ok(())
 }

@@ -9,12 +9,13 @@ ghost use Rattle.sj_run.specs.Damage.{IsDamaged};
 ghost use Rattle.sj_run.specs.Workers.{AllWorked, AreHired};
 
 use crate::RunRefusal;
+use crate::working::worked_off;
 use sj_base::NoMemory;
 use sj_check::Accepted;
 use sj_core::first_nodes;
 use sj_lane::{InLane, Lanes, Links, MakeRefusal, OutLane};
 use sj_node::Node;
-use sj_work::{Gate, Worker, work_all};
+use sj_work::{Gate, Worker};
 use std::alloc::Global;
 use std::thread::Threads;
 
@@ -59,11 +60,12 @@ fn lanes_for<L: Links>(
     }
 }
 
-/// Each party's worker after its work, on a thread of its own where one can be had.
+/// Each party's worker after its work, on a pool of so many threads, or on a thread of its own.
 pub(crate) fn worked<R: Threads + Sync, L: Links, G: Gate>(
     rt: &R,
     alloc: Global,
     accepted: &Accepted,
+    threads: Option<u16>,
     looks: u32,
     links: &mut L,
     gate: &G,
@@ -79,7 +81,7 @@ pub(crate) fn worked<R: Threads + Sync, L: Links, G: Gate>(
     let parties = accepted.file().parties.len() as u16;
     let nodes = first_nodes(alloc, accepted)?;
     let lanes = lanes_for(alloc, parties, links)?;
-    let mut workers = hired(alloc, nodes, lanes)?;
-    work_all(rt, &mut workers, looks, gate);
+    let hired = hired(alloc, nodes, lanes)?;
+    let workers = worked_off(rt, alloc, hired, threads, looks, gate)?;
     Ok(workers)
 }

@@ -39,8 +39,9 @@ fn past_end(world: &World, refused: Line) -> RunRefusal
     }
 }
 
-/// Runs a file by its parties, each on a thread of its own where one can be had, over lanes that the
-/// links make. Their logs, joined, are replayed in a core world, which is what the parties left: they are
+/// Runs a file by its parties, over lanes that the links make: each on a thread of its own where one can
+/// be had; or, with a number, on a pool of so many threads (0 as 1) that take each other's work, in
+/// rounds until one without an event, or the 1,000th. Their logs, joined, are replayed in a core world, which is what the parties left: they are
 /// given up before that, and the joined lines become its history.
 ///
 /// A worker that wanted memory makes the whole want memory, unless the links met a fault or the logs
@@ -49,6 +50,7 @@ pub fn run_parties<R: Threads + Sync, L: Links, G: Gate>(
     rt: &R,
     alloc: Global,
     accepted: &Accepted,
+    threads: Option<u16>,
     looks: u32,
     links: &mut L,
     gate: &G,
@@ -74,7 +76,7 @@ pub fn run_parties<R: Threads + Sync, L: Links, G: Gate>(
     ensures tells { L.tells links.new ≡ L.tells links.old }
     ensures faults { L.faults links.old ≤ L.faults links.new }
 {
-    let workers = worked(rt, alloc, accepted, looks, links, gate)?;
+    let workers = worked(rt, alloc, accepted, threads, looks, links, gate)?;
     let lines = joined(alloc, &workers)?;
     let faulty = any_faulty(&workers);
     let short = any_short(&workers);

@@ -11,3 +11,4 @@ pub mod PoolLemmas
 pub mod RestLemmas
 pub mod RuleLemmas
 pub mod RunLemmas
+pub mod TaskLemmas

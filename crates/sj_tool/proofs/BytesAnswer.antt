@@ -20,18 +20,9 @@ pub data Kind (links : LinkUseAt) (task : Task) (bytes : List ℕ) (a : AnswerAt
   parts : AnswersParts links task bytes a → Kind links task bytes a
 
 pub kind_of : (links : LinkUseAt) (task : Task) (bytes : List ℕ) (a : AnswerAt) → AnswersBytes links task bytes a → Kind links task bytes a
-kind_of links task bytes Usage x = parts x
-kind_of links task bytes ReadFault x = parts x
 kind_of links task bytes TooLarge x = long refl x.0 x.1
-kind_of links task bytes (Syntax f) x = parts x
-kind_of links task bytes (Check r k) x = parts x
 kind_of links task bytes (LogFault r k) x = elim x [ inl m ↦ misses (ap (λ s. LogFault s k) m.2 ∙ ap (λ n. LogFault 1 n) m.3) m.0 m.1 | inr p ↦ parts p ]
-kind_of links task bytes (Misfit t) x = parts x
-kind_of links task bytes LinkFault x = parts x
-kind_of links task bytes (Damaged t) x = parts x
-kind_of links task bytes (Ran v t) x = parts x
-kind_of links task bytes (Printed t) x = parts x
-kind_of links task bytes (Made t) x = parts x
+kind_of links task bytes a x = parts x
 
 -- the parts of a replay stand before and behind the line that parts it
 pub parted_of : (task : Task) (bytes text : List ℕ) (log : LogAt) → IsReplay task → HasParts task bytes text log → IsParted bytes text log.version log.bytes × (length text ≤ file_limit)

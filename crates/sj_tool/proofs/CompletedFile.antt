@@ -66,12 +66,12 @@ module _ (links : LinkUseAt) (log : LogAt) (file : FileAt) (t : ℕ × List ℕ)
   faultless tasks.Sim fits p =
       let s = played_so links tasks.Sim log file p.verdict p.text tt p.plays in
       played false file t p.verdict p.text tasks.Sim p.are s (λ _. s.bare (λ logs. never (sym logs)))
-  faultless (tasks.Run true looks) fits p =
-      let s = played_so links (tasks.Run true looks) log file p.verdict p.text tt p.plays in
-      played true file t p.verdict p.text (tasks.Run true looks) p.are s (λ e. absurd (never e))
-  faultless (tasks.Run false looks) fits p =
-      let s = played_so links (tasks.Run false looks) log file p.verdict p.text tt p.plays in
-      played false file t p.verdict p.text (tasks.Run false looks) p.are s (λ _. s.bare (λ logs. never (sym logs)))
+  faultless (tasks.Run true looks workers) fits p =
+      let s = played_so links (tasks.Run true looks workers) log file p.verdict p.text tt p.plays in
+      played true file t p.verdict p.text (tasks.Run true looks workers) p.are s (λ e. absurd (never e))
+  faultless (tasks.Run false looks workers) fits p =
+      let s = played_so links (tasks.Run false looks workers) log file p.verdict p.text tt p.plays in
+      played false file t p.verdict p.text (tasks.Run false looks workers) p.are s (λ _. s.bare (λ logs. never (sym logs)))
   faultless (tasks.Replay l) fits (inl (r, k, a, e)) = let fit = fits tt in absurd (fault_or_lines file log r k fit.lines a fit.given)
   faultless (tasks.Replay l) fits (inr (inl (s, a, e))) = let fit = fits tt in absurd (misfit_or_history file log s fit.lines fit.left a fit.given fit.leads)
   faultless (tasks.Replay l) fits (inr (inr p)) = replay_played l p

@@ -36,7 +36,7 @@ kept_history file kept lines w is h =
 -- links that tell show what is given to a task that runs parties
 pub shown_given : (links : LinkUseAt) (task : Task) (log : LogAt) (file : FileAt) (lines : List LineAt) (left : WorldAt Place Program) → RunsParties task
     → (links.tells ≡ true → IsShown file (looks_of task) links.keeps lines left) → IsGiven links task log file lines left
-shown_given links (tasks.Run l looks) log file lines left h shown = shown
+shown_given links (tasks.Run l looks workers) log file lines left h shown = shown
 shown_given links (tasks.Big n) log file lines left h shown = shown
 shown_given links task log file lines left h shown = absurd h
 

@@ -30,14 +30,8 @@ answers_text links task log text file Usage stands x = absurd x
 answers_text links task log text file ReadFault stands x = absurd x
 answers_text links task log text file TooLarge stands x = absurd x
 answers_text links task log text file (Syntax f) stands x = absurd x
-answers_text links task log text file (Check r l) stands x = record { file = file; stands = stands; answers = x }
-answers_text links task log text file (LogFault r l) stands x = record { file = file; stands = stands; answers = x }
-answers_text links task log text file (Misfit t) stands x = record { file = file; stands = stands; answers = x }
-answers_text links task log text file LinkFault stands x = record { file = file; stands = stands; answers = x }
-answers_text links task log text file (Damaged t) stands x = record { file = file; stands = stands; answers = x }
-answers_text links task log text file (Ran v t) stands x = record { file = file; stands = stands; answers = x }
-answers_text links task log text file (Printed t) stands x = record { file = file; stands = stands; answers = x }
 answers_text links task log text file (Made t) stands x = absurd x
+answers_text links task log text file a stands x = record { file = file; stands = stands; answers = x }
 
 -- the same of a result, whatever links and log there are, or one of them
 module _ {E : Type 0} (task : Task) (text : List ℕ) (file : FileAt) (stands : IsFile text file) where
@@ -54,52 +48,23 @@ module _ {E : Type 0} (task : Task) (text : List ℕ) (file : FileAt) (stands : 
   log_answers links log (Err e) x = tt
 
 pub answers_bytes : (links : LinkUseAt) (task : Task) (bytes text : List ℕ) (log : LogAt) (a : AnswerAt) → HasParts task bytes text log → AnswersText links task log text a → AnswersBytes links task bytes a
-answers_bytes links task bytes text log Usage parts x = record { text = text; log = log; parts = parts; answers = x }
-answers_bytes links task bytes text log ReadFault parts x = record { text = text; log = log; parts = parts; answers = x }
 answers_bytes links task bytes text log TooLarge parts x = absurd x.answers
-answers_bytes links task bytes text log (Syntax f) parts x = record { text = text; log = log; parts = parts; answers = x }
-answers_bytes links task bytes text log (Check r l) parts x = record { text = text; log = log; parts = parts; answers = x }
 answers_bytes links task bytes text log (LogFault r l) parts x = inr (record { text = text; log = log; parts = parts; answers = x })
-answers_bytes links task bytes text log (Misfit t) parts x = record { text = text; log = log; parts = parts; answers = x }
-answers_bytes links task bytes text log LinkFault parts x = record { text = text; log = log; parts = parts; answers = x }
-answers_bytes links task bytes text log (Damaged t) parts x = record { text = text; log = log; parts = parts; answers = x }
-answers_bytes links task bytes text log (Ran v t) parts x = record { text = text; log = log; parts = parts; answers = x }
-answers_bytes links task bytes text log (Printed t) parts x = record { text = text; log = log; parts = parts; answers = x }
-answers_bytes links task bytes text log (Made t) parts x = record { text = text; log = log; parts = parts; answers = x }
+answers_bytes links task bytes text log a parts x = record { text = text; log = log; parts = parts; answers = x }
 
 -- ---- what tells a refusal
 
 damaged_answers : (links : LinkUseAt) (task : Task) (runs : RunsParties task) (log : LogAt) (file : FileAt) (number : ℕ) (logged : LineAt) (other : Option LineAt) (a : AnswerAt) → IsAccepted file → (links.tells ≡ true → ⊥)
     → IsDamage file number logged other → IsDamagedBy file number logged other a → AnswersFile links task log file a
-damaged_answers links task runs log file number logged other Usage ok blind damage by = absurd by
-damaged_answers links task runs log file number logged other ReadFault ok blind damage by = absurd by
-damaged_answers links task runs log file number logged other TooLarge ok blind damage by = absurd by
-damaged_answers links task runs log file number logged other (Syntax f) ok blind damage by = absurd by
-damaged_answers links task runs log file number logged other (Check r l) ok blind damage by = absurd by
-damaged_answers links task runs log file number logged other (LogFault r l) ok blind damage by = absurd by
-damaged_answers links task runs log file number logged other (Misfit t) ok blind damage by = absurd by
-damaged_answers links task runs log file number logged other LinkFault ok blind damage by = absurd by
 damaged_answers links task runs log file number logged other (Damaged t) ok blind damage by =
     (ok, runs, blind, record { number = number; logged = logged; other = other; damage = damage; told = by })
-damaged_answers links task runs log file number logged other (Ran v t) ok blind damage by = absurd by
-damaged_answers links task runs log file number logged other (Printed t) ok blind damage by = absurd by
-damaged_answers links task runs log file number logged other (Made t) ok blind damage by = absurd by
+damaged_answers links task runs log file number logged other a ok blind damage by = absurd by
 
 misfit_answers : (links : LinkUseAt) (task : Task) (replays : IsReplay task) (log : LogAt) (file : FileAt) (lines : List LineAt) (number : ℕ) (logged : LineAt) (other : Option LineAt) (a : AnswerAt) → IsAccepted file
     → Spells file log lines → IsFirstMisfit max file lines number logged other → IsToldMisfit file number logged other a → AnswersFile links task log file a
-misfit_answers links task replays log file lines number logged other Usage ok spells misfit by = absurd by
-misfit_answers links task replays log file lines number logged other ReadFault ok spells misfit by = absurd by
-misfit_answers links task replays log file lines number logged other TooLarge ok spells misfit by = absurd by
-misfit_answers links task replays log file lines number logged other (Syntax f) ok spells misfit by = absurd by
-misfit_answers links task replays log file lines number logged other (Check r l) ok spells misfit by = absurd by
-misfit_answers links task replays log file lines number logged other (LogFault r l) ok spells misfit by = absurd by
 misfit_answers links task replays log file lines number logged other (Misfit t) ok spells misfit by =
     (ok, replays, record { lines = lines; spells = spells; number = number; logged = logged; other = other; misfit = misfit; told = by })
-misfit_answers links task replays log file lines number logged other LinkFault ok spells misfit by = absurd by
-misfit_answers links task replays log file lines number logged other (Damaged t) ok spells misfit by = absurd by
-misfit_answers links task replays log file lines number logged other (Ran v t) ok spells misfit by = absurd by
-misfit_answers links task replays log file lines number logged other (Printed t) ok spells misfit by = absurd by
-misfit_answers links task replays log file lines number logged other (Made t) ok spells misfit by = absurd by
+misfit_answers links task replays log file lines number logged other a ok spells misfit by = absurd by
 
 -- a refusal of the parties' run, told by the answer
 pub told_answers : (links : LinkUseAt) (task : Task) (runs : RunsParties task) (log : LogAt) (file : FileAt) (r : RunRefusal) (a : AnswerAt) → IsAccepted file → (r ≡ refusals.LinkFault → lanes.Rose links.faults links.faults_after)

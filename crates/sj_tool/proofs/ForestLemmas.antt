@@ -114,10 +114,10 @@ has_forest_text file = by (opens_or_none file)
           listed = refl;
           some_one = some;
         } in
-        (line_of (codes "forest" ∷ codes "no" ∷ map (name_of file) those), inr (inl (those, (cycle, refl))))
+        (line_of (codes "forest" ∷ codes "no" ∷ map (name_of file) those), inr (inl (those, cycle, refl)))
 
     by : ((line : ℕ) × (first_opening file ≡ Some line)) ⊎ (first_opening file ≡ None) → (text : List ℕ) × IsForestText file text
-    by (inl (line, it)) = (line_of (codes "forest" ∷ codes "opens" ∷ decimal line ∷ []), inl (line, (it, refl)))
+    by (inl (line, it)) = (line_of (codes "forest" ∷ codes "opens" ∷ decimal line ∷ []), inl (line, it, refl))
     by (inr none) = left (openless_from file none) (empty_or_not those)
 
 -- ---- and one alone

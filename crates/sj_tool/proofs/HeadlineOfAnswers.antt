@@ -44,8 +44,8 @@ pub record IsPlayedSo (task : Task) (file : FileAt) (verdict : Verdict) (text : 
 pub played_so : (links : LinkUseAt) (task : Task) (log : LogAt) (file : FileAt) (v : Verdict) (text : List ℕ) → IsPlaying task → Plays links task log file v text → IsPlayedSo task file v text
 played_so links tasks.Sim log file v text plays p =
     record { behind = []; stands = p.0; printed = p.1 ∙ sym (append-nil (transcript_of file (end_of file))); bare = λ no. refl }
-played_so links (tasks.Run false looks) log file v text plays p = record { behind = []; stands = p.1.told.0; printed = p.1.told.1; bare = λ no. refl }
-played_so links (tasks.Run true looks) log file v text plays p =
+played_so links (tasks.Run false looks workers) log file v text plays p = record { behind = []; stands = p.1.told.0; printed = p.1.told.1; bare = λ no. refl }
+played_so links (tasks.Run true looks workers) log file v text plays p =
     record { behind = log_part true file p.1.history; stands = p.1.told.0; printed = p.1.told.1; bare = λ no. absurd (no refl) }
 played_so links (tasks.Replay false) log file v text plays p = record { behind = []; stands = p.1.told.0; printed = p.1.told.1; bare = λ no. refl }
 played_so links (tasks.Replay true) log file v text plays p =
@@ -68,7 +68,7 @@ beyond Long n above e = omega (arith, above, e)
 
 prints_none : (task : Task) (file : FileAt) (text : List ℕ) → IsPlaying task → Prints task file text → ⊥
 prints_none tasks.Sim file text plays p = p
-prints_none (tasks.Run log looks) file text plays p = p
+prints_none (tasks.Run log looks workers) file text plays p = p
 prints_none (tasks.Replay log) file text plays p = p
 prints_none task file text plays p = plays
 

@@ -10,12 +10,12 @@ use Rattle.sj_tool.specs.Tasks.{Checks, HasEvents, Replays as IsReplay, RunsPart
 use Rattle.sj_tool.specs.Runs.{HasRun, Plays}
 
 pub run_checks : (task : Task) → RunsParties task → Checks task
-run_checks (tasks.Run l looks) h = tt
+run_checks (tasks.Run l looks workers) h = tt
 run_checks (tasks.Big n) h = tt
 run_checks task h = absurd h
 
 pub run_has_events : (task : Task) → RunsParties task → HasEvents task
-run_has_events (tasks.Run l looks) h = tt
+run_has_events (tasks.Run l looks workers) h = tt
 run_has_events (tasks.Big n) h = tt
 run_has_events task h = absurd h
 
@@ -29,7 +29,7 @@ replay_has_events task h = absurd h
 
 -- a task that goes by a history plays the file so
 pub run_plays : (links : LinkUseAt) (task : Task) (log : LogAt) (file : FileAt) (v : Verdict) (text : List ℕ) → HasEvents task → HasRun links task log file v text → Plays links task log file v text
-run_plays links (tasks.Run l looks) log file v text h x = (tt, x)
+run_plays links (tasks.Run l looks workers) log file v text h x = (tt, x)
 run_plays links (tasks.Replay l) log file v text h x = (tt, x)
 run_plays links (tasks.Big n) log file v text h x = (tt, x)
 run_plays links task log file v text h x = absurd h

@@ -32,22 +32,13 @@ HoldsFor links task (Ran v t) = RunsParties task → LinksHold links
 HoldsFor links task _ = Unit {0}
 
 unhurt : (links : LinkUseAt) (task : Task) (a : AnswerAt) → HoldsFor links task a → IsUnhurt a
-unhurt links task Usage h = tt
-unhurt links task ReadFault h = tt
-unhurt links task TooLarge h = tt
-unhurt links task (Syntax f) h = tt
-unhurt links task (Check r k) h = tt
-unhurt links task (LogFault r k) h = tt
-unhurt links task (Misfit t) h = tt
 unhurt links task LinkFault h = absurd h
 unhurt links task (Damaged t) h = absurd h
-unhurt links task (Ran v t) h = tt
-unhurt links task (Printed t) h = tt
-unhurt links task (Made t) h = tt
+unhurt links task a h = tt
 
 -- a task that runs parties neither prints a file nor replays a log
 prints_no_run : (task : Task) (file : FileAt) (text : List ℕ) → RunsParties task → Prints task file text → ⊥
-prints_no_run (tasks.Run l looks) file text runs p = p
+prints_no_run (tasks.Run l looks workers) file text runs p = p
 prints_no_run (tasks.Big n) file text runs p = p
 prints_no_run task file text runs p = runs
 
@@ -58,10 +49,6 @@ replays_no_run task runs replays = replays
 module _ (links : LinkUseAt) (task : Task) (log : LogAt) (file : FileAt) where
   -- where the links don't hold, an accepted file whose parties run has no answer but theirs
   beside : IsAccepted file → RunsParties task → (LinksHold links → ⊥) → (b : AnswerAt) → AnswersFile links task log file b → HoldsFor links task b → ⊥
-  beside ok runs off Usage y h = y
-  beside ok runs off ReadFault y h = y
-  beside ok runs off TooLarge y h = y
-  beside ok runs off (Syntax f) y h = y
   beside ok runs off (Check r k) y h = let e : None ≡ Some (r, k) = sym (accepted_to file ok) ∙ y.1 in cc e
   beside ok runs off (LogFault r k) y h = replays_no_run task runs y.1
   beside ok runs off (Misfit t) y h = replays_no_run task runs y.1
@@ -69,7 +56,7 @@ module _ (links : LinkUseAt) (task : Task) (log : LogAt) (file : FileAt) where
   beside ok runs off (Damaged t) y h = h
   beside ok runs off (Ran v t) y h = off (h runs)
   beside ok runs off (Printed t) y h = prints_no_run task file t runs y
-  beside ok runs off (Made t) y h = y
+  beside ok runs off b y h = y
 
   told_of : (a b : AnswerAt) → IsUnhurt a → AnswersFile links task log file a → AnswersFile links task log file b → HoldsFor links task b → AreToldOnce task (told a) (told b)
   told_of a b u x y h =
@@ -80,32 +67,18 @@ module _ (links : LinkUseAt) (task : Task) (log : LogAt) (file : FileAt) where
   one_of_file ReadFault b x y h = absurd x
   one_of_file TooLarge b x y h = absurd x
   one_of_file (Syntax f) b x y h = absurd x
-  one_of_file (Check r k) b x y h = told_of (Check r k) b tt x y h
-  one_of_file (LogFault r k) b x y h = told_of (LogFault r k) b tt x y h
-  one_of_file (Misfit t) b x y h = told_of (Misfit t) b tt x y h
+  one_of_file (Made t) b x y h = absurd x
   one_of_file LinkFault b x y h = absurd (beside x.0 x.1 (λ holds. holds.1 x.2) b y h)
   one_of_file (Damaged t) b x y h = absurd (beside x.0 x.1 (λ holds. x.2 holds.0) b y h)
-  one_of_file (Ran v t) b x y h = told_of (Ran v t) b tt x y h
-  one_of_file (Printed t) b x y h = told_of (Printed t) b tt x y h
-  one_of_file (Made t) b x y h = absurd x
+  one_of_file a b x y h = told_of a b tt x y h
 
 -- the text goes wrong, or the answer answers its file
 abbrev pub IsEither : LinkUseAt → Task → (log : LogAt) (text : List ℕ) → AnswerAt → Type 0
 IsEither links task log text a = ((f : Fault) × (a ≡ Syntax f) × Stuck file_layer limits 0 (start text [] []) file_due f) ⊎ AnswersItsFile links task log text a
 
 pub either : (links : LinkUseAt) (task : Task) (log : LogAt) (text : List ℕ) (a : AnswerAt) → AnswersText links task log text a → IsEither links task log text a
-either links task log text Usage x = inr x
-either links task log text ReadFault x = inr x
-either links task log text TooLarge x = inr x
 either links task log text (Syntax f) x = inl (f, refl, x.1)
-either links task log text (Check r k) x = inr x
-either links task log text (LogFault r k) x = inr x
-either links task log text (Misfit t) x = inr x
-either links task log text LinkFault x = inr x
-either links task log text (Damaged t) x = inr x
-either links task log text (Ran v t) x = inr x
-either links task log text (Printed t) x = inr x
-either links task log text (Made t) x = inr x
+either links task log text a x = inr x
 
 -- a text has one answer
 pub one_of_text : (links : LinkUseAt) (task : Task) (log : LogAt) (text : List ℕ) (a b : AnswerAt) → AnswersText links task log text a → AnswersText links task log text b → HoldsFor links task b → AreToldOnce task (told a) (told b)

@@ -74,9 +74,9 @@ module _ (links : LinkUseAt) (log : LogAt) (file : FileAt) (v w : Verdict) (s t 
 
   pub one_run : (task : Task) → HasEvents task → HasRun links task log file v s → HasRun links task log file w t → AreAlike task v w s t
   one_run (tasks.Big n) h x y = print (tasks.Big n) x y refl
-  one_run (tasks.Run false looks) h x y = print (tasks.Run false looks) x y refl
-  one_run (tasks.Run true looks) h x y = (
-    stand (tasks.Run true looks) x y,
+  one_run (tasks.Run false looks workers) h x y = print (tasks.Run false looks workers) x y refl
+  one_run (tasks.Run true looks workers) h x y = (
+    stand (tasks.Run true looks workers) x y,
     inr (tt, record { file = file; first = x.history; second = y.history; first_text = x.told.1; second_text = y.told.1 }),
   )
   one_run (tasks.Replay l) h x y =

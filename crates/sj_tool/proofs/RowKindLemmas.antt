@@ -41,12 +41,8 @@ pub no_rise : (c : CallAt) (a : AnswerAt) → AnswersInput c a → NoFaultAbove 
 no_rise c Usage x h r = absurd x.answers.answers.answers
 no_rise c ReadFault x h r = absurd h
 no_rise c TooLarge x h r = h (record { task = x.task; asks = x.asks; kind = x.answers.0 }) r
-no_rise c (Syntax f) x h r = h r
-no_rise c (Check s l) x h r = h r
-no_rise c (LogFault s l) x h r = h r
-no_rise c (Misfit t) x h r = h r
 no_rise c LinkFault x h r = absurd h
 no_rise c (Damaged t) x h r = absurd h
 no_rise c (Ran v t) x h r = h.0 r
-no_rise c (Printed t) x h r = h r
 no_rise c (Made t) x h r = absurd x.answers.answers.answers
+no_rise c a x h r = h r

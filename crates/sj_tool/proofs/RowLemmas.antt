@@ -32,18 +32,10 @@ are_same c a b e = record { status = ap status_of e; text = inl (ap text_of e) }
 
 -- what no read fault above an answer tells of the links
 holds_above : (c : CallAt) (b : AnswerAt) → NoFaultAbove c b → (task : Task) → Asks c.words task → HoldsFor c.links task b
-holds_above c Usage h task asks = tt
-holds_above c ReadFault h task asks = tt
-holds_above c TooLarge h task asks = tt
-holds_above c (Syntax f) h task asks = tt
-holds_above c (Check r l) h task asks = tt
-holds_above c (LogFault r l) h task asks = tt
-holds_above c (Misfit t) h task asks = tt
 holds_above c LinkFault h task asks = h
 holds_above c (Damaged t) h task asks = h
 holds_above c (Ran v t) h task asks = λ runs. h.1 (record { task = task; asks = asks; kind = runs })
-holds_above c (Printed t) h task asks = tt
-holds_above c (Made t) h task asks = tt
+holds_above c a h task asks = tt
 
 -- an input is answered in one way
 one_of_input : (c : CallAt) (left : List ℕ) → c.left ≡ Some left → (a b : AnswerAt) → AnswersInput c a → AnswersInput c b → NoFaultAbove c b → AreOne c a b

@@ -20,10 +20,6 @@ above_or_fault c ReadFault more well h = inr refl
 above_or_fault c TooLarge more well h =
     let same : c.faults_after ≡ c.faults = elim h [ inl l ↦ l.1 | inr x ↦ no_fault_of c x.task x.bytes x.input ] in
     inl (λ replays. stays c.faults c.faults_after same more)
-above_or_fault c (Syntax f) more well h = inl (stays c.faults c.faults_after (no_fault_of c h.task h.bytes h.input) more)
-above_or_fault c (Check r l) more well h = inl (stays c.faults c.faults_after (no_fault_of c h.task h.bytes h.input) more)
-above_or_fault c (LogFault r l) more well h = inl (stays c.faults c.faults_after (no_fault_of c h.task h.bytes h.input) more)
-above_or_fault c (Misfit t) more well h = inl (stays c.faults c.faults_after (no_fault_of c h.task h.bytes h.input) more)
 above_or_fault c LinkFault more well h =
     let answers = h.answers.answers.answers in
     let holds = well (record { task = h.task; asks = h.asks; kind = answers.1 }) in absurd (holds.1 answers.2)
@@ -31,8 +27,8 @@ above_or_fault c (Damaged t) more well h =
     let answers = h.answers.answers.answers in
     let holds = well (record { task = h.task; asks = h.asks; kind = answers.1 }) in absurd (answers.2 holds.0)
 above_or_fault c (Ran v t) more well h = inl (stays c.faults c.faults_after (no_fault_of c h.task h.bytes h.input) more, well)
-above_or_fault c (Printed t) more well h = inl (stays c.faults c.faults_after (no_fault_of c h.task h.bytes h.input) more)
 above_or_fault c (Made t) more well h = inl tt
+above_or_fault c a more well h = inl (stays c.faults c.faults_after (no_fault_of c h.task h.bytes h.input) more)
 
 pub one_answer : (c : CallAt) (left : List ℕ) (a b : AnswerAt) → c.left ≡ Some left → CanRise c → RunsWell c → Comes c a → Comes c b → AreOne c a b
 one_answer c left a b tells more well x y = by (above_or_fault c a more well x) (above_or_fault c b more well y)

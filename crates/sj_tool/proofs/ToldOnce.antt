@@ -83,7 +83,7 @@ module _ (links : LinkUseAt) (log : LogAt) (file : FileAt) (t u : ℕ × List �
 
       by : (task : Task) (v w : Verdict) (s r : List ℕ) → Plays links task log file v s → Plays links task log file w r → AreToldOnce task (ended v s) (ended w r)
       by tasks.Sim v w s r p q = same_told tasks.Sim (ended v s) (ended w r) (ap₂ ended (p.0 ∙ sym q.0) (p.1 ∙ sym q.1))
-      by (tasks.Run l looks) v w s r p q = ran (tasks.Run l looks) v w s r (one_run links log file v w s r (tasks.Run l looks) tt p.1 q.1)
+      by (tasks.Run l looks workers) v w s r p q = ran (tasks.Run l looks workers) v w s r (one_run links log file v w s r (tasks.Run l looks workers) tt p.1 q.1)
       by (tasks.Replay l) v w s r p q = ran (tasks.Replay l) v w s r (one_run links log file v w s r (tasks.Replay l) tt p.1 q.1)
       by (tasks.Big n) v w s r p q = ran (tasks.Big n) v w s r (one_run links log file v w s r (tasks.Big n) tt p.1 q.1)
       by task v w s r p q = absurd p.0

@@ -1,11 +1,11 @@
 -- Words ask for a task, or are no command.
 use Rattle.std.proofs.Common.{◌≡◌, ◌⊎◌, ◌≤◌, ◌<◌, ℕ, zero, suc, true, false, List, [], ◌∷◌, Option, Some, None, inl, inr, ap, subst, refl, arith}
 use Rattle.std.proofs.lemmas.Bool.{cases_eq}
-use Rattle.std.specs.Prelude.{codes, decimal}
+use Rattle.std.specs.Prelude.{Bool, codes, decimal}
 use Rattle.sj_command.specs.declared.tasks.Task.{Task}
-use Rattle.sj_command.specs.declared.tasks.Task.TheVariants.{Check, Show, Sim, Run, Replay, Make, Big}
+use Rattle.sj_command.specs.declared.tasks.Task.TheVariants.{Check, Show, Forest, Sim, Run, Replay, Make, Big}
 use Rattle.sj_command.specs.CommandLine.{IsTaken}
-use Rattle.sj_command.specs.Task.{Asks, IsCount, IsUsage, LineAt, Means, StandsForLooks, alone, line_in, most_looks, most_messages, replaying, running, usual_looks}
+use Rattle.sj_command.specs.Task.{Asks, IsCount, IsUsage, LineAt, Means, StandsForLooks, StandsForWorkers, alone, line_in, most_looks, most_messages, most_workers, replaying, running, usual_looks}
 use Rattle.sj_tool.proofs.LineLemmas.{made_of, one_list, one_option}
 
 -- the first number below n that has it
@@ -27,13 +27,15 @@ first_or_none P test (suc n) = by (first_or_none P test n) (test n)
 -- whether two lines are one
 one_line : (x y : LineAt) → Dec (x ≡ y)
 one_line x y = by (one_option one_list x.command y.command) (one_option one_list x.number y.number) (one_option one_list x.log y.log) (one_option one_list x.looks y.looks)
+    (one_option one_list x.workers y.workers)
   where
-    by : Dec (x.command ≡ y.command) → Dec (x.number ≡ y.number) → Dec (x.log ≡ y.log) → Dec (x.looks ≡ y.looks) → Dec (x ≡ y)
-    by (yes a) (yes b) (yes c) (yes d) = yes (λ i. record { command = a i; number = b i; log = c i; looks = d i })
-    by (no k) b c d = no (λ h. k (ap (λ (z : LineAt). z.command) h))
-    by (yes a) (no k) c d = no (λ h. k (ap (λ (z : LineAt). z.number) h))
-    by (yes a) (yes b) (no k) d = no (λ h. k (ap (λ (z : LineAt). z.log) h))
-    by (yes a) (yes b) (yes c) (no k) = no (λ h. k (ap (λ (z : LineAt). z.looks) h))
+    by : Dec (x.command ≡ y.command) → Dec (x.number ≡ y.number) → Dec (x.log ≡ y.log) → Dec (x.looks ≡ y.looks) → Dec (x.workers ≡ y.workers) → Dec (x ≡ y)
+    by (yes a) (yes b) (yes c) (yes d) (yes e) = yes (λ i. record { command = a i; number = b i; log = c i; looks = d i; workers = e i })
+    by (no k) b c d e = no (λ h. k (ap (λ (z : LineAt). z.command) h))
+    by (yes a) (no k) c d e = no (λ h. k (ap (λ (z : LineAt). z.number) h))
+    by (yes a) (yes b) (no k) d e = no (λ h. k (ap (λ (z : LineAt). z.log) h))
+    by (yes a) (yes b) (yes c) (no k) e = no (λ h. k (ap (λ (z : LineAt). z.looks) h))
+    by (yes a) (yes b) (yes c) (yes d) (no k) = no (λ h. k (ap (λ (z : LineAt). z.workers) h))
 
 -- the option stands for a number of looks, or for none
 module _ (l : LineAt) where
@@ -44,6 +46,32 @@ module _ (l : LineAt) where
         | inl found ↦ inl (found.number, (found.has, omega (arith, is, found.below)))
         | inr none ↦ inr (λ n h. none n (omega (arith, is, h.1)) h.0)
       ]
+
+  -- the text is that number of workers, or isn't
+  workers_dec : (text : List ℕ) (n : ℕ) → Dec ((text ≡ decimal n) × (1 ≤ n))
+  workers_dec text zero = no (λ h. omega (arith, h.1))
+  workers_dec text (suc n) = made_of (one_list text (decimal (suc n))) (λ h. (h, omega arith)) (λ h. h.0)
+
+  workers_or_none : (most : ℕ) → most_workers ≡ most → (o : Option (List ℕ)) → ((w : Option ℕ) × StandsForWorkers o w) ⊎ ((w : Option ℕ) → StandsForWorkers o w → ⊥)
+  workers_or_none most is None = inl (None, tt)
+  workers_or_none most is (Some text) =
+      elim (first_or_none (λ n. (text ≡ decimal n) × (1 ≤ n)) (workers_dec text) (suc most)) [
+        | inl found ↦ inl (Some found.number, (found.has.0, found.has.1, omega (arith, is, found.below)))
+        | inr none ↦ inr (no_workers none)
+      ]
+    where
+      no_workers : ((k : ℕ) → k < suc most → (text ≡ decimal k) × (1 ≤ k) → ⊥) → (w : Option ℕ) → StandsForWorkers (Some text) w → ⊥
+      no_workers none None h = h
+      no_workers none (Some n) h = none n (omega (arith, is, h.2)) (h.0, h.1)
+
+  -- what the options stand for, both of them
+  options_or_none : ((n : ℕ) × StandsForLooks l.looks n) ⊎ ((n : ℕ) → StandsForLooks l.looks n → ⊥)
+      → ((w : Option ℕ) × StandsForWorkers l.workers w) ⊎ ((w : Option ℕ) → StandsForWorkers l.workers w → ⊥)
+      → ((n : ℕ) × (w : Option ℕ) × StandsForLooks l.looks n × StandsForWorkers l.workers w)
+      ⊎ ((n : ℕ) (w : Option ℕ) → StandsForLooks l.looks n → StandsForWorkers l.workers w → ⊥)
+  options_or_none (inl n) (inl w) = inl (n.0, w.0, n.1, w.1)
+  options_or_none (inl n) (inr none) = inr (λ k v h. none v)
+  options_or_none (inr none) w = inr (λ k v h x. none k h)
 
   -- the line is a command of that name with a number from 1 on, or isn't
   abbrev IsCounted : List ℕ → ℕ → Type 0
@@ -65,49 +93,83 @@ module _ (l : LineAt) where
       by (inl f) = inl (f.number, (f.has.0, (f.has.1, omega (arith, is, f.below))))
       by (inr none) = inr (λ n h. none n (omega (arith, is, h.1.1)) (h.0, h.1.0))
 
-  -- the line asks for a task, or for none
-  pub means_or_none : ((t : Task) × Means l t) ⊎ ((t : Task) → Means l t → ⊥)
-  means_or_none =
-      by (one_line l (alone (codes "check") None)) (one_line l (alone (codes "show") None)) (one_line l (alone (codes "sim") None)) (one_line l (running false l.looks)) (one_line l (running true l.looks))
-      (looks_or_none most_looks refl l.looks) (one_line l (replaying false)) (one_line l (replaying true)) (counted (codes "make") most_messages refl) (counted (codes "big") most_messages refl)
+  -- a task that the line asks for
+  abbrev Asked : Type 0
+  Asked = (t : Task) × Means l t
+
+  -- a kind of tasks that it doesn't ask for leaves the others
+  or_others : {X : Type 0} → Asked ⊎ (X → ⊥) → ((X → ⊥) → Asked ⊎ ((t : Task) → Means l t → ⊥)) → Asked ⊎ ((t : Task) → Means l t → ⊥)
+  or_others (inl asked) others = inl asked
+  or_others (inr none) others = others none
+
+  -- a command without a number and an option
+  asked_alone : (t : Task) (name : List ℕ) → (l ≡ alone name None → Means l t) → Asked ⊎ (l ≡ alone name None → ⊥)
+  asked_alone t name means = elim (one_line l (alone name None)) [ yes e ↦ inl (t, means e) | no off ↦ inr off ]
+
+  asked_counted : (t : ℕ → Task) (name : List ℕ) → ((n : ℕ) → Counts name n → Means l (t n)) → Asked ⊎ (((n : ℕ) × Counts name n) → ⊥)
+  asked_counted t name means = elim (counted name most_messages refl) [ inl f ↦ inl (t f.0, means f.0 f.1) | inr none ↦ inr (λ f. none f.0 f.1) ]
+
+  -- `run`, with the log or without it
+  abbrev Runs : Type 0
+  Runs = (log : Bool) × (n : ℕ) × (w : Option ℕ) × Means l (Run log n w)
+
+  asked_run : Asked ⊎ (Runs → ⊥)
+  asked_run = by (one_line l (running false l.looks l.workers)) (one_line l (running true l.looks l.workers)) (options_or_none (looks_or_none most_looks refl l.looks) (workers_or_none most_workers refl l.workers))
     where
-      by : Dec (l ≡ alone (codes "check") None) → Dec (l ≡ alone (codes "show") None) → Dec (l ≡ alone (codes "sim") None) → Dec (l ≡ running false l.looks) → Dec (l ≡ running true l.looks)
-          → ((n : ℕ) × StandsForLooks l.looks n) ⊎ ((n : ℕ) → StandsForLooks l.looks n → ⊥) → Dec (l ≡ replaying false) → Dec (l ≡ replaying true)
-          → ((n : ℕ) × Counts (codes "make") n) ⊎ ((n : ℕ) → Counts (codes "make") n → ⊥)
-          → ((n : ℕ) × Counts (codes "big") n) ⊎ ((n : ℕ) → Counts (codes "big") n → ⊥)
-          → ((t : Task) × Means l t) ⊎ ((t : Task) → Means l t → ⊥)
-      by (yes e) b c d f g h i j k = inl (Check, e)
-      by (no a) (yes e) c d f g h i j k = inl (Show, e)
-      by (no a) (no b) (yes e) d f g h i j k = inl (Sim, e)
-      by (no a) (no b) (no c) (yes e) f (inl n) h i j k = inl (Run false n.0, (e, n.1))
-      by (no a) (no b) (no c) d (yes e) (inl n) h i j k = inl (Run true n.0, (e, n.1))
-      by (no a) (no b) (no c) d f g (yes e) i j k = inl (Replay false, e)
-      by (no a) (no b) (no c) d f g (no h) (yes e) j k = inl (Replay true, e)
-      by (no a) (no b) (no c) d f g (no h) (no i) (inl (n, counts)) k = inl (Make n, counts)
-      by (no a) (no b) (no c) d f g (no h) (no i) (inr j) (inl (n, counts)) = inl (Big n, counts)
-      by (no a) (no b) (no c) (no d) (no f) (inl g) (no h) (no i) (inr j) (inr k) = inr none
-        where
-          none : (t : Task) → Means l t → ⊥
-          none Check m = a m
-          none Show m = b m
-          none Sim m = c m
-          none (Run false n) m = d m.0
-          none (Run true n) m = f m.0
-          none (Replay false) m = h m
-          none (Replay true) m = i m
-          none (Make n) m = j n m
-          none (Big n) m = k n m
-      by (no a) (no b) (no c) d f (inr g) (no h) (no i) (inr j) (inr k) = inr none
-        where
-          none : (t : Task) → Means l t → ⊥
-          none Check m = a m
-          none Show m = b m
-          none Sim m = c m
-          none (Run log n) m = g n m.1
-          none (Replay false) m = h m
-          none (Replay true) m = i m
-          none (Make n) m = j n m
-          none (Big n) m = k n m
+      none : (l ≡ running false l.looks l.workers → ⊥) → (l ≡ running true l.looks l.workers → ⊥) → Runs → ⊥
+      none a b (false, n, w, m) = a m.0
+      none a b (true, n, w, m) = b m.0
+
+      unfit : ((n : ℕ) (w : Option ℕ) → StandsForLooks l.looks n → StandsForWorkers l.workers w → ⊥) → Runs → ⊥
+      unfit off (log, n, w, m) = off n w m.1 m.2
+
+      by : Dec (l ≡ running false l.looks l.workers) → Dec (l ≡ running true l.looks l.workers)
+          → ((n : ℕ) × (w : Option ℕ) × StandsForLooks l.looks n × StandsForWorkers l.workers w)
+          ⊎ ((n : ℕ) (w : Option ℕ) → StandsForLooks l.looks n → StandsForWorkers l.workers w → ⊥) → Asked ⊎ (Runs → ⊥)
+      by a b (inr off) = inr (unfit off)
+      by (yes e) b (inl n) = inl (Run false n.0 n.1, (e, n.2, n.3))
+      by (no a) (yes e) (inl n) = inl (Run true n.0 n.1, (e, n.2, n.3))
+      by (no a) (no b) (inl n) = inr (none a b)
+
+  -- `replay` likewise
+  abbrev Replays : Type 0
+  Replays = (log : Bool) × Means l (Replay log)
+
+  asked_replay : Asked ⊎ (Replays → ⊥)
+  asked_replay = by (one_line l (replaying false)) (one_line l (replaying true))
+    where
+      none : (l ≡ replaying false → ⊥) → (l ≡ replaying true → ⊥) → Replays → ⊥
+      none a b (false, m) = a m
+      none a b (true, m) = b m
+
+      by : Dec (l ≡ replaying false) → Dec (l ≡ replaying true) → Asked ⊎ (Replays → ⊥)
+      by (yes e) b = inl (Replay false, e)
+      by (no a) (yes e) = inl (Replay true, e)
+      by (no a) (no b) = inr (none a b)
+
+  -- the line asks for a task, or for none
+  pub means_or_none : Asked ⊎ ((t : Task) → Means l t → ⊥)
+  means_or_none =
+      or_others (asked_alone Check (codes "check") (λ e. e))
+      (λ check. or_others (asked_alone Show (codes "show") (λ e. e))
+      (λ show. or_others (asked_alone Forest (codes "forest") (λ e. e))
+      (λ forest. or_others (asked_alone Sim (codes "sim") (λ e. e))
+      (λ sim. or_others asked_run
+      (λ run. or_others asked_replay
+      (λ replay. or_others (asked_counted (λ n. Make n) (codes "make") (λ n m. m))
+      (λ make. or_others (asked_counted (λ n. Big n) (codes "big") (λ n m. m))
+      (λ big. inr (none check show forest sim run replay make big)))))))))
+    where
+      none : (l ≡ alone (codes "check") None → ⊥) → (l ≡ alone (codes "show") None → ⊥) → (l ≡ alone (codes "forest") None → ⊥) → (l ≡ alone (codes "sim") None → ⊥) → (Runs → ⊥) → (Replays → ⊥)
+          → (((n : ℕ) × Counts (codes "make") n) → ⊥) → (((n : ℕ) × Counts (codes "big") n) → ⊥) → (t : Task) → Means l t → ⊥
+      none check show forest sim run replay make big Check m = check m
+      none check show forest sim run replay make big Show m = show m
+      none check show forest sim run replay make big Forest m = forest m
+      none check show forest sim run replay make big Sim m = sim m
+      none check show forest sim run replay make big (Run log n w) m = run (log, n, w, m)
+      none check show forest sim run replay make big (Replay log) m = replay (log, m)
+      none check show forest sim run replay make big (Make n) m = make (n, m)
+      none check show forest sim run replay make big (Big n) m = big (n, m)
 
 none_or_some : {X : Type 0} (xs : List X) → Dec (xs ≡ [])
 none_or_some [] = yes refl

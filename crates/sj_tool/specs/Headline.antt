@@ -20,7 +20,7 @@ use Rattle.sj_tool.specs.Texts.{verdict_status}
 -- it plays a file to its end
 abbrev pub IsPlaying : Task → Type 0
 IsPlaying tasks.Sim = ⊤
-IsPlaying (tasks.Run log looks) = ⊤
+IsPlaying (tasks.Run log looks workers) = ⊤
 IsPlaying (tasks.Replay log) = ⊤
 IsPlaying _ = ⊥
 

@@ -20,7 +20,7 @@ use Rattle.sj_tool.specs.Texts.{status_of, text_of}
 
 -- it prints the history of parties that ran
 abbrev pub LogsRun : Task → Type 0
-LogsRun (tasks.Run true looks) = ⊤
+LogsRun (tasks.Run true looks workers) = ⊤
 LogsRun _ = ⊥
 
 -- one transcript of a file's end, and behind it two histories: in which order parties act is theirs

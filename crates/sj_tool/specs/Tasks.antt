@@ -37,7 +37,7 @@ Checks _ = ⊤
 
 -- it runs the parties of a file over links
 abbrev pub RunsParties : Task → Type 0
-RunsParties (tasks.Run log looks) = ⊤
+RunsParties (tasks.Run log looks workers) = ⊤
 RunsParties (tasks.Big n) = ⊤
 RunsParties _ = ⊥
 
@@ -48,7 +48,7 @@ Replays _ = ⊥
 
 -- it does the events of a history in the core: that of the parties, or that of a log
 abbrev pub HasEvents : Task → Type 0
-HasEvents (tasks.Run log looks) = ⊤
+HasEvents (tasks.Run log looks workers) = ⊤
 HasEvents (tasks.Replay log) = ⊤
 HasEvents (tasks.Big n) = ⊤
 HasEvents _ = ⊥
@@ -60,12 +60,12 @@ limit_of _ = file_limit
 
 -- how often a party looks in vain before it stops
 abbrev pub looks_of : Task → ℕ
-looks_of (tasks.Run log looks) = looks
+looks_of (tasks.Run log looks workers) = looks
 looks_of _ = usual_looks
 
 -- the log is printed behind the transcript
 abbrev pub asks_log : Task → Bool
-asks_log (tasks.Run log looks) = log
+asks_log (tasks.Run log looks workers) = log
 asks_log (tasks.Replay log) = log
 asks_log _ = false
 

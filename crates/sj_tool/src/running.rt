@@ -64,7 +64,8 @@ fn drained<R: Threads + Sync, L: Links, G: Gate>(
     ensures damaged { IfErr result (IsDamagedSo (file_of (file_in accepted.now))) }
     ensures telling { IfErr result (λ r. IsDamaged r → L.tells links.old ≡ true → ⊥) }
 {
-    let mut world = match run_parties(rt, alloc, accepted, looks_in(task), links, gate) {
+    let workers = workers_in(task);
+    let mut world = match run_parties(rt, alloc, accepted, workers, looks_in(task), links, gate) {
         Ok(world) => world,
         Err(refusal) => return Err(refusal),
     };
@@ -79,5 +80,13 @@ fn looks_in(task: Task) -> u32
     match task {
         Task::Run { looks, .. } => looks,
         _ => USUAL_LOOKS,
+    }
+}
+
+// On how many threads the parties work, if each has none of its own.
+fn workers_in(task: Task) -> Option<u16> {
+    match task {
+        Task::Run { workers, .. } => workers,
+        _ => None,
     }
 }

@@ -1,0 +1,48 @@
+-- One call of a worker behind another.
+use Rattle.std.proofs.Common.{◌≡◌, ℕ, Option, Some, None, refl, ap, sym, ◌∙◌, subst}
+use Rattle.sj_lang.specs.Place.{Place}
+use Rattle.sj_rules.specs.Work.{LostAt}
+use Rattle.sj_work.specs.declared.worker.Stop.{Stop}
+use Rattle.sj_work.specs.declared.worker.Stop.TheVariants as stops
+use Rattle.sj_work.specs.declared.worker.Worker.{Worker}
+use Rattle.sj_work.specs.Causes.{Loses}
+use Rattle.sj_work.specs.Views.{stop_of}
+use Rattle.sj_work.specs.Worked.{Worked, WorkedBy, kept_stop}
+use Rattle.sj_work.proofs.LaneLaws.{LaneLaws, TurnedBy, WentBy}
+use Rattle.sj_work.proofs.TurnLemmas.{turned_behind}
+
+-- a stop that doesn't stay loses nothing
+loses_none : (s : Option Stop) (l : LostAt Place) → kept_stop s ≡ None → Loses (Some l) s → ⊥
+loses_none None l k h = h
+loses_none (Some stops.Finished) l k h = h
+loses_none (Some stops.Idle) l k h = h
+loses_none (Some stops.AtLimit) l k h = h
+loses_none (Some stops.ClockEnd) l k h = h
+loses_none (Some stops.NoMemory) l k h = cc
+loses_none (Some stops.Fault) l k h = h
+loses_none (Some stops.Unfit) l k h = cc
+
+module _ {O I : Type 0} (k : LaneLaws O I) where
+  abbrev CallBy : Option Stop → (looks : ℕ) → (old new : Worker O I) → Type 0
+  CallBy s looks old new = WorkedBy k.pushed k.out_faults k.out_vain k.same_out k.popped k.in_faults k.in_vain k.same_in s looks old new
+
+  -- a call whose stop doesn't stay lost nothing
+  went_whole : (looks : ℕ) (a b : Worker O I) → kept_stop (stop_of b) ≡ None → TurnedBy k looks a b → WentBy k None a b
+  went_whole looks a b kept t = go t.lost t.went t.loses
+    where
+      go : (lost : Option (LostAt Place)) → WentBy k lost a b → Loses lost (stop_of b) → WentBy k None a b
+      go None w l = w
+      go (Some x) w l = absurd (loses_none (stop_of b) x kept l)
+
+  call_later : (s t : Option Stop) (looks : ℕ) (a b c : Worker O I) → kept_stop (stop_of a) ≡ s → kept_stop (stop_of b) ≡ t → CallBy s looks a b → CallBy t looks b c
+      → CallBy s looks a c
+  call_later (Some s) (Some t) looks a b c is this x y = y ∙ x
+  call_later (Some s) None looks a b c is this x y = let e = ap (λ w. kept_stop (stop_of w)) x in absurd (cc)
+  call_later None (Some t) looks a b c is this x y = subst (CallBy None looks a) (sym y) x
+  call_later None None looks a b c is this x y = (y.0, turned_behind k looks a b c (went_whole looks a b this x.1) y.1)
+
+  pub worked_later : (looks : ℕ) (a b c : Worker O I)
+      → Worked k.pushed k.out_faults k.out_vain k.same_out k.popped k.in_faults k.in_vain k.same_in looks a b
+      → Worked k.pushed k.out_faults k.out_vain k.same_out k.popped k.in_faults k.in_vain k.same_in looks b c
+      → Worked k.pushed k.out_faults k.out_vain k.same_out k.popped k.in_faults k.in_vain k.same_in looks a c
+  worked_later looks a b c x y = call_later (kept_stop (stop_of a)) (kept_stop (stop_of b)) looks a b c refl refl x y

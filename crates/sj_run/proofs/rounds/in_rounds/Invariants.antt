@@ -1,0 +1,9 @@
+use Rattle.sj_steal.specs.Runs.{Each2}
+use Rattle.sj_work.specs.Worked.{Worked}
+use Rattle.sj_run.proofs.rounds.in_rounds.Given as goal
+
+-- all calls so far are one
+abbrev pub invariant-loop : goal.invariant-loop
+invariant-loop g l =
+    Each2 (Worked g.O.OutLane.pushed g.O.OutLane.faults g.O.OutLane.vain g.O.OutLane.same g.I.InLane.popped g.I.InLane.faults g.I.InLane.vain g.I.InLane.same l.looks)
+    l.fn.workers.items l.workers.items

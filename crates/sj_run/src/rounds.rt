@@ -1,0 +1,87 @@
+//! Workers on fewer threads than there are of them, in rounds.
+ghost use Rattle.std.specs.Prelude.{◌≡◌, ◌<◌, ◌≤◌, IfOk, length};
+ghost use Rattle.sj_steal.specs.Runs.{Each2};
+ghost use Rattle.sj_work.specs.Worked.{Worked};
+
+use crate::laws::calls_compose;
+use sj_base::NoMemory;
+use sj_lane::{InLane, OutLane};
+use sj_node::node_crosses;
+use sj_steal::call_each;
+use sj_work::{Gate, Worker, work};
+use std::alloc::Global;
+use std::thread::Threads;
+
+/// The most rounds of a run.
+const MOST_ROUNDS: u32 = 1_000;
+
+/// How many events the workers had.
+fn events<O, I>(workers: &[Worker<O, I>]) -> usize {
+    let mut events = 0usize;
+    for worker in workers {
+        events = events.saturating_add(worker.node().log().len());
+    }
+    events
+}
+
+/// One call of `work`.
+fn turns<O: OutLane, I: InLane, G: Gate>(worker: &mut Worker<O, I>, looks: u32, gate: &G)
+    ensures { Worked O.pushed O.faults O.vain O.same I.popped I.faults I.vain I.same looks worker.old worker.new }
+{
+    let _ = work(worker, looks, gate);
+}
+
+/// One call of `work` of each worker.
+fn round<R: Threads + Sync, O: OutLane, I: InLane, G: Gate>(
+    rt: &R,
+    alloc: Global,
+    workers: Vec<Worker<O, I>>,
+    threads: u16,
+    looks: u32,
+    gate: &G,
+) -> Result<Vec<Worker<O, I>>, NoMemory>
+    requires some { 0 < threads }
+    requires few { length workers.items ≤ 65536 }
+    ensures { IfOk result (λ new. Each2
+        (Worked O.pushed O.faults O.vain O.same I.popped I.faults I.vain I.same looks)
+        workers.items new.items) }
+{
+    node_crosses();
+    call_each(
+        rt,
+        alloc,
+        workers,
+        threads,
+        &|worker: &mut Worker<O, I>| turns(worker, looks, gate),
+    )
+}
+
+/// The workers after rounds on so many threads, until one without an event, or the last. All their
+/// calls of `work` together are one call of it.
+pub(crate) fn in_rounds<R: Threads + Sync, O: OutLane, I: InLane, G: Gate>(
+    rt: &R,
+    alloc: Global,
+    workers: Vec<Worker<O, I>>,
+    threads: u16,
+    looks: u32,
+    gate: &G,
+) -> Result<Vec<Worker<O, I>>, NoMemory>
+    requires some { 0 < threads }
+    requires few { length workers.items ≤ 65536 }
+    ensures { IfOk result (λ new. Each2
+        (Worked O.pushed O.faults O.vain O.same I.popped I.faults I.vain I.same looks)
+        workers.items new.items) }
+{
+    calls_compose::<O, I>();
+    let mut before = events(&workers);
+    let mut workers = round(rt, alloc, workers, threads, looks, gate)?;
+    for _ in 1..MOST_ROUNDS {
+        let now = events(&workers);
+        if now == before {
+            return Ok(workers);
+        }
+        before = now;
+        workers = round(rt, alloc, workers, threads, looks, gate)?;
+    }
+    Ok(workers)
+}
