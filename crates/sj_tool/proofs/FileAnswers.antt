@@ -14,7 +14,7 @@ use Rattle.sj_run.specs.declared.refusal.RunRefusal.{RunRefusal}
 use Rattle.sj_run.specs.declared.refusal.RunRefusal.TheVariants as refusals
 use Rattle.sj_tool.specs.LogAt.{LogAt, Spells}
 use Rattle.sj_tool.specs.declared.answers.Answer.{Answer}
-use Rattle.sj_tool.specs.AnswerAt.{AnswerAt, answer_at, Usage, ReadFault, TooLarge, Syntax, Check, LogFault, Misfit, LinkFault, Damaged, Ran, Printed, Made}
+use Rattle.sj_tool.specs.AnswerAt.{AnswerAt, answer_at, Usage, ReadFault, TooLarge, NoTalk, Syntax, Check, LogFault, Misfit, LinkFault, Damaged, Ran, Printed, Made}
 use Rattle.sj_tool.specs.declared.replaying.ReplayFault.{ReplayFault}
 use Rattle.sj_tool.specs.declared.replaying.ReplayFault.TheVariants as faults
 use Rattle.sj_tool.specs.Answers.{AnswersBytes, AnswersFile, AnswersText}
@@ -29,6 +29,7 @@ pub answers_text : (links : LinkUseAt) (task : Task) (log : LogAt) (text : List 
 answers_text links task log text file Usage stands x = absurd x
 answers_text links task log text file ReadFault stands x = absurd x
 answers_text links task log text file TooLarge stands x = absurd x
+answers_text links task log text file NoTalk stands x = absurd x
 answers_text links task log text file (Syntax f) stands x = absurd x
 answers_text links task log text file (Made t) stands x = absurd x
 answers_text links task log text file a stands x = record { file = file; stands = stands; answers = x }
@@ -49,6 +50,7 @@ module _ {E : Type 0} (task : Task) (text : List ℕ) (file : FileAt) (stands : 
 
 pub answers_bytes : (links : LinkUseAt) (task : Task) (bytes text : List ℕ) (log : LogAt) (a : AnswerAt) → HasParts task bytes text log → AnswersText links task log text a → AnswersBytes links task bytes a
 answers_bytes links task bytes text log TooLarge parts x = absurd x.answers
+answers_bytes links task bytes text log NoTalk parts x = absurd x.answers
 answers_bytes links task bytes text log (LogFault r l) parts x = inr (record { text = text; log = log; parts = parts; answers = x })
 answers_bytes links task bytes text log a parts x = record { text = text; log = log; parts = parts; answers = x }
 

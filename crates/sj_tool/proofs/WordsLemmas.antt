@@ -3,9 +3,9 @@ use Rattle.std.proofs.Common.{◌≡◌, ◌⊎◌, ◌≤◌, ◌<◌, ℕ, zer
 use Rattle.std.proofs.lemmas.Bool.{cases_eq}
 use Rattle.std.specs.Prelude.{Bool, codes, decimal}
 use Rattle.sj_command.specs.declared.tasks.Task.{Task}
-use Rattle.sj_command.specs.declared.tasks.Task.TheVariants.{Check, Show, Forest, Sim, Run, Replay, Make, Big}
+use Rattle.sj_command.specs.declared.tasks.Task.TheVariants.{Check, Show, Forest, Sim, Run, Replay, Talk, Make, Big}
 use Rattle.sj_command.specs.CommandLine.{IsTaken}
-use Rattle.sj_command.specs.Task.{Asks, IsCount, IsUsage, LineAt, Means, StandsForLooks, StandsForWorkers, alone, line_in, most_looks, most_messages, most_workers, replaying, running, usual_looks}
+use Rattle.sj_command.specs.Task.{Asks, IsCount, IsUsage, LineAt, Means, StandsForLooks, StandsForWorkers, alone, last_party, line_in, most_looks, most_messages, most_workers, replaying, running, usual_looks}
 use Rattle.sj_tool.proofs.LineLemmas.{made_of, one_list, one_option}
 
 -- the first number below n that has it
@@ -147,6 +147,17 @@ module _ (l : LineAt) where
       by (no a) (yes e) = inl (Replay true, e)
       by (no a) (no b) = inr (none a b)
 
+  -- `talk` with a party's number
+  abbrev Talks : Type 0
+  Talks = (n : ℕ) × Means l (Talk n)
+
+  asked_talk : (last : ℕ) → last_party ≡ last → Asked ⊎ (Talks → ⊥)
+  asked_talk last is =
+      elim (first_or_none (λ n. l ≡ alone (codes "talk") (Some (decimal n))) (λ n. one_line l (alone (codes "talk") (Some (decimal n)))) (suc last)) [
+        | inl f ↦ inl (Talk f.number, (f.has, omega (arith, is, f.below)))
+        | inr none ↦ inr (λ t. none t.0 (omega (arith, is, t.1.1)) t.1.0)
+      ]
+
   -- the line asks for a task, or for none
   pub means_or_none : Asked ⊎ ((t : Task) → Means l t → ⊥)
   means_or_none =
@@ -156,20 +167,22 @@ module _ (l : LineAt) where
       (λ forest. or_others (asked_alone Sim (codes "sim") (λ e. e))
       (λ sim. or_others asked_run
       (λ run. or_others asked_replay
-      (λ replay. or_others (asked_counted (λ n. Make n) (codes "make") (λ n m. m))
+      (λ replay. or_others (asked_talk last_party refl)
+      (λ talk. or_others (asked_counted (λ n. Make n) (codes "make") (λ n m. m))
       (λ make. or_others (asked_counted (λ n. Big n) (codes "big") (λ n m. m))
-      (λ big. inr (none check show forest sim run replay make big)))))))))
+      (λ big. inr (none check show forest sim run replay talk make big))))))))))
     where
-      none : (l ≡ alone (codes "check") None → ⊥) → (l ≡ alone (codes "show") None → ⊥) → (l ≡ alone (codes "forest") None → ⊥) → (l ≡ alone (codes "sim") None → ⊥) → (Runs → ⊥) → (Replays → ⊥)
+      none : (l ≡ alone (codes "check") None → ⊥) → (l ≡ alone (codes "show") None → ⊥) → (l ≡ alone (codes "forest") None → ⊥) → (l ≡ alone (codes "sim") None → ⊥) → (Runs → ⊥) → (Replays → ⊥) → (Talks → ⊥)
           → (((n : ℕ) × Counts (codes "make") n) → ⊥) → (((n : ℕ) × Counts (codes "big") n) → ⊥) → (t : Task) → Means l t → ⊥
-      none check show forest sim run replay make big Check m = check m
-      none check show forest sim run replay make big Show m = show m
-      none check show forest sim run replay make big Forest m = forest m
-      none check show forest sim run replay make big Sim m = sim m
-      none check show forest sim run replay make big (Run log n w) m = run (log, n, w, m)
-      none check show forest sim run replay make big (Replay log) m = replay (log, m)
-      none check show forest sim run replay make big (Make n) m = make (n, m)
-      none check show forest sim run replay make big (Big n) m = big (n, m)
+      none check show forest sim run replay talk make big Check m = check m
+      none check show forest sim run replay talk make big Show m = show m
+      none check show forest sim run replay talk make big Forest m = forest m
+      none check show forest sim run replay talk make big Sim m = sim m
+      none check show forest sim run replay talk make big (Run log n w) m = run (log, n, w, m)
+      none check show forest sim run replay talk make big (Replay log) m = replay (log, m)
+      none check show forest sim run replay talk make big (Talk n) m = talk (n, m)
+      none check show forest sim run replay talk make big (Make n) m = make (n, m)
+      none check show forest sim run replay talk make big (Big n) m = big (n, m)
 
 none_or_some : {X : Type 0} (xs : List X) → Dec (xs ≡ [])
 none_or_some [] = yes refl

@@ -13,5 +13,7 @@ pub mod Runs
 pub mod Shown
 pub mod Sums
 pub mod Table
+pub mod TalkParts
+pub mod Talks
 pub mod Tasks
 pub mod Texts

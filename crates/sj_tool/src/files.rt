@@ -21,6 +21,7 @@ use crate::playing::simulated;
 use crate::replaying::{ReplayFault, replayed};
 use crate::running::ran;
 use crate::showing::shown_text;
+use crate::talking::talked;
 use sj_base::NoMemory;
 use sj_check::{Accepted, CheckRefusal, check};
 use sj_command::Task;
@@ -76,6 +77,28 @@ pub(crate) fn simulated_file(alloc: Global, file: File) -> Result<Answer, NoMemo
         }
         Judged::Fault(rule, line) => Ok(Answer::Check(rule, line)),
     }
+}
+
+/// How a file ends in which these lines play the party of that number, and what is answered to them.
+pub(crate) fn played(
+    alloc: Global,
+    file: File,
+    party: u16,
+    lines: &[u8],
+) -> Result<Answer, NoMemory>
+    requires { IsWithin limits (file_of file) }
+    ensures { IfOk result (λ a. (links : LinkUseAt) → AnswersFile links (tasks.Talk party)
+        (log_at 1 lines.now) (file_of file) (answer_at a)) }
+{
+    let accepted = match judge(alloc, file)? {
+        Judged::Accepted(accepted) => accepted,
+        Judged::Fault(rule, line) => return Ok(Answer::Check(rule, line)),
+    };
+    if party as usize >= accepted.file().parties.len() {
+        return Ok(Answer::NoParty(party));
+    }
+    let (verdict, text) = talked(alloc, accepted, party, lines)?;
+    Ok(Answer::Ran(verdict, text))
 }
 
 /// How a file ends that its parties run over those links, and what the task prints of that.

@@ -15,6 +15,7 @@ mod replaying;
 mod running;
 mod showing;
 mod summing;
+mod talking;
 mod top;
 
 pub use laws::{the_table_gives_one_answer, the_table_has_an_answer};

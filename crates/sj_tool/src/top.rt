@@ -9,6 +9,7 @@ ghost use Rattle.sj_tool.specs.Answers.{AnswersOne, Comes, OrYields, WroteFront}
 ghost use Rattle.sj_tool.specs.Calls.{call, link_use};
 ghost use Rattle.sj_tool.specs.Completeness.{CompletesSo, IsValid};
 ghost use Rattle.sj_tool.specs.Headline.{HasHeadline, IsPlaying, IsVerdict, ReadsNoForest};
+ghost use Rattle.sj_tool.specs.LogAt.{LogAt};
 ghost use Rattle.sj_tool.specs.Tasks.{AsksFor};
 ghost use Rattle.sj_tool.specs.Table.{AnswersAs, NoFaultAbove};
 ghost use Rattle.sj_semantics.specs.declared.Verdict.TheVariants.{Blocked};
@@ -74,10 +75,10 @@ pub fn sj<R: Threads + Sync, S: Source, K: Sink, L: Links, G: Gate>(
         (link_use L.tells L.faults L.sent L.got L.vain_out L.vain_in links.old links.new)) }
 
     // Of an input that is valid for the task the answer is what the task tells of it.
-    ensures complete { (task : AnyTask) → (file : FileAt)
+    ensures complete { (task : AnyTask) → (file : FileAt) → (log : LogAt)
         → IsValid (call S.left S.faults words.now src.old src.new
-        (link_use L.tells L.faults L.sent L.got L.vain_out L.vain_in links.old links.new)) task file
-        → OrYields result (CompletesSo task file result (K.written out.old) (K.written out.new)) }
+        (link_use L.tells L.faults L.sent L.got L.vain_out L.vain_in links.old links.new)) task file log
+        → OrYields result (CompletesSo task file log result (K.written out.old) (K.written out.new)) }
 
     // A read fault, a link fault and a write fault come only where a fault was counted, and damage only
     // over links that don't tell.
