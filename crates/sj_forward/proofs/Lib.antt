@@ -1,0 +1,12 @@
+pub mod SlotLemmas
+pub mod EndsLemmas
+pub mod DeskLemmas
+pub mod LawLemmas
+pub mod StartLemmas
+pub mod CourseLemmas
+pub mod EventLemmas
+pub mod CountLemmas
+pub mod DrainLemmas
+pub mod FrontLemmas
+pub mod RoundLemmas
+pub mod BreakLemmas

@@ -20,8 +20,8 @@ abbrev pub slot_held : Slot → Option HeldAt
 slot_held s = option_and_then (λ h. held_at h (record_in s h)) s.used
 
 -- it is used so from now on, and the record of that hop is this
-pub record Becomes (old : Slot) (use : Option ℕ) (hop : ℕ) (r : RecordAt) (new : Slot) : Type 0 where
-  pub used : new.used ≡ use
+pub record Becomes (old : Slot) (at : Option ℕ) (hop : ℕ) (r : RecordAt) (new : Slot) : Type 0 where
+  pub used : new.used ≡ at
   pub records : (k : ℕ) → record_in new k ≡ (if k == hop then Some r else record_in old k)
 
 -- nothing that contracts see has changed
@@ -103,9 +103,9 @@ pub record HasPlace (rows : Rows) (e : EndId) (hop : ℕ) : Type 0 where
   pub within : hop < vec_len slot.records
 
 -- the end is used so from now on, and its record of that hop is this
-pub record Writes (old : Rows) (e : EndId) (use : Option ℕ) (hop : ℕ) (r : RecordAt) (new : Rows) : Type 0 where
-  pub uses : uses_in new ≡ λ d. if is_same_end d e then use else uses_in old d
-  pub records : records_in new ≡ λ d k. if is_same_end d e && (k == hop) then Some r else records_in old d k
+pub record Writes (old : Rows) (e : EndId) (at : Option ℕ) (hop : ℕ) (r : RecordAt) (new : Rows) : Type 0 where
+  pub uses : uses_in new ≡ (λ d. if is_same_end d e then at else uses_in old d)
+  pub records : records_in new ≡ (λ d k. if is_same_end d e && (k == hop) then Some r else records_in old d k)
 
 pub record TakesFrom (old : Rows) (e : EndId) (h : HeldAt) (m : SentAt) (new : Rows) : Type 0 where
   pub rest : List SentAt

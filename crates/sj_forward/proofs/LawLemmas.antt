@@ -1,0 +1,57 @@
+-- What the laws of forwarding runs say of a world to which turns lead.
+use Rattle.std.proofs.Common.{◌≡◌, ℕ, ◌<◌, ◌^◌, ◌++◌, List, [], ◌∷◌, length, slice_get, unwrap_or, true, false, Some, None, refl, ap, sym, ◌∙◌, subst}
+use Rattle.sj_lang.specs.FileAt.{FileAt}
+use Rattle.sj_acceptance.specs.Accepted.{IsAccepted}
+use Rattle.sj_lang.specs.Place.{Place}
+use Rattle.sj_semantics.specs.Program.{Program}
+use Rattle.sj_semantics.specs.Run.{IsRun, end_of}
+use Rattle.sj_semantics.specs.World.{World}
+use Rattle.sj_rules.specs.Events.{acts_in}
+use Rattle.sj_rules.specs.Party.{nobody, play_of}
+use Rattle.sj_rules.specs.Play.{Play}
+use Rattle.sj_rules.specs.World.{Turn}
+use Rattle.sj_forward_rules.specs.Acts.{acts}
+use Rattle.sj_forward_rules.specs.Arrivals.{comes}
+use Rattle.sj_forward_rules.specs.Drain.{IsDrained}
+use Rattle.sj_forward_rules.specs.Node.{Worked}
+use Rattle.sj_forward_rules.specs.Ready.{is_ready, state_at}
+use Rattle.sj_forward_rules.specs.Record.{FrameAt}
+use Rattle.sj_forward_rules.specs.Start.{IsForwardRun}
+use Rattle.sj_forward_rules.specs.World.{IsQuietAmong, WorldAt}
+
+module _ (file : FileAt) (accepted : IsAccepted file) (turns : List Turn) (w : WorldAt Program) (run : IsForwardRun file turns w) where
+  -- the acts are a plain run
+  pub plain_run : (v : World) × IsRun file (acts_in turns) v
+  plain_run = ?
+
+  -- after which the programs are the same
+  pub same_programs : (v : World) → IsRun file (acts_in turns) v → (p : ℕ) → (w.nodes p).program ≡ unwrap_or (slice_get v.parties p) nobody
+  same_programs v plain p = ?
+
+  -- a party acts exactly where it is ready
+  pub ready_acts : (p : ℕ) → is_ready (state_at (play_of file) (w.nodes p)) ≡ true → (done : Worked Program) × (acts (play_of file) p (w.nodes p) ≡ Some done)
+  ready_acts p ready = ?
+
+  pub unready_rests : (p : ℕ) → is_ready (state_at (play_of file) (w.nodes p)) ≡ false → acts (play_of file) p (w.nodes p) ≡ None
+  unready_rests p unready = ?
+
+  -- the front frame of a lane fits
+  pub front_fits : (p q : ℕ) (f : FrameAt) (rest : List FrameAt) → w.lanes q p ≡ f ∷ rest → (done : Worked Program) × (comes (w.nodes p) q f ≡ Some done)
+  front_fits p q f rest front = ?
+
+  -- the turns are few
+  pub few_turns : length turns < 2 ^ 63
+  few_turns = ?
+
+  -- there is a drain
+  pub a_drain : (more : List Turn) × (last : WorldAt Program) × IsDrained (play_of file) (length file.parties) w more last
+  a_drain = ?
+
+  -- which leaves nothing to do, at the end of the file
+  pub drain_ends : (more : List Turn) (last : WorldAt Program) → IsDrained (play_of file) (length file.parties) w more last
+      → IsQuietAmong (play_of file) (length file.parties) last × IsRun file (acts_in (turns ++ more)) (end_of file)
+  drain_ends more last drained = ?
+
+-- a drain leaves nothing to do
+pub drained_quiet : (play : Play Place Program) (n : ℕ) (w v : WorldAt Program) (ts : List Turn) → IsDrained play n w ts v → IsQuietAmong play n v
+drained_quiet play n w v ts drained = ?

@@ -1,0 +1,156 @@
+-- Records in the slot of an end, and what is written there.
+use Rattle.std.proofs.Common.{◌≡◌, ◌≢◌, ℕ, ◌<◌, ◌≤◌, ◌==◌, Bool, true, false, eqb, if◌then◌else◌, List, [], ◌∷◌, ◌++◌, length, get_or, map, Option, Some, None, option_map, option_and_then, refl, ap, sym, ◌∙◌, subst, arith, inl, inr}
+use Rattle.std.specs.Prelude.{IsSome}
+use Rattle.std.proofs.Math.ListN.{set}
+use Rattle.std.proofs.lemmas.Bool.{cases_eq, cases_lt}
+use Rattle.std.proofs.lemmas.Bool.Decides.{nat_tests}
+use Rattle.std.proofs.lemmas.List.{get_or-set_same, get_or-set_other, get_or_default, get_or_past}
+use Rattle.std.specs.declared.alloc.Global.{Global}
+use Rattle.std.specs.declared.collections.VecDeque.{VecDeque}
+use Rattle.sj_forward.specs.declared.frame.Sent.{Sent}
+use Rattle.sj_forward.specs.declared.slot.Record.{Record}
+use Rattle.sj_forward.specs.declared.slot.Slot.{Slot}
+use Rattle.sj_forward.specs.declared.slot.Stand.TheVariants as stands
+use Rattle.sj_forward.specs.Ends.{Becomes, LeavesFirst, SlotStays, TakesFirst, record_in, slot_held}
+use Rattle.sj_forward.specs.Views.{record_at, sent_at}
+use Rattle.sj_forward_rules.specs.Node.{HeldAt, held_at, held_in}
+use Rattle.sj_forward_rules.specs.Record.{SentAt, StateAt, Held, Parked, Passing, Closed, RecordAt}
+
+pub some_same : {X : Type 0} (x y : X) → ◌≡◌ {A = Option X} (Some x) (Some y) → x ≡ y
+some_same x y h = cc h
+
+pub one_same : (n : ℕ) → eqb n n ≡ true
+one_same n = grind (arith, nat_tests)
+
+pub one_other : (n m : ℕ) → n ≢ m → eqb n m ≡ false
+one_other n m ne = grind (arith, nat_tests)
+
+-- ---- a Held record
+
+record IsHeldSo (k behind : ℕ) (st : StateAt) (h : HeldAt) : Type 0 where
+  hop : h.hop ≡ k
+  behind_is : h.behind ≡ behind
+  state : st ≡ Held h.untaken
+
+held_so : (k behind : ℕ) (st : StateAt) (h : HeldAt) → held_in k behind st ≡ Some h → IsHeldSo k behind st h
+held_so k behind (Held ms) h e =
+    let same : record { hop = k; behind = behind; untaken = ms } ≡ h = some_same (record { hop = k; behind = behind; untaken = ms }) h e in
+    record {
+      hop = ap (λ (x : HeldAt). x.hop) (sym same);
+      behind_is = ap (λ (x : HeldAt). x.behind) (sym same);
+      state = ap (λ (x : HeldAt). Held x.untaken) same;
+    }
+held_so k behind (Parked ms) h e = absurd (cc e)
+held_so k behind (Passing p) h e = absurd (cc e)
+held_so k behind Closed h e = absurd (cc e)
+
+-- what is Held stands there so
+pub held_is : (k : ℕ) (o : Option RecordAt) (h : HeldAt) → held_at k o ≡ Some h → (h.hop ≡ k) × (o ≡ Some (record { behind = h.behind; state = Held h.untaken }))
+held_is k None h e = absurd (cc e)
+held_is k (Some r) h e =
+    let so = held_so k r.behind r.state h e in
+    (so.hop, λ i. Some (record { behind = sym so.behind_is i; state = so.state i }))
+
+-- whatever the hop number
+pub held_any : (k j : ℕ) (o : Option RecordAt) → IsSome (held_at k o) → IsSome (held_at j o)
+held_any k j None h = h
+held_any k j (Some r) h = by r.state h
+  where
+    by : (st : StateAt) → IsSome (held_in k r.behind st) → IsSome (held_in j r.behind st)
+    by (Held ms) h = tt
+    by (Parked ms) h = h
+    by (Passing p) h = h
+    by Closed h = h
+
+-- ---- one record of a slot
+
+pub some_of : {X : Type 0} (o : Option X) → IsSome o → (x : X) × (o ≡ Some x)
+some_of None h = absurd h
+some_of (Some x) h = (x, refl)
+
+-- where a record is there is its place
+pub place_there : (xs : List (Option Record)) (h : ℕ) (r : RecordAt) → option_map record_at (get_or xs h None) ≡ Some r → h < length xs
+place_there xs h r is =
+    elim (cases_lt h (length xs)) [
+      | inl lt ↦ lt
+      | inr le ↦ absurd (let none : option_map record_at (get_or xs h None) ≡ None = ap (option_map record_at) (get_or_past xs h None le) in cc (is, none))
+    ]
+
+-- what is read there
+pub record_read : (xs : List (Option Record)) (h : ℕ) (x : Option Record) → h < length xs → x ≡ get_or xs h x → option_map record_at (get_or xs h None) ≡ option_map record_at x
+record_read xs h x lt is = ap (option_map record_at) (sym (is ∙ get_or_default xs h x None lt))
+
+-- what is there once another was written
+pub record_set : (xs : List (Option Record)) (h k : ℕ) (x : Option Record) → h < length xs
+    → option_map record_at (get_or (set xs h x) k None) ≡ (if k == h then option_map record_at x else option_map record_at (get_or xs k None))
+record_set xs h k x lt =
+    elim (cases_eq k h) [
+      | inl same ↦ rw (same, one_same h) (ap (option_map record_at) (get_or-set_same xs h x None lt))
+      | inr other ↦ rw (one_other k h other) (ap (option_map record_at) (get_or-set_other xs h k x None other))
+    ]
+
+-- a record is written
+pub becomes : (old new : Slot) (at : Option ℕ) (h : ℕ) (x : Option Record) (r : RecordAt) → h < length old.records.items → new.records.items ≡ set old.records.items h x
+    → option_map record_at x ≡ Some r → new.used ≡ at → Becomes old at h r new
+becomes old new at h x r lt items is used = record {
+  used = used;
+  records = λ k.
+      ap (λ (xs : List (Option Record)). option_map record_at (get_or xs k None)) items ∙ record_set old.records.items h k x lt
+      ∙ ap (λ o. if k == h then o else record_in old k) is;
+}
+
+-- it is seen as before
+pub stays_so : (old new : Slot) (h : ℕ) (x : Option Record) → h < length old.records.items → new.records.items ≡ set old.records.items h x
+    → option_map record_at x ≡ record_in old h → new.used ≡ old.used → SlotStays old new
+stays_so old new h x lt items is used = record {
+  used = used;
+  records = λ k.
+      ap (λ (xs : List (Option Record)). option_map record_at (get_or xs k None)) items ∙ record_set old.records.items h k x lt
+      ∙ elim (cases_eq k h) [
+        | inl same ↦ rw (same, one_same h) is
+        | inr other ↦ rw (one_other k h other) refl
+      ];
+}
+
+-- one place more, with nothing in it
+pub place_more : (xs : List (Option Record)) (k : ℕ) → option_map record_at (get_or (xs ++ None ∷ []) k None) ≡ option_map record_at (get_or xs k None)
+place_more xs k = ap (option_map record_at) (none_last xs k)
+  where
+    none_last : (xs : List (Option Record)) (n : ℕ) → get_or (xs ++ None ∷ []) n None ≡ get_or xs n None
+    none_last [] n = by n
+      where
+        by : (n : ℕ) → ◌≡◌ {A = Option Record} (get_or (None ∷ []) n None) (get_or [] n None)
+        by n = elim n as (λ n. ◌≡◌ {A = Option Record} (get_or (None ∷ []) n None) (get_or [] n None)) [ zero ↦ refl | suc m ↦ refl ]
+    none_last (y ∷ ys) n = elim n as (λ n. get_or ((y ∷ ys) ++ None ∷ []) n None ≡ get_or (y ∷ ys) n None) [ zero ↦ refl | suc m ↦ none_last ys m ]
+
+-- the first message leaves
+pub leaves : (place : Option Record) (behind : ℕ) (old new : VecDeque Sent Global) (s : Sent) (hop : ℕ) (h : HeldAt) → place ≡ Some (record { behind = behind; stand = stands.Held old })
+    → old.items ≡ s ∷ new.items → held_at hop (option_map record_at place) ≡ Some h → LeavesFirst h (sent_at s) (Some (record_at (record { behind = behind; stand = stands.Held new })))
+leaves place behind old new s hop h is items held =
+    let same : record { hop = hop; behind = behind; untaken = map sent_at old.items } ≡ h =
+    some_same (record { hop = hop; behind = behind; untaken = map sent_at old.items }) h (ap (λ (o : Option Record). held_at hop (option_map record_at o)) (sym is) ∙ held) in
+    record {
+      rest = map sent_at new.items;
+      untaken = ap (λ (x : HeldAt). x.untaken) (sym same) ∙ ap (map sent_at) items;
+      is = ap (λ (x : HeldAt). Some (record { behind = x.behind; state = Held (map sent_at new.items) })) same;
+    }
+
+-- ---- the record in use
+
+-- the hop number at which it is
+pub record UsedAt (s : Slot) (hop : ℕ) : Type 0 where
+  pub within : hop < length s.records.items
+  pub some : (j : ℕ) → IsSome (held_at j (record_in s hop))
+  pub held : (h : HeldAt) → slot_held s ≡ Some h → (h.hop ≡ hop) × (held_at hop (record_in s hop) ≡ Some h)
+
+pub used_at : (s : Slot) (hop : ℕ) → s.used ≡ Some hop → IsSome (slot_held s) → UsedAt s hop
+used_at s hop used some =
+    let same : slot_held s ≡ held_at hop (record_in s hop) = ap (option_and_then (λ h. held_at h (record_in s h))) used in
+    let here : IsSome (held_at hop (record_in s hop)) = subst IsSome same some in
+    let it = some_of (held_at hop (record_in s hop)) here in
+    let is = held_is hop (record_in s hop) it.0 it.1 in
+    record {
+      within = place_there s.records.items hop (record { behind = it.0.behind; state = Held it.0.untaken }) is.1;
+      some = λ j. held_any hop j (record_in s hop) here;
+      held = λ h e. let own = sym same ∙ e in ((held_is hop (record_in s hop) h own).0, own);
+    }
