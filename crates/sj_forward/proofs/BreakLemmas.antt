@@ -24,7 +24,7 @@ module _ (file : FileAt) where
   -- a frame came from the lane
   took_rest : (p q : ℕ) (w mid v : WorldAt Program) (t : Turn) (ts : List Turn) → t ≡ turn p (rules.Deliver q) → happens (play_of file) w p (rules.Deliver q) ≡ Some mid
       → drain.Empties (play_of file) p q w ts v → (rest : List Turn) × ((ts ≡ t ∷ rest) × drain.Empties (play_of file) p q mid rest v)
-  took_rest p q w mid v t [] is h r = let clash : None ≡ Some mid = sym (ap (delivery_of (play_of file) w p q) r.0) ∙ h in absurd (cc clash)
+  took_rest p q w mid v t [] is h r = let clash : None ≡ Some mid = sym (ap (delivery_of w p q) r.0) ∙ h in absurd (cc clash)
   took_rest p q w mid v t (s ∷ ts) is h r =
       (ts, (ap (λ x. x ∷ ts) (r.0 ∙ sym is), subst (λ (x : WorldAt Program). drain.Empties (play_of file) p q x ts v) (some_same r.1.0 mid (sym r.1.1.0 ∙ h)) r.1.1.1))
 

@@ -48,7 +48,8 @@ slot_used rows e some = by (slot_in rows e) refl
     by (Some s) is = (s, is)
     by None is =
         let none : held_in rows e ≡ None = ap (option_and_then (λ h. held_at h (records_in rows e h))) (ap (option_and_then (λ (s : Slot). s.used)) is) in
-        absurd (subst IsSome none some)
+        let bad = subst IsSome none some in
+        absurd (cc bad)
 
 pub slot_recorded : (rows : Rows) (e : EndId) (h : ℕ) (r : RecordAt) → records_in rows e h ≡ Some r → (s : Slot) × (slot_in rows e ≡ Some s)
 slot_recorded rows e h r there = by (slot_in rows e) refl

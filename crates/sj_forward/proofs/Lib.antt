@@ -1,5 +1,6 @@
 pub mod SlotLemmas
 pub mod EndsLemmas
+pub mod LaneLemmas
 pub mod DeskLemmas
 pub mod LawLemmas
 pub mod StartLemmas

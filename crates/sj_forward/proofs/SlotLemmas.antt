@@ -1,5 +1,5 @@
 -- Records in the slot of an end, and what is written there.
-use Rattle.std.proofs.Common.{◌≡◌, ◌≢◌, ℕ, ◌<◌, ◌≤◌, ◌==◌, Bool, true, false, eqb, if◌then◌else◌, List, [], ◌∷◌, ◌++◌, length, get_or, map, Option, Some, None, option_map, option_and_then, refl, ap, sym, ◌∙◌, subst, arith, inl, inr}
+use Rattle.std.proofs.Common.{◌≡◌, ◌≢◌, ℕ, zero, suc, ◌<◌, ◌≤◌, ◌==◌, Bool, true, false, eqb, if◌then◌else◌, List, [], ◌∷◌, ◌++◌, length, get_or, map, Option, Some, None, option_map, option_and_then, refl, ap, sym, ◌∙◌, subst, arith, inl, inr}
 use Rattle.std.specs.Prelude.{IsSome}
 use Rattle.std.proofs.Math.ListN.{set}
 use Rattle.std.proofs.lemmas.Bool.{cases_eq, cases_lt}
@@ -8,11 +8,14 @@ use Rattle.std.proofs.lemmas.List.{get_or-set_same, get_or-set_other, get_or_def
 use Rattle.std.specs.declared.alloc.Global.{Global}
 use Rattle.std.specs.declared.collections.VecDeque.{VecDeque}
 use Rattle.sj_forward.specs.declared.frame.Sent.{Sent}
+use Rattle.sj_forward.specs.declared.slot.Kind.{Kind}
 use Rattle.sj_forward.specs.declared.slot.Record.{Record}
+use Rattle.sj_forward.specs.declared.slot.Seen.{Seen}
 use Rattle.sj_forward.specs.declared.slot.Slot.{Slot}
+use Rattle.sj_forward.specs.declared.slot.Stand.{Stand}
 use Rattle.sj_forward.specs.declared.slot.Stand.TheVariants as stands
 use Rattle.sj_forward.specs.Ends.{Becomes, LeavesFirst, SlotStays, TakesFirst, record_in, slot_held}
-use Rattle.sj_forward.specs.Views.{record_at, sent_at}
+use Rattle.sj_forward.specs.Views.{record_at, seen_of, sent_at, stand_at}
 use Rattle.sj_forward_rules.specs.Node.{HeldAt, held_at, held_in}
 use Rattle.sj_forward_rules.specs.Record.{SentAt, StateAt, Held, Parked, Passing, Closed, RecordAt}
 
@@ -53,19 +56,19 @@ held_is k (Some r) h e =
 
 -- whatever the hop number
 pub held_any : (k j : ℕ) (o : Option RecordAt) → IsSome (held_at k o) → IsSome (held_at j o)
-held_any k j None h = h
+held_any k j None h = absurd (cc h)
 held_any k j (Some r) h = by r.state h
   where
     by : (st : StateAt) → IsSome (held_in k r.behind st) → IsSome (held_in j r.behind st)
-    by (Held ms) h = tt
-    by (Parked ms) h = h
-    by (Passing p) h = h
-    by Closed h = h
+    by (Held ms) h = refl
+    by (Parked ms) h = absurd (cc h)
+    by (Passing p) h = absurd (cc h)
+    by Closed h = absurd (cc h)
 
 -- ---- one record of a slot
 
 pub some_of : {X : Type 0} (o : Option X) → IsSome o → (x : X) × (o ≡ Some x)
-some_of None h = absurd h
+some_of None h = absurd (cc h)
 some_of (Some x) h = (x, refl)
 
 -- where a record is there is its place
@@ -112,23 +115,22 @@ stays_so old new h x lt items is used = record {
       ];
 }
 
+none_last : (xs : List (Option Record)) (n : ℕ) → get_or (xs ++ None ∷ []) n None ≡ get_or xs n None
+none_last [] zero = refl
+none_last [] (suc n) = refl
+none_last (y ∷ ys) zero = refl
+none_last (y ∷ ys) (suc n) = none_last ys n
+
 -- one place more, with nothing in it
 pub place_more : (xs : List (Option Record)) (k : ℕ) → option_map record_at (get_or (xs ++ None ∷ []) k None) ≡ option_map record_at (get_or xs k None)
 place_more xs k = ap (option_map record_at) (none_last xs k)
-  where
-    none_last : (xs : List (Option Record)) (n : ℕ) → get_or (xs ++ None ∷ []) n None ≡ get_or xs n None
-    none_last [] n = by n
-      where
-        by : (n : ℕ) → ◌≡◌ {A = Option Record} (get_or (None ∷ []) n None) (get_or [] n None)
-        by n = elim n as (λ n. ◌≡◌ {A = Option Record} (get_or (None ∷ []) n None) (get_or [] n None)) [ zero ↦ refl | suc m ↦ refl ]
-    none_last (y ∷ ys) n = elim n as (λ n. get_or ((y ∷ ys) ++ None ∷ []) n None ≡ get_or (y ∷ ys) n None) [ zero ↦ refl | suc m ↦ none_last ys m ]
 
 -- the first message leaves
-pub leaves : (place : Option Record) (behind : ℕ) (old new : VecDeque Sent Global) (s : Sent) (hop : ℕ) (h : HeldAt) → place ≡ Some (record { behind = behind; stand = stands.Held old })
-    → old.items ≡ s ∷ new.items → held_at hop (option_map record_at place) ≡ Some h → LeavesFirst h (sent_at s) (Some (record_at (record { behind = behind; stand = stands.Held new })))
-leaves place behind old new s hop h is items held =
+pub leaves : (stand : Stand) (old new : VecDeque Sent Global) (s : Sent) (hop behind : ℕ) (h : HeldAt) → stand ≡ stands.Held old → old.items ≡ s ∷ new.items
+    → held_in hop behind (stand_at stand) ≡ Some h → LeavesFirst h (sent_at s) (Some (record { behind = behind; state = Held (map sent_at new.items) }))
+leaves stand old new s hop behind h is items held =
     let same : record { hop = hop; behind = behind; untaken = map sent_at old.items } ≡ h =
-    some_same (record { hop = hop; behind = behind; untaken = map sent_at old.items }) h (ap (λ (o : Option Record). held_at hop (option_map record_at o)) (sym is) ∙ held) in
+    some_same (record { hop = hop; behind = behind; untaken = map sent_at old.items }) h (ap (λ (x : Stand). held_in hop behind (stand_at x)) (sym is) ∙ held) in
     record {
       rest = map sent_at new.items;
       untaken = ap (λ (x : HeldAt). x.untaken) (sym same) ∙ ap (map sent_at) items;
@@ -154,3 +156,25 @@ used_at s hop used some =
       some = λ j. held_any hop j (record_in s hop) here;
       held = λ h e. let own = sym same ∙ e in ((held_is hop (record_in s hop) h own).0, own);
     }
+
+-- the next message is taken
+pub takes_so : (s new : Slot) (hop : ℕ) (x left : Option Record) (h : HeldAt) (m : SentAt) → s.used ≡ Some hop → x ≡ get_or s.records.items hop x → slot_held s ≡ Some h
+    → ((k : ℕ) (g : HeldAt) → held_at k (option_map record_at x) ≡ Some g → LeavesFirst g m (option_map record_at left))
+    → new.used ≡ s.used → new.records.items ≡ set s.records.items hop left → TakesFirst s h m new
+takes_so s new hop x left h m used read held takes same items =
+    let u = used_at s hop used (subst IsSome (sym held) refl) in
+    let at = u.held h held in
+    let l = takes hop h (ap (held_at hop) (sym (record_read s.records.items hop x u.within read)) ∙ at.1) in
+    record {
+      rest = l.rest;
+      untaken = l.untaken;
+      becomes = subst (λ (k : ℕ). Becomes s s.used k (record { behind = h.behind; state = Held l.rest }) new) (sym at.0)
+          (becomes s new s.used hop left (record { behind = h.behind; state = Held l.rest }) u.within items l.is same);
+    }
+
+-- what is told of a record
+pub seen_so : (s : Slot) (hop : ℕ) (x : Option Record) (r : Record) (kind : Kind) → hop < length s.records.items → x ≡ get_or s.records.items hop x → x ≡ Some r
+    → ((behind : ℕ) → seen_of (record_at (record { behind = behind; stand = r.stand })) ≡ record { behind = behind; kind = kind })
+    → ◌≡◌ {A = Option Seen} (Some (record { behind = r.behind; kind = kind })) (option_map seen_of (record_in s hop))
+seen_so s hop x r kind lt read is told =
+    sym (ap (option_map seen_of) (record_read s.records.items hop x lt read ∙ ap (option_map record_at) is) ∙ ap (λ (k : Seen). Some k) (told r.behind))

@@ -12,9 +12,11 @@ mod frame;
 mod lanes;
 mod limits;
 mod offering;
+mod probe;
 mod refusal;
 mod slot;
 mod starting;
 
 pub use forward::ForwardWorld;
+pub use probe::probes;
 pub use refusal::{Turn, TurnRefusal};

@@ -1,8 +1,8 @@
 //! What a party keeps of one end.
 ghost use Rattle.std.specs.Prelude.{◌≡◌, ◌<◌, ◌^◌, ℕ, [], Some, None, IfSome, OnErr, OnOk, IsSome, map, option_map, true, vec_len};
 ghost use Rattle.sj_forward.specs.Ends.{Becomes, LeavesFirst, SlotStays, TakesFirst, has_waiting, is_storing, more_stored, record_in, slot_held};
-ghost use Rattle.sj_forward.specs.Views.{record_at, seen_of, sent_at, use_of};
-ghost use Rattle.sj_forward_rules.specs.Node.{HeldAt, held_at};
+ghost use Rattle.sj_forward.specs.Views.{record_at, seen_of, sent_at, stand_at, use_of};
+ghost use Rattle.sj_forward_rules.specs.Node.{HeldAt, held_at, held_in};
 ghost use Rattle.sj_forward_rules.specs.Ready.{has_message};
 ghost use Rattle.sj_forward_rules.specs.Record as rules;
 
@@ -126,14 +126,24 @@ fn take_from_record(place: &mut Option<Record>) -> Sent
         LeavesFirst h (sent_at result) (option_map record_at place.new) }
 {
     match place {
-        Some(Record {
-            stand: Stand::Held(untaken),
-            ..
-        }) => match untaken.pop_front() {
+        Some(record) => take_from_stand(&mut record.stand),
+        None => unreachable!(),
+    }
+}
+
+fn take_from_stand(stand: &mut Stand) -> Sent
+    requires { has_message (held_in 0 0 (stand_at stand.old)) ≡ true }
+    ensures { (hop behind : ℕ) (h : HeldAt) → held_in hop behind (stand_at stand.old) ≡ Some h →
+        LeavesFirst h (sent_at result) (Some (record { behind = behind; state = stand_at stand.new })) }
+{
+    match stand {
+        Stand::Held(untaken) => match untaken.pop_front() {
             Some(sent) => sent,
             None => unreachable!(),
         },
-        _ => unreachable!(),
+        Stand::Parked(_) => unreachable!(),
+        Stand::Passing(_) => unreachable!(),
+        Stand::Closed => unreachable!(),
     }
 }
 
