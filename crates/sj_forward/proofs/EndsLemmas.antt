@@ -5,14 +5,18 @@ use Rattle.std.proofs.Math.ListN.{set}
 use Rattle.std.proofs.lemmas.Bool.{cases_eq, cases_lt}
 use Rattle.std.proofs.lemmas.Option.{slice_get_past, slice_get_read, slice_get_within}
 use Rattle.std.specs.declared.alloc.Global.{Global}
+use Rattle.std.specs.Vec.{with_item}
 use Rattle.sj_base.specs.declared.EndId.{EndId}
 use Rattle.sj_rules.specs.Record.{is_same_end}
 use Rattle.sj_world_laws.proofs.LinkLemmas.{same_is}
+use Rattle.sj_forward.specs.declared.slot.Record.{Record}
 use Rattle.sj_forward.specs.declared.slot.Slot.{Slot}
-use Rattle.sj_forward.specs.Ends.{Becomes, EndsStay, HasPlace, Rows, SideStays, SlotStays, Writes, held_in, record_in, records_in, slot_held, slot_in, uses_in}
+use Rattle.sj_forward.specs.Views.{record_at}
+use Rattle.sj_forward.specs.Ends.{Becomes, EndsStay, HasPlace, Rows, SideStays, SlotStays, TakesFirst, TakesFrom, Writes, has_waiting, held_in, is_storing, record_in, records_in, slot_held, slot_in, uses_in}
 use Rattle.sj_forward.proofs.SlotLemmas.{one_other, one_same, some_of, some_same}
 use Rattle.sj_forward_rules.specs.Node.{HeldAt, held_at}
-use Rattle.sj_forward_rules.specs.Record.{RecordAt}
+use Rattle.sj_forward_rules.specs.Ready.{has_message}
+use Rattle.sj_forward_rules.specs.Record.{Held, RecordAt, SentAt}
 
 pub set_here : {X : Type 0} (xs : List X) (n : ℕ) (x : X) → n < length xs → slice_get (set xs n x) n ≡ Some x
 set_here [] n x lt = absurd (omega arith)
@@ -143,3 +147,139 @@ module _ (rows : Rows) (e : EndId) (row more : Vec Slot Global) (s new : Slot) (
   slot_now =
       ap (option_and_then (λ (r : Vec Slot Global). slice_get r.items e.side)) (set_here rows e.sess more (slice_get_within rows e.sess row there))
       ∙ ap (λ (xs : List Slot). slice_get xs e.side) items ∙ set_here row.items e.side new (slice_get_within row.items e.side s here)
+
+-- ---- a slot that was read by its numbers
+
+pub record SlotAt (rows : Rows) (e : EndId) (row : Vec Slot Global) (s : Slot) : Type 0 where
+  pub is : slot_in rows e ≡ Some s
+  pub written : (new : Slot) (at : Option ℕ) (hop : ℕ) (r : RecordAt) → Becomes s at hop r new → Writes rows e at hop r (set rows e.sess (with_item row e.side new))
+  pub stays : (new : Slot) → SlotStays s new → EndsStay rows (set rows e.sess (with_item row e.side new))
+  pub now : (new : Slot) → slot_in (set rows e.sess (with_item row e.side new)) e ≡ Some new
+
+pub slot_read : (rows : Rows) (e : EndId) (row : Vec Slot Global) (s some : Slot) → slot_in rows e ≡ Some some → row ≡ get_or rows e.sess row → s ≡ get_or row.items e.side s → SlotAt rows e row s
+slot_read rows e row s some found row_is slot_is =
+    let f = slot_found rows e some found in
+    let there : slice_get rows e.sess ≡ Some row = slice_get_read rows (length rows) e.sess row refl (slice_get_within rows e.sess f.row f.there) row_is in
+    let same : f.row ≡ row = some_same f.row row (sym f.there ∙ there) in
+    let own : slice_get row.items e.side ≡ Some some = ap (λ (r : Vec Slot Global). slice_get r.items e.side) (sym same) ∙ f.here in
+    let here : slice_get row.items e.side ≡ Some s = slice_get_read row.items (length row.items) e.side s refl (slice_get_within row.items e.side some own) slot_is in
+    record {
+      is = ap (option_and_then (λ (r : Vec Slot Global). slice_get r.items e.side)) there ∙ here;
+      written = λ new at hop r b. wrote rows e row (with_item row e.side new) s new there here refl at hop r b;
+      stays = λ new kept. stayed rows e row (with_item row e.side new) s new there here refl kept;
+      now = λ new. slot_now rows e row (with_item row e.side new) s new there here refl;
+    }
+
+-- what the Held end of the rows is in the slot, and a record
+pub held_of_slot : (rows : Rows) (e : EndId) (s : Slot) (h : HeldAt) → slot_in rows e ≡ Some s → held_in rows e ≡ Some h → slot_held s ≡ Some h
+held_of_slot rows e s h is held = sym (held_there rows e s is) ∙ held
+
+-- ---- memory for a slot
+
+pub ends_both : (old mid new : Rows) → EndsStay old mid → EndsStay mid new → EndsStay old new
+ends_both old mid new a b = record { uses = b.uses ∙ a.uses; records = b.records ∙ a.records }
+
+pub ends_self : (rows : Rows) → EndsStay rows rows
+ends_self rows = record { uses = refl; records = refl }
+
+-- a slot that has nothing is put behind those of a row
+pub side_more : (xs : List Slot) (s : Slot) (k : ℕ) → s.used ≡ None → s.records.items ≡ [] → SideStays (slice_get xs k) (slice_get (xs ++ s ∷ []) k)
+side_more [] s zero used none = (used, λ h. ap (λ (rs : List (Option Record)). option_map record_at (get_or rs h None)) none)
+side_more [] s (suc k) used none = (refl, λ h. refl)
+side_more (x ∷ xs) s zero used none = (refl, λ h. refl)
+side_more (x ∷ xs) s (suc k) used none = side_more xs s k used none
+
+pub sides_both : (a b c : Option Slot) → SideStays a b → SideStays b c → SideStays a c
+sides_both a b c x y = (y.0 ∙ x.0, λ k. y.1 k ∙ x.1 k)
+
+-- a row is another, whose slots have the same
+pub row_stays : (rows : Rows) (sess : ℕ) (row more : Vec Slot Global) → sess < length rows → row ≡ get_or rows sess row → ((k : ℕ) → SideStays (slice_get row.items k) (slice_get more.items k))
+    → EndsStay rows (set rows sess more)
+row_stays rows sess row more lt row_is same = record { uses = λ i d. use_is d i; records = λ i d k. record_is d k i }
+  where
+    there : slice_get rows sess ≡ Some row
+    there = slice_get_read rows (length rows) sess row refl lt row_is
+
+    use_is : (d : EndId) → uses_in (set rows sess more) d ≡ uses_in rows d
+    use_is d =
+        elim (cases_eq d.sess sess) [
+          | inl is ↦
+              let at : slot_in (set rows sess more) d ≡ slice_get more.items d.side = ap (λ n. option_and_then (λ (r : Vec Slot Global). slice_get r.items d.side) (slice_get (set rows sess more) n)) is ∙ ap (option_and_then (λ (r : Vec Slot Global). slice_get r.items d.side)) (set_here rows sess more lt) in
+              let was : slot_in rows d ≡ slice_get row.items d.side = ap (λ n. option_and_then (λ (r : Vec Slot Global). slice_get r.items d.side) (slice_get rows n)) is ∙ ap (option_and_then (λ (r : Vec Slot Global). slice_get r.items d.side)) there in
+              ap (option_and_then (λ (x : Slot). x.used)) at ∙ (same d.side).0 ∙ sym (ap (option_and_then (λ (x : Slot). x.used)) was)
+          | inr other ↦ ap (λ o. option_and_then (λ (x : Slot). x.used) (option_and_then (λ (r : Vec Slot Global). slice_get r.items d.side) o)) (set_there rows sess d.sess more other)
+        ]
+
+    record_is : (d : EndId) (k : ℕ) → records_in (set rows sess more) d k ≡ records_in rows d k
+    record_is d k =
+        elim (cases_eq d.sess sess) [
+          | inl is ↦
+              let at : slot_in (set rows sess more) d ≡ slice_get more.items d.side = ap (λ n. option_and_then (λ (r : Vec Slot Global). slice_get r.items d.side) (slice_get (set rows sess more) n)) is ∙ ap (option_and_then (λ (r : Vec Slot Global). slice_get r.items d.side)) (set_here rows sess more lt) in
+              let was : slot_in rows d ≡ slice_get row.items d.side = ap (λ n. option_and_then (λ (r : Vec Slot Global). slice_get r.items d.side) (slice_get rows n)) is ∙ ap (option_and_then (λ (r : Vec Slot Global). slice_get r.items d.side)) there in
+              ap (option_and_then (λ (x : Slot). record_in x k)) at ∙ (same d.side).1 k ∙ sym (ap (option_and_then (λ (x : Slot). record_in x k)) was)
+          | inr other ↦ ap (λ o. option_and_then (λ (x : Slot). record_in x k) (option_and_then (λ (r : Vec Slot Global). slice_get r.items d.side) o)) (set_there rows sess d.sess more other)
+        ]
+
+-- the slot is there then
+pub side_there : (rows : Rows) (e : EndId) (more : Vec Slot Global) → e.sess < length rows → e.side < length more.items → IsSome (slot_in (set rows e.sess more) e)
+side_there rows e more lt within =
+    let at : slot_in (set rows e.sess more) e ≡ slice_get more.items e.side = ap (option_and_then (λ (r : Vec Slot Global). slice_get r.items e.side)) (set_here rows e.sess more lt) in
+    let filled : (xs : List Slot) (n : ℕ) → n < length xs → IsSome (slice_get xs n) = is_there in
+    subst IsSome (sym at) (filled more.items e.side within)
+  where
+    is_there : (xs : List Slot) (n : ℕ) → n < length xs → IsSome (slice_get xs n)
+    is_there [] n lt = absurd (omega (arith, lt))
+    is_there (x ∷ xs) zero lt = refl
+    is_there (x ∷ xs) (suc n) lt = is_there xs n (omega (arith, lt))
+
+-- an empty row is put behind the others
+pub row_more : (rows : Rows) (row : Vec Slot Global) → row.items ≡ [] → EndsStay rows (rows ++ row ∷ [])
+row_more rows row none = record {
+  uses = λ i d. ap (option_and_then (λ (x : Slot). x.used)) (slot_is rows d.sess d.side) i;
+  records = λ i d k. ap (option_and_then (λ (x : Slot). record_in x k)) (slot_is rows d.sess d.side) i;
+}
+  where
+    slot_is : (rs : Rows) (n side : ℕ) → option_and_then (λ (r : Vec Slot Global). slice_get r.items side) (slice_get (rs ++ row ∷ []) n) ≡ option_and_then (λ (r : Vec Slot Global). slice_get r.items side) (slice_get rs n)
+    slot_is [] zero side = ap (λ (xs : List Slot). slice_get xs side) none
+    slot_is [] (suc n) side = refl
+    slot_is (r ∷ rs) zero side = refl
+    slot_is (r ∷ rs) (suc n) side = slot_is rs n side
+
+-- ---- where an end is in use or a record stores
+
+pub held_somewhere : (rows : Rows) (e : EndId) → has_message (held_in rows e) ≡ true → IsSome (held_in rows e)
+held_somewhere rows e h = by (held_in rows e) h
+  where
+    by : (o : Option HeldAt) → has_message o ≡ true → IsSome o
+    by None h = absurd (cc h)
+    by (Some x) h = refl
+
+recorded : (rows : Rows) (e : EndId) (hop : ℕ) (test : Option RecordAt → Bool) → test None ≡ false → test (records_in rows e hop) ≡ true → (s : Slot) × (slot_in rows e ≡ Some s)
+recorded rows e hop test never h = by (records_in rows e hop) refl h
+  where
+    by : (o : Option RecordAt) → records_in rows e hop ≡ o → test o ≡ true → (s : Slot) × (slot_in rows e ≡ Some s)
+    by None is t = absurd (let bad : true ≡ false = sym t ∙ never in cc bad)
+    by (Some r) is t = slot_recorded rows e hop r is
+
+pub slot_storing : (rows : Rows) (e : EndId) (hop : ℕ) → is_storing (records_in rows e hop) ≡ true → (s : Slot) × (slot_in rows e ≡ Some s)
+slot_storing rows e hop h = recorded rows e hop is_storing refl h
+
+pub slot_waiting : (rows : Rows) (e : EndId) (hop : ℕ) → has_waiting (records_in rows e hop) ≡ true → (s : Slot) × (slot_in rows e ≡ Some s)
+slot_waiting rows e hop h = recorded rows e hop has_waiting refl h
+
+-- a record is another, and the end is used as before
+pub stores_in : (rows : Rows) (e : EndId) (row : Vec Slot Global) (s new : Slot) (hop : ℕ) (r left : RecordAt) → SlotAt rows e row s → records_in rows e hop ≡ Some r
+    → (record_in s hop ≡ Some r → Becomes s s.used hop left new) → Writes rows e (uses_in rows e) hop left (set rows e.sess (with_item row e.side new))
+stores_in rows e row s new hop r left at is becomes =
+    subst (λ (u : Option ℕ). Writes rows e u hop left (set rows e.sess (with_item row e.side new))) (sym (used_there rows e s at.is))
+    (at.written new s.used hop left (becomes (sym (record_there rows e s at.is hop) ∙ is)))
+
+pub takes_from : (rows : Rows) (e : EndId) (row : Vec Slot Global) (s new : Slot) (h : HeldAt) (m : SentAt) → SlotAt rows e row s → TakesFirst s h m new
+    → TakesFrom rows e h m (set rows e.sess (with_item row e.side new))
+takes_from rows e row s new h m at takes = record {
+  rest = takes.rest;
+  untaken = takes.untaken;
+  writes =
+      subst (λ (u : Option ℕ). Writes rows e u h.hop (record { behind = h.behind; state = Held takes.rest }) (set rows e.sess (with_item row e.side new))) (sym (used_there rows e s at.is))
+      (at.written new s.used h.hop (record { behind = h.behind; state = Held takes.rest }) takes.becomes);
+}

@@ -1,6 +1,5 @@
 -- Lists of events that begin by what a course did.
-use Rattle.std.proofs.Common.{◌≡◌, ℕ, suc, ◌+◌, ◌-◌, ◌<◌, List, ◌∷◌, ◌++◌, Result, Ok, Err, ap, sym, ◌∙◌, subst, append_assoc, arith}
-use Rattle.std.specs.Prelude.{OnErr}
+use Rattle.std.proofs.Common.{◌≡◌, ℕ, suc, ◌+◌, ◌-◌, ◌<◌, List, ◌∷◌, ◌++◌, ap, sym, ◌∙◌, subst, append_assoc, arith}
 use Rattle.sj_semantics.specs.Program.{Program}
 use Rattle.sj_rules.specs.Drain.{numbers_from}
 use Rattle.sj_rules.specs.World.{Turn}
@@ -18,15 +17,6 @@ Once R = (w v u : WorldAt Program) (ts us : List Turn) → R w ts v → R w us u
 abbrev pub Opens : (First Then Whole : Leads) → Type 0
 Opens First Then Whole = (w v : WorldAt Program) (ts : List Turn) → Whole w ts v
     → (first : List Turn) × ((rest : List Turn) × ((mid : WorldAt Program) × ((ts ≡ first ++ rest) × First w first mid × Then mid rest v)))
-
--- what follows on an Err
-pub on_err : {T E P R : Type 0} → (r : Result T E) → (P → R) → OnErr r P → OnErr r R
-on_err (Ok x) f h = h
-on_err (Err e) f h = f h
-
-pub or_err : {T E P : Type 0} → (r : Result T E) → P → OnErr r P
-or_err (Ok x) h = tt
-or_err (Err e) h = h
 
 -- one after the other
 pub left_on : (R S T : Leads) (c d e : Course) → Leaves R S c d → Leaves S T d e → Leaves R T c e

@@ -1,3 +1,4 @@
+pub mod ResultLemmas
 pub mod SlotLemmas
 pub mod EndsLemmas
 pub mod LaneLemmas

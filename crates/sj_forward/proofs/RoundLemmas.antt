@@ -1,6 +1,5 @@
 -- Rounds of a drain, from what each party does in them.
-use Rattle.std.proofs.Common.{◌≡◌, ◌≢◌, ℕ, zero, suc, ◌+◌, ◌-◌, ◌<◌, ◌^◌, List, [], ◌∷◌, ◌++◌, length, Result, Ok, Err, refl, ap, sym, ◌∙◌, subst, append-nil, append_assoc, add-one, arith}
-use Rattle.std.specs.Result.{OnOk}
+use Rattle.std.proofs.Common.{◌≡◌, ◌≢◌, ℕ, zero, suc, ◌+◌, ◌-◌, ◌<◌, ◌^◌, List, [], ◌∷◌, ◌++◌, length, refl, ap, sym, ◌∙◌, subst, append-nil, append_assoc, add-one, arith}
 use Rattle.sj_lang.specs.FileAt.{FileAt}
 use Rattle.sj_semantics.specs.Program.{Program}
 use Rattle.sj_rules.specs.Drain.{numbers_from}
@@ -41,11 +40,6 @@ module _ {P Q : Type 0} (play : Play P Q) where
       (us, ([], (v, (ap (λ t. t ++ us) h.0 ∙ sym (append-nil us), subst (λ (x : WorldAt Q). drain.TakesTurn play n q x us v) (sym h.1) k, (refl, refl)))))
   turns_on n q (r ∷ qs) w mid v ts us h k =
       (h.0, (h.1.0 ++ us, (h.1.1.0, (ap (λ t. t ++ us) h.1.1.1.0 ∙ append_assoc h.0 h.1.0 us, h.1.1.1.1, turns_on n q qs h.1.1.0 mid v h.1.0 us h.1.1.1.2 k))))
-
--- what follows on an Ok
-pub on_ok : {T E P R : Type 0} → (r : Result T E) → (P → R) → OnOk r P → OnOk r R
-on_ok (Ok x) f h = f h
-on_ok (Err e) f h = h
 
 -- one after the other
 joined : (R S T : Leads) (c d e : Course) → ((ts us : List Turn) → R (world_in c) ts (world_in d) → S (world_in d) us (world_in e) → T (world_in c) (ts ++ us) (world_in e)) → GoesBy R c d → GoesBy S d e → GoesBy T c e

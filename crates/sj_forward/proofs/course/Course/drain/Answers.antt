@@ -3,7 +3,8 @@ use Rattle.sj_forward.specs.Course.{desks_in}
 use Rattle.sj_forward.proofs.course.Course.drain.Goals as goal
 use Rattle.sj_forward.proofs.RoundLemmas.{ahead_round, drained, fewer_after, left_quiet}
 use Rattle.sj_forward.proofs.BreakLemmas.{first_round, left_round}
-use Rattle.sj_forward.proofs.FrontLemmas.{broken_off, or_err}
+use Rattle.sj_forward.proofs.FrontLemmas.{broken_off}
+use Rattle.sj_forward.proofs.ResultLemmas.{or_err}
 use Rattle.sj_forward.proofs.CourseLemmas.{drains}
 
 pub loop-smaller : goal.loop-smaller

@@ -3,7 +3,7 @@ use Rattle.sj_forward.specs.Course.{desks_in}
 use Rattle.sj_forward.proofs.course.Course.round.Goals as goal
 use Rattle.sj_forward.proofs.RoundLemmas.{goes_turn}
 use Rattle.sj_forward.proofs.BreakLemmas.{first_turn, left_turn}
-use Rattle.sj_forward.proofs.FrontLemmas.{or_err}
+use Rattle.sj_forward.proofs.ResultLemmas.{or_err}
 
 pub loop-party-preserved : goal.loop-party-preserved
 loop-party-preserved c =

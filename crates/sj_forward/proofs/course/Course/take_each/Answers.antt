@@ -3,7 +3,7 @@ use Rattle.sj_forward.proofs.course.Course.take_each.Goals as goal
 use Rattle.sj_forward.proofs.RoundLemmas.{goes_each}
 use Rattle.sj_forward.specs.Course.{desks_in}
 use Rattle.sj_forward.proofs.BreakLemmas.{first_lane, left_lane}
-use Rattle.sj_forward.proofs.FrontLemmas.{or_err}
+use Rattle.sj_forward.proofs.ResultLemmas.{or_err}
 
 pub loop-from-preserved : goal.loop-from-preserved
 loop-from-preserved c =

@@ -1,9 +1,9 @@
 use Rattle.std.proofs.Common.{length}
 use Rattle.sj_forward.specs.Course.{desks_in}
 use Rattle.sj_forward.proofs.course.Course.turn.Goals as goal
-use Rattle.sj_forward.proofs.RoundLemmas.{on_ok, takes_turn}
+use Rattle.sj_forward.proofs.RoundLemmas.{takes_turn}
 use Rattle.sj_forward.proofs.BreakLemmas.{first_acts, first_takes}
-use Rattle.sj_forward.proofs.FrontLemmas.{on_err, or_err}
+use Rattle.sj_forward.proofs.ResultLemmas.{on_err, on_ok, or_err}
 
 pub returns-clause-ok : goal.returns-clause-ok
 returns-clause-ok c =
