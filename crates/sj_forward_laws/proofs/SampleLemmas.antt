@@ -3,7 +3,8 @@ use Rattle.std.proofs.Common.{refl}
 use Rattle.sj_semantics_laws.specs.HandoverSamples.{delegation, both_moved}
 use Rattle.sj_semantics_laws.specs.OpeningSamples.{accepted}
 use Rattle.sj_rules_laws.specs.OpeningCoreSamples.{opened_and_moved}
-use Rattle.sj_forward_laws.proofs.CountLemmas.{emptied_by, emptied_front, emptied, acted_by, acted_out, both_done, each_emptied, turn_taken, turns_taken, round_done, drained, drain_of, passes_by}
+use Rattle.sj_forward_laws.proofs.CountLemmas.{emptied_by, emptied_front, emptied, acted_by, acted_out, both_done, each_emptied, turn_taken}
+use Rattle.sj_forward_laws.proofs.CountLemmas.{turns_taken, round_done, drained, drain_of, passes_by}
 use Rattle.sj_forward_laws.specs.Samples.{Passes}
 
 pub delegation_passes : Passes delegation 7
