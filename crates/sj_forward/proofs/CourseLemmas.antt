@@ -25,7 +25,7 @@ use Rattle.sj_forward.specs.Desk.{Does, desk_at, lane_of}
 use Rattle.sj_forward.proofs.EndsLemmas.{set_here, set_there}
 use Rattle.sj_forward.proofs.LawLemmas as laws
 use Rattle.sj_forward.proofs.SlotLemmas.{one_other, one_same, some_same}
-use Rattle.sj_forward.proofs.StartLemmas.{forward_start_same}
+use Rattle.sj_forward.proofs.SameLemmas.{forward_start_same}
 use Rattle.sj_forward_rules.specs.Acts.{acts}
 use Rattle.sj_forward_rules.specs.Arrivals.{comes}
 use Rattle.sj_forward_rules.specs.Drain.{IsDrained, deliveries_by, passed_in}

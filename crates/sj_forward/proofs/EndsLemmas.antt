@@ -12,7 +12,7 @@ use Rattle.sj_world_laws.proofs.LinkLemmas.{same_is}
 use Rattle.sj_forward.specs.declared.slot.Record.{Record}
 use Rattle.sj_forward.specs.declared.slot.Slot.{Slot}
 use Rattle.sj_forward.specs.Views.{record_at}
-use Rattle.sj_forward.specs.Ends.{Becomes, EndsStay, HasPlace, Rows, SideStays, SlotStays, TakesFirst, TakesFrom, Writes, has_waiting, held_in, is_storing, record_in, records_in, slot_held, slot_in, uses_in}
+use Rattle.sj_forward.specs.Ends.{Becomes, EndsStay, HasPlace, KeepsPlaces, Rows, SideStays, SlotStays, TakesFirst, TakesFrom, Writes, has_waiting, held_in, is_storing, record_in, records_in, slot_held, slot_in, uses_in}
 use Rattle.sj_forward.proofs.SlotLemmas.{one_other, one_same, some_of, some_same}
 use Rattle.sj_forward_rules.specs.Node.{HeldAt, held_at}
 use Rattle.sj_forward_rules.specs.Ready.{has_message}
@@ -155,6 +155,7 @@ pub record SlotAt (rows : Rows) (e : EndId) (row : Vec Slot Global) (s : Slot) :
   pub written : (new : Slot) (at : Option ℕ) (hop : ℕ) (r : RecordAt) → Becomes s at hop r new → Writes rows e at hop r (set rows e.sess (with_item row e.side new))
   pub stays : (new : Slot) → SlotStays s new → EndsStay rows (set rows e.sess (with_item row e.side new))
   pub now : (new : Slot) → slot_in (set rows e.sess (with_item row e.side new)) e ≡ Some new
+  pub after : (new : Slot) (d : EndId) → slot_in (set rows e.sess (with_item row e.side new)) d ≡ (if is_same_end d e then Some new else slot_in rows d)
 
 pub slot_read : (rows : Rows) (e : EndId) (row : Vec Slot Global) (s some : Slot) → slot_in rows e ≡ Some some → row ≡ get_or rows e.sess row → s ≡ get_or row.items e.side s → SlotAt rows e row s
 slot_read rows e row s some found row_is slot_is =
@@ -168,6 +169,7 @@ slot_read rows e row s some found row_is slot_is =
       written = λ new at hop r b. wrote rows e row (with_item row e.side new) s new there here refl at hop r b;
       stays = λ new kept. stayed rows e row (with_item row e.side new) s new there here refl kept;
       now = λ new. slot_now rows e row (with_item row e.side new) s new there here refl;
+      after = λ new d. slot_after rows e row (with_item row e.side new) s new there here refl d;
     }
 
 -- what the Held end of the rows is in the slot, and a record
@@ -283,3 +285,25 @@ takes_from rows e row s new h m at takes = record {
       subst (λ (u : Option ℕ). Writes rows e u h.hop (record { behind = h.behind; state = Held takes.rest }) (set rows e.sess (with_item row e.side new))) (sym (used_there rows e s at.is))
       (at.written new s.used h.hop (record { behind = h.behind; state = Held takes.rest }) takes.becomes);
 }
+
+-- no place is gone where a slot has as many as before
+pub keeps_places : (rows : Rows) (e : EndId) (row : Vec Slot Global) (s new : Slot) → SlotAt rows e row s → vec_len new.records ≡ vec_len s.records
+    → KeepsPlaces rows (set rows e.sess (with_item row e.side new))
+keeps_places rows e row s new at size d hop place = by (is_same_end d e) refl
+  where
+    by : (b : Bool) → is_same_end d e ≡ b → HasPlace (set rows e.sess (with_item row e.side new)) d hop
+    by false apart =
+        record {
+          slot = place.slot;
+          there = at.after new d ∙ ap (λ (b : Bool). if b then Some new else slot_in rows d) apart ∙ place.there;
+          within = place.within;
+        }
+    by true same =
+        let own : place.slot ≡ s = some_same place.slot s (sym place.there ∙ ap (slot_in rows) (same_is d e same) ∙ at.is) in
+        let len : vec_len place.slot.records ≡ vec_len s.records = ap (λ (x : Slot). vec_len x.records) own in
+        let within = place.within in
+        record {
+          slot = new;
+          there = at.after new d ∙ ap (λ (b : Bool). if b then Some new else slot_in rows d) same;
+          within = omega (arith, within, len, size);
+        }

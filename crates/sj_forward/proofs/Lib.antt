@@ -4,11 +4,13 @@ pub mod EndsLemmas
 pub mod LaneLemmas
 pub mod DeskLemmas
 pub mod LawLemmas
-pub mod StartLemmas
+pub mod SameLemmas
 pub mod CourseLemmas
+pub mod StartLemmas
 pub mod EventLemmas
 pub mod CountLemmas
 pub mod DrainLemmas
 pub mod FrontLemmas
 pub mod RoundLemmas
 pub mod BreakLemmas
+pub mod OfferLemmas

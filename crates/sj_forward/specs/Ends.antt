@@ -102,6 +102,10 @@ pub record HasPlace (rows : Rows) (e : EndId) (hop : ℕ) : Type 0 where
   pub there : slot_in rows e ≡ Some slot
   pub within : hop < vec_len slot.records
 
+-- no place is gone
+abbrev pub KeepsPlaces : Rows → Rows → Type 0
+KeepsPlaces old new = (e : EndId) (hop : ℕ) → HasPlace old e hop → HasPlace new e hop
+
 -- the end is used so from now on, and its record of that hop is this
 pub record Writes (old : Rows) (e : EndId) (at : Option ℕ) (hop : ℕ) (r : RecordAt) (new : Rows) : Type 0 where
   pub uses : uses_in new ≡ (λ d. if is_same_end d e then at else uses_in old d)

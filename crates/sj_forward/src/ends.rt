@@ -1,6 +1,6 @@
 //! The ends of a party, each in its slot, by session and then by side.
 ghost use Rattle.std.specs.Prelude.{◌≡◌, ◌<◌, ◌^◌, ℕ, [], Some, None, IfSome, OnErr, OnOk, IsSome, map, option_map, slice_get, true, vec_len};
-ghost use Rattle.sj_forward.specs.Ends.{EndsStay, HasPlace, SideStays, TakesFrom, Writes, has_waiting, held_in, is_storing, more_stored, records_in, slot_in, uses_in};
+ghost use Rattle.sj_forward.specs.Ends.{EndsStay, HasPlace, KeepsPlaces, SideStays, TakesFrom, Writes, has_waiting, held_in, is_storing, more_stored, records_in, slot_in, uses_in};
 ghost use Rattle.sj_forward.specs.Views.{seen_of, sent_at, use_of};
 ghost use Rattle.sj_forward_rules.specs.Node.{HeldAt};
 ghost use Rattle.sj_forward_rules.specs.Ready.{has_message};
@@ -101,8 +101,9 @@ pub(crate) fn close(ends: &mut Vec<Vec<Slot>>, end: EndId)
 /// The end takes its next message.
 pub(crate) fn take_first(ends: &mut Vec<Vec<Slot>>, end: EndId) -> Sent
     requires { has_message (held_in ends.old.items end) ≡ true }
-    ensures { (h : HeldAt) → held_in ends.old.items end ≡ Some h →
+    ensures takes { (h : HeldAt) → held_in ends.old.items end ≡ Some h →
         TakesFrom ends.old.items end h (sent_at result) ends.new.items }
+    ensures places { KeepsPlaces ends.old.items ends.new.items }
 {
     let row = &mut ends[end.sess as usize];
     let slot = &mut row[end.side as usize];

@@ -296,8 +296,9 @@ impl Slot {
     /// The end takes its next message.
     pub(crate) fn take_first(&mut self) -> Sent
         requires { has_message (slot_held self.old) ≡ true }
-        ensures { (h : HeldAt) → slot_held self.old ≡ Some h →
+        ensures takes { (h : HeldAt) → slot_held self.old ≡ Some h →
             TakesFirst self.old h (sent_at result) self.new }
+        ensures places { vec_len self.new.records ≡ vec_len self.old.records }
     {
         let Some(hop) = self.used else {
             unreachable!()

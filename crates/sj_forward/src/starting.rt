@@ -6,8 +6,9 @@ ghost use Rattle.sj_lang.specs.FileAt.{ConnectAt, FileAt};
 ghost use Rattle.sj_lang.specs.FileView.{connect_of, decl_of, file_of, party_of};
 ghost use Rattle.sj_lang.specs.Limits.{limits};
 ghost use Rattle.sj_plain.specs.Kept.{without_words};
+ghost use Rattle.sj_base.specs.declared.EndId.{EndId};
+ghost use Rattle.sj_rules.specs.Record.{other_end};
 ghost use Rattle.sj_rules.specs.Start.{declared_on};
-ghost use Rattle.sj_semantics.specs.Ends.{other_side};
 
 use crate::course::Course;
 use crate::desk::Desk;
@@ -32,7 +33,7 @@ fn first_slot(
     requires { length parties.now ≤ limits.parties }
     ensures { IfOk result (λ s. (file : FileAt) (e : EndId) (c : ConnectAt) →
         file.parties ≡ map party_of parties.now → declared_on e.side c ≡ decl_of own →
-        declared_on (other_side e.side) c ≡ decl_of other → IsFirstSlot file party e c s) }
+        declared_on (other_end e).side c ≡ decl_of other → IsFirstSlot file party e c s) }
 {
     let mut slot = Slot::new(alloc);
     if party_of_name(parties, own.party) == party as usize {
