@@ -3,6 +3,8 @@ pub mod SlotLemmas
 pub mod EndsLemmas
 pub mod LaneLemmas
 pub mod DeskLemmas
+pub mod ActLemmas
+pub mod ArriveLemmas
 pub mod LawLemmas
 pub mod SameLemmas
 pub mod CourseLemmas
