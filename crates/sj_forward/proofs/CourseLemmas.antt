@@ -11,7 +11,7 @@ use Rattle.sj_plain.specs.Kept.{without_words}
 use Rattle.sj_plain.specs.Plain.{acts_of, kept_file, party_count, world_at}
 use Rattle.sj_plain.proofs.BeginLemmas.{start_same}
 use Rattle.sj_semantics.specs.Program.{Program}
-use Rattle.sj_semantics.specs.Run.{IsRun, after_acts}
+use Rattle.sj_semantics.specs.Run.{IsRun, after_acts, end_of}
 use Rattle.sj_semantics.specs.World.{World, act_of, start_of}
 use Rattle.sj_rules.specs.Drain.{turn}
 use Rattle.sj_rules.specs.Events.{acts_by, acts_in}
@@ -25,7 +25,7 @@ use Rattle.sj_forward.specs.Desk.{Does, desk_at, lane_of}
 use Rattle.sj_forward.proofs.EndsLemmas.{set_here, set_there}
 use Rattle.sj_forward.proofs.LawLemmas as laws
 use Rattle.sj_forward.proofs.SlotLemmas.{one_other, one_same, some_same}
-use Rattle.sj_forward.proofs.SameLemmas.{forward_start_same}
+use Rattle.sj_forward.proofs.SameLemmas.{end_same, forward_start_same}
 use Rattle.sj_forward_rules.specs.Acts.{acts}
 use Rattle.sj_forward_rules.specs.Arrivals.{comes}
 use Rattle.sj_forward_rules.specs.Drain.{IsDrained, deliveries_by, passed_in}
@@ -212,3 +212,17 @@ drains c r =
       subst (λ (f : FileAt). IsDrained (play_of f) (length (desks_in c)) (world_in c) d.0 d.1) (sym r.accepted.same)
           (subst (λ (n : ℕ). IsDrained (play_of (file c r)) n (world_in c) d.0 d.1) (sym parties) d.2),
     )
+
+-- what is drained is at the end of the file
+pub at_the_end : (c d : Course) (r : IsReached c) (more : List Turn) → IsDrained (play_of (file_in c)) (length (desks_in c)) (world_in c) more (world_in d)
+    → acts_of d.plain ≡ acts_of c.plain ++ acts_in more → IsRun (file_in d) (acts_of d.plain) (world_at d.plain) → file_in d ≡ file_in c → world_at d.plain ≡ end_of (file_in d)
+at_the_end c d r more drained acts run kept =
+    let parties : length (desks_in c) ≡ length (file c r).parties = r.count ∙ ap (λ f. length f.parties) r.accepted.same in
+    let own : IsDrained (play_of (file c r)) (length (file c r).parties) (world_in c) more (world_in d) =
+    subst (λ (n : ℕ). IsDrained (play_of (file c r)) n (world_in c) more (world_in d)) parties
+    (subst (λ (f : FileAt). IsDrained (play_of f) (length (desks_in c)) (world_in c) more (world_in d)) r.accepted.same drained) in
+    let ends = (laws.drain_ends (file c r) (accepted c r) r.turns (world_in c) (run_of c r) more (world_in d) own).1 in
+    let listed : acts_in (r.turns ++ more) ≡ acts_of d.plain = acts_more r.turns more ∙ ap (λ x. x ++ acts_in more) (sym r.led.acts) ∙ sym acts in
+    let here : IsRun (file c r) (acts_of d.plain) (world_at d.plain) = plain_run_of c r (acts_of d.plain) (world_at d.plain) (subst (λ (f : FileAt). IsRun f (acts_of d.plain) (world_at d.plain)) kept run) in
+    let there : IsRun (file c r) (acts_of d.plain) (end_of (file c r)) = subst (λ (ps : List ℕ). IsRun (file c r) ps (end_of (file c r))) listed ends in
+    some_same (world_at d.plain) (end_of (file c r)) (sym here ∙ there) ∙ sym (ap end_of r.accepted.same ∙ end_same (file c r)) ∙ ap end_of (sym kept)

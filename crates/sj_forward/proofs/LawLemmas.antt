@@ -5,6 +5,8 @@ use Rattle.sj_acceptance.specs.Accepted.{IsAccepted}
 use Rattle.sj_lang.specs.Place.{Place}
 use Rattle.sj_semantics.specs.Program.{Program}
 use Rattle.sj_semantics.specs.Run.{IsRun, end_of}
+use Rattle.sj_semantics.specs.State.{state_of}
+use Rattle.sj_semantics.specs.declared.State.TheVariants as states
 use Rattle.sj_semantics.specs.World.{World}
 use Rattle.sj_rules.specs.Events.{acts_in}
 use Rattle.sj_rules.specs.Party.{nobody, play_of}
@@ -19,7 +21,7 @@ use Rattle.sj_forward_rules.specs.Record.{FrameAt}
 use Rattle.sj_forward_rules.specs.Start.{IsForwardRun}
 use Rattle.sj_forward_rules.specs.World.{IsQuietAmong, WorldAt, after_event}
 use Rattle.sj_forward_laws.proofs.DrainEndLemmas.{drained_is_quiet}
-use Rattle.sj_forward_laws.proofs.RunLawsLemmas.{drain_is_at_the_end, run_front, run_ready, run_steps_not}
+use Rattle.sj_forward_laws.proofs.RunLawsLemmas.{drain_is_at_the_end, run_front, run_ready, run_ready_plain, run_steps_not}
 use Rattle.sj_forward_laws.proofs.RunLemmas.{runs_stand}
 use Rattle.sj_forward_laws.proofs.ShortRunLemmas.{run_drains, runs_are_short}
 
@@ -45,6 +47,9 @@ module _ (file : FileAt) (accepted : IsAccepted file) (turns : List Turn) (w : W
   -- a party acts exactly where it is ready
   pub ready_acts : (p : ℕ) → is_ready (state_at (play_of file) (w.nodes p)) ≡ true → (done : Worked Program) × (acts (play_of file) p (w.nodes p) ≡ Some done)
   ready_acts p ready = (run_ready file accepted turns w p run).1 ready
+
+  pub ready_plainly : (v : World) (p : ℕ) → IsRun file (acts_in turns) v → is_ready (state_at (play_of file) (w.nodes p)) ≡ true → state_of v p ≡ states.Ready
+  ready_plainly v p plain ready = run_ready_plain file accepted turns w v p run plain ready
 
   pub unready_rests : (p : ℕ) → is_ready (state_at (play_of file) (w.nodes p)) ≡ false → acts (play_of file) p (w.nodes p) ≡ None
   unready_rests p unready = none_before (after_event w p w.lanes) (acts (play_of file) p (w.nodes p)) (run_steps_not file accepted turns w p run Act unready)

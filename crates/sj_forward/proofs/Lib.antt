@@ -9,6 +9,8 @@ pub mod LawLemmas
 pub mod SameLemmas
 pub mod CourseLemmas
 pub mod StartLemmas
+pub mod ReadyLemmas
+pub mod StillLemmas
 pub mod EventLemmas
 pub mod CountLemmas
 pub mod DrainLemmas

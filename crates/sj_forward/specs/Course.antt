@@ -1,10 +1,13 @@
 -- A forwarding world as it lies in memory.
-use Rattle.std.specs.Prelude.{◌≡◌, ℕ, ◌+◌, ◌<◌, ⊤, List, [], ◌∷◌, ◌++◌, length, slice_get, unwrap_or, Option, Some, None}
+use Rattle.std.specs.Prelude.{◌≡◌, ℕ, ◌+◌, ◌<◌, ⊤, List, [], ◌∷◌, ◌++◌, length, slice_get, unwrap_or, Option, Some, None, option_map}
 use Rattle.sj_lang.specs.FileAt.{FileAt}
 use Rattle.sj_acceptance.specs.Accepted.{IsAccepted}
 use Rattle.sj_semantics.specs.Program.{Program}
 use Rattle.sj_semantics.specs.Run.{IsRun}
+use Rattle.sj_semantics.specs.Wants.{want_of}
 use Rattle.sj_semantics.specs.World.{act_of}
+use Rattle.sj_semantics.specs.declared.Want.{Want}
+use Rattle.sj_semantics.specs.declared.Want.TheVariants.{Ended}
 use Rattle.sj_plain.specs.declared.plain.Plain.{Plain}
 use Rattle.sj_plain.specs.Kept.{without_words}
 use Rattle.sj_plain.specs.Plain.{acts_of, kept_file, party_count, world_at}
@@ -38,6 +41,10 @@ ComesFrom (turns.Deliver q) n = q < n
 -- the program of a party in the plain world
 abbrev pub program_in : Plain → ℕ → Program
 program_in plain p = unwrap_or (slice_get (world_at plain).parties p) nobody
+
+-- that is its next step
+abbrev pub Wants : Plain → ℕ → Want → Type 0
+Wants plain p want = option_map (λ g. unwrap_or (want_of g) Ended) (slice_get (world_at plain).parties p) ≡ Some want
 
 -- a party that isn't there stays as it begins
 abbrev pub node_or : Program → NodeAt Program → Option Desk → NodeAt Program

@@ -1,6 +1,6 @@
 //! A forwarding world as it lies in memory.
-ghost use Rattle.std.specs.Prelude.{◌≡◌, ◌↔◌, ◌<◌, false, IsErrOf, OnErr, OnOk, length};
-ghost use Rattle.sj_forward.specs.Course.{ComesFrom, IsReached, PlainActs, PlainStays, StaysIn, Steps, desks_in, event_at, file_in, world_in};
+ghost use Rattle.std.specs.Prelude.{◌≡◌, ◌↔◌, ◌<◌, false, true, IsErrOf, OnErr, OnOk, length};
+ghost use Rattle.sj_forward.specs.Course.{ComesFrom, IsReached, PlainActs, PlainStays, StaysIn, Steps, Wants, desks_in, event_at, file_in, world_in};
 ghost use Rattle.sj_forward.specs.declared.refusal.Turn.TheVariants as turns;
 ghost use Rattle.sj_forward_rules.specs.Ready.{has_step};
 ghost use Rattle.sj_plain.specs.Plain.{party_count, world_at};
@@ -15,6 +15,7 @@ use crate::limits::MAX_STEPS;
 use crate::{Turn, TurnRefusal};
 use sj_base::NoMemory;
 use sj_plain::{Halt, Plain};
+use sj_semantics::Want;
 use std::alloc::Global;
 
 /// The plain world, in which the parties' programs are, what each party keeps beside, and how many
@@ -57,10 +58,37 @@ impl Course {
         ensures reached { IsReached self.new }
     {
         let want = self.plain.wants(party);
-        let desk = &mut self.desks[party as usize];
-        if self.plain.steps(party) >= MAX_STEPS || !desk.ready(want) {
+        if !self.is_ready(party, want) {
             return Err(TurnRefusal::NoStep);
         }
+        match self.act_on(party, want) {
+            Ok(()) => Ok(()),
+            Err(NoMemory) => Err(TurnRefusal::NoMemory),
+        }
+    }
+
+    /// Whether the party is ready to do its next step, which is that one.
+    fn is_ready(&self, party: u16, want: Want) -> bool
+        requires reached { IsReached self.now }
+        requires there { party < length (desks_in self.now) }
+        requires wants { Wants self.now.plain party want }
+        ensures { result ≡ has_step (play_of (file_in self.now)) (world_in self.now) party rules.Act }
+    {
+        let desk = &self.desks[party as usize];
+        self.plain.steps(party) < MAX_STEPS && desk.ready(want)
+    }
+
+    /// The next step of a ready party.
+    fn act_on(&mut self, party: u16, want: Want) -> Result<(), NoMemory>
+        requires reached { IsReached self.old }
+        requires there { party < length (desks_in self.old) }
+        requires wants { Wants self.old.plain party want }
+        requires ready { has_step (play_of (file_in self.old)) (world_in self.old) party rules.Act ≡ true }
+        ensures ok { OnOk result (Steps self.old party rules.Act self.new) }
+        ensures err { OnErr result (StaysIn self.old self.new) }
+        ensures reached { IsReached self.new }
+    {
+        let desk = &mut self.desks[party as usize];
         desk.make_room(party, want)?;
         act_plainly(&mut self.plain, party)?;
         desk.act(party, want);
