@@ -10,10 +10,10 @@ use Rattle.sj_base.specs.declared.Msg.TheVariants as msgs
 use Rattle.sj_lang.specs.Place.{Place}
 use Rattle.sj_semantics.specs.Program.{Program}
 use Rattle.sj_semantics.specs.World.{session_message}
-use Rattle.sj_rules.specs.Opened.{opened_number}
+use Rattle.sj_rules.specs.Opened.{opened_number, smallest, without}
 use Rattle.sj_rules.specs.Party.{nobody}
 use Rattle.sj_rules.specs.Play.{Play}
-use Rattle.sj_rules.specs.Record.{is_same_end, requested_end}
+use Rattle.sj_rules.specs.Record.{is_same_end, offered_end, requested_end}
 use Rattle.sj_forward.specs.declared.desk.Desk.{Desk}
 use Rattle.sj_forward.specs.declared.frame.Frame.{Frame}
 use Rattle.sj_forward.specs.declared.frame.Sent.{Sent}
@@ -21,12 +21,13 @@ use Rattle.sj_forward.specs.declared.slot.Slot.{Slot}
 use Rattle.sj_forward.specs.declared.slot.Use.{Use}
 use Rattle.sj_forward.specs.Desk.{CanClaim, CanPost, CanSend, CanTake, Does, DoesSo, Rests, desk_at, lane_of}
 use Rattle.sj_forward.specs.Ends.{HasPlace, KeepsPlaces, TakesFrom, Writes, held_in, records_in, uses_in}
+use Rattle.sj_forward.specs.Offers.{offering, offers_in}
 use Rattle.sj_forward.specs.Outs.{lane_in, room_in}
 use Rattle.sj_forward.specs.Views.{sent_at, sent_of, use_of}
 use Rattle.sj_forward.proofs.DeskLemmas.{desk_recorded, desk_written, does_from, does_post, does_quietly, does_so}
 use Rattle.sj_forward.proofs.SlotLemmas.{some_of, some_same}
-use Rattle.sj_forward_rules.specs.Acts.{close_act, delegate_act, open_session, parked, request_act, send_act, take_act, take_from, work_of_take}
-use Rattle.sj_forward_rules.specs.Node.{HeldAt, NodeAt, Worked, held_at, held_of, onward, quietly, with_record, with_use}
+use Rattle.sj_forward_rules.specs.Acts.{accept_act, accept_offered, close_act, delegate_act, open_session, parked, request_act, send_act, take_act, take_from, work_of_take}
+use Rattle.sj_forward_rules.specs.Node.{HeldAt, NodeAt, Worked, held_at, held_of, onward, quietly, with_offers, with_record, with_use}
 use Rattle.sj_forward_rules.specs.Record.{Claim, FrameAt, Held, Open, Parked, Closed, RecordAt, SentAt}
 
 abbrev pub Table : Type 0
@@ -226,3 +227,15 @@ requests_so d ends outs party to sess few is w lanes play g =
     does_so d new (request_act play party n to) (record { node = node; posts = record { party = to; frame = Open sess } ∷ [] }) row
     (does_post d new node to (Open sess)
     (λ i. record { program = play.opened g y; requests = d.requests + 1; offers = n.offers; uses = w.uses i; records = w.records i }) lanes)
+
+-- ---- an accept
+
+pub accepts_so : (d : Desk) (offers : Vec (Vec ℕ Global) Global) (from sess : ℕ) → smallest (offers_in d.offers.items from) ≡ Some sess
+    → offers_in offers.items ≡ offering from (without sess (offers_in d.offers.items from)) (offers_in d.offers.items)
+    → (play : Play Place Program) (g : Program) → DoesSo d (accept_act play (desk_at g d) from) (record d { offers = offers })
+accepts_so d offers from sess least left play g =
+    let n = desk_at g d in
+    let new : Desk = record d { offers = offers } in
+    let node : NodeAt Program = with_offers from (without sess (n.offers from)) (record n { program = play.opened g (offered_end sess) }) in
+    does_so d new (accept_act play n from) (quietly node) (ap (accept_offered play n from) least)
+    (does_quietly d new node (λ i. record { program = play.opened g (offered_end sess); requests = n.requests; offers = left i; uses = n.uses; records = n.records }) (λ q. refl))

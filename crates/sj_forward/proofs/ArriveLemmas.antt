@@ -1,23 +1,27 @@
 -- Frames that come to a party, as its tables take them.
 use Rattle.std.proofs.Common.{◌≡◌, ℕ, suc, ◌+◌, ◌==◌, Bool, true, false, if◌then◌else◌, List, [], ◌∷◌, ◌++◌, map, Option, Some, None, option_map, append-nil, refl, ap, sym, ◌∙◌, subst, add-one, inl, inr}
-use Rattle.std.specs.Prelude.{IsSome}
+use Rattle.std.specs.Prelude.{IsSome, Vec, ◌&&◌, is_none}
+use Rattle.std.specs.declared.alloc.Global.{Global}
 use Rattle.std.proofs.lemmas.Bool.{cases_eq}
 use Rattle.sj_base.specs.declared.EndId.{EndId}
 use Rattle.sj_semantics.specs.Program.{Program}
+use Rattle.sj_rules.specs.Opened.{is_opened_by}
 use Rattle.sj_rules.specs.Party.{nobody}
+use Rattle.sj_rules.specs.Record.{is_same_end, offered_end}
 use Rattle.sj_forward.specs.declared.desk.Desk.{Desk}
 use Rattle.sj_forward.specs.declared.slot.Kind.{Kind}
 use Rattle.sj_forward.specs.declared.slot.Kind.TheVariants as kinds
 use Rattle.sj_forward.specs.declared.slot.Seen.{Seen}
 use Rattle.sj_forward.specs.Desk.{Does, DoesSo, desk_at, lane_of}
-use Rattle.sj_forward.specs.Ends.{Writes, is_storing, more_stored, records_in, stores, uses_in}
+use Rattle.sj_forward.specs.Ends.{EndsStay, Rows, Writes, is_storing, more_stored, records_in, stores, uses_in}
+use Rattle.sj_forward.specs.Offers.{offering, offers_in}
 use Rattle.sj_forward.specs.Outs.{inward, lane_in}
 use Rattle.sj_forward.specs.Views.{kind_of, seen_of}
 use Rattle.sj_forward.proofs.ActLemmas.{Lanes, Table}
 use Rattle.sj_forward.proofs.DeskLemmas.{desk_recorded, does_quietly, does_so}
 use Rattle.sj_forward.proofs.SlotLemmas.{one_other, one_same, some_same}
-use Rattle.sj_forward_rules.specs.Arrivals.{at_record, claim_by, in_by, passed_on}
-use Rattle.sj_forward_rules.specs.Node.{Worked, quietly, with_record}
+use Rattle.sj_forward_rules.specs.Arrivals.{at_record, claim_by, in_by, open_comes, passed_on}
+use Rattle.sj_forward_rules.specs.Node.{NodeAt, Worked, quietly, with_first, with_offers, with_record}
 use Rattle.sj_forward_rules.specs.Record.{In, FrameAt, SentAt, StateAt, Held, Parked, Passing, Closed, RecordAt}
 use Rattle.sj_forward_rules.specs.World.{frames_for}
 
@@ -121,3 +125,40 @@ claimed_so d ends mid outs e hop origin ms some waited passes same put g =
     into : (q : ℕ) (b : Bool) → (if b then lane_in d.outs.items q ++ inward e (suc hop) ms else lane_in d.outs.items q) ≡ lane_in d.outs.items q ++ (if b then inward e (suc hop) ms else [])
     into q true = refl
     into q false = sym (append-nil (lane_in d.outs.items q))
+
+-- ---- an Open
+
+-- what is written is written of the ends as they were before memory was taken
+writes_after : (a b c : Rows) (e : EndId) (at : Option ℕ) (hop : ℕ) (r : RecordAt) → EndsStay a b → Writes b e at hop r c → Writes a e at hop r c
+writes_after a b c e at hop r stay w = record {
+  uses = w.uses ∙ (λ i d. if is_same_end d e then at else stay.uses i d);
+  records = w.records ∙ (λ i d k. if is_same_end d e && (k == hop) then Some r else stay.records i d k);
+}
+
+pub opens_so : (d : Desk) (mid ends : Table) (offers : Vec (Vec ℕ Global) Global) (origin sess : ℕ) → IsSome (open_comes (desk_at nobody d) origin sess) → EndsStay d.ends.items mid.items
+    → Writes mid.items (offered_end sess) (Some 0) 0 (record { behind = origin; state = Held [] }) ends.items
+    → offers_in offers.items ≡ offering origin (offers_in d.offers.items origin ++ sess ∷ []) (offers_in d.offers.items)
+    → (g : Program) → DoesSo d (open_comes (desk_at g d) origin sess) (record d { offers = offers; ends = ends })
+opens_so d mid ends offers origin sess some stay begun more g = by (is_opened_by origin sess && is_none (records_in d.ends.items (offered_end sess) 0)) some
+  where
+    e : EndId
+    e = offered_end sess
+
+    n : NodeAt Program
+    n = desk_at g d
+
+    new : Desk
+    new = record d { offers = offers; ends = ends }
+
+    node : NodeAt Program
+    node = with_offers origin (n.offers origin ++ sess ∷ []) (with_first e origin n)
+
+    w : Writes d.ends.items e (Some 0) 0 (record { behind = origin; state = Held [] }) ends.items
+    w = writes_after d.ends.items mid.items ends.items e (Some 0) 0 (record { behind = origin; state = Held [] }) stay begun
+
+    there : Bool → Program → Option (Worked Program)
+    there b k = if b then Some (quietly (with_offers origin ((desk_at k d).offers origin ++ sess ∷ []) (with_first e origin (desk_at k d)))) else None
+
+    by : (b : Bool) → IsSome (there b nobody) → DoesSo d (there b g) new
+    by false h = absurd (cc h)
+    by true h = does_quietly d new node (λ i. record { program = g; requests = d.requests; offers = more i; uses = w.uses i; records = w.records i }) (λ q. refl)

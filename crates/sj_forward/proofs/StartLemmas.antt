@@ -132,7 +132,7 @@ module _ (file : FileAt) (p : ℕ) where
   module _ (rows : Rows) (all : AreFirstRows file p (length file.connects) rows) where
     from_rows : {X : Type 0} (read : Slot → Option X) (e : EndId) (want : ConnectAt → Option X) → ((c : ConnectAt) (s : Slot) → IsFirstSlot file p e c s → read s ≡ want c)
         → option_and_then read (slot_in rows e) ≡ option_and_then want (connect_of file e)
-    from_rows read e want tells =
+    from_rows {X = X} read e want tells =
         elim (cases_lt e.sess (length file.connects)) [
           | inr past ↦
               let no_row : slot_in rows e ≡ None = ap (option_and_then (λ (row : Vec Slot Global). slice_get row.items e.side)) (slice_get_past rows e.sess (let n = all.count in omega (arith, n, past))) in
