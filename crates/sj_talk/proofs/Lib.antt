@@ -1,0 +1,13 @@
+mod ActLemmas
+mod AllowedLemmas
+mod GuardLemmas
+mod HeldLemmas
+mod LineLemmas
+mod MoveLemmas
+mod NameLemmas
+mod OutputLemmas
+mod PlaceLemmas
+mod SafeLemmas
+mod SettledLemmas
+mod StartLemmas
+mod WordLemmas

@@ -1,0 +1,10 @@
+pub mod Words
+pub mod Forms
+pub mod Names
+pub mod TalkWorld
+pub mod Rules
+pub mod Doing
+pub mod Moves
+pub mod Output
+pub mod Play
+pub mod Talk

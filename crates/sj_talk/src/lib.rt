@@ -1,0 +1,20 @@
+//! A party played line by line among the others of its file.
+#![tactic(auto)]
+
+mod acts;
+mod form;
+mod laws;
+mod names;
+mod output;
+mod places;
+mod play;
+mod refusals;
+mod said;
+mod start;
+mod talk;
+mod words;
+
+pub use laws::{talks_serve_the_others, talks_stay_balanced};
+pub use output::talk_lines;
+pub use said::Said;
+pub use talk::Talk;
