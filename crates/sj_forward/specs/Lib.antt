@@ -1,0 +1,9 @@
+pub mod Views
+pub mod Ends
+pub mod Outs
+pub mod Offers
+pub mod Desk
+pub mod Starting
+pub mod Course
+pub mod Draining
+pub mod Forward
