@@ -41,7 +41,7 @@ fn past_end(world: &World, refused: Line) -> RunRefusal
 
 /// Runs a file by its parties, over lanes that the links make: each on a thread of its own where one can
 /// be had; or, with a number, on a pool of so many threads (0 as 1) that take each other's work, in
-/// rounds until one without an event, or the 1,000th. Their logs, joined, are replayed in a core world, which is what the parties left: they are
+/// rounds until one without an event, and one more. Their logs, joined, are replayed in a core world, which is what the parties left: they are
 /// given up before that, and the joined lines become its history.
 ///
 /// A worker that wanted memory makes the whole want memory, unless the links met a fault or the logs

@@ -1,6 +1,6 @@
 use Rattle.sj_steal.specs.Runs.{Each2}
 use Rattle.sj_work.specs.Worked.{Worked}
-use Rattle.sj_run.proofs.rounds.in_rounds.Given as goal
+use Rattle.sj_run.proofs.rounds.until_still.Given as goal
 
 -- all calls so far are one
 abbrev pub invariant-loop : goal.invariant-loop
