@@ -37,6 +37,8 @@ mod replay_log_tests;
 #[cfg(test)]
 mod size_tests;
 #[cfg(test)]
+mod talk_tests;
+#[cfg(test)]
 mod thread_tests;
 #[cfg(test)]
 mod transcripts;

@@ -5,7 +5,7 @@ use Rattle.clap.specs.declared.error.kind.ErrorKind.TheVariants as kind
 use Rattle.clap.specs.Words.{fault_of}
 use Rattle.clap.proofs.OnLiterals.{clap_on_literals}
 use Rattle.sj_command.specs.CommandLine.{IsTaken, line}
-use Rattle.sj_command.specs.Task.{alone, line_in, replaying, running}
+use Rattle.sj_command.specs.Task.{alone, forwarding, line_in, replaying, running}
 
 pub a_command_alone : line_in (codes "check" ∷ []) ≡ alone (codes "check") None
 unfolding clap_on_literals
@@ -35,6 +35,10 @@ pub both_options_and_the_flag :
     line_in (codes "run" ∷ codes "--workers" ∷ codes "4" ∷ codes "--log" ∷ codes "--looks" ∷ codes "5" ∷ []) ≡ running true (Some (codes "5")) (Some (codes "4"))
 unfolding clap_on_literals
 both_options_and_the_flag = refl
+
+pub the_other_flag : line_in (codes "run" ∷ codes "--forward" ∷ []) ≡ forwarding
+unfolding clap_on_literals
+the_other_flag = refl
 
 pub another_command_and_the_flag : line_in (codes "replay" ∷ codes "--log" ∷ []) ≡ replaying true
 unfolding clap_on_literals

@@ -21,10 +21,14 @@ looks_rule = record (new_rule (codes "looks")) { long = Some (codes "looks"); ac
 abbrev pub workers_rule : Rule
 workers_rule = record (new_rule (codes "workers")) { long = Some (codes "workers"); action = Some Set }
 
+abbrev pub forward_rule : Rule
+forward_rule = record (new_rule (codes "forward")) { long = Some (codes "forward"); action = Some SetTrue }
+
 -- the whole line; its words are those behind the program's name
 abbrev pub line : App
-line = with_rule (with_rule (with_rule (with_rule (with_rule (on_top (λ s. record s { no_binary_name = true }) (new_app (codes "sj"))) command_rule) number_rule) log_rule) looks_rule)
-    workers_rule
+line =
+    with_rule (with_rule (with_rule (with_rule (with_rule (with_rule (on_top (λ s. record s { no_binary_name = true }) (new_app (codes "sj"))) command_rule) number_rule) log_rule)
+    looks_rule) workers_rule) forward_rule
 
 -- no rule of the line is broken
 abbrev pub IsTaken : List Text → Type 0

@@ -2,33 +2,47 @@
 use Rattle.std.specs.Prelude.{◌≡◌, ◌≤◌, ℕ, ⊤, Bool, true, false, List, Option, Some, None, codes, decimal}
 use Rattle.clap.specs.Words.{Text}
 use Rattle.sj_command.specs.declared.tasks.Task.{Task}
-use Rattle.sj_command.specs.declared.tasks.Task.TheVariants.{Check, Show, Forest, Sim, Run, Replay, Make, Big}
+use Rattle.sj_command.specs.declared.tasks.Task.TheVariants.{Check, Show, Forest, Sim, Run, Forward, Replay, Talk, Make, Big}
 use Rattle.sj_command.specs.CommandLine.{IsTaken, text_given}
 
--- what a line has: a command and a number, a flag and two options
+-- what a line has: a command and a number, two flags and two options
 pub record LineAt : Type 0 where
   pub command : Option Text
   pub number : Option Text
   pub log : Option Text
   pub looks : Option Text
   pub workers : Option Text
-
--- a command of that name with that number alone
-abbrev pub alone : Text → Option Text → LineAt
-alone name number = record { command = Some name; number = number; log = Some (codes "false"); looks = None; workers = None }
+  pub forward : Option Text
 
 -- what a line has of a flag
 abbrev pub flag_text : (text_given : Bool) → Text
 flag_text false = codes "false"
 flag_text true = codes "true"
 
+-- a line with these parts
+abbrev pub line_with : (command number log looks workers forward : Option Text) → LineAt
+line_with command number log looks workers forward =
+    record { command = command; number = number; log = log; looks = looks; workers = workers; forward = forward }
+
+-- one that asks for forwarding, or one that doesn't
+abbrev pub line_at : (forward : Bool) (command number log looks workers : Option Text) → LineAt
+line_at forward command number log looks workers = line_with command number log looks workers (Some (flag_text forward))
+
+-- a command of that name with that number alone
+abbrev pub alone : Text → Option Text → LineAt
+alone name number = line_at false (Some name) number (Some (flag_text false)) None None
+
 -- `run`, with that flag or without it, and with those options or without them
 abbrev pub running : (log : Bool) (looks workers : Option Text) → LineAt
-running log looks workers = record { command = Some (codes "run"); number = None; log = Some (flag_text log); looks = looks; workers = workers }
+running log looks workers = line_at false (Some (codes "run")) None (Some (flag_text log)) looks workers
+
+-- `run` with forwarding, and nothing else
+abbrev pub forwarding : LineAt
+forwarding = line_at true (Some (codes "run")) None (Some (flag_text false)) None None
 
 -- `replay`, with that flag or without it
 abbrev pub replaying : (log : Bool) → LineAt
-replaying log = record { command = Some (codes "replay"); number = None; log = Some (flag_text log); looks = None; workers = None }
+replaying log = line_at false (Some (codes "replay")) None (Some (flag_text log)) None None
 
 -- the most messages in each loop of the generated file
 abbrev pub most_messages : ℕ
@@ -37,6 +51,14 @@ most_messages = 1000
 -- that many messages can be asked for
 abbrev pub IsCount : ℕ → Type 0
 IsCount n = (1 ≤ n) × (n ≤ most_messages)
+
+-- the highest number of a party
+abbrev pub last_party : ℕ
+last_party = 15
+
+-- that party can be asked for
+abbrev pub IsParty : ℕ → Type 0
+IsParty n = n ≤ last_party
 
 -- the looks of a line without the option
 abbrev pub usual_looks : ℕ
@@ -70,19 +92,17 @@ Means line Forest = line ≡ alone (codes "forest") None
 Means line Sim = line ≡ alone (codes "sim") None
 Means line (Run log looks workers) =
     (line ≡ running log line.looks line.workers) × StandsForLooks line.looks looks × StandsForWorkers line.workers workers
+Means line Forward = line ≡ forwarding
 Means line (Replay log) = line ≡ replaying log
+Means line (Talk n) = (line ≡ alone (codes "talk") (Some (decimal n))) × IsParty n
 Means line (Make n) = (line ≡ alone (codes "make") (Some (decimal n))) × IsCount n
 Means line (Big n) = (line ≡ alone (codes "big") (Some (decimal n))) × IsCount n
 
 -- the line that the words are
 abbrev pub line_in : List Text → LineAt
-line_in words = record {
-  command = text_given (codes "command") words;
-  number = text_given (codes "number") words;
-  log = text_given (codes "log") words;
-  looks = text_given (codes "looks") words;
-  workers = text_given (codes "workers") words;
-}
+line_in words =
+    line_with (text_given (codes "command") words) (text_given (codes "number") words) (text_given (codes "log") words)
+    (text_given (codes "looks") words) (text_given (codes "workers") words) (text_given (codes "forward") words)
 
 -- the words ask for that
 abbrev pub Asks : List Text → Task → Type 0

@@ -1,9 +1,9 @@
 //! What the words of a call ask for.
-ghost use Rattle.std.specs.Prelude.{◌≡◌, Bool, map, string_bytes, Some, None, Ok, option_map, codes, IfOk, IfSome};
-ghost use Rattle.sj_command.specs.Task.{Asks, IsUsage, Means, alone, flag_text};
+ghost use Rattle.std.specs.Prelude.{◌≡◌, Bool, true, false, map, string_bytes, Some, None, Ok, option_map, codes, IfOk, IfSome};
+ghost use Rattle.sj_command.specs.Task.{Asks, IsUsage, Means, alone, flag_text, line_at, line_with};
 ghost use Rattle.sj_command.specs.declared.tasks.Task.{Task as Asked};
 
-use crate::counts::{count_in, looks_in, workers_in};
+use crate::counts::{count_in, looks_in, party_in, workers_in};
 use crate::line::matches_in;
 use crate::tasks::Task;
 use sj_base::NoMemory;
@@ -22,7 +22,8 @@ pub fn task_in(alloc: Global, words: &[String]) -> Result<Option<Task>, NoMemory
     let log = matches.get_str("log");
     let looks = matches.get_str("looks");
     let workers = matches.get_str("workers");
-    Ok(task_of(command, number, log, looks, workers))
+    let forward = matches.get_str("forward");
+    Ok(task_of(command, number, log, looks, workers, forward))
 }
 
 // The task of a line.
@@ -32,21 +33,69 @@ fn task_of(
     log: Option<&str>,
     looks: Option<&str>,
     workers: Option<&str>,
+    forward: Option<&str>,
 ) -> Option<Task>
-    ensures some { IfSome result (Means (record {
-      command = option_map (λ s. s.now) command.entry;
-      number = option_map (λ s. s.now) number.entry;
-      log = option_map (λ s. s.now) log.entry;
-      looks = option_map (λ s. s.now) looks.entry;
-      workers = option_map (λ s. s.now) workers.entry;
-    })) }
-    ensures none { result ≡ None → (t : Asked) → Means (record {
-      command = option_map (λ s. s.now) command.entry;
-      number = option_map (λ s. s.now) number.entry;
-      log = option_map (λ s. s.now) log.entry;
-      looks = option_map (λ s. s.now) looks.entry;
-      workers = option_map (λ s. s.now) workers.entry;
-    }) t → ⊥ }
+    ensures some { IfSome result (Means (line_with
+        (option_map (λ s. s.now) command.entry)
+        (option_map (λ s. s.now) number.entry) (option_map (λ s. s.now) log.entry)
+        (option_map (λ s. s.now) looks.entry) (option_map (λ s. s.now) workers.entry)
+        (option_map (λ s. s.now) forward.entry))) }
+    ensures none { result ≡ None → (t : Asked) → Means (line_with
+        (option_map (λ s. s.now) command.entry)
+        (option_map (λ s. s.now) number.entry) (option_map (λ s. s.now) log.entry)
+        (option_map (λ s. s.now) looks.entry) (option_map (λ s. s.now) workers.entry)
+        (option_map (λ s. s.now) forward.entry)) t → ⊥ }
+{
+    match flag_in(forward) {
+        Some(false) => unforwarded(command, number, log, looks, workers),
+        Some(true) => forwarded(command, number, log, looks, workers),
+        None => None,
+    }
+}
+
+// The task of a line that asks for forwarding: of `run` alone, without anything else.
+fn forwarded(
+    command: Option<&str>,
+    number: Option<&str>,
+    log: Option<&str>,
+    looks: Option<&str>,
+    workers: Option<&str>,
+) -> Option<Task>
+    ensures some { IfSome result (Means (line_at true
+        (option_map (λ s. s.now) command.entry)
+        (option_map (λ s. s.now) number.entry) (option_map (λ s. s.now) log.entry)
+        (option_map (λ s. s.now) looks.entry) (option_map (λ s. s.now) workers.entry))) }
+    ensures none { result ≡ None → (t : Asked) → Means (line_at true
+        (option_map (λ s. s.now) command.entry)
+        (option_map (λ s. s.now) number.entry) (option_map (λ s. s.now) log.entry)
+        (option_map (λ s. s.now) looks.entry) (option_map (λ s. s.now) workers.entry)) t → ⊥ }
+{
+    let name = command?;
+    if name.as_bytes() != b"run".as_slice() {
+        return None;
+    }
+    match (number, flag_in(log), looks, workers) {
+        (None, Some(false), None, None) => Some(Task::Forward),
+        _ => None,
+    }
+}
+
+// The task of a line that asks for no forwarding.
+fn unforwarded(
+    command: Option<&str>,
+    number: Option<&str>,
+    log: Option<&str>,
+    looks: Option<&str>,
+    workers: Option<&str>,
+) -> Option<Task>
+    ensures some { IfSome result (Means (line_at false
+        (option_map (λ s. s.now) command.entry)
+        (option_map (λ s. s.now) number.entry) (option_map (λ s. s.now) log.entry)
+        (option_map (λ s. s.now) looks.entry) (option_map (λ s. s.now) workers.entry))) }
+    ensures none { result ≡ None → (t : Asked) → Means (line_at false
+        (option_map (λ s. s.now) command.entry)
+        (option_map (λ s. s.now) number.entry) (option_map (λ s. s.now) log.entry)
+        (option_map (λ s. s.now) looks.entry) (option_map (λ s. s.now) workers.entry)) t → ⊥ }
 {
     let name = command?;
     if name.as_bytes() == b"run".as_slice() {
@@ -68,20 +117,14 @@ fn run_in(
     looks: Option<&str>,
     workers: Option<&str>,
 ) -> Option<Task>
-    ensures some { IfSome result (Means (record {
-      command = Some (codes "run");
-      number = option_map (λ s. s.now) number.entry;
-      log = option_map (λ s. s.now) log.entry;
-      looks = option_map (λ s. s.now) looks.entry;
-      workers = option_map (λ s. s.now) workers.entry;
-    })) }
-    ensures none { result ≡ None → (t : Asked) → Means (record {
-      command = Some (codes "run");
-      number = option_map (λ s. s.now) number.entry;
-      log = option_map (λ s. s.now) log.entry;
-      looks = option_map (λ s. s.now) looks.entry;
-      workers = option_map (λ s. s.now) workers.entry;
-    }) t → ⊥ }
+    ensures some { IfSome result (Means (line_at false
+        (Some (codes "run"))
+        (option_map (λ s. s.now) number.entry) (option_map (λ s. s.now) log.entry)
+        (option_map (λ s. s.now) looks.entry) (option_map (λ s. s.now) workers.entry))) }
+    ensures none { result ≡ None → (t : Asked) → Means (line_at false
+        (Some (codes "run"))
+        (option_map (λ s. s.now) number.entry) (option_map (λ s. s.now) log.entry)
+        (option_map (λ s. s.now) looks.entry) (option_map (λ s. s.now) workers.entry)) t → ⊥ }
 {
     match (number, flag_in(log), looks_in(looks), workers_in(workers)) {
         (None, Some(log), Some(looks), Some(workers)) => {
@@ -102,20 +145,14 @@ fn replay_in(
     looks: Option<&str>,
     workers: Option<&str>,
 ) -> Option<Task>
-    ensures some { IfSome result (Means (record {
-      command = Some (codes "replay");
-      number = option_map (λ s. s.now) number.entry;
-      log = option_map (λ s. s.now) log.entry;
-      looks = option_map (λ s. s.now) looks.entry;
-      workers = option_map (λ s. s.now) workers.entry;
-    })) }
-    ensures none { result ≡ None → (t : Asked) → Means (record {
-      command = Some (codes "replay");
-      number = option_map (λ s. s.now) number.entry;
-      log = option_map (λ s. s.now) log.entry;
-      looks = option_map (λ s. s.now) looks.entry;
-      workers = option_map (λ s. s.now) workers.entry;
-    }) t → ⊥ }
+    ensures some { IfSome result (Means (line_at false
+        (Some (codes "replay"))
+        (option_map (λ s. s.now) number.entry) (option_map (λ s. s.now) log.entry)
+        (option_map (λ s. s.now) looks.entry) (option_map (λ s. s.now) workers.entry))) }
+    ensures none { result ≡ None → (t : Asked) → Means (line_at false
+        (Some (codes "replay"))
+        (option_map (λ s. s.now) number.entry) (option_map (λ s. s.now) log.entry)
+        (option_map (λ s. s.now) looks.entry) (option_map (λ s. s.now) workers.entry)) t → ⊥ }
 {
     match (number, flag_in(log), looks, workers) {
         (None, Some(log), None, None) => Some(Task::Replay { log }),
@@ -153,6 +190,9 @@ fn task_named(name: &str, number: Option<&str>) -> Option<Task>
             count_in(number).map(Task::Make)
         }
         Some(number) if name.as_bytes() == b"big".as_slice() => { count_in(number).map(Task::Big) }
+        Some(number) if name.as_bytes() == b"talk".as_slice() => {
+            party_in(number).map(Task::Talk)
+        }
         Some(_) => None,
     }
 }

@@ -1,11 +1,14 @@
 //! Numbers among the words: decimal digits without a leading zero.
 ghost use Rattle.std.specs.Prelude.{◌≡◌, ◌≤◌, ℕ, Option, IfSome, None, decimal, option_map};
-ghost use Rattle.sj_command.specs.Task.{IsCount, StandsForLooks, StandsForWorkers};
+ghost use Rattle.sj_command.specs.Task.{IsCount, IsParty, StandsForLooks, StandsForWorkers};
 
 use itoa::Buffer;
 
 /// The most messages in each loop.
 const MOST_MESSAGES: u32 = 1000;
+
+/// The highest number of a party.
+const LAST_PARTY: u32 = 15;
 
 /// The looks where no word tells how many.
 const USUAL_LOOKS: u32 = 1000;
@@ -22,6 +25,17 @@ pub(crate) fn count_in(text: &str) -> Option<u16>
     ensures none { result ≡ None → (n : ℕ) → IsCount n → text.now ≡ decimal n → ⊥ }
 {
     match number_in(text, 1, MOST_MESSAGES) {
+        Some(n) => Some(n as u16),
+        None => None,
+    }
+}
+
+/// The number of a party, from 0 to 15, that the text is.
+pub(crate) fn party_in(text: &str) -> Option<u16>
+    ensures some { IfSome result (λ n. (text.now ≡ decimal n) × IsParty n) }
+    ensures none { result ≡ None → (n : ℕ) → IsParty n → text.now ≡ decimal n → ⊥ }
+{
+    match number_in(text, 0, LAST_PARTY) {
         Some(n) => Some(n as u16),
         None => None,
     }

@@ -1,7 +1,7 @@
 //! The command line as `clap` reads it.
 ghost use Rattle.std.specs.Prelude.{◌≡◌, ℕ, List, map, string_bytes, false, None, Ok, IfOk, IfSome};
 ghost use Rattle.clap.specs.Words.{app_of, found_of, first_value, rule_of};
-ghost use Rattle.sj_command.specs.CommandLine.{IsTaken, command_rule, line, log_rule, looks_rule, number_rule, text_given, workers_rule};
+ghost use Rattle.sj_command.specs.CommandLine.{IsTaken, command_rule, forward_rule, line, log_rule, looks_rule, number_rule, text_given, workers_rule};
 
 use clap::error::ErrorKind;
 use clap::{Arg, ArgAction, ArgMatches, Command, Error};
@@ -56,7 +56,17 @@ fn workers_arg<'a>(alloc: Global) -> Arg<'a>
         .action(ArgAction::Set)
 }
 
-// The line whole: a command, a number, a flag and two options.
+// The flag that asks for forwarding.
+fn forward_arg<'a>(alloc: Global) -> Arg<'a>
+    ensures rule { rule_of result ≡ forward_rule }
+    ensures local { result.global ≡ false }
+{
+    Arg::new(alloc, "forward")
+        .long("forward")
+        .action(ArgAction::SetTrue)
+}
+
+// The line whole: a command, a number, two flags and two options.
 fn whole_line<'a>(alloc: Global) -> Result<Command<'a>, AllocError>
     ensures { IfOk result (λ c. app_of c ≡ line) }
 {
@@ -66,7 +76,8 @@ fn whole_line<'a>(alloc: Global) -> Result<Command<'a>, AllocError>
         .arg(number_arg(alloc))?
         .arg(log_arg(alloc))?
         .arg(looks_arg(alloc))?
-        .arg(workers_arg(alloc))?;
+        .arg(workers_arg(alloc))?
+        .arg(forward_arg(alloc))?;
     Ok(line)
 }
 

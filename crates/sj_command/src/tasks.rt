@@ -19,10 +19,15 @@ pub enum Task {
         looks: u32,
         workers: Option<u16>,
     },
+    /// Runs a file by forwarding and prints the transcript and how many frames were passed on.
+    Forward,
     /// Replays the log behind a file, drains what is left, and prints as `Run` does.
     Replay {
         log: bool,
     },
+    /// Reads a file, a line `%%talk` and lines that play the party of this number, from 0 to 15, and prints
+    /// what is answered to each.
+    Talk(u16),
     /// Prints the generated file with this many messages in each loop, from 1 to 1,000.
     Make(u16),
     /// Runs that file and prints a summary.

@@ -46,15 +46,26 @@ fn words_of_run(rt: HostRuntime) -> Result<(), Fail> {
     Ok(())
 }
 
-const OTHERS: [(&[&str], Option<Task>); 18] = [
+const OTHERS: [(&[&str], Option<Task>); 29] = [
     (&["check"], Some(Task::Check)),
     (&["show"], Some(Task::Show)),
     (&["forest"], Some(Task::Forest)),
     (&["sim"], Some(Task::Sim)),
+    (&["run", "--forward"], Some(Task::Forward)),
+    (&["--forward", "run"], Some(Task::Forward)),
+    (&["run", "--forward", "--log"], None),
+    (&["run", "--forward", "--looks", "5"], None),
+    (&["run", "--workers", "2", "--forward"], None),
+    (&["sim", "--forward"], None),
     (&["replay"], Some(Task::Replay { log: false })),
     (&["replay", "--log"], Some(Task::Replay { log: true })),
     (&["--log", "replay"], Some(Task::Replay { log: true })),
     (&["--", "replay"], Some(Task::Replay { log: false })),
+    (&["talk", "0"], Some(Task::Talk(0))),
+    (&["talk", "15"], Some(Task::Talk(15))),
+    (&["talk", "16"], None),
+    (&["talk", "00"], None),
+    (&["talk"], None),
     (&["make", "1"], Some(Task::Make(1))),
     (&["make", "--", "999"], Some(Task::Make(999))),
     (&["make", "1000"], Some(Task::Make(1000))),

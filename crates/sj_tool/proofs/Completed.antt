@@ -11,7 +11,7 @@ use Rattle.sj_tool.specs.AnswerAt.{AnswerAt}
 use Rattle.sj_tool.specs.Answers.{AnswersBytes, AnswersInput, Came, Comes, OrYields}
 use Rattle.sj_tool.specs.Calls.{CallAt, LinkUseAt, LinksHold}
 use Rattle.sj_tool.specs.Completeness.{Completes, CompletesSo, IsValid, IsValidFile}
-use Rattle.sj_tool.specs.LogAt.{no_log}
+use Rattle.sj_tool.specs.LogAt.{LogAt, no_log}
 use Rattle.sj_tool.specs.Tasks.{HasInput, Reads, Takes, limit_of}
 use Rattle.sj_tool.specs.Texts.{status_of, text_of, verdict_status}
 use Rattle.sj_tool.proofs.BytesAnswer.{takes_file}
@@ -39,11 +39,11 @@ too_many most bytes (Some rest) few (taken, many, e) =
     let same : bytes ≡ taken ++ rest = cc in
     omega (arith, few, many, ap length same, length-append taken rest)
 
-module _ (c : CallAt) (file : FileAt) where
+module _ (c : CallAt) (file : FileAt) (log : LogAt) where
   -- a task that reads
-  module _ (task : Task) (reads : Reads task) (asks : Asks c.words task) (valid : IsValidFile c task file) where
-    input_completes : (a : AnswerAt) → AnswersInput c a → Told task file (status_of a) (text_of a)
-    input_completes a x = bytes_complete c.links task file valid.bytes valid.text valid.log valid.parts valid.stands valid.accepted valid.fits valid.links a answers
+  module _ (task : Task) (reads : Reads task) (asks : Asks c.words task) (valid : IsValidFile c task file log) where
+    input_completes : (a : AnswerAt) → AnswersInput c a → Told task file log (status_of a) (text_of a)
+    input_completes a x = bytes_complete c.links task file valid.bytes valid.text log valid.parts valid.stands valid.accepted valid.fits valid.party valid.links a answers
       where
         tasks_are : x.task ≡ task
         tasks_are = one_task c.words x.task task x.asks asks
@@ -60,7 +60,7 @@ module _ (c : CallAt) (file : FileAt) where
         let came = subst (λ (t : Task). CameOf (λ n. limit_of t < n) c.left c.left_after) tasks_are (came_of (λ n most. most < n) c many) in
         too_many (limit_of task) valid.bytes c.left_after valid.few (came.0, came.1, sym valid.left ∙ came.2)
 
-    row_completes : (a : AnswerAt) → Row c a → Told task file (status_of a) (text_of a)
+    row_completes : (a : AnswerAt) → Row c a → Told task file log (status_of a) (text_of a)
     row_completes a (words e usage) = absurd (usage task asks)
     row_completes a (fault e few rose) = absurd (valid.no_fault rose)
     row_completes a (large e many same) = absurd (too_much many)
@@ -72,7 +72,7 @@ module _ (c : CallAt) (file : FileAt) where
     takes_none : (task : Task) → Asks c.words task → Takes task → ⊥
     takes_none task asked takes = subst (λ (t : Task). Takes t) (one_task c.words task (tasks.Make n) asked asks) takes
 
-    make_completes : (a : AnswerAt) → Row c a → Completes (tasks.Make n) file (status_of a) (text_of a)
+    make_completes : (a : AnswerAt) → Row c a → Completes (tasks.Make n) file log (status_of a) (text_of a)
     make_completes a (words e usage) = absurd (usage (tasks.Make n) asks)
     make_completes a (fault e few rose) = absurd (takes_none few.task few.asks (reads_takes few.task (reads_of (λ n most. n ≤ most) c few)))
     make_completes a (large e many same) = absurd (takes_none many.task many.asks (reads_takes many.task (reads_of (λ n most. most < n) c many)))
@@ -90,12 +90,12 @@ module _ (c : CallAt) (file : FileAt) where
     few = let (taken, means) = asks in means.1.1
 
     -- how the generated file ends
-    sums_up : (status : ℕ) (text : List ℕ) → Told (tasks.Big n) (generated_file n) status text → Completes (tasks.Big n) file status text
+    sums_up : (status : ℕ) (text : List ℕ) → Told (tasks.Big n) (generated_file n) no_log status text → Completes (tasks.Big n) file log status text
     sums_up status text (stands, printed) =
         let ends = file_ends_so n few in
         (stands ∙ ap verdict_status ends.verdict, printed ∙ ap (told_sums n) (ap₂ (λ m s. (m, s)) ends.messages ends.steps) ∙ ap (λ v. sums_line n (generated_file n) (10 * n + 15) (25 * n + 55) ++ line_of (verdict_word v ∷ [])) ends.verdict)
 
-    big_completes : (a : AnswerAt) → Row c a → Completes (tasks.Big n) file (status_of a) (text_of a)
+    big_completes : (a : AnswerAt) → Row c a → Completes (tasks.Big n) file log (status_of a) (text_of a)
     big_completes a (words e usage) = absurd (usage (tasks.Big n) asks)
     big_completes a (fault e few rose) = absurd (reads_none few.task few.asks (reads_of (λ n most. n ≤ most) c few))
     big_completes a (large e many same) = absurd (reads_none many.task many.asks (reads_of (λ n most. most < n) c many))
@@ -105,10 +105,10 @@ module _ (c : CallAt) (file : FileAt) where
         let made = subst (λ (t : Task). HasInput c t x.bytes) tasks_are x.input in
         let answers = subst (λ (t : Task). AnswersBytes c.links t x.bytes a) tasks_are x.answers in
         sums_up (status_of a) (text_of a)
-        (bytes_complete c.links (tasks.Big n) (generated_file n) (generated n) (generated n) no_log (refl, refl) (text_stands n (omega (arith, few))) (λ _. file_is_accepted n) (λ replays. absurd replays) (λ _. hold) a
+        (bytes_complete c.links (tasks.Big n) (generated_file n) (generated n) (generated n) no_log (refl, refl) (text_stands n (omega (arith, few))) (λ _. file_is_accepted n) (λ replays. absurd replays) tt (λ _. hold) a
         (subst (λ (bs : List ℕ). AnswersBytes c.links (tasks.Big n) bs a) made.1 answers))
 
-  completes : (task : Task) → IsValid c task file → (a : AnswerAt) → Row c a → Completes task file (status_of a) (text_of a)
+  completes : (task : Task) → IsValid c task file log → (a : AnswerAt) → Row c a → Completes task file log (status_of a) (text_of a)
   completes (tasks.Make n) v a row = make_completes n v a row
   completes (tasks.Big n) v a row = big_completes n v.0 v.1 a row
   completes task v a row = row_completes task tt v.0 v.1 a row
@@ -116,7 +116,7 @@ module _ (c : CallAt) (file : FileAt) where
 -- the answer that is written completes the task
 pub answered_whole : (said : List (List ℕ)) (left after : Option (List ℕ)) (f g : ℕ) (links : LinkUseAt) (a : AnswerAt) (status : ℕ) (before now : Option (List ℕ))
     → Comes (call_at said left after f g links) a → status ≡ status_of a → now ≡ put_behind before (text_of a)
-    → (task : Task) (file : FileAt) → IsValid (call_at said left after f g links) task file → OrYields status (CompletesSo task file status before now)
-answered_whole said left after f g links a status before now comes e d task file valid =
+    → (task : Task) (file : FileAt) (log : LogAt) → IsValid (call_at said left after f g links) task file log → OrYields status (CompletesSo task file log status before now)
+answered_whole said left after f g links a status before now comes e d task file log valid =
     let c = call_at said left after f g links in
-    inl (record { text = text_of a; completes = subst (λ (s : ℕ). Completes task file s (text_of a)) (sym e) (completes c file task valid a (row_of c a comes)); written = d })
+    inl (record { text = text_of a; completes = subst (λ (s : ℕ). Completes task file log s (text_of a)) (sym e) (completes c file log task valid a (row_of c a comes)); written = d })

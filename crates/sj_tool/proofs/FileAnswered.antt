@@ -1,5 +1,5 @@
 -- Each file has an answer.
-use Rattle.std.proofs.Common.{◌≡◌, ◌∙◌, ◌+◌, ◌-◌, ◌^◌, ◌<◌, ◌⊎◌, ℕ, min, true, false, [], Option, Some, None, inl, inr, not-le_of_lt, refl, sym}
+use Rattle.std.proofs.Common.{length, ◌≡◌, ◌∙◌, ◌+◌, ◌-◌, ◌^◌, ◌<◌, ◌⊎◌, ℕ, min, true, false, [], Option, Some, None, inl, inr, not-le_of_lt, refl, sym}
 use Rattle.std.proofs.lemmas.Bool.{cases_lt}
 use Rattle.std.specs.Prelude.{Bool}
 use Rattle.sj_lane.specs.Told as lanes
@@ -16,7 +16,9 @@ use Rattle.sj_rules.specs.Start.{core_start}
 use Rattle.sj_command.specs.declared.tasks.Task.{Task}
 use Rattle.sj_command.specs.declared.tasks.Task.TheVariants as tasks
 use Rattle.sj_tool.specs.LogAt.{LogAt}
-use Rattle.sj_tool.specs.AnswerAt.{AnswerAt, Check, LinkFault, Printed, Ran}
+use Rattle.sj_talk.specs.Output.{talk_end, talk_text}
+use Rattle.sj_talk.specs.TalkWorld.{talk_start}
+use Rattle.sj_tool.specs.AnswerAt.{NoParty, AnswerAt, Check, LinkFault, Printed, Ran}
 use Rattle.sj_tool.specs.Answers.{AnswersFile}
 use Rattle.sj_tool.specs.Calls.{LinkUseAt, LinksHold}
 use Rattle.sj_tool.specs.Runs.{HasBegun, run_text}
@@ -24,6 +26,7 @@ use Rattle.sj_tool.specs.Shown.{shown}
 use Rattle.sj_tool.specs.Tasks.{HasEvents, RunsParties, Takes}
 use Rattle.sj_tool.specs.Texts.{counts_of}
 use Rattle.sj_tool.proofs.ForestLemmas.{has_forest_text}
+use Rattle.sj_tool.proofs.ForwardLemmas.{has_forward_text}
 use Rattle.sj_tool.proofs.DrainedLemmas.{shown_given, told_runs}
 use Rattle.sj_tool.proofs.DrainedLines.{begun_goes_on}
 use Rattle.sj_tool.proofs.KindLemmas.{run_has_events, run_plays}
@@ -65,8 +68,15 @@ accepted_answered links tasks.Check log file takes accepted shows = (Printed (co
 accepted_answered links tasks.Show log file takes accepted shows = (Printed (shown file), refl)
 accepted_answered links tasks.Forest log file takes accepted shows = let (text, is) = has_forest_text file in (Printed text, (accepted, is))
 accepted_answered links tasks.Sim log file takes accepted shows = (Ran (verdict_of (end_of file)) (transcript_of file (end_of file)), (accepted, (refl, refl)))
+accepted_answered links tasks.Forward log file takes accepted shows =
+    let (text, is) = has_forward_text file accepted in (Ran (verdict_of (end_of file)) text, (accepted, (refl, is)))
 accepted_answered links (tasks.Replay l) log file takes accepted shows =
     elim (log_told_or_begun links l log file accepted) [ inl told ↦ told | inr begun ↦ begun_answered links (tasks.Replay l) log file accepted tt begun ]
+accepted_answered links (tasks.Talk n) log file takes accepted shows =
+    elim (cases_lt n (length file.parties)) [
+      | inl there ↦ (Ran (talk_end (talk_start file n) log.bytes) (talk_text (talk_start file n) log.bytes), (accepted, record { there = there; end = refl; printed = refl }))
+      | inr lacks ↦ (NoParty n, (accepted, (refl, lacks)))
+    ]
 accepted_answered links (tasks.Make n) log file takes accepted shows = absurd takes
 accepted_answered links task log file takes accepted shows = ran_answered links task log file accepted tt (shows tt)
 

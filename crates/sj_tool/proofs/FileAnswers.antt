@@ -1,10 +1,12 @@
 -- What answers a file answers its text, and what tells a refusal answers the file.
-use Rattle.std.proofs.Common.{◌≡◌, ℕ, true, List, Option, Result, Ok, Err, IfOk, inr, sym, subst}
+use Rattle.std.proofs.Common.{◌≡◌, ℕ, true, List, Option, Result, Ok, Err, IfOk, inr, refl, sym, subst}
 use Rattle.std.specs.Prelude.{option_map, max}
 use Rattle.sj_lang.specs.FileAt.{FileAt}
 use Rattle.sj_grammar.specs.Files.{IsFile}
 use Rattle.sj_acceptance.specs.Accepted.{IsAccepted}
 use Rattle.sj_command.specs.declared.tasks.Task.{Task}
+use Rattle.sj_command.specs.declared.tasks.Task.TheVariants as tasks
+use Rattle.sj_command.specs.Task.{Asks}
 use Rattle.sj_end.specs.Lines.{line_at}
 use Rattle.sj_lane.specs.Told as lanes
 use Rattle.sj_rules.specs.History.{IsFirstMisfit}
@@ -12,15 +14,15 @@ use Rattle.sj_rules.specs.Log.{LineAt}
 use Rattle.sj_run.specs.Damage.{IsDamage, IsDamaged, IsDamagedSo}
 use Rattle.sj_run.specs.declared.refusal.RunRefusal.{RunRefusal}
 use Rattle.sj_run.specs.declared.refusal.RunRefusal.TheVariants as refusals
-use Rattle.sj_tool.specs.LogAt.{LogAt, Spells}
+use Rattle.sj_tool.specs.LogAt.{LogAt, Spells, log_at}
 use Rattle.sj_tool.specs.declared.answers.Answer.{Answer}
-use Rattle.sj_tool.specs.AnswerAt.{AnswerAt, answer_at, Usage, ReadFault, TooLarge, Syntax, LogFault, Misfit, Damaged, Made}
+use Rattle.sj_tool.specs.AnswerAt.{AnswerAt, answer_at, Usage, ReadFault, TooLarge, Syntax, LogFault, Misfit, Damaged, Made, NoTalk, LinkFault}
 use Rattle.sj_tool.specs.declared.replaying.ReplayFault.{ReplayFault}
 use Rattle.sj_tool.specs.declared.replaying.ReplayFault.TheVariants as faults
-use Rattle.sj_tool.specs.Answers.{AnswersBytes, AnswersFile, AnswersText}
-use Rattle.sj_tool.specs.Calls.{LinkUseAt}
+use Rattle.sj_tool.specs.Answers.{AnswersBytes, AnswersFile, AnswersInput, AnswersText, Comes}
+use Rattle.sj_tool.specs.Calls.{CallAt, LinkUseAt}
 use Rattle.sj_tool.specs.Entries.{IsDamagedBy, IsToldMisfit, IsToldSo}
-use Rattle.sj_tool.specs.Tasks.{HasParts, Replays as IsReplay, RunsParties}
+use Rattle.sj_tool.specs.Tasks.{HasInput, HasParts, IsRead, Replays as IsReplay, RunsParties}
 use Rattle.sj_tool.specs.Replays.{IsRefusedBy, IsToldFault}
 
 -- ---- from a file to its text, and from there to the bytes
@@ -29,6 +31,7 @@ pub answers_text : (links : LinkUseAt) (task : Task) (log : LogAt) (text : List 
 answers_text links task log text file Usage stands x = absurd x
 answers_text links task log text file ReadFault stands x = absurd x
 answers_text links task log text file TooLarge stands x = absurd x
+answers_text links task log text file NoTalk stands x = absurd x
 answers_text links task log text file (Syntax f) stands x = absurd x
 answers_text links task log text file (Made t) stands x = absurd x
 answers_text links task log text file a stands x = record { file = file; stands = stands; answers = x }
@@ -47,10 +50,37 @@ module _ {E : Type 0} (task : Task) (text : List ℕ) (file : FileAt) (stands : 
   log_answers links log (Ok a) x = answers_text links task log text file (answer_at a) stands (x links)
   log_answers links log (Err e) x = tt
 
+  -- lines of a talk, whatever version a log of theirs had
+  pub talk_answers : (links : LinkUseAt) (version : ℕ) (lines : List ℕ) (r : Result Answer E) → IfOk r (λ a. (l : LinkUseAt) (v : ℕ) → AnswersFile l task (log_at v lines) file (answer_at a))
+      → IfOk r (λ a. AnswersText links task (log_at version lines) text (answer_at a))
+  talk_answers links version lines (Ok a) x = answers_text links task (log_at version lines) text file (answer_at a) stands (x links version)
+  talk_answers links version lines (Err e) x = tt
+
 pub answers_bytes : (links : LinkUseAt) (task : Task) (bytes text : List ℕ) (log : LogAt) (a : AnswerAt) → HasParts task bytes text log → AnswersText links task log text a → AnswersBytes links task bytes a
 answers_bytes links task bytes text log TooLarge parts x = absurd x.answers
+answers_bytes links task bytes text log NoTalk parts x = absurd x.answers
 answers_bytes links task bytes text log (LogFault r l) parts x = inr (record { text = text; log = log; parts = parts; answers = x })
 answers_bytes links task bytes text log a parts x = record { text = text; log = log; parts = parts; answers = x }
+
+-- ---- and from there to the call
+
+-- what answers an input comes
+pub input_comes : (c : CallAt) (a : AnswerAt) → AnswersInput c a → Comes c a
+input_comes c Usage x = absurd x.answers.answers.answers
+input_comes c ReadFault x = absurd x.answers.answers.answers
+input_comes c TooLarge x = inr x
+input_comes c (Made t) x = absurd x.answers.answers.answers
+input_comes c a x = x
+
+pub bytes_come : {E : Type 0} (c : CallAt) (task : Task) (bytes : List ℕ) (r : Result Answer E) → Asks c.words task → HasInput c task bytes → IfOk r (λ a. AnswersBytes c.links task bytes (answer_at a))
+    → IfOk r (λ a. Comes c (answer_at a))
+bytes_come c task bytes (Ok a) asks input x = input_comes c (answer_at a) (record { task = task; asks = asks; bytes = bytes; input = input; answers = x })
+bytes_come c task bytes (Err e) asks input x = tt
+
+-- what is read is the input of a task that makes no file
+pub read_input : (c : CallAt) (task : Task) (bytes : List ℕ) → ((n : ℕ) → task ≡ tasks.Make n → ⊥) → ((n : ℕ) → task ≡ tasks.Big n → ⊥) → IsRead c task bytes → HasInput c task bytes
+read_input c (tasks.Big n) bytes other off x = absurd (off n refl)
+read_input c task bytes other off x = x
 
 -- ---- what tells a refusal
 

@@ -8,9 +8,10 @@ use Rattle.sj_acceptance.specs.FileTests.{tests_of}
 use Rattle.sj_command.specs.declared.tasks.Task.{Task}
 use Rattle.sj_command.specs.declared.tasks.Task.TheVariants as tasks
 use Rattle.sj_tool.specs.LogAt.{LogAt}
-use Rattle.sj_tool.specs.AnswerAt.{AnswerAt, Usage, ReadFault, TooLarge, Syntax, Check, LogFault, Misfit, LinkFault, Damaged, Ran, Printed, Made}
+use Rattle.sj_tool.specs.AnswerAt.{AnswerAt, Usage, ReadFault, TooLarge, NoTalk, Syntax, Check, NoParty, LogFault, Misfit, LinkFault, Damaged, Ran, Printed, Made}
 use Rattle.sj_tool.specs.Answers.{AnswersFile}
 use Rattle.sj_tool.specs.Calls.{LinkUseAt}
+use Rattle.sj_tool.specs.Texts.{text_of}
 use Rattle.sj_tool.proofs.ToldOnce.{Tells, TellsChecked, TellsFaultless, told}
 
 -- no fault of the links is answered
@@ -38,11 +39,15 @@ file_told links task log file (Damaged t) u x = absurd u
 file_told links tasks.Show log file (Check r k) u x = absurd x.0
 file_told links (tasks.Make n) log file (Check r k) u x = absurd x.0
 file_told links task log file (Check r k) u x = by_fault links task log file r k x.1
+file_told links (tasks.Talk n) log file (NoParty m) u x = by_no_fault links (tasks.Talk n) log file (told (NoParty m)) x.0 (inl (x.1.1, ap (λ k. (14, text_of (NoParty k))) x.1.0))
+file_told links task log file (NoParty m) u x = absurd x.1
+file_told links task log file NoTalk u x = absurd x
 file_told links (tasks.Replay l) log file (LogFault r k) u x = by_no_fault links (tasks.Replay l) log file (told (LogFault r k)) x.0 (inl (r, k, x.2, refl))
 file_told links task log file (LogFault r k) u x = absurd x.1
 file_told links (tasks.Replay l) log file (Misfit t) u x = by_no_fault links (tasks.Replay l) log file (told (Misfit t)) x.0 (inr (inl (t, x.2, refl)))
 file_told links task log file (Misfit t) u x = absurd x.1
 file_told links (tasks.Replay l) log file (Ran v t) u x = by_no_fault links (tasks.Replay l) log file (told (Ran v t)) x.0 (inr (inr (record { verdict = v; text = t; plays = x.1; are = refl })))
+file_told links (tasks.Talk n) log file (Ran v t) u x = by_no_fault links (tasks.Talk n) log file (told (Ran v t)) x.0 (inr (record { verdict = v; text = t; plays = x.1; are = refl }))
 file_told links tasks.Check log file (Ran v t) u x = absurd x.1.0
 file_told links tasks.Show log file (Ran v t) u x = absurd x.1.0
 file_told links tasks.Forest log file (Ran v t) u x = absurd x.1.0

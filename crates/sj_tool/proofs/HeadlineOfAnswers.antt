@@ -1,6 +1,5 @@
 -- What is answered of a file that was played has the headline.
-use Rattle.std.proofs.Common.{◌≡◌, ◌∙◌, ◌≤◌, ℕ, true, false, List, [], ◌++◌, Option, refl, sym, ap, arith, subst}
-use Rattle.std.proofs.lemmas.List.{append-nil}
+use Rattle.std.proofs.Common.{◌≡◌, ◌∙◌, ◌≤◌, ℕ, List, Option, refl, sym, ap, arith, subst}
 use Rattle.sj_base.specs.Stream.{put_behind}
 use Rattle.sj_lang.specs.FileAt.{FileAt}
 use Rattle.sj_acceptance.specs.Accepted.{IsAccepted}
@@ -8,84 +7,28 @@ use Rattle.sj_semantics.specs.declared.Verdict.{Verdict}
 use Rattle.sj_semantics.specs.declared.Verdict.TheVariants.{Done, Blocked, Long}
 use Rattle.sj_semantics.specs.Run.{end_of}
 use Rattle.sj_semantics.specs.State.{verdict_of}
-use Rattle.sj_semantics.specs.Transcript.{transcript_of}
 use Rattle.sj_semantics_laws.proofs.FinishLemmas.{end_is_settled, end_is_reached}
 use Rattle.sj_accepted_laws.specs.Headline.{IsHeadline}
 use Rattle.sj_accepted_laws.proofs.HeadlineLemmas.{settled_run_has_it}
 use Rattle.sj_forest_laws.proofs.BlockedLemmas.{never_blocked}
-use Rattle.sj_command.specs.declared.tasks.Task.{Task}
-use Rattle.sj_command.specs.declared.tasks.Task.TheVariants as tasks
 use Rattle.sj_command.proofs.OneTask.{one_task}
-use Rattle.sj_tool.specs.LogAt.{LogAt}
-use Rattle.sj_tool.specs.AnswerAt.{AnswerAt, Usage, ReadFault, TooLarge, Syntax, Check, LogFault, Misfit, LinkFault, Damaged, Ran, Printed, Made}
-use Rattle.sj_tool.specs.Answers.{Comes, Makes}
+use Rattle.sj_tool.specs.AnswerAt.{AnswerAt, Ran}
+use Rattle.sj_tool.specs.Answers.{AnswersInput, Comes}
 use Rattle.sj_tool.specs.Calls.{CallAt, LinkUseAt}
-use Rattle.sj_tool.specs.Headline.{IsLogging, IsPlaying, IsVerdict, HasHeadline, ReadsNoForest}
+use Rattle.sj_tool.specs.Headline.{HasHeadline, IsPlaying, IsVerdict, ReadsNoForest}
 use Rattle.sj_tool.specs.Tasks.{AsksFor}
-use Rattle.sj_tool.specs.Runs.{Plays, Prints, log_part}
 use Rattle.sj_tool.specs.Texts.{status_of, text_of, verdict_status}
 use Rattle.sj_tool.proofs.ExactnessLemmas.{call_at}
 use Rattle.sj_tool.proofs.InputLemmas.{playing_reads, read_of}
+use Rattle.sj_tool.proofs.PlayedAnswers.{beyond, came_of_play, played_so}
 
 -- the end of an accepted file has the headline
 end_has_it : (file : FileAt) → IsAccepted file → (acts : List ℕ) × IsHeadline file acts (end_of file)
 end_has_it file accepted = let l = end_is_reached file in (l.acts, settled_run_has_it file l.acts (end_of file) accepted l.leads (end_is_settled file))
 
--- ---- what is printed of a file that was played
-
--- the verdict is that of the file's end, and its transcript comes first
-pub record IsPlayedSo (task : Task) (file : FileAt) (verdict : Verdict) (text : List ℕ) : Type 0 where
-  pub behind : List ℕ
-  pub stands : verdict ≡ verdict_of (end_of file)
-  pub printed : text ≡ transcript_of file (end_of file) ++ behind
-  pub bare : (IsLogging task → ⊥) → behind ≡ []
-
-pub played_so : (links : LinkUseAt) (task : Task) (log : LogAt) (file : FileAt) (v : Verdict) (text : List ℕ) → IsPlaying task → Plays links task log file v text → IsPlayedSo task file v text
-played_so links tasks.Sim log file v text plays p =
-    record { behind = []; stands = p.0; printed = p.1 ∙ sym (append-nil (transcript_of file (end_of file))); bare = λ no. refl }
-played_so links (tasks.Run false looks workers) log file v text plays p = record { behind = []; stands = p.1.told.0; printed = p.1.told.1; bare = λ no. refl }
-played_so links (tasks.Run true looks workers) log file v text plays p =
-    record { behind = log_part true file p.1.history; stands = p.1.told.0; printed = p.1.told.1; bare = λ no. absurd (no refl) }
-played_so links (tasks.Replay false) log file v text plays p = record { behind = []; stands = p.1.told.0; printed = p.1.told.1; bare = λ no. refl }
-played_so links (tasks.Replay true) log file v text plays p =
-    record { behind = log_part true file p.1.history; stands = p.1.told.0; printed = p.1.told.1; bare = λ no. absurd (no refl) }
-played_so links task log file v text plays p = absurd plays
-
--- ---- no other status is a verdict's
-
-no_refusal : (v : Verdict) (n : ℕ) → 1 ≤ n → n ≤ 5 → n ≡ verdict_status v → ⊥
-no_refusal Done n above below e = omega (arith, above, e)
-no_refusal Blocked n above below e = omega (arith, below, e)
-no_refusal Long n above below e = omega (arith, below, e)
-
-beyond : (v : Verdict) (n : ℕ) → 8 ≤ n → n ≡ verdict_status v → ⊥
-beyond Done n above e = omega (arith, above, e)
-beyond Blocked n above e = omega (arith, above, e)
-beyond Long n above e = omega (arith, above, e)
-
--- ---- a file that is played is neither printed nor made
-
-prints_none : (task : Task) (file : FileAt) (text : List ℕ) → IsPlaying task → Prints task file text → ⊥
-prints_none tasks.Sim file text plays p = p
-prints_none (tasks.Run log looks workers) file text plays p = p
-prints_none (tasks.Replay log) file text plays p = p
-prints_none task file text plays p = plays
-
-makes_none : (c : CallAt) (text : List ℕ) → AsksFor IsPlaying c → Makes c text → ⊥
-makes_none c text plays m = subst IsPlaying (one_task c.words plays.task (tasks.Make m.count) plays.asks m.asks) plays.kind
-
 module _ (c : CallAt) (status : ℕ) (before after : Option (List ℕ)) (verdict : IsVerdict status) (plays : AsksFor IsPlaying c) where
-  answer_has_it : (a : AnswerAt) → Comes c a → status ≡ status_of a → after ≡ put_behind before (text_of a) → HasHeadline c status before after
-  answer_has_it Usage x e d = absurd (x.0 plays.task plays.asks)
-  answer_has_it ReadFault x e d = absurd (no_refusal verdict.0 status (omega (arith, e)) (omega (arith, e)) verdict.1)
-  answer_has_it TooLarge x e d = absurd (no_refusal verdict.0 status (omega (arith, e)) (omega (arith, e)) verdict.1)
-  answer_has_it (Syntax f) x e d = absurd (no_refusal verdict.0 status (omega (arith, e)) (omega (arith, e)) verdict.1)
-  answer_has_it (Check r l) x e d = absurd (no_refusal verdict.0 status (omega (arith, e)) (omega (arith, e)) verdict.1)
-  answer_has_it (LogFault r l) x e d = absurd (beyond verdict.0 status (omega (arith, e)) verdict.1)
-  answer_has_it (Misfit t) x e d = absurd (beyond verdict.0 status (omega (arith, e)) verdict.1)
-  answer_has_it LinkFault x e d = absurd (beyond verdict.0 status (omega (arith, e)) verdict.1)
-  answer_has_it (Damaged t) x e d = absurd (beyond verdict.0 status (omega (arith, e)) verdict.1)
-  answer_has_it (Ran v t) x e d =
+  ran_has_it : (v : Verdict) (t : List ℕ) → AnswersInput c (Ran v t) → status ≡ verdict_status v → after ≡ put_behind before t → HasHeadline c status before after
+  ran_has_it v t x e d =
       let its = x.answers.answers in
       let file = its.file in
       let a = its.answers in
@@ -108,11 +51,13 @@ module _ (c : CallAt) (status : ℕ) (before after : Option (List ℕ)) (verdict
         verdict = e ∙ ap verdict_status p.stands;
         behind = p.behind;
         written = d ∙ ap (put_behind before) p.printed;
-        bare = λ no. p.bare (λ log. no (record { task = x.task; asks = x.asks; kind = log }));
+        bare = λ no. p.bare (λ more. no (record { task = x.task; asks = x.asks; kind = more }));
       }
-  answer_has_it (Printed t) x e d =
-      absurd (prints_none x.task x.answers.answers.file t (subst IsPlaying (one_task c.words plays.task x.task plays.asks x.asks) plays.kind) x.answers.answers.answers)
-  answer_has_it (Made t) x e d = absurd (makes_none c t plays x)
+
+  answer_has_it : (a : AnswerAt) → Comes c a → status ≡ status_of a → after ≡ put_behind before (text_of a) → HasHeadline c status before after
+  answer_has_it a comes e d =
+      let p = came_of_play c status verdict plays a comes e in
+      ran_has_it p.verdict p.text p.answers (e ∙ ap status_of p.is) (d ∙ ap (λ b. put_behind before (text_of b)) p.is)
 
 -- the answer that is written has it
 pub answered_headline : (words : List (List ℕ)) (left after : Option (List ℕ)) (f g : ℕ) (links : LinkUseAt) (a : AnswerAt) (status : ℕ) (before now : Option (List ℕ))

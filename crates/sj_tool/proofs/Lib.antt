@@ -8,6 +8,7 @@ pub mod OneRun
 pub mod OneFault
 pub mod ReplayLemmas
 pub mod ForestLemmas
+pub mod ForwardLemmas
 pub mod LogAnswers
 pub mod ToldOnce
 pub mod FileTold
@@ -19,10 +20,13 @@ pub mod RowKindLemmas
 pub mod RowLemmas
 pub mod TableLemmas
 pub mod ExactnessLemmas
+pub mod PlayedAnswers
 pub mod HeadlineOfAnswers
+pub mod ForwardAnswers
 pub mod CompletedFile
 pub mod Completed
 pub mod LineLemmas
+pub mod NumberLemmas
 pub mod WordsLemmas
 pub mod DrainedLines
 pub mod PartedOrNot

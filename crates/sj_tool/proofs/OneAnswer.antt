@@ -15,8 +15,8 @@ use Rattle.sj_acceptance.specs.FileTests.{tests_of}
 use Rattle.sj_command.specs.declared.tasks.Task.{Task}
 use Rattle.sj_command.specs.declared.tasks.Task.TheVariants as tasks
 use Rattle.sj_tool.specs.LogAt.{LogAt}
-use Rattle.sj_tool.specs.AnswerAt.{AnswerAt, Usage, ReadFault, TooLarge, Syntax, Check, LogFault, Misfit, LinkFault, Damaged, Ran, Printed, Made}
-use Rattle.sj_tool.specs.Answers.{AnswersFile, AnswersItsFile, AnswersText}
+use Rattle.sj_tool.specs.AnswerAt.{AnswerAt, Usage, ReadFault, TooLarge, NoTalk, Syntax, Check, NoParty, LogFault, Misfit, LinkFault, Damaged, Ran, Printed, Made}
+use Rattle.sj_tool.specs.Answers.{AnswersFile, AnswersItsFile, AnswersText, LacksParty}
 use Rattle.sj_tool.specs.Runs.{Prints}
 use Rattle.sj_tool.specs.Calls.{LinkUseAt, LinksHold}
 use Rattle.sj_tool.specs.Tasks.{Replays as IsReplay, RunsParties}
@@ -42,6 +42,10 @@ prints_no_run (tasks.Run l looks workers) file text runs p = p
 prints_no_run (tasks.Big n) file text runs p = p
 prints_no_run task file text runs p = runs
 
+talks_no_run : (task : Task) (number : ℕ) (file : FileAt) → RunsParties task → LacksParty task number file → ⊥
+talks_no_run (tasks.Talk n) number file runs lacks = runs
+talks_no_run task number file runs lacks = lacks
+
 replays_no_run : (task : Task) → RunsParties task → IsReplay task → ⊥
 replays_no_run (tasks.Replay l) runs replays = runs
 replays_no_run task runs replays = replays
@@ -50,6 +54,7 @@ module _ (links : LinkUseAt) (task : Task) (log : LogAt) (file : FileAt) where
   -- where the links don't hold, an accepted file whose parties run has no answer but theirs
   beside : IsAccepted file → RunsParties task → (LinksHold links → ⊥) → (b : AnswerAt) → AnswersFile links task log file b → HoldsFor links task b → ⊥
   beside ok runs off (Check r k) y h = let e : None ≡ Some (r, k) = sym (accepted_to file ok) ∙ y.1 in cc e
+  beside ok runs off (NoParty n) y h = talks_no_run task n file runs y.1
   beside ok runs off (LogFault r k) y h = replays_no_run task runs y.1
   beside ok runs off (Misfit t) y h = replays_no_run task runs y.1
   beside ok runs off LinkFault y h = h
@@ -66,6 +71,7 @@ module _ (links : LinkUseAt) (task : Task) (log : LogAt) (file : FileAt) where
   one_of_file Usage b x y h = absurd x
   one_of_file ReadFault b x y h = absurd x
   one_of_file TooLarge b x y h = absurd x
+  one_of_file NoTalk b x y h = absurd x
   one_of_file (Syntax f) b x y h = absurd x
   one_of_file (Made t) b x y h = absurd x
   one_of_file LinkFault b x y h = absurd (beside x.0 x.1 (λ holds. holds.1 x.2) b y h)

@@ -6,6 +6,7 @@ use Rattle.sj_command.specs.declared.tasks.Task.TheVariants as tasks
 use Rattle.sj_command.specs.Task.{Asks, IsUsage}
 use Rattle.sj_command.proofs.OneTask.{one_task}
 use Rattle.sj_tool.specs.AnswerAt.{AnswerAt, Usage, ReadFault, TooLarge, LinkFault, Damaged, Ran, Made}
+use Rattle.sj_tool.proofs.InputLemmas.{long_tail}
 use Rattle.sj_tool.specs.Texts.{status_of, text_of}
 use Rattle.sj_tool.specs.Answers.{AnswersInput, Came, Comes, Makes}
 use Rattle.sj_tool.specs.Calls.{CallAt}
@@ -40,7 +41,7 @@ made_takes c text task m asks takes = subst (λ (t : Task). Takes t) (one_task c
 pub no_rise : (c : CallAt) (a : AnswerAt) → AnswersInput c a → NoFaultAbove c a → Rose c.faults c.faults_after → ⊥
 no_rise c Usage x h r = absurd x.answers.answers.answers
 no_rise c ReadFault x h r = absurd h
-no_rise c TooLarge x h r = h (record { task = x.task; asks = x.asks; kind = x.answers.0 }) r
+no_rise c TooLarge x h r = h (record { task = x.task; asks = x.asks; kind = long_tail x.task x.bytes x.answers }) r
 no_rise c LinkFault x h r = absurd h
 no_rise c (Damaged t) x h r = absurd h
 no_rise c (Ran v t) x h r = h.0 r

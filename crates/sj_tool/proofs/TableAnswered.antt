@@ -13,16 +13,17 @@ use Rattle.sj_command.specs.declared.tasks.Task.{Task}
 use Rattle.sj_command.specs.declared.tasks.Task.TheVariants as tasks
 use Rattle.sj_command.specs.Task.{Asks}
 use Rattle.sj_command.proofs.OneTask.{one_task}
-use Rattle.sj_tool.specs.LogAt.{LogAt, no_log}
-use Rattle.sj_tool.specs.AnswerAt.{AnswerAt, Usage, ReadFault, TooLarge, Syntax, LogFault, Made}
-use Rattle.sj_tool.specs.Answers.{AnswersBytes, AnswersInput, AnswersText, Comes}
+use Rattle.sj_tool.specs.LogAt.{LogAt, no_log, log_at}
+use Rattle.sj_tool.specs.AnswerAt.{AnswerAt, Usage, ReadFault, TooLarge, Syntax, LogFault, Made, NoTalk}
+use Rattle.sj_tool.specs.Answers.{AnswersBytes, AnswersText, Comes}
 use Rattle.sj_tool.specs.Calls.{CallAt, LinkUseAt, LinksHold}
 use Rattle.sj_tool.specs.Runs.{HasBegun}
 use Rattle.sj_tool.specs.Table.{IsReadAsAsked, ShowsItsRun, WasRead}
+use Rattle.sj_tool.specs.TalkParts.{HasNoTalk}
 use Rattle.sj_tool.specs.Tasks.{HasInput, HasParts, IsRead, IsUnread, Reads, RunsParties, Takes}
 use Rattle.sj_tool.proofs.FileAnswered.{file_answered}
-use Rattle.sj_tool.proofs.FileAnswers.{answers_bytes, answers_text}
-use Rattle.sj_tool.proofs.PartedOrNot.{Parts, parts_or_none}
+use Rattle.sj_tool.proofs.FileAnswers.{answers_bytes, answers_text, input_comes}
+use Rattle.sj_tool.proofs.PartedOrNot.{Parts, TalkParts, parts_or_none, talk_or_none}
 use Rattle.sj_tool.proofs.RowKindLemmas.{reads_takes}
 use Rattle.sj_tool.proofs.WordsLemmas.{asks_or_usage}
 
@@ -53,22 +54,23 @@ module _ (links : LinkUseAt) where
   replay_answered l bytes (inr none) = (LogFault 1 0, inl (tt, none, refl, refl))
   replay_answered l bytes (inl p) =
       elim (cases_lt file_limit (length p.text)) [
-        | inl long ↦ (TooLarge, (tt, record { text = p.text; log = p.log; parts = p.parted; long = long }))
+        | inl long ↦ (TooLarge, record { text = p.text; log = p.log; parts = p.parted; long = long })
         | inr few ↦ parts_answered (tasks.Replay l) bytes p.log p.text tt (p.parted, few) (λ file stands runs. absurd runs)
+      ]
+
+  talk_answered : (n : ℕ) (bytes : List ℕ) → TalkParts bytes ⊎ HasNoTalk bytes → (a : AnswerAt) × AnswersBytes links (tasks.Talk n) bytes a
+  talk_answered n bytes (inr none) = (NoTalk, (tt, none))
+  talk_answered n bytes (inl p) =
+      elim (cases_lt file_limit (length p.text)) [
+        | inl long ↦ (TooLarge, record { text = p.text; log = log_at 1 p.lines; parts = (p.parted, refl); long = long })
+        | inr few ↦ parts_answered (tasks.Talk n) bytes (log_at 1 p.lines) p.text tt ((p.parted, refl), few) (λ file stands runs. absurd runs)
       ]
 
   bytes_answered : (task : Task) (bytes : List ℕ) → Takes task → Shows task no_log bytes → (a : AnswerAt) × AnswersBytes links task bytes a
   bytes_answered (tasks.Replay l) bytes takes shows = replay_answered l bytes (parts_or_none bytes)
+  bytes_answered (tasks.Talk n) bytes takes shows = talk_answered n bytes (talk_or_none bytes)
   bytes_answered (tasks.Make n) bytes takes shows = absurd takes
   bytes_answered task bytes takes shows = parts_answered task bytes no_log bytes takes (refl, refl) shows
-
--- what answers an input comes
-input_comes : (c : CallAt) (a : AnswerAt) → AnswersInput c a → Comes c a
-input_comes c Usage x = absurd x.answers.answers.answers
-input_comes c ReadFault x = absurd x.answers.answers.answers
-input_comes c TooLarge x = inr x
-input_comes c (Made t) x = absurd x.answers.answers.answers
-input_comes c a x = x
 
 module _ (c : CallAt) (same : c.faults_after ≡ c.faults) (was : IsReadAsAsked c) (shows : ShowsItsRun c) where
   input_answered : (task : Task) → Asks c.words task → Takes task → (bytes : List ℕ) → HasInput c task bytes → (a : AnswerAt) × Comes c a

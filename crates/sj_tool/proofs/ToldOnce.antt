@@ -1,5 +1,5 @@
 -- A file is told of in one way: its first fault, or what its task makes of it.
-use Rattle.std.proofs.Common.{◌≡◌, ◌⊎◌, ◌∙◌, ℕ, List, Option, Some, None, ap, ap₂, sym, subst, inl, inr}
+use Rattle.std.proofs.Common.{◌≡◌, ◌⊎◌, ◌∙◌, ◌≤◌, length, arith, ℕ, List, Option, Some, None, ap, ap₂, sym, subst, inl, inr}
 use Rattle.std.specs.Prelude.{Bool}
 use Rattle.sj_lang.specs.FileAt.{FileAt}
 use Rattle.sj_command.specs.declared.tasks.Task.{Task}
@@ -7,7 +7,7 @@ use Rattle.sj_command.specs.declared.tasks.Task.TheVariants as tasks
 use Rattle.sj_semantics.specs.declared.Verdict.{Verdict}
 use Rattle.sj_tool.specs.ForestTexts.{IsForestText}
 use Rattle.sj_tool.specs.LogAt.{Breaks, LogAt}
-use Rattle.sj_tool.specs.AnswerAt.{AnswerAt, Check, LogFault}
+use Rattle.sj_tool.specs.AnswerAt.{AnswerAt, Check, LogFault, NoParty}
 use Rattle.sj_tool.specs.Runs.{Plays}
 use Rattle.sj_tool.specs.Calls.{LinkUseAt}
 use Rattle.sj_tool.specs.Entries.{IsMisfitText}
@@ -15,6 +15,7 @@ use Rattle.sj_tool.specs.Shown.{shown}
 use Rattle.sj_tool.specs.Table.{AreOneLog, LogsRun}
 use Rattle.sj_tool.specs.Texts.{counts_of, status_of, text_of, verdict_status}
 use Rattle.sj_tool.proofs.ForestLemmas.{one_forest_text}
+use Rattle.sj_tool.proofs.ForwardLemmas.{one_forward_text}
 use Rattle.sj_tool.proofs.LogAnswers.{fault_once, fault_or_lines, misfit_once, misfit_or_history}
 use Rattle.sj_tool.proofs.OneRun.{one_run}
 
@@ -57,6 +58,7 @@ TellsFaultless links tasks.Check log file t = t ≡ (0, counts_of file)
 TellsFaultless links tasks.Show log file t = ⊥
 TellsFaultless links tasks.Forest log file t = (text : List ℕ) × IsForestText file text × (t ≡ (0, text))
 TellsFaultless links (tasks.Replay l) log file t = TellsLog links l log file t
+TellsFaultless links (tasks.Talk n) log file t = ((length file.parties ≤ n) × (t ≡ (14, text_of (NoParty n)))) ⊎ IsPlayed links (tasks.Talk n) log file t
 TellsFaultless links (tasks.Make n) log file t = ⊥
 TellsFaultless links task log file t = IsPlayed links task log file t
 
@@ -83,6 +85,8 @@ module _ (links : LinkUseAt) (log : LogAt) (file : FileAt) (t u : ℕ × List �
 
       by : (task : Task) (v w : Verdict) (s r : List ℕ) → Plays links task log file v s → Plays links task log file w r → AreToldOnce task (ended v s) (ended w r)
       by tasks.Sim v w s r p q = same_told tasks.Sim (ended v s) (ended w r) (ap₂ ended (p.0 ∙ sym q.0) (p.1 ∙ sym q.1))
+      by tasks.Forward v w s r p q = same_told tasks.Forward (ended v s) (ended w r) (ap₂ ended (p.0 ∙ sym q.0) (one_forward_text file s r p.1 q.1))
+      by (tasks.Talk n) v w s r p q = same_told (tasks.Talk n) (ended v s) (ended w r) (ap₂ ended (p.end ∙ sym q.end) (p.printed ∙ sym q.printed))
       by (tasks.Run l looks workers) v w s r p q = ran (tasks.Run l looks workers) v w s r (one_run links log file v w s r (tasks.Run l looks workers) tt p.1 q.1)
       by (tasks.Replay l) v w s r p q = ran (tasks.Replay l) v w s r (one_run links log file v w s r (tasks.Replay l) tt p.1 q.1)
       by (tasks.Big n) v w s r p q = ran (tasks.Big n) v w s r (one_run links log file v w s r (tasks.Big n) tt p.1 q.1)
@@ -108,6 +112,10 @@ module _ (links : LinkUseAt) (log : LogAt) (file : FileAt) (t u : ℕ × List �
   faultless_once tasks.Show x y = absurd x
   faultless_once tasks.Forest x y = same_told tasks.Forest t u (x.2 ∙ ap (λ s. (0, s)) (one_forest_text file x.0 y.0 x.1 y.1) ∙ sym y.2)
   faultless_once (tasks.Replay l) x y = log_once l x y
+  faultless_once (tasks.Talk n) (inl x) (inl y) = same_told (tasks.Talk n) t u (x.1 ∙ sym y.1)
+  faultless_once (tasks.Talk n) (inl x) (inr y) = absurd (let no : ⊥ = omega (arith, x.0, y.plays.there) in no)
+  faultless_once (tasks.Talk n) (inr x) (inl y) = absurd (let no : ⊥ = omega (arith, y.0, x.plays.there) in no)
+  faultless_once (tasks.Talk n) (inr x) (inr y) = played_once (tasks.Talk n) x y
   faultless_once (tasks.Make n) x y = absurd x
   faultless_once task x y = played_once task x y
 

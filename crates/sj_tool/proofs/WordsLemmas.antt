@@ -1,78 +1,14 @@
 -- Words ask for a task, or are no command.
-use Rattle.std.proofs.Common.{◌≡◌, ◌⊎◌, ◌≤◌, ◌<◌, ℕ, zero, suc, true, false, List, [], ◌∷◌, Option, Some, None, inl, inr, ap, subst, refl, arith}
-use Rattle.std.proofs.lemmas.Bool.{cases_eq}
+use Rattle.std.proofs.Common.{◌≡◌, ◌⊎◌, ◌≤◌, ◌<◌, ℕ, zero, suc, true, false, List, [], ◌∷◌, Option, Some, None, inl, inr, refl, arith}
 use Rattle.std.specs.Prelude.{Bool, codes, decimal}
 use Rattle.sj_command.specs.declared.tasks.Task.{Task}
-use Rattle.sj_command.specs.declared.tasks.Task.TheVariants.{Check, Show, Forest, Sim, Run, Replay, Make, Big}
+use Rattle.sj_command.specs.declared.tasks.Task.TheVariants.{Check, Show, Forest, Sim, Run, Forward, Replay, Talk, Make, Big}
 use Rattle.sj_command.specs.CommandLine.{IsTaken}
-use Rattle.sj_command.specs.Task.{Asks, IsCount, IsUsage, LineAt, Means, StandsForLooks, StandsForWorkers, alone, line_in, most_looks, most_messages, most_workers, replaying, running, usual_looks}
-use Rattle.sj_tool.proofs.LineLemmas.{made_of, one_list, one_option}
+use Rattle.sj_command.specs.Task.{Asks, IsCount, IsUsage, LineAt, Means, StandsForLooks, StandsForWorkers, alone, forwarding, last_party, line_in, most_looks, most_messages, most_workers, replaying, running}
+use Rattle.sj_tool.proofs.LineLemmas.{made_of}
+use Rattle.sj_tool.proofs.NumberLemmas.{First, first_or_none, looks_or_none, one_line, options_or_none, workers_or_none}
 
--- the first number below n that has it
-pub record First (P : ℕ → Type 0) (n : ℕ) : Type 0 where
-  pub number : ℕ
-  pub below : number < n
-  pub has : P number
-  pub first : (k : ℕ) → k < number → P k → ⊥
-
-pub first_or_none : (P : ℕ → Type 0) → ((k : ℕ) → Dec (P k)) → (n : ℕ) → First P n ⊎ ((k : ℕ) → k < n → P k → ⊥)
-first_or_none P test zero = inr (λ k lt has. omega (arith, lt))
-first_or_none P test (suc n) = by (first_or_none P test n) (test n)
-  where
-    by : First P n ⊎ ((k : ℕ) → k < n → P k → ⊥) → Dec (P n) → First P (suc n) ⊎ ((k : ℕ) → k < suc n → P k → ⊥)
-    by (inl f) t = inl (record { number = f.number; below = omega (arith, f.below); has = f.has; first = f.first })
-    by (inr none) (yes has) = inl (record { number = n; below = omega arith; has = has; first = none })
-    by (inr none) (no not) = inr (λ k lt has. elim (cases_eq k n) [ inl same ↦ not (subst P same has) | inr other ↦ none k (omega (arith, lt, other)) has ])
-
--- whether two lines are one
-one_line : (x y : LineAt) → Dec (x ≡ y)
-one_line x y = by (one_option one_list x.command y.command) (one_option one_list x.number y.number) (one_option one_list x.log y.log) (one_option one_list x.looks y.looks)
-    (one_option one_list x.workers y.workers)
-  where
-    by : Dec (x.command ≡ y.command) → Dec (x.number ≡ y.number) → Dec (x.log ≡ y.log) → Dec (x.looks ≡ y.looks) → Dec (x.workers ≡ y.workers) → Dec (x ≡ y)
-    by (yes a) (yes b) (yes c) (yes d) (yes e) = yes (λ i. record { command = a i; number = b i; log = c i; looks = d i; workers = e i })
-    by (no k) b c d e = no (λ h. k (ap (λ (z : LineAt). z.command) h))
-    by (yes a) (no k) c d e = no (λ h. k (ap (λ (z : LineAt). z.number) h))
-    by (yes a) (yes b) (no k) d e = no (λ h. k (ap (λ (z : LineAt). z.log) h))
-    by (yes a) (yes b) (yes c) (no k) e = no (λ h. k (ap (λ (z : LineAt). z.looks) h))
-    by (yes a) (yes b) (yes c) (yes d) (no k) = no (λ h. k (ap (λ (z : LineAt). z.workers) h))
-
--- the option stands for a number of looks, or for none
 module _ (l : LineAt) where
-  looks_or_none : (most : ℕ) → most_looks ≡ most → (o : Option (List ℕ)) → ((n : ℕ) × StandsForLooks o n) ⊎ ((n : ℕ) → StandsForLooks o n → ⊥)
-  looks_or_none most is None = inl (usual_looks, refl)
-  looks_or_none most is (Some text) =
-      elim (first_or_none (λ n. text ≡ decimal n) (λ n. one_list text (decimal n)) (suc most)) [
-        | inl found ↦ inl (found.number, (found.has, omega (arith, is, found.below)))
-        | inr none ↦ inr (λ n h. none n (omega (arith, is, h.1)) h.0)
-      ]
-
-  -- the text is that number of workers, or isn't
-  workers_dec : (text : List ℕ) (n : ℕ) → Dec ((text ≡ decimal n) × (1 ≤ n))
-  workers_dec text zero = no (λ h. omega (arith, h.1))
-  workers_dec text (suc n) = made_of (one_list text (decimal (suc n))) (λ h. (h, omega arith)) (λ h. h.0)
-
-  workers_or_none : (most : ℕ) → most_workers ≡ most → (o : Option (List ℕ)) → ((w : Option ℕ) × StandsForWorkers o w) ⊎ ((w : Option ℕ) → StandsForWorkers o w → ⊥)
-  workers_or_none most is None = inl (None, tt)
-  workers_or_none most is (Some text) =
-      elim (first_or_none (λ n. (text ≡ decimal n) × (1 ≤ n)) (workers_dec text) (suc most)) [
-        | inl found ↦ inl (Some found.number, (found.has.0, found.has.1, omega (arith, is, found.below)))
-        | inr none ↦ inr (no_workers none)
-      ]
-    where
-      no_workers : ((k : ℕ) → k < suc most → (text ≡ decimal k) × (1 ≤ k) → ⊥) → (w : Option ℕ) → StandsForWorkers (Some text) w → ⊥
-      no_workers none None h = h
-      no_workers none (Some n) h = none n (omega (arith, is, h.2)) (h.0, h.1)
-
-  -- what the options stand for, both of them
-  options_or_none : ((n : ℕ) × StandsForLooks l.looks n) ⊎ ((n : ℕ) → StandsForLooks l.looks n → ⊥)
-      → ((w : Option ℕ) × StandsForWorkers l.workers w) ⊎ ((w : Option ℕ) → StandsForWorkers l.workers w → ⊥)
-      → ((n : ℕ) × (w : Option ℕ) × StandsForLooks l.looks n × StandsForWorkers l.workers w)
-      ⊎ ((n : ℕ) (w : Option ℕ) → StandsForLooks l.looks n → StandsForWorkers l.workers w → ⊥)
-  options_or_none (inl n) (inl w) = inl (n.0, w.0, n.1, w.1)
-  options_or_none (inl n) (inr none) = inr (λ k v h. none v)
-  options_or_none (inr none) w = inr (λ k v h x. none k h)
-
   -- the line is a command of that name with a number from 1 on, or isn't
   abbrev IsCounted : List ℕ → ℕ → Type 0
   IsCounted name n = (l ≡ alone name (Some (decimal n))) × (1 ≤ n)
@@ -102,9 +38,13 @@ module _ (l : LineAt) where
   or_others (inl asked) others = inl asked
   or_others (inr none) others = others none
 
+  -- it is that line, or it isn't
+  asked_so : (t : Task) (line : LineAt) → (l ≡ line → Means l t) → Asked ⊎ (l ≡ line → ⊥)
+  asked_so t line means = elim (one_line l line) [ yes e ↦ inl (t, means e) | no off ↦ inr off ]
+
   -- a command without a number and an option
   asked_alone : (t : Task) (name : List ℕ) → (l ≡ alone name None → Means l t) → Asked ⊎ (l ≡ alone name None → ⊥)
-  asked_alone t name means = elim (one_line l (alone name None)) [ yes e ↦ inl (t, means e) | no off ↦ inr off ]
+  asked_alone t name means = asked_so t (alone name None) means
 
   asked_counted : (t : ℕ → Task) (name : List ℕ) → ((n : ℕ) → Counts name n → Means l (t n)) → Asked ⊎ (((n : ℕ) × Counts name n) → ⊥)
   asked_counted t name means = elim (counted name most_messages refl) [ inl f ↦ inl (t f.0, means f.0 f.1) | inr none ↦ inr (λ f. none f.0 f.1) ]
@@ -114,7 +54,7 @@ module _ (l : LineAt) where
   Runs = (log : Bool) × (n : ℕ) × (w : Option ℕ) × Means l (Run log n w)
 
   asked_run : Asked ⊎ (Runs → ⊥)
-  asked_run = by (one_line l (running false l.looks l.workers)) (one_line l (running true l.looks l.workers)) (options_or_none (looks_or_none most_looks refl l.looks) (workers_or_none most_workers refl l.workers))
+  asked_run = by (one_line l (running false l.looks l.workers)) (one_line l (running true l.looks l.workers)) (options_or_none l (looks_or_none most_looks refl l.looks) (workers_or_none most_workers refl l.workers))
     where
       none : (l ≡ running false l.looks l.workers → ⊥) → (l ≡ running true l.looks l.workers → ⊥) → Runs → ⊥
       none a b (false, n, w, m) = a m.0
@@ -147,6 +87,17 @@ module _ (l : LineAt) where
       by (no a) (yes e) = inl (Replay true, e)
       by (no a) (no b) = inr (none a b)
 
+  -- `talk` with a party's number
+  abbrev Talks : Type 0
+  Talks = (n : ℕ) × Means l (Talk n)
+
+  asked_talk : (last : ℕ) → last_party ≡ last → Asked ⊎ (Talks → ⊥)
+  asked_talk last is =
+      elim (first_or_none (λ n. l ≡ alone (codes "talk") (Some (decimal n))) (λ n. one_line l (alone (codes "talk") (Some (decimal n)))) (suc last)) [
+        | inl f ↦ inl (Talk f.number, (f.has, omega (arith, is, f.below)))
+        | inr none ↦ inr (λ t. none t.0 (omega (arith, is, t.1.1)) t.1.0)
+      ]
+
   -- the line asks for a task, or for none
   pub means_or_none : Asked ⊎ ((t : Task) → Means l t → ⊥)
   means_or_none =
@@ -155,21 +106,25 @@ module _ (l : LineAt) where
       (λ show. or_others (asked_alone Forest (codes "forest") (λ e. e))
       (λ forest. or_others (asked_alone Sim (codes "sim") (λ e. e))
       (λ sim. or_others asked_run
-      (λ run. or_others asked_replay
-      (λ replay. or_others (asked_counted (λ n. Make n) (codes "make") (λ n m. m))
+      (λ run. or_others (asked_so Forward forwarding (λ e. e))
+      (λ forward. or_others asked_replay
+      (λ replay. or_others (asked_talk last_party refl)
+      (λ talk. or_others (asked_counted (λ n. Make n) (codes "make") (λ n m. m))
       (λ make. or_others (asked_counted (λ n. Big n) (codes "big") (λ n m. m))
-      (λ big. inr (none check show forest sim run replay make big)))))))))
+      (λ big. inr (none check show forest sim run forward replay talk make big)))))))))))
     where
-      none : (l ≡ alone (codes "check") None → ⊥) → (l ≡ alone (codes "show") None → ⊥) → (l ≡ alone (codes "forest") None → ⊥) → (l ≡ alone (codes "sim") None → ⊥) → (Runs → ⊥) → (Replays → ⊥)
+      none : (l ≡ alone (codes "check") None → ⊥) → (l ≡ alone (codes "show") None → ⊥) → (l ≡ alone (codes "forest") None → ⊥) → (l ≡ alone (codes "sim") None → ⊥) → (Runs → ⊥) → (l ≡ forwarding → ⊥) → (Replays → ⊥) → (Talks → ⊥)
           → (((n : ℕ) × Counts (codes "make") n) → ⊥) → (((n : ℕ) × Counts (codes "big") n) → ⊥) → (t : Task) → Means l t → ⊥
-      none check show forest sim run replay make big Check m = check m
-      none check show forest sim run replay make big Show m = show m
-      none check show forest sim run replay make big Forest m = forest m
-      none check show forest sim run replay make big Sim m = sim m
-      none check show forest sim run replay make big (Run log n w) m = run (log, n, w, m)
-      none check show forest sim run replay make big (Replay log) m = replay (log, m)
-      none check show forest sim run replay make big (Make n) m = make (n, m)
-      none check show forest sim run replay make big (Big n) m = big (n, m)
+      none check show forest sim run forward replay talk make big Check m = check m
+      none check show forest sim run forward replay talk make big Show m = show m
+      none check show forest sim run forward replay talk make big Forest m = forest m
+      none check show forest sim run forward replay talk make big Sim m = sim m
+      none check show forest sim run forward replay talk make big (Run log n w) m = run (log, n, w, m)
+      none check show forest sim run forward replay talk make big Forward m = forward m
+      none check show forest sim run forward replay talk make big (Replay log) m = replay (log, m)
+      none check show forest sim run forward replay talk make big (Talk n) m = talk (n, m)
+      none check show forest sim run forward replay talk make big (Make n) m = make (n, m)
+      none check show forest sim run forward replay talk make big (Big n) m = big (n, m)
 
 none_or_some : {X : Type 0} (xs : List X) → Dec (xs ≡ [])
 none_or_some [] = yes refl

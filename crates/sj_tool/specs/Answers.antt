@@ -1,5 +1,5 @@
 -- The table of answers, in the order of refusals.
-use Rattle.std.specs.Prelude.{◌≡◌, ◌⊎◌, ◌<◌, ◌≤◌, ℕ, List, [], Option, Some, true}
+use Rattle.std.specs.Prelude.{◌≡◌, ◌⊎◌, ◌<◌, ◌≤◌, ℕ, List, [], Option, Some, length, true}
 use Rattle.sj_base.specs.Stream.{Rose, CameOf, WroteFrontOf, put_behind}
 use Rattle.sj_lane.specs.Told as lanes
 use Rattle.sj_lang.specs.FileAt.{FileAt}
@@ -17,16 +17,23 @@ use Rattle.sj_command.specs.declared.tasks.Task.{Task}
 use Rattle.sj_command.specs.declared.tasks.Task.TheVariants as tasks
 use Rattle.sj_command.specs.Task.{Asks, IsUsage}
 use Rattle.sj_tool.specs.LogAt.{Breaks, LogAt}
-use Rattle.sj_tool.specs.AnswerAt.{AnswerAt, Usage, ReadFault, TooLarge, Syntax, Check, LogFault, Misfit, LinkFault, Damaged, Ran, Printed, Made}
+use Rattle.sj_tool.specs.AnswerAt.{AnswerAt, Usage, ReadFault, TooLarge, NoTalk, Syntax, Check, NoParty, LogFault, Misfit, LinkFault, Damaged, Ran, Printed, Made}
 use Rattle.sj_tool.specs.Calls.{CallAt, LinkUseAt}
 use Rattle.sj_tool.specs.Entries.{IsDamageText, IsMisfitText}
-use Rattle.sj_tool.specs.Tasks.{AsksFor, Checks, HasInput, HasLongText, HasParts, IsUnread, Reads, Replays, RunsParties, Takes, limit_of}
+use Rattle.sj_tool.specs.Tasks.{AsksFor, Checks, HasInput, HasLongText, HasParts, IsUnread, Reads, Replays, RunsParties, Takes, Talks, limit_of}
 use Rattle.sj_tool.specs.Runs.{Plays, Prints}
+use Rattle.sj_tool.specs.TalkParts.{HasNoTalk}
 use Rattle.sj_tool.specs.Texts.{status_of, text_of, write_fault_status, no_memory_status}
 
--- what answers a file, with the log that is replayed
+-- the task plays a party of that number, which the file hasn't
+abbrev pub LacksParty : Task → ℕ → FileAt → Type 0
+LacksParty (tasks.Talk n) number file = (number ≡ n) × (length file.parties ≤ n)
+LacksParty _ number file = ⊥
+
+-- what answers a file, with the log that is replayed or the lines that are played
 abbrev pub AnswersFile : LinkUseAt → Task → (log : LogAt) → FileAt → AnswerAt → Type 0
 AnswersFile links task log file (Check rule line) = Checks task × (first_fault (tests_of file) ≡ Some (rule, line))
+AnswersFile links task log file (NoParty number) = IsAccepted file × LacksParty task number file
 AnswersFile links task log file (LogFault rule line) = IsAccepted file × Replays task × Breaks file log rule line
 AnswersFile links task log file (Misfit text) = IsAccepted file × Replays task × IsMisfitText file log text
 AnswersFile links task log file LinkFault = IsAccepted file × RunsParties task × lanes.Rose links.faults links.faults_after
@@ -59,7 +66,8 @@ MissesLog task bytes rule line = Replays task × HasNoPart bytes × (rule ≡ 1)
 
 -- what answers the bytes that a task takes
 abbrev pub AnswersBytes : LinkUseAt → Task → List ℕ → AnswerAt → Type 0
-AnswersBytes links task bytes TooLarge = Replays task × HasLongText bytes
+AnswersBytes links task bytes TooLarge = HasLongText task bytes
+AnswersBytes links task bytes NoTalk = Talks task × HasNoTalk bytes
 AnswersBytes links task bytes (LogFault rule line) = MissesLog task bytes rule line ⊎ AnswersParts links task bytes (LogFault rule line)
 AnswersBytes links task bytes a = AnswersParts links task bytes a
 

@@ -5,6 +5,7 @@ use Rattle.sj_lang.specs.FileAt.{FileAt}
 use Rattle.sj_grammar.specs.Files.{IsFile}
 use Rattle.sj_acceptance.specs.Accepted.{IsAccepted}
 use Rattle.sj_semantics.specs.declared.Verdict.{Verdict}
+use Rattle.sj_semantics.specs.Run.{end_of}
 use Rattle.sj_semantics.specs.State.{verdict_of}
 use Rattle.sj_semantics.specs.Transcript.{transcript_of}
 use Rattle.sj_semantics.specs.World.{World}
@@ -12,6 +13,7 @@ use Rattle.sj_accepted_laws.specs.Headline.{IsHeadline}
 use Rattle.sj_forest_laws.specs.Forest.{IsForest}
 use Rattle.sj_command.specs.declared.tasks.Task.{Task}
 use Rattle.sj_command.specs.declared.tasks.Task.TheVariants as tasks
+use Rattle.sj_tool.specs.Forwards.{IsForwardText}
 use Rattle.sj_tool.specs.LogAt.{LogAt}
 use Rattle.sj_tool.specs.Calls.{CallAt}
 use Rattle.sj_tool.specs.Tasks.{AsksFor, HasParts, asks_log}
@@ -21,12 +23,19 @@ use Rattle.sj_tool.specs.Texts.{verdict_status}
 abbrev pub IsPlaying : Task → Type 0
 IsPlaying tasks.Sim = ⊤
 IsPlaying (tasks.Run log looks workers) = ⊤
+IsPlaying tasks.Forward = ⊤
 IsPlaying (tasks.Replay log) = ⊤
 IsPlaying _ = ⊥
 
--- it prints the history behind the transcript
-abbrev pub IsLogging : Task → Type 0
-IsLogging task = asks_log task ≡ true
+-- it counts the frames that were delivered
+abbrev pub IsForwarding : Task → Type 0
+IsForwarding tasks.Forward = ⊤
+IsForwarding _ = ⊥
+
+-- it prints something behind the transcript: the history, or that count
+abbrev pub PrintsMore : Task → Type 0
+PrintsMore tasks.Forward = ⊤
+PrintsMore task = asks_log task ≡ true
 
 -- the status of a file that was played: 0, 6 or 7
 abbrev pub IsVerdict : ℕ → Type 0
@@ -56,8 +65,22 @@ pub record HasHeadline (c : CallAt) (status : ℕ) (before after : Option (List 
   pub verdict : status ≡ verdict_status (verdict_of end)
   pub behind : List ℕ
   pub written : after ≡ put_behind before (transcript_of file end ++ behind)
-  -- nothing stands behind the transcript but where the words ask for the log
-  pub bare : (AsksFor IsLogging c → ⊥) → behind ≡ []
+  -- nothing stands behind the transcript but where the words ask for the log, or for forwarding
+  pub bare : (AsksFor PrintsMore c → ⊥) → behind ≡ []
+
+-- an accepted file was read; the status is the verdict of its end, and its text by forwarding is written
+pub record WritesForwarded (c : CallAt) (status : ℕ) (before after : Option (List ℕ)) : Type 0 where
+  -- the bytes that came, which are all where the source tells
+  pub bytes : List ℕ
+  pub came : c.left ≡ put_before bytes c.left_after
+  pub all : IfSome c.left_after (λ rest. rest ≡ [])
+  pub file : FileAt
+  pub stands : IsFile bytes file
+  pub accepted : IsAccepted file
+  pub verdict : status ≡ verdict_status (verdict_of (end_of file))
+  pub text : List ℕ
+  pub is : IsForwardText file text
+  pub written : after ≡ put_behind before text
 
 -- the bytes that came have the text of an accepted file that is no forest
 pub record ReadsNoForest (c : CallAt) : Type 0 where

@@ -5,6 +5,7 @@ pub mod Calls
 pub mod Completeness
 pub mod Entries
 pub mod ForestTexts
+pub mod Forwards
 pub mod Headline
 pub mod LogAt
 pub mod Outcomes
@@ -13,5 +14,7 @@ pub mod Runs
 pub mod Shown
 pub mod Sums
 pub mod Table
+pub mod TalkParts
+pub mod Talks
 pub mod Tasks
 pub mod Texts

@@ -26,7 +26,9 @@ use Rattle.sj_tool.specs.Calls.{LinkUseAt}
 use Rattle.sj_tool.specs.Tasks.{HasEvents, asks_log, looks_of}
 use Rattle.sj_tool.specs.Shown.{shown}
 use Rattle.sj_tool.specs.ForestTexts.{IsForestText}
+use Rattle.sj_tool.specs.Forwards.{HasForwarded}
 use Rattle.sj_tool.specs.Sums.{summary}
+use Rattle.sj_tool.specs.Talks.{HasTalked}
 use Rattle.sj_tool.specs.Texts.{counts_of}
 
 -- the file ends with that verdict, and its transcript is printed
@@ -82,9 +84,11 @@ pub record HasRun (links : LinkUseAt) (task : Task) (log : LogAt) (file : FileAt
   pub headline : IsHeadline file (actors history) (end_of file)
   pub told : IsTold task file history verdict text
 
--- it plays the file to its end: how it ended, and what is printed
+-- it plays the file to its end, or lets lines play a party of it: how it ended, and what is printed
 abbrev pub Plays : LinkUseAt → Task → (log : LogAt) → FileAt → Verdict → List ℕ → Type 0
 Plays links tasks.Sim log file verdict text = HasSimulated file verdict text
+Plays links tasks.Forward log file verdict text = HasForwarded file verdict text
+Plays links (tasks.Talk n) log file verdict text = HasTalked n file log.bytes verdict text
 Plays links task log file verdict text = HasEvents task × HasRun links task log file verdict text
 
 -- what a task prints of a file that it doesn't play

@@ -13,7 +13,7 @@ use Rattle.sj_command.specs.declared.tasks.Task.TheVariants as tasks
 use Rattle.sj_command.specs.Task.{Asks}
 use Rattle.sj_tool.specs.Calls.{CallAt, LinksHold}
 use Rattle.sj_tool.specs.LogAt.{no_log}
-use Rattle.sj_tool.specs.Tasks.{AsksFor, HasInput, Reads, Replays, RunsParties, limit_of}
+use Rattle.sj_tool.specs.Tasks.{AsksFor, HasInput, HasTail, Reads, RunsParties, limit_of}
 use Rattle.sj_tool.specs.Answers.{Answers}
 use Rattle.sj_tool.specs.Runs.{HasBegun, log_part}
 use Rattle.sj_tool.specs.Texts.{status_of, text_of}
@@ -72,7 +72,7 @@ RunsWell c = AsksFor RunsParties c → LinksHold c.links
 abbrev pub NoFaultAbove : CallAt → AnswerAt → Type 0
 NoFaultAbove c Usage = ⊤
 NoFaultAbove c ReadFault = ⊥
-NoFaultAbove c TooLarge = AsksFor Replays c → ¬ Rose c.faults c.faults_after
+NoFaultAbove c TooLarge = AsksFor HasTail c → ¬ Rose c.faults c.faults_after
 NoFaultAbove c LinkFault = ⊥
 NoFaultAbove c (Damaged text) = ⊥
 NoFaultAbove c (Ran verdict text) = ¬ Rose c.faults c.faults_after × (AsksFor RunsParties c → LinksHold c.links)

@@ -1,4 +1,4 @@
--- Kinds of tasks, the bytes that they take, and what a replay makes of these.
+-- Kinds of tasks, the bytes that they take, and what a replay or a talk makes of these.
 use Rattle.std.specs.Prelude.{◌≡◌, ◌<◌, ◌≤◌, ℕ, Bool, false, List, [], length, IfSome, ⊤}
 use Rattle.sj_base.specs.Stream.{put_before}
 use Rattle.sj_generator.specs.Generated.{generated}
@@ -7,6 +7,7 @@ use Rattle.sj_command.specs.declared.tasks.Task.TheVariants as tasks
 use Rattle.sj_command.specs.Task.{Asks, usual_looks}
 use Rattle.sj_log.specs.Parts.{IsParted}
 use Rattle.sj_tool.specs.LogAt.{LogAt, no_log}
+use Rattle.sj_tool.specs.TalkParts.{IsTalk}
 use Rattle.sj_tool.specs.Calls.{CallAt}
 use Rattle.sj_lang.specs.Limits.{file_limit, source_limit}
 
@@ -46,6 +47,17 @@ abbrev pub Replays : Task → Type 0
 Replays (tasks.Replay log) = ⊤
 Replays _ = ⊥
 
+-- it lets lines play a party of a file
+abbrev pub Talks : Task → Type 0
+Talks (tasks.Talk n) = ⊤
+Talks _ = ⊥
+
+-- its source has a log or lines behind the file
+abbrev pub HasTail : Task → Type 0
+HasTail (tasks.Replay log) = ⊤
+HasTail (tasks.Talk n) = ⊤
+HasTail _ = ⊥
+
 -- it does the events of a history in the core: that of the parties, or that of a log
 abbrev pub HasEvents : Task → Type 0
 HasEvents (tasks.Run log looks workers) = ⊤
@@ -56,6 +68,7 @@ HasEvents _ = ⊥
 -- the most bytes of what a task reads
 abbrev pub limit_of : Task → ℕ
 limit_of (tasks.Replay log) = source_limit
+limit_of (tasks.Talk n) = source_limit
 limit_of _ = file_limit
 
 -- how often a party looks in vain before it stops
@@ -87,14 +100,22 @@ abbrev pub HasInput : CallAt → Task → List ℕ → Type 0
 HasInput c (tasks.Big n) bytes = IsUnread c × (bytes ≡ generated n)
 HasInput c task bytes = IsRead c task bytes
 
+-- the text of the file and what stands behind it: of a replay on the two sides of its first line `%%log` or `%%log2`, which tells the version
+-- of the log, of a talk on those of its first line `%%talk`
+abbrev pub IsPartedFor : Task → (source text : List ℕ) (log : LogAt) → Type 0
+IsPartedFor (tasks.Replay l) source text log = IsParted source text log.version log.bytes
+IsPartedFor (tasks.Talk n) source text log = IsTalk source text log.bytes × (log.version ≡ 1)
+IsPartedFor _ source text log = ⊥
+
 -- what stands before the line that parts the source is more than a file may have
-pub record HasLongText (source : List ℕ) : Type 0 where
+pub record HasLongText (task : Task) (source : List ℕ) : Type 0 where
   pub text : List ℕ
   pub log : LogAt
-  pub parts : IsParted source text log.version log.bytes
+  pub parts : IsPartedFor task source text log
   pub long : file_limit < length text
 
--- the text of the file, and the log that is replayed: of a source they stand on the two sides of its first line `%%log` or `%%log2`, which tells the version of the log
+-- the text of the file, and the log that is replayed or the lines that are played
 abbrev pub HasParts : Task → (bytes text : List ℕ) (log : LogAt) → Type 0
-HasParts (tasks.Replay l) bytes text log = IsParted bytes text log.version log.bytes × (length text ≤ file_limit)
+HasParts (tasks.Replay l) bytes text log = IsPartedFor (tasks.Replay l) bytes text log × (length text ≤ file_limit)
+HasParts (tasks.Talk n) bytes text log = IsPartedFor (tasks.Talk n) bytes text log × (length text ≤ file_limit)
 HasParts task bytes text log = (text ≡ bytes) × (log ≡ no_log)

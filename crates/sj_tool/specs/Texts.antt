@@ -6,7 +6,7 @@ use Rattle.sj_grammar.specs.declared.tokens.Rule.TheVariants.{P1, P2, P3, P4, P5
 use Rattle.sj_semantics.specs.declared.Verdict.{Verdict}
 use Rattle.sj_semantics.specs.declared.Verdict.TheVariants.{Done, Blocked, Long}
 use Rattle.sj_semantics.specs.Transcript.{line_of}
-use Rattle.sj_tool.specs.AnswerAt.{AnswerAt, Usage, ReadFault, TooLarge, Syntax, Check, LogFault, Misfit, LinkFault, Damaged, Ran, Printed, Made}
+use Rattle.sj_tool.specs.AnswerAt.{AnswerAt, Usage, ReadFault, TooLarge, NoTalk, Syntax, Check, NoParty, LogFault, Misfit, LinkFault, Damaged, Ran, Printed, Made}
 
 abbrev pub rule_number : Rule → ℕ
 rule_number P1 = 1
@@ -33,6 +33,8 @@ status_of ReadFault = 2
 status_of TooLarge = 3
 status_of (Syntax fault) = 4
 status_of (Check rule line) = 5
+status_of NoTalk = 12
+status_of (NoParty number) = 14
 status_of (LogFault rule line) = 12
 status_of (Misfit text) = 12
 status_of LinkFault = 8
@@ -51,6 +53,8 @@ text_of ReadFault = codes "read fault\n"
 text_of TooLarge = codes "too large\n"
 text_of (Syntax fault) = line_of (codes "syntax" ∷ (codes "P" ++ decimal (rule_number fault.rule)) ∷ codes "at" ∷ (decimal fault.line ++ (codes ":" ++ decimal fault.column)) ∷ [])
 text_of (Check rule line) = rule_line (codes "check") (codes "C") rule line
+text_of NoTalk = codes "talk L1 at 0\n"
+text_of (NoParty number) = line_of (codes "no" ∷ codes "party" ∷ decimal number ∷ [])
 text_of (LogFault rule line) = rule_line (codes "log") (codes "L") rule line
 text_of (Misfit text) = text
 text_of LinkFault = codes "link fault\n"

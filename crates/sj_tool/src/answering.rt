@@ -1,21 +1,24 @@
 //! From the words and the input to the answer.
-ghost use Rattle.std.specs.Prelude.{◌≡◌, ◌≤◌, IfOk, length};
+ghost use Rattle.std.specs.Prelude.{◌≡◌, ◌≤◌, IfOk, IfSome, None, length};
 ghost use Rattle.sj_generator.specs.Generated.{generated};
 ghost use Rattle.sj_tool.specs.AnswerAt.{answer_at};
 ghost use Rattle.sj_tool.specs.Answers.{AnswersBytes, AnswersText, Comes};
 ghost use Rattle.sj_tool.specs.Calls.{call, link_use};
 ghost use Rattle.sj_tool.specs.LogAt.{log_at};
+ghost use Rattle.sj_tool.specs.TalkParts.{HasNoTalk, IsTalk};
 ghost use Rattle.sj_tool.specs.Tasks.{Takes, limit_of};
 ghost use Rattle.sj_print.specs.Version.{IsVersion};
 ghost use Rattle.sj_lang.specs.Limits.{file_limit, source_limit};
 
 use crate::answers::Answer;
-use crate::files::{counted, ran_by_links, ran_by_log, shaped, shown, simulated_file};
+use crate::files::{
+    counted, forwarded_file, played, ran_by_links, ran_by_log, shaped, shown, simulated_file,
+};
 use sj_base::{NoMemory, ReadRefusal, Source, read_all};
 use sj_command::{Task, task_in};
 use sj_generator::print_generated;
 use sj_lane::Links;
-use sj_log::parted;
+use sj_log::{line_at, parted};
 use sj_party::parse_file;
 use sj_proto::ParseRefusal;
 use sj_work::Gate;
@@ -63,7 +66,7 @@ fn limit_in(task: Task) -> usize
     ensures { result ≡ limit_of task }
 {
     match task {
-        Task::Replay { .. } => MAX_SOURCE,
+        Task::Replay { .. } | Task::Talk(_) => MAX_SOURCE,
         _ => MAX_FILE,
     }
 }
@@ -78,7 +81,7 @@ fn generated_text(alloc: Global, n: u16) -> Result<Vec<u8>, NoMemory>
 }
 
 // The answer to the bytes of a task: of a replay the first line `%%log` or `%%log2` parts them into a
-// file and a log, and tells the log's version.
+// file and a log, and tells the log's version; of a talk the first line `%%talk` into a file and lines.
 fn answer_to_bytes<R: Threads + Sync, L: Links, G: Gate>(
     rt: &R,
     alloc: Global,
@@ -93,21 +96,47 @@ fn answer_to_bytes<R: Threads + Sync, L: Links, G: Gate>(
         (link_use L.tells L.faults L.sent L.got L.vain_out L.vain_in links.old links.new)
         task bytes.now (answer_at a)) }
 {
-    let Task::Replay { .. } = task else {
-        let answer = answer_to_text(rt, alloc, task, bytes, 1, b"", links, gate)?;
-        return Ok(answer);
-    };
-    let Some((text, version, log)) = parted(bytes) else {
-        return Ok(Answer::LogFault(1, 0));
-    };
-    if text.len() > MAX_FILE {
-        return Ok(Answer::TooLarge);
+    match task {
+        Task::Replay { .. } => {
+            let Some((text, version, log)) = parted(bytes) else {
+                return Ok(Answer::LogFault(1, 0));
+            };
+            if text.len() > MAX_FILE {
+                return Ok(Answer::TooLarge);
+            }
+            let answer = answer_to_text(rt, alloc, task, text, version, log, links, gate)?;
+            Ok(answer)
+        }
+        Task::Talk(_) => {
+            let Some((text, lines)) = parted_talk(bytes) else {
+                return Ok(Answer::NoTalk);
+            };
+            if text.len() > MAX_FILE {
+                return Ok(Answer::TooLarge);
+            }
+            let answer = answer_to_text(rt, alloc, task, text, 1, lines, links, gate)?;
+            Ok(answer)
+        }
+        _ => {
+            let answer = answer_to_text(rt, alloc, task, bytes, 1, b"", links, gate)?;
+            Ok(answer)
+        }
     }
-    let answer = answer_to_text(rt, alloc, task, text, version, log, links, gate)?;
-    Ok(answer)
 }
 
-// The answer to the text of a file, and a log of that version where one is replayed.
+// The text of the file and the lines of a talk, parted at the first line `%%talk`.
+fn parted_talk(bytes: &[u8]) -> Option<(&[u8], &[u8])>
+    ensures some { IfSome result (λ p. IsTalk bytes.now p.0.now p.1.now) }
+    ensures none { result ≡ None → HasNoTalk bytes.now }
+{
+    match line_at(bytes, b"%%talk\n", b"\n%%talk\n") {
+        Some(at) => Some((&bytes[..at], &bytes[at + 7..])),
+        None => None,
+    }
+}
+
+// The answer to the text of a file, and a log of that version where one is replayed, or lines that play
+// a party.
 fn answer_to_text<R: Threads + Sync, L: Links, G: Gate>(
     rt: &R,
     alloc: Global,
@@ -136,9 +165,11 @@ fn answer_to_text<R: Threads + Sync, L: Links, G: Gate>(
         Task::Check => counted(alloc, file),
         Task::Forest => shaped(alloc, file),
         Task::Sim => simulated_file(alloc, file),
+        Task::Forward => forwarded_file(alloc, file),
         Task::Run { .. } => ran_by_links(rt, alloc, file, task, links, gate),
         Task::Big(_) => ran_by_links(rt, alloc, file, task, links, gate),
         Task::Replay { .. } => ran_by_log(alloc, file, task, version, log),
+        Task::Talk(party) => played(alloc, file, party, log),
         // It takes no file.
         Task::Make(_) => unreachable!(),
     }

@@ -1,6 +1,6 @@
 //! What the top call answers.
 ghost use Rattle.std.specs.Prelude.{◌≡◌, IfOk};
-ghost use Rattle.sj_tool.specs.AnswerAt.{Check, LogFault, Syntax, answer_at};
+ghost use Rattle.sj_tool.specs.AnswerAt.{Check, LogFault, NoParty, Syntax, answer_at};
 ghost use Rattle.sj_tool.specs.Texts.{rule_number, status_of, text_of, verdict_status};
 
 use sj_base::NoMemory;
@@ -18,10 +18,14 @@ pub enum Answer {
     ReadFault,
     /// The input has more bytes than the command takes, or the file in it than a file may have.
     TooLarge,
+    /// No line of the input of a talk is `%%talk`.
+    NoTalk,
     /// The input is no file of the grammar.
     Syntax(Fault),
     /// The file isn't accepted: the number of the broken rule, and a line.
     Check(u8, u32),
+    /// The file has no party of the number that is to be played.
+    NoParty(u16),
     /// The log isn't in its grammar: the number of the broken rule, and a line. Rule 1 at line 0 tells
     /// that no line of the source is `%%log` or `%%log2`.
     LogFault(u8, u32),
@@ -50,7 +54,8 @@ impl Answer {
             Answer::TooLarge => 3,
             Answer::Syntax(_) => 4,
             Answer::Check(..) => 5,
-            Answer::LogFault(..) | Answer::Misfit(_) => 12,
+            Answer::NoTalk | Answer::LogFault(..) | Answer::Misfit(_) => 12,
+            Answer::NoParty(_) => 14,
             Answer::LinkFault => 8,
             Answer::Damaged(_) => 9,
             Answer::Ran(verdict, _) => status_by(*verdict),
@@ -71,6 +76,8 @@ impl Answer {
             Answer::TooLarge => copied_text(alloc, b"too large\n"),
             Answer::Syntax(fault) => syntax_text(alloc, fault),
             Answer::Check(rule, line) => check_text(alloc, rule, line),
+            Answer::NoTalk => copied_text(alloc, b"talk L1 at 0\n"),
+            Answer::NoParty(number) => no_party_text(alloc, number),
             Answer::LogFault(rule, line) => log_fault_text(alloc, rule, line),
             Answer::Misfit(text) => Ok(text),
             Answer::LinkFault => copied_text(alloc, b"link fault\n"),
@@ -119,6 +126,16 @@ fn check_text(alloc: Global, rule: u8, line: u32) -> Result<Vec<u8>, NoMemory>
     put_number(&mut text, u64::from(rule))?;
     put(&mut text, b" at ")?;
     put_number(&mut text, u64::from(line))?;
+    put(&mut text, b"\n")?;
+    Ok(text)
+}
+
+fn no_party_text(alloc: Global, number: u16) -> Result<Vec<u8>, NoMemory>
+    ensures { IfOk result (λ text. text.items ≡ text_of (NoParty number)) }
+{
+    let mut text = Vec::new(alloc);
+    put(&mut text, b"no party ")?;
+    put_number(&mut text, u64::from(number))?;
     put(&mut text, b"\n")?;
     Ok(text)
 }

@@ -1,5 +1,5 @@
 //! What answers a file that was read.
-ghost use Rattle.std.specs.Prelude.{◌≤◌, IfOk, length};
+ghost use Rattle.std.specs.Prelude.{◌≤◌, ℕ, IfOk, length};
 ghost use Rattle.sj_lang.specs.FileView.{file_of};
 ghost use Rattle.sj_lang.specs.Limits.{limits, IsWithin, source_limit};
 ghost use Rattle.sj_command.specs.declared.tasks.Task.TheVariants as tasks;
@@ -17,10 +17,12 @@ use crate::answers::Answer;
 use crate::counting::counts_text;
 use crate::entries::told_entry;
 use crate::forests::forest_text;
+use crate::forwarding::forwarded;
 use crate::playing::simulated;
 use crate::replaying::{ReplayFault, replayed};
 use crate::running::ran;
 use crate::showing::shown_text;
+use crate::talking::talked;
 use sj_base::NoMemory;
 use sj_check::{Accepted, CheckRefusal, check};
 use sj_command::Task;
@@ -76,6 +78,43 @@ pub(crate) fn simulated_file(alloc: Global, file: File) -> Result<Answer, NoMemo
         }
         Judged::Fault(rule, line) => Ok(Answer::Check(rule, line)),
     }
+}
+
+/// How a file ends, its transcript and how many frames were delivered, where it is accepted.
+pub(crate) fn forwarded_file(alloc: Global, file: File) -> Result<Answer, NoMemory>
+    requires { IsWithin limits (file_of file) }
+    ensures { IfOk result (λ a. (links : LinkUseAt) (log : LogAt)
+        → AnswersFile links tasks.Forward log (file_of file) (answer_at a)) }
+{
+    match judge(alloc, file)? {
+        Judged::Accepted(accepted) => {
+            let (verdict, text) = forwarded(alloc, &accepted)?;
+            Ok(Answer::Ran(verdict, text))
+        }
+        Judged::Fault(rule, line) => Ok(Answer::Check(rule, line)),
+    }
+}
+
+/// How a file ends in which these lines play the party of that number, and what is answered to them.
+pub(crate) fn played(
+    alloc: Global,
+    file: File,
+    party: u16,
+    lines: &[u8],
+) -> Result<Answer, NoMemory>
+    requires { IsWithin limits (file_of file) }
+    ensures { IfOk result (λ a. (links : LinkUseAt) (version : ℕ) → AnswersFile links (tasks.Talk party)
+        (log_at version lines.now) (file_of file) (answer_at a)) }
+{
+    let accepted = match judge(alloc, file)? {
+        Judged::Accepted(accepted) => accepted,
+        Judged::Fault(rule, line) => return Ok(Answer::Check(rule, line)),
+    };
+    if party as usize >= accepted.file().parties.len() {
+        return Ok(Answer::NoParty(party));
+    }
+    let (verdict, text) = talked(alloc, accepted, party, lines)?;
+    Ok(Answer::Ran(verdict, text))
 }
 
 /// How a file ends that its parties run over those links, and what the task prints of that.

@@ -8,6 +8,7 @@ mod counting;
 mod entries;
 mod files;
 mod forests;
+mod forwarding;
 mod laws;
 mod logging;
 mod playing;
@@ -15,6 +16,7 @@ mod replaying;
 mod running;
 mod showing;
 mod summing;
+mod talking;
 mod top;
 
 pub use laws::{the_table_gives_one_answer, the_table_has_an_answer};

@@ -8,7 +8,8 @@ ghost use Rattle.sj_tool.specs.AnswerAt.{AnswerAt, ReadFault, LinkFault, Damaged
 ghost use Rattle.sj_tool.specs.Answers.{AnswersOne, Comes, OrYields, WroteFront};
 ghost use Rattle.sj_tool.specs.Calls.{call, link_use};
 ghost use Rattle.sj_tool.specs.Completeness.{CompletesSo, IsValid};
-ghost use Rattle.sj_tool.specs.Headline.{HasHeadline, IsPlaying, IsVerdict, ReadsNoForest};
+ghost use Rattle.sj_tool.specs.Headline.{HasHeadline, IsForwarding, IsPlaying, IsVerdict, ReadsNoForest, WritesForwarded};
+ghost use Rattle.sj_tool.specs.LogAt.{LogAt};
 ghost use Rattle.sj_tool.specs.Tasks.{AsksFor};
 ghost use Rattle.sj_tool.specs.Table.{AnswersAs, NoFaultAbove};
 ghost use Rattle.sj_semantics.specs.declared.Verdict.TheVariants.{Blocked};
@@ -31,8 +32,8 @@ const NO_MEMORY: u8 = 11;
 /// The words are those behind the program's name. The text is built whole before any is written.
 ///
 /// `run` runs the parties of a file over the links, each on a thread of its own where the runtime gives
-/// one, and shows each event of theirs to the gate.
-#[tactic(auto, using(crate::proofs::HeadlineOfAnswers::no_blocked, crate::proofs::HeadlineOfAnswers::no_headline))]
+/// one, and shows each event of theirs to the gate. `run --forward` runs them on the caller's thread.
+#[tactic(auto, using(crate::proofs::HeadlineOfAnswers::no_blocked, crate::proofs::HeadlineOfAnswers::no_headline, crate::proofs::ForwardAnswers::no_forwarded))]
 pub fn sj<R: Threads + Sync, S: Source, K: Sink, L: Links, G: Gate>(
     rt: &R,
     alloc: Global,
@@ -66,6 +67,14 @@ pub fn sj<R: Threads + Sync, S: Source, K: Sink, L: Links, G: Gate>(
         (link_use L.tells L.faults L.sent L.got L.vain_out L.vain_in links.old links.new)) result
         (K.written out.old) (K.written out.new) }
 
+    // What `run --forward` writes with them is that transcript and the number of deliveries of its drain.
+    ensures forwarded { IsVerdict result
+        → AsksFor IsForwarding (call S.left S.faults words.now src.old src.new
+        (link_use L.tells L.faults L.sent L.got L.vain_out L.vain_in links.old links.new))
+        → WritesForwarded (call S.left S.faults words.now src.old src.new
+        (link_use L.tells L.faults L.sent L.got L.vain_out L.vain_in links.old links.new)) result
+        (K.written out.old) (K.written out.new) }
+
     // `sim`, `run` and `replay` answer 6 only of a file that is no forest.
     ensures forest { result ≡ verdict_status Blocked
         → AsksFor IsPlaying (call S.left S.faults words.now src.old src.new
@@ -74,10 +83,10 @@ pub fn sj<R: Threads + Sync, S: Source, K: Sink, L: Links, G: Gate>(
         (link_use L.tells L.faults L.sent L.got L.vain_out L.vain_in links.old links.new)) }
 
     // Of an input that is valid for the task the answer is what the task tells of it.
-    ensures complete { (task : AnyTask) → (file : FileAt)
+    ensures complete { (task : AnyTask) → (file : FileAt) → (log : LogAt)
         → IsValid (call S.left S.faults words.now src.old src.new
-        (link_use L.tells L.faults L.sent L.got L.vain_out L.vain_in links.old links.new)) task file
-        → OrYields result (CompletesSo task file result (K.written out.old) (K.written out.new)) }
+        (link_use L.tells L.faults L.sent L.got L.vain_out L.vain_in links.old links.new)) task file log
+        → OrYields result (CompletesSo task file log result (K.written out.old) (K.written out.new)) }
 
     // A read fault, a link fault and a write fault come only where a fault was counted, and damage only
     // over links that don't tell.

@@ -1,12 +1,11 @@
-use Rattle.std.proofs.Common.{rules, inl, inr}
-use Rattle.std.specs.Prelude.{false}
-use Rattle.sj_command.proofs.OneTask.{means_alone}
+use Rattle.std.proofs.Common.{ap, inl, inr}
+use Rattle.std.specs.Prelude.{false, true}
+use Rattle.sj_command.proofs.OneTask.{means_forwarding}
 use Rattle.sj_command.proofs.asking.task_of.Goals as goal
 
-pub returns-in_default-4-clause-none : goal.returns-in_default-4-clause-none
-returns-in_default-4-clause-none c e t m =
-    elim (means_alone _ t m) [
-      | inl run ↦ search rules
-      | inr (inl replay) ↦ search rules
-      | inr (inr alone) ↦ c.flag_in.ensures.none c.in_default.is-0 false alone.0
+pub returns-in-None-clause-none : goal.returns-in-None-clause-none
+returns-in-None-clause-none c e t m =
+    elim (means_forwarding _ t m) [
+      | inl same ↦ c.flag_in.ensures.none c.in-None.is true (ap (λ k. k.forward) same)
+      | inr off ↦ c.flag_in.ensures.none c.in-None.is false off
     ]

@@ -11,8 +11,9 @@ pub returns : goal.returns
 returns c =
     let bare : app_of c.no_binary_name.result ≡ without_name (new_app (codes "sj")) =
     ap app_of_fields c.no_binary_name.ensures ∙ ap without_name c.new.ensures.app in
-    c.in_ok-line.ensures.shape c.workers_arg.ensures.local
+    c.in_ok-line.ensures.shape c.forward_arg.ensures.local
+    ∙ ap₂ with_rule (c.in_ok-arg-5.ensures.shape c.workers_arg.ensures.local
     ∙ ap₂ with_rule (c.in_ok-arg-4.ensures.shape c.looks_arg.ensures.local
     ∙ ap₂ with_rule (c.in_ok-arg-3.ensures.shape c.log_arg.ensures.local
     ∙ ap₂ with_rule (c.in_ok-arg-2.ensures.shape c.number_arg.ensures.local
-    ∙ ap₂ with_rule (c.in_ok-arg.ensures.shape c.command_arg.ensures.local ∙ ap₂ with_rule bare c.command_arg.ensures.rule) c.number_arg.ensures.rule) c.log_arg.ensures.rule) c.looks_arg.ensures.rule) c.workers_arg.ensures.rule
+    ∙ ap₂ with_rule (c.in_ok-arg.ensures.shape c.command_arg.ensures.local ∙ ap₂ with_rule bare c.command_arg.ensures.rule) c.number_arg.ensures.rule) c.log_arg.ensures.rule) c.looks_arg.ensures.rule) c.workers_arg.ensures.rule) c.forward_arg.ensures.rule

@@ -6,7 +6,7 @@ use Rattle.sj_tool.specs.AnswerAt.{answer_at}
 use Rattle.sj_tool.specs.Answers.{AnswersText}
 use Rattle.sj_tool.specs.LogAt.{log_at}
 use Rattle.sj_tool.specs.Calls.{LinkUseAt, link_use}
-use Rattle.sj_tool.proofs.FileAnswers.{any_answers, links_answers, log_answers}
+use Rattle.sj_tool.proofs.FileAnswers.{any_answers, links_answers, log_answers, talk_answers}
 use Rattle.sj_tool.proofs.answering.answer_to_text.Goals as goal
 
 pub returns-in-Show : goal.returns-in-Show
@@ -32,6 +32,18 @@ returns-in-Sim g c =
     let links : LinkUseAt = link_use g.L.Links.tells g.L.Links.faults g.L.Links.sent g.L.Links.got g.L.Links.vain_out g.L.Links.vain_in c.args.links.now c.args.links.now in
     subst (λ (t : Task). IfOk c.simulated_file.result (λ a. AnswersText links t (log_at c.args.version c.args.log.now) c.args.text.now (answer_at a))) (sym c.in-Sim.is)
     (any_answers tasks.Sim c.args.text.now (file_of c.in-Ok.file) c.in-Ok.ensures.found links (log_at c.args.version c.args.log.now) c.simulated_file.result c.simulated_file.ensures)
+
+pub returns-in-Forward : goal.returns-in-Forward
+returns-in-Forward g c =
+    let links : LinkUseAt = link_use g.L.Links.tells g.L.Links.faults g.L.Links.sent g.L.Links.got g.L.Links.vain_out g.L.Links.vain_in c.args.links.now c.args.links.now in
+    subst (λ (t : Task). IfOk c.forwarded_file.result (λ a. AnswersText links t (log_at c.args.version c.args.log.now) c.args.text.now (answer_at a))) (sym c.in-Forward.is)
+    (any_answers tasks.Forward c.args.text.now (file_of c.in-Ok.file) c.in-Ok.ensures.found links (log_at c.args.version c.args.log.now) c.forwarded_file.result c.forwarded_file.ensures)
+
+pub returns-in-Talk : goal.returns-in-Talk
+returns-in-Talk g c =
+    let links : LinkUseAt = link_use g.L.Links.tells g.L.Links.faults g.L.Links.sent g.L.Links.got g.L.Links.vain_out g.L.Links.vain_in c.args.links.now c.args.links.now in
+    subst (λ (t : Task). IfOk c.played.result (λ a. AnswersText links t (log_at c.args.version c.args.log.now) c.args.text.now (answer_at a))) (sym c.in-Talk.is)
+    (talk_answers (tasks.Talk c.in-Talk.party) c.args.text.now (file_of c.in-Ok.file) c.in-Ok.ensures.found links c.args.version c.args.log.now c.played.result c.played.ensures)
 
 pub returns-in-Run : goal.returns-in-Run
 returns-in-Run g c =

@@ -1,0 +1,94 @@
+-- An answer with a verdict's status tells how a file ended that was played.
+use Rattle.std.proofs.Common.{◌≡◌, ◌∙◌, ◌≤◌, ℕ, true, false, List, [], ◌++◌, refl, sym, arith, subst}
+use Rattle.std.proofs.lemmas.List.{append-nil}
+use Rattle.sj_lang.specs.FileAt.{FileAt}
+use Rattle.sj_semantics.specs.declared.Verdict.{Verdict}
+use Rattle.sj_semantics.specs.declared.Verdict.TheVariants.{Done, Blocked, Long}
+use Rattle.sj_semantics.specs.Run.{end_of}
+use Rattle.sj_semantics.specs.State.{verdict_of}
+use Rattle.sj_semantics.specs.Transcript.{transcript_of}
+use Rattle.sj_forward_rules.specs.Drain.{passed_in}
+use Rattle.sj_command.specs.declared.tasks.Task.{Task}
+use Rattle.sj_command.specs.declared.tasks.Task.TheVariants as tasks
+use Rattle.sj_command.proofs.OneTask.{one_task}
+use Rattle.sj_tool.specs.Forwards.{passed_line}
+use Rattle.sj_tool.specs.LogAt.{LogAt}
+use Rattle.sj_tool.specs.AnswerAt.{AnswerAt, Usage, ReadFault, TooLarge, NoTalk, Syntax, Check, NoParty, LogFault, Misfit, LinkFault, Damaged, Ran, Printed, Made}
+use Rattle.sj_tool.specs.Answers.{AnswersInput, Comes, Makes}
+use Rattle.sj_tool.specs.Calls.{CallAt, LinkUseAt}
+use Rattle.sj_tool.specs.Headline.{IsPlaying, IsVerdict, PrintsMore}
+use Rattle.sj_tool.specs.Tasks.{AsksFor}
+use Rattle.sj_tool.specs.Runs.{Plays, Prints, log_part}
+use Rattle.sj_tool.specs.Texts.{status_of, verdict_status}
+
+-- ---- what is printed of a file that was played
+
+-- the verdict is that of the file's end, and its transcript comes first
+pub record IsPlayedSo (task : Task) (file : FileAt) (verdict : Verdict) (text : List ℕ) : Type 0 where
+  pub behind : List ℕ
+  pub stands : verdict ≡ verdict_of (end_of file)
+  pub printed : text ≡ transcript_of file (end_of file) ++ behind
+  pub bare : (PrintsMore task → ⊥) → behind ≡ []
+
+pub played_so : (links : LinkUseAt) (task : Task) (log : LogAt) (file : FileAt) (v : Verdict) (text : List ℕ) → IsPlaying task → Plays links task log file v text → IsPlayedSo task file v text
+played_so links tasks.Sim log file v text plays p =
+    record { behind = []; stands = p.0; printed = p.1 ∙ sym (append-nil (transcript_of file (end_of file))); bare = λ no. refl }
+played_so links (tasks.Run false looks workers) log file v text plays p = record { behind = []; stands = p.1.told.0; printed = p.1.told.1; bare = λ no. refl }
+played_so links (tasks.Run true looks workers) log file v text plays p =
+    record { behind = log_part true file p.1.history; stands = p.1.told.0; printed = p.1.told.1; bare = λ no. absurd (no refl) }
+played_so links (tasks.Replay false) log file v text plays p = record { behind = []; stands = p.1.told.0; printed = p.1.told.1; bare = λ no. refl }
+played_so links (tasks.Replay true) log file v text plays p =
+    record { behind = log_part true file p.1.history; stands = p.1.told.0; printed = p.1.told.1; bare = λ no. absurd (no refl) }
+played_so links tasks.Forward log file v text plays p =
+    record { behind = passed_line (passed_in p.1.turns); stands = p.0; printed = p.1.printed; bare = λ no. absurd (no tt) }
+played_so links task log file v text plays p = absurd plays
+
+-- ---- no other status is a verdict's
+
+no_refusal : (v : Verdict) (n : ℕ) → 1 ≤ n → n ≤ 5 → n ≡ verdict_status v → ⊥
+no_refusal Done n above below e = omega (arith, above, e)
+no_refusal Blocked n above below e = omega (arith, below, e)
+no_refusal Long n above below e = omega (arith, below, e)
+
+pub beyond : (v : Verdict) (n : ℕ) → 8 ≤ n → n ≡ verdict_status v → ⊥
+beyond Done n above e = omega (arith, above, e)
+beyond Blocked n above e = omega (arith, above, e)
+beyond Long n above e = omega (arith, above, e)
+
+-- ---- a file that is played is neither printed nor made
+
+prints_none : (task : Task) (file : FileAt) (text : List ℕ) → IsPlaying task → Prints task file text → ⊥
+prints_none tasks.Sim file text plays p = p
+prints_none (tasks.Run log looks workers) file text plays p = p
+prints_none tasks.Forward file text plays p = p
+prints_none (tasks.Replay log) file text plays p = p
+prints_none task file text plays p = plays
+
+makes_none : (c : CallAt) (text : List ℕ) → AsksFor IsPlaying c → Makes c text → ⊥
+makes_none c text plays m = subst IsPlaying (one_task c.words plays.task (tasks.Make m.count) plays.asks m.asks) plays.kind
+
+-- ---- an answer with such a status tells how a file ended
+
+pub record CameOfPlay (c : CallAt) (a : AnswerAt) : Type 0 where
+  pub verdict : Verdict
+  pub text : List ℕ
+  pub is : a ≡ Ran verdict text
+  pub answers : AnswersInput c (Ran verdict text)
+
+module _ (c : CallAt) (status : ℕ) (verdict : IsVerdict status) (plays : AsksFor IsPlaying c) where
+  pub came_of_play : (a : AnswerAt) → Comes c a → status ≡ status_of a → CameOfPlay c a
+  came_of_play Usage x e = absurd (x.0 plays.task plays.asks)
+  came_of_play ReadFault x e = absurd (no_refusal verdict.0 status (omega (arith, e)) (omega (arith, e)) verdict.1)
+  came_of_play TooLarge x e = absurd (no_refusal verdict.0 status (omega (arith, e)) (omega (arith, e)) verdict.1)
+  came_of_play (Syntax f) x e = absurd (no_refusal verdict.0 status (omega (arith, e)) (omega (arith, e)) verdict.1)
+  came_of_play (Check r l) x e = absurd (no_refusal verdict.0 status (omega (arith, e)) (omega (arith, e)) verdict.1)
+  came_of_play NoTalk x e = absurd (beyond verdict.0 status (omega (arith, e)) verdict.1)
+  came_of_play (NoParty n) x e = absurd (beyond verdict.0 status (omega (arith, e)) verdict.1)
+  came_of_play (LogFault r l) x e = absurd (beyond verdict.0 status (omega (arith, e)) verdict.1)
+  came_of_play (Misfit t) x e = absurd (beyond verdict.0 status (omega (arith, e)) verdict.1)
+  came_of_play LinkFault x e = absurd (beyond verdict.0 status (omega (arith, e)) verdict.1)
+  came_of_play (Damaged t) x e = absurd (beyond verdict.0 status (omega (arith, e)) verdict.1)
+  came_of_play (Ran v t) x e = record { verdict = v; text = t; is = refl; answers = x }
+  came_of_play (Printed t) x e =
+      absurd (prints_none x.task x.answers.answers.file t (subst IsPlaying (one_task c.words plays.task x.task plays.asks x.asks) plays.kind) x.answers.answers.answers)
+  came_of_play (Made t) x e = absurd (makes_none c t plays x)
