@@ -1,1 +1,2 @@
+pub mod DequeLemmas
 pub mod TwoLemmas

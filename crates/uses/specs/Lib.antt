@@ -1,2 +1,3 @@
+pub mod DequeLanes
 pub mod Talks
 pub mod Transcripts

@@ -1,10 +1,14 @@
 //! Callers of the crates below, as a builder of message-passing systems writes them.
 #![tactic(auto)]
 
+mod by_hand;
+mod deques;
 mod files;
 mod protocols;
 mod runs;
 
+pub use by_hand::{act_on, carry};
+pub use deques::{DequeIn, DequeLinks, DequeOut};
 pub use files::transcript_in;
 pub use protocols::can_talk;
 pub use runs::run_file;

@@ -1,13 +1,39 @@
-//! A file from its text to its transcript, two protocols, and a run.
-use crate::{can_talk, run_file, transcript_in};
-use sj_check::check;
+//! A file from its text to its transcript, two protocols, and runs.
+use crate::{DequeLinks, act_on, can_talk, carry, run_file, transcript_in};
+use sj_check::{Accepted, check};
+use sj_core::first_nodes;
+use sj_lane::RingLinks;
 use sj_party::parse_file;
+use std::alloc::Global;
 use std::test::Fail;
 
 const FIRST: &[u8] = b"protocol p { begin.!<int> } protocol q { begin.?(int) }
 party a { send x 5; close x; }
 party b { recv y n int; close y; }
 connect a x p to b y q;";
+
+/// The desk gives Ann's session to the store, which takes what she had sent.
+const DESK: &[u8] =
+    b"protocol asks { begin.!<String>.?(int) } protocol says { begin.?(String).!<int> }
+protocol gives { begin.!<?(String).!<int>> } protocol gets { begin.?(?(String).!<int>) }
+party ann { send x \"an umbrella\"; recv x price int; close x; }
+party desk { delegate z y; close z; }
+party store { recv u s session says; close u; recv s what String; send s 12; close s; }
+connect ann x asks to desk y says;
+connect desk z gives to store u gets;";
+
+fn accepted(alloc: Global, text: &[u8]) -> Result<Accepted, Fail> {
+    if text.len() > 65_536 {
+        return Err(Fail::from("too long"));
+    }
+    let Ok(file) = parse_file(alloc, text) else {
+        return Err(Fail::from("no file"));
+    };
+    let Ok(accepted) = check(alloc, file) else {
+        return Err(Fail::from("refused"));
+    };
+    Ok(accepted)
+}
 
 #[test]
 fn a_text_has_its_transcript(rt: HostRuntime) -> Result<(), Fail> {
@@ -32,15 +58,41 @@ fn protocols_meet_or_not(rt: HostRuntime) -> Result<(), Fail> {
 }
 
 #[test]
-fn a_file_is_run(rt: HostRuntime) -> Result<(), Fail> {
-    let Ok(file) = parse_file(rt.alloc(), FIRST) else {
-        return Err(Fail::from("no file"));
+fn a_file_is_run_over_rings_and_deques(rt: HostRuntime) -> Result<(), Fail> {
+    let accepted = accepted(rt.alloc(), FIRST)?;
+    let over_rings = run_file(&rt, rt.alloc(), &accepted, &mut RingLinks::new()).ok_or("not run")?;
+    let over_deques = run_file(&rt, rt.alloc(), &accepted, &mut DequeLinks).ok_or("not run")?;
+    assert_eq!(rt; over_rings.history().len(), 7);
+    assert_eq!(rt; over_deques.history().len(), 7);
+    Ok(())
+}
+
+#[test]
+fn a_session_is_handed_over_by_hand(rt: HostRuntime) -> Result<(), Fail> {
+    let accepted = accepted(rt.alloc(), DESK)?;
+    let Ok(mut nodes) = first_nodes(rt.alloc(), &accepted) else {
+        return Err(Fail::from("no nodes"));
     };
-    let Ok(accepted) = check(rt.alloc(), file) else {
-        return Err(Fail::from("refused"));
+    let (Some(mut store), Some(mut desk), Some(mut ann)) = (nodes.pop(), nodes.pop(), nodes.pop())
+    else {
+        return Err(Fail::from("not three"));
     };
-    let world = run_file(&rt, rt.alloc(), &accepted).ok_or("not run")?;
-    assert!(rt; world.quiet());
-    assert_eq!(rt; world.history().len(), 7);
+    // Ann sends to the desk, which has given her session away when it comes.
+    assert_eq!(rt; act_on(&mut ann), 1);
+    assert_eq!(rt; act_on(&mut desk), 2);
+    assert!(rt; carry(&mut ann, &mut desk).is_ok());
+    for _ in 0..10u8 {
+        assert!(rt; carry(&mut desk, &mut store).is_ok());
+        act_on(&mut store);
+        assert!(rt; carry(&mut store, &mut desk).is_ok());
+        assert!(rt; carry(&mut desk, &mut ann).is_ok());
+        act_on(&mut ann);
+        assert!(rt; carry(&mut ann, &mut store).is_ok());
+        assert!(rt; carry(&mut store, &mut ann).is_ok());
+        assert!(rt; carry(&mut ann, &mut desk).is_ok());
+    }
+    assert!(rt; ann.finished());
+    assert!(rt; desk.finished());
+    assert!(rt; store.finished());
     Ok(())
 }

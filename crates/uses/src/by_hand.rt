@@ -1,0 +1,46 @@
+//! A file played by hand: nodes act, and the caller carries each frame from one to the other.
+ghost use Rattle.std.specs.Prelude.{◌≡◌, ℕ, IfErr};
+ghost use Rattle.sj_node.specs.Outs.{waiting_in};
+ghost use Rattle.sj_node.specs.Reading.{outs_of};
+
+use sj_node::{DeliverRefusal, Node};
+
+/// The most acts of a party.
+const MOST_ACTS: u32 = 10_000;
+
+/// No clock comes so far in a run of a file.
+const CLOCK_END: u64 = 1 << 62;
+
+/// Lets a party act until it waits, has ended or is at a limit. How often it did.
+pub fn act_on(node: &mut Node) -> u32 {
+    for acts in 0..MOST_ACTS {
+        if node.clock() >= CLOCK_END {
+            return acts;
+        }
+        let Ok(()) = node.act() else {
+            return acts;
+        };
+    }
+    MOST_ACTS
+}
+
+/// Carries the first frame that one party has for another one. Whether there was one; a frame that is
+/// refused stays where it was.
+pub fn carry(from: &mut Node, to: &mut Node) -> Result<bool, DeliverRefusal>
+    ensures { IfErr result (λ e. (q : ℕ) → waiting_in (outs_of from.new) q ≡ waiting_in (outs_of from.old) q) }
+{
+    let party = to.party();
+    if to.clock() >= CLOCK_END {
+        return Ok(false);
+    }
+    let Some(frame) = from.take_out(party) else {
+        return Ok(false);
+    };
+    match to.deliver(from.party(), frame) {
+        Ok(()) => Ok(true),
+        Err((frame, refusal)) => {
+            from.put_back(party, frame);
+            Err(refusal)
+        }
+    }
+}
