@@ -1,5 +1,6 @@
 """Calls of the programs, for the trials."""
 import os
+import re
 import struct
 import subprocess
 import sys
@@ -18,6 +19,41 @@ def answer(words, text, program=None, prefix=(), seconds=60, env=None):
     except subprocess.TimeoutExpired:
         return None, b""
     return done.returncode, done.stdout
+
+
+def talk(text, lines):
+    """A file, and lines of the party that is played."""
+    return text + b"%%talk\n" + b"".join(line + b"\n" for line in lines)
+
+
+VERDICTS = {0: b"done", 6: b"blocked", 7: b"long"}
+SAID = re.compile(rb'ok|took (?:int -?[0-9]+|boolean (?:true|false)|String "[^"]*"|label \w+|more|stop|session [0-9]+\.[01] \w+)|refused ([1-9][0-9]*) G[1-7]')
+
+
+def is_talked(got, lines):
+    """Whether an answer has the form of one to those bytes behind `%%talk`: an answer to each line, and the verdict of its status."""
+    status, out = got
+    count = lines.count(b"\n") + (lines[-1:] not in (b"", b"\n"))
+    said = out.split(b"\n")
+    if status not in VERDICTS or len(said) != count + 2 or said[-2:] != [VERDICTS[status], b""]:
+        return False
+    matches = [SAID.fullmatch(line) for line in said[:-2]]
+    return all(it and it[1] in (None, b"%d" % (at + 1)) for at, it in enumerate(matches))
+
+
+def is_forwarded(got, plain):
+    """Whether an answer of `run --forward` is that of `sim`, with the deliveries behind a transcript."""
+    if plain[0] not in VERDICTS:
+        return got == plain
+    return got[0] == plain[0] and got[1].startswith(plain[1]) and re.fullmatch(rb"passed (?:0|[1-9][0-9]*)\n", got[1][len(plain[1]):]) is not None
+
+
+def knows(words, text):
+    """Whether the program that is tried knows these words; where it doesn't, this is said."""
+    if answer(words, text)[0] != 1:
+        return True
+    print("not built here:", " ".join(words))
+    return False
 
 
 def counted(name):

@@ -4,7 +4,7 @@ status 11 and no byte, or the one without a refusal. Where valgrind is there, on
 import os
 import shutil
 import tempfile
-from calls import SJ, TOP, Tally, answer, arguments, counted
+from calls import SJ, TOP, Tally, answer, arguments, counted, knows, talk
 from files import seeded
 
 seed, count = arguments(2000)
@@ -13,16 +13,17 @@ read = lambda name: open("%s/examples/%s.sj" % (TOP, name), "rb").read()
 with tempfile.TemporaryDirectory() as folder:
     library = folder + "/refuse.so"
     assert os.system("gcc -O2 -shared -fPIC -o %s %s/refuse.c -ldl" % (library, os.path.dirname(os.path.abspath(__file__)))) == 0
-    talk = read("first") + b"%%talk\nsend x 5\nclose x\n"
+    played = talk(read("agency"), [b"more x", b'send x "Oslo"', b"take x", b"send x 5", b"stop x", b"select x ACCEPT", b'send x "1 High Street"', b"take x", b"close x"])
+    taking = talk(read("agency"), [b"take u", b"take u s", b"take s", b"close u"])
     log = answer(["run", "--log"], read("opened"))[1]
     replayed = read("opened") + log[log.find(b"%%log"):]
     calls = [(["check"], read("agency")), (["show"], read("agency")), (["sim"], read("opened")), (["run"], read("agency")), (["run"], read("opened")), (["run", "--workers", "2"], read("agency")),
-             (["run", "--forward"], read("agency")), (["replay", "--log"], replayed), (["forest"], read("agency")), (["forest"], read("blocked")), (["talk", "0"], talk), (["big", "1"], b""), (["make", "1"], b"")]
+             (["run", "--forward"], read("agency")), (["run", "--forward"], read("opened")), (["replay", "--log"], replayed), (["forest"], read("agency")), (["forest"], read("tree")),
+             (["talk", "0"], played), (["talk", "2"], taking), (["talk", "3"], played), (["big", "1"], b""), (["make", "1"], b"")]
     for words, text in calls:
-        plain = answer(words, text)
-        if plain[0] == 1:
-            print("not built here:", " ".join(words))
+        if not knows(words, text):
             continue
+        plain = answer(words, text)
         env = {**os.environ, "LD_PRELOAD": library, "COUNT": folder + "/count"}
         answer(words, text, env=env)
         allocs = counted(folder + "/count")[0]

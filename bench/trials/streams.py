@@ -4,7 +4,7 @@ closed: the answer is that of the plain call, or status 2 with `read fault`, or 
 import os
 import subprocess
 import tempfile
-from calls import SJ, TOP, Tally, answer, arguments, counted
+from calls import SJ, TOP, Tally, answer, arguments, counted, knows, talk
 
 seed, count = arguments(500)
 tally = Tally()
@@ -12,7 +12,12 @@ read = lambda name: open("%s/examples/%s.sj" % (TOP, name), "rb").read()
 with tempfile.TemporaryDirectory() as folder:
     library = folder + "/refuse.so"
     assert os.system("gcc -O2 -shared -fPIC -o %s %s/refuse.c -ldl" % (library, os.path.dirname(os.path.abspath(__file__)))) == 0
-    for words, text in [(["check"], read("agency")), (["sim"], read("agency")), (["run", "--looks", "1000"], read("opened")), (["show"], read("agency")), (["make", "100"], b""), (["forest"], read("ring") if os.path.exists(TOP + "/examples/ring.sj") else read("blocked"))]:
+    played = talk(read("agency"), [b"more x", b'send x "Oslo"', b"take x", b"send x 5", b"stop x", b"select x REJECT", b"close x"])
+    calls = [(["check"], read("agency")), (["sim"], read("agency")), (["run", "--looks", "1000"], read("opened")), (["show"], read("agency")), (["make", "100"], b""),
+             (["forest"], read("ring")), (["run", "--forward"], read("agency")), (["talk", "0"], played)]
+    for words, text in calls:
+        if not knows(words, text):
+            continue
         plain = answer(words, text)
         base = {**os.environ, "LD_PRELOAD": library, "COUNT": folder + "/count"}
         got = answer(words, text, env={**base, "SHORT": "1"})
