@@ -1,0 +1,2 @@
+" editors/make.py writes this file.
+autocmd BufRead,BufNewFile *.sj setfiletype sj

@@ -1,0 +1,2 @@
+" editors/make.py writes this file.
+setlocal commentstring=//\ %s comments=://
