@@ -1,0 +1,67 @@
+-- What is answered to the text of a file: what `sj check` answers, and more behind it.
+use Rattle.std.specs.Prelude.{◌≡◌, ℕ, Bool, true, List, [], ◌∷◌, ◌++◌, Some, codes, decimal, length}
+use Rattle.sj_lang.specs.FileAt.{FileAt}
+use Rattle.sj_lang.specs.Limits.{limits}
+use Rattle.sj_grammar.specs.declared.tokens.Rule.{Rule}
+use Rattle.sj_grammar.specs.declared.tokens.Rule.TheVariants.{P1, P2, P3, P4, P5}
+use Rattle.sj_grammar.specs.Positions.{start}
+use Rattle.sj_grammar.specs.Files.{IsFile}
+use Rattle.sj_grammar.specs.FileDues.{file_layer, file_due}
+use Rattle.sj_grammar.specs.Faults.{Stuck}
+use Rattle.sj_acceptance.specs.Accepted.{IsAccepted}
+use Rattle.sj_acceptance.specs.Faults.{first_fault}
+use Rattle.sj_acceptance.specs.FileTests.{tests_of}
+use Rattle.sj_semantics.specs.Lines.{line_of}
+use Rattle.sj_explain.specs.declared.answers.Answer.{Answer}
+use Rattle.sj_explain.specs.declared.answers.Answer.TheVariants.{Syntax, Check, Accepted}
+
+-- the text stands for a file whose first fault that is
+pub record IsFaulty (text : List ℕ) (rule line : ℕ) : Type 0 where
+  pub file : FileAt
+  pub stands : IsFile text file
+  pub fault : first_fault (tests_of file) ≡ Some (rule, line)
+
+-- the text stands for an accepted file with so many parties and connections
+pub record IsRight (text : List ℕ) (parties sessions : ℕ) : Type 0 where
+  pub file : FileAt
+  pub stands : IsFile text file
+  pub accepted : IsAccepted file
+  pub parties_are : parties ≡ length file.parties
+  pub sessions_are : sessions ≡ length file.connects
+
+-- what reading the text and checking its file come to
+abbrev pub IsAnswer : List ℕ → Answer → Type 0
+IsAnswer text (Syntax fault) = Stuck file_layer limits 0 (start text [] []) file_due fault
+IsAnswer text (Check rule line) = IsFaulty text rule line
+IsAnswer text (Accepted parties sessions) = IsRight text parties sessions
+
+abbrev pub rule_number : Rule → ℕ
+rule_number P1 = 1
+rule_number P2 = 2
+rule_number P3 = 3
+rule_number P4 = 4
+rule_number P5 = 5
+
+abbrev pub status_of : Answer → ℕ
+status_of (Syntax fault) = 4
+status_of (Check rule line) = 5
+status_of (Accepted parties sessions) = 0
+
+-- the line of it, which `sj check` prints alone
+abbrev pub answer_line : Answer → List ℕ
+answer_line (Syntax fault) =
+    let place = decimal fault.line ++ (codes ":" ++ decimal fault.column) in
+    line_of (codes "syntax" ∷ (codes "P" ++ decimal (rule_number fault.rule)) ∷ codes "at" ∷ place ∷ [])
+answer_line (Check rule line) = line_of (codes "check" ∷ (codes "C" ++ decimal rule) ∷ codes "at" ∷ decimal line ∷ [])
+answer_line (Accepted parties sessions) =
+    line_of (codes "accepted" ∷ codes "parties" ∷ decimal parties ∷ codes "sessions" ∷ decimal sessions ∷ [])
+
+-- with what a text begins that tells it; of an accepted file it may be a picture instead
+abbrev pub lead_of : Answer → Bool → List ℕ
+lead_of (Accepted parties sessions) true = codes "<svg "
+lead_of answer drawn = answer_line answer
+
+-- the text tells the answer, and then more
+pub record TellsIt (answer : Answer) (drawn : Bool) (text : List ℕ) : Type 0 where
+  pub more : List ℕ
+  pub is : text ≡ lead_of answer drawn ++ more

@@ -1,0 +1,386 @@
+//! Statements without blocks: what each does to what is known, or its first fault.
+
+use crate::context::{Context, Site, Stop, found};
+use crate::env::Env;
+use crate::expressions::{kind_of, wanted};
+use crate::joins::dead;
+use crate::marks::Mark;
+use crate::pieces::Piece::{Place, Said, Scalar as KindName, Word};
+use crate::pieces::{Piece, put_pieces};
+use crate::places::copied_arm;
+use crate::scalars::carries;
+use sj_base::NoMemory;
+use sj_lang::{Expr, Item, Kind, Proto, Scalar, copied, same, stands_for};
+
+pub(crate) const NO_PROTOCOL: u8 = 1;
+
+pub(crate) const NO_PARTY: u8 = 2;
+
+pub(crate) const NAME_IN_USE: u8 = 3;
+
+pub(crate) const NOT_THERE: u8 = 5;
+
+pub(crate) const OTHER_ACTION: u8 = 6;
+
+pub(crate) const OTHER_KIND: u8 = 7;
+
+const NO_LABEL: u8 = 8;
+
+const CLOSED_EARLY: u8 = 11;
+
+const NOT_TO_DELEGATE: u8 = 13;
+
+/// What is ahead of the end that token of the statement names.
+pub(crate) fn live<'a>(
+    context: Context<'_>,
+    env: &'a Env,
+    site: Site,
+    token: usize,
+    end: u16,
+) -> Result<&'a Proto, Stop> {
+    match env.place(end) {
+        Some(place) => Ok(place),
+        None => Err(dead(context, env, NOT_THERE, site, Mark::Token(token))),
+    }
+}
+
+/// The place begins with another item than the statement wants.
+pub(crate) fn other_action<'x>(
+    context: Context<'_>,
+    site: Site,
+    token: usize,
+    end: u16,
+    place: &'x Proto,
+    wants: &'x [u8],
+) -> Stop {
+    context.stop(
+        OTHER_ACTION,
+        site,
+        Mark::Token(token),
+        &[
+            Said(b"ahead of "),
+            Word(end),
+            Said(b" is "),
+            Place(place),
+            Said(b"; this statement wants "),
+            Said(wants),
+            Said(b" first"),
+        ],
+    )
+}
+
+// What is of another kind than the item that stands first carries.
+fn other_kind(
+    context: Context<'_>,
+    site: Site,
+    mark: Mark,
+    what: &[Piece<'_>],
+    end: u16,
+    place: &Proto,
+) -> Stop {
+    let mut knew = Vec::new(context.alloc);
+    let names = &context.file.names;
+    let rest = [
+        Said(b", and ahead of "),
+        Word(end),
+        Said(b" is "),
+        Place(place),
+    ];
+    if put_pieces(context.alloc, &mut knew, names, what).is_err()
+        || put_pieces(context.alloc, &mut knew, names, &rest).is_err()
+    {
+        return Stop::NoMemory;
+    }
+    found(OTHER_KIND, site, mark, knew)
+}
+
+pub(crate) fn send(
+    context: Context<'_>,
+    env: &mut Env,
+    site: Site,
+    end: u16,
+    value: &Expr,
+) -> Result<(), Stop> {
+    let place = live(context, env, site, 1, end)?;
+    let Some(Item::Send(kind)) = place.items.first() else {
+        return Err(other_action(context, site, 1, end, place, b"`!<..>`"));
+    };
+    let sent = kind_of(context, env, site, 2, value)?;
+    if !carries(kind, sent) {
+        let what = [Said(b"the value is of kind "), KindName(sent)];
+        return Err(other_kind(context, site, Mark::Value(2), &what, end, place));
+    }
+    env.pass(context.alloc, end)?;
+    Ok(())
+}
+
+pub(crate) fn delegate(
+    context: Context<'_>,
+    env: &mut Env,
+    site: Site,
+    end: u16,
+    sent: u16,
+) -> Result<(), Stop> {
+    let place = live(context, env, site, 1, end)?;
+    let given = live(context, env, site, 2, sent)?;
+    if end == sent {
+        let what = [Word(sent), Said(b" is the carrier itself")];
+        return Err(context.stop(NOT_TO_DELEGATE, site, Mark::Token(2), &what));
+    }
+    let Some(Item::Send(kind)) = place.items.first() else {
+        return Err(other_action(context, site, 1, end, place, b"`!<..>`"));
+    };
+    let what = [Said(b"ahead of "), Word(sent), Said(b" is "), Place(given)];
+    let Kind::Session(carried) = kind else {
+        return Err(other_kind(context, site, Mark::Token(2), &what, end, place));
+    };
+    if given.items.is_empty() {
+        return Err(context.stop(NOT_TO_DELEGATE, site, Mark::Token(2), &what));
+    }
+    if !stands_for(given, carried) {
+        return Err(other_kind(context, site, Mark::Token(2), &what, end, place));
+    }
+    env.remove(sent);
+    env.pass(context.alloc, end)?;
+    Ok(())
+}
+
+pub(crate) fn take_value(
+    context: Context<'_>,
+    env: &mut Env,
+    site: Site,
+    end: u16,
+    into: u16,
+    kind: Scalar,
+) -> Result<(), Stop> {
+    let place = live(context, env, site, 1, end)?;
+    let Some(Item::Recv(carried)) = place.items.first() else {
+        return Err(other_action(context, site, 1, end, place, b"`?(..)`"));
+    };
+    if !carries(carried, kind) {
+        let what = [
+            Said(b"a value of kind "),
+            KindName(kind),
+            Said(b" is wanted"),
+        ];
+        return Err(other_kind(context, site, Mark::Token(3), &what, end, place));
+    }
+    free_of_ends(context, env, site, 2, into)?;
+    same_kind(context, env, site, 2, into, kind)?;
+    env.pass(context.alloc, end)?;
+    env.learn(into, kind)?;
+    Ok(())
+}
+
+pub(crate) fn take_end(
+    context: Context<'_>,
+    env: &mut Env,
+    site: Site,
+    end: u16,
+    into: u16,
+    protocol: u16,
+) -> Result<(), Stop> {
+    let place = live(context, env, site, 1, end)?;
+    let Some(body) = context.body(protocol) else {
+        return Err(no_protocol(context, site, 4));
+    };
+    let Some(Item::Recv(carried)) = place.items.first() else {
+        return Err(other_action(context, site, 1, end, place, b"`?(..)`"));
+    };
+    if !is_session_of(carried, body) {
+        return Err(other_session(context, site, protocol, body, end, place));
+    }
+    free(context, env, site, 2, into)?;
+    let taken = copied(context.alloc, body)?;
+    env.pass(context.alloc, end)?;
+    env.put(into, taken)?;
+    Ok(())
+}
+
+// The protocol isn't what is carried.
+fn other_session(
+    context: Context<'_>,
+    site: Site,
+    protocol: u16,
+    body: &Proto,
+    end: u16,
+    place: &Proto,
+) -> Stop {
+    let what = [Word(protocol), Said(b" is "), Place(body)];
+    other_kind(context, site, Mark::Token(4), &what, end, place)
+}
+
+fn is_session_of(carried: &Kind, body: &Proto) -> bool {
+    match carried {
+        Kind::Session(place) => same(place, body),
+        _ => false,
+    }
+}
+
+pub(crate) fn select(
+    context: Context<'_>,
+    env: &mut Env,
+    site: Site,
+    end: u16,
+    label: u16,
+) -> Result<(), Stop> {
+    let place = live(context, env, site, 1, end)?;
+    let Some(Item::Select(choice)) = place.items.first() else {
+        return Err(other_action(context, site, 1, end, place, b"`!{..}`"));
+    };
+    let Some(arm) = copied_arm(context.alloc, place, choice, label)? else {
+        let what = [Said(b"ahead of "), Word(end), Said(b" is "), Place(place)];
+        return Err(context.stop(NO_LABEL, site, Mark::Token(2), &what));
+    };
+    env.put(end, arm)?;
+    Ok(())
+}
+
+pub(crate) fn let_be(
+    context: Context<'_>,
+    env: &mut Env,
+    site: Site,
+    name: u16,
+    value: &Expr,
+) -> Result<(), Stop> {
+    let kind = kind_of(context, env, site, 3, value)?;
+    free_of_ends(context, env, site, 1, name)?;
+    same_kind(context, env, site, 1, name, kind)?;
+    env.learn(name, kind)?;
+    Ok(())
+}
+
+pub(crate) fn close(context: Context<'_>, env: &mut Env, site: Site, end: u16) -> Result<(), Stop> {
+    let place = live(context, env, site, 1, end)?;
+    if !place.items.is_empty() {
+        let what = [Said(b"ahead of "), Word(end), Said(b" is "), Place(place)];
+        return Err(context.stop(CLOSED_EARLY, site, Mark::Token(1), &what));
+    }
+    env.remove(end);
+    Ok(())
+}
+
+/// A request or an accept.
+pub(crate) fn open(
+    context: Context<'_>,
+    env: &mut Env,
+    site: Site,
+    end: u16,
+    protocol: u16,
+    party: u16,
+) -> Result<(), Stop> {
+    let Some(body) = context.body(protocol) else {
+        return Err(no_protocol(context, site, 2));
+    };
+    if !context.has_party(party) {
+        return Err(no_party(context, site, 4));
+    }
+    free(context, env, site, 1, end)?;
+    let place = copied(context.alloc, body)?;
+    env.put(end, place)?;
+    Ok(())
+}
+
+// The name is one of no end and of no variable.
+fn free(context: Context<'_>, env: &Env, site: Site, token: usize, name: u16) -> Result<(), Stop> {
+    free_of_ends(context, env, site, token, name)?;
+    match env.kind(name) {
+        None => Ok(()),
+        Some(kind) => {
+            let what = [
+                Word(name),
+                Said(b" is a variable of kind "),
+                KindName(kind),
+                Said(b" here"),
+            ];
+            Err(context.stop(NAME_IN_USE, site, Mark::Token(token), &what))
+        }
+    }
+}
+
+fn free_of_ends(
+    context: Context<'_>,
+    env: &Env,
+    site: Site,
+    token: usize,
+    name: u16,
+) -> Result<(), Stop> {
+    match env.place(name) {
+        None => Ok(()),
+        Some(place) => {
+            let what = [
+                Word(name),
+                Said(b" is a live end here, ahead of it "),
+                Place(place),
+            ];
+            Err(context.stop(NAME_IN_USE, site, Mark::Token(token), &what))
+        }
+    }
+}
+
+// A variable keeps its kind.
+fn same_kind(
+    context: Context<'_>,
+    env: &Env,
+    site: Site,
+    token: usize,
+    name: u16,
+    kind: Scalar,
+) -> Result<(), Stop> {
+    match env.kind(name) {
+        None => Ok(()),
+        Some(old) if old == kind => Ok(()),
+        Some(old) => {
+            let what = [
+                Word(name),
+                Said(b" is a variable of kind "),
+                KindName(old),
+                Said(b" here, and would get kind "),
+                KindName(kind),
+            ];
+            Err(context.stop(OTHER_KIND, site, Mark::Token(token), &what))
+        }
+    }
+}
+
+/// No protocol has the name that is that token; which there are.
+pub(crate) fn no_protocol(context: Context<'_>, site: Site, token: usize) -> Stop {
+    let mut knew = Vec::new(context.alloc);
+    for (i, protocol) in context.file.protocols.iter().enumerate() {
+        if put_listed(
+            context,
+            &mut knew,
+            b"the file has protocols ",
+            i,
+            protocol.name,
+        )
+        .is_err()
+        {
+            return Stop::NoMemory;
+        }
+    }
+    found(NO_PROTOCOL, site, Mark::Token(token), knew)
+}
+
+/// No party has the name that is that token; which there are.
+pub(crate) fn no_party(context: Context<'_>, site: Site, token: usize) -> Stop {
+    let mut knew = Vec::new(context.alloc);
+    for (i, party) in context.file.parties.iter().enumerate() {
+        if put_listed(context, &mut knew, b"the file has parties ", i, party.name).is_err() {
+            return Stop::NoMemory;
+        }
+    }
+    found(NO_PARTY, site, Mark::Token(token), knew)
+}
+
+fn put_listed(
+    context: Context<'_>,
+    text: &mut Vec<u8>,
+    lead: &[u8],
+    i: usize,
+    name: u16,
+) -> Result<(), NoMemory> {
+    let gap = if i == 0 { Said(lead) } else { Said(b", ") };
+    let pieces = [gap, Word(name)];
+    put_pieces(context.alloc, text, &context.file.names, &pieces)
+}

@@ -1,0 +1,4 @@
+protocol p { begin.!<int> }
+protocol q { begin.?(int) }
+party a { request x r to b; send x 5; close x; }
+party b { accept y q from a; recv y n int; close y; }

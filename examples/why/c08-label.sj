@@ -1,0 +1,5 @@
+protocol p { begin.!{YES: !<int>, NO:} }
+protocol q { begin.?{YES: ?(int), NO:} }
+party a { outbranch x MAYBE; close x; }
+party b { inbranch y { YES: { recv y n int; close y; } NO: { close y; } } }
+connect a x p to b y q;

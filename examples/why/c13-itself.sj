@@ -1,0 +1,9 @@
+protocol p { begin.!<int> }
+protocol q { begin.?(int) }
+protocol g { begin.!<?(int)> }
+protocol h { begin.?(?(int)) }
+party a { send x 5; close x; }
+party b { delegate z z; close z; recv y n int; close y; }
+party c { recv u s session q; recv s n int; close s; close u; }
+connect a x p to b y q;
+connect b z g to c u h;

@@ -1,0 +1,1 @@
+party a { send x "a\b"; }

@@ -1,0 +1,1 @@
+party this_name_has_sixty_five_bytes_and_is_one_byte_longer_than_it_may { }
