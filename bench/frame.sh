@@ -1,9 +1,17 @@
 # What the scripts of bench/ share; each reads it at its head, and one that times a program sets `program`.
 runs=${RUNS:-200}
 top=$(cd "$(dirname "${BASH_SOURCE[0]}")/.." && pwd)
+# the folder of the script that reads this
+here=$(cd "$(dirname "${BASH_SOURCE[1]}")" && pwd)
 folder=$(mktemp -d)
 trap 'rm -rf "$folder"' EXIT
 : > "$folder/empty"
+
+# Builds `sj` where it isn't, and has it be the program.
+take_sj() {
+    "$top/sj" --build
+    program=$top/crates/sj/out/sj
+}
 
 # The microseconds of that command.
 micros_of() {

@@ -6,10 +6,8 @@
 set -euo pipefail
 RUNS=${RUNS:-41}
 . "$(dirname "$0")/../frame.sh"
-here=$top/bench/big
 
-"$top/sj" --build
-program=$top/crates/sj/out/sj
+take_sj
 found=(big run sim)
 command -v rustc > /dev/null && rustc -O -o "$folder/rust" "$here/channels.rs" && found+=(rust)
 command -v go > /dev/null && (cd "$here" && GO111MODULE=off go build -o "$folder/go" channels.go) && found+=(go)

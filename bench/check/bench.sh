@@ -6,8 +6,7 @@
 set -euo pipefail
 . "$(dirname "$0")/../frame.sh"
 
-"$top/sj" --build
-program=$top/crates/sj/out/sj
+take_sj
 printf '| File | Answer | Check, best ms | Check, median ms | Show, best ms | Show, median ms | Peak KiB |\n|---|---|---|---|---|---|---|\n'
 for kind in lets ifs sessions handed loops held beside passed turns arms alike variables known wide labels widths; do
     file=$folder/$kind

@@ -5,10 +5,8 @@
 # of the generated file beside `sim`. `RUNS=20 bench/forward/bench.sh` makes fewer runs than 200.
 set -euo pipefail
 . "$(dirname "$0")/../frame.sh"
-here=$top/bench/forward
 
-"$top/sj" --build
-program=$top/crates/sj/out/sj
+take_sj
 
 # One row of the first table.
 compare() {

@@ -6,10 +6,8 @@
 set -euo pipefail
 RUNS=${RUNS:-20}
 . "$(dirname "$0")/../frame.sh"
-here=$(cd "$(dirname "$0")" && pwd)
 
-"$top/sj" --build
-program=$top/crates/sj/out/sj
+take_sj
 printf '%%%%log\n' > "$folder/empty"
 printf '| Turns | Events | Bytes | Replay, best ms | Replay, median ms | With the log, best ms | With the log, median ms | Nanoseconds an event | Peak KiB | Peak to bytes |\n|---|---|---|---|---|---|---|---|---|---|\n'
 for turns in 100 250 500 999; do

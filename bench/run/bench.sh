@@ -11,8 +11,7 @@ pinned_on() {
     micros_of taskset -c 0 "$program" run < "$1"
 }
 
-"$top/sj" --build
-program=$top/crates/sj/out/sj
+take_sj
 printf '| N | Messages | Events | Sim, best ms | Sim, median ms | Run, best ms | Run, median ms | Run to sim | One processor, best ms | One processor, median ms | Peak KiB |\n|---|---|---|---|---|---|---|---|---|---|---|\n'
 for n in 100 200 400 700 1000; do
     file=$folder/$n

@@ -6,8 +6,7 @@
 set -euo pipefail
 . "$(dirname "$0")/../frame.sh"
 
-"$top/sj" --build
-program=$top/crates/sj/out/sj
+take_sj
 printf '| N | Messages | Steps | Best ms | Median ms | Bytes of transcript | Peak KiB |\n|---|---|---|---|---|---|---|\n'
 for n in 100 200 400 700 1000; do
     file=$folder/$n

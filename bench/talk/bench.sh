@@ -5,10 +5,8 @@
 set -euo pipefail
 RUNS=${RUNS:-20}
 . "$(dirname "$0")/../frame.sh"
-here=$(cd "$(dirname "$0")" && pwd)
 
-"$top/sj" --build
-program=$top/crates/sj/out/sj
+take_sj
 awk -v kind=says -v lines=2 -f "$here/lines.awk" > "$folder/empty"
 printf '| Talk | Lines | Bytes | Best ms | Median ms | Nanoseconds a line | Peak KiB |\n|---|---|---|---|---|---|---|\n'
 for kind in says asks refused; do

@@ -5,13 +5,11 @@
 # differs. `FILES=20 AGAIN=100 bench/threads/bench.sh` makes fewer files than 300, and fewer runs of an
 # example than 1,000.
 set -euo pipefail
-here=$(dirname "$0")
 . "$here/../frame.sh"
 files=${FILES:-300}
 again=${AGAIN:-1000}
 
-"$top/sj" --build
-program=$top/crates/sj/out/sj
+take_sj
 wrong=0
 
 # Runs the file with these words, and compares the text and the status with those of `sim`.

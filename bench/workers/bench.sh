@@ -5,8 +5,7 @@
 set -euo pipefail
 . "$(dirname "$0")/../frame.sh"
 
-"$top/sj" --build
-program=$top/crates/sj/out/sj
+take_sj
 counts=$top/crates/bench_workers/out/bench_workers
 (cd "$top/crates/bench_workers" && rt run < stdin > /dev/null)
 file=$folder/1000
