@@ -14,7 +14,7 @@ use Rattle.sj_rules.specs.Mapped.{frame_with}
 use Rattle.sj_rules.specs.Node.{NodeAt, Play, arrives}
 use Rattle.sj_rules.specs.Party.{play_of}
 use Rattle.sj_rules.specs.Rows.{Worked}
-use Rattle.sj_joined_laws.proofs.ReplayLemmas.{step_lined}
+use Rattle.sj_joined_lemmas.proofs.ReplayLemmas.{step_lined}
 use Rattle.sj_rules.specs.World as rules
 use Rattle.sj_rules.specs.World.{WorldAt, after_event, delivery_of, happens, with_lane}
 use Rattle.sj_node.specs.declared.node.Node.{Node}

@@ -15,7 +15,7 @@ use Rattle.sj_rules.specs.Start.{core_start, first_node}
 use Rattle.sj_rules.specs.World.{Deliver, Turn, WorldAt, happens}
 use Rattle.sj_rules.specs.Within.{NoneAbove}
 use Rattle.sj_rules.specs.Events.{acts_in}
-use Rattle.sj_joined_laws.proofs.HistoryLemmas.{log_runs}
+use Rattle.sj_joined_lemmas.proofs.HistoryLemmas.{log_runs}
 use Rattle.sj_rules_laws.specs.Limits.{limit_of_events}
 use Rattle.sj_rules_laws.proofs.CoreRunLemmas.{runs_stand}
 use Rattle.sj_rules_laws.proofs.DrainRunLemmas.{run_drains}

@@ -2,15 +2,15 @@
 #![tactic(auto)]
 
 mod course;
-mod draining;
+mod drains;
 mod entries;
 mod refusal;
-mod replaying;
+mod replays;
 mod sameness;
-mod starting;
+mod starts;
 mod world;
 
 pub use refusal::{ReplayRefusal, StepRefusal};
-pub use replaying::is_the_line;
-pub use starting::first_nodes;
+pub use replays::is_the_line;
+pub use starts::first_nodes;
 pub use world::World;

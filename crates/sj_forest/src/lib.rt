@@ -2,13 +2,13 @@
 #![tactic(auto)]
 
 mod edges;
-mod ending;
-mod opening;
+mod ends;
+mod forests;
+mod openings;
 mod removal;
 mod shape;
-mod testing;
 
 pub use edges::Edge;
-pub use ending::{Ending, finish_forest};
+pub use ends::{Ending, finish_forest};
 pub use shape::{Forest, Shape};
-pub use testing::forest;
+pub use forests::forest;

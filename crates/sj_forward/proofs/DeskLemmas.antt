@@ -6,7 +6,7 @@ use Rattle.std.specs.declared.alloc.Global.{Global}
 use Rattle.sj_base.specs.declared.EndId.{EndId}
 use Rattle.sj_semantics.specs.Program.{Program}
 use Rattle.sj_rules.specs.Record.{is_same_end}
-use Rattle.sj_world_laws.proofs.LinkLemmas.{same_is}
+use Rattle.sj_world_lemmas.proofs.LinkLemmas.{same_is}
 use Rattle.sj_forward.specs.declared.desk.Desk.{Desk}
 use Rattle.sj_forward.specs.declared.slot.Slot.{Slot}
 use Rattle.sj_forward.specs.Desk.{Does, DoesSo, desk_at, lane_of}

@@ -8,7 +8,7 @@ use Rattle.std.specs.declared.alloc.Global.{Global}
 use Rattle.std.specs.Vec.{with_item}
 use Rattle.sj_base.specs.declared.EndId.{EndId}
 use Rattle.sj_rules.specs.Record.{is_same_end}
-use Rattle.sj_world_laws.proofs.LinkLemmas.{same_is}
+use Rattle.sj_world_lemmas.proofs.LinkLemmas.{same_is}
 use Rattle.sj_forward.specs.declared.slot.Record.{Record}
 use Rattle.sj_forward.specs.declared.slot.Slot.{Slot}
 use Rattle.sj_forward.specs.Views.{record_at}

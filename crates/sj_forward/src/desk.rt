@@ -11,7 +11,7 @@ ghost use Rattle.sj_semantics.specs.Program.{Program};
 use crate::ends::held_at;
 use crate::frame::Frame;
 use crate::limits::{MAX_HOPS, MAX_REQUESTS};
-use crate::offering::is_offering;
+use crate::offers::is_offering;
 use crate::slot::Slot;
 use sj_base::EndId;
 use sj_semantics::Want;

@@ -1,20 +1,20 @@
 //! Handover by forwarding: old holders stay and pass messages on.
 #![tactic(auto)]
 
-mod acting;
-mod arriving;
+mod acts;
+mod arrivals;
 mod course;
 mod desk;
-mod draining;
+mod drains;
 mod ends;
 mod forward;
 mod frame;
 mod lanes;
 mod limits;
-mod offering;
+mod offers;
 mod refusal;
 mod slot;
-mod starting;
+mod starts;
 
 pub use forward::ForwardWorld;
 pub use refusal::{Turn, TurnRefusal};

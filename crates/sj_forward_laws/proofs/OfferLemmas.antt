@@ -5,8 +5,8 @@ use Rattle.std.specs.List.{AllByRecursion}
 use Rattle.sj_rules.specs.Opened.{opened_number, opener_of, is_opened_by}
 use Rattle.sj_rules.specs.PlainSide.{PlainAt}
 use Rattle.sj_rules.specs.Reading.{IsUnopened}
-use Rattle.sj_opened_laws.proofs.OpenKeepLemmas.{opener_is}
-use Rattle.sj_opened_laws.proofs.RequestKeepLemmas.{opener_of_opened}
+use Rattle.sj_opened_lemmas.proofs.OpenKeepLemmas.{opener_is}
+use Rattle.sj_opened_lemmas.proofs.RequestKeepLemmas.{opener_of_opened}
 use Rattle.sj_forward_laws.specs.Kept.{AreRising, IsOffer}
 
 -- all of the front, of the rest, and by two facts

@@ -12,7 +12,7 @@ use Rattle.sj_rules.specs.PlainSide.{PlainSide, PlainAt}
 use Rattle.sj_rules.specs.Play.{Play}
 use Rattle.sj_rules.specs.Reading.{IsUnopened}
 use Rattle.sj_rules.specs.Record.{is_same_end, offered_end}
-use Rattle.sj_opened_laws.proofs.RequestKeepLemmas.{opener_of_opened}
+use Rattle.sj_opened_lemmas.proofs.RequestKeepLemmas.{opener_of_opened}
 use Rattle.sj_forward_rules.specs.Acts.{open_session}
 use Rattle.sj_forward_rules.specs.Record.{Open, Mail, session_opened, opened_in}
 use Rattle.sj_forward_rules.specs.World.{WorldAt, frames_for}

@@ -9,8 +9,8 @@ use Rattle.sj_rules.specs.Acts.{plain_sent}
 use Rattle.sj_rules.specs.Moves.{with_side}
 use Rattle.sj_rules.specs.PlainSide.{PlainSide, PlainAt}
 use Rattle.sj_rules.specs.PlainChanges.{waits_of}
-use Rattle.sj_world_laws.proofs.WaitLemmas.{waits_but_other, waits_more}
-use Rattle.sj_world_laws.proofs.LinkLemmas.{got_in}
+use Rattle.sj_world_lemmas.proofs.WaitLemmas.{waits_but_other, waits_more}
+use Rattle.sj_world_lemmas.proofs.LinkLemmas.{got_in}
 use Rattle.sj_forward_rules.specs.Record.{RecordAt, SentAt, StateAt, Held, Parked, Passing, Closed, stored}
 use Rattle.sj_forward_rules.specs.Node.{NodeAt, onward}
 use Rattle.sj_forward_rules.specs.World.{WorldAt, lanes_with}

@@ -7,7 +7,7 @@ use Rattle.sj_rules.specs.Acts.{plain_taken}
 use Rattle.sj_rules.specs.Moves.{with_side}
 use Rattle.sj_rules.specs.PlainSide.{PlainSide, PlainAt}
 use Rattle.sj_rules.specs.PlainChanges.{waits_of}
-use Rattle.sj_world_laws.proofs.WaitLemmas.{waits_but_one, waits_less}
+use Rattle.sj_world_lemmas.proofs.WaitLemmas.{waits_but_one, waits_less}
 use Rattle.sj_forward_rules.specs.Record.{SentAt, StateAt, Held, stored}
 use Rattle.sj_forward_rules.specs.Node.{NodeAt, with_record}
 use Rattle.sj_forward_rules.specs.World.{WorldAt}

@@ -11,7 +11,7 @@ use Rattle.sj_rules.specs.Limits.{limit_of_messages}
 use Rattle.sj_end.specs.Views.{deferred_at, post_at}
 use Rattle.sj_end.specs.declared.record.Expected.{Expected}
 use Rattle.sj_end.specs.declared.wire.Post.{Post}
-use Rattle.sj_handover.specs.declared.working.Tally.{Tally}
+use Rattle.sj_handover.specs.declared.deferrals.Tally.{Tally}
 use Rattle.sj_handover.specs.Working.{held_by}
 
 -- what the rule makes of the end that comes to that record; None where it doesn't fit

@@ -1,16 +1,16 @@
 //! The handover of an end from one party to another, call by call.
 #![tactic(auto)]
 
-mod fitting;
-mod installing;
+mod deferrals;
+mod fitness;
+mod installation;
 mod keeper;
-mod passing;
+mod resends;
 mod taker;
-mod working;
 
-pub use fitting::fits_install;
-pub use installing::{install, taken_over, worked};
+pub use fitness::fits_install;
+pub use installation::{install, taken_over, worked};
 pub use keeper::{acked, crossed, signal};
-pub use passing::{Usable, passive};
+pub use resends::{Usable, passive};
 pub use taker::claim;
-pub use working::Tally;
+pub use deferrals::Tally;

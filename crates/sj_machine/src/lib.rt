@@ -2,20 +2,20 @@
 #![tactic(auto)]
 
 mod arena;
-mod building;
+mod bindings;
+mod builders;
 mod ends;
-mod knowing;
 mod leads;
 mod machine;
+mod needs;
 mod stack;
-mod starting;
+mod starts;
 mod steps;
 mod values;
-mod wanting;
 
 pub use machine::Machine;
 pub use sj_semantics::{Awaits, Want};
-pub use starting::party_of_name;
+pub use starts::party_of_name;
 
 #[cfg(test)]
 mod tests;

@@ -8,7 +8,7 @@ ghost use Rattle.sj_machine.specs.Table.{vars_in};
 ghost use Rattle.sj_semantics.specs.Steps.{ends_after_closed, ends_after_sent, ends_after_took, rest_of, todo_after_local, todo_after_sent, todo_after_took, vars_after_local, vars_after_took};
 
 use crate::arena::Node;
-use crate::knowing::{ends_closed, ends_opened, ends_sent, ends_took, vars_local, vars_took};
+use crate::bindings::{ends_closed, ends_opened, ends_sent, ends_took, vars_local, vars_took};
 use crate::leads::{after_local, after_sent, after_took};
 use crate::stack::{After, Stack};
 use sj_base::{EndId, Msg};

@@ -4,7 +4,7 @@ use Rattle.std.specs.Prelude.{◌⊎◌, Bool, true, false, ◌==◌, nat_lt, if
 use Rattle.std.proofs.lemmas.Bool.{eqb-true, eqb-false}
 use Rattle.std.proofs.lemmas.Bool.Decides.{nat_tests}
 use Rattle.sj_rules.specs.Log.{EntryAt, IsBefore}
-use Rattle.sj_joined_laws.proofs.OrderLemmas.{before_later}
+use Rattle.sj_joined_lemmas.proofs.OrderLemmas.{before_later}
 use Rattle.sj_merge.specs.declared.heads.Head.{Head}
 use Rattle.sj_merge.specs.Heads.{earlier_of, earlier_than, line_by}
 

@@ -5,8 +5,8 @@ use Rattle.std.specs.Borrow.{Bor}
 use Rattle.std.specs.List.{AllByRecursion}
 use Rattle.std.proofs.lemmas.Bool.{eqb-true, eqb-false}
 use Rattle.sj_rules.specs.Log.{EntryAt, LineAt, IsBefore, IsInOrder, IsJoined, part_of}
-use Rattle.sj_joined_laws.proofs.MergingLemmas.{lines_at, part_more}
-use Rattle.sj_joined_laws.proofs.OrderLemmas.{part_here, part_others}
+use Rattle.sj_joined_lemmas.proofs.MergingLemmas.{lines_at, part_more}
+use Rattle.sj_joined_lemmas.proofs.OrderLemmas.{part_here, part_others}
 use Rattle.sj_end.specs.declared.note.Entry.{Entry}
 use Rattle.sj_merge.specs.Heads.{IsNext, line_by}
 use Rattle.sj_merge.specs.Logs.{AreOrdered, log_of}

@@ -3,9 +3,9 @@ use Rattle.std.proofs.Common.{◌≡◌, ℕ, List, [], ◌∷◌, ◌++◌, ref
 use Rattle.std.specs.Prelude.{◌⊎◌}
 use Rattle.std.specs.List.{AllByRecursion}
 use Rattle.sj_rules.specs.Log.{LineAt, IsBefore, IsInOrder, part_of}
-use Rattle.sj_joined_laws.proofs.MergeLemmas.{all_later}
+use Rattle.sj_joined_lemmas.proofs.MergeLemmas.{all_later}
 use Rattle.sj_merge.specs.Merged.{AreApart, AreMerged}
-use Rattle.sj_joined_laws.proofs.MergingLemmas.{part_more}
+use Rattle.sj_joined_lemmas.proofs.MergingLemmas.{part_more}
 
 -- so far these lines came out; what is left of both lists is in order behind them
 pub record Merging (front back out left right : List LineAt) : Type 0 where

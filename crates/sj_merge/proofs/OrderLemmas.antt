@@ -2,7 +2,7 @@
 use Rattle.std.proofs.Common.{◌≡◌, ◌+◌, ℕ, List, [], ◌∷◌, map, refl, ap, subst}
 use Rattle.std.specs.Borrow.{Bor}
 use Rattle.sj_rules.specs.Log.{LineAt, IsInOrder, IsRising}
-use Rattle.sj_joined_laws.proofs.MergingLemmas.{lines_at, merging_begins}
+use Rattle.sj_joined_lemmas.proofs.MergingLemmas.{lines_at, merging_begins}
 use Rattle.sj_end.specs.declared.note.Entry.{Entry}
 use Rattle.sj_merge.specs.Lines.{entry_at, line_at, line_of}
 use Rattle.sj_merge.specs.Logs.{AreOrdered}

@@ -3,8 +3,8 @@ use Rattle.std.proofs.Common.{◌≡◌, ◌+◌, ◌<◌, ℕ, List, [], ◌∷
 use Rattle.std.specs.Prelude.{◌⊎◌}
 use Rattle.std.proofs.lemmas.List.{map-append}
 use Rattle.sj_rules.specs.Log.{LineAt, IsBefore, part_of}
-use Rattle.sj_joined_laws.proofs.MergeLemmas.{apart_parties}
-use Rattle.sj_joined_laws.proofs.OrderLemmas.{part_here}
+use Rattle.sj_joined_lemmas.proofs.MergeLemmas.{apart_parties}
+use Rattle.sj_joined_lemmas.proofs.OrderLemmas.{part_here}
 use Rattle.sj_end.specs.declared.note.Line.{Line}
 use Rattle.sj_merge.specs.Lines.{line_at}
 use Rattle.sj_merge.specs.Merged.{AreMerged}

@@ -2,7 +2,7 @@
 #![tactic(auto)]
 
 mod heads;
-mod joining;
-mod merging;
+mod joins;
+mod merges;
 
-pub use joining::{join_logs, merge_in};
+pub use joins::{join_logs, merge_in};

@@ -1,32 +1,32 @@
 //! A party's node: its program, its records of ends, and what it has sent.
 #![tactic(auto)]
 
-mod acting;
-mod arriving;
-mod coming;
-mod crossing;
-mod delivering;
+mod acts;
+mod arrivals;
+mod delegations;
+mod deliveries;
+mod departures;
 mod due;
-mod giving;
-mod halting;
-mod handing;
-mod keeping;
+mod halts;
+mod handovers;
 mod laws;
 mod limits;
+mod messages;
 mod node;
-mod offering;
-mod opening;
+mod offers;
+mod openings;
 mod outs;
-mod parking;
-mod passing;
-mod reading;
+mod readers;
+mod records;
 mod refusal;
-mod sending;
+mod sends;
+mod signals;
 mod slots;
-mod starting;
-mod taking;
+mod starts;
+mod takes;
+mod threads;
 
-pub use crossing::node_crosses;
+pub use threads::node_crosses;
 pub use laws::{
     acts_are_of_the_file, known_heads_are_taken_by_the_file, misfits_have_no_act,
     nodes_keep_their_play, nodes_play_the_file, only_misfits_have_no_act,

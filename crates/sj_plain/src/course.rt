@@ -17,7 +17,7 @@ ghost use Rattle.sj_semantics.specs.declared.State.TheVariants.{Ready};
 use crate::Halt;
 use crate::ends::Session;
 use crate::kept::{Kept, copied_file};
-use crate::stepping::{state_of, step};
+use crate::progress::{state_of, step};
 use sj_base::NoMemory;
 use sj_lang::File;
 use sj_machine::Machine;

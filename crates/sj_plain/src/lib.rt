@@ -6,9 +6,9 @@ mod ends;
 mod halt;
 mod kept;
 mod moves;
-mod opened;
 mod plain;
-mod stepping;
+mod progress;
+mod sessions;
 mod uses;
 
 pub use course::Course;

@@ -25,8 +25,8 @@ use Rattle.sj_semantics.specs.Steps.{local_of, sent_of, took_of, closed_of, open
 use Rattle.sj_semantics.specs.Wants.{want_of}
 use Rattle.sj_semantics.specs.World.{World, Change, plain_change, session_message, begun_at, change_by_taking, change_by_opening, change_by_accepting, change_by, change_of_program, changed_world, act_of}
 use Rattle.sj_semantics_laws.proofs.EndLemmas.{touched, end_at-touched_other}
-use Rattle.sj_accepted_laws.specs.Fitting.{FitsPlaces}
-use Rattle.sj_accepted_laws.proofs.UnnamedLemmas.{hands_places}
+use Rattle.sj_headline_laws.specs.Fitting.{FitsPlaces}
+use Rattle.sj_headline_laws.proofs.UnnamedLemmas.{hands_places}
 use Rattle.sj_rules.specs.Record.{other_end, is_same_end, requested_end, offered_end}
 use Rattle.sj_rules.specs.Binding.{NamesNoEnd}
 use Rattle.sj_rules.specs.PlainSide.{PlainSide, PlainAt}

@@ -21,13 +21,13 @@ use Rattle.sj_rules.specs.StandsFor.{EndStands, SeatStands}
 use Rattle.sj_rules.specs.Spots.{Spot, at_main, at_old, on_way, in_open}
 use Rattle.sj_rules.specs.Caches.{main_end, old_end, HasEnd, CacheFits}
 use Rattle.sj_rules.specs.Worked.{mails_of}
-use Rattle.sj_world_laws.proofs.SwapLemmas.{other_other}
+use Rattle.sj_world_lemmas.proofs.SwapLemmas.{other_other}
 use Rattle.sj_rules.specs.Opened.{opener_of, new_held}
 use Rattle.sj_rules.specs.Reading.{is_opening, reading, IsOpenKept}
-use Rattle.sj_world_laws.proofs.OutcomeLemmas.{sound_at}
-use Rattle.sj_opened_laws.proofs.OpenStandsLemmas.{ends_by}
-use Rattle.sj_opened_laws.proofs.OpenSpotLemmas.{gives_read}
-use Rattle.sj_world_laws.proofs.ToldLemmas.{Has, contains_has, has_kept}
+use Rattle.sj_world_lemmas.proofs.OutcomeLemmas.{sound_at}
+use Rattle.sj_opened_lemmas.proofs.OpenStandsLemmas.{ends_by}
+use Rattle.sj_opened_lemmas.proofs.OpenSpotLemmas.{gives_read}
+use Rattle.sj_world_lemmas.proofs.ToldLemmas.{Has, contains_has, has_kept}
 use Rattle.sj_rules_laws.proofs.CoreRunLemmas.{StandsAfter, runs_stand}
 use Rattle.sj_rules_laws.proofs.LawfulLemmas.{run_is_lawful}
 

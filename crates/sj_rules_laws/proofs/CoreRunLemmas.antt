@@ -19,8 +19,8 @@ use Rattle.sj_rules.specs.Shown.{bodies}
 use Rattle.sj_rules.specs.Frames.{FrameAt, is_proper}
 use Rattle.sj_rules.specs.StandsFor.{StandsFor}
 use Rattle.sj_rules.specs.Reading.{IsOpenKept}
-use Rattle.sj_opened_laws.proofs.OpenRunLemmas.{each_front_fits}
-use Rattle.sj_opened_laws.proofs.OpenStandsLemmas.{open_kept_stands_for}
+use Rattle.sj_opened_lemmas.proofs.OpenRunLemmas.{each_front_fits}
+use Rattle.sj_opened_lemmas.proofs.OpenStandsLemmas.{open_kept_stands_for}
 use Rattle.sj_rules.specs.Party.{IsDone, play_of, binds}
 use Rattle.sj_rules.specs.Plain.{plain_at}
 use Rattle.sj_rules.specs.Moves.{plain_act}

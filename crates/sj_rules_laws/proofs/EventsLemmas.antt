@@ -24,12 +24,12 @@ use Rattle.sj_rules.specs.PlainSteps.{PlainLocal, PlainSend, PlainTake, PlainTak
 use Rattle.sj_rules.specs.Binding.{NamesNoEnd}
 use Rattle.sj_rules.specs.Premises.{FitsStep, IsLawful}
 use Rattle.sj_rules.proofs.ArrivalLemmas.{arrived_proper}
-use Rattle.sj_world_laws.proofs.ActLawsProved.{act_laws}
-use Rattle.sj_world_laws.proofs.StepLemmas.{OpensNothing}
-use Rattle.sj_opened_laws.proofs.ActKeepLemmas.{open_act_keeps}
-use Rattle.sj_opened_laws.proofs.RequestKeepLemmas.{request_keeps}
-use Rattle.sj_opened_laws.proofs.AcceptKeepLemmas.{accept_keeps}
-use Rattle.sj_opened_laws.proofs.OpenRunLemmas.{each_front_fits}
+use Rattle.sj_world_lemmas.proofs.ActLawsProved.{act_laws}
+use Rattle.sj_world_lemmas.proofs.StepLemmas.{OpensNothing}
+use Rattle.sj_opened_lemmas.proofs.ActKeepLemmas.{open_act_keeps}
+use Rattle.sj_opened_lemmas.proofs.RequestKeepLemmas.{request_keeps}
+use Rattle.sj_opened_lemmas.proofs.AcceptKeepLemmas.{accept_keeps}
+use Rattle.sj_opened_lemmas.proofs.OpenRunLemmas.{each_front_fits}
 use Rattle.sj_rules_laws.proofs.CoreActLemmas.{Has, map_has}
 use Rattle.sj_rules_laws.proofs.PlainActsLemmas.{counts_hold, gives_local, gives_send, gives_delegate, gives_take, gives_take_end, gives_close, gives_request, gives_accept}
 

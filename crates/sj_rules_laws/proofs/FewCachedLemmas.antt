@@ -15,7 +15,7 @@ use Rattle.std.specs.Prelude.{not}
 use Rattle.sj_rules.specs.Opened.{is_open, opener_of, new_held}
 use Rattle.sj_rules.specs.Reading.{is_opening, reading, without_opens, IsOpenKept}
 use Rattle.sj_rules_laws.proofs.SideLemmas.{same_end_self}
-use Rattle.sj_world_laws.proofs.OutcomeLemmas.{sound_at}
+use Rattle.sj_world_lemmas.proofs.OutcomeLemmas.{sound_at}
 use Rattle.sj_rules_laws.proofs.NodeWeightLemmas.{cached_in, cached_old, cached_with, MeetsFew}
 
 -- the length of the cache of an end, wherever it lies

@@ -19,7 +19,7 @@ use Rattle.sj_semantics.specs.Program.{Program, ends_without}
 use Rattle.sj_semantics.specs.Wants.{want_of}
 use Rattle.sj_semantics.specs.World.{World, session_message}
 use Rattle.sj_semantics_laws.proofs.BoundLemmas.{is_end-self, want_bound}
-use Rattle.sj_accepted_laws.proofs.LeadLemmas.{Ahead, coming, for_sender}
+use Rattle.sj_headline_laws.proofs.LeadLemmas.{Ahead, coming, for_sender}
 use Rattle.sj_lang.specs.Meet.{Meets}
 use Rattle.sj_lang.proofs.HeadLemmas.{send_answered}
 use Rattle.sj_lang.proofs.MeetLemmas.{meets_back}
@@ -27,12 +27,12 @@ use Rattle.std.proofs.lemmas.List.{length-map}
 use Rattle.sj_semantics.specs.Requests.{Requests}
 use Rattle.sj_semantics_laws.specs.Bound.{IsBound}
 use Rattle.sj_semantics_laws.specs.Unshared.{names_end}
-use Rattle.sj_accepted_laws.proofs.TouchedLemmas.{side, pair_of}
-use Rattle.sj_accepted_laws.proofs.WorldLemmas.{Sound, fits_want}
-use Rattle.sj_accepted_laws.proofs.UnnamedLemmas.{names_apart, named_apart, bindings_once}
-use Rattle.sj_accepted_laws.proofs.LocatedLemmas.{ends_go}
-use Rattle.sj_accepted_laws.proofs.AcceptedLemmas.{next_fits}
-use Rattle.sj_accepted_laws.proofs.FittingLemmas.{next_has_a_place}
+use Rattle.sj_headline_laws.proofs.TouchedLemmas.{side, pair_of}
+use Rattle.sj_headline_laws.proofs.WorldLemmas.{Sound, fits_want}
+use Rattle.sj_headline_laws.proofs.UnnamedLemmas.{names_apart, named_apart, bindings_once}
+use Rattle.sj_headline_laws.proofs.LocatedLemmas.{ends_go}
+use Rattle.sj_headline_laws.proofs.AcceptedLemmas.{next_fits}
+use Rattle.sj_headline_laws.proofs.FittingLemmas.{next_has_a_place}
 use Rattle.sj_rules.specs.Record.{other_end, is_same_end, offered_end}
 use Rattle.sj_rules.specs.PlainSide.{PlainSide, untaken_of}
 use Rattle.sj_rules.specs.Party.{place_awaited, want_for, after_step, IsDone, play_for, binds}
@@ -47,7 +47,7 @@ use Rattle.sj_rules_laws.proofs.WantLemmas.{takes_named, opens_there}
 use Rattle.sj_rules_laws.proofs.ActLemmas.{waiting_is_next}
 use Rattle.sj_lang.specs.declared.proto.Way.{Way}
 use Rattle.sj_lang.specs.ItemCount.{is_done}
-use Rattle.sj_accepted_laws.proofs.DoneLemmas.{untaken_by as nothing_waits, nothing_at_done}
+use Rattle.sj_headline_laws.proofs.DoneLemmas.{untaken_by as nothing_waits, nothing_at_done}
 
 -- ---- places
 

@@ -24,8 +24,8 @@ use Rattle.sj_rules.specs.Shown.{bodies}
 use Rattle.sj_rules.specs.Reading.{is_opening, reading, IsOpenKept}
 use Rattle.sj_rules.specs.Acts.{plain_accepted}
 use Rattle.sj_rules.specs.Moves.{with_side, with_opened, with_program}
-use Rattle.sj_opened_laws.proofs.OpenStandsLemmas.{opening_stands}
-use Rattle.sj_opened_laws.proofs.AcceptKeepLemmas.{accept_keeps}
+use Rattle.sj_opened_lemmas.proofs.OpenStandsLemmas.{opening_stands}
+use Rattle.sj_opened_lemmas.proofs.AcceptKeepLemmas.{accept_keeps}
 use Rattle.sj_rules_laws.proofs.PlainActsLemmas.{gives_accept}
 use Rattle.sj_rules_laws.proofs.KeptLemmas.{kept_stands}
 use Rattle.sj_rules_laws.proofs.QuietWorldLemmas.{main_at, open_free_by}

@@ -20,10 +20,10 @@ use Rattle.sj_rules.specs.Log.{LineAt, IsJoined, logs_below}
 use Rattle.sj_rules.specs.History.{IsCoreRun, IsHistory, turn_of}
 use Rattle.sj_rules.specs.NodeRun.{frame_told, told_frames}
 use Rattle.sj_rules.specs.Joined.{WorkerAt, PartiesWork, IsJoinedRun}
-use Rattle.sj_joined_laws.proofs.HistoryLemmas.{log_runs}
-use Rattle.sj_joined_laws.proofs.LimitLemmas.{same_arrives}
-use Rattle.sj_joined_laws.proofs.JoinedRunLemmas.{logs_join, last_world, joined_run}
-use Rattle.sj_joined_laws.proofs.ToldRunLemmas.{lost_is_front}
+use Rattle.sj_joined_lemmas.proofs.HistoryLemmas.{log_runs}
+use Rattle.sj_joined_lemmas.proofs.LimitLemmas.{same_arrives}
+use Rattle.sj_joined_lemmas.proofs.JoinedRunLemmas.{logs_join, last_world, joined_run}
+use Rattle.sj_joined_lemmas.proofs.ToldRunLemmas.{lost_is_front}
 use Rattle.sj_rules_laws.proofs.LimitLemmas.{run_front_arrives, core_run_few, core_run_known}
 use Rattle.sj_rules_laws.proofs.PlayLemmas.{acts_same, halts_same, log_same, posts_same}
 use Rattle.sj_rules_laws.proofs.RunLawsLemmas.{run_acts_unless_halted}

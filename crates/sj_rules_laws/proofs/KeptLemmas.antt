@@ -9,8 +9,8 @@ use Rattle.sj_rules.specs.PlainSide.{PlainAt, IsFront, untaken_of}
 use Rattle.sj_rules.specs.Linked.{IsKept}
 use Rattle.sj_rules.specs.Reading.{is_opening, reading, IsOpenKept}
 use Rattle.sj_rules.specs.HeldStands.{HeldStands}
-use Rattle.sj_world_laws.proofs.FlowLemmas.{untaken_front}
-use Rattle.sj_world_laws.proofs.SeenLemmas.{here_held}
+use Rattle.sj_world_lemmas.proofs.FlowLemmas.{untaken_front}
+use Rattle.sj_world_lemmas.proofs.SeenLemmas.{here_held}
 
 -- a Held record of an accepted end stands for its end in the plain world
 pub kept_stands : {P Q : Type 0} → (IsOver : P → Type 0) (binds : Q → EndId → Bool) (w : WorldAt P Q) (plain : PlainAt P Q) → IsKept IsOver binds w plain

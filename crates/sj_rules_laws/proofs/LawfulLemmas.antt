@@ -16,9 +16,9 @@ use Rattle.sj_semantics.specs.Wants.{want_of}
 use Rattle.sj_semantics.specs.Run.{IsRun}
 use Rattle.sj_semantics.specs.World.{World, act_of}
 use Rattle.sj_semantics.specs.declared.Want.TheVariants as wants
-use Rattle.sj_accepted_laws.proofs.TouchedLemmas.{pair_of}
-use Rattle.sj_accepted_laws.proofs.WorldLemmas.{Sound, fits_want}
-use Rattle.sj_accepted_laws.proofs.UnnamedLemmas.{bound_claims}
+use Rattle.sj_headline_laws.proofs.TouchedLemmas.{pair_of}
+use Rattle.sj_headline_laws.proofs.WorldLemmas.{Sound, fits_want}
+use Rattle.sj_headline_laws.proofs.UnnamedLemmas.{bound_claims}
 use Rattle.sj_semantics_laws.specs.Unshared.{IsToCome, to_accept}
 use Rattle.sj_semantics_laws.proofs.BoundLemmas.{named_is_bound}
 use Rattle.sj_semantics.specs.Fitting.{fits}
@@ -27,9 +27,9 @@ use Rattle.sj_semantics.specs.declared.Awaits.{Awaits}
 use Rattle.sj_semantics.specs.declared.Awaits.TheVariants as awaits
 use Rattle.std.proofs.lemmas.Bool.{false_from_ne_true}
 use Rattle.sj_rules_laws.proofs.OfferSeenLemmas.{offered_is}
-use Rattle.sj_accepted_laws.proofs.AcceptedLemmas.{run_is_sound, next_fits}
-use Rattle.sj_accepted_laws.proofs.LocatedLemmas.{ends_go}
-use Rattle.sj_accepted_laws.proofs.FittingLemmas.{sound_fits_places, next_has_a_place}
+use Rattle.sj_headline_laws.proofs.AcceptedLemmas.{run_is_sound, next_fits}
+use Rattle.sj_headline_laws.proofs.LocatedLemmas.{ends_go}
+use Rattle.sj_headline_laws.proofs.FittingLemmas.{sound_fits_places, next_has_a_place}
 use Rattle.sj_rules.specs.Record.{other_end}
 use Rattle.sj_rules.specs.Node.{ended}
 use Rattle.sj_rules.specs.PlainSide.{PlainSide}

@@ -23,7 +23,7 @@ use Rattle.sj_rules.specs.Binding.{NamesKnown}
 use Rattle.sj_rules_laws.proofs.KeptLemmas.{open_untaken}
 use Rattle.sj_rules.specs.Events.{acts_in}
 use Rattle.sj_rules.specs.History.{IsCoreRun, whole_caches}
-use Rattle.sj_joined_laws.proofs.LimitLemmas.{run_clocks}
+use Rattle.sj_joined_lemmas.proofs.LimitLemmas.{run_clocks}
 use Rattle.sj_rules_laws.proofs.CoreActLemmas.{map_has}
 use Rattle.sj_rules_laws.proofs.LawfulLemmas.{run_is_lawful, run_messages_known}
 use Rattle.sj_rules_laws.proofs.ShortRunLemmas.{runs_are_short}

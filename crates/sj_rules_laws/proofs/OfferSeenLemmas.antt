@@ -11,7 +11,7 @@ use Rattle.sj_rules.specs.Limits.{limit_of_requests, first_opened}
 use Rattle.sj_rules.specs.Record.{is_same_end, offered_end}
 use Rattle.sj_rules.specs.Opened.{opened_number, opener_of}
 use Rattle.sj_rules.specs.Plain.{offered_from, is_unaccepted, request_of, is_offered_end}
-use Rattle.sj_opened_laws.proofs.RequestKeepLemmas.{opener_of_opened}
+use Rattle.sj_opened_lemmas.proofs.RequestKeepLemmas.{opener_of_opened}
 
 -- ---- one request more
 

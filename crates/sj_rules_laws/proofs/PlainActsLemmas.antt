@@ -17,7 +17,7 @@ use Rattle.sj_rules.specs.Premises.{FitsSend, FitsDelegate, FitsHead, FitsTake, 
 use Rattle.sj_rules.specs.PlainChanges.{CountsHold, plain_with_hop, Proceeds}
 use Rattle.sj_rules.specs.PlainSteps.{PlainLocal, PlainSend, PlainTake, PlainTakeEnd, PlainDelegate, PlainClose, PlainOpens, PlainRequest, PlainAccept}
 use Rattle.sj_rules_laws.proofs.SideLemmas.{other_side_below, same_end_self, same_end_is}
-use Rattle.sj_world_laws.proofs.SwapLemmas.{other_other}
+use Rattle.sj_world_lemmas.proofs.SwapLemmas.{other_other}
 use Rattle.sj_semantics.specs.World.{session_message}
 
 -- truth values that are true together are one

@@ -19,9 +19,9 @@ use Rattle.sj_semantics.proofs.FittingLemmas.{fits_its_statement}
 use Rattle.sj_semantics_laws.proofs.BoundLemmas.{is_end-self}
 use Rattle.sj_semantics_laws.proofs.EndLemmas.{touched}
 use Rattle.sj_semantics_laws.proofs.FreesLemmas.{want_frees}
-use Rattle.sj_accepted_laws.proofs.NameLemmas.{named-without_same, named-without_other, named-bound_same, named-bound_other}
-use Rattle.sj_accepted_laws.proofs.TypedLemmas.{FitsProgram}
-use Rattle.sj_accepted_laws.proofs.TouchedLemmas.{side}
+use Rattle.sj_headline_laws.proofs.NameLemmas.{named-without_same, named-without_other, named-bound_same, named-bound_other}
+use Rattle.sj_headline_laws.proofs.TypedLemmas.{FitsProgram}
+use Rattle.sj_headline_laws.proofs.TouchedLemmas.{side}
 use Rattle.sj_rules.specs.Binding.{NamesNoEnd, IsSession, NamesKnown}
 use Rattle.sj_rules_laws.proofs.MadeLemmas.{touched_has, AreBegins, begins_keep}
 use Rattle.sj_rules_laws.proofs.TookLemmas.{took_same, took_end}

@@ -10,8 +10,8 @@ use Rattle.std.specs.Prelude.{Contains}
 use Rattle.sj_rules.specs.Limits.{limit_of_requests}
 use Rattle.sj_rules.specs.Opened.{opened_number, smallest}
 use Rattle.sj_rules.specs.Reading.{AreRising}
-use Rattle.sj_opened_laws.proofs.OpenKeepLemmas.{contains_first}
-use Rattle.sj_opened_laws.proofs.AcceptKeepLemmas.{first_smallest}
+use Rattle.sj_opened_lemmas.proofs.OpenKeepLemmas.{contains_first}
+use Rattle.sj_opened_lemmas.proofs.AcceptKeepLemmas.{first_smallest}
 use Rattle.sj_rules.specs.Rows.{Worked}
 use Rattle.sj_rules.specs.Node.{Want, ended, local, sends, delegates, takes, closes, requests, accepts, Play, NodeAt, accept_session, accept_offered, with_main, with_old, put, work_of_take, held_behind_take, is_free, send_act, delegate_act, take_act, take_from, close_act, act_by, acts}
 use Rattle.sj_rules.specs.PlainSide.{PlainAt}

@@ -9,7 +9,7 @@ use Rattle.sj_rules.specs.PlainSide.{PlainSide, untaken_of}
 use Rattle.sj_rules.specs.Numbers.{Pace, Cause, level, ahead, behind, by_ack, by_signal, turned, NumbersFit, LeadsBy, IsSignalledTo, is_over}
 use Rattle.sj_rules.specs.Streams.{AreCarries, ComesWhole, ComesToHeld, mark_for}
 use Rattle.sj_rules.specs.Coming.{Comes, AreOld}
-use Rattle.sj_world_laws.proofs.SwapLemmas.{swap_numbers}
+use Rattle.sj_world_lemmas.proofs.SwapLemmas.{swap_numbers}
 use Rattle.sj_rules_laws.proofs.QuietLemmas.{IsStill, explained_comes, signal_to}
 
 -- what is left where nothing is in a lane

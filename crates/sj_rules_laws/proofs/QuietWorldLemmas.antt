@@ -19,7 +19,7 @@ use Rattle.sj_rules.specs.Seat.{Seat, held, parked, claimed, signalled, given, c
 use Rattle.sj_rules.specs.Shown.{Shows, main_shown, bodies}
 use Rattle.sj_rules.specs.Opened.{opener_of, opens, opened_in}
 use Rattle.sj_rules.specs.Reading.{is_opening, reading, without_opens, IsOpenKept}
-use Rattle.sj_opened_laws.proofs.DeliverKeepLemmas.{read_none}
+use Rattle.sj_opened_lemmas.proofs.DeliverKeepLemmas.{read_none}
 use Rattle.std.specs.Prelude.{false, Contains, ◌++◌}
 use Rattle.std.proofs.Common.{append-nil}
 use Rattle.sj_rules.specs.PlainSide.{PlainSide, PlainAt}
@@ -32,13 +32,13 @@ use Rattle.sj_rules.specs.Moves.{plain_act}
 use Rattle.sj_rules.specs.HeldStands.{IsWholeAt}
 use Rattle.sj_rules.specs.History.{IsQuiescent}
 use Rattle.sj_rules_laws.proofs.SideLemmas.{other_side_below}
-use Rattle.sj_world_laws.proofs.SwapLemmas.{other_other}
+use Rattle.sj_world_lemmas.proofs.SwapLemmas.{other_other}
 use Rattle.sj_rules_laws.proofs.KeptLemmas.{kept_stands}
 use Rattle.sj_rules_laws.proofs.QuietLemmas.{nothing_live, nothing_old, no_claim, no_give, IsStill}
 use Rattle.sj_rules_laws.proofs.QuietSeatLemmas.{IsLeft, none_signalled, whole_held}
 use Rattle.sj_rules_laws.proofs.QuietActLemmas.{no_core_act_no_plain_act}
 use Rattle.sj_rules_laws.proofs.LawfulLemmas.{run_is_lawful, run_acts_are_seen}
-use Rattle.sj_world_laws.proofs.OutcomeLemmas.{sound_at}
+use Rattle.sj_world_lemmas.proofs.OutcomeLemmas.{sound_at}
 
 module _ {P Q : Type 0} (IsOver : P → Type 0) (binds : Q → EndId → Bool) (w : WorldAt P Q) (plain : PlainAt P Q) (kept : IsKept IsOver binds w plain) where
   pub shows_other : (e : EndId) → e.side < 2 → Shows w (kept.sessions.sides e).seat (kept.sessions.sides (other_end e))

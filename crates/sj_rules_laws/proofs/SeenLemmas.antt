@@ -15,7 +15,7 @@ use Rattle.sj_semantics_laws.proofs.AlteredLemmas.{slice_get-altered, slice_get-
 use Rattle.sj_semantics_laws.proofs.BoundLemmas.{is_end-self}
 use Rattle.sj_semantics_laws.proofs.EndLemmas.{touched, end_at-touched_other, end_at-touched_same}
 use Rattle.sj_semantics_laws.proofs.ClaimLemmas.{length-push}
-use Rattle.sj_accepted_laws.proofs.LeadLemmas.{map_push, moved_to}
+use Rattle.sj_headline_laws.proofs.LeadLemmas.{map_push, moved_to}
 use Rattle.sj_rules.specs.Record.{is_same_end}
 use Rattle.sj_rules.specs.PlainSide.{PlainSide}
 use Rattle.sj_rules.specs.Party.{nobody}

@@ -12,10 +12,10 @@ use Rattle.sj_rules.specs.PlainSide.{PlainAt}
 use Rattle.sj_rules.specs.Linked.{IsKept}
 use Rattle.sj_rules.specs.Opened.{opener_of}
 use Rattle.sj_rules.specs.Reading.{is_opening, reading, IsOpenKept}
-use Rattle.sj_opened_laws.proofs.OpenSpotLemmas.{no_opens, open_there, lies_once_read}
+use Rattle.sj_opened_lemmas.proofs.OpenSpotLemmas.{no_opens, open_there, lies_once_read}
 use Rattle.sj_rules.specs.Spots.{Spot, at_main, at_old, on_way, in_open, HasMain, HasOld, LiesAt, LiesOnce}
 use Rattle.sj_rules.specs.Worked.{mails_of}
-use Rattle.sj_world_laws.proofs.ToldLemmas.{Has, contains_has, has_contains, has_filter, has_kept, has_passed}
+use Rattle.sj_world_lemmas.proofs.ToldLemmas.{Has, contains_has, has_contains, has_filter, has_kept, has_passed}
 
 abbrev pub spot_of : {P : Type 0} → Seat P → Option Spot
 spot_of (held at h) = Some (at_main at)

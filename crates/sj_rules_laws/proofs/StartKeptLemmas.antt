@@ -14,7 +14,7 @@ use Rattle.std.specs.Prelude.{nat_le, ◌&&◌, ◌==◌, ◌≤◌, length}
 use Rattle.std.proofs.lemmas.Option.{slice_get_past}
 use Rattle.sj_rules.specs.Limits.{first_opened}
 use Rattle.sj_rules.specs.Reading.{IsOpenKept}
-use Rattle.sj_opened_laws.proofs.OpenRunLemmas.{OpensNothingYet, begins_kept}
+use Rattle.sj_opened_lemmas.proofs.OpenRunLemmas.{OpensNothingYet, begins_kept}
 use Rattle.sj_semantics.specs.World.{fresh, session_of, start_of}
 use Rattle.sj_rules.specs.Record.{other_end}
 use Rattle.sj_rules.specs.Seat.{Seat, held, gone, Side, source_for}

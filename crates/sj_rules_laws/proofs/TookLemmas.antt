@@ -13,15 +13,15 @@ use Rattle.sj_semantics.specs.Program.{Program, Thing, statement, turns, passing
 use Rattle.sj_semantics.specs.Steps.{ends_after_took, took_of, opened_of, name_opened}
 use Rattle.sj_semantics.specs.Ends.{Session, end_at}
 use Rattle.sj_semantics.proofs.FittingLemmas.{fits_its_statement}
-use Rattle.sj_accepted_laws.proofs.NameLemmas.{Agrees, named-bound_same, named-bound_other}
-use Rattle.sj_accepted_laws.proofs.TypedLemmas.{DoesTodo, FitsProgram}
-use Rattle.sj_accepted_laws.proofs.TouchedLemmas.{side}
+use Rattle.sj_headline_laws.proofs.NameLemmas.{Agrees, named-bound_same, named-bound_other}
+use Rattle.sj_headline_laws.proofs.TypedLemmas.{DoesTodo, FitsProgram}
+use Rattle.sj_headline_laws.proofs.TouchedLemmas.{side}
 use Rattle.sj_rules.specs.Record.{is_same_end}
 use Rattle.sj_rules.specs.Party.{binds}
 use Rattle.sj_rules.specs.Binding.{BindsSame, BindsAlso, BindsTaken, NamesNoEnd}
 use Rattle.sj_rules_laws.proofs.SideLemmas.{same_end_self, same_end_is}
 use Rattle.sj_rules_laws.proofs.NamesLemmas.{binds_in, has_name, name_binds}
-use Rattle.sj_accepted_laws.proofs.LocatedLemmas.{no_kind, no_arm}
+use Rattle.sj_headline_laws.proofs.LocatedLemmas.{no_kind, no_arm}
 
 -- with one name more, its end is bound too
 pub binds_bound : (ends : List (ℕ × EndId)) (y : ℕ) (x : EndId) → named ends y ≡ None → (f : EndId)

@@ -9,7 +9,7 @@ use Rattle.sj_rules.specs.Limits.{limit_of_conns}
 use Rattle.sj_rules.specs.Rows.{IsPick, Worked, with_first, with_last, trimmed_end, end_with_peer, numbered_carries, mails_of, cached_from, resent_posts, signal_fits, passive, passive_closed, crossing_body, acked_body, with_end, at_held, worked_record, resend_fits, resent_at, install}
 use Rattle.sj_rules.specs.Within.{EndWithin, BodyWithin, MailWithin, MailsWithin}
 use Rattle.std.specs.Prelude.{nat_le}
-use Rattle.sj_joined_laws.proofs.LateLemmas.{all_joined}
+use Rattle.sj_joined_lemmas.proofs.LateLemmas.{all_joined}
 
 -- what holds of f at what is there holds of the answer
 pub by_map : {X Y : Type 0} → (P : Y → Type 0) (f : X → Y) (o : Option X) (y : Y) → option_map f o ≡ Some y → ((x : X) → o ≡ Some x → P (f x)) → P y

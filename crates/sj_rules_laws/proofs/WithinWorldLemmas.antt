@@ -24,11 +24,11 @@ use Rattle.sj_rules.specs.Within.{KeeperWithin, BodyWithin, MailsWithin, MainWit
 use Rattle.sj_rules_laws.proofs.WithinRowLemmas.{by_map, by_some}
 use Rattle.sj_rules_laws.proofs.WithinNodeLemmas.{all_within}
 use Rattle.sj_rules_laws.proofs.WithinActLemmas.{StepIsFew, acts_within}
-use Rattle.sj_world_laws.proofs.SeenLemmas.{here_held}
+use Rattle.sj_world_lemmas.proofs.SeenLemmas.{here_held}
 use Rattle.sj_rules_laws.proofs.KeptLemmas.{held_read, open_kept_stands}
 use Rattle.sj_rules_laws.proofs.StartNamesLemmas.{party_exists}
 use Rattle.std.specs.Prelude.{length, slice_get, option_and_then, nat_lt}
-use Rattle.sj_joined_laws.proofs.LateLemmas.{all_joined}
+use Rattle.sj_joined_lemmas.proofs.LateLemmas.{all_joined}
 
 -- ---- lanes
 

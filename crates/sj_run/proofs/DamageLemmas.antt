@@ -8,7 +8,7 @@ use Rattle.sj_core.specs.declared.refusal.ReplayRefusal.TheVariants as replays
 use Rattle.sj_end.specs.declared.note.Entry.{Entry}
 use Rattle.sj_end.specs.declared.note.Line.{Line}
 use Rattle.sj_end.specs.Lines.{line_at}
-use Rattle.sj_joined_laws.proofs.HistoryLemmas.{no_misfit}
+use Rattle.sj_joined_lemmas.proofs.HistoryLemmas.{no_misfit}
 use Rattle.sj_lang.specs.Place.{Place}
 use Rattle.sj_lang.specs.FileAt.{FileAt}
 use Rattle.sj_node.specs.Node.{log_of, node_at}

@@ -20,8 +20,8 @@ use Rattle.sj_rules.specs.Record.{BodyAt, Carry, Fin, Claim, Signal, Ack, Give, 
 use Rattle.sj_rules.specs.Start.{core_start}
 use Rattle.sj_rules.specs.Work.{InStep, LanedAt, LostAt, lost_from}
 use Rattle.sj_rules.specs.World.{WorldAt}
-use Rattle.sj_joined_laws.proofs.LimitLemmas.{same_arrives}
-use Rattle.sj_joined_laws.proofs.WorkLemmas.{list_of, shown, told_by}
+use Rattle.sj_joined_lemmas.proofs.LimitLemmas.{same_arrives}
+use Rattle.sj_joined_lemmas.proofs.WorkLemmas.{list_of, shown, told_by}
 use Rattle.sj_rules_laws.proofs.JoinedFileLemmas.{lines_are_history, lines_are_run, lost_arrives, own_joined_run, world_of}
 use Rattle.sj_rules_laws.proofs.LimitLemmas.{core_run_clocks}
 use Rattle.sj_rules_laws.proofs.ShortRunLemmas.{runs_are_short}

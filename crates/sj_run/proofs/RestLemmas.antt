@@ -8,7 +8,7 @@ use Rattle.sj_rules.specs.Halts.{halt_of}
 use Rattle.sj_rules.specs.Node.{acts}
 use Rattle.sj_rules.specs.NodeRun.{told_frames}
 use Rattle.sj_rules.specs.Party.{play_of}
-use Rattle.sj_joined_laws.proofs.WorkLemmas.{shown}
+use Rattle.sj_joined_lemmas.proofs.WorkLemmas.{shown}
 use Rattle.sj_node.specs.declared.node.Node.{Node}
 use Rattle.sj_node.specs.declared.refusal.Halt.{Halt}
 use Rattle.sj_node.specs.declared.refusal.Halt.TheVariants as halts

@@ -13,8 +13,8 @@ use Rattle.sj_rules.specs.NodeRun.{StepAt}
 use Rattle.sj_rules.specs.Party.{play_of}
 use Rattle.sj_rules.specs.Start.{core_start}
 use Rattle.sj_rules.specs.World.{WorldAt}
-use Rattle.sj_joined_laws.proofs.HistoryLemmas.{same_world}
-use Rattle.sj_joined_laws.proofs.WorkerLemmas.{clocks_rise}
+use Rattle.sj_joined_lemmas.proofs.HistoryLemmas.{same_world}
+use Rattle.sj_joined_lemmas.proofs.WorkerLemmas.{clocks_rise}
 use Rattle.sj_lane.specs.Square.{HasFault, Kept, in_in, out_in}
 use Rattle.sj_lane.specs.Told.{Rose}
 use Rattle.sj_node.specs.Node.{log_of, node_at}

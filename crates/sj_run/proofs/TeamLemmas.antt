@@ -12,7 +12,7 @@ use Rattle.sj_rules.specs.NodeRun.{told_frames}
 use Rattle.sj_rules.specs.Plays.{IsPlayOf}
 use Rattle.sj_rules.specs.Start.{core_start, first_node}
 use Rattle.sj_rules.specs.Work.{IsHired, LanedAt, LaneWork, LostAt, lost_from}
-use Rattle.sj_joined_laws.proofs.WorkLemmas.{parties_hired, shown, told_by}
+use Rattle.sj_joined_lemmas.proofs.WorkLemmas.{parties_hired, shown, told_by}
 use Rattle.sj_node.specs.Play.{play_with}
 use Rattle.sj_node.specs.Reading.{party_of}
 use Rattle.sj_node.proofs.FilePlayLemmas.{is_play_of}

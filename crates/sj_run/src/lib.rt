@@ -1,15 +1,15 @@
 //! A file run by its parties, each on a thread of its own or all on a pool of a few, over any links.
 #![tactic(auto)]
 
-mod hiring;
-mod joining;
+mod crews;
 mod laws;
 mod refusal;
+mod remains;
 mod rounds;
-mod running;
+mod runs;
 mod stops;
-mod working;
+mod teams;
 
 pub use laws::calls_compose;
 pub use refusal::RunRefusal;
-pub use running::run_parties;
+pub use runs::run_parties;

@@ -21,14 +21,14 @@ use Rattle.sj_semantics_laws.proofs.BoundLemmas.{is_end-self, is_end_sym, is_end
 use Rattle.sj_semantics_laws.proofs.ClaimLemmas.{carried-begins, carried-hands_on, carried-sends, carried-takes, one_if}
 use Rattle.sj_semantics_laws.proofs.EndLemmas.{end_at-touched_other, touched}
 use Rattle.sj_semantics_laws.proofs.KeepLemmas.{claims_on-act, come_before}
-use Rattle.sj_accepted_laws.proofs.AfterLemmas.{AllPairs}
-use Rattle.sj_accepted_laws.proofs.BeginPairLemmas.{pair_begins}
-use Rattle.sj_accepted_laws.proofs.LeadLemmas.{pair_hands, pair_sends, pair_takes}
-use Rattle.sj_accepted_laws.proofs.PairLemmas.{fits_kept}
-use Rattle.sj_accepted_laws.proofs.SoundLemmas.{act_keeps_sound}
-use Rattle.sj_accepted_laws.proofs.TouchedLemmas.{side}
-use Rattle.sj_accepted_laws.proofs.UnnamedLemmas.{IsUncarried, bound_claims, hands_places, keeps_by_name, pairs_after, todo_kept}
-use Rattle.sj_accepted_laws.proofs.WorldLemmas.{Sound}
+use Rattle.sj_headline_laws.proofs.AfterLemmas.{AllPairs}
+use Rattle.sj_headline_laws.proofs.BeginPairLemmas.{pair_begins}
+use Rattle.sj_headline_laws.proofs.LeadLemmas.{pair_hands, pair_sends, pair_takes}
+use Rattle.sj_headline_laws.proofs.PairLemmas.{fits_kept}
+use Rattle.sj_headline_laws.proofs.SoundLemmas.{act_keeps_sound}
+use Rattle.sj_headline_laws.proofs.TouchedLemmas.{side}
+use Rattle.sj_headline_laws.proofs.UnnamedLemmas.{IsUncarried, bound_claims, hands_places, keeps_by_name, pairs_after, todo_kept}
+use Rattle.sj_headline_laws.proofs.WorldLemmas.{Sound}
 use Rattle.sj_talk.specs.Doing.{used_by}
 use Rattle.sj_talk.specs.Names.{end_named, ends_without}
 use Rattle.sj_talk.specs.TalkWorld.{TalkWorld, with_world}

@@ -6,7 +6,7 @@ use Rattle.sj_semantics.specs.Balanced.{IsBalanced}
 use Rattle.sj_semantics.specs.Run.{after_acts}
 use Rattle.sj_semantics.specs.World.{World, act_of}
 use Rattle.sj_semantics_laws.proofs.RunLemmas.{between}
-use Rattle.sj_accepted_laws.proofs.AcceptedLemmas.{next_fits, sound_is_balanced}
+use Rattle.sj_headline_laws.proofs.AcceptedLemmas.{next_fits, sound_is_balanced}
 use Rattle.sj_talk.specs.Doing.{after_line}
 use Rattle.sj_talk.specs.Moves.{GoesOn, IsServed, IsTalk, Move, acts, after_move, after_moves, notes, says}
 use Rattle.sj_talk.specs.Names.{with_word}

@@ -23,13 +23,13 @@ use Rattle.sj_semantics.proofs.StartLemmas.{program_at_start}
 use Rattle.sj_semantics_laws.specs.Unshared.{IsToCome, bindings_of, claims_on, to_accept, to_open}
 use Rattle.sj_semantics_laws.proofs.AlteredLemmas.{length-altered, slice_get-altered, slice_get-altered_other, sum_by-altered}
 use Rattle.sj_semantics_laws.proofs.ClaimLemmas.{one_if}
-use Rattle.sj_accepted_laws.proofs.AcceptedLemmas.{start_is_sound}
-use Rattle.sj_accepted_laws.proofs.LeadLemmas.{pair_taking}
-use Rattle.sj_accepted_laws.proofs.PlacedLemmas.{party_there}
-use Rattle.sj_accepted_laws.proofs.OriginLemmas.{InTodo}
-use Rattle.sj_accepted_laws.proofs.TouchedLemmas.{pair_of, side}
-use Rattle.sj_accepted_laws.proofs.TypedLemmas.{FitsProgram}
-use Rattle.sj_accepted_laws.proofs.WorldLemmas.{Asks, Sound, Takes}
+use Rattle.sj_headline_laws.proofs.AcceptedLemmas.{start_is_sound}
+use Rattle.sj_headline_laws.proofs.LeadLemmas.{pair_taking}
+use Rattle.sj_headline_laws.proofs.PlacedLemmas.{party_there}
+use Rattle.sj_headline_laws.proofs.OriginLemmas.{InTodo}
+use Rattle.sj_headline_laws.proofs.TouchedLemmas.{pair_of, side}
+use Rattle.sj_headline_laws.proofs.TypedLemmas.{FitsProgram}
+use Rattle.sj_headline_laws.proofs.WorldLemmas.{Asks, Sound, Takes}
 use Rattle.sj_talk.specs.Doing.{after_by_rule, after_form, after_line, bound_by, message_next, used_by}
 use Rattle.sj_talk.specs.Forms as forms
 use Rattle.sj_talk.specs.Forms.{FormAt, form_of}

@@ -14,7 +14,7 @@ use Rattle.sj_semantics.specs.Requests.{Requests, opened_from}
 use Rattle.sj_semantics.specs.Uses.{altered_list}
 use Rattle.sj_semantics.specs.Value.{no_vars}
 use Rattle.sj_semantics.specs.World.{World, program_of, programs_from, start_of}
-use Rattle.sj_accepted_laws.proofs.PlacedLemmas.{party_there}
+use Rattle.sj_headline_laws.proofs.PlacedLemmas.{party_there}
 use Rattle.sj_machine.specs.declared.machine.Machine.{Machine}
 use Rattle.sj_machine.specs.Sound.{program_at}
 use Rattle.sj_plain.proofs.UseLemmas.{map-set}

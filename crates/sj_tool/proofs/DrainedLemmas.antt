@@ -5,7 +5,7 @@ use Rattle.sj_lang.specs.Place.{Place}
 use Rattle.sj_acceptance.specs.Accepted.{IsAccepted}
 use Rattle.sj_semantics.specs.declared.Verdict.{Verdict}
 use Rattle.sj_semantics.specs.Program.{Program}
-use Rattle.sj_accepted_laws.proofs.HeadlineLemmas.{settled_run_has_it}
+use Rattle.sj_headline_laws.proofs.HeadlineLemmas.{settled_run_has_it}
 use Rattle.sj_semantics.specs.Run.{IsRun, end_of}
 use Rattle.sj_semantics_laws.proofs.FinishLemmas.{end_is_settled}
 use Rattle.sj_plain.specs.Kept.{without_words}
@@ -15,7 +15,7 @@ use Rattle.sj_rules.specs.Log.{LineAt}
 use Rattle.sj_rules.specs.Party.{play_of}
 use Rattle.sj_rules.specs.Start.{core_start}
 use Rattle.sj_rules.specs.World.{WorldAt}
-use Rattle.sj_joined_laws.proofs.HistoryLemmas.{log_runs}
+use Rattle.sj_joined_lemmas.proofs.HistoryLemmas.{log_runs}
 use Rattle.sj_rules_laws.proofs.RunLawsLemmas.{quiet_run_ends}
 use Rattle.sj_core.proofs.FirstLemmas.{core_start_same}
 use Rattle.sj_core.proofs.LawLemmas.{max_picks}

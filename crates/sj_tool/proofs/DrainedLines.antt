@@ -12,8 +12,8 @@ use Rattle.sj_rules.specs.Node.{Play}
 use Rattle.sj_rules.specs.Party.{play_of}
 use Rattle.sj_rules.specs.Start.{core_start}
 use Rattle.sj_rules.specs.World.{Act, Deliver, Event, Turn, WorldAt, happens}
-use Rattle.sj_joined_laws.proofs.HistoryLemmas.{log_runs, logs_joined}
-use Rattle.sj_joined_laws.proofs.ReplayLemmas.{step_lined}
+use Rattle.sj_joined_lemmas.proofs.HistoryLemmas.{log_runs, logs_joined}
+use Rattle.sj_joined_lemmas.proofs.ReplayLemmas.{step_lined}
 use Rattle.sj_rules_laws.proofs.DrainEndLemmas.{drained_is_quiet}
 use Rattle.sj_rules_laws.proofs.DrainRunLemmas.{run_drains}
 use Rattle.sj_core.proofs.LawLemmas.{max_picks}

@@ -17,8 +17,8 @@ use Rattle.sj_run.specs.declared.refusal.RunRefusal.TheVariants as refusals
 use Rattle.sj_tool.specs.LogAt.{LogAt, Spells, log_at}
 use Rattle.sj_tool.specs.declared.answers.Answer.{Answer}
 use Rattle.sj_tool.specs.AnswerAt.{AnswerAt, answer_at, Usage, ReadFault, TooLarge, Syntax, LogFault, Misfit, Damaged, Made, NoTalk, LinkFault}
-use Rattle.sj_tool.specs.declared.replaying.ReplayFault.{ReplayFault}
-use Rattle.sj_tool.specs.declared.replaying.ReplayFault.TheVariants as faults
+use Rattle.sj_tool.specs.declared.replays.ReplayFault.{ReplayFault}
+use Rattle.sj_tool.specs.declared.replays.ReplayFault.TheVariants as faults
 use Rattle.sj_tool.specs.Answers.{AnswersBytes, AnswersFile, AnswersInput, AnswersText, Comes}
 use Rattle.sj_tool.specs.Calls.{CallAt, LinkUseAt}
 use Rattle.sj_tool.specs.Entries.{IsDamagedBy, IsToldMisfit, IsToldSo}

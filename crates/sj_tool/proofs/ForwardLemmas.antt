@@ -2,8 +2,8 @@
 use Rattle.std.proofs.Common.{◌≡◌, ◌∙◌, ℕ, List, [], ◌++◌, length, ap, refl, sym}
 use Rattle.sj_lang.specs.FileAt.{FileAt}
 use Rattle.sj_acceptance.specs.Accepted.{IsAccepted}
-use Rattle.sj_accepted_laws.specs.Headline.{IsHeadline}
-use Rattle.sj_accepted_laws.proofs.HeadlineLemmas.{settled_run_has_it}
+use Rattle.sj_headline_laws.specs.Headline.{IsHeadline}
+use Rattle.sj_headline_laws.proofs.HeadlineLemmas.{settled_run_has_it}
 use Rattle.sj_forward_rules.specs.Drain.{IsDrained, passed_in}
 use Rattle.sj_forward_rules.specs.Start.{forward_start}
 use Rattle.sj_forward_rules.specs.World.{WorldAt}

@@ -8,8 +8,8 @@ use Rattle.sj_semantics.specs.declared.Verdict.TheVariants.{Done, Blocked, Long}
 use Rattle.sj_semantics.specs.Run.{end_of}
 use Rattle.sj_semantics.specs.State.{verdict_of}
 use Rattle.sj_semantics_laws.proofs.FinishLemmas.{end_is_settled, end_is_reached}
-use Rattle.sj_accepted_laws.specs.Headline.{IsHeadline}
-use Rattle.sj_accepted_laws.proofs.HeadlineLemmas.{settled_run_has_it}
+use Rattle.sj_headline_laws.specs.Headline.{IsHeadline}
+use Rattle.sj_headline_laws.proofs.HeadlineLemmas.{settled_run_has_it}
 use Rattle.sj_forest_laws.proofs.BlockedLemmas.{never_blocked}
 use Rattle.sj_command.proofs.OneTask.{one_task}
 use Rattle.sj_tool.specs.AnswerAt.{AnswerAt, Ran}

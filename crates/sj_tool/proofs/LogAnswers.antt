@@ -9,7 +9,7 @@ use Rattle.sj_rules.specs.Node.{Play}
 use Rattle.sj_rules.specs.Party.{play_of}
 use Rattle.sj_rules.specs.Start.{core_start}
 use Rattle.sj_rules.specs.World.{WorldAt}
-use Rattle.sj_joined_laws.proofs.HistoryLemmas.{no_misfit, some_same}
+use Rattle.sj_joined_lemmas.proofs.HistoryLemmas.{no_misfit, some_same}
 use Rattle.sj_tool.specs.LogAt.{Breaks, LogAt, Spells}
 use Rattle.sj_tool.specs.Entries.{IsMisfitText, entry_line, misfit_head}
 use Rattle.sj_tool.proofs.OneRun.{same_spelled}

@@ -13,7 +13,7 @@ use Rattle.sj_rules.specs.Log.{LineAt}
 use Rattle.sj_rules.specs.Party.{play_of}
 use Rattle.sj_rules.specs.Start.{core_start}
 use Rattle.sj_rules.specs.World.{WorldAt}
-use Rattle.sj_joined_laws.proofs.HistoryLemmas.{replays, same_world}
+use Rattle.sj_joined_lemmas.proofs.HistoryLemmas.{replays, same_world}
 use Rattle.sj_rules_laws.proofs.DrainLemmas.{drained_once}
 use Rattle.sj_command.specs.declared.tasks.Task.{Task}
 use Rattle.sj_command.specs.declared.tasks.Task.TheVariants as tasks

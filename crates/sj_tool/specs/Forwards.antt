@@ -1,7 +1,7 @@
 -- What `run --forward` prints of a file.
 use Rattle.std.specs.Prelude.{◌≡◌, ℕ, List, [], ◌∷◌, ◌++◌, codes, decimal, length}
 use Rattle.sj_lang.specs.FileAt.{FileAt}
-use Rattle.sj_accepted_laws.specs.Headline.{IsHeadline}
+use Rattle.sj_headline_laws.specs.Headline.{IsHeadline}
 use Rattle.sj_forward_rules.specs.Drain.{IsDrained, passed_in}
 use Rattle.sj_forward_rules.specs.Start.{forward_start}
 use Rattle.sj_forward_rules.specs.World.{WorldAt}

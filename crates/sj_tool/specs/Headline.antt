@@ -9,7 +9,7 @@ use Rattle.sj_semantics.specs.Run.{end_of}
 use Rattle.sj_semantics.specs.State.{verdict_of}
 use Rattle.sj_semantics.specs.Transcript.{transcript_of}
 use Rattle.sj_semantics.specs.World.{World}
-use Rattle.sj_accepted_laws.specs.Headline.{IsHeadline}
+use Rattle.sj_headline_laws.specs.Headline.{IsHeadline}
 use Rattle.sj_forest_laws.specs.Forest.{IsForest}
 use Rattle.sj_command.specs.declared.tasks.Task.{Task}
 use Rattle.sj_command.specs.declared.tasks.Task.TheVariants as tasks

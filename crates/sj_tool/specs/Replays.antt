@@ -9,8 +9,8 @@ use Rattle.sj_rules.specs.Log.{LineAt}
 use Rattle.sj_tool.specs.LogAt.{Breaks, LogAt, Spells}
 use Rattle.sj_tool.specs.Entries.{IsToldMisfit}
 use Rattle.sj_tool.specs.AnswerAt.{AnswerAt, LogFault}
-use Rattle.sj_tool.specs.declared.replaying.ReplayFault.{ReplayFault}
-use Rattle.sj_tool.specs.declared.replaying.ReplayFault.TheVariants as faults
+use Rattle.sj_tool.specs.declared.replays.ReplayFault.{ReplayFault}
+use Rattle.sj_tool.specs.declared.replays.ReplayFault.TheVariants as faults
 
 -- lines that aren't replayed, as a fault of a log
 abbrev pub replay_fault : ReplayRefusal → ReplayFault

@@ -5,7 +5,7 @@ use Rattle.sj_lang.specs.Place.{Place}
 use Rattle.sj_acceptance.specs.Accepted.{IsAccepted}
 use Rattle.sj_semantics.specs.declared.Verdict.{Verdict}
 use Rattle.sj_semantics.specs.Program.{Program}
-use Rattle.sj_accepted_laws.specs.Headline.{IsHeadline}
+use Rattle.sj_headline_laws.specs.Headline.{IsHeadline}
 use Rattle.sj_semantics.specs.Run.{end_of}
 use Rattle.sj_semantics.specs.State.{verdict_of}
 use Rattle.sj_semantics.specs.Transcript.{transcript_of}

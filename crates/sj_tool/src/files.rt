@@ -14,15 +14,15 @@ ghost use Rattle.sj_tool.specs.Outcomes.{IsJudged};
 ghost use Rattle.sj_tool.specs.Replays.{IsToldFault};
 
 use crate::answers::Answer;
-use crate::counting::counts_text;
+use crate::counts::counts_text;
 use crate::entries::told_entry;
 use crate::forests::forest_text;
-use crate::forwarding::forwarded;
-use crate::playing::simulated;
-use crate::replaying::{ReplayFault, replayed};
-use crate::running::ran;
-use crate::showing::shown_text;
-use crate::talking::talked;
+use crate::forwards::forward;
+use crate::plays::simulate;
+use crate::replays::{ReplayFault, replay};
+use crate::runs::run_file;
+use crate::duals::shown_text;
+use crate::talks::talk;
 use sj_base::NoMemory;
 use sj_check::{Accepted, CheckRefusal, check};
 use sj_command::Task;
@@ -42,7 +42,7 @@ pub(crate) fn shown(alloc: Global, file: &File) -> Result<Answer, NoMemory>
 }
 
 /// The counts of a file, where it is accepted.
-pub(crate) fn counted(alloc: Global, file: File) -> Result<Answer, NoMemory>
+pub(crate) fn count(alloc: Global, file: File) -> Result<Answer, NoMemory>
     requires { IsWithin limits (file_of file) }
     ensures { IfOk result (λ a. (links : LinkUseAt) (log : LogAt)
         → AnswersFile links tasks.Check log (file_of file) (answer_at a)) }
@@ -54,7 +54,7 @@ pub(crate) fn counted(alloc: Global, file: File) -> Result<Answer, NoMemory>
 }
 
 /// Whether a file is a forest, where it is accepted.
-pub(crate) fn shaped(alloc: Global, file: File) -> Result<Answer, NoMemory>
+pub(crate) fn shape(alloc: Global, file: File) -> Result<Answer, NoMemory>
     requires { IsWithin limits (file_of file) }
     ensures { IfOk result (λ a. (links : LinkUseAt) (log : LogAt)
         → AnswersFile links tasks.Forest log (file_of file) (answer_at a)) }
@@ -73,7 +73,7 @@ pub(crate) fn simulated_file(alloc: Global, file: File) -> Result<Answer, NoMemo
 {
     match judge(alloc, file)? {
         Judged::Accepted(accepted) => {
-            let (verdict, text) = simulated(alloc, &accepted)?;
+            let (verdict, text) = simulate(alloc, &accepted)?;
             Ok(Answer::Ran(verdict, text))
         }
         Judged::Fault(rule, line) => Ok(Answer::Check(rule, line)),
@@ -88,7 +88,7 @@ pub(crate) fn forwarded_file(alloc: Global, file: File) -> Result<Answer, NoMemo
 {
     match judge(alloc, file)? {
         Judged::Accepted(accepted) => {
-            let (verdict, text) = forwarded(alloc, &accepted)?;
+            let (verdict, text) = forward(alloc, &accepted)?;
             Ok(Answer::Ran(verdict, text))
         }
         Judged::Fault(rule, line) => Ok(Answer::Check(rule, line)),
@@ -96,7 +96,7 @@ pub(crate) fn forwarded_file(alloc: Global, file: File) -> Result<Answer, NoMemo
 }
 
 /// How a file ends in which these lines play the party of that number, and what is answered to them.
-pub(crate) fn played(
+pub(crate) fn play(
     alloc: Global,
     file: File,
     party: u16,
@@ -113,7 +113,7 @@ pub(crate) fn played(
     if party as usize >= accepted.file().parties.len() {
         return Ok(Answer::NoParty(party));
     }
-    let (verdict, text) = talked(alloc, accepted, party, lines)?;
+    let (verdict, text) = talk(alloc, accepted, party, lines)?;
     Ok(Answer::Ran(verdict, text))
 }
 
@@ -136,10 +136,10 @@ pub(crate) fn ran_by_links<R: Threads + Sync, L: Links, G: Gate>(
         Judged::Accepted(accepted) => accepted,
         Judged::Fault(rule, line) => return Ok(Answer::Check(rule, line)),
     };
-    match ran(rt, alloc, &accepted, task, links, gate) {
+    match run_file(rt, alloc, &accepted, task, links, gate) {
         Ok((verdict, text)) => Ok(Answer::Ran(verdict, text)),
         Err(refusal) => {
-            let answer = refused(alloc, accepted.file(), refusal)?;
+            let answer = refuse(alloc, accepted.file(), refusal)?;
             Ok(answer)
         }
     }
@@ -164,7 +164,7 @@ pub(crate) fn ran_by_log(
         Judged::Accepted(accepted) => accepted,
         Judged::Fault(rule, line) => return Ok(Answer::Check(rule, line)),
     };
-    match replayed(alloc, &accepted, task, version, log) {
+    match replay(alloc, &accepted, task, version, log) {
         Ok((verdict, text)) => Ok(Answer::Ran(verdict, text)),
         Err(fault) => {
             let answer = not_replayed(alloc, accepted.file(), fault)?;
@@ -174,7 +174,7 @@ pub(crate) fn ran_by_log(
 }
 
 // What is answered where the parties of a file couldn't be run.
-fn refused(alloc: Global, file: &File, refusal: RunRefusal) -> Result<Answer, NoMemory>
+fn refuse(alloc: Global, file: &File, refusal: RunRefusal) -> Result<Answer, NoMemory>
     ensures { IfOk result (λ a. IsToldSo (file_of file.now) refusal (answer_at a)) }
 {
     match refusal {

@@ -1,22 +1,22 @@
 //! What the program does with its words, its input and its output.
 #![tactic(auto)]
 
-mod acting;
-mod answering;
+mod acts;
 mod answers;
-mod counting;
+mod counts;
+mod duals;
 mod entries;
 mod files;
 mod forests;
-mod forwarding;
+mod forwards;
+mod histories;
+mod inputs;
 mod laws;
-mod logging;
-mod playing;
-mod replaying;
-mod running;
-mod showing;
-mod summing;
-mod talking;
+mod plays;
+mod replays;
+mod runs;
+mod sums;
+mod talks;
 mod top;
 
 pub use laws::{the_table_gives_one_answer, the_table_has_an_answer};

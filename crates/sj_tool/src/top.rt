@@ -15,7 +15,7 @@ ghost use Rattle.sj_tool.specs.Table.{AnswersAs, NoFaultAbove};
 ghost use Rattle.sj_semantics.specs.declared.Verdict.TheVariants.{Blocked};
 ghost use Rattle.sj_tool.specs.Texts.{no_memory_status, status_of, verdict_status, write_fault_status};
 
-use crate::answering::answer_to;
+use crate::inputs::answer_to;
 use sj_base::{NoMemory, Sink, Source, WriteFault, write_all_of};
 use sj_lane::Links;
 use sj_work::Gate;

@@ -11,7 +11,7 @@ use Rattle.sj_rules.specs.Limits.{clock_end}
 use Rattle.sj_rules.specs.Mapped.{body_with, frame_with}
 use Rattle.sj_rules.specs.Node.{acts, arrives, comes_or_opens}
 use Rattle.sj_rules.specs.Work.{LostAt}
-use Rattle.sj_joined_laws.proofs.LimitLemmas.{same_arrives}
+use Rattle.sj_joined_lemmas.proofs.LimitLemmas.{same_arrives}
 use Rattle.sj_lane.specs.declared.lane.PushRefusal.{PushRefusal}
 use Rattle.sj_lane.specs.declared.lane.PushRefusal.TheVariants as pushes
 use Rattle.sj_lane.specs.Told.{PushCause, Rose, told_frame, vain_push}

@@ -14,7 +14,7 @@ use Rattle.sj_rules.specs.Mapped.{frame_with}
 use Rattle.sj_rules.specs.Node.{Play}
 use Rattle.sj_rules.specs.NodeRun.{Deed, Acted, Came, frame_from, frame_told, told_frames}
 use Rattle.sj_rules.specs.Work.{InStep, LaneWork, LostAt, OutStep, lost_from}
-use Rattle.sj_joined_laws.proofs.LaneWorkLemmas.{event_lane_work, in_itself, lane_work_later, quiet_lane_work}
+use Rattle.sj_joined_lemmas.proofs.LaneWorkLemmas.{event_lane_work, in_itself, lane_work_later, quiet_lane_work}
 use Rattle.sj_rules.specs.Limits.{clock_end}
 use Rattle.sj_lane.specs.Told.{told_frame}
 use Rattle.sj_lane.proofs.CellLemmas.{get_set_other}

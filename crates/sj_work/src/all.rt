@@ -3,7 +3,7 @@ ghost use Rattle.std.specs.Prelude.{◌≡◌, ◌<◌, ℕ, length, slice_get, 
 ghost use Rattle.sj_work.specs.declared.worker.Worker.{Worker};
 ghost use Rattle.sj_work.specs.Worked.{Worked};
 
-use crate::turning::work;
+use crate::turns::work;
 use crate::worker::{Gate, Worker};
 use sj_lane::{InLane, OutLane};
 use sj_node::node_crosses;

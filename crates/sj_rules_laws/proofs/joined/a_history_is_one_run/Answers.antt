@@ -1,7 +1,7 @@
 use Rattle.sj_rules.specs.Party.{play_of}
 use Rattle.sj_rules.specs.Start.{core_start}
-use Rattle.sj_joined_laws.proofs.HistoryLemmas.{same_world, replays, no_misfit}
-use Rattle.sj_joined_laws.proofs.ReplayLemmas.{replay_logs, same_run}
+use Rattle.sj_joined_lemmas.proofs.HistoryLemmas.{same_world, replays, no_misfit}
+use Rattle.sj_joined_lemmas.proofs.ReplayLemmas.{replay_logs, same_run}
 use Rattle.sj_rules_laws.proofs.joined.a_history_is_one_run.Goals as goal
 
 pub returns-clause-world : goal.returns-clause-world

@@ -1,9 +1,9 @@
 use Rattle.std.proofs.Common.{length}
 use Rattle.sj_rules.specs.Party.{play_of}
 use Rattle.sj_rules.specs.Start.{core_start}
-use Rattle.sj_joined_laws.proofs.HistoryLemmas.{log_runs}
-use Rattle.sj_joined_laws.proofs.JoinedRunLemmas.{logs_join}
-use Rattle.sj_joined_laws.proofs.OrderLemmas.{joined_once}
+use Rattle.sj_joined_lemmas.proofs.HistoryLemmas.{log_runs}
+use Rattle.sj_joined_lemmas.proofs.JoinedRunLemmas.{logs_join}
+use Rattle.sj_joined_lemmas.proofs.OrderLemmas.{joined_once}
 use Rattle.sj_rules_laws.proofs.JoinedFileLemmas.{world_of, file_joined_run, lines_are_history, lines_are_run, own_joined_run}
 use Rattle.sj_rules_laws.proofs.PlayLemmas.{own_play}
 use Rattle.sj_rules_laws.proofs.joined.joined_logs_are_a_core_run.Goals as goal

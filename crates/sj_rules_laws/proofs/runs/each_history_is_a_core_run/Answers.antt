@@ -1,7 +1,7 @@
 use Rattle.sj_rules.specs.Party.{play_of}
 use Rattle.sj_rules.specs.Start.{core_start}
-use Rattle.sj_joined_laws.proofs.HistoryLemmas.{log_runs}
-use Rattle.sj_joined_laws.proofs.ReplayLemmas.{step_lined}
+use Rattle.sj_joined_lemmas.proofs.HistoryLemmas.{log_runs}
+use Rattle.sj_joined_lemmas.proofs.ReplayLemmas.{step_lined}
 use Rattle.sj_rules_laws.proofs.runs.each_history_is_a_core_run.Goals as goal
 
 pub returns-clause-run : goal.returns-clause-run

@@ -1,5 +1,0 @@
-use Rattle.sj_accepted_laws.proofs.PlacedLemmas.{done_runs_take_all}
-use Rattle.sj_accepted_laws.proofs.laws.done_leaves_nothing_untaken.Goals as goal
-
-pub returns : goal.returns
-returns c = done_runs_take_all

@@ -1,5 +1,0 @@
-use Rattle.sj_accepted_laws.proofs.HeadlineLemmas.{settled_run_has_it}
-use Rattle.sj_accepted_laws.proofs.laws.settled_runs_have_the_headline.Goals as goal
-
-pub returns : goal.returns
-returns c = settled_run_has_it

@@ -1,0 +1,14 @@
+use Rattle.std.proofs.Common.{◌≡◌, ◌++◌, ◌-◌, ◌≤◌, drop, length, map}
+use Rattle.sj_lang.specs.FileView.{connect_of, file_of}
+use Rattle.sj_node.specs.Starting.{slot_at_places, slots_from}
+use Rattle.sj_node.proofs.starts.first_slots.Given as goal
+
+-- the slots so far, and those of the connections that are left
+abbrev pub invariant-loop-at : goal.invariant-loop-at
+invariant-loop-at l = record {
+  within : l.at ≤ length l.file.connects.items;
+  so_far : map (slot_at_places l.table) l.slots.items ++ slots_from (file_of l.file) l.party l.at (map connect_of (drop l.at l.file.connects.items)) ≡ slots_from (file_of l.file) l.party 0 (map connect_of l.file.connects.items);
+}
+
+abbrev pub decreases-loop-at : goal.decreases-loop-at
+decreases-loop-at l = length l.file.connects.items - l.at

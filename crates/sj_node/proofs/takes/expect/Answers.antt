@@ -1,0 +1,9 @@
+use Rattle.std.proofs.Common.{Some, arith}
+use Rattle.sj_node.specs.declared.slots.Main.TheVariants as mains
+use Rattle.sj_node.specs.Slots.{main_at}
+use Rattle.sj_node.proofs.SlotLemmas.{put-set}
+use Rattle.sj_node.proofs.takes.expect.Goals as goal
+
+pub returns : goal.returns
+returns c =
+    put-set main_at c.args.mains.now.items c.args.expected.id (Some (mains.Expected c.args.expected)) c.requires.side (omega (arith, c.requires.slot, c.args.mains.now.ok.0))

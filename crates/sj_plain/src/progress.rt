@@ -1,0 +1,302 @@
+//! How a party stands, and what its next step does.
+ghost use Rattle.std.specs.Prelude.{◌≡◌, ◌<◌, ◌∷◌, [], ℕ, List, Some, true, length, map, unwrap_or, OnErr, OnOk};
+ghost use Rattle.sj_lang.specs.FileAt.{ProtocolAt};
+ghost use Rattle.sj_lang.specs.FileView.{protocol_of};
+ghost use Rattle.sj_machine.specs.Opens.{is_opening};
+ghost use Rattle.sj_machine.specs.Sound.{program_at};
+ghost use Rattle.sj_plain.specs.Opened.{AreInOrder, IsInOrder, requests_in, world_with};
+ghost use Rattle.sj_plain.specs.Stepping.{Makes, next_move, sessions_at, world_around};
+ghost use Rattle.sj_semantics.specs.Ends.{next_for};
+ghost use Rattle.sj_semantics.specs.Program.{Program, limit_of_steps};
+ghost use Rattle.sj_semantics.specs.Requests.{first_offer, limit_of_requests, opened_number};
+ghost use Rattle.sj_semantics.specs.State.{state_by, state_of_program};
+ghost use Rattle.sj_semantics.specs.Steps.{took_of};
+ghost use Rattle.sj_semantics.specs.Uses.{after_uses, takes};
+ghost use Rattle.sj_semantics.specs.Wants.{want_of};
+ghost use Rattle.sj_semantics.specs.World.{begun_at, change_by_accepting, change_by_opening};
+ghost use Rattle.sj_semantics.specs.declared.Passed.{Passed};
+ghost use Rattle.sj_semantics.specs.declared.State.TheVariants.{Ready};
+ghost use Rattle.sj_semantics.specs.declared.Want.TheVariants.{Ended};
+
+use crate::ends::{Session, copied_body};
+use crate::sessions::{accept, add, offer, requests_of, session_number};
+use crate::uses::{begin, delegate_on, hops, next_message, reach, send_on, take_end_on, take_on};
+use sj_base::{EndId, Msg, NoMemory};
+use sj_lang::{Proto, ProtocolDef, dual};
+use sj_machine::Machine;
+use sj_semantics::{Awaits, Limit, Opened, Passed, State, Want};
+use std::alloc::Global;
+
+/// The most steps that a party does.
+pub const MAX_STEPS: u32 = 10_000;
+
+/// The most times that an end is delegated.
+pub const MAX_HOPS: u8 = 100;
+
+/// The most sessions that a party opens.
+pub const MAX_REQUESTS: usize = 100;
+
+/// The number of the first session that can be opened.
+const FIRST_OPENED: u32 = 64;
+
+/// How a party stands that hasn't ended and isn't at the limit of steps.
+fn state_by(sessions: &[Session], opened: &[Opened], party: u16, want: Want) -> State
+    requires order { AreInOrder party opened.now }
+    ensures { (ps : List ProtocolAt) (gs : List Program) →
+        result ≡ state_by (world_with ps gs (sessions_at sessions.now) opened.now) party want }
+{
+    match want {
+        Want::Ended => State::Ended,
+        Want::Delegate { sent, .. } => {
+            if hops(sessions, sent) < MAX_HOPS {
+                State::Ready
+            } else {
+                State::AtLimit(Limit::Hops(sent))
+            }
+        }
+        Want::Take { end, .. } => {
+            if next_message(sessions, end).is_some() {
+                State::Ready
+            } else {
+                State::Waits(end)
+            }
+        }
+        Want::Request { .. } => {
+            if requests_of(opened, party) < MAX_REQUESTS {
+                State::Ready
+            } else {
+                State::AtLimit(Limit::Requests)
+            }
+        }
+        Want::Accept { from, .. } => {
+            if offer(opened, from, party).is_some() {
+                State::Ready
+            } else {
+                State::WaitsOpen(from)
+            }
+        }
+        _ => State::Ready,
+    }
+}
+
+/// How the party stands among the sessions.
+pub fn state_of(sessions: &[Session], opened: &[Opened], party: u16, machine: &Machine) -> State
+    requires order { AreInOrder party opened.now }
+    ensures { (ps : List ProtocolAt) (gs : List Program) →
+        result ≡ state_of_program (world_with ps gs (sessions_at sessions.now) opened.now)
+        party (program_at machine.now) }
+{
+    match machine.wants() {
+        Want::Ended => State::Ended,
+        want => {
+            if machine.steps() < MAX_STEPS {
+                state_by(sessions, opened, party, want)
+            } else {
+                State::AtLimit(Limit::Steps)
+            }
+        }
+    }
+}
+
+/// Takes the next message from the end, where one is there.
+fn take(
+    alloc: Global,
+    protocols: &[ProtocolDef],
+    sessions: &mut Vec<Session>,
+    machine: &mut Machine,
+    party: u16,
+    end: EndId,
+    awaits: Awaits,
+) -> Result<(), NoMemory>
+    requires { (program_at machine.old).steps < limit_of_steps }
+    ensures ok { OnOk result ((x : Passed) → next_for (sessions_at sessions.old.items) end ≡ Some x →
+        (program_at machine.new ≡ took_of (program_at machine.old) x.msg)
+        × (sessions_at sessions.new.items ≡ after_uses party
+        ((end, takes x.msg) ∷ begun_at (map protocol_of protocols.now) awaits x.msg)
+        (sessions_at sessions.old.items))) }
+    ensures err { OnErr result (program_at machine.new ≡ program_at machine.old) }
+    ensures sessions { OnErr result
+        (sessions_at sessions.new.items ≡ sessions_at sessions.old.items) }
+{
+    if let Some(passed) = next_message(sessions, end) {
+        take_message(alloc, protocols, sessions, party, end, awaits, &passed.msg)?;
+        machine.took(passed.msg);
+    }
+    Ok(())
+}
+
+/// The party takes the message from the end. An end that is taken begins at the body of the
+/// protocol that the step awaits.
+fn take_message(
+    alloc: Global,
+    protocols: &[ProtocolDef],
+    sessions: &mut Vec<Session>,
+    party: u16,
+    end: EndId,
+    awaits: Awaits,
+    msg: &Msg,
+) -> Result<(), NoMemory>
+    ensures ok { OnOk result (sessions_at sessions.new.items ≡ after_uses party
+        ((end, takes msg.now) ∷ begun_at (map protocol_of protocols.now) awaits msg.now)
+        (sessions_at sessions.old.items)) }
+    ensures err { OnErr result (sessions_at sessions.new.items ≡ sessions_at sessions.old.items) }
+{
+    match (awaits, *msg) {
+        (Awaits::Session(protocol), Msg::Sess { sess, side, .. }) => {
+            let place = copied_body(alloc, protocols, protocol)?;
+            let taken = EndId { sess, side };
+            take_end_on(alloc, sessions, end, party, msg, taken, place)
+        }
+        _ => take_on(alloc, sessions, end, party, msg),
+    }
+}
+
+/// Opens a session to the other party. Its first end is bound at the place, its second end waits
+/// at the dual place.
+fn open_next(
+    alloc: Global,
+    sessions: &mut Vec<Session>,
+    opened: &mut Vec<Opened>,
+    machine: &mut Machine,
+    party: u16,
+    to: u16,
+    place: Proto,
+) -> Result<(), NoMemory>
+    requires steps { (program_at machine.old).steps < limit_of_steps }
+    requires opens { is_opening (unwrap_or (want_of (program_at machine.old)) Ended) ≡ true }
+    requires few { length (requests_in opened.old.items party) < limit_of_requests }
+    requires order { AreInOrder party opened.old.items }
+    ensures ok { OnOk result (Makes party (change_by_opening (program_at machine.old)
+        (opened_number party (length (requests_in opened.old.items party))) place to)
+        sessions.old.items sessions.new.items opened.old.items opened.new.items
+        (program_at machine.new)) }
+    ensures order { OnOk result ((n : ℕ) → party < n →
+        IsInOrder n opened.old.items → IsInOrder n opened.new.items) }
+    ensures err { OnErr result (program_at machine.new ≡ program_at machine.old) }
+    ensures sessions { OnErr result
+        (sessions_at sessions.new.items ≡ sessions_at sessions.old.items) }
+    ensures opened { OnErr result (opened.new.items ≡ opened.old.items) }
+{
+    let second = dual(alloc, &place)?;
+    let sess = number_of(party, requests_of(opened, party));
+    let session = Opened {
+        sess,
+        from: party,
+        first: machine.name_opened(),
+        to,
+        second: None,
+    };
+    let before = sessions.len();
+    reach(alloc, sessions, sess)?;
+    if let Err(error) = add(opened, session) {
+        sessions.truncate(before);
+        return Err(error);
+    }
+    begin(sessions, EndId { sess, side: 0 }, place);
+    begin(sessions, EndId { sess, side: 1 }, second);
+    machine.opened(EndId { sess, side: 0 });
+    Ok(())
+}
+
+/// Accepts the first session that the other party opened to this one and that isn't accepted,
+/// where there is one. Its second end is bound at the place.
+fn accept_next(
+    alloc: Global,
+    sessions: &mut Vec<Session>,
+    opened: &mut Vec<Opened>,
+    machine: &mut Machine,
+    party: u16,
+    from: u16,
+    place: Proto,
+) -> Result<(), NoMemory>
+    requires steps { (program_at machine.old).steps < limit_of_steps }
+    requires opens { is_opening (unwrap_or (want_of (program_at machine.old)) Ended) ≡ true }
+    requires order { AreInOrder party opened.old.items }
+    ensures ok { OnOk result ((k : ℕ) →
+        first_offer party (requests_in opened.old.items from) ≡ Some k →
+        Makes party (change_by_accepting (program_at machine.old) from place k)
+        sessions.old.items sessions.new.items opened.old.items opened.new.items
+        (program_at machine.new)) }
+    ensures order { (n : ℕ) → IsInOrder n opened.old.items → IsInOrder n opened.new.items }
+    ensures err { OnErr result (program_at machine.new ≡ program_at machine.old) }
+    ensures sessions { OnErr result
+        (sessions_at sessions.new.items ≡ sessions_at sessions.old.items) }
+    ensures opened { OnErr result (opened.new.items ≡ opened.old.items) }
+{
+    if let Some(number) = offer(opened, from, party) {
+        let sess = session_number(opened, from, number);
+        reach(alloc, sessions, sess)?;
+        accept(opened, from, number, machine.name_opened());
+        begin(sessions, EndId { sess, side: 1 }, place);
+        machine.opened(EndId { sess, side: 1 });
+    }
+    Ok(())
+}
+
+/// The number of the session that the party opens after so many others.
+fn number_of(party: u16, count: usize) -> u32
+    requires { count < limit_of_requests }
+    ensures { result ≡ opened_number party count }
+{
+    FIRST_OPENED + MAX_REQUESTS as u32 * u32::from(party) + count as u32
+}
+
+/// Does the party's next step. Want of memory leaves the party, the sessions and those that were
+/// opened as they were.
+pub fn step(
+    alloc: Global,
+    protocols: &[ProtocolDef],
+    sessions: &mut Vec<Session>,
+    opened: &mut Vec<Opened>,
+    machine: &mut Machine,
+    party: u16,
+) -> Result<(), NoMemory>
+    requires ready { state_of_program
+        (world_around protocols.now sessions.old.items opened.old.items)
+        party (program_at machine.old) ≡ Ready }
+    requires order { AreInOrder party opened.old.items }
+    ensures ok { OnOk result (next_move party
+        (world_around protocols.now sessions.old.items opened.old.items) (program_at machine.old)
+        ≡ Some (
+          program_at machine.new,
+          sessions_at sessions.new.items,
+          requests_in opened.new.items,
+        )) }
+    ensures order { (n : ℕ) → party < n →
+        IsInOrder n opened.old.items → IsInOrder n opened.new.items }
+    ensures err { OnErr result (program_at machine.new ≡ program_at machine.old) }
+    ensures sessions { OnErr result
+        (sessions_at sessions.new.items ≡ sessions_at sessions.old.items) }
+    ensures opened { OnErr result (opened.new.items ≡ opened.old.items) }
+{
+    match machine.wants() {
+        Want::Local => {
+            machine.local();
+            Ok(())
+        }
+        Want::Send { end, msg } => {
+            send_on(alloc, sessions, end, Passed { msg, by: party })?;
+            machine.sent();
+            Ok(())
+        }
+        Want::Delegate { end, sent } => {
+            delegate_on(alloc, sessions, end, sent, party)?;
+            machine.sent();
+            Ok(())
+        }
+        Want::Take { end, awaits } => take(alloc, protocols, sessions, machine, party, end, awaits),
+        Want::Close { .. } => {
+            machine.closed();
+            Ok(())
+        }
+        Want::Request { protocol, to } => {
+            let place = copied_body(alloc, protocols, protocol)?;
+            open_next(alloc, sessions, opened, machine, party, to, place)
+        }
+        Want::Accept { protocol, from } => {
+            let place = copied_body(alloc, protocols, protocol)?;
+            accept_next(alloc, sessions, opened, machine, party, from, place)
+        }
+        Want::Ended => Ok(()),
+    }
+}

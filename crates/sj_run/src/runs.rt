@@ -1,0 +1,100 @@
+//! A file run by its parties.
+ghost use Rattle.std.specs.Prelude.{◌≡◌, ◌≤◌, Err, IfErr, IfOk, length, max, true};
+ghost use Rattle.sj_check.specs.Held.{file_in as held};
+ghost use Rattle.sj_core.specs.World.{history_of, kept_file, party_count, world_at};
+ghost use Rattle.sj_lane.specs.Told.{Rose};
+ghost use Rattle.sj_lang.specs.FileView.{file_of};
+ghost use Rattle.sj_plain.specs.Kept.{without_words};
+ghost use Rattle.sj_rules.specs.History.{IsHistory};
+ghost use Rattle.sj_run.specs.Damage.{IsDamaged};
+ghost use Rattle.sj_run.specs.Refusals.{IsDamagedOver, IsPastEndOf};
+ghost use Rattle.sj_run.specs.Shown.{IsShown, keeps_of};
+
+use crate::RunRefusal;
+use crate::teams::set_to_work;
+use crate::remains::{give_up, join};
+use crate::stops::{any_faulty, any_short, first_unfit};
+use sj_base::NoMemory;
+use sj_check::Accepted;
+use sj_core::{World, is_the_line};
+use sj_end::Line;
+use sj_lane::Links;
+use sj_work::Gate;
+use std::alloc::Global;
+use std::thread::Threads;
+
+/// Why a worker that refused an event behind the lines of this history makes them damaged.
+fn past_end(world: &World, refused: Line) -> RunRefusal
+    ensures { IsPastEndOf (kept_file world.now) (world_at world.now) (history_of world.now) refused result }
+{
+    let due = world.due(refused.party, refused.entry.event);
+    if is_the_line(&due, &refused) {
+        // What fits a node fits that of the core world, which did the same events.
+        return RunRefusal::NoMemory;
+    }
+    RunRefusal::Damaged {
+        number: world.history().len() as u64 + 1,
+        logged: refused,
+        due,
+    }
+}
+
+/// Runs a file by its parties, over lanes that the links make: each on a thread of its own where one can
+/// be had; or, with a number, on a pool of so many threads (0 as 1) that take each other's work, in
+/// rounds until one without an event, and one more. Their logs, joined, are replayed in a core world, which is what the parties left: they are
+/// given up before that, and the joined lines become its history.
+///
+/// A worker that wanted memory makes the whole want memory, unless the links met a fault or the logs
+/// are damaged.
+pub fn run_parties<R: Threads + Sync, L: Links, G: Gate>(
+    rt: &R,
+    alloc: Global,
+    accepted: &Accepted,
+    threads: Option<u16>,
+    looks: u32,
+    links: &mut L,
+    gate: &G,
+) -> Result<World, RunRefusal>
+    // A world of the file, to which its history leads.
+    ensures kept { IfOk result (λ w. kept_file w ≡ without_words (file_of (held accepted.now))) }
+    ensures run { IfOk result (λ w. IsHistory max (kept_file w) (history_of w) (world_at w)) }
+    ensures parties { IfOk result (λ w. party_count w ≡ length (kept_file w).parties) }
+
+    // Links that tell show its history, in which nobody could go on alone.
+    ensures shown { IfOk result (λ w. L.tells links.old ≡ true →
+        IsShown (file_of (held accepted.now)) looks (keeps_of L.sent L.got L.vain_out L.vain_in links.new)
+        (history_of w) (world_at w)) }
+
+    // A fault comes only where the links counted one. Damage is in what workers left that worked over
+    // lanes of these links, of which none stopped at a fault, and comes only of links that don't tell.
+    ensures link_fault { result ≡ Err RunRefusal.LinkFault → Rose (L.faults links.old) (L.faults links.new) }
+    ensures damaged { IfErr result (IsDamagedOver L.Out.pushed L.Out.faults L.Out.vain L.Out.same L.In.popped L.In.faults
+        L.In.vain L.In.same L.joined (file_of (held accepted.now)) looks (L.tells links.old)) }
+    ensures telling { IfErr result (λ r. IsDamaged r → L.tells links.old ≡ true → ⊥) }
+
+    // What the links are stays, and their count of faults doesn't fall.
+    ensures tells { L.tells links.new ≡ L.tells links.old }
+    ensures faults { L.faults links.old ≤ L.faults links.new }
+{
+    let workers = set_to_work(rt, alloc, accepted, threads, looks, links, gate)?;
+    let lines = join(alloc, &workers)?;
+    let faulty = any_faulty(&workers);
+    let short = any_short(&workers);
+    let unfit = first_unfit(&workers);
+    let lanes = give_up(alloc, workers)?;
+    links.back(lanes);
+    if faulty {
+        return Err(RunRefusal::LinkFault);
+    }
+    let world = match World::replayed(alloc, accepted, lines) {
+        Ok(world) => world,
+        Err(refusal) => return Err(RunRefusal::from(refusal)),
+    };
+    if let Some(refused) = unfit {
+        return Err(past_end(&world, refused));
+    }
+    if short {
+        return Err(RunRefusal::NoMemory);
+    }
+    Ok(world)
+}

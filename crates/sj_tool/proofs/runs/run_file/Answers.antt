@@ -1,0 +1,18 @@
+use Rattle.sj_check.specs.Held.{file_in}
+use Rattle.sj_core.specs.World.{history_of, world_at}
+use Rattle.sj_lang.specs.FileView.{file_of}
+use Rattle.sj_tool.specs.LogAt.{no_log}
+use Rattle.sj_tool.proofs.DrainedLemmas.{told_runs}
+use Rattle.sj_tool.proofs.runs.run_file.Goals as goal
+
+pub told-requires-clause-run : goal.told-requires-clause-run
+told-requires-clause-run g c = (c.in_ok-world.ensures.has no_log).run
+
+pub told-requires-clause-quiet : goal.told-requires-clause-quiet
+told-requires-clause-quiet g c = (c.in_ok-world.ensures.has no_log).quiet
+
+pub returns-clause-ran : goal.returns-clause-ran
+returns-clause-ran g c log =
+    let world = c.in_ok-world.world in
+    let told = c.in_ok-answer.ensures in
+    told_runs _ c.args.task log (file_of (file_in c.args.accepted.now)) told.accepted (history_of world) (world_at world) (c.in_ok-world.ensures.has log) _ _ told.told

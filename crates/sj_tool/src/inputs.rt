@@ -1,0 +1,176 @@
+//! From the words and the input to the answer.
+ghost use Rattle.std.specs.Prelude.{◌≡◌, ◌≤◌, IfOk, IfSome, None, length};
+ghost use Rattle.sj_generator.specs.Generated.{generated};
+ghost use Rattle.sj_tool.specs.AnswerAt.{answer_at};
+ghost use Rattle.sj_tool.specs.Answers.{AnswersBytes, AnswersText, Comes};
+ghost use Rattle.sj_tool.specs.Calls.{call, link_use};
+ghost use Rattle.sj_tool.specs.LogAt.{log_at};
+ghost use Rattle.sj_tool.specs.TalkParts.{HasNoTalk, IsTalk};
+ghost use Rattle.sj_tool.specs.Tasks.{Takes, limit_of};
+ghost use Rattle.sj_print.specs.Version.{IsVersion};
+ghost use Rattle.sj_lang.specs.Limits.{file_limit, source_limit};
+
+use crate::answers::Answer;
+use crate::files::{
+    counted, forwarded_file, played, ran_by_links, ran_by_log, shaped, shown, simulated_file,
+};
+use sj_base::{NoMemory, ReadRefusal, Source, read_all};
+use sj_command::{Task, task_in};
+use sj_generator::print_generated;
+use sj_lane::Links;
+use sj_log::{line_at, parted};
+use sj_party::parse_file;
+use sj_proto::ParseRefusal;
+use sj_work::Gate;
+use std::alloc::Global;
+use std::thread::Threads;
+
+/// The most bytes of a file.
+const MAX_FILE: usize = 65_536;
+
+/// The most bytes of a file with the log behind it.
+const MAX_SOURCE: usize = 16_777_216;
+
+/// The answer to the words and the input.
+pub(crate) fn answer_to<R: Threads + Sync, S: Source, L: Links, G: Gate>(
+    rt: &R,
+    alloc: Global,
+    words: &[String],
+    src: &mut S,
+    links: &mut L,
+    gate: &G,
+) -> Result<Answer, NoMemory>
+    ensures { IfOk result (λ a. Comes (call S.left S.faults words.now src.old src.new
+        (link_use L.tells L.faults L.sent L.got L.vain_out L.vain_in links.old links.new)) (answer_at a)) }
+{
+    let Some(task) = task_in(alloc, words)? else {
+        return Ok(Answer::Usage);
+    };
+    if let Task::Make(n) = task {
+        return Ok(Answer::Made(generated_text(alloc, n)?));
+    }
+    if let Task::Big(n) = task {
+        let text = generated_text(alloc, n)?;
+        return answer_to_bytes(rt, alloc, task, &text, links, gate);
+    }
+    match read_all(alloc, src, limit_in(task)) {
+        Ok(bytes) => answer_to_bytes(rt, alloc, task, &bytes, links, gate),
+        Err(ReadRefusal::ReadFault) => Ok(Answer::ReadFault),
+        Err(ReadRefusal::TooLarge) => Ok(Answer::TooLarge),
+        Err(ReadRefusal::NoMemory) => Err(NoMemory),
+    }
+}
+
+// The most bytes of what a task reads.
+fn limit_in(task: Task) -> usize
+    ensures { result ≡ limit_of task }
+{
+    match task {
+        Task::Replay { .. } | Task::Talk(_) => MAX_SOURCE,
+        _ => MAX_FILE,
+    }
+}
+
+// The text of the generated file.
+fn generated_text(alloc: Global, n: u16) -> Result<Vec<u8>, NoMemory>
+    ensures { IfOk result (λ text. text.items ≡ generated n) }
+{
+    let mut text = Vec::new(alloc);
+    print_generated(&mut text, n)?;
+    Ok(text)
+}
+
+// The answer to the bytes of a task: of a replay the first line `%%log` or `%%log2` parts them into a
+// file and a log, and tells the log's version; of a talk the first line `%%talk` into a file and lines.
+fn answer_to_bytes<R: Threads + Sync, L: Links, G: Gate>(
+    rt: &R,
+    alloc: Global,
+    task: Task,
+    bytes: &[u8],
+    links: &mut L,
+    gate: &G,
+) -> Result<Answer, NoMemory>
+    requires few { length bytes.now ≤ limit_of task }
+    requires takes { Takes task }
+    ensures { IfOk result (λ a. AnswersBytes
+        (link_use L.tells L.faults L.sent L.got L.vain_out L.vain_in links.old links.new)
+        task bytes.now (answer_at a)) }
+{
+    match task {
+        Task::Replay { .. } => {
+            let Some((text, version, log)) = parted(bytes) else {
+                return Ok(Answer::LogFault(1, 0));
+            };
+            if text.len() > MAX_FILE {
+                return Ok(Answer::TooLarge);
+            }
+            let answer = answer_to_text(rt, alloc, task, text, version, log, links, gate)?;
+            Ok(answer)
+        }
+        Task::Talk(_) => {
+            let Some((text, lines)) = parted_talk(bytes) else {
+                return Ok(Answer::NoTalk);
+            };
+            if text.len() > MAX_FILE {
+                return Ok(Answer::TooLarge);
+            }
+            let answer = answer_to_text(rt, alloc, task, text, 1, lines, links, gate)?;
+            Ok(answer)
+        }
+        _ => {
+            let answer = answer_to_text(rt, alloc, task, bytes, 1, b"", links, gate)?;
+            Ok(answer)
+        }
+    }
+}
+
+// The text of the file and the lines of a talk, parted at the first line `%%talk`.
+fn parted_talk(bytes: &[u8]) -> Option<(&[u8], &[u8])>
+    ensures some { IfSome result (λ p. IsTalk bytes.now p.0.now p.1.now) }
+    ensures none { result ≡ None → HasNoTalk bytes.now }
+{
+    match line_at(bytes, b"%%talk\n", b"\n%%talk\n") {
+        Some(at) => Some((&bytes[..at], &bytes[at + 7..])),
+        None => None,
+    }
+}
+
+// The answer to the text of a file, and a log of that version where one is replayed, or lines that play
+// a party.
+fn answer_to_text<R: Threads + Sync, L: Links, G: Gate>(
+    rt: &R,
+    alloc: Global,
+    task: Task,
+    text: &[u8],
+    version: u8,
+    log: &[u8],
+    links: &mut L,
+    gate: &G,
+) -> Result<Answer, NoMemory>
+    requires few { length text.now ≤ file_limit }
+    requires version { IsVersion version }
+    requires log { length log.now ≤ source_limit }
+    requires takes { Takes task }
+    ensures { IfOk result (λ a. AnswersText
+        (link_use L.tells L.faults L.sent L.got L.vain_out L.vain_in links.old links.new)
+        task (log_at version log.now) text.now (answer_at a)) }
+{
+    let file = match parse_file(alloc, text) {
+        Ok(file) => file,
+        Err(ParseRefusal::At(fault)) => return Ok(Answer::Syntax(fault)),
+        Err(ParseRefusal::NoMemory) => return Err(NoMemory),
+    };
+    match task {
+        Task::Show => shown(alloc, &file),
+        Task::Check => count(alloc, file),
+        Task::Forest => shape(alloc, file),
+        Task::Sim => simulated_file(alloc, file),
+        Task::Forward => forwarded_file(alloc, file),
+        Task::Run { .. } => ran_by_links(rt, alloc, file, task, links, gate),
+        Task::Big(_) => ran_by_links(rt, alloc, file, task, links, gate),
+        Task::Replay { .. } => ran_by_log(alloc, file, task, version, log),
+        Task::Talk(party) => play(alloc, file, party, log),
+        // It takes no file.
+        Task::Make(_) => unreachable!(),
+    }
+}

@@ -1,0 +1,114 @@
+//! Accepted files that are played to their end: in the plain world, or by the acts of a history.
+ghost use Rattle.std.specs.Prelude.{◌≡◌, ◌≤◌, ◌++◌, IfOk, length, map, max};
+ghost use Rattle.sj_acceptance.specs.Accepted.{IsAccepted};
+ghost use Rattle.sj_check.specs.Held.{file_in};
+ghost use Rattle.sj_core.specs.World.{history_of, world_at};
+ghost use Rattle.sj_end.specs.Lines.{line_at};
+ghost use Rattle.sj_lang.specs.FileView.{file_of};
+ghost use Rattle.sj_lang.specs.Limits.{limits};
+ghost use Rattle.sj_plain.specs.Kept.{without_words};
+ghost use Rattle.sj_plain.specs.Plain.{acts_of, kept_file, world_at as plain_at};
+ghost use Rattle.sj_rules.specs.History.{IsHistory, IsQuietAmong};
+ghost use Rattle.sj_rules.specs.Party.{play_of};
+ghost use Rattle.sj_semantics.specs.Run.{IsRun};
+ghost use Rattle.sj_semantics.specs.Transcript.{transcript_of};
+ghost use Rattle.sj_tool.specs.Tasks.{asks_log};
+ghost use Rattle.sj_tool.specs.Runs.{HasSimulated, IsTold, log_part, run_text};
+
+use crate::acts::act_all;
+use crate::histories::put_log;
+use crate::sums::summary_text;
+use sj_base::NoMemory;
+use sj_check::Accepted;
+use sj_command::Task;
+use sj_core::World;
+use sj_end::Line;
+use sj_lang::File;
+use sj_plain::Plain;
+use sj_print::print_transcript;
+use sj_semantics::Verdict;
+use std::alloc::Global;
+
+/// How the file ends, and its transcript: the parties act in the plain world until nobody can.
+pub(crate) fn simulate(alloc: Global, accepted: &Accepted) -> Result<(Verdict, Vec<u8>), NoMemory>
+    ensures { IfOk result (λ p. HasSimulated (file_of (file_in accepted.now)) p.0 p.1.items) }
+{
+    let mut plain = Plain::start(alloc, accepted)?;
+    plain.finish()?;
+    let mut text = Vec::new(alloc);
+    print_transcript(&mut text, accepted.file(), &plain)?;
+    Ok((plain.verdict(), text))
+}
+
+/// How the file ends, and what the task prints of a history that leaves nothing to do: its acts are done
+/// in the plain world.
+pub(crate) fn tell(
+    alloc: Global,
+    accepted: &Accepted,
+    task: Task,
+    world: &World,
+) -> Result<(Verdict, Vec<u8>), NoMemory>
+    requires run { IsHistory max (file_of (file_in accepted.now)) (history_of world.now) (world_at world.now) }
+    requires quiet { IsQuietAmong (play_of (file_of (file_in accepted.now)))
+        (length (file_of (file_in accepted.now)).parties) (world_at world.now) }
+    ensures told { IfOk result (λ p. IsTold task (file_of (file_in accepted.now)) (history_of world.now) p.0 p.1.items) }
+    ensures accepted { IfOk result (λ p. IsAccepted (file_of (file_in accepted.now))) }
+{
+    let file = accepted.file();
+    let plain = act_all(alloc, accepted, world.history())?;
+    let text = text_for(alloc, file, task, world.history(), &plain)?;
+    Ok((plain.verdict(), text))
+}
+
+// What the task prints of that history, and of the plain world to which its acts lead.
+fn text_for(
+    alloc: Global,
+    file: &File,
+    task: Task,
+    lines: &[Line],
+    plain: &Plain,
+) -> Result<Vec<u8>, NoMemory>
+    requires parties { length (file_of file.now).parties ≤ limits.parties }
+    requires connects { length (file_of file.now).connects ≤ limits.connects }
+    requires kept { kept_file plain.now ≡ without_words (file_of file.now) }
+    requires run { IsRun (kept_file plain.now) (acts_of plain.now) (plain_at plain.now) }
+    ensures { IfOk result (λ text. text.items
+        ≡ run_text task (file_of file.now) (map line_at lines.now) (plain_at plain.now)) }
+{
+    match task {
+        Task::Big(n) => summary_text(alloc, n, file, plain),
+        _ => logged_text(alloc, file, lines, plain, logs(task)),
+    }
+}
+
+// Whether the task prints the history behind the transcript.
+fn logs(task: Task) -> bool
+    ensures { result ≡ asks_log task }
+{
+    match task {
+        Task::Run { log, .. } => log,
+        Task::Replay { log } => log,
+        _ => false,
+    }
+}
+
+// The transcript, and behind it the history where the log is asked for.
+fn logged_text(
+    alloc: Global,
+    file: &File,
+    lines: &[Line],
+    plain: &Plain,
+    log: bool,
+) -> Result<Vec<u8>, NoMemory>
+    requires parties { length (file_of file.now).parties ≤ limits.parties }
+    requires connects { length (file_of file.now).connects ≤ limits.connects }
+    requires kept { kept_file plain.now ≡ without_words (file_of file.now) }
+    requires run { IsRun (kept_file plain.now) (acts_of plain.now) (plain_at plain.now) }
+    ensures { IfOk result (λ text. text.items ≡ transcript_of (file_of file.now) (plain_at plain.now)
+        ++ log_part log (file_of file.now) (map line_at lines.now)) }
+{
+    let mut text = Vec::new(alloc);
+    print_transcript(&mut text, file, plain)?;
+    put_log(&mut text, file, lines, log)?;
+    Ok(text)
+}

@@ -1,0 +1,21 @@
+use Rattle.std.proofs.Common.{refl, ap, sym, ◌∙◌}
+use Rattle.sj_work.specs.Worked.{kept_stop}
+use Rattle.sj_work.proofs.LaneLaws.{TurnedBy, laws}
+use Rattle.sj_work.proofs.TurnLemmas.{turned_behind, turned_seen, worked_by}
+use Rattle.sj_work.proofs.WentLemmas.{went_itself}
+use Rattle.sj_work.proofs.turns.work.Goals as goal
+use Rattle.sj_work.proofs.turns.work.Goals.{then-is_none, else-is_none}
+
+pub returns-clause-worked : goal.returns-clause-worked
+returns-clause-worked g c =
+    let ol = g.met.O.OutLane g.world.𝓛 g.world.𝓜 g.world.𝓡 (λ s x. x, λ x. x, λ x. x, λ x. x) in
+    let il = g.met.I.InLane g.world.𝓛 g.world.𝓜 g.world.𝓡 (λ s x. x, λ x. x, λ x. x, λ x. x) in
+    let k = laws g.O.OutLane.pushed g.O.OutLane.faults g.O.OutLane.vain g.O.OutLane.same g.I.InLane.popped g.I.InLane.faults g.I.InLane.vain g.I.InLane.same
+    ol.same_itself ol.same_later il.same_itself il.same_later in
+    let a = c.args.worker.now in
+    let b = record a { answer = c.finished-worker.result; looks = 0 } in
+    let turned : TurnedBy k c.args.looks a c.if-is_none.worker = elim c.if-is_none.branch [
+      | then-is_none w ↦ rw w.worker-is (turned_behind k c.args.looks a b w.go.new.worker (went_itself k a b refl refl) w.go.ensures.turned)
+      | else-is_none w ↦ rw w.worker-is (turned_seen k a b c.finished-worker.result refl c.finished-worker.ensures (went_itself k a b refl refl) c.args.looks)
+    ] in
+    worked_by k c.args.looks a c.if-is_none.worker c.in-Some-stop.stop (ap kept_stop (sym c.stop.ensures) ∙ sym c.kept.ensures ∙ c.in_default.is) (sym c.stop-2.ensures ∙ c.in-Some-stop.is) turned

@@ -1,0 +1,104 @@
+//! Pops, and their deliveries.
+ghost use Rattle.std.specs.Prelude.{◌≡◌, ◌<◌, IsFalse, IsTrue, None};
+ghost use Rattle.sj_lane.specs.Told.{told_frame};
+ghost use Rattle.sj_node.specs.Node.{clock_of};
+ghost use Rattle.sj_node.specs.Reading.{parties_of};
+ghost use Rattle.sj_work.specs.Answers.{Comes, delivery_answer};
+ghost use Rattle.sj_work.specs.Causes.{InVain};
+ghost use Rattle.sj_work.specs.Counts.{OnLane, RoseBy};
+ghost use Rattle.sj_work.specs.Turns.{IsGoing, Turns};
+ghost use Rattle.sj_work.specs.Views.{in_of, looks_of, node_of, stop_of};
+ghost use Rattle.sj_rules.specs.Limits.{clock_end};
+
+use crate::acts::{CLOCK_END, finished, show};
+use crate::worker::{Answer, Gate, Worker};
+use sj_end::{Entry, Event, Frame, Line, note_of};
+use sj_lane::{InLane, OutLane, PopRefusal};
+use sj_node::{DeliverRefusal, Node};
+
+/// The answer to a frame that the node refused.
+fn refused(node: &Node, from: u16, frame: &Frame, refusal: DeliverRefusal) -> Answer
+    requires { clock_of node.now < clock_end }
+    ensures { result ≡ delivery_answer node.now from (told_frame frame.now) refusal }
+{
+    match refusal {
+        DeliverRefusal::NoMemory => Answer::NoMemory,
+        DeliverRefusal::Unfit => Answer::Unfit(Line {
+            party: node.party(),
+            entry: Entry {
+                clock: node.clock().max(frame.clock.min(CLOCK_END)) + 1,
+                event: Event::Deliver(from),
+                note: note_of(&frame.body),
+            },
+        }),
+    }
+}
+
+/// One delivery. Answers why the worker stops, if it does.
+fn deliver<G: Gate>(node: &mut Node, from: u16, frame: Frame, gate: &G) -> Option<Answer>
+    requires { clock_of node.old < clock_end }
+    ensures { Comes from frame node.old node.new result }
+{
+    match node.deliver(from, frame) {
+        Ok(()) => {
+            show(node, gate);
+            finished(node)
+        }
+        Err((frame, refusal)) => Some(refused(node, from, &frame, refusal)),
+    }
+}
+
+/// One pop, and its delivery. Answers whether a frame came.
+fn look<O: OutLane, I: InLane, G: Gate>(worker: &mut Worker<O, I>, from: u16, gate: &G) -> bool
+    requires goes { IsGoing worker.old }
+    requires party { from < parties_of (node_of worker.old) }
+    ensures turns { Turns O.pushed O.faults O.vain O.same I.popped I.faults I.vain I.same worker.old worker.new }
+    ensures event { IsTrue result → stop_of worker.new ≡ None → clock_of (node_of worker.old) < clock_of (node_of worker.new) }
+    ensures rests { IsFalse result → node_of worker.new ≡ node_of worker.old }
+    ensures vain { IsFalse result → stop_of worker.new ≡ None →
+        OnLane I.vain (RoseBy 1) (in_of worker.old from) (in_of worker.new from) }
+    ensures looks { looks_of worker.new ≡ looks_of worker.old }
+{
+    if worker.node.clock() >= CLOCK_END {
+        worker.answer = Some(Answer::ClockEnd);
+        return false;
+    }
+    if usize::from(from) >= worker.lanes.ins.len() {
+        return false;
+    }
+    let lane = &mut worker.lanes.ins[usize::from(from)];
+    match lane.pop() {
+        Ok(None) => false,
+        Ok(Some(frame)) => {
+            worker.answer = deliver(&mut worker.node, from, frame, gate);
+            true
+        }
+        Err(PopRefusal::Fault) => {
+            worker.answer = Some(Answer::Fault);
+            false
+        }
+        Err(PopRefusal::NoMemory) => {
+            worker.answer = Some(Answer::NoMemory);
+            false
+        }
+    }
+}
+
+/// A pop from each party of the file, in order. Answers whether a frame came.
+pub(crate) fn look_all<O: OutLane, I: InLane, G: Gate>(worker: &mut Worker<O, I>, gate: &G) -> bool
+    requires { IsGoing worker.old }
+    ensures turns { Turns O.pushed O.faults O.vain O.same I.popped I.faults I.vain I.same worker.old worker.new }
+    ensures event { IsTrue result → stop_of worker.new ≡ None → clock_of (node_of worker.old) < clock_of (node_of worker.new) }
+    ensures rests { IsFalse result → node_of worker.new ≡ node_of worker.old }
+    ensures vain { IsFalse result → stop_of worker.new ≡ None → InVain I.vain 1 worker.old worker.new }
+    ensures looks { looks_of worker.new ≡ looks_of worker.old }
+{
+    let mut came = false;
+    for from in 0..worker.node.parties() {
+        came |= look(worker, from, gate);
+        if worker.answer.is_some() {
+            return came;
+        }
+    }
+    came
+}
