@@ -2,7 +2,7 @@
 //! the program.
 use sj_base::{EndId, Msg};
 use sj_check::Accepted;
-use sj_end::{Body, End, Entry, Event, Frame, Note, note_of};
+use sj_end::{Body, CLOCK_END, End, Entry, Event, Frame, Note, note_of};
 use sj_node::{DeliverRefusal, Halt, Node};
 use sj_table::Spot;
 use std::alloc::Global;
@@ -13,9 +13,6 @@ mod building;
 mod opening;
 
 use building::to_the_peer;
-
-// No event happens at this clock.
-const CLOCK_END: u64 = 1 << 62;
 
 const A: u16 = 0;
 

@@ -3,7 +3,7 @@ use crate::files::FIRST;
 use crate::worlds::accepted;
 use sj_check::Accepted;
 use sj_core::{ReplayRefusal, StepRefusal, World};
-use sj_end::{Entry, Event, Line};
+use sj_end::{Entry, Event, Line, Misfit};
 use std::alloc::Global;
 use std::test::Fail;
 
@@ -60,11 +60,13 @@ fn refused_at(alloc: Global, accepted: &Accepted, lines: &[Line]) -> Result<Opti
     match world.replay(lines) {
         Ok(()) => Ok(None),
         Err(
-            ReplayRefusal::Misfit {
-                number,
-                due: None,
-                ..
-            },
+            ReplayRefusal::Misfit(
+                Misfit {
+                    number,
+                    due: None,
+                    ..
+                },
+            ),
         ) => Ok(Some(number)),
         Err(_) => Err(Fail::from("another refusal")),
     }

@@ -82,7 +82,7 @@ history_same file kept lines all w same listed run =
 
 -- nor does a misfit
 pub misfit_kept : (file kept : FileAt) (lines : List LineAt) (r : ReplayRefusal) → kept ≡ without_words file → IsMisfitFrom kept lines r → IsMisfitFrom file lines r
-misfit_kept file kept lines (refusals.Misfit number logged other) same m =
-    subst (λ (v : WorldAt Place Program). IsMisfit (play_of file) max v lines number (line_at logged) (option_map line_at other)) (core_start_same file)
-    (subst (λ (f : FileAt). IsMisfit (play_of f) max (core_start f) lines number (line_at logged) (option_map line_at other)) same m)
+misfit_kept file kept lines (refusals.Misfit x) same m =
+    subst (λ (v : WorldAt Place Program). IsMisfit (play_of file) max v lines x.number (line_at x.logged) (option_map line_at x.due)) (core_start_same file)
+    (subst (λ (f : FileAt). IsMisfit (play_of f) max (core_start f) lines x.number (line_at x.logged) (option_map line_at x.due)) same m)
 misfit_kept file kept lines refusals.NoMemory same m = tt

@@ -22,7 +22,7 @@ use Rattle.sj_core.specs.declared.refusal.StepRefusal.{StepRefusal}
 use Rattle.sj_core.specs.declared.refusal.StepRefusal.TheVariants as steps
 use Rattle.sj_node.specs.Outs.{waiting_in}
 use Rattle.sj_node.specs.Reading.{TakesOut, outs_of, table_of}
-use Rattle.sj_core.specs.Nodes.{AreSeated, Rests, box_or, node_or, world_by}
+use Rattle.sj_core.specs.Nodes.{AreSeated, NodesStay, box_or, node_or, world_by}
 use Rattle.sj_core.proofs.DeliverLemmas as taken
 use Rattle.sj_core.proofs.DeliverLemmas.{frame_by}
 use Rattle.sj_core.proofs.NodesLemmas.{seen, seen_same, still_seated}
@@ -83,7 +83,7 @@ module _ (file : FileAt) (nodes : List Node) (p q : ℕ) (giver short : Node) (f
               ∙ (λ i. map (frame_with (place_in (sym same.table i))) (sym (kept to t.1) i))
         ]
 
-    pub put_back : Rests file nodes (set (set (set nodes q short) p new) q last)
+    pub put_back : NodesStay file nodes (set (set (set nodes q short) p new) q last)
     put_back = record {
       world =
           sym (seen file (set (set nodes q short) p new) q back last again w.nodes w.lanes
@@ -101,7 +101,7 @@ refused_so refusals.NoMemory A is h = absurd (cc is)
 
 -- an empty lane is left as it was
 pub nothing_taken : (file : FileAt) (nodes : List Node) (p q : ℕ) (giver short : Node) → AreSeated file nodes → slice_get nodes q ≡ Some giver → waiting_in (outs_of giver) p ≡ [] → waiting_in (outs_of short) p ≡ []
-    → ((to : ℕ) → (to ≡ p → ⊥) → waiting_in (outs_of short) to ≡ waiting_in (outs_of giver) to) → TakesOut giver short → Rests file nodes (set nodes q short)
+    → ((to : ℕ) → (to ≡ p → ⊥) → waiting_in (outs_of short) to ≡ waiting_in (outs_of giver) to) → TakesOut giver short → NodesStay file nodes (set nodes q short)
 nothing_taken file nodes p q giver short seats there none empty others rest = record {
   world = seen_same file nodes q giver short there rest.node (λ to i. map (frame_with (place_in (rest.table i))) (box to i));
   seats = still_seated file nodes q giver short there seats rest.party rest.parties rest.table rest.connects rest.log;

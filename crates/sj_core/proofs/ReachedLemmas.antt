@@ -14,7 +14,7 @@ use Rattle.sj_rules.specs.World.{happens}
 use Rattle.sj_node.specs.declared.node.Node.{Node}
 use Rattle.sj_core.specs.declared.course.Course.{Course}
 use Rattle.sj_core.specs.Course.{IsLed, IsOfAccepted, IsReached, StaysIn, Steps, file_in, history_in, nodes_in, world_in}
-use Rattle.sj_core.specs.Nodes.{AreSeated, Moves, Rests, world_by}
+use Rattle.sj_core.specs.Nodes.{AreSeated, Moves, NodesStay, world_by}
 use Rattle.sj_core.specs.Views.{event_at, line_at, line_with}
 use Rattle.sj_core.proofs.NodesLemmas.{some_same}
 use Rattle.sj_core.proofs.HistoryLemmas.{log_more}
@@ -64,10 +64,10 @@ reached_on c d p event e reached moves listed file =
     ((λ i. happens play max (world_in c) p (same i)) ∙ moves.step) ((λ i. due play max (world_in c) p (same i)) ∙ moves.line) in
     reached_by d (file_in c) file (record { run = subst (λ (ls : List LineAt). IsHistory max (file_in c) ls (world_by (file_in c) (nodes_in d))) (sym listed) run; seats = moves.seats; accepted = reached.accepted })
 
-pub stayed : (c d : Course) → Rests (file_in c) (nodes_in c) (nodes_in d) → history_in d ≡ history_in c → file_in d ≡ file_in c → StaysIn c d
+pub stayed : (c d : Course) → NodesStay (file_in c) (nodes_in c) (nodes_in d) → history_in d ≡ history_in c → file_in d ≡ file_in c → StaysIn c d
 stayed c d rests history file = record { world = (λ i. world_by (file i) (nodes_in d)) ∙ rests.world; history = history; file = file }
 
-pub reached_still : (c d : Course) → IsReached c → Rests (file_in c) (nodes_in c) (nodes_in d) → history_in d ≡ history_in c → file_in d ≡ file_in c → IsReached d
+pub reached_still : (c d : Course) → IsReached c → NodesStay (file_in c) (nodes_in c) (nodes_in d) → history_in d ≡ history_in c → file_in d ≡ file_in c → IsReached d
 reached_still c d reached rests history file =
     reached_by d (file_in c) file
     (record {

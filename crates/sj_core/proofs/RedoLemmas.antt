@@ -62,7 +62,7 @@ module _ (c a b d : Course) (l : LineAt) (redone : Redoes a l b) (before : file_
 
 -- what is no misfit of the one is none of the other
 pub misfit_same : (a c : Course) (number : ℕ) (line : Line) (r : ReplayRefusal) → file_in a ≡ file_in c → world_in a ≡ world_in c → IsMisfitHere a number line r → IsMisfitHere c number line r
-misfit_same a c number line (refusals.Misfit at logged other) file world m = record {
+misfit_same a c number line (refusals.Misfit other) file world m = record {
   number_is = m.number_is;
   line_is = m.line_is;
   found = (λ i. due (play_of (sym file i)) max (sym world i) (line_at line).party (line_at line).entry.event) ∙ m.found;
@@ -96,7 +96,7 @@ led_next c d lines k x lt by redone =
 -- the next line isn't the one that is due
 pub misfit_from : (c : Course) (file : FileAt) (lines : List Line) (k number : ℕ) (x : Line) (r : ReplayRefusal) → file_in c ≡ file → k < length lines → number ≡ k + 1
     → IsLedBy c (map line_at (take k lines)) → IsMisfitHere c number (get_or lines k x) r → IsMisfitFrom file (map line_at lines) r
-misfit_from c file lines k number x (refusals.Misfit at logged other) same lt count by here = record {
+misfit_from c file lines k number x (refusals.Misfit other) same lt count by here = record {
   before = map line_at (take k lines);
   after = map line_at (drop (k + 1) lines);
   all =

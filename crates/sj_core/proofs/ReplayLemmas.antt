@@ -53,7 +53,7 @@ follows_still c d e lines follows stays = record {
 -- the line that is refused, among all of them
 pub refused_at : (c d e : Course) (lines : List Line) (k number : ℕ) (l : Line) (r : ReplayRefusal) → file_in d ≡ file_in c → k < length lines → number ≡ k + 1
     → Follows c (map line_at (take k lines)) d → IsMisfitHere d number (get_or lines k l) r → StaysIn d e → IsRefusedSo c lines r e
-refused_at c d e lines k number l (refusals.Misfit at logged other) file lt count follows here stays = record {
+refused_at c d e lines k number l (refusals.Misfit other) file lt count follows here stays = record {
   misfit = record {
     before = map line_at (take k lines);
     after = map line_at (drop (k + 1) lines);

@@ -19,7 +19,7 @@ use Rattle.sj_rules.specs.World.{WorldAt, after_event, happens}
 use Rattle.sj_node.specs.declared.node.Node.{Node}
 use Rattle.sj_node.specs.Node.{Does, Stays, act_of, clock_of, log_of, node_at, note_for}
 use Rattle.sj_node.specs.Reading.{TakesEntry}
-use Rattle.sj_core.specs.Nodes.{AreSeated, IsSeated, Moves, Rests, box_or, node_or, world_by}
+use Rattle.sj_core.specs.Nodes.{AreSeated, IsSeated, Moves, NodesStay, box_or, node_or, world_by}
 use Rattle.sj_core.specs.Views.{event_at, note_seen}
 use Rattle.sj_core.specs.declared.refusal.StepRefusal.{StepRefusal}
 use Rattle.sj_core.specs.declared.refusal.StepRefusal.TheVariants as refusals
@@ -72,7 +72,7 @@ module _ (file : FileAt) (nodes : List Node) (p : ℕ) (old new : Node) (seats :
       }
 
   -- a refusal
-  pub rests : Stays old new → Rests file nodes (set nodes p new)
+  pub rests : Stays old new → NodesStay file nodes (set nodes p new)
   rests stays = record {
     world = seen_same file nodes p old new there stays.node stays.posts;
     seats = still_seated file nodes p old new there seats stays.party stays.parties stays.table stays.connects stays.log;

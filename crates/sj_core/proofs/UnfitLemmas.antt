@@ -25,7 +25,7 @@ use Rattle.sj_rules.specs.World.{Turn, WorldAt}
 use Rattle.sj_rules_laws.proofs.LimitLemmas.{core_run_few, core_run_known}
 use Rattle.sj_node.specs.declared.node.Node.{Node}
 use Rattle.sj_node.specs.declared.slots.Main.{Main}
-use Rattle.sj_node.specs.Node.{act_of, has_room, is_below_count, node_at, play_of, spot_node, stop_of, wants_of}
+use Rattle.sj_node.specs.Node.{act_of, has_room, is_below_count, node_at, play_here, spot_node, stop_of, wants_of}
 use Rattle.sj_node.specs.Reading.{party_of}
 use Rattle.sj_node.specs.Play.{HeadsAre, is_number, names_known, play_with}
 use Rattle.sj_node.specs.Slots.{look, main_at}
@@ -82,7 +82,7 @@ if_so false x k = absurd (cc k)
 -- a node that a core run of an accepted file leads to, which plays by the file's protocols
 module _ (file : FileAt) (accepted : IsAccepted file) (turns : List Turn) (core : WorldAt Place Program) (run : IsCoreRun file turns core) (p : ℕ) (n : Node)
     (here : core.nodes p ≡ node_at n) (party : party_of n ≡ p)
-    (play : play_of n ≡ play_with (body_named file.protocols) (length file.connects) (length file.parties)) where
+    (play : play_here n ≡ play_with (body_named file.protocols) (length file.connects) (length file.parties)) where
   side_of : (e : EndId) (h : HeldAt Place) → (node_at n).main e ≡ Some (Held h) → e.side < 2
   side_of e h is =
       ltb-true e.side 2 (two_sides {A = Main} (λ x. main_with (place_in n.table) (main_at x)) (nat_lt e.side 2) _ (Held h) (merged ∙ is))
@@ -140,7 +140,7 @@ module _ (c : Course) (led : IsLed c) (p : ℕ) (n : Node) (there : slice_get (n
   seat = led.seats.each p n there
 
   -- it plays by the file's protocols
-  own_play : play_of n ≡ play_with (body_named file.protocols) (length file.connects) (length file.parties)
+  own_play : play_here n ≡ play_with (body_named file.protocols) (length file.connects) (length file.parties)
   own_play =
       (λ i. play_with (start_in (seat.table i)) (seat.connects i) (seat.parties i))
       ∙ (λ i. play_with (λ q. led.seats.starts q i) (length (file_in c).connects) (length (file_in c).parties))

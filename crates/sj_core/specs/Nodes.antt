@@ -57,7 +57,7 @@ pub record Moves (file : FileAt) (old : List Node) (p : ℕ) (event : Event) (en
   pub seats : AreSeated file new
 
 -- nothing has changed
-pub record Rests (file : FileAt) (old new : List Node) : Type 0 where
+pub record NodesStay (file : FileAt) (old new : List Node) : Type 0 where
   pub world : world_by file new ≡ world_by file old
   pub seats : AreSeated file new
 

@@ -1,5 +1,6 @@
 -- Lines that are done again.
 use Rattle.std.specs.Prelude.{◌≡◌, ℕ, max, ⊤, List, ◌++◌, map, Option, Some, option_map}
+use Rattle.sj_end.specs.declared.misfit.Misfit.{Misfit}
 use Rattle.sj_end.specs.declared.note.Line.{Line}
 use Rattle.sj_lang.specs.FileAt.{FileAt}
 use Rattle.sj_rules.specs.History.{IsLog, IsMisfit, due, IsFirstMisfit}
@@ -17,14 +18,14 @@ pub record Follows (c : Course) (lines : List LineAt) (d : Course) : Type 0 wher
   pub listed : history_in d ≡ history_in c ++ lines
 
 -- the line that is due there is another, or there is none
-pub record IsOther (c : Course) (number : ℕ) (line : Line) (at : ℕ) (logged : Line) (other : Option Line) : Type 0 where
-  pub number_is : at ≡ number
-  pub line_is : logged ≡ line
-  pub found : due (play_of (file_in c)) max (world_in c) (line_at line).party (line_at line).entry.event ≡ option_map line_at other
-  pub differs : option_map line_at other ≡ Some (line_at line) → ⊥
+pub record IsOther (c : Course) (number : ℕ) (line : Line) (m : Misfit) : Type 0 where
+  pub number_is : m.number ≡ number
+  pub line_is : m.logged ≡ line
+  pub found : due (play_of (file_in c)) max (world_in c) (line_at line).party (line_at line).entry.event ≡ option_map line_at m.due
+  pub differs : option_map line_at m.due ≡ Some (line_at line) → ⊥
 
 abbrev pub IsMisfitHere : Course → ℕ → Line → ReplayRefusal → Type 0
-IsMisfitHere c number line (refusals.Misfit at logged other) = IsOther c number line at logged other
+IsMisfitHere c number line (refusals.Misfit m) = IsOther c number line m
 IsMisfitHere c number line refusals.NoMemory = ⊤
 
 -- the first line that isn't the one that is due; those before it are done, and no other
@@ -34,7 +35,7 @@ pub record StopsAt (c : Course) (lines : List LineAt) (number : ℕ) (logged : L
 
 -- from the start of the file on, that is the first line that isn't the one that is due
 abbrev pub IsMisfitFrom : FileAt → List LineAt → ReplayRefusal → Type 0
-IsMisfitFrom file lines (refusals.Misfit number logged other) = IsFirstMisfit max file lines number (line_at logged) (option_map line_at other)
+IsMisfitFrom file lines (refusals.Misfit m) = IsFirstMisfit max file lines m.number (line_at m.logged) (option_map line_at m.due)
 IsMisfitFrom file lines refusals.NoMemory = ⊤
 
 -- some of the lines are done, in order
@@ -46,5 +47,5 @@ pub record StopsWithin (c : Course) (lines : List LineAt) (d : Course) : Type 0 
 
 -- where lines are refused, and what is done then
 abbrev pub IsRefusedSo : Course → List Line → ReplayRefusal → Course → Type 0
-IsRefusedSo c lines (refusals.Misfit number logged other) d = StopsAt c (map line_at lines) number (line_at logged) (option_map line_at other) d
+IsRefusedSo c lines (refusals.Misfit m) d = StopsAt c (map line_at lines) m.number (line_at m.logged) (option_map line_at m.due) d
 IsRefusedSo c lines refusals.NoMemory d = StopsWithin c (map line_at lines) d

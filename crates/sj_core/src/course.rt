@@ -1,6 +1,6 @@
 //! A core world as its nodes lie in memory, and its history.
 ghost use Rattle.std.specs.Prelude.{◌≡◌, ◌↔◌, ◌<◌, ◌++◌, ◌∷◌, [], None, IfOk, IsErrOf, OnErr, length, max};
-ghost use Rattle.sj_core.specs.Nodes.{ComesFrom, Moves, Rests};
+ghost use Rattle.sj_core.specs.Nodes.{ComesFrom, Moves, NodesStay};
 ghost use Rattle.sj_core.specs.Refusals.{IsStop};
 ghost use Rattle.sj_core.specs.Views.{event_at, line_with};
 ghost use Rattle.sj_end.specs.declared.note.Event.TheVariants as events;
@@ -69,7 +69,7 @@ impl Course {
         ensures ok { IfOk result (λ e. Moves (file_in self.old) (nodes_in self.old) party events.Act e (nodes_in self.new)) }
         ensures none { IsErrOf result StepRefusal.NoStep ↔
             (happens (play_of (file_in self.old)) max (world_in self.old) party (event_at events.Act) ≡ None) }
-        ensures err { OnErr result (Rests (file_in self.old) (nodes_in self.old) (nodes_in self.new)) }
+        ensures err { OnErr result (NodesStay (file_in self.old) (nodes_in self.old) (nodes_in self.new)) }
         ensures file { file_in self.new ≡ file_in self.old }
         ensures history { self.new.history ≡ self.old.history }
     {
@@ -88,7 +88,7 @@ impl Course {
         ensures ok { IfOk result (λ e. Moves (file_in self.old) (nodes_in self.old) party (events.Deliver from) e (nodes_in self.new)) }
         ensures none { IsErrOf result StepRefusal.NoStep ↔
             (happens (play_of (file_in self.old)) max (world_in self.old) party (event_at (events.Deliver from)) ≡ None) }
-        ensures err { OnErr result (Rests (file_in self.old) (nodes_in self.old) (nodes_in self.new)) }
+        ensures err { OnErr result (NodesStay (file_in self.old) (nodes_in self.old) (nodes_in self.new)) }
         ensures file { file_in self.new ≡ file_in self.old }
         ensures history { self.new.history ≡ self.old.history }
     {
@@ -113,7 +113,7 @@ impl Course {
         ensures ok { IfOk result (λ e. Moves (file_in self.old) (nodes_in self.old) party event e (nodes_in self.new)) }
         ensures none { IsErrOf result StepRefusal.NoStep ↔
             (happens (play_of (file_in self.old)) max (world_in self.old) party (event_at event) ≡ None) }
-        ensures err { OnErr result (Rests (file_in self.old) (nodes_in self.old) (nodes_in self.new)) }
+        ensures err { OnErr result (NodesStay (file_in self.old) (nodes_in self.old) (nodes_in self.new)) }
         ensures file { file_in self.new ≡ file_in self.old }
         ensures history { self.new.history ≡ self.old.history }
     {

@@ -1,13 +1,13 @@
 //! Lines that were logged, done again one by one.
 ghost use Rattle.std.specs.Prelude.{◌≡◌, ◌↔◌, [], IfErr, IfOk, IsTrue, OnErr, OnOk, Some, map};
-ghost use Rattle.sj_core.specs.Nodes.{Rests};
+ghost use Rattle.sj_core.specs.Nodes.{NodesStay};
 ghost use Rattle.sj_core.specs.Replaying.{Follows, IsMisfitFrom, IsMisfitHere, IsRefusedSo};
 ghost use Rattle.sj_core.specs.Views.{line_at};
 
 use crate::course::Course;
 use crate::sameness::is_same_entry;
 use crate::{ReplayRefusal, StepRefusal};
-use sj_end::Line;
+use sj_end::{Line, Misfit};
 
 /// Whether there is a line and it is that one.
 pub fn is_the_line(due: &Option<Line>, line: &Line) -> bool
@@ -27,17 +27,17 @@ impl Course {
         requires led { IsLed self.old }
         ensures ok { OnOk result (Redoes self.old (line_at line.now) self.new) }
         ensures misfit { IfErr result (IsMisfitHere self.old number line.now) }
-        ensures err { OnErr result (Rests (file_in self.old) (nodes_in self.old) (nodes_in self.new)) }
+        ensures err { OnErr result (NodesStay (file_in self.old) (nodes_in self.old) (nodes_in self.new)) }
         ensures file { file_in self.new ≡ file_in self.old }
         ensures history { self.new.history ≡ self.old.history }
     {
         let due = self.due_line(line.party, line.entry.event);
         if !is_the_line(&due, line) {
-            return Err(ReplayRefusal::Misfit {
+            return Err(ReplayRefusal::Misfit(Misfit {
                 number,
                 logged: *line,
                 due,
-            });
+            }));
         }
         match self.happen(line.party, line.entry.event) {
             Ok(_) => Ok(()),

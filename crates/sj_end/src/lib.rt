@@ -3,12 +3,16 @@
 
 mod end;
 mod held;
+mod limits;
+mod misfit;
 mod note;
 mod once;
 mod record;
 mod wire;
 
 pub use end::{End, other_end};
+pub use limits::CLOCK_END;
+pub use misfit::Misfit;
 pub use note::{Entry, Event, Line, Note, note_of};
 pub use record::{Closed, Deferred, Expected, Held, Parked, Signalled};
 pub use wire::{Body, Frame, Post};

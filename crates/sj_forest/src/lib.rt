@@ -10,5 +10,5 @@ mod shape;
 
 pub use edges::Edge;
 pub use ends::{Ending, finish_forest};
-pub use shape::{Forest, Shape};
 pub use forests::forest;
+pub use shape::{Forest, Shape};

@@ -19,7 +19,7 @@ use Rattle.sj_forward.specs.declared.frame.Frame.{Frame}
 use Rattle.sj_forward.specs.declared.frame.Sent.{Sent}
 use Rattle.sj_forward.specs.declared.slot.Slot.{Slot}
 use Rattle.sj_forward.specs.declared.slot.Use.{Use}
-use Rattle.sj_forward.specs.Desk.{CanClaim, CanPost, CanSend, CanTake, Does, DoesSo, Rests, desk_at}
+use Rattle.sj_forward.specs.Desk.{CanClaim, CanPost, CanSend, CanTake, Does, DoesSo, DeskStays, desk_at}
 use Rattle.sj_forward.specs.Ends.{HasPlace, KeepsPlaces, TakesFrom, Writes, held_in}
 use Rattle.sj_forward.specs.Offers.{offering, offers_in}
 use Rattle.sj_forward.specs.Outs.{lane_in, room_in}
@@ -111,7 +111,7 @@ takes_so d ends e h s new held takes works play g =
     (does_from d (record d { ends = ends }) new (Some (work_of_take s.msg s.hop (desk_at k (record d { ends = ends })))) (λ q. refl) (works k)))
 
 -- the memory for what is taken next
-pub can_take : (old new : Desk) (e : EndId) (u : Use) (s : Sent) → Rests old new → Some u ≡ option_map use_of (held_in old.ends.items e) → u.first ≡ Some s → CanClaim new s.msg s.hop → CanTake new e
+pub can_take : (old new : Desk) (e : EndId) (u : Use) (s : Sent) → DeskStays old new → Some u ≡ option_map use_of (held_in old.ends.items e) → u.first ≡ Some s → CanClaim new s.msg s.hop → CanTake new e
 can_take old new e u s rests told first can h m rest held untaken =
     let it = used_is (held_in old.ends.items e) u told in
     let still : held_in new.ends.items e ≡ held_in old.ends.items e = ap (λ (n : NodeAt Program). held_of n e) (rests.node nobody) in

@@ -19,7 +19,7 @@ use Rattle.sj_rules.specs.World.{Act}
 use Rattle.sj_forward.specs.declared.course.Course.{Course}
 use Rattle.sj_forward.specs.declared.desk.Desk.{Desk}
 use Rattle.sj_forward.specs.Course.{IsReached, Wants, desks_in, file_in, node_or, program_in, world_in}
-use Rattle.sj_forward.specs.Desk.{Acts, Does, HasAct, Rests, desk_at}
+use Rattle.sj_forward.specs.Desk.{Acts, Does, HasAct, DeskStays, desk_at}
 use Rattle.sj_forward.proofs.CourseLemmas.{accepted, act_there, file, plain_run_of, run_of}
 use Rattle.sj_forward.proofs.DeskLemmas.{did}
 use Rattle.sj_forward.proofs.LawLemmas as laws
@@ -112,7 +112,7 @@ module _ (c : Course) (r : IsReached c) (p : ℕ) (desk : Desk) (want : Want) (t
         ∙ act_row (file c r).protocols (length (file c r).parties) p (desk_at g desk) done_there.0 (ap (acts (play_of (file c r)) p) (sym node_is) ∙ done_there.1)
 
     -- its desk can do it, and the plain world
-    pub has_act : (mid : Desk) → Rests desk mid → HasAct p want mid
+    pub has_act : (mid : Desk) → DeskStays desk mid → HasAct p want mid
     has_act mid rests = record {
       play = play_of (file c r);
       protocols = (file c r).protocols;
@@ -128,7 +128,7 @@ module _ (c : Course) (r : IsReached c) (p : ℕ) (desk : Desk) (want : Want) (t
         (ap (λ (f : FileAt). is_ready (state_at (play_of f) ((world_in c).nodes p))) (sym r.accepted.same) ∙ ready)
 
     -- the desk does it
-    pub does_act : (mid new : Desk) → Rests desk mid → Acts p want mid new → Does desk done_there.0 new
+    pub does_act : (mid new : Desk) → DeskStays desk mid → Acts p want mid new → Does desk done_there.0 new
     does_act mid new rests acts =
         let row : act_by (play_of (file c r)) p (desk_at g mid) (want_for (file c r).protocols want) ≡ Some done_there.0 =
         ap (λ (n : NodeAt Program). act_by (play_of (file c r)) p n (want_for (file c r).protocols want)) (rests.node g) ∙ row_there in

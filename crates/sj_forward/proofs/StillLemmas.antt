@@ -15,13 +15,13 @@ use Rattle.sj_rules.specs.World.{Turn}
 use Rattle.sj_forward.specs.declared.course.Course.{Course}
 use Rattle.sj_forward.specs.declared.desk.Desk.{Desk}
 use Rattle.sj_forward.specs.Course.{IsLedBy, IsReached, PlainStays, StaysIn, desks_in, file_in, lane_or, node_or, program_in, world_by, world_in}
-use Rattle.sj_forward.specs.Desk.{Rests}
+use Rattle.sj_forward.specs.Desk.{DeskStays}
 use Rattle.sj_forward.proofs.EndsLemmas.{set_here, set_there}
 use Rattle.sj_forward_rules.specs.Start.{IsForwardRun, first_node}
 use Rattle.sj_forward_rules.specs.World.{WorldAt}
 
 -- a world whose desks and plain world are as before
-pub world_rests : (plain mid : Plain) (desks : List Desk) (p : ℕ) (old new : Desk) → PlainStays plain mid → slice_get desks p ≡ Some old → Rests old new
+pub world_rests : (plain mid : Plain) (desks : List Desk) (p : ℕ) (old new : Desk) → PlainStays plain mid → slice_get desks p ≡ Some old → DeskStays old new
     → world_by mid (set desks p new) ≡ world_by plain desks
 world_rests plain mid desks p old new same there rests = λ i. record { nodes = λ q. node_is q i; lanes = λ from to. lane_is from to i }
   where
@@ -52,7 +52,7 @@ world_rests plain mid desks p old new same there rests = λ i. record { nodes = 
 pub plain_still : (plain : Plain) → PlainStays plain plain
 plain_still plain = record { world = refl; acts = refl; file = refl }
 
-module _ (c d : Course) (p : ℕ) (old new : Desk) (there : slice_get (desks_in c) p ≡ Some old) (rests : Rests old new) (plain : PlainStays c.plain d.plain) (desks : desks_in d ≡ set (desks_in c) p new)
+module _ (c d : Course) (p : ℕ) (old new : Desk) (there : slice_get (desks_in c) p ≡ Some old) (rests : DeskStays old new) (plain : PlainStays c.plain d.plain) (desks : desks_in d ≡ set (desks_in c) p new)
     (passed : d.passed ≡ c.passed) (events : d.events ≡ c.events) where
   world_still : world_in d ≡ world_in c
   world_still = ap (world_by d.plain) desks ∙ world_rests c.plain d.plain (desks_in c) p old new plain there rests

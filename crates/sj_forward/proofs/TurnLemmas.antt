@@ -14,7 +14,7 @@ use Rattle.sj_forward.specs.declared.course.Course.{Course}
 use Rattle.sj_forward.specs.declared.desk.Desk.{Desk}
 use Rattle.sj_forward.specs.declared.frame.Frame.{Frame}
 use Rattle.sj_forward.specs.Course.{IsReached, PlainActs, PlainStays, Steps, Wants, desks_in, file_in, lane_or, node_or, program_in, world_by, world_in}
-use Rattle.sj_forward.specs.Desk.{Acts, Comes, Does, HasRow, Rests, desk_at, lane_of}
+use Rattle.sj_forward.specs.Desk.{Acts, FrameComes, Does, HasRow, DeskStays, desk_at, lane_of}
 use Rattle.sj_forward.specs.Outs.{DropsFront, lane_in}
 use Rattle.sj_forward.specs.Views.{frame_at}
 use Rattle.sj_forward.proofs.CourseLemmas.{few_events, file, lanes_after, reached_so, row_there, steps_so}
@@ -41,7 +41,7 @@ still_parties c r plain stays count = count ∙ ap (λ f. length f.parties) stay
 -- ---- an act
 
 module _ (c : Course) (r : IsReached c) (p : ℕ) (old mid new : Desk) (want : Want) (there : slice_get (desks_in c) p ≡ Some old) (wanted : Wants c.plain p want)
-    (ready : has_step (play_of (file_in c)) (world_in c) p Act ≡ true) (rests : Rests old mid) (acts : Acts p want mid new) (d : Course) (plain : PlainActs p c.plain d.plain)
+    (ready : has_step (play_of (file_in c)) (world_in c) p Act ≡ true) (rests : DeskStays old mid) (acts : Acts p want mid new) (d : Course) (plain : PlainActs p c.plain d.plain)
     (desks : desks_in d ≡ set (desks_in c) p new) (passed : d.passed ≡ c.passed) (events : d.events ≡ c.events + 1) where
   act_step : happens (play_of (file c r)) (world_in c) p Act ≡ Some (world_in d)
   act_step =
@@ -106,7 +106,7 @@ module _ (c : Course) (r : IsReached c) (p q : ℕ) (old : Desk) (f : FrameAt) (
   pub has_row : HasRow q f old
   has_row = record { program = program_in c.plain p; done = own_row.0; row = own_row.1 }
 
-  module _ (new : Desk) (came : Comes q f old new) where
+  module _ (new : Desk) (came : FrameComes q f old new) where
     does : Does old own_row.0 new
     does = did old new (comes (desk_at (program_in c.plain p) old) q f) own_row.0 own_row.1 (came (program_in c.plain p))
 

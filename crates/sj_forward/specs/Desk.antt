@@ -52,11 +52,11 @@ Acts p want old new =
     (play : Play Place Program) (ps : List ProtocolAt) (g : Program) → DoesSo old (act_by play p (desk_at g old) (want_for ps want)) new
 
 -- the row of a frame from that party, whatever the program
-abbrev pub Comes : (origin : ℕ) → FrameAt → (old new : Desk) → Type 0
-Comes q f old new = (g : Program) → DoesSo old (comes (desk_at g old) q f) new
+abbrev pub FrameComes : (origin : ℕ) → FrameAt → (old new : Desk) → Type 0
+FrameComes q f old new = (g : Program) → DoesSo old (comes (desk_at g old) q f) new
 
 -- nothing that contracts see has changed
-pub record Rests (old new : Desk) : Type 0 where
+pub record DeskStays (old new : Desk) : Type 0 where
   pub node : (g : Program) → desk_at g new ≡ desk_at g old
   pub posts : (q : ℕ) → lane_of new q ≡ lane_of old q
 

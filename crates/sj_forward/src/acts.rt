@@ -1,6 +1,6 @@
 //! A party's acts: memory is taken first, and then the step is done.
 ghost use Rattle.std.specs.Prelude.{◌≡◌, ◌<◌, ◌^◌, Some, OnOk, OnErr, IsSome, true};
-ghost use Rattle.sj_forward.specs.Desk.{Acts, CanClaim, CanPost, CanSend, CanTake, DoesSo, HasAct, HasRoom, Rests, desk_at};
+ghost use Rattle.sj_forward.specs.Desk.{Acts, CanClaim, CanPost, CanSend, CanTake, DoesSo, HasAct, HasRoom, DeskStays, desk_at};
 ghost use Rattle.sj_forward.specs.Ends.{HasPlace, held_in};
 ghost use Rattle.sj_forward.specs.Offers.{offers_in};
 ghost use Rattle.sj_forward.specs.Views.{sent_at};
@@ -19,8 +19,9 @@ use crate::desk::Desk;
 use crate::ends::{begin, close, held_at, make_place, park, take_first};
 use crate::frame::{Frame, Sent, onward};
 use crate::lanes::{make_room, put_frame};
-use crate::offers::{offered_by, opened_number, withdraw};
+use crate::offers::{offered_by, withdraw};
 use sj_base::{EndId, Msg, NoMemory};
+use sj_machine::opened_number;
 use sj_semantics::Want;
 
 impl Desk {
@@ -28,7 +29,7 @@ impl Desk {
 
     /// Takes the memory that the party's next step needs.
     pub(crate) fn make_room(&mut self, party: u16, want: Want) -> Result<(), NoMemory>
-        ensures same { Rests self.old self.new }
+        ensures same { DeskStays self.old self.new }
         ensures room { OnOk result (HasRoom party want self.new) }
     {
         match want {
@@ -44,7 +45,7 @@ impl Desk {
     }
 
     fn room_to_send(&mut self, end: EndId) -> Result<(), NoMemory>
-        ensures same { Rests self.old self.new }
+        ensures same { DeskStays self.old self.new }
         ensures room { OnOk result (CanSend self.new end) }
     {
         match held_at(&self.ends, end) {
@@ -54,7 +55,7 @@ impl Desk {
     }
 
     fn room_to_take(&mut self, end: EndId) -> Result<(), NoMemory>
-        ensures same { Rests self.old self.new }
+        ensures same { DeskStays self.old self.new }
         ensures room { OnOk result (CanTake self.new end) }
     {
         let Some(used) = held_at(&self.ends, end) else {
@@ -67,7 +68,7 @@ impl Desk {
     }
 
     fn room_to_claim(&mut self, sent: Sent) -> Result<(), NoMemory>
-        ensures same { Rests self.old self.new }
+        ensures same { DeskStays self.old self.new }
         ensures room { OnOk result (CanClaim self.new sent.msg sent.hop) }
     {
         match sent.msg {
@@ -89,7 +90,7 @@ impl Desk {
     }
 
     fn room_to_open(&mut self, party: u16, to: u16) -> Result<(), NoMemory>
-        ensures same { Rests self.old self.new }
+        ensures same { DeskStays self.old self.new }
         ensures post { OnOk result (CanPost self.new to) }
         ensures place { OnOk result (HasPlace self.new.ends.items
             (requested_end (number party self.new.requests)) 0) }

@@ -1,6 +1,6 @@
 //! Frames that come to a party.
 ghost use Rattle.std.specs.Prelude.{◌≡◌, OnOk, OnErr, IsSome};
-ghost use Rattle.sj_forward.specs.Desk.{Comes, DoesSo, HasRow, Rests, desk_at};
+ghost use Rattle.sj_forward.specs.Desk.{FrameComes, DoesSo, HasRow, DeskStays, desk_at};
 ghost use Rattle.sj_forward.specs.Ends.{records_in};
 ghost use Rattle.sj_forward.specs.Views.{frame_at, sent_at};
 ghost use Rattle.sj_forward_rules.specs.Arrivals.{at_record, claim_by, in_by, open_comes, out_by};
@@ -19,8 +19,8 @@ impl Desk {
     /// A frame that fits comes from that party.
     pub(crate) fn deliver(&mut self, from: u16, frame: Frame) -> Result<(), NoMemory>
         requires { HasRow from (frame_at frame) self.old }
-        ensures ok { OnOk result (Comes from (frame_at frame) self.old self.new) }
-        ensures err { OnErr result (Rests self.old self.new) }
+        ensures ok { OnOk result (FrameComes from (frame_at frame) self.old self.new) }
+        ensures err { OnErr result (DeskStays self.old self.new) }
     {
         match frame {
             Frame::In { to, hop, sent } => self.come_in(to, hop, sent),
@@ -37,7 +37,7 @@ impl Desk {
         ensures ok { OnOk result ((g : Program) → DoesSo self.old
             (at_record (in_by (desk_at g self.old) to hop (sent_at sent))
             (records_in self.old.ends.items to hop)) self.new) }
-        ensures err { OnErr result (Rests self.old self.new) }
+        ensures err { OnErr result (DeskStays self.old self.new) }
     {
         let Some(seen) = seen_at(&self.ends, to, hop) else {
             unreachable!()
@@ -69,7 +69,7 @@ impl Desk {
         ensures ok { OnOk result ((g : Program) → DoesSo self.old
             (at_record (out_by (desk_at g self.old) of hop (sent_at sent))
             (records_in self.old.ends.items of hop)) self.new) }
-        ensures err { OnErr result (Rests self.old self.new) }
+        ensures err { OnErr result (DeskStays self.old self.new) }
     {
         let Some(seen) = seen_at(&self.ends, of, hop) else {
             unreachable!()
@@ -86,7 +86,7 @@ impl Desk {
         ensures ok { OnOk result ((g : Program) → DoesSo self.old
             (at_record (claim_by (desk_at g self.old) of hop from)
             (records_in self.old.ends.items of hop)) self.new) }
-        ensures err { OnErr result (Rests self.old self.new) }
+        ensures err { OnErr result (DeskStays self.old self.new) }
     {
         let Some(seen) = seen_at(&self.ends, of, hop) else {
             unreachable!()
@@ -105,7 +105,7 @@ impl Desk {
         requires { IsSome (open_comes (desk_at nobody self.old) from sess) }
         ensures ok { OnOk result ((g : Program) → DoesSo self.old
             (open_comes (desk_at g self.old) from sess) self.new) }
-        ensures err { OnErr result (Rests self.old self.new) }
+        ensures err { OnErr result (DeskStays self.old self.new) }
     {
         let end = EndId { sess, side: 1 };
         make_place(self.alloc, &mut self.ends, end, 0)?;

@@ -11,9 +11,9 @@ ghost use Rattle.sj_semantics.specs.declared.State.TheVariants.{Ready};
 
 use crate::desk::Desk;
 use crate::lanes::{drop_front, front_of};
-use crate::limits::MAX_STEPS;
 use crate::{Turn, TurnRefusal};
 use sj_base::NoMemory;
+use sj_machine::MAX_STEPS;
 use sj_plain::{Halt, Plain};
 use sj_semantics::Want;
 use std::alloc::Global;

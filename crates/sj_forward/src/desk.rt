@@ -10,10 +10,10 @@ ghost use Rattle.sj_semantics.specs.Program.{Program};
 
 use crate::ends::held_at;
 use crate::frame::Frame;
-use crate::limits::{MAX_HOPS, MAX_REQUESTS};
 use crate::offers::is_offering;
 use crate::slot::Slot;
 use sj_base::EndId;
+use sj_machine::{MAX_HOPS, MAX_REQUESTS};
 use sj_semantics::Want;
 use std::alloc::Global;
 use std::collections::VecDeque;
@@ -51,7 +51,7 @@ impl Desk {
         ensures { (g : Program) → result ≡ rules.may_leave (held_of (desk_at g self.now) end) }
     {
         match held_at(&self.ends, end) {
-            Some(used) => used.hop < MAX_HOPS,
+            Some(used) => used.hop < MAX_HOPS as usize,
             None => false,
         }
     }

@@ -10,7 +10,6 @@ mod ends;
 mod forward;
 mod frame;
 mod lanes;
-mod limits;
 mod offers;
 mod refusal;
 mod slot;

@@ -4,16 +4,8 @@ ghost use Rattle.sj_forward.specs.Offers.{CanOffer, offering, offers_in};
 ghost use Rattle.sj_forward_rules.specs.Ready.{is_filled};
 ghost use Rattle.sj_rules.specs.Opened as rules;
 
-use crate::limits::{FIRST_OPENED, MAX_REQUESTS};
 use sj_base::NoMemory;
 use std::alloc::Global;
-
-/// The number of the session that the party opens after so many others.
-pub(crate) fn opened_number(party: u16, after: u8) -> u32
-    ensures { result ≡ rules.opened_number party after }
-{
-    FIRST_OPENED + MAX_REQUESTS as u32 * party as u32 + after as u32
-}
 
 /// Whether the party offers any session.
 pub(crate) fn is_offering(offers: &[Vec<u32>], from: u16) -> bool

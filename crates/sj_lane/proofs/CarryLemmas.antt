@@ -8,7 +8,7 @@ use Rattle.sj_lane.specs.declared.lane.Lanes.{Lanes}
 use Rattle.sj_lane.specs.declared.mem.MemOut.{MemOut}
 use Rattle.sj_lane.specs.declared.mem.MemIn.{MemIn}
 use Rattle.sj_lane.specs.Mem.{IsCarried, frames_popped, frames_pushed, in_waits, out_waits}
-use Rattle.sj_lane.specs.MemCarry.{IsStill, KeptIn, KeptOut, OneMoved, Passes, Rests, SameMem}
+use Rattle.sj_lane.specs.MemCarry.{IsStill, KeptIn, KeptOut, OneMoved, Passes, LinkRests, SameMem}
 use Rattle.sj_lane.specs.Square.{AllJoined, IsSquare, in_at, in_in, out_at, out_in}
 use Rattle.sj_lane.proofs.CarryingLemmas.{Carried, link_carried, link_moved, link_still, lists_later}
 use Rattle.sj_lane.proofs.CellLemmas.{InPut, OutPut, in_put, out_put}
@@ -110,7 +110,7 @@ module _ (L : List (Lanes MemOut MemIn)) (p q : ℕ) (d1 d2 d3 : Lanes MemOut Me
       out_at_first lane_at kept_out kept_in carried
 
   -- or nothing is
-  pub put_still : (r : MemOut) (j : MemIn) → KeptOut o r → KeptIn i j → IsCarried r j → Rests (out_waits o) (in_waits i) (out_waits r) (in_waits j) →
+  pub put_still : (r : MemOut) (j : MemIn) → KeptOut o r → KeptIn i j → IsCarried r j → LinkRests (out_waits o) (in_waits i) (out_waits r) (in_waits j) →
       (a b : ℕ) → IsStill L (in_set (out_set (in_set L p q d1 none) p q d2 r) p q d3 j) a b
   put_still r j kept_out kept_in carried =
       let two = m2 r in

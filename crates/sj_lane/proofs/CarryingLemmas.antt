@@ -8,7 +8,7 @@ use Rattle.sj_lane.specs.declared.mem.MemOut.{MemOut}
 use Rattle.sj_lane.specs.declared.mem.MemIn.{MemIn}
 use Rattle.sj_lane.specs.Marks.{marks_at}
 use Rattle.sj_lane.specs.Mem.{IsCarried, frames_popped, frames_pushed, in_waits, out_waits}
-use Rattle.sj_lane.specs.MemCarry.{IsStill, KeptIn, KeptOut, OneMoved, Passes, Rests, SameMem}
+use Rattle.sj_lane.specs.MemCarry.{IsStill, KeptIn, KeptOut, OneMoved, Passes, LinkRests, SameMem}
 use Rattle.sj_lane.specs.Square as square
 use Rattle.sj_lane.specs.Square.{AllJoined, IsSquare, SameLists, in_at, out_at}
 use Rattle.sj_lane.proofs.CellLemmas.{InPut, IsCell, OutPut, at_cell}
@@ -82,7 +82,7 @@ module _ (L L1 L2 L3 : List (Lanes MemOut MemIn)) (p q : ℕ) (none i j : MemIn)
   }
 
   -- and all links are still where it isn't
-  pub link_still : Rests (out_waits o) (in_waits i) (out_waits r) (in_waits j) → (a b : ℕ) → IsStill L L3 a b
+  pub link_still : LinkRests (out_waits o) (in_waits i) (out_waits r) (in_waits j) → (a b : ℕ) → IsStill L L3 a b
   link_still h a b = by (at_cell p q a b)
     where
       by : IsCell p q a b ⊎ (IsCell p q a b → ⊥) → IsStill L L3 a b

@@ -50,7 +50,7 @@ pub record Passes (sender taker new_sender new_taker : List Frame) : Type 0 wher
   pub behind : new_taker ≡ taker ++ sender
 
 -- what waits stays
-pub record Rests (sender taker new_sender new_taker : List Frame) : Type 0 where
+pub record LinkRests (sender taker new_sender new_taker : List Frame) : Type 0 where
   pub left : new_sender ≡ sender
   pub there : new_taker ≡ taker
 
@@ -59,7 +59,7 @@ abbrev pub IsMoved : List (Lanes MemOut MemIn) → List (Lanes MemOut MemIn) →
 IsMoved before after p q = Passes (at_sender before p q) (at_taker before p q) (at_sender after p q) (at_taker after p q)
 
 abbrev pub IsStill : List (Lanes MemOut MemIn) → List (Lanes MemOut MemIn) → ℕ → ℕ → Type 0
-IsStill before after p q = Rests (at_sender before p q) (at_taker before p q) (at_sender after p q) (at_taker after p q)
+IsStill before after p q = LinkRests (at_sender before p q) (at_taker before p q) (at_sender after p q) (at_taker after p q)
 
 -- the link from p to q is moved, and no other
 pub record OneMoved (p q : ℕ) (before after : List (Lanes MemOut MemIn)) : Type 0 where

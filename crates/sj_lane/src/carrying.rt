@@ -2,7 +2,7 @@
 ghost use Rattle.std.specs.Prelude.{ℕ, ◌<◌, length, OnErr, OnOk};
 ghost use Rattle.sj_lane.specs.Square.{AllJoined, IsSquare};
 ghost use Rattle.sj_lane.specs.Mem.{IsCarried, in_waits, out_waits};
-ghost use Rattle.sj_lane.specs.MemCarry.{AreMoved, AreMovedUpTo, IsStill, KeptIn, KeptOut, OneMoved, Passes, Rests, RowMoved, SameMem};
+ghost use Rattle.sj_lane.specs.MemCarry.{AreMoved, AreMovedUpTo, IsStill, KeptIn, KeptOut, OneMoved, Passes, LinkRests, RowMoved, SameMem};
 
 use crate::lane::Lanes;
 use crate::mem::{MemIn, MemOut};
@@ -17,7 +17,7 @@ fn carry_link(out: &mut MemOut, lane: &mut MemIn) -> Result<(), NoMemory>
     ensures out { KeptOut out.old out.new }
     ensures lane { KeptIn lane.old lane.new }
     ensures moved { OnOk result (Passes (out_waits out.old) (in_waits lane.old) (out_waits out.new) (in_waits lane.new)) }
-    ensures still { OnErr result (Rests (out_waits out.old) (in_waits lane.old) (out_waits out.new) (in_waits lane.new)) }
+    ensures still { OnErr result (LinkRests (out_waits out.old) (in_waits lane.old) (out_waits out.new) (in_waits lane.new)) }
 {
     if lane.waiting.append(&mut out.waiting).is_err() {
         return Err(NoMemory);

@@ -2,16 +2,16 @@
 use Rattle.std.proofs.Common.{◌≡◌, ℕ, ◌+◌, ◌<◌, List, [], ◌∷◌, ◌++◌, length, get_or, sym, ap, ◌∙◌, subst, arith}
 use Rattle.sj_semantics.specs.Program.{Thing, block}
 use Rattle.sj_machine.specs.declared.arena.Node.{Node}
-use Rattle.sj_machine.specs.declared.stack.Frame.{Frame}
+use Rattle.sj_machine.specs.declared.stack.StackFrame.{StackFrame}
 use Rattle.sj_machine.specs.declared.stack.After.{After}
 use Rattle.sj_machine.specs.Arena.{deed_in, code_in, codes_of, IsOpBelow, IsBackward}
 use Rattle.sj_machine.specs.Frames.{frames_after, thing_at, todo_from, todo_after, LeadsBelow, Fits}
 use Rattle.sj_machine.specs.Names.{BindsBelow, AllBindBelow}
 use Rattle.sj_machine.proofs.FrameLemmas.{frame_there, popped, top_is, left_is, left_fits, leave_room}
 
-module _ (nodes : List Node) (old fs : List Frame) (f : Frame) (n : Node) (e : old ≡ fs ++ f ∷ []) (back : IsBackward 0 nodes) (fits : Fits (length nodes) 0 old) (is : n ≡ get_or nodes f.at n) where
+module _ (nodes : List Node) (old fs : List StackFrame) (f : StackFrame) (n : Node) (e : old ≡ fs ++ f ∷ []) (back : IsBackward 0 nodes) (fits : Fits (length nodes) 0 old) (is : n ≡ get_or nodes f.at n) where
   -- what the step makes of what is to do
-  pub step_todo : (new : List Frame) (after : After) (makes : List Thing → List Thing) → new ≡ fs ++ frames_after f n.next after
+  pub step_todo : (new : List StackFrame) (after : After) (makes : List Thing → List Thing) → new ≡ fs ++ frames_after f n.next after
       → ((rest : List Thing) → makes (thing_at f.stage (deed_in (codes_of nodes) n.op) ∷ rest) ≡ todo_after (codes_of nodes) (deed_in (codes_of nodes) n.op) after rest)
       → todo_from (codes_of nodes) new [] ≡ makes (todo_from (codes_of nodes) old [])
   step_todo new after makes left todo =
@@ -26,7 +26,7 @@ module _ (nodes : List Node) (old fs : List Frame) (f : Frame) (n : Node) (e : o
       by (block (code_in (codes_of nodes) n.next) (todo_from (codes_of nodes) fs []))
       ∙ sym (ap makes (top_is nodes old fs f n e (popped nodes old fs f n e back fits is)))
 
-  pub step_fits : (new : List Frame) (after : After) → new ≡ fs ++ frames_after f n.next after → ((k : ℕ) → IsOpBelow k n.op → LeadsBelow k after) → Fits (length nodes) 0 new
+  pub step_fits : (new : List StackFrame) (after : After) → new ≡ fs ++ frames_after f n.next after → ((k : ℕ) → IsOpBelow k n.op → LeadsBelow k after) → Fits (length nodes) 0 new
   step_fits new after left below =
       let p = popped nodes old fs f n e back fits is in
       left_fits nodes new fs f n after left p (below f.at p.inside)

@@ -8,19 +8,19 @@ use Rattle.sj_semantics.specs.Wants.{more_turns}
 use Rattle.sj_semantics.specs.Program.{Thing, statement, turns, passing, block}
 use Rattle.sj_machine.specs.declared.stack.Stage.{Stage}
 use Rattle.sj_machine.specs.declared.stack.Stage.TheVariants.{Fresh, Turns, Passing}
-use Rattle.sj_machine.specs.declared.stack.Frame.{Frame}
+use Rattle.sj_machine.specs.declared.stack.StackFrame.{StackFrame}
 use Rattle.sj_machine.specs.declared.stack.After.{After}
 use Rattle.sj_machine.specs.declared.stack.After.TheVariants.{Past, Stays}
 use Rattle.sj_machine.specs.declared.arena.Node.{Node}
 use Rattle.sj_machine.specs.Arena.{code_in, codes_of, IsBelow}
 
 -- the frame of a block that is entered, and none of an empty one
-abbrev pub entry_frames : Option ℕ → List Frame
+abbrev pub entry_frames : Option ℕ → List StackFrame
 entry_frames None = []
 entry_frames (Some i) = record { at = i; stage = Fresh } ∷ []
 
 -- the frames that take the place of a statement's, where the block behind it is next
-abbrev pub frames_after : Frame → Option ℕ → After → List Frame
+abbrev pub frames_after : StackFrame → Option ℕ → After → List StackFrame
 frames_after f next (Past block) = entry_frames next ++ entry_frames block
 frames_after f next (Stays stage block) = record { at = f.at; stage = stage } ∷ entry_frames block
 
@@ -36,12 +36,12 @@ staged stage no_stmt rest = rest
 staged stage (stmt_then (at line deed) code) rest = thing_at stage deed ∷ block code rest
 
 -- what is to do at frames, the outermost first
-abbrev pub todo_from : List Code → List Frame → List Thing → List Thing
+abbrev pub todo_from : List Code → List StackFrame → List Thing → List Thing
 todo_from codes [] rest = rest
 todo_from codes (f ∷ fs) rest = todo_from codes fs (staged f.stage (code_in codes (Some f.at)) rest)
 
 -- what a party still has to do, where its position is these frames over these nodes
-abbrev pub todo_in : List Node → List Frame → List Thing
+abbrev pub todo_in : List Node → List StackFrame → List Thing
 todo_in nodes frames = todo_from (codes_of nodes) frames []
 
 -- what is to do after a step of the statement, where that is behind it
@@ -70,6 +70,6 @@ LeadsBelow k (Past inside) = IsBelow k inside
 LeadsBelow k (Stays stage inside) = IsBelow k inside
 
 -- each frame leaves room for the nodes before its own
-abbrev pub Fits : ℕ → ℕ → List Frame → Type 0
+abbrev pub Fits : ℕ → ℕ → List StackFrame → Type 0
 Fits size k [] = ⊤
 Fits size k (f ∷ fs) = (k + f.at < size) × Fits size (suc k) fs

@@ -6,6 +6,7 @@ mod bindings;
 mod builders;
 mod ends;
 mod leads;
+mod limits;
 mod machine;
 mod needs;
 mod stack;
@@ -13,6 +14,7 @@ mod starts;
 mod steps;
 mod values;
 
+pub use limits::{FIRST_OPENED, MAX_HOPS, MAX_REQUESTS, MAX_STEPS, opened_number};
 pub use machine::Machine;
 pub use sj_semantics::{Awaits, Want};
 pub use starts::party_of_name;

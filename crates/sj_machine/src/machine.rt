@@ -13,12 +13,12 @@ ghost use Rattle.sj_semantics.specs.Wants.{want_of};
 ghost use Rattle.sj_semantics.specs.Fitting.{fits};
 
 use crate::arena::Node;
-use crate::builders::add_block;
 use crate::bindings::name_at;
+use crate::builders::add_block;
+use crate::needs::{fits_at, want_at};
 use crate::stack::Stack;
 use crate::starts::{connected_ends, names_above, names_of, unknown, with_room};
 use crate::steps::{closed, local, opened, sent, took};
-use crate::needs::{fits_at, want_at};
 use sj_base::{EndId, Msg, NoMemory};
 use sj_lang::{File, Stmt};
 use sj_semantics::{Value, Want};
@@ -41,12 +41,12 @@ impl Model for Machine {
     ghost use Rattle.sj_base.specs.declared.EndId.{EndId};
     ghost use Rattle.sj_semantics.specs.declared.Value.{Value as Known};
     ghost use Rattle.sj_machine.specs.declared.arena.Node.{Node};
-    ghost use Rattle.sj_machine.specs.declared.stack.Frame.{Frame};
+    ghost use Rattle.sj_machine.specs.declared.stack.StackFrame.{StackFrame};
     ghost use Rattle.sj_machine.specs.Sound.{IsSound};
     ghost use Rattle.sj_lang.specs.contracts.party.Expr as e;
     ghost use Rattle.std.specs.Coded.{codes};
 
-    ghost Value = { List Node × (List Frame × ℕ) × List (Option Known) × List (ℕ × EndId) × ℕ
+    ghost Value = { List Node × (List StackFrame × ℕ) × List (Option Known) × List (ℕ × EndId) × ℕ
         × List ℕ };
 
     ghost coded = { Prim.hlevel (codes, e.the_row.coded) };

@@ -1,6 +1,6 @@
 //! Where a party is in nested blocks, in room that was taken before.
 ghost use Rattle.std.specs.Prelude.{◌≡◌, ◌<◌, ◌≤◌, ◌+◌, ℕ, List, [], ◌∷◌, ◌++◌, length, IfOk, IfSome, IfNone};
-ghost use Rattle.sj_machine.specs.declared.stack.Frame.{Frame};
+ghost use Rattle.sj_machine.specs.declared.stack.StackFrame.{StackFrame};
 ghost use Rattle.sj_machine.specs.Frames.{entry_frames, frames_after};
 
 use sj_base::NoMemory;
@@ -19,7 +19,7 @@ pub enum Stage {
 
 /// A statement that is next in its block, by its node.
 #[derive(Clone, Copy)]
-pub struct Frame {
+pub struct StackFrame {
     pub at: usize,
     pub stage: Stage,
 }
@@ -35,14 +35,14 @@ pub enum After {
 /// Frames, the outermost first.
 #[derive(Drop)]
 pub struct Stack {
-    frames: Vec<Frame>,
+    frames: Vec<StackFrame>,
 }
 
 impl Model for Stack {
     ghost use Rattle.std.specs.Prelude.{ℕ, List, vec_capacity};
-    ghost use Rattle.sj_machine.specs.declared.stack.Frame.{Frame};
+    ghost use Rattle.sj_machine.specs.declared.stack.StackFrame.{StackFrame};
 
-    ghost Value = { List Frame × ℕ };
+    ghost Value = { List StackFrame × ℕ };
 
     ghost view = { λ s. (s.frames.items, vec_capacity s.frames) };
 }
@@ -58,15 +58,15 @@ impl Stack {
     }
 
     /// The innermost frame.
-    pub fn top(&self) -> Option<Frame>
-        ensures some { IfSome result (λ f. (fs : List Frame) × (self.now.0 ≡ fs ++ f ∷ [])) }
+    pub fn top(&self) -> Option<StackFrame>
+        ensures some { IfSome result (λ f. (fs : List StackFrame) × (self.now.0 ≡ fs ++ f ∷ [])) }
         ensures none { IfNone result (self.now.0 ≡ []) }
     {
         self.frames.last().copied()
     }
 
     /// Takes the innermost frame off.
-    pub fn pop(&mut self) -> Option<Frame>
+    pub fn pop(&mut self) -> Option<StackFrame>
         ensures some { IfSome result (λ f. self.old.0 ≡ self.new.0 ++ f ∷ []) }
         ensures none { IfNone result ((self.old.0 ≡ []) × (self.new.0 ≡ [])) }
         ensures room { self.new.1 ≡ self.old.1 }
@@ -75,7 +75,7 @@ impl Stack {
     }
 
     /// Puts what a step leaves in place of the frame that did it.
-    pub fn leave(&mut self, frame: Frame, next: Option<usize>, after: After)
+    pub fn leave(&mut self, frame: StackFrame, next: Option<usize>, after: After)
         requires { length self.old.0 + 1 < self.old.1 }
         ensures left { self.new.0 ≡ self.old.0 ++ frames_after frame next after }
         ensures room { self.old.1 ≤ self.new.1 }
@@ -86,7 +86,7 @@ impl Stack {
                 self.enter(block);
             }
             After::Stays(stage, block) => {
-                self.push(Frame {
+                self.push(StackFrame {
                     at: frame.at,
                     stage,
                 });
@@ -102,14 +102,14 @@ impl Stack {
         ensures room { self.old.1 ≤ self.new.1 }
     {
         if let Some(at) = block {
-            self.push(Frame {
+            self.push(StackFrame {
                 at,
                 stage: Stage::Fresh,
             });
         }
     }
 
-    fn push(&mut self, frame: Frame)
+    fn push(&mut self, frame: StackFrame)
         requires { length self.old.0 < self.old.1 }
         ensures pushed { self.new.0 ≡ self.old.0 ++ frame ∷ [] }
         ensures room { self.old.1 ≤ self.new.1 }

@@ -24,7 +24,7 @@ use Rattle.sj_node.specs.declared.node.Node.{Node}
 use Rattle.sj_node.specs.declared.refusal.Halt.{Halt}
 use Rattle.sj_node.specs.declared.refusal.Halt.TheVariants as halts
 use Rattle.sj_node.specs.Halts.{hold_up, names_awaited, stop_by}
-use Rattle.sj_node.specs.Node.{act_of, is_below_count, main_of, node_at, offers_of, play_of, steps_of, stop_of, wants_of}
+use Rattle.sj_node.specs.Node.{act_of, is_below_count, main_of, node_at, offers_of, play_here, steps_of, stop_of, wants_of}
 use Rattle.sj_node.specs.Play.{awaited_place, names_known}
 use Rattle.sj_node.specs.Slots.{mains_in}
 use Rattle.sj_node.specs.Taking.{held_head}
@@ -36,7 +36,7 @@ mapped : {X Y : Type 0} (g : X → Y) (o : Option X) → is_some o ≡ true → 
 mapped g None there h = cc
 mapped g (Some x) there h = cc
 
-sent_some : (n : Node) (m : NodeAt Place Program) (e : EndId) (msg : Msg) (r : Option (MainAt Place)) → lets Out msg r ≡ true → send_act (play_of n) m e msg r ≡ None → ⊥
+sent_some : (n : Node) (m : NodeAt Place Program) (e : EndId) (msg : Msg) (r : Option (MainAt Place)) → lets Out msg r ≡ true → send_act (play_here n) m e msg r ≡ None → ⊥
 sent_some n m e msg (Some (Held h)) there none = mapped _ (after_place h.end.place Out msg) there none
 sent_some n m e msg (Some (Closed c)) there none = cc
 sent_some n m e msg (Some (Expected keeper place deferred)) there none = cc
@@ -66,7 +66,7 @@ not_enough false h = refl
 
 handed_some : (n : Node) (f : Spot → Place) (e y : EndId) (r : Option (MainAt Spot)) → is_held (option_map (main_with f) r) ≡ true
     → is_delegated_enough r ≡ false → is_same_end e y ≡ false
-    → lets Out (msgs.Sess y.sess y.side n.party) ((node_at n).main e) ≡ true → delegate_act (play_of n) n.party (node_at n) e y (option_map (main_with f) r) ≡ None → ⊥
+    → lets Out (msgs.Sess y.sess y.side n.party) ((node_at n).main e) ≡ true → delegate_act (play_here n) n.party (node_at n) e y (option_map (main_with f) r) ≡ None → ⊥
 handed_some n f e y (Some (Held h)) held few other there none =
     let left : lets Out (msgs.Sess y.sess y.side n.party) (put y None (node_at n).main e) ≡ true = (λ i. lets Out (msgs.Sess y.sess y.side n.party) (if other i then None else (node_at n).main e)) ∙ there in
     let at : HeldAt Place = held_with f h in
@@ -89,10 +89,10 @@ not_lacking false h = refl
 
 taken_some : (n : Node) (f : Spot → Place) (e : EndId) (place : Place) (r : Option (MainAt Spot)) → is_held (option_map (main_with f) r) ≡ true → lacks_message r ≡ false
     → ((m : Msg) → fits (program_at n.machine) m ≡ true → lets Into m (option_map (main_with f) r) ≡ true) → misfit_at n (held_head r) ≡ None
-    → take_act (play_of n) (node_at n) e place (option_map (main_with f) r) ≡ None → ⊥
+    → take_act (play_here n) (node_at n) e place (option_map (main_with f) r) ≡ None → ⊥
 taken_some n f e place (Some (Held h)) held some agrees fit none = go h.untaken some fit none
   where
-    go : (ms : List Msg) → is_empty ms ≡ false → misfit_at n (slice_get ms 0) ≡ None → take_from (play_of n) (node_at n) e place (held_with f h) ms ≡ None → ⊥
+    go : (ms : List Msg) → is_empty ms ≡ false → misfit_at n (slice_get ms 0) ≡ None → take_from (play_here n) (node_at n) e place (held_with f h) ms ≡ None → ⊥
     go [] some fit none = cc
     go (m ∷ rest) some fit none =
         let all = all_taken (fits (program_at n.machine) m) (names_known n.connects n.parties m) (is_free (node_at n) m) fit in
@@ -101,7 +101,7 @@ taken_some n f e place (Some (Closed c)) held some agrees fit none = cc
 taken_some n f e place (Some (Expected keeper q deferred)) held some agrees fit none = cc
 taken_some n f e place None held some agrees fit none = cc
 
-closed_some : (n : Node) (e : EndId) (r : Option (MainAt Place)) → is_over r ≡ true → close_act (play_of n) (node_at n) e r ≡ None → ⊥
+closed_some : (n : Node) (e : EndId) (r : Option (MainAt Place)) → is_over r ≡ true → close_act (play_here n) (node_at n) e r ≡ None → ⊥
 closed_some n e (Some (Held h)) over none = Some_None _ (passed _ _ over none)
   where
     Some_None : {X : Type 0} (x : X) → Some x ≡ None → ⊥
@@ -134,13 +134,13 @@ few_open : {X : Type 0} (b : Bool) (x : X) → ◌≡◌ {A = Option Halt} (if b
 few_open true x few none = cc
 few_open false x few none = cc
 
-accepted_some : (n : Node) (place : Place) (from sess : ℕ) (r : Option (MainAt Place)) → is_held r ≡ true → accept_session (play_of n) (node_at n) place from sess r ≡ None → ⊥
+accepted_some : (n : Node) (place : Place) (from sess : ℕ) (r : Option (MainAt Place)) → is_held r ≡ true → accept_session (play_here n) (node_at n) place from sess r ≡ None → ⊥
 accepted_some n place from sess (Some (Held h)) held none = cc
 accepted_some n place from sess (Some (Closed c)) held none = cc
 accepted_some n place from sess (Some (Expected keeper q deferred)) held none = cc
 accepted_some n place from sess None held none = cc
 
-offered_some : (n : Node) (place : Place) (from : ℕ) (offers : List ℕ) → is_empty offers ≡ false → is_offer_held n (smallest offers) ≡ true → accept_offered (play_of n) (node_at n) place from (smallest offers) ≡ None → ⊥
+offered_some : (n : Node) (place : Place) (from : ℕ) (offers : List ℕ) → is_empty offers ≡ false → is_offer_held n (smallest offers) ≡ true → accept_offered (play_here n) (node_at n) place from (smallest offers) ≡ None → ⊥
 offered_some n place from [] some held none = cc
 offered_some n place from (s ∷ ss) some held none = accepted_some n place from (smallest_from s ss) ((node_at n).main (offered_end (smallest_from s ss))) held none
 

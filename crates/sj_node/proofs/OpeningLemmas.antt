@@ -15,7 +15,7 @@ use Rattle.sj_rules.specs.Opened.{new_held, opened_number, smallest, without}
 use Rattle.sj_rules.proofs.NodeMapLemmas.{put-each}
 use Rattle.sj_end.specs.declared.note.Note.TheVariants as notes
 use Rattle.sj_node.specs.declared.node.Node.{Node}
-use Rattle.sj_node.specs.Node.{accepted_note, act_note, act_of, main_of, node_at, note_for, offers_of, play_of, steps_of, wants_of}
+use Rattle.sj_node.specs.Node.{accepted_note, act_note, act_of, main_of, node_at, note_for, offers_of, play_here, steps_of, wants_of}
 use Rattle.sj_node.specs.Offers.{offering}
 use Rattle.sj_node.specs.Opening.{Accepts}
 use Rattle.sj_node.specs.Parking.{held_of}
@@ -37,7 +37,7 @@ requests_act n p to place is steps lt spot =
     let table : put e (Some (Held (new_held e (start_in n.table p) to))) (node_at n).main ≡ each_with (main_with f) (put e (Some (Held (new_held e place to))) (mains_in n.mains.items)) =
     (λ i. put e (Some (Held (new_held e (sym spot i) to))) (node_at n).main) ∙ put-each (main_with f) e (Some (Held (new_held e place to))) (mains_in n.mains.items) in
     act_at n (wants.Request p to) is steps
-    ∙ (λ i. if few n.requests lt i then Some (open_session (play_of n) (node_at n) (start_in n.table p) to sess) else None)
+    ∙ (λ i. if few n.requests lt i then Some (open_session (play_here n) (node_at n) (start_in n.table p) to sess) else None)
     ∙ (λ i. Some (record {
       state = record (node_at n) { program = opened_of (program_at n.machine) e; requests = n.requests + 1; main = table i };
       posts = record { party = to; body = Open sess } ∷ [];
@@ -58,8 +58,8 @@ accepts_act n p from sess place main is steps least accepts spot =
     ∙ (λ i. each_with (main_with f) (put e (sym accepts.from.left i) (mains_in n.mains.items)))
     ∙ ap (each_with (main_with f)) (sym accepts.puts) in
     act_at n (wants.Accept p from) is steps
-    ∙ ap (accept_offered (play_of n) (node_at n) (start_in n.table p) from) least
-    ∙ ap (accept_session (play_of n) (node_at n) (start_in n.table p) from sess) there
+    ∙ ap (accept_offered (play_here n) (node_at n) (start_in n.table p) from) least
+    ∙ ap (accept_session (play_here n) (node_at n) (start_in n.table p) from sess) there
     ∙ (λ i. Some (record {
       state = record (node_at n) {
         program = opened_of (program_at n.machine) e;
@@ -69,7 +69,7 @@ accepts_act n p from sess place main is steps least accepts spot =
       posts = [];
     }))
 
-not_held : (n : Node) (place : Place) (from sess : ℕ) (r : Option (MainAt Spot)) → held_of r ≡ None → accept_session (play_of n) (node_at n) place from sess (option_map (main_with (place_in n.table)) r) ≡ None
+not_held : (n : Node) (place : Place) (from sess : ℕ) (r : Option (MainAt Spot)) → held_of r ≡ None → accept_session (play_here n) (node_at n) place from sess (option_map (main_with (place_in n.table)) r) ≡ None
 not_held n place from sess None h = refl
 not_held n place from sess (Some (Held x)) h = cc
 not_held n place from sess (Some (Closed c)) h = refl
@@ -77,13 +77,13 @@ not_held n place from sess (Some (Expected k q d)) h = refl
 
 -- nothing is offered
 pub no_offer : (n : Node) (p from : ℕ) → wants_of n ≡ wants.Accept p from → steps_of n < 10000 → smallest (offers_of n from) ≡ None → act_of n ≡ None
-no_offer n p from is steps none = act_at n (wants.Accept p from) is steps ∙ ap (accept_offered (play_of n) (node_at n) (start_in n.table p) from) none
+no_offer n p from is steps none = act_at n (wants.Accept p from) is steps ∙ ap (accept_offered (play_here n) (node_at n) (start_in n.table p) from) none
 
 -- what is offered isn't held
 pub offer_lost : (n : Node) (p from sess : ℕ) → wants_of n ≡ wants.Accept p from → steps_of n < 10000 → smallest (offers_of n from) ≡ Some sess → held_of (main_of n (offered_end sess)) ≡ None → act_of n ≡ None
 offer_lost n p from sess is steps least lost =
     act_at n (wants.Accept p from) is steps
-    ∙ ap (accept_offered (play_of n) (node_at n) (start_in n.table p) from) least
+    ∙ ap (accept_offered (play_here n) (node_at n) (start_in n.table p) from) least
     ∙ not_held n (start_in n.table p) from sess (main_of n (offered_end sess)) lost
 
 -- what is noted

@@ -23,7 +23,7 @@ use Rattle.sj_rules.specs.Record.{MainAt, Held, Closed, Expected, HeldAt}
 use Rattle.sj_rules.specs.Rows.{Worked}
 use Rattle.sj_table.specs.Spots.{start_in}
 use Rattle.sj_node.specs.declared.node.Node.{Node}
-use Rattle.sj_node.specs.Node.{play_of, connect_count}
+use Rattle.sj_node.specs.Node.{play_here, connect_count}
 use Rattle.sj_node.specs.Play.{HeadsAre, asking, awaited_place, done_by, goes_on, names_known, play_with, want_with}
 
 same_awaited : (ps : List ProtocolAt) (a : Awaits) → awaited_place (body_named ps) a ≡ file.place_awaited ps a
@@ -75,7 +75,7 @@ plays_file ps connects parties = λ i. record {
 }
 
 -- a node with the same table, connections and parties plays alike
-pub same_play : (old new : Node) → new.table ≡ old.table → connect_count new ≡ connect_count old → new.parties ≡ old.parties → play_of new ≡ play_of old
+pub same_play : (old new : Node) → new.table ≡ old.table → connect_count new ≡ connect_count old → new.parties ≡ old.parties → play_here new ≡ play_here old
 same_play old new table connects parties = λ i. play_with (start_in (table i)) (connects i) (parties i)
 
 -- ---- a play that asks more

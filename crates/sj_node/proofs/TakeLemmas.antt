@@ -21,7 +21,7 @@ use Rattle.sj_rules.specs.Node.{is_free, take_act, take_from}
 use Rattle.sj_rules.proofs.NodeMapLemmas.{none-with}
 use Rattle.sj_node.specs.declared.node.Node.{Node}
 use Rattle.sj_node.specs.Fitting.{can_take}
-use Rattle.sj_node.specs.Node.{act_of, main_of, next_head, node_at, play_of, steps_of, takes_in, wants_of}
+use Rattle.sj_node.specs.Node.{act_of, main_of, next_head, node_at, play_here, steps_of, takes_in, wants_of}
 use Rattle.sj_node.specs.Play.{awaited_place, is_number, names_known}
 use Rattle.sj_node.specs.Taking.{held_head}
 use Rattle.sj_node.proofs.ActLemmas.{act_at}
@@ -44,17 +44,17 @@ nothing true g (Some x) h = cc
 nothing false g o h = refl
 
 not_let_from : (n : Node) (e : EndId) (place : Place) (m : Msg) (r : Option (MainAt Spot)) → held_head r ≡ Some m → can_take n.table m r ≡ false
-    → take_act (play_of n) (node_at n) e place (option_map (main_with (place_in n.table)) r) ≡ None
+    → take_act (play_here n) (node_at n) e place (option_map (main_with (place_in n.table)) r) ≡ None
 not_let_from n e place m None head h = cc
 not_let_from n e place m (Some (Closed c)) head h = cc
 not_let_from n e place m (Some (Expected keeper q deferred)) head h = cc
 not_let_from n e place m (Some (Held held)) head h = go held.untaken head
   where
-    go : (ms : List Msg) → slice_get ms 0 ≡ Some m → take_from (play_of n) (node_at n) e place (held_with (place_in n.table) held) ms ≡ None
+    go : (ms : List Msg) → slice_get ms 0 ≡ Some m → take_from (play_here n) (node_at n) e place (held_with (place_in n.table) held) ms ≡ None
     go [] head = cc
     go (x ∷ rest) head =
         let same : m ≡ x = cc in
-        nothing ((play_of n).fits (node_at n).program x && is_free (node_at n) x) _ (after_place (place_in n.table held.end.place) Into x)
+        nothing ((play_here n).fits (node_at n).program x && is_free (node_at n) x) _ (after_place (place_in n.table held.end.place) Into x)
         (subst (λ (t : Msg). is_some (after_place (place_in n.table held.end.place) Into t) ≡ false) same h)
 
 blocked : {X : Type 0} (fit free : Bool) (o : Option X) → free ≡ false → (if fit && free then o else None) ≡ None
@@ -63,17 +63,17 @@ blocked true false o h = refl
 blocked false free o h = refl
 
 not_free_from : (n : Node) (e : EndId) (place : Place) (m : Msg) (r : Option (MainAt Spot)) → held_head r ≡ Some m → is_free (node_at n) m ≡ false
-    → take_act (play_of n) (node_at n) e place (option_map (main_with (place_in n.table)) r) ≡ None
+    → take_act (play_here n) (node_at n) e place (option_map (main_with (place_in n.table)) r) ≡ None
 not_free_from n e place m None head h = cc
 not_free_from n e place m (Some (Closed c)) head h = cc
 not_free_from n e place m (Some (Expected keeper q deferred)) head h = cc
 not_free_from n e place m (Some (Held held)) head h = go held.untaken head
   where
-    go : (ms : List Msg) → slice_get ms 0 ≡ Some m → take_from (play_of n) (node_at n) e place (held_with (place_in n.table) held) ms ≡ None
+    go : (ms : List Msg) → slice_get ms 0 ≡ Some m → take_from (play_here n) (node_at n) e place (held_with (place_in n.table) held) ms ≡ None
     go [] head = cc
     go (x ∷ rest) head =
         let same : m ≡ x = cc in
-        blocked ((play_of n).fits (node_at n).program x) (is_free (node_at n) x) _ (subst (λ (t : Msg). is_free (node_at n) t ≡ false) same h)
+        blocked ((play_here n).fits (node_at n).program x) (is_free (node_at n) x) _ (subst (λ (t : Msg). is_free (node_at n) t ≡ false) same h)
 
 -- a message that names an end which is there isn't taken
 pub not_free : (n : Node) (e : EndId) (a : Awaits) (s d k : ℕ) → wants_of n ≡ wants.Take e a → steps_of n < 10000 → next_head n e ≡ Some (msgs.Sess s d k) → is_none (main_of n (record { sess = s; side = d })) ≡ false

@@ -16,14 +16,14 @@ use Rattle.sj_rules.specs.Rows.{Worked}
 use Rattle.sj_rules.specs.Mapped.{held_with, main_with}
 use Rattle.sj_rules.specs.Node.{NodeAt, act_by, is_free, take_act, take_from}
 use Rattle.sj_node.specs.declared.node.Node.{Node}
-use Rattle.sj_node.specs.Node.{act_of, has_room, is_below_count, main_of, node_at, play_of, steps_of, wants_of}
+use Rattle.sj_node.specs.Node.{act_of, has_room, is_below_count, main_of, node_at, play_here, steps_of, wants_of}
 use Rattle.sj_node.specs.Play.{awaited_place, names_known, want_with}
 use Rattle.sj_node.specs.Taking.{held_head}
 use Rattle.sj_node.specs.Unfit.{Misfit, full, misfit_at, misfit_by, misfit_of, misfit_on, taken, unknown, unwanted}
 
 -- what the rules make of a step
 abbrev pub step_of : Node → Want → Option (Worked Place (NodeAt Place Program))
-step_of n w = if has_room (node_at n).main w then act_by (play_of n) n.party (node_at n) (want_with (start_in n.table) w) else None
+step_of n w = if has_room (node_at n).main w then act_by (play_here n) n.party (node_at n) (want_with (start_in n.table) w) else None
 
 less : {X : Type 0} (a b : Bool) (o : Option X) → (if a then o else None) ≡ None → (if a then (if b then None else o) else None) ≡ None
 less true true o h = refl
@@ -48,13 +48,13 @@ not_taken true true false x o h = refl
 not_taken true false c x o h = refl
 not_taken false b c x o h = refl
 
-none_taken : (n : Node) (f : Spot → Place) (e : EndId) (place : Place) (r : Option (MainAt Spot)) (x : Misfit) → misfit_at n (held_head r) ≡ Some x → take_act (play_of n) (node_at n) e place (option_map (main_with f) r) ≡ None
+none_taken : (n : Node) (f : Spot → Place) (e : EndId) (place : Place) (r : Option (MainAt Spot)) (x : Misfit) → misfit_at n (held_head r) ≡ Some x → take_act (play_here n) (node_at n) e place (option_map (main_with f) r) ≡ None
 none_taken n f e place None x is = cc
 none_taken n f e place (Some (Closed c)) x is = cc
 none_taken n f e place (Some (Expected keeper q deferred)) x is = cc
 none_taken n f e place (Some (Held h)) x is = go h.untaken is
   where
-    go : (ms : List Msg) → misfit_at n (slice_get ms 0) ≡ Some x → take_from (play_of n) (node_at n) e place (held_with f h) ms ≡ None
+    go : (ms : List Msg) → misfit_at n (slice_get ms 0) ≡ Some x → take_from (play_here n) (node_at n) e place (held_with f h) ms ≡ None
     go [] is = cc
     go (m ∷ rest) is = not_taken (fits (program_at n.machine) m) (names_known n.connects n.parties m) (is_free (node_at n) m) x _ is
 
@@ -71,4 +71,4 @@ no_step n wants.Ended x is = cc
 -- where a cause applies there is no act
 pub no_act : (n : Node) (x : Misfit) → misfit_of n ≡ Some x → act_of n ≡ None
 no_act n x is =
-    less (has_room (node_at n).main (wants_of n)) (not (nat_lt (steps_of n) 10000)) (act_by (play_of n) n.party (node_at n) (want_with (start_in n.table) (wants_of n))) (no_step n (wants_of n) x is)
+    less (has_room (node_at n).main (wants_of n)) (not (nat_lt (steps_of n) 10000)) (act_by (play_here n) n.party (node_at n) (want_with (start_in n.table) (wants_of n))) (no_step n (wants_of n) x is)

@@ -9,7 +9,7 @@ use Rattle.sj_rules.specs.Record.{MainAt}
 use Rattle.sj_rules.specs.Start.{first_node, held_by}
 use Rattle.sj_node.specs.declared.node.Node.{Node}
 use Rattle.sj_node.specs.declared.slots.Main.{Main}
-use Rattle.sj_node.specs.Node.{clock_of, log_of, node_at, outbox_of, play_of, connect_count}
+use Rattle.sj_node.specs.Node.{clock_of, log_of, node_at, outbox_of, play_here, connect_count}
 use Rattle.sj_node.specs.Play.{play_with}
 use Rattle.sj_node.specs.Reading.{parties_of, party_of, table_of}
 use Rattle.sj_node.specs.Slots.{main_at}
@@ -35,4 +35,4 @@ pub record Begins (file : FileAt) (p time : ℕ) (n : Node) : Type 0 where
   pub parties : parties_of n ≡ length file.parties
   pub connects : connect_count n ≡ length file.connects
   pub starts : (q : ℕ) → start_in (table_of n) q ≡ body_named file.protocols q
-  pub play : play_of n ≡ play_with (body_named file.protocols) (length file.connects) (length file.parties)
+  pub play : play_here n ≡ play_with (body_named file.protocols) (length file.connects) (length file.parties)

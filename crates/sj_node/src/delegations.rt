@@ -10,9 +10,10 @@ ghost use Rattle.sj_rules.specs.Limits.{clock_end, limit_of_steps};
 ghost use Rattle.sj_semantics.specs.Fitting.{is_session};
 ghost use Rattle.sj_semantics.specs.declared.Want.TheVariants as wants;
 
-use crate::limits::MAX_HOPS;
+use crate::departures::{
+    hops_at, is_same_end, make_main_slot, make_slot, parked, put_old, take_out,
+};
 use crate::outs::{make_room, put_frame};
-use crate::departures::{hops_at, is_same_end, make_main_slot, make_slot, parked, put_old, take_out};
 use crate::sends::{peer_at, send_on};
 use crate::slots::Old;
 use crate::takes::{awaited_spot, expect, head_at, is_free, is_known, take_on};
@@ -20,6 +21,7 @@ use crate::{Halt, Node};
 use sj_base::{EndId, Msg};
 use sj_end::{Entry, Event, Frame, Note};
 use sj_handover::claim;
+use sj_machine::MAX_HOPS;
 use sj_semantics::Awaits;
 
 impl Node {

@@ -6,11 +6,11 @@ ghost use Rattle.sj_node.specs.Offers.{offers_in};
 ghost use Rattle.sj_node.specs.Slots.{mains_in};
 ghost use Rattle.sj_rules.specs.Halts.{is_delegated_enough, is_expected, lacks_message};
 
-use crate::limits::{MAX_HOPS, MAX_REQUESTS, MAX_STEPS};
 use crate::offers::is_offering;
 use crate::slots::{Main, slot_of};
 use crate::{Halt, Node};
 use sj_base::EndId;
+use sj_machine::{MAX_HOPS, MAX_REQUESTS, MAX_STEPS};
 use sj_semantics::Want;
 
 impl Node {

@@ -6,7 +6,7 @@ ghost use Rattle.sj_lang.specs.FileAt.{ProtocolAt, body_named};
 ghost use Rattle.sj_lang.specs.Place.{Place};
 ghost use Rattle.sj_end.specs.declared.note.Event.{Event};
 ghost use Rattle.sj_end.specs.declared.note.Note.{Note};
-ghost use Rattle.sj_node.specs.Node.{Did, act_of, play_of, stop_of, wants_of};
+ghost use Rattle.sj_node.specs.Node.{Did, act_of, play_here, stop_of, wants_of};
 ghost use Rattle.sj_node.specs.declared.node.Node.{Node};
 ghost use Rattle.sj_node.specs.Play.{HeadsAre, asking, names_known, play_with};
 ghost use Rattle.sj_node.specs.Unfit.{Agrees, Misfit, misfit_of};
@@ -40,7 +40,7 @@ pub fn known_heads_are_taken_by_the_file()
 pub fn nodes_keep_their_play()
     ensures { (old new : Node) (left : Worked Place (NodeAt Place Program)) (clock : ℕ) (event : Event)
         (note : Note) → Did old left clock event note new →
-        play_of new ≡ play_of old }
+        play_here new ≡ play_here old }
 {}
 
 /// Where one of the four causes applies, the rules have no act.

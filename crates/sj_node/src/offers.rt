@@ -5,16 +5,9 @@ ghost use Rattle.sj_node.specs.Play.{is_number};
 ghost use Rattle.sj_rules.specs.Halts.{is_empty};
 ghost use Rattle.sj_rules.specs.Opened as rules;
 
-use crate::limits::{FIRST_OPENED, MAX_REQUESTS};
 use sj_base::NoMemory;
+use sj_machine::{FIRST_OPENED, MAX_REQUESTS, opened_number};
 use std::alloc::Global;
-
-/// The number of the session that the party opens after so many others.
-pub(crate) fn opened_number(party: u16, after: u8) -> u32
-    ensures { result ≡ rules.opened_number party after }
-{
-    FIRST_OPENED + MAX_REQUESTS as u32 * party as u32 + after as u32
-}
 
 /// Whether the session is one of those that the party can open.
 pub(crate) fn is_opened_by(party: u16, sess: u32) -> bool

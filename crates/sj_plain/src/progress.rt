@@ -23,21 +23,9 @@ use crate::sessions::{accept, add, offer, requests_of, session_number};
 use crate::uses::{begin, delegate_on, hops, next_message, reach, send_on, take_end_on, take_on};
 use sj_base::{EndId, Msg, NoMemory};
 use sj_lang::{Proto, ProtocolDef, dual};
-use sj_machine::Machine;
+use sj_machine::{MAX_HOPS, MAX_REQUESTS, MAX_STEPS, Machine, opened_number};
 use sj_semantics::{Awaits, Limit, Opened, Passed, State, Want};
 use std::alloc::Global;
-
-/// The most steps that a party does.
-pub const MAX_STEPS: u32 = 10_000;
-
-/// The most times that an end is delegated.
-pub const MAX_HOPS: u8 = 100;
-
-/// The most sessions that a party opens.
-pub const MAX_REQUESTS: usize = 100;
-
-/// The number of the first session that can be opened.
-const FIRST_OPENED: u32 = 64;
 
 /// How a party stands that hasn't ended and isn't at the limit of steps.
 fn state_by(sessions: &[Session], opened: &[Opened], party: u16, want: Want) -> State
@@ -62,7 +50,7 @@ fn state_by(sessions: &[Session], opened: &[Opened], party: u16, want: Want) -> 
             }
         }
         Want::Request { .. } => {
-            if requests_of(opened, party) < MAX_REQUESTS {
+            if requests_of(opened, party) < MAX_REQUESTS as usize {
                 State::Ready
             } else {
                 State::AtLimit(Limit::Requests)
@@ -178,7 +166,7 @@ fn open_next(
     ensures opened { OnErr result (opened.new.items ≡ opened.old.items) }
 {
     let second = dual(alloc, &place)?;
-    let sess = number_of(party, requests_of(opened, party));
+    let sess = opened_number(party, requests_of(opened, party) as u8);
     let session = Opened {
         sess,
         from: party,
@@ -231,14 +219,6 @@ fn accept_next(
         machine.opened(EndId { sess, side: 1 });
     }
     Ok(())
-}
-
-/// The number of the session that the party opens after so many others.
-fn number_of(party: u16, count: usize) -> u32
-    requires { count < limit_of_requests }
-    ensures { result ≡ opened_number party count }
-{
-    FIRST_OPENED + MAX_REQUESTS as u32 * u32::from(party) + count as u32
 }
 
 /// Does the party's next step. Want of memory leaves the party, the sessions and those that were

@@ -41,17 +41,17 @@ use Rattle.sj_run.proofs.WorkedLemmas.{mapped_from}
 
 -- what isn't replayed is no link fault
 pub no_link_fault : (r : ReplayRefusal) → run_refusal r ≡ refusals.LinkFault → ⊥
-no_link_fault (replays.Misfit number logged other) is = cc is
+no_link_fault (replays.Misfit m) is = cc is
 no_link_fault replays.NoMemory is = cc is
 
 pub not_past_end : (file : FileAt) (core : WorldAt Place Program) (lines : List LineAt) (refused : Line) (r : RunRefusal) → IsPastEndOf file core lines refused r → r ≡ refusals.LinkFault → ⊥
-not_past_end file core lines refused (refusals.Damaged number logged other) past is = cc is
+not_past_end file core lines refused (refusals.Damaged m) past is = cc is
 not_past_end file core lines refused refusals.LinkFault past is = past
 not_past_end file core lines refused refusals.NoMemory past is = cc is
 
 -- lines of a history fit
 pub history_fits : (file : FileAt) (lines : List LineAt) (w : WorldAt Place Program) (r : ReplayRefusal) → IsHistory max file lines w → IsMisfitFrom file lines r → IsDamaged (run_refusal r) → ⊥
-history_fits file lines w (replays.Misfit number logged other) h m damaged = no_misfit (play_of file) max lines (core_start file) w number (line_at logged) (option_map line_at other) h m
+history_fits file lines w (replays.Misfit x) h m damaged = no_misfit (play_of file) max lines (core_start file) w x.number (line_at x.logged) (option_map line_at x.due) h m
 history_fits file lines w replays.NoMemory h m damaged = damaged
 
 -- ---- what is left
@@ -97,8 +97,8 @@ module _ {O I : Type 0} (pushed : O → Option (List (FrameAt Place))) (out_faul
       record {
         steps = work.steps;
         run =
-            subst (λ (n : NodeAt Place Program). NodeRun (Rattle.sj_node.specs.Node.play_of (node_of w)) max p n work.steps (node_at (node_of w))) h.first.node
-            (subst (λ (k : ℕ). NodeRun (Rattle.sj_node.specs.Node.play_of (node_of w)) max k (node_at (node_of h.old)) work.steps (node_at (node_of w))) h.first.party
+            subst (λ (n : NodeAt Place Program). NodeRun (Rattle.sj_node.specs.Node.play_here (node_of w)) max p n work.steps (node_at (node_of w))) h.first.node
+            (subst (λ (k : ℕ). NodeRun (Rattle.sj_node.specs.Node.play_here (node_of w)) max k (node_at (node_of h.old)) work.steps (node_at (node_of w))) h.first.party
             (subst (λ (play : Rattle.sj_rules.specs.Node.Play Place Program). NodeRun play max (Rattle.sj_node.specs.Reading.party_of (node_of h.old)) (node_at (node_of h.old)) work.steps (node_at (node_of w))) (sym t.went.play) work.run));
         log = work.log ∙ ap (λ (es : List Entry). entries_of es ++ map (λ (s : StepAt Place). s.entry) work.steps) h.first.log;
         play = t.went.play ∙ h.first.play;
@@ -133,17 +133,17 @@ module _ {O I : Type 0} (pushed : O → Option (List (FrameAt Place))) (out_faul
     -- lines that don't fit are damage
     pub misfit_damage : (r : ReplayRefusal) → IsMisfitFrom file lines r
         → IsDamagedOver pushed out_faults out_vain same_out popped in_faults in_vain same_in joined file looks tells (run_refusal r)
-    misfit_damage (replays.Misfit number logged other) m = damage_over number (line_at logged) (option_map line_at other) (inl m)
+    misfit_damage (replays.Misfit x) m = damage_over x.number (line_at x.logged) (option_map line_at x.due) (inl m)
     misfit_damage replays.NoMemory m = tt {0}
 
     -- what the lowest unfit party refused behind a history is damage
     pub refused_damage : (kept : FileAt) (w : WorldAt Place Program) (refused : Line) (r : RunRefusal) → kept ≡ without_words file → IsHistory max file lines w
         → IsLowestUnfit (map left_of workers) (line_at refused) → IsPastEndOf kept w lines refused r
         → IsDamagedOver pushed out_faults out_vain same_out popped in_faults in_vain same_in joined file looks tells r
-    refused_damage kept w refused (refusals.Damaged number logged other) same h lowest past =
+    refused_damage kept w refused (refusals.Damaged x) same h lowest past =
         let after = past.1 in
-        damage_over number (line_at logged) (option_map line_at other)
-        (subst (λ (l : Line). IsFirstMisfit max file lines number (line_at l) (option_map line_at other) ⊎ IsPastEnd file (map left_of workers) lines number (line_at l) (option_map line_at other)) (sym past.0)
+        damage_over x.number (line_at x.logged) (option_map line_at x.due)
+        (subst (λ (l : Line). IsFirstMisfit max file lines x.number (line_at l) (option_map line_at x.due) ⊎ IsPastEnd file (map left_of workers) lines x.number (line_at l) (option_map line_at x.due)) (sym past.0)
         (inr (record {
           core = w;
           run = h;

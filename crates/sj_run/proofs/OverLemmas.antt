@@ -12,6 +12,6 @@ use Rattle.sj_run.specs.Refusals.{IsDamagedOver}
 pub damaged_so : {O I : Type 0} (pushed : O → Option (List (FrameAt Place))) (out_faults out_vain : O → ℕ) (same_out : O → O → Type 0)
     (popped : I → Option (List (FrameAt Place))) (in_faults in_vain : I → ℕ) (same_in : I → I → Type 0) (joined : O → I → Type 0)
     (file : FileAt) (looks : ℕ) (tells : Bool) (r : RunRefusal) → IsDamagedOver pushed out_faults out_vain same_out popped in_faults in_vain same_in joined file looks tells r → IsDamagedSo file r
-damaged_so pushed out_faults out_vain same_out popped in_faults in_vain same_in joined file looks tells (refusals.Damaged number logged other) d = d.damage
+damaged_so pushed out_faults out_vain same_out popped in_faults in_vain same_in joined file looks tells (refusals.Damaged m) d = d.damage
 damaged_so pushed out_faults out_vain same_out popped in_faults in_vain same_in joined file looks tells refusals.LinkFault d = tt {0}
 damaged_so pushed out_faults out_vain same_out popped in_faults in_vain same_in joined file looks tells refusals.NoMemory d = tt {0}

@@ -41,9 +41,9 @@ left_of w = record { node = node_of w; stop = stop_of w; unfit = unfit_of w }
 -- of the rules takes what is left over
 pub record HasWent (file : FileAt) (p : ℕ) (left : LeftAt) : Type 0 where
   pub steps : List (StepAt Place)
-  pub run : NodeRun (nodes.play_of left.node) max p (first_node file p) steps (node_at left.node)
+  pub run : NodeRun (nodes.play_here left.node) max p (first_node file p) steps (node_at left.node)
   pub log : entries_of (log_of left.node) ≡ map (λ s. s.entry) steps
-  pub play : nodes.play_of left.node ≡ play_with (body_named file.protocols) (length file.connects) (length file.parties)
+  pub play : nodes.play_here left.node ≡ play_with (body_named file.protocols) (length file.connects) (length file.parties)
   pub party : party_of left.node ≡ p
   pub parties : parties_of left.node ≡ length file.parties
   pub refused : left.stop ≡ Some stops.Unfit → (lost : Option (LostAt Place)) × IsUnfit lost left.node left.unfit
@@ -93,12 +93,12 @@ pub record IsDamage (file : FileAt) (number : ℕ) (logged : LineAt) (other : Op
 
 -- what is damaged
 abbrev pub IsDamagedSo : FileAt → RunRefusal → Type 0
-IsDamagedSo file (refusals.Damaged number logged other) = IsDamage file number (line_at logged) (option_map line_at other)
+IsDamagedSo file (refusals.Damaged m) = IsDamage file m.number (line_at m.logged) (option_map line_at m.due)
 IsDamagedSo file refusals.LinkFault = Unit {0}
 IsDamagedSo file refusals.NoMemory = Unit {0}
 
 -- the refusal is damage
 abbrev pub IsDamaged : RunRefusal → Type 0
-IsDamaged (refusals.Damaged number logged other) = Unit {0}
+IsDamaged (refusals.Damaged m) = Unit {0}
 IsDamaged refusals.LinkFault = ⊥
 IsDamaged refusals.NoMemory = ⊥

@@ -18,13 +18,13 @@ use Rattle.sj_run.specs.declared.refusal.RunRefusal.TheVariants as refusals
 
 -- why lines weren't replayed, as a refusal of the run
 abbrev pub run_refusal : ReplayRefusal → RunRefusal
-run_refusal (replays.Misfit number logged other) = refusals.Damaged number logged other
+run_refusal (replays.Misfit m) = refusals.Damaged m
 run_refusal replays.NoMemory = refusals.NoMemory
 
 -- that line was refused behind the lines of a history that leads to that world
 abbrev pub IsPastEndOf : FileAt → WorldAt Place Program → List LineAt → Line → RunRefusal → Type 0
-IsPastEndOf file core lines refused (refusals.Damaged number logged other) =
-    (logged ≡ refused) × IsRefusedAfter file core lines number (line_at refused) (option_map line_at other)
+IsPastEndOf file core lines refused (refusals.Damaged m) =
+    (m.logged ≡ refused) × IsRefusedAfter file core lines m.number (line_at refused) (option_map line_at m.due)
 IsPastEndOf file core lines refused refusals.LinkFault = ⊥
 IsPastEndOf file core lines refused refusals.NoMemory = Unit {0}
 
@@ -40,6 +40,6 @@ module _ {O I : Type 0} (pushed : O → Option (List (FrameAt Place))) (out_faul
 
   -- what is damaged so
   abbrev pub IsDamagedOver : RunRefusal → Type 0
-  IsDamagedOver (refusals.Damaged number logged other) = IsDamageOver number (line_at logged) (option_map line_at other)
+  IsDamagedOver (refusals.Damaged m) = IsDamageOver m.number (line_at m.logged) (option_map line_at m.due)
   IsDamagedOver refusals.LinkFault = Unit {0}
   IsDamagedOver refusals.NoMemory = Unit {0}

@@ -5,7 +5,7 @@ use Rattle.sj_lang.specs.FileAt.{FileAt, body_named}
 use Rattle.std.specs.Borrow.{Bor}
 use Rattle.sj_end.specs.declared.note.Entry.{Entry}
 use Rattle.sj_node.specs.declared.node.Node.{Node}
-use Rattle.sj_node.specs.Node.{log_of, node_at, outbox_of, play_of}
+use Rattle.sj_node.specs.Node.{log_of, node_at, outbox_of, play_here}
 use Rattle.sj_node.specs.Play.{play_with}
 use Rattle.sj_node.specs.Reading.{parties_of, party_of}
 use Rattle.sj_rules.specs.Frames.{FrameAt}
@@ -30,7 +30,7 @@ pub record AreHired {O I : Type 0} (nodes : List Node) (lanes : List (Lanes O I)
 pub record IsFirst {O I : Type 0} (file : FileAt) (p : ℕ) (w : Worker O I) : Type 0 where
   pub party : party_of (node_of w) ≡ p
   pub parties : parties_of (node_of w) ≡ length file.parties
-  pub play : play_of (node_of w) ≡ play_with (body_named file.protocols) (length file.connects) (length file.parties)
+  pub play : play_here (node_of w) ≡ play_with (body_named file.protocols) (length file.connects) (length file.parties)
   pub node : node_at (node_of w) ≡ first_node file p
   pub log : log_of (node_of w) ≡ []
   pub boxes : (q : ℕ) → outbox_of (node_of w) q ≡ []

@@ -3,7 +3,7 @@ ghost use Rattle.std.specs.Prelude.{◌≡◌};
 
 use sj_base::NoMemory;
 use sj_core::ReplayRefusal;
-use sj_end::Line;
+use sj_end::Misfit;
 use thiserror::Error;
 
 /// Why a file isn't run by its parties, in the order of refusals.
@@ -12,13 +12,9 @@ pub enum RunRefusal {
     /// The links, or a lane of theirs, met a fault.
     #[error("link fault")]
     LinkFault,
-    /// The entry of that number in the joined logs, counted from 1, isn't the one that is due there.
-    #[error("damaged entry {number}")]
-    Damaged {
-        number: u64,
-        logged: Line,
-        due: Option<Line>,
-    },
+    /// The entry of the joined logs isn't the one that is due there.
+    #[error("damaged entry {}", .0.number)]
+    Damaged(Misfit),
     #[error("no memory")]
     NoMemory,
 }
@@ -40,15 +36,7 @@ impl From<ReplayRefusal> for RunRefusal {
 
     fn from(refusal: ReplayRefusal) -> Self {
         match refusal {
-            ReplayRefusal::Misfit {
-                number,
-                logged,
-                due,
-            } => RunRefusal::Damaged {
-                number,
-                logged,
-                due,
-            },
+            ReplayRefusal::Misfit(misfit) => RunRefusal::Damaged(misfit),
             ReplayRefusal::NoMemory => RunRefusal::NoMemory,
         }
     }

@@ -11,13 +11,13 @@ ghost use Rattle.sj_run.specs.Refusals.{IsDamagedOver, IsPastEndOf};
 ghost use Rattle.sj_run.specs.Shown.{IsShown, keeps_of};
 
 use crate::RunRefusal;
-use crate::teams::set_to_work;
 use crate::remains::{give_up, join};
 use crate::stops::{any_faulty, any_short, first_unfit};
+use crate::teams::set_to_work;
 use sj_base::NoMemory;
 use sj_check::Accepted;
 use sj_core::{World, is_the_line};
-use sj_end::Line;
+use sj_end::{Line, Misfit};
 use sj_lane::Links;
 use sj_work::Gate;
 use std::alloc::Global;
@@ -32,11 +32,11 @@ fn past_end(world: &World, refused: Line) -> RunRefusal
         // What fits a node fits that of the core world, which did the same events.
         return RunRefusal::NoMemory;
     }
-    RunRefusal::Damaged {
+    RunRefusal::Damaged(Misfit {
         number: world.history().len() as u64 + 1,
         logged: refused,
         due,
-    }
+    })
 }
 
 /// Runs a file by its parties, over lanes that the links make: each on a thread of its own where one can

@@ -16,14 +16,12 @@ use crate::places::{items, place};
 use crate::refusals::NO_FORM;
 use sj_base::{EndId, Msg, NoMemory};
 use sj_lang::{File, Item, Proto};
+use sj_machine::MAX_HOPS;
 use sj_plain::{Course, hops, next_message};
 use sj_semantics::Verdict;
 
 /// The most lines that are accepted.
 pub const MAX_LINES: u32 = 10_000;
-
-/// The most times that an end is delegated.
-const MAX_HOPS: u8 = 100;
 
 /// The file with the texts that lines added, the played party, the course of all parties, in which
 /// that one has nothing to do, the ends that it holds, and how many lines were accepted.

@@ -8,7 +8,7 @@ use Rattle.sj_command.specs.declared.tasks.Task.TheVariants as tasks
 use Rattle.sj_command.specs.Task.{Asks, most_messages}
 use Rattle.sj_command.proofs.OneTask.{one_task}
 use Rattle.sj_tool.specs.AnswerAt.{AnswerAt}
-use Rattle.sj_tool.specs.Answers.{AnswersBytes, AnswersInput, Came, Comes, OrYields}
+use Rattle.sj_tool.specs.Answers.{AnswersBytes, AnswersInput, Came, IsInTable, OrYields}
 use Rattle.sj_tool.specs.Calls.{CallAt, LinkUseAt, LinksHold}
 use Rattle.sj_tool.specs.Completeness.{Completes, CompletesSo, IsValid, IsValidFile}
 use Rattle.sj_tool.specs.LogAt.{LogAt, no_log}
@@ -115,7 +115,7 @@ module _ (c : CallAt) (file : FileAt) (log : LogAt) where
 
 -- the answer that is written completes the task
 pub answered_whole : (said : List (List ℕ)) (left after : Option (List ℕ)) (f g : ℕ) (links : LinkUseAt) (a : AnswerAt) (status : ℕ) (before now : Option (List ℕ))
-    → Comes (call_at said left after f g links) a → status ≡ status_of a → now ≡ put_behind before (text_of a)
+    → IsInTable (call_at said left after f g links) a → status ≡ status_of a → now ≡ put_behind before (text_of a)
     → (task : Task) (file : FileAt) (log : LogAt) → IsValid (call_at said left after f g links) task file log → OrYields status (CompletesSo task file log status before now)
 answered_whole said left after f g links a status before now comes e d task file log valid =
     let c = call_at said left after f g links in

@@ -3,7 +3,7 @@ use Rattle.std.proofs.Common.{◌≡◌, ℕ, List, Option, Some, None, IfSome, 
 use Rattle.sj_base.specs.Stream.{put_behind}
 use Rattle.sj_tool.specs.AnswerAt.{AnswerAt}
 use Rattle.sj_tool.specs.Texts.{status_of, text_of}
-use Rattle.sj_tool.specs.Answers.{Comes, OrYields}
+use Rattle.sj_tool.specs.Answers.{IsInTable, OrYields}
 use Rattle.sj_tool.specs.Calls.{CallAt, LinkUseAt}
 use Rattle.sj_tool.specs.Table.{AnswersAs, NoFaultAbove}
 use Rattle.sj_tool.proofs.RowLemmas.{one_comes}
@@ -12,8 +12,8 @@ abbrev pub call_at : List (List ℕ) → Option (List ℕ) → Option (List ℕ)
 call_at words left after f g links = record { words = words; left = left; left_after = after; faults = f; faults_after = g; links = links }
 
 pub answered_exactly : (words : List (List ℕ)) (left after : Option (List ℕ)) (f g : ℕ) (links : LinkUseAt) (a : AnswerAt) (status : ℕ) (before now : Option (List ℕ))
-    → Comes (call_at words left after f g links) a → status ≡ status_of a → now ≡ put_behind before (text_of a)
-    → IfSome left (λ _. (b : AnswerAt) → Comes (call_at words left after f g links) b → NoFaultAbove (call_at words left after f g links) b
+    → IsInTable (call_at words left after f g links) a → status ≡ status_of a → now ≡ put_behind before (text_of a)
+    → IfSome left (λ _. (b : AnswerAt) → IsInTable (call_at words left after f g links) b → NoFaultAbove (call_at words left after f g links) b
     → OrYields status (AnswersAs (call_at words left after f g links) status before now b))
 answered_exactly words None after f g links a status before now comes e d = tt {0}
 answered_exactly words (Some left) after f g links a status before now comes e d =

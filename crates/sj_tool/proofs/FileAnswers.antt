@@ -19,7 +19,7 @@ use Rattle.sj_tool.specs.declared.answers.Answer.{Answer}
 use Rattle.sj_tool.specs.AnswerAt.{AnswerAt, answer_at, Usage, ReadFault, TooLarge, Syntax, LogFault, Misfit, Damaged, Made, NoTalk, LinkFault}
 use Rattle.sj_tool.specs.declared.replays.ReplayFault.{ReplayFault}
 use Rattle.sj_tool.specs.declared.replays.ReplayFault.TheVariants as faults
-use Rattle.sj_tool.specs.Answers.{AnswersBytes, AnswersFile, AnswersInput, AnswersText, Comes}
+use Rattle.sj_tool.specs.Answers.{AnswersBytes, AnswersFile, AnswersInput, AnswersText, IsInTable}
 use Rattle.sj_tool.specs.Calls.{CallAt, LinkUseAt}
 use Rattle.sj_tool.specs.Entries.{IsDamagedBy, IsToldMisfit, IsToldSo}
 use Rattle.sj_tool.specs.Tasks.{HasInput, HasParts, IsRead, Replays as IsReplay, RunsParties}
@@ -65,7 +65,7 @@ answers_bytes links task bytes text log a parts x = record { text = text; log = 
 -- ---- and from there to the call
 
 -- what answers an input comes
-pub input_comes : (c : CallAt) (a : AnswerAt) → AnswersInput c a → Comes c a
+pub input_comes : (c : CallAt) (a : AnswerAt) → AnswersInput c a → IsInTable c a
 input_comes c Usage x = absurd x.answers.answers.answers
 input_comes c ReadFault x = absurd x.answers.answers.answers
 input_comes c TooLarge x = inr x
@@ -73,7 +73,7 @@ input_comes c (Made t) x = absurd x.answers.answers.answers
 input_comes c a x = x
 
 pub bytes_come : {E : Type 0} (c : CallAt) (task : Task) (bytes : List ℕ) (r : Result Answer E) → Asks c.words task → HasInput c task bytes → IfOk r (λ a. AnswersBytes c.links task bytes (answer_at a))
-    → IfOk r (λ a. Comes c (answer_at a))
+    → IfOk r (λ a. IsInTable c (answer_at a))
 bytes_come c task bytes (Ok a) asks input x = input_comes c (answer_at a) (record { task = task; asks = asks; bytes = bytes; input = input; answers = x })
 bytes_come c task bytes (Err e) asks input x = tt
 
@@ -101,8 +101,8 @@ pub told_answers : (links : LinkUseAt) (task : Task) (runs : RunsParties task) (
     → IsDamagedSo file r → (IsDamaged r → links.tells ≡ true → ⊥) → IsToldSo file r a → AnswersFile links task log file a
 told_answers links task runs log file refusals.LinkFault a ok rose damage blind told =
     subst (λ (b : AnswerAt). AnswersFile links task log file b) (sym told) (ok, runs, rose (λ i. refusals.LinkFault))
-told_answers links task runs log file (refusals.Damaged number logged other) a ok rose damage blind told =
-    damaged_answers links task runs log file number (line_at logged) (option_map line_at other) a ok (blind (tt {0})) damage told
+told_answers links task runs log file (refusals.Damaged m) a ok rose damage blind told =
+    damaged_answers links task runs log file m.number (line_at m.logged) (option_map line_at m.due) a ok (blind (tt {0})) damage told
 told_answers links task runs log file refusals.NoMemory a ok rose damage blind told = absurd told
 
 -- a fault of a replay, told by the answer
@@ -110,7 +110,7 @@ pub fault_answers : (links : LinkUseAt) (task : Task) (replays : IsReplay task) 
     → AnswersFile links task log file a
 fault_answers links task replays log file (faults.Text rule line) a ok fault told =
     subst (λ (z : AnswerAt). AnswersFile links task log file z) (sym told) (ok, replays, fault)
-fault_answers links task replays log file (faults.Entry number logged other) a ok refused told =
+fault_answers links task replays log file (faults.Entry m) a ok refused told =
     let (lines, spells, misfit) = refused in
-    misfit_answers links task replays log file lines number (line_at logged) (option_map line_at other) a ok spells misfit told
+    misfit_answers links task replays log file lines m.number (line_at m.logged) (option_map line_at m.due) a ok spells misfit told
 fault_answers links task replays log file faults.NoMemory a ok refused told = absurd told

@@ -8,7 +8,7 @@ use Rattle.sj_command.specs.declared.tasks.Task.{Task}
 use Rattle.sj_command.specs.declared.tasks.Task.TheVariants as tasks
 use Rattle.sj_command.proofs.OneTask.{one_task}
 use Rattle.sj_tool.specs.AnswerAt.{AnswerAt, Ran}
-use Rattle.sj_tool.specs.Answers.{AnswersInput, Comes}
+use Rattle.sj_tool.specs.Answers.{AnswersInput, IsInTable}
 use Rattle.sj_tool.specs.Calls.{CallAt, LinkUseAt}
 use Rattle.sj_tool.specs.Forwards.{HasForwarded}
 use Rattle.sj_tool.specs.Headline.{IsForwarding, IsPlaying, IsVerdict, WritesForwarded}
@@ -53,14 +53,14 @@ module _ (c : CallAt) (status : ℕ) (before after : Option (List ℕ)) (verdict
         written = d;
       }
 
-  answer_forwarded : (a : AnswerAt) → Comes c a → status ≡ status_of a → after ≡ put_behind before (text_of a) → WritesForwarded c status before after
+  answer_forwarded : (a : AnswerAt) → IsInTable c a → status ≡ status_of a → after ≡ put_behind before (text_of a) → WritesForwarded c status before after
   answer_forwarded a comes e d =
       let p = came_of_play c status verdict (record { task = asked.task; asks = asked.asks; kind = forwarding_plays asked.task asked.kind }) a comes e in
       ran_by_forwarding p.verdict p.text p.answers (e ∙ ap status_of p.is) (d ∙ ap (λ b. put_behind before (text_of b)) p.is)
 
 -- the answer that is written is that
 pub answered_forwarded : (words : List (List ℕ)) (left after : Option (List ℕ)) (f g : ℕ) (links : LinkUseAt) (a : AnswerAt) (status : ℕ) (before now : Option (List ℕ))
-    → Comes (call_at words left after f g links) a → status ≡ status_of a → now ≡ put_behind before (text_of a)
+    → IsInTable (call_at words left after f g links) a → status ≡ status_of a → now ≡ put_behind before (text_of a)
     → IsVerdict status → AsksFor IsForwarding (call_at words left after f g links) → WritesForwarded (call_at words left after f g links) status before now
 answered_forwarded words left after f g links a status before now comes e d verdict asked = answer_forwarded (call_at words left after f g links) status before now verdict asked a comes e d
 

@@ -13,7 +13,7 @@ use Rattle.sj_headline_laws.proofs.HeadlineLemmas.{settled_run_has_it}
 use Rattle.sj_forest_laws.proofs.BlockedLemmas.{never_blocked}
 use Rattle.sj_command.proofs.OneTask.{one_task}
 use Rattle.sj_tool.specs.AnswerAt.{AnswerAt, Ran}
-use Rattle.sj_tool.specs.Answers.{AnswersInput, Comes}
+use Rattle.sj_tool.specs.Answers.{AnswersInput, IsInTable}
 use Rattle.sj_tool.specs.Calls.{CallAt, LinkUseAt}
 use Rattle.sj_tool.specs.Headline.{HasHeadline, IsPlaying, IsVerdict, ReadsNoForest}
 use Rattle.sj_tool.specs.Tasks.{AsksFor}
@@ -54,14 +54,14 @@ module _ (c : CallAt) (status : ℕ) (before after : Option (List ℕ)) (verdict
         bare = λ no. p.bare (λ more. no (record { task = x.task; asks = x.asks; kind = more }));
       }
 
-  answer_has_it : (a : AnswerAt) → Comes c a → status ≡ status_of a → after ≡ put_behind before (text_of a) → HasHeadline c status before after
+  answer_has_it : (a : AnswerAt) → IsInTable c a → status ≡ status_of a → after ≡ put_behind before (text_of a) → HasHeadline c status before after
   answer_has_it a comes e d =
       let p = came_of_play c status verdict plays a comes e in
       ran_has_it p.verdict p.text p.answers (e ∙ ap status_of p.is) (d ∙ ap (λ b. put_behind before (text_of b)) p.is)
 
 -- the answer that is written has it
 pub answered_headline : (words : List (List ℕ)) (left after : Option (List ℕ)) (f g : ℕ) (links : LinkUseAt) (a : AnswerAt) (status : ℕ) (before now : Option (List ℕ))
-    → Comes (call_at words left after f g links) a → status ≡ status_of a → now ≡ put_behind before (text_of a)
+    → IsInTable (call_at words left after f g links) a → status ≡ status_of a → now ≡ put_behind before (text_of a)
     → IsVerdict status → AsksFor IsPlaying (call_at words left after f g links) → HasHeadline (call_at words left after f g links) status before now
 answered_headline words left after f g links a status before now comes e d verdict plays = answer_has_it (call_at words left after f g links) status before now verdict plays a comes e d
 
@@ -87,7 +87,7 @@ blocked_by c status before after six h = record {
 }
 
 pub answered_forest : (words : List (List ℕ)) (left after : Option (List ℕ)) (f g : ℕ) (links : LinkUseAt) (a : AnswerAt) (status : ℕ) (before now : Option (List ℕ))
-    → Comes (call_at words left after f g links) a → status ≡ status_of a → now ≡ put_behind before (text_of a)
+    → IsInTable (call_at words left after f g links) a → status ≡ status_of a → now ≡ put_behind before (text_of a)
     → status ≡ verdict_status Blocked → AsksFor IsPlaying (call_at words left after f g links) → ReadsNoForest (call_at words left after f g links)
 answered_forest words left after f g links a status before now comes e d six plays =
     let c = call_at words left after f g links in

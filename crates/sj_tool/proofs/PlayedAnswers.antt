@@ -14,7 +14,7 @@ use Rattle.sj_command.proofs.OneTask.{one_task}
 use Rattle.sj_tool.specs.Forwards.{passed_line}
 use Rattle.sj_tool.specs.LogAt.{LogAt}
 use Rattle.sj_tool.specs.AnswerAt.{AnswerAt, Usage, ReadFault, TooLarge, NoTalk, Syntax, Check, NoParty, LogFault, Misfit, LinkFault, Damaged, Ran, Printed, Made}
-use Rattle.sj_tool.specs.Answers.{AnswersInput, Comes, Makes}
+use Rattle.sj_tool.specs.Answers.{AnswersInput, IsInTable, Makes}
 use Rattle.sj_tool.specs.Calls.{CallAt, LinkUseAt}
 use Rattle.sj_tool.specs.Headline.{IsPlaying, IsVerdict, PrintsMore}
 use Rattle.sj_tool.specs.Tasks.{AsksFor}
@@ -76,7 +76,7 @@ pub record CameOfPlay (c : CallAt) (a : AnswerAt) : Type 0 where
   pub answers : AnswersInput c (Ran verdict text)
 
 module _ (c : CallAt) (status : ℕ) (verdict : IsVerdict status) (plays : AsksFor IsPlaying c) where
-  pub came_of_play : (a : AnswerAt) → Comes c a → status ≡ status_of a → CameOfPlay c a
+  pub came_of_play : (a : AnswerAt) → IsInTable c a → status ≡ status_of a → CameOfPlay c a
   came_of_play Usage x e = absurd (x.0 plays.task plays.asks)
   came_of_play ReadFault x e = absurd (no_refusal verdict.0 status (omega (arith, e)) (omega (arith, e)) verdict.1)
   came_of_play TooLarge x e = absurd (no_refusal verdict.0 status (omega (arith, e)) (omega (arith, e)) verdict.1)

@@ -19,7 +19,7 @@ use Rattle.sj_tool.specs.Replays.{IsRefusedBy, replay_fault}
 
 -- lines that don't lead on refuse the log that spells them
 pub misfit_refused : (file : FileAt) (log : LogAt) (lines : List LineAt) (r : ReplayRefusal) → Spells file log lines → IsMisfitFrom file lines r → IsRefusedBy file log (replay_fault r)
-misfit_refused file log lines (replays.Misfit number logged other) spells misfit = (lines, spells, misfit)
+misfit_refused file log lines (replays.Misfit m) spells misfit = (lines, spells, misfit)
 misfit_refused file log lines replays.NoMemory spells misfit = tt
 
 -- links that nothing is carried over

@@ -8,7 +8,7 @@ use Rattle.sj_command.proofs.OneTask.{one_task}
 use Rattle.sj_tool.specs.AnswerAt.{AnswerAt, Usage, ReadFault, TooLarge, LinkFault, Damaged, Ran, Made}
 use Rattle.sj_tool.proofs.InputLemmas.{long_tail}
 use Rattle.sj_tool.specs.Texts.{status_of, text_of}
-use Rattle.sj_tool.specs.Answers.{AnswersInput, Came, Comes, Makes}
+use Rattle.sj_tool.specs.Answers.{AnswersInput, Came, IsInTable, Makes}
 use Rattle.sj_tool.specs.Calls.{CallAt}
 use Rattle.sj_tool.specs.Tasks.{Reads, Takes}
 use Rattle.sj_tool.specs.Table.{NoFaultAbove}
@@ -21,7 +21,7 @@ pub data Row (c : CallAt) (a : AnswerAt) : Type 0 where
   made : (text : List ℕ) → status_of a ≡ 0 → text_of a ≡ text → Makes c text → Row c a
   input : AnswersInput c a → Row c a
 
-pub row_of : (c : CallAt) (a : AnswerAt) → Comes c a → Row c a
+pub row_of : (c : CallAt) (a : AnswerAt) → IsInTable c a → Row c a
 row_of c Usage h = words refl h.0
 row_of c ReadFault h = fault refl h.0 h.1
 row_of c TooLarge h = elim h [ inl l ↦ large refl l.0 l.1 | inr x ↦ input x ]

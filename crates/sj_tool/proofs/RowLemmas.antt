@@ -8,7 +8,7 @@ use Rattle.sj_command.proofs.OneTask.{one_task}
 use Rattle.sj_generator.specs.Generated.{generated}
 use Rattle.sj_tool.specs.AnswerAt.{AnswerAt, LinkFault, Damaged, Ran}
 use Rattle.sj_tool.specs.Texts.{status_of, text_of}
-use Rattle.sj_tool.specs.Answers.{AnswersBytes, AnswersInput, Came, Comes, Makes}
+use Rattle.sj_tool.specs.Answers.{AnswersBytes, AnswersInput, Came, IsInTable, Makes}
 use Rattle.sj_tool.specs.Calls.{CallAt}
 use Rattle.sj_tool.specs.Tasks.{HasInput, Reads, limit_of}
 use Rattle.sj_tool.specs.Table.{AreOne, NoFaultAbove}
@@ -97,5 +97,5 @@ module _ (c : CallAt) (left : List ℕ) (tells : c.left ≡ Some left) where
   one_row a b (input x) (input y) above = one_of_input c left tells a b x y above
 
   -- the answer that comes is each one that the table gives
-  pub one_comes : (a b : AnswerAt) → Comes c a → Comes c b → NoFaultAbove c b → AreOne c a b
+  pub one_comes : (a b : AnswerAt) → IsInTable c a → IsInTable c b → NoFaultAbove c b → AreOne c a b
   one_comes a b x y above = one_row a b (row_of c a x) (row_of c b y) above

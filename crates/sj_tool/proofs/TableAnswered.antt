@@ -15,7 +15,7 @@ use Rattle.sj_command.specs.Task.{Asks}
 use Rattle.sj_command.proofs.OneTask.{one_task}
 use Rattle.sj_tool.specs.LogAt.{LogAt, no_log, log_at}
 use Rattle.sj_tool.specs.AnswerAt.{AnswerAt, Usage, ReadFault, TooLarge, Syntax, LogFault, Made, NoTalk}
-use Rattle.sj_tool.specs.Answers.{AnswersBytes, AnswersText, Comes}
+use Rattle.sj_tool.specs.Answers.{AnswersBytes, AnswersText, IsInTable}
 use Rattle.sj_tool.specs.Calls.{CallAt, LinkUseAt, LinksHold}
 use Rattle.sj_tool.specs.Runs.{HasBegun}
 use Rattle.sj_tool.specs.Table.{IsReadAsAsked, ShowsItsRun, WasRead}
@@ -73,7 +73,7 @@ module _ (links : LinkUseAt) where
   bytes_answered task bytes takes shows = parts_answered task bytes no_log bytes takes (refl, refl) shows
 
 module _ (c : CallAt) (same : c.faults_after ≡ c.faults) (was : IsReadAsAsked c) (shows : ShowsItsRun c) where
-  input_answered : (task : Task) → Asks c.words task → Takes task → (bytes : List ℕ) → HasInput c task bytes → (a : AnswerAt) × Comes c a
+  input_answered : (task : Task) → Asks c.words task → Takes task → (bytes : List ℕ) → HasInput c task bytes → (a : AnswerAt) × IsInTable c a
   input_answered task asks takes bytes input =
       let (a, answers) = bytes_answered c.links task bytes takes (λ file stands runs accepted hold. shows task bytes file asks runs input stands accepted hold) in
       (a, input_comes c a (record { task = task; asks = asks; bytes = bytes; input = input; answers = answers }))
@@ -82,18 +82,18 @@ module _ (c : CallAt) (same : c.faults_after ≡ c.faults) (was : IsReadAsAsked 
   unread task asks none = (was.unread (λ x. none (subst (λ (t : Task). Reads t) (one_task c.words x.task task x.asks asks) x.kind)), same)
 
   -- a task that reads has read all, or too much
-  read_answered : (task : Task) → Asks c.words task → Reads task → ((bytes : List ℕ) → IsRead c task bytes → HasInput c task bytes) → WasRead task c → (a : AnswerAt) × Comes c a
+  read_answered : (task : Task) → Asks c.words task → Reads task → ((bytes : List ℕ) → IsRead c task bytes → HasInput c task bytes) → WasRead task c → (a : AnswerAt) × IsInTable c a
   read_answered task asks reads input (inl many) = (TooLarge, inl (record { task = task; asks = asks; kind = (reads, many) }, same))
   read_answered task asks reads input (inr ((bytes, few, came), none)) =
       input_answered task asks (reads_takes task reads) bytes
       (input bytes (record { few = few; came = came; all = subst (λ (o : Option (List ℕ)). IfSome o (λ rest. rest ≡ [])) (sym none) refl; no_fault = same }))
 
-  asked_answered : (task : Task) → Asks c.words task → (a : AnswerAt) × Comes c a
+  asked_answered : (task : Task) → Asks c.words task → (a : AnswerAt) × IsInTable c a
   asked_answered (tasks.Make n) asks = (Made (generated n), record { count = n; asks = asks; text = refl; unread = unread (tasks.Make n) asks (λ no. no) })
   asked_answered (tasks.Big n) asks = input_answered (tasks.Big n) asks tt (generated n) (unread (tasks.Big n) asks (λ no. no), refl)
   asked_answered task asks = read_answered task asks tt (λ bytes x. x) (was.read task asks tt)
 
-  pub has_answer : (a : AnswerAt) × Comes c a
+  pub has_answer : (a : AnswerAt) × IsInTable c a
   has_answer =
       elim (asks_or_usage c.words) [
         | inl found ↦ let (task, asks) = found in asked_answered task asks

@@ -2,7 +2,7 @@
 use Rattle.std.proofs.Common.{◌≡◌, ◌≢◌, ◌⊎◌, ◌∙◌, ◌-◌, ◌^◌, ℕ, List, Some, inl, inr, refl, sym, arith}
 use Rattle.sj_base.specs.Stream.{Rose}
 use Rattle.sj_tool.specs.AnswerAt.{AnswerAt, Usage, ReadFault, TooLarge, LinkFault, Damaged, Ran, Made}
-use Rattle.sj_tool.specs.Answers.{Comes}
+use Rattle.sj_tool.specs.Answers.{IsInTable}
 use Rattle.sj_tool.specs.Calls.{CallAt}
 use Rattle.sj_tool.specs.Table.{AreOne, CanRise, NoFaultAbove, RunsWell}
 use Rattle.sj_tool.proofs.InputLemmas.{no_fault_of}
@@ -14,7 +14,7 @@ stays before now same more (inl rose) = omega (arith, same, rose)
 stays before now same more (inr last) = more (sym same ∙ last)
 
 -- no fault stands above the answer, or it is a read fault
-above_or_fault : (c : CallAt) (a : AnswerAt) → CanRise c → RunsWell c → Comes c a → NoFaultAbove c a ⊎ (a ≡ ReadFault)
+above_or_fault : (c : CallAt) (a : AnswerAt) → CanRise c → RunsWell c → IsInTable c a → NoFaultAbove c a ⊎ (a ≡ ReadFault)
 above_or_fault c Usage more well h = inl tt
 above_or_fault c ReadFault more well h = inr refl
 above_or_fault c TooLarge more well h =
@@ -30,7 +30,7 @@ above_or_fault c (Ran v t) more well h = inl (stays c.faults c.faults_after (no_
 above_or_fault c (Made t) more well h = inl tt
 above_or_fault c a more well h = inl (stays c.faults c.faults_after (no_fault_of c h.task h.bytes h.input) more)
 
-pub one_answer : (c : CallAt) (left : List ℕ) (a b : AnswerAt) → c.left ≡ Some left → CanRise c → RunsWell c → Comes c a → Comes c b → AreOne c a b
+pub one_answer : (c : CallAt) (left : List ℕ) (a b : AnswerAt) → c.left ≡ Some left → CanRise c → RunsWell c → IsInTable c a → IsInTable c b → AreOne c a b
 one_answer c left a b tells more well x y = by (above_or_fault c a more well x) (above_or_fault c b more well y)
   where
     swapped : AreOne c b a → AreOne c a b

@@ -91,12 +91,12 @@ abbrev pub Came : (ℕ → ℕ → Type 0) → CallAt → Type 0
 Came P c = AsksFor (λ task. Reads task × CameOf (λ n. P n (limit_of task)) c.left c.left_after) c
 
 -- where each answer comes; a row is read where none above it came
-abbrev pub Comes : CallAt → AnswerAt → Type 0
-Comes c Usage = IsUsage c.words × IsUnread c
-Comes c ReadFault = Came (λ n most. n ≤ most) c × Rose c.faults c.faults_after
-Comes c TooLarge = (Came (λ n most. most < n) c × (c.faults_after ≡ c.faults)) ⊎ AnswersInput c TooLarge
-Comes c (Made text) = Makes c text
-Comes c a = AnswersInput c a
+abbrev pub IsInTable : CallAt → AnswerAt → Type 0
+IsInTable c Usage = IsUsage c.words × IsUnread c
+IsInTable c ReadFault = Came (λ n most. n ≤ most) c × Rose c.faults c.faults_after
+IsInTable c TooLarge = (Came (λ n most. most < n) c × (c.faults_after ≡ c.faults)) ⊎ AnswersInput c TooLarge
+IsInTable c (Made text) = Makes c text
+IsInTable c a = AnswersInput c a
 
 -- the answer that comes is written behind what was written before, and its status is answered
 abbrev pub Answers : CallAt → ℕ → Option (List ℕ) → Option (List ℕ) → AnswerAt → Type 0
@@ -105,13 +105,13 @@ Answers c status before after a = (status ≡ status_of a) × (after ≡ put_beh
 -- an answer of the table comes, and is the answer
 pub record AnswersOne (c : CallAt) (status : ℕ) (before after : Option (List ℕ)) : Type 0 where
   pub answer : AnswerAt
-  pub comes : Comes c answer
+  pub comes : IsInTable c answer
   pub answers : Answers c status before after answer
 
 -- a front of the text of an answer that comes stands there
 pub record WroteFront (c : CallAt) (before after : Option (List ℕ)) : Type 0 where
   pub answer : AnswerAt
-  pub comes : Comes c answer
+  pub comes : IsInTable c answer
   pub front : WroteFrontOf (text_of answer) before after
 
 -- it holds, unless a write failed or there was no memory

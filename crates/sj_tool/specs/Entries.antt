@@ -70,5 +70,5 @@ IsToldMisfit file number logged other _ = ⊥
 -- the answer tells the refusal; want of memory has no answer
 abbrev pub IsToldSo : FileAt → RunRefusal → AnswerAt → Type 0
 IsToldSo file refusals.LinkFault a = a ≡ LinkFault
-IsToldSo file (refusals.Damaged number logged other) a = IsDamagedBy file number (line_at logged) (option_map line_at other) a
+IsToldSo file (refusals.Damaged m) a = IsDamagedBy file m.number (line_at m.logged) (option_map line_at m.due) a
 IsToldSo file refusals.NoMemory a = ⊥

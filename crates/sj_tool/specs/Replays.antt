@@ -14,18 +14,18 @@ use Rattle.sj_tool.specs.declared.replays.ReplayFault.TheVariants as faults
 
 -- lines that aren't replayed, as a fault of a log
 abbrev pub replay_fault : ReplayRefusal → ReplayFault
-replay_fault (replays.Misfit number logged other) = faults.Entry number logged other
+replay_fault (replays.Misfit m) = faults.Entry m
 replay_fault replays.NoMemory = faults.NoMemory
 
 -- the log isn't in its grammar, or its lines don't lead on
 abbrev pub IsRefusedBy : FileAt → (log : LogAt) → ReplayFault → Type 0
 IsRefusedBy file log (faults.Text rule line) = Breaks file log rule line
-IsRefusedBy file log (faults.Entry number logged other) =
-    (lines : List LineAt) × Spells file log lines × IsFirstMisfit max file lines number (line_at logged) (option_map line_at other)
+IsRefusedBy file log (faults.Entry m) =
+    (lines : List LineAt) × Spells file log lines × IsFirstMisfit max file lines m.number (line_at m.logged) (option_map line_at m.due)
 IsRefusedBy file log faults.NoMemory = ⊤
 
 -- the answer tells the fault; want of memory has no answer
 abbrev pub IsToldFault : FileAt → ReplayFault → AnswerAt → Type 0
 IsToldFault file (faults.Text rule line) a = a ≡ LogFault rule line
-IsToldFault file (faults.Entry number logged other) a = IsToldMisfit file number (line_at logged) (option_map line_at other) a
+IsToldFault file (faults.Entry m) a = IsToldMisfit file m.number (line_at m.logged) (option_map line_at m.due) a
 IsToldFault file faults.NoMemory a = ⊥

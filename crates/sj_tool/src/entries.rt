@@ -5,7 +5,7 @@ ghost use Rattle.sj_lang.specs.FileView.{file_of};
 ghost use Rattle.sj_tool.specs.Entries.{due_text, entry_line, entry_text};
 
 use sj_base::NoMemory;
-use sj_end::Line;
+use sj_end::{Line, Misfit};
 use sj_lang::File;
 use sj_print::print_line;
 use sj_text::{put, put_number};
@@ -16,20 +16,18 @@ pub(crate) fn told_entry(
     alloc: Global,
     head: &[u8],
     file: &File,
-    number: u64,
-    logged: &Line,
-    due: &Option<Line>,
+    misfit: &Misfit,
 ) -> Result<Vec<u8>, NoMemory>
-    ensures { IfOk result (λ text. text.items ≡ entry_line head.now (file_of file.now) number
-        (line_at logged.now) (option_map line_at due.now)) }
+    ensures { IfOk result (λ text. text.items ≡ entry_line head.now (file_of file.now) misfit.now.number
+        (line_at misfit.now.logged) (option_map line_at misfit.now.due)) }
 {
     let mut text = Vec::new(alloc);
     put(&mut text, head)?;
-    put_number(&mut text, number)?;
+    put_number(&mut text, misfit.number)?;
     put(&mut text, b" logged ")?;
-    put_entry(&mut text, file, logged)?;
+    put_entry(&mut text, file, &misfit.logged)?;
     put(&mut text, b" due ")?;
-    put_due(&mut text, file, due)?;
+    put_due(&mut text, file, &misfit.due)?;
     put(&mut text, b"\n")?;
     Ok(text)
 }

@@ -15,13 +15,13 @@ ghost use Rattle.sj_tool.specs.Replays.{IsToldFault};
 
 use crate::answers::Answer;
 use crate::counts::counts_text;
+use crate::duals::shown_text;
 use crate::entries::told_entry;
 use crate::forests::forest_text;
 use crate::forwards::forward;
 use crate::plays::simulate;
 use crate::replays::{ReplayFault, replay};
 use crate::runs::run_file;
-use crate::duals::shown_text;
 use crate::talks::talk;
 use sj_base::NoMemory;
 use sj_check::{Accepted, CheckRefusal, check};
@@ -96,12 +96,7 @@ pub(crate) fn forwarded_file(alloc: Global, file: File) -> Result<Answer, NoMemo
 }
 
 /// How a file ends in which these lines play the party of that number, and what is answered to them.
-pub(crate) fn play(
-    alloc: Global,
-    file: File,
-    party: u16,
-    lines: &[u8],
-) -> Result<Answer, NoMemory>
+pub(crate) fn play(alloc: Global, file: File, party: u16, lines: &[u8]) -> Result<Answer, NoMemory>
     requires { IsWithin limits (file_of file) }
     ensures { IfOk result (λ a. (links : LinkUseAt) (version : ℕ) → AnswersFile links (tasks.Talk party)
         (log_at version lines.now) (file_of file) (answer_at a)) }
@@ -179,12 +174,8 @@ fn refuse(alloc: Global, file: &File, refusal: RunRefusal) -> Result<Answer, NoM
 {
     match refusal {
         RunRefusal::LinkFault => Ok(Answer::LinkFault),
-        RunRefusal::Damaged {
-            number,
-            logged,
-            due,
-        } => {
-            let text = told_entry(alloc, b"damaged entry ", file, number, &logged, &due)?;
+        RunRefusal::Damaged(misfit) => {
+            let text = told_entry(alloc, b"damaged entry ", file, &misfit)?;
             Ok(Answer::Damaged(text))
         }
         RunRefusal::NoMemory => Err(NoMemory),
@@ -197,12 +188,8 @@ fn not_replayed(alloc: Global, file: &File, fault: ReplayFault) -> Result<Answer
 {
     match fault {
         ReplayFault::Text { rule, line } => Ok(Answer::LogFault(rule, line)),
-        ReplayFault::Entry {
-            number,
-            logged,
-            due,
-        } => {
-            let text = told_entry(alloc, b"log entry ", file, number, &logged, &due)?;
+        ReplayFault::Entry(misfit) => {
+            let text = told_entry(alloc, b"log entry ", file, &misfit)?;
             Ok(Answer::Misfit(text))
         }
         ReplayFault::NoMemory => Err(NoMemory),

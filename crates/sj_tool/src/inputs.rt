@@ -2,7 +2,7 @@
 ghost use Rattle.std.specs.Prelude.{◌≡◌, ◌≤◌, IfOk, IfSome, None, length};
 ghost use Rattle.sj_generator.specs.Generated.{generated};
 ghost use Rattle.sj_tool.specs.AnswerAt.{answer_at};
-ghost use Rattle.sj_tool.specs.Answers.{AnswersBytes, AnswersText, Comes};
+ghost use Rattle.sj_tool.specs.Answers.{AnswersBytes, AnswersText, IsInTable};
 ghost use Rattle.sj_tool.specs.Calls.{call, link_use};
 ghost use Rattle.sj_tool.specs.LogAt.{log_at};
 ghost use Rattle.sj_tool.specs.TalkParts.{HasNoTalk, IsTalk};
@@ -40,7 +40,7 @@ pub(crate) fn answer_to<R: Threads + Sync, S: Source, L: Links, G: Gate>(
     links: &mut L,
     gate: &G,
 ) -> Result<Answer, NoMemory>
-    ensures { IfOk result (λ a. Comes (call S.left S.faults words.now src.old src.new
+    ensures { IfOk result (λ a. IsInTable (call S.left S.faults words.now src.old src.new
         (link_use L.tells L.faults L.sent L.got L.vain_out L.vain_in links.old links.new)) (answer_at a)) }
 {
     let Some(task) = task_in(alloc, words)? else {

@@ -4,7 +4,7 @@
 //! - `the_table_has_an_answer`: of each call.
 ghost use Rattle.std.specs.Prelude.{◌≡◌, ℕ, List, Some};
 ghost use Rattle.sj_tool.specs.AnswerAt.{AnswerAt};
-ghost use Rattle.sj_tool.specs.Answers.{Comes};
+ghost use Rattle.sj_tool.specs.Answers.{IsInTable};
 ghost use Rattle.sj_tool.specs.Calls.{CallAt};
 ghost use Rattle.sj_tool.specs.Table.{AreOne, CanRise, IsReadAsAsked, RunsWell, ShowsItsRun};
 
@@ -13,7 +13,7 @@ ghost use Rattle.sj_tool.specs.Table.{AreOne, CanRise, IsReadAsAsked, RunsWell, 
 /// parties run, tell what they carry and counted no fault.
 pub fn the_table_gives_one_answer()
     ensures { (c : CallAt) (left : List ℕ) (a b : AnswerAt) → c.left ≡ Some left → CanRise c
-        → RunsWell c → Comes c a → Comes c b → AreOne c a b }
+        → RunsWell c → IsInTable c a → IsInTable c b → AreOne c a b }
 {}
 
 /// An answer comes of each call that counted no read fault and whose source was read as the words ask.
@@ -21,5 +21,5 @@ pub fn the_table_gives_one_answer()
 /// the premise says that they show some.
 pub fn the_table_has_an_answer()
     ensures { (c : CallAt) → c.faults_after ≡ c.faults → IsReadAsAsked c
-        → ShowsItsRun c → (a : AnswerAt) × Comes c a }
+        → ShowsItsRun c → (a : AnswerAt) × IsInTable c a }
 {}

@@ -18,7 +18,7 @@ use sj_base::NoMemory;
 use sj_check::Accepted;
 use sj_command::Task;
 use sj_core::{ReplayRefusal, World};
-use sj_end::Line;
+use sj_end::{Line, Misfit};
 use sj_log::{LogRefusal, read_log};
 use sj_semantics::Verdict;
 use std::alloc::Global;
@@ -27,16 +27,9 @@ use std::alloc::Global;
 #[derive(Clone, Copy)]
 pub(crate) enum ReplayFault {
     /// The first line that isn't in the grammar, and the rule that it breaks.
-    Text {
-        rule: u8,
-        line: u32,
-    },
+    Text { rule: u8, line: u32 },
     /// The first entry that isn't the one that is due.
-    Entry {
-        number: u64,
-        logged: Line,
-        due: Option<Line>,
-    },
+    Entry(Misfit),
     NoMemory,
 }
 
@@ -59,15 +52,7 @@ impl From<ReplayRefusal> for ReplayFault {
 
     fn from(refusal: ReplayRefusal) -> Self {
         match refusal {
-            ReplayRefusal::Misfit {
-                number,
-                logged,
-                due,
-            } => ReplayFault::Entry {
-                number,
-                logged,
-                due,
-            },
+            ReplayRefusal::Misfit(misfit) => ReplayFault::Entry(misfit),
             ReplayRefusal::NoMemory => ReplayFault::NoMemory,
         }
     }

@@ -5,7 +5,7 @@ ghost use Rattle.sj_lane.specs.Told as lanes;
 ghost use Rattle.sj_lang.specs.FileAt.{FileAt};
 ghost use Rattle.sj_command.specs.declared.tasks.Task.{Task as AnyTask};
 ghost use Rattle.sj_tool.specs.AnswerAt.{AnswerAt, ReadFault, LinkFault, Damaged};
-ghost use Rattle.sj_tool.specs.Answers.{AnswersOne, Comes, OrYields, WroteFront};
+ghost use Rattle.sj_tool.specs.Answers.{AnswersOne, IsInTable, OrYields, WroteFront};
 ghost use Rattle.sj_tool.specs.Calls.{call, link_use};
 ghost use Rattle.sj_tool.specs.Completeness.{CompletesSo, IsValid};
 ghost use Rattle.sj_tool.specs.Headline.{HasHeadline, IsForwarding, IsPlaying, IsVerdict, ReadsNoForest, WritesForwarded};
@@ -51,7 +51,7 @@ pub fn sj<R: Threads + Sync, S: Source, K: Sink, L: Links, G: Gate>(
     // Whatever answer the table gives, it is the answer, where the source tells; of `run --log`
     // the history alone may be another.
     ensures exactly { IfSome (S.left src.old) (λ _. (a : AnswerAt)
-        → Comes (call S.left S.faults words.now src.old src.new
+        → IsInTable (call S.left S.faults words.now src.old src.new
         (link_use L.tells L.faults L.sent L.got L.vain_out L.vain_in links.old links.new)) a
         → NoFaultAbove (call S.left S.faults words.now src.old src.new
         (link_use L.tells L.faults L.sent L.got L.vain_out L.vain_in links.old links.new)) a

@@ -8,7 +8,7 @@ use Rattle.sj_work.specs.declared.worker.Stop.TheVariants as stops
 use Rattle.sj_work.specs.declared.worker.Worker.{Worker}
 use Rattle.sj_work.specs.Causes.{InVain, MetFault, OutVain}
 use Rattle.sj_work.specs.Counts.{RoseBy, Stood}
-use Rattle.sj_work.specs.Turns.{Rests}
+use Rattle.sj_work.specs.Turns.{HasNoEvent}
 use Rattle.sj_work.specs.Views.{in_of, out_of}
 use Rattle.sj_work.proofs.CountLemmas.{on_later, rose_more, rose_then, then_rose, then_some_rose}
 use Rattle.sj_work.proofs.LaneLaws.{CauseBy, LaneLaws, WentBy}
@@ -30,11 +30,11 @@ module _ {O I : Type 0} (k : LaneLaws O I) where
   pub outs_later : (n : ℕ) (a b c : Worker O I) → WentBy k None a b → OutVain k.out_vain n b c → OutVain k.out_vain n a c
   outs_later n a b c went v = λ q lt waits. on_later k.out_vain Stood (RoseBy n) (RoseBy n) (then_rose n) (out_of a q) (out_of b q) (out_of c q) (went.vain_out q) (v q lt waits)
 
-  pub outs_then : (n : ℕ) (a b c : Worker O I) → OutVain k.out_vain n a b → WentBy k None b c → Rests b.node c.node → OutVain k.out_vain n a c
+  pub outs_then : (n : ℕ) (a b c : Worker O I) → OutVain k.out_vain n a b → WentBy k None b c → HasNoEvent b.node c.node → OutVain k.out_vain n a c
   outs_then n a b c v went rests = λ q lt waits.
       on_later k.out_vain (RoseBy n) Stood (RoseBy n) (rose_then n) (out_of a q) (out_of b q) (out_of c q) (v q (subst (λ m. q < m) went.parties lt) (rests.boxes q waits)) (went.vain_out q)
 
-  pub outs_more : (m n : ℕ) (a b c : Worker O I) → Rests b.node c.node → OutVain k.out_vain m a b → OutVain k.out_vain n b c → OutVain k.out_vain (m + n) a c
+  pub outs_more : (m n : ℕ) (a b c : Worker O I) → HasNoEvent b.node c.node → OutVain k.out_vain m a b → OutVain k.out_vain n b c → OutVain k.out_vain (m + n) a c
   outs_more m n a b c rests v w = λ q lt waits.
       on_later k.out_vain (RoseBy m) (RoseBy n) (RoseBy (m + n)) (rose_more m n) (out_of a q) (out_of b q) (out_of c q) (v q (subst (λ j. q < j) rests.parties lt) (rests.boxes q waits)) (w q lt waits)
 

@@ -21,8 +21,8 @@ use Rattle.sj_node.specs.Outs.{waiting_in}
 use Rattle.sj_node.specs.Play.{next_want}
 use Rattle.sj_node.specs.Reading.{IsFinished}
 use Rattle.sj_node.specs.Slots.{mains_in, olds_in}
-use Rattle.sj_work.specs.declared.worker.Answer.{Answer}
-use Rattle.sj_work.specs.declared.worker.Answer.TheVariants as answers
+use Rattle.sj_work.specs.declared.worker.Outcome.{Outcome}
+use Rattle.sj_work.specs.declared.worker.Outcome.TheVariants as answers
 use Rattle.sj_work.specs.Answers.{SaysHalt}
 use Rattle.sj_work.specs.Turns.{IsHalted}
 use Rattle.sj_work.specs.Views.{stop_at, stop_in}
@@ -172,14 +172,14 @@ free_of n h ended limit waits unfit = go (goes_or_halts n)
     go (inr halted) = by (stop_of n) refl halted
 
 -- where the worker goes on behind a refused act, the party is halted
-pub halted_by : (a b : Node) (h : Halt) (r : Option Answer) → node_at b ≡ node_at a → (Refused h halts.Ended → stop_of a ≡ Some halts.Ended) → (Refused h halts.AtLimit → stop_of a ≡ Some halts.AtLimit)
+pub halted_by : (a b : Node) (h : Halt) (r : Option Outcome) → node_at b ≡ node_at a → (Refused h halts.Ended → stop_of a ≡ Some halts.Ended) → (Refused h halts.AtLimit → stop_of a ≡ Some halts.AtLimit)
     → (Refused h halts.Waits → stop_of a ≡ Some halts.Waits) → SaysHalt b h r → stop_in r ≡ None → IsHalted (stop_of b)
 halted_by a b h r same ended limit waits says none = by h says ended limit waits
   where
     so : (k : Halt) → IsHalted (Some k) → stop_of a ≡ Some k → IsHalted (stop_of b)
     so k halted is = subst (λ (o : Option Halt). IsHalted o) (sym (stop_same a b same ∙ is)) halted
 
-    stopped : (answer : Answer) → r ≡ Some answer → IsHalted (stop_of b)
+    stopped : (answer : Outcome) → r ≡ Some answer → IsHalted (stop_of b)
     stopped answer is = let e : Some (stop_at answer) ≡ None = sym (ap stop_in is) ∙ none in absurd (cc e)
 
     by : (h : Halt) → SaysHalt b h r → (Refused h halts.Ended → stop_of a ≡ Some halts.Ended) → (Refused h halts.AtLimit → stop_of a ≡ Some halts.AtLimit) → (Refused h halts.Waits → stop_of a ≡ Some halts.Waits) → IsHalted (stop_of b)

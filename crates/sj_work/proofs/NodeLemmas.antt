@@ -17,7 +17,7 @@ use Rattle.sj_rules.proofs.FrameLemmas.{proper-with}
 use Rattle.sj_rules.specs.Rows.{Worked}
 use Rattle.sj_rules.specs.NodeRun.{Deed, Acted, Came, StepAt, Steps, frame_told, told_frames}
 use Rattle.sj_node.specs.declared.node.Node.{Node}
-use Rattle.sj_node.specs.Node.{Did, Does, Stays, act_of, clock_of, delivery, has_room, log_of, node_at, note_for, outbox_of, play_of}
+use Rattle.sj_node.specs.Node.{Did, Does, Stays, act_of, clock_of, delivery, has_room, log_of, node_at, note_for, outbox_of, play_here}
 use Rattle.sj_node.specs.Play.{next_want, play_with}
 use Rattle.sj_node.specs.Reading.{parties_of, party_of, TakesOut}
 use Rattle.sj_end.specs.Lines.{entry_at}
@@ -26,7 +26,7 @@ use Rattle.sj_work.proofs.NoteLemmas.{act_noted, body_noted, then_some, else_som
 
 -- all that stays of a node whatever it does
 pub record Keeps (a b : Node) : Type 0 where
-  pub play : play_of b ≡ play_of a
+  pub play : play_here b ≡ play_here a
   pub party : party_of b ≡ party_of a
   pub parties : parties_of b ≡ parties_of a
   pub clock : clock_of a ≤ clock_of b
@@ -34,7 +34,7 @@ pub record Keeps (a b : Node) : Type 0 where
 -- the node did that, by a step of the rules
 pub record Stepped (a b : Node) (deed : Deed Place) : Type 0 where
   pub step : StepAt Place
-  pub steps : Steps (play_of a) max (party_of a) (node_at a) step (node_at b)
+  pub steps : Steps (play_here a) max (party_of a) (node_at a) step (node_at b)
   pub is : step.deed ≡ deed
   pub log : entries_of (log_of b) ≡ entries_of (log_of a) ++ step.entry ∷ []
   pub box : (q : ℕ) → told_frames done (outbox_of b q) ≡ told_frames done (outbox_of a q) ++ told_frames done (frames_for q step.entry.clock step.posts)
@@ -71,9 +71,9 @@ did_box a b left clock event note d q = ap (told_frames done) (d.posts q) ∙ ma
 pub act_stepped : (a b : Node) → Does a (act_of a) (clock_of a + 1) events.Act (note_for a) b → Stepped a b Acted
 act_stepped a b does =
     let d = did_of a b (act_of a) (clock_of a + 1) events.Act (note_for a) does in
-    let row : acts (play_of a) a.party (node_at a) ≡ Some d.0 = then_some (has_room (node_at a).main (next_want (program_at a.machine))) (acts (play_of a) a.party (node_at a)) d.0 d.1 in
-    let own : act_by (play_of a) a.party (node_at a) ((play_of a).wants (node_at a).program) ≡ Some d.0 =
-    else_some ((play_of a).is_worn (node_at a).program) (act_by (play_of a) a.party (node_at a) ((play_of a).wants (node_at a).program)) d.0 row in
+    let row : acts (play_here a) a.party (node_at a) ≡ Some d.0 = then_some (has_room (node_at a).main (next_want (program_at a.machine))) (acts (play_here a) a.party (node_at a)) d.0 d.1 in
+    let own : act_by (play_here a) a.party (node_at a) ((play_here a).wants (node_at a).program) ≡ Some d.0 =
+    else_some ((play_here a).is_worn (node_at a).program) (act_by (play_here a) a.party (node_at a) ((play_here a).wants (node_at a).program)) d.0 row in
     let rises : clock_of a < clock_of a + 1 = omega arith in
     record {
       step = record { deed = Acted; entry = entry_at (record { clock = clock_of a + 1; event = events.Act; note = note_for a }); posts = d.0.posts };
@@ -83,7 +83,7 @@ act_stepped a b does =
         posts = refl;
         clock = refl;
         event = refl;
-        note = act_noted (play_of a) (start_in a.table) a.party (node_at a) (next_want (program_at a.machine)) d.0 own;
+        note = act_noted (play_here a) (start_in a.table) a.party (node_at a) (next_want (program_at a.machine)) d.0 own;
         after = d.2.node;
       };
       is = refl;

@@ -3,7 +3,7 @@ use Rattle.std.proofs.Common.{◌≡◌, ◌⊎◌, ℕ, ◌+◌, ◌<◌, None,
 use Rattle.std.proofs.lemmas.Bool.{cases_eq}
 use Rattle.sj_work.specs.declared.worker.Worker.{Worker}
 use Rattle.sj_work.specs.Counts.{RoseBy, Stood}
-use Rattle.sj_work.specs.Turns.{IsGoing, Rests, Tried}
+use Rattle.sj_work.specs.Turns.{IsGoing, HasNoEvent, Tried}
 use Rattle.sj_work.specs.Views.{out_of, stop_of}
 use Rattle.sj_work.proofs.CountLemmas.{on_later, rose_then, then_rose}
 use Rattle.sj_work.proofs.LaneLaws.{LaneLaws, TurnedBy, WentBy}
@@ -19,7 +19,7 @@ module _ {O I : Type 0} (k : LaneLaws O I) where
   pub record Pushing (init now : Worker O I) : Type 0 where
     pub turns : (looks : ℕ) → TurnedBy k looks init now
     pub goes : IsGoing now
-    pub rests : Rests init.node now.node
+    pub rests : HasNoEvent init.node now.node
     pub looks : now.looks ≡ init.looks
 
   -- and the parties below that number were tried
@@ -33,12 +33,12 @@ module _ {O I : Type 0} (k : LaneLaws O I) where
   pub pushed_none : (w : Worker O I) → IsGoing w → Pushed w w 0
   pushed_none w goes = record { pushing = pushing_none w goes; tried = λ q lt. absurd (omega arith) }
 
-  module _ (init now later : Worker O I) (p : Pushing init now) (t : (looks : ℕ) → TurnedBy k looks now later) (r : Rests now.node later.node) where
+  module _ (init now later : Worker O I) (p : Pushing init now) (t : (looks : ℕ) → TurnedBy k looks now later) (r : HasNoEvent now.node later.node) where
     -- one push more
     pub push_turns : (looks : ℕ) → TurnedBy k looks init later
     push_turns looks = turned_behind k looks init now later (went_of k init now (p.turns 0) p.goes.stop) (t looks)
 
-    pub push_rests : Rests init.node later.node
+    pub push_rests : HasNoEvent init.node later.node
     push_rests = rests_later init.node now.node later.node p.rests r
 
     pub push_tried : (q : ℕ) → Tried k.out_vain q now later → Tried k.out_vain q init later
@@ -49,7 +49,7 @@ module _ {O I : Type 0} (k : LaneLaws O I) where
     push_more none looks = record { turns = push_turns; goes = going k 0 now later (t 0) none; rests = push_rests; looks = looks ∙ p.looks }
 
   -- the pushes to one party more
-  pub pushed_more : (init now later : Worker O I) (to : ℕ) → Pushed init now to → ((looks : ℕ) → TurnedBy k looks now later) → Rests now.node later.node → stop_of later ≡ None → later.looks ≡ now.looks
+  pub pushed_more : (init now later : Worker O I) (to : ℕ) → Pushed init now to → ((looks : ℕ) → TurnedBy k looks now later) → HasNoEvent now.node later.node → stop_of later ≡ None → later.looks ≡ now.looks
       → Tried k.out_vain to now later → Pushed init later (to + 1)
   pushed_more init now later to p t r none looks tried = record { pushing = push_more init now later p.pushing t r none looks; tried = λ q lt. each q lt (cases_eq q to) }
     where

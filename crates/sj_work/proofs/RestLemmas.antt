@@ -9,17 +9,17 @@ use Rattle.sj_node.specs.declared.node.Node.{Node}
 use Rattle.sj_node.specs.Node.{Stays, outbox_of}
 use Rattle.sj_node.specs.Outs.{waiting_in}
 use Rattle.sj_node.specs.Reading.{IsFinished, TakesOut, outs_of}
-use Rattle.sj_work.specs.Turns.{Rests}
+use Rattle.sj_work.specs.Turns.{HasNoEvent}
 use Rattle.sj_work.proofs.HaltLemmas.{empty_before}
 
-pub rests_itself : (a b : Node) → b ≡ a → Rests a b
-rests_itself a b same = subst (λ (n : Node). Rests a n) (sym same) (record { node = refl; parties = refl; boxes = λ q waits. waits })
+pub rests_itself : (a b : Node) → b ≡ a → HasNoEvent a b
+rests_itself a b same = subst (λ (n : Node). HasNoEvent a n) (sym same) (record { node = refl; parties = refl; boxes = λ q waits. waits })
 
-pub rests_later : (a b c : Node) → Rests a b → Rests b c → Rests a c
+pub rests_later : (a b c : Node) → HasNoEvent a b → HasNoEvent b c → HasNoEvent a c
 rests_later a b c x y = record { node = y.node ∙ x.node; parties = y.parties ∙ x.parties; boxes = λ q waits. x.boxes q (y.boxes q waits) }
 
 -- a refused event
-pub rests_stays : (a b : Node) → Stays a b → Rests a b
+pub rests_stays : (a b : Node) → Stays a b → HasNoEvent a b
 rests_stays a b s = record { node = s.node; parties = s.parties; boxes = λ q waits none. waits (s.posts q ∙ none) }
 
 -- nothing waits in an outbox exactly where lanes see nothing
@@ -30,12 +30,12 @@ pub waiting_empty : (n : Node) (q : ℕ) → outbox_of n q ≡ [] → waiting_in
 waiting_empty n q none = empty_before (frame_with (place_in n.table)) (waiting_in (outs_of n) q) none
 
 -- frames that left outboxes
-rests_out : (a b : Node) → TakesOut a b → ((q : ℕ) → waiting_in (outs_of a) q ≡ [] → waiting_in (outs_of b) q ≡ []) → Rests a b
+rests_out : (a b : Node) → TakesOut a b → ((q : ℕ) → waiting_in (outs_of a) q ≡ [] → waiting_in (outs_of b) q ≡ []) → HasNoEvent a b
 rests_out a b out empty = record { node = out.node; parties = out.parties; boxes = λ q waits none. waits (outbox_empty b q (empty q (waiting_empty a q none))) }
 
 -- one outbox had a frame, and all others are as they were
 pub rests_front : (a b : Node) (to : ℕ) (f : FrameAt Spot) (rest : _) → TakesOut a b → waiting_in (outs_of a) to ≡ f ∷ rest
-    → ((q : ℕ) → (q ≡ to → ⊥) → waiting_in (outs_of b) q ≡ waiting_in (outs_of a) q) → Rests a b
+    → ((q : ℕ) → (q ≡ to → ⊥) → waiting_in (outs_of b) q ≡ waiting_in (outs_of a) q) → HasNoEvent a b
 rests_front a b to f rest out front others = rests_out a b out (λ q. each q (cases_eq q to))
   where
     each : (q : ℕ) → (q ≡ to) ⊎ (q ≡ to → ⊥) → waiting_in (outs_of a) q ≡ [] → waiting_in (outs_of b) q ≡ []
@@ -51,7 +51,7 @@ same_waiting a b to none empty others q = each (cases_eq q to)
     each (inl is) = rw is (empty ∙ sym none)
     each (inr not) = others q not
 
-pub rests_same : (a b : Node) → TakesOut a b → ((q : ℕ) → waiting_in (outs_of b) q ≡ waiting_in (outs_of a) q) → Rests a b
+pub rests_same : (a b : Node) → TakesOut a b → ((q : ℕ) → waiting_in (outs_of b) q ≡ waiting_in (outs_of a) q) → HasNoEvent a b
 rests_same a b out same = rests_out a b out (λ q none. same q ∙ none)
 
 -- frames that left outboxes and came back

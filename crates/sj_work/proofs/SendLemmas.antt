@@ -9,7 +9,7 @@ use Rattle.std.below.std_heap.proofs.GlobalAllocator.TheSendSync as frees
 use Rattle.sj_end.proofs.note.Line.TheSendSync as line
 use Rattle.sj_lane.proofs.lane.Lanes.TheSendSync as lanes
 use Rattle.sj_node.specs.contracts.node.Node as node
-use Rattle.sj_work.proofs.worker.Answer.TheSendSync as answer
+use Rattle.sj_work.proofs.worker.Outcome.TheSendSync as answer
 use Rattle.sj_work.specs.contracts.worker.Worker as worker
 
 pub worker_send : (O I : RattleType) → IsSend O → IsSend I → IsSend node.the_row → IsSend (worker.the_row O I)

@@ -22,12 +22,12 @@ use Rattle.sj_node.specs.Node as nodes
 use Rattle.sj_node.specs.Node.{Stays, act_of, clock_of, delivery, has_room, node_at}
 use Rattle.sj_node.specs.Play.{next_want, play_with}
 use Rattle.sj_node.specs.Reading.{IsFinished, parties_of}
-use Rattle.sj_work.specs.declared.worker.Answer.{Answer}
-use Rattle.sj_work.specs.declared.worker.Answer.TheVariants as answers
+use Rattle.sj_work.specs.declared.worker.Outcome.{Outcome}
+use Rattle.sj_work.specs.declared.worker.Outcome.TheVariants as answers
 use Rattle.sj_work.specs.declared.worker.Stop.{Stop}
 use Rattle.sj_work.specs.declared.worker.Stop.TheVariants as stops
 use Rattle.sj_work.specs.declared.worker.Worker.{Worker}
-use Rattle.sj_work.specs.Answers.{Comes, Delivered, SaysHalt, SeesFinished, push_answer}
+use Rattle.sj_work.specs.Answers.{TakesFrame, Delivered, SaysHalt, SeesFinished, push_answer}
 use Rattle.sj_work.specs.Causes.{Loses}
 use Rattle.sj_work.specs.Counts.{RoseBy, SomeRose}
 use Rattle.sj_work.specs.Turns.{IsGoing}
@@ -56,12 +56,12 @@ arrives_told n from f =
     (told_with (λ s. done) (frame_at f) ∙ sym (told_with (place_in n.table) (frame_at f))) ∙ arrives_so n from (frame_at f)
 
 -- a frame that didn't stop the worker raised the clock
-pub came_rises : (a b : Node) (from : ℕ) (f : Frame) (r : Option Answer) → Comes from f a b r → stop_in r ≡ None → clock_of a < clock_of b
+pub came_rises : (a b : Node) (from : ℕ) (f : Frame) (r : Option Outcome) → TakesFrame from f a b r → stop_in r ≡ None → clock_of a < clock_of b
 came_rises a b from f None came none = (came_stepped a b from (frame_at f) came.0).rises
 came_rises a b from f (Some answer) came none = absurd (not_none (stop_at answer) (sym none))
 
 -- where a refused push didn't stop the worker, the lane was full
-pub full_vain : (x y : ℕ) (g : Frame) (why : PushRefusal) (r : Option Answer) → r ≡ push_answer why → stop_in r ≡ None → y ≡ vain_push x (Err (g, why)) → RoseBy 1 x y
+pub full_vain : (x y : ℕ) (g : Frame) (why : PushRefusal) (r : Option Outcome) → r ≡ push_answer why → stop_in r ≡ None → y ≡ vain_push x (Err (g, why)) → RoseBy 1 x y
 full_vain x y g pushes.Full r is none vain = rose_raised x y vain
 full_vain x y g pushes.Fault r is none vain = absurd (not_none stops.Fault (sym none ∙ ap stop_in is))
 full_vain x y g pushes.NoMemory r is none vain = absurd (not_none stops.NoMemory (sym none ∙ ap stop_in is))
@@ -92,7 +92,7 @@ module _ {O I : Type 0} (k : LaneLaws O I) where
       same s h = cc
 
   -- behind an event or a push it is seen whether the node is finished
-  pub turned_seen : (a b : Worker O I) (r : Option Answer) → b.answer ≡ r → SeesFinished b.node r → WentBy k None a b → (looks : ℕ) → TurnedBy k looks a b
+  pub turned_seen : (a b : Worker O I) (r : Option Outcome) → b.answer ≡ r → SeesFinished b.node r → WentBy k None a b → (looks : ℕ) → TurnedBy k looks a b
   turned_seen a b None is sees went = turned_on a b went (ap stop_in is) sees
   turned_seen a b (Some answers.Finished) is sees went = λ looks. record {
     lost = None;
@@ -138,7 +138,7 @@ module _ {O I : Type 0} (k : LaneLaws O I) where
   stays_open a b goes s f = goes.open_yet (finished_before a.node b.node s.node (λ q none. sym (s.posts q) ∙ none) f)
 
   -- an act that the node refused
-  pub act_refused : (a b : Worker O I) (h : Halt) (r : Option Answer) → IsGoing a → Stays a.node b.node → (Refused h halts.Unfit → act_of a.node ≡ None) → (h ≡ halts.Unfit → nodes.stop_of b.node ≡ None)
+  pub act_refused : (a b : Worker O I) (h : Halt) (r : Option Outcome) → IsGoing a → Stays a.node b.node → (Refused h halts.Unfit → act_of a.node ≡ None) → (h ≡ halts.Unfit → nodes.stop_of b.node ≡ None)
       → SaysHalt b.node h r → b.answer ≡ r → b.lanes ≡ a.lanes → (looks : ℕ) → TurnedBy k looks a b
   act_refused a b halts.Waits r goes s unfit free says is lanes = turned_on a b (went_still k a b (stays_quiet a.node b.node s) s.posts lanes) (ap stop_in (is ∙ says)) (stays_open a b goes s)
   act_refused a b halts.Ended r goes s unfit free says is lanes = turned_on a b (went_still k a b (stays_quiet a.node b.node s) s.posts lanes) (ap stop_in (is ∙ says)) (stays_open a b goes s)
@@ -150,7 +150,7 @@ module _ {O I : Type 0} (k : LaneLaws O I) where
       (free refl, act_same a.node b.node s ∙ unfit refl, ap line_in (is ∙ says.1) ∙ says.2)
 
   -- a frame that was popped, and delivered or lost
-  pub frame_came : (a b : Worker O I) (from : ℕ) (f : Frame) (i j : I) (r : Option Answer) → IsGoing a → Comes from f a.node b.node r → b.answer ≡ r → b.lanes.outs.items ≡ a.lanes.outs.items
+  pub frame_came : (a b : Worker O I) (from : ℕ) (f : Frame) (i j : I) (r : Option Outcome) → IsGoing a → TakesFrame from f a.node b.node r → b.answer ≡ r → b.lanes.outs.items ≡ a.lanes.outs.items
       → in_of a from ≡ Some i → b.lanes.ins.items ≡ set a.lanes.ins.items from j → InDid k i j (told_frame f ∷ []) → from < parties_of a.node → clock_of a.node < clock_end
       → (looks : ℕ) → TurnedBy k looks a b
   frame_came a b from f i j r goes came is outs at put did within before = by r came is
@@ -163,7 +163,7 @@ module _ {O I : Type 0} (k : LaneLaws O I) where
       lost_so : Stays a.node b.node → WentBy k (Some (record { party = from; frame = told_frame f })) a b
       lost_so s = went_lost k a b from (told_frame f) i j (stays_quiet a.node b.node s) s.posts outs at put did within before
 
-      by : (r : Option Answer) → Comes from f a.node b.node r → b.answer ≡ r → (looks : ℕ) → TurnedBy k looks a b
+      by : (r : Option Outcome) → TakesFrame from f a.node b.node r → b.answer ≡ r → (looks : ℕ) → TurnedBy k looks a b
       by None c is = turned_on a b (delivered c.0) (ap stop_in is) c.1
       by (Some answers.Finished) c is = turned_seen a b (Some answers.Finished) is c.1 (delivered c.0)
       by (Some answers.NoMemory) c is = λ looks.

@@ -4,12 +4,12 @@ use Rattle.sj_node.specs.declared.refusal.Halt.{Halt}
 use Rattle.sj_node.specs.declared.refusal.Halt.TheVariants as halts
 use Rattle.sj_node.specs.Node as nodes
 use Rattle.sj_node.specs.Reading.{IsFinished, IsIdle}
-use Rattle.sj_work.specs.declared.worker.Answer.TheVariants as answers
+use Rattle.sj_work.specs.declared.worker.Outcome.TheVariants as answers
 use Rattle.sj_work.specs.declared.worker.Stop.TheVariants as stops
 use Rattle.sj_work.specs.declared.worker.Worker.{Worker}
 use Rattle.sj_work.specs.Causes.{InVain, OutVain}
 use Rattle.sj_work.specs.Counts.{RoseBy, Stood}
-use Rattle.sj_work.specs.Turns.{IsGoing, IsHalted, IsInVain, Rests}
+use Rattle.sj_work.specs.Turns.{IsGoing, IsHalted, IsInVain, HasNoEvent}
 use Rattle.sj_work.specs.Views.{in_of, out_of, stop_of}
 use Rattle.sj_work.proofs.CauseLemmas.{ins_more, ins_then, outs_later, outs_more, outs_then}
 use Rattle.sj_work.proofs.CountLemmas.{on_so, rose_none}
@@ -43,7 +43,7 @@ below_looks n t m looks last same is within lt = omega arith
 
 module _ {O I : Type 0} (k : LaneLaws O I) where
   -- a turn in vain: looks, pushes, and an act that isn't there
-  pub vain_turn : (a b c d : Worker O I) → WentBy k None a b → WentBy k None b c → WentBy k None c d → b.node ≡ a.node → InVain k.in_vain 1 a b → Rests b.node c.node → OutVain k.out_vain 1 b c → Rests c.node d.node
+  pub vain_turn : (a b c d : Worker O I) → WentBy k None a b → WentBy k None b c → WentBy k None c d → b.node ≡ a.node → InVain k.in_vain 1 a b → HasNoEvent b.node c.node → OutVain k.out_vain 1 b c → HasNoEvent c.node d.node
       → IsHalted (nodes.stop_of d.node) → IsInVain k.out_vain k.in_vain a d
   vain_turn a b c d looked pushed acted node ins sent outs rests halted = record {
     rests = rests_later a.node b.node d.node (rests_itself a.node b.node node) (rests_later b.node c.node d.node sent rests);
@@ -56,7 +56,7 @@ module _ {O I : Type 0} (k : LaneLaws O I) where
   pub record Waited (looks : ℕ) (init now : Worker O I) : Type 0 where
     pub turns : (n : ℕ) → TurnedBy k n init now
     pub goes : IsGoing now
-    pub rests : Rests init.node now.node
+    pub rests : HasNoEvent init.node now.node
     pub within : now.looks ≤ looks
     pub ins : InVain k.in_vain now.looks init now
     pub outs : OutVain k.out_vain now.looks init now

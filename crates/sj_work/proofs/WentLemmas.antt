@@ -19,10 +19,10 @@ use Rattle.sj_rules.specs.Limits.{clock_end}
 use Rattle.sj_lane.specs.Told.{told_frame}
 use Rattle.sj_lane.proofs.CellLemmas.{get_set_other}
 use Rattle.sj_node.specs.declared.node.Node.{Node}
-use Rattle.sj_node.specs.Node.{clock_of, outbox_of, play_of}
+use Rattle.sj_node.specs.Node.{clock_of, outbox_of, play_here}
 use Rattle.sj_node.specs.Outs.{waiting_in}
 use Rattle.sj_node.specs.Reading.{TakesOut, outs_of, parties_of, party_of}
-use Rattle.sj_work.specs.declared.worker.Answer.{Answer}
+use Rattle.sj_work.specs.declared.worker.Outcome.{Outcome}
 use Rattle.sj_work.specs.declared.worker.Worker.{Worker}
 use Rattle.sj_work.specs.Counts.{OnLane, Stands, Stood}
 use Rattle.sj_work.specs.Laned.{laned}
@@ -120,7 +120,7 @@ module _ {O I : Type 0} (k : LaneLaws O I) where
   -- an event, in which the lanes to parties are left alone
   event : (a b : Worker O I) (deed : Deed Place) → Stepped a.node b.node deed → b.lanes.outs.items ≡ a.lanes.outs.items → InsWent a b (λ q. cons_option (frame_from done q deed) []) → WentBy k None a b
   event a b deed s outs ins = record {
-    work = event_lane_work k.pushed k.same_out k.popped k.same_in (play_of a.node) max done (party_of a.node) (laned a) (laned b) s.step s.steps s.log
+    work = event_lane_work k.pushed k.same_out k.popped k.same_in (play_here a.node) max done (party_of a.node) (laned a) (laned b) s.step s.steps s.log
         (λ q. subst (λ (xs : List O). OutStep k.pushed k.same_out (out_of a q) (slice_get xs q) (box_of a q) (box_of b q) (told_frames done (frames_for q s.step.entry.clock s.step.posts))) (sym outs)
         (out_alone k.pushed k.same_out k.out_itself k.out_later (out_of a q) (box_of a q) (box_of b q) (told_frames done (frames_for q s.step.entry.clock s.step.posts)) (s.box q)))
         (λ q. subst (λ (d : Deed Place). InStep k.popped k.same_in (in_of a q) (in_of b q) (cons_option (frame_from done q d) [])) (sym s.is) (ins.steps q));
@@ -139,7 +139,7 @@ module _ {O I : Type 0} (k : LaneLaws O I) where
   -- no event
   still : (a b : Worker O I) (lost : Option (LostAt Place)) → Quiet a.node b.node → OutsWent a b → InsWent a b (lost_from lost) → WentBy k lost a b
   still a b lost n outs ins = record {
-    work = quiet_lane_work k.pushed k.same_out k.popped k.same_in (play_of a.node) max done (party_of a.node) (laned a) (laned b) lost n.node n.log outs.steps ins.steps;
+    work = quiet_lane_work k.pushed k.same_out k.popped k.same_in (play_here a.node) max done (party_of a.node) (laned a) (laned b) lost n.node n.log outs.steps ins.steps;
     play = n.keeps.play;
     party = n.keeps.party;
     parties = n.keeps.parties;
@@ -225,7 +225,7 @@ module _ {O I : Type 0} (k : LaneLaws O I) where
   -- work after work
   pub went_later : (a b c : Worker O I) (lost : Option (LostAt Place)) → WentBy k None a b → WentBy k lost b c → WentBy k lost a c
   went_later a b c lost x y = record {
-    work = lane_work_later k.pushed k.same_out k.popped k.same_in k.out_itself k.out_later k.in_itself k.in_later (play_of a.node) max done (party_of a.node) (laned a) (laned b) (laned c) lost x.work
+    work = lane_work_later k.pushed k.same_out k.popped k.same_in k.out_itself k.out_later k.in_itself k.in_later (play_here a.node) max done (party_of a.node) (laned a) (laned b) (laned c) lost x.work
         (subst (λ (t : Play Place Program × ℕ). LaneWork k.pushed k.same_out k.popped k.same_in t.0 max done t.1 (laned b) (laned c) lost) (λ i. (x.play i, x.party i)) y.work);
     play = y.play ∙ x.play;
     party = y.party ∙ x.party;
@@ -240,7 +240,7 @@ module _ {O I : Type 0} (k : LaneLaws O I) where
   }
 
   -- what touches neither node nor lanes
-  pub went_again : (a b : Worker O I) (lost : Option (LostAt Place)) (answer : Option Answer) (looks : ℕ) → WentBy k lost a b → WentBy k lost a (record b { answer = answer; looks = looks })
+  pub went_again : (a b : Worker O I) (lost : Option (LostAt Place)) (answer : Option Outcome) (looks : ℕ) → WentBy k lost a b → WentBy k lost a (record b { answer = answer; looks = looks })
   went_again a b lost answer looks x = record {
     work = x.work;
     play = x.play;

@@ -16,12 +16,12 @@ use Rattle.sj_node.specs.declared.refusal.Halt.{Halt}
 use Rattle.sj_node.specs.declared.refusal.Halt.TheVariants as halts
 use Rattle.sj_node.specs.Node.{Does, Stays, clock_of, delivery, due_of}
 use Rattle.sj_node.specs.Reading.{IsFinished}
-use Rattle.sj_work.specs.declared.worker.Answer.{Answer}
-use Rattle.sj_work.specs.declared.worker.Answer.TheVariants as answers
+use Rattle.sj_work.specs.declared.worker.Outcome.{Outcome}
+use Rattle.sj_work.specs.declared.worker.Outcome.TheVariants as answers
 use Rattle.sj_work.specs.Causes.{lost_line, own_line}
 
 -- it is answered exactly where the node is finished
-abbrev pub SeesFinished : Node → Option Answer → Type 0
+abbrev pub SeesFinished : Node → Option Outcome → Type 0
 SeesFinished n None = IsFinished n → ⊥
 SeesFinished n (Some answers.Finished) = IsFinished n
 SeesFinished n (Some answers.Idle) = ⊥
@@ -33,7 +33,7 @@ SeesFinished n (Some (answers.Unfit line)) = ⊥
 
 -- the answer to an act that a node refused: a party that is halted doesn't stop its worker, and where the rules have no act, the
 -- line is that of the entry that is due
-abbrev pub SaysHalt : Node → Halt → Option Answer → Type 0
+abbrev pub SaysHalt : Node → Halt → Option Outcome → Type 0
 SaysHalt n halts.Waits answer = answer ≡ None
 SaysHalt n halts.Ended answer = answer ≡ None
 SaysHalt n halts.AtLimit answer = answer ≡ None
@@ -41,12 +41,12 @@ SaysHalt n halts.NoMemory answer = answer ≡ Some answers.NoMemory
 SaysHalt n halts.Unfit answer = (line : Line) × (answer ≡ Some (answers.Unfit line)) × (Some line ≡ option_map (own_line n) (due_of n))
 
 -- the answer to a frame that a node refused
-abbrev pub delivery_answer : Node → (origin : ℕ) → FrameAt Place → DeliverRefusal → Answer
+abbrev pub delivery_answer : Node → (origin : ℕ) → FrameAt Place → DeliverRefusal → Outcome
 delivery_answer n origin frame deliveries.NoMemory = answers.NoMemory
 delivery_answer n origin frame deliveries.Unfit = answers.Unfit (lost_line n (record { party = origin; frame = frame }))
 
 -- the answer to a frame that a lane refused; a full one is no reason to stop
-abbrev pub push_answer : PushRefusal → Option Answer
+abbrev pub push_answer : PushRefusal → Option Outcome
 push_answer pushes.Full = None
 push_answer pushes.Fault = Some answers.Fault
 push_answer pushes.NoMemory = Some answers.NoMemory
@@ -56,13 +56,13 @@ abbrev pub Delivered : (origin : ℕ) → Frame → (old new : Node) → Type 0
 Delivered origin f old new = Does old (delivery old origin (frame_at f)) (max (clock_of old) f.clock + 1) (events.Deliver origin) (note_at (frame_at f).body) new
 
 -- a frame was delivered, or refused and lost
-abbrev pub Comes : (origin : ℕ) → Frame → (old new : Node) → Option Answer → Type 0
-Comes origin f old new None = Delivered origin f old new × (IsFinished new → ⊥)
-Comes origin f old new (Some answers.Finished) = Delivered origin f old new × IsFinished new
-Comes origin f old new (Some answers.NoMemory) = Stays old new
-Comes origin f old new (Some (answers.Unfit line)) =
+abbrev pub TakesFrame : (origin : ℕ) → Frame → (old new : Node) → Option Outcome → Type 0
+TakesFrame origin f old new None = Delivered origin f old new × (IsFinished new → ⊥)
+TakesFrame origin f old new (Some answers.Finished) = Delivered origin f old new × IsFinished new
+TakesFrame origin f old new (Some answers.NoMemory) = Stays old new
+TakesFrame origin f old new (Some (answers.Unfit line)) =
     Stays old new × (delivery old origin (frame_at f) ≡ None) × (line ≡ lost_line new (record { party = origin; frame = told_frame f }))
-Comes origin f old new (Some answers.Idle) = ⊥
-Comes origin f old new (Some answers.AtLimit) = ⊥
-Comes origin f old new (Some answers.ClockEnd) = ⊥
-Comes origin f old new (Some answers.Fault) = ⊥
+TakesFrame origin f old new (Some answers.Idle) = ⊥
+TakesFrame origin f old new (Some answers.AtLimit) = ⊥
+TakesFrame origin f old new (Some answers.ClockEnd) = ⊥
+TakesFrame origin f old new (Some answers.Fault) = ⊥

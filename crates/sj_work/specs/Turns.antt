@@ -25,7 +25,7 @@ IsHalted (Some halts.Unfit) = ⊥
 IsHalted None = ⊥
 
 -- no event: the node stays, and frames only leave outboxes
-pub record Rests (old new : Node) : Type 0 where
+pub record HasNoEvent (old new : Node) : Type 0 where
   pub node : node_at new ≡ node_at old
   pub parties : parties_of new ≡ parties_of old
   pub boxes : (q : ℕ) → (outbox_of new q ≡ [] → ⊥) → outbox_of old q ≡ [] → ⊥
@@ -53,7 +53,7 @@ module _ {O I : Type 0} (pushed : O → Option (List (FrameAt Place))) (out_faul
 module _ {O I : Type 0} (out_vain : O → ℕ) (in_vain : I → ℕ) where
   -- a turn without an event, after which the party can't act
   pub record IsInVain (old new : Worker O I) : Type 0 where
-    pub rests : Rests (node_of old) (node_of new)
+    pub rests : HasNoEvent (node_of old) (node_of new)
     pub ins : InVain in_vain 1 old new
     pub outs : OutVain out_vain 1 old new
     pub halted : IsHalted (nodes.stop_of (node_of new))

@@ -3,14 +3,14 @@ use Rattle.std.specs.Prelude.{ℕ, slice_get, Option, Some, None}
 use Rattle.sj_end.specs.declared.note.Line.{Line}
 use Rattle.sj_lane.specs.declared.lane.Lanes.{Lanes}
 use Rattle.sj_node.specs.declared.node.Node.{Node}
-use Rattle.sj_work.specs.declared.worker.Answer.{Answer}
-use Rattle.sj_work.specs.declared.worker.Answer.TheVariants as answers
+use Rattle.sj_work.specs.declared.worker.Outcome.{Outcome}
+use Rattle.sj_work.specs.declared.worker.Outcome.TheVariants as answers
 use Rattle.sj_work.specs.declared.worker.Stop.{Stop}
 use Rattle.sj_work.specs.declared.worker.Stop.TheVariants as stops
 use Rattle.sj_work.specs.declared.worker.Worker.{Worker}
 
 -- the stop that an answer says
-abbrev pub stop_at : Answer → Stop
+abbrev pub stop_at : Outcome → Stop
 stop_at answers.Finished = stops.Finished
 stop_at answers.Idle = stops.Idle
 stop_at answers.AtLimit = stops.AtLimit
@@ -19,12 +19,12 @@ stop_at answers.NoMemory = stops.NoMemory
 stop_at answers.Fault = stops.Fault
 stop_at (answers.Unfit line) = stops.Unfit
 
-abbrev pub stop_in : Option Answer → Option Stop
+abbrev pub stop_in : Option Outcome → Option Stop
 stop_in None = None
 stop_in (Some answer) = Some (stop_at answer)
 
 -- the line of what didn't fit, of such a stop alone
-abbrev pub line_at : Answer → Option Line
+abbrev pub line_at : Outcome → Option Line
 line_at answers.Finished = None
 line_at answers.Idle = None
 line_at answers.AtLimit = None
@@ -33,7 +33,7 @@ line_at answers.NoMemory = None
 line_at answers.Fault = None
 line_at (answers.Unfit line) = Some line
 
-abbrev pub line_in : Option Answer → Option Line
+abbrev pub line_in : Option Outcome → Option Line
 line_in None = None
 line_in (Some answer) = line_at answer
 

@@ -4,7 +4,7 @@ use Rattle.sj_lang.specs.Place.{Place, done}
 use Rattle.sj_rules.specs.Frames.{FrameAt}
 use Rattle.sj_rules.specs.Limits.{clock_end}
 use Rattle.sj_rules.specs.Work.{LaneWork, LostAt}
-use Rattle.sj_node.specs.Node.{clock_of, play_of}
+use Rattle.sj_node.specs.Node.{clock_of, play_here}
 use Rattle.sj_node.specs.Reading.{IsFinished, parties_of, party_of}
 use Rattle.sj_work.specs.declared.worker.Stop.{Stop}
 use Rattle.sj_work.specs.declared.worker.Stop.TheVariants as stops
@@ -27,8 +27,8 @@ module _ {O I : Type 0} (pushed : O → Option (List (FrameAt Place))) (out_faul
   -- part, its clock didn't fall, and no count of a lane did; lanes from no party of the file stay as they are, and where the
   -- clock stands at its end, so do all lanes from parties
   pub record Went (lost : Option (LostAt Place)) (old new : Worker O I) : Type 0 where
-    pub work : LaneWork pushed same_out popped same_in (play_of (node_of old)) max done (party_of (node_of old)) (laned old) (laned new) lost
-    pub play : play_of (node_of new) ≡ play_of (node_of old)
+    pub work : LaneWork pushed same_out popped same_in (play_here (node_of old)) max done (party_of (node_of old)) (laned old) (laned new) lost
+    pub play : play_here (node_of new) ≡ play_here (node_of old)
     pub party : party_of (node_of new) ≡ party_of (node_of old)
     pub parties : parties_of (node_of new) ≡ parties_of (node_of old)
     pub clock : clock_of (node_of old) ≤ clock_of (node_of new)

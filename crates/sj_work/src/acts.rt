@@ -4,17 +4,14 @@ ghost use Rattle.sj_node.specs.Node.{clock_of, due_of};
 ghost use Rattle.sj_node.specs.Node as nodes;
 ghost use Rattle.sj_work.specs.Answers.{SaysHalt, SeesFinished};
 ghost use Rattle.sj_work.specs.Causes.{own_line};
-ghost use Rattle.sj_work.specs.Turns.{IsGoing, IsHalted, Rests, Turns};
+ghost use Rattle.sj_work.specs.Turns.{IsGoing, IsHalted, HasNoEvent, Turns};
 ghost use Rattle.sj_work.specs.Views.{lanes_of, looks_of, node_of, stop_of};
 ghost use Rattle.sj_rules.specs.Limits.{clock_end};
 
-use crate::worker::{Answer, Gate, Worker};
-use sj_end::Line;
+use crate::worker::{Gate, Outcome, Worker};
+use sj_end::{CLOCK_END, Line};
 use sj_lane::{InLane, OutLane};
 use sj_node::{Halt, Node};
-
-/// No event happens at this clock.
-pub(crate) const CLOCK_END: u64 = 1 << 62;
 
 /// Shows the last event.
 pub(crate) fn show<G: Gate>(node: &Node, gate: &G) {
@@ -24,11 +21,11 @@ pub(crate) fn show<G: Gate>(node: &Node, gate: &G) {
 }
 
 /// What a worker answers whose node is finished.
-pub(crate) fn finished(node: &Node) -> Option<Answer>
+pub(crate) fn finished(node: &Node) -> Option<Outcome>
     ensures { SeesFinished node.now result }
 {
     if node.finished() {
-        Some(Answer::Finished)
+        Some(Outcome::Finished)
     } else {
         None
     }
@@ -50,15 +47,15 @@ fn due_line(node: &Node) -> Line
 }
 
 /// What a worker answers whose node refused an act. A party that is halted is no reason to stop.
-fn refused(node: &Node, halt: Halt) -> Option<Answer>
+fn refused(node: &Node, halt: Halt) -> Option<Outcome>
     requires clock { clock_of node.now < clock_end }
     requires goes { halt ≡ Halt.Unfit → nodes.stop_of node.now ≡ None }
     ensures { SaysHalt node.now halt result }
 {
     match halt {
         Halt::Waits | Halt::Ended | Halt::AtLimit => None,
-        Halt::NoMemory => Some(Answer::NoMemory),
-        Halt::Unfit => Some(Answer::Unfit(due_line(node))),
+        Halt::NoMemory => Some(Outcome::NoMemory),
+        Halt::Unfit => Some(Outcome::Unfit(due_line(node))),
     }
 }
 
@@ -67,13 +64,13 @@ pub(crate) fn act<O: OutLane, I: InLane, G: Gate>(worker: &mut Worker<O, I>, gat
     requires { IsGoing worker.old }
     ensures turns { Turns O.pushed O.faults O.vain O.same I.popped I.faults I.vain I.same worker.old worker.new }
     ensures event { IsTrue result → clock_of (node_of worker.old) < clock_of (node_of worker.new) }
-    ensures rests { IsFalse result → Rests (node_of worker.old) (node_of worker.new) }
+    ensures rests { IsFalse result → HasNoEvent (node_of worker.old) (node_of worker.new) }
     ensures halted { IsFalse result → stop_of worker.new ≡ None → IsHalted (nodes.stop_of (node_of worker.new)) }
     ensures lanes { lanes_of worker.new ≡ lanes_of worker.old }
     ensures looks { looks_of worker.new ≡ looks_of worker.old }
 {
     if worker.node.clock() >= CLOCK_END {
-        worker.answer = Some(Answer::ClockEnd);
+        worker.answer = Some(Outcome::ClockEnd);
         return false;
     }
     match worker.node.act() {

@@ -3,27 +3,27 @@ ghost use Rattle.std.specs.Prelude.{◌≡◌, ◌<◌, IsFalse, IsTrue, None};
 ghost use Rattle.sj_lane.specs.Told.{told_frame};
 ghost use Rattle.sj_node.specs.Node.{clock_of};
 ghost use Rattle.sj_node.specs.Reading.{parties_of};
-ghost use Rattle.sj_work.specs.Answers.{Comes, delivery_answer};
+ghost use Rattle.sj_work.specs.Answers.{TakesFrame, delivery_answer};
 ghost use Rattle.sj_work.specs.Causes.{InVain};
 ghost use Rattle.sj_work.specs.Counts.{OnLane, RoseBy};
 ghost use Rattle.sj_work.specs.Turns.{IsGoing, Turns};
 ghost use Rattle.sj_work.specs.Views.{in_of, looks_of, node_of, stop_of};
 ghost use Rattle.sj_rules.specs.Limits.{clock_end};
 
-use crate::acts::{CLOCK_END, finished, show};
-use crate::worker::{Answer, Gate, Worker};
-use sj_end::{Entry, Event, Frame, Line, note_of};
+use crate::acts::{finished, show};
+use crate::worker::{Gate, Outcome, Worker};
+use sj_end::{CLOCK_END, Entry, Event, Frame, Line, note_of};
 use sj_lane::{InLane, OutLane, PopRefusal};
 use sj_node::{DeliverRefusal, Node};
 
 /// The answer to a frame that the node refused.
-fn refused(node: &Node, from: u16, frame: &Frame, refusal: DeliverRefusal) -> Answer
+fn refused(node: &Node, from: u16, frame: &Frame, refusal: DeliverRefusal) -> Outcome
     requires { clock_of node.now < clock_end }
     ensures { result ≡ delivery_answer node.now from (told_frame frame.now) refusal }
 {
     match refusal {
-        DeliverRefusal::NoMemory => Answer::NoMemory,
-        DeliverRefusal::Unfit => Answer::Unfit(Line {
+        DeliverRefusal::NoMemory => Outcome::NoMemory,
+        DeliverRefusal::Unfit => Outcome::Unfit(Line {
             party: node.party(),
             entry: Entry {
                 clock: node.clock().max(frame.clock.min(CLOCK_END)) + 1,
@@ -35,9 +35,9 @@ fn refused(node: &Node, from: u16, frame: &Frame, refusal: DeliverRefusal) -> An
 }
 
 /// One delivery. Answers why the worker stops, if it does.
-fn deliver<G: Gate>(node: &mut Node, from: u16, frame: Frame, gate: &G) -> Option<Answer>
+fn deliver<G: Gate>(node: &mut Node, from: u16, frame: Frame, gate: &G) -> Option<Outcome>
     requires { clock_of node.old < clock_end }
-    ensures { Comes from frame node.old node.new result }
+    ensures { TakesFrame from frame node.old node.new result }
 {
     match node.deliver(from, frame) {
         Ok(()) => {
@@ -60,7 +60,7 @@ fn look<O: OutLane, I: InLane, G: Gate>(worker: &mut Worker<O, I>, from: u16, ga
     ensures looks { looks_of worker.new ≡ looks_of worker.old }
 {
     if worker.node.clock() >= CLOCK_END {
-        worker.answer = Some(Answer::ClockEnd);
+        worker.answer = Some(Outcome::ClockEnd);
         return false;
     }
     if usize::from(from) >= worker.lanes.ins.len() {
@@ -74,11 +74,11 @@ fn look<O: OutLane, I: InLane, G: Gate>(worker: &mut Worker<O, I>, from: u16, ga
             true
         }
         Err(PopRefusal::Fault) => {
-            worker.answer = Some(Answer::Fault);
+            worker.answer = Some(Outcome::Fault);
             false
         }
         Err(PopRefusal::NoMemory) => {
-            worker.answer = Some(Answer::NoMemory);
+            worker.answer = Some(Outcome::NoMemory);
             false
         }
     }

@@ -4,21 +4,21 @@ ghost use Rattle.sj_node.specs.Outs.{waiting_in};
 ghost use Rattle.sj_node.specs.Reading.{outs_of};
 ghost use Rattle.sj_work.specs.Answers.{push_answer};
 ghost use Rattle.sj_work.specs.Causes.{OutVain};
-ghost use Rattle.sj_work.specs.Turns.{IsGoing, Rests, Tried, Turns};
+ghost use Rattle.sj_work.specs.Turns.{IsGoing, HasNoEvent, Tried, Turns};
 ghost use Rattle.sj_work.specs.Views.{looks_of, node_of, stop_of};
 
 use crate::acts::finished;
-use crate::worker::{Answer, Worker};
+use crate::worker::{Outcome, Worker};
 use sj_lane::{InLane, OutLane, PushRefusal};
 
 /// What a worker answers to a refused push. A full lane is no reason to stop.
-fn refused(refusal: PushRefusal) -> Option<Answer>
+fn refused(refusal: PushRefusal) -> Option<Outcome>
     ensures { result ≡ push_answer refusal }
 {
     match refusal {
         PushRefusal::Full => None,
-        PushRefusal::Fault => Some(Answer::Fault),
-        PushRefusal::NoMemory => Some(Answer::NoMemory),
+        PushRefusal::Fault => Some(Outcome::Fault),
+        PushRefusal::NoMemory => Some(Outcome::NoMemory),
     }
 }
 
@@ -26,7 +26,7 @@ fn refused(refusal: PushRefusal) -> Option<Answer>
 fn push_one<O: OutLane, I: InLane>(worker: &mut Worker<O, I>, to: u16) -> bool
     requires { IsGoing worker.old }
     ensures turns { Turns O.pushed O.faults O.vain O.same I.popped I.faults I.vain I.same worker.old worker.new }
-    ensures rests { Rests (node_of worker.old) (node_of worker.new) }
+    ensures rests { HasNoEvent (node_of worker.old) (node_of worker.new) }
     ensures fewer { IsTrue result → length (waiting_in (outs_of (node_of worker.new)) to)
         < length (waiting_in (outs_of (node_of worker.old)) to) }
     ensures goes_on { IsTrue result → stop_of worker.new ≡ None }
@@ -56,7 +56,7 @@ fn push_one<O: OutLane, I: InLane>(worker: &mut Worker<O, I>, to: u16) -> bool
 fn push_to<O: OutLane, I: InLane>(worker: &mut Worker<O, I>, to: u16)
     requires { IsGoing worker.old }
     ensures turns { Turns O.pushed O.faults O.vain O.same I.popped I.faults I.vain I.same worker.old worker.new }
-    ensures rests { Rests (node_of worker.old) (node_of worker.new) }
+    ensures rests { HasNoEvent (node_of worker.old) (node_of worker.new) }
     ensures tried { stop_of worker.new ≡ None → Tried O.vain to worker.old worker.new }
     ensures looks { looks_of worker.new ≡ looks_of worker.old }
 {
@@ -67,7 +67,7 @@ fn push_to<O: OutLane, I: InLane>(worker: &mut Worker<O, I>, to: u16)
 pub(crate) fn push_all<O: OutLane, I: InLane>(worker: &mut Worker<O, I>)
     requires { IsGoing worker.old }
     ensures turns { Turns O.pushed O.faults O.vain O.same I.popped I.faults I.vain I.same worker.old worker.new }
-    ensures rests { Rests (node_of worker.old) (node_of worker.new) }
+    ensures rests { HasNoEvent (node_of worker.old) (node_of worker.new) }
     ensures tried { stop_of worker.new ≡ None → OutVain O.vain 1 worker.old worker.new }
     ensures looks { looks_of worker.new ≡ looks_of worker.old }
 {

@@ -5,10 +5,11 @@ ghost use Rattle.sj_work.specs.Turns.{IsGoing, IsInVain, Turns};
 ghost use Rattle.sj_work.specs.Views.{looks_of, node_of, stop_of};
 ghost use Rattle.sj_work.specs.Worked.{Turned, Worked, kept_stop};
 
-use crate::acts::{CLOCK_END, act, finished};
+use crate::acts::{act, finished};
 use crate::pops::look_all;
 use crate::pushes::push_all;
-use crate::worker::{Answer, Gate, Stop, Worker};
+use crate::worker::{Gate, Outcome, Stop, Worker};
+use sj_end::CLOCK_END;
 use sj_lane::{InLane, OutLane};
 
 /// One turn: a pop from each origin, in order, with its delivery; pushes as far as the lanes take;
@@ -50,11 +51,11 @@ fn until_event<O: OutLane, I: InLane, G: Gate>(worker: &mut Worker<O, I>, looks:
         }
         worker.looks = worker.looks.saturating_add(1);
         if worker.looks >= looks && !idle {
-            worker.answer = Some(Answer::AtLimit);
+            worker.answer = Some(Outcome::AtLimit);
             return;
         }
     }
-    worker.answer = Some(Answer::Idle);
+    worker.answer = Some(Outcome::Idle);
 }
 
 /// Turns until there is a cause to stop.
@@ -69,7 +70,7 @@ fn go<O: OutLane, I: InLane, G: Gate>(worker: &mut Worker<O, I>, looks: u32, gat
             return;
         }
     }
-    worker.answer = Some(Answer::ClockEnd);
+    worker.answer = Some(Outcome::ClockEnd);
 }
 
 /// Turns until the worker stops. A worker that stopped for want of memory, at a fault or at what

@@ -42,7 +42,7 @@ pub enum Stop {
 
 /// What a worker answered last: its stop, with the line of what didn't fit.
 #[derive(Clone, Copy, Debug)]
-pub(crate) enum Answer {
+pub(crate) enum Outcome {
     Finished,
     Idle,
     AtLimit,
@@ -57,7 +57,7 @@ pub(crate) enum Answer {
 pub struct Worker<O, I> {
     pub(crate) node: Node,
     pub(crate) lanes: Lanes<O, I>,
-    pub(crate) answer: Option<Answer>,
+    pub(crate) answer: Option<Outcome>,
     /// How many turns in a row had no event.
     pub(crate) looks: u32,
 }
@@ -89,13 +89,13 @@ impl<O, I> Worker<O, I> {
     {
         match self.answer {
             None => None,
-            Some(Answer::Finished) => Some(Stop::Finished),
-            Some(Answer::Idle) => Some(Stop::Idle),
-            Some(Answer::AtLimit) => Some(Stop::AtLimit),
-            Some(Answer::ClockEnd) => Some(Stop::ClockEnd),
-            Some(Answer::NoMemory) => Some(Stop::NoMemory),
-            Some(Answer::Fault) => Some(Stop::Fault),
-            Some(Answer::Unfit(_)) => Some(Stop::Unfit),
+            Some(Outcome::Finished) => Some(Stop::Finished),
+            Some(Outcome::Idle) => Some(Stop::Idle),
+            Some(Outcome::AtLimit) => Some(Stop::AtLimit),
+            Some(Outcome::ClockEnd) => Some(Stop::ClockEnd),
+            Some(Outcome::NoMemory) => Some(Stop::NoMemory),
+            Some(Outcome::Fault) => Some(Stop::Fault),
+            Some(Outcome::Unfit(_)) => Some(Stop::Unfit),
         }
     }
 
@@ -105,7 +105,7 @@ impl<O, I> Worker<O, I> {
         ensures some { IsSome result ↔ (stop_of self.now ≡ Some Stop.Unfit) }
     {
         match self.answer {
-            Some(Answer::Unfit(line)) => Some(line),
+            Some(Outcome::Unfit(line)) => Some(line),
             _ => None,
         }
     }

@@ -3,13 +3,11 @@ ghost use Rattle.std.specs.Prelude.{◌≡◌, ℕ, IfErr};
 ghost use Rattle.sj_node.specs.Outs.{waiting_in};
 ghost use Rattle.sj_node.specs.Reading.{outs_of};
 
+use sj_end::CLOCK_END;
 use sj_node::{DeliverRefusal, Node};
 
 /// The most acts of a party.
 const MOST_ACTS: u32 = 10_000;
-
-/// No clock comes so far in a run of a file.
-const CLOCK_END: u64 = 1 << 62;
 
 /// Lets a party act until it waits, has ended or is at a limit. How often it did.
 pub fn act_on(node: &mut Node) -> u32 {

@@ -1,7 +1,7 @@
 //! A session that one node opens to another, and Opens that fit no row.
 use crate::node_tests::building::by_request;
-use crate::node_tests::{A, B, CLOCK_END, acts, comes, halts, refused, started};
-use sj_end::{Body, Entry, Event, Frame, Note};
+use crate::node_tests::{A, B, acts, comes, halts, refused, started};
+use sj_end::{Body, CLOCK_END, Entry, Event, Frame, Note};
 use sj_node::{DeliverRefusal, Halt, Node};
 use std::test::Fail;
 

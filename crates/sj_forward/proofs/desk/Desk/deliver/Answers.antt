@@ -1,10 +1,10 @@
 use Rattle.std.proofs.Common.{subst, sym}
 use Rattle.sj_forward.specs.declared.frame.Frame.{Frame}
-use Rattle.sj_forward.specs.Desk.{Comes}
+use Rattle.sj_forward.specs.Desk.{FrameComes}
 use Rattle.sj_forward.specs.Views.{frame_at}
 use Rattle.sj_forward.proofs.ResultLemmas.{on_ok}
 use Rattle.sj_forward.proofs.desk.Desk.deliver.Goals as goal
 
 pub returns-in-Open-clause-ok : goal.returns-in-Open-clause-ok
 returns-in-Open-clause-ok c =
-    on_ok c.offered.result (λ comes. subst (λ (f : Frame). Comes c.args.from (frame_at f) c.args.self.now c.offered.new.self) (sym c.in-Open.is) comes) c.offered.ensures.ok
+    on_ok c.offered.result (λ comes. subst (λ (f : Frame). FrameComes c.args.from (frame_at f) c.args.self.now c.offered.new.self) (sym c.in-Open.is) comes) c.offered.ensures.ok
