@@ -27,7 +27,7 @@ fn at_once<R: Threads + Sync, O: OutLane, I: InLane, G: Gate>(
 
 /// The workers after their work: on a pool of so many threads, in rounds, or, without a number, each
 /// on a thread of its own.
-pub(crate) fn worked_off<R: Threads + Sync, O: OutLane, I: InLane, G: Gate>(
+pub(crate) fn work_off<R: Threads + Sync, O: OutLane, I: InLane, G: Gate>(
     rt: &R,
     alloc: Global,
     workers: Vec<Worker<O, I>>,

@@ -28,7 +28,7 @@ fn logs_of<'a, O: OutLane, I: InLane>(
 }
 
 /// The entries of all logs as lines, by clock and then by party.
-pub(crate) fn joined<O: OutLane, I: InLane>(
+pub(crate) fn join<O: OutLane, I: InLane>(
     alloc: Global,
     workers: &[Worker<O, I>],
 ) -> Result<Vec<Line>, NoMemory>
@@ -42,7 +42,7 @@ pub(crate) fn joined<O: OutLane, I: InLane>(
 }
 
 /// The workers' lanes.
-pub(crate) fn given_up<O: OutLane, I: InLane>(
+pub(crate) fn give_up<O: OutLane, I: InLane>(
     alloc: Global,
     workers: Vec<Worker<O, I>>,
 ) -> Result<Vec<Lanes<O, I>>, NoMemory>

@@ -20,7 +20,7 @@ use std::alloc::Global;
 use std::thread::Threads;
 
 /// Each node with the lanes of its number.
-fn hired<O: OutLane, I: InLane>(
+fn hire<O: OutLane, I: InLane>(
     alloc: Global,
     mut nodes: Vec<Node>,
     mut lanes: Vec<Lanes<O, I>>,
@@ -61,7 +61,7 @@ fn lanes_for<L: Links>(
 }
 
 /// Each party's worker after its work, on a pool of so many threads, or on a thread of its own.
-pub(crate) fn worked<R: Threads + Sync, L: Links, G: Gate>(
+pub(crate) fn set_to_work<R: Threads + Sync, L: Links, G: Gate>(
     rt: &R,
     alloc: Global,
     accepted: &Accepted,

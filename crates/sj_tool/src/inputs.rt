@@ -12,7 +12,7 @@ ghost use Rattle.sj_lang.specs.Limits.{file_limit, source_limit};
 
 use crate::answers::Answer;
 use crate::files::{
-    counted, forwarded_file, played, ran_by_links, ran_by_log, shaped, shown, simulated_file,
+    count, forwarded_file, play, ran_by_links, ran_by_log, shape, shown, simulated_file,
 };
 use sj_base::{NoMemory, ReadRefusal, Source, read_all};
 use sj_command::{Task, task_in};

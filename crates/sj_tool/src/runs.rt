@@ -26,7 +26,7 @@ const USUAL_LOOKS: u32 = 1_000;
 
 /// How the file ends, and what the task prints of the history of its parties over those links, and of
 /// what is drained of it.
-pub(crate) fn ran<R: Threads + Sync, L: Links, G: Gate>(
+pub(crate) fn run_file<R: Threads + Sync, L: Links, G: Gate>(
     rt: &R,
     alloc: Global,
     accepted: &Accepted,
@@ -48,7 +48,7 @@ pub(crate) fn ran<R: Threads + Sync, L: Links, G: Gate>(
 }
 
 // The core world that the parties left, after all that can still happen in it.
-fn drained<R: Threads + Sync, L: Links, G: Gate>(
+fn drain_world<R: Threads + Sync, L: Links, G: Gate>(
     rt: &R,
     alloc: Global,
     accepted: &Accepted,
