@@ -8,14 +8,14 @@ ghost use Rattle.sj_lang.specs.FileView.{file_of};
 ghost use Rattle.sj_lang.specs.Limits.{file_limit};
 ghost use Rattle.sj_explain.specs.Answers.{IsAnswer, TellsIt, answer_line, lead_of};
 
-use crate::answers::{Answer, Looks, answer_text};
-use crate::blocking::put_ending;
+use crate::answers::{CheckAnswer, Looks, answer_text};
 use crate::connections::put_connections;
-use crate::faults::finding;
+use crate::faults::find_fault;
 use crate::marks::{Scanned, Stretch};
 use crate::picture::put_picture;
-use crate::quoting::put_quoted;
+use crate::quotation::put_quoted;
 use crate::rules::{Lesson, check_lesson, syntax_lesson};
+use crate::waits::put_ending;
 use sj_base::NoMemory;
 use sj_check::{Accepted, CheckRefusal, check};
 use sj_lang::File;
@@ -29,7 +29,7 @@ use std::alloc::Global;
 #[derive(Drop)]
 pub struct Told {
     /// What reading and checking come to.
-    pub answer: Answer,
+    pub answer: CheckAnswer,
     /// The line that `sj check` prints, and behind it the reasons; or a picture, where one is asked for.
     pub text: Vec<u8>,
 }
@@ -46,16 +46,22 @@ pub fn why(alloc: Global, looks: Looks, source: &[u8]) -> Result<Told, NoMemory>
         Ok(file) => file,
         Err(ParseRefusal::At(fault)) => {
             let more = syntax_reasons(alloc, looks, source, fault)?;
-            return reasoned(alloc, looks, source, Answer::Syntax(fault), &more);
+            return tell_with_reasons(alloc, looks, source, CheckAnswer::Syntax(fault), &more);
         }
         Err(ParseRefusal::NoMemory) => return Err(NoMemory),
     };
     match check(alloc, file) {
-        Ok(accepted) => accepted_told(alloc, looks, source, &accepted),
+        Ok(accepted) => tell_accepted(alloc, looks, source, &accepted),
         Err((file, refusal)) => match refusal {
             CheckRefusal::At { rule, line } => {
                 let more = check_reasons(alloc, looks, source, &file, rule, line)?;
-                reasoned(alloc, looks, source, Answer::Check { rule, line }, &more)
+                tell_with_reasons(
+                    alloc,
+                    looks,
+                    source,
+                    CheckAnswer::Check { rule, line },
+                    &more,
+                )
             }
             CheckRefusal::NoMemory => Err(NoMemory),
         },
@@ -63,7 +69,7 @@ pub fn why(alloc: Global, looks: Looks, source: &[u8]) -> Result<Told, NoMemory>
 }
 
 // What an accepted file comes to.
-fn accepted_told(
+fn tell_accepted(
     alloc: Global,
     looks: Looks,
     source: &[u8],
@@ -79,29 +85,29 @@ fn accepted_told(
     let mut more = Vec::new(alloc);
     if looks.drawn {
         put_picture(alloc, &mut more, file, &plain)?;
-        return drawn(alloc, looks, source, counts(file), &more);
+        return tell_with_picture(alloc, looks, source, counts(file), &more);
     }
     put_connections(alloc, &mut more, file)?;
     put_ending(alloc, &mut more, file, &plain)?;
-    reasoned(alloc, looks, source, counts(file), &more)
+    tell_with_reasons(alloc, looks, source, counts(file), &more)
 }
 
-fn counts(file: &File) -> Answer
+fn counts(file: &File) -> CheckAnswer
     ensures { result
-        ≡ Answer.Accepted (length (file_of file.now).parties) (length (file_of file.now).connects) }
+        ≡ CheckAnswer.Accepted (length (file_of file.now).parties) (length (file_of file.now).connects) }
 {
-    Answer::Accepted {
+    CheckAnswer::Accepted {
         parties: file.parties.len(),
         sessions: file.connects.len(),
     }
 }
 
 // The line of an answer to the source, and more behind it.
-fn reasoned(
+fn tell_with_reasons(
     alloc: Global,
     looks: Looks,
     source: &[u8],
-    answer: Answer,
+    answer: CheckAnswer,
     more: &[u8],
 ) -> Result<Told, NoMemory>
     requires is { IsAnswer source.now answer }
@@ -115,11 +121,11 @@ fn reasoned(
 }
 
 // A picture that answers the source, with more behind its first word.
-fn drawn(
+fn tell_with_picture(
     alloc: Global,
     looks: Looks,
     source: &[u8],
-    answer: Answer,
+    answer: CheckAnswer,
     more: &[u8],
 ) -> Result<Told, NoMemory>
     requires is { IsAnswer source.now answer }
@@ -198,7 +204,7 @@ fn check_reasons(
 {
     let lesson = check_lesson(rule);
     let mut text = Vec::new(alloc);
-    match finding(alloc, file, line)? {
+    match find_fault(alloc, file, line)? {
         Some(finding) if finding.rule == rule && finding.site.line == line => {
             let scanned = Scanned::of(alloc, source)?;
             let first = scanned.stretch(&file.names, finding.site, finding.mark);

@@ -1,6 +1,7 @@
 //! What is told of small files, and of words that are none.
-use crate::{Answer, Looks, explain, why};
+
 use sj_base::{MemSink, MemSource};
+use sj_explain::{Looks, explain, why};
 use std::test::Fail;
 
 const LOOKS: Looks = Looks {
