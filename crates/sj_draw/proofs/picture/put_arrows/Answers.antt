@@ -3,7 +3,7 @@ use Rattle.std.proofs.lemmas.List.{at_drop_more}
 use Rattle.sj_draw.specs.Drawn.{arrows_text}
 use Rattle.sj_draw.specs.Views.{arrow_at}
 use Rattle.sj_draw.proofs.TextLemmas.{go_on}
-use Rattle.sj_draw.proofs.drawing.put_arrows.Goals as goal
+use Rattle.sj_draw.proofs.picture.put_arrows.Goals as goal
 
 pub loop-k-preserved : goal.loop-k-preserved
 loop-k-preserved c =

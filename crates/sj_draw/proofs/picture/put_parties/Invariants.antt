@@ -1,6 +1,6 @@
 use Rattle.std.proofs.Common.{◌≡◌, ◌++◌, ℕ, List, map, drop, Bor}
 use Rattle.sj_draw.specs.Drawn.{parties_text}
-use Rattle.sj_draw.proofs.drawing.put_parties.Given as goal
+use Rattle.sj_draw.proofs.picture.put_parties.Given as goal
 
 -- with what is left it is the whole
 abbrev pub invariant-loop-i : goal.invariant-loop-i

@@ -1,7 +1,7 @@
 use Rattle.std.proofs.Common.{◌≡◌, map, drop}
-use Rattle.sj_draw.specs.Frame.{name_of}
+use Rattle.sj_draw.specs.Chart.{name_of}
 use Rattle.sj_draw.specs.Views.{session_at}
-use Rattle.sj_draw.proofs.frame.name_of.Given as goal
+use Rattle.sj_draw.proofs.chart.name_of.Given as goal
 
 -- the name is that of a session that is left, or of none
 abbrev pub invariant-loop-session : goal.invariant-loop-session

@@ -18,7 +18,7 @@ pub record ArrowAt : Type 0 where
 
 -- parties in order of first mention, sessions and arrows in order; the most bytes of a party's name, and of an
 -- arrow's name and text together; whether some arrow goes to no other party
-pub record FrameAt : Type 0 where
+pub record ChartAt : Type 0 where
   pub parties : List (List ℕ)
   pub sessions : List SessionAt
   pub arrows : List ArrowAt
@@ -26,7 +26,7 @@ pub record FrameAt : Type 0 where
   pub texts : ℕ
   pub hooks : Bool
 
-abbrev pub empty : FrameAt
+abbrev pub empty : ChartAt
 empty = record { parties = []; sessions = []; arrows = []; names = 0; texts = 0; hooks = false }
 
 -- the number of the party of that name, or of the next one
@@ -39,25 +39,25 @@ abbrev pub joined_by : List (List ℕ) → List ℕ → List (List ℕ)
 joined_by ps name = if nat_lt (number_of ps name) (length ps) then ps else ps ++ name ∷ []
 
 -- an end that nobody accepted has no name
-abbrev pub named : List ℕ → List ℕ → List ℕ
-named name end = if bytes_eq name (codes "-") then end else name
+abbrev pub name_or_end : List ℕ → List ℕ → List ℕ
+name_or_end name end = if bytes_eq name (codes "-") then end else name
 
 -- the name of an end of a session, or the end as it is written where it has none, or no session has that number
 abbrev pub name_of : List SessionAt → List ℕ → Bool → List ℕ
 name_of [] end first = end
 name_of (s ∷ ss) end first =
-    if bytes_eq s.number (before 46 end) then named (if first then s.first_end else s.second_end) end
+    if bytes_eq s.number (before 46 end) then name_or_end (if first then s.first_end else s.second_end) end
     else name_of ss end first
 
 -- a party is mentioned
-abbrev pub with_party : FrameAt → List ℕ → FrameAt
+abbrev pub with_party : ChartAt → List ℕ → ChartAt
 with_party f name = record f { parties = joined_by f.parties name; names = max f.names (length name) }
 
-abbrev pub with_session : FrameAt → SessionAt → FrameAt
+abbrev pub with_session : ChartAt → SessionAt → ChartAt
 with_session f s = record f { sessions = f.sessions ++ s ∷ [] }
 
 -- the arrow of a message or a frame whose parties are mentioned
-abbrev pub arrow_of : FrameAt → PassedAt → ArrowAt
+abbrev pub arrow_of : ChartAt → PassedAt → ArrowAt
 arrow_of f p = record {
   mark = p.mark;
   from = number_of f.parties p.from;
@@ -82,18 +82,18 @@ abbrev pub is_hook : ℕ → Option ℕ → Bool
 is_hook from None = true
 is_hook from (Some to) = nat_eq from to
 
-abbrev pub with_arrow : FrameAt → ArrowAt → FrameAt
+abbrev pub with_arrow : ChartAt → ArrowAt → ChartAt
 with_arrow f a = record f {
   arrows = f.arrows ++ a ∷ [];
   texts = max f.texts (length a.name + length a.text);
   hooks = f.hooks || is_hook a.from a.to;
 }
 
-abbrev pub with_passed : FrameAt → PassedAt → FrameAt
+abbrev pub with_passed : ChartAt → PassedAt → ChartAt
 with_passed f p = with_arrow f (arrow_of f p)
 
 -- a party is mentioned where there is one
-abbrev pub with_any : FrameAt → Option (List ℕ) → FrameAt
+abbrev pub with_any : ChartAt → Option (List ℕ) → ChartAt
 with_any f None = f
 with_any f (Some name) = with_party f name
 
@@ -102,7 +102,7 @@ abbrev pub is_untaken : ArrowAt → Bool
 is_untaken a = is_none a.to
 
 -- what a line adds; the arrows of an opened session begin with that of its request; where a log begins, the arrows of messages that were taken go, since the log has their frames
-abbrev pub with_line : FrameAt → LineAt → FrameAt
+abbrev pub with_line : ChartAt → LineAt → ChartAt
 with_line f (Session s) = with_session (with_party (with_party f s.first_party) s.second_party) s
 with_line f (Opened s) = with_passed (with_session (with_party (with_party f s.first_party) s.second_party) s) (request_of s)
 with_line f (Party name) = with_party f name
@@ -129,28 +129,28 @@ most_name = 64
 abbrev pub most_text : ℕ
 most_text = 1024
 
-abbrev pub is_within : FrameAt → Bool
+abbrev pub is_within : ChartAt → Bool
 is_within f =
     nat_le (length f.parties) most_parties && nat_le (length f.sessions) most_sessions && nat_le (length f.arrows) most_arrows
     && nat_le f.names most_name && nat_le f.texts most_text
 
--- what comes of lines: a frame, or the number of the first line that is none, or that passes a limit
+-- what comes of lines: a chart, or the number of the first line that is none, or that passes a limit
 pub data Outcome : Type 0 where
-  Gathered : FrameAt → Outcome
+  Gathered : ChartAt → Outcome
   Unread : ℕ → Outcome
   Beyond : ℕ → Outcome
 
-abbrev pub outcome_with : FrameAt → ℕ → Option LineAt → Outcome
+abbrev pub outcome_with : ChartAt → ℕ → Option LineAt → Outcome
 outcome_with f n None = Unread n
 outcome_with f n (Some line) = if is_within (with_line f line) then Gathered (with_line f line) else Beyond n
 
--- the frame goes on
-abbrev pub then_on : Outcome → (FrameAt → Outcome) → Outcome
+-- the chart goes on
+abbrev pub then_on : Outcome → (ChartAt → Outcome) → Outcome
 then_on (Gathered f) next = next f
 then_on (Unread n) next = Unread n
 then_on (Beyond n) next = Beyond n
 
--- what comes of the lines from that number on, behind a frame
-abbrev pub gathered : FrameAt → ℕ → List (List ℕ) → Outcome
+-- what comes of the lines from that number on, behind a chart
+abbrev pub gathered : ChartAt → ℕ → List (List ℕ) → Outcome
 gathered f n [] = Gathered f
 gathered f n (l ∷ ls) = then_on (outcome_with f n (read l)) (λ g. gathered g (n + 1) ls)

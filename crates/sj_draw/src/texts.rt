@@ -1,12 +1,12 @@
 //! From lines to a picture.
 ghost use Rattle.std.specs.Prelude.{◌≡◌, IfOk, IfErr, IsTrue, map};
-ghost use Rattle.sj_draw.specs.Frame.{empty, gathered, is_within, Gathered};
+ghost use Rattle.sj_draw.specs.Chart.{empty, gathered, is_within, Gathered};
 ghost use Rattle.sj_draw.specs.Answer.{IsDrawn, IsRefused, lines_of, outcome_of, whole_lines, parted};
-ghost use Rattle.sj_draw.specs.Views.{frame_at};
+ghost use Rattle.sj_draw.specs.Views.{chart_at};
 
-use crate::drawing::put_picture;
-use crate::frame::Frame;
+use crate::chart::Chart;
 use crate::lines::read_line;
+use crate::picture::put_picture;
 use sj_base::NoMemory;
 use std::alloc::{AllocError, Global};
 
@@ -32,35 +32,35 @@ pub fn draw_lines(alloc: Global, bytes: &[u8]) -> Result<Vec<u8>, DrawRefusal>
         Ok(lines) => lines,
         Err(NoMemory) => return Err(DrawRefusal::NoMemory),
     };
-    let frame = gathered(alloc, &lines)?;
+    let chart = gather(alloc, &lines)?;
     let mut text = Vec::new(alloc);
-    match put_picture(&mut text, &frame) {
+    match put_picture(&mut text, &chart) {
         Ok(()) => Ok(text),
         Err(NoMemory) => Err(DrawRefusal::NoMemory),
     }
 }
 
 // What is gathered of the lines.
-fn gathered<'a>(alloc: Global, lines: &[&'a [u8]]) -> Result<Frame<'a>, DrawRefusal>
+fn gathered<'a>(alloc: Global, lines: &[&'a [u8]]) -> Result<Chart<'a>, DrawRefusal>
     ensures ok { IfOk result (λ f. gathered empty 1 (map (λ l. l.now) lines.now)
-        ≡ Gathered (frame_at f)) }
-    ensures within { IfOk result (λ f. IsTrue (is_within (frame_at f))) }
+        ≡ Gathered (chart_at f)) }
+    ensures within { IfOk result (λ f. IsTrue (is_within (chart_at f))) }
     ensures err { IfErr result (IsRefused (gathered empty 1 (map (λ l. l.now) lines.now))) }
 {
-    let mut frame = Frame::new(alloc);
+    let mut chart = Chart::new(alloc);
     for (i, bytes) in lines.iter().enumerate() {
         let Some(line) = read_line(bytes) else {
             return Err(DrawRefusal::Unread(i + 1));
         };
-        match frame.take(line) {
+        match chart.take(line) {
             Ok(()) => {}
             Err(NoMemory) => return Err(DrawRefusal::NoMemory),
         }
-        if !frame.is_within() {
+        if !chart.is_within() {
             return Err(DrawRefusal::Beyond(i + 1));
         }
     }
-    Ok(frame)
+    Ok(chart)
 }
 
 // The lines of a text, without the newline at its end.

@@ -1,8 +1,8 @@
 -- Arrows that stay where a log begins.
 use Rattle.std.proofs.Common.{◌≡◌, Bool, true, false, List, [], ◌∷◌, map, cond, is_none, refl, ap, ◌∙◌}
 use Rattle.std.specs.List.{filter}
-use Rattle.sj_draw.specs.declared.frame.Arrow.{Arrow}
-use Rattle.sj_draw.specs.Frame.{ArrowAt, is_untaken}
+use Rattle.sj_draw.specs.declared.chart.Arrow.{Arrow}
+use Rattle.sj_draw.specs.Chart.{ArrowAt, is_untaken}
 use Rattle.sj_draw.specs.Views.{arrow_at}
 
 by_test : (b : Bool) (x : Arrow) (ys : List Arrow) (zs : List ArrowAt) → map arrow_at ys ≡ zs → map arrow_at (cond b (x ∷ ys) ys) ≡ cond b (arrow_at x ∷ zs) zs

@@ -1,7 +1,7 @@
 use Rattle.std.proofs.Common.{◌≡◌, ◌++◌, map, drop}
 use Rattle.sj_draw.specs.Drawn.{arrows_text}
 use Rattle.sj_draw.specs.Views.{arrow_at}
-use Rattle.sj_draw.proofs.drawing.put_arrows.Given as goal
+use Rattle.sj_draw.proofs.picture.put_arrows.Given as goal
 
 -- with what is left it is the whole
 abbrev pub invariant-loop-k : goal.invariant-loop-k

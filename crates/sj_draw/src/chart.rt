@@ -1,9 +1,9 @@
 //! What is gathered of lines: parties and sessions in order, and the arrows that a picture shows.
 ghost use Rattle.std.specs.Prelude.{◌≡◌, ◌≤◌, OnOk, map, length};
 ghost use Rattle.std.specs.Option.{option_map};
-ghost use Rattle.sj_draw.specs.Frame.{empty, number_of, named, name_of, request_of, with_party, with_any, with_passed, with_line, is_within, is_hook};
+ghost use Rattle.sj_draw.specs.Chart.{empty, number_of, name_or_end, name_of, request_of, with_party, with_any, with_passed, with_line, is_within, is_hook};
 ghost use Rattle.sj_draw.specs.Lines.{Log};
-ghost use Rattle.sj_draw.specs.Views.{session_at, passed_at, line_at, frame_at};
+ghost use Rattle.sj_draw.specs.Views.{session_at, passed_at, line_at, chart_at};
 
 use crate::lines::{Line, Mark, Passed, Session};
 use crate::words::cut;
@@ -37,7 +37,7 @@ pub(crate) struct Arrow<'a> {
 
 /// What is gathered of lines.
 #[derive(Drop)]
-pub(crate) struct Frame<'a> {
+pub(crate) struct Chart<'a> {
     /// In order of first mention.
     pub parties: Vec<&'a [u8]>,
     pub sessions: Vec<Session<'a>>,
@@ -50,12 +50,12 @@ pub(crate) struct Frame<'a> {
     pub hooks: bool,
 }
 
-impl<'a> Frame<'a> {
+impl<'a> Chart<'a> {
     /// Nothing is gathered.
-    pub fn new(alloc: Global) -> Frame<'a>
-        ensures { frame_at result ≡ empty }
+    pub fn new(alloc: Global) -> Chart<'a>
+        ensures { chart_at result ≡ empty }
     {
-        Frame {
+        Chart {
             parties: Vec::new(alloc),
             sessions: Vec::new(alloc),
             arrows: Vec::new(alloc),
@@ -67,7 +67,7 @@ impl<'a> Frame<'a> {
 
     /// Whether the limits hold.
     pub fn is_within(&self) -> bool
-        ensures { result ≡ is_within (frame_at self.now) }
+        ensures { result ≡ is_within (chart_at self.now) }
     {
         self.parties.len() <= MOST_PARTIES
             && self.sessions.len() <= MOST_SESSIONS
@@ -79,7 +79,7 @@ impl<'a> Frame<'a> {
     /// Adds what a line tells. Where a log begins, the arrows of messages that were taken go, since the log
     /// has their frames.
     pub fn take(&mut self, line: Line<'a>) -> Result<(), NoMemory>
-        ensures { OnOk result (frame_at self.new ≡ with_line (frame_at self.old) (line_at line.entry)) }
+        ensures { OnOk result (chart_at self.new ≡ with_line (chart_at self.old) (line_at line.entry)) }
     {
         match line {
             Line::Session(session) => {
@@ -115,14 +115,14 @@ impl<'a> Frame<'a> {
 
     // Only arrows of messages that nobody took stay.
     fn begin_log(&mut self)
-        ensures { frame_at self.new ≡ with_line (frame_at self.old) Log }
+        ensures { chart_at self.new ≡ with_line (chart_at self.old) Log }
     {
         self.arrows.retain(|a| a.to.is_none());
     }
 
     fn mention_any(&mut self, name: Option<&'a [u8]>) -> Result<(), NoMemory>
-        ensures { OnOk result (frame_at self.new
-            ≡ with_any (frame_at self.old) (option_map (λ n. n.now) name.entry)) }
+        ensures { OnOk result (chart_at self.new
+            ≡ with_any (chart_at self.old) (option_map (λ n. n.now) name.entry)) }
     {
         match name {
             Some(name) => self.mention(name),
@@ -131,7 +131,7 @@ impl<'a> Frame<'a> {
     }
 
     fn mention(&mut self, name: &'a [u8]) -> Result<(), NoMemory>
-        ensures { OnOk result (frame_at self.new ≡ with_party (frame_at self.old) name.entry.now) }
+        ensures { OnOk result (chart_at self.new ≡ with_party (chart_at self.old) name.entry.now) }
     {
         self.names = self.names.max(name.len());
         if number_of(&self.parties, name) < self.parties.len() {
@@ -143,7 +143,7 @@ impl<'a> Frame<'a> {
 
     // Adds the arrow of a message or a frame whose parties are mentioned.
     fn draw(&mut self, passed: Passed<'a>) -> Result<(), NoMemory>
-        ensures { OnOk result (frame_at self.new ≡ with_passed (frame_at self.old) (passed_at passed.entry)) }
+        ensures { OnOk result (chart_at self.new ≡ with_passed (chart_at self.old) (passed_at passed.entry)) }
     {
         let from = number_of(&self.parties, passed.from);
         let to = match passed.to {
@@ -196,9 +196,9 @@ fn name_of<'a>(sessions: &[Session<'a>], end: &'a [u8], first: bool) -> &'a [u8]
     for session in sessions {
         if session.number == number {
             return if first {
-                named(session.first_end, end)
+                name_or_end(session.first_end, end)
             } else {
-                named(session.second_end, end)
+                name_or_end(session.second_end, end)
             };
         }
     }
@@ -206,8 +206,8 @@ fn name_of<'a>(sessions: &[Session<'a>], end: &'a [u8], first: bool) -> &'a [u8]
 }
 
 // An end that nobody accepted has no name.
-fn named<'a>(name: &'a [u8], end: &'a [u8]) -> &'a [u8]
-    ensures { result.now ≡ named name.entry.now end.entry.now }
+fn name_or_end<'a>(name: &'a [u8], end: &'a [u8]) -> &'a [u8]
+    ensures { result.now ≡ name_or_end name.entry.now end.entry.now }
 {
     if name == b"-".as_slice() { end } else { name }
 }

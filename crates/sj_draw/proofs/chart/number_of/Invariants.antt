@@ -1,6 +1,6 @@
 use Rattle.std.proofs.Common.{◌≡◌, ◌+◌, ℕ, List, map, drop, Bor}
-use Rattle.sj_draw.specs.Frame.{number_of}
-use Rattle.sj_draw.proofs.frame.number_of.Given as goal
+use Rattle.sj_draw.specs.Chart.{number_of}
+use Rattle.sj_draw.proofs.chart.number_of.Given as goal
 
 -- none of those before is of that name
 abbrev pub invariant-loop-i : goal.invariant-loop-i

@@ -1,11 +1,11 @@
-//! The picture of a frame: its head, a line for each party, an arrow for each message or frame, and its foot.
+//! The picture of a chart: its head, a line for each party, an arrow for each message or frame, and its foot.
 ghost use Rattle.std.specs.Prelude.{◌≡◌, ◌≤◌, ◌<◌, ◌++◌, OnOk, IsTrue, length, map};
-ghost use Rattle.sj_draw.specs.Frame.{is_within, most_arrows};
+ghost use Rattle.sj_draw.specs.Chart.{is_within, most_arrows};
 ghost use Rattle.sj_draw.specs.Drawn.{head_text, party_text, parties_text, class_of, end_class, way_of, arrow_text, arrows_text, picture, picture_at};
 ghost use Rattle.sj_draw.specs.Small.{IsSmall};
-ghost use Rattle.sj_draw.specs.Views.{arrow_at, frame_at};
+ghost use Rattle.sj_draw.specs.Views.{arrow_at, chart_at};
 
-use crate::frame::{Arrow, Frame};
+use crate::chart::{Arrow, Chart};
 use crate::layout::{Layout, layout_of};
 use crate::lines::Mark;
 use crate::pieces::Piece::{Escaped, Number, Plain};
@@ -14,24 +14,24 @@ use crate::style::STYLE;
 use sj_base::NoMemory;
 use sj_text::put;
 
-/// Puts the picture of a frame behind the text.
-pub(crate) fn put_picture(text: &mut Vec<u8>, frame: &Frame<'_>) -> Result<(), NoMemory>
-    requires { IsTrue (is_within (frame_at frame.now)) }
-    ensures { OnOk result (text.new.items ≡ text.old.items ++ picture (frame_at frame.now)) }
+/// Puts the picture of a chart behind the text.
+pub(crate) fn put_picture(text: &mut Vec<u8>, chart: &Chart<'_>) -> Result<(), NoMemory>
+    requires { IsTrue (is_within (chart_at chart.now)) }
+    ensures { OnOk result (text.new.items ≡ text.old.items ++ picture (chart_at chart.now)) }
 {
-    put_picture_at(text, layout_of(frame), frame)
+    put_picture_at(text, layout_of(chart), chart)
 }
 
-fn put_picture_at(text: &mut Vec<u8>, layout: Layout, frame: &Frame<'_>) -> Result<(), NoMemory>
+fn put_picture_at(text: &mut Vec<u8>, layout: Layout, chart: &Chart<'_>) -> Result<(), NoMemory>
     requires small { IsSmall layout }
-    requires few { length frame.now.arrows.items ≤ most_arrows }
+    requires few { length chart.now.arrows.items ≤ most_arrows }
     ensures { OnOk result (text.new.items
-        ≡ text.old.items ++ picture_at layout (frame_at frame.now)) }
+        ≡ text.old.items ++ picture_at layout (chart_at chart.now)) }
 {
-    put_head(text, layout, layout.width_of(frame.parties.len()))?;
+    put_head(text, layout, layout.width_of(chart.parties.len()))?;
     put(text, STYLE)?;
-    put_parties(text, layout, &frame.parties)?;
-    put_arrows(text, layout, &frame.arrows)?;
+    put_parties(text, layout, &chart.parties)?;
+    put_arrows(text, layout, &chart.arrows)?;
     put(text, b"</svg>\n")
 }
 
