@@ -1,7 +1,7 @@
 use Rattle.std.proofs.Common.{◌++◌}
 use Rattle.sj_text.proofs.CutLemmas.{cut_in_first, cut_behind, on_err, err_behind}
 use Rattle.sj_generator.specs.Generated.{sender, giver, adder, group}
-use Rattle.sj_generator.proofs.printing.put_group.Goals as goal
+use Rattle.sj_generator.proofs.text.put_group.Goals as goal
 
 pub returns-in_err-put_sender-clause-err : goal.returns-in_err-put_sender-clause-err
 unfolding group

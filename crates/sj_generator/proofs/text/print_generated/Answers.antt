@@ -1,7 +1,7 @@
 use Rattle.std.proofs.Common.{◌++◌}
 use Rattle.sj_text.proofs.CutLemmas.{err_behind}
 use Rattle.sj_generator.specs.Generated.{protocols, group, connections, of_each}
-use Rattle.sj_generator.proofs.printing.print_generated.Goals as goal
+use Rattle.sj_generator.proofs.text.print_generated.Goals as goal
 
 pub returns-clause-err : goal.returns-clause-err
 returns-clause-err c =

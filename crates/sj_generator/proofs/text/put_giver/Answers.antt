@@ -1,7 +1,7 @@
 use Rattle.std.specs.Prelude.{codes}
 use Rattle.sj_text.proofs.CutLemmas.{cut_in_first, on_err}
 use Rattle.sj_generator.specs.Generated.{numbered}
-use Rattle.sj_generator.proofs.printing.put_giver.Goals as goal
+use Rattle.sj_generator.proofs.text.put_giver.Goals as goal
 
 pub returns-in_err-put_numbered-clause-err : goal.returns-in_err-put_numbered-clause-err
 returns-in_err-put_numbered-clause-err c =

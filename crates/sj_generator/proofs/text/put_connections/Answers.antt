@@ -2,7 +2,7 @@ use Rattle.std.proofs.Common.{◌≡◌, ℕ, List, [], ◌∷◌, ◌++◌, ap,
 use Rattle.std.specs.Prelude.{codes, decimal}
 use Rattle.sj_text.proofs.CutLemmas.{whole_is, cut_in_first, cut_behind, on_err, err_whole, err_behind}
 use Rattle.sj_generator.specs.Generated.{numbered_twice, connections}
-use Rattle.sj_generator.proofs.printing.put_connections.Goals as goal
+use Rattle.sj_generator.proofs.text.put_connections.Goals as goal
 
 -- the two halves of a connection's line
 abbrev from : List ℕ → List ℕ → ℕ → List ℕ
