@@ -4,10 +4,10 @@ ghost use Rattle.sj_lane.specs.Square.{AllJoined, HasFault, IsFresh, IsSquare, K
 ghost use Rattle.sj_lane.specs.Told.{Rose};
 ghost use Rattle.sj_socket.specs.Counts.{capped_sum, faults_make, met};
 
-use crate::carrying::carry_all;
-use crate::counting::{counted, with_all};
+use crate::carries::carry_all;
+use crate::faults::{add_faults, with_all};
+use crate::grid::all_lanes;
 use crate::in_lane::SocketIn;
-use crate::making::all_lanes;
 use crate::out_lane::SocketOut;
 use sj_base::NoMemory;
 use sj_lane::{InLane, Lanes, Links, MakeRefusal, OutLane};
@@ -88,7 +88,7 @@ impl<R: Net + Drop> Links for SocketLinks<R> {
         ensures raised { HasFault ⟦<SocketOut as OutLane>⟧.faults ⟦<SocketIn as InLane>⟧.faults lanes.items → Rose self.old.faults self.new.faults }
         ensures counts { self.new.faults ≡ capped_sum self.old.faults (met lanes.items) }
     {
-        self.faults = counted(self.faults, with_all(0, &lanes));
+        self.faults = add_faults(self.faults, with_all(0, &lanes));
         drop(lanes);
     }
 

@@ -2,7 +2,7 @@ use Rattle.std.proofs.Common.{◌∙◌, ◌-◌, ◌^◌, ap, take}
 use Rattle.sj_socket.specs.Counts.{capped_sum, met_out}
 use Rattle.sj_socket.specs.declared.out_lane.SocketOut.{SocketOut}
 use Rattle.sj_socket.proofs.SumLemmas.{next_sum, total_next, total_whole}
-use Rattle.sj_socket.proofs.counting.with_outs.Goals as goal
+use Rattle.sj_socket.proofs.faults.with_outs.Goals as goal
 
 pub loop-out-preserved : goal.loop-out-preserved
 loop-out-preserved c =

@@ -41,7 +41,7 @@ pub(crate) fn with_all(before: u64, lanes: &[Lanes<SocketOut, SocketIn>]) -> u64
 }
 
 /// A count with so many more, up to its last value.
-pub(crate) fn counted(before: u64, more: u64) -> u64
+pub(crate) fn add_faults(before: u64, more: u64) -> u64
     ensures sum { result ≡ capped_sum before more }
     ensures least { before ≤ result }
     ensures none { more ≡ 0 → result ≡ before }

@@ -5,7 +5,7 @@ use Rattle.sj_socket.specs.Kept.{LanesKept}
 use Rattle.sj_socket.specs.declared.in_lane.SocketIn.{SocketIn}
 use Rattle.sj_socket.specs.declared.out_lane.SocketOut.{SocketOut}
 use Rattle.sj_socket.proofs.KeptLemmas.{lanes_itself, party_put}
-use Rattle.sj_socket.proofs.carrying.carry_all.Goals as goal
+use Rattle.sj_socket.proofs.carries.carry_all.Goals as goal
 
 pub loop-party-init : goal.loop-party-init
 loop-party-init c = each2_refl LanesKept lanes_itself c.args.lanes.now

@@ -1,7 +1,7 @@
 use Rattle.std.proofs.Common.{length, refl}
 use Rattle.std.proofs.lemmas.Option.{slice_get_read}
 use Rattle.sj_socket.proofs.RowLemmas.{lane_more, out_more}
-use Rattle.sj_socket.proofs.making.join.Goals as goal
+use Rattle.sj_socket.proofs.grid.join.Goals as goal
 
 pub returns-clause-outs : goal.returns-clause-outs
 returns-clause-outs c = rw c.in_ok-push.ensures.items (out_more c.args.to c.args.outs.now.items c.args.ends.0 c.requires.outs c.requires.new.0)

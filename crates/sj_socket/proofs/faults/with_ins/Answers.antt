@@ -2,7 +2,7 @@ use Rattle.std.proofs.Common.{◌∙◌, ◌-◌, ◌^◌, ap, take}
 use Rattle.sj_socket.specs.Counts.{capped_sum, met_in}
 use Rattle.sj_socket.specs.declared.in_lane.SocketIn.{SocketIn}
 use Rattle.sj_socket.proofs.SumLemmas.{next_sum, total_next, total_whole}
-use Rattle.sj_socket.proofs.counting.with_ins.Goals as goal
+use Rattle.sj_socket.proofs.faults.with_ins.Goals as goal
 
 pub loop-lane-preserved : goal.loop-lane-preserved
 loop-lane-preserved c =

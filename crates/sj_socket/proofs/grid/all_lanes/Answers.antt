@@ -2,7 +2,7 @@ use Rattle.std.proofs.Common.{◌≡◌, ℕ, ◌<◌, arith, length, refl, subs
 use Rattle.std.proofs.lemmas.Option.{slice_get_read}
 use Rattle.sj_socket.specs.Rows.{AreNewOuts, Grid}
 use Rattle.sj_socket.proofs.RowLemmas.{outs_more}
-use Rattle.sj_socket.proofs.making.all_lanes.Goals as goal
+use Rattle.sj_socket.proofs.grid.all_lanes.Goals as goal
 
 pub loop-from-preserved : goal.loop-from-preserved
 loop-from-preserved g c =

@@ -1,7 +1,7 @@
 use Rattle.std.proofs.Common.{length, refl, rules}
 use Rattle.std.proofs.lemmas.Option.{slice_get_read}
 use Rattle.sj_socket.proofs.KeptLemmas.{ins_put, ins_same, outs_put}
-use Rattle.sj_socket.proofs.carrying.carry_from.Goals as goal
+use Rattle.sj_socket.proofs.carries.carry_from.Goals as goal
 
 pub returns-in_err-carry_own : goal.returns-in_err-carry_own
 returns-in_err-carry_own c =

@@ -3,7 +3,7 @@ use Rattle.std.proofs.lemmas.Option.{slice_get_read}
 use Rattle.sj_lane.proofs.EachLemmas.{each2_length, each2_put, each2_refl}
 use Rattle.sj_socket.specs.Kept.{OutKept}
 use Rattle.sj_socket.proofs.KeptLemmas.{out_itself, out_later}
-use Rattle.sj_socket.proofs.carrying.carry_outs.Goals as goal
+use Rattle.sj_socket.proofs.carries.carry_outs.Goals as goal
 
 pub loop-to-init : goal.loop-to-init
 loop-to-init c = each2_refl OutKept out_itself c.args.outs.now.items

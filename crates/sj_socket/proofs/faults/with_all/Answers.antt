@@ -3,7 +3,7 @@ use Rattle.sj_socket.specs.Counts.{capped_sum, met, met_by, met_in, met_out}
 use Rattle.sj_socket.specs.declared.in_lane.SocketIn.{SocketIn}
 use Rattle.sj_socket.specs.declared.out_lane.SocketOut.{SocketOut}
 use Rattle.sj_socket.proofs.SumLemmas.{next_both, total_next, total_whole}
-use Rattle.sj_socket.proofs.counting.with_all.Goals as goal
+use Rattle.sj_socket.proofs.faults.with_all.Goals as goal
 
 pub loop-own-preserved : goal.loop-own-preserved
 loop-own-preserved c =
