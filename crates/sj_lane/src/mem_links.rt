@@ -1,5 +1,5 @@
 //! Links of lists in memory.
-use crate::carrying::carry_all;
+use crate::carries::carry_all;
 use crate::lane::{InLane, Lanes, OutLane};
 use crate::links::{Links, MakeRefusal};
 use crate::mem::{MemIn, MemOut};

@@ -1,6 +1,6 @@
 use Rattle.sj_lane.proofs.CarryLemmas.{are_met, put_back, put_moved, put_still, room_left}
 use Rattle.std.proofs.lemmas.Result.{on_err_weaker, on_ok_weaker}
-use Rattle.sj_lane.proofs.carrying.carry_between.Goals as goal
+use Rattle.sj_lane.proofs.carries.carry_between.Goals as goal
 
 pub carry_link-carried-requires : goal.carry_link-carried-requires
 carry_link-carried-requires c =

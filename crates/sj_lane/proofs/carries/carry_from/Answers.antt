@@ -2,7 +2,7 @@ use Rattle.sj_lane.specs.Mem.{frames_popped, frames_pushed}
 use Rattle.sj_lane.proofs.CarryingLemmas.{lists_same}
 use Rattle.sj_lane.proofs.CarryLemmas.{carried_later}
 use Rattle.sj_lane.proofs.MovedLemmas.{row_more, row_none}
-use Rattle.sj_lane.proofs.carrying.carry_from.Goals as goal
+use Rattle.sj_lane.proofs.carries.carry_from.Goals as goal
 
 pub loop-to-init : goal.loop-to-init
 loop-to-init c = record {

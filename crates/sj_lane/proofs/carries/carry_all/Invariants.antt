@@ -1,6 +1,6 @@
 use Rattle.sj_lane.specs.MemCarry.{AreMovedUpTo}
 use Rattle.sj_lane.proofs.CarryingLemmas.{Carried}
-use Rattle.sj_lane.proofs.carrying.carry_all.Given as goal
+use Rattle.sj_lane.proofs.carries.carry_all.Given as goal
 
 -- the links from the first parties are moved
 abbrev pub invariant-loop-from : goal.invariant-loop-from

@@ -3,7 +3,7 @@ use Rattle.sj_lane.specs.Mem.{frames_popped, frames_pushed}
 use Rattle.sj_lane.proofs.CarryingLemmas.{lists_same}
 use Rattle.sj_lane.proofs.CarryLemmas.{carried_later}
 use Rattle.sj_lane.proofs.MovedLemmas.{all_more, all_none, all_short}
-use Rattle.sj_lane.proofs.carrying.carry_all.Goals as goal
+use Rattle.sj_lane.proofs.carries.carry_all.Goals as goal
 
 pub loop-from-init : goal.loop-from-init
 loop-from-init c = record {

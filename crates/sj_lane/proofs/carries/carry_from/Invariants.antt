@@ -1,6 +1,6 @@
 use Rattle.sj_lane.specs.MemCarry.{RowMoved}
 use Rattle.sj_lane.proofs.CarryingLemmas.{Carried}
-use Rattle.sj_lane.proofs.carrying.carry_from.Given as goal
+use Rattle.sj_lane.proofs.carries.carry_from.Given as goal
 
 -- the links to the first parties are moved
 abbrev pub invariant-loop-to : goal.invariant-loop-to
