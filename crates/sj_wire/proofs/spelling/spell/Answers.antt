@@ -2,7 +2,7 @@ use Rattle.std.proofs.Common.{◌≡◌, ◌++◌, arith, length, ap}
 use Rattle.sj_end.specs.Views.{frame_at}
 use Rattle.sj_wire.specs.Spelling.{number, inside}
 use Rattle.sj_wire.proofs.SealLemmas.{sizes, sealed, two}
-use Rattle.sj_wire.proofs.encoding.framed.Goals as goal
+use Rattle.sj_wire.proofs.spelling.spell.Goals as goal
 
 pub put_length-requires : goal.put_length-requires
 put_length-requires c =

@@ -48,7 +48,7 @@ fn whole(alloc: Global, bytes: &[u8], size: usize) -> Result<Frame, WireRefusal>
 
 /// The frame behind its length.
 #[tactic(auto, unfolding(crate::specs::Front::sized_of))]
-fn sized(alloc: Global, size: u32, bytes: &[u8]) -> Result<Option<Frame>, WireRefusal>
+fn read_sized(alloc: Global, size: u32, bytes: &[u8]) -> Result<Option<Frame>, WireRefusal>
     ensures read { MeetsSized result (sized_of size bytes.now) (drop size bytes.now) }
     ensures all { IfOk result (λ x. IfSome x (λ _. size ≤ length bytes.now)) }
 {
@@ -74,7 +74,7 @@ pub(crate) fn front(alloc: Global, bytes: &[u8]) -> Result<Option<(Frame, usize)
         return Ok(None);
     }
     let size = BigEndian::read_u32(bytes);
-    match sized(alloc, size, &bytes[4..]) {
+    match read_sized(alloc, size, &bytes[4..]) {
         Ok(Some(frame)) => Ok(Some((frame, 4 + size as usize))),
         Ok(None) => Ok(None),
         Err(e) => Err(e),

@@ -13,9 +13,9 @@ ghost use Rattle.sj_wire.specs.Spelling as spelled;
 ghost use Rattle.sj_wire.specs.declared.refusal.EncodeRefusal.TheVariants as refusals;
 
 use crate::EncodeRefusal;
+use crate::field_bytes::{put_end_id, put_message, put_resend, put_u8, put_u16, put_u32, put_u64};
 use crate::kind::Kind;
 use crate::limits::MOST_CACHED;
-use crate::writing::{put_end_id, put_message, put_resend, put_u8, put_u16, put_u32, put_u64};
 use byteorder::{BigEndian, ByteOrder};
 use sj_base::{EndId, Msg};
 use sj_end::{Body, End, Frame};
@@ -133,7 +133,7 @@ pub(crate) fn end_of(body: &Body) -> EndId
 }
 
 /// How many messages of a cache the body has.
-fn cached(body: &Body) -> usize
+fn cached_count(body: &Body) -> usize
     ensures { result ≡ cached_in (body_at body.now) }
 {
     match body {
@@ -154,7 +154,7 @@ fn put_length(bytes: &mut [u8])
 }
 
 /// The frame's bytes, with their length before them.
-fn framed(alloc: Global, frame: &Frame) -> Result<Vec<u8>, AllocError>
+fn spell(alloc: Global, frame: &Frame) -> Result<Vec<u8>, AllocError>
     requires { cached_in (body_at frame.now.body) ≤ most_cached }
     ensures { IfOk result (λ bytes. bytes.items ≡ spelling (frame_at frame.now)) }
 {
@@ -171,8 +171,8 @@ pub fn encode(alloc: Global, frame: &Frame) -> Result<Vec<u8>, EncodeRefusal>
     ensures ok { IfOk result (λ bytes. bytes.items ≡ spelling (frame_at frame.now)) }
     ensures too_long { IsErrOf result refusals.TooLong ↔ (most_cached < cached_in (body_at frame.now.body)) }
 {
-    if cached(&frame.body) > MOST_CACHED as usize {
+    if cached_count(&frame.body) > MOST_CACHED as usize {
         return Err(EncodeRefusal::TooLong);
     }
-    Ok(framed(alloc, frame)?)
+    Ok(spell(alloc, frame)?)
 }
