@@ -18,7 +18,7 @@ use Rattle.sj_forward.specs.declared.desk.Desk.{Desk}
 use Rattle.sj_forward.specs.declared.frame.Frame.{Frame}
 use Rattle.sj_forward.specs.declared.frame.Sent.{Sent}
 use Rattle.sj_forward.specs.declared.slot.Slot.{Slot}
-use Rattle.sj_forward.specs.declared.slot.Use.{Use}
+use Rattle.sj_forward.specs.declared.records.Use.{Use}
 use Rattle.sj_forward.specs.Desk.{CanClaim, CanPost, CanSend, CanTake, Does, DoesSo, Rests, desk_at}
 use Rattle.sj_forward.specs.Ends.{HasPlace, KeepsPlaces, TakesFrom, Writes, held_in}
 use Rattle.sj_forward.specs.Offers.{offering, offers_in}

@@ -22,7 +22,7 @@ use Rattle.sj_forward.specs.declared.course.Course.{Course}
 use Rattle.sj_forward.specs.declared.desk.Desk.{Desk}
 use Rattle.sj_forward.specs.Course.{Counts, IsLedBy, IsReached, PlainActs, StaysIn, Steps, desks_in, file_in, lane_or, node_or, program_in, world_by, world_in}
 use Rattle.sj_forward.specs.Desk.{Does, desk_at, lane_of}
-use Rattle.sj_forward.proofs.EndsLemmas.{set_here, set_there}
+use Rattle.sj_forward.proofs.SetLemmas.{set_here, set_there}
 use Rattle.sj_forward.proofs.LawLemmas as laws
 use Rattle.sj_forward.proofs.SlotLemmas.{one_other, one_same, some_same}
 use Rattle.sj_forward.proofs.SameLemmas.{end_same, forward_start_same}

@@ -1,6 +1,10 @@
 pub mod ResultLemmas
 pub mod SlotLemmas
+pub mod SetLemmas
+pub mod FoundLemmas
+pub mod WriteLemmas
 pub mod EndsLemmas
+pub mod RoomLemmas
 pub mod LaneLemmas
 pub mod DeskLemmas
 pub mod ActLemmas

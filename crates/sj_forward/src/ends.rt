@@ -7,7 +7,8 @@ ghost use Rattle.sj_forward_rules.specs.Ready.{has_message};
 ghost use Rattle.sj_forward_rules.specs.Record as rules;
 
 use crate::frame::Sent;
-use crate::slot::{Seen, Slot, Use};
+use crate::records::{Seen, Use};
+use crate::slot::Slot;
 use sj_base::{EndId, NoMemory};
 use std::alloc::Global;
 use std::collections::VecDeque;

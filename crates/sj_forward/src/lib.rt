@@ -12,6 +12,7 @@ mod frame;
 mod lanes;
 mod limits;
 mod offers;
+mod records;
 mod refusal;
 mod slot;
 mod starts;
