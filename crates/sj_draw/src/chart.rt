@@ -1,7 +1,8 @@
 //! What is gathered of lines: parties and sessions in order, and the arrows that a picture shows.
 ghost use Rattle.std.specs.Prelude.{◌≡◌, ◌≤◌, OnOk, map, length};
 ghost use Rattle.std.specs.Option.{option_map};
-ghost use Rattle.sj_draw.specs.Chart.{empty, number_of, name_or_end, name_of, request_of, with_party, with_any, with_passed, with_line, is_within, is_hook};
+ghost use Rattle.sj_draw.specs.Chart.{empty, number_of, name_or_end, name_of, request_of, with_party};
+ghost use Rattle.sj_draw.specs.Chart.{with_any, with_passed, with_line, is_within, is_hook};
 ghost use Rattle.sj_draw.specs.Lines.{Log};
 ghost use Rattle.sj_draw.specs.Views.{session_at, passed_at, line_at, chart_at};
 

@@ -1,7 +1,8 @@
 //! The picture of a chart: its head, a line for each party, an arrow for each message or frame, and its foot.
 ghost use Rattle.std.specs.Prelude.{◌≡◌, ◌≤◌, ◌<◌, ◌++◌, OnOk, IsTrue, length, map};
 ghost use Rattle.sj_draw.specs.Chart.{is_within, most_arrows};
-ghost use Rattle.sj_draw.specs.Drawn.{head_text, party_text, parties_text, class_of, end_class, way_of, arrow_text, arrows_text, picture, picture_at};
+ghost use Rattle.sj_draw.specs.Drawn.{head_text, party_text, parties_text, class_of, end_class, way_of};
+ghost use Rattle.sj_draw.specs.Drawn.{arrow_text, arrows_text, picture, picture_at};
 ghost use Rattle.sj_draw.specs.Small.{IsSmall};
 ghost use Rattle.sj_draw.specs.Views.{arrow_at, chart_at};
 

@@ -13,12 +13,12 @@ ghost use Rattle.sj_semantics.specs.Wants.{want_of};
 ghost use Rattle.sj_semantics.specs.Fitting.{fits};
 
 use crate::arena::Node;
-use crate::builders::add_block;
 use crate::bindings::name_at;
+use crate::builders::add_block;
+use crate::needs::{fits_at, want_at};
 use crate::stack::Stack;
 use crate::starts::{connected_ends, names_above, names_of, unknown, with_room};
 use crate::steps::{closed, local, opened, sent, took};
-use crate::needs::{fits_at, want_at};
 use sj_base::{EndId, Msg, NoMemory};
 use sj_lang::{File, Stmt};
 use sj_semantics::{Value, Want};

@@ -1,7 +1,8 @@
 //! Steps that take from an end, and steps that delegate an end.
 ghost use Rattle.std.specs.Prelude.{◌≡◌, ◌+◌, ◌<◌, OnOk, OnErr, IfErr, IsErrOf, Some, None, true, false};
 ghost use Rattle.sj_end.specs.declared.note.Event.TheVariants as events;
-ghost use Rattle.sj_node.specs.Node.{Does, Stays, act_of, clock_of, main_of, next_head, note_for, connect_count, steps_of, takes_in, wants_of};
+ghost use Rattle.sj_node.specs.Node.{Does, Stays, act_of, clock_of, main_of, next_head, note_for};
+ghost use Rattle.sj_node.specs.Node.{connect_count, steps_of, takes_in, wants_of};
 ghost use Rattle.sj_base.specs.declared.Msg.TheVariants as msgs;
 ghost use Rattle.sj_node.specs.Halts.{is_late};
 ghost use Rattle.sj_node.specs.Parking.{IsBelowHops, held_of};
@@ -10,9 +11,11 @@ ghost use Rattle.sj_rules.specs.Limits.{clock_end, limit_of_steps};
 ghost use Rattle.sj_semantics.specs.Fitting.{is_session};
 ghost use Rattle.sj_semantics.specs.declared.Want.TheVariants as wants;
 
+use crate::departures::{
+    hops_at, is_same_end, make_main_slot, make_slot, parked, put_old, take_out,
+};
 use crate::limits::MAX_HOPS;
 use crate::outs::{make_room, put_frame};
-use crate::departures::{hops_at, is_same_end, make_main_slot, make_slot, parked, put_old, take_out};
 use crate::sends::{peer_at, send_on};
 use crate::slots::Old;
 use crate::takes::{awaited_spot, expect, head_at, is_free, is_known, take_on};

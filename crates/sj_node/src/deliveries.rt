@@ -10,11 +10,11 @@ ghost use Rattle.sj_rules.specs.Node.{with_number};
 ghost use Rattle.sj_rules.specs.Record as rules;
 
 use crate::messages::{carry_comes, fin_comes};
+use crate::outs::{make_room, put_all, put_frame};
 use crate::records::{
     Kept, acked_to, cached_old_at, claimed, crossed_to, kept_at, parked_peer, signal_to_parked,
     signalled_out,
 };
-use crate::outs::{make_room, put_all, put_frame};
 use crate::signals::{cached_at, signal_to_main};
 use crate::{DeliverRefusal, Node};
 use sj_base::EndId;

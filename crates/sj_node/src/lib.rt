@@ -26,10 +26,10 @@ mod starts;
 mod takes;
 mod threads;
 
-pub use threads::node_crosses;
 pub use laws::{
     acts_are_of_the_file, known_heads_are_taken_by_the_file, misfits_have_no_act,
     nodes_keep_their_play, nodes_play_the_file, only_misfits_have_no_act,
 };
 pub use node::Node;
 pub use refusal::{DeliverRefusal, Halt};
+pub use threads::node_crosses;

@@ -10,10 +10,10 @@ ghost use Rattle.sj_node.specs.Slots.{main_at, mains_in};
 ghost use Rattle.sj_rules.specs.Limits.{clock_end, limit_of_requests, limit_of_steps};
 ghost use Rattle.sj_semantics.specs.declared.Want.TheVariants as wants;
 
+use crate::departures::make_main_slot;
 use crate::handovers::{is_vacant, put_held};
 use crate::offers::{is_opened_by, offer, offered_by, opened_number, withdraw};
 use crate::outs::{make_room, put_frame};
-use crate::departures::make_main_slot;
 use crate::slots::{Main, slot_of};
 use crate::takes::is_free;
 use crate::{DeliverRefusal, Halt, Node};
