@@ -8,9 +8,13 @@ pub mod RoomLemmas
 pub mod LaneLemmas
 pub mod DeskLemmas
 pub mod ActLemmas
+pub mod TakeLemmas
+pub mod DelegateLemmas
 pub mod ArriveLemmas
 pub mod LawLemmas
 pub mod SameLemmas
+pub mod StepLemmas
+pub mod ListLemmas
 pub mod CourseLemmas
 pub mod StartLemmas
 pub mod FirstLemmas
