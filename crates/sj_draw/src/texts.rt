@@ -41,7 +41,7 @@ pub fn draw_lines(alloc: Global, bytes: &[u8]) -> Result<Vec<u8>, DrawRefusal>
 }
 
 // What is gathered of the lines.
-fn gathered<'a>(alloc: Global, lines: &[&'a [u8]]) -> Result<Chart<'a>, DrawRefusal>
+fn gather<'a>(alloc: Global, lines: &[&'a [u8]]) -> Result<Chart<'a>, DrawRefusal>
     ensures ok { IfOk result (λ f. gathered empty 1 (map (λ l. l.now) lines.now)
         ≡ Gathered (chart_at f)) }
     ensures within { IfOk result (λ f. IsTrue (is_within (chart_at f))) }

@@ -46,14 +46,14 @@ pub(crate) fn accept(
 }
 
 /// A listener at a port of the system's choice.
-pub(crate) fn listening<R: Net>(net: &R) -> io::Result<(TcpListener, u16)> {
+pub(crate) fn listen<R: Net>(net: &R) -> io::Result<(TcpListener, u16)> {
     let listener = TcpListener::bind(net, loopback(0))?;
     let port = listener.local_addr()?.port();
     Ok((listener, port))
 }
 
 /// A stream to that port, and the address that its other end sees.
-pub(crate) fn connected<R: Net>(net: &R, port: u16) -> io::Result<(TcpStream, SocketAddr)> {
+pub(crate) fn connect<R: Net>(net: &R, port: u16) -> io::Result<(TcpStream, SocketAddr)> {
     let near = TcpStream::connect(net, loopback(port))?;
     let from = near.local_addr()?;
     Ok((near, from))
