@@ -65,10 +65,17 @@ impl Links for FailsOnce {
     fn back(&mut self, lanes: Vec<Lanes<RingOut, RingIn>>)
         requires square { IsSquare lanes.items }
         requires joined { AllJoined ⟦<RingLinks as Links>⟧.joined lanes.items }
-        ensures kept { true ≡ true → Kept ⟦<RingOut as OutLane>⟧.pushed ⟦<RingIn as InLane>⟧.popped ⟦<RingOut as OutLane>⟧.vain ⟦<RingIn as InLane>⟧.vain lanes.items (⟦<RingLinks as Links>⟧.sent self.new.rings) (⟦<RingLinks as Links>⟧.got self.new.rings) (⟦<RingLinks as Links>⟧.vain_out self.new.rings) (⟦<RingLinks as Links>⟧.vain_in self.new.rings) }
+        ensures kept { true ≡ true → Kept ⟦<RingOut as OutLane>⟧.pushed ⟦<RingIn as InLane>⟧.popped
+            ⟦<RingOut as OutLane>⟧.vain ⟦<RingIn as InLane>⟧.vain lanes.items
+            (⟦<RingLinks as Links>⟧.sent self.new.rings) (⟦<RingLinks as Links>⟧.got self.new.rings)
+            (⟦<RingLinks as Links>⟧.vain_out self.new.rings)
+            (⟦<RingLinks as Links>⟧.vain_in self.new.rings) }
         ensures tells { true ≡ true }
-        ensures fault { (self.old.faults ≤ self.new.faults) × (NoFault ⟦<RingOut as OutLane>⟧.faults ⟦<RingIn as InLane>⟧.faults lanes.items → self.new.faults ≡ self.old.faults) }
-        ensures raised { HasFault ⟦<RingOut as OutLane>⟧.faults ⟦<RingIn as InLane>⟧.faults lanes.items → Rose self.old.faults self.new.faults }
+        ensures fault { (self.old.faults ≤ self.new.faults)
+            × (NoFault ⟦<RingOut as OutLane>⟧.faults ⟦<RingIn as InLane>⟧.faults lanes.items →
+            self.new.faults ≡ self.old.faults) }
+        ensures raised { HasFault ⟦<RingOut as OutLane>⟧.faults ⟦<RingIn as InLane>⟧.faults lanes.items →
+            Rose self.old.faults self.new.faults }
     {
         self.rings.back(lanes);
     }

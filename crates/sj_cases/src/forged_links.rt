@@ -165,7 +165,9 @@ impl Links for Forged {
     fn back(&mut self, lanes: Vec<Lanes<Loses, Gives>>)
         requires square { IsSquare lanes.items }
         requires joined { AllJoined (λ (o : _) (i : _). Unit {0}) lanes.items }
-        ensures kept { false ≡ true → Kept ⟦<Loses as OutLane>⟧.pushed ⟦<Gives as InLane>⟧.popped ⟦<Loses as OutLane>⟧.vain ⟦<Gives as InLane>⟧.vain lanes.items (λ _ _. []) (λ _ _. []) (λ _ _. 0) (λ _ _. 0) }
+        ensures kept { false ≡ true → Kept ⟦<Loses as OutLane>⟧.pushed ⟦<Gives as InLane>⟧.popped
+            ⟦<Loses as OutLane>⟧.vain ⟦<Gives as InLane>⟧.vain lanes.items (λ _ _. []) (λ _ _. [])
+            (λ _ _. 0) (λ _ _. 0) }
         ensures tells { false ≡ false }
         ensures fault { (0 ≤ 0) × (NoFault ⟦<Loses as OutLane>⟧.faults ⟦<Gives as InLane>⟧.faults lanes.items → ◌≡◌ {A = ℕ} 0 0) }
         ensures raised { HasFault ⟦<Loses as OutLane>⟧.faults ⟦<Gives as InLane>⟧.faults lanes.items → Rose 0 0 }

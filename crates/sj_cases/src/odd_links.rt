@@ -176,9 +176,13 @@ impl Links for Odd {
     fn back(&mut self, lanes: Vec<Lanes<Breaks, Brings>>)
         requires square { IsSquare lanes.items }
         requires joined { AllJoined (λ (o : _) (i : _). Unit {0}) lanes.items }
-        ensures kept { false ≡ true → Kept ⟦<Breaks as OutLane>⟧.pushed ⟦<Brings as InLane>⟧.popped ⟦<Breaks as OutLane>⟧.vain ⟦<Brings as InLane>⟧.vain lanes.items (λ _ _. []) (λ _ _. []) (λ _ _. 0) (λ _ _. 0) }
+        ensures kept { false ≡ true → Kept ⟦<Breaks as OutLane>⟧.pushed ⟦<Brings as InLane>⟧.popped
+            ⟦<Breaks as OutLane>⟧.vain ⟦<Brings as InLane>⟧.vain lanes.items (λ _ _. []) (λ _ _. [])
+            (λ _ _. 0) (λ _ _. 0) }
         ensures tells { false ≡ false }
-        ensures fault { (2 ^ 64 - 1 ≤ 2 ^ 64 - 1) × (NoFault ⟦<Breaks as OutLane>⟧.faults ⟦<Brings as InLane>⟧.faults lanes.items → ◌≡◌ {A = ℕ} (2 ^ 64 - 1) (2 ^ 64 - 1)) }
+        ensures fault { (2 ^ 64 - 1 ≤ 2 ^ 64 - 1)
+            × (NoFault ⟦<Breaks as OutLane>⟧.faults ⟦<Brings as InLane>⟧.faults lanes.items →
+            ◌≡◌ {A = ℕ} (2 ^ 64 - 1) (2 ^ 64 - 1)) }
         ensures raised { HasFault ⟦<Breaks as OutLane>⟧.faults ⟦<Brings as InLane>⟧.faults lanes.items → Rose (2 ^ 64 - 1) (2 ^ 64 - 1) }
     {
         drop(lanes);

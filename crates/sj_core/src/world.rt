@@ -1,5 +1,6 @@
 //! The core world of an accepted file.
-ghost use Rattle.std.specs.Prelude.{◌≡◌, ◌↔◌, ◌<◌, ◌++◌, ◌∷◌, [], None, Some, IfErr, IfOk, IsErrOf, IsTrue, OnErr, OnOk, length, map, max, option_map};
+ghost use Rattle.std.specs.Prelude.{◌≡◌, ◌↔◌, ◌<◌, ◌++◌, ◌∷◌, [], None, Some, IfErr, IfOk, IsErrOf};
+ghost use Rattle.std.specs.Prelude.{IsTrue, OnErr, OnOk, length, map, max, option_map};
 ghost use Rattle.sj_core.specs.Draining.{BreaksOff, GoesBy, IsDrained};
 ghost use Rattle.sj_core.specs.Nodes.{ComesFrom};
 ghost use Rattle.sj_core.specs.Replaying.{IsRefusedSo};

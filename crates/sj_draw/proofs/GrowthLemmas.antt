@@ -5,7 +5,7 @@ use Rattle.std.specs.List.{AllByRecursion}
 use Rattle.sj_draw.specs.declared.layout.Layout.{Layout}
 use Rattle.sj_draw.specs.declared.style.TheConstants.{STYLE}
 use Rattle.sj_draw.specs.Drawn.{arrow_text, arrows_text, gap_of, head_text, layout_of, left_of, parties_text, party_text, picture, width_of}
-use Rattle.sj_draw.specs.Frame.{ArrowAt, FrameAt, Gathered, empty, gathered}
+use Rattle.sj_draw.specs.Chart.{ArrowAt, ChartAt, Gathered, empty, gathered}
 use Rattle.sj_draw.specs.Small.{IsSmall}
 use Rattle.sj_draw.proofs.RoomLemmas.{roomy, wider}
 use Rattle.sj_draw.proofs.SizeLemmas.{arrow_size, head_size, party_size, x_low}
@@ -20,7 +20,7 @@ arrows_size l k [] s h a = omega arith
 arrows_size l k (x ∷ xs) s h a =
     omega (arith, length-append (arrow_text l k x) (arrows_text l (k + 1) xs), arrow_size l k x s (omega (arith, h)), a.0, arrows_size l (k + 1) xs s (omega (arith, h)) a.1)
 
--- the limits that a frame within them keeps
+-- the limits that a chart within them keeps
 record IsWithin (parties arrows names texts : ℕ) : Type 0 where
   few_parties : parties ≤ 16
   few_arrows : arrows ≤ 1000000
@@ -47,7 +47,7 @@ right_low : (b : Bool) (x y : ℕ) → x ≤ 9000 → y ≤ 9000 → (if b then 
 right_low true x y h k = h
 right_low false x y h k = k
 
-small : (g : FrameAt) → IsWithin (length g.parties) (length g.arrows) g.names g.texts → IsSmall (layout_of g)
+small : (g : ChartAt) → IsWithin (length g.parties) (length g.arrows) g.names g.texts → IsSmall (layout_of g)
 small g w = record {
   left = omega (arith, w.low_names);
   gap = omega (arith, w.low_names, w.low_texts);
@@ -60,7 +60,7 @@ small g w = record {
 lengths : (a b c d e : List ℕ) → length (a ++ (b ++ (c ++ (d ++ e)))) ≡ length a + (length b + (length c + (length d + length e)))
 lengths a b c d e = omega (arith, length-append a (b ++ (c ++ (d ++ e))), length-append b (c ++ (d ++ e)), length-append c (d ++ e), length-append d e)
 
-pub growth : (g : FrameAt) (lines : List (List ℕ)) → gathered empty 1 lines ≡ Gathered g → length (picture g) ≤ length STYLE.now + (10000 + 5320 * length lines)
+pub growth : (g : ChartAt) (lines : List (List ℕ)) → gathered empty 1 lines ≡ Gathered g → length (picture g) ≤ length STYLE.now + (10000 + 5320 * length lines)
 growth g lines e =
     let r = roomy g lines e in
     let w = within (length g.parties) (length g.sessions) (length g.arrows) g.names g.texts r.within in

@@ -1,4 +1,4 @@
-pub mod FrameLemmas
+pub mod ChartLemmas
 pub mod GrowthLemmas
 pub mod OnceLemmas
 pub mod RoomLemmas

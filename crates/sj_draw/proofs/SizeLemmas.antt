@@ -7,7 +7,7 @@ use Rattle.sj_draw.specs.declared.lines.Mark.{Mark}
 use Rattle.sj_draw.specs.declared.lines.Mark.TheVariants.{Message, Fin, Session, Claim, Signal, Ack, Give, Request, Open, Accept}
 use Rattle.sj_draw.specs.declared.layout.Layout.{Layout}
 use Rattle.sj_draw.specs.Drawn.{class_of, end_class, head_text, way_of, x_of, y_of, tip_of, arrow_text, party_text}
-use Rattle.sj_draw.specs.Frame.{ArrowAt, most_parties}
+use Rattle.sj_draw.specs.Chart.{ArrowAt, most_parties}
 use Rattle.sj_draw.specs.Piece.{escaped, escaped_byte}
 use Rattle.sj_draw.specs.Small.{IsSmall}
 

@@ -1,10 +1,10 @@
 -- What is answered to the bytes of a transcript or a log.
 use Rattle.std.specs.Prelude.{◌≡◌, ℕ, ◌-◌, ◌==◌, List, length, take, slice_index, if◌then◌else◌, nat_eq, ⊤}
 use Rattle.std.specs.List.{slice_split}
-use Rattle.sj_draw.specs.declared.gathering.DrawRefusal.{DrawRefusal}
-use Rattle.sj_draw.specs.declared.gathering.DrawRefusal.TheVariants as refusals
+use Rattle.sj_draw.specs.declared.texts.DrawRefusal.{DrawRefusal}
+use Rattle.sj_draw.specs.declared.texts.DrawRefusal.TheVariants as refusals
 use Rattle.sj_draw.specs.Drawn.{picture}
-use Rattle.sj_draw.specs.Frame.{Outcome, Gathered, Unread, Beyond, empty, gathered}
+use Rattle.sj_draw.specs.Chart.{Outcome, Gathered, Unread, Beyond, empty, gathered}
 
 -- what stands before the newline at the end, if there is one
 abbrev pub whole_lines : List ℕ → List ℕ

@@ -1,28 +1,28 @@
--- The picture of a frame: its head, a line for each party, an arrow for each message or frame, and its foot.
+-- The picture of a chart: its head, a line for each party, an arrow for each message or frame, and its foot.
 use Rattle.std.specs.Prelude.{ℕ, ◌+◌, ◌*◌, ◌-◌, ◌==◌, List, [], ◌∷◌, ◌++◌, length, min, max, Option, Some, None, if◌then◌else◌, decimal, codes}
 use Rattle.std.specs.List.{concat}
 use Rattle.sj_draw.specs.declared.lines.Mark.{Mark}
 use Rattle.sj_draw.specs.declared.lines.Mark.TheVariants.{Message, Fin, Session, Claim, Signal, Ack, Give, Request, Open, Accept}
 use Rattle.sj_draw.specs.declared.layout.Layout.{Layout}
 use Rattle.sj_draw.specs.declared.style.TheConstants.{STYLE}
-use Rattle.sj_draw.specs.Frame.{ArrowAt, FrameAt, most_parties}
+use Rattle.sj_draw.specs.Chart.{ArrowAt, ChartAt, most_parties}
 use Rattle.sj_draw.specs.Piece.{escaped}
 
 -- a letter is at most 8 wide; between the lines of two parties the longest name or text finds room
-abbrev pub left_of : FrameAt → ℕ
+abbrev pub left_of : ChartAt → ℕ
 left_of f = 4 * f.names + 20
 
-abbrev pub gap_of : FrameAt → ℕ
+abbrev pub gap_of : ChartAt → ℕ
 gap_of f = 8 * max f.names f.texts + 56
 
-abbrev pub height_of : FrameAt → ℕ
+abbrev pub height_of : ChartAt → ℕ
 height_of f = 28 * length f.arrows + 72
 
 -- right of the last line there is room for an arrow that goes to no other party
-abbrev pub right_of : FrameAt → ℕ
+abbrev pub right_of : ChartAt → ℕ
 right_of f = if f.hooks then gap_of f else left_of f
 
-abbrev pub layout_of : FrameAt → Layout
+abbrev pub layout_of : ChartAt → Layout
 layout_of f = record { left = left_of f; gap = gap_of f; right = right_of f; height = height_of f }
 
 -- where the line of the party of that number stands
@@ -89,9 +89,9 @@ abbrev pub arrows_text : Layout → ℕ → List ArrowAt → List ℕ
 arrows_text l k [] = []
 arrows_text l k (a ∷ more) = arrow_text l k a ++ arrows_text l (k + 1) more
 
-abbrev pub picture_at : Layout → FrameAt → List ℕ
+abbrev pub picture_at : Layout → ChartAt → List ℕ
 picture_at l f =
     head_text l (width_of l (length f.parties)) ++ (STYLE.now ++ (parties_text l 0 f.parties ++ (arrows_text l 0 f.arrows ++ codes "</svg>\n")))
 
-abbrev pub picture : FrameAt → List ℕ
+abbrev pub picture : ChartAt → List ℕ
 picture f = picture_at (layout_of f) f

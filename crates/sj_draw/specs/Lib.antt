@@ -1,6 +1,6 @@
 pub mod Answer
+pub mod Chart
 pub mod Drawn
-pub mod Frame
 pub mod Lines
 pub mod Piece
 pub mod Run

@@ -3,7 +3,7 @@ use Rattle.std.specs.Prelude.{◌≡◌, ◌⊎◌, ℕ, ◌<◌, ◌≤◌, Lis
 use Rattle.sj_base.specs.Stream.{Rose, CameOf, WroteFrontOf, put_before, put_behind}
 use Rattle.sj_draw.specs.Answer.{outcome_of}
 use Rattle.sj_draw.specs.Drawn.{picture}
-use Rattle.sj_draw.specs.Frame.{Outcome, Gathered, Unread, Beyond}
+use Rattle.sj_draw.specs.Chart.{Outcome, Gathered, Unread, Beyond}
 
 -- the most bytes of an input
 abbrev pub most_bytes : ℕ
@@ -67,18 +67,18 @@ pub record AnswersTooLarge (i : InputAt) (status : ℕ) (text : List ℕ) : Type
   pub text_is : text ≡ codes "too large\n"
 
 -- a status and a text that are due
-abbrev pub Comes : InputAt → ℕ → List ℕ → Type 0
-Comes i status text = AnswersBytes i status text ⊎ (AnswersFault i status text ⊎ AnswersTooLarge i status text)
+abbrev pub IsAnswered : InputAt → ℕ → List ℕ → Type 0
+IsAnswered i status text = AnswersBytes i status text ⊎ (AnswersFault i status text ⊎ AnswersTooLarge i status text)
 
 -- a text that is due stands behind what was written before
 pub record AnswersOne (i : InputAt) (status : ℕ) (before after : Option (List ℕ)) : Type 0 where
   pub text : List ℕ
-  pub comes : Comes i status text
+  pub comes : IsAnswered i status text
   pub written : after ≡ put_behind before text
 
 -- a front of a text that is due stands there
 pub record WroteFront (i : InputAt) (before after : Option (List ℕ)) : Type 0 where
   pub status : ℕ
   pub text : List ℕ
-  pub comes : Comes i status text
+  pub comes : IsAnswered i status text
   pub front : WroteFrontOf text before after

@@ -3,8 +3,8 @@ use Rattle.std.specs.Prelude.{ℕ, ◌≤◌}
 use Rattle.sj_draw.specs.declared.layout.Layout.{Layout}
 
 -- bytes of a picture, but for its style and its lines
-abbrev pub most_of_frame : ℕ
-most_of_frame = 10000
+abbrev pub most_of_chart : ℕ
+most_of_chart = 10000
 
 -- bytes of a picture for each line of what is drawn
 abbrev pub most_of_line : ℕ

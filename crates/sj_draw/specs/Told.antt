@@ -1,7 +1,7 @@
 -- What arrows tell, and what the lines do from which they come.
 use Rattle.std.specs.Prelude.{◌≡◌, ℕ, Bool, true, false, List, [], ◌∷◌, Option, Some, None, ⊤}
 use Rattle.sj_draw.specs.declared.lines.Mark.{Mark}
-use Rattle.sj_draw.specs.Frame.{ArrowAt, request_of}
+use Rattle.sj_draw.specs.Chart.{ArrowAt, request_of}
 use Rattle.sj_draw.specs.Lines.{PassedAt, LineAt, Opened, Message, Delivery, Log, read}
 
 -- a kind and a text

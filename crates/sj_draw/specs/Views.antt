@@ -1,9 +1,9 @@
 -- How lines, and what is gathered of them, look to definitions.
 use Rattle.std.specs.Prelude.{map}
 use Rattle.std.specs.Option.{option_map}
-use Rattle.sj_draw.specs.declared.frame.Arrow.{Arrow}
-use Rattle.sj_draw.specs.declared.frame.Frame.{Frame}
-use Rattle.sj_draw.specs.Frame.{ArrowAt, FrameAt}
+use Rattle.sj_draw.specs.declared.chart.Arrow.{Arrow}
+use Rattle.sj_draw.specs.declared.chart.Chart.{Chart}
+use Rattle.sj_draw.specs.Chart.{ArrowAt, ChartAt}
 use Rattle.sj_draw.specs.declared.lines.Line.{Line}
 use Rattle.sj_draw.specs.declared.lines.Line.TheVariants as lines
 use Rattle.sj_draw.specs.declared.lines.Session.{Session as SessionLine}
@@ -34,8 +34,8 @@ line_at lines.Verdict = Verdict
 abbrev pub arrow_at : Arrow → ArrowAt
 arrow_at a = record { mark = a.mark; from = a.from; to = a.to; name = a.name.now; text = a.text.now }
 
-abbrev pub frame_at : Frame → FrameAt
-frame_at f = record {
+abbrev pub chart_at : Chart → ChartAt
+chart_at f = record {
   parties = map (λ p. p.now) f.parties.items;
   sessions = map session_at f.sessions.items;
   arrows = map arrow_at f.arrows.items;

@@ -8,19 +8,19 @@ ghost use Rattle.std.specs.List.{filter_map};
 ghost use Rattle.sj_draw.specs.declared.style.TheConstants.{STYLE};
 ghost use Rattle.sj_draw.specs.Answer.{lines_of, outcome_of};
 ghost use Rattle.sj_draw.specs.Drawn.{picture};
-ghost use Rattle.sj_draw.specs.Frame.{FrameAt, Gathered, gathered};
+ghost use Rattle.sj_draw.specs.Chart.{ChartAt, Gathered, gathered};
 ghost use Rattle.sj_draw.specs.Told.{HasNoLog, told_arrow, told_in};
-ghost use Rattle.sj_draw.specs.Small.{most_of_frame, most_of_line};
+ghost use Rattle.sj_draw.specs.Small.{most_of_chart, most_of_line};
 
 /// Behind what was gathered before, lines add one arrow for each message, opening or delivery that they tell,
 /// in order, and no other; so it is for a transcript, and for the lines behind `%%log` or `%%log2`.
 pub fn each_delivery_is_drawn_once()
-    ensures { (f g : FrameAt) (n : ℕ) (lines : List (List ℕ)) → HasNoLog lines → gathered f n lines ≡ Gathered g
+    ensures { (f g : ChartAt) (n : ℕ) (lines : List (List ℕ)) → HasNoLog lines → gathered f n lines ≡ Gathered g
         → map told_arrow g.arrows ≡ map told_arrow f.arrows ++ filter_map told_in lines }
 {}
 
 /// A picture has at most 5,320 bytes for each line, beyond its style and 10,000 bytes.
 pub fn no_picture_outgrows_its_lines()
-    ensures { (bytes : List ℕ) (g : FrameAt) → outcome_of bytes ≡ Gathered g
-        → length (picture g) ≤ length STYLE.now + (most_of_frame + most_of_line * length (lines_of bytes)) }
+    ensures { (bytes : List ℕ) (g : ChartAt) → outcome_of bytes ≡ Gathered g
+        → length (picture g) ≤ length STYLE.now + (most_of_chart + most_of_line * length (lines_of bytes)) }
 {}

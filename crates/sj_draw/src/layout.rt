@@ -1,11 +1,11 @@
 //! Where the parties' lines and the arrows stand, in a picture's own unit.
 ghost use Rattle.std.specs.Prelude.{◌≡◌, ◌≤◌, ◌-◌, IsTrue};
-ghost use Rattle.sj_draw.specs.Frame.{is_within};
+ghost use Rattle.sj_draw.specs.Chart.{is_within};
 ghost use Rattle.sj_draw.specs.Drawn.{layout_of, x_of, width_of, tip_of};
 ghost use Rattle.sj_draw.specs.Small.{IsSmall, most_x, most_tip};
-ghost use Rattle.sj_draw.specs.Views.{frame_at};
+ghost use Rattle.sj_draw.specs.Views.{chart_at};
 
-use crate::frame::Frame;
+use crate::chart::Chart;
 
 /// The most parties.
 const MOST_PARTIES: usize = 16;
@@ -23,15 +23,15 @@ pub(crate) struct Layout {
 }
 
 /// Room for the longest name and the longest text, of 8 a letter.
-pub(crate) fn layout_of(frame: &Frame<'_>) -> Layout
-    requires { IsTrue (is_within (frame_at frame.now)) }
-    ensures layout { result ≡ layout_of (frame_at frame.now) }
+pub(crate) fn layout_of(chart: &Chart<'_>) -> Layout
+    requires { IsTrue (is_within (chart_at chart.now)) }
+    ensures layout { result ≡ layout_of (chart_at chart.now) }
     ensures small { IsSmall result }
 {
-    let left = 4 * frame.names as u64 + 20;
-    let gap = 8 * frame.names.max(frame.texts) as u64 + 56;
-    let right = if frame.hooks { gap } else { left };
-    let height = 28 * frame.arrows.len() as u64 + 72;
+    let left = 4 * chart.names as u64 + 20;
+    let gap = 8 * chart.names.max(chart.texts) as u64 + 56;
+    let right = if chart.hooks { gap } else { left };
+    let height = 28 * chart.arrows.len() as u64 + 72;
     Layout {
         left,
         gap,

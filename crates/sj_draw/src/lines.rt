@@ -1,7 +1,8 @@
 //! Lines of transcripts and logs, as far as a picture shows them.
 ghost use Rattle.std.specs.Prelude.{◌≡◌};
 ghost use Rattle.std.specs.Option.{option_map};
-ghost use Rattle.sj_draw.specs.Lines.{frame_line, is_act, event_line, message_line, is_state, party_line, session_line, is_printing, ends_in_space, is_plain, is_verdict, plain_line, split_line, worded_line, read};
+ghost use Rattle.sj_draw.specs.Lines.{frame_line, is_act, event_line, message_line, is_state, party_line, session_line, is_printing};
+ghost use Rattle.sj_draw.specs.Lines.{ends_in_space, is_plain, is_verdict, plain_line, split_line, worded_line, read};
 ghost use Rattle.sj_draw.specs.Views.{line_at};
 
 use crate::marks::{frame_mark, mark_behind};

@@ -2,9 +2,9 @@
 ghost use Rattle.std.specs.Prelude.{◌≡◌, ◌⊎◌, ◌≤◌, ◌++◌, IfOk, codes, decimal};
 ghost use Rattle.sj_base.specs.Stream.{Rose};
 ghost use Rattle.sj_draw.specs.Answer.{outcome_of};
-ghost use Rattle.sj_draw.specs.Run.{AnswersOne, Comes, WroteFront, status_of, text_of, write_fault_status, no_memory_status};
+ghost use Rattle.sj_draw.specs.Run.{AnswersOne, IsAnswered, WroteFront, status_of, text_of, write_fault_status, no_memory_status};
 
-use crate::gathering::{DrawRefusal, draw_lines};
+use crate::texts::{DrawRefusal, draw_lines};
 use sj_base::{NoMemory, ReadRefusal, Sink, Source, WriteFault, read_all, write_all_of};
 use sj_text::{put, put_number};
 use std::alloc::Global;
@@ -20,7 +20,7 @@ const NO_MEMORY: u8 = 11;
 
 /// A status, and the text that is written.
 #[derive(Drop)]
-struct Answer {
+struct Reply {
     status: u8,
     text: Vec<u8>,
 }
@@ -46,54 +46,54 @@ pub fn draw<S: Source, K: Sink>(alloc: Global, src: &mut S, out: &mut K) -> u8
     }) (K.written out.old) (K.written out.new) }
     ensures no_memory { result ≡ no_memory_status → K.written out.new ≡ K.written out.old }
 {
-    let answer = match answer_to(alloc, src) {
-        Ok(answer) => answer,
+    let reply = match reply_to(alloc, src) {
+        Ok(reply) => reply,
         Err(NoMemory) => return NO_MEMORY,
     };
-    match write_all_of(out, &answer.text) {
-        Ok(()) => answer.status,
+    match write_all_of(out, &reply.text) {
+        Ok(()) => reply.status,
         Err(WriteFault) => WRITE_FAULT,
     }
 }
 
-fn answer_to<S: Source>(alloc: Global, src: &mut S) -> Result<Answer, NoMemory>
-    ensures comes { IfOk result (λ a. Comes (record {
+fn reply_to<S: Source>(alloc: Global, src: &mut S) -> Result<Reply, NoMemory>
+    ensures comes { IfOk result (λ r. IsAnswered (record {
       left = S.left src.old;
       left_after = S.left src.new;
       faults = S.faults src.old;
       faults_after = S.faults src.new;
-    }) a.status a.text.items) }
-    ensures low { IfOk result (λ a. a.status ≤ 5) }
+    }) r.status r.text.items) }
+    ensures low { IfOk result (λ r. r.status ≤ 5) }
 {
     match read_all(alloc, src, MOST_BYTES) {
-        Ok(bytes) => answer_to_bytes(alloc, &bytes),
-        Err(ReadRefusal::ReadFault) => copied(alloc, 2, b"read fault\n"),
-        Err(ReadRefusal::TooLarge) => copied(alloc, 3, b"too large\n"),
+        Ok(bytes) => reply_to_bytes(alloc, &bytes),
+        Err(ReadRefusal::ReadFault) => reply_with(alloc, 2, b"read fault\n"),
+        Err(ReadRefusal::TooLarge) => reply_with(alloc, 3, b"too large\n"),
         Err(ReadRefusal::NoMemory) => Err(NoMemory),
     }
 }
 
-fn copied(alloc: Global, status: u8, text: &[u8]) -> Result<Answer, NoMemory>
-    ensures status { IfOk result (λ a. a.status ≡ status) }
-    ensures text { IfOk result (λ a. a.text.items ≡ text.now) }
+fn reply_with(alloc: Global, status: u8, text: &[u8]) -> Result<Reply, NoMemory>
+    ensures status { IfOk result (λ r. r.status ≡ status) }
+    ensures text { IfOk result (λ r. r.text.items ≡ text.now) }
 {
     let text = Vec::from_slice(alloc, text)?;
-    Ok(Answer { status, text })
+    Ok(Reply { status, text })
 }
 
-fn answer_to_bytes(alloc: Global, bytes: &[u8]) -> Result<Answer, NoMemory>
-    ensures status { IfOk result (λ a. a.status ≡ status_of (outcome_of bytes.now)) }
-    ensures text { IfOk result (λ a. a.text.items ≡ text_of (outcome_of bytes.now)) }
+fn reply_to_bytes(alloc: Global, bytes: &[u8]) -> Result<Reply, NoMemory>
+    ensures status { IfOk result (λ r. r.status ≡ status_of (outcome_of bytes.now)) }
+    ensures text { IfOk result (λ r. r.text.items ≡ text_of (outcome_of bytes.now)) }
 {
     match draw_lines(alloc, bytes) {
-        Ok(text) => Ok(Answer { status: 0, text }),
+        Ok(text) => Ok(Reply { status: 0, text }),
         Err(DrawRefusal::Unread(n)) => {
             let text = line_text(alloc, n, b" is none of a transcript or a log\n")?;
-            Ok(Answer { status: 4, text })
+            Ok(Reply { status: 4, text })
         }
         Err(DrawRefusal::Beyond(n)) => {
             let text = line_text(alloc, n, b" passes a limit\n")?;
-            Ok(Answer { status: 5, text })
+            Ok(Reply { status: 5, text })
         }
         Err(DrawRefusal::NoMemory) => Err(NoMemory),
     }

@@ -1,5 +1,6 @@
 //! What a party does with an end that it uses.
-ghost use Rattle.std.specs.Prelude.{◌≡◌, ◌+◌, ◌<◌, ◌≤◌, ◌∷◌, ◌++◌, [], Some, None, IsSome, IfOk, IfErr, OnErr, OnOk, true, List, length, map, slice_get, option_map, option_and_then, if◌then◌else◌};
+ghost use Rattle.std.specs.Prelude.{◌≡◌, ◌+◌, ◌<◌, ◌≤◌, ◌∷◌, ◌++◌, [], Some, None, IsSome, IfOk, IfErr, OnErr, OnOk, true};
+ghost use Rattle.std.specs.Prelude.{List, length, map, slice_get, option_map, option_and_then, if◌then◌else◌};
 ghost use Rattle.sj_base.specs.declared.Msg.{Msg};
 ghost use Rattle.sj_lang.specs.After.{after_place};
 ghost use Rattle.sj_lang.specs.declared.proto.Way.TheVariants.{Into, Out};

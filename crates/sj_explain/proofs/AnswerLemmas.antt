@@ -6,7 +6,7 @@ use Rattle.sj_grammar.specs.Files.{IsFile}
 use Rattle.sj_acceptance.specs.Accepted.{IsAccepted}
 use Rattle.sj_acceptance.specs.Faults.{first_fault}
 use Rattle.sj_acceptance.specs.FileTests.{tests_of}
-use Rattle.sj_explain.specs.declared.answers.Answer.{Answer}
+use Rattle.sj_explain.specs.declared.answers.CheckAnswer.{CheckAnswer}
 use Rattle.sj_explain.specs.Answers.{IsFaulty, IsRight, TellsIt, lead_of}
 
 pub faulty : (text : List ℕ) (file : FileAt) (rule line : ℕ) → IsFile text file → first_fault (tests_of file) ≡ Some (rule, line) → IsFaulty text rule line
@@ -15,5 +15,5 @@ faulty text file rule line stands fault = record { file = file; stands = stands;
 pub right : (text : List ℕ) (file : FileAt) → IsFile text file → IsAccepted file → IsRight text (length file.parties) (length file.connects)
 right text file stands accepted = record { file = file; stands = stands; accepted = accepted; parties_are = refl; sessions_are = refl }
 
-pub tells : (answer : Answer) (drawn : Bool) (text lead more : List ℕ) → lead_of answer drawn ≡ lead → text ≡ lead ++ more → TellsIt answer drawn text
+pub tells : (answer : CheckAnswer) (drawn : Bool) (text lead more : List ℕ) → lead_of answer drawn ≡ lead → text ≡ lead ++ more → TellsIt answer drawn text
 tells answer drawn text lead more same is = record { more = more; is = is ∙ ap (λ l. l ++ more) (sym same) }

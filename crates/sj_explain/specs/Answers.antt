@@ -12,8 +12,8 @@ use Rattle.sj_acceptance.specs.Accepted.{IsAccepted}
 use Rattle.sj_acceptance.specs.Faults.{first_fault}
 use Rattle.sj_acceptance.specs.FileTests.{tests_of}
 use Rattle.sj_semantics.specs.Lines.{line_of}
-use Rattle.sj_explain.specs.declared.answers.Answer.{Answer}
-use Rattle.sj_explain.specs.declared.answers.Answer.TheVariants.{Syntax, Check, Accepted}
+use Rattle.sj_explain.specs.declared.answers.CheckAnswer.{CheckAnswer}
+use Rattle.sj_explain.specs.declared.answers.CheckAnswer.TheVariants.{Syntax, Check, Accepted}
 
 -- the text stands for a file whose first fault that is
 pub record IsFaulty (text : List ℕ) (rule line : ℕ) : Type 0 where
@@ -30,7 +30,7 @@ pub record IsRight (text : List ℕ) (parties sessions : ℕ) : Type 0 where
   pub sessions_are : sessions ≡ length file.connects
 
 -- what reading the text and checking its file come to
-abbrev pub IsAnswer : List ℕ → Answer → Type 0
+abbrev pub IsAnswer : List ℕ → CheckAnswer → Type 0
 IsAnswer text (Syntax fault) = Stuck file_layer limits 0 (start text [] []) file_due fault
 IsAnswer text (Check rule line) = IsFaulty text rule line
 IsAnswer text (Accepted parties sessions) = IsRight text parties sessions
@@ -42,13 +42,13 @@ rule_number P3 = 3
 rule_number P4 = 4
 rule_number P5 = 5
 
-abbrev pub status_of : Answer → ℕ
+abbrev pub status_of : CheckAnswer → ℕ
 status_of (Syntax fault) = 4
 status_of (Check rule line) = 5
 status_of (Accepted parties sessions) = 0
 
 -- the line of it, which `sj check` prints alone
-abbrev pub answer_line : Answer → List ℕ
+abbrev pub answer_line : CheckAnswer → List ℕ
 answer_line (Syntax fault) =
     let place = decimal fault.line ++ (codes ":" ++ decimal fault.column) in
     line_of (codes "syntax" ∷ (codes "P" ++ decimal (rule_number fault.rule)) ∷ codes "at" ∷ place ∷ [])
@@ -57,11 +57,11 @@ answer_line (Accepted parties sessions) =
     line_of (codes "accepted" ∷ codes "parties" ∷ decimal parties ∷ codes "sessions" ∷ decimal sessions ∷ [])
 
 -- with what a text begins that tells it; of an accepted file it may be a picture instead
-abbrev pub lead_of : Answer → Bool → List ℕ
+abbrev pub lead_of : CheckAnswer → Bool → List ℕ
 lead_of (Accepted parties sessions) true = codes "<svg "
 lead_of answer drawn = answer_line answer
 
 -- the text tells the answer, and then more
-pub record TellsIt (answer : Answer) (drawn : Bool) (text : List ℕ) : Type 0 where
+pub record TellsIt (answer : CheckAnswer) (drawn : Bool) (text : List ℕ) : Type 0 where
   pub more : List ℕ
   pub is : text ≡ lead_of answer drawn ++ more

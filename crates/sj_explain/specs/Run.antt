@@ -2,7 +2,7 @@
 use Rattle.std.specs.Prelude.{◌≡◌, ◌⊎◌, ℕ, ◌<◌, ◌≤◌, Bool, false, true, List, [], Option, IfSome, length, codes}
 use Rattle.sj_base.specs.Stream.{Rose, CameOf, WroteFrontOf, put_before, put_behind}
 use Rattle.sj_lang.specs.Limits.{file_limit}
-use Rattle.sj_explain.specs.declared.answers.Answer.{Answer}
+use Rattle.sj_explain.specs.declared.answers.CheckAnswer.{CheckAnswer}
 use Rattle.sj_explain.specs.Answers.{IsAnswer, TellsIt, status_of}
 use Rattle.sj_explain.specs.Words.{are_known, wants_drawn}
 
@@ -47,7 +47,7 @@ pub record AnswersBytes (c : CallAt) (status : ℕ) (text : List ℕ) : Type 0 w
   pub came : c.left ≡ put_before bytes c.left_after
   pub all : IfSome c.left_after (λ rest. rest ≡ [])
   pub no_fault : c.faults_after ≡ c.faults
-  pub answer : Answer
+  pub answer : CheckAnswer
   pub is : IsAnswer bytes answer
   pub status_is : status ≡ status_of answer
   pub tells : TellsIt answer (wants_drawn c.words) text
@@ -69,20 +69,20 @@ pub record AnswersTooLarge (c : CallAt) (status : ℕ) (text : List ℕ) : Type 
   pub text_is : text ≡ codes "too large\n"
 
 -- a status and a text that are due
-abbrev pub Comes : CallAt → ℕ → List ℕ → Type 0
-Comes c status text = AnswersUsage c status text ⊎ (AnswersBytes c status text ⊎ (AnswersFault c status text ⊎ AnswersTooLarge c status text))
+abbrev pub IsAnswered : CallAt → ℕ → List ℕ → Type 0
+IsAnswered c status text = AnswersUsage c status text ⊎ (AnswersBytes c status text ⊎ (AnswersFault c status text ⊎ AnswersTooLarge c status text))
 
 -- a text that is due stands behind what was written before
 pub record AnswersOne (c : CallAt) (status : ℕ) (before after : Option (List ℕ)) : Type 0 where
   pub text : List ℕ
-  pub comes : Comes c status text
+  pub comes : IsAnswered c status text
   pub written : after ≡ put_behind before text
 
 -- a front of a text that is due stands there
 pub record WroteFront (c : CallAt) (before after : Option (List ℕ)) : Type 0 where
   pub status : ℕ
   pub text : List ℕ
-  pub comes : Comes c status text
+  pub comes : IsAnswered c status text
   pub front : WroteFrontOf text before after
 
 -- it holds, unless a write failed or there was no memory

@@ -9,7 +9,7 @@ use std::alloc::Global;
 
 /// What `sj check` answers, too.
 #[derive(Clone, Copy)]
-pub enum Answer {
+pub enum CheckAnswer {
     /// It is no file of the grammar.
     Syntax(Fault),
     /// The file breaks the rule of that number on that line.
@@ -27,32 +27,32 @@ pub struct Looks {
     pub coloured: bool,
 }
 
-impl Answer {
+impl CheckAnswer {
     /// The status with which `sj check` ends.
     pub fn status(&self) -> u8
         ensures { result ≡ status_of self.now }
     {
         match self {
-            Answer::Syntax(_) => 4,
-            Answer::Check { .. } => 5,
-            Answer::Accepted { .. } => 0,
+            CheckAnswer::Syntax(_) => 4,
+            CheckAnswer::Check { .. } => 5,
+            CheckAnswer::Accepted { .. } => 0,
         }
     }
 }
 
 /// The line that `sj check` prints.
-pub(crate) fn answer_text(alloc: Global, answer: Answer) -> Result<Vec<u8>, NoMemory>
+pub(crate) fn answer_text(alloc: Global, answer: CheckAnswer) -> Result<Vec<u8>, NoMemory>
     ensures { IfOk result (λ text. text.items ≡ answer_line answer) }
 {
     match answer {
-        Answer::Syntax(fault) => syntax_text(alloc, fault),
-        Answer::Check { rule, line } => check_text(alloc, rule, line),
-        Answer::Accepted { parties, sessions } => counts_text(alloc, parties, sessions),
+        CheckAnswer::Syntax(fault) => syntax_text(alloc, fault),
+        CheckAnswer::Check { rule, line } => check_text(alloc, rule, line),
+        CheckAnswer::Accepted { parties, sessions } => counts_text(alloc, parties, sessions),
     }
 }
 
 fn syntax_text(alloc: Global, fault: Fault) -> Result<Vec<u8>, NoMemory>
-    ensures { IfOk result (λ text. text.items ≡ answer_line (Answer.Syntax fault)) }
+    ensures { IfOk result (λ text. text.items ≡ answer_line (CheckAnswer.Syntax fault)) }
 {
     let mut text = Vec::new(alloc);
     put(&mut text, b"syntax P")?;
@@ -66,7 +66,7 @@ fn syntax_text(alloc: Global, fault: Fault) -> Result<Vec<u8>, NoMemory>
 }
 
 fn check_text(alloc: Global, rule: u8, line: u32) -> Result<Vec<u8>, NoMemory>
-    ensures { IfOk result (λ text. text.items ≡ answer_line (Answer.Check rule line)) }
+    ensures { IfOk result (λ text. text.items ≡ answer_line (CheckAnswer.Check rule line)) }
 {
     let mut text = Vec::new(alloc);
     put(&mut text, b"check C")?;
@@ -78,7 +78,7 @@ fn check_text(alloc: Global, rule: u8, line: u32) -> Result<Vec<u8>, NoMemory>
 }
 
 fn counts_text(alloc: Global, parties: usize, sessions: usize) -> Result<Vec<u8>, NoMemory>
-    ensures { IfOk result (λ text. text.items ≡ answer_line (Answer.Accepted parties sessions)) }
+    ensures { IfOk result (λ text. text.items ≡ answer_line (CheckAnswer.Accepted parties sessions)) }
 {
     let mut text = Vec::new(alloc);
     put(&mut text, b"accepted parties ")?;

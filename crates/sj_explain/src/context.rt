@@ -82,7 +82,7 @@ impl Context<'_> {
     pub fn stop(&self, rule: u8, site: Site, mark: Mark, pieces: &[Piece<'_>]) -> Stop {
         let mut knew = Vec::new(self.alloc);
         match put_pieces(self.alloc, &mut knew, &self.file.names, pieces) {
-            Ok(()) => found(rule, site, mark, knew),
+            Ok(()) => stop_with(rule, site, mark, knew),
             Err(NoMemory) => Stop::NoMemory,
         }
     }
@@ -109,7 +109,7 @@ impl Context<'_> {
 }
 
 /// The fault of that rule, and what was known.
-pub(crate) fn found(rule: u8, site: Site, mark: Mark, knew: Vec<u8>) -> Stop {
+pub(crate) fn stop_with(rule: u8, site: Site, mark: Mark, knew: Vec<u8>) -> Stop {
     Stop::Found(Finding {
         rule,
         site,

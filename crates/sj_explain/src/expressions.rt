@@ -1,6 +1,6 @@
 //! The kind of an expression, or its first fault.
 
-use crate::context::{Context, Site, Stop, found};
+use crate::context::{Context, Site, Stop, stop_with};
 use crate::env::Env;
 use crate::joins::put_variables;
 use crate::marks::Mark;
@@ -25,19 +25,19 @@ pub(crate) fn kind_of(
         Expr::Text(_) => Ok(Scalar::Text),
         Expr::Var(name) => match env.kind(*name) {
             Some(kind) => Ok(kind),
-            None => Err(unknown(context, env, site, from, *name)),
+            None => Err(tell_unknown(context, env, site, from, *name)),
         },
         Expr::Not(f) => {
             let kind = kind_of(context, env, site, from, f)?;
-            wanted(context, site, from, Scalar::Boolean, kind)?;
+            want(context, site, from, Scalar::Boolean, kind)?;
             Ok(Scalar::Boolean)
         }
         Expr::Two(op, f, g) => {
             let left = kind_of(context, env, site, from, f)?;
             let right = kind_of(context, env, site, from, g)?;
             let operand = if *op == Op::Equal { left } else { Scalar::Int };
-            wanted(context, site, from, operand, left)?;
-            wanted(context, site, from, operand, right)?;
+            want(context, site, from, operand, left)?;
+            want(context, site, from, operand, right)?;
             Ok(kind_from(*op))
         }
     }
@@ -50,16 +50,16 @@ fn kind_from(op: Op) -> Scalar {
     }
 }
 
-fn unknown(context: Context<'_>, env: &Env, site: Site, from: usize, name: u16) -> Stop {
+fn tell_unknown(context: Context<'_>, env: &Env, site: Site, from: usize, name: u16) -> Stop {
     let mut knew = Vec::new(context.alloc);
     match put_variables(context, &mut knew, env, name) {
-        Ok(()) => found(NOT_THERE, site, Mark::Word(from, name), knew),
+        Ok(()) => stop_with(NOT_THERE, site, Mark::Word(from, name), knew),
         Err(_) => Stop::NoMemory,
     }
 }
 
 /// An operand or a value of the one kind, where the other is wanted.
-pub(crate) fn wanted(
+pub(crate) fn want(
     context: Context<'_>,
     site: Site,
     from: usize,

@@ -1,12 +1,12 @@
 //! The walk through a whole file, up to its first fault.
 
-use crate::context::{Context, Finding, Seen, Site, Stop, found};
+use crate::context::{Context, Finding, Seen, Site, Stop, stop_with};
 use crate::env::Env;
 use crate::joins::put_live;
 use crate::marks::{Mark, Part};
+use crate::names::{NAME_IN_USE, no_party, no_protocol};
 use crate::openings::meet_openings;
 use crate::pieces::Piece::{Item as One, Number, Place, Said, Word};
-use crate::statements::{NAME_IN_USE, no_party, no_protocol};
 use crate::walk::block;
 use sj_base::NoMemory;
 use sj_lang::{Arms, Connect, EndDecl, File, Item, Kind, Party, Proto, copied, meet_item, meets};
@@ -17,7 +17,11 @@ const DO_NOT_MEET: u8 = 4;
 const LEFT_OPEN: u8 = 12;
 
 /// The first fault of the file, as far as it is one on that line.
-pub(crate) fn finding(alloc: Global, file: &File, line: u32) -> Result<Option<Finding>, NoMemory> {
+pub(crate) fn find_fault(
+    alloc: Global,
+    file: &File,
+    line: u32,
+) -> Result<Option<Finding>, NoMemory> {
     let context = Context { alloc, file };
     match walk(context, line) {
         Ok(()) => Ok(None),
@@ -127,9 +131,9 @@ fn connects(context: Context<'_>, line: u32) -> Result<(), Stop> {
     let mut seen = Seen { line, count: 0 };
     for (i, connect) in context.file.connects.iter().enumerate() {
         let site = seen.enter(Part::Connection, connect.line);
-        let first = declared(context, site, 1, connect.first)?;
-        taken(context, site, 2, i, connect.first)?;
-        let second = declared(context, site, 5, connect.second)?;
+        let first = protocol_at(context, site, 1, connect.first)?;
+        check_unused(context, site, 2, i, connect.first)?;
+        let second = protocol_at(context, site, 5, connect.second)?;
         if connect.first.party == connect.second.party
             && connect.first.name == connect.second.name
         {
@@ -139,16 +143,16 @@ fn connects(context: Context<'_>, line: u32) -> Result<(), Stop> {
             ];
             return Err(context.stop(NAME_IN_USE, site, Mark::Token(6), &what));
         }
-        taken(context, site, 6, i, connect.second)?;
+        check_unused(context, site, 6, i, connect.second)?;
         if !meets(first, second) {
-            return Err(unmet(context, site, first, second));
+            return Err(tell_unmet(context, site, first, second));
         }
     }
     Ok(())
 }
 
 // The end's protocol; its party and its protocol are there.
-fn declared<'a>(
+fn protocol_at<'a>(
     context: Context<'a>,
     site: Site,
     token: usize,
@@ -166,7 +170,7 @@ fn declared<'a>(
 }
 
 // No connection before has an end of that name at that party.
-fn taken(
+fn check_unused(
     context: Context<'_>,
     site: Site,
     token: usize,
@@ -191,10 +195,10 @@ fn is_same_end(one: EndDecl, other: EndDecl) -> bool {
 }
 
 // The two protocols of a connection, and where they part.
-fn unmet<'x>(context: Context<'_>, site: Site, first: &'x Proto, second: &'x Proto) -> Stop {
-    let stop = match parting(first, second) {
+fn tell_unmet<'x>(context: Context<'_>, site: Site, first: &'x Proto, second: &'x Proto) -> Stop {
+    let stop = match first_unmet(first, second) {
         Some((n, one, other)) => parted_items(context, site, n, one, other),
-        None => unequal(context, site, first, second),
+        None => tell_unequal(context, site, first, second),
     };
     match stop {
         Stop::Found(finding) => Stop::Found(Finding {
@@ -226,7 +230,7 @@ fn parted_items<'x>(
     context.stop(DO_NOT_MEET, site, Mark::Token(3), &what)
 }
 
-fn unequal<'x>(context: Context<'_>, site: Site, first: &'x Proto, second: &'x Proto) -> Stop {
+fn tell_unequal<'x>(context: Context<'_>, site: Site, first: &'x Proto, second: &'x Proto) -> Stop {
     let what = [
         Said(b"they are "),
         Place(first),
@@ -238,7 +242,7 @@ fn unequal<'x>(context: Context<'_>, site: Site, first: &'x Proto, second: &'x P
 }
 
 /// The first items of the two that don't meet.
-fn parting<'a>(first: &'a Proto, second: &'a Proto) -> Option<(usize, &'a Item, &'a Item)> {
+fn first_unmet<'a>(first: &'a Proto, second: &'a Proto) -> Option<(usize, &'a Item, &'a Item)> {
     for (i, one) in first.items.iter().enumerate() {
         let other = second.items.get(i)?;
         if !meet_item(one, false, other) {
@@ -251,7 +255,7 @@ fn parting<'a>(first: &'a Proto, second: &'a Proto) -> Option<(usize, &'a Item, 
 fn body(context: Context<'_>, seen: &mut Seen, site: Site, party: &Party) -> Result<(), Stop> {
     let mut env = Env::new(context.alloc);
     for connect in &context.file.connects {
-        connected(context, &mut env, party.name, connect)?;
+        put_ends(context, &mut env, party.name, connect)?;
     }
     block(context, &mut env, seen, &party.body)?;
     if env.ends.is_empty() {
@@ -259,11 +263,11 @@ fn body(context: Context<'_>, seen: &mut Seen, site: Site, party: &Party) -> Res
     }
     let mut knew = Vec::new(context.alloc);
     put_live(context, &mut knew, &env)?;
-    Err(found(LEFT_OPEN, site, Mark::Token(1), knew))
+    Err(stop_with(LEFT_OPEN, site, Mark::Token(1), knew))
 }
 
 // The ends that a connection gives the party.
-fn connected(
+fn put_ends(
     context: Context<'_>,
     env: &mut Env,
     party: u16,

@@ -1,6 +1,6 @@
 //! What two ways leave, compared, and what is known put in words.
 
-use crate::context::{Context, Site, Stop, found};
+use crate::context::{Context, Site, Stop, stop_with};
 use crate::env::{Env, LiveEnd};
 use crate::marks::Mark;
 use crate::pieces::Piece::{Place, Said, Scalar, Word};
@@ -97,10 +97,10 @@ fn one_sided(context: Context<'_>, rule: u8, site: Site, name: u16, first: bool)
 }
 
 /// No end of that name is live: which are, with their places.
-pub(crate) fn dead(context: Context<'_>, env: &Env, rule: u8, site: Site, mark: Mark) -> Stop {
+pub(crate) fn tell_dead(context: Context<'_>, env: &Env, rule: u8, site: Site, mark: Mark) -> Stop {
     let mut knew = Vec::new(context.alloc);
     match put_live(context, &mut knew, env) {
-        Ok(()) => found(rule, site, mark, knew),
+        Ok(()) => stop_with(rule, site, mark, knew),
         Err(NoMemory) => Stop::NoMemory,
     }
 }

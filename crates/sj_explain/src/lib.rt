@@ -2,7 +2,6 @@
 #![tactic(auto)]
 
 mod answers;
-mod blocking;
 mod connections;
 mod context;
 mod env;
@@ -11,22 +10,21 @@ mod faults;
 mod holders;
 mod joins;
 mod marks;
+mod names;
 mod openings;
 mod picture;
 mod pieces;
 mod places;
-mod quoting;
+mod quotation;
+mod reasons;
 mod rules;
 mod run;
 mod scalars;
 mod statements;
-mod telling;
+mod waits;
 mod walk;
 mod words;
 
-pub use answers::{Answer, Looks};
+pub use answers::{CheckAnswer, Looks};
+pub use reasons::{Told, why};
 pub use run::explain;
-pub use telling::{Told, why};
-
-#[cfg(test)]
-mod tests;

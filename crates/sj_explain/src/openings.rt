@@ -58,10 +58,10 @@ fn meet_one(context: Context<'_>, accept: Opening, request: Opening) -> Result<(
     if meets(one, other) {
         return Ok(());
     }
-    Err(unmet(context, accept, request, one, other))
+    Err(tell_unmet(context, accept, request, one, other))
 }
 
-fn unmet<'x>(
+fn tell_unmet<'x>(
     context: Context<'_>,
     accept: Opening,
     request: Opening,

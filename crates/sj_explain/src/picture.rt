@@ -1,6 +1,6 @@
 //! Who waits for whom, as an SVG: a line for each party, and an arrow from each that waits.
 
-use crate::blocking::{Wait, put_cause, waits_of};
+use crate::waits::{Wait, put_cause, waits_of};
 use sj_base::NoMemory;
 use sj_lang::File;
 use sj_plain::Plain;

@@ -7,8 +7,8 @@ use std::alloc::Global;
 /// What stands behind the first item.
 pub(crate) fn copied_rest(alloc: Global, place: &Proto) -> Result<Proto, NoMemory> {
     match place.items.split_first() {
-        Some((_, rest)) => joined(alloc, rest, &[]),
-        None => joined(alloc, &[], &[]),
+        Some((_, rest)) => join_items(alloc, rest, &[]),
+        None => join_items(alloc, &[], &[]),
     }
 }
 
@@ -16,9 +16,9 @@ pub(crate) fn copied_rest(alloc: Global, place: &Proto) -> Result<Proto, NoMemor
 pub(crate) fn copied_turn(alloc: Global, place: &Proto) -> Result<Proto, NoMemory> {
     match place.items.first() {
         Some(Item::OutLoop(body)) | Some(Item::InLoop(body)) => {
-            joined(alloc, &body.items, &place.items)
+            join_items(alloc, &body.items, &place.items)
         }
-        _ => joined(alloc, &place.items, &[]),
+        _ => join_items(alloc, &place.items, &[]),
     }
 }
 
@@ -34,13 +34,13 @@ pub(crate) fn copied_arm(
     };
     for arm in &choice.arms {
         if arm.label == label {
-            return Ok(Some(joined(alloc, &arm.rest.items, rest)?));
+            return Ok(Some(join_items(alloc, &arm.rest.items, rest)?));
         }
     }
     Ok(None)
 }
 
-fn joined(alloc: Global, first: &[Item], second: &[Item]) -> Result<Proto, NoMemory> {
+fn join_items(alloc: Global, first: &[Item], second: &[Item]) -> Result<Proto, NoMemory> {
     let mut items = Vec::new(alloc);
     append_copies(alloc, &mut items, first)?;
     append_copies(alloc, &mut items, second)?;

@@ -1,10 +1,10 @@
 //! From the words and the input to the output.
 ghost use Rattle.std.specs.Prelude.{◌≡◌, ◌≤◌, IfOk, map, string_bytes};
 ghost use Rattle.sj_base.specs.Stream.{Rose};
-ghost use Rattle.sj_explain.specs.Run.{AnswersOne, Comes, OrYields, WroteFront, write_fault_status, no_memory_status};
+ghost use Rattle.sj_explain.specs.Run.{AnswersOne, IsAnswered, OrYields, WroteFront, write_fault_status, no_memory_status};
 
 use crate::answers::Looks;
-use crate::telling::why;
+use crate::reasons::why;
 use crate::words::{are_known, has_word};
 use sj_base::{NoMemory, ReadRefusal, Sink, Source, WriteFault, read_all, write_all_of};
 use std::alloc::Global;
@@ -58,7 +58,7 @@ pub fn explain<S: Source, K: Sink>(alloc: Global, words: &[String], src: &mut S,
 }
 
 fn reply_to<S: Source>(alloc: Global, words: &[String], src: &mut S) -> Result<Reply, NoMemory>
-    ensures comes { IfOk result (λ r. Comes (record {
+    ensures comes { IfOk result (λ r. IsAnswered (record {
       words = map string_bytes words.now;
       left = S.left src.old;
       left_after = S.left src.new;
@@ -68,7 +68,7 @@ fn reply_to<S: Source>(alloc: Global, words: &[String], src: &mut S) -> Result<R
     ensures low { IfOk result (λ r. r.status ≤ 5) }
 {
     if !are_known(words) {
-        return copied(alloc, 1, b"usage: sjwhy [--svg] [--colour]\n");
+        return reply_with(alloc, 1, b"usage: sjwhy [--svg] [--colour]\n");
     }
     let looks = Looks {
         drawn: has_word(words, b"--svg"),
@@ -83,13 +83,13 @@ fn reply_to<S: Source>(alloc: Global, words: &[String], src: &mut S) -> Result<R
                 text: told.text,
             })
         }
-        Err(ReadRefusal::ReadFault) => copied(alloc, 2, b"read fault\n"),
-        Err(ReadRefusal::TooLarge) => copied(alloc, 3, b"too large\n"),
+        Err(ReadRefusal::ReadFault) => reply_with(alloc, 2, b"read fault\n"),
+        Err(ReadRefusal::TooLarge) => reply_with(alloc, 3, b"too large\n"),
         Err(ReadRefusal::NoMemory) => Err(NoMemory),
     }
 }
 
-fn copied(alloc: Global, status: u8, text: &[u8]) -> Result<Reply, NoMemory>
+fn reply_with(alloc: Global, status: u8, text: &[u8]) -> Result<Reply, NoMemory>
     ensures status { IfOk result (λ r. r.status ≡ status) }
     ensures text { IfOk result (λ r. r.text.items ≡ text.now) }
 {

@@ -2,7 +2,7 @@
 
 use crate::context::{Context, Seen, Site, Stop};
 use crate::env::Env;
-use crate::expressions::{kind_of, wanted};
+use crate::expressions::{kind_of, want};
 use crate::joins::compare;
 use crate::marks::{Mark, Part};
 use crate::pieces::Piece::{Place, Said, Word};
@@ -52,32 +52,12 @@ fn statement(
         } => take_end(context, env, site, *end, *into, *protocol),
         Deed::Select { end, label } => select(context, env, site, *end, *label),
         Deed::Branch { end, arms } => branch(context, env, seen, site, *end, arms),
-        Deed::OutWhile { end, count, body } => {
-            let place = live(context, env, site, 1, *end)?;
-            let Some(Item::OutLoop(_)) = place.items.first() else {
-                return Err(other_action(context, site, 1, *end, place, b"`![..]*`"));
-            };
-            let kind = kind_of(context, env, site, 2, count)?;
-            wanted(context, site, 2, Scalar::Int, kind)?;
-            turn(context, env, seen, site, &[*end], body)
-        }
-        Deed::InWhile { end, body } => {
-            let place = live(context, env, site, 1, *end)?;
-            let Some(Item::InLoop(_)) = place.items.first() else {
-                return Err(other_action(context, site, 1, *end, place, b"`?[..]*`"));
-            };
-            turn(context, env, seen, site, &[*end], body)
-        }
-        Deed::Relay { from, to, body } => {
-            relayed(context, env, site, *from, *to)?;
-            turn(context, env, seen, site, &[*from, *to], body)
-        }
-        Deed::If { test, yes, no } => {
-            let mut other = tested(context, env, site, test)?;
-            block(context, env, seen, yes)?;
-            block(context, &mut other, seen, no)?;
-            join(context, env, site, &other)
-        }
+        Deed::OutWhile { end, count, body } => out_while(
+            context, env, seen, site, *end, count, body,
+        ),
+        Deed::InWhile { end, body } => in_while(context, env, seen, site, *end, body),
+        Deed::Relay { from, to, body } => relay(context, env, seen, site, *from, *to, body),
+        Deed::If { test, yes, no } => choose(context, env, seen, site, test, yes, no),
         Deed::Let { name, value } => let_be(context, env, site, *name, value),
         Deed::Close { end } => close(context, env, site, *end),
         Deed::Request {
@@ -93,8 +73,79 @@ fn statement(
     }
 }
 
+#[cycle(explaining)]
+fn out_while(
+    context: Context<'_>,
+    env: &mut Env,
+    seen: &mut Seen,
+    site: Site,
+    end: u16,
+    count: &Expr,
+    body: &[Stmt],
+) -> Result<(), Stop> {
+    let place = live(context, env, site, 1, end)?;
+    let Some(Item::OutLoop(_)) = place.items.first() else {
+        return Err(other_action(context, site, 1, end, place, b"`![..]*`"));
+    };
+    let kind = kind_of(context, env, site, 2, count)?;
+    want(context, site, 2, Scalar::Int, kind)?;
+    turn(context, env, seen, site, &[end], body)
+}
+
+#[cycle(explaining)]
+fn in_while(
+    context: Context<'_>,
+    env: &mut Env,
+    seen: &mut Seen,
+    site: Site,
+    end: u16,
+    body: &[Stmt],
+) -> Result<(), Stop> {
+    let place = live(context, env, site, 1, end)?;
+    let Some(Item::InLoop(_)) = place.items.first() else {
+        return Err(other_action(context, site, 1, end, place, b"`?[..]*`"));
+    };
+    turn(context, env, seen, site, &[end], body)
+}
+
+#[cycle(explaining)]
+fn relay(
+    context: Context<'_>,
+    env: &mut Env,
+    seen: &mut Seen,
+    site: Site,
+    from: u16,
+    to: u16,
+    body: &[Stmt],
+) -> Result<(), Stop> {
+    check_relay(context, env, site, from, to)?;
+    turn(context, env, seen, site, &[from, to], body)
+}
+
+#[cycle(explaining)]
+fn choose(
+    context: Context<'_>,
+    env: &mut Env,
+    seen: &mut Seen,
+    site: Site,
+    test: &Expr,
+    yes: &[Stmt],
+    no: &[Stmt],
+) -> Result<(), Stop> {
+    let mut other = copy_behind_test(context, env, site, test)?;
+    block(context, env, seen, yes)?;
+    block(context, &mut other, seen, no)?;
+    join(context, env, site, &other)
+}
+
 // The two ends of a relay stand before their loops.
-fn relayed(context: Context<'_>, env: &Env, site: Site, from: u16, to: u16) -> Result<(), Stop> {
+fn check_relay(
+    context: Context<'_>,
+    env: &Env,
+    site: Site,
+    from: u16,
+    to: u16,
+) -> Result<(), Stop> {
     let source = live(context, env, site, 1, from)?;
     let target = live(context, env, site, 2, to)?;
     let Some(Item::InLoop(_)) = source.items.first() else {
@@ -137,9 +188,9 @@ fn enter(context: Context<'_>, env: &mut Env, end: u16) -> Result<(), Stop> {
 }
 
 // What is known before the blocks of an `if`, once more.
-fn tested(context: Context<'_>, env: &Env, site: Site, test: &Expr) -> Result<Env, Stop> {
+fn copy_behind_test(context: Context<'_>, env: &Env, site: Site, test: &Expr) -> Result<Env, Stop> {
     let kind = kind_of(context, env, site, 1, test)?;
-    wanted(context, site, 1, Scalar::Boolean, kind)?;
+    want(context, site, 1, Scalar::Boolean, kind)?;
     Ok(env.copy(context.alloc)?)
 }
 

@@ -9,9 +9,9 @@ use Rattle.sj_rules.specs.Opened.{is_opened_by}
 use Rattle.sj_rules.specs.Party.{nobody}
 use Rattle.sj_rules.specs.Record.{is_same_end, offered_end}
 use Rattle.sj_forward.specs.declared.desk.Desk.{Desk}
-use Rattle.sj_forward.specs.declared.slot.Kind.{Kind}
-use Rattle.sj_forward.specs.declared.slot.Kind.TheVariants as kinds
-use Rattle.sj_forward.specs.declared.slot.Seen.{Seen}
+use Rattle.sj_forward.specs.declared.records.Kind.{Kind}
+use Rattle.sj_forward.specs.declared.records.Kind.TheVariants as kinds
+use Rattle.sj_forward.specs.declared.records.Seen.{Seen}
 use Rattle.sj_forward.specs.Desk.{DoesSo, desk_at}
 use Rattle.sj_forward.specs.Ends.{EndsStay, Rows, Writes, is_storing, more_stored, records_in, stores, uses_in}
 use Rattle.sj_forward.specs.Offers.{offering, offers_in}

@@ -5,7 +5,7 @@ use Rattle.sj_rules.specs.Events.{acts_in}
 use Rattle.sj_rules.specs.World.{Turn}
 use Rattle.sj_forward.specs.declared.course.Course.{Course}
 use Rattle.sj_forward.specs.Course.{Counts, StaysIn}
-use Rattle.sj_forward.proofs.CourseLemmas.{acts_more, passed_more}
+use Rattle.sj_forward.proofs.StepLemmas.{acts_more, passed_more}
 
 pub counts_none : (c : Course) → Counts c [] c
 counts_none c = record { acts = sym (append-nil (acts_of c.plain)); passed = omega arith; events = omega arith; file = refl }

@@ -1,106 +1,30 @@
 -- One event of a course is a step of its world.
-use Rattle.std.proofs.Common.{◌≡◌, ◌≢◌, ℕ, ◌+◌, ◌<◌, ◌^◌, ◌==◌, ◌&&◌, true, false, if◌then◌else◌, List, [], ◌∷◌, ◌++◌, append_assoc, append-nil, length, length-append, slice_get, unwrap_or, Option, Some, None, option_map, option_and_then, refl, ap, sym, ◌∙◌, subst, arith, inl, inr}
-use Rattle.std.proofs.Math.ListN.{set}
-use Rattle.std.proofs.lemmas.Bool.{cases_eq}
-use Rattle.std.proofs.lemmas.List.{length-set}
-use Rattle.std.proofs.lemmas.Option.{slice_get_within}
+use Rattle.std.proofs.Common.{◌≡◌, ℕ, ◌+◌, ◌<◌, ◌^◌, true, false, List, [], ◌∷◌, ◌++◌, append-nil, length, length-append, slice_get, unwrap_or, Some, None, refl, ap, sym, ◌∙◌, subst, arith}
 use Rattle.sj_lang.specs.FileAt.{FileAt}
 use Rattle.sj_acceptance.specs.Accepted.{IsAccepted}
-use Rattle.sj_plain.specs.declared.plain.Plain.{Plain}
-use Rattle.sj_plain.specs.Kept.{without_words}
-use Rattle.sj_plain.specs.Plain.{acts_of, kept_file, party_count, world_at}
+use Rattle.sj_plain.specs.Plain.{acts_of, party_count, world_at}
 use Rattle.sj_plain.proofs.BeginLemmas.{start_same}
 use Rattle.sj_semantics.specs.Program.{Program}
 use Rattle.sj_semantics.specs.Run.{IsRun, after_acts, end_of}
-use Rattle.sj_semantics.specs.World.{World, act_of, start_of}
+use Rattle.sj_semantics.specs.World.{World}
 use Rattle.sj_rules.specs.Drain.{turn}
 use Rattle.sj_rules.specs.Events.{acts_by, acts_in}
 use Rattle.sj_rules.specs.Party.{nobody, play_of}
-use Rattle.sj_rules.specs.World as rules
 use Rattle.sj_rules.specs.World.{Event, Act, Deliver, Turn}
 use Rattle.sj_forward.specs.declared.course.Course.{Course}
-use Rattle.sj_forward.specs.declared.desk.Desk.{Desk}
-use Rattle.sj_forward.specs.Course.{Counts, IsLedBy, IsReached, PlainActs, StaysIn, Steps, desks_in, file_in, lane_or, node_or, program_in, world_by, world_in}
-use Rattle.sj_forward.specs.Desk.{Does, desk_at, lane_of}
-use Rattle.sj_forward.proofs.EndsLemmas.{set_here, set_there}
+use Rattle.sj_forward.specs.Course.{IsReached, Steps, desks_in, file_in, world_in}
 use Rattle.sj_forward.proofs.LawLemmas as laws
-use Rattle.sj_forward.proofs.SlotLemmas.{one_other, one_same, some_same}
+use Rattle.sj_forward.proofs.SlotLemmas.{some_same}
 use Rattle.sj_forward.proofs.SameLemmas.{end_same, forward_start_same}
 use Rattle.sj_forward_rules.specs.Acts.{acts}
 use Rattle.sj_forward_rules.specs.Arrivals.{comes}
-use Rattle.sj_forward_rules.specs.Drain.{IsDrained, deliveries_by, passed_in}
-use Rattle.sj_forward_rules.specs.Node.{NodeAt, Worked, with_program}
+use Rattle.sj_forward_rules.specs.Drain.{IsDrained, deliveries_by}
+use Rattle.sj_forward_rules.specs.Node.{Worked}
 use Rattle.sj_forward_rules.specs.Ready.{has_step, is_filled, is_ready, state_at}
 use Rattle.sj_forward_rules.specs.Record.{FrameAt}
-use Rattle.sj_forward_rules.specs.Start.{IsForwardRun, first_node, forward_start}
-use Rattle.sj_forward_rules.specs.World.{Run, WorldAt, after_event, frames_for, happens, with_lane}
-
--- ---- turns
-
-pub acts_more : (ts us : List Turn) → acts_in (ts ++ us) ≡ acts_in ts ++ acts_in us
-acts_more [] us = refl
-acts_more (t ∷ ts) us = ap (λ x. acts_by t.event t.party ++ x) (acts_more ts us) ∙ sym (append_assoc (acts_by t.event t.party) (acts_in ts) (acts_in us))
-
-pub passed_more : (ts us : List Turn) → passed_in (ts ++ us) ≡ passed_in ts + passed_in us
-passed_more [] us = let n = passed_in us in let e : n ≡ 0 + n = omega arith in e
-passed_more (t ∷ ts) us = let rest = passed_more ts us in omega (arith, rest)
-
-pub run_more : (file : FileAt) (w mid v : WorldAt Program) (ts : List Turn) (p : ℕ) (event : Event) → Run (play_of file) w ts mid → happens (play_of file) mid p event ≡ Some v
-    → Run (play_of file) w (ts ++ turn p event ∷ []) v
-run_more file w mid v [] p event run step = (v, (ap (λ (x : WorldAt Program). happens (play_of file) x p event) run ∙ step), refl)
-run_more file w mid v (t ∷ ts) p event run step = (run.0, run.1, run_more file run.0 mid v ts p event run.2 step)
-
--- ---- the world of desks in a list
-
--- a node with another program
-renamed : (g k : Program) (first : NodeAt Program) (o : Option Desk) → node_or g first o ≡ with_program g (node_or k first o)
-renamed g k first None = refl
-renamed g k first (Some d) = refl
-
-pub program_is : (g : Program) (first : NodeAt Program) (o : Option Desk) → (node_or g first o).program ≡ g
-program_is g first None = refl
-program_is g first (Some d) = refl
-
--- nodes that are the same but for programs, lanes, and programs
-pub world_is : (plain : Plain) (desks : List Desk) (w : WorldAt Program) → ((p : ℕ) (g : Program) → node_or g (first_node (kept_file plain) p) (slice_get desks p) ≡ with_program g (w.nodes p))
-    → ((from to : ℕ) → lane_or (slice_get desks from) to ≡ w.lanes from to) → ((p : ℕ) → (w.nodes p).program ≡ program_in plain p) → world_by plain desks ≡ w
-world_is plain desks w nodes lanes programs = λ i. record { nodes = λ p. node_is p i; lanes = λ from to. lanes from to i }
-  where
-    node_is : (p : ℕ) → node_or (program_in plain p) (first_node (kept_file plain) p) (slice_get desks p) ≡ w.nodes p
-    node_is p = nodes p (program_in plain p) ∙ ap (λ g. with_program g (w.nodes p)) (sym (programs p))
-
-module _ (plain : Plain) (desks : List Desk) (p : ℕ) (old new : Desk) (there : slice_get desks p ≡ Some old) where
-  within : p < length desks
-  within = slice_get_within desks p old there
-
-  -- the nodes where a desk is another
-  pub nodes_after : (done : Worked Program) → Does old done new → (q : ℕ) (g : Program)
-      → node_or g (first_node (kept_file plain) q) (slice_get (set desks p new) q) ≡ with_program g (if q == p then done.node else (world_by plain desks).nodes q)
-  nodes_after done does q g =
-      elim (cases_eq q p) [
-        | inl same ↦
-            rw (same, one_same p)
-            (ap (node_or g (first_node (kept_file plain) p)) (set_here desks p new within) ∙ ap (with_program g) does.node)
-        | inr other ↦
-            rw (one_other q p other)
-            (ap (node_or g (first_node (kept_file plain) q)) (set_there desks p q new other)
-            ∙ renamed g (program_in plain q) (first_node (kept_file plain) q) (slice_get desks q))
-      ]
-
-  -- the lanes
-  pub lanes_after : (done : Worked Program) → Does old done new → (from to : ℕ)
-      → lane_or (slice_get (set desks p new) from) to
-      ≡ (if from == p then (world_by plain desks).lanes from to ++ frames_for to done.posts else (world_by plain desks).lanes from to)
-  lanes_after done does from to =
-      elim (cases_eq from p) [
-        | inl same ↦
-            rw (same, one_same p)
-            (ap (λ o. lane_or o to) (set_here desks p new within) ∙ does.posts to
-            ∙ ap (λ o. lane_or o to ++ frames_for to done.posts) (sym there))
-        | inr other ↦ rw (one_other from p other) (ap (λ o. lane_or o to) (set_there desks p from new other))
-      ]
-
--- ---- a course
+use Rattle.sj_forward_rules.specs.Start.{IsForwardRun, forward_start}
+use Rattle.sj_forward_rules.specs.World.{Run, WorldAt, happens}
+use Rattle.sj_forward.proofs.StepLemmas.{acts_more, passed_more, run_more}
 
 module _ (c : Course) (r : IsReached c) where
   abbrev pub file : FileAt

@@ -15,8 +15,9 @@ use Rattle.sj_forward.specs.declared.desk.Desk.{Desk}
 use Rattle.sj_forward.specs.Course.{IsReached, PlainActs, desks_in, file_in, lane_or, node_or, world_by, world_in}
 use Rattle.sj_forward.specs.Desk.{Does, desk_at, lane_of}
 use Rattle.sj_forward.specs.Outs.{DropsFront}
-use Rattle.sj_forward.proofs.CourseLemmas.{file, lanes_after, nodes_after, plain_run_of, programs_on, world_is}
-use Rattle.sj_forward.proofs.EndsLemmas.{set_here, set_there}
+use Rattle.sj_forward.proofs.CourseLemmas.{file, plain_run_of, programs_on}
+use Rattle.sj_forward.proofs.ListLemmas.{lanes_after, nodes_after, world_is}
+use Rattle.sj_forward.proofs.SetLemmas.{set_here, set_there}
 use Rattle.sj_forward.proofs.SlotLemmas.{one_other, one_same}
 use Rattle.sj_forward_rules.specs.Acts.{acts}
 use Rattle.sj_forward_rules.specs.Arrivals.{comes}

@@ -13,7 +13,7 @@ use Rattle.sj_forward.specs.declared.course.Course.{Course}
 use Rattle.sj_forward.specs.declared.desk.Desk.{Desk}
 use Rattle.sj_forward.specs.Course.{IsReached, desks_in, file_in, lane_or, node_or, world_by}
 use Rattle.sj_forward.specs.Starting.{AreFirst}
-use Rattle.sj_forward.proofs.CourseLemmas.{world_is}
+use Rattle.sj_forward.proofs.ListLemmas.{world_is}
 use Rattle.sj_forward.proofs.SameLemmas.{first_same, forward_start_same}
 use Rattle.sj_forward_rules.specs.Node.{with_program}
 use Rattle.sj_forward_rules.specs.Start.{first_node, forward_start}

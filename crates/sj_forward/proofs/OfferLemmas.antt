@@ -7,7 +7,7 @@ use Rattle.std.proofs.Math.ListN.{set}
 use Rattle.std.specs.declared.alloc.Global.{Global}
 use Rattle.sj_rules.specs.Opened.{smallest, smallest_from}
 use Rattle.sj_forward.specs.Offers.{CanOffer, numbers_in, offering, offers_in, TakesMore}
-use Rattle.sj_forward.proofs.EndsLemmas.{set_here, set_there}
+use Rattle.sj_forward.proofs.SetLemmas.{set_here, set_there}
 use Rattle.sj_forward.proofs.SlotLemmas.{one_other, one_same}
 
 -- the list of a party that has one

@@ -8,12 +8,12 @@ use Rattle.std.proofs.lemmas.List.{get_or-set_same, get_or-set_other, get_or_def
 use Rattle.std.specs.declared.alloc.Global.{Global}
 use Rattle.std.specs.declared.collections.VecDeque.{VecDeque}
 use Rattle.sj_forward.specs.declared.frame.Sent.{Sent}
-use Rattle.sj_forward.specs.declared.slot.Kind.{Kind}
-use Rattle.sj_forward.specs.declared.slot.Record.{Record}
-use Rattle.sj_forward.specs.declared.slot.Seen.{Seen}
+use Rattle.sj_forward.specs.declared.records.Kind.{Kind}
+use Rattle.sj_forward.specs.declared.records.Record.{Record}
+use Rattle.sj_forward.specs.declared.records.Seen.{Seen}
 use Rattle.sj_forward.specs.declared.slot.Slot.{Slot}
-use Rattle.sj_forward.specs.declared.slot.Stand.{Stand}
-use Rattle.sj_forward.specs.declared.slot.Stand.TheVariants as stands
+use Rattle.sj_forward.specs.declared.records.Stand.{Stand}
+use Rattle.sj_forward.specs.declared.records.Stand.TheVariants as stands
 use Rattle.sj_forward.specs.Ends.{Becomes, LeavesFirst, TakesFirst, record_in, slot_held}
 use Rattle.sj_forward.specs.Views.{record_at, seen_of, sent_at, stand_at}
 use Rattle.sj_forward_rules.specs.Node.{HeldAt, held_at, held_in}

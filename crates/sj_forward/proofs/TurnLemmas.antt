@@ -17,9 +17,10 @@ use Rattle.sj_forward.specs.Course.{IsReached, PlainActs, PlainStays, Steps, Wan
 use Rattle.sj_forward.specs.Desk.{Acts, FrameComes, Does, HasRow, DeskStays, desk_at, lane_of}
 use Rattle.sj_forward.specs.Outs.{DropsFront, lane_in}
 use Rattle.sj_forward.specs.Views.{frame_at}
-use Rattle.sj_forward.proofs.CourseLemmas.{few_events, file, lanes_after, reached_so, row_there, steps_so}
+use Rattle.sj_forward.proofs.CourseLemmas.{few_events, file, reached_so, row_there, steps_so}
+use Rattle.sj_forward.proofs.ListLemmas.{lanes_after}
 use Rattle.sj_forward.proofs.DeskLemmas.{did}
-use Rattle.sj_forward.proofs.EndsLemmas.{set_here}
+use Rattle.sj_forward.proofs.SetLemmas.{set_here}
 use Rattle.sj_forward.proofs.EventLemmas.{acted_so, came_so}
 use Rattle.sj_forward.proofs.ReadyLemmas.{does_act, done_there}
 use Rattle.sj_forward.proofs.SlotLemmas.{some_same}

@@ -3,13 +3,13 @@ use Rattle.std.specs.Prelude.{ℕ, map, length, slice_get, Option, option_map}
 use Rattle.sj_forward.specs.declared.frame.Sent.{Sent}
 use Rattle.sj_forward.specs.declared.frame.Frame.{Frame}
 use Rattle.sj_forward.specs.declared.frame.Frame.TheVariants as frames
-use Rattle.sj_forward.specs.declared.slot.Kind.{Kind}
-use Rattle.sj_forward.specs.declared.slot.Kind.TheVariants as kinds
-use Rattle.sj_forward.specs.declared.slot.Record.{Record}
-use Rattle.sj_forward.specs.declared.slot.Seen.{Seen}
-use Rattle.sj_forward.specs.declared.slot.Stand.{Stand}
-use Rattle.sj_forward.specs.declared.slot.Stand.TheVariants as stands
-use Rattle.sj_forward.specs.declared.slot.Use.{Use}
+use Rattle.sj_forward.specs.declared.records.Kind.{Kind}
+use Rattle.sj_forward.specs.declared.records.Kind.TheVariants as kinds
+use Rattle.sj_forward.specs.declared.records.Record.{Record}
+use Rattle.sj_forward.specs.declared.records.Seen.{Seen}
+use Rattle.sj_forward.specs.declared.records.Stand.{Stand}
+use Rattle.sj_forward.specs.declared.records.Stand.TheVariants as stands
+use Rattle.sj_forward.specs.declared.records.Use.{Use}
 use Rattle.sj_forward_rules.specs.Node.{HeldAt}
 use Rattle.sj_forward_rules.specs.Record.{SentAt, StateAt, Held, Parked, Passing, Closed, RecordAt, FrameAt, In, Out, Claim, Open}
 

@@ -12,7 +12,7 @@ use crate::ends::{begin, make_place, pass_on, seen_at, store};
 use crate::frame::{Frame, Sent, onward};
 use crate::lanes::{make_room, put_all, put_frame};
 use crate::offers::offer;
-use crate::slot::Kind;
+use crate::records::Kind;
 use sj_base::{EndId, NoMemory};
 
 impl Desk {

@@ -1,6 +1,7 @@
 //! A forwarding world as it lies in memory.
 ghost use Rattle.std.specs.Prelude.{◌≡◌, ◌↔◌, ◌<◌, false, true, IsErrOf, OnErr, OnOk, length};
-ghost use Rattle.sj_forward.specs.Course.{ComesFrom, IsReached, PlainActs, PlainStays, StaysIn, Steps, Wants, desks_in, event_at, file_in, world_in};
+ghost use Rattle.sj_forward.specs.Course.{ComesFrom, IsReached, PlainActs, PlainStays, StaysIn, Steps};
+ghost use Rattle.sj_forward.specs.Course.{Wants, desks_in, event_at, file_in, world_in};
 ghost use Rattle.sj_forward.specs.declared.refusal.Turn.TheVariants as turns;
 ghost use Rattle.sj_forward_rules.specs.Ready.{has_step};
 ghost use Rattle.sj_plain.specs.Plain.{kept_file, party_count, world_at};

@@ -1,13 +1,16 @@
 //! The ends of a party, each in its slot, by session and then by side.
-ghost use Rattle.std.specs.Prelude.{◌≡◌, ◌<◌, ◌^◌, ℕ, [], Some, None, IfSome, OnErr, OnOk, IsSome, map, option_map, slice_get, true, vec_len};
-ghost use Rattle.sj_forward.specs.Ends.{EndsStay, HasPlace, KeepsPlaces, SideStays, TakesFrom, Writes, has_waiting, held_in, is_storing, more_stored, records_in, slot_in, uses_in};
+ghost use Rattle.std.specs.Prelude.{◌≡◌, ◌<◌, ◌^◌, ℕ, [], Some, None, IfSome, OnErr, OnOk, IsSome};
+ghost use Rattle.std.specs.Prelude.{map, option_map, slice_get, true, vec_len};
+ghost use Rattle.sj_forward.specs.Ends.{EndsStay, HasPlace, KeepsPlaces, SideStays, TakesFrom, Writes, has_waiting};
+ghost use Rattle.sj_forward.specs.Ends.{held_in, is_storing, more_stored, records_in, slot_in, uses_in};
 ghost use Rattle.sj_forward.specs.Views.{seen_of, sent_at, use_of};
 ghost use Rattle.sj_forward_rules.specs.Node.{HeldAt};
 ghost use Rattle.sj_forward_rules.specs.Ready.{has_message};
 ghost use Rattle.sj_forward_rules.specs.Record as rules;
 
 use crate::frame::Sent;
-use crate::slot::{Seen, Slot, Use};
+use crate::records::{Seen, Use};
+use crate::slot::Slot;
 use sj_base::{EndId, NoMemory};
 use std::alloc::Global;
 use std::collections::VecDeque;

@@ -11,6 +11,7 @@ mod forward;
 mod frame;
 mod lanes;
 mod offers;
+mod records;
 mod refusal;
 mod slot;
 mod starts;

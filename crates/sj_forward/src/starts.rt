@@ -12,7 +12,8 @@ ghost use Rattle.sj_rules.specs.Start.{declared_on};
 
 use crate::course::Course;
 use crate::desk::Desk;
-use crate::slot::{Record, Slot, Stand};
+use crate::records::{Record, Stand};
+use crate::slot::Slot;
 use sj_base::NoMemory;
 use sj_check::Accepted;
 use sj_lang::{Connect, EndDecl, File, Party};

@@ -1,6 +1,6 @@
 //! The generated file: five groups of parties, in each of which an end is delegated.
 #![tactic(auto)]
 
-mod printing;
+mod text;
 
-pub use printing::print_generated;
+pub use text::print_generated;

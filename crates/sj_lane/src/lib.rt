@@ -1,7 +1,7 @@
 //! Lanes between parties, and the links that make them: over rings, or over lists in memory.
 #![tactic(auto)]
 
-mod carrying;
+mod carries;
 mod ends;
 mod lane;
 mod links;

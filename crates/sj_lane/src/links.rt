@@ -63,9 +63,12 @@ pub trait Links {
     fn back(&mut self, lanes: Vec<Lanes<Self::Out, Self::In>>)
         requires square { IsSquare lanes.items }
         requires joined { AllJoined joined lanes.items }
-        ensures kept { tells self.old ≡ true → Kept Self.Out.pushed Self.In.popped Self.Out.vain Self.In.vain lanes.items (sent self.new) (got self.new) (vain_out self.new) (vain_in self.new) }
+        ensures kept { tells self.old ≡ true → Kept Self.Out.pushed Self.In.popped Self.Out.vain
+            Self.In.vain lanes.items (sent self.new) (got self.new) (vain_out self.new)
+            (vain_in self.new) }
         ensures tells { tells self.new ≡ tells self.old }
-        ensures fault { (faults self.old ≤ faults self.new) × (NoFault Self.Out.faults Self.In.faults lanes.items → faults self.new ≡ faults self.old) }
+        ensures fault { (faults self.old ≤ faults self.new)
+            × (NoFault Self.Out.faults Self.In.faults lanes.items → faults self.new ≡ faults self.old) }
         ensures raised { HasFault Self.Out.faults Self.In.faults lanes.items → Rose (faults self.old) (faults self.new) };
 
     /// A lane later is still joined to the other end.

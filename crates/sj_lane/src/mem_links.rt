@@ -1,5 +1,5 @@
 //! Links of lists in memory.
-use crate::carrying::carry_all;
+use crate::carries::carry_all;
 use crate::lane::{InLane, Lanes, OutLane};
 use crate::links::{Links, MakeRefusal};
 use crate::mem::{MemIn, MemOut};
@@ -54,7 +54,9 @@ impl Links for MemLinks {
     ) -> Result<Vec<Lanes<MemOut, MemIn>>, MakeRefusal>
         ensures square { IfOk result (λ v. (vec_len v ≡ parties) × IsSquare v.items) }
         ensures joined { IfOk result (λ v. AllJoined IsCarried v.items) }
-        ensures fresh { IfOk result (λ v. IsFresh ⟦<MemOut as OutLane>⟧.pushed ⟦<MemIn as InLane>⟧.popped ⟦<MemOut as OutLane>⟧.vain ⟦<MemIn as InLane>⟧.vain true v.items) }
+        ensures fresh { IfOk result (λ v. IsFresh ⟦<MemOut as OutLane>⟧.pushed
+            ⟦<MemIn as InLane>⟧.popped ⟦<MemOut as OutLane>⟧.vain
+            ⟦<MemIn as InLane>⟧.vain true v.items) }
         ensures faultless { IfOk result (λ v. NoFault ⟦<MemOut as OutLane>⟧.faults ⟦<MemIn as InLane>⟧.faults v.items) }
         ensures tells { true ≡ true }
         ensures fault { (0 ≤ 0) × (result ≡ Err MakeRefusal.Fault → Rose 0 0) }
@@ -73,7 +75,8 @@ impl Links for MemLinks {
         requires joined { AllJoined IsCarried lanes.old }
         ensures square { IsSquare lanes.new }
         ensures joined { AllJoined IsCarried lanes.new }
-        ensures lists { SameLists ⟦<MemOut as OutLane>⟧.pushed ⟦<MemIn as InLane>⟧.popped ⟦<MemOut as OutLane>⟧.vain ⟦<MemIn as InLane>⟧.vain lanes.old lanes.new }
+        ensures lists { SameLists ⟦<MemOut as OutLane>⟧.pushed ⟦<MemIn as InLane>⟧.popped
+            ⟦<MemOut as OutLane>⟧.vain ⟦<MemIn as InLane>⟧.vain lanes.old lanes.new }
         ensures faults { NoneFell ⟦<MemOut as OutLane>⟧.faults ⟦<MemIn as InLane>⟧.faults lanes.old lanes.new }
         ensures shown { (p q : ℕ) → (sent_in (kept_list self.new.kept) p q ≡ sent_in (kept_list self.old.kept) p q)
             × (got_in (kept_list self.new.kept) p q ≡ got_in (kept_list self.old.kept) p q)
@@ -90,7 +93,10 @@ impl Links for MemLinks {
     fn back(&mut self, lanes: Vec<Lanes<MemOut, MemIn>>)
         requires square { IsSquare lanes.items }
         requires joined { AllJoined IsCarried lanes.items }
-        ensures kept { true ≡ true → Kept ⟦<MemOut as OutLane>⟧.pushed ⟦<MemIn as InLane>⟧.popped ⟦<MemOut as OutLane>⟧.vain ⟦<MemIn as InLane>⟧.vain lanes.items (sent_in (kept_list self.new.kept)) (got_in (kept_list self.new.kept)) (vain_out_in (kept_list self.new.kept)) (vain_in_in (kept_list self.new.kept)) }
+        ensures kept { true ≡ true → Kept ⟦<MemOut as OutLane>⟧.pushed ⟦<MemIn as InLane>⟧.popped
+            ⟦<MemOut as OutLane>⟧.vain ⟦<MemIn as InLane>⟧.vain lanes.items
+            (sent_in (kept_list self.new.kept)) (got_in (kept_list self.new.kept))
+            (vain_out_in (kept_list self.new.kept)) (vain_in_in (kept_list self.new.kept)) }
         ensures tells { true ≡ true }
         ensures fault { (0 ≤ 0) × (NoFault ⟦<MemOut as OutLane>⟧.faults ⟦<MemIn as InLane>⟧.faults lanes.items → ◌≡◌ {A = ℕ} 0 0) }
         ensures raised { HasFault ⟦<MemOut as OutLane>⟧.faults ⟦<MemIn as InLane>⟧.faults lanes.items → Rose 0 0 }

@@ -64,7 +64,10 @@ impl Links for RingLinks {
     fn back(&mut self, lanes: Vec<Lanes<RingOut, RingIn>>)
         requires square { IsSquare lanes.items }
         requires joined { AllJoined Joined lanes.items }
-        ensures kept { true ≡ true → Kept ⟦<RingOut as OutLane>⟧.pushed ⟦<RingIn as InLane>⟧.popped ⟦<RingOut as OutLane>⟧.vain ⟦<RingIn as InLane>⟧.vain lanes.items (sent_in (kept_list self.new.kept)) (got_in (kept_list self.new.kept)) (vain_out_in (kept_list self.new.kept)) (vain_in_in (kept_list self.new.kept)) }
+        ensures kept { true ≡ true → Kept ⟦<RingOut as OutLane>⟧.pushed ⟦<RingIn as InLane>⟧.popped
+            ⟦<RingOut as OutLane>⟧.vain ⟦<RingIn as InLane>⟧.vain lanes.items
+            (sent_in (kept_list self.new.kept)) (got_in (kept_list self.new.kept))
+            (vain_out_in (kept_list self.new.kept)) (vain_in_in (kept_list self.new.kept)) }
         ensures tells { true ≡ true }
         ensures fault { (0 ≤ 0) × (NoFault ⟦<RingOut as OutLane>⟧.faults ⟦<RingIn as InLane>⟧.faults lanes.items → ◌≡◌ {A = ℕ} 0 0) }
         ensures raised { HasFault ⟦<RingOut as OutLane>⟧.faults ⟦<RingIn as InLane>⟧.faults lanes.items → Rose 0 0 }

@@ -8,7 +8,8 @@ ghost use Rattle.sj_machine.specs.Opens.{ends_after_opened};
 ghost use Rattle.sj_machine.specs.Table.{vars_in};
 ghost use Rattle.sj_machine.specs.declared.stack.Stage.{Stage};
 ghost use Rattle.sj_semantics.specs.Program.{Thing};
-ghost use Rattle.sj_semantics.specs.Steps.{ends_after_closed, ends_after_sent, ends_after_took, name_opened, vars_after_local, vars_after_took};
+ghost use Rattle.sj_semantics.specs.Steps.{ends_after_closed, ends_after_sent, ends_after_took};
+ghost use Rattle.sj_semantics.specs.Steps.{name_opened, vars_after_local, vars_after_took};
 
 use crate::arena::Op;
 use crate::ends::{bind, unbind};

@@ -5,7 +5,8 @@ ghost use Rattle.sj_machine.specs.Frames.{Fits, todo_in};
 ghost use Rattle.sj_machine.specs.Names.{AllBindBelow, AreNamedOnce};
 ghost use Rattle.sj_machine.specs.Opens.{ends_after_opened};
 ghost use Rattle.sj_machine.specs.Table.{vars_in};
-ghost use Rattle.sj_semantics.specs.Steps.{ends_after_closed, ends_after_sent, ends_after_took, rest_of, todo_after_local, todo_after_sent, todo_after_took, vars_after_local, vars_after_took};
+ghost use Rattle.sj_semantics.specs.Steps.{ends_after_closed, ends_after_sent, ends_after_took, rest_of, todo_after_local};
+ghost use Rattle.sj_semantics.specs.Steps.{todo_after_sent, todo_after_took, vars_after_local, vars_after_took};
 
 use crate::arena::Node;
 use crate::bindings::{ends_closed, ends_opened, ends_sent, ends_took, vars_local, vars_took};

@@ -1,7 +1,9 @@
 //! Old records of ends that the party sent on.
-ghost use Rattle.std.specs.Prelude.{◌≡◌, ◌+◌, ◌<◌, ◌≤◌, ◌^◌, ℕ, Some, None, IsSome, IfSome, IfNone, IfOk, OnErr, IsErrOf, map, max, option_map, vec_len};
+ghost use Rattle.std.specs.Prelude.{◌≡◌, ◌+◌, ◌<◌, ◌≤◌, ◌^◌, ℕ, Some, None, IsSome, IfSome, IfNone, IfOk};
+ghost use Rattle.std.specs.Prelude.{OnErr, IsErrOf, map, max, option_map, vec_len};
 ghost use Rattle.sj_end.specs.Views.{post_at};
-ghost use Rattle.sj_node.specs.Keeping.{AckFits, Claims, CrossFits, LacksPass, Passes, PassesFrom, cached_old, kept_of, parked_of, parked_peer, signalled_of};
+ghost use Rattle.sj_node.specs.Keeping.{AckFits, Claims, CrossFits, LacksPass, Passes, PassesFrom, cached_old};
+ghost use Rattle.sj_node.specs.Keeping.{kept_of, parked_of, parked_peer, signalled_of};
 ghost use Rattle.sj_node.specs.Passing.{GoTo};
 ghost use Rattle.sj_node.specs.Slots.{old_at, olds_in};
 ghost use Rattle.sj_rules.specs.Node.{NodeAt, comes, put, with_number};

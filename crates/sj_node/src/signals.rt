@@ -1,5 +1,6 @@
 //! A Signal comes to a record that is used, parked or closed.
-ghost use Rattle.std.specs.Prelude.{◌≡◌, ◌+◌, ◌^◌, ◌<◌, ◌≤◌, Some, None, IfOk, IfErr, OnErr, IsErrOf, length, map, max, option_map, vec_len};
+ghost use Rattle.std.specs.Prelude.{◌≡◌, ◌+◌, ◌^◌, ◌<◌, ◌≤◌, Some, None, IfOk, IfErr, OnErr};
+ghost use Rattle.std.specs.Prelude.{IsErrOf, length, map, max, option_map, vec_len};
 ghost use Rattle.sj_end.specs.Views.{held_at, post_at};
 ghost use Rattle.sj_node.specs.Arriving.{main_row};
 ghost use Rattle.sj_node.specs.Slots.{main_at, mains_in};

@@ -1,5 +1,6 @@
 //! The plain world of an accepted file.
-ghost use Rattle.std.specs.Prelude.{◌≡◌, ◌<◌, ◌≤◌, ◌∷◌, ◌++◌, ◌↔◌, [], Some, true, IfOk, IsErrOf, OnErr, OnOk, length, option_map, slice_get, unwrap_or};
+ghost use Rattle.std.specs.Prelude.{◌≡◌, ◌<◌, ◌≤◌, ◌∷◌, ◌++◌, ◌↔◌, [], Some, true, IfOk, IsErrOf, OnErr};
+ghost use Rattle.std.specs.Prelude.{OnOk, length, option_map, slice_get, unwrap_or};
 ghost use Rattle.sj_check.specs.Held.{file_in as held};
 ghost use Rattle.sj_lang.specs.FileView.{file_of};
 ghost use Rattle.sj_plain.specs.Finish.{IsFinished};

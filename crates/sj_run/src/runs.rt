@@ -41,8 +41,8 @@ fn past_end(world: &World, refused: Line) -> RunRefusal
 
 /// Runs a file by its parties, over lanes that the links make: each on a thread of its own where one can
 /// be had; or, with a number, on a pool of so many threads (0 as 1) that take each other's work, in
-/// rounds until one without an event, and one more. Their logs, joined, are replayed in a core world, which is what the parties left: they are
-/// given up before that, and the joined lines become its history.
+/// rounds until one without an event, and one more. Their logs, joined, are replayed in a core world, which
+/// is what the parties left: they are given up before that, and the joined lines become its history.
 ///
 /// A worker that wanted memory makes the whole want memory, unless the links met a fault or the logs
 /// are damaged.

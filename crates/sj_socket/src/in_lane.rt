@@ -41,7 +41,7 @@ pub struct SocketIn {
 }
 
 /// The frame at the front of what was fed. That it is no frame is a fault.
-fn decoded(decoder: &mut Decoder) -> Result<Option<Frame>, PopRefusal>
+fn decode(decoder: &mut Decoder) -> Result<Option<Frame>, PopRefusal>
     ensures { IfOk result (λ x. IfNone x (front_of decoder.new ≡ Cut)) }
 {
     match decoder.next() {
@@ -100,7 +100,7 @@ impl Reader {
     fn pop(&mut self) -> Result<Option<Frame>, PopRefusal>
         ensures { IfOk result (λ x. IfNone x (front_of self.new.decoder ≡ Cut)) }
     {
-        match decoded(&mut self.decoder) {
+        match decode(&mut self.decoder) {
             Ok(None) => {}
             answer => return answer,
         }
@@ -110,7 +110,7 @@ impl Reader {
         if let Err(refusal) = self.feed() {
             return Err(refusal);
         }
-        decoded(&mut self.decoder)
+        decode(&mut self.decoder)
     }
 }
 

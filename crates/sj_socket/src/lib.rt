@@ -1,11 +1,11 @@
 //! Links between parties over streams of this machine's own address.
 #![tactic(auto)]
 
-mod carrying;
-mod counting;
+mod carries;
+mod faults;
+mod grid;
 mod in_lane;
 mod links;
-mod making;
 mod out_lane;
 mod stream;
 #[cfg(test)]

@@ -4,10 +4,10 @@ ghost use Rattle.sj_lane.specs.Square.{AllJoined, HasFault, IsFresh, IsSquare, K
 ghost use Rattle.sj_lane.specs.Told.{Rose};
 ghost use Rattle.sj_socket.specs.Counts.{capped_sum, faults_make, met};
 
-use crate::carrying::carry_all;
-use crate::counting::{counted, with_all};
+use crate::carries::carry_all;
+use crate::faults::{add_faults, with_all};
+use crate::grid::all_lanes;
 use crate::in_lane::SocketIn;
-use crate::making::all_lanes;
 use crate::out_lane::SocketOut;
 use sj_base::NoMemory;
 use sj_lane::{InLane, Lanes, Links, MakeRefusal, OutLane};
@@ -58,7 +58,9 @@ impl<R: Net + Drop> Links for SocketLinks<R> {
     ) -> Result<Vec<Lanes<SocketOut, SocketIn>>, MakeRefusal>
         ensures square { IfOk result (λ v. (vec_len v ≡ parties) × IsSquare v.items) }
         ensures joined { IfOk result (λ v. AllJoined (λ _ _. Unit {0}) v.items) }
-        ensures fresh { IfOk result (λ v. IsFresh ⟦<SocketOut as OutLane>⟧.pushed ⟦<SocketIn as InLane>⟧.popped ⟦<SocketOut as OutLane>⟧.vain ⟦<SocketIn as InLane>⟧.vain false v.items) }
+        ensures fresh { IfOk result (λ v. IsFresh ⟦<SocketOut as OutLane>⟧.pushed
+            ⟦<SocketIn as InLane>⟧.popped ⟦<SocketOut as OutLane>⟧.vain
+            ⟦<SocketIn as InLane>⟧.vain false v.items) }
         ensures faultless { IfOk result (λ v. NoFault ⟦<SocketOut as OutLane>⟧.faults ⟦<SocketIn as InLane>⟧.faults v.items) }
         ensures tells { false ≡ false }
         ensures fault { (self.old.faults ≤ self.new.faults) × (result ≡ Err MakeRefusal.Fault → Rose self.old.faults self.new.faults) }
@@ -82,13 +84,18 @@ impl<R: Net + Drop> Links for SocketLinks<R> {
     fn back(&mut self, lanes: Vec<Lanes<SocketOut, SocketIn>>)
         requires square { IsSquare lanes.items }
         requires joined { AllJoined (λ _ _. Unit {0}) lanes.items }
-        ensures kept { false ≡ true → Kept ⟦<SocketOut as OutLane>⟧.pushed ⟦<SocketIn as InLane>⟧.popped ⟦<SocketOut as OutLane>⟧.vain ⟦<SocketIn as InLane>⟧.vain lanes.items (λ _ _. []) (λ _ _. []) (λ _ _. 0) (λ _ _. 0) }
+        ensures kept { false ≡ true → Kept ⟦<SocketOut as OutLane>⟧.pushed
+            ⟦<SocketIn as InLane>⟧.popped ⟦<SocketOut as OutLane>⟧.vain ⟦<SocketIn as InLane>⟧.vain
+            lanes.items (λ _ _. []) (λ _ _. []) (λ _ _. 0) (λ _ _. 0) }
         ensures tells { false ≡ false }
-        ensures fault { (self.old.faults ≤ self.new.faults) × (NoFault ⟦<SocketOut as OutLane>⟧.faults ⟦<SocketIn as InLane>⟧.faults lanes.items → self.new.faults ≡ self.old.faults) }
-        ensures raised { HasFault ⟦<SocketOut as OutLane>⟧.faults ⟦<SocketIn as InLane>⟧.faults lanes.items → Rose self.old.faults self.new.faults }
+        ensures fault { (self.old.faults ≤ self.new.faults)
+            × (NoFault ⟦<SocketOut as OutLane>⟧.faults ⟦<SocketIn as InLane>⟧.faults lanes.items →
+            self.new.faults ≡ self.old.faults) }
+        ensures raised { HasFault ⟦<SocketOut as OutLane>⟧.faults ⟦<SocketIn as InLane>⟧.faults lanes.items →
+            Rose self.old.faults self.new.faults }
         ensures counts { self.new.faults ≡ capped_sum self.old.faults (met lanes.items) }
     {
-        self.faults = counted(self.faults, with_all(0, &lanes));
+        self.faults = add_faults(self.faults, with_all(0, &lanes));
         drop(lanes);
     }
 

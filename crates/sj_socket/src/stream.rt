@@ -23,7 +23,7 @@ pub(crate) fn is_in_vain(error: &io::Error) -> bool {
 
 /// The end of the stream that comes from that address. A stream from another one is closed, and
 /// counts as a try.
-pub(crate) fn accepted(
+pub(crate) fn accept(
     listener: &TcpListener,
     from: SocketAddr,
     tries: u32,
@@ -46,14 +46,14 @@ pub(crate) fn accepted(
 }
 
 /// A listener at a port of the system's choice.
-pub(crate) fn listening<R: Net>(net: &R) -> io::Result<(TcpListener, u16)> {
+pub(crate) fn listen<R: Net>(net: &R) -> io::Result<(TcpListener, u16)> {
     let listener = TcpListener::bind(net, loopback(0))?;
     let port = listener.local_addr()?.port();
     Ok((listener, port))
 }
 
 /// A stream to that port, and the address that its other end sees.
-pub(crate) fn connected<R: Net>(net: &R, port: u16) -> io::Result<(TcpStream, SocketAddr)> {
+pub(crate) fn connect<R: Net>(net: &R, port: u16) -> io::Result<(TcpStream, SocketAddr)> {
     let near = TcpStream::connect(net, loopback(port))?;
     let from = near.local_addr()?;
     Ok((near, from))
@@ -61,9 +61,9 @@ pub(crate) fn connected<R: Net>(net: &R, port: u16) -> io::Result<(TcpStream, So
 
 /// The two ends of a new stream: what is written to the first is read from the second.
 pub(crate) fn both_ends<R: Net>(net: &R) -> io::Result<(TcpStream, TcpStream)> {
-    let (listener, port) = listening(net)?;
-    let (near, from) = connected(net, port)?;
-    let far = accepted(&listener, from, TRIES)?;
+    let (listener, port) = listen(net)?;
+    let (near, from) = connect(net, port)?;
+    let far = accept(&listener, from, TRIES)?;
     near.set_nodelay(true)?;
     Ok((near, far))
 }

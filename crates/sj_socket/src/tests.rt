@@ -3,7 +3,7 @@ ghost use Rattle.std.specs.Prelude.{◌≡◌, ◌<◌, vec_len};
 ghost use Rattle.sj_lane.specs.Square.{IsSquare};
 
 use crate::in_lane::{InWay, Reader};
-use crate::stream::{accepted, both_ends, connected, listening};
+use crate::stream::{accept, both_ends, connect, listen};
 use crate::{SocketIn, SocketLinks, SocketOut};
 use mio::net::TcpStream;
 use sj_base::{EndId, Msg};
@@ -51,7 +51,7 @@ fn byte_from(stream: &mut TcpStream) -> Option<u8> {
 }
 
 /// What a lane answers that isn't none, however long it takes to come.
-fn popped(lane: &mut SocketIn) -> Result<Option<(u32, u32)>, PopRefusal> {
+fn pop_next(lane: &mut SocketIn) -> Result<Option<(u32, u32)>, PopRefusal> {
     for _ in 0..TRIES {
         if let Some(frame) = lane.pop()? {
             return Ok(Some(shown(frame)));
@@ -69,10 +69,10 @@ fn lane_from(alloc: Global, far: TcpStream) -> Result<SocketIn, Fail> {
 
 #[test]
 fn a_stream_from_a_stranger_is_refused(rt: HostRuntime) -> Result<(), Fail> {
-    let (listener, port) = listening(&rt)?;
-    let (mut stranger, _) = connected(&rt, port)?;
-    let (mut near, from) = connected(&rt, port)?;
-    let mut far = accepted(&listener, from, TRIES)?;
+    let (listener, port) = listen(&rt)?;
+    let (mut stranger, _) = connect(&rt, port)?;
+    let (mut near, from) = connect(&rt, port)?;
+    let mut far = accept(&listener, from, TRIES)?;
     stranger.write(&[1])?;
     near.write(&[2])?;
     assert_eq!(rt; byte_from(&mut far), Some(2));
@@ -81,11 +81,11 @@ fn a_stream_from_a_stranger_is_refused(rt: HostRuntime) -> Result<(), Fail> {
 
 #[test]
 fn tries_in_vain_have_an_end(rt: HostRuntime) -> Result<(), Fail> {
-    let (listener, port) = listening(&rt)?;
-    let (_other, _) = listening(&rt)?;
-    let (_stranger, from) = connected(&rt, port)?;
-    let first = accepted(&listener, from, TRIES)?;
-    assert!(rt; accepted(&listener, from, 3).is_err());
+    let (listener, port) = listen(&rt)?;
+    let (_other, _) = listen(&rt)?;
+    let (_stranger, from) = connect(&rt, port)?;
+    let first = accept(&listener, from, TRIES)?;
+    assert!(rt; accept(&listener, from, 3).is_err());
     drop(first);
     Ok(())
 }
@@ -111,7 +111,7 @@ fn frames_come_in_order(rt: HostRuntime) -> Result<(), Fail> {
     let second = lanes.get_mut(1).ok_or("no party")?;
     let lane = second.ins.get_mut(0).ok_or("no lane")?;
     for number in 0..sent.saturating_sub(1) {
-        assert_eq!(rt; popped(lane)?, Some((0, number)));
+        assert_eq!(rt; pop_next(lane)?, Some((0, number)));
     }
     Ok(())
 }
@@ -136,8 +136,8 @@ fn what_is_no_frame_is_a_fault(rt: HostRuntime) -> Result<(), Fail> {
     let (mut near, far) = both_ends(&rt)?;
     let mut lane = lane_from(rt.alloc(), far)?;
     near.write(&[0, 0, 0, 14])?;
-    assert_eq!(rt; popped(&mut lane), Err(PopRefusal::Fault));
-    assert_eq!(rt; popped(&mut lane), Err(PopRefusal::Fault));
+    assert_eq!(rt; pop_next(&mut lane), Err(PopRefusal::Fault));
+    assert_eq!(rt; pop_next(&mut lane), Err(PopRefusal::Fault));
     assert_eq!(rt; lane.faults, 2);
     Ok(())
 }
@@ -148,7 +148,7 @@ fn the_end_of_a_stream_is_a_fault(rt: HostRuntime) -> Result<(), Fail> {
     let mut lane = lane_from(rt.alloc(), far)?;
     near.write(&[0, 0, 0])?;
     drop(near);
-    assert_eq!(rt; popped(&mut lane), Err(PopRefusal::Fault));
+    assert_eq!(rt; pop_next(&mut lane), Err(PopRefusal::Fault));
     assert_eq!(rt; lane.faults, 1);
     Ok(())
 }

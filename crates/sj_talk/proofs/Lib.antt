@@ -6,8 +6,11 @@ mod LineLemmas
 mod MoveLemmas
 mod NameLemmas
 mod OutputLemmas
+mod PassLemmas
 mod PlaceLemmas
 mod SafeLemmas
+mod ServeLemmas
 mod SettledLemmas
 mod StartLemmas
+mod UseLemmas
 mod WordLemmas

@@ -37,7 +37,9 @@ use Rattle.sj_talk.specs.Names.{connected_ends, end_named, ends_without, label_n
 use Rattle.sj_talk.specs.Rules.{carried_next, end_under, is_done, is_free, is_next, offers, place_under, refusal_of, selects, sends_end, sends_value, takes_end, tests_of, turns}
 use Rattle.sj_talk.specs.TalkWorld.{TalkWorld, no_program, talk_start, with_table, world_without}
 use Rattle.sj_talk.proofs.AllowedLemmas.{carries_in, carries_out, holds_by_not, label_sends, names_by, names_nothing, neither, none_applies, some_by, stands_full, there_by, turn_sends, value_sends}
-use Rattle.sj_talk.proofs.GuardLemmas.{Guarded, guards_close, guards_delegate, guards_send, guards_take, guards_take_end}
+use Rattle.sj_talk.proofs.GuardLemmas.{Guarded}
+use Rattle.sj_talk.proofs.PassLemmas.{guards_delegate, guards_take_end}
+use Rattle.sj_talk.proofs.UseLemmas.{guards_close, guards_send, guards_take}
 use Rattle.sj_talk.proofs.HeldLemmas.{held_by_name, holds, holds-without, named-without_other, numbered}
 
 -- texts change nothing of it

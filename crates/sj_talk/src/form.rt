@@ -5,7 +5,8 @@ ghost use Rattle.std.specs.Str.{bytes_eq};
 ghost use Rattle.sj_grammar.specs.Bytes.{is_digit, is_printable};
 ghost use Rattle.sj_grammar.specs.Lexis.{most};
 ghost use Rattle.sj_grammar.specs.Literals.{inner};
-ghost use Rattle.sj_talk.specs.Forms.{alone, form_of, int_of, is_short_name, is_short_text, minus, number_of, plus, value_of, with_name, with_words};
+ghost use Rattle.sj_talk.specs.Forms.{alone, form_of, int_of, is_short_name, is_short_text, minus};
+ghost use Rattle.sj_talk.specs.Forms.{number_of, plus, value_of, with_name, with_words};
 ghost use Rattle.sj_talk.specs.Play.{form_at, value_at};
 
 use crate::words::Words;

@@ -8,7 +8,8 @@ ghost use Rattle.sj_lang.specs.View.{carried_of, place_of};
 ghost use Rattle.sj_plain.specs.Stepping.{sessions_at};
 ghost use Rattle.sj_semantics.specs.Ends.{end_at};
 ghost use Rattle.sj_talk.specs.Play.{value_at};
-ghost use Rattle.sj_talk.specs.Rules.{carried_next, is_done, is_next, is_scalar, offers, selects, sends_end, sends_value, takes_end, takes_no_end, turns};
+ghost use Rattle.sj_talk.specs.Rules.{carried_next, is_done, is_next, is_scalar, offers, selects};
+ghost use Rattle.sj_talk.specs.Rules.{sends_end, sends_value, takes_end, takes_no_end, turns};
 
 use crate::form::Value;
 use sj_base::EndId;

@@ -5,7 +5,7 @@ ghost use Rattle.sj_wire.specs.Front.{Cut, Whole, front_of};
 ghost use Rattle.sj_wire.specs.Reads.{IsRefused};
 
 use crate::WireRefusal;
-use crate::reading::front;
+use crate::fronts::front;
 use sj_base::NoMemory;
 use sj_end::Frame;
 use std::alloc::Global;

@@ -22,7 +22,7 @@ impl Kind {
     pub(crate) fn of_bytes(version: u8, byte: u8) -> Option<Kind>
         ensures { result ≡ kind_in version byte }
     {
-        match Kind::named(byte) {
+        match Kind::of_byte(byte) {
             None => None,
             Some(kind) => {
                 if kind.version() == version {
@@ -35,7 +35,7 @@ impl Kind {
     }
 
     /// The kind of that byte.
-    fn named(byte: u8) -> Option<Kind>
+    fn of_byte(byte: u8) -> Option<Kind>
         ensures { result ≡ kind_named byte }
     {
         match byte {

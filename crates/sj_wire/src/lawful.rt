@@ -6,8 +6,8 @@ ghost use Rattle.sj_end.specs.Views.{frame_at};
 ghost use Rattle.sj_rules.specs.Record as rules;
 ghost use Rattle.sj_wire.specs.Lawful.{HasSide, IsLawful, IsWithin};
 
-use crate::encoding::end_of;
 use crate::limits::{LAST_CLOCK, LIMIT_OF_CONNS, LIMIT_OF_HOPS, LIMIT_OF_MESSAGES};
+use crate::spelling::end_of;
 use sj_base::Msg;
 use sj_end::{Body, End, Frame};
 use std::collections::VecDeque;

@@ -3,22 +3,22 @@
 
 mod bodies;
 mod decoder;
-mod encoding;
+mod field_bytes;
 mod fields;
+mod fronts;
 mod kind;
 mod lawful;
 mod laws;
 mod limits;
 mod messages;
-mod reading;
 mod refusal;
-mod writing;
+mod spelling;
 
 pub use decoder::Decoder;
-pub use encoding::encode;
 pub use lawful::is_lawful;
 pub use laws::{
     a_frame_stays, a_refusal_stays, a_spelling_is_read, a_stream_is_its_frames,
     any_pieces_give_the_same_frames, no_spelling_begins_another, what_is_read_is_spelt_so,
 };
 pub use refusal::{EncodeRefusal, WireRefusal};
+pub use spelling::encode;

@@ -193,7 +193,9 @@ impl Links for DequeLinks {
     fn back(&mut self, lanes: Vec<Lanes<DequeOut, DequeIn>>)
         requires square { IsSquare lanes.items }
         requires joined { AllJoined (λ (o : _) (i : _). Unit {0}) lanes.items }
-        ensures kept { false ≡ true → Kept ⟦<DequeOut as OutLane>⟧.pushed ⟦<DequeIn as InLane>⟧.popped ⟦<DequeOut as OutLane>⟧.vain ⟦<DequeIn as InLane>⟧.vain lanes.items (λ _ _. []) (λ _ _. []) (λ _ _. 0) (λ _ _. 0) }
+        ensures kept { false ≡ true → Kept ⟦<DequeOut as OutLane>⟧.pushed
+            ⟦<DequeIn as InLane>⟧.popped ⟦<DequeOut as OutLane>⟧.vain ⟦<DequeIn as InLane>⟧.vain
+            lanes.items (λ _ _. []) (λ _ _. []) (λ _ _. 0) (λ _ _. 0) }
         ensures tells { false ≡ false }
         ensures fault { (0 ≤ 0) × (NoFault ⟦<DequeOut as OutLane>⟧.faults ⟦<DequeIn as InLane>⟧.faults lanes.items → ◌≡◌ {A = ℕ} 0 0) }
         ensures raised { HasFault ⟦<DequeOut as OutLane>⟧.faults ⟦<DequeIn as InLane>⟧.faults lanes.items → Rose 0 0 }

@@ -1,4 +1,5 @@
-use Rattle.sj_forward.proofs.EndsLemmas.{ends_both, slot_read}
+use Rattle.sj_forward.proofs.EndsLemmas.{slot_read}
+use Rattle.sj_forward.proofs.RoomLemmas.{ends_both}
 use Rattle.sj_forward.proofs.SlotLemmas.{some_of}
 use Rattle.sj_forward.proofs.ResultLemmas.{on_ok}
 use Rattle.sj_forward.proofs.ends.make_place.Goals as goal

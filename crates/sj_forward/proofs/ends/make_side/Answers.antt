@@ -1,7 +1,7 @@
 use Rattle.std.proofs.Common.{List, slice_get, subst, sym}
 use Rattle.sj_forward.specs.declared.slot.Slot.{Slot}
 use Rattle.sj_forward.specs.Ends.{SideStays}
-use Rattle.sj_forward.proofs.EndsLemmas.{side_more, sides_both}
+use Rattle.sj_forward.proofs.RoomLemmas.{side_more, sides_both}
 use Rattle.sj_forward.proofs.ends.make_side.Goals as goal
 
 pub loop-alloc-preserved : goal.loop-alloc-preserved

@@ -1,6 +1,6 @@
 use Rattle.std.proofs.Common.{subst, sym, arith}
 use Rattle.sj_forward.specs.Ends.{EndsStay, Rows}
-use Rattle.sj_forward.proofs.EndsLemmas.{ends_both, row_more, row_stays, side_there}
+use Rattle.sj_forward.proofs.RoomLemmas.{ends_both, row_more, row_stays, side_there}
 use Rattle.sj_forward.proofs.ResultLemmas.{on_ok}
 use Rattle.sj_forward.proofs.ends.make_slot.Goals as goal
 

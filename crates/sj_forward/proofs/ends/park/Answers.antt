@@ -1,5 +1,6 @@
 use Rattle.std.proofs.Common.{None}
-use Rattle.sj_forward.proofs.EndsLemmas.{held_of_slot, slot_read, slot_used}
+use Rattle.sj_forward.proofs.EndsLemmas.{slot_read}
+use Rattle.sj_forward.proofs.FoundLemmas.{held_of_slot, slot_used}
 use Rattle.sj_forward.proofs.ends.park.Goals as goal
 
 pub returns : goal.returns

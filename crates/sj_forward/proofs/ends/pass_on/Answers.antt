@@ -1,4 +1,5 @@
-use Rattle.sj_forward.proofs.EndsLemmas.{slot_read, slot_waiting, stores_in}
+use Rattle.sj_forward.proofs.EndsLemmas.{slot_read, stores_in}
+use Rattle.sj_forward.proofs.FoundLemmas.{slot_waiting}
 use Rattle.sj_forward.proofs.ends.pass_on.Goals as goal
 
 pub returns-clause-passes : goal.returns-clause-passes

@@ -1,4 +1,5 @@
-use Rattle.sj_forward.proofs.EndsLemmas.{slot_read, slot_storing, stores_in}
+use Rattle.sj_forward.proofs.EndsLemmas.{slot_read, stores_in}
+use Rattle.sj_forward.proofs.FoundLemmas.{slot_storing}
 use Rattle.sj_forward.proofs.ResultLemmas.{on_err, on_ok}
 use Rattle.sj_forward.proofs.ends.store.Goals as goal
 

@@ -1,4 +1,5 @@
-use Rattle.sj_forward.proofs.EndsLemmas.{held_of_slot, held_somewhere, keeps_places, slot_read, slot_used, takes_from}
+use Rattle.sj_forward.proofs.EndsLemmas.{keeps_places, slot_read, takes_from}
+use Rattle.sj_forward.proofs.FoundLemmas.{held_of_slot, held_somewhere, slot_used}
 use Rattle.sj_forward.proofs.ends.take_first.Goals as goal
 
 pub returns-clause-takes : goal.returns-clause-takes

@@ -1,7 +1,7 @@
 use Rattle.std.proofs.Common.{option_map, ap, ◌∙◌}
 use Rattle.sj_forward.specs.Ends.{Rows, held_in}
 use Rattle.sj_forward.specs.Views.{use_of}
-use Rattle.sj_forward.proofs.ActLemmas.{carrier_held, carrier_room, delegates_so}
+use Rattle.sj_forward.proofs.DelegateLemmas.{carrier_held, carrier_room, delegates_so}
 use Rattle.sj_forward.proofs.desk.Desk.delegate.Goals as goal
 
 pub send-requires-clause-fits : goal.send-requires-clause-fits

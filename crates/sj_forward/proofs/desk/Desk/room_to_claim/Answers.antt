@@ -1,4 +1,4 @@
-use Rattle.sj_forward.proofs.ActLemmas.{can_claim}
+use Rattle.sj_forward.proofs.TakeLemmas.{can_claim}
 use Rattle.sj_forward.proofs.ResultLemmas.{on_ok}
 use Rattle.sj_forward.proofs.desk.Desk.room_to_claim.Goals as goal
 

@@ -1,7 +1,7 @@
 use Rattle.std.proofs.Common.{option_map, ap, ◌∙◌}
 use Rattle.sj_forward.specs.Ends.{Rows, held_in}
 use Rattle.sj_forward.specs.Views.{use_of}
-use Rattle.sj_forward.proofs.ActLemmas.{can_take}
+use Rattle.sj_forward.proofs.TakeLemmas.{can_take}
 use Rattle.sj_forward.proofs.ResultLemmas.{on_ok}
 use Rattle.sj_forward.proofs.desk.Desk.room_to_take.Goals as goal
 

@@ -1,6 +1,6 @@
 use Rattle.std.proofs.Common.{refl}
-use Rattle.sj_forward.proofs.ActLemmas.{claim_next, takes_so}
-use Rattle.sj_forward.proofs.EndsLemmas.{held_somewhere}
+use Rattle.sj_forward.proofs.TakeLemmas.{claim_next, takes_so}
+use Rattle.sj_forward.proofs.FoundLemmas.{held_somewhere}
 use Rattle.sj_forward.proofs.SlotLemmas.{some_of}
 use Rattle.sj_forward.proofs.desk.Desk.take.Goals as goal
 

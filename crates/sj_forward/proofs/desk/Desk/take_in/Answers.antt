@@ -1,4 +1,4 @@
-use Rattle.sj_forward.proofs.ActLemmas.{claim_place, claims}
+use Rattle.sj_forward.proofs.TakeLemmas.{claim_place, claims}
 use Rattle.sj_forward.proofs.desk.Desk.take_in.Goals as goal
 
 pub begin-requires : goal.begin-requires

@@ -1,5 +1,5 @@
 use Rattle.std.proofs.Common.{get_or, List, Option, None, option_map, ap, ◌∙◌}
-use Rattle.sj_forward.specs.declared.slot.Record.{Record}
+use Rattle.sj_forward.specs.declared.records.Record.{Record}
 use Rattle.sj_forward.specs.Views.{record_at}
 use Rattle.sj_forward.proofs.SlotLemmas.{place_more}
 use Rattle.sj_forward.proofs.slot.Slot.make_record.Goals as goal

@@ -8,12 +8,12 @@ use Rattle.sj_socket.proofs.links.SocketLinksLinks.back.Goals as goal
 
 pub returns-clause-fault : goal.returns-clause-fault
 returns-clause-fault g c =
-    (c.counted-self.ensures.least, λ none. c.counted-self.ensures.none (none_of (2 ^ 64 - 1) c.with_all.result (met c.args.lanes.items) (c.with_all.ensures ∙ ap (λ (xs : List (Lanes SocketOut SocketIn)). capped_sum 0 (met xs)) c.deref.ensures.value) (none_met c.args.lanes.items none)))
+    (c.add_faults-self.ensures.least, λ none. c.add_faults-self.ensures.none (none_of (2 ^ 64 - 1) c.with_all.result (met c.args.lanes.items) (c.with_all.ensures ∙ ap (λ (xs : List (Lanes SocketOut SocketIn)). capped_sum 0 (met xs)) c.deref.ensures.value) (none_met c.args.lanes.items none)))
 
 pub returns-clause-raised : goal.returns-clause-raised
 returns-clause-raised g c =
-    λ some. c.counted-self.ensures.some (some_of (2 ^ 64 - 1) c.with_all.result (met c.args.lanes.items) (omega arith) (c.with_all.ensures ∙ ap (λ (xs : List (Lanes SocketOut SocketIn)). capped_sum 0 (met xs)) c.deref.ensures.value) (some_met c.args.lanes.items some))
+    λ some. c.add_faults-self.ensures.some (some_of (2 ^ 64 - 1) c.with_all.result (met c.args.lanes.items) (omega arith) (c.with_all.ensures ∙ ap (λ (xs : List (Lanes SocketOut SocketIn)). capped_sum 0 (met xs)) c.deref.ensures.value) (some_met c.args.lanes.items some))
 
 pub returns-clause-counts : goal.returns-clause-counts
 returns-clause-counts g c =
-    c.counted-self.ensures.sum ∙ from_none (2 ^ 64 - 1) c.args.self.now.faults c.with_all.result (met c.args.lanes.items) (c.with_all.ensures ∙ ap (λ (xs : List (Lanes SocketOut SocketIn)). capped_sum 0 (met xs)) c.deref.ensures.value)
+    c.add_faults-self.ensures.sum ∙ from_none (2 ^ 64 - 1) c.args.self.now.faults c.with_all.result (met c.args.lanes.items) (c.with_all.ensures ∙ ap (λ (xs : List (Lanes SocketOut SocketIn)). capped_sum 0 (met xs)) c.deref.ensures.value)

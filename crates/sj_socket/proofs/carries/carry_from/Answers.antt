@@ -1,0 +1,25 @@
+use Rattle.std.proofs.Common.{length, refl, rules}
+use Rattle.std.proofs.lemmas.Option.{slice_get_read}
+use Rattle.sj_socket.proofs.KeptLemmas.{ins_put, ins_same, outs_put}
+use Rattle.sj_socket.proofs.carries.carry_from.Goals as goal
+
+pub returns-in_err-carry_own : goal.returns-in_err-carry_own
+returns-in_err-carry_own c =
+    let o = slice_get_read c.carry_outs.new.outs.items (length c.carry_outs.new.outs.items) c.args.party c.index_mut.result.now refl (search rules) c.index_mut.ensures.value in
+    let i = slice_get_read c.args.own.now.ins.items (length c.args.own.now.ins.items) c.args.party c.index_mut-then-party-len-2.result.now refl (search rules) c.index_mut-then-party-len-2.ensures.value in
+    record {
+      outs = outs_put c.args.own.now.outs.items c.carry_outs.new.outs.items c.args.party c.index_mut.result.now c.carry_own.new.out c.carry_outs.ensures o c.carry_own.ensures.out;
+      ins = ins_put c.args.own.now.ins.items c.args.party c.index_mut-then-party-len-2.result.now c.carry_own.new.lane i c.carry_own.ensures.lane;
+    }
+
+pub returns-in_ok-carry_own : goal.returns-in_ok-carry_own
+returns-in_ok-carry_own c =
+    let o = slice_get_read c.carry_outs.new.outs.items (length c.carry_outs.new.outs.items) c.args.party c.index_mut.result.now refl (search rules) c.index_mut.ensures.value in
+    let i = slice_get_read c.args.own.now.ins.items (length c.args.own.now.ins.items) c.args.party c.index_mut-then-party-len-2.result.now refl (search rules) c.index_mut-then-party-len-2.ensures.value in
+    record {
+      outs = outs_put c.args.own.now.outs.items c.carry_outs.new.outs.items c.args.party c.index_mut.result.now c.carry_own.new.out c.carry_outs.ensures o c.carry_own.ensures.out;
+      ins = ins_put c.args.own.now.ins.items c.args.party c.index_mut-then-party-len-2.result.now c.carry_own.new.lane i c.carry_own.ensures.lane;
+    }
+
+pub returns-else-party-len : goal.returns-else-party-len
+returns-else-party-len c = record { outs = c.carry_outs.ensures; ins = ins_same c.args.own.now.ins.items }

@@ -1,6 +1,0 @@
-use Rattle.std.proofs.Common.{◌≡◌, take}
-use Rattle.sj_socket.specs.Counts.{capped_sum, met}
-use Rattle.sj_socket.proofs.counting.with_all.Given as goal
-
-abbrev pub invariant-loop-own : goal.invariant-loop-own
-invariant-loop-own l = l.sum ≡ capped_sum l.before (met (take l.own-index l.lanes))

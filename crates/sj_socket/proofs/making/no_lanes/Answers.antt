@@ -1,5 +1,0 @@
-use Rattle.sj_socket.proofs.RowLemmas.{party_more}
-use Rattle.sj_socket.proofs.making.no_lanes.Goals as goal
-
-pub loop-preserved : goal.loop-preserved
-loop-preserved c = rw c.in_ok-push.ensures.items (party_more c.loop.counter c.loop.lanes.items _ c.loop.invariant c.new-in-loop.ensures.items)

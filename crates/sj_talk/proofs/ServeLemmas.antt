@@ -1,0 +1,56 @@
+-- Sessions that serve a world as well as its own: it is sound with them.
+use Rattle.std.proofs.Common.{◌≡◌, ◌+◌, ◌≤◌, List, sum_by, refl, ap, ◌∙◌, arith}
+use Rattle.sj_base.specs.declared.EndId.{EndId}
+use Rattle.sj_lang.specs.FileAt.{FileAt, party_names}
+use Rattle.sj_semantics.specs.Ends.{Session, end_at}
+use Rattle.sj_semantics.specs.Requests.{opened_number}
+use Rattle.sj_semantics.specs.World.{World}
+use Rattle.sj_semantics_laws.specs.Unshared.{IsToCome, carried_in, to_accept, to_open}
+use Rattle.sj_semantics_laws.proofs.BoundLemmas.{named_is_bound}
+use Rattle.sj_headline_laws.proofs.AfterLemmas.{AllPairs}
+use Rattle.sj_headline_laws.proofs.TouchedLemmas.{side}
+use Rattle.sj_headline_laws.proofs.UnnamedLemmas.{bound_claims, todo_kept}
+use Rattle.sj_headline_laws.proofs.WorldLemmas.{Sound}
+use Rattle.sj_talk.proofs.GuardLemmas.{bound_in}
+
+abbrev pub with_sessions : World → List Session → World
+with_sessions w zs = record { protocols = w.protocols; parties = w.parties; sessions = zs; requests = w.requests }
+
+pub come_same : (w : World) (zs : List Session) (e : EndId) → IsToCome (with_sessions w zs) e → IsToCome w e
+come_same w zs e (to_open p k le lt is) = to_open p k le lt is
+come_same w zs e (to_accept p k r there none is second) = to_accept p k r there none is second
+
+-- they are sound where they are balanced, no claim is new, and the others' ends keep their places, and ends that are to come stay
+pub record Serves (w : World) (zs : List Session) : Type 0 where
+  pub pairs : AllPairs zs
+  pub claims : (e : EndId) → sum_by (carried_in e) zs + bound_in e w ≤ 1
+  pub none_to_come : (e : EndId) → IsToCome w e → sum_by (carried_in e) zs ≡ 0
+  pub kept : (f : EndId) → 1 ≤ bound_in f w → (end_at zs f).place ≡ (end_at w.sessions f).place
+  pub come : (f : EndId) → IsToCome w f → end_at zs f ≡ end_at w.sessions f
+
+pub serves_sound : (file : FileAt) (w : World) (zs : List Session) → Sound file w → Serves w zs → Sound file (with_sessions w zs)
+serves_sound file w zs sound s = record {
+  agree = sound.agree;
+  unshared = record {
+    once = λ e. omega (arith, s.claims e);
+    to_come = λ e t. let c = come_same w zs e t in omega (arith, s.none_to_come e c, sound.unshared.to_come e c);
+    few = sound.unshared.few;
+  };
+  protocols = sound.protocols;
+  many = sound.many;
+  pairs = s.pairs;
+  programs = λ q h at.
+      todo_kept file.protocols (party_names file.parties) w.sessions zs h.todo h.vars h.ends (λ n f hn. s.kept f (bound_claims w q h f at (named_is_bound h.ends n f hn))) (sound.programs q h at);
+  peers = sound.peers;
+  origins = sound.origins;
+  unopened = λ q k d le lt. s.come (side (opened_number q k) d) (to_open q k le lt refl) ∙ sound.unopened q k d le lt;
+  offered = λ q k r at none.
+      let o = sound.offered q k r at none in
+      record {
+        protocol = o.protocol;
+        party = o.party;
+        asks = o.asks;
+        to_it = o.to_it;
+        at = ap (λ u. u.place) (s.come (side (opened_number q k) 1) (to_accept q k r at none refl refl)) ∙ o.at;
+      };
+}
