@@ -47,7 +47,7 @@ impl Course {
     }
 
     /// Whether the event names parties of the file alone.
-    fn is_there(&self, party: u16, event: Event) -> bool
+    pub fn is_there(&self, party: u16, event: Event) -> bool
         ensures party { IsTrue result → party < length (nodes_in self.now) }
         ensures origin { IsTrue result → ComesFrom event (length (nodes_in self.now)) }
         ensures absent { result ≡ false → IsAbroad party event (length (nodes_in self.now)) }

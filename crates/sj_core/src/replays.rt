@@ -85,6 +85,33 @@ impl Course {
         Ok(())
     }
 
+    /// Does the event of the line of that number, and then looks whether it made that line: it isn't asked before what is
+    /// due. It isn't listed. A world in which another line was made is given up.
+    fn do_again(&mut self, number: u64, line: &Line) -> Result<(), ReplayRefusal>
+        requires led { IsLed self.old }
+        ensures ok { OnOk result (Redoes self.old (line_at line.now) self.new) }
+        ensures misfit { IfErr result (IsMisfitHere self.old number line.now) }
+        ensures file { file_in self.new ≡ file_in self.old }
+    {
+        let party = line.party;
+        let made = if self.is_there(party, line.entry.event) {
+            self.happen(party, line.entry.event)
+        } else {
+            Err(StepRefusal::NoStep)
+        };
+        let due = match made {
+            Ok(entry) if is_same_entry(&entry, &line.entry) => return Ok(()),
+            Ok(entry) => Some(Line { party, entry }),
+            Err(StepRefusal::NoStep) => None,
+            Err(StepRefusal::NoMemory) => return Err(ReplayRefusal::NoMemory),
+        };
+        Err(ReplayRefusal::Misfit(Misfit {
+            number,
+            logged: *line,
+            due,
+        }))
+    }
+
     /// Does all the lines from where nothing has happened, if each is the one that is due. They become
     /// the history, which was empty.
     pub fn replayed(mut self, lines: Vec<Line>) -> Result<Course, ReplayRefusal>
@@ -96,7 +123,7 @@ impl Course {
         ensures misfit { IfErr result (IsMisfitFrom (file_in self) (map line_at lines.items)) }
     {
         for done in 0..lines.len() {
-            if let Err(refusal) = self.redo(done as u64 + 1, &lines[done]) {
+            if let Err(refusal) = self.do_again(done as u64 + 1, &lines[done]) {
                 return Err(refusal);
             }
         }
