@@ -1,0 +1,17 @@
+pub mod LegibleParts
+pub mod RowLemmas
+pub mod NodeLemmas
+pub mod ActLemmas
+pub mod WorldLemmas
+pub mod CodeParts
+pub mod ValueLemmas
+pub mod WantLemmas
+pub mod TodoLemmas
+pub mod ProgramLemmas
+pub mod TableLemmas
+pub mod ReadingLemmas
+pub mod CodeLemmas
+pub mod FileLemmas
+pub mod StartLemmas
+pub mod NoteLemmas
+pub mod HistoryLemmas

@@ -1,0 +1,6 @@
+//! Laws of the text of a log: what a run tells is read again.
+#![tactic(auto)]
+
+mod laws;
+
+pub use laws::{the_history_of_a_run_is_legible, the_log_of_a_run_is_read_again};
