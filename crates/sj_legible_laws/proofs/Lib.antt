@@ -15,3 +15,5 @@ pub mod FileLemmas
 pub mod StartLemmas
 pub mod NoteLemmas
 pub mod HistoryLemmas
+pub mod FreeLemmas
+pub mod PartLemmas

@@ -1,6 +1,10 @@
-//! Laws: what is told of a run of a file that a text stands for can be told in lines (`the_history_of_a_run_is_legible`), and these are
-//! read again (`the_log_of_a_run_is_read_again`).
-ghost use Rattle.std.specs.Prelude.{List, ℕ, ◌≤◌, length};
+//! Laws of what is told of a run of a file; each is the one clause of a function that does nothing.
+//!
+//! - `the_history_of_a_run_is_legible`, `the_log_of_a_run_is_read_again`: a history can be told in
+//!   lines, and these are read again.
+//! - `a_file_and_its_log_are_parted_there`: a replay finds them behind the file.
+
+ghost use Rattle.std.specs.Prelude.{List, ℕ, ◌≤◌, ◌++◌, length};
 ghost use Rattle.sj_acceptance.specs.Accepted.{IsAccepted};
 ghost use Rattle.sj_grammar.specs.Files.{IsFile};
 ghost use Rattle.sj_lang.specs.FileAt.{FileAt};
@@ -8,6 +12,7 @@ ghost use Rattle.sj_lang.specs.Limits.{file_limit};
 ghost use Rattle.sj_lang.specs.Place.{Place};
 ghost use Rattle.sj_log.specs.Legible.{AreLegible};
 ghost use Rattle.sj_log.specs.LogText.{SpellsLog};
+ghost use Rattle.sj_log.specs.Parts.{AreLines, IsParted, IsVersion, mark_of};
 ghost use Rattle.sj_print.specs.LogLine.{log_text};
 ghost use Rattle.sj_print.specs.Version.{version_of};
 ghost use Rattle.sj_rules.specs.History.{IsHistory};
@@ -32,4 +37,12 @@ pub fn the_log_of_a_run_is_read_again()
         IsFile text file → IsAccepted file → IsPick pick → IsHistory pick file history core →
         version_of history ≤ version →
         SpellsLog version file (log_text file history) history }
+{}
+
+/// A text of a file that consists of whole lines, with the line of a version and a log behind it, is
+/// parted there, whatever the log is: no line of a file is `%%log` or `%%log2`.
+pub fn a_file_and_its_log_are_parted_there()
+    ensures { (text log : List ℕ) (file : FileAt) (version : ℕ) → IsFile text file →
+        AreLines text → IsVersion version →
+        IsParted (text ++ (mark_of version ++ log)) text version log }
 {}

@@ -3,4 +3,7 @@
 
 mod laws;
 
-pub use laws::{the_history_of_a_run_is_legible, the_log_of_a_run_is_read_again};
+pub use laws::{
+    a_file_and_its_log_are_parted_there, the_history_of_a_run_is_legible,
+    the_log_of_a_run_is_read_again,
+};
