@@ -10,7 +10,7 @@ use Rattle.sj_lang.specs.FileAt.{FileAt}
 use Rattle.std.proofs.lemmas.Bool.{ltb-true, cases_lt}
 use Rattle.sj_rules.specs.Limits.{limit_of_requests}
 use Rattle.sj_rules.specs.Record.{EndAt, HeldAt, MainAt, Held, Closed, Expected, Parked, is_same_end, requested_end, offered_end}
-use Rattle.sj_rules.specs.Opened.{opened_number, new_held, smallest, smallest_from, without}
+use Rattle.sj_rules.specs.Opened.{opened_number, new_held, smallest, without}
 use Rattle.sj_rules.specs.Rows.{Worked}
 use Rattle.sj_rules.specs.Node.{Want, ended, local, sends, delegates, takes, closes, requests, accepts, Play, held_at, accept_session, accept_offered, open_session, NodeAt, put, with_main, with_old, with_offers, held_behind_send, held_behind_take, send_act, delegate_act, work_of_take, is_free, take_from, take_act, close_act, act_by, acts}
 use Rattle.sj_joined_lemmas.proofs.LateLemmas.{all_joined}
@@ -18,28 +18,8 @@ use Rattle.sj_rules_laws.proofs.WithinRowLemmas.{by_map, by_test, by_true, by_so
 use Rattle.sj_log.specs.Legible.{IsCount, IsEnd, IsMessage, HasParty}
 use Rattle.sj_legible_laws.proofs.LegibleParts.{AreMessages, EndTold, MainTold, OldTold, OfferTold, NodeTold, WorkedTold, WantTold, PlayTold}
 use Rattle.sj_legible_laws.proofs.RowLemmas.{other_told, HeldTold}
-use Rattle.sj_legible_laws.proofs.NodeLemmas.{main_of, no_main, old_of, put_offers}
-
--- what holds of all numbers holds of those but one, and of the smallest
-kept_without : (P : ℕ → Type 0) (s : ℕ) (ns : List ℕ) → AllByRecursion P ns → AllByRecursion P (without s ns)
-kept_without P s [] all = tt
-kept_without P s (n ∷ ns) all = by (n == s) (kept_without P s ns all.1)
-  where
-    by : (b : Bool) → AllByRecursion P (without s ns) → AllByRecursion P (cond (not b) (n ∷ without s ns) (without s ns))
-    by true later = later
-    by false later = (all.0, later)
-
-of_smallest : (P : ℕ → Type 0) (n : ℕ) (ns : List ℕ) → P n → AllByRecursion P ns → P (smallest_from n ns)
-of_smallest P n [] h all = h
-of_smallest P n (m ∷ ms) h all = by (cases_lt (smallest_from m ms) n) (of_smallest P m ms all.0 all.1)
-  where
-    by : (smallest_from m ms < n) ⊎ (n ≤ smallest_from m ms) → P (smallest_from m ms) → P (min n (smallest_from m ms))
-    by (inl lt) later = let e : smallest_from m ms ≡ min n (smallest_from m ms) = omega (arith, lt) in subst P e later
-    by (inr le) later = let e : n ≡ min n (smallest_from m ms) = omega (arith, le) in subst P e h
-
-pub smallest_told : (P : ℕ → Type 0) (ns : List ℕ) (s : ℕ) → smallest ns ≡ Some s → AllByRecursion P ns → P s
-smallest_told P [] s h all = cc
-smallest_told P (n ∷ ns) s h all = by_some P (smallest_from n ns) s h (of_smallest P n ns all.0 all.1)
+use Rattle.sj_legible_laws.proofs.OfferLemmas.{kept_without, smallest_told}
+use Rattle.sj_legible_laws.proofs.RecordLemmas.{main_of, no_main, old_of, put_offers}
 
 module _ {P Q : Type 0} (file : FileAt) (Knows : Q → Type 0) (play : Play P Q) (plays : PlayTold file Knows play) where
   -- another program that knows only of the file changes nothing

@@ -32,7 +32,7 @@ use Rattle.sj_legible_laws.proofs.CodeParts.{ProgramTold}
 use Rattle.sj_legible_laws.proofs.ProgramLemmas.{play_told}
 use Rattle.sj_legible_laws.proofs.WorldLemmas.{acting_below, happens_told}
 use Rattle.sj_legible_laws.proofs.NoteLemmas.{said_legible, act_legible}
-use Rattle.sj_legible_laws.proofs.FileLemmas.{has_party, few_parties}
+use Rattle.sj_legible_laws.proofs.PartyLemmas.{has_party, few_parties}
 use Rattle.sj_legible_laws.proofs.StartLemmas.{start_told}
 
 -- one step more

@@ -13,45 +13,10 @@ use Rattle.sj_joined_lemmas.proofs.LateLemmas.{all_joined}
 use Rattle.sj_rules_laws.proofs.WithinRowLemmas.{by_map, by_test, by_some}
 use Rattle.sj_log.specs.Legible.{IsCount, HasParty}
 use Rattle.sj_legible_laws.proofs.LegibleParts.{EndTold, BodyTold, MailTold, MainTold, OldTold, OfferTold, NodeTold, WorkedTold}
+use Rattle.sj_legible_laws.proofs.RecordLemmas.{main_of, no_main, old_of, no_old, put_offers}
 use Rattle.sj_legible_laws.proofs.RowLemmas.{other_told, passive_told, passive_closed_told, crossed_told, acked_told, at_held_told, install_told}
 
 module _ {P Q : Type 0} (file : FileAt) (Knows : Q → Type 0) where
-  -- a table tells no more where what is put there doesn't
-  put_main : (m : NodeAt P Q) (e : EndId) (r : Option (MainAt P)) → NodeTold file Knows m → ((x : MainAt P) → r ≡ Some x → MainTold file x) → NodeTold file Knows (with_main e r m)
-  put_main m e r all new = record { program = all.program; mains = λ d x h. by d x (is_same_end d e) h; olds = all.olds; offers = all.offers }
-    where
-      by : (d : EndId) (x : MainAt P) (b : Bool) → cond b r (m.main d) ≡ Some x → MainTold file x
-      by d x true h = new x h
-      by d x false h = all.mains d x h
-
-  put_old : (m : NodeAt P Q) (e : EndId) (r : Option (OldAt P)) → NodeTold file Knows m → ((x : OldAt P) → r ≡ Some x → OldTold file x) → NodeTold file Knows (with_old e r m)
-  put_old m e r all new = record { program = all.program; mains = all.mains; olds = λ d x h. by d x (is_same_end d e) h; offers = all.offers }
-    where
-      by : (d : EndId) (x : OldAt P) (b : Bool) → cond b r (m.old d) ≡ Some x → OldTold file x
-      by d x true h = new x h
-      by d x false h = all.olds d x h
-
-  pub put_offers : (m : NodeAt P Q) (q : ℕ) (sessions : List ℕ) → NodeTold file Knows m → AllByRecursion (OfferTold file q) sessions → NodeTold file Knows (with_offers q sessions m)
-  put_offers m q sessions all new = record { program = all.program; mains = all.mains; olds = all.olds; offers = λ from. by from (from == q) refl }
-    where
-      by : (from : ℕ) (b : Bool) → (from == q) ≡ b → AllByRecursion (OfferTold file from) (cond b sessions (m.offers from))
-      by from true is = subst (λ (p : ℕ). AllByRecursion (OfferTold file p) sessions) (sym (eqb-true from q is)) new
-      by from false is = all.offers from
-
-  pub main_of : (m : NodeAt P Q) (e : EndId) (r : MainAt P) → NodeTold file Knows m → MainTold file r → NodeTold file Knows (with_main e (Some r) m)
-  main_of m e r all new = put_main m e (Some r) all (λ x h. by_some (MainTold file) r x h new)
-
-  pub no_main : (m : NodeAt P Q) (e : EndId) → NodeTold file Knows m → NodeTold file Knows (with_main e None m)
-  no_main m e all = put_main m e None all (λ x h. cc)
-
-  pub old_of : (m : NodeAt P Q) (e : EndId) (r : OldAt P) → NodeTold file Knows m → OldTold file r → NodeTold file Knows (with_old e (Some r) m)
-  old_of m e r all new = put_old m e (Some r) all (λ x h. by_some (OldTold file) r x h new)
-
-  no_old : (m : NodeAt P Q) (e : EndId) → NodeTold file Knows m → NodeTold file Knows (with_old e None m)
-  no_old m e all = put_old m e None all (λ x h. cc)
-
-  -- ---- deliveries
-
   module _ (pick : ℕ → ℕ → ℕ) (m : NodeAt P Q) (all : NodeTold file Knows m) (origin : ℕ) (from : HasParty file origin) where
     abbrev Fits : Worked P (NodeAt P Q) → Type 0
     Fits w = WorkedTold file Knows w
@@ -60,9 +25,9 @@ module _ {P Q : Type 0} (file : FileAt) (Knows : Q → Type 0) where
     closed_comes e (Signal to conn party taken) c w own h =
         by_map Fits (closed_after m e) (passive_closed pick c origin conn party taken) w h (λ x k.
         let p = passive_closed_told file pick c origin conn party taken x own k in
-        record { node = main_of m e (Closed x.state) all p.0; posts = p.1 })
+        record { node = main_of file Knows m e (Closed x.state) all p.0; posts = p.1 })
     closed_comes e (Fin to conn number) c w own h =
-        by_test Fits ((conn == c.conn) && (origin == c.peer) && (number == c.taken)) _ w h (λ k. by_some Fits _ w k (record { node = no_main m e all; posts = tt }))
+        by_test Fits ((conn == c.conn) && (origin == c.peer) && (number == c.taken)) _ w h (λ k. by_some Fits _ w k (record { node = no_main file Knows m e all; posts = tt }))
     closed_comes e (Carry to conn number taken msg) c w own h = cc
     closed_comes e (Claim of) c w own h = cc
     closed_comes e (Ack of conn) c w own h = cc
@@ -74,14 +39,14 @@ module _ {P Q : Type 0} (file : FileAt) (Knows : Q → Type 0) where
     main_comes e body (Some (Expected keeper place deferred)) w there said h =
         let own = all.mains e (Expected keeper place deferred) there in
         by_some Fits _ w h (record {
-          node = main_of m e (Expected keeper place (deferred ++ record { party = origin; body = body } ∷ [])) all
+          node = main_of file Knows m e (Expected keeper place (deferred ++ record { party = origin; body = body } ∷ [])) all
               (all_joined (MailTold file) deferred (record { party = origin; body = body } ∷ []) own (said, tt));
           posts = tt;
         })
     main_comes e body (Some (Held g)) w there said h =
         by_map Fits (held_after m e) (at_held pick g origin body) w h (λ x k.
         let p = at_held_told file pick g origin body x (all.mains e (Held g) there) said k in
-        record { node = main_of m e (Held x.state) all p.0; posts = p.1 })
+        record { node = main_of file Knows m e (Held x.state) all p.0; posts = p.1 })
     main_comes e body (Some (Closed c)) w there said h = closed_comes e body c w (all.mains e (Closed c) there) h
 
     numbered_old : (e : EndId) (conn : ℕ) (o : Option (OldAt P)) (x : OldAt P) → m.old e ≡ o → with_number conn o ≡ Some x → OldTold file x
@@ -101,24 +66,24 @@ module _ {P Q : Type 0} (file : FileAt) (Knows : Q → Type 0) where
     signalled_or e conn party taken (Some (Parked p)) w there said few h =
         by_map Fits (parked_after m e) (passive pick p origin conn party taken) w h (λ x k.
         let q = passive_told file pick p origin conn party taken x (numbered_old e conn (m.old e) (Parked p) refl there) k in
-        record { node = old_of m e (Parked x.state) all q.0; posts = q.1 })
+        record { node = old_of file Knows m e (Parked x.state) all q.0; posts = q.1 })
     signalled_or e conn party taken (Some (Signalled p to)) w there said few h =
         by_map Fits (given_after m e to) (crossing_body pick p origin conn party taken) w h (λ b k.
-        record { node = no_old m e all; posts = (crossed_told file pick p origin conn party taken b (numbered_old e conn (m.old e) (Signalled p to) refl there) few k, tt) })
+        record { node = no_old file Knows m e all; posts = (crossed_told file pick p origin conn party taken b (numbered_old e conn (m.old e) (Signalled p to) refl there) few k, tt) })
 
     ack_or : (e : EndId) (conn : ℕ) (o : Option (OldAt P)) (w : Worked P (NodeAt P Q)) → with_number conn (m.old e) ≡ o → ack_comes m origin e conn o ≡ Some w → Fits w
     ack_or e conn None w there h = cc
     ack_or e conn (Some (Parked p)) w there h = cc
     ack_or e conn (Some (Signalled p to)) w there h =
         by_map Fits (given_after m e to) (acked_body p origin conn) w h (λ b k.
-        record { node = no_old m e all; posts = (acked_told file p origin conn b (numbered_old e conn (m.old e) (Signalled p to) refl there) k, tt) })
+        record { node = no_old file Knows m e all; posts = (acked_told file p origin conn b (numbered_old e conn (m.old e) (Signalled p to) refl there) k, tt) })
 
     claim_or : (e : EndId) (o : Option (OldAt P)) (w : Worked P (NodeAt P Q)) → m.old e ≡ o → claim_comes m origin e o ≡ Some w → Fits w
     claim_or e None w there h = cc
     claim_or e (Some (Signalled p to)) w there h = cc
     claim_or e (Some (Parked p)) w there h =
         let own = all.olds e (Parked p) there in
-        by_some Fits _ w h (record { node = old_of m e (Signalled p origin) all own; posts = (other_told p.id own.id, tt) })
+        by_some Fits _ w h (record { node = old_of file Knows m e (Signalled p origin) all own; posts = (other_told p.id own.id, tt) })
 
     give_or : (g : EndAt P) (resend : Option ℕ) (o : Option (MainAt P)) (w : Worked P (NodeAt P Q)) → EndTold file g → m.main g.id ≡ o → give_comes pick m origin g resend o ≡ Some w → Fits w
     give_or g resend None w own there h = cc
@@ -128,15 +93,15 @@ module _ {P Q : Type 0} (file : FileAt) (Knows : Q → Type 0) where
         by_test Fits (is_none (m.old g.id) && (origin == keeper)) _ w h (λ k.
         by_map Fits (held_after m g.id) (install pick place deferred g resend) w k (λ x t.
         let p = install_told file pick place deferred g resend x own (all.mains g.id (Expected keeper place deferred) there) t in
-        record { node = main_of m g.id (Held x.state) all p.0; posts = p.1 }))
+        record { node = main_of file Knows m g.id (Held x.state) all p.0; posts = p.1 }))
 
     -- an Open: its session is offered from there
     opened_told : (blank : P) (sess : ℕ) (w : Worked P (NodeAt P Q)) → IsCount sess → open_comes blank m origin sess ≡ Some w → Fits w
     opened_told blank sess w few h =
         by_test Fits (is_opened_by origin sess && is_none (m.main (offered_end sess)) && is_none (m.old (offered_end sess))) _ w h (λ k.
         by_some Fits _ w k (record {
-          node = put_offers (with_main (offered_end sess) (Some (Held (new_held (offered_end sess) blank origin))) m) origin (m.offers origin ++ sess ∷ [])
-              (main_of m (offered_end sess) (Held (new_held (offered_end sess) blank origin)) all (record { id = (few, omega arith); cache = tt }, tt))
+          node = put_offers file Knows (with_main (offered_end sess) (Some (Held (new_held (offered_end sess) blank origin))) m) origin (m.offers origin ++ sess ∷ [])
+              (main_of file Knows m (offered_end sess) (Held (new_held (offered_end sess) blank origin)) all (record { id = (few, omega arith); cache = tt }, tt))
               (all_joined (OfferTold file origin) (m.offers origin) (sess ∷ []) (all.offers origin) ((few, from), tt));
           posts = tt;
         }))

@@ -18,7 +18,7 @@ use Rattle.sj_rules.specs.Within.{BodyWithin}
 use Rattle.sj_rules_laws.proofs.WithinRowLemmas.{by_map, by_true, by_some}
 use Rattle.sj_log.specs.Legible.{IsAct, IsSaid, IsCount, IsEnd, IsMessage, HasParty}
 use Rattle.sj_legible_laws.proofs.LegibleParts.{AreMessages, BodyTold, MainTold, OfferTold, NodeTold, WantTold}
-use Rattle.sj_legible_laws.proofs.ActLemmas.{smallest_told}
+use Rattle.sj_legible_laws.proofs.OfferLemmas.{smallest_told}
 
 module _ (file : FileAt) where
   -- what a frame says

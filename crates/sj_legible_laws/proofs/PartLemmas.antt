@@ -6,7 +6,8 @@ use Rattle.sj_grammar.specs.Lexis.{next_of, at_end, token}
 use Rattle.sj_grammar.specs.Positions.{At, Piece, BeginsOnLines, start}
 use Rattle.sj_grammar.specs.Files.{IsFile}
 use Rattle.sj_log.specs.Parts.{AreLines, IsMarked, IsPart, IsParted, IsVersion, mark_of}
-use Rattle.sj_legible_laws.proofs.FreeLemmas.{IsFree, next_free}
+use Rattle.sj_legible_laws.proofs.TokenLemmas.{IsFree}
+use Rattle.sj_legible_laws.proofs.FreeLemmas.{next_free}
 
 read_free : (ps : List Piece) (a b : At) (at : Bool) → BeginsOnLines a ps b → next_of b.text.ahead ≡ at_end → IsFree at a.text.ahead
 read_free [] a b at h whole = next_free at a.text.ahead at_end tt (ap (λ (x : At). next_of x.text.ahead) h ∙ whole)

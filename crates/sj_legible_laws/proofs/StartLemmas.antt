@@ -21,7 +21,7 @@ use Rattle.sj_log.specs.Legible.{IsEnd}
 use Rattle.sj_legible_laws.proofs.LegibleParts.{MainTold, NodeTold, WorldTold}
 use Rattle.sj_legible_laws.proofs.CodeParts.{EndsTold, ProgramTold}
 use Rattle.sj_legible_laws.proofs.TodoLemmas.{block_told}
-use Rattle.sj_legible_laws.proofs.FileLemmas.{code_of_party}
+use Rattle.sj_legible_laws.proofs.PartyLemmas.{code_of_party}
 
 module _ (file : FileAt) (accepted : IsAccepted file) where
   -- ---- ends
