@@ -1,22 +1,21 @@
 -- Acts of a program that knows only of the file tell only of the file.
-use Rattle.std.proofs.Common.{◌≡◌, ℕ, ◌+◌, ◌<◌, ◌≤◌, ◌==◌, min, Bool, true, false, not, ◌&&◌, cond, List, [], ◌∷◌, ◌++◌, Option, Some, None, refl, sym, subst, arith, inl, inr, ◌⊎◌, if◌then◌else◌}
-use Rattle.std.specs.Prelude.{nat_lt, filter}
-use Rattle.std.specs.List.{AllByRecursion}
+use Rattle.std.proofs.Common.{◌≡◌, ℕ, ◌+◌, ◌<◌, ◌≤◌, Bool, true, false, ◌&&◌, cond, List, [], ◌∷◌, Option, Some, None, refl, arith, if◌then◌else◌}
+use Rattle.std.specs.Prelude.{nat_lt}
 use Rattle.sj_base.specs.declared.EndId.{EndId}
 use Rattle.sj_base.specs.declared.Msg.{Msg}
 use Rattle.sj_base.specs.declared.Msg.TheVariants as msgs
 use Rattle.sj_lang.specs.declared.proto.Way.TheVariants.{Out, Into}
 use Rattle.sj_lang.specs.FileAt.{FileAt}
-use Rattle.std.proofs.lemmas.Bool.{ltb-true, cases_lt}
+use Rattle.std.proofs.lemmas.Bool.{ltb-true}
 use Rattle.sj_rules.specs.Limits.{limit_of_requests}
 use Rattle.sj_rules.specs.Record.{EndAt, HeldAt, MainAt, Held, Closed, Expected, Parked, is_same_end, requested_end, offered_end}
 use Rattle.sj_rules.specs.Opened.{opened_number, new_held, smallest, without}
 use Rattle.sj_rules.specs.Rows.{Worked}
-use Rattle.sj_rules.specs.Node.{Want, ended, local, sends, delegates, takes, closes, requests, accepts, Play, held_at, accept_session, accept_offered, open_session, NodeAt, put, with_main, with_old, with_offers, held_behind_send, held_behind_take, send_act, delegate_act, work_of_take, is_free, take_from, take_act, close_act, act_by, acts}
+use Rattle.sj_rules.specs.Node.{Want, ended, local, sends, delegates, takes, closes, requests, accepts, Play, held_at, accept_session, accept_offered, open_session, NodeAt, put, with_main, with_old, held_behind_send, held_behind_take, send_act, delegate_act, work_of_take, is_free, take_from, take_act, close_act, act_by, acts}
 use Rattle.sj_joined_lemmas.proofs.LateLemmas.{all_joined}
 use Rattle.sj_rules_laws.proofs.WithinRowLemmas.{by_map, by_test, by_true, by_some}
 use Rattle.sj_log.specs.Legible.{IsCount, IsEnd, IsMessage, HasParty}
-use Rattle.sj_legible_laws.proofs.LegibleParts.{AreMessages, EndTold, MainTold, OldTold, OfferTold, NodeTold, WorkedTold, WantTold, PlayTold}
+use Rattle.sj_legible_laws.proofs.LegibleParts.{AreMessages, EndTold, OfferTold, NodeTold, WorkedTold, WantTold, PlayTold}
 use Rattle.sj_legible_laws.proofs.RowLemmas.{other_told, HeldTold}
 use Rattle.sj_legible_laws.proofs.OfferLemmas.{kept_without, smallest_told}
 use Rattle.sj_legible_laws.proofs.RecordLemmas.{main_of, no_main, old_of, put_offers}

@@ -1,13 +1,13 @@
 -- What the grammar gives names only what the file has.
-use Rattle.std.proofs.Common.{◌≡◌, ℕ, ◌+◌, ◌<◌, ◌≤◌, Bool, true, false, IsTrue, ℤ, pos, negsuc, List, [], ◌∷◌, ◌++◌, map, refl, arith}
-use Rattle.std.specs.Prelude.{neg_ℤ, codes, nat_le, nat_lt, not, zero, suc, length, ◌&&◌}
+use Rattle.std.proofs.Common.{ℕ, ◌≤◌, IsTrue, pos, List, [], ◌∷◌, ◌++◌, arith}
+use Rattle.std.specs.Prelude.{neg_ℤ, codes, nat_lt, not, zero, suc, length}
 use Rattle.std.specs.List.{AllByRecursion, list_all}
 use Rattle.std.specs.Str.Parse.{digits_value}
 use Rattle.std.proofs.lemmas.Bool.{and_parts, leb-true}
 use Rattle.sj_lang.specs.Limits.{Limits}
 use Rattle.sj_lang.specs.FileAt.{FileAt}
 use Rattle.sj_lang.specs.Term.{Term}
-use Rattle.sj_lang.specs.Code.{Code, StmtAt, DeedAt, Branches, stmt_then, at}
+use Rattle.sj_lang.specs.Code.{Code, StmtAt, Branches, stmt_then, at}
 use Rattle.sj_grammar.specs.Bytes.{is_digit}
 use Rattle.sj_grammar.specs.Lexis.{has_leading_zero}
 use Rattle.sj_grammar.specs.Literals.{is_number, quoted}

@@ -1,5 +1,5 @@
 -- The history of a run of a file that a text stands for is legible.
-use Rattle.std.proofs.Common.{◌≡◌, ℕ, ◌+◌, ◌<◌, ◌≤◌, List, [], ◌∷◌, ◌++◌, length, Option, Some, None, option_map, option_and_then, refl, ap, sym, ◌∙◌, subst, arith, inl, inr, ◌⊎◌}
+use Rattle.std.proofs.Common.{◌≡◌, ℕ, ◌+◌, ◌<◌, ◌≤◌, List, [], ◌∷◌, ◌++◌, length, Some, option_and_then, refl, ap, sym, ◌∙◌, subst, arith, inl, inr, ◌⊎◌}
 use Rattle.std.specs.List.{AllByRecursion}
 use Rattle.std.proofs.lemmas.Bool.{cases_lt}
 use Rattle.sj_lang.specs.Place.{Place}
@@ -8,10 +8,10 @@ use Rattle.sj_lang.specs.Limits.{file_limit}
 use Rattle.sj_acceptance.specs.Accepted.{IsAccepted}
 use Rattle.sj_grammar.specs.Files.{IsFile}
 use Rattle.sj_semantics.specs.Program.{Program}
-use Rattle.sj_rules.specs.Rows.{IsPick, Worked}
-use Rattle.sj_rules.specs.Node.{Want, requests, Play, NodeAt, acts}
+use Rattle.sj_rules.specs.Rows.{IsPick}
+use Rattle.sj_rules.specs.Node.{requests, Play, acts}
 use Rattle.sj_rules.specs.Frames.{FrameAt}
-use Rattle.sj_rules.specs.Log.{NoteAt, LineAt, body_note, act_note}
+use Rattle.sj_rules.specs.Log.{NoteAt, LineAt, body_note}
 use Rattle.sj_rules.specs.World.{WorldAt, Event, Act, Deliver, Turn, Run, IsStep, after_event, happens}
 use Rattle.sj_rules.specs.Within.{BodyWithin, IsWithin}
 use Rattle.sj_rules.specs.Events.{acts_in}
@@ -26,7 +26,7 @@ use Rattle.sj_rules_laws.proofs.CoreRunLemmas.{runs_stand}
 use Rattle.sj_rules_laws.proofs.LawfulLemmas.{run_is_lawful}
 use Rattle.sj_rules_laws.proofs.LimitLemmas.{core_run_clocks, core_run_within}
 use Rattle.sj_rules_laws.proofs.ShortRunLemmas.{runs_are_short}
-use Rattle.sj_log.specs.Legible.{IsAct, IsSaid, IsEvent, IsLegible, AreLegible, HasParty}
+use Rattle.sj_log.specs.Legible.{IsEvent, IsLegible, AreLegible, HasParty}
 use Rattle.sj_legible_laws.proofs.LegibleParts.{FramesTold, WorldTold}
 use Rattle.sj_legible_laws.proofs.CodeParts.{ProgramTold}
 use Rattle.sj_legible_laws.proofs.ProgramLemmas.{play_told}

@@ -22,3 +22,5 @@ pub mod HistoryLemmas
 pub mod TokenLemmas
 pub mod FreeLemmas
 pub mod PartLemmas
+pub mod NewlineLemmas
+pub mod EndedLemmas

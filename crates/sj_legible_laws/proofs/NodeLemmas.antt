@@ -1,18 +1,16 @@
 -- What comes to a party leaves records that tell only ends and messages of the file.
-use Rattle.std.proofs.Common.{◌≡◌, ℕ, ◌==◌, Bool, true, false, ◌&&◌, cond, List, [], ◌∷◌, ◌++◌, Option, Some, None, refl, sym, subst, arith}
-use Rattle.std.proofs.lemmas.Bool.{eqb-true}
+use Rattle.std.proofs.Common.{◌≡◌, ℕ, ◌==◌, ◌&&◌, [], ◌∷◌, ◌++◌, Option, Some, None, refl, arith}
 use Rattle.std.specs.Prelude.{is_none, ⊤}
-use Rattle.std.specs.List.{AllByRecursion}
 use Rattle.sj_base.specs.declared.EndId.{EndId}
 use Rattle.sj_lang.specs.FileAt.{FileAt}
-use Rattle.sj_rules.specs.Record.{EndAt, BodyAt, Carry, Fin, Claim, Signal, Ack, Give, Open, MainAt, Held, Closed, Expected, OldAt, Parked, Signalled, is_same_end, offered_end, other_end}
+use Rattle.sj_rules.specs.Record.{EndAt, BodyAt, Carry, Fin, Claim, Signal, Ack, Give, Open, MainAt, Held, Closed, Expected, OldAt, Parked, Signalled, offered_end}
 use Rattle.sj_rules.specs.Rows.{Worked, passive, passive_closed, crossing_body, acked_body, at_held, install}
-use Rattle.sj_rules.specs.Node.{NodeAt, with_main, with_old, with_offers, with_number, held_after, closed_after, parked_after, given_after, at_main, plain_comes, signal_comes, ack_comes, claim_comes, give_comes, open_comes, comes, comes_or_opens}
+use Rattle.sj_rules.specs.Node.{NodeAt, with_main, with_number, held_after, closed_after, parked_after, given_after, at_main, plain_comes, signal_comes, ack_comes, claim_comes, give_comes, open_comes, comes_or_opens}
 use Rattle.sj_rules.specs.Opened.{new_held, is_opened_by}
 use Rattle.sj_joined_lemmas.proofs.LateLemmas.{all_joined}
 use Rattle.sj_rules_laws.proofs.WithinRowLemmas.{by_map, by_test, by_some}
 use Rattle.sj_log.specs.Legible.{IsCount, HasParty}
-use Rattle.sj_legible_laws.proofs.LegibleParts.{EndTold, BodyTold, MailTold, MainTold, OldTold, OfferTold, NodeTold, WorkedTold}
+use Rattle.sj_legible_laws.proofs.LegibleParts.{EndTold, BodyTold, MailTold, OldTold, OfferTold, NodeTold, WorkedTold}
 use Rattle.sj_legible_laws.proofs.RecordLemmas.{main_of, no_main, old_of, no_old, put_offers}
 use Rattle.sj_legible_laws.proofs.RowLemmas.{other_told, passive_told, passive_closed_told, crossed_told, acked_told, at_held_told, install_told}
 

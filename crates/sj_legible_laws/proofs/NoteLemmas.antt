@@ -1,7 +1,7 @@
 -- What a line tells of an event of a world that tells only of the file.
-use Rattle.std.proofs.Common.{◌≡◌, ℕ, ◌+◌, ◌<◌, ◌≤◌, Bool, true, false, cond, List, [], ◌∷◌, length, Option, Some, None, option_map, refl, ap, sym, ◌∙◌, subst, arith, inl, inr, ◌⊎◌}
+use Rattle.std.proofs.Common.{◌≡◌, ℕ, ◌<◌, ◌≤◌, Bool, true, false, cond, List, [], ◌∷◌, Option, Some, None, refl, ap, sym, ◌∙◌, arith}
 use Rattle.std.specs.Prelude.{nat_lt}
-use Rattle.std.proofs.lemmas.Bool.{ltb-true, cases_lt}
+use Rattle.std.proofs.lemmas.Bool.{ltb-true}
 use Rattle.sj_base.specs.declared.EndId.{EndId}
 use Rattle.sj_base.specs.declared.Msg.{Msg}
 use Rattle.sj_base.specs.declared.Msg.TheVariants as msgs
@@ -16,7 +16,7 @@ use Rattle.sj_rules.specs.Log.{NoteAt, body_note, head_note, take_note, act_note
 use Rattle.sj_rules.specs.Log as notes
 use Rattle.sj_rules.specs.Within.{BodyWithin}
 use Rattle.sj_rules_laws.proofs.WithinRowLemmas.{by_map, by_true, by_some}
-use Rattle.sj_log.specs.Legible.{IsAct, IsSaid, IsCount, IsEnd, IsMessage, HasParty}
+use Rattle.sj_log.specs.Legible.{IsAct, IsSaid, IsEnd, HasParty}
 use Rattle.sj_legible_laws.proofs.LegibleParts.{AreMessages, BodyTold, MainTold, OfferTold, NodeTold, WantTold}
 use Rattle.sj_legible_laws.proofs.OfferLemmas.{smallest_told}
 

@@ -1,6 +1,5 @@
 -- Numbers of sessions that are offered: all but one, and the smallest.
 use Rattle.std.proofs.Common.{◌≡◌, ℕ, ◌<◌, ◌≤◌, ◌==◌, min, Bool, true, false, not, cond, List, [], ◌∷◌, Some, subst, arith, inl, inr, ◌⊎◌}
-use Rattle.std.specs.Prelude.{filter}
 use Rattle.std.specs.List.{AllByRecursion}
 use Rattle.std.proofs.lemmas.Bool.{cases_lt}
 use Rattle.sj_rules.specs.Opened.{smallest, smallest_from, without}

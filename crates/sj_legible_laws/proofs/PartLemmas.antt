@@ -1,11 +1,11 @@
 -- A file with a log behind it is parted there.
-use Rattle.std.proofs.Common.{◌≡◌, ◌≢◌, ◌⊎◌, ℕ, suc, ◌+◌, ◌≤◌, Bool, true, false, List, [], ◌∷◌, ◌++◌, length, inl, inr, refl, ap, sym, ◌∙◌, subst, arith}
+use Rattle.std.proofs.Common.{◌≡◌, ℕ, ◌≤◌, Bool, true, false, List, [], ◌∷◌, ◌++◌, length, inl, inr, refl, ap, ◌∙◌, subst, arith}
 use Rattle.std.specs.Prelude.{◌==◌, codes}
 use Rattle.sj_lang.specs.FileAt.{FileAt}
 use Rattle.sj_grammar.specs.Lexis.{next_of, at_end, token}
 use Rattle.sj_grammar.specs.Positions.{At, Piece, BeginsOnLines, start}
 use Rattle.sj_grammar.specs.Files.{IsFile}
-use Rattle.sj_log.specs.Parts.{AreLines, IsMarked, IsPart, IsParted, IsVersion, mark_of}
+use Rattle.sj_log.specs.Parts.{AreLines, IsParted, IsVersion, mark_of}
 use Rattle.sj_legible_laws.proofs.TokenLemmas.{IsFree}
 use Rattle.sj_legible_laws.proofs.FreeLemmas.{next_free}
 

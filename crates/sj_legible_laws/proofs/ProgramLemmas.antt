@@ -1,15 +1,12 @@
 -- A program that knows only of the file does so after each step.
-use Rattle.std.proofs.Common.{ℕ, List, Option, Some, None}
-use Rattle.sj_base.specs.declared.EndId.{EndId}
-use Rattle.sj_base.specs.declared.Msg.{Msg}
+use Rattle.std.proofs.Common.{Option, Some, None}
 use Rattle.sj_lang.specs.FileAt.{FileAt}
 use Rattle.sj_semantics.specs.declared.Want.{Want}
 use Rattle.sj_semantics.specs.declared.Want.TheVariants as wants
 use Rattle.sj_semantics.specs.Program.{Program}
 use Rattle.sj_semantics.specs.Wants.{want_of}
-use Rattle.sj_semantics.specs.Steps.{local_of, sent_of, took_of, closed_of, name_opened, opened_of}
-use Rattle.sj_rules.specs.Party.{after_step, program_after, play_of}
-use Rattle.sj_log.specs.Legible.{IsEnd, IsMessage}
+use Rattle.sj_semantics.specs.Steps.{local_of, sent_of, closed_of, name_opened}
+use Rattle.sj_rules.specs.Party.{after_step, play_of}
 use Rattle.sj_legible_laws.proofs.LegibleParts.{PlayTold}
 use Rattle.sj_legible_laws.proofs.CodeParts.{ProgramTold}
 use Rattle.sj_legible_laws.proofs.WantLemmas.{wants_told}

@@ -1,11 +1,11 @@
 -- What was read of a text stands in its tables, and these have no more entries than the text has bytes.
-use Rattle.std.proofs.Common.{◌≡◌, ℕ, ◌+◌, ◌<◌, ◌≤◌, Bool, true, false, cond, List, [], ◌∷◌, ◌++◌, length, refl, ap, sym, ◌∙◌, subst, arith}
+use Rattle.std.proofs.Common.{◌≡◌, ℕ, ◌+◌, ◌≤◌, Bool, true, false, cond, List, [], ◌∷◌, ◌++◌, length, ap, sym, ◌∙◌, subst, arith}
 use Rattle.std.specs.List.{AllByRecursion, list_all}
 use Rattle.std.proofs.lemmas.List.{length-append}
 use Rattle.sj_grammar.specs.Bytes.{is_printable}
 use Rattle.sj_grammar.specs.Literals.{inner, quoted, is_text}
 use Rattle.sj_grammar.specs.Names.{is_name}
-use Rattle.sj_grammar.specs.Positions.{At, Takes, Piece, TakesPiece, BeginsOnLines}
+use Rattle.sj_grammar.specs.Positions.{At, Takes, Piece, BeginsOnLines}
 use Rattle.sj_grammar.specs.Tables.{with_entry}
 use Rattle.sj_grammar.proofs.SplitLemmas.{next_split}
 use Rattle.sj_legible_laws.proofs.TableLemmas.{Stands, entry_stands, others_stand, one_longer, inner_is, quotes_text}

@@ -1,5 +1,5 @@
 -- The core world of a file that a text stands for tells only of the file before any event.
-use Rattle.std.proofs.Common.{◌≡◌, ℕ, zero, suc, ◌+◌, ◌<◌, ◌≤◌, ◌==◌, Bool, true, false, cond, List, [], ◌∷◌, ◌++◌, length, slice_get, unwrap_or, Option, Some, None, option_and_then, refl, ap, sym, ◌∙◌, subst, arith}
+use Rattle.std.proofs.Common.{◌≡◌, ℕ, zero, suc, ◌+◌, ◌<◌, ◌≤◌, ◌==◌, Bool, true, false, cond, List, [], ◌∷◌, ◌++◌, length, slice_get, unwrap_or, Option, Some, None, option_and_then, refl, ap, subst, arith}
 use Rattle.std.specs.Prelude.{nat_lt}
 use Rattle.std.proofs.lemmas.Bool.{ltb-true}
 use Rattle.std.proofs.lemmas.Option.{slice_get_within}
@@ -9,12 +9,10 @@ use Rattle.sj_lang.specs.FileAt.{FileAt, PartyAt, DeclAt, ConnectAt, party_named
 use Rattle.sj_lang.specs.Limits.{file_limit}
 use Rattle.sj_acceptance.specs.Accepted.{IsAccepted}
 use Rattle.sj_grammar.specs.Files.{IsFile}
-use Rattle.sj_semantics.specs.Program.{Program, block}
-use Rattle.sj_semantics.specs.World.{program_of, programs_from, start_of}
-use Rattle.sj_rules.specs.Node.{ended}
+use Rattle.sj_semantics.specs.World.{program_of, programs_from}
 use Rattle.sj_rules.specs.Party.{nobody, play_of}
 use Rattle.sj_rules.specs.Record.{MainAt, Held}
-use Rattle.sj_rules.specs.Start.{declared_on, first_end, first_held, held_by, connect_of, first_main, first_node, core_start}
+use Rattle.sj_rules.specs.Start.{declared_on, first_held, held_by, connect_of, first_node, core_start}
 use Rattle.sj_joined_lemmas.proofs.LateLemmas.{all_joined}
 use Rattle.sj_rules_laws.proofs.WithinRowLemmas.{by_some}
 use Rattle.sj_log.specs.Legible.{IsEnd}

@@ -1,6 +1,6 @@
 -- What an expression is worth is a number of 64 bits, a truth value or a text of the file.
-use Rattle.std.proofs.Common.{◌≡◌, ℕ, ◌<◌, ◌≤◌, ◌-◌, ◌==◌, Bool, true, false, cond, ℤ, pos, negsuc, Option, Some, None, option_and_then, refl, ap, subst, sym, ◌∙◌, suc, arith}
-use Rattle.std.specs.Prelude.{ltb, not}
+use Rattle.std.proofs.Common.{◌≡◌, ℕ, ◌<◌, ◌≤◌, ◌-◌, ◌==◌, Bool, true, false, cond, pos, negsuc, Option, Some, None, option_and_then, refl, suc, arith}
+use Rattle.std.specs.Prelude.{ltb}
 use Rattle.std.specs.Int.{cast_signed, w64}
 use Rattle.std.proofs.lemmas.Bool.{ltb-true, ltb-false}
 use Rattle.sj_base.specs.declared.Msg.TheVariants as msgs
@@ -12,7 +12,7 @@ use Rattle.sj_lang.specs.Term.{Term}
 use Rattle.sj_lang.specs.Term as terms
 use Rattle.sj_semantics.specs.declared.Value.{Value}
 use Rattle.sj_semantics.specs.declared.Value.TheVariants.{Int, Boolean, Text}
-use Rattle.sj_semantics.specs.Value.{Vars, with_value, message_of, value_of, result_of, negation_of, worth}
+use Rattle.sj_semantics.specs.Value.{Vars, with_value, value_of, result_of, negation_of, worth}
 use Rattle.sj_semantics.specs.Steps.{assigned_vars}
 use Rattle.sj_rules_laws.proofs.WithinRowLemmas.{by_some}
 use Rattle.sj_log.specs.Legible.{IsInt, IsMessage}

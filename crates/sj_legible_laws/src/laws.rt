@@ -3,8 +3,9 @@
 //! - `the_history_of_a_run_is_legible`, `the_log_of_a_run_is_read_again`: a history can be told in
 //!   lines, and these are read again.
 //! - `a_file_and_its_log_are_parted_there`: a replay finds them behind the file.
+//! - `a_newline_behind_a_file_changes_nothing`: which may need one to consist of whole lines.
 
-ghost use Rattle.std.specs.Prelude.{List, ℕ, ◌≤◌, ◌++◌, length};
+ghost use Rattle.std.specs.Prelude.{List, ℕ, ◌≤◌, ◌++◌, codes, length};
 ghost use Rattle.sj_acceptance.specs.Accepted.{IsAccepted};
 ghost use Rattle.sj_grammar.specs.Files.{IsFile};
 ghost use Rattle.sj_lang.specs.FileAt.{FileAt};
@@ -45,4 +46,10 @@ pub fn a_file_and_its_log_are_parted_there()
     ensures { (text log : List ℕ) (file : FileAt) (version : ℕ) → IsFile text file →
         AreLines text → IsVersion version →
         IsParted (text ++ (mark_of version ++ log)) text version log }
+{}
+
+/// A text that stands for a file stands for it with a newline more, too.
+pub fn a_newline_behind_a_file_changes_nothing()
+    ensures { (text : List ℕ) (file : FileAt) → IsFile text file →
+        IsFile (text ++ codes "\n") file }
 {}

@@ -19,6 +19,7 @@ use Rattle.sj_log.specs.Parts.{AreLines, IsParted, IsVersion}
 use Rattle.sj_log.specs.LogText.{SpellsLog}
 use Rattle.sj_log.proofs.PrintedLog.{printed_back}
 use Rattle.sj_legible_laws.proofs.HistoryLemmas.{history_legible}
+use Rattle.sj_legible_laws.proofs.EndedLemmas.{file_ended}
 use Rattle.sj_legible_laws.proofs.PartLemmas.{parted_there}
 use Rattle.sj_command.specs.declared.tasks.Task.{Task}
 use Rattle.sj_command.specs.declared.tasks.Task.TheVariants as tasks
@@ -34,7 +35,7 @@ use Rattle.sj_tool.specs.Tasks.{AsksFor, HasInput, IsRead, RunsParties}
 use Rattle.sj_tool.specs.Texts.{status_of, text_of}
 use Rattle.sj_tool.proofs.InputLemmas.{read_bytes}
 use Rattle.sj_tool.proofs.TableLemmas.{one_answer}
-use Rattle.sj_replay_laws.specs.Again.{ReplaysAll, TellsLog, told_of}
+use Rattle.sj_replay_laws.specs.Again.{IsInLines, ReplaysAll, TellsLog, told_of}
 use Rattle.sj_replay_laws.proofs.QuietLemmas.{quiet_is_drained}
 
 max_picks : IsPick max
@@ -66,6 +67,8 @@ module _ (text : List ℕ) (file : FileAt) (stands : IsFile text file) (verdict 
       (record { links = links; looks = looks; workers = workers; log = a.log; accepted = a.answers.answers.0; run = a.answers.answers.1.1 })
   was_run links task logs a = absurd logs
 
+-- of the text that is replayed
+module _ (text : List ℕ) (file : FileAt) (stands : IsFile text file) (verdict : Verdict) (answer : List ℕ) where
   -- a replay of what was told has the same history
   replayed : (few : length text ≤ file_limit) (lines : AreLines text) (log : List ℕ) → answer ≡ transcript_of file (end_of file) ++ log → WasRun file verdict answer
       → (links : LinkUseAt) → AnswersBytes links (tasks.Replay true) (text ++ log) (Ran verdict answer)
@@ -112,25 +115,31 @@ module _ (text : List ℕ) (file : FileAt) (stands : IsFile text file) (verdict 
       }
 
 -- the task of a call that logs a run reads a file
-run_reads : (c : CallAt) (task : Task) (bytes : List ℕ) → LogsRun task → HasInput c task bytes → (length bytes ≤ file_limit) × IsRead c task bytes
-run_reads c (tasks.Run true looks workers) bytes logs read = (read.few, read)
+run_reads : (c : CallAt) (task : Task) (bytes : List ℕ) → LogsRun task → HasInput c task bytes → IsRead c task bytes
+run_reads c (tasks.Run true looks workers) bytes logs read = read
 run_reads c task bytes logs read = absurd logs
 
-pub told_again : (c d : CallAt) (text log : List ℕ) (file : FileAt) (verdict : Verdict) → TellsLog c text file verdict log → ReplaysAll d (text ++ log) → IsInTable d (told_of file verdict log)
-told_again c d text log file verdict t r =
+-- a text in whole lines stands for the same file
+lines_stand : (text whole : List ℕ) (file : FileAt) → IsInLines text whole → IsFile text file → IsFile whole file
+lines_stand text whole file in_lines stands = elim in_lines.same [
+  | inl same ↦ subst (λ (t : List ℕ). IsFile t file) (sym same) stands
+  | inr more ↦ subst (λ (t : List ℕ). IsFile t file) (sym more) (file_ended text file stands)
+]
+
+pub told_again : (c d : CallAt) (text whole log : List ℕ) (file : FileAt) (verdict : Verdict) → TellsLog c text file verdict log → IsInLines text whole → ReplaysAll d (whole ++ log) → IsInTable d (told_of file verdict log)
+told_again c d text whole log file verdict t w r =
     let x = t.told in
     let logs : LogsRun x.task = subst LogsRun (one_task c.words t.asks.task x.task t.asks.asks x.asks) t.asks.kind in
     let read = run_reads c x.task x.bytes logs x.input in
-    let same : x.bytes ≡ text = sym (read_bytes c x.task text x.bytes t.left read.1) in
+    let same : x.bytes ≡ text = sym (read_bytes c x.task text x.bytes t.left read) in
     let answer : List ℕ = transcript_of file (end_of file) ++ log in
-    let few : length text ≤ file_limit = subst (λ (b : List ℕ). length b ≤ file_limit) same read.0 in
     let was = was_run text file t.stands verdict answer c.links x.task logs (subst (λ (b : List ℕ). AnswersBytes c.links x.task b (Ran verdict answer)) same x.answers) in
     record {
       task = tasks.Replay true;
       asks = r.asks;
-      bytes = text ++ log;
+      bytes = whole ++ log;
       input = r.read;
-      answers = replayed text file t.stands verdict answer few t.lines log refl was d.links;
+      answers = replayed whole file (lines_stand text whole file w t.stands) verdict answer w.few w.lines log refl was d.links;
     }
 
 -- words that ask for a replay ask for no run
@@ -140,8 +149,8 @@ no_run d asks x = subst RunsParties (one_task d.words x.task (tasks.Replay true)
 no_log_run : (d : CallAt) → Asks d.words (tasks.Replay true) → AsksFor LogsRun d → ⊥
 no_log_run d asks x = subst LogsRun (one_task d.words x.task (tasks.Replay true) x.asks asks) x.kind
 
-pub nothing_else : (c d : CallAt) (text log : List ℕ) (file : FileAt) (verdict : Verdict) (a : AnswerAt) → TellsLog c text file verdict log → ReplaysAll d (text ++ log)
-    → d.left ≡ Some (text ++ log) → CanRise d → IsInTable d a → (status_of a ≡ status_of (told_of file verdict log)) × (text_of a ≡ text_of (told_of file verdict log))
-nothing_else c d text log file verdict a t r left rise own =
-    let one = one_answer d (text ++ log) a (told_of file verdict log) left rise (λ runs. absurd (no_run d r.asks runs)) own (told_again c d text log file verdict t r) in
+pub nothing_else : (c d : CallAt) (text whole log : List ℕ) (file : FileAt) (verdict : Verdict) (a : AnswerAt) → TellsLog c text file verdict log → IsInLines text whole → ReplaysAll d (whole ++ log)
+    → d.left ≡ Some (whole ++ log) → CanRise d → IsInTable d a → (status_of a ≡ status_of (told_of file verdict log)) × (text_of a ≡ text_of (told_of file verdict log))
+nothing_else c d text whole log file verdict a t w r left rise own =
+    let one = one_answer d (whole ++ log) a (told_of file verdict log) left rise (λ runs. absurd (no_run d r.asks runs)) own (told_again c d text whole log file verdict t w r) in
     (one.status, elim one.text [ inl same ↦ same | inr logs ↦ absurd (no_log_run d r.asks logs.0) ])

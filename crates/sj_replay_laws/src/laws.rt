@@ -12,23 +12,23 @@ ghost use Rattle.sj_tool.specs.Answers.{IsInTable};
 ghost use Rattle.sj_tool.specs.Calls.{CallAt};
 ghost use Rattle.sj_tool.specs.Table.{CanRise};
 ghost use Rattle.sj_tool.specs.Texts.{status_of, text_of};
-ghost use Rattle.sj_replay_laws.specs.Again.{ReplaysAll, TellsLog, told_of};
+ghost use Rattle.sj_replay_laws.specs.Again.{IsInLines, ReplaysAll, TellsLog, told_of};
 
 /// What `run --log` tells of a file is in the table of a call of `replay --log` that reads the text of
-/// the file and, behind it, the log as it was printed, over whatever links and words: the same status
-/// and the same text.
+/// the file in whole lines and, behind it, the log as it was printed: the same status and the same text.
 pub fn a_log_is_replayed_as_it_was_told()
-    ensures { (c d : CallAt) (text log : List ℕ) (file : FileAt) (verdict : Verdict) →
-        TellsLog c text file verdict log → ReplaysAll d (text ++ log) →
-        IsInTable d (told_of file verdict log) }
+    ensures { (c d : CallAt) (text whole log : List ℕ) (file : FileAt) (verdict : Verdict) →
+        TellsLog c text file verdict log → IsInLines text whole →
+        ReplaysAll d (whole ++ log) → IsInTable d (told_of file verdict log) }
 {}
 
 /// Each answer to such a call is that one, where its source tells its bytes and its count of faults
 /// isn't at its last value.
 pub fn nothing_else_is_told_of_a_log()
-    ensures { (c d : CallAt) (text log : List ℕ) (file : FileAt) (verdict : Verdict)
-        (a : AnswerAt) → TellsLog c text file verdict log → ReplaysAll d (text ++ log) →
-        d.left ≡ Some (text ++ log) → CanRise d → IsInTable d a →
+    ensures { (c d : CallAt) (text whole log : List ℕ) (file : FileAt)
+        (verdict : Verdict) (a : AnswerAt) → TellsLog c text file verdict log →
+        IsInLines text whole → ReplaysAll d (whole ++ log) →
+        d.left ≡ Some (whole ++ log) → CanRise d → IsInTable d a →
         (status_of a ≡ status_of (told_of file verdict log))
         × (text_of a ≡ text_of (told_of file verdict log)) }
 {}
