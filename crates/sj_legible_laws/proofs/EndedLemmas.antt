@@ -1,12 +1,10 @@
 -- A text with a newline behind it stands for the same file.
-use Rattle.std.proofs.Common.{◌≡◌, ℕ, ◌+◌, ◌-◌, ◌≤◌, List, [], ◌∷◌, ◌++◌, length, take, Option, Some, None, IfSome, refl, ap, ap₂, sym, ◌∙◌, subst, append_assoc, arith}
+use Rattle.std.proofs.Common.{◌≡◌, ℕ, ◌-◌, List, [], ◌∷◌, ◌++◌, length, take, Option, Some, None, IfSome, ap, sym, ◌∙◌, append_assoc, arith}
 use Rattle.std.proofs.lemmas.List.{length-append}
 use Rattle.sj_lang.specs.FileAt.{FileAt}
-use Rattle.sj_grammar.specs.Lexis.{next_of, token}
 use Rattle.sj_grammar.specs.Reading.{Reading, passed, line_at}
-use Rattle.sj_grammar.specs.Positions.{At, past, Takes, Piece, TakesPiece, BeginsOnLines, start}
+use Rattle.sj_grammar.specs.Positions.{At, past, Takes, Piece, BeginsOnLines, start}
 use Rattle.sj_grammar.specs.Files.{IsFile}
-use Rattle.sj_grammar.proofs.SplitLemmas.{next_split}
 use Rattle.sj_legible_laws.proofs.NewlineLemmas.{ended, ended_ahead, same_front, same_next}
 
 -- where a reader stands, with a newline behind the text
