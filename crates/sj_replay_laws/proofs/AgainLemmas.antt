@@ -1,5 +1,5 @@
 -- What `run --log` tells of a file is told of the replay of its log.
-use Rattle.std.proofs.Common.{◌≡◌, ℕ, ◌≤◌, max, Bool, true, false, cond, List, [], ◌∷◌, ◌++◌, length, drop, Option, Some, inl, inr, ◌⊎◌, refl, ap, sym, ◌∙◌, subst, arith, append-nil}
+use Rattle.std.proofs.Common.{◌≡◌, ℕ, ◌≤◌, max, Bool, true, false, cond, List, [], ◌++◌, length, drop, Option, inl, inr, refl, ap, sym, ◌∙◌, subst, arith, append-nil}
 use Rattle.std.specs.List.{list_any}
 use Rattle.std.proofs.Math.Seq.{drop-append_seam}
 use Rattle.sj_lang.specs.FileAt.{FileAt}
@@ -23,18 +23,15 @@ use Rattle.sj_legible_laws.proofs.EndedLemmas.{file_ended}
 use Rattle.sj_legible_laws.proofs.PartLemmas.{parted_there}
 use Rattle.sj_command.specs.declared.tasks.Task.{Task}
 use Rattle.sj_command.specs.declared.tasks.Task.TheVariants as tasks
-use Rattle.sj_command.specs.Task.{Asks}
 use Rattle.sj_command.proofs.OneTask.{one_task}
 use Rattle.sj_tool.specs.AnswerAt.{AnswerAt, Ran}
-use Rattle.sj_tool.specs.Answers.{AnswersBytes, AnswersInput, IsInTable}
+use Rattle.sj_tool.specs.Answers.{AnswersBytes, IsInTable}
 use Rattle.sj_tool.specs.Calls.{CallAt, LinkUseAt}
 use Rattle.sj_tool.specs.LogAt.{LogAt, log_at}
 use Rattle.sj_tool.specs.Runs.{HasRun}
-use Rattle.sj_tool.specs.Table.{AreOne, AreOneLog, CanRise, LogsRun, RunsWell}
-use Rattle.sj_tool.specs.Tasks.{AsksFor, HasInput, IsRead, RunsParties}
-use Rattle.sj_tool.specs.Texts.{status_of, text_of}
+use Rattle.sj_tool.specs.Table.{LogsRun}
+use Rattle.sj_tool.specs.Tasks.{HasInput, IsRead}
 use Rattle.sj_tool.proofs.InputLemmas.{read_bytes}
-use Rattle.sj_tool.proofs.TableLemmas.{one_answer}
 use Rattle.sj_replay_laws.specs.Again.{IsInLines, ReplaysAll, TellsLog, told_of}
 use Rattle.sj_replay_laws.proofs.QuietLemmas.{quiet_is_drained}
 
@@ -141,16 +138,3 @@ told_again c d text whole log file verdict t w r =
       input = r.read;
       answers = replayed whole file (lines_stand text whole file w t.stands) verdict answer w.few w.lines log refl was d.links;
     }
-
--- words that ask for a replay ask for no run
-no_run : (d : CallAt) → Asks d.words (tasks.Replay true) → AsksFor RunsParties d → ⊥
-no_run d asks x = subst RunsParties (one_task d.words x.task (tasks.Replay true) x.asks asks) x.kind
-
-no_log_run : (d : CallAt) → Asks d.words (tasks.Replay true) → AsksFor LogsRun d → ⊥
-no_log_run d asks x = subst LogsRun (one_task d.words x.task (tasks.Replay true) x.asks asks) x.kind
-
-pub nothing_else : (c d : CallAt) (text whole log : List ℕ) (file : FileAt) (verdict : Verdict) (a : AnswerAt) → TellsLog c text file verdict log → IsInLines text whole → ReplaysAll d (whole ++ log)
-    → d.left ≡ Some (whole ++ log) → CanRise d → IsInTable d a → (status_of a ≡ status_of (told_of file verdict log)) × (text_of a ≡ text_of (told_of file verdict log))
-nothing_else c d text whole log file verdict a t w r left rise own =
-    let one = one_answer d (whole ++ log) a (told_of file verdict log) left rise (λ runs. absurd (no_run d r.asks runs)) own (told_again c d text whole log file verdict t w r) in
-    (one.status, elim one.text [ inl same ↦ same | inr logs ↦ absurd (no_log_run d r.asks logs.0) ])

@@ -1,2 +1,3 @@
 pub mod QuietLemmas
 pub mod AgainLemmas
+pub mod OnlyLemmas

@@ -1,5 +1,5 @@
 -- Where nothing is left to do, a drain does nothing.
-use Rattle.std.proofs.Common.{◌≡◌, ℕ, zero, suc, ◌+◌, ◌<◌, ◌≤◌, List, [], ◌∷◌, refl, arith}
+use Rattle.std.proofs.Common.{ℕ, zero, suc, ◌+◌, ◌<◌, ◌≤◌, [], refl, arith}
 use Rattle.sj_rules.specs.Node.{Play}
 use Rattle.sj_rules.specs.World.{WorldAt}
 use Rattle.sj_rules.specs.History.{IsQuietAmong}
