@@ -1,7 +1,7 @@
 pub mod Views
 pub mod Refusals
 pub mod Nodes
-pub mod Course
+pub mod NodeWorld
 pub mod Quiet
 pub mod World
 pub mod Replaying

@@ -1,9 +1,9 @@
 //! The core world: a file's nodes with the lanes between them, one event at a time.
 #![tactic(auto)]
 
-mod course;
 mod drains;
 mod entries;
+mod node_world;
 mod refusal;
 mod replays;
 mod sameness;

@@ -4,7 +4,7 @@ ghost use Rattle.sj_core.specs.Nodes.{NodesStay};
 ghost use Rattle.sj_core.specs.Replaying.{Follows, IsMisfitFrom, IsMisfitHere, IsRefusedSo};
 ghost use Rattle.sj_core.specs.Views.{line_at};
 
-use crate::course::Course;
+use crate::node_world::NodeWorld;
 use crate::sameness::is_same_entry;
 use crate::{ReplayRefusal, StepRefusal};
 use sj_end::{Line, Misfit};
@@ -19,8 +19,8 @@ pub fn is_the_line(due: &Option<Line>, line: &Line) -> bool
     }
 }
 
-impl Course {
-    ghost use Rattle.sj_core.specs.Course.{IsLed, IsReached, Redoes, StaysIn, Steps, file_in, history_in, nodes_in};
+impl NodeWorld {
+    ghost use Rattle.sj_core.specs.NodeWorld.{IsLed, IsReached, Redoes, StaysIn, Steps, file_in, history_in, nodes_in};
 
     /// Does the line of that number, if it is the one that is due. It isn't listed.
     fn redo(&mut self, number: u64, line: &Line) -> Result<(), ReplayRefusal>
@@ -114,7 +114,7 @@ impl Course {
 
     /// Does all the lines from where nothing has happened, if each is the one that is due. They become
     /// the history, which was empty.
-    pub fn replayed(mut self, lines: Vec<Line>) -> Result<Course, ReplayRefusal>
+    pub fn replayed(mut self, lines: Vec<Line>) -> Result<NodeWorld, ReplayRefusal>
         requires reached { IsReached self }
         requires none { history_in self ≡ [] }
         ensures reached { IfOk result (λ c. IsReached c) }
