@@ -36,7 +36,7 @@ expressions_embedded = record { follows = λ d s. refl; nones = λ d. refl; coun
 
 -- a text that is stuck in an expression is stuck from its first token on
 whole_inside : (n : ℕ) (a : At) (f : Fault) → StuckInside expression_layer limits 0 a (expression_at 0) f → StuckInside expression_layer limits n a (whole ∷ []) f
-whole_inside n a f st = by_pieces st.stuck.pieces st.stuck.there st.stuck.count st.stuck.due st.stuck.front st.stuck.fits st.stuck.halts st.inside
+whole_inside n a f st = by_pieces st.stuck.pieces st.stuck.there st.stuck.count st.stuck.dues st.stuck.front st.stuck.fits st.stuck.halts st.inside
   where
     at_first : (x : Ahead) → broken expression_layer limits n (whole ∷ []) x ≡ broken expression_layer limits 0 (expression_at 0) x
     at_first at_end = refl
@@ -53,7 +53,7 @@ whole_inside n a f st = by_pieces st.stuck.pieces st.stuck.there st.stuck.count 
         (subst (λ (gs : List ExpressionDue). Halts expression_layer limits 0 b gs f) (sym same) (subst (λ (j : ℕ). Halts expression_layer limits j b due f) (sym counted) halts)) in
         inside_here expression_layer limits n a (whole ∷ []) f refl (record { rule = was.rule; breaks = at_first (next_of a.text.ahead) ∙ was.breaks; fault = was.fault })
     by_pieces (s ∷ ps) b k due front fits halts inside = record {
-      stuck = record { pieces = s ∷ ps; there = b; count = k; due = due; front = front; fits = (whole_run limits n k [] due s ps (record { steps = fits })).steps; halts = halts };
+      stuck = record { pieces = s ∷ ps; there = b; count = k; dues = due; front = front; fits = (whole_run limits n k [] due s ps (record { steps = fits })).steps; halts = halts };
       inside = inside;
     }
 

@@ -15,11 +15,10 @@ ghost use Rattle.sj_expr.specs.Read.{ReadsLevel, ReadsWhole, ReadsExpression, Ha
 use crate::operands::operand_in;
 use crate::signs::{joined, negated, take_comparison, take_sign};
 use crate::taking::{Opening, take_negative, take_opening, take_operand};
+use sj_grammar::MOST_OPEN;
 use sj_lang::{Expr, Names, Op};
 use sj_proto::{ParseRefusal, Tokens};
 use std::alloc::Global;
-
-const MOST_OPEN: usize = 32;
 
 // A factor inside so many parentheses and `not`s; so many operands stand before it.
 #[cycle(expression)]

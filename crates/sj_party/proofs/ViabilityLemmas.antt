@@ -119,6 +119,6 @@ module _ (L : Limits) (ps : Pieces) (m : ℕ) (due : List Due) (e : Leads L 0 fi
   not_within s rule breaks v =
       let all = v.viable.all in
       let w = file_completes L all.file all.lines 0 (subst (λ (M : Limits). IsSpelled M all.file all.lines) v.within all.spelled) in
-      let taken = none_broken L 0 w.count m file_due w.due due (spellings all.lines) ps v.viable.later s w.steps (all.same ∙ append_assoc ps (s ∷ []) v.viable.later) e in
+      let taken = none_broken L 0 w.count m file_due w.dues due (spellings all.lines) ps v.viable.later s w.steps (all.same ∙ append_assoc ps (s ∷ []) v.viable.later) e in
       let both : Some rule ≡ None = sym breaks ∙ taken in
       cc

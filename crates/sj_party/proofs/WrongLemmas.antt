@@ -53,13 +53,13 @@ module _ (ps : Pieces) (n : ℕ) (ds : List Due) (e : Leads limits 0 file_due ps
   taken : (m : ℕ) (es : List Due) → step file_layer limits n ds s ≡ goes m es → IsTaken limits (ps ++ s ∷ [])
   taken m es h = record {
     count = m;
-    due = es;
+    dues = es;
     leads = (Runs-append file_layer limits ps (s ∷ []) 0 n m file_due ds es (record { steps = e }) (Runs-cons file_layer limits n m m ds es es s [] h (Runs-none file_layer limits m es))).steps;
   }
 
   not_taken : step file_layer limits n ds s ≡ stops P4 → IsTaken limits (ps ++ s ∷ []) → ⊥
   not_taken h t =
-      let goes_on = none_broken limits 0 t.count n file_due t.due ds (ps ++ s ∷ []) ps [] s t.leads refl e in
+      let goes_on = none_broken limits 0 t.count n file_due t.dues ds (ps ++ s ∷ []) ps [] s t.leads refl e in
       let both : Some P4 ≡ None = sym (breaks P4 h) ∙ goes_on in
       cc
 
@@ -76,7 +76,7 @@ module _ (ps : Pieces) (n : ℕ) (ds : List Due) (e : Leads limits 0 file_due ps
   token_broken what rest rule (inl w) = elim (stepped n ds s) [
     | inl h ↦ breaks (misfit s) h ∙ ap Some (sym w.0)
     | inr (inl h) ↦ absurd (w.1 (over h))
-    | inr (inr h) ↦ let t = taken h.0 h.1 h.2 in absurd (w.1 (viable limits (ps ++ s ∷ []) t.count t.due t.leads))
+    | inr (inr h) ↦ let t = taken h.0 h.1 h.2 in absurd (w.1 (viable limits (ps ++ s ∷ []) t.count t.dues t.leads))
   ]
   token_broken what rest rule (inr w) = elim (stepped n ds s) [
     | inl h ↦ absurd (never h w.1)
@@ -113,9 +113,9 @@ goes_wrong bytes f st =
       pieces = st.pieces;
       there = st.there;
       front = st.front;
-      viable = viable limits st.pieces st.count st.due st.fits;
-      within = record { count = st.count; due = st.due; leads = st.fits };
-      wrong = subst (IsWrongNext st.pieces ahead) rule_is (next_wrong st.pieces st.count st.due st.fits ahead st.halts.rule st.halts.breaks);
+      viable = viable limits st.pieces st.count st.dues st.fits;
+      within = record { count = st.count; dues = st.dues; leads = st.fits };
+      wrong = subst (IsWrongNext st.pieces ahead) rule_is (next_wrong st.pieces st.count st.dues st.fits ahead st.halts.rule st.halts.breaks);
       position = st.halts.fault ∙ ap (fault_at (before_next st.there.text ahead)) rule_is;
     }
 
@@ -125,8 +125,8 @@ is_first_fault bytes f w = record {
   pieces = w.pieces;
   there = w.there;
   count = w.within.count;
-  due = w.within.due;
+  dues = w.within.dues;
   front = w.front;
   fits = w.within.leads;
-  halts = record { rule = f.rule; breaks = next_broken w.pieces w.within.count w.within.due w.within.leads (next_of w.there.text.ahead) f.rule w.wrong; fault = w.position };
+  halts = record { rule = f.rule; breaks = next_broken w.pieces w.within.count w.within.dues w.within.leads (next_of w.there.text.ahead) f.rule w.wrong; fault = w.position };
 }

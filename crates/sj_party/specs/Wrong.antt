@@ -15,8 +15,8 @@ use Rattle.sj_party.specs.Viable.{IsViable, IsWhole}
 -- each piece is due, and passes no limit
 pub record IsTaken (L : Limits) (pieces : Pieces) : Type 0 where
   pub count : ℕ
-  pub due : List Due
-  pub leads : Leads L 0 file_due pieces count due
+  pub dues : List Due
+  pub leads : Leads L 0 file_due pieces count dues
 
 -- what comes next breaks that rule: where no file goes on so, where one does, and the limits alone don't take the token, or where the file isn't whole
 abbrev pub IsWrongNext : Pieces → Ahead → Rule → Type 0

@@ -10,6 +10,7 @@ mod parts;
 mod printing;
 mod printing_expressions;
 mod printing_laws;
+mod printing_parts;
 mod printing_statements;
 mod scalars;
 mod shapes;

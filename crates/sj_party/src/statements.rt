@@ -21,11 +21,10 @@ use crate::parts::{name_and_value, one_name, two_names};
 use crate::shapes::{labelled, statement};
 use crate::simple::simple;
 use sj_expr::parse_expression;
+use sj_grammar::MOST_OPEN;
 use sj_lang::{Deed, Names, Stmt, StmtArm};
 use sj_proto::{ParseRefusal, Tokens, is_name_text, take_first};
 use std::alloc::Global;
-
-const MOST_OPEN: usize = 32;
 
 /// Statements inside so many inner braces, as long as one begins with the next token.
 #[cycle(code)]

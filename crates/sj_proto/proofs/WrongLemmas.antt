@@ -28,36 +28,36 @@ at_start = inl (refl, refl, refl)
 
 pub goes_wrong : (bytes : List ℕ) (names : Names) (f : Fault) → IsFirstFault bytes names f → GoesWrong bytes names f
 goes_wrong bytes names f st =
-    let runs = run_begun st.pieces 0 st.count [] (body ∷ []) st.due at_start st.fits in
+    let runs = run_begun st.pieces 0 st.count [] (body ∷ []) st.dues at_start st.fits in
     let rule_is : st.halts.rule ≡ f.rule = sym (ap (λ (g : Fault). g.rule) st.halts.fault) in
     let before = before_next st.there.text (next_of st.there.text.ahead) in
     record {
       pieces = st.pieces;
       there = st.there;
       front = st.front;
-      viable = viable limits st.pieces st.count st.due st.fits;
+      viable = viable limits st.pieces st.count st.dues st.fits;
       within = runs.2;
       wrong = subst (IsWrongNext st.pieces (next_of st.there.text.ahead)) rule_is (by_next (next_of st.there.text.ahead) st.halts.rule runs.0 runs.1 st.halts.breaks);
       position = st.halts.fault ∙ ap (fault_at before) rule_is;
     }
   where
-    by_end : (b : Bool) (rule : Rule) → may_end protocol_layer st.due ≡ b → (if b then None else Some P1) ≡ Some rule → IsWrongNext st.pieces at_end rule
+    by_end : (b : Bool) (rule : Rule) → may_end protocol_layer st.dues ≡ b → (if b then None else Some P1) ≡ Some rule → IsWrongNext st.pieces at_end rule
     by_end true rule e h = let none : ⊥ = cc in absurd none
-    by_end false rule e h = (cc, not_whole limits st.pieces st.count st.due st.fits e)
+    by_end false rule e h = (cc, not_whole limits st.pieces st.count st.dues st.fits e)
 
-    by_due : (s rest : List ℕ) (what : What) (rule : Rule) → Begun st.count (fold brackets_behind [] st.pieces) st.due → st.count ≡ fold items_behind 0 st.pieces → (x : Option (List ProtocolDue)) → due_behind protocol_layer st.due s ≡ x
-        → rule_of (step protocol_layer limits st.count st.due s) ≡ Some rule → IsWrongNext st.pieces (token what s rest) rule
+    by_due : (s rest : List ℕ) (what : What) (rule : Rule) → Begun st.count (fold brackets_behind [] st.pieces) st.dues → st.count ≡ fold items_behind 0 st.pieces → (x : Option (List ProtocolDue)) → due_behind protocol_layer st.dues s ≡ x
+        → rule_of (step protocol_layer limits st.count st.dues s) ≡ Some rule → IsWrongNext st.pieces (token what s rest) rule
     by_due s rest what rule b count None e h =
-        let stop : Some (misfit s) ≡ Some rule = sym (ap rule_of (not_due st.count (fold brackets_behind [] st.pieces) st.due s b e)) ∙ h in
-        inl (cc, not_viable limits st.pieces st.count st.due st.fits s e)
+        let stop : Some (misfit s) ≡ Some rule = sym (ap rule_of (not_due st.count (fold brackets_behind [] st.pieces) st.dues s b e)) ∙ h in
+        inl (cc, not_viable limits st.pieces st.count st.dues st.fits s e)
     by_due s rest what rule b count (Some es) e h =
-        let over = due_over st.count (fold brackets_behind [] st.pieces) st.due s b es rule e h in
-        inr (over.0, viable_next limits st.pieces st.count st.due st.fits es s e, ap (λ (j : ℕ). is_over limits j (fold brackets_behind [] st.pieces) s) (sym count) ∙ over.1)
+        let over = due_over st.count (fold brackets_behind [] st.pieces) st.dues s b es rule e h in
+        inr (over.0, viable_next limits st.pieces st.count st.dues st.fits es s e, ap (λ (j : ℕ). is_over limits j (fold brackets_behind [] st.pieces) s) (sym count) ∙ over.1)
 
-    by_next : (x : Ahead) (rule : Rule) → Begun st.count (fold brackets_behind [] st.pieces) st.due → st.count ≡ fold items_behind 0 st.pieces → broken protocol_layer limits st.count st.due x ≡ Some rule → IsWrongNext st.pieces x rule
-    by_next at_end rule b count h = by_end (may_end protocol_layer st.due) rule refl h
+    by_next : (x : Ahead) (rule : Rule) → Begun st.count (fold brackets_behind [] st.pieces) st.dues → st.count ≡ fold items_behind 0 st.pieces → broken protocol_layer limits st.count st.dues x ≡ Some rule → IsWrongNext st.pieces x rule
+    by_next at_end rule b count h = by_end (may_end protocol_layer st.dues) rule refl h
     by_next (bad lexical rest) rule b count h = cc
-    by_next (token what s rest) rule b count h = by_due s rest what rule b count (due_behind protocol_layer st.due s) refl h
+    by_next (token what s rest) rule b count h = by_due s rest what rule b count (due_behind protocol_layer st.dues s) refl h
 
 pub is_first_fault : (bytes : List ℕ) (names : Names) (f : Fault) → GoesWrong bytes names f → IsFirstFault bytes names f
 is_first_fault bytes names f w =
@@ -68,7 +68,7 @@ is_first_fault bytes names f w =
       pieces = w.pieces;
       there = w.there;
       count = r.0;
-      due = v.1;
+      dues = v.1;
       front = w.front;
       fits = r.1;
       halts = record { rule = f.rule; breaks = by_next r.0 v.1 r.1 b.0 b.1 (next_of w.there.text.ahead) f.rule w.wrong; fault = w.position };

@@ -18,13 +18,11 @@ use crate::choices::{Opening, close_bytes, take_opening, take_way};
 use crate::naming::take_name;
 use crate::shapes::{choice_item, loop_item, message_item};
 use crate::tokens::Tokens;
-use sj_grammar::ParseRefusal;
+use sj_grammar::{MOST_OPEN, ParseRefusal};
 use sj_lang::{Arm, Arms, Item, Kind, Names, Proto, Way};
 use std::alloc::Global;
 
 const MOST_ITEMS: usize = 1024;
-
-const MOST_OPEN: usize = 32;
 
 const MOST_LABELS: usize = 16;
 
