@@ -17,6 +17,7 @@ use Rattle.sj_grammar.specs.Refusals.{StuckInside, OnFault}
 use Rattle.sj_grammar.specs.Expressions.{operand_count}
 use Rattle.sj_grammar.specs.ExpressionDues.{ExpressionDue, whole, times, plus, compare, expression_at, expression_layer}
 use Rattle.sj_grammar.specs.FileDues.{Due, expr, file_layer}
+use Rattle.sj_grammar.specs.Viable.{IsViable}
 use Rattle.sj_grammar.proofs.StepLemmas.{due_behind}
 use Rattle.sj_grammar.proofs.StucknessLemmas.{stuck_block, stuck_like}
 use Rattle.sj_grammar.proofs.EmbeddingLemmas.{IsEmbedded}
@@ -24,7 +25,7 @@ use Rattle.sj_grammar.proofs.FramingLemmas.{stuck_framed, run_framed, skip_frame
 use Rattle.sj_grammar.proofs.InsideLemmas.{inside_here}
 use Rattle.sj_proto.specs.Parsed.{Stops}
 use Rattle.sj_expr.specs.Read.{ReadsWhole, ReadsExpression, AllPass, EndsAt}
-use Rattle.sj_expr.specs.Viable.{IsViable}
+use Rattle.sj_expr.specs.Viable.{IsSomeExpression}
 use Rattle.sj_expr.proofs.RunLemmas.{Goes}
 use Rattle.sj_expr.proofs.ViabilityLemmas.{not_viable, viable_next}
 use Rattle.sj_expr.proofs.ReadLemmas.{agrees_itself}
@@ -111,7 +112,7 @@ expression_leads n a b t ds f r st =
             by_due : (y : Option (List ExpressionDue)) → due_behind expression_layer left s ≡ y → y ≡ None
             by_due None h = refl
             by_due (Some es) h =
-                let fails : IsViable (r.reads.pieces ++ s ∷ []) → ⊥ = subst (λ (z : Ahead). EndsAt r.reads.pieces z) next stops in
+                let fails : IsViable IsSomeExpression (r.reads.pieces ++ s ∷ []) → ⊥ = subst (λ (z : Ahead). EndsAt r.reads.pieces z) next stops in
                 absurd (fails (viable_next limits r.reads.pieces n (operand_count t) left es s e h))
 
 -- what the reader of whole expressions answers

@@ -7,7 +7,7 @@ pub mod FrameLemmas
 pub mod FileLemmas
 pub mod LevelLemmas
 pub mod NumberLemmas
-pub mod OpeningLemmas
+pub mod OuterLemmas
 pub mod OperandLemmas
 pub mod ReadLemmas
 pub mod ReadingLemmas

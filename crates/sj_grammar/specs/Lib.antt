@@ -19,3 +19,5 @@ pub mod Refusals
 pub mod Rules
 pub mod Statements
 pub mod Tables
+pub mod Viable
+pub mod Wrong

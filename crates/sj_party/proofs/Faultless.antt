@@ -10,11 +10,12 @@ use Rattle.sj_grammar.specs.Layers.{step, run, may_end, rule_of}
 use Rattle.sj_grammar.specs.Faults.{Stuck}
 use Rattle.sj_grammar.specs.FileDues.{Due, file_layer, file_due}
 use Rattle.sj_grammar.specs.Files.{IsFile}
+use Rattle.sj_grammar.specs.Viable.{IsViable}
 use Rattle.sj_grammar.proofs.StepLemmas.{run_split, onward_goes, step_due, step_refused, one_due, due_behind}
 use Rattle.sj_grammar.proofs.StucknessLemmas.{clash}
 use Rattle.sj_proto.proofs.LineLemmas.{off_lines}
 use Rattle.sj_party.specs.Leads.{Leads}
-use Rattle.sj_party.specs.Viable.{IsWhole, IsViable}
+use Rattle.sj_party.specs.Viable.{IsSomeFile}
 use Rattle.sj_party.proofs.FileRunLemmas.{file_completes}
 
 module _ (L : Limits) where
@@ -29,7 +30,7 @@ module _ (L : Limits) where
       sym (λ i. rule_of (step file_layer L (counted i) (same i) s)) ∙ ap rule_of y.2
 
   -- with a token that breaks a rule, but for limits, no file goes on
-  pub not_viable : (ps : Pieces) (s : List ℕ) (m : ℕ) (due : List Due) (rule : Rule) → Leads L 0 file_due ps m due → rule_of (step file_layer L m due s) ≡ Some rule → rule ≢ P4 → IsViable (ps ++ s ∷ []) → ⊥
+  pub not_viable : (ps : Pieces) (s : List ℕ) (m : ℕ) (due : List Due) (rule : Rule) → Leads L 0 file_due ps m due → rule_of (step file_layer L m due s) ≡ Some rule → rule ≢ P4 → IsViable IsSomeFile (ps ++ s ∷ []) → ⊥
   not_viable ps s m due rule e breaks other v =
       let M = v.all.within in
       let w = file_completes M v.all.file v.all.lines 0 v.all.spelled in
@@ -42,7 +43,7 @@ module _ (L : Limits) where
       cc
 
   -- and where something is due the text is no whole file
-  pub not_whole : (ps : Pieces) (m : ℕ) (due : List Due) → Leads L 0 file_due ps m due → may_end file_layer due ≡ false → IsWhole ps → ⊥
+  pub not_whole : (ps : Pieces) (m : ℕ) (due : List Due) → Leads L 0 file_due ps m due → may_end file_layer due ≡ false → IsSomeFile ps → ⊥
   not_whole ps m due e stop v =
       let w = file_completes v.within v.file v.lines 0 v.spelled in
       let dues : w.dues ≡ due = one_due file_layer v.within L ps 0 0 w.count m file_due w.dues due (ap (run file_layer v.within 0 file_due) (sym v.same) ∙ w.steps) e in

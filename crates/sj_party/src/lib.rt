@@ -3,8 +3,8 @@
 
 mod connects;
 mod files;
+mod first_words;
 mod laws;
-mod openings;
 mod parties;
 mod parts;
 mod printing;
