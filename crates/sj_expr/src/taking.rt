@@ -27,7 +27,7 @@ const MOST_OPERANDS: usize = 256;
 
 const MOST_TEXT: usize = 255;
 
-/// What a factor begins with that has a factor or an expression inside.
+/// What stands in a factor before the factor or the expression inside it.
 #[derive(Clone, Copy, Debug, PartialEq, Eq)]
 pub enum Outer {
     Not,

@@ -1,6 +1,7 @@
 pub mod Asked
 pub mod Bytes
 pub mod Canonical
+pub mod Classes
 pub mod Examples
 pub mod ExpressionDues
 pub mod Expressions

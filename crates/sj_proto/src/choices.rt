@@ -9,7 +9,7 @@ use crate::tokens::Tokens;
 use sj_grammar::{Fault, Rule};
 use sj_lang::Way;
 
-/// What an item begins with, behind its way.
+/// What opens a bracket, behind the way of an item.
 #[derive(Clone, Copy)]
 pub enum Bracket {
     Kind,
