@@ -5,16 +5,16 @@ use Rattle.sj_grammar.specs.declared.tokens.Rule.{Rule}
 use Rattle.sj_lang.specs.Limits.{limits}
 use Rattle.sj_grammar.specs.Literals.{inner}
 use Rattle.sj_grammar.specs.Rules.{not_due, over_limit}
-use Rattle.sj_expr.specs.declared.taking.Opening.{Opening}
-use Rattle.sj_expr.specs.declared.taking.Opening.TheVariants as openings
+use Rattle.sj_expr.specs.declared.taking.Outer.{Outer}
+use Rattle.sj_expr.specs.declared.taking.Outer.TheVariants as outers
 
-abbrev pub opening_piece : Opening → List ℕ
-opening_piece openings.Not = codes "not"
-opening_piece openings.Parens = codes "("
+abbrev pub outer_piece : Outer → List ℕ
+outer_piece outers.Not = codes "not"
+outer_piece outers.Parens = codes "("
 
 -- nothing that opens, or one too deep
-abbrev pub but_opening : Bool → List ℕ → Option Rule
-but_opening deep s = if bytes_eq s (codes "not") || bytes_eq s (codes "(") then (if deep then Some over_limit else None) else Some not_due
+abbrev pub but_outer : Bool → List ℕ → Option Rule
+but_outer deep s = if bytes_eq s (codes "not") || bytes_eq s (codes "(") then (if deep then Some over_limit else None) else Some not_due
 
 -- a text that is too long
 abbrev pub but_text : List ℕ → Option Rule

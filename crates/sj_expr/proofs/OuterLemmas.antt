@@ -17,7 +17,7 @@ use Rattle.sj_grammar.specs.Expressions.{operand_count}
 use Rattle.sj_grammar.specs.ExpressionDues.{ExpressionDue, factor, fixed, expression_at, expression_may_be_none, is_operand, expression_layer}
 use Rattle.sj_grammar.proofs.StucknessLemmas.{refuses_halts, halts_skip}
 use Rattle.sj_grammar.proofs.InsideLemmas.{inside_here, inside_cons, inside_block}
-use Rattle.sj_expr.specs.Openings.{but_opening}
+use Rattle.sj_expr.specs.Factors.{but_outer}
 use Rattle.sj_expr.specs.Read.{ReadsWhole, AllPass}
 use Rattle.sj_expr.proofs.RunLemmas.{not_step, open_step}
 use Rattle.sj_expr.proofs.StuckLemmas.{Inside, before}
@@ -74,33 +74,33 @@ close_inside n k o j a m b t f e h taken r count refuses =
     inside_cons expression_layer limits n n a m (codes "(") (factor o ∷ []) (expression_at (suc o) ++ rest) f taken (open_step limits n o [] h) (subst (λ (i : ℕ). Inside n m (expression_at i ++ rest) f) e inner)
 
 -- with a token that begins no factor, or one too deep
-pub opening_inside : (n o : ℕ) (a : At) (f : Fault) → is_operand (spelled_next (next_of a.text.ahead)) ≡ false → is_next (codes "-") (next_of a.text.ahead) ≡ false → Refuses (but_opening (nat_le 32 o)) a.text f → Inside n a (factor o ∷ []) f
-opening_inside n o a f other no_minus r =
+pub outer_inside : (n o : ℕ) (a : At) (f : Fault) → is_operand (spelled_next (next_of a.text.ahead)) ≡ false → is_next (codes "-") (next_of a.text.ahead) ≡ false → Refuses (but_outer (nat_le 32 o)) a.text f → Inside n a (factor o ∷ []) f
+outer_inside n o a f other no_minus r =
     inside_here expression_layer limits n a (factor o ∷ []) f refl (record { rule = r.rule; breaks = by_next (next_of a.text.ahead) other no_minus r.refused; fault = r.fault })
   where
-    at_opening : (s : List ℕ) → is_operand s ≡ false → bytes_eq s (codes "-") ≡ false → (x y : Bool) → bytes_eq s (codes "not") ≡ x → bytes_eq s (codes "(") ≡ y
+    at_outer : (s : List ℕ) → is_operand s ≡ false → bytes_eq s (codes "-") ≡ false → (x y : Bool) → bytes_eq s (codes "not") ≡ x → bytes_eq s (codes "(") ≡ y
         → (if is_largest s then Some P3 else (if x || y then (if nat_le 32 o then Some P4 else None) else Some P1)) ≡ Some r.rule → rule_of (step expression_layer limits n (factor o ∷ []) s) ≡ Some r.rule
-    at_opening s other no_minus true y ex ey e =
+    at_outer s other no_minus true y ex ey e =
         let deep : (if nat_le 32 o then Some P4 else None) ≡ Some r.rule = subst (λ (t : List ℕ). (if is_largest t then Some P3 else (if nat_le 32 o then Some P4 else None)) ≡ Some r.rule) (bytes_same s (codes "not") ex) e in
         rw (other, no_minus, ex) (by_deep (nat_le 32 o) (factor (suc o) ∷ []) deep)
       where
         by_deep : (b : Bool) (es : List ExpressionDue) → (if b then Some P4 else None) ≡ Some r.rule → rule_of (if b then stops P4 else goes n es) ≡ Some r.rule
         by_deep true es h = h
         by_deep false es h = h
-    at_opening s other no_minus false true ex ey e =
+    at_outer s other no_minus false true ex ey e =
         let deep : (if nat_le 32 o then Some P4 else None) ≡ Some r.rule = subst (λ (t : List ℕ). (if is_largest t then Some P3 else (if nat_le 32 o then Some P4 else None)) ≡ Some r.rule) (bytes_same s (codes "(") ey) e in
         rw (other, no_minus, ex, ey) (by_deep (nat_le 32 o) (expression_at (suc o) ++ fixed (codes ")") ∷ []) deep)
       where
         by_deep : (b : Bool) (es : List ExpressionDue) → (if b then Some P4 else None) ≡ Some r.rule → rule_of (if b then stops P4 else goes n es) ≡ Some r.rule
         by_deep true es h = h
         by_deep false es h = h
-    at_opening s other no_minus false false ex ey e = rw (other, no_minus, ex, ey) (by_largest (is_largest s) e)
+    at_outer s other no_minus false false ex ey e = rw (other, no_minus, ex, ey) (by_largest (is_largest s) e)
       where
         by_largest : (b : Bool) → (if b then Some P3 else Some P1) ≡ Some r.rule → Some (if b then P3 else P1) ≡ Some r.rule
         by_largest true h = h
         by_largest false h = h
 
-    by_next : (x : Ahead) → is_operand (spelled_next x) ≡ false → is_next (codes "-") x ≡ false → refused (but_opening (nat_le 32 o)) x ≡ Some r.rule → broken expression_layer limits n (factor o ∷ []) x ≡ Some r.rule
+    by_next : (x : Ahead) → is_operand (spelled_next x) ≡ false → is_next (codes "-") x ≡ false → refused (but_outer (nat_le 32 o)) x ≡ Some r.rule → broken expression_layer limits n (factor o ∷ []) x ≡ Some r.rule
     by_next at_end other no_minus e = e
     by_next (bad l rest) other no_minus e = e
-    by_next (token what s rest) other no_minus e = at_opening s other no_minus (bytes_eq s (codes "not")) (bytes_eq s (codes "(")) refl refl e
+    by_next (token what s rest) other no_minus e = at_outer s other no_minus (bytes_eq s (codes "not")) (bytes_eq s (codes "(")) refl refl e

@@ -1,7 +1,7 @@
 use Rattle.std.proofs.Common.{◌∙◌, arith}
 use Rattle.sj_text.proofs.CutLemmas.{on_err}
 use Rattle.sj_party.proofs.PrintedCode.{spaces_cut}
-use Rattle.sj_party.proofs.printing_statements.put_spaces.Goals as goal
+use Rattle.sj_party.proofs.printing_parts.put_spaces.Goals as goal
 
 pub returns-in_err-put-clause-err : goal.returns-in_err-put-clause-err
 returns-in_err-put-clause-err c =

@@ -24,7 +24,7 @@ pub enum Word {
 
 /// What a statement begins with.
 #[derive(Clone, Copy, Debug, PartialEq, Eq)]
-pub enum Opening {
+pub enum FirstWord {
     Simple(Word),
     Inbranch,
     Outwhile,
@@ -37,7 +37,7 @@ pub enum Opening {
 #[derive(Clone, Copy, Debug, PartialEq, Eq)]
 pub struct Begun {
     pub line: u32,
-    pub opening: Opening,
+    pub first: FirstWord,
 }
 
 // The word that the piece is, where a statement with no block begins with it.
@@ -73,34 +73,34 @@ fn word_in(piece: &[u8]) -> Option<Word>
 }
 
 // What the piece is, where a statement begins with it.
-fn opening_in(piece: &[u8]) -> Option<Opening>
+fn first_word_in(piece: &[u8]) -> Option<FirstWord>
     ensures some { IfSome result (λ o. piece.now ≡ word_of o) }
     ensures none { IfNone result ((o : ℕ) → statement_follow o piece.now ≡ None) }
 {
     if let Some(word) = word_in(piece) {
-        return Some(Opening::Simple(word));
+        return Some(FirstWord::Simple(word));
     }
     if piece == b"inbranch".as_slice() {
-        return Some(Opening::Inbranch);
+        return Some(FirstWord::Inbranch);
     }
     if piece == b"outwhile".as_slice() {
-        return Some(Opening::Outwhile);
+        return Some(FirstWord::Outwhile);
     }
     if piece == b"inwhile".as_slice() {
-        return Some(Opening::Inwhile);
+        return Some(FirstWord::Inwhile);
     }
     if piece == b"relay".as_slice() {
-        return Some(Opening::Relay);
+        return Some(FirstWord::Relay);
     }
     if piece == b"if".as_slice() {
-        return Some(Opening::If);
+        return Some(FirstWord::If);
     }
     None
 }
 
 /// Takes the first word of a statement, where one begins with the next token.
 pub fn begin(tokens: &mut Tokens) -> Option<Begun>
-    ensures taken { IfSome result (λ b. TakesText tokens.old (word_of b.opening) tokens.new) }
+    ensures taken { IfSome result (λ b. TakesText tokens.old (word_of b.first) tokens.new) }
     ensures line { IfSome result (λ b.
         b.line ≡ line_at (before_next tokens.old (next_of tokens.old.ahead))) }
     ensures shorter { IfSome result (λ _. length tokens.new.ahead < length tokens.old.ahead) }
@@ -111,9 +111,9 @@ pub fn begin(tokens: &mut Tokens) -> Option<Begun>
 {
     let line = tokens.line();
     let word = tokens.spelling();
-    let Some(opening) = opening_in(word) else {
+    let Some(first) = first_word_in(word) else {
         return None;
     };
     let _taken = tokens.accept(word);
-    Some(Begun { line, opening })
+    Some(Begun { line, first })
 }
