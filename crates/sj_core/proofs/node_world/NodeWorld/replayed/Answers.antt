@@ -16,9 +16,9 @@ loop-done-preserved c =
     let lt : c.loop-done.done < length c.args.lines.items = omega (arith, c.loop-done-test.true, c.len-done-end.ensures, same) in
     record {
       led =
-          led_next c.loop-done.self c.redo.new.self c.args.lines.items c.loop-done.done c.index.result.now lt kept.led
-          (subst (λ (l : Line). Redoes c.loop-done.self (line_at l) c.redo.new.self) c.index.ensures c.in_default.ensures.ok);
-      file = c.redo.ensures.file ∙ kept.file;
+          led_next c.loop-done.self c.do_again.new.self c.args.lines.items c.loop-done.done c.index.result.now lt kept.led
+          (subst (λ (l : Line). Redoes c.loop-done.self (line_at l) c.do_again.new.self) c.index.ensures c.in_default.ensures.ok);
+      file = c.do_again.ensures.file ∙ kept.file;
     }
 
 pub returns-in-Err-clause-misfit : goal.returns-in-Err-clause-misfit
