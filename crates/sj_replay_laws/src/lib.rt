@@ -1,0 +1,6 @@
+//! Laws over two calls of `sj`: what `run --log` tells is replayed as it was told.
+#![tactic(auto)]
+
+mod laws;
+
+pub use laws::{a_log_is_replayed_as_it_was_told, nothing_else_is_told_of_a_log};
