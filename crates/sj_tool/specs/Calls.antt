@@ -2,8 +2,8 @@
 use Rattle.std.specs.Prelude.{◌≡◌, ℕ, Bool, true, List, Option, map, string_bytes}
 use Rattle.std.specs.declared.alloc.Global.{Global}
 use Rattle.std.specs.declared.string.String.{String}
-use Rattle.sj_base.specs.declared.stream.Source.{Ghosts as SourceGhosts}
-use Rattle.sj_lane.specs.declared.links.Links.{Ghosts as LinksGhosts}
+use Rattle.sj_base.specs.declared.stream.Source.{Ghosts as Source}
+use Rattle.sj_lane.specs.declared.links.Links.{Ghosts as Links}
 use Rattle.sj_lane.specs.Told.{Rose}
 use Rattle.sj_run.specs.Shown.{LinksAt, keeps_of}
 
@@ -28,7 +28,7 @@ pub record CallAt : Type 0 where
   pub links : LinkUseAt
 
 -- the use of links of that kind
-abbrev pub link_use : {L Out In : Type 0} → LinksGhosts L Out In → (before after : L) → LinkUseAt
+abbrev pub link_use : {L Out In : Type 0} → Links L Out In → (before after : L) → LinkUseAt
 link_use kind before after = record {
   tells = kind.tells before;
   faults = kind.faults before;
@@ -37,7 +37,7 @@ link_use kind before after = record {
 }
 
 -- the call that a source and links of those kinds are passed to, by the words, the source before and after, and the links
-abbrev pub call : {S L Out In : Type 0} → SourceGhosts S → LinksGhosts L Out In → List (String Global) → (before after : S) → (links links_after : L) → CallAt
+abbrev pub call : {S L Out In : Type 0} → Source S → Links L Out In → List (String Global) → (before after : S) → (links links_after : L) → CallAt
 call source kind words before after links links_after = record {
   words = map string_bytes words;
   left = source.left before;
