@@ -1,5 +1,5 @@
 //! Tests of the crates that check files and play them: the table of places, the checker, the plain
-//! world, ends, handovers, logs joined, nodes and workers.
+//! world, ends, handovers, nodes and workers.
 #![tactic(auto)]
 
 #[cfg(test)]
@@ -8,8 +8,6 @@ mod check_tests;
 mod end_tests;
 #[cfg(test)]
 mod handover_tests;
-#[cfg(test)]
-mod merge_tests;
 #[cfg(test)]
 mod node_tests;
 #[cfg(test)]

@@ -33,6 +33,8 @@ mod limit_tests;
 #[cfg(test)]
 mod long_files;
 #[cfg(test)]
+mod merge_tests;
+#[cfg(test)]
 mod replay_log_tests;
 #[cfg(test)]
 mod size_tests;

@@ -23,8 +23,8 @@ use Rattle.sj_node.specs.Node.{act_note, clock_of, due_if, due_of, note_for, sto
 use Rattle.sj_node.specs.Outs.{waiting_in}
 use Rattle.sj_node.specs.Play.{next_want}
 use Rattle.sj_node.specs.Reading.{outs_of}
-use Rattle.sj_core.specs.declared.course.Course.{Course}
-use Rattle.sj_core.specs.Course.{IsLed, file_in, nodes_in, world_in}
+use Rattle.sj_core.specs.declared.node_world.NodeWorld.{NodeWorld}
+use Rattle.sj_core.specs.NodeWorld.{IsLed, file_in, nodes_in, world_in}
 use Rattle.sj_core.specs.Nodes.{box_or}
 use Rattle.sj_core.specs.Quiet.{IsAbroad}
 use Rattle.sj_core.specs.Views.{event_at, line_with, note_seen}
@@ -43,7 +43,7 @@ clock_of_step : (w v : WorldAt Place Program) (p k : ℕ) (ls : ℕ → ℕ → 
 clock_of_step w v p k ls None h = absurd (cc h)
 clock_of_step w v p k ls (Some done) h = ap (λ (x : WorldAt Place Program). (x.nodes p).clock) (sym (some_same (after_event w p k ls done) v h)) ∙ clock_after w p k ls done
 
-module _ (c : Course) (led : IsLed c) (p : ℕ) (n : Node) (there : slice_get (nodes_in c) p ≡ Some n) where
+module _ (c : NodeWorld) (led : IsLed c) (p : ℕ) (n : Node) (there : slice_get (nodes_in c) p ≡ Some n) where
   abbrev w : WorldAt Place Program
   w = world_in c
 
@@ -99,11 +99,11 @@ none_due_by file v p event (Some u) is none =
     let l = step_lined (play_of file) max v p event u is in
     let e = sym l.1 ∙ none in absurd (cc e)
 
-pub none_due_so : (c : Course) (p : ℕ) (event : rules.Event) → due (play_of (file_in c)) max (world_in c) p event ≡ None → happens (play_of (file_in c)) max (world_in c) p event ≡ None
+pub none_due_so : (c : NodeWorld) (p : ℕ) (event : rules.Event) → due (play_of (file_in c)) max (world_in c) p event ≡ None → happens (play_of (file_in c)) max (world_in c) p event ≡ None
 none_due_so c p event none = none_due_by (file_in c) (world_in c) p event (happens (play_of (file_in c)) max (world_in c) p event) refl none
 
 -- where there is no step, none is due
-pub no_step_due : (c : Course) (p : ℕ) (event : rules.Event) → happens (play_of (file_in c)) max (world_in c) p event ≡ None → due (play_of (file_in c)) max (world_in c) p event ≡ None
+pub no_step_due : (c : NodeWorld) (p : ℕ) (event : rules.Event) → happens (play_of (file_in c)) max (world_in c) p event ≡ None → due (play_of (file_in c)) max (world_in c) p event ≡ None
 no_step_due c p event none = ap (option_and_then (line_after (play_of (file_in c)) (world_in c) p event)) none
 
 none_at : {A B : Type 0} → (f : A → B) (o : Option A) (x : Option B) → x ≡ option_map f o → x ≡ None → o ≡ None
@@ -111,12 +111,12 @@ none_at f None x is none = refl
 none_at f (Some a) x is none = let e : Some (f a) ≡ None = sym is ∙ none in absurd (cc e)
 
 -- no line of an event that is abroad
-pub abroad_due : (c : Course) → IsLed c → (p : ℕ) (event : Event) → IsAbroad p event (length (nodes_in c)) → due (play_of (file_in c)) max (world_in c) p (event_at event) ≡ None
+pub abroad_due : (c : NodeWorld) → IsLed c → (p : ℕ) (event : Event) → IsAbroad p event (length (nodes_in c)) → due (play_of (file_in c)) max (world_in c) p (event_at event) ≡ None
 abroad_due c led p events.Act out = no_step_due c p rules.Act (ap (option_map (after_event (world_in c) p (((world_in c).nodes p).clock + 1) (world_in c).lanes)) (idle_outside c led p out))
 abroad_due c led p (events.Deliver q) out = no_step_due c p (rules.Deliver q) (ap (delivery_of (play_of (file_in c)) max (world_in c) p q) (empty_outside c led q p (elim out [ inl le ↦ inr le | inr le ↦ inl le ])))
 
 -- the clock of a front is below 2^62
-pub low_arrival : (c : Course) → IsLed c → (p q : ℕ) (giver : Node) → slice_get (nodes_in c) q ≡ Some giver → (f : FrameAt Spot) (rest : List (FrameAt Spot)) → waiting_in (outs_of giver) p ≡ f ∷ rest → f.clock < 4611686018427387904
+pub low_arrival : (c : NodeWorld) → IsLed c → (p q : ℕ) (giver : Node) → slice_get (nodes_in c) q ≡ Some giver → (f : FrameAt Spot) (rest : List (FrameAt Spot)) → waiting_in (outs_of giver) p ≡ f ∷ rest → f.clock < 4611686018427387904
 low_arrival c led p q giver origin f rest front =
     low_front c led p q (frame_with (place_in giver.table) f) (map (frame_with (place_in giver.table)) rest)
     (ap (λ o. box_or o p) origin ∙ ap (map (frame_with (place_in giver.table))) front)

@@ -1,4 +1,4 @@
--- Lists of events that begin by what a course did.
+-- Lists of events that begin by what a world of nodes did.
 use Rattle.std.proofs.Common.{◌≡◌, ℕ, suc, ◌+◌, ◌-◌, ◌<◌, List, ◌∷◌, ◌++◌, map, Result, Ok, Err, ap, sym, ◌∙◌, subst, append_assoc, arith}
 use Rattle.std.specs.Prelude.{OnErr}
 use Rattle.std.proofs.lemmas.List.{map-append}
@@ -7,8 +7,8 @@ use Rattle.sj_semantics.specs.Program.{Program}
 use Rattle.sj_rules.specs.Drain.{numbers_from}
 use Rattle.sj_rules.specs.History.{turn_of}
 use Rattle.sj_rules.specs.World.{Turn, WorldAt}
-use Rattle.sj_core.specs.declared.course.Course.{Course}
-use Rattle.sj_core.specs.Course.{history_in, world_in}
+use Rattle.sj_core.specs.declared.node_world.NodeWorld.{NodeWorld}
+use Rattle.sj_core.specs.NodeWorld.{history_in, world_in}
 use Rattle.sj_core.specs.Draining.{Anything, BreaksOff, GoesBy, GoesFirst, Leads, Leaves}
 
 -- the relation fixes the list and where it leads
@@ -30,7 +30,7 @@ or_err (Ok x) h = tt
 or_err (Err e) h = h
 
 -- one after the other
-pub left_on : (R S T : Leads) (c d e : Course) → Leaves R S c d → Leaves S T d e → Leaves R T c e
+pub left_on : (R S T : Leads) (c d e : NodeWorld) → Leaves R S c d → Leaves S T d e → Leaves R T c e
 left_on R S T c d e a b = record {
   lines = a.lines ++ b.lines;
   listed = b.listed ∙ ap (λ t. t ++ b.lines) a.listed ∙ append_assoc (history_in c) a.lines b.lines;
@@ -47,7 +47,7 @@ left_on R S T c d e a b = record {
 }
 
 -- the first was done
-pub next_of : (First Then Whole : Leads) (d e : Course) → Once First → Opens First Then Whole → GoesBy First d e → Leaves Whole Then d e
+pub next_of : (First Then Whole : Leads) (d e : NodeWorld) → Once First → Opens First Then Whole → GoesBy First d e → Leaves Whole Then d e
 next_of First Then Whole d e once opens g = record {
   lines = g.lines;
   listed = g.listed;
@@ -60,7 +60,7 @@ next_of First Then Whole d e once opens g = record {
 }
 
 -- the first broke off
-pub first_of : (First Then Whole : Leads) (d e : Course) → Opens First Then Whole → GoesFirst First d e → GoesFirst Whole d e
+pub first_of : (First Then Whole : Leads) (d e : NodeWorld) → Opens First Then Whole → GoesFirst First d e → GoesFirst Whole d e
 first_of First Then Whole d e opens b = record {
   lines = b.lines;
   listed = b.listed;
@@ -78,19 +78,19 @@ numbers_left n k lt = let e : n - k ≡ suc (n - (k + 1)) = omega (arith, lt) in
 
 module _ (One : ℕ → Leads) (Each : List ℕ → Leads) (once : (k : ℕ) → Once (One k)) (opens : (k : ℕ) (ks : List ℕ) → Opens (One k) (Each ks) (Each (k ∷ ks))) where
   -- one of them more
-  pub next_each : (R : Leads) (c d e : Course) (n k : ℕ) → k < n → Leaves R (Each (numbers_from k (n - k))) c d → GoesBy (One k) d e → Leaves R (Each (numbers_from (k + 1) (n - (k + 1)))) c e
+  pub next_each : (R : Leads) (c d e : NodeWorld) (n k : ℕ) → k < n → Leaves R (Each (numbers_from k (n - k))) c d → GoesBy (One k) d e → Leaves R (Each (numbers_from (k + 1) (n - (k + 1)))) c e
   next_each R c d e n k lt a g =
       let ks = numbers_from (k + 1) (n - (k + 1)) in
       left_on R (Each (k ∷ ks)) (Each ks) c d e (subst (λ (qs : List ℕ). Leaves R (Each qs) c d) (numbers_left n k lt) a) (next_of (One k) (Each ks) (Each (k ∷ ks)) d e (once k) (opens k ks) g)
 
   -- it broke off
-  pub first_each : (R : Leads) (c d e : Course) (n k : ℕ) → k < n → Leaves R (Each (numbers_from k (n - k))) c d → GoesFirst (One k) d e → GoesFirst R c e
+  pub first_each : (R : Leads) (c d e : NodeWorld) (n k : ℕ) → k < n → Leaves R (Each (numbers_from k (n - k))) c d → GoesFirst (One k) d e → GoesFirst R c e
   first_each R c d e n k lt a b =
       let ks = numbers_from (k + 1) (n - (k + 1)) in
       left_on R (Each (k ∷ ks)) Anything c d e (subst (λ (qs : List ℕ). Leaves R (Each qs) c d) (numbers_left n k lt) a) (first_of (One k) (Each ks) (Each (k ∷ ks)) d e (opens k ks) b)
 
 -- where there is such a list it is the whole
-pub broken_off : (R : Leads) (c e : Course) → GoesFirst R c e → (more : List Turn) × (last : WorldAt Place Program) × R (world_in c) more last → BreaksOff R c e
+pub broken_off : (R : Leads) (c e : NodeWorld) → GoesFirst R c e → (more : List Turn) × (last : WorldAt Place Program) × R (world_in c) more last → BreaksOff R c e
 broken_off R c e b all =
     let x = b.rest_of all.0 all.1 all.2 in
     record { lines = b.lines; listed = b.listed; rest = x.0; last = all.1; by = subst (λ (ts : List Turn). R (world_in c) ts all.1) x.1.0 all.2 }

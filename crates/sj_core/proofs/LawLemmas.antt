@@ -22,8 +22,8 @@ use Rattle.sj_rules_laws.proofs.DrainRunLemmas.{run_drains}
 use Rattle.sj_rules_laws.proofs.LawfulLemmas.{run_is_lawful}
 use Rattle.sj_rules_laws.proofs.LimitLemmas.{core_run_clocks, run_front_fits, run_front_arrives}
 use Rattle.sj_rules_laws.proofs.ShortRunLemmas.{runs_are_short}
-use Rattle.sj_core.specs.declared.course.Course.{Course}
-use Rattle.sj_core.specs.Course.{IsLed, file_in, nodes_in, world_in}
+use Rattle.sj_core.specs.declared.node_world.NodeWorld.{NodeWorld}
+use Rattle.sj_core.specs.NodeWorld.{IsLed, file_in, nodes_in, world_in}
 use Rattle.sj_core.specs.Nodes.{node_or}
 use Rattle.sj_node.specs.declared.node.Node.{Node}
 use Rattle.sj_node.specs.Node.{clock_of}
@@ -35,7 +35,7 @@ none_either : {X : Type 0} (b : Bool) → ◌≡◌ {A = Option X} (if b then No
 none_either true = refl
 none_either false = refl
 
-module _ (c : Course) (led : IsLed c) where
+module _ (c : NodeWorld) (led : IsLed c) where
   abbrev file : FileAt
   file = led.accepted.file
 
@@ -130,7 +130,7 @@ module _ (c : Course) (led : IsLed c) where
       omega (arith, few, low)
 
 -- so does that of a node
-pub low_node : (c : Course) → IsLed c → (p : ℕ) (n : Node) → slice_get (nodes_in c) p ≡ Some n → clock_of n < 4611686018427387904
+pub low_node : (c : NodeWorld) → IsLed c → (p : ℕ) (n : Node) → slice_get (nodes_in c) p ≡ Some n → clock_of n < 4611686018427387904
 low_node c led p n there =
     let same : ((world_in c).nodes p).clock ≡ clock_of n = ap (λ o. (node_or (first_node (file_in c) p) o).clock) there in
     let low = low_clock c led p in omega (arith, same, low)

@@ -22,3 +22,11 @@ pub mod StepLemmas
 pub mod StopLemmas
 pub mod TakenLemmas
 pub mod UnfitLemmas
+pub mod HeadLemmas
+pub mod JoinLemmas
+pub mod LogLemmas
+pub mod MergeLemmas
+pub mod MergeStepLemmas
+pub mod NextLemmas
+pub mod OneLogLemmas
+pub mod OrderLemmas

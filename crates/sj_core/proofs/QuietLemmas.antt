@@ -15,8 +15,8 @@ use Rattle.sj_node.specs.Node.{due_if, due_of, stop_of}
 use Rattle.sj_node.specs.Outs.{waiting_in}
 use Rattle.sj_node.specs.Reading.{outs_of}
 use Rattle.sj_end.specs.declared.note.Entry.{Entry}
-use Rattle.sj_core.specs.declared.course.Course.{Course}
-use Rattle.sj_core.specs.Course.{IsLed, file_in, nodes_in, world_in}
+use Rattle.sj_core.specs.declared.node_world.NodeWorld.{NodeWorld}
+use Rattle.sj_core.specs.NodeWorld.{IsLed, file_in, nodes_in, world_in}
 use Rattle.sj_core.specs.Nodes.{box_or}
 use Rattle.sj_core.specs.Quiet.{IsIdleAmong}
 use Rattle.sj_core.proofs.StopLemmas.{none_where, stopped}
@@ -24,7 +24,7 @@ use Rattle.sj_core.proofs.StopLemmas.{none_where, stopped}
 none_if : (o : Option Halt) (k : Halt) (e : Entry) → o ≡ Some k → due_if o e ≡ None
 none_if o k e is = ap (λ (x : Option Halt). due_if x e) is
 
-module _ (c : Course) (led : IsLed c) (p : ℕ) (n : Node) (there : slice_get (nodes_in c) p ≡ Some n) where
+module _ (c : NodeWorld) (led : IsLed c) (p : ℕ) (n : Node) (there : slice_get (nodes_in c) p ≡ Some n) where
   none_by : (o : Option Halt) (e : Entry) → stop_of n ≡ o → due_if o e ≡ None → acts (play_of (file_in c)) p ((world_in c).nodes p) ≡ None
   none_by None e stop none = absurd (cc none)
   none_by (Some k) e stop none = none_where c led p n there k stop
@@ -36,7 +36,7 @@ module _ (c : Course) (led : IsLed c) (p : ℕ) (n : Node) (there : slice_get (n
   pub due_of_still : acts (play_of (file_in c)) p ((world_in c).nodes p) ≡ None → due_of n ≡ None
   due_of_still none = let s = stopped c led p n there none in none_if (stop_of n) s.0 _ s.1
 
-module _ (c : Course) (q : ℕ) (giver : Node) (origin : slice_get (nodes_in c) q ≡ Some giver) (p : ℕ) where
+module _ (c : NodeWorld) (q : ℕ) (giver : Node) (origin : slice_get (nodes_in c) q ≡ Some giver) (p : ℕ) where
   lane_as : (fs : List (FrameAt Spot)) → waiting_in (outs_of giver) p ≡ fs → (world_in c).lanes q p ≡ map (frame_with (place_in giver.table)) fs
   lane_as fs is = ap (λ o. box_or o p) origin ∙ ap (map (frame_with (place_in giver.table))) is
 
@@ -49,18 +49,18 @@ module _ (c : Course) (q : ℕ) (giver : Node) (origin : slice_get (nodes_in c) 
   filled_as f rest is none = let e = sym (lane_as (f ∷ rest) is) ∙ none in cc e
 
 -- nothing is left to do where no party has anything to do
-pub all_idle : (c : Course) → ((p : ℕ) → p < length (nodes_in c) → IsIdleAmong (play_of (file_in c)) (length (nodes_in c)) (world_in c) p) → IsQuietAmong (play_of (file_in c)) (length (nodes_in c)) (world_in c)
+pub all_idle : (c : NodeWorld) → ((p : ℕ) → p < length (nodes_in c) → IsIdleAmong (play_of (file_in c)) (length (nodes_in c)) (world_in c) p) → IsQuietAmong (play_of (file_in c)) (length (nodes_in c)) (world_in c)
 all_idle c idle = record { empty = λ from to lf lt. (idle to lt).empty from lf; still = λ p lt. (idle p lt).still }
 
-pub one_idle : (c : Course) (p : ℕ) → p < length (nodes_in c) → IsQuietAmong (play_of (file_in c)) (length (nodes_in c)) (world_in c) → IsIdleAmong (play_of (file_in c)) (length (nodes_in c)) (world_in c) p
+pub one_idle : (c : NodeWorld) (p : ℕ) → p < length (nodes_in c) → IsQuietAmong (play_of (file_in c)) (length (nodes_in c)) (world_in c) → IsIdleAmong (play_of (file_in c)) (length (nodes_in c)) (world_in c) p
 one_idle c p lt quiet = record { empty = λ from lf. quiet.empty from p lf lt; still = quiet.still p lt }
 
 -- one lane more is empty
-pub lane_next : (c : Course) (p k : ℕ) → ((q : ℕ) → q < k → (world_in c).lanes q p ≡ []) → (world_in c).lanes k p ≡ [] → (q : ℕ) → q < k + 1 → (world_in c).lanes q p ≡ []
+pub lane_next : (c : NodeWorld) (p k : ℕ) → ((q : ℕ) → q < k → (world_in c).lanes q p ≡ []) → (world_in c).lanes k p ≡ [] → (q : ℕ) → q < k + 1 → (world_in c).lanes q p ≡ []
 lane_next c p k before here q lt = elim (cases_lt q k) [ inl below ↦ before q below | inr above ↦ ap (λ t. (world_in c).lanes t p) (let e : q ≡ k = omega (arith, lt, above) in e) ∙ here ]
 
 -- one party more has nothing to do
-pub idle_next : (c : Course) (k : ℕ) → ((p : ℕ) → p < k → IsIdleAmong (play_of (file_in c)) (length (nodes_in c)) (world_in c) p) → IsIdleAmong (play_of (file_in c)) (length (nodes_in c)) (world_in c) k
+pub idle_next : (c : NodeWorld) (k : ℕ) → ((p : ℕ) → p < k → IsIdleAmong (play_of (file_in c)) (length (nodes_in c)) (world_in c) p) → IsIdleAmong (play_of (file_in c)) (length (nodes_in c)) (world_in c) k
     → (p : ℕ) → p < k + 1 → IsIdleAmong (play_of (file_in c)) (length (nodes_in c)) (world_in c) p
 idle_next c k before here p lt =
     elim (cases_lt p k) [

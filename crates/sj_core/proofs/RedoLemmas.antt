@@ -10,10 +10,10 @@ use Rattle.sj_rules.specs.Party.{play_of}
 use Rattle.sj_rules.specs.Start.{core_start}
 use Rattle.sj_rules.specs.World.{happens}
 use Rattle.sj_node.specs.declared.node.Node.{Node}
-use Rattle.sj_core.specs.declared.course.Course.{Course}
+use Rattle.sj_core.specs.declared.node_world.NodeWorld.{NodeWorld}
 use Rattle.sj_core.specs.declared.refusal.ReplayRefusal.{ReplayRefusal}
 use Rattle.sj_core.specs.declared.refusal.ReplayRefusal.TheVariants as refusals
-use Rattle.sj_core.specs.Course.{IsLed, IsOfAccepted, IsReached, Redoes, Steps, file_in, history_in, nodes_in, world_in}
+use Rattle.sj_core.specs.NodeWorld.{IsLed, IsOfAccepted, IsReached, Redoes, Steps, file_in, history_in, nodes_in, world_in}
 use Rattle.sj_core.specs.Nodes.{AreSeated, Moves, world_by}
 use Rattle.sj_core.specs.Replaying.{IsMisfitFrom, IsMisfitHere}
 use Rattle.sj_core.specs.Views.{event_at, line_at}
@@ -22,12 +22,12 @@ use Rattle.sj_core.proofs.ReachedLemmas.{led}
 use Rattle.sj_core.proofs.ReplayLemmas.{next_taken, split_there}
 
 -- those lines lead to the world
-pub record IsLedBy (c : Course) (lines : List LineAt) : Type 0 where
+pub record IsLedBy (c : NodeWorld) (lines : List LineAt) : Type 0 where
   pub led : IsLed c
   pub past : led.past ≡ lines
 
 -- the event of the line that is due
-pub redoes : (c d : Course) (l : Line) (e : Entry) → Moves (file_in c) (nodes_in c) l.party l.entry.event e (nodes_in d) → file_in d ≡ file_in c
+pub redoes : (c d : NodeWorld) (l : Line) (e : Entry) → Moves (file_in c) (nodes_in c) l.party l.entry.event e (nodes_in d) → file_in d ≡ file_in c
     → due (play_of (file_in c)) max (world_in c) l.party (event_at l.entry.event) ≡ Some (line_at l) → Redoes c (line_at l) d
 redoes c d l e moves file is = record {
   step = moves.step ∙ (λ i. Some (world_by (sym file i) (nodes_in d)));
@@ -38,7 +38,7 @@ redoes c d l e moves file is = record {
 
 -- ---- listed at once
 
-module _ (c a b d : Course) (l : LineAt) (redone : Redoes a l b) (before : file_in a ≡ file_in c) (begun : world_in a ≡ world_in c) (after : file_in d ≡ file_in b) (ended : nodes_in d ≡ nodes_in b)
+module _ (c a b d : NodeWorld) (l : LineAt) (redone : Redoes a l b) (before : file_in a ≡ file_in c) (begun : world_in a ≡ world_in c) (after : file_in d ≡ file_in b) (ended : nodes_in d ≡ nodes_in b)
     (listed : history_in d ≡ history_in c ++ l ∷ []) where
   pub listed_so : Steps c l d
   listed_so = record {
@@ -61,7 +61,7 @@ module _ (c a b d : Course) (l : LineAt) (redone : Redoes a l b) (before : file_
       }
 
 -- what is no misfit of the one is none of the other
-pub misfit_same : (a c : Course) (number : ℕ) (line : Line) (r : ReplayRefusal) → file_in a ≡ file_in c → world_in a ≡ world_in c → IsMisfitHere a number line r → IsMisfitHere c number line r
+pub misfit_same : (a c : NodeWorld) (number : ℕ) (line : Line) (r : ReplayRefusal) → file_in a ≡ file_in c → world_in a ≡ world_in c → IsMisfitHere a number line r → IsMisfitHere c number line r
 misfit_same a c number line (refusals.Misfit other) file world m = record {
   number_is = m.number_is;
   line_is = m.line_is;
@@ -73,11 +73,11 @@ misfit_same a c number line refusals.NoMemory file world m = tt
 -- ---- listed at the end
 
 -- nothing is done
-pub led_first : (c : Course) (lines : List Line) → IsReached c → history_in c ≡ [] → IsLedBy c (map line_at (take 0 lines))
+pub led_first : (c : NodeWorld) (lines : List Line) → IsReached c → history_in c ≡ [] → IsLedBy c (map line_at (take 0 lines))
 led_first c lines reached none = record { led = led c reached; past = none }
 
 -- the next line is done
-pub led_next : (c d : Course) (lines : List Line) (k : ℕ) (x : Line) → k < length lines → IsLedBy c (map line_at (take k lines)) → Redoes c (line_at (get_or lines k x)) d
+pub led_next : (c d : NodeWorld) (lines : List Line) (k : ℕ) (x : Line) → k < length lines → IsLedBy c (map line_at (take k lines)) → Redoes c (line_at (get_or lines k x)) d
     → IsLedBy d (map line_at (take (k + 1) lines))
 led_next c d lines k x lt by redone =
     let l : LineAt = line_at (get_or lines k x) in
@@ -94,7 +94,7 @@ led_next c d lines k x lt by redone =
     }
 
 -- the next line isn't the one that is due
-pub misfit_from : (c : Course) (file : FileAt) (lines : List Line) (k number : ℕ) (x : Line) (r : ReplayRefusal) → file_in c ≡ file → k < length lines → number ≡ k + 1
+pub misfit_from : (c : NodeWorld) (file : FileAt) (lines : List Line) (k number : ℕ) (x : Line) (r : ReplayRefusal) → file_in c ≡ file → k < length lines → number ≡ k + 1
     → IsLedBy c (map line_at (take k lines)) → IsMisfitHere c number (get_or lines k x) r → IsMisfitFrom file (map line_at lines) r
 misfit_from c file lines k number x (refusals.Misfit other) same lt count by here = record {
   before = map line_at (take k lines);
@@ -113,7 +113,7 @@ misfit_from c file lines k number x (refusals.Misfit other) same lt count by her
 misfit_from c file lines k number x refusals.NoMemory same lt count by here = tt
 
 -- all lines are done, and become the history
-pub reached_last : (c d : Course) (lines : List Line) (k : ℕ) → length lines ≤ k → IsLedBy c (map line_at (take k lines)) → file_in d ≡ file_in c → nodes_in d ≡ nodes_in c → history_in d ≡ map line_at lines → IsReached d
+pub reached_last : (c d : NodeWorld) (lines : List Line) (k : ℕ) → length lines ≤ k → IsLedBy c (map line_at (take k lines)) → file_in d ≡ file_in c → nodes_in d ≡ nodes_in c → history_in d ≡ map line_at lines → IsReached d
 reached_last c d lines k all by file nodes history =
     let past : by.led.past ≡ history_in d = by.past ∙ ap (map line_at) (take_all k lines all) ∙ sym history in
     record {

@@ -7,20 +7,20 @@ use Rattle.sj_rules.specs.History.{IsLog, due}
 use Rattle.sj_rules.specs.Log.{LineAt}
 use Rattle.sj_rules.specs.Party.{play_of}
 use Rattle.sj_rules.specs.World.{happens}
-use Rattle.sj_core.specs.declared.course.Course.{Course}
+use Rattle.sj_core.specs.declared.node_world.NodeWorld.{NodeWorld}
 use Rattle.sj_core.specs.declared.refusal.ReplayRefusal.{ReplayRefusal}
 use Rattle.sj_core.specs.declared.refusal.ReplayRefusal.TheVariants as refusals
-use Rattle.sj_core.specs.Course.{StaysIn, Steps, file_in, history_in, world_in}
+use Rattle.sj_core.specs.NodeWorld.{StaysIn, Steps, file_in, history_in, world_in}
 use Rattle.sj_core.specs.Replaying.{Follows, IsMisfitHere, IsRefusedSo}
 use Rattle.sj_core.specs.Views.{line_at}
 use Rattle.sj_core.proofs.HistoryLemmas.{log_more}
 
 -- nothing done
-pub follows_none : (c : Course) → Follows c [] c
+pub follows_none : (c : NodeWorld) → Follows c [] c
 follows_none c = record { log = refl; listed = sym (Rattle.std.proofs.Common.append-nil (history_in c)) }
 
 -- one line more
-pub follows_more : (c d e : Course) (lines : List LineAt) (l : LineAt) → file_in d ≡ file_in c → Follows c lines d → Steps d l e → Follows c (lines ++ l ∷ []) e
+pub follows_more : (c d e : NodeWorld) (lines : List LineAt) (l : LineAt) → file_in d ≡ file_in c → Follows c lines d → Steps d l e → Follows c (lines ++ l ∷ []) e
 follows_more c d e lines l file follows steps = record {
   log =
       log_more (play_of (file_in c)) max (world_in c) (world_in d) (world_in e) lines l follows.log
@@ -38,20 +38,20 @@ pub next_taken : (lines : List Line) (k : ℕ) (d : Line) → k < length lines �
 next_taken lines k d lt = ap (λ n. map line_at (take n lines)) (add-one k) ∙ ap (map line_at) (take-suc lines k d lt) ∙ map-append line_at (take k lines) (get_or lines k d ∷ [])
 
 -- the next of some lines
-pub follows_next : (c d e : Course) (lines : List Line) (k : ℕ) (l : Line) → file_in d ≡ file_in c → k < length lines → Follows c (map line_at (take k lines)) d → Steps d (line_at (get_or lines k l)) e
+pub follows_next : (c d e : NodeWorld) (lines : List Line) (k : ℕ) (l : Line) → file_in d ≡ file_in c → k < length lines → Follows c (map line_at (take k lines)) d → Steps d (line_at (get_or lines k l)) e
     → Follows c (map line_at (take (k + 1) lines)) e
 follows_next c d e lines k l file lt follows steps =
     subst (λ (t : List LineAt). Follows c t e) (sym (next_taken lines k l lt)) (follows_more c d e (map line_at (take k lines)) (line_at (get_or lines k l)) file follows steps)
 
 -- what is done, after nothing more
-follows_still : (c d e : Course) (lines : List LineAt) → Follows c lines d → StaysIn d e → Follows c lines e
+follows_still : (c d e : NodeWorld) (lines : List LineAt) → Follows c lines d → StaysIn d e → Follows c lines e
 follows_still c d e lines follows stays = record {
   log = subst (λ w. IsLog (play_of (file_in c)) max (world_in c) lines w) (sym stays.world) follows.log;
   listed = stays.history ∙ follows.listed;
 }
 
 -- the line that is refused, among all of them
-pub refused_at : (c d e : Course) (lines : List Line) (k number : ℕ) (l : Line) (r : ReplayRefusal) → file_in d ≡ file_in c → k < length lines → number ≡ k + 1
+pub refused_at : (c d e : NodeWorld) (lines : List Line) (k number : ℕ) (l : Line) (r : ReplayRefusal) → file_in d ≡ file_in c → k < length lines → number ≡ k + 1
     → Follows c (map line_at (take k lines)) d → IsMisfitHere d number (get_or lines k l) r → StaysIn d e → IsRefusedSo c lines r e
 refused_at c d e lines k number l (refusals.Misfit other) file lt count follows here stays = record {
   misfit = record {

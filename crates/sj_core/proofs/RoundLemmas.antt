@@ -10,8 +10,8 @@ use Rattle.sj_rules.specs.Log.{LineAt}
 use Rattle.sj_rules.specs.Node.{Play}
 use Rattle.sj_rules.specs.Party.{play_of}
 use Rattle.sj_rules.specs.World.{Turn, WorldAt}
-use Rattle.sj_core.specs.declared.course.Course.{Course}
-use Rattle.sj_core.specs.Course.{IsReached, file_in, history_in, nodes_in, world_in}
+use Rattle.sj_core.specs.declared.node_world.NodeWorld.{NodeWorld}
+use Rattle.sj_core.specs.NodeWorld.{IsReached, file_in, history_in, nodes_in, world_in}
 use Rattle.sj_core.specs.Draining.{ActsOut, Ahead, Empties, EmptiesEach, GoesBy, IsDrained, IsRound, Leads, TakeTurns, TakesTurn, events_left}
 use Rattle.sj_rules_laws.proofs.DrainEndLemmas.{drained_is_quiet}
 use Rattle.sj_core.proofs.LawLemmas.{short}
@@ -49,14 +49,14 @@ on_ok (Ok x) f h = f h
 on_ok (Err e) f h = h
 
 -- one after the other
-joined : (R S T : Leads) (c d e : Course) → ((ts us : List Turn) → R (world_in c) ts (world_in d) → S (world_in d) us (world_in e) → T (world_in c) (ts ++ us) (world_in e)) → GoesBy R c d → GoesBy S d e → GoesBy T c e
+joined : (R S T : Leads) (c d e : NodeWorld) → ((ts us : List Turn) → R (world_in c) ts (world_in d) → S (world_in d) us (world_in e) → T (world_in c) (ts ++ us) (world_in e)) → GoesBy R c d → GoesBy S d e → GoesBy T c e
 joined R S T c d e f a b = record {
   lines = a.lines ++ b.lines;
   listed = b.listed ∙ ap (λ t. t ++ b.lines) a.listed ∙ append_assoc (history_in c) a.lines b.lines;
   by = subst (λ (us : List Turn). T (world_in c) us (world_in e)) (sym (map-append turn_of a.lines b.lines)) (f (map turn_of a.lines) (map turn_of b.lines) a.by b.by);
 }
 
-pub goes_each : (c d e : Course) (p k : ℕ) → file_in d ≡ file_in c → GoesBy (EmptiesEach c p (numbers_from 0 k)) c d → GoesBy (Empties d p k) d e → GoesBy (EmptiesEach c p (numbers_from 0 (k + 1))) c e
+pub goes_each : (c d e : NodeWorld) (p k : ℕ) → file_in d ≡ file_in c → GoesBy (EmptiesEach c p (numbers_from 0 k)) c d → GoesBy (Empties d p k) d e → GoesBy (EmptiesEach c p (numbers_from 0 (k + 1))) c e
 goes_each c d e p k file a b =
     subst (λ (qs : List ℕ). GoesBy (EmptiesEach c p qs) c e) (sym (numbers_more k))
     (joined (EmptiesEach c p (numbers_from 0 k)) (Empties d p k) (EmptiesEach c p (numbers_from 0 k ++ k ∷ [])) c d e
@@ -64,13 +64,13 @@ goes_each c d e p k file a b =
     (subst (λ (f : FileAt). drain.Empties (play_of f) max p k (world_in d) us (world_in e)) file s))
     a b)
 
-pub takes_turn : (c d e : Course) (n p : ℕ) → file_in d ≡ file_in c → GoesBy (EmptiesEach c p (numbers_from 0 n)) c d → GoesBy (ActsOut d p) d e → GoesBy (TakesTurn c n p) c e
+pub takes_turn : (c d e : NodeWorld) (n p : ℕ) → file_in d ≡ file_in c → GoesBy (EmptiesEach c p (numbers_from 0 n)) c d → GoesBy (ActsOut d p) d e → GoesBy (TakesTurn c n p) c e
 takes_turn c d e n p file a b =
     joined (EmptiesEach c p (numbers_from 0 n)) (ActsOut d p) (TakesTurn c n p) c d e
     (λ ts us r s. (ts, (us, (world_in d, (refl, r, subst (λ (f : FileAt). drain.ActsOut (play_of f) max p (world_in d) us (world_in e)) file s)))))
     a b
 
-pub goes_turn : (c d e : Course) (n m k : ℕ) → file_in d ≡ file_in c → m ≡ n → GoesBy (TakeTurns c n (numbers_from 0 k)) c d → GoesBy (TakesTurn d m k) d e → GoesBy (TakeTurns c n (numbers_from 0 (k + 1))) c e
+pub goes_turn : (c d e : NodeWorld) (n m k : ℕ) → file_in d ≡ file_in c → m ≡ n → GoesBy (TakeTurns c n (numbers_from 0 k)) c d → GoesBy (TakesTurn d m k) d e → GoesBy (TakeTurns c n (numbers_from 0 (k + 1))) c e
 goes_turn c d e n m k file count a b =
     subst (λ (qs : List ℕ). GoesBy (TakeTurns c n qs) c e) (sym (numbers_more k))
     (joined (TakeTurns c n (numbers_from 0 k)) (TakesTurn d m k) (TakeTurns c n (numbers_from 0 k ++ k ∷ [])) c d e
@@ -80,23 +80,23 @@ goes_turn c d e n m k file count a b =
     a b)
 
 -- a round, for the file and the parties of the beginning
-round_of : (c d e : Course) (n m : ℕ) (ts : List Turn) → file_in d ≡ file_in c → m ≡ n → IsRound d m (world_in d) ts (world_in e) → IsRound c n (world_in d) ts (world_in e)
+round_of : (c d e : NodeWorld) (n m : ℕ) (ts : List Turn) → file_in d ≡ file_in c → m ≡ n → IsRound d m (world_in d) ts (world_in e) → IsRound c n (world_in d) ts (world_in e)
 round_of c d e n m ts file count r =
     subst (λ (x : ℕ). drain.IsRound (play_of (file_in c)) max x (world_in d) ts (world_in e)) count
     (subst (λ (f : FileAt). drain.IsRound (play_of f) max m (world_in d) ts (world_in e)) file r)
 
-grown : (d e : Course) (lines : List LineAt) → history_in e ≡ history_in d ++ lines → length (history_in e) ≡ length (history_in d) + length lines
+grown : (d e : NodeWorld) (lines : List LineAt) → history_in e ≡ history_in d ++ lines → length (history_in e) ≡ length (history_in d) + length lines
 grown d e lines listed = ap length listed ∙ length-append (history_in d) lines
 
 -- a longer history has events
-pub has_turns : (d e : Course) (lines : List LineAt) → history_in e ≡ history_in d ++ lines → length (history_in d) < length (history_in e) → map turn_of lines ≢ []
+pub has_turns : (d e : NodeWorld) (lines : List LineAt) → history_in e ≡ history_in d ++ lines → length (history_in d) < length (history_in e) → map turn_of lines ≢ []
 has_turns d e lines listed more none =
     let size = grown d e lines listed in
     let zero_of : length lines ≡ 0 = sym (length-map lines turn_of) ∙ ap length none in
     absurd (omega (arith, size, zero_of, more))
 
 -- a round with an event
-pub ahead_round : (c d e : Course) (n m : ℕ) → file_in d ≡ file_in c → m ≡ n → Ahead (IsDrained c n) c d → GoesBy (IsRound d m) d e → length (history_in d) < length (history_in e) → Ahead (IsDrained c n) c e
+pub ahead_round : (c d e : NodeWorld) (n m : ℕ) → file_in d ≡ file_in c → m ≡ n → Ahead (IsDrained c n) c d → GoesBy (IsRound d m) d e → length (history_in d) < length (history_in e) → Ahead (IsDrained c n) c e
 ahead_round c d e n m file count a b more =
     let some = has_turns d e b.lines b.listed more in
     record {
@@ -113,7 +113,7 @@ nothing [] h = refl
 nothing (x ∷ xs) h = absurd (omega (arith, h))
 
 -- a round without an event
-pub drained : (c d e : Course) (n m : ℕ) → file_in d ≡ file_in c → m ≡ n → Ahead (IsDrained c n) c d → GoesBy (IsRound d m) d e → length (history_in e) ≡ length (history_in d) → GoesBy (IsDrained c n) c e
+pub drained : (c d e : NodeWorld) (n m : ℕ) → file_in d ≡ file_in c → m ≡ n → Ahead (IsDrained c n) c d → GoesBy (IsRound d m) d e → length (history_in e) ≡ length (history_in d) → GoesBy (IsDrained c n) c e
 drained c d e n m file count a b same =
     let size = grown d e b.lines b.listed in
     let none : b.lines ≡ [] = nothing b.lines (omega (arith, size, same)) in
@@ -125,11 +125,11 @@ drained c d e n m file count a b same =
     }
 
 -- a longer history leaves fewer events
-pub fewer_after : (d e : Course) → IsReached e → length (history_in d) < length (history_in e) → events_left e < events_left d
+pub fewer_after : (d e : NodeWorld) → IsReached e → length (history_in d) < length (history_in e) → events_left e < events_left d
 fewer_after d e reached more = let low = short e (led e reached) in omega (arith, low, more)
 
 -- a drain leaves nothing to do
-pub left_quiet : (c e : Course) (n : ℕ) → file_in e ≡ file_in c → length (nodes_in e) ≡ n → GoesBy (IsDrained c n) c e → IsQuietAmong (play_of (file_in e)) (length (nodes_in e)) (world_in e)
+pub left_quiet : (c e : NodeWorld) (n : ℕ) → file_in e ≡ file_in c → length (nodes_in e) ≡ n → GoesBy (IsDrained c n) c e → IsQuietAmong (play_of (file_in e)) (length (nodes_in e)) (world_in e)
 left_quiet c e n file count goes =
     subst (λ (m : ℕ). IsQuietAmong (play_of (file_in e)) m (world_in e)) (sym count)
     (subst (λ (f : FileAt). IsQuietAmong (play_of f) n (world_in e)) (sym file)

@@ -17,8 +17,8 @@ use Rattle.sj_node.specs.declared.refusal.Halt.TheVariants as halts
 use Rattle.sj_node.specs.Halts.{hold_up, names_awaited, stop_by, stop_wanting}
 use Rattle.sj_node.specs.Node.{act_of, offers_of, requests_of, spot_node, steps_of, stop_of, wants_of}
 use Rattle.sj_node.specs.Slots.{mains_in}
-use Rattle.sj_core.specs.declared.course.Course.{Course}
-use Rattle.sj_core.specs.Course.{IsLed, file_in, nodes_in, world_in}
+use Rattle.sj_core.specs.declared.node_world.NodeWorld.{NodeWorld}
+use Rattle.sj_core.specs.NodeWorld.{IsLed, file_in, nodes_in, world_in}
 use Rattle.sj_core.specs.Refusals.{IsStop}
 use Rattle.sj_core.proofs.HaltLemmas.{halted}
 use Rattle.sj_core.proofs.UnfitLemmas.{acts_here, here, never_unfit}
@@ -64,7 +64,7 @@ stop_is main requests offers steps wants.Ended h is = stop_if true halts.Ended h
 pub error_is : {T E : Type 0} → (x y : E) → ◌≡◌ {A = Result T E} (Err x) (Err y) → x ≡ y
 error_is x y h = cc h
 
-module _ (c : Course) (led : IsLed c) (p : ℕ) (n : Node) (there : slice_get (nodes_in c) p ≡ Some n) where
+module _ (c : NodeWorld) (led : IsLed c) (p : ℕ) (n : Node) (there : slice_get (nodes_in c) p ≡ Some n) where
   -- nothing stops it, or something other than want of memory does
   abbrev pub Stopped : Type 0
   Stopped = (k : Halt) × (stop_of n ≡ Some k) × IsStop k

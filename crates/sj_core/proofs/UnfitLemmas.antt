@@ -30,8 +30,8 @@ use Rattle.sj_node.specs.Reading.{party_of}
 use Rattle.sj_node.specs.Play.{HeadsAre, is_number, names_known, play_with}
 use Rattle.sj_node.specs.Slots.{look, main_at}
 use Rattle.sj_node.proofs.PlayLemmas.{acts_known, plays_file}
-use Rattle.sj_core.specs.declared.course.Course.{Course}
-use Rattle.sj_core.specs.Course.{IsLed, file_in, nodes_in, world_in}
+use Rattle.sj_core.specs.declared.node_world.NodeWorld.{NodeWorld}
+use Rattle.sj_core.specs.NodeWorld.{IsLed, file_in, nodes_in, world_in}
 use Rattle.sj_core.specs.Nodes.{IsSeated, node_or}
 use Rattle.sj_core.proofs.ActLemmas.{acts_freely}
 use Rattle.sj_core.proofs.LawLemmas.{run_of}
@@ -126,7 +126,7 @@ module _ (file : FileAt) (accepted : IsAccepted file) (turns : List Turn) (core 
       cc e
 
 -- a node of such a world is one
-module _ (c : Course) (led : IsLed c) (p : ℕ) (n : Node) (there : slice_get (nodes_in c) p ≡ Some n) where
+module _ (c : NodeWorld) (led : IsLed c) (p : ℕ) (n : Node) (there : slice_get (nodes_in c) p ≡ Some n) where
   abbrev file : FileAt
   file = led.accepted.file
 

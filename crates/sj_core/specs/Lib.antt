@@ -1,8 +1,11 @@
 pub mod Views
 pub mod Refusals
 pub mod Nodes
-pub mod Course
+pub mod NodeWorld
 pub mod Quiet
 pub mod World
 pub mod Replaying
 pub mod Draining
+pub mod Heads
+pub mod Logs
+pub mod Merged

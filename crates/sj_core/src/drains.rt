@@ -9,12 +9,12 @@ ghost use Rattle.sj_rules.specs.Party.{play_of};
 ghost use Rattle.sj_rules.specs.World.{happens};
 
 use crate::StepRefusal;
-use crate::course::Course;
+use crate::node_world::NodeWorld;
 use sj_base::NoMemory;
 use sj_end::Event;
 
-impl Course {
-    ghost use Rattle.sj_core.specs.Course.{IsReached, StaysIn, file_in, history_in, nodes_in, world_in};
+impl NodeWorld {
+    ghost use Rattle.sj_core.specs.NodeWorld.{IsReached, StaysIn, file_in, history_in, nodes_in, world_in};
 
     /// Tries an event. Answers whether it was a step.
     fn tries(&mut self, party: u16, event: Event) -> Result<bool, NoMemory>

@@ -7,11 +7,11 @@ ghost use Rattle.sj_end.specs.declared.note.Event.TheVariants as events;
 ghost use Rattle.sj_rules.specs.History.{IsQuiescent, IsQuietAmong, due};
 ghost use Rattle.sj_rules.specs.Party.{play_of};
 
-use crate::course::Course;
+use crate::node_world::NodeWorld;
 use sj_end::{Entry, Event, Line, note_of};
 
-impl Course {
-    ghost use Rattle.sj_core.specs.Course.{IsLed, file_in, nodes_in, world_in};
+impl NodeWorld {
+    ghost use Rattle.sj_core.specs.NodeWorld.{IsLed, file_in, nodes_in, world_in};
 
     /// The entry of the delivery of the front frame of the lane from that party.
     fn arrival(&self, party: u16, from: u16) -> Option<Entry>

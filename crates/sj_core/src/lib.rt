@@ -1,15 +1,20 @@
-//! The core world: a file's nodes with the lanes between them, one event at a time.
+//! The core world: a file's nodes with the lanes between them, one event at a time; and logs of parties joined into one list
+//! of lines.
 #![tactic(auto)]
 
-mod course;
 mod drains;
 mod entries;
+mod heads;
+mod joins;
+mod merges;
+mod node_world;
 mod refusal;
 mod replays;
 mod sameness;
 mod starts;
 mod world;
 
+pub use joins::{join_logs, merge_in};
 pub use refusal::{ReplayRefusal, StepRefusal};
 pub use replays::is_the_line;
 pub use starts::first_nodes;

@@ -1,13 +1,16 @@
 //! Lines that were logged, done again one by one.
-ghost use Rattle.std.specs.Prelude.{◌≡◌, ◌↔◌, [], IfErr, IfOk, IsTrue, OnErr, OnOk, Some, map};
-ghost use Rattle.sj_core.specs.Nodes.{NodesStay};
+ghost use Rattle.std.specs.Prelude.{◌≡◌, ◌↔◌, [], IfErr, IfOk, IfSome, IsTrue, OnErr, OnOk, Some, map, max, option_map};
+ghost use Rattle.sj_core.specs.Nodes.{Moves, NodesStay};
 ghost use Rattle.sj_core.specs.Replaying.{Follows, IsMisfitFrom, IsMisfitHere, IsRefusedSo};
-ghost use Rattle.sj_core.specs.Views.{line_at};
+ghost use Rattle.sj_core.specs.Views.{event_at, line_at};
+ghost use Rattle.sj_rules.specs.History.{due};
+ghost use Rattle.sj_rules.specs.Party.{play_of};
 
-use crate::course::Course;
+use crate::node_world::NodeWorld;
 use crate::sameness::is_same_entry;
 use crate::{ReplayRefusal, StepRefusal};
-use sj_end::{Line, Misfit};
+use sj_base::NoMemory;
+use sj_end::{Event, Line, Misfit};
 
 /// Whether there is a line and it is that one.
 pub fn is_the_line(due: &Option<Line>, line: &Line) -> bool
@@ -19,8 +22,8 @@ pub fn is_the_line(due: &Option<Line>, line: &Line) -> bool
     }
 }
 
-impl Course {
-    ghost use Rattle.sj_core.specs.Course.{IsLed, IsReached, Redoes, StaysIn, Steps, file_in, history_in, nodes_in};
+impl NodeWorld {
+    ghost use Rattle.sj_core.specs.NodeWorld.{IsLed, IsReached, Redoes, StaysIn, Steps, file_in, history_in, nodes_in, world_in};
 
     /// Does the line of that number, if it is the one that is due. It isn't listed.
     fn redo(&mut self, number: u64, line: &Line) -> Result<(), ReplayRefusal>
@@ -85,26 +88,38 @@ impl Course {
         Ok(())
     }
 
+    /// Does the event, and answers the line that it made; none where it is no step. It isn't listed.
+    fn made_line(&mut self, party: u16, event: Event) -> Result<Option<Line>, NoMemory>
+        requires led { IsLed self.old }
+        ensures found { IfOk result (λ made. due (play_of (file_in self.old)) max (world_in self.old) party (event_at event)
+            ≡ option_map line_at made) }
+        ensures done { IfOk result (λ made. IfSome made (λ l. Moves (file_in self.old) (nodes_in self.old) party event
+            l.entry (nodes_in self.new))) }
+        ensures file { file_in self.new ≡ file_in self.old }
+    {
+        if !self.is_there(party, event) {
+            return Ok(None);
+        }
+        match self.happen(party, event) {
+            Ok(entry) => Ok(Some(Line { party, entry })),
+            Err(StepRefusal::NoStep) => Ok(None),
+            Err(StepRefusal::NoMemory) => Err(NoMemory),
+        }
+    }
+
     /// Does the event of the line of that number, and then looks whether it made that line: it isn't asked before what is
     /// due. It isn't listed. A world in which another line was made is given up.
+    #[tactic(auto, using(crate::proofs::RedoLemmas::redoes))]
     fn do_again(&mut self, number: u64, line: &Line) -> Result<(), ReplayRefusal>
         requires led { IsLed self.old }
         ensures ok { OnOk result (Redoes self.old (line_at line.now) self.new) }
         ensures misfit { IfErr result (IsMisfitHere self.old number line.now) }
         ensures file { file_in self.new ≡ file_in self.old }
     {
-        let party = line.party;
-        let made = if self.is_there(party, line.entry.event) {
-            self.happen(party, line.entry.event)
-        } else {
-            Err(StepRefusal::NoStep)
-        };
-        let due = match made {
-            Ok(entry) if is_same_entry(&entry, &line.entry) => return Ok(()),
-            Ok(entry) => Some(Line { party, entry }),
-            Err(StepRefusal::NoStep) => None,
-            Err(StepRefusal::NoMemory) => return Err(ReplayRefusal::NoMemory),
-        };
+        let due = self.made_line(line.party, line.entry.event)?;
+        if is_the_line(&due, line) {
+            return Ok(());
+        }
         Err(ReplayRefusal::Misfit(Misfit {
             number,
             logged: *line,
@@ -114,7 +129,7 @@ impl Course {
 
     /// Does all the lines from where nothing has happened, if each is the one that is due. They become
     /// the history, which was empty.
-    pub fn replayed(mut self, lines: Vec<Line>) -> Result<Course, ReplayRefusal>
+    pub fn replayed(mut self, lines: Vec<Line>) -> Result<NodeWorld, ReplayRefusal>
         requires reached { IsReached self }
         requires none { history_in self ≡ [] }
         ensures reached { IfOk result (λ c. IsReached c) }

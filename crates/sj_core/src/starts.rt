@@ -11,7 +11,7 @@ ghost use Rattle.sj_rules.specs.Start.{core_start};
 ghost use Rattle.sj_table.specs.Spots.{start_in};
 
 use crate::ReplayRefusal;
-use crate::course::Course;
+use crate::node_world::NodeWorld;
 use crate::world::World;
 use sj_base::NoMemory;
 use sj_check::Accepted;
@@ -45,12 +45,12 @@ fn nodes_over(alloc: Global, accepted: &Accepted, table: &Table) -> Result<Vec<N
     Ok(nodes)
 }
 
-impl Course {
-    ghost use Rattle.sj_core.specs.Course.{IsReached, file_in, history_in, world_in};
+impl NodeWorld {
+    ghost use Rattle.sj_core.specs.NodeWorld.{IsReached, file_in, history_in, world_in};
 
     /// The parties of the file before any event, with nothing in their lanes. It copies what it needs
     /// of the file.
-    fn begin(alloc: Global, accepted: &Accepted) -> Result<Course, NoMemory>
+    fn begin(alloc: Global, accepted: &Accepted) -> Result<NodeWorld, NoMemory>
         ensures reached { IfOk result (λ c. IsReached c) }
         ensures file { IfOk result (λ c. file_in c ≡ without_words (file_of (held accepted.now))) }
         ensures history { IfOk result (λ c. history_in c ≡ []) }
@@ -59,7 +59,7 @@ impl Course {
         let nodes = first_nodes(alloc, accepted)?;
         let kept = copied_file(alloc, accepted.file())?;
         let history = Vec::new(alloc);
-        Ok(Course {
+        Ok(NodeWorld {
             alloc,
             kept,
             nodes,
@@ -84,8 +84,8 @@ impl World {
         ensures run { IfOk result (λ w. IsHistory max (kept_of w) (history_of w) (world_at w)) }
         ensures parties { IfOk result (λ w. party_count w ≡ length (kept_of w).parties) }
     {
-        let course = Course::begin(alloc, accepted)?;
-        Ok(World { course })
+        let node_world = NodeWorld::begin(alloc, accepted)?;
+        Ok(World { node_world })
     }
 
     /// The world to which these lines lead from the file's start on, if each is the one that is due there.
@@ -107,9 +107,9 @@ impl World {
         // The first line that isn't the one that is due.
         ensures misfit { IfErr result (IsMisfitFrom (file_of (held accepted.now)) (map line_at lines.items)) }
     {
-        let course = Course::begin(alloc, accepted)?;
-        match course.replayed(lines) {
-            Ok(course) => Ok(World { course }),
+        let node_world = NodeWorld::begin(alloc, accepted)?;
+        match node_world.replayed(lines) {
+            Ok(node_world) => Ok(World { node_world }),
             Err(refusal) => Err(refusal),
         }
     }

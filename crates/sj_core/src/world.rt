@@ -9,7 +9,7 @@ ghost use Rattle.sj_rules.specs.History.{IsHistory, IsLog, IsQuiescent, IsQuietA
 ghost use Rattle.sj_rules.specs.Party.{play_of};
 ghost use Rattle.sj_rules.specs.World.{happens};
 
-use crate::course::Course;
+use crate::node_world::NodeWorld;
 use crate::{ReplayRefusal, StepRefusal};
 use sj_base::NoMemory;
 use sj_end::{Entry, Event, Line};
@@ -18,22 +18,22 @@ use std::marker::Model;
 /// The parties of an accepted file and the lanes between them, as the events so far have left them.
 #[derive(Drop)]
 pub struct World {
-    pub(crate) course: Course,
+    pub(crate) node_world: NodeWorld,
 }
 
 impl Model for World {
-    ghost use Rattle.sj_core.specs.declared.course.Course.{Course};
-    ghost use Rattle.sj_core.specs.contracts.course.Course as c;
+    ghost use Rattle.sj_core.specs.declared.node_world.NodeWorld.{NodeWorld};
+    ghost use Rattle.sj_core.specs.contracts.node_world.NodeWorld as c;
 
-    ghost Value = { Course };
+    ghost Value = { NodeWorld };
 
     ghost coded = { c.the_row.coded };
 
-    ghost use Rattle.sj_core.specs.Course.{IsReached};
+    ghost use Rattle.sj_core.specs.NodeWorld.{IsReached};
 
-    ghost view = { λ w. w.course };
+    ghost view = { λ w. w.node_world };
 
-    ghost invariant = { λ w. IsReached w.course };
+    ghost invariant = { λ w. IsReached w.node_world };
 }
 
 impl World {
@@ -44,7 +44,7 @@ impl World {
         ensures count { result ≡ party_count self.now }
         ensures kept { result ≡ length (kept_file self.now).parties }
     {
-        self.course.nodes.len()
+        self.node_world.nodes.len()
     }
 
     /// One event at that party. Whatever it refuses, the world is as it was.
@@ -72,7 +72,7 @@ impl World {
         ensures no_step { IsErrOf result StepRefusal.NoStep ↔
             (happens (play_of (kept_file self.old)) max (world_at self.old) party (event_at event) ≡ None) }
     {
-        self.course.step(party, event)
+        self.node_world.step(party, event)
     }
 
     /// Does all the lines again, up to the first that isn't the one that is due there. That one is
@@ -91,7 +91,7 @@ impl World {
         ensures kept { kept_file self.new ≡ kept_file self.old }
         ensures parties { party_count self.new ≡ length (kept_file self.new).parties }
     {
-        self.course.replay(lines)
+        self.node_world.replay(lines)
     }
 
     /// The line that is due for the event at that party; none where it is no step, or names a party that
@@ -100,14 +100,14 @@ impl World {
         ensures { due (play_of (kept_file self.now)) max (world_at self.now) party (event_at event)
             ≡ option_map line_at result }
     {
-        self.course.due_line(party, event)
+        self.node_world.due_line(party, event)
     }
 
     /// What happened so far, in order.
     pub fn history(&self) -> &[Line]
         ensures { map line_at result.now ≡ history_of self.now }
     {
-        &self.course.history
+        &self.node_world.history
     }
 
     /// Does rounds until one has no event. In a round each party, in order, takes the frames of each
@@ -125,7 +125,7 @@ impl World {
         ensures kept { kept_file self.new ≡ kept_file self.old }
         ensures parties { party_count self.new ≡ length (kept_file self.new).parties }
     {
-        self.course.drain()
+        self.node_world.drain()
     }
 
     /// Whether nothing is left to do: nothing is in a lane, and no party can act.
@@ -133,6 +133,6 @@ impl World {
         ensures among { IsTrue result ↔ IsQuietAmong (play_of (kept_file self.now)) (party_count self.now) (world_at self.now) }
         ensures whole { IsTrue result ↔ IsQuiescent (play_of (kept_file self.now)) (world_at self.now) }
     {
-        self.course.quiet()
+        self.node_world.quiet()
     }
 }

@@ -1,6 +1,6 @@
 //! From a program's call to the top call.
 ghost use Rattle.sj_entry.specs.Entered.{Enters};
-ghost use Rattle.sj_tool.specs.Calls.{call, link_use};
+ghost use Rattle.sj_tool.specs.Calls.{call};
 
 use crate::words::Caller;
 use sj_base::{NoMemory, Sink, Source};
@@ -23,8 +23,8 @@ pub fn enter<C: Caller + AllocGlobal, R: Threads + Sync, S: Source, K: Sink, L: 
     links: &mut L,
     gate: &G,
 ) -> u8
-    ensures answer { Enters (C.gives caller.now) (λ words. call S.left S.faults words src.old src.new
-        (link_use L.tells L.faults L.sent L.got L.vain_out L.vain_in links.old links.new)) result
+    ensures answer { Enters (C.gives caller.now) (λ words.
+        call S.Source L.Links words src.old src.new links.old links.new) result
         (K.written out.old) (K.written out.new) }
 {
     match caller.words() {

@@ -20,7 +20,7 @@ use Rattle.sj_proto.proofs.ReadLemmas.{took_plain}
 use Rattle.sj_expr.specs.Operands.{IsOperandOf}
 use Rattle.sj_expr.specs.declared.operands.Operand.{Operand}
 use Rattle.sj_expr.specs.declared.operands.Operand.TheVariants as operands
-use Rattle.sj_expr.specs.Openings.{but_text}
+use Rattle.sj_expr.specs.Factors.{but_text}
 use Rattle.sj_expr.proofs.TokenLemmas.{number_no_text, name_no_number}
 use Rattle.sj_expr.proofs.NumberLemmas.{largest_number}
 use Rattle.sj_expr.proofs.RunLemmas.{minus_step}

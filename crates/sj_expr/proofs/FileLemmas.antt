@@ -17,6 +17,7 @@ use Rattle.sj_grammar.specs.Refusals.{StuckInside, OnFault}
 use Rattle.sj_grammar.specs.Expressions.{operand_count}
 use Rattle.sj_grammar.specs.ExpressionDues.{ExpressionDue, whole, times, plus, compare, expression_at, expression_layer}
 use Rattle.sj_grammar.specs.FileDues.{Due, expr, file_layer}
+use Rattle.sj_grammar.specs.Viable.{IsViable}
 use Rattle.sj_grammar.proofs.StepLemmas.{due_behind}
 use Rattle.sj_grammar.proofs.StucknessLemmas.{stuck_block, stuck_like}
 use Rattle.sj_grammar.proofs.EmbeddingLemmas.{IsEmbedded}
@@ -24,7 +25,7 @@ use Rattle.sj_grammar.proofs.FramingLemmas.{stuck_framed, run_framed, skip_frame
 use Rattle.sj_grammar.proofs.InsideLemmas.{inside_here}
 use Rattle.sj_proto.specs.Parsed.{Stops}
 use Rattle.sj_expr.specs.Read.{ReadsWhole, ReadsExpression, AllPass, EndsAt}
-use Rattle.sj_expr.specs.Viable.{IsViable}
+use Rattle.sj_expr.specs.Viable.{IsSomeExpression}
 use Rattle.sj_expr.proofs.RunLemmas.{Goes}
 use Rattle.sj_expr.proofs.ViabilityLemmas.{not_viable, viable_next}
 use Rattle.sj_expr.proofs.ReadLemmas.{agrees_itself}
@@ -36,7 +37,7 @@ expressions_embedded = record { follows = λ d s. refl; nones = λ d. refl; coun
 
 -- a text that is stuck in an expression is stuck from its first token on
 whole_inside : (n : ℕ) (a : At) (f : Fault) → StuckInside expression_layer limits 0 a (expression_at 0) f → StuckInside expression_layer limits n a (whole ∷ []) f
-whole_inside n a f st = by_pieces st.stuck.pieces st.stuck.there st.stuck.count st.stuck.due st.stuck.front st.stuck.fits st.stuck.halts st.inside
+whole_inside n a f st = by_pieces st.stuck.pieces st.stuck.there st.stuck.count st.stuck.dues st.stuck.front st.stuck.fits st.stuck.halts st.inside
   where
     at_first : (x : Ahead) → broken expression_layer limits n (whole ∷ []) x ≡ broken expression_layer limits 0 (expression_at 0) x
     at_first at_end = refl
@@ -53,7 +54,7 @@ whole_inside n a f st = by_pieces st.stuck.pieces st.stuck.there st.stuck.count 
         (subst (λ (gs : List ExpressionDue). Halts expression_layer limits 0 b gs f) (sym same) (subst (λ (j : ℕ). Halts expression_layer limits j b due f) (sym counted) halts)) in
         inside_here expression_layer limits n a (whole ∷ []) f refl (record { rule = was.rule; breaks = at_first (next_of a.text.ahead) ∙ was.breaks; fault = was.fault })
     by_pieces (s ∷ ps) b k due front fits halts inside = record {
-      stuck = record { pieces = s ∷ ps; there = b; count = k; due = due; front = front; fits = (whole_run limits n k [] due s ps (record { steps = fits })).steps; halts = halts };
+      stuck = record { pieces = s ∷ ps; there = b; count = k; dues = due; front = front; fits = (whole_run limits n k [] due s ps (record { steps = fits })).steps; halts = halts };
       inside = inside;
     }
 
@@ -111,7 +112,7 @@ expression_leads n a b t ds f r st =
             by_due : (y : Option (List ExpressionDue)) → due_behind expression_layer left s ≡ y → y ≡ None
             by_due None h = refl
             by_due (Some es) h =
-                let fails : IsViable (r.reads.pieces ++ s ∷ []) → ⊥ = subst (λ (z : Ahead). EndsAt r.reads.pieces z) next stops in
+                let fails : IsViable IsSomeExpression (r.reads.pieces ++ s ∷ []) → ⊥ = subst (λ (z : Ahead). EndsAt r.reads.pieces z) next stops in
                 absurd (fails (viable_next limits r.reads.pieces n (operand_count t) left es s e h))
 
 -- what the reader of whole expressions answers

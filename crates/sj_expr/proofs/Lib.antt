@@ -7,8 +7,8 @@ pub mod FrameLemmas
 pub mod FileLemmas
 pub mod LevelLemmas
 pub mod NumberLemmas
-pub mod OpeningLemmas
 pub mod OperandLemmas
+pub mod OuterLemmas
 pub mod ReadLemmas
 pub mod ReadingLemmas
 pub mod RunLemmas

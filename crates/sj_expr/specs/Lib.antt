@@ -1,7 +1,7 @@
 pub mod Ends
+pub mod Factors
 pub mod Laws
 pub mod Leaves
-pub mod Openings
 pub mod Operands
 pub mod Read
 pub mod Signs

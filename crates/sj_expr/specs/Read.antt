@@ -11,9 +11,10 @@ use Rattle.sj_grammar.specs.Expressions.{Level, Spelt, whole, IsExpression, oper
 use Rattle.sj_grammar.specs.Lexis.{Ahead, at_end, bad, token, next_of}
 use Rattle.sj_grammar.specs.Layers.{may_end}
 use Rattle.sj_grammar.specs.Asked.{Passes}
+use Rattle.sj_grammar.specs.Viable.{IsViable}
 use Rattle.sj_grammar.specs.ExpressionDues.{ExpressionDue, expression_at, expression_layer}
 use Rattle.sj_expr.specs.Laws.{Leads}
-use Rattle.sj_expr.specs.Viable.{IsViable}
+use Rattle.sj_expr.specs.Viable.{IsSomeExpression}
 use Rattle.sj_proto.specs.Parsed.{Extends, need, room_for_names}
 
 -- the spelling has what the tables there have
@@ -48,7 +49,7 @@ pub record ReadsWhole (n o : ℕ) (a b : At) (t : Term) : Type 0 where
 abbrev pub EndsAt : Pieces → Ahead → Type 0
 EndsAt ps at_end = Unit {0}
 EndsAt ps (bad lexical rest) = Unit {0}
-EndsAt ps (token what s rest) = IsViable (ps ++ s ∷ []) → ⊥
+EndsAt ps (token what s rest) = IsViable IsSomeExpression (ps ++ s ∷ []) → ⊥
 
 -- from here to there stands that expression
 pub record ReadsExpression (a b : At) (t : Term) : Type 0 where

@@ -14,7 +14,7 @@ ghost use Rattle.sj_grammar.specs.Layers.{step, may_end, rule_of};
 ghost use Rattle.sj_grammar.specs.Expressions.{IsExpression, operand_count};
 ghost use Rattle.sj_grammar.specs.ExpressionDues.{ExpressionDue, whole, times, plus, compare, expression_layer};
 ghost use Rattle.sj_expr.specs.Ends.{Ends};
-ghost use Rattle.sj_expr.specs.Viable.{GoesWrong, IsWhole};
+ghost use Rattle.sj_expr.specs.Viable.{IsSomeExpression, IsBrokenAt};
 ghost use Rattle.sj_expr.specs.Laws.{Leads};
 
 pub fn expressions_are_what_is_due()
@@ -39,13 +39,13 @@ pub fn an_expression_is_read_in_one_way()
 pub fn faults_go_wrong()
     ensures { (L : Limits) (ps : Pieces) (n m : ℕ) (due : List ExpressionDue) (s : List ℕ) (rule : Rule)
         → Leads L n (whole ∷ []) ps m due → rule_of (step expression_layer L m due s) ≡ Some rule
-        → GoesWrong ps s rule }
+        → IsBrokenAt ps s rule }
 {}
 
 pub fn an_expression_ends_where_it_may()
     ensures may { (L : Limits) (ps : Pieces) (n m : ℕ) (due : List ExpressionDue)
-        → Leads L n (whole ∷ []) ps m due → may_end expression_layer due ≡ true → IsWhole ps }
+        → Leads L n (whole ∷ []) ps m due → may_end expression_layer due ≡ true → IsSomeExpression ps }
     ensures only { (L : Limits) (ps : Pieces) (n m : ℕ) (due : List ExpressionDue)
         → Leads L n (whole ∷ []) ps m due → may_end expression_layer due ≡ false
-        → IsWhole ps → ⊥ }
+        → IsSomeExpression ps → ⊥ }
 {}

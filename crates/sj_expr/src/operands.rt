@@ -1,13 +1,12 @@
 //! What a token is as an operand of an expression.
 ghost use Rattle.std.specs.Prelude.{◌≡◌, ◌≤◌, IsTrue, length, ◌&&◌, if◌then◌else◌, Some, None, IfSome, IfNone, false, true};
-ghost use Rattle.std.specs.List.{list_all};
 ghost use Rattle.std.specs.Str.{bytes_eq};
 ghost use Rattle.std.specs.Str.Parse.{digits_value};
-ghost use Rattle.sj_grammar.specs.Bytes.{is_digit, is_printable};
 ghost use Rattle.sj_grammar.specs.Literals.{is_number, is_text, inner, quoted};
 ghost use Rattle.sj_grammar.specs.ExpressionDues.{is_operand};
 ghost use Rattle.sj_expr.specs.Operands.{IsOperandOf, is_plain};
 
+use sj_grammar::{are_digits, are_printable, is_largest_number};
 use sj_proto::{digits_number, is_name_text};
 
 /// What an operand is.
@@ -21,23 +20,6 @@ pub enum Operand {
     False,
 }
 
-/// 2^63, which stands behind a factor's own minus alone.
-const LARGEST: &[u8] = b"9223372036854775808";
-
-fn all_digits(bytes: &[u8]) -> bool
-    ensures { result ≡ list_all is_digit bytes.now }
-{
-    bytes.iter().all(|b| b.is_ascii_digit())
-}
-
-fn all_printable(bytes: &[u8]) -> bool
-    ensures { result ≡ list_all is_printable bytes.now }
-{
-    bytes
-        .iter()
-        .all(|b| *b >= 32 && *b <= 126 && *b != b'"' && *b != b'\\')
-}
-
 // Digits, of which none is a leading zero.
 fn is_plain_digits(piece: &[u8]) -> bool
     ensures { result ≡ is_plain piece.now }
@@ -48,7 +30,7 @@ fn is_plain_digits(piece: &[u8]) -> bool
     if piece[0] == b'0' {
         return piece.len() == 1;
     }
-    all_digits(piece)
+    are_digits(piece)
 }
 
 /// The number that the piece writes, up to 2^63.
@@ -91,7 +73,7 @@ fn is_text_piece(piece: &[u8]) -> bool
     if !is_quoted(piece) {
         return false;
     }
-    all_printable(inner_of(piece))
+    are_printable(inner_of(piece))
 }
 
 /// What the piece is as an operand.
@@ -100,7 +82,7 @@ pub fn operand_in(piece: &[u8]) -> Option<Operand>
     ensures none { IfNone result (is_operand piece.now ≡ false) }
 {
     if let Some(value) = number_in(piece) {
-        if piece == LARGEST {
+        if is_largest_number(piece) {
             return None;
         }
         return Some(Operand::Number(value));

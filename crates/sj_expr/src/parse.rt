@@ -14,12 +14,11 @@ ghost use Rattle.sj_expr.specs.Read.{ReadsLevel, ReadsWhole, ReadsExpression, Ha
 
 use crate::operands::operand_in;
 use crate::signs::{joined, negated, take_comparison, take_sign};
-use crate::taking::{Opening, take_negative, take_opening, take_operand};
+use crate::taking::{Outer, take_negative, take_operand, take_outer};
+use sj_grammar::MOST_OPEN;
 use sj_lang::{Expr, Names, Op};
 use sj_proto::{ParseRefusal, Tokens};
 use std::alloc::Global;
-
-const MOST_OPEN: usize = 32;
 
 // A factor inside so many parentheses and `not`s; so many operands stand before it.
 #[cycle(expression)]
@@ -46,12 +45,12 @@ fn factor(
     if tokens.sees(b"-") {
         return take_negative(tokens, count);
     }
-    match take_opening(tokens, depth >= MOST_OPEN)? {
-        Opening::Not => {
+    match take_outer(tokens, depth >= MOST_OPEN)? {
+        Outer::Not => {
             let inner = factor(alloc, tokens, names, count, depth + 1)?;
             Ok(negated(alloc, inner)?)
         }
-        Opening::Parens => {
+        Outer::Parens => {
             let inner = whole(alloc, tokens, names, count, depth + 1)?;
             tokens.expect(b")")?;
             Ok(inner)

@@ -17,7 +17,7 @@ ghost use Rattle.sj_proto.specs.Parsed.{standing};
 ghost use Rattle.sj_expr.specs.Operands.{IsOperandOf};
 ghost use Rattle.sj_expr.specs.Leaves.{LeavesTables, LeavesOperands};
 ghost use Rattle.sj_expr.specs.Read.{Reads, ReadsLevel, HasRooms, StaysWithin, TextSpelled};
-ghost use Rattle.sj_expr.specs.Openings.{opening_piece, but_opening, but_text};
+ghost use Rattle.sj_expr.specs.Factors.{outer_piece, but_outer, but_text};
 
 use crate::operands::{Operand, inner_of, number_in};
 use sj_lang::{Expr, Names};
@@ -27,9 +27,9 @@ const MOST_OPERANDS: usize = 256;
 
 const MOST_TEXT: usize = 255;
 
-/// What a factor begins with that has a factor or an expression inside.
+/// What stands in a factor before the factor or the expression inside it.
 #[derive(Clone, Copy, Debug, PartialEq, Eq)]
-pub enum Opening {
+pub enum Outer {
     Not,
     Parens,
 }
@@ -158,10 +158,10 @@ pub fn take_negative(tokens: &mut Tokens, count: &mut usize) -> Result<Expr, Par
 }
 
 /// Takes what opens an inner factor or expression, which passes a limit where it is too deep.
-pub fn take_opening(tokens: &mut Tokens, deep: bool) -> Result<Opening, Fault>
-    ensures ok { IfOk result (λ o. TakesText tokens.old (opening_piece o) tokens.new) }
+pub fn take_outer(tokens: &mut Tokens, deep: bool) -> Result<Outer, Fault>
+    ensures ok { IfOk result (λ o. TakesText tokens.old (outer_piece o) tokens.new) }
     ensures room { IfOk result (λ _. deep ≡ false) }
-    ensures fault { IfErr result (Refuses (but_opening deep) tokens.old) }
+    ensures fault { IfErr result (Refuses (but_outer deep) tokens.old) }
     ensures shorter { IfOk result (λ _. length tokens.new.ahead < length tokens.old.ahead) }
     ensures onward { Advances tokens.old tokens.new }
 {
@@ -172,8 +172,8 @@ pub fn take_opening(tokens: &mut Tokens, deep: bool) -> Result<Opening, Fault>
         return Err(tokens.fault(Rule::P4));
     }
     if tokens.accept(b"not") {
-        return Ok(Opening::Not);
+        return Ok(Outer::Not);
     }
     tokens.expect(b"(")?;
-    Ok(Opening::Parens)
+    Ok(Outer::Parens)
 }

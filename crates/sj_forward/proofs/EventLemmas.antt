@@ -10,12 +10,12 @@ use Rattle.sj_semantics.specs.Program.{Program}
 use Rattle.sj_semantics.specs.Run.{IsRun}
 use Rattle.sj_rules.specs.Party.{play_of}
 use Rattle.sj_rules.specs.World.{Act, Deliver}
-use Rattle.sj_forward.specs.declared.course.Course.{Course}
+use Rattle.sj_forward.specs.declared.desk_world.DeskWorld.{DeskWorld}
 use Rattle.sj_forward.specs.declared.desk.Desk.{Desk}
-use Rattle.sj_forward.specs.Course.{IsReached, PlainActs, desks_in, file_in, lane_or, node_or, world_by, world_in}
+use Rattle.sj_forward.specs.DeskWorld.{IsReached, PlainActs, desks_in, file_in, lane_or, node_or, world_by, world_in}
 use Rattle.sj_forward.specs.Desk.{Does, desk_at, lane_of}
 use Rattle.sj_forward.specs.Outs.{DropsFront}
-use Rattle.sj_forward.proofs.CourseLemmas.{file, plain_run_of, programs_on}
+use Rattle.sj_forward.proofs.DeskWorldLemmas.{file, plain_run_of, programs_on}
 use Rattle.sj_forward.proofs.ListLemmas.{lanes_after, nodes_after, world_is}
 use Rattle.sj_forward.proofs.SetLemmas.{set_here, set_there}
 use Rattle.sj_forward.proofs.SlotLemmas.{one_other, one_same}
@@ -26,7 +26,7 @@ use Rattle.sj_forward_rules.specs.Record.{FrameAt}
 use Rattle.sj_forward_rules.specs.Start.{first_node}
 use Rattle.sj_forward_rules.specs.World.{WorldAt, after_event, delivery_of, frames_for, happens, with_lane}
 
-module _ (c : Course) (r : IsReached c) (p : ℕ) (old new : Desk) (there : slice_get (desks_in c) p ≡ Some old) (done : Worked Program) (does : Does old done new) where
+module _ (c : DeskWorld) (r : IsReached c) (p : ℕ) (old new : Desk) (there : slice_get (desks_in c) p ≡ Some old) (done : Worked Program) (does : Does old done new) where
   abbrev w : WorldAt Program
   w = world_in c
 

@@ -1,4 +1,4 @@
--- A course before any event.
+-- A world of desks before any event.
 use Rattle.std.proofs.Common.{◌≡◌, ℕ, List, [], length, slice_get, unwrap_or, Option, Some, None, refl, ap, sym, ◌∙◌}
 use Rattle.sj_acceptance.specs.Accepted.{IsAccepted}
 use Rattle.sj_lang.specs.FileAt.{FileAt}
@@ -9,9 +9,9 @@ use Rattle.sj_rules.specs.Party.{nobody}
 use Rattle.sj_semantics.specs.Program.{Program}
 use Rattle.sj_semantics.specs.Run.{IsRun}
 use Rattle.sj_semantics.specs.World.{World, start_of}
-use Rattle.sj_forward.specs.declared.course.Course.{Course}
+use Rattle.sj_forward.specs.declared.desk_world.DeskWorld.{DeskWorld}
 use Rattle.sj_forward.specs.declared.desk.Desk.{Desk}
-use Rattle.sj_forward.specs.Course.{IsReached, desks_in, file_in, lane_or, node_or, world_by}
+use Rattle.sj_forward.specs.DeskWorld.{IsReached, desks_in, file_in, lane_or, node_or, world_by}
 use Rattle.sj_forward.specs.Starting.{AreFirst}
 use Rattle.sj_forward.proofs.ListLemmas.{world_is}
 use Rattle.sj_forward.proofs.SameLemmas.{first_same, forward_start_same}
@@ -39,7 +39,7 @@ world_first file plain desks kept start all =
     lane_is from to = lane_if from to (slice_get desks from) refl
 
 -- no turn leads to it
-pub reached_first : (c : Course) (file : FileAt) → IsAccepted file → file_in c ≡ without_words file → world_at c.plain ≡ start_of file → acts_of c.plain ≡ []
+pub reached_first : (c : DeskWorld) (file : FileAt) → IsAccepted file → file_in c ≡ without_words file → world_at c.plain ≡ start_of file → acts_of c.plain ≡ []
     → IsRun (file_in c) (acts_of c.plain) (world_at c.plain) → party_count c.plain ≡ length (file_in c).parties → AreFirst file (length file.parties) (desks_in c)
     → c.passed ≡ 0 → c.events ≡ 0 → IsReached c
 reached_first c file accepted kept start none run parties first passed events = record {

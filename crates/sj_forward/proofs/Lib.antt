@@ -15,7 +15,7 @@ pub mod LawLemmas
 pub mod SameLemmas
 pub mod StepLemmas
 pub mod ListLemmas
-pub mod CourseLemmas
+pub mod DeskWorldLemmas
 pub mod StartLemmas
 pub mod FirstLemmas
 pub mod ReadyLemmas

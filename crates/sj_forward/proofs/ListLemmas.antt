@@ -7,7 +7,7 @@ use Rattle.sj_plain.specs.declared.plain.Plain.{Plain}
 use Rattle.sj_plain.specs.Plain.{kept_file}
 use Rattle.sj_semantics.specs.Program.{Program}
 use Rattle.sj_forward.specs.declared.desk.Desk.{Desk}
-use Rattle.sj_forward.specs.Course.{lane_or, node_or, program_in, world_by}
+use Rattle.sj_forward.specs.DeskWorld.{lane_or, node_or, program_in, world_by}
 use Rattle.sj_forward.specs.Desk.{Does}
 use Rattle.sj_forward.proofs.SetLemmas.{set_here, set_there}
 use Rattle.sj_forward.proofs.SlotLemmas.{one_other, one_same}

@@ -16,11 +16,11 @@ use Rattle.sj_rules.specs.Party.{nobody, play_for, play_of, want_for, want_or_en
 use Rattle.sj_rules.specs.Halts.{is_at_end}
 use Rattle.sj_rules.specs.Play as rules
 use Rattle.sj_rules.specs.World.{Act}
-use Rattle.sj_forward.specs.declared.course.Course.{Course}
+use Rattle.sj_forward.specs.declared.desk_world.DeskWorld.{DeskWorld}
 use Rattle.sj_forward.specs.declared.desk.Desk.{Desk}
-use Rattle.sj_forward.specs.Course.{IsReached, Wants, desks_in, file_in, node_or, program_in, world_in}
+use Rattle.sj_forward.specs.DeskWorld.{IsReached, Wants, desks_in, file_in, node_or, program_in, world_in}
 use Rattle.sj_forward.specs.Desk.{Acts, Does, HasAct, DeskStays, desk_at}
-use Rattle.sj_forward.proofs.CourseLemmas.{accepted, act_there, file, plain_run_of, run_of}
+use Rattle.sj_forward.proofs.DeskWorldLemmas.{accepted, act_there, file, plain_run_of, run_of}
 use Rattle.sj_forward.proofs.DeskLemmas.{did}
 use Rattle.sj_forward.proofs.LawLemmas as laws
 use Rattle.sj_forward.proofs.SlotLemmas.{some_same}
@@ -79,7 +79,7 @@ act_row ps k p n done is = by (not (nat_lt n.program.steps 10000)) is
     by true h = absurd (cc h)
     by false h = h
 
-module _ (c : Course) (r : IsReached c) (p : ℕ) (desk : Desk) (want : Want) (there : slice_get (desks_in c) p ≡ Some desk) (wanted : Wants c.plain p want) where
+module _ (c : DeskWorld) (r : IsReached c) (p : ℕ) (desk : Desk) (want : Want) (there : slice_get (desks_in c) p ≡ Some desk) (wanted : Wants c.plain p want) where
   abbrev g : Program
   g = program_in c.plain p
 

@@ -1,4 +1,4 @@
--- Courses that contracts see as before.
+-- Worlds of desks that contracts see as before.
 use Rattle.std.proofs.Common.{◌≡◌, ◌≢◌, ℕ, List, length, slice_get, unwrap_or, Option, Some, None, refl, ap, sym, ◌∙◌, subst, inl, inr}
 use Rattle.std.proofs.Math.ListN.{set}
 use Rattle.std.proofs.lemmas.Bool.{cases_eq}
@@ -12,9 +12,9 @@ use Rattle.sj_semantics.specs.Run.{IsRun}
 use Rattle.sj_semantics.specs.World.{World}
 use Rattle.sj_rules.specs.Party.{nobody}
 use Rattle.sj_rules.specs.World.{Turn}
-use Rattle.sj_forward.specs.declared.course.Course.{Course}
+use Rattle.sj_forward.specs.declared.desk_world.DeskWorld.{DeskWorld}
 use Rattle.sj_forward.specs.declared.desk.Desk.{Desk}
-use Rattle.sj_forward.specs.Course.{IsLedBy, IsReached, PlainStays, StaysIn, desks_in, file_in, lane_or, node_or, program_in, world_by, world_in}
+use Rattle.sj_forward.specs.DeskWorld.{IsLedBy, IsReached, PlainStays, StaysIn, desks_in, file_in, lane_or, node_or, program_in, world_by, world_in}
 use Rattle.sj_forward.specs.Desk.{DeskStays}
 use Rattle.sj_forward.proofs.SetLemmas.{set_here, set_there}
 use Rattle.sj_forward_rules.specs.Start.{IsForwardRun, first_node}
@@ -52,7 +52,7 @@ world_rests plain mid desks p old new same there rests = λ i. record { nodes = 
 pub plain_still : (plain : Plain) → PlainStays plain plain
 plain_still plain = record { world = refl; acts = refl; file = refl }
 
-module _ (c d : Course) (p : ℕ) (old new : Desk) (there : slice_get (desks_in c) p ≡ Some old) (rests : DeskStays old new) (plain : PlainStays c.plain d.plain) (desks : desks_in d ≡ set (desks_in c) p new)
+module _ (c d : DeskWorld) (p : ℕ) (old new : Desk) (there : slice_get (desks_in c) p ≡ Some old) (rests : DeskStays old new) (plain : PlainStays c.plain d.plain) (desks : desks_in d ≡ set (desks_in c) p new)
     (passed : d.passed ≡ c.passed) (events : d.events ≡ c.events) where
   world_still : world_in d ≡ world_in c
   world_still = ap (world_by d.plain) desks ∙ world_rests c.plain d.plain (desks_in c) p old new plain there rests

@@ -1,4 +1,4 @@
--- A turn of a course as a whole: it is a step, after which the course is one to which turns lead.
+-- A turn of a world of desks as a whole: it is a step, after which the world of desks is one to which turns lead.
 use Rattle.std.proofs.Common.{◌≡◌, ◌≢◌, ℕ, ◌+◌, ◌<◌, ◌≤◌, ◌^◌, ◌==◌, Bool, true, false, if◌then◌else◌, List, [], ◌∷◌, ◌++◌, append-nil, length, slice_get, option_map, Some, None, refl, ap, sym, ◌∙◌, subst, arith}
 use Rattle.std.proofs.Math.ListN.{set}
 use Rattle.std.proofs.lemmas.List.{length-set}
@@ -10,14 +10,14 @@ use Rattle.sj_semantics.specs.declared.Want.{Want}
 use Rattle.sj_rules.specs.Events.{acts_by}
 use Rattle.sj_rules.specs.Party.{play_of}
 use Rattle.sj_rules.specs.World.{Act, Deliver, Event, Turn}
-use Rattle.sj_forward.specs.declared.course.Course.{Course}
+use Rattle.sj_forward.specs.declared.desk_world.DeskWorld.{DeskWorld}
 use Rattle.sj_forward.specs.declared.desk.Desk.{Desk}
 use Rattle.sj_forward.specs.declared.frame.Frame.{Frame}
-use Rattle.sj_forward.specs.Course.{IsReached, PlainActs, PlainStays, Steps, Wants, desks_in, file_in, lane_or, node_or, program_in, world_by, world_in}
+use Rattle.sj_forward.specs.DeskWorld.{IsReached, PlainActs, PlainStays, Steps, Wants, desks_in, file_in, lane_or, node_or, program_in, world_by, world_in}
 use Rattle.sj_forward.specs.Desk.{Acts, FrameComes, Does, HasRow, DeskStays, desk_at, lane_of}
 use Rattle.sj_forward.specs.Outs.{DropsFront, lane_in}
 use Rattle.sj_forward.specs.Views.{frame_at}
-use Rattle.sj_forward.proofs.CourseLemmas.{few_events, file, reached_so, row_there, steps_so}
+use Rattle.sj_forward.proofs.DeskWorldLemmas.{few_events, file, reached_so, row_there, steps_so}
 use Rattle.sj_forward.proofs.ListLemmas.{lanes_after}
 use Rattle.sj_forward.proofs.DeskLemmas.{did}
 use Rattle.sj_forward.proofs.SetLemmas.{set_here}
@@ -33,16 +33,16 @@ use Rattle.sj_forward_rules.specs.Start.{first_node}
 use Rattle.sj_forward_rules.specs.World.{frames_for, happens}
 
 -- a party is one of the plain world
-pub plain_party : (c : Course) → IsReached c → (p : ℕ) → p < length (desks_in c) → p < party_count c.plain
+pub plain_party : (c : DeskWorld) → IsReached c → (p : ℕ) → p < length (desks_in c) → p < party_count c.plain
 plain_party c r p there = subst (λ (n : ℕ). p < n) (r.count ∙ sym r.parties) there
 
-pub still_parties : (c : Course) → IsReached c → (plain : Plain) → PlainStays c.plain plain → party_count plain ≡ length (kept_file plain).parties → party_count plain ≡ party_count c.plain
+pub still_parties : (c : DeskWorld) → IsReached c → (plain : Plain) → PlainStays c.plain plain → party_count plain ≡ length (kept_file plain).parties → party_count plain ≡ party_count c.plain
 still_parties c r plain stays count = count ∙ ap (λ f. length f.parties) stays.file ∙ sym r.parties
 
 -- ---- an act
 
-module _ (c : Course) (r : IsReached c) (p : ℕ) (old mid new : Desk) (want : Want) (there : slice_get (desks_in c) p ≡ Some old) (wanted : Wants c.plain p want)
-    (ready : has_step (play_of (file_in c)) (world_in c) p Act ≡ true) (rests : DeskStays old mid) (acts : Acts p want mid new) (d : Course) (plain : PlainActs p c.plain d.plain)
+module _ (c : DeskWorld) (r : IsReached c) (p : ℕ) (old mid new : Desk) (want : Want) (there : slice_get (desks_in c) p ≡ Some old) (wanted : Wants c.plain p want)
+    (ready : has_step (play_of (file_in c)) (world_in c) p Act ≡ true) (rests : DeskStays old mid) (acts : Acts p want mid new) (d : DeskWorld) (plain : PlainActs p c.plain d.plain)
     (desks : desks_in d ≡ set (desks_in c) p new) (passed : d.passed ≡ c.passed) (events : d.events ≡ c.events + 1) where
   act_step : happens (play_of (file c r)) (world_in c) p Act ≡ Some (world_in d)
   act_step =
@@ -68,11 +68,11 @@ module _ (c : Course) (r : IsReached c) (p : ℕ) (old mid new : Desk) (want : W
 -- ---- a delivery
 
 -- a front frame is a step
-pub front_steps : (c : Course) (p q : ℕ) (f : FrameAt) (rest : List FrameAt) → (world_in c).lanes q p ≡ f ∷ rest → has_step (play_of (file_in c)) (world_in c) p (Deliver q) ≡ true
+pub front_steps : (c : DeskWorld) (p q : ℕ) (f : FrameAt) (rest : List FrameAt) → (world_in c).lanes q p ≡ f ∷ rest → has_step (play_of (file_in c)) (world_in c) p (Deliver q) ≡ true
 front_steps c p q f rest front = ap is_filled front
 
 -- the lane of the party from which it comes, by its desk
-lane_of_giver : (c : Course) (p q : ℕ) (giver : Desk) → slice_get (desks_in c) q ≡ Some giver → (world_in c).lanes q p ≡ lane_of giver p
+lane_of_giver : (c : DeskWorld) (p q : ℕ) (giver : Desk) → slice_get (desks_in c) q ≡ Some giver → (world_in c).lanes q p ≡ lane_of giver p
 lane_of_giver c p q giver there = ap (λ o. lane_or o p) there
 
 -- a list whose first element is known
@@ -81,7 +81,7 @@ front_in [] x h = absurd (cc h)
 front_in (y ∷ ys) x h = let same : y ≡ x = sym (some_same x y h) in (ys, ap (λ t. t ∷ ys) same)
 
 -- the front frame
-pub front_of_giver : (c : Course) (p q : ℕ) (giver : Desk) (f : FrameAt) → slice_get (desks_in c) q ≡ Some giver → Some f ≡ slice_get (lane_of giver p) 0
+pub front_of_giver : (c : DeskWorld) (p q : ℕ) (giver : Desk) (f : FrameAt) → slice_get (desks_in c) q ≡ Some giver → Some f ≡ slice_get (lane_of giver p) 0
     → (rest : List FrameAt) × ((world_in c).lanes q p ≡ f ∷ rest)
 front_of_giver c p q giver f there first = let x = front_in (lane_of giver p) f first in (x.0, lane_of_giver c p q giver there ∙ x.1)
 
@@ -90,14 +90,14 @@ unfilled [] h = refl
 unfilled (y ∷ ys) h = absurd (cc h)
 
 -- no front frame is no step
-pub empty_lane : (c : Course) (p q : ℕ) (giver : Desk) → slice_get (desks_in c) q ≡ Some giver → None ≡ slice_get (lane_of giver p) 0
+pub empty_lane : (c : DeskWorld) (p q : ℕ) (giver : Desk) → slice_get (desks_in c) q ≡ Some giver → None ≡ slice_get (lane_of giver p) 0
     → has_step (play_of (file_in c)) (world_in c) p (Deliver q) ≡ false
 empty_lane c p q giver there none = ap is_filled (lane_of_giver c p q giver there) ∙ unfilled (lane_of giver p) none
 
 longer : {X : Type 0} (x : X) (rest more : List X) → 0 < length ((x ∷ rest) ++ more)
 longer x rest more = omega arith
 
-module _ (c : Course) (r : IsReached c) (p q : ℕ) (old : Desk) (f : FrameAt) (rest : List FrameAt) (there : slice_get (desks_in c) p ≡ Some old) (front : (world_in c).lanes q p ≡ f ∷ rest) where
+module _ (c : DeskWorld) (r : IsReached c) (p q : ℕ) (old : Desk) (f : FrameAt) (rest : List FrameAt) (there : slice_get (desks_in c) p ≡ Some old) (front : (world_in c).lanes q p ≡ f ∷ rest) where
   own_row : (done : Worked Program) × (comes (desk_at (program_in c.plain p) old) q f ≡ Some done)
   own_row =
       let row = row_there c r p q f rest front in
@@ -125,7 +125,7 @@ module _ (c : Course) (r : IsReached c) (p q : ℕ) (old : Desk) (f : FrameAt) (
           by true = longer f rest (frames_for p own_row.0.posts)
           by false = omega arith
 
-      module _ (short : Desk) (same : (g : Program) → desk_at g short ≡ desk_at g giver) (drops : DropsFront giver.outs.items p short.outs.items) (d : Course) (plain : d.plain ≡ c.plain)
+      module _ (short : Desk) (same : (g : Program) → desk_at g short ≡ desk_at g giver) (drops : DropsFront giver.outs.items p short.outs.items) (d : DeskWorld) (plain : d.plain ≡ c.plain)
           (desks : desks_in d ≡ set (set (desks_in c) p new) q short) (passed : d.passed ≡ c.passed + 1) (events : d.events ≡ c.events + 1) where
         came_step : happens (play_of (file c r)) (world_in c) p (Deliver q) ≡ Some (world_in d)
         unfolding own_row
@@ -158,7 +158,7 @@ passed_few (t ∷ ts) = let rest = passed_few ts in let one = by_one t.event in 
     by_one Act = omega arith
     by_one (Deliver q) = omega arith
 
-pub few_passed : (c : Course) → IsReached c → c.passed < 2 ^ 63
+pub few_passed : (c : DeskWorld) → IsReached c → c.passed < 2 ^ 63
 few_passed c r =
     let low = few_events c r in
     let some = passed_few r.turns in

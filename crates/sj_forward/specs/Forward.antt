@@ -10,7 +10,7 @@ use Rattle.sj_rules.specs.World.{Deliver, Turn}
 use Rattle.sj_semantics.specs.Program.{Program}
 use Rattle.sj_semantics.specs.Run.{IsRun, end_of}
 use Rattle.sj_forward.specs.declared.forward.ForwardWorld.{ForwardWorld}
-use Rattle.sj_forward.specs.Course.{desks_in, world_in}
+use Rattle.sj_forward.specs.DeskWorld.{desks_in, world_in}
 use Rattle.sj_forward_rules.specs.Drain.{IsDrained, passed_in}
 use Rattle.sj_forward_rules.specs.Record.{FrameAt}
 use Rattle.sj_forward_rules.specs.Start.{IsForwardRun, forward_start}

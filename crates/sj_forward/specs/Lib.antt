@@ -4,6 +4,6 @@ pub mod Outs
 pub mod Offers
 pub mod Desk
 pub mod Starting
-pub mod Course
+pub mod DeskWorld
 pub mod Draining
 pub mod Forward

@@ -1,18 +1,18 @@
 //! Rounds of all parties, until one has no event.
 ghost use Rattle.std.specs.Prelude.{◌≡◌, ◌<◌, false, IfOk, OnErr, OnOk, true, length};
-ghost use Rattle.sj_forward.specs.Course.{ComesFrom, event_at};
+ghost use Rattle.sj_forward.specs.DeskWorld.{ComesFrom, event_at};
 ghost use Rattle.sj_forward.specs.Draining.{ActsOut, BreaksOff, Empties, EmptiesEach, GoesBy, GoesFirst, IsDrained, IsRound, TakesTurn};
 ghost use Rattle.sj_forward_rules.specs.Ready.{has_step};
 ghost use Rattle.sj_forward_rules.specs.World.{IsQuietAmong};
 ghost use Rattle.sj_rules.specs.Drain.{numbers_from};
 ghost use Rattle.sj_rules.specs.Party.{play_of};
 
-use crate::course::Course;
+use crate::desk_world::DeskWorld;
 use crate::{Turn, TurnRefusal};
 use sj_base::NoMemory;
 
-impl Course {
-    ghost use Rattle.sj_forward.specs.Course.{IsReached, StaysIn, Steps, desks_in, file_in, world_in};
+impl DeskWorld {
+    ghost use Rattle.sj_forward.specs.DeskWorld.{IsReached, StaysIn, Steps, desks_in, file_in, world_in};
 
     /// Tries a turn. Answers whether it was a step.
     fn tries(&mut self, party: u16, turn: Turn) -> Result<bool, NoMemory>

@@ -3,8 +3,8 @@
 
 mod acts;
 mod arrivals;
-mod course;
 mod desk;
+mod desk_world;
 mod drains;
 mod ends;
 mod forward;

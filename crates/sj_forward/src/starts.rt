@@ -10,8 +10,8 @@ ghost use Rattle.sj_base.specs.declared.EndId.{EndId};
 ghost use Rattle.sj_rules.specs.Record.{other_end};
 ghost use Rattle.sj_rules.specs.Start.{declared_on};
 
-use crate::course::Course;
 use crate::desk::Desk;
+use crate::desk_world::DeskWorld;
 use crate::records::{Record, Stand};
 use crate::slot::Slot;
 use sj_base::NoMemory;
@@ -114,13 +114,13 @@ fn first_desks(alloc: Global, file: &File) -> Result<Vec<Desk>, NoMemory>
     Ok(desks)
 }
 
-impl Course {
-    ghost use Rattle.sj_forward.specs.Course.{IsReached, file_in, world_in};
+impl DeskWorld {
+    ghost use Rattle.sj_forward.specs.DeskWorld.{IsReached, file_in, world_in};
     ghost use Rattle.sj_forward_rules.specs.Start.{forward_start};
     ghost use Rattle.sj_plain.specs.Plain.{acts_of};
 
     /// The parties of the file before any event, with nothing in their lanes.
-    pub fn begin(alloc: Global, accepted: &Accepted) -> Result<Course, NoMemory>
+    pub fn begin(alloc: Global, accepted: &Accepted) -> Result<DeskWorld, NoMemory>
         ensures reached { IfOk result (λ c. IsReached c) }
         ensures file { IfOk result (λ c. file_in c ≡ without_words (file_of (held accepted.now))) }
         ensures world { IfOk result (λ c. world_in c ≡ forward_start (file_of (held accepted.now))) }
@@ -129,7 +129,7 @@ impl Course {
     {
         let plain = Plain::start(alloc, accepted)?;
         let desks = first_desks(alloc, accepted.file())?;
-        Ok(Course {
+        Ok(DeskWorld {
             alloc,
             plain,
             desks,

@@ -63,12 +63,12 @@ module _ {D E : Type 0} (G : Layer D) (H : Layer E) (f : D → E) (is : IsEmbedd
 
   pub stuck_embedded : (n : ℕ) (a : At) (ds : List D) (g : Fault) → Stuck H L n a (map f ds) g → Stuck G L n a ds g
   stuck_embedded n a ds g st =
-      let x = mapped_goes (run G L n ds st.pieces) st.count st.due (sym (run_embedded G H f is L st.pieces n ds) ∙ st.fits) in
+      let x = mapped_goes (run G L n ds st.pieces) st.count st.dues (sym (run_embedded G H f is L st.pieces n ds) ∙ st.fits) in
       record {
         pieces = st.pieces;
         there = st.there;
         count = st.count;
-        due = x.0;
+        dues = x.0;
         front = st.front;
         fits = x.1;
         halts = record {

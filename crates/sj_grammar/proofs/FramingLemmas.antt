@@ -81,16 +81,16 @@ module _ {D E : Type 0} (G : Layer D) (H : Layer E) (f : D → E) (is : IsEmbedd
       pieces = s.pieces;
       there = s.there;
       count = s.count;
-      due = framed s.due;
+      dues = framed s.dues;
       front = s.front;
-      fits = run_framed s.pieces n s.count ds s.due s.fits;
+      fits = run_framed s.pieces n s.count ds s.dues s.fits;
       halts = record {
         rule = s.halts.rule;
-        breaks = broken_framed s.count s.due (next_of s.there.text.ahead) s.halts.rule st.inside s.halts.breaks;
+        breaks = broken_framed s.count s.dues (next_of s.there.text.ahead) s.halts.rule st.inside s.halts.breaks;
         fault = s.halts.fault;
       };
     };
-    inside = end_framed s.due st.inside;
+    inside = end_framed s.dues st.inside;
   }
 
   pub stuck_framed : (n : ℕ) (a : At) (ds : List D) (flt : Fault) → StuckInside G L n a ds flt → Stuck H L n a (framed ds) flt

@@ -11,7 +11,7 @@ use Rattle.sj_grammar.proofs.StucknessLemmas.{Begins-append}
 
 module _ {D : Type 0} (G : Layer D) (L : Limits) where
   pub inside_here : (n : ℕ) (a : At) (ds : List D) (f : Fault) → may_end G ds ≡ false → Halts G L n a ds f → StuckInside G L n a ds f
-  inside_here n a ds f full h = record { stuck = record { pieces = []; there = a; count = n; due = ds; front = refl; fits = refl; halts = h }; inside = full }
+  inside_here n a ds f full h = record { stuck = record { pieces = []; there = a; count = n; dues = ds; front = refl; fits = refl; halts = h }; inside = full }
 
   -- behind a token
   pub inside_cons : (n k : ℕ) (a m : At) (s : List ℕ) (ds es : List D) (f : Fault) → Takes a s m → step G L n ds s ≡ goes k es → StuckInside G L k m es f → StuckInside G L n a ds f
@@ -20,7 +20,7 @@ module _ {D : Type 0} (G : Layer D) (L : Limits) where
       pieces = s ∷ st.pieces;
       there = st.there;
       count = st.count;
-      due = st.due;
+      dues = st.dues;
       front = (m, t, st.front);
       fits = ap (λ (x : Step D). onward x (λ j gs. run G L j gs st.pieces)) e ∙ st.fits;
       halts = st.halts;
@@ -35,9 +35,9 @@ module _ {D : Type 0} (G : Layer D) (L : Limits) where
       pieces = ps ++ st.pieces;
       there = st.there;
       count = st.count;
-      due = st.due;
+      dues = st.dues;
       front = Begins-append ps st.pieces a m st.there b st.front;
-      fits = (Runs-append G L ps st.pieces n k st.count ds es st.due r (record { steps = st.fits })).steps;
+      fits = (Runs-append G L ps st.pieces n k st.count ds es st.dues r (record { steps = st.fits })).steps;
       halts = st.halts;
     };
     inside = is.inside;

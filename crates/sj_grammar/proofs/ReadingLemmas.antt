@@ -66,24 +66,24 @@ module _ {D : Type 0} (G : Layer D) (L : Limits) where
           subst (λ (x : At). Halts G L m x es f) there (subst (λ (xs : List D). Halts G L m st.there xs f) due (subst (λ (j : ℕ). Halts G L j st.there gs f) count h))
 
       shorter : (rest : Pieces) → qs ≡ st.pieces ++ rest → Begins st.there rest b → Halts G L m b es f
-      shorter [] e h = at_same st.count st.due st.halts h (sym st.fits ∙ ap (run G L n ds) (sym (append-nil st.pieces) ∙ sym e) ∙ runs)
+      shorter [] e h = at_same st.count st.dues st.halts h (sym st.fits ∙ ap (run G L n ds) (sym (append-nil st.pieces) ∙ sym e) ∙ runs)
       shorter (u ∷ rest) e h =
           let x = run_split G L st.pieces (u ∷ rest) n m ds es (ap (run G L n ds) (sym e) ∙ runs) in
-          let same : goes x.0 x.1 ≡ goes st.count st.due = sym x.2 ∙ st.fits in
+          let same : goes x.0 x.1 ≡ goes st.count st.dues = sym x.2 ∙ st.fits in
           let count : x.0 ≡ st.count = cc in
-          let due : x.1 ≡ st.due = cc in
-          let stop = halts_at_token st.count st.there h.0 st.due f u st.halts h.1 in
-          absurd (no_step (step G L st.count st.due u) (λ j gs. run G L j gs rest) m es stop.0 stop.1 ((λ i. run G L (sym count i) (sym due i) (u ∷ rest)) ∙ x.3))
+          let due : x.1 ≡ st.dues = cc in
+          let stop = halts_at_token st.count st.there h.0 st.dues f u st.halts h.1 in
+          absurd (no_step (step G L st.count st.dues u) (λ j gs. run G L j gs rest) m es stop.0 stop.1 ((λ i. run G L (sym count i) (sym due i) (u ∷ rest)) ∙ x.3))
 
       longer : (rest : Pieces) → st.pieces ≡ qs ++ rest → Begins b rest st.there → Halts G L m b es f
-      longer [] e h = at_same st.count st.due st.halts (sym h) (sym st.fits ∙ ap (run G L n ds) (e ∙ append-nil qs) ∙ runs)
+      longer [] e h = at_same st.count st.dues st.halts (sym h) (sym st.fits ∙ ap (run G L n ds) (e ∙ append-nil qs) ∙ runs)
       longer (u ∷ rest) e h =
-          let x = run_split G L qs (u ∷ rest) n st.count ds st.due (ap (run G L n ds) (sym e) ∙ st.fits) in
+          let x = run_split G L qs (u ∷ rest) n st.count ds st.dues (ap (run G L n ds) (sym e) ∙ st.fits) in
           let same : goes x.0 x.1 ≡ goes m es = sym x.2 ∙ runs in
           let count : x.0 ≡ m = cc in
           let due : x.1 ≡ es = cc in
           let stop = none u h.0 h.1 in
-          absurd (no_step (step G L m es u) (λ j gs. run G L j gs rest) st.count st.due stop.0 stop.1 ((λ i. run G L (sym count i) (sym due i) (u ∷ rest)) ∙ x.3))
+          absurd (no_step (step G L m es u) (λ j gs. run G L j gs rest) st.count st.dues stop.0 stop.1 ((λ i. run G L (sym count i) (sym due i) (u ∷ rest)) ∙ x.3))
 
       by_order : GoesOn st.pieces st.there qs b ⊎ GoesOn qs b st.pieces st.there → Halts G L m b es f
       by_order (inl x) = shorter x.0 x.1 x.2

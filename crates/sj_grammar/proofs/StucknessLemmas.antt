@@ -20,7 +20,7 @@ Begins-append (p ∷ a) b t m r h k = (h.0, h.1, Begins-append a b h.0 m r h.2 k
 
 module _ {D : Type 0} (G : Layer D) (L : Limits) where
   pub halts_stuck : (n : ℕ) (a : At) (ds : List D) (f : Fault) → Halts G L n a ds f → Stuck G L n a ds f
-  halts_stuck n a ds f h = record { pieces = []; there = a; count = n; due = ds; front = refl; fits = refl; halts = h }
+  halts_stuck n a ds f h = record { pieces = []; there = a; count = n; dues = ds; front = refl; fits = refl; halts = h }
 
   refused_breaks : (p : List ℕ → Option Rule) (n : ℕ) (ds : List D) (rule : Rule) (x : Ahead) → may_end G ds ≡ false
       → ((s : List ℕ) (r : Rule) → (if is_largest s then Some P3 else p s) ≡ Some r → rule_of (step G L n ds s) ≡ Some r) → refused p x ≡ Some rule → broken G L n ds x ≡ Some rule
@@ -47,7 +47,7 @@ module _ {D : Type 0} (G : Layer D) (L : Limits) where
     pieces = s ∷ st.pieces;
     there = st.there;
     count = st.count;
-    due = st.due;
+    dues = st.dues;
     front = (m, t, st.front);
     fits = ap (λ (x : Step D). onward x (λ j gs. run G L j gs st.pieces)) e ∙ st.fits;
     halts = st.halts;
@@ -59,16 +59,16 @@ module _ {D : Type 0} (G : Layer D) (L : Limits) where
     pieces = ps ++ st.pieces;
     there = st.there;
     count = st.count;
-    due = st.due;
+    dues = st.dues;
     front = Begins-append ps st.pieces a m st.there b st.front;
-    fits = (Runs-append G L ps st.pieces n k st.count ds es st.due r (record { steps = st.fits })).steps;
+    fits = (Runs-append G L ps st.pieces n k st.count ds es st.dues r (record { steps = st.fits })).steps;
     halts = st.halts;
   }
 
   -- other dues that take the next token alike
   pub stuck_by : (n m : ℕ) (a : At) (ds es : List D) (f : Fault) → broken G L m es (next_of a.text.ahead) ≡ broken G L n ds (next_of a.text.ahead)
       → ((what : What) (s rest : List ℕ) → next_of a.text.ahead ≡ token what s rest → step G L m es s ≡ step G L n ds s) → Stuck G L n a ds f → Stuck G L m a es f
-  stuck_by n m a ds es f here h st = by_pieces st.pieces st.there st.count st.due st.front st.fits st.halts
+  stuck_by n m a ds es f here h st = by_pieces st.pieces st.there st.count st.dues st.front st.fits st.halts
     where
       by_pieces : (ps : Pieces) (b : At) (k : ℕ) (due : List D) → Begins a ps b → run G L n ds ps ≡ goes k due → Halts G L k b due f → Stuck G L m a es f
       by_pieces [] b k due front fits halts =
@@ -80,7 +80,7 @@ module _ {D : Type 0} (G : Layer D) (L : Limits) where
         pieces = s ∷ ps;
         there = b;
         count = k;
-        due = due;
+        dues = due;
         front = front;
         fits = ap (λ (x : Step D). onward x (λ j gs. run G L j gs ps)) (h front.1.what s front.1.rest front.1.token) ∙ fits;
         halts = halts;

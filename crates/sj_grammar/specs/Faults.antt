@@ -27,7 +27,7 @@ module _ {D : Type 0} (G : Layer D) (L : Limits) where
     pub pieces : Pieces
     pub there : At
     pub count : ℕ
-    pub due : List D
+    pub dues : List D
     pub front : Begins a pieces there
-    pub fits : run G L n ds pieces ≡ goes count due
-    pub halts : Halts count there due f
+    pub fits : run G L n ds pieces ≡ goes count dues
+    pub halts : Halts count there dues f

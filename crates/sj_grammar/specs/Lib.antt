@@ -1,6 +1,7 @@
 pub mod Asked
 pub mod Bytes
 pub mod Canonical
+pub mod Classes
 pub mod Examples
 pub mod ExpressionDues
 pub mod Expressions
@@ -19,3 +20,5 @@ pub mod Refusals
 pub mod Rules
 pub mod Statements
 pub mod Tables
+pub mod Viable
+pub mod Wrong

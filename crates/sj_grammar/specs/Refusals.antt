@@ -26,7 +26,7 @@ fault_next r rule ahead = fault_at (before_next r ahead) (first_rule rule ahead)
 -- the fault is where what is due can't be left out, so that what is due behind doesn't matter
 pub record StuckInside {D : Type 0} (G : Layer D) (L : Limits) (n : ℕ) (a : At) (ds : List D) (f : Fault) : Type 0 where
   pub stuck : Stuck G L n a ds f
-  pub inside : may_end G stuck.due ≡ false
+  pub inside : may_end G stuck.dues ≡ false
 
 -- where the refusal is a fault
 abbrev pub OnFault : (Fault → Type 0) → ParseRefusal → Type 0

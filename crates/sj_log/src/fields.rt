@@ -1,20 +1,13 @@
 //! Numbers and ends, each from a word of a line.
 ghost use Rattle.std.specs.Prelude.{◌≡◌, ◌-◌, ◌≤◌, negsuc, IfOk, ◌+◌};
-ghost use Rattle.std.specs.List.{list_all};
-ghost use Rattle.sj_grammar.specs.Bytes.{is_digit};
 ghost use Rattle.sj_grammar.specs.Lexis.{most as largest};
 ghost use Rattle.sj_log.specs.Fields.{made, number_read, count_read, clock_read, int_read, end_read, resend_read, bool_read, last_int};
 
 use crate::refusal::LogRule;
-use crate::words::{first_at, is, together};
+use crate::words::{first_at, together};
 use sj_base::EndId;
+use sj_grammar::{are_digits, is};
 use sj_proto::{digits_number, goes_on_after_zero};
-
-fn are_digits(word: &[u8]) -> bool
-    ensures { result ≡ list_all is_digit word.now }
-{
-    word.iter().all(|b| b.is_ascii_digit())
-}
 
 /// A number within the bounds.
 #[tactic(auto, unfolding(crate::specs::Fields::number_read))]

@@ -9,8 +9,9 @@ use crate::fields::{count, end, resend};
 use crate::names::party;
 use crate::notes::{knows_openings, message};
 use crate::refusal::LogRule;
-use crate::words::{Fields, is, together};
+use crate::words::{Fields, together};
 use sj_end::Note;
+use sj_grammar::is;
 use sj_lang::File;
 
 #[tactic(auto, unfolding(crate::specs::Notes::carry_read))]

@@ -14,8 +14,9 @@ use crate::frames::frame;
 use crate::names::party;
 use crate::notes::act;
 use crate::refusal::{LogRefusal, LogRule, number_of};
-use crate::words::{Fields, first_at, is, together};
+use crate::words::{Fields, first_at, together};
 use sj_end::{Entry, Event, Line, Note};
+use sj_grammar::is;
 use sj_lang::File;
 use std::alloc::Global;
 

@@ -1,8 +1,5 @@
 //! Names and texts, each from a word of a line or from its end.
 ghost use Rattle.std.specs.Prelude.{◌≡◌, ◌≤◌, ◌-◌, ◌==◌, ◌&&◌, IfOk, IfSome, IfNone, true, false, map};
-ghost use Rattle.std.specs.List.{list_all};
-ghost use Rattle.sj_grammar.specs.Bytes.{is_printable, is_word_byte};
-ghost use Rattle.sj_grammar.specs.Names.{is_word};
 ghost use Rattle.sj_grammar.specs.Literals.{inner};
 ghost use Rattle.sj_lang.specs.FileAt.{party_named};
 ghost use Rattle.sj_lang.specs.FileView.{file_of, party_of};
@@ -10,23 +7,8 @@ ghost use Rattle.sj_lang.specs.Words.{first_index};
 ghost use Rattle.sj_log.specs.Names.{number_known, party_of_name, label_read, party_read, text_read, is_quoted};
 
 use crate::refusal::LogRule;
+use sj_grammar::{are_printable, is_word_text};
 use sj_lang::{File, Party, Words};
-use sj_proto::{Class, is_in, is_letter_byte};
-
-fn are_word_bytes(w: &[u8]) -> bool
-    ensures { result ≡ list_all is_word_byte w.now }
-{
-    w.iter().all(|b| is_in(Class::WordByte, *b))
-}
-
-fn has_word_form(w: &[u8]) -> bool
-    ensures { result ≡ is_word w.now }
-{
-    match w {
-        [] => false,
-        [first, behind @ ..] => is_letter_byte(*first) && are_word_bytes(behind),
-    }
-}
 
 // The number of a word in its table.
 fn number_in(words: &Words, word: &[u8]) -> Option<usize>
@@ -65,7 +47,7 @@ fn within(most: usize, number: Option<usize>) -> Result<usize, LogRule>
 pub(crate) fn label(file: &File, w: &[u8]) -> Result<u16, LogRule>
     ensures { result ≡ label_read (file_of file.now) w.now }
 {
-    if !has_word_form(w) {
+    if !is_word_text(w) {
         return Err(LogRule::L1);
     }
     match within(65_535, number_in(&file.names.words, w)) {
@@ -93,19 +75,13 @@ fn party_number(file: &File, w: &[u8]) -> Option<usize>
 pub(crate) fn party(file: &File, w: &[u8]) -> Result<u16, LogRule>
     ensures { result ≡ party_read (file_of file.now) w.now }
 {
-    if !has_word_form(w) {
+    if !is_word_text(w) {
         return Err(LogRule::L1);
     }
     match within(65_535, party_number(file, w)) {
         Ok(n) => Ok(n as u16),
         Err(rule) => Err(rule),
     }
-}
-
-fn are_printable(text: &[u8]) -> bool
-    ensures { result ≡ list_all is_printable text.now }
-{
-    text.iter().all(|b| is_in(Class::Printable, *b))
 }
 
 // What stands between two quotes, where nothing else does.

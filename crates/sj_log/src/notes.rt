@@ -9,9 +9,10 @@ ghost use Rattle.sj_log.specs.Notes.{sess_read, message_read, offer_read, openin
 use crate::fields::{boolean, count, end, int};
 use crate::names::{label, party, text};
 use crate::refusal::LogRule;
-use crate::words::{Fields, is, together};
+use crate::words::{Fields, together};
 use sj_base::Msg;
 use sj_end::Note;
+use sj_grammar::is;
 use sj_lang::File;
 
 // An end, and its keeper.

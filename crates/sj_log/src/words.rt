@@ -2,7 +2,6 @@
 ghost use Rattle.std.specs.Prelude.{◌≡◌, ◌==◌, ◌≤◌, length};
 ghost use Rattle.std.specs.List.{position_or_len};
 ghost use Rattle.std.specs.Option.{option_copied};
-ghost use Rattle.std.specs.Str.{bytes_eq};
 ghost use Rattle.sj_log.specs.Fields.{both, rank, first_of, word, rest, words_in, words_left, ended, words_text};
 
 use crate::refusal::LogRule;
@@ -44,13 +43,6 @@ pub(crate) fn together<A: Copy, B: Copy>(
             Err(s) => Err(told(r, s)),
         },
     }
-}
-
-/// Whether the word is that one.
-pub(crate) fn is(word: &[u8], other: &[u8]) -> bool
-    ensures { result ≡ bytes_eq word.now other.now }
-{
-    word == other
 }
 
 /// The position of the first such byte, or the length where there is none.

@@ -73,18 +73,18 @@ module _ (L : Limits) where
     -- connections, where protocols and parties are left over
     after_parties : (pre : List Due) (cs : List ConnectAt) (n : ℕ) → length cs ≤ L.connects → All (IsConnect L names) cs → may_end file_layer (pre ++ connects 0 ∷ []) ≡ true
         → ((k : ℕ) → step file_layer L k (pre ++ connects 0 ∷ []) (codes "connect") ≡ step file_layer L k (connects 0 ∷ []) (codes "connect")) → Completes L n (pre ++ connects 0 ∷ []) (connects_pieces names.word cs)
-    after_parties pre [] n few all ends skips = record { count = n; due = pre ++ connects 0 ∷ []; steps = refl; ends = ends }
+    after_parties pre [] n few all ends skips = record { count = n; dues = pre ++ connects 0 ∷ []; steps = refl; ends = ends }
     after_parties pre (c ∷ cs) n few all ends skips =
         let r = leads_past n (pre ++ connects 0 ∷ []) (connects 0 ∷ []) (connects (0 + suc (length cs)) ∷ []) (first_on c.line (codes "connect")) _ (skips n) (connects_leads (c ∷ cs) 0 n [] (omega arith) all) in
-        record { count = r.count; due = connects (0 + suc (length cs)) ∷ []; steps = r.steps; ends = refl }
+        record { count = r.count; dues = connects (0 + suc (length cs)) ∷ []; steps = r.steps; ends = refl }
 
     completes_on : (n : ℕ) (ds es : List Due) (a b : List Piece) → LeadsTo L n ds a es → ((k : ℕ) → Completes L k es b) → Completes L n ds (a ++ b)
     completes_on n ds es a b r q =
         let rest = q r.count in
         record {
           count = rest.count;
-          due = rest.due;
-          steps = ap (run file_layer L n ds) (spellings-append a b) ∙ (Runs-append file_layer L (spellings a) (spellings b) n r.count rest.count ds es rest.due (record { steps = r.steps }) (record { steps = rest.steps })).steps;
+          dues = rest.dues;
+          steps = ap (run file_layer L n ds) (spellings-append a b) ∙ (Runs-append file_layer L (spellings a) (spellings b) n r.count rest.count ds es rest.dues (record { steps = r.steps }) (record { steps = rest.steps })).steps;
           ends = rest.ends;
         }
 

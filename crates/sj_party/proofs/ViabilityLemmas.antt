@@ -16,6 +16,7 @@ use Rattle.sj_grammar.specs.Statements.{braced}
 use Rattle.sj_grammar.specs.Statements as statements
 use Rattle.sj_grammar.specs.Files.{IsSpelled}
 use Rattle.sj_grammar.specs.FileDues.{Due, protocols, parties, connects, stmts, block, branches, awaited, name, fixed, proto, expr, file_layer, file_due}
+use Rattle.sj_grammar.specs.Viable.{IsViable}
 use Rattle.sj_grammar.proofs.StepLemmas.{step_over}
 use Rattle.sj_grammar.proofs.SpellingLemmas.{IsHeld, AllHeld, spelling_of, first_of, held_at, all_held}
 use Rattle.sj_grammar.proofs.CompletionLemmas.{due_back, run_back, ends_back, some_alls}
@@ -23,7 +24,7 @@ use Rattle.sj_proto.proofs.ViableLemmas.{x_is_a_name}
 use Rattle.sj_proto.proofs.CompletionLemmas as protocol
 use Rattle.sj_expr.proofs.FollowLemmas as expression
 use Rattle.sj_party.specs.Leads.{Leads}
-use Rattle.sj_party.specs.Viable.{IsWhole, IsViable, IsViableWithin}
+use Rattle.sj_party.specs.Viable.{IsSomeFile, IsViableWithin}
 use Rattle.sj_party.proofs.LimitLemmas.{all_limits, are_wide, widely_two, named_widely}
 use Rattle.sj_party.proofs.DuePieceLemmas.{Spelled, AllSpelled, lines_of, lines_spelled, none_spelled}
 use Rattle.sj_party.proofs.FileBack.{file_back}
@@ -65,7 +66,7 @@ held_in ps post = subst (λ (names : Spelling). AllHeld (IsHeld names) ps) (same
 
 module _ (L : Limits) (ps : Pieces) (m : ℕ) (due : List Due) (e : Leads L 0 file_due ps m due) where
   -- the pieces, and what then is due
-  completed : (ws ts : Pieces) → AllHeld (IsHeld (names_in ws)) ps → AllSpelled (names_in ws) due ts → IsWhole (ps ++ ts)
+  completed : (ws ts : Pieces) → AllHeld (IsHeld (names_in ws)) ps → AllSpelled (names_in ws) due ts → IsSomeFile (ps ++ ts)
   completed ws ts held h =
       let names = names_in ws in
       let all = run_back file_layer (Spelled names) (IsHeld names) (file_back names) (none_spelled names) L ps 0 m file_due due ts held e h in
@@ -91,14 +92,14 @@ module _ (L : Limits) (ps : Pieces) (m : ℕ) (due : List Due) (e : Leads L 0 fi
       }
 
   -- up to there
-  pub viable : IsViable ps
+  pub viable : IsViable IsSomeFile ps
   viable =
       let ws = and_x (ps ++ []) in
       let ends = some_alls file_layer (Spelled (names_in ws)) (some_spelled (names_in ws) 0 x_is_a_name) due in
       record { later = ends.0; all = completed ws ends.0 (held_in ps []) ends.1 }
 
   -- with a token that passes a limit, limits aside
-  pub viable_over : (s : List ℕ) → rule_of (step file_layer L m due s) ≡ Some P4 → IsViable (ps ++ s ∷ [])
+  pub viable_over : (s : List ℕ) → rule_of (step file_layer L m due s) ≡ Some P4 → IsViable IsSomeFile (ps ++ s ∷ [])
   viable_over s over =
       let es = step_over file_layer L m due s over in
       let ws = and_x (ps ++ s ∷ []) in
@@ -106,19 +107,19 @@ module _ (L : Limits) (ps : Pieces) (m : ℕ) (due : List Due) (e : Leads L 0 fi
       let held : IsHeld names s = subst (λ (x : Spelling). IsHeld x s) (same_names ws) (held_at (and_x ps) [] s) in
       let ends = some_alls file_layer (Spelled names) (some_spelled names 0 x_is_a_name) es.0 in
       let next = due_back file_layer (Spelled names) (IsHeld names) (file_back names) (none_spelled names) due es.0 s ends.0 held es.1 ends.1 in
-      record { later = ends.0; all = subst IsWhole (sym (append_assoc ps (s ∷ []) ends.0)) (completed ws (s ∷ ends.0) (held_in ps (s ∷ [])) next) }
+      record { later = ends.0; all = subst IsSomeFile (sym (append_assoc ps (s ∷ []) ends.0)) (completed ws (s ∷ ends.0) (held_in ps (s ∷ [])) next) }
 
   -- where nothing need be due
-  pub whole : may_end file_layer due ≡ true → IsWhole ps
+  pub whole : may_end file_layer due ≡ true → IsSomeFile ps
   whole may =
       let ws = and_x (ps ++ []) in
-      subst IsWhole (append-nil ps) (completed ws [] (held_in ps []) (ends_back file_layer (Spelled (names_in ws)) (none_spelled (names_in ws)) due may))
+      subst IsSomeFile (append-nil ps) (completed ws [] (held_in ps []) (ends_back file_layer (Spelled (names_in ws)) (none_spelled (names_in ws)) due may))
 
   -- within the same limits no file goes on with a token that breaks a rule
   pub not_within : (s : List ℕ) (rule : Rule) → rule_of (step file_layer L m due s) ≡ Some rule → IsViableWithin L (ps ++ s ∷ []) → ⊥
   not_within s rule breaks v =
       let all = v.viable.all in
       let w = file_completes L all.file all.lines 0 (subst (λ (M : Limits). IsSpelled M all.file all.lines) v.within all.spelled) in
-      let taken = none_broken L 0 w.count m file_due w.due due (spellings all.lines) ps v.viable.later s w.steps (all.same ∙ append_assoc ps (s ∷ []) v.viable.later) e in
+      let taken = none_broken L 0 w.count m file_due w.dues due (spellings all.lines) ps v.viable.later s w.steps (all.same ∙ append_assoc ps (s ∷ []) v.viable.later) e in
       let both : Some rule ≡ None = sym breaks ∙ taken in
       cc

@@ -15,9 +15,9 @@ use Rattle.sj_grammar.specs.Asked.{TakesText}
 use Rattle.sj_grammar.proofs.StucknessLemmas.{stuck_cons}
 use Rattle.sj_proto.specs.Parsed.{standing, Stops}
 use Rattle.sj_proto.proofs.ExitLemmas.{plain, stops_map}
-use Rattle.sj_party.specs.declared.openings.Word.TheVariants as words
-use Rattle.sj_party.specs.declared.openings.Opening.{Opening}
-use Rattle.sj_party.specs.declared.openings.Opening.TheVariants as openings
+use Rattle.sj_party.specs.declared.first_words.Word.TheVariants as words
+use Rattle.sj_party.specs.declared.first_words.FirstWord.{FirstWord}
+use Rattle.sj_party.specs.declared.first_words.FirstWord.TheVariants as firsts
 use Rattle.sj_party.specs.Words.{word_of, dues_behind, IsFixed}
 
 pub no_name_else : is_name (codes "else") ≡ false
@@ -33,68 +33,68 @@ pub fixed_from : IsFixed (codes "from")
 unfolding is_reserved
 fixed_from = record { no_name = refl; no_text = refl; no_largest = refl }
 
-no_name_word : (w : Opening) → is_name (word_of w) ≡ false
+no_name_word : (w : FirstWord) → is_name (word_of w) ≡ false
 unfolding is_reserved
-no_name_word (openings.Simple words.Send) = refl
-no_name_word (openings.Simple words.Delegate) = refl
-no_name_word (openings.Simple words.Recv) = refl
-no_name_word (openings.Simple words.Outbranch) = refl
-no_name_word (openings.Simple words.Let) = refl
-no_name_word (openings.Simple words.Close) = refl
-no_name_word (openings.Simple words.Request) = refl
-no_name_word (openings.Simple words.Accept) = refl
-no_name_word openings.Inbranch = refl
-no_name_word openings.Outwhile = refl
-no_name_word openings.Inwhile = refl
-no_name_word openings.Relay = refl
-no_name_word openings.If = refl
+no_name_word (firsts.Simple words.Send) = refl
+no_name_word (firsts.Simple words.Delegate) = refl
+no_name_word (firsts.Simple words.Recv) = refl
+no_name_word (firsts.Simple words.Outbranch) = refl
+no_name_word (firsts.Simple words.Let) = refl
+no_name_word (firsts.Simple words.Close) = refl
+no_name_word (firsts.Simple words.Request) = refl
+no_name_word (firsts.Simple words.Accept) = refl
+no_name_word firsts.Inbranch = refl
+no_name_word firsts.Outwhile = refl
+no_name_word firsts.Inwhile = refl
+no_name_word firsts.Relay = refl
+no_name_word firsts.If = refl
 
-no_text_word : (w : Opening) → is_text (word_of w) ≡ false
-no_text_word (openings.Simple words.Send) = refl
-no_text_word (openings.Simple words.Delegate) = refl
-no_text_word (openings.Simple words.Recv) = refl
-no_text_word (openings.Simple words.Outbranch) = refl
-no_text_word (openings.Simple words.Let) = refl
-no_text_word (openings.Simple words.Close) = refl
-no_text_word (openings.Simple words.Request) = refl
-no_text_word (openings.Simple words.Accept) = refl
-no_text_word openings.Inbranch = refl
-no_text_word openings.Outwhile = refl
-no_text_word openings.Inwhile = refl
-no_text_word openings.Relay = refl
-no_text_word openings.If = refl
+no_text_word : (w : FirstWord) → is_text (word_of w) ≡ false
+no_text_word (firsts.Simple words.Send) = refl
+no_text_word (firsts.Simple words.Delegate) = refl
+no_text_word (firsts.Simple words.Recv) = refl
+no_text_word (firsts.Simple words.Outbranch) = refl
+no_text_word (firsts.Simple words.Let) = refl
+no_text_word (firsts.Simple words.Close) = refl
+no_text_word (firsts.Simple words.Request) = refl
+no_text_word (firsts.Simple words.Accept) = refl
+no_text_word firsts.Inbranch = refl
+no_text_word firsts.Outwhile = refl
+no_text_word firsts.Inwhile = refl
+no_text_word firsts.Relay = refl
+no_text_word firsts.If = refl
 
-word_step : (w : Opening) (o n : ℕ) (ds : List Due) → step file_layer limits n (stmts o ∷ ds) (word_of w) ≡ goes n (dues_behind w o (stmts o ∷ ds))
+word_step : (w : FirstWord) (o n : ℕ) (ds : List Due) → step file_layer limits n (stmts o ∷ ds) (word_of w) ≡ goes n (dues_behind w o (stmts o ∷ ds))
 unfolding statement_follow
-word_step (openings.Simple words.Send) o n ds = refl
-word_step (openings.Simple words.Delegate) o n ds = refl
-word_step (openings.Simple words.Recv) o n ds = refl
-word_step (openings.Simple words.Outbranch) o n ds = refl
-word_step (openings.Simple words.Let) o n ds = refl
-word_step (openings.Simple words.Close) o n ds = refl
-word_step (openings.Simple words.Request) o n ds = refl
-word_step (openings.Simple words.Accept) o n ds = refl
-word_step openings.Inbranch o n ds = refl
-word_step openings.Outwhile o n ds = refl
-word_step openings.Inwhile o n ds = refl
-word_step openings.Relay o n ds = refl
-word_step openings.If o n ds = refl
+word_step (firsts.Simple words.Send) o n ds = refl
+word_step (firsts.Simple words.Delegate) o n ds = refl
+word_step (firsts.Simple words.Recv) o n ds = refl
+word_step (firsts.Simple words.Outbranch) o n ds = refl
+word_step (firsts.Simple words.Let) o n ds = refl
+word_step (firsts.Simple words.Close) o n ds = refl
+word_step (firsts.Simple words.Request) o n ds = refl
+word_step (firsts.Simple words.Accept) o n ds = refl
+word_step firsts.Inbranch o n ds = refl
+word_step firsts.Outwhile o n ds = refl
+word_step firsts.Inwhile o n ds = refl
+word_step firsts.Relay o n ds = refl
+word_step firsts.If o n ds = refl
 
-took_word : (w : Opening) (r q : Reading) (names : Names) → TakesText r (word_of w) q → Takes (standing r names) (word_of w) (standing q names)
+took_word : (w : FirstWord) (r q : Reading) (names : Names) → TakesText r (word_of w) q → Takes (standing r names) (word_of w) (standing q names)
 took_word w r q names t = plain r q names (word_of w) (no_name_word w) (no_text_word w) t
 
 -- the first word on its line
-pub word_piece : (w : Opening) (l : ℕ) (r q : Reading) (names : Names) → TakesText r (word_of w) q → l ≡ line_at (before_next r (next_of r.ahead)) → TakesPiece (standing r names) (first_on l (word_of w)) (standing q names)
+pub word_piece : (w : FirstWord) (l : ℕ) (r q : Reading) (names : Names) → TakesText r (word_of w) q → l ≡ line_at (before_next r (next_of r.ahead)) → TakesPiece (standing r names) (first_on l (word_of w)) (standing q names)
 word_piece w l r q names t line =
     let taken = took_word w r q names t in
     record { taken = taken; line = line ∙ ap (λ (x : Ahead). line_at (before_next r x)) taken.token }
 
 -- behind the first word
-pub word_stops : (w : Opening) (o : ℕ) (r q : Reading) (names : Names) (e : ParseRefusal) → TakesText r (word_of w) q → ((n : ℕ) → Stops (λ ds. dues_behind w o ds) n (standing q names) e) → (n : ℕ) → Stops (λ ds. stmts o ∷ ds) n (standing r names) e
+pub word_stops : (w : FirstWord) (o : ℕ) (r q : Reading) (names : Names) (e : ParseRefusal) → TakesText r (word_of w) q → ((n : ℕ) → Stops (λ ds. dues_behind w o ds) n (standing q names) e) → (n : ℕ) → Stops (λ ds. stmts o ∷ ds) n (standing r names) e
 word_stops w o r q names e t st n =
     stops_map (λ ds. dues_behind w o ds) (λ ds. stmts o ∷ ds) n n (standing q names) (standing r names) e
     (λ f h ds. stuck_cons file_layer limits n n (standing r names) (standing q names) (word_of w) (stmts o ∷ ds) (dues_behind w o (stmts o ∷ ds)) f (took_word w r q names t) (word_step w o n ds) (h (stmts o ∷ ds))) (st n)
 
 -- what is refused behind that word
-pub err_opened : {X : Type 0} (r : Result X ParseRefusal) (w v : Opening) (o : ℕ) (a : At) → w ≡ v → IfErr r (λ e. (n : ℕ) → Stops (λ ds. dues_behind v o ds) n a e) → IfErr r (λ e. (n : ℕ) → Stops (λ ds. dues_behind w o ds) n a e)
-err_opened r w v o a is h = subst (λ (x : Opening). IfErr r (λ e. (n : ℕ) → Stops (λ ds. dues_behind x o ds) n a e)) (sym is) h
+pub err_begun : {X : Type 0} (r : Result X ParseRefusal) (w v : FirstWord) (o : ℕ) (a : At) → w ≡ v → IfErr r (λ e. (n : ℕ) → Stops (λ ds. dues_behind v o ds) n a e) → IfErr r (λ e. (n : ℕ) → Stops (λ ds. dues_behind w o ds) n a e)
+err_begun r w v o a is h = subst (λ (x : FirstWord). IfErr r (λ e. (n : ℕ) → Stops (λ ds. dues_behind x o ds) n a e)) (sym is) h

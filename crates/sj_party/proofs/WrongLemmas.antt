@@ -13,10 +13,12 @@ use Rattle.sj_grammar.specs.Positions.{Pieces, start}
 use Rattle.sj_grammar.specs.Layers.{Step, goes, stops, misfit, rule_of, step, may_end}
 use Rattle.sj_grammar.specs.FileDues.{Due, file_layer, file_due}
 use Rattle.sj_grammar.specs.Faults.{Stuck, broken}
+use Rattle.sj_grammar.specs.Viable.{IsViable}
+use Rattle.sj_grammar.specs.Wrong.{IsWrongNext, GoesWrong}
 use Rattle.sj_grammar.proofs.StepLemmas.{IsStep, due_behind, step_is, Runs-none, Runs-cons, Runs-append}
 use Rattle.sj_party.specs.Leads.{Leads}
-use Rattle.sj_party.specs.Viable.{IsViable, IsWhole}
-use Rattle.sj_party.specs.Wrong.{IsTaken, IsWrongNext, GoesWrong}
+use Rattle.sj_party.specs.Viable.{IsSomeFile}
+use Rattle.sj_party.specs.Wrong.{IsTaken, file_grammar}
 use Rattle.sj_party.proofs.Faultless.{none_broken, not_viable, not_whole}
 use Rattle.sj_party.proofs.ViabilityLemmas.{viable, viable_over, whole}
 
@@ -44,27 +46,27 @@ module _ (ps : Pieces) (n : ℕ) (ds : List Due) (e : Leads limits 0 file_due ps
   breaks : (rule : Rule) → step file_layer limits n ds s ≡ stops rule → rule_of (step file_layer limits n ds s) ≡ Some rule
   breaks rule h = ap rule_of h
 
-  never : step file_layer limits n ds s ≡ stops (misfit s) → IsViable (ps ++ s ∷ []) → ⊥
+  never : step file_layer limits n ds s ≡ stops (misfit s) → IsViable IsSomeFile (ps ++ s ∷ []) → ⊥
   never h = not_viable limits ps s n ds (misfit s) e (breaks (misfit s) h) (misfits s)
 
-  over : step file_layer limits n ds s ≡ stops P4 → IsViable (ps ++ s ∷ [])
+  over : step file_layer limits n ds s ≡ stops P4 → IsViable IsSomeFile (ps ++ s ∷ [])
   over h = viable_over limits ps n ds e s (breaks P4 h)
 
   taken : (m : ℕ) (es : List Due) → step file_layer limits n ds s ≡ goes m es → IsTaken limits (ps ++ s ∷ [])
   taken m es h = record {
     count = m;
-    due = es;
+    dues = es;
     leads = (Runs-append file_layer limits ps (s ∷ []) 0 n m file_due ds es (record { steps = e }) (Runs-cons file_layer limits n m m ds es es s [] h (Runs-none file_layer limits m es))).steps;
   }
 
   not_taken : step file_layer limits n ds s ≡ stops P4 → IsTaken limits (ps ++ s ∷ []) → ⊥
   not_taken h t =
-      let goes_on = none_broken limits 0 t.count n file_due t.due ds (ps ++ s ∷ []) ps [] s t.leads refl e in
+      let goes_on = none_broken limits 0 t.count n file_due t.dues ds (ps ++ s ∷ []) ps [] s t.leads refl e in
       let both : Some P4 ≡ None = sym (breaks P4 h) ∙ goes_on in
       cc
 
   -- what rule the token breaks, in the grammar's own words
-  token_wrong : (what : What) (rest : List ℕ) (rule : Rule) → rule_of (step file_layer limits n ds s) ≡ Some rule → IsWrongNext ps (token what s rest) rule
+  token_wrong : (what : What) (rest : List ℕ) (rule : Rule) → rule_of (step file_layer limits n ds s) ≡ Some rule → IsWrongNext file_grammar ps (token what s rest) rule
   token_wrong what rest rule r = elim (stepped n ds s) [
     | inl h ↦ let same : Some rule ≡ Some (misfit s) = sym r ∙ breaks (misfit s) h in inl (cc, never h)
     | inr (inl h) ↦ let same : Some rule ≡ Some P4 = sym r ∙ breaks P4 h in inr (cc, over h, not_taken h)
@@ -72,11 +74,11 @@ module _ (ps : Pieces) (n : ℕ) (ds : List Due) (e : Leads limits 0 file_due ps
   ]
 
   -- and back
-  token_broken : (what : What) (rest : List ℕ) (rule : Rule) → IsWrongNext ps (token what s rest) rule → rule_of (step file_layer limits n ds s) ≡ Some rule
+  token_broken : (what : What) (rest : List ℕ) (rule : Rule) → IsWrongNext file_grammar ps (token what s rest) rule → rule_of (step file_layer limits n ds s) ≡ Some rule
   token_broken what rest rule (inl w) = elim (stepped n ds s) [
     | inl h ↦ breaks (misfit s) h ∙ ap Some (sym w.0)
     | inr (inl h) ↦ absurd (w.1 (over h))
-    | inr (inr h) ↦ let t = taken h.0 h.1 h.2 in absurd (w.1 (viable limits (ps ++ s ∷ []) t.count t.due t.leads))
+    | inr (inr h) ↦ let t = taken h.0 h.1 h.2 in absurd (w.1 (viable limits (ps ++ s ∷ []) t.count t.dues t.leads))
   ]
   token_broken what rest rule (inr w) = elim (stepped n ds s) [
     | inl h ↦ absurd (never h w.1)
@@ -86,16 +88,16 @@ module _ (ps : Pieces) (n : ℕ) (ds : List Due) (e : Leads limits 0 file_due ps
 
 -- what comes next, where these pieces are taken
 module _ (ps : Pieces) (n : ℕ) (ds : List Due) (e : Leads limits 0 file_due ps n ds) where
-  next_wrong : (x : Ahead) (rule : Rule) → broken file_layer limits n ds x ≡ Some rule → IsWrongNext ps x rule
+  next_wrong : (x : Ahead) (rule : Rule) → broken file_layer limits n ds x ≡ Some rule → IsWrongNext file_grammar ps x rule
   next_wrong at_end rule h = by_end (may_end file_layer ds) refl h
     where
-      by_end : (b : Bool) → may_end file_layer ds ≡ b → (if b then None else Some P1) ≡ Some rule → (rule ≡ P1) × (IsWhole ps → ⊥)
+      by_end : (b : Bool) → may_end file_layer ds ≡ b → (if b then None else Some P1) ≡ Some rule → (rule ≡ P1) × (IsSomeFile ps → ⊥)
       by_end true m f = let none : ⊥ = cc in absurd none
       by_end false m f = (cc, not_whole limits ps n ds e m)
   next_wrong (bad lexical rest) rule h = cc
   next_wrong (token what s rest) rule h = token_wrong ps n ds e s what rest rule h
 
-  next_broken : (x : Ahead) (rule : Rule) → IsWrongNext ps x rule → broken file_layer limits n ds x ≡ Some rule
+  next_broken : (x : Ahead) (rule : Rule) → IsWrongNext file_grammar ps x rule → broken file_layer limits n ds x ≡ Some rule
   next_broken at_end rule w = by_end (may_end file_layer ds) refl ∙ ap Some (sym w.0)
     where
       by_end : (b : Bool) → may_end file_layer ds ≡ b → ◌≡◌ {A = Option Rule} (if b then None else Some P1) (Some P1)
@@ -105,7 +107,7 @@ module _ (ps : Pieces) (n : ℕ) (ds : List Due) (e : Leads limits 0 file_due ps
   next_broken (token what s rest) rule w = token_broken ps n ds e s what rest rule w
 
 -- where the text is stuck it goes wrong
-pub goes_wrong : (bytes : List ℕ) (f : Fault) → Stuck file_layer limits 0 (start bytes [] []) file_due f → GoesWrong bytes f
+pub goes_wrong : (bytes : List ℕ) (f : Fault) → Stuck file_layer limits 0 (start bytes [] []) file_due f → GoesWrong file_grammar (start bytes [] []) f
 goes_wrong bytes f st =
     let ahead = next_of st.there.text.ahead in
     let rule_is : st.halts.rule ≡ f.rule = sym (ap (λ (g : Fault). g.rule) st.halts.fault) in
@@ -113,20 +115,20 @@ goes_wrong bytes f st =
       pieces = st.pieces;
       there = st.there;
       front = st.front;
-      viable = viable limits st.pieces st.count st.due st.fits;
-      within = record { count = st.count; due = st.due; leads = st.fits };
-      wrong = subst (IsWrongNext st.pieces ahead) rule_is (next_wrong st.pieces st.count st.due st.fits ahead st.halts.rule st.halts.breaks);
+      viable = viable limits st.pieces st.count st.dues st.fits;
+      within = record { count = st.count; dues = st.dues; leads = st.fits };
+      wrong = subst (IsWrongNext file_grammar st.pieces ahead) rule_is (next_wrong st.pieces st.count st.dues st.fits ahead st.halts.rule st.halts.breaks);
       position = st.halts.fault ∙ ap (fault_at (before_next st.there.text ahead)) rule_is;
     }
 
 -- and where it goes wrong it is stuck
-pub is_first_fault : (bytes : List ℕ) (f : Fault) → GoesWrong bytes f → Stuck file_layer limits 0 (start bytes [] []) file_due f
+pub is_first_fault : (bytes : List ℕ) (f : Fault) → GoesWrong file_grammar (start bytes [] []) f → Stuck file_layer limits 0 (start bytes [] []) file_due f
 is_first_fault bytes f w = record {
   pieces = w.pieces;
   there = w.there;
   count = w.within.count;
-  due = w.within.due;
+  dues = w.within.dues;
   front = w.front;
   fits = w.within.leads;
-  halts = record { rule = f.rule; breaks = next_broken w.pieces w.within.count w.within.due w.within.leads (next_of w.there.text.ahead) f.rule w.wrong; fault = w.position };
+  halts = record { rule = f.rule; breaks = next_broken w.pieces w.within.count w.within.dues w.within.leads (next_of w.there.text.ahead) f.rule w.wrong; fault = w.position };
 }

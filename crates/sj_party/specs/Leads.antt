@@ -17,6 +17,6 @@ pub record LeadsTo (L : Limits) (n : ℕ) (ds : List Due) (a : List Piece) (es :
 -- the pieces are taken, and behind them nothing need be due
 pub record Completes (L : Limits) (n : ℕ) (ds : List Due) (a : List Piece) : Type 0 where
   pub count : ℕ
-  pub due : List Due
-  pub steps : Leads L n ds (spellings a) count due
-  pub ends : may_end file_layer due ≡ true
+  pub dues : List Due
+  pub steps : Leads L n ds (spellings a) count dues
+  pub ends : may_end file_layer dues ≡ true

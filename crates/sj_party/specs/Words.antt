@@ -6,10 +6,10 @@ use Rattle.sj_grammar.specs.Literals.{is_text, is_largest}
 use Rattle.sj_grammar.specs.Positions.{Pieces}
 use Rattle.sj_grammar.specs.ExpressionDues.{whole}
 use Rattle.sj_grammar.specs.FileDues.{Due, name, fixed, expr, awaited, block, branches, semicolon}
-use Rattle.sj_party.specs.declared.openings.Word.{Word}
-use Rattle.sj_party.specs.declared.openings.Word.TheVariants as words
-use Rattle.sj_party.specs.declared.openings.Opening.{Opening}
-use Rattle.sj_party.specs.declared.openings.Opening.TheVariants as openings
+use Rattle.sj_party.specs.declared.first_words.Word.{Word}
+use Rattle.sj_party.specs.declared.first_words.Word.TheVariants as words
+use Rattle.sj_party.specs.declared.first_words.FirstWord.{FirstWord}
+use Rattle.sj_party.specs.declared.first_words.FirstWord.TheVariants as firsts
 
 abbrev pub simple_word : Word → List ℕ
 simple_word words.Send = codes "send"
@@ -21,13 +21,13 @@ simple_word words.Close = codes "close"
 simple_word words.Request = codes "request"
 simple_word words.Accept = codes "accept"
 
-abbrev pub word_of : Opening → List ℕ
-word_of (openings.Simple w) = simple_word w
-word_of openings.Inbranch = codes "inbranch"
-word_of openings.Outwhile = codes "outwhile"
-word_of openings.Inwhile = codes "inwhile"
-word_of openings.Relay = codes "relay"
-word_of openings.If = codes "if"
+abbrev pub word_of : FirstWord → List ℕ
+word_of (firsts.Simple w) = simple_word w
+word_of firsts.Inbranch = codes "inbranch"
+word_of firsts.Outwhile = codes "outwhile"
+word_of firsts.Inwhile = codes "inwhile"
+word_of firsts.Relay = codes "relay"
+word_of firsts.If = codes "if"
 
 abbrev pub simple_dues : Word → List Due → List Due
 simple_dues words.Send ds = name ∷ expr whole ∷ semicolon ∷ ds
@@ -40,13 +40,13 @@ simple_dues words.Request ds = name ∷ name ∷ fixed (codes "to") ∷ name ∷
 simple_dues words.Accept ds = name ∷ name ∷ fixed (codes "from") ∷ name ∷ semicolon ∷ ds
 
 -- behind the word, inside so many inner braces
-abbrev pub dues_behind : Opening → ℕ → List Due → List Due
-dues_behind (openings.Simple w) o ds = simple_dues w ds
-dues_behind openings.Inbranch o ds = name ∷ fixed (codes "{") ∷ name ∷ fixed (codes ":") ∷ block o ∷ branches o ∷ fixed (codes "}") ∷ ds
-dues_behind openings.Outwhile o ds = name ∷ expr whole ∷ block o ∷ ds
-dues_behind openings.Inwhile o ds = name ∷ block o ∷ ds
-dues_behind openings.Relay o ds = name ∷ name ∷ block o ∷ ds
-dues_behind openings.If o ds = expr whole ∷ block o ∷ fixed (codes "else") ∷ block o ∷ ds
+abbrev pub dues_behind : FirstWord → ℕ → List Due → List Due
+dues_behind (firsts.Simple w) o ds = simple_dues w ds
+dues_behind firsts.Inbranch o ds = name ∷ fixed (codes "{") ∷ name ∷ fixed (codes ":") ∷ block o ∷ branches o ∷ fixed (codes "}") ∷ ds
+dues_behind firsts.Outwhile o ds = name ∷ expr whole ∷ block o ∷ ds
+dues_behind firsts.Inwhile o ds = name ∷ block o ∷ ds
+dues_behind firsts.Relay o ds = name ∷ name ∷ block o ∷ ds
+dues_behind firsts.If o ds = expr whole ∷ block o ∷ fixed (codes "else") ∷ block o ∷ ds
 
 -- neither a name nor a text nor 2^63
 pub record IsFixed (s : List ℕ) : Type 0 where

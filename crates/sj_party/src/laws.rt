@@ -21,10 +21,12 @@ ghost use Rattle.sj_grammar.specs.Faults.{Stuck};
 ghost use Rattle.sj_grammar.specs.Statements.{IsStatement, IsCode, IsBlock, AreArms};
 ghost use Rattle.sj_grammar.specs.Files.{IsSpelled, IsFile};
 ghost use Rattle.sj_grammar.specs.FileDues.{Due, stmts, block, branches, file_layer, file_due};
+ghost use Rattle.sj_grammar.specs.Viable.{IsViable};
+ghost use Rattle.sj_grammar.specs.Wrong.{GoesWrong};
 ghost use Rattle.sj_party.specs.Alike.{AreAlike, EndsCode, EndsArms};
 ghost use Rattle.sj_party.specs.Leads.{Leads, LeadsTo, Completes};
-ghost use Rattle.sj_party.specs.Viable.{IsViable, IsViableWithin, IsWhole};
-ghost use Rattle.sj_party.specs.Wrong.{GoesWrong};
+ghost use Rattle.sj_party.specs.Viable.{IsSomeFile, IsViableWithin};
+ghost use Rattle.sj_party.specs.Wrong.{file_grammar};
 
 pub fn statements_are_what_is_due()
     ensures one { (L : Limits) (names : Spelling) (o n : ℕ) (s : StmtAt) (a : List Piece) (ds : List Due)
@@ -86,32 +88,32 @@ pub fn one_file_a_text()
 pub fn no_file_goes_on_there()
     ensures token { (L : Limits) (ps : Pieces) (s : List ℕ) (m : ℕ) (due : List Due) (rule : Rule)
         → Leads L 0 file_due ps m due → rule_of (step file_layer L m due s) ≡ Some rule → rule ≢ P4
-        → IsViable (ps ++ s ∷ []) → ⊥ }
+        → IsViable IsSomeFile (ps ++ s ∷ []) → ⊥ }
     ensures whole { (L : Limits) (ps : Pieces) (m : ℕ) (due : List Due) → Leads L 0 file_due ps m due
-        → may_end file_layer due ≡ false → IsWhole ps → ⊥ }
+        → may_end file_layer due ≡ false → IsSomeFile ps → ⊥ }
 {}
 
 pub fn a_file_goes_on_up_to_there()
     ensures front { (L : Limits) (ps : Pieces) (m : ℕ) (due : List Due) → Leads L 0 file_due ps m due
-        → IsViable ps }
+        → IsViable IsSomeFile ps }
     ensures over { (L : Limits) (ps : Pieces) (m : ℕ) (due : List Due) → Leads L 0 file_due ps m due
-        → (s : List ℕ) → rule_of (step file_layer L m due s) ≡ Some P4 → IsViable (ps ++ s ∷ []) }
+        → (s : List ℕ) → rule_of (step file_layer L m due s) ≡ Some P4 → IsViable IsSomeFile (ps ++ s ∷ []) }
     ensures within { (L : Limits) (ps : Pieces) (m : ℕ) (due : List Due)
         → Leads L 0 file_due ps m due → (s : List ℕ) (rule : Rule)
         → rule_of (step file_layer L m due s) ≡ Some rule → IsViableWithin L (ps ++ s ∷ []) → ⊥ }
     ensures whole { (L : Limits) (ps : Pieces) (m : ℕ) (due : List Due) → Leads L 0 file_due ps m due
-        → may_end file_layer due ≡ true → IsWhole ps }
+        → may_end file_layer due ≡ true → IsSomeFile ps }
 {}
 
 /// Up to the first fault of a file's text a file can go on so. At P1, and at the P3 of 2^63, none goes
 /// on with the next token, or the text isn't whole; at P4 one does, and the limits don't take the token.
 pub fn first_faults_go_wrong()
     ensures { (bytes : List ℕ) (f : Fault) → Stuck file_layer limits 0 (start bytes [] []) file_due f
-        → GoesWrong bytes f }
+        → GoesWrong file_grammar (start bytes [] []) f }
 {}
 
 /// Where a file's text goes wrong so is its first fault.
 pub fn what_goes_wrong_is_the_first_fault()
-    ensures { (bytes : List ℕ) (f : Fault) → GoesWrong bytes f
+    ensures { (bytes : List ℕ) (f : Fault) → GoesWrong file_grammar (start bytes [] []) f
         → Stuck file_layer limits 0 (start bytes [] []) file_due f }
 {}

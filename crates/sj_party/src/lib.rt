@@ -3,13 +3,14 @@
 
 mod connects;
 mod files;
+mod first_words;
 mod laws;
-mod openings;
 mod parties;
 mod parts;
 mod printing;
 mod printing_expressions;
 mod printing_laws;
+mod printing_parts;
 mod printing_statements;
 mod scalars;
 mod shapes;

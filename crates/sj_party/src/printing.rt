@@ -8,7 +8,8 @@ ghost use Rattle.sj_grammar.specs.Tables.{entry_of};
 ghost use Rattle.sj_party.specs.CanonicalExpression.{spelling_of};
 ghost use Rattle.sj_party.specs.CanonicalFile.{protocol_line, end_text, party_text, connect_text, protocols_text, parties_text, connects_text, file_text};
 
-use crate::printing_statements::{put_block, put_named, put_pair};
+use crate::printing_parts::{put_named, put_pair};
+use crate::printing_statements::put_block;
 use sj_base::NoMemory;
 use sj_lang::{Connect, EndDecl, File, Names, Party, Proto, ProtocolDef};
 use sj_proto::print_protocol;

@@ -8,94 +8,11 @@ ghost use Rattle.sj_grammar.specs.Statements.{scalar_piece};
 ghost use Rattle.sj_party.specs.CanonicalExpression.{spelling_of};
 ghost use Rattle.sj_party.specs.CanonicalCode.{spaces, in_block, named_text, pair_text, valued_text, given_text, deed_text, arms_text, block_text};
 
-use crate::printing_expressions::{Wanted, put_expression};
+use crate::printing_parts::{kind_bytes, put_given, put_named, put_pair, put_spaces, put_valued};
 use sj_base::NoMemory;
 use sj_lang::{Deed, Expr, Names, Scalar, Stmt, StmtArm};
 use sj_proto::put_word;
 use sj_text::put;
-
-// Appends so many spaces.
-fn put_spaces(text: &mut Vec<u8>, n: usize) -> Result<(), NoMemory>
-    ensures ok { OnOk result (text.new.items ≡ text.old.items ++ spaces n) }
-    ensures err { OnErr result (IsCutShort text.old.items (spaces n) text.new.items) }
-{
-    for _ in 0..n {
-        put(text, b" ")?;
-    }
-    Ok(())
-}
-
-/// Appends a name behind what stands before it.
-#[tactic(auto, using(sj_text::proofs::CutLemmas::cuts), unfolding(crate::specs::CanonicalCode::named_text))]
-pub fn put_named(text: &mut Vec<u8>, names: &Names, lead: &[u8], n: u16) -> Result<(), NoMemory>
-    ensures ok { OnOk result (text.new.items
-        ≡ text.old.items ++ named_text (spelling_of names.now) lead.now n) }
-    ensures err { OnErr result (IsCutShort text.old.items
-        (named_text (spelling_of names.now) lead.now n) text.new.items) }
-{
-    put(text, lead)?;
-    put_word(text, names, n)
-}
-
-/// Appends two names.
-#[tactic(auto, using(sj_text::proofs::CutLemmas::cuts), unfolding(crate::specs::CanonicalCode::pair_text))]
-pub fn put_pair(
-    text: &mut Vec<u8>,
-    names: &Names,
-    lead: &[u8],
-    x: u16,
-    y: u16,
-) -> Result<(), NoMemory>
-    ensures ok { OnOk result (text.new.items
-        ≡ text.old.items ++ pair_text (spelling_of names.now) lead.now x y) }
-    ensures err { OnErr result (IsCutShort text.old.items
-        (pair_text (spelling_of names.now) lead.now x y) text.new.items) }
-{
-    put_named(text, names, lead, x)?;
-    put_named(text, names, b" ", y)
-}
-
-// Appends an expression behind what stands before it.
-#[tactic(auto, using(sj_text::proofs::CutLemmas::cuts), unfolding(crate::specs::CanonicalCode::valued_text))]
-fn put_valued(text: &mut Vec<u8>, names: &Names, lead: &[u8], e: &Expr) -> Result<(), NoMemory>
-    ensures ok { OnOk result (text.new.items
-        ≡ text.old.items ++ valued_text (spelling_of names.now) lead.now (term_of e.now)) }
-    ensures err { OnErr result (IsCutShort text.old.items
-        (valued_text (spelling_of names.now) lead.now (term_of e.now)) text.new.items) }
-{
-    put(text, lead)?;
-    put_expression(text, names, Wanted::Whole, e)
-}
-
-// Appends a name, and behind a mark an expression.
-#[tactic(auto, using(sj_text::proofs::CutLemmas::cuts), unfolding(crate::specs::CanonicalCode::given_text))]
-fn put_given(
-    text: &mut Vec<u8>,
-    names: &Names,
-    lead: &[u8],
-    n: u16,
-    mark: &[u8],
-    e: &Expr,
-) -> Result<(), NoMemory>
-    ensures ok { OnOk result (text.new.items ≡ text.old.items
-        ++ given_text (spelling_of names.now) lead.now n mark.now (term_of e.now)) }
-    ensures err { OnErr result (IsCutShort text.old.items
-        (given_text (spelling_of names.now) lead.now n mark.now (term_of e.now)) text.new.items) }
-{
-    put_named(text, names, lead, n)?;
-    put_valued(text, names, mark, e)
-}
-
-// The kind of a message, and the end of the statement.
-fn kind_bytes(kind: Scalar) -> &'static [u8]
-    ensures { result.now ≡ codes " " ++ (scalar_piece kind ++ codes ";") }
-{
-    match kind {
-        Scalar::Int => b" int;",
-        Scalar::Boolean => b" boolean;",
-        Scalar::Text => b" String;",
-    }
-}
 
 // Appends a statement of two names.
 fn put_pair_line(

@@ -10,7 +10,7 @@ ghost use Rattle.sj_party.specs.Parts.{ReadsDeed};
 ghost use Rattle.sj_party.specs.Awaits.{take_deed};
 ghost use Rattle.sj_party.specs.Words.{simple_word, simple_dues};
 
-use crate::openings::Word;
+use crate::first_words::Word;
 use crate::parts::{
     Awaited, binding, name_and_value, names_around, one_name, take_awaited, two_names,
 };

@@ -16,16 +16,15 @@ ghost use Rattle.sj_party.specs.Rooms.{HasRoomFor, Uses};
 ghost use Rattle.sj_party.specs.Parts.{a_block, some_arms, ReadsPart, ReadsDeed};
 ghost use Rattle.sj_party.specs.Words.{word_of, dues_behind};
 
-use crate::openings::{Opening, begin};
+use crate::first_words::{FirstWord, begin};
 use crate::parts::{name_and_value, one_name, two_names};
 use crate::shapes::{labelled, statement};
 use crate::simple::simple;
 use sj_expr::parse_expression;
+use sj_grammar::MOST_OPEN;
 use sj_lang::{Deed, Names, Stmt, StmtArm};
 use sj_proto::{ParseRefusal, Tokens, is_name_text, take_first};
 use std::alloc::Global;
-
-const MOST_OPEN: usize = 32;
 
 /// Statements inside so many inner braces, as long as one begins with the next token.
 #[cycle(code)]
@@ -49,7 +48,7 @@ pub(crate) fn statements(
 {
     let mut list = Vec::new(alloc);
     'all: while let Some(begun) = begin(tokens) {
-        let deed = deed(alloc, tokens, names, depth, begun.opening)?;
+        let deed = deed(alloc, tokens, names, depth, begun.first)?;
         list.push(statement(begun.line, deed))?;
     }
     Ok(list)
@@ -62,35 +61,35 @@ fn deed(
     tokens: &mut Tokens,
     names: &mut Names,
     depth: usize,
-    opening: Opening,
+    first: FirstWord,
 ) -> Result<Deed, ParseRefusal>
     requires deep { depth ≤ limits.nesting }
     requires room { HasRoomFor 2 names.old tokens.old }
-    ensures reads { IfOk result (λ d. ReadsDeed (word_of opening) depth
+    ensures reads { IfOk result (λ d. ReadsDeed (word_of first) depth
         (standing tokens.old names.old) (standing tokens.new names.new) (deed_of d)) }
     ensures leaves { LeavesTables (Uses 1 0) result names.old tokens.old names.new tokens.new }
-    ensures fault { IfErr result (λ e. (n : ℕ) → Stops (λ ds. dues_behind opening depth ds) n
+    ensures fault { IfErr result (λ e. (n : ℕ) → Stops (λ ds. dues_behind first depth ds) n
         (standing tokens.old names.old) e) }
 {
-    match opening {
-        Opening::Simple(word) => simple(alloc, tokens, names, word),
-        Opening::Inbranch => inbranch(alloc, tokens, names, depth),
-        Opening::Outwhile => {
+    match first {
+        FirstWord::Simple(word) => simple(alloc, tokens, names, word),
+        FirstWord::Inbranch => inbranch(alloc, tokens, names, depth),
+        FirstWord::Outwhile => {
             let (end, count) = name_and_value(alloc, tokens, names)?;
             let body = block(alloc, tokens, names, depth)?;
             Ok(Deed::OutWhile { end, count, body })
         }
-        Opening::Inwhile => {
+        FirstWord::Inwhile => {
             let end = one_name(tokens, names)?;
             let body = block(alloc, tokens, names, depth)?;
             Ok(Deed::InWhile { end, body })
         }
-        Opening::Relay => {
+        FirstWord::Relay => {
             let (from, to) = two_names(tokens, names)?;
             let body = block(alloc, tokens, names, depth)?;
             Ok(Deed::Relay { from, to, body })
         }
-        Opening::If => test(alloc, tokens, names, depth),
+        FirstWord::If => test(alloc, tokens, names, depth),
     }
 }
 

@@ -66,8 +66,8 @@ file_or_fault bytes = elim (each_ends file_layer limits (suc (length bytes)) 0 (
         let ts = lined w.pieces (start bytes [] []) w.there w.front in
         let same : spellings ts ≡ w.pieces = lined_spelled w.pieces (start bytes [] []) w.there w.front in
         let held : AllHeld (IsKnown names) (spellings ts) = subst (λ (ps : Pieces). AllHeld (IsKnown names) ps) (sym same) (all_known w.pieces (start bytes [] []) w.there w.front) in
-        let ends = ends_back file_layer limits (Spelled limits names) (IsKnown names) (λ n m d es p ts. file_back limits names n m p d es ts) (none_spelled limits names) w.due w.count w.ends in
-        let x = whole_file limits w.there ts w.count w.due held (ap (run file_layer limits 0 file_due) same ∙ w.fits) ends in (
+        let ends = ends_back file_layer limits (Spelled limits names) (IsKnown names) (λ n m d es p ts. file_back limits names n m p d es ts) (none_spelled limits names) w.dues w.count w.ends in
+        let x = whole_file limits w.there ts w.count w.dues held (ap (run file_layer limits 0 file_due) same ∙ w.fits) ends in (
           x.file,
           record { pieces = x.pieces; spelled = x.spelled; end = w.there; begins = begins_alike w.pieces (start bytes [] []) w.there w.front x.pieces x.alike; whole = w.whole; words = x.words; texts = x.texts },
         )

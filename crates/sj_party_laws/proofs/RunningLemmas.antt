@@ -20,10 +20,10 @@ module _ {D : Type 0} (G : Layer D) (L : Limits) where
     pub pieces : Pieces
     pub there : At
     pub count : ℕ
-    pub due : List D
+    pub dues : List D
     pub front : Begins a pieces there
-    pub fits : run G L n ds pieces ≡ goes count due
-    pub ends : may_end G due ≡ true
+    pub fits : run G L n ds pieces ≡ goes count dues
+    pub ends : may_end G dues ≡ true
     pub whole : next_of there.text.ahead ≡ at_end
 
   -- one of the two ends of a text
@@ -35,7 +35,7 @@ module _ {D : Type 0} (G : Layer D) (L : Limits) where
   ends_here n a ds next = by_test (may_end G ds) refl
     where
       by_test : (b : Bool) → may_end G ds ≡ b → Ends n a ds
-      by_test true e = inl (record { pieces = []; there = a; count = n; due = ds; front = refl; fits = refl; ends = e; whole = next })
+      by_test true e = inl (record { pieces = []; there = a; count = n; dues = ds; front = refl; fits = refl; ends = e; whole = next })
       by_test false e = let f = fault_at (before_next a.text (next_of a.text.ahead)) P1 in
           inr (f, halts_stuck G L n a ds f (record { rule = P1; breaks = ap (broken G L n ds) next ∙ (λ i. if e i then None else Some P1); fault = refl }))
 
@@ -50,7 +50,7 @@ module _ {D : Type 0} (G : Layer D) (L : Limits) where
     pieces = s ∷ w.pieces;
     there = w.there;
     count = w.count;
-    due = w.due;
+    dues = w.dues;
     front = (m, t, w.front);
     fits = ap (λ (x : Step D). onward x (λ j gs. run G L j gs w.pieces)) e ∙ w.fits;
     ends = w.ends;

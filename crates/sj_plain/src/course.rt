@@ -1,5 +1,4 @@
 //! A course of acts: a file's parties and sessions as the acts so far have left them.
-ghost use Rattle.std.specs.List.{list_all, list_any};
 ghost use Rattle.std.specs.Prelude.{◌≡◌, ◌<◌, ◌≤◌, ◌∷◌, ◌++◌, [], None, Some, true, false, length, map, IfOk, MatchResult, OnErr, OnOk};
 ghost use Rattle.sj_acceptance.specs.Accepted.{IsAccepted};
 ghost use Rattle.sj_lang.specs.FileView.{file_of};
@@ -11,17 +10,17 @@ ghost use Rattle.sj_machine.specs.Sound.{program_at};
 ghost use Rattle.sj_plain.specs.Rounds.{Shows, steps_left};
 ghost use Rattle.sj_plain.specs.Stepping.{sessions_at};
 ghost use Rattle.sj_semantics.specs.World.{start_of, act_of};
-ghost use Rattle.sj_semantics.specs.State.{IsSettled, has_ended, is_accepted, is_at_limit, state_of, states_of, verdict_of};
+ghost use Rattle.sj_semantics.specs.State.{IsSettled, state_of};
 ghost use Rattle.sj_semantics.specs.declared.State.TheVariants.{Ready};
 
 use crate::Halt;
 use crate::ends::Session;
 use crate::kept::{Kept, copied_file};
-use crate::progress::{state_of, step};
+use crate::progress::step;
 use sj_base::NoMemory;
 use sj_lang::File;
 use sj_machine::Machine;
-use sj_semantics::{Opened, State, Verdict};
+use sj_semantics::{Opened, State};
 use std::alloc::Global;
 
 /// A file, its parties and sessions, and who acted so far.
@@ -196,86 +195,6 @@ impl Course {
         while self.round()? {}
         Ok(())
     }
-
-    /// How the party stands.
-    pub fn state(&self, party: u16) -> State
-        requires there { party < length (world_in self.now).parties }
-        requires ordered { IsOrdered self.now }
-        ensures { result ≡ state_of (world_in self.now) party }
-    {
-        let machine = &self.machines[party as usize];
-        state_of(&self.sessions, &self.opened, party, machine)
-    }
-
-    /// How the world stands as a whole: long where somebody is at a limit, else done where
-    /// everybody has ended and each opened session was accepted, else blocked.
-    pub fn verdict(&self) -> Verdict
-        requires few { length (world_in self.now).parties ≤ limits.parties }
-        requires ordered { IsOrdered self.now }
-        ensures { result ≡ verdict_of (world_in self.now) }
-    {
-        if self.some_at_limit() {
-            Verdict::Long
-        } else if self.all_ended() && all_accepted(&self.opened) {
-            Verdict::Done
-        } else {
-            Verdict::Blocked
-        }
-    }
-
-    /// Whether a party is at a limit.
-    fn some_at_limit(&self) -> bool
-        requires few { length (world_in self.now).parties ≤ limits.parties }
-        requires ordered { IsOrdered self.now }
-        ensures { result ≡ list_any is_at_limit (states_of (world_in self.now)) }
-    {
-        for i in 0..self.machines.len() {
-            if is_at_limit(self.state(i as u16)) {
-                return true;
-            }
-        }
-        false
-    }
-
-    /// Whether each party has ended.
-    fn all_ended(&self) -> bool
-        requires few { length (world_in self.now).parties ≤ limits.parties }
-        requires ordered { IsOrdered self.now }
-        ensures { result ≡ list_all has_ended (states_of (world_in self.now)) }
-    {
-        for i in 0..self.machines.len() {
-            if !has_ended(self.state(i as u16)) {
-                return false;
-            }
-        }
-        true
-    }
-}
-
-/// Whether a party that stands so is at a limit.
-fn is_at_limit(state: State) -> bool
-    ensures { result ≡ is_at_limit state }
-{
-    matches!(state, State::AtLimit(_))
-}
-
-/// Whether a party that stands so has ended.
-fn has_ended(state: State) -> bool
-    ensures { result ≡ has_ended state }
-{
-    matches!(state, State::Ended)
-}
-
-/// Whether each of the sessions was accepted.
-fn all_accepted(opened: &[Opened]) -> bool
-    ensures { result ≡ list_all is_accepted opened.now }
-{
-    for session in opened {
-        if session.second.is_none() {
-            return false;
-        }
-    }
-    true
 }
 
 /// The parties before their first steps.

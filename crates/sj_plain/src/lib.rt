@@ -10,6 +10,7 @@ mod plain;
 mod progress;
 mod sessions;
 mod uses;
+mod verdicts;
 
 pub use course::Course;
 pub use ends::Session;

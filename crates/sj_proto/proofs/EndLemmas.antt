@@ -32,6 +32,6 @@ fault_again r x e = ap (answer_to r) e
 pub one_fault : (bytes : List ℕ) (names : Names) (f g : Fault) → IsFirstFault bytes names f → IsFirstFault bytes names g → f ≡ g
 one_fault bytes names f g st other =
     let a = start bytes names.words names.texts in
-    let h = halts_there protocol_layer limits 0 other.count a other.there (body ∷ []) other.due other.pieces f st other.front other.fits (λ s c t. halts_at_token protocol_layer limits other.count other.there c other.due g s other.halts t) in
+    let h = halts_there protocol_layer limits 0 other.count a other.there (body ∷ []) other.dues other.pieces f st other.front other.fits (λ s c t. halts_at_token protocol_layer limits other.count other.there c other.dues g s other.halts t) in
     let rules : h.rule ≡ other.halts.rule = let both : Some h.rule ≡ Some other.halts.rule = sym h.breaks ∙ other.halts.breaks in cc in
     h.fault ∙ ap (fault_at (before_next other.there.text (next_of other.there.text.ahead))) rules ∙ sym other.halts.fault

@@ -80,7 +80,7 @@ module _ (bytes : List ℕ) (old : Names) (r : Reading) (same : r ≡ record { b
 pub no_fault : (bytes : List ℕ) (old new : Names) (p : Place) (f : Fault) → IsProtocol bytes old new p → IsFirstFault bytes old f → ⊥
 no_fault bytes old new p f is st =
     let word = entry_of new.words in
-    clash protocol_layer limits st.pieces (body_pieces word p) 0 st.count (item_count p) (start bytes old.words old.texts) st.there is.end (body ∷ []) st.due (more 0 ∷ []) f st.front st.fits st.halts is.begins
+    clash protocol_layer limits st.pieces (body_pieces word p) 0 st.count (item_count p) (start bytes old.words old.texts) st.there is.end (body ∷ []) st.dues (more 0 ∷ []) f st.front st.fits st.halts is.begins
     (body_run limits word p 0 [] is.body).steps refl is.whole
 
 -- a text stands for one protocol

@@ -6,8 +6,8 @@ use Rattle.sj_grammar.specs.declared.tokens.Rule.{Rule}
 use Rattle.sj_grammar.specs.Protocols.{open_piece}
 use Rattle.sj_grammar.specs.ProtocolDues.{is_way}
 use Rattle.sj_grammar.specs.Rules.{not_due, over_limit}
-use Rattle.sj_proto.specs.declared.choices.Opening.{Opening}
-use Rattle.sj_proto.specs.declared.choices.Opening.TheVariants as openings
+use Rattle.sj_proto.specs.declared.choices.Bracket.{Bracket}
+use Rattle.sj_proto.specs.declared.choices.Bracket.TheVariants as brackets
 
 -- no item, or one too many
 abbrev pub but_way : Bool → List ℕ → Option Rule
@@ -25,7 +25,7 @@ abbrev pub but_first : List ℕ → Bool → List ℕ → Option Rule
 but_first spelled full s = if bytes_eq s spelled then (if full then Some over_limit else None) else Some not_due
 
 -- what opens a bracket
-abbrev pub opening_piece : Way → Opening → List ℕ
-opening_piece w openings.Kind = open_piece w
-opening_piece w openings.Arms = codes "{"
-opening_piece w openings.Turns = codes "["
+abbrev pub bracket_piece : Way → Bracket → List ℕ
+bracket_piece w brackets.Kind = open_piece w
+bracket_piece w brackets.Arms = codes "{"
+bracket_piece w brackets.Turns = codes "["

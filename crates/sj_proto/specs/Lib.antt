@@ -1,5 +1,4 @@
 pub mod Choices
-pub mod Classes
 pub mod Found
 pub mod Items
 pub mod Leaves

@@ -1,5 +1,5 @@
 -- What the grammar of protocols can write, limits aside.
-use Rattle.std.specs.Prelude.{◌≡◌, ◌≢◌, IsTrue, ℕ, List, ◌++◌}
+use Rattle.std.specs.Prelude.{◌≡◌, ◌≢◌, IsTrue, ℕ, List}
 use Rattle.sj_lang.specs.Place.{Place, Carried, Choices, done, message, choice, repeat, int, boolean, text, session, no_choice, arm}
 use Rattle.sj_grammar.specs.Names.{is_name}
 use Rattle.sj_grammar.specs.Positions.{Pieces}
@@ -23,16 +23,8 @@ module _ (word : ℕ → List ℕ) where
     AreWritable no_choice = Unit {0}
     AreWritable (arm label p arms) = IsTrue (is_name (word label)) × IsWritable p × AreWritable arms
 
--- some protocol of the grammar, limits aside, begins with these pieces
-pub record IsViable (pieces : Pieces) : Type 0 where
-  pub word : ℕ → List ℕ
-  pub place : Place
-  pub later : Pieces
-  pub writable : IsWritable word place
-  pub same : pieces ++ later ≡ body_pieces word place
-
 -- some protocol of the grammar, limits aside, is these pieces
-pub record IsWhole (pieces : Pieces) : Type 0 where
+pub record IsSomeProtocol (pieces : Pieces) : Type 0 where
   pub word : ℕ → List ℕ
   pub place : Place
   pub writable : IsWritable word place

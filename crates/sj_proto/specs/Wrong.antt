@@ -1,19 +1,13 @@
--- Where the text of a protocol goes wrong, in the grammar's own words.
-use Rattle.std.specs.Prelude.{◌≡◌, ℕ, suc, Bool, false, ◌||◌, nat_le, nat_lt, IsTrue, ◌⊎◌, List, [], ◌∷◌, ◌++◌, length, drop, codes, if◌then◌else◌}
+-- The grammar of protocols, and which piece passes a limit.
+use Rattle.std.specs.Prelude.{◌≡◌, ℕ, suc, Bool, false, ◌||◌, nat_le, nat_lt, IsTrue, List, [], ◌∷◌, ◌++◌, length, drop, codes, if◌then◌else◌}
 use Rattle.std.specs.List.{fold}
 use Rattle.std.specs.Str.{bytes_eq}
-use Rattle.sj_lang.specs.declared.file.Names.{Names}
-use Rattle.sj_grammar.specs.declared.tokens.Rule.{Rule}
-use Rattle.sj_grammar.specs.declared.tokens.Fault.{Fault}
 use Rattle.sj_lang.specs.Limits.{Limits, limits}
-use Rattle.sj_grammar.specs.Lexis.{Ahead, at_end, bad, token, next_of}
-use Rattle.sj_grammar.specs.Reading.{before_next, fault_at}
 use Rattle.sj_grammar.specs.Names.{is_name}
-use Rattle.sj_grammar.specs.Positions.{Pieces, At, start, Begins}
-use Rattle.sj_grammar.specs.Layers.{misfit}
+use Rattle.sj_grammar.specs.Positions.{Pieces}
 use Rattle.sj_grammar.specs.ProtocolDues.{is_way}
-use Rattle.sj_grammar.specs.Rules.{not_due, over_limit}
-use Rattle.sj_proto.specs.Writable.{IsViable, IsWhole}
+use Rattle.sj_grammar.specs.Wrong.{Grammar}
+use Rattle.sj_proto.specs.Writable.{IsSomeProtocol}
 
 abbrev pub is_open : List ℕ → Bool
 is_open s = bytes_eq s (codes "<") || (bytes_eq s (codes "(") || (bytes_eq s (codes "{") || bytes_eq s (codes "[")))
@@ -55,19 +49,10 @@ is_over L n ns s =
 abbrev pub passes_limit : Pieces → List ℕ → Bool
 passes_limit ps s = is_over limits (items_in ps) (brackets_in ps) s
 
--- what comes next breaks that rule: where no protocol goes on so, where a limit is passed, or where the protocol isn't whole
-abbrev pub IsWrongNext : Pieces → Ahead → Rule → Type 0
-IsWrongNext ps at_end rule = (rule ≡ not_due) × (IsWhole ps → ⊥)
-IsWrongNext ps (bad lexical rest) rule = rule ≡ lexical
-IsWrongNext ps (token what s rest) rule =
-    ((rule ≡ misfit s) × (IsViable (ps ++ s ∷ []) → ⊥)) ⊎ ((rule ≡ over_limit) × IsViable (ps ++ s ∷ []) × IsTrue (passes_limit ps s))
+-- none of the pieces does
+abbrev pub PassesNone : Pieces → Type 0
+PassesNone pieces = (before later : Pieces) (s : List ℕ) → pieces ≡ before ++ s ∷ later → passes_limit before s ≡ false
 
--- The text goes wrong there: up to there a protocol can go on so, and no piece passes a limit.
-pub record GoesWrong (bytes : List ℕ) (names : Names) (f : Fault) : Type 0 where
-  pub pieces : Pieces
-  pub there : At
-  pub front : Begins (start bytes names.words names.texts) pieces there
-  pub viable : IsViable pieces
-  pub within : (before later : Pieces) (s : List ℕ) → pieces ≡ before ++ s ∷ later → passes_limit before s ≡ false
-  pub wrong : IsWrongNext pieces (next_of there.text.ahead) f.rule
-  pub position : f ≡ fault_at (before_next there.text (next_of there.text.ahead)) f.rule
+-- the grammar of protocols
+abbrev pub protocol_grammar : Grammar
+protocol_grammar = record { IsWhole = IsSomeProtocol; IsWithin = PassesNone; PassesLimit = λ ps s. IsTrue (passes_limit ps s) }

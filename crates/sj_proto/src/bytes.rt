@@ -1,38 +1,10 @@
 //! Kinds of bytes.
 ghost use Rattle.std.specs.Prelude.{◌≡◌, ◌+◌, ◌≤◌, length, drop};
 ghost use Rattle.std.specs.List.{prefix_len};
-ghost use Rattle.sj_grammar.specs.Bytes.{is_blank, is_letter, is_symbol};
-ghost use Rattle.sj_proto.specs.Classes.{in_class};
+ghost use Rattle.sj_grammar.specs.Bytes.{is_blank, is_symbol};
+ghost use Rattle.sj_grammar.specs.Classes.{in_class};
 
-/// Runs of bytes that a token is made of.
-#[derive(Clone, Copy, Debug, PartialEq, Eq)]
-pub enum Class {
-    WordByte,
-    Digit,
-    Inside,
-    Printable,
-    Comment,
-}
-
-/// Whether the byte is of that class.
-pub fn is_in(class: Class, b: u8) -> bool
-    ensures { result ≡ in_class class b }
-{
-    match class {
-        Class::WordByte => is_letter_byte(b) || b.is_ascii_digit(),
-        Class::Digit => b.is_ascii_digit(),
-        Class::Inside => b != b'"' && b != b'\n',
-        Class::Printable => b >= 32 && b <= 126 && b != b'"' && b != b'\\',
-        Class::Comment => (b >= 32 && b <= 126) || b == b'\t' || b == b'\r',
-    }
-}
-
-/// Whether a word may begin with the byte.
-pub fn is_letter_byte(b: u8) -> bool
-    ensures { result ≡ is_letter b }
-{
-    b.is_ascii_alphabetic() || b == b'_'
-}
+use sj_grammar::{Class, is_in};
 
 pub fn is_blank_byte(b: u8) -> bool
     ensures { result ≡ is_blank b }

@@ -3,15 +3,15 @@ ghost use Rattle.std.specs.Prelude.{◌≡◌, ◌<◌, false, length, IfOk, IfE
 ghost use Rattle.sj_grammar.specs.Asked.{TakesText, Refuses};
 ghost use Rattle.sj_grammar.specs.Protocols.{way_piece, open_piece, close_piece};
 ghost use Rattle.sj_proto.specs.Onward.{Advances};
-ghost use Rattle.sj_proto.specs.Choices.{but_way, but_open, but_first, opening_piece};
+ghost use Rattle.sj_proto.specs.Choices.{but_way, but_open, but_first, bracket_piece};
 
 use crate::tokens::Tokens;
 use sj_grammar::{Fault, Rule};
 use sj_lang::Way;
 
-/// What an item begins with, behind its way.
+/// What opens a bracket, behind the way of an item.
 #[derive(Clone, Copy)]
-pub enum Opening {
+pub enum Bracket {
     Kind,
     Arms,
     Turns,
@@ -48,8 +48,8 @@ fn open_bytes(way: Way) -> &'static [u8]
 }
 
 /// What opens a bracket behind the way, which passes a limit where it is too deep.
-pub fn take_opening(tokens: &mut Tokens, way: Way, deep: bool) -> Result<Opening, Fault>
-    ensures ok { IfOk result (λ o. TakesText tokens.old (opening_piece way o) tokens.new) }
+pub fn take_bracket(tokens: &mut Tokens, way: Way, deep: bool) -> Result<Bracket, Fault>
+    ensures ok { IfOk result (λ o. TakesText tokens.old (bracket_piece way o) tokens.new) }
     ensures room { IfOk result (λ _. deep ≡ false) }
     ensures fault { IfErr result (Refuses (but_open way deep) tokens.old) }
     ensures shorter { IfOk result (λ _. length tokens.new.ahead < length tokens.old.ahead) }
@@ -63,13 +63,13 @@ pub fn take_opening(tokens: &mut Tokens, way: Way, deep: bool) -> Result<Opening
         return Err(tokens.fault(Rule::P4));
     }
     if tokens.accept(kind) {
-        return Ok(Opening::Kind);
+        return Ok(Bracket::Kind);
     }
     if tokens.accept(b"{") {
-        return Ok(Opening::Arms);
+        return Ok(Bracket::Arms);
     }
     tokens.expect(b"[")?;
-    Ok(Opening::Turns)
+    Ok(Bracket::Turns)
 }
 
 /// The bracket that closes what the way opened.

@@ -14,10 +14,11 @@ ghost use Rattle.sj_grammar.specs.declared.tokens.Token.{Token};
 ghost use Rattle.sj_grammar.specs.declared.tokens.What.TheVariants.{End};
 ghost use Rattle.sj_grammar.specs.Lexis.{next_of, at_end, bad};
 ghost use Rattle.sj_grammar.specs.Reading.{Reading, answer_to, reading_after};
-ghost use Rattle.sj_grammar.specs.Positions.{At};
+ghost use Rattle.sj_grammar.specs.Positions.{At, start};
+ghost use Rattle.sj_grammar.specs.Wrong.{GoesWrong};
 ghost use Rattle.sj_proto.specs.Onward.{Advances};
 ghost use Rattle.sj_proto.specs.Protocols.{IsProtocol, AreProtocols, IsFirstFault, IsFaultInProtocols};
-ghost use Rattle.sj_proto.specs.Wrong.{GoesWrong};
+ghost use Rattle.sj_proto.specs.Wrong.{protocol_grammar};
 
 /// `End` is answered where only blanks and comments are left, and nowhere else.
 pub fn only_the_end_is_the_end()
@@ -66,12 +67,13 @@ pub fn no_protocol_has_a_fault()
 /// next token, or the text isn't whole; at P4 one does, limits aside, and the token passes a limit.
 pub fn first_faults_go_wrong()
     ensures { (bytes : List ℕ) (names : NamesAt) (f : Fault) → IsFirstFault bytes names f
-        → GoesWrong bytes names f }
+        → GoesWrong protocol_grammar (start bytes names.words names.texts) f }
 {}
 
 /// Where a text goes wrong so is its first fault.
 pub fn what_goes_wrong_is_the_first_fault()
-    ensures { (bytes : List ℕ) (names : NamesAt) (f : Fault) → GoesWrong bytes names f
+    ensures { (bytes : List ℕ) (names : NamesAt) (f : Fault)
+        → GoesWrong protocol_grammar (start bytes names.words names.texts) f
         → IsFirstFault bytes names f }
 {}
 

@@ -16,7 +16,6 @@ mod shapes;
 mod tokens;
 
 pub use bodies::body;
-pub use bytes::{Class, is_in, is_letter_byte};
 pub use choices::take_first;
 pub use laws::{
     a_fault_comes_again, first_faults_go_wrong, no_list_in_front_has_a_fault,

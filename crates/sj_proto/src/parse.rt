@@ -14,17 +14,15 @@ ghost use Rattle.sj_proto.specs.Left.{due_behind};
 ghost use Rattle.sj_proto.specs.Leaves.{LeavesItems};
 ghost use Rattle.sj_proto.specs.Parsed.{standing, Gives, Stops, HasRoom};
 
-use crate::choices::{Opening, close_bytes, take_opening, take_way};
+use crate::choices::{Bracket, close_bytes, take_bracket, take_way};
 use crate::naming::take_name;
 use crate::shapes::{choice_item, loop_item, message_item};
 use crate::tokens::Tokens;
-use sj_grammar::ParseRefusal;
+use sj_grammar::{MOST_OPEN, ParseRefusal};
 use sj_lang::{Arm, Arms, Item, Kind, Names, Proto, Way};
 use std::alloc::Global;
 
 const MOST_ITEMS: usize = 1024;
-
-const MOST_OPEN: usize = 32;
 
 const MOST_LABELS: usize = 16;
 
@@ -111,16 +109,16 @@ fn item(
 {
     let way = take_way(tokens, *items >= MOST_ITEMS)?;
     *items += 1;
-    match take_opening(tokens, way, depth >= MOST_OPEN)? {
-        Opening::Kind => {
+    match take_bracket(tokens, way, depth >= MOST_OPEN)? {
+        Bracket::Kind => {
             let carried = carried(alloc, tokens, names, items, depth + 1, way)?;
             Ok(message_item(way, carried))
         }
-        Opening::Arms => {
+        Bracket::Arms => {
             let arms = choices(alloc, tokens, names, items, depth + 1)?;
             Ok(choice_item(way, arms))
         }
-        Opening::Turns => {
+        Bracket::Turns => {
             let body = turns(alloc, tokens, names, items, depth + 1)?;
             Ok(loop_item(way, body))
         }

@@ -1,17 +1,8 @@
 //! Names, and the words that are none.
 ghost use Rattle.std.specs.Prelude.{◌≡◌};
-ghost use Rattle.std.specs.List.{list_all};
-ghost use Rattle.std.specs.Str.{bytes_eq};
-ghost use Rattle.sj_grammar.specs.Bytes.{is_word_byte};
-ghost use Rattle.sj_grammar.specs.Names.{early_reserved, middle_reserved, late_reserved, is_among, is_reserved, is_word, is_name};
+ghost use Rattle.sj_grammar.specs.Names.{early_reserved, middle_reserved, late_reserved, is_among, is_reserved, is_name};
 
-use crate::bytes::{Class, is_in, is_letter_byte};
-
-fn is(word: &[u8], other: &[u8]) -> bool
-    ensures { result ≡ bytes_eq word.now other.now }
-{
-    word == other
-}
+use sj_grammar::{is, is_word_text};
 
 fn is_early(w: &[u8]) -> bool
     ensures { result ≡ is_among early_reserved w.now }
@@ -60,21 +51,6 @@ fn is_reserved_word(w: &[u8]) -> bool
     ensures { result ≡ is_reserved w.now }
 {
     is_early(w) || is_middle(w) || is_late(w)
-}
-
-fn are_word_bytes(w: &[u8]) -> bool
-    ensures { result ≡ list_all is_word_byte w.now }
-{
-    w.iter().all(|b| is_in(Class::WordByte, *b))
-}
-
-fn is_word_text(w: &[u8]) -> bool
-    ensures { result ≡ is_word w.now }
-{
-    match w {
-        [] => false,
-        [first, rest @ ..] => is_letter_byte(*first) && are_word_bytes(rest),
-    }
 }
 
 /// Whether the token is a NAME of the grammar: a word that isn't reserved.

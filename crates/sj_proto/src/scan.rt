@@ -4,12 +4,12 @@ ghost use Rattle.std.specs.List.{prefix_len, take_while};
 ghost use Rattle.sj_grammar.specs.Bytes.{begins_with, is_digit, quote_byte, is_double};
 ghost use Rattle.sj_grammar.specs.Lexis.{next_of, token_of, number_of, text_of, has_leading_zero};
 ghost use Rattle.sj_grammar.specs.Refusals.{first_rule};
-ghost use Rattle.sj_proto.specs.declared.bytes.Class.TheVariants as classes;
-ghost use Rattle.sj_proto.specs.Classes.{in_class};
+ghost use Rattle.sj_grammar.specs.declared.bytes.Class.TheVariants as classes;
+ghost use Rattle.sj_grammar.specs.Classes.{in_class};
 ghost use Rattle.sj_proto.specs.Found.{IsPosition, found_of, IsAhead, spot_of, value_of};
 
-use crate::bytes::{Class, is_blank_byte, is_in, is_letter_byte, is_symbol_byte, run_end};
-use sj_grammar::{Rule, What};
+use crate::bytes::{is_blank_byte, is_symbol_byte, run_end};
+use sj_grammar::{Class, Rule, What, is_in, is_largest_number, is_letter_byte};
 
 /// The line and the column of a position, from those of an earlier one.
 pub fn position(bytes: &[u8], at: usize, to: usize, line: u32, column: u32) -> (u32, u32)
@@ -173,9 +173,6 @@ pub fn find(bytes: &[u8], at: usize) -> Found
     Found::Nothing
 }
 
-// The one number that stands behind a factor's own minus alone: 2^63.
-const LARGEST: &[u8] = b"9223372036854775808";
-
 /// The rule that what comes next breaks where it may not stand, and where it begins.
 pub fn fault_in(bytes: &[u8], found: Found, rule: Rule) -> (Rule, usize)
     requires { (at : ℕ) × IsAhead at bytes.now found }
@@ -186,7 +183,7 @@ pub fn fault_in(bytes: &[u8], found: Found, rule: Rule) -> (Rule, usize)
         Found::Nothing => (rule, bytes.len()),
         Found::Bad(lexical, at) => (lexical, at),
         Found::Piece(_, from, to) => {
-            if &bytes[from..to] == LARGEST {
+            if is_largest_number(&bytes[from..to]) {
                 (Rule::P3, from)
             } else {
                 (rule, from)

@@ -2,6 +2,8 @@
 use Rattle.std.proofs.Common.{◌≡◌, ◌⊎◌, ◌∙◌, ℕ, zero, suc, ◌<◌, max, Bool, List, [], ◌∷◌, ◌++◌, map, length, get_or, Option, Some, option_map, inl, inr, refl, sym, ap, subst}
 use Rattle.std.specs.Prelude.{slice_get}
 use Rattle.std.proofs.lemmas.List.{length-map}
+use Rattle.sj_lane.specs.declared.lane.OutLane.{Ghosts as OutLane}
+use Rattle.sj_lane.specs.declared.lane.InLane.{Ghosts as InLane}
 use Rattle.sj_core.specs.Replaying.{IsMisfitFrom}
 use Rattle.sj_core.specs.declared.refusal.ReplayRefusal.{ReplayRefusal}
 use Rattle.sj_core.specs.declared.refusal.ReplayRefusal.TheVariants as replays
@@ -14,7 +16,6 @@ use Rattle.sj_lang.specs.FileAt.{FileAt}
 use Rattle.sj_node.specs.Node.{log_of, node_at}
 use Rattle.sj_plain.specs.Kept.{without_words}
 use Rattle.sj_semantics.specs.Program.{Program}
-use Rattle.sj_rules.specs.Frames.{FrameAt}
 use Rattle.sj_rules.specs.History.{IsFirstMisfit, IsHistory, due}
 use Rattle.sj_rules.specs.Log.{IsJoined, LineAt}
 use Rattle.sj_rules.specs.Node.{NodeAt}
@@ -84,15 +85,13 @@ same_logs [] p = refl
 same_logs (w ∷ ws) zero = refl
 same_logs (w ∷ ws) (suc p) = same_logs ws p
 
-module _ {O I : Type 0} (pushed : O → Option (List (FrameAt Place))) (out_faults out_vain : O → ℕ) (same_out : O → O → Type 0)
-    (popped : I → Option (List (FrameAt Place))) (in_faults in_vain : I → ℕ) (same_in : I → I → Type 0) (joined : O → I → Type 0)
-    (file : FileAt) (looks : ℕ) (tells : Bool) (workers : List (Worker O I))
-    (all : AllWorked pushed out_faults out_vain same_out popped in_faults in_vain same_in joined file looks tells workers) where
+module _ {O I : Type 0} (outward : OutLane O) (inward : InLane I) (joined : O → I → Type 0) (file : FileAt) (looks : ℕ) (tells : Bool)
+    (workers : List (Worker O I)) (all : AllWorked outward inward joined file looks tells workers) where
   -- what a worker left went by its steps
   went : (p : ℕ) (w : Worker O I) → slice_get workers p ≡ Some w → HasWent file p (left_of w)
   went p w there =
       let h = all.each p w there in
-      let t = turned pushed out_faults out_vain same_out popped in_faults in_vain same_in joined file looks tells workers all p w there in
+      let t = turned outward inward joined file looks tells workers all p w there in
       let work = t.went.work in
       record {
         steps = work.steps;
@@ -104,7 +103,7 @@ module _ {O I : Type 0} (pushed : O → Option (List (FrameAt Place))) (out_faul
         play = t.went.play ∙ h.first.play;
         party = t.went.party ∙ h.first.party;
         parties = t.went.parties ∙ h.first.parties;
-        refused = λ stopped. (t.lost, subst (λ (x : Option Stop). Cause out_faults out_vain in_faults in_vain x looks t.lost h.old w) stopped t.cause);
+        refused = λ stopped. (t.lost, subst (λ (x : Option Stop). Cause outward inward x looks t.lost h.old w) stopped t.cause);
       }
 
   module _ (faultless : NoneStopped workers stops.Fault) (lines : List LineAt) (joins : IsJoined (logs_in workers) lines) where
@@ -116,7 +115,7 @@ module _ {O I : Type 0} (pushed : O → Option (List (FrameAt Place))) (out_faul
     }
 
     damage_over : (number : ℕ) (logged : LineAt) (other : Option LineAt) → IsFirstMisfit max file lines number logged other ⊎ IsPastEnd file (map left_of workers) lines number logged other
-        → IsDamageOver pushed out_faults out_vain same_out popped in_faults in_vain same_in joined file looks tells number logged other
+        → IsDamageOver outward inward joined file looks tells number logged other
     damage_over number logged other cause = record {
       workers = workers;
       worked = all;
@@ -132,14 +131,14 @@ module _ {O I : Type 0} (pushed : O → Option (List (FrameAt Place))) (out_faul
 
     -- lines that don't fit are damage
     pub misfit_damage : (r : ReplayRefusal) → IsMisfitFrom file lines r
-        → IsDamagedOver pushed out_faults out_vain same_out popped in_faults in_vain same_in joined file looks tells (run_refusal r)
+        → IsDamagedOver outward inward joined file looks tells (run_refusal r)
     misfit_damage (replays.Misfit x) m = damage_over x.number (line_at x.logged) (option_map line_at x.due) (inl m)
     misfit_damage replays.NoMemory m = tt {0}
 
     -- what the lowest unfit party refused behind a history is damage
     pub refused_damage : (kept : FileAt) (w : WorldAt Place Program) (refused : Line) (r : RunRefusal) → kept ≡ without_words file → IsHistory max file lines w
         → IsLowestUnfit (map left_of workers) (line_at refused) → IsPastEndOf kept w lines refused r
-        → IsDamagedOver pushed out_faults out_vain same_out popped in_faults in_vain same_in joined file looks tells r
+        → IsDamagedOver outward inward joined file looks tells r
     refused_damage kept w refused (refusals.Damaged x) same h lowest past =
         let after = past.1 in
         damage_over x.number (line_at x.logged) (option_map line_at x.due)

@@ -25,6 +25,8 @@ use Rattle.sj_joined_lemmas.proofs.WorkLemmas.{list_of, shown, told_by}
 use Rattle.sj_rules_laws.proofs.JoinedFileLemmas.{lines_are_history, lines_are_run, lost_arrives, own_joined_run, world_of}
 use Rattle.sj_rules_laws.proofs.LimitLemmas.{core_run_clocks}
 use Rattle.sj_rules_laws.proofs.ShortRunLemmas.{runs_are_short}
+use Rattle.sj_lane.specs.declared.lane.OutLane.{Ghosts as OutLane}
+use Rattle.sj_lane.specs.declared.lane.InLane.{Ghosts as InLane}
 use Rattle.sj_lane.specs.Square.{Kept}
 use Rattle.sj_node.specs.Node as nodes
 use Rattle.sj_node.specs.Node.{act_of, clock_of, node_at}
@@ -83,22 +85,20 @@ none_there (x ∷ xs) (suc p) le = none_there xs p (omega (arith, le))
 lost_own : (l : LostAt Place) → lost_from (Some l) l.party ≡ l.frame ∷ []
 lost_own l = let same : (l.party == l.party) ≡ true = grind (arith, nat_tests) in rw same refl
 
-module _ {O I : Type 0} (pushed : O → Option (List (FrameAt Place))) (out_faults out_vain : O → ℕ) (same_out : O → O → Type 0)
-    (popped : I → Option (List (FrameAt Place))) (in_faults in_vain : I → ℕ) (same_in : I → I → Type 0) (joined : O → I → Type 0)
-    (file : FileAt) (accepted : IsAccepted file) (looks : ℕ) (workers : List (Worker O I))
-    (all : AllWorked pushed out_faults out_vain same_out popped in_faults in_vain same_in joined file looks true workers) (links : LinksAt)
-    (keeps : Kept pushed popped out_vain in_vain (map lanes_of workers) links.sent links.got links.vain_out links.vain_in) where
+module _ {O I : Type 0} (outward : OutLane O) (inward : InLane I) (joined : O → I → Type 0) (file : FileAt) (accepted : IsAccepted file)
+    (looks : ℕ) (workers : List (Worker O I)) (all : AllWorked outward inward joined file looks true workers) (links : LinksAt)
+    (keeps : Kept outward.pushed inward.popped outward.vain inward.vain (map lanes_of workers) links.sent links.got links.vain_out links.vain_in) where
   abbrev n : ℕ
   n = length file.parties
 
   abbrev new : ℕ → LanedAt Place Program O I
-  new = news pushed out_faults out_vain same_out popped in_faults in_vain same_in joined file looks true workers all
+  new = news outward inward joined file looks true workers all
 
   abbrev pub team : ℕ → WorkerAt Place Program
-  team p = shown pushed same_out popped same_in (new p)
+  team p = shown outward.pushed outward.same inward.popped inward.same (new p)
 
   abbrev lost : ℕ → ℕ → List (FrameAt Place)
-  lost p = lost_from (losts pushed out_faults out_vain same_out popped in_faults in_vain same_in joined file looks true workers all p)
+  lost p = lost_from (losts outward inward joined file looks true workers all p)
 
   -- a party's worker
   worker_at : (p : ℕ) → p < n → (w : Worker O I) × (slice_get workers p ≡ Some w)
@@ -121,26 +121,26 @@ module _ {O I : Type 0} (pushed : O → Option (List (FrameAt Place))) (out_faul
       let sq = all.square q (lanes_of w) (lanes_at q w there) in
       there_is (lanes_of w).ins.items p (omega (arith, lt, sq.1, many))
 
-  out_kept : (p q : ℕ) (w : Worker O I) (o : O) → slice_get workers p ≡ Some w → out_of w q ≡ Some o → (pushed o ≡ Some (links.sent p q)) × (out_vain o ≡ links.vain_out p q)
+  out_kept : (p q : ℕ) (w : Worker O I) (o : O) → slice_get workers p ≡ Some w → out_of w q ≡ Some o → (outward.pushed o ≡ Some (links.sent p q)) × (outward.vain o ≡ links.vain_out p q)
   out_kept p q w o there is = keeps.outs p q o (ap (λ l. Rattle.sj_lane.specs.Square.out_in l q) (lanes_at p w there) ∙ is)
 
-  in_kept : (p q : ℕ) (w : Worker O I) (i : I) → slice_get workers q ≡ Some w → in_of w p ≡ Some i → (popped i ≡ Some (links.got p q)) × (in_vain i ≡ links.vain_in p q)
+  in_kept : (p q : ℕ) (w : Worker O I) (i : I) → slice_get workers q ≡ Some w → in_of w p ≡ Some i → (inward.popped i ≡ Some (links.got p q)) × (inward.vain i ≡ links.vain_in p q)
   in_kept p q w i there is = keeps.ins p q i (ap (λ l. Rattle.sj_lane.specs.Square.in_in l p) (lanes_at q w there) ∙ is)
 
   new_is : (p : ℕ) (w : Worker O I) → slice_get workers p ≡ Some w → new p ≡ laned w
-  new_is p w there = ap (λ (o : Option (Worker O I)). Rattle.sj_run.proofs.TeamLemmas.new_or pushed out_faults out_vain same_out popped in_faults in_vain same_in joined file looks true workers all p o) there
+  new_is p w there = ap (λ (o : Option (Worker O I)). Rattle.sj_run.proofs.TeamLemmas.new_or outward inward joined file looks true workers all p o) there
 
-  sent_is : (p q : ℕ) → p < n → q < n → told_by pushed ((new p).outs q) ≡ links.sent p q
+  sent_is : (p q : ℕ) → p < n → q < n → told_by outward.pushed ((new p).outs q) ≡ links.sent p q
   sent_is p q lt mt =
       let w = worker_at p lt in
       let o = out_there p q w.0 w.1 mt in
-      ap (λ (l : LanedAt Place Program O I). told_by pushed (l.outs q)) (new_is p w.0 w.1) ∙ ap (told_by pushed) o.1 ∙ ap list_of (out_kept p q w.0 o.0 w.1 o.1).0
+      ap (λ (l : LanedAt Place Program O I). told_by outward.pushed (l.outs q)) (new_is p w.0 w.1) ∙ ap (told_by outward.pushed) o.1 ∙ ap list_of (out_kept p q w.0 o.0 w.1 o.1).0
 
-  got_is : (p q : ℕ) → p < n → q < n → told_by popped ((new q).ins p) ≡ links.got p q
+  got_is : (p q : ℕ) → p < n → q < n → told_by inward.popped ((new q).ins p) ≡ links.got p q
   got_is p q lt mt =
       let w = worker_at q mt in
       let i = in_there p q w.0 w.1 lt in
-      ap (λ (l : LanedAt Place Program O I). told_by popped (l.ins p)) (new_is q w.0 w.1) ∙ ap (told_by popped) i.1 ∙ ap list_of (in_kept p q w.0 i.0 w.1 i.1).0
+      ap (λ (l : LanedAt Place Program O I). told_by inward.popped (l.ins p)) (new_is q w.0 w.1) ∙ ap (told_by inward.popped) i.1 ∙ ap list_of (in_kept p q w.0 i.0 w.1 i.1).0
 
   no_lane : (p q : ℕ) → n ≤ p → q < n → (new q).ins p ≡ None
   no_lane p q le lt =
@@ -153,16 +153,16 @@ module _ {O I : Type 0} (pushed : O → Option (List (FrameAt Place))) (out_faul
 
   pub works : PartiesWork play max done n (core_start file) team lost
   works =
-      team_works pushed out_faults out_vain same_out popped in_faults in_vain same_in joined file looks true workers all refl no_lane
-      (λ p q lt mt. subst (λ xs. mathlib.Core.List.IsPrefix xs (told_by pushed ((new p).outs q))) (sym (got_is p q lt mt))
+      team_works outward inward joined file looks true workers all refl no_lane
+      (λ p q lt mt. subst (λ xs. mathlib.Core.List.IsPrefix xs (told_by outward.pushed ((new p).outs q))) (sym (got_is p q lt mt))
       (subst (λ ys. mathlib.Core.List.IsPrefix (links.got p q) ys) (sym (sent_is p q lt mt)) (keeps.prefix p q (omega (arith, lt, many)) (omega (arith, mt, many)))))
 
   same : Rattle.sj_rules.specs.Plays.IsPlayOf file play
-  same = plays_file pushed out_faults out_vain same_out popped in_faults in_vain same_in joined file looks true workers all
+  same = plays_file outward inward joined file looks true workers all
 
   -- the turns of a party's worker, from its first node on
-  abbrev turns : (p : ℕ) (w : Worker O I) (there : slice_get workers p ≡ Some w) → Rattle.sj_work.specs.Worked.Turned pushed out_faults out_vain same_out popped in_faults in_vain same_in looks (all.each p w there).old w
-  turns = turned pushed out_faults out_vain same_out popped in_faults in_vain same_in joined file looks true workers all
+  abbrev turns : (p : ℕ) (w : Worker O I) (there : slice_get workers p ≡ Some w) → Rattle.sj_work.specs.Worked.Turned outward inward looks (all.each p w there).old w
+  turns = turned outward inward joined file looks true workers all
 
   module _ (lines : List LineAt) (joins : IsJoined (logs_below (λ p. (team p).log) n) lines) where
     -- the core world to which the lines lead
@@ -203,9 +203,9 @@ module _ {O I : Type 0} (pushed : O → Option (List (FrameAt Place))) (out_faul
         by true e = grind (arith, nat_tests)
         by false e =
             let le : n ≤ l.party = grind (arith, nat_tests) in
-            let work = Rattle.sj_run.proofs.TeamLemmas.team_work pushed out_faults out_vain same_out popped in_faults in_vain same_in joined file looks true workers all q w there in
+            let work = Rattle.sj_run.proofs.TeamLemmas.team_work outward inward joined file looks true workers all q w there in
             let lane : in_of w l.party ≡ None = sym (ap (λ (d : LanedAt Place Program O I). d.ins l.party) (new_is q w there)) ∙ no_lane l.party q le mt in
-            let none = none_came popped same_in _ (in_of w l.party) _ lane (work.ins l.party) in
+            let none = none_came inward.popped inward.same _ (in_of w l.party) _ lane (work.ins l.party) in
             absurd (none_behind _ l.frame (ap (λ xs. Rattle.sj_rules.specs.NodeRun.popped_from done l.party work.steps ++ xs) (sym (ap (λ o. lost_from o l.party) is ∙ lost_own l)) ∙ none))
 
     -- so no worker stopped as unfit: the lost frame fits its row, and the act is one
@@ -235,14 +235,14 @@ module _ {O I : Type 0} (pushed : O → Option (List (FrameAt Place))) (out_faul
         (subst (λ k. arrives done k max (node_at (node_of w)) l.party l.frame ≡ None) parties c.1)
 
     unfit_or : (q : ℕ) → q < n → (o : Option (Worker O I)) (there : slice_get workers q ≡ o)
-        → ((p : ℕ) → lost q p ≡ lost_from (Rattle.sj_run.proofs.TeamLemmas.lost_or pushed out_faults out_vain same_out popped in_faults in_vain same_in joined file looks true workers all q o there) p)
+        → ((p : ℕ) → lost q p ≡ lost_from (Rattle.sj_run.proofs.TeamLemmas.lost_or outward inward joined file looks true workers all q o there) p)
         → (w : Worker O I) → o ≡ Some w → stop_of w ≡ Some stops.Unfit → ⊥
     unfit_or q mt None there all_lost w is unfit = absurd (cc is)
     unfit_or q mt (Some v) there all_lost w is unfit =
         let same : v ≡ w = cc is in
         let stopped : stop_of v ≡ Some stops.Unfit = ap stop_of same ∙ unfit in
         let t = turns q v there in
-        unfit_for q v there mt all_lost t.lost refl (subst (λ s. Cause out_faults out_vain in_faults in_vain s looks t.lost (all.each q v there).old v) stopped t.cause)
+        unfit_for q v there mt all_lost t.lost refl (subst (λ s. Cause outward inward s looks t.lost (all.each q v there).old v) stopped t.cause)
 
     pub none_unfit : NoneStopped workers stops.Unfit
     none_unfit p w there unfit =
@@ -275,7 +275,7 @@ module _ {O I : Type 0} (pushed : O → Option (List (FrameAt Place))) (out_faul
       kept_all p w there (Some l) h q = elim (may_lose (stop_of w) h) [ inl e ↦ absurd (remembers p w there e) | inr e ↦ absurd (none_unfit p w there e) ]
 
       lost_none : (q : ℕ) (o : Option (Worker O I)) (there : slice_get workers q ≡ o) (p : ℕ)
-          → lost_from (Rattle.sj_run.proofs.TeamLemmas.lost_or pushed out_faults out_vain same_out popped in_faults in_vain same_in joined file looks true workers all q o there) p ≡ []
+          → lost_from (Rattle.sj_run.proofs.TeamLemmas.lost_or outward inward joined file looks true workers all q o there) p ≡ []
       lost_none q None there p = refl
       lost_none q (Some w) there p = let t = turns q w there in kept_all q w there t.lost t.loses p
 
@@ -284,11 +284,11 @@ module _ {O I : Type 0} (pushed : O → Option (List (FrameAt Place))) (out_faul
           let w = worker_at p lt in
           let h = all.each p w.0 w.1 in
           let t = turns p w.0 w.1 in
-          let outs : (q : ℕ) → q < n → (o : O) × (out_of w.0 q ≡ Some o) × (out_vain o ≡ links.vain_out p q) = λ q mt. let o = out_there p q w.0 w.1 mt in (o.0, o.1, (out_kept p q w.0 o.0 w.1 o.1).1) in
-          let ins : (q : ℕ) → q < n → (i : I) × (in_of w.0 q ≡ Some i) × (in_vain i ≡ links.vain_in q p) = λ q mt. let i = in_there q p w.0 w.1 mt in (i.0, i.1, (in_kept q p w.0 i.0 w.1 i.1).1) in
-          subst (λ (l : LanedAt Place Program O I). IsAtRest file looks p (shown pushed same_out popped same_in l) (λ q. links.vain_out p q) (λ q. links.vain_in q p)) (sym (new_is p w.0 w.1))
-          (is_at_rest pushed out_faults out_vain same_out popped in_faults in_vain same_in file looks p h.old w.0 links (t.went.parties ∙ h.first.parties) outs ins h.new.out_fresh h.new.in_fresh t
-          (stopped pushed out_faults out_vain same_out popped in_faults in_vain same_in joined file looks true workers all p w.0 w.1) (remembers p w.0 w.1) (faultless p w.0 w.1) (none_unfit p w.0 w.1) (low p w.0 w.1 lt))
+          let outs : (q : ℕ) → q < n → (o : O) × (out_of w.0 q ≡ Some o) × (outward.vain o ≡ links.vain_out p q) = λ q mt. let o = out_there p q w.0 w.1 mt in (o.0, o.1, (out_kept p q w.0 o.0 w.1 o.1).1) in
+          let ins : (q : ℕ) → q < n → (i : I) × (in_of w.0 q ≡ Some i) × (inward.vain i ≡ links.vain_in q p) = λ q mt. let i = in_there q p w.0 w.1 mt in (i.0, i.1, (in_kept q p w.0 i.0 w.1 i.1).1) in
+          subst (λ (l : LanedAt Place Program O I). IsAtRest file looks p (shown outward.pushed outward.same inward.popped inward.same l) (λ q. links.vain_out p q) (λ q. links.vain_in q p)) (sym (new_is p w.0 w.1))
+          (is_at_rest outward inward file looks p h.old w.0 links (t.went.parties ∙ h.first.parties) outs ins h.new.out_fresh h.new.in_fresh t
+          (stopped outward inward joined file looks true workers all p w.0 w.1) (remembers p w.0 w.1) (faultless p w.0 w.1) (none_unfit p w.0 w.1) (low p w.0 w.1 lt))
 
       -- the links show the lines
       pub team_shown : IsShown file looks links lines core

@@ -6,8 +6,8 @@ use Rattle.sj_end.specs.declared.note.Entry.{Entry}
 use Rattle.sj_end.specs.Lines.{entry_at}
 use Rattle.sj_rules.specs.Log.{IsJoined, IsRising, LineAt}
 use Rattle.sj_node.specs.Node.{log_of}
-use Rattle.sj_merge.specs.Logs as merge
-use Rattle.sj_merge.proofs.OrderLemmas.{AllRise, all_ordered}
+use Rattle.sj_core.specs.Logs as merge
+use Rattle.sj_core.proofs.OrderLemmas.{AllRise, all_ordered}
 use Rattle.sj_core.proofs.FirstLemmas.{behind}
 use Rattle.sj_work.specs.declared.worker.Worker.{Worker}
 use Rattle.sj_work.specs.Views.{node_of}

@@ -9,6 +9,8 @@ use Rattle.sj_rules.specs.Node.{acts}
 use Rattle.sj_rules.specs.NodeRun.{told_frames}
 use Rattle.sj_rules.specs.Party.{play_of}
 use Rattle.sj_joined_lemmas.proofs.WorkLemmas.{shown}
+use Rattle.sj_lane.specs.declared.lane.OutLane.{Ghosts as OutLane}
+use Rattle.sj_lane.specs.declared.lane.InLane.{Ghosts as InLane}
 use Rattle.sj_node.specs.declared.node.Node.{Node}
 use Rattle.sj_node.specs.declared.refusal.Halt.{Halt}
 use Rattle.sj_node.specs.declared.refusal.Halt.TheVariants as halts
@@ -72,44 +74,43 @@ ended_waits e = cc e
 limit_waits : halts.AtLimit ≡ halts.Waits → ⊥
 limit_waits e = cc e
 
-module _ {O I : Type 0} (pushed : O → Option (List (FrameAt Place))) (out_faults out_vain : O → ℕ) (same_out : O → O → Type 0)
-    (popped : I → Option (List (FrameAt Place))) (in_faults in_vain : I → ℕ) (same_in : I → I → Type 0)
-    (file : FileAt) (looks p : ℕ) (old w : Worker O I) (links : LinksAt) (parties : parties_of (node_of w) ≡ length file.parties)
-    (outs : (q : ℕ) → q < length file.parties → (o : O) × (out_of w q ≡ Some o) × (out_vain o ≡ links.vain_out p q))
-    (ins : (q : ℕ) → q < length file.parties → (i : I) × (in_of w q ≡ Some i) × (in_vain i ≡ links.vain_in q p))
-    (out_fresh : (q : ℕ) (o : O) → out_of old q ≡ Some o → out_vain o ≡ 0) (in_fresh : (q : ℕ) (i : I) → in_of old q ≡ Some i → in_vain i ≡ 0)
-    (turned : Turned pushed out_faults out_vain same_out popped in_faults in_vain same_in looks old w) where
+module _ {O I : Type 0} (outward : OutLane O) (inward : InLane I) (file : FileAt) (looks p : ℕ) (old w : Worker O I) (links : LinksAt)
+    (parties : parties_of (node_of w) ≡ length file.parties)
+    (outs : (q : ℕ) → q < length file.parties → (o : O) × (out_of w q ≡ Some o) × (outward.vain o ≡ links.vain_out p q))
+    (ins : (q : ℕ) → q < length file.parties → (i : I) × (in_of w q ≡ Some i) × (inward.vain i ≡ links.vain_in q p))
+    (out_fresh : (q : ℕ) (o : O) → out_of old q ≡ Some o → outward.vain o ≡ 0) (in_fresh : (q : ℕ) (i : I) → in_of old q ≡ Some i → inward.vain i ≡ 0)
+    (turned : Turned outward inward looks old w) where
   -- the calls in vain on a lane to a party, where something waits for it
-  out_rose : (k q : ℕ) → q < length file.parties → OutVain out_vain k old w → (outbox_of (node_of w) q ≡ [] → ⊥) → RoseBy k 0 (links.vain_out p q)
+  out_rose : (k q : ℕ) → q < length file.parties → OutVain outward.vain k old w → (outbox_of (node_of w) q ≡ [] → ⊥) → RoseBy k 0 (links.vain_out p q)
   out_rose k q lt vain waits =
       let o = outs q lt in
-      let a = on_lane out_vain (RoseBy k) (out_of old q) (out_of w q) o.0 (vain q (omega (arith, lt, parties)) waits) o.1 in
-      subst (λ v. RoseBy k 0 v) o.2 (subst (λ v. RoseBy k v (out_vain o.0)) (out_fresh q a.0 a.1) a.2)
+      let a = on_lane outward.vain (RoseBy k) (out_of old q) (out_of w q) o.0 (vain q (omega (arith, lt, parties)) waits) o.1 in
+      subst (λ v. RoseBy k 0 v) o.2 (subst (λ v. RoseBy k v (outward.vain o.0)) (out_fresh q a.0 a.1) a.2)
 
-  in_rose : (k q : ℕ) → q < length file.parties → InVain in_vain k old w → RoseBy k 0 (links.vain_in q p)
+  in_rose : (k q : ℕ) → q < length file.parties → InVain inward.vain k old w → RoseBy k 0 (links.vain_in q p)
   in_rose k q lt vain =
       let i = ins q lt in
-      let a = on_lane in_vain (RoseBy k) (in_of old q) (in_of w q) i.0 (vain q (omega (arith, lt, parties))) i.1 in
-      subst (λ v. RoseBy k 0 v) i.2 (subst (λ v. RoseBy k v (in_vain i.0)) (in_fresh q a.0 a.1) a.2)
+      let a = on_lane inward.vain (RoseBy k) (in_of old q) (in_of w q) i.0 (vain q (omega (arith, lt, parties))) i.1 in
+      subst (λ v. RoseBy k 0 v) i.2 (subst (λ v. RoseBy k v (inward.vain i.0)) (in_fresh q a.0 a.1) a.2)
 
   -- an outbox is empty, or what waits there is tried so often
-  box_or : (k q : ℕ) → q < length file.parties → OutVain out_vain k old w → (box : List (FrameAt Place)) → outbox_of (node_of w) q ≡ box
+  box_or : (k q : ℕ) → q < length file.parties → OutVain outward.vain k old w → (box : List (FrameAt Place)) → outbox_of (node_of w) q ≡ box
       → (told_frames done (outbox_of (node_of w) q) ≡ []) ⊎ RoseBy k 0 (links.vain_out p q)
   box_or k q lt vain [] is = inl (ap (told_frames done) is)
   box_or k q lt vain (f ∷ fs) is = inr (out_rose k q lt vain (λ e. let no : f ∷ fs ≡ [] = sym is ∙ e in cc no))
 
-  idle_box : (q : ℕ) → q < length file.parties → OutVain out_vain looks old w
+  idle_box : (q : ℕ) → q < length file.parties → OutVain outward.vain looks old w
       → (told_frames done (outbox_of (node_of w) q) ≡ []) ⊎ ((0 < links.vain_out p q) ⊎ (looks ≡ 0))
   idle_box q lt vain = elim (box_or looks q lt vain (outbox_of (node_of w) q) refl) [ inl none ↦ inl none | inr rose ↦ inr (some_vain looks (links.vain_out p q) rose) ]
 
-  limit_box : (q : ℕ) → q < length file.parties → OutVain out_vain 1 old w
+  limit_box : (q : ℕ) → q < length file.parties → OutVain outward.vain 1 old w
       → (told_frames done (outbox_of (node_of w) q) ≡ []) ⊎ ((0 < links.vain_out p q) ⊎ (looks ≡ 0))
   limit_box q lt vain = elim (box_or 1 q lt vain (outbox_of (node_of w) q) refl) [ inl none ↦ inl none | inr rose ↦ inr (inl (omega (arith, rose))) ]
 
   module _ (stops_there : stop_of w ≡ None → ⊥) (remembers : stop_of w ≡ Some stops.NoMemory → ⊥) (faultless : stop_of w ≡ Some stops.Fault → ⊥) (fits : stop_of w ≡ Some stops.Unfit → ⊥)
       (low : clock_of (node_of w) < clock_end) where
-    rest_by : (s : Option Stop) → stop_of w ≡ s → Cause out_faults out_vain in_faults in_vain s looks turned.lost old w
-        → IsAtRest file looks p (shown pushed same_out popped same_in (laned w)) (λ q. links.vain_out p q) (λ q. links.vain_in q p)
+    rest_by : (s : Option Stop) → stop_of w ≡ s → Cause outward inward s looks turned.lost old w
+        → IsAtRest file looks p (shown outward.pushed outward.same inward.popped inward.same (laned w)) (λ q. links.vain_out p q) (λ q. links.vain_in q p)
     rest_by None is c = absurd (stops_there is)
     rest_by (Some stops.NoMemory) is c = absurd (remembers is)
     rest_by (Some stops.Fault) is c = absurd (faultless is)
@@ -143,5 +144,5 @@ module _ {O I : Type 0} (pushed : O → Option (List (FrameAt Place))) (out_faul
     }
 
     -- a worker that stopped so is at rest
-    pub is_at_rest : IsAtRest file looks p (shown pushed same_out popped same_in (laned w)) (λ q. links.vain_out p q) (λ q. links.vain_in q p)
+    pub is_at_rest : IsAtRest file looks p (shown outward.pushed outward.same inward.popped inward.same (laned w)) (λ q. links.vain_out p q) (λ q. links.vain_in q p)
     is_at_rest = rest_by (stop_of w) refl turned.cause

@@ -24,7 +24,7 @@ loses_none (Some stops.Unfit) l k h = cc
 
 module _ {O I : Type 0} (k : LaneLaws O I) where
   abbrev CallBy : Option Stop → (looks : ℕ) → (old new : Worker O I) → Type 0
-  CallBy s looks old new = WorkedBy k.pushed k.out_faults k.out_vain k.same_out k.popped k.in_faults k.in_vain k.same_in s looks old new
+  CallBy s looks old new = WorkedBy k.outward k.inward s looks old new
 
   -- a call whose stop doesn't stay lost nothing
   went_whole : (looks : ℕ) (a b : Worker O I) → kept_stop (stop_of b) ≡ None → TurnedBy k looks a b → WentBy k None a b
@@ -63,7 +63,7 @@ module _ {O I : Type 0} (k : LaneLaws O I) where
   call_later None None few looks a b c is this x y = (y.0, turned_behind k looks a b c (went_whole few a b this x.1) y.1)
 
   pub worked_later : (few looks : ℕ) (a b c : Worker O I)
-      → Worked k.pushed k.out_faults k.out_vain k.same_out k.popped k.in_faults k.in_vain k.same_in few a b
-      → Worked k.pushed k.out_faults k.out_vain k.same_out k.popped k.in_faults k.in_vain k.same_in looks b c
-      → Worked k.pushed k.out_faults k.out_vain k.same_out k.popped k.in_faults k.in_vain k.same_in looks a c
+      → Worked k.outward k.inward few a b
+      → Worked k.outward k.inward looks b c
+      → Worked k.outward k.inward looks a c
   worked_later few looks a b c x y = call_later (kept_stop (stop_of a)) (kept_stop (stop_of b)) few looks a b c refl refl x y

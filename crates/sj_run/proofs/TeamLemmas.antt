@@ -5,7 +5,6 @@ use mathlib.Core.List.{IsPrefix}
 use Rattle.sj_lang.specs.Place.{Place, done}
 use Rattle.sj_lang.specs.FileAt.{FileAt, body_named}
 use Rattle.sj_semantics.specs.Program.{Program}
-use Rattle.sj_rules.specs.Frames.{FrameAt}
 use Rattle.sj_rules.specs.Joined.{PartiesWork}
 use Rattle.sj_rules.specs.Node.{Play}
 use Rattle.sj_rules.specs.NodeRun.{told_frames}
@@ -22,6 +21,8 @@ use Rattle.sj_work.specs.Laned.{entries_of, laned}
 use Rattle.sj_work.specs.Views.{node_of, stop_of}
 use Rattle.sj_work.specs.Worked.{Turned, WorkedBy, kept_stop}
 use Rattle.sj_run.specs.Workers.{AllWorked, HasWorked}
+use Rattle.sj_lane.specs.declared.lane.OutLane.{Ghosts as OutLane}
+use Rattle.sj_lane.specs.declared.lane.InLane.{Ghosts as InLane}
 use Rattle.sj_lane.proofs.BackLemmas.{slice_get_some as there_is}
 
 -- an index of a mapped list
@@ -30,10 +31,8 @@ mapped_at f [] p x is = absurd (cc is)
 mapped_at f (y ∷ ys) zero x is = let e : Some y ≡ Some x = is in ap (λ o. Some (f o)) (let s : y ≡ x = cc e in s)
 mapped_at f (y ∷ ys) (suc p) x is = mapped_at f ys p x is
 
-module _ {O I : Type 0} (pushed : O → Option (List (FrameAt Place))) (out_faults out_vain : O → ℕ) (same_out : O → O → Type 0)
-    (popped : I → Option (List (FrameAt Place))) (in_faults in_vain : I → ℕ) (same_in : I → I → Type 0) (joined : O → I → Type 0)
-    (file : FileAt) (looks : ℕ) (tells : Bool) (workers : List (Worker O I))
-    (all : AllWorked pushed out_faults out_vain same_out popped in_faults in_vain same_in joined file looks tells workers) where
+module _ {O I : Type 0} (outward : OutLane O) (inward : InLane I) (joined : O → I → Type 0) (file : FileAt) (looks : ℕ) (tells : Bool)
+    (workers : List (Worker O I)) (all : AllWorked outward inward joined file looks tells workers) where
   -- what all nodes do for places and programs
   abbrev pub team_play : Play Place Program
   team_play = play_with (body_named file.protocols) (length file.connects) (length file.parties)
@@ -42,14 +41,14 @@ module _ {O I : Type 0} (pushed : O → Option (List (FrameAt Place))) (out_faul
   plays_file = is_play_of file (body_named file.protocols) (λ q. refl)
 
   abbrev has : (p : ℕ) (w : Worker O I) → slice_get workers p ≡ Some w
-      → HasWorked pushed out_faults out_vain same_out popped in_faults in_vain same_in file looks tells p w
+      → HasWorked outward inward file looks tells p w
   has = all.each
 
   -- since no stop was kept, it had turns, up to a stop
   worked_up : (p : ℕ) (w : Worker O I) (there : slice_get workers p ≡ Some w)
-      → IsSome (stop_of w) × Turned pushed out_faults out_vain same_out popped in_faults in_vain same_in looks (has p w there).old w
+      → IsSome (stop_of w) × Turned outward inward looks (has p w there).old w
   worked_up p w there =
-      subst (λ (s : Option Stop). WorkedBy pushed out_faults out_vain same_out popped in_faults in_vain same_in (kept_stop s) looks (has p w there).old w)
+      subst (λ (s : Option Stop). WorkedBy outward inward (kept_stop s) looks (has p w there).old w)
       (has p w there).first.idle (has p w there).worked
 
   pub stopped : (p : ℕ) (w : Worker O I) → slice_get workers p ≡ Some w → stop_of w ≡ None → ⊥
@@ -60,17 +59,17 @@ module _ {O I : Type 0} (pushed : O → Option (List (FrameAt Place))) (out_faul
       no_stop (Some s) some none = cc none
 
   pub turned : (p : ℕ) (w : Worker O I) (there : slice_get workers p ≡ Some w)
-      → Turned pushed out_faults out_vain same_out popped in_faults in_vain same_in looks (has p w there).old w
+      → Turned outward inward looks (has p w there).old w
   turned p w there = (worked_up p w there).1
 
   -- its work by the rules
   pub team_work : (p : ℕ) (w : Worker O I) (there : slice_get workers p ≡ Some w)
-      → LaneWork pushed same_out popped same_in team_play max done p (laned (has p w there).old) (laned w) (turned p w there).lost
+      → LaneWork outward.pushed outward.same inward.popped inward.same team_play max done p (laned (has p w there).old) (laned w) (turned p w there).lost
   team_work p w there =
       let t = turned p w there in
       let old = (has p w there).old in
-      subst (λ (k : ℕ). LaneWork pushed same_out popped same_in team_play max done k (laned old) (laned w) t.lost) (has p w there).first.party
-      (subst (λ (play : Play Place Program). LaneWork pushed same_out popped same_in play max done (party_of (node_of old)) (laned old) (laned w) t.lost) (has p w there).first.play t.went.work)
+      subst (λ (k : ℕ). LaneWork outward.pushed outward.same inward.popped inward.same team_play max done k (laned old) (laned w) t.lost) (has p w there).first.party
+      (subst (λ (play : Play Place Program). LaneWork outward.pushed outward.same inward.popped inward.same play max done (party_of (node_of old)) (laned old) (laned w) t.lost) (has p w there).first.play t.went.work)
 
   -- the log of a party that isn't there is empty, and it does nothing
   abbrev nobody_at : ℕ → LanedAt Place Program O I
@@ -103,12 +102,12 @@ module _ {O I : Type 0} (pushed : O → Option (List (FrameAt Place))) (out_faul
   no_one p none lt = let x = there_is workers p (omega (arith, lt, all.count)) in let e : None ≡ Some x.0 = sym none ∙ x.1 in cc e
 
   work_or : (p : ℕ) → p < length file.parties → (o : Option (Worker O I)) (there : slice_get workers p ≡ o)
-      → LaneWork pushed same_out popped same_in team_play max done p (old_or p o there) (new_or p o) (lost_or p o there)
+      → LaneWork outward.pushed outward.same inward.popped inward.same team_play max done p (old_or p o there) (new_or p o) (lost_or p o there)
   work_or p lt None there = absurd (no_one p there lt)
   work_or p lt (Some w) there = team_work p w there
 
   module _ (telling : tells ≡ true) where
-    hired_or : (p : ℕ) → p < length file.parties → (o : Option (Worker O I)) (there : slice_get workers p ≡ o) → IsHired pushed popped (first_node file p) (old_or p o there)
+    hired_or : (p : ℕ) → p < length file.parties → (o : Option (Worker O I)) (there : slice_get workers p ≡ o) → IsHired outward.pushed inward.popped (first_node file p) (old_or p o there)
     hired_or p lt None there = absurd (no_one p there lt)
     hired_or p lt (Some w) there =
         let h = has p w there in
@@ -122,9 +121,9 @@ module _ {O I : Type 0} (pushed : O → Option (List (FrameAt Place))) (out_faul
 
     -- beside the parties of the file there is no lane to one of them
     module _ (none : (p q : ℕ) → length file.parties ≤ p → q < length file.parties → (news q).ins p ≡ None)
-        (front : (p q : ℕ) → p < length file.parties → q < length file.parties → IsPrefix (told_by popped ((news q).ins p)) (told_by pushed ((news p).outs q))) where
+        (front : (p q : ℕ) → p < length file.parties → q < length file.parties → IsPrefix (told_by inward.popped ((news q).ins p)) (told_by outward.pushed ((news p).outs q))) where
       pub team_works : PartiesWork team_play max done (length file.parties) (core_start file)
-          (λ p. shown pushed same_out popped same_in (news p)) (λ p. lost_from (losts p))
+          (λ p. shown outward.pushed outward.same inward.popped inward.same (news p)) (λ p. lost_from (losts p))
       team_works =
-          parties_hired pushed same_out popped same_in team_play max done (length file.parties) (core_start file) olds news losts
+          parties_hired outward.pushed outward.same inward.popped inward.same team_play max done (length file.parties) (core_start file) olds news losts
           (λ p lt. hired_or p lt (slice_get workers p) refl) (λ p lt. work_or p lt (slice_get workers p) refl) front none (λ p q. refl)

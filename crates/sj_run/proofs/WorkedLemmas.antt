@@ -7,6 +7,8 @@ use Rattle.sj_plain.specs.Kept.{without_words}
 use Rattle.sj_table.specs.Spots.{start_in}
 use Rattle.sj_rules.specs.Frames.{FrameAt}
 use Rattle.sj_rules.specs.Work.{InStep, OutStep}
+use Rattle.sj_lane.specs.declared.lane.OutLane.{Ghosts as OutLane}
+use Rattle.sj_lane.specs.declared.lane.InLane.{Ghosts as InLane}
 use Rattle.sj_lane.specs.declared.lane.Lanes.{Lanes}
 use Rattle.sj_lane.specs.Square.{AllJoined, IsFresh, IsSquare, NoFault, in_at, in_in, out_at, out_in}
 use Rattle.sj_node.specs.declared.node.Node.{Node}
@@ -72,15 +74,14 @@ in_before popped same None (Some b) came i s is = absurd s
 in_before popped same (Some a) None came i s is = absurd s
 in_before popped same (Some a) (Some b) came i s is = let e : b ≡ i = cc is in (a, refl, subst (λ z. same a z) e s.0)
 
-module _ {O I : Type 0} (pushed : O → Option (List (FrameAt Place))) (out_faults out_vain : O → ℕ) (same_out : O → O → Type 0)
-    (popped : I → Option (List (FrameAt Place))) (in_faults in_vain : I → ℕ) (same_in : I → I → Type 0) (joined : O → I → Type 0)
-    (later : (o p : O) (i j : I) → joined o i → same_out o p → same_in i j → joined p j)
+module _ {O I : Type 0} (outward : OutLane O) (inward : InLane I) (joined : O → I → Type 0)
+    (later : (o p : O) (i j : I) → joined o i → outward.same o p → inward.same i j → joined p j)
     (file : FileAt) (looks : ℕ) (tells : Bool) (nodes : List Node) (lanes : List (Lanes O I)) (hired workers : List (Worker O I))
     (first : AreFirst (without_words file) nodes) (square : IsSquare lanes) (many : length lanes ≡ length file.parties) (ends : AllJoined joined lanes)
-    (fresh : IsFresh pushed popped out_vain in_vain tells lanes) (faultless : NoFault out_faults in_faults lanes)
+    (fresh : IsFresh outward.pushed inward.popped outward.vain inward.vain tells lanes) (faultless : NoFault outward.faults inward.faults lanes)
     (hires : AreHired nodes lanes (length nodes) hired) (as_many : length workers ≡ length hired)
     (each : (p : ℕ) (old new : Worker O I) → slice_get hired p ≡ Some old → slice_get workers p ≡ Some new
-    → Worked pushed out_faults out_vain same_out popped in_faults in_vain same_in looks old new) where
+    → Worked outward inward looks old new) where
   -- a worker before its work
   was : (p : ℕ) (w : Worker O I) → slice_get workers p ≡ Some w → (old : Worker O I) × (slice_get hired p ≡ Some old)
   was p w there = there_is hired p (let lt = below_length workers p w there in omega (arith, lt, as_many))
@@ -107,7 +108,7 @@ module _ {O I : Type 0} (pushed : O → Option (List (FrameAt Place))) (out_faul
   in_lane : (p q : ℕ) (old : Worker O I) (i : I) → slice_get hired p ≡ Some old → in_of old q ≡ Some i → in_at lanes q p ≡ Some i
   in_lane p q old i there is = ap (λ l. in_in l q) (hires.lanes_are p old there) ∙ is
 
-  are_new : (p : ℕ) (old : Worker O I) → slice_get hired p ≡ Some old → AreNew pushed out_faults out_vain same_out popped in_faults in_vain same_in tells old
+  are_new : (p : ℕ) (old : Worker O I) → slice_get hired p ≡ Some old → AreNew outward inward tells old
   are_new p old there = record {
     pushed_none = λ q o is telling. (fresh.outs p q o (out_lane p q old o there is)).0 telling;
     popped_none = λ q i is telling. (fresh.ins q p i (in_lane p q old i there is)).0 telling;
@@ -117,9 +118,9 @@ module _ {O I : Type 0} (pushed : O → Option (List (FrameAt Place))) (out_faul
     in_fresh = λ q i is. (fresh.ins q p i (in_lane p q old i there is)).1;
   }
 
-  turns : (p : ℕ) (old w : Worker O I) → slice_get hired p ≡ Some old → slice_get workers p ≡ Some w → Turned pushed out_faults out_vain same_out popped in_faults in_vain same_in looks old w
+  turns : (p : ℕ) (old w : Worker O I) → slice_get hired p ≡ Some old → slice_get workers p ≡ Some w → Turned outward inward looks old w
   turns p old w before there =
-      (subst (λ (s : Option Stop). WorkedBy pushed out_faults out_vain same_out popped in_faults in_vain same_in (kept_stop s) looks old w) (hires.idle p old before) (each p old w before there)).1
+      (subst (λ (s : Option Stop). WorkedBy outward inward (kept_stop s) looks old w) (hires.idle p old before) (each p old w before there)).1
 
   all_count : length workers ≡ length file.parties
   all_count = as_many ∙ hires.count ∙ first.seats.count
@@ -133,8 +134,8 @@ module _ {O I : Type 0} (pushed : O → Option (List (FrameAt Place))) (out_faul
       let o = was p w.0 w.1 in
       let t = turns p o.0 w.0 o.1 w.1 in
       let sq = square p (lanes_of o.0) (hires.lanes_are p o.0 o.1) in
-      let outs : length (lanes_of w.0).outs.items ≡ length (lanes_of o.0).outs.items = same_length out_faults Stands (lanes_of o.0).outs.items (lanes_of w.0).outs.items t.went.faults_out in
-      let ins : length (lanes_of w.0).ins.items ≡ length (lanes_of o.0).ins.items = same_length in_faults Stands (lanes_of o.0).ins.items (lanes_of w.0).ins.items t.went.faults_in in
+      let outs : length (lanes_of w.0).outs.items ≡ length (lanes_of o.0).outs.items = same_length outward.faults Stands (lanes_of o.0).outs.items (lanes_of w.0).outs.items t.went.faults_out in
+      let ins : length (lanes_of w.0).ins.items ≡ length (lanes_of o.0).ins.items = same_length inward.faults Stands (lanes_of o.0).ins.items (lanes_of w.0).ins.items t.went.faults_in in
       subst (λ (l : Lanes O I). (vec_len l.outs ≡ length (map lanes_of workers)) × (vec_len l.ins ≡ length (map lanes_of workers))) w.2
       (omega (arith, outs, sq.0, same_many, (lanes_of w.0).outs.ok, (lanes_of o.0).outs.ok), omega (arith, ins, sq.1, same_many, (lanes_of w.0).ins.ok, (lanes_of o.0).ins.ok))
 
@@ -145,17 +146,17 @@ module _ {O I : Type 0} (pushed : O → Option (List (FrameAt Place))) (out_faul
       let a = was p v.0 v.1 in
       let s = turns p a.0 v.0 a.1 v.1 in
       let there : out_of v.0 q ≡ Some o = ap (λ (l : Lanes O I). slice_get l.outs.items q) v.2 ∙ x.2 in
-      let first_out = out_before pushed same_out (out_of a.0 q) (out_of v.0 q) _ _ _ o (s.went.work.outs q) there in
+      let first_out = out_before outward.pushed outward.same (out_of a.0 q) (out_of v.0 q) _ _ _ o (s.went.work.outs q) there in
       let y = in_where (slice_get (map lanes_of workers) q) p i in_is in
       let u = mapped_from lanes_of workers q y.0 y.1 in
       let b = was q u.0 u.1 in
       let t = turns q b.0 u.0 b.1 u.1 in
       let here : in_of u.0 p ≡ Some i = ap (λ (l : Lanes O I). slice_get l.ins.items p) u.2 ∙ y.2 in
-      let first_in = in_before popped same_in (in_of b.0 p) (in_of u.0 p) _ i (t.went.work.ins p) here in
+      let first_in = in_before inward.popped inward.same (in_of b.0 p) (in_of u.0 p) _ i (t.went.work.ins p) here in
       later first_out.0 o first_in.0 i
       (ends p q first_out.0 first_in.0 (out_lane p q a.0 first_out.0 a.1 first_out.1) (in_lane q p b.0 first_in.0 b.1 first_in.1)) first_out.2 first_in.2
 
-  pub all_worked : AllWorked pushed out_faults out_vain same_out popped in_faults in_vain same_in joined file looks tells workers
+  pub all_worked : AllWorked outward inward joined file looks tells workers
   all_worked = record {
     count = all_count;
     square = is_square;

@@ -1,5 +1,7 @@
 -- Refusals of a run, with the workers and lanes of which they come.
 use Rattle.std.specs.Prelude.{◌≡◌, ℕ, Bool, List, map, Option, option_map}
+use Rattle.sj_lane.specs.declared.lane.OutLane.{Ghosts as OutLane}
+use Rattle.sj_lane.specs.declared.lane.InLane.{Ghosts as InLane}
 use Rattle.sj_core.specs.declared.refusal.ReplayRefusal.{ReplayRefusal}
 use Rattle.sj_core.specs.declared.refusal.ReplayRefusal.TheVariants as replays
 use Rattle.sj_end.specs.declared.note.Line.{Line}
@@ -7,7 +9,6 @@ use Rattle.sj_end.specs.Lines.{line_at}
 use Rattle.sj_lang.specs.Place.{Place}
 use Rattle.sj_lang.specs.FileAt.{FileAt}
 use Rattle.sj_semantics.specs.Program.{Program}
-use Rattle.sj_rules.specs.Frames.{FrameAt}
 use Rattle.sj_rules.specs.Log.{LineAt}
 use Rattle.sj_rules.specs.World.{WorldAt}
 use Rattle.sj_work.specs.declared.worker.Worker.{Worker}
@@ -28,13 +29,11 @@ IsPastEndOf file core lines refused (refusals.Damaged m) =
 IsPastEndOf file core lines refused refusals.LinkFault = ⊥
 IsPastEndOf file core lines refused refusals.NoMemory = Unit {0}
 
-module _ {O I : Type 0} (pushed : O → Option (List (FrameAt Place))) (out_faults out_vain : O → ℕ) (same_out : O → O → Type 0)
-    (popped : I → Option (List (FrameAt Place))) (in_faults in_vain : I → ℕ) (same_in : I → I → Type 0) (joined : O → I → Type 0)
-    (file : FileAt) (looks : ℕ) (tells : Bool) where
+module _ {O I : Type 0} (outward : OutLane O) (inward : InLane I) (joined : O → I → Type 0) (file : FileAt) (looks : ℕ) (tells : Bool) where
   -- the damage is in what workers left that worked over such lanes
   pub record IsDamageOver (number : ℕ) (logged : LineAt) (other : Option LineAt) : Type 0 where
     pub workers : List (Worker O I)
-    pub worked : AllWorked pushed out_faults out_vain same_out popped in_faults in_vain same_in joined file looks tells workers
+    pub worked : AllWorked outward inward joined file looks tells workers
     pub damage : IsDamage file number logged other
     pub theirs : damage.left ≡ map left_of workers
 

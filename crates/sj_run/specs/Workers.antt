@@ -1,6 +1,5 @@
 -- The workers of a file's parties, in a list by the parties' numbers: hired with their lanes, and after their work.
 use Rattle.std.specs.Prelude.{◌≡◌, ℕ, Bool, true, List, [], map, length, slice_get, Option, Some, None}
-use Rattle.sj_lang.specs.Place.{Place}
 use Rattle.sj_lang.specs.FileAt.{FileAt, body_named}
 use Rattle.std.specs.Borrow.{Bor}
 use Rattle.sj_end.specs.declared.note.Entry.{Entry}
@@ -8,9 +7,10 @@ use Rattle.sj_node.specs.declared.node.Node.{Node}
 use Rattle.sj_node.specs.Node.{log_of, node_at, outbox_of, play_here}
 use Rattle.sj_node.specs.Play.{play_with}
 use Rattle.sj_node.specs.Reading.{parties_of, party_of}
-use Rattle.sj_rules.specs.Frames.{FrameAt}
 use Rattle.sj_rules.specs.Log.{EntryAt, IsRising}
 use Rattle.sj_rules.specs.Start.{first_node}
+use Rattle.sj_lane.specs.declared.lane.OutLane.{Ghosts as OutLane}
+use Rattle.sj_lane.specs.declared.lane.InLane.{Ghosts as InLane}
 use Rattle.sj_lane.specs.declared.lane.Lanes.{Lanes}
 use Rattle.sj_lane.specs.Square.{AllJoined, IsSquare}
 use Rattle.sj_work.specs.declared.worker.Stop.{Stop}
@@ -36,23 +36,22 @@ pub record IsFirst {O I : Type 0} (file : FileAt) (p : ℕ) (w : Worker O I) : T
   pub boxes : (q : ℕ) → outbox_of (node_of w) q ≡ []
   pub idle : stop_of w ≡ None
 
-module _ {O I : Type 0} (pushed : O → Option (List (FrameAt Place))) (out_faults out_vain : O → ℕ) (same_out : O → O → Type 0)
-    (popped : I → Option (List (FrameAt Place))) (in_faults in_vain : I → ℕ) (same_in : I → I → Type 0) where
+module _ {O I : Type 0} (outward : OutLane O) (inward : InLane I) where
   -- its lanes are new ones: nothing was pushed or popped, where they tell, or tried in vain, and none met a fault
   pub record AreNew (tells : Bool) (w : Worker O I) : Type 0 where
-    pub pushed_none : (q : ℕ) (o : O) → out_of w q ≡ Some o → tells ≡ true → pushed o ≡ Some []
-    pub popped_none : (q : ℕ) (i : I) → in_of w q ≡ Some i → tells ≡ true → popped i ≡ Some []
-    pub out_faultless : (q : ℕ) (o : O) → out_of w q ≡ Some o → out_faults o ≡ 0
-    pub in_faultless : (q : ℕ) (i : I) → in_of w q ≡ Some i → in_faults i ≡ 0
-    pub out_fresh : (q : ℕ) (o : O) → out_of w q ≡ Some o → out_vain o ≡ 0
-    pub in_fresh : (q : ℕ) (i : I) → in_of w q ≡ Some i → in_vain i ≡ 0
+    pub pushed_none : (q : ℕ) (o : O) → out_of w q ≡ Some o → tells ≡ true → outward.pushed o ≡ Some []
+    pub popped_none : (q : ℕ) (i : I) → in_of w q ≡ Some i → tells ≡ true → inward.popped i ≡ Some []
+    pub out_faultless : (q : ℕ) (o : O) → out_of w q ≡ Some o → outward.faults o ≡ 0
+    pub in_faultless : (q : ℕ) (i : I) → in_of w q ≡ Some i → inward.faults i ≡ 0
+    pub out_fresh : (q : ℕ) (o : O) → out_of w q ≡ Some o → outward.vain o ≡ 0
+    pub in_fresh : (q : ℕ) (i : I) → in_of w q ≡ Some i → inward.vain i ≡ 0
 
   -- the party's worker, which began with its first node and new lanes, worked
   pub record HasWorked (file : FileAt) (looks : ℕ) (tells : Bool) (p : ℕ) (w : Worker O I) : Type 0 where
     pub old : Worker O I
     pub first : IsFirst file p old
     pub new : AreNew tells old
-    pub worked : Worked pushed out_faults out_vain same_out popped in_faults in_vain same_in looks old w
+    pub worked : Worked outward inward looks old w
 
   -- so did those of all parties, and their lanes are the two ends of each link
   pub record AllWorked (joined : O → I → Type 0) (file : FileAt) (looks : ℕ) (tells : Bool) (workers : List (Worker O I)) : Type 0 where

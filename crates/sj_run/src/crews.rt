@@ -17,8 +17,7 @@ fn at_once<R: Threads + Sync, O: OutLane, I: InLane, G: Gate>(
     looks: u32,
     gate: &G,
 ) -> Vec<Worker<O, I>>
-    ensures { Each2 (Worked O.pushed O.faults O.vain O.same I.popped I.faults I.vain I.same looks)
-        workers.items result.items }
+    ensures { Each2 (Worked O.OutLane I.InLane looks) workers.items result.items }
 {
     let mut workers = workers;
     work_all(rt, &mut workers, looks, gate);
@@ -36,9 +35,7 @@ pub(crate) fn work_off<R: Threads + Sync, O: OutLane, I: InLane, G: Gate>(
     gate: &G,
 ) -> Result<Vec<Worker<O, I>>, NoMemory>
     requires few { length workers.items ≤ 65536 }
-    ensures { IfOk result (λ new. Each2
-        (Worked O.pushed O.faults O.vain O.same I.popped I.faults I.vain I.same looks)
-        workers.items new.items) }
+    ensures { IfOk result (λ new. Each2 (Worked O.OutLane I.InLane looks) workers.items new.items) }
 {
     match threads {
         None => Ok(at_once(rt, workers, looks, gate)),

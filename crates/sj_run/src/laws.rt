@@ -8,7 +8,7 @@ use sj_lane::{InLane, OutLane};
 
 pub fn calls_compose<O: OutLane, I: InLane>()
     ensures { (few looks : ℕ) (first next last : _) →
-        Worked O.pushed O.faults O.vain O.same I.popped I.faults I.vain I.same few first next →
-        Worked O.pushed O.faults O.vain O.same I.popped I.faults I.vain I.same looks next last →
-        Worked O.pushed O.faults O.vain O.same I.popped I.faults I.vain I.same looks first last }
+        Worked O.OutLane I.InLane few first next →
+        Worked O.OutLane I.InLane looks next last →
+        Worked O.OutLane I.InLane looks first last }
 {}

@@ -4,12 +4,12 @@ ghost use Rattle.sj_end.specs.Lines.{line_at};
 ghost use Rattle.sj_rules.specs.Log.{IsJoined};
 ghost use Rattle.sj_run.specs.Workers.{AllRising, AreLogs, logs_in};
 ghost use Rattle.sj_work.specs.Views.{lanes_of};
-ghost use Rattle.sj_merge.specs.Logs.{most_logs};
+ghost use Rattle.sj_core.specs.Logs.{most_logs};
 
 use sj_base::NoMemory;
+use sj_core::join_logs;
 use sj_end::{Entry, Line};
 use sj_lane::{InLane, Lanes, OutLane};
-use sj_merge::join_logs;
 use sj_work::Worker;
 use std::alloc::Global;
 

@@ -29,7 +29,7 @@ fn events<O, I>(workers: &[Worker<O, I>]) -> usize {
 
 /// One call of `work`.
 fn turns<O: OutLane, I: InLane, G: Gate>(worker: &mut Worker<O, I>, looks: u32, gate: &G)
-    ensures { Worked O.pushed O.faults O.vain O.same I.popped I.faults I.vain I.same looks worker.old worker.new }
+    ensures { Worked O.OutLane I.InLane looks worker.old worker.new }
 {
     let _ = work(worker, looks, gate);
 }
@@ -45,9 +45,7 @@ fn round<R: Threads + Sync, O: OutLane, I: InLane, G: Gate>(
 ) -> Result<Vec<Worker<O, I>>, NoMemory>
     requires some { 0 < threads }
     requires few { length workers.items ≤ 65536 }
-    ensures { IfOk result (λ new. Each2
-        (Worked O.pushed O.faults O.vain O.same I.popped I.faults I.vain I.same looks)
-        workers.items new.items) }
+    ensures { IfOk result (λ new. Each2 (Worked O.OutLane I.InLane looks) workers.items new.items) }
 {
     node_crosses();
     let workers = call_each(
@@ -72,9 +70,7 @@ fn until_still<R: Threads + Sync, O: OutLane, I: InLane, G: Gate>(
 ) -> Result<Vec<Worker<O, I>>, NoMemory>
     requires some { 0 < threads }
     requires few { length workers.items ≤ 65536 }
-    ensures { IfOk result (λ new. Each2
-        (Worked O.pushed O.faults O.vain O.same I.popped I.faults I.vain I.same looks)
-        workers.items new.items) }
+    ensures { IfOk result (λ new. Each2 (Worked O.OutLane I.InLane looks) workers.items new.items) }
 {
     calls_compose::<O, I>();
     let mut before = events(&workers);
@@ -102,9 +98,7 @@ pub(crate) fn in_rounds<R: Threads + Sync, O: OutLane, I: InLane, G: Gate>(
 ) -> Result<Vec<Worker<O, I>>, NoMemory>
     requires some { 0 < threads }
     requires few { length workers.items ≤ 65536 }
-    ensures { IfOk result (λ new. Each2
-        (Worked O.pushed O.faults O.vain O.same I.popped I.faults I.vain I.same looks)
-        workers.items new.items) }
+    ensures { IfOk result (λ new. Each2 (Worked O.OutLane I.InLane looks) workers.items new.items) }
 {
     calls_compose::<O, I>();
     let few = looks.min(FEW_LOOKS);

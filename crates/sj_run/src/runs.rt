@@ -68,8 +68,8 @@ pub fn run_parties<R: Threads + Sync, L: Links, G: Gate>(
     // A fault comes only where the links counted one. Damage is in what workers left that worked over
     // lanes of these links, of which none stopped at a fault, and comes only of links that don't tell.
     ensures link_fault { result ≡ Err RunRefusal.LinkFault → Rose (L.faults links.old) (L.faults links.new) }
-    ensures damaged { IfErr result (IsDamagedOver L.Out.pushed L.Out.faults L.Out.vain L.Out.same L.In.popped L.In.faults
-        L.In.vain L.In.same L.joined (file_of (held accepted.now)) looks (L.tells links.old)) }
+    ensures damaged { IfErr result (IsDamagedOver L.Out.OutLane L.In.InLane L.joined
+        (file_of (held accepted.now)) looks (L.tells links.old)) }
     ensures telling { IfErr result (λ r. IsDamaged r → L.tells links.old ≡ true → ⊥) }
 
     // What the links are stays, and their count of faults doesn't fall.

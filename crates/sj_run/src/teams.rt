@@ -70,8 +70,8 @@ pub(crate) fn set_to_work<R: Threads + Sync, L: Links, G: Gate>(
     links: &mut L,
     gate: &G,
 ) -> Result<Vec<Worker<L::Out, L::In>>, RunRefusal>
-    ensures worked { IfOk result (λ ws. AllWorked L.Out.pushed L.Out.faults L.Out.vain L.Out.same L.In.popped L.In.faults
-        L.In.vain L.In.same L.joined (file_of (held accepted.now)) looks (L.tells links.old) ws.items) }
+    ensures worked { IfOk result (λ ws. AllWorked L.Out.OutLane L.In.InLane L.joined
+        (file_of (held accepted.now)) looks (L.tells links.old) ws.items) }
     ensures accepted { IfOk result (λ ws. IsAccepted (file_of (held accepted.now))) }
     ensures link_fault { result ≡ Err RunRefusal.LinkFault → Rose (L.faults links.old) (L.faults links.new) }
     ensures whole { IfErr result (λ r. IsDamaged r → ⊥) }

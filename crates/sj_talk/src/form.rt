@@ -1,8 +1,5 @@
 //! What a line says, where it has one of the six forms.
 ghost use Rattle.std.specs.Prelude.{◌≡◌, ◌≤◌, IfNone, IfSome, false, option_and_then, option_map, true};
-ghost use Rattle.std.specs.List.{list_all};
-ghost use Rattle.std.specs.Str.{bytes_eq};
-ghost use Rattle.sj_grammar.specs.Bytes.{is_digit, is_printable};
 ghost use Rattle.sj_grammar.specs.Lexis.{most};
 ghost use Rattle.sj_grammar.specs.Literals.{inner};
 ghost use Rattle.sj_talk.specs.Forms.{alone, form_of, int_of, is_short_name, is_short_text, minus};
@@ -10,7 +7,8 @@ ghost use Rattle.sj_talk.specs.Forms.{number_of, plus, value_of, with_name, with
 ghost use Rattle.sj_talk.specs.Play.{form_at, value_at};
 
 use crate::words::Words;
-use sj_proto::{Class, digits_number, goes_on_after_zero, is_in, is_name_text};
+use sj_grammar::{are_digits, are_printable, is};
+use sj_proto::{digits_number, goes_on_after_zero, is_name_text};
 
 /// The most bytes of a name.
 const MOST_NAME: usize = 64;
@@ -44,22 +42,10 @@ pub enum Form<'a> {
     Close(&'a [u8]),
 }
 
-fn is(word: &[u8], other: &[u8]) -> bool
-    ensures { result ≡ bytes_eq word.now other.now }
-{
-    word == other
-}
-
 fn is_short_name(word: &[u8]) -> bool
     ensures { result ≡ is_short_name word.now }
 {
     is_name_text(word) && word.len() <= MOST_NAME
-}
-
-fn are_digits(word: &[u8]) -> bool
-    ensures { result ≡ list_all is_digit word.now }
-{
-    word.iter().all(|b| b.is_ascii_digit())
 }
 
 // The number that a word writes without a sign, up to 2^63.
@@ -109,12 +95,6 @@ fn below_zero(n: u64) -> i64
     ensures { result ≡ minus n }
 {
     if n == 0 { 0 } else { -1 - ((n - 1) as i64) }
-}
-
-fn are_printable(text: &[u8]) -> bool
-    ensures { result ≡ list_all is_printable text.now }
-{
-    text.iter().all(|b| is_in(Class::Printable, *b))
 }
 
 // What stands between two quotes, where nothing else does.

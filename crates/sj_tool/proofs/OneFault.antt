@@ -13,6 +13,6 @@ use Rattle.sj_grammar.proofs.ReadingLemmas.{halts_there, halts_at_token}
 pub one_fault : (bytes : List ℕ) (f g : Fault) → Stuck file_layer limits 0 (start bytes [] []) file_due f → Stuck file_layer limits 0 (start bytes [] []) file_due g → f ≡ g
 one_fault bytes f g st other =
     let a = start bytes [] [] in
-    let h = halts_there file_layer limits 0 other.count a other.there file_due other.due other.pieces f st other.front other.fits (λ s c t. halts_at_token file_layer limits other.count other.there c other.due g s other.halts t) in
+    let h = halts_there file_layer limits 0 other.count a other.there file_due other.dues other.pieces f st other.front other.fits (λ s c t. halts_at_token file_layer limits other.count other.there c other.dues g s other.halts t) in
     let rules : h.rule ≡ other.halts.rule = let both : Some h.rule ≡ Some other.halts.rule = sym h.breaks ∙ other.halts.breaks in cc in
     h.fault ∙ ap (fault_at (before_next other.there.text (next_of other.there.text.ahead))) rules ∙ sym other.halts.fault

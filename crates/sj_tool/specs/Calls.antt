@@ -2,9 +2,9 @@
 use Rattle.std.specs.Prelude.{◌≡◌, ℕ, Bool, true, List, Option, map, string_bytes}
 use Rattle.std.specs.declared.alloc.Global.{Global}
 use Rattle.std.specs.declared.string.String.{String}
+use Rattle.sj_base.specs.declared.stream.Source.{Ghosts as Source}
+use Rattle.sj_lane.specs.declared.links.Links.{Ghosts as Links}
 use Rattle.sj_lane.specs.Told.{Rose}
-use Rattle.sj_lang.specs.Place.{Place}
-use Rattle.sj_rules.specs.Frames.{FrameAt}
 use Rattle.sj_run.specs.Shown.{LinksAt, keeps_of}
 
 -- whether the links tell what they carry, what they count before and after, and what they keep after
@@ -28,21 +28,21 @@ pub record CallAt : Type 0 where
   pub links : LinkUseAt
 
 -- the use of links of that kind
-abbrev pub link_use : {L : Type 0} → (L → Bool) → (L → ℕ) → (sent got : L → ℕ → ℕ → List (FrameAt Place)) → (vain_out vain_in : L → ℕ → ℕ → ℕ) → L → L → LinkUseAt
-link_use tells faults sent got vain_out vain_in before after = record {
-  tells = tells before;
-  faults = faults before;
-  faults_after = faults after;
-  keeps = keeps_of sent got vain_out vain_in after;
+abbrev pub link_use : {L Out In : Type 0} → Links L Out In → (before after : L) → LinkUseAt
+link_use kind before after = record {
+  tells = kind.tells before;
+  faults = kind.faults before;
+  faults_after = kind.faults after;
+  keeps = keeps_of kind.sent kind.got kind.vain_out kind.vain_in after;
 }
 
--- the call that a source of that kind and links are passed to
-abbrev pub call : {Q : Type 0} → (Q → Option (List ℕ)) → (Q → ℕ) → List (String Global) → Q → Q → LinkUseAt → CallAt
-call left faults words before after links = record {
+-- the call that a source and links of those kinds are passed to, by the words, the source before and after, and the links
+abbrev pub call : {S L Out In : Type 0} → Source S → Links L Out In → List (String Global) → (before after : S) → (links links_after : L) → CallAt
+call source kind words before after links links_after = record {
   words = map string_bytes words;
-  left = left before;
-  left_after = left after;
-  faults = faults before;
-  faults_after = faults after;
-  links = links;
+  left = source.left before;
+  left_after = source.left after;
+  faults = source.faults before;
+  faults_after = source.faults after;
+  links = link_use kind links links_after;
 }

@@ -124,8 +124,7 @@ pub(crate) fn ran_by_links<R: Threads + Sync, L: Links, G: Gate>(
     requires within { IsWithin limits (file_of file) }
     requires runs { RunsParties task }
     ensures { IfOk result (λ a. (log : LogAt)
-        → AnswersFile (link_use L.tells L.faults L.sent L.got L.vain_out L.vain_in links.old links.new)
-        task log (file_of file) (answer_at a)) }
+        → AnswersFile (link_use L.Links links.old links.new) task log (file_of file) (answer_at a)) }
 {
     let accepted = match judge(alloc, file)? {
         Judged::Accepted(accepted) => accepted,

@@ -40,8 +40,8 @@ pub(crate) fn answer_to<R: Threads + Sync, S: Source, L: Links, G: Gate>(
     links: &mut L,
     gate: &G,
 ) -> Result<Answer, NoMemory>
-    ensures { IfOk result (λ a. IsInTable (call S.left S.faults words.now src.old src.new
-        (link_use L.tells L.faults L.sent L.got L.vain_out L.vain_in links.old links.new)) (answer_at a)) }
+    ensures { IfOk result (λ a. IsInTable
+        (call S.Source L.Links words.now src.old src.new links.old links.new) (answer_at a)) }
 {
     let Some(task) = task_in(alloc, words)? else {
         return Ok(Answer::Usage);
@@ -92,9 +92,7 @@ fn answer_to_bytes<R: Threads + Sync, L: Links, G: Gate>(
 ) -> Result<Answer, NoMemory>
     requires few { length bytes.now ≤ limit_of task }
     requires takes { Takes task }
-    ensures { IfOk result (λ a. AnswersBytes
-        (link_use L.tells L.faults L.sent L.got L.vain_out L.vain_in links.old links.new)
-        task bytes.now (answer_at a)) }
+    ensures { IfOk result (λ a. AnswersBytes (link_use L.Links links.old links.new) task bytes.now (answer_at a)) }
 {
     match task {
         Task::Replay { .. } => {
@@ -151,8 +149,7 @@ fn answer_to_text<R: Threads + Sync, L: Links, G: Gate>(
     requires version { IsVersion version }
     requires log { length log.now ≤ source_limit }
     requires takes { Takes task }
-    ensures { IfOk result (λ a. AnswersText
-        (link_use L.tells L.faults L.sent L.got L.vain_out L.vain_in links.old links.new)
+    ensures { IfOk result (λ a. AnswersText (link_use L.Links links.old links.new)
         task (log_at version log.now) text.now (answer_at a)) }
 {
     let file = match parse_file(alloc, text) {

@@ -36,8 +36,7 @@ pub(crate) fn run_file<R: Threads + Sync, L: Links, G: Gate>(
 ) -> Result<(Verdict, Vec<u8>), RunRefusal>
     requires { RunsParties task }
     ensures ran { IfOk result (λ p. (log : LogAt)
-        → HasRun (link_use L.tells L.faults L.sent L.got L.vain_out L.vain_in links.old links.new)
-        task log (file_of (file_in accepted.now)) p.0 p.1.items) }
+        → HasRun (link_use L.Links links.old links.new) task log (file_of (file_in accepted.now)) p.0 p.1.items) }
     ensures link_fault { result ≡ Err RunRefusal.LinkFault → Rose (L.faults links.old) (L.faults links.new) }
     ensures damaged { IfErr result (IsDamagedSo (file_of (file_in accepted.now))) }
     ensures telling { IfErr result (λ r. IsDamaged r → L.tells links.old ≡ true → ⊥) }
@@ -58,8 +57,8 @@ fn drain_world<R: Threads + Sync, L: Links, G: Gate>(
 ) -> Result<World, RunRefusal>
     requires { RunsParties task }
     ensures has { IfOk result (λ w. (log : LogAt)
-        → HasHistory (link_use L.tells L.faults L.sent L.got L.vain_out L.vain_in links.old links.new)
-        task log (file_of (file_in accepted.now)) (history_of w) (world_at w)) }
+        → HasHistory (link_use L.Links links.old links.new) task log (file_of (file_in accepted.now))
+        (history_of w) (world_at w)) }
     ensures link_fault { result ≡ Err RunRefusal.LinkFault → Rose (L.faults links.old) (L.faults links.new) }
     ensures damaged { IfErr result (IsDamagedSo (file_of (file_in accepted.now))) }
     ensures telling { IfErr result (λ r. IsDamaged r → L.tells links.old ≡ true → ⊥) }

@@ -6,7 +6,7 @@ ghost use Rattle.sj_lang.specs.FileAt.{FileAt};
 ghost use Rattle.sj_command.specs.declared.tasks.Task.{Task as AnyTask};
 ghost use Rattle.sj_tool.specs.AnswerAt.{AnswerAt, ReadFault, LinkFault, Damaged};
 ghost use Rattle.sj_tool.specs.Answers.{AnswersOne, IsInTable, OrYields, WroteFront};
-ghost use Rattle.sj_tool.specs.Calls.{call, link_use};
+ghost use Rattle.sj_tool.specs.Calls.{call};
 ghost use Rattle.sj_tool.specs.Completeness.{CompletesSo, IsValid};
 ghost use Rattle.sj_tool.specs.Headline.{HasHeadline, IsForwarding, IsPlaying, IsVerdict, ReadsNoForest, WritesForwarded};
 ghost use Rattle.sj_tool.specs.LogAt.{LogAt};
@@ -44,48 +44,38 @@ pub fn sj<R: Threads + Sync, S: Source, K: Sink, L: Links, G: Gate>(
     gate: &G,
 ) -> u8
     // An answer of the table comes, and its text is written behind what was written before.
-    ensures answer { OrYields result (AnswersOne (call S.left S.faults words.now src.old src.new
-        (link_use L.tells L.faults L.sent L.got L.vain_out L.vain_in links.old links.new))
+    ensures answer { OrYields result (AnswersOne
+        (call S.Source L.Links words.now src.old src.new links.old links.new)
         result (K.written out.old) (K.written out.new)) }
 
     // Whatever answer the table gives, it is the answer, where the source tells; of `run --log`
     // the history alone may be another.
     ensures exactly { IfSome (S.left src.old) (λ _. (a : AnswerAt)
-        → IsInTable (call S.left S.faults words.now src.old src.new
-        (link_use L.tells L.faults L.sent L.got L.vain_out L.vain_in links.old links.new)) a
-        → NoFaultAbove (call S.left S.faults words.now src.old src.new
-        (link_use L.tells L.faults L.sent L.got L.vain_out L.vain_in links.old links.new)) a
-        → OrYields result (AnswersAs (call S.left S.faults words.now src.old src.new
-        (link_use L.tells L.faults L.sent L.got L.vain_out L.vain_in links.old links.new))
+        → IsInTable (call S.Source L.Links words.now src.old src.new links.old links.new) a
+        → NoFaultAbove (call S.Source L.Links words.now src.old src.new links.old links.new) a
+        → OrYields result (AnswersAs (call S.Source L.Links words.now src.old src.new links.old links.new)
         result (K.written out.old) (K.written out.new) a)) }
 
     // What `sim`, `run` and `replay` write with 0, 6 or 7 is the transcript of a run with the headline.
     ensures headline { IsVerdict result
-        → AsksFor IsPlaying (call S.left S.faults words.now src.old src.new
-        (link_use L.tells L.faults L.sent L.got L.vain_out L.vain_in links.old links.new))
-        → HasHeadline (call S.left S.faults words.now src.old src.new
-        (link_use L.tells L.faults L.sent L.got L.vain_out L.vain_in links.old links.new)) result
+        → AsksFor IsPlaying (call S.Source L.Links words.now src.old src.new links.old links.new)
+        → HasHeadline (call S.Source L.Links words.now src.old src.new links.old links.new) result
         (K.written out.old) (K.written out.new) }
 
     // What `run --forward` writes with them is that transcript and the number of deliveries of its drain.
     ensures forwarded { IsVerdict result
-        → AsksFor IsForwarding (call S.left S.faults words.now src.old src.new
-        (link_use L.tells L.faults L.sent L.got L.vain_out L.vain_in links.old links.new))
-        → WritesForwarded (call S.left S.faults words.now src.old src.new
-        (link_use L.tells L.faults L.sent L.got L.vain_out L.vain_in links.old links.new)) result
+        → AsksFor IsForwarding (call S.Source L.Links words.now src.old src.new links.old links.new)
+        → WritesForwarded (call S.Source L.Links words.now src.old src.new links.old links.new) result
         (K.written out.old) (K.written out.new) }
 
     // `sim`, `run` and `replay` answer 6 only of a file that is no forest.
     ensures forest { result ≡ verdict_status Blocked
-        → AsksFor IsPlaying (call S.left S.faults words.now src.old src.new
-        (link_use L.tells L.faults L.sent L.got L.vain_out L.vain_in links.old links.new))
-        → ReadsNoForest (call S.left S.faults words.now src.old src.new
-        (link_use L.tells L.faults L.sent L.got L.vain_out L.vain_in links.old links.new)) }
+        → AsksFor IsPlaying (call S.Source L.Links words.now src.old src.new links.old links.new)
+        → ReadsNoForest (call S.Source L.Links words.now src.old src.new links.old links.new) }
 
     // Of an input that is valid for the task the answer is what the task tells of it.
     ensures complete { (task : AnyTask) → (file : FileAt) → (log : LogAt)
-        → IsValid (call S.left S.faults words.now src.old src.new
-        (link_use L.tells L.faults L.sent L.got L.vain_out L.vain_in links.old links.new)) task file log
+        → IsValid (call S.Source L.Links words.now src.old src.new links.old links.new) task file log
         → OrYields result (CompletesSo task file log result (K.written out.old) (K.written out.new)) }
 
     // A read fault, a link fault and a write fault come only where a fault was counted, and damage only
@@ -96,8 +86,8 @@ pub fn sj<R: Threads + Sync, S: Source, K: Sink, L: Links, G: Gate>(
     ensures write_fault { result ≡ write_fault_status → Rose (K.faults out.old) (K.faults out.new) }
 
     // A front of the answer's text was written where the sink failed, and nothing without memory.
-    ensures front { result ≡ write_fault_status → WroteFront (call S.left S.faults words.now src.old src.new
-        (link_use L.tells L.faults L.sent L.got L.vain_out L.vain_in links.old links.new))
+    ensures front { result ≡ write_fault_status
+        → WroteFront (call S.Source L.Links words.now src.old src.new links.old links.new)
         (K.written out.old) (K.written out.new) }
     ensures no_memory { result ≡ no_memory_status → K.written out.new ≡ K.written out.old }
 {

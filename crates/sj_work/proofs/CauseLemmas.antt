@@ -15,32 +15,32 @@ use Rattle.sj_work.proofs.LaneLaws.{CauseBy, LaneLaws, WentBy}
 
 module _ {O I : Type 0} (k : LaneLaws O I) where
   -- behind work, counts of lanes from parties that rose, rose
-  pub ins_later : (n : ℕ) (a b c : Worker O I) → WentBy k None a b → InVain k.in_vain n b c → InVain k.in_vain n a c
-  ins_later n a b c went v = λ q lt. on_later k.in_vain Stood (RoseBy n) (RoseBy n) (then_rose n) (in_of a q) (in_of b q) (in_of c q) (went.vain_in q) (v q lt)
+  pub ins_later : (n : ℕ) (a b c : Worker O I) → WentBy k None a b → InVain k.inward.vain n b c → InVain k.inward.vain n a c
+  ins_later n a b c went v = λ q lt. on_later k.inward.vain Stood (RoseBy n) (RoseBy n) (then_rose n) (in_of a q) (in_of b q) (in_of c q) (went.vain_in q) (v q lt)
 
   -- and before it
-  pub ins_then : (n : ℕ) (a b c : Worker O I) → InVain k.in_vain n a b → WentBy k None b c → InVain k.in_vain n a c
-  ins_then n a b c v went = λ q lt. on_later k.in_vain (RoseBy n) Stood (RoseBy n) (rose_then n) (in_of a q) (in_of b q) (in_of c q) (v q (subst (λ m. q < m) went.parties lt)) (went.vain_in q)
+  pub ins_then : (n : ℕ) (a b c : Worker O I) → InVain k.inward.vain n a b → WentBy k None b c → InVain k.inward.vain n a c
+  ins_then n a b c v went = λ q lt. on_later k.inward.vain (RoseBy n) Stood (RoseBy n) (rose_then n) (in_of a q) (in_of b q) (in_of c q) (v q (subst (λ m. q < m) went.parties lt)) (went.vain_in q)
 
   -- so many times, and so many times more
-  pub ins_more : (m n : ℕ) (a b c : Worker O I) → parties_of c.node ≡ parties_of b.node → InVain k.in_vain m a b → InVain k.in_vain n b c → InVain k.in_vain (m + n) a c
-  ins_more m n a b c same v w = λ q lt. on_later k.in_vain (RoseBy m) (RoseBy n) (RoseBy (m + n)) (rose_more m n) (in_of a q) (in_of b q) (in_of c q) (v q (subst (λ j. q < j) same lt)) (w q lt)
+  pub ins_more : (m n : ℕ) (a b c : Worker O I) → parties_of c.node ≡ parties_of b.node → InVain k.inward.vain m a b → InVain k.inward.vain n b c → InVain k.inward.vain (m + n) a c
+  ins_more m n a b c same v w = λ q lt. on_later k.inward.vain (RoseBy m) (RoseBy n) (RoseBy (m + n)) (rose_more m n) (in_of a q) (in_of b q) (in_of c q) (v q (subst (λ j. q < j) same lt)) (w q lt)
 
   -- the same of lanes to parties
-  pub outs_later : (n : ℕ) (a b c : Worker O I) → WentBy k None a b → OutVain k.out_vain n b c → OutVain k.out_vain n a c
-  outs_later n a b c went v = λ q lt waits. on_later k.out_vain Stood (RoseBy n) (RoseBy n) (then_rose n) (out_of a q) (out_of b q) (out_of c q) (went.vain_out q) (v q lt waits)
+  pub outs_later : (n : ℕ) (a b c : Worker O I) → WentBy k None a b → OutVain k.outward.vain n b c → OutVain k.outward.vain n a c
+  outs_later n a b c went v = λ q lt waits. on_later k.outward.vain Stood (RoseBy n) (RoseBy n) (then_rose n) (out_of a q) (out_of b q) (out_of c q) (went.vain_out q) (v q lt waits)
 
-  pub outs_then : (n : ℕ) (a b c : Worker O I) → OutVain k.out_vain n a b → WentBy k None b c → HasNoEvent b.node c.node → OutVain k.out_vain n a c
+  pub outs_then : (n : ℕ) (a b c : Worker O I) → OutVain k.outward.vain n a b → WentBy k None b c → HasNoEvent b.node c.node → OutVain k.outward.vain n a c
   outs_then n a b c v went rests = λ q lt waits.
-      on_later k.out_vain (RoseBy n) Stood (RoseBy n) (rose_then n) (out_of a q) (out_of b q) (out_of c q) (v q (subst (λ m. q < m) went.parties lt) (rests.boxes q waits)) (went.vain_out q)
+      on_later k.outward.vain (RoseBy n) Stood (RoseBy n) (rose_then n) (out_of a q) (out_of b q) (out_of c q) (v q (subst (λ m. q < m) went.parties lt) (rests.boxes q waits)) (went.vain_out q)
 
-  pub outs_more : (m n : ℕ) (a b c : Worker O I) → HasNoEvent b.node c.node → OutVain k.out_vain m a b → OutVain k.out_vain n b c → OutVain k.out_vain (m + n) a c
+  pub outs_more : (m n : ℕ) (a b c : Worker O I) → HasNoEvent b.node c.node → OutVain k.outward.vain m a b → OutVain k.outward.vain n b c → OutVain k.outward.vain (m + n) a c
   outs_more m n a b c rests v w = λ q lt waits.
-      on_later k.out_vain (RoseBy m) (RoseBy n) (RoseBy (m + n)) (rose_more m n) (out_of a q) (out_of b q) (out_of c q) (v q (subst (λ j. q < j) rests.parties lt) (rests.boxes q waits)) (w q lt waits)
+      on_later k.outward.vain (RoseBy m) (RoseBy n) (RoseBy (m + n)) (rose_more m n) (out_of a q) (out_of b q) (out_of c q) (v q (subst (λ j. q < j) rests.parties lt) (rests.boxes q waits)) (w q lt waits)
 
-  fault_later : (a b c : Worker O I) → WentBy k None a b → MetFault k.out_faults k.in_faults b c → MetFault k.out_faults k.in_faults a c
-  fault_later a b c went (inl s) = inl (then_some_rose k.out_faults (out_of a) (out_of b) (out_of c) went.faults_out s)
-  fault_later a b c went (inr s) = inr (then_some_rose k.in_faults (in_of a) (in_of b) (in_of c) went.faults_in s)
+  fault_later : (a b c : Worker O I) → WentBy k None a b → MetFault k.outward.faults k.inward.faults b c → MetFault k.outward.faults k.inward.faults a c
+  fault_later a b c went (inl s) = inl (then_some_rose k.outward.faults (out_of a) (out_of b) (out_of c) went.faults_out s)
+  fault_later a b c went (inr s) = inr (then_some_rose k.inward.faults (in_of a) (in_of b) (in_of c) went.faults_in s)
 
   -- the cause of a stop stays one where more work is counted
   pub cause_later : (s : Option Stop) (looks : ℕ) (lost : Option (LostAt Place)) (a b c : Worker O I) → WentBy k None a b → CauseBy k s looks lost b c → CauseBy k s looks lost a c

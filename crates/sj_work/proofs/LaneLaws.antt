@@ -3,6 +3,8 @@ use Rattle.std.proofs.Common.{◌≡◌, ℕ, ◌≤◌, List, Option}
 use Rattle.sj_lang.specs.Place.{Place}
 use Rattle.sj_rules.specs.Frames.{FrameAt}
 use Rattle.sj_rules.specs.Work.{LostAt, told_more}
+use Rattle.sj_lane.specs.declared.lane.OutLane.{Ghosts as OutLane}
+use Rattle.sj_lane.specs.declared.lane.InLane.{Ghosts as InLane}
 use Rattle.sj_work.specs.declared.worker.Stop.{Stop}
 use Rattle.sj_work.specs.declared.worker.Worker.{Worker}
 use Rattle.sj_work.specs.Causes.{Cause}
@@ -10,32 +12,19 @@ use Rattle.sj_work.specs.Counts.{Stood}
 use Rattle.sj_work.specs.Worked.{Turned, Went}
 
 pub record LaneLaws (O I : Type 0) : Type 1 where
-  pub pushed : O → Option (List (FrameAt Place))
-  pub out_faults : O → ℕ
-  pub out_vain : O → ℕ
-  pub same_out : O → O → Type 0
-  pub popped : I → Option (List (FrameAt Place))
-  pub in_faults : I → ℕ
-  pub in_vain : I → ℕ
-  pub same_in : I → I → Type 0
-  pub out_itself : (x : O) → same_out x x
-  pub out_later : (x y z : O) → same_out x y → same_out y z → same_out x z
-  pub in_itself : (x : I) → same_in x x
-  pub in_later : (x y z : I) → same_in x y → same_in y z → same_in x z
+  pub outward : OutLane O
+  pub inward : InLane I
+  pub out_itself : (x : O) → outward.same x x
+  pub out_later : (x y z : O) → outward.same x y → outward.same y z → outward.same x z
+  pub in_itself : (x : I) → inward.same x x
+  pub in_later : (x y z : I) → inward.same x y → inward.same y z → inward.same x z
 
-abbrev pub laws : {O I : Type 0} → (pushed : O → Option (List (FrameAt Place))) (out_faults out_vain : O → ℕ) (same_out : O → O → Type 0)
-    (popped : I → Option (List (FrameAt Place))) (in_faults in_vain : I → ℕ) (same_in : I → I → Type 0)
-    (out_itself : (x : O) → same_out x x) (out_later : (x y z : O) → same_out x y → same_out y z → same_out x z)
-    (in_itself : (x : I) → same_in x x) (in_later : (x y z : I) → same_in x y → same_in y z → same_in x z) → LaneLaws O I
-laws pushed out_faults out_vain same_out popped in_faults in_vain same_in out_itself out_later in_itself in_later = record {
-  pushed = pushed;
-  out_faults = out_faults;
-  out_vain = out_vain;
-  same_out = same_out;
-  popped = popped;
-  in_faults = in_faults;
-  in_vain = in_vain;
-  same_in = same_in;
+abbrev pub laws : {O I : Type 0} → (outward : OutLane O) (inward : InLane I) (out_itself : (x : O) → outward.same x x)
+    (out_later : (x y z : O) → outward.same x y → outward.same y z → outward.same x z)
+    (in_itself : (x : I) → inward.same x x) (in_later : (x y z : I) → inward.same x y → inward.same y z → inward.same x z) → LaneLaws O I
+laws outward inward out_itself out_later in_itself in_later = record {
+  outward = outward;
+  inward = inward;
   out_itself = out_itself;
   out_later = out_later;
   in_itself = in_itself;
@@ -44,24 +33,24 @@ laws pushed out_faults out_vain same_out popped in_faults in_vain same_in out_it
 
 module _ {O I : Type 0} (k : LaneLaws O I) where
   abbrev pub WentBy : Option (LostAt Place) → (old new : Worker O I) → Type 0
-  WentBy lost old new = Went k.pushed k.out_faults k.out_vain k.same_out k.popped k.in_faults k.in_vain k.same_in lost old new
+  WentBy lost old new = Went k.outward k.inward lost old new
 
   abbrev pub CauseBy : Option Stop → (looks : ℕ) → Option (LostAt Place) → (old new : Worker O I) → Type 0
-  CauseBy stop looks lost old new = Cause k.out_faults k.out_vain k.in_faults k.in_vain stop looks lost old new
+  CauseBy stop looks lost old new = Cause k.outward k.inward stop looks lost old new
 
   abbrev pub TurnedBy : (looks : ℕ) → (old new : Worker O I) → Type 0
-  TurnedBy looks old new = Turned k.pushed k.out_faults k.out_vain k.same_out k.popped k.in_faults k.in_vain k.same_in looks old new
+  TurnedBy looks old new = Turned k.outward k.inward looks old new
 
   -- what a push did to its lane, where these frames were pushed
   pub record OutDid (o p : O) (now : List (FrameAt Place)) : Type 0 where
-    pub same : k.same_out o p
-    pub told : k.pushed p ≡ told_more (k.pushed o) now
-    pub faults : k.out_faults o ≤ k.out_faults p
-    pub vain : Stood (k.out_vain o) (k.out_vain p)
+    pub same : k.outward.same o p
+    pub told : k.outward.pushed p ≡ told_more (k.outward.pushed o) now
+    pub faults : k.outward.faults o ≤ k.outward.faults p
+    pub vain : Stood (k.outward.vain o) (k.outward.vain p)
 
   -- what a pop did to its lane, where these frames were popped
   pub record InDid (i j : I) (came : List (FrameAt Place)) : Type 0 where
-    pub same : k.same_in i j
-    pub told : k.popped j ≡ told_more (k.popped i) came
-    pub faults : k.in_faults i ≤ k.in_faults j
-    pub vain : Stood (k.in_vain i) (k.in_vain j)
+    pub same : k.inward.same i j
+    pub told : k.inward.popped j ≡ told_more (k.inward.popped i) came
+    pub faults : k.inward.faults i ≤ k.inward.faults j
+    pub vain : Stood (k.inward.vain i) (k.inward.vain j)

@@ -35,7 +35,7 @@ module _ {O I : Type 0} (k : LaneLaws O I) where
     pub turns : (looks : ℕ) → TurnedBy k looks init now
     pub goes : IsGoing now
     pub rests : IsFalse came → now.node ≡ init.node
-    pub vain : IsFalse came → (q : ℕ) → q < next → OnLane k.in_vain (RoseBy 1) (in_of init q) (in_of now q)
+    pub vain : IsFalse came → (q : ℕ) → q < next → OnLane k.inward.vain (RoseBy 1) (in_of init q) (in_of now q)
     pub event : IsTrue came → clock_of init.node < clock_of now.node
     pub looks : now.looks ≡ init.looks
 
@@ -65,7 +65,7 @@ module _ {O I : Type 0} (k : LaneLaws O I) where
     look_rests rests h = let n = neither came r h in rests n.1 ∙ l.rests n.0
 
     pub look_more : stop_of later ≡ None → (IsTrue r → stop_of later ≡ None → clock_of now.node < clock_of later.node) → (IsFalse r → later.node ≡ now.node)
-        → (IsFalse r → stop_of later ≡ None → OnLane k.in_vain (RoseBy 1) (in_of now from) (in_of later from)) → later.looks ≡ now.looks → Looked init later (from + 1) (came || r)
+        → (IsFalse r → stop_of later ≡ None → OnLane k.inward.vain (RoseBy 1) (in_of now from) (in_of later from)) → later.looks ≡ now.looks → Looked init later (from + 1) (came || r)
     look_more none event rests vain looks = record {
       turns = look_turns;
       goes = going k 0 now later (t 0) none;
@@ -81,8 +81,8 @@ module _ {O I : Type 0} (k : LaneLaws O I) where
         after : WentBy k None now later
         after = went_of k now later (t 0) none
 
-        each : IsFalse came → IsFalse r → (q : ℕ) → q < from + 1 → (q ≡ from) ⊎ (q ≡ from → ⊥) → OnLane k.in_vain (RoseBy 1) (in_of init q) (in_of later q)
+        each : IsFalse came → IsFalse r → (q : ℕ) → q < from + 1 → (q ≡ from) ⊎ (q ≡ from → ⊥) → OnLane k.inward.vain (RoseBy 1) (in_of init q) (in_of later q)
         each c h q lt (inl is) =
-            subst (λ n. OnLane k.in_vain (RoseBy 1) (in_of init n) (in_of later n)) (sym is)
-            (on_later k.in_vain Stood (RoseBy 1) (RoseBy 1) (then_rose 1) (in_of init from) (in_of now from) (in_of later from) (before.vain_in from) (vain h none))
-        each c h q lt (inr not) = on_later k.in_vain (RoseBy 1) Stood (RoseBy 1) (rose_then 1) (in_of init q) (in_of now q) (in_of later q) (l.vain c q (below q from lt not)) (after.vain_in q)
+            subst (λ n. OnLane k.inward.vain (RoseBy 1) (in_of init n) (in_of later n)) (sym is)
+            (on_later k.inward.vain Stood (RoseBy 1) (RoseBy 1) (then_rose 1) (in_of init from) (in_of now from) (in_of later from) (before.vain_in from) (vain h none))
+        each c h q lt (inr not) = on_later k.inward.vain (RoseBy 1) Stood (RoseBy 1) (rose_then 1) (in_of init q) (in_of now q) (in_of later q) (l.vain c q (below q from lt not)) (after.vain_in q)

@@ -25,7 +25,7 @@ module _ {O I : Type 0} (k : LaneLaws O I) where
   -- and the parties below that number were tried
   pub record Pushed (init now : Worker O I) (next : ℕ) : Type 0 where
     pub pushing : Pushing init now
-    pub tried : (q : ℕ) → q < next → Tried k.out_vain q init now
+    pub tried : (q : ℕ) → q < next → Tried k.outward.vain q init now
 
   pub pushing_none : (w : Worker O I) → IsGoing w → Pushing w w
   pushing_none w goes = record { turns = turned_on k w w (went_itself k w w refl refl) goes.stop goes.open_yet; goes = goes; rests = rests_itself w.node w.node refl; looks = refl }
@@ -41,22 +41,22 @@ module _ {O I : Type 0} (k : LaneLaws O I) where
     pub push_rests : HasNoEvent init.node later.node
     push_rests = rests_later init.node now.node later.node p.rests r
 
-    pub push_tried : (q : ℕ) → Tried k.out_vain q now later → Tried k.out_vain q init later
+    pub push_tried : (q : ℕ) → Tried k.outward.vain q now later → Tried k.outward.vain q init later
     push_tried q tried waits =
-        on_later k.out_vain Stood (RoseBy 1) (RoseBy 1) (then_rose 1) (out_of init q) (out_of now q) (out_of later q) ((went_of k init now (p.turns 0) p.goes.stop).vain_out q) (tried waits)
+        on_later k.outward.vain Stood (RoseBy 1) (RoseBy 1) (then_rose 1) (out_of init q) (out_of now q) (out_of later q) ((went_of k init now (p.turns 0) p.goes.stop).vain_out q) (tried waits)
 
     pub push_more : stop_of later ≡ None → later.looks ≡ now.looks → Pushing init later
     push_more none looks = record { turns = push_turns; goes = going k 0 now later (t 0) none; rests = push_rests; looks = looks ∙ p.looks }
 
   -- the pushes to one party more
   pub pushed_more : (init now later : Worker O I) (to : ℕ) → Pushed init now to → ((looks : ℕ) → TurnedBy k looks now later) → HasNoEvent now.node later.node → stop_of later ≡ None → later.looks ≡ now.looks
-      → Tried k.out_vain to now later → Pushed init later (to + 1)
+      → Tried k.outward.vain to now later → Pushed init later (to + 1)
   pushed_more init now later to p t r none looks tried = record { pushing = push_more init now later p.pushing t r none looks; tried = λ q lt. each q lt (cases_eq q to) }
     where
       after : WentBy k None now later
       after = went_of k now later (t 0) none
 
-      each : (q : ℕ) → q < to + 1 → (q ≡ to) ⊎ (q ≡ to → ⊥) → Tried k.out_vain q init later
-      each q lt (inl is) = subst (λ n. Tried k.out_vain n init later) (sym is) (push_tried init now later p.pushing t r to tried)
+      each : (q : ℕ) → q < to + 1 → (q ≡ to) ⊎ (q ≡ to → ⊥) → Tried k.outward.vain q init later
+      each q lt (inl is) = subst (λ n. Tried k.outward.vain n init later) (sym is) (push_tried init now later p.pushing t r to tried)
       each q lt (inr not) = λ waits.
-          on_later k.out_vain (RoseBy 1) Stood (RoseBy 1) (rose_then 1) (out_of init q) (out_of now q) (out_of later q) (p.tried q (below q to lt not) (r.boxes q waits)) (after.vain_out q)
+          on_later k.outward.vain (RoseBy 1) Stood (RoseBy 1) (rose_then 1) (out_of init q) (out_of now q) (out_of later q) (p.tried q (below q to lt not) (r.boxes q waits)) (after.vain_out q)

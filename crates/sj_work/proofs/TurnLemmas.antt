@@ -178,12 +178,12 @@ module _ {O I : Type 0} (k : LaneLaws O I) where
 
   -- a frame that a lane refused, and that is back in its outbox
   pub push_refused : (a b : Worker O I) (to : ℕ) (o p : O) (g : Frame) (why : PushRefusal) → (IsFinished b.node → ⊥) → WentBy k None a b → b.answer ≡ push_answer why
-      → PushCause (k.out_faults o) (k.out_faults p) (Err (g, why)) → out_of a to ≡ Some o → b.lanes.outs.items ≡ set a.lanes.outs.items to p → (looks : ℕ) → TurnedBy k looks a b
+      → PushCause (k.outward.faults o) (k.outward.faults p) (Err (g, why)) → out_of a to ≡ Some o → b.lanes.outs.items ≡ set a.lanes.outs.items to p → (looks : ℕ) → TurnedBy k looks a b
   push_refused a b to o p g pushes.Full open_yet went is cause at put = turned_on a b went (ap stop_in is) open_yet
   push_refused a b to o p g pushes.NoMemory open_yet went is cause at put = λ looks. turned_off a b None stops.NoMemory looks (ap stop_in is) (λ e. cc e) open_yet went tt tt
   push_refused a b to o p g pushes.Fault open_yet went is cause at put = λ looks.
       turned_off a b None stops.Fault looks (ap stop_in is) (λ e. cc e) open_yet went tt
-      (inl (subst (λ (xs : List O). SomeRose k.out_faults (out_of a) (slice_get xs)) (sym put) (some_rose k.out_faults a.lanes.outs.items to o p at cause)))
+      (inl (subst (λ (xs : List O). SomeRose k.outward.faults (out_of a) (slice_get xs)) (sym put) (some_rose k.outward.faults a.lanes.outs.items to o p at cause)))
 
   -- the worker has gone on so far
   pub record Gone (looks : ℕ) (init now : Worker O I) : Type 0 where
@@ -198,10 +198,10 @@ module _ {O I : Type 0} (k : LaneLaws O I) where
 
   -- a pop that a lane refused for a fault
   pub pop_fault : (a b : Worker O I) (from : ℕ) (i j : I) → IsGoing a → WentBy k None a b → b.node ≡ a.node → stop_of b ≡ Some stops.Fault → in_of a from ≡ Some i → b.lanes.ins.items ≡ set a.lanes.ins.items from j
-      → Rose (k.in_faults i) (k.in_faults j) → (looks : ℕ) → TurnedBy k looks a b
+      → Rose (k.inward.faults i) (k.inward.faults j) → (looks : ℕ) → TurnedBy k looks a b
   pop_fault a b from i j goes went node is at put rose looks =
       turned_off a b None stops.Fault looks is (λ e. cc e) (λ f. goes.open_yet (subst (λ (n : Node). IsFinished n) node f)) went tt
-      (inr (subst (λ (xs : List I). SomeRose k.in_faults (in_of a) (slice_get xs)) (sym put) (some_rose k.in_faults a.lanes.ins.items from i j at rose)))
+      (inr (subst (λ (xs : List I). SomeRose k.inward.faults (in_of a) (slice_get xs)) (sym put) (some_rose k.inward.faults a.lanes.ins.items from i j at rose)))
 
   pub gone_turned : (looks : ℕ) (init now next : Worker O I) → Gone looks init now → TurnedBy k looks now next → TurnedBy k looks init next
   gone_turned looks init now next g t = turned_behind looks init now next g.went t
@@ -214,7 +214,7 @@ module _ {O I : Type 0} (k : LaneLaws O I) where
 
   -- a call, up to its stop
   pub worked_by : (looks : ℕ) (a b : Worker O I) (s : Stop) → kept_stop (stop_of a) ≡ None → stop_of b ≡ Some s → TurnedBy k looks a b
-      → Worked k.pushed k.out_faults k.out_vain k.same_out k.popped k.in_faults k.in_vain k.same_in looks a b
+      → Worked k.outward k.inward looks a b
   worked_by looks a b s not_kept is t =
-      subst (λ (o : Option Stop). WorkedBy k.pushed k.out_faults k.out_vain k.same_out k.popped k.in_faults k.in_vain k.same_in o looks a b) (sym not_kept)
+      subst (λ (o : Option Stop). WorkedBy k.outward k.inward o looks a b) (sym not_kept)
       (subst (λ (o : Option Stop). IsSome o) (sym is) (search rules), t)

@@ -43,8 +43,8 @@ below_looks n t m looks last same is within lt = omega arith
 
 module _ {O I : Type 0} (k : LaneLaws O I) where
   -- a turn in vain: looks, pushes, and an act that isn't there
-  pub vain_turn : (a b c d : Worker O I) → WentBy k None a b → WentBy k None b c → WentBy k None c d → b.node ≡ a.node → InVain k.in_vain 1 a b → HasNoEvent b.node c.node → OutVain k.out_vain 1 b c → HasNoEvent c.node d.node
-      → IsHalted (nodes.stop_of d.node) → IsInVain k.out_vain k.in_vain a d
+  pub vain_turn : (a b c d : Worker O I) → WentBy k None a b → WentBy k None b c → WentBy k None c d → b.node ≡ a.node → InVain k.inward.vain 1 a b → HasNoEvent b.node c.node → OutVain k.outward.vain 1 b c → HasNoEvent c.node d.node
+      → IsHalted (nodes.stop_of d.node) → IsInVain k.outward.vain k.inward.vain a d
   vain_turn a b c d looked pushed acted node ins sent outs rests halted = record {
     rests = rests_later a.node b.node d.node (rests_itself a.node b.node node) (rests_later b.node c.node d.node sent rests);
     ins = ins_then k 1 a b d ins (went_later k b c d None pushed acted);
@@ -58,8 +58,8 @@ module _ {O I : Type 0} (k : LaneLaws O I) where
     pub goes : IsGoing now
     pub rests : HasNoEvent init.node now.node
     pub within : now.looks ≤ looks
-    pub ins : InVain k.in_vain now.looks init now
-    pub outs : OutVain k.out_vain now.looks init now
+    pub ins : InVain k.inward.vain now.looks init now
+    pub outs : OutVain k.outward.vain now.looks init now
 
   -- no turn yet
   pub waited_none : (looks : ℕ) (a : Worker O I) → IsGoing a → Waited looks a (record a { looks = 0 })
@@ -68,8 +68,8 @@ module _ {O I : Type 0} (k : LaneLaws O I) where
     goes = record { stop = goes.stop; open_yet = goes.open_yet };
     rests = rests_itself a.node a.node refl;
     within = omega arith;
-    ins = λ q lt. on_so k.in_vain Stood (RoseBy 0) rose_none (in_of a q) (in_of a q) (went.vain_in q);
-    outs = λ q lt waits. on_so k.out_vain Stood (RoseBy 0) rose_none (out_of a q) (out_of a q) (went.vain_out q);
+    ins = λ q lt. on_so k.inward.vain Stood (RoseBy 0) rose_none (in_of a q) (in_of a q) (went.vain_in q);
+    outs = λ q lt waits. on_so k.outward.vain Stood (RoseBy 0) rose_none (out_of a q) (out_of a q) (went.vain_out q);
   }
     where
       went : WentBy k None a (record a { looks = 0 })
@@ -86,8 +86,8 @@ module _ {O I : Type 0} (k : LaneLaws O I) where
         turned_off k init (record now { answer = Some answers.Idle }) None stops.Idle looks refl (λ e. cc e) w.goes.open_yet (went_again k init now None (Some answers.Idle) now.looks before) tt (record {
           idle = subst (λ (o : Option Halt). IsIdle o) (sym (stop_same init.node now.node w.rests.node)) idle;
           turns = all;
-          ins = subst (λ n. InVain k.in_vain n init now) all w.ins;
-          outs = subst (λ n. OutVain k.out_vain n init now) all w.outs;
+          ins = subst (λ n. InVain k.inward.vain n init now) all w.ins;
+          outs = subst (λ n. OutVain k.outward.vain n init now) all w.outs;
         })
 
     module _ (next : Worker O I) (t : (n : ℕ) → TurnedBy k n now next) where
@@ -95,7 +95,7 @@ module _ {O I : Type 0} (k : LaneLaws O I) where
       pub wait_turns : (n : ℕ) → TurnedBy k n init next
       wait_turns n = turned_behind k n init now next before (t n)
 
-      module _ (none : stop_of next ≡ None) (v : IsInVain k.out_vain k.in_vain now next) where
+      module _ (none : stop_of next ≡ None) (v : IsInVain k.outward.vain k.inward.vain now next) where
         after : WentBy k None init next
         after = went_later k init now next None before (went_of k now next (t 0) none)
 
@@ -109,8 +109,8 @@ module _ {O I : Type 0} (k : LaneLaws O I) where
           goes = record { stop = none; open_yet = open_next };
           rests = rests_later init.node now.node next.node w.rests v.rests;
           within = within;
-          ins = subst (λ m. InVain k.in_vain m init next) (sym more) (ins_more k now.looks 1 init now next v.rests.parties w.ins v.ins);
-          outs = subst (λ m. OutVain k.out_vain m init next) (sym more) (outs_more k now.looks 1 init now next v.rests w.outs v.outs);
+          ins = subst (λ m. InVain k.inward.vain m init next) (sym more) (ins_more k now.looks 1 init now next v.rests.parties w.ins v.ins);
+          outs = subst (λ m. OutVain k.outward.vain m init next) (sym more) (outs_more k now.looks 1 init now next v.rests w.outs v.outs);
         }
 
         -- and the party is at its limit

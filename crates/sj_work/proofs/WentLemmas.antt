@@ -54,29 +54,29 @@ box_waits n q = told_all_with (place_in n.table) (waiting_in (outs_of n) q)
 module _ {O I : Type 0} (k : LaneLaws O I) where
   -- nothing of all lanes to parties but their outboxes changed
   record OutsWent (a b : Worker O I) : Type 0 where
-    steps : (q : ℕ) → OutStep k.pushed k.same_out (out_of a q) (out_of b q) (box_of a q) (box_of b q) []
-    faults : (q : ℕ) → OnLane k.out_faults Stands (out_of a q) (out_of b q)
-    vain : (q : ℕ) → OnLane k.out_vain Stood (out_of a q) (out_of b q)
+    steps : (q : ℕ) → OutStep k.outward.pushed k.outward.same (out_of a q) (out_of b q) (box_of a q) (box_of b q) []
+    faults : (q : ℕ) → OnLane k.outward.faults Stands (out_of a q) (out_of b q)
+    vain : (q : ℕ) → OnLane k.outward.vain Stood (out_of a q) (out_of b q)
 
   -- these frames came from each party
   record InsWent (a b : Worker O I) (ts : ℕ → List (FrameAt Place)) : Type 0 where
-    steps : (q : ℕ) → InStep k.popped k.same_in (in_of a q) (in_of b q) (ts q)
-    faults : (q : ℕ) → OnLane k.in_faults Stands (in_of a q) (in_of b q)
-    vain : (q : ℕ) → OnLane k.in_vain Stood (in_of a q) (in_of b q)
+    steps : (q : ℕ) → InStep k.inward.popped k.inward.same (in_of a q) (in_of b q) (ts q)
+    faults : (q : ℕ) → OnLane k.inward.faults Stands (in_of a q) (in_of b q)
+    vain : (q : ℕ) → OnLane k.inward.vain Stood (in_of a q) (in_of b q)
     beyond : (q : ℕ) → parties_of a.node ≤ q → in_of b q ≡ in_of a q
     at_end : clock_end ≤ clock_of a.node → (q : ℕ) → in_of b q ≡ in_of a q
 
-  faults_alone : (a b : List O) → b ≡ a → (q : ℕ) → OnLane k.out_faults Stands (slice_get a q) (slice_get b q)
-  faults_alone a b same q = subst (λ (xs : List O). OnLane k.out_faults Stands (slice_get a q) (slice_get xs q)) (sym same) (on_itself k.out_faults Stands stands_itself (slice_get a q))
+  faults_alone : (a b : List O) → b ≡ a → (q : ℕ) → OnLane k.outward.faults Stands (slice_get a q) (slice_get b q)
+  faults_alone a b same q = subst (λ (xs : List O). OnLane k.outward.faults Stands (slice_get a q) (slice_get xs q)) (sym same) (on_itself k.outward.faults Stands stands_itself (slice_get a q))
 
-  vain_alone : (a b : List O) → b ≡ a → (q : ℕ) → OnLane k.out_vain Stood (slice_get a q) (slice_get b q)
-  vain_alone a b same q = subst (λ (xs : List O). OnLane k.out_vain Stood (slice_get a q) (slice_get xs q)) (sym same) (on_itself k.out_vain Stood stood_itself (slice_get a q))
+  vain_alone : (a b : List O) → b ≡ a → (q : ℕ) → OnLane k.outward.vain Stood (slice_get a q) (slice_get b q)
+  vain_alone a b same q = subst (λ (xs : List O). OnLane k.outward.vain Stood (slice_get a q) (slice_get xs q)) (sym same) (on_itself k.outward.vain Stood stood_itself (slice_get a q))
 
   -- lanes to parties that are left alone
   outs_alone : (a b : Worker O I) → ((q : ℕ) → box_of b q ≡ box_of a q) → b.lanes.outs.items ≡ a.lanes.outs.items → OutsWent a b
   outs_alone a b box same = record {
-    steps = λ q. subst (λ (xs : List O). OutStep k.pushed k.same_out (out_of a q) (slice_get xs q) (box_of a q) (box_of b q) []) (sym same)
-        (out_alone k.pushed k.same_out k.out_itself k.out_later (out_of a q) (box_of a q) (box_of b q) [] (box q ∙ sym (append-nil (box_of a q))));
+    steps = λ q. subst (λ (xs : List O). OutStep k.outward.pushed k.outward.same (out_of a q) (slice_get xs q) (box_of a q) (box_of b q) []) (sym same)
+        (out_alone k.outward.pushed k.outward.same k.out_itself k.out_later (out_of a q) (box_of a q) (box_of b q) [] (box q ∙ sym (append-nil (box_of a q))));
     faults = faults_alone a.lanes.outs.items b.lanes.outs.items same;
     vain = vain_alone a.lanes.outs.items b.lanes.outs.items same;
   }
@@ -85,20 +85,20 @@ module _ {O I : Type 0} (k : LaneLaws O I) where
   outs_put : (a b : Worker O I) (to : ℕ) (o p : O) (now : List (FrameAt Place)) → out_of a to ≡ Some o → b.lanes.outs.items ≡ set a.lanes.outs.items to p → OutDid k o p now
       → now ++ box_of b to ≡ box_of a to → ((q : ℕ) → (q ≡ to → ⊥) → box_of b q ≡ box_of a q) → OutsWent a b
   outs_put a b to o p now at put did own others = record {
-    steps = λ q. subst (λ (xs : List O). OutStep k.pushed k.same_out (out_of a q) (slice_get xs q) (box_of a q) (box_of b q) []) (sym put)
-        (out_put k.pushed k.same_out k.out_itself k.out_later a.lanes.outs.items to q o p (box_of a) (box_of b) at (did.same, (now, did.told, own ∙ sym (append-nil (box_of a to)))) others);
-    faults = λ q. subst (λ (xs : List O). OnLane k.out_faults Stands (out_of a q) (slice_get xs q)) (sym put)
-        (on_put k.out_faults Stands stands_itself a.lanes.outs.items to q o p at did.faults);
-    vain = λ q. subst (λ (xs : List O). OnLane k.out_vain Stood (out_of a q) (slice_get xs q)) (sym put)
-        (on_put k.out_vain Stood stood_itself a.lanes.outs.items to q o p at did.vain);
+    steps = λ q. subst (λ (xs : List O). OutStep k.outward.pushed k.outward.same (out_of a q) (slice_get xs q) (box_of a q) (box_of b q) []) (sym put)
+        (out_put k.outward.pushed k.outward.same k.out_itself k.out_later a.lanes.outs.items to q o p (box_of a) (box_of b) at (did.same, (now, did.told, own ∙ sym (append-nil (box_of a to)))) others);
+    faults = λ q. subst (λ (xs : List O). OnLane k.outward.faults Stands (out_of a q) (slice_get xs q)) (sym put)
+        (on_put k.outward.faults Stands stands_itself a.lanes.outs.items to q o p at did.faults);
+    vain = λ q. subst (λ (xs : List O). OnLane k.outward.vain Stood (out_of a q) (slice_get xs q)) (sym put)
+        (on_put k.outward.vain Stood stood_itself a.lanes.outs.items to q o p at did.vain);
   }
 
   -- lanes from parties that are left alone
   ins_alone : (a b : Worker O I) → b.lanes.ins.items ≡ a.lanes.ins.items → InsWent a b (λ q. [])
   ins_alone a b same = record {
-    steps = λ q. subst (λ (xs : List I). InStep k.popped k.same_in (in_of a q) (slice_get xs q) []) (sym same) (in_itself k.popped k.same_in k.in_itself k.in_later (in_of a q));
-    faults = λ q. subst (λ (xs : List I). OnLane k.in_faults Stands (in_of a q) (slice_get xs q)) (sym same) (on_itself k.in_faults Stands stands_itself (in_of a q));
-    vain = λ q. subst (λ (xs : List I). OnLane k.in_vain Stood (in_of a q) (slice_get xs q)) (sym same) (on_itself k.in_vain Stood stood_itself (in_of a q));
+    steps = λ q. subst (λ (xs : List I). InStep k.inward.popped k.inward.same (in_of a q) (slice_get xs q) []) (sym same) (in_itself k.inward.popped k.inward.same k.in_itself k.in_later (in_of a q));
+    faults = λ q. subst (λ (xs : List I). OnLane k.inward.faults Stands (in_of a q) (slice_get xs q)) (sym same) (on_itself k.inward.faults Stands stands_itself (in_of a q));
+    vain = λ q. subst (λ (xs : List I). OnLane k.inward.vain Stood (in_of a q) (slice_get xs q)) (sym same) (on_itself k.inward.vain Stood stood_itself (in_of a q));
     beyond = λ q past. ap (λ (xs : List I). slice_get xs q) same;
     at_end = λ over q. ap (λ (xs : List I). slice_get xs q) same;
   }
@@ -107,12 +107,12 @@ module _ {O I : Type 0} (k : LaneLaws O I) where
   ins_put : (a b : Worker O I) (from : ℕ) (i j : I) (ts : ℕ → List (FrameAt Place)) → in_of a from ≡ Some i → b.lanes.ins.items ≡ set a.lanes.ins.items from j → InDid k i j (ts from)
       → ((q : ℕ) → (q ≡ from → ⊥) → ts q ≡ []) → from < parties_of a.node → clock_of a.node < clock_end → InsWent a b ts
   ins_put a b from i j ts at put did others within before = record {
-    steps = λ q. subst (λ (xs : List I). InStep k.popped k.same_in (in_of a q) (slice_get xs q) (ts q)) (sym put)
-        (in_put k.popped k.same_in k.in_itself k.in_later a.lanes.ins.items from q i j ts at (did.same, did.told) others);
-    faults = λ q. subst (λ (xs : List I). OnLane k.in_faults Stands (in_of a q) (slice_get xs q)) (sym put)
-        (on_put k.in_faults Stands stands_itself a.lanes.ins.items from q i j at did.faults);
-    vain = λ q. subst (λ (xs : List I). OnLane k.in_vain Stood (in_of a q) (slice_get xs q)) (sym put)
-        (on_put k.in_vain Stood stood_itself a.lanes.ins.items from q i j at did.vain);
+    steps = λ q. subst (λ (xs : List I). InStep k.inward.popped k.inward.same (in_of a q) (slice_get xs q) (ts q)) (sym put)
+        (in_put k.inward.popped k.inward.same k.in_itself k.in_later a.lanes.ins.items from q i j ts at (did.same, did.told) others);
+    faults = λ q. subst (λ (xs : List I). OnLane k.inward.faults Stands (in_of a q) (slice_get xs q)) (sym put)
+        (on_put k.inward.faults Stands stands_itself a.lanes.ins.items from q i j at did.faults);
+    vain = λ q. subst (λ (xs : List I). OnLane k.inward.vain Stood (in_of a q) (slice_get xs q)) (sym put)
+        (on_put k.inward.vain Stood stood_itself a.lanes.ins.items from q i j at did.vain);
     beyond = λ q past. ap (λ (xs : List I). slice_get xs q) put ∙ get_set_other a.lanes.ins.items from q j (apart from q (parties_of a.node) within past);
     at_end = λ over q. absurd (not_both (clock_of a.node) clock_end before over);
   }
@@ -120,10 +120,10 @@ module _ {O I : Type 0} (k : LaneLaws O I) where
   -- an event, in which the lanes to parties are left alone
   event : (a b : Worker O I) (deed : Deed Place) → Stepped a.node b.node deed → b.lanes.outs.items ≡ a.lanes.outs.items → InsWent a b (λ q. cons_option (frame_from done q deed) []) → WentBy k None a b
   event a b deed s outs ins = record {
-    work = event_lane_work k.pushed k.same_out k.popped k.same_in (play_here a.node) max done (party_of a.node) (laned a) (laned b) s.step s.steps s.log
-        (λ q. subst (λ (xs : List O). OutStep k.pushed k.same_out (out_of a q) (slice_get xs q) (box_of a q) (box_of b q) (told_frames done (frames_for q s.step.entry.clock s.step.posts))) (sym outs)
-        (out_alone k.pushed k.same_out k.out_itself k.out_later (out_of a q) (box_of a q) (box_of b q) (told_frames done (frames_for q s.step.entry.clock s.step.posts)) (s.box q)))
-        (λ q. subst (λ (d : Deed Place). InStep k.popped k.same_in (in_of a q) (in_of b q) (cons_option (frame_from done q d) [])) (sym s.is) (ins.steps q));
+    work = event_lane_work k.outward.pushed k.outward.same k.inward.popped k.inward.same (play_here a.node) max done (party_of a.node) (laned a) (laned b) s.step s.steps s.log
+        (λ q. subst (λ (xs : List O). OutStep k.outward.pushed k.outward.same (out_of a q) (slice_get xs q) (box_of a q) (box_of b q) (told_frames done (frames_for q s.step.entry.clock s.step.posts))) (sym outs)
+        (out_alone k.outward.pushed k.outward.same k.out_itself k.out_later (out_of a q) (box_of a q) (box_of b q) (told_frames done (frames_for q s.step.entry.clock s.step.posts)) (s.box q)))
+        (λ q. subst (λ (d : Deed Place). InStep k.inward.popped k.inward.same (in_of a q) (in_of b q) (cons_option (frame_from done q d) [])) (sym s.is) (ins.steps q));
     play = s.keeps.play;
     party = s.keeps.party;
     parties = s.keeps.parties;
@@ -139,7 +139,7 @@ module _ {O I : Type 0} (k : LaneLaws O I) where
   -- no event
   still : (a b : Worker O I) (lost : Option (LostAt Place)) → Quiet a.node b.node → OutsWent a b → InsWent a b (lost_from lost) → WentBy k lost a b
   still a b lost n outs ins = record {
-    work = quiet_lane_work k.pushed k.same_out k.popped k.same_in (play_here a.node) max done (party_of a.node) (laned a) (laned b) lost n.node n.log outs.steps ins.steps;
+    work = quiet_lane_work k.outward.pushed k.outward.same k.inward.popped k.inward.same (play_here a.node) max done (party_of a.node) (laned a) (laned b) lost n.node n.log outs.steps ins.steps;
     play = n.keeps.play;
     party = n.keeps.party;
     parties = n.keeps.parties;
@@ -225,16 +225,16 @@ module _ {O I : Type 0} (k : LaneLaws O I) where
   -- work after work
   pub went_later : (a b c : Worker O I) (lost : Option (LostAt Place)) → WentBy k None a b → WentBy k lost b c → WentBy k lost a c
   went_later a b c lost x y = record {
-    work = lane_work_later k.pushed k.same_out k.popped k.same_in k.out_itself k.out_later k.in_itself k.in_later (play_here a.node) max done (party_of a.node) (laned a) (laned b) (laned c) lost x.work
-        (subst (λ (t : Play Place Program × ℕ). LaneWork k.pushed k.same_out k.popped k.same_in t.0 max done t.1 (laned b) (laned c) lost) (λ i. (x.play i, x.party i)) y.work);
+    work = lane_work_later k.outward.pushed k.outward.same k.inward.popped k.inward.same k.out_itself k.out_later k.in_itself k.in_later (play_here a.node) max done (party_of a.node) (laned a) (laned b) (laned c) lost x.work
+        (subst (λ (t : Play Place Program × ℕ). LaneWork k.outward.pushed k.outward.same k.inward.popped k.inward.same t.0 max done t.1 (laned b) (laned c) lost) (λ i. (x.play i, x.party i)) y.work);
     play = y.play ∙ x.play;
     party = y.party ∙ x.party;
     parties = y.parties ∙ x.parties;
     clock = stands_more _ _ _ x.clock y.clock;
-    faults_out = λ q. on_later k.out_faults Stands Stands Stands stands_more (out_of a q) (out_of b q) (out_of c q) (x.faults_out q) (y.faults_out q);
-    vain_out = λ q. on_later k.out_vain Stood Stood Stood stood_more (out_of a q) (out_of b q) (out_of c q) (x.vain_out q) (y.vain_out q);
-    faults_in = λ q. on_later k.in_faults Stands Stands Stands stands_more (in_of a q) (in_of b q) (in_of c q) (x.faults_in q) (y.faults_in q);
-    vain_in = λ q. on_later k.in_vain Stood Stood Stood stood_more (in_of a q) (in_of b q) (in_of c q) (x.vain_in q) (y.vain_in q);
+    faults_out = λ q. on_later k.outward.faults Stands Stands Stands stands_more (out_of a q) (out_of b q) (out_of c q) (x.faults_out q) (y.faults_out q);
+    vain_out = λ q. on_later k.outward.vain Stood Stood Stood stood_more (out_of a q) (out_of b q) (out_of c q) (x.vain_out q) (y.vain_out q);
+    faults_in = λ q. on_later k.inward.faults Stands Stands Stands stands_more (in_of a q) (in_of b q) (in_of c q) (x.faults_in q) (y.faults_in q);
+    vain_in = λ q. on_later k.inward.vain Stood Stood Stood stood_more (in_of a q) (in_of b q) (in_of c q) (x.vain_in q) (y.vain_in q);
     beyond = λ q past. y.beyond q (subst (λ (n : ℕ). n ≤ q) (sym x.parties) past) ∙ x.beyond q past;
     at_end = λ over q. y.at_end (stands_more clock_end (clock_of a.node) (clock_of b.node) over x.clock) q ∙ x.at_end over q;
   }

@@ -8,6 +8,8 @@ use Rattle.sj_end.specs.Views.{note_at}
 use Rattle.sj_rules.specs.Limits.{clock_end}
 use Rattle.sj_rules.specs.Node.{arrives}
 use Rattle.sj_rules.specs.Work.{LostAt}
+use Rattle.sj_lane.specs.declared.lane.OutLane.{Ghosts as OutLane}
+use Rattle.sj_lane.specs.declared.lane.InLane.{Ghosts as InLane}
 use Rattle.sj_node.specs.declared.node.Node.{Node}
 use Rattle.sj_node.specs.declared.refusal.Halt.TheVariants as halts
 use Rattle.sj_node.specs.Node as nodes
@@ -80,14 +82,14 @@ module _ {O I : Type 0} where
   abbrev pub MetFault : (out_faults : O → ℕ) (in_faults : I → ℕ) → (old new : Worker O I) → Type 0
   MetFault out_faults in_faults old new = SomeRose out_faults (out_of old) (out_of new) ⊎ SomeRose in_faults (in_of old) (in_of new)
 
-module _ {O I : Type 0} (out_faults out_vain : O → ℕ) (in_faults in_vain : I → ℕ) where
+module _ {O I : Type 0} (outward : OutLane O) (inward : InLane I) where
   -- the cause of each answer; want of memory alone is free
   abbrev pub Cause : Option Stop → (looks : ℕ) → Option (LostAt Place) → (old new : Worker O I) → Type 0
   Cause None looks lost old new = ⊤
   Cause (Some stops.Finished) looks lost old new = IsFinished (node_of new)
-  Cause (Some stops.Idle) looks lost old new = IsIdleFor out_vain in_vain looks old new
-  Cause (Some stops.AtLimit) looks lost old new = IsAtLimit out_vain old new
+  Cause (Some stops.Idle) looks lost old new = IsIdleFor outward.vain inward.vain looks old new
+  Cause (Some stops.AtLimit) looks lost old new = IsAtLimit outward.vain old new
   Cause (Some stops.ClockEnd) looks lost old new = IsClockEnd new
   Cause (Some stops.NoMemory) looks lost old new = ⊤
-  Cause (Some stops.Fault) looks lost old new = MetFault out_faults in_faults old new
+  Cause (Some stops.Fault) looks lost old new = MetFault outward.faults inward.faults old new
   Cause (Some stops.Unfit) looks lost old new = IsUnfit lost (node_of new) (unfit_of new)

@@ -1,7 +1,7 @@
 -- The pieces of a turn.
-use Rattle.std.specs.Prelude.{◌≡◌, ◌↔◌, ℕ, ⊤, List, [], Option, Some, None}
-use Rattle.sj_lang.specs.Place.{Place}
-use Rattle.sj_rules.specs.Frames.{FrameAt}
+use Rattle.std.specs.Prelude.{◌≡◌, ◌↔◌, ℕ, ⊤, [], Option, Some, None}
+use Rattle.sj_lane.specs.declared.lane.OutLane.{Ghosts as OutLane}
+use Rattle.sj_lane.specs.declared.lane.InLane.{Ghosts as InLane}
 use Rattle.sj_node.specs.declared.node.Node.{Node}
 use Rattle.sj_node.specs.declared.refusal.Halt.{Halt}
 use Rattle.sj_node.specs.declared.refusal.Halt.TheVariants as halts
@@ -44,11 +44,10 @@ module _ {O I : Type 0} where
   abbrev pub Tried : (out_vain : O → ℕ) → ℕ → (old new : Worker O I) → Type 0
   Tried out_vain q old new = (outbox_of (node_of new) q ≡ [] → ⊥) → OnLane out_vain (RoseBy 1) (out_of old q) (out_of new q)
 
-module _ {O I : Type 0} (pushed : O → Option (List (FrameAt Place))) (out_faults out_vain : O → ℕ) (same_out : O → O → Type 0)
-    (popped : I → Option (List (FrameAt Place))) (in_faults in_vain : I → ℕ) (same_in : I → I → Type 0) where
+module _ {O I : Type 0} (outward : OutLane O) (inward : InLane I) where
   -- a piece of a turn, whatever the number of looks
   abbrev pub Turns : (old new : Worker O I) → Type 0
-  Turns old new = (looks : ℕ) → Turned pushed out_faults out_vain same_out popped in_faults in_vain same_in looks old new
+  Turns old new = (looks : ℕ) → Turned outward inward looks old new
 
 module _ {O I : Type 0} (out_vain : O → ℕ) (in_vain : I → ℕ) where
   -- a turn without an event, after which the party can't act

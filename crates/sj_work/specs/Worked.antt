@@ -1,9 +1,10 @@
 -- What one call of a worker did.
-use Rattle.std.specs.Prelude.{◌≡◌, ◌↔◌, ℕ, ◌≤◌, max, List, IsSome, Option, Some, None}
+use Rattle.std.specs.Prelude.{◌≡◌, ◌↔◌, ℕ, ◌≤◌, max, IsSome, Option, Some, None}
 use Rattle.sj_lang.specs.Place.{Place, done}
-use Rattle.sj_rules.specs.Frames.{FrameAt}
 use Rattle.sj_rules.specs.Limits.{clock_end}
 use Rattle.sj_rules.specs.Work.{LaneWork, LostAt}
+use Rattle.sj_lane.specs.declared.lane.OutLane.{Ghosts as OutLane}
+use Rattle.sj_lane.specs.declared.lane.InLane.{Ghosts as InLane}
 use Rattle.sj_node.specs.Node.{clock_of, play_here}
 use Rattle.sj_node.specs.Reading.{IsFinished, parties_of, party_of}
 use Rattle.sj_work.specs.declared.worker.Stop.{Stop}
@@ -21,21 +22,20 @@ kept_stop (Some stops.Fault) = Some stops.Fault
 kept_stop (Some stops.Unfit) = Some stops.Unfit
 kept_stop _ = None
 
-module _ {O I : Type 0} (pushed : O → Option (List (FrameAt Place))) (out_faults out_vain : O → ℕ) (same_out : O → O → Type 0)
-    (popped : I → Option (List (FrameAt Place))) (in_faults in_vain : I → ℕ) (same_in : I → I → Type 0) where
+module _ {O I : Type 0} (outward : OutLane O) (inward : InLane I) where
   -- the worker went by steps of the rules, which its log has, and by the frames that its lanes tell; its party plays the same
   -- part, its clock didn't fall, and no count of a lane did; lanes from no party of the file stay as they are, and where the
   -- clock stands at its end, so do all lanes from parties
   pub record Went (lost : Option (LostAt Place)) (old new : Worker O I) : Type 0 where
-    pub work : LaneWork pushed same_out popped same_in (play_here (node_of old)) max done (party_of (node_of old)) (laned old) (laned new) lost
+    pub work : LaneWork outward.pushed outward.same inward.popped inward.same (play_here (node_of old)) max done (party_of (node_of old)) (laned old) (laned new) lost
     pub play : play_here (node_of new) ≡ play_here (node_of old)
     pub party : party_of (node_of new) ≡ party_of (node_of old)
     pub parties : parties_of (node_of new) ≡ parties_of (node_of old)
     pub clock : clock_of (node_of old) ≤ clock_of (node_of new)
-    pub faults_out : (q : ℕ) → OnLane out_faults Stands (out_of old q) (out_of new q)
-    pub vain_out : (q : ℕ) → OnLane out_vain Stood (out_of old q) (out_of new q)
-    pub faults_in : (q : ℕ) → OnLane in_faults Stands (in_of old q) (in_of new q)
-    pub vain_in : (q : ℕ) → OnLane in_vain Stood (in_of old q) (in_of new q)
+    pub faults_out : (q : ℕ) → OnLane outward.faults Stands (out_of old q) (out_of new q)
+    pub vain_out : (q : ℕ) → OnLane outward.vain Stood (out_of old q) (out_of new q)
+    pub faults_in : (q : ℕ) → OnLane inward.faults Stands (in_of old q) (in_of new q)
+    pub vain_in : (q : ℕ) → OnLane inward.vain Stood (in_of old q) (in_of new q)
     pub beyond : (q : ℕ) → parties_of (node_of old) ≤ q → in_of new q ≡ in_of old q
     pub at_end : clock_end ≤ clock_of (node_of old) → (q : ℕ) → in_of new q ≡ in_of old q
 
@@ -46,7 +46,7 @@ module _ {O I : Type 0} (pushed : O → Option (List (FrameAt Place))) (out_faul
     pub went : Went lost old new
     pub loses : Loses lost (stop_of new)
     pub finished : (stop_of new ≡ Some stops.Finished) ↔ IsFinished (node_of new)
-    pub cause : Cause out_faults out_vain in_faults in_vain (stop_of new) looks lost old new
+    pub cause : Cause outward inward (stop_of new) looks lost old new
 
   -- where a stop stays nothing changes, else there were turns up to a stop
   abbrev pub WorkedBy : Option Stop → (looks : ℕ) → (old new : Worker O I) → Type 0

@@ -62,7 +62,7 @@ fn refused(node: &Node, halt: Halt) -> Option<Outcome>
 /// One act, where the party can act. Answers whether there was one.
 pub(crate) fn act<O: OutLane, I: InLane, G: Gate>(worker: &mut Worker<O, I>, gate: &G) -> bool
     requires { IsGoing worker.old }
-    ensures turns { Turns O.pushed O.faults O.vain O.same I.popped I.faults I.vain I.same worker.old worker.new }
+    ensures turns { Turns O.OutLane I.InLane worker.old worker.new }
     ensures event { IsTrue result → clock_of (node_of worker.old) < clock_of (node_of worker.new) }
     ensures rests { IsFalse result → HasNoEvent (node_of worker.old) (node_of worker.new) }
     ensures halted { IsFalse result → stop_of worker.new ≡ None → IsHalted (nodes.stop_of (node_of worker.new)) }

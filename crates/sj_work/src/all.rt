@@ -18,7 +18,7 @@ pub fn work_all<R: Threads + Sync, O: OutLane, I: InLane, G: Gate>(
 )
     ensures length { length workers.new ≡ length workers.old }
     ensures each { (i : ℕ) (old new : _) → slice_get workers.old i ≡ Some old → slice_get workers.new i ≡ Some new →
-        Worked O.pushed O.faults O.vain O.same I.popped I.faults I.vain I.same looks old new }
+        Worked O.OutLane I.InLane looks old new }
 {
     work_each(rt, workers, looks, gate);
 }
@@ -30,8 +30,7 @@ fn work_each<R: Threads + Sync, O: OutLane, I: InLane, G: Gate>(
     gate: &G,
 )
     ensures { (i : ℕ) (d : _) → i < length workers.old →
-        Worked O.pushed O.faults O.vain O.same I.popped I.faults I.vain I.same looks
-        (slice_index_or workers.old i d) (slice_index_or workers.new i d) }
+        Worked O.OutLane I.InLane looks (slice_index_or workers.old i d) (slice_index_or workers.new i d) }
 {
     node_crosses();
     let threads = workers.len().max(1);
@@ -39,7 +38,7 @@ fn work_each<R: Threads + Sync, O: OutLane, I: InLane, G: Gate>(
 }
 
 fn run<O: OutLane, I: InLane, G: Gate>(worker: &mut Worker<O, I>, looks: u32, gate: &G)
-    ensures { Worked O.pushed O.faults O.vain O.same I.popped I.faults I.vain I.same looks worker.old worker.new }
+    ensures { Worked O.OutLane I.InLane looks worker.old worker.new }
 {
     let _ = work(worker, looks, gate);
 }

@@ -52,7 +52,7 @@ fn deliver<G: Gate>(node: &mut Node, from: u16, frame: Frame, gate: &G) -> Optio
 fn look<O: OutLane, I: InLane, G: Gate>(worker: &mut Worker<O, I>, from: u16, gate: &G) -> bool
     requires goes { IsGoing worker.old }
     requires party { from < parties_of (node_of worker.old) }
-    ensures turns { Turns O.pushed O.faults O.vain O.same I.popped I.faults I.vain I.same worker.old worker.new }
+    ensures turns { Turns O.OutLane I.InLane worker.old worker.new }
     ensures event { IsTrue result → stop_of worker.new ≡ None → clock_of (node_of worker.old) < clock_of (node_of worker.new) }
     ensures rests { IsFalse result → node_of worker.new ≡ node_of worker.old }
     ensures vain { IsFalse result → stop_of worker.new ≡ None →
@@ -87,7 +87,7 @@ fn look<O: OutLane, I: InLane, G: Gate>(worker: &mut Worker<O, I>, from: u16, ga
 /// A pop from each party of the file, in order. Answers whether a frame came.
 pub(crate) fn look_all<O: OutLane, I: InLane, G: Gate>(worker: &mut Worker<O, I>, gate: &G) -> bool
     requires { IsGoing worker.old }
-    ensures turns { Turns O.pushed O.faults O.vain O.same I.popped I.faults I.vain I.same worker.old worker.new }
+    ensures turns { Turns O.OutLane I.InLane worker.old worker.new }
     ensures event { IsTrue result → stop_of worker.new ≡ None → clock_of (node_of worker.old) < clock_of (node_of worker.new) }
     ensures rests { IsFalse result → node_of worker.new ≡ node_of worker.old }
     ensures vain { IsFalse result → stop_of worker.new ≡ None → InVain I.vain 1 worker.old worker.new }

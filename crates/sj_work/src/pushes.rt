@@ -25,7 +25,7 @@ fn refused(refusal: PushRefusal) -> Option<Outcome>
 /// One push to that party. Answers whether the lane took a frame, and more may be pushed.
 fn push_one<O: OutLane, I: InLane>(worker: &mut Worker<O, I>, to: u16) -> bool
     requires { IsGoing worker.old }
-    ensures turns { Turns O.pushed O.faults O.vain O.same I.popped I.faults I.vain I.same worker.old worker.new }
+    ensures turns { Turns O.OutLane I.InLane worker.old worker.new }
     ensures rests { HasNoEvent (node_of worker.old) (node_of worker.new) }
     ensures fewer { IsTrue result → length (waiting_in (outs_of (node_of worker.new)) to)
         < length (waiting_in (outs_of (node_of worker.old)) to) }
@@ -55,7 +55,7 @@ fn push_one<O: OutLane, I: InLane>(worker: &mut Worker<O, I>, to: u16) -> bool
 /// Pushes to that party, as far as its lane takes.
 fn push_to<O: OutLane, I: InLane>(worker: &mut Worker<O, I>, to: u16)
     requires { IsGoing worker.old }
-    ensures turns { Turns O.pushed O.faults O.vain O.same I.popped I.faults I.vain I.same worker.old worker.new }
+    ensures turns { Turns O.OutLane I.InLane worker.old worker.new }
     ensures rests { HasNoEvent (node_of worker.old) (node_of worker.new) }
     ensures tried { stop_of worker.new ≡ None → Tried O.vain to worker.old worker.new }
     ensures looks { looks_of worker.new ≡ looks_of worker.old }
@@ -66,7 +66,7 @@ fn push_to<O: OutLane, I: InLane>(worker: &mut Worker<O, I>, to: u16)
 /// Pushes to each party of the file, as far as the lanes take.
 pub(crate) fn push_all<O: OutLane, I: InLane>(worker: &mut Worker<O, I>)
     requires { IsGoing worker.old }
-    ensures turns { Turns O.pushed O.faults O.vain O.same I.popped I.faults I.vain I.same worker.old worker.new }
+    ensures turns { Turns O.OutLane I.InLane worker.old worker.new }
     ensures rests { HasNoEvent (node_of worker.old) (node_of worker.new) }
     ensures tried { stop_of worker.new ≡ None → OutVain O.vain 1 worker.old worker.new }
     ensures looks { looks_of worker.new ≡ looks_of worker.old }

@@ -16,7 +16,7 @@ use sj_lane::{InLane, OutLane};
 /// one act. Answers whether it had an event.
 fn turn<O: OutLane, I: InLane, G: Gate>(worker: &mut Worker<O, I>, gate: &G) -> bool
     requires { IsGoing worker.old }
-    ensures turns { Turns O.pushed O.faults O.vain O.same I.popped I.faults I.vain I.same worker.old worker.new }
+    ensures turns { Turns O.OutLane I.InLane worker.old worker.new }
     ensures event { IsTrue result → stop_of worker.new ≡ None →
         clock_of (node_of worker.old) < clock_of (node_of worker.new) }
     ensures vain { IsFalse result → stop_of worker.new ≡ None → IsInVain O.vain I.vain worker.old worker.new }
@@ -38,7 +38,7 @@ fn turn<O: OutLane, I: InLane, G: Gate>(worker: &mut Worker<O, I>, gate: &G) -> 
 /// that is none.
 fn until_event<O: OutLane, I: InLane, G: Gate>(worker: &mut Worker<O, I>, looks: u32, gate: &G)
     requires { IsGoing worker.old }
-    ensures turned { Turned O.pushed O.faults O.vain O.same I.popped I.faults I.vain I.same looks worker.old worker.new }
+    ensures turned { Turned O.OutLane I.InLane looks worker.old worker.new }
     ensures event { stop_of worker.new ≡ None → clock_of (node_of worker.old) < clock_of (node_of worker.new) }
 {
     worker.looks = 0;
@@ -61,7 +61,7 @@ fn until_event<O: OutLane, I: InLane, G: Gate>(worker: &mut Worker<O, I>, looks:
 /// Turns until there is a cause to stop.
 fn go<O: OutLane, I: InLane, G: Gate>(worker: &mut Worker<O, I>, looks: u32, gate: &G)
     requires { IsGoing worker.old }
-    ensures turned { Turned O.pushed O.faults O.vain O.same I.popped I.faults I.vain I.same looks worker.old worker.new }
+    ensures turned { Turned O.OutLane I.InLane looks worker.old worker.new }
     ensures stops { stop_of worker.new ≡ None → ⊥ }
 {
     while worker.node.clock() < CLOCK_END {
@@ -76,7 +76,7 @@ fn go<O: OutLane, I: InLane, G: Gate>(worker: &mut Worker<O, I>, looks: u32, gat
 /// Turns until the worker stops. A worker that stopped for want of memory, at a fault or at what
 /// doesn't fit does nothing and answers it again, since a frame may be lost.
 pub fn work<O: OutLane, I: InLane, G: Gate>(worker: &mut Worker<O, I>, looks: u32, gate: &G) -> Stop
-    ensures worked { Worked O.pushed O.faults O.vain O.same I.popped I.faults I.vain I.same looks worker.old worker.new }
+    ensures worked { Worked O.OutLane I.InLane looks worker.old worker.new }
     ensures stop { stop_of worker.new ≡ Some result }
 {
     if let Some(stop) = kept(worker.stop()) {

@@ -15,8 +15,8 @@ use Rattle.sj_grammar.specs.ExpressionDues.{factor, times, plus, expression_at, 
 use Rattle.sj_proto.specs.Parsed.{standing}
 use Rattle.sj_proto.proofs.ReadLemmas.{took_plain}
 use Rattle.sj_proto.proofs.OnwardLemmas.{advances_on}
-use Rattle.sj_expr.specs.declared.taking.Opening.{Opening}
-use Rattle.sj_expr.specs.Openings.{opening_piece}
+use Rattle.sj_expr.specs.declared.taking.Outer.{Outer}
+use Rattle.sj_expr.specs.Factors.{outer_piece}
 use Rattle.sj_expr.specs.Read.{ReadsLevel, ReadsWhole}
 use Rattle.sj_expr.specs.Signs.{op_piece}
 use Rattle.sj_expr.proofs.ReadLemmas.{op_taken, grows_on, stays_on}
@@ -25,72 +25,72 @@ use Rattle.sj_expr.proofs.StuckLemmas.{Inside, term_first, sum_first, whole_firs
 use Rattle.sj_proto.proofs.ExitLemmas.{err_as}
 use Rattle.sj_expr.proofs.ExitLemmas.{err_fault}
 use Rattle.sj_expr.proofs.parse.+expression.Goals as goal
-use Rattle.sj_expr.proofs.OpeningLemmas.{not_inside, parens_inside, close_inside, opening_inside}
+use Rattle.sj_expr.proofs.OuterLemmas.{not_inside, parens_inside, close_inside, outer_inside}
 use Rattle.sj_expr.proofs.OperandLemmas.{not_no_name}
 
-pub factor-returns-in_err-take_opening-clause-fault : goal.factor-returns-in_err-take_opening-clause-fault
-factor-returns-in_err-take_opening-clause-fault t c =
+pub factor-returns-in_err-take_outer-clause-fault : goal.factor-returns-in_err-take_outer-clause-fault
+factor-returns-in_err-take_outer-clause-fault t c =
     let a = standing c.args.tokens.now c.args.names.now in
-    let f = c.in_err-take_opening.field-0.0 in
+    let f = c.in_err-take_outer.field-0.0 in
     let other : is_operand (spelled_next (next_of c.args.tokens.now.ahead)) ≡ false = subst (λ (s : List ℕ). is_operand s ≡ false) c.spelling.ensures c.in_default.ensures.none in
     err_as _ (refusals.At f) (OnFault (λ f. Inside c.args.count.now a (factor c.args.depth ∷ []) f)) c.from_residual.ensures.1
-    (opening_inside c.args.count.now c.args.depth a f other (sym c.sees.ensures ∙ c.if-sees.false) c.in_err-take_opening.ensures.fault)
+    (outer_inside c.args.count.now c.args.depth a f other (sym c.sees.ensures ∙ c.if-sees.false) c.in_err-take_outer.ensures.fault)
 
 pub factor-returns-in_err-inner-in-Not-clause-fault : goal.factor-returns-in_err-inner-in-Not-clause-fault
 factor-returns-in_err-inner-in-Not-clause-fault t c =
     let o = c.args.depth in
     let a = standing c.args.tokens.now c.args.names.now in
-    let m = standing c.take_opening.new.tokens c.args.names.now in
-    let taken : Takes a (codes "not") m = took_plain c.args.tokens.now c.take_opening.new.tokens c.args.names.now.words c.args.names.now.texts (codes "not") not_no_name refl
-    (subst (λ (x : Opening). TakesText c.args.tokens.now (opening_piece x) c.take_opening.new.tokens) c.in-Not.is c.in_ok-take_opening.ensures.ok) in
+    let m = standing c.take_outer.new.tokens c.args.names.now in
+    let taken : Takes a (codes "not") m = took_plain c.args.tokens.now c.take_outer.new.tokens c.args.names.now.words c.args.names.now.texts (codes "not") not_no_name refl
+    (subst (λ (x : Outer). TakesText c.args.tokens.now (outer_piece x) c.take_outer.new.tokens) c.in-Not.is c.in_ok-take_outer.ensures.ok) in
     err_fault _ c.in_err-inner-in-Not.field-0.0 (λ f. Inside c.args.count.now m (factor (o + 1) ∷ []) f) (λ f. Inside c.args.count.now a (factor o ∷ []) f) c.from_residual-in_err-inner-in-Not.ensures.1
-    (λ f st. not_inside c.args.count.now o (o + 1) a m f (add-one o) (leb-false 32 o c.in_ok-take_opening.ensures.room) taken st) c.in_err-inner-in-Not.ensures.fault
+    (λ f st. not_inside c.args.count.now o (o + 1) a m f (add-one o) (leb-false 32 o c.in_ok-take_outer.ensures.room) taken st) c.in_err-inner-in-Not.ensures.fault
 
 pub factor-returns-in_err-inner-in-Parens-clause-fault : goal.factor-returns-in_err-inner-in-Parens-clause-fault
 factor-returns-in_err-inner-in-Parens-clause-fault t c =
     let o = c.args.depth in
     let a = standing c.args.tokens.now c.args.names.now in
-    let m = standing c.take_opening.new.tokens c.args.names.now in
-    let taken : Takes a (codes "(") m = took_plain c.args.tokens.now c.take_opening.new.tokens c.args.names.now.words c.args.names.now.texts (codes "(") refl refl
-    (subst (λ (x : Opening). TakesText c.args.tokens.now (opening_piece x) c.take_opening.new.tokens) c.in-Parens.is c.in_ok-take_opening.ensures.ok) in
+    let m = standing c.take_outer.new.tokens c.args.names.now in
+    let taken : Takes a (codes "(") m = took_plain c.args.tokens.now c.take_outer.new.tokens c.args.names.now.words c.args.names.now.texts (codes "(") refl refl
+    (subst (λ (x : Outer). TakesText c.args.tokens.now (outer_piece x) c.take_outer.new.tokens) c.in-Parens.is c.in_ok-take_outer.ensures.ok) in
     err_fault _ c.in_err-inner-in-Parens.field-0.0 (λ f. Inside c.args.count.now m (expression_at (o + 1)) f) (λ f. Inside c.args.count.now a (factor o ∷ []) f) c.from_residual-in_err-inner-in-Parens.ensures.1
-    (λ f st. parens_inside c.args.count.now o (o + 1) a m f (add-one o) (leb-false 32 o c.in_ok-take_opening.ensures.room) taken st) c.in_err-inner-in-Parens.ensures.fault
+    (λ f st. parens_inside c.args.count.now o (o + 1) a m f (add-one o) (leb-false 32 o c.in_ok-take_outer.ensures.room) taken st) c.in_err-inner-in-Parens.ensures.fault
 
 pub factor-returns-in_err-expect-in-Parens-clause-fault : goal.factor-returns-in_err-expect-in-Parens-clause-fault
 factor-returns-in_err-expect-in-Parens-clause-fault t c =
     let o = c.args.depth in
     let a = standing c.args.tokens.now c.args.names.now in
-    let m = standing c.take_opening.new.tokens c.args.names.now in
+    let m = standing c.take_outer.new.tokens c.args.names.now in
     let b = standing c.whole.new.tokens c.whole.new.names in
     let f = c.in_err-expect-in-Parens.field-0.0 in
-    let taken : Takes a (codes "(") m = took_plain c.args.tokens.now c.take_opening.new.tokens c.args.names.now.words c.args.names.now.texts (codes "(") refl refl
-    (subst (λ (x : Opening). TakesText c.args.tokens.now (opening_piece x) c.take_opening.new.tokens) c.in-Parens.is c.in_ok-take_opening.ensures.ok) in
+    let taken : Takes a (codes "(") m = took_plain c.args.tokens.now c.take_outer.new.tokens c.args.names.now.words c.args.names.now.texts (codes "(") refl refl
+    (subst (λ (x : Outer). TakesText c.args.tokens.now (outer_piece x) c.take_outer.new.tokens) c.in-Parens.is c.in_ok-take_outer.ensures.ok) in
     err_as _ (refusals.At f) (OnFault (λ f. Inside c.args.count.now a (factor o ∷ []) f)) c.from_residual-in_err-expect-in-Parens.ensures.1
-    (close_inside c.args.count.now c.whole.new.count o (o + 1) a m b (term_of c.in_ok-inner-in-Parens.inner) f (add-one o) (leb-false 32 o c.in_ok-take_opening.ensures.room) taken c.in_ok-inner-in-Parens.ensures.reads
+    (close_inside c.args.count.now c.whole.new.count o (o + 1) a m b (term_of c.in_ok-inner-in-Parens.inner) f (add-one o) (leb-false 32 o c.in_ok-take_outer.ensures.room) taken c.in_ok-inner-in-Parens.ensures.reads
     c.in_ok-inner-in-Parens.ensures.leaves.count c.in_err-expect-in-Parens.ensures.fault)
 
 pub factor-returns-in_ok-negated-in-Not-clause-reads : goal.factor-returns-in_ok-negated-in-Not-clause-reads
 factor-returns-in_ok-negated-in-Not-clause-reads t c =
     let o = c.args.depth in
     let a = standing c.args.tokens.now c.args.names.now in
-    let m = standing c.take_opening.new.tokens c.args.names.now in
+    let m = standing c.take_outer.new.tokens c.args.names.now in
     let b = standing c.factor.new.tokens c.factor.new.names in
-    let taken : Takes a (codes "not") m = took_plain c.args.tokens.now c.take_opening.new.tokens c.args.names.now.words c.args.names.now.texts (codes "not") not_no_name refl
-    (subst (λ (x : Opening). TakesText c.args.tokens.now (opening_piece x) c.take_opening.new.tokens) c.in-Not.is c.in_ok-take_opening.ensures.ok) in
+    let taken : Takes a (codes "not") m = took_plain c.args.tokens.now c.take_outer.new.tokens c.args.names.now.words c.args.names.now.texts (codes "not") not_no_name refl
+    (subst (λ (x : Outer). TakesText c.args.tokens.now (outer_piece x) c.take_outer.new.tokens) c.in-Not.is c.in_ok-take_outer.ensures.ok) in
     subst (λ (e : Term). ReadsLevel level.factor o a b e) (sym c.in_ok-negated-in-Not.ensures)
-    (not_read o (o + 1) a m b (term_of c.in_ok-inner-in-Not.inner) (add-one o) (leb-false 32 o c.in_ok-take_opening.ensures.room) taken c.in_ok-inner-in-Not.ensures.reads)
+    (not_read o (o + 1) a m b (term_of c.in_ok-inner-in-Not.inner) (add-one o) (leb-false 32 o c.in_ok-take_outer.ensures.room) taken c.in_ok-inner-in-Not.ensures.reads)
 
 pub factor-returns-in_ok-expect-in-Parens-clause-reads : goal.factor-returns-in_ok-expect-in-Parens-clause-reads
 factor-returns-in_ok-expect-in-Parens-clause-reads t c =
     let o = c.args.depth in
     let a = standing c.args.tokens.now c.args.names.now in
-    let m = standing c.take_opening.new.tokens c.args.names.now in
+    let m = standing c.take_outer.new.tokens c.args.names.now in
     let b = standing c.whole.new.tokens c.whole.new.names in
     let z = standing c.expect.new.self c.whole.new.names in
-    let taken : Takes a (codes "(") m = took_plain c.args.tokens.now c.take_opening.new.tokens c.args.names.now.words c.args.names.now.texts (codes "(") refl refl
-    (subst (λ (x : Opening). TakesText c.args.tokens.now (opening_piece x) c.take_opening.new.tokens) c.in-Parens.is c.in_ok-take_opening.ensures.ok) in
+    let taken : Takes a (codes "(") m = took_plain c.args.tokens.now c.take_outer.new.tokens c.args.names.now.words c.args.names.now.texts (codes "(") refl refl
+    (subst (λ (x : Outer). TakesText c.args.tokens.now (outer_piece x) c.take_outer.new.tokens) c.in-Parens.is c.in_ok-take_outer.ensures.ok) in
     let closed : Takes b (codes ")") z = took_plain c.whole.new.tokens c.expect.new.self c.whole.new.names.words c.whole.new.names.texts (codes ")") refl refl c.in_ok-expect-in-Parens.ensures.ok in
-    parens_read o (o + 1) a m b z (term_of c.in_ok-inner-in-Parens.inner) (add-one o) (leb-false 32 o c.in_ok-take_opening.ensures.room) taken c.in_ok-inner-in-Parens.ensures.reads.reads closed
+    parens_read o (o + 1) a m b z (term_of c.in_ok-inner-in-Parens.inner) (add-one o) (leb-false 32 o c.in_ok-take_outer.ensures.room) taken c.in_ok-inner-in-Parens.ensures.reads.reads closed
 
 pub sum-returns-in_err-left-clause-fault : goal.sum-returns-in_err-left-clause-fault
 sum-returns-in_err-left-clause-fault t c =

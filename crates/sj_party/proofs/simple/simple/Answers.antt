@@ -2,7 +2,7 @@ use Rattle.std.proofs.Common.{ℕ, sym, subst}
 use Rattle.std.specs.Prelude.{IfOk, IfErr}
 use Rattle.sj_lang.specs.CodeView.{deed_of}
 use Rattle.sj_proto.specs.Parsed.{standing, Stops}
-use Rattle.sj_party.specs.declared.openings.Word.{Word}
+use Rattle.sj_party.specs.declared.first_words.Word.{Word}
 use Rattle.sj_party.specs.Parts.{ReadsDeed}
 use Rattle.sj_party.specs.Words.{simple_word, simple_dues}
 use Rattle.sj_party.proofs.simple.simple.Goals as goal

@@ -19,14 +19,14 @@ use Rattle.sj_proto.specs.Parsed.{standing}
 use Rattle.sj_proto.proofs.ExitLemmas.{plain}
 use Rattle.sj_proto.proofs.OnwardLemmas.{advances_on, advances_none}
 use Rattle.sj_expr.proofs.ReadLemmas.{grows_on}
-use Rattle.sj_party.specs.declared.openings.Opening.{Opening}
-use Rattle.sj_party.specs.declared.openings.Opening.TheVariants as openings
+use Rattle.sj_party.specs.declared.first_words.FirstWord.{FirstWord}
+use Rattle.sj_party.specs.declared.first_words.FirstWord.TheVariants as firsts
 use Rattle.sj_party.specs.Read.{ReadsOnLines, ReadsCode}
 use Rattle.sj_party.specs.Parts.{a_name, an_expression, a_piece, a_block, some_arms, AreSome, ReadsDeed}
 use Rattle.sj_party.specs.Words.{word_of}
 use Rattle.sj_party.proofs.PartLemmas.{stops_behind, parts_on, piece_stops}
 use Rattle.sj_party.proofs.CodeReads.{arm_read, statement_read, code_more, arms_more, some_more, no_code, block_read}
-use Rattle.sj_party.proofs.WordLemmas.{no_name_else, word_piece, word_stops, err_opened}
+use Rattle.sj_party.proofs.WordLemmas.{no_name_else, word_piece, word_stops, err_begun}
 use Rattle.sj_party.proofs.CodeStuck.{code_stops, block_stops, opened_stops, filled_stops, arms_stop}
 use Rattle.sj_party.proofs.RoomLemmas.{uses_on, keeps_on, keeps_itself, grows_itself}
 use Rattle.sj_party.proofs.statements.+code.Goals as goal
@@ -138,7 +138,7 @@ pub deed-returns-in_err-end-in-Outwhile-clause-fault : goal.deed-returns-in_err-
 deed-returns-in_err-end-in-Outwhile-clause-fault t c =
     let a = standing c.args.tokens.now c.args.names.now in
     let o = c.args.depth in
-    err_opened _ c.args.opening openings.Outwhile o a c.in-Outwhile.is
+    err_begun _ c.args.first firsts.Outwhile o a c.in-Outwhile.is
     (stops_behind _ c.in_err-end-in-Outwhile.field-0.0 [] a a (λ ds. name ∷ expr whole ∷ ds) (λ ds. block o ∷ ds) c.from_residual.ensures.1 refl c.in_err-end-in-Outwhile.ensures.fault)
 
 pub deed-returns-in_err-body-in-Outwhile-clause-fault : goal.deed-returns-in_err-body-in-Outwhile-clause-fault
@@ -146,7 +146,7 @@ deed-returns-in_err-body-in-Outwhile-clause-fault t c =
     let a = standing c.args.tokens.now c.args.names.now in
     let o = c.args.depth in
     let m = standing c.name_and_value.new.tokens c.name_and_value.new.names in
-    err_opened _ c.args.opening openings.Outwhile o a c.in-Outwhile.is
+    err_begun _ c.args.first firsts.Outwhile o a c.in-Outwhile.is
     (stops_behind _ c.in_err-body-in-Outwhile.field-0.0 (a_name c.in_ok-end-in-Outwhile.end ∷ an_expression (term_of c.in_ok-end-in-Outwhile.count) ∷ []) a m (λ ds. block o ∷ ds) (λ ds. ds) c.from_residual-in_err-body-in-Outwhile.ensures.1 c.in_ok-end-in-Outwhile.ensures.reads c.in_err-body-in-Outwhile.ensures.fault)
 
 pub deed-returns-in_ok-body-in-Outwhile-clause-reads : goal.deed-returns-in_ok-body-in-Outwhile-clause-reads
@@ -156,15 +156,15 @@ deed-returns-in_ok-body-in-Outwhile-clause-reads t c =
     let m = standing c.name_and_value.new.tokens c.name_and_value.new.names in
     let b = standing c.block.new.tokens c.block.new.names in
     let code = code_of c.in_ok-body-in-Outwhile.body.items in
-    subst (λ (deed : DeedAt). ReadsDeed (word_of c.args.opening) o a b deed) (sym (deed_of-OutWhile c.in_ok-end-in-Outwhile.end c.in_ok-end-in-Outwhile.count c.in_ok-body-in-Outwhile.body))
-    (subst (λ (w : Opening). ReadsDeed (word_of w) o a b (outwhile c.in_ok-end-in-Outwhile.end (term_of c.in_ok-end-in-Outwhile.count) code)) (sym c.in-Outwhile.is)
+    subst (λ (deed : DeedAt). ReadsDeed (word_of c.args.first) o a b deed) (sym (deed_of-OutWhile c.in_ok-end-in-Outwhile.end c.in_ok-end-in-Outwhile.count c.in_ok-body-in-Outwhile.body))
+    (subst (λ (w : FirstWord). ReadsDeed (word_of w) o a b (outwhile c.in_ok-end-in-Outwhile.end (term_of c.in_ok-end-in-Outwhile.count) code)) (sym c.in-Outwhile.is)
     (record { first = refl; parts = parts_on (a_name c.in_ok-end-in-Outwhile.end ∷ an_expression (term_of c.in_ok-end-in-Outwhile.count) ∷ []) (a_block o code ∷ []) a m b c.in_ok-end-in-Outwhile.ensures.reads (b, c.in_ok-body-in-Outwhile.ensures.reads, refl) }))
 
 pub deed-returns-in_err-end-in-Inwhile-clause-fault : goal.deed-returns-in_err-end-in-Inwhile-clause-fault
 deed-returns-in_err-end-in-Inwhile-clause-fault t c =
     let a = standing c.args.tokens.now c.args.names.now in
     let o = c.args.depth in
-    err_opened _ c.args.opening openings.Inwhile o a c.in-Inwhile.is
+    err_begun _ c.args.first firsts.Inwhile o a c.in-Inwhile.is
     (stops_behind _ c.in_err-end-in-Inwhile.field-0.0 [] a a (λ ds. name ∷ ds) (λ ds. block o ∷ ds) c.from_residual-in_err-end-in-Inwhile.ensures.1 refl c.in_err-end-in-Inwhile.ensures.fault)
 
 pub deed-returns-in_err-body-in-Inwhile-clause-fault : goal.deed-returns-in_err-body-in-Inwhile-clause-fault
@@ -172,7 +172,7 @@ deed-returns-in_err-body-in-Inwhile-clause-fault t c =
     let a = standing c.args.tokens.now c.args.names.now in
     let o = c.args.depth in
     let m = standing c.one_name.new.tokens c.one_name.new.names in
-    err_opened _ c.args.opening openings.Inwhile o a c.in-Inwhile.is
+    err_begun _ c.args.first firsts.Inwhile o a c.in-Inwhile.is
     (stops_behind _ c.in_err-body-in-Inwhile.field-0.0 (a_name c.in_ok-end-in-Inwhile.end ∷ []) a m (λ ds. block o ∷ ds) (λ ds. ds) c.from_residual-in_err-body-in-Inwhile.ensures.1 c.in_ok-end-in-Inwhile.ensures.reads c.in_err-body-in-Inwhile.ensures.fault)
 
 pub deed-returns-in_ok-body-in-Inwhile-clause-reads : goal.deed-returns-in_ok-body-in-Inwhile-clause-reads
@@ -182,15 +182,15 @@ deed-returns-in_ok-body-in-Inwhile-clause-reads t c =
     let m = standing c.one_name.new.tokens c.one_name.new.names in
     let b = standing c.block-in-Inwhile.new.tokens c.block-in-Inwhile.new.names in
     let code = code_of c.in_ok-body-in-Inwhile.body.items in
-    subst (λ (deed : DeedAt). ReadsDeed (word_of c.args.opening) o a b deed) (sym (deed_of-InWhile c.in_ok-end-in-Inwhile.end c.in_ok-body-in-Inwhile.body))
-    (subst (λ (w : Opening). ReadsDeed (word_of w) o a b (inwhile c.in_ok-end-in-Inwhile.end code)) (sym c.in-Inwhile.is)
+    subst (λ (deed : DeedAt). ReadsDeed (word_of c.args.first) o a b deed) (sym (deed_of-InWhile c.in_ok-end-in-Inwhile.end c.in_ok-body-in-Inwhile.body))
+    (subst (λ (w : FirstWord). ReadsDeed (word_of w) o a b (inwhile c.in_ok-end-in-Inwhile.end code)) (sym c.in-Inwhile.is)
     (record { first = refl; parts = parts_on (a_name c.in_ok-end-in-Inwhile.end ∷ []) (a_block o code ∷ []) a m b c.in_ok-end-in-Inwhile.ensures.reads (b, c.in_ok-body-in-Inwhile.ensures.reads, refl) }))
 
 pub deed-returns-in_err-from-in-Relay-clause-fault : goal.deed-returns-in_err-from-in-Relay-clause-fault
 deed-returns-in_err-from-in-Relay-clause-fault t c =
     let a = standing c.args.tokens.now c.args.names.now in
     let o = c.args.depth in
-    err_opened _ c.args.opening openings.Relay o a c.in-Relay.is
+    err_begun _ c.args.first firsts.Relay o a c.in-Relay.is
     (stops_behind _ c.in_err-from-in-Relay.field-0.0 [] a a (λ ds. name ∷ name ∷ ds) (λ ds. block o ∷ ds) c.from_residual-in_err-from-in-Relay.ensures.1 refl c.in_err-from-in-Relay.ensures.fault)
 
 pub deed-returns-in_err-body-in-Relay-clause-fault : goal.deed-returns-in_err-body-in-Relay-clause-fault
@@ -198,7 +198,7 @@ deed-returns-in_err-body-in-Relay-clause-fault t c =
     let a = standing c.args.tokens.now c.args.names.now in
     let o = c.args.depth in
     let m = standing c.two_names.new.tokens c.two_names.new.names in
-    err_opened _ c.args.opening openings.Relay o a c.in-Relay.is
+    err_begun _ c.args.first firsts.Relay o a c.in-Relay.is
     (stops_behind _ c.in_err-body-in-Relay.field-0.0 (a_name c.in_ok-from-in-Relay.from ∷ a_name c.in_ok-from-in-Relay.to ∷ []) a m (λ ds. block o ∷ ds) (λ ds. ds) c.from_residual-in_err-body-in-Relay.ensures.1 c.in_ok-from-in-Relay.ensures.reads c.in_err-body-in-Relay.ensures.fault)
 
 pub deed-returns-in_ok-body-in-Relay-clause-reads : goal.deed-returns-in_ok-body-in-Relay-clause-reads
@@ -208,24 +208,24 @@ deed-returns-in_ok-body-in-Relay-clause-reads t c =
     let m = standing c.two_names.new.tokens c.two_names.new.names in
     let b = standing c.block-in-Relay.new.tokens c.block-in-Relay.new.names in
     let code = code_of c.in_ok-body-in-Relay.body.items in
-    subst (λ (deed : DeedAt). ReadsDeed (word_of c.args.opening) o a b deed) (sym (deed_of-Relay c.in_ok-from-in-Relay.from c.in_ok-from-in-Relay.to c.in_ok-body-in-Relay.body))
-    (subst (λ (w : Opening). ReadsDeed (word_of w) o a b (relay c.in_ok-from-in-Relay.from c.in_ok-from-in-Relay.to code)) (sym c.in-Relay.is)
+    subst (λ (deed : DeedAt). ReadsDeed (word_of c.args.first) o a b deed) (sym (deed_of-Relay c.in_ok-from-in-Relay.from c.in_ok-from-in-Relay.to c.in_ok-body-in-Relay.body))
+    (subst (λ (w : FirstWord). ReadsDeed (word_of w) o a b (relay c.in_ok-from-in-Relay.from c.in_ok-from-in-Relay.to code)) (sym c.in-Relay.is)
     (record { first = refl; parts = parts_on (a_name c.in_ok-from-in-Relay.from ∷ a_name c.in_ok-from-in-Relay.to ∷ []) (a_block o code ∷ []) a m b c.in_ok-from-in-Relay.ensures.reads (b, c.in_ok-body-in-Relay.ensures.reads, refl) }))
 
 pub deed-returns-in-Simple-clause-fault : goal.deed-returns-in-Simple-clause-fault
 deed-returns-in-Simple-clause-fault t c =
     let a = standing c.args.tokens.now c.args.names.now in
-    err_opened c.simple.result c.args.opening (openings.Simple c.in-Simple.word) c.args.depth a c.in-Simple.is c.simple.ensures.fault
+    err_begun c.simple.result c.args.first (firsts.Simple c.in-Simple.word) c.args.depth a c.in-Simple.is c.simple.ensures.fault
 
 pub deed-returns-in-Inbranch-clause-fault : goal.deed-returns-in-Inbranch-clause-fault
 deed-returns-in-Inbranch-clause-fault t c =
     let a = standing c.args.tokens.now c.args.names.now in
-    err_opened c.inbranch.result c.args.opening openings.Inbranch c.args.depth a c.in-Inbranch.is c.inbranch.ensures.fault
+    err_begun c.inbranch.result c.args.first firsts.Inbranch c.args.depth a c.in-Inbranch.is c.inbranch.ensures.fault
 
 pub deed-returns-in-If-clause-fault : goal.deed-returns-in-If-clause-fault
 deed-returns-in-If-clause-fault t c =
     let a = standing c.args.tokens.now c.args.names.now in
-    err_opened c.test.result c.args.opening openings.If c.args.depth a c.in-If.is c.test.ensures.fault
+    err_begun c.test.result c.args.first firsts.If c.args.depth a c.in-If.is c.test.ensures.fault
 
 pub inbranch-returns-in_err-end-clause-fault : goal.inbranch-returns-in_err-end-clause-fault
 inbranch-returns-in_err-end-clause-fault t c =
@@ -300,7 +300,7 @@ statements-returns-in_err-deed-clause-fault t c =
     let begun = c.in-Some.begun in
     stops_behind _ c.in_err-deed.field-0.0 [] a a (λ ds. stmts o ∷ ds) (λ ds. ds) c.from_residual.ensures.1 refl
     (code_stops o (code_of c.all.list.items) a m c.in_err-deed.field-0.0 c.all.invariant.reads
-    (word_stops begun.opening o c.all.tokens c.begin.new.tokens c.all.names c.in_err-deed.field-0.0 c.in-Some.ensures.taken c.in_err-deed.ensures.fault))
+    (word_stops begun.first o c.all.tokens c.begin.new.tokens c.all.names c.in_err-deed.field-0.0 c.in-Some.ensures.taken c.in_err-deed.ensures.fault))
 
 pub statements-all-preserved : goal.statements-all-preserved
 statements-all-preserved t c =
@@ -313,7 +313,7 @@ statements-all-preserved t c =
     let x = c.statement.result in
     let deed = deed_of c.in_ok-deed.deed in
     let one = subst (λ (s : StmtAt). ReadsOnLines m b (λ names ps. IsStatement limits names o s ps)) (sym c.statement.ensures)
-    (statement_read o begun.line deed (word_of begun.opening) m u b (word_piece begun.opening begun.line c.all.tokens c.begin.new.tokens c.all.names c.in-Some.ensures.taken c.in-Some.ensures.line) c.in_ok-deed.ensures.reads) in
+    (statement_read o begun.line deed (word_of begun.first) m u b (word_piece begun.first begun.line c.all.tokens c.begin.new.tokens c.all.names c.in-Some.ensures.taken c.in-Some.ensures.line) c.in_ok-deed.ensures.reads) in
     record {
       reads = subst (λ (ys : List Stmt). ReadsCode o a b (code_of ys)) (sym c.in_ok-push.ensures.items) (code_more o c.all.list.items x a m b c.all.invariant.reads one);
       room = keeps_on c.args.names.now c.all.names c.deed.new.names c.args.tokens.now c.all.tokens c.begin.new.tokens c.deed.new.tokens c.all.invariant.room c.in-Some.ensures.shorter c.in_ok-deed.ensures.leaves.room;

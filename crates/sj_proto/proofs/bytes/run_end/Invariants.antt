@@ -1,6 +1,6 @@
 use Rattle.std.proofs.Common.{◌≡◌, ◌+◌, ◌-◌, ◌≤◌, length, drop}
 use Rattle.std.specs.List.{prefix_len}
-use Rattle.sj_proto.specs.Classes.{in_class}
+use Rattle.sj_grammar.specs.Classes.{in_class}
 use Rattle.sj_proto.proofs.bytes.run_end.Given as goal
 
 abbrev pub invariant-loop-i : goal.invariant-loop-i

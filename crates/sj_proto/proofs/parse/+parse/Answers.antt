@@ -19,8 +19,8 @@ use Rattle.sj_grammar.specs.FileDues.{Due, proto, file_layer}
 use Rattle.sj_grammar.specs.Faults.{Stuck}
 use Rattle.sj_grammar.specs.Asked.{Passes, TakesText, Refuses, is_next, but, but_name}
 use Rattle.sj_grammar.proofs.StucknessLemmas.{stuck_cons, refuses_stuck, skip}
-use Rattle.sj_proto.specs.declared.choices.Opening.{Opening}
-use Rattle.sj_proto.specs.Choices.{but_way, but_open, opening_piece}
+use Rattle.sj_proto.specs.declared.choices.Bracket.{Bracket}
+use Rattle.sj_proto.specs.Choices.{but_way, but_open, bracket_piece}
 use Rattle.sj_proto.specs.Items.{item_pieces}
 use Rattle.sj_proto.specs.Parsed.{standing, Gives, Stops}
 use Rattle.sj_proto.proofs.ReadLemmas.{kept_on, Gives-cons, Gives-append, Gives-as, takes_one, took_way, took_close}
@@ -105,29 +105,29 @@ item-returns-in_err-way-clause-fault t c =
     err_as _ (refusals.At c.in_err-way.field-0.0) _ c.from_residual.ensures.1
     (λ ds. refuses_stuck file_layer limits (but_way (nat_le 1024 c.args.items.now)) c.args.items.now (standing c.args.tokens.now c.args.names.now) (proto (seq c.args.depth) ∷ ds) c.in_err-way.field-0.0 refl (way_rule c.args.depth c.args.items.now ds) c.in_err-way.ensures.fault)
 
-pub item-returns-in_err-take_opening-clause-fault : goal.item-returns-in_err-take_opening-clause-fault
-item-returns-in_err-take_opening-clause-fault t c =
-    let f = c.in_err-take_opening.field-0.0 in
+pub item-returns-in_err-take_bracket-clause-fault : goal.item-returns-in_err-take_bracket-clause-fault
+item-returns-in_err-take_bracket-clause-fault t c =
+    let f = c.in_err-take_bracket.field-0.0 in
     let w = c.in_ok-way.way in
     let n = c.args.items.now in
     let q = c.take_way.new.tokens in
     let room : n < 1024 = leb-false 1024 n c.in_ok-way.ensures.room in
-    err_as _ (refusals.At f) _ c.from_residual-in_err-take_opening.ensures.1
+    err_as _ (refusals.At f) _ c.from_residual-in_err-take_bracket.ensures.1
     (λ ds. stuck_cons file_layer limits n (suc n) (standing c.args.tokens.now c.args.names.now) (standing q c.args.names.now) (way_piece w) (proto (seq c.args.depth) ∷ ds) (proto (behind c.args.depth w) ∷ proto (more c.args.depth) ∷ ds) f
     (took_way w c.args.tokens.now q c.args.names.now.words c.args.names.now.texts c.in_ok-way.ensures.ok) (step_in_file n (suc n) (seq c.args.depth ∷ []) (behind c.args.depth w ∷ more c.args.depth ∷ []) ds (way_piece w) (way_step limits w c.args.depth n [] room))
-    (refuses_stuck file_layer limits (but_open w (nat_le 32 c.args.depth)) (suc n) (standing q c.args.names.now) (proto (behind c.args.depth w) ∷ proto (more c.args.depth) ∷ ds) f refl (open_rule w c.args.depth (suc n) (proto (more c.args.depth) ∷ ds)) c.in_err-take_opening.ensures.fault))
+    (refuses_stuck file_layer limits (but_open w (nat_le 32 c.args.depth)) (suc n) (standing q c.args.names.now) (proto (behind c.args.depth w) ∷ proto (more c.args.depth) ∷ ds) f refl (open_rule w c.args.depth (suc n) (proto (more c.args.depth) ∷ ds)) c.in_err-take_bracket.ensures.fault))
 
 pub item-returns-in_err-carried-in-Kind-clause-fault : goal.item-returns-in_err-carried-in-Kind-clause-fault
 item-returns-in_err-carried-in-Kind-clause-fault t c =
     let w = c.in_ok-way.way in
     let n = c.args.items.now in
     let room : n < 1024 = leb-false 1024 n c.in_ok-way.ensures.room in
-    let shallow : c.args.depth < 32 = leb-false 32 c.args.depth c.in_ok-take_opening.ensures.room in
-    let opened : TakesText c.take_way.new.tokens (open_piece w) c.take_opening.new.tokens =
-    subst (λ (o : Opening). TakesText c.take_way.new.tokens (opening_piece w o) c.take_opening.new.tokens) c.in-Kind.is c.in_ok-take_opening.ensures.ok in
+    let shallow : c.args.depth < 32 = leb-false 32 c.args.depth c.in_ok-take_bracket.ensures.room in
+    let opened : TakesText c.take_way.new.tokens (open_piece w) c.take_bracket.new.tokens =
+    subst (λ (o : Bracket). TakesText c.take_way.new.tokens (bracket_piece w o) c.take_bracket.new.tokens) c.in-Kind.is c.in_ok-take_bracket.ensures.ok in
     err_as _ c.in_err-carried-in-Kind.field-0.0 _ c.from_residual-in_err-carried-in-Kind.ensures.1
-    (stops_map (λ ds. proto (kind (c.args.depth + 1)) ∷ proto (fixed (close_piece w)) ∷ ds) (λ ds. proto (seq c.args.depth) ∷ ds) (n + 1) n (standing c.take_opening.new.tokens c.args.names.now) (standing c.args.tokens.now c.args.names.now) c.in_err-carried-in-Kind.field-0.0
-    (λ f st ds. opened_stuck w (open_piece w) c.args.tokens.now c.take_way.new.tokens c.take_opening.new.tokens c.args.names.now c.args.depth n (open_plain w).0 (open_plain w).1 room c.in_ok-way.ensures.ok opened
+    (stops_map (λ ds. proto (kind (c.args.depth + 1)) ∷ proto (fixed (close_piece w)) ∷ ds) (λ ds. proto (seq c.args.depth) ∷ ds) (n + 1) n (standing c.take_bracket.new.tokens c.args.names.now) (standing c.args.tokens.now c.args.names.now) c.in_err-carried-in-Kind.field-0.0
+    (λ f st ds. opened_stuck w (open_piece w) c.args.tokens.now c.take_way.new.tokens c.take_bracket.new.tokens c.args.names.now c.args.depth n (open_plain w).0 (open_plain w).1 room c.in_ok-way.ensures.ok opened
     (kind (c.args.depth + 1) ∷ fixed (close_piece w) ∷ []) f (subst (λ (o : ℕ). step protocol_layer limits (suc n) (behind c.args.depth w ∷ []) (open_piece w) ≡ goes (suc n) (kind o ∷ fixed (close_piece w) ∷ [])) (sym (add-one c.args.depth)) (open_step limits w c.args.depth (suc n) [] shallow)) ds (st (proto (more c.args.depth) ∷ ds)))
     c.in_err-carried-in-Kind.ensures.fault)
 
@@ -136,14 +136,14 @@ item-returns-in_ok-carried-in-Kind-clause-reads t c =
     let w = c.in_ok-way.way in
     let n = c.args.items.now in
     let room : n < 1024 = leb-false 1024 n c.in_ok-way.ensures.room in
-    let shallow : c.args.depth < 32 = leb-false 32 c.args.depth c.in_ok-take_opening.ensures.room in
-    let opened : TakesText c.take_way.new.tokens (open_piece w) c.take_opening.new.tokens =
-    subst (λ (o : Opening). TakesText c.take_way.new.tokens (opening_piece w o) c.take_opening.new.tokens) c.in-Kind.is c.in_ok-take_opening.ensures.ok in
+    let shallow : c.args.depth < 32 = leb-false 32 c.args.depth c.in_ok-take_bracket.ensures.room in
+    let opened : TakesText c.take_way.new.tokens (open_piece w) c.take_bracket.new.tokens =
+    subst (λ (o : Bracket). TakesText c.take_way.new.tokens (bracket_piece w o) c.take_bracket.new.tokens) c.in-Kind.is c.in_ok-take_bracket.ensures.ok in
     Gives-as (standing c.args.tokens.now c.args.names.now) (standing c.carried.new.tokens c.carried.new.names) (λ word. way_piece w ∷ (open_piece w) ∷ (kind_pieces word (carried_of c.in_ok-carried-in-Kind.carried) ++ close_piece w ∷ [])) (λ word. item_pieces word c.message_item.result)
     (λ word. IsGivenKind limits word (c.args.depth + 1) (carried_of c.in_ok-carried-in-Kind.carried)) (λ word. IsGiven limits word c.args.depth (followed c.message_item.result done))
     (λ word. ap (λ (q : Place). seq_pieces word q) (sym c.message_item.ensures))
     (λ word h. subst (λ (q : Place). IsGiven limits word c.args.depth q) (sym c.message_item.ensures) (shallow, subst (λ (o : ℕ). IsGivenKind limits word o (carried_of c.in_ok-carried-in-Kind.carried)) (add-one c.args.depth) h, tt))
-    (opened_gives w (open_piece w) c.args.tokens.now c.take_way.new.tokens c.take_opening.new.tokens c.args.names.now c.args.depth n (open_plain w).0 (open_plain w).1 room c.in_ok-way.ensures.ok opened
+    (opened_gives w (open_piece w) c.args.tokens.now c.take_way.new.tokens c.take_bracket.new.tokens c.args.names.now c.args.depth n (open_plain w).0 (open_plain w).1 room c.in_ok-way.ensures.ok opened
     (standing c.carried.new.tokens c.carried.new.names) (λ word. kind_pieces word (carried_of c.in_ok-carried-in-Kind.carried) ++ close_piece w ∷ []) (λ word. IsGivenKind limits word (c.args.depth + 1) (carried_of c.in_ok-carried-in-Kind.carried)) c.in_ok-carried-in-Kind.ensures.reads)
 
 pub item-returns-in_err-arms-in-Arms-clause-fault : goal.item-returns-in_err-arms-in-Arms-clause-fault
@@ -151,12 +151,12 @@ item-returns-in_err-arms-in-Arms-clause-fault t c =
     let w = c.in_ok-way.way in
     let n = c.args.items.now in
     let room : n < 1024 = leb-false 1024 n c.in_ok-way.ensures.room in
-    let shallow : c.args.depth < 32 = leb-false 32 c.args.depth c.in_ok-take_opening.ensures.room in
-    let opened : TakesText c.take_way.new.tokens (codes "{") c.take_opening.new.tokens =
-    subst (λ (o : Opening). TakesText c.take_way.new.tokens (opening_piece w o) c.take_opening.new.tokens) c.in-Arms.is c.in_ok-take_opening.ensures.ok in
+    let shallow : c.args.depth < 32 = leb-false 32 c.args.depth c.in_ok-take_bracket.ensures.room in
+    let opened : TakesText c.take_way.new.tokens (codes "{") c.take_bracket.new.tokens =
+    subst (λ (o : Bracket). TakesText c.take_way.new.tokens (bracket_piece w o) c.take_bracket.new.tokens) c.in-Arms.is c.in_ok-take_bracket.ensures.ok in
     err_as _ c.in_err-arms-in-Arms.field-0.0 _ c.from_residual-in_err-arms-in-Arms.ensures.1
-    (stops_map (λ ds. proto (label 0) ∷ proto (fixed (codes ":")) ∷ proto (maybe (c.args.depth + 1)) ∷ proto (arms (c.args.depth + 1) 1) ∷ proto (fixed (codes "}")) ∷ ds) (λ ds. proto (seq c.args.depth) ∷ ds) (n + 1) n (standing c.take_opening.new.tokens c.args.names.now) (standing c.args.tokens.now c.args.names.now) c.in_err-arms-in-Arms.field-0.0
-    (λ f st ds. opened_stuck w (codes "{") c.args.tokens.now c.take_way.new.tokens c.take_opening.new.tokens c.args.names.now c.args.depth n refl refl room c.in_ok-way.ensures.ok opened
+    (stops_map (λ ds. proto (label 0) ∷ proto (fixed (codes ":")) ∷ proto (maybe (c.args.depth + 1)) ∷ proto (arms (c.args.depth + 1) 1) ∷ proto (fixed (codes "}")) ∷ ds) (λ ds. proto (seq c.args.depth) ∷ ds) (n + 1) n (standing c.take_bracket.new.tokens c.args.names.now) (standing c.args.tokens.now c.args.names.now) c.in_err-arms-in-Arms.field-0.0
+    (λ f st ds. opened_stuck w (codes "{") c.args.tokens.now c.take_way.new.tokens c.take_bracket.new.tokens c.args.names.now c.args.depth n refl refl room c.in_ok-way.ensures.ok opened
     (label 0 ∷ fixed (codes ":") ∷ maybe (c.args.depth + 1) ∷ arms (c.args.depth + 1) 1 ∷ fixed (codes "}") ∷ []) f (subst (λ (o : ℕ). step protocol_layer limits (suc n) (behind c.args.depth w ∷ []) (codes "{") ≡ goes (suc n) (label 0 ∷ fixed (codes ":") ∷ maybe o ∷ arms o 1 ∷ fixed (codes "}") ∷ [])) (sym (add-one c.args.depth)) (arms_step limits w c.args.depth (suc n) [] shallow)) ds (st (proto (more c.args.depth) ∷ ds)))
     c.in_err-arms-in-Arms.ensures.fault)
 
@@ -165,14 +165,14 @@ item-returns-in_ok-arms-in-Arms-clause-reads t c =
     let w = c.in_ok-way.way in
     let n = c.args.items.now in
     let room : n < 1024 = leb-false 1024 n c.in_ok-way.ensures.room in
-    let shallow : c.args.depth < 32 = leb-false 32 c.args.depth c.in_ok-take_opening.ensures.room in
-    let opened : TakesText c.take_way.new.tokens (codes "{") c.take_opening.new.tokens =
-    subst (λ (o : Opening). TakesText c.take_way.new.tokens (opening_piece w o) c.take_opening.new.tokens) c.in-Arms.is c.in_ok-take_opening.ensures.ok in
+    let shallow : c.args.depth < 32 = leb-false 32 c.args.depth c.in_ok-take_bracket.ensures.room in
+    let opened : TakesText c.take_way.new.tokens (codes "{") c.take_bracket.new.tokens =
+    subst (λ (o : Bracket). TakesText c.take_way.new.tokens (bracket_piece w o) c.take_bracket.new.tokens) c.in-Arms.is c.in_ok-take_bracket.ensures.ok in
     Gives-as (standing c.args.tokens.now c.args.names.now) (standing c.choices.new.tokens c.choices.new.names) (λ word. way_piece w ∷ (codes "{") ∷ (drop 1 (listed word c.in_ok-arms-in-Arms.arms) ++ codes "}" ∷ [])) (λ word. item_pieces word c.choice_item.result)
     (λ word. AreGiven limits word (c.args.depth + 1) 0 c.in_ok-arms-in-Arms.arms) (λ word. IsGiven limits word c.args.depth (followed c.choice_item.result done))
     (λ word. ap (λ (q : Place). seq_pieces word q) (sym c.choice_item.ensures))
     (λ word h. subst (λ (q : Place). IsGiven limits word c.args.depth q) (sym c.choice_item.ensures) (shallow, c.in_ok-arms-in-Arms.ensures.some, subst (λ (o : ℕ). AreGiven limits word o 0 c.in_ok-arms-in-Arms.arms) (add-one c.args.depth) h, tt))
-    (opened_gives w (codes "{") c.args.tokens.now c.take_way.new.tokens c.take_opening.new.tokens c.args.names.now c.args.depth n refl refl room c.in_ok-way.ensures.ok opened
+    (opened_gives w (codes "{") c.args.tokens.now c.take_way.new.tokens c.take_bracket.new.tokens c.args.names.now c.args.depth n refl refl room c.in_ok-way.ensures.ok opened
     (standing c.choices.new.tokens c.choices.new.names) (λ word. drop 1 (listed word c.in_ok-arms-in-Arms.arms) ++ codes "}" ∷ []) (λ word. AreGiven limits word (c.args.depth + 1) 0 c.in_ok-arms-in-Arms.arms) c.in_ok-arms-in-Arms.ensures.reads)
 
 pub item-returns-in_err-body-in-Turns-clause-fault : goal.item-returns-in_err-body-in-Turns-clause-fault
@@ -180,12 +180,12 @@ item-returns-in_err-body-in-Turns-clause-fault t c =
     let w = c.in_ok-way.way in
     let n = c.args.items.now in
     let room : n < 1024 = leb-false 1024 n c.in_ok-way.ensures.room in
-    let shallow : c.args.depth < 32 = leb-false 32 c.args.depth c.in_ok-take_opening.ensures.room in
-    let opened : TakesText c.take_way.new.tokens (codes "[") c.take_opening.new.tokens =
-    subst (λ (o : Opening). TakesText c.take_way.new.tokens (opening_piece w o) c.take_opening.new.tokens) c.in-Turns.is c.in_ok-take_opening.ensures.ok in
+    let shallow : c.args.depth < 32 = leb-false 32 c.args.depth c.in_ok-take_bracket.ensures.room in
+    let opened : TakesText c.take_way.new.tokens (codes "[") c.take_bracket.new.tokens =
+    subst (λ (o : Bracket). TakesText c.take_way.new.tokens (bracket_piece w o) c.take_bracket.new.tokens) c.in-Turns.is c.in_ok-take_bracket.ensures.ok in
     err_as _ c.in_err-body-in-Turns.field-0.0 _ c.from_residual-in_err-body-in-Turns.ensures.1
-    (stops_map (λ ds. proto (maybe (c.args.depth + 1)) ∷ proto (fixed (codes "]")) ∷ proto (fixed (codes "*")) ∷ ds) (λ ds. proto (seq c.args.depth) ∷ ds) (n + 1) n (standing c.take_opening.new.tokens c.args.names.now) (standing c.args.tokens.now c.args.names.now) c.in_err-body-in-Turns.field-0.0
-    (λ f st ds. opened_stuck w (codes "[") c.args.tokens.now c.take_way.new.tokens c.take_opening.new.tokens c.args.names.now c.args.depth n refl refl room c.in_ok-way.ensures.ok opened
+    (stops_map (λ ds. proto (maybe (c.args.depth + 1)) ∷ proto (fixed (codes "]")) ∷ proto (fixed (codes "*")) ∷ ds) (λ ds. proto (seq c.args.depth) ∷ ds) (n + 1) n (standing c.take_bracket.new.tokens c.args.names.now) (standing c.args.tokens.now c.args.names.now) c.in_err-body-in-Turns.field-0.0
+    (λ f st ds. opened_stuck w (codes "[") c.args.tokens.now c.take_way.new.tokens c.take_bracket.new.tokens c.args.names.now c.args.depth n refl refl room c.in_ok-way.ensures.ok opened
     (maybe (c.args.depth + 1) ∷ fixed (codes "]") ∷ fixed (codes "*") ∷ []) f (subst (λ (o : ℕ). step protocol_layer limits (suc n) (behind c.args.depth w ∷ []) (codes "[") ≡ goes (suc n) (maybe o ∷ fixed (codes "]") ∷ fixed (codes "*") ∷ [])) (sym (add-one c.args.depth)) (turns_step limits w c.args.depth (suc n) [] shallow)) ds (st (proto (more c.args.depth) ∷ ds)))
     c.in_err-body-in-Turns.ensures.fault)
 
@@ -194,14 +194,14 @@ item-returns-in_ok-body-in-Turns-clause-reads t c =
     let w = c.in_ok-way.way in
     let n = c.args.items.now in
     let room : n < 1024 = leb-false 1024 n c.in_ok-way.ensures.room in
-    let shallow : c.args.depth < 32 = leb-false 32 c.args.depth c.in_ok-take_opening.ensures.room in
-    let opened : TakesText c.take_way.new.tokens (codes "[") c.take_opening.new.tokens =
-    subst (λ (o : Opening). TakesText c.take_way.new.tokens (opening_piece w o) c.take_opening.new.tokens) c.in-Turns.is c.in_ok-take_opening.ensures.ok in
+    let shallow : c.args.depth < 32 = leb-false 32 c.args.depth c.in_ok-take_bracket.ensures.room in
+    let opened : TakesText c.take_way.new.tokens (codes "[") c.take_bracket.new.tokens =
+    subst (λ (o : Bracket). TakesText c.take_way.new.tokens (bracket_piece w o) c.take_bracket.new.tokens) c.in-Turns.is c.in_ok-take_bracket.ensures.ok in
     Gives-as (standing c.args.tokens.now c.args.names.now) (standing c.turns.new.tokens c.turns.new.names) (λ word. way_piece w ∷ (codes "[") ∷ (seq_pieces word c.in_ok-body-in-Turns.body ++ codes "]" ∷ codes "*" ∷ [])) (λ word. item_pieces word c.loop_item.result)
     (λ word. IsGiven limits word (c.args.depth + 1) c.in_ok-body-in-Turns.body) (λ word. IsGiven limits word c.args.depth (followed c.loop_item.result done))
     (λ word. ap (λ (q : Place). seq_pieces word q) (sym c.loop_item.ensures))
     (λ word h. subst (λ (q : Place). IsGiven limits word c.args.depth q) (sym c.loop_item.ensures) (shallow, subst (λ (o : ℕ). IsGiven limits word o c.in_ok-body-in-Turns.body) (add-one c.args.depth) h, tt))
-    (opened_gives w (codes "[") c.args.tokens.now c.take_way.new.tokens c.take_opening.new.tokens c.args.names.now c.args.depth n refl refl room c.in_ok-way.ensures.ok opened
+    (opened_gives w (codes "[") c.args.tokens.now c.take_way.new.tokens c.take_bracket.new.tokens c.args.names.now c.args.depth n refl refl room c.in_ok-way.ensures.ok opened
     (standing c.turns.new.tokens c.turns.new.names) (λ word. seq_pieces word c.in_ok-body-in-Turns.body ++ codes "]" ∷ codes "*" ∷ []) (λ word. IsGiven limits word (c.args.depth + 1) c.in_ok-body-in-Turns.body) c.in_ok-body-in-Turns.ensures.reads)
 
 pub maybe-returns-then-sees-clause-fault : goal.maybe-returns-then-sees-clause-fault

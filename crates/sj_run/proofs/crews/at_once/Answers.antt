@@ -13,7 +13,7 @@ returns g c =
     let new = c.work_all.new.workers in
     let as_many : length new ≡ length old = c.work_all.ensures.length ∙ ap length c.deref_mut.ensures.value in
     let whole = take_front new (drop (length new) old) c.args.workers.len (omega (arith, as_many, c.args.workers.ok)) in
-    subst (Each2 (Worked g.O.OutLane.pushed g.O.OutLane.faults g.O.OutLane.vain g.O.OutLane.same g.I.InLane.popped g.I.InLane.faults g.I.InLane.vain g.I.InLane.same c.args.looks) old)
+    subst (Each2 (Worked g.O.OutLane g.I.InLane c.args.looks) old)
     (sym whole)
-    (each2_from (Worked g.O.OutLane.pushed g.O.OutLane.faults g.O.OutLane.vain g.O.OutLane.same g.I.InLane.popped g.I.InLane.faults g.I.InLane.vain g.I.InLane.same c.args.looks) old new as_many
+    (each2_from (Worked g.O.OutLane g.I.InLane c.args.looks) old new as_many
     (λ p a b before there. c.work_all.ensures.each p a b (ap (λ (ws : List (Worker g.row.O.Denot g.row.I.Denot)). slice_get ws p) c.deref_mut.ensures.value ∙ before) there))

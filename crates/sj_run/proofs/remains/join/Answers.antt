@@ -1,6 +1,6 @@
 use Rattle.std.proofs.Common.{List, Bor, subst, sym, map}
 use Rattle.sj_end.specs.declared.note.Entry.{Entry}
-use Rattle.sj_merge.specs.Logs.{AreOrdered, log_of}
+use Rattle.sj_core.specs.Logs.{AreOrdered, log_of}
 use Rattle.sj_end.specs.Lines.{line_at}
 use Rattle.sj_rules.specs.Log.{IsJoined}
 use Rattle.sj_run.proofs.LogLemmas.{logs_ordered, logs_joined}

@@ -6,14 +6,14 @@ use Rattle.sj_run.proofs.rounds.in_rounds.Goals as goal
 
 pub round-requires-clause-few : goal.round-requires-clause-few
 round-requires-clause-few g c κs within =
-    let many = each2_length (Worked g.O.OutLane.pushed g.O.OutLane.faults g.O.OutLane.vain g.O.OutLane.same g.I.InLane.popped g.I.InLane.faults g.I.InLane.vain g.I.InLane.same c.min-few.result)
+    let many = each2_length (Worked g.O.OutLane g.I.InLane c.min-few.result)
     c.args.workers.items c.in_ok-still.still.items c.in_ok-still.ensures in
     omega (arith, many, c.requires.few)
 
 pub returns : goal.returns
 returns g c =
-    each2_trans (Worked g.O.OutLane.pushed g.O.OutLane.faults g.O.OutLane.vain g.O.OutLane.same g.I.InLane.popped g.I.InLane.faults g.I.InLane.vain g.I.InLane.same c.min-few.result)
-    (Worked g.O.OutLane.pushed g.O.OutLane.faults g.O.OutLane.vain g.O.OutLane.same g.I.InLane.popped g.I.InLane.faults g.I.InLane.vain g.I.InLane.same c.args.looks)
-    (Worked g.O.OutLane.pushed g.O.OutLane.faults g.O.OutLane.vain g.O.OutLane.same g.I.InLane.popped g.I.InLane.faults g.I.InLane.vain g.I.InLane.same c.args.looks)
+    each2_trans (Worked g.O.OutLane g.I.InLane c.min-few.result)
+    (Worked g.O.OutLane g.I.InLane c.args.looks)
+    (Worked g.O.OutLane g.I.InLane c.args.looks)
     (λ x y z. c.calls_compose.ensures c.min-few.result c.args.looks x y z) c.args.workers.items c.in_ok-still.still.items c.in_ok-workers.workers.items c.in_ok-still.ensures
     c.in_ok-workers.ensures

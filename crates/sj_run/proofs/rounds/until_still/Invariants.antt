@@ -5,5 +5,5 @@ use Rattle.sj_run.proofs.rounds.until_still.Given as goal
 -- all calls so far are one
 abbrev pub invariant-loop : goal.invariant-loop
 invariant-loop g l =
-    Each2 (Worked g.O.OutLane.pushed g.O.OutLane.faults g.O.OutLane.vain g.O.OutLane.same g.I.InLane.popped g.I.InLane.faults g.I.InLane.vain g.I.InLane.same l.looks)
+    Each2 (Worked g.O.OutLane g.I.InLane l.looks)
     l.fn.workers.items l.workers.items

@@ -22,7 +22,7 @@ pub joined-requires-clause-rising : goal.joined-requires-clause-rising
 joined-requires-clause-rising g c =
     λ κs lives.
     subst (λ (ws : List (Worker g.row.L-Out.Denot g.row.L-In.Denot)). AllRising ws) (sym c.deref.ensures.value)
-    (all_rising g.L.Out.OutLane.pushed g.L.Out.OutLane.faults g.L.Out.OutLane.vain g.L.Out.OutLane.same g.L.In.InLane.popped g.L.In.InLane.faults g.L.In.InLane.vain g.L.In.InLane.same g.L.Links.joined
+    (all_rising g.L.Out.OutLane g.L.In.InLane g.L.Links.joined
     (file_of (file_in c.args.accepted.now)) c.args.looks (g.L.Links.tells c.args.links.now) c.in_ok-workers.workers.items c.in_ok-workers.ensures.worked)
 
 pub returns-then-faulty-clause-link_fault : goal.returns-then-faulty-clause-link_fault
@@ -30,7 +30,7 @@ returns-then-faulty-clause-link_fault g c =
     λ is.
     rose_from _ _ _ c.in_ok-workers.ensures.faults
     (c.back.ensures.raised (subst (λ (ls : List (Lanes g.row.L-Out.Denot g.row.L-In.Denot)). HasFault g.L.Out.OutLane.faults g.L.In.InLane.faults ls) (sym c.in_ok-lanes.ensures)
-    (has_fault g.L.Out.OutLane.pushed g.L.Out.OutLane.faults g.L.Out.OutLane.vain g.L.Out.OutLane.same g.L.In.InLane.popped g.L.In.InLane.faults g.L.In.InLane.vain g.L.In.InLane.same g.L.Links.joined
+    (has_fault g.L.Out.OutLane g.L.In.InLane g.L.Links.joined
     (file_of (file_in c.args.accepted.now)) c.args.looks (g.L.Links.tells c.args.links.now) c.in_ok-workers.workers.items c.in_ok-workers.ensures.worked
     (subst (λ (ws : List (Worker g.row.L-Out.Denot g.row.L-In.Denot)). SomeStopped ws stops.Fault) c.deref-2.ensures.value (c.if-faulty.ensures.some refl)))))
 
@@ -39,8 +39,8 @@ returns-in-Err-clause-link_fault g c = λ is. absurd (no_link_fault c.in-Err.ref
 
 pub returns-in-Err-clause-damaged : goal.returns-in-Err-clause-damaged
 returns-in-Err-clause-damaged g c =
-    subst (λ (r : RunRefusal). IsDamagedOver g.L.Out.OutLane.pushed g.L.Out.OutLane.faults g.L.Out.OutLane.vain g.L.Out.OutLane.same g.L.In.InLane.popped g.L.In.InLane.faults g.L.In.InLane.vain g.L.In.InLane.same g.L.Links.joined (file_of (file_in c.args.accepted.now)) c.args.looks (g.L.Links.tells c.args.links.now) r) (sym c.from.ensures)
-    (misfit_damage g.L.Out.OutLane.pushed g.L.Out.OutLane.faults g.L.Out.OutLane.vain g.L.Out.OutLane.same g.L.In.InLane.popped g.L.In.InLane.faults g.L.In.InLane.vain g.L.In.InLane.same g.L.Links.joined
+    subst (λ (r : RunRefusal). IsDamagedOver g.L.Out.OutLane g.L.In.InLane g.L.Links.joined (file_of (file_in c.args.accepted.now)) c.args.looks (g.L.Links.tells c.args.links.now) r) (sym c.from.ensures)
+    (misfit_damage g.L.Out.OutLane g.L.In.InLane g.L.Links.joined
     (file_of (file_in c.args.accepted.now)) c.args.looks (g.L.Links.tells c.args.links.now) c.in_ok-workers.workers.items c.in_ok-workers.ensures.worked
     (subst (λ (ws : List (Worker g.row.L-Out.Denot g.row.L-In.Denot)). NoneStopped ws stops.Fault) c.deref-2.ensures.value (c.if-faulty.ensures.none refl))
     (map line_at c.in_ok-lines.lines.items)
@@ -51,9 +51,9 @@ pub returns-in-Err-clause-telling : goal.returns-in-Err-clause-telling
 returns-in-Err-clause-telling g c =
     λ damaged telling.
     history_fits (file_of (file_in c.args.accepted.now)) (map line_at c.in_ok-lines.lines.items) _ c.in-Err.refusal
-    (told_history g.L.Out.OutLane.pushed g.L.Out.OutLane.faults g.L.Out.OutLane.vain g.L.Out.OutLane.same g.L.In.InLane.popped g.L.In.InLane.faults g.L.In.InLane.vain g.L.In.InLane.same g.L.Links.joined
+    (told_history g.L.Out.OutLane g.L.In.InLane g.L.Links.joined
     (file_of (file_in c.args.accepted.now)) c.in_ok-workers.ensures.accepted c.args.looks c.in_ok-workers.workers.items
-    (subst (λ (b : Bool). AllWorked g.L.Out.OutLane.pushed g.L.Out.OutLane.faults g.L.Out.OutLane.vain g.L.Out.OutLane.same g.L.In.InLane.popped g.L.In.InLane.faults g.L.In.InLane.vain g.L.In.InLane.same g.L.Links.joined (file_of (file_in c.args.accepted.now)) c.args.looks b c.in_ok-workers.workers.items) telling c.in_ok-workers.ensures.worked)
+    (subst (λ (b : Bool). AllWorked g.L.Out.OutLane g.L.In.InLane g.L.Links.joined (file_of (file_in c.args.accepted.now)) c.args.looks b c.in_ok-workers.workers.items) telling c.in_ok-workers.ensures.worked)
     (keeps_of g.L.Links.sent g.L.Links.got g.L.Links.vain_out g.L.Links.vain_in c.back.new.self)
     (subst (λ (ls : List (Lanes g.row.L-Out.Denot g.row.L-In.Denot)). Kept g.L.Out.OutLane.pushed g.L.In.InLane.popped g.L.Out.OutLane.vain g.L.In.InLane.vain ls (g.L.Links.sent c.back.new.self) (g.L.Links.got c.back.new.self) (g.L.Links.vain_out c.back.new.self) (g.L.Links.vain_in c.back.new.self))
     c.in_ok-lanes.ensures (c.back.ensures.kept (c.in_ok-workers.ensures.tells ∙ telling)))
@@ -68,7 +68,7 @@ returns-in-Some-clause-link_fault g c =
 pub returns-in-Some-clause-damaged : goal.returns-in-Some-clause-damaged
 returns-in-Some-clause-damaged g c =
     let world = c.in-Ok.world in
-    refused_damage g.L.Out.OutLane.pushed g.L.Out.OutLane.faults g.L.Out.OutLane.vain g.L.Out.OutLane.same g.L.In.InLane.popped g.L.In.InLane.faults g.L.In.InLane.vain g.L.In.InLane.same g.L.Links.joined
+    refused_damage g.L.Out.OutLane g.L.In.InLane g.L.Links.joined
     (file_of (file_in c.args.accepted.now)) c.args.looks (g.L.Links.tells c.args.links.now) c.in_ok-workers.workers.items c.in_ok-workers.ensures.worked
     (subst (λ (ws : List (Worker g.row.L-Out.Denot g.row.L-In.Denot)). NoneStopped ws stops.Fault) c.deref-2.ensures.value (c.if-faulty.ensures.none refl))
     (map line_at c.in_ok-lines.lines.items)
@@ -80,9 +80,9 @@ returns-in-Some-clause-damaged g c =
 pub returns-in-Some-clause-telling : goal.returns-in-Some-clause-telling
 returns-in-Some-clause-telling g c =
     λ damaged telling.
-    told_fits g.L.Out.OutLane.pushed g.L.Out.OutLane.faults g.L.Out.OutLane.vain g.L.Out.OutLane.same g.L.In.InLane.popped g.L.In.InLane.faults g.L.In.InLane.vain g.L.In.InLane.same g.L.Links.joined
+    told_fits g.L.Out.OutLane g.L.In.InLane g.L.Links.joined
     (file_of (file_in c.args.accepted.now)) c.in_ok-workers.ensures.accepted c.args.looks c.in_ok-workers.workers.items
-    (subst (λ (b : Bool). AllWorked g.L.Out.OutLane.pushed g.L.Out.OutLane.faults g.L.Out.OutLane.vain g.L.Out.OutLane.same g.L.In.InLane.popped g.L.In.InLane.faults g.L.In.InLane.vain g.L.In.InLane.same g.L.Links.joined (file_of (file_in c.args.accepted.now)) c.args.looks b c.in_ok-workers.workers.items) telling c.in_ok-workers.ensures.worked)
+    (subst (λ (b : Bool). AllWorked g.L.Out.OutLane g.L.In.InLane g.L.Links.joined (file_of (file_in c.args.accepted.now)) c.args.looks b c.in_ok-workers.workers.items) telling c.in_ok-workers.ensures.worked)
     (keeps_of g.L.Links.sent g.L.Links.got g.L.Links.vain_out g.L.Links.vain_in c.back.new.self)
     (subst (λ (ls : List (Lanes g.row.L-Out.Denot g.row.L-In.Denot)). Kept g.L.Out.OutLane.pushed g.L.In.InLane.popped g.L.Out.OutLane.vain g.L.In.InLane.vain ls (g.L.Links.sent c.back.new.self) (g.L.Links.got c.back.new.self) (g.L.Links.vain_out c.back.new.self) (g.L.Links.vain_in c.back.new.self))
     c.in_ok-lanes.ensures (c.back.ensures.kept (c.in_ok-workers.ensures.tells ∙ telling)))
@@ -94,9 +94,9 @@ returns-in-Some-clause-telling g c =
 pub returns-clause-shown : goal.returns-clause-shown
 returns-clause-shown g c =
     λ telling.
-    told_shown g.L.Out.OutLane.pushed g.L.Out.OutLane.faults g.L.Out.OutLane.vain g.L.Out.OutLane.same g.L.In.InLane.popped g.L.In.InLane.faults g.L.In.InLane.vain g.L.In.InLane.same g.L.Links.joined
+    told_shown g.L.Out.OutLane g.L.In.InLane g.L.Links.joined
     (file_of (file_in c.args.accepted.now)) c.in_ok-workers.ensures.accepted c.args.looks c.in_ok-workers.workers.items
-    (subst (λ (b : Bool). AllWorked g.L.Out.OutLane.pushed g.L.Out.OutLane.faults g.L.Out.OutLane.vain g.L.Out.OutLane.same g.L.In.InLane.popped g.L.In.InLane.faults g.L.In.InLane.vain g.L.In.InLane.same g.L.Links.joined (file_of (file_in c.args.accepted.now)) c.args.looks b c.in_ok-workers.workers.items) telling c.in_ok-workers.ensures.worked)
+    (subst (λ (b : Bool). AllWorked g.L.Out.OutLane g.L.In.InLane g.L.Links.joined (file_of (file_in c.args.accepted.now)) c.args.looks b c.in_ok-workers.workers.items) telling c.in_ok-workers.ensures.worked)
     (keeps_of g.L.Links.sent g.L.Links.got g.L.Links.vain_out g.L.Links.vain_in c.back.new.self)
     (subst (λ (ls : List (Lanes g.row.L-Out.Denot g.row.L-In.Denot)). Kept g.L.Out.OutLane.pushed g.L.In.InLane.popped g.L.Out.OutLane.vain g.L.In.InLane.vain ls (g.L.Links.sent c.back.new.self) (g.L.Links.got c.back.new.self) (g.L.Links.vain_out c.back.new.self) (g.L.Links.vain_in c.back.new.self))
     c.in_ok-lanes.ensures (c.back.ensures.kept (c.in_ok-workers.ensures.tells ∙ telling)))

@@ -25,11 +25,11 @@ returns-clause-worked g c =
     let workers = c.in_ok-workers.workers.items in
     let first = c.in_ok-nodes.ensures in
     let made = c.in_ok-lanes.ensures in
-    let as_many = each2_length (Worked g.L.Out.OutLane.pushed g.L.Out.OutLane.faults g.L.Out.OutLane.vain g.L.Out.OutLane.same g.L.In.InLane.popped g.L.In.InLane.faults g.L.In.InLane.vain g.L.In.InLane.same c.args.looks)
+    let as_many = each2_length (Worked g.L.Out.OutLane g.L.In.InLane c.args.looks)
     hired workers c.in_ok-workers.ensures in
     let many : length lanes ≡ length file.parties = omega (arith, made.square.0, length-map (file_in c.args.accepted.now).parties.items party_of, c.len-parties.ensures, ap (λ (f : File). length f.parties.items) c.file.ensures.value, (file_in c.args.accepted.now).parties.ok, c.in_ok-lanes.lanes.ok) in
-    all_worked g.L.Out.OutLane.pushed g.L.Out.OutLane.faults g.L.Out.OutLane.vain g.L.Out.OutLane.same g.L.In.InLane.popped g.L.In.InLane.faults g.L.In.InLane.vain g.L.In.InLane.same g.L.Links.joined g.met.L.Links.joined_later
+    all_worked g.L.Out.OutLane g.L.In.InLane g.L.Links.joined g.met.L.Links.joined_later
     file c.args.looks (g.L.Links.tells c.args.links.now) nodes lanes hired workers first made.square.1 many made.joined made.fresh made.faultless c.in_ok-hired.ensures as_many
     (λ p old new before there.
-    each2_get (Worked g.L.Out.OutLane.pushed g.L.Out.OutLane.faults g.L.Out.OutLane.vain g.L.Out.OutLane.same g.L.In.InLane.popped g.L.In.InLane.faults g.L.In.InLane.vain g.L.In.InLane.same c.args.looks)
+    each2_get (Worked g.L.Out.OutLane g.L.In.InLane c.args.looks)
     hired workers p old new c.in_ok-workers.ensures before there)

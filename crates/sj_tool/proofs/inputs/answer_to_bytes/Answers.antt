@@ -11,7 +11,7 @@ use Rattle.sj_lang.specs.Limits.{file_limit}
 
 pub returns-in_ok-answer-in-Replay : goal.returns-in_ok-answer-in-Replay
 returns-in_ok-answer-in-Replay g c =
-    let links : LinkUseAt = link_use g.L.Links.tells g.L.Links.faults g.L.Links.sent g.L.Links.got g.L.Links.vain_out g.L.Links.vain_in c.args.links.now c.answer_to_text.new.links in
+    let links : LinkUseAt = link_use g.L.Links c.args.links.now c.answer_to_text.new.links in
     let bytes = c.args.bytes.now in
     let text = c.in-Some.text.now in
     let log : LogAt = log_at c.in-Some.version c.in-Some.log.now in
@@ -29,7 +29,7 @@ returns-then-text-gt-MAX_FILE g c =
 
 pub returns-in_ok-answer-in-Talk : goal.returns-in_ok-answer-in-Talk
 returns-in_ok-answer-in-Talk g c =
-    let links : LinkUseAt = link_use g.L.Links.tells g.L.Links.faults g.L.Links.sent g.L.Links.got g.L.Links.vain_out g.L.Links.vain_in c.args.links.now c.answer_to_text-in-Talk.new.links in
+    let links : LinkUseAt = link_use g.L.Links c.args.links.now c.answer_to_text-in-Talk.new.links in
     let bytes = c.args.bytes.now in
     let text = c.in-Some-parted_talk.text.now in
     let log : LogAt = log_at 1 c.in-Some-parted_talk.lines.now in
@@ -47,6 +47,6 @@ returns-then-text-gt-MAX_FILE-2 g c =
 
 pub returns-in_ok-answer-in_default : goal.returns-in_ok-answer-in_default
 returns-in_ok-answer-in_default g c =
-    let links : LinkUseAt = link_use g.L.Links.tells g.L.Links.faults g.L.Links.sent g.L.Links.got g.L.Links.vain_out g.L.Links.vain_in c.args.links.now c.answer_to_text-in_default.new.links in
+    let links : LinkUseAt = link_use g.L.Links c.args.links.now c.answer_to_text-in_default.new.links in
     let bytes = c.args.bytes.now in
     answers_bytes links c.args.task bytes bytes no_log (answer_at c.in_ok-answer-in_default.answer) (whole_parts c.args.task bytes c.in_default.not-Replay c.in_default.not-Talk) c.in_ok-answer-in_default.ensures

@@ -9,7 +9,7 @@ use Rattle.sj_tool.proofs.runs.drain_world.Goals as goal
 
 pub returns-in-Err-clause-damaged : goal.returns-in-Err-clause-damaged
 returns-in-Err-clause-damaged g c =
-    damaged_so g.L.Out.OutLane.pushed g.L.Out.OutLane.faults g.L.Out.OutLane.vain g.L.Out.OutLane.same g.L.In.InLane.popped g.L.In.InLane.faults g.L.In.InLane.vain g.L.In.InLane.same g.L.Links.joined
+    damaged_so g.L.Out.OutLane g.L.In.InLane g.L.Links.joined
     (file_of (file_in c.args.accepted.now)) c.looks_in.result (g.L.Links.tells c.args.links.now) c.in-Err.refusal c.in-Err.ensures.damaged
 
 pub returns-clause-has : goal.returns-clause-has

@@ -12,8 +12,7 @@ pub returns-then-clock-ge-CLOCK_END-clause-turns : goal.returns-then-clock-ge-CL
 returns-then-clock-ge-CLOCK_END-clause-turns g c =
     let ol = g.met.O.OutLane g.world.𝓛 g.world.𝓜 g.world.𝓡 (λ s x. x, λ x. x, λ x. x, λ x. x) in
     let il = g.met.I.InLane g.world.𝓛 g.world.𝓜 g.world.𝓡 (λ s x. x, λ x. x, λ x. x, λ x. x) in
-    let k = laws g.O.OutLane.pushed g.O.OutLane.faults g.O.OutLane.vain g.O.OutLane.same g.I.InLane.popped g.I.InLane.faults g.I.InLane.vain g.I.InLane.same
-    ol.same_itself ol.same_later il.same_itself il.same_later in
+    let k = laws g.O.OutLane g.I.InLane ol.same_itself ol.same_later il.same_itself il.same_later in
     λ looks. turned_off k c.args.worker.now _ None stops.ClockEnd looks refl (λ e. cc e) c.requires.open_yet (went_itself k c.args.worker.now _ refl refl) tt (search rules)
 
 pub returns-then-clock-ge-CLOCK_END-clause-rests : goal.returns-then-clock-ge-CLOCK_END-clause-rests
@@ -23,8 +22,7 @@ pub returns-in-Ok-clause-turns : goal.returns-in-Ok-clause-turns
 returns-in-Ok-clause-turns g c =
     let ol = g.met.O.OutLane g.world.𝓛 g.world.𝓜 g.world.𝓡 (λ s x. x, λ x. x, λ x. x, λ x. x) in
     let il = g.met.I.InLane g.world.𝓛 g.world.𝓜 g.world.𝓡 (λ s x. x, λ x. x, λ x. x, λ x. x) in
-    let k = laws g.O.OutLane.pushed g.O.OutLane.faults g.O.OutLane.vain g.O.OutLane.same g.I.InLane.popped g.I.InLane.faults g.I.InLane.vain g.I.InLane.same
-    ol.same_itself ol.same_later il.same_itself il.same_later in
+    let k = laws g.O.OutLane g.I.InLane ol.same_itself ol.same_later il.same_itself il.same_later in
     turned_seen k c.args.worker.now _ c.finished-worker.result refl c.finished-worker.ensures (went_acted k c.args.worker.now _ (act_stepped c.args.worker.now.node c.act.new.self c.in-Ok.ensures.ok) refl)
 
 pub returns-in-Ok-clause-event : goal.returns-in-Ok-clause-event
@@ -34,8 +32,7 @@ pub returns-in-Err-clause-turns : goal.returns-in-Err-clause-turns
 returns-in-Err-clause-turns g c =
     let ol = g.met.O.OutLane g.world.𝓛 g.world.𝓜 g.world.𝓡 (λ s x. x, λ x. x, λ x. x, λ x. x) in
     let il = g.met.I.InLane g.world.𝓛 g.world.𝓜 g.world.𝓡 (λ s x. x, λ x. x, λ x. x, λ x. x) in
-    let k = laws g.O.OutLane.pushed g.O.OutLane.faults g.O.OutLane.vain g.O.OutLane.same g.I.InLane.popped g.I.InLane.faults g.I.InLane.vain g.I.InLane.same
-    ol.same_itself ol.same_later il.same_itself il.same_later in
+    let k = laws g.O.OutLane g.I.InLane ol.same_itself ol.same_later il.same_itself il.same_later in
     act_refused k c.args.worker.now _ c.in-Err.halt c.refused-worker.result c.requires c.in-Err.ensures.err c.in-Err.ensures.unfit
     (λ e. stop_same c.args.worker.now.node c.act.new.self c.in-Err.ensures.err.node ∙ free_of c.args.worker.now.node c.in-Err.halt c.in-Err.ensures.ended.1 c.in-Err.ensures.at_limit.1 c.in-Err.ensures.waits.1 e)
     c.refused-worker.ensures refl refl

@@ -14,16 +14,14 @@ pub returns-then-clock-ge-CLOCK_END-clause-turns : goal.returns-then-clock-ge-CL
 returns-then-clock-ge-CLOCK_END-clause-turns g c =
     let ol = g.met.O.OutLane g.world.𝓛 g.world.𝓜 g.world.𝓡 (λ s x. x, λ x. x, λ x. x, λ x. x) in
     let il = g.met.I.InLane g.world.𝓛 g.world.𝓜 g.world.𝓡 (λ s x. x, λ x. x, λ x. x, λ x. x) in
-    let k = laws g.O.OutLane.pushed g.O.OutLane.faults g.O.OutLane.vain g.O.OutLane.same g.I.InLane.popped g.I.InLane.faults g.I.InLane.vain g.I.InLane.same
-    ol.same_itself ol.same_later il.same_itself il.same_later in
+    let k = laws g.O.OutLane g.I.InLane ol.same_itself ol.same_later il.same_itself il.same_later in
     λ looks. turned_off k c.args.worker.now _ None stops.ClockEnd looks refl (λ e. cc e) c.requires.goes.open_yet (went_itself k c.args.worker.now _ refl refl) tt (search rules)
 
 pub returns-then-from-len-clause-turns : goal.returns-then-from-len-clause-turns
 returns-then-from-len-clause-turns g c =
     let ol = g.met.O.OutLane g.world.𝓛 g.world.𝓜 g.world.𝓡 (λ s x. x, λ x. x, λ x. x, λ x. x) in
     let il = g.met.I.InLane g.world.𝓛 g.world.𝓜 g.world.𝓡 (λ s x. x, λ x. x, λ x. x, λ x. x) in
-    let k = laws g.O.OutLane.pushed g.O.OutLane.faults g.O.OutLane.vain g.O.OutLane.same g.I.InLane.popped g.I.InLane.faults g.I.InLane.vain g.I.InLane.same
-    ol.same_itself ol.same_later il.same_itself il.same_later in
+    let k = laws g.O.OutLane g.I.InLane ol.same_itself ol.same_later il.same_itself il.same_later in
     turned_on k c.args.worker.now c.args.worker.now (went_itself k c.args.worker.now c.args.worker.now refl refl) c.requires.goes.stop c.requires.goes.open_yet
 
 pub returns-then-from-len-clause-vain : goal.returns-then-from-len-clause-vain
@@ -33,8 +31,7 @@ pub returns-in-Ok-None-clause-turns : goal.returns-in-Ok-None-clause-turns
 returns-in-Ok-None-clause-turns g c =
     let ol = g.met.O.OutLane g.world.𝓛 g.world.𝓜 g.world.𝓡 (λ s x. x, λ x. x, λ x. x, λ x. x) in
     let il = g.met.I.InLane g.world.𝓛 g.world.𝓜 g.world.𝓡 (λ s x. x, λ x. x, λ x. x, λ x. x) in
-    let k = laws g.O.OutLane.pushed g.O.OutLane.faults g.O.OutLane.vain g.O.OutLane.same g.I.InLane.popped g.I.InLane.faults g.I.InLane.vain g.I.InLane.same
-    ol.same_itself ol.same_later il.same_itself il.same_later in
+    let k = laws g.O.OutLane g.I.InLane ol.same_itself ol.same_later il.same_itself il.same_later in
     let w = c.args.worker.now in
     let e : c.from-2.result ≡ c.args.from = search rules in
     let at = slice_get_read w.lanes.ins.items (length w.lanes.ins.items) c.from-2.result c.index_mut-lane.result.now refl (search rules) c.index_mut-lane.ensures.value in
@@ -42,27 +39,25 @@ returns-in-Ok-None-clause-turns g c =
       same = c.pop.ensures.link;
       told = rw c.in-Ok-None.field-0-is at c.in-Ok-None.ensures.told;
       faults = c.pop.ensures.faults.0;
-      vain = rw c.pop.ensures.vain (pop_stood (k.in_vain c.index_mut-lane.result.now) c.pop.result);
+      vain = rw c.pop.ensures.vain (pop_stood (k.inward.vain c.index_mut-lane.result.now) c.pop.result);
     }) (rw e c.requires.party) (search rules)) c.requires.goes.stop c.requires.goes.open_yet
 
 pub returns-in-Ok-None-clause-vain : goal.returns-in-Ok-None-clause-vain
 returns-in-Ok-None-clause-vain g c = λ h none.
     let ol = g.met.O.OutLane g.world.𝓛 g.world.𝓜 g.world.𝓡 (λ s x. x, λ x. x, λ x. x, λ x. x) in
     let il = g.met.I.InLane g.world.𝓛 g.world.𝓜 g.world.𝓡 (λ s x. x, λ x. x, λ x. x, λ x. x) in
-    let k = laws g.O.OutLane.pushed g.O.OutLane.faults g.O.OutLane.vain g.O.OutLane.same g.I.InLane.popped g.I.InLane.faults g.I.InLane.vain g.I.InLane.same
-    ol.same_itself ol.same_later il.same_itself il.same_later in
+    let k = laws g.O.OutLane g.I.InLane ol.same_itself ol.same_later il.same_itself il.same_later in
     let w = c.args.worker.now in
     let e : c.from-2.result ≡ c.args.from = search rules in
     let at = slice_get_read w.lanes.ins.items (length w.lanes.ins.items) c.from-2.result c.index_mut-lane.result.now refl (search rules) c.index_mut-lane.ensures.value in
-    subst (λ n. OnLane k.in_vain (RoseBy 1) (slice_get w.lanes.ins.items n) (slice_get (set w.lanes.ins.items c.from-2.result c.pop.new.self) n)) e
-    (on_at k.in_vain (RoseBy 1) w.lanes.ins.items c.from-2.result c.index_mut-lane.result.now c.pop.new.self at (rose_raised _ _ (rw c.in-Ok-None.field-0-is at c.in-Ok-None.ensures.vain)))
+    subst (λ n. OnLane k.inward.vain (RoseBy 1) (slice_get w.lanes.ins.items n) (slice_get (set w.lanes.ins.items c.from-2.result c.pop.new.self) n)) e
+    (on_at k.inward.vain (RoseBy 1) w.lanes.ins.items c.from-2.result c.index_mut-lane.result.now c.pop.new.self at (rose_raised _ _ (rw c.in-Ok-None.field-0-is at c.in-Ok-None.ensures.vain)))
 
 pub returns-in-Ok-Some-clause-turns : goal.returns-in-Ok-Some-clause-turns
 returns-in-Ok-Some-clause-turns g c =
     let ol = g.met.O.OutLane g.world.𝓛 g.world.𝓜 g.world.𝓡 (λ s x. x, λ x. x, λ x. x, λ x. x) in
     let il = g.met.I.InLane g.world.𝓛 g.world.𝓜 g.world.𝓡 (λ s x. x, λ x. x, λ x. x, λ x. x) in
-    let k = laws g.O.OutLane.pushed g.O.OutLane.faults g.O.OutLane.vain g.O.OutLane.same g.I.InLane.popped g.I.InLane.faults g.I.InLane.vain g.I.InLane.same
-    ol.same_itself ol.same_later il.same_itself il.same_later in
+    let k = laws g.O.OutLane g.I.InLane ol.same_itself ol.same_later il.same_itself il.same_later in
     let w = c.args.worker.now in
     let e : c.from-2.result ≡ c.args.from = search rules in
     let at : slice_get w.lanes.ins.items c.args.from ≡ Some c.index_mut-lane.result.now =
@@ -72,7 +67,7 @@ returns-in-Ok-Some-clause-turns g c =
       same = c.pop.ensures.link;
       told = rw c.in-Ok-Some.field-0-is at c.in-Ok-Some.ensures.told;
       faults = c.pop.ensures.faults.0;
-      vain = rw c.pop.ensures.vain (pop_stood (k.in_vain c.index_mut-lane.result.now) c.pop.result);
+      vain = rw c.pop.ensures.vain (pop_stood (k.inward.vain c.index_mut-lane.result.now) c.pop.result);
     }) c.requires.party (search rules)
 
 pub returns-in-Ok-Some-clause-event : goal.returns-in-Ok-Some-clause-event
@@ -82,8 +77,7 @@ pub returns-in-Err-Fault-clause-turns : goal.returns-in-Err-Fault-clause-turns
 returns-in-Err-Fault-clause-turns g c =
     let ol = g.met.O.OutLane g.world.𝓛 g.world.𝓜 g.world.𝓡 (λ s x. x, λ x. x, λ x. x, λ x. x) in
     let il = g.met.I.InLane g.world.𝓛 g.world.𝓜 g.world.𝓡 (λ s x. x, λ x. x, λ x. x, λ x. x) in
-    let k = laws g.O.OutLane.pushed g.O.OutLane.faults g.O.OutLane.vain g.O.OutLane.same g.I.InLane.popped g.I.InLane.faults g.I.InLane.vain g.I.InLane.same
-    ol.same_itself ol.same_later il.same_itself il.same_later in
+    let k = laws g.O.OutLane g.I.InLane ol.same_itself ol.same_later il.same_itself il.same_later in
     let w = c.args.worker.now in
     let e : c.from-2.result ≡ c.args.from = search rules in
     let at = slice_get_read w.lanes.ins.items (length w.lanes.ins.items) c.from-2.result c.index_mut-lane.result.now refl (search rules) c.index_mut-lane.ensures.value in
@@ -92,15 +86,14 @@ returns-in-Err-Fault-clause-turns g c =
       same = c.pop.ensures.link;
       told = c.in-Err-Fault.ensures.told;
       faults = c.pop.ensures.faults.0;
-      vain = rw c.pop.ensures.vain (pop_stood (k.in_vain c.index_mut-lane.result.now) c.pop.result);
+      vain = rw c.pop.ensures.vain (pop_stood (k.inward.vain c.index_mut-lane.result.now) c.pop.result);
     }) (rw e c.requires.party) (search rules)) refl refl at refl (rw c.in-Err-Fault.field-0-is at c.in-Err-Fault.ensures.faults).1
 
 pub returns-in-Err-NoMemory-clause-turns : goal.returns-in-Err-NoMemory-clause-turns
 returns-in-Err-NoMemory-clause-turns g c =
     let ol = g.met.O.OutLane g.world.𝓛 g.world.𝓜 g.world.𝓡 (λ s x. x, λ x. x, λ x. x, λ x. x) in
     let il = g.met.I.InLane g.world.𝓛 g.world.𝓜 g.world.𝓡 (λ s x. x, λ x. x, λ x. x, λ x. x) in
-    let k = laws g.O.OutLane.pushed g.O.OutLane.faults g.O.OutLane.vain g.O.OutLane.same g.I.InLane.popped g.I.InLane.faults g.I.InLane.vain g.I.InLane.same
-    ol.same_itself ol.same_later il.same_itself il.same_later in
+    let k = laws g.O.OutLane g.I.InLane ol.same_itself ol.same_later il.same_itself il.same_later in
     let w = c.args.worker.now in
     let e : c.from-2.result ≡ c.args.from = search rules in
     let at = slice_get_read w.lanes.ins.items (length w.lanes.ins.items) c.from-2.result c.index_mut-lane.result.now refl (search rules) c.index_mut-lane.ensures.value in
@@ -109,5 +102,5 @@ returns-in-Err-NoMemory-clause-turns g c =
       same = c.pop.ensures.link;
       told = c.in-Err-NoMemory.ensures.told;
       faults = c.pop.ensures.faults.0;
-      vain = rw c.pop.ensures.vain (pop_stood (k.in_vain c.index_mut-lane.result.now) c.pop.result);
+      vain = rw c.pop.ensures.vain (pop_stood (k.inward.vain c.index_mut-lane.result.now) c.pop.result);
     }) (rw e c.requires.party) (search rules)) tt tt

@@ -7,16 +7,14 @@ pub loop-to-init : goal.loop-to-init
 loop-to-init g c =
     let ol = g.met.O.OutLane g.world.𝓛 g.world.𝓜 g.world.𝓡 (λ s x. x, λ x. x, λ x. x, λ x. x) in
     let il = g.met.I.InLane g.world.𝓛 g.world.𝓜 g.world.𝓡 (λ s x. x, λ x. x, λ x. x, λ x. x) in
-    let k = laws g.O.OutLane.pushed g.O.OutLane.faults g.O.OutLane.vain g.O.OutLane.same g.I.InLane.popped g.I.InLane.faults g.I.InLane.vain g.I.InLane.same
-    ol.same_itself ol.same_later il.same_itself il.same_later in
+    let k = laws g.O.OutLane g.I.InLane ol.same_itself ol.same_later il.same_itself il.same_later in
     pushed_none k c.args.worker.now c.requires
 
 pub loop-to-preserved : goal.loop-to-preserved
 loop-to-preserved g c =
     let ol = g.met.O.OutLane g.world.𝓛 g.world.𝓜 g.world.𝓡 (λ s x. x, λ x. x, λ x. x, λ x. x) in
     let il = g.met.I.InLane g.world.𝓛 g.world.𝓜 g.world.𝓡 (λ s x. x, λ x. x, λ x. x, λ x. x) in
-    let k = laws g.O.OutLane.pushed g.O.OutLane.faults g.O.OutLane.vain g.O.OutLane.same g.I.InLane.popped g.I.InLane.faults g.I.InLane.vain g.I.InLane.same
-    ol.same_itself ol.same_later il.same_itself il.same_later in
+    let k = laws g.O.OutLane g.I.InLane ol.same_itself ol.same_later il.same_itself il.same_later in
     let none = none_if c.push_to.new.worker.answer c.is_some.result c.is_some.ensures c.if-is_some.false in
     pushed_more k c.args.worker.now c.loop-to.worker c.push_to.new.worker c.loop-to.to c.loop-to.invariant c.push_to.ensures.turns c.push_to.ensures.rests none c.push_to.ensures.looks (c.push_to.ensures.tried none)
 
@@ -24,14 +22,12 @@ pub returns-then-is_some-clause-turns : goal.returns-then-is_some-clause-turns
 returns-then-is_some-clause-turns g c =
     let ol = g.met.O.OutLane g.world.𝓛 g.world.𝓜 g.world.𝓡 (λ s x. x, λ x. x, λ x. x, λ x. x) in
     let il = g.met.I.InLane g.world.𝓛 g.world.𝓜 g.world.𝓡 (λ s x. x, λ x. x, λ x. x, λ x. x) in
-    let k = laws g.O.OutLane.pushed g.O.OutLane.faults g.O.OutLane.vain g.O.OutLane.same g.I.InLane.popped g.I.InLane.faults g.I.InLane.vain g.I.InLane.same
-    ol.same_itself ol.same_later il.same_itself il.same_later in
+    let k = laws g.O.OutLane g.I.InLane ol.same_itself ol.same_later il.same_itself il.same_later in
     push_turns k c.args.worker.now c.loop-to.worker c.push_to.new.worker c.loop-to.invariant.pushing c.push_to.ensures.turns c.push_to.ensures.rests
 
 pub returns-then-is_some-clause-rests : goal.returns-then-is_some-clause-rests
 returns-then-is_some-clause-rests g c =
     let ol = g.met.O.OutLane g.world.𝓛 g.world.𝓜 g.world.𝓡 (λ s x. x, λ x. x, λ x. x, λ x. x) in
     let il = g.met.I.InLane g.world.𝓛 g.world.𝓜 g.world.𝓡 (λ s x. x, λ x. x, λ x. x, λ x. x) in
-    let k = laws g.O.OutLane.pushed g.O.OutLane.faults g.O.OutLane.vain g.O.OutLane.same g.I.InLane.popped g.I.InLane.faults g.I.InLane.vain g.I.InLane.same
-    ol.same_itself ol.same_later il.same_itself il.same_later in
+    let k = laws g.O.OutLane g.I.InLane ol.same_itself ol.same_later il.same_itself il.same_later in
     push_rests k c.args.worker.now c.loop-to.worker c.push_to.new.worker c.loop-to.invariant.pushing c.push_to.ensures.turns c.push_to.ensures.rests

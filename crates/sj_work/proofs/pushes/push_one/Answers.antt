@@ -18,8 +18,7 @@ pub returns-then-from-len-clause-turns : goal.returns-then-from-len-clause-turns
 returns-then-from-len-clause-turns g c =
     let ol = g.met.O.OutLane g.world.𝓛 g.world.𝓜 g.world.𝓡 (λ s x. x, λ x. x, λ x. x, λ x. x) in
     let il = g.met.I.InLane g.world.𝓛 g.world.𝓜 g.world.𝓡 (λ s x. x, λ x. x, λ x. x, λ x. x) in
-    let k = laws g.O.OutLane.pushed g.O.OutLane.faults g.O.OutLane.vain g.O.OutLane.same g.I.InLane.popped g.I.InLane.faults g.I.InLane.vain g.I.InLane.same
-    ol.same_itself ol.same_later il.same_itself il.same_later in
+    let k = laws g.O.OutLane g.I.InLane ol.same_itself ol.same_later il.same_itself il.same_later in
     turned_on k c.args.worker.now c.args.worker.now (went_itself k c.args.worker.now c.args.worker.now refl refl) c.requires.stop c.requires.open_yet
 
 pub returns-then-from-len-clause-rests : goal.returns-then-from-len-clause-rests
@@ -32,8 +31,7 @@ pub returns-in_default-clause-turns : goal.returns-in_default-clause-turns
 returns-in_default-clause-turns g c =
     let ol = g.met.O.OutLane g.world.𝓛 g.world.𝓜 g.world.𝓡 (λ s x. x, λ x. x, λ x. x, λ x. x) in
     let il = g.met.I.InLane g.world.𝓛 g.world.𝓜 g.world.𝓡 (λ s x. x, λ x. x, λ x. x, λ x. x) in
-    let k = laws g.O.OutLane.pushed g.O.OutLane.faults g.O.OutLane.vain g.O.OutLane.same g.I.InLane.popped g.I.InLane.faults g.I.InLane.vain g.I.InLane.same
-    ol.same_itself ol.same_later il.same_itself il.same_later in
+    let k = laws g.O.OutLane g.I.InLane ol.same_itself ol.same_later il.same_itself il.same_later in
     let a = c.args.worker.now in
     let same = same_waiting a.node c.take_out.new.self c.args.to c.in_default.ensures.none c.in_default.ensures.empty c.take_out.ensures.others in
     turned_on k a _ (went_empty k a _ c.take_out.ensures.rest same refl) c.requires.stop
@@ -51,8 +49,7 @@ pub returns-in-Ok-clause-turns : goal.returns-in-Ok-clause-turns
 returns-in-Ok-clause-turns g c =
     let ol = g.met.O.OutLane g.world.𝓛 g.world.𝓜 g.world.𝓡 (λ s x. x, λ x. x, λ x. x, λ x. x) in
     let il = g.met.I.InLane g.world.𝓛 g.world.𝓜 g.world.𝓡 (λ s x. x, λ x. x, λ x. x, λ x. x) in
-    let k = laws g.O.OutLane.pushed g.O.OutLane.faults g.O.OutLane.vain g.O.OutLane.same g.I.InLane.popped g.I.InLane.faults g.I.InLane.vain g.I.InLane.same
-    ol.same_itself ol.same_later il.same_itself il.same_later in
+    let k = laws g.O.OutLane g.I.InLane ol.same_itself ol.same_later il.same_itself il.same_later in
     let w = c.args.worker.now in
     let e : c.from-2.result ≡ c.args.to = search rules in
     let at : slice_get w.lanes.outs.items c.args.to ≡ Some c.index_mut.result.now =
@@ -63,7 +60,7 @@ returns-in-Ok-clause-turns g c =
       same = c.push.ensures.link;
       told = c.in-Ok.ensures.told;
       faults = c.push.ensures.faults.0;
-      vain = rw c.push.ensures.vain (push_stood (k.out_vain c.index_mut.result.now) c.push.result);
+      vain = rw c.push.ensures.vain (push_stood (k.outward.vain c.index_mut.result.now) c.push.result);
     }))
 
 pub returns-in-Ok-clause-rests : goal.returns-in-Ok-clause-rests
@@ -74,8 +71,7 @@ pub returns-in-Err-clause-turns : goal.returns-in-Err-clause-turns
 returns-in-Err-clause-turns g c =
     let ol = g.met.O.OutLane g.world.𝓛 g.world.𝓜 g.world.𝓡 (λ s x. x, λ x. x, λ x. x, λ x. x) in
     let il = g.met.I.InLane g.world.𝓛 g.world.𝓜 g.world.𝓡 (λ s x. x, λ x. x, λ x. x, λ x. x) in
-    let k = laws g.O.OutLane.pushed g.O.OutLane.faults g.O.OutLane.vain g.O.OutLane.same g.I.InLane.popped g.I.InLane.faults g.I.InLane.vain g.I.InLane.same
-    ol.same_itself ol.same_later il.same_itself il.same_later in
+    let k = laws g.O.OutLane g.I.InLane ol.same_itself ol.same_later il.same_itself il.same_later in
     let w = c.args.worker.now in
     let e : c.from-2.result ≡ c.args.to = search rules in
     let at : slice_get w.lanes.outs.items c.args.to ≡ Some c.index_mut.result.now =
@@ -89,7 +85,7 @@ returns-in-Err-clause-turns g c =
       same = c.push.ensures.link;
       told = c.in-Err.ensures.told;
       faults = c.push.ensures.faults.0;
-      vain = rw c.push.ensures.vain (push_stood (k.out_vain c.index_mut.result.now) c.push.result);
+      vain = rw c.push.ensures.vain (push_stood (k.outward.vain c.index_mut.result.now) c.push.result);
     }))
     c.refused-worker.ensures c.in-Err.ensures.faults.1 at (ap (λ n. set w.lanes.outs.items n c.push.new.self) e)
 
@@ -102,11 +98,10 @@ pub returns-in-Err-clause-tried : goal.returns-in-Err-clause-tried
 returns-in-Err-clause-tried g c = λ h none waits.
     let ol = g.met.O.OutLane g.world.𝓛 g.world.𝓜 g.world.𝓡 (λ s x. x, λ x. x, λ x. x, λ x. x) in
     let il = g.met.I.InLane g.world.𝓛 g.world.𝓜 g.world.𝓡 (λ s x. x, λ x. x, λ x. x, λ x. x) in
-    let k = laws g.O.OutLane.pushed g.O.OutLane.faults g.O.OutLane.vain g.O.OutLane.same g.I.InLane.popped g.I.InLane.faults g.I.InLane.vain g.I.InLane.same
-    ol.same_itself ol.same_later il.same_itself il.same_later in
+    let k = laws g.O.OutLane g.I.InLane ol.same_itself ol.same_later il.same_itself il.same_later in
     let w = c.args.worker.now in
     let e : c.from-2.result ≡ c.args.to = search rules in
     let at = slice_get_read w.lanes.outs.items (length w.lanes.outs.items) c.from-2.result c.index_mut.result.now refl (search rules) c.index_mut.ensures.value in
-    subst (λ n. OnLane k.out_vain (RoseBy 1) (slice_get w.lanes.outs.items n) (slice_get (set w.lanes.outs.items c.from-2.result c.push.new.self) n)) e
-    (on_at k.out_vain (RoseBy 1) w.lanes.outs.items c.from-2.result c.index_mut.result.now c.push.new.self at
+    subst (λ n. OnLane k.outward.vain (RoseBy 1) (slice_get w.lanes.outs.items n) (slice_get (set w.lanes.outs.items c.from-2.result c.push.new.self) n)) e
+    (on_at k.outward.vain (RoseBy 1) w.lanes.outs.items c.from-2.result c.index_mut.result.now c.push.new.self at
     (full_vain _ _ c.in-Err.frame c.in-Err.refusal c.refused-worker.result c.refused-worker.ensures none c.in-Err.ensures.vain))

@@ -6,38 +6,33 @@ pub loop-init : goal.loop-init
 loop-init g c =
     let ol = g.met.O.OutLane g.world.𝓛 g.world.𝓜 g.world.𝓡 (λ s x. x, λ x. x, λ x. x, λ x. x) in
     let il = g.met.I.InLane g.world.𝓛 g.world.𝓜 g.world.𝓡 (λ s x. x, λ x. x, λ x. x, λ x. x) in
-    let k = laws g.O.OutLane.pushed g.O.OutLane.faults g.O.OutLane.vain g.O.OutLane.same g.I.InLane.popped g.I.InLane.faults g.I.InLane.vain g.I.InLane.same
-    ol.same_itself ol.same_later il.same_itself il.same_later in
+    let k = laws g.O.OutLane g.I.InLane ol.same_itself ol.same_later il.same_itself il.same_later in
     pushing_none k c.args.worker.now c.requires
 
 pub loop-preserved : goal.loop-preserved
 loop-preserved g c =
     let ol = g.met.O.OutLane g.world.𝓛 g.world.𝓜 g.world.𝓡 (λ s x. x, λ x. x, λ x. x, λ x. x) in
     let il = g.met.I.InLane g.world.𝓛 g.world.𝓜 g.world.𝓡 (λ s x. x, λ x. x, λ x. x, λ x. x) in
-    let k = laws g.O.OutLane.pushed g.O.OutLane.faults g.O.OutLane.vain g.O.OutLane.same g.I.InLane.popped g.I.InLane.faults g.I.InLane.vain g.I.InLane.same
-    ol.same_itself ol.same_later il.same_itself il.same_later in
+    let k = laws g.O.OutLane g.I.InLane ol.same_itself ol.same_later il.same_itself il.same_later in
     push_more k c.args.worker.now c.loop.worker c.push_one.new.worker c.loop.invariant c.push_one.ensures.turns c.push_one.ensures.rests (c.push_one.ensures.goes_on c.loop-test.true) c.push_one.ensures.looks
 
 pub returns-clause-turns : goal.returns-clause-turns
 returns-clause-turns g c =
     let ol = g.met.O.OutLane g.world.𝓛 g.world.𝓜 g.world.𝓡 (λ s x. x, λ x. x, λ x. x, λ x. x) in
     let il = g.met.I.InLane g.world.𝓛 g.world.𝓜 g.world.𝓡 (λ s x. x, λ x. x, λ x. x, λ x. x) in
-    let k = laws g.O.OutLane.pushed g.O.OutLane.faults g.O.OutLane.vain g.O.OutLane.same g.I.InLane.popped g.I.InLane.faults g.I.InLane.vain g.I.InLane.same
-    ol.same_itself ol.same_later il.same_itself il.same_later in
+    let k = laws g.O.OutLane g.I.InLane ol.same_itself ol.same_later il.same_itself il.same_later in
     push_turns k c.args.worker.now c.loop.worker c.push_one.new.worker c.loop.invariant c.push_one.ensures.turns c.push_one.ensures.rests
 
 pub returns-clause-rests : goal.returns-clause-rests
 returns-clause-rests g c =
     let ol = g.met.O.OutLane g.world.𝓛 g.world.𝓜 g.world.𝓡 (λ s x. x, λ x. x, λ x. x, λ x. x) in
     let il = g.met.I.InLane g.world.𝓛 g.world.𝓜 g.world.𝓡 (λ s x. x, λ x. x, λ x. x, λ x. x) in
-    let k = laws g.O.OutLane.pushed g.O.OutLane.faults g.O.OutLane.vain g.O.OutLane.same g.I.InLane.popped g.I.InLane.faults g.I.InLane.vain g.I.InLane.same
-    ol.same_itself ol.same_later il.same_itself il.same_later in
+    let k = laws g.O.OutLane g.I.InLane ol.same_itself ol.same_later il.same_itself il.same_later in
     push_rests k c.args.worker.now c.loop.worker c.push_one.new.worker c.loop.invariant c.push_one.ensures.turns c.push_one.ensures.rests
 
 pub returns-clause-tried : goal.returns-clause-tried
 returns-clause-tried g c = λ none.
     let ol = g.met.O.OutLane g.world.𝓛 g.world.𝓜 g.world.𝓡 (λ s x. x, λ x. x, λ x. x, λ x. x) in
     let il = g.met.I.InLane g.world.𝓛 g.world.𝓜 g.world.𝓡 (λ s x. x, λ x. x, λ x. x, λ x. x) in
-    let k = laws g.O.OutLane.pushed g.O.OutLane.faults g.O.OutLane.vain g.O.OutLane.same g.I.InLane.popped g.I.InLane.faults g.I.InLane.vain g.I.InLane.same
-    ol.same_itself ol.same_later il.same_itself il.same_later in
+    let k = laws g.O.OutLane g.I.InLane ol.same_itself ol.same_later il.same_itself il.same_later in
     push_tried k c.args.worker.now c.loop.worker c.push_one.new.worker c.loop.invariant c.push_one.ensures.turns c.push_one.ensures.rests c.args.to (c.push_one.ensures.tried c.loop-test.false none)

@@ -9,8 +9,7 @@ abbrev pub invariant-loop : goal.invariant-loop
 invariant-loop g l =
     let ol = g.met.O.OutLane g.world.𝓛 g.world.𝓜 g.world.𝓡 (λ s x. x, λ x. x, λ x. x, λ x. x) in
     let il = g.met.I.InLane g.world.𝓛 g.world.𝓜 g.world.𝓡 (λ s x. x, λ x. x, λ x. x, λ x. x) in
-    let k = laws g.O.OutLane.pushed g.O.OutLane.faults g.O.OutLane.vain g.O.OutLane.same g.I.InLane.popped g.I.InLane.faults g.I.InLane.vain g.I.InLane.same
-    ol.same_itself ol.same_later il.same_itself il.same_later in
+    let k = laws g.O.OutLane g.I.InLane ol.same_itself ol.same_later il.same_itself il.same_later in
     Pushing k l.initial.worker l.worker
 
 abbrev pub decreases-loop : goal.decreases-loop

@@ -10,16 +10,14 @@ pub push_all-requires-after_bounds : goal.push_all-requires-after_bounds
 push_all-requires-after_bounds g c κs within =
     let ol = g.met.O.OutLane g.world.𝓛 g.world.𝓜 g.world.𝓡 (λ s x. x, λ x. x, λ x. x, λ x. x) in
     let il = g.met.I.InLane g.world.𝓛 g.world.𝓜 g.world.𝓡 (λ s x. x, λ x. x, λ x. x, λ x. x) in
-    let k = laws g.O.OutLane.pushed g.O.OutLane.faults g.O.OutLane.vain g.O.OutLane.same g.I.InLane.popped g.I.InLane.faults g.I.InLane.vain g.I.InLane.same
-    ol.same_itself ol.same_later il.same_itself il.same_later in
+    let k = laws g.O.OutLane g.I.InLane ol.same_itself ol.same_later il.same_itself il.same_later in
     going k 0 c.args.worker.now c.look_all-came.new.worker (c.look_all-came.ensures.turns 0) (none_if c.look_all-came.new.worker.answer c.is_some.result c.is_some.ensures c.if-is_some.false)
 
 pub returns-then-is_some-2-clause-turns : goal.returns-then-is_some-2-clause-turns
 returns-then-is_some-2-clause-turns g c = λ looks.
     let ol = g.met.O.OutLane g.world.𝓛 g.world.𝓜 g.world.𝓡 (λ s x. x, λ x. x, λ x. x, λ x. x) in
     let il = g.met.I.InLane g.world.𝓛 g.world.𝓜 g.world.𝓡 (λ s x. x, λ x. x, λ x. x, λ x. x) in
-    let k = laws g.O.OutLane.pushed g.O.OutLane.faults g.O.OutLane.vain g.O.OutLane.same g.I.InLane.popped g.I.InLane.faults g.I.InLane.vain g.I.InLane.same
-    ol.same_itself ol.same_later il.same_itself il.same_later in
+    let k = laws g.O.OutLane g.I.InLane ol.same_itself ol.same_later il.same_itself il.same_later in
     let none = none_if c.look_all-came.new.worker.answer c.is_some.result c.is_some.ensures c.if-is_some.false in
     turned_behind k looks c.args.worker.now c.look_all-came.new.worker c.push_all.new.worker (went_of k c.args.worker.now c.look_all-came.new.worker (c.look_all-came.ensures.turns 0) none) (c.push_all.ensures.turns looks)
 
@@ -27,16 +25,14 @@ pub act-requires-after_bounds : goal.act-requires-after_bounds
 act-requires-after_bounds g c κs within =
     let ol = g.met.O.OutLane g.world.𝓛 g.world.𝓜 g.world.𝓡 (λ s x. x, λ x. x, λ x. x, λ x. x) in
     let il = g.met.I.InLane g.world.𝓛 g.world.𝓜 g.world.𝓡 (λ s x. x, λ x. x, λ x. x, λ x. x) in
-    let k = laws g.O.OutLane.pushed g.O.OutLane.faults g.O.OutLane.vain g.O.OutLane.same g.I.InLane.popped g.I.InLane.faults g.I.InLane.vain g.I.InLane.same
-    ol.same_itself ol.same_later il.same_itself il.same_later in
+    let k = laws g.O.OutLane g.I.InLane ol.same_itself ol.same_later il.same_itself il.same_later in
     going k 0 c.look_all-came.new.worker c.push_all.new.worker (c.push_all.ensures.turns 0) (none_if c.push_all.new.worker.answer c.is_some-2.result c.is_some-2.ensures c.if-is_some-2.false)
 
 pub returns-then-act-clause-turns : goal.returns-then-act-clause-turns
 returns-then-act-clause-turns g c = λ looks.
     let ol = g.met.O.OutLane g.world.𝓛 g.world.𝓜 g.world.𝓡 (λ s x. x, λ x. x, λ x. x, λ x. x) in
     let il = g.met.I.InLane g.world.𝓛 g.world.𝓜 g.world.𝓡 (λ s x. x, λ x. x, λ x. x, λ x. x) in
-    let k = laws g.O.OutLane.pushed g.O.OutLane.faults g.O.OutLane.vain g.O.OutLane.same g.I.InLane.popped g.I.InLane.faults g.I.InLane.vain g.I.InLane.same
-    ol.same_itself ol.same_later il.same_itself il.same_later in
+    let k = laws g.O.OutLane g.I.InLane ol.same_itself ol.same_later il.same_itself il.same_later in
     let first = none_if c.look_all-came.new.worker.answer c.is_some.result c.is_some.ensures c.if-is_some.false in
     let second = none_if c.push_all.new.worker.answer c.is_some-2.result c.is_some-2.ensures c.if-is_some-2.false in
     turned_behind k looks c.args.worker.now c.push_all.new.worker c.act.new.worker
@@ -48,8 +44,7 @@ pub returns-else-act-clause-turns : goal.returns-else-act-clause-turns
 returns-else-act-clause-turns g c = λ looks.
     let ol = g.met.O.OutLane g.world.𝓛 g.world.𝓜 g.world.𝓡 (λ s x. x, λ x. x, λ x. x, λ x. x) in
     let il = g.met.I.InLane g.world.𝓛 g.world.𝓜 g.world.𝓡 (λ s x. x, λ x. x, λ x. x, λ x. x) in
-    let k = laws g.O.OutLane.pushed g.O.OutLane.faults g.O.OutLane.vain g.O.OutLane.same g.I.InLane.popped g.I.InLane.faults g.I.InLane.vain g.I.InLane.same
-    ol.same_itself ol.same_later il.same_itself il.same_later in
+    let k = laws g.O.OutLane g.I.InLane ol.same_itself ol.same_later il.same_itself il.same_later in
     let first = none_if c.look_all-came.new.worker.answer c.is_some.result c.is_some.ensures c.if-is_some.false in
     let second = none_if c.push_all.new.worker.answer c.is_some-2.result c.is_some-2.ensures c.if-is_some-2.false in
     turned_behind k looks c.args.worker.now c.push_all.new.worker c.act.new.worker
@@ -61,8 +56,7 @@ pub returns-else-act-clause-vain : goal.returns-else-act-clause-vain
 returns-else-act-clause-vain g c = λ h none.
     let ol = g.met.O.OutLane g.world.𝓛 g.world.𝓜 g.world.𝓡 (λ s x. x, λ x. x, λ x. x, λ x. x) in
     let il = g.met.I.InLane g.world.𝓛 g.world.𝓜 g.world.𝓡 (λ s x. x, λ x. x, λ x. x, λ x. x) in
-    let k = laws g.O.OutLane.pushed g.O.OutLane.faults g.O.OutLane.vain g.O.OutLane.same g.I.InLane.popped g.I.InLane.faults g.I.InLane.vain g.I.InLane.same
-    ol.same_itself ol.same_later il.same_itself il.same_later in
+    let k = laws g.O.OutLane g.I.InLane ol.same_itself ol.same_later il.same_itself il.same_later in
     let first = none_if c.look_all-came.new.worker.answer c.is_some.result c.is_some.ensures c.if-is_some.false in
     let second = none_if c.push_all.new.worker.answer c.is_some-2.result c.is_some-2.ensures c.if-is_some-2.false in
     vain_turn k c.args.worker.now c.look_all-came.new.worker c.push_all.new.worker c.act.new.worker

@@ -9,24 +9,21 @@ pub loop-worker-init : goal.loop-worker-init
 loop-worker-init g c =
     let ol = g.met.O.OutLane g.world.𝓛 g.world.𝓜 g.world.𝓡 (λ s x. x, λ x. x, λ x. x, λ x. x) in
     let il = g.met.I.InLane g.world.𝓛 g.world.𝓜 g.world.𝓡 (λ s x. x, λ x. x, λ x. x, λ x. x) in
-    let k = laws g.O.OutLane.pushed g.O.OutLane.faults g.O.OutLane.vain g.O.OutLane.same g.I.InLane.popped g.I.InLane.faults g.I.InLane.vain g.I.InLane.same
-    ol.same_itself ol.same_later il.same_itself il.same_later in
+    let k = laws g.O.OutLane g.I.InLane ol.same_itself ol.same_later il.same_itself il.same_later in
     waited_none k c.args.looks c.args.worker.now c.requires
 
 pub returns-then-event-clause-turned : goal.returns-then-event-clause-turned
 returns-then-event-clause-turned g c =
     let ol = g.met.O.OutLane g.world.𝓛 g.world.𝓜 g.world.𝓡 (λ s x. x, λ x. x, λ x. x, λ x. x) in
     let il = g.met.I.InLane g.world.𝓛 g.world.𝓜 g.world.𝓡 (λ s x. x, λ x. x, λ x. x, λ x. x) in
-    let k = laws g.O.OutLane.pushed g.O.OutLane.faults g.O.OutLane.vain g.O.OutLane.same g.I.InLane.popped g.I.InLane.faults g.I.InLane.vain g.I.InLane.same
-    ol.same_itself ol.same_later il.same_itself il.same_later in
+    let k = laws g.O.OutLane g.I.InLane ol.same_itself ol.same_later il.same_itself il.same_later in
     wait_turns k c.args.looks c.args.worker.now c.loop-worker.worker c.loop-worker.invariant c.turn-event.new.worker c.turn-event.ensures.turns c.args.looks
 
 pub returns-then-not-idle-2-clause-turned : goal.returns-then-not-idle-2-clause-turned
 returns-then-not-idle-2-clause-turned g c =
     let ol = g.met.O.OutLane g.world.𝓛 g.world.𝓜 g.world.𝓡 (λ s x. x, λ x. x, λ x. x, λ x. x) in
     let il = g.met.I.InLane g.world.𝓛 g.world.𝓜 g.world.𝓡 (λ s x. x, λ x. x, λ x. x, λ x. x) in
-    let k = laws g.O.OutLane.pushed g.O.OutLane.faults g.O.OutLane.vain g.O.OutLane.same g.I.InLane.popped g.I.InLane.faults g.I.InLane.vain g.I.InLane.same
-    ol.same_itself ol.same_later il.same_itself il.same_later in
+    let k = laws g.O.OutLane g.I.InLane ol.same_itself ol.same_later il.same_itself il.same_later in
     let none = none_if c.turn-event.new.worker.answer c.is_some-stops.result c.is_some-stops.ensures c.if-stops.false in
     wait_limit k c.args.looks c.args.worker.now c.loop-worker.worker c.loop-worker.invariant c.turn-event.new.worker c.turn-event.ensures.turns none (c.turn-event.ensures.vain c.if-event.false none)
     c.saturating_add-worker.result (λ h. true_not_false (sym (c.idle_now-idle.ensures.1 h) ∙ c.if-not-idle-2.true))
@@ -35,8 +32,7 @@ pub loop-worker-preserved : goal.loop-worker-preserved
 loop-worker-preserved g c =
     let ol = g.met.O.OutLane g.world.𝓛 g.world.𝓜 g.world.𝓡 (λ s x. x, λ x. x, λ x. x, λ x. x) in
     let il = g.met.I.InLane g.world.𝓛 g.world.𝓜 g.world.𝓡 (λ s x. x, λ x. x, λ x. x, λ x. x) in
-    let k = laws g.O.OutLane.pushed g.O.OutLane.faults g.O.OutLane.vain g.O.OutLane.same g.I.InLane.popped g.I.InLane.faults g.I.InLane.vain g.I.InLane.same
-    ol.same_itself ol.same_later il.same_itself il.same_later in
+    let k = laws g.O.OutLane g.I.InLane ol.same_itself ol.same_later il.same_itself il.same_later in
     let none = none_if c.turn-event.new.worker.answer c.is_some-stops.result c.is_some-stops.ensures c.if-stops.false in
     let within : c.args.looks ≤ 4294967295 = search rules in
     let lt : c.loop-worker.worker.looks < c.args.looks = elim c.else-worker-looks-2.branch [
@@ -55,6 +51,5 @@ pub returns-clause-turned : goal.returns-clause-turned
 returns-clause-turned g c =
     let ol = g.met.O.OutLane g.world.𝓛 g.world.𝓜 g.world.𝓡 (λ s x. x, λ x. x, λ x. x, λ x. x) in
     let il = g.met.I.InLane g.world.𝓛 g.world.𝓜 g.world.𝓡 (λ s x. x, λ x. x, λ x. x, λ x. x) in
-    let k = laws g.O.OutLane.pushed g.O.OutLane.faults g.O.OutLane.vain g.O.OutLane.same g.I.InLane.popped g.I.InLane.faults g.I.InLane.vain g.I.InLane.same
-    ol.same_itself ol.same_later il.same_itself il.same_later in
+    let k = laws g.O.OutLane g.I.InLane ol.same_itself ol.same_later il.same_itself il.same_later in
     wait_idle k c.args.looks c.args.worker.now c.loop-worker.worker c.loop-worker.invariant c.if-worker-looks.false (c.idle_now-idle.ensures.0 c.if-not-idle.false)

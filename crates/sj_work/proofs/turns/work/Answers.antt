@@ -10,8 +10,7 @@ pub returns-clause-worked : goal.returns-clause-worked
 returns-clause-worked g c =
     let ol = g.met.O.OutLane g.world.𝓛 g.world.𝓜 g.world.𝓡 (λ s x. x, λ x. x, λ x. x, λ x. x) in
     let il = g.met.I.InLane g.world.𝓛 g.world.𝓜 g.world.𝓡 (λ s x. x, λ x. x, λ x. x, λ x. x) in
-    let k = laws g.O.OutLane.pushed g.O.OutLane.faults g.O.OutLane.vain g.O.OutLane.same g.I.InLane.popped g.I.InLane.faults g.I.InLane.vain g.I.InLane.same
-    ol.same_itself ol.same_later il.same_itself il.same_later in
+    let k = laws g.O.OutLane g.I.InLane ol.same_itself ol.same_later il.same_itself il.same_later in
     let a = c.args.worker.now in
     let b = record a { answer = c.finished-worker.result; looks = 0 } in
     let turned : TurnedBy k c.args.looks a c.if-is_none.worker = elim c.if-is_none.branch [

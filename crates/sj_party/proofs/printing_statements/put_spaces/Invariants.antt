@@ -1,6 +1,0 @@
-use Rattle.std.proofs.Common.{◌≡◌, ◌++◌}
-use Rattle.sj_party.specs.CanonicalCode.{spaces}
-use Rattle.sj_party.proofs.printing_statements.put_spaces.Given as goal
-
-abbrev pub invariant-loop : goal.invariant-loop
-invariant-loop l = l.text.items ≡ l.fn.text.items ++ spaces l.counter
