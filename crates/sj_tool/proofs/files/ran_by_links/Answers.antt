@@ -13,7 +13,7 @@ use Rattle.sj_tool.proofs.files.ran_by_links.Goals as goal
 
 pub returns : goal.returns
 returns g c log =
-    let links : LinkUseAt = link_use g.L.Links c.args.links.now c.ran.new.links in
+    let links : LinkUseAt = link_use g.L.Links c.args.links.now c.run_file.new.links in
     let judged = subst (λ j. IsJudged c.args.file j) c.in-Accepted.is c.in_ok-accepted.ensures in
     let same = ap file_of judged.0 in
     subst (λ (f : FileAt). AnswersFile links c.args.task log f (answer_at c.in_ok-answer-in-Err.answer)) same
