@@ -18,8 +18,8 @@ use Rattle.sj_run.proofs.DamageLemmas.{history_fits, misfit_damage, no_link_faul
 use Rattle.sj_run.proofs.RunLemmas.{all_rising, has_fault, rose_from, told_fits, told_history, told_shown}
 use Rattle.sj_run.proofs.runs.run_parties.Goals as goal
 
-pub joined-requires-clause-rising : goal.joined-requires-clause-rising
-joined-requires-clause-rising g c =
+pub join-requires-clause-rising : goal.join-requires-clause-rising
+join-requires-clause-rising g c =
     λ κs lives.
     subst (λ (ws : List (Worker g.row.L-Out.Denot g.row.L-In.Denot)). AllRising ws) (sym c.deref.ensures.value)
     (all_rising g.L.Out.OutLane g.L.In.InLane g.L.Links.joined

@@ -7,11 +7,11 @@ use Rattle.sj_tool.proofs.DrainedLemmas.{told_runs}
 use Rattle.sj_tool.proofs.ReplayLemmas.{replay_has, unused}
 use Rattle.sj_tool.proofs.replays.replay.Goals as goal
 
-pub told-requires-clause-run : goal.told-requires-clause-run
-told-requires-clause-run c = (c.in_ok-world.ensures.has unused false).run
+pub tell-requires-clause-run : goal.tell-requires-clause-run
+tell-requires-clause-run c = (c.in_ok-world.ensures.has unused false).run
 
-pub told-requires-clause-quiet : goal.told-requires-clause-quiet
-told-requires-clause-quiet c = (c.in_ok-world.ensures.has unused false).quiet
+pub tell-requires-clause-quiet : goal.tell-requires-clause-quiet
+tell-requires-clause-quiet c = (c.in_ok-world.ensures.has unused false).quiet
 
 pub returns-clause-ran : goal.returns-clause-ran
 returns-clause-ran c links =

@@ -5,11 +5,11 @@ use Rattle.sj_tool.specs.LogAt.{no_log}
 use Rattle.sj_tool.proofs.DrainedLemmas.{told_runs}
 use Rattle.sj_tool.proofs.runs.run_file.Goals as goal
 
-pub told-requires-clause-run : goal.told-requires-clause-run
-told-requires-clause-run g c = (c.in_ok-world.ensures.has no_log).run
+pub tell-requires-clause-run : goal.tell-requires-clause-run
+tell-requires-clause-run g c = (c.in_ok-world.ensures.has no_log).run
 
-pub told-requires-clause-quiet : goal.told-requires-clause-quiet
-told-requires-clause-quiet g c = (c.in_ok-world.ensures.has no_log).quiet
+pub tell-requires-clause-quiet : goal.tell-requires-clause-quiet
+tell-requires-clause-quiet g c = (c.in_ok-world.ensures.has no_log).quiet
 
 pub returns-clause-ran : goal.returns-clause-ran
 returns-clause-ran g c log =
