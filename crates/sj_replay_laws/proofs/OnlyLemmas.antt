@@ -1,5 +1,5 @@
 -- Nothing else is told of the replay of a log.
-use Rattle.std.proofs.Common.{◌≡◌, ℕ, List, ◌++◌, Some, inl, inr, subst}
+use Rattle.std.proofs.Common.{◌≡◌, ℕ, true, List, ◌++◌, Some, inl, inr, subst}
 use Rattle.sj_lang.specs.FileAt.{FileAt}
 use Rattle.sj_semantics.specs.declared.Verdict.{Verdict}
 use Rattle.sj_command.specs.declared.tasks.Task.TheVariants as tasks
