@@ -1,6 +1,6 @@
 #!/usr/bin/env python3
 """usage: schedules.py [SEED [FILES [RUNS]]]. Generated files by `run`, held on 1, 2 and 4 processors, with few and with many looks, over rings and over
-sockets, beside a loop on each processor: each prints what `sim` prints, and the log of one run of each is replayed."""
+sockets, beside a loop on each processor, or on as many as LOOPS says: each prints what `sim` prints, and the log of one run of each is replayed."""
 import contextlib
 import os
 import signal
@@ -11,9 +11,9 @@ from files import accepted, seeded
 
 @contextlib.contextmanager
 def stress():
-    """Loops on all processors, each until it is ended or its parent is gone."""
+    """Loops on all processors, or on as many as LOOPS says, each until it is ended or its parent is gone."""
     parent, loops = os.getpid(), []
-    for at in PROCESSORS:
+    for at in PROCESSORS[:int(os.environ.get("LOOPS", len(PROCESSORS)))]:
         loop = os.fork()
         if loop == 0:
             os.sched_setaffinity(0, [at])
