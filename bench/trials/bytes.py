@@ -112,21 +112,17 @@ def wire(rng, base):
     return [], text, BENCH_WIRE, {0, 1}, lambda got: got == wanted and answer([], text, BENCH_WIRE, env=cut) == wanted
 
 
-kinds = {"check": lambda *it: plain(["check"], *it), "sim": lambda *it: plain(["sim"], *it), "run": run, "show": show, "replay": replay}
-if knows(["forest"], first):
-    kinds["forest"] = forest
-if knows(["run", "--forward"], first):
-    kinds["forward"] = forward
-if knows(["talk", "0"], talk(first, [])):
-    kinds["talk"] = talked
-for name, program, kind in (("draw", SJDRAW, draw), ("why", SJWHY, why), ("wire", BENCH_WIRE, wire)):
-    if stands(program):
-        kinds[name] = kind
+kinds = {"check": lambda *it: plain(["check"], *it), "sim": lambda *it: plain(["sim"], *it), "run": run, "show": show, "replay": replay, "forest": forest,
+         "forward": forward, "talk": talked, "draw": draw, "why": why, "wire": wire}
+there = {"forest": knows(["forest"], first), "forward": knows(["run", "--forward"], first), "talk": knows(["talk", "0"], talk(first, [])), "draw": stands(SJDRAW), "why": stands(SJWHY),
+         "wire": stands(BENCH_WIRE)}
 
 
 def one(number, tally):
     rng = seeded(seed, number)
     name = rng.choice(list(kinds))
+    if not there.get(name, True):
+        return
     base = rng.choice(corpus) if rng.randrange(3) else accepted(rng)
     words, text, program, statuses, holds = kinds[name](rng, base)
     got = answer(words, text, program)
