@@ -28,7 +28,7 @@ def one(number, tally):
     with open(peak) as it:
         taken = int(it.read().split()[-1])
     tally.times[kind] += 1
-    tenth = int((time.time() - begun) / 6 / minutes)
+    tenth = min(9, int((time.time() - begun) / 6 / minutes))  # the last call of a process may end late
     tally.most[kind, tenth] = max(taken, tally.most[kind, tenth])
 
 
