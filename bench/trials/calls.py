@@ -1,24 +1,52 @@
-"""Calls of the programs, for the trials."""
+"""Calls of the programs, for the trials, and how a trial is spread over the processors."""
+import collections
 import os
+import pickle
 import re
+import select
+import signal
 import struct
-import subprocess
 import sys
+import time
+import traceback
 
 TOP = os.path.dirname(os.path.dirname(os.path.dirname(os.path.abspath(__file__))))
-SJ = os.environ.get("SJ", TOP + "/crates/sj/out/sj")
-SJNET = os.environ.get("SJNET", TOP + "/crates/sjnet/out/sjnet")
-SJDRAW = os.environ.get("SJDRAW", TOP + "/crates/sjdraw/out/sjdraw")
+
+
+def program(name):
+    """Where a program is that a variable of the environment names, or that `rt ci` left."""
+    return os.environ.get(name.upper(), "%s/crates/%s/out/%s" % (TOP, name, name))
+
+
+SJ, SJNET, SJDRAW, SJWHY, BENCH_WIRE = (program(name) for name in ("sj", "sjnet", "sjdraw", "sjwhy", "bench_wire"))
 STATUSES = {0, 1, 2, 3, 4, 5, 6, 7, 8, 9, 10, 11, 12, 14}
+PROCESSORS = sorted(os.sched_getaffinity(0))
+USUAL = dict(os.environb)  # the environment of a call
 
 
-def answer(words, text, program=None, prefix=(), seconds=60, env=None):
-    """The status and the output of a call; a status below 0 is a signal, and None a call that didn't end."""
-    try:
-        done = subprocess.run([*prefix, program or SJ, *words], input=text, stdout=subprocess.PIPE, stderr=subprocess.DEVNULL, timeout=seconds, env=env)
-    except subprocess.TimeoutExpired:
-        return None, b""
-    return done.returncode, done.stdout
+def answer(words, text, program=None, prefix=(), seconds=60, env=None, on=PROCESSORS):
+    """The status and the output of a call that is held on those processors; a status below 0 is a signal, and None a call that didn't end. What it reads
+    and what it writes lie in memory."""
+    come, out = os.memfd_create("come"), os.memfd_create("out")
+    files = [(os.POSIX_SPAWN_DUP2, come, 0), (os.POSIX_SPAWN_DUP2, out, 1), (os.POSIX_SPAWN_OPEN, 2, "/dev/null", os.O_WRONLY, 0)]
+    command = [*prefix, program or SJ, *words]
+    os.pwrite(come, text, 0)
+    # a child begins on the processors of its parent
+    if on is not PROCESSORS:
+        os.sched_setaffinity(0, on)
+    child = os.posix_spawnp(command[0], command, USUAL if env is None else env, file_actions=files, setpgroup=0, setsigdef=[signal.SIGPIPE])
+    if on is not PROCESSORS:
+        os.sched_setaffinity(0, PROCESSORS)
+    ended, poll = os.pidfd_open(child), select.poll()
+    poll.register(ended, select.POLLIN)
+    is_late = not poll.poll(1000 * seconds)
+    if is_late:
+        os.killpg(child, signal.SIGKILL)
+    status = os.waitstatus_to_exitcode(os.waitpid(child, 0)[1])
+    said = os.pread(out, os.fstat(out).st_size, 0)
+    for fd in (come, out, ended):
+        os.close(fd)
+    return (None, b"") if is_late else (status, said)
 
 
 def talk(text, lines):
@@ -56,16 +84,32 @@ def knows(words, text):
     return False
 
 
+def stands(program):
+    """Whether that program is built; where it isn't, this is said."""
+    if os.access(program, os.X_OK):
+        return True
+    print("not built here:", program)
+    return False
+
+
+def preloaded(folder, name):
+    """The library of that C file, built in a folder, which stands before the C library."""
+    library = "%s/%s.so" % (folder, name)
+    if os.system("gcc -O2 -shared -fPIC -o %s %s/bench/trials/%s.c -ldl" % (library, TOP, name)):
+        sys.exit(2)
+    return library
+
+
 def counted(name):
     """The numbers of allocations, reads and writes that refuse.c counted into that file."""
     with open(name, "rb") as it:
         return struct.unpack("3l", it.read())
 
 
-def arguments(usual):
+def arguments(usual, kind=int):
     """The seed and the count of a script."""
     seed = int(sys.argv[1]) if len(sys.argv) > 1 else 1
-    count = int(sys.argv[2]) if len(sys.argv) > 2 else usual
+    count = kind(sys.argv[2]) if len(sys.argv) > 2 else usual
     return seed, count
 
 
@@ -73,18 +117,76 @@ class Tally:
     """Counts what was tried and what was bad, and keeps what was bad in a folder, if one is named."""
 
     def __init__(self):
-        self.tried = self.bad = 0
-        self.kept = os.environ.get("KEEP")
+        self.number = self.tried = 0
+        self.bad = []
+        self.times = collections.Counter()  # how often something came
+        self.most = collections.Counter()  # the largest number that was seen of something
 
     def one(self, good, why, text=b""):
         self.tried += 1
-        if not good:
-            self.bad += 1
-            print("bad:", why, file=sys.stderr)
-            if self.kept:
-                with open("%s/%d" % (self.kept, self.bad), "wb") as it:
-                    it.write(text)
+        if good:
+            return
+        self.bad.append((self.number, why))
+        print("bad: %d: %s" % self.bad[-1], file=sys.stderr, flush=True)
+        if os.environ.get("KEEP"):
+            with open("%s/%d.%d" % (os.environ["KEEP"], self.number, len(self.bad)), "wb") as it:
+                it.write(text)
+
+    def add(self, other):
+        self.tried += other.tried
+        self.bad += other.bad
+        self.times += other.times
+        self.most |= other.most
 
     def end(self):
-        print("%d tried, %d bad" % (self.tried, self.bad))
-        sys.exit(self.bad > 0)
+        for bad in sorted(self.bad):
+            print("bad: %d: %s" % bad)
+        print("%d tried, %d bad" % (self.tried, len(self.bad)))
+        sys.exit(self.bad != [])
+
+
+def shard(first, step, count, one, until):
+    """The tally of every so many numbers, up to that time; the first shard says each minute how far it is."""
+    tally, told = Tally(), time.time()
+    for tally.number in range(first, count, step):
+        now = time.time()
+        if until and now >= until:
+            break
+        if first == 0 and now - told >= 60:
+            told = now
+            print("%s at %d" % (time.strftime("%H:%M:%S"), tally.number), file=sys.stderr, flush=True)
+        try:
+            one(tally.number, tally)
+        except Exception as fault:
+            traceback.print_exc()
+            tally.one(False, repr(fault))
+    return tally
+
+
+def spread(count, one, until=None):
+    """The tally of all numbers below the count, each given to `one`: number k by process k mod P, of as many processes as there are processors, or as
+    PROCESSES says. What is tried of a number is the same whatever P is."""
+    step = int(os.environ.get("PROCESSES", len(PROCESSORS)))
+    whole, shards = Tally(), []
+    sys.stdout.flush()
+    for first in range(step):
+        come, go = os.pipe()
+        child = os.fork()
+        if child == 0:
+            status = 1
+            try:
+                with os.fdopen(go, "wb") as it:
+                    pickle.dump(shard(first, step, count, one, until), it)
+                status = 0
+            finally:
+                os._exit(status)
+        os.close(go)
+        shards.append((come, child))
+    for come, child in shards:
+        with os.fdopen(come, "rb") as it:
+            told = it.read()
+        if os.waitpid(child, 0)[1] == 0:
+            whole.add(pickle.loads(told))
+        else:
+            whole.one(False, "a process of the trial ended early")
+    return whole

@@ -1,4 +1,5 @@
 """Files for the trials: generated ones that are accepted, and changed ones that need not be read at all."""
+import functools
 import random
 import re
 
@@ -76,25 +77,31 @@ def accepted(rng):
     protocols, connects = [], []
     lines = [[] for _ in range(parties)]  # of each party some runs of statements, each in order
     names = fresh()
-    taken = set()
 
     def protocol(text):
         protocols.append("protocol p%d { begin%s }" % (len(protocols), "." + text if text else ""))
         return "p%d" % (len(protocols) - 1)
 
+    opened = {}  # of two parties the parts of what the first opens to the second, which are the same for all
     for number in range(rng.randrange(1, 6)):
+        # both ends at one party, which blocks nearly always, seldom
+        both = rng.sample(range(parties), 2) if rng.randrange(20) else [rng.randrange(parties)] * 2
         parts = [Part(rng, 0, texts) for _ in range(rng.randrange(1, 7))]
-        both = [rng.randrange(parties), rng.randrange(parties)]
+        is_opened = rng.randrange(4) == 0
+        if is_opened:
+            parts = opened.setdefault(tuple(both), parts)
         ends = ["e%d" % number, "f%d" % number]
-        words = []
+        kinds = [protocol(items(parts, side)) for side in (0, 1)]
         for side in (0, 1):
             holder, end, at, run = both[side], ends[side], 0, []
+            if is_opened:
+                run.append("%s %s %s %s a%d;" % (("request", end, kinds[0], "to", both[1]) if side == 0 else ("accept", end, kinds[1], "from", both[0])))
             # the end may go on to another party
             for hop in range(rng.choice([0, 0, 1, 2])):
                 to = rng.randrange(parties)
                 cut = rng.randrange(at, len(parts))
                 rest = items(parts[cut:], side)
-                if to == holder or not rest or len(connects) > 40:
+                if to == holder or to == both[1 - side] and rng.randrange(8) or not rest or len(connects) > 40:
                     continue
                 run.append(body(parts[at:cut], side, end, names))
                 carrier, taker, moved = ("%s%dh%d" % (ends[side], number, hop) + x for x in ("c", "t", "m"))
@@ -108,47 +115,79 @@ def accepted(rng):
                 holder, end, at = to, moved, cut
             run += [body(parts[at:], side, end, names), "close %s;" % end]
             lines[holder].append(run)
-        connects.append((both[0], ends[0], protocol(items(parts, 0)), both[1], ends[1], protocol(items(parts, 1))))
+        if not is_opened:
+            connects.append((both[0], ends[0], kinds[0], both[1], ends[1], kinds[1]))
     rng.shuffle(connects)
     text = "\n".join(protocols) + "\n"
+    is_sorted = rng.randrange(2)  # session by session, which blocks seldom
     for party, runs in enumerate(lines):
         runs = [list(r) for r in runs]
         code = []
         while any(runs):
-            run = rng.choice([r for r in runs if r])
-            code.append(run.pop(0))
+            left = [r for r in runs if r]
+            code.append((left[0] if is_sorted else rng.choice(left)).pop(0))
         text += "party a%d { %s }\n" % (party, " ".join(c for c in code if c))
     for a, x, p, b, y, q in connects:
         text += "connect a%d %s %s to a%d %s %s;\n" % (a, x, p, b, y, q)
     return text.encode()
 
 
-TOKEN = re.compile(rb'"[^"\n]*"|[A-Za-z_][A-Za-z_0-9]*|[0-9]+|\n|[^ ]')
+TOKEN = re.compile(rb'("[^"\n]*"|[A-Za-z_][A-Za-z_0-9]*|[0-9]+|\n|[^ ])')
+
+
+@functools.lru_cache(64)
+def pieces_of(text):
+    """Blanks and tokens in turn: each second piece is a token."""
+    return TOKEN.split(text)
+
+
+RESERVED = set(b"""accept begin boolean close connect delegate else false from if int inbranch inwhile let not outbranch outwhile party protocol recv relay request
+send session String to true""".split())
+
+
+def form_of(token):
+    """Tokens of one form are names, numbers, texts, or equal ones."""
+    if token[:1].isalpha() or token[:1] == b"_":
+        return token if token in RESERVED else "name"
+    return "number" if token.isdigit() else "text" if token[:1] == b'"' else token
+
+
+def another(rng, tokens, form):
+    """The number of a token, of that form in most cases."""
+    at = 1 + 2 * rng.randrange(len(tokens) // 2)
+    for _ in range(rng.choice([0, 12, 12])):
+        if form_of(tokens[at]) == form:
+            break
+        at = 1 + 2 * rng.randrange(len(tokens) // 2)
+    return at
 
 
 def mutated(rng, text, other):
     """The text with a few of its tokens exchanged, doubled, dropped or taken from another text, or of its bytes flipped."""
-    for _ in range(rng.randrange(1, 5)):
-        kind = rng.randrange(6)
-        tokens = [m.span() for m in TOKEN.finditer(text)]
-        if kind == 5 or len(tokens) < 2:
-            if text:
-                at = rng.randrange(len(text))
-                text = text[:at] + bytes([rng.randrange(256)]) + text[at + 1:]
+    pieces = list(pieces_of(text))
+    for _ in range(rng.choice([1, 1, 1, 2, 4])):
+        kind = rng.choice([0, 0, 0, 1, 2, 3, 3, 3, 4, 5])
+        if kind == 5 or len(pieces) < 5:
+            whole = bytearray(b"".join(pieces))
+            if whole:
+                whole[rng.randrange(len(whole))] = rng.randrange(256)
+            pieces = TOKEN.split(bytes(whole))
             continue
-        (i, j), (k, l) = sorted(rng.sample(tokens, 2))
+        i = 1 + 2 * rng.randrange(len(pieces) // 2)
         if kind == 0:
-            text = text[:i] + text[k:l] + text[j:k] + text[i:j] + text[l:]
+            j = another(rng, pieces, form_of(pieces[i]))
+            pieces[i], pieces[j] = pieces[j], pieces[i]
         elif kind == 1:
-            text = text[:j] + b" " + text[i:j] + text[j:]
+            pieces[i:i] = [pieces[i], b" "]
         elif kind == 2:
-            text = text[:i] + text[j:]
+            pieces[i] = b""
         elif kind == 3:
-            pieces = [m.group() for m in TOKEN.finditer(other)]
-            text = text[:i] + rng.choice(pieces or [b"x"]) + text[j:]
+            others = pieces_of(other)
+            pieces[i] = others[another(rng, others, form_of(pieces[i]))] if len(others) > 1 else b"x"
         else:
-            text = text[:rng.randrange(len(text) + 1)]
-    return text
+            del pieces[rng.randrange(len(pieces)):]
+            pieces.append(b"")
+    return b"".join(pieces)
 
 
 def seeded(seed, number):

@@ -1,44 +1,39 @@
 #!/usr/bin/env python3
-"""usage: soak.py [SEED [MINUTES]]. Generated files by `run` over rings and over sockets for so many minutes, each compared with `sim`; the most memory that
-a call took in the first tenth and in the last is printed."""
+"""usage: soak.py [SEED [MINUTES]]. For so many minutes runs of generated files as of schedules.py, and as of sockets.py with strangers and with slow and
+spoilt streams, at random; the most memory that a call took is printed for each tenth of the time."""
 import os
+import sys
 import time
-from calls import SJ, SJNET, Tally, arguments, answer
+from calls import answer, arguments, spread
 from files import accepted, seeded
+from schedules import run_once
+from sockets import folder, streams
 
-seed, minutes = arguments(30)
-tally = Tally()
-begun, number, peaks = time.time(), 0, []
-
-
-def peak_of(program, words, text):
-    """The answer, and the peak of resident memory in KiB."""
-    to, out = os.pipe(), os.pipe()
-    child = os.fork()
-    if child == 0:
-        os.dup2(to[0], 0)
-        os.dup2(out[1], 1)
-        for fd in (*to, *out):
-            os.close(fd)
-        os.execv(program, [program, *words])
-    os.close(to[0])
-    os.close(out[1])
-    with os.fdopen(to[1], "wb") as it:
-        it.write(text)
-    with os.fdopen(out[0], "rb") as it:
-        got = it.read()
-    _, status, used = os.wait4(child, 0)
-    return (os.waitstatus_to_exitcode(status), got), used.ru_maxrss
+seed, minutes = arguments(30, float)
+begun = time.time()
 
 
-while time.time() - begun < 60 * minutes:
+def one(number, tally):
     rng = seeded(seed, number)
-    text = accepted(rng)
-    wanted = answer(["sim"], text)
-    got, peak = peak_of(rng.choice([SJ, SJ, SJNET]), ["run", "--looks", rng.choice(["0", "7", "1000"])], text)
-    peaks.append((time.time() - begun, peak))
-    tally.one(got == wanted, "file %d: %s" % (number, got[0]), text)
-    number += 1
-tenth = 6 * minutes
-print("most KiB in the first tenth %d, in the last %d" % (max([p for t, p in peaks if t < tenth] or [0]), max([p for t, p in peaks if t > 9 * tenth] or [0])))
+    # `time` is small itself: what a script starts counts as no less than the script
+    peak = "%s/peak%d" % (folder.name, os.getpid())
+    timed = ["/usr/bin/time", "-q", "-f", "%M", "-o", peak]
+    if rng.randrange(4):
+        text = accepted(rng)
+        kind = "run"
+        run_once(rng, text, answer(["sim"], text), tally, timed)
+    else:
+        kind = "sockets"
+        streams(rng, tally, timed)
+    with open(peak) as it:
+        taken = int(it.read().split()[-1])
+    tally.times[kind] += 1
+    tenth = min(9, int((time.time() - begun) / 6 / minutes))  # the last call of a process may end late
+    tally.most[kind, tenth] = max(taken, tally.most[kind, tenth])
+
+
+tally = spread(sys.maxsize, one, begun + 60 * minutes)
+for kind in ("run", "sockets"):
+    peaks = [str(tally.most[kind, tenth]) for tenth in range(10)]
+    print("%s: %d times, most KiB in each tenth of the time %s" % (kind, tally.times[kind], " ".join(peaks)))
 tally.end()

@@ -1,17 +1,18 @@
 #!/usr/bin/env python3
 """usage: talks.py [SEED [COUNT]]. Each party of generated files, and of examples, is played by the acts that it does in a run, with wrong lines between them:
-each act is answered with what it took there, each wrong line with its rule, and the verdict is that of the run."""
+each act is answered with what it took there, each wrong line with its rule, and the verdict is that of the run. A party that opens sessions isn't played."""
 import glob
 import itertools
 import re
 import sys
-from calls import TOP, VERDICTS, Tally, answer, arguments, knows, talk
+from calls import TOP, VERDICTS, answer, arguments, knows, spread, talk
 from files import accepted, seeded
 
 seed, count = arguments(2000)
-tally = Tally()
 EVENT = re.compile(rb"[0-9]+ (\w+) (send|take|close) ([0-9]+\.[01])(?: (.*))?")
 CONNECT = re.compile(rb"^connect (\w+) (\w+) \w+ to (\w+) (\w+) \w+;", re.M)
+PARTY = re.compile(rb"^party (\w+)(.*?)(?=^party|^connect|\Z)", re.M | re.S)
+OPENS = re.compile(rb"\b(?:request|accept) \w+ \w+ (?:to|from) \w+;")
 WRONG = [(b"sing x", b"G1"), (b"send  x 5", b"G1"), (b"send x 05", b"G1"), (b"", b"G1"), (b"take nowhere", b"G2"), (b"close nowhere", b"G2"), (b"delegate nowhere nowhere", b"G2")]
 
 
@@ -51,18 +52,25 @@ def played(rng, text, party, log):
 first = open(TOP + "/examples/first.sj", "rb").read()
 if not knows(["talk", "0"], talk(first, [])):
     sys.exit(2)
-# no line requests or accepts a session
-corpus = [text for text in (open(f, "rb").read() for f in sorted(glob.glob(TOP + "/examples/*.sj"))) if b"request" not in text]
-for number in range(count):
+corpus = [open(f, "rb").read() for f in sorted(glob.glob(TOP + "/examples/*.sj"))]
+
+
+def one(number, tally):
     rng = seeded(seed, number)
     text = accepted(rng) if rng.randrange(4) else rng.choice(corpus)
     status, out = answer(["run", "--log"], text)
     if status not in (0, 6):
-        continue  # it is refused, or a party is at a limit, which would be the played one's own
-    at = out.find(b"%%log\n")
-    for party, name in enumerate(re.findall(rb"^party (\w+)", text, re.M)):
-        lines, wanted = played(rng, text, name, out[at:])
+        return  # it is refused, or a party is at a limit, which would be the played one's own
+    for party, found in enumerate(PARTY.finditer(text)):
+        if OPENS.search(found[2]):
+            continue  # no line requests or accepts a session
+        lines, wanted = played(rng, text, found[1], out[out.find(b"%%log"):])
         got = answer(["talk", str(party)], talk(text, lines))
-        one = (status, b"".join(line + b"\n" for line in wanted + [VERDICTS.get(status, b"")]))
-        tally.one(got == one, "file %d, party %d: %s" % (number, party, got[0]), talk(text, lines))
+        due = (status, b"".join(line + b"\n" for line in wanted + [VERDICTS[status]]))
+        tally.times["with sessions that others open"] += OPENS.search(text) is not None
+        tally.one(got == due, "party %d: %s" % (party, got[0]), talk(text, lines))
+
+
+tally = spread(count, one)
+print("%d with sessions that others open" % tally.times["with sessions that others open"])
 tally.end()
