@@ -52,12 +52,24 @@ fn statement(
         } => take_end(context, env, site, *end, *into, *protocol),
         Deed::Select { end, label } => select(context, env, site, *end, *label),
         Deed::Branch { end, arms } => branch(context, env, seen, site, *end, arms),
-        Deed::OutWhile { end, count, body } => out_while(
-            context, env, seen, site, *end, count, body,
-        ),
-        Deed::InWhile { end, body } => in_while(context, env, seen, site, *end, body),
-        Deed::Relay { from, to, body } => relay(context, env, seen, site, *from, *to, body),
-        Deed::If { test, yes, no } => choose(context, env, seen, site, test, yes, no),
+        Deed::OutWhile { end, count, body } => {
+            check_out_while(context, env, site, *end, count)?;
+            turn(context, env, seen, site, &[*end], body)
+        }
+        Deed::InWhile { end, body } => {
+            check_in_while(context, env, site, *end)?;
+            turn(context, env, seen, site, &[*end], body)
+        }
+        Deed::Relay { from, to, body } => {
+            check_relay(context, env, site, *from, *to)?;
+            turn(context, env, seen, site, &[*from, *to], body)
+        }
+        Deed::If { test, yes, no } => {
+            let mut other = copy_behind_test(context, env, site, test)?;
+            block(context, env, seen, yes)?;
+            block(context, &mut other, seen, no)?;
+            join(context, env, site, &other)
+        }
         Deed::Let { name, value } => let_be(context, env, site, *name, value),
         Deed::Close { end } => close(context, env, site, *end),
         Deed::Request {
@@ -73,69 +85,29 @@ fn statement(
     }
 }
 
-#[cycle(explaining)]
-fn out_while(
+// The end of an `outwhile` stands before its loop, and what is counted is a number.
+fn check_out_while(
     context: Context<'_>,
-    env: &mut Env,
-    seen: &mut Seen,
+    env: &Env,
     site: Site,
     end: u16,
     count: &Expr,
-    body: &[Stmt],
 ) -> Result<(), Stop> {
     let place = live(context, env, site, 1, end)?;
     let Some(Item::OutLoop(_)) = place.items.first() else {
         return Err(other_action(context, site, 1, end, place, b"`![..]*`"));
     };
     let kind = kind_of(context, env, site, 2, count)?;
-    want(context, site, 2, Scalar::Int, kind)?;
-    turn(context, env, seen, site, &[end], body)
+    want(context, site, 2, Scalar::Int, kind)
 }
 
-#[cycle(explaining)]
-fn in_while(
-    context: Context<'_>,
-    env: &mut Env,
-    seen: &mut Seen,
-    site: Site,
-    end: u16,
-    body: &[Stmt],
-) -> Result<(), Stop> {
+// The end of an `inwhile` stands before its loop.
+fn check_in_while(context: Context<'_>, env: &Env, site: Site, end: u16) -> Result<(), Stop> {
     let place = live(context, env, site, 1, end)?;
     let Some(Item::InLoop(_)) = place.items.first() else {
         return Err(other_action(context, site, 1, end, place, b"`?[..]*`"));
     };
-    turn(context, env, seen, site, &[end], body)
-}
-
-#[cycle(explaining)]
-fn relay(
-    context: Context<'_>,
-    env: &mut Env,
-    seen: &mut Seen,
-    site: Site,
-    from: u16,
-    to: u16,
-    body: &[Stmt],
-) -> Result<(), Stop> {
-    check_relay(context, env, site, from, to)?;
-    turn(context, env, seen, site, &[from, to], body)
-}
-
-#[cycle(explaining)]
-fn choose(
-    context: Context<'_>,
-    env: &mut Env,
-    seen: &mut Seen,
-    site: Site,
-    test: &Expr,
-    yes: &[Stmt],
-    no: &[Stmt],
-) -> Result<(), Stop> {
-    let mut other = copy_behind_test(context, env, site, test)?;
-    block(context, env, seen, yes)?;
-    block(context, &mut other, seen, no)?;
-    join(context, env, site, &other)
+    Ok(())
 }
 
 // The two ends of a relay stand before their loops.
