@@ -25,7 +25,7 @@ use Rattle.sj_command.specs.declared.tasks.Task.{Task}
 use Rattle.sj_command.specs.declared.tasks.Task.TheVariants as tasks
 use Rattle.sj_command.proofs.OneTask.{one_task}
 use Rattle.sj_tool.specs.AnswerAt.{Ran}
-use Rattle.sj_tool.specs.Answers.{AnswersBytes, IsInTable}
+use Rattle.sj_tool.specs.Answers.{AnswersFile, HoldsFile, IsInTable}
 use Rattle.sj_tool.specs.Calls.{CallAt, LinkUseAt}
 use Rattle.sj_tool.specs.LogAt.{LogAt, log_at}
 use Rattle.sj_tool.specs.Runs.{HasRun}

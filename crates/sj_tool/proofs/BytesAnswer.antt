@@ -5,7 +5,7 @@ use Rattle.sj_command.specs.declared.tasks.Task.TheVariants as tasks
 use Rattle.sj_log.specs.Parts.{HasNoPart, IsParted}
 use Rattle.sj_tool.specs.LogAt.{LogAt}
 use Rattle.sj_tool.specs.AnswerAt.{AnswerAt, TooLarge, Syntax, Check, LogFault, Misfit, LinkFault, Damaged, Ran, NoTalk, NoParty}
-use Rattle.sj_tool.specs.Answers.{AnswersBytes, AnswersParts, AnswersText}
+use Rattle.sj_tool.specs.Layers.{AnswersBytes, AnswersParts, AnswersText}
 use Rattle.sj_tool.specs.Calls.{LinkUseAt}
 use Rattle.sj_tool.specs.Tasks.{HasLongText, HasParts, HasTail, IsPartedFor, Replays as IsReplay, Takes, Talks}
 use Rattle.sj_tool.specs.TalkParts.{HasNoTalk, IsTalk}

@@ -8,7 +8,8 @@ use Rattle.sj_command.specs.declared.tasks.Task.TheVariants as tasks
 use Rattle.sj_command.specs.Task.{Asks, most_messages}
 use Rattle.sj_command.proofs.OneTask.{one_task}
 use Rattle.sj_tool.specs.AnswerAt.{AnswerAt}
-use Rattle.sj_tool.specs.Answers.{AnswersBytes, AnswersInput, Came, IsInTable, OrYields}
+use Rattle.sj_tool.specs.Answers.{Came, IsInTable, OrYields}
+use Rattle.sj_tool.specs.Layers.{AnswersBytes}
 use Rattle.sj_tool.specs.Calls.{CallAt, LinkUseAt, LinksHold}
 use Rattle.sj_tool.specs.Completeness.{Completes, CompletesSo, IsValid, IsValidFile}
 use Rattle.sj_tool.specs.LogAt.{LogAt, no_log}
@@ -17,6 +18,7 @@ use Rattle.sj_tool.specs.Texts.{status_of, text_of, verdict_status}
 use Rattle.sj_tool.proofs.BytesAnswer.{takes_file}
 use Rattle.sj_tool.proofs.CompletedFile.{Told, bytes_complete}
 use Rattle.sj_tool.proofs.ExactnessLemmas.{call_at}
+use Rattle.sj_tool.proofs.InputAnswers.{AnswersInput}
 use Rattle.sj_tool.proofs.InputLemmas.{came_of, read_bytes, read_of, reads_of}
 use Rattle.sj_tool.proofs.RowKindLemmas.{Row, words, fault, large, made, input, made_takes, reads_takes, row_of}
 use Rattle.sj_generator_laws.specs.GeneratedFile.{generated_file}

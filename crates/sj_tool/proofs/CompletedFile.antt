@@ -15,7 +15,8 @@ use Rattle.sj_command.specs.declared.tasks.Task.{Task}
 use Rattle.sj_command.specs.declared.tasks.Task.TheVariants as tasks
 use Rattle.sj_tool.specs.LogAt.{LogAt}
 use Rattle.sj_tool.specs.AnswerAt.{AnswerAt, LinkFault, Damaged}
-use Rattle.sj_tool.specs.Answers.{AnswersBytes, AnswersFile, AnswersText}
+use Rattle.sj_tool.specs.Answers.{AnswersFile}
+use Rattle.sj_tool.specs.Layers.{AnswersBytes, AnswersText}
 use Rattle.sj_tool.specs.Calls.{LinkUseAt, LinksHold}
 use Rattle.sj_tool.specs.Completeness.{Completes, HasItsParty, TellsEnd}
 use Rattle.sj_tool.specs.ForestTexts.{IsForestText}

@@ -1,12 +1,10 @@
 -- What answers a file answers its text, and what tells a refusal answers the file.
-use Rattle.std.proofs.Common.{◌≡◌, ℕ, true, List, Option, Result, Ok, Err, IfOk, inr, refl, sym, subst}
+use Rattle.std.proofs.Common.{◌≡◌, ℕ, true, List, Option, Result, Ok, Err, IfOk, inr, sym, subst}
 use Rattle.std.specs.Prelude.{option_map, max}
 use Rattle.sj_lang.specs.FileAt.{FileAt}
 use Rattle.sj_grammar.specs.Files.{IsFile}
 use Rattle.sj_acceptance.specs.Accepted.{IsAccepted}
 use Rattle.sj_command.specs.declared.tasks.Task.{Task}
-use Rattle.sj_command.specs.declared.tasks.Task.TheVariants as tasks
-use Rattle.sj_command.specs.Task.{Asks}
 use Rattle.sj_end.specs.Lines.{line_at}
 use Rattle.sj_lane.specs.Told as lanes
 use Rattle.sj_rules.specs.History.{IsFirstMisfit}
@@ -19,10 +17,11 @@ use Rattle.sj_tool.specs.declared.answers.Answer.{Answer}
 use Rattle.sj_tool.specs.AnswerAt.{AnswerAt, answer_at, Usage, ReadFault, TooLarge, Syntax, LogFault, Misfit, Damaged, Made, NoTalk, LinkFault}
 use Rattle.sj_tool.specs.declared.replays.ReplayFault.{ReplayFault}
 use Rattle.sj_tool.specs.declared.replays.ReplayFault.TheVariants as faults
-use Rattle.sj_tool.specs.Answers.{AnswersBytes, AnswersFile, AnswersInput, AnswersText, IsInTable}
-use Rattle.sj_tool.specs.Calls.{CallAt, LinkUseAt}
+use Rattle.sj_tool.specs.Answers.{AnswersFile}
+use Rattle.sj_tool.specs.Layers.{AnswersBytes, AnswersText}
+use Rattle.sj_tool.specs.Calls.{LinkUseAt}
 use Rattle.sj_tool.specs.Entries.{IsDamagedBy, IsToldMisfit, IsToldSo}
-use Rattle.sj_tool.specs.Tasks.{HasInput, HasParts, IsRead, Replays as IsReplay, RunsParties}
+use Rattle.sj_tool.specs.Tasks.{HasParts, Replays as IsReplay, RunsParties}
 use Rattle.sj_tool.specs.Replays.{IsRefusedBy, IsToldFault}
 
 -- ---- from a file to its text, and from there to the bytes
@@ -61,26 +60,6 @@ answers_bytes links task bytes text log TooLarge parts x = absurd x.answers
 answers_bytes links task bytes text log NoTalk parts x = absurd x.answers
 answers_bytes links task bytes text log (LogFault r l) parts x = inr (record { text = text; log = log; parts = parts; answers = x })
 answers_bytes links task bytes text log a parts x = record { text = text; log = log; parts = parts; answers = x }
-
--- ---- and from there to the call
-
--- what answers an input comes
-pub input_comes : (c : CallAt) (a : AnswerAt) → AnswersInput c a → IsInTable c a
-input_comes c Usage x = absurd x.answers.answers.answers
-input_comes c ReadFault x = absurd x.answers.answers.answers
-input_comes c TooLarge x = inr x
-input_comes c (Made t) x = absurd x.answers.answers.answers
-input_comes c a x = x
-
-pub bytes_come : {E : Type 0} (c : CallAt) (task : Task) (bytes : List ℕ) (r : Result Answer E) → Asks c.words task → HasInput c task bytes → IfOk r (λ a. AnswersBytes c.links task bytes (answer_at a))
-    → IfOk r (λ a. IsInTable c (answer_at a))
-bytes_come c task bytes (Ok a) asks input x = input_comes c (answer_at a) (record { task = task; asks = asks; bytes = bytes; input = input; answers = x })
-bytes_come c task bytes (Err e) asks input x = tt
-
--- what is read is the input of a task that makes no file
-pub read_input : (c : CallAt) (task : Task) (bytes : List ℕ) → ((n : ℕ) → task ≡ tasks.Make n → ⊥) → ((n : ℕ) → task ≡ tasks.Big n → ⊥) → IsRead c task bytes → HasInput c task bytes
-read_input c (tasks.Big n) bytes other off x = absurd (off n refl)
-read_input c task bytes other off x = x
 
 -- ---- what tells a refusal
 

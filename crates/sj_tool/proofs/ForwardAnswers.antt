@@ -8,7 +8,7 @@ use Rattle.sj_command.specs.declared.tasks.Task.{Task}
 use Rattle.sj_command.specs.declared.tasks.Task.TheVariants as tasks
 use Rattle.sj_command.proofs.OneTask.{one_task}
 use Rattle.sj_tool.specs.AnswerAt.{AnswerAt, Ran}
-use Rattle.sj_tool.specs.Answers.{AnswersInput, IsInTable}
+use Rattle.sj_tool.specs.Answers.{AnswersFile, HoldsFile, IsInTable}
 use Rattle.sj_tool.specs.Calls.{CallAt, LinkUseAt}
 use Rattle.sj_tool.specs.Forwards.{HasForwarded}
 use Rattle.sj_tool.specs.Headline.{IsForwarding, IsPlaying, IsVerdict, WritesForwarded}
@@ -34,19 +34,18 @@ forwarding_whole tasks.Forward bytes text log h parts = parts.0
 forwarding_whole task bytes text log h parts = absurd h
 
 module _ (c : CallAt) (status : ℕ) (before after : Option (List ℕ)) (verdict : IsVerdict status) (asked : AsksFor IsForwarding c) where
-  ran_by_forwarding : (v : Verdict) (t : List ℕ) → AnswersInput c (Ran v t) → status ≡ verdict_status v → after ≡ put_behind before t → WritesForwarded c status before after
-  ran_by_forwarding v t x e d =
-      let its = x.answers.answers in
+  ran_by_forwarding : (v : Verdict) (t : List ℕ) (h : HoldsFile c) → AnswersFile c.links h.task h.log h.file (Ran v t) → status ≡ verdict_status v → after ≡ put_behind before t → WritesForwarded c status before after
+  ran_by_forwarding v t x a e d =
       let kind = subst IsForwarding (one_task c.words asked.task x.task asked.asks x.asks) asked.kind in
       let read = read_of c x.task x.bytes (playing_reads x.task (forwarding_plays x.task kind)) x.input in
-      let ends = forwarded_so c.links x.task x.answers.log its.file v t kind its.answers.1 in
+      let ends = forwarded_so c.links x.task x.log x.file v t kind a.1 in
       record {
         bytes = x.bytes;
         came = read.came;
         all = read.all;
-        file = its.file;
-        stands = subst (λ (s : List ℕ). IsFile s its.file) (forwarding_whole x.task x.bytes x.answers.text x.answers.log kind x.answers.parts) its.stands;
-        accepted = its.answers.0;
+        file = x.file;
+        stands = subst (λ (s : List ℕ). IsFile s x.file) (forwarding_whole x.task x.bytes x.text x.log kind x.parts) x.stands;
+        accepted = a.0;
         verdict = e ∙ ap verdict_status ends.0;
         text = t;
         is = ends.1;
@@ -56,7 +55,7 @@ module _ (c : CallAt) (status : ℕ) (before after : Option (List ℕ)) (verdict
   answer_forwarded : (a : AnswerAt) → IsInTable c a → status ≡ status_of a → after ≡ put_behind before (text_of a) → WritesForwarded c status before after
   answer_forwarded a comes e d =
       let p = came_of_play c status verdict (record { task = asked.task; asks = asked.asks; kind = forwarding_plays asked.task asked.kind }) a comes e in
-      ran_by_forwarding p.verdict p.text p.answers (e ∙ ap status_of p.is) (d ∙ ap (λ b. put_behind before (text_of b)) p.is)
+      ran_by_forwarding p.verdict p.text p.held p.answers (e ∙ ap status_of p.is) (d ∙ ap (λ b. put_behind before (text_of b)) p.is)
 
 -- the answer that is written is that
 pub answered_forwarded : (words : List (List ℕ)) (left after : Option (List ℕ)) (f g : ℕ) (links : LinkUseAt) (a : AnswerAt) (status : ℕ) (before now : Option (List ℕ))

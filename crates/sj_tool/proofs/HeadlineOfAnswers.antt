@@ -13,7 +13,7 @@ use Rattle.sj_headline_laws.proofs.HeadlineLemmas.{settled_run_has_it}
 use Rattle.sj_forest_laws.proofs.BlockedLemmas.{never_blocked}
 use Rattle.sj_command.proofs.OneTask.{one_task}
 use Rattle.sj_tool.specs.AnswerAt.{AnswerAt, Ran}
-use Rattle.sj_tool.specs.Answers.{AnswersInput, IsInTable}
+use Rattle.sj_tool.specs.Answers.{AnswersFile, HoldsFile, IsInTable}
 use Rattle.sj_tool.specs.Calls.{CallAt, LinkUseAt}
 use Rattle.sj_tool.specs.Headline.{HasHeadline, IsPlaying, IsVerdict, ReadsNoForest}
 use Rattle.sj_tool.specs.Tasks.{AsksFor}
@@ -27,27 +27,25 @@ end_has_it : (file : FileAt) → IsAccepted file → (acts : List ℕ) × IsHead
 end_has_it file accepted = let l = end_is_reached file in (l.acts, settled_run_has_it file l.acts (end_of file) accepted l.leads (end_is_settled file))
 
 module _ (c : CallAt) (status : ℕ) (before after : Option (List ℕ)) (verdict : IsVerdict status) (plays : AsksFor IsPlaying c) where
-  ran_has_it : (v : Verdict) (t : List ℕ) → AnswersInput c (Ran v t) → status ≡ verdict_status v → after ≡ put_behind before t → HasHeadline c status before after
-  ran_has_it v t x e d =
-      let its = x.answers.answers in
-      let file = its.file in
-      let a = its.answers in
+  ran_has_it : (v : Verdict) (t : List ℕ) (h : HoldsFile c) → AnswersFile c.links h.task h.log h.file (Ran v t) → status ≡ verdict_status v → after ≡ put_behind before t → HasHeadline c status before after
+  ran_has_it v t x a e d =
+      let file = x.file in
       let kind = subst IsPlaying (one_task c.words plays.task x.task plays.asks x.asks) plays.kind in
       let read = read_of c x.task x.bytes (playing_reads x.task kind) x.input in
-      let p = played_so c.links x.task x.answers.log file v t kind a.1 in
-      let h = end_has_it file a.0 in
+      let p = played_so c.links x.task x.log file v t kind a.1 in
+      let ends = end_has_it file a.0 in
       record {
         bytes = x.bytes;
         came = read.came;
         all = read.all;
-        text = x.answers.text;
-        has = record { task = x.task; asks = x.asks; kind = (x.answers.log, x.answers.parts) };
+        text = x.text;
+        has = record { task = x.task; asks = x.asks; kind = (x.log, x.parts) };
         file = file;
-        stands = its.stands;
+        stands = x.stands;
         accepted = a.0;
-        acts = h.0;
+        acts = ends.0;
         end = end_of file;
-        headline = h.1;
+        headline = ends.1;
         verdict = e ∙ ap verdict_status p.stands;
         behind = p.behind;
         written = d ∙ ap (put_behind before) p.printed;
@@ -57,7 +55,7 @@ module _ (c : CallAt) (status : ℕ) (before after : Option (List ℕ)) (verdict
   answer_has_it : (a : AnswerAt) → IsInTable c a → status ≡ status_of a → after ≡ put_behind before (text_of a) → HasHeadline c status before after
   answer_has_it a comes e d =
       let p = came_of_play c status verdict plays a comes e in
-      ran_has_it p.verdict p.text p.answers (e ∙ ap status_of p.is) (d ∙ ap (λ b. put_behind before (text_of b)) p.is)
+      ran_has_it p.verdict p.text p.held p.answers (e ∙ ap status_of p.is) (d ∙ ap (λ b. put_behind before (text_of b)) p.is)
 
 -- the answer that is written has it
 pub answered_headline : (words : List (List ℕ)) (left after : Option (List ℕ)) (f g : ℕ) (links : LinkUseAt) (a : AnswerAt) (status : ℕ) (before now : Option (List ℕ))

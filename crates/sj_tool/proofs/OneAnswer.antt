@@ -16,7 +16,8 @@ use Rattle.sj_command.specs.declared.tasks.Task.{Task}
 use Rattle.sj_command.specs.declared.tasks.Task.TheVariants as tasks
 use Rattle.sj_tool.specs.LogAt.{LogAt}
 use Rattle.sj_tool.specs.AnswerAt.{AnswerAt, Usage, ReadFault, TooLarge, NoTalk, Syntax, Check, NoParty, LogFault, Misfit, LinkFault, Damaged, Ran, Printed, Made}
-use Rattle.sj_tool.specs.Answers.{AnswersFile, AnswersItsFile, AnswersText, LacksParty}
+use Rattle.sj_tool.specs.Answers.{AnswersFile, LacksParty}
+use Rattle.sj_tool.specs.Layers.{AnswersItsFile, AnswersText}
 use Rattle.sj_tool.specs.Runs.{Prints}
 use Rattle.sj_tool.specs.Calls.{LinkUseAt, LinksHold}
 use Rattle.sj_tool.specs.Tasks.{Replays as IsReplay, RunsParties}

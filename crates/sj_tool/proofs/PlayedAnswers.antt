@@ -14,7 +14,7 @@ use Rattle.sj_command.proofs.OneTask.{one_task}
 use Rattle.sj_tool.specs.Forwards.{passed_line}
 use Rattle.sj_tool.specs.LogAt.{LogAt}
 use Rattle.sj_tool.specs.AnswerAt.{AnswerAt, Usage, ReadFault, TooLarge, NoTalk, Syntax, Check, NoParty, LogFault, Misfit, LinkFault, Damaged, Ran, Printed, Made}
-use Rattle.sj_tool.specs.Answers.{AnswersInput, IsInTable, Makes}
+use Rattle.sj_tool.specs.Answers.{AnswersFile, HoldsFile, IsInTable, Makes}
 use Rattle.sj_tool.specs.Calls.{CallAt, LinkUseAt}
 use Rattle.sj_tool.specs.Headline.{IsPlaying, IsVerdict, PrintsMore}
 use Rattle.sj_tool.specs.Tasks.{AsksFor}
@@ -73,7 +73,8 @@ pub record CameOfPlay (c : CallAt) (a : AnswerAt) : Type 0 where
   pub verdict : Verdict
   pub text : List ℕ
   pub is : a ≡ Ran verdict text
-  pub answers : AnswersInput c (Ran verdict text)
+  pub held : HoldsFile c
+  pub answers : AnswersFile c.links held.task held.log held.file (Ran verdict text)
 
 module _ (c : CallAt) (status : ℕ) (verdict : IsVerdict status) (plays : AsksFor IsPlaying c) where
   pub came_of_play : (a : AnswerAt) → IsInTable c a → status ≡ status_of a → CameOfPlay c a
@@ -88,7 +89,7 @@ module _ (c : CallAt) (status : ℕ) (verdict : IsVerdict status) (plays : AsksF
   came_of_play (Misfit t) x e = absurd (beyond verdict.0 status (omega (arith, e)) verdict.1)
   came_of_play LinkFault x e = absurd (beyond verdict.0 status (omega (arith, e)) verdict.1)
   came_of_play (Damaged t) x e = absurd (beyond verdict.0 status (omega (arith, e)) verdict.1)
-  came_of_play (Ran v t) x e = record { verdict = v; text = t; is = refl; answers = x }
+  came_of_play (Ran v t) x e = record { verdict = v; text = t; is = refl; held = x.0; answers = x.1 }
   came_of_play (Printed t) x e =
-      absurd (prints_none x.task x.answers.answers.file t (subst IsPlaying (one_task c.words plays.task x.task plays.asks x.asks) plays.kind) x.answers.answers.answers)
+      absurd (prints_none x.0.task x.0.file t (subst IsPlaying (one_task c.words plays.task x.0.task plays.asks x.0.asks) plays.kind) x.1)
   came_of_play (Made t) x e = absurd (makes_none c t plays x)

@@ -8,12 +8,14 @@ use Rattle.sj_command.proofs.OneTask.{one_task}
 use Rattle.sj_generator.specs.Generated.{generated}
 use Rattle.sj_tool.specs.AnswerAt.{AnswerAt, LinkFault, Damaged, Ran}
 use Rattle.sj_tool.specs.Texts.{status_of, text_of}
-use Rattle.sj_tool.specs.Answers.{AnswersBytes, AnswersInput, Came, IsInTable, Makes}
+use Rattle.sj_tool.specs.Answers.{Came, IsInTable, Makes}
+use Rattle.sj_tool.specs.Layers.{AnswersBytes}
 use Rattle.sj_tool.specs.Calls.{CallAt}
 use Rattle.sj_tool.specs.Tasks.{HasInput, Reads, limit_of}
 use Rattle.sj_tool.specs.Table.{AreOne, NoFaultAbove}
 use Rattle.sj_tool.proofs.RowKindLemmas.{Row, words, fault, large, made, input, made_takes, no_rise, reads_takes, row_of}
 use Rattle.sj_tool.proofs.BytesAnswer.{one_of_bytes, takes_file}
+use Rattle.sj_tool.proofs.InputAnswers.{AnswersInput}
 use Rattle.sj_tool.proofs.InputLemmas.{came_of, one_input, read_of, reads_of}
 use Rattle.sj_tool.proofs.OneAnswer.{HoldsFor}
 use Rattle.sj_tool.proofs.ToldOnce.{AreToldOnce, told}

@@ -15,14 +15,16 @@ use Rattle.sj_command.specs.Task.{Asks}
 use Rattle.sj_command.proofs.OneTask.{one_task}
 use Rattle.sj_tool.specs.LogAt.{LogAt, no_log, log_at}
 use Rattle.sj_tool.specs.AnswerAt.{AnswerAt, Usage, ReadFault, TooLarge, Syntax, LogFault, Made, NoTalk}
-use Rattle.sj_tool.specs.Answers.{AnswersBytes, AnswersText, IsInTable}
+use Rattle.sj_tool.specs.Answers.{IsInTable}
+use Rattle.sj_tool.specs.Layers.{AnswersBytes, AnswersText}
 use Rattle.sj_tool.specs.Calls.{CallAt, LinkUseAt, LinksHold}
 use Rattle.sj_tool.specs.Runs.{HasBegun}
 use Rattle.sj_tool.specs.Table.{IsReadAsAsked, ShowsItsRun, WasRead}
 use Rattle.sj_tool.specs.TalkParts.{HasNoTalk}
 use Rattle.sj_tool.specs.Tasks.{HasInput, HasParts, IsRead, IsUnread, Reads, RunsParties, Takes}
 use Rattle.sj_tool.proofs.FileAnswered.{file_answered}
-use Rattle.sj_tool.proofs.FileAnswers.{answers_bytes, answers_text, input_comes}
+use Rattle.sj_tool.proofs.FileAnswers.{answers_bytes, answers_text}
+use Rattle.sj_tool.proofs.InputAnswers.{input_comes}
 use Rattle.sj_tool.proofs.PartedOrNot.{Parts, TalkParts, parts_or_none, talk_or_none}
 use Rattle.sj_tool.proofs.RowKindLemmas.{reads_takes}
 use Rattle.sj_tool.proofs.WordsLemmas.{asks_or_usage}

@@ -8,6 +8,7 @@ use Rattle.sj_grammar.specs.Positions.{start}
 use Rattle.sj_grammar.specs.Files.{IsFile}
 use Rattle.sj_grammar.specs.FileDues.{file_layer, file_due}
 use Rattle.sj_grammar.specs.Faults.{Stuck}
+use Rattle.sj_grammar.specs.declared.tokens.Fault.{Fault}
 use Rattle.sj_acceptance.specs.Accepted.{IsAccepted}
 use Rattle.sj_acceptance.specs.Faults.{first_fault}
 use Rattle.sj_acceptance.specs.FileTests.{tests_of}
@@ -42,42 +43,36 @@ AnswersFile links task log file (Ran verdict text) = IsAccepted file × Plays li
 AnswersFile links task log file (Printed text) = Prints task file text
 AnswersFile links task log file _ = ⊥
 
--- the text stands for a file, which the answer answers
-pub record AnswersItsFile (links : LinkUseAt) (task : Task) (log : LogAt) (text : List ℕ) (a : AnswerAt) : Type 0 where
-  pub file : FileAt
-  pub stands : IsFile text file
-  pub answers : AnswersFile links task log file a
-
--- what answers the text of a file
-abbrev pub AnswersText : LinkUseAt → Task → (log : LogAt) (text : List ℕ) → AnswerAt → Type 0
-AnswersText links task log text (Syntax fault) = Takes task × Stuck file_layer limits 0 (start text [] []) file_due fault
-AnswersText links task log text a = AnswersItsFile links task log text a
-
--- the bytes have the text of a file, and a log where one is replayed, and the answer answers it
-pub record AnswersParts (links : LinkUseAt) (task : Task) (bytes : List ℕ) (a : AnswerAt) : Type 0 where
-  pub text : List ℕ
-  pub log : LogAt
-  pub parts : HasParts task bytes text log
-  pub answers : AnswersText links task log text a
-
 -- no line of a source is `%%log` or `%%log2`, which is told as rule 1 at line 0
 abbrev pub MissesLog : Task → List ℕ → (rule line : ℕ) → Type 0
 MissesLog task bytes rule line = Replays task × HasNoPart bytes × (rule ≡ 1) × (line ≡ 0)
 
--- what answers the bytes that a task takes
-abbrev pub AnswersBytes : LinkUseAt → Task → List ℕ → AnswerAt → Type 0
-AnswersBytes links task bytes TooLarge = HasLongText task bytes
-AnswersBytes links task bytes NoTalk = Talks task × HasNoTalk bytes
-AnswersBytes links task bytes (LogFault rule line) = MissesLog task bytes rule line ⊎ AnswersParts links task bytes (LogFault rule line)
-AnswersBytes links task bytes a = AnswersParts links task bytes a
-
--- the words ask for a task, and the answer answers its bytes
-pub record AnswersInput (c : CallAt) (a : AnswerAt) : Type 0 where
+-- the words ask for a task, and these are the bytes that it takes
+pub record HoldsBytes (c : CallAt) : Type 0 where
   pub task : Task
   pub asks : Asks c.words task
   pub bytes : List ℕ
   pub input : HasInput c task bytes
-  pub answers : AnswersBytes c.links task bytes a
+
+-- what the bytes of a call hold: the text of a file, and a log where one is replayed, or lines where they play a party
+pub record HoldsFile (c : CallAt) : Type 0 where
+  pub task : Task
+  pub asks : Asks c.words task
+  pub bytes : List ℕ
+  pub input : HasInput c task bytes
+  pub text : List ℕ
+  pub log : LogAt
+  pub parts : HasParts task bytes text log
+  pub file : FileAt
+  pub stands : IsFile text file
+
+-- the bytes have a text that stands for no file: its first fault
+pub record HasWrongText (task : Task) (bytes : List ℕ) (fault : Fault) : Type 0 where
+  pub text : List ℕ
+  pub log : LogAt
+  pub parts : HasParts task bytes text log
+  pub takes : Takes task
+  pub stuck : Stuck file_layer limits 0 (start text [] []) file_due fault
 
 -- the words ask for the generated file, and nothing is read
 pub record Makes (c : CallAt) (printed : List ℕ) : Type 0 where
@@ -94,9 +89,13 @@ Came P c = AsksFor (λ task. Reads task × CameOf (λ n. P n (limit_of task)) c.
 abbrev pub IsInTable : CallAt → AnswerAt → Type 0
 IsInTable c Usage = IsUsage c.words × IsUnread c
 IsInTable c ReadFault = Came (λ n most. n ≤ most) c × Rose c.faults c.faults_after
-IsInTable c TooLarge = (Came (λ n most. most < n) c × (c.faults_after ≡ c.faults)) ⊎ AnswersInput c TooLarge
+IsInTable c TooLarge = (Came (λ n most. most < n) c × (c.faults_after ≡ c.faults)) ⊎ ((h : HoldsBytes c) × HasLongText h.task h.bytes)
+IsInTable c NoTalk = (h : HoldsBytes c) × Talks h.task × HasNoTalk h.bytes
+IsInTable c (Syntax fault) = (h : HoldsBytes c) × HasWrongText h.task h.bytes fault
+IsInTable c (LogFault rule line) =
+    ((h : HoldsBytes c) × MissesLog h.task h.bytes rule line) ⊎ ((h : HoldsFile c) × AnswersFile c.links h.task h.log h.file (LogFault rule line))
 IsInTable c (Made text) = Makes c text
-IsInTable c a = AnswersInput c a
+IsInTable c a = (h : HoldsFile c) × AnswersFile c.links h.task h.log h.file a
 
 -- the answer that comes is written behind what was written before, and its status is answered
 abbrev pub Answers : CallAt → ℕ → Option (List ℕ) → Option (List ℕ) → AnswerAt → Type 0

@@ -7,6 +7,7 @@ pub mod Entries
 pub mod ForestTexts
 pub mod Forwards
 pub mod Headline
+pub mod Layers
 pub mod LogAt
 pub mod Outcomes
 pub mod Replays

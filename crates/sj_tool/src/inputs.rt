@@ -2,7 +2,8 @@
 ghost use Rattle.std.specs.Prelude.{◌≡◌, ◌≤◌, IfOk, IfSome, None, length};
 ghost use Rattle.sj_generator.specs.Generated.{generated};
 ghost use Rattle.sj_tool.specs.AnswerAt.{answer_at};
-ghost use Rattle.sj_tool.specs.Answers.{AnswersBytes, AnswersText, IsInTable};
+ghost use Rattle.sj_tool.specs.Answers.{IsInTable};
+ghost use Rattle.sj_tool.specs.Layers.{AnswersBytes, AnswersText};
 ghost use Rattle.sj_tool.specs.Calls.{call, link_use};
 ghost use Rattle.sj_tool.specs.LogAt.{log_at};
 ghost use Rattle.sj_tool.specs.TalkParts.{HasNoTalk, IsTalk};

@@ -6,7 +6,7 @@ use Rattle.sj_command.specs.declared.tasks.Task.TheVariants as tasks
 use Rattle.sj_base.specs.Stream.{put_before}
 use Rattle.sj_generator.proofs.LengthLemmas.{generated_few}
 use Rattle.sj_tool.specs.Tasks.{limit_of}
-use Rattle.sj_tool.proofs.FileAnswers.{bytes_come, read_input}
+use Rattle.sj_tool.proofs.InputAnswers.{bytes_come, read_input}
 use Rattle.sj_tool.proofs.inputs.answer_to.Goals as goal
 
 pub answer_to_bytes-requires-clause-few : goal.answer_to_bytes-requires-clause-few

@@ -3,7 +3,7 @@ use Rattle.sj_command.specs.declared.tasks.Task.{Task}
 use Rattle.sj_command.specs.declared.tasks.Task.TheVariants as tasks
 use Rattle.sj_lang.specs.FileView.{file_of}
 use Rattle.sj_tool.specs.AnswerAt.{answer_at}
-use Rattle.sj_tool.specs.Answers.{AnswersText}
+use Rattle.sj_tool.specs.Layers.{AnswersText}
 use Rattle.sj_tool.specs.LogAt.{log_at}
 use Rattle.sj_tool.specs.Calls.{LinkUseAt, link_use}
 use Rattle.sj_tool.proofs.FileAnswers.{any_answers, links_answers, log_answers, talk_answers}
