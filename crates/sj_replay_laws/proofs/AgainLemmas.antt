@@ -25,12 +25,12 @@ use Rattle.sj_command.specs.declared.tasks.Task.{Task}
 use Rattle.sj_command.specs.declared.tasks.Task.TheVariants as tasks
 use Rattle.sj_command.proofs.OneTask.{one_task}
 use Rattle.sj_tool.specs.AnswerAt.{Ran}
-use Rattle.sj_tool.specs.Answers.{AnswersFile, HoldsFile, IsInTable}
+use Rattle.sj_tool.specs.Answers.{AnswersFile, IsInTable}
 use Rattle.sj_tool.specs.Calls.{CallAt, LinkUseAt}
 use Rattle.sj_tool.specs.LogAt.{LogAt, log_at}
 use Rattle.sj_tool.specs.Runs.{HasRun}
 use Rattle.sj_tool.specs.Table.{LogsRun}
-use Rattle.sj_tool.specs.Tasks.{HasInput, IsRead}
+use Rattle.sj_tool.specs.Tasks.{HasInput, HasParts, IsRead}
 use Rattle.sj_tool.proofs.InputLemmas.{read_bytes}
 use Rattle.sj_replay_laws.specs.Again.{IsInLines, ReplaysAll, TellsLog, told_of}
 use Rattle.sj_replay_laws.proofs.QuietLemmas.{quiet_is_drained}
@@ -55,21 +55,20 @@ record WasRun (file : FileAt) (verdict : Verdict) (answer : List ℕ) : Type 0 w
   run : HasRun links (tasks.Run true looks workers) log file verdict answer
 
 module _ (text : List ℕ) (file : FileAt) (stands : IsFile text file) (verdict : Verdict) (answer : List ℕ) where
-  -- of an answer to the text of a file
-  was_run : (links : LinkUseAt) (task : Task) → LogsRun task → AnswersBytes links task text (Ran verdict answer) → WasRun file verdict answer
-  was_run links (tasks.Run true looks workers) logs a =
-      let own : a.text ≡ text = a.parts.0 in
-      let same : a.answers.file ≡ file = one_file text a.answers.file file (subst (λ (t : List ℕ). IsFile t a.answers.file) own a.answers.stands) stands in
-      subst (λ (f : FileAt). WasRun f verdict answer) same
-      (record { links = links; looks = looks; workers = workers; log = a.log; accepted = a.answers.answers.0; run = a.answers.answers.1.1 })
-  was_run links task logs a = absurd logs
+  -- of an answer to a file whose text that is
+  was_run : (links : LinkUseAt) (task : Task) (own : List ℕ) (log : LogAt) (its : FileAt) → LogsRun task → HasParts task text own log → IsFile own its → AnswersFile links task log its (Ran verdict answer)
+      → WasRun file verdict answer
+  was_run links (tasks.Run true looks workers) own log its logs parts stand a =
+      let same : its ≡ file = one_file text its file (subst (λ (t : List ℕ). IsFile t its) parts.0 stand) stands in
+      subst (λ (f : FileAt). WasRun f verdict answer) same (record { links = links; looks = looks; workers = workers; log = log; accepted = a.0; run = a.1.1 })
+  was_run links task own log its logs parts stand a = absurd logs
 
 -- of the text that is replayed
 module _ (text : List ℕ) (file : FileAt) (stands : IsFile text file) (verdict : Verdict) (answer : List ℕ) where
   -- a replay of what was told has the same history
-  replayed : (few : length text ≤ file_limit) (lines : AreLines text) (log : List ℕ) → answer ≡ transcript_of file (end_of file) ++ log → WasRun file verdict answer
-      → (links : LinkUseAt) → AnswersBytes links (tasks.Replay true) (text ++ log) (Ran verdict answer)
-  replayed few lines log told w links =
+  replayed : (d : CallAt) (few : length text ≤ file_limit) (lines : AreLines text) (log : List ℕ) → answer ≡ transcript_of file (end_of file) ++ log → WasRun file verdict answer
+      → ReplaysAll d (text ++ log) → IsInTable d (Ran verdict answer)
+  replayed d few lines log told w r =
       let history = w.run.history in
       let core = w.run.core in
       let version : ℕ = version_of history in
@@ -81,35 +80,39 @@ module _ (text : List ℕ) (file : FileAt) (stands : IsFile text file) (verdict 
       subst (λ (t : List ℕ). IsParted (text ++ t) text version printed) (sym behind) (parted_there text printed file version stands lines (version_known history)) in
       let spelled : SpellsLog version file printed history =
       printed_back version file history (omega arith) (history_legible text file few stands w.accepted max max_picks history core w.run.has.run) in
-      record {
-        text = text;
-        log = log_at version printed;
-        parts = (parted, few);
-        answers = record {
+      (
+        record {
+          task = tasks.Replay true;
+          asks = r.asks;
+          bytes = text ++ log;
+          input = r.read;
+          text = text;
+          log = log_at version printed;
+          parts = (parted, few);
           file = file;
           stands = stands;
-          answers = (
-            w.accepted,
-            (
-              tt,
-              record {
-                history = history;
-                core = core;
-                has = record {
-                  begun = record { lines = history; left = core; leads = w.run.has.run; given = spelled };
-                  more = [];
-                  all = sym (append-nil history);
-                  drained = quiet_is_drained (play_of file) max (length file.parties) core w.run.has.quiet;
-                  run = w.run.has.run;
-                  quiet = w.run.has.quiet;
-                };
-                headline = w.run.headline;
-                told = w.run.told;
-              },
-            ),
-          );
-        };
-      }
+        },
+        (
+          w.accepted,
+          (
+            tt,
+            record {
+              history = history;
+              core = core;
+              has = record {
+                begun = record { lines = history; left = core; leads = w.run.has.run; given = spelled };
+                more = [];
+                all = sym (append-nil history);
+                drained = quiet_is_drained (play_of file) max (length file.parties) core w.run.has.quiet;
+                run = w.run.has.run;
+                quiet = w.run.has.quiet;
+              };
+              headline = w.run.headline;
+              told = w.run.told;
+            },
+          ),
+        ),
+      )
 
 -- the task of a call that logs a run reads a file
 run_reads : (c : CallAt) (task : Task) (bytes : List ℕ) → LogsRun task → HasInput c task bytes → IsRead c task bytes
@@ -125,16 +128,11 @@ lines_stand text whole file in_lines stands = elim in_lines.same [
 
 pub told_again : (c d : CallAt) (text whole log : List ℕ) (file : FileAt) (verdict : Verdict) → TellsLog c text file verdict log → IsInLines text whole → ReplaysAll d (whole ++ log) → IsInTable d (told_of file verdict log)
 told_again c d text whole log file verdict t w r =
-    let x = t.told in
+    let x = t.told.0 in
     let logs : LogsRun x.task = subst LogsRun (one_task c.words t.asks.task x.task t.asks.asks x.asks) t.asks.kind in
     let read = run_reads c x.task x.bytes logs x.input in
     let same : x.bytes ≡ text = sym (read_bytes c x.task text x.bytes t.left read) in
+    let parts : HasParts x.task text x.text x.log = subst (λ (b : List ℕ). HasParts x.task b x.text x.log) same x.parts in
     let answer : List ℕ = transcript_of file (end_of file) ++ log in
-    let was = was_run text file t.stands verdict answer c.links x.task logs (subst (λ (b : List ℕ). AnswersBytes c.links x.task b (Ran verdict answer)) same x.answers) in
-    record {
-      task = tasks.Replay true;
-      asks = r.asks;
-      bytes = whole ++ log;
-      input = r.read;
-      answers = replayed whole file (lines_stand text whole file w t.stands) verdict answer w.few w.lines log refl was d.links;
-    }
+    let was = was_run text file t.stands verdict answer c.links x.task x.text x.log x.file logs parts x.stands t.told.1 in
+    replayed whole file (lines_stand text whole file w t.stands) verdict answer d w.few w.lines log refl was r
