@@ -79,8 +79,7 @@ module _ (text : List ℕ) (file : FileAt) (stands : IsFile text file) (verdict 
       let parted : IsParted (text ++ log) text version printed =
       subst (λ (t : List ℕ). IsParted (text ++ t) text version printed) (sym behind) (parted_there text printed file version stands lines (version_known history)) in
       let spelled : SpellsLog version file printed history =
-      printed_back version file history (omega arith) (history_legible text file few stands w.accepted max max_picks history core w.run.has.run) in
-      (
+      printed_back version file history (omega arith) (history_legible text file few stands w.accepted max max_picks history core w.run.has.run) in (
         record {
           task = tasks.Replay true;
           asks = r.asks;
