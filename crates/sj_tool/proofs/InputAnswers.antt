@@ -7,7 +7,7 @@ use Rattle.sj_tool.specs.declared.answers.Answer.{Answer}
 use Rattle.sj_tool.specs.AnswerAt.{AnswerAt, answer_at, Usage, ReadFault, TooLarge, NoTalk, Syntax, LogFault, Made}
 use Rattle.sj_tool.specs.Answers.{AnswersFile, HoldsFile, IsInTable}
 use Rattle.sj_tool.specs.Calls.{CallAt}
-use Rattle.sj_tool.specs.Layers.{AnswersBytes, AnswersParts}
+use Rattle.sj_tool.specs.Layers.{AnswersBytes}
 use Rattle.sj_tool.specs.Tasks.{HasInput, IsRead}
 use Rattle.sj_tool.proofs.FileAnswers.{answers_bytes, answers_text}
 

@@ -1,4 +1,4 @@
-use Rattle.std.proofs.Common.{◌≤◌, ◌∙◌, ℕ, List, Option, IfSome, ap, arith, length, map, subst, sym}
+use Rattle.std.proofs.Common.{◌≤◌, ◌∙◌, ℕ, List, Option, IfSome, ap, arith, length, map, refl, subst, sym}
 use Rattle.std.specs.Prelude.{string_bytes}
 use Rattle.sj_command.specs.Task.{Asks}
 use Rattle.sj_command.specs.declared.tasks.Task.{Task}
@@ -33,3 +33,10 @@ returns-in-Ok g c =
       all = c.in-Ok.ensures.told_end;
       no_fault = c.in-Ok.ensures.no_fault;
     })) c.answer_to_bytes-in-Ok.ensures
+
+pub returns-in-Big : goal.returns-in-Big
+returns-in-Big g c =
+    let words = map string_bytes c.args.words.now in
+    let asks : Asks words c.in-Some.task = subst (λ (o : Option Task). IfSome o (Asks words)) c.in-Some.is c.in_ok-task.ensures.asked in
+    let big : Asks words (tasks.Big c.in-Big.n) = subst (λ (t : Task). Asks words t) c.in-Big.is asks in
+    bytes_come _ (tasks.Big c.in-Big.n) c.deref.result.now c.answer_to_bytes.result big ((refl, refl), c.deref.ensures.value ∙ c.in_ok-text.ensures) c.answer_to_bytes.ensures
