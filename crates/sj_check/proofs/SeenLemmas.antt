@@ -13,7 +13,7 @@ use Rattle.std.specs.Bool.{Decides, IsTrue}
 use Rattle.sj_acceptance.specs.Sameness.{is_same_ends}
 use Rattle.sj_acceptance_laws.proofs.SamenessLemmas.{is_same_ends-Decides}
 use Rattle.sj_acceptance.specs.EnvAt.{empty_env}
-use Rattle.sj_check.specs.declared.compiled.Protocols.{Protocols}
+use Rattle.sj_check.specs.declared.tables.Protocols.{Protocols}
 use Rattle.sj_check.specs.SpotEnv.{places_at, no_spots}
 use Rattle.sj_check.specs.Seen.{env_in}
 use Rattle.sj_check.specs.Maps.{map_at}

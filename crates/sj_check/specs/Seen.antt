@@ -2,7 +2,7 @@
 use Rattle.std.specs.Prelude.{ℕ, List}
 use Rattle.sj_lang.specs.FileAt.{ProtocolAt, party_names}
 use Rattle.sj_acceptance.specs.EnvAt.{EnvAt}
-use Rattle.sj_check.specs.declared.compiled.Protocols.{Protocols}
+use Rattle.sj_check.specs.declared.tables.Protocols.{Protocols}
 use Rattle.sj_check.specs.SpotEnv.{SpotEnv, places_at}
 use Rattle.sj_check.specs.Views.{protocols_of, parties_of}
 

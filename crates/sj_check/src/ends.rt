@@ -13,11 +13,11 @@ ghost use Rattle.sj_check.specs.Seen.{defs_in, env_in};
 ghost use Rattle.sj_check.specs.Told.{Judges, IsFault};
 
 use crate::CheckRefusal;
-use crate::compiled::Protocols;
 use crate::env::Env;
 use crate::files::is_party;
 use crate::places::{body_named, do_meet};
 use crate::rules::{DO_NOT_MEET, NAME_IN_USE, NO_PARTY, NO_PROTOCOL, broken};
+use crate::tables::Protocols;
 use sj_base::NoMemory;
 use sj_lang::{Connect, EndDecl, Party, Proto, ProtocolDef};
 use std::alloc::Global;

@@ -17,7 +17,7 @@ ghost use Rattle.sj_check.specs.SpotEnv.{no_spots, with_spot, without_spot, with
 ghost use Rattle.sj_check.specs.Named.{ends_named};
 
 use crate::labels::are_arms_of;
-use crate::named::names;
+use crate::name_lists::names;
 use crate::variables::Variables;
 use sj_base::NoMemory;
 use sj_lang::{Scalar, Stmt, StmtArm};

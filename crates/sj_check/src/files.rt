@@ -12,11 +12,11 @@ ghost use Rattle.sj_check.specs.Seen.{defs_in, names_in};
 ghost use Rattle.sj_check.specs.Told.{Judges, IsFault};
 
 use crate::CheckRefusal;
-use crate::compiled::Protocols;
 use crate::ends::{at_start, connections};
-use crate::once::names_once;
 use crate::openings::openings_meet;
 use crate::rules::{LEFT_OPEN, NAME_IN_USE, broken};
+use crate::tables::Protocols;
+use crate::uniqueness::names_once;
 use crate::walk::block;
 use sj_lang::{Connect, File, Party, ProtocolDef};
 use std::alloc::Global;

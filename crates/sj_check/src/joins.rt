@@ -14,12 +14,12 @@ ghost use Rattle.sj_check.specs.Seen.{env_in};
 ghost use Rattle.sj_check.specs.Told.{Judges, Walks, IsFault};
 
 use crate::CheckRefusal;
-use crate::compiled::Protocols;
 use crate::env::Env;
 use crate::kinds::{expr_kind, same_kind};
-use crate::named::has_same_ends_at;
+use crate::name_lists::has_same_ends_at;
 use crate::places::is_choice;
 use crate::rules::{ARMS_DIFFER, NOT_THERE, OTHER_ACTION, OTHER_ARMS, OTHER_KIND, broken};
+use crate::tables::Protocols;
 use sj_lang::{Expr, Scalar, StmtArm, Way};
 use std::collections::BTreeSet;
 

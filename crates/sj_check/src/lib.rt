@@ -2,8 +2,7 @@
 #![tactic(auto)]
 
 mod accepted;
-mod checking;
-mod compiled;
+mod checker;
 mod ends;
 mod env;
 mod files;
@@ -12,17 +11,18 @@ mod kinds;
 mod labels;
 mod limits;
 mod moves;
-mod named;
-mod once;
+mod name_lists;
 mod openings;
 mod places;
 mod refusal;
 mod rules;
 mod statements;
+mod tables;
+mod uniqueness;
 mod variables;
 mod walk;
 
 pub use accepted::Accepted;
-pub use checking::check;
+pub use checker::check;
 pub use limits::is_within_limits;
 pub use refusal::CheckRefusal;

@@ -7,9 +7,9 @@ ghost use Rattle.sj_acceptance.specs.FirstItem.{turn_of, rest_of, arm_place};
 ghost use Rattle.sj_check.specs.Seen.{env_in};
 ghost use Rattle.sj_table.specs.Spots.{place_in};
 
-use crate::compiled::Protocols;
 use crate::env::Env;
 use crate::places::{arm_place, rest, turn};
+use crate::tables::Protocols;
 use sj_base::NoMemory;
 use sj_table::Spot;
 

@@ -11,7 +11,6 @@ ghost use Rattle.sj_check.specs.Seen.{defs_in, names_in, env_in};
 ghost use Rattle.sj_check.specs.Told.{Does, Walks, IsFault};
 
 use crate::CheckRefusal;
-use crate::compiled::Protocols;
 use crate::env::Env;
 use crate::files::is_party;
 use crate::kinds::{carries_as, expr_kind, is_free_for};
@@ -22,6 +21,7 @@ use crate::rules::{
     CLOSED_EARLY, NAME_IN_USE, NO_LABEL, NO_PARTY, NO_PROTOCOL, NOT_THERE, NOT_TO_DELEGATE,
     OTHER_ACTION, OTHER_KIND, broken,
 };
+use crate::tables::Protocols;
 use sj_lang::{Expr, Scalar, Way};
 
 pub fn send(

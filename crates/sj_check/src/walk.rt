@@ -11,15 +11,15 @@ ghost use Rattle.sj_check.specs.Seen.{defs_in, names_in, env_in};
 ghost use Rattle.sj_check.specs.Told.{Judges, Walks, Does};
 
 use crate::CheckRefusal;
-use crate::compiled::Protocols;
 use crate::env::Env;
 use crate::joins::{both, branching, join, tested};
 use crate::kinds::{expr_kind, same_kind};
 use crate::moves::{at_arm, enter, pass, pass_both};
-use crate::named::has_same_ends_at;
+use crate::name_lists::has_same_ends_at;
 use crate::places::is_loop;
 use crate::rules::{ARMS_DIFFER, NOT_THERE, OTHER_ACTION, OTHER_KIND, TURN_DIFFERS, broken};
 use crate::statements::{close, delegate, let_be, open, select, send, take_end, take_value};
+use crate::tables::Protocols;
 use sj_lang::{Deed, Expr, Scalar, Stmt, StmtArm, Way};
 
 /// Statements in order.

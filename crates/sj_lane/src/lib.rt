@@ -2,16 +2,16 @@
 #![tactic(auto)]
 
 mod carries;
+mod columns;
 mod ends;
+mod grids;
 mod lane;
 mod links;
-mod make;
 mod marks;
 mod mem;
 mod mem_links;
 mod ring;
 mod rows;
-mod settle;
 #[cfg(test)]
 mod tests;
 

@@ -1,9 +1,9 @@
 //! The links.
+use crate::columns::settle;
 use crate::ends::{RingIn, RingOut};
+use crate::grids::build;
 use crate::lane::{InLane, Lanes, OutLane};
 use crate::links::{Links, MakeRefusal};
-use crate::make::build;
-use crate::settle::settle;
 use sj_base::NoMemory;
 use std::alloc::Global;
 

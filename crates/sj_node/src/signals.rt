@@ -8,7 +8,7 @@ ghost use Rattle.sj_node.specs.Passing.{GoTo, IsUnfit, SendsAtMain, cached_main}
 ghost use Rattle.sj_rules.specs.Record as rules;
 ghost use Rattle.sj_rules.specs.Rows as rows;
 ghost use Rattle.sj_base.specs.declared.EndId.{EndId};
-ghost use Rattle.sj_handover.specs.Passing.{closed, held, parked, usable_at};
+ghost use Rattle.sj_handover.specs.Passing.{closed_state, held_state, parked_state, usable_at};
 ghost use Rattle.sj_rules.specs.Record.{EndAt, HeldAt};
 ghost use Rattle.sj_table.specs.declared.table.Spot.{Spot};
 
@@ -59,8 +59,8 @@ fn pass_held(
 }
 
 fn held_in(state: Usable) -> Held
-    requires { (h : HeldAt Spot) × (usable_at state ≡ held h) }
-    ensures { usable_at state ≡ held (held_at result) }
+    requires { (h : HeldAt Spot) × (usable_at state ≡ held_state h) }
+    ensures { usable_at state ≡ held_state (held_at result) }
 {
     match state {
         Usable::Held(held) => held,
@@ -94,8 +94,8 @@ fn pass_closed(
 }
 
 fn closed_in(state: Usable) -> Closed
-    requires { (e : EndAt Spot) × (usable_at state ≡ closed e) }
-    ensures { usable_at state ≡ closed result.end }
+    requires { (e : EndAt Spot) × (usable_at state ≡ closed_state e) }
+    ensures { usable_at state ≡ closed_state result.end }
 {
     match state {
         Usable::Closed(end) => end,
@@ -129,8 +129,8 @@ pub(crate) fn pass_parked(
 }
 
 fn parked_in(state: Usable) -> Parked
-    requires { (e : EndAt Spot) × (usable_at state ≡ parked e) }
-    ensures { usable_at state ≡ parked result.end }
+    requires { (e : EndAt Spot) × (usable_at state ≡ parked_state e) }
+    ensures { usable_at state ≡ parked_state result.end }
 {
     match state {
         Usable::Parked(end) => end,

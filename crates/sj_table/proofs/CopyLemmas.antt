@@ -3,7 +3,7 @@ use Rattle.std.proofs.Common.{◌≡◌, ℕ, suc, ◌<◌, ◌++◌, List, [], 
 use Rattle.std.proofs.lemmas.List.{get_or-map, get_or_default, length-map}
 use Rattle.sj_lang.specs.Place.{Place, done}
 use Rattle.sj_lang.specs.View.{followed}
-use Rattle.sj_table.specs.declared.leading.Stop.{Stop}
+use Rattle.sj_table.specs.declared.leads.Stop.{Stop}
 use Rattle.sj_lang.specs.FileAt.{named}
 use Rattle.sj_table.specs.declared.table.Spot.{Spot}
 use Rattle.sj_table.specs.Nodes.{NodeAt, node_of}

@@ -5,7 +5,7 @@ use Rattle.sj_lang.specs.Place.{Place, Choices, done, message, choice, repeat, n
 use Rattle.sj_lang.specs.declared.proto.Item.{Item}
 use Rattle.sj_lang.specs.declared.proto.Item.TheVariants.{OutLoop, InLoop}
 use Rattle.sj_table.specs.declared.table.Spot.{Spot}
-use Rattle.sj_table.specs.declared.leading.Stop.{Stop}
+use Rattle.sj_table.specs.declared.leads.Stop.{Stop}
 use Rattle.sj_table.specs.Table.{IsStop, Leads, places_of}
 
 abbrev mutual

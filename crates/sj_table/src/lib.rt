@@ -1,10 +1,10 @@
 //! Places as numbers in a table.
 #![tactic(auto)]
 
-mod building;
-mod comparing;
-mod copying;
-mod leading;
+mod builders;
+mod comparisons;
+mod copies;
+mod leads;
 mod table;
 
 pub use table::{Spot, Table};

@@ -12,10 +12,10 @@ ghost use Rattle.sj_table.specs.Spots.{HasSpot, place_in, start_in};
 ghost use Rattle.sj_table.specs.Table.{at_node};
 ghost use Rattle.sj_table.specs.declared.table.Table.{Table};
 
-use crate::building::{add_place, items_at};
-use crate::comparing::{is_node_of, node_stands_for, same_nodes};
-use crate::copying::copied_stops;
-use crate::leading::{Stop, after_node, is_done_node, split_node};
+use crate::builders::{add_place, items_at};
+use crate::comparisons::{is_node_of, node_stands_for, same_nodes};
+use crate::copies::copied_stops;
+use crate::leads::{Stop, after_node, is_done_node, split_node};
 use sj_base::{Msg, NoMemory};
 use sj_lang::{Item, Proto, ProtocolDef, Way};
 use std::alloc::Global;

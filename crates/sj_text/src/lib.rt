@@ -1,9 +1,9 @@
 //! Text that is appended to, and may be cut short where memory is.
 #![tactic(auto)]
 
-mod putting;
+mod pieces;
 
-pub use putting::{put, put_int, put_number};
+pub use pieces::{put, put_int, put_number};
 
 #[cfg(test)]
 mod tests;
