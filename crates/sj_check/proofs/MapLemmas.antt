@@ -2,7 +2,7 @@
 use Rattle.std.proofs.Common.{◌≡◌, ◌≢◌, ℕ, List, [], ◌∷◌, Some, None, refl, ap, sym, ◌∙◌, ◌==◌, cond, Bool, true, false}
 use Rattle.std.proofs.lemmas.Bool.Decides.{Decides-eqb}
 use Rattle.std.specs.Ordering.{nat_cmp, eq_by_cmp}
-use Rattle.std.specs.Cmp.{nat_cmp_total, eq_by_cmp_equiv, unsigned_tied}
+use Rattle.std.specs.Cmp.{nat_cmp_total, unsigned_tied}
 use Rattle.std.specs.Map.{lookup}
 use Rattle.std.specs.BTreeMap.{is_at}
 use Rattle.std.specs.FinMap.{FinMap, get, insert, remove, find, same_map, get-from_entries, get-insert, get-remove, nat_cmp-IsAntisymmetric}
@@ -15,19 +15,6 @@ find_lookup (e ∷ es) q = ap (cond (eq_by_cmp nat_cmp q e.0) (Some e.1)) (find_
 -- what the finite map has at a key
 pub get-map_at : {X : Type 0} (es : List (ℕ × X)) (q : ℕ) → get (map_at es) q ≡ lookup (is_at (nat_cmp q)) es
 get-map_at es q = get-from_entries nat_cmp_total es q ∙ find_lookup es q
-
--- two lists of entries that answer alike but at one key
-pub map_at-updated : {X : Type 0} (es fs : List (ℕ × X)) (k : ℕ) (v : X)
-    → ((q : ℕ) → lookup (is_at (nat_cmp q)) fs ≡ cond (is_at (nat_cmp k) q) (Some v) (lookup (is_at (nat_cmp q)) es)) → map_at fs ≡ insert (map_at es) k v
-map_at-updated es fs k v h = same_map nat_cmp_total nat_cmp-IsAntisymmetric _ _ (λ q.
-    get-map_at fs q ∙ h q ∙ ap (λ b. cond b (Some v) (lookup (is_at (nat_cmp q)) es)) ((eq_by_cmp_equiv nat_cmp_total).symm k q)
-    ∙ sym (get-insert nat_cmp_total (map_at es) k v q ∙ ap (cond (eq_by_cmp nat_cmp q k) (Some v)) (get-map_at es q)))
-
-pub map_at-removed : {X : Type 0} (es fs : List (ℕ × X)) (k : ℕ)
-    → ((q : ℕ) → lookup (is_at (nat_cmp q)) fs ≡ cond (is_at (nat_cmp k) q) None (lookup (is_at (nat_cmp q)) es)) → map_at fs ≡ remove (map_at es) k
-map_at-removed es fs k h = same_map nat_cmp_total nat_cmp-IsAntisymmetric _ _ (λ q.
-    get-map_at fs q ∙ h q ∙ ap (λ b. cond b None (lookup (is_at (nat_cmp q)) es)) ((eq_by_cmp_equiv nat_cmp_total).symm k q)
-    ∙ sym (get-remove nat_cmp_total (map_at es) k q ∙ ap (cond (eq_by_cmp nat_cmp q k) None) (get-map_at es q)))
 
 -- what was taken out and put back
 pub insert-remove : {X : Type 0} (m : FinMap nat_cmp X) (k : ℕ) (v : X) → insert (remove m k) k v ≡ insert m k v

@@ -1,14 +1,12 @@
 -- The places for which the spots of an environment stand.
-use Rattle.std.proofs.Common.{◌≡◌, ℕ, List, [], ◌∷◌, Option, Some, None, Bool, true, false, option_map, map, length, arith, ◌↔◌, cond, refl, ap, sym, ◌∙◌}
+use Rattle.std.proofs.Common.{◌≡◌, ℕ, List, [], ◌∷◌, Option, Some, None, Bool, true, false, option_map, map, ◌↔◌, cond, refl, ap, sym, ◌∙◌}
 use Rattle.std.specs.Ordering.{nat_cmp, eq_by_cmp}
-use Rattle.std.specs.Cmp.{nat_cmp_total, unsigned_tied}
+use Rattle.std.specs.Cmp.{nat_cmp_total}
 use Rattle.std.specs.FinMap.{FinMap, get, insert, remove, empty, entries, find, same_map, get-entries, get-from_entries, get-insert, get-remove, get-empty, nat_cmp-IsAntisymmetric}
 use Rattle.sj_table.specs.declared.table.Spot.{Spot}
 use Rattle.sj_table.specs.declared.table.Table.{Table}
 use Rattle.sj_table.specs.Spots.{place_in}
-use Rattle.std.specs.Map.{lookup}
-use Rattle.std.specs.BTreeMap.{is_at}
-use Rattle.std.proofs.lemmas.Bool.Decides.{Decides-eqb, same_from_decides}
+use Rattle.std.proofs.lemmas.Bool.Decides.{same_from_decides}
 use Rattle.std.specs.Bool.{Decides, IsTrue}
 use Rattle.sj_acceptance.specs.Sameness.{is_same_ends}
 use Rattle.sj_acceptance_laws.proofs.SamenessLemmas.{is_same_ends-Decides}
@@ -16,9 +14,7 @@ use Rattle.sj_acceptance.specs.EnvAt.{empty_env}
 use Rattle.sj_check.specs.declared.tables.Protocols.{Protocols}
 use Rattle.sj_check.specs.SpotEnv.{places_at, no_spots}
 use Rattle.sj_check.specs.Seen.{env_in}
-use Rattle.sj_check.specs.Maps.{map_at}
 use Rattle.sj_check.proofs.FaultLemmas.{first_fault-append}
-use Rattle.sj_check.proofs.MapLemmas.{get-map_at}
 use Rattle.std.proofs.lemmas.List.{append_assoc, append-nil}
 
 find_mapped : {X Y : Type 0} (f : X → Y) (es : List (ℕ × X)) (q : ℕ) → find nat_cmp q (map (λ e. (e.0, f e.1)) es) ≡ option_map f (find nat_cmp q es)
@@ -58,19 +54,21 @@ places_at-empty t = same_map nat_cmp_total nat_cmp-IsAntisymmetric _ _ (λ q.
 pub env_in-no_spots : (p : Protocols) → env_in p no_spots ≡ empty_env
 env_in-no_spots p = ap (λ m. record { ends = m; variables = empty }) (places_at-empty p.table)
 
--- no end is live just where there are no entries
-none_live : (t : Table) (es : List (ℕ × Spot)) → Decides (is_same_ends (places_at t (map_at es)) empty) (length es ≡ 0)
-none_live t [] = (λ _. refl, λ _. (is_same_ends-Decides (places_at t empty) empty).1 (places_at-empty t))
-none_live t (e ∷ es) = (λ h. absurd (some ((is_same_ends-Decides (places_at t (map_at (e ∷ es))) empty).0 h)), λ h. absurd (omega (arith, h)))
-  where
-    here : get (places_at t (map_at (e ∷ es))) e.0 ≡ Some (place_in t e.1)
-    here = get-places_at t (map_at (e ∷ es)) e.0 ∙ ap (option_map (place_in t)) (get-map_at (e ∷ es) e.0 ∙ ap (λ b. cond b (Some e.1) (lookup (is_at (nat_cmp e.0)) es)) (unsigned_tied e.0 e.0 ∙ (Decides-eqb e.0 e.0).1 refl))
+not_mapped : {X Y : Type 0} (f : X → Y) (o : Option X) → option_map f o ≡ None → o ≡ None
+not_mapped f None h = refl
+not_mapped f (Some x) h = let none : Some (f x) ≡ None = h in absurd (cc)
 
-    some : places_at t (map_at (e ∷ es)) ≡ empty → ⊥
-    some h = let none : Some (place_in t e.1) ≡ None = sym here ∙ ap (λ m. get m e.0) h ∙ get-empty nat_cmp e.0 in absurd (cc)
+-- no end is live just where no end has a spot
+none_live : (t : Table) (m : FinMap nat_cmp Spot) → Decides (is_same_ends (places_at t m) empty) (m ≡ empty)
+none_live t m = (
+  (λ h. let none = (is_same_ends-Decides (places_at t m) empty).0 h in
+      same_map nat_cmp_total nat_cmp-IsAntisymmetric m empty (λ q.
+      not_mapped (place_in t) (get m q) (sym (get-places_at t m q) ∙ ap (λ k. get k q) none ∙ get-empty nat_cmp q) ∙ sym (get-empty nat_cmp q))),
+  λ e. (is_same_ends-Decides (places_at t m) empty).1 (ap (places_at t) e ∙ places_at-empty t),
+)
 
-pub has_none_live : (t : Table) (es : List (ℕ × Spot)) (r : Bool) → (IsTrue r ↔ (length es ≡ 0)) → r ≡ is_same_ends (places_at t (map_at es)) empty
-has_none_live t es r h = same_from_decides r (is_same_ends (places_at t (map_at es)) empty) h (none_live t es)
+pub has_none_live : (t : Table) (m : FinMap nat_cmp Spot) (r : Bool) → (IsTrue r ↔ (m ≡ empty)) → r ≡ is_same_ends (places_at t m) empty
+has_none_live t m r h = same_from_decides r (is_same_ends (places_at t m) empty) h (none_live t m)
 
 pub ruleset seen = (get-places_at, places_at-insert, places_at-remove, places_at-empty)
 

@@ -27,11 +27,14 @@ scalar_again Int = refl
 scalar_again Boolean = refl
 scalar_again Text = refl
 
--- finite maps of kinds, and what a party knows, as codes
+-- finite maps of spots and of kinds, and what a party knows, as codes
+abbrev pub coded_spots : Coded (FinMap nat_cmp Spot)
+coded_spots = map.code coded_ℕ spot.the_row.coded
+
 abbrev pub coded_kinds : Coded (FinMap nat_cmp Scalar)
 coded_kinds = map.code coded_ℕ (code_by ℕ coded_ℕ scalar_number scalar_at scalar_again)
 
 abbrev pub coded_env : Coded SpotEnv
 coded_env =
-    code_by (FinMap nat_cmp Spot × FinMap nat_cmp Scalar) (coded× (map.code coded_ℕ spot.the_row.coded) coded_kinds)
+    code_by (FinMap nat_cmp Spot × FinMap nat_cmp Scalar) (coded× coded_spots coded_kinds)
     (λ e. (e.spots, e.variables)) (λ p. record { spots = p.0; variables = p.1 }) (λ _. refl)

@@ -17,32 +17,33 @@ ghost use Rattle.sj_check.specs.SpotEnv.{no_spots, with_spot, without_spot, with
 ghost use Rattle.sj_check.specs.Named.{ends_named};
 
 use crate::labels::are_arms_of;
+use crate::live::LiveEnds;
 use crate::name_lists::names;
 use crate::variables::Variables;
 use sj_base::NoMemory;
 use sj_lang::{Scalar, Stmt, StmtArm};
 use sj_table::{Spot, Table};
 use std::alloc::Global;
-use std::collections::{BTreeMap, BTreeSet};
+use std::collections::BTreeSet;
 use std::marker::Model;
 
 /// The spot of each live end, and the kind of each variable.
 #[derive(Drop)]
 pub struct Env {
     alloc: Global,
-    spots: BTreeMap<u16, Spot>,
+    spots: LiveEnds,
     kinds: Variables,
 }
 
 impl Model for Env {
     ghost use Rattle.sj_check.specs.SpotEnv.{SpotEnv};
-    ghost use Rattle.sj_check.specs.Maps.{coded_env, map_at};
+    ghost use Rattle.sj_check.specs.Maps.{coded_env};
 
     ghost Value = { SpotEnv };
 
     ghost coded = { coded_env };
 
-    ghost view = { λ e. record { spots = map_at e.spots.entries; variables = e.kinds } };
+    ghost view = { λ e. record { spots = e.spots; variables = e.kinds } };
 }
 
 impl Env {
@@ -52,7 +53,7 @@ impl Env {
     {
         Env {
             alloc,
-            spots: BTreeMap::new(alloc),
+            spots: LiveEnds::new(alloc),
             kinds: Variables::new(alloc),
         }
     }
@@ -61,14 +62,14 @@ impl Env {
     pub fn spot(&self, end: u16) -> Option<Spot>
         ensures { result ≡ finite.get self.now.spots end }
     {
-        self.spots.get(&end).copied()
+        self.spots.spot(end)
     }
 
     /// The end moves on to this spot, or begins there.
     pub fn put_spot(&mut self, end: u16, spot: Spot) -> Result<(), NoMemory>
         ensures { OnOk result (self.new ≡ with_spot self.old end spot) }
     {
-        self.spots.insert(end, spot)?;
+        self.spots.put(end, spot)?;
         Ok(())
     }
 
@@ -76,7 +77,7 @@ impl Env {
     pub fn remove(&mut self, end: u16)
         ensures { self.new ≡ without_spot self.old end }
     {
-        self.spots.remove(&end);
+        self.spots.remove(end);
     }
 
     /// The kind of a variable.
@@ -152,7 +153,7 @@ impl Env {
     pub fn copied(&self) -> Result<Env, NoMemory>
         ensures { IfOk result (λ e. e ≡ self.now) }
     {
-        let spots = self.spots.clone()?;
+        let spots = self.spots.copied(self.alloc)?;
         let kinds = self.kinds.copied(self.alloc)?;
         Ok(Env {
             alloc: self.alloc,

@@ -27,10 +27,11 @@ pub fn are_arms_of(
         Some((Item::Branch(choice), _)) => choice_labels(alloc, choice)?,
         _ => Vec::new(alloc),
     };
+    // A choice has few labels: of more arms than these one is soon found twice.
     Ok(
         !named.is_empty()
-            && all_differ(&named)
             && are_among(&named, &wanted)
+            && all_differ(&named)
             && are_among(&wanted, &named),
     )
 }

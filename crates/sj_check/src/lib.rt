@@ -10,6 +10,7 @@ mod joins;
 mod kinds;
 mod labels;
 mod limits;
+mod live;
 mod moves;
 mod name_lists;
 mod openings;

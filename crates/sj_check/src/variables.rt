@@ -1,20 +1,20 @@
 //! The kinds of a party's variables.
-ghost use Rattle.std.specs.Prelude.{◌≡◌, ℕ, ◌≤◌, None, length, slice_index_or, if◌then◌else◌};
+ghost use Rattle.std.specs.Prelude.{◌≡◌, ℕ, ◌≤◌, Some, None, length, slice_index, if◌then◌else◌};
 ghost use Rattle.std.specs.Prelude.{IfOk, OnOk};
 ghost use Rattle.std.specs.FinMap as map;
 ghost use Rattle.sj_acceptance.specs.Arms.{agree, common};
+ghost use Rattle.sj_check.specs.Table.{kind_of_byte};
 
-use crate::kinds::same_kind;
 use sj_base::NoMemory;
 use sj_lang::Scalar;
 use std::alloc::Global;
 use std::marker::Model;
 
-/// The kind of each variable, in a table by the number of its name, so that a copy is one of a flat
-/// list.
+/// The kind of each variable, a byte in a table by the number of its name, so that a copy is one of a
+/// flat list, and many bytes are compared at once.
 #[derive(Drop)]
 pub struct Variables {
-    table: Vec<Option<Scalar>>,
+    table: Vec<u8>,
 }
 
 impl Model for Variables {
@@ -46,7 +46,7 @@ impl Variables {
     pub fn kind(&self, name: u16) -> Option<Scalar>
         ensures { result ≡ map.get self.now name }
     {
-        kind_at(&self.table, name as usize)
+        kind_of(byte_at(&self.table, name as usize))
     }
 
     /// The variable is known at this kind from now on.
@@ -55,7 +55,7 @@ impl Variables {
     {
         let n = name as usize;
         grow(&mut self.table, n + 1)?;
-        self.table[n] = Some(kind);
+        self.table[n] = byte_of(kind);
         Ok(())
     }
 
@@ -71,45 +71,69 @@ impl Variables {
     pub fn keep_common(&mut self, other: &Variables)
         ensures { self.new ≡ common self.old other.now }
     {
+        self.table.truncate(other.table.len());
         keep(&mut self.table, &other.table);
     }
 }
 
-fn kind_at(table: &[Option<Scalar>], n: usize) -> Option<Scalar>
-    ensures { result ≡ slice_index_or table.now n None }
+/// The byte of a variable that isn't known.
+const UNKNOWN: u8 = 0;
+
+fn byte_of(kind: Scalar) -> u8
+    ensures { kind_of_byte result ≡ Some kind }
 {
-    if n < table.len() { table[n] } else { None }
+    match kind {
+        Scalar::Int => 1,
+        Scalar::Boolean => 2,
+        Scalar::Text => 3,
+    }
+}
+
+fn kind_of(byte: u8) -> Option<Scalar>
+    ensures { result ≡ kind_of_byte byte }
+{
+    match byte {
+        1 => Some(Scalar::Int),
+        2 => Some(Scalar::Boolean),
+        3 => Some(Scalar::Text),
+        _ => None,
+    }
+}
+
+fn byte_at(table: &[u8], n: usize) -> u8
+    ensures { result ≡ slice_index table.now n }
+{
+    if n < table.len() { table[n] } else { UNKNOWN }
 }
 
 // Makes room for numbers below `len`.
-fn grow(table: &mut Vec<Option<Scalar>>, len: usize) -> Result<(), NoMemory>
+fn grow(table: &mut Vec<u8>, len: usize) -> Result<(), NoMemory>
     ensures room { OnOk result (len ≤ length table.new.items) }
-    ensures kept { (q : ℕ) → slice_index_or table.new.items q None ≡ slice_index_or table.old.items q None }
+    ensures kept { (q : ℕ) → slice_index table.new.items q ≡ slice_index table.old.items q }
 {
     while table.len() < len {
-        table.push(None)?;
+        table.push(UNKNOWN)?;
     }
     Ok(())
 }
 
-fn keep(table: &mut Vec<Option<Scalar>>, other: &[Option<Scalar>])
-    ensures { (q : ℕ)
-        → let old = slice_index_or table.old.items q None in
-        slice_index_or table.new.items q None
-        ≡ (if agree old (slice_index_or other.now q None) then old else None) }
+// Keeps the kinds that the other table has, too.
+fn keep(table: &mut [u8], other: &[u8])
+    requires { length table.old ≤ length other.now }
+    ensures len { length table.new ≡ length table.old }
+    ensures each { (q : ℕ)
+        → let old = kind_of_byte (slice_index table.old q) in
+        kind_of_byte (slice_index table.new q)
+        ≡ (if agree old (kind_of_byte (slice_index other.now q)) then old else None) }
 {
     for n in 0..table.len() {
-        if table[n].is_some() && !agrees(table[n], kind_at(other, n)) {
-            table[n] = None;
-        }
+        table[n] = same_byte(table[n], other[n]);
     }
 }
 
-fn agrees(one: Option<Scalar>, other: Option<Scalar>) -> bool
-    ensures { result ≡ agree one other }
+fn same_byte(one: u8, other: u8) -> u8
+    ensures { let kind = kind_of_byte one in
+        kind_of_byte result ≡ (if agree kind (kind_of_byte other) then kind else None) }
 {
-    match (one, other) {
-        (Some(kind), Some(same)) => same_kind(kind, same),
-        _ => false,
-    }
+    if one == other { one } else { UNKNOWN }
 }

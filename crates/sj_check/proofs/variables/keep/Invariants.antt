@@ -1,9 +1,13 @@
-use Rattle.std.proofs.Common.{◌≡◌, ℕ, None, slice_index_or, nat_lt, if◌then◌else◌}
+use Rattle.std.proofs.Common.{◌≡◌, ℕ, None, slice_index, length, nat_lt, if◌then◌else◌}
 use Rattle.sj_acceptance.specs.Arms.{agree}
+use Rattle.sj_check.specs.Table.{kind_of_byte}
 use Rattle.sj_check.proofs.variables.keep.Given as goal
 
 -- below n is done, and the rest is as it was
 abbrev pub invariant-loop-n : goal.invariant-loop-n
 invariant-loop-n l =
-    (q : ℕ) → let old = slice_index_or l.fn.table.items q None in
-    slice_index_or l.table.items q None ≡ (if nat_lt q l.n then (if agree old (slice_index_or l.other q None) then old else None) else old)
+    record {
+      len : length l.table ≡ length l.fn.table;
+      each : (q : ℕ) → let old = kind_of_byte (slice_index l.fn.table q) in
+          kind_of_byte (slice_index l.table q) ≡ (if nat_lt q l.n then (if agree old (kind_of_byte (slice_index l.other q)) then old else None) else old);
+    }
