@@ -8,7 +8,7 @@ ghost use Rattle.sj_semantics.specs.Uses.{place_behind};
 ghost use Rattle.sj_plain.specs.Moves.{arms_in, place_length, after_move, IsOpen};
 
 use sj_base::{Msg, NoMemory};
-use sj_lang::{Item, Proto, Way, arm_named, copied, is_carried};
+use sj_lang::{Item, Proto, Way, append_copies, arm_named, is_carried};
 use std::alloc::Global;
 
 /// How a message moves a place.
@@ -79,11 +79,17 @@ fn turn(alloc: Global, items: &mut Vec<Item>) -> Result<(), NoMemory>
     ensures ok { OnOk result (place_of items.new.items ≡ after_move items.old.items Move.Turn) }
     ensures err { OnErr result (items.new.items ≡ items.old.items) }
 {
-    let mut body = match &items[0] {
-        Item::OutLoop(body) | Item::InLoop(body) => copied(alloc, body)?,
+    let mut ahead = match &items[0] {
+        Item::OutLoop(body) | Item::InLoop(body) => {
+            let mut ahead = Vec::with_capacity(alloc, body.items.len() + items.len())?;
+            append_copies(alloc, &mut ahead, &body.items)?;
+            ahead
+        }
         _ => return Ok(()),
     };
-    put_before(items, &mut body.items)
+    ahead.append(items)?; // The room is there.
+    *items = ahead;
+    Ok(())
 }
 
 // Puts the items of the arm in place of the choice.
