@@ -76,12 +76,12 @@ impl Course {
             MatchResult result (λ _. state ≡ Ready) (λ h. Shows state h) }
     {
         let want = self.wants(party);
-        match self.state_by(party, want) {
+        match self.state_by(party, &want) {
             State::Waits(_) => Err(Halt::Waits),
             State::WaitsOpen(_) => Err(Halt::Waits),
             State::Ended => Err(Halt::Ended),
             State::AtLimit(_) => Err(Halt::AtLimit),
-            State::Ready => match self.step(party, want) {
+            State::Ready => match self.step(party, &want) {
                 Ok(()) => Ok(()),
                 Err(NoMemory) => Err(Halt::NoMemory),
             },
@@ -89,10 +89,10 @@ impl Course {
     }
 
     /// Does the next step of a ready party, which is the one that it wants, and lists it.
-    fn step(&mut self, party: u16, want: Want) -> Result<(), NoMemory>
+    fn step(&mut self, party: u16, want: &Want) -> Result<(), NoMemory>
         requires there { party < length (world_in self.old).parties }
         requires wants { option_map (λ g. unwrap_or (want_of g) Ended)
-            (slice_get (world_in self.old).parties party) ≡ Some want }
+            (slice_get (world_in self.old).parties party) ≡ Some want.now }
         requires ready { state_of (world_in self.old) party ≡ Ready }
         requires ordered { IsOrdered self.old }
         ensures ok { OnOk result (act_of (world_in self.old) party ≡ Some (world_in self.new)) }

@@ -28,12 +28,12 @@ use sj_semantics::{Awaits, Limit, Opened, Passed, State, Want};
 use std::alloc::Global;
 
 /// How a party stands that hasn't ended and isn't at the limit of steps.
-fn state_by(sessions: &[Session], opened: &[Opened], party: u16, want: Want) -> State
+fn state_by(sessions: &[Session], opened: &[Opened], party: u16, want: &Want) -> State
     requires order { AreInOrder party opened.now }
     ensures { (ps : List ProtocolAt) (gs : List Program) →
-        result ≡ state_by (world_with ps gs (sessions_at sessions.now) opened.now) party want }
+        result ≡ state_by (world_with ps gs (sessions_at sessions.now) opened.now) party want.now }
 {
-    match want {
+    match *want {
         Want::Ended => State::Ended,
         Want::Delegate { sent, .. } => {
             if hops(sessions, sent) < MAX_HOPS {
@@ -73,16 +73,16 @@ pub fn state_wanting(
     opened: &[Opened],
     party: u16,
     steps: u32,
-    want: Want,
+    want: &Want,
 ) -> State
     requires order { AreInOrder party opened.now }
     ensures { (ps : List ProtocolAt) (gs : List Program) →
         result ≡ state_wanting (world_with ps gs (sessions_at sessions.now) opened.now)
-        party steps want }
+        party steps want.now }
 {
     match want {
         Want::Ended => State::Ended,
-        want => {
+        _ => {
             if steps < MAX_STEPS {
                 state_by(sessions, opened, party, want)
             } else {
@@ -236,9 +236,9 @@ pub fn step(
     opened: &mut Vec<Opened>,
     machine: &mut Machine,
     party: u16,
-    want: Want,
+    want: &Want,
 ) -> Result<(), NoMemory>
-    requires wants { want ≡ unwrap_or (want_of (program_at machine.old)) Ended }
+    requires wants { want.now ≡ unwrap_or (want_of (program_at machine.old)) Ended }
     requires ready { state_of_program
         (world_around protocols.now sessions.old.items opened.old.items)
         party (program_at machine.old) ≡ Ready }
@@ -257,7 +257,7 @@ pub fn step(
         (sessions_at sessions.new.items ≡ sessions_at sessions.old.items) }
     ensures opened { OnErr result (opened.new.items ≡ opened.old.items) }
 {
-    match want {
+    match *want {
         Want::Local => {
             machine.local();
             Ok(())

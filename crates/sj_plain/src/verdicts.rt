@@ -24,10 +24,10 @@ impl Course {
     }
 
     /// How the party stands whose next step is this one.
-    pub(crate) fn state_by(&self, party: u16, want: Want) -> State
+    pub(crate) fn state_by(&self, party: u16, want: &Want) -> State
         requires there { party < length (world_in self.now).parties }
         requires wants { option_map (λ g. unwrap_or (want_of g) Ended)
-            (slice_get (world_in self.now).parties party) ≡ Some want }
+            (slice_get (world_in self.now).parties party) ≡ Some want.now }
         requires ordered { IsOrdered self.now }
         ensures { result ≡ state_of (world_in self.now) party }
     {
@@ -41,7 +41,8 @@ impl Course {
         requires ordered { IsOrdered self.now }
         ensures { result ≡ state_of (world_in self.now) party }
     {
-        self.state_by(party, self.wants(party))
+        let want = self.wants(party);
+        self.state_by(party, &want)
     }
 
     /// How the world stands as a whole: long where somebody is at a limit, else done where
