@@ -1,5 +1,5 @@
 -- Courses go on by acts.
-use Rattle.std.proofs.Common.{◌≡◌, ℕ, ◌+◌, ◌<◌, ◌≤◌, nat_lt, cond, List, [], ◌∷◌, ◌++◌, map, length, get_or, slice_get, Option, Some, None, option_map, option_and_then, refl, ap, sym, ◌∙◌, subst, append-nil, append_assoc}
+use Rattle.std.proofs.Common.{◌≡◌, ℕ, ◌+◌, ◌<◌, ◌≤◌, nat_lt, cond, List, [], ◌∷◌, ◌++◌, map, length, get_or, slice_get, Option, Some, None, option_map, option_and_then, unwrap_or, refl, ap, sym, ◌∙◌, subst, append-nil, append_assoc}
 use Rattle.std.proofs.Math.ListN.{set}
 use Rattle.std.proofs.lemmas.List.{length-map, length-set}
 use Rattle.std.proofs.lemmas.Option.{slice_get-map, slice_get_read}
@@ -16,7 +16,7 @@ use Rattle.sj_semantics.specs.Program.{Program}
 use Rattle.sj_semantics.specs.Run.{IsRun, after_acts, end_of}
 use Rattle.sj_semantics.specs.Requests.{Requests}
 use Rattle.sj_semantics.specs.World.{start_of, World, Change, act_of, change_by, change_of_program, changed_world}
-use Rattle.sj_semantics.specs.State.{IsSettled, state_if, state_of, state_of_program, state_wanting_if}
+use Rattle.sj_semantics.specs.State.{IsSettled, state_if, state_of, state_of_program, state_wanting, state_wanting_if}
 use Rattle.sj_semantics.specs.Uses.{altered_list}
 use Rattle.sj_semantics.specs.Wants.{want_of}
 use Rattle.sj_semantics_laws.proofs.FinishLemmas.{end_is_reached, end_is_settled}
@@ -31,6 +31,7 @@ use Rattle.sj_plain.specs.Course.{GoesOn, acts_in, file_in, world_in}
 use Rattle.sj_plain.specs.Rounds.{steps_left}
 use Rattle.sj_plain.specs.Opened.{IsInOrder, requests_in, world_with}
 use Rattle.sj_plain.specs.Stepping.{after_change, next_move, sessions_at, world_around}
+use Rattle.sj_plain.proofs.SteppingLemmas.{stands_wanting}
 use Rattle.sj_plain.proofs.UseLemmas.{map-same, map-set}
 
 -- ---- a party sees nothing of the others
@@ -91,8 +92,20 @@ ready_alone ps ms zs os p m lt there ready =
     ∙ sym (ap (state_if (world_by ps ms zs os) p) (party_there ms p m lt there))
     ∙ ready
 
-pub stands_among : (ps : List ProtocolDef) (ms : List Machine) (zs : List Lying) (os : List Opened) (p : ℕ) (m : Machine) → p < length ms → m ≡ get_or ms p m → state_of_program (world_by ps ms zs os) p (program_at m) ≡ state_of (world_by ps ms zs os) p
+stands_among : (ps : List ProtocolDef) (ms : List Machine) (zs : List Lying) (os : List Opened) (p : ℕ) (m : Machine) → p < length ms → m ≡ get_or ms p m → state_of_program (world_by ps ms zs os) p (program_at m) ≡ state_of (world_by ps ms zs os) p
 stands_among ps ms zs os p m lt there = sym (ap (state_if (world_by ps ms zs os) p) (party_there ms p m lt there))
+
+-- what the party wants, and how it stands by that
+wants_alone : (ms : List Machine) (p : ℕ) (m : Machine) (want : Want) → p < length ms → m ≡ get_or ms p m → option_map (λ g. unwrap_or (want_of g) wants.Ended) (slice_get (map program_at ms) p) ≡ Some want → want ≡ unwrap_or (want_of (program_at m)) wants.Ended
+wants_alone ms p m want lt there wanted =
+    let it : Some (unwrap_or (want_of (program_at m)) wants.Ended) ≡ Some want = sym (ap (option_map (λ g. unwrap_or (want_of g) wants.Ended)) (party_there ms p m lt there)) ∙ wanted in
+    cc
+
+pub stands_by_want : (ps : List ProtocolDef) (ms : List Machine) (zs : List Lying) (os : List Opened) (p : ℕ) (m : Machine) (want : Want) → p < length ms → m ≡ get_or ms p m → option_map (λ g. unwrap_or (want_of g) wants.Ended) (slice_get (map program_at ms) p) ≡ Some want
+    → state_wanting (world_by ps ms zs os) p (program_at m).steps want ≡ state_of (world_by ps ms zs os) p
+stands_by_want ps ms zs os p m want lt there wanted =
+    stands_wanting (world_by ps ms zs os) p (program_at m) want (wants_alone ms p m want lt there wanted)
+    ∙ stands_among ps ms zs os p m lt there
 
 -- a party, sessions and opened sessions that are seen as they were
 pub world_same : (ps : List ProtocolDef) (ms : List Machine) (ys zs : List Lying) (ns os : List Opened) (p : ℕ) (m n : Machine) → p < length ms → m ≡ get_or ms p m → program_at n ≡ program_at m → sessions_at ys ≡ sessions_at zs → ns ≡ os

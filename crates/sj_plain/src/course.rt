@@ -1,5 +1,5 @@
 //! A course of acts: a file's parties and sessions as the acts so far have left them.
-ghost use Rattle.std.specs.Prelude.{◌≡◌, ◌<◌, ◌≤◌, ◌∷◌, ◌++◌, [], None, Some, true, false, length, map, IfOk, MatchResult, OnErr, OnOk};
+ghost use Rattle.std.specs.Prelude.{◌≡◌, ◌<◌, ◌≤◌, ◌∷◌, ◌++◌, [], None, Some, true, false, length, map, option_map, slice_get, unwrap_or, IfOk, MatchResult, OnErr, OnOk};
 ghost use Rattle.sj_acceptance.specs.Accepted.{IsAccepted};
 ghost use Rattle.sj_lang.specs.FileView.{file_of};
 ghost use Rattle.sj_lang.specs.Limits.{limits};
@@ -11,7 +11,9 @@ ghost use Rattle.sj_plain.specs.Rounds.{Shows, steps_left};
 ghost use Rattle.sj_plain.specs.Stepping.{sessions_at};
 ghost use Rattle.sj_semantics.specs.World.{start_of, act_of};
 ghost use Rattle.sj_semantics.specs.State.{IsSettled, state_of};
+ghost use Rattle.sj_semantics.specs.Wants.{want_of};
 ghost use Rattle.sj_semantics.specs.declared.State.TheVariants.{Ready};
+ghost use Rattle.sj_semantics.specs.declared.Want.TheVariants.{Ended};
 
 use crate::Halt;
 use crate::ends::Session;
@@ -20,7 +22,7 @@ use crate::progress::step;
 use sj_base::NoMemory;
 use sj_lang::File;
 use sj_machine::Machine;
-use sj_semantics::{Opened, State};
+use sj_semantics::{Opened, State, Want};
 use std::alloc::Global;
 
 /// A file, its parties and sessions, and who acted so far.
@@ -73,21 +75,24 @@ impl Course {
         ensures told { let state = state_of (world_in self.old) party in
             MatchResult result (λ _. state ≡ Ready) (λ h. Shows state h) }
     {
-        match self.state(party) {
+        let want = self.wants(party);
+        match self.state_by(party, &want) {
             State::Waits(_) => Err(Halt::Waits),
             State::WaitsOpen(_) => Err(Halt::Waits),
             State::Ended => Err(Halt::Ended),
             State::AtLimit(_) => Err(Halt::AtLimit),
-            State::Ready => match self.step(party) {
+            State::Ready => match self.step(party, &want) {
                 Ok(()) => Ok(()),
                 Err(NoMemory) => Err(Halt::NoMemory),
             },
         }
     }
 
-    /// Does the next step of a ready party, and lists it.
-    fn step(&mut self, party: u16) -> Result<(), NoMemory>
+    /// Does the next step of a ready party, which is the one that it wants, and lists it.
+    fn step(&mut self, party: u16, want: &Want) -> Result<(), NoMemory>
         requires there { party < length (world_in self.old).parties }
+        requires wants { option_map (λ g. unwrap_or (want_of g) Ended)
+            (slice_get (world_in self.old).parties party) ≡ Some want.now }
         requires ready { state_of (world_in self.old) party ≡ Ready }
         requires ordered { IsOrdered self.old }
         ensures ok { OnOk result (act_of (world_in self.old) party ≡ Some (world_in self.new)) }
@@ -108,6 +113,7 @@ impl Course {
             &mut self.opened,
             machine,
             party,
+            want,
         )?;
         self.acts.push_reserved(party);
         Ok(())

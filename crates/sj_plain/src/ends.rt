@@ -10,7 +10,7 @@ ghost use Rattle.sj_plain.specs.Ends.{end_view, session_at, connected_session, n
 
 use crate::moves::advance;
 use sj_base::{Msg, NoMemory};
-use sj_lang::{Connect, Proto, ProtocolDef, Way, copied};
+use sj_lang::{Connect, Item, Proto, ProtocolDef, Way, copied};
 use sj_semantics::Passed;
 use std::alloc::Global;
 
@@ -18,6 +18,8 @@ use std::alloc::Global;
 #[derive(Drop)]
 pub(crate) struct End {
     place: Proto,
+    // Room in which a place is put together.
+    spare: Vec<Item>,
     sent: Vec<Passed>,
     takers: Vec<u16>,
     hops: u8,
@@ -39,6 +41,7 @@ impl End {
     {
         End {
             place,
+            spare: Vec::new(alloc),
             sent: Vec::new(alloc),
             takers: Vec::new(alloc),
             hops: 0,
@@ -59,7 +62,13 @@ impl End {
         ensures err { OnErr result (end_view self.new ≡ end_view self.old) }
     {
         self.sent.reserve(1)?;
-        advance(alloc, &mut self.place, Way::Out, &passed.msg)?;
+        advance(
+            alloc,
+            &mut self.place,
+            &mut self.spare,
+            Way::Out,
+            &passed.msg,
+        )?;
         self.sent.push_reserved(passed);
         Ok(())
     }
@@ -69,7 +78,7 @@ impl End {
         ensures err { OnErr result (end_view self.new ≡ end_view self.old) }
     {
         self.takers.reserve(1)?;
-        advance(alloc, &mut self.place, Way::Into, msg)?;
+        advance(alloc, &mut self.place, &mut self.spare, Way::Into, msg)?;
         self.takers.push_reserved(by);
         Ok(())
     }

@@ -1,15 +1,16 @@
 //! The place of an end moves past a message, its items moved and not copied.
 #![tactic(auto, using(crate::proofs::MoveLemmas::moves))]
 
-ghost use Rattle.std.specs.Prelude.{◌≡◌, ◌+◌, ◌<◌, ◌≤◌, ◌++◌, vec_len, vec_capacity, IsOk, OnOk, OnErr};
+ghost use Rattle.std.specs.Prelude.{◌≡◌, ◌+◌, ◌<◌, ◌≤◌, ◌^◌, ◌++◌, vec_len, vec_capacity, IsOk, OnOk, OnErr};
 ghost use Rattle.sj_lang.specs.View.{place_of};
 ghost use Rattle.sj_lang.specs.After.{arm_count, arm_rest};
 ghost use Rattle.sj_semantics.specs.Uses.{place_behind};
 ghost use Rattle.sj_plain.specs.Moves.{arms_in, place_length, after_move, IsOpen};
 
 use sj_base::{Msg, NoMemory};
-use sj_lang::{Item, Proto, Way, arm_named, copied, is_carried};
+use sj_lang::{Item, Proto, Way, append_copies, arm_named, is_carried};
 use std::alloc::Global;
+use std::mem::swap;
 
 /// How a message moves a place.
 enum Move {
@@ -24,8 +25,15 @@ enum Move {
 }
 
 /// Moves the place past the message. It stays where the message isn't next. One more turn of a
-/// loop copies the body of the loop, and nothing else copies items.
-pub(crate) fn advance(alloc: Global, place: &mut Proto, way: Way, msg: &Msg) -> Result<(), NoMemory>
+/// loop copies the body of the loop, and nothing else copies items. The place and the spare list
+/// take turns: where items come before others, they are put together in the one that is spare.
+pub(crate) fn advance(
+    alloc: Global,
+    place: &mut Proto,
+    spare: &mut Vec<Item>,
+    way: Way,
+    msg: &Msg,
+) -> Result<(), NoMemory>
     ensures ok { OnOk result (place.new ≡ place_behind place.old way msg.now) }
     ensures err { OnErr result (place.new ≡ place.old) }
 {
@@ -35,8 +43,8 @@ pub(crate) fn advance(alloc: Global, place: &mut Proto, way: Way, msg: &Msg) -> 
             let _ = place.items.remove(0);
             Ok(())
         }
-        Move::Turn => turn(alloc, &mut place.items),
-        Move::Enter(arm) => enter(&mut place.items, arm),
+        Move::Turn => turn(alloc, &mut place.items, spare),
+        Move::Enter(arm) => enter(&mut place.items, spare, arm),
     }
 }
 
@@ -74,34 +82,38 @@ fn move_of(items: &[Item], way: Way, msg: &Msg) -> Move
 }
 
 // Puts one turn of the loop before it.
-fn turn(alloc: Global, items: &mut Vec<Item>) -> Result<(), NoMemory>
+fn turn(alloc: Global, items: &mut Vec<Item>, spare: &mut Vec<Item>) -> Result<(), NoMemory>
     requires { IsOpen items.old.items Move.Turn }
     ensures ok { OnOk result (place_of items.new.items ≡ after_move items.old.items Move.Turn) }
     ensures err { OnErr result (items.new.items ≡ items.old.items) }
 {
-    let mut body = match &items[0] {
-        Item::OutLoop(body) | Item::InLoop(body) => copied(alloc, body)?,
+    spare.clear();
+    match &items[0] {
+        Item::OutLoop(body) | Item::InLoop(body) => append_copies(alloc, spare, &body.items)?,
         _ => return Ok(()),
-    };
-    put_before(items, &mut body.items)
+    }
+    put_behind(items, spare)
 }
 
 // Puts the items of the arm in place of the choice.
-fn enter(items: &mut Vec<Item>, arm: usize) -> Result<(), NoMemory>
+fn enter(items: &mut Vec<Item>, spare: &mut Vec<Item>, arm: usize) -> Result<(), NoMemory>
     requires { IsOpen items.old.items (Move.Enter arm) }
     ensures ok { OnOk result (place_of items.new.items
         ≡ after_move items.old.items (Move.Enter arm)) }
     ensures err { OnErr result (items.new.items ≡ items.old.items) }
 {
-    items.reserve(arm_length(&items[0], arm))?;
+    spare.clear();
+    spare.reserve(arm_length(&items[0], arm) + items.len())?;
     let mut front = taken_arm(items.remove(0), arm);
-    // The room is there.
-    put_before(items, &mut front.items)
+    // The room is there for both.
+    spare.append(&mut front.items)?;
+    put_behind(items, spare)
 }
 
 fn arm_length(item: &Item, arm: usize) -> usize
     requires { arm < arm_count (arms_in item.now) }
-    ensures { result ≡ place_length (arm_rest arm (arms_in item.now)) }
+    ensures length { result ≡ place_length (arm_rest arm (arms_in item.now)) }
+    ensures fits { result < 2 ^ 63 }
 {
     match item {
         Item::Select(choice) | Item::Branch(choice) => choice.arms[arm].rest.items.len(),
@@ -119,14 +131,13 @@ fn taken_arm(item: Item, arm: usize) -> Proto
     }
 }
 
-// Moves the items of `front` to the front.
-fn put_before(items: &mut Vec<Item>, front: &mut Vec<Item>) -> Result<(), NoMemory>
+// Moves the items behind those of `front`, and swaps the two lists.
+fn put_behind(items: &mut Vec<Item>, front: &mut Vec<Item>) -> Result<(), NoMemory>
     ensures ok { OnOk result (items.new.items ≡ front.old.items ++ items.old.items) }
     ensures err { OnErr result (items.new.items ≡ items.old.items) }
-    ensures room { vec_len items.old + vec_len front.old ≤ vec_capacity items.old → IsOk result }
+    ensures room { vec_len front.old + vec_len items.old ≤ vec_capacity front.old → IsOk result }
 {
-    let behind = items.len();
-    items.append(front)?;
-    items.rotate_left(behind);
+    front.append(items)?;
+    swap(items, front);
     Ok(())
 }

@@ -183,8 +183,7 @@ impl Plain {
         ensures { option_map (λ g. unwrap_or (want_of g) Ended)
             (slice_get (world_at self.now).parties party) ≡ Some result }
     {
-        let machine = &self.course.machines[party as usize];
-        machine.wants()
+        self.course.wants(party)
     }
 
     /// How the party stands.

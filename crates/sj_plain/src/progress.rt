@@ -9,7 +9,7 @@ ghost use Rattle.sj_plain.specs.Stepping.{Makes, next_move, sessions_at, world_a
 ghost use Rattle.sj_semantics.specs.Ends.{next_for};
 ghost use Rattle.sj_semantics.specs.Program.{Program, limit_of_steps};
 ghost use Rattle.sj_semantics.specs.Requests.{first_offer, limit_of_requests, opened_number};
-ghost use Rattle.sj_semantics.specs.State.{state_by, state_of_program};
+ghost use Rattle.sj_semantics.specs.State.{state_by, state_of_program, state_wanting};
 ghost use Rattle.sj_semantics.specs.Steps.{took_of};
 ghost use Rattle.sj_semantics.specs.Uses.{after_uses, takes};
 ghost use Rattle.sj_semantics.specs.Wants.{want_of};
@@ -28,12 +28,12 @@ use sj_semantics::{Awaits, Limit, Opened, Passed, State, Want};
 use std::alloc::Global;
 
 /// How a party stands that hasn't ended and isn't at the limit of steps.
-fn state_by(sessions: &[Session], opened: &[Opened], party: u16, want: Want) -> State
+fn state_by(sessions: &[Session], opened: &[Opened], party: u16, want: &Want) -> State
     requires order { AreInOrder party opened.now }
     ensures { (ps : List ProtocolAt) (gs : List Program) →
-        result ≡ state_by (world_with ps gs (sessions_at sessions.now) opened.now) party want }
+        result ≡ state_by (world_with ps gs (sessions_at sessions.now) opened.now) party want.now }
 {
-    match want {
+    match *want {
         Want::Ended => State::Ended,
         Want::Delegate { sent, .. } => {
             if hops(sessions, sent) < MAX_HOPS {
@@ -67,17 +67,23 @@ fn state_by(sessions: &[Session], opened: &[Opened], party: u16, want: Want) -> 
     }
 }
 
-/// How the party stands among the sessions.
-pub fn state_of(sessions: &[Session], opened: &[Opened], party: u16, machine: &Machine) -> State
+/// How a party stands that has done so many steps and wants that one next.
+pub fn state_wanting(
+    sessions: &[Session],
+    opened: &[Opened],
+    party: u16,
+    steps: u32,
+    want: &Want,
+) -> State
     requires order { AreInOrder party opened.now }
     ensures { (ps : List ProtocolAt) (gs : List Program) →
-        result ≡ state_of_program (world_with ps gs (sessions_at sessions.now) opened.now)
-        party (program_at machine.now) }
+        result ≡ state_wanting (world_with ps gs (sessions_at sessions.now) opened.now)
+        party steps want.now }
 {
-    match machine.wants() {
+    match want {
         Want::Ended => State::Ended,
-        want => {
-            if machine.steps() < MAX_STEPS {
+        _ => {
+            if steps < MAX_STEPS {
                 state_by(sessions, opened, party, want)
             } else {
                 State::AtLimit(Limit::Steps)
@@ -221,8 +227,8 @@ fn accept_next(
     Ok(())
 }
 
-/// Does the party's next step. Want of memory leaves the party, the sessions and those that were
-/// opened as they were.
+/// Does the party's next step, which is the one that it wants. Want of memory leaves the party, the
+/// sessions and those that were opened as they were.
 pub fn step(
     alloc: Global,
     protocols: &[ProtocolDef],
@@ -230,7 +236,9 @@ pub fn step(
     opened: &mut Vec<Opened>,
     machine: &mut Machine,
     party: u16,
+    want: &Want,
 ) -> Result<(), NoMemory>
+    requires wants { want.now ≡ unwrap_or (want_of (program_at machine.old)) Ended }
     requires ready { state_of_program
         (world_around protocols.now sessions.old.items opened.old.items)
         party (program_at machine.old) ≡ Ready }
@@ -249,7 +257,7 @@ pub fn step(
         (sessions_at sessions.new.items ≡ sessions_at sessions.old.items) }
     ensures opened { OnErr result (opened.new.items ≡ opened.old.items) }
 {
-    match machine.wants() {
+    match *want {
         Want::Local => {
             machine.local();
             Ok(())

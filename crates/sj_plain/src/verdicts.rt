@@ -1,15 +1,39 @@
 //! How a course of acts stands: each party, and all of them.
 ghost use Rattle.std.specs.List.{list_all, list_any};
-ghost use Rattle.std.specs.Prelude.{◌≡◌, ◌<◌, ◌≤◌, length};
+ghost use Rattle.std.specs.Prelude.{◌≡◌, ◌<◌, ◌≤◌, Some, length, option_map, slice_get, unwrap_or};
 ghost use Rattle.sj_lang.specs.Limits.{limits};
 ghost use Rattle.sj_semantics.specs.State.{has_ended, is_accepted, is_at_limit, state_of, states_of, verdict_of};
+ghost use Rattle.sj_semantics.specs.Wants.{want_of};
+ghost use Rattle.sj_semantics.specs.declared.Want.TheVariants.{Ended};
 
 use crate::course::Course;
-use crate::progress::state_of;
-use sj_semantics::{Opened, State, Verdict};
+use crate::progress::state_wanting;
+use sj_semantics::{Opened, State, Verdict, Want};
 
 impl Course {
     ghost use Rattle.sj_plain.specs.Course.{IsOrdered, world_in};
+
+    /// The next step of the party.
+    pub(crate) fn wants(&self, party: u16) -> Want
+        requires there { party < length (world_in self.now).parties }
+        ensures { option_map (λ g. unwrap_or (want_of g) Ended)
+            (slice_get (world_in self.now).parties party) ≡ Some result }
+    {
+        let machine = &self.machines[party as usize];
+        machine.wants()
+    }
+
+    /// How the party stands whose next step is this one.
+    pub(crate) fn state_by(&self, party: u16, want: &Want) -> State
+        requires there { party < length (world_in self.now).parties }
+        requires wants { option_map (λ g. unwrap_or (want_of g) Ended)
+            (slice_get (world_in self.now).parties party) ≡ Some want.now }
+        requires ordered { IsOrdered self.now }
+        ensures { result ≡ state_of (world_in self.now) party }
+    {
+        let machine = &self.machines[party as usize];
+        state_wanting(&self.sessions, &self.opened, party, machine.steps(), want)
+    }
 
     /// How the party stands.
     pub fn state(&self, party: u16) -> State
@@ -17,8 +41,8 @@ impl Course {
         requires ordered { IsOrdered self.now }
         ensures { result ≡ state_of (world_in self.now) party }
     {
-        let machine = &self.machines[party as usize];
-        state_of(&self.sessions, &self.opened, party, machine)
+        let want = self.wants(party);
+        self.state_by(party, &want)
     }
 
     /// How the world stands as a whole: long where somebody is at a limit, else done where

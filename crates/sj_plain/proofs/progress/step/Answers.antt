@@ -1,4 +1,4 @@
-use Rattle.std.proofs.Common.{length, map, refl, subst}
+use Rattle.std.proofs.Common.{◌∙◌, length, map, refl, subst, sym}
 use Rattle.std.proofs.lemmas.Result.{on_ok_weaker}
 use Rattle.sj_lang.specs.FileView.{protocol_of}
 use Rattle.sj_lang.specs.Place.{Place}
@@ -15,7 +15,7 @@ pub returns-in-Take-clause-ok : goal.returns-in-Take-clause-ok
 returns-in-Take-clause-ok c =
     let w = world_around c.args.protocols.now c.args.sessions.now.items c.args.opened.now.items in
     let g = program_at c.args.machine.now in
-    let can = can_do w c.args.party g (wants.Take c.in-Take.end c.in-Take.awaits) c.requires.ready c.in-Take.ensures in
+    let can = can_do w c.args.party g (wants.Take c.in-Take.end c.in-Take.awaits) c.requires.ready (sym c.in-Take.is ∙ c.requires.wants) in
     let x = message_there w c.args.party g c.in-Take.end c.in-Take.awaits can in
     on_ok_weaker c.take.result
     (λ done.
@@ -28,7 +28,7 @@ pub returns-in_ok-place-in-Request-clause-ok : goal.returns-in_ok-place-in-Reque
 returns-in_ok-place-in-Request-clause-ok c =
     let w = world_around c.args.protocols.now c.args.sessions.now.items c.args.opened.now.items in
     let g = program_at c.args.machine.now in
-    let can = can_do w c.args.party g (wants.Request c.in-Request.protocol c.in-Request.to) c.requires.ready c.in-Request.ensures in
+    let can = can_do w c.args.party g (wants.Request c.in-Request.protocol c.in-Request.to) c.requires.ready (sym c.in-Request.is ∙ c.requires.wants) in
     let number = opened_number c.args.party (length (requests_in c.args.opened.now.items c.args.party)) in
     on_ok_weaker c.open_next.result
     (λ made.
@@ -41,7 +41,7 @@ pub returns-in_ok-place-in-Accept-clause-ok : goal.returns-in_ok-place-in-Accept
 returns-in_ok-place-in-Accept-clause-ok c =
     let w = world_around c.args.protocols.now c.args.sessions.now.items c.args.opened.now.items in
     let g = program_at c.args.machine.now in
-    let can = can_do w c.args.party g (wants.Accept c.in-Accept.protocol c.in-Accept.from) c.requires.ready c.in-Accept.ensures in
+    let can = can_do w c.args.party g (wants.Accept c.in-Accept.protocol c.in-Accept.from) c.requires.ready (sym c.in-Accept.is ∙ c.requires.wants) in
     let k = offer_there w c.args.party g c.in-Accept.protocol c.in-Accept.from can in
     on_ok_weaker c.accept_next.result
     (λ made.
