@@ -9,10 +9,9 @@ ghost use Rattle.sj_lang.specs.FileView.{file_of};
 ghost use Rattle.sj_semantics.specs.Lines.{line_of, message_words};
 ghost use Rattle.sj_print.specs.Pieces.{message_text, piece_text};
 
-use crate::pieces::{Piece, put_spaced, put_words};
+use crate::pieces::{Piece, put_byte, put_spaced, put_words};
 use sj_base::{EndId, Msg, NoMemory};
 use sj_lang::File;
-use sj_text::put;
 
 /// Puts a line of these and then the message behind the text.
 pub(crate) fn put_message_line(
@@ -39,7 +38,7 @@ fn put_message(text: &mut Vec<u8>, file: &File, msg: &Msg) -> Result<(), NoMemor
         (line_of (message_words (file_of file.now) msg.now)) text.new.items) }
 {
     print_message(text, file, msg)?;
-    put(text, b"\n")
+    put_byte(text, b'\n')
 }
 
 /// Puts the text of a message behind the text, without a newline. Want of memory leaves a front of

@@ -31,6 +31,14 @@ pub(crate) enum Piece {
     Resend(Option<u32>),
 }
 
+/// Puts one byte behind the text. Want of memory leaves the text as it was.
+pub(crate) fn put_byte(text: &mut Vec<u8>, byte: u8) -> Result<(), NoMemory>
+    ensures ok { OnOk result (text.new.items ≡ text.old.items ++ byte ∷ []) }
+    ensures err { OnErr result (text.new.items ≡ text.old.items) }
+{
+    Ok(text.push(byte)?)
+}
+
 /// Puts a line of these behind the text.
 pub(crate) fn put_line(
     text: &mut Vec<u8>,
@@ -45,7 +53,7 @@ pub(crate) fn put_line(
 {
     put_spaced(text, file, front)?;
     put_piece(text, file, last)?;
-    put(text, b"\n")
+    put_byte(text, b'\n')
 }
 
 /// Puts words behind the text, with a space between each two.
@@ -73,7 +81,7 @@ pub(crate) fn put_spaced(text: &mut Vec<u8>, file: &File, front: &[Piece]) -> Re
 {
     for piece in front {
         put_piece(text, file, *piece)?;
-        put(text, b" ")?;
+        put_byte(text, b' ')?;
     }
     Ok(())
 }
@@ -124,9 +132,9 @@ fn put_in_quotes(text: &mut Vec<u8>, bytes: &[u8]) -> Result<(), NoMemory>
     ensures err { OnErr result (IsCutShort text.old.items
         (in_quotes bytes.now) text.new.items) }
 {
-    put(text, b"\"")?;
+    put_byte(text, b'"')?;
     put(text, bytes)?;
-    put(text, b"\"")
+    put_byte(text, b'"')
 }
 
 // The word of that number, or `#` and the number.
@@ -155,7 +163,7 @@ fn put_end(text: &mut Vec<u8>, end: EndId) -> Result<(), NoMemory>
         (end_text end.sess end.side) text.new.items) }
 {
     put_number(text, end.sess as u64)?;
-    put(text, b".")?;
+    put_byte(text, b'.')?;
     put_number(text, end.side as u64)
 }
 

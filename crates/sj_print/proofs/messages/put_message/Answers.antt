@@ -13,13 +13,13 @@ returns-in_err-print_message-clause-err c =
 pub returns-clause-ok : goal.returns-clause-ok
 returns-clause-ok c =
     let file = file_of c.args.file.now in let m = c.args.msg.now in
-    let old = c.args.text.now.items in let mid = c.print_message.new.text.items in let new = c.put.new.text.items in
-    ok_whole old _ _ new c.put.result (message_line file m)
-    (ok_behind old (message_text file m) (10 ∷ []) mid new c.put.result c.in_ok-print_message.ensures.ok c.put.ensures.ok)
+    let old = c.args.text.now.items in let mid = c.print_message.new.text.items in let new = c.put_byte.new.text.items in
+    ok_whole old _ _ new c.put_byte.result (message_line file m)
+    (ok_behind old (message_text file m) (10 ∷ []) mid new c.put_byte.result c.in_ok-print_message.ensures.ok c.put_byte.ensures.ok)
 
 pub returns-clause-err : goal.returns-clause-err
 returns-clause-err c =
     let file = file_of c.args.file.now in let m = c.args.msg.now in
-    let old = c.args.text.now.items in let mid = c.print_message.new.text.items in let new = c.put.new.text.items in
-    err_whole old _ _ new c.put.result (message_line file m)
-    (err_behind old (message_text file m) (10 ∷ []) mid new c.put.result c.in_ok-print_message.ensures.ok (err_at_once mid (10 ∷ []) new c.put.result c.put.ensures.err))
+    let old = c.args.text.now.items in let mid = c.print_message.new.text.items in let new = c.put_byte.new.text.items in
+    err_whole old _ _ new c.put_byte.result (message_line file m)
+    (err_behind old (message_text file m) (10 ∷ []) mid new c.put_byte.result c.in_ok-print_message.ensures.ok (err_at_once mid (10 ∷ []) new c.put_byte.result c.put_byte.ensures.err))

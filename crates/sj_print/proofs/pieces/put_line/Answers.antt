@@ -28,7 +28,7 @@ returns-clause-ok c =
     let start = ahead_is old whole whole (spaced_text file ps ++ (last ++ 10 ∷ [])) old (sym (line_apart file ps c.args.last)) (none_yet old whole) in
     let mid = one_more old whole (spaced_text file ps) (last ++ 10 ∷ []) old c.put_spaced.new.text.items start c.in_ok-put_spaced.ensures.ok in
     let end = one_more old whole last (10 ∷ []) c.put_spaced.new.text.items c.put_piece.new.text.items mid c.in_ok-put_piece.ensures.ok in
-    finish_ok old whole (10 ∷ []) c.put_piece.new.text.items c.put.new.text.items c.put.result end c.put.ensures.ok
+    finish_ok old whole (10 ∷ []) c.put_piece.new.text.items c.put_byte.new.text.items c.put_byte.result end c.put_byte.ensures.ok
 
 pub returns-clause-err : goal.returns-clause-err
 returns-clause-err c =
@@ -37,4 +37,4 @@ returns-clause-err c =
     let start = ahead_is old whole whole (spaced_text file ps ++ (last ++ 10 ∷ [])) old (sym (line_apart file ps c.args.last)) (none_yet old whole) in
     let mid = one_more old whole (spaced_text file ps) (last ++ 10 ∷ []) old c.put_spaced.new.text.items start c.in_ok-put_spaced.ensures.ok in
     let end = one_more old whole last (10 ∷ []) c.put_spaced.new.text.items c.put_piece.new.text.items mid c.in_ok-put_piece.ensures.ok in
-    finish_cut old whole (10 ∷ []) c.put_piece.new.text.items c.put.new.text.items c.put.result end (err_at_once c.put_piece.new.text.items (10 ∷ []) c.put.new.text.items c.put.result c.put.ensures.err)
+    finish_cut old whole (10 ∷ []) c.put_piece.new.text.items c.put_byte.new.text.items c.put_byte.result end (err_at_once c.put_piece.new.text.items (10 ∷ []) c.put_byte.new.text.items c.put_byte.result c.put_byte.ensures.err)
