@@ -1,5 +1,5 @@
 //! A party as it runs.
-ghost use Rattle.std.specs.Prelude.{◌≡◌, ◌<◌, ◌^◌, IfOk, Some, length, slice_get, true, unwrap_or};
+ghost use Rattle.std.specs.Prelude.{◌≡◌, ◌<◌, ◌^◌, IfOk, Some, length, option_map, slice_get, true, unwrap_or};
 ghost use Rattle.sj_acceptance.specs.Accepted.{IsAccepted};
 ghost use Rattle.sj_lang.specs.FileView.{file_of};
 ghost use Rattle.sj_machine.specs.Names.{NamesDiffer};
@@ -195,6 +195,16 @@ impl Machine {
         match self.stack.top() {
             Some(frame) => name_at(&self.nodes[frame.at].op),
             None => 0,
+        }
+    }
+
+    /// The end that the first bound name stands for.
+    pub fn first_end(&self) -> Option<EndId>
+        ensures { result ≡ option_map (λ b. b.1) (slice_get (program_at self.now).ends 0) }
+    {
+        match self.ends.first() {
+            Some(&(_, end)) => Some(end),
+            None => None,
         }
     }
 

@@ -1,13 +1,16 @@
 -- Pushes to one party after the other.
-use Rattle.std.proofs.Common.{◌≡◌, ◌⊎◌, ℕ, ◌+◌, ◌<◌, None, inl, inr, refl, sym, ◌∙◌, arith, subst}
-use Rattle.std.proofs.lemmas.Bool.{cases_eq}
+use Rattle.std.proofs.Common.{◌≡◌, ◌⊎◌, ℕ, ◌+◌, ◌<◌, ◌≤◌, [], None, inl, inr, refl, sym, ◌∙◌, arith, subst}
+use Rattle.std.proofs.lemmas.Bool.{cases_eq, cases_lt}
+use Rattle.sj_node.specs.Outs.{waiting_in}
+use Rattle.sj_node.specs.Reading.{outs_of, parties_of}
 use Rattle.sj_work.specs.declared.worker.Worker.{Worker}
+use Rattle.sj_work.specs.Causes.{OutVain}
 use Rattle.sj_work.specs.Counts.{RoseBy, Stood}
 use Rattle.sj_work.specs.Turns.{IsGoing, HasNoEvent, Tried}
 use Rattle.sj_work.specs.Views.{out_of, stop_of}
 use Rattle.sj_work.proofs.CountLemmas.{on_later, rose_then, then_rose}
 use Rattle.sj_work.proofs.LaneLaws.{LaneLaws, TurnedBy, WentBy}
-use Rattle.sj_work.proofs.RestLemmas.{rests_itself, rests_later}
+use Rattle.sj_work.proofs.RestLemmas.{outbox_empty, rests_itself, rests_later}
 use Rattle.sj_work.proofs.TurnLemmas.{going, turned_behind, turned_on, went_of}
 use Rattle.sj_work.proofs.WentLemmas.{went_itself}
 
@@ -60,3 +63,12 @@ module _ {O I : Type 0} (k : LaneLaws O I) where
       each q lt (inl is) = subst (λ n. Tried k.outward.vain n init later) (sym is) (push_tried init now later p.pushing t r to tried)
       each q lt (inr not) = λ waits.
           on_later k.outward.vain (RoseBy 1) Stood (RoseBy 1) (rose_then 1) (out_of init q) (out_of now q) (out_of later q) (p.tried q (below q to lt not) (r.boxes q waits)) (after.vain_out q)
+
+  -- all parties were tried, where nothing waits for those behind
+  pub all_tried : (init now : Worker O I) (next targets : ℕ) → Pushed init now next → targets ≤ next
+      → ((q : ℕ) → targets ≤ q → q < parties_of init.node → waiting_in (outs_of init.node) q ≡ []) → OutVain k.outward.vain 1 init now
+  all_tried init now next targets p all none q lt = each (cases_lt q targets)
+    where
+      each : (q < targets) ⊎ (targets ≤ q) → Tried k.outward.vain q init now
+      each (inl less) = p.tried q (omega (arith, less, all))
+      each (inr more) = λ waits. absurd (p.pushing.rests.boxes q waits (outbox_empty init.node q (none q more (subst (λ n. q < n) p.pushing.rests.parties lt))))

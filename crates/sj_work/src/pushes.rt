@@ -33,6 +33,9 @@ fn push_one<O: OutLane, I: InLane>(worker: &mut Worker<O, I>, to: u16) -> bool
     ensures tried { IsFalse result → stop_of worker.new ≡ None → Tried O.vain to worker.old worker.new }
     ensures looks { looks_of worker.new ≡ looks_of worker.old }
 {
+    if worker.node.nothing_waits(to) {
+        return false;
+    }
     if usize::from(to) >= worker.lanes.outs.len() {
         return false;
     }
@@ -63,7 +66,7 @@ fn push_to<O: OutLane, I: InLane>(worker: &mut Worker<O, I>, to: u16)
     while push_one(worker, to) {}
 }
 
-/// Pushes to each party of the file, as far as the lanes take.
+/// Pushes to each party of the file for which something may wait, as far as the lanes take.
 pub(crate) fn push_all<O: OutLane, I: InLane>(worker: &mut Worker<O, I>)
     requires { IsGoing worker.old }
     ensures turns { Turns O.OutLane I.InLane worker.old worker.new }
@@ -71,7 +74,7 @@ pub(crate) fn push_all<O: OutLane, I: InLane>(worker: &mut Worker<O, I>)
     ensures tried { stop_of worker.new ≡ None → OutVain O.vain 1 worker.old worker.new }
     ensures looks { looks_of worker.new ≡ looks_of worker.old }
 {
-    for to in 0..worker.node.parties() {
+    for to in 0..worker.node.targets() {
         push_to(worker, to);
         if worker.answer.is_some() {
             return;

@@ -14,6 +14,19 @@ use Rattle.sj_work.proofs.TurnLemmas.{full_vain, push_refused, turned_on, turned
 use Rattle.sj_work.proofs.WentLemmas.{went_back, went_empty, went_itself, went_out}
 use Rattle.sj_work.proofs.pushes.push_one.Goals as goal
 
+pub returns-then-nothing_waits-clause-turns : goal.returns-then-nothing_waits-clause-turns
+returns-then-nothing_waits-clause-turns g c =
+    let ol = g.met.O.OutLane g.world.𝓛 g.world.𝓜 g.world.𝓡 (λ s x. x, λ x. x, λ x. x, λ x. x) in
+    let il = g.met.I.InLane g.world.𝓛 g.world.𝓜 g.world.𝓡 (λ s x. x, λ x. x, λ x. x, λ x. x) in
+    let k = laws g.O.OutLane g.I.InLane ol.same_itself ol.same_later il.same_itself il.same_later in
+    turned_on k c.args.worker.now c.args.worker.now (went_itself k c.args.worker.now c.args.worker.now refl refl) c.requires.stop c.requires.open_yet
+
+pub returns-then-nothing_waits-clause-rests : goal.returns-then-nothing_waits-clause-rests
+returns-then-nothing_waits-clause-rests g c = rests_itself c.args.worker.now.node c.args.worker.now.node refl
+
+pub returns-then-nothing_waits-clause-tried : goal.returns-then-nothing_waits-clause-tried
+returns-then-nothing_waits-clause-tried g c = λ h none waits. absurd (waits (outbox_empty c.args.worker.now.node c.args.to (c.nothing_waits.ensures.0 c.if-nothing_waits.true)))
+
 pub returns-then-from-len-clause-turns : goal.returns-then-from-len-clause-turns
 returns-then-from-len-clause-turns g c =
     let ol = g.met.O.OutLane g.world.𝓛 g.world.𝓜 g.world.𝓡 (λ s x. x, λ x. x, λ x. x, λ x. x) in
