@@ -30,3 +30,6 @@ pub mod MergeStepLemmas
 pub mod NextLemmas
 pub mod OneLogLemmas
 pub mod OrderLemmas
+pub mod GivenLemmas
+pub mod LastLemmas
+pub mod TailLemmas

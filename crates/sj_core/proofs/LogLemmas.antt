@@ -15,12 +15,12 @@ use Rattle.sj_core.proofs.NextLemmas.{past_logs}
 use Rattle.sj_core.proofs.JoinLemmas.{Joining, joining_more}
 
 -- a list with another value there
-set_here : {X : Type 0} → (xs : List X) (p : ℕ) (x : X) → p < length xs → slice_get (set xs p x) p ≡ Some x
+pub set_here : {X : Type 0} → (xs : List X) (p : ℕ) (x : X) → p < length xs → slice_get (set xs p x) p ≡ Some x
 set_here [] p x lt = absurd (omega arith)
 set_here (y ∷ ys) zero x lt = refl
 set_here (y ∷ ys) (suc p) x lt = set_here ys p x (omega arith)
 
-set_there : {X : Type 0} → (xs : List X) (p q : ℕ) (x : X) → (q ≡ p → ⊥) → slice_get (set xs p x) q ≡ slice_get xs q
+pub set_there : {X : Type 0} → (xs : List X) (p q : ℕ) (x : X) → (q ≡ p → ⊥) → slice_get (set xs p x) q ≡ slice_get xs q
 set_there [] p q x apart = refl
 set_there (y ∷ ys) zero zero x apart = absurd (apart refl)
 set_there (y ∷ ys) zero (suc q) x apart = refl

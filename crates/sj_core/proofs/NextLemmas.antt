@@ -20,7 +20,7 @@ least_next logs k d least next lt l is =
 pub past_logs : (logs : List (Bor (List Entry))) (q : ℕ) → length logs ≤ q → log_of logs q ≡ []
 past_logs logs q le = ap entries_in (slice_get_past logs q le)
 
-below_or_past : (n q : ℕ) → (q < n) ⊎ (n ≤ q)
+pub below_or_past : (n q : ℕ) → (q < n) ⊎ (n ≤ q)
 below_or_past n q = grind arith
 
 module _ (logs : List (Bor (List Entry))) (k : ℕ) (all : length logs ≤ k) where

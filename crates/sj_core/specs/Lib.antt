@@ -9,3 +9,5 @@ pub mod Draining
 pub mod Heads
 pub mod Logs
 pub mod Merged
+pub mod Given
+pub mod Tails

@@ -4,6 +4,7 @@
 
 mod drains;
 mod entries;
+mod given;
 mod heads;
 mod joins;
 mod merges;
@@ -12,8 +13,10 @@ mod refusal;
 mod replays;
 mod sameness;
 mod starts;
+mod tails;
 mod world;
 
+pub use given::join_given;
 pub use joins::{join_logs, merge_in};
 pub use refusal::{ReplayRefusal, StepRefusal};
 pub use replays::is_the_line;

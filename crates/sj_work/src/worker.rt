@@ -1,6 +1,7 @@
 //! A worker.
 ghost use Rattle.std.specs.Borrow.{sem};
 ghost use Rattle.std.specs.Prelude.{◌≡◌, ◌↔◌, IsSome, None, Some};
+ghost use Rattle.sj_node.specs.Node.{log_of};
 ghost use Rattle.sj_work.specs.Lending.{LendsLanes};
 ghost use Rattle.sj_work.specs.Views.{lanes_of, node_of, stop_of, unfit_of};
 
@@ -125,5 +126,19 @@ impl<O, I> Worker<O, I> {
         ensures { result ≡ lanes_of self }
     {
         self.lanes
+    }
+
+    /// The lanes, and what the node noted, where all else of it is given up.
+    pub fn into_parts(self) -> (Lanes<O, I>, Vec<Entry>)
+        ensures lanes { result.0 ≡ lanes_of self }
+        ensures log { result.1.items ≡ log_of (node_of self) }
+    {
+        let Worker {
+            node,
+            lanes,
+            answer: _,
+            looks: _,
+        } = self;
+        (lanes, node.into_log())
     }
 }

@@ -1,0 +1,60 @@
+use Rattle.std.proofs.Common.{List, length, map, refl, sym, subst, arith}
+use Rattle.std.specs.Prelude.{reverse}
+use Rattle.std.proofs.lemmas.List.{length-set}
+use Rattle.std.proofs.lemmas.Option.{slice_get_read}
+use Rattle.sj_end.specs.declared.note.Line.{Line}
+use Rattle.sj_rules.specs.Log.{IsJoined}
+use Rattle.sj_core.specs.Views.{line_at}
+use Rattle.sj_core.specs.Given.{given_log}
+use Rattle.sj_core.proofs.GivenLemmas.{giving_begins, giving_ends}
+use Rattle.sj_core.proofs.LastLemmas.{counted, given_next, last_within}
+use Rattle.sj_core.proofs.given.join_given.Goals as goal
+
+pub loop-party-init : goal.loop-party-init
+loop-party-init c =
+    let none = c.in_ok-lines.ensures.items in
+    let room = c.in_ok-lines.ensures.room in
+    record {
+      giving = rw none (giving_begins (given_log c.args.logs.items) c.requires.order);
+      room = let same = c.deref.ensures.value in rw (none, sym same) (omega (arith, room));
+      few = c.requires.parties;
+    }
+
+pub push_reserved-requires : goal.push_reserved-requires
+push_reserved-requires c =
+    let left = c.loop-party.left.items in
+    let last = rw c.deref-in-loop-party.ensures.value at c.in-Some.ensures.some in
+    let there = slice_get_read left (length left) c.in-Some.party c.index_mut-log.result.now refl (last_within left c.in-Some.party last) c.index_mut-log.ensures.value in
+    let fewer = counted left c.in-Some.party last c.index_mut-log.result.now there c.in-Some-take_last.entry c.take_last.new.log c.in-Some-take_last.ensures.some in
+    let room = c.loop-party.invariant.room in
+    let same = c.loop-party.lines.ok in
+    omega (arith, fewer, room, same)
+
+pub loop-party-smaller : goal.loop-party-smaller
+loop-party-smaller c =
+    let left = c.loop-party.left.items in
+    let last = rw c.deref-in-loop-party.ensures.value at c.in-Some.ensures.some in
+    let there = slice_get_read left (length left) c.in-Some.party c.index_mut-log.result.now refl (last_within left c.in-Some.party last) c.index_mut-log.ensures.value in
+    let fewer = counted left c.in-Some.party last c.index_mut-log.result.now there c.in-Some-take_last.entry c.take_last.new.log c.in-Some-take_last.ensures.some in
+    omega (arith, fewer)
+
+pub loop-party-preserved : goal.loop-party-preserved
+loop-party-preserved c =
+    let kept = c.loop-party.invariant in
+    let left = c.loop-party.left.items in
+    let last = rw c.deref-in-loop-party.ensures.value at c.in-Some.ensures.some in
+    let there = slice_get_read left (length left) c.in-Some.party c.index_mut-log.result.now refl (last_within left c.in-Some.party last) c.index_mut-log.ensures.value in
+    let fewer = counted left c.in-Some.party last c.index_mut-log.result.now there c.in-Some-take_last.entry c.take_last.new.log c.in-Some-take_last.ensures.some in
+    record {
+      giving = rw c.push_reserved.ensures.items
+          (given_next left c.in-Some.party last c.index_mut-log.result.now there c.in-Some-take_last.entry c.take_last.new.log c.in-Some-take_last.ensures.some
+          (given_log c.args.logs.items) c.loop-party.lines.items kept.giving);
+      room = let same = c.loop-party.lines.ok in let now = c.push_reserved.new.self.ok in omega (arith, fewer, same, now, kept.room, c.push_reserved.ensures.len, c.push_reserved.ensures.capacity);
+      few = let same = length-set left c.in-Some.party c.take_last.new.log in omega (arith, same, kept.few);
+    }
+
+pub returns : goal.returns
+returns c =
+    subst (λ (ls : List Line). IsJoined (given_log c.args.logs.items) (map line_at ls)) (sym c.reverse.ensures.items)
+    (giving_ends (given_log c.args.logs.items) (given_log c.loop-party.left.items) (map line_at (reverse c.loop-party.lines.items)) c.loop-party.invariant.giving
+    (rw c.deref-in-loop-party.ensures.value at c.in_default.ensures.none))

@@ -1,0 +1,61 @@
+//! Logs joined from their ends, and given up as they are joined.
+ghost use Rattle.std.specs.Prelude.{◌≡◌, ◌≤◌, ◌++◌, ◌∷◌, [], length, map, IfNone, IfOk, IfSome, vec_capacity};
+ghost use Rattle.sj_rules.specs.Log.{IsJoined};
+ghost use Rattle.sj_core.specs.Given.{AreInOrder, count_given, given_log};
+ghost use Rattle.sj_core.specs.Logs.{most_logs};
+ghost use Rattle.sj_core.specs.Views.{line_at};
+
+use crate::tails::last_party;
+use sj_base::NoMemory;
+use sj_end::{Entry, Line};
+use std::alloc::Global;
+
+/// An empty list of lines with room for all entries of the logs.
+fn room_for_given(alloc: Global, logs: &[Vec<Entry>]) -> Result<Vec<Line>, NoMemory>
+    ensures items { IfOk result (λ v. v.items ≡ []) }
+    ensures room { IfOk result (λ v. count_given logs.now ≤ vec_capacity v) }
+{
+    let mut entries: usize = 0;
+    for log in logs {
+        let Some(sum) = entries.checked_add(log.len()) else {
+            return Err(NoMemory);
+        };
+        entries = sum;
+    }
+    let lines = Vec::with_capacity(alloc, entries)?;
+    Ok(lines)
+}
+
+/// Takes the last entry out of a log. Once an eighth of its room is empty it is given back, so that n entries
+/// are moved some 8 n times at most, and not once where the system gives back the end of a block.
+fn take_last(log: &mut Vec<Entry>) -> Option<Entry>
+    ensures some { IfSome result (λ e. log.old.items ≡ log.new.items ++ e ∷ []) }
+    ensures none { IfNone result (log.old.items ≡ []) }
+{
+    let entry = log.pop();
+    if log.len() < log.capacity() / 8 * 7 {
+        log.shrink_to_fit();
+    }
+    entry
+}
+
+/// The logs of the parties from the first on joined, each given up as its entries become lines: the last line is
+/// the last of those with which the logs end, so the lines are made from the last on, and turned at the end. The
+/// room for all lines is taken before.
+pub fn join_given(alloc: Global, logs: Vec<Vec<Entry>>) -> Result<Vec<Line>, NoMemory>
+    requires parties { length logs.items ≤ most_logs }
+    requires order { AreInOrder (given_log logs.items) }
+    ensures { IfOk result (λ v. IsJoined (given_log logs.items) (map line_at v.items)) }
+{
+    let mut left = logs;
+    let mut lines = room_for_given(alloc, &left)?;
+    while let Some(party) = last_party(&left) {
+        let log = &mut left[party as usize];
+        let Some(entry) = take_last(log) else {
+            unreachable!();
+        };
+        lines.push_reserved(Line { party, entry });
+    }
+    lines.reverse();
+    Ok(lines)
+}
