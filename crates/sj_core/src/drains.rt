@@ -3,6 +3,7 @@ ghost use Rattle.std.specs.Prelude.{◌≡◌, ◌<◌, None, IfOk, OnErr, OnOk,
 ghost use Rattle.sj_core.specs.Draining.{ActsOut, BreaksOff, Empties, EmptiesEach, GoesBy, GoesFirst, IsDrained, IsRound, TakesTurn, Tried};
 ghost use Rattle.sj_core.specs.Nodes.{ComesFrom};
 ghost use Rattle.sj_core.specs.Views.{event_at};
+ghost use Rattle.sj_end.specs.declared.note.Event.TheVariants as events;
 ghost use Rattle.sj_rules.specs.Drain.{numbers_from};
 ghost use Rattle.sj_rules.specs.History.{IsQuietAmong};
 ghost use Rattle.sj_rules.specs.Party.{play_of};
@@ -37,6 +38,26 @@ impl NodeWorld {
         }
     }
 
+    /// Tries a delivery from that party. Answers whether it was a step: an empty lane is seen at once.
+    fn takes(&mut self, party: u16, from: u16) -> Result<bool, NoMemory>
+        requires reached { IsReached self.old }
+        requires there { party < length (nodes_in self.old) }
+        requires origin { from < length (nodes_in self.old) }
+        ensures done { IfOk result (λ b. b ≡ true → Tried self.old party (events.Deliver from) self.new) }
+        ensures stays { IfOk result (λ b. b ≡ false → StaysIn self.old self.new) }
+        ensures none { IfOk result (λ b. b ≡ false →
+            happens (play_of (file_in self.old)) max (world_in self.old) party (event_at (events.Deliver from)) ≡ None) }
+        ensures err { OnErr result (StaysIn self.old self.new) }
+        ensures reached { IsReached self.new }
+        ensures file { file_in self.new ≡ file_in self.old }
+        ensures count { length (nodes_in self.new) ≡ length (nodes_in self.old) }
+    {
+        if self.nodes[from as usize].nothing_waits(party) {
+            return Ok(false);
+        }
+        self.tries(party, Event::Deliver(from))
+    }
+
     /// The party takes the frames of the lane from that party, until it is empty.
     fn take_all(&mut self, party: u16, from: u16) -> Result<(), NoMemory>
         requires reached { IsReached self.old }
@@ -48,7 +69,7 @@ impl NodeWorld {
         ensures file { file_in self.new ≡ file_in self.old }
         ensures count { length (nodes_in self.new) ≡ length (nodes_in self.old) }
     {
-        while self.tries(party, Event::Deliver(from))? {}
+        while self.takes(party, from)? {}
         Ok(())
     }
 

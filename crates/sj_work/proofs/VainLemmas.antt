@@ -1,5 +1,6 @@
 -- Turns in vain, one after the other.
-use Rattle.std.proofs.Common.{◌≡◌, ℕ, ◌+◌, ◌<◌, ◌≤◌, min, Option, Some, None, refl, sym, ◌∙◌, arith, subst}
+use Rattle.std.proofs.Common.{◌≡◌, ℕ, ◌+◌, ◌-◌, ◌<◌, ◌≤◌, min, Option, Some, None, refl, sym, ◌∙◌, arith, subst}
+use Rattle.sj_node.specs.declared.node.Node.{Node}
 use Rattle.sj_node.specs.declared.refusal.Halt.{Halt}
 use Rattle.sj_node.specs.declared.refusal.Halt.TheVariants as halts
 use Rattle.sj_node.specs.Node as nodes
@@ -28,6 +29,10 @@ limit_of (Some halts.NoMemory) halted not = absurd halted
 limit_of (Some halts.Unfit) halted not = absurd halted
 limit_of None halted not = absurd halted
 
+-- a party that is idle behind turns in vain was so before
+pub idle_before : (a b : Node) → HasNoEvent a b → IsIdle (nodes.stop_of b) → IsIdle (nodes.stop_of a)
+idle_before a b rests idle = subst (λ (o : Option Halt). IsIdle o) (stop_same a b rests.node) idle
+
 all_looks : (n looks : ℕ) → n ≤ looks → looks ≤ n → n ≡ looks
 all_looks n looks within over = omega arith
 
@@ -37,6 +42,9 @@ one_more n t m looks last same is within lt = omega arith
 
 pub not_beyond : (n m looks : ℕ) → m ≡ n + 1 → n < looks → m ≤ looks
 not_beyond n m looks is lt = omega arith
+
+pub fewer_left : (n m looks : ℕ) → m ≡ n + 1 → n < looks → looks + 1 - m < looks + 1 - n
+fewer_left n m looks is lt = omega arith
 
 pub below_looks : (n t m looks last : ℕ) → t ≡ n → m ≡ min (t + 1) last → looks ≤ last → m < looks → n < looks
 below_looks n t m looks last same is within lt = omega arith
@@ -80,11 +88,11 @@ module _ {O I : Type 0} (k : LaneLaws O I) where
     before = went_of k init now (w.turns 0) w.goes.stop
 
     -- all looks were in vain, and the party is idle
-    pub wait_idle : looks ≤ now.looks → IsIdle (nodes.stop_of init.node) → TurnedBy k looks init (record now { answer = Some answers.Idle })
+    pub wait_idle : looks ≤ now.looks → IsIdle (nodes.stop_of now.node) → TurnedBy k looks init (record now { answer = Some answers.Idle })
     wait_idle over idle =
         let all : now.looks ≡ looks = all_looks now.looks looks w.within over in
         turned_off k init (record now { answer = Some answers.Idle }) None stops.Idle looks refl (λ e. cc e) w.goes.open_yet (went_again k init now None (Some answers.Idle) now.looks before) tt (record {
-          idle = subst (λ (o : Option Halt). IsIdle o) (sym (stop_same init.node now.node w.rests.node)) idle;
+          idle = idle;
           turns = all;
           ins = subst (λ n. InVain k.inward.vain n init now) all w.ins;
           outs = subst (λ n. OutVain k.outward.vain n init now) all w.outs;
@@ -114,8 +122,7 @@ module _ {O I : Type 0} (k : LaneLaws O I) where
         }
 
         -- and the party is at its limit
-        pub wait_limit : (n : ℕ) → (IsIdle (nodes.stop_of init.node) → ⊥) → TurnedBy k looks init (record next { looks = n; answer = Some answers.AtLimit })
+        pub wait_limit : (n : ℕ) → (IsIdle (nodes.stop_of next.node) → ⊥) → TurnedBy k looks init (record next { looks = n; answer = Some answers.AtLimit })
         wait_limit n busy =
-            let same : nodes.stop_of next.node ≡ nodes.stop_of init.node = stop_same init.node next.node (v.rests.node ∙ w.rests.node) in
             turned_off k init (record next { looks = n; answer = Some answers.AtLimit }) None stops.AtLimit looks refl (λ e. cc e) open_next (went_again k init next None (Some answers.AtLimit) n after) tt
-            (limit_of (nodes.stop_of next.node) v.halted (λ h. busy (subst (λ (o : Option Halt). IsIdle o) same h)), outs_later k 1 init now next before v.outs)
+            (limit_of (nodes.stop_of next.node) v.halted busy, outs_later k 1 init now next before v.outs)

@@ -42,15 +42,14 @@ fn until_event<O: OutLane, I: InLane, G: Gate>(worker: &mut Worker<O, I>, looks:
     ensures event { stop_of worker.new ≡ None → clock_of (node_of worker.old) < clock_of (node_of worker.new) }
 {
     worker.looks = 0;
-    let idle = worker.node.idle_now();
-    while worker.looks < looks || !idle {
+    while worker.looks < looks || !worker.node.idle_now() {
         let event = turn(worker, gate);
         let stops = worker.answer.is_some();
         if event || stops {
             return;
         }
         worker.looks = worker.looks.saturating_add(1);
-        if worker.looks >= looks && !idle {
+        if worker.looks >= looks && !worker.node.idle_now() {
             worker.answer = Some(Outcome::AtLimit);
             return;
         }
