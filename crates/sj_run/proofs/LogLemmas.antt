@@ -1,55 +1,40 @@
--- The logs of workers, one after the other, in order.
-use Rattle.std.proofs.Common.{◌≡◌, ◌∙◌, ℕ, zero, suc, ◌+◌, ◌<◌, ◌≤◌, List, [], ◌∷◌, ◌++◌, map, length, get_or, Option, Some, None, inl, inr, refl, sym, ap, subst, arith, length-append}
+-- The logs of workers, taken out of them in order.
+use Rattle.std.proofs.Common.{◌≡◌, ◌∙◌, ℕ, zero, suc, List, [], ◌∷◌, map, length, Option, Some, None, refl, sym, ap, subst}
 use Rattle.std.specs.Prelude.{slice_get}
-use Rattle.std.specs.Borrow.{Bor}
+use Rattle.std.specs.Global.{Vec}
+use Rattle.std.proofs.lemmas.List.{length-map}
 use Rattle.sj_end.specs.declared.note.Entry.{Entry}
 use Rattle.sj_end.specs.Lines.{entry_at}
-use Rattle.sj_rules.specs.Log.{IsJoined, IsRising, LineAt}
+use Rattle.sj_rules.specs.Log.{EntryAt, IsInOrder, IsJoined, LineAt}
+use Rattle.sj_joined_lemmas.proofs.MergingLemmas.{merging_begins}
+use Rattle.sj_joined_lemmas.proofs.OrderLemmas.{firsts_same, rests_same}
 use Rattle.sj_node.specs.Node.{log_of}
-use Rattle.sj_core.specs.Logs as merge
-use Rattle.sj_core.proofs.OrderLemmas.{AllRise, all_ordered}
-use Rattle.sj_core.proofs.FirstLemmas.{behind}
+use Rattle.sj_core.specs.Given.{AreInOrder, given_log}
+use Rattle.sj_core.specs.Heads.{line_by}
 use Rattle.sj_work.specs.declared.worker.Worker.{Worker}
 use Rattle.sj_work.specs.Views.{node_of}
 use Rattle.sj_run.specs.Workers.{AllRising, AreLogs, log_or, logs_in}
-use Rattle.sj_run.proofs.JoinLemmas.{none_there}
-use Rattle.sj_run.proofs.StopLemmas.{looked_at}
 
-module _ {O I : Type 0} (workers : List (Worker O I)) where
-  pub no_logs : AreLogs workers 0 []
-  no_logs = record { count = refl; each = λ p b is. absurd (cc is) }
+-- a party's log is its worker's
+same_log : {O I : Type 0} (workers : List (Worker O I)) (logs : List (Vec Entry)) → AreLogs workers logs → (p : ℕ) → given_log logs p ≡ logs_in workers p
+same_log [] [] are p = refl
+same_log [] (v ∷ logs) are p = absurd (cc are)
+same_log (w ∷ workers) [] are p = absurd (cc are)
+same_log (w ∷ workers) (v ∷ logs) are zero = ap (map entry_at) (firsts_same v.items (log_of (node_of w)) (map (λ (u : Vec Entry). u.items) logs) (map (λ u. log_of (node_of u)) workers) are)
+same_log (w ∷ workers) (v ∷ logs) are (suc p) = same_log workers logs (rests_same v.items (log_of (node_of w)) (map (λ (u : Vec Entry). u.items) logs) (map (λ u. log_of (node_of u)) workers) are) p
 
-  -- with the next worker's
-  pub more_logs : (k : ℕ) (logs : List (Bor (List Entry))) (w : Worker O I) (b : Bor (List Entry)) → k < length workers → w ≡ get_or workers k w → b.now ≡ log_of (node_of w) → AreLogs workers k logs
-      → AreLogs workers (k + 1) (logs ++ b ∷ [])
-  more_logs k logs w b lt is own so = record {
-    count = length-append logs (b ∷ []) ∙ ap (λ n. n + 1) so.count;
-    each = λ p d at.
-        elim (behind logs b p d at) [
-          | inl there ↦ so.each p d there
-          | inr last ↦ (w, ap (slice_get workers) (last.0 ∙ so.count) ∙ looked_at workers k w lt is, ap (λ (x : Bor (List Entry)). x.now) last.1 ∙ own)
-        ];
-  }
+module _ {O I : Type 0} (workers : List (Worker O I)) (logs : List (Vec Entry)) (are : AreLogs workers logs) where
+  pub as_many : length logs ≡ length workers
+  as_many = sym (length-map logs (λ (v : Vec Entry). v.items)) ∙ ap (λ (es : List (List Entry)). length es) are ∙ length-map workers (λ w. log_of (node_of w))
 
-  -- all logs rise where each worker's does
-  all_rise : (logs : List (Bor (List Entry))) → ((p : ℕ) (b : Bor (List Entry)) → slice_get logs p ≡ Some b → IsRising 0 (map entry_at b.now)) → AllRise 0 logs
-  all_rise [] each = tt {0}
-  all_rise (b ∷ bs) each = (each 0 b refl, all_rise bs (λ p d at. each (suc p) d at))
+  -- they are in order where each worker's clocks rise
+  pub logs_ordered : AllRising workers → AreInOrder (given_log logs)
+  logs_ordered rising p = subst (λ (es : List EntryAt). IsInOrder (map (line_by p) es)) (sym (same_log workers logs are p)) (by (slice_get workers p) refl)
+    where
+      by : (o : Option (Worker O I)) → slice_get workers p ≡ o → IsInOrder (map (line_by p) (log_or o))
+      by None at = tt
+      by (Some w) at = (merging_begins 0 [] p (log_or (Some w)) tt refl (rising p w at)).entries_order
 
-  module _ (logs : List (Bor (List Entry))) (are : AreLogs workers (length workers) logs) where
-    pub logs_ordered : AllRising workers → merge.AreOrdered 0 logs
-    logs_ordered rising =
-        all_ordered 0 0 logs (all_rise logs (λ p b at. let w = are.each p b at in subst (λ (es : List Entry). IsRising 0 (map entry_at es)) (sym w.2) (rising p w.0 w.1)))
-
-    same_log : (p : ℕ) (o : Option (Bor (List Entry))) → slice_get logs p ≡ o → merge.entries_in o ≡ logs_in workers p
-    same_log p None at = sym (ap log_or (none_there workers p (beyond logs p at (length workers) are.count)))
-      where
-        beyond : (xs : List (Bor (List Entry))) (p : ℕ) → slice_get xs p ≡ None → (n : ℕ) → length xs ≡ n → n ≤ p
-        beyond [] p at n is = omega (arith, is)
-        beyond (x ∷ xs) zero at n is = absurd (cc at)
-        beyond (x ∷ xs) (suc p) at n is = let le = beyond xs p at (length xs) refl in omega (arith, le, is)
-    same_log p (Some b) at = let w = are.each p b at in ap (map entry_at) w.2 ∙ sym (ap log_or w.1)
-
-    -- lines that are those logs are the workers' logs
-    pub logs_joined : (lines : List LineAt) → IsJoined (merge.log_of logs) lines → IsJoined (logs_in workers) lines
-    logs_joined lines j = record { order = j.order; parts = λ p. j.parts p ∙ same_log p (slice_get logs p) refl }
+  -- lines that are those logs are the workers' logs
+  pub logs_joined : (lines : List LineAt) → IsJoined (given_log logs) lines → IsJoined (logs_in workers) lines
+  logs_joined lines j = record { order = j.order; parts = λ p. j.parts p ∙ same_log workers logs are p }

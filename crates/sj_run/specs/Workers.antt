@@ -1,7 +1,7 @@
 -- The workers of a file's parties, in a list by the parties' numbers: hired with their lanes, and after their work.
 use Rattle.std.specs.Prelude.{◌≡◌, ℕ, Bool, true, List, [], map, length, slice_get, Option, Some, None}
 use Rattle.sj_lang.specs.FileAt.{FileAt, body_named}
-use Rattle.std.specs.Borrow.{Bor}
+use Rattle.std.specs.Global.{Vec}
 use Rattle.sj_end.specs.declared.note.Entry.{Entry}
 use Rattle.sj_node.specs.declared.node.Node.{Node}
 use Rattle.sj_node.specs.Node.{log_of, node_at, outbox_of, play_here}
@@ -84,7 +84,6 @@ logs_in workers p = log_or (slice_get workers p)
 abbrev pub AllRising : {O I : Type 0} → List (Worker O I) → Type 0
 AllRising {O} {I} workers = (p : ℕ) (w : Worker O I) → slice_get workers p ≡ Some w → IsRising 0 (entries_of (log_of (node_of w)))
 
--- these are the logs of the first workers, so many
-pub record AreLogs {O I : Type 0} (workers : List (Worker O I)) (many : ℕ) (logs : List (Bor (List Entry))) : Type 0 where
-  pub count : length logs ≡ many
-  pub each : (p : ℕ) (b : Bor (List Entry)) → slice_get logs p ≡ Some b → (w : Worker O I) × (slice_get workers p ≡ Some w) × (b.now ≡ log_of (node_of w))
+-- these are the logs of the workers
+abbrev pub AreLogs : {O I : Type 0} → List (Worker O I) → List (Vec Entry) → Type 0
+AreLogs workers logs = map (λ (v : Vec Entry). v.items) logs ≡ map (λ w. log_of (node_of w)) workers

@@ -11,12 +11,12 @@ ghost use Rattle.sj_run.specs.Refusals.{IsDamagedOver, IsPastEndOf};
 ghost use Rattle.sj_run.specs.Shown.{IsShown, keeps_of};
 
 use crate::RunRefusal;
-use crate::remains::{give_up, join};
+use crate::remains::take_apart;
 use crate::stops::{any_faulty, any_short, first_unfit};
 use crate::teams::set_to_work;
 use sj_base::NoMemory;
 use sj_check::Accepted;
-use sj_core::{World, is_the_line};
+use sj_core::{World, is_the_line, join_given};
 use sj_end::{Line, Misfit};
 use sj_lane::Links;
 use sj_work::Gate;
@@ -77,12 +77,12 @@ pub fn run_parties<R: Threads + Sync, L: Links, G: Gate>(
     ensures faults { L.faults links.old ≤ L.faults links.new }
 {
     let workers = set_to_work(rt, alloc, accepted, threads, looks, links, gate)?;
-    let lines = join(alloc, &workers)?;
     let faulty = any_faulty(&workers);
     let short = any_short(&workers);
     let unfit = first_unfit(&workers);
-    let lanes = give_up(alloc, workers)?;
-    links.back(lanes);
+    let remains = take_apart(alloc, workers)?;
+    links.back(remains.lanes);
+    let lines = join_given(alloc, remains.logs)?;
     if faulty {
         return Err(RunRefusal::LinkFault);
     }

@@ -1,11 +1,11 @@
-use Rattle.std.proofs.Common.{◌∙◌, List, Bool, map, refl, sym, subst}
+use Rattle.std.proofs.Common.{◌∙◌, List, Bool, map, refl, sym, subst, arith}
 use Rattle.sj_check.specs.Held.{file_in}
 use Rattle.sj_core.specs.World.{history_of, kept_file, world_at}
 use Rattle.sj_end.specs.Lines.{line_at}
 use Rattle.sj_lane.specs.declared.lane.Lanes.{Lanes}
 use Rattle.sj_lane.specs.Square.{HasFault, Kept}
 use Rattle.sj_lang.specs.FileView.{file_of}
-use Rattle.sj_rules.specs.Log.{IsJoined, LineAt}
+use Rattle.sj_rules.specs.Log.{LineAt}
 use Rattle.sj_work.specs.declared.worker.Stop.TheVariants as stops
 use Rattle.sj_work.specs.declared.worker.Worker.{Worker}
 use Rattle.sj_core.proofs.StopLemmas.{error_is}
@@ -13,15 +13,22 @@ use Rattle.sj_run.specs.declared.refusal.RunRefusal.{RunRefusal}
 use Rattle.sj_run.specs.Damage.{IsDamaged, IsLowestUnfit, left_of}
 use Rattle.sj_run.specs.Refusals.{IsDamagedOver, IsPastEndOf}
 use Rattle.sj_run.specs.Shown.{keeps_of}
-use Rattle.sj_run.specs.Workers.{AllRising, AllWorked, NoneStopped, SomeStopped, logs_in}
+use Rattle.sj_run.specs.Workers.{AllWorked, NoneStopped, SomeStopped}
 use Rattle.sj_run.proofs.DamageLemmas.{history_fits, misfit_damage, no_link_fault, not_past_end, refused_damage, some_unfit}
+use Rattle.sj_run.proofs.LogLemmas.{as_many, logs_joined, logs_ordered}
 use Rattle.sj_run.proofs.RunLemmas.{all_rising, has_fault, rose_from, told_fits, told_history, told_shown}
 use Rattle.sj_run.proofs.runs.run_parties.Goals as goal
 
-pub join-requires-clause-rising : goal.join-requires-clause-rising
-join-requires-clause-rising g c =
-    λ κs lives.
-    subst (λ (ws : List (Worker g.row.L-Out.Denot g.row.L-In.Denot)). AllRising ws) (sym c.deref.ensures.value)
+pub join_given-requires-clause-parties : goal.join_given-requires-clause-parties
+join_given-requires-clause-parties g c =
+    let few = c.in_ok-workers.ensures.accepted.within.parties in
+    let many = c.in_ok-workers.ensures.worked.count in
+    let logs = as_many c.in_ok-workers.workers.items c.in_ok-remains.remains.logs.items c.in_ok-remains.ensures.logs in
+    omega (arith, few, many, logs)
+
+pub join_given-requires-clause-order : goal.join_given-requires-clause-order
+join_given-requires-clause-order g c =
+    logs_ordered c.in_ok-workers.workers.items c.in_ok-remains.remains.logs.items c.in_ok-remains.ensures.logs
     (all_rising g.L.Out.OutLane g.L.In.InLane g.L.Links.joined
     (file_of (file_in c.args.accepted.now)) c.args.looks (g.L.Links.tells c.args.links.now) c.in_ok-workers.workers.items c.in_ok-workers.ensures.worked)
 
@@ -29,10 +36,10 @@ pub returns-then-faulty-clause-link_fault : goal.returns-then-faulty-clause-link
 returns-then-faulty-clause-link_fault g c =
     λ is.
     rose_from _ _ _ c.in_ok-workers.ensures.faults
-    (c.back.ensures.raised (subst (λ (ls : List (Lanes g.row.L-Out.Denot g.row.L-In.Denot)). HasFault g.L.Out.OutLane.faults g.L.In.InLane.faults ls) (sym c.in_ok-lanes.ensures)
+    (c.back.ensures.raised (subst (λ (ls : List (Lanes g.row.L-Out.Denot g.row.L-In.Denot)). HasFault g.L.Out.OutLane.faults g.L.In.InLane.faults ls) (sym c.in_ok-remains.ensures.lanes)
     (has_fault g.L.Out.OutLane g.L.In.InLane g.L.Links.joined
     (file_of (file_in c.args.accepted.now)) c.args.looks (g.L.Links.tells c.args.links.now) c.in_ok-workers.workers.items c.in_ok-workers.ensures.worked
-    (subst (λ (ws : List (Worker g.row.L-Out.Denot g.row.L-In.Denot)). SomeStopped ws stops.Fault) c.deref-2.ensures.value (c.if-faulty.ensures.some refl)))))
+    (subst (λ (ws : List (Worker g.row.L-Out.Denot g.row.L-In.Denot)). SomeStopped ws stops.Fault) c.deref.ensures.value (c.if-faulty.ensures.some refl)))))
 
 pub returns-in-Err-clause-link_fault : goal.returns-in-Err-clause-link_fault
 returns-in-Err-clause-link_fault g c = λ is. absurd (no_link_fault c.in-Err.refusal (sym c.from.ensures ∙ error_is _ _ is))
@@ -42,9 +49,9 @@ returns-in-Err-clause-damaged g c =
     subst (λ (r : RunRefusal). IsDamagedOver g.L.Out.OutLane g.L.In.InLane g.L.Links.joined (file_of (file_in c.args.accepted.now)) c.args.looks (g.L.Links.tells c.args.links.now) r) (sym c.from.ensures)
     (misfit_damage g.L.Out.OutLane g.L.In.InLane g.L.Links.joined
     (file_of (file_in c.args.accepted.now)) c.args.looks (g.L.Links.tells c.args.links.now) c.in_ok-workers.workers.items c.in_ok-workers.ensures.worked
-    (subst (λ (ws : List (Worker g.row.L-Out.Denot g.row.L-In.Denot)). NoneStopped ws stops.Fault) c.deref-2.ensures.value (c.if-faulty.ensures.none refl))
+    (subst (λ (ws : List (Worker g.row.L-Out.Denot g.row.L-In.Denot)). NoneStopped ws stops.Fault) c.deref.ensures.value (c.if-faulty.ensures.none refl))
     (map line_at c.in_ok-lines.lines.items)
-    (subst (λ (ws : List (Worker g.row.L-Out.Denot g.row.L-In.Denot)). IsJoined (logs_in ws) (map line_at c.in_ok-lines.lines.items)) c.deref.ensures.value c.in_ok-lines.ensures)
+    (logs_joined c.in_ok-workers.workers.items c.in_ok-remains.remains.logs.items c.in_ok-remains.ensures.logs (map line_at c.in_ok-lines.lines.items) c.in_ok-lines.ensures)
     c.in-Err.refusal c.in-Err.ensures.misfit)
 
 pub returns-in-Err-clause-telling : goal.returns-in-Err-clause-telling
@@ -56,9 +63,9 @@ returns-in-Err-clause-telling g c =
     (subst (λ (b : Bool). AllWorked g.L.Out.OutLane g.L.In.InLane g.L.Links.joined (file_of (file_in c.args.accepted.now)) c.args.looks b c.in_ok-workers.workers.items) telling c.in_ok-workers.ensures.worked)
     (keeps_of g.L.Links.sent g.L.Links.got g.L.Links.vain_out g.L.Links.vain_in c.back.new.self)
     (subst (λ (ls : List (Lanes g.row.L-Out.Denot g.row.L-In.Denot)). Kept g.L.Out.OutLane.pushed g.L.In.InLane.popped g.L.Out.OutLane.vain g.L.In.InLane.vain ls (g.L.Links.sent c.back.new.self) (g.L.Links.got c.back.new.self) (g.L.Links.vain_out c.back.new.self) (g.L.Links.vain_in c.back.new.self))
-    c.in_ok-lanes.ensures (c.back.ensures.kept (c.in_ok-workers.ensures.tells ∙ telling)))
+    c.in_ok-remains.ensures.lanes (c.back.ensures.kept (c.in_ok-workers.ensures.tells ∙ telling)))
     (map line_at c.in_ok-lines.lines.items)
-    (subst (λ (ws : List (Worker g.row.L-Out.Denot g.row.L-In.Denot)). IsJoined (logs_in ws) (map line_at c.in_ok-lines.lines.items)) c.deref.ensures.value c.in_ok-lines.ensures))
+    (logs_joined c.in_ok-workers.workers.items c.in_ok-remains.remains.logs.items c.in_ok-remains.ensures.logs (map line_at c.in_ok-lines.lines.items) c.in_ok-lines.ensures))
     c.in-Err.ensures.misfit (subst IsDamaged c.from.ensures damaged)
 
 pub returns-in-Some-clause-link_fault : goal.returns-in-Some-clause-link_fault
@@ -70,11 +77,11 @@ returns-in-Some-clause-damaged g c =
     let world = c.in-Ok.world in
     refused_damage g.L.Out.OutLane g.L.In.InLane g.L.Links.joined
     (file_of (file_in c.args.accepted.now)) c.args.looks (g.L.Links.tells c.args.links.now) c.in_ok-workers.workers.items c.in_ok-workers.ensures.worked
-    (subst (λ (ws : List (Worker g.row.L-Out.Denot g.row.L-In.Denot)). NoneStopped ws stops.Fault) c.deref-2.ensures.value (c.if-faulty.ensures.none refl))
+    (subst (λ (ws : List (Worker g.row.L-Out.Denot g.row.L-In.Denot)). NoneStopped ws stops.Fault) c.deref.ensures.value (c.if-faulty.ensures.none refl))
     (map line_at c.in_ok-lines.lines.items)
-    (subst (λ (ws : List (Worker g.row.L-Out.Denot g.row.L-In.Denot)). IsJoined (logs_in ws) (map line_at c.in_ok-lines.lines.items)) c.deref.ensures.value c.in_ok-lines.ensures)
+    (logs_joined c.in_ok-workers.workers.items c.in_ok-remains.remains.logs.items c.in_ok-remains.ensures.logs (map line_at c.in_ok-lines.lines.items) c.in_ok-lines.ensures)
     (kept_file world) (world_at world) c.in-Some.refused c.past_end.result c.in-Ok.ensures.kept c.in-Ok.ensures.ok
-    (subst (λ (ws : List (Worker g.row.L-Out.Denot g.row.L-In.Denot)). IsLowestUnfit (map left_of ws) (line_at c.in-Some.refused)) c.deref-4.ensures.value c.in-Some.ensures.some)
+    (subst (λ (ws : List (Worker g.row.L-Out.Denot g.row.L-In.Denot)). IsLowestUnfit (map left_of ws) (line_at c.in-Some.refused)) c.deref-3.ensures.value c.in-Some.ensures.some)
     (subst (λ (ls : List LineAt). IsPastEndOf (kept_file world) (world_at world) ls c.in-Some.refused c.past_end.result) c.in-Ok.ensures.history c.past_end.ensures)
 
 pub returns-in-Some-clause-telling : goal.returns-in-Some-clause-telling
@@ -85,11 +92,11 @@ returns-in-Some-clause-telling g c =
     (subst (λ (b : Bool). AllWorked g.L.Out.OutLane g.L.In.InLane g.L.Links.joined (file_of (file_in c.args.accepted.now)) c.args.looks b c.in_ok-workers.workers.items) telling c.in_ok-workers.ensures.worked)
     (keeps_of g.L.Links.sent g.L.Links.got g.L.Links.vain_out g.L.Links.vain_in c.back.new.self)
     (subst (λ (ls : List (Lanes g.row.L-Out.Denot g.row.L-In.Denot)). Kept g.L.Out.OutLane.pushed g.L.In.InLane.popped g.L.Out.OutLane.vain g.L.In.InLane.vain ls (g.L.Links.sent c.back.new.self) (g.L.Links.got c.back.new.self) (g.L.Links.vain_out c.back.new.self) (g.L.Links.vain_in c.back.new.self))
-    c.in_ok-lanes.ensures (c.back.ensures.kept (c.in_ok-workers.ensures.tells ∙ telling)))
+    c.in_ok-remains.ensures.lanes (c.back.ensures.kept (c.in_ok-workers.ensures.tells ∙ telling)))
     (map line_at c.in_ok-lines.lines.items)
-    (subst (λ (ws : List (Worker g.row.L-Out.Denot g.row.L-In.Denot)). IsJoined (logs_in ws) (map line_at c.in_ok-lines.lines.items)) c.deref.ensures.value c.in_ok-lines.ensures)
+    (logs_joined c.in_ok-workers.workers.items c.in_ok-remains.remains.logs.items c.in_ok-remains.ensures.logs (map line_at c.in_ok-lines.lines.items) c.in_ok-lines.ensures)
     (some_unfit c.in_ok-workers.workers.items (line_at c.in-Some.refused)
-    (subst (λ (ws : List (Worker g.row.L-Out.Denot g.row.L-In.Denot)). IsLowestUnfit (map left_of ws) (line_at c.in-Some.refused)) c.deref-4.ensures.value c.in-Some.ensures.some))
+    (subst (λ (ws : List (Worker g.row.L-Out.Denot g.row.L-In.Denot)). IsLowestUnfit (map left_of ws) (line_at c.in-Some.refused)) c.deref-3.ensures.value c.in-Some.ensures.some))
 
 pub returns-clause-shown : goal.returns-clause-shown
 returns-clause-shown g c =
@@ -99,9 +106,9 @@ returns-clause-shown g c =
     (subst (λ (b : Bool). AllWorked g.L.Out.OutLane g.L.In.InLane g.L.Links.joined (file_of (file_in c.args.accepted.now)) c.args.looks b c.in_ok-workers.workers.items) telling c.in_ok-workers.ensures.worked)
     (keeps_of g.L.Links.sent g.L.Links.got g.L.Links.vain_out g.L.Links.vain_in c.back.new.self)
     (subst (λ (ls : List (Lanes g.row.L-Out.Denot g.row.L-In.Denot)). Kept g.L.Out.OutLane.pushed g.L.In.InLane.popped g.L.Out.OutLane.vain g.L.In.InLane.vain ls (g.L.Links.sent c.back.new.self) (g.L.Links.got c.back.new.self) (g.L.Links.vain_out c.back.new.self) (g.L.Links.vain_in c.back.new.self))
-    c.in_ok-lanes.ensures (c.back.ensures.kept (c.in_ok-workers.ensures.tells ∙ telling)))
+    c.in_ok-remains.ensures.lanes (c.back.ensures.kept (c.in_ok-workers.ensures.tells ∙ telling)))
     (map line_at c.in_ok-lines.lines.items)
-    (subst (λ (ws : List (Worker g.row.L-Out.Denot g.row.L-In.Denot)). IsJoined (logs_in ws) (map line_at c.in_ok-lines.lines.items)) c.deref.ensures.value c.in_ok-lines.ensures)
-    (subst (λ (ws : List (Worker g.row.L-Out.Denot g.row.L-In.Denot)). NoneStopped ws stops.NoMemory) c.deref-3.ensures.value (c.if-short.ensures.none refl))
-    (subst (λ (ws : List (Worker g.row.L-Out.Denot g.row.L-In.Denot)). NoneStopped ws stops.Fault) c.deref-2.ensures.value (c.if-faulty.ensures.none refl))
+    (logs_joined c.in_ok-workers.workers.items c.in_ok-remains.remains.logs.items c.in_ok-remains.ensures.logs (map line_at c.in_ok-lines.lines.items) c.in_ok-lines.ensures)
+    (subst (λ (ws : List (Worker g.row.L-Out.Denot g.row.L-In.Denot)). NoneStopped ws stops.NoMemory) c.deref-2.ensures.value (c.if-short.ensures.none refl))
+    (subst (λ (ws : List (Worker g.row.L-Out.Denot g.row.L-In.Denot)). NoneStopped ws stops.Fault) c.deref.ensures.value (c.if-faulty.ensures.none refl))
     (history_of c.in-Ok.world) (world_at c.in-Ok.world) c.in-Ok.ensures.history c.in-Ok.ensures.ok
