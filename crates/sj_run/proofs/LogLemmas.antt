@@ -7,13 +7,16 @@ use Rattle.sj_end.specs.declared.note.Entry.{Entry}
 use Rattle.sj_end.specs.Lines.{entry_at}
 use Rattle.sj_rules.specs.Log.{EntryAt, IsInOrder, IsJoined, LineAt}
 use Rattle.sj_joined_lemmas.proofs.MergingLemmas.{merging_begins}
-use Rattle.sj_joined_lemmas.proofs.OrderLemmas.{firsts_same, rests_same}
+use Rattle.sj_joined_lemmas.proofs.OrderLemmas.{rests_same}
 use Rattle.sj_node.specs.Node.{log_of}
 use Rattle.sj_core.specs.Given.{AreInOrder, given_log}
 use Rattle.sj_core.specs.Heads.{line_by}
 use Rattle.sj_work.specs.declared.worker.Worker.{Worker}
 use Rattle.sj_work.specs.Views.{node_of}
 use Rattle.sj_run.specs.Workers.{AllRising, AreLogs, log_or, logs_in}
+
+firsts_same : {X : Type 0} → (x y : X) (xs ys : List X) → x ∷ xs ≡ y ∷ ys → x ≡ y
+firsts_same x y xs ys e = cc
 
 -- a party's log is its worker's
 same_log : {O I : Type 0} (workers : List (Worker O I)) (logs : List (Vec Entry)) → AreLogs workers logs → (p : ℕ) → given_log logs p ≡ logs_in workers p

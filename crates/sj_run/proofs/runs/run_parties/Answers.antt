@@ -3,7 +3,7 @@ use Rattle.sj_check.specs.Held.{file_in}
 use Rattle.sj_core.specs.World.{history_of, kept_file, world_at}
 use Rattle.sj_end.specs.Lines.{line_at}
 use Rattle.sj_lane.specs.declared.lane.Lanes.{Lanes}
-use Rattle.sj_lane.specs.Square.{HasFault, Kept}
+use Rattle.sj_lane.specs.Square.{HasFault, IsSquare, Kept}
 use Rattle.sj_lang.specs.FileView.{file_of}
 use Rattle.sj_rules.specs.Log.{LineAt}
 use Rattle.sj_work.specs.declared.worker.Stop.TheVariants as stops
@@ -31,6 +31,10 @@ join_given-requires-clause-order g c =
     logs_ordered c.in_ok-workers.workers.items c.in_ok-remains.remains.logs.items c.in_ok-remains.ensures.logs
     (all_rising g.L.Out.OutLane g.L.In.InLane g.L.Links.joined
     (file_of (file_in c.args.accepted.now)) c.args.looks (g.L.Links.tells c.args.links.now) c.in_ok-workers.workers.items c.in_ok-workers.ensures.worked)
+
+pub back-requires-clause-square : goal.back-requires-clause-square
+back-requires-clause-square g c =
+    subst (λ (ls : List (Lanes g.row.L-Out.Denot g.row.L-In.Denot)). IsSquare ls) (sym c.in_ok-remains.ensures.lanes) c.in_ok-workers.ensures.worked.square
 
 pub returns-then-faulty-clause-link_fault : goal.returns-then-faulty-clause-link_fault
 returns-then-faulty-clause-link_fault g c =
