@@ -6,6 +6,7 @@ mod checker;
 mod ends;
 mod env;
 mod files;
+mod flat;
 mod joins;
 mod kinds;
 mod labels;

@@ -4,6 +4,7 @@ ghost use Rattle.std.specs.Prelude.{IfOk, OnOk};
 ghost use Rattle.std.specs.FinMap as map;
 ghost use Rattle.sj_check.specs.Table.{is_blank};
 
+use crate::flat::{at_or, grow};
 use sj_base::NoMemory;
 use sj_table::Spot;
 use std::alloc::Global;
@@ -45,7 +46,7 @@ impl LiveEnds {
     pub fn spot(&self, end: u16) -> Option<Spot>
         ensures { result ≡ map.get self.now end }
     {
-        spot_at(&self.table, end as usize)
+        at_or(&self.table, end as usize, None)
     }
 
     /// The end moves on to this spot, or begins there.
@@ -53,7 +54,7 @@ impl LiveEnds {
         ensures { OnOk result (self.new ≡ map.insert self.old end spot) }
     {
         let n = end as usize;
-        grow(&mut self.table, n + 1)?;
+        grow(&mut self.table, n + 1, None)?;
         self.table[n] = Some(spot);
         Ok(())
     }
@@ -79,23 +80,6 @@ impl LiveEnds {
     {
         is_blank(&self.table)
     }
-}
-
-fn spot_at(table: &[Option<Spot>], n: usize) -> Option<Spot>
-    ensures { result ≡ slice_index_or table.now n None }
-{
-    if n < table.len() { table[n] } else { None }
-}
-
-// Makes room for numbers below `len`.
-fn grow(table: &mut Vec<Option<Spot>>, len: usize) -> Result<(), NoMemory>
-    ensures room { OnOk result (len ≤ length table.new.items) }
-    ensures kept { (q : ℕ) → slice_index_or table.new.items q None ≡ slice_index_or table.old.items q None }
-{
-    while table.len() < len {
-        table.push(None)?;
-    }
-    Ok(())
 }
 
 fn clear(table: &mut Vec<Option<Spot>>, n: usize)

@@ -5,6 +5,7 @@ ghost use Rattle.std.specs.FinMap as map;
 ghost use Rattle.sj_acceptance.specs.Arms.{agree, common};
 ghost use Rattle.sj_check.specs.Table.{kind_of_byte};
 
+use crate::flat::{at_or, grow};
 use sj_base::NoMemory;
 use sj_lang::Scalar;
 use std::alloc::Global;
@@ -46,7 +47,7 @@ impl Variables {
     pub fn kind(&self, name: u16) -> Option<Scalar>
         ensures { result ≡ map.get self.now name }
     {
-        kind_of(byte_at(&self.table, name as usize))
+        kind_of(at_or(&self.table, name as usize, UNKNOWN))
     }
 
     /// The variable is known at this kind from now on.
@@ -54,7 +55,7 @@ impl Variables {
         ensures { OnOk result (self.new ≡ map.insert self.old name kind) }
     {
         let n = name as usize;
-        grow(&mut self.table, n + 1)?;
+        grow(&mut self.table, n + 1, UNKNOWN)?;
         self.table[n] = byte_of(kind);
         Ok(())
     }
@@ -98,23 +99,6 @@ fn kind_of(byte: u8) -> Option<Scalar>
         3 => Some(Scalar::Text),
         _ => None,
     }
-}
-
-fn byte_at(table: &[u8], n: usize) -> u8
-    ensures { result ≡ slice_index table.now n }
-{
-    if n < table.len() { table[n] } else { UNKNOWN }
-}
-
-// Makes room for numbers below `len`.
-fn grow(table: &mut Vec<u8>, len: usize) -> Result<(), NoMemory>
-    ensures room { OnOk result (len ≤ length table.new.items) }
-    ensures kept { (q : ℕ) → slice_index table.new.items q ≡ slice_index table.old.items q }
-{
-    while table.len() < len {
-        table.push(UNKNOWN)?;
-    }
-    Ok(())
 }
 
 // Keeps the kinds that the other table has, too.

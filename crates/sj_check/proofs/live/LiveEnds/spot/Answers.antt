@@ -5,5 +5,5 @@ use Rattle.sj_check.proofs.live.LiveEnds.spot.Goals as goal
 
 pub returns : goal.returns
 returns c =
-    c.spot_at.ensures ∙ ap (λ os. slice_index_or os c.args.end None) c.deref.ensures.value ∙ sym (get-spots_in c.self.inside.table.items c.args.end)
+    c.at_or.ensures ∙ ap (λ os. slice_index_or os c.args.end None) c.deref.ensures.value ∙ sym (get-spots_in c.self.inside.table.items c.args.end)
     ∙ ap (λ m. map.get m c.args.end) c.self.view_is
