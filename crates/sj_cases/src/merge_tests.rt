@@ -59,9 +59,12 @@ fn an_empty_log_adds_nothing(rt: HostRuntime) -> Result<(), Fail> {
 
 #[test]
 fn logs_are_joined_by_clock_then_by_party(rt: HostRuntime) -> Result<(), Fail> {
-    let (even, odd) = ([entry(2), entry(4)], [entry(1), entry(4)]);
-    let (even, odd): (&[Entry], &[Entry]) = (&even, &odd);
-    let lines = join_logs(rt.alloc(), &[even, odd, &[], odd])?;
+    let alloc = rt.alloc();
+    let even = vec![in alloc; entry(2), entry(4)]?;
+    let odd = vec![in alloc; entry(1), entry(4)]?;
+    let same = vec![in alloc; entry(1), entry(4)]?;
+    let logs = vec![in alloc; even, odd, Vec::new(alloc), same]?;
+    let lines = join_logs(alloc, logs)?;
     let want = [(1, 1), (3, 1), (0, 2), (0, 4), (1, 4), (3, 4)];
     assert_eq!(rt; clocks(rt.alloc(), &lines)?.as_slice(), want.as_slice());
     Ok(())

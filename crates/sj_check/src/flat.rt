@@ -11,11 +11,7 @@ pub(crate) fn at_or<T: Copy + Drop>(table: &[T], n: usize, blank: T) -> T
 }
 
 /// Makes room for numbers below `len`, which are blank so far.
-pub(crate) fn grow<T: Copy + Drop>(
-    table: &mut Vec<T>,
-    len: usize,
-    blank: T,
-) -> Result<(), NoMemory>
+pub(crate) fn grow<T: Copy + Drop>(table: &mut Vec<T>, len: usize, blank: T) -> Result<(), NoMemory>
     ensures room { OnOk result (len ≤ length table.new.items) }
     ensures kept { (q : ℕ) → slice_index_or table.new.items q blank ≡ slice_index_or table.old.items q blank }
 {

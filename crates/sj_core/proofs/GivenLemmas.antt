@@ -8,8 +8,7 @@ use Rattle.sj_rules.specs.Log.{EntryAt, LineAt, IsBefore, IsInOrder, IsJoined, p
 use Rattle.sj_joined_lemmas.proofs.MergeLemmas.{line_at}
 use Rattle.sj_joined_lemmas.proofs.MergingLemmas.{lines_at}
 use Rattle.sj_joined_lemmas.proofs.OrderLemmas.{before_later, part_here, part_others}
-use Rattle.sj_core.specs.Given.{AreInOrder}
-use Rattle.sj_core.specs.Heads.{line_by}
+use Rattle.sj_core.specs.Given.{AreInOrder, line_by}
 use Rattle.sj_core.specs.Tails.{IsLast}
 
 -- so far these lines came out; what is left of each log is in order before them

@@ -1,6 +1,6 @@
 -- The logs of a list: whose entry comes last, that none is beyond the list, and what is left where it is taken off.
-use Rattle.std.proofs.Common.{zero, suc, ◌≡◌, ◌+◌, ◌<◌, ◌≤◌, ℕ, List, [], ◌∷◌, ◌++◌, length, length-append, add-one, get_or, take, map, sym, ap, subst, ◌∙◌, inl, inr, arith}
-use Rattle.std.specs.Prelude.{Option, Some, None, reverse, slice_get}
+use Rattle.std.proofs.Common.{zero, suc, ◌≡◌, ◌+◌, ◌<◌, ◌≤◌, ℕ, List, [], ◌∷◌, ◌++◌, length, length-append, add-one, get_or, take, map, refl, sym, ap, subst, ◌∙◌, inl, inr, arith}
+use Rattle.std.specs.Prelude.{◌⊎◌, Option, Some, None, reverse, slice_get}
 use Rattle.std.specs.Global.{Vec}
 use Rattle.std.specs.Option.{SomeIff}
 use Rattle.std.proofs.Math.ListN.{set}
@@ -10,14 +10,27 @@ use Rattle.sj_rules.specs.Log.{EntryAt}
 use Rattle.sj_end.specs.declared.note.Entry.{Entry}
 use Rattle.sj_end.specs.declared.note.Line.{Line}
 use Rattle.sj_core.specs.declared.tails.Tail.{Tail}
-use Rattle.sj_core.specs.Given.{count_given, entries_given, given_log}
-use Rattle.sj_core.specs.Heads.{line_by}
+use Rattle.sj_core.specs.Given.{count_given, entries_given, given_log, line_by}
 use Rattle.sj_core.specs.Tails.{IsLast, later_of}
 use Rattle.sj_core.specs.Views.{entry_at, line_at, line_of}
 use Rattle.sj_core.proofs.GivenLemmas.{Giving, giving_more}
-use Rattle.sj_core.proofs.LogLemmas.{set_here, set_there}
-use Rattle.sj_core.proofs.NextLemmas.{below_or_past}
 use Rattle.sj_core.proofs.TailLemmas.{IsEnd, IsLatest, end_of_more}
+
+-- a list with another value there
+set_here : {X : Type 0} → (xs : List X) (p : ℕ) (x : X) → p < length xs → slice_get (set xs p x) p ≡ Some x
+set_here [] p x lt = absurd (omega arith)
+set_here (y ∷ ys) zero x lt = refl
+set_here (y ∷ ys) (suc p) x lt = set_here ys p x (omega arith)
+
+set_there : {X : Type 0} → (xs : List X) (p q : ℕ) (x : X) → (q ≡ p → ⊥) → slice_get (set xs p x) q ≡ slice_get xs q
+set_there [] p q x apart = refl
+set_there (y ∷ ys) zero zero x apart = absurd (apart refl)
+set_there (y ∷ ys) zero (suc q) x apart = refl
+set_there (y ∷ ys) (suc p) zero x apart = refl
+set_there (y ∷ ys) (suc p) (suc q) x apart = set_there ys p q x (λ h. apart (ap suc h))
+
+below_or_past : (n q : ℕ) → (q < n) ⊎ (n ≤ q)
+below_or_past n q = grind arith
 
 -- the logs read from their ends
 abbrev pub back_of : List (Vec Entry) → ℕ → List EntryAt

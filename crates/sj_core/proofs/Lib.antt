@@ -22,12 +22,8 @@ pub mod StepLemmas
 pub mod StopLemmas
 pub mod TakenLemmas
 pub mod UnfitLemmas
-pub mod HeadLemmas
-pub mod JoinLemmas
-pub mod LogLemmas
 pub mod MergeLemmas
 pub mod MergeStepLemmas
-pub mod NextLemmas
 pub mod OneLogLemmas
 pub mod OrderLemmas
 pub mod GivenLemmas

@@ -5,7 +5,7 @@ use Rattle.std.proofs.lemmas.Bool.{eqb-true, eqb-false}
 use Rattle.std.proofs.lemmas.Bool.Decides.{nat_tests}
 use Rattle.sj_rules.specs.Log.{EntryAt, IsBefore}
 use Rattle.sj_joined_lemmas.proofs.OrderLemmas.{before_later}
-use Rattle.sj_core.specs.Heads.{line_by}
+use Rattle.sj_core.specs.Given.{line_by}
 use Rattle.sj_core.specs.Tails.{later_of, later_than}
 use Rattle.sj_core.specs.declared.tails.Tail.{Tail}
 

@@ -1,10 +1,17 @@
 -- The logs of several parties that are given to be joined, in a list by the parties' numbers.
-use Rattle.std.specs.Prelude.{ℕ, ◌+◌, List, [], ◌∷◌, length, map, Option, Some, None, slice_get}
+use Rattle.std.specs.Prelude.{ℕ, ◌+◌, ◌^◌, List, [], ◌∷◌, length, map, Option, Some, None, slice_get}
 use Rattle.std.specs.Global.{Vec}
 use Rattle.sj_end.specs.declared.note.Entry.{Entry}
-use Rattle.sj_rules.specs.Log.{EntryAt, IsInOrder}
-use Rattle.sj_core.specs.Heads.{line_by}
+use Rattle.sj_rules.specs.Log.{EntryAt, LineAt, IsInOrder}
 use Rattle.sj_core.specs.Views.{entry_at}
+
+-- a party's entry as a line
+abbrev pub line_by : ℕ → EntryAt → LineAt
+line_by party e = record { party = party; entry = e }
+
+-- a log for each party, as parties have numbers of 16 bits
+abbrev pub most_logs : ℕ
+most_logs = 2 ^ 16
 
 -- the log of the party, where the list has one
 abbrev pub entries_given : Option (Vec Entry) → List EntryAt

@@ -6,8 +6,6 @@ pub mod Quiet
 pub mod World
 pub mod Replaying
 pub mod Draining
-pub mod Heads
-pub mod Logs
 pub mod Merged
 pub mod Given
 pub mod Tails

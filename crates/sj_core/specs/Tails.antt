@@ -1,7 +1,7 @@
 -- Which of several logs ends last.
 use Rattle.std.specs.Prelude.{◌≡◌, ℕ, nat_lt, List, [], ◌∷◌, ◌++◌, Option, Some, None, if◌then◌else◌}
 use Rattle.sj_rules.specs.Log.{EntryAt, IsBefore}
-use Rattle.sj_core.specs.Heads.{line_by}
+use Rattle.sj_core.specs.Given.{line_by}
 use Rattle.sj_core.specs.declared.tails.Tail.{Tail}
 
 -- that party's last entry comes behind the last ones of all others

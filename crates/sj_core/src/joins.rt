@@ -1,11 +1,11 @@
 //! Logs joined into one list.
-ghost use Rattle.std.specs.Prelude.{◌≡◌, ◌≤◌, [], length, map, IfOk, vec_capacity};
+ghost use Rattle.std.specs.Prelude.{◌≡◌, ◌≤◌, ◌++◌, ◌∷◌, [], length, map, IfNone, IfOk, IfSome, vec_capacity};
 ghost use Rattle.sj_rules.specs.Log.{IsInOrder, IsJoined, IsMerged, part_of};
+ghost use Rattle.sj_core.specs.Given.{AreInOrder, count_given, given_log, most_logs};
 ghost use Rattle.sj_core.specs.Views.{entry_at, line_at, line_of};
-ghost use Rattle.sj_core.specs.Logs.{AreOrdered, count_of, log_of, most_logs};
 
-use crate::heads::next_party;
 use crate::merges::merge;
+use crate::tails::last_party;
 use sj_base::NoMemory;
 use sj_end::{Entry, Line};
 use std::alloc::Global;
@@ -41,9 +41,9 @@ pub fn merge_in(
 }
 
 /// An empty list of lines with room for all entries of the logs.
-fn room_for(alloc: Global, logs: &[&[Entry]]) -> Result<Vec<Line>, NoMemory>
+fn room_for(alloc: Global, logs: &[Vec<Entry>]) -> Result<Vec<Line>, NoMemory>
     ensures items { IfOk result (λ v. v.items ≡ []) }
-    ensures room { IfOk result (λ v. count_of logs.now ≤ vec_capacity v) }
+    ensures room { IfOk result (λ v. count_given logs.now ≤ vec_capacity v) }
 {
     let mut entries: usize = 0;
     for log in logs {
@@ -56,25 +56,36 @@ fn room_for(alloc: Global, logs: &[&[Entry]]) -> Result<Vec<Line>, NoMemory>
     Ok(lines)
 }
 
-/// The logs of the parties from the first on joined, in one pass over all of them: the next line is the
-/// first of those with which the logs go on. The room for all lines is taken before.
-pub fn join_logs(alloc: Global, logs: &[&[Entry]]) -> Result<Vec<Line>, NoMemory>
-    requires parties { length logs.now ≤ most_logs }
-    requires order { AreOrdered 0 logs.now }
-    ensures { IfOk result (λ v. IsJoined (log_of logs.now) (map line_at v.items)) }
+/// Takes the last entry out of a log. Once an eighth of its room is empty it is given back, so that n entries
+/// are moved some 8 n times at most, and not once where the system gives back the end of a block.
+fn take_last(log: &mut Vec<Entry>) -> Option<Entry>
+    ensures some { IfSome result (λ e. log.old.items ≡ log.new.items ++ e ∷ []) }
+    ensures none { IfNone result (log.old.items ≡ []) }
 {
-    let mut lines = room_for(alloc, logs)?;
-    let mut left = Vec::from_slice(alloc, logs)?;
-    while let Some(party) = next_party(&left) {
-        let log = left[party as usize];
-        let Some((entry, more)) = log.split_first() else {
+    let entry = log.pop();
+    if log.len() < log.capacity() / 8 * 7 {
+        log.shrink_to_fit();
+    }
+    entry
+}
+
+/// The logs of the parties from the first on joined, each given up as its entries become lines: the last line is
+/// the last of those with which the logs end, so the lines are made from the last on, and turned at the end. The
+/// room for all lines is taken before.
+pub fn join_logs(alloc: Global, logs: Vec<Vec<Entry>>) -> Result<Vec<Line>, NoMemory>
+    requires parties { length logs.items ≤ most_logs }
+    requires order { AreInOrder (given_log logs.items) }
+    ensures { IfOk result (λ v. IsJoined (given_log logs.items) (map line_at v.items)) }
+{
+    let mut left = logs;
+    let mut lines = room_for(alloc, &left)?;
+    while let Some(party) = last_party(&left) {
+        let log = &mut left[party as usize];
+        let Some(entry) = take_last(log) else {
             unreachable!();
         };
-        lines.push_reserved(Line {
-            party,
-            entry: *entry,
-        });
-        left[party as usize] = more;
+        lines.push_reserved(Line { party, entry });
     }
+    lines.reverse();
     Ok(lines)
 }

@@ -4,8 +4,6 @@
 
 mod drains;
 mod entries;
-mod given;
-mod heads;
 mod joins;
 mod merges;
 mod node_world;
@@ -16,7 +14,6 @@ mod starts;
 mod tails;
 mod world;
 
-pub use given::join_given;
 pub use joins::{join_logs, merge_in};
 pub use refusal::{ReplayRefusal, StepRefusal};
 pub use replays::is_the_line;

@@ -1,7 +1,6 @@
 //! Which of several logs ends last.
 ghost use Rattle.std.specs.Prelude.{◌≡◌, ◌≤◌, ℕ, [], IfNone, IfSome, length, map, reverse};
-ghost use Rattle.sj_core.specs.Given.{given_log};
-ghost use Rattle.sj_core.specs.Logs.{most_logs};
+ghost use Rattle.sj_core.specs.Given.{given_log, most_logs};
 ghost use Rattle.sj_core.specs.Tails.{IsLast, later_of};
 ghost use Rattle.sj_core.specs.Views.{entry_at};
 

@@ -1,5 +1,5 @@
 -- The logs of workers, taken out of them in order.
-use Rattle.std.proofs.Common.{◌≡◌, ◌∙◌, ℕ, zero, suc, List, [], ◌∷◌, map, length, Option, Some, None, refl, sym, ap, subst}
+use Rattle.std.proofs.Common.{◌≡◌, ◌∙◌, ℕ, zero, suc, List, [], ◌∷◌, map, length, get_or, Option, Some, None, refl, sym, ap, subst}
 use Rattle.std.specs.Prelude.{slice_get}
 use Rattle.std.specs.Global.{Vec}
 use Rattle.std.proofs.lemmas.List.{length-map}
@@ -9,21 +9,17 @@ use Rattle.sj_rules.specs.Log.{EntryAt, IsInOrder, IsJoined, LineAt}
 use Rattle.sj_joined_lemmas.proofs.MergingLemmas.{merging_begins}
 use Rattle.sj_joined_lemmas.proofs.OrderLemmas.{rests_same}
 use Rattle.sj_node.specs.Node.{log_of}
-use Rattle.sj_core.specs.Given.{AreInOrder, given_log}
-use Rattle.sj_core.specs.Heads.{line_by}
+use Rattle.sj_core.specs.Given.{AreInOrder, given_log, line_by}
 use Rattle.sj_work.specs.declared.worker.Worker.{Worker}
 use Rattle.sj_work.specs.Views.{node_of}
 use Rattle.sj_run.specs.Workers.{AllRising, AreLogs, log_or, logs_in}
-
-firsts_same : {X : Type 0} → (x y : X) (xs ys : List X) → x ∷ xs ≡ y ∷ ys → x ≡ y
-firsts_same x y xs ys e = cc
 
 -- a party's log is its worker's
 same_log : {O I : Type 0} (workers : List (Worker O I)) (logs : List (Vec Entry)) → AreLogs workers logs → (p : ℕ) → given_log logs p ≡ logs_in workers p
 same_log [] [] are p = refl
 same_log [] (v ∷ logs) are p = absurd (cc are)
 same_log (w ∷ workers) [] are p = absurd (cc are)
-same_log (w ∷ workers) (v ∷ logs) are zero = ap (map entry_at) (firsts_same v.items (log_of (node_of w)) (map (λ (u : Vec Entry). u.items) logs) (map (λ u. log_of (node_of u)) workers) are)
+same_log (w ∷ workers) (v ∷ logs) are zero = ap (λ (all : List (List Entry)). map entry_at (get_or all 0 [])) are
 same_log (w ∷ workers) (v ∷ logs) are (suc p) = same_log workers logs (rests_same v.items (log_of (node_of w)) (map (λ (u : Vec Entry). u.items) logs) (map (λ u. log_of (node_of u)) workers) are) p
 
 module _ {O I : Type 0} (workers : List (Worker O I)) (logs : List (Vec Entry)) (are : AreLogs workers logs) where

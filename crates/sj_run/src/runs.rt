@@ -16,7 +16,7 @@ use crate::stops::{any_faulty, any_short, first_unfit};
 use crate::teams::set_to_work;
 use sj_base::NoMemory;
 use sj_check::Accepted;
-use sj_core::{World, is_the_line, join_given};
+use sj_core::{World, is_the_line, join_logs};
 use sj_end::{Line, Misfit};
 use sj_lane::Links;
 use sj_work::Gate;
@@ -82,7 +82,7 @@ pub fn run_parties<R: Threads + Sync, L: Links, G: Gate>(
     let unfit = first_unfit(&workers);
     let remains = take_apart(alloc, workers)?;
     links.back(remains.lanes);
-    let lines = join_given(alloc, remains.logs)?;
+    let lines = join_logs(alloc, remains.logs)?;
     if faulty {
         return Err(RunRefusal::LinkFault);
     }

@@ -19,15 +19,15 @@ use Rattle.sj_run.proofs.LogLemmas.{as_many, logs_joined, logs_ordered}
 use Rattle.sj_run.proofs.RunLemmas.{all_rising, has_fault, rose_from, told_fits, told_history, told_shown}
 use Rattle.sj_run.proofs.runs.run_parties.Goals as goal
 
-pub join_given-requires-clause-parties : goal.join_given-requires-clause-parties
-join_given-requires-clause-parties g c =
+pub join_logs-requires-clause-parties : goal.join_logs-requires-clause-parties
+join_logs-requires-clause-parties g c =
     let few = c.in_ok-workers.ensures.accepted.within.parties in
     let many = c.in_ok-workers.ensures.worked.count in
     let logs = as_many c.in_ok-workers.workers.items c.in_ok-remains.remains.logs.items c.in_ok-remains.ensures.logs in
     omega (arith, few, many, logs)
 
-pub join_given-requires-clause-order : goal.join_given-requires-clause-order
-join_given-requires-clause-order g c =
+pub join_logs-requires-clause-order : goal.join_logs-requires-clause-order
+join_logs-requires-clause-order g c =
     logs_ordered c.in_ok-workers.workers.items c.in_ok-remains.remains.logs.items c.in_ok-remains.ensures.logs
     (all_rising g.L.Out.OutLane g.L.In.InLane g.L.Links.joined
     (file_of (file_in c.args.accepted.now)) c.args.looks (g.L.Links.tells c.args.links.now) c.in_ok-workers.workers.items c.in_ok-workers.ensures.worked)
