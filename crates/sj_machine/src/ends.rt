@@ -32,8 +32,5 @@ pub fn bind(ends: &mut Vec<(u16, EndId)>, name: u16, end: EndId)
     ensures room { vec_capacity ends.old ≤ vec_capacity ends.new }
 {
     unbind(ends, name);
-    match ends.push((name, end)) {
-        Ok(()) => {}
-        Err(_) => unreachable!(),
-    }
+    ends.push_reserved((name, end));
 }

@@ -114,9 +114,6 @@ impl Stack {
         ensures pushed { self.new.0 ≡ self.old.0 ++ frame ∷ [] }
         ensures room { self.old.1 ≤ self.new.1 }
     {
-        match self.frames.push(frame) {
-            Ok(()) => {}
-            Err(_) => unreachable!(),
-        }
+        self.frames.push_reserved(frame);
     }
 }
