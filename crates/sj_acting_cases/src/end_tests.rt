@@ -42,9 +42,11 @@ fn what_is_sent_is_cached_until_the_peer_has_taken_it(rt: HostRuntime) -> Result
     let table = table_of(alloc, Vec::from_array(alloc, items)?)?;
     let mut held = Held::first(alloc, FIRST, 1, table.start(0));
     let msg = Msg::Int(1);
-    assert!(rt; table.after(held.end.place, Way::Out, &msg).is_some());
+    let next = table.after(held.end.place, Way::Out, &msg);
+    let next = next.ok_or("its place lets it go")?;
     assert!(rt; held.end.sent < 1_000_000);
-    let body = held.send(&table, msg)?;
+    let body = held.send(msg, next)?;
+    assert_eq!(rt; held.end.place, next);
     let carry = Note::Carry {
         to: SECOND,
         conn: 0,
@@ -77,8 +79,9 @@ fn parking_drops_what_is_not_taken(rt: HostRuntime) -> Result<(), Fail> {
     arrives(&rt, &mut held, 0, Msg::Int(2))?;
     held.fin_came();
     let head = held.head().ok_or("two came")?;
-    assert!(rt; table.after(held.end.place, Way::Into, &head).is_some());
-    assert_eq!(rt; held.take(&table), Msg::Int(1));
+    let next = table.after(held.end.place, Way::Into, &head);
+    let next = next.ok_or("its place lets it come")?;
+    assert_eq!(rt; held.take(next), Msg::Int(1));
     assert_eq!(rt; held.head(), Some(Msg::Int(2)));
     let parked = held.park();
     assert_eq!(rt; (parked.end.sent, parked.end.taken), (0, 1));
@@ -98,8 +101,9 @@ fn an_offered_end_is_accepted_at_a_place(rt: HostRuntime) -> Result<(), Fail> {
     assert!(rt; held.end.place.node == 0);
     held.accept(table.start(0));
     let head = held.head().ok_or("one came before")?;
-    assert!(rt; table.after(held.end.place, Way::Into, &head).is_some());
-    assert_eq!(rt; held.take(&table), Msg::Int(5));
+    let next = table.after(held.end.place, Way::Into, &head);
+    let next = next.ok_or("its place lets it come")?;
+    assert_eq!(rt; held.take(next), Msg::Int(5));
     assert_eq!(rt; held.end.place, table.done());
     Ok(())
 }

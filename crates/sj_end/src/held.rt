@@ -1,41 +1,32 @@
 //! What a party does with an end that it uses.
 ghost use Rattle.std.specs.Prelude.{◌≡◌, ◌+◌, ◌<◌, ◌≤◌, ◌∷◌, ◌++◌, [], Some, None, IsSome, IfOk, IfErr, OnErr, OnOk, true};
-ghost use Rattle.std.specs.Prelude.{List, length, map, slice_get, option_map, option_and_then, if◌then◌else◌};
+ghost use Rattle.std.specs.Prelude.{List, length, map, slice_get, option_map, if◌then◌else◌};
 ghost use Rattle.sj_base.specs.declared.Msg.{Msg};
-ghost use Rattle.sj_lang.specs.After.{after_place};
-ghost use Rattle.sj_lang.specs.declared.proto.Way.TheVariants.{Into, Out};
 ghost use Rattle.sj_rules.specs.Node as node;
 ghost use Rattle.sj_rules.specs.Node.{held_behind_send, held_behind_take};
 ghost use Rattle.sj_rules.specs.Record as rules;
 ghost use Rattle.sj_rules.specs.Limits.{limit_of_messages};
-ghost use Rattle.sj_table.specs.Spots.{place_in};
 ghost use Rattle.sj_table.specs.declared.table.Spot.{Spot};
 ghost use Rattle.sj_end.specs.Bodies.{IsCounted};
 ghost use Rattle.sj_end.specs.Views.{arrived_at, body_at, deferred_at, expected_at, first_held, held_at};
 
 use crate::{Body, Closed, Deferred, End, Expected, Held, Parked, other_end};
 use sj_base::{EndId, Msg, NoMemory};
-use sj_lang::Way;
-use sj_table::{Spot, Table};
+use sj_table::Spot;
 use std::alloc::Global;
 use std::collections::VecDeque;
 
 impl Held {
-    /// Sends a message on the end, and answers what goes to the peer.
-    pub fn send(&mut self, table: &Table, msg: Msg) -> Result<Body, NoMemory>
-        requires next { IsSome (after_place (place_in table.now self.old.end.place) Out msg) }
-        requires room { self.old.end.sent < limit_of_messages }
-        ensures ok { OnOk result ((next : Spot)
-            × (after_place (place_in table.now self.old.end.place) Out msg ≡ Some (place_in table.now next))
-            × (held_at self.new ≡ held_behind_send (held_at self.old) msg next)) }
+    /// Sends a message on the end, which stands at the next spot then, and answers what goes to the
+    /// peer.
+    pub fn send(&mut self, msg: Msg, next: Spot) -> Result<Body, NoMemory>
+        requires { self.old.end.sent < limit_of_messages }
+        ensures ok { OnOk result (held_at self.new ≡ held_behind_send (held_at self.old) msg next) }
         ensures body { IfOk result (λ b. body_at b ≡ rules.Carry (rules.other_end self.old.end.id)
             self.old.end.conn self.old.end.sent self.old.end.taken msg) }
         ensures err { OnErr result (held_at self.new ≡ held_at self.old) }
     {
         let end = &mut self.end;
-        let Some(next) = table.after(end.place, Way::Out, &msg) else {
-            unreachable!()
-        };
         let body = Body::Carry {
             to: other_end(end.id),
             conn: end.conn,
@@ -75,22 +66,16 @@ impl Held {
         self.untaken.front().copied()
     }
 
-    /// Takes the next message.
-    pub fn take(&mut self, table: &Table) -> Msg
-        requires next { IsSome (option_and_then (after_place (place_in table.now self.old.end.place) Into)
-            (slice_get self.old.untaken.items 0)) }
-        ensures { (next : Spot) × (rest : List Msg) × (self.old.untaken.items ≡ result ∷ rest)
-            × (after_place (place_in table.now self.old.end.place) Into result
-            ≡ Some (place_in table.now next))
+    /// Takes the next message of the end, which stands at the next spot then.
+    pub fn take(&mut self, next: Spot) -> Msg
+        requires { IsSome (slice_get self.old.untaken.items 0) }
+        ensures { (rest : List Msg) × (self.old.untaken.items ≡ result ∷ rest)
             × (held_at self.new ≡ held_behind_take (held_at self.old) rest next) }
     {
         let Some(msg) = self.untaken.pop_front() else {
             unreachable!()
         };
         let end = &mut self.end;
-        let Some(next) = table.after(end.place, Way::Into, &msg) else {
-            unreachable!()
-        };
         end.taken += 1;
         end.place = next;
         msg

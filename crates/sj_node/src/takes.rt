@@ -72,11 +72,10 @@ fn take_held(held: &mut Held, table: &Table, msg: Msg) -> Result<(), Halt>
     ensures unfit { IsErrOf result Halt.Unfit →
         can_take table.now msg (Some (rules.Held (held_at held.old))) ≡ false }
 {
-    let end = &held.end;
-    if table.after(end.place, Way::Into, &msg).is_none() {
+    let Some(next) = table.after(held.end.place, Way::Into, &msg) else {
         return Err(Halt::Unfit);
-    }
-    let _ = held.take(table);
+    };
+    let _ = held.take(next);
     Ok(())
 }
 
