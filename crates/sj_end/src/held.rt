@@ -10,7 +10,7 @@ ghost use Rattle.sj_table.specs.declared.table.Spot.{Spot};
 ghost use Rattle.sj_end.specs.Bodies.{IsCounted};
 ghost use Rattle.sj_end.specs.Views.{arrived_at, body_at, deferred_at, expected_at, first_held, held_at};
 
-use crate::{Body, Closed, Deferred, End, Expected, Held, Parked, other_end};
+use crate::{Body, Closed, Deferred, End, Expected, Held, Parked, Room, other_end};
 use sj_base::{EndId, Msg, NoMemory};
 use sj_table::Spot;
 use std::alloc::Global;
@@ -81,11 +81,13 @@ impl Held {
         msg
     }
 
-    /// Parks the end, which is sent on. Its untaken messages are dropped.
-    pub fn park(self) -> Parked
-        ensures { result.end ≡ self.end }
+    /// Parks the end, which is sent on, in the box of that room. Its untaken messages are dropped.
+    pub fn park(self, room: Room) -> Parked
+        ensures { result.end.value ≡ self.end }
     {
-        Parked { end: self.end }
+        let mut end = room.end;
+        *end = self.end;
+        Parked { end }
     }
 
     /// Closes the end, and answers what goes to the peer. The record stays until the peer's Fin is

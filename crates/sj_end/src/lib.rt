@@ -8,6 +8,7 @@ mod misfit;
 mod note;
 mod once;
 mod record;
+mod room;
 mod wire;
 
 pub use end::{End, other_end};
@@ -15,4 +16,5 @@ pub use limits::CLOCK_END;
 pub use misfit::Misfit;
 pub use note::{Entry, Event, Line, Note, note_of};
 pub use record::{Closed, Deferred, Expected, Held, Parked, Signalled};
+pub use room::Room;
 pub use wire::{Body, Frame, Post};
