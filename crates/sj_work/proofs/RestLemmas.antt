@@ -42,18 +42,6 @@ rests_front a b to f rest out front others = rests_out a b out (λ q. each q (ca
     each q (inl is) none = let e : f ∷ rest ≡ [] = sym front ∙ ap (waiting_in (outs_of a)) (sym is) ∙ none in absurd (cc e)
     each q (inr not) none = others q not ∙ none
 
--- an outbox was looked into, in which nothing waits
-pub same_waiting : (a b : Node) (to : ℕ) → waiting_in (outs_of a) to ≡ [] → waiting_in (outs_of b) to ≡ []
-    → ((q : ℕ) → (q ≡ to → ⊥) → waiting_in (outs_of b) q ≡ waiting_in (outs_of a) q) → (q : ℕ) → waiting_in (outs_of b) q ≡ waiting_in (outs_of a) q
-same_waiting a b to none empty others q = each (cases_eq q to)
-  where
-    each : (q ≡ to) ⊎ (q ≡ to → ⊥) → waiting_in (outs_of b) q ≡ waiting_in (outs_of a) q
-    each (inl is) = rw is (empty ∙ sym none)
-    each (inr not) = others q not
-
-pub rests_same : (a b : Node) → TakesOut a b → ((q : ℕ) → waiting_in (outs_of b) q ≡ waiting_in (outs_of a) q) → HasNoEvent a b
-rests_same a b out same = rests_out a b out (λ q none. same q ∙ none)
-
 -- frames that left outboxes and came back
 pub takes_later : (a b c : Node) → TakesOut a b → TakesOut b c → TakesOut a c
 takes_later a b c x y = record {

@@ -215,13 +215,6 @@ module _ {O I : Type 0} (k : LaneLaws O I) where
       (box_waits b.node to ∙ ap (map (frame_with (λ s. done))) (own ∙ sym front) ∙ sym (box_waits a.node to))
       (λ q h. box_waits b.node q ∙ ap (map (frame_with (λ s. done))) (again q h ∙ others q h) ∙ sym (box_waits a.node q))
 
-  -- an outbox in which nothing waits
-  pub went_empty : (a b : Worker O I) → TakesOut a.node b.node → ((q : ℕ) → waiting_in (outs_of b.node) q ≡ waiting_in (outs_of a.node) q) → b.lanes ≡ a.lanes → WentBy k None a b
-  went_empty a b out same lanes =
-      still a b None (out_quiet a.node b.node out)
-      (outs_alone a b (λ q. box_waits b.node q ∙ ap (map (frame_with (λ s. done))) (same q) ∙ sym (box_waits a.node q)) (λ i. (lanes i).outs.items))
-      (ins_alone a b (λ i. (lanes i).ins.items))
-
   -- work after work
   pub went_later : (a b c : Worker O I) (lost : Option (LostAt Place)) → WentBy k None a b → WentBy k lost b c → WentBy k lost a c
   went_later a b c lost x y = record {

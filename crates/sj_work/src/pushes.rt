@@ -40,7 +40,7 @@ fn push_one<O: OutLane, I: InLane>(worker: &mut Worker<O, I>, to: u16) -> bool
         return false;
     }
     let Some(frame) = worker.node.take_out(to) else {
-        return false;
+        unreachable!()
     };
     match worker.lanes.outs[usize::from(to)].push(frame) {
         Ok(()) => {

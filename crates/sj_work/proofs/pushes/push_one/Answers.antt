@@ -1,4 +1,4 @@
-use Rattle.std.proofs.Common.{rules, ◌≡◌, ◌∷◌, Some, length, refl, ap, sym, ◌∙◌, subst}
+use Rattle.std.proofs.Common.{rules, ◌≡◌, ◌∷◌, Some, length, refl, ap, ◌∙◌, subst}
 use Rattle.std.specs.Prelude.{slice_get}
 use Rattle.std.proofs.Math.ListN.{set}
 use Rattle.std.proofs.lemmas.Option.{slice_get_read}
@@ -7,11 +7,10 @@ use Rattle.sj_node.specs.Outs.{waiting_in}
 use Rattle.sj_node.specs.Reading.{outs_of}
 use Rattle.sj_work.specs.Counts.{OnLane, RoseBy}
 use Rattle.sj_work.proofs.CountLemmas.{on_at, on_none, push_stood}
-use Rattle.sj_work.proofs.HaltLemmas.{finished_before}
 use Rattle.sj_work.proofs.LaneLaws.{laws}
-use Rattle.sj_work.proofs.RestLemmas.{outbox_empty, rests_front, rests_itself, rests_same, same_waiting, takes_later, waiting_empty, waits_open}
+use Rattle.sj_work.proofs.RestLemmas.{outbox_empty, rests_front, rests_itself, takes_later, waits_open}
 use Rattle.sj_work.proofs.TurnLemmas.{full_vain, push_refused, turned_on, turned_seen}
-use Rattle.sj_work.proofs.WentLemmas.{went_back, went_empty, went_itself, went_out}
+use Rattle.sj_work.proofs.WentLemmas.{went_back, went_itself, went_out}
 use Rattle.sj_work.proofs.pushes.push_one.Goals as goal
 
 pub returns-then-nothing_waits-clause-turns : goal.returns-then-nothing_waits-clause-turns
@@ -39,24 +38,6 @@ returns-then-from-len-clause-rests g c = rests_itself c.args.worker.now.node c.a
 
 pub returns-then-from-len-clause-tried : goal.returns-then-from-len-clause-tried
 returns-then-from-len-clause-tried g c = λ h none waits. on_none g.O.OutLane.vain (RoseBy 1) c.args.worker.now.lanes.outs.items c.args.to (search rules)
-
-pub returns-in_default-clause-turns : goal.returns-in_default-clause-turns
-returns-in_default-clause-turns g c =
-    let ol = g.met.O.OutLane g.world.𝓛 g.world.𝓜 g.world.𝓡 (λ s x. x, λ x. x, λ x. x, λ x. x) in
-    let il = g.met.I.InLane g.world.𝓛 g.world.𝓜 g.world.𝓡 (λ s x. x, λ x. x, λ x. x, λ x. x) in
-    let k = laws g.O.OutLane g.I.InLane ol.same_itself ol.same_later il.same_itself il.same_later in
-    let a = c.args.worker.now in
-    let same = same_waiting a.node c.take_out.new.self c.args.to c.in_default.ensures.none c.in_default.ensures.empty c.take_out.ensures.others in
-    turned_on k a _ (went_empty k a _ c.take_out.ensures.rest same refl) c.requires.stop
-    (λ f. c.requires.open_yet (finished_before a.node c.take_out.new.self c.take_out.ensures.rest.node (λ q none. outbox_empty a.node q (sym (same q) ∙ waiting_empty c.take_out.new.self q none)) f))
-
-pub returns-in_default-clause-rests : goal.returns-in_default-clause-rests
-returns-in_default-clause-rests g c =
-    let a = c.args.worker.now in
-    rests_same a.node c.take_out.new.self c.take_out.ensures.rest (same_waiting a.node c.take_out.new.self c.args.to c.in_default.ensures.none c.in_default.ensures.empty c.take_out.ensures.others)
-
-pub returns-in_default-clause-tried : goal.returns-in_default-clause-tried
-returns-in_default-clause-tried g c = λ h none waits. absurd (waits (outbox_empty c.take_out.new.self c.args.to c.in_default.ensures.empty))
 
 pub returns-in-Ok-clause-turns : goal.returns-in-Ok-clause-turns
 returns-in-Ok-clause-turns g c =
