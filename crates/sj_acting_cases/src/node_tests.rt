@@ -102,6 +102,8 @@ fn an_act_is_due_and_then_noted_and_posted(rt: HostRuntime) -> Result<(), Fail> 
         Some(frame) => a.put_back(B, frame),
         None => return Err(Fail::from("nothing is posted")),
     }
+    a.give_up_room(B);
+    assert_eq!(rt; a.targets(), 2);
     assert_eq!(rt; a.front(B).map(|frame| frame.clock), Some(1));
     assert_eq!(rt; a.take_entry(), Some(entry));
     assert_eq!(rt; a.take_entry(), None);

@@ -38,7 +38,8 @@ impl NodeWorld {
         }
     }
 
-    /// Tries a delivery from that party. Answers whether it was a step: an empty lane is seen at once.
+    /// Tries a delivery from that party. Answers whether it was a step: an empty lane is seen at once,
+    /// and the sender's outbox gives its memory up, where that is large.
     fn takes(&mut self, party: u16, from: u16) -> Result<bool, NoMemory>
         requires reached { IsReached self.old }
         requires there { party < length (nodes_in self.old) }
@@ -53,6 +54,7 @@ impl NodeWorld {
         ensures count { length (nodes_in self.new) ≡ length (nodes_in self.old) }
     {
         if self.nodes[from as usize].nothing_waits(party) {
+            self.nodes[from as usize].give_up_room(party);
             return Ok(false);
         }
         self.tries(party, Event::Deliver(from))
