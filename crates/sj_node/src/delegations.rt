@@ -181,15 +181,15 @@ impl Node {
         };
         self.log.reserve(1)?;
         make_room(self.alloc, &mut self.outs, to, 1)?;
-        if make_slot(&mut self.olds, sent).is_err() {
+        let Ok(room) = make_slot(self.alloc, &mut self.olds, sent) else {
             return Err(Halt::NoMemory);
-        }
+        };
         let post = match send_on(&mut self.mains, &self.table, end, msg) {
             Ok(post) => post,
             Err(halt) => return Err(halt),
         };
         let held = take_out(&mut self.mains, sent);
-        put_old(&mut self.olds, sent, Old::Parked(parked(held)));
+        put_old(&mut self.olds, sent, Old::Parked(parked(held, room)));
         self.machine.sent();
         self.clock += 1;
         put_frame(

@@ -48,7 +48,7 @@ pub(crate) fn claimed(olds: &mut Vec<Option<Old>>, end: EndId, by: u16) -> Post
 
 fn parked_out(slot: &mut Option<Old>) -> Parked
     requires { IsSome (parked_of (option_map old_at slot.old)) }
-    ensures { option_map old_at slot.old ≡ Some (rules.Parked result.end) }
+    ensures { option_map old_at slot.old ≡ Some (rules.Parked result.end.value) }
 {
     match slot.take() {
         Some(Old::Parked(parked)) => parked,
@@ -59,7 +59,7 @@ fn parked_out(slot: &mut Option<Old>) -> Parked
 /// Takes the record of a signalled end out of its slot.
 pub(crate) fn signalled_out(olds: &mut Vec<Option<Old>>, end: EndId) -> Signalled
     requires { IsSome (signalled_of (olds_in olds.old.items end)) }
-    ensures out { olds_in olds.old.items end ≡ Some (rules.Signalled result.end result.to) }
+    ensures out { olds_in olds.old.items end ≡ Some (rules.Signalled result.end.value result.to) }
     ensures puts { olds_in olds.new.items ≡ put end None (olds_in olds.old.items) }
 {
     let Some(at) = slot_of(end, olds.len()) else {
@@ -71,7 +71,7 @@ pub(crate) fn signalled_out(olds: &mut Vec<Option<Old>>, end: EndId) -> Signalle
 
 fn signalled_from(slot: &mut Option<Old>) -> Signalled
     requires { IsSome (signalled_of (option_map old_at slot.old)) }
-    ensures out { option_map old_at slot.old ≡ Some (rules.Signalled result.end result.to) }
+    ensures out { option_map old_at slot.old ≡ Some (rules.Signalled result.end.value result.to) }
     ensures none { option_map old_at slot.new ≡ None }
 {
     match slot.take() {

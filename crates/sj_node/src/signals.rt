@@ -112,12 +112,12 @@ pub(crate) fn pass_parked(
     party: u16,
     taken: u32,
 ) -> Result<(Parked, Vec<Post>), (Parked, DeliverRefusal)>
-    ensures ok { IfOk result (λ r. rows.passive max end.end from conn party taken
-        ≡ Some (record { state = r.0.end; posts = map post_at r.1.items })) }
+    ensures ok { IfOk result (λ r. rows.passive max end.end.value from conn party taken
+        ≡ Some (record { state = r.0.end.value; posts = map post_at r.1.items })) }
     ensures goes { IfOk result (λ r. GoTo from party r.1.items) }
-    ensures count { IfOk result (λ r. vec_len r.1 ≤ length end.end.cache + 2) }
-    ensures unfit { IfErr result (λ e. IsUnfit e.1 → rows.passive max end.end from conn party taken ≡ None) }
-    ensures back { IfErr result (λ e. e.0.end ≡ end.end) }
+    ensures count { IfOk result (λ r. vec_len r.1 ≤ length end.end.value.cache + 2) }
+    ensures unfit { IfErr result (λ e. IsUnfit e.1 → rows.passive max end.end.value from conn party taken ≡ None) }
+    ensures back { IfErr result (λ e. e.0.end.value ≡ end.end.value) }
 {
     if !signal_fits(&end.end, from, conn, taken) {
         return Err((end, DeliverRefusal::Unfit));
@@ -130,7 +130,7 @@ pub(crate) fn pass_parked(
 
 fn parked_in(state: Usable) -> Parked
     requires { (e : EndAt Spot) × (usable_at state ≡ parked_state e) }
-    ensures { usable_at state ≡ parked_state result.end }
+    ensures { usable_at state ≡ parked_state result.end.value }
 {
     match state {
         Usable::Parked(end) => end,
