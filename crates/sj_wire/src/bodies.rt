@@ -105,6 +105,7 @@ fn give(alloc: Global, id: EndId, bytes: &[u8]) -> Result<(Body, &[u8]), WireRef
         cache,
         hops,
     };
+    let end = Box::new(alloc, end)?;
     Ok((Body::Give { end, resend }, rest))
 }
 
