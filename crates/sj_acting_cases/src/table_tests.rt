@@ -70,7 +70,7 @@ fn arms_of_equal_places_lead_to_one_spot(rt: HostRuntime) -> Result<(), Fail> {
 fn a_copy_has_a_spot_for_each_item_and_the_empty_place(rt: HostRuntime) -> Result<(), Fail> {
     let alloc = rt.alloc();
     let table = compiled(alloc)?;
-    let copy = table.copied(alloc)?;
+    let copy = table.copied()?;
     let place = choice(alloc)?;
     let start = copy.start(W);
     assert_eq!(rt; start, table.start(W));

@@ -1,12 +1,14 @@
 //! The walk through a file: protocols, parties, connections, bodies.
 #![tactic(auto, using(crate::proofs::SeenLemmas::steps))]
 
-ghost use Rattle.std.specs.Prelude.{◌≡◌, [], IfErr};
+ghost use Rattle.std.specs.Prelude.{◌≡◌, ℕ, [], IfErr};
+ghost use Rattle.sj_lang.specs.FileAt.{body_named};
 ghost use Rattle.sj_lang.specs.FileView.{file_of, party_of};
 ghost use Rattle.sj_lang.specs.Limits.{IsWithin, limits};
 ghost use Rattle.sj_acceptance.specs.LabelTests.{is_among};
 ghost use Rattle.sj_acceptance.specs.FileTests as tests;
 ghost use Rattle.sj_acceptance.specs.FileTests.{protocol_names, party_names};
+ghost use Rattle.sj_table.specs.Spots.{start_in};
 ghost use Rattle.sj_check.specs.Views.{protocols_of, parties_of, connects_of};
 ghost use Rattle.sj_check.specs.Seen.{defs_in, names_in};
 ghost use Rattle.sj_check.specs.Told.{Judges, IsFault};
@@ -19,17 +21,19 @@ use crate::tables::Protocols;
 use crate::uniqueness::names_once;
 use crate::walk::block;
 use sj_lang::{Connect, File, Party, ProtocolDef};
+use sj_table::Table;
 use std::alloc::Global;
 
-/// The whole file.
-pub fn walked(alloc: Global, file: &File) -> Result<(), CheckRefusal>
-    requires { IsWithin limits (file_of file.now) }
+/// The whole file, with the table of its protocols.
+pub fn walked(alloc: Global, file: &File, table: Table) -> Result<(), CheckRefusal>
+    requires within { IsWithin limits (file_of file.now) }
+    requires starts { (p : ℕ) → start_in table p ≡ body_named (file_of file.now).protocols p }
     ensures { Judges (tests.tests_of (file_of file.now)) result }
 {
     protocols_apart(&file.protocols)?;
     parties_apart(&file.parties)?;
     connections(&file.parties, &file.protocols, &file.connects)?;
-    let protocols = Protocols::compiled(alloc, &file.protocols, &file.parties)?;
+    let protocols = Protocols::over(&file.protocols, &file.parties, table);
     bodies(alloc, &protocols, &file.connects, &file.parties)?;
     openings_meet(alloc, &file.protocols, &file.parties)
 }

@@ -1,17 +1,14 @@
 //! The protocols of a file, with the table of their places, and its parties.
-ghost use Rattle.std.specs.Prelude.{◌≡◌, ◌<◌, ℕ, IfOk, option_map};
+ghost use Rattle.std.specs.Prelude.{◌≡◌, ℕ, option_map};
 ghost use Rattle.std.specs.Coded.{Coded-set};
 ghost use Rattle.sj_lang.specs.FileAt.{body_named, protocol_named};
 ghost use Rattle.sj_lang.specs.PlaceCode.{coded_place};
-ghost use Rattle.sj_table.specs.Nodes.{nodes_of, limit_of_nodes};
 ghost use Rattle.sj_table.specs.Spots.{place_in, start_in};
 ghost use Rattle.sj_check.specs.Views.{protocols_of};
 
 use crate::places::body_named;
-use sj_base::NoMemory;
 use sj_lang::{Party, ProtocolDef};
 use sj_table::{Spot, Table};
-use std::alloc::Global;
 
 /// The protocols, the table in which each starts at its body, and the parties.
 #[derive(Drop)]
@@ -25,21 +22,17 @@ pub struct Protocols<'a> {
 impl<'a> Protocols<'a> {
     ghost use Rattle.sj_check.specs.Seen.{defs_in};
 
-    pub fn compiled(
-        alloc: Global,
-        defs: &'a [ProtocolDef],
-        parties: &'a [Party],
-    ) -> Result<Protocols<'a>, NoMemory>
-        requires { nodes_of (protocols_of defs.now) < limit_of_nodes }
-        ensures defs { IfOk result (λ p. defs_in p ≡ protocols_of defs.now) }
-        ensures parties { IfOk result (λ p. p.parties.now ≡ parties.now) }
+    /// These protocols and parties, with the table of the protocols.
+    pub fn over(defs: &'a [ProtocolDef], parties: &'a [Party], table: Table) -> Protocols<'a>
+        requires { (p : ℕ) → start_in table p ≡ body_named (protocols_of defs.now) p }
+        ensures defs { defs_in result ≡ protocols_of defs.now }
+        ensures parties { result.parties.now ≡ parties.now }
     {
-        let table = Table::compile(alloc, defs)?;
-        Ok(Protocols {
+        Protocols {
             defs,
             parties,
             table,
-        })
+        }
     }
 
     /// The spot at which an end of the protocol of that name begins; none where there is no such

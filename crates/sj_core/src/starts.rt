@@ -22,15 +22,14 @@ use sj_table::Table;
 use std::alloc::Global;
 
 /// The nodes of all parties before any event, by the parties' numbers. Frames carry spots from node to
-/// node, so each node has a copy of one table.
+/// node, so all nodes have the file's one table.
 pub fn first_nodes(alloc: Global, accepted: &Accepted) -> Result<Vec<Node>, NoMemory>
     ensures { IfOk result (λ nodes. AreFirst (without_words (file_of (held accepted.now))) nodes.items) }
 {
-    let table = Table::compile(alloc, &accepted.file().protocols)?;
-    nodes_over(alloc, accepted, &table)
+    nodes_over(alloc, accepted, accepted.table())
 }
 
-/// The same over copies of that table.
+/// The same over that table.
 fn nodes_over(alloc: Global, accepted: &Accepted, table: &Table) -> Result<Vec<Node>, NoMemory>
     requires { (p : ℕ) → start_in table.now p ≡ body_named (file_of (held accepted.now)).protocols p }
     ensures { IfOk result (λ nodes. AreFirst (without_words (file_of (held accepted.now))) nodes.items) }
@@ -38,7 +37,7 @@ fn nodes_over(alloc: Global, accepted: &Accepted, table: &Table) -> Result<Vec<N
     let parties = accepted.file().parties.len();
     let mut nodes = Vec::new(alloc);
     for party in 0..parties {
-        let own = table.copied(alloc)?;
+        let own = table.copied()?;
         let node = Node::with_table(alloc, accepted, party as u16, 0, own)?;
         nodes.push(node)?;
     }

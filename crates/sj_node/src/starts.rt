@@ -81,8 +81,7 @@ fn first_slots(
 }
 
 impl Node {
-    /// The party at the start of the file, at that clock. Each node of a file that is started so
-    /// has a table of its own.
+    /// The party at the start of the file, at that clock, over the file's table.
     pub fn start(
         alloc: Global,
         accepted: &Accepted,
@@ -93,8 +92,7 @@ impl Node {
         requires clock { clock ≤ clock_end }
         ensures { IfOk result (λ n. Begins (file_of (file_in accepted.now)) party clock n) }
     {
-        let file = accepted.file();
-        let table = Table::compile(alloc, &file.protocols)?;
+        let table = accepted.table().copied()?;
         Node::with_table(alloc, accepted, party, clock, table)
     }
 

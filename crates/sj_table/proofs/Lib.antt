@@ -1,6 +1,5 @@
 pub mod ArmLemmas
 pub mod BuildLemmas
-pub mod CopyLemmas
 pub mod CountLemmas
 pub mod GrownLemmas
 pub mod LoopLemmas

@@ -29,15 +29,6 @@ abbrev pub nodes_of : List ProtocolAt → ℕ
 nodes_of [] = 0
 nodes_of (p ∷ ps) = node_count p.body + nodes_of ps
 
--- a node, apart from how it lies in memory
-pub record NodeAt : Type 0 where
-  pub item : Item
-  pub next : ℕ
-  pub inside : List ℕ
-
-abbrev pub node_of : Stop → NodeAt
-node_of s = record { item = s.item; next = s.next; inside = s.inside.items }
-
 -- each node's next node is before it
 abbrev pub AreBack : List Stop → Type 0
 AreBack stops = (i : ℕ) (s : Stop) → i < length stops → s ≡ get_or stops i s → s.next < suc i

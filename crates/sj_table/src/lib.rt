@@ -3,7 +3,6 @@
 
 mod builders;
 mod comparisons;
-mod copies;
 mod leads;
 mod table;
 

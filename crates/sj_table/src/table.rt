@@ -14,12 +14,12 @@ ghost use Rattle.sj_table.specs.declared.table.Table.{Table};
 
 use crate::builders::{add_place, items_at};
 use crate::comparisons::{is_node_of, node_stands_for, same_nodes};
-use crate::copies::copied_stops;
 use crate::leads::{Stop, after_node, is_done_node, split_node};
 use sj_base::{Msg, NoMemory};
 use sj_lang::{Item, Proto, ProtocolDef, Way};
 use std::alloc::Global;
 use std::marker::Model;
+use std::sync::Arc;
 
 /// A place, as the number of a node of a table.
 #[derive(Clone, Copy, Debug, PartialEq, Eq)]
@@ -27,12 +27,18 @@ pub struct Spot {
     pub node: u32,
 }
 
+/// The nodes of a table behind node 0, and where each protocol starts.
+#[derive(Drop)]
+pub(crate) struct Nodes {
+    pub(crate) stops: Vec<Stop>,
+    pub(crate) starts: Vec<(u16, Spot)>,
+}
+
 /// The places of the protocols of a file. Node 0 is the empty place. Each other node is one item
-/// and the node that follows it.
+/// and the node that follows it. The nodes are shared by all copies of the table, in any threads.
 #[derive(Drop)]
 pub struct Table {
-    stops: Vec<Stop>,
-    starts: Vec<(u16, Spot)>,
+    nodes: Arc<Nodes>,
 }
 
 impl Model for Table {
@@ -47,11 +53,12 @@ impl Model for Table {
 
     ghost coded = { coded× (coded_list coded_place) (coded_list (coded× coded_ℕ s.the_row.coded)) };
 
+    ghost use Rattle.std.specs.Arc.{arc_value};
     ghost use Rattle.sj_table.specs.Table.{IsWhole, places_of};
 
-    ghost view = { λ t. (places_of t.stops.items, t.starts.items) };
+    ghost view = { λ t. (places_of (arc_value t.nodes).stops.items, (arc_value t.nodes).starts.items) };
 
-    ghost invariant = { λ t. IsWhole t.stops.items t.starts.items };
+    ghost invariant = { λ t. IsWhole (arc_value t.nodes).stops.items (arc_value t.nodes).starts.items };
 }
 
 impl Table {
@@ -72,16 +79,17 @@ impl Table {
             let node = add_place(alloc, &mut stops, &def.body, 0)?;
             starts.push((def.name, Spot { node }))?;
         }
-        Ok(Table { stops, starts })
+        let nodes = Arc::new(alloc, Nodes { stops, starts })?;
+        Ok(Table { nodes })
     }
 
-    /// The same table, in memory of its own.
-    pub fn copied(&self, alloc: Global) -> Result<Table, NoMemory>
+    /// The same table, which has its nodes in common with this one. It is refused where there are 2^63 - 1
+    /// such already.
+    pub fn copied(&self) -> Result<Table, NoMemory>
         ensures { IfOk result (λ t. t ≡ self.now) }
     {
-        let stops = copied_stops(alloc, &self.stops)?;
-        let starts = Vec::from_slice(alloc, &self.starts)?;
-        Ok(Table { stops, starts })
+        let nodes = Arc::try_clone(&self.nodes)?;
+        Ok(Table { nodes })
     }
 
     /// The spot of the body of the protocol of that name, and node 0 where there is none.
@@ -89,7 +97,7 @@ impl Table {
         ensures place { place_in self.now result ≡ start_in self.now protocol }
         ensures there { HasSpot self.now result }
     {
-        match spot_named(&self.starts, protocol) {
+        match spot_named(&self.nodes.starts, protocol) {
             Some(spot) => spot,
             None => Spot { node: 0 },
         }
@@ -99,7 +107,7 @@ impl Table {
     pub fn has(&self, spot: Spot) -> bool
         ensures { IsTrue result ↔ HasSpot self.now spot }
     {
-        spot.node as usize <= self.stops.len()
+        spot.node as usize <= self.nodes.stops.len()
     }
 
     /// The spot of the empty place.
@@ -107,7 +115,7 @@ impl Table {
         ensures place { place_in self.now result ≡ done }
         ensures there { HasSpot self.now result }
     {
-        let _ = &self.stops;
+        let _ = &self.nodes.stops;
         Spot { node: 0 }
     }
 
@@ -117,7 +125,7 @@ impl Table {
         // Only node 0 stands for the empty place.
         ensures only { IsTrue result → HasSpot self.now spot → spot.node ≡ 0 }
     {
-        is_done_node(&self.stops, spot.node)
+        is_done_node(&self.nodes.stops, spot.node)
     }
 
     /// The spot of the place after a message. A session message counts as of any session kind. A
@@ -127,7 +135,7 @@ impl Table {
             ≡ after_place (place_in self.now spot) way msg.now }
         ensures there { IfSome result (HasSpot self.now) }
     {
-        let node = after_node(&self.stops, spot.node, way, msg);
+        let node = after_node(&self.nodes.stops, spot.node, way, msg);
         spot_at(node)
     }
 
@@ -137,7 +145,7 @@ impl Table {
             MatchOption result (here ≡ done) (λ p. here ≡ followed p.0.now (place_in self.now p.1)) }
         ensures there { IfSome result (λ p. HasSpot self.now p.1) }
     {
-        let (item, node) = split_node(&self.stops, spot.node)?;
+        let (item, node) = split_node(&self.nodes.stops, spot.node)?;
         Some((item, Spot { node }))
     }
 
@@ -146,28 +154,28 @@ impl Table {
     pub fn is_same(&self, one: Spot, other: Spot) -> bool
         ensures { IsTrue result ↔ (place_in self.now one ≡ place_in self.now other) }
     {
-        same_nodes(&self.stops, one.node, other.node)
+        same_nodes(&self.nodes.stops, one.node, other.node)
     }
 
     /// Whether the spot's place is this one.
     pub fn is_at(&self, spot: Spot, place: &Proto) -> bool
         ensures { IsTrue result ↔ (place_in self.now spot ≡ place.now) }
     {
-        is_node_of(&self.stops, spot.node, &place.items)
+        is_node_of(&self.nodes.stops, spot.node, &place.items)
     }
 
     /// Whether an end at the spot can stand where one at this place is wanted.
     pub fn stands_for(&self, spot: Spot, wanted: &Proto) -> bool
         ensures { result ≡ stands_for (place_in self.now spot) wanted.now }
     {
-        node_stands_for(&self.stops, spot.node, &wanted.items)
+        node_stands_for(&self.nodes.stops, spot.node, &wanted.items)
     }
 
     /// The place for which the spot stands.
     pub fn place(&self, alloc: Global, spot: Spot) -> Result<Proto, NoMemory>
         ensures { IfOk result (λ p. p ≡ place_in self.now spot) }
     {
-        let items = items_at(alloc, &self.stops, spot.node)?;
+        let items = items_at(alloc, &self.nodes.stops, spot.node)?;
         Ok(Proto { items })
     }
 }

@@ -1,15 +1,13 @@
-use Rattle.std.proofs.Common.{map, ◌∙◌, ap}
-use Rattle.sj_table.specs.Nodes.{node_of}
-use Rattle.sj_table.proofs.CopyLemmas.{same_places, same_whole}
+use Rattle.std.proofs.Common.{◌≡◌, ◌∙◌, subst, sym}
+use Rattle.std.specs.Arc.{arc_value}
+use Rattle.sj_table.specs.Table.{IsWhole, places_of}
+use Rattle.sj_table.specs.declared.table.Nodes.{Nodes}
 use Rattle.sj_table.proofs.table.Table.copied.Goals as goal
 
 pub invariant_of-result : goal.invariant_of-result
-invariant_of-result c =
-    same_whole c.self.inside.stops.items c.in_ok-stops.stops.items c.self.inside.starts.items c.in_ok-starts.starts.items (c.in_ok-stops.ensures ∙ ap (map node_of) c.deref.ensures.value)
-    (c.in_ok-starts.ensures.items ∙ c.deref-2.ensures.value) c.self.invariant
+invariant_of-result c = subst (λ (ns : Nodes). IsWhole ns.stops.items ns.starts.items) (sym c.in_ok-nodes.ensures) c.self.invariant
 
 pub returns : goal.returns
 returns c =
-    let places = same_places c.self.inside.stops.items c.in_ok-stops.stops.items (c.in_ok-stops.ensures ∙ ap (map node_of) c.deref.ensures.value) in
-    let starts = c.in_ok-starts.ensures.items ∙ c.deref-2.ensures.value in
-    (λ i. (places i, starts i)) ∙ c.self.view_is
+    let same : arc_value c.in_ok-nodes.nodes ≡ arc_value c.self.inside.nodes = c.in_ok-nodes.ensures in
+    (λ i. (places_of (same i).stops.items, (same i).starts.items)) ∙ c.self.view_is
