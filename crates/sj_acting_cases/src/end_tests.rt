@@ -4,7 +4,7 @@ ghost use Rattle.sj_lang.specs.View.{place_of};
 ghost use Rattle.sj_table.specs.Nodes.{node_count};
 
 use sj_base::{EndId, Msg, NoMemory};
-use sj_end::{Body, Expected, Held, Note, note_of};
+use sj_end::{Body, Expected, Held, Note, Room, note_of};
 use sj_lang::{Item, Kind, Proto, ProtocolDef, Way};
 use sj_table::{Spot, Table};
 use std::alloc::Global;
@@ -83,7 +83,7 @@ fn parking_drops_what_is_not_taken(rt: HostRuntime) -> Result<(), Fail> {
     let next = next.ok_or("its place lets it come")?;
     assert_eq!(rt; held.take(next), Msg::Int(1));
     assert_eq!(rt; held.head(), Some(Msg::Int(2)));
-    let parked = held.park();
+    let parked = held.park(Room::new(alloc)?);
     assert_eq!(rt; (parked.end.sent, parked.end.taken), (0, 1));
     Ok(())
 }

@@ -63,9 +63,8 @@ fn give(of: EndId, peer: u16, taken: u32, resend: Option<u32>) -> Note {
 #[test]
 fn a_signal_is_answered_with_an_ack(rt: HostRuntime) -> Result<(), Fail> {
     let alloc = rt.alloc();
-    let parked = Parked {
-        end: end_of(alloc, FIRST, B, 0),
-    };
+    let end = Box::new(alloc, end_of(alloc, FIRST, B, 0))?;
+    let parked = Parked { end };
     let Ok((state, posts)) = passive(alloc, Usable::Parked(parked), B, C, 0) else {
         return Err(NoMemory)?;
     };
@@ -80,11 +79,10 @@ fn a_signal_is_answered_with_an_ack(rt: HostRuntime) -> Result<(), Fail> {
 }
 
 #[test]
-fn a_parked_end_is_told_and_goes_at_the_ack(rt: HostRuntime) {
+fn a_parked_end_is_told_and_goes_at_the_ack(rt: HostRuntime) -> Result<(), Fail> {
     let alloc = rt.alloc();
-    let parked = Parked {
-        end: end_of(alloc, SECOND, A, 1),
-    };
+    let end = Box::new(alloc, end_of(alloc, SECOND, A, 1))?;
+    let parked = Parked { end };
     let (signalled, post) = signal(parked, C);
     let told = Note::Signal {
         to: FIRST,
@@ -95,13 +93,16 @@ fn a_parked_end_is_told_and_goes_at_the_ack(rt: HostRuntime) {
     assert_eq!(rt; shown(&post), (A, told));
     let gone = acked(signalled);
     assert_eq!(rt; shown(&gone), (C, give(SECOND, A, 1, None)));
+    Ok(())
 }
 
 #[test]
-fn an_end_goes_at_a_crossing_signal(rt: HostRuntime) {
-    let end = end_of(rt.alloc(), FIRST, B, 0);
+fn an_end_goes_at_a_crossing_signal(rt: HostRuntime) -> Result<(), Fail> {
+    let alloc = rt.alloc();
+    let end = Box::new(alloc, end_of(alloc, FIRST, B, 0))?;
     let gone = crossed(Signalled { end, to: C }, D, 0);
     assert_eq!(rt; shown(&gone), (C, give(FIRST, D, 0, Some(0))));
+    Ok(())
 }
 
 // What is awaited of b, where a message of that number came for it.

@@ -1,6 +1,6 @@
 //! Two nodes that hand an end over to each other, and what a node refuses. Whole histories are cases of
 //! the program.
-use sj_base::{EndId, Msg};
+use sj_base::{EndId, Msg, NoMemory};
 use sj_check::Accepted;
 use sj_end::{Body, CLOCK_END, End, Entry, Event, Frame, Note, note_of};
 use sj_node::{DeliverRefusal, Halt, Node};
@@ -139,7 +139,7 @@ fn signal(party: u16, taken: u32) -> Body {
     }
 }
 
-fn give(alloc: Global) -> Body {
+fn give(alloc: Global) -> Result<Body, NoMemory> {
     let end = End {
         id: OWN,
         place: Spot { node: 0 },
@@ -151,7 +151,8 @@ fn give(alloc: Global) -> Body {
         cache: VecDeque::new(alloc),
         hops: 1,
     };
-    Body::Give { end, resend: None }
+    let end = Box::new(alloc, end)?;
+    Ok(Body::Give { end, resend: None })
 }
 
 #[test]
@@ -175,7 +176,7 @@ fn a_frame_that_fits_no_row_is_handed_back(rt: HostRuntime) -> Result<(), Fail> 
         ("nothing was told", A, 1, Body::Ack { of: OWN, conn: 0 }),
         ("no party", A, 1, signal(9, 0)),
         ("more was sent", A, 1, signal(A, 1)),
-        ("nothing is awaited", A, 1, give(alloc)),
+        ("nothing is awaited", A, 1, give(alloc)?),
         ("the last clock", A, CLOCK_END, carry(OWN, 0, 0, 0, one)),
         ("a large connection", A, 1, fin(1001, 0)),
         ("a large number", A, 1, fin(0, 1_000_001)),
