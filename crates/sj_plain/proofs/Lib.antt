@@ -1,3 +1,4 @@
+pub mod AheadLemmas
 pub mod BeginLemmas
 pub mod CountLemmas
 pub mod CourseLemmas

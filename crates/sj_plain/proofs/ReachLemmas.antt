@@ -6,6 +6,7 @@ use Rattle.sj_base.specs.declared.EndId.{EndId}
 use Rattle.sj_semantics.specs.Ends.{Session, end_at, end_on, nowhere, unopened}
 use Rattle.sj_semantics.specs.Uses.{altered_list, altered_session}
 use Rattle.sj_semantics_laws.proofs.AlteredLemmas.{altered_session-altered, altered_session_comm, below_altered_session, length-altered, length-altered_session_le}
+use Rattle.sj_table.specs.declared.table.Table.{Table}
 use Rattle.sj_plain.specs.declared.ends.Session.{Session as Lying}
 use Rattle.sj_plain.specs.Ends.{session_at}
 use Rattle.sj_plain.specs.Stepping.{reached, sessions_at}
@@ -57,8 +58,8 @@ pub altered_twice : (zs mid one new : List Session) (s t : ℕ) (f g : Session �
 altered_twice zs mid one new s t f g there first second = second ∙ ap (λ u. altered_list u t g) (first ∙ ap (λ u. altered_list u s f) there) ∙ altered_both zs s t f g
 
 -- a session that is there stays there
-pub still_there : (mid new : List Lying) (s t : ℕ) (f : Session → Session) → sessions_at new ≡ altered_list (sessions_at mid) s f → t < length mid → t < length new
-still_there mid new s t f made lt = omega (arith, lt, length-map new session_at, length-map mid session_at, ap length made, length-altered (sessions_at mid) s f)
+pub still_there : (t : Table) (mid new : List Lying) (s i : ℕ) (f : Session → Session) → sessions_at t new ≡ altered_list (sessions_at t mid) s f → i < length mid → i < length new
+still_there t mid new s i f made lt = omega (arith, lt, length-map new (session_at t), length-map mid (session_at t), ap length made, length-altered (sessions_at t mid) s f)
 
 -- each end is as it was
 pub end_at-reached : (zs : List Session) (s : ℕ) (e : EndId) → end_at (reached zs s) e ≡ end_at zs e
@@ -86,11 +87,11 @@ map-take view [] (suc n) = refl
 map-take view (x ∷ xs) zero = refl
 map-take view (x ∷ xs) (suc n) = ap (λ t. view x ∷ t) (map-take view xs n)
 
-pub taken_back : (old mid new cut : List Lying) (n : ℕ) → n ≡ length old → cut ≡ take n new → take (length old) mid ≡ old → sessions_at new ≡ sessions_at mid → sessions_at cut ≡ sessions_at old
-taken_back old mid new cut n is by front same = ap sessions_at by ∙ ap (λ k. sessions_at (take k new)) is ∙ front_again old mid new front same
+pub taken_back : (t : Table) (old mid new cut : List Lying) (n : ℕ) → n ≡ length old → cut ≡ take n new → take (length old) mid ≡ old → sessions_at t new ≡ sessions_at t mid → sessions_at t cut ≡ sessions_at t old
+taken_back t old mid new cut n is by front same = ap (sessions_at t) by ∙ ap (λ k. sessions_at t (take k new)) is ∙ front_again t old mid new front same
   where
-    front_again : (old mid new : List Lying) → take (length old) mid ≡ old → sessions_at new ≡ sessions_at mid → sessions_at (take (length old) new) ≡ sessions_at old
-    front_again old mid new front same = map-take _ new (length old) ∙ ap (take (length old)) same ∙ sym (map-take _ mid (length old)) ∙ ap sessions_at front
+    front_again : (t : Table) (old mid new : List Lying) → take (length old) mid ≡ old → sessions_at t new ≡ sessions_at t mid → sessions_at t (take (length old) new) ≡ sessions_at t old
+    front_again t old mid new front same = map-take (session_at t) new (length old) ∙ ap (take (length old)) same ∙ sym (map-take (session_at t) mid (length old)) ∙ ap (sessions_at t) front
 
 -- the front stays where one more comes behind it
 pub front-push : {X : Type 0} (xs ys : List X) (y : X) → take (length xs) ys ≡ xs → take (length xs) (ys ++ y ∷ []) ≡ xs

@@ -1,7 +1,7 @@
 -- What a ready party's next step can do.
 use Rattle.std.proofs.Common.{◌≡◌, ℕ, nat_lt, Bool, true, false, cond, List, Option, Some, None, length, option_map, is_some, unwrap_or, refl, ap, sym, ◌∙◌}
 use Rattle.sj_base.specs.declared.EndId.{EndId}
-use Rattle.sj_lang.specs.declared.file.ProtocolDef.{ProtocolDef}
+use Rattle.sj_table.specs.declared.table.Table.{Table}
 use Rattle.sj_lang.specs.FileAt.{body_named}
 use Rattle.sj_semantics.specs.declared.Awaits.{Awaits}
 use Rattle.sj_semantics.specs.declared.Opened.{Opened}
@@ -51,12 +51,12 @@ can_do w p g want ready it = can_do_if w p g want (want_of g) refl ready it
 moves_by : (w : World) (p : ℕ) (g : Program) (want : Want) (c : Change) → CanDo w p g want → change_by w p g want ≡ Some c → next_move p w g ≡ Some (after_change p w c)
 moves_by w p g want c can made = ap (option_map (after_change p w)) (from_rests w p g c (record { steps_left = can.steps_left; want = want; wants_it = can.wants_it; by_it = made }))
 
-moves_on : (ps : List ProtocolDef) (zs ys : List Lying) (old new : List Opened) (p : ℕ) (g h : Program) (c : Change) → Makes p c zs ys old new h → after_change p (world_around ps zs old) c ≡ (h, sessions_at ys, requests_in new)
-moves_on ps zs ys old new p g h c made = λ i. (sym made.program i, sym made.sessions i, λ q. sym (made.requests q) i)
+moves_on : (t : Table) (zs ys : List Lying) (old new : List Opened) (p : ℕ) (g h : Program) (c : Change) → Makes t p c zs ys old new h → after_change p (world_around t zs old) c ≡ (h, sessions_at t ys, requests_in new)
+moves_on t zs ys old new p g h c made = λ i. (sym made.program i, sym made.sessions i, λ q. sym (made.requests q) i)
 
-pub moves : (ps : List ProtocolDef) (zs ys : List Lying) (old new : List Opened) (p : ℕ) (g h : Program) (want : Want) (c : Change) → CanDo (world_around ps zs old) p g want → change_by (world_around ps zs old) p g want ≡ Some c → Makes p c zs ys old new h
-    → next_move p (world_around ps zs old) g ≡ Some (h, sessions_at ys, requests_in new)
-moves ps zs ys old new p g h want c can by made = moves_by (world_around ps zs old) p g want c can by ∙ ap Some (moves_on ps zs ys old new p g h c made)
+pub moves : (t : Table) (zs ys : List Lying) (old new : List Opened) (p : ℕ) (g h : Program) (want : Want) (c : Change) → CanDo (world_around t zs old) p g want → change_by (world_around t zs old) p g want ≡ Some c → Makes t p c zs ys old new h
+    → next_move p (world_around t zs old) g ≡ Some (h, sessions_at t ys, requests_in new)
+moves t zs ys old new p g h want c can by made = moves_by (world_around t zs old) p g want c can by ∙ ap Some (moves_on t zs ys old new p g h c made)
 
 -- ---- a message is there, a request is left, and a session is offered
 

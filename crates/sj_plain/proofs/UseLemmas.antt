@@ -2,11 +2,16 @@
 use Rattle.std.proofs.Common.{◌≡◌, ℕ, zero, suc, ◌≤◌, ◌<◌, List, [], ◌∷◌, map, length, get_or, slice_get, Option, Some, None, option_map, unwrap_or, refl, ap, sym, ◌∙◌, arith, subst, inl, inr}
 use Rattle.std.proofs.Math.ListN.{set}
 use Rattle.std.proofs.lemmas.Bool.{cases_eq}
+use Rattle.std.proofs.lemmas.Option.{slice_get-map, slice_get_read}
 use Rattle.sj_base.specs.declared.EndId.{EndId}
 use Rattle.sj_base.specs.declared.Msg.{Msg}
 use Rattle.sj_semantics.specs.Ends as model
 use Rattle.sj_semantics.specs.Ends.{end_on, end_at, nowhere}
 use Rattle.sj_semantics.specs.Uses.{end_after, sends, delegates, altered_list, on_side}
+use Rattle.sj_table.specs.declared.table.Table.{Table}
+use Rattle.sj_plain.specs.declared.ends.Session.{Session as Lying}
+use Rattle.sj_plain.specs.Ends.{session_at}
+use Rattle.sj_plain.specs.Stepping.{sessions_at}
 use Rattle.sj_semantics_laws.proofs.AlteredLemmas.{altered_comm, altered-altered, slice_get-altered, slice_get-altered_other}
 
 -- ---- one element of a list
@@ -69,3 +74,28 @@ hops_stay p e y m zs =
           (ap (λ o. (unwrap_or (option_map (end_on y.side) o) nowhere).hops) (slice_get-altered zs e.sess (on_side e.side (end_after p (sends m)))) ∙ hops_if p e.side y.side m (slice_get zs e.sess))
       | inr other ↦ ap (λ o. (unwrap_or (option_map (end_on y.side) o) nowhere).hops) (slice_get-altered_other zs e.sess y.sess (on_side e.side (end_after p (sends m))) other)
     ]
+
+-- delegations are counted alike over any table
+pub hops_alike : (t u : Table) (zs : List Lying) (e : EndId) → (end_at (sessions_at t zs) e).hops ≡ (end_at (sessions_at u zs) e).hops
+hops_alike t u zs e = at e.sess e.side zs
+  where
+    on : (d : ℕ) (z : Lying) → (end_on d (session_at t z)).hops ≡ (end_on d (session_at u z)).hops
+    on zero z = refl
+    on (suc d) z = refl
+
+    at : (n d : ℕ) (zs : List Lying) → (unwrap_or (option_map (end_on d) (slice_get (sessions_at t zs) n)) nowhere).hops ≡ (unwrap_or (option_map (end_on d) (slice_get (sessions_at u zs) n)) nowhere).hops
+    at n d [] = refl
+    at zero d (z ∷ zs) = on d z
+    at (suc n) d (z ∷ zs) = at n d zs
+
+-- the end of a session that is there
+pub end_there : (t : Table) (zs : List Lying) (e : EndId) (z : Lying) → e.sess < length zs → z ≡ get_or zs e.sess z → end_at (sessions_at t zs) e ≡ end_on e.side (session_at t z)
+end_there t zs e z lt there = ap (λ o. unwrap_or (option_map (end_on e.side) o) nowhere) (slice_get-map (session_at t) zs e.sess ∙ ap (option_map (session_at t)) (slice_get_read zs (length zs) e.sess z refl lt there))
+
+pub first_hops : (t : Table) (d : ℕ) (z : Lying) → d ≡ 0 → (end_on d (session_at t z)).hops ≡ z.first.hops
+first_hops t zero z e = refl
+first_hops t (suc d) z e = absurd (omega (arith, e))
+
+pub second_hops : (t : Table) (d : ℕ) (z : Lying) → (d ≡ 0 → ⊥) → (end_on d (session_at t z)).hops ≡ z.second.hops
+second_hops t zero z ne = absurd (ne refl)
+second_hops t (suc d) z ne = refl

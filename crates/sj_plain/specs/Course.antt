@@ -18,7 +18,7 @@ file_in c = file_kept c.kept
 
 -- the protocols, the parties, the sessions and the requests
 abbrev pub world_in : Course → World
-world_in c = world_with (map protocol_of c.kept.protocols.items) (map program_at c.machines.items) (sessions_at c.sessions.items) c.opened.items
+world_in c = world_with (map protocol_of c.kept.protocols.items) (map program_at c.machines.items) (sessions_at c.table c.sessions.items) c.opened.items
 
 -- who acted, in order
 abbrev pub acts_in : Course → List ℕ

@@ -1,10 +1,12 @@
 //! A course of acts: a file's parties and sessions as the acts so far have left them.
 ghost use Rattle.std.specs.Prelude.{◌≡◌, ◌<◌, ◌≤◌, ◌∷◌, ◌++◌, [], None, Some, true, false, length, map, option_map, slice_get, unwrap_or, IfOk, MatchResult, OnErr, OnOk};
 ghost use Rattle.sj_acceptance.specs.Accepted.{IsAccepted};
-ghost use Rattle.sj_lang.specs.FileView.{file_of};
+ghost use Rattle.std.specs.Coded.{Coded-set};
+ghost use Rattle.sj_lang.specs.FileView.{connect_of, file_of, protocol_of};
+ghost use Rattle.sj_lang.specs.PlaceCode.{coded_place};
+ghost use Rattle.sj_plain.specs.Ends.{StartsAt, connected_session};
 ghost use Rattle.sj_lang.specs.Limits.{limits};
 ghost use Rattle.sj_plain.specs.Finish.{ActsOut, IsFinished, IsRound};
-ghost use Rattle.sj_plain.specs.Finishing.{ActsOnce, BreaksOff, GoesBy, Stays};
 ghost use Rattle.sj_plain.specs.Kept.{without_words};
 ghost use Rattle.sj_machine.specs.Sound.{program_at};
 ghost use Rattle.sj_plain.specs.Rounds.{Shows, steps_left};
@@ -20,24 +22,29 @@ use crate::ends::Session;
 use crate::kept::{Kept, copied_file};
 use crate::progress::step;
 use sj_base::NoMemory;
-use sj_lang::File;
+use sj_lang::{Connect, File};
 use sj_machine::Machine;
 use sj_semantics::{Opened, State, Want};
+use sj_table::Table;
 use std::alloc::Global;
 
-/// A file, its parties and sessions, and who acted so far.
+/// A file, the table in which its protocols start at their bodies, its parties and sessions, and who
+/// acted so far.
 #[derive(Drop)]
 pub struct Course {
     pub alloc: Global,
     pub kept: Kept,
+    pub table: Table,
     pub machines: Vec<Machine>,
     pub sessions: Vec<Session>,
     pub opened: Vec<Opened>,
     pub acts: Vec<u16>,
+    pub ghost starts: { StartsAt table (map protocol_of kept.protocols.items) } by { Prim.hlevel (Coded-set, coded_place) },
 }
 
 impl Course {
     ghost use Rattle.sj_plain.specs.Course.{GoesOn, IsOrdered, acts_in, file_in, world_in};
+    ghost use Rattle.sj_plain.specs.Finishing.{ActsOnce, BreaksOff, GoesBy, Stays};
 
     /// The course before any act.
     pub fn start(alloc: Global, file: &File) -> Result<Course, NoMemory>
@@ -49,10 +56,12 @@ impl Course {
     {
         let kept = copied_file(alloc, file)?;
         let machines = first_machines(alloc, file)?;
-        let sessions = first_sessions(alloc, file)?;
+        let table = Table::compile(alloc, &kept.protocols)?;
+        let sessions = first_sessions(alloc, &table, &file.connects)?;
         Ok(Course {
             alloc,
             kept,
+            table,
             machines,
             sessions,
             opened: Vec::new(alloc),
@@ -108,7 +117,7 @@ impl Course {
         let machine = &mut self.machines[party as usize];
         step(
             self.alloc,
-            &self.kept.protocols,
+            &self.table,
             &mut self.sessions,
             &mut self.opened,
             machine,
@@ -216,12 +225,17 @@ fn first_machines(alloc: Global, file: &File) -> Result<Vec<Machine>, NoMemory>
 }
 
 /// The sessions before any act.
-fn first_sessions(alloc: Global, file: &File) -> Result<Vec<Session>, NoMemory>
-    ensures { IfOk result (λ zs. sessions_at zs.items ≡ (start_of (file_of file.now)).sessions) }
+fn first_sessions(
+    alloc: Global,
+    table: &Table,
+    connects: &[Connect],
+) -> Result<Vec<Session>, NoMemory>
+    ensures { IfOk result (λ zs. sessions_at table.now zs.items
+        ≡ map (connected_session table.now) (map connect_of connects.now)) }
 {
     let mut sessions = Vec::new(alloc);
-    for connect in &file.connects {
-        sessions.push(Session::start(alloc, &file.protocols, connect)?)?;
+    for connect in connects {
+        sessions.push(Session::start(alloc, table, connect))?;
     }
     Ok(sessions)
 }

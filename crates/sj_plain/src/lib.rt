@@ -1,6 +1,7 @@
 //! The plain world: a file's parties and sessions, and one step of one party at a time.
 #![tactic(auto)]
 
+mod ahead;
 mod course;
 mod ends;
 mod halt;
@@ -12,6 +13,7 @@ mod sessions;
 mod uses;
 mod verdicts;
 
+pub use ahead::Ahead;
 pub use course::Course;
 pub use ends::Session;
 pub use halt::Halt;

@@ -25,15 +25,8 @@ enum Move {
 }
 
 /// Moves the place past the message. It stays where the message isn't next. One more turn of a
-/// loop copies the body of the loop, and nothing else copies items. The place and the spare list
-/// take turns: where items come before others, they are put together in the one that is spare.
-pub(crate) fn advance(
-    alloc: Global,
-    place: &mut Proto,
-    spare: &mut Vec<Item>,
-    way: Way,
-    msg: &Msg,
-) -> Result<(), NoMemory>
+/// loop copies the body of the loop, and nothing else copies items.
+pub(crate) fn advance(alloc: Global, place: &mut Proto, way: Way, msg: &Msg) -> Result<(), NoMemory>
     ensures ok { OnOk result (place.new ≡ place_behind place.old way msg.now) }
     ensures err { OnErr result (place.new ≡ place.old) }
 {
@@ -43,8 +36,8 @@ pub(crate) fn advance(
             let _ = place.items.remove(0);
             Ok(())
         }
-        Move::Turn => turn(alloc, &mut place.items, spare),
-        Move::Enter(arm) => enter(&mut place.items, spare, arm),
+        Move::Turn => turn(alloc, &mut place.items),
+        Move::Enter(arm) => enter(alloc, &mut place.items, arm),
     }
 }
 
@@ -82,32 +75,32 @@ fn move_of(items: &[Item], way: Way, msg: &Msg) -> Move
 }
 
 // Puts one turn of the loop before it.
-fn turn(alloc: Global, items: &mut Vec<Item>, spare: &mut Vec<Item>) -> Result<(), NoMemory>
+fn turn(alloc: Global, items: &mut Vec<Item>) -> Result<(), NoMemory>
     requires { IsOpen items.old.items Move.Turn }
     ensures ok { OnOk result (place_of items.new.items ≡ after_move items.old.items Move.Turn) }
     ensures err { OnErr result (items.new.items ≡ items.old.items) }
 {
-    spare.clear();
+    let mut front = Vec::new(alloc);
     match &items[0] {
-        Item::OutLoop(body) | Item::InLoop(body) => append_copies(alloc, spare, &body.items)?,
+        Item::OutLoop(body) | Item::InLoop(body) => append_copies(alloc, &mut front, &body.items)?,
         _ => return Ok(()),
     }
-    put_behind(items, spare)
+    put_behind(items, &mut front)
 }
 
 // Puts the items of the arm in place of the choice.
-fn enter(items: &mut Vec<Item>, spare: &mut Vec<Item>, arm: usize) -> Result<(), NoMemory>
+fn enter(alloc: Global, items: &mut Vec<Item>, arm: usize) -> Result<(), NoMemory>
     requires { IsOpen items.old.items (Move.Enter arm) }
     ensures ok { OnOk result (place_of items.new.items
         ≡ after_move items.old.items (Move.Enter arm)) }
     ensures err { OnErr result (items.new.items ≡ items.old.items) }
 {
-    spare.clear();
-    spare.reserve(arm_length(&items[0], arm) + items.len())?;
-    let mut front = taken_arm(items.remove(0), arm);
+    let mut front = Vec::new(alloc);
+    front.reserve(arm_length(&items[0], arm) + items.len())?;
+    let mut own = taken_arm(items.remove(0), arm);
     // The room is there for both.
-    spare.append(&mut front.items)?;
-    put_behind(items, spare)
+    front.append(&mut own.items)?;
+    put_behind(items, &mut front)
 }
 
 fn arm_length(item: &Item, arm: usize) -> usize

@@ -160,12 +160,13 @@ impl Plain {
         }
     }
 
-    /// The items that are still ahead of the end.
-    pub fn place(&self, end: EndId) -> &Proto
+    /// A copy of the items that are still ahead of the end.
+    pub fn place(&self, alloc: Global, end: EndId) -> Result<Proto, NoMemory>
         requires { end.sess < session_count self.now }
-        ensures { result.now ≡ (end_in self.now end).place }
+        ensures { IfOk result (λ p. p ≡ (end_in self.now end).place) }
     {
-        self.course.sessions[end.sess as usize].place(end.side)
+        let session = &self.course.sessions[end.sess as usize];
+        session.place(alloc, &self.course.table, end.side)
     }
 
     /// How many steps the party has done.

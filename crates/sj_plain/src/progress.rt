@@ -1,9 +1,9 @@
 //! How a party stands, and what its next step does.
-ghost use Rattle.std.specs.Prelude.{◌≡◌, ◌<◌, ◌∷◌, [], ℕ, List, Some, true, length, map, unwrap_or, OnErr, OnOk};
+ghost use Rattle.std.specs.Prelude.{◌≡◌, ◌<◌, ◌∷◌, [], ℕ, List, Some, true, length, unwrap_or, OnErr, OnOk};
 ghost use Rattle.sj_lang.specs.FileAt.{ProtocolAt};
-ghost use Rattle.sj_lang.specs.FileView.{protocol_of};
 ghost use Rattle.sj_machine.specs.Opens.{is_opening};
 ghost use Rattle.sj_machine.specs.Sound.{program_at};
+ghost use Rattle.sj_plain.specs.Ends.{protocols_in};
 ghost use Rattle.sj_plain.specs.Opened.{AreInOrder, IsInOrder, requests_in, world_with};
 ghost use Rattle.sj_plain.specs.Stepping.{Makes, next_move, sessions_at, world_around};
 ghost use Rattle.sj_semantics.specs.Ends.{next_for};
@@ -17,21 +17,24 @@ ghost use Rattle.sj_semantics.specs.World.{begun_at, change_by_accepting, change
 ghost use Rattle.sj_semantics.specs.declared.Passed.{Passed};
 ghost use Rattle.sj_semantics.specs.declared.State.TheVariants.{Ready};
 ghost use Rattle.sj_semantics.specs.declared.Want.TheVariants.{Ended};
+ghost use Rattle.sj_table.specs.Spots.{place_in};
+ghost use Rattle.sj_table.specs.declared.table.Table.{Table};
 
-use crate::ends::{Session, copied_body};
+use crate::ahead::Ahead;
+use crate::ends::Session;
 use crate::sessions::{accept, add, offer, requests_of, session_number};
 use crate::uses::{begin, delegate_on, hops, next_message, reach, send_on, take_end_on, take_on};
 use sj_base::{EndId, Msg, NoMemory};
-use sj_lang::{Proto, ProtocolDef, dual};
 use sj_machine::{MAX_HOPS, MAX_REQUESTS, MAX_STEPS, Machine, opened_number};
 use sj_semantics::{Awaits, Limit, Opened, Passed, State, Want};
+use sj_table::{Spot, Table};
 use std::alloc::Global;
 
 /// How a party stands that hasn't ended and isn't at the limit of steps.
 fn state_by(sessions: &[Session], opened: &[Opened], party: u16, want: &Want) -> State
     requires order { AreInOrder party opened.now }
-    ensures { (ps : List ProtocolAt) (gs : List Program) →
-        result ≡ state_by (world_with ps gs (sessions_at sessions.now) opened.now) party want.now }
+    ensures { (t : Table) (ps : List ProtocolAt) (gs : List Program) →
+        result ≡ state_by (world_with ps gs (sessions_at t sessions.now) opened.now) party want.now }
 {
     match *want {
         Want::Ended => State::Ended,
@@ -76,8 +79,8 @@ pub fn state_wanting(
     want: &Want,
 ) -> State
     requires order { AreInOrder party opened.now }
-    ensures { (ps : List ProtocolAt) (gs : List Program) →
-        result ≡ state_wanting (world_with ps gs (sessions_at sessions.now) opened.now)
+    ensures { (t : Table) (ps : List ProtocolAt) (gs : List Program) →
+        result ≡ state_wanting (world_with ps gs (sessions_at t sessions.now) opened.now)
         party steps want.now }
 {
     match want {
@@ -95,7 +98,7 @@ pub fn state_wanting(
 /// Takes the next message from the end, where one is there.
 fn take(
     alloc: Global,
-    protocols: &[ProtocolDef],
+    table: &Table,
     sessions: &mut Vec<Session>,
     machine: &mut Machine,
     party: u16,
@@ -103,17 +106,17 @@ fn take(
     awaits: Awaits,
 ) -> Result<(), NoMemory>
     requires { (program_at machine.old).steps < limit_of_steps }
-    ensures ok { OnOk result ((x : Passed) → next_for (sessions_at sessions.old.items) end ≡ Some x →
+    ensures ok { OnOk result ((x : Passed) → next_for (sessions_at table.now sessions.old.items) end ≡ Some x →
         (program_at machine.new ≡ took_of (program_at machine.old) x.msg)
-        × (sessions_at sessions.new.items ≡ after_uses party
-        ((end, takes x.msg) ∷ begun_at (map protocol_of protocols.now) awaits x.msg)
-        (sessions_at sessions.old.items))) }
+        × (sessions_at table.now sessions.new.items ≡ after_uses party
+        ((end, takes x.msg) ∷ begun_at (protocols_in table.now) awaits x.msg)
+        (sessions_at table.now sessions.old.items))) }
     ensures err { OnErr result (program_at machine.new ≡ program_at machine.old) }
     ensures sessions { OnErr result
-        (sessions_at sessions.new.items ≡ sessions_at sessions.old.items) }
+        (sessions_at table.now sessions.new.items ≡ sessions_at table.now sessions.old.items) }
 {
     if let Some(passed) = next_message(sessions, end) {
-        take_message(alloc, protocols, sessions, party, end, awaits, &passed.msg)?;
+        take_message(alloc, table, sessions, party, end, awaits, &passed.msg)?;
         machine.took(passed.msg);
     }
     Ok(())
@@ -123,25 +126,25 @@ fn take(
 /// protocol that the step awaits.
 fn take_message(
     alloc: Global,
-    protocols: &[ProtocolDef],
+    table: &Table,
     sessions: &mut Vec<Session>,
     party: u16,
     end: EndId,
     awaits: Awaits,
     msg: &Msg,
 ) -> Result<(), NoMemory>
-    ensures ok { OnOk result (sessions_at sessions.new.items ≡ after_uses party
-        ((end, takes msg.now) ∷ begun_at (map protocol_of protocols.now) awaits msg.now)
-        (sessions_at sessions.old.items)) }
-    ensures err { OnErr result (sessions_at sessions.new.items ≡ sessions_at sessions.old.items) }
+    ensures ok { OnOk result (sessions_at table.now sessions.new.items ≡ after_uses party
+        ((end, takes msg.now) ∷ begun_at (protocols_in table.now) awaits msg.now)
+        (sessions_at table.now sessions.old.items)) }
+    ensures err { OnErr result (sessions_at table.now sessions.new.items ≡ sessions_at table.now sessions.old.items) }
 {
     match (awaits, *msg) {
         (Awaits::Session(protocol), Msg::Sess { sess, side, .. }) => {
-            let place = copied_body(alloc, protocols, protocol)?;
+            let place = Ahead::At(table.start(protocol));
             let taken = EndId { sess, side };
-            take_end_on(alloc, sessions, end, party, msg, taken, place)
+            take_end_on(alloc, table, sessions, end, party, msg, taken, place)
         }
-        _ => take_on(alloc, sessions, end, party, msg),
+        _ => take_on(alloc, table, sessions, end, party, msg),
     }
 }
 
@@ -149,29 +152,29 @@ fn take_message(
 /// at the dual place.
 fn open_next(
     alloc: Global,
+    table: &Table,
     sessions: &mut Vec<Session>,
     opened: &mut Vec<Opened>,
     machine: &mut Machine,
     party: u16,
     to: u16,
-    place: Proto,
+    place: Spot,
 ) -> Result<(), NoMemory>
     requires steps { (program_at machine.old).steps < limit_of_steps }
     requires opens { is_opening (unwrap_or (want_of (program_at machine.old)) Ended) ≡ true }
     requires few { length (requests_in opened.old.items party) < limit_of_requests }
     requires order { AreInOrder party opened.old.items }
-    ensures ok { OnOk result (Makes party (change_by_opening (program_at machine.old)
-        (opened_number party (length (requests_in opened.old.items party))) place to)
+    ensures ok { OnOk result (Makes table.now party (change_by_opening (program_at machine.old)
+        (opened_number party (length (requests_in opened.old.items party))) (place_in table.now place) to)
         sessions.old.items sessions.new.items opened.old.items opened.new.items
         (program_at machine.new)) }
     ensures order { OnOk result ((n : ℕ) → party < n →
         IsInOrder n opened.old.items → IsInOrder n opened.new.items) }
     ensures err { OnErr result (program_at machine.new ≡ program_at machine.old) }
     ensures sessions { OnErr result
-        (sessions_at sessions.new.items ≡ sessions_at sessions.old.items) }
+        (sessions_at table.now sessions.new.items ≡ sessions_at table.now sessions.old.items) }
     ensures opened { OnErr result (opened.new.items ≡ opened.old.items) }
 {
-    let second = dual(alloc, &place)?;
     let sess = opened_number(party, requests_of(opened, party) as u8);
     let session = Opened {
         sess,
@@ -181,13 +184,13 @@ fn open_next(
         second: None,
     };
     let before = sessions.len();
-    reach(alloc, sessions, sess)?;
+    reach(alloc, table, sessions, sess)?;
     if let Err(error) = add(opened, session) {
         sessions.truncate(before);
         return Err(error);
     }
-    begin(sessions, EndId { sess, side: 0 }, place);
-    begin(sessions, EndId { sess, side: 1 }, second);
+    begin(sessions, EndId { sess, side: 0 }, Ahead::At(place));
+    begin(sessions, EndId { sess, side: 1 }, Ahead::Against(place));
     machine.opened(EndId { sess, side: 0 });
     Ok(())
 }
@@ -196,32 +199,33 @@ fn open_next(
 /// where there is one. Its second end is bound at the place.
 fn accept_next(
     alloc: Global,
+    table: &Table,
     sessions: &mut Vec<Session>,
     opened: &mut Vec<Opened>,
     machine: &mut Machine,
     party: u16,
     from: u16,
-    place: Proto,
+    place: Spot,
 ) -> Result<(), NoMemory>
     requires steps { (program_at machine.old).steps < limit_of_steps }
     requires opens { is_opening (unwrap_or (want_of (program_at machine.old)) Ended) ≡ true }
     requires order { AreInOrder party opened.old.items }
     ensures ok { OnOk result ((k : ℕ) →
         first_offer party (requests_in opened.old.items from) ≡ Some k →
-        Makes party (change_by_accepting (program_at machine.old) from place k)
+        Makes table.now party (change_by_accepting (program_at machine.old) from (place_in table.now place) k)
         sessions.old.items sessions.new.items opened.old.items opened.new.items
         (program_at machine.new)) }
     ensures order { (n : ℕ) → IsInOrder n opened.old.items → IsInOrder n opened.new.items }
     ensures err { OnErr result (program_at machine.new ≡ program_at machine.old) }
     ensures sessions { OnErr result
-        (sessions_at sessions.new.items ≡ sessions_at sessions.old.items) }
+        (sessions_at table.now sessions.new.items ≡ sessions_at table.now sessions.old.items) }
     ensures opened { OnErr result (opened.new.items ≡ opened.old.items) }
 {
     if let Some(number) = offer(opened, from, party) {
         let sess = session_number(opened, from, number);
-        reach(alloc, sessions, sess)?;
+        reach(alloc, table, sessions, sess)?;
         accept(opened, from, number, machine.name_opened());
-        begin(sessions, EndId { sess, side: 1 }, place);
+        begin(sessions, EndId { sess, side: 1 }, Ahead::At(place));
         machine.opened(EndId { sess, side: 1 });
     }
     Ok(())
@@ -231,7 +235,7 @@ fn accept_next(
 /// sessions and those that were opened as they were.
 pub fn step(
     alloc: Global,
-    protocols: &[ProtocolDef],
+    table: &Table,
     sessions: &mut Vec<Session>,
     opened: &mut Vec<Opened>,
     machine: &mut Machine,
@@ -240,21 +244,21 @@ pub fn step(
 ) -> Result<(), NoMemory>
     requires wants { want.now ≡ unwrap_or (want_of (program_at machine.old)) Ended }
     requires ready { state_of_program
-        (world_around protocols.now sessions.old.items opened.old.items)
+        (world_around table.now sessions.old.items opened.old.items)
         party (program_at machine.old) ≡ Ready }
     requires order { AreInOrder party opened.old.items }
     ensures ok { OnOk result (next_move party
-        (world_around protocols.now sessions.old.items opened.old.items) (program_at machine.old)
+        (world_around table.now sessions.old.items opened.old.items) (program_at machine.old)
         ≡ Some (
           program_at machine.new,
-          sessions_at sessions.new.items,
+          sessions_at table.now sessions.new.items,
           requests_in opened.new.items,
         )) }
     ensures order { (n : ℕ) → party < n →
         IsInOrder n opened.old.items → IsInOrder n opened.new.items }
     ensures err { OnErr result (program_at machine.new ≡ program_at machine.old) }
     ensures sessions { OnErr result
-        (sessions_at sessions.new.items ≡ sessions_at sessions.old.items) }
+        (sessions_at table.now sessions.new.items ≡ sessions_at table.now sessions.old.items) }
     ensures opened { OnErr result (opened.new.items ≡ opened.old.items) }
 {
     match *want {
@@ -263,27 +267,27 @@ pub fn step(
             Ok(())
         }
         Want::Send { end, msg } => {
-            send_on(alloc, sessions, end, Passed { msg, by: party })?;
+            send_on(alloc, table, sessions, end, Passed { msg, by: party })?;
             machine.sent();
             Ok(())
         }
         Want::Delegate { end, sent } => {
-            delegate_on(alloc, sessions, end, sent, party)?;
+            delegate_on(alloc, table, sessions, end, sent, party)?;
             machine.sent();
             Ok(())
         }
-        Want::Take { end, awaits } => take(alloc, protocols, sessions, machine, party, end, awaits),
+        Want::Take { end, awaits } => take(alloc, table, sessions, machine, party, end, awaits),
         Want::Close { .. } => {
             machine.closed();
             Ok(())
         }
         Want::Request { protocol, to } => {
-            let place = copied_body(alloc, protocols, protocol)?;
-            open_next(alloc, sessions, opened, machine, party, to, place)
+            let place = table.start(protocol);
+            open_next(alloc, table, sessions, opened, machine, party, to, place)
         }
         Want::Accept { protocol, from } => {
-            let place = copied_body(alloc, protocols, protocol)?;
-            accept_next(alloc, sessions, opened, machine, party, from, place)
+            let place = table.start(protocol);
+            accept_next(alloc, table, sessions, opened, machine, party, from, place)
         }
         Want::Ended => Ok(()),
     }

@@ -11,9 +11,9 @@ loop-alloc-preserved c =
     let pushed : c.push.new.self.items ≡ c.loop-alloc.sessions.items ++ c.unopened.result ∷ [] = grind (arith, c.push.ensures.items, c.if-is_err.ensures.value) in
     record {
       same =
-          ap (λ zs. reached (sessions_at zs) c.args.number) pushed
-          ∙ ap (λ zs. reached zs c.args.number) (map-append session_at c.loop-alloc.sessions.items (c.unopened.result ∷ []) ∙ ap (λ z. sessions_at c.loop-alloc.sessions.items ++ z ∷ []) c.unopened.ensures)
-          ∙ reached-push (sessions_at c.loop-alloc.sessions.items) c.args.number (omega (arith, length-map c.loop-alloc.sessions.items session_at, c.loop-alloc-test.true, c.len.ensures))
+          ap (λ zs. reached (sessions_at c.args.table.now zs) c.args.number) pushed
+          ∙ ap (λ zs. reached zs c.args.number) (map-append (session_at c.args.table.now) c.loop-alloc.sessions.items (c.unopened.result ∷ []) ∙ ap (λ z. sessions_at c.args.table.now c.loop-alloc.sessions.items ++ z ∷ []) c.unopened.ensures)
+          ∙ reached-push (sessions_at c.args.table.now c.loop-alloc.sessions.items) c.args.number (omega (arith, length-map c.loop-alloc.sessions.items (session_at c.args.table.now), c.loop-alloc-test.true, c.len.ensures))
           ∙ c.loop-alloc.invariant.same;
       front =
           subst (λ (zs : List Session). take (length c.args.sessions.now.items) zs ≡ c.args.sessions.now.items) (sym pushed)
@@ -21,4 +21,4 @@ loop-alloc-preserved c =
     }
 
 pub returns-clause-ok : goal.returns-clause-ok
-returns-clause-ok c = sym (reached-there (sessions_at c.loop-alloc.sessions.items) c.args.number (omega (arith, length-map c.loop-alloc.sessions.items session_at, c.loop-alloc-test.false, c.len.ensures))) ∙ c.loop-alloc.invariant.same
+returns-clause-ok c = sym (reached-there (sessions_at c.args.table.now c.loop-alloc.sessions.items) c.args.number (omega (arith, length-map c.loop-alloc.sessions.items (session_at c.args.table.now), c.loop-alloc-test.false, c.len.ensures))) ∙ c.loop-alloc.invariant.same

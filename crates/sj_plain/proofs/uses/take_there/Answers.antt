@@ -7,11 +7,11 @@ use Rattle.sj_plain.proofs.uses.take_there.Goals as goal
 pub returns-clause-ok : goal.returns-clause-ok
 returns-clause-ok c =
     on_ok_weaker c.take.result
-    (λ made. map-set session_at c.args.sessions.now.items c.args.end.sess c.index_mut-session.result.now c.take.new.self _ (omega (arith, c.requires)) c.index_mut-session.ensures.value made)
+    (λ made. map-set (session_at c.args.table.now) c.args.sessions.now.items c.args.end.sess c.index_mut-session.result.now c.take.new.self _ (omega (arith, c.requires)) c.index_mut-session.ensures.value made)
     c.take.ensures.ok
 
 pub returns-clause-err : goal.returns-clause-err
 returns-clause-err c =
     on_err_weaker c.take.result
-    (λ same. map-same session_at c.args.sessions.now.items c.args.end.sess c.index_mut-session.result.now c.take.new.self (omega (arith, c.requires)) c.index_mut-session.ensures.value same)
+    (λ same. map-same (session_at c.args.table.now) c.args.sessions.now.items c.args.end.sess c.index_mut-session.result.now c.take.new.self (omega (arith, c.requires)) c.index_mut-session.ensures.value same)
     c.take.ensures.err

@@ -12,7 +12,7 @@ pub returns : goal.returns
 returns c =
     let ps = map protocol_of c.args.self.now.kept.protocols.items in
     let gs = map program_at c.args.self.now.machines.items in
-    c.state_wanting.ensures ps gs
-    ∙ (λ i. state_wanting (world_with ps gs (sessions_at (c.deref.ensures.value i)) (c.deref-2.ensures.value i)) c.args.party (c.steps.ensures i) c.args.want.now)
-    ∙ stands_by_want c.args.self.now.kept.protocols.items c.args.self.now.machines.items c.args.self.now.sessions.items c.args.self.now.opened.items c.args.party c.index-machine.result.now c.args.want.now
+    c.state_wanting.ensures c.args.self.now.table ps gs
+    ∙ (λ i. state_wanting (world_with ps gs (sessions_at c.args.self.now.table (c.deref.ensures.value i)) (c.deref-2.ensures.value i)) c.args.party (c.steps.ensures i) c.args.want.now)
+    ∙ stands_by_want c.args.self.now.kept.protocols.items c.args.self.now.table c.args.self.now.machines.items c.args.self.now.sessions.items c.args.self.now.opened.items c.args.party c.index-machine.result.now c.args.want.now
     (omega (arith, c.requires.there, length-map c.args.self.now.machines.items program_at)) c.index-machine.ensures c.requires.wants

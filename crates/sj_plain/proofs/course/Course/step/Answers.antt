@@ -1,7 +1,6 @@
-use Rattle.std.proofs.Common.{◌≡◌, ◌∙◌, ◌∷◌, ◌++◌, [], Some, ap, arith, refl, subst, List}
+use Rattle.std.proofs.Common.{◌≡◌, ◌∙◌, ◌∷◌, ◌++◌, [], Some, ap, arith, refl}
 use Rattle.std.proofs.lemmas.List.{length-map}
 use Rattle.std.proofs.lemmas.Result.{err_from_is_err_and}
-use Rattle.sj_lang.specs.declared.file.ProtocolDef.{ProtocolDef}
 use Rattle.sj_machine.specs.Sound.{program_at}
 use Rattle.sj_plain.specs.Opened.{requests_in}
 use Rattle.sj_plain.specs.Stepping.{next_move, sessions_at, world_around}
@@ -12,29 +11,27 @@ pub returns-in_err-step-clause-err : goal.returns-in_err-step-clause-err
 returns-in_err-step-clause-err c =
     let p = err_from_is_err_and c.from_residual-in_err-step.result c.from_residual-in_err-step.ensures.1 in
     rw (p.1)
-    (world_same c.args.self.now.kept.protocols.items c.args.self.now.machines.items c.step.new.sessions.items c.args.self.now.sessions.items c.step.new.opened.items c.args.self.now.opened.items c.args.party c.index_mut-machine.result.now c.step.new.machine
+    (world_same c.args.self.now.kept.protocols.items c.args.self.now.table c.args.self.now.machines.items c.step.new.sessions.items c.args.self.now.sessions.items c.step.new.opened.items c.args.self.now.opened.items c.args.party c.index_mut-machine.result.now c.step.new.machine
     (omega (arith, c.requires.there, length-map c.args.self.now.machines.items program_at)) c.index_mut-machine.ensures.value c.in_err-step.ensures.err c.in_err-step.ensures.sessions c.in_err-step.ensures.opened)
 
 pub returns-in_err-step-clause-on : goal.returns-in_err-step-clause-on
 returns-in_err-step-clause-on c =
     stays _ _
-    (world_same c.args.self.now.kept.protocols.items c.args.self.now.machines.items c.step.new.sessions.items c.args.self.now.sessions.items c.step.new.opened.items c.args.self.now.opened.items c.args.party c.index_mut-machine.result.now c.step.new.machine
+    (world_same c.args.self.now.kept.protocols.items c.args.self.now.table c.args.self.now.machines.items c.step.new.sessions.items c.args.self.now.sessions.items c.step.new.opened.items c.args.self.now.opened.items c.args.party c.index_mut-machine.result.now c.step.new.machine
     (omega (arith, c.requires.there, length-map c.args.self.now.machines.items program_at)) c.index_mut-machine.ensures.value c.in_err-step.ensures.err c.in_err-step.ensures.sessions c.in_err-step.ensures.opened)
     c.in_ok-reserve.ensures.items refl
 
-abbrev made : (c : goal.After-push_reserved) → next_move c.args.party (world_around c.args.self.now.kept.protocols.items c.args.self.now.sessions.items c.args.self.now.opened.items) (program_at c.index_mut-machine.result.now) ≡ Some (program_at c.step.new.machine, sessions_at c.step.new.sessions.items, requests_in c.step.new.opened.items)
-made c =
-    subst (λ (ps : List ProtocolDef). next_move c.args.party (world_around ps c.args.self.now.sessions.items c.args.self.now.opened.items) (program_at c.index_mut-machine.result.now) ≡ Some (program_at c.step.new.machine, sessions_at c.step.new.sessions.items, requests_in c.step.new.opened.items))
-    c.deref.ensures.value c.in_ok-step.ensures.ok
+abbrev made : (c : goal.After-push_reserved) → next_move c.args.party (world_around c.args.self.now.table c.args.self.now.sessions.items c.args.self.now.opened.items) (program_at c.index_mut-machine.result.now) ≡ Some (program_at c.step.new.machine, sessions_at c.args.self.now.table c.step.new.sessions.items, requests_in c.step.new.opened.items)
+made c = c.in_ok-step.ensures.ok
 
 pub returns-clause-ok : goal.returns-clause-ok
 returns-clause-ok c =
-    world_acts c.args.self.now.kept.protocols.items c.args.self.now.machines.items c.step.new.sessions.items c.args.self.now.sessions.items c.step.new.opened.items c.args.self.now.opened.items c.args.party c.index_mut-machine.result.now c.step.new.machine
+    world_acts c.args.self.now.kept.protocols.items c.args.self.now.table c.args.self.now.starts c.args.self.now.machines.items c.step.new.sessions.items c.args.self.now.sessions.items c.step.new.opened.items c.args.self.now.opened.items c.args.party c.index_mut-machine.result.now c.step.new.machine
     (omega (arith, c.requires.there, length-map c.args.self.now.machines.items program_at)) c.index_mut-machine.ensures.value (made c)
 
 pub returns-clause-on : goal.returns-clause-on
 returns-clause-on c =
     by_act _ _ c.args.party
-    (world_acts c.args.self.now.kept.protocols.items c.args.self.now.machines.items c.step.new.sessions.items c.args.self.now.sessions.items c.step.new.opened.items c.args.self.now.opened.items c.args.party c.index_mut-machine.result.now c.step.new.machine
+    (world_acts c.args.self.now.kept.protocols.items c.args.self.now.table c.args.self.now.starts c.args.self.now.machines.items c.step.new.sessions.items c.args.self.now.sessions.items c.step.new.opened.items c.args.self.now.opened.items c.args.party c.index_mut-machine.result.now c.step.new.machine
     (omega (arith, c.requires.there, length-map c.args.self.now.machines.items program_at)) c.index_mut-machine.ensures.value (made c))
     (c.push_reserved.ensures.items ∙ ap (λ t. t ++ c.args.party ∷ []) c.in_ok-reserve.ensures.items) refl

@@ -8,4 +8,4 @@ use Rattle.sj_plain.proofs.plain.Plain.sessions.Goals as goal
 pub returns-clause-kept : goal.returns-clause-kept
 returns-clause-kept c =
     let course = c.self.inside.course in
-    omega (arith, c.len.ensures, (counts (file_in course) (acts_in course) (world_in course) c.self.invariant.run).1, length-map course.sessions.items session_at, ap (λ v. length (file_in v).connects) c.self.view_is)
+    omega (arith, c.len.ensures, (counts (file_in course) (acts_in course) (world_in course) c.self.invariant.run).1, length-map course.sessions.items (session_at course.table), ap (λ v. length (file_in v).connects) c.self.view_is)
