@@ -1,5 +1,5 @@
 -- A dual place behind a message, and the protocols of a table.
-use Rattle.std.proofs.Common.{◌≡◌, ◌==◌, ℕ, Bool, true, false, cond, List, [], ◌∷◌, map, Option, Some, None, option_map, unwrap_or, refl, ap, sym, ◌∙◌}
+use Rattle.std.proofs.Common.{◌≡◌, ◌==◌, ℕ, Bool, true, false, cond, List, [], ◌∷◌, map, Option, Some, None, option_map, unwrap_or, refl, ap, ◌∙◌}
 use Rattle.sj_base.specs.declared.Msg.{Msg}
 use Rattle.sj_lang.specs.declared.proto.Way.{Way}
 use Rattle.sj_lang.specs.After.{after_place}

@@ -1,13 +1,19 @@
 -- The parties and sessions at the start, one after another.
 use Rattle.std.proofs.Common.{◌≡◌, ℕ, zero, suc, ◌+◌, ◌<◌, List, [], ◌∷◌, ◌++◌, map, length, take, get_or, slice_get, Some, refl, ap, sym, ◌∙◌, arith}
 use Rattle.std.proofs.lemmas.List.{map-append}
-use Rattle.sj_lang.specs.FileAt.{FileAt, PartyAt, ConnectAt, end_of_party, ends_from}
+use Rattle.sj_lang.specs.FileAt.{FileAt, PartyAt, ProtocolAt, ConnectAt, body_named, end_of_party, ends_from}
+use Rattle.sj_semantics.specs.declared.Opened.{Opened}
+use Rattle.sj_semantics.specs.Ends.{Session}
+use Rattle.sj_semantics.specs.Program.{Program}
 use Rattle.sj_semantics.specs.Requests.{no_requests}
-use Rattle.sj_semantics.specs.World.{program_of, programs_from, session_of, start_of}
+use Rattle.sj_semantics.specs.World.{fresh, program_of, programs_from, session_of, start_of}
 use Rattle.sj_semantics.specs.Run.{IsRun, after_acts}
+use Rattle.sj_table.specs.declared.table.Table.{Table}
 use Rattle.sj_plain.specs.declared.course.Course.{Course}
 use Rattle.sj_plain.specs.Course.{acts_in, file_in, world_in}
+use Rattle.sj_plain.specs.Ends.{StartsAt, connected_session}
 use Rattle.sj_plain.specs.Kept.{without_words}
+use Rattle.sj_plain.specs.Opened.{requests_in, world_with}
 
 ends_same : (file : FileAt) (p n : ℕ) (cs : List ConnectAt) → ends_from (without_words file) p n cs ≡ ends_from file p n cs
 ends_same file p n [] = refl
@@ -58,3 +64,14 @@ seen_next view ys out i x h so_far = map-append view out (x ∷ []) ∙ ap (λ t
 -- no act has led from the start to anywhere else
 pub begins : (file : FileAt) (c : Course) → file_in c ≡ without_words file → acts_in c ≡ [] → world_in c ≡ start_of file → IsRun (file_in c) (acts_in c) (world_in c)
 begins file c kept acts world = ap (after_acts (start_of (file_in c))) acts ∙ ap (λ f. Some (start_of f)) kept ∙ ap Some (start_same file) ∙ ap Some (sym world)
+
+-- where a table starts at a file's protocols its connections make the file's sessions
+connected_alike : (file : FileAt) (t : Table) → StartsAt t file.protocols → (cs : List ConnectAt) → map (connected_session t) cs ≡ map (session_of file) cs
+connected_alike file t starts cs = λ i. map (λ (c : ConnectAt). record { first = fresh (starts c.first.protocol i); second = fresh (starts c.second.protocol i) }) cs
+
+-- the parts of the start of a file
+pub world_starts : (file : FileAt) (t : Table) (ps : List ProtocolAt) (gs : List Program) (zs : List Session) (os : List Opened)
+    → ps ≡ file.protocols → StartsAt t ps → gs ≡ (start_of file).parties → zs ≡ map (connected_session t) file.connects → os ≡ [] → world_with ps gs zs os ≡ start_of file
+world_starts file t ps gs zs os protocols starts parties sessions opened =
+    let alike = sessions ∙ connected_alike file t (λ p. starts p ∙ ap (λ qs. body_named qs p) protocols) file.connects in
+    λ i. record { protocols = protocols i; parties = parties i; sessions = alike i; requests = λ q. requests_in (opened i) q }
