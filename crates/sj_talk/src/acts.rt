@@ -16,7 +16,7 @@ use crate::places::carried_next;
 use crate::play::Play;
 use sj_base::{EndId, Msg, NoMemory};
 use sj_lang::{Item, Proto, copied};
-use sj_plain::{delegate_on, send_on, take_end_on, take_on};
+use sj_plain::{Ahead, delegate_on, send_on, take_end_on, take_on};
 use sj_semantics::Passed;
 use std::alloc::Global;
 
@@ -82,9 +82,11 @@ impl Play {
     {
         let end = self.end(end);
         let by = self.party;
+        let course = &mut self.course;
         send_on(
-            self.course.alloc,
-            &mut self.course.sessions,
+            course.alloc,
+            &course.table,
+            &mut course.sessions,
             end,
             Passed { msg, by },
         )?;
@@ -152,9 +154,11 @@ impl Play {
         let carrier = self.end(end);
         let end = self.end(sent);
         let by = self.party;
+        let course = &mut self.course;
         delegate_on(
-            self.course.alloc,
-            &mut self.course.sessions,
+            course.alloc,
+            &course.table,
+            &mut course.sessions,
             carrier,
             end,
             by,
@@ -175,7 +179,15 @@ impl Play {
     {
         let end = self.end(end);
         let by = self.party;
-        take_on(self.course.alloc, &mut self.course.sessions, end, by, msg)?;
+        let course = &mut self.course;
+        take_on(
+            course.alloc,
+            &course.table,
+            &mut course.sessions,
+            end,
+            by,
+            msg,
+        )?;
         self.lines += 1;
         Ok(())
     }
@@ -218,19 +230,22 @@ impl Play {
         ensures err { OnErr result (talk_at self.new ≡ talk_at self.old) }
         ensures played { IsPlayed self.new }
     {
-        let place = carried_place(self.course.alloc, self.items(end))?;
+        let ahead = self.place(end)?;
+        let place = carried_place(self.course.alloc, &ahead.items)?;
         let name = Vec::from_slice(self.course.alloc, name)?;
         let end = self.end(end);
         let by = self.party;
         self.ends.reserve(1)?;
+        let course = &mut self.course;
         take_end_on(
-            self.course.alloc,
-            &mut self.course.sessions,
+            course.alloc,
+            &course.table,
+            &mut course.sessions,
             end,
             by,
             msg,
             taken,
-            place,
+            Ahead::Own(place),
         )?;
         self.ends.push_reserved(Bound { name, end: taken });
         self.lines += 1;

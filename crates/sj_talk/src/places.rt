@@ -1,5 +1,5 @@
 //! What the place of an end begins with.
-ghost use Rattle.std.specs.Prelude.{◌≡◌, None, Some, false, true};
+ghost use Rattle.std.specs.Prelude.{◌≡◌, IfOk, None, Some, false, true};
 ghost use Rattle.std.specs.Option.{option_copied};
 ghost use Rattle.std.specs.Prelude.{unwrap_or};
 ghost use Rattle.sj_lang.specs.Place.{done};
@@ -12,29 +12,27 @@ ghost use Rattle.sj_talk.specs.Rules.{carried_next, is_done, is_next, is_scalar,
 ghost use Rattle.sj_talk.specs.Rules.{sends_end, sends_value, takes_end, takes_no_end, turns};
 
 use crate::form::Value;
-use sj_base::EndId;
+use sj_base::{EndId, NoMemory};
 use sj_lang::{Item, Kind, Proto, arm_named, stands_for};
 use sj_plain::Session;
+use sj_table::Table;
 use std::alloc::Global;
 
-/// The place of the end, where there are sessions up to its own.
-pub fn place(sessions: &[Session], end: EndId) -> Option<&Proto>
-    ensures { (end_at (sessions_at sessions.now) end).place
-        ≡ unwrap_or (option_copied result) done }
+/// A copy of the place of the end; the empty place where there are no sessions up to its own.
+pub fn place(
+    alloc: Global,
+    table: &Table,
+    sessions: &[Session],
+    end: EndId,
+) -> Result<Proto, NoMemory>
+    ensures { IfOk result (λ p. p ≡ (end_at (sessions_at table.now sessions.now) end).place) }
 {
     match sessions.get(end.sess as usize) {
-        Some(session) => Some(session.place(end.side)),
-        None => None,
-    }
-}
-
-/// The items that are ahead of the end.
-pub fn items(sessions: &[Session], end: EndId) -> &[Item]
-    ensures { place_of result.now ≡ (end_at (sessions_at sessions.now) end).place }
-{
-    match place(sessions, end) {
-        Some(place) => &place.items,
-        None => &[],
+        Some(session) => session.place(alloc, table, end.side),
+        None => {
+            let items = Vec::new(alloc);
+            Ok(Proto { items })
+        }
     }
 }
 
@@ -147,18 +145,16 @@ fn stands_in(own: &Proto, wanted: &Proto) -> bool
     stands_for(own, wanted)
 }
 
-/// Whether an end at the one place can stand where one at the other is wanted; a place that isn't
-/// there is empty.
-pub fn stands(alloc: Global, own: Option<&Proto>, wanted: Option<&Proto>) -> bool
-    ensures { result ≡ stands_by (unwrap_or (option_copied own.entry) done)
-        (unwrap_or (option_copied wanted.entry) done) }
+/// Whether an end at the one place can stand where one at the other is wanted; a wanted place that
+/// isn't there is empty.
+pub fn stands(alloc: Global, own: &Proto, wanted: Option<&Proto>) -> bool
+    ensures { result ≡ stands_by own.now (unwrap_or (option_copied wanted.entry) done) }
 {
-    let items = Vec::new(alloc);
-    let empty = Proto { items };
-    match (own, wanted) {
-        (Some(own), Some(wanted)) => stands_in(own, wanted),
-        (Some(own), None) => stands_in(own, &empty),
-        (None, Some(wanted)) => stands_in(&empty, wanted),
-        (None, None) => stands_in(&empty, &empty),
+    match wanted {
+        Some(wanted) => stands_in(own, wanted),
+        None => {
+            let items = Vec::new(alloc);
+            stands_in(own, &Proto { items })
+        }
     }
 }

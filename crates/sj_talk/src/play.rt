@@ -1,8 +1,5 @@
 //! A talk as it runs: the other parties of a file, and the ends that the played party holds.
-ghost use Rattle.std.specs.Option.{option_copied};
-ghost use Rattle.std.specs.Prelude.{◌≡◌, IfOk, OnErr, OnOk, unwrap_or};
-ghost use Rattle.sj_lang.specs.Place.{done};
-ghost use Rattle.sj_lang.specs.View.{place_of};
+ghost use Rattle.std.specs.Prelude.{◌≡◌, IfOk, OnErr, OnOk};
 ghost use Rattle.sj_talk.specs.Names.{label_number};
 ghost use Rattle.sj_talk.specs.Doing.{after_line, said_of};
 ghost use Rattle.sj_talk.specs.Play.{IsPlayed, talk_at};
@@ -12,10 +9,10 @@ ghost use Rattle.sj_talk.specs.TalkWorld.{OnlyOthers, OnlyTexts, others_acted, t
 use crate::Said;
 use crate::form::form_in;
 use crate::names::{Bound, end_named, label_number};
-use crate::places::{items, place};
+use crate::places::place;
 use crate::refusals::NO_FORM;
 use sj_base::{EndId, Msg, NoMemory};
-use sj_lang::{File, Item, Proto};
+use sj_lang::{File, Proto};
 use sj_machine::MAX_HOPS;
 use sj_plain::{Course, hops, next_message};
 use sj_semantics::Verdict;
@@ -52,12 +49,17 @@ impl Play {
         }
     }
 
-    /// The place of the end under the name, where there are sessions up to its own.
-    pub fn place(&self, name: &[u8]) -> Option<&Proto>
-        ensures { place_under (talk_at self.now) name.now
-            ≡ unwrap_or (option_copied result) done }
+    /// A copy of the place of the end under the name.
+    pub fn place(&self, name: &[u8]) -> Result<Proto, NoMemory>
+        ensures { IfOk result (λ p. p ≡ place_under (talk_at self.now) name.now) }
     {
-        place(&self.course.sessions, self.end(name))
+        let end = self.end(name);
+        place(
+            self.course.alloc,
+            &self.course.table,
+            &self.course.sessions,
+            end,
+        )
     }
 
     /// The number of a label; none where no word of the file is spelled so.
@@ -65,13 +67,6 @@ impl Play {
         ensures { result ≡ label_number (talk_at self.now).file label.now }
     {
         label_number(&self.file.names.words, label)
-    }
-
-    /// The items that are ahead of the end under the name.
-    pub fn items(&self, name: &[u8]) -> &[Item]
-        ensures { place_of result.now ≡ place_under (talk_at self.now) name.now }
-    {
-        items(&self.course.sessions, self.end(name))
     }
 
     /// The message that the end under the name can take next.
@@ -132,8 +127,9 @@ impl Play {
         match form_in(line) {
             None => Ok(Said::Refused(NO_FORM)),
             Some(form) => match self.refusal(&form) {
-                Some(rule) => Ok(Said::Refused(rule)),
-                None => self.act(&form),
+                Err(NoMemory) => Err(NoMemory),
+                Ok(Some(rule)) => Ok(Said::Refused(rule)),
+                Ok(None) => self.act(&form),
             },
         }
     }

@@ -1,5 +1,5 @@
 //! The rules by which a line is refused, in their order.
-ghost use Rattle.std.specs.Prelude.{◌≡◌, Bool, Some};
+ghost use Rattle.std.specs.Prelude.{◌≡◌, Bool, IfOk, Some};
 ghost use Rattle.sj_talk.specs.Forms as forms;
 ghost use Rattle.sj_talk.specs.Play.{form_at, talk_at, value_at};
 ghost use Rattle.sj_talk.specs.Rules.{first_rule, refusal_of};
@@ -10,6 +10,7 @@ use crate::places::{
     takes_no_end, turns,
 };
 use crate::play::Play;
+use sj_base::NoMemory;
 
 /// It has none of the forms.
 pub const NO_FORM: u8 = 1;
@@ -33,9 +34,9 @@ const AT_LIMIT: u8 = 6;
 const NOTHING_THERE: u8 = 7;
 
 impl Play {
-    /// The first rule that refuses what a line says.
-    pub fn refusal(&self, form: &Form<'_>) -> Option<u8>
-        ensures { result ≡ refusal_of (talk_at self.now) (Some (form_at form.now)) }
+    /// The first rule that refuses what a line says. The places of its ends are copied.
+    pub fn refusal(&self, form: &Form<'_>) -> Result<Option<u8>, NoMemory>
+        ensures { IfOk result (λ r. r ≡ refusal_of (talk_at self.now) (Some (form_at form.now))) }
     {
         match form {
             Form::Send(end, value) => self.send_refusal(end, value),
@@ -48,90 +49,102 @@ impl Play {
         }
     }
 
-    fn send_refusal(&self, end: &[u8], value: &Value<'_>) -> Option<u8>
-        ensures { result ≡ refusal_of (talk_at self.now)
-            (Some (forms.send end.now (value_at value.now))) }
+    fn send_refusal(&self, end: &[u8], value: &Value<'_>) -> Result<Option<u8>, NoMemory>
+        ensures { IfOk result (λ r. r ≡ refusal_of (talk_at self.now)
+            (Some (forms.send end.now (value_at value.now)))) }
     {
-        let items = self.items(end);
-        first_rule(&[
+        let place = self.place(end)?;
+        let items = &place.items;
+        Ok(first_rule(&[
             (NOT_BOUND, self.is_free(end)),
             (BEGINS_OTHERWISE, !sends_value(items)),
             (WRONG_KIND, !is_next(items, value)),
             (AT_LIMIT, self.is_full()),
-        ])
+        ]))
     }
 
-    fn select_refusal(&self, end: &[u8], label: &[u8]) -> Option<u8>
-        ensures { result ≡ refusal_of (talk_at self.now) (Some (forms.select end.now label.now)) }
+    fn select_refusal(&self, end: &[u8], label: &[u8]) -> Result<Option<u8>, NoMemory>
+        ensures { IfOk result (λ r. r
+            ≡ refusal_of (talk_at self.now) (Some (forms.select end.now label.now))) }
     {
-        let items = self.items(end);
-        first_rule(&[
+        let place = self.place(end)?;
+        let items = &place.items;
+        Ok(first_rule(&[
             (NOT_BOUND, self.is_free(end)),
             (BEGINS_OTHERWISE, !selects(items)),
             (WRONG_KIND, !offers(items, self.label(label))),
             (AT_LIMIT, self.is_full()),
-        ])
+        ]))
     }
 
-    fn turn_refusal(&self, end: &[u8]) -> Option<u8>
-        ensures { (more : Bool) → result
-            ≡ refusal_of (talk_at self.now) (Some (forms.turn end.now more)) }
+    fn turn_refusal(&self, end: &[u8]) -> Result<Option<u8>, NoMemory>
+        ensures { (more : Bool) → IfOk result (λ r. r
+            ≡ refusal_of (talk_at self.now) (Some (forms.turn end.now more))) }
     {
-        first_rule(&[
+        let place = self.place(end)?;
+        Ok(first_rule(&[
             (NOT_BOUND, self.is_free(end)),
-            (BEGINS_OTHERWISE, !turns(self.items(end))),
+            (BEGINS_OTHERWISE, !turns(&place.items)),
             (AT_LIMIT, self.is_full()),
-        ])
+        ]))
     }
 
-    fn delegate_refusal(&self, end: &[u8], sent: &[u8]) -> Option<u8>
-        ensures { result ≡ refusal_of (talk_at self.now) (Some (forms.delegate end.now sent.now)) }
+    fn delegate_refusal(&self, end: &[u8], sent: &[u8]) -> Result<Option<u8>, NoMemory>
+        ensures { IfOk result (λ r. r
+            ≡ refusal_of (talk_at self.now) (Some (forms.delegate end.now sent.now))) }
     {
-        let items = self.items(end);
-        let own = self.place(sent);
-        first_rule(&[
+        let place = self.place(end)?;
+        let items = &place.items;
+        let own = self.place(sent)?;
+        Ok(first_rule(&[
             (NOT_BOUND, self.is_free(end) || self.is_free(sent)),
             (BEGINS_OTHERWISE, !sends_end(items)),
-            (WRONG_END, end == sent || is_done(self.items(sent))),
+            (WRONG_END, end == sent || is_done(&own.items)),
             (
                 WRONG_KIND,
-                !stands(self.course.alloc, own, carried_next(items)),
+                !stands(self.course.alloc, &own, carried_next(items)),
             ),
             (AT_LIMIT, self.is_full() || self.is_worn(sent)),
-        ])
+        ]))
     }
 
-    fn take_refusal(&self, end: &[u8]) -> Option<u8>
-        ensures { result ≡ refusal_of (talk_at self.now) (Some (forms.take end.now)) }
+    fn take_refusal(&self, end: &[u8]) -> Result<Option<u8>, NoMemory>
+        ensures { IfOk result (λ r. r
+            ≡ refusal_of (talk_at self.now) (Some (forms.take end.now))) }
     {
-        first_rule(&[
+        let place = self.place(end)?;
+        Ok(first_rule(&[
             (NOT_BOUND, self.is_free(end)),
-            (BEGINS_OTHERWISE, !takes_no_end(self.items(end))),
+            (BEGINS_OTHERWISE, !takes_no_end(&place.items)),
             (AT_LIMIT, self.is_full()),
             (NOTHING_THERE, self.head(end).is_none()),
-        ])
+        ]))
     }
 
-    fn take_end_refusal(&self, end: &[u8], name: &[u8]) -> Option<u8>
-        ensures { result ≡ refusal_of (talk_at self.now) (Some (forms.take_end end.now name.now)) }
+    fn take_end_refusal(&self, end: &[u8], name: &[u8]) -> Result<Option<u8>, NoMemory>
+        ensures { IfOk result (λ r. r
+            ≡ refusal_of (talk_at self.now) (Some (forms.take_end end.now name.now))) }
     {
-        first_rule(&[
+        let place = self.place(end)?;
+        Ok(first_rule(&[
             (NOT_BOUND, self.is_free(end)),
-            (BEGINS_OTHERWISE, !takes_end(self.items(end))),
+            (BEGINS_OTHERWISE, !takes_end(&place.items)),
             (WRONG_END, !self.is_free(name)),
             (AT_LIMIT, self.is_full()),
             (NOTHING_THERE, self.head(end).is_none()),
-        ])
+        ]))
     }
 
-    fn close_refusal(&self, end: &[u8]) -> Option<u8>
-        ensures { result ≡ refusal_of (talk_at self.now) (Some (forms.close end.now)) }
+    fn close_refusal(&self, end: &[u8]) -> Result<Option<u8>, NoMemory>
+        ensures { IfOk result (λ r. r
+            ≡ refusal_of (talk_at self.now) (Some (forms.close end.now))) }
     {
-        first_rule(&[
+        let place = self.place(end)?;
+        Ok(first_rule(&[
             (NOT_BOUND, self.is_free(end)),
-            (BEGINS_OTHERWISE, !is_done(self.items(end))),
+            (BEGINS_OTHERWISE, !is_done(&place.items)),
             (AT_LIMIT, self.is_full()),
-        ])
+        ]))
     }
 }
 
