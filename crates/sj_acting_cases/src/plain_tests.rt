@@ -44,12 +44,16 @@ fn acts(plain: &mut Plain, party: u16) -> Result<(), Halt> {
 }
 
 // How many items are ahead of the end, what it sent, and who took that.
-fn end_at(plain: &Plain, end: EndId) -> Option<(usize, &[Passed], &[u16])> {
+fn end_at(
+    alloc: Global,
+    plain: &Plain,
+    end: EndId,
+) -> Result<Option<(usize, &[Passed], &[u16])>, NoMemory> {
     if (end.sess as usize) < plain.sessions() {
-        let ahead = plain.place(end).items.len();
-        Some((ahead, plain.sent(end), plain.takers(end)))
+        let ahead = plain.place(alloc, end)?.items.len();
+        Ok(Some((ahead, plain.sent(end), plain.takers(end))))
     } else {
-        None
+        Ok(None)
     }
 }
 
@@ -69,13 +73,13 @@ fn a_stop_is_sent_and_taken(rt: HostRuntime) -> Result<(), Fail> {
     assert_eq!(rt; acts(&mut plain, B), Err(Halt::Waits));
     assert_eq!(rt; acts(&mut plain, A), Ok(()));
     assert_eq!(rt;
-        end_at(&plain, FIRST),
+        end_at(alloc, &plain, FIRST)?,
         Some((0, sent.as_slice(), [].as_slice()))
     );
     plain.finish()?;
     assert!(rt; plain.verdict() == Verdict::Done, "verdict");
     assert_eq!(rt;
-        end_at(&plain, FIRST),
+        end_at(alloc, &plain, FIRST)?,
         Some((0, sent.as_slice(), [B].as_slice()))
     );
     assert_eq!(rt; party_at(&plain, A), Some((2, State::Ended)));

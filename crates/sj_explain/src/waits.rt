@@ -205,7 +205,8 @@ fn put_wait(
             put(text, b" takes from ")?;
             put_cause(alloc, text, file, plain, wait.cause)?;
             if (end.sess as usize) < plain.sessions() {
-                let pieces = [Said(b", ahead of it "), Place(plain.place(end))];
+                let place = plain.place(alloc, end)?;
+                let pieces = [Said(b", ahead of it "), Place(&place)];
                 put_pieces(alloc, text, &file.names, &pieces)?;
             }
         }

@@ -46,9 +46,10 @@ impl Course {
     ghost use Rattle.sj_plain.specs.Course.{GoesOn, IsOrdered, acts_in, file_in, world_in};
     ghost use Rattle.sj_plain.specs.Finishing.{ActsOnce, BreaksOff, GoesBy, Stays};
 
-    /// The course before any act.
-    pub fn start(alloc: Global, file: &File) -> Result<Course, NoMemory>
-        requires { IsAccepted (file_of file.now) }
+    /// The course before any act, over a table of the file's protocols.
+    pub fn start(alloc: Global, file: &File, table: Table) -> Result<Course, NoMemory>
+        requires accepted { IsAccepted (file_of file.now) }
+        requires starts { StartsAt table (file_of file.now).protocols }
         ensures file { IfOk result (λ c. file_in c ≡ without_words (file_of file.now)) }
         ensures acts { IfOk result (λ c. acts_in c ≡ []) }
         ensures world { IfOk result (λ c. world_in c ≡ start_of (file_of file.now)) }
@@ -56,7 +57,6 @@ impl Course {
     {
         let kept = copied_file(alloc, file)?;
         let machines = first_machines(alloc, file)?;
-        let table = Table::compile(alloc, &kept.protocols)?;
         let sessions = first_sessions(alloc, &table, &file.connects)?;
         Ok(Course {
             alloc,

@@ -61,7 +61,8 @@ impl Plain {
         ensures parties { IfOk result (λ p. party_count p ≡ length (kept_file p).parties) }
         ensures sessions { IfOk result (λ p. length (kept_file p).connects ≤ session_count p) }
     {
-        let course = Course::start(alloc, accepted.file())?;
+        let table = accepted.table().copied()?;
+        let course = Course::start(alloc, accepted.file(), table)?;
         Ok(Plain { course })
     }
 

@@ -25,7 +25,8 @@ pub fn start(alloc: Global, accepted: &Accepted, party: u16) -> Result<Play, NoM
     ensures played { IfOk result IsPlayed }
 {
     let file = accepted.file();
-    let mut course = Course::start(alloc, file)?;
+    let table = accepted.table().copied()?;
+    let mut course = Course::start(alloc, file, table)?;
     let machine = no_program(alloc, file, party)?;
     course.machines[party as usize] = machine;
     let numbered = numbered_ends(alloc, file, party)?;
