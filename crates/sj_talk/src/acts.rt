@@ -1,6 +1,5 @@
 //! What an accepted line does.
 ghost use Rattle.std.specs.Prelude.{◌≡◌, ◌<◌, ◌∷◌, ◌++◌, [], None, Some, false, IfOk, OnErr, OnOk};
-ghost use Rattle.sj_lang.specs.View.{place_of};
 ghost use Rattle.sj_semantics.specs.Uses.{begins, sends, takes};
 ghost use Rattle.sj_talk.specs.Doing.{after_form, answer_to, message_next, used_by};
 ghost use Rattle.sj_talk.specs.Forms as forms;
@@ -15,7 +14,7 @@ use crate::names::{Bound, added, unbind};
 use crate::places::carried_next;
 use crate::play::Play;
 use sj_base::{EndId, Msg, NoMemory};
-use sj_lang::{Item, Proto, copied};
+use sj_lang::{Proto, copied};
 use sj_plain::{Ahead, delegate_on, send_on, take_end_on, take_on};
 use sj_semantics::Passed;
 use std::alloc::Global;
@@ -231,7 +230,7 @@ impl Play {
         ensures played { IsPlayed self.new }
     {
         let ahead = self.place(end)?;
-        let place = carried_place(self.course.alloc, &ahead.items)?;
+        let place = carried_place(self.course.alloc, &ahead)?;
         let name = Vec::from_slice(self.course.alloc, name)?;
         let end = self.end(end);
         let by = self.party;
@@ -271,11 +270,11 @@ impl Play {
 }
 
 // A copy of the place of the ends that are carried first; the empty place where none are.
-fn carried_place(alloc: Global, items: &[Item]) -> Result<Proto, NoMemory>
-    ensures { IfOk result (λ p. p ≡ carried_next (place_of items.now)) }
+fn carried_place(alloc: Global, place: &Proto) -> Result<Proto, NoMemory>
+    ensures { IfOk result (λ p. p ≡ carried_next place.now) }
 {
-    match carried_next(items) {
-        Some(place) => copied(alloc, place),
+    match carried_next(&place.items) {
+        Some(carried) => copied(alloc, carried),
         None => {
             let items = Vec::new(alloc);
             Ok(Proto { items })

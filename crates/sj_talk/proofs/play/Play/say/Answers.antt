@@ -10,18 +10,18 @@ returns-in-None-clause-said c = (line_refused (talk_at c.args.self.now) c.args.l
 pub returns-in-None-clause-ok : goal.returns-in-None-clause-ok
 returns-in-None-clause-ok c = (line_refused (talk_at c.args.self.now) c.args.line.now None 1 c.in-None.ensures refl).1
 
-pub returns-in-Some-refusal-clause-said : goal.returns-in-Some-refusal-clause-said
-returns-in-Some-refusal-clause-said c = (line_refused (talk_at c.args.self.now) c.args.line.now (Some (form_at c.in-Some.form)) c.in-Some-refusal.rule c.in-Some.ensures c.in-Some-refusal.ensures).0
+pub returns-in-Ok-Some-clause-said : goal.returns-in-Ok-Some-clause-said
+returns-in-Ok-Some-clause-said c = (line_refused (talk_at c.args.self.now) c.args.line.now (Some (form_at c.in-Some.form)) c.in-Ok-Some.rule c.in-Some.ensures c.in-Ok-Some.ensures).0
 
-pub returns-in-Some-refusal-clause-ok : goal.returns-in-Some-refusal-clause-ok
-returns-in-Some-refusal-clause-ok c = (line_refused (talk_at c.args.self.now) c.args.line.now (Some (form_at c.in-Some.form)) c.in-Some-refusal.rule c.in-Some.ensures c.in-Some-refusal.ensures).1
+pub returns-in-Ok-Some-clause-ok : goal.returns-in-Ok-Some-clause-ok
+returns-in-Ok-Some-clause-ok c = (line_refused (talk_at c.args.self.now) c.args.line.now (Some (form_at c.in-Some.form)) c.in-Ok-Some.rule c.in-Some.ensures c.in-Ok-Some.ensures).1
 
-pub returns-in-None-refusal-clause-said : goal.returns-in-None-refusal-clause-said
-returns-in-None-refusal-clause-said c =
-    let d = line_done (talk_at c.args.self.now) c.args.line.now (form_at c.in-Some.form) c.in-Some.ensures c.in-None-refusal.ensures in
+pub returns-in-Ok-None-clause-said : goal.returns-in-Ok-None-clause-said
+returns-in-Ok-None-clause-said c =
+    let d = line_done (talk_at c.args.self.now) c.args.line.now (form_at c.in-Some.form) c.in-Some.ensures c.in-Ok-None.ensures in
     IfOk-weaker c.act.result _ _ (λ s a. a ∙ d.0) c.act.ensures.said
 
-pub returns-in-None-refusal-clause-ok : goal.returns-in-None-refusal-clause-ok
-returns-in-None-refusal-clause-ok c =
-    let d = line_done (talk_at c.args.self.now) c.args.line.now (form_at c.in-Some.form) c.in-Some.ensures c.in-None-refusal.ensures in
+pub returns-in-Ok-None-clause-ok : goal.returns-in-Ok-None-clause-ok
+returns-in-Ok-None-clause-ok c =
+    let d = line_done (talk_at c.args.self.now) c.args.line.now (form_at c.in-Some.form) c.in-Some.ensures c.in-Ok-None.ensures in
     on_ok_weaker c.act.result (λ a. a ∙ d.1) c.act.ensures.ok
