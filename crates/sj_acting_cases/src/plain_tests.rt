@@ -1,8 +1,9 @@
 //! A plain world of two parties, in which a turns so often and b follows, and what refuses an act. Whole
 //! files and their transcripts are cases of the program.
-use sj_base::{EndId, Msg};
+use sj_base::{EndId, Msg, NoMemory};
 use sj_plain::{Halt, Plain};
 use sj_semantics::{Awaits, Limit, Passed, State, Verdict, Want};
+use std::alloc::Global;
 use std::test::Fail;
 
 mod files;
