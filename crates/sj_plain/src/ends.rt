@@ -102,11 +102,18 @@ impl Session {
         if side == 0 { &self.first } else { &self.second }
     }
 
+    /// What is ahead of the end.
+    pub fn ahead(&self, side: u8) -> &Ahead
+        ensures { (t : Table) → ahead_of t result.now ≡ (end_on side (session_at t self.now)).place }
+    {
+        &self.end(side).place
+    }
+
     /// A copy of the items that are still ahead of the end.
     pub fn place(&self, alloc: Global, table: &Table, side: u8) -> Result<Proto, NoMemory>
         ensures { IfOk result (λ p. p ≡ (end_on side (session_at table.now self.now)).place) }
     {
-        self.end(side).place.place(alloc, table)
+        self.ahead(side).place(alloc, table)
     }
 
     /// All messages that the end sent, in order.
