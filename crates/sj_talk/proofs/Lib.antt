@@ -1,5 +1,6 @@
 mod ActLemmas
 mod AllowedLemmas
+mod FrontLemmas
 mod GuardLemmas
 mod HeldLemmas
 mod LineLemmas

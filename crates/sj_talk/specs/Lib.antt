@@ -1,5 +1,6 @@
 pub mod Words
 pub mod Forms
+pub mod Front
 pub mod Names
 pub mod TalkWorld
 pub mod Rules

@@ -78,6 +78,13 @@ abbrev pub carried_next : Place → Place
 carried_next (message w (session s) next) = s
 carried_next _ = done
 
+-- the first item alone
+abbrev pub front_of : Place → Place
+front_of done = done
+front_of (message w k next) = message w k done
+front_of (choice w arms next) = choice w arms done
+front_of (repeat w body next) = repeat w body done
+
 -- ---- of a talk world
 
 -- no end is under the name

@@ -17,7 +17,6 @@ use sj_base::{EndId, Msg, NoMemory};
 use sj_lang::{Proto, copied};
 use sj_plain::{Ahead, delegate_on, send_on, take_end_on, take_on};
 use sj_semantics::Passed;
-use std::alloc::Global;
 
 impl Play {
     /// Does what a line says that no rule refuses. Without memory nothing of it is done, but that its
@@ -229,8 +228,7 @@ impl Play {
         ensures err { OnErr result (talk_at self.new ≡ talk_at self.old) }
         ensures played { IsPlayed self.new }
     {
-        let ahead = self.place(end)?;
-        let place = carried_place(self.course.alloc, &ahead)?;
+        let place = self.carried_place(end)?;
         let name = Vec::from_slice(self.course.alloc, name)?;
         let end = self.end(end);
         let by = self.party;
@@ -261,23 +259,25 @@ impl Play {
         self.lines += 1;
     }
 
+    // A copy of the place of the ends that the end of that name carries next; the empty place where
+    // it carries none.
+    fn carried_place(&self, end: &[u8]) -> Result<Proto, NoMemory>
+        ensures { IfOk result (λ p. p ≡ carried_next (place_under (talk_at self.now) end.now)) }
+    {
+        let front = self.front(end)?;
+        match carried_next(front.items()) {
+            Some(carried) => copied(self.course.alloc, carried),
+            None => {
+                let items = Vec::new(self.course.alloc);
+                Ok(Proto { items })
+            }
+        }
+    }
+
     // The message that the end of that name can take next.
     fn next(&self, end: &[u8]) -> Msg
         ensures { result ≡ message_next (talk_at self.now) end.now }
     {
         self.head(end).unwrap_or(Msg::More(false))
-    }
-}
-
-// A copy of the place of the ends that are carried first; the empty place where none are.
-fn carried_place(alloc: Global, place: &Proto) -> Result<Proto, NoMemory>
-    ensures { IfOk result (λ p. p ≡ carried_next place.now) }
-{
-    match carried_next(&place.items) {
-        Some(carried) => copied(alloc, carried),
-        None => {
-            let items = Vec::new(alloc);
-            Ok(Proto { items })
-        }
     }
 }

@@ -3,6 +3,7 @@
 
 mod acts;
 mod form;
+mod front;
 mod laws;
 mod names;
 mod output;

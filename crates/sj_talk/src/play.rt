@@ -2,12 +2,15 @@
 ghost use Rattle.std.specs.Prelude.{◌≡◌, IfOk, OnErr, OnOk};
 ghost use Rattle.sj_talk.specs.Names.{label_number};
 ghost use Rattle.sj_talk.specs.Doing.{after_line, said_of};
+ghost use Rattle.sj_talk.specs.Front.{seen_in};
 ghost use Rattle.sj_talk.specs.Play.{IsPlayed, talk_at};
-ghost use Rattle.sj_talk.specs.Rules.{end_under, head_under, is_free, is_full, is_worn, place_under};
+ghost use Rattle.sj_talk.specs.Rules.{end_under, front_of, head_under, is_free, is_full, is_worn};
+ghost use Rattle.sj_talk.specs.Rules.{place_under};
 ghost use Rattle.sj_talk.specs.TalkWorld.{OnlyOthers, OnlyTexts, others_acted, talk_verdict};
 
 use crate::Said;
 use crate::form::form_in;
+use crate::front::{Front, front_at};
 use crate::names::{Bound, end_named, label_number};
 use crate::places::place;
 use crate::refusals::NO_FORM;
@@ -49,7 +52,21 @@ impl Play {
         }
     }
 
-    /// A copy of the place of the end under the name.
+    /// What stands first at the end under the name, lent.
+    pub fn front(&self, name: &[u8]) -> Result<Front<'_>, NoMemory>
+        ensures { IfOk result (λ f. front_of (seen_in f)
+            ≡ front_of (place_under (talk_at self.now) name.now)) }
+    {
+        let end = self.end(name);
+        front_at(
+            self.course.alloc,
+            &self.course.table,
+            &self.course.sessions,
+            end,
+        )
+    }
+
+    /// A copy of the whole place of the end under the name, for what looks behind its first item.
     pub fn place(&self, name: &[u8]) -> Result<Proto, NoMemory>
         ensures { IfOk result (λ p. p ≡ place_under (talk_at self.now) name.now) }
     {

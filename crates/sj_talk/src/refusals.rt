@@ -34,7 +34,8 @@ const AT_LIMIT: u8 = 6;
 const NOTHING_THERE: u8 = 7;
 
 impl Play {
-    /// The first rule that refuses what a line says. The places of its ends are copied.
+    /// The first rule that refuses what a line says. The place of an end that is delegated is copied,
+    /// and no other.
     pub fn refusal(&self, form: &Form<'_>) -> Result<Option<u8>, NoMemory>
         ensures { IfOk result (λ r. r ≡ refusal_of (talk_at self.now) (Some (form_at form.now))) }
     {
@@ -53,8 +54,8 @@ impl Play {
         ensures { IfOk result (λ r. r ≡ refusal_of (talk_at self.now)
             (Some (forms.send end.now (value_at value.now)))) }
     {
-        let place = self.place(end)?;
-        let items = &place.items;
+        let front = self.front(end)?;
+        let items = front.items();
         Ok(first_rule(&[
             (NOT_BOUND, self.is_free(end)),
             (BEGINS_OTHERWISE, !sends_value(items)),
@@ -67,8 +68,8 @@ impl Play {
         ensures { IfOk result (λ r. r
             ≡ refusal_of (talk_at self.now) (Some (forms.select end.now label.now))) }
     {
-        let place = self.place(end)?;
-        let items = &place.items;
+        let front = self.front(end)?;
+        let items = front.items();
         Ok(first_rule(&[
             (NOT_BOUND, self.is_free(end)),
             (BEGINS_OTHERWISE, !selects(items)),
@@ -81,10 +82,10 @@ impl Play {
         ensures { (more : Bool) → IfOk result (λ r. r
             ≡ refusal_of (talk_at self.now) (Some (forms.turn end.now more))) }
     {
-        let place = self.place(end)?;
+        let front = self.front(end)?;
         Ok(first_rule(&[
             (NOT_BOUND, self.is_free(end)),
-            (BEGINS_OTHERWISE, !turns(&place.items)),
+            (BEGINS_OTHERWISE, !turns(front.items())),
             (AT_LIMIT, self.is_full()),
         ]))
     }
@@ -93,8 +94,8 @@ impl Play {
         ensures { IfOk result (λ r. r
             ≡ refusal_of (talk_at self.now) (Some (forms.delegate end.now sent.now))) }
     {
-        let place = self.place(end)?;
-        let items = &place.items;
+        let front = self.front(end)?;
+        let items = front.items();
         let own = self.place(sent)?;
         Ok(first_rule(&[
             (NOT_BOUND, self.is_free(end) || self.is_free(sent)),
@@ -112,10 +113,10 @@ impl Play {
         ensures { IfOk result (λ r. r
             ≡ refusal_of (talk_at self.now) (Some (forms.take end.now))) }
     {
-        let place = self.place(end)?;
+        let front = self.front(end)?;
         Ok(first_rule(&[
             (NOT_BOUND, self.is_free(end)),
-            (BEGINS_OTHERWISE, !takes_no_end(&place.items)),
+            (BEGINS_OTHERWISE, !takes_no_end(front.items())),
             (AT_LIMIT, self.is_full()),
             (NOTHING_THERE, self.head(end).is_none()),
         ]))
@@ -125,10 +126,10 @@ impl Play {
         ensures { IfOk result (λ r. r
             ≡ refusal_of (talk_at self.now) (Some (forms.take_end end.now name.now))) }
     {
-        let place = self.place(end)?;
+        let front = self.front(end)?;
         Ok(first_rule(&[
             (NOT_BOUND, self.is_free(end)),
-            (BEGINS_OTHERWISE, !takes_end(&place.items)),
+            (BEGINS_OTHERWISE, !takes_end(front.items())),
             (WRONG_END, !self.is_free(name)),
             (AT_LIMIT, self.is_full()),
             (NOTHING_THERE, self.head(end).is_none()),
@@ -139,10 +140,10 @@ impl Play {
         ensures { IfOk result (λ r. r
             ≡ refusal_of (talk_at self.now) (Some (forms.close end.now))) }
     {
-        let place = self.place(end)?;
+        let front = self.front(end)?;
         Ok(first_rule(&[
             (NOT_BOUND, self.is_free(end)),
-            (BEGINS_OTHERWISE, !is_done(&place.items)),
+            (BEGINS_OTHERWISE, !is_done(front.items())),
             (AT_LIMIT, self.is_full()),
         ]))
     }

@@ -2,7 +2,6 @@ use Rattle.std.proofs.Common.{◌∙◌, ◌∷◌, ◌++◌, [], ap, arith}
 use Rattle.sj_semantics.specs.Uses.{begins, takes}
 use Rattle.sj_text.proofs.CutLemmas.{on_err}
 use Rattle.sj_talk.specs.Play.{ends_at, talk_at}
-use Rattle.sj_talk.specs.Rules.{carried_next}
 use Rattle.sj_talk.proofs.ActLemmas.{ends_more, stepped_is, still}
 use Rattle.sj_talk.proofs.play.Play.bind.Goals as goal
 
@@ -10,7 +9,7 @@ pub returns-clause-ok : goal.returns-clause-ok
 returns-clause-ok c =
     let t = talk_at c.args.self.now in
     stepped_is t _ _ _ _ (t.ends ++ (c.args.name.now, c.args.taken) ∷ [])
-    (λ i. (c.end-end.ensures i, takes c.args.msg.now) ∷ (c.args.taken, begins ((c.in_ok-place.ensures ∙ ap carried_next c.in_ok-ahead.ensures) i)) ∷ [])
+    (λ i. (c.end-end.ensures i, takes c.args.msg.now) ∷ (c.args.taken, begins (c.in_ok-place.ensures i)) ∷ [])
     c.in_ok-take_end_on.ensures.ok
     (ends_more _ _ _ _ _ c.push_reserved.ensures.items c.reserve.ensures.items c.in_ok-name.ensures.items)
 
