@@ -1,18 +1,16 @@
 -- The tests of meeting, over lists of items and over arms by their numbers.
 use Rattle.std.proofs.lemmas.Bool.{cases_Bool}
 use Rattle.std.proofs.lemmas.List.{at_drop_more}
-use Rattle.std.proofs.Common.{◌≡◌, ◌↔◌, ℕ, suc, ◌+◌, ◌<◌, ◌==◌, ◌&&◌, Bool, true, false, cond, IsTrue, List, [], ◌∷◌, length, get_or, drop, Option, Some, None, option_map, inl, inr, refl, ap, sym, ◌∙◌, arith}
+use Rattle.std.proofs.Common.{◌≡◌, ◌↔◌, ℕ, suc, ◌+◌, ◌<◌, ◌==◌, ◌&&◌, Bool, true, false, cond, IsTrue, List, [], ◌∷◌, length, get_or, drop, Option, Some, None, option_map, inl, inr, refl, ap, sym, ◌∙◌}
 use Rattle.sj_lang.specs.declared.proto.Kind.{Kind}
 use Rattle.sj_lang.specs.declared.proto.Item.{Item}
 use Rattle.sj_lang.specs.declared.proto.Item.TheVariants.{Send, Recv, Select, Branch, OutLoop, InLoop}
 use Rattle.sj_lang.specs.Place.{Place, Choices, done, no_choice, arm}
-use Rattle.sj_lang.specs.View.{carried_of, choices_of, place_of, followed}
-use Rattle.sj_lang.specs.After.{arm_count, arm_rest, at_label}
+use Rattle.sj_lang.specs.View.{carried_of, place_of, followed}
+use Rattle.sj_lang.specs.After.{at_label}
 use Rattle.sj_lang.specs.Dual.{dual_choices, dual_item}
 use Rattle.sj_lang.specs.SamePlace.{is_same_carried}
 use Rattle.sj_lang.specs.MeetTests.{passes, each_label, meets, arm_meets, seen, arms_seen}
-use Rattle.sj_lang.specs.declared.proto.Arm.{Arm}
-use Rattle.sj_lang.proofs.ArmLemmas.{arm_count-choices_of, arm_rest-choices_of}
 use Rattle.sj_lang.proofs.DualLemmas.{dual_of-followed}
 use Rattle.sj_lang.proofs.MeetLemmas.{at_label-dual}
 use Rattle.sj_lang.proofs.SameLemmas.{is_same_carried-from}
@@ -146,12 +144,6 @@ no_arm_first t a l o e = sym (fails (arm_meets (arms_seen t a) l) o (λ q. no_ar
 
 pub no_arm_second : (t : Bool) (a : Choices) (l : ℕ) (o : Option Place) → o ≡ None → false ≡ passes (arm_meets (arms_seen t a) l) o
 no_arm_second t a l o e = sym (ap (passes (arm_meets (arms_seen t a) l)) e)
-
--- the arm of that number, among the arms of a choice
-pub arm_found : (items : List Arm) (v : Choices) (l i : ℕ) (a : Arm) → choices_of items ≡ v → i < arm_count v → at_label l v ≡ Some (arm_rest i v) → a ≡ get_or items i a → at_label l v ≡ Some a.rest
-arm_found items v l i a view below found at =
-    found ∙ ap (λ (w : Choices). Some (arm_rest i w)) (sym view)
-    ∙ ap (λ (p : Place). Some p) (arm_rest-choices_of items i a (omega (arith, arm_count-choices_of items, ap arm_count view)) ∙ ap (λ (b : Arm). b.rest) (sym at))
 
 -- ---- one item
 

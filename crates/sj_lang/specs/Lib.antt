@@ -1,4 +1,5 @@
 pub mod After
+pub mod Alike
 pub mod Code
 pub mod CodeView
 pub mod Dual
