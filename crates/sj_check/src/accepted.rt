@@ -1,5 +1,6 @@
 //! Accepted files.
-ghost use Rattle.std.specs.Prelude.{◌≡◌, ℕ, None};
+ghost use Rattle.std.specs.Prelude.{◌≡◌, ℕ, None, IfOk};
+ghost use Rattle.std.specs.Arc.{arc_value};
 ghost use Rattle.std.specs.Coded.{Coded-set};
 ghost use Rattle.sj_lang.specs.FileAt.{body_named};
 ghost use Rattle.sj_lang.specs.FileView.{file_of};
@@ -9,17 +10,20 @@ ghost use Rattle.sj_acceptance.specs.Faults.{first_fault};
 ghost use Rattle.sj_acceptance.specs.FileTests.{tests_of};
 ghost use Rattle.sj_table.specs.Spots.{start_in};
 
+use sj_base::NoMemory;
 use sj_lang::File;
 use sj_table::Table;
+use std::sync::Arc;
 
-/// A file that is accepted, within the limits, with the table of its protocols.
+/// A file that is accepted, within the limits, with the table of its protocols. The file is shared
+/// by all who keep it, in any threads.
 #[derive(Drop)]
 pub struct Accepted {
-    pub(crate) file: File,
+    pub(crate) file: Arc<File>,
     pub(crate) table: Table,
-    ghost starts: { (p : ℕ) → start_in table p ≡ body_named (file_of file).protocols p } by { Prim.hlevel (Coded-set, coded_place) },
-    ghost within: { IsWithin limits (file_of file) },
-    ghost accepted: { first_fault (tests_of (file_of file)) ≡ None },
+    ghost starts: { (p : ℕ) → start_in table p ≡ body_named (file_of (arc_value file)).protocols p } by { Prim.hlevel (Coded-set, coded_place) },
+    ghost within: { IsWithin limits (file_of (arc_value file)) },
+    ghost accepted: { first_fault (tests_of (file_of (arc_value file))) ≡ None },
 }
 
 impl Accepted {
@@ -32,6 +36,13 @@ impl Accepted {
         ensures accepted { IsAccepted (file_of result.now) }
     {
         &self.file
+    }
+
+    /// The same file, for those who keep it. It is refused where there are 2^63 - 1 such already.
+    pub fn shared(&self) -> Result<Arc<File>, NoMemory>
+        ensures { IfOk result (λ f. arc_value f ≡ file_in self.now) }
+    {
+        Ok(Arc::try_clone(&self.file)?)
     }
 
     /// The table of the file's protocols. Its copies have their nodes in common.

@@ -15,6 +15,7 @@ use crate::{Accepted, CheckRefusal};
 use sj_lang::File;
 use sj_table::Table;
 use std::alloc::Global;
+use std::sync::Arc;
 
 /// Accepts the file, or gives it back with its first fault.
 pub fn check(alloc: Global, file: File) -> Result<Accepted, (File, CheckRefusal)>
@@ -27,9 +28,13 @@ pub fn check(alloc: Global, file: File) -> Result<Accepted, (File, CheckRefusal)
     ensures fault { IfErr result (λ e. Tells (first_fault (tests_of (file_of file))) e.1) }
     ensures refused { IfErr result (λ e. e.1 ≢ CheckRefusal.NoMemory → ¬ IsAccepted (file_of file)) }
 {
-    match walked_over(alloc, &file) {
-        Ok(table) => Ok(Accepted { file, table }),
-        Err(refusal) => Err((file, refusal)),
+    let table = match walked_over(alloc, &file) {
+        Ok(table) => table,
+        Err(refusal) => return Err((file, refusal)),
+    };
+    match Arc::new(alloc, file) {
+        Ok(file) => Ok(Accepted { file, table }),
+        Err(refused) => Err((refused.value, CheckRefusal::NoMemory)),
     }
 }
 

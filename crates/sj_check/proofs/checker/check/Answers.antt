@@ -11,8 +11,8 @@ faultless : (o : Option (ℕ × ℕ)) (r : CheckRefusal) → Tells o r → r ≢
 faultless o (At rule line) told other none = absurd (cc)
 faultless o NoMemory told other none = other refl
 
-pub returns-in-Ok-clause-accepted : goal.returns-in-Ok-clause-accepted
-returns-in-Ok-clause-accepted c = accepted_from (file_of c.args.file) c.requires c.in-Ok.ensures.ok
+pub returns-in-Ok-new-clause-accepted : goal.returns-in-Ok-new-clause-accepted
+returns-in-Ok-new-clause-accepted c = accepted_from (file_of c.args.file) c.requires c.in-Ok.ensures.ok
 
 pub returns-in-Err-clause-refused : goal.returns-in-Err-clause-refused
 returns-in-Err-clause-refused c = λ other accepted. faultless _ c.in-Err.refusal c.in-Err.ensures.fault other (accepted_to (file_of c.args.file) accepted)
