@@ -67,13 +67,13 @@ pub(crate) fn kind_of(stand: &Stand) -> Kind
 }
 
 /// The end where its record is in use.
-pub(crate) fn use_of_record(hop: usize, record: &Record) -> Option<Use>
-    ensures { result ≡ option_map use_of (held_at hop (Some (record_at record.now))) }
+pub(crate) fn use_of_record(hop: usize, kept: &Record) -> Option<Use>
+    ensures { result ≡ option_map use_of (held_at hop (Some (record_at kept.now))) }
 {
-    match &record.stand {
+    match &kept.stand {
         Stand::Held(untaken) => Some(Use {
             hop,
-            behind: record.behind,
+            behind: kept.behind,
             first: untaken.front().copied(),
         }),
         Stand::Parked(_) => None,
@@ -112,7 +112,7 @@ pub(crate) fn close_record(place: &mut Option<Record>)
         option_map record_at place.new ≡ Some (record { behind = h.behind; state = rules.Closed }) }
 {
     match place {
-        Some(record) => record.stand = Stand::Closed,
+        Some(kept) => kept.stand = Stand::Closed,
         None => unreachable!(),
     }
 }
@@ -124,7 +124,7 @@ pub(crate) fn take_from_record(place: &mut Option<Record>) -> Sent
         LeavesFirst h (sent_at result) (option_map record_at place.new) }
 {
     match place {
-        Some(record) => take_from_stand(&mut record.stand),
+        Some(kept) => take_from_stand(&mut kept.stand),
         None => unreachable!(),
     }
 }

@@ -43,7 +43,7 @@ impl Slot {
             return None;
         }
         match &self.records[hop] {
-            Some(record) => use_of_record(hop, record),
+            Some(kept) => use_of_record(hop, kept),
             None => None,
         }
     }
@@ -57,9 +57,9 @@ impl Slot {
             return None;
         }
         match &self.records[hop] {
-            Some(record) => Some(Seen {
-                behind: record.behind,
-                kind: kind_of(&record.stand),
+            Some(kept) => Some(Seen {
+                behind: kept.behind,
+                kind: kind_of(&kept.stand),
             }),
             None => None,
         }
