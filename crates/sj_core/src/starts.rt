@@ -1,14 +1,12 @@
 //! A core world before any event.
-ghost use Rattle.std.specs.Prelude.{◌≡◌, ℕ, [], IfErr, IfOk, length, map};
+ghost use Rattle.std.specs.Prelude.{◌≡◌, [], IfErr, IfOk, length, map};
 ghost use Rattle.sj_check.specs.Held.{file_in as held};
 ghost use Rattle.sj_core.specs.Nodes.{AreFirst};
 ghost use Rattle.sj_core.specs.Replaying.{IsMisfitFrom};
 ghost use Rattle.sj_core.specs.Views.{line_at};
-ghost use Rattle.sj_lang.specs.FileAt.{body_named};
 ghost use Rattle.sj_lang.specs.FileView.{file_of};
 ghost use Rattle.sj_plain.specs.Kept.{without_words};
 ghost use Rattle.sj_rules.specs.Start.{core_start};
-ghost use Rattle.sj_table.specs.Spots.{start_in};
 
 use crate::ReplayRefusal;
 use crate::node_world::NodeWorld;
@@ -17,8 +15,7 @@ use sj_base::NoMemory;
 use sj_check::Accepted;
 use sj_end::Line;
 use sj_node::Node;
-use sj_plain::copied_file;
-use sj_table::Table;
+use sj_plain::Kept;
 use std::alloc::Global;
 
 /// The nodes of all parties before any event, by the parties' numbers. Frames carry spots from node to
@@ -26,14 +23,7 @@ use std::alloc::Global;
 pub fn first_nodes(alloc: Global, accepted: &Accepted) -> Result<Vec<Node>, NoMemory>
     ensures { IfOk result (λ nodes. AreFirst (without_words (file_of (held accepted.now))) nodes.items) }
 {
-    nodes_over(alloc, accepted, accepted.table())
-}
-
-/// The same over that table.
-fn nodes_over(alloc: Global, accepted: &Accepted, table: &Table) -> Result<Vec<Node>, NoMemory>
-    requires { (p : ℕ) → start_in table.now p ≡ body_named (file_of (held accepted.now)).protocols p }
-    ensures { IfOk result (λ nodes. AreFirst (without_words (file_of (held accepted.now))) nodes.items) }
-{
+    let table = accepted.table();
     let parties = accepted.file().parties.len();
     let mut nodes = Vec::new(alloc);
     for party in 0..parties {
@@ -47,8 +37,8 @@ fn nodes_over(alloc: Global, accepted: &Accepted, table: &Table) -> Result<Vec<N
 impl NodeWorld {
     ghost use Rattle.sj_core.specs.NodeWorld.{IsReached, file_in, history_in, world_in};
 
-    /// The parties of the file before any event, with nothing in their lanes. It copies what it needs
-    /// of the file.
+    /// The parties of the file before any event, with nothing in their lanes. It has the file in common
+    /// with all who keep it.
     fn begin(alloc: Global, accepted: &Accepted) -> Result<NodeWorld, NoMemory>
         ensures reached { IfOk result (λ c. IsReached c) }
         ensures file { IfOk result (λ c. file_in c ≡ without_words (file_of (held accepted.now))) }
@@ -56,7 +46,9 @@ impl NodeWorld {
         ensures world { IfOk result (λ c. world_in c ≡ core_start (file_of (held accepted.now))) }
     {
         let nodes = first_nodes(alloc, accepted)?;
-        let kept = copied_file(alloc, accepted.file())?;
+        let kept = Kept::of(accepted)?;
+        // That it is accepted is what the type keeps.
+        let _ = accepted.file();
         let history = Vec::new(alloc);
         Ok(NodeWorld {
             alloc,

@@ -1,5 +1,5 @@
 -- The parties and sessions at the start, one after another.
-use Rattle.std.proofs.Common.{◌≡◌, ℕ, zero, suc, ◌+◌, ◌<◌, List, [], ◌∷◌, ◌++◌, map, length, take, get_or, slice_get, Some, refl, ap, sym, ◌∙◌, arith}
+use Rattle.std.proofs.Common.{◌≡◌, ℕ, zero, suc, ◌+◌, List, [], ◌∷◌, ◌++◌, map, length, take, slice_get, Some, refl, ap, sym, ◌∙◌, arith}
 use Rattle.std.proofs.lemmas.List.{map-append}
 use Rattle.sj_lang.specs.FileAt.{FileAt, PartyAt, ProtocolAt, ConnectAt, body_named, end_of_party, ends_from}
 use Rattle.sj_semantics.specs.declared.Opened.{Opened}
@@ -43,19 +43,6 @@ take_suc (a ∷ xs) (suc i) x h = ap (λ t. a ∷ t) (take_suc xs i x h)
 
 pub take_next : {X : Type 0} (xs : List X) (i : ℕ) (x : X) → slice_get xs i ≡ Some x → take (i + 1) xs ≡ take i xs ++ x ∷ []
 take_next xs i x h = ap (λ n. take n xs) (let e : i + 1 ≡ suc i = omega arith in e) ∙ take_suc xs i x h
-
-map_suc : {X Y : Type 0} (view : X → Y) (xs : List X) (i : ℕ) (x : X) → i < length xs → x ≡ get_or xs i x → map view (take (suc i) xs) ≡ map view (take i xs) ++ view x ∷ []
-map_suc view [] i x lt h = absurd (omega arith)
-map_suc view (a ∷ xs) zero x lt h = ap (λ t. view t ∷ []) (sym h)
-map_suc view (a ∷ xs) (suc i) x lt h = ap (λ t. view a ∷ t) (map_suc view xs i x (omega arith) h)
-
--- one more element that is seen as the one at its index
-pub map_next : {X Y : Type 0} (view : X → Y) (xs out : List X) (i : ℕ) (x y : X) → i < length xs → x ≡ get_or xs i x → view y ≡ view x → map view out ≡ map view (take i xs) → map view (out ++ y ∷ []) ≡ map view (take (i + 1) xs)
-map_next view xs out i x y lt h same so_far =
-    map-append view out (y ∷ [])
-    ∙ (λ j. so_far j ++ same j ∷ [])
-    ∙ sym (map_suc view xs i x lt h)
-    ∙ ap (λ n. map view (take n xs)) (let e : suc i ≡ i + 1 = omega arith in e)
 
 -- one more element that is seen as the next of a list
 pub seen_next : {X Y : Type 0} (view : X → Y) (ys : List Y) (out : List X) (i : ℕ) (x : X) → slice_get ys i ≡ Some (view x) → map view out ≡ take i ys → map view (out ++ x ∷ []) ≡ take (i + 1) ys

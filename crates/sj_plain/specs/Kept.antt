@@ -1,7 +1,7 @@
--- What a plain world keeps of its file.
-use Rattle.std.specs.Prelude.{[], map}
+-- What a world keeps of its file.
+use Rattle.std.specs.Prelude.{[]}
 use Rattle.sj_lang.specs.FileAt.{FileAt}
-use Rattle.sj_lang.specs.FileView.{protocol_of, party_of, connect_of}
+use Rattle.sj_lang.specs.FileView.{file_of}
 use Rattle.sj_plain.specs.declared.kept.Kept.{Kept}
 
 -- the file without its tables of words and of texts
@@ -16,10 +16,4 @@ without_words file = record {
 
 -- what is kept, as a file that names no words
 abbrev pub file_kept : Kept → FileAt
-file_kept k = record {
-  words = [];
-  texts = [];
-  protocols = map protocol_of k.protocols.items;
-  parties = map party_of k.parties.items;
-  connects = map connect_of k.connects.items;
-}
+file_kept k = without_words (file_of k)

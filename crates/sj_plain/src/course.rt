@@ -1,6 +1,7 @@
 //! A course of acts: a file's parties and sessions as the acts so far have left them.
 ghost use Rattle.std.specs.Prelude.{◌≡◌, ◌<◌, ◌≤◌, ◌∷◌, ◌++◌, [], None, Some, true, false, length, map, option_map, slice_get, unwrap_or, IfOk, MatchResult, OnErr, OnOk};
 ghost use Rattle.sj_acceptance.specs.Accepted.{IsAccepted};
+ghost use Rattle.sj_check.specs.Held.{file_in as held};
 ghost use Rattle.std.specs.Coded.{Coded-set};
 ghost use Rattle.sj_lang.specs.FileView.{connect_of, file_of, protocol_of};
 ghost use Rattle.sj_lang.specs.PlaceCode.{coded_place};
@@ -19,9 +20,10 @@ ghost use Rattle.sj_semantics.specs.declared.Want.TheVariants.{Ended};
 
 use crate::Halt;
 use crate::ends::Session;
-use crate::kept::{Kept, copied_file};
+use crate::kept::Kept;
 use crate::progress::step;
 use sj_base::NoMemory;
+use sj_check::Accepted;
 use sj_lang::{Connect, File};
 use sj_machine::Machine;
 use sj_semantics::{Opened, State, Want};
@@ -46,16 +48,18 @@ impl Course {
     ghost use Rattle.sj_plain.specs.Course.{GoesOn, IsOrdered, acts_in, file_in, world_in};
     ghost use Rattle.sj_plain.specs.Finishing.{ActsOnce, BreaksOff, GoesBy, Stays};
 
-    /// The course before any act, over a table of the file's protocols.
-    pub fn start(alloc: Global, file: &File, table: Table) -> Result<Course, NoMemory>
-        requires accepted { IsAccepted (file_of file.now) }
-        requires starts { StartsAt table (file_of file.now).protocols }
-        ensures file { IfOk result (λ c. file_in c ≡ without_words (file_of file.now)) }
+    /// The course of an accepted file before any act. It has the file and its table in common with all
+    /// who keep them.
+    pub fn start(alloc: Global, accepted: &Accepted) -> Result<Course, NoMemory>
+        ensures accepted { OnOk result (IsAccepted (file_of (held accepted.now))) }
+        ensures file { IfOk result (λ c. file_in c ≡ without_words (file_of (held accepted.now))) }
         ensures acts { IfOk result (λ c. acts_in c ≡ []) }
-        ensures world { IfOk result (λ c. world_in c ≡ start_of (file_of file.now)) }
+        ensures world { IfOk result (λ c. world_in c ≡ start_of (file_of (held accepted.now))) }
         ensures ordered { IfOk result IsOrdered }
     {
-        let kept = copied_file(alloc, file)?;
+        let kept = Kept::of(accepted)?;
+        let table = accepted.table().copied()?;
+        let file = accepted.file();
         let machines = first_machines(alloc, file)?;
         let sessions = first_sessions(alloc, &table, &file.connects)?;
         Ok(Course {

@@ -17,6 +17,6 @@ pub use ahead::Ahead;
 pub use course::Course;
 pub use ends::Session;
 pub use halt::Halt;
-pub use kept::{Kept, copied_file};
+pub use kept::Kept;
 pub use plain::Plain;
 pub use uses::{delegate_on, hops, next_message, send_on, take_end_on, take_on};

@@ -49,7 +49,7 @@ impl Plain {
     ghost use Rattle.sj_plain.specs.Course.{GoesOn};
     ghost use Rattle.sj_plain.specs.Plain.{acts_of, end_in, kept_file, party_count, session_count, world_at};
 
-    /// The world before the first act. It copies what it needs of the file.
+    /// The world before the first act. It has the file in common with all who keep it.
     pub fn start(alloc: Global, accepted: &Accepted) -> Result<Plain, NoMemory>
         // The file's start.
         ensures kept { IfOk result (λ p. kept_file p ≡ without_words (file_of (held accepted.now))) }
@@ -61,8 +61,7 @@ impl Plain {
         ensures parties { IfOk result (λ p. party_count p ≡ length (kept_file p).parties) }
         ensures sessions { IfOk result (λ p. length (kept_file p).connects ≤ session_count p) }
     {
-        let table = accepted.table().copied()?;
-        let course = Course::start(alloc, accepted.file(), table)?;
+        let course = Course::start(alloc, accepted)?;
         Ok(Plain { course })
     }
 

@@ -1,5 +1,6 @@
 mod ActLemmas
 mod AllowedLemmas
+mod CopyLemmas
 mod FrontLemmas
 mod GuardLemmas
 mod HeldLemmas

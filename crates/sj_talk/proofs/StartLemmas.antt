@@ -18,8 +18,7 @@ use Rattle.sj_headline_laws.proofs.PlacedLemmas.{party_there}
 use Rattle.sj_machine.specs.declared.machine.Machine.{Machine}
 use Rattle.sj_machine.specs.Sound.{program_at}
 use Rattle.sj_plain.proofs.UseLemmas.{map-set}
-use Rattle.sj_plain.specs.Kept.{without_words}
-use Rattle.sj_talk.specs.Names.{Ends, connected_ends, once, shown_file}
+use Rattle.sj_talk.specs.Names.{Ends, connected_ends, shown_file}
 use Rattle.sj_talk.specs.Play.{idle_file, idle_parties}
 use Rattle.sj_talk.specs.TalkWorld.{no_program, talk_start, world_without}
 
@@ -106,17 +105,6 @@ world_begun file w gs p e h =
     λ i. record { protocols = (e i).protocols; parties = parts i; sessions = (e i).sessions; requests = (e i).requests }
 
 -- ---- the parts of a talk that begins
-
--- the file with each word once
-pub shown_is : (file f kept : FileAt) → kept ≡ without_words file → f.words ≡ once file.words → f.texts ≡ once file.texts → f.protocols ≡ kept.protocols → f.parties ≡ kept.parties → f.connects ≡ kept.connects
-    → f ≡ shown_file file
-shown_is file f kept e words texts protocols parties connects = λ i. record {
-  words = words i;
-  texts = texts i;
-  protocols = (protocols ∙ ap (λ k. k.protocols) e) i;
-  parties = (parties ∙ ap (λ k. k.parties) e) i;
-  connects = (connects ∙ ap (λ k. k.connects) e) i;
-}
 
 pub talk_begun : (file shown : FileAt) (p : ℕ) (w : World) (ends : Ends) → shown ≡ shown_file file → w ≡ world_without file p → ends ≡ connected_ends file p
     → record { file = shown; party = p; world = w; ends = ends; lines = 0 } ≡ talk_start file p

@@ -2,6 +2,7 @@
 #![tactic(auto)]
 
 mod acts;
+mod copies;
 mod form;
 mod front;
 mod laws;

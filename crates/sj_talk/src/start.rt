@@ -9,13 +9,14 @@ ghost use Rattle.sj_talk.specs.Names.{shown_file, spelled, word_at};
 ghost use Rattle.sj_talk.specs.Play.{IsPlayed, ends_at, idle_parties, talk_at};
 ghost use Rattle.sj_talk.specs.TalkWorld.{no_program, talk_start};
 
+use crate::copies::{copied_parties, copied_protocols};
 use crate::names::{Bound, once};
 use crate::play::Play;
 use sj_base::{EndId, NoMemory};
 use sj_check::Accepted;
 use sj_lang::{EndDecl, File, Names, Party, Words};
 use sj_machine::{Machine, party_of_name};
-use sj_plain::{Course, copied_file};
+use sj_plain::Course;
 use std::alloc::Global;
 
 /// The start of the file, where the party is played.
@@ -25,8 +26,7 @@ pub fn start(alloc: Global, accepted: &Accepted, party: u16) -> Result<Play, NoM
     ensures played { IfOk result IsPlayed }
 {
     let file = accepted.file();
-    let table = accepted.table().copied()?;
-    let mut course = Course::start(alloc, file, table)?;
+    let mut course = Course::start(alloc, accepted)?;
     let machine = no_program(alloc, file, party)?;
     course.machines[party as usize] = machine;
     let numbered = numbered_ends(alloc, file, party)?;
@@ -76,12 +76,14 @@ fn shown_file(alloc: Global, file: &File) -> Result<File, NoMemory>
 {
     let words = once(alloc, &file.names.words)?;
     let texts = once(alloc, &file.names.texts)?;
-    let kept = copied_file(alloc, file)?;
+    let protocols = copied_protocols(alloc, &file.protocols)?;
+    let parties = copied_parties(alloc, &file.parties)?;
+    let connects = Vec::from_slice(alloc, &file.connects)?;
     Ok(File {
         names: Names { words, texts },
-        protocols: kept.protocols,
-        parties: kept.parties,
-        connects: kept.connects,
+        protocols,
+        parties,
+        connects,
     })
 }
 

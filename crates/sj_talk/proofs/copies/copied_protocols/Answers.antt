@@ -1,7 +1,7 @@
 use Rattle.std.proofs.Common.{◌∙◌, ap, map}
 use Rattle.sj_lang.specs.FileView.{protocol_of}
-use Rattle.sj_plain.proofs.BeginLemmas.{map_next}
-use Rattle.sj_plain.proofs.kept.copied_protocols.Goals as goal
+use Rattle.sj_talk.proofs.CopyLemmas.{map_next}
+use Rattle.sj_talk.proofs.copies.copied_protocols.Goals as goal
 
 pub loop-protocol-preserved : goal.loop-protocol-preserved
 loop-protocol-preserved c =

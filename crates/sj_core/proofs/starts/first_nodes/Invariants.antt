@@ -1,7 +1,7 @@
 use Rattle.sj_check.specs.Held.{file_in}
 use Rattle.sj_lang.specs.FileView.{file_of}
 use Rattle.sj_core.specs.Nodes.{AreBegun}
-use Rattle.sj_core.proofs.starts.nodes_over.Given as goal
+use Rattle.sj_core.proofs.starts.first_nodes.Given as goal
 
 -- the nodes of the parties so far
 abbrev pub invariant-loop-party : goal.invariant-loop-party
