@@ -8,6 +8,7 @@ mod pieces;
 mod transcript;
 mod version;
 
+pub use lines::print_verdict;
 pub use log::print_line;
 pub use messages::print_message;
 pub use pieces::print_name;

@@ -18,6 +18,7 @@ use crate::pieces::{Piece, put_line};
 use sj_base::{EndId, NoMemory};
 use sj_lang::{Connect, File};
 use sj_semantics::{Limit, Opened, Passed, State, Verdict};
+use sj_text::put;
 
 /// The line of a session: its number, and the party and the name of each end.
 pub(crate) fn put_session(
@@ -165,16 +166,16 @@ pub(crate) fn put_party(
     }
 }
 
-/// The line of the verdict.
-pub(crate) fn put_verdict(text: &mut Vec<u8>, file: &File, verdict: Verdict) -> Result<(), NoMemory>
+/// Puts the line of the verdict behind the text.
+pub fn print_verdict(text: &mut Vec<u8>, verdict: Verdict) -> Result<(), NoMemory>
     ensures ok { OnOk result (text.new.items
         ≡ text.old.items ++ line_of (verdict_word verdict ∷ [])) }
     ensures err { OnErr result (IsCutShort text.old.items
         (line_of (verdict_word verdict ∷ [])) text.new.items) }
 {
     match verdict {
-        Verdict::Done => put_line(text, file, &[], Piece::Plain(b"done")),
-        Verdict::Blocked => put_line(text, file, &[], Piece::Plain(b"blocked")),
-        Verdict::Long => put_line(text, file, &[], Piece::Plain(b"long")),
+        Verdict::Done => put(text, b"done\n"),
+        Verdict::Blocked => put(text, b"blocked\n"),
+        Verdict::Long => put(text, b"long\n"),
     }
 }

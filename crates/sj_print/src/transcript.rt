@@ -11,7 +11,7 @@ ghost use Rattle.sj_semantics.specs.Run.{IsRun};
 ghost use Rattle.sj_semantics.specs.Transcript.{opened_lines, party_lines, session_lines, transcript_of};
 ghost use Rattle.sj_print.specs.Parts.{opened_part, session_part};
 
-use crate::lines::{put_opened, put_party, put_sent, put_session, put_verdict};
+use crate::lines::{print_verdict, put_opened, put_party, put_sent, put_session};
 use sj_base::{EndId, NoMemory};
 use sj_lang::{Connect, File};
 use sj_plain::Plain;
@@ -33,7 +33,7 @@ pub fn print_transcript(text: &mut Vec<u8>, file: &File, plain: &Plain) -> Resul
     put_sessions(text, file, plain)?;
     put_all_opened(text, file, plain, plain.opened())?;
     put_parties(text, file, plain)?;
-    put_verdict(text, file, plain.verdict())
+    print_verdict(text, plain.verdict())
 }
 
 fn put_sessions(text: &mut Vec<u8>, file: &File, plain: &Plain) -> Result<(), NoMemory>

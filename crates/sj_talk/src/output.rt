@@ -5,7 +5,7 @@ ghost use Rattle.std.specs.Prelude.{◌≡◌, ◌==◌, ◌<◌, ◌∷◌, ◌
 ghost use Rattle.std.specs.List.{position_or_len};
 ghost use Rattle.sj_lang.specs.FileView.{file_of};
 ghost use Rattle.sj_semantics.specs.Lines.{line_of, message_words};
-ghost use Rattle.sj_talk.specs.Output.{said_words, talk_end, talk_text, verdict_line};
+ghost use Rattle.sj_talk.specs.Output.{said_words, talk_end, talk_text};
 ghost use Rattle.sj_talk.specs.Talk.{talk_of};
 ghost use Rattle.sj_talk.specs.Words.{lines_in};
 
@@ -13,7 +13,7 @@ use crate::words::first_at;
 use crate::{Said, Talk};
 use sj_base::{Msg, NoMemory};
 use sj_lang::File;
-use sj_print::print_message;
+use sj_print::{print_message, print_verdict};
 use sj_semantics::Verdict;
 use sj_text::{put, put_number};
 
@@ -35,7 +35,7 @@ pub fn talk_lines(talk: &mut Talk, lines: &[u8], text: &mut Vec<u8>) -> Result<V
         left = behind(left, end);
     }
     let verdict = talk.finish()?;
-    put_verdict(text, verdict)?;
+    print_verdict(text, verdict)?;
     Ok(verdict)
 }
 
@@ -83,15 +83,4 @@ fn put_refused(text: &mut Vec<u8>, number: u64, rule: u64) -> Result<(), NoMemor
     put(text, b" G")?;
     put_number(text, rule)?;
     put(text, b"\n")
-}
-
-// The line of the verdict.
-fn put_verdict(text: &mut Vec<u8>, verdict: Verdict) -> Result<(), NoMemory>
-    ensures { OnOk result (text.new.items ≡ text.old.items ++ verdict_line verdict) }
-{
-    match verdict {
-        Verdict::Done => put(text, b"done\n"),
-        Verdict::Blocked => put(text, b"blocked\n"),
-        Verdict::Long => put(text, b"long\n"),
-    }
 }

@@ -4,14 +4,13 @@ ghost use Rattle.sj_lang.specs.FileView.{file_of};
 ghost use Rattle.sj_lang.specs.Limits.{limits};
 ghost use Rattle.sj_plain.specs.Plain.{party_count, session_count, world_at};
 ghost use Rattle.sj_generator_laws.specs.Counts.{messages_in, steps_in};
-ghost use Rattle.sj_semantics.specs.Transcript.{line_of, verdict_word};
 ghost use Rattle.sj_tool.specs.Sums.{summary, sums_line};
-ghost use Rattle.std.specs.Prelude.{[], ◌∷◌, ◌+◌, decimal};
+ghost use Rattle.std.specs.Prelude.{◌+◌, decimal};
 
 use sj_base::{EndId, NoMemory};
 use sj_lang::File;
 use sj_plain::Plain;
-use sj_semantics::Verdict;
+use sj_print::print_verdict;
 use sj_text::{put, put_number};
 use std::alloc::Global;
 
@@ -31,7 +30,7 @@ pub(crate) fn summary_text(
     let steps = steps(plain)?;
     let mut text = Vec::new(alloc);
     put_sums(&mut text, n, file, messages, steps)?;
-    put_verdict(&mut text, plain.verdict())?;
+    print_verdict(&mut text, plain.verdict())?;
     Ok(text)
 }
 
@@ -59,16 +58,6 @@ fn put_count(text: &mut Vec<u8>, name: &[u8], count: u64) -> Result<(), NoMemory
 {
     put(text, name)?;
     put_number(text, count)
-}
-
-fn put_verdict(text: &mut Vec<u8>, verdict: Verdict) -> Result<(), NoMemory>
-    ensures { OnOk result (text.new.items ≡ text.old.items ++ line_of (verdict_word verdict ∷ [])) }
-{
-    match verdict {
-        Verdict::Done => put(text, b"done\n"),
-        Verdict::Blocked => put(text, b"blocked\n"),
-        Verdict::Long => put(text, b"long\n"),
-    }
 }
 
 // How many sessions there are by their numbers.

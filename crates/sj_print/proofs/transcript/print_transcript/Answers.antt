@@ -46,21 +46,21 @@ returns-in_err-put_parties-clause-err c =
 pub returns-clause-ok : goal.returns-clause-ok
 returns-clause-ok c =
     let file = file_of c.args.file.now in let w = world_at c.args.plain.now in let old = c.args.text.now.items in
-    let mid = c.put_sessions.new.text.items in let next = c.put_all_opened.new.text.items in let last = c.put_parties.new.text.items in let new = c.put_verdict.new.text.items in
+    let mid = c.put_sessions.new.text.items in let next = c.put_all_opened.new.text.items in let last = c.put_parties.new.text.items in let new = c.print_verdict.new.text.items in
     let first = session_lines file 0 file.connects w.sessions in
     let both = put_both old first (opened_lines file w.sessions (opened_in w)) mid next c.in_ok-put_sessions.ensures.ok
     (c.in_ok-put_all_opened.ensures.ok ∙ ap (λ os. mid ++ opened_lines file w.sessions os) c.opened.ensures) in
     let parts = first ++ opened_lines file w.sessions (opened_in w) ++ party_lines file w 0 file.parties w.parties in
-    ok_whole old _ (transcript_of file w) new c.put_verdict.result (ap (λ v. parts ++ line_of (verdict_word v ∷ [])) c.verdict.ensures ∙ transcript_is file w)
-    (ok_behind old parts _ last new c.put_verdict.result (put_both old _ _ next last both c.in_ok-put_parties.ensures.ok) c.put_verdict.ensures.ok)
+    ok_whole old _ (transcript_of file w) new c.print_verdict.result (ap (λ v. parts ++ line_of (verdict_word v ∷ [])) c.verdict.ensures ∙ transcript_is file w)
+    (ok_behind old parts _ last new c.print_verdict.result (put_both old _ _ next last both c.in_ok-put_parties.ensures.ok) c.print_verdict.ensures.ok)
 
 pub returns-clause-err : goal.returns-clause-err
 returns-clause-err c =
     let file = file_of c.args.file.now in let w = world_at c.args.plain.now in let old = c.args.text.now.items in
-    let mid = c.put_sessions.new.text.items in let next = c.put_all_opened.new.text.items in let last = c.put_parties.new.text.items in let new = c.put_verdict.new.text.items in
+    let mid = c.put_sessions.new.text.items in let next = c.put_all_opened.new.text.items in let last = c.put_parties.new.text.items in let new = c.print_verdict.new.text.items in
     let first = session_lines file 0 file.connects w.sessions in
     let both = put_both old first (opened_lines file w.sessions (opened_in w)) mid next c.in_ok-put_sessions.ensures.ok
     (c.in_ok-put_all_opened.ensures.ok ∙ ap (λ os. mid ++ opened_lines file w.sessions os) c.opened.ensures) in
     let parts = first ++ opened_lines file w.sessions (opened_in w) ++ party_lines file w 0 file.parties w.parties in
-    err_whole old _ (transcript_of file w) new c.put_verdict.result (ap (λ v. parts ++ line_of (verdict_word v ∷ [])) c.verdict.ensures ∙ transcript_is file w)
-    (err_behind old parts _ last new c.put_verdict.result (put_both old _ _ next last both c.in_ok-put_parties.ensures.ok) c.put_verdict.ensures.err)
+    err_whole old _ (transcript_of file w) new c.print_verdict.result (ap (λ v. parts ++ line_of (verdict_word v ∷ [])) c.verdict.ensures ∙ transcript_is file w)
+    (err_behind old parts _ last new c.print_verdict.result (put_both old _ _ next last both c.in_ok-put_parties.ensures.ok) c.print_verdict.ensures.err)

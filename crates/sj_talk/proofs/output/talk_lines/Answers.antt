@@ -24,6 +24,6 @@ pub returns-clause-text : goal.returns-clause-text
 returns-clause-text c =
     let u = talk_of c.loop-left.talk in
     let none = no_lines c.loop-left.left.now c.is_empty.result c.is_empty.ensures c.loop-left-test.false in
-    text_told (talk_of c.args.talk.now) c.args.lines.now c.args.text.now.items c.loop-left.text.items c.put_verdict.new.text.items c.in_ok-verdict.verdict
+    text_told (talk_of c.args.talk.now) c.args.lines.now c.args.text.now.items c.loop-left.text.items c.print_verdict.new.text.items c.in_ok-verdict.verdict
     (verdict_told (talk_of c.args.talk.now) u (talk_of c.finish.new.self) c.args.lines.now c.in_ok-verdict.verdict c.in_ok-verdict.ensures.verdict c.in_ok-verdict.ensures.ok (sym (ap (played_from u) none) ∙ c.loop-left.invariant.played))
-    c.in_ok-put_verdict.ensures (sym (ap (λ ls. c.loop-left.text.items ++ told_from (c.loop-left.number + 1) u ls) none) ∙ c.loop-left.invariant.told)
+    c.in_ok-print_verdict.ensures.ok (sym (ap (λ ls. c.loop-left.text.items ++ told_from (c.loop-left.number + 1) u ls) none) ∙ c.loop-left.invariant.told)
