@@ -1,5 +1,5 @@
 #!/usr/bin/env bash
-# Times `sj check`: builds `sj` once, writes files of 65,536 bytes of sixteen kinds, and prints the best and
+# Times `sj check`: builds `sj` once, writes files of 65,536 bytes of seventeen kinds, and prints the best and
 # the median time of many runs of `check` and of `show` on each, beyond those on an empty file, and the
 # peak of resident memory. `RUNS=20 bench/check/bench.sh` makes fewer runs than 200, and a row of slow
 # runs ends after half a minute.
@@ -8,7 +8,7 @@ set -euo pipefail
 
 take_sj
 printf '| File | Answer | Check, best ms | Check, median ms | Show, best ms | Show, median ms | Peak KiB |\n|---|---|---|---|---|---|---|\n'
-for kind in lets ifs sessions handed loops held beside passed turns arms alike variables known wide labels widths; do
+for kind in lets ifs sessions handed loops held beside passed turns arms alike variables known wide labels widths mixed; do
     file=$folder/$kind
     awk -v kind="$kind" -f "$top/bench/check/files.awk" > "$file"
     for times in empty check show; do : > "$folder/$times.times"; done

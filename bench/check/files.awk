@@ -1,5 +1,5 @@
 # Writes a file of 65,536 bytes of the kind that `-v kind=` names: lets, ifs, sessions, handed, loops, held,
-# beside, passed, turns, arms, alike, variables, known, wide, labels, widths.
+# beside, passed, turns, arms, alike, variables, known, wide, labels, widths, mixed.
 
 # A text of n pieces, the one and the other in turn.
 function many(n, odd, even,    text, i) {
@@ -120,9 +120,14 @@ function narrow(n, text,    i) {
     for (i = 2; i <= n; i++) text = text "," substr("abcdefghijklmnop", i, 1) ":"
     return text "}"
 }
+# The same labels from the last to the first.
+function turned(n, text,    i, arms) {
+    for (i = n; i >= 2; i--) arms = arms substr("abcdefghijklmnop", i, 1) ":,"
+    return "!{" arms "a:" text "}"
+}
 # So many places one after another, each of 31 such choices in one another.
-function chains(count, n,    i, text, all) {
-    for (i = 1; i <= 31; i++) text = narrow(n, text)
+function chains(count, n, back,    i, text, all) {
+    for (i = 1; i <= 31; i++) text = back ? turned(n, text) : narrow(n, text)
     for (i = 1; i <= count; i++) all = all "." text
     return all
 }
@@ -132,9 +137,9 @@ function delegations(height,    half) {
     half = delegations(height - 1)
     return "if true{" half "}else{" half "}"
 }
-# An end whose choices have 16 labels is delegated where 15 of them are wanted.
-function widths(count) {
-    return protocol("t", chains(count, 16)) protocol("g", ".!<" substr(chains(count, 15), 2) ">") "party a{request x t to a;request z g to a;" delegations(10) "close z;}\n"
+# An end whose choices have 16 labels is delegated where 15 of them are wanted, in their order or from the last on.
+function widths(count, back) {
+    return protocol("t", chains(count, 16)) protocol("g", ".!<" substr(chains(count, 15, back), 2) ">") "party a{request x t to a;request z g to a;" delegations(10) "close z;}\n"
 }
 BEGIN {
     size = 65536
@@ -154,5 +159,6 @@ BEGIN {
     if (kind == "variables") text = variables(2500)
     if (kind == "labels") text = labels()
     if (kind == "widths") text = widths(12)
+    if (kind == "mixed") text = widths(12, 1)
     printf "%s%*s", text, size - length(text), ""
 }
