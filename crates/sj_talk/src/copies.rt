@@ -7,7 +7,10 @@ use sj_lang::{Party, ProtocolDef, copied, copied_block};
 use std::alloc::Global;
 
 /// Equal protocols.
-pub fn copied_protocols(alloc: Global, protocols: &[ProtocolDef]) -> Result<Vec<ProtocolDef>, NoMemory>
+pub fn copied_protocols(
+    alloc: Global,
+    protocols: &[ProtocolDef],
+) -> Result<Vec<ProtocolDef>, NoMemory>
     ensures { IfOk result (λ out. map protocol_of out.items ≡ map protocol_of protocols.now) }
 {
     let mut out = Vec::new(alloc);
