@@ -8,7 +8,7 @@ use Rattle.sj_lang.specs.Alike.{AlikeTo}
 use Rattle.sj_lang.specs.View.{choices_of}
 use Rattle.sj_lang.specs.MeetTests.{passes, each_label, meets, seen, arm_meets, arms_seen}
 use Rattle.sj_lang.proofs.ArmLemmas.{arm_count-choices_of, arm_rest-choices_of}
-use Rattle.sj_lang.proofs.MeetCodeLemmas.{arms_at}
+use Rattle.sj_lang.proofs.MeetCodeLemmas.{and_false, arms_at}
 
 -- the arms of the first n of these labels meet
 abbrev pub MeetTo : Bool → Choices → Choices → ℕ → List Arm → Type 0
@@ -52,10 +52,6 @@ pub each_fails : (test : ℕ → Place → Bool) (arms : List Arm) (others : Cho
 each_fails test [] others i d h e = absurd (omega arith)
 each_fails test (a ∷ arms) others zero d h e = grind (arith)
 each_fails test (a ∷ arms) others (suc i) d h e = and_false _ _ (each_fails test arms others i d (omega arith) e)
-  where
-    and_false : (a b : Bool) → b ≡ false → (a && b) ≡ false
-    and_false true b e = e
-    and_false false b e = refl
 
 pub each_passes : (test : ℕ → Place → Bool) (arms : List Arm) (others : Choices) → ((k : ℕ) (d : Arm) → k < length arms → passes (test (get_or arms k d).label) (at_label (get_or arms k d).label others) ≡ true) → each_label test (choices_of arms) others ≡ true
 each_passes test [] others all = refl

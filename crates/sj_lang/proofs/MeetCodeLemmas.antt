@@ -63,7 +63,7 @@ meets_nothing (Branch x) p = refl
 meets_nothing (OutLoop x) p = refl
 meets_nothing (InLoop x) p = refl
 
-and_false : (a b : Bool) → b ≡ false → (a && b) ≡ false
+pub and_false : (a b : Bool) → b ≡ false → (a && b) ≡ false
 and_false true b e = e
 and_false false b e = refl
 
