@@ -40,9 +40,11 @@ impl Accepted {
 
     /// The same file, for those who keep it. It is refused where there are 2^63 - 1 such already.
     pub fn shared(&self) -> Result<Arc<File>, NoMemory>
-        ensures { IfOk result (λ f. arc_value f ≡ file_in self.now) }
+        ensures value { IfOk result (λ f. arc_value f ≡ file_in self.now) }
+        ensures accepted { IfOk result (λ f. IsAccepted (file_of (arc_value f))) }
     {
-        Ok(Arc::try_clone(&self.file)?)
+        let file = Arc::try_clone(&self.file)?;
+        Ok(file)
     }
 
     /// The table of the file's protocols. Its copies have their nodes in common.

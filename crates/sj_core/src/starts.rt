@@ -47,8 +47,6 @@ impl NodeWorld {
     {
         let nodes = first_nodes(alloc, accepted)?;
         let kept = Kept::of(accepted)?;
-        // That it is accepted is what the type keeps.
-        let _ = accepted.file();
         let history = Vec::new(alloc);
         Ok(NodeWorld {
             alloc,

@@ -1,6 +1,8 @@
 //! What a world keeps of its file: the accepted file itself, which all who keep it share.
 ghost use Rattle.std.specs.Prelude.{◌≡◌, IfOk};
+ghost use Rattle.sj_acceptance.specs.Accepted.{IsAccepted};
 ghost use Rattle.sj_check.specs.Held.{file_in as held};
+ghost use Rattle.sj_lang.specs.FileView.{file_of};
 
 use sj_base::NoMemory;
 use sj_check::Accepted;
@@ -30,7 +32,8 @@ impl Model for Kept {
 impl Kept {
     /// The accepted file. It is refused where 2^63 - 1 keep it already.
     pub fn of(accepted: &Accepted) -> Result<Kept, NoMemory>
-        ensures { IfOk result (λ k. k ≡ held accepted.now) }
+        ensures value { IfOk result (λ k. k ≡ held accepted.now) }
+        ensures accepted { IfOk result (λ k. IsAccepted (file_of k)) }
     {
         let file = accepted.shared()?;
         Ok(Kept { file })

@@ -15,8 +15,8 @@ returns-clause-world c =
     let t = c.in_ok-table.table in
     let file = file_of (held c.args.accepted.now) in
     let lent : file_of c.file-file.result.now ≡ file = ap file_of c.file-file.ensures.value in
-    world_starts file t _ _ _ _ (ap (λ f. (file_of f).protocols) c.in_ok-kept.ensures)
-    (λ p. ap (λ u. start_in u p) c.in_ok-table.ensures ∙ c.table.ensures p ∙ ap (λ f. body_named (file_of f).protocols p) (sym c.in_ok-kept.ensures))
+    world_starts file t _ _ _ _ (ap (λ f. (file_of f).protocols) c.in_ok-kept.ensures.value)
+    (λ p. ap (λ u. start_in u p) c.in_ok-table.ensures ∙ c.table.ensures p ∙ ap (λ f. body_named (file_of f).protocols p) (sym c.in_ok-kept.ensures.value))
     (c.in_ok-machines.ensures ∙ ap (λ f. (start_of f).parties) lent)
     (c.in_ok-sessions.ensures ∙ ap (λ cs. map (connected_session t) (map connect_of cs)) c.deref.ensures.value ∙ ap (λ f. map (connected_session t) f.connects) lent) c.new.ensures.items
 
