@@ -1,5 +1,5 @@
 -- What workers left, and what is damaged of it.
-use Rattle.std.proofs.Common.{◌≡◌, ◌⊎◌, ◌∙◌, ℕ, zero, suc, ◌<◌, max, Bool, List, [], ◌∷◌, ◌++◌, map, length, get_or, Option, Some, option_map, inl, inr, refl, sym, ap, subst}
+use Rattle.std.proofs.Common.{◌≡◌, ◌⊎◌, ◌∙◌, ℕ, zero, suc, ◌<◌, max, Bool, List, [], ◌∷◌, ◌++◌, map, length, get_or, Option, Some, None, option_map, inl, inr, refl, sym, ap, subst}
 use Rattle.std.specs.Prelude.{slice_get}
 use Rattle.std.proofs.lemmas.List.{length-map}
 use Rattle.sj_lane.specs.declared.lane.OutLane.{Ghosts as OutLane}
@@ -18,10 +18,10 @@ use Rattle.sj_plain.specs.Kept.{without_words}
 use Rattle.sj_semantics.specs.Program.{Program}
 use Rattle.sj_rules.specs.History.{IsFirstMisfit, IsHistory, due}
 use Rattle.sj_rules.specs.Log.{IsJoined, LineAt}
-use Rattle.sj_rules.specs.Node.{NodeAt}
+use Rattle.sj_rules.specs.Node.{NodeAt, Play}
 use Rattle.sj_rules.specs.NodeRun.{NodeRun, StepAt}
 use Rattle.sj_rules.specs.Party.{play_of}
-use Rattle.sj_rules.specs.Start.{core_start}
+use Rattle.sj_rules.specs.Start.{core_start, first_node}
 use Rattle.sj_rules.specs.World.{WorldAt}
 use Rattle.sj_work.specs.declared.worker.Stop.{Stop}
 use Rattle.sj_work.specs.declared.worker.Stop.TheVariants as stops
@@ -33,7 +33,8 @@ use Rattle.sj_run.specs.declared.refusal.RunRefusal.{RunRefusal}
 use Rattle.sj_run.specs.declared.refusal.RunRefusal.TheVariants as refusals
 use Rattle.sj_run.specs.Damage.{AllWent, HasWent, IsDamaged, IsLowestUnfit, IsPastEnd, LeftAt, left_of, logs_left}
 use Rattle.sj_run.specs.Refusals.{IsDamageOver, IsDamagedOver, IsPastEndOf, run_refusal}
-use Rattle.sj_run.specs.Workers.{AllWorked, NoneStopped, SomeStopped, logs_in}
+use Rattle.sj_run.specs.Logged.{AreLogged, HasLogged}
+use Rattle.sj_run.specs.Workers.{AllWorked, NoneStopped, SomeStopped, log_or, logs_in}
 use Rattle.sj_run.proofs.StopLemmas.{NoneBefore, looked_at}
 use Rattle.sj_run.proofs.TeamLemmas.{mapped_at, turned}
 use Rattle.sj_run.proofs.WorkedLemmas.{mapped_from}
@@ -98,13 +99,28 @@ module _ {O I : Type 0} (outward : OutLane O) (inward : InLane I) (joined : O �
         run =
             subst (λ (n : NodeAt Place Program). NodeRun (Rattle.sj_node.specs.Node.play_here (node_of w)) max p n work.steps (node_at (node_of w))) h.first.node
             (subst (λ (k : ℕ). NodeRun (Rattle.sj_node.specs.Node.play_here (node_of w)) max k (node_at (node_of h.old)) work.steps (node_at (node_of w))) h.first.party
-            (subst (λ (play : Rattle.sj_rules.specs.Node.Play Place Program). NodeRun play max (Rattle.sj_node.specs.Reading.party_of (node_of h.old)) (node_at (node_of h.old)) work.steps (node_at (node_of w))) (sym t.went.play) work.run));
+            (subst (λ (play : Play Place Program). NodeRun play max (Rattle.sj_node.specs.Reading.party_of (node_of h.old)) (node_at (node_of h.old)) work.steps (node_at (node_of w))) (sym t.went.play) work.run));
         log = work.log ∙ ap (λ (es : List Entry). entries_of es ++ map (λ (s : StepAt Place). s.entry) work.steps) h.first.log;
         play = t.went.play ∙ h.first.play;
         party = t.went.party ∙ h.first.party;
         parties = t.went.parties ∙ h.first.parties;
         refused = λ stopped. (t.lost, subst (λ (x : Option Stop). Cause outward inward x looks t.lost h.old w) stopped t.cause);
       }
+
+  -- so its log has the entries of steps of the rules, and there is none beside
+  has_logged : (p : ℕ) (o : Option (Worker O I)) → slice_get workers p ≡ o → HasLogged file p (log_or o)
+  has_logged p None there = record { steps = []; node = first_node file p; run = refl; entries = refl }
+  has_logged p (Some w) there =
+      let m = went p w there in
+      record {
+        steps = m.steps;
+        node = node_at (node_of w);
+        run = subst (λ (play : Play Place Program). NodeRun play max p (first_node file p) m.steps (node_at (node_of w))) m.play m.run;
+        entries = m.log;
+      }
+
+  pub are_logged : (lines : List LineAt) → IsJoined (logs_in workers) lines → AreLogged file lines
+  are_logged lines joins = record { logs = logs_in workers; each = λ p. has_logged p (slice_get workers p) refl; joined = joins }
 
   module _ (faultless : NoneStopped workers stops.Fault) (lines : List LineAt) (joins : IsJoined (logs_in workers) lines) where
     pub all_went : AllWent file (map left_of workers)

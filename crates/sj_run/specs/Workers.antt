@@ -7,13 +7,14 @@ use Rattle.sj_node.specs.declared.node.Node.{Node}
 use Rattle.sj_node.specs.Node.{log_of, node_at, outbox_of, play_here}
 use Rattle.sj_node.specs.Play.{play_with}
 use Rattle.sj_node.specs.Reading.{parties_of, party_of}
-use Rattle.sj_rules.specs.Log.{EntryAt, IsRising}
+use Rattle.sj_rules.specs.Log.{EntryAt, IsJoined, IsRising, LineAt}
 use Rattle.sj_rules.specs.Start.{first_node}
 use Rattle.sj_lane.specs.declared.lane.OutLane.{Ghosts as OutLane}
 use Rattle.sj_lane.specs.declared.lane.InLane.{Ghosts as InLane}
 use Rattle.sj_lane.specs.declared.lane.Lanes.{Lanes}
 use Rattle.sj_lane.specs.Square.{AllJoined, IsSquare}
 use Rattle.sj_work.specs.declared.worker.Stop.{Stop}
+use Rattle.sj_work.specs.declared.worker.Stop.TheVariants as stops
 use Rattle.sj_work.specs.declared.worker.Worker.{Worker}
 use Rattle.sj_work.specs.Laned.{entries_of}
 use Rattle.sj_work.specs.Views.{in_of, lanes_of, node_of, out_of, stop_of}
@@ -87,3 +88,11 @@ AllRising {O} {I} workers = (p : ℕ) (w : Worker O I) → slice_get workers p �
 -- these are the logs of the workers
 abbrev pub AreLogs : {O I : Type 0} → List (Worker O I) → List (Vec Entry) → Type 0
 AreLogs workers logs = map (λ (v : Vec Entry). v.items) logs ≡ map (λ w. log_of (node_of w)) workers
+
+module _ {O I : Type 0} (outward : OutLane O) (inward : InLane I) (joined : O → I → Type 0) (file : FileAt) (looks : ℕ) (tells : Bool) where
+  -- the lines are the joined logs of workers that worked over such lanes, of which none stopped at a fault
+  pub record AreLoggedOver (lines : List LineAt) : Type 0 where
+    pub workers : List (Worker O I)
+    pub worked : AllWorked outward inward joined file looks tells workers
+    pub faultless : NoneStopped workers stops.Fault
+    pub joins : IsJoined (logs_in workers) lines

@@ -9,6 +9,7 @@ ghost use Rattle.sj_rules.specs.History.{IsHistory};
 ghost use Rattle.sj_run.specs.Damage.{IsDamaged};
 ghost use Rattle.sj_run.specs.Refusals.{IsDamagedOver, IsPastEndOf};
 ghost use Rattle.sj_run.specs.Shown.{IsShown, keeps_of};
+ghost use Rattle.sj_run.specs.Workers.{AreLoggedOver};
 
 use crate::RunRefusal;
 use crate::remains::take_apart;
@@ -59,6 +60,11 @@ pub fn run_parties<R: Threads + Sync, L: Links, G: Gate>(
     ensures kept { IfOk result (λ w. kept_file w ≡ without_words (file_of (held accepted.now))) }
     ensures run { IfOk result (λ w. IsHistory max (kept_file w) (history_of w) (world_at w)) }
     ensures parties { IfOk result (λ w. party_count w ≡ length (kept_file w).parties) }
+
+    // Its history is the joined logs of workers that worked over lanes of these links, of which none
+    // stopped at a fault.
+    ensures logged { IfOk result (λ w. AreLoggedOver L.Out.OutLane L.In.InLane L.joined
+        (file_of (held accepted.now)) looks (L.tells links.old) (history_of w)) }
 
     // Links that tell show its history, in which nobody could go on alone.
     ensures shown { IfOk result (λ w. L.tells links.old ≡ true →

@@ -19,6 +19,7 @@ use Rattle.sj_joined_lemmas.proofs.HistoryLemmas.{log_runs}
 use Rattle.sj_rules_laws.proofs.RunLawsLemmas.{quiet_run_ends}
 use Rattle.sj_core.proofs.FirstLemmas.{core_start_same}
 use Rattle.sj_core.proofs.LawLemmas.{max_picks}
+use Rattle.sj_run.specs.Logged.{AreLogged}
 use Rattle.sj_run.specs.Shown.{IsShown}
 use Rattle.sj_command.specs.declared.tasks.Task.{Task}
 use Rattle.sj_command.specs.declared.tasks.Task.TheVariants as tasks
@@ -33,12 +34,12 @@ kept_history file kept lines w is h =
     subst (λ (start : WorldAt Place Program). Rattle.sj_rules.specs.History.IsLog (play_of file) max start lines w) (core_start_same file)
     (subst (λ (f : FileAt). IsHistory max f lines w) is h)
 
--- links that tell show what is given to a task that runs parties
-pub shown_given : (links : LinkUseAt) (task : Task) (log : LogAt) (file : FileAt) (lines : List LineAt) (left : WorldAt Place Program) → RunsParties task
-    → (links.tells ≡ true → IsShown file (looks_of task) links.keeps lines left) → IsGiven links task log file lines left
-shown_given links (tasks.Run l looks workers) log file lines left h shown = shown
-shown_given links (tasks.Big n) log file lines left h shown = shown
-shown_given links task log file lines left h shown = absurd h
+-- what parties logged is given to a task that runs them, as links that tell show it
+pub ran_given : (links : LinkUseAt) (task : Task) (log : LogAt) (file : FileAt) (lines : List LineAt) (left : WorldAt Place Program) → RunsParties task
+    → AreLogged file lines → (links.tells ≡ true → IsShown file (looks_of task) links.keeps lines left) → IsGiven links task log file lines left
+ran_given links (tasks.Run l looks workers) log file lines left h logged shown = (logged, shown)
+ran_given links (tasks.Big n) log file lines left h logged shown = (logged, shown)
+ran_given links task log file lines left h logged shown = absurd h
 
 module _ (file first kept : FileAt) (of_file : first ≡ without_words file) (same : kept ≡ first) (n m : ℕ) (left core : WorldAt Place Program) (lines more history : List LineAt) where
   -- what is drained is a history of the file, and leaves nothing to do
@@ -67,10 +68,10 @@ module _ (file first kept : FileAt) (of_file : first ≡ without_words file) (sa
 
   -- where parties ran
   pub drained_ran : (links : LinkUseAt) (task : Task) (runs : RunsParties task) (log : LogAt) → n ≡ length first.parties → m ≡ length kept.parties → history ≡ lines ++ more → IsHistory max first lines left
-      → (links.tells ≡ true → IsShown file (looks_of task) links.keeps lines left) → IsHistory max kept history core → IsDrained (play_of first) max n left (map turn_of more) core → IsQuietAmong (play_of kept) m core
+      → AreLogged file lines → (links.tells ≡ true → IsShown file (looks_of task) links.keeps lines left) → IsHistory max kept history core → IsDrained (play_of first) max n left (map turn_of more) core → IsQuietAmong (play_of kept) m core
       → HasHistory links task log file history core
-  drained_ran links task runs log all those listed begins shown run drained quiet =
-      drained_has links task log all those listed begins (shown_given links task log file lines left runs shown) run drained quiet
+  drained_ran links task runs log all those listed begins logged shown run drained quiet =
+      drained_has links task log all those listed begins (ran_given links task log file lines left runs logged shown) run drained quiet
 
 -- the acts of a history that leaves nothing to do lead to the end of the file
 pub quiet_ends : (file : FileAt) → IsAccepted file → (history : List LineAt) (core : WorldAt Place Program) → IsHistory max file history core → IsQuietAmong (play_of file) (length file.parties) core

@@ -12,7 +12,8 @@ use Rattle.sj_acceptance_laws.proofs.FileLaws.{accepted_from}
 use Rattle.sj_semantics.specs.Run.{end_of}
 use Rattle.sj_semantics.specs.State.{verdict_of}
 use Rattle.sj_semantics.specs.Transcript.{transcript_of}
-use Rattle.sj_rules.specs.Start.{core_start}
+use Rattle.sj_rules.specs.Start.{core_start, first_node}
+use Rattle.sj_run.specs.Logged.{AreLogged}
 use Rattle.sj_command.specs.declared.tasks.Task.{Task}
 use Rattle.sj_command.specs.declared.tasks.Task.TheVariants as tasks
 use Rattle.sj_tool.specs.LogAt.{LogAt}
@@ -27,7 +28,7 @@ use Rattle.sj_tool.specs.Tasks.{HasEvents, RunsParties, Takes}
 use Rattle.sj_tool.specs.Texts.{counts_of}
 use Rattle.sj_tool.proofs.ForestLemmas.{has_forest_text}
 use Rattle.sj_tool.proofs.ForwardLemmas.{has_forward_text}
-use Rattle.sj_tool.proofs.DrainedLemmas.{shown_given, told_runs}
+use Rattle.sj_tool.proofs.DrainedLemmas.{ran_given, told_runs}
 use Rattle.sj_tool.proofs.DrainedLines.{begun_goes_on}
 use Rattle.sj_tool.proofs.KindLemmas.{run_has_events, run_plays}
 use Rattle.sj_tool.proofs.LogLeads.{log_told_or_begun}
@@ -46,6 +47,14 @@ module _ (links : LinkUseAt) (task : Task) (log : LogAt) (file : FileAt) (accept
       let ran = told_runs links task log file accepted history core has verdict text (refl, refl) in
       (Ran verdict text, (accepted, run_plays links task log file verdict text events ran))
 
+  -- where nothing happened nothing is logged
+  none_logged : AreLogged file []
+  none_logged = record {
+    logs = λ p. [];
+    each = λ p. record { steps = []; node = first_node file p; run = refl; entries = refl };
+    joined = record { order = tt; parts = λ p. refl };
+  }
+
   -- over links that fail, that tell nothing, or that show how it began
   ran_answered : RunsParties task → (LinksHold links → HasBegun links task log file) → HasAnswer links task log file
   ran_answered runs shows = by (cases_lt links.faults_after (min (links.faults + 1) (2 ^ 64 - 1))) links.tells refl
@@ -59,7 +68,7 @@ module _ (links : LinkUseAt) (task : Task) (log : LogAt) (file : FileAt) (accept
             lines = [];
             left = core_start file;
             leads = refl;
-            given = shown_given links task log file [] (core_start file) runs (λ tells. let clash : true ≡ false = sym tells ∙ e in absurd (cc));
+            given = ran_given links task log file [] (core_start file) runs none_logged (λ tells. let clash : true ≡ false = sym tells ∙ e in absurd (cc));
           })
 
 -- of an accepted file

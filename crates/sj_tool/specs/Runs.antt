@@ -18,6 +18,7 @@ use Rattle.sj_rules.specs.Party.{play_of}
 use Rattle.sj_rules.specs.World.{WorldAt}
 use Rattle.sj_print.specs.LogLine.{log_text}
 use Rattle.sj_print.specs.Version.{mark_of, version_of}
+use Rattle.sj_run.specs.Logged.{AreLogged}
 use Rattle.sj_run.specs.Shown.{IsShown}
 use Rattle.sj_command.specs.declared.tasks.Task.{Task}
 use Rattle.sj_command.specs.declared.tasks.Task.TheVariants as tasks
@@ -39,10 +40,11 @@ HasSimulated file verdict text = (verdict ≡ verdict_of (end_of file)) × (text
 abbrev pub actors : List LineAt → List ℕ
 actors history = acts_in (map turn_of history)
 
--- where lines come from that lead to that world: a log spells them, or the links over which parties ran show them, where they tell
+-- where lines come from that lead to that world: a log spells them; or parties that ran logged them, and the links show them, where they
+-- tell
 abbrev pub IsGiven : LinkUseAt → Task → (log : LogAt) → FileAt → List LineAt → WorldAt Place Program → Type 0
 IsGiven links (tasks.Replay l) log file lines left = Spells file log lines
-IsGiven links task log file lines left = links.tells ≡ true → IsShown file (looks_of task) links.keeps lines left
+IsGiven links task log file lines left = AreLogged file lines × (links.tells ≡ true → IsShown file (looks_of task) links.keeps lines left)
 
 -- lines that are given lead from the start of the file to a core world
 pub record HasBegun (links : LinkUseAt) (task : Task) (log : LogAt) (file : FileAt) : Type 0 where

@@ -5,7 +5,7 @@ use Rattle.sj_end.specs.Lines.{line_at}
 use Rattle.sj_lane.specs.declared.lane.Lanes.{Lanes}
 use Rattle.sj_lane.specs.Square.{HasFault, IsSquare, Kept}
 use Rattle.sj_lang.specs.FileView.{file_of}
-use Rattle.sj_rules.specs.Log.{LineAt}
+use Rattle.sj_rules.specs.Log.{IsJoined, LineAt}
 use Rattle.sj_work.specs.declared.worker.Stop.TheVariants as stops
 use Rattle.sj_work.specs.declared.worker.Worker.{Worker}
 use Rattle.sj_core.proofs.StopLemmas.{error_is}
@@ -13,7 +13,7 @@ use Rattle.sj_run.specs.declared.refusal.RunRefusal.{RunRefusal}
 use Rattle.sj_run.specs.Damage.{IsDamaged, IsLowestUnfit, left_of}
 use Rattle.sj_run.specs.Refusals.{IsDamagedOver, IsPastEndOf}
 use Rattle.sj_run.specs.Shown.{keeps_of}
-use Rattle.sj_run.specs.Workers.{AllWorked, NoneStopped, SomeStopped}
+use Rattle.sj_run.specs.Workers.{AllWorked, NoneStopped, SomeStopped, logs_in}
 use Rattle.sj_run.proofs.DamageLemmas.{history_fits, misfit_damage, no_link_fault, not_past_end, refused_damage, some_unfit}
 use Rattle.sj_run.proofs.LogLemmas.{as_many, logs_joined, logs_ordered}
 use Rattle.sj_run.proofs.RunLemmas.{all_rising, has_fault, rose_from, told_fits, told_history, told_shown}
@@ -101,6 +101,16 @@ returns-in-Some-clause-telling g c =
     (logs_joined c.in_ok-workers.workers.items c.in_ok-remains.remains.logs.items c.in_ok-remains.ensures.logs (map line_at c.in_ok-lines.lines.items) c.in_ok-lines.ensures)
     (some_unfit c.in_ok-workers.workers.items (line_at c.in-Some.refused)
     (subst (λ (ws : List (Worker g.row.L-Out.Denot g.row.L-In.Denot)). IsLowestUnfit (map left_of ws) (line_at c.in-Some.refused)) c.deref-3.ensures.value c.in-Some.ensures.some))
+
+pub returns-clause-logged : goal.returns-clause-logged
+returns-clause-logged g c = record {
+  workers = c.in_ok-workers.workers.items;
+  worked = c.in_ok-workers.ensures.worked;
+  faultless = subst (λ (ws : List (Worker g.row.L-Out.Denot g.row.L-In.Denot)). NoneStopped ws stops.Fault) c.deref.ensures.value (c.if-faulty.ensures.none refl);
+  joins =
+      subst (λ (ls : List LineAt). IsJoined (logs_in c.in_ok-workers.workers.items) ls) (sym c.in-Ok.ensures.history)
+      (logs_joined c.in_ok-workers.workers.items c.in_ok-remains.remains.logs.items c.in_ok-remains.ensures.logs (map line_at c.in_ok-lines.lines.items) c.in_ok-lines.ensures);
+}
 
 pub returns-clause-shown : goal.returns-clause-shown
 returns-clause-shown g c =
