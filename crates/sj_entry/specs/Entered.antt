@@ -1,23 +1,52 @@
 -- What a program answers to the words that its caller gives.
-use Rattle.std.specs.Prelude.{◌≡◌, ◌⊎◌, ℕ, List, Option}
+use Rattle.std.specs.Prelude.{◌≡◌, ◌⊎◌, ℕ, true, List, Option, IfSome}
 use Rattle.std.specs.declared.alloc.Global.{Global}
 use Rattle.std.specs.declared.string.String.{String}
+use Rattle.sj_base.specs.Stream.{Rose}
+use Rattle.sj_lane.specs.Told as lanes
+use Rattle.sj_lang.specs.FileAt.{FileAt}
+use Rattle.sj_command.specs.declared.tasks.Task.{Task}
 use Rattle.sj_semantics.specs.declared.Verdict.TheVariants.{Blocked}
-use Rattle.sj_tool.specs.Answers.{AnswersOne, OrYields}
+use Rattle.sj_tool.specs.AnswerAt.{AnswerAt, ReadFault, LinkFault, Damaged}
+use Rattle.sj_tool.specs.Answers.{AnswersOne, IsInTable, OrYields, WroteFront}
 use Rattle.sj_tool.specs.Calls.{CallAt}
+use Rattle.sj_tool.specs.Completeness.{CompletesSo, IsValid}
 use Rattle.sj_tool.specs.Headline.{HasHeadline, IsForwarding, IsPlaying, IsVerdict, ReadsNoForest, WritesForwarded}
+use Rattle.sj_tool.specs.LogAt.{LogAt}
+use Rattle.sj_tool.specs.Table.{AnswersAs, NoFaultAbove}
 use Rattle.sj_tool.specs.Tasks.{AsksFor}
-use Rattle.sj_tool.specs.Texts.{no_memory_status, verdict_status}
+use Rattle.sj_tool.specs.Texts.{no_memory_status, status_of, verdict_status, write_fault_status}
 
--- the caller gives words to which the top call answers so, with its headline, by forwarding with its drain, and with 6 only of a file that is no forest
-pub record IsAnswer (gives : List (String Global) → Type 0) (called : List (String Global) → CallAt) (status : ℕ) (before after : Option (List ℕ)) : Type 0 where
+-- what the sink holds, where it tells, and how many faults it counted
+pub record SinkAt : Type 0 where
+  pub written : Option (List ℕ)
+  pub faults : ℕ
+
+-- a sink of that kind
+abbrev pub sink : {K : Type 0} → (written : K → Option (List ℕ)) → (faults : K → ℕ) → K → SinkAt
+sink written faults k = record { written = written k; faults = faults k }
+
+-- each clause of the top call, of that call and its status, and of the sink before and after
+pub record HasAnswered (c : CallAt) (status : ℕ) (before after : SinkAt) : Type 0 where
+  pub answer : OrYields status (AnswersOne c status before.written after.written)
+  pub exactly : IfSome c.left (λ rest. (a : AnswerAt) → IsInTable c a → NoFaultAbove c a → OrYields status (AnswersAs c status before.written after.written a))
+  pub headline : IsVerdict status → AsksFor IsPlaying c → HasHeadline c status before.written after.written
+  pub forwarded : IsVerdict status → AsksFor IsForwarding c → WritesForwarded c status before.written after.written
+  pub forest : status ≡ verdict_status Blocked → AsksFor IsPlaying c → ReadsNoForest c
+  pub complete : (task : Task) (file : FileAt) (log : LogAt) → IsValid c task file log → OrYields status (CompletesSo task file log status before.written after.written)
+  pub read_fault : status ≡ status_of ReadFault → Rose c.faults c.faults_after
+  pub link_fault : status ≡ status_of LinkFault → lanes.Rose c.links.faults c.links.faults_after
+  pub damaged : (text : List ℕ) → status ≡ status_of (Damaged text) → c.links.tells ≡ true → ⊥
+  pub write_fault : status ≡ write_fault_status → Rose before.faults after.faults
+  pub front : status ≡ write_fault_status → WroteFront c before.written after.written
+  pub no_memory : status ≡ no_memory_status → after.written ≡ before.written
+
+-- the caller gives words to which the top call answers so
+pub record IsAnswer (gives : List (String Global) → Type 0) (called : List (String Global) → CallAt) (status : ℕ) (before after : SinkAt) : Type 0 where
   pub words : List (String Global)
   pub given : gives words
-  pub answer : OrYields status (AnswersOne (called words) status before after)
-  pub headline : IsVerdict status → AsksFor IsPlaying (called words) → HasHeadline (called words) status before after
-  pub forwarded : IsVerdict status → AsksFor IsForwarding (called words) → WritesForwarded (called words) status before after
-  pub forest : status ≡ verdict_status Blocked → AsksFor IsPlaying (called words) → ReadsNoForest (called words)
+  pub answered : HasAnswered (called words) status before after
 
 -- so it is, or there was no memory for the words, and nothing was written
-abbrev pub Enters : (List (String Global) → Type 0) → (List (String Global) → CallAt) → ℕ → Option (List ℕ) → Option (List ℕ) → Type 0
-Enters gives called status before after = IsAnswer gives called status before after ⊎ ((status ≡ no_memory_status) × (after ≡ before))
+abbrev pub Enters : (List (String Global) → Type 0) → (List (String Global) → CallAt) → ℕ → SinkAt → SinkAt → Type 0
+Enters gives called status before after = IsAnswer gives called status before after ⊎ ((status ≡ no_memory_status) × (after.written ≡ before.written))

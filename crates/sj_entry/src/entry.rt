@@ -1,5 +1,5 @@
 //! From a program's call to the top call.
-ghost use Rattle.sj_entry.specs.Entered.{Enters};
+ghost use Rattle.sj_entry.specs.Entered.{Enters, sink};
 ghost use Rattle.sj_tool.specs.Calls.{call};
 
 use crate::words::Caller;
@@ -25,7 +25,7 @@ pub fn enter<C: Caller + AllocGlobal, R: Threads + Sync, S: Source, K: Sink, L: 
 ) -> u8
     ensures answer { Enters (C.gives caller.now) (λ words.
         call S.Source L.Links words src.old src.new links.old links.new) result
-        (K.written out.old) (K.written out.new) }
+        (sink K.written K.faults out.old) (sink K.written K.faults out.new) }
 {
     match caller.words() {
         Ok(words) => sj(rt, caller.alloc(), &words, src, out, links, gate),
