@@ -1,2 +1,3 @@
 pub mod DequeLemmas
+mod HandLemmas
 pub mod TwoLemmas

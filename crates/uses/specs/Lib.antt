@@ -1,3 +1,4 @@
+pub mod Carried
 pub mod DequeLanes
 pub mod Talks
 pub mod Transcripts

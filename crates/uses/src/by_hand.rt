@@ -1,7 +1,7 @@
 //! A file played by hand: nodes act, and the caller carries each frame from one to the other.
-ghost use Rattle.std.specs.Prelude.{◌≡◌, ℕ, IfErr};
-ghost use Rattle.sj_node.specs.Outs.{waiting_in};
-ghost use Rattle.sj_node.specs.Reading.{outs_of};
+ghost use Rattle.std.specs.Prelude.{◌≡◌, ◌+◌, IfOk, OnErr, length};
+ghost use Rattle.sj_node.specs.Node.{Stays, log_of};
+ghost use Rattle.uses.specs.Carried.{HasCarried, WaitsAsBefore};
 
 use sj_end::CLOCK_END;
 use sj_node::{DeliverRefusal, Node};
@@ -10,7 +10,9 @@ use sj_node::{DeliverRefusal, Node};
 const MOST_ACTS: u32 = 10_000;
 
 /// Lets a party act until it waits, has ended or is at a limit. How often it did.
-pub fn act_on(node: &mut Node) -> u32 {
+pub fn act_on(node: &mut Node) -> u32
+    ensures { length (log_of node.new) ≡ length (log_of node.old) + result }
+{
     for acts in 0..MOST_ACTS {
         if node.clock() >= CLOCK_END {
             return acts;
@@ -22,10 +24,12 @@ pub fn act_on(node: &mut Node) -> u32 {
     MOST_ACTS
 }
 
-/// Carries the first frame that one party has for another one. Whether there was one; a frame that is
-/// refused stays where it was.
+/// Carries the first frame that one party has for another one, and delivers it there. Whether there
+/// was one; a frame that is refused stays where it was, and the other node as it was.
 pub fn carry(from: &mut Node, to: &mut Node) -> Result<bool, DeliverRefusal>
-    ensures { IfErr result (λ e. (q : ℕ) → waiting_in (outs_of from.new) q ≡ waiting_in (outs_of from.old) q) }
+    ensures carried { IfOk result (HasCarried from.old to.old from.new to.new) }
+    ensures back { OnErr result (WaitsAsBefore from.old from.new) }
+    ensures stays { OnErr result (Stays to.old to.new) }
 {
     let party = to.party();
     if to.clock() >= CLOCK_END {
