@@ -14,7 +14,7 @@ use Rattle.sj_run.specs.declared.refusal.RunRefusal.{RunRefusal}
 use Rattle.sj_run.specs.declared.refusal.RunRefusal.TheVariants as refusals
 use Rattle.sj_tool.specs.LogAt.{LogAt, Spells, log_at}
 use Rattle.sj_tool.specs.declared.answers.Answer.{Answer}
-use Rattle.sj_tool.specs.AnswerAt.{AnswerAt, answer_at, Usage, ReadFault, TooLarge, Syntax, LogFault, Misfit, Damaged, Made, NoTalk, LinkFault}
+use Rattle.sj_tool.specs.AnswerAt.{AnswerAt, answer_at, Usage, ReadFault, TooLarge, Syntax, LogFault, Misfit, Damaged, Made, NoTalk}
 use Rattle.sj_tool.specs.declared.replays.ReplayFault.{ReplayFault}
 use Rattle.sj_tool.specs.declared.replays.ReplayFault.TheVariants as faults
 use Rattle.sj_tool.specs.Answers.{AnswersFile}

@@ -15,6 +15,7 @@ pub mod FileTold
 pub mod OneAnswer
 pub mod InputLemmas
 pub mod FileAnswers
+pub mod DamageAnswers
 pub mod InputAnswers
 pub mod BytesAnswer
 pub mod RowKindLemmas

@@ -3,6 +3,7 @@ pub mod AnswerAt
 pub mod Answers
 pub mod Calls
 pub mod Completeness
+pub mod Damages
 pub mod Entries
 pub mod ForestTexts
 pub mod Forwards

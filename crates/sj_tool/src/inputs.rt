@@ -5,6 +5,7 @@ ghost use Rattle.sj_tool.specs.AnswerAt.{answer_at};
 ghost use Rattle.sj_tool.specs.Answers.{IsInTable};
 ghost use Rattle.sj_tool.specs.Layers.{AnswersBytes, AnswersText};
 ghost use Rattle.sj_tool.specs.Calls.{call, link_use};
+ghost use Rattle.sj_tool.specs.Damages.{IsDamageIn, IsDamageOf};
 ghost use Rattle.sj_tool.specs.LogAt.{log_at};
 ghost use Rattle.sj_tool.specs.TalkParts.{HasNoTalk, IsTalk};
 ghost use Rattle.sj_tool.specs.Tasks.{Takes, limit_of};
@@ -41,7 +42,9 @@ pub(crate) fn answer_to<R: Threads + Sync, S: Source, L: Links, G: Gate>(
     links: &mut L,
     gate: &G,
 ) -> Result<Answer, NoMemory>
-    ensures { IfOk result (λ a. IsInTable
+    ensures answer { IfOk result (λ a. IsInTable
+        (call S.Source L.Links words.now src.old src.new links.old links.new) (answer_at a)) }
+    ensures damage { IfOk result (λ a. IsDamageOf L.Out.OutLane L.In.InLane L.joined (L.tells links.old)
         (call S.Source L.Links words.now src.old src.new links.old links.new) (answer_at a)) }
 {
     let Some(task) = task_in(alloc, words)? else {
@@ -93,7 +96,9 @@ fn answer_to_bytes<R: Threads + Sync, L: Links, G: Gate>(
 ) -> Result<Answer, NoMemory>
     requires few { length bytes.now ≤ limit_of task }
     requires takes { Takes task }
-    ensures { IfOk result (λ a. AnswersBytes (link_use L.Links links.old links.new) task bytes.now (answer_at a)) }
+    ensures answer { IfOk result (λ a. AnswersBytes (link_use L.Links links.old links.new) task bytes.now (answer_at a)) }
+    ensures damage { IfOk result (λ a. IsDamageIn L.Out.OutLane L.In.InLane L.joined (L.tells links.old)
+        task bytes.now (answer_at a)) }
 {
     match task {
         Task::Replay { .. } => {
@@ -150,8 +155,10 @@ fn answer_to_text<R: Threads + Sync, L: Links, G: Gate>(
     requires version { IsVersion version }
     requires log { length log.now ≤ source_limit }
     requires takes { Takes task }
-    ensures { IfOk result (λ a. AnswersText (link_use L.Links links.old links.new)
+    ensures answer { IfOk result (λ a. AnswersText (link_use L.Links links.old links.new)
         task (log_at version log.now) text.now (answer_at a)) }
+    ensures damage { IfOk result (λ a. IsDamageIn L.Out.OutLane L.In.InLane L.joined (L.tells links.old)
+        task text.now (answer_at a)) }
 {
     let file = match parse_file(alloc, text) {
         Ok(file) => file,

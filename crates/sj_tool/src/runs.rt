@@ -4,7 +4,8 @@ ghost use Rattle.sj_check.specs.Held.{file_in};
 ghost use Rattle.sj_core.specs.World.{history_of, world_at};
 ghost use Rattle.sj_lane.specs.Told.{Rose};
 ghost use Rattle.sj_lang.specs.FileView.{file_of};
-ghost use Rattle.sj_run.specs.Damage.{IsDamaged, IsDamagedSo};
+ghost use Rattle.sj_run.specs.Damage.{IsDamaged};
+ghost use Rattle.sj_run.specs.Refusals.{IsDamagedOver};
 ghost use Rattle.sj_tool.specs.LogAt.{LogAt};
 ghost use Rattle.sj_tool.specs.Calls.{link_use};
 ghost use Rattle.sj_tool.specs.Tasks.{RunsParties, looks_of};
@@ -38,7 +39,8 @@ pub(crate) fn run_file<R: Threads + Sync, L: Links, G: Gate>(
     ensures ran { IfOk result (λ p. (log : LogAt)
         → HasRun (link_use L.Links links.old links.new) task log (file_of (file_in accepted.now)) p.0 p.1.items) }
     ensures link_fault { result ≡ Err RunRefusal.LinkFault → Rose (L.faults links.old) (L.faults links.new) }
-    ensures damaged { IfErr result (IsDamagedSo (file_of (file_in accepted.now))) }
+    ensures damaged { IfErr result (IsDamagedOver L.Out.OutLane L.In.InLane L.joined
+        (file_of (file_in accepted.now)) (looks_of task) (L.tells links.old)) }
     ensures telling { IfErr result (λ r. IsDamaged r → L.tells links.old ≡ true → ⊥) }
 {
     let world = drain_world(rt, alloc, accepted, task, links, gate)?;
@@ -60,7 +62,8 @@ fn drain_world<R: Threads + Sync, L: Links, G: Gate>(
         → HasHistory (link_use L.Links links.old links.new) task log (file_of (file_in accepted.now))
         (history_of w) (world_at w)) }
     ensures link_fault { result ≡ Err RunRefusal.LinkFault → Rose (L.faults links.old) (L.faults links.new) }
-    ensures damaged { IfErr result (IsDamagedSo (file_of (file_in accepted.now))) }
+    ensures damaged { IfErr result (IsDamagedOver L.Out.OutLane L.In.InLane L.joined
+        (file_of (file_in accepted.now)) (looks_of task) (L.tells links.old)) }
     ensures telling { IfErr result (λ r. IsDamaged r → L.tells links.old ≡ true → ⊥) }
 {
     let workers = workers_in(task);

@@ -8,6 +8,7 @@ ghost use Rattle.sj_tool.specs.AnswerAt.{AnswerAt, ReadFault, LinkFault, Damaged
 ghost use Rattle.sj_tool.specs.Answers.{AnswersOne, IsInTable, OrYields, WroteFront};
 ghost use Rattle.sj_tool.specs.Calls.{call};
 ghost use Rattle.sj_tool.specs.Completeness.{CompletesSo, IsValid};
+ghost use Rattle.sj_tool.specs.Damages.{WritesDamage};
 ghost use Rattle.sj_tool.specs.Headline.{HasHeadline, IsForwarding, IsPlaying, IsVerdict, ReadsNoForest, WritesForwarded};
 ghost use Rattle.sj_tool.specs.LogAt.{LogAt};
 ghost use Rattle.sj_tool.specs.Tasks.{AsksFor};
@@ -78,11 +79,19 @@ pub fn sj<R: Threads + Sync, S: Source, K: Sink, L: Links, G: Gate>(
         → IsValid (call S.Source L.Links words.now src.old src.new links.old links.new) task file log
         → OrYields result (CompletesSo task file log result (K.written out.old) (K.written out.new)) }
 
-    // A read fault, a link fault and a write fault come only where a fault was counted, and damage only
-    // over links that don't tell.
+    // A read fault and a link fault come only where a fault was counted, and damage only over links that
+    // don't tell.
     ensures read_fault { result ≡ status_of ReadFault → Rose (S.faults src.old) (S.faults src.new) }
     ensures link_fault { result ≡ status_of LinkFault → lanes.Rose (L.faults links.old) (L.faults links.new) }
     ensures damaged { (text : List ℕ) → result ≡ status_of (Damaged text) → L.tells links.old ≡ true → ⊥ }
+
+    // What is told of damage is in what workers left that worked over lanes of these links.
+    ensures damage { (text : List ℕ) → result ≡ status_of (Damaged text)
+        → WritesDamage L.Out.OutLane L.In.InLane L.joined (L.tells links.old)
+        (call S.Source L.Links words.now src.old src.new links.old links.new)
+        (K.written out.old) (K.written out.new) }
+
+    // A write fault comes only where one was counted.
     ensures write_fault { result ≡ write_fault_status → Rose (K.faults out.old) (K.faults out.new) }
 
     // A front of the answer's text was written where the sink failed, and nothing without memory.

@@ -1,18 +1,22 @@
 use Rattle.std.proofs.Common.{Err, sym, ap, subst}
 use Rattle.sj_acceptance.specs.Accepted.{IsAccepted}
 use Rattle.sj_check.specs.Held.{file_in}
+use Rattle.sj_run.proofs.OverLemmas.{damaged_so}
 use Rattle.sj_lang.specs.FileAt.{FileAt}
 use Rattle.sj_lang.specs.FileView.{file_of}
 use Rattle.sj_tool.specs.AnswerAt.{answer_at}
 use Rattle.sj_tool.specs.Answers.{AnswersFile}
 use Rattle.sj_tool.specs.Calls.{LinkUseAt, link_use}
+use Rattle.sj_tool.specs.Damages.{IsDamageOfFile}
 use Rattle.sj_tool.specs.Entries.{IsToldSo}
 use Rattle.sj_tool.specs.Outcomes.{IsJudged}
+use Rattle.sj_tool.specs.Tasks.{looks_of}
+use Rattle.sj_tool.proofs.DamageAnswers.{told_damage}
 use Rattle.sj_tool.proofs.FileAnswers.{told_answers}
 use Rattle.sj_tool.proofs.files.ran_by_links.Goals as goal
 
-pub returns : goal.returns
-returns g c log =
+pub returns-clause-answer : goal.returns-clause-answer
+returns-clause-answer g c log =
     let links : LinkUseAt = link_use g.L.Links c.args.links.now c.run_file.new.links in
     let judged = subst (λ j. IsJudged c.args.file j) c.in-Accepted.is c.in_ok-accepted.ensures in
     let same = ap file_of judged.0 in
@@ -20,5 +24,13 @@ returns g c log =
     (told_answers links c.args.task c.requires.runs log (file_of (file_in c.in-Accepted.accepted)) c.in-Err.refusal (answer_at c.in_ok-answer-in-Err.answer)
     (subst (λ (f : FileAt). IsAccepted f) (sym same) judged.1)
     (λ same_refusal. c.in-Err.ensures.link_fault (ap Err same_refusal))
-    c.in-Err.ensures.damaged c.in-Err.ensures.telling
+    (damaged_so g.L.Out.OutLane g.L.In.InLane g.L.Links.joined (file_of (file_in c.in-Accepted.accepted)) (looks_of c.args.task) (g.L.Links.tells c.args.links.now) c.in-Err.refusal c.in-Err.ensures.damaged) c.in-Err.ensures.telling
+    (subst (λ (f : FileAt). IsToldSo f c.in-Err.refusal (answer_at c.in_ok-answer-in-Err.answer)) (ap file_of c.file.ensures.value) c.in_ok-answer-in-Err.ensures))
+
+pub returns-clause-damage : goal.returns-clause-damage
+returns-clause-damage g c =
+    let judged = subst (λ j. IsJudged c.args.file j) c.in-Accepted.is c.in_ok-accepted.ensures in
+    subst (λ (f : FileAt). IsDamageOfFile g.L.Out.OutLane g.L.In.InLane g.L.Links.joined (g.L.Links.tells c.args.links.now) f (looks_of c.args.task) (answer_at c.in_ok-answer-in-Err.answer)) (ap file_of judged.0)
+    (told_damage g.L.Out.OutLane g.L.In.InLane g.L.Links.joined (g.L.Links.tells c.args.links.now) (file_of (file_in c.in-Accepted.accepted)) (looks_of c.args.task) c.in-Err.refusal (answer_at c.in_ok-answer-in-Err.answer)
+    c.in-Err.ensures.damaged
     (subst (λ (f : FileAt). IsToldSo f c.in-Err.refusal (answer_at c.in_ok-answer-in-Err.answer)) (ap file_of c.file.ensures.value) c.in_ok-answer-in-Err.ensures))

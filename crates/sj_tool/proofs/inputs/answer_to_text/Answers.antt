@@ -1,4 +1,4 @@
-use Rattle.std.proofs.Common.{IfOk, sym, subst}
+use Rattle.std.proofs.Common.{IfOk, refl, sym, subst}
 use Rattle.sj_command.specs.declared.tasks.Task.{Task}
 use Rattle.sj_command.specs.declared.tasks.Task.TheVariants as tasks
 use Rattle.sj_lang.specs.FileView.{file_of}
@@ -6,56 +6,103 @@ use Rattle.sj_tool.specs.AnswerAt.{answer_at}
 use Rattle.sj_tool.specs.Layers.{AnswersText}
 use Rattle.sj_tool.specs.LogAt.{log_at}
 use Rattle.sj_tool.specs.Calls.{LinkUseAt, link_use}
+use Rattle.sj_tool.specs.Tasks.{RunsParties}
+use Rattle.sj_tool.proofs.DamageAnswers.{no_damage, no_log_damage, no_talk_damage, run_damage}
 use Rattle.sj_tool.proofs.FileAnswers.{any_answers, links_answers, log_answers, talk_answers}
 use Rattle.sj_tool.proofs.inputs.answer_to_text.Goals as goal
 
-pub returns-in-Show : goal.returns-in-Show
-returns-in-Show g c =
+pub returns-in-Show-clause-answer : goal.returns-in-Show-clause-answer
+returns-in-Show-clause-answer g c =
     let links : LinkUseAt = link_use g.L.Links c.args.links.now c.args.links.now in
     subst (λ (t : Task). IfOk c.shown.result (λ a. AnswersText links t (log_at c.args.version c.args.log.now) c.args.text.now (answer_at a))) (sym c.in-Show.is)
     (any_answers tasks.Show c.args.text.now (file_of c.in-Ok.file) c.in-Ok.ensures.found links (log_at c.args.version c.args.log.now) c.shown.result c.shown.ensures)
 
-pub returns-in-Check : goal.returns-in-Check
-returns-in-Check g c =
+pub returns-in-Check-clause-answer : goal.returns-in-Check-clause-answer
+returns-in-Check-clause-answer g c =
     let links : LinkUseAt = link_use g.L.Links c.args.links.now c.args.links.now in
     subst (λ (t : Task). IfOk c.count.result (λ a. AnswersText links t (log_at c.args.version c.args.log.now) c.args.text.now (answer_at a))) (sym c.in-Check.is)
     (any_answers tasks.Check c.args.text.now (file_of c.in-Ok.file) c.in-Ok.ensures.found links (log_at c.args.version c.args.log.now) c.count.result c.count.ensures)
 
-pub returns-in-Forest : goal.returns-in-Forest
-returns-in-Forest g c =
+pub returns-in-Forest-clause-answer : goal.returns-in-Forest-clause-answer
+returns-in-Forest-clause-answer g c =
     let links : LinkUseAt = link_use g.L.Links c.args.links.now c.args.links.now in
     subst (λ (t : Task). IfOk c.shape.result (λ a. AnswersText links t (log_at c.args.version c.args.log.now) c.args.text.now (answer_at a))) (sym c.in-Forest.is)
     (any_answers tasks.Forest c.args.text.now (file_of c.in-Ok.file) c.in-Ok.ensures.found links (log_at c.args.version c.args.log.now) c.shape.result c.shape.ensures)
 
-pub returns-in-Sim : goal.returns-in-Sim
-returns-in-Sim g c =
+pub returns-in-Sim-clause-answer : goal.returns-in-Sim-clause-answer
+returns-in-Sim-clause-answer g c =
     let links : LinkUseAt = link_use g.L.Links c.args.links.now c.args.links.now in
     subst (λ (t : Task). IfOk c.simulated_file.result (λ a. AnswersText links t (log_at c.args.version c.args.log.now) c.args.text.now (answer_at a))) (sym c.in-Sim.is)
     (any_answers tasks.Sim c.args.text.now (file_of c.in-Ok.file) c.in-Ok.ensures.found links (log_at c.args.version c.args.log.now) c.simulated_file.result c.simulated_file.ensures)
 
-pub returns-in-Forward : goal.returns-in-Forward
-returns-in-Forward g c =
+pub returns-in-Forward-clause-answer : goal.returns-in-Forward-clause-answer
+returns-in-Forward-clause-answer g c =
     let links : LinkUseAt = link_use g.L.Links c.args.links.now c.args.links.now in
     subst (λ (t : Task). IfOk c.forwarded_file.result (λ a. AnswersText links t (log_at c.args.version c.args.log.now) c.args.text.now (answer_at a))) (sym c.in-Forward.is)
     (any_answers tasks.Forward c.args.text.now (file_of c.in-Ok.file) c.in-Ok.ensures.found links (log_at c.args.version c.args.log.now) c.forwarded_file.result c.forwarded_file.ensures)
 
-pub returns-in-Talk : goal.returns-in-Talk
-returns-in-Talk g c =
+pub returns-in-Talk-clause-answer : goal.returns-in-Talk-clause-answer
+returns-in-Talk-clause-answer g c =
     let links : LinkUseAt = link_use g.L.Links c.args.links.now c.args.links.now in
     subst (λ (t : Task). IfOk c.play.result (λ a. AnswersText links t (log_at c.args.version c.args.log.now) c.args.text.now (answer_at a))) (sym c.in-Talk.is)
     (talk_answers (tasks.Talk c.in-Talk.party) c.args.text.now (file_of c.in-Ok.file) c.in-Ok.ensures.found links c.args.version c.args.log.now c.play.result c.play.ensures)
 
-pub returns-in-Run : goal.returns-in-Run
-returns-in-Run g c =
+pub returns-in-Run-clause-answer : goal.returns-in-Run-clause-answer
+returns-in-Run-clause-answer g c =
     let links : LinkUseAt = link_use g.L.Links c.args.links.now c.ran_by_links.new.links in
-    links_answers c.args.task c.args.text.now (file_of c.in-Ok.file) c.in-Ok.ensures.found links (log_at c.args.version c.args.log.now) c.ran_by_links.result c.ran_by_links.ensures
+    links_answers c.args.task c.args.text.now (file_of c.in-Ok.file) c.in-Ok.ensures.found links (log_at c.args.version c.args.log.now) c.ran_by_links.result c.ran_by_links.ensures.answer
 
-pub returns-in-Big : goal.returns-in-Big
-returns-in-Big g c =
+pub returns-in-Big-clause-answer : goal.returns-in-Big-clause-answer
+returns-in-Big-clause-answer g c =
     let links : LinkUseAt = link_use g.L.Links c.args.links.now c.ran_by_links-in-Big.new.links in
-    links_answers c.args.task c.args.text.now (file_of c.in-Ok.file) c.in-Ok.ensures.found links (log_at c.args.version c.args.log.now) c.ran_by_links-in-Big.result c.ran_by_links-in-Big.ensures
+    links_answers c.args.task c.args.text.now (file_of c.in-Ok.file) c.in-Ok.ensures.found links (log_at c.args.version c.args.log.now) c.ran_by_links-in-Big.result c.ran_by_links-in-Big.ensures.answer
 
-pub returns-in-Replay : goal.returns-in-Replay
-returns-in-Replay g c =
+pub returns-in-Replay-clause-answer : goal.returns-in-Replay-clause-answer
+returns-in-Replay-clause-answer g c =
     let links : LinkUseAt = link_use g.L.Links c.args.links.now c.args.links.now in
     log_answers c.args.task c.args.text.now (file_of c.in-Ok.file) c.in-Ok.ensures.found links (log_at c.args.version c.args.log.now) c.ran_by_log.result c.ran_by_log.ensures
+
+pub returns-in-Show-clause-damage : goal.returns-in-Show-clause-damage
+returns-in-Show-clause-damage g c =
+    no_damage g.L.Out.OutLane g.L.In.InLane g.L.Links.joined (g.L.Links.tells c.args.links.now) c.args.task tasks.Show c.in-Show.is c.args.text.now (file_of c.in-Ok.file)
+    (link_use g.L.Links c.args.links.now c.args.links.now) (log_at c.args.version c.args.log.now) (λ runs. runs) c.shown.result c.shown.ensures
+
+pub returns-in-Check-clause-damage : goal.returns-in-Check-clause-damage
+returns-in-Check-clause-damage g c =
+    no_damage g.L.Out.OutLane g.L.In.InLane g.L.Links.joined (g.L.Links.tells c.args.links.now) c.args.task tasks.Check c.in-Check.is c.args.text.now (file_of c.in-Ok.file)
+    (link_use g.L.Links c.args.links.now c.args.links.now) (log_at c.args.version c.args.log.now) (λ runs. runs) c.count.result c.count.ensures
+
+pub returns-in-Forest-clause-damage : goal.returns-in-Forest-clause-damage
+returns-in-Forest-clause-damage g c =
+    no_damage g.L.Out.OutLane g.L.In.InLane g.L.Links.joined (g.L.Links.tells c.args.links.now) c.args.task tasks.Forest c.in-Forest.is c.args.text.now (file_of c.in-Ok.file)
+    (link_use g.L.Links c.args.links.now c.args.links.now) (log_at c.args.version c.args.log.now) (λ runs. runs) c.shape.result c.shape.ensures
+
+pub returns-in-Sim-clause-damage : goal.returns-in-Sim-clause-damage
+returns-in-Sim-clause-damage g c =
+    no_damage g.L.Out.OutLane g.L.In.InLane g.L.Links.joined (g.L.Links.tells c.args.links.now) c.args.task tasks.Sim c.in-Sim.is c.args.text.now (file_of c.in-Ok.file)
+    (link_use g.L.Links c.args.links.now c.args.links.now) (log_at c.args.version c.args.log.now) (λ runs. runs) c.simulated_file.result c.simulated_file.ensures
+
+pub returns-in-Forward-clause-damage : goal.returns-in-Forward-clause-damage
+returns-in-Forward-clause-damage g c =
+    no_damage g.L.Out.OutLane g.L.In.InLane g.L.Links.joined (g.L.Links.tells c.args.links.now) c.args.task tasks.Forward c.in-Forward.is c.args.text.now (file_of c.in-Ok.file)
+    (link_use g.L.Links c.args.links.now c.args.links.now) (log_at c.args.version c.args.log.now) (λ runs. runs) c.forwarded_file.result c.forwarded_file.ensures
+
+pub returns-in-Talk-clause-damage : goal.returns-in-Talk-clause-damage
+returns-in-Talk-clause-damage g c =
+    no_talk_damage g.L.Out.OutLane g.L.In.InLane g.L.Links.joined (g.L.Links.tells c.args.links.now) c.args.task (tasks.Talk c.in-Talk.party) c.in-Talk.is c.args.text.now (file_of c.in-Ok.file)
+    (link_use g.L.Links c.args.links.now c.args.links.now) c.args.version c.args.log.now (λ runs. runs) c.play.result c.play.ensures
+
+pub returns-in-Run-clause-damage : goal.returns-in-Run-clause-damage
+returns-in-Run-clause-damage g c =
+    run_damage g.L.Out.OutLane g.L.In.InLane g.L.Links.joined (g.L.Links.tells c.args.links.now) c.args.task c.args.task refl c.args.text.now (file_of c.in-Ok.file)
+    c.ran_by_links.result c.in-Ok.ensures.found (subst (λ (t : Task). RunsParties t) (sym c.in-Run.is) tt) c.ran_by_links.ensures.damage
+
+pub returns-in-Big-clause-damage : goal.returns-in-Big-clause-damage
+returns-in-Big-clause-damage g c =
+    run_damage g.L.Out.OutLane g.L.In.InLane g.L.Links.joined (g.L.Links.tells c.args.links.now) c.args.task c.args.task refl c.args.text.now (file_of c.in-Ok.file)
+    c.ran_by_links-in-Big.result c.in-Ok.ensures.found (subst (λ (t : Task). RunsParties t) (sym c.in-Big.is) tt) c.ran_by_links-in-Big.ensures.damage
+
+pub returns-in-Replay-clause-damage : goal.returns-in-Replay-clause-damage
+returns-in-Replay-clause-damage g c =
+    no_log_damage g.L.Out.OutLane g.L.In.InLane g.L.Links.joined (g.L.Links.tells c.args.links.now) c.args.task c.args.task refl c.args.text.now (file_of c.in-Ok.file)
+    (link_use g.L.Links c.args.links.now c.args.links.now) (log_at c.args.version c.args.log.now) (λ runs. subst (λ (t : Task). RunsParties t) c.in-Replay.is runs) c.ran_by_log.result c.ran_by_log.ensures

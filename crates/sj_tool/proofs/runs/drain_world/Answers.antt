@@ -2,15 +2,15 @@ use Rattle.std.proofs.Common.{ℕ, subst}
 use Rattle.sj_check.specs.Held.{file_in}
 use Rattle.sj_core.specs.World.{history_of, kept_file, party_count, world_at}
 use Rattle.sj_lang.specs.FileView.{file_of}
+use Rattle.sj_run.specs.Refusals.{IsDamagedOver}
 use Rattle.sj_run.specs.Shown.{IsShown, keeps_of}
-use Rattle.sj_run.proofs.OverLemmas.{damaged_so, logged_so}
+use Rattle.sj_run.proofs.OverLemmas.{logged_so}
 use Rattle.sj_tool.proofs.DrainedLemmas.{drained_ran}
 use Rattle.sj_tool.proofs.runs.drain_world.Goals as goal
 
 pub returns-in-Err-clause-damaged : goal.returns-in-Err-clause-damaged
 returns-in-Err-clause-damaged g c =
-    damaged_so g.L.Out.OutLane g.L.In.InLane g.L.Links.joined
-    (file_of (file_in c.args.accepted.now)) c.looks_in.result (g.L.Links.tells c.args.links.now) c.in-Err.refusal c.in-Err.ensures.damaged
+    subst (λ (n : ℕ). IsDamagedOver g.L.Out.OutLane g.L.In.InLane g.L.Links.joined (file_of (file_in c.args.accepted.now)) n (g.L.Links.tells c.args.links.now) c.in-Err.refusal) c.looks_in.ensures c.in-Err.ensures.damaged
 
 pub returns-clause-has : goal.returns-clause-has
 returns-clause-has g c log =
