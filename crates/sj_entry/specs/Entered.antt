@@ -26,8 +26,12 @@ pub record SinkAt : Type 0 where
 abbrev pub sink : {K : Type 0} → (written : K → Option (List ℕ)) → (faults : K → ℕ) → K → SinkAt
 sink written faults k = record { written = written k; faults = faults k }
 
+-- what is written of damage, by the call and what the sink holds before and after
+abbrev pub ToldAt : Type 1
+ToldAt = CallAt → (before after : Option (List ℕ)) → Type 0
+
 -- each clause of the top call, of that call and its status, and of the sink before and after
-pub record HasAnswered (c : CallAt) (status : ℕ) (before after : SinkAt) : Type 0 where
+pub record HasAnswered (told : ToldAt) (c : CallAt) (status : ℕ) (before after : SinkAt) : Type 0 where
   pub answer : OrYields status (AnswersOne c status before.written after.written)
   pub exactly : IfSome c.left (λ rest. (a : AnswerAt) → IsInTable c a → NoFaultAbove c a → OrYields status (AnswersAs c status before.written after.written a))
   pub headline : IsVerdict status → AsksFor IsPlaying c → HasHeadline c status before.written after.written
@@ -37,16 +41,17 @@ pub record HasAnswered (c : CallAt) (status : ℕ) (before after : SinkAt) : Typ
   pub read_fault : status ≡ status_of ReadFault → Rose c.faults c.faults_after
   pub link_fault : status ≡ status_of LinkFault → lanes.Rose c.links.faults c.links.faults_after
   pub damaged : (text : List ℕ) → status ≡ status_of (Damaged text) → c.links.tells ≡ true → ⊥
+  pub damage : (text : List ℕ) → status ≡ status_of (Damaged text) → told c before.written after.written
   pub write_fault : status ≡ write_fault_status → Rose before.faults after.faults
   pub front : status ≡ write_fault_status → WroteFront c before.written after.written
   pub no_memory : status ≡ no_memory_status → after.written ≡ before.written
 
 -- the caller gives words to which the top call answers so
-pub record IsAnswer (gives : List (String Global) → Type 0) (called : List (String Global) → CallAt) (status : ℕ) (before after : SinkAt) : Type 0 where
+pub record IsAnswer (told : ToldAt) (gives : List (String Global) → Type 0) (called : List (String Global) → CallAt) (status : ℕ) (before after : SinkAt) : Type 0 where
   pub words : List (String Global)
   pub given : gives words
-  pub answered : HasAnswered (called words) status before after
+  pub answered : HasAnswered told (called words) status before after
 
 -- so it is, or there was no memory for the words, and nothing was written
-abbrev pub Enters : (List (String Global) → Type 0) → (List (String Global) → CallAt) → ℕ → SinkAt → SinkAt → Type 0
-Enters gives called status before after = IsAnswer gives called status before after ⊎ ((status ≡ no_memory_status) × (after.written ≡ before.written))
+abbrev pub Enters : ToldAt → (List (String Global) → Type 0) → (List (String Global) → CallAt) → ℕ → SinkAt → SinkAt → Type 0
+Enters told gives called status before after = IsAnswer told gives called status before after ⊎ ((status ≡ no_memory_status) × (after.written ≡ before.written))

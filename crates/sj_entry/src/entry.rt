@@ -1,6 +1,7 @@
 //! From a program's call to the top call.
 ghost use Rattle.sj_entry.specs.Entered.{Enters, sink};
 ghost use Rattle.sj_tool.specs.Calls.{call};
+ghost use Rattle.sj_tool.specs.Damages.{WritesDamage};
 
 use crate::words::Caller;
 use sj_base::{NoMemory, Sink, Source};
@@ -23,8 +24,8 @@ pub fn enter<C: Caller + AllocGlobal, R: Threads + Sync, S: Source, K: Sink, L: 
     links: &mut L,
     gate: &G,
 ) -> u8
-    ensures answer { Enters (C.gives caller.now) (λ words.
-        call S.Source L.Links words src.old src.new links.old links.new) result
+    ensures answer { Enters (WritesDamage L.Out.OutLane L.In.InLane L.joined (L.tells links.old))
+        (C.gives caller.now) (λ words. call S.Source L.Links words src.old src.new links.old links.new) result
         (sink K.written K.faults out.old) (sink K.written K.faults out.new) }
 {
     match caller.words() {

@@ -21,6 +21,7 @@ returns-in-Ok g c =
               read_fault = sj.read_fault;
               link_fault = sj.link_fault;
               damaged = sj.damaged;
+              damage = sj.damage;
               write_fault = sj.write_fault;
               front = sj.front;
               no_memory = sj.no_memory;
