@@ -1,5 +1,5 @@
 -- What it is to carry a frame from one node to another by hand.
-use Rattle.std.specs.Prelude.{◌≡◌, ◌⊎◌, ℕ, ◌+◌, ◌≤◌, max, Bool, true, false, [], ◌∷◌}
+use Rattle.std.specs.Prelude.{◌≡◌, ◌⊎◌, ℕ, ◌+◌, ◌≤◌, max, Bool, true, false, List, [], ◌∷◌, None}
 use Rattle.sj_end.specs.declared.note.Event.TheVariants as events
 use Rattle.sj_end.specs.Views.{note_at}
 use Rattle.sj_node.specs.declared.node.Node.{Node}
@@ -9,6 +9,13 @@ use Rattle.sj_node.specs.Reading.{outs_of, party_of}
 use Rattle.sj_rules.specs.Frames.{FrameAt}
 use Rattle.sj_rules.specs.Limits.{clock_end}
 use Rattle.sj_table.specs.declared.table.Spot.{Spot}
+
+-- the first frame that the one has for the other fits no row there
+pub record FitsNone (from to : Node) : Type 0 where
+  pub frame : FrameAt Spot
+  pub rest : List (FrameAt Spot)
+  pub first : waiting_in (outs_of from) (party_of to) ≡ frame ∷ rest
+  pub none : delivery to (party_of from) frame ≡ None
 
 -- what waits at the node for each party is as it was
 abbrev pub WaitsAsBefore : (old new : Node) → Type 0

@@ -1,7 +1,7 @@
 //! A file played by hand: nodes act, and the caller carries each frame from one to the other.
-ghost use Rattle.std.specs.Prelude.{◌≡◌, ◌+◌, IfOk, OnErr, length};
-ghost use Rattle.sj_node.specs.Node.{Stays, log_of};
-ghost use Rattle.uses.specs.Carried.{HasCarried, WaitsAsBefore};
+ghost use Rattle.std.specs.Prelude.{◌≡◌, ◌+◌, IfErr, IfOk, OnErr, length};
+ghost use Rattle.sj_node.specs.Node.{Stays, is_refused, log_of};
+ghost use Rattle.uses.specs.Carried.{FitsNone, HasCarried, WaitsAsBefore};
 
 use sj_end::CLOCK_END;
 use sj_node::{DeliverRefusal, Node};
@@ -28,6 +28,7 @@ pub fn act_on(node: &mut Node) -> u32
 /// was one; a frame that is refused stays where it was, and the other node as it was.
 pub fn carry(from: &mut Node, to: &mut Node) -> Result<bool, DeliverRefusal>
     ensures carried { IfOk result (HasCarried from.old to.old from.new to.new) }
+    ensures unfit { IfErr result (λ e. is_refused e (FitsNone from.old to.old)) }
     ensures back { OnErr result (WaitsAsBefore from.old from.new) }
     ensures stays { OnErr result (Stays to.old to.new) }
 {
