@@ -9,7 +9,8 @@ use Rattle.sj_lang.specs.Place.{Place, Carried, Choices, done, message, choice, 
 use Rattle.sj_lang.specs.After.{at_label, carries, followed_by, is_same_way, goes, after_message, after_place}
 use Rattle.sj_lang.specs.Dual.{other_way, dual_of, dual_choices}
 use Rattle.sj_lang.specs.Meet.{EachLabel, Meets, ArmMeets, StandsFor}
-use Rattle.sj_lang.proofs.MeetLemmas.{arm_there, at_label-dual, is_there, meets_followed}
+use Rattle.sj_lang.proofs.DualLemmas.{dual_of-dual_of}
+use Rattle.sj_lang.proofs.MeetLemmas.{arm_there, at_label-dual, is_there, meets_back, meets_followed}
 
 -- the other one has a place behind the message, and the two meet
 abbrev pub Answers : Place → Msg → Place → Type 0
@@ -135,3 +136,11 @@ after_place-dual p w m =
 -- what an end can take, one for which it stands can take, and behind it the one stands for the other
 pub take_standing : (t s t' : Place) (m : Msg) → StandsFor t s → after_place t Into m ≡ Some t' → (s' : Place) × (after_place s Into m ≡ Some s') × StandsFor t' s'
 take_standing t s t' m h e = send_answered (dual_of t) s (dual_of t') m h (after_place-dual t Into m ∙ ap (option_map dual_of) e)
+
+-- what one at the wanted place can send, an end that stands for it can send, and behind it the one stands for the other
+pub send_standing : (t s s' : Place) (m : Msg) → StandsFor t s → after_place s Out m ≡ Some s' → (t' : Place) × (after_place t Out m ≡ Some t') × StandsFor t' s'
+send_standing t s s' m h e = let r : Answers (dual_of t) m s' = send_answered s (dual_of t) s' m (meets_back (dual_of t) s h) e in (
+  dual_of r.0,
+  sym (ap (λ (p : Place). after_place p Out m) (dual_of-dual_of t)) ∙ after_place-dual (dual_of t) Into m ∙ ap (option_map dual_of) r.1,
+  subst (λ (p : Place). Meets p s') (sym (dual_of-dual_of r.0)) (meets_back s' r.0 r.2),
+)

@@ -2,8 +2,8 @@
 //!
 //! - `the_dual_of_the_dual_is_the_protocol`, `a_protocol_meets_its_dual`: duality.
 //! - `protocols_meet_in_both_orders`, `what_meets_an_end_meets_what_it_stands_for`,
-//!   `what_is_sent_can_be_taken`, `what_stands_in_takes_no_more`, `the_test_tells_what_meets`:
-//!   protocols that meet.
+//!   `what_is_sent_can_be_taken`, `what_stands_in_takes_no_more`,
+//!   `what_stands_in_sends_no_less`, `the_test_tells_what_meets`: protocols that meet.
 #![tactic(auto, using(crate::proofs::DualLemmas::duals))]
 
 ghost use Rattle.std.specs.Prelude.{◌≡◌, ◌↔◌, Some, true};
@@ -51,4 +51,11 @@ pub fn the_test_tells_what_meets()
 pub fn what_stands_in_takes_no_more()
     ensures { (t s t' : Place) (m : Msg) → StandsFor t s → after_place t Into m ≡ Some t' →
         (s' : Place) × (after_place s Into m ≡ Some s') × StandsFor t' s' }
+{}
+
+/// Where one place stands for another, what can be sent at the other can be sent at the one, and
+/// after it the one stands for the other again.
+pub fn what_stands_in_sends_no_less()
+    ensures { (t s s' : Place) (m : Msg) → StandsFor t s → after_place s Out m ≡ Some s' →
+        (t' : Place) × (after_place t Out m ≡ Some t') × StandsFor t' s' }
 {}
