@@ -1,9 +1,12 @@
 mod CauseLemmas
 mod DamageLemmas
 mod EachLemmas
+mod FitLemmas
 mod HiredLemmas
 mod JoinLemmas
+mod LeftLemmas
 mod LogLemmas
+mod OrderLemmas
 pub mod OverLemmas
 mod RestLemmas
 mod RoundLemmas

@@ -10,7 +10,7 @@ use Rattle.sj_run.specs.Damage.{IsDamagedSo}
 use Rattle.sj_run.specs.Logged.{AreLogged}
 use Rattle.sj_run.specs.Refusals.{IsDamagedOver}
 use Rattle.sj_run.specs.Workers.{AreLoggedOver}
-use Rattle.sj_run.proofs.DamageLemmas.{are_logged}
+use Rattle.sj_run.proofs.LeftLemmas.{are_logged}
 
 -- it is damage
 pub damaged_so : {O I : Type 0} (outward : OutLane O) (inward : InLane I) (joined : O → I → Type 0) (file : FileAt) (looks : ℕ) (tells : Bool)

@@ -27,8 +27,8 @@ use Rattle.sj_work.specs.Laned.{entries_of}
 use Rattle.sj_work.specs.Views.{lanes_of, node_of}
 use Rattle.sj_run.specs.Shown.{IsShown, LinksAt}
 use Rattle.sj_run.specs.Workers.{AllRising, AllWorked, NoneStopped, SomeStopped, log_or, logs_in}
-use Rattle.sj_run.proofs.JoinLemmas.{core, joined_history, none_there, none_unfit, team, team_shown}
-use Rattle.sj_run.proofs.TeamLemmas.{mapped_at, new_or, team_play, team_work, turned}
+use Rattle.sj_run.proofs.JoinLemmas.{core, joined_history, none_unfit, team, team_shown}
+use Rattle.sj_run.proofs.TeamLemmas.{mapped_at, new_or, none_there, team_play, team_work, turned}
 
 -- ---- counts of faults
 

@@ -1,29 +1,34 @@
 -- The workers of a file, which began with its first nodes and new lanes, are parties that work together.
 use Rattle.std.proofs.Common.{◌≡◌, ◌∙◌, ℕ, zero, suc, ◌<◌, ◌≤◌, max, Bool, true, List, [], ◌∷◌, map, length, Option, Some, None, refl, sym, ap, subst, arith}
 use Rattle.std.specs.Prelude.{slice_get, IsSome}
+use Rattle.std.proofs.lemmas.List.{length-map}
 use mathlib.Core.List.{IsPrefix}
 use Rattle.sj_lang.specs.Place.{Place, done}
-use Rattle.sj_lang.specs.FileAt.{FileAt, body_named}
+use Rattle.sj_lang.specs.FileAt.{FileAt}
 use Rattle.sj_semantics.specs.Program.{Program}
 use Rattle.sj_rules.specs.Joined.{PartiesWork}
 use Rattle.sj_rules.specs.Node.{Play}
 use Rattle.sj_rules.specs.NodeRun.{told_frames}
-use Rattle.sj_rules.specs.Plays.{IsPlayOf}
 use Rattle.sj_rules.specs.Start.{core_start, first_node}
 use Rattle.sj_rules.specs.Work.{IsHired, LanedAt, LaneWork, LostAt, lost_from}
 use Rattle.sj_joined_lemmas.proofs.WorkLemmas.{parties_hired, shown, told_by}
-use Rattle.sj_node.specs.Play.{play_with}
 use Rattle.sj_node.specs.Reading.{party_of}
-use Rattle.sj_node.proofs.FilePlayLemmas.{is_play_of}
 use Rattle.sj_work.specs.declared.worker.Stop.{Stop}
 use Rattle.sj_work.specs.declared.worker.Worker.{Worker}
 use Rattle.sj_work.specs.Laned.{entries_of, laned}
-use Rattle.sj_work.specs.Views.{node_of, stop_of}
+use Rattle.sj_work.specs.Views.{in_of, lanes_of, node_of, stop_of}
 use Rattle.sj_work.specs.Worked.{Turned, WorkedBy, kept_stop}
 use Rattle.sj_run.specs.Workers.{AllWorked, HasWorked}
+use Rattle.sj_run.proofs.FitLemmas.{file_play}
 use Rattle.sj_lane.specs.declared.lane.OutLane.{Ghosts as OutLane}
 use Rattle.sj_lane.specs.declared.lane.InLane.{Ghosts as InLane}
 use Rattle.sj_lane.proofs.BackLemmas.{slice_get_some as there_is}
+
+-- beyond the length of a list nothing is there
+pub none_there : {X : Type 0} (xs : List X) (p : ℕ) → length xs ≤ p → slice_get xs p ≡ None
+none_there [] p le = refl
+none_there (x ∷ xs) zero le = absurd (omega (arith, le))
+none_there (x ∷ xs) (suc p) le = none_there xs p (omega (arith, le))
 
 -- an index of a mapped list
 pub mapped_at : {X Y : Type 0} (f : X → Y) (xs : List X) (p : ℕ) (x : X) → slice_get xs p ≡ Some x → slice_get (map f xs) p ≡ Some (f x)
@@ -33,12 +38,8 @@ mapped_at f (y ∷ ys) (suc p) x is = mapped_at f ys p x is
 
 module _ {O I : Type 0} (outward : OutLane O) (inward : InLane I) (joined : O → I → Type 0) (file : FileAt) (looks : ℕ) (tells : Bool)
     (workers : List (Worker O I)) (all : AllWorked outward inward joined file looks tells workers) where
-  -- what all nodes do for places and programs
   abbrev pub team_play : Play Place Program
-  team_play = play_with (body_named file.protocols) (length file.connects) (length file.parties)
-
-  pub plays_file : IsPlayOf file team_play
-  plays_file = is_play_of file (body_named file.protocols) (λ q. refl)
+  team_play = file_play file
 
   abbrev has : (p : ℕ) (w : Worker O I) → slice_get workers p ≡ Some w
       → HasWorked outward inward file looks tells p w
@@ -70,6 +71,12 @@ module _ {O I : Type 0} (outward : OutLane O) (inward : InLane I) (joined : O �
       let old = (has p w there).old in
       subst (λ (k : ℕ). LaneWork outward.pushed outward.same inward.popped inward.same team_play max done k (laned old) (laned w) t.lost) (has p w there).first.party
       (subst (λ (play : Play Place Program). LaneWork outward.pushed outward.same inward.popped inward.same play max done (party_of (node_of old)) (laned old) (laned w) t.lost) (has p w there).first.play t.went.work)
+
+  -- to a worker there is no lane from beside the parties
+  pub no_lane_from : (p : ℕ) (w : Worker O I) → slice_get workers p ≡ Some w → (q : ℕ) → length file.parties ≤ q → in_of w q ≡ None
+  no_lane_from p w there q le =
+      let square = all.square p (lanes_of w) (mapped_at lanes_of workers p w there) in
+      none_there (lanes_of w).ins.items q (omega (arith, le, square.1, length-map workers lanes_of, all.count))
 
   -- the log of a party that isn't there is empty, and it does nothing
   abbrev nobody_at : ℕ → LanedAt Place Program O I

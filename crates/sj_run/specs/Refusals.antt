@@ -12,7 +12,8 @@ use Rattle.sj_semantics.specs.Program.{Program}
 use Rattle.sj_rules.specs.Log.{LineAt}
 use Rattle.sj_rules.specs.World.{WorldAt}
 use Rattle.sj_work.specs.declared.worker.Worker.{Worker}
-use Rattle.sj_run.specs.Damage.{IsDamage, IsRefusedAfter, left_of}
+use Rattle.sj_run.specs.Damage.{IsDamage, IsRefusedAfter}
+use Rattle.sj_run.specs.Left.{left_of}
 use Rattle.sj_run.specs.Workers.{AllWorked}
 use Rattle.sj_run.specs.declared.refusal.RunRefusal.{RunRefusal}
 use Rattle.sj_run.specs.declared.refusal.RunRefusal.TheVariants as refusals

@@ -90,9 +90,11 @@ abbrev pub AreLogs : {O I : Type 0} → List (Worker O I) → List (Vec Entry) �
 AreLogs workers logs = map (λ (v : Vec Entry). v.items) logs ≡ map (λ w. log_of (node_of w)) workers
 
 module _ {O I : Type 0} (outward : OutLane O) (inward : InLane I) (joined : O → I → Type 0) (file : FileAt) (looks : ℕ) (tells : Bool) where
-  -- the lines are the joined logs of workers that worked over such lanes, of which none stopped at a fault
+  -- the lines are the joined logs of workers that worked over such lanes, of which none stopped at a fault, for want of memory or as unfit
   pub record AreLoggedOver (lines : List LineAt) : Type 0 where
     pub workers : List (Worker O I)
     pub worked : AllWorked outward inward joined file looks tells workers
     pub faultless : NoneStopped workers stops.Fault
+    pub remembers : NoneStopped workers stops.NoMemory
+    pub fits : NoneStopped workers stops.Unfit
     pub joins : IsJoined (logs_in workers) lines

@@ -10,6 +10,6 @@ mod runs;
 mod stops;
 mod teams;
 
-pub use laws::calls_compose;
+pub use laws::{calls_compose, order_is_no_damage};
 pub use refusal::RunRefusal;
 pub use runs::run_parties;

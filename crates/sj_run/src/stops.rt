@@ -1,7 +1,8 @@
 //! How the workers stopped.
 ghost use Rattle.std.specs.Prelude.{◌≡◌, ◌↔◌, IsTrue, IfSome, None, Some, false, map};
 ghost use Rattle.sj_end.specs.Lines.{line_at};
-ghost use Rattle.sj_run.specs.Damage.{IsLowestUnfit, left_of};
+ghost use Rattle.sj_run.specs.Damage.{IsLowestUnfit};
+ghost use Rattle.sj_run.specs.Left.{left_of};
 ghost use Rattle.sj_run.specs.Workers.{NoneStopped, SomeStopped};
 ghost use Rattle.sj_work.specs.declared.worker.Stop.TheVariants as stops;
 

@@ -10,7 +10,8 @@ use Rattle.sj_work.specs.declared.worker.Stop.TheVariants as stops
 use Rattle.sj_work.specs.declared.worker.Worker.{Worker}
 use Rattle.sj_core.proofs.StopLemmas.{error_is}
 use Rattle.sj_run.specs.declared.refusal.RunRefusal.{RunRefusal}
-use Rattle.sj_run.specs.Damage.{IsDamaged, IsLowestUnfit, left_of}
+use Rattle.sj_run.specs.Damage.{IsDamaged, IsLowestUnfit}
+use Rattle.sj_run.specs.Left.{left_of}
 use Rattle.sj_run.specs.Refusals.{IsDamagedOver, IsPastEndOf}
 use Rattle.sj_run.specs.Shown.{keeps_of}
 use Rattle.sj_run.specs.Workers.{AllWorked, NoneStopped, SomeStopped, logs_in}
@@ -52,7 +53,7 @@ pub returns-in-Err-clause-damaged : goal.returns-in-Err-clause-damaged
 returns-in-Err-clause-damaged g c =
     subst (λ (r : RunRefusal). IsDamagedOver g.L.Out.OutLane g.L.In.InLane g.L.Links.joined (file_of (file_in c.args.accepted.now)) c.args.looks (g.L.Links.tells c.args.links.now) r) (sym c.from.ensures)
     (misfit_damage g.L.Out.OutLane g.L.In.InLane g.L.Links.joined
-    (file_of (file_in c.args.accepted.now)) c.args.looks (g.L.Links.tells c.args.links.now) c.in_ok-workers.workers.items c.in_ok-workers.ensures.worked
+    (file_of (file_in c.args.accepted.now)) c.args.looks (g.L.Links.tells c.args.links.now) c.in_ok-workers.workers.items c.in_ok-workers.ensures.worked c.in_ok-workers.ensures.accepted
     (subst (λ (ws : List (Worker g.row.L-Out.Denot g.row.L-In.Denot)). NoneStopped ws stops.Fault) c.deref.ensures.value (c.if-faulty.ensures.none refl))
     (map line_at c.in_ok-lines.lines.items)
     (logs_joined c.in_ok-workers.workers.items c.in_ok-remains.remains.logs.items c.in_ok-remains.ensures.logs (map line_at c.in_ok-lines.lines.items) c.in_ok-lines.ensures)
@@ -80,7 +81,7 @@ pub returns-in-Some-clause-damaged : goal.returns-in-Some-clause-damaged
 returns-in-Some-clause-damaged g c =
     let world = c.in-Ok.world in
     refused_damage g.L.Out.OutLane g.L.In.InLane g.L.Links.joined
-    (file_of (file_in c.args.accepted.now)) c.args.looks (g.L.Links.tells c.args.links.now) c.in_ok-workers.workers.items c.in_ok-workers.ensures.worked
+    (file_of (file_in c.args.accepted.now)) c.args.looks (g.L.Links.tells c.args.links.now) c.in_ok-workers.workers.items c.in_ok-workers.ensures.worked c.in_ok-workers.ensures.accepted
     (subst (λ (ws : List (Worker g.row.L-Out.Denot g.row.L-In.Denot)). NoneStopped ws stops.Fault) c.deref.ensures.value (c.if-faulty.ensures.none refl))
     (map line_at c.in_ok-lines.lines.items)
     (logs_joined c.in_ok-workers.workers.items c.in_ok-remains.remains.logs.items c.in_ok-remains.ensures.logs (map line_at c.in_ok-lines.lines.items) c.in_ok-lines.ensures)
@@ -107,6 +108,8 @@ returns-clause-logged g c = record {
   workers = c.in_ok-workers.workers.items;
   worked = c.in_ok-workers.ensures.worked;
   faultless = subst (λ (ws : List (Worker g.row.L-Out.Denot g.row.L-In.Denot)). NoneStopped ws stops.Fault) c.deref.ensures.value (c.if-faulty.ensures.none refl);
+  remembers = subst (λ (ws : List (Worker g.row.L-Out.Denot g.row.L-In.Denot)). NoneStopped ws stops.NoMemory) c.deref-2.ensures.value (c.if-short.ensures.none refl);
+  fits = subst (λ (ws : List (Worker g.row.L-Out.Denot g.row.L-In.Denot)). NoneStopped ws stops.Unfit) c.deref-3.ensures.value (c.in_default.ensures.none refl);
   joins =
       subst (λ (ls : List LineAt). IsJoined (logs_in c.in_ok-workers.workers.items) ls) (sym c.in-Ok.ensures.history)
       (logs_joined c.in_ok-workers.workers.items c.in_ok-remains.remains.logs.items c.in_ok-remains.ensures.logs (map line_at c.in_ok-lines.lines.items) c.in_ok-lines.ensures);
