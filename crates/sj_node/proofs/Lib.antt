@@ -1,4 +1,5 @@
 pub mod ActLemmas
+pub mod CallLemmas
 pub mod AgreeLemmas
 pub mod ComingLemmas
 pub mod DelegateLemmas

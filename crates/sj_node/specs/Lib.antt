@@ -18,3 +18,4 @@ pub mod Slots
 pub mod Starting
 pub mod Taking
 pub mod Unfit
+pub mod Calls

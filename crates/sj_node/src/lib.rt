@@ -3,6 +3,7 @@
 
 mod acts;
 mod arrivals;
+mod calls;
 mod delegations;
 mod deliveries;
 mod departures;

@@ -65,7 +65,7 @@ untaken_is w e lt =
     ∙ ap (λ (x : PlainSide Place). drop (length taker.takers) x.sent) (side_below w.requests w.sessions (other_end e) (other_side_below e) ∙ ap (λ (f : EndId). side_at (is_offered_end w.requests (other_end e)) (end_at w.sessions f)) (other_end_is e))
     ∙ drop-map (λ (x : Passed). x.msg) (length taker.takers) giver.sent
 
-is_done_there : (p : Place) → p ≡ done → is_done p ≡ true
+pub is_done_there : (p : Place) → p ≡ done → is_done p ≡ true
 is_done_there p h = ap is_done h
 
 -- ---- the step of a party
@@ -95,7 +95,7 @@ module _ (file : FileAt) (n : Size) (w : World) (p : ℕ) (g : Program) (sound :
       (binds_without g.ends x y (bindings_once w p g y sound.unshared there) is_named))
 
   -- where a message is sent, the other end's place isn't empty
-  goes_on_by : (e : EndId) (m : Msg) (next : Place) → after_place (end_at w.sessions e).place Out m ≡ Some next → (plain_side w.requests w.sessions (other_end e)).place ≡ done → ⊥
+  pub goes_on_by : (e : EndId) (m : Msg) (next : Place) → after_place (end_at w.sessions e).place Out m ≡ Some next → (plain_side w.requests w.sessions (other_end e)).place ≡ done → ⊥
   goes_on_by e m next h over =
       let a : EndAt = end_at w.sessions e in
       let b : EndAt = end_at w.sessions (semantics.other_end e) in

@@ -77,10 +77,10 @@ module _ (file : FileAt) (z : Size) (w : World) (sound : Sound file w) (proper :
 
   -- ---- counts
 
-  sent_is : (e : EndId) → e.side < 2 → length ((plain_at w).sides e).sent ≡ length (end_at w.sessions e).sent
+  pub sent_is : (e : EndId) → e.side < 2 → length ((plain_at w).sides e).sent ≡ length (end_at w.sessions e).sent
   sent_is e lt = ap (λ (x : PlainSide _). length x.sent) (side_below w.requests w.sessions e lt) ∙ length-map (end_at w.sessions e).sent (λ (x : Passed). x.msg)
 
-  other_sent_is : (e : EndId) → length ((plain_at w).sides (other_end e)).sent ≡ length (end_at w.sessions (semantics.other_end e)).sent
+  pub other_sent_is : (e : EndId) → length ((plain_at w).sides (other_end e)).sent ≡ length (end_at w.sessions (semantics.other_end e)).sent
   other_sent_is e = sent_is (other_end e) (other_side_below e) ∙ ap (λ (f : EndId). length (end_at w.sessions f).sent) (other_end_is e)
 
   counts_fit : (counted : IsCounted w) → z.parties ≤ 16 → (e : EndId) → e.side < 2 → IsWithinCounts ((plain_at w).sides e) ((plain_at w).sides (other_end e))
@@ -121,13 +121,13 @@ module _ (file : FileAt) (z : Size) (w : World) (sound : Sound file w) (proper :
 
   -- ---- names and keepers
 
-  bound_below : (p : ℕ) (o : Option Program) → slice_get w.parties p ≡ o → (e : EndId) → binds (unwrap_or o nobody) e ≡ true → (e.side < 2) × (p < z.parties)
+  pub bound_below : (p : ℕ) (o : Option Program) → slice_get w.parties p ≡ o → (e : EndId) → binds (unwrap_or o nobody) e ≡ true → (e.side < 2) × (p < z.parties)
   bound_below p None h e b = cc
   bound_below p (Some g) h e b =
       let t = has_name g.ends e b in
       (((proper.names p g h).below t.name e t.is_named).0, omega (arith, proper.many, slice_get_within w.parties p g h))
 
-  idle_above : (p : ℕ) (o : Option Program) → slice_get w.parties p ≡ o → z.parties ≤ p → (play_for z.parties ps).wants (unwrap_or o nobody) ≡ ended
+  pub idle_above : (p : ℕ) (o : Option Program) → slice_get w.parties p ≡ o → z.parties ≤ p → (play_for z.parties ps).wants (unwrap_or o nobody) ≡ ended
   idle_above p None h le = refl
   idle_above p (Some g) h le = absurd (omega (arith, proper.many, slice_get_within w.parties p g h))
 
@@ -140,14 +140,14 @@ module _ (file : FileAt) (z : Size) (w : World) (sound : Sound file w) (proper :
       message_at z giver.sent (plain_side w.requests w.sessions e).taken j m (proper.messages (semantics.other_end e))
       (ap (λ ms. slice_get (drop (plain_side w.requests w.sessions e).taken ms) j) (sym same) ∙ h)
 
-  keeper_below : (e : EndId) (j s d k : ℕ) → e.side < 2 → waiting_at (plain_at w) e j ≡ Some (msgs.Sess s d k) → (d < 2) × (k < z.parties)
+  pub keeper_below : (e : EndId) (j s d k : ℕ) → e.side < 2 → waiting_at (plain_at w) e j ≡ Some (msgs.Sess s d k) → (d < 2) × (k < z.parties)
   keeper_below e j s d k lt h = let m = message_below e j (msgs.Sess s d k) lt h in (m.1, m.2)
 
   -- an offered end is still to come, and bound nowhere
-  offered_comes : (e : EndId) → is_offered_end w.requests e ≡ true → IsToCome w e
+  pub offered_comes : (e : EndId) → is_offered_end w.requests e ≡ true → IsToCome w e
   offered_comes e o = let f = offered_is w.requests e o in to_accept f.party f.after f.request f.there f.open_still f.sess (ap (is_same_side 1) f.side)
 
-  unbound_by : (p : ℕ) (e : EndId) (o : Option Program) → slice_get w.parties p ≡ o → is_offered_end w.requests e ≡ true → binds (unwrap_or o nobody) e ≡ false
+  pub unbound_by : (p : ℕ) (e : EndId) (o : Option Program) → slice_get w.parties p ≡ o → is_offered_end w.requests e ≡ true → binds (unwrap_or o nobody) e ≡ false
   unbound_by p e None h off = refl
   unbound_by p e (Some g) h off =
       false_from_ne_true (binds g e) (λ b.

@@ -48,7 +48,7 @@ body_is_within n (Give e resend) h =
     (le-leb e.conn limit_of_conns h.conn) (lt-ltb e.peer n h.peer) (le-leb e.sent limit_of_messages h.sent) (le-leb e.taken limit_of_messages h.taken)
 
 -- so do all frames of a lane whose clocks are below 2^62
-frames_are_proper : {P : Type 0} → (n c : ℕ) (fs : List (FrameAt P)) → c < clock_end → AllByRecursion (λ f. BodyWithin n f.body) fs → NoneAbove c fs
+pub frames_are_proper : {P : Type 0} → (n c : ℕ) (fs : List (FrameAt P)) → c < clock_end → AllByRecursion (λ f. BodyWithin n f.body) fs → NoneAbove c fs
     → AllByRecursion (λ f. is_proper n f ≡ true) fs
 frames_are_proper n c [] low within above = tt
 frames_are_proper n c (f ∷ fs) low within above =

@@ -1,0 +1,17 @@
+pub mod CourseLemmas
+pub mod HeldLemmas
+pub mod GuardLemmas
+pub mod UseLemmas
+pub mod PassLemmas
+pub mod CallLemmas
+pub mod SeatedLemmas
+pub mod LawfulLemmas
+pub mod SeenLemmas
+pub mod StartLemmas
+pub mod RunLemmas
+pub mod HeadlineLemmas
+pub mod UsingLemmas
+pub mod ClosingLemmas
+pub mod DelegatingLemmas
+pub mod SeatedHeadlineLemmas
+pub mod PlayedLemmas
