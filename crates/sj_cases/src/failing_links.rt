@@ -1,5 +1,6 @@
 //! Links of rings which fail once.
 use sj_base::NoMemory;
+use sj_end::Frame;
 use sj_lane::{InLane, Lanes, Links, MakeRefusal, OutLane, RingIn, RingLinks, RingOut};
 use std::alloc::Global;
 
@@ -60,6 +61,16 @@ impl Links for FailsOnce {
 
     fn carry(&mut self, lanes: &mut [Lanes<RingOut, RingIn>]) -> Result<(), NoMemory> {
         self.rings.carry(lanes)
+    }
+
+    fn rest(
+        &mut self,
+        alloc: Global,
+        lanes: &mut Vec<Lanes<RingOut, RingIn>>,
+        from: u16,
+        to: u16,
+    ) -> Result<Option<Vec<Frame>>, NoMemory> {
+        self.rings.rest(alloc, lanes, from, to)
     }
 
     fn back(&mut self, lanes: Vec<Lanes<RingOut, RingIn>>)

@@ -173,6 +173,16 @@ impl Links for Odd {
         Ok(())
     }
 
+    fn rest(
+        &mut self,
+        _alloc: Global,
+        _lanes: &mut Vec<Lanes<Breaks, Brings>>,
+        _from: u16,
+        _to: u16,
+    ) -> Result<Option<Vec<Frame>>, NoMemory> {
+        Ok(None)
+    }
+
     fn back(&mut self, lanes: Vec<Lanes<Breaks, Brings>>)
         requires square { IsSquare lanes.items }
         requires joined { AllJoined (λ (o : _) (i : _). Unit {0}) lanes.items }

@@ -5,12 +5,12 @@ use Rattle.std.proofs.lemmas.List.{map-append}
 use mathlib.Core.List.{IsPrefix}
 use Rattle.sj_end.specs.declared.wire.Frame.{Frame}
 use Rattle.sj_lane.specs.Told.{told_frame, told_list}
-use Rattle.rtrb.specs.Ring.{sent, received}
+use Rattle.rtrb.specs.Ring.{sent}
 use Rattle.sj_lane.specs.declared.lane.Lanes.{Lanes}
 use Rattle.sj_lane.specs.Square.{out_at, in_at, IsSquare, Kept}
 use Rattle.sj_lane.specs.declared.ends.RingOut.{RingOut}
 use Rattle.sj_lane.specs.declared.ends.RingIn.{RingIn}
-use Rattle.sj_lane.specs.Rings.{Each2, LanesKept, Fed}
+use Rattle.sj_lane.specs.Rings.{Each2, LanesKept, Fed, popped_of}
 use Rattle.sj_lane.specs.KeptLanes.{sent_in, got_in, vain_out_in, vain_in_in}
 use Rattle.sj_lane.proofs.SettleLemmas.{out_forth, in_forth}
 
@@ -44,14 +44,14 @@ told_prefix xs ys h = (told_list h.0, sym (map-append told_frame xs h.0) ∙ ap 
 
 pub kept_after : (L M : List (Lanes RingOut RingIn)) → IsSquare L → Each2 LanesKept L M
     → ((p q : ℕ) (o : RingOut) (i : RingIn) → q < length L → out_at L p q ≡ Some o → in_at L p q ≡ Some i → Fed o i)
-    → Kept {O = RingOut} {I = RingIn} (λ o. Some (told_list (sent o.producer))) (λ i. Some (told_list (received i.consumer))) (λ o. o.vain) (λ i. i.vain) L (sent_in M) (got_in M) (vain_out_in M) (vain_in_in M)
+    → Kept {O = RingOut} {I = RingIn} (λ o. Some (told_list (sent o.producer))) (λ i. Some (told_list (popped_of i))) (λ o. o.vain) (λ i. i.vain) L (sent_in M) (got_in M) (vain_out_in M) (vain_in_in M)
 kept_after L M square a fed = record {
   outs = λ p q o h. let x = out_forth L M p q o a h in rw x.1 (ap (λ fs. Some (told_list fs)) (sym x.2.sent), sym x.2.vain);
-  ins = λ p q i h. let x = in_forth L M p q i a h in rw x.1 (ap (λ fs. Some (told_list fs)) (sym x.2.received), sym x.2.vain);
+  ins = λ p q i h. let x = in_forth L M p q i a h in rw x.1 (ap (λ fs. Some (told_list fs)) (sym x.2.popped), sym x.2.vain);
   prefix = λ p q hp hq.
       let o = square_out L p q square hp hq in
       let i = square_in L p q square hp hq in
       let x = out_forth L M p q o.0 a o.1 in
       let y = in_forth L M p q i.0 a i.1 in
-      rw (x.1, y.1, x.2.sent, y.2.received) (told_prefix (received i.0.consumer) (sent o.0.producer) (fed p q o.0 i.0 hq o.1 i.1));
+      rw (x.1, y.1, x.2.sent, y.2.popped) (told_prefix (popped_of i.0) (sent o.0.producer) (fed p q o.0 i.0 hq o.1 i.1));
 }

@@ -15,7 +15,7 @@ pub joined_kept : (o p : RingOut) (i j : RingIn) → OutKept o p → InKept i j 
 joined_kept o p i j a b h = let r = a.ring in let s = b.ring in (cc, cc, cc, cc)
 
 pub fed_before : (o p : RingOut) (i j : RingIn) → OutKept o p → InKept i j → Fed p j → Fed o i
-fed_before o p i j a b h = rw (← a.sent, ← b.received) h
+fed_before o p i j a b h = rw (← a.sent, ← b.popped) h
 
 -- the ends at an index now are joined, as they were
 pub joined_now : (L M : List (Lanes RingOut RingIn)) (C D : List RingIn) (p q : ℕ) (l : Lanes RingOut RingIn) (o : RingOut) (i : RingIn)
@@ -30,13 +30,13 @@ pub out_later : (a b c : RingOut) → OutKept a b → OutKept b c → OutKept a 
 out_later a b c h k = let r = h.ring in let s = k.ring in record { ring = ((cc, cc, cc, cc), cc); sent = cc; vain = cc }
 
 pub in_later : (a b c : RingIn) → InKept a b → InKept b c → InKept a c
-in_later a b c h k = let r = h.ring in let s = k.ring in record { ring = ((cc, cc, cc, cc), cc); received = cc; vain = cc }
+in_later a b c h k = let r = h.ring in let s = k.ring in record { ring = ((cc, cc, cc, cc), cc); popped = k.popped ∙ h.popped; vain = cc }
 
 pub out_itself : (a : RingOut) → OutKept a a
 out_itself a = record { ring = ((refl, refl, refl, refl), refl); sent = refl; vain = refl }
 
 pub in_itself : (a : RingIn) → InKept a a
-in_itself a = record { ring = ((refl, refl, refl, refl), refl); received = refl; vain = refl }
+in_itself a = record { ring = ((refl, refl, refl, refl), refl); popped = refl; vain = refl }
 
 pub column_more : (L : List (Lanes RingOut RingIn)) (C : List RingIn) (p q : ℕ) → ColumnFed L C q p
     → ((o : RingOut) (i : RingIn) → out_at L p q ≡ Some o → slice_get C p ≡ Some i → Fed o i) → ColumnFed L C q (p + 1)

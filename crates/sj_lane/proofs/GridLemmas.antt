@@ -9,9 +9,9 @@ use Rattle.std.proofs.lemmas.Option.{slice_get_within, get_or_from_slice_get}
 use Rattle.sj_lane.specs.declared.lane.Lanes.{Lanes}
 use Rattle.sj_lane.specs.declared.ends.RingOut.{RingOut}
 use Rattle.sj_lane.specs.declared.ends.RingIn.{RingIn}
-use Rattle.sj_lane.specs.Rings.{Joined}
+use Rattle.sj_lane.specs.Rings.{Joined, popped_of}
 use Rattle.std.specs.Prelude.{Bool}
-use Rattle.rtrb.specs.Ring.{sent, received}
+use Rattle.rtrb.specs.Ring.{sent}
 use Rattle.sj_lane.specs.Told.{told_list}
 use Rattle.sj_lane.specs.Square.{out_at, in_at, IsSquare, AllJoined, IsFresh}
 use Rattle.sj_lane.proofs.SettleLemmas.{out_found, in_found}
@@ -129,8 +129,8 @@ grid_square n L g = λ p l at.
 pub grid_joined : (n : ℕ) (L : List (Lanes RingOut RingIn)) → Grid n n 0 L → AllJoined Joined L
 grid_joined n L g = λ p q o i ho hi. g.joined p q o i (out_row L p q o ho) (in_row L p q i hi)
 
-pub grid_fresh : (n : ℕ) (tells : Bool) (L : List (Lanes RingOut RingIn)) → Grid n n 0 L → IsFresh {O = RingOut} {I = RingIn} (λ o. Some (told_list (sent o.producer))) (λ i. Some (told_list (received i.consumer))) (λ o. o.vain) (λ i. i.vain) tells L
+pub grid_fresh : (n : ℕ) (tells : Bool) (L : List (Lanes RingOut RingIn)) → Grid n n 0 L → IsFresh {O = RingOut} {I = RingIn} (λ o. Some (told_list (sent o.producer))) (λ i. Some (told_list (popped_of i))) (λ o. o.vain) (λ i. i.vain) tells L
 grid_fresh n tells L g = record {
   outs = λ p q o h. let x = g.new_outs p q o (out_row L p q o h) in (λ t. ap (λ fs. Some (told_list fs)) x.sent, x.vain);
-  ins = λ p q i h. let x = g.new_ins p q i (in_row L p q i h) in (λ t. ap (λ fs. Some (told_list fs)) x.received, x.vain);
+  ins = λ p q i h. let x = g.new_ins p q i (in_row L p q i h) in (λ t. ap (λ fs. Some (told_list fs)) x.popped, x.vain);
 }

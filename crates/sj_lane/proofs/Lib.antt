@@ -5,7 +5,9 @@ pub mod CellLemmas
 pub mod ColumnLemmas
 pub mod EachLemmas
 pub mod GridLemmas
+pub mod HandLemmas
 pub mod MemRowsLemmas
 pub mod MovedLemmas
 pub mod PushLemmas
+pub mod RestLemmas
 pub mod SettleLemmas

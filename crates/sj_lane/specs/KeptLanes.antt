@@ -1,9 +1,10 @@
 -- What kept lanes show.
 use Rattle.std.specs.Prelude.{ℕ, List, [], Option, Some, None, Vec}
 use Rattle.std.specs.declared.alloc.Global.{Global}
-use Rattle.rtrb.specs.Ring.{sent, received}
+use Rattle.rtrb.specs.Ring.{sent}
 use Rattle.sj_lang.specs.Place.{Place}
 use Rattle.sj_rules.specs.Frames.{FrameAt}
+use Rattle.sj_lane.specs.Rings.{popped_of}
 use Rattle.sj_lane.specs.Told.{told_list}
 use Rattle.sj_lane.specs.declared.lane.Lanes.{Lanes}
 use Rattle.sj_lane.specs.Square.{out_at, in_at}
@@ -23,7 +24,7 @@ vain_of_out (Some o) = o.vain
 -- the frames that were popped from a lane, where there is one
 abbrev pub got_of : Option RingIn → List (FrameAt Place)
 got_of None = []
-got_of (Some i) = told_list (received i.consumer)
+got_of (Some i) = told_list (popped_of i)
 
 -- its count of calls in vain
 abbrev pub vain_of_in : Option RingIn → ℕ

@@ -1,14 +1,24 @@
 -- What stays of a lane, and of all lanes, while both ends are looked at in one thread.
-use Rattle.std.specs.Prelude.{◌≡◌, ℕ, ◌<◌, List, [], ◌∷◌, Option, Some, length, slice_get}
+use Rattle.std.specs.Prelude.{◌≡◌, ℕ, zero, suc, ◌-◌, ◌<◌, List, [], ◌∷◌, ◌++◌, take, Option, Some, length, slice_get}
 use mathlib.Core.List.{IsPrefix}
 use Rattle.rtrb.specs.Ring.{sent, received, IsPair, SameProducer, SameConsumer}
 use Rattle.sj_lang.specs.Place.{Place}
 use Rattle.sj_rules.specs.Frames.{FrameAt}
+use Rattle.sj_end.specs.declared.wire.Frame.{Frame}
 use Rattle.sj_lane.specs.Told.{told_list}
 use Rattle.sj_lane.specs.declared.lane.Lanes.{Lanes}
 use Rattle.sj_lane.specs.Square.{out_at}
 use Rattle.sj_lane.specs.declared.ends.RingOut.{RingOut}
 use Rattle.sj_lane.specs.declared.ends.RingIn.{RingIn}
+
+-- a list without its last items, so many
+abbrev pub without_last : {X : Type 0} → ℕ → List X → List X
+without_last zero xs = xs
+without_last (suc k) xs = take (length xs - suc k) xs
+
+-- the frames that came by `pop`
+abbrev pub popped_of : RingIn → List Frame
+popped_of i = without_last i.handed (received i.consumer)
 
 -- two lists, related at each index
 abbrev pub Each2 : {X Y : Type 0} → (X → Y → Type 0) → List X → List Y → Type 0
@@ -26,7 +36,7 @@ pub record OutKept (a b : RingOut) : Type 0 where
 -- what stays of a lane from another party
 pub record InKept (a b : RingIn) : Type 0 where
   pub ring : SameConsumer a.consumer b.consumer
-  pub received : received b.consumer ≡ received a.consumer
+  pub popped : popped_of b ≡ popped_of a
   pub vain : b.vain ≡ a.vain
 
 -- the frames that were pushed, as the lane tells them
@@ -35,7 +45,7 @@ frames_pushed o = Some (told_list (sent o.producer))
 
 -- the frames that were popped
 abbrev pub frames_popped : RingIn → Option (List (FrameAt Place))
-frames_popped i = Some (told_list (received i.consumer))
+frames_popped i = Some (told_list (popped_of i))
 
 -- how many frames were pushed
 abbrev pub push_count : RingOut → ℕ
@@ -54,7 +64,7 @@ Joined o i = IsPair o.producer i.consumer
 
 -- what was popped is a front of what was pushed
 abbrev pub Fed : RingOut → RingIn → Type 0
-Fed o i = IsPrefix (received i.consumer) (sent o.producer)
+Fed o i = IsPrefix (popped_of i) (sent o.producer)
 
 -- the outgoing lanes stay, and the incoming ones are untouched
 pub record OutsKept (a b : Lanes RingOut RingIn) : Type 0 where
@@ -73,3 +83,11 @@ ColumnFed lanes column q n = (p : ℕ) (o : RingOut) (i : RingIn) → p < n → 
 -- each of them is the end of one ring
 abbrev pub ColumnJoined : List (Lanes RingOut RingIn) → List RingIn → ℕ → Type 0
 ColumnJoined lanes column q = (p : ℕ) (o : RingOut) (i : RingIn) → out_at lanes p q ≡ Some o → slice_get column p ≡ Some i → Joined o i
+
+-- on that ring were pushed the popped frames, and then these
+pub record IsRestOf (out : Option RingOut) (lane : Option RingIn) (frames : List Frame) : Type 0 where
+  pub producer : RingOut
+  pub consumer : RingIn
+  pub there : out ≡ Some producer
+  pub here : lane ≡ Some consumer
+  pub all : sent producer.producer ≡ popped_of consumer ++ frames

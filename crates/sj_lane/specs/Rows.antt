@@ -1,10 +1,10 @@
 -- Lanes as rows: row p of the outgoing ones has the lane from p to each q, row q of the incoming ones has the lane from each p to q.
 use Rattle.std.specs.Prelude.{◌≡◌, ℕ, ◌+◌, ◌<◌, ◌≤◌, List, [], ◌∷◌, ◌++◌, map, length, slice_index_or, slice_set, Some, slice_get}
-use Rattle.rtrb.specs.Ring.{sent, received}
+use Rattle.rtrb.specs.Ring.{sent}
 use Rattle.sj_lane.specs.declared.lane.Lanes.{Lanes}
 use Rattle.sj_lane.specs.declared.ends.RingOut.{RingOut}
 use Rattle.sj_lane.specs.declared.ends.RingIn.{RingIn}
-use Rattle.sj_lane.specs.Rings.{Joined}
+use Rattle.sj_lane.specs.Rings.{Joined, popped_of}
 
 -- the lanes to other parties, row by row
 abbrev pub outs_of : List (Lanes RingOut RingIn) → List (List RingOut)
@@ -29,7 +29,7 @@ pub record NewOut (o : RingOut) : Type 0 where
 
 -- nothing was popped from it
 pub record NewIn (i : RingIn) : Type 0 where
-  pub received : received i.consumer ≡ []
+  pub popped : popped_of i ≡ []
   pub vain : i.vain ≡ 0
 
 -- one more ring, from p to q

@@ -1,8 +1,10 @@
 -- The lanes of all parties: the lane from p to q, and what holds of every pair.
-use Rattle.std.specs.Prelude.{◌≡◌, ◌⊎◌, ℕ, ◌<◌, ◌≤◌, List, [], length, Option, Some, None, Bool, true, vec_len, slice_get}
+use Rattle.std.specs.Prelude.{◌≡◌, ◌⊎◌, ℕ, ◌<◌, ◌≤◌, List, [], ◌++◌, length, Option, Some, None, Bool, true, vec_len, slice_get}
 use mathlib.Core.List.{IsPrefix}
 use Rattle.sj_lang.specs.Place.{Place}
 use Rattle.sj_rules.specs.Frames.{FrameAt}
+use Rattle.sj_end.specs.declared.wire.Frame.{Frame}
+use Rattle.sj_lane.specs.Told.{told_list}
 use Rattle.sj_lane.specs.declared.lane.Lanes.{Lanes}
 
 module _ {O I : Type 0} where
@@ -61,6 +63,17 @@ module _ {O I : Type 0} (pushed : O → Option (List (FrameAt Place))) (popped :
     pub outs : (p q : ℕ) (o : O) → out_at lanes p q ≡ Some o → (pushed o ≡ Some (sent p q)) × (vain_o o ≡ vain_out p q)
     pub ins : (p q : ℕ) (i : I) → in_at lanes p q ≡ Some i → (popped i ≡ Some (got p q)) × (vain_i i ≡ vain_in p q)
     pub prefix : (p q : ℕ) → p < length lanes → q < length lanes → IsPrefix (got p q) (sent p q)
+
+module _ {O I : Type 0} (pushed : O → Option (List (FrameAt Place))) (popped : I → Option (List (FrameAt Place))) where
+  -- on the link from p to q was pushed what was popped, and then these frames
+  pub record IsRest (lanes : List (Lanes O I)) (p q : ℕ) (frames : List Frame) : Type 0 where
+    pub out : O
+    pub into : I
+    pub there : out_at lanes p q ≡ Some out
+    pub here : in_at lanes p q ≡ Some into
+    pub got : List (FrameAt Place)
+    pub popped_is : popped into ≡ Some got
+    pub pushed_is : pushed out ≡ Some (got ++ told_list frames)
 
 module _ {O I : Type 0} (faults_o : O → ℕ) (faults_i : I → ℕ) where
   -- no lane met a fault

@@ -18,6 +18,8 @@ pub struct RingOut {
 pub struct RingIn {
     pub(crate) consumer: Consumer<Frame>,
     pub(crate) vain: u64,
+    /// How many frames were handed over that no pop gave. Behind them no pop gives any.
+    pub(crate) handed: usize,
 }
 
 impl OutLane for RingOut {
@@ -79,6 +81,10 @@ impl InLane for RingIn {
         ensures link { SameIn self.old self.new }
         ensures answers { IsOk result }
     {
+        if self.handed != 0 {
+            self.vain = self.vain.saturating_add(1);
+            return Ok(None);
+        }
         match self.consumer.pop() {
             Ok(frame) => Ok(Some(frame)),
             Err(_) => {

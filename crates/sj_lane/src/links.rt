@@ -1,12 +1,13 @@
 //! Links between all parties.
-ghost use Rattle.std.specs.Prelude.{◌≡◌, ℕ, ◌≤◌, List, Bool, true, Err, IfOk, vec_len};
+ghost use Rattle.std.specs.Prelude.{◌≡◌, ℕ, ◌≤◌, List, Bool, true, Err, IfOk, IfSome, vec_len};
 ghost use Rattle.sj_lang.specs.Place.{Place};
 ghost use Rattle.sj_rules.specs.Frames.{FrameAt};
-ghost use Rattle.sj_lane.specs.Square.{AllJoined, HasFault, IsFresh, IsSquare, Kept, NoFault, NoneFell, SameLists};
+ghost use Rattle.sj_lane.specs.Square.{AllJoined, HasFault, IsFresh, IsRest, IsSquare, Kept, NoFault, NoneFell, SameLists};
 ghost use Rattle.sj_lane.specs.Told.{Rose};
 
 use crate::lane::{InLane, Lanes, OutLane};
 use sj_base::NoMemory;
+use sj_end::Frame;
 use std::alloc::Global;
 
 /// Why there are no lanes.
@@ -55,6 +56,26 @@ pub trait Links {
         ensures joined { AllJoined joined lanes.new }
         ensures lists { SameLists Self.Out.pushed Self.In.popped Self.Out.vain Self.In.vain lanes.old lanes.new }
         ensures faults { NoneFell Self.Out.faults Self.In.faults lanes.old lanes.new }
+        ensures shown { (p q : ℕ) → (sent self.new p q ≡ sent self.old p q) × (got self.new p q ≡ got self.old p q)
+            × (vain_out self.new p q ≡ vain_out self.old p q) × (vain_in self.new p q ≡ vain_in self.old p q) }
+        ensures tells { tells self.new ≡ tells self.old }
+        ensures fault { faults self.new ≡ faults self.old };
+
+    /// What waits on the link from that party to that one, in order, where the links can hand it over; that counts as no pop.
+    fn rest(
+        &mut self,
+        alloc: Global,
+        lanes: &mut Vec<Lanes<Self::Out, Self::In>>,
+        from: u16,
+        to: u16,
+    ) -> Result<Option<Vec<Frame>>, NoMemory>
+        requires square { IsSquare lanes.old.items }
+        requires joined { AllJoined joined lanes.old.items }
+        ensures square { IsSquare lanes.new.items }
+        ensures joined { AllJoined joined lanes.new.items }
+        ensures lists { SameLists Self.Out.pushed Self.In.popped Self.Out.vain Self.In.vain lanes.old.items lanes.new.items }
+        ensures faults { NoneFell Self.Out.faults Self.In.faults lanes.old.items lanes.new.items }
+        ensures rest { IfOk result (λ o. IfSome o (λ v. (tells self.old ≡ true) × IsRest Self.Out.pushed Self.In.popped lanes.old.items from to v.items)) }
         ensures shown { (p q : ℕ) → (sent self.new p q ≡ sent self.old p q) × (got self.new p q ≡ got self.old p q)
             × (vain_out self.new p q ≡ vain_out self.old p q) × (vain_in self.new p q ≡ vain_in self.old p q) }
         ensures tells { tells self.new ≡ tells self.old }

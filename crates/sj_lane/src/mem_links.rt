@@ -5,6 +5,7 @@ use crate::links::{Links, MakeRefusal};
 use crate::mem::{MemIn, MemOut};
 use crate::rows::lanes_of;
 use sj_base::NoMemory;
+use sj_end::Frame;
 use std::alloc::Global;
 
 /// Links of lists in memory. Frames come to the other side by `carry` alone.
@@ -88,6 +89,16 @@ impl Links for MemLinks {
         ensures short { OnErr result ((p q : ℕ) × AreMovedUpTo p q lanes.old lanes.new) }
     {
         carry_all(lanes)
+    }
+
+    fn rest(
+        &mut self,
+        _alloc: Global,
+        _lanes: &mut Vec<Lanes<MemOut, MemIn>>,
+        _from: u16,
+        _to: u16,
+    ) -> Result<Option<Vec<Frame>>, NoMemory> {
+        Ok(None)
     }
 
     fn back(&mut self, lanes: Vec<Lanes<MemOut, MemIn>>)

@@ -1,10 +1,11 @@
 //! The links.
-use crate::columns::settle;
+use crate::columns::{settle, take_rest};
 use crate::ends::{RingIn, RingOut};
 use crate::grids::build;
 use crate::lane::{InLane, Lanes, OutLane};
 use crate::links::{Links, MakeRefusal};
 use sj_base::NoMemory;
+use sj_end::Frame;
 use std::alloc::Global;
 
 /// Links of rings of 64 frames.
@@ -59,6 +60,16 @@ impl Links for RingLinks {
 
     fn carry(&mut self, _lanes: &mut [Lanes<RingOut, RingIn>]) -> Result<(), NoMemory> {
         Ok(())
+    }
+
+    fn rest(
+        &mut self,
+        alloc: Global,
+        lanes: &mut Vec<Lanes<RingOut, RingIn>>,
+        from: u16,
+        to: u16,
+    ) -> Result<Option<Vec<Frame>>, NoMemory> {
+        take_rest(alloc, lanes, from as usize, to as usize)
     }
 
     fn back(&mut self, lanes: Vec<Lanes<RingOut, RingIn>>)

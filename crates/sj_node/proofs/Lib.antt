@@ -1,6 +1,6 @@
 pub mod ActLemmas
-pub mod CallLemmas
 pub mod AgreeLemmas
+pub mod CallLemmas
 pub mod ComingLemmas
 pub mod DelegateLemmas
 pub mod DueLemmas
@@ -11,6 +11,7 @@ pub mod OfferLemmas
 pub mod OpeningLemmas
 pub mod OutLemmas
 pub mod PassLemmas
+pub mod PlainFrameLemmas
 pub mod PlayLemmas
 pub mod ReadingLemmas
 pub mod RowLemmas

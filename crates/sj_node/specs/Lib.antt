@@ -1,6 +1,8 @@
 pub mod Arriving
+pub mod Calls
 pub mod Coming
 pub mod Fitting
+pub mod Gives
 pub mod Giving
 pub mod Halts
 pub mod Keeping
@@ -18,4 +20,3 @@ pub mod Slots
 pub mod Starting
 pub mod Taking
 pub mod Unfit
-pub mod Calls

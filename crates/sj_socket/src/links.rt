@@ -10,6 +10,7 @@ use crate::grid::all_lanes;
 use crate::in_lane::SocketIn;
 use crate::out_lane::SocketOut;
 use sj_base::NoMemory;
+use sj_end::Frame;
 use sj_lane::{InLane, Lanes, Links, MakeRefusal, OutLane};
 use std::alloc::Global;
 use std::net::Net;
@@ -78,6 +79,16 @@ impl<R: Net + Drop> Links for SocketLinks<R> {
 
     fn carry(&mut self, lanes: &mut [Lanes<SocketOut, SocketIn>]) -> Result<(), NoMemory> {
         carry_all(lanes)
+    }
+
+    fn rest(
+        &mut self,
+        _alloc: Global,
+        _lanes: &mut Vec<Lanes<SocketOut, SocketIn>>,
+        _from: u16,
+        _to: u16,
+    ) -> Result<Option<Vec<Frame>>, NoMemory> {
+        Ok(None)
     }
 
     // The streams are closed, and what their lanes counted is added.

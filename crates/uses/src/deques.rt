@@ -190,6 +190,16 @@ impl Links for DequeLinks {
         Ok(())
     }
 
+    fn rest(
+        &mut self,
+        _alloc: Global,
+        _lanes: &mut Vec<Lanes<DequeOut, DequeIn>>,
+        _from: u16,
+        _to: u16,
+    ) -> Result<Option<Vec<Frame>>, NoMemory> {
+        Ok(None)
+    }
+
     fn back(&mut self, lanes: Vec<Lanes<DequeOut, DequeIn>>)
         requires square { IsSquare lanes.items }
         requires joined { AllJoined (λ (o : _) (i : _). Unit {0}) lanes.items }

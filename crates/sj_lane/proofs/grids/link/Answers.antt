@@ -9,7 +9,7 @@ use Rattle.sj_lane.proofs.grids.link.Goals as goal
 pub returns : goal.returns
 returns c =
     let l1 : Lanes RingOut RingIn = record { outs = c.push.new.self; ins = c.index_mut.result.now.ins } in
-    let lane : RingIn = record { consumer = c.in_ok-producer.consumer; vain = 0 } in
+    let lane : RingIn = record { consumer = c.in_ok-producer.consumer; vain = 0; handed = 0 } in
     let k = length-set {A = Lanes RingOut RingIn} c.args.lanes.now.items c.args.from l1 in
     let lists = link_lists c.args.lanes.now.items c.args.from c.args.to c.index_mut.result.now l1 c.index_mut-2.result.now _ _ lane c.requires.from (omega arith) c.index_mut.ensures.value c.index_mut-2.ensures.value c.in_ok-push.ensures.items refl refl c.in_ok-push-2.ensures.items in
     record {
@@ -18,7 +18,7 @@ returns c =
       lane = lane;
       joined = c.in_ok-producer.ensures.pair;
       new_out = record { sent = c.in_ok-producer.ensures.producer.0; vain = refl };
-      new_in = record { received = c.in_ok-producer.ensures.consumer.0; vain = refl };
+      new_in = record { popped = c.in_ok-producer.ensures.consumer.0; vain = refl };
       outs = lists.0;
       ins = lists.1;
     }
