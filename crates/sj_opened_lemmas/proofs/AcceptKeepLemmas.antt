@@ -1,11 +1,11 @@
 -- A party accepts the first session that is offered: the world stays kept, with the plain accept.
-use Rattle.std.proofs.Common.{◌≡◌, ℕ, ◌+◌, ◌<◌, ◌≤◌, List, [], ◌∷◌, ◌++◌, refl, sym, ap, subst, ◌∙◌, arith, suc}
-use Rattle.std.specs.Prelude.{Bool, true, false, ◌==◌, ◌&&◌, ◌||◌, ◌↔◌, if◌then◌else◌, filter, drop, Contains, Some, None, option_map}
+use Rattle.std.proofs.Common.{◌≡◌, ℕ, ◌+◌, ◌<◌, ◌≤◌, List, [], ◌∷◌, ◌++◌, refl, sym, ap, subst, ◌∙◌, arith}
+use Rattle.std.specs.Prelude.{Bool, true, false, ◌==◌, ◌&&◌, ◌↔◌, if◌then◌else◌, filter, drop, Contains, Some, None, option_map}
 use Rattle.std.proofs.lemmas.Bool.{eqb-true, eq-eqb, ne_eqb}
-use Rattle.std.proofs.lemmas.List.Elements.{Contains-append_left, Contains-append_right}
+use Rattle.std.proofs.lemmas.List.Elements.{Contains-append_left}
 use Rattle.std.specs.List.{AllByRecursion}
 use Rattle.sj_base.specs.declared.EndId.{EndId}
-use Rattle.sj_rules.specs.Record.{BodyAt, Carry, Fin, Claim, Signal, Ack, Give, Open, HeldAt, Held, other_end, is_same_end, offered_end}
+use Rattle.sj_rules.specs.Record.{HeldAt, Held, other_end, is_same_end, offered_end}
 use Rattle.sj_rules.specs.Opened.{opened_number, opener_of, opened_in, opens, smallest, smallest_from, without}
 use Rattle.sj_rules.specs.Acts.{plain_accepted}
 use Rattle.sj_rules.specs.Node.{Play, accepts, held_at, quietly, with_offers, with_main, accept_session, accept_offered, act_by, acts}
@@ -25,11 +25,8 @@ use Rattle.sj_world_lemmas.proofs.SeenLemmas.{Here, here_held}
 use Rattle.sj_opened_lemmas.proofs.NodeReadLemmas.{same_is}
 use Rattle.sj_opened_lemmas.proofs.OpenReadLemmas.{world_accepted, accepted_lane, accepted_lanes, accepted_mains, accepted_offers}
 use Rattle.sj_opened_lemmas.proofs.OpenKeepLemmas.{contains_first, opener_is}
+use Rattle.sj_opened_lemmas.proofs.OfferLemmas.{contains_later, offered_came}
 use Rattle.sj_opened_lemmas.proofs.PlacedLemmas.{placed_sound}
-
--- what is in the rest is in the list
-pub contains_later : (n : ℕ) (ns : List ℕ) (m : ℕ) → Contains ns m → Contains (n ∷ ns) m
-contains_later n ns m c = (suc c.0, omega (arith, c.1), c.2)
 
 -- a smaller number than all is smaller than the smallest
 below_smallest : (n m : ℕ) (ms : List ℕ) → ((k : ℕ) → Contains (m ∷ ms) k → n < k) → n < smallest_from m ms
@@ -55,21 +52,6 @@ keep_others n (m ∷ ms) all =
 without_first : (n : ℕ) (ns : List ℕ) → ((k : ℕ) → Contains ns k → n < k) → without n (n ∷ ns) ≡ ns
 without_first n ns all = rw (eq-eqb n n refl) (keep_others n ns all)
 
--- an Open of an end opens its session
-pub opened_contains : {P : Type 0} → (s : ℕ) (bs : List (BodyAt P)) → opens (offered_end s) bs ≡ true → Contains (opened_in bs) s
-opened_contains s [] i = absurd (cc i)
-opened_contains s (Open t ∷ bs) i = by (is_same_end (offered_end s) (offered_end t)) refl i (λ j. opened_contains s bs j)
-  where
-    by : (b : Bool) → is_same_end (offered_end s) (offered_end t) ≡ b → (b || opens (offered_end s) bs) ≡ true → (opens (offered_end s) bs ≡ true → Contains (opened_in bs) s) → Contains (t ∷ opened_in bs) s
-    by true o j later = let same : s ≡ t = ap (λ e. e.sess) (same_is (offered_end s) (offered_end t) o) in subst (λ n. Contains (n ∷ opened_in bs) s) same (contains_first s (opened_in bs))
-    by false o j later = contains_later t (opened_in bs) s (later j)
-opened_contains s (Carry to conn number taken msg ∷ bs) i = opened_contains s bs i
-opened_contains s (Fin to conn number ∷ bs) i = opened_contains s bs i
-opened_contains s (Claim of ∷ bs) i = opened_contains s bs i
-opened_contains s (Signal to conn party taken ∷ bs) i = opened_contains s bs i
-opened_contains s (Ack of conn ∷ bs) i = opened_contains s bs i
-opened_contains s (Give e resend ∷ bs) i = opened_contains s bs i
-
 module _ {P Q : Type 0} (IsOver : P → Type 0) (binds : Q → EndId → Bool) (play : Play P Q) (w : WorldAt P Q) (plain plain' : PlainAt P Q) (kept : IsOpenKept IsOver binds play.blank w plain)
     (p : ℕ) (fresh : play.is_worn (plain.programs p) ≡ false) (place : P) (from sess : ℕ) (later : List ℕ) (wants : play.wants (plain.programs p) ≡ accepts place from)
     (facts : PlainAccept IsOver binds play plain plain' p place from sess later) (others : List ℕ) (there : (w.nodes p).offers from ≡ sess ∷ others) where
@@ -94,14 +76,7 @@ module _ {P Q : Type 0} (IsOver : P → Type 0) (binds : Q → EndId → Bool) (
 
   -- its Open has come
   came : is_opening w p id ≡ false
-  came = by (is_opening w p id) refl
-    where
-      by : (b : Bool) → is_opening w p id ≡ b → is_opening w p id ≡ false
-      by false i = i
-      by true i =
-          let in_lane : Contains (opened_in (bodies (w.lanes from p))) sess = opened_contains sess (bodies (w.lanes from p)) (sym (ap (λ n. opens id (bodies (w.lanes n p))) opener) ∙ i) in
-          let below : sess < sess = above sess (subst (λ l. Contains l sess) rest_is (Contains-append_right others (opened_in (bodies (w.lanes from p))) sess in_lane)) in
-          absurd (omega (arith, below))
+  came = offered_came IsOver binds play.blank w plain kept from p sess (subst (λ l. Contains l sess) (sym there) (contains_first sess others))
 
   abbrev h : HeldAt P
   h = (kept.held from p sess offered_here).0

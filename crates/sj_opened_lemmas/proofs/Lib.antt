@@ -8,6 +8,7 @@ pub mod OldKeepLemmas
 pub mod LeadLemmas
 pub mod DeliverKeepLemmas
 pub mod OpenKeepLemmas
+pub mod OfferLemmas
 pub mod PlacedLemmas
 pub mod AcceptKeepLemmas
 pub mod RequestKeepLemmas

@@ -1,10 +1,9 @@
--- A world with Opens, event by event: it begins kept, each front frame fits, and where it rests what is offered wasn't accepted.
+-- A world with Opens, event by event: it begins kept, and each front frame fits.
 use Rattle.std.proofs.Common.{◌≡◌, ℕ, ◌<◌, List, [], ◌∷◌, refl, sym, ap, subst, ◌∙◌, arith}
 use Rattle.std.specs.Prelude.{Bool, true, false, Contains, Some, None}
-use Rattle.std.proofs.lemmas.List.Elements.{Contains-append_left}
 use Rattle.sj_base.specs.declared.EndId.{EndId}
 use Rattle.sj_rules.specs.Record.{BodyAt, Carry, Fin, Claim, Signal, Ack, Give, Open}
-use Rattle.sj_rules.specs.Opened.{opener_of, is_open, opened_in, opens}
+use Rattle.sj_rules.specs.Opened.{opener_of, is_open, opens}
 use Rattle.sj_rules.specs.Frames.{FrameAt, is_proper}
 use Rattle.sj_rules.specs.Rows.{IsPick}
 use Rattle.sj_rules.specs.Node.{Play}
@@ -40,10 +39,6 @@ module _ {P Q : Type 0} (IsOver : P → Type 0) (binds : Q → EndId → Bool) (
           let o : (sess : ℕ) × (f.body ≡ Open sess) = open_is f.body i in
           let g : w.lanes q p ≡ record { clock = f.clock; body = Open o.0 } ∷ rest = front ∙ ap (λ b. record { clock = f.clock; body = b } ∷ rest) o.1 in
           open_front_fits IsOver binds play w plain kept q p f.clock o.0 rest g pick (subst (λ b. is_proper play.parties (record { clock = f.clock; body = b }) ≡ true) o.1 proper)
-
-  -- what is offered wasn't accepted, at any time
-  pub offered_unaccepted : (from p s : ℕ) → Contains ((w.nodes p).offers from) s → Contains (plain.offers from p) s
-  offered_unaccepted from p s c = subst (λ l. Contains l s) (kept.offers from p) (Contains-append_left ((w.nodes p).offers from) (opened_in (bodies (w.lanes from p))) s c)
 
 -- a kept world with no frame under way, and in which nobody opened a session
 pub record OpensNothingYet {P Q : Type 0} (w : WorldAt P Q) (plain : PlainAt P Q) : Type 0 where

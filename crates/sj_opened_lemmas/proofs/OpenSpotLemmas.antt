@@ -1,20 +1,18 @@
 -- Each end lies once, in an Open too, where it does so in the world read as if each Open had been delivered.
 use Rattle.std.proofs.Common.{◌≡◌, ℕ, ◌≤◌, List, [], ◌∷◌, length, refl, sym, ap, subst, ◌∙◌, inl, inr}
-use Rattle.std.specs.Prelude.{Bool, true, false, not, ◌||◌, ◌⊎◌, if◌then◌else◌, Contains, Option, Some, None}
-use Rattle.std.specs.List.{filter}
+use Rattle.std.specs.Prelude.{Bool, true, false, not, ◌⊎◌, if◌then◌else◌, Contains, Option, Some, None}
 use Rattle.sj_base.specs.declared.EndId.{EndId}
-use Rattle.sj_rules.specs.Record.{BodyAt, Carry, Fin, Claim, Signal, Ack, Give, Open, MainAt, Held, Expected, offered_end}
-use Rattle.sj_rules.specs.Opened.{opener_of, new_held, is_open, is_open_of, opens}
+use Rattle.sj_rules.specs.Record.{BodyAt, MainAt, Held, Expected}
+use Rattle.sj_rules.specs.Opened.{opener_of, new_held, is_open, opens}
 use Rattle.sj_rules.specs.Frames.{FrameAt}
 use Rattle.sj_rules.specs.World.{WorldAt}
 use Rattle.sj_rules.specs.Shown.{bodies, is_give}
 use Rattle.sj_rules.specs.Spots.{Spot, at_main, at_old, on_way, in_open, HasMain, LiesAt, LiesOnce}
-use Rattle.sj_rules.specs.Linked.{subject_of}
 use Rattle.sj_rules.specs.Reading.{is_opening, without_opens, reading, OpensLead}
 use Rattle.sj_world_lemmas.proofs.ToldLemmas.{Has, contains_has, has_contains, has_filter, has_kept}
-use Rattle.sj_opened_lemmas.proofs.NodeReadLemmas.{same_is}
 use Rattle.sj_opened_lemmas.proofs.LaneReadLemmas.{front_opens}
 use Rattle.sj_opened_lemmas.proofs.WorldReadLemmas.{AreBare}
+use Rattle.sj_opened_lemmas.proofs.OfferLemmas.{open_there, open_seen, few_opens}
 use Rattle.sj_opened_lemmas.proofs.OpenStandsLemmas.{filter_without}
 
 -- a lane has the Gives of an end where it has them without its Opens, too
@@ -39,55 +37,18 @@ no_opens {P} e (f ∷ fs) = by (is_open f.body) refl (no_opens e fs)
     by true o rest = rest
     by false o rest = front_opens e f (without_opens fs) o ∙ rest
 
--- an end of which there is no Open
-none_open : {P : Type 0} → (e : EndId) (bs : List (BodyAt P)) → opens e bs ≡ false → filter (is_open_of e) bs ≡ []
-none_open e [] o = refl
-none_open {P} e (b ∷ bs) o = by (is_open_of e b) refl o (none_open e bs)
-  where
-    by : (k : Bool) → is_open_of e b ≡ k → (k || opens e bs) ≡ false → (opens e bs ≡ false → filter (is_open_of e) bs ≡ []) → filter (is_open_of e) (b ∷ bs) ≡ []
-    by true i o rest = absurd (cc o)
-    by false i o rest = rw i (rest o)
+-- an end that is read at a party is in its Open there, in the lane of its opener, or at its record
+abbrev spot_there : (opening : Bool) → (opener p : ℕ) → Option Spot
+spot_there true opener p = Some (in_open opener p)
+spot_there false opener p = Some (at_main p)
 
--- the one Open of an end is an Open of it
-pub open_there : {P : Type 0} → (e : EndId) (bs : List (BodyAt P)) → filter (is_open_of e) bs ≡ Open e.sess ∷ [] → opens e bs ≡ true
-open_there {P} e bs one = by (opens e bs) refl
-  where
-    by : (k : Bool) → opens e bs ≡ k → opens e bs ≡ true
-    by true o = o
-    by false o = let none : filter (is_open_of e) bs ≡ [] = none_open e bs o in absurd (cc (one, none))
-
--- where Opens lead, an end has one Open at most
-open_once : {P : Type 0} → (e : EndId) (bs : List (BodyAt P)) → OpensLead bs → opens e bs ≡ true → filter (is_open_of e) bs ≡ Open e.sess ∷ []
-open_once e [] lead o = absurd (cc o)
-open_once {P} e (b ∷ bs) lead o = by (is_open_of e b) refl (λ z. open_once e bs lead.1 z)
-  where
-    last : (b : BodyAt P) → is_open_of e b ≡ true → opens (subject_of b) bs ≡ false → b ∷ filter (is_open_of e) bs ≡ Open e.sess ∷ []
-    last (Open t) i lone =
-        let same : e ≡ offered_end t = same_is e (offered_end t) i in
-        let none : filter (is_open_of e) bs ≡ [] = none_open e bs (ap (λ d. opens d bs) same ∙ lone) in
-        subst (λ (d : EndId). Open t ∷ filter (is_open_of e) bs ≡ Open d.sess ∷ []) (sym same) (ap (λ l. Open t ∷ l) none)
-    last (Carry to conn number taken msg) i lone = absurd (cc i)
-    last (Fin to conn number) i lone = absurd (cc i)
-    last (Claim of) i lone = absurd (cc i)
-    last (Signal to conn party taken) i lone = absurd (cc i)
-    last (Ack of conn) i lone = absurd (cc i)
-    last (Give g resend) i lone = absurd (cc i)
-
-    by : (k : Bool) → is_open_of e b ≡ k → (opens e bs ≡ true → filter (is_open_of e) bs ≡ Open e.sess ∷ []) → filter (is_open_of e) (b ∷ bs) ≡ Open e.sess ∷ []
-    by true i rest = rw i (last b i lead.0)
-    by false i rest = rw i (rest (sym (ap (λ u. u || opens e bs) i) ∙ o))
-
--- an end that is read at a party is in its Open there, or at its record
-abbrev spot_there : (opening : Bool) → (p : ℕ) → Option Spot
-spot_there true p = Some (in_open p)
-spot_there false p = Some (at_main p)
-
-module _ {P Q : Type 0} (blank : P) (w : WorldAt P Q) (bare : AreBare w) (lead : (from to : ℕ) → OpensLead (bodies (w.lanes from to))) (e : EndId) where
+module _ {P Q : Type 0} (blank : P) (w : WorldAt P Q) (bare : AreBare w) (lead : (from to : ℕ) → OpensLead (bodies (w.lanes from to))) (e : EndId)
+    (own : (from to : ℕ) → opens e (bodies (w.lanes from to)) ≡ true → opener_of e.sess ≡ from) where
   abbrev spot_read : Option Spot → Option Spot
-  spot_read (Some (at_main p)) = spot_there (is_opening w p e) p
+  spot_read (Some (at_main p)) = spot_there (is_opening w p e) (opener_of e.sess) p
   spot_read (Some (at_old p)) = Some (at_old p)
   spot_read (Some (on_way from to)) = Some (on_way from to)
-  spot_read (Some (in_open p)) = Some (in_open p)
+  spot_read (Some (in_open from to)) = Some (in_open from to)
   spot_read None = None
 
   -- a record at a party that isn't awaiting an Open is read as it is
@@ -110,13 +71,15 @@ module _ {P Q : Type 0} (blank : P) (w : WorldAt P Q) (bare : AreBare w) (lead :
     lies_to (at_main p) l =
         let r : (r : MainAt P) × ((w.nodes p).main e ≡ Some r) = has_some ((w.nodes p).main e) l in
         let closed : is_opening w p e ≡ false = not_opening p r.0 r.1 in
-        ap spot_read ((once.lies (at_main p)).0 (subst HasMain (sym (main_read p closed)) l)) ∙ ap (λ b. spot_there b p) closed
+        ap spot_read ((once.lies (at_main p)).0 (subst HasMain (sym (main_read p closed)) l)) ∙ ap (λ b. spot_there b (opener_of e.sess) p) closed
     lies_to (at_old p) l = ap spot_read ((once.lies (at_old p)).0 l)
     lies_to (on_way from to) l = ap spot_read ((once.lies (on_way from to)).0 (l.0, gives_read e (w.lanes from to) l.0 l.1 l.2, l.2))
-    lies_to (in_open p) l =
-        let o : is_opening w p e ≡ true = open_there e (bodies (w.lanes (opener_of e.sess) p)) l in
+    lies_to (in_open from p) l =
+        let here : opens e (bodies (w.lanes from p)) ≡ true = open_there e (bodies (w.lanes from p)) l.0 l.1 l.2 in
+        let opener : opener_of e.sess ≡ from = own from p here in
+        let o : is_opening w p e ≡ true = ap (λ n. opens e (bodies (w.lanes n p))) opener ∙ here in
         let main : ((reading blank w).nodes p).main e ≡ Some (Held (new_held e blank (opener_of e.sess))) = rw o refl in
-        ap spot_read ((once.lies (at_main p)).0 (subst HasMain (sym main) tt)) ∙ ap (λ b. spot_there b p) o
+        ap spot_read ((once.lies (at_main p)).0 (subst HasMain (sym main) tt)) ∙ ap (λ b. spot_there b (opener_of e.sess) p) o ∙ ap (λ n. Some (in_open n p)) opener
 
     some_is : (a b : Spot) → Some a ≡ Some b → a ≡ b
     some_is a b i = cc i
@@ -125,14 +88,17 @@ module _ {P Q : Type 0} (blank : P) (w : WorldAt P Q) (bare : AreBare w) (lead :
     lies_from at None i j = absurd (cc j)
     lies_from at (Some (at_main p)) i j = by (is_opening w p e) refl j
       where
-        by : (b : Bool) → is_opening w p e ≡ b → spot_there b p ≡ Some at → LiesAt w e at
-        by true o k = subst (LiesAt w e) (some_is (in_open p) at k) (open_once e (bodies (w.lanes (opener_of e.sess) p)) (lead (opener_of e.sess) p) o)
+        by : (b : Bool) → is_opening w p e ≡ b → spot_there b (opener_of e.sess) p ≡ Some at → LiesAt w e at
+        by true o k = subst (LiesAt w e) (some_is (in_open (opener_of e.sess) p) at k) (open_seen e (bodies (w.lanes (opener_of e.sess) p)) (lead (opener_of e.sess) p) o)
         by false o k = subst (LiesAt w e) (some_is (at_main p) at k) (subst HasMain (main_read p o) ((once.lies (at_main p)).1 i))
     lies_from at (Some (at_old p)) i j = subst (LiesAt w e) (some_is (at_old p) at j) ((once.lies (at_old p)).1 i)
     lies_from at (Some (on_way from to)) i j =
         let l = (once.lies (on_way from to)).1 i in
         subst (LiesAt w e) (some_is (on_way from to) at j) (l.0, gives_seen e (w.lanes from to) l.0 l.1 l.2, l.2)
-    lies_from at (Some (in_open p)) i j = let o : is_opening (reading blank w) p e ≡ true = open_there e (bodies ((reading blank w).lanes (opener_of e.sess) p)) ((once.lies (in_open p)).1 i) in absurd (cc (no_opens e (w.lanes (opener_of e.sess) p), o))
+    lies_from at (Some (in_open from to)) i j =
+        let l = (once.lies (in_open from to)).1 i in
+        let o : opens e (bodies (without_opens (w.lanes from to))) ≡ true = open_there e (bodies (without_opens (w.lanes from to))) l.0 l.1 l.2 in
+        absurd (cc (no_opens e (w.lanes from to), o))
 
     -- it lies once
     pub lies_once_read : LiesOnce w e
@@ -140,6 +106,7 @@ module _ {P Q : Type 0} (blank : P) (w : WorldAt P Q) (bare : AreBare w) (lead :
       spot = spot_read once.spot;
       lies = λ at. (lies_to at, lies_from at once.spot refl);
       one_give = λ from to. subst (λ l. length l ≤ 1) (sym (filter_without (is_give e) (λ s. refl) (w.lanes from to))) (once.one_give from to);
+      one_open = λ from to. few_opens e (bodies (w.lanes from to)) (lead from to);
       awaiter = once.awaiter;
       awaits = λ p keeper place late there.
           let closed : is_opening w p e ≡ false = not_opening p (Expected keeper place late) there in

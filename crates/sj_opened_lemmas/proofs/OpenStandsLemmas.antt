@@ -5,7 +5,7 @@ use Rattle.std.proofs.lemmas.List.Elements.{Contains-append_left, Contains-appen
 use Rattle.sj_base.specs.declared.EndId.{EndId}
 use Rattle.sj_base.specs.declared.Msg.{Msg}
 use Rattle.sj_rules.specs.Record.{BodyAt, Carry, Fin, Claim, Signal, Ack, Give, Open, HeldAt, Held, other_end, is_same_end, offered_end}
-use Rattle.sj_rules.specs.Opened.{opener_of, new_held, is_open, is_open_of, opened_in, opens}
+use Rattle.sj_rules.specs.Opened.{opener_of, new_held, is_open, is_open_of, opens}
 use Rattle.sj_rules.specs.Frames.{FrameAt}
 use Rattle.sj_rules.specs.World.{WorldAt}
 use Rattle.sj_rules.specs.Seat.{Seat, held, parked, claimed, signalled, given, closed, gone, Side}
@@ -24,7 +24,7 @@ use Rattle.sj_world_lemmas.proofs.PromiseLemmas.{flowing_or_owed}
 use Rattle.sj_world_lemmas.proofs.StandsLemmas.{first_flows}
 use Rattle.sj_world_lemmas.proofs.SeenLemmas.{Here, here_held}
 use Rattle.sj_opened_lemmas.proofs.NodeReadLemmas.{same_is}
-use Rattle.sj_opened_lemmas.proofs.AcceptKeepLemmas.{opened_contains}
+use Rattle.sj_opened_lemmas.proofs.OfferLemmas.{open_far, open_names, open_is_offer, offered_is_held}
 
 -- a test that no Open passes sees the same with and without them
 pub filter_without : {P : Type 0} → (test : BodyAt P → Bool) → ((s : ℕ) → test (Open s) ≡ false) → (fs : List (FrameAt P)) → filter test (bodies fs) ≡ filter test (bodies (without_opens fs))
@@ -81,21 +81,6 @@ contains_without {P} b (f ∷ fs) c = by (is_open f.body) refl (λ k. contains_w
     by : (k : Bool) → is_open f.body ≡ k → (Contains (bodies (without_opens fs)) b → Contains (bodies fs) b) → Contains (bodies (f ∷ fs)) b
     by true o rest = later (rest (rw o at c))
     by false o rest = either rest (Contains-append_cases (f.body ∷ []) (bodies (without_opens fs)) b (rw o at c))
-
--- an end in an Open is of side 1
-pub open_far : {P : Type 0} → (e : EndId) (bs : List (BodyAt P)) → opens e bs ≡ true → e.side ≡ 1
-open_far e [] j = absurd (cc j)
-open_far {P} e (b ∷ bs) j = by (is_open_of e b) b refl j (λ z. open_far e bs z)
-  where
-    by : (k : Bool) → (b : BodyAt P) → is_open_of e b ≡ k → (is_open_of e b || opens e bs) ≡ true → (opens e bs ≡ true → e.side ≡ 1) → e.side ≡ 1
-    by true (Open t) i z later = ap (λ d. d.side) (same_is e (offered_end t) i)
-    by true (Carry x conn number taken msg) i z later = absurd (cc i)
-    by true (Fin x conn number) i z later = absurd (cc i)
-    by true (Claim x) i z later = absurd (cc i)
-    by true (Signal x conn party taken) i z later = absurd (cc i)
-    by true (Ack x conn) i z later = absurd (cc i)
-    by true (Give x resend) i z later = absurd (cc i)
-    by false b i z later = later (sym (ap (λ u. u || opens e bs) i) ∙ z)
 
 -- what is carried to an end in an Open stands behind it
 pub carries_behind : {P : Type 0} → (e : EndId) (bs : List (BodyAt P)) → OpensLead bs → opens e bs ≡ true → carries_under e 0 (behind_open e bs) ≡ carries_under e 0 bs
@@ -221,26 +206,21 @@ module _ {P Q : Type 0} (IsOver : P → Type 0) (binds : Q → EndId → Bool) (
   pub opening_stands : (p : ℕ) (e : EndId) → is_opening w p e ≡ true → OpeningStands blank w p e (plain.sides (other_end e)) (plain.sides e) (side e)
   opening_stands p e o = record {
     seat = here.seat_is;
-    offered = ap (λ d. (plain.sides d).offered) named ∙ kept.offered (opener_of e.sess) p e.sess in_offers;
+    offered = ap (λ d. (plain.sides d).offered) named ∙ kept.offered (opener_of e.sess) p e.sess (open_is_offer IsOver binds blank w plain kept (opener_of e.sess) p e o);
     sent = empty (plain.sides e).sent (sym here.sound.there.fits.0.sent);
     taken = sym here.sound.there.fits.0.taken;
     hops = sym here.sound.there.fits.0.hops;
-    flows = carries_behind e (bodies (w.lanes (opener_of e.sess) p)) (kept.lead (opener_of e.sess) p) o ∙ sym (carries_without e 0 (w.lanes (opener_of e.sess) p)) ∙ nothing_owed;
+    flows = carries_behind e lane (kept.lead (opener_of e.sess) p) o ∙ sym (carries_without e 0 (w.lanes (opener_of e.sess) p)) ∙ nothing_owed;
   }
     where
-      far : e.side ≡ 1
-      far = open_far e (bodies (w.lanes (opener_of e.sess) p)) o
+      lane : List (BodyAt P)
+      lane = bodies (w.lanes (opener_of e.sess) p)
 
       low : e.side < 2
-      low = omega (arith, far)
+      low = omega (arith, open_far e lane o)
 
       named : e ≡ offered_end e.sess
-      named = λ z. record { sess = e.sess; side = far z }
-
-      in_offers : Contains (plain.offers (opener_of e.sess) p) e.sess
-      in_offers =
-          let c : Contains (opened_in (bodies (w.lanes (opener_of e.sess) p))) e.sess = opened_contains e.sess (bodies (w.lanes (opener_of e.sess) p)) (sym (ap (λ d. opens d (bodies (w.lanes (opener_of e.sess) p))) named) ∙ o) in
-          subst (λ l. Contains l e.sess) (kept.offers (opener_of e.sess) p) (Contains-append_right ((w.nodes p).offers (opener_of e.sess)) (opened_in (bodies (w.lanes (opener_of e.sess) p))) e.sess c)
+      named = open_names e lane o
 
       h : HeldAt P
       h = new_held e blank (opener_of e.sess)
@@ -268,6 +248,7 @@ module _ {P Q : Type 0} (IsOver : P → Type 0) (binds : Q → EndId → Bool) (
     programs = kept.kept.programs;
     requests = kept.requests;
     offers = kept.offers;
+    offered_held = offered_is_held IsOver binds blank w plain kept;
     sides = kept.kept.sessions.sides;
     ids = kept.kept.sessions.ids;
     opening = opening_stands;

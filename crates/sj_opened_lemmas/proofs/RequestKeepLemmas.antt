@@ -32,7 +32,7 @@ use Rattle.sj_opened_lemmas.proofs.LaneReadLemmas.{behind_opens, front_without}
 use Rattle.sj_opened_lemmas.proofs.OpenReadLemmas.{world_requested, requested_lane, requested_lanes, requested_mains, requested_offers, opens_last}
 use Rattle.sj_opened_lemmas.proofs.OpenKeepLemmas.{contains_first, opener_is}
 use Rattle.sj_opened_lemmas.proofs.DeliverKeepLemmas.{read_none}
-use Rattle.sj_opened_lemmas.proofs.AcceptKeepLemmas.{contains_later}
+use Rattle.sj_opened_lemmas.proofs.OfferLemmas.{contains_later}
 use Rattle.sj_opened_lemmas.proofs.PlacedLemmas.{opened_sound}
 
 -- the party that opens a session is its opener

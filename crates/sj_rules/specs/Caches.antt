@@ -25,7 +25,7 @@ abbrev pub HasEnd : {P Q : Type 0} → WorldAt P Q → EndId → Spot → EndAt 
 HasEnd w id (at_main p) e = main_end ((w.nodes p).main id) ≡ Some e
 HasEnd w id (at_old p) e = old_end ((w.nodes p).old id) ≡ Some e
 HasEnd w id (on_way from to) e = (resend : Option ℕ) × Contains (bodies (w.lanes from to)) (Give e resend) × (is_give id (Give e resend) ≡ true)
-HasEnd w id (in_open p) e = ⊥
+HasEnd w id (in_open from to) e = ⊥
 
 -- x is what the plain world knows of the other end, y of this one: what was taken there was sent here, and the cache has
 -- all that was sent from a base on up to which everything was taken

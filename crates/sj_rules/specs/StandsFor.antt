@@ -1,7 +1,7 @@
 -- A core world stands for a plain world.
-use Rattle.std.specs.Prelude.{◌≡◌, ◌⊎◌, ℕ, ◌<◌, ◌≤◌, true, false, if◌then◌else◌, List, [], ◌∷◌, ◌++◌}
+use Rattle.std.specs.Prelude.{◌≡◌, ◌⊎◌, ℕ, ◌<◌, ◌≤◌, true, false, if◌then◌else◌, List, [], ◌∷◌, ◌++◌, Contains, Some}
 use Rattle.sj_base.specs.declared.EndId.{EndId}
-use Rattle.sj_rules.specs.Record.{EndAt, BodyAt, other_end}
+use Rattle.sj_rules.specs.Record.{EndAt, BodyAt, HeldAt, Held, other_end, offered_end}
 use Rattle.sj_rules.specs.Opened.{opener_of, new_held, opened_in, is_open_of}
 use Rattle.sj_rules.specs.World.{WorldAt}
 use Rattle.sj_rules.specs.Seat.{Seat, held, parked, claimed, signalled, given, closed, gone, Side}
@@ -66,11 +66,13 @@ pub record ThereStands {P Q : Type 0} (IsOver : P → Type 0) (w : WorldAt P Q) 
   pub flows : IsFlowing w s r (untaken_of x y) ⊎ IsOwed w s r y.taken
 
 -- the programs and counts of requests are the plain ones; what was opened and not accepted is what is offered and then what
--- is in Opens; each end lies where the world shows it and stands for the plain one, and what waits for it flows or is owed
+-- is in Opens; the end of each session that is offered is Held there; each end lies where the world shows it and stands for the
+-- plain one, and what waits for it flows or is owed
 pub record StandsFor {P Q : Type 0} (IsOver : P → Type 0) (blank : P) (w : WorldAt P Q) (plain : PlainAt P Q) : Type 0 where
   pub programs : (p : ℕ) → (w.nodes p).program ≡ plain.programs p
   pub requests : (p : ℕ) → (w.nodes p).requests ≡ plain.requests p
   pub offers : (from p : ℕ) → (w.nodes p).offers from ++ opened_in (bodies (w.lanes from p)) ≡ plain.offers from p
+  pub offered_held : (from p sess : ℕ) → Contains ((w.nodes p).offers from) sess → (h : HeldAt P) × ((w.nodes p).main (offered_end sess) ≡ Some (Held h))
   pub sides : EndId → Side P
   pub ids : (e : EndId) → (sides e).id ≡ e
   pub opening : (p : ℕ) (e : EndId) → is_opening w p e ≡ true → OpeningStands blank w p e (plain.sides (other_end e)) (plain.sides e) (sides e)

@@ -88,7 +88,7 @@ module _ {P : Type 0} where
 end_seen : {P Q : Type 0} → (w : WorldAt P Q) (other : Seat P) (r : Side P) → Shows w other r → (at : Spot) (k : EndAt P) → HasEnd w r.id at k → seat_end r.seat ≡ Some k
 end_seen w other r shows (at_main p) k h = main_has (source_for other r.seat) r.place r.seat p k (sym (ap main_end (shows.mains p)) ∙ h)
 end_seen w other r shows (at_old p) k h = old_has r.seat p k (sym (ap old_end (shows.olds p)) ∙ h)
-end_seen w other r shows (in_open p) k h = absurd h
+end_seen w other r shows (in_open p q) k h = absurd h
 end_seen w other r shows (on_way p q) k h =
     let give = Give k h.0 in
     let kept = has_kept (is_give r.id) give (bodies (w.lanes p q)) (contains_has give (bodies (w.lanes p q)) h.1) h.2 in
@@ -124,7 +124,7 @@ read_has {P} IsOver binds blank w plain kept e (at_main p) k h = by (is_opening 
     by false o = h
 read_has IsOver binds blank w plain kept e (at_old p) k h = h
 read_has IsOver binds blank w plain kept e (on_way p q) k h = (h.0, gives_read e (w.lanes p q) (Give k h.0) h.1 h.2, h.2)
-read_has IsOver binds blank w plain kept e (in_open p) k h = absurd h
+read_has IsOver binds blank w plain kept e (in_open p q) k h = absurd h
 
 -- ---- core runs
 

@@ -10,9 +10,10 @@ use Rattle.sj_rules.specs.Seat.{Seat, held, parked, claimed, signalled, given, c
 use Rattle.sj_rules.specs.Shown.{Shows, bodies, main_shown, old_shown, gives_in, is_give, is_lane}
 use Rattle.sj_rules.specs.PlainSide.{PlainAt}
 use Rattle.sj_rules.specs.Linked.{IsKept}
-use Rattle.sj_rules.specs.Opened.{opener_of}
-use Rattle.sj_rules.specs.Reading.{is_opening, reading, IsOpenKept}
-use Rattle.sj_opened_lemmas.proofs.OpenSpotLemmas.{no_opens, open_there, lies_once_read}
+use Rattle.sj_rules.specs.Opened.{opens}
+use Rattle.sj_rules.specs.Reading.{reading, IsOpenKept}
+use Rattle.sj_opened_lemmas.proofs.OfferLemmas.{none_open, open_there, open_is_of_opener}
+use Rattle.sj_opened_lemmas.proofs.OpenSpotLemmas.{no_opens, lies_once_read}
 use Rattle.sj_rules.specs.Spots.{Spot, at_main, at_old, on_way, in_open, HasMain, HasOld, LiesAt, LiesOnce}
 use Rattle.sj_rules.specs.Worked.{mails_of}
 use Rattle.sj_world_lemmas.proofs.ToldLemmas.{Has, contains_has, has_contains, has_filter, has_kept, has_passed}
@@ -36,14 +37,14 @@ awaiter_of (closed at e) = None
 awaiter_of gone = None
 
 -- no seat is in an Open
-never_in_open : {P : Type 0} → (seat : Seat P) (p : ℕ) → spot_of seat ≡ Some (in_open p) → ⊥
-never_in_open (held at h) p k = cc k
-never_in_open (parked at e) p k = cc k
-never_in_open (claimed at to e) p k = cc k
-never_in_open (signalled at to e ds) p k = cc k
-never_in_open (given at to e q ds) p k = cc k
-never_in_open (closed at e) p k = cc k
-never_in_open gone p k = cc k
+never_in_open : {P : Type 0} → (seat : Seat P) (p q : ℕ) → spot_of seat ≡ Some (in_open p q) → ⊥
+never_in_open (held at h) p q k = cc k
+never_in_open (parked at e) p q k = cc k
+never_in_open (claimed at to e) p q k = cc k
+never_in_open (signalled at to e ds) p q k = cc k
+never_in_open (given at to e r ds) p q k = cc k
+never_in_open (closed at e) p q k = cc k
+never_in_open gone p q k = cc k
 
 -- ---- main records
 
@@ -167,7 +168,7 @@ module _ {P : Type 0} (from : ℕ) (place : P) where
 
 -- ---- in a world
 
-module _ {P Q : Type 0} (w : WorldAt P Q) (other : Seat P) (r : Side P) (shows : Shows w other r) (shut : (p : ℕ) → is_opening w p r.id ≡ false) where
+module _ {P Q : Type 0} (w : WorldAt P Q) (other : Seat P) (r : Side P) (shows : Shows w other r) (shut : (p q : ℕ) → opens r.id (bodies (w.lanes p q)) ≡ false) where
   lies_there : (at : Spot) → LiesAt w r.id at ↔ (spot_of r.seat ≡ Some at)
   lies_there (at_main p) = (
     λ h. main_lies (source_for other r.seat) r.place r.seat p (subst HasMain (shows.mains p) h),
@@ -184,23 +185,28 @@ module _ {P Q : Type 0} (w : WorldAt P Q) (other : Seat P) (r : Side P) (shows :
         let kept : Has g.0 (filter (is_give r.id) lane) = subst (Has g.0) (sym (shows.gives p q ∙ g.1)) (inl refl) in
         (g.0, has_contains g.0 lane (has_filter (is_give r.id) g.0 lane kept), has_passed (is_give r.id) g.0 lane kept),
   )
-  lies_there (in_open p) = (λ h. let o : is_opening w p r.id ≡ true = open_there r.id (bodies (w.lanes (opener_of r.id.sess) p)) h in absurd (cc (shut p, o)), λ h. absurd (never_in_open r.seat p h))
+  lies_there (in_open p q) = (
+    λ h. let o : opens r.id (bodies (w.lanes p q)) ≡ true = open_there r.id (bodies (w.lanes p q)) h.0 h.1 h.2 in absurd (cc (shut p q, o)),
+    λ h. absurd (never_in_open r.seat p q h),
+  )
 
   shown_once : LiesOnce w r.id
   shown_once = record {
     spot = spot_of r.seat;
     lies = lies_there;
     one_give = λ p q. subst (λ l. length l ≤ 1) (sym (shows.gives p q)) (few_gives r.seat p q);
+    one_open = λ p q. subst (λ l. length l ≤ 1) (sym (none_open r.id (bodies (w.lanes p q)) (shut p q))) (omega arith);
     awaiter = awaiter_of r.seat;
     awaits = λ p keeper place late h. awaited_from (source_for other r.seat) r.place r.seat p keeper place late (sym (shows.mains p) ∙ h);
   }
 
-lies_once : {P Q : Type 0} → (IsOver : P → Type 0) (binds : Q → EndId → Bool) (w : WorldAt P Q) (plain : PlainAt P Q) → IsKept IsOver binds w plain → (e : EndId) → e.side < 2 → ((p : ℕ) → is_opening w p e ≡ false) → LiesOnce w e
+lies_once : {P Q : Type 0} → (IsOver : P → Type 0) (binds : Q → EndId → Bool) (w : WorldAt P Q) (plain : PlainAt P Q) → IsKept IsOver binds w plain → (e : EndId) → e.side < 2 → ((p q : ℕ) → opens e (bodies (w.lanes p q)) ≡ false) → LiesOnce w e
 lies_once IsOver binds w plain kept e low shut =
     subst (LiesOnce w) (kept.sessions.ids e)
-    (shown_once w (kept.sessions.sides (other_end e)).seat (kept.sessions.sides e) (kept.sessions.shows e low) (λ p. ap (is_opening w p) (kept.sessions.ids e) ∙ shut p))
+    (shown_once w (kept.sessions.sides (other_end e)).seat (kept.sessions.sides e) (kept.sessions.shows e low) (λ p q. ap (λ d. opens d (bodies (w.lanes p q))) (kept.sessions.ids e) ∙ shut p q))
 
 -- in a world with Opens too
 pub open_lies_once : {P Q : Type 0} → (IsOver : P → Type 0) (binds : Q → EndId → Bool) (blank : P) (w : WorldAt P Q) (plain : PlainAt P Q) → IsOpenKept IsOver binds blank w plain → (e : EndId) → e.side < 2 → LiesOnce w e
 open_lies_once IsOver binds blank w plain kept e low =
-    lies_once_read blank w kept.bare kept.lead e (lies_once IsOver binds (reading blank w) plain kept.kept e low (λ p. no_opens e (w.lanes (opener_of e.sess) p)))
+    lies_once_read blank w kept.bare kept.lead e (λ from to. open_is_of_opener IsOver binds blank w plain kept from to e)
+    (lies_once IsOver binds (reading blank w) plain kept.kept e low (λ from to. no_opens e (w.lanes from to)))
