@@ -18,21 +18,22 @@ use Rattle.sj_semantics.specs.Wants.{want_of}
 use Rattle.sj_semantics.specs.Ends.{Session, end_at, other_end, next_for}
 use Rattle.sj_semantics.specs.World.{World}
 use Rattle.sj_headline_laws.specs.Fitting.{FitsPlaces}
-use Rattle.sj_headline_laws.proofs.TypedLemmas.{StandsForBody, StepFits}
+use Rattle.sj_headline_laws.proofs.TypedLemmas.{FitsProgram, StandsForBody, StepFits}
+use Rattle.sj_headline_laws.proofs.TakesLemmas.{takes_there}
 use Rattle.sj_headline_laws.proofs.LeadLemmas.{pair_taking}
 use Rattle.sj_headline_laws.proofs.TouchedLemmas.{side, pair_of}
 use Rattle.sj_headline_laws.proofs.WorldLemmas.{Sound, fits_want}
 use Rattle.sj_headline_laws.proofs.OpeningChangesLemmas.{offer_stands}
 
-fits_places : (ps : List ProtocolAt) (parties : List ℕ) (zs : List Session) (g : Program) (want : Want) → StepFits ps parties zs g want → FitsPlaces zs want
-fits_places ps parties zs g (wants.Send e m) s = (s.next, s.after)
-fits_places ps parties zs g (wants.Delegate e y) s = (s.kind, s.next, s.carries, s.stands, s.not_empty)
-fits_places ps parties zs g (wants.Close e) s = s.0
-fits_places ps parties zs g (wants.Take e a) s = tt
-fits_places ps parties zs g (wants.Request p q) s = tt
-fits_places ps parties zs g (wants.Accept p q) s = tt
-fits_places ps parties zs g wants.Local s = tt
-fits_places ps parties zs g wants.Ended s = tt
+fits_places : (ps : List ProtocolAt) (parties : List ℕ) (zs : List Session) (g : Program) (want : Want) → FitsProgram ps parties zs g → want_of g ≡ Some want → StepFits ps parties zs g want → FitsPlaces zs want
+fits_places ps parties zs g (wants.Send e m) f it s = (s.next, s.after)
+fits_places ps parties zs g (wants.Delegate e y) f it s = (s.kind, s.next, s.carries, s.stands, s.not_empty)
+fits_places ps parties zs g (wants.Close e) f it s = s.0
+fits_places ps parties zs g (wants.Take e a) f it s = takes_there ps parties zs g e a f it
+fits_places ps parties zs g (wants.Request p q) f it s = tt
+fits_places ps parties zs g (wants.Accept p q) f it s = tt
+fits_places ps parties zs g wants.Local f it s = tt
+fits_places ps parties zs g wants.Ended f it s = tt
 
 module _ (file : FileAt) (w : World) (sound : Sound file w) where
   abbrev names : List ℕ
@@ -42,7 +43,7 @@ module _ (file : FileAt) (w : World) (sound : Sound file w) where
   fitting p g want there it = fits_want file.protocols names w.sessions g want (sound.programs p g there) it
 
   pub sound_fits_places : (p : ℕ) (g : Program) (want : Want) → slice_get w.parties p ≡ Some g → want_of g ≡ Some want → FitsPlaces w.sessions want
-  sound_fits_places p g want there it = fits_places file.protocols names w.sessions g want (fitting p g want there it)
+  sound_fits_places p g want there it = fits_places file.protocols names w.sessions g want (sound.programs p g there) it (fitting p g want there it)
 
   pub next_has_a_place : (e : EndId) (x : Passed) → next_for w.sessions e ≡ Some x
       → (next : Place) × (after_place (end_at w.sessions e).place Into x.msg ≡ Some next) × FitsNext w.sessions (end_at w.sessions e).place x.msg

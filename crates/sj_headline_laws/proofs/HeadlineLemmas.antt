@@ -13,6 +13,7 @@ use Rattle.sj_semantics.specs.Run.{IsRun, after_acts}
 use Rattle.sj_semantics.specs.World.{start_of, World, act_of}
 use Rattle.sj_semantics.specs.State.{IsSettled, verdict_of}
 use Rattle.sj_semantics.specs.Wants.{want_of}
+use Rattle.sj_semantics_laws.specs.Unshared.{IsUnshared}
 use Rattle.sj_semantics_laws.proofs.BoundLemmas.{want_bound}
 use Rattle.sj_semantics_laws.proofs.DelegatedLemmas.{delegated_nowhere}
 use Rattle.sj_semantics_laws.proofs.HolderLemmas.{act_uses_bound}
@@ -22,6 +23,7 @@ use Rattle.sj_semantics_laws.proofs.TakenLemmas.{run_untaken}
 use Rattle.sj_headline_laws.specs.Headline.{messages, IsFront, OfEachEnd, FitsTaker, TakesWhatFits, UsesItsOwn, ClosesForGood, DelegatesAtOnce, IsHeadline}
 use Rattle.sj_headline_laws.proofs.AcceptedLemmas.{run_is_sound}
 use Rattle.sj_headline_laws.proofs.FittingLemmas.{next_has_a_place}
+use Rattle.sj_headline_laws.proofs.FreeLemmas.{begins_free}
 use Rattle.sj_headline_laws.proofs.PlacedLemmas.{done_runs_take_all}
 use Rattle.sj_headline_laws.proofs.TakingLemmas.{change_takes_next}
 
@@ -47,7 +49,7 @@ takes_all file acts w accepted run done =
 -- ---- from an act on
 
 -- the acts from a world on, where the acts up to there and all of them are runs
-acts_between : (file : FileAt) (front between' : List ℕ) (w v : World) → IsRun file front w → IsRun file (front ++ between') v → after_acts w between' ≡ Some v
+pub acts_between : (file : FileAt) (front between' : List ℕ) (w v : World) → IsRun file front w → IsRun file (front ++ between') v → after_acts w between' ≡ Some v
 acts_between file front between' w v run all =
     let f = front_of_acts (start_of file) v front between' all in
     let it : f.0 ≡ w = (let both : Some f.0 ≡ Some w = sym f.1 ∙ run in cc) in
@@ -74,8 +76,12 @@ delegates_at_once file front rest p w v few run all =
 
 -- ---- the headline
 
-uses_its_own : (w : World) (p : ℕ) → UsesItsOwn w p
-uses_its_own w p = record { names = λ g want there h. want_bound g want h; uses = λ g c there h. act_uses_bound w p g c there h }
+uses_its_own : (w : World) (p : ℕ) → IsUnshared w → UsesItsOwn w p
+uses_its_own w p one = record {
+  names = λ g want there h. want_bound g want h;
+  uses = λ g c there h. act_uses_bound w p g c there h;
+  begun = λ c h. begins_free w p c one h;
+}
 
 pub settled_run_has_it : (file : FileAt) (acts : List ℕ) (w : World) → IsAccepted file → IsRun file acts w → IsSettled w → IsHeadline file acts w
 settled_run_has_it file acts w accepted run settled = record {
@@ -85,7 +91,7 @@ settled_run_has_it file acts w accepted run settled = record {
   whole = takes_all file acts w accepted run;
   fitting = λ front rest p v parted leads. takes_what_fits file front v p accepted leads;
   one_holder = λ front rest v parted leads e p q. holder_is_one v p q e (run_is_unshared file front v accepted.within.connects leads);
-  by_holder = λ front rest p v parted leads. uses_its_own v p;
+  by_holder = λ front rest p v parted leads. uses_its_own v p (run_is_unshared file front v accepted.within.connects leads);
   gone_once_closed = λ front rest last p v u parted leads all. closes_for_good file front rest p v u accepted.within.connects leads all;
   nowhere_on_its_way = λ front rest last p v u parted leads all. delegates_at_once file front rest p v u accepted.within.connects leads all;
 }

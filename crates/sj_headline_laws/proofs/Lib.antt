@@ -31,6 +31,7 @@ pub mod ChangedLemmas
 pub mod SoundLemmas
 pub mod MeetingLemmas
 pub mod AcceptedLemmas
+pub mod TakesLemmas
 pub mod FittingLemmas
 pub mod ClosedLemmas
 pub mod LocatedLemmas
@@ -44,6 +45,7 @@ pub mod GoingLemmas
 pub mod EndedLemmas
 pub mod PlacedLemmas
 pub mod TakingLemmas
+pub mod FreeLemmas
 pub mod HeadlineLemmas
 pub mod SampleLemmas
 pub mod GreetingLemmas

@@ -21,6 +21,7 @@ use Rattle.sj_semantics.specs.Uses.{takes}
 use Rattle.sj_semantics.specs.Wants.{want_of}
 use Rattle.sj_semantics_laws.specs.Bound.{AreBound, UsesBound}
 use Rattle.sj_semantics_laws.specs.Runs.{IsBoundAt, IsBoundNowhere, IsUntaken}
+use Rattle.sj_headline_laws.specs.Begins.{BeginFreeEnds}
 
 -- ---- moments
 
@@ -69,10 +70,12 @@ abbrev pub TakesWhatFits : World → ℕ → Type 0
 TakesWhatFits w p =
     (c : Change) (n : ℕ) (e : EndId) (m : Msg) → change_of w p ≡ Some c → slice_get c.uses n ≡ Some (e, takes m) → FitsTaker w.sessions e m
 
--- each end that the party's step names is bound at it, and so is each end that its act uses, unless the use is its beginning
+-- each end that the party's step names is bound at it, and so is each end that its act uses, unless the use is its beginning; an
+-- end that its act begins is free until then
 pub record UsesItsOwn (w : World) (p : ℕ) : Type 0 where
   pub names : (g : Program) (want : Want) → slice_get w.parties p ≡ Some g → want_of g ≡ Some want → AreBound g.ends want
   pub uses : (g : Program) (c : Change) → slice_get w.parties p ≡ Some g → change_of w p ≡ Some c → UsesBound g.ends c.uses
+  pub begun : (c : Change) → change_of w p ≡ Some c → BeginFreeEnds w c.uses
 
 -- ---- where ends are bound
 
@@ -103,7 +106,7 @@ pub record IsHeadline (file : FileAt) (acts : List ℕ) (end : World) : Type 0 w
   pub fitting : OfEachAct file acts TakesWhatFits
   -- at each moment each end is bound at one party at most
   pub one_holder : AtEachMoment file acts HasOneHolderEach
-  -- each act on an end is done by a party at which it is bound
+  -- each act on an end is done by a party at which it is bound; one that it begins nobody has before
   pub by_holder : OfEachAct file acts UsesItsOwn
   -- a closed end is bound nowhere from its close on
   pub gone_once_closed : FromEachActOn file acts ClosesForGood
