@@ -49,4 +49,5 @@ pub mod DrainRunLemmas
 pub mod DrainLoopLemmas
 pub mod PlayLemmas
 pub mod JoinedFileLemmas
+pub mod WholeHistoryLemmas
 pub mod CoreSampleLemmas

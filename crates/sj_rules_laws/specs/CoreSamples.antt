@@ -1,14 +1,16 @@
 -- Histories that are known: an end is delegated between messages, and both ends are at once.
-use Rattle.std.specs.Prelude.{◌≡◌, ℕ, max, List, [], ◌∷◌, map, pos, Option, Some, None, option_map}
+use Rattle.std.specs.Prelude.{◌≡◌, ℕ, max, List, [], ◌∷◌, length, map, pos, Some, None}
 use Rattle.sj_base.specs.declared.EndId.{EndId}
 use Rattle.sj_base.specs.declared.Msg.{Msg}
 use Rattle.sj_base.specs.declared.Msg.TheVariants as msgs
 use Rattle.sj_lang.specs.FileAt.{FileAt}
-use Rattle.sj_rules.specs.World.{Act, Deliver}
+use Rattle.sj_lang.specs.Place.{Place}
+use Rattle.sj_semantics.specs.Program.{Program}
+use Rattle.sj_rules.specs.World.{Act, Deliver, WorldAt}
 use Rattle.sj_rules.specs.Party.{play_of}
 use Rattle.sj_rules.specs.Start.{core_start}
 use Rattle.sj_rules.specs.Log.{NoteAt, Sent, Took, Shut, Carry, Fin, Claim, Signal, Ack, Give, LineAt}
-use Rattle.sj_rules.specs.History.{replay, whole_caches, turn_of}
+use Rattle.sj_rules.specs.History.{IsQuietAmong, replay, whole_caches, turn_of}
 
 abbrev pub end : ℕ → ℕ → EndId
 end sess side = record { sess = sess; side = side }
@@ -23,13 +25,16 @@ does clock party note = record { party = party; entry = record { clock = clock; 
 abbrev pub gets : (clock party from : ℕ) → NoteAt → LineAt
 gets clock party from note = record { party = party; entry = record { clock = clock; event = Deliver from; note = note } }
 
--- the lines that the events of these lines give
-abbrev pub lines_of : (ℕ → ℕ → ℕ) → FileAt → List LineAt → Option (List LineAt)
-lines_of pick file lines = option_map (λ r. r.lines) (replay (play_of file) pick (map turn_of lines) (core_start file))
+-- the events of these lines give them again, with that choice of bases, and in the world to which they lead nothing is left to
+-- do: no frame is in a lane, and no party can act
+abbrev pub IsWholeHistory : (ℕ → ℕ → ℕ) → FileAt → List LineAt → Type 0
+IsWholeHistory pick file lines =
+    (w : WorldAt Place Program) × (replay (play_of file) pick (map turn_of lines) (core_start file) ≡ Some (record { lines = lines; world = w }))
+    × IsQuietAmong (play_of file) (length file.parties) w
 
--- they are these lines again, where caches are kept whole, and where they are trimmed to what is known to be taken
+-- so it is where caches are kept whole, and where they are trimmed to what is known to be taken
 abbrev pub IsLoggedSo : FileAt → List LineAt → Type 0
-IsLoggedSo file lines = (lines_of whole_caches file lines ≡ Some lines) × (lines_of max file lines ≡ Some lines)
+IsLoggedSo file lines = IsWholeHistory whole_caches file lines × IsWholeHistory max file lines
 
 -- a, b and c; b takes one message and delegates its end to c
 abbrev pub delegation_lines : List LineAt

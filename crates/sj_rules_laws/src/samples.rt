@@ -1,7 +1,7 @@
 //! Definitions tried on files whose histories are known; each clause computes.
 //!
 //! - `handovers_are_logged_so`, `openings_are_logged_so`: whole histories, with all clocks and
-//!   notes, however caches are kept.
+//!   notes, to where nothing is left to do, however caches are kept.
 
 ghost use Rattle.sj_rules_laws.specs.CoreSamples.{IsLoggedSo, both_moved_lines, delegation_lines};
 ghost use Rattle.sj_rules_laws.specs.MoreCoreSamples.{sends_later, sends_later_lines};
