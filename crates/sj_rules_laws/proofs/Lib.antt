@@ -49,5 +49,10 @@ pub mod DrainRunLemmas
 pub mod DrainLoopLemmas
 pub mod PlayLemmas
 pub mod JoinedFileLemmas
+pub mod TiedActLemmas
+pub mod TiedLemmas
+pub mod ToldLemmas
+pub mod SentToldLemmas
+pub mod TakenToldLemmas
 pub mod WholeHistoryLemmas
 pub mod CoreSampleLemmas

@@ -3,3 +3,4 @@ pub mod MoreCoreSamples
 pub mod MovedTwiceSamples
 pub mod Limits
 pub mod OpeningCoreSamples
+pub mod TiedNotes

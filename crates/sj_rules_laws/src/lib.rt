@@ -4,6 +4,7 @@
 mod drains;
 mod joined;
 mod laws;
+mod notes;
 mod runs;
 mod samples;
 
@@ -16,6 +17,7 @@ pub use laws::{
     nothing_is_ever_unfit, plain_worlds_are_lawful, the_rules_see_each_act,
     the_start_stands_for_the_plain_one,
 };
+pub use notes::{a_history_is_tied_to_its_plain_run, a_history_tells_what_was_passed};
 pub use runs::{
     a_held_end_has_a_front, a_quiet_core_run_is_at_the_end, core_runs_have_few_acts,
     each_cache_has_what_was_not_taken, each_core_run_stands_for_a_plain_run,
