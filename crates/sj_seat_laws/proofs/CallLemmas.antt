@@ -1,7 +1,6 @@
 -- What a guarded call finds at its places, and that others leave an end that is held alone.
-use Rattle.std.proofs.Common.{◌≡◌, ◌≢◌, ℕ, zero, suc, ◌≤◌, ◌<◌, Bool, true, false, not, ◌&&◌, cond, List, [], ◌∷◌, length, slice_get, Option, Some, None, option_map, sum_by, refl, ap, sym, ◌∙◌, subst, arith}
+use Rattle.std.proofs.Common.{◌≡◌, ◌≢◌, ℕ, zero, suc, ◌≤◌, Bool, true, false, not, List, [], ◌∷◌, length, slice_get, Option, Some, None, option_map, refl, ap, ◌∙◌, subst, arith}
 use Rattle.std.specs.Prelude.{is_some}
-use Rattle.std.specs.Bool.{⊤}
 use Rattle.std.proofs.lemmas.Bool.{and_parts, eqb-true, false_from_ne_true}
 use Rattle.sj_base.specs.declared.EndId.{EndId}
 use Rattle.sj_base.specs.declared.Msg.{Msg}
@@ -14,14 +13,13 @@ use Rattle.sj_lang.specs.Meet.{StandsFor}
 use Rattle.sj_lang.specs.MeetTests.{stands_for}
 use Rattle.sj_lang.specs.Place.{Choices, Place, boolean, choice, done, int, message, repeat, session, text}
 use Rattle.sj_lang.proofs.MeetTestLemmas.{meets-Decides}
-use Rattle.sj_semantics.specs.declared.Passed.{Passed}
 use Rattle.sj_semantics.specs.Balanced.{FitsNext}
-use Rattle.sj_semantics.specs.Ends.{Session, end_at, is_end, is_same_side, next_for}
+use Rattle.sj_semantics.specs.Ends.{Session, end_at, is_end, is_same_side}
 use Rattle.sj_semantics.specs.Program.{Program}
 use Rattle.sj_semantics.specs.Uses.{Use}
 use Rattle.sj_semantics.specs.World.{World}
 use Rattle.sj_semantics_laws.specs.Bound.{IsBound}
-use Rattle.sj_semantics_laws.specs.Unshared.{IsToCome, bindings_of, carried_in, names_end, to_accept, to_open}
+use Rattle.sj_semantics_laws.specs.Unshared.{IsToCome, bindings_of, names_end, to_accept, to_open}
 use Rattle.sj_semantics_laws.proofs.BoundLemmas.{bindings_of-le, is_end_sym, is_end_trans}
 use Rattle.sj_semantics_laws.proofs.EndLemmas.{IsUnusedBy}
 use Rattle.sj_semantics_laws.proofs.MineLemmas.{AllMine, Mine, accepting, bound, coming, opening}

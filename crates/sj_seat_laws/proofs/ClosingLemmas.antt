@@ -1,6 +1,6 @@
 -- Acts make no further holder of an end, and an end that is closed is nowhere from its close on.
-use Rattle.std.proofs.Common.{◌≡◌, ℕ, ◌+◌, ◌<◌, ◌≤◌, ◌==◌, nat_lt, Bool, true, false, not, ◌&&◌, cond, List, [], ◌∷◌, ◌++◌, length, slice_get, Option, Some, None, option_map, option_and_then, sum_by, refl, ap, sym, ◌∙◌, subst, arith, inl, inr, ◌⊎◌}
-use Rattle.std.proofs.lemmas.Bool.{and_parts, eq-eqb, eqb-true, eqb-false, ne_eqb}
+use Rattle.std.proofs.Common.{◌≡◌, ℕ, ◌+◌, ◌<◌, ◌≤◌, ◌==◌, nat_lt, Bool, true, false, not, ◌&&◌, cond, List, [], ◌∷◌, ◌++◌, length, slice_get, Option, Some, None, option_map, option_and_then, sum_by, refl, ap, sym, ◌∙◌, subst, arith, inl, inr}
+use Rattle.std.proofs.lemmas.Bool.{eq-eqb, ne_eqb}
 use Rattle.sj_base.specs.declared.EndId.{EndId}
 use Rattle.sj_base.specs.declared.Msg.{Msg}
 use Rattle.sj_base.specs.declared.Msg.TheVariants as msgs
@@ -13,9 +13,9 @@ use Rattle.sj_acceptance.specs.Accepted.{IsAccepted}
 use Rattle.sj_semantics.specs.declared.Passed.{Passed}
 use Rattle.sj_semantics.specs.declared.Want.{Want as Step}
 use Rattle.sj_semantics.specs.declared.Want.TheVariants as steps
-use Rattle.sj_semantics.specs.Ends.{Session, end_at, is_end, next_for}
+use Rattle.sj_semantics.specs.Ends.{Session, end_at, next_for}
 use Rattle.sj_semantics.specs.Program.{Program}
-use Rattle.sj_semantics.specs.Uses.{Use, after_uses, begins, delegates, place_behind, sends, takes}
+use Rattle.sj_semantics.specs.Uses.{after_uses, delegates, place_behind, sends, takes}
 use Rattle.sj_semantics.specs.Wants.{want_of}
 use Rattle.sj_semantics.specs.World.{World, act_of, begun_by, session_message}
 use Rattle.sj_semantics_laws.specs.Unshared.{IsToCome, bindings_of, carried_in, claims_on, names_end}
@@ -33,12 +33,12 @@ use Rattle.sj_rules.specs.Record.{is_same_end}
 use Rattle.sj_seat_laws.specs.Calls as calls
 use Rattle.sj_seat_laws.specs.Calls.{Call, Ends, moved, place_held, without_end}
 use Rattle.sj_seat_laws.specs.Guards.{called_by, carried_next, ends_taken, may_carry, may_send, may_take, seated_want, want_of_calls, want_of_close, want_of_delegate, want_of_send, want_of_take, where_allowed, with_carried}
-use Rattle.sj_seat_laws.specs.SeatedHeadline.{Closes, ClosesForGood, FromEachActOn, HasEnd, IsNowhere}
-use Rattle.sj_seat_laws.specs.SeatedStart.{IsSeatedRun, seated_start}
+use Rattle.sj_seat_laws.specs.SeatedHeadline.{Closes, ClosesForGood, FromEachActOn, IsNowhere}
+use Rattle.sj_seat_laws.specs.SeatedStart.{seated_start}
 use Rattle.sj_seat_laws.specs.SeatedWorld.{Doing, SeatedWorld, after_doing, after_seated, beside, doing_by, doing_of, seated_act, world_after}
 use Rattle.sj_seat_laws.proofs.CallLemmas.{names_nothing, sends_on}
 use Rattle.sj_seat_laws.proofs.GuardLemmas.{come_same}
-use Rattle.sj_seat_laws.proofs.HeldLemmas.{held_by_place, holds, holds-moved, holds-push, holds-without, holds-without_le, place-moved_other, place-moved}
+use Rattle.sj_seat_laws.proofs.HeldLemmas.{held_by_place, holds, holds-moved, holds-push, holds-without, holds-without_le, place-moved}
 use Rattle.sj_seat_laws.proofs.RunLemmas.{between, seated_run}
 use Rattle.sj_seat_laws.proofs.SeatedLemmas.{IsSeated, act_keeps}
 

@@ -1,9 +1,8 @@
 -- Core runs of any play whose plain worlds are lawful: what holds in each of them.
-use Rattle.std.proofs.Common.{◌≡◌, ℕ, ◌+◌, ◌*◌, ◌<◌, ◌≤◌, Bool, true, false, cond, max, List, [], ◌∷◌, ◌++◌, map, length, Option, Some, None, refl, ap, sym, ◌∙◌, subst, arith, append-nil, append_assoc, length-append, inl, inr, ◌⊎◌}
+use Rattle.std.proofs.Common.{◌≡◌, ℕ, ◌+◌, ◌*◌, ◌<◌, ◌≤◌, Bool, true, false, cond, max, List, [], ◌∷◌, ◌++◌, length, Option, Some, None, refl, ap, sym, ◌∙◌, subst, arith, append-nil, append_assoc, length-append, inl, inr, ◌⊎◌}
 use Rattle.std.specs.List.{AllByRecursion}
 use Rattle.std.proofs.lemmas.Bool.{false_from_ne_true, both_ways, cases_lt}
 use Rattle.sj_base.specs.declared.EndId.{EndId}
-use Rattle.sj_rules.specs.Limits.{clock_end}
 use Rattle.sj_rules.specs.Rows.{Worked, IsPick}
 use Rattle.sj_rules.specs.Node.{Play, NodeAt, act_by, acts, arrives, ended}
 use Rattle.sj_rules.specs.Frames.{FrameAt, is_proper}
@@ -22,7 +21,7 @@ use Rattle.sj_rules.proofs.ArrivalLemmas.{proper_comes, arrived_proper}
 use Rattle.sj_joined_lemmas.proofs.LimitLemmas.{run_clocks}
 use Rattle.sj_opened_lemmas.proofs.OpenRunLemmas.{each_front_fits}
 use Rattle.sj_opened_lemmas.proofs.OpenStandsLemmas.{open_kept_stands_for}
-use Rattle.sj_rules_laws.proofs.CoreActLemmas.{Has, map_has}
+use Rattle.sj_rules_laws.proofs.CoreActLemmas.{map_has}
 use Rattle.sj_rules_laws.proofs.CoreRunLemmas.{kept_act_is_plain}
 use Rattle.sj_rules_laws.proofs.CoverLemmas.{Covers, act_covered, delivery_covered}
 use Rattle.sj_rules_laws.proofs.EventsLemmas.{acts_keep, deliveries_keep}
@@ -37,7 +36,7 @@ use Rattle.sj_rules_laws.proofs.QuietActLemmas.{no_core_act_no_plain_act}
 use Rattle.sj_rules_laws.proofs.QuietWorldLemmas.{open_bound_is_whole, same_offers, held_offer}
 use Rattle.sj_rules_laws.proofs.SpotLemmas.{open_lies_once}
 use Rattle.sj_rules_laws.proofs.WithinRowLemmas.{by_map}
-use Rattle.sj_rules_laws.proofs.WithinWorldLemmas.{happens_within, held_few}
+use Rattle.sj_rules_laws.proofs.WithinWorldLemmas.{happens_within}
 
 -- a party that has ended doesn't act
 idle_acts : {P Q : Type 0} → (play : Play P Q) (p : ℕ) (n : NodeAt P Q) → play.wants n.program ≡ ended → acts play p n ≡ None

@@ -1,44 +1,37 @@
 -- Each run to where nobody can go on has the headline.
-use Rattle.std.proofs.Common.{◌≡◌, ℕ, zero, suc, ◌+◌, ◌<◌, ◌≤◌, ◌==◌, nat_lt, Bool, true, false, not, cond, List, [], ◌∷◌, ◌++◌, map, drop, length, slice_get, Option, Some, None, option_map, option_and_then, unwrap_or, sum_by, refl, ap, sym, ◌∙◌, subst, arith, append-nil, append_assoc, length-append, inl, inr, ◌⊎◌}
-use Rattle.std.proofs.lemmas.Bool.{and_from, and_parts, cases_Bool, eq-eqb, eqb-true, eqb-false, ne_eqb}
+use Rattle.std.proofs.Common.{◌≡◌, ℕ, zero, suc, ◌==◌, nat_lt, Bool, true, false, not, cond, List, [], ◌∷◌, ◌++◌, map, drop, length, slice_get, Option, Some, None, option_map, option_and_then, unwrap_or, refl, ap, sym, ◌∙◌, subst, arith, append-nil, append_assoc, length-append, inl, inr}
+use Rattle.std.proofs.lemmas.Bool.{and_from, and_parts, cases_Bool, eq-eqb, eqb-true}
 use Rattle.std.proofs.lemmas.List.{length-map}
 use Rattle.sj_base.specs.declared.EndId.{EndId}
 use Rattle.sj_base.specs.declared.Msg.{Msg}
 use Rattle.sj_base.specs.declared.Msg.TheVariants as msgs
 use Rattle.sj_lang.specs.FileAt.{ConnectAt, FileAt}
-use Rattle.sj_lang.specs.ItemCount.{is_done}
 use Rattle.sj_lang.specs.Place.{Place}
-use Rattle.sj_acceptance.specs.Accepted.{IsAccepted}
 use Rattle.sj_semantics.specs.declared.Passed.{Passed}
-use Rattle.sj_semantics.specs.Acts.{ActAt, acts_on, sent_by, sent_on, taken_by, taken_on, uses_on}
+use Rattle.sj_semantics.specs.Acts.{acts_on, sent_by, sent_on, taken_by, taken_on, uses_on}
 use Rattle.sj_semantics.specs.Ends.{EndAt, Session, end_at, end_on, is_end, is_same_side, next_for, nowhere, other_end, other_side}
 use Rattle.sj_semantics.specs.Program.{Program}
 use Rattle.sj_semantics.specs.Uses.{Use, after_uses, begins, delegates, end_after, sends, takes}
-use Rattle.sj_semantics.specs.World.{Change, World, act_of, begun_by, change_of, change_of_program, changed_world, session_message, session_of, start_of}
-use Rattle.sj_semantics_laws.specs.Bound.{UsesBound}
-use Rattle.sj_semantics_laws.specs.Runs.{IsBoundAt}
+use Rattle.sj_semantics.specs.World.{Change, World, act_of, begun_by, change_of, change_of_program, changed_world, session_message, session_of}
 use Rattle.sj_semantics_laws.proofs.ActsLemmas.{takers_after_uses}
 use Rattle.sj_semantics_laws.proofs.BoundLemmas.{is_end_sym, is_end_sym_false}
 use Rattle.sj_semantics_laws.proofs.ChangeLemmas.{rests_on}
 use Rattle.sj_semantics_laws.proofs.EndLemmas.{end_at-after_uses_extends, end_at-touched_other, end_at-touched_same, touched}
 use Rattle.sj_semantics_laws.proofs.FrontLemmas.{Front, Taking, by_taking, front_extends, front_more, front_whole, next_taken, none_taken}
-use Rattle.sj_semantics_laws.proofs.HolderLemmas.{act_uses_bound}
 use Rattle.sj_semantics_laws.proofs.MomentLemmas.{holder_is_one}
-use Rattle.sj_headline_laws.specs.Headline.{FitsTaker, IsFront, messages}
+use Rattle.sj_headline_laws.specs.Headline.{IsFront}
 use Rattle.sj_headline_laws.proofs.DoneLemmas.{same_end_at}
-use Rattle.sj_headline_laws.proofs.FittingLemmas.{next_has_a_place}
-use Rattle.sj_headline_laws.proofs.TakingLemmas.{TakesNext, change_takes_next}
 use Rattle.sj_headline_laws.proofs.TouchedLemmas.{side}
 use Rattle.sj_headline_laws.proofs.UnnamedLemmas.{bound_claims}
 use Rattle.sj_rules.specs.Node as wanted
 use Rattle.sj_rules.specs.Node.{Want}
 use Rattle.sj_seat_laws.specs.Calls.{Call}
 use Rattle.sj_seat_laws.specs.Guards.{seated_want}
-use Rattle.sj_seat_laws.specs.SeatedHeadline.{HasEnd, HasOneHolderEach, OfEachEnd, TakesWhatFits, seated_acts, uses_in, uses_of_change, uses_of_doing}
+use Rattle.sj_seat_laws.specs.SeatedHeadline.{HasOneHolderEach, OfEachEnd, seated_acts, uses_in, uses_of_change, uses_of_doing}
 use Rattle.sj_seat_laws.specs.SeatedStart.{IsSeatedRun, seated_start}
 use Rattle.sj_seat_laws.specs.SeatedWorld.{Doing, SeatedWorld, after_doing, after_seated, beside, doing_by, doing_of, seated_act}
 use Rattle.sj_seat_laws.proofs.HeldLemmas.{held_by_place}
-use Rattle.sj_seat_laws.proofs.RunLemmas.{between, seated_run}
+use Rattle.sj_seat_laws.proofs.RunLemmas.{between}
 use Rattle.sj_seat_laws.proofs.SeatedLemmas.{IsSeated}
 
 -- ---- what uses add

@@ -1,5 +1,5 @@
 -- Each world of a run in which a party is played by code of its own is lawful, as the lemmas on events ask for.
-use Rattle.std.proofs.Common.{◌≡◌, ◌≢◌, ◌↔◌, ℕ, ◌+◌, ◌<◌, ◌≤◌, ◌==◌, Bool, true, false, not, ◌&&◌, cond, List, [], ◌∷◌, ◌++◌, length, slice_get, Option, Some, None, option_map, sum_by, refl, ap, sym, ◌∙◌, subst, arith, inl, inr, ◌⊎◌}
+use Rattle.std.proofs.Common.{◌≡◌, ◌↔◌, ℕ, ◌+◌, ◌<◌, ◌≤◌, ◌==◌, Bool, true, false, not, ◌&&◌, cond, List, [], ◌∷◌, ◌++◌, length, slice_get, Option, Some, None, option_map, refl, ap, sym, ◌∙◌, subst, arith, inl, inr, ◌⊎◌}
 use Rattle.std.specs.Prelude.{is_some}
 use Rattle.std.proofs.lemmas.Bool.{and_parts, both_ways, cases_Bool, eqb-true, false_from_ne_true}
 use Rattle.std.proofs.lemmas.Option.{slice_get_within}
@@ -18,36 +18,35 @@ use Rattle.sj_semantics.specs.Ends as semantics
 use Rattle.sj_semantics.specs.Program.{Program}
 use Rattle.sj_semantics.specs.World.{World, session_message}
 use Rattle.sj_semantics_laws.specs.Unshared.{names_end}
-use Rattle.sj_semantics_laws.proofs.BoundLemmas.{is_end-self, is_end_sym}
+use Rattle.sj_semantics_laws.proofs.BoundLemmas.{is_end-self}
 use Rattle.sj_headline_laws.proofs.DoneLemmas.{untaken_by}
 use Rattle.sj_headline_laws.proofs.FittingLemmas.{next_has_a_place}
 use Rattle.sj_headline_laws.proofs.TouchedLemmas.{pair_of, side}
 use Rattle.sj_headline_laws.proofs.UnnamedLemmas.{named_carried}
 use Rattle.sj_headline_laws.proofs.WorldLemmas.{Sound}
-use Rattle.sj_rules.specs.Binding.{BindsAlso, BindsSame, BindsTaken, BindsWithout, NamesOther}
-use Rattle.sj_rules.specs.Linked.{waiting_at}
+use Rattle.sj_rules.specs.Binding.{BindsSame, BindsTaken, BindsWithout, NamesOther}
 use Rattle.sj_rules.specs.Node.{Play, Want, ended, local, requests, accepts}
 use Rattle.sj_rules.specs.Node as wanted
-use Rattle.sj_rules.specs.Party.{IsDone, binds, nobody, play_of}
+use Rattle.sj_rules.specs.Party.{IsDone, binds, play_of}
 use Rattle.sj_rules.specs.Plain.{plain_at, plain_side}
 use Rattle.sj_rules.specs.PlainSide.{PlainAt, PlainSide}
-use Rattle.sj_rules.specs.Premises.{FitsStep, FitsSend, FitsDelegate, FitsHead, FitsTake, FitsClose, IsLawful, IsWithinCounts}
+use Rattle.sj_rules.specs.Premises.{FitsStep, FitsHead, IsLawful, IsWithinCounts}
 use Rattle.sj_rules.specs.Record.{is_same_end, other_end}
 use Rattle.sj_rules_laws.proofs.ActLemmas.{waiting_is_next}
-use Rattle.sj_rules_laws.proofs.CountLemmas.{few_steps, sent_by_option, sent_in, steps_of}
+use Rattle.sj_rules_laws.proofs.CountLemmas.{few_steps, sent_by_option}
 use Rattle.sj_rules_laws.proofs.FitsStepLemmas.{goes_on_by, next_at_side, untaken_is}
 use Rattle.sj_rules_laws.proofs.LawfulLemmas.{bound_below, idle_above, keeper_below, offered_comes, other_sent_is, sent_is, steps_are_lawful, unbound_by}
-use Rattle.sj_rules_laws.proofs.ProperLemmas.{IsProper, Size}
+use Rattle.sj_rules_laws.proofs.ProperLemmas.{Size}
 use Rattle.sj_rules_laws.proofs.ProperRunLemmas.{size_of}
 use Rattle.sj_rules_laws.proofs.SideLemmas.{other_side_below, same_end_is, same_end_self, side_below}
 use Rattle.sj_seat_laws.specs.Calls as calls
 use Rattle.sj_seat_laws.specs.Calls.{Call, Ends, SeatedAt, moved, place_held, without_end}
-use Rattle.sj_seat_laws.specs.Guards.{called_by, carried_next, ends_taken, may_carry, may_send, may_take, want_of_call, want_of_calls, want_of_close, want_of_delegate, want_of_send, want_of_take, where_allowed, with_carried}
-use Rattle.sj_seat_laws.specs.SeatedPlay.{Player, player_binds, player_goes, seated, seated_play, written}
+use Rattle.sj_seat_laws.specs.Guards.{called_by, carried_next, ends_taken, may_carry, may_send, may_take, want_of_calls, want_of_close, want_of_delegate, want_of_send, want_of_take, where_allowed, with_carried}
+use Rattle.sj_seat_laws.specs.SeatedPlay.{Player, player_binds, seated, seated_play, written}
 use Rattle.sj_seat_laws.specs.SeatedStart.{no_program}
 use Rattle.sj_seat_laws.specs.SeatedWorld.{SeatedWorld, seen_at}
 use Rattle.sj_seat_laws.proofs.CallLemmas.{carries_out, sends_on}
-use Rattle.sj_seat_laws.proofs.HeldLemmas.{first_of, held_by_place, holds, place-push, place-without, some-moved}
+use Rattle.sj_seat_laws.proofs.HeldLemmas.{first_of, held_by_place, place-push, place-without, some-moved}
 use Rattle.sj_seat_laws.proofs.SeatedLemmas.{IsSeated}
 
 -- ---- which ends a party binds behind a call

@@ -11,6 +11,7 @@ pub mod StartLemmas
 pub mod RunLemmas
 pub mod HeadlineLemmas
 pub mod UsingLemmas
+pub mod BeginningLemmas
 pub mod ClosingLemmas
 pub mod DelegatingLemmas
 pub mod SeatedHeadlineLemmas

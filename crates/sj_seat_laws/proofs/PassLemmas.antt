@@ -24,9 +24,9 @@ use Rattle.sj_headline_laws.proofs.LeadLemmas.{pair_hands}
 use Rattle.sj_headline_laws.proofs.TouchedLemmas.{side}
 use Rattle.sj_headline_laws.proofs.UnnamedLemmas.{IsUncarried, hands_places, pairs_after}
 use Rattle.sj_semantics.specs.World.{World}
-use Rattle.sj_seat_laws.specs.Calls.{Ends, moved, place_held, without_end}
+use Rattle.sj_seat_laws.specs.Calls.{Ends, place_held, without_end}
 use Rattle.sj_seat_laws.specs.SeatedWorld.{world_after}
-use Rattle.sj_seat_laws.proofs.HeldLemmas.{holds, holds-moved, holds-push, holds-same, holds-without, holds-without_le, place-moved_other}
+use Rattle.sj_seat_laws.proofs.HeldLemmas.{holds, holds-push, holds-same, holds-without, holds-without_le}
 use Rattle.sj_seat_laws.proofs.GuardLemmas.{Guarded, bound_in, come_same, serves_sound}
 use Rattle.sj_seat_laws.proofs.UseLemmas.{bound_apart, come_apart, sent_pairs, taken_pairs, uncarried, unclaimed}
 

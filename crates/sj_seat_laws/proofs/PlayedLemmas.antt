@@ -10,7 +10,7 @@ use Rattle.sj_lang.specs.FileAt.{FileAt}
 use Rattle.sj_lang.specs.ItemCount.{is_done}
 use Rattle.sj_lang.specs.Place.{Place, boolean, choice, done, int, message, repeat, session, text}
 use Rattle.sj_rules.specs.Frames.{FrameAt, is_proper}
-use Rattle.sj_rules.specs.Halts.{Halt, halt_by}
+use Rattle.sj_rules.specs.Halts.{halt_by}
 use Rattle.sj_rules.specs.Log.{NoteAt, Sent, Shut, Took, act_note, head_note, take_note}
 use Rattle.sj_rules.specs.Node as wanted
 use Rattle.sj_rules.specs.Node.{NodeAt, Play, Want, ack_comes, act_by, acts, arrives, at_main, claim_comes, close_act, closed_after, comes, comes_or_opens, delegate_act, give_comes, given_after, held_after, held_behind_take, is_free, open_comes, parked_after, plain_comes, put, quietly, send_act, signal_comes, take_act, take_from, with_main, with_number, with_old, work_of_take}

@@ -1,14 +1,8 @@
 -- Runs in which a party of an accepted file is played by code of its own: what the lemmas on courses say of them.
-use Rattle.std.proofs.Common.{◌≡◌, ℕ, ◌+◌, ◌<◌, ◌≤◌, ◌==◌, nat_lt, Bool, true, false, not, cond, List, [], ◌∷◌, ◌++◌, map, length, Option, Some, None, option_map, option_and_then, refl, ap, sym, ◌∙◌, subst, arith, length-append}
-use Rattle.std.proofs.lemmas.Bool.{eq-eqb, ltb-false, leb-false}
-use Rattle.sj_base.specs.declared.EndId.{EndId}
-use Rattle.sj_base.specs.declared.Msg.{Msg}
+use Rattle.std.proofs.Common.{◌≡◌, ℕ, ◌+◌, ◌<◌, ◌≤◌, List, [], ◌∷◌, ◌++◌, map, length, Option, Some, None, option_map, option_and_then, refl, ap, sym, ◌∙◌, subst, arith}
 use Rattle.sj_lang.specs.FileAt.{FileAt}
 use Rattle.sj_lang.specs.Place.{Place, done}
 use Rattle.sj_acceptance.specs.Accepted.{IsAccepted}
-use Rattle.sj_semantics.specs.Balanced.{IsBalanced}
-use Rattle.sj_semantics.specs.World.{World}
-use Rattle.sj_headline_laws.proofs.AcceptedLemmas.{next_fits, sound_is_balanced}
 use Rattle.sj_joined_lemmas.proofs.HistoryLemmas.{log_runs}
 use Rattle.sj_joined_lemmas.proofs.JoinedRunLemmas.{joined_run, last_world, logs_join}
 use Rattle.sj_joined_lemmas.proofs.LimitLemmas.{same_arrives}
@@ -16,7 +10,7 @@ use Rattle.sj_joined_lemmas.proofs.ToldRunLemmas.{lost_is_front}
 use Rattle.sj_rules.specs.Events.{acts_in}
 use Rattle.sj_rules.specs.Frames.{FrameAt}
 use Rattle.sj_rules.specs.Halts.{halt_of}
-use Rattle.sj_rules.specs.History.{IsLog, IsQuietAmong, turn_of}
+use Rattle.sj_rules.specs.History.{IsQuietAmong, turn_of}
 use Rattle.sj_rules.specs.Joined.{IsJoinedRun, PartiesWork, WorkerAt}
 use Rattle.sj_rules.specs.Log.{IsJoined, LineAt, logs_below}
 use Rattle.sj_rules.specs.Moves.{plain_act}

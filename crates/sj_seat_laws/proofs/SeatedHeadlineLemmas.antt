@@ -1,5 +1,5 @@
 -- Each run to where nobody can go on has the headline.
-use Rattle.std.proofs.Common.{◌≡◌, ℕ, ◌<◌, ◌==◌, Bool, true, false, cond, List, [], length, slice_get, Option, Some, None, option_map, refl, ap, sym, ◌∙◌}
+use Rattle.std.proofs.Common.{◌≡◌, ℕ, ◌<◌, Bool, true, cond, List, length, slice_get, Option, Some, None, option_map, refl, ap, sym, ◌∙◌}
 use Rattle.std.proofs.lemmas.Bool.{eq-eqb, ne_eqb}
 use Rattle.sj_lang.specs.FileAt.{FileAt}
 use Rattle.sj_acceptance.specs.Accepted.{IsAccepted}
@@ -18,11 +18,12 @@ use Rattle.sj_seat_laws.specs.Calls.{Call}
 use Rattle.sj_seat_laws.specs.SeatedHeadline.{IsSeatedHeadline}
 use Rattle.sj_seat_laws.specs.SeatedStart.{IsSeatedRun}
 use Rattle.sj_seat_laws.specs.SeatedWorld.{Doing, SeatedWorld, after_doing, beside, doing_of, seated_act}
+use Rattle.sj_seat_laws.proofs.BeginningLemmas.{uses_its_own}
 use Rattle.sj_seat_laws.proofs.ClosingLemmas.{gone_once_closed}
 use Rattle.sj_seat_laws.proofs.DelegatingLemmas.{nowhere_on_its_way}
 use Rattle.sj_seat_laws.proofs.HeadlineLemmas.{one_holder, takes_in_order}
 use Rattle.sj_seat_laws.proofs.RunLemmas.{seated_run}
-use Rattle.sj_seat_laws.proofs.UsingLemmas.{rests, takes_what_fits, uses_its_own}
+use Rattle.sj_seat_laws.proofs.UsingLemmas.{rests, takes_what_fits}
 
 no_doing : (p : ℕ) (t : SeatedWorld) (o : Option Doing) → ◌≡◌ {A = Option SeatedWorld} (option_map (after_doing p t) o) None → o ≡ None
 no_doing p t None h = refl
@@ -44,7 +45,7 @@ settled_run_has_it file p calls acts t accepted there run none = record {
   in_order = takes_in_order file p calls acts t run;
   fitting = λ front rest q u parted leads. takes_what_fits file p (length front) u q (seated_run file p calls accepted there front u leads);
   one_holder = λ front rest u parted leads. one_holder file p (length front) u (seated_run file p calls accepted there front u leads);
-  by_holder = λ front rest q u parted leads. uses_its_own p u q;
+  by_holder = λ front rest q u parted leads. uses_its_own file p u (seated_run file p calls accepted there front u leads).guarded q;
   gone_once_closed = gone_once_closed file p calls acts accepted there;
   nowhere_on_its_way = nowhere_on_its_way file p calls acts accepted there;
 }

@@ -1,7 +1,6 @@
 -- Each act keeps a seated world sound: the others' acts, and the calls of the party that is played by code of its own.
 use Rattle.std.proofs.Common.{◌≡◌, ◌≢◌, ℕ, ◌+◌, ◌<◌, ◌≤◌, ◌==◌, nat_lt, Bool, true, false, not, ◌&&◌, cond, List, [], ◌∷◌, ◌++◌, length, slice_get, Option, Some, None, option_map, sum_by, refl, ap, sym, ◌∙◌, subst, arith}
-use Rattle.std.proofs.lemmas.Bool.{and_parts, false_from_ne_true, both_ways, ltb-true, eqb-true, eqb-false}
-use Rattle.std.proofs.lemmas.List.Sums.{sum_by-cons}
+use Rattle.std.proofs.lemmas.Bool.{and_parts, false_from_ne_true, both_ways, ltb-true, eqb-false}
 use Rattle.std.proofs.lemmas.Option.{slice_get_within}
 use Rattle.sj_base.specs.declared.EndId.{EndId}
 use Rattle.sj_base.specs.declared.Msg.{Msg}
@@ -21,7 +20,7 @@ use Rattle.sj_semantics.specs.Uses.{Use, after_uses, begins, delegates, end_afte
 use Rattle.sj_semantics.specs.World.{World, act_of, begun_by, session_message}
 use Rattle.sj_semantics_laws.specs.Unshared.{names_end}
 use Rattle.sj_semantics_laws.proofs.AlteredLemmas.{slice_get-altered_other, sum_by-altered}
-use Rattle.sj_semantics_laws.proofs.BoundLemmas.{is_end-self, is_end_sym, is_end_sym_false}
+use Rattle.sj_semantics_laws.proofs.BoundLemmas.{is_end-self, is_end_sym}
 use Rattle.sj_semantics_laws.proofs.ChangeLemmas.{rests_on}
 use Rattle.sj_semantics_laws.proofs.CommuteLemmas.{doing_of as acts_by}
 use Rattle.sj_semantics_laws.proofs.EndLemmas.{end_at-after_uses_other, end_at-touched_other, end_at-touched_same, touched}
@@ -29,7 +28,7 @@ use Rattle.sj_semantics_laws.proofs.MineLemmas.{all_mine}
 use Rattle.sj_headline_laws.proofs.FittingLemmas.{next_has_a_place}
 use Rattle.sj_headline_laws.proofs.TouchedLemmas.{side}
 use Rattle.sj_headline_laws.proofs.UnnamedLemmas.{hands_places, named_carried}
-use Rattle.sj_rules.specs.Binding.{IsSession, NamesNoEnd}
+use Rattle.sj_rules.specs.Binding.{IsSession}
 use Rattle.sj_rules.specs.Node as wanted
 use Rattle.sj_rules.specs.Record.{is_same_end}
 use Rattle.sj_rules_laws.proofs.CountLemmas.{made_counted, no_hands, no_takes, sent_in, steps_of, touched_hops, touched_sent}
@@ -39,12 +38,12 @@ use Rattle.sj_rules_laws.proofs.ProperRunLemmas.{act_keeps_proper, programs_keep
 use Rattle.sj_rules_laws.proofs.SideLemmas.{apart_ends, same_end_is, same_end_self}
 use Rattle.sj_seat_laws.specs.Calls as calls
 use Rattle.sj_seat_laws.specs.Calls.{Call, Ends, SeatedAt, moved, place_held, without_end}
-use Rattle.sj_seat_laws.specs.Guards.{called_by, carried_next, ends_taken, may_carry, may_send, may_take, want_of_call, want_of_calls, want_of_close, want_of_delegate, want_of_send, want_of_take, where_allowed, with_carried}
+use Rattle.sj_seat_laws.specs.Guards.{called_by, carried_next, ends_taken, may_carry, may_send, may_take, want_of_calls, want_of_close, want_of_delegate, want_of_send, want_of_take, where_allowed, with_carried}
 use Rattle.sj_seat_laws.specs.SeatedStart.{no_program}
 use Rattle.sj_seat_laws.specs.SeatedWorld.{Doing, SeatedWorld, after_doing, beside, doing_by, doing_of, seated_act, world_after}
 use Rattle.sj_seat_laws.proofs.CallLemmas.{carries_out, mine_unused, names_nothing, sends_on, taken_kind}
 use Rattle.sj_seat_laws.proofs.GuardLemmas.{Guarded, act_keeps_guarded}
-use Rattle.sj_seat_laws.proofs.HeldLemmas.{first_of, held_by_place, holds, holds-moved, place-moved, place-moved_other, place-moved_same, place-push, place-without_other}
+use Rattle.sj_seat_laws.proofs.HeldLemmas.{first_of, held_by_place, holds-moved, place-moved, place-moved_other, place-moved_same, place-push, place-without_other}
 use Rattle.sj_seat_laws.proofs.PassLemmas.{guards_delegate, guards_take_end}
 use Rattle.sj_seat_laws.proofs.UseLemmas.{guards_close, guards_send, guards_take}
 

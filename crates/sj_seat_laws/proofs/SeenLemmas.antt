@@ -1,6 +1,6 @@
 -- The act of a party in a seated world, and what the rules see of it, are one.
-use Rattle.std.proofs.Common.{◌≡◌, ℕ, ◌+◌, ◌<◌, ◌==◌, nat_lt, Bool, true, false, not, ◌&&◌, cond, List, [], ◌∷◌, ◌++◌, length, slice_get, Option, Some, None, option_map, unwrap_or, refl, ap, sym, ◌∙◌, subst, arith}
-use Rattle.std.proofs.lemmas.Bool.{and_parts, both_ways, eq-eqb, eqb-true, eqb-false, ne_eqb}
+use Rattle.std.proofs.Common.{◌≡◌, ℕ, ◌+◌, ◌<◌, ◌==◌, nat_lt, Bool, true, false, not, ◌&&◌, cond, List, [], ◌∷◌, ◌++◌, length, Option, Some, None, option_map, refl, ap, sym, ◌∙◌}
+use Rattle.std.proofs.lemmas.Bool.{and_parts, both_ways, eq-eqb, eqb-true}
 use Rattle.sj_base.specs.declared.EndId.{EndId}
 use Rattle.sj_base.specs.declared.Msg.{Msg}
 use Rattle.sj_base.specs.declared.Msg.TheVariants as msgs
@@ -37,9 +37,9 @@ use Rattle.sj_rules_laws.proofs.SeenLemmas.{begins_seen, hands_seen, sends_seen,
 use Rattle.sj_rules_laws.proofs.SideLemmas.{side_below}
 use Rattle.sj_seat_laws.specs.Calls as calls
 use Rattle.sj_seat_laws.specs.Calls.{Call, Ends, SeatedAt, place_held}
-use Rattle.sj_seat_laws.specs.Guards.{called, carried_next, may_carry, may_send, may_take, want_of_call, want_of_calls, want_of_close, want_of_delegate, want_of_send, want_of_take, where_allowed}
+use Rattle.sj_seat_laws.specs.Guards.{called, carried_next, may_carry, may_send, may_take, want_of_calls, want_of_close, want_of_delegate, want_of_send, want_of_take, where_allowed}
 use Rattle.sj_seat_laws.specs.SeatedPlay.{Player, player_goes, seated, seated_play, written}
-use Rattle.sj_seat_laws.specs.SeatedWorld.{Doing, SeatedWorld, after_doing, beside, doing_by, doing_of, seated_act, seen_at}
+use Rattle.sj_seat_laws.specs.SeatedWorld.{SeatedWorld, after_doing, beside, doing_by, doing_of, seated_act, seen_at}
 use Rattle.sj_seat_laws.proofs.CallLemmas.{carries_out, sends_on}
 use Rattle.sj_seat_laws.proofs.SeatedLemmas.{IsSeated}
 

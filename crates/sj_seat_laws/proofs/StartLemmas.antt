@@ -1,11 +1,11 @@
 -- Before any event the core world stands for the plain one, where a party is played by code of its own too.
-use Rattle.std.proofs.Common.{◌≡◌, ◌↔◌, ℕ, zero, suc, ◌+◌, ◌<◌, ◌≤◌, ◌==◌, Bool, true, false, cond, List, [], ◌∷◌, ◌++◌, map, length, slice_get, Option, Some, None, option_map, option_and_then, unwrap_or, sum_by, refl, ap, sym, ◌∙◌, subst, arith, inl, inr, ◌⊎◌}
+use Rattle.std.proofs.Common.{◌≡◌, ◌↔◌, ℕ, suc, ◌+◌, ◌<◌, ◌≤◌, ◌==◌, Bool, true, false, cond, List, [], ◌∷◌, map, length, slice_get, Option, Some, None, option_map, option_and_then, unwrap_or, sum_by, refl, ap, sym, ◌∙◌, subst, arith, inl, inr}
 use Rattle.std.specs.Prelude.{is_some}
-use Rattle.std.proofs.lemmas.Bool.{both_ways, cases_eq, eq-eqb, eqb-true, eqb-false, false_from_ne_true}
+use Rattle.std.proofs.lemmas.Bool.{both_ways, cases_eq, eqb-true, eqb-false, false_from_ne_true}
 use Rattle.std.proofs.lemmas.List.Sums.{sum_by-cons}
 use Rattle.std.proofs.lemmas.Option.{slice_get_within}
 use Rattle.sj_base.specs.declared.EndId.{EndId}
-use Rattle.sj_lang.specs.FileAt.{ConnectAt, FileAt, PartyAt, ends_from, named, party_named, party_names}
+use Rattle.sj_lang.specs.FileAt.{ConnectAt, FileAt, ends_from, named, party_named, party_names}
 use Rattle.sj_lang.specs.Place.{Place, done}
 use Rattle.sj_acceptance.specs.Accepted.{IsAccepted}
 use Rattle.sj_semantics.specs.Ends.{end_at, is_end}
@@ -20,29 +20,27 @@ use Rattle.sj_headline_laws.proofs.OriginLemmas.{InTodo}
 use Rattle.sj_headline_laws.proofs.PlacedLemmas.{Has, party_there}
 use Rattle.sj_headline_laws.proofs.TypedLemmas.{FitsProgram}
 use Rattle.sj_headline_laws.proofs.WorldLemmas.{Asks, Sound, Takes}
-use Rattle.sj_rules.specs.Linked.{IsKept, user_of}
+use Rattle.sj_rules.specs.Linked.{IsKept}
 use Rattle.sj_rules.specs.Party.{IsDone, binds, nobody}
 use Rattle.sj_rules.specs.Plain.{plain_at}
 use Rattle.sj_rules.specs.Reading.{IsOpenKept, reading}
-use Rattle.sj_rules.specs.Record.{Held, MainAt}
+use Rattle.sj_rules.specs.Record.{Held}
 use Rattle.sj_rules.specs.Start.{connect_of, core_start, declared_on, first_held, held_by}
-use Rattle.sj_rules.specs.Within.{ClocksWithin, IsWithin}
+use Rattle.sj_rules.specs.Within.{IsWithin}
 use Rattle.sj_rules_laws.proofs.CountLemmas.{no_steps, none_sent, start_is_counted, steps_of}
-use Rattle.sj_rules_laws.proofs.NamesLemmas.{HasName, has_name}
 use Rattle.sj_rules_laws.proofs.NodeWeightLemmas.{late_of}
 use Rattle.sj_rules_laws.proofs.ProperRunLemmas.{programs_keep, size_of, start_is_proper}
-use Rattle.sj_rules_laws.proofs.ProperLemmas.{AreProper, IsProper}
+use Rattle.sj_rules_laws.proofs.ProperLemmas.{AreProper}
 use Rattle.sj_rules_laws.proofs.SideLemmas.{same_end_is, same_end_self}
 use Rattle.sj_rules_laws.proofs.StartKeptLemmas.{start_is_open_kept}
-use Rattle.sj_rules_laws.proofs.StartNamesLemmas.{StartsAt, given_by, named_has, program_ends, starts_bound}
+use Rattle.sj_rules_laws.proofs.StartNamesLemmas.{given_by, named_has, program_ends, starts_bound}
 use Rattle.sj_rules_laws.proofs.WithinWorldLemmas.{start_is_within}
 use Rattle.sj_rules.specs.Record.{is_same_end}
-use Rattle.sj_seat_laws.specs.Calls.{Call, Ends, SeatedAt, place_held}
-use Rattle.sj_seat_laws.specs.SeatedPlay.{Player, player_binds, seated, seated_play, written}
-use Rattle.sj_seat_laws.specs.SeatedStart.{connected_ends, no_program, player_at, seat_start, seated_core, seated_start, world_without}
-use Rattle.sj_seat_laws.specs.SeatedWorld.{SeatedWorld, seen_at}
-use Rattle.sj_seat_laws.proofs.CourseLemmas.{CourseStands, IsFresh}
-use Rattle.sj_seat_laws.proofs.GuardLemmas.{Guarded}
+use Rattle.sj_seat_laws.specs.Calls.{Call, Ends, place_held}
+use Rattle.sj_seat_laws.specs.SeatedPlay.{player_binds, seated, written}
+use Rattle.sj_seat_laws.specs.SeatedStart.{connected_ends, no_program, seat_start, seated_core, seated_start, world_without}
+use Rattle.sj_seat_laws.specs.SeatedWorld.{seen_at}
+use Rattle.sj_seat_laws.proofs.CourseLemmas.{IsFresh}
 use Rattle.sj_seat_laws.proofs.HeldLemmas.{holds, numbered}
 use Rattle.sj_seat_laws.proofs.SeatedLemmas.{IsSeated}
 

@@ -1,7 +1,6 @@
 -- What an act takes is next, the ends that it uses are its party's, and why the code makes no call.
-use Rattle.std.proofs.Common.{◌≡◌, ℕ, zero, suc, ◌+◌, ◌<◌, ◌≤◌, ◌==◌, nat_lt, Bool, true, false, not, ◌&&◌, cond, List, [], ◌∷◌, length, slice_get, Option, Some, None, option_map, option_and_then, refl, ap, sym, ◌∙◌, subst, arith, inl, inr, ◌⊎◌}
-use Rattle.std.specs.Bool.{⊤}
-use Rattle.std.proofs.lemmas.Bool.{eqb-true, eqb-false, ltb-false}
+use Rattle.std.proofs.Common.{◌≡◌, ℕ, zero, suc, ◌==◌, nat_lt, Bool, true, false, not, ◌&&◌, cond, List, [], ◌∷◌, slice_get, Option, Some, None, option_map, option_and_then, refl, ap, sym, ◌∙◌, subst, inl, inr}
+use Rattle.std.proofs.lemmas.Bool.{eqb-true, ltb-false}
 use Rattle.sj_base.specs.declared.EndId.{EndId}
 use Rattle.sj_base.specs.declared.Msg.{Msg}
 use Rattle.sj_base.specs.declared.Msg.TheVariants as msgs
@@ -24,8 +23,8 @@ use Rattle.sj_rules.specs.Node.{Want}
 use Rattle.sj_rules.specs.Record.{is_same_end}
 use Rattle.sj_seat_laws.specs.Calls as calls
 use Rattle.sj_seat_laws.specs.Calls.{Call, Ends, place_held}
-use Rattle.sj_seat_laws.specs.Guards.{carried_next, may_carry, may_send, may_take, seated_want, want_of_call, want_of_calls, want_of_close, want_of_delegate, want_of_send, want_of_take, where_allowed}
-use Rattle.sj_seat_laws.specs.SeatedHeadline.{HasEnd, IsOwnUse, IsResting, TakesWhatFits, UsesItsOwn, handed_enough, left, unguarded, uses_in, uses_of_change, uses_of_doing, waits, worn}
+use Rattle.sj_seat_laws.specs.Guards.{carried_next, may_carry, may_send, may_take, seated_want, want_of_calls, want_of_close, want_of_delegate, want_of_send, want_of_take, where_allowed}
+use Rattle.sj_seat_laws.specs.SeatedHeadline.{HasEnd, IsOwnUse, IsResting, TakesWhatFits, handed_enough, left, unguarded, uses_in, uses_of_change, uses_of_doing, waits, worn}
 use Rattle.sj_seat_laws.specs.SeatedWorld.{Doing, SeatedWorld, doing_by, doing_of}
 use Rattle.sj_seat_laws.proofs.SeatedLemmas.{IsSeated}
 
@@ -72,7 +71,7 @@ module _ (p : ℕ) (w : World) where
           (x, ap (next_for w.sessions) (sym same_end) ∙ next, same_message)) (begun_next w.sessions place x.msg))
   doing_next (wanted.closes f) d h = subst (λ (x : Doing). TakesNext w.sessions x.uses) (let it : record { taken = None; uses = [] } ≡ d = cc in it) (nil_next w.sessions)
 
-worn_doing : (p : ℕ) (t : SeatedWorld) (d : Doing) (b : Bool) → cond b None (doing_by p t.world (seated_want t.seat)) ≡ Some d → doing_by p t.world (seated_want t.seat) ≡ Some d
+pub worn_doing : (p : ℕ) (t : SeatedWorld) (d : Doing) (b : Bool) → cond b None (doing_by p t.world (seated_want t.seat)) ≡ Some d → doing_by p t.world (seated_want t.seat) ≡ Some d
 worn_doing p t d true h = cc
 worn_doing p t d false h = h
 
@@ -180,8 +179,8 @@ module _ (p : ℕ) (t : SeatedWorld) where
   calls_own (calls.takes e ∷ cs) d h = take_own e d (place_held bs e) refl h
   calls_own (calls.closes e ∷ cs) d h = close_own e d (place_held bs e) h
 
-  pub uses_its_own : (q : ℕ) → UsesItsOwn p t q
-  uses_its_own q i e u there = by (q == p) refl (doing_of p t) refl (slice_get w.parties q) refl (change_of w q) refl there
+  pub uses_own : (q i : ℕ) (e : EndId) (u : Use) → slice_get (uses_in p t q) i ≡ Some (e, u) → IsOwnUse p t q e u
+  uses_own q i e u there = by (q == p) refl (doing_of p t) refl (slice_get w.parties q) refl (change_of w q) refl there
     where
       by : (b : Bool) → (q == p) ≡ b → (o : Option Doing) → doing_of p t ≡ o → (g : Option Program) → slice_get w.parties q ≡ g → (c : Option Change) → change_of w q ≡ c
           → slice_get (cond b (uses_of_doing (doing_of p t)) (uses_of_change (change_of w q))) i ≡ Some (e, u) → IsOwnUse p t q e u

@@ -1,9 +1,9 @@
 -- A party that is played by code of its own: what it calls, and which ends it holds.
-use Rattle.std.specs.Prelude.{ℕ, not, if◌then◌else◌, List, [], ◌∷◌, map, filter, Option, Some, None, unwrap_or, option_map}
+use Rattle.std.specs.Prelude.{ℕ, not, if◌then◌else◌, List, [], ◌∷◌, map, filter, Option, Some, None}
 use Rattle.sj_base.specs.declared.EndId.{EndId}
 use Rattle.sj_base.specs.declared.Msg.{Msg}
 use Rattle.sj_lang.specs.declared.proto.Way.{Way}
-use Rattle.sj_lang.specs.Place.{Place, done}
+use Rattle.sj_lang.specs.Place.{Place}
 use Rattle.sj_semantics.specs.Uses.{place_behind}
 use Rattle.sj_rules.specs.Record.{is_same_end}
 

@@ -3,6 +3,7 @@ pub mod Guards
 pub mod SeatedPlay
 pub mod SeatedWorld
 pub mod SeatedStart
+pub mod SeatedActs
 pub mod SeatedHeadline
 pub mod SeatRows
 pub mod SeatSamples

@@ -1,68 +1,24 @@
 -- What holds of a run in which one party is played by code of its own, to where nobody can go on.
-use Rattle.std.specs.Prelude.{◌≡◌, ◌⊎◌, ℕ, ◌==◌, ◌<◌, ◌≤◌, if◌then◌else◌, List, [], ◌∷◌, ◌++◌, length, slice_get, Option, Some, None, option_map, unwrap_or, ⊤}
+use Rattle.std.specs.Prelude.{◌≡◌, ◌⊎◌, ℕ, ◌≤◌, List, [], ◌∷◌, length, slice_get, Some, None, ⊤}
 use Rattle.sj_base.specs.declared.EndId.{EndId}
-use Rattle.sj_base.specs.declared.Msg.{Msg}
 use Rattle.sj_lang.specs.FileAt.{FileAt}
-use Rattle.sj_lang.specs.Place.{Place, done}
+use Rattle.sj_lang.specs.Place.{Place}
 use Rattle.sj_semantics.specs.declared.Want.TheVariants.{Close, Delegate}
-use Rattle.sj_semantics.specs.Acts.{ActAt, sent_on, taken_on}
-use Rattle.sj_semantics.specs.Ends.{Session, end_at, limit_of_hops, next_for, other_end}
+use Rattle.sj_semantics.specs.Ends.{end_at, limit_of_hops, next_for}
 use Rattle.sj_semantics.specs.Program.{limit_of_steps}
 use Rattle.sj_semantics.specs.Uses as uses
 use Rattle.sj_semantics.specs.Uses.{Use}
-use Rattle.sj_semantics.specs.World.{Change, World, act_of, change_of}
+use Rattle.sj_semantics.specs.World.{act_of}
 use Rattle.sj_semantics_laws.specs.Runs.{IsBoundAt, IsUntaken}
-use Rattle.sj_headline_laws.specs.Headline.{FitsTaker, IsFront, messages, next_step}
+use Rattle.sj_headline_laws.specs.Begins.{IsBegunIn, IsOnItsWay, IsTakenIn}
+use Rattle.sj_headline_laws.specs.Headline.{IsFront, next_step}
 use Rattle.sj_rules.specs.Node as wanted
 use Rattle.sj_seat_laws.specs.Calls as calls
-use Rattle.sj_seat_laws.specs.Calls.{Call, SeatedAt, place_held}
+use Rattle.sj_seat_laws.specs.Calls.{Call, place_held}
 use Rattle.sj_seat_laws.specs.Guards.{seated_want, want_of_call}
-use Rattle.sj_seat_laws.specs.SeatedStart.{IsSeatedRun, seated_start}
-use Rattle.sj_seat_laws.specs.SeatedWorld.{Doing, SeatedWorld, doing_of, seated_act}
-
--- ---- moments
-
--- it holds at each moment of the acts
-abbrev pub AtEachMoment : FileAt → ℕ → List Call → List ℕ → (SeatedWorld → Type 0) → Type 0
-AtEachMoment file p calls acts P = (front rest : List ℕ) (t : SeatedWorld) → acts ≡ front ++ rest → IsSeatedRun file p calls front t → P t
-
--- it holds of each act, in the world in which it is done
-abbrev pub OfEachAct : FileAt → ℕ → List Call → List ℕ → (SeatedWorld → ℕ → Type 0) → Type 0
-OfEachAct file p calls acts P = (front rest : List ℕ) (q : ℕ) (t : SeatedWorld) → acts ≡ front ++ q ∷ rest → IsSeatedRun file p calls front t → P t q
-
--- it holds of each act at each moment behind it
-abbrev pub FromEachActOn : FileAt → ℕ → List Call → List ℕ → (SeatedWorld → ℕ → SeatedWorld → Type 0) → Type 0
-FromEachActOn file p calls acts P =
-    (front between rest : List ℕ) (q : ℕ) (t u : SeatedWorld) → acts ≡ (front ++ q ∷ between) ++ rest → IsSeatedRun file p calls front t
-    → IsSeatedRun file p calls (front ++ q ∷ between) u → P t q u
-
--- ---- what acts use
-
-abbrev pub uses_of_doing : Option Doing → List (EndId × Use)
-uses_of_doing None = []
-uses_of_doing (Some d) = d.uses
-
-abbrev pub uses_of_change : Option Change → List (EndId × Use)
-uses_of_change None = []
-uses_of_change (Some c) = c.uses
-
--- the ends that the party's next act uses
-abbrev pub uses_in : ℕ → SeatedWorld → ℕ → List (EndId × Use)
-uses_in p t q = if q == p then uses_of_doing (doing_of p t) else uses_of_change (change_of t.world q)
-
--- the acts of these parties, one after another, with what they use
-abbrev pub seated_acts : ℕ → SeatedWorld → List ℕ → List ActAt
-seated_acts p t [] = []
-seated_acts p t (q ∷ qs) = unwrap_or (option_map (λ u. record { by = q; uses = uses_in p t q } ∷ seated_acts p u qs) (seated_act p t q)) []
-
--- it holds of each end: of all that the acts took on it, and all that they sent on the other end of its session
-abbrev pub OfEachEnd : FileAt → ℕ → List Call → List ℕ → (List Msg → List Msg → Type 0) → Type 0
-OfEachEnd file p calls acts P =
-    (e : EndId) → P (messages (taken_on e (seated_acts p (seated_start file p calls) acts))) (messages (sent_on (other_end e) (seated_acts p (seated_start file p calls) acts)))
-
--- what the act takes fits the place of the end on which it takes it
-abbrev pub TakesWhatFits : ℕ → SeatedWorld → ℕ → Type 0
-TakesWhatFits p t q = (n : ℕ) (e : EndId) (m : Msg) → slice_get (uses_in p t q) n ≡ Some (e, uses.takes m) → FitsTaker t.world.sessions e m
+use Rattle.sj_seat_laws.specs.SeatedStart.{IsSeatedRun}
+use Rattle.sj_seat_laws.specs.SeatedWorld.{SeatedWorld}
+pub use Rattle.sj_seat_laws.specs.SeatedActs.{AtEachMoment, FromEachActOn, OfEachAct, OfEachEnd, TakesWhatFits, seated_acts, uses_in, uses_of_change, uses_of_doing}
 
 -- ---- who has an end
 
@@ -85,8 +41,14 @@ IsOwnUse p t q e (uses.takes m) = HasEnd p t q e
 IsOwnUse p t q e uses.delegates = HasEnd p t q e
 IsOwnUse p t q e (uses.begins place) = ⊤
 
-abbrev pub UsesItsOwn : ℕ → SeatedWorld → ℕ → Type 0
-UsesItsOwn p t q = (n : ℕ) (e : EndId) (u : Use) → slice_get (uses_in p t q) n ≡ Some (e, u) → IsOwnUse p t q e u
+-- each end that the uses begin nobody has before, and it is on its way only where they take the message that names it
+abbrev pub BeginFreeEnds : ℕ → SeatedWorld → List (EndId × Use) → Type 0
+BeginFreeEnds p t us = (e : EndId) → IsBegunIn us e → IsNowhere p t e × (IsOnItsWay t.world e → IsTakenIn us e)
+
+-- the party has each end that its act uses, unless the use is its beginning; an end that its act begins is free until then
+pub record UsesItsOwn (p : ℕ) (t : SeatedWorld) (q : ℕ) : Type 0 where
+  pub own : (n : ℕ) (e : EndId) (u : Use) → slice_get (uses_in p t q) n ≡ Some (e, u) → IsOwnUse p t q e u
+  pub begun : BeginFreeEnds p t (uses_in p t q)
 
 -- the party's next step closes the end
 abbrev pub Closes : ℕ → SeatedWorld → ℕ → EndId → Type 0
@@ -128,7 +90,7 @@ pub record IsSeatedHeadline (file : FileAt) (p : ℕ) (calls : List Call) (acts 
   pub fitting : OfEachAct file p calls acts (TakesWhatFits p)
   -- at each moment each end is had by one party at most
   pub one_holder : AtEachMoment file p calls acts (HasOneHolderEach p)
-  -- each act on an end is done by a party that has it
+  -- each act on an end is done by a party that has it; one that it begins nobody has before
   pub by_holder : OfEachAct file p calls acts (UsesItsOwn p)
   -- an end that is closed is nowhere from its close on
   pub gone_once_closed : FromEachActOn file p calls acts (ClosesForGood p)
