@@ -46,6 +46,9 @@ pub mod StartLemmas
 pub mod DrainLemmas
 pub mod DrainEndLemmas
 pub mod RunLemmas
+pub mod OpenedRecords
+pub mod OpenedActs
+pub mod HomeLemmas
 pub mod RunLawsLemmas
 pub mod DrainExistsLemmas
 pub mod CountLemmas

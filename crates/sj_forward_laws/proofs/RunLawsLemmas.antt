@@ -15,7 +15,7 @@ use Rattle.sj_lang.specs.Place.{Place}
 use Rattle.sj_lang.specs.FileAt.{FileAt, ConnectAt}
 use Rattle.sj_acceptance.specs.Accepted.{IsAccepted}
 use Rattle.sj_semantics.specs.Program.{Program}
-use Rattle.sj_semantics.specs.World.{World, act_of}
+use Rattle.sj_semantics.specs.World.{World, act_of, start_of}
 use Rattle.sj_semantics.specs.Run.{IsRun}
 use Rattle.sj_rules.specs.World.{Event, Act, Deliver, Turn}
 use Rattle.sj_rules.specs.PlainSide.{PlainAt}
@@ -26,7 +26,9 @@ use Rattle.sj_rules_laws.proofs.LawfulLemmas.{run_is_lawful, run_acts_are_seen}
 use Rattle.sj_forward_rules.specs.World.{WorldAt, after_event, delivery_of, happens, IsQuietAmong}
 use Rattle.sj_forward_laws.specs.Kept.{IsOpenKept}
 use Rattle.sj_forward_rules.specs.Start.{home_by, forward_start, IsForwardRun}
-use Rattle.sj_forward_laws.proofs.StartLemmas.{home_has}
+use Rattle.sj_forward_laws.proofs.StartLemmas.{home_has, start_is_open_kept}
+use Rattle.sj_forward_laws.proofs.HomeLemmas.{opened_at_home, run_has}
+use Rattle.sj_forward_laws.proofs.OpenedRecords.{none_opened}
 use Rattle.sj_forward_laws.proofs.StayLemmas.{run_stays}
 use Rattle.sj_forward_rules.specs.Node.{HasRecord}
 use Rattle.sj_rules.specs.Start.{connect_of}
@@ -66,11 +68,12 @@ waits_untaken v e low =
 module _ (file : FileAt) (accepted : IsAccepted file) where
   -- where the records of a run lie
   laid_out : (turns : List Turn) (w : WorldAt Program) → IsForwardRun file turns w → (s : StandsAfter file (acts_in turns) w)
-      → IsLaidOut file w s.kept.kept.chains s.kept.kept.states
+      → IsLaidOut file w s.plain.requests s.kept.kept.chains s.kept.kept.states
   laid_out turns w run s = record {
     joined = s.kept.kept.joined;
     home = home_is;
     there = λ e x h low is le. has_there e x h low is le;
+    homes = opened_at_home file w s.plain s.kept (run_has file accepted (forward_start file) w [] turns begun (none_opened file) run s.plain s.run);
     in_use = λ p e b.
         let held =
         held_here IsOver binds (length file.parties) w (plain_at s.plain) s.kept.kept p e
@@ -78,6 +81,9 @@ module _ (file : FileAt) (accepted : IsAccepted file) where
         record { below = held.low; at = held.at; untaken = held.held.untaken; is = held.held.is; found = held.found };
   }
     where
+      begun : StandsAfter file [] (forward_start file)
+      begun = record { plain = start_of file; run = refl; kept = start_is_open_kept file accepted }
+
       at_home : (e : EndId) (x : ConnectAt) → connect_of file e ≡ Some x → HasRecord (w.nodes (home_by file e x)) e 0
       at_home e x is = run_stays (play_of file) e 0 (home_by file e x) (forward_start file) w turns run (home_has file e x is)
 
@@ -90,14 +96,14 @@ module _ (file : FileAt) (accepted : IsAccepted file) where
       has_there e x (suc h) low is le = s.kept.kept.joined.there e (suc h) low (omega arith) le
 
   pub run_untaken : (turns : List Turn) (w : WorldAt Program) (v : World) → IsForwardRun file turns w → IsRun file (acts_in turns) v
-      → (c : Chains) × (states : EndId → ℕ → StateAt) × IsLaidOut file w c states
+      → (c : Chains) × (states : EndId → ℕ → StateAt) × IsLaidOut file w v.requests c states
       × ((e : EndId) → e.side < 2 → map (λ (m : SentAt). m.msg) (pipe w.lanes c states e) ≡ untaken_for v.sessions e)
   run_untaken turns w v run plain_run =
       let s = runs_stand file accepted turns w run in
       let same : s.plain ≡ v = one_end s.plain v (sym s.run ∙ plain_run) in (
         s.kept.kept.chains,
         s.kept.kept.states,
-        laid_out turns w run s,
+        subst (λ (x : World). IsLaidOut file w x.requests s.kept.kept.chains s.kept.kept.states) same (laid_out turns w run s),
         λ e low. s.kept.kept.waits e low ∙ waits_untaken s.plain e low ∙ ap (λ (x : World). untaken_for x.sessions e) same,
       )
 

@@ -49,13 +49,14 @@ pub fn each_run_stands_for_a_plain_run()
 
 /// There are chains of parties, one for each end, and a state for each record of a chain, which
 /// are those of the parties' records and of the frames' roads; no record lies elsewhere, a chain
-/// begins at its end's home, and an end that a program binds is Held at its party, as the last
-/// record. And the untaken messages of each end are, in order, those of its records and of the
-/// frames on their way, from its last record back to the last record of the other end.
+/// begins at its end's home, also of a session that was opened, and an end that a program binds is
+/// Held at its party, as the last record. And the untaken messages of each end are, in order, those
+/// of its records and of the frames on their way, from its last record back to the last record of
+/// the other end.
 pub fn what_is_on_its_way_is_untaken()
     ensures { (file : FileAt) (turns : List Turn) (w : WorldAt Program) (v : World) →
         IsAccepted file → IsForwardRun file turns w → IsRun file (acts_in turns) v →
-        (c : Chains) × (states : EndId → ℕ → StateAt) × IsLaidOut file w c states
+        (c : Chains) × (states : EndId → ℕ → StateAt) × IsLaidOut file w v.requests c states
         × ((e : EndId) → e.side < 2 →
         map (λ (m : SentAt). m.msg) (pipe w.lanes c states e) ≡ untaken_for v.sessions e) }
 {}
