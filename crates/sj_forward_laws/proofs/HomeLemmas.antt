@@ -27,8 +27,8 @@ use Rattle.sj_forward_laws.specs.Kept.{IsHeldRecord, IsOpenKept}
 use Rattle.sj_forward_laws.specs.Layout.{HasHomes}
 use Rattle.sj_forward_laws.specs.Roads.{Chains, IsOnRoad}
 use Rattle.sj_forward_laws.proofs.RunLemmas.{StandsAfter, run_stands}
-use Rattle.sj_forward_laws.proofs.OpenedRecords.{HaveRecords}
-use Rattle.sj_forward_laws.proofs.OpenedActs.{by_want, still_have}
+use Rattle.sj_forward_laws.proofs.OpenedRecords.{HaveRecords, still_have}
+use Rattle.sj_forward_laws.proofs.OpenedActs.{by_want}
 
 -- ---- lists
 
@@ -77,7 +77,7 @@ module _ (file : FileAt) (accepted : IsAccepted file) where
       by : (event : Event) → t.event ≡ event → happens (play_of file) w t.party event ≡ Some after → (next : StandsAfter file (ps ++ acts_in (record { party = t.party; event = event } ∷ [])) after) → HaveRecords after next.plain
       by (Deliver q) is h next =
           let same : next.plain ≡ s.plain = one_plain next.plain s.plain (sym next.run ∙ ap (after_acts (start_of file)) (append-nil ps) ∙ s.run) in
-          subst (HaveRecords after) (sym same) (still_have file w after s.plain t.party (Deliver q) have h)
+          subst (HaveRecords after) (sym same) (still_have file w after t.party (Deliver q) h s.plain have)
       by Act is h next =
           let acted = act_between file ps s.plain next.plain t.party s.run next.run in
           let a = doing_of s.plain t.party next.plain acted in

@@ -1,7 +1,8 @@
 -- Records of ends of sessions that were opened, and what a request and an accept find and leave.
-use Rattle.std.proofs.Common.{◌≡◌, ℕ, ◌==◌, nat_lt, Bool, true, false, ◌&&◌, cond, List, [], ◌∷◌, ◌++◌, slice_get, Option, Some, None, option_map, refl, ap, subst}
+use Rattle.std.proofs.Common.{◌≡◌, ℕ, zero, suc, ◌==◌, nat_lt, Bool, true, false, ◌&&◌, cond, List, [], ◌∷◌, ◌++◌, length, slice_get, Option, Some, None, option_map, refl, ap, subst, inl, inr, ◌⊎◌}
 use Rattle.std.specs.List.{AllByRecursion}
 use Rattle.std.proofs.lemmas.Bool.{and_from, eq-eqb}
+use Rattle.sj_base.specs.declared.EndId.{EndId}
 use Rattle.sj_lang.specs.FileAt.{FileAt}
 use Rattle.sj_semantics.specs.Program.{Program}
 use Rattle.sj_semantics.specs.Requests.{Request, opened_number}
@@ -9,13 +10,15 @@ use Rattle.sj_semantics.specs.World.{World, Change, start_of}
 use Rattle.sj_rules.specs.Opened.{smallest}
 use Rattle.sj_rules.specs.Party.{play_of}
 use Rattle.sj_rules.specs.Record.{is_same_end, offered_end, requested_end}
+use Rattle.sj_rules.specs.World.{Event}
 use Rattle.sj_rules_laws.proofs.SideLemmas.{same_end_self}
 use Rattle.sj_forward_rules.specs.Acts.{accept_offered, open_session, request_act}
 use Rattle.sj_forward_rules.specs.Node.{HasRecord, NodeAt, Worked}
 use Rattle.sj_forward_rules.specs.Record.{Held, RecordAt}
 use Rattle.sj_forward_rules.specs.Start.{forward_start}
-use Rattle.sj_forward_rules.specs.World.{WorldAt, after_event}
+use Rattle.sj_forward_rules.specs.World.{WorldAt, after_event, happens}
 use Rattle.sj_forward_laws.specs.Kept.{IsHeldRecord}
+use Rattle.sj_forward_laws.proofs.StayLemmas.{run_stays}
 
 -- ---- what is there of sessions that were opened
 
@@ -74,3 +77,23 @@ accepted_record file n from s rest later done all held h = by (n.offers from) al
     by (t ∷ l) all held k =
         let same : t ≡ s = cc in
         subst (λ (i : ℕ). HasRecord n (offered_end i) 0) same (record { behind = held.0.0; state = Held held.0.1 }, held.0.2)
+
+-- one request more: it is the new one, or an old one
+pub last_or_old : (rs : List Request) (s : Request) (k : ℕ) (r : Request) → slice_get (rs ++ s ∷ []) k ≡ Some r → ((k ≡ length rs) × (s ≡ r)) ⊎ (slice_get rs k ≡ Some r)
+last_or_old [] s zero r h = inl (refl, cc)
+last_or_old [] s (suc k) r h = cc
+last_or_old (x ∷ rs) s zero r h = inr h
+last_or_old (x ∷ rs) s (suc k) r h = elim (last_or_old rs s k r h) [ inl e ↦ inl (ap suc e.0, e.1) | inr e ↦ inr e ]
+
+-- ---- any event
+
+module _ (file : FileAt) (w after : WorldAt Program) (p : ℕ) (event : Event) (happened : happens (play_of file) w p event ≡ Some after) where
+  pub stays : (x : ℕ) (e : EndId) → HasRecord (w.nodes x) e 0 → HasRecord (after.nodes x) e 0
+  stays x e has = run_stays (play_of file) e 0 x w after (record { party = p; event = event } ∷ []) (after, happened, refl) has
+
+  -- where the plain world asks for and accepts no more
+  pub still_have : (plain : World) → HaveRecords w plain → HaveRecords after plain
+  still_have plain have = record {
+    first = λ q k r at. stays q (requested_end (opened_number q k)) (have.first q k r at);
+    second = λ q k y r at by_it. stays r.to (offered_end (opened_number q k)) (have.second q k y r at by_it);
+  }
