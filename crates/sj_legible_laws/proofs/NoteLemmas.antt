@@ -27,7 +27,7 @@ module _ (file : FileAt) where
   said_legible n (said.Fin to conn number) parties told within = (told, (omega (arith, within.0), omega (arith, within.1)))
   said_legible n (said.Claim of) parties told within = told
   said_legible n (said.Signal to conn party taken) parties told within = (told, (omega (arith, within.0), (parties party within.1, omega (arith, within.2))))
-  said_legible n (said.Ack of conn) parties told within = (told, omega (arith, within))
+  said_legible n (said.Ack of conn) parties told within = (told, omega (arith, within.0))
   said_legible n (said.Give e resend) parties told within =
       let conn = within.conn in let sent = within.sent in let taken = within.taken in let cached = within.cached in
       (told.0.id, (omega (arith, conn), (parties e.peer within.peer, (omega (arith, sent), (omega (arith, taken), (omega (arith, sent, cached), told.1))))))

@@ -1,5 +1,5 @@
 -- What places and programs do, as the rules of the core ask.
-use Rattle.std.specs.Prelude.{◌≡◌, ℕ, List, ◌∷◌, nat_le, nat_lt, Bool, true, not, ◌&&◌, ◌||◌, Option, Some, None, unwrap_or}
+use Rattle.std.specs.Prelude.{◌≡◌, ℕ, List, ◌∷◌, nat_lt, Bool, true, not, ◌&&◌, ◌||◌, Option, Some, None, unwrap_or}
 use Rattle.sj_base.specs.declared.Msg.{Msg}
 use Rattle.sj_base.specs.declared.Msg.TheVariants as msgs
 use Rattle.sj_lang.specs.Place.{Place, done}
@@ -14,8 +14,8 @@ use Rattle.sj_semantics.specs.Program.{Program}
 use Rattle.sj_semantics.specs.Steps.{closed_of, local_of, opened_of, sent_of, took_of}
 use Rattle.sj_semantics.specs.Wants.{want_of}
 use Rattle.sj_semantics.specs.Fitting.{fits}
-use Rattle.sj_rules.specs.Limits.{first_opened, limit_of_steps}
-use Rattle.sj_rules.specs.Opened.{opened_number}
+use Rattle.sj_rules.specs.Limits.{limit_of_steps}
+use Rattle.sj_rules.specs.Opened.{is_openable}
 use Rattle.sj_rules.specs.Node as rules
 use Rattle.sj_rules.specs.Node.{NodeAt, Play}
 use Rattle.sj_rules.specs.Record.{HeldAt, Held}
@@ -56,7 +56,7 @@ goes_on g None = done_by (next_want g) g
 
 -- a session of a connection, or one that a party can open
 abbrev pub is_number : (connects parties sess : ℕ) → Bool
-is_number connects parties s = nat_lt s connects || (nat_le first_opened s && nat_lt s (opened_number parties 0))
+is_number connects parties s = nat_lt s connects || is_openable parties s
 
 -- what a session message names is there: an end of a session, and a party
 abbrev pub names_known : (connects parties : ℕ) → Msg → Bool

@@ -1,5 +1,5 @@
 -- Sessions that are opened at run time: their numbers, their two ends, and an end before any message.
-use Rattle.std.specs.Prelude.{ℕ, ◌-◌, ◌/◌, min, Bool, true, false, ◌||◌, not, ◌==◌, nat_le, ◌&&◌, List, [], ◌∷◌, filter, filter_map, Option, Some, None}
+use Rattle.std.specs.Prelude.{ℕ, ◌-◌, ◌/◌, min, Bool, true, false, ◌||◌, not, ◌==◌, nat_le, nat_lt, ◌&&◌, List, [], ◌∷◌, filter, filter_map, Option, Some, None}
 use Rattle.sj_base.specs.declared.EndId.{EndId}
 pub use Rattle.sj_semantics.specs.Requests.{opened_number}
 use Rattle.sj_rules.specs.Limits.{limit_of_requests, first_opened}
@@ -12,6 +12,10 @@ opener_of s = (s - first_opened) / limit_of_requests
 -- the session is one of those that the party can open
 abbrev pub is_opened_by : (party sess : ℕ) → Bool
 is_opened_by p s = nat_le first_opened s && (opener_of s == p)
+
+-- and so one of those that some of so many parties can open
+abbrev pub is_openable : (parties sess : ℕ) → Bool
+is_openable parties s = nat_le first_opened s && nat_lt s (opened_number parties 0)
 
 -- an end of a new session: under number 0, with that peer, and nothing sent or taken
 abbrev pub new_end : {P : Type 0} → EndId → P → (peer : ℕ) → EndAt P

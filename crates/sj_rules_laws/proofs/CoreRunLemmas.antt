@@ -35,7 +35,8 @@ use Rattle.sj_rules_laws.proofs.KeptLemmas.{open_kept_stands}
 use Rattle.sj_rules_laws.proofs.PlainActsLemmas.{counts_hold}
 use Rattle.sj_rules_laws.proofs.LawfulLemmas.{run_is_lawful, run_acts_are_seen}
 use Rattle.sj_rules.specs.Within.{IsWithin}
-use Rattle.sj_rules_laws.proofs.WithinWorldLemmas.{happens_within, start_is_within}
+use Rattle.sj_rules_laws.proofs.WithinWorldLemmas.{happens_within}
+use Rattle.sj_rules_laws.proofs.WithinStartLemmas.{start_is_within}
 use Rattle.sj_rules_laws.proofs.StartKeptLemmas.{start_is_open_kept}
 
 -- one act more

@@ -1,5 +1,6 @@
 pub mod SideLemmas
 pub mod OfferSeenLemmas
+pub mod OriginLemmas
 pub mod SeenLemmas
 pub mod ActLemmas
 pub mod PlainActsLemmas
@@ -30,6 +31,7 @@ pub mod WithinRowLemmas
 pub mod WithinNodeLemmas
 pub mod WithinActLemmas
 pub mod WithinWorldLemmas
+pub mod WithinStartLemmas
 pub mod WeightLemmas
 pub mod LedgerLemmas
 pub mod NodeWeightLemmas

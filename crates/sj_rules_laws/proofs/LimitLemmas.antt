@@ -11,6 +11,7 @@ use Rattle.sj_acceptance.specs.Accepted.{IsAccepted}
 use Rattle.sj_semantics.specs.Program.{Program}
 use Rattle.sj_rules.specs.Limits.{limit_of_conns, limit_of_messages, clock_end}
 use Rattle.sj_rules.specs.Record.{BodyAt, Carry, Fin, Claim, Signal, Ack, Give, Open, HeldAt, Held}
+use Rattle.sj_rules.specs.Opened.{opened_number}
 use Rattle.sj_rules.specs.Rows.{Worked, IsPick}
 use Rattle.sj_rules.specs.Frames.{FrameAt, is_within, is_proper}
 use Rattle.sj_rules.specs.Node.{NodeAt, arrives}
@@ -41,8 +42,8 @@ body_is_within n (Carry to c number taken msg) h = rw (le-leb c limit_of_conns h
 body_is_within n (Fin to c number) h = rw (le-leb c limit_of_conns h.0, le-leb number limit_of_messages h.1) refl
 body_is_within n (Claim of) h = refl
 body_is_within n (Signal to c party taken) h = rw (le-leb c limit_of_conns h.0, lt-ltb party n h.1, le-leb taken limit_of_messages h.2) refl
-body_is_within n (Ack of c) h = le-leb c limit_of_conns h
-body_is_within n (Open sess) h = refl
+body_is_within n (Ack of c) h = le-leb c limit_of_conns h.0
+body_is_within n (Open sess) h = rw (le-leb 64 sess h.0, lt-ltb sess (opened_number n 0) h.1) refl
 body_is_within n (Give e resend) h =
     all_pass (nat_le e.conn limit_of_conns) (nat_lt e.peer n) (nat_le e.sent limit_of_messages) (nat_le e.taken limit_of_messages)
     (le-leb e.conn limit_of_conns h.conn) (lt-ltb e.peer n h.peer) (le-leb e.sent limit_of_messages h.sent) (le-leb e.taken limit_of_messages h.taken)

@@ -7,7 +7,7 @@ use Rattle.sj_base.specs.declared.Msg.{Msg}
 use Rattle.sj_rules.specs.Record.{EndAt, BodyAt, Carry, Fin, Claim, Signal, Ack, Give, Open, Mail, HeldAt, other_end}
 use Rattle.sj_rules.specs.Limits.{limit_of_conns}
 use Rattle.sj_rules.specs.Rows.{IsPick, Worked, with_first, with_last, trimmed_end, end_with_peer, numbered_carries, mails_of, cached_from, resent_posts, signal_fits, passive, passive_closed, crossing_body, acked_body, with_end, at_held, worked_record, resend_fits, resent_at, install}
-use Rattle.sj_rules.specs.Within.{EndWithin, BodyWithin, MailWithin, MailsWithin}
+use Rattle.sj_rules.specs.Within.{IdWithin, EndWithin, BodyWithin, MailWithin, MailsWithin}
 use Rattle.std.specs.Prelude.{nat_le}
 use Rattle.sj_joined_lemmas.proofs.LateLemmas.{all_joined}
 
@@ -29,12 +29,16 @@ by_true P false o y h k = cc
 pub by_some : {Y : Type 0} → (P : Y → Type 0) (x y : Y) → Some x ≡ Some y → P x → P y
 by_some P x y h k = let it : x ≡ y = cc in subst P it k
 
+-- the other end of the session is as good
+pub other_within : (n : ℕ) (e : EndId) → IdWithin n e → IdWithin n (other_end e)
+other_within n e all = let sess = all.1 in (omega arith, omega (arith, sess))
+
 -- the messages from that number on, as Carries
-carries_within : (P : Type 0) (n party : ℕ) → party < n → (to : EndId) (conn taken number : ℕ) (ms : List Msg) → conn ≤ 1000 → taken ≤ 1000000 → number + length ms ≤ 1000000
+carries_within : (P : Type 0) (n party : ℕ) → party < n → (to : EndId) (conn taken number : ℕ) (ms : List Msg) → IdWithin n to → conn ≤ 1000 → taken ≤ 1000000 → number + length ms ≤ 1000000
     → MailsWithin n (mails_of {P = P} party (numbered_carries to conn taken number ms))
-carries_within P n party lt to conn taken number [] few told many = tt
-carries_within P n party lt to conn taken number (m ∷ ms) few told many =
-    ((lt, (few, omega (arith, many), told)), carries_within P n party lt to conn taken (number + 1) ms few told (omega (arith, many)))
+carries_within P n party lt to conn taken number [] id few told many = tt
+carries_within P n party lt to conn taken number (m ∷ ms) id few told many =
+    ((lt, (few, omega (arith, many), told, id)), carries_within P n party lt to conn taken (number + 1) ms id few told (omega (arith, many)))
 
 -- what a Signal must keep to fit
 signal_tells : {P : Type 0} → (e : EndAt P) (origin conn taken : ℕ) → signal_fits e origin conn taken ≡ true → (e.conn < 1000) × (taken ≤ e.sent)
@@ -49,7 +53,7 @@ module _ {P : Type 0} (n : ℕ) where
       let long : length (cached_from e start) ≡ length e.cache - (start - e.base) = length-drop (start - e.base) e.cache in
       let room : e.base + length e.cache ≤ e.sent = all.cached in
       let top : e.sent ≤ 1000000 = all.sent in
-      carries_within P n e.peer all.peer (other_end e.id) e.conn e.taken start (cached_from e start) all.conn all.taken (omega (arith, long, room, top, le))
+      carries_within P n e.peer all.peer (other_end e.id) e.conn e.taken start (cached_from e start) (other_within n e.id all.id) all.conn all.taken (omega (arith, long, room, top, le))
 
   later_cached : (pick : ℕ → ℕ → ℕ) → IsPick pick → (e : EndAt P) (told : ℕ) → EndWithin n e → told ≤ e.sent → pick e.base told + length (drop (pick e.base told - e.base) e.cache) ≤ e.sent
   later_cached pick picks e told all le =
@@ -64,16 +68,18 @@ module _ {P : Type 0} (n : ℕ) where
   -- the next number, with a cache that begins later
   moved_within : (pick : ℕ → ℕ → ℕ) → IsPick pick → (e : EndAt P) (peer told : ℕ) → EndWithin n e → peer < n → e.conn < 1000 → told ≤ e.sent → EndWithin n (trimmed_end pick (end_with_peer e peer) told)
   moved_within pick picks e peer told all lt few le = record {
+    id = all.id;
     peer = lt;
     conn = omega (arith, few);
     sent = all.sent;
     taken = all.taken;
     cached = later_cached pick picks e told all le;
+    hops = all.hops;
   }
 
   -- the same number, with a cache that begins later
   later_within : (pick : ℕ → ℕ → ℕ) → IsPick pick → (e : EndAt P) (told : ℕ) → EndWithin n e → told ≤ e.sent → EndWithin n (trimmed_end pick e told)
-  later_within pick picks e told all le = record { peer = all.peer; conn = all.conn; sent = all.sent; taken = all.taken; cached = later_cached pick picks e told all le }
+  later_within pick picks e told all le = record { id = all.id; peer = all.peer; conn = all.conn; sent = all.sent; taken = all.taken; cached = later_cached pick picks e told all le; hops = all.hops }
 
   -- an end that a row leaves, and what it sends
   abbrev pub EndOut : Worked P (EndAt P) → Type 0
@@ -86,7 +92,7 @@ module _ {P : Type 0} (n : ℕ) where
       let tells = signal_tells e origin conn taken fits in
       let moved = moved_within pick picks e party taken all to tells.0 tells.1 in
       by_some (λ w. EndOut w × (w.state.sent ≡ e.sent) × (w.state.conn ≡ e.conn + 1)) _ w k
-      ((moved, ((from, all.conn), resent_within (trimmed_end pick (end_with_peer e party) taken) taken moved tells.1)), refl, refl))
+      ((moved, ((from, (all.conn, other_within n e.id all.id)), resent_within (trimmed_end pick (end_with_peer e party) taken) taken moved tells.1)), refl, refl))
 
   pub passive_closed_within : (pick : ℕ → ℕ → ℕ) → IsPick pick → (e : EndAt P) (origin conn party taken : ℕ) (w : Worked P (EndAt P)) → EndWithin n e → origin < n → party < n
       → passive_closed pick e origin conn party taken ≡ Some w → EndOut w
@@ -95,7 +101,7 @@ module _ {P : Type 0} (n : ℕ) where
       let p = passive_within pick picks e origin conn party taken x all from to k in
       let next : x.state.conn ≡ e.conn + 1 = p.2 in
       let few : x.state.conn ≤ 1000 = p.0.0.conn in
-      (p.0.0, all_joined (MailWithin n) x.posts (record { party = party; body = Fin (other_end e.id) (e.conn + 1) e.sent } ∷ []) p.0.1 ((to, (omega (arith, next, few), all.sent)), tt)))
+      (p.0.0, all_joined (MailWithin n) x.posts (record { party = party; body = Fin (other_end e.id) (e.conn + 1) e.sent } ∷ []) p.0.1 ((to, (omega (arith, next, few), all.sent, other_within n e.id all.id)), tt)))
 
   pub crossed_within : (pick : ℕ → ℕ → ℕ) → IsPick pick → (e : EndAt P) (origin conn party taken : ℕ) (b : BodyAt P) → EndWithin n e → party < n → crossing_body pick e origin conn party taken ≡ Some b → BodyWithin n b
   crossed_within pick picks e origin conn party taken b all to h =
@@ -107,7 +113,7 @@ module _ {P : Type 0} (n : ℕ) where
   acked_within e origin conn b all h =
       by_true (BodyWithin n) ((conn == e.conn) && nat_lt e.conn limit_of_conns && (origin == e.peer)) _ b h (λ fits k.
       let few : e.conn < 1000 = ltb-true e.conn 1000 (and_parts _ _ (and_parts _ _ fits).0).1 in
-      by_some (BodyWithin n) _ b k (record { peer = all.peer; conn = omega (arith, few); sent = all.sent; taken = all.taken; cached = all.cached }))
+      by_some (BodyWithin n) _ b k (record { id = all.id; peer = all.peer; conn = omega (arith, few); sent = all.sent; taken = all.taken; cached = all.cached; hops = all.hops }))
 
   -- ---- at a Held end
 
@@ -157,5 +163,5 @@ module _ {P : Type 0} (n : ℕ) where
         by_true HeldOut (resend_fits e resend) _ w k (λ fits t.
         by_map HeldOut (with_first (resent_at e resend)) (worked_record pick (record { end = record e { place = place }; untaken = []; fin = false }) deferred) w t (λ y u.
         let q = worked_off_within (record { end = record e { place = place }; untaken = []; fin = false }) deferred y
-        (record { peer = all.peer; conn = all.conn; sent = all.sent; taken = all.taken; cached = all.cached }) mails u in
+        (record { id = all.id; peer = all.peer; conn = all.conn; sent = all.sent; taken = all.taken; cached = all.cached; hops = all.hops }) mails u in
         (q.0, all_joined (MailWithin n) (resent_at e resend) y.posts (resent_at_within e resend all fits) q.1)))

@@ -1,33 +1,29 @@
 -- Each event names only parties of the file, keeps all numbers within the limits, and leaves nothing in the lanes of others.
-use Rattle.std.proofs.Common.{◌≡◌, ℕ, ◌+◌, ◌<◌, ◌≤◌, ◌==◌, Bool, true, false, ◌&&◌, cond, List, [], ◌∷◌, ◌++◌, map, max, Option, Some, None, refl, ap, sym, ◌∙◌, subst, arith, inl, inr, ◌⊎◌}
+use Rattle.std.proofs.Common.{◌≡◌, ℕ, ◌+◌, ◌<◌, ◌≤◌, ◌==◌, Bool, true, false, ◌&&◌, cond, List, [], ◌∷◌, ◌++◌, map, max, Some, None, refl, ap, sym, ◌∙◌, subst, arith, inl, inr, ◌⊎◌}
 use Rattle.std.specs.List.{filter, AllByRecursion}
-use Rattle.std.proofs.lemmas.Bool.{false_from_ne_true, both_ways, cases_lt, eqb-true, ne_eqb, and_parts}
+use Rattle.std.proofs.lemmas.Bool.{false_from_ne_true, both_ways, cases_lt, eqb-true, eq-eqb, ne_eqb, and_parts}
 use Rattle.sj_base.specs.declared.EndId.{EndId}
 use Rattle.sj_base.specs.declared.Msg.{Msg}
 use Rattle.sj_base.specs.declared.Msg.TheVariants as msgs
-use Rattle.sj_lang.specs.FileAt.{FileAt, ConnectAt, party_named}
-use Rattle.sj_lang.specs.Place.{Place}
-use Rattle.sj_acceptance.specs.Accepted.{IsAccepted}
-use Rattle.sj_semantics.specs.Ends.{other_side}
-use Rattle.sj_rules.specs.Record.{Mail, HeldAt, MainAt, Held, other_end}
+use Rattle.sj_rules.specs.Record.{EndAt, Mail, HeldAt, Held, Parked, other_end}
 use Rattle.sj_rules.specs.Rows.{IsPick, Worked}
 use Rattle.sj_rules.specs.Node.{Want, ended, local, sends, delegates, takes, closes, requests, accepts, Play, NodeAt, arrives, acts, act_by}
 use Rattle.sj_rules.proofs.ArrivalLemmas.{proper_comes, arrived_proper}
 use Rattle.sj_rules.specs.Frames.{FrameAt, frames_for}
 use Rattle.sj_rules.specs.World.{WorldAt, Event, Act, Deliver, with_lane, after_event, delivery_of, happens}
 use Rattle.sj_rules.specs.PlainSide.{PlainAt}
-use Rattle.sj_rules.specs.Linked.{waiting_at}
+use Rattle.sj_rules.specs.Linked.{IsParkedAt, waiting_at}
+use Rattle.sj_rules.specs.Seat.{Seat, held, parked, claimed, signalled, given, closed, gone}
+use Rattle.sj_rules.specs.Shown.{old_shown}
 use Rattle.sj_rules.specs.Reading.{reading, IsOpenKept}
 use Rattle.sj_rules.specs.Premises.{FitsStep, IsLawful}
-use Rattle.sj_rules.specs.Start.{declared_on, connect_of, held_by, first_held, core_start}
-use Rattle.sj_rules.specs.Within.{KeeperWithin, BodyWithin, MailsWithin, MainWithin, NodeWithin, WorkedWithin, IsWithin}
-use Rattle.sj_rules_laws.proofs.WithinRowLemmas.{by_map, by_some}
+use Rattle.sj_rules.specs.Within.{IdWithin, NamedWithin, BodyWithin, MailsWithin, NodeWithin, WorkedWithin, IsWithin}
+use Rattle.sj_rules_laws.proofs.WithinRowLemmas.{by_map}
 use Rattle.sj_rules_laws.proofs.WithinNodeLemmas.{all_within}
 use Rattle.sj_rules_laws.proofs.WithinActLemmas.{StepIsFew, acts_within}
 use Rattle.sj_world_lemmas.proofs.SeenLemmas.{here_held}
 use Rattle.sj_rules_laws.proofs.KeptLemmas.{held_read, open_kept_stands}
-use Rattle.sj_rules_laws.proofs.StartNamesLemmas.{party_exists}
-use Rattle.std.specs.Prelude.{length, slice_get, option_and_then, nat_lt}
+use Rattle.std.specs.Prelude.{length, slice_get}
 use Rattle.sj_joined_lemmas.proofs.LateLemmas.{all_joined}
 
 -- ---- lanes
@@ -49,6 +45,16 @@ none_for n to clock (m ∷ ms) le all =
     ap (λ (b : Bool). map (λ x. record { clock = clock; body = x.body }) (cond b (m ∷ filter (λ x. to == x.party) ms) (filter (λ x. to == x.party) ms))) (ne_eqb to m.party (λ h. absurd (omega (arith, h, le, all.0.0))))
     ∙ none_for n to clock ms le all.1
 
+-- a Parked record is shown of an end that waits to be taken
+parked_shown : {P : Type 0} (s : Seat P) (keeper : ℕ) → IsParkedAt keeper s → (end : EndAt P) × (old_shown s keeper ≡ Some (Parked end))
+parked_shown (parked at e) keeper parks = (e, ap (λ (b : Bool). cond b (Some (Parked e)) None) (eq-eqb keeper at (sym parks)))
+parked_shown (held at h) keeper parks = absurd parks
+parked_shown (claimed at to e) keeper parks = absurd parks
+parked_shown (signalled at to e deferred) keeper parks = absurd parks
+parked_shown (given at to e resend deferred) keeper parks = absurd parks
+parked_shown (closed at e) keeper parks = absurd parks
+parked_shown gone keeper parks = absurd parks
+
 module _ {P Q : Type 0} (n : ℕ) where
   -- the world after an event at a party of the file
   event_within : (w : WorldAt P Q) (p clock : ℕ) (lanes : ℕ → ℕ → List (FrameAt P)) (done : Worked P (NodeAt P Q)) → p < n → IsWithin n w
@@ -60,7 +66,14 @@ module _ {P Q : Type 0} (n : ℕ) where
   }
     where
       node : (q : ℕ) (b : Bool) → NodeWithin n (cond b (record done.state { clock = clock }) (w.nodes q))
-      node q true = record { mains = new.node.mains; olds = new.node.olds }
+      node q true = record {
+        mains = new.node.mains;
+        olds = new.node.olds;
+        main_ids = new.node.main_ids;
+        old_ids = new.node.old_ids;
+        requests = new.node.requests;
+        offers = new.node.offers;
+      }
       node q false = all.nodes q
 
       lane : (from to : ℕ) (b : Bool) → FramesWithin n (cond b (lanes from to ++ frames_for to clock done.posts) (lanes from to))
@@ -109,13 +122,23 @@ module _ {P Q : Type 0} (n : ℕ) where
   -- ---- acts, where the world is kept and lawful
 
   module _ (IsOver : P → Type 0) (play : Play P Q) (binds : Q → EndId → Bool) (pick : ℕ → ℕ → ℕ) (picks : IsPick pick) (w : WorldAt P Q) (plain : PlainAt P Q) (opened : IsOpenKept IsOver binds play.blank w plain) (lawful : IsLawful IsOver play binds n plain) (same : play.parties ≡ n) where
-    keeper_within : (e : EndId) (msg : Msg) → e.side < 2 → waiting_at plain e 0 ≡ Some msg → KeeperWithin n msg
-    keeper_within e (msgs.Sess sess side keeper) lt h = (lawful.keepers e 0 sess side keeper lt h).1
-    keeper_within e (msgs.Int i) lt h = tt
-    keeper_within e (msgs.Bool b) lt h = tt
-    keeper_within e (msgs.Text i) lt h = tt
-    keeper_within e (msgs.Label i) lt h = tt
-    keeper_within e (msgs.More b) lt h = tt
+    -- an end that waits to be taken is one of which its keeper has a record
+    parked_within : (e : EndId) (keeper : ℕ) → e.side < 2 → IsParkedAt keeper (opened.kept.sessions.sides e).seat → NodeWithin n (w.nodes keeper) → IdWithin n e
+    parked_within e keeper lt parks all =
+        let old = parked_shown (opened.kept.sessions.sides e).seat keeper parks in
+        let shown : (w.nodes keeper).old e ≡ old_shown (opened.kept.sessions.sides e).seat keeper =
+        subst (λ (d : EndId). (w.nodes keeper).old d ≡ old_shown (opened.kept.sessions.sides e).seat keeper) (opened.kept.sessions.ids e) ((opened.kept.sessions.shows e lt).olds keeper) in
+        all.old_ids e (Parked old.0) (shown ∙ old.1)
+
+    named_within : (e : EndId) (msg : Msg) → IsWithin n w → e.side < 2 → waiting_at plain e 0 ≡ Some msg → NamedWithin n msg
+    named_within e (msgs.Sess sess side keeper) all lt h =
+        let named = opened.kept.linked.parks e 0 sess side keeper lt h in
+        ((lawful.keepers e 0 sess side keeper lt h).1, parked_within (record { sess = sess; side = side }) keeper named.0 named.1 (all.nodes keeper))
+    named_within e (msgs.Int i) all lt h = tt
+    named_within e (msgs.Bool b) all lt h = tt
+    named_within e (msgs.Text i) all lt h = tt
+    named_within e (msgs.Label i) all lt h = tt
+    named_within e (msgs.More b) all lt h = tt
 
     -- the end from which a party takes is one of side 0 or 1
     takes_below : (p : ℕ) (e : EndId) (place : P) → play.wants (plain.programs p) ≡ takes e place → (e.side < 2) × ((plain.sides e).offered ≡ false)
@@ -123,11 +146,11 @@ module _ {P Q : Type 0} (n : ℕ) where
         let fit = subst (FitsStep IsOver play binds plain p (plain.programs p)) is (lawful.steps p) in
         ((lawful.proper p e fit.bound).0, false_from_ne_true (plain.sides e).offered (λ o. both_ways (binds (plain.programs p) e) (lawful.unbound p e o) fit.bound))
 
-    heads_within : (p : ℕ) (e : EndId) (place : P) (h : HeldAt P) (msg : Msg) (rest : List Msg) → play.wants (w.nodes p).program ≡ takes e place → (w.nodes p).main e ≡ Some (Held h) → h.untaken ≡ msg ∷ rest → KeeperWithin n msg
-    heads_within p e place h msg rest is there head =
+    heads_within : IsWithin n w → (p : ℕ) (e : EndId) (place : P) (h : HeldAt P) (msg : Msg) (rest : List Msg) → play.wants (w.nodes p).program ≡ takes e place → (w.nodes p).main e ≡ Some (Held h) → h.untaken ≡ msg ∷ rest → NamedWithin n msg
+    heads_within all p e place h msg rest is there head =
         let t = takes_below p e place (sym (ap play.wants (opened.kept.programs p)) ∙ is) in
         let s = open_kept_stands IsOver binds play.blank w plain opened p e h t.0 t.1 there in
-        keeper_within e msg t.0 (ap (λ xs. slice_get xs 0) (s.waits ∙ ap (λ t. t ++ s.rest) head))
+        named_within e msg all t.0 (ap (λ xs. slice_get xs 0) (s.waits ∙ ap (λ t. t ++ s.rest) head))
 
     -- a Held end has sent and taken fewer than 1,000,000 messages
     pub held_few : (p : ℕ) (e : EndId) → e.side < 2 → (h : HeldAt P) → (w.nodes p).main e ≡ Some (Held h) → (h.end.sent < 1000000) × (h.end.taken < 1000000)
@@ -173,33 +196,5 @@ module _ {P Q : Type 0} (n : ℕ) where
     happens_within v p Act all h =
         by_map (IsWithin n) (after_event w p ((w.nodes p).clock + 1) w.lanes) (acts play p (w.nodes p)) v h (λ done k.
         event_within w p ((w.nodes p).clock + 1) w.lanes done (acting_below p done k (cases_lt p n)) all all.frames all.outside
-        (acts_within n play p (w.nodes p) (all.nodes p) done (steps_few p (all.nodes p)) (heads_within p) k))
+        (acts_within n play p (w.nodes p) (all.nodes p) done (acting_below p done k (cases_lt p n)) (steps_few p (all.nodes p)) (heads_within all p) k))
     happens_within v p (Deliver q) all h = delivery_within play pick picks w v p q all (w.lanes q p) refl h
-
--- ---- the start
-
-start_main : (file : FileAt) (p : ℕ) (e : EndId) (r : MainAt Place) → IsAccepted file → (o : Option ConnectAt) → connect_of file e ≡ o → option_and_then (held_by file p e) o ≡ Some r → MainWithin (length file.parties) r
-start_main file p e r accepted None there h = cc
-start_main file p e r accepted (Some c) there h =
-    let n : ℕ = length file.parties in
-    by (p == party_named file.parties (declared_on e.side c).party)
-    (party_exists file (other_side e.side) e.sess c accepted (connected there)) h
-  where
-    connected : connect_of file e ≡ Some c → slice_get file.connects e.sess ≡ Some c
-    connected k = inside (nat_lt e.side 2) k
-      where
-        inside : (b : Bool) → cond b (slice_get file.connects e.sess) None ≡ Some c → slice_get file.connects e.sess ≡ Some c
-        inside true t = t
-        inside false t = cc
-
-    by : (b : Bool) → party_named file.parties (declared_on (other_side e.side) c).party < length file.parties
-        → cond b (Some (Held (first_held file e c))) None ≡ Some r → MainWithin (length file.parties) r
-    by true lt k = by_some (MainWithin (length file.parties)) (Held (first_held file e c)) r k (record { peer = lt; conn = omega arith; sent = omega arith; taken = omega arith; cached = omega arith })
-    by false lt k = cc
-
-pub start_is_within : (file : FileAt) → IsAccepted file → IsWithin (length file.parties) (core_start file)
-start_is_within file accepted = record {
-  nodes = λ p. record { mains = λ e r h. start_main file p e r accepted (connect_of file e) refl h; olds = λ e r h. cc };
-  frames = λ p q. tt;
-  outside = λ p q h. refl;
-}

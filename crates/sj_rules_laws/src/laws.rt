@@ -3,21 +3,24 @@
 //! - `the_rules_see_each_act`, `plain_worlds_are_lawful`: the plain world as the rules see it.
 //! - `the_start_stands_for_the_plain_one`, `kept_worlds_stand_for_plain_ones`,
 //!   `nothing_is_ever_unfit`, `a_quiet_world_is_settled`: core worlds that keep the invariant.
+//! - `opens_come_from_parties`: who opens sessions.
 //! - `a_drain_is_one_list_of_events`: what a drain does.
 
-ghost use Rattle.std.specs.Prelude.{◌≡◌, ℕ, List, None, Some, length, option_map};
+ghost use Rattle.std.specs.Prelude.{◌≡◌, ◌<◌, ℕ, List, None, Some, length, option_map};
 ghost use Rattle.sj_acceptance.specs.Accepted.{IsAccepted};
 ghost use Rattle.sj_lang.specs.FileAt.{FileAt};
 ghost use Rattle.sj_lang.specs.Place.{Place, done};
 ghost use Rattle.sj_rules.specs.Drain.{IsDrained};
+ghost use Rattle.sj_rules.specs.Frames.{FrameAt};
 ghost use Rattle.sj_rules.specs.Halts.{halt_of};
 ghost use Rattle.sj_rules.specs.History.{IsQuiescent, IsQuietAmong};
 ghost use Rattle.sj_rules.specs.Reading.{IsOpenKept};
 ghost use Rattle.sj_rules.specs.Moves.{plain_act};
-ghost use Rattle.sj_rules.specs.Node.{NodeAt, acts};
+ghost use Rattle.sj_rules.specs.Node.{NodeAt, acts, arrives};
 ghost use Rattle.sj_rules.specs.Party.{IsDone, binds, play_of};
 ghost use Rattle.sj_rules.specs.Plain.{plain_at};
 ghost use Rattle.sj_rules.specs.Premises.{IsLawful};
+ghost use Rattle.sj_rules.specs.Record.{Open};
 ghost use Rattle.sj_rules.specs.Rows.{Worked};
 ghost use Rattle.sj_rules.specs.StandsFor.{StandsFor};
 ghost use Rattle.sj_rules.specs.Start.{core_start};
@@ -67,6 +70,14 @@ pub fn a_quiet_world_is_settled()
     ensures { (file : FileAt) (ps : List ℕ) (w : World) (core : WorldAt Place Program) →
         IsAccepted file → IsRun file ps w → IsOpenKept IsDone binds done core (plain_at w) →
         IsQuiescent (play_of file) core → IsSettled w }
+{}
+
+/// An Open fits only where it comes from one of the parties, whatever the node.
+pub fn opens_come_from_parties()
+    ensures { (blank : Place) (parties : ℕ) (pick : ℕ → ℕ → ℕ) (n : NodeAt Place Program)
+        (origin : ℕ) (f : FrameAt Place) (sess : ℕ) (worked : Worked Place (NodeAt Place Program)) →
+        f.body ≡ Open sess → arrives blank parties pick n origin f ≡ Some worked →
+        origin < parties }
 {}
 
 /// The events of a drain are determined, and leave its parties with nothing to do.

@@ -14,8 +14,8 @@ pub use drains::{
 pub use joined::{a_history_is_one_run, joined_logs_are_a_core_run, no_worker_is_unfit};
 pub use laws::{
     a_drain_is_one_list_of_events, a_quiet_world_is_settled, kept_worlds_stand_for_plain_ones,
-    nothing_is_ever_unfit, plain_worlds_are_lawful, the_rules_see_each_act,
-    the_start_stands_for_the_plain_one,
+    nothing_is_ever_unfit, opens_come_from_parties, plain_worlds_are_lawful,
+    the_rules_see_each_act, the_start_stands_for_the_plain_one,
 };
 pub use notes::{a_history_is_tied_to_its_plain_run, a_history_tells_what_was_passed};
 pub use runs::{

@@ -34,7 +34,7 @@ use Rattle.sj_rules_laws.proofs.ProperLemmas.{AreProper}
 use Rattle.sj_rules_laws.proofs.SideLemmas.{same_end_is, same_end_self}
 use Rattle.sj_rules_laws.proofs.StartKeptLemmas.{start_is_open_kept}
 use Rattle.sj_rules_laws.proofs.StartNamesLemmas.{given_by, named_has, program_ends, starts_bound}
-use Rattle.sj_rules_laws.proofs.WithinWorldLemmas.{start_is_within}
+use Rattle.sj_rules_laws.proofs.WithinStartLemmas.{start_is_within}
 use Rattle.sj_rules.specs.Record.{is_same_end}
 use Rattle.sj_seat_laws.specs.Calls.{Call, Ends, place_held}
 use Rattle.sj_seat_laws.specs.SeatedPlay.{player_binds, seated, written}
@@ -260,7 +260,14 @@ module _ (file : FileAt) (p : ℕ) (calls : List Call) (accepted : IsAccepted fi
 
   pub start_within : IsWithin (length file.parties) (seated_core file p calls)
   start_within = let s = start_is_within file accepted in record {
-    nodes = λ q. record { mains = (s.nodes q).mains; olds = (s.nodes q).olds };
+    nodes = λ q. record {
+      mains = (s.nodes q).mains;
+      olds = (s.nodes q).olds;
+      main_ids = (s.nodes q).main_ids;
+      old_ids = (s.nodes q).old_ids;
+      requests = (s.nodes q).requests;
+      offers = (s.nodes q).offers;
+    };
     frames = s.frames;
     outside = s.outside;
   }

@@ -42,13 +42,13 @@ fn a_session_is_opened_and_accepted(rt: HostRuntime) -> Result<(), Fail> {
     Ok(())
 }
 
-// What is refused of an Open of that session, which comes from a.
-fn open_refused(node: &mut Node, sess: u32) -> Option<DeliverRefusal> {
+// What is refused of an Open of that session, which comes from that party.
+fn open_refused(node: &mut Node, from: u16, sess: u32) -> Option<DeliverRefusal> {
     let frame = Frame {
         clock: 1,
         body: Body::Open { sess },
     };
-    match refused(node, A, frame) {
+    match refused(node, from, frame) {
         Some((_, why)) => Some(why),
         None => None,
     }
@@ -61,13 +61,14 @@ fn an_open_of_a_session_that_is_there_or_of_another_party_fits_no_row(
     let alloc = rt.alloc();
     let mut b = started(alloc, &by_request(alloc)?, B)?;
     let unfit = Some(DeliverRefusal::Unfit);
-    for (what, sess, why) in [
-        ("a connection", 63, unfit),
-        ("the hundredth session of a", 163, None),
-        ("a session of b", 164, unfit),
-        ("it is there", 163, unfit),
+    for (what, from, sess, why) in [
+        ("a connection", A, 63, unfit),
+        ("the hundredth session of a", A, 163, None),
+        ("a session of b", A, 164, unfit),
+        ("it is there", A, 163, unfit),
+        ("from a party that the file hasn't", B + 1, 264, unfit),
     ] {
-        assert_eq!(rt; open_refused(&mut b, sess), why, "{what}");
+        assert_eq!(rt; open_refused(&mut b, from, sess), why, "{what}");
     }
     assert_eq!(rt; b.log().len(), 1);
     Ok(())
