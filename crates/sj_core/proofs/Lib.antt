@@ -1,4 +1,5 @@
 pub mod ActLemmas
+pub mod AgreeLemmas
 pub mod BeginLemmas
 pub mod BreakLemmas
 pub mod PlayLemmas

@@ -140,7 +140,7 @@ module _ (c : NodeWorld) (led : IsLed c) (p : ℕ) (n : Node) (there : slice_get
   seat = led.seats.each p n there
 
   -- it plays by the file's protocols
-  own_play : play_here n ≡ play_with (body_named file.protocols) (length file.connects) (length file.parties)
+  pub own_play : play_here n ≡ play_with (body_named file.protocols) (length file.connects) (length file.parties)
   own_play =
       (λ i. play_with (start_in (seat.table i)) (seat.connects i) (seat.parties i))
       ∙ (λ i. play_with (λ q. led.seats.starts q i) (length (file_in c).connects) (length (file_in c).parties))

@@ -9,7 +9,8 @@ use Rattle.sj_end.specs.declared.note.Event.{Event}
 use Rattle.sj_end.specs.declared.note.Event.TheVariants as events
 use Rattle.sj_end.specs.declared.note.Entry.{Entry}
 use Rattle.sj_node.specs.declared.node.Node.{Node}
-use Rattle.sj_node.specs.Node.{log_of, node_at, outbox_of, connect_count}
+use Rattle.sj_node.specs.Node.{log_of, node_at, outbox_of, connect_count, play_here}
+use Rattle.sj_node.specs.Play.{play_with}
 use Rattle.sj_node.specs.Reading.{parties_of, party_of, table_of}
 use Rattle.sj_node.specs.Starting.{Begins}
 use Rattle.sj_rules.specs.Frames.{FrameAt}
@@ -42,6 +43,12 @@ pub record IsSeated (file : FileAt) (over : Table) (p : ℕ) (n : Node) : Type 0
   pub table : table_of n ≡ over
   pub connects : connect_count n ≡ length file.connects
   pub log : log_of n ≡ []
+
+-- the node is what that party has in the world, and plays by the file's protocols
+pub record IsNodeOf (file : FileAt) (core : WorldAt Place Program) (p : ℕ) (n : Node) : Type 0 where
+  pub here : core.nodes p ≡ node_at n
+  pub party : party_of n ≡ p
+  pub play : play_here n ≡ play_with (body_named file.protocols) (length file.connects) (length file.parties)
 
 -- each party of the file has its node, over one table of the file's protocols
 pub record AreSeated (file : FileAt) (nodes : List Node) : Type 0 where

@@ -5,6 +5,7 @@
 mod drains;
 mod entries;
 mod joins;
+mod laws;
 mod merges;
 mod node_world;
 mod refusal;
@@ -15,6 +16,7 @@ mod tails;
 mod world;
 
 pub use joins::{join_logs, merge_in};
+pub use laws::each_node_agrees_with_its_next_step;
 pub use refusal::{ReplayRefusal, StepRefusal};
 pub use replays::is_the_line;
 pub use starts::first_nodes;

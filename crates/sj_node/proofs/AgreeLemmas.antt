@@ -88,15 +88,15 @@ not_lacking true h = cc
 not_lacking false h = refl
 
 taken_some : (n : Node) (f : Spot → Place) (e : EndId) (place : Place) (r : Option (MainAt Spot)) → is_held (option_map (main_with f) r) ≡ true → lacks_message r ≡ false
-    → ((m : Msg) → fits (program_at n.machine) m ≡ true → lets Into m (option_map (main_with f) r) ≡ true) → misfit_at n (held_head r) ≡ None
+    → ((m : Msg) → held_head r ≡ Some m → fits (program_at n.machine) m ≡ true → lets Into m (option_map (main_with f) r) ≡ true) → misfit_at n (held_head r) ≡ None
     → take_act (play_here n) (node_at n) e place (option_map (main_with f) r) ≡ None → ⊥
-taken_some n f e place (Some (Held h)) held some agrees fit none = go h.untaken some fit none
+taken_some n f e place (Some (Held h)) held some agrees fit none = go h.untaken some agrees fit none
   where
-    go : (ms : List Msg) → is_empty ms ≡ false → misfit_at n (slice_get ms 0) ≡ None → take_from (play_here n) (node_at n) e place (held_with f h) ms ≡ None → ⊥
-    go [] some fit none = cc
-    go (m ∷ rest) some fit none =
+    go : (ms : List Msg) → is_empty ms ≡ false → ((m : Msg) → slice_get ms 0 ≡ Some m → fits (program_at n.machine) m ≡ true → lets Into m (Some (Held (held_with f h))) ≡ true) → misfit_at n (slice_get ms 0) ≡ None → take_from (play_here n) (node_at n) e place (held_with f h) ms ≡ None → ⊥
+    go [] some agrees fit none = cc
+    go (m ∷ rest) some agrees fit none =
         let all = all_taken (fits (program_at n.machine) m) (names_known n.connects n.parties m) (is_free (node_at n) m) fit in
-        mapped _ (after_place (f h.end.place) Into m) (agrees m all.0) (passed _ _ all.1 none)
+        mapped _ (after_place (f h.end.place) Into m) (agrees m refl all.0) (passed _ _ all.1 none)
 taken_some n f e place (Some (Closed c)) held some agrees fit none = cc
 taken_some n f e place (Some (Expected keeper q deferred)) held some agrees fit none = cc
 taken_some n f e place None held some agrees fit none = cc

@@ -6,6 +6,7 @@ pub mod DelegateLemmas
 pub mod DueLemmas
 pub mod FilePlayLemmas
 pub mod GiveLemmas
+pub mod LetsLemmas
 pub mod NodeLemmas
 pub mod OfferLemmas
 pub mod OpeningLemmas

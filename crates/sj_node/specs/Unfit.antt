@@ -70,14 +70,16 @@ abbrev pub is_offer_held : Node → Option ℕ → Bool
 is_offer_held n None = true
 is_offer_held n (Some sess) = is_held ((node_at n).main (offered_end sess))
 
--- the ends that the step names or accepts are held, and their places let it: what it sends, whatever it can take, or that it closes
+-- the ends that the step names or accepts are held, and their places let it: what it sends, the next message where the statement
+-- can take it, or that it closes
 abbrev pub Agrees : Node → Want → Type 0
 Agrees n wants.Local = ⊤
 Agrees n (wants.Send e m) = lets Out m ((node_at n).main e) ≡ true
 Agrees n (wants.Delegate e y) =
     (is_same_end e y ≡ false) × (is_held ((node_at n).main y) ≡ true) × (lets Out (msgs.Sess y.sess y.side n.party) ((node_at n).main e) ≡ true)
 Agrees n (wants.Take e a) =
-    (is_held ((node_at n).main e) ≡ true) × ((m : Msg) → fits (program_at n.machine) m ≡ true → lets Into m ((node_at n).main e) ≡ true)
+    (is_held ((node_at n).main e) ≡ true)
+    × ((m : Msg) → next_head n e ≡ Some m → fits (program_at n.machine) m ≡ true → lets Into m ((node_at n).main e) ≡ true)
 Agrees n (wants.Close e) = is_over ((node_at n).main e) ≡ true
 Agrees n (wants.Request p to) = ⊤
 Agrees n (wants.Accept p from) = is_offer_held n (smallest (offers_of n from)) ≡ true

@@ -1,6 +1,6 @@
 //! Laws of the play of a node: `nodes_play_the_file`, `acts_are_of_the_file`,
 //! `known_heads_are_taken_by_the_file`, `nodes_keep_their_play`; of what is unfit:
-//! `misfits_have_no_act`, `only_misfits_have_no_act`.
+//! `misfits_have_no_act`, `only_misfits_have_no_act`, `nodes_that_act_agree`.
 ghost use Rattle.std.specs.Prelude.{◌≡◌, ℕ, List, Some, None, IsSome};
 ghost use Rattle.sj_lang.specs.FileAt.{ProtocolAt, body_named};
 ghost use Rattle.sj_lang.specs.Place.{Place};
@@ -53,4 +53,10 @@ pub fn misfits_have_no_act()
 pub fn only_misfits_have_no_act()
     ensures { (n : Node) → stop_of n ≡ None → Agrees n (wants_of n) → act_of n ≡ None →
         IsSome (misfit_of n) }
+{}
+
+/// Where the rules have an act, the places of its ends let it.
+pub fn nodes_that_act_agree()
+    ensures { (n : Node) (w : Worked Place (NodeAt Place Program)) → act_of n ≡ Some w →
+        Agrees n (wants_of n) }
 {}

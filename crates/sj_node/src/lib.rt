@@ -29,7 +29,7 @@ mod threads;
 
 pub use laws::{
     acts_are_of_the_file, known_heads_are_taken_by_the_file, misfits_have_no_act,
-    nodes_keep_their_play, nodes_play_the_file, only_misfits_have_no_act,
+    nodes_keep_their_play, nodes_play_the_file, nodes_that_act_agree, only_misfits_have_no_act,
 };
 pub use node::Node;
 pub use refusal::{DeliverRefusal, Halt};
