@@ -7,13 +7,13 @@ use Rattle.std.proofs.lemmas.Bool.Decides.{nat_tests}
 use Rattle.std.proofs.lemmas.List.{append_cancel_left}
 use mathlib.Core.Path.{fun_ext}
 use Rattle.sj_rules.specs.Node.{Play, NodeAt}
-use Rattle.sj_rules.specs.Frames.{FrameAt}
+use Rattle.sj_rules.specs.Frames.{FrameAt, IsNoGive}
 use Rattle.sj_rules.specs.World.{WorldAt}
 use Rattle.sj_rules.specs.Record.{BodyAt, Carry, Fin, Claim, Signal, Ack, Give, Open}
 use Rattle.sj_rules.specs.Log.{LineAt, IsJoined, logs_below}
 use Rattle.sj_rules.specs.NodeRun.{frame_told, told_body, told_frames}
 use Rattle.sj_rules.specs.Joined.{PartiesWork, WorkerAt}
-use Rattle.sj_joined_lemmas.specs.Whole.{IsLeft, IsNoGive}
+use Rattle.sj_joined_lemmas.specs.Whole.{IsLeft}
 use Rattle.sj_joined_lemmas.proofs.BeyondLemmas.{all_to_beyond, node_beyond, none_from_beyond}
 use Rattle.sj_joined_lemmas.proofs.JoinedRunLemmas.{joined_run, last_world}
 

@@ -1,21 +1,10 @@
 -- A world that is put together from what parties leave that worked by themselves.
-use Rattle.std.specs.Prelude.{◌≡◌, ℕ, ◌<◌, ◌≤◌, ⊤, List, [], ◌++◌}
+use Rattle.std.specs.Prelude.{◌≡◌, ℕ, ◌<◌, ◌≤◌, List, [], ◌++◌}
 use Rattle.std.specs.List.{AllByRecursion}
-use Rattle.sj_rules.specs.Frames.{FrameAt}
-use Rattle.sj_rules.specs.Record.{BodyAt, Carry, Fin, Claim, Signal, Ack, Give, Open}
+use Rattle.sj_rules.specs.Frames.{FrameAt, IsNoGive}
 use Rattle.sj_rules.specs.World.{WorldAt}
 use Rattle.sj_rules.specs.NodeRun.{told_frames}
 use Rattle.sj_rules.specs.Joined.{WorkerAt}
-
--- no end goes with it
-abbrev pub IsNoGive : {P : Type 0} → BodyAt P → Type 0
-IsNoGive (Carry to conn number taken msg) = ⊤
-IsNoGive (Fin to conn number) = ⊤
-IsNoGive (Claim of) = ⊤
-IsNoGive (Signal to conn party taken) = ⊤
-IsNoGive (Ack of conn) = ⊤
-IsNoGive (Give e resend) = ⊥
-IsNoGive (Open sess) = ⊤
 
 -- the lane from p to q tells what waits, and then the outbox; and p pushed what q popped, and then what waits
 pub record IsBetween {P Q : Type 0} (blank : P) (workers : ℕ → WorkerAt P Q) (w : WorldAt P Q) (p q : ℕ) : Type 0 where

@@ -4,10 +4,10 @@ use Rattle.std.specs.Prelude.{Some, slice_get}
 use Rattle.std.specs.declared.alloc.Global.{Global}
 use Rattle.std.specs.declared.collections.VecDeque.{VecDeque}
 use Rattle.sj_table.specs.declared.table.Spot.{Spot}
-use Rattle.sj_rules.specs.Frames.{FrameAt}
+use Rattle.sj_rules.specs.Frames.{FrameAt, IsNoGive}
 use Rattle.sj_end.specs.declared.wire.Frame.{Frame}
 use Rattle.sj_end.specs.Views.{frame_at}
-use Rattle.sj_node.specs.Gives.{HasNoGive, IsNoGive}
+use Rattle.sj_node.specs.Gives.{HasNoGive}
 use Rattle.sj_node.specs.Outs.{waiting_in}
 use Rattle.sj_node.proofs.OutLemmas.{waiting_here}
 

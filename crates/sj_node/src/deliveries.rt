@@ -6,6 +6,7 @@ ghost use Rattle.sj_node.specs.Keeping.{kept_of};
 ghost use Rattle.sj_node.specs.Node.{connect_count};
 ghost use Rattle.sj_node.specs.Rows.{Goes, IsRow, LacksAny, LacksRow, Rests};
 ghost use Rattle.sj_node.specs.Slots.{olds_in};
+ghost use Rattle.sj_rules.specs.Frames.{IsNoGive};
 ghost use Rattle.sj_rules.specs.Node.{with_number};
 ghost use Rattle.sj_rules.specs.Record as rules;
 
@@ -22,9 +23,11 @@ use sj_end::{Body, Frame};
 use sj_handover::{acked, crossed};
 
 impl Node {
-    /// The row of a body that comes from that party, in an event of that clock.
+    /// The row of a body that comes from that party, in an event of that clock; that of a Give is
+    /// `give_row`.
     pub(crate) fn row(&mut self, from: u16, clock: u64, body: &Body) -> Result<(), DeliverRefusal>
-        requires { IsCounted (body_at body.now) }
+        requires counted { IsCounted (body_at body.now) }
+        requires other { IsNoGive (body_at body.now) }
         ensures ok { OnOk result (Goes self.old from (body_at body.now) clock self.new) }
         ensures unfit { IsErrOf result DeliverRefusal.Unfit → LacksAny self.old from (body_at body.now) }
         ensures err { OnErr result (Rests self.old self.new) }
@@ -59,7 +62,7 @@ impl Node {
                 taken,
             } => self.signal_row(from, clock, *to, *conn, *party, *taken),
             Body::Open { sess } => self.open_row(from, *sess),
-            Body::Give { .. } => Err(DeliverRefusal::NoMemory),
+            Body::Give { .. } => unreachable!(),
         }
     }
 

@@ -1,5 +1,5 @@
 -- Frames, those that posts make for a party, and the limits that they keep.
-use Rattle.std.specs.Prelude.{ℕ, Bool, true, ◌&&◌, ◌==◌, nat_le, nat_lt, List, map, filter}
+use Rattle.std.specs.Prelude.{ℕ, ⊤, Bool, true, ◌&&◌, ◌==◌, nat_le, nat_lt, List, map, filter}
 use Rattle.sj_rules.specs.Limits.{limit_of_conns, limit_of_messages, clock_end}
 use Rattle.sj_rules.specs.Opened.{is_openable}
 use Rattle.sj_rules.specs.Record.{BodyAt, Carry, Fin, Claim, Signal, Ack, Give, Open, Mail}
@@ -8,6 +8,16 @@ use Rattle.sj_rules.specs.Record.{BodyAt, Carry, Fin, Claim, Signal, Ack, Give, 
 pub record FrameAt (P : Type 0) : Type 0 where
   pub clock : ℕ
   pub body : BodyAt P
+
+-- no end comes with the body
+abbrev pub IsNoGive : {P : Type 0} → BodyAt P → Type 0
+IsNoGive (Give e resend) = ⊥
+IsNoGive (Carry to conn number taken msg) = ⊤
+IsNoGive (Fin to conn number) = ⊤
+IsNoGive (Claim of) = ⊤
+IsNoGive (Signal to conn party taken) = ⊤
+IsNoGive (Ack of conn) = ⊤
+IsNoGive (Open sess) = ⊤
 
 -- what of the posts goes to that party, as frames of that clock
 abbrev pub frames_for : {P : Type 0} → ℕ → (clock : ℕ) → List (Mail P) → List (FrameAt P)

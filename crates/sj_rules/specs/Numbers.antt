@@ -35,13 +35,13 @@ IsSignalledTo party (signalled at to e deferred) = party ≡ to
 IsSignalledTo party _ = ⊥
 
 -- the end is in no Give
-abbrev pub IsNoGive : {P : Type 0} → Seat P → Type 0
-IsNoGive (given at to e resend deferred) = ⊥
-IsNoGive _ = ⊤
+abbrev pub IsNotGiven : {P : Type 0} → Seat P → Type 0
+IsNotGiven (given at to e resend deferred) = ⊥
+IsNotGiven _ = ⊤
 
 -- s is ahead of r by one, its peer is the party to which r is Signalled, and the cause stands
 abbrev pub LeadsBy : {P : Type 0} → Cause → (s r : Seat P) → Type 0
-LeadsBy by_ack s r = (conn_of s ≡ conn_of r + 1) × IsSignalledTo (peer_of s) r × (peer_of r ≡ sender_of s) × IsNoGive s
+LeadsBy by_ack s r = (conn_of s ≡ conn_of r + 1) × IsSignalledTo (peer_of s) r × (peer_of r ≡ sender_of s) × IsNotGiven s
 LeadsBy by_signal s r = (conn_of s ≡ conn_of r + 1) × IsSignalledTo (peer_of s) r
 
 -- an end that is gone lies beside one that is over; ends at one number are each other's peer; else the one behind is

@@ -9,7 +9,7 @@ use Rattle.sj_rules.specs.Rows.{IsPick, trimmed_end, end_with_peer, signal_fits,
 use Rattle.sj_rules.specs.Seat.{Seat, held, parked, claimed, signalled, given, closed, gone, conn_of, sender_of, side_of}
 use Rattle.sj_rules.specs.PlainSide.{PlainSide, untaken_of, CountsFit}
 use Rattle.sj_rules.specs.Counts.{Agrees, SeatFits}
-use Rattle.sj_rules.specs.Numbers.{Cause, level, ahead, behind, by_ack, by_signal, NumbersFit, LeadsBy, IsNoGive, pending, is_over}
+use Rattle.sj_rules.specs.Numbers.{Cause, level, ahead, behind, by_ack, by_signal, NumbersFit, LeadsBy, IsNotGiven, pending, is_over}
 use Rattle.sj_rules.specs.Streams.{AreDropped, ComesWhole, ComesLoose, mark_for}
 use Rattle.sj_rules.specs.Invariant.{IsSound}
 use Rattle.sj_rules.specs.Coming.{Comes, AreOld}
@@ -61,7 +61,7 @@ module _ {P : Type 0} (IsOver : P → Type 0) (x y : PlainSide P) (sid rid : End
   }
 
   -- what comes to r is the same as before
-  level_comes : (low : ℕ) (resend : Option ℕ) (s : Seat P) (rl : List (BodyAt P)) → went.base ≤ low → IsNoGive s →
+  level_comes : (low : ℕ) (resend : Option ℕ) (s : Seat P) (rl : List (BodyAt P)) → went.base ≤ low → IsNotGiven s →
       ComesWhole rid (er.conn + 1) y.taken low x.taken (mark_for rid (er.conn + 1) x s) (untaken_of x y) (dr ++ rl) →
       Comes level rid x y s (given b u went resend dr) rl
   level_comes low resend (held a h) rl l g w = whole_level low _ _ (dr ++ rl) refl l w
@@ -73,7 +73,7 @@ module _ {P : Type 0} (IsOver : P → Type 0) (x y : PlainSide P) (sid rid : End
   level_comes low resend gone rl l g w = whole_level low _ _ (dr ++ rl) (ap (λ n. Fin rid n (length x.sent) ∷ []) (sym next)) l w
 
   -- what came to s before it was ahead is all that waits for it
-  ack_back : (s : Seat P) (sl : List (BodyAt P)) → IsNoGive s → SeatFits IsOver sid y x s →
+  ack_back : (s : Seat P) (sl : List (BodyAt P)) → IsNotGiven s → SeatFits IsOver sid y x s →
       Comes (behind by_ack) sid y x (signalled b u er dr) s sl → Comes level sid y x (given b u went None dr) s sl
   ack_back (held a h) sl g f c = (
     tt,
@@ -144,7 +144,7 @@ by_any (given a t e r ds) b u er dr n = (n.0, n.1)
 by_any (closed a e) b u er dr n = (n.0, n.1)
 by_any gone b u er dr n = absurd (cc n.0)
 
-comes_whole_of : {P : Type 0} → (rid : EndId) (x y : PlainSide P) (s : Seat P) (b u : ℕ) (er : EndAt P) (dr rl : List (BodyAt P)) → IsNoGive s →
+comes_whole_of : {P : Type 0} → (rid : EndId) (x y : PlainSide P) (s : Seat P) (b u : ℕ) (er : EndAt P) (dr rl : List (BodyAt P)) → IsNotGiven s →
     Comes (ahead by_ack) rid x y s (signalled b u er dr) rl →
     ComesWhole rid (er.conn + 1) y.taken er.base x.taken (mark_for rid (er.conn + 1) x s) (untaken_of x y) (dr ++ rl)
 comes_whole_of rid x y (held a h) b u er dr rl g c = c

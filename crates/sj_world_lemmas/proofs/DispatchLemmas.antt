@@ -9,7 +9,7 @@ use Rattle.sj_rules.specs.World.{WorldAt}
 use Rattle.sj_rules.specs.Seat.{Seat, held, parked, claimed, signalled, given, closed, gone, Side, source_for, taker_of, coming_of, peer_of, side_of}
 use Rattle.sj_rules.specs.Shown.{Shows}
 use Rattle.sj_rules.specs.PlainSide.{PlainSide}
-use Rattle.sj_rules.specs.Numbers.{Pace, level, ahead, behind, NumbersFit, IsSignalledTo, IsNoGive}
+use Rattle.sj_rules.specs.Numbers.{Pace, level, ahead, behind, NumbersFit, IsSignalledTo, IsNotGiven}
 use Rattle.sj_rules.specs.Invariant.{IsSound}
 use Rattle.sj_rules.specs.Coming.{Comes}
 use Rattle.sj_rules.specs.Linked.{subject_of}
@@ -83,7 +83,7 @@ module _ {P Q : Type 0} (IsOver : P → Type 0) (play : Play P Q) (pick : ℕ �
     (id : EndId) (low : id.side < 2) (about : subject_of f.body ≡ id) (stream : IsStream f.body)
     (x y : PlainSide P) (laws : DeliveryLaws IsOver pick x y) (s : Side P) (place : P) (old left : List (BodyAt P)) where
   -- a Signal, by the row of a seat
-  by_signal_row : (seat : Seat P) (b : ℕ) → ((party : ℕ) → IsSignalledTo party seat → ⊥) → IsNoGive seat → w.lanes (source_for s.seat seat) b ≡ f ∷ rest → number_of f.body ≡ coming_of seat →
+  by_signal_row : (seat : Seat P) (b : ℕ) → ((party : ℕ) → IsSignalledTo party seat → ⊥) → IsNotGiven seat → w.lanes (source_for s.seat seat) b ≡ f ∷ rest → number_of f.body ≡ coming_of seat →
       Shows w s.seat (side_of id place seat old (f.body ∷ left)) → Shows w seat s → SoundWith IsOver pick x y s id place level seat old (f.body ∷ left) →
       (d : EndId) (c p k : ℕ) → f.body ≡ Signal d c p k →
       ((a t : ℕ) (es : EndAt P) (ds : List (BodyAt P)) → w.lanes a b ≡ record { clock = f.clock; body = Signal id (coming_of seat) p k } ∷ rest →

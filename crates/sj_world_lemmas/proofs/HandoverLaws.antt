@@ -7,7 +7,7 @@ use Rattle.sj_rules.specs.Record.{EndAt, BodyAt, Fin, Signal, Ack, Mail, HeldAt,
 use Rattle.sj_rules.specs.Rows.{with_last, passive_closed, Worked, resent_posts, numbered_carries, cached_from, mails_of, trimmed_end, end_with_peer, passive, install}
 use Rattle.sj_rules.specs.Seat.{Seat, held, parked, claimed, signalled, given, closed, Side, source_for, side_of}
 use Rattle.sj_rules.specs.PlainSide.{PlainSide}
-use Rattle.sj_rules.specs.Numbers.{Pace, level, behind, by_ack, IsSignalledTo, IsNoGive}
+use Rattle.sj_rules.specs.Numbers.{Pace, level, behind, by_ack, IsSignalledTo, IsNotGiven}
 use Rattle.sj_rules.specs.Invariant.{IsSound}
 use Rattle.sj_world_lemmas.proofs.InstallLemmas.{again_from}
 use Rattle.sj_world_lemmas.proofs.SessionLaws.{AckAtOld, ClaimAtClaimed, DefersAtGiven, DefersAtSignalled, LiveIsDeferrable, PlainAtClaimed, PlainAtClosed, PlainAtHeld, PlainAtOld, PlainAtParked, SignalAtOld, with_more}
@@ -83,7 +83,7 @@ module _ {P : Type 0} (IsOver : P → Type 0) (pick : ℕ → ℕ → ℕ) (x y 
 module _ {P : Type 0} (IsOver : P → Type 0) (pick : ℕ → ℕ → ℕ) (x y : PlainSide P) (s : Side P) (id : EndId) (place : P) where
   -- that one is Signalled
   abbrev pub SignalSender : Type 0
-  SignalSender = (seat : Seat P) (ro rest : List (BodyAt P)) (d : EndId) (c p k : ℕ) → ((party : ℕ) → IsSignalledTo party seat → ⊥) → IsNoGive seat →
+  SignalSender = (seat : Seat P) (ro rest : List (BodyAt P)) (d : EndId) (c p k : ℕ) → ((party : ℕ) → IsSignalledTo party seat → ⊥) → IsNotGiven seat →
       IsSound IsOver level x y s (side_of id place seat ro (Signal d c p k ∷ rest)) →
       (a : ℕ) × (t : ℕ) × (es : EndAt P) × (ds : List (BodyAt P)) × (s.seat ≡ signalled a t es ds)
 

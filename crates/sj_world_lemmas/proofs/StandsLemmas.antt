@@ -10,7 +10,7 @@ use Rattle.sj_rules.specs.Seat.{Seat, held, parked, claimed, signalled, given, c
 use Rattle.sj_rules.specs.Shown.{Shows, bodies, goes_to, is_lane, old_in}
 use Rattle.sj_rules.specs.PlainSide.{PlainSide, untaken_of}
 use Rattle.sj_rules.specs.Flowing.{FlowsDeferred, carries_under, IsFlowing, HasSign, CanResend, IsOwed, IsTold, party_of, lane_from}
-use Rattle.sj_rules.specs.Numbers.{Pace, level, ahead, behind, by_ack, by_signal, turned, NumbersFit, IsNoGive, is_over}
+use Rattle.sj_rules.specs.Numbers.{Pace, level, ahead, behind, by_ack, by_signal, turned, NumbersFit, IsNotGiven, is_over}
 use Rattle.sj_rules.specs.Streams.{ComesWhole, ComesToHeld, mark_for}
 use Rattle.sj_rules.specs.Coming.{Comes, AreOld, comes_low}
 use Rattle.sj_rules.specs.Invariant.{IsSound}
@@ -117,14 +117,14 @@ module _ {P Q : Type 0} (w : WorldAt P Q) (sid id : EndId) (ps place : P) (so sl
   }
 
   -- what a lane to a party that awaits r carries
-  awaited : (s r : Seat P) (u c : ℕ) (ds : List (BodyAt P)) → IsThere s → IsNoGive s → u ≡ taker_of r → c ≡ coming_of r → old_in r ro (source_for s r) u c ≡ [] → Shows w s (side_of id place r ro rl) →
+  awaited : (s r : Seat P) (u c : ℕ) (ds : List (BodyAt P)) → IsThere s → IsNotGiven s → u ≡ taker_of r → c ≡ coming_of r → old_in r ro (source_for s r) u c ≡ [] → Shows w s (side_of id place r ro rl) →
       carries_under id c (ds ++ lane_from w (party_of s) u) ≡ carries_under id c (ds ++ rl)
   awaited s r u c ds i g a k none v =
       let lane : carries_under id c (lane_from w (party_of s) u) ≡ carries_under id c rl =
       ap (λ l. carries_under id c l) (lane_is s r u i g) ∙ lane_carries s r (source_for s r) u c true (rw (← a, ← k) (self_key (source_for s r) u c)) none v in
       carries_append id c ds (lane_from w (party_of s) u) ∙ ap (λ l. carries_under id c ds ++ l) lane ∙ sym (carries_append id c ds rl)
     where
-      lane_is : (s r : Seat P) (u : ℕ) → IsThere s → IsNoGive s → lane_from w (party_of s) u ≡ bodies (w.lanes (source_for s r) u)
+      lane_is : (s r : Seat P) (u : ℕ) → IsThere s → IsNotGiven s → lane_from w (party_of s) u ≡ bodies (w.lanes (source_for s r) u)
       lane_is gone r u i g = absurd i
       lane_is (given a t e q ds) r u i g = absurd g
       lane_is s r u i g = refl
