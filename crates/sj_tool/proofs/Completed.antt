@@ -1,6 +1,6 @@
 -- A task completes for an input that is valid for it.
-use Rattle.std.proofs.Common.{◌≡◌, ◌∙◌, ◌<◌, ◌≤◌, ◌++◌, ◌+◌, ◌*◌, ℕ, List, [], ◌∷◌, Option, Some, None, inl, ap, ap₂, refl, sym, subst, length, arith, length-append}
-use Rattle.sj_base.specs.Stream.{CameOf, put_behind}
+use Rattle.std.proofs.Common.{◌≡◌, ◌∙◌, ◌<◌, ◌≤◌, ◌++◌, ◌+◌, ◌*◌, ℕ, List, [], ◌∷◌, Option, Some, None, ap, ap₂, refl, sym, subst, length, arith, length-append}
+use Rattle.sj_base.specs.Stream.{CameOf}
 use Rattle.sj_lang.specs.FileAt.{FileAt}
 use Rattle.sj_generator.specs.Generated.{generated}
 use Rattle.sj_command.specs.declared.tasks.Task.{Task}
@@ -8,19 +8,18 @@ use Rattle.sj_command.specs.declared.tasks.Task.TheVariants as tasks
 use Rattle.sj_command.specs.Task.{Asks, most_messages}
 use Rattle.sj_command.proofs.OneTask.{one_task}
 use Rattle.sj_tool.specs.AnswerAt.{AnswerAt}
-use Rattle.sj_tool.specs.Answers.{Came, IsInTable, OrYields}
+use Rattle.sj_tool.specs.Answers.{Came}
 use Rattle.sj_tool.specs.Layers.{AnswersBytes}
-use Rattle.sj_tool.specs.Calls.{CallAt, LinkUseAt, LinksHold}
-use Rattle.sj_tool.specs.Completeness.{Completes, CompletesSo, IsValid, IsValidFile}
+use Rattle.sj_tool.specs.Calls.{CallAt, CountNone}
+use Rattle.sj_tool.specs.Completeness.{Completes, IsValidFile, IsValidOver}
 use Rattle.sj_tool.specs.LogAt.{LogAt, no_log}
 use Rattle.sj_tool.specs.Tasks.{HasInput, Reads, Takes, limit_of}
 use Rattle.sj_tool.specs.Texts.{status_of, text_of, verdict_status}
 use Rattle.sj_tool.proofs.BytesAnswer.{takes_file}
-use Rattle.sj_tool.proofs.CompletedFile.{Told, bytes_complete}
-use Rattle.sj_tool.proofs.ExactnessLemmas.{call_at}
+use Rattle.sj_tool.proofs.CompletedFile.{IsUndamaged, Told, bytes_complete}
 use Rattle.sj_tool.proofs.InputAnswers.{AnswersInput}
 use Rattle.sj_tool.proofs.InputLemmas.{came_of, read_bytes, read_of, reads_of}
-use Rattle.sj_tool.proofs.RowKindLemmas.{Row, words, fault, large, made, input, made_takes, reads_takes, row_of}
+use Rattle.sj_tool.proofs.RowKindLemmas.{Row, words, fault, large, made, input, made_takes, reads_takes}
 use Rattle.sj_generator_laws.specs.GeneratedFile.{generated_file}
 use Rattle.sj_generator_laws.proofs.AcceptedLemmas.{file_is_accepted}
 use Rattle.sj_generator_laws.proofs.FileRunLemmas.{file_ends_so}
@@ -43,9 +42,9 @@ too_many most bytes (Some rest) few (taken, many, e) =
 
 module _ (c : CallAt) (file : FileAt) (log : LogAt) where
   -- a task that reads
-  module _ (task : Task) (reads : Reads task) (asks : Asks c.words task) (valid : IsValidFile c task file log) where
-    input_completes : (a : AnswerAt) → AnswersInput c a → Told task file log (status_of a) (text_of a)
-    input_completes a x = bytes_complete c.links task file valid.bytes valid.text log valid.parts valid.stands valid.accepted valid.fits valid.party valid.links a answers
+  module _ (task : Task) (reads : Reads task) (asks : Asks c.words task) (valid : IsValidFile CountNone c task file log) where
+    input_completes : (a : AnswerAt) → IsUndamaged a → AnswersInput c a → Told task file log (status_of a) (text_of a)
+    input_completes a whole x = bytes_complete c.links task file valid.bytes valid.text log valid.parts valid.stands valid.accepted valid.fits valid.party valid.links a whole answers
       where
         tasks_are : x.task ≡ task
         tasks_are = one_task c.words x.task task x.asks asks
@@ -62,12 +61,12 @@ module _ (c : CallAt) (file : FileAt) (log : LogAt) where
         let came = subst (λ (t : Task). CameOf (λ n. limit_of t < n) c.left c.left_after) tasks_are (came_of (λ n most. most < n) c many) in
         too_many (limit_of task) valid.bytes c.left_after valid.few (came.0, came.1, sym valid.left ∙ came.2)
 
-    row_completes : (a : AnswerAt) → Row c a → Told task file log (status_of a) (text_of a)
-    row_completes a (words e usage) = absurd (usage task asks)
-    row_completes a (fault e few rose) = absurd (valid.no_fault rose)
-    row_completes a (large e many same) = absurd (too_much many)
-    row_completes a (made text s t m) = absurd (made_takes c text task m asks (reads_takes task reads))
-    row_completes a (input x) = input_completes a x
+    row_completes : (a : AnswerAt) → IsUndamaged a → Row c a → Told task file log (status_of a) (text_of a)
+    row_completes a whole (words e usage) = absurd (usage task asks)
+    row_completes a whole (fault e few rose) = absurd (valid.no_fault rose)
+    row_completes a whole (large e many same) = absurd (too_much many)
+    row_completes a whole (made text s t m) = absurd (made_takes c text task m asks (reads_takes task reads))
+    row_completes a whole (input x) = input_completes a whole x
 
   -- the file is made, and nothing is read
   module _ (n : ℕ) (asks : Asks c.words (tasks.Make n)) where
@@ -84,7 +83,7 @@ module _ (c : CallAt) (file : FileAt) (log : LogAt) where
     make_completes a (input x) = absurd (takes_none x.task x.asks (takes_file c.links x.task x.bytes a x.answers))
 
   -- it is made and run
-  module _ (n : ℕ) (asks : Asks c.words (tasks.Big n)) (hold : LinksHold c.links) where
+  module _ (n : ℕ) (asks : Asks c.words (tasks.Big n)) (none : CountNone c.links) where
     reads_none : (task : Task) → Asks c.words task → Reads task → ⊥
     reads_none task asked reads = subst (λ (t : Task). Reads t) (one_task c.words task (tasks.Big n) asked asks) reads
 
@@ -97,28 +96,20 @@ module _ (c : CallAt) (file : FileAt) (log : LogAt) where
         let ends = file_ends_so n few in
         (stands ∙ ap verdict_status ends.verdict, printed ∙ ap (told_sums n) (ap₂ (λ m s. (m, s)) ends.messages ends.steps) ∙ ap (λ v. sums_line n (generated_file n) (10 * n + 15) (25 * n + 55) ++ line_of (verdict_word v ∷ [])) ends.verdict)
 
-    big_completes : (a : AnswerAt) → Row c a → Completes (tasks.Big n) file log (status_of a) (text_of a)
-    big_completes a (words e usage) = absurd (usage (tasks.Big n) asks)
-    big_completes a (fault e few rose) = absurd (reads_none few.task few.asks (reads_of (λ n most. n ≤ most) c few))
-    big_completes a (large e many same) = absurd (reads_none many.task many.asks (reads_of (λ n most. most < n) c many))
-    big_completes a (made text s t m) = absurd (made_takes c text (tasks.Big n) m asks tt)
-    big_completes a (input x) =
+    big_completes : (a : AnswerAt) → IsUndamaged a → Row c a → Completes (tasks.Big n) file log (status_of a) (text_of a)
+    big_completes a whole (words e usage) = absurd (usage (tasks.Big n) asks)
+    big_completes a whole (fault e few rose) = absurd (reads_none few.task few.asks (reads_of (λ n most. n ≤ most) c few))
+    big_completes a whole (large e many same) = absurd (reads_none many.task many.asks (reads_of (λ n most. most < n) c many))
+    big_completes a whole (made text s t m) = absurd (made_takes c text (tasks.Big n) m asks tt)
+    big_completes a whole (input x) =
         let tasks_are : x.task ≡ tasks.Big n = one_task c.words x.task (tasks.Big n) x.asks asks in
         let made = subst (λ (t : Task). HasInput c t x.bytes) tasks_are x.input in
         let answers = subst (λ (t : Task). AnswersBytes c.links t x.bytes a) tasks_are x.answers in
         sums_up (status_of a) (text_of a)
-        (bytes_complete c.links (tasks.Big n) (generated_file n) (generated n) (generated n) no_log (refl, refl) (text_stands n (omega (arith, few))) (λ _. file_is_accepted n) (λ replays. absurd replays) tt (λ _. hold) a
+        (bytes_complete c.links (tasks.Big n) (generated_file n) (generated n) (generated n) no_log (refl, refl) (text_stands n (omega (arith, few))) (λ _. file_is_accepted n) (λ replays. absurd replays) tt (λ _. none) a whole
         (subst (λ (bs : List ℕ). AnswersBytes c.links (tasks.Big n) bs a) made.1 answers))
 
-  completes : (task : Task) → IsValid c task file log → (a : AnswerAt) → Row c a → Completes task file log (status_of a) (text_of a)
-  completes (tasks.Make n) v a row = make_completes n v a row
-  completes (tasks.Big n) v a row = big_completes n v.0 v.1 a row
-  completes task v a row = row_completes task tt v.0 v.1 a row
-
--- the answer that is written completes the task
-pub answered_whole : (said : List (List ℕ)) (left after : Option (List ℕ)) (f g : ℕ) (links : LinkUseAt) (a : AnswerAt) (status : ℕ) (before now : Option (List ℕ))
-    → IsInTable (call_at said left after f g links) a → status ≡ status_of a → now ≡ put_behind before (text_of a)
-    → (task : Task) (file : FileAt) (log : LogAt) → IsValid (call_at said left after f g links) task file log → OrYields status (CompletesSo task file log status before now)
-answered_whole said left after f g links a status before now comes e d task file log valid =
-    let c = call_at said left after f g links in
-    inl (record { text = text_of a; completes = subst (λ (s : ℕ). Completes task file log s (text_of a)) (sym e) (completes c file log task valid a (row_of c a comes)); written = d })
+  pub completes : (task : Task) → IsValidOver CountNone c task file log → (a : AnswerAt) → IsUndamaged a → Row c a → Completes task file log (status_of a) (text_of a)
+  completes (tasks.Make n) v a whole row = make_completes n v a row
+  completes (tasks.Big n) v a whole row = big_completes n v.0 v.1 a whole row
+  completes task v a whole row = row_completes task tt v.0 v.1 a whole row

@@ -1,5 +1,6 @@
 -- What answers a valid file completes its task.
 use Rattle.std.proofs.Common.{◌≡◌, ◌∙◌, ℕ, Bool, true, false, List, [], Option, None, inl, inr, ap, subst, sym, arith}
+use Rattle.std.specs.Prelude.{⊤}
 use Rattle.sj_lang.specs.FileAt.{FileAt}
 use Rattle.sj_grammar.specs.Files.{IsFile}
 use Rattle.sj_acceptance.specs.Accepted.{IsAccepted}
@@ -17,7 +18,7 @@ use Rattle.sj_tool.specs.LogAt.{LogAt}
 use Rattle.sj_tool.specs.AnswerAt.{AnswerAt, LinkFault, Damaged}
 use Rattle.sj_tool.specs.Answers.{AnswersFile}
 use Rattle.sj_tool.specs.Layers.{AnswersBytes, AnswersText}
-use Rattle.sj_tool.specs.Calls.{LinkUseAt, LinksHold}
+use Rattle.sj_tool.specs.Calls.{CountNone, LinkUseAt}
 use Rattle.sj_tool.specs.Completeness.{Completes, HasItsParty, TellsEnd}
 use Rattle.sj_tool.specs.ForestTexts.{IsForestText}
 use Rattle.sj_tool.specs.Forwards.{IsForwardText}
@@ -94,28 +95,33 @@ module _ (links : LinkUseAt) (log : LogAt) (file : FileAt) (t : ℕ × List ℕ)
   told_valid (tasks.Make n) first fits there ok e = absurd e
   told_valid task first fits there ok e = checked task first fits there (ok tt) e
 
--- links that hold bring no fault of theirs
-unhurt_by : (links : LinkUseAt) (task : Task) (log : LogAt) (file : FileAt) (a : AnswerAt) → (RunsParties task → LinksHold links) → AnswersFile links task log file a → IsUnhurt a
-unhurt_by links task log file LinkFault hold x = let holds = hold x.1 in holds.1 x.2
-unhurt_by links task log file (Damaged t) hold x = let holds = hold x.1 in x.2 holds.0
-unhurt_by links task log file a hold x = tt
+-- the answer tells no damage
+abbrev pub IsUndamaged : AnswerAt → Type 0
+IsUndamaged (Damaged t) = ⊥
+IsUndamaged a = ⊤
+
+-- links that count no fault bring none of theirs
+unhurt_by : (links : LinkUseAt) (task : Task) (log : LogAt) (file : FileAt) (a : AnswerAt) → (RunsParties task → CountNone links) → IsUndamaged a → AnswersFile links task log file a → IsUnhurt a
+unhurt_by links task log file LinkFault none whole x = none x.1 x.2
+unhurt_by links task log file (Damaged t) none whole x = whole
+unhurt_by links task log file a none whole x = tt
 
 module _ (links : LinkUseAt) (task : Task) (file : FileAt) (bytes text : List ℕ) (log : LogAt) (has : HasParts task bytes text log) (stands : IsFile text file) (accepted : Checks task → IsAccepted file) (fits : Replays task → HasBegun links task log file) (there : HasItsParty task file)
-    (hold : RunsParties task → LinksHold links) where
+    (none : RunsParties task → CountNone links) (a : AnswerAt) (whole : IsUndamaged a) where
   -- what answers the text of a valid file completes
-  text_completes : (a : AnswerAt) → AnswersText links task log text a → Told task file log (status_of a) (text_of a)
-  text_completes a x = by_kind (either links task log text a x)
+  text_completes : AnswersText links task log text a → Told task file log (status_of a) (text_of a)
+  text_completes x = by_kind (either links task log text a x)
     where
       by_kind : IsEither links task log text a → Told task file log (status_of a) (text_of a)
       by_kind (inl (f, e, s)) = absurd (no_fault text file f stands s)
       by_kind (inr y) =
           let same = subst (λ (f : FileAt). AnswersFile links task log f a) (one_file text y.file file y.stands stands) y.answers in
           told_valid links log file (told a) task (first_fault (tests_of file)) fits there (λ checks. accepted_to file (accepted checks))
-          (file_told links task log file a (unhurt_by links task log file a hold same) same)
+          (file_told links task log file a (unhurt_by links task log file a none whole same) same)
 
   -- and so does what answers the bytes that have it
-  pub bytes_complete : (a : AnswerAt) → AnswersBytes links task bytes a → Told task file log (status_of a) (text_of a)
-  bytes_complete a x = by_kind (kind_of links task bytes a x)
+  pub bytes_complete : AnswersBytes links task bytes a → Told task file log (status_of a) (text_of a)
+  bytes_complete x = by_kind (kind_of links task bytes a x)
     where
       by_kind : Kind links task bytes a → Told task file log (status_of a) (text_of a)
       by_kind (long e y) = absurd (not_long task bytes text log has y)
@@ -123,4 +129,4 @@ module _ (links : LinkUseAt) (task : Task) (file : FileAt) (bytes text : List �
       by_kind (unspoken e talks none) = absurd (not_unspoken task bytes text log talks has none)
       by_kind (parts p) =
           let same = one_part task bytes p.text p.log text log p.parts has in
-          text_completes a (subst (λ (l : LogAt). AnswersText links task l text a) same.1 (subst (λ (t : List ℕ). AnswersText links task p.log t a) same.0 p.answers))
+          text_completes (subst (λ (l : LogAt). AnswersText links task l text a) same.1 (subst (λ (t : List ℕ). AnswersText links task p.log t a) same.0 p.answers))

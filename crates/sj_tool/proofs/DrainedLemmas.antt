@@ -29,7 +29,7 @@ use Rattle.sj_tool.specs.Tasks.{RunsParties, looks_of}
 use Rattle.sj_tool.specs.Runs.{HasHistory, HasRun, IsGiven, IsTold, actors}
 
 -- a history of what is kept of a file is one of the file
-kept_history : (file kept : FileAt) (lines : List LineAt) (w : WorldAt Place Program) → kept ≡ without_words file → IsHistory max kept lines w → IsHistory max file lines w
+pub kept_history : (file kept : FileAt) (lines : List LineAt) (w : WorldAt Place Program) → kept ≡ without_words file → IsHistory max kept lines w → IsHistory max file lines w
 kept_history file kept lines w is h =
     subst (λ (start : WorldAt Place Program). Rattle.sj_rules.specs.History.IsLog (play_of file) max start lines w) (core_start_same file)
     (subst (λ (f : FileAt). IsHistory max f lines w) is h)
@@ -50,7 +50,7 @@ module _ (file first kept : FileAt) (of_file : first ≡ without_words file) (sa
       (kept_history file kept history core all_kept run, subst (λ (f : FileAt). IsQuietAmong (play_of f) (length f.parties) core) all_kept rest)
 
   -- lines that are given, and what was drained behind them
-  pub drained_has : (links : LinkUseAt) (task : Task) (log : LogAt) → n ≡ length first.parties → m ≡ length kept.parties → history ≡ lines ++ more → IsHistory max first lines left
+  abbrev pub drained_has : (links : LinkUseAt) (task : Task) (log : LogAt) → n ≡ length first.parties → m ≡ length kept.parties → history ≡ lines ++ more → IsHistory max first lines left
       → IsGiven links task log file lines left → IsHistory max kept history core → IsDrained (play_of first) max n left (map turn_of more) core → IsQuietAmong (play_of kept) m core
       → HasHistory links task log file history core
   drained_has links task log all those listed begins given run drained quiet =
@@ -67,7 +67,7 @@ module _ (file first kept : FileAt) (of_file : first ≡ without_words file) (sa
       }
 
   -- where parties ran
-  pub drained_ran : (links : LinkUseAt) (task : Task) (runs : RunsParties task) (log : LogAt) → n ≡ length first.parties → m ≡ length kept.parties → history ≡ lines ++ more → IsHistory max first lines left
+  abbrev pub drained_ran : (links : LinkUseAt) (task : Task) (runs : RunsParties task) (log : LogAt) → n ≡ length first.parties → m ≡ length kept.parties → history ≡ lines ++ more → IsHistory max first lines left
       → AreLogged file lines → (links.tells ≡ true → IsShown file (looks_of task) links.keeps lines left) → IsHistory max kept history core → IsDrained (play_of first) max n left (map turn_of more) core → IsQuietAmong (play_of kept) m core
       → HasHistory links task log file history core
   drained_ran links task runs log all those listed begins logged shown run drained quiet =
@@ -80,7 +80,7 @@ quiet_ends file accepted history core run quiet =
     (quiet_run_ends file accepted (map turn_of history) core (log_runs (play_of file) max max_picks history (core_start file) core run) quiet).0
 
 -- so what is told of it is what the task answers
-pub told_runs : (links : LinkUseAt) (task : Task) (log : LogAt) (file : FileAt) → IsAccepted file → (history : List LineAt) (core : WorldAt Place Program) → HasHistory links task log file history core
+abbrev pub told_runs : (links : LinkUseAt) (task : Task) (log : LogAt) (file : FileAt) → IsAccepted file → (history : List LineAt) (core : WorldAt Place Program) → HasHistory links task log file history core
     → (v : Verdict) (text : List ℕ) → IsTold task file history v text → HasRun links task log file v text
 told_runs links task log file accepted history core has v text told = record {
   history = history;

@@ -1,8 +1,8 @@
 -- What the table gives is answered, where the source tells.
-use Rattle.std.proofs.Common.{◌≡◌, ℕ, List, Option, Some, None, IfSome, refl, inl}
+use Rattle.std.proofs.Common.{◌≡◌, ◌⊎◌, ℕ, List, Option, Some, None, IfSome, refl, inl, inr}
 use Rattle.sj_base.specs.Stream.{put_behind}
 use Rattle.sj_tool.specs.AnswerAt.{AnswerAt}
-use Rattle.sj_tool.specs.Texts.{status_of, text_of}
+use Rattle.sj_tool.specs.Texts.{no_memory_status, status_of, text_of, write_fault_status}
 use Rattle.sj_tool.specs.Answers.{IsInTable, OrYields}
 use Rattle.sj_tool.specs.Calls.{CallAt, LinkUseAt}
 use Rattle.sj_tool.specs.Table.{AnswersAs, NoFaultAbove}
@@ -19,3 +19,11 @@ answered_exactly words None after f g links a status before now comes e d = tt {
 answered_exactly words (Some left) after f g links a status before now comes e d =
     λ b other above.
     inl (record { answer = a; one = one_comes (call_at words (Some left) after f g links) left refl a b comes other above; answers = (e, d) })
+
+-- nor is more asked where the sink fails or memory
+pub yields_exactly : (words : List (List ℕ)) (left after : Option (List ℕ)) (f g : ℕ) (links : LinkUseAt) (status : ℕ) (before now : Option (List ℕ))
+    → (status ≡ write_fault_status) ⊎ (status ≡ no_memory_status)
+    → IfSome left (λ _. (b : AnswerAt) → IsInTable (call_at words left after f g links) b → NoFaultAbove (call_at words left after f g links) b
+    → OrYields status (AnswersAs (call_at words left after f g links) status before now b))
+yields_exactly words None after f g links status before now yields = tt {0}
+yields_exactly words (Some left) after f g links status before now yields = λ b other above. inr yields

@@ -11,7 +11,7 @@ use Rattle.sj_tool.specs.Answers.{Came}
 use Rattle.sj_tool.specs.Calls.{CallAt}
 use Rattle.sj_tool.specs.Headline.{IsPlaying}
 use Rattle.sj_tool.specs.LogAt.{LogAt, log_at, no_log}
-use Rattle.sj_tool.specs.Tasks.{HasInput, HasLongText, HasParts, HasTail, IsPartedFor, IsRead, Reads, limit_of}
+use Rattle.sj_tool.specs.Tasks.{HasInput, HasLongText, HasParts, HasTail, IsPartedFor, IsRead, Reads, RunsParties, limit_of}
 use Rattle.sj_tool.specs.TalkParts.{IsTalk, talk_mark}
 
 -- where all was taken, it is what was left
@@ -104,3 +104,9 @@ pub whole_parts : (task : Task) (bytes : List ℕ) → ((l : Bool) → task ≡ 
 whole_parts (tasks.Replay log) bytes other off = absurd (other log refl)
 whole_parts (tasks.Talk n) bytes other off = absurd (off n refl)
 whole_parts task bytes other off = (refl, refl)
+
+-- a task that runs parties has its file alone
+pub run_parts : (task : Task) (bytes : List ℕ) → RunsParties task → HasParts task bytes bytes no_log
+run_parts (tasks.Run l looks workers) bytes runs = (refl, refl)
+run_parts (tasks.Big n) bytes runs = (refl, refl)
+run_parts task bytes runs = absurd runs

@@ -1,6 +1,7 @@
 pub mod EntryLemmas
 pub mod ActingLemmas
 pub mod EndLemmas
+pub mod EndedAnswers
 pub mod DrainedLemmas
 pub mod KindLemmas
 pub mod SumLemmas
@@ -15,7 +16,7 @@ pub mod FileTold
 pub mod OneAnswer
 pub mod InputLemmas
 pub mod FileAnswers
-pub mod DamageAnswers
+pub mod OverAnswers
 pub mod InputAnswers
 pub mod BytesAnswer
 pub mod RowKindLemmas
@@ -27,6 +28,7 @@ pub mod HeadlineOfAnswers
 pub mod ForwardAnswers
 pub mod CompletedFile
 pub mod Completed
+pub mod CompletedCalls
 pub mod LineLemmas
 pub mod NumberLemmas
 pub mod WordsLemmas

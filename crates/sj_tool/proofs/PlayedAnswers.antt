@@ -14,10 +14,10 @@ use Rattle.sj_command.proofs.OneTask.{one_task}
 use Rattle.sj_tool.specs.Forwards.{passed_line}
 use Rattle.sj_tool.specs.LogAt.{LogAt}
 use Rattle.sj_tool.specs.AnswerAt.{AnswerAt, Usage, ReadFault, TooLarge, NoTalk, Syntax, Check, NoParty, LogFault, Misfit, LinkFault, Damaged, Ran, Printed, Made}
-use Rattle.sj_tool.specs.Answers.{AnswersFile, HoldsFile, IsInTable, Makes}
+use Rattle.sj_tool.specs.Answers.{AnswersFile, HoldsFile, IsInTable}
 use Rattle.sj_tool.specs.Calls.{CallAt, LinkUseAt}
 use Rattle.sj_tool.specs.Headline.{IsPlaying, IsVerdict, PrintsMore}
-use Rattle.sj_tool.specs.Tasks.{AsksFor}
+use Rattle.sj_tool.specs.Tasks.{AsksFor, RunsParties}
 use Rattle.sj_tool.specs.Runs.{Plays, Prints, log_part}
 use Rattle.sj_tool.specs.Texts.{status_of, verdict_status}
 
@@ -55,7 +55,7 @@ beyond Done n above e = omega (arith, above, e)
 beyond Blocked n above e = omega (arith, above, e)
 beyond Long n above e = omega (arith, above, e)
 
--- ---- a file that is played is neither printed nor made
+-- ---- a file that is played, or whose parties are run, is neither printed nor made
 
 prints_none : (task : Task) (file : FileAt) (text : List ℕ) → IsPlaying task → Prints task file text → ⊥
 prints_none tasks.Sim file text plays p = p
@@ -64,8 +64,10 @@ prints_none tasks.Forward file text plays p = p
 prints_none (tasks.Replay log) file text plays p = p
 prints_none task file text plays p = plays
 
-makes_none : (c : CallAt) (text : List ℕ) → AsksFor IsPlaying c → Makes c text → ⊥
-makes_none c text plays m = subst IsPlaying (one_task c.words plays.task (tasks.Make m.count) plays.asks m.asks) plays.kind
+runs_print_none : (task : Task) (file : FileAt) (text : List ℕ) → RunsParties task → Prints task file text → ⊥
+runs_print_none (tasks.Run log looks workers) file text runs p = p
+runs_print_none (tasks.Big n) file text runs p = p
+runs_print_none task file text runs p = runs
 
 -- ---- an answer with such a status tells how a file ended
 
@@ -76,20 +78,28 @@ pub record CameOfPlay (c : CallAt) (a : AnswerAt) : Type 0 where
   pub held : HoldsFile c
   pub answers : AnswersFile c.links held.task held.log held.file (Ran verdict text)
 
-module _ (c : CallAt) (status : ℕ) (verdict : IsVerdict status) (plays : AsksFor IsPlaying c) where
-  pub came_of_play : (a : AnswerAt) → IsInTable c a → status ≡ status_of a → CameOfPlay c a
-  came_of_play Usage x e = absurd (x.0 plays.task plays.asks)
-  came_of_play ReadFault x e = absurd (no_refusal verdict.0 status (omega (arith, e)) (omega (arith, e)) verdict.1)
-  came_of_play TooLarge x e = absurd (no_refusal verdict.0 status (omega (arith, e)) (omega (arith, e)) verdict.1)
-  came_of_play (Syntax f) x e = absurd (no_refusal verdict.0 status (omega (arith, e)) (omega (arith, e)) verdict.1)
-  came_of_play (Check r l) x e = absurd (no_refusal verdict.0 status (omega (arith, e)) (omega (arith, e)) verdict.1)
-  came_of_play NoTalk x e = absurd (beyond verdict.0 status (omega (arith, e)) verdict.1)
-  came_of_play (NoParty n) x e = absurd (beyond verdict.0 status (omega (arith, e)) verdict.1)
-  came_of_play (LogFault r l) x e = absurd (beyond verdict.0 status (omega (arith, e)) verdict.1)
-  came_of_play (Misfit t) x e = absurd (beyond verdict.0 status (omega (arith, e)) verdict.1)
-  came_of_play LinkFault x e = absurd (beyond verdict.0 status (omega (arith, e)) verdict.1)
-  came_of_play (Damaged t) x e = absurd (beyond verdict.0 status (omega (arith, e)) verdict.1)
-  came_of_play (Ran v t) x e = record { verdict = v; text = t; is = refl; held = x.0; answers = x.1 }
-  came_of_play (Printed t) x e =
-      absurd (prints_none x.0.task x.0.file t (subst IsPlaying (one_task c.words plays.task x.0.task plays.asks x.0.asks) plays.kind) x.1)
-  came_of_play (Made t) x e = absurd (makes_none c t plays x)
+module _ (c : CallAt) (status : ℕ) (verdict : IsVerdict status) where
+  -- of a kind of tasks that print and make none
+  came_of : (P : Task → Type 0) → ((task : Task) (file : FileAt) (text : List ℕ) → P task → Prints task file text → ⊥) → ((n : ℕ) → P (tasks.Make n) → ⊥) → AsksFor P c
+      → (a : AnswerAt) → IsInTable c a → status ≡ status_of a → CameOfPlay c a
+  came_of P prints makes asked Usage x e = absurd (x.0 asked.task asked.asks)
+  came_of P prints makes asked ReadFault x e = absurd (no_refusal verdict.0 status (omega (arith, e)) (omega (arith, e)) verdict.1)
+  came_of P prints makes asked TooLarge x e = absurd (no_refusal verdict.0 status (omega (arith, e)) (omega (arith, e)) verdict.1)
+  came_of P prints makes asked (Syntax f) x e = absurd (no_refusal verdict.0 status (omega (arith, e)) (omega (arith, e)) verdict.1)
+  came_of P prints makes asked (Check r l) x e = absurd (no_refusal verdict.0 status (omega (arith, e)) (omega (arith, e)) verdict.1)
+  came_of P prints makes asked NoTalk x e = absurd (beyond verdict.0 status (omega (arith, e)) verdict.1)
+  came_of P prints makes asked (NoParty n) x e = absurd (beyond verdict.0 status (omega (arith, e)) verdict.1)
+  came_of P prints makes asked (LogFault r l) x e = absurd (beyond verdict.0 status (omega (arith, e)) verdict.1)
+  came_of P prints makes asked (Misfit t) x e = absurd (beyond verdict.0 status (omega (arith, e)) verdict.1)
+  came_of P prints makes asked LinkFault x e = absurd (beyond verdict.0 status (omega (arith, e)) verdict.1)
+  came_of P prints makes asked (Damaged t) x e = absurd (beyond verdict.0 status (omega (arith, e)) verdict.1)
+  came_of P prints makes asked (Ran v t) x e = record { verdict = v; text = t; is = refl; held = x.0; answers = x.1 }
+  came_of P prints makes asked (Printed t) x e =
+      absurd (prints x.0.task x.0.file t (subst P (one_task c.words asked.task x.0.task asked.asks x.0.asks) asked.kind) x.1)
+  came_of P prints makes asked (Made t) x e = absurd (makes x.count (subst P (one_task c.words asked.task (tasks.Make x.count) asked.asks x.asks) asked.kind))
+
+  pub came_of_play : AsksFor IsPlaying c → (a : AnswerAt) → IsInTable c a → status ≡ status_of a → CameOfPlay c a
+  came_of_play = came_of IsPlaying prints_none (λ n plays. plays)
+
+  pub came_of_run : AsksFor RunsParties c → (a : AnswerAt) → IsInTable c a → status ≡ status_of a → CameOfPlay c a
+  came_of_run = came_of RunsParties runs_print_none (λ n runs. runs)

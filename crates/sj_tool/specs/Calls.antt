@@ -14,9 +14,13 @@ pub record LinkUseAt : Type 0 where
   pub faults_after : ℕ
   pub keeps : LinksAt
 
+-- the links counted no fault
+abbrev pub CountNone : LinkUseAt → Type 0
+CountNone links = ¬ Rose links.faults links.faults_after
+
 -- the links tell what they carry, and counted no fault
 abbrev pub LinksHold : LinkUseAt → Type 0
-LinksHold links = (links.tells ≡ true) × ¬ Rose links.faults links.faults_after
+LinksHold links = (links.tells ≡ true) × CountNone links
 
 -- the words, what the source has left and counts, before and after, and the links
 pub record CallAt : Type 0 where

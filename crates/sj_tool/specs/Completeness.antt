@@ -14,7 +14,7 @@ use Rattle.sj_command.specs.Task.{Asks}
 use Rattle.sj_talk.specs.Output.{talk_end, talk_text}
 use Rattle.sj_talk.specs.TalkWorld.{talk_start}
 use Rattle.sj_tool.specs.LogAt.{LogAt}
-use Rattle.sj_tool.specs.Calls.{CallAt, LinksHold}
+use Rattle.sj_tool.specs.Calls.{CallAt, LinkUseAt, LinksHold}
 use Rattle.sj_tool.specs.Runs.{HasBegun}
 use Rattle.sj_tool.specs.Tasks.{Checks, HasParts, Replays, RunsParties, limit_of}
 use Rattle.sj_tool.specs.Shown.{shown}
@@ -29,8 +29,8 @@ HasItsParty (tasks.Talk n) file = n < length file.parties
 HasItsParty _ file = ⊤
 
 -- all that is left, no more than the task takes, has the text of the file, and no fault was counted; the file is accepted where the task checks
--- it, each line of a log that is replayed is the one that is due, a party that is played is there, and the links hold where parties run
-pub record IsValidFile (c : CallAt) (task : Task) (file : FileAt) (log : LogAt) : Type 0 where
+-- it, each line of a log that is replayed is the one that is due, a party that is played is there, and the links are good where parties run
+pub record IsValidFile (good : LinkUseAt → Type 0) (c : CallAt) (task : Task) (file : FileAt) (log : LogAt) : Type 0 where
   pub bytes : List ℕ
   pub left : c.left ≡ Some bytes
   pub few : length bytes ≤ limit_of task
@@ -41,13 +41,18 @@ pub record IsValidFile (c : CallAt) (task : Task) (file : FileAt) (log : LogAt) 
   pub party : HasItsParty task file
   pub no_fault : ¬ Rose c.faults c.faults_after
   pub accepted : Checks task → IsAccepted file
-  pub links : RunsParties task → LinksHold c.links
+  pub links : RunsParties task → good c.links
 
--- the words ask for the task, and the input is valid for it; nothing is asked of an input that isn't read, and the links hold where parties run
+-- the words ask for the task, and the input is valid for it; nothing is asked of an input that isn't read, and the links are good where
+-- parties run
+abbrev pub IsValidOver : (good : LinkUseAt → Type 0) → CallAt → Task → FileAt → (log : LogAt) → Type 0
+IsValidOver good c (tasks.Make n) file log = Asks c.words (tasks.Make n)
+IsValidOver good c (tasks.Big n) file log = Asks c.words (tasks.Big n) × good c.links
+IsValidOver good c task file log = Asks c.words task × IsValidFile good c task file log
+
+-- so it is over links that hold
 abbrev pub IsValid : CallAt → Task → FileAt → (log : LogAt) → Type 0
-IsValid c (tasks.Make n) file log = Asks c.words (tasks.Make n)
-IsValid c (tasks.Big n) file log = Asks c.words (tasks.Big n) × LinksHold c.links
-IsValid c task file log = Asks c.words task × IsValidFile c task file log
+IsValid c task file log = IsValidOver LinksHold c task file log
 
 -- the status is the verdict of the file's end, and its transcript comes first; nothing else comes but where the log is asked for
 pub record TellsEnd (log : Bool) (file : FileAt) (status : ℕ) (text : List ℕ) : Type 0 where

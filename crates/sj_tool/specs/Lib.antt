@@ -3,14 +3,15 @@ pub mod AnswerAt
 pub mod Answers
 pub mod Calls
 pub mod Completeness
-pub mod Damages
 pub mod Entries
 pub mod ForestTexts
 pub mod Forwards
 pub mod Headline
 pub mod Layers
+pub mod LayersOver
 pub mod LogAt
 pub mod Outcomes
+pub mod Over
 pub mod Replays
 pub mod Runs
 pub mod Shown

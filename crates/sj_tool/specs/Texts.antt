@@ -1,5 +1,5 @@
 -- The status and the text of each answer.
-use Rattle.std.specs.Prelude.{ℕ, List, [], ◌∷◌, ◌++◌, codes, decimal, length}
+use Rattle.std.specs.Prelude.{◌≡◌, ℕ, List, [], ◌∷◌, ◌++◌, codes, decimal, length, ⊤}
 use Rattle.sj_lang.specs.FileAt.{FileAt}
 use Rattle.sj_grammar.specs.declared.tokens.Rule.{Rule}
 use Rattle.sj_grammar.specs.declared.tokens.Rule.TheVariants.{P1, P2, P3, P4, P5}
@@ -42,6 +42,17 @@ status_of (Damaged text) = 9
 status_of (Ran verdict text) = verdict_status verdict
 status_of (Printed text) = 0
 status_of (Made text) = 0
+
+-- the answer stands below the row of the size: where the task reads, the source was read to its end
+abbrev pub IsReadWhole : AnswerAt → Type 0
+IsReadWhole Usage = ⊥
+IsReadWhole ReadFault = ⊥
+IsReadWhole TooLarge = ⊥
+IsReadWhole _ = ⊤
+
+-- the status of such an answer
+abbrev pub IsBelowSize : ℕ → Type 0
+IsBelowSize status = (a : AnswerAt) × (status ≡ status_of a) × IsReadWhole a
 
 -- which rule is broken, of files or of logs, and on which line
 abbrev pub rule_line : (kind letter : List ℕ) → (rule line : ℕ) → List ℕ

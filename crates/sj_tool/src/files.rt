@@ -8,10 +8,10 @@ ghost use Rattle.sj_print.specs.Version.{IsVersion};
 ghost use Rattle.sj_tool.specs.AnswerAt.{answer_at};
 ghost use Rattle.sj_tool.specs.Answers.{AnswersFile};
 ghost use Rattle.sj_tool.specs.Calls.{LinkUseAt, link_use};
-ghost use Rattle.sj_tool.specs.Damages.{IsDamageOfFile};
 ghost use Rattle.sj_tool.specs.Entries.{IsToldSo};
-ghost use Rattle.sj_tool.specs.Tasks.{Replays as IsReplay, RunsParties, looks_of};
+ghost use Rattle.sj_tool.specs.Tasks.{Replays as IsReplay, RunsParties};
 ghost use Rattle.sj_tool.specs.Outcomes.{IsJudged};
+ghost use Rattle.sj_tool.specs.LayersOver.{ComesOfFile};
 ghost use Rattle.sj_tool.specs.Replays.{IsToldFault};
 
 use crate::answers::Answer;
@@ -126,8 +126,8 @@ pub(crate) fn ran_by_links<R: Threads + Sync, L: Links, G: Gate>(
     requires runs { RunsParties task }
     ensures answer { IfOk result (λ a. (log : LogAt)
         → AnswersFile (link_use L.Links links.old links.new) task log (file_of file) (answer_at a)) }
-    ensures damage { IfOk result (λ a. IsDamageOfFile L.Out.OutLane L.In.InLane L.joined (L.tells links.old)
-        (file_of file) (looks_of task) (answer_at a)) }
+    ensures over { IfOk result (λ a. ComesOfFile L.Out.OutLane L.In.InLane L.joined
+        (link_use L.Links links.old links.new) task (file_of file) (answer_at a)) }
 {
     let accepted = match judge(alloc, file)? {
         Judged::Accepted(accepted) => accepted,

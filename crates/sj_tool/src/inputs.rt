@@ -4,11 +4,12 @@ ghost use Rattle.sj_generator.specs.Generated.{generated};
 ghost use Rattle.sj_tool.specs.AnswerAt.{answer_at};
 ghost use Rattle.sj_tool.specs.Answers.{IsInTable};
 ghost use Rattle.sj_tool.specs.Layers.{AnswersBytes, AnswersText};
+ghost use Rattle.sj_tool.specs.LayersOver.{ComesIn, ComesOf};
 ghost use Rattle.sj_tool.specs.Calls.{call, link_use};
-ghost use Rattle.sj_tool.specs.Damages.{IsDamageIn, IsDamageOf};
 ghost use Rattle.sj_tool.specs.LogAt.{log_at};
 ghost use Rattle.sj_tool.specs.TalkParts.{HasNoTalk, IsTalk};
-ghost use Rattle.sj_tool.specs.Tasks.{Takes, limit_of};
+ghost use Rattle.sj_tool.specs.Tasks.{AsksFor, Reads, RunsParties, Takes, limit_of};
+ghost use Rattle.sj_tool.specs.Texts.{IsReadWhole};
 ghost use Rattle.sj_print.specs.Version.{IsVersion};
 ghost use Rattle.sj_lang.specs.Limits.{file_limit, source_limit};
 
@@ -44,8 +45,13 @@ pub(crate) fn answer_to<R: Threads + Sync, S: Source, L: Links, G: Gate>(
 ) -> Result<Answer, NoMemory>
     ensures answer { IfOk result (λ a. IsInTable
         (call S.Source L.Links words.now src.old src.new links.old links.new) (answer_at a)) }
-    ensures damage { IfOk result (λ a. IsDamageOf L.Out.OutLane L.In.InLane L.joined (L.tells links.old)
+    ensures over { IfOk result (λ a. ComesOf L.Out.OutLane L.In.InLane L.joined
         (call S.Source L.Links words.now src.old src.new links.old links.new) (answer_at a)) }
+    ensures ended { IfOk result (λ a. IsReadWhole (answer_at a)
+        → AsksFor Reads (call S.Source L.Links words.now src.old src.new links.old links.new)
+        → S.has_ended src.new) }
+    ensures unused { (AsksFor RunsParties (call S.Source L.Links words.now src.old src.new links.old links.new) → ⊥)
+        → links.new ≡ links.old }
 {
     let Some(task) = task_in(alloc, words)? else {
         return Ok(Answer::Usage);
@@ -97,8 +103,9 @@ fn answer_to_bytes<R: Threads + Sync, L: Links, G: Gate>(
     requires few { length bytes.now ≤ limit_of task }
     requires takes { Takes task }
     ensures answer { IfOk result (λ a. AnswersBytes (link_use L.Links links.old links.new) task bytes.now (answer_at a)) }
-    ensures damage { IfOk result (λ a. IsDamageIn L.Out.OutLane L.In.InLane L.joined (L.tells links.old)
-        task bytes.now (answer_at a)) }
+    ensures over { IfOk result (λ a. ComesIn L.Out.OutLane L.In.InLane L.joined
+        (link_use L.Links links.old links.new) task bytes.now (answer_at a)) }
+    ensures unused { (RunsParties task → ⊥) → links.new ≡ links.old }
 {
     match task {
         Task::Replay { .. } => {
@@ -157,8 +164,9 @@ fn answer_to_text<R: Threads + Sync, L: Links, G: Gate>(
     requires takes { Takes task }
     ensures answer { IfOk result (λ a. AnswersText (link_use L.Links links.old links.new)
         task (log_at version log.now) text.now (answer_at a)) }
-    ensures damage { IfOk result (λ a. IsDamageIn L.Out.OutLane L.In.InLane L.joined (L.tells links.old)
-        task text.now (answer_at a)) }
+    ensures over { IfOk result (λ a. ComesIn L.Out.OutLane L.In.InLane L.joined
+        (link_use L.Links links.old links.new) task text.now (answer_at a)) }
+    ensures unused { (RunsParties task → ⊥) → links.new ≡ links.old }
 {
     let file = match parse_file(alloc, text) {
         Ok(file) => file,

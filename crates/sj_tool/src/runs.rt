@@ -8,8 +8,10 @@ ghost use Rattle.sj_run.specs.Damage.{IsDamaged};
 ghost use Rattle.sj_run.specs.Refusals.{IsDamagedOver};
 ghost use Rattle.sj_tool.specs.LogAt.{LogAt};
 ghost use Rattle.sj_tool.specs.Calls.{link_use};
+ghost use Rattle.sj_tool.specs.LayersOver.{HasHistoryOver};
+ghost use Rattle.sj_tool.specs.Over.{HasRunOver};
 ghost use Rattle.sj_tool.specs.Tasks.{RunsParties, looks_of};
-ghost use Rattle.sj_tool.specs.Runs.{HasHistory, HasRun};
+ghost use Rattle.sj_tool.specs.Runs.{HasRun};
 
 use crate::plays::tell;
 use sj_check::Accepted;
@@ -38,6 +40,9 @@ pub(crate) fn run_file<R: Threads + Sync, L: Links, G: Gate>(
     requires { RunsParties task }
     ensures ran { IfOk result (λ p. (log : LogAt)
         → HasRun (link_use L.Links links.old links.new) task log (file_of (file_in accepted.now)) p.0 p.1.items) }
+    ensures over { IfOk result (λ p. (log : LogAt)
+        → HasRunOver L.Out.OutLane L.In.InLane L.joined (link_use L.Links links.old links.new)
+        task log (file_of (file_in accepted.now)) p.0 p.1.items) }
     ensures link_fault { result ≡ Err RunRefusal.LinkFault → Rose (L.faults links.old) (L.faults links.new) }
     ensures damaged { IfErr result (IsDamagedOver L.Out.OutLane L.In.InLane L.joined
         (file_of (file_in accepted.now)) (looks_of task) (L.tells links.old)) }
@@ -58,9 +63,9 @@ fn drain_world<R: Threads + Sync, L: Links, G: Gate>(
     gate: &G,
 ) -> Result<World, RunRefusal>
     requires { RunsParties task }
-    ensures has { IfOk result (λ w. (log : LogAt)
-        → HasHistory (link_use L.Links links.old links.new) task log (file_of (file_in accepted.now))
-        (history_of w) (world_at w)) }
+    ensures over { IfOk result (λ w. (log : LogAt)
+        → HasHistoryOver L.Out.OutLane L.In.InLane L.joined (link_use L.Links links.old links.new)
+        task log (file_of (file_in accepted.now)) (history_of w) (world_at w)) }
     ensures link_fault { result ≡ Err RunRefusal.LinkFault → Rose (L.faults links.old) (L.faults links.new) }
     ensures damaged { IfErr result (IsDamagedOver L.Out.OutLane L.In.InLane L.joined
         (file_of (file_in accepted.now)) (looks_of task) (L.tells links.old)) }

@@ -1,20 +1,20 @@
 //! The top call: from the words and the input to the output.
-ghost use Rattle.std.specs.Prelude.{◌≡◌, IfSome, true, ℕ, List};
+ghost use Rattle.std.specs.Prelude.{◌≡◌, ◌⊎◌, IfSome, true, ℕ, List};
 ghost use Rattle.sj_base.specs.Stream.{Rose};
 ghost use Rattle.sj_lane.specs.Told as lanes;
 ghost use Rattle.sj_lang.specs.FileAt.{FileAt};
 ghost use Rattle.sj_command.specs.declared.tasks.Task.{Task as AnyTask};
 ghost use Rattle.sj_tool.specs.AnswerAt.{AnswerAt, ReadFault, LinkFault, Damaged};
 ghost use Rattle.sj_tool.specs.Answers.{AnswersOne, IsInTable, OrYields, WroteFront};
-ghost use Rattle.sj_tool.specs.Calls.{call};
-ghost use Rattle.sj_tool.specs.Completeness.{CompletesSo, IsValid};
-ghost use Rattle.sj_tool.specs.Damages.{WritesDamage};
+ghost use Rattle.sj_tool.specs.Calls.{CountNone, call};
+ghost use Rattle.sj_tool.specs.Completeness.{CompletesSo, IsValid, IsValidOver};
 ghost use Rattle.sj_tool.specs.Headline.{HasHeadline, IsForwarding, IsPlaying, IsVerdict, ReadsNoForest, WritesForwarded};
 ghost use Rattle.sj_tool.specs.LogAt.{LogAt};
-ghost use Rattle.sj_tool.specs.Tasks.{AsksFor};
+ghost use Rattle.sj_tool.specs.Over.{WritesDamage, WritesRun};
+ghost use Rattle.sj_tool.specs.Tasks.{AsksFor, Reads, RunsParties};
 ghost use Rattle.sj_tool.specs.Table.{AnswersAs, NoFaultAbove};
 ghost use Rattle.sj_semantics.specs.declared.Verdict.TheVariants.{Blocked};
-ghost use Rattle.sj_tool.specs.Texts.{no_memory_status, status_of, verdict_status, write_fault_status};
+ghost use Rattle.sj_tool.specs.Texts.{IsBelowSize, no_memory_status, status_of, verdict_status, write_fault_status};
 
 use crate::inputs::answer_to;
 use sj_base::{NoMemory, Sink, Source, WriteFault, write_all_of};
@@ -34,7 +34,7 @@ const NO_MEMORY: u8 = 11;
 ///
 /// `run` runs the parties of a file over the links, each on a thread of its own where the runtime gives
 /// one, and shows each event of theirs to the gate. `run --forward` runs them on the caller's thread.
-#[tactic(auto, using(crate::proofs::HeadlineOfAnswers::no_blocked, crate::proofs::HeadlineOfAnswers::no_headline, crate::proofs::ForwardAnswers::no_forwarded))]
+#[tactic(auto, using(crate::proofs::HeadlineOfAnswers::no_blocked, crate::proofs::HeadlineOfAnswers::no_headline, crate::proofs::ForwardAnswers::no_forwarded, crate::proofs::OverAnswers::no_run))]
 pub fn sj<R: Threads + Sync, S: Source, K: Sink, L: Links, G: Gate>(
     rt: &R,
     alloc: Global,
@@ -85,11 +85,36 @@ pub fn sj<R: Threads + Sync, S: Source, K: Sink, L: Links, G: Gate>(
     ensures link_fault { result ≡ status_of LinkFault → lanes.Rose (L.faults links.old) (L.faults links.new) }
     ensures damaged { (text : List ℕ) → result ≡ status_of (Damaged text) → L.tells links.old ≡ true → ⊥ }
 
-    // What is told of damage is in what workers left that worked over lanes of these links.
+    // What is reported of damage is in what workers left that worked over lanes of these links, which didn't
+    // carry in order and unchanged. The history of `run` and `big` with 0, 6 or 7 begins with the joined logs
+    // of such workers, of which none stopped at a fault, out of memory or as unfit.
     ensures damage { (text : List ℕ) → result ≡ status_of (Damaged text)
-        → WritesDamage L.Out.OutLane L.In.InLane L.joined (L.tells links.old)
+        → WritesDamage L.Out.OutLane L.In.InLane L.joined
         (call S.Source L.Links words.now src.old src.new links.old links.new)
         (K.written out.old) (K.written out.new) }
+    ensures ran { IsVerdict result
+        → AsksFor RunsParties (call S.Source L.Links words.now src.old src.new links.old links.new)
+        → WritesRun L.Out.OutLane L.In.InLane L.joined
+        (call S.Source L.Links words.now src.old src.new links.old links.new) result
+        (K.written out.old) (K.written out.new) }
+
+    // An input that is valid for the task, over links that counted no fault, whether they tell or not, is
+    // answered as the task asks, or by such damage: so as the task asks where the links carried in order
+    // and unchanged.
+    ensures in_order { (task : AnyTask) → (file : FileAt) → (log : LogAt)
+        → IsValidOver CountNone (call S.Source L.Links words.now src.old src.new links.old links.new) task file log
+        → OrYields result (CompletesSo task file log result (K.written out.old) (K.written out.new)
+        ⊎ WritesDamage L.Out.OutLane L.In.InLane L.joined
+        (call S.Source L.Links words.now src.old src.new links.old links.new)
+        (K.written out.old) (K.written out.new)) }
+
+    // Links over which nothing is run stay as they are.
+    ensures unused { (AsksFor RunsParties (call S.Source L.Links words.now src.old src.new links.old links.new) → ⊥)
+        → links.new ≡ links.old }
+
+    // A task that reads has read the source to its end, unless a read failed or too much came.
+    ensures ended { AsksFor Reads (call S.Source L.Links words.now src.old src.new links.old links.new)
+        → IsBelowSize result → S.has_ended src.new }
 
     // A write fault comes only where one was counted.
     ensures write_fault { result ≡ write_fault_status → Rose (K.faults out.old) (K.faults out.new) }

@@ -7,12 +7,14 @@ use Rattle.sj_lang.specs.FileView.{file_of}
 use Rattle.sj_tool.specs.AnswerAt.{answer_at}
 use Rattle.sj_tool.specs.Answers.{AnswersFile}
 use Rattle.sj_tool.specs.Calls.{LinkUseAt, link_use}
-use Rattle.sj_tool.specs.Damages.{IsDamageOfFile}
 use Rattle.sj_tool.specs.Entries.{IsToldSo}
+use Rattle.sj_tool.specs.LogAt.{LogAt}
 use Rattle.sj_tool.specs.Outcomes.{IsJudged}
+use Rattle.sj_tool.specs.LayersOver.{ComesOfFile}
+use Rattle.sj_tool.specs.Over.{HasRunOver}
 use Rattle.sj_tool.specs.Tasks.{looks_of}
-use Rattle.sj_tool.proofs.DamageAnswers.{told_damage}
 use Rattle.sj_tool.proofs.FileAnswers.{told_answers}
+use Rattle.sj_tool.proofs.OverAnswers.{told_damage}
 use Rattle.sj_tool.proofs.files.ran_by_links.Goals as goal
 
 pub returns-clause-answer : goal.returns-clause-answer
@@ -27,10 +29,17 @@ returns-clause-answer g c log =
     (damaged_so g.L.Out.OutLane g.L.In.InLane g.L.Links.joined (file_of (file_in c.in-Accepted.accepted)) (looks_of c.args.task) (g.L.Links.tells c.args.links.now) c.in-Err.refusal c.in-Err.ensures.damaged) c.in-Err.ensures.telling
     (subst (λ (f : FileAt). IsToldSo f c.in-Err.refusal (answer_at c.in_ok-answer-in-Err.answer)) (ap file_of c.file.ensures.value) c.in_ok-answer-in-Err.ensures))
 
-pub returns-clause-damage : goal.returns-clause-damage
-returns-clause-damage g c =
+pub returns-in-Ok-clause-over : goal.returns-in-Ok-clause-over
+returns-in-Ok-clause-over g c =
+    let links : LinkUseAt = link_use g.L.Links c.args.links.now c.run_file.new.links in
     let judged = subst (λ j. IsJudged c.args.file j) c.in-Accepted.is c.in_ok-accepted.ensures in
-    subst (λ (f : FileAt). IsDamageOfFile g.L.Out.OutLane g.L.In.InLane g.L.Links.joined (g.L.Links.tells c.args.links.now) f (looks_of c.args.task) (answer_at c.in_ok-answer-in-Err.answer)) (ap file_of judged.0)
-    (told_damage g.L.Out.OutLane g.L.In.InLane g.L.Links.joined (g.L.Links.tells c.args.links.now) (file_of (file_in c.in-Accepted.accepted)) (looks_of c.args.task) c.in-Err.refusal (answer_at c.in_ok-answer-in-Err.answer)
+    subst (λ (f : FileAt). (log : LogAt) → HasRunOver g.L.Out.OutLane g.L.In.InLane g.L.Links.joined links c.args.task log f c.in-Ok.verdict c.in-Ok.text.items) (ap file_of judged.0) c.in-Ok.ensures.over
+
+pub returns-clause-over : goal.returns-clause-over
+returns-clause-over g c =
+    let links : LinkUseAt = link_use g.L.Links c.args.links.now c.run_file.new.links in
+    let judged = subst (λ j. IsJudged c.args.file j) c.in-Accepted.is c.in_ok-accepted.ensures in
+    subst (λ (f : FileAt). ComesOfFile g.L.Out.OutLane g.L.In.InLane g.L.Links.joined links c.args.task f (answer_at c.in_ok-answer-in-Err.answer)) (ap file_of judged.0)
+    (told_damage g.L.Out.OutLane g.L.In.InLane g.L.Links.joined links c.args.task (file_of (file_in c.in-Accepted.accepted)) c.in-Err.refusal (answer_at c.in_ok-answer-in-Err.answer)
     c.in-Err.ensures.damaged
     (subst (λ (f : FileAt). IsToldSo f c.in-Err.refusal (answer_at c.in_ok-answer-in-Err.answer)) (ap file_of c.file.ensures.value) c.in_ok-answer-in-Err.ensures))

@@ -4,9 +4,9 @@ use Rattle.sj_tool.specs.AnswerAt.{answer_at}
 use Rattle.sj_tool.specs.LogAt.{LogAt, log_at, no_log}
 use Rattle.sj_tool.specs.Calls.{LinkUseAt, link_use}
 use Rattle.sj_tool.specs.Tasks.{HasParts, IsPartedFor, RunsParties}
-use Rattle.sj_tool.proofs.DamageAnswers.{part_damage}
 use Rattle.sj_tool.proofs.FileAnswers.{answers_bytes}
 use Rattle.sj_tool.proofs.InputLemmas.{whole_parts}
+use Rattle.sj_tool.proofs.OverAnswers.{part_comes}
 use Rattle.sj_tool.proofs.inputs.answer_to_bytes.Goals as goal
 use Rattle.sj_lang.specs.Limits.{file_limit}
 
@@ -52,12 +52,12 @@ returns-in_ok-answer-in_default-clause-answer g c =
     let bytes = c.args.bytes.now in
     answers_bytes links c.args.task bytes bytes no_log (answer_at c.in_ok-answer-in_default.answer) (whole_parts c.args.task bytes c.in_default.not-Replay c.in_default.not-Talk) c.in_ok-answer-in_default.ensures.answer
 
-pub returns-in_ok-answer-in-Replay-clause-damage : goal.returns-in_ok-answer-in-Replay-clause-damage
-returns-in_ok-answer-in-Replay-clause-damage g c =
-    part_damage g.L.Out.OutLane g.L.In.InLane g.L.Links.joined (g.L.Links.tells c.args.links.now) c.args.task c.args.bytes.now c.in-Some.text.now (answer_at c.in_ok-answer-in-Replay.answer)
-    (λ runs. subst (λ (t : Task). RunsParties t) c.in-Replay.is runs) c.in_ok-answer-in-Replay.ensures.damage
+pub returns-in_ok-answer-in-Replay-clause-over : goal.returns-in_ok-answer-in-Replay-clause-over
+returns-in_ok-answer-in-Replay-clause-over g c =
+    part_comes g.L.Out.OutLane g.L.In.InLane g.L.Links.joined (link_use g.L.Links c.args.links.now c.answer_to_text.new.links) c.args.task c.args.bytes.now c.in-Some.text.now (answer_at c.in_ok-answer-in-Replay.answer)
+    (λ runs. subst (λ (t : Task). RunsParties t) c.in-Replay.is runs) c.in_ok-answer-in-Replay.ensures.over
 
-pub returns-in_ok-answer-in-Talk-clause-damage : goal.returns-in_ok-answer-in-Talk-clause-damage
-returns-in_ok-answer-in-Talk-clause-damage g c =
-    part_damage g.L.Out.OutLane g.L.In.InLane g.L.Links.joined (g.L.Links.tells c.args.links.now) c.args.task c.args.bytes.now c.in-Some-parted_talk.text.now (answer_at c.in_ok-answer-in-Talk.answer)
-    (λ runs. subst (λ (t : Task). RunsParties t) c.in-Talk.is runs) c.in_ok-answer-in-Talk.ensures.damage
+pub returns-in_ok-answer-in-Talk-clause-over : goal.returns-in_ok-answer-in-Talk-clause-over
+returns-in_ok-answer-in-Talk-clause-over g c =
+    part_comes g.L.Out.OutLane g.L.In.InLane g.L.Links.joined (link_use g.L.Links c.args.links.now c.answer_to_text-in-Talk.new.links) c.args.task c.args.bytes.now c.in-Some-parted_talk.text.now (answer_at c.in_ok-answer-in-Talk.answer)
+    (λ runs. subst (λ (t : Task). RunsParties t) c.in-Talk.is runs) c.in_ok-answer-in-Talk.ensures.over
