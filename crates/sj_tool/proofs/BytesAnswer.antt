@@ -10,8 +10,8 @@ use Rattle.sj_tool.specs.Calls.{LinkUseAt}
 use Rattle.sj_tool.specs.Tasks.{HasLongText, HasParts, HasTail, IsPartedFor, Replays as IsReplay, Takes, Talks}
 use Rattle.sj_tool.specs.TalkParts.{HasNoTalk, IsTalk}
 use Rattle.sj_tool.proofs.InputLemmas.{long_tail, one_part, one_parted}
-use Rattle.sj_tool.proofs.OneAnswer.{HoldsFor, one_of_text}
-use Rattle.sj_tool.proofs.ToldOnce.{AreToldOnce, same_told, told}
+use Rattle.sj_tool.proofs.OneAnswer.{AreTextLogs, HoldsFor, one_of_text}
+use Rattle.sj_tool.proofs.ToldOnce.{AreToldOnce, same_told, told, told_over}
 use Rattle.sj_lang.specs.Limits.{file_limit}
 
 -- what of the bytes is answered: what stands before the log or the lines is too long, no line parts them, or their parts are
@@ -69,29 +69,37 @@ pub not_unspoken : (task : Task) (bytes text : List ℕ) (log : LogAt) → Talks
 not_unspoken task bytes text log talks p none =
     none text log.bytes (talk_parted task bytes text log talks (parted_of task bytes text log (talk_tail task talks) p).0).here
 
+-- two logs are of the file whose text the bytes have
+pub record AreBytesLogs (links : LinkUseAt) (task : Task) (bytes s t : List ℕ) : Type 0 where
+  pub text : List ℕ
+  pub log : LogAt
+  pub parts : HasParts task bytes text log
+  pub logs : AreTextLogs links task log text s t
+
 module _ (links : LinkUseAt) (task : Task) (bytes : List ℕ) (a b : AnswerAt) where
-  one_of_kind : Kind links task bytes a → Kind links task bytes b → HoldsFor links task b → AreToldOnce task (told a) (told b)
-  one_of_kind (long e x) (long d y) h = same_told task (told a) (told b) (ap told (e ∙ sym d))
+  one_of_kind : Kind links task bytes a → Kind links task bytes b → HoldsFor links task b → AreToldOnce (AreBytesLogs links task bytes) (told a) (told b)
+  one_of_kind (long e x) (long d y) h = same_told (AreBytesLogs links task bytes) (told a) (told b) (ap told (e ∙ sym d))
   one_of_kind (long e x) (misses d replays none) h = absurd (none x.text x.log.version x.log.bytes (replay_parted task bytes x.text x.log replays x.parts).here)
   one_of_kind (long e x) (unspoken d talks none) h = absurd (none x.text x.log.bytes (talk_parted task bytes x.text x.log talks x.parts).here)
   one_of_kind (long e x) (parts q) h = absurd (not_long task bytes q.text q.log q.parts x)
   one_of_kind (misses e replays none) (long d y) h = absurd (none y.text y.log.version y.log.bytes (replay_parted task bytes y.text y.log replays y.parts).here)
-  one_of_kind (misses e replays none) (misses d again other) h = same_told task (told a) (told b) (ap told (e ∙ sym d))
+  one_of_kind (misses e replays none) (misses d again other) h = same_told (AreBytesLogs links task bytes) (told a) (told b) (ap told (e ∙ sym d))
   one_of_kind (misses e replays none) (unspoken d talks other) h = absurd (replays_no_talk task replays talks)
   one_of_kind (misses e replays none) (parts q) h = absurd (not_missed task bytes q.text q.log replays q.parts none)
   one_of_kind (unspoken e talks none) (long d y) h = absurd (none y.text y.log.bytes (talk_parted task bytes y.text y.log talks y.parts).here)
   one_of_kind (unspoken e talks none) (misses d replays other) h = absurd (replays_no_talk task replays talks)
-  one_of_kind (unspoken e talks none) (unspoken d again other) h = same_told task (told a) (told b) (ap told (e ∙ sym d))
+  one_of_kind (unspoken e talks none) (unspoken d again other) h = same_told (AreBytesLogs links task bytes) (told a) (told b) (ap told (e ∙ sym d))
   one_of_kind (unspoken e talks none) (parts q) h = absurd (not_unspoken task bytes q.text q.log talks q.parts none)
   one_of_kind (parts p) (long d y) h = absurd (not_long task bytes p.text p.log p.parts y)
   one_of_kind (parts p) (misses d replays none) h = absurd (not_missed task bytes p.text p.log replays p.parts none)
   one_of_kind (parts p) (unspoken d talks none) h = absurd (not_unspoken task bytes p.text p.log talks p.parts none)
   one_of_kind (parts p) (parts q) h =
       let same = one_part task bytes q.text q.log p.text p.log q.parts p.parts in
-      one_of_text links task p.log p.text a b p.answers
-      (subst (λ (l : LogAt). AnswersText links task l p.text b) same.1 (subst (λ (t : List ℕ). AnswersText links task q.log t b) same.0 q.answers)) h
+      told_over (AreTextLogs links task p.log p.text) (AreBytesLogs links task bytes) (λ s t logs. record { text = p.text; log = p.log; parts = p.parts; logs = logs }) (told a) (told b)
+      (one_of_text links task p.log p.text a b p.answers
+      (subst (λ (l : LogAt). AnswersText links task l p.text b) same.1 (subst (λ (t : List ℕ). AnswersText links task q.log t b) same.0 q.answers)) h)
 
-  pub one_of_bytes : AnswersBytes links task bytes a → AnswersBytes links task bytes b → HoldsFor links task b → AreToldOnce task (told a) (told b)
+  pub one_of_bytes : AnswersBytes links task bytes a → AnswersBytes links task bytes b → HoldsFor links task b → AreToldOnce (AreBytesLogs links task bytes) (told a) (told b)
   one_of_bytes x y h = one_of_kind (kind_of links task bytes a x) (kind_of links task bytes b y) h
 
 -- ---- a task whose bytes are answered takes a file

@@ -6,6 +6,7 @@ use Rattle.sj_lang.specs.Limits.{limits}
 use Rattle.sj_grammar.specs.Positions.{start}
 use Rattle.sj_grammar.specs.FileDues.{file_layer, file_due}
 use Rattle.sj_grammar.specs.Faults.{Stuck}
+use Rattle.sj_grammar.specs.Files.{IsFile}
 use Rattle.sj_acceptance_laws.proofs.FileLaws.{accepted_to}
 use Rattle.sj_party.proofs.OneFile.{one_file}
 use Rattle.sj_party.proofs.Faultless.{no_fault}
@@ -22,7 +23,8 @@ use Rattle.sj_tool.specs.Runs.{Prints}
 use Rattle.sj_tool.specs.Calls.{LinkUseAt, LinksHold}
 use Rattle.sj_tool.specs.Tasks.{Replays as IsReplay, RunsParties}
 use Rattle.sj_tool.proofs.OneFault.{one_fault}
-use Rattle.sj_tool.proofs.ToldOnce.{AreToldOnce, same_told, told, told_once}
+use Rattle.sj_tool.specs.Table.{AreLogs}
+use Rattle.sj_tool.proofs.ToldOnce.{AreOfFile, AreToldOnce, same_told, told, told_once, told_over}
 use Rattle.sj_tool.proofs.FileTold.{IsUnhurt, file_told}
 
 -- where the links hold for the parties that run, or the answer tells of no run
@@ -64,11 +66,11 @@ module _ (links : LinkUseAt) (task : Task) (log : LogAt) (file : FileAt) where
   beside ok runs off (Printed t) y h = prints_no_run task file t runs y
   beside ok runs off b y h = y
 
-  told_of : (a b : AnswerAt) → IsUnhurt a → AnswersFile links task log file a → AnswersFile links task log file b → HoldsFor links task b → AreToldOnce task (told a) (told b)
+  told_of : (a b : AnswerAt) → IsUnhurt a → AnswersFile links task log file a → AnswersFile links task log file b → HoldsFor links task b → AreOfFile links log file task (told a) (told b)
   told_of a b u x y h =
       told_once links log file (told a) (told b) task (first_fault (tests_of file)) (file_told links task log file a u x) (file_told links task log file b (unhurt links task b h) y)
 
-  one_of_file : (a b : AnswerAt) → AnswersFile links task log file a → AnswersFile links task log file b → HoldsFor links task b → AreToldOnce task (told a) (told b)
+  one_of_file : (a b : AnswerAt) → AnswersFile links task log file a → AnswersFile links task log file b → HoldsFor links task b → AreOfFile links log file task (told a) (told b)
   one_of_file Usage b x y h = absurd x
   one_of_file ReadFault b x y h = absurd x
   one_of_file TooLarge b x y h = absurd x
@@ -87,14 +89,21 @@ pub either : (links : LinkUseAt) (task : Task) (log : LogAt) (text : List ℕ) (
 either links task log text (Syntax f) x = inl (f, refl, x.1)
 either links task log text a x = inr x
 
+-- two logs are of the file for which the text stands
+pub record AreTextLogs (links : LinkUseAt) (task : Task) (log : LogAt) (text s t : List ℕ) : Type 0 where
+  pub file : FileAt
+  pub stands : IsFile text file
+  pub logs : AreLogs links task log file s t
+
 -- a text has one answer
-pub one_of_text : (links : LinkUseAt) (task : Task) (log : LogAt) (text : List ℕ) (a b : AnswerAt) → AnswersText links task log text a → AnswersText links task log text b → HoldsFor links task b → AreToldOnce task (told a) (told b)
+pub one_of_text : (links : LinkUseAt) (task : Task) (log : LogAt) (text : List ℕ) (a b : AnswerAt) → AnswersText links task log text a → AnswersText links task log text b → HoldsFor links task b → AreToldOnce (AreTextLogs links task log text) (told a) (told b)
 one_of_text links task log text a b x y h = by_kind (either links task log text a x) (either links task log text b y)
   where
-    by_kind : IsEither links task log text a → IsEither links task log text b → AreToldOnce task (told a) (told b)
-    by_kind (inl (f, e, s)) (inl (g, d, t)) = same_told task (told a) (told b) (ap told (e ∙ ap (λ h. Syntax h) (one_fault text f g s t) ∙ sym d))
+    by_kind : IsEither links task log text a → IsEither links task log text b → AreToldOnce (AreTextLogs links task log text) (told a) (told b)
+    by_kind (inl (f, e, s)) (inl (g, d, t)) = same_told (AreTextLogs links task log text) (told a) (told b) (ap told (e ∙ ap (λ h. Syntax h) (one_fault text f g s t) ∙ sym d))
     by_kind (inl (f, e, s)) (inr y) = absurd (no_fault text y.file f y.stands s)
     by_kind (inr x) (inl (g, d, t)) = absurd (no_fault text x.file g x.stands t)
     by_kind (inr x) (inr y) =
         let second = subst (λ (f : FileAt). AnswersFile links task log f b) (one_file text y.file x.file y.stands x.stands) y.answers in
-        one_of_file links task log x.file a b x.answers second h
+        told_over (AreLogs links task log x.file) (AreTextLogs links task log text) (λ s t logs. record { file = x.file; stands = x.stands; logs = logs }) (told a) (told b)
+        (one_of_file links task log x.file a b x.answers second h)

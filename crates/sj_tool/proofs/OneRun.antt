@@ -1,6 +1,6 @@
 -- A file is run in one way: by a log whole, by its parties up to their history.
 use Rattle.std.proofs.Common.{◌≡◌, ◌⊎◌, ◌∙◌, ℕ, max, true, false, List, ◌++◌, Result, Ok, length, map, inl, inr, ap, ap₂, refl, sym, subst}
-use Rattle.std.specs.Prelude.{Bool}
+use Rattle.std.specs.Prelude.{Bool, Option}
 use Rattle.std.proofs.lemmas.List.{map-append}
 use Rattle.sj_lang.specs.FileAt.{FileAt}
 use Rattle.sj_lang.specs.Place.{Place}
@@ -21,7 +21,7 @@ use Rattle.sj_tool.specs.LogAt.{LogAt, Spells}
 use Rattle.sj_tool.specs.Calls.{LinkUseAt}
 use Rattle.sj_tool.specs.Tasks.{HasEvents}
 use Rattle.sj_tool.specs.Runs.{HasHistory, HasRun, run_text}
-use Rattle.sj_tool.specs.Table.{AreOneLog, LogsRun}
+use Rattle.sj_tool.specs.Table.{AreLogs, IsLogText}
 
 -- ---- a log has one history
 
@@ -59,8 +59,13 @@ one_history first second l log file history other core world x y =
 -- ---- what is printed of it
 
 -- two runs print one text, up to the history of parties where it is asked for
-abbrev pub AreAlike : Task → (v w : Verdict) (s t : List ℕ) → Type 0
-AreAlike task v w s t = (v ≡ w) × ((s ≡ t) ⊎ (LogsRun task × AreOneLog s t))
+abbrev pub AreAlike : LinkUseAt → Task → (log : LogAt) → FileAt → (v w : Verdict) (s t : List ℕ) → Type 0
+AreAlike links task log file v w s t = (v ≡ w) × ((s ≡ t) ⊎ AreLogs links task log file s t)
+
+-- a run whose history is printed has its log
+logged : (links : LinkUseAt) (looks : ℕ) (workers : Option ℕ) (log : LogAt) (file : FileAt) (v : Verdict) (s : List ℕ)
+    → HasRun links (tasks.Run true looks workers) log file v s → IsLogText links (tasks.Run true looks workers) log file s
+logged links looks workers log file v s x = record { history = x.history; core = x.core; has = x.has; is = x.told.1 }
 
 module _ (links : LinkUseAt) (log : LogAt) (file : FileAt) (v w : Verdict) (s t : List ℕ) where
   -- one verdict
@@ -69,15 +74,15 @@ module _ (links : LinkUseAt) (log : LogAt) (file : FileAt) (v w : Verdict) (s t 
 
   -- one text
   print : (task : Task) (x : HasRun links task log file v s) (y : HasRun links task log file w t)
-      → run_text task file x.history (end_of file) ≡ run_text task file y.history (end_of file) → AreAlike task v w s t
+      → run_text task file x.history (end_of file) ≡ run_text task file y.history (end_of file) → AreAlike links task log file v w s t
   print task x y same = (stand task x y, inl (x.told.1 ∙ same ∙ sym y.told.1))
 
-  pub one_run : (task : Task) → HasEvents task → HasRun links task log file v s → HasRun links task log file w t → AreAlike task v w s t
+  pub one_run : (task : Task) → HasEvents task → HasRun links task log file v s → HasRun links task log file w t → AreAlike links task log file v w s t
   one_run (tasks.Big n) h x y = print (tasks.Big n) x y refl
   one_run (tasks.Run false looks workers) h x y = print (tasks.Run false looks workers) x y refl
   one_run (tasks.Run true looks workers) h x y = (
     stand (tasks.Run true looks workers) x y,
-    inr (tt, record { file = file; first = x.history; second = y.history; first_text = x.told.1; second_text = y.told.1 }),
+    inr (record { logs = tt; first = logged links looks workers log file v s x; second = logged links looks workers log file w t y }),
   )
   one_run (tasks.Replay l) h x y =
       let same : x.history ≡ y.history = one_history links links l log file x.history y.history x.core y.core x.has y.has in

@@ -12,9 +12,9 @@ use Rattle.sj_tool.specs.Answers.{Came, IsInTable, Makes}
 use Rattle.sj_tool.specs.Layers.{AnswersBytes}
 use Rattle.sj_tool.specs.Calls.{CallAt}
 use Rattle.sj_tool.specs.Tasks.{HasInput, Reads, limit_of}
-use Rattle.sj_tool.specs.Table.{AreOne, NoFaultAbove}
+use Rattle.sj_tool.specs.Table.{AreOne, AreOneLog, NoFaultAbove}
 use Rattle.sj_tool.proofs.RowKindLemmas.{Row, words, fault, large, made, input, made_takes, no_rise, reads_takes, row_of}
-use Rattle.sj_tool.proofs.BytesAnswer.{one_of_bytes, takes_file}
+use Rattle.sj_tool.proofs.BytesAnswer.{AreBytesLogs, one_of_bytes, takes_file}
 use Rattle.sj_tool.proofs.InputAnswers.{AnswersInput}
 use Rattle.sj_tool.proofs.InputLemmas.{came_of, one_input, read_of, reads_of}
 use Rattle.sj_tool.proofs.OneAnswer.{HoldsFor}
@@ -39,17 +39,24 @@ holds_above c (Damaged t) h task asks = h
 holds_above c (Ran v t) h task asks = λ runs. h.1 (record { task = task; asks = asks; kind = runs })
 holds_above c a h task asks = tt
 
+-- logs of the file that its bytes hold are of the file that the call holds
+call_logs : (c : CallAt) (task : Task) (bytes s t : List ℕ) → Asks c.words task → HasInput c task bytes → AreBytesLogs c.links task bytes s t → AreOneLog c s t
+call_logs c task bytes s t asks given x = (
+  record { task = task; asks = asks; bytes = bytes; input = given; text = x.text; log = x.log; parts = x.parts; file = x.logs.file; stands = x.logs.stands },
+  x.logs.logs,
+)
+
 -- an input is answered in one way
 one_of_input : (c : CallAt) (left : List ℕ) → c.left ≡ Some left → (a b : AnswerAt) → AnswersInput c a → AnswersInput c b → NoFaultAbove c b → AreOne c a b
 one_of_input c left e a b x y above =
     let tasks_are : x.task ≡ y.task = one_task c.words x.task y.task x.asks y.asks in
     let same : y.bytes ≡ x.bytes =
     one_input c left e x.task y.bytes x.bytes (subst (λ (t : Task). HasInput c t y.bytes) (sym tasks_are) y.input) x.input in
-    let one : AreToldOnce x.task (told a) (told b) =
+    let one : AreToldOnce (AreBytesLogs c.links x.task x.bytes) (told a) (told b) =
     one_of_bytes c.links x.task x.bytes a b x.answers
     (subst (λ (t : Task). AnswersBytes c.links t x.bytes b) (sym tasks_are) (subst (λ (bs : List ℕ). AnswersBytes c.links y.task bs b) same y.answers))
     (holds_above c b above x.task x.asks) in
-    record { status = one.status; text = elim one.text [ inl text ↦ inl text | inr log ↦ inr (record { task = x.task; asks = x.asks; kind = log.0 }, log.1) ] }
+    record { status = one.status; text = elim one.text [ inl text ↦ inl text | inr logs ↦ inr (call_logs c x.task x.bytes (text_of a) (text_of b) x.asks x.input logs) ] }
 
 module _ (c : CallAt) (left : List ℕ) (tells : c.left ≡ Some left) where
   once : Came (λ n most. n ≤ most) c → Came (λ n most. most < n) c → ⊥

@@ -42,10 +42,7 @@ one_answer c left a b tells more well x y = by (above_or_fault c a more well x) 
       text =
           elim one.text [
             | inl text ↦ inl (sym text)
-            | inr log ↦ inr (
-              log.0,
-              record { file = log.1.file; first = log.1.second; second = log.1.first; first_text = log.1.second_text; second_text = log.1.first_text },
-            )
+            | inr log ↦ inr (log.0, record { logs = log.1.logs; first = log.1.second; second = log.1.first })
           ];
     }
 

@@ -2,20 +2,23 @@
 use Rattle.std.specs.Prelude.{◌≡◌, ◌≢◌, ◌⊎◌, ◌<◌, ◌≤◌, ◌-◌, ◌^◌, ℕ, true, List, [], ◌++◌, Option, Some, ⊤}
 use Rattle.sj_base.specs.Stream.{CameOf, Rose}
 use Rattle.sj_lang.specs.FileAt.{FileAt}
+use Rattle.sj_lang.specs.Place.{Place}
 use Rattle.sj_grammar.specs.Files.{IsFile}
 use Rattle.sj_acceptance.specs.Accepted.{IsAccepted}
 use Rattle.sj_rules.specs.Log.{LineAt}
+use Rattle.sj_rules.specs.World.{WorldAt}
+use Rattle.sj_semantics.specs.Program.{Program}
 use Rattle.sj_semantics.specs.Run.{end_of}
 use Rattle.sj_semantics.specs.Transcript.{transcript_of}
 use Rattle.sj_tool.specs.AnswerAt.{AnswerAt, Usage, ReadFault, TooLarge, LinkFault, Damaged, Ran, Made}
 use Rattle.sj_command.specs.declared.tasks.Task.{Task}
 use Rattle.sj_command.specs.declared.tasks.Task.TheVariants as tasks
 use Rattle.sj_command.specs.Task.{Asks}
-use Rattle.sj_tool.specs.Calls.{CallAt, LinksHold}
-use Rattle.sj_tool.specs.LogAt.{no_log}
+use Rattle.sj_tool.specs.Calls.{CallAt, LinkUseAt, LinksHold}
+use Rattle.sj_tool.specs.LogAt.{LogAt, no_log}
 use Rattle.sj_tool.specs.Tasks.{AsksFor, HasInput, HasTail, Reads, RunsParties, limit_of}
-use Rattle.sj_tool.specs.Answers.{Answers}
-use Rattle.sj_tool.specs.Runs.{HasBegun, log_part}
+use Rattle.sj_tool.specs.Answers.{Answers, HoldsFile}
+use Rattle.sj_tool.specs.Runs.{HasBegun, HasHistory, log_part}
 use Rattle.sj_tool.specs.Texts.{status_of, text_of}
 
 -- it prints the history of parties that ran
@@ -23,18 +26,27 @@ abbrev pub LogsRun : Task → Type 0
 LogsRun (tasks.Run true looks workers) = ⊤
 LogsRun _ = ⊥
 
--- one transcript of a file's end, and behind it two histories: in which order parties act is theirs
-pub record AreOneLog (s t : List ℕ) : Type 0 where
-  pub file : FileAt
-  pub first : List LineAt
-  pub second : List LineAt
-  pub first_text : s ≡ transcript_of file (end_of file) ++ log_part true file first
-  pub second_text : t ≡ transcript_of file (end_of file) ++ log_part true file second
+-- the text is the file's transcript, and after it the log of a history that the task has of the file, which leaves nothing to do
+pub record IsLogText (links : LinkUseAt) (task : Task) (log : LogAt) (file : FileAt) (text : List ℕ) : Type 0 where
+  pub history : List LineAt
+  pub core : WorldAt Place Program
+  pub has : HasHistory links task log file history core
+  pub is : text ≡ transcript_of file (end_of file) ++ log_part true file history
+
+-- the task prints a history of the file's parties, and both texts are such: the order in which the parties act is theirs
+pub record AreLogs (links : LinkUseAt) (task : Task) (log : LogAt) (file : FileAt) (s t : List ℕ) : Type 0 where
+  pub logs : LogsRun task
+  pub first : IsLogText links task log file s
+  pub second : IsLogText links task log file t
+
+-- so they are of the file that the call holds
+abbrev pub AreOneLog : CallAt → (s t : List ℕ) → Type 0
+AreOneLog c s t = (h : HoldsFile c) × AreLogs c.links h.task h.log h.file s t
 
 -- the two have one status and one text, up to the history where the words ask for it
 pub record AreOne (c : CallAt) (a b : AnswerAt) : Type 0 where
   pub status : status_of a ≡ status_of b
-  pub text : (text_of a ≡ text_of b) ⊎ (AsksFor LogsRun c × AreOneLog (text_of a) (text_of b))
+  pub text : (text_of a ≡ text_of b) ⊎ AreOneLog c (text_of a) (text_of b)
 
 -- an answer that is one with that one is written, and its status is answered
 pub record AnswersAs (c : CallAt) (status : ℕ) (before after : Option (List ℕ)) (a : AnswerAt) : Type 0 where
