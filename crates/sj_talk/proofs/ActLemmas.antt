@@ -1,5 +1,5 @@
 -- What an accepted line leaves of a play.
-use Rattle.std.proofs.Common.{◌≡◌, ℕ, ◌+◌, ◌<◌, false, List, [], ◌∷◌, Some, None, unwrap_or, ◌++◌, append-nil, refl, ap, sym, ◌∙◌, inl, inr}
+use Rattle.std.proofs.Common.{◌≡◌, ℕ, ◌+◌, ◌<◌, false, List, [], ◌∷◌, Some, None, unwrap_or, ◌++◌, append-nil, refl, ap, sym, ◌∙◌, inr}
 use Rattle.std.proofs.lemmas.Bool.{leb-false}
 use Rattle.std.proofs.lemmas.List.{map-append}
 use Rattle.sj_base.specs.declared.EndId.{EndId}
@@ -72,10 +72,8 @@ pub value_used : (t u v : TalkWorld) (x : List ℕ) (w : ValueAt) (m : Msg) → 
 value_used t u v x w m is noted used = used ∙ (λ i. used_by (noted i) ((end_under (noted i) x, sends (is i)) ∷ []) (noted i).ends)
 
 -- where it isn't sent then, only its text may have been put there
-pub value_noted : (t u : TalkWorld) (w : ValueAt) → u ≡ with_table t (texts_with t.file w) → OnlyTexts t u
-value_noted t u (forms.number n) h = inl h
-value_noted t u (forms.truth b) h = inl h
-value_noted t u (forms.text s) h = inr (s, h)
+pub value_noted : (t u v : TalkWorld) (w : ValueAt) → u ≡ with_table t (texts_with t.file w) → v ≡ u → OnlyTexts t (texts_with t.file w) v
+value_noted t u v w noted same = inr (same ∙ noted)
 
 pub label_used : (t v : TalkWorld) (x l : List ℕ) (n : ℕ) → n ≡ unwrap_or (label_number t.file l) 0
     → v ≡ used_by t ((end_under t x, sends (msgs.Label n)) ∷ []) t.ends → v ≡ after_form t (forms.select x l)

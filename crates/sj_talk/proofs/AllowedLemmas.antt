@@ -1,5 +1,5 @@
 -- What holds of a line that no rule refuses.
-use Rattle.std.proofs.Common.{if◌then◌else◌, ◌≡◌, ◌≢◌, ℕ, Bool, true, false, not, ◌||◌, List, [], ◌∷◌, Option, Some, None, option_map, unwrap_or, refl, ap, subst}
+use Rattle.std.proofs.Common.{if◌then◌else◌, ◌≡◌, ◌≢◌, ℕ, Bool, true, false, not, ◌||◌, List, [], ◌∷◌, Option, Some, None, option_map, unwrap_or, refl, ap, ◌∙◌, subst}
 use Rattle.std.specs.Prelude.{⊤, is_none, is_some}
 use Rattle.sj_base.specs.declared.EndId.{EndId}
 use Rattle.sj_base.specs.declared.Msg.{Msg}
@@ -11,12 +11,14 @@ use Rattle.sj_lang.specs.Meet.{StandsFor}
 use Rattle.sj_lang.specs.Place.{Choices, Place, boolean, choice, done, int, message, repeat, session, text}
 use Rattle.sj_semantics.specs.declared.Passed.{Passed}
 use Rattle.sj_semantics.specs.Balanced.{FitsNext}
-use Rattle.sj_semantics.specs.Ends.{Session, end_at}
+use Rattle.sj_semantics.specs.Ends.{Session, end_at, next_for}
 use Rattle.sj_semantics_laws.specs.Unshared.{names_end}
+use Rattle.sj_talk.specs.Doing.{message_next}
 use Rattle.sj_talk.specs.Forms as forms
 use Rattle.sj_talk.specs.Forms.{ValueAt}
 use Rattle.sj_talk.specs.Names.{message_of}
-use Rattle.sj_talk.specs.Rules.{carried_next, first_rule, is_done, is_next, offers, selects, sends_end, sends_value, takes_end, turns}
+use Rattle.sj_talk.specs.Rules.{carried_next, end_under, first_rule, is_done, is_next, offers, selects, sends_end, sends_value, takes_end, turns}
+use Rattle.sj_talk.specs.TalkWorld.{TalkWorld}
 
 -- ---- tests that don't apply
 
@@ -53,6 +55,9 @@ pub record IsThere (o : Option Passed) : Type 0 where
 pub there_by : (o : Option Passed) → is_none (option_map (λ x. x.msg) o) ≡ false → IsThere o
 there_by None h = cc
 there_by (Some x) h = record { passed = x; is = refl }
+
+pub next_is : (t : TalkWorld) (x : List ℕ) (m : Passed) → next_for t.world.sessions (end_under t x) ≡ Some m → message_next t x ≡ m.msg
+next_is t x m is = ap (λ o. unwrap_or (option_map (λ (y : Passed). y.msg) o) (msgs.More false)) is
 
 -- ---- places
 
@@ -127,3 +132,7 @@ pub record NamesEnd (zs : List Session) (kind : Place) (m : Msg) : Type 0 where
 pub names_by : (zs : List Session) (kind next : Place) (m : Msg) → FitsNext zs (message Into (session kind) next) m → NamesEnd zs kind m
 names_by zs kind next (msgs.Sess s d k) f = record { sess = s; end_side = d; keeper = k; is = refl; stands = f.1 }
 names_by zs kind next m f = absurd f
+
+-- and so is what a line takes next
+pub next_named : (t : TalkWorld) (x : List ℕ) (m : Passed) (kind : Place) → next_for t.world.sessions (end_under t x) ≡ Some m → (n : NamesEnd t.world.sessions kind m.msg) → message_next t x ≡ msgs.Sess n.sess n.end_side n.keeper
+next_named t x m kind is n = next_is t x m is ∙ n.is

@@ -1,6 +1,8 @@
 mod ActLemmas
 mod AllowedLemmas
+mod BreakLemmas
 mod CopyLemmas
+mod FitLemmas
 mod FrontLemmas
 mod GuardLemmas
 mod HeldLemmas

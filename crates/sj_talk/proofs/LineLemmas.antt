@@ -1,10 +1,9 @@
 -- What a line does, by what was found of it.
-use Rattle.std.proofs.Common.{◌≡◌, ℕ, List, Option, Some, None, ap, sym, ◌∙◌, subst, inl, inr}
-use Rattle.sj_semantics.specs.World.{World}
-use Rattle.sj_talk.specs.Doing.{after_by_rule, after_form, after_line, answer_to, said_by_rule, said_of}
+use Rattle.std.proofs.Common.{◌≡◌, ℕ, List, Option, Some, None, refl, ap, sym, ◌∙◌, subst, inl, inr}
+use Rattle.sj_talk.specs.Doing.{IsUnsaid, after_by_rule, after_form, after_line, answer_to, said_by_rule, said_of}
 use Rattle.sj_talk.specs.Forms.{FormAt, form_of}
 use Rattle.sj_talk.specs.Rules.{refusal_of}
-use Rattle.sj_talk.specs.TalkWorld.{OnlyOthers, OnlyTexts, TalkWorld, others_acted, settled_from, with_world}
+use Rattle.sj_talk.specs.TalkWorld.{OnlyOthers, OnlyTexts, TalkWorld, others_acted}
 use Rattle.sj_talk.specs.declared.said.Said.TheVariants as said
 use Rattle.sj_talk.proofs.SettledLemmas.{settled_leads}
 
@@ -24,17 +23,14 @@ line_done t line f is allowed = (
   sym (ap (λ x. after_by_rule t x (refusal_of t x)) (sym is) ∙ ap (after_by_rule t (Some f)) (sym allowed)),
 )
 
--- the others acted, and nothing else was done
-rest_is : (t u : TalkWorld) → OnlyTexts (others_acted t) u → u.world ≡ settled_from t.world
-rest_is t u (inl same) = ap (λ x. x.world) same
-rest_is t u (inr noted) = ap (λ x. x.world) noted.1
+-- the others acted until none can
+pub all_others : (t : TalkWorld) → OnlyOthers t (others_acted t)
+all_others t = let l = settled_leads t.world in record { acts = l.acts; leads = l.leads; rest = refl }
 
-only_others : (t u : TalkWorld) → OnlyTexts (others_acted t) u → OnlyOthers t u
-only_others t u h =
-    let l = settled_leads t.world in
-    let is = rest_is t u h in
-    record { acts = l.acts; leads = l.leads ∙ ap Some (sym is); rest = subst (λ (w : World). OnlyTexts (with_world t w) u) (sym is) h }
+unsaid_then : (t v : TalkWorld) (line : List ℕ) → OnlyTexts (others_acted t) (after_line (others_acted t) line).file.texts v → IsUnsaid t line v
+unsaid_then t v line (inl same) = inl (subst (OnlyOthers t) (sym same) (all_others t))
+unsaid_then t v line (inr noted) = inr noted
 
 -- in the world that the others' acts left
-pub only_by : (t u v : TalkWorld) → u ≡ others_acted t → OnlyTexts u v → OnlyOthers t v
-only_by t u v now h = only_others t v (subst (λ (x : TalkWorld). OnlyTexts x v) now h)
+pub unsaid_by : (t u v : TalkWorld) (line : List ℕ) → u ≡ others_acted t → OnlyTexts u (after_line u line).file.texts v → IsUnsaid t line v
+unsaid_by t u v line now h = unsaid_then t v line (subst (λ (x : TalkWorld). OnlyTexts x (after_line x line).file.texts v) now h)

@@ -1,21 +1,17 @@
--- A talk is told line by line.
+-- A talk is played and printed line by line.
 use Rattle.std.proofs.Common.{◌≡◌, ℕ, Bool, ◌+◌, ◌-◌, ◌<◌, ◌≤◌, List, [], ◌∷◌, ◌++◌, length, take, drop, refl, ap, sym, ◌∙◌, arith, append_assoc, append-nil}
-use Rattle.std.specs.Prelude.{◌==◌, codes, decimal, true, false}
+use Rattle.std.specs.Prelude.{◌==◌, true}
 use Rattle.std.specs.List.{slice_split, position_or_len}
 use Rattle.std.proofs.lemmas.Bool.{false≢true}
-use Rattle.std.proofs.lemmas.List.{length-drop, take_all}
+use Rattle.std.proofs.lemmas.List.{length-append, length-drop, take_all}
 use Rattle.std.proofs.lemmas.List.Splits.{slice_split_first}
-use Rattle.sj_base.specs.declared.Msg.{Msg}
-use Rattle.sj_base.specs.declared.Msg.TheVariants as msgs
 use Rattle.sj_lang.specs.FileAt.{FileAt}
-use Rattle.sj_print.specs.Pieces.{message_text}
-use Rattle.sj_print.proofs.JoinLemmas.{message_line}
 use Rattle.sj_talk.specs.Doing.{after_line, said_of}
-use Rattle.sj_talk.specs.Output.{played_from, said_words, talk_end, talk_text, told_from, verdict_line}
+use Rattle.sj_talk.specs.Output.{after_lines, line_text, played_from, said_words, talk_end, talk_text, told_from, verdict_line}
 use Rattle.sj_talk.specs.TalkWorld.{TalkWorld, others_acted, talk_verdict}
 use Rattle.sj_talk.specs.Words.{last_line, lines_in, without_last_empty}
 use Rattle.sj_semantics.specs.declared.Verdict.{Verdict}
-use Rattle.sj_semantics.specs.Lines.{line_of, message_words}
+use Rattle.sj_semantics.specs.Lines.{line_of}
 use Rattle.sj_talk.specs.declared.said.Said.{Said}
 use Rattle.sj_talk.proofs.WordLemmas.{ended_by, one_part, some_part}
 
@@ -41,28 +37,48 @@ line_last left e at le some =
 
 -- ---- line by line
 
-pub told_next : (t : TalkWorld) (n : ℕ) (old mid text left line rest : List ℕ) → lines_in left ≡ line ∷ lines_in rest
-    → mid ≡ text ++ line_of (said_words (after_line (others_acted t) line).file (n + 1) (said_of (others_acted t) line)) → text ++ told_from (n + 1) t (lines_in left) ≡ old
-    → mid ++ told_from (n + 1 + 1) (after_line (others_acted t) line) (lines_in rest) ≡ old
-told_next t n old mid text left line rest is put so_far =
-    let u = others_acted t in
-    let more = told_from (n + 1 + 1) (after_line u line) (lines_in rest) in
-    ap (λ x. x ++ more) put ∙ append_assoc text (line_of (said_words (after_line u line).file (n + 1) (said_of u line))) more ∙ ap (λ ls. text ++ told_from (n + 1) t ls) (sym is) ∙ so_far
+after_push : (t : TalkWorld) (ls : List (List ℕ)) (line : List ℕ) → after_lines t (ls ++ line ∷ []) ≡ after_line (others_acted (after_lines t ls)) line
+after_push t [] line = refl
+after_push t (l ∷ ls) line = after_push (after_line (others_acted t) l) ls line
 
-pub played_next : (t end : TalkWorld) (left line rest : List ℕ) → lines_in left ≡ line ∷ lines_in rest → played_from t (lines_in left) ≡ end → played_from (after_line (others_acted t) line) (lines_in rest) ≡ end
-played_next t end left line rest is so_far = ap (played_from t) (sym is) ∙ so_far
+told_push : (n k : ℕ) (t : TalkWorld) (ls : List (List ℕ)) (line : List ℕ) → k ≡ n + length ls → told_from n t (ls ++ line ∷ []) ≡ told_from n t ls ++ line_text k (after_lines t ls) line
+told_push n k t [] line e = append-nil (line_text n t line) ∙ ap (λ m. line_text m t line) (let m : n ≡ k = omega (arith, e) in m)
+told_push n k t (l ∷ ls) line e =
+    let u = after_line (others_acted t) l in
+    ap (λ x. line_text n t l ++ x) (told_push (n + 1) k u ls line (omega (arith, e))) ∙ sym (append_assoc (line_text n t l) (told_from (n + 1) u ls) (line_text k (after_lines u ls) line))
 
--- what was put is the line for that line
-pub told_on : (t u : TalkWorld) (n : ℕ) (s : Said) (file : FileAt) (old mid text left line rest : List ℕ) → lines_in left ≡ line ∷ lines_in rest
-    → u ≡ after_line (others_acted t) line → s ≡ said_of (others_acted t) line → file ≡ u.file
-    → mid ≡ text ++ line_of (said_words file (n + 1) s) → text ++ told_from (n + 1) t (lines_in left) ≡ old → mid ++ told_from (n + 1 + 1) u (lines_in rest) ≡ old
-told_on t u n s file old mid text left line rest is next answer at put so_far =
-    ap (λ v. mid ++ told_from (n + 1 + 1) v (lines_in rest)) next
-    ∙ told_next t n old mid text left line rest is (put ∙ (λ i. text ++ line_of (said_words ((at ∙ ap (λ v. v.file) next) i) (n + 1) (answer i)))) so_far
+-- lines of the text are done and printed, and the others are left
+pub record SoFar (t : TalkWorld) (text old : List ℕ) (n : ℕ) (u : TalkWorld) (left new : List ℕ) : Type 0 where
+  pub done : List (List ℕ)
+  pub count : length done ≡ n
+  pub parts : lines_in text ≡ done ++ lines_in left
+  pub played : u ≡ after_lines t done
+  pub printed : new ≡ old ++ told_from 1 t done
 
-pub played_on : (t u end : TalkWorld) (left line rest : List ℕ) → lines_in left ≡ line ∷ lines_in rest
-    → u ≡ after_line (others_acted t) line → played_from t (lines_in left) ≡ end → played_from u (lines_in rest) ≡ end
-played_on t u end left line rest is next so_far = ap (λ v. played_from v (lines_in rest)) next ∙ played_next t end left line rest is so_far
+pub none_said : (t : TalkWorld) (text old : List ℕ) → SoFar t text old 0 t text old
+none_said t text old = record { done = []; count = refl; parts = refl; played = refl; printed = sym (append-nil old) }
+
+-- the line of what was said of that line
+pub line_said : (u v : TalkWorld) (k : ℕ) (s : Said) (file : FileAt) (line : List ℕ) → v ≡ after_line (others_acted u) line → s ≡ said_of (others_acted u) line → file ≡ v.file
+    → line_of (said_words file k s) ≡ line_text k u line
+line_said u v k s file line next answer at = λ i. line_of (said_words ((at ∙ ap (λ (x : TalkWorld). x.file) next) i) k (answer i))
+
+-- one more line is done and printed
+pub said_on : (t u v : TalkWorld) (n : ℕ) (s : Said) (file : FileAt) (text old left rest line now new : List ℕ) → SoFar t text old n u left now → lines_in left ≡ line ∷ lines_in rest
+    → v ≡ after_line (others_acted u) line → s ≡ said_of (others_acted u) line → file ≡ v.file → new ≡ now ++ line_of (said_words file (n + 1) s) → SoFar t text old (n + 1) v rest new
+said_on t u v n s file text old left rest line now new so is next answer at put =
+    let ls = so.done in
+    let said : line_of (said_words file (n + 1) s) ≡ line_text (n + 1) (after_lines t ls) line =
+    line_said u v (n + 1) s file line next answer at ∙ ap (λ x. line_text (n + 1) x line) so.played in
+    record {
+      done = ls ++ line ∷ [];
+      count = omega (arith, so.count, length-append ls (line ∷ []));
+      parts = so.parts ∙ ap (λ x. ls ++ x) is ∙ sym (append_assoc ls (line ∷ []) (lines_in rest));
+      played = next ∙ ap (λ x. after_line (others_acted x) line) so.played ∙ sym (after_push t ls line);
+      printed =
+          put ∙ (λ i. so.printed i ++ said i) ∙ append_assoc old (told_from 1 t ls) (line_text (n + 1) (after_lines t ls) line)
+          ∙ ap (λ x. old ++ x) (sym (told_push 1 (n + 1) t ls line (omega (arith, so.count))));
+    }
 
 -- where nothing is left there is no line
 pub no_lines : (left : List ℕ) (b : Bool) → b ≡ (length left == 0) → b ≡ true → lines_in left ≡ []
@@ -79,38 +95,20 @@ text_is : (t : TalkWorld) (text : List ℕ) → talk_text t text ≡ told_from 1
 unfolding talk_text
 text_is t text = refl
 
+-- nothing is left, and the others act once more
+pub all_said : (t u v : TalkWorld) (n : ℕ) (text old left now : List ℕ) → SoFar t text old n u left now → lines_in left ≡ [] → v ≡ others_acted u → v ≡ played_from t (lines_in text)
+all_said t u v n text old left now so none acted =
+    let all : lines_in text ≡ so.done = so.parts ∙ ap (λ x. so.done ++ x) none ∙ append-nil so.done in
+    acted ∙ ap others_acted (so.played ∙ ap (after_lines t) (sym all))
+
 -- the verdict of what was played
-pub verdict_told : (t u v : TalkWorld) (lines : List ℕ) (d : Verdict) → d ≡ talk_verdict v → v ≡ others_acted u → others_acted u ≡ played_from t (lines_in lines) → d ≡ talk_end t lines
-verdict_told t u v lines d told acted played = told ∙ ap talk_verdict (acted ∙ played) ∙ sym (end_is t lines)
+pub verdict_told : (t v : TalkWorld) (lines : List ℕ) (d : Verdict) → d ≡ talk_verdict v → v ≡ played_from t (lines_in lines) → d ≡ talk_end t lines
+verdict_told t v lines d told played = told ∙ ap talk_verdict played ∙ sym (end_is t lines)
 
--- and its line behind the others
-pub text_told : (t : TalkWorld) (lines old text new : List ℕ) (d : Verdict) → d ≡ talk_end t lines → new ≡ text ++ verdict_line d → text ++ [] ≡ old ++ told_from 1 t (lines_in lines) → new ≡ old ++ talk_text t lines
-text_told t lines old text new d is put so_far =
-    put ∙ ap (λ x. x ++ verdict_line d) (sym (append-nil text) ∙ so_far) ∙ append_assoc old (told_from 1 t (lines_in lines)) (verdict_line d)
-    ∙ ap (λ v. old ++ (told_from 1 t (lines_in lines) ++ verdict_line v)) is ∙ ap (λ x. old ++ x) (sym (text_is t lines))
-
--- ---- the line for a line
-
-took_by : (file : FileAt) (m : Msg) → codes "took " ++ line_of (message_words file m) ≡ line_of (codes "took" ∷ message_words file m)
-took_by file (msgs.Int n) = refl
-took_by file (msgs.Bool true) = refl
-took_by file (msgs.Bool false) = refl
-took_by file (msgs.Text n) = refl
-took_by file (msgs.Label l) = refl
-took_by file (msgs.More true) = refl
-took_by file (msgs.More false) = refl
-took_by file (msgs.Sess s d k) = refl
-
-pub took_line : (file : FileAt) (m : Msg) (old a b new : List ℕ) → a ≡ old ++ codes "took " → b ≡ a ++ message_text file m → new ≡ b ++ 10 ∷ [] → new ≡ old ++ line_of (codes "took" ∷ message_words file m)
-took_line file m old a b new first second third =
-    third ∙ ap (λ x. x ++ 10 ∷ []) (second ∙ ap (λ x. x ++ message_text file m) first) ∙ append_assoc (old ++ codes "took ") (message_text file m) (10 ∷ [])
-    ∙ ap (λ x. (old ++ codes "took ") ++ x) (message_line file m) ∙ append_assoc old (codes "took ") (line_of (message_words file m)) ∙ ap (λ x. old ++ x) (took_by file m)
-
-pub refused_line : (n g : ℕ) (old a b c d new : List ℕ) → a ≡ old ++ codes "refused " → b ≡ a ++ decimal n → c ≡ b ++ codes " G" → d ≡ c ++ decimal g → new ≡ d ++ 10 ∷ []
-    → new ≡ old ++ line_of (codes "refused" ∷ decimal n ∷ (71 ∷ decimal g) ∷ [])
-refused_line n g old a b c d new ea eb ec ed en =
-    en ∙ ap (λ x. x ++ 10 ∷ []) (ed ∙ ap (λ x. x ++ decimal g) (ec ∙ ap (λ x. x ++ codes " G") (eb ∙ ap (λ x. x ++ decimal n) ea)))
-    ∙ append_assoc (((old ++ codes "refused ") ++ decimal n) ++ codes " G") (decimal g) (10 ∷ [])
-    ∙ append_assoc ((old ++ codes "refused ") ++ decimal n) (codes " G") (decimal g ++ 10 ∷ [])
-    ∙ append_assoc (old ++ codes "refused ") (decimal n) (codes " G" ++ (decimal g ++ 10 ∷ []))
-    ∙ append_assoc old (codes "refused ") (decimal n ++ (codes " G" ++ (decimal g ++ 10 ∷ [])))
+-- and its line after the others
+pub text_told : (t u : TalkWorld) (n : ℕ) (text old left now new : List ℕ) (d : Verdict) → SoFar t text old n u left now → lines_in left ≡ [] → d ≡ talk_end t text → new ≡ now ++ verdict_line d → new ≡ old ++ talk_text t text
+text_told t u n text old left now new d so none is put =
+    let all : so.done ≡ lines_in text = sym (so.parts ∙ ap (λ x. so.done ++ x) none ∙ append-nil so.done) in
+    put ∙ ap (λ x. x ++ verdict_line d) so.printed ∙ append_assoc old (told_from 1 t so.done) (verdict_line d)
+    ∙ ap (λ v. old ++ (told_from 1 t so.done ++ verdict_line v)) is
+    ∙ ap (λ ls. old ++ (told_from 1 t ls ++ verdict_line (talk_end t text))) all ∙ ap (λ x. old ++ x) (sym (text_is t text))

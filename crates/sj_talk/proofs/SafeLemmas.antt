@@ -13,7 +13,6 @@ use Rattle.sj_lang.specs.MeetTests.{stands_for}
 use Rattle.sj_lang.specs.Place.{Place}
 use Rattle.sj_lang.proofs.MeetTestLemmas.{meets-Decides}
 use Rattle.sj_acceptance.specs.Accepted.{IsAccepted}
-use Rattle.sj_semantics.specs.declared.Passed.{Passed}
 use Rattle.sj_semantics.specs.Balanced.{FitsNext}
 use Rattle.sj_semantics.specs.Ends.{end_at, is_end, next_for, other_end}
 use Rattle.sj_semantics.specs.Program.{Program}
@@ -36,7 +35,7 @@ use Rattle.sj_talk.specs.Forms.{FormAt, form_of}
 use Rattle.sj_talk.specs.Names.{connected_ends, end_named, ends_without, label_number, message_of, spelled}
 use Rattle.sj_talk.specs.Rules.{carried_next, end_under, is_done, is_free, is_next, offers, place_under, refusal_of, selects, sends_end, sends_value, takes_end, tests_of, turns}
 use Rattle.sj_talk.specs.TalkWorld.{TalkWorld, no_program, talk_start, with_table, world_without}
-use Rattle.sj_talk.proofs.AllowedLemmas.{carries_in, carries_out, holds_by_not, label_sends, names_by, names_nothing, neither, none_applies, some_by, stands_full, there_by, turn_sends, value_sends}
+use Rattle.sj_talk.proofs.AllowedLemmas.{carries_in, carries_out, holds_by_not, label_sends, names_by, names_nothing, neither, next_is, next_named, none_applies, some_by, stands_full, there_by, turn_sends, value_sends}
 use Rattle.sj_talk.proofs.GuardLemmas.{Guarded}
 use Rattle.sj_talk.proofs.PassLemmas.{guards_delegate, guards_take_end}
 use Rattle.sj_talk.proofs.UseLemmas.{guards_close, guards_send, guards_take}
@@ -72,10 +71,6 @@ module _ (file : FileAt) (t : TalkWorld) (g : Guarded file t) where
       subst (λ (q : Msg). Guarded file (used_by t ((end_under t x, takes q) ∷ begun_by p q) (t.ends ++ bound_by y q))) (sym is)
       (subst (λ (r : Place). Guarded file (used_by t ((end_under t x, takes (msgs.Sess s d k)) ∷ (side s d, begins r) ∷ []) (t.ends ++ (y, side s d) ∷ []))) (sym same) guarded)
 
-  -- the message that is next
-  next_is : (x : List ℕ) (m : Passed) → next_for t.world.sessions (end_under t x) ≡ Some m → message_next t x ≡ m.msg
-  next_is x m is = ap (λ o. unwrap_or (option_map (λ (y : Passed). y.msg) o) (msgs.More false)) is
-
   -- what each form leaves
   form_guarded : (f : FormAt) → refusal_of t (Some f) ≡ None → Guarded file (after_form t f)
   form_guarded (forms.send x v) h =
@@ -105,7 +100,7 @@ module _ (file : FileAt) (t : TalkWorld) (g : Guarded file t) where
       let a = none_applies (tests_of t (forms.take x)) h in
       let m = there_by (next_for t.world.sessions (end_under t x)) a.1.1.1.0 in
       tabled file _ _
-      (subst (λ (n : Msg). Guarded file (used_by t ((end_under t x, takes n) ∷ []) t.ends)) (sym (next_is x m.passed m.is))
+      (subst (λ (n : Msg). Guarded file (used_by t ((end_under t x, takes n) ∷ []) t.ends)) (sym (next_is t x m.passed m.is))
       (guards_take file t g (end_under t x) m.passed m.is (held x a.0)))
   form_guarded (forms.take_end x y) h =
       let a = none_applies (tests_of t (forms.take_end x y)) h in
@@ -116,7 +111,7 @@ module _ (file : FileAt) (t : TalkWorld) (g : Guarded file t) where
       let taking = pair_taking zs (end_at zs e) (end_at zs (other_end e)) m.passed (pair_of zs zs e g.sound.pairs) m.is in
       let n = names_by zs i.kind i.next m.passed.msg (subst (λ (p : Place). FitsNext zs p m.passed.msg) i.is taking.fits) in
       tabled file _ _
-      (end_taken x y (message_next t x) (carried_next (place_under t x)) i.kind n.sess n.end_side n.keeper (next_is x m.passed m.is ∙ n.is) i.carried
+      (end_taken x y (message_next t x) (carried_next (place_under t x)) i.kind n.sess n.end_side n.keeper (next_named t x m.passed i.kind m.is n) i.carried
       (subst (λ (q : Msg). Guarded file (used_by t ((e, takes q) ∷ (side n.sess n.end_side, begins i.kind) ∷ []) (t.ends ++ (y, side n.sess n.end_side) ∷ []))) n.is
       (guards_take_end file t g e m.passed m.is (held x a.0) y n.sess n.end_side n.keeper i.kind n.is n.stands)))
   form_guarded (forms.close x) h = tabled file _ _ (guards_close file t g x)

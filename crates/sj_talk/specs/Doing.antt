@@ -1,5 +1,5 @@
 -- What an accepted line does, and what is said of a line.
-use Rattle.std.specs.Prelude.{ℕ, ◌+◌, false, List, [], ◌∷◌, ◌++◌, Option, Some, None, unwrap_or}
+use Rattle.std.specs.Prelude.{◌≡◌, ◌⊎◌, ℕ, ◌+◌, false, List, [], ◌∷◌, ◌++◌, Option, Some, None, unwrap_or}
 use Rattle.sj_base.specs.declared.EndId.{EndId}
 use Rattle.sj_base.specs.declared.Msg.{Msg}
 use Rattle.sj_base.specs.declared.Msg.TheVariants as msgs
@@ -9,7 +9,7 @@ use Rattle.sj_talk.specs.Forms as forms
 use Rattle.sj_talk.specs.Forms.{FormAt, form_of}
 use Rattle.sj_talk.specs.Names.{Ends, ends_without, label_number, message_of, texts_with}
 use Rattle.sj_talk.specs.Rules.{carried_next, end_under, head_under, place_under, refusal_of}
-use Rattle.sj_talk.specs.TalkWorld.{TalkWorld, with_table}
+use Rattle.sj_talk.specs.TalkWorld.{OnlyOthers, TalkWorld, others_acted, with_table}
 use Rattle.sj_talk.specs.declared.said.Said.{Said}
 use Rattle.sj_talk.specs.declared.said.Said.TheVariants as said
 
@@ -82,3 +82,13 @@ said_of t line = said_by_rule t (form_of line) (refusal_of t (form_of line))
 -- the world that the line leaves: a refused line leaves it as it was
 abbrev pub after_line : TalkWorld → List ℕ → TalkWorld
 after_line t line = after_by_rule t (form_of line) (refusal_of t (form_of line))
+
+-- ---- out of memory
+
+-- the text of the line stands in the table, and nothing else of the line is done; a refused line has none
+abbrev pub with_text_of : TalkWorld → List ℕ → TalkWorld
+with_text_of t line = with_table t (after_line t line).file.texts
+
+-- the line isn't done: some acts of the others are, or all of them are and its text stands in the table
+abbrev pub IsUnsaid : TalkWorld → List ℕ → TalkWorld → Type 0
+IsUnsaid t line u = OnlyOthers t u ⊎ (u ≡ with_text_of (others_acted t) line)

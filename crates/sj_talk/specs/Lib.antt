@@ -5,6 +5,7 @@ pub mod Names
 pub mod TalkWorld
 pub mod Rules
 pub mod Doing
+pub mod Fits
 pub mod Moves
 pub mod Output
 pub mod Play

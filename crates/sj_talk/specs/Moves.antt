@@ -10,11 +10,10 @@ use Rattle.sj_semantics.specs.Fitting.{fits}
 use Rattle.sj_semantics.specs.Program.{Program}
 use Rattle.sj_semantics.specs.Wants.{want_of}
 use Rattle.sj_semantics.specs.World.{World, act_of}
-use Rattle.sj_talk.specs.Doing.{after_line}
-use Rattle.sj_talk.specs.Names.{with_word}
-use Rattle.sj_talk.specs.TalkWorld.{TalkWorld, talk_start, with_table, with_world}
+use Rattle.sj_talk.specs.Doing.{after_line, with_text_of}
+use Rattle.sj_talk.specs.TalkWorld.{TalkWorld, talk_start, with_world}
 
--- an act of another party, a line, or a text that is put into the table alone
+-- an act of another party, a line, or the text of a line alone, which is put into the table
 pub data Move : Type 0 where
   acts : ℕ → Move
   says : List ℕ → Move
@@ -24,7 +23,7 @@ pub data Move : Type 0 where
 abbrev pub after_move : TalkWorld → Move → Option TalkWorld
 after_move t (acts q) = option_map (with_world t) (act_of t.world q)
 after_move t (says line) = Some (after_line t line)
-after_move t (notes word) = Some (with_table t (with_word t.file.texts word))
+after_move t (notes line) = Some (with_text_of t line)
 
 -- the talk world after these moves, one after another, where each party could act
 abbrev pub after_moves : TalkWorld → List Move → Option TalkWorld

@@ -10,7 +10,7 @@ use Rattle.sj_semantics.specs.World.{World, start_of}
 use Rattle.sj_semantics.specs.State.{verdict_of}
 use Rattle.sj_semantics.specs.declared.Verdict.{Verdict}
 use Rattle.sj_semantics.specs.declared.Verdict.TheVariants as verdicts
-use Rattle.sj_talk.specs.Names.{Ends, connected_ends, shown_file, with_texts, with_word}
+use Rattle.sj_talk.specs.Names.{Ends, connected_ends, shown_file, with_texts}
 
 pub record TalkWorld : Type 0 where
   -- the file, with the texts that lines added
@@ -67,15 +67,15 @@ others_acted t = with_world t (settled_from t.world)
 abbrev pub with_table : TalkWorld → List (List ℕ) → TalkWorld
 with_table t texts = record { file = with_texts t.file texts; party = t.party; world = t.world; ends = t.ends; lines = t.lines }
 
--- nothing is done, or a text was put into the table alone
-abbrev pub OnlyTexts : TalkWorld → TalkWorld → Type 0
-OnlyTexts t u = (u ≡ t) ⊎ ((text : List ℕ) × (u ≡ with_table t (with_word t.file.texts text)))
-
--- some acts of other parties are done, and no line
+-- some acts of other parties are done, and nothing else
 pub record OnlyOthers (t u : TalkWorld) : Type 0 where
   pub acts : List ℕ
   pub leads : after_acts t.world acts ≡ Some u.world
-  pub rest : OnlyTexts (with_world t u.world) u
+  pub rest : u ≡ with_world t u.world
+
+-- nothing is done, or these texts were put into the table, and nothing else
+abbrev pub OnlyTexts : TalkWorld → List (List ℕ) → TalkWorld → Type 0
+OnlyTexts t texts u = (u ≡ t) ⊎ (u ≡ with_table t texts)
 
 -- ---- the end
 

@@ -1,7 +1,7 @@
 //! What an accepted line does.
 ghost use Rattle.std.specs.Prelude.{◌≡◌, ◌<◌, ◌∷◌, ◌++◌, [], None, Some, false, IfOk, OnErr, OnOk};
 ghost use Rattle.sj_semantics.specs.Uses.{begins, sends, takes};
-ghost use Rattle.sj_talk.specs.Doing.{after_form, answer_to, message_next, used_by};
+ghost use Rattle.sj_talk.specs.Doing.{after_form, answer_to, message_next, texts_after, used_by};
 ghost use Rattle.sj_talk.specs.Forms as forms;
 ghost use Rattle.sj_talk.specs.Names.{message_of, texts_with};
 ghost use Rattle.sj_talk.specs.Play.{IsPlayed, form_at, talk_at, value_at};
@@ -19,15 +19,16 @@ use sj_plain::{Ahead, delegate_on, send_on, take_end_on, take_on};
 use sj_semantics::Passed;
 
 impl Play {
-    /// Does what a line says that no rule refuses. Without memory nothing of it is done, but that its
-    /// text may stand in the table.
+    /// Does what a line says that no rule refuses. Out of memory it does nothing of it, but its text
+    /// may stand in the table.
     pub fn act(&mut self, form: &Form<'_>) -> Result<Said, NoMemory>
         requires played { IsPlayed self.old }
         requires allowed { refusal_of (talk_at self.old) (Some (form_at form.now)) ≡ None }
         ensures said { IfOk result (λ s. s ≡ answer_to (talk_at self.old) (form_at form.now)) }
         ensures ok { OnOk result (talk_at self.new
             ≡ after_form (talk_at self.old) (form_at form.now)) }
-        ensures err { OnErr result (OnlyTexts (talk_at self.old) (talk_at self.new)) }
+        ensures err { OnErr result (OnlyTexts (talk_at self.old)
+            (texts_after (talk_at self.old) (form_at form.now)) (talk_at self.new)) }
         ensures played { IsPlayed self.new }
     {
         let said = self.answer_to(form);
@@ -52,7 +53,8 @@ impl Play {
         requires allowed { refusal_of (talk_at self.old) (Some (form_at form.now)) ≡ None }
         ensures ok { OnOk result (talk_at self.new
             ≡ after_form (talk_at self.old) (form_at form.now)) }
-        ensures err { OnErr result (OnlyTexts (talk_at self.old) (talk_at self.new)) }
+        ensures err { OnErr result (OnlyTexts (talk_at self.old)
+            (texts_after (talk_at self.old) (form_at form.now)) (talk_at self.new)) }
         ensures played { IsPlayed self.new }
     {
         match form {
@@ -99,7 +101,8 @@ impl Play {
             m ≡ message_of (talk_at self.old).file (value_at value.now)) }
         ensures ok { OnOk result (talk_at self.new ≡ with_table (talk_at self.old)
             (texts_with (talk_at self.old).file (value_at value.now))) }
-        ensures err { OnErr result (OnlyTexts (talk_at self.old) (talk_at self.new)) }
+        ensures err { OnErr result (OnlyTexts (talk_at self.old)
+            (texts_with (talk_at self.old).file (value_at value.now)) (talk_at self.new)) }
         ensures played { IsPlayed self.new }
     {
         match value {
@@ -121,7 +124,8 @@ impl Play {
         requires room { self.old.lines < limit_of_lines }
         ensures ok { OnOk result (talk_at self.new
             ≡ after_form (talk_at self.old) (forms.send end.now (value_at value.now))) }
-        ensures err { OnErr result (OnlyTexts (talk_at self.old) (talk_at self.new)) }
+        ensures err { OnErr result (OnlyTexts (talk_at self.old)
+            (texts_with (talk_at self.old).file (value_at value.now)) (talk_at self.new)) }
         ensures played { IsPlayed self.new }
     {
         let msg = self.message(value)?;

@@ -16,7 +16,9 @@ mod start;
 mod talk;
 mod words;
 
-pub use laws::{talks_serve_the_others, talks_stay_balanced};
+pub use laws::{
+    lines_are_moves, lines_fit_their_places, talks_serve_the_others, talks_stay_balanced,
+};
 pub use output::talk_lines;
 pub use said::Said;
 pub use talk::Talk;

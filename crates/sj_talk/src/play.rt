@@ -1,7 +1,7 @@
 //! A talk as it runs: the other parties of a file, and the ends that the played party holds.
 ghost use Rattle.std.specs.Prelude.{◌≡◌, IfOk, OnErr, OnOk};
 ghost use Rattle.sj_talk.specs.Names.{label_number};
-ghost use Rattle.sj_talk.specs.Doing.{after_line, said_of};
+ghost use Rattle.sj_talk.specs.Doing.{IsUnsaid, after_line, said_of};
 ghost use Rattle.sj_talk.specs.Front.{seen_in};
 ghost use Rattle.sj_talk.specs.Play.{IsPlayed, talk_at};
 ghost use Rattle.sj_talk.specs.Rules.{end_under, front_of, head_under, is_free, is_full, is_worn};
@@ -126,7 +126,7 @@ impl Play {
         ensures said { IfOk result (λ s. s ≡ said_of (others_acted (talk_at self.old)) line.now) }
         ensures ok { OnOk result (talk_at self.new
             ≡ after_line (others_acted (talk_at self.old)) line.now) }
-        ensures err { OnErr result (OnlyOthers (talk_at self.old) (talk_at self.new)) }
+        ensures err { OnErr result (IsUnsaid (talk_at self.old) line.now (talk_at self.new)) }
         ensures played { IsPlayed self.new }
     {
         self.others()?; // They may send what the line takes.
@@ -138,7 +138,8 @@ impl Play {
         requires played { IsPlayed self.old }
         ensures said { IfOk result (λ s. s ≡ said_of (talk_at self.old) line.now) }
         ensures ok { OnOk result (talk_at self.new ≡ after_line (talk_at self.old) line.now) }
-        ensures err { OnErr result (OnlyTexts (talk_at self.old) (talk_at self.new)) }
+        ensures err { OnErr result (OnlyTexts (talk_at self.old)
+            (after_line (talk_at self.old) line.now).file.texts (talk_at self.new)) }
         ensures played { IsPlayed self.new }
     {
         match form_in(line) {

@@ -2,7 +2,7 @@
 ghost use Rattle.std.specs.Prelude.{◌≡◌, ◌<◌, IfOk, OnErr, OnOk, length};
 ghost use Rattle.sj_check.specs.Held.{file_in as held};
 ghost use Rattle.sj_lang.specs.FileView.{file_of};
-ghost use Rattle.sj_talk.specs.Doing.{after_line, said_of};
+ghost use Rattle.sj_talk.specs.Doing.{IsUnsaid, after_line, said_of};
 ghost use Rattle.sj_talk.specs.Moves.{GoesOn};
 ghost use Rattle.sj_talk.specs.TalkWorld.{OnlyOthers, others_acted, talk_start, talk_verdict};
 
@@ -39,7 +39,7 @@ impl Model for Talk {
 impl Talk {
     ghost use Rattle.sj_talk.specs.Talk.{talk_of};
 
-    /// The start of the file, where the party is played. Without memory the file is given up.
+    /// The start of the file, where the party is played. Out of memory the file is given up.
     pub fn start(alloc: Global, accepted: Accepted, party: u16) -> Result<Talk, NoMemory>
         requires { party < length (file_of (held accepted)).parties }
         ensures { IfOk result (λ t. talk_of t ≡ talk_start (file_of (held accepted)) party) }
@@ -48,13 +48,14 @@ impl Talk {
         Ok(Talk { play })
     }
 
-    /// Lets the other parties act until none can, and does the line, or tells the first rule that
-    /// refuses it. Without memory some acts of the others are done, and the line isn't.
+    /// Lets the other parties act until none can, and does the line, or reports the first rule that
+    /// refuses it. Out of memory some acts of the others are done, and the line isn't. Where it is a
+    /// line that no rule refuses, its text may stand in the table.
     pub fn line(&mut self, line: &[u8]) -> Result<Said, NoMemory>
         ensures said { IfOk result (λ s. s ≡ said_of (others_acted (talk_of self.old)) line.now) }
         ensures ok { OnOk result (talk_of self.new
             ≡ after_line (others_acted (talk_of self.old)) line.now) }
-        ensures err { OnErr result (OnlyOthers (talk_of self.old) (talk_of self.new)) }
+        ensures err { OnErr result (IsUnsaid (talk_of self.old) line.now (talk_of self.new)) }
         ensures on { GoesOn (talk_of self.old) (talk_of self.new) }
     {
         self.play.line(line)
@@ -62,7 +63,8 @@ impl Talk {
 
     /// Lets the other parties act until none can, and answers how the talk ends: long where one is at
     /// a limit, else blocked where one hasn't ended, an end is still bound at the played party, or an
-    /// opened session wasn't accepted, else done. Without memory some acts of the others are done.
+    /// opened session wasn't accepted, else done. Out of memory some acts of the others are done, and
+    /// nothing else.
     pub fn finish(&mut self) -> Result<Verdict, NoMemory>
         ensures verdict { IfOk result (λ v. v ≡ talk_verdict (talk_of self.new)) }
         ensures ok { OnOk result (talk_of self.new ≡ others_acted (talk_of self.old)) }

@@ -1,4 +1,4 @@
-use Rattle.std.proofs.Common.{ap, arith, inl, refl}
+use Rattle.std.proofs.Common.{ap, arith, refl}
 use Rattle.std.proofs.lemmas.Result.{on_ok_weaker}
 use Rattle.sj_plain.specs.Course.{world_in}
 use Rattle.sj_semantics.specs.World.{World}
@@ -17,7 +17,7 @@ returns-clause-ok c =
 pub returns-clause-err : goal.returns-clause-err
 returns-clause-err c =
     let on = c.finish.ensures.on in
-    on_err c.finish.result _ (record { acts = on.acts; leads = on.leads; rest = inl refl })
+    on_err c.finish.result _ (record { acts = on.acts; leads = on.leads; rest = refl })
 
 pub returns-clause-played : goal.returns-clause-played
 returns-clause-played c = record {

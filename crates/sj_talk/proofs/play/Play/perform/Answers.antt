@@ -1,8 +1,9 @@
 use Rattle.std.proofs.Common.{◌≡◌, ◌∙◌, None, Some, ap, inl, subst, sym}
 use Rattle.std.proofs.lemmas.Result.{on_err_weaker, on_ok_weaker}
-use Rattle.sj_talk.specs.Doing.{after_form}
+use Rattle.sj_talk.specs.Doing.{after_form, texts_after}
 use Rattle.sj_talk.specs.Play.{form_at, talk_at}
 use Rattle.sj_talk.specs.Rules.{refusal_of}
+use Rattle.sj_talk.specs.TalkWorld.{OnlyTexts}
 use Rattle.sj_talk.specs.declared.form.Form.{Form}
 use Rattle.sj_talk.proofs.ActLemmas.{hops_by, room_by}
 use Rattle.sj_talk.proofs.play.Play.perform.Goals as goal
@@ -36,6 +37,13 @@ delegate-requires-clause-hops c =
 pub returns-in-Send-clause-ok : goal.returns-in-Send-clause-ok
 returns-in-Send-clause-ok c =
     on_ok_weaker c.send_value.result (λ is. is ∙ ap (λ (f : Form). after_form (talk_at c.args.self.now) (form_at f)) (sym c.in-Send.is)) c.send_value.ensures.ok
+
+pub returns-in-Send-clause-err : goal.returns-in-Send-clause-err
+returns-in-Send-clause-err c =
+    let t = talk_at c.args.self.now in
+    on_err_weaker c.send_value.result
+    (λ h. subst (λ (f : Form). OnlyTexts t (texts_after t (form_at f)) (talk_at c.send_value.new.self)) (sym c.in-Send.is) h)
+    c.send_value.ensures.err
 
 pub returns-in-Select-clause-ok : goal.returns-in-Select-clause-ok
 returns-in-Select-clause-ok c =

@@ -1,6 +1,7 @@
-use Rattle.std.proofs.Common.{◌∙◌, None, Some, refl, sym}
-use Rattle.std.proofs.lemmas.Result.{IfOk-weaker, on_ok_weaker}
+use Rattle.std.proofs.Common.{◌∙◌, None, Some, refl, subst, sym}
+use Rattle.std.proofs.lemmas.Result.{IfOk-weaker, on_err_weaker, on_ok_weaker}
 use Rattle.sj_talk.specs.Play.{form_at, talk_at}
+use Rattle.sj_talk.specs.TalkWorld.{OnlyTexts, TalkWorld}
 use Rattle.sj_talk.proofs.LineLemmas.{line_done, line_refused}
 use Rattle.sj_talk.proofs.play.Play.say.Goals as goal
 
@@ -25,3 +26,9 @@ pub returns-in-Ok-None-clause-ok : goal.returns-in-Ok-None-clause-ok
 returns-in-Ok-None-clause-ok c =
     let d = line_done (talk_at c.args.self.now) c.args.line.now (form_at c.in-Some.form) c.in-Some.ensures (sym c.in-Ok-None.field-0-is ∙ c.in-Ok-None.ensures) in
     on_ok_weaker c.act.result (λ a. a ∙ d.1) c.act.ensures.ok
+
+pub returns-in-Ok-None-clause-err : goal.returns-in-Ok-None-clause-err
+returns-in-Ok-None-clause-err c =
+    let t = talk_at c.args.self.now in
+    let d = line_done t c.args.line.now (form_at c.in-Some.form) c.in-Some.ensures (sym c.in-Ok-None.field-0-is ∙ c.in-Ok-None.ensures) in
+    on_err_weaker c.act.result (λ h. subst (λ (u : TalkWorld). OnlyTexts t u.file.texts (talk_at c.act.new.self)) d.1 h) c.act.ensures.err

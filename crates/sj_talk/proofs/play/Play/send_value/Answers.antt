@@ -1,4 +1,4 @@
-use Rattle.std.proofs.Common.{◌∙◌, ap, arith}
+use Rattle.std.proofs.Common.{ap, arith}
 use Rattle.std.proofs.lemmas.Result.{on_err_weaker, on_ok_weaker}
 use Rattle.sj_talk.specs.Play.{talk_at, value_at}
 use Rattle.sj_talk.specs.TalkWorld.{TalkWorld}
@@ -17,5 +17,5 @@ returns-clause-ok c =
 pub returns-clause-err : goal.returns-clause-err
 returns-clause-err c =
     on_err_weaker c.send.result
-    (λ same. value_noted (talk_at c.args.self.now) (talk_at c.send.new.self) (value_at c.args.value.now) (same ∙ c.in_ok-msg.ensures.ok))
+    (λ same. value_noted (talk_at c.args.self.now) (talk_at c.message.new.self) (talk_at c.send.new.self) (value_at c.args.value.now) c.in_ok-msg.ensures.ok same)
     c.send.ensures.err
