@@ -17,7 +17,7 @@ use Rattle.sj_rules.specs.Party.{IsDone as IsOver, binds, play_of}
 use Rattle.sj_rules.specs.Plain.{offered_from, plain_at}
 use Rattle.sj_rules.specs.Record.{offered_end, requested_end}
 use Rattle.sj_rules.specs.World.{Act, Deliver, Event, Turn}
-use Rattle.sj_opened_lemmas.proofs.AcceptKeepLemmas.{contains_later}
+use Rattle.sj_opened_lemmas.proofs.OfferLemmas.{contains_later}
 use Rattle.sj_opened_lemmas.proofs.OpenKeepLemmas.{contains_first}
 use Rattle.sj_rules_laws.proofs.TiedLemmas.{act_between}
 use Rattle.sj_forward_rules.specs.Node.{HasRecord}
