@@ -1,5 +1,9 @@
 pub mod BackLemmas
 pub mod KeptLemmas
+pub mod LinkLemmas
+pub mod NewLemmas
 pub mod PushLemmas
 pub mod RowLemmas
+pub mod StreamLemmas
 pub mod SumLemmas
+pub mod WholeLemmas

@@ -1,6 +1,9 @@
 pub mod Counts
+pub mod Idle
 pub mod Ins
+pub mod Joined
 pub mod Kept
 pub mod Loopback
 pub mod Outs
 pub mod Rows
+pub mod Streams

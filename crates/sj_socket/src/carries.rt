@@ -2,14 +2,15 @@
 ghost use Rattle.sj_lane.specs.Rings.{Each2};
 ghost use Rattle.sj_socket.specs.Kept.{InKept, LanesKept, OutKept};
 
-use crate::in_lane::{InWay, SocketIn};
-use crate::out_lane::{OutWay, SocketOut};
+use crate::in_lane::InWay;
+use crate::out_lane::OutWay;
+use crate::{TcpIn, TcpOut};
 use sj_base::NoMemory;
 use sj_lane::Lanes;
 
 /// Moves what waits in a list of what a party sent to itself to its other end. Where memory is short
 /// nothing moves.
-fn carry_own(out: &mut SocketOut, lane: &mut SocketIn) -> Result<(), NoMemory>
+fn carry_own(out: &mut TcpOut, lane: &mut TcpIn) -> Result<(), NoMemory>
     ensures out { OutKept out.old out.new }
     ensures lane { InKept lane.old lane.new }
 {
@@ -20,7 +21,7 @@ fn carry_own(out: &mut SocketOut, lane: &mut SocketIn) -> Result<(), NoMemory>
 }
 
 /// Tries the streams to other parties.
-fn carry_outs(outs: &mut Vec<SocketOut>)
+fn carry_outs(outs: &mut Vec<TcpOut>)
     ensures { Each2 OutKept outs.old.items outs.new.items }
 {
     for to in 0..outs.len() {
@@ -29,7 +30,7 @@ fn carry_outs(outs: &mut Vec<SocketOut>)
 }
 
 /// The same of a party's lanes, with its list.
-fn carry_from(own: &mut Lanes<SocketOut, SocketIn>, party: usize) -> Result<(), NoMemory>
+fn carry_from(own: &mut Lanes<TcpOut, TcpIn>, party: usize) -> Result<(), NoMemory>
     ensures { LanesKept own.old own.new }
 {
     carry_outs(&mut own.outs);
@@ -40,7 +41,7 @@ fn carry_from(own: &mut Lanes<SocketOut, SocketIn>, party: usize) -> Result<(), 
 }
 
 /// The same of all parties, as far as there is memory.
-pub(crate) fn carry_all(lanes: &mut [Lanes<SocketOut, SocketIn>]) -> Result<(), NoMemory>
+pub(crate) fn carry_all(lanes: &mut [Lanes<TcpOut, TcpIn>]) -> Result<(), NoMemory>
     ensures { Each2 LanesKept lanes.old lanes.new }
 {
     for party in 0..lanes.len() {

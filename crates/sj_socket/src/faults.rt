@@ -3,12 +3,11 @@ ghost use Rattle.std.specs.Prelude.{◌≡◌, ◌<◌, ◌≤◌};
 ghost use Rattle.sj_lane.specs.Told.{Rose};
 ghost use Rattle.sj_socket.specs.Counts.{capped_sum, met, met_in, met_out};
 
-use crate::in_lane::SocketIn;
-use crate::out_lane::SocketOut;
+use crate::{TcpIn, TcpOut};
 use sj_lane::Lanes;
 
-/// Those of lanes to other parties, behind so many others.
-fn with_outs(before: u64, outs: &[SocketOut]) -> u64
+/// Those of lanes to other parties, after so many others.
+fn with_outs(before: u64, outs: &[TcpOut]) -> u64
     ensures { result ≡ capped_sum before (met_out outs.now) }
 {
     let mut sum = before;
@@ -18,8 +17,8 @@ fn with_outs(before: u64, outs: &[SocketOut]) -> u64
     sum
 }
 
-/// Those of lanes from other parties, behind so many others.
-fn with_ins(before: u64, ins: &[SocketIn]) -> u64
+/// Those of lanes from other parties, after so many others.
+fn with_ins(before: u64, ins: &[TcpIn]) -> u64
     ensures { result ≡ capped_sum before (met_in ins.now) }
 {
     let mut sum = before;
@@ -29,8 +28,8 @@ fn with_ins(before: u64, ins: &[SocketIn]) -> u64
     sum
 }
 
-/// Those of all lanes, behind so many others. A sum stops at the last value of a count.
-pub(crate) fn with_all(before: u64, lanes: &[Lanes<SocketOut, SocketIn>]) -> u64
+/// Those of all lanes, after so many others. A sum stops at the last value of a count.
+pub(crate) fn with_all(before: u64, lanes: &[Lanes<TcpOut, TcpIn>]) -> u64
     ensures { result ≡ capped_sum before (met lanes.now) }
 {
     let mut sum = before;

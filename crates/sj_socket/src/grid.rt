@@ -1,15 +1,16 @@
 //! New links for all ordered pairs.
-ghost use Rattle.std.specs.Prelude.{◌+◌, ◌<◌, length, IfOk, OnOk};
+ghost use Rattle.std.specs.Prelude.{◌≡◌, ◌≢◌, None, ◌+◌, ◌<◌, length, IfOk, OnOk};
 ghost use Rattle.sj_socket.specs.Ins.{IsNewIn};
-ghost use Rattle.sj_socket.specs.Outs.{IsNewOut};
-ghost use Rattle.sj_socket.specs.Rows.{AreNewOuts, Grid};
+ghost use Rattle.sj_socket.specs.Joined.{IsJoined, IsRowLinked};
+ghost use Rattle.sj_socket.specs.Outs.{IsNewOut, address_out};
+ghost use Rattle.sj_socket.specs.Rows.{AreNewOuts, Grid, IsNewLink};
 
 use crate::in_lane::{InWay, Reader, SocketIn};
 use crate::out_lane::{OutWay, SocketOut, Writer};
 use crate::stream::both_ends;
+use crate::{TcpIn, TcpOut};
 use sj_base::NoMemory;
 use sj_lane::{Lanes, MakeRefusal};
-use sj_wire::Decoder;
 use std::alloc::Global;
 use std::collections::VecDeque;
 use std::net::Net;
@@ -18,9 +19,11 @@ use std::net::Net;
 const PIECE: usize = 4096;
 
 /// The ends of the list of what a party sends to itself.
-fn own_link(alloc: Global) -> (SocketOut, SocketIn)
+fn own_link(alloc: Global) -> (TcpOut, TcpIn)
     ensures out { IsNewOut result.0 }
     ensures lane { IsNewIn result.1 }
+    ensures own { address_out result.0 ≡ None }
+    ensures joined { IsJoined result.0 result.1 }
 {
     let sent = VecDeque::new(alloc);
     let came = VecDeque::new(alloc);
@@ -31,8 +34,11 @@ fn own_link(alloc: Global) -> (SocketOut, SocketIn)
 }
 
 /// The ends of a new stream.
-fn stream_link<R: Net>(net: &R, alloc: Global) -> Result<(SocketOut, SocketIn), MakeRefusal>
-    ensures { IfOk result (λ e. IsNewOut e.0 × IsNewIn e.1) }
+fn stream_link<R: Net>(net: &R, alloc: Global) -> Result<(TcpOut, TcpIn), MakeRefusal>
+    ensures out { IfOk result (λ e. IsNewOut e.0) }
+    ensures lane { IfOk result (λ e. IsNewIn e.1) }
+    ensures stream { IfOk result (λ e. address_out e.0 ≢ None) }
+    ensures joined { IfOk result (λ e. IsJoined e.0 e.1) }
 {
     let Ok(room) = Vec::from_slice(alloc, &[0u8; PIECE]) else {
         return Err(MakeRefusal::NoMemory);
@@ -40,8 +46,8 @@ fn stream_link<R: Net>(net: &R, alloc: Global) -> Result<(SocketOut, SocketIn), 
     let Ok((near, far)) = both_ends(net) else {
         return Err(MakeRefusal::Fault);
     };
-    let writer = Writer::new(near, Vec::new(alloc));
-    let reader = Reader::new(far, Decoder::new(alloc), room);
+    let writer = Writer::new(alloc, near.0, near.1);
+    let reader = Reader::new(alloc, far.0, far.1, room);
     Ok((
         SocketOut::new(OutWay::Stream(writer)),
         SocketIn::new(InWay::Stream(reader)),
@@ -54,29 +60,34 @@ fn link<R: Net>(
     alloc: Global,
     from: usize,
     to: usize,
-) -> Result<(SocketOut, SocketIn), MakeRefusal>
-    ensures { IfOk result (λ e. IsNewOut e.0 × IsNewIn e.1) }
+) -> Result<(TcpOut, TcpIn), MakeRefusal>
+    ensures { IfOk result (λ e. IsNewLink from to e.0 e.1) }
 {
     if from == to {
         return Ok(own_link(alloc));
     }
-    stream_link(net, alloc)
+    match stream_link(net, alloc) {
+        Ok(ends) => Ok(ends),
+        Err(refusal) => Err(refusal),
+    }
 }
 
-/// Puts the ends of a link behind the lanes from its one party, and behind those to the other.
+/// Puts the ends of a link after the lanes from its one party, and after those to the other.
 fn join(
-    outs: &mut Vec<SocketOut>,
-    lanes: &mut Vec<Lanes<SocketOut, SocketIn>>,
+    outs: &mut Vec<TcpOut>,
+    lanes: &mut Vec<Lanes<TcpOut, TcpIn>>,
     from: usize,
     to: usize,
-    ends: (SocketOut, SocketIn),
+    ends: (TcpOut, TcpIn),
 ) -> Result<(), NoMemory>
     requires within { to < length lanes.old.items }
-    requires new { IsNewOut ends.0 × IsNewIn ends.1 }
+    requires new { IsNewLink from to ends.0 ends.1 }
     requires outs { AreNewOuts to outs.old.items }
     requires lanes { Grid (length lanes.old.items) from to lanes.old.items }
+    requires links { IsRowLinked from outs.old.items lanes.old.items }
     ensures outs { OnOk result (AreNewOuts (to + 1) outs.new.items) }
     ensures lanes { OnOk result (Grid (length lanes.old.items) from (to + 1) lanes.new.items) }
+    ensures links { OnOk result (IsRowLinked from outs.new.items lanes.new.items) }
 {
     let (out, lane) = ends;
     outs.push(out)?;
@@ -88,12 +99,14 @@ fn join(
 fn row<R: Net>(
     net: &R,
     alloc: Global,
-    lanes: &mut Vec<Lanes<SocketOut, SocketIn>>,
+    lanes: &mut Vec<Lanes<TcpOut, TcpIn>>,
     from: usize,
-) -> Result<Vec<SocketOut>, MakeRefusal>
+) -> Result<Vec<TcpOut>, MakeRefusal>
     requires { Grid (length lanes.old.items) from 0 lanes.old.items }
     ensures outs { IfOk result (λ v. AreNewOuts (length lanes.old.items) v.items) }
-    ensures lanes { OnOk result (Grid (length lanes.old.items) from (length lanes.old.items) lanes.new.items) }
+    ensures lanes { OnOk result
+        (Grid (length lanes.old.items) from (length lanes.old.items) lanes.new.items) }
+    ensures links { IfOk result (λ v. IsRowLinked from v.items lanes.new.items) }
 {
     let mut outs = Vec::new(alloc);
     for to in 0..lanes.len() {
@@ -110,7 +123,7 @@ fn row<R: Net>(
 }
 
 /// So many parties without lanes.
-fn no_lanes(alloc: Global, parties: u16) -> Result<Vec<Lanes<SocketOut, SocketIn>>, NoMemory>
+fn no_lanes(alloc: Global, parties: u16) -> Result<Vec<Lanes<TcpOut, TcpIn>>, NoMemory>
     ensures { IfOk result (λ v. Grid parties 0 0 v.items) }
 {
     let mut lanes = Vec::new(alloc);
@@ -128,7 +141,7 @@ pub(crate) fn all_lanes<R: Net>(
     net: &R,
     alloc: Global,
     parties: u16,
-) -> Result<Vec<Lanes<SocketOut, SocketIn>>, MakeRefusal>
+) -> Result<Vec<Lanes<TcpOut, TcpIn>>, MakeRefusal>
     ensures { IfOk result (λ v. Grid parties parties 0 v.items) }
 {
     let Ok(mut lanes) = no_lanes(alloc, parties) else {

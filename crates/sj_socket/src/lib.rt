@@ -7,10 +7,11 @@ mod grid;
 mod in_lane;
 mod links;
 mod out_lane;
+mod piece;
 mod stream;
 #[cfg(test)]
 mod tests;
 
 pub use in_lane::SocketIn;
-pub use links::SocketLinks;
+pub use links::{SocketLinks, TcpIn, TcpOut};
 pub use out_lane::SocketOut;

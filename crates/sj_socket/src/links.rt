@@ -1,19 +1,28 @@
 //! The links.
+ghost use Rattle.std.proofs.Common.{◌∙◌, sym};
 ghost use Rattle.std.specs.Prelude.{◌≡◌, ◌≤◌, Err, IfOk, [], false, true, vec_len};
 ghost use Rattle.sj_lane.specs.Square.{AllJoined, HasFault, IsFresh, IsSquare, Kept, NoFault};
 ghost use Rattle.sj_lane.specs.Told.{Rose};
 ghost use Rattle.sj_socket.specs.Counts.{capped_sum, faults_make, met};
+ghost use Rattle.sj_socket.specs.Idle.{AreIdle};
+ghost use Rattle.sj_socket.specs.Joined.{AreLinks, IsJoined};
 
 use crate::carries::carry_all;
 use crate::faults::{add_faults, with_all};
 use crate::grid::all_lanes;
 use crate::in_lane::SocketIn;
 use crate::out_lane::SocketOut;
+use mio::net::TcpStream;
 use sj_base::NoMemory;
 use sj_end::Frame;
 use sj_lane::{InLane, Lanes, Links, MakeRefusal, OutLane};
 use std::alloc::Global;
 use std::net::Net;
+
+/// A lane to a party, over a stream of the system.
+pub type TcpOut = SocketOut<TcpStream>;
+/// A lane from a party.
+pub type TcpIn = SocketIn<TcpStream>;
 
 /// Links of one stream for each ordered pair of different parties, between ports of 127.0.0.1 that the
 /// system chooses, and of a list for what a party sends to itself, which comes by `carry` alone.
@@ -33,15 +42,15 @@ impl<R: Net + Drop> SocketLinks<R> {
 }
 
 impl<R: Net + Drop> Links for SocketLinks<R> {
-    type Out = SocketOut;
+    type Out = TcpOut;
 
-    type In = SocketIn;
+    type In = TcpIn;
 
     ghost tells = { λ _. false };
 
     ghost faults = { λ s. s.faults };
 
-    ghost joined = { λ _ _. Unit {0} };
+    ghost joined = { IsJoined };
 
     ghost sent = { λ _ _ _. [] };
 
@@ -56,16 +65,19 @@ impl<R: Net + Drop> Links for SocketLinks<R> {
         &mut self,
         alloc: Global,
         parties: u16,
-    ) -> Result<Vec<Lanes<SocketOut, SocketIn>>, MakeRefusal>
+    ) -> Result<Vec<Lanes<TcpOut, TcpIn>>, MakeRefusal>
         ensures square { IfOk result (λ v. (vec_len v ≡ parties) × IsSquare v.items) }
-        ensures joined { IfOk result (λ v. AllJoined (λ _ _. Unit {0}) v.items) }
-        ensures fresh { IfOk result (λ v. IsFresh ⟦<SocketOut as OutLane>⟧.pushed
-            ⟦<SocketIn as InLane>⟧.popped ⟦<SocketOut as OutLane>⟧.vain
-            ⟦<SocketIn as InLane>⟧.vain false v.items) }
-        ensures faultless { IfOk result (λ v. NoFault ⟦<SocketOut as OutLane>⟧.faults ⟦<SocketIn as InLane>⟧.faults v.items) }
+        ensures joined { IfOk result (λ v. AllJoined IsJoined v.items) }
+        ensures fresh { IfOk result (λ v. IsFresh ⟦<TcpOut as OutLane>⟧.pushed
+            ⟦<TcpIn as InLane>⟧.popped ⟦<TcpOut as OutLane>⟧.vain
+            ⟦<TcpIn as InLane>⟧.vain false v.items) }
+        ensures faultless { IfOk result (λ v. NoFault ⟦<TcpOut as OutLane>⟧.faults ⟦<TcpIn as InLane>⟧.faults v.items) }
         ensures tells { false ≡ false }
-        ensures fault { (self.old.faults ≤ self.new.faults) × (result ≡ Err MakeRefusal.Fault → Rose self.old.faults self.new.faults) }
+        ensures fault { (self.old.faults ≤ self.new.faults)
+            × (result ≡ Err MakeRefusal.Fault → Rose self.old.faults self.new.faults) }
         ensures counts { self.new.faults ≡ faults_make self.old.faults result }
+        ensures links { IfOk result (λ v. AreLinks v.items) }
+        ensures idle { IfOk result (λ v. AreIdle v.items) }
     {
         match all_lanes(&self.rt, alloc, parties) {
             Ok(lanes) => Ok(lanes),
@@ -77,14 +89,14 @@ impl<R: Net + Drop> Links for SocketLinks<R> {
         }
     }
 
-    fn carry(&mut self, lanes: &mut [Lanes<SocketOut, SocketIn>]) -> Result<(), NoMemory> {
+    fn carry(&mut self, lanes: &mut [Lanes<TcpOut, TcpIn>]) -> Result<(), NoMemory> {
         carry_all(lanes)
     }
 
     fn rest(
         &mut self,
         _alloc: Global,
-        _lanes: &mut Vec<Lanes<SocketOut, SocketIn>>,
+        _lanes: &mut Vec<Lanes<TcpOut, TcpIn>>,
         _from: u16,
         _to: u16,
     ) -> Result<Option<Vec<Frame>>, NoMemory> {
@@ -92,17 +104,17 @@ impl<R: Net + Drop> Links for SocketLinks<R> {
     }
 
     // The streams are closed, and what their lanes counted is added.
-    fn back(&mut self, lanes: Vec<Lanes<SocketOut, SocketIn>>)
+    fn back(&mut self, lanes: Vec<Lanes<TcpOut, TcpIn>>)
         requires square { IsSquare lanes.items }
-        requires joined { AllJoined (λ _ _. Unit {0}) lanes.items }
-        ensures kept { false ≡ true → Kept ⟦<SocketOut as OutLane>⟧.pushed
-            ⟦<SocketIn as InLane>⟧.popped ⟦<SocketOut as OutLane>⟧.vain ⟦<SocketIn as InLane>⟧.vain
+        requires joined { AllJoined IsJoined lanes.items }
+        ensures kept { false ≡ true → Kept ⟦<TcpOut as OutLane>⟧.pushed
+            ⟦<TcpIn as InLane>⟧.popped ⟦<TcpOut as OutLane>⟧.vain ⟦<TcpIn as InLane>⟧.vain
             lanes.items (λ _ _. []) (λ _ _. []) (λ _ _. 0) (λ _ _. 0) }
         ensures tells { false ≡ false }
         ensures fault { (self.old.faults ≤ self.new.faults)
-            × (NoFault ⟦<SocketOut as OutLane>⟧.faults ⟦<SocketIn as InLane>⟧.faults lanes.items →
+            × (NoFault ⟦<TcpOut as OutLane>⟧.faults ⟦<TcpIn as InLane>⟧.faults lanes.items →
             self.new.faults ≡ self.old.faults) }
-        ensures raised { HasFault ⟦<SocketOut as OutLane>⟧.faults ⟦<SocketIn as InLane>⟧.faults lanes.items →
+        ensures raised { HasFault ⟦<TcpOut as OutLane>⟧.faults ⟦<TcpIn as InLane>⟧.faults lanes.items →
             Rose self.old.faults self.new.faults }
         ensures counts { self.new.faults ≡ capped_sum self.old.faults (met lanes.items) }
     {
@@ -110,5 +122,5 @@ impl<R: Net + Drop> Links for SocketLinks<R> {
         drop(lanes);
     }
 
-    ghost joined_later = { λ _ _ _ _ _ _ _. tt };
+    ghost joined_later = { λ _ _ _ _ h a b. b ∙ h ∙ sym a };
 }

@@ -1,24 +1,30 @@
 //! The lane on which a party pushes.
-ghost use Rattle.std.specs.Prelude.{◌≡◌, ◌≤◌, None, IfErr, OnOk};
+ghost use Rattle.std.proofs.Common.{◌∙◌, refl};
+ghost use Rattle.std.specs.Prelude.{◌≡◌, ◌≤◌, ◌<◌, ◌++◌, [], true, false, length, None, IfErr, IfOk, OnErr, OnOk};
+ghost use Rattle.std.specs.Io.KnownBytes.{Appends, Keeps};
 ghost use Rattle.sj_end.specs.Views.{frame_at};
 ghost use Rattle.sj_lane.specs.Told.{PushCause, pushed_by, told_more, vain_push};
 ghost use Rattle.sj_wire.specs.Lawful.{IsLawful};
+ghost use Rattle.sj_wire.specs.Spelling.{spelling};
 ghost use Rattle.sj_socket.specs.Counts.{faults_push};
 ghost use Rattle.sj_socket.specs.Kept.{OutKept};
-ghost use Rattle.sj_socket.specs.Outs.{IsNewOut, IsOfStream};
+ghost use Rattle.sj_socket.specs.Outs.{HasLeft, IsOfStream, IsPut, PutsNothing, WayHasLeft, WayIsOfStream, WayPuts, WayWrites, Writes, address_out, unsent, way_address};
 
 use crate::stream::is_in_vain;
-use mio::net::TcpStream;
 use sj_end::Frame;
 use sj_lane::{OutLane, PushRefusal};
 use sj_wire::{EncodeRefusal, encode, is_lawful};
+use std::alloc::Global;
 use std::collections::VecDeque;
 use std::io::Write;
+use std::net::SocketAddr;
 
 /// A stream, and the bytes of the last frame that it didn't take yet.
 #[derive(Drop)]
-pub(crate) struct Writer {
-    stream: TcpStream,
+pub(crate) struct Writer<W: Write + Drop> {
+    stream: W,
+    /// That of this end.
+    address: SocketAddr,
     rest: Vec<u8>,
     /// How many of them are gone.
     gone: usize,
@@ -26,30 +32,42 @@ pub(crate) struct Writer {
 
 /// Where frames go: to the party itself, or to another one.
 #[derive(Drop)]
-pub(crate) enum OutWay {
+pub(crate) enum OutWay<W: Write + Drop> {
     Own(VecDeque<Frame>),
-    Stream(Writer),
+    Stream(Writer<W>),
 }
 
 /// A lane over a stream, or a list of what a party sent to itself.
 #[derive(Drop)]
-pub struct SocketOut {
-    pub(crate) way: OutWay,
+pub struct SocketOut<W: Write + Drop> {
+    pub(crate) way: OutWay<W>,
     pub(crate) faults: u64,
     pub(crate) vain: u64,
 }
 
-impl Writer {
-    pub(crate) fn new(stream: TcpStream, rest: Vec<u8>) -> Writer {
+impl<W: Write + Drop> Writer<W> {
+    pub(crate) fn new(alloc: Global, stream: W, address: SocketAddr) -> Writer<W>
+        ensures idle { unsent result ≡ [] }
+        ensures address { result.address ≡ address }
+    {
         Writer {
             stream,
-            rest,
+            address,
+            rest: Vec::new(alloc),
             gone: 0,
         }
     }
 
-    /// Writes what waits, as far as the stream takes it now. Answers whether all is gone.
-    fn flush(&mut self) -> Result<bool, PushRefusal> {
+    /// Writes what is left, as far as the stream takes it now. Answers whether all is gone.
+    fn flush(&mut self) -> Result<bool, PushRefusal>
+        ensures bytes { Writes W.contents (unsent self.old) self.old self.new }
+        ensures all { IfOk result (λ done. done ≡ true → unsent self.new ≡ []) }
+        ensures some { IfOk result (λ done. done ≡ false → 0 < length (unsent self.new)) }
+        ensures err { OnErr result
+            (Keeps (W.contents self.old.stream) (W.contents self.new.stream)) }
+        ensures fault { IfErr result (λ e. e ≡ PushRefusal.Fault) }
+        ensures same { self.new.address ≡ self.old.address }
+    {
         if self.gone >= self.rest.len() {
             return Ok(true);
         }
@@ -68,9 +86,15 @@ impl Writer {
         }
     }
 
-    /// Writes the frame behind what waits. What the stream doesn't take of it waits in turn.
+    /// Writes the frame after what is left. What the stream doesn't take of it is left in turn.
     fn push(&mut self, frame: &Frame) -> Result<(), PushRefusal>
-        ensures { OnOk result (IsLawful (frame_at frame.now)) }
+        ensures lawful { OnOk result (IsLawful (frame_at frame.now)) }
+        ensures ok { OnOk result
+            (Writes W.contents (unsent self.old ++ spelling (frame_at frame.now)) self.old self.new) }
+        ensures err { OnErr result (Writes W.contents (unsent self.old) self.old self.new) }
+        ensures full { IfErr result
+            (λ e. e ≡ PushRefusal.Full → 0 < length (unsent self.new)) }
+        ensures same { self.new.address ≡ self.old.address }
     {
         if !is_lawful(frame) {
             return Err(PushRefusal::Fault);
@@ -91,7 +115,7 @@ impl Writer {
         match self.flush() {
             Ok(_) => Ok(()),
             Err(refusal) => {
-                // The frame goes back, and so nothing of it may wait.
+                // The frame goes back, and so nothing of it may be left.
                 self.gone = self.rest.len();
                 Err(refusal)
             }
@@ -99,10 +123,12 @@ impl Writer {
     }
 }
 
-impl SocketOut {
+impl<W: Write + Drop> SocketOut<W> {
     /// A lane on which nothing was pushed.
-    pub(crate) fn new(way: OutWay) -> SocketOut
-        ensures { IsNewOut result }
+    pub(crate) fn new(way: OutWay<W>) -> SocketOut<W>
+        ensures way { result.way ≡ way }
+        ensures faults { result.faults ≡ 0 }
+        ensures vain { result.vain ≡ 0 }
     {
         SocketOut {
             way,
@@ -111,9 +137,10 @@ impl SocketOut {
         }
     }
 
-    /// Writes what waits, as far as the stream takes it now.
+    /// Writes what is left, as far as the stream takes it now.
     pub(crate) fn carry(&mut self)
-        ensures { OutKept self.old self.new }
+        ensures kept { OutKept self.old self.new }
+        ensures bytes { PutsNothing W.contents self.old self.new }
     {
         if let OutWay::Stream(writer) = &mut self.way {
             let met = u64::from(writer.flush().is_err());
@@ -122,11 +149,15 @@ impl SocketOut {
     }
 }
 
-impl OutWay {
-    /// Puts the frame behind those that were pushed, or gives it back.
+impl<W: Write + Drop> OutWay<W> {
+    /// Puts the frame after those that were pushed, or gives it back.
     fn push(&mut self, frame: Frame) -> Result<(), (Frame, PushRefusal)>
         ensures back { IfErr result (λ e. e.0 ≡ frame) }
-        ensures lawful { OnOk result (IsOfStream self.old → IsLawful (frame_at frame)) }
+        ensures lawful { OnOk result (WayIsOfStream self.old → IsLawful (frame_at frame)) }
+        ensures ok { OnOk result (WayPuts W.contents self.old frame self.new) }
+        ensures err { OnErr result (WayWrites W.contents self.old self.new) }
+        ensures full { IfErr result (λ e. e.1 ≡ PushRefusal.Full → WayHasLeft self.new) }
+        ensures same { way_address self.new ≡ way_address self.old }
     {
         match self {
             OutWay::Own(frames) => {
@@ -144,24 +175,30 @@ impl OutWay {
     }
 }
 
-impl OutLane for SocketOut {
+impl<W: Write + Send + Drop> OutLane for SocketOut<W> {
     ghost pushed = { λ _. None };
 
     ghost faults = { λ o. o.faults };
 
     ghost vain = { λ o. o.vain };
 
-    ghost same = { λ _ _. Unit {0} };
+    ghost same = { λ a b. address_out b ≡ address_out a };
 
-    // The trait's clauses, how a refusal counts, and that a stream takes no other frames.
+    // The trait's clauses, how a refusal counts, and what goes to the stream or the list.
     fn push(&mut self, frame: Frame) -> Result<(), (Frame, PushRefusal)>
         ensures told { None ≡ told_more None (pushed_by frame result) }
         ensures vain { self.new.vain ≡ vain_push self.old.vain result }
-        ensures faults { (self.old.faults ≤ self.new.faults) × PushCause self.old.faults self.new.faults result }
+        ensures faults { (self.old.faults ≤ self.new.faults)
+            × PushCause self.old.faults self.new.faults result }
         ensures back { IfErr result (λ e. e.0 ≡ frame) }
-        ensures link { Unit {0} }
+        ensures link { address_out self.new ≡ address_out self.old }
         ensures counts { self.new.faults ≡ faults_push self.old.faults result }
-        ensures lawful { OnOk result (IsOfStream self.old.way → IsLawful (frame_at frame)) }
+
+        // What is put, and what stays.
+        ensures lawful { OnOk result (IsOfStream self.old → IsLawful (frame_at frame)) }
+        ensures put { OnOk result (IsPut W.contents self.old frame self.new) }
+        ensures err { OnErr result (PutsNothing W.contents self.old self.new) }
+        ensures full { IfErr result (λ e. e.1 ≡ PushRefusal.Full → HasLeft self.new) }
     {
         match self.way.push(frame) {
             Ok(()) => Ok(()),
@@ -177,7 +214,7 @@ impl OutLane for SocketOut {
         }
     }
 
-    ghost same_itself = { λ _. tt };
+    ghost same_itself = { λ _. refl };
 
-    ghost same_later = { λ _ _ _ _ _. tt };
+    ghost same_later = { λ _ _ _ p q. q ∙ p };
 }

@@ -1,4 +1,5 @@
 //! Streams of this machine's own address.
+ghost use Rattle.std.specs.Prelude.{◌≡◌, IfOk};
 ghost use Rattle.sj_socket.specs.Loopback.{IsLoopback};
 
 use mio::net::{TcpListener, TcpStream};
@@ -21,18 +22,20 @@ pub(crate) fn is_in_vain(error: &io::Error) -> bool {
     matches!(error.kind(), ErrorKind::WouldBlock | ErrorKind::Interrupted)
 }
 
-/// The end of the stream that comes from that address. A stream from another one is closed, and
-/// counts as a try.
+/// The end of the stream that comes from that address, and the address. A stream from another one is
+/// closed, and counts as a try.
 pub(crate) fn accept(
     listener: &TcpListener,
     from: SocketAddr,
     tries: u32,
-) -> io::Result<TcpStream> {
+) -> io::Result<(TcpStream, SocketAddr)>
+    ensures { IfOk result (λ x. x.1 ≡ from) }
+{
     for _ in 0..tries {
         match listener.accept() {
             Ok((far, peer)) => {
                 if peer == from {
-                    return Ok(far);
+                    return Ok((far, peer));
                 }
             }
             Err(error) => {
@@ -59,11 +62,16 @@ pub(crate) fn connect<R: Net>(net: &R, port: u16) -> io::Result<(TcpStream, Sock
     Ok((near, from))
 }
 
+/// An end of a stream, with the address of the end on which is written.
+pub(crate) type StreamEnd = (TcpStream, SocketAddr);
+
 /// The two ends of a new stream: what is written to the first is read from the second.
-pub(crate) fn both_ends<R: Net>(net: &R) -> io::Result<(TcpStream, TcpStream)> {
+pub(crate) fn both_ends<R: Net>(net: &R) -> io::Result<(StreamEnd, StreamEnd)>
+    ensures { IfOk result (λ e. e.1.1 ≡ e.0.1) }
+{
     let (listener, port) = listen(net)?;
-    let (near, from) = connect(net, port)?;
-    let far = accept(&listener, from, TRIES)?;
-    near.set_nodelay(true)?;
+    let near = connect(net, port)?;
+    let far = accept(&listener, near.1, TRIES)?;
+    near.0.set_nodelay(true)?;
     Ok((near, far))
 }

@@ -1,15 +1,15 @@
 //! Frames over streams of this machine, and what is a fault there.
 ghost use Rattle.std.specs.Prelude.{◌≡◌, ◌<◌, vec_len};
-ghost use Rattle.sj_lane.specs.Square.{IsSquare};
+ghost use Rattle.sj_lane.specs.Square.{AllJoined, IsSquare};
+ghost use Rattle.sj_socket.specs.Joined.{IsJoined};
 
 use crate::in_lane::{InWay, Reader};
-use crate::stream::{accept, both_ends, connect, listen};
-use crate::{SocketIn, SocketLinks, SocketOut};
+use crate::stream::{StreamEnd, accept, both_ends, connect, listen};
+use crate::{SocketLinks, TcpIn, TcpOut};
 use mio::net::TcpStream;
 use sj_base::{EndId, Msg};
 use sj_end::{Body, Frame};
 use sj_lane::{InLane, Lanes, Links, OutLane, PopRefusal, PushRefusal};
-use sj_wire::Decoder;
 use std::alloc::Global;
 use std::io::{Read, Write};
 use std::test::Fail;
@@ -51,7 +51,7 @@ fn byte_from(stream: &mut TcpStream) -> Option<u8> {
 }
 
 /// What a lane answers that isn't none, however long it takes to come.
-fn pop_next(lane: &mut SocketIn) -> Result<Option<(u32, u32)>, PopRefusal> {
+fn pop_next(lane: &mut TcpIn) -> Result<Option<(u32, u32)>, PopRefusal> {
     for _ in 0..TRIES {
         if let Some(frame) = lane.pop()? {
             return Ok(Some(shown(frame)));
@@ -61,10 +61,10 @@ fn pop_next(lane: &mut SocketIn) -> Result<Option<(u32, u32)>, PopRefusal> {
 }
 
 /// A lane over that end of a stream.
-fn lane_from(alloc: Global, far: TcpStream) -> Result<SocketIn, Fail> {
+fn lane_from(alloc: Global, far: StreamEnd) -> Result<TcpIn, Fail> {
     let room = Vec::from_slice(alloc, &[0u8; 16])?;
-    let reader = Reader::new(far, Decoder::new(alloc), room);
-    Ok(SocketIn::new(InWay::Stream(reader)))
+    let reader = Reader::new(alloc, far.0, far.1, room);
+    Ok(TcpIn::new(InWay::Stream(reader)))
 }
 
 #[test]
@@ -72,7 +72,7 @@ fn a_stream_from_a_stranger_is_refused(rt: HostRuntime) -> Result<(), Fail> {
     let (listener, port) = listen(&rt)?;
     let (mut stranger, _) = connect(&rt, port)?;
     let (mut near, from) = connect(&rt, port)?;
-    let mut far = accept(&listener, from, TRIES)?;
+    let (mut far, _) = accept(&listener, from, TRIES)?;
     stranger.write(&[1])?;
     near.write(&[2])?;
     assert_eq!(rt; byte_from(&mut far), Some(2));
@@ -133,7 +133,7 @@ fn a_frame_outside_the_limits_is_a_fault(rt: HostRuntime) -> Result<(), Fail> {
 
 #[test]
 fn what_is_no_frame_is_a_fault(rt: HostRuntime) -> Result<(), Fail> {
-    let (mut near, far) = both_ends(&rt)?;
+    let ((mut near, _), far) = both_ends(&rt)?;
     let mut lane = lane_from(rt.alloc(), far)?;
     near.write(&[0, 0, 0, 14])?;
     assert_eq!(rt; pop_next(&mut lane), Err(PopRefusal::Fault));
@@ -144,7 +144,7 @@ fn what_is_no_frame_is_a_fault(rt: HostRuntime) -> Result<(), Fail> {
 
 #[test]
 fn the_end_of_a_stream_is_a_fault(rt: HostRuntime) -> Result<(), Fail> {
-    let (mut near, far) = both_ends(&rt)?;
+    let ((mut near, _), far) = both_ends(&rt)?;
     let mut lane = lane_from(rt.alloc(), far)?;
     near.write(&[0, 0, 0])?;
     drop(near);
@@ -155,7 +155,7 @@ fn the_end_of_a_stream_is_a_fault(rt: HostRuntime) -> Result<(), Fail> {
 
 /// Pushes the frame on the lane from one party to another.
 fn push(
-    lanes: &mut Vec<Lanes<SocketOut, SocketIn>>,
+    lanes: &mut Vec<Lanes<TcpOut, TcpIn>>,
     from: usize,
     to: usize,
     frame: Frame,
@@ -163,8 +163,10 @@ fn push(
     requires from { from < vec_len lanes.old }
     requires to { to < vec_len lanes.old }
     requires square { IsSquare lanes.old.items }
+    requires joined { AllJoined IsJoined lanes.old.items }
     ensures size { vec_len lanes.new ≡ vec_len lanes.old }
     ensures square { IsSquare lanes.new.items }
+    ensures joined { AllJoined IsJoined lanes.new.items }
 {
     match lanes[from].outs[to].push(frame) {
         Ok(()) => Ok(()),

@@ -15,4 +15,4 @@ pub loop-to-preserved : goal.loop-to-preserved
 loop-to-preserved c =
     let n = each2_length OutKept c.args.outs.now.items c.loop-to.outs.items c.loop-to.invariant in
     let at = slice_get_read c.loop-to.outs.items (length c.loop-to.outs.items) c.loop-to.to c.index_mut.result.now refl (omega arith) c.index_mut.ensures.value in
-    each2_put OutKept c.args.outs.now.items c.loop-to.outs.items c.loop-to.to c.index_mut.result.now c.carry.new.self c.loop-to.invariant at (λ o h. out_later o c.index_mut.result.now c.carry.new.self h c.carry.ensures)
+    each2_put OutKept c.args.outs.now.items c.loop-to.outs.items c.loop-to.to c.index_mut.result.now c.carry.new.self c.loop-to.invariant at (λ o h. out_later o c.index_mut.result.now c.carry.new.self h c.carry.ensures.kept)

@@ -16,7 +16,7 @@ loop-from-preserved g c =
     let news : AreNewOuts c.args.parties c.in-Ok-row.outs.items = subst (λ (n : ℕ). AreNewOuts n c.in-Ok-row.outs.items) size c.in-Ok-row.ensures.outs in
     let long = now.size in
     let at = slice_get_read c.row.new.lanes.items (length c.row.new.lanes.items) c.loop-from.from c.index_mut.result.now refl (omega (arith, lt, long)) c.index_mut.ensures.value in
-    (outs_more c.args.parties c.loop-from.from c.row.new.lanes.items c.index_mut.result.now _ now lt at news refl, omega (arith, lt))
+    (outs_more c.args.parties c.loop-from.from c.row.new.lanes.items c.index_mut.result.now _ now lt at news c.in-Ok-row.ensures.links refl, omega (arith, lt))
 
 pub returns : goal.returns
 returns g c =

@@ -1,5 +1,5 @@
 use Rattle.std.proofs.Common.{None}
-use Rattle.sj_socket.proofs.KeptLemmas.{none_fell, same_lists, still_square}
+use Rattle.sj_socket.proofs.KeptLemmas.{none_fell, same_lists, still_joined, still_square}
 use Rattle.sj_socket.proofs.links.SocketLinksLinks.carry.Goals as goal
 
 pub returns-clause-square : goal.returns-clause-square
@@ -10,3 +10,6 @@ returns-clause-lists g c = same_lists c.args.lanes.now c.carry_all.new.lanes c.c
 
 pub returns-clause-faults : goal.returns-clause-faults
 returns-clause-faults g c = none_fell c.args.lanes.now c.carry_all.new.lanes c.carry_all.ensures
+
+pub returns-clause-joined : goal.returns-clause-joined
+returns-clause-joined g c = still_joined c.args.lanes.now c.carry_all.new.lanes c.carry_all.ensures c.requires.joined
