@@ -120,6 +120,67 @@ fn two_parties_wait_for_each_other(rt: HostRuntime) -> Result<(), Fail> {
     Ok(())
 }
 
+// A party is inside during each of its events, until it has looked so often, or two were seen inside.
+#[derive(Drop)]
+struct Room {
+    looks: u32,
+    inside: AtomicU64,
+    saw_two: AtomicU64,
+    first_came: AtomicU64,
+    second_came: AtomicU64,
+}
+
+impl Room {
+    fn new(looks: u32) -> Room {
+        Room {
+            looks,
+            inside: AtomicU64::new(0),
+            saw_two: AtomicU64::new(0),
+            first_came: AtomicU64::new(0),
+            second_came: AtomicU64::new(0),
+        }
+    }
+}
+
+impl Gate for Room {
+    fn pass(&self, party: u16, _entry: &Entry) {
+        if party == 0 {
+            self.first_came.store(1, Ordering::SeqCst);
+        } else {
+            self.second_came.store(1, Ordering::SeqCst);
+        }
+        self.inside.fetch_add(1, Ordering::SeqCst);
+        for _ in 0..self.looks {
+            if self.inside.load(Ordering::SeqCst) > 1 {
+                self.saw_two.store(1, Ordering::SeqCst);
+            }
+            if self.saw_two.load(Ordering::SeqCst) == 1 {
+                break;
+            }
+        }
+        self.inside.fetch_sub(1, Ordering::SeqCst);
+    }
+}
+
+#[test]
+fn on_one_thread_no_two_parties_are_seen_at_once(rt: HostRuntime) -> Result<(), Fail> {
+    for (threads, times, two) in [("1", 1000, 0), ("2", 200_000_000, 1)] {
+        for looks in ["0", "1"] {
+            let room = Room::new(times);
+            let words = ["run", "--workers", threads, "--looks", looks];
+            let mut links = RingLinks::new();
+            let file = MEETING.as_bytes();
+            let (status, out) = answer_past(&rt, rt.alloc(), &words, file, &mut links, &room)?;
+            assert_eq!(rt; out.text(), MET.as_bytes(), "{words:?}");
+            assert_eq!(rt; status, 0, "{words:?}");
+            assert_eq!(rt; room.first_came.load(Ordering::SeqCst), 1, "{words:?}");
+            assert_eq!(rt; room.second_came.load(Ordering::SeqCst), 1, "{words:?}");
+            assert_eq!(rt; room.saw_two.load(Ordering::SeqCst), two, "{words:?}");
+        }
+    }
+    Ok(())
+}
+
 // A gate that drops the first entry of each party has no front of them.
 #[test]
 fn what_a_gate_saw_of_a_party_is_a_front_of_its_lines(rt: HostRuntime) -> Result<(), Fail> {
