@@ -1,13 +1,17 @@
 -- What two calls of a stream, one after the other, do together.
-use Rattle.std.proofs.Common.{◌≡◌, ℕ, List, [], ◌++◌, Option, Some, None, Result, Ok, Err, IfNone, IfOk, IfSome, sym, ap, ◌∙◌, subst, append_assoc, append-nil}
+use Rattle.std.proofs.Common.{◌≡◌, ℕ, List, [], ◌++◌, Option, Some, None, Result, Ok, Err, IfNone, IfOk, IfSome, refl, sym, ap, ◌∙◌, subst, append_assoc, append-nil}
 use Rattle.std.specs.Io.KnownBytes.{Appends, Consumes}
-use Rattle.std.proofs.KnownBytes.{Appends-trans, Consumes-nil}
+use Rattle.std.proofs.KnownBytes.{Appends-nil, Appends-trans, Consumes-nil}
 use Rattle.sj_end.specs.Views.{frame_at}
 use Rattle.sj_end.specs.declared.wire.Frame.{Frame}
 use Rattle.sj_wire.specs.Front.{Whole, front_of}
-use Rattle.sj_socket.specs.Ins.{Comes, FrameComes, unused}
-use Rattle.sj_socket.specs.Outs.{Writes, unsent}
+use Rattle.sj_socket.specs.Ins.{Comes, FrameComes, WayStays, unused}
+use Rattle.sj_socket.specs.Outs.{WayFlushes, Writes, unsent}
+use Rattle.sj_socket.specs.declared.in_lane.InWay.{InWay}
+use Rattle.sj_socket.specs.declared.in_lane.InWay.TheVariants as into
 use Rattle.sj_socket.specs.declared.in_lane.Reader.{Reader}
+use Rattle.sj_socket.specs.declared.out_lane.OutWay.{OutWay}
+use Rattle.sj_socket.specs.declared.out_lane.OutWay.TheVariants as out
 use Rattle.sj_socket.specs.declared.out_lane.Writer.{Writer}
 use Rattle.sj_socket.proofs.WholeLemmas.{front_behind}
 
@@ -20,6 +24,36 @@ writes_more {W} contents v m n w bytes a none same is b = record {
       ∙ ap (λ (bs : List ℕ). a.taken ++ bs) (sym is ∙ b.all) ∙ sym (append_assoc a.taken b.taken (unsent w));
   holds = Appends-trans (contents v.stream) (contents m.stream) (contents w.stream) a.taken b.taken a.holds (subst (λ (s : W). Appends (contents s) (contents w.stream) b.taken) same b.holds);
 }
+
+module _ {W : Type 0} (contents : W → Option (List ℕ)) where
+  pub way_flushes : (v : OutWay W) → WayFlushes contents v v
+  way_flushes (out.Own xs) = tt
+  way_flushes (out.Stream v) = record { taken = []; all = refl; holds = Appends-nil (contents v.stream) }
+
+  pub flushes_later : (v m w : OutWay W) → WayFlushes contents v m → WayFlushes contents m w → WayFlushes contents v w
+  flushes_later (out.Own xs) (out.Own ys) (out.Own zs) a b = tt
+  flushes_later (out.Own xs) (out.Own ys) (out.Stream w) a b = absurd b
+  flushes_later (out.Own xs) (out.Stream m) w a b = absurd a
+  flushes_later (out.Stream v) (out.Own ys) w a b = absurd a
+  flushes_later (out.Stream v) (out.Stream m) (out.Own zs) a b = absurd b
+  flushes_later (out.Stream v) (out.Stream m) (out.Stream w) a b = record {
+    taken = a.taken ++ b.taken;
+    all = a.all ∙ ap (λ (bs : List ℕ). a.taken ++ bs) b.all ∙ sym (append_assoc a.taken b.taken (unsent w));
+    holds = Appends-trans (contents v.stream) (contents m.stream) (contents w.stream) a.taken b.taken a.holds b.holds;
+  }
+
+module _ {R : Type 0} where
+  pub way_stays : (v : InWay R) → WayStays v v
+  way_stays (into.Own xs) = tt
+  way_stays (into.Stream v) = refl
+
+  pub stays_later : (v m w : InWay R) → WayStays v m → WayStays m w → WayStays v w
+  stays_later (into.Own xs) (into.Own ys) (into.Own zs) a b = tt
+  stays_later (into.Own xs) (into.Own ys) (into.Stream w) a b = absurd b
+  stays_later (into.Own xs) (into.Stream m) w a b = absurd a
+  stays_later (into.Stream v) (into.Own ys) w a b = absurd a
+  stays_later (into.Stream v) (into.Stream m) (into.Own zs) a b = absurd b
+  stays_later (into.Stream v) (into.Stream m) (into.Stream w) a b = b ∙ a
 
 module _ {R : Type 0} (remaining : R → Option (List ℕ)) where
   -- before anything comes

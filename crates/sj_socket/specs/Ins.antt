@@ -1,5 +1,5 @@
 -- Lanes from which parties pop: what came, and what a pop takes of it.
-use Rattle.std.specs.Prelude.{◌≡◌, ℕ, List, [], ◌∷◌, ◌++◌, Option, Some, None}
+use Rattle.std.specs.Prelude.{◌≡◌, ⊤, ℕ, List, [], ◌∷◌, ◌++◌, Option, Some, None}
 use Rattle.std.specs.Io.KnownBytes.{Consumes}
 use Rattle.std.specs.declared.net.socket_addr.SocketAddr.{SocketAddr}
 use Rattle.sj_end.specs.Views.{frame_at}
@@ -63,6 +63,13 @@ module _ {R : Type 0} where
   -- no frame is left: what came of a stream is less than one
   abbrev pub IsAllRead : SocketIn R → Type 0
   IsAllRead i = WayIsAllRead i.way
+
+  -- a stream stays as it is, with what came of it; a list may change
+  abbrev pub WayStays : InWay R → InWay R → Type 0
+  WayStays (ways.Own xs) (ways.Own ys) = ⊤
+  WayStays (ways.Own xs) (ways.Stream w) = ⊥
+  WayStays (ways.Stream v) (ways.Own ys) = ⊥
+  WayStays (ways.Stream v) (ways.Stream w) = w ≡ v
 
   abbrev pub WayIsEmpty : InWay R → Type 0
   WayIsEmpty (ways.Own frames) = frames.items ≡ []

@@ -33,6 +33,13 @@ module _ {W : Type 0} (contents : W → Option (List ℕ)) where
   WayWrites (ways.Stream v) (ways.Own ys) = ⊥
   WayWrites (ways.Stream v) (ways.Stream w) = Writes (unsent v) v w
 
+  -- of what is left to write a stream takes a prefix; a list may change
+  abbrev pub WayFlushes : OutWay W → OutWay W → Type 0
+  WayFlushes (ways.Own xs) (ways.Own ys) = ⊤
+  WayFlushes (ways.Own xs) (ways.Stream w) = ⊥
+  WayFlushes (ways.Stream v) (ways.Own ys) = ⊥
+  WayFlushes (ways.Stream v) (ways.Stream w) = Writes (unsent v) v w
+
   -- the frame's spelling comes after what is left to write, and of that the stream takes a prefix; a list gets the frame at its end
   abbrev pub IsPut : SocketOut W → Frame → SocketOut W → Type 0
   IsPut a f b = WayPuts a.way f b.way

@@ -1,6 +1,7 @@
 //! What waits in lanes, moved on.
 ghost use Rattle.sj_lane.specs.Rings.{Each2};
 ghost use Rattle.sj_socket.specs.Kept.{InKept, LanesKept, OutKept};
+ghost use Rattle.sj_socket.specs.Streams.{told};
 
 use crate::in_lane::InWay;
 use crate::out_lane::OutWay;
@@ -11,7 +12,7 @@ use sj_lane::Lanes;
 /// Moves what waits in a list of what a party sent to itself to its other end. Where memory is short
 /// nothing moves.
 fn carry_own(out: &mut TcpOut, lane: &mut TcpIn) -> Result<(), NoMemory>
-    ensures out { OutKept out.old out.new }
+    ensures out { OutKept told out.old out.new }
     ensures lane { InKept lane.old lane.new }
 {
     if let (OutWay::Own(sent), InWay::Own(came)) = (&mut out.way, &mut lane.way) {
@@ -22,7 +23,7 @@ fn carry_own(out: &mut TcpOut, lane: &mut TcpIn) -> Result<(), NoMemory>
 
 /// Tries the streams to other parties.
 fn carry_outs(outs: &mut Vec<TcpOut>)
-    ensures { Each2 OutKept outs.old.items outs.new.items }
+    ensures { Each2 (OutKept told) outs.old.items outs.new.items }
 {
     for to in 0..outs.len() {
         outs[to].carry();

@@ -1,11 +1,12 @@
 //! The links.
 ghost use Rattle.std.proofs.Common.{◌∙◌, sym};
-ghost use Rattle.std.specs.Prelude.{◌≡◌, ◌≤◌, Err, IfOk, [], false, true, vec_len};
-ghost use Rattle.sj_lane.specs.Square.{AllJoined, HasFault, IsFresh, IsSquare, Kept, NoFault};
+ghost use Rattle.std.specs.Prelude.{◌≡◌, ◌≤◌, ℕ, Err, IfOk, [], false, true, vec_len};
+ghost use Rattle.sj_lane.specs.Square.{AllJoined, HasFault, IsFresh, IsSquare, Kept, NoFault, NoneFell, SameLists};
 ghost use Rattle.sj_lane.specs.Told.{Rose};
 ghost use Rattle.sj_socket.specs.Counts.{capped_sum, faults_make, met};
 ghost use Rattle.sj_socket.specs.Idle.{AreIdle};
 ghost use Rattle.sj_socket.specs.Joined.{AreLinks, IsJoined};
+ghost use Rattle.sj_socket.specs.Kept.{AreCarried, uncounted, untold};
 
 use crate::carries::carry_all;
 use crate::faults::{add_faults, with_all};
@@ -89,7 +90,22 @@ impl<R: Net + Drop> Links for SocketLinks<R> {
         }
     }
 
-    fn carry(&mut self, lanes: &mut [Lanes<TcpOut, TcpIn>]) -> Result<(), NoMemory> {
+    // The trait's clauses, and what goes over streams.
+    fn carry(&mut self, lanes: &mut [Lanes<TcpOut, TcpIn>]) -> Result<(), NoMemory>
+        requires square { IsSquare lanes.old }
+        requires joined { AllJoined IsJoined lanes.old }
+        ensures square { IsSquare lanes.new }
+        ensures joined { AllJoined IsJoined lanes.new }
+        ensures lists { SameLists ⟦<TcpOut as OutLane>⟧.pushed ⟦<TcpIn as InLane>⟧.popped
+            ⟦<TcpOut as OutLane>⟧.vain ⟦<TcpIn as InLane>⟧.vain lanes.old lanes.new }
+        ensures faults { NoneFell ⟦<TcpOut as OutLane>⟧.faults ⟦<TcpIn as InLane>⟧.faults
+            lanes.old lanes.new }
+        ensures shown { (p q : ℕ) → (untold ≡ untold) × (untold ≡ untold)
+            × (uncounted ≡ uncounted) × (uncounted ≡ uncounted) }
+        ensures tells { false ≡ false }
+        ensures fault { self.new.faults ≡ self.old.faults }
+        ensures carried { AreCarried lanes.old lanes.new }
+    {
         carry_all(lanes)
     }
 

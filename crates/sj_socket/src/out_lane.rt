@@ -139,8 +139,7 @@ impl<W: Write + Drop> SocketOut<W> {
 
     /// Writes what is left, as far as the stream takes it now.
     pub(crate) fn carry(&mut self)
-        ensures kept { OutKept self.old self.new }
-        ensures bytes { PutsNothing W.contents self.old self.new }
+        ensures { OutKept W.contents self.old self.new }
     {
         if let OutWay::Stream(writer) = &mut self.way {
             let met = u64::from(writer.flush().is_err());

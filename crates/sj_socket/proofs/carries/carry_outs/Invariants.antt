@@ -1,6 +1,7 @@
 use Rattle.sj_lane.specs.Rings.{Each2}
 use Rattle.sj_socket.specs.Kept.{OutKept}
+use Rattle.sj_socket.specs.Streams.{told}
 use Rattle.sj_socket.proofs.carries.carry_outs.Given as goal
 
 abbrev pub invariant-loop-to : goal.invariant-loop-to
-invariant-loop-to l = Each2 OutKept l.initial.outs.items l.outs.items
+invariant-loop-to l = Each2 (OutKept told) l.initial.outs.items l.outs.items

@@ -1,5 +1,5 @@
 use Rattle.std.proofs.Common.{None}
-use Rattle.sj_socket.proofs.KeptLemmas.{none_fell, same_lists, still_joined, still_square}
+use Rattle.sj_socket.proofs.KeptLemmas.{all_carried, none_fell, same_lists, still_joined, still_square}
 use Rattle.sj_socket.proofs.links.SocketLinksLinks.carry.Goals as goal
 
 pub returns-clause-square : goal.returns-clause-square
@@ -13,3 +13,6 @@ returns-clause-faults g c = none_fell c.args.lanes.now c.carry_all.new.lanes c.c
 
 pub returns-clause-joined : goal.returns-clause-joined
 returns-clause-joined g c = still_joined c.args.lanes.now c.carry_all.new.lanes c.carry_all.ensures c.requires.joined
+
+pub returns-clause-carried : goal.returns-clause-carried
+returns-clause-carried g c = all_carried c.args.lanes.now c.carry_all.new.lanes c.carry_all.ensures
