@@ -72,7 +72,10 @@ build() {
     rm -f "$built"
     echo "$name: proving all that it stands on and building it, which takes some $proofs of processor time the first time" >&2
     log=$(cd "$here/crates/$name" && rt run </dev/null 2>&1)
-    [ -x "$built" ] && return 0
+    if [ -x "$built" ]; then
+        echo "$name: built" >&2
+        return 0
+    fi
     printf '%s\n' "$log" >&2
     say_toolchain
     exit 127
