@@ -75,6 +75,8 @@ words_cases() {
     ends 1 '' 'big wants a number from 1 to 1000' "$sj" big
     ends 1 '' '`--looks` wants a number from 0 to 1000000' "$sj" run --looks 1000001 good.sj
     ends 1 '' '`--workers` wants a value behind it' "$sj" run --workers
+    ends 1 '' '`--log` stands twice' "$sj" run --log good.sj --log
+    ends 1 '' '`--looks` stands twice' "$sj" run --looks 5 --looks=6 good.sj
     ends 1 '' '`--log` takes no value' "$sj" run --log=1 good.sj
     ends 1 '' '`--forward` stands alone' "$sj" run --forward --log good.sj
     ends 1 '' 'run reads one file, and `bad.sj` is one more' "$sj" run good.sj bad.sj

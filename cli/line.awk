@@ -78,6 +78,8 @@ function take_option(i,    word, given, has, known) {
     } else if (!is_in(word, known)) {
         refuse("`" word "` is no option" (command == "" ? "" : " of " command) "; the nearest is `" nearest(word, known commons) "`")
     }
+    if (seen[word]++ && commands_of[program] != "")
+        refuse("`" word "` stands twice")
     if (has && !(word in takes_value))
         refuse("`" word "` takes no value")
     if (word in takes_value && !has) {
