@@ -3,7 +3,7 @@
 # script was called. The program reads standard input, and knows the words of docs/FORMATS.md; files, pages of help and
 # all else that cli/words.txt calls `extra` or `common` are done here, and in cli/. The status is the program's, and 127
 # where neither it nor the toolchain is there.
-here=$(cd "$(dirname "$0")" && pwd) || exit 127
+here=$(CDPATH='' cd "$(dirname "$0")" && pwd) || exit 127
 cli=$here/cli
 name=$1
 called=$2
@@ -15,7 +15,7 @@ case $kind in
     help) exec awk -f "$cli/words.awk" -f "$cli/page.awk" "$cli/words.txt" "$name" "$page" ;;
     version)
         echo "$name $(cat "$here/VERSION") (Porcharnica)"
-        echo "proved with $(cat "$cli/kit.txt")"
+        echo "toolchain: $(cat "$cli/kit.txt")"
         exit
         ;;
 esac

@@ -69,6 +69,7 @@ say_toolchain() {
 build() {
     is_ready && return 0
     need_toolchain "$(how_built)"
+    say_toolchain
     rm -f "$built"
     echo "$name: proving all that it stands on and building it, which takes some $proofs of processor time the first time" >&2
     log=$(cd "$here/crates/$name" && rt run </dev/null 2>&1)
@@ -77,7 +78,6 @@ build() {
         return 0
     fi
     printf '%s\n' "$log" >&2
-    say_toolchain
     exit 127
 }
 

@@ -138,6 +138,7 @@ link_cases() {
         "isn't on the PATH" "$sj" --install home/other
     ends 0 "sj run${n}good" '' home/other/sj run good.sj
     ends 0 "sjdraw${n}good" '' home/other/sjdraw good.sj
+    ends 0 "sj run${n}good" '' env CDPATH="$folder:/" home/other/sj run good.sj
     "$sj" --install=home/bin >out 2>said
     ends 0 "sj run${n}good" '' home/bin/sj run good.sj
     ends 0 "$(cat "$top/cli/made/sj.1")" '' cat home/share/man/man1/sjwhy.1

@@ -17,7 +17,7 @@ install_in() {
         echo "$called: there is no folder $1" >&2
         return 127
     fi
-    to=$(cd "$1" && pwd) || return 127
+    to=$(CDPATH='' cd -- "$1" && pwd) || return 127
     failed=0
     case ":$PATH:" in
         *":$to:"*) ;;

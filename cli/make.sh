@@ -1,7 +1,7 @@
 #!/bin/sh
 # Writes the files of made/ from words.txt: the man page, and the completions for bash and zsh.
 # usage: cli/make.sh [FOLDER], where FOLDER is made/ beside it if left out
-cli=$(cd "$(dirname "$0")" && pwd) || exit 2
+cli=$(CDPATH='' cd "$(dirname "$0")" && pwd) || exit 2
 to=${1:-$cli/made}
 mkdir -p "$to" || exit 2
 write() {

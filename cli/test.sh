@@ -1,7 +1,7 @@
 #!/bin/bash
 # Tries all that the scripts do, in a copy of them where stub.sh stands in for the programs: once built, and once with a
 # toolchain that is a stub, too. The last line is `N passed, M failed`.
-cli=$(cd "$(dirname "$0")" && pwd) || exit 2
+cli=$(CDPATH='' cd "$(dirname "$0")" && pwd) || exit 2
 folder=$(mktemp -d) || exit 2
 trap 'rm -rf "$folder"' EXIT
 top="$folder/a copy"
