@@ -45,23 +45,19 @@ BEGIN {
     file = ARGV[3]
     for (i = 1; i < 32; i++)
         code[sprintf("%c", i)] = i
-    while ((getline said < "-") > 0) {
-        n++
-        if (n == 1)
-            first = said
-        else if (n == 2)
-            second = said
-        else if (said ~ /^  +[0-9]* \| / && above == "")
-            above = said
-        else if (said ~ /^  +\| / && column == "" && above != "")
-            take_signs(said, above)
-        else if (sub(/^there: /, "", said))
-            there = said
-        else if (sub(/^mend: /, "", said))
-            mend = said
-        else if (match(said, /^ends [a-z]+/))
-            verdict = substr(said, 6, RLENGTH - 5)
-    }
+    # the answer is what awk reads
+    ARGC = 1
+}
+
+NR == 1 { first = $0; next }
+NR == 2 { next }
+/^  +[0-9]* \| / && above == "" { above = $0; next }
+/^  +\| / && column == "" && above != "" { take_signs($0, above); next }
+sub(/^there: /, "") { there = $0; next }
+sub(/^mend: /, "") { mend = $0; next }
+match($0, /^ends [a-z]+/) { verdict = substr($0, 6, RLENGTH - 5) }
+
+END {
     n = split(first, w, " ")
     if (w[1] == "check" || w[1] == "syntax") {
         split(w[4], at, ":")
