@@ -112,6 +112,13 @@ answer_plain() {
     done
     if [ "$#" -eq 2 ]; then
         prepare
+        if [ "$1" = - ]; then
+            cat >"$folder/first" || exit 127
+            set -- "$folder/first" "$2"
+        elif [ "$2" = - ]; then
+            cat >"$folder/second" || exit 127
+            set -- "$1" "$folder/second"
+        fi
         joined "$1" "$2" >"$folder/joined" || exit 127
         run_program <"$folder/joined"
         exit

@@ -40,6 +40,8 @@ files_cases() {
     ends 2 '' 'a_folder is a folder' "$sj" run a_folder
     ends 0 "sj replay${n}good${n}%%log2${n}1 a local" '' "$sj" replay good.sj printed
     ends 0 "sj replay --log${n}no newline${n}%%log2${n}1 a local" '' "$sj" replay --log open.sj printed
+    ends 0 "sj replay${n}good${n}%%log2${n}1 a local" '' reads printed "$sj" replay good.sj -
+    ends 0 "sj talk 3${n}no newline${n}%%talk${n}take x" '' reads open.sj "$sj" talk 3 - lines
     ends 0 "sj talk 0${n}good${n}%%talk${n}take x" '' "$sj" talk 0 good.sj lines
     ends 0 "sj talk 15${n}good" '' "$sj" talk 15 good.sj
     ends 2 '' 'there is no file none.sj' "$sj" talk 0 good.sj none.sj
