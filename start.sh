@@ -1,50 +1,59 @@
 #!/bin/sh
-# Runs one of the programs of this repository: start.sh PROGRAM WORDS.., with this standard input; its status is the program's.
-# Where the program is built it starts at once. Where it isn't, or a source is newer, this one call is answered by the
-# toolchain's run without proofs: the same output and status, but later. `start.sh PROGRAM --build` proves and builds it.
-here=$(cd "$(dirname "$0")" && pwd) || exit 127
+# Runs one of the programs of this repository: start.sh PROGRAM CALLED WORDS.., where CALLED is the name by which its
+# script was called. The program reads standard input, and knows the words of docs/FORMATS.md; files, pages of help and
+# all else that cli/words.txt calls `extra` or `common` are done here, and in cli/. The status is the program's, and 127
+# where neither it nor the toolchain is there.
+here=$(CDPATH='' cd "$(dirname "$0")" && pwd) || exit 127
+cli=$here/cli
 name=$1
-shift
-built=$here/crates/$name/out/$name
-# what a call without proofs takes, and in processor time the proofs of all below
-case $name in
-    sjdraw) call="half a minute" proofs="five minutes" ;;
-    *) call="two minutes" proofs="50 minutes" ;;
-esac
-newer=
-if [ -x "$built" ]; then
-    newer=$(find "$here/crates.txt" "$here"/crates/*/src "$here"/crates/*/specs -newer "$built" 2>/dev/null | head -n 1)
-    [ -n "$newer" ] || [ "$*" = --build ] || exec "$built" "$@"
-fi
-if [ "$*" = --build ]; then
-    [ -x "$built" ] && [ -z "$newer" ] && exit 0
-    rm -f "$built"
-    echo "$name: proving all that it stands on and building it, which takes some $proofs of processor time the first time" >&2
-    log=$(cd "$here/crates/$name" && rt run </dev/null 2>&1)
-    [ -x "$built" ] && exit 0
-    printf '%s\n' "$log" >&2
-    exit 127
-fi
-echo "$name: not built, so this call is answered by the toolchain's run without proofs, in some $call;" \
-    "./$name --build proves and builds it in some $proofs of processor time, and then it starts at once" >&2
-said=$(mktemp) && input=$(mktemp) || exit 127
-trap 'rm -f "$said" "$input"' EXIT
-# the toolchain takes an input that is silent for two seconds as ended, so what the program would read is read here
-case " $name $* " in
-    " sjdraw "* | " sjwhy "* | *" check "* | *" show "* | *" forest "* | *" sim "* | *" run "* | *" replay "* | *" talk "*)
-        head -c 67108865 >"$input" || exit 127
-        if [ "$name" = sjdraw ] && [ "$(wc -c <"$input")" -gt 67108864 ]; then
-            echo "$name: this input is too long for a run without proofs" >&2
-            exit 127
-        fi
+called=$2
+shift 2
+plan=$(LC_ALL=C awk -f "$cli/words.awk" -f "$cli/line.awk" "$cli/words.txt" "$called" "$name" "$@") || exit
+json='' strict='' signed=0
+eval "$plan"
+case $kind in
+    help) exec awk -f "$cli/words.awk" -f "$cli/page.awk" "$cli/words.txt" "$name" "$page" ;;
+    version)
+        echo "$name $(cat "$here/VERSION") (Porcharnica)"
+        echo "toolchain: $(cat "$cli/kit.txt")"
+        exit
         ;;
 esac
-(cd "$here/crates/$name" && rt try -- "$@" <"$input" 2>"$said")
-# where the program itself ended, its status is told in what the toolchain says
-ended=$(sed -n 's/^run=ended status=\([0-9]*\) .*/\1/p' "$said")
-if [ -z "$ended" ]; then
-    cat "$said" >&2
-    exit 127
+
+# of the words those that are files, or the folder of --install
+at=0
+for word do
+    shift
+    at=$((at + 1))
+    case " $files " in *" $at "*) set -- "$@" "$word" ;; esac
+done
+if [ "$kind" = install ]; then
+    [ "$signed" -eq 0 ] || set -- "${1#--install=}"
+    . "$cli/install.sh"
+    install_in "$1"
+    exit
 fi
-grep -vE '^(interpreter|checked|races|run)[:=]' "$said" >&2
-exit "$ended"
+
+. "$cli/built.sh"
+. "$cli/answer.sh"
+find_built
+if [ "$kind" = build ]; then
+    build
+    exit
+fi
+
+# where a human reads
+if [ "$#" -eq 0 ] && [ "$reads" -eq 1 ] && [ -t 0 ]; then
+    echo "$called: no file is named, and standard input is a terminal; name a file, or - to type one" >&2
+    exit 1
+fi
+if [ -t 1 ] && [ -t 2 ]; then
+    case $page in
+        sim) echo "$name sim: a transcript lists messages by session and side, not by time" >&2 ;;
+        run) echo "$name run: a transcript lists messages by session and side, not by time; --log adds an order of events" >&2 ;;
+    esac
+fi
+if [ "$name" = sjwhy ] && [ -t 1 ] && [ -z "$json" ] && [ -z "${NO_COLOR-}" ]; then
+    case " $words " in *" --colour "*) ;; *) words="--colour $words" ;; esac
+fi
+answer_all "$@"

@@ -1,8 +1,9 @@
 #!/bin/sh
-# Runs each example, and compares its output and its status with what they have to be; checks the files of editors/, too.
-# usage: examples/run.sh [PROGRAM [WHY]], where PROGRAM is ./sj at the top of this repository if left out, and WHY ./sjwhy; both
-# are then built first, and one call of each program runs in a copy of the repository, too, where nothing is built, which takes
-# some minutes. With PROGRAM alone, what `sjwhy` tells isn't tried.
+# Runs each example, and compares its output and its status with what they have to be; checks the files of editors/ and the
+# scripts of cli/, too.
+# usage: examples/run.sh [PROGRAM [WHY]], where PROGRAM is ./sj at the top of this repository if left out, and WHY ./sjwhy; all
+# programs are then built first, and the words of the scripts are tried with them, and one call of each runs in a copy of the
+# repository, too, where nothing is built, which takes some minutes. With PROGRAM alone, what `sjwhy` says isn't tried.
 here=$(cd "$(dirname "$0")" && pwd) || exit 2
 sj=${1:-$here/../sj}
 why=${2:-}
@@ -65,7 +66,7 @@ if [ "$#" -ne $((passed + failed)) ]; then
     echo "of $# outputs $((passed + failed)) were compared"
     failed=$((failed + 1))
 fi
-# What `sjwhy` tells of a file in why/, or of one of the examples; its first line and its status are those of `check`, and a
+# What `sjwhy` says of a file in why/, or of one of the examples; its first line and its status are those of `check`, and a
 # picture, which is asked for with --svg, stands in NAME.svg.
 for text in "$here"/why/*.txt "$here"/why/*.svg; do
     [ -n "$why" ] || break
@@ -83,9 +84,15 @@ for text in "$here"/why/*.txt "$here"/why/*.svg; do
         passed=$((passed + 1))
     else
         failed=$((failed + 1))
-        printf '%s: sjwhy should tell\n%s\nwhere check answers\n%s\nand told\n%s\n' "$file" "$wanted" "$checked" "$got"
+        printf '%s: sjwhy should say\n%s\nwhere check answers\n%s\nand said\n%s\n' "$file" "$wanted" "$checked" "$got"
     fi
 done
+
+# The words of the scripts: with a program that is a stub, and with the programs themselves.
+bash "$here/../cli/test.sh" || failed=$((failed + 1))
+if [ "$fresh" -eq 0 ] && ! bash "$here/../cli/programs.sh"; then
+    failed=$((failed + 1))
+fi
 
 # The colours of editors.
 if ! command -v python3 >/dev/null; then
@@ -102,7 +109,7 @@ in_copy() {
     program=$1
     shift 4
     got=$({ sleep 3; cat "$input"; } | { "$copy/$program" "$@" 2>"$copy/said"; echo "status $?"; })
-    if [ "$got" = "$wanted" ] && grep -q -e "./$program --build" "$copy/said"; then
+    if [ "$got" = "$wanted" ] && grep -q -e "/$program --build" "$copy/said"; then
         echo "a copy where nothing is built answers the same: $program $*"
     else
         failed=$((failed + 1))
@@ -114,7 +121,7 @@ in_copy() {
 if [ "$fresh" -eq 0 ]; then
     copy=$(mktemp -d) || exit 2
     trap 'rm -rf "$copy"' EXIT
-    (cd "$here/.." && tar --exclude=out -cf - sj sjnet sjdraw sjwhy start.sh HANDLES crates.txt crates) | tar -xf - -C "$copy"
+    (cd "$here/.." && tar --exclude=out -cf - sj sjnet sjdraw sjwhy start.sh cli VERSION HANDLES crates.txt crates) | tar -xf - -C "$copy"
     in_copy sj "$here/blocked.sj" "$here/blocked.txt" 6 sim
     in_copy sjnet "$here/agency.sj" "$here/agency.txt" 0 run --looks 7
     in_copy sjdraw "$here/agency.txt" "$here/../docs/agency.svg" 0
