@@ -1,11 +1,14 @@
+mod AssembledLemmas
 mod CauseLemmas
 mod DamageLemmas
 mod EachLemmas
 mod FitLemmas
+mod HandedLemmas
 mod HiredLemmas
 mod JoinLemmas
 mod LeftLemmas
 mod LogLemmas
+mod LoglessLemmas
 mod OrderLemmas
 pub mod OverLemmas
 mod RestLemmas
