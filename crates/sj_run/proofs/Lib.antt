@@ -1,13 +1,22 @@
+mod BareActLemmas
+mod BareArrivalLemmas
+mod BareHeldLemmas
+mod BareLemmas
+mod BareNodeLemmas
 mod CauseLemmas
 mod DamageLemmas
 mod EachLemmas
+mod EventLemmas
 mod FitLemmas
+mod FreeLemmas
 mod HiredLemmas
 mod JoinLemmas
 mod LeftLemmas
 mod LogLemmas
+mod LoggedNodeLemmas
 mod OrderLemmas
 pub mod OverLemmas
+mod RefusedLemmas
 mod RestLemmas
 mod RoundLemmas
 mod RunLemmas
