@@ -6,7 +6,7 @@ use Rattle.sj_core.specs.Replaying.{IsMisfitFrom}
 use Rattle.sj_core.specs.declared.refusal.ReplayRefusal.{ReplayRefusal}
 use Rattle.sj_core.specs.declared.refusal.ReplayRefusal.TheVariants as replays
 use Rattle.sj_end.specs.declared.note.Line.{Line}
-use Rattle.sj_end.specs.Lines.{line_at}
+use Rattle.sj_end.specs.Lines.{event_at, line_at}
 use Rattle.sj_joined_lemmas.proofs.HistoryLemmas.{no_misfit}
 use Rattle.sj_lang.specs.Place.{Place}
 use Rattle.sj_lang.specs.FileAt.{FileAt}
@@ -29,6 +29,7 @@ use Rattle.sj_run.specs.Refusals.{IsDamageOver, IsDamagedOver, IsPastEndOf, run_
 use Rattle.sj_run.specs.Workers.{AllWorked, NoneStopped, SomeStopped, logs_in}
 use Rattle.sj_run.proofs.StopLemmas.{NoneBefore, looked_at}
 use Rattle.sj_run.proofs.OrderLemmas.{no_damage}
+use Rattle.sj_run.proofs.RefusedLemmas.{lowest_not_due}
 use Rattle.sj_run.proofs.TeamLemmas.{mapped_at}
 use Rattle.sj_run.proofs.LeftLemmas.{all_went, same_logs, whose}
 
@@ -42,7 +43,7 @@ no_link_fault replays.NoMemory is = cc is
 pub not_past_end : (file : FileAt) (core : WorldAt Place Program) (lines : List LineAt) (refused : Line) (r : RunRefusal) → IsPastEndOf file core lines refused r → r ≡ refusals.LinkFault → ⊥
 not_past_end file core lines refused (refusals.Damaged m) past is = cc is
 not_past_end file core lines refused refusals.LinkFault past is = past
-not_past_end file core lines refused refusals.NoMemory past is = cc is
+not_past_end file core lines refused refusals.NoMemory past is = past
 
 -- lines of a history fit
 pub history_fits : (file : FileAt) (lines : List LineAt) (w : WorldAt Place Program) (r : ReplayRefusal) → IsHistory max file lines w → IsMisfitFrom file lines r → IsDamaged (run_refusal r) → ⊥
@@ -98,7 +99,14 @@ module _ {O I : Type 0} (outward : OutLane O) (inward : InLane I) (joined : O �
     misfit_damage (replays.Misfit x) m = damage_over x.number (line_at x.logged) (option_map line_at x.due) (inl m)
     misfit_damage replays.NoMemory m = tt {0}
 
-    -- what the lowest unfit party refused behind a history is damage
+    -- what the lowest unfit party refused after a history isn't what is due there
+    pub refused_differs : (kept : FileAt) (w : WorldAt Place Program) (refused : Line) → kept ≡ without_words file → IsHistory max file lines w → IsLowestUnfit (map left_of workers) (line_at refused)
+        → due (play_of kept) max w refused.party (event_at refused.entry.event) ≡ Some (line_at refused) → ⊥
+    refused_differs kept w refused same h lowest is =
+        lowest_not_due file accepted (map left_of workers) (all_went outward inward joined file looks tells workers all faultless) lines joins_left w h (line_at refused) lowest
+        ((λ i. due (play_of (sym same i)) max w (line_at refused).party (line_at refused).entry.event) ∙ is)
+
+    -- and is damage
     pub refused_damage : (kept : FileAt) (w : WorldAt Place Program) (refused : Line) (r : RunRefusal) → kept ≡ without_words file → IsHistory max file lines w
         → IsLowestUnfit (map left_of workers) (line_at refused) → IsPastEndOf kept w lines refused r
         → IsDamagedOver outward inward joined file looks tells r

@@ -1,5 +1,5 @@
 -- What workers leave, whatever their lanes tell: each went by its steps, and what it popped and pushed is what these say.
-use Rattle.std.proofs.Common.{◌≡◌, ◌∙◌, ℕ, zero, suc, max, Bool, List, [], ◌∷◌, ◌++◌, map, Option, Some, None, refl, sym, ap, subst}
+use Rattle.std.proofs.Common.{◌≡◌, ◌∙◌, ℕ, zero, suc, max, Bool, List, [], ◌∷◌, ◌++◌, map, Option, Some, None, refl, ap, subst, arith}
 use Rattle.std.specs.Prelude.{slice_get}
 use Rattle.std.proofs.lemmas.List.{length-map}
 use Rattle.sj_lane.specs.declared.lane.OutLane.{Ghosts as OutLane}
@@ -10,7 +10,7 @@ use Rattle.sj_lang.specs.FileAt.{FileAt}
 use Rattle.sj_node.specs.Node.{node_at, outbox_of}
 use Rattle.sj_semantics.specs.Program.{Program}
 use Rattle.sj_rules.specs.Log.{IsJoined, LineAt}
-use Rattle.sj_rules.specs.Node.{NodeAt, Play}
+use Rattle.sj_rules.specs.Node.{NodeAt}
 use Rattle.sj_rules.specs.Frames.{FrameAt}
 use Rattle.sj_rules.specs.NodeRun.{NodeRun, StepAt, posted_to, told_frames}
 use Rattle.sj_rules.specs.Start.{first_node}
@@ -24,7 +24,8 @@ use Rattle.sj_work.specs.Views.{in_of, node_of, out_of}
 use Rattle.sj_run.specs.Left.{AllWent, HasWent, LeftAt, left_of, logs_left, popped_in}
 use Rattle.sj_run.specs.Logged.{AreLogged, HasLogged}
 use Rattle.sj_run.specs.Workers.{AllWorked, NoneStopped, log_or, logs_in}
-use Rattle.sj_run.proofs.TeamLemmas.{no_lane_from, turned}
+use Rattle.sj_run.proofs.FitLemmas.{file_play}
+use Rattle.sj_run.proofs.TeamLemmas.{no_lane_from, none_there, team_work, turned}
 use Rattle.sj_run.proofs.WorkedLemmas.{mapped_from}
 
 -- whose it is
@@ -59,16 +60,17 @@ module _ {O I : Type 0} (outward : OutLane O) (inward : InLane I) (joined : O �
   went p w there =
       let h = all.each p w there in
       let t = turned outward inward joined file looks tells workers all p w there in
-      let work = t.went.work in
+      let work = team_work outward inward joined file looks tells workers all p w there in
       let pushed_to = λ (q : ℕ). pushed_on outward.pushed outward.same (out_of h.old q) (out_of w q) (told_frames done (outbox_of (node_of h.old) q)) (told_frames done (outbox_of (node_of w) q))
       (posted_to done q work.steps) (work.outs q) in
       record {
-        steps = work.steps;
-        run =
-            subst (λ (n : NodeAt Place Program). NodeRun (Rattle.sj_node.specs.Node.play_here (node_of w)) max p n work.steps (node_at (node_of w))) h.first.node
-            (subst (λ (k : ℕ). NodeRun (Rattle.sj_node.specs.Node.play_here (node_of w)) max k (node_at (node_of h.old)) work.steps (node_at (node_of w))) h.first.party
-            (subst (λ (play : Play Place Program). NodeRun play max (Rattle.sj_node.specs.Reading.party_of (node_of h.old)) (node_at (node_of h.old)) work.steps (node_at (node_of w))) (sym t.went.play) work.run));
-        log = work.log ∙ ap (λ (es : List Entry). entries_of es ++ map (λ (s : StepAt Place). s.entry) work.steps) h.first.log;
+        logged = record {
+          steps = work.steps;
+          node = node_at (node_of w);
+          run = subst (λ (n : NodeAt Place Program). NodeRun (file_play file) max p n work.steps (node_at (node_of w))) h.first.node work.run;
+          entries = work.log ∙ ap (λ (es : List Entry). entries_of es ++ map (λ (s : StepAt Place). s.entry) work.steps) h.first.log;
+        };
+        node = refl;
         play = t.went.play ∙ h.first.play;
         party = t.went.party ∙ h.first.party;
         parties = t.went.parties ∙ h.first.parties;
@@ -83,17 +85,15 @@ module _ {O I : Type 0} (outward : OutLane O) (inward : InLane I) (joined : O �
   -- so its log has the entries of steps of the rules, and there is none beside
   has_logged : (p : ℕ) (o : Option (Worker O I)) → slice_get workers p ≡ o → HasLogged file p (log_or o)
   has_logged p None there = record { steps = []; node = first_node file p; run = refl; entries = refl }
-  has_logged p (Some w) there =
-      let m = went p w there in
-      record {
-        steps = m.steps;
-        node = node_at (node_of w);
-        run = subst (λ (play : Play Place Program). NodeRun play max p (first_node file p) m.steps (node_at (node_of w))) m.play m.run;
-        entries = m.log;
-      }
+  has_logged p (Some w) there = (went p w there).logged
 
   pub are_logged : (lines : List LineAt) → IsJoined (logs_in workers) lines → AreLogged file lines
-  are_logged lines joins = record { logs = logs_in workers; each = λ p. has_logged p (slice_get workers p) refl; joined = joins }
+  are_logged lines joins = record {
+    logs = logs_in workers;
+    each = λ p. has_logged p (slice_get workers p) refl;
+    beside = λ p le. ap log_or (none_there workers p (omega (arith, le, all.count)));
+    joined = joins;
+  }
 
   pub all_went : NoneStopped workers stops.Fault → AllWent file (map left_of workers)
   all_went faultless = record {

@@ -1,16 +1,25 @@
 mod AssembledLemmas
+mod BareActLemmas
+mod BareArrivalLemmas
+mod BareHeldLemmas
+mod BareLemmas
+mod BareNodeLemmas
 mod CauseLemmas
 mod DamageLemmas
 mod EachLemmas
+mod EventLemmas
 mod FitLemmas
+mod FreeLemmas
 mod HandedLemmas
 mod HiredLemmas
 mod JoinLemmas
 mod LeftLemmas
 mod LogLemmas
+mod LoggedNodeLemmas
 mod LoglessLemmas
 mod OrderLemmas
 pub mod OverLemmas
+mod RefusedLemmas
 mod RestLemmas
 mod RoundLemmas
 mod RunLemmas

@@ -14,7 +14,7 @@ use Rattle.sj_rules.specs.Frames.{FrameAt}
 use Rattle.sj_rules.specs.History.{IsFirstMisfit, IsHistory}
 use Rattle.sj_rules.specs.Joined.{PartiesWork, WorkerAt, Works, fresh}
 use Rattle.sj_rules.specs.Log.{EntryAt, IsJoined, LineAt, logs_below}
-use Rattle.sj_rules.specs.Node.{Play}
+use Rattle.sj_rules.specs.Node.{NodeAt}
 use Rattle.sj_rules.specs.NodeRun.{NodeRun, told_frames}
 use Rattle.sj_rules.specs.Party.{play_of}
 use Rattle.sj_rules.specs.Start.{core_start, first_node}
@@ -41,7 +41,7 @@ module _ (file : FileAt) (left : List LeftAt) (carried : CarriedInOrder file lef
         node = node_at l.node;
         log = entries_of (log_of l.node);
         box = λ q. told_frames done (outbox_of l.node q);
-        popped = popped_in went.steps went.lost;
+        popped = popped_in went.logged.steps went.lost;
         pushed = went.pushed;
       }
 
@@ -64,9 +64,9 @@ module _ (file : FileAt) (left : List LeftAt) (carried : CarriedInOrder file lef
   each_works p lt (Some l) there =
       let went = carried.each p l there in
       record {
-        steps = went.steps;
-        run = subst (λ (play : Play Place Program). NodeRun play max p (first_node file p) went.steps (node_at l.node)) went.play went.run;
-        log = went.log;
+        steps = went.logged.steps;
+        run = subst (λ (n : NodeAt Place Program). NodeRun (file_play file) max p (first_node file p) went.logged.steps n) went.node went.logged.run;
+        log = went.logged.entries;
         popped = λ q. refl;
         now = went.pushed;
         pushed = λ q. refl;

@@ -22,13 +22,13 @@ pub record IsLowestUnfit (left : List LeftAt) (line : LineAt) : Type 0 where
   pub refused : option_map line_at own.unfit ≡ Some line
   pub lowest : (p : ℕ) (l : LeftAt) → p < party → slice_get left p ≡ Some l → l.stop ≡ Some stops.Unfit → ⊥
 
--- what was refused behind all lines, which isn't what is due there
+-- what was refused after all lines, which isn't what is due there
 pub record IsRefusedAfter (file : FileAt) (core : WorldAt Place Program) (lines : List LineAt) (number : ℕ) (logged : LineAt) (other : Option LineAt) : Type 0 where
   pub count : number ≡ length lines + 1
   pub found : due (play_of file) max core logged.party logged.entry.event ≡ other
   pub differs : other ≡ Some logged → ⊥
 
--- all lines are a history, and what the lowest unfit party refused behind them isn't what is due there
+-- all lines are a history, and what the lowest unfit party refused after them isn't what is due there
 pub record IsPastEnd (file : FileAt) (left : List LeftAt) (lines : List LineAt) (number : ℕ) (logged : LineAt) (other : Option LineAt) : Type 0 where
   pub core : WorldAt Place Program
   pub run : IsHistory max file lines core
@@ -36,7 +36,7 @@ pub record IsPastEnd (file : FileAt) (left : List LeftAt) (lines : List LineAt) 
   pub refused : IsRefusedAfter file core lines number logged other
 
 -- the parties did their steps, none stopped at a fault, the links didn't carry in order and unchanged, and the logs were joined to these
--- lines. What is told is the first of the lines that isn't due, with what is due in its place; or, behind lines that all are, what the
+-- lines. What is told is the first of the lines that isn't due, with what is due in its place; or, after lines that all are, what the
 -- lowest unfit party refused
 pub record IsDamage (file : FileAt) (number : ℕ) (logged : LineAt) (other : Option LineAt) : Type 0 where
   pub left : List LeftAt

@@ -23,12 +23,12 @@ abbrev pub run_refusal : ReplayRefusal → RunRefusal
 run_refusal (replays.Misfit m) = refusals.Damaged m
 run_refusal replays.NoMemory = refusals.NoMemory
 
--- that line was refused behind the lines of a history that leads to that world
+-- that line was refused after the lines of a history that leads to that world, which is damage
 abbrev pub IsPastEndOf : FileAt → WorldAt Place Program → List LineAt → Line → RunRefusal → Type 0
 IsPastEndOf file core lines refused (refusals.Damaged m) =
     (m.logged ≡ refused) × IsRefusedAfter file core lines m.number (line_at refused) (option_map line_at m.due)
 IsPastEndOf file core lines refused refusals.LinkFault = ⊥
-IsPastEndOf file core lines refused refusals.NoMemory = Unit {0}
+IsPastEndOf file core lines refused refusals.NoMemory = ⊥
 
 module _ {O I : Type 0} (outward : OutLane O) (inward : InLane I) (joined : O → I → Type 0) (file : FileAt) (looks : ℕ) (tells : Bool) where
   -- the damage is in what workers left that worked over such lanes

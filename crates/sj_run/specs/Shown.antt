@@ -47,7 +47,7 @@ pub record IsShown (file : FileAt) (looks : ℕ) (links : LinksAt) (lines : List
   -- the entries at q of frames from p are those of the frames that q popped from p
   pub popped : (p q : ℕ) → p < length file.parties → q < length file.parties
       → notes_from p (part_of q lines) ≡ map (λ f. body_note f.body) (links.got p q)
-  -- what p pushed to q is a front of what the events at p post to q
+  -- what p pushed to q is a prefix of what the events at p post to q
   pub pushed : (p q : ℕ) → p < length file.parties → q < length file.parties → IsPrefix (links.sent p q) (posted_frames file p q lines)
   -- and all of it, unless a push was in vain, or no look was asked for
   pub all : (p q : ℕ) → p < length file.parties → q < length file.parties

@@ -1,11 +1,13 @@
 //! A file run by its parties.
-ghost use Rattle.std.specs.Prelude.{◌≡◌, ◌≤◌, Err, IfErr, IfOk, false, length, max, true};
+ghost use Rattle.std.specs.Prelude.{◌≡◌, ◌≤◌, Err, IfErr, IfOk, Some, false, length, max, true};
 ghost use Rattle.sj_check.specs.Held.{file_in as held};
 ghost use Rattle.sj_core.specs.World.{history_of, kept_file, party_count, world_at};
+ghost use Rattle.sj_end.specs.Lines.{event_at, line_at};
 ghost use Rattle.sj_lane.specs.Told.{Rose};
 ghost use Rattle.sj_lang.specs.FileView.{file_of};
 ghost use Rattle.sj_plain.specs.Kept.{without_words};
-ghost use Rattle.sj_rules.specs.History.{IsHistory};
+ghost use Rattle.sj_rules.specs.History.{IsHistory, due};
+ghost use Rattle.sj_rules.specs.Party.{play_of};
 ghost use Rattle.sj_run.specs.Damage.{IsDamaged};
 ghost use Rattle.sj_run.specs.Refusals.{IsDamagedOver, IsPastEndOf};
 ghost use Rattle.sj_run.specs.Shown.{IsShown, keeps_of};
@@ -18,22 +20,20 @@ use crate::stops::{any_faulty, any_short, first_unfit};
 use crate::teams::set_to_work;
 use sj_base::NoMemory;
 use sj_check::Accepted;
-use sj_core::{World, is_the_line, join_logs};
+use sj_core::{World, join_logs};
 use sj_end::{Line, Misfit};
 use sj_lane::Links;
 use sj_work::Gate;
 use std::alloc::Global;
 use std::thread::Threads;
 
-/// Why a worker that refused an event behind the lines of this history makes them damaged.
+/// Why a worker that refused an event after the lines of this history makes them damaged.
 fn past_end(world: &World, refused: Line) -> RunRefusal
+    requires { due (play_of (kept_file world.now)) max (world_at world.now) refused.party (event_at refused.entry.event)
+        ≡ Some (line_at refused) → ⊥ }
     ensures { IsPastEndOf (kept_file world.now) (world_at world.now) (history_of world.now) refused result }
 {
     let due = world.due(refused.party, refused.entry.event);
-    if is_the_line(&due, &refused) {
-        // What fits a node fits that of the core world, which did the same events.
-        return RunRefusal::NoMemory;
-    }
     RunRefusal::Damaged(Misfit {
         number: world.history().len() as u64 + 1,
         logged: refused,

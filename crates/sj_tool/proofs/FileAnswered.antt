@@ -52,6 +52,7 @@ module _ (links : LinkUseAt) (task : Task) (log : LogAt) (file : FileAt) (accept
   none_logged = record {
     logs = λ p. [];
     each = λ p. record { steps = []; node = first_node file p; run = refl; entries = refl };
+    beside = λ p le. refl;
     joined = record { order = tt; parts = λ p. refl };
   }
 

@@ -15,7 +15,7 @@ use Rattle.sj_run.specs.Left.{left_of}
 use Rattle.sj_run.specs.Refusals.{IsDamagedOver, IsPastEndOf}
 use Rattle.sj_run.specs.Shown.{keeps_of}
 use Rattle.sj_run.specs.Workers.{AllWorked, NoneStopped, SomeStopped, logs_in}
-use Rattle.sj_run.proofs.DamageLemmas.{history_fits, misfit_damage, no_link_fault, not_past_end, refused_damage, some_unfit}
+use Rattle.sj_run.proofs.DamageLemmas.{history_fits, misfit_damage, no_link_fault, not_past_end, refused_damage, refused_differs, some_unfit}
 use Rattle.sj_run.proofs.LogLemmas.{as_many, logs_joined, logs_ordered}
 use Rattle.sj_run.proofs.RunLemmas.{all_rising, has_fault, rose_from, told_fits, told_history, told_shown}
 use Rattle.sj_run.proofs.runs.run_parties.Goals as goal
@@ -72,6 +72,17 @@ returns-in-Err-clause-telling g c =
     (map line_at c.in_ok-lines.lines.items)
     (logs_joined c.in_ok-workers.workers.items c.in_ok-remains.remains.logs.items c.in_ok-remains.ensures.logs (map line_at c.in_ok-lines.lines.items) c.in_ok-lines.ensures))
     c.in-Err.ensures.misfit (subst IsDamaged c.from.ensures damaged)
+
+pub past_end-requires : goal.past_end-requires
+past_end-requires g c =
+    let world = c.in-Ok.world in
+    refused_differs g.L.Out.OutLane g.L.In.InLane g.L.Links.joined
+    (file_of (file_in c.args.accepted.now)) c.args.looks (g.L.Links.tells c.args.links.now) c.in_ok-workers.workers.items c.in_ok-workers.ensures.worked c.in_ok-workers.ensures.accepted
+    (subst (λ (ws : List (Worker g.row.L-Out.Denot g.row.L-In.Denot)). NoneStopped ws stops.Fault) c.deref.ensures.value (c.if-faulty.ensures.none refl))
+    (map line_at c.in_ok-lines.lines.items)
+    (logs_joined c.in_ok-workers.workers.items c.in_ok-remains.remains.logs.items c.in_ok-remains.ensures.logs (map line_at c.in_ok-lines.lines.items) c.in_ok-lines.ensures)
+    (kept_file world) (world_at world) c.in-Some.refused c.in-Ok.ensures.kept c.in-Ok.ensures.ok
+    (subst (λ (ws : List (Worker g.row.L-Out.Denot g.row.L-In.Denot)). IsLowestUnfit (map left_of ws) (line_at c.in-Some.refused)) c.deref-3.ensures.value c.in-Some.ensures.some)
 
 pub returns-in-Some-clause-link_fault : goal.returns-in-Some-clause-link_fault
 returns-in-Some-clause-link_fault g c =
