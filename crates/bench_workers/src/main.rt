@@ -21,7 +21,7 @@ use std::sync::atomic::{AtomicU64, Ordering};
 use std::thread::Threads;
 
 /// The party that had the last event, and how often that is a lower one than the one before: on one
-/// worker, which works the parties off in order, once for each round behind the first with an event.
+/// worker, which works the parties off in order, once for each round after the first with an event.
 #[derive(Drop)]
 struct Turns {
     last: AtomicU64,
@@ -38,7 +38,7 @@ impl Gate for Turns {
 }
 
 /// How many events the parties had, how many there are after the drain, and how often the gate saw an
-/// earlier party behind a later one.
+/// earlier party after a later one.
 fn events_on<R: Threads + Sync>(
     rt: &R,
     alloc: Global,

@@ -28,7 +28,7 @@ fn table_of(alloc: Global, items: Vec<Item>) -> Result<Table, NoMemory>
     Table::compile(alloc, &defs)
 }
 
-// Puts the message behind the untaken ones.
+// Puts the message after the untaken ones.
 fn arrives(rt: &impl Abort, held: &mut Held, taken: u32, msg: Msg) -> Result<(), NoMemory> {
     assert!(rt; taken <= held.end.sent);
     assert!(rt; held.end.taken as usize + held.untaken.len() <= 1_000_000);

@@ -1,4 +1,4 @@
-//! Cases as text: a line `$ WORDS # NAME` for each, and behind it the lines that the command reads.
+//! Cases as text: a line `$ WORDS # NAME` for each, and after it the lines that the command reads.
 use crate::answers::{answer_over, put_answer};
 use sj_base::NoMemory;
 use sj_lane::{MemLinks, RingLinks};
@@ -9,7 +9,7 @@ use std::thread::Threads;
 /// What stands between two cases: a newline, and what the first line of a case begins with.
 const BETWEEN: &str = "\n$ ";
 
-/// The cases again, each as its first line alone, with what it gives behind it.
+/// The cases again, each as its first line alone, with what it gives after it.
 pub(crate) fn report<R: Threads + Sync>(
     rt: &R,
     alloc: Global,

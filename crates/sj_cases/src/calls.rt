@@ -11,7 +11,7 @@ use std::thread::Threads;
 pub(crate) const USAGE: &str =
     "usage: sj check | show | sim | run [--log] [--looks N] | replay [--log] | make N | big N\n";
 
-// The pieces, one behind the other.
+// The pieces, one after the other.
 pub(crate) fn joined(alloc: Global, pieces: &[&[u8]]) -> Result<Vec<u8>, NoMemory> {
     let mut text = Vec::new(alloc);
     for piece in pieces {

@@ -1,4 +1,4 @@
-//! Core worlds: where there is no step, and lines of parties that the file doesn't have.
+//! Core worlds: where there is illegal, and lines of parties that the file doesn't have.
 use crate::files::FIRST;
 use crate::worlds::accepted;
 use sj_check::Accepted;
@@ -54,7 +54,7 @@ fn drained(alloc: Global, accepted: &Accepted) -> Result<Vec<Line>, Fail> {
     Ok(Vec::from_slice(alloc, world.history())?)
 }
 
-// The number of the line that is no step, if any, where none is due in its place.
+// The number of the line that is illegal, if any, where none is due in its place.
 fn refused_at(alloc: Global, accepted: &Accepted, lines: &[Line]) -> Result<Option<u64>, Fail> {
     let mut world = World::start(alloc, accepted)?;
     match world.replay(lines) {

@@ -4,7 +4,7 @@ use crate::files::FIRST;
 use crate::transcripts::FIRST_TRANSCRIPT;
 use std::test::Fail;
 
-// A command, what its input begins with, what stands behind that, the status and the text.
+// A command, what its input begins with, what stands after that, the status and the text.
 type Row<'a> = (&'a str, &'a str, &'a [u8], u8, &'a str);
 
 const ROWS: [Row; 8] = [

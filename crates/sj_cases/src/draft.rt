@@ -8,7 +8,7 @@ use sj_base::NoMemory;
 use sj_text::{put, put_number};
 use std::alloc::Global;
 
-// The statements of a party, and behind the first of them one that takes from an end and may come
+// The statements of a party, and after the first of them one that takes from an end and may come
 // earlier than the file's order of events asks.
 #[derive(Drop)]
 struct Code {

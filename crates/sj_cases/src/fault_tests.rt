@@ -107,7 +107,7 @@ fn expect_read_faults<R: Abort + Threads + Sync>(
 }
 
 // A first read brings the agency, and a second one its end. A longest file comes in sixteen pieces,
-// and behind the seventeenth read none is made.
+// and after the seventeenth read none is made.
 #[test]
 fn each_read_fails(rt: HostRuntime) -> Result<(), Fail> {
     for command in ["check", "show", "sim", "run", "replay"] {

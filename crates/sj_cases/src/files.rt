@@ -56,7 +56,7 @@ pub(crate) const HANDED_ON: &str = "protocol p { begin.!<int>.!<int>.!<int> }\n\
     connect a x p to b y q;\n\
     connect b z g to c u h;\n";
 
-// The holder of an end has told how much it took, and delegates the end.
+// The holder of an end has said how much it took, and delegates the end.
 pub(crate) const TOLD: &str = "protocol p { begin.?(int).!<int>.!<int> }\n\
     protocol q { begin.!<int>.?(int).?(int) }\n\
     protocol r { begin.?(int) }\n\

@@ -1,4 +1,4 @@
-//! Links that tell nothing, and a frame that nobody sent.
+//! Links that report nothing, and a frame that nobody sent.
 ghost use Rattle.std.specs.Prelude.{IfOk};
 ghost use Rattle.sj_cases.specs.Two.{AreTwo, HasTwo};
 

@@ -23,7 +23,7 @@ struct Files {
 }
 
 // Each file is accepted, its transcript and status by `run` are those of `sim`, over rings and over
-// lists, and no worker of it stops as unfit, at a fault or for want of memory.
+// lists, and no worker of it stops as unfit, at a fault or out of memory.
 fn play<R: Threads + Sync>(rt: &R, alloc: Global, files: &mut Files) {
     for at in 0..files.many {
         match played(rt, alloc, files.first.wrapping_add(at)) {

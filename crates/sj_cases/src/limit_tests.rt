@@ -3,7 +3,7 @@ use crate::calls::{answer, expect};
 use crate::long_files::looping;
 use std::test::Fail;
 
-// Of a loop: its count, the steps in a turn, those behind it, the status of the file and the end of its
+// Of a loop: its count, the steps in a turn, those after it, the status of the file and the end of its
 // transcript.
 const LOOPS: [(&str, usize, usize, u8, &str); 4] = [
     (

@@ -2,7 +2,7 @@
 use std::alloc::Global;
 use std::test::Fail;
 
-// A party with a loop of that many turns, each with some steps, and some steps behind it.
+// A party with a loop of that many turns, each with some steps, and some steps after it.
 pub(crate) fn looping(
     alloc: Global,
     count: &str,

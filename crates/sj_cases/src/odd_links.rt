@@ -1,4 +1,4 @@
-//! Links of two parties that tell nothing: each party may get a frame that nobody sent, and lanes fail
+//! Links of two parties that report nothing: a party may get a frame that nobody sent, and lanes fail
 //! in the midst of a run.
 ghost use Rattle.std.specs.Prelude.{IfOk};
 ghost use Rattle.sj_cases.specs.Odd.{AreOdd, IsOdd, IsUnused};
@@ -97,7 +97,7 @@ pub struct Odd {
     pub frames: [Option<Frame>; 2],
     /// How many frames each lane takes before it fails.
     pub pushes: u64,
-    /// The second party's lane from the first fails behind its frame.
+    /// The second party's lane from the first fails after its frame.
     pub fails: bool,
 }
 

@@ -13,8 +13,8 @@ const MOST: usize = 16_777_216;
 
 const OVER: usize = 16_777_217;
 
-// A command, what its input begins with, the bytes of that and of the blanks behind it, what stands
-// behind these, the status and the text.
+// A command, what its input begins with, the bytes of that and of the blanks after it, what stands
+// after these, the status and the text.
 type Row<'a> = (&'a str, [&'a str; 2], usize, &'a str, u8, &'a str);
 
 const NO_LOG: &str = "log L1 at 0\n";

@@ -37,7 +37,7 @@ fn the_line_that_parts_has_its_newline(rt: HostRuntime) -> Result<(), Fail> {
     )
 }
 
-// That text so many times behind one, and another behind it.
+// That text so many times after one, and another after it.
 fn repeated(
     alloc: Global,
     first: &[u8],

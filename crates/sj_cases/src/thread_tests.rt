@@ -91,7 +91,7 @@ fn lines_of(alloc: Global, log: &str, name: &str) -> Result<Vec<u8>, Fail> {
     Ok(text)
 }
 
-// Of the party of that name, whether what was noted isn't empty and is a front of its lines in the log.
+// Of the party of that name, whether what was noted isn't empty and is a prefix of its lines in the log.
 fn is_front(alloc: Global, log: &str, party: (u16, &str), noted: &[Line]) -> Result<bool, Fail> {
     let accepted = accepted(alloc, MEETING.as_bytes())?;
     let seen = log_of(alloc, accepted.file(), party.0, noted)?;
@@ -181,7 +181,7 @@ fn on_one_thread_no_two_parties_are_seen_at_once(rt: HostRuntime) -> Result<(), 
     Ok(())
 }
 
-// A gate that drops the first entry of each party has no front of them.
+// A gate that drops the first entry of each party has no prefix of them.
 #[test]
 fn what_a_gate_saw_of_a_party_is_a_front_of_its_lines(rt: HostRuntime) -> Result<(), Fail> {
     for (from, wanted) in [(0, true), (2, false)] {

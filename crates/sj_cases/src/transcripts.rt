@@ -136,7 +136,7 @@ pub(crate) const UNUSED_HISTORY: &str = "session 0 a x b y\n\
     12 b from c fin 1.0 0 0\n\
     14 c from a fin 0.1 1 0\n";
 
-// The same where the holder of an end has told how much it took.
+// The same where the holder of an end has said how much it took.
 pub(crate) const TOLD_HISTORY: &str = "session 0 a x b y\n\
     0.0 0 a b int 2\n\
     0.0 1 a c int 3\n\

@@ -49,7 +49,7 @@ fn what_is_unfit_is_told_behind_all_lines(rt: HostRuntime) -> Result<(), Fail> {
     Ok(())
 }
 
-// A push of the first party fails behind one that was taken; a pop of the second one fails behind a
+// A push of the first party fails after one that was taken; a pop of the second one fails after a
 // frame that fits; and it does so while the first party gets what doesn't fit.
 #[test]
 fn a_lane_fails_in_the_midst_of_a_run(rt: HostRuntime) -> Result<(), Fail> {

@@ -1,4 +1,4 @@
-//! What stands before and behind the arms of `inbranch` and `if`.
+//! What stands before and after the arms of `inbranch` and `if`.
 #![tactic(auto, using(crate::proofs::SeenLemmas::steps))]
 
 ghost use Rattle.std.specs.Prelude.{◌≡◌, ◌&&◌, ◌∷◌, [], map, IfOk, IfErr};

@@ -1,4 +1,4 @@
-//! The numbers of the rules, and the refusal that tells one.
+//! The numbers of the rules, and the refusal that names one.
 ghost use Rattle.std.specs.Prelude.{◌≡◌};
 ghost use Rattle.sj_check.specs.declared.refusal.CheckRefusal.TheVariants.{At};
 
@@ -37,7 +37,7 @@ pub const TURN_DIFFERS: u8 = 10;
 /// An end is closed before its place is empty.
 pub const CLOSED_EARLY: u8 = 11;
 
-/// An end is live behind the party's body.
+/// An end is live after the party's body.
 pub const LEFT_OPEN: u8 = 12;
 
 /// The carrier itself, or an end whose place is empty, is delegated.

@@ -10,7 +10,7 @@ const MOST_MESSAGES: u32 = 1000;
 /// The highest number of a party.
 const LAST_PARTY: u32 = 15;
 
-/// The looks where no word tells how many.
+/// The looks where no word says how many.
 const USUAL_LOOKS: u32 = 1000;
 
 /// The most looks.

@@ -18,7 +18,7 @@ fn command_arg<'a>(alloc: Global) -> Arg<'a>
         .action(ArgAction::Set)
 }
 
-// A number behind it.
+// A number after it.
 fn number_arg<'a>(alloc: Global) -> Arg<'a>
     ensures rule { rule_of result ≡ number_rule }
     ensures local { result.global ≡ false }

@@ -9,7 +9,7 @@ use crate::tasks::Task;
 use sj_base::NoMemory;
 use std::alloc::Global;
 
-/// What the words behind the program's name ask for. None where they are no command.
+/// What the words after the program's name ask for. None where they are no command.
 pub fn task_in(alloc: Global, words: &[String]) -> Result<Option<Task>, NoMemory>
     ensures asked { IfOk result (λ t. IfSome t (Asks (map string_bytes words.now))) }
     ensures usage { result ≡ Ok None → IsUsage (map string_bytes words.now) }

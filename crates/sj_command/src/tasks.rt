@@ -7,11 +7,11 @@ pub enum Task {
     Check,
     /// Prints each protocol of a file and its dual.
     Show,
-    /// Checks a file and tells whether its parties and connections are a forest.
+    /// Checks a file and says whether its parties and connections are a forest.
     Forest,
     /// Runs a file in the plain world and prints the transcript.
     Sim,
-    /// Runs a file and prints the transcript, and behind it the history where a log is asked for.
+    /// Runs a file and prints the transcript, and after it the history where a log is asked for.
     /// A party that finds nothing to do looks again so many times, from 0 to 1,000,000. So many workers
     /// work the parties off, from 1 to 16; where none are named, each party has a thread of its own.
     Run {
@@ -21,7 +21,7 @@ pub enum Task {
     },
     /// Runs a file by forwarding and prints the transcript and how many frames were passed on.
     Forward,
-    /// Replays the log behind a file, drains what is left, and prints as `Run` does.
+    /// Replays the log after a file, drains what is left, and prints as `Run` does.
     Replay {
         log: bool,
     },

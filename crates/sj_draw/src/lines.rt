@@ -52,7 +52,7 @@ pub(crate) struct Passed<'a> {
     pub text: &'a [u8],
 }
 
-/// What a line tells.
+/// What a line says.
 #[derive(Clone, Copy)]
 pub(crate) enum Line<'a> {
     Session(Session<'a>),
@@ -69,7 +69,7 @@ pub(crate) enum Line<'a> {
     Verdict,
 }
 
-/// What a line tells, where it is one of a transcript or a log.
+/// What a line says, where it is one of a transcript or a log.
 pub(crate) fn read_line<'a>(line: &'a [u8]) -> Option<Line<'a>>
     ensures { option_map line_at result ≡ read line.entry.now }
 {
@@ -126,7 +126,7 @@ fn ends_in_space(line: &[u8]) -> bool
     }
 }
 
-// A line by its first word, and what stands behind that.
+// A line by its first word, and what stands after that.
 fn worded_line<'a>(first: &'a [u8], rest: &'a [u8]) -> Option<Line<'a>>
     ensures { option_map line_at result ≡ worded_line first.entry.now rest.entry.now }
 {

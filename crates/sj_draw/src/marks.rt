@@ -5,7 +5,7 @@ ghost use Rattle.sj_draw.specs.Lines.{mark_if, valued_mark, message_mark, mark_b
 use crate::lines::Mark;
 use crate::words::{Field, behind_fields, cut, is_just};
 
-/// How a frame is drawn, by its kind and what stands behind that.
+/// How a frame is drawn, by its kind and what stands after that.
 pub(crate) fn frame_mark(kind: &[u8], rest: &[u8]) -> Option<Mark>
     ensures { result ≡ frame_mark kind.now rest.now }
 {
@@ -41,7 +41,7 @@ fn mark_if(fits: bool, mark: Mark) -> Option<Mark>
     if fits { Some(mark) } else { None }
 }
 
-/// How a message is drawn that stands behind these words.
+/// How a message is drawn that stands after these words.
 pub(crate) fn mark_behind(fields: &[Field], text: &[u8]) -> Option<Mark>
     ensures { result ≡ mark_behind fields.now text.now }
 {

@@ -49,7 +49,7 @@ fn opening<'a>(mark: Mark, first: bool, from: &'a [u8], text: &'a [u8]) -> Optio
     }))
 }
 
-/// Whether behind the steps stands the party from which one would accept.
+/// Whether after the steps stands the party from which one would accept.
 pub(crate) fn is_steps_from(rest: &[u8]) -> bool
     ensures { result ≡ is_steps_from rest.now }
 {
@@ -58,7 +58,7 @@ pub(crate) fn is_steps_from(rest: &[u8]) -> bool
     is_just(&[Field::Number, Field::Name, Field::Name], rest) && word == b"from".as_slice()
 }
 
-/// Whether behind the steps stands that a request would be one too many.
+/// Whether after the steps stands that a request would be one too many.
 pub(crate) fn is_steps_request(rest: &[u8]) -> bool
     ensures { result ≡ is_steps_request rest.now }
 {

@@ -15,7 +15,7 @@ use crate::style::STYLE;
 use sj_base::NoMemory;
 use sj_text::put;
 
-/// Puts the picture of a chart behind the text.
+/// Puts the picture of a chart after the text.
 pub(crate) fn put_picture(text: &mut Vec<u8>, chart: &Chart<'_>) -> Result<(), NoMemory>
     requires { IsTrue (is_within (chart_at chart.now)) }
     ensures { OnOk result (text.new.items ≡ text.old.items ++ picture (chart_at chart.now)) }

@@ -15,7 +15,7 @@ pub(crate) enum Piece<'a> {
     Escaped(&'a [u8]),
 }
 
-/// Puts these behind the text, one after another.
+/// Puts these after the text, one after another.
 pub(crate) fn put_pieces(text: &mut Vec<u8>, pieces: &[Piece<'_>]) -> Result<(), NoMemory>
     ensures { OnOk result (text.new.items ≡ text.old.items ++ pieces_text pieces.now) }
 {

@@ -99,7 +99,7 @@ fn reply_to_bytes(alloc: Global, bytes: &[u8]) -> Result<Reply, NoMemory>
     }
 }
 
-// What is told of the line of that number.
+// What is said of the line of that number.
 fn line_text(alloc: Global, n: usize, what: &[u8]) -> Result<Vec<u8>, NoMemory>
     ensures { IfOk result (λ t. t.items ≡ codes "line " ++ (decimal n ++ what.now)) }
 {

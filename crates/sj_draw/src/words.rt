@@ -16,7 +16,7 @@ pub(crate) enum Field {
     Resend,
 }
 
-/// What stands before the first byte of that code, and what stands behind it: all and nothing where
+/// What stands before the first byte of that code, and what stands after it: all and nothing where
 /// there is none.
 pub(crate) fn cut(text: &[u8], at: u8) -> (&[u8], &[u8])
     ensures before { result.0.now ≡ before at text.now }
@@ -62,7 +62,7 @@ fn is_of(field: Field, word: &[u8]) -> bool
     }
 }
 
-/// What stands behind the words that have to be these, if they are.
+/// What stands after the words that have to be these, if they are.
 pub(crate) fn behind_fields<'a>(fields: &[Field], text: &'a [u8]) -> Option<&'a [u8]>
     ensures { option_map (λ r. r.now) result ≡ behind_fields fields.now text.entry.now }
 {

@@ -111,7 +111,7 @@ impl Held {
         (closed, body)
     }
 
-    /// Puts the message of a Carry, which told so many taken, behind the untaken ones.
+    /// Puts the message of a Carry, which said so many were taken, after the untaken ones.
     pub fn arrived(&mut self, taken: u32, msg: Msg) -> Result<(), NoMemory>
         requires told { taken ≤ self.old.end.sent }
         requires room { self.old.end.taken + length self.old.untaken.items ≤ limit_of_messages }
@@ -145,7 +145,7 @@ impl Closed {
 }
 
 impl Expected {
-    /// Puts a body that came behind the deferred ones.
+    /// Puts a body that came after the deferred ones.
     pub fn defer(&mut self, from: u16, body: Body) -> Result<(), (Body, NoMemory)>
         requires { IsCounted (body_at body) }
         ensures ok { OnOk result (expected_at self.new

@@ -14,9 +14,9 @@ use std::thread::Threads;
 /// The status where there is no memory for the words.
 const NO_MEMORY: u8 = 11;
 
-/// Does what the words behind the program's name say, and answers the status of the top call.
+/// Does what the words after the program's name say, and answers the status of the top call.
 ///
-/// Of the system's words no clause tells which they are.
+/// Of the system's words no clause says which they are.
 pub fn enter<C: Caller + AllocGlobal, R: Threads + Sync, S: Source, K: Sink, L: Links, G: Gate>(
     caller: &C,
     rt: &R,

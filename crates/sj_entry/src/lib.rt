@@ -1,4 +1,4 @@
-//! What every program does: the top call over the words that stand behind the program's name.
+//! What every program does: the top call over the words that stand after the program's name.
 #![tactic(auto)]
 
 mod entry;

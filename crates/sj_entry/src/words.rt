@@ -13,7 +13,7 @@ pub trait Caller {
     /// These are words that it gives.
     ghost gives: { Self → List (String Global) → Type 0 };
 
-    /// The words behind the program's name. Words that aren't text are no command, as no words are.
+    /// The words after the program's name. Words that aren't text are no command, as no words are.
     fn words(&self) -> Result<Vec<String>, NoMemory>
         ensures { IfOk result (λ words. gives self.now words.items) };
 }
@@ -21,7 +21,7 @@ pub trait Caller {
 impl<E: Env + AllocGlobal> Caller for E {
     ghost use Rattle.std.specs.Prelude.{⊤};
 
-    // Which words there are is the system's to tell.
+    // Which words there are is the system's to say.
     ghost gives = { λ _ _. ⊤ };
 
     fn words(&self) -> Result<Vec<String>, NoMemory> {

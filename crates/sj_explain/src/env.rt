@@ -53,7 +53,7 @@ impl Env {
         self.ends.retain(|e| e.name != name);
     }
 
-    /// The end moves behind the first item of its place.
+    /// The end moves after the first item of its place.
     pub fn pass(&mut self, alloc: Global, name: u16) -> Result<(), NoMemory> {
         match self.place(name) {
             Some(place) => {

@@ -11,7 +11,7 @@ use sj_text::put;
 
 const TURN_DIFFERS: u8 = 10;
 
-/// Whether both know the same live ends at the same places; else what differs is told.
+/// Whether both know the same live ends at the same places; else what differs is said.
 pub(crate) fn compare(
     context: Context<'_>,
     rule: u8,

@@ -22,7 +22,7 @@ const STYLE: &[u8] =
     <defs><marker id='tip' viewBox='0 0 8 8' refX='8' refY='4' markerWidth='8' markerHeight='8' orient='auto'>\
     <path d='M 0 0 L 8 4 L 0 8 z' style='fill:#b33'/></marker></defs>\n";
 
-/// What stands behind `<svg `. Names have letters, digits and `_` alone, and so no sign of the format.
+/// What stands after `<svg `. Names have letters, digits and `_` alone, and so no sign of the format.
 pub(crate) fn put_picture(
     alloc: Global,
     text: &mut Vec<u8>,

@@ -21,7 +21,7 @@ pub(crate) enum Piece<'a> {
     End(EndId),
 }
 
-/// Puts these behind the text, one after another.
+/// Puts these after the text, one after another.
 pub(crate) fn put_pieces(
     alloc: Global,
     text: &mut Vec<u8>,

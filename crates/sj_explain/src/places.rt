@@ -1,10 +1,10 @@
-//! Places behind an item, in an arm, and in a turn.
+//! Places after an item, in an arm, and in a turn.
 
 use sj_base::NoMemory;
 use sj_lang::{Arms, Item, Proto, append_copies};
 use std::alloc::Global;
 
-/// What stands behind the first item.
+/// What stands after the first item.
 pub(crate) fn copied_rest(alloc: Global, place: &Proto) -> Result<Proto, NoMemory> {
     match place.items.split_first() {
         Some((_, rest)) => join_items(alloc, rest, &[]),
@@ -22,7 +22,7 @@ pub(crate) fn copied_turn(alloc: Global, place: &Proto) -> Result<Proto, NoMemor
     }
 }
 
-/// The first arm of that label of the choice that stands first, and what stands behind it.
+/// The first arm of that label of the choice that stands first, and what stands after it.
 pub(crate) fn copied_arm(
     alloc: Global,
     place: &Proto,

@@ -1,4 +1,4 @@
-//! From the text of a file to what is told of it.
+//! From the text of a file to what is said of it.
 #![tactic(auto, using(crate::proofs::AnswerLemmas::faulty, crate::proofs::AnswerLemmas::right, crate::proofs::AnswerLemmas::tells))]
 
 ghost use Rattle.std.specs.Prelude.{◌≡◌, ◌≤◌, IfOk, codes, length};
@@ -25,16 +25,16 @@ use sj_proto::{Fault, ParseRefusal};
 use sj_text::put;
 use std::alloc::Global;
 
-/// What is told of the text of a file.
+/// What is said of the text of a file.
 #[derive(Drop)]
 pub struct Told {
     /// What reading and checking come to.
     pub answer: CheckAnswer,
-    /// The line that `sj check` prints, and behind it the reasons; or a picture, where one is asked for.
+    /// The line that `sj check` prints, and after it the reasons; or a picture, where one is asked for.
     pub text: Vec<u8>,
 }
 
-/// Reads and checks the text of a file, and tells what comes of that and why.
+/// Reads and checks the text of a file, and says what comes of that and why.
 pub fn why(alloc: Global, looks: Looks, source: &[u8]) -> Result<Told, NoMemory>
     requires { length source.now ≤ file_limit }
     // The rule and the line, or the counts, are those that `sj check` answers.
@@ -102,7 +102,7 @@ fn counts(file: &File) -> CheckAnswer
     }
 }
 
-// The line of an answer to the source, and more behind it.
+// The line of an answer to the source, and more after it.
 fn tell_with_reasons(
     alloc: Global,
     looks: Looks,
@@ -120,7 +120,7 @@ fn tell_with_reasons(
     Ok(Told { answer, text })
 }
 
-// A picture that answers the source, with more behind its first word.
+// A picture that answers the source, with more after its first word.
 fn tell_with_picture(
     alloc: Global,
     looks: Looks,

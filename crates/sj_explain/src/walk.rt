@@ -129,7 +129,7 @@ fn check_relay(
     Ok(())
 }
 
-// A turn of the loops that stand first at these ends, and then what is behind them.
+// A turn of the loops that stand first at these ends, and then what is after them.
 #[cycle(explaining)]
 fn turn(
     context: Context<'_>,

@@ -1,4 +1,4 @@
-//! The words behind the program's name.
+//! The words after the program's name.
 ghost use Rattle.std.specs.Prelude.{◌≡◌, bytes_eq, map, string_bytes};
 ghost use Rattle.std.specs.List.{list_any};
 ghost use Rattle.sj_explain.specs.Words.{are_known, is_known};

@@ -1,4 +1,4 @@
-//! What is told of small files, and of words that are none.
+//! What is said of small files, and of words that are none.
 
 use sj_base::{MemSink, MemSource};
 use sj_explain::{Looks, explain, why};

@@ -3,7 +3,7 @@
 //! `no_expression_has_a_fault`: no token of an expression breaks a rule.
 //! `an_expression_is_read_in_one_way`: no two expressions have the same pieces.
 //! `faults_go_wrong`: at a token that breaks a rule no expression goes on, or a limit is passed.
-//! `an_expression_ends_where_it_may`: nothing need be due exactly behind a whole expression.
+//! `an_expression_ends_where_it_may`: nothing need be due exactly after a whole expression.
 ghost use Rattle.std.specs.Prelude.{◌≡◌, ℕ, List, [], ◌∷◌, ◌++◌, ◌⊎◌, Some, None, true, false};
 ghost use Rattle.sj_lang.specs.Term.{Term};
 ghost use Rattle.sj_grammar.specs.declared.tokens.Rule.{Rule};

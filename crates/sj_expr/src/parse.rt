@@ -154,10 +154,10 @@ pub fn parse_expression(
     ensures reads { IfOk result (λ e. ReadsExpression (standing tokens.old names.old)
         (standing tokens.new names.new) (term_of e)) }
 
-    // for what is read behind it
+    // for what is read after it
     ensures leaves { LeavesTables StaysWithin result names.old tokens.old names.new tokens.new }
 
-    // the fault is the first one, whatever is due behind the expression
+    // the fault is the first one, whatever is due after the expression
     ensures fault { IfErr result (λ e. (n : ℕ) → Stops (λ ds. expr whole_due ∷ ds) n
         (standing tokens.old names.old) e) }
 {

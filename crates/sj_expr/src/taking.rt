@@ -131,7 +131,7 @@ pub fn take_operand(
     }
 }
 
-/// Takes the minus that comes next and the number behind it; so many operands stand before it.
+/// Takes the minus that comes next and the number after it; so many operands stand before it.
 pub fn take_negative(tokens: &mut Tokens, count: &mut usize) -> Result<Expr, ParseRefusal>
     requires minus { is_next (codes "-") (next_of tokens.old.ahead) ≡ true }
     requires few { count.old ≤ limits.operands }

@@ -132,7 +132,7 @@ impl Desk {
         put_frame(&mut self.outs, used.behind, onward(end, used.hop, sent));
     }
 
-    // The end goes on the carrier, which tells its hop number.
+    // The end goes on the carrier, which names its hop number.
     fn delegate(&mut self, party: u16, carrier: EndId, end: EndId)
         requires fits { IsSome (delegate_act party (desk_at nobody self.old) carrier end
             (held_of (desk_at nobody self.old) end)) }

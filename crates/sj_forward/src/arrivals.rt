@@ -30,7 +30,7 @@ impl Desk {
         }
     }
 
-    // A message for the end: behind what is stored, or on to the next hop.
+    // A message for the end: after what is stored, or on to the next hop.
     fn come_in(&mut self, to: EndId, hop: usize, sent: Sent) -> Result<(), NoMemory>
         requires { IsSome (at_record (in_by (desk_at nobody self.old) to hop (sent_at sent))
             (records_in self.old.ends.items to hop)) }

@@ -107,7 +107,7 @@ pub(crate) fn take_first(ends: &mut Vec<Vec<Slot>>, end: EndId) -> Sent
     slot.take_first()
 }
 
-/// Stores a message behind those that are stored at the record.
+/// Stores a message after those that are stored at the record.
 pub(crate) fn store(
     ends: &mut Vec<Vec<Slot>>,
     end: EndId,

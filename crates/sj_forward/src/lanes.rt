@@ -28,7 +28,7 @@ pub(crate) fn make_room(
     Ok(())
 }
 
-/// Puts a frame behind those that go to that party. The room is there.
+/// Puts a frame after those that go to that party. The room is there.
 pub(crate) fn put_frame(outs: &mut Vec<VecDeque<Frame>>, to: u16, frame: Frame)
     requires { 0 < room_in outs.old.items to }
     ensures { (q : ℕ) → lane_in outs.new.items q ≡ (if q == to
@@ -38,7 +38,7 @@ pub(crate) fn put_frame(outs: &mut Vec<VecDeque<Frame>>, to: u16, frame: Frame)
     out.push_back_reserved(frame);
 }
 
-/// Puts messages for a record of the end behind what goes to that party. The room is there.
+/// Puts messages for a record of the end after what goes to that party. The room is there.
 pub(crate) fn put_all(
     outs: &mut Vec<VecDeque<Frame>>,
     to: u16,

@@ -44,7 +44,7 @@ fn smallest_of(numbers: &[u32]) -> Option<u32>
     Some(least)
 }
 
-/// Puts the session behind those that the party offers.
+/// Puts the session after those that the party offers.
 pub(crate) fn offer(
     alloc: Global,
     offers: &mut Vec<Vec<u32>>,

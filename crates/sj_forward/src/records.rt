@@ -22,14 +22,14 @@ pub enum Stand {
     Closed,
 }
 
-/// A record of an end. What is sent on the end goes from here to the party behind.
+/// A record of an end. What is sent on the end goes from here to the party after.
 #[derive(Drop)]
 pub struct Record {
     pub behind: u16,
     pub stand: Stand,
 }
 
-/// An end in use: the hop number of its record, the party behind, and the next message.
+/// An end in use: the hop number of its record, the party after, and the next message.
 #[derive(Clone, Copy)]
 pub struct Use {
     pub hop: usize,
@@ -46,7 +46,7 @@ pub enum Kind {
     Closed,
 }
 
-/// A record: the party behind, and of what kind it is.
+/// A record: the party after, and of what kind it is.
 #[derive(Clone, Copy)]
 pub struct Seen {
     pub behind: u16,
@@ -145,7 +145,7 @@ fn take_from_stand(stand: &mut Stand) -> Sent
     }
 }
 
-/// Stores a message behind those of a record that stores.
+/// Stores a message after those of a record that stores.
 pub(crate) fn store_in_record(place: &mut Option<Record>, sent: Sent) -> Result<(), NoMemory>
     requires { is_storing (option_map record_at place.old) ≡ true }
     ensures ok { OnOk result (option_map record_at place.new

@@ -125,7 +125,7 @@ impl Slot {
         take_from_record(place)
     }
 
-    /// Stores a message behind those that are stored at the record.
+    /// Stores a message after those that are stored at the record.
     pub(crate) fn store(&mut self, hop: usize, sent: Sent) -> Result<(), NoMemory>
         requires { is_storing (record_in self.old hop) ≡ true }
         ensures ok { OnOk result ((r : rules.RecordAt) → record_in self.old hop ≡ Some r →

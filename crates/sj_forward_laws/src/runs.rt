@@ -84,7 +84,7 @@ pub fn each_front_fits()
         (v : WorldAt Program) × (happens (play_of file) w p (Deliver q) ≡ Some v) }
 {}
 
-/// An event is no step exactly where the lane is empty, or the party isn't ready by what it holds.
+/// An event is illegal exactly where the lane is empty, or the party isn't ready by what it holds.
 pub fn has_step_tells_the_steps()
     ensures step { (file : FileAt) (turns : List Turn) (w : WorldAt Program) (p : ℕ)
         (event : Event) → IsAccepted file → IsForwardRun file turns w →

@@ -8,8 +8,8 @@ ghost use Rattle.sj_generator.specs.Generated.{protocols, sender, giver, adder, 
 use sj_base::NoMemory;
 use sj_text::{put, put_number};
 
-/// Appends the text of the file whose loops send n messages each; it is canonical. Want of memory
-/// leaves a front of it behind the old text.
+/// Appends the text of the file whose loops send n messages each; it is canonical. Out of memory, it
+/// leaves a prefix of it after the old text.
 pub fn print_generated(text: &mut Vec<u8>, n: u16) -> Result<(), NoMemory>
     ensures ok { OnOk result (text.new.items ≡ text.old.items ++ generated n) }
     ensures err { OnErr result (IsCutShort text.old.items (generated n) text.new.items) }

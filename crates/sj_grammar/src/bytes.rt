@@ -74,7 +74,7 @@ pub fn is(bytes: &[u8], other: &[u8]) -> bool
     bytes == other
 }
 
-/// Whether the bytes are 2^63, which stands behind a factor's own minus alone.
+/// Whether the bytes are 2^63, which stands after a factor's own minus alone.
 pub fn is_largest_number(bytes: &[u8]) -> bool
     ensures { result ≡ is_largest bytes.now }
 {

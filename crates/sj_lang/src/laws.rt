@@ -35,7 +35,7 @@ pub fn what_meets_an_end_meets_what_it_stands_for()
     ensures { (p t s : Place) → Meets p t → StandsFor t s → Meets p s }
 {}
 
-/// What the one of two that meet can send, the other can take, and the places behind it meet.
+/// What the one of two that meet can send, the other can take, and the places after it meet.
 pub fn what_is_sent_can_be_taken()
     ensures { (p q p' : Place) (m : Msg) → Meets p q → after_place p Out m ≡ Some p' →
         (q' : Place) × (after_place q Into m ≡ Some q') × Meets p' q' }
@@ -47,7 +47,7 @@ pub fn the_test_tells_what_meets()
 {}
 
 /// Where one place stands for another, what can be taken at the one can be taken at the other, and
-/// behind it the one stands for the other again.
+/// after it the one stands for the other again.
 pub fn what_stands_in_takes_no_more()
     ensures { (t s t' : Place) (m : Msg) → StandsFor t s → after_place t Into m ≡ Some t' →
         (s' : Place) × (after_place s Into m ≡ Some s') × StandsFor t' s' }

@@ -1,8 +1,8 @@
-//! Laws of what is told of a run of a file; each is the one clause of a function that does nothing.
+//! Laws of what is said of a run of a file; each is the one clause of a function that does nothing.
 //!
-//! - `the_history_of_a_run_is_legible`, `the_log_of_a_run_is_read_again`: a history can be told in
+//! - `the_history_of_a_run_is_legible`, `the_log_of_a_run_is_read_again`: a history can be written in
 //!   lines, and these are read again.
-//! - `a_file_and_its_log_are_parted_there`: a replay finds them behind the file.
+//! - `a_file_and_its_log_are_parted_there`: a replay finds them after the file.
 //! - `a_newline_behind_a_file_changes_nothing`: which may need one to consist of whole lines.
 
 ghost use Rattle.std.specs.Prelude.{List, ℕ, ◌≤◌, ◌++◌, codes, length};
@@ -40,8 +40,8 @@ pub fn the_log_of_a_run_is_read_again()
         SpellsLog version file (log_text file history) history }
 {}
 
-/// A text of a file that consists of whole lines, with the line of a version and a log behind it, is
-/// parted there, whatever the log is: no line of a file is `%%log` or `%%log2`.
+/// A text of a file that consists of whole lines, with the line of a version and a log after it, is
+/// split there, whatever the log is: no line of a file is `%%log` or `%%log2`.
 pub fn a_file_and_its_log_are_parted_there()
     ensures { (text log : List ℕ) (file : FileAt) (version : ℕ) → IsFile text file →
         AreLines text → IsVersion version →

@@ -1,4 +1,4 @@
-//! Laws of the text of a log: what a run tells is read again.
+//! Laws of the text of a log: what a run prints is read again.
 #![tactic(auto)]
 
 mod laws;

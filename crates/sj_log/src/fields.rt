@@ -47,7 +47,7 @@ pub(crate) fn clock(word: &[u8]) -> Result<u64, LogRule>
     number(1, 4_611_686_018_427_387_904, word)
 }
 
-// A number below zero, by the digits behind its minus.
+// A number below zero, by the digits after its minus.
 fn below_zero(digits: &[u8]) -> Result<i64, LogRule>
     ensures { result ≡ made (λ n. negsuc (n - 1)) (number_read 1 (last_int + 1) digits.now) }
 {

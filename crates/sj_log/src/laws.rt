@@ -1,4 +1,4 @@
-//! Laws: a printed log is read as its lines (`printed_lines_are_read`), and a source is parted in one way
+//! Laws: a printed log is read as its lines (`printed_lines_are_read`), and a source is split one way
 //! (`sources_are_parted_in_one_way`).
 ghost use Rattle.std.specs.Prelude.{List, ℕ, ◌≡◌, ◌≤◌};
 ghost use Rattle.sj_lang.specs.FileAt.{FileAt};

@@ -74,7 +74,7 @@ fn offer(file: &File, fields: &mut Fields) -> Result<(u32, (u16, ())), LogRule>
     together(sess, together(party, fields.end()))
 }
 
-/// Whether a log of that version tells of sessions that are opened at run time.
+/// Whether a log of that version speaks of sessions that are opened at run time.
 pub(crate) fn knows_openings(version: u8) -> bool
     ensures { result ≡ knows_openings version }
 {
@@ -100,7 +100,7 @@ fn opening(version: u8, file: &File, word: &[u8], fields: &mut Fields) -> Result
     }
 }
 
-/// What a party did, by that word and those behind it, in a log of that version.
+/// What a party did, by that word and those after it, in a log of that version.
 #[tactic(auto, unfolding(crate::specs::Notes::act_read))]
 pub(crate) fn act(
     version: u8,

@@ -5,7 +5,7 @@ ghost use Rattle.sj_log.specs.Rules.{rule_number};
 use sj_base::NoMemory;
 use std::alloc::AllocFailed;
 
-/// What a line of a log breaks. Of the rules that one line breaks the first of L1, L3 and L2 is told.
+/// What a line of a log breaks: of its broken rules the first of L1, L3 and L2.
 #[derive(Clone, Copy, Debug, PartialEq, Eq)]
 pub(crate) enum LogRule {
     /// No form of a line.
@@ -18,7 +18,7 @@ pub(crate) enum LogRule {
     L4,
 }
 
-/// The number by which a refusal tells the rule.
+/// The number by which a refusal names the rule.
 pub(crate) fn number_of(rule: LogRule) -> u8
     ensures { result ≡ rule_number rule }
 {

@@ -7,7 +7,7 @@ ghost use Rattle.sj_log.specs.Fields.{both, rank, first_of, word, rest, words_in
 use crate::refusal::LogRule;
 use std::marker::Model;
 
-// Which of the rules that one line breaks is told: the one with the least number.
+// Which of the rules that one line breaks is reported: the one with the least number.
 fn order(rule: LogRule) -> u8
     ensures { result ≡ rank rule }
 {
@@ -25,7 +25,7 @@ fn told(r: LogRule, s: LogRule) -> LogRule
     if order(r) <= order(s) { r } else { s }
 }
 
-/// Both values, or the rule that is told.
+/// Both values, or the rule that is reported.
 #[tactic(auto, unfolding(crate::specs::Fields::both))]
 pub(crate) fn together<A: Copy, B: Copy>(
     a: Result<A, LogRule>,
@@ -57,7 +57,7 @@ pub(crate) fn first_at(byte: u8, bytes: &[u8]) -> usize
     i
 }
 
-// The first word, and what is left behind the space that ends it.
+// The first word, and what is left after the space that ends it.
 #[tactic(auto, using(crate::proofs::WordLemmas::parting))]
 fn cut(line: &[u8]) -> (&[u8], Option<&[u8]>)
     ensures word { result.0.now ≡ word (words_in line.now) }

@@ -1,4 +1,4 @@
-//! The statements of a program, each a node that names the node behind it.
+//! The statements of a program, each a node that names the node after it.
 
 use sj_lang::{Expr, Scalar};
 
@@ -76,7 +76,7 @@ pub struct ArmAt {
     pub body: Option<usize>,
 }
 
-/// A statement, its line, and the block of those behind it.
+/// A statement, its line, and the block of those after it.
 #[derive(Drop)]
 pub struct Node {
     pub line: u32,

@@ -24,7 +24,7 @@ pub struct StackFrame {
     pub stage: Stage,
 }
 
-/// Where a step leads, from the statement that did it: into a block behind it, or back to it at a
+/// Where a step leads, from the statement that did it: into a block after it, or back to it at a
 /// later stage, and first into a block.
 #[derive(Clone, Copy)]
 pub enum After {

@@ -38,7 +38,7 @@ pub fn names_of(alloc: Global, parties: &[Party]) -> Result<Vec<u16>, NoMemory>
     Ok(names)
 }
 
-/// Puts an end behind the others where it belongs to the party.
+/// Puts an end after the others where it belongs to the party.
 fn add_end(
     ends: &mut Vec<(u16, EndId)>,
     parties: &[Party],

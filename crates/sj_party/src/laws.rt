@@ -2,7 +2,7 @@
 //! `statements_are_what_is_due`: the tokens of statements, blocks and arms are what is due there.
 //! `no_statement_has_a_fault`: no token of theirs breaks a rule.
 //! `statements_are_read_in_one_way`: no two statements, blocks or arms have the same pieces.
-//! `files_are_what_is_due`: the tokens of a file are what is due, and behind them nothing need be.
+//! `files_are_what_is_due`: the tokens of a file are what is due, and after them nothing need be.
 //! `no_file_has_a_fault`, `one_file_a_text`: a text that stands for a file has no fault and is that file alone.
 //! `no_file_goes_on_there`: at a token that breaks a rule no file goes on, but for limits.
 //! `a_file_goes_on_up_to_there`: up to what is due a file can go on so, and at a passed limit with the token too.

@@ -1,4 +1,4 @@
-//! What statements have behind their first words.
+//! What statements have after their first words.
 ghost use Rattle.std.specs.Prelude.{ℕ, ◌<◌, [], ◌∷◌, codes, IfOk, IfErr};
 ghost use Rattle.sj_lang.specs.CodeView.{term_of};
 ghost use Rattle.sj_grammar.specs.ExpressionDues.{whole};
@@ -85,7 +85,7 @@ pub fn name_and_value(
     Ok((name, value))
 }
 
-/// A name, and behind a `=` its value.
+/// A name, and after a `=` its value.
 pub fn binding(
     alloc: Global,
     tokens: &mut Tokens,
@@ -105,7 +105,7 @@ pub fn binding(
     Ok((name, value))
 }
 
-/// What stands behind the two names of a `recv`.
+/// What stands after the two names of a `recv`.
 pub fn take_awaited(tokens: &mut Tokens, names: &mut Names) -> Result<Awaited, ParseRefusal>
     requires room { HasRoomFor 0 names.old tokens.old }
     ensures reads { IfOk result (λ x. ReadsParts (standing tokens.old names.old)

@@ -112,7 +112,7 @@ fn put_connect(text: &mut Vec<u8>, names: &Names, connect: &Connect) -> Result<(
     put(text, b";\n")
 }
 
-// Appends the names of an end, each behind a space.
+// Appends the names of an end, each after a space.
 #[tactic(auto, using(sj_text::proofs::CutLemmas::cuts), unfolding(crate::specs::CanonicalFile::end_text))]
 fn put_end(text: &mut Vec<u8>, names: &Names, end: &EndDecl) -> Result<(), NoMemory>
     ensures ok { OnOk result (text.new.items

@@ -1,4 +1,4 @@
-//! Parts of statements as text: spaces, names, expressions and kinds behind what stands before them.
+//! Parts of statements as text: spaces, names, expressions and kinds after what stands before them.
 #![tactic(auto, using(sj_text::proofs::CutLemmas::cuts))]
 
 ghost use Rattle.std.specs.Prelude.{◌≡◌, ◌++◌, codes, OnOk, OnErr};
@@ -25,7 +25,7 @@ pub fn put_spaces(text: &mut Vec<u8>, n: usize) -> Result<(), NoMemory>
     Ok(())
 }
 
-/// Appends a name behind what stands before it.
+/// Appends a name after what stands before it.
 #[tactic(auto, using(sj_text::proofs::CutLemmas::cuts), unfolding(crate::specs::CanonicalCode::named_text))]
 pub fn put_named(text: &mut Vec<u8>, names: &Names, lead: &[u8], n: u16) -> Result<(), NoMemory>
     ensures ok { OnOk result (text.new.items
@@ -55,7 +55,7 @@ pub fn put_pair(
     put_named(text, names, b" ", y)
 }
 
-/// Appends an expression behind what stands before it.
+/// Appends an expression after what stands before it.
 #[tactic(auto, using(sj_text::proofs::CutLemmas::cuts), unfolding(crate::specs::CanonicalCode::valued_text))]
 pub fn put_valued(text: &mut Vec<u8>, names: &Names, lead: &[u8], e: &Expr) -> Result<(), NoMemory>
     ensures ok { OnOk result (text.new.items
@@ -67,7 +67,7 @@ pub fn put_valued(text: &mut Vec<u8>, names: &Names, lead: &[u8], e: &Expr) -> R
     put_expression(text, names, Wanted::Whole, e)
 }
 
-/// Appends a name, and behind a mark an expression.
+/// Appends a name, and after a mark an expression.
 #[tactic(auto, using(sj_text::proofs::CutLemmas::cuts), unfolding(crate::specs::CanonicalCode::given_text))]
 pub fn put_given(
     text: &mut Vec<u8>,

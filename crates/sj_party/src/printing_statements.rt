@@ -99,7 +99,7 @@ fn put_three_line(
     put_named_line(text, names, mark, z)
 }
 
-// Opens a block, and answers how far in it stands. Beyond all memory it answers want of memory.
+// Opens a block, and answers how far in it stands. Beyond all memory it answers out of memory.
 fn put_opening(text: &mut Vec<u8>, n: usize) -> Result<usize, NoMemory>
     ensures ok { OnOk result (text.new.items ≡ text.old.items ++ codes " {\n") }
     ensures further { IfOk result (λ m. m ≡ n + 2) }
@@ -122,7 +122,7 @@ fn put_closing(text: &mut Vec<u8>, n: usize) -> Result<(), NoMemory>
     put(text, b"}")
 }
 
-/// Appends a block that stands so many spaces in, behind what stands before it.
+/// Appends a block that stands so many spaces in, after what stands before it.
 #[cycle(statements)]
 pub fn put_block(
     text: &mut Vec<u8>,

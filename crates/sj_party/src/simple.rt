@@ -1,4 +1,4 @@
-//! Statements with no block, behind their first words.
+//! Statements with no block, after their first words.
 ghost use Rattle.std.specs.Prelude.{◌≡◌, ℕ, ◌<◌, ◌∷◌, codes, IfOk, IfErr};
 ghost use Rattle.sj_lang.specs.CodeView.{deed_of};
 ghost use Rattle.sj_grammar.specs.ExpressionDues.{whole};
@@ -145,7 +145,7 @@ fn accept(tokens: &mut Tokens, names: &mut Names) -> Result<Deed, ParseRefusal>
     })
 }
 
-/// A statement with no block, behind that word.
+/// A statement with no block, after that word.
 pub fn simple(
     alloc: Global,
     tokens: &mut Tokens,

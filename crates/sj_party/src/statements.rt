@@ -54,7 +54,7 @@ pub(crate) fn statements(
     Ok(list)
 }
 
-// What a statement does, behind its first word.
+// What a statement does, after its first word.
 #[cycle(code)]
 fn deed(
     alloc: Global,

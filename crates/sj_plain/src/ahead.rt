@@ -64,7 +64,7 @@ impl Ahead {
     }
 }
 
-// The spot behind the message, and the same one where the message isn't next there.
+// The spot after the message, and the same one where the message isn't next there.
 fn spot_behind(table: &Table, spot: Spot, way: Way, msg: &Msg) -> Spot
     ensures { place_in table.now result ≡ place_behind (place_in table.now spot) way msg.now }
 {

@@ -145,7 +145,7 @@ impl Session {
         self.sent(if side == 0 { 1 } else { 0 }).get(taken).copied()
     }
 
-    /// Puts the message behind those that the end sent, and moves the end past it.
+    /// Puts the message after those that the end sent, and moves the end past it.
     pub(crate) fn send(
         &mut self,
         alloc: Global,

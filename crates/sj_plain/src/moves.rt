@@ -18,7 +18,7 @@ enum Move {
     Stay,
     /// Past the first item.
     Pass,
-    /// Through the body of the first item, which comes again behind it.
+    /// Through the body of the first item, which comes again after it.
     Turn,
     /// Into the arm of that number of the first item.
     Enter(usize),
@@ -124,7 +124,7 @@ fn taken_arm(item: Item, arm: usize) -> Proto
     }
 }
 
-// Moves the items behind those of `front`, and swaps the two lists.
+// Moves the items after those of `front`, and swaps the two lists.
 fn put_behind(items: &mut Vec<Item>, front: &mut Vec<Item>) -> Result<(), NoMemory>
     ensures ok { OnOk result (items.new.items ≡ front.old.items ++ items.old.items) }
     ensures err { OnErr result (items.new.items ≡ items.old.items) }

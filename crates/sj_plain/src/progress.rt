@@ -231,7 +231,7 @@ fn accept_next(
     Ok(())
 }
 
-/// Does the party's next step, which is the one that it wants. Want of memory leaves the party, the
+/// Does the party's next step, which is the one that it wants. Out of memory, it leaves the party, the
 /// sessions and those that were opened as they were.
 pub fn step(
     alloc: Global,

@@ -73,7 +73,7 @@ fn before(opened: &[Opened], party: u32) -> usize
     low
 }
 
-/// Puts a session behind the others that its requester opened.
+/// Puts a session after the others that its requester opened.
 pub fn add(opened: &mut Vec<Opened>, session: Opened) -> Result<(), NoMemory>
     requires order { AreInOrder session.from opened.old.items }
     requires number { session.sess

@@ -35,7 +35,7 @@ pub fn hops(sessions: &[Session], end: EndId) -> u8
     }
 }
 
-/// Puts sessions that aren't opened behind the others, until that number is reached.
+/// Puts sessions that aren't opened after the others, until that number is reached.
 pub fn reach(
     alloc: Global,
     table: &Table,

@@ -1,6 +1,6 @@
 //! The lines of a transcript.
 //!
-//! Want of memory leaves a front of what was to be put behind the text.
+//! Out of memory, it leaves a prefix of what was to be put after the text.
 #![tactic(auto, using(sj_text::proofs::CutLemmas::cuts))]
 
 ghost use Rattle.std.specs.Prelude.{◌≡◌, ◌++◌, ◌∷◌, [], OnOk, OnErr, slice_get};
@@ -166,7 +166,7 @@ pub(crate) fn put_party(
     }
 }
 
-/// Puts the line of the verdict behind the text.
+/// Puts the line of the verdict after the text.
 pub fn print_verdict(text: &mut Vec<u8>, verdict: Verdict) -> Result<(), NoMemory>
     ensures ok { OnOk result (text.new.items
         ≡ text.old.items ++ line_of (verdict_word verdict ∷ [])) }

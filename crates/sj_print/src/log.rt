@@ -1,6 +1,6 @@
 //! The lines of a log.
 //!
-//! Want of memory leaves a front of what was to be put behind the text.
+//! Out of memory, it leaves a prefix of what was to be put after the text.
 #![tactic(auto, using(sj_text::proofs::CutLemmas::cuts))]
 
 ghost use Rattle.std.specs.Prelude.{◌≡◌, ◌++◌, OnOk, OnErr};
@@ -18,8 +18,8 @@ use sj_base::NoMemory;
 use sj_end::{Event, Line, Note};
 use sj_lang::File;
 
-/// Puts the line of an event behind the text: its clock, its party, from whom the frame came, and
-/// what was done or what the frame said. Want of memory leaves a front of the line.
+/// Puts the line of an event after the text: its clock, its party, from whom the frame came, and
+/// what was done or what the frame said. Out of memory, it leaves a prefix of the line.
 pub fn print_line(text: &mut Vec<u8>, file: &File, line: &Line) -> Result<(), NoMemory>
     ensures ok { OnOk result (text.new.items
         ≡ text.old.items ++ log_line (file_of file.now) (line_at line.now)) }
@@ -30,7 +30,7 @@ pub fn print_line(text: &mut Vec<u8>, file: &File, line: &Line) -> Result<(), No
     put_note(text, file, &line.entry.note)
 }
 
-// The clock, the party and the origin, each with a space behind it.
+// The clock, the party and the origin, each with a space after it.
 fn put_head(text: &mut Vec<u8>, file: &File, line: &Line) -> Result<(), NoMemory>
     ensures ok { OnOk result (text.new.items
         ≡ text.old.items ++ closed_words (head_words (file_of file.now) (line_at line.now))) }

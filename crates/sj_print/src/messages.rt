@@ -1,6 +1,6 @@
 //! Lines that end with a message, of transcripts and of logs.
 //!
-//! Want of memory leaves a front of what was to be put behind the text.
+//! Out of memory, it leaves a prefix of what was to be put after the text.
 #![tactic(auto, using(sj_text::proofs::CutLemmas::cuts))]
 
 ghost use Rattle.std.specs.Prelude.{◌≡◌, ◌++◌, OnOk, OnErr, map};
@@ -13,7 +13,7 @@ use crate::pieces::{Piece, put_byte, put_spaced, put_words};
 use sj_base::{EndId, Msg, NoMemory};
 use sj_lang::File;
 
-/// Puts a line of these and then the message behind the text.
+/// Puts a line of these and then the message after the text.
 pub(crate) fn put_message_line(
     text: &mut Vec<u8>,
     file: &File,
@@ -41,7 +41,7 @@ fn put_message(text: &mut Vec<u8>, file: &File, msg: &Msg) -> Result<(), NoMemor
     put_byte(text, b'\n')
 }
 
-/// Puts the text of a message behind the text, without a newline. Want of memory leaves a front of
+/// Puts the text of a message after the text, without a newline. Out of memory, it leaves a prefix of
 /// the message.
 pub fn print_message(text: &mut Vec<u8>, file: &File, msg: &Msg) -> Result<(), NoMemory>
     ensures ok { OnOk result (text.new.items

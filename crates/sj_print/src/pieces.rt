@@ -1,6 +1,6 @@
 //! Lines are put together from pieces, with one space between each two.
 //!
-//! Want of memory leaves a front of what was to be put behind the text.
+//! Out of memory, it leaves a prefix of what was to be put after the text.
 #![tactic(auto, using(sj_text::proofs::CutLemmas::cuts))]
 
 ghost use Rattle.std.specs.Prelude.{◌≡◌, ◌++◌, ◌∷◌, [], OnOk, OnErr, map, None};
@@ -31,7 +31,7 @@ pub(crate) enum Piece {
     Resend(Option<u32>),
 }
 
-/// Puts one byte behind the text. Want of memory leaves the text as it was.
+/// Puts one byte after the text. Out of memory, it leaves the text as it was.
 pub(crate) fn put_byte(text: &mut Vec<u8>, byte: u8) -> Result<(), NoMemory>
     ensures ok { OnOk result (text.new.items ≡ text.old.items ++ byte ∷ []) }
     ensures err { OnErr result (text.new.items ≡ text.old.items) }
@@ -39,7 +39,7 @@ pub(crate) fn put_byte(text: &mut Vec<u8>, byte: u8) -> Result<(), NoMemory>
     Ok(text.push(byte)?)
 }
 
-/// Puts a line of these behind the text.
+/// Puts a line of these after the text.
 pub(crate) fn put_line(
     text: &mut Vec<u8>,
     file: &File,
@@ -56,7 +56,7 @@ pub(crate) fn put_line(
     put_byte(text, b'\n')
 }
 
-/// Puts words behind the text, with a space between each two.
+/// Puts words after the text, with a space between each two.
 pub(crate) fn put_words(
     text: &mut Vec<u8>,
     file: &File,
@@ -72,7 +72,7 @@ pub(crate) fn put_words(
     put_piece(text, file, last)
 }
 
-/// Puts these behind the text, each with a space behind it.
+/// Puts these after the text, each with a space after it.
 pub(crate) fn put_spaced(text: &mut Vec<u8>, file: &File, front: &[Piece]) -> Result<(), NoMemory>
     ensures ok { OnOk result (text.new.items
         ≡ text.old.items ++ spaced_text (file_of file.now) front.now) }
@@ -104,7 +104,7 @@ fn put_piece(text: &mut Vec<u8>, file: &File, piece: Piece) -> Result<(), NoMemo
     }
 }
 
-/// Puts the name of the party of that number behind the text, or `#` and the number where none has it.
+/// Puts the name of the party of that number after the text, or `#` and the number where none has it.
 pub fn print_name(text: &mut Vec<u8>, file: &File, party: u16) -> Result<(), NoMemory>
     ensures ok { OnOk result (text.new.items ≡ text.old.items ++ name_of (file_of file.now) party) }
     ensures err { OnErr result (IsCutShort text.old.items

@@ -17,9 +17,9 @@ use sj_lang::{Connect, File};
 use sj_plain::Plain;
 use sj_semantics::Opened;
 
-/// Puts the transcript behind the text: sessions and what was sent on them, those of connections and
+/// Puts the transcript after the text: sessions and what was sent on them, those of connections and
 /// then those that were opened, parties, verdict. The
-/// file is the one that the plain world is of. Want of memory leaves a front of the transcript.
+/// file is the one that the plain world is of. Out of memory, it leaves a prefix of the transcript.
 pub fn print_transcript(text: &mut Vec<u8>, file: &File, plain: &Plain) -> Result<(), NoMemory>
     requires parties { length (file_of file.now).parties ≤ limits.parties }
     requires connects { length (file_of file.now).connects ≤ limits.connects }

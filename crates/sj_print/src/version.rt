@@ -1,6 +1,6 @@
 //! The line that stands before a log.
 //!
-//! Want of memory leaves a front of what was to be put behind the text.
+//! Out of memory, it leaves a prefix of what was to be put after the text.
 #![tactic(auto, using(sj_text::proofs::CutLemmas::cuts, crate::proofs::VersionLemmas::any_map))]
 
 ghost use Rattle.std.specs.Prelude.{◌≡◌, ◌++◌, OnOk, OnErr, map};
@@ -31,8 +31,8 @@ fn have_openings(lines: &[Line]) -> bool
     lines.iter().any(|l| is_opening(&l.entry.note))
 }
 
-/// Puts the line that stands before a log of these lines behind the text: `%%log2` where a session is
-/// opened or accepted in them, else `%%log`. Want of memory leaves a front of the line.
+/// Puts the line that stands before a log of these lines after the text: `%%log2` where a session is
+/// opened or accepted in them, else `%%log`. Out of memory, it leaves a prefix of the line.
 pub fn print_mark(text: &mut Vec<u8>, lines: &[Line]) -> Result<(), NoMemory>
     ensures ok { OnOk result (text.new.items
         ≡ text.old.items ++ mark_of (version_of (map line_at lines.now))) }

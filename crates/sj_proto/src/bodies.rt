@@ -18,7 +18,7 @@ use sj_lang::{Names, Proto};
 use std::alloc::Global;
 
 /// A protocol from its `begin` on, up to the first token that can't be more of it. Its labels are
-/// words of `names`. Whatever stands behind a protocol is due after it, so a file's reader calls
+/// words of `names`. Whatever stands after a protocol is due after it, so a file's reader calls
 /// this for each of its protocols.
 pub fn body(alloc: Global, tokens: &mut Tokens, names: &mut Names) -> Result<Proto, ParseRefusal>
     requires { HasRoom names.old tokens.old }

@@ -9,7 +9,7 @@ use crate::tokens::Tokens;
 use sj_grammar::{Fault, Rule};
 use sj_lang::Way;
 
-/// What opens a bracket, behind the way of an item.
+/// What opens a bracket, after the way of an item.
 #[derive(Clone, Copy)]
 pub enum Bracket {
     Kind,
@@ -47,7 +47,7 @@ fn open_bytes(way: Way) -> &'static [u8]
     }
 }
 
-/// What opens a bracket behind the way, which passes a limit where it is too deep.
+/// What opens a bracket after the way, which passes a limit where it is too deep.
 pub fn take_bracket(tokens: &mut Tokens, way: Way, deep: bool) -> Result<Bracket, Fault>
     ensures ok { IfOk result (λ o. TakesText tokens.old (bracket_piece way o) tokens.new) }
     ensures room { IfOk result (λ _. deep ≡ false) }

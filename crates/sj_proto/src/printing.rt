@@ -47,7 +47,7 @@ fn put_between(text: &mut Vec<u8>, before: usize, bytes: &[u8]) -> Result<(), No
     Ok(())
 }
 
-// Items behind a gap, and nothing where there are no items.
+// Items after a gap, and nothing where there are no items.
 #[cycle(printing)]
 fn put_behind(text: &mut Vec<u8>, names: &Names, gap: &[u8], p: &Proto) -> Result<(), NoMemory>
     ensures ok { OnOk result (text.new.items ≡ text.old.items

@@ -46,7 +46,7 @@ fn is_there(bytes: &[u8], at: usize, b: u8) -> bool
     at < bytes.len() && bytes[at] == b
 }
 
-// Whether that byte and the one behind it are one symbol.
+// Whether that byte and the one after it are one symbol.
 fn begins_double(bytes: &[u8], at: usize, b: u8) -> bool
     requires { at < length bytes.now }
     ensures { result ≡ is_double b (drop (at + 1) bytes.now) }
@@ -143,7 +143,7 @@ fn token_here(bytes: &[u8], from: usize) -> Found
     Found::Bad(Rule::P2, from)
 }
 
-/// What comes next behind a position. A comment may end the text.
+/// What comes next after a position. A comment may end the text.
 pub fn find(bytes: &[u8], at: usize) -> Found
     requires { at ≤ length bytes.now }
     ensures found { found_of bytes.now result ≡ next_of (drop at bytes.now) }

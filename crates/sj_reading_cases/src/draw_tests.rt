@@ -46,7 +46,7 @@ const OPENINGS: &[u8] = b"%%log2\n\
     3 c from a open 65\n\
     4 c from a carry 65.1 0 0 0 int 2\n";
 
-// How often the piece stands in the picture of the transcript with that log behind it.
+// How often the piece stands in the picture of the transcript with that log after it.
 fn times(alloc: Global, log: &[u8], piece: &[u8]) -> Result<usize, Fail> {
     let mut text = Vec::from_slice(alloc, TRANSCRIPT)?;
     text.extend_from_slice(log)?;

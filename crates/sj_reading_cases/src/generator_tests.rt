@@ -1,4 +1,4 @@
-//! The generated file behind an old text.
+//! The generated file after an old text.
 use sj_generator::print_generated;
 use std::test::Fail;
 

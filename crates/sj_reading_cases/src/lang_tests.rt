@@ -60,7 +60,7 @@ fn a_dual_is_another_protocol(rt: HostRuntime) -> Result<(), Fail> {
     Ok(())
 }
 
-// A selection of these labels, each with nothing behind it.
+// A selection of these labels, each with nothing after it.
 fn selection(alloc: Global, labels: &[u16]) -> Result<Proto, Fail> {
     let mut arms = Vec::new(alloc);
     for label in labels {

@@ -104,7 +104,7 @@ fn a_dual_has_a_line_of_its_own(rt: HostRuntime) -> Result<(), Fail> {
     Ok(())
 }
 
-// The rule and the column of the fault of so many parts, one behind the other, with a head and a
+// The rule and the column of the fault of so many parts, one after the other, with a head and a
 // tail; None where there is none.
 fn fault_of(
     alloc: Global,

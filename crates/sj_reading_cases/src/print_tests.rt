@@ -43,7 +43,7 @@ fn a_transcript_is_printed_behind_what_is_there(rt: HostRuntime) -> Result<(), F
     Ok(())
 }
 
-// What is printed of acts of the one party with these notes, behind the line before a log of them.
+// What is printed of acts of the one party with these notes, after the line before a log of them.
 fn printed(alloc: Global, notes: &[Note]) -> Result<Vec<u8>, Fail> {
     let file = one_party(alloc)?;
     let mut lines = Vec::new(alloc);

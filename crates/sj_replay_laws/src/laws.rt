@@ -14,15 +14,15 @@ ghost use Rattle.sj_tool.specs.Table.{CanRise};
 ghost use Rattle.sj_tool.specs.Texts.{status_of, text_of};
 ghost use Rattle.sj_replay_laws.specs.Again.{IsInLines, ReplaysAll, TellsLog, told_of};
 
-/// What `run --log` tells of a file is in the table of a call of `replay --log` that reads the text of
-/// the file in whole lines and, behind it, the log as it was printed: the same status and the same text.
+/// What `run --log` prints of a file is in the table of a call of `replay --log` that reads the text of
+/// the file in whole lines and, after it, the log as it was printed: the same status and the same text.
 pub fn a_log_is_replayed_as_it_was_told()
     ensures { (c d : CallAt) (text whole log : List ℕ) (file : FileAt) (verdict : Verdict) →
         TellsLog c text file verdict log → IsInLines text whole →
         ReplaysAll d (whole ++ log) → IsInTable d (told_of file verdict log) }
 {}
 
-/// Each answer to such a call is that one, where its source tells its bytes and its count of faults
+/// Each answer to such a call is that one, where its source reports its bytes and its count of faults
 /// isn't at its last value.
 pub fn nothing_else_is_told_of_a_log()
     ensures { (c d : CallAt) (text whole log : List ℕ) (file : FileAt)

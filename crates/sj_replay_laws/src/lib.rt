@@ -1,4 +1,4 @@
-//! Laws over two calls of `sj`: what `run --log` tells is replayed as it was told.
+//! Laws over two calls of `sj`: What `run --log` prints is replayed as it was printed.
 #![tactic(auto)]
 
 mod laws;

@@ -1,7 +1,7 @@
 //! Laws over the joined logs of the parties of a file, and over histories; each is the one clause
 //! of a function that does nothing, or one of several.
 //!
-//! - `joined_logs_are_a_core_run`: what running parties tell is a core run, in the order of its
+//! - `joined_logs_are_a_core_run`: what running parties report is a core run, in the order of its
 //!   lines.
 //! - `a_history_is_one_run`: a history fixes its run, and replaying gives exactly its lines.
 //! - `no_worker_is_unfit`: no worker's node refuses a frame or an act as unfit.

@@ -1,4 +1,4 @@
-//! Laws of what the lines of a history tell of the plain run of its acts; each is one clause of a
+//! Laws of what the lines of a history say of the plain run of its acts; each is one clause of a
 //! function that does nothing.
 //!
 //! - `a_history_is_tied_to_its_plain_run`: each act's note is that of the plain step.
@@ -21,7 +21,7 @@ ghost use Rattle.sj_semantics.specs.World.{start_of};
 
 /// In a history the note of each act is that of the step that its party does in the plain run of
 /// the acts: what it sends or takes and on which end, which end it closes, which session it opens or
-/// accepts. A delivery's note tells of a frame.
+/// accepts. A delivery's note names a frame.
 pub fn a_history_is_tied_to_its_plain_run()
     ensures { (file : FileAt) (pick : ℕ → ℕ → ℕ) (lines : List LineAt)
         (core : WorldAt Place Program) → IsAccepted file → IsPick pick →

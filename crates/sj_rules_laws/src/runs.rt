@@ -63,7 +63,7 @@ pub fn each_end_lies_in_one_place()
         IsAccepted file → IsCoreRun file turns core → e.side < 2 → LiesOnce core e }
 {}
 
-/// What is untaken at a Held end is a front of what waits for it in the plain world; where the end
+/// What is untaken at a Held end is a prefix of what waits for it in the plain world; where the end
 /// was accepted, it has its place and its handovers too.
 pub fn a_held_end_has_a_front()
     ensures accepted { (file : FileAt) (turns : List Turn) (core : WorldAt Place Program) →

@@ -198,7 +198,7 @@ pub fn a_call_is_its_row()
         halt_by (with_player (seated s) n) want ≡ halt_by n want }
 {}
 
-/// The note of an act of such a party tells its call.
+/// The note of an act of such a party names its call.
 pub fn a_log_tells_the_calls()
     ensures { (party : ℕ) (n : NodeAt Place Player) (s : SeatedAt) (note : NoteAt) →
         act_note party n (seated_want s) ≡ Some note →

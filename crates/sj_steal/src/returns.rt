@@ -71,7 +71,7 @@ pub(crate) fn finish<J: Job>(members: &mut Vec<Member<J>>)
     }
 }
 
-/// All jobs of the first list, put behind the second.
+/// All jobs of the first list, put after the second.
 fn pour<J: Job>(from: Vec<J>, into: &mut Vec<J>)
     requires { length from.items + vec_len into.old ≤ vec_capacity into.old }
     ensures items { IsPermutation (into.old.items ++ from.items) into.new.items }

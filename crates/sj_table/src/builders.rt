@@ -1,4 +1,4 @@
-//! Nodes are put behind others: those of an item behind those of the items that follow it.
+//! Nodes are put after others: those of an item after those of the items that follow it.
 #![tactic(auto, using(crate::proofs::BuildLemmas::builds))]
 
 ghost use Rattle.std.specs.Prelude.{◌≡◌, ◌+◌, ◌<◌, ◌≤◌, ◌++◌, ◌∷◌, [], ℕ, length, IfOk, OnOk};
@@ -13,7 +13,7 @@ use sj_lang::{Arms, Item, Proto, append_copies};
 use std::alloc::Global;
 use std::slice::from_ref;
 
-/// Puts the nodes of a place behind the others, where that node is behind the place, and answers
+/// Puts the nodes of a place after the others, where that node is after the place, and answers
 /// at which node the place begins.
 #[cycle(build)]
 pub(crate) fn add_place(
@@ -66,7 +66,7 @@ fn add_item(alloc: Global, stops: &mut Vec<Stop>, item: &Item, next: u32) -> Res
     }
 }
 
-// The body's nodes are behind the loop's own.
+// The body's nodes are after the loop's own.
 #[cycle(build)]
 fn add_loop(
     alloc: Global,

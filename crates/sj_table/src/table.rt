@@ -27,7 +27,7 @@ pub struct Spot {
     pub node: u32,
 }
 
-/// The nodes of a table behind node 0, and where each protocol starts.
+/// The nodes of a table after node 0, and where each protocol starts.
 #[derive(Drop)]
 pub(crate) struct Nodes {
     pub(crate) stops: Vec<Stop>,

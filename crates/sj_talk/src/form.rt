@@ -16,7 +16,7 @@ const MOST_NAME: usize = 64;
 /// The most bytes of a text, without its quotes.
 const MOST_TEXT: usize = 255;
 
-/// The number below zero that stands behind a minus alone.
+/// The number below zero that stands after a minus alone.
 const LARGEST: u64 = 1 << 63;
 
 /// A value as a line writes it.
@@ -59,7 +59,7 @@ fn number(word: &[u8]) -> Option<u64>
     digits_number(word)
 }
 
-// The number below zero that a word writes behind its minus.
+// The number below zero that a word writes after its minus.
 fn with_minus(digits: &[u8]) -> Option<i64>
     ensures { result ≡ option_map minus (number_of digits.now) }
 {
@@ -167,7 +167,7 @@ fn with_name<'a>(verb: &[u8], end: &'a [u8], name: &'a [u8]) -> Option<Form<'a>>
     }
 }
 
-// A verb and an end, with the words behind them.
+// A verb and an end, with the words after them.
 #[tactic(auto, unfolding(crate::specs::Forms::with_words))]
 fn with_words<'a>(verb: &[u8], end: &'a [u8], more: Words<'a>) -> Option<Form<'a>>
     ensures { option_map form_at result ≡ with_words verb.now end.now more.entry }

@@ -52,7 +52,7 @@ pub fn label_number(words: &Words, word: &[u8]) -> Option<u16>
     }
 }
 
-/// The number of the word, which is put behind the others where it isn't there.
+/// The number of the word, which is put after the others where it isn't there.
 pub fn added(words: &mut Words, word: &[u8]) -> Result<usize, NoMemory>
     ensures number { IfOk result (λ n. n ≡ number_in words.old word.now) }
     ensures ok { OnOk result (words.new ≡ with_word words.old word.now) }

@@ -66,7 +66,7 @@ impl Play {
         )
     }
 
-    /// A copy of the whole place of the end under the name, for what looks behind its first item.
+    /// A copy of the whole place of the end under the name, for what looks after its first item.
     pub fn place(&self, name: &[u8]) -> Result<Proto, NoMemory>
         ensures { IfOk result (λ p. p ≡ place_under (talk_at self.now) name.now) }
     {

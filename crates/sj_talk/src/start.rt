@@ -87,7 +87,7 @@ fn shown_file(alloc: Global, file: &File) -> Result<File, NoMemory>
     })
 }
 
-// Puts an end behind the others where it belongs to the party.
+// Puts an end after the others where it belongs to the party.
 fn add_end(
     ends: &mut Vec<(u16, EndId)>,
     parties: &[Party],

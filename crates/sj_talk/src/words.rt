@@ -18,7 +18,7 @@ pub fn first_at(byte: u8, bytes: &[u8]) -> usize
     i
 }
 
-// The first word, and what is left behind the space that ends it.
+// The first word, and what is left after the space that ends it.
 #[tactic(auto, using(crate::proofs::WordLemmas::parting))]
 fn cut(line: &[u8]) -> (&[u8], Option<&[u8]>)
     ensures word { result.0.now ≡ word (words_in line.now) }

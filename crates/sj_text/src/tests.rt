@@ -1,4 +1,4 @@
-//! What stands in a text behind what was there.
+//! What stands in a text after what was there.
 use crate::{put, put_int, put_number};
 use std::test::Fail;
 

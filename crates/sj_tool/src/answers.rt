@@ -26,14 +26,14 @@ pub enum Answer {
     Check(u8, u32),
     /// The file has no party of the number that is to be played.
     NoParty(u16),
-    /// The log isn't in its grammar: the number of the broken rule, and a line. Rule 1 at line 0 tells
+    /// The log isn't in its grammar: the number of the broken rule, and a line. Rule 1 at line 0 says
     /// that no line of the source is `%%log` or `%%log2`.
     LogFault(u8, u32),
-    /// An entry of the log is no step: what is told of the first one.
+    /// An entry of the log is illegal: what is said of the first one.
     Misfit(Vec<u8>),
     /// The links met a fault.
     LinkFault,
-    /// The joined logs are damaged: what is told of that.
+    /// The joined logs are damaged: what is said of that.
     Damaged(Vec<u8>),
     /// The file was played to its end: how it ended, and what is printed of it.
     Ran(Verdict, Vec<u8>),

@@ -1,4 +1,4 @@
-//! What is told of an entry that isn't the one that is due.
+//! What is said of an entry that isn't the one that is due.
 ghost use Rattle.std.specs.Prelude.{◌≡◌, ◌++◌, OnOk, IfOk, option_map};
 ghost use Rattle.sj_end.specs.Lines.{line_at};
 ghost use Rattle.sj_lang.specs.FileView.{file_of};

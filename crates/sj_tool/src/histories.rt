@@ -1,4 +1,4 @@
-//! The history behind a transcript.
+//! The history after a transcript.
 ghost use Rattle.std.specs.Prelude.{◌≡◌, ◌++◌, OnOk, map};
 ghost use Rattle.sj_lang.specs.FileView.{file_of};
 ghost use Rattle.sj_print.specs.LogLine.{log_text};
@@ -10,7 +10,7 @@ use sj_end::Line;
 use sj_lang::File;
 use sj_print::{print_line, print_mark};
 
-/// Puts the line of the log's version and then the lines behind the text, where the log is asked for.
+/// Puts the line of the log's version and then the lines after the text, where the log is asked for.
 pub(crate) fn put_log(
     text: &mut Vec<u8>,
     file: &File,

@@ -31,7 +31,7 @@ use std::thread::Threads;
 /// The most bytes of a file.
 const MAX_FILE: usize = 65_536;
 
-/// The most bytes of a file with the log behind it.
+/// The most bytes of a file with the log after it.
 const MAX_SOURCE: usize = 16_777_216;
 
 /// The answer to the words and the input.
@@ -91,7 +91,7 @@ fn generated_text(alloc: Global, n: u16) -> Result<Vec<u8>, NoMemory>
 }
 
 // The answer to the bytes of a task: of a replay the first line `%%log` or `%%log2` parts them into a
-// file and a log, and tells the log's version; of a talk the first line `%%talk` into a file and lines.
+// file and a log, and names the log's version; of a talk the first line `%%talk` into a file and lines.
 fn answer_to_bytes<R: Threads + Sync, L: Links, G: Gate>(
     rt: &R,
     alloc: Global,
@@ -135,7 +135,7 @@ fn answer_to_bytes<R: Threads + Sync, L: Links, G: Gate>(
     }
 }
 
-// The text of the file and the lines of a talk, parted at the first line `%%talk`.
+// The text of the file and the lines of a talk, split at the first line `%%talk`.
 fn parted_talk(bytes: &[u8]) -> Option<(&[u8], &[u8])>
     ensures some { IfSome result (λ p. IsTalk bytes.now p.0.now p.1.now) }
     ensures none { result ≡ None → HasNoTalk bytes.now }

@@ -9,8 +9,8 @@ ghost use Rattle.sj_tool.specs.Calls.{CallAt};
 ghost use Rattle.sj_tool.specs.Table.{AreOne, CanRise, IsReadAsAsked, RunsWell, ShowsItsRun};
 
 /// Two answers that come of one call have one status and one text, up to a history that is asked for,
-/// where the source tells its bytes, its count of faults isn't at its last value, and the links, where
-/// parties run, tell what they carry and counted no fault.
+/// where the source reports its bytes, its count of faults isn't at its last value, and the links, where
+/// parties run, report what they carry and counted no fault.
 pub fn the_table_gives_one_answer()
     ensures { (c : CallAt) (left : List ℕ) (a b : AnswerAt) → c.left ≡ Some left → CanRise c
         → RunsWell c → IsInTable c a → IsInTable c b → AreOne c a b }

@@ -81,7 +81,7 @@ fn text_for(
     }
 }
 
-// Whether the task prints the history behind the transcript.
+// Whether the task prints the history after the transcript.
 fn logs(task: Task) -> bool
     ensures { result ≡ asks_log task }
 {
@@ -92,7 +92,7 @@ fn logs(task: Task) -> bool
     }
 }
 
-// The transcript, and behind it the history where the log is asked for.
+// The transcript, and after it the history where the log is asked for.
 fn logged_text(
     alloc: Global,
     file: &File,

@@ -24,7 +24,7 @@ use sj_work::Gate;
 use std::alloc::Global;
 use std::thread::Threads;
 
-/// The looks in vain after which a party stops where no word tells how many.
+/// The looks in vain after which a party stops where no word says how many.
 const USUAL_LOOKS: u32 = 1_000;
 
 /// How the file ends, and what the task prints of the history of its parties over those links, and of

@@ -30,7 +30,7 @@ const NO_MEMORY: u8 = 11;
 
 /// Does what the words say with the input, writes the answer's text, and answers its status.
 ///
-/// The words are those behind the program's name. The text is built whole before any is written.
+/// The words are those after the program's name. The text is built whole before any is written.
 ///
 /// `run` runs the parties of a file over the links, each on a thread of its own where the runtime gives
 /// one, and shows each event of theirs to the gate. `run --forward` runs them on the caller's thread.
@@ -44,12 +44,12 @@ pub fn sj<R: Threads + Sync, S: Source, K: Sink, L: Links, G: Gate>(
     links: &mut L,
     gate: &G,
 ) -> u8
-    // An answer of the table comes, and its text is written behind what was written before.
+    // An answer of the table comes, and its text is written after what was written before.
     ensures answer { OrYields result (AnswersOne
         (call S.Source L.Links words.now src.old src.new links.old links.new)
         result (K.written out.old) (K.written out.new)) }
 
-    // Whatever answer the table gives, it is the answer, where the source tells; of `run --log`
+    // Whatever answer the table gives, it is the answer, where the source reports; of `run --log`
     // the history alone may be another.
     ensures exactly { IfSome (S.left src.old) (λ _. (a : AnswerAt)
         → IsInTable (call S.Source L.Links words.now src.old src.new links.old links.new) a
@@ -74,13 +74,13 @@ pub fn sj<R: Threads + Sync, S: Source, K: Sink, L: Links, G: Gate>(
         → AsksFor IsPlaying (call S.Source L.Links words.now src.old src.new links.old links.new)
         → ReadsNoForest (call S.Source L.Links words.now src.old src.new links.old links.new) }
 
-    // Of an input that is valid for the task the answer is what the task tells of it.
+    // Of an input that is valid for the task the answer is what the task says of it.
     ensures complete { (task : AnyTask) → (file : FileAt) → (log : LogAt)
         → IsValid (call S.Source L.Links words.now src.old src.new links.old links.new) task file log
         → OrYields result (CompletesSo task file log result (K.written out.old) (K.written out.new)) }
 
     // A read fault and a link fault come only where a fault was counted, and damage only over links that
-    // don't tell.
+    // don't report.
     ensures read_fault { result ≡ status_of ReadFault → Rose (S.faults src.old) (S.faults src.new) }
     ensures link_fault { result ≡ status_of LinkFault → lanes.Rose (L.faults links.old) (L.faults links.new) }
     ensures damaged { (text : List ℕ) → result ≡ status_of (Damaged text) → L.tells links.old ≡ true → ⊥ }
@@ -98,7 +98,7 @@ pub fn sj<R: Threads + Sync, S: Source, K: Sink, L: Links, G: Gate>(
         (call S.Source L.Links words.now src.old src.new links.old links.new) result
         (K.written out.old) (K.written out.new) }
 
-    // An input that is valid for the task, over links that counted no fault, whether they tell or not, is
+    // An input that is valid for the task, over links that counted no fault, whether they report or not, is
     // answered as the task asks, or by such damage: so as the task asks where the links carried in order
     // and unchanged.
     ensures in_order { (task : AnyTask) → (file : FileAt) → (log : LogAt)

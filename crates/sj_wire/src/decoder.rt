@@ -39,7 +39,7 @@ impl Decoder {
         }
     }
 
-    /// Puts a piece of the stream behind what came before.
+    /// Puts a piece of the stream after what came before.
     pub fn feed(&mut self, piece: &[u8]) -> Result<(), NoMemory>
         ensures ok { OnOk result (self.new ≡ self.old ++ piece.now) }
         ensures err { OnErr result (self.new ≡ self.old) }

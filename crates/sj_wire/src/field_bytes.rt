@@ -1,4 +1,4 @@
-//! The fields of frames, put behind bytes.
+//! The fields of frames, put after bytes.
 ghost use Rattle.std.specs.Prelude.{◌≡◌, ◌++◌, OnOk};
 ghost use Rattle.std.specs.Int.{cast_unsigned};
 ghost use Rattle.sj_wire.specs.Spelling.{number, flag, end_id, message, resend};

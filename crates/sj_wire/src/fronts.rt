@@ -14,7 +14,7 @@ use byteorder::{BigEndian, ByteOrder};
 use sj_end::Frame;
 use std::alloc::Global;
 
-/// What stands behind the kind of a frame, all of it.
+/// What stands after the kind of a frame, all of it.
 #[tactic(auto, unfolding(crate::specs::Reading::frame_at))]
 fn frame_of(alloc: Global, kind: Kind, bytes: &[u8]) -> Result<Frame, WireRefusal>
     ensures { Reads frame_at result (fields.frame_at kind bytes.now) }
@@ -46,7 +46,7 @@ fn whole(alloc: Global, bytes: &[u8], size: usize) -> Result<Frame, WireRefusal>
     }
 }
 
-/// The frame behind its length.
+/// The frame after its length.
 #[tactic(auto, unfolding(crate::specs::Front::sized_of))]
 fn read_sized(alloc: Global, size: u32, bytes: &[u8]) -> Result<Option<Frame>, WireRefusal>
     ensures read { MeetsSized result (sized_of size bytes.now) (drop size bytes.now) }

@@ -18,7 +18,7 @@ pub(crate) enum Kind {
 }
 
 impl Kind {
-    /// The kind of that byte behind that version.
+    /// The kind of that byte after that version.
     pub(crate) fn of_bytes(version: u8, byte: u8) -> Option<Kind>
         ensures { result ≡ kind_in version byte }
     {

@@ -2,7 +2,7 @@
 //!
 //! - `a_spelling_is_read`, `what_is_read_is_spelt_so`: one spelling for each frame, and no other.
 //! - `no_spelling_begins_another`: where a frame ends is clear from its bytes.
-//! - `a_frame_stays`, `a_refusal_stays`: what comes behind changes nothing.
+//! - `a_frame_stays`, `a_refusal_stays`: what comes after changes nothing.
 //! - `a_stream_is_its_frames`, `any_pieces_give_the_same_frames`: whole streams.
 
 ghost use Rattle.std.specs.Prelude.{◌≡◌, ℕ, List, [], ◌++◌};

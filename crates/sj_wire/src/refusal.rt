@@ -26,7 +26,7 @@ impl From<AllocError> for EncodeRefusal {
 }
 
 /// Why what stands at the front of the bytes isn't read. Where it is no frame, it stays so whatever
-/// comes behind it.
+/// comes after it.
 #[derive(Clone, Copy, Debug, PartialEq, Eq, Error)]
 pub enum WireRefusal {
     /// No frame has that length.

@@ -1,4 +1,4 @@
-//! `sjwhy`: reads a file on standard input, and tells on standard output why it is refused and how that is
+//! `sjwhy`: reads a file on standard input, and says on standard output why it is refused and how that is
 //! mended, or what it comes to.
 #![tactic(auto)]
 
@@ -21,7 +21,7 @@ fn main(rt: HostRuntime) -> ExitCode {
     ExitCode::from(explain(rt.alloc(), &words, &mut src, &mut out))
 }
 
-// The words behind the program's name. Words that aren't text are none of the program, as an empty one is.
+// The words after the program's name. Words that aren't text are none of the program, as an empty one is.
 fn words_of(rt: &HostRuntime) -> Result<Vec<String>, NoMemory> {
     match env::args(rt) {
         Ok(args) => Ok(args.skip(1).collect(rt.alloc())?),

@@ -19,7 +19,7 @@ use std::thread::Threads;
 const LOOKS: u32 = 1_000;
 
 /// Runs the parties of a file, each on a thread of its own, over these links, joins what they noted, and
-/// finishes what they left. None comes only where the links met a fault, where links that don't tell
+/// finishes what they left. None comes only where the links met a fault, where links that don't report
 /// didn't carry in order and unchanged, or out of memory. A world may come though such links lost
 /// frames, even all of them: the drain does what the parties left undone.
 pub fn run_file<R: Threads + Sync, L: Links>(
