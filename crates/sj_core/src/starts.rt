@@ -57,7 +57,39 @@ impl NodeWorld {
     }
 }
 
+impl NodeWorld {
+    ghost use Rattle.sj_core.specs.NodeWorld.{IsReached, file_in, history_in, nodes_in};
+    ghost use Rattle.sj_core.specs.Nodes.{AreSeated, world_by};
+    ghost use Rattle.sj_rules.specs.History.{IsHistory};
+    ghost use Rattle.std.specs.Prelude.{max};
+
+    /// These nodes, and that history.
+    fn assembled(
+        alloc: Global,
+        accepted: &Accepted,
+        nodes: Vec<Node>,
+        history: Vec<Line>,
+    ) -> Result<NodeWorld, NoMemory>
+        requires seats { AreSeated (without_words (file_of (held accepted.now))) nodes.items }
+        requires run { IsHistory max (without_words (file_of (held accepted.now))) (map line_at history.items)
+            (world_by (without_words (file_of (held accepted.now))) nodes.items) }
+        ensures reached { IfOk result (λ c. IsReached c) }
+        ensures file { IfOk result (λ c. file_in c ≡ without_words (file_of (held accepted.now))) }
+        ensures history { IfOk result (λ c. history_in c ≡ map line_at history.items) }
+        ensures nodes { IfOk result (λ c. nodes_in c ≡ nodes.items) }
+    {
+        let kept = Kept::of(accepted)?;
+        Ok(NodeWorld {
+            alloc,
+            kept,
+            nodes,
+            history,
+        })
+    }
+}
+
 impl World {
+    ghost use Rattle.sj_core.specs.Nodes.{AreSeated, world_by};
     ghost use Rattle.sj_core.specs.World.{history_of, kept_file as kept_of, party_count, world_at};
     ghost use Rattle.sj_rules.specs.History.{IsHistory};
     ghost use Rattle.std.specs.Prelude.{max};
@@ -74,6 +106,28 @@ impl World {
         ensures parties { IfOk result (λ w. party_count w ≡ length (kept_of w).parties) }
     {
         let node_world = NodeWorld::begin(alloc, accepted)?;
+        Ok(World { node_world })
+    }
+
+    /// The world of these nodes, to which that history leads. Nothing is done again.
+    pub fn assembled(
+        alloc: Global,
+        accepted: &Accepted,
+        nodes: Vec<Node>,
+        history: Vec<Line>,
+    ) -> Result<World, NoMemory>
+        requires seats { AreSeated (without_words (file_of (held accepted.now))) nodes.items }
+        requires run { IsHistory max (without_words (file_of (held accepted.now))) (map line_at history.items)
+            (world_by (without_words (file_of (held accepted.now))) nodes.items) }
+        ensures kept { IfOk result (λ w. kept_of w ≡ without_words (file_of (held accepted.now))) }
+        ensures history { IfOk result (λ w. history_of w ≡ map line_at history.items) }
+        ensures world { IfOk result (λ w. world_at w ≡ world_by (without_words (file_of (held accepted.now))) nodes.items) }
+
+        // What is true of every world.
+        ensures run { IfOk result (λ w. IsHistory max (kept_of w) (history_of w) (world_at w)) }
+        ensures parties { IfOk result (λ w. party_count w ≡ length (kept_of w).parties) }
+    {
+        let node_world = NodeWorld::assembled(alloc, accepted, nodes, history)?;
         Ok(World { node_world })
     }
 

@@ -179,7 +179,7 @@ module _ {O I : Type 0} (outward : OutLane O) (inward : InLane I) (joined : O �
       kept_all p w there None h q = refl
       kept_all p w there (Some l) h q = elim (may_lose (stop_of w) h) [ inl e ↦ absurd (remembers p w there e) | inr e ↦ absurd (none_unfit p w there e) ]
 
-      lost_none : (q : ℕ) (o : Option (Worker O I)) (there : slice_get workers q ≡ o) (p : ℕ)
+      pub lost_none : (q : ℕ) (o : Option (Worker O I)) (there : slice_get workers q ≡ o) (p : ℕ)
           → lost_from (Rattle.sj_run.proofs.TeamLemmas.lost_or outward inward joined file looks true workers all q o there) p ≡ []
       lost_none q None there p = refl
       lost_none q (Some w) there p = let t = turns q w there in kept_all q w there t.lost t.loses p

@@ -1,3 +1,4 @@
+mod AssembledLemmas
 mod BareActLemmas
 mod BareArrivalLemmas
 mod BareHeldLemmas
@@ -9,11 +10,13 @@ mod EachLemmas
 mod EventLemmas
 mod FitLemmas
 mod FreeLemmas
+mod HandedLemmas
 mod HiredLemmas
 mod JoinLemmas
 mod LeftLemmas
 mod LogLemmas
 mod LoggedNodeLemmas
+mod LoglessLemmas
 mod OrderLemmas
 pub mod OverLemmas
 mod RefusedLemmas

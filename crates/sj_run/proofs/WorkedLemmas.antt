@@ -20,6 +20,7 @@ use Rattle.sj_work.specs.declared.worker.Worker.{Worker}
 use Rattle.sj_work.specs.Counts.{OnLane, Stands}
 use Rattle.sj_work.specs.Views.{in_of, lanes_of, node_of, out_of}
 use Rattle.sj_work.specs.Worked.{Turned, Worked, WorkedBy, kept_stop}
+use Rattle.sj_run.specs.Handed.{AreOver}
 use Rattle.sj_run.specs.Workers.{AllWorked, AreHired, AreNew, IsFirst}
 use Rattle.sj_lane.proofs.BackLemmas.{slice_get_some as there_is}
 
@@ -155,6 +156,19 @@ module _ {O I : Type 0} (outward : OutLane O) (inward : InLane I) (joined : O �
       let first_in = in_before inward.popped inward.same (in_of b.0 p) (in_of u.0 p) _ i (t.went.work.ins p) here in
       later first_out.0 o first_in.0 i
       (ends p q first_out.0 first_in.0 (out_lane p q a.0 first_out.0 a.1 first_out.1) (in_lane q p b.0 first_in.0 b.1 first_in.1)) first_out.2 first_in.2
+
+  -- over the one table of the first nodes
+  pub are_over : AreOver file workers
+  are_over = record {
+    table = first.seats.table;
+    starts = first.seats.starts;
+    over = λ p w there.
+        let o = was p w there in
+        (turns p o.0 w o.1 there).went.table ∙ (first.seats.each p (node_of o.0) (hires.nodes_are p o.0 o.1)).table;
+    connects = λ p w there.
+        let o = was p w there in
+        (turns p o.0 w o.1 there).went.connects ∙ (first.seats.each p (node_of o.0) (hires.nodes_are p o.0 o.1)).connects;
+  }
 
   pub all_worked : AllWorked outward inward joined file looks tells workers
   all_worked = record {

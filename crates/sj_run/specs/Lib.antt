@@ -1,4 +1,5 @@
 pub mod Damage
+pub mod Handed
 pub mod Left
 pub mod Logged
 pub mod Refusals

@@ -2,6 +2,7 @@
 #![tactic(auto)]
 
 mod crews;
+mod handed;
 mod laws;
 mod refusal;
 mod remains;

@@ -1,5 +1,5 @@
 //! A file run by its parties.
-ghost use Rattle.std.specs.Prelude.{◌≡◌, ◌≤◌, Err, IfErr, IfOk, Some, length, max, true};
+ghost use Rattle.std.specs.Prelude.{◌≡◌, ◌≤◌, Err, IfErr, IfOk, Some, false, length, max, true};
 ghost use Rattle.sj_check.specs.Held.{file_in as held};
 ghost use Rattle.sj_core.specs.World.{history_of, kept_file, party_count, world_at};
 ghost use Rattle.sj_end.specs.Lines.{event_at, line_at};
@@ -14,6 +14,7 @@ ghost use Rattle.sj_run.specs.Shown.{IsShown, keeps_of};
 ghost use Rattle.sj_run.specs.Workers.{AreLoggedOver};
 
 use crate::RunRefusal;
+use crate::handed::hand_in;
 use crate::remains::take_apart;
 use crate::stops::{any_faulty, any_short, first_unfit};
 use crate::teams::set_to_work;
@@ -40,10 +41,17 @@ fn past_end(world: &World, refused: Line) -> RunRefusal
     })
 }
 
+/// Whether no worker met a fault, wanted memory, or refused an event.
+fn all_well(faulty: bool, short: bool, unfit: &Option<Line>) -> bool
+    ensures { result ≡ true → (faulty ≡ false) × (short ≡ false) }
+{
+    !faulty && !short && unfit.is_none()
+}
+
 /// Runs a file by its parties, over lanes that the links make: each on a thread of its own where one can
 /// be had; or, with a number, on a pool of so many threads (0 as 1) that take each other's work, in
-/// rounds until one without an event, and one more. Their logs, joined, are replayed in a core world, which
-/// is what the parties left: they are given up before that, and the joined lines become its history.
+/// rounds until one without an event, and one more. Where links hand over what waits on them, the core world is put
+/// together of the parties' nodes; else their logs, joined, are replayed in one. The joined lines become its history.
 ///
 /// A worker that wanted memory makes the whole want memory, unless the links met a fault or the logs
 /// are damaged.
@@ -87,10 +95,17 @@ pub fn run_parties<R: Threads + Sync, L: Links, G: Gate>(
     let short = any_short(&workers);
     let unfit = first_unfit(&workers);
     let remains = take_apart(alloc, workers)?;
-    links.back(remains.lanes);
+    let mut lanes = remains.lanes;
+    let asked = all_well(faulty, short, &unfit);
+    let whole = hand_in(alloc, asked, links, &mut lanes, remains.nodes)?;
+    links.back(lanes);
     let lines = join_logs(alloc, remains.logs)?;
     if faulty {
         return Err(RunRefusal::LinkFault);
+    }
+    if let Some(nodes) = whole {
+        let world = World::assembled(alloc, accepted, nodes, lines)?;
+        return Ok(world);
     }
     let world = match World::replayed(alloc, accepted, lines) {
         Ok(world) => world,

@@ -6,6 +6,7 @@ ghost use Rattle.sj_lane.specs.Square.{AllJoined, IsFresh, IsSquare, NoFault};
 ghost use Rattle.sj_lane.specs.Told.{Rose};
 ghost use Rattle.sj_lang.specs.FileView.{file_of};
 ghost use Rattle.sj_run.specs.Damage.{IsDamaged};
+ghost use Rattle.sj_run.specs.Handed.{AreOver};
 ghost use Rattle.sj_run.specs.Workers.{AllWorked, AreHired};
 
 use crate::RunRefusal;
@@ -72,6 +73,7 @@ pub(crate) fn set_to_work<R: Threads + Sync, L: Links, G: Gate>(
 ) -> Result<Vec<Worker<L::Out, L::In>>, RunRefusal>
     ensures worked { IfOk result (λ ws. AllWorked L.Out.OutLane L.In.InLane L.joined
         (file_of (held accepted.now)) looks (L.tells links.old) ws.items) }
+    ensures over { IfOk result (λ ws. AreOver (file_of (held accepted.now)) ws.items) }
     ensures accepted { IfOk result (λ ws. IsAccepted (file_of (held accepted.now))) }
     ensures link_fault { result ≡ Err RunRefusal.LinkFault → Rose (L.faults links.old) (L.faults links.new) }
     ensures whole { IfErr result (λ r. IsDamaged r → ⊥) }

@@ -17,9 +17,9 @@ use Rattle.sj_rules.proofs.FrameLemmas.{proper-with}
 use Rattle.sj_rules.specs.Rows.{Worked}
 use Rattle.sj_rules.specs.NodeRun.{Deed, Acted, Came, StepAt, Steps, frame_told, told_frames}
 use Rattle.sj_node.specs.declared.node.Node.{Node}
-use Rattle.sj_node.specs.Node.{Did, Does, Stays, act_of, clock_of, delivery, has_room, log_of, node_at, note_for, outbox_of, play_here}
+use Rattle.sj_node.specs.Node.{Did, Does, Stays, act_of, clock_of, connect_count, delivery, has_room, log_of, node_at, note_for, outbox_of, play_here}
 use Rattle.sj_node.specs.Play.{next_want, play_with}
-use Rattle.sj_node.specs.Reading.{parties_of, party_of, TakesOut}
+use Rattle.sj_node.specs.Reading.{parties_of, party_of, table_of, TakesOut}
 use Rattle.sj_end.specs.Lines.{entry_at}
 use Rattle.sj_work.specs.Laned.{entries_of}
 use Rattle.sj_work.proofs.NoteLemmas.{act_noted, body_noted, then_some, else_some}
@@ -29,6 +29,8 @@ pub record Keeps (a b : Node) : Type 0 where
   pub play : play_here b ≡ play_here a
   pub party : party_of b ≡ party_of a
   pub parties : parties_of b ≡ parties_of a
+  pub table : table_of b ≡ table_of a
+  pub connects : connect_count b ≡ connect_count a
   pub clock : clock_of a ≤ clock_of b
 
 -- the node did that, by a step of the rules
@@ -56,6 +58,8 @@ did_keeps a b left clock event note d rises = record {
   play = λ i. play_with (start_in (d.table i)) (d.connects i) (d.parties i);
   party = d.party;
   parties = d.parties;
+  table = d.table;
+  connects = d.connects;
   clock = let e = did_clock a b left clock event note d in omega arith;
 }
 
@@ -134,7 +138,7 @@ pub record Quiet (a b : Node) : Type 0 where
   pub keeps : Keeps a b
 
 pub quiet_itself : (n : Node) → Quiet n n
-quiet_itself n = record { node = refl; log = refl; keeps = record { play = refl; party = refl; parties = refl; clock = omega arith } }
+quiet_itself n = record { node = refl; log = refl; keeps = record { play = refl; party = refl; parties = refl; table = refl; connects = refl; clock = omega arith } }
 
 -- a refusal
 pub stays_quiet : (a b : Node) → Stays a b → Quiet a b
@@ -145,6 +149,8 @@ stays_quiet a b s = record {
     play = λ i. play_with (start_in (s.table i)) (s.connects i) (s.parties i);
     party = s.party;
     parties = s.parties;
+    table = s.table;
+    connects = s.connects;
     clock = let e : clock_of b ≡ clock_of a = ap (λ (n : NodeAt Place Program). n.clock) s.node in omega arith;
   };
 }
@@ -158,6 +164,8 @@ out_quiet a b s = record {
     play = λ i. play_with (start_in (s.table i)) (s.connects i) (s.parties i);
     party = s.party;
     parties = s.parties;
+    table = s.table;
+    connects = s.connects;
     clock = let e : clock_of b ≡ clock_of a = ap (λ (n : NodeAt Place Program). n.clock) s.node in omega arith;
   };
 }
@@ -170,6 +178,8 @@ quiet_later a b c x y = record {
     play = y.keeps.play ∙ x.keeps.play;
     party = y.keeps.party ∙ x.keeps.party;
     parties = y.keeps.parties ∙ x.keeps.parties;
+    table = y.keeps.table ∙ x.keeps.table;
+    connects = y.keeps.connects ∙ x.keeps.connects;
     clock = let p = x.keeps.clock in let q = y.keeps.clock in omega arith;
   };
 }

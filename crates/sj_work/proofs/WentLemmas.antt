@@ -127,6 +127,8 @@ module _ {O I : Type 0} (k : LaneLaws O I) where
     play = s.keeps.play;
     party = s.keeps.party;
     parties = s.keeps.parties;
+    table = s.keeps.table;
+    connects = s.keeps.connects;
     clock = s.keeps.clock;
     faults_out = faults_alone a.lanes.outs.items b.lanes.outs.items outs;
     vain_out = vain_alone a.lanes.outs.items b.lanes.outs.items outs;
@@ -143,6 +145,8 @@ module _ {O I : Type 0} (k : LaneLaws O I) where
     play = n.keeps.play;
     party = n.keeps.party;
     parties = n.keeps.parties;
+    table = n.keeps.table;
+    connects = n.keeps.connects;
     clock = n.keeps.clock;
     faults_out = outs.faults;
     vain_out = outs.vain;
@@ -223,6 +227,8 @@ module _ {O I : Type 0} (k : LaneLaws O I) where
     play = y.play ∙ x.play;
     party = y.party ∙ x.party;
     parties = y.parties ∙ x.parties;
+    table = y.table ∙ x.table;
+    connects = y.connects ∙ x.connects;
     clock = stands_more _ _ _ x.clock y.clock;
     faults_out = λ q. on_later k.outward.faults Stands Stands Stands stands_more (out_of a q) (out_of b q) (out_of c q) (x.faults_out q) (y.faults_out q);
     vain_out = λ q. on_later k.outward.vain Stood Stood Stood stood_more (out_of a q) (out_of b q) (out_of c q) (x.vain_out q) (y.vain_out q);
@@ -239,6 +245,8 @@ module _ {O I : Type 0} (k : LaneLaws O I) where
     play = x.play;
     party = x.party;
     parties = x.parties;
+    table = x.table;
+    connects = x.connects;
     clock = x.clock;
     faults_out = x.faults_out;
     vain_out = x.vain_out;

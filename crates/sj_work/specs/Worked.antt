@@ -5,8 +5,8 @@ use Rattle.sj_rules.specs.Limits.{clock_end}
 use Rattle.sj_rules.specs.Work.{LaneWork, LostAt}
 use Rattle.sj_lane.specs.declared.lane.OutLane.{Ghosts as OutLane}
 use Rattle.sj_lane.specs.declared.lane.InLane.{Ghosts as InLane}
-use Rattle.sj_node.specs.Node.{clock_of, play_here}
-use Rattle.sj_node.specs.Reading.{IsFinished, parties_of, party_of}
+use Rattle.sj_node.specs.Node.{clock_of, connect_count, play_here}
+use Rattle.sj_node.specs.Reading.{IsFinished, parties_of, party_of, table_of}
 use Rattle.sj_work.specs.declared.worker.Stop.{Stop}
 use Rattle.sj_work.specs.declared.worker.Stop.TheVariants as stops
 use Rattle.sj_work.specs.declared.worker.Worker.{Worker}
@@ -24,13 +24,15 @@ kept_stop _ = None
 
 module _ {O I : Type 0} (outward : OutLane O) (inward : InLane I) where
   -- the worker went by steps of the rules, which its log has, and by the frames that its lanes tell; its party plays the same
-  -- part, its clock didn't fall, and no count of a lane did; lanes from no party of the file stay as they are, and where the
+  -- part over the same table, its clock didn't fall, and no count of a lane did; lanes from no party of the file stay as they are, and where the
   -- clock stands at its end, so do all lanes from parties
   pub record Went (lost : Option (LostAt Place)) (old new : Worker O I) : Type 0 where
     pub work : LaneWork outward.pushed outward.same inward.popped inward.same (play_here (node_of old)) max done (party_of (node_of old)) (laned old) (laned new) lost
     pub play : play_here (node_of new) ≡ play_here (node_of old)
     pub party : party_of (node_of new) ≡ party_of (node_of old)
     pub parties : parties_of (node_of new) ≡ parties_of (node_of old)
+    pub table : table_of (node_of new) ≡ table_of (node_of old)
+    pub connects : connect_count (node_of new) ≡ connect_count (node_of old)
     pub clock : clock_of (node_of old) ≤ clock_of (node_of new)
     pub faults_out : (q : ℕ) → OnLane outward.faults Stands (out_of old q) (out_of new q)
     pub vain_out : (q : ℕ) → OnLane outward.vain Stood (out_of old q) (out_of new q)

@@ -1,7 +1,8 @@
 //! A worker.
 ghost use Rattle.std.specs.Borrow.{sem};
-ghost use Rattle.std.specs.Prelude.{◌≡◌, ◌↔◌, IsSome, None, Some};
+ghost use Rattle.std.specs.Prelude.{◌≡◌, ◌↔◌, [], IsSome, None, Some};
 ghost use Rattle.sj_node.specs.Node.{log_of};
+ghost use Rattle.sj_node.specs.Reading.{TakesEntry};
 ghost use Rattle.sj_work.specs.Lending.{LendsLanes};
 ghost use Rattle.sj_work.specs.Views.{lanes_of, node_of, stop_of, unfit_of};
 
@@ -128,17 +129,20 @@ impl<O, I> Worker<O, I> {
         self.lanes
     }
 
-    /// The lanes, and what the node noted, where all else of it is given up.
-    pub fn into_parts(self) -> (Lanes<O, I>, Vec<Entry>)
+    /// The lanes, the node without its log, and what the node noted.
+    pub fn into_parts(self) -> (Lanes<O, I>, Node, Vec<Entry>)
         ensures lanes { result.0 ≡ lanes_of self }
-        ensures log { result.1.items ≡ log_of (node_of self) }
+        ensures none { log_of result.1 ≡ [] }
+        ensures node { TakesEntry (node_of self) result.1 }
+        ensures log { result.2.items ≡ log_of (node_of self) }
     {
         let Worker {
-            node,
+            mut node,
             lanes,
             answer: _,
             looks: _,
         } = self;
-        (lanes, node.into_log())
+        let log = node.take_log();
+        (lanes, node, log)
     }
 }

@@ -1,8 +1,9 @@
 use Rattle.std.proofs.Common.{◌≡◌, map}
 use Rattle.sj_work.specs.Views.{lanes_of}
+use Rattle.sj_run.specs.Handed.{AreLogless}
 use Rattle.sj_run.specs.Workers.{AreLogs}
 use Rattle.sj_run.proofs.remains.take_apart.Given as goal
 
--- the lanes and logs so far
+-- the lanes, logs and nodes so far
 abbrev pub invariant-loop-worker : goal.invariant-loop-worker
-invariant-loop-worker g l = (l.lanes.items ≡ map lanes_of l.yielded) × AreLogs l.yielded l.logs.items
+invariant-loop-worker g l = (l.lanes.items ≡ map lanes_of l.yielded) × AreLogs l.yielded l.logs.items × AreLogless l.yielded l.nodes.items
