@@ -1,5 +1,5 @@
 -- Frames that are looked through for a Give.
-use Rattle.std.proofs.Common.{zero, suc, ◌≡◌, ℕ, ◌+◌, ◌<◌, List, [], ◌∷◌, get_or, length, map, take, refl, subst, sym, arith}
+use Rattle.std.proofs.Common.{zero, suc, ◌≡◌, ℕ, ◌+◌, ◌<◌, List, [], ◌∷◌, get_or, length, map, take, subst, sym, arith}
 use Rattle.std.specs.Prelude.{Some, slice_get}
 use Rattle.std.specs.declared.alloc.Global.{Global}
 use Rattle.std.specs.declared.collections.VecDeque.{VecDeque}
@@ -25,3 +25,13 @@ none_more xs i f so at is =
 -- none waits in that outbox
 pub waiting_at : (outs : List (VecDeque Frame Global)) (q : ℕ) (d : VecDeque Frame Global) → q < length outs → d ≡ get_or outs q d → HasNoGive (map frame_at d.items) → HasNoGive (waiting_in outs q)
 waiting_at outs q d lt is none = subst (λ (l : List (FrameAt Spot)). HasNoGive l) (sym (waiting_here outs q d lt is)) none
+
+-- one Give is one too many
+pub give_there : (xs : List Frame) (i : ℕ) (f : Frame) → i < length xs → f ≡ get_or xs i f → (IsNoGive (frame_at f).body → ⊥) → HasNoGive (map frame_at xs) → ⊥
+give_there [] i f lt at gives none = absurd (omega arith)
+give_there (x ∷ xs) zero f lt at gives none = gives (subst (λ (g : Frame). IsNoGive (frame_at g).body) (sym at) none.0)
+give_there (x ∷ xs) (suc i) f lt at gives none = give_there xs i f (omega arith) at gives none.1
+
+-- none is in that outbox
+pub items_at : (outs : List (VecDeque Frame Global)) (q : ℕ) (d : VecDeque Frame Global) → q < length outs → d ≡ get_or outs q d → HasNoGive (waiting_in outs q) → HasNoGive (map frame_at d.items)
+items_at outs q d lt is none = subst (λ (l : List (FrameAt Spot)). HasNoGive l) (waiting_here outs q d lt is) none
