@@ -1,5 +1,5 @@
 -- What a call of a node is, from what its row does to records.
-use Rattle.std.proofs.Common.{◌≡◌, ℕ, List, [], ◌∷◌, Option, Some, None, option_map, refl, ap, sym, ◌∙◌}
+use Rattle.std.proofs.Common.{◌≡◌, ℕ, [], ◌∷◌, Option, Some, None, option_map, refl, ap, sym, ◌∙◌}
 use Rattle.std.specs.Prelude.{true, false, is_none, if◌then◌else◌, ◌+◌, ◌<◌}
 use Rattle.sj_base.specs.declared.Msg.TheVariants as msgs
 use Rattle.sj_node.specs.Parking.{held_of}

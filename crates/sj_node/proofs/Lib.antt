@@ -19,5 +19,6 @@ pub mod RowLemmas
 pub mod SignalLemmas
 pub mod SlotLemmas
 pub mod StartingLemmas
+pub mod StepLemmas
 pub mod TakeLemmas
 pub mod UnfitLemmas

@@ -5,6 +5,7 @@ use Rattle.sj_lang.specs.After.{after_place}
 use Rattle.sj_lang.specs.Dual.{dual_of}
 use Rattle.sj_lang.specs.ItemCount.{is_done}
 use Rattle.sj_lang.specs.Place.{Place, done}
+use Rattle.sj_machine.specs.Sound.{program_at}
 use Rattle.sj_semantics.specs.Program.{Program}
 use Rattle.sj_rules.specs.Node as rules
 use Rattle.sj_rules.specs.Node.{NodeAt, Play, act_by}
@@ -43,3 +44,7 @@ call_of n want = if has_place_for (node_at n).main want then act_by (silent n.pa
 -- the place for which the spot stands there
 abbrev pub place_here : Node → Spot → Place
 place_here n spot = place_in n.table spot
+
+-- the program, as far as it was done
+abbrev pub program_of : Node → Program
+program_of n = program_at n.machine

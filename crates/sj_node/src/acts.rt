@@ -8,11 +8,9 @@ ghost use Rattle.sj_node.specs.declared.refusal.Halt.TheVariants as halts;
 ghost use Rattle.sj_semantics.specs.declared.Want.TheVariants as wants;
 ghost use Rattle.sj_rules.specs.Limits.{clock_end, limit_of_steps};
 
-use crate::outs::{make_room, put_frame};
-use crate::sends::{close_on, peer_at, send_on};
 use crate::{Halt, Node};
 use sj_base::{EndId, Msg};
-use sj_end::{Entry, Event, Frame, Note};
+use sj_end::{Entry, Event, Note};
 use sj_semantics::Want;
 
 impl Node {
@@ -106,30 +104,10 @@ impl Node {
         ensures late { IfErr result is_late }
         ensures unfit { IsErrOf result Halt.Unfit → act_of self.old ≡ None }
     {
-        let Some(to) = peer_at(&self.mains, end) else {
-            return Err(Halt::Unfit);
-        };
-        self.log.reserve(1)?;
-        make_room(self.alloc, &mut self.outs, to, 1)?;
-        let post = match send_on(&mut self.mains, &self.table, end, msg) {
-            Ok(post) => post,
-            Err(halt) => return Err(halt),
-        };
+        if let Err(halt) = self.call_send(end, msg) {
+            return Err(halt);
+        }
         self.machine.sent();
-        self.clock += 1;
-        put_frame(
-            &mut self.outs,
-            post.to,
-            Frame {
-                clock: self.clock,
-                body: post.body,
-            },
-        );
-        self.log.push_reserved(Entry {
-            clock: self.clock,
-            event: Event::Act,
-            note: Note::Sent { end, msg },
-        });
         Ok(())
     }
 
@@ -145,30 +123,10 @@ impl Node {
         ensures late { IfErr result is_late }
         ensures unfit { IsErrOf result Halt.Unfit → act_of self.old ≡ None }
     {
-        let Some(to) = peer_at(&self.mains, end) else {
-            return Err(Halt::Unfit);
-        };
-        self.log.reserve(1)?;
-        make_room(self.alloc, &mut self.outs, to, 1)?;
-        let post = match close_on(&mut self.mains, &self.table, end) {
-            Ok(post) => post,
-            Err(halt) => return Err(halt),
-        };
+        if let Err(halt) = self.call_close(end) {
+            return Err(halt);
+        }
         self.machine.closed();
-        self.clock += 1;
-        put_frame(
-            &mut self.outs,
-            post.to,
-            Frame {
-                clock: self.clock,
-                body: post.body,
-            },
-        );
-        self.log.push_reserved(Entry {
-            clock: self.clock,
-            event: Event::Act,
-            note: Note::Shut { end },
-        });
         Ok(())
     }
 }

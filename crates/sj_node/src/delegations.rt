@@ -1,27 +1,16 @@
 //! Steps that take from an end, and steps that delegate an end.
 ghost use Rattle.std.specs.Prelude.{◌≡◌, ◌+◌, ◌<◌, OnOk, OnErr, IfErr, IsErrOf, Some, None, true, false};
 ghost use Rattle.sj_end.specs.declared.note.Event.TheVariants as events;
-ghost use Rattle.sj_node.specs.Node.{Does, Stays, act_of, clock_of, main_of, next_head, note_for, connect_count, steps_of, takes_in, wants_of};
+ghost use Rattle.sj_node.specs.Node.{Does, Stays, act_of, clock_of, next_head, note_for, connect_count, steps_of, takes_in, wants_of};
 ghost use Rattle.sj_base.specs.declared.Msg.TheVariants as msgs;
 ghost use Rattle.sj_node.specs.Halts.{is_late};
-ghost use Rattle.sj_node.specs.Parking.{IsBelowHops, held_of};
-ghost use Rattle.sj_rules.specs.Record as rules;
 ghost use Rattle.sj_rules.specs.Limits.{clock_end, limit_of_steps};
 ghost use Rattle.sj_semantics.specs.Fitting.{is_session};
 ghost use Rattle.sj_semantics.specs.declared.Want.TheVariants as wants;
 
-use crate::departures::{
-    hops_at, is_same_end, make_main_slot, make_slot, parked, put_old, take_out,
-};
-use crate::outs::{make_room, put_frame};
-use crate::sends::{peer_at, send_on};
-use crate::slots::Old;
-use crate::takes::{awaited_spot, expect, head_at, is_free, is_known, take_on};
+use crate::takes::{awaited_spot, head_at, is_known};
 use crate::{Halt, Node};
 use sj_base::{EndId, Msg};
-use sj_end::{Entry, Event, Frame, Note};
-use sj_handover::claim;
-use sj_machine::MAX_HOPS;
 use sj_semantics::Awaits;
 
 impl Node {
@@ -66,17 +55,10 @@ impl Node {
         ensures late { IfErr result is_late }
         ensures unfit { IsErrOf result Halt.Unfit → act_of self.old ≡ None }
     {
-        self.log.reserve(1)?;
-        if let Err(halt) = take_on(&mut self.mains, &self.table, end, msg) {
+        if let Err(halt) = self.call_take_value(end, msg) {
             return Err(halt);
         }
         self.machine.took(msg);
-        self.clock += 1;
-        self.log.push_reserved(Entry {
-            clock: self.clock,
-            event: Event::Act,
-            note: Note::Took { end, msg },
-        });
         Ok(())
     }
 
@@ -94,39 +76,14 @@ impl Node {
         ensures late { IfErr result is_late }
         ensures unfit { IsErrOf result Halt.Unfit → act_of self.old ≡ None }
     {
-        if !is_free(&self.mains, of) {
-            return Err(Halt::Unfit);
+        let place = awaited_spot(&self.table, awaits);
+        if let Err(halt) = self.call_take_end(end, place, of, keeper) {
+            return Err(halt);
         }
-        let msg = Msg::Sess {
+        self.machine.took(Msg::Sess {
             sess: of.sess,
             side: of.side,
             keeper,
-        };
-        self.log.reserve(1)?;
-        make_room(self.alloc, &mut self.outs, keeper, 1)?;
-        if make_main_slot(&mut self.mains, of).is_err() {
-            return Err(Halt::NoMemory);
-        }
-        if let Err(halt) = take_on(&mut self.mains, &self.table, end, msg) {
-            return Err(halt);
-        }
-        let place = awaited_spot(&self.table, awaits);
-        let (expected, body) = claim(self.alloc, of, keeper, place);
-        expect(&mut self.mains, expected);
-        self.machine.took(msg);
-        self.clock += 1;
-        put_frame(
-            &mut self.outs,
-            keeper,
-            Frame {
-                clock: self.clock,
-                body,
-            },
-        );
-        self.log.push_reserved(Entry {
-            clock: self.clock,
-            event: Event::Act,
-            note: Note::Took { end, msg },
         });
         Ok(())
     }
@@ -143,68 +100,10 @@ impl Node {
         ensures late { IfErr result is_late }
         ensures unfit { IsErrOf result Halt.Unfit → act_of self.old ≡ None }
     {
-        if is_same_end(end, sent) {
-            return Err(Halt::Unfit);
+        if let Err(halt) = self.call_delegate(end, sent) {
+            return Err(halt);
         }
-        match hops_at(&self.mains, sent) {
-            Some(hops) => {
-                if hops >= MAX_HOPS {
-                    return Err(Halt::Unfit);
-                }
-            }
-            None => return Err(Halt::Unfit),
-        }
-        self.hand_on(end, sent)
-    }
-
-    fn hand_on(&mut self, end: EndId, sent: EndId) -> Result<(), Halt>
-        requires step { wants_of self.old ≡ wants.Delegate end sent }
-        requires steps { steps_of self.old < limit_of_steps }
-        requires clock { clock_of self.old < clock_end }
-        requires other { rules.is_same_end end sent ≡ false }
-        requires hops { IsBelowHops (held_of (main_of self.old sent)) }
-        requires side { sent.side < 2 }
-        ensures ok { OnOk result (Does self.old (act_of self.old) (clock_of self.old + 1) events.Act
-            (note_for self.old) self.new) }
-        ensures err { OnErr result (Stays self.old self.new) }
-        ensures connects { connect_count self.new ≡ connect_count self.old }
-        ensures late { IfErr result is_late }
-        ensures unfit { IsErrOf result Halt.Unfit → act_of self.old ≡ None }
-    {
-        let Some(to) = peer_at(&self.mains, end) else {
-            return Err(Halt::Unfit);
-        };
-        let msg = Msg::Sess {
-            sess: sent.sess,
-            side: sent.side,
-            keeper: self.party,
-        };
-        self.log.reserve(1)?;
-        make_room(self.alloc, &mut self.outs, to, 1)?;
-        let Ok(room) = make_slot(self.alloc, &mut self.olds, sent) else {
-            return Err(Halt::NoMemory);
-        };
-        let post = match send_on(&mut self.mains, &self.table, end, msg) {
-            Ok(post) => post,
-            Err(halt) => return Err(halt),
-        };
-        let held = take_out(&mut self.mains, sent);
-        put_old(&mut self.olds, sent, Old::Parked(parked(held, room)));
         self.machine.sent();
-        self.clock += 1;
-        put_frame(
-            &mut self.outs,
-            post.to,
-            Frame {
-                clock: self.clock,
-                body: post.body,
-            },
-        );
-        self.log.push_reserved(Entry {
-            clock: self.clock,
-            event: Event::Act,
-            note: Note::Sent { end, msg },
-        });
         Ok(())
     }
 }

@@ -7,11 +7,13 @@ use Rattle.sj_rules.specs.Mapped.{node_with}
 use Rattle.sj_rules.specs.Node.{put}
 use Rattle.sj_rules.specs.Record.{Claim}
 use Rattle.sj_table.specs.Spots.{place_in}
+use Rattle.sj_node.specs.Fitting.{can_take}
 use Rattle.sj_node.specs.Node.{spot_node}
 use Rattle.sj_node.specs.Slots.{mains_in}
 use Rattle.sj_node.specs.Taking.{Takes, held_head}
 use Rattle.sj_node.proofs.ActLemmas.{does, stays}
 use Rattle.sj_node.proofs.CallLemmas.{call_takes_end}
+use Rattle.sj_node.proofs.TakeLemmas.{not_free, not_let}
 use Rattle.sj_node.proofs.node.Node.call_take_end.Goals as goal
 
 pub returns-in-Err-clause-err : goal.returns-in-Err-clause-err
@@ -58,3 +60,17 @@ pub returns-then-is_err-clause-err : goal.returns-then-is_err-clause-err
 returns-then-is_err-clause-err c =
     let n = c.args.self.now in
     stays n _ (λ i. node_with (place_in n.table) (record (spot_node n) { main = c.make_main_slot.ensures.same i })) c.make_room.ensures.same c.reserve.ensures.items refl refl refl refl
+
+pub returns-then-not-is_free-clause-unfit : goal.returns-then-not-is_free-clause-unfit
+returns-then-not-is_free-clause-unfit c = λ unfit.
+    let n = c.args.self.now in
+    let y = c.args.of in
+    not_free n c.args.end (place_in n.table c.args.place) y.sess y.side c.args.keeper c.requires.head
+    (ap (λ xs. is_none (mains_in xs y)) (sym c.deref.ensures.value) ∙ sym c.is_free.ensures ∙ c.if-not-is_free.true)
+
+pub returns-in-Err-clause-unfit : goal.returns-in-Err-clause-unfit
+returns-in-Err-clause-unfit c = λ unfit.
+    let n = c.args.self.now in
+    let m = msgs.Sess c.args.of.sess c.args.of.side c.args.keeper in
+    not_let n c.args.end (place_in n.table c.args.place) m c.requires.head
+    ((λ i. can_take n.table m (sym c.make_main_slot.ensures.same i c.args.end)) ∙ c.in-Err.ensures.unfit unfit)

@@ -6,6 +6,7 @@ use Rattle.sj_node.specs.Outs.{waiting_in}
 use Rattle.sj_node.specs.Slots.{mains_in}
 use Rattle.sj_node.proofs.ActLemmas.{does, stays}
 use Rattle.sj_node.proofs.CallLemmas.{call_takes}
+use Rattle.sj_node.proofs.TakeLemmas.{not_let}
 use Rattle.sj_node.proofs.node.Node.call_take_value.Goals as goal
 
 pub returns-in-Err-clause-err : goal.returns-in-Err-clause-err
@@ -33,3 +34,7 @@ returns-clause-ok c =
       parties = refl;
       connects = refl;
     })
+
+pub returns-in-Err-clause-unfit : goal.returns-in-Err-clause-unfit
+returns-in-Err-clause-unfit c = λ unfit place.
+    not_let c.args.self.now c.args.end place c.args.msg c.requires.head (c.in-Err.ensures.unfit unfit)
