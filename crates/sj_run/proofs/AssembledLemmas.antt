@@ -155,7 +155,7 @@ module _ {O I : Type 0} (outward : OutLane O) (inward : InLane I) (joined : O �
       let got : (party q).popped p ≡ t.rest.got = popped_is p q u.0 u.1 ∙ ap (told_by inward.popped) into ∙ ap list_of t.rest.popped_is in
       let sent : (party p).pushed q ≡ t.rest.got ++ told_list t.frames = pushed_is p q f.worker f.there ∙ ap (told_by outward.pushed) out ∙ ap list_of t.rest.pushed_is in
       let tail : map (frame_with (λ s. done)) (waiting_in (outs_of f.mid) q) ≡ (party p).box q =
-          ap (λ outs. map (frame_with (λ s. done)) (waiting_in outs q)) f.taken.outs ∙ sym (box_is p q f.worker f.there) in
+      ap (λ outs. map (frame_with (λ s. done)) (waiting_in outs q)) f.taken.outs ∙ sym (box_is p q f.worker f.there) in
       record {
         rest = told_list t.frames;
         pushed = sent ∙ ap (λ xs. xs ++ told_list t.frames) (sym got);

@@ -112,10 +112,10 @@ returns-in-Some-clause-logged g c =
       faultless = faultless;
       remembers = remembers;
       fits = all_fit g.L.Out.OutLane g.L.In.InLane g.L.Links.joined
-    (file_of (file_in c.args.accepted.now)) c.in_ok-workers.ensures.accepted c.args.looks (g.L.Links.tells c.args.links.now) telling c.in_ok-workers.workers.items c.in_ok-workers.ensures.worked
-    c.in_ok-remains.remains.lanes.items c.hand_in.new.lanes.items c.in_ok-remains.ensures.lanes c.hand_in.ensures.lanes
-    (keeps_of g.L.Links.sent g.L.Links.got g.L.Links.vain_out g.L.Links.vain_in c.back.new.self) (c.back.ensures.kept (c.hand_in.ensures.tells ∙ c.in_ok-workers.ensures.tells ∙ telling))
-    c.in_ok-remains.remains.logs.items c.in_ok-remains.ensures.logs (map line_at c.in_ok-lines.lines.items) c.in_ok-lines.ensures;
+          (file_of (file_in c.args.accepted.now)) c.in_ok-workers.ensures.accepted c.args.looks (g.L.Links.tells c.args.links.now) telling c.in_ok-workers.workers.items c.in_ok-workers.ensures.worked
+          c.in_ok-remains.remains.lanes.items c.hand_in.new.lanes.items c.in_ok-remains.ensures.lanes c.hand_in.ensures.lanes
+          (keeps_of g.L.Links.sent g.L.Links.got g.L.Links.vain_out g.L.Links.vain_in c.back.new.self) (c.back.ensures.kept (c.hand_in.ensures.tells ∙ c.in_ok-workers.ensures.tells ∙ telling))
+          c.in_ok-remains.remains.logs.items c.in_ok-remains.ensures.logs (map line_at c.in_ok-lines.lines.items) c.in_ok-lines.ensures;
       joins =
           subst (λ (ls : List LineAt). IsJoined (logs_in c.in_ok-workers.workers.items) ls) (sym c.in_ok-world.ensures.history)
           (logs_joined c.in_ok-workers.workers.items c.in_ok-remains.remains.logs.items c.in_ok-remains.ensures.logs (map line_at c.in_ok-lines.lines.items) c.in_ok-lines.ensures);
