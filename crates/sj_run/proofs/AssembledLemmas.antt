@@ -12,7 +12,7 @@ use Rattle.sj_semantics.specs.Program.{Program}
 use Rattle.sj_table.specs.Spots.{place_in}
 use Rattle.sj_end.specs.declared.wire.Frame.{Frame}
 use Rattle.sj_end.specs.Views.{frame_at}
-use Rattle.sj_rules.specs.Frames.{FrameAt}
+use Rattle.sj_rules.specs.Frames.{FrameAt, IsNoGive}
 use Rattle.sj_rules.specs.History.{IsHistory, IsLog}
 use Rattle.sj_rules.specs.Log.{IsJoined, LineAt, logs_below}
 use Rattle.sj_rules.specs.Mapped.{body_with, frame_with}
@@ -23,7 +23,6 @@ use Rattle.sj_rules.specs.Record.{BodyAt, Carry, Fin, Claim, Signal, Ack, Give, 
 use Rattle.sj_rules.specs.Start.{core_start, first_node}
 use Rattle.sj_rules.specs.Work.{LanedAt, lost_from}
 use Rattle.sj_rules.specs.World.{WorldAt}
-use Rattle.sj_joined_lemmas.specs.Whole as whole
 use Rattle.sj_joined_lemmas.specs.Whole.{IsBetween, IsLeft}
 use Rattle.sj_joined_lemmas.proofs.WholeLemmas.{is_whole}
 use Rattle.sj_joined_lemmas.proofs.WorkLemmas.{list_of, told_by}
@@ -33,7 +32,7 @@ use Rattle.sj_lane.specs.Square.{Kept, in_in, out_in}
 use Rattle.sj_lane.specs.Told.{told_frame, told_list}
 use Rattle.sj_lane.proofs.BackLemmas.{slice_get_some as there_is}
 use Rattle.sj_node.specs.declared.node.Node.{Node}
-use Rattle.sj_node.specs.Gives.{HasNoGive, IsNoGive}
+use Rattle.sj_node.specs.Gives.{HasNoGive}
 use Rattle.sj_node.specs.Node.{log_of, node_at, outbox_of}
 use Rattle.sj_node.specs.Outs.{waiting_in}
 use Rattle.sj_node.specs.Reading.{TakesEntry, outs_of, table_of}
@@ -52,7 +51,7 @@ use Rattle.sj_run.proofs.RunLemmas.{joins_below, told_history}
 use Rattle.sj_run.proofs.TeamLemmas.{losts, mapped_at, new_or, news, team_play, turned}
 
 -- a frame with another place still is no Give
-plain_body : {P R : Type 0} (f : P → R) (b : BodyAt P) → IsNoGive b → whole.IsNoGive (body_with f b)
+plain_body : {P R : Type 0} (f : P → R) (b : BodyAt P) → IsNoGive b → IsNoGive (body_with f b)
 plain_body f (Carry to conn number taken msg) plain = tt
 plain_body f (Fin to conn number) plain = tt
 plain_body f (Claim of) plain = tt
@@ -61,7 +60,7 @@ plain_body f (Ack of conn) plain = tt
 plain_body f (Give e resend) plain = absurd plain
 plain_body f (Open sess) plain = tt
 
-plain_all : {P R : Type 0} (f : P → R) (xs : List (FrameAt P)) → HasNoGive xs → AllByRecursion (λ x. whole.IsNoGive x.body) (map (frame_with f) xs)
+plain_all : {P R : Type 0} (f : P → R) (xs : List (FrameAt P)) → HasNoGive xs → AllByRecursion (λ x. IsNoGive x.body) (map (frame_with f) xs)
 plain_all f [] plain = tt
 plain_all f (x ∷ xs) plain = (plain_body f x.body plain.0, plain_all f xs plain.1)
 
@@ -156,7 +155,7 @@ module _ {O I : Type 0} (outward : OutLane O) (inward : InLane I) (joined : O �
       let got : (party q).popped p ≡ t.rest.got = popped_is p q u.0 u.1 ∙ ap (told_by inward.popped) into ∙ ap list_of t.rest.popped_is in
       let sent : (party p).pushed q ≡ t.rest.got ++ told_list t.frames = pushed_is p q f.worker f.there ∙ ap (told_by outward.pushed) out ∙ ap list_of t.rest.pushed_is in
       let tail : map (frame_with (λ s. done)) (waiting_in (outs_of f.mid) q) ≡ (party p).box q =
-          ap (λ outs. map (frame_with (λ s. done)) (waiting_in outs q)) f.taken.outs ∙ sym (box_is p q f.worker f.there) in
+      ap (λ outs. map (frame_with (λ s. done)) (waiting_in outs q)) f.taken.outs ∙ sym (box_is p q f.worker f.there) in
       record {
         rest = told_list t.frames;
         pushed = sent ∙ ap (λ xs. xs ++ told_list t.frames) (sym got);
@@ -190,11 +189,11 @@ module _ {O I : Type 0} (outward : OutLane O) (inward : InLane I) (joined : O �
       ∙ f.taken.node
       ∙ sym (ap (λ (l : LanedAt Place Program O I). l.node) (new_is p f.worker f.there))
 
-  no_give : (p q : ℕ) → p < n → AllByRecursion (λ f. whole.IsNoGive f.body) (v.lanes p q)
+  no_give : (p q : ℕ) → p < n → AllByRecursion (λ f. IsNoGive f.body) (v.lanes p q)
   no_give p q lt =
       let m = node_there p lt in
       let f = from p m.0 m.1 in
-      subst (λ (o : Option Node). AllByRecursion (λ x. whole.IsNoGive x.body) (box_or o q)) (sym m.1)
+      subst (λ (o : Option Node). AllByRecursion (λ x. IsNoGive x.body) (box_or o q)) (sym m.1)
       (plain_all (place_in (table_of m.0)) (waiting_in (outs_of m.0) q) (f.hands.plain q))
 
   is_left : IsLeft done n (core_start file) party lost v

@@ -159,8 +159,8 @@ module _ {O I : Type 0} (pushed : O → Option (List (FrameAt Place))) (popped :
       elim (behind hs m p x is) [
         | inl there ↦ so p x there
         | inr last ↦
-          let here : k ≡ p = sym (last.0 ∙ count) in
-          (n, subst (λ (r : ℕ). slice_get old r ≡ Some n) here at, subst (λ (z : Node). IsHandedIn pushed popped K p n z) (sym last.1) (subst (λ (r : ℕ). IsHandedIn pushed popped K r n m) here handed))
+            let here : k ≡ p = sym (last.0 ∙ count) in
+            (n, subst (λ (r : ℕ). slice_get old r ≡ Some n) here at, subst (λ (z : Node). IsHandedIn pushed popped K p n z) (sym last.1) (subst (λ (r : ℕ). IsHandedIn pushed popped K r n m) here handed))
       ]
 
 module _ {O I : Type 0} (outward : OutLane O) (inward : InLane I) (joined : O → I → Type 0) where

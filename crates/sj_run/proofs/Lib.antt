@@ -26,5 +26,6 @@ mod RunLemmas
 mod ShownLemmas
 mod StopLemmas
 mod TeamLemmas
+mod TogetherLemmas
 mod WaitLemmas
 mod WorkedLemmas

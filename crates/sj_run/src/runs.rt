@@ -41,7 +41,7 @@ fn past_end(world: &World, refused: Line) -> RunRefusal
     })
 }
 
-/// Whether no worker met a fault, wanted memory, or refused an event.
+/// Whether no worker stopped at a fault, out of memory or as unfit.
 fn all_well(faulty: bool, short: bool, unfit: &Option<Line>) -> bool
     ensures { result ≡ true → (faulty ≡ false) × (short ≡ false) }
 {
@@ -50,8 +50,12 @@ fn all_well(faulty: bool, short: bool, unfit: &Option<Line>) -> bool
 
 /// Runs a file by its parties, over lanes that the links make: each on a thread of its own where one can
 /// be had; or, with a number, on a pool of so many threads (0 as 1) that take each other's work, in
-/// rounds until one without an event, and one more. Where links hand over what waits on them, the core world is put
-/// together of the parties' nodes; else their logs, joined, are replayed in one. The joined lines become its history.
+/// rounds until one without an event, and one more. Their logs, joined, become the history of a core
+/// world.
+///
+/// Where links hand over what waits on them, that world is put together of the parties' nodes and what
+/// waits, and no event is done again. The logs are replayed where links hand over nothing, where a Give
+/// waits, or where a worker stopped at a fault, out of memory or as unfit.
 ///
 /// A worker that wanted memory makes the whole want memory, unless the links met a fault or the logs
 /// are damaged.
