@@ -1,5 +1,5 @@
 -- What stays of a lane, and of all lanes, while both ends are looked at in one thread.
-use Rattle.std.specs.Prelude.{◌≡◌, ℕ, zero, suc, ◌-◌, ◌<◌, List, [], ◌∷◌, ◌++◌, take, Option, Some, length, slice_get}
+use Rattle.std.specs.Prelude.{◌≡◌, ℕ, zero, suc, ◌-◌, ◌<◌, List, [], ◌∷◌, ◌++◌, take, ⊤, Option, Some, None, length, slice_get}
 use mathlib.Core.List.{IsPrefix}
 use Rattle.rtrb.specs.Ring.{sent, received, IsPair, SameProducer, SameConsumer}
 use Rattle.sj_lang.specs.Place.{Place}
@@ -91,3 +91,9 @@ pub record IsRestOf (out : Option RingOut) (lane : Option RingIn) (frames : List
   pub there : out ≡ Some producer
   pub here : lane ≡ Some consumer
   pub all : sent producer.producer ≡ popped_of consumer ++ frames
+
+-- there is no such ring, or frames that waited in it were handed over before
+abbrev pub HasNoRest : Option RingOut → Option RingIn → Type 0
+HasNoRest None lane = ⊤
+HasNoRest (Some producer) None = ⊤
+HasNoRest (Some producer) (Some consumer) = consumer.handed ≡ 0 → ⊥

@@ -2,7 +2,8 @@
 ghost use Rattle.std.specs.Prelude.{◌≡◌, ℕ, ◌≤◌, List, Bool, true, Err, IfOk, IfSome, vec_len};
 ghost use Rattle.sj_lang.specs.Place.{Place};
 ghost use Rattle.sj_rules.specs.Frames.{FrameAt};
-ghost use Rattle.sj_lane.specs.Square.{AllJoined, HasFault, IsFresh, IsRest, IsSquare, Kept, NoFault, NoneFell, SameLists};
+ghost use Rattle.sj_lane.specs.Square.{AllJoined, HasFault, IsFresh, IsRest, IsSquare};
+ghost use Rattle.sj_lane.specs.Square.{Kept, NoFault, NoneFell, SameLists};
 ghost use Rattle.sj_lane.specs.Told.{Rose};
 
 use crate::lane::{InLane, Lanes, OutLane};
@@ -28,7 +29,8 @@ pub trait Links {
     ghost faults: { Self → ℕ };
     /// These two are the ends of one link.
     ghost joined: { Self.Out → Self.In → Type 0 };
-    /// From `back` on: the frames pushed by p to q, those popped from p by q, and the calls in vain of both lanes.
+    /// From `back` on: the frames pushed by p to q, those popped from p by q, and the calls in
+    /// vain of both lanes.
     ghost sent: { Self → ℕ → ℕ → List (FrameAt Place) };
 
     ghost got: { Self → ℕ → ℕ → List (FrameAt Place) };
@@ -44,24 +46,30 @@ pub trait Links {
     ) -> Result<Vec<Lanes<Self::Out, Self::In>>, MakeRefusal>
         ensures square { IfOk result (λ v. (vec_len v ≡ parties) × IsSquare v.items) }
         ensures joined { IfOk result (λ v. AllJoined joined v.items) }
-        ensures fresh { IfOk result (λ v. IsFresh Self.Out.pushed Self.In.popped Self.Out.vain Self.In.vain (tells self.old) v.items) }
+        ensures fresh { IfOk result (λ v. IsFresh Self.Out.pushed Self.In.popped
+            Self.Out.vain Self.In.vain (tells self.old) v.items) }
         ensures faultless { IfOk result (λ v. NoFault Self.Out.faults Self.In.faults v.items) }
         ensures tells { tells self.new ≡ tells self.old }
-        ensures fault { (faults self.old ≤ faults self.new) × (result ≡ Err MakeRefusal.Fault → Rose (faults self.old) (faults self.new)) };
+        ensures fault { (faults self.old ≤ faults self.new)
+            × (result ≡ Err MakeRefusal.Fault → Rose (faults self.old) (faults self.new)) };
 
     fn carry(&mut self, lanes: &mut [Lanes<Self::Out, Self::In>]) -> Result<(), NoMemory>
         requires square { IsSquare lanes.old }
         requires joined { AllJoined joined lanes.old }
         ensures square { IsSquare lanes.new }
         ensures joined { AllJoined joined lanes.new }
-        ensures lists { SameLists Self.Out.pushed Self.In.popped Self.Out.vain Self.In.vain lanes.old lanes.new }
+        ensures lists { SameLists Self.Out.pushed Self.In.popped Self.Out.vain Self.In.vain
+            lanes.old lanes.new }
         ensures faults { NoneFell Self.Out.faults Self.In.faults lanes.old lanes.new }
-        ensures shown { (p q : ℕ) → (sent self.new p q ≡ sent self.old p q) × (got self.new p q ≡ got self.old p q)
-            × (vain_out self.new p q ≡ vain_out self.old p q) × (vain_in self.new p q ≡ vain_in self.old p q) }
+        ensures shown { (p q : ℕ)
+            → (sent self.new p q ≡ sent self.old p q) × (got self.new p q ≡ got self.old p q)
+            × (vain_out self.new p q ≡ vain_out self.old p q)
+            × (vain_in self.new p q ≡ vain_in self.old p q) }
         ensures tells { tells self.new ≡ tells self.old }
         ensures fault { faults self.new ≡ faults self.old };
 
-    /// What waits on the link from that party to that one, in order, where the links can hand it over; that counts as no pop.
+    /// What waits on the link from that party to that one, in order, where the links can hand it
+    /// over; that counts as no pop. When they can, their own contracts say.
     fn rest(
         &mut self,
         alloc: Global,
@@ -73,11 +81,16 @@ pub trait Links {
         requires joined { AllJoined joined lanes.old.items }
         ensures square { IsSquare lanes.new.items }
         ensures joined { AllJoined joined lanes.new.items }
-        ensures lists { SameLists Self.Out.pushed Self.In.popped Self.Out.vain Self.In.vain lanes.old.items lanes.new.items }
-        ensures faults { NoneFell Self.Out.faults Self.In.faults lanes.old.items lanes.new.items }
-        ensures rest { IfOk result (λ o. IfSome o (λ v. (tells self.old ≡ true) × IsRest Self.Out.pushed Self.In.popped lanes.old.items from to v.items)) }
-        ensures shown { (p q : ℕ) → (sent self.new p q ≡ sent self.old p q) × (got self.new p q ≡ got self.old p q)
-            × (vain_out self.new p q ≡ vain_out self.old p q) × (vain_in self.new p q ≡ vain_in self.old p q) }
+        ensures lists { SameLists Self.Out.pushed Self.In.popped Self.Out.vain Self.In.vain
+            lanes.old.items lanes.new.items }
+        ensures faults { NoneFell Self.Out.faults Self.In.faults
+            lanes.old.items lanes.new.items }
+        ensures rest { IfOk result (λ o. IfSome o (λ v. (tells self.old ≡ true)
+            × IsRest Self.Out.pushed Self.In.popped lanes.old.items from to v.items)) }
+        ensures shown { (p q : ℕ)
+            → (sent self.new p q ≡ sent self.old p q) × (got self.new p q ≡ got self.old p q)
+            × (vain_out self.new p q ≡ vain_out self.old p q)
+            × (vain_in self.new p q ≡ vain_in self.old p q) }
         ensures tells { tells self.new ≡ tells self.old }
         ensures fault { faults self.new ≡ faults self.old };
 
@@ -89,9 +102,12 @@ pub trait Links {
             (vain_in self.new) }
         ensures tells { tells self.new ≡ tells self.old }
         ensures fault { (faults self.old ≤ faults self.new)
-            × (NoFault Self.Out.faults Self.In.faults lanes.items → faults self.new ≡ faults self.old) }
-        ensures raised { HasFault Self.Out.faults Self.In.faults lanes.items → Rose (faults self.old) (faults self.new) };
+            × (NoFault Self.Out.faults Self.In.faults lanes.items →
+            faults self.new ≡ faults self.old) }
+        ensures raised { HasFault Self.Out.faults Self.In.faults lanes.items →
+            Rose (faults self.old) (faults self.new) };
 
     /// A lane later is still joined to the other end.
-    ghost joined_later: { (o p : Self.Out) (i j : Self.In) → joined o i → Self.Out.same o p → Self.In.same i j → joined p j };
+    ghost joined_later: { (o p : Self.Out) (i j : Self.In) → joined o i →
+        Self.Out.same o p → Self.In.same i j → joined p j };
 }

@@ -21,8 +21,10 @@ impl MemLinks {
 }
 
 impl Links for MemLinks {
-    ghost use Rattle.std.specs.Prelude.{◌≡◌, ◌≤◌, ℕ, true, Err, IfOk, OnErr, OnOk, vec_len};
-    ghost use Rattle.sj_lane.specs.Square.{AllJoined, HasFault, IsFresh, IsSquare, Kept, NoFault, NoneFell, SameLists};
+    ghost use Rattle.std.specs.Prelude.{◌≡◌, ◌≤◌, ℕ, true, Err, None, Ok, IfOk, IfSome};
+    ghost use Rattle.std.specs.Prelude.{OnErr, OnOk, vec_len};
+    ghost use Rattle.sj_lane.specs.Square.{AllJoined, HasFault, IsFresh, IsRest, IsSquare, Kept};
+    ghost use Rattle.sj_lane.specs.Square.{NoFault, NoneFell, SameLists};
     ghost use Rattle.sj_lane.specs.Told.{Rose};
     ghost use Rattle.sj_lane.specs.Mem.{IsCarried};
     ghost use Rattle.sj_lane.specs.MemCarry.{AreMoved, AreMovedUpTo, NoneWait};
@@ -81,8 +83,10 @@ impl Links for MemLinks {
         ensures faults { NoneFell ⟦<MemOut as OutLane>⟧.faults ⟦<MemIn as InLane>⟧.faults lanes.old lanes.new }
         ensures shown { (p q : ℕ) → (sent_in (kept_list self.new.kept) p q ≡ sent_in (kept_list self.old.kept) p q)
             × (got_in (kept_list self.new.kept) p q ≡ got_in (kept_list self.old.kept) p q)
-            × (vain_out_in (kept_list self.new.kept) p q ≡ vain_out_in (kept_list self.old.kept) p q)
-            × (vain_in_in (kept_list self.new.kept) p q ≡ vain_in_in (kept_list self.old.kept) p q) }
+            × (vain_out_in (kept_list self.new.kept) p q
+            ≡ vain_out_in (kept_list self.old.kept) p q)
+            × (vain_in_in (kept_list self.new.kept) p q
+            ≡ vain_in_in (kept_list self.old.kept) p q) }
         ensures tells { true ≡ true }
         ensures fault { ◌≡◌ {A = ℕ} 0 0 }
         ensures moved { OnOk result (AreMoved lanes.old lanes.new) }
@@ -91,13 +95,36 @@ impl Links for MemLinks {
         carry_all(lanes)
     }
 
+    // The trait's clauses, and that nothing is ever handed over.
     fn rest(
         &mut self,
         _alloc: Global,
         _lanes: &mut Vec<Lanes<MemOut, MemIn>>,
         _from: u16,
         _to: u16,
-    ) -> Result<Option<Vec<Frame>>, NoMemory> {
+    ) -> Result<Option<Vec<Frame>>, NoMemory>
+        requires square { IsSquare _lanes.old.items }
+        requires joined { AllJoined IsCarried _lanes.old.items }
+        ensures square { IsSquare _lanes.new.items }
+        ensures joined { AllJoined IsCarried _lanes.new.items }
+        ensures lists { SameLists ⟦<MemOut as OutLane>⟧.pushed ⟦<MemIn as InLane>⟧.popped
+            ⟦<MemOut as OutLane>⟧.vain ⟦<MemIn as InLane>⟧.vain _lanes.old.items _lanes.new.items }
+        ensures faults { NoneFell ⟦<MemOut as OutLane>⟧.faults ⟦<MemIn as InLane>⟧.faults
+            _lanes.old.items _lanes.new.items }
+        ensures rest { IfOk result (λ o. IfSome o (λ v. (true ≡ true)
+            × IsRest ⟦<MemOut as OutLane>⟧.pushed ⟦<MemIn as InLane>⟧.popped
+            _lanes.old.items _from _to v.items)) }
+        ensures shown { (p q : ℕ)
+            → (sent_in (kept_list self.new.kept) p q ≡ sent_in (kept_list self.old.kept) p q)
+            × (got_in (kept_list self.new.kept) p q ≡ got_in (kept_list self.old.kept) p q)
+            × (vain_out_in (kept_list self.new.kept) p q
+            ≡ vain_out_in (kept_list self.old.kept) p q)
+            × (vain_in_in (kept_list self.new.kept) p q
+            ≡ vain_in_in (kept_list self.old.kept) p q) }
+        ensures tells { true ≡ true }
+        ensures fault { ◌≡◌ {A = ℕ} 0 0 }
+        ensures none { result ≡ Ok None }
+    {
         Ok(None)
     }
 

@@ -21,11 +21,12 @@ impl RingLinks {
 }
 
 impl Links for RingLinks {
-    ghost use Rattle.std.specs.Prelude.{◌≡◌, ◌≤◌, ℕ, true};
-    ghost use Rattle.sj_lane.specs.Square.{AllJoined, HasFault, IsSquare, Kept, NoFault};
+    ghost use Rattle.std.specs.Prelude.{◌≡◌, ◌≤◌, ℕ, None, IfOk, IfSome, true};
+    ghost use Rattle.sj_lane.specs.Square.{AllJoined, HasFault, IsRest, IsSquare, Kept, NoFault};
+    ghost use Rattle.sj_lane.specs.Square.{NoneFell, SameLists, in_at, out_at};
     ghost use Rattle.sj_lane.specs.Told.{Rose};
     ghost use Rattle.std.proofs.Common.{rules};
-    ghost use Rattle.sj_lane.specs.Rings.{Joined};
+    ghost use Rattle.sj_lane.specs.Rings.{HasNoRest, Joined};
     ghost use Rattle.sj_lane.specs.KeptLanes.{kept_list, sent_in, got_in, vain_out_in, vain_in_in};
 
     type Out = RingOut;
@@ -62,13 +63,38 @@ impl Links for RingLinks {
         Ok(())
     }
 
+    // The trait's clauses, and that nothing is handed over only where there is no ring, or frames
+    // of it were handed over before.
     fn rest(
         &mut self,
         alloc: Global,
         lanes: &mut Vec<Lanes<RingOut, RingIn>>,
         from: u16,
         to: u16,
-    ) -> Result<Option<Vec<Frame>>, NoMemory> {
+    ) -> Result<Option<Vec<Frame>>, NoMemory>
+        requires square { IsSquare lanes.old.items }
+        requires joined { AllJoined Joined lanes.old.items }
+        ensures square { IsSquare lanes.new.items }
+        ensures joined { AllJoined Joined lanes.new.items }
+        ensures lists { SameLists ⟦<RingOut as OutLane>⟧.pushed ⟦<RingIn as InLane>⟧.popped
+            ⟦<RingOut as OutLane>⟧.vain ⟦<RingIn as InLane>⟧.vain lanes.old.items lanes.new.items }
+        ensures faults { NoneFell ⟦<RingOut as OutLane>⟧.faults ⟦<RingIn as InLane>⟧.faults
+            lanes.old.items lanes.new.items }
+        ensures rest { IfOk result (λ o. IfSome o (λ v. (true ≡ true)
+            × IsRest ⟦<RingOut as OutLane>⟧.pushed ⟦<RingIn as InLane>⟧.popped
+            lanes.old.items from to v.items)) }
+        ensures shown { (p q : ℕ)
+            → (sent_in (kept_list self.new.kept) p q ≡ sent_in (kept_list self.old.kept) p q)
+            × (got_in (kept_list self.new.kept) p q ≡ got_in (kept_list self.old.kept) p q)
+            × (vain_out_in (kept_list self.new.kept) p q
+            ≡ vain_out_in (kept_list self.old.kept) p q)
+            × (vain_in_in (kept_list self.new.kept) p q
+            ≡ vain_in_in (kept_list self.old.kept) p q) }
+        ensures tells { true ≡ true }
+        ensures fault { ◌≡◌ {A = ℕ} 0 0 }
+        ensures none { IfOk result (λ o. o ≡ None →
+            HasNoRest (out_at lanes.old.items from to) (in_at lanes.old.items from to)) }
+    {
         take_rest(alloc, lanes, from as usize, to as usize)
     }
 

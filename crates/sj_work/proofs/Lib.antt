@@ -6,6 +6,7 @@ pub mod LaneLemmas
 pub mod LookLemmas
 pub mod NodeLemmas
 pub mod NoteLemmas
+pub mod OnLemmas
 pub mod PushLemmas
 pub mod RestLemmas
 pub mod SendLemmas

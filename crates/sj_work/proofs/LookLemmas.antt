@@ -23,7 +23,7 @@ either true y h = inl refl
 either false true h = inr refl
 either false false h = absurd (cc h)
 
-rises_then : (x y z : ℕ) → x < y → y ≤ z → x < z
+pub rises_then : (x y z : ℕ) → x < y → y ≤ z → x < z
 rises_then x y z p q = omega arith
 
 then_rises : (x y z : ℕ) → x ≤ y → y < z → x < z

@@ -5,10 +5,10 @@ ghost use Rattle.sj_node.specs.Node as nodes;
 ghost use Rattle.sj_work.specs.Answers.{SaysHalt, SeesFinished};
 ghost use Rattle.sj_work.specs.Causes.{own_line};
 ghost use Rattle.sj_work.specs.Turns.{IsGoing, IsHalted, HasNoEvent, Turns};
-ghost use Rattle.sj_work.specs.Views.{lanes_of, looks_of, node_of, stop_of};
+ghost use Rattle.sj_work.specs.Views.{looks_of, node_of, stop_of};
 ghost use Rattle.sj_rules.specs.Limits.{clock_end};
 
-use crate::worker::{Gate, Outcome, Worker};
+use crate::worker::{AT_ONCE, Gate, Outcome, Worker};
 use sj_end::{CLOCK_END, Line};
 use sj_lane::{InLane, OutLane};
 use sj_node::{Halt, Node};
@@ -60,13 +60,13 @@ fn refused(node: &Node, halt: Halt) -> Option<Outcome>
 }
 
 /// One act, where the party can act. Answers whether there was one.
-pub(crate) fn act<O: OutLane, I: InLane, G: Gate>(worker: &mut Worker<O, I>, gate: &G) -> bool
+fn act<O: OutLane, I: InLane, G: Gate>(worker: &mut Worker<O, I>, gate: &G) -> bool
     requires { IsGoing worker.old }
     ensures turns { Turns O.OutLane I.InLane worker.old worker.new }
     ensures event { IsTrue result → clock_of (node_of worker.old) < clock_of (node_of worker.new) }
     ensures rests { IsFalse result → HasNoEvent (node_of worker.old) (node_of worker.new) }
-    ensures halted { IsFalse result → stop_of worker.new ≡ None → IsHalted (nodes.stop_of (node_of worker.new)) }
-    ensures lanes { lanes_of worker.new ≡ lanes_of worker.old }
+    ensures halted { IsFalse result → stop_of worker.new ≡ None →
+        IsHalted (nodes.stop_of (node_of worker.new)) }
     ensures looks { looks_of worker.new ≡ looks_of worker.old }
 {
     if worker.node.clock() >= CLOCK_END {
@@ -84,4 +84,29 @@ pub(crate) fn act<O: OutLane, I: InLane, G: Gate>(worker: &mut Worker<O, I>, gat
             false
         }
     }
+}
+
+/// Acts until the party can't, as many as one turn has at most. Answers whether there was one.
+pub(crate) fn act_on<O: OutLane, I: InLane, G: Gate>(worker: &mut Worker<O, I>, gate: &G) -> bool
+    requires { IsGoing worker.old }
+    ensures turns { Turns O.OutLane I.InLane worker.old worker.new }
+    ensures event { IsTrue result → stop_of worker.new ≡ None →
+        clock_of (node_of worker.old) < clock_of (node_of worker.new) }
+    ensures rests { IsFalse result → HasNoEvent (node_of worker.old) (node_of worker.new) }
+    ensures halted { IsFalse result → stop_of worker.new ≡ None →
+        IsHalted (nodes.stop_of (node_of worker.new)) }
+    ensures looks { looks_of worker.new ≡ looks_of worker.old }
+{
+    if !act(worker, gate) {
+        return false;
+    }
+    for _ in 1..AT_ONCE {
+        if worker.answer.is_some() {
+            return true;
+        }
+        if !act(worker, gate) {
+            return true;
+        }
+    }
+    true
 }

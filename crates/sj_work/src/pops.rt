@@ -11,7 +11,7 @@ ghost use Rattle.sj_work.specs.Views.{in_of, looks_of, node_of, stop_of};
 ghost use Rattle.sj_rules.specs.Limits.{clock_end};
 
 use crate::acts::{finished, show};
-use crate::worker::{Gate, Outcome, Worker};
+use crate::worker::{AT_ONCE, Gate, Outcome, Worker};
 use sj_end::{CLOCK_END, Entry, Event, Frame, Line, note_of};
 use sj_lane::{InLane, OutLane, PopRefusal};
 use sj_node::{DeliverRefusal, Node};
@@ -53,7 +53,8 @@ fn look<O: OutLane, I: InLane, G: Gate>(worker: &mut Worker<O, I>, from: u16, ga
     requires goes { IsGoing worker.old }
     requires party { from < parties_of (node_of worker.old) }
     ensures turns { Turns O.OutLane I.InLane worker.old worker.new }
-    ensures event { IsTrue result → stop_of worker.new ≡ None → clock_of (node_of worker.old) < clock_of (node_of worker.new) }
+    ensures event { IsTrue result → stop_of worker.new ≡ None →
+        clock_of (node_of worker.old) < clock_of (node_of worker.new) }
     ensures rests { IsFalse result → node_of worker.new ≡ node_of worker.old }
     ensures vain { IsFalse result → stop_of worker.new ≡ None →
         OnLane I.vain (RoseBy 1) (in_of worker.old from) (in_of worker.new from) }
@@ -84,18 +85,47 @@ fn look<O: OutLane, I: InLane, G: Gate>(worker: &mut Worker<O, I>, from: u16, ga
     }
 }
 
-/// A pop from each party of the file, in order. Answers whether a frame came.
+/// Pops from that party as long as frames come, as many as one turn has at most, and their
+/// deliveries. Answers whether a frame came.
+fn look_on<O: OutLane, I: InLane, G: Gate>(worker: &mut Worker<O, I>, from: u16, gate: &G) -> bool
+    requires goes { IsGoing worker.old }
+    requires party { from < parties_of (node_of worker.old) }
+    ensures turns { Turns O.OutLane I.InLane worker.old worker.new }
+    ensures event { IsTrue result → stop_of worker.new ≡ None →
+        clock_of (node_of worker.old) < clock_of (node_of worker.new) }
+    ensures rests { IsFalse result → node_of worker.new ≡ node_of worker.old }
+    ensures vain { IsFalse result → stop_of worker.new ≡ None →
+        OnLane I.vain (RoseBy 1) (in_of worker.old from) (in_of worker.new from) }
+    ensures looks { looks_of worker.new ≡ looks_of worker.old }
+{
+    if !look(worker, from, gate) {
+        return false;
+    }
+    for _ in 1..AT_ONCE {
+        if worker.answer.is_some() {
+            return true;
+        }
+        if !look(worker, from, gate) {
+            return true;
+        }
+    }
+    true
+}
+
+/// Pops from each party of the file, in order. Answers whether a frame came.
 pub(crate) fn look_all<O: OutLane, I: InLane, G: Gate>(worker: &mut Worker<O, I>, gate: &G) -> bool
     requires { IsGoing worker.old }
     ensures turns { Turns O.OutLane I.InLane worker.old worker.new }
-    ensures event { IsTrue result → stop_of worker.new ≡ None → clock_of (node_of worker.old) < clock_of (node_of worker.new) }
+    ensures event { IsTrue result → stop_of worker.new ≡ None →
+        clock_of (node_of worker.old) < clock_of (node_of worker.new) }
     ensures rests { IsFalse result → node_of worker.new ≡ node_of worker.old }
-    ensures vain { IsFalse result → stop_of worker.new ≡ None → InVain I.vain 1 worker.old worker.new }
+    ensures vain { IsFalse result → stop_of worker.new ≡ None →
+        InVain I.vain 1 worker.old worker.new }
     ensures looks { looks_of worker.new ≡ looks_of worker.old }
 {
     let mut came = false;
     for from in 0..worker.node.parties() {
-        came |= look(worker, from, gate);
+        came |= look_on(worker, from, gate);
         if worker.answer.is_some() {
             return came;
         }

@@ -30,7 +30,8 @@ fn push_one<O: OutLane, I: InLane>(worker: &mut Worker<O, I>, to: u16) -> bool
     ensures fewer { IsTrue result → length (waiting_in (outs_of (node_of worker.new)) to)
         < length (waiting_in (outs_of (node_of worker.old)) to) }
     ensures goes_on { IsTrue result → stop_of worker.new ≡ None }
-    ensures tried { IsFalse result → stop_of worker.new ≡ None → Tried O.vain to worker.old worker.new }
+    ensures tried { IsFalse result → stop_of worker.new ≡ None →
+        Tried O.vain to worker.old worker.new }
     ensures looks { looks_of worker.new ≡ looks_of worker.old }
 {
     if worker.node.nothing_waits(to) {

@@ -5,21 +5,22 @@ ghost use Rattle.sj_work.specs.Turns.{IsGoing, IsInVain, Turns};
 ghost use Rattle.sj_work.specs.Views.{looks_of, node_of, stop_of};
 ghost use Rattle.sj_work.specs.Worked.{Turned, Worked, kept_stop};
 
-use crate::acts::{act, finished};
+use crate::acts::{act_on, finished};
 use crate::pops::look_all;
 use crate::pushes::push_all;
 use crate::worker::{Gate, Outcome, Stop, Worker};
 use sj_end::CLOCK_END;
 use sj_lane::{InLane, OutLane};
 
-/// One turn: a pop from each origin, in order, with its delivery; pushes as far as the lanes take;
-/// one act. Answers whether it had an event.
+/// One turn: pops from each origin, in order, with their deliveries; pushes as far as the lanes
+/// take; acts. Answers whether it had an event.
 fn turn<O: OutLane, I: InLane, G: Gate>(worker: &mut Worker<O, I>, gate: &G) -> bool
     requires { IsGoing worker.old }
     ensures turns { Turns O.OutLane I.InLane worker.old worker.new }
     ensures event { IsTrue result → stop_of worker.new ≡ None →
         clock_of (node_of worker.old) < clock_of (node_of worker.new) }
-    ensures vain { IsFalse result → stop_of worker.new ≡ None → IsInVain O.vain I.vain worker.old worker.new }
+    ensures vain { IsFalse result → stop_of worker.new ≡ None →
+        IsInVain O.vain I.vain worker.old worker.new }
     ensures looks { looks_of worker.new ≡ looks_of worker.old }
 {
     let came = look_all(worker, gate);
@@ -30,16 +31,17 @@ fn turn<O: OutLane, I: InLane, G: Gate>(worker: &mut Worker<O, I>, gate: &G) -> 
     if worker.answer.is_some() {
         return came;
     }
-    act(worker, gate) || came
+    act_on(worker, gate) || came
 }
 
-/// Turns until one has an event or the worker stops. Where turns have none the party stays idle, or at
-/// its limit, and the worker stops so after as many turns as there are looks; idle without any, where
-/// that is none.
+/// Turns until one has an event or the worker stops. Where turns have none the party stays idle,
+/// or at its limit, and the worker stops so after as many turns as there are looks; idle without
+/// any, where that is none.
 fn until_event<O: OutLane, I: InLane, G: Gate>(worker: &mut Worker<O, I>, looks: u32, gate: &G)
     requires { IsGoing worker.old }
     ensures turned { Turned O.OutLane I.InLane looks worker.old worker.new }
-    ensures event { stop_of worker.new ≡ None → clock_of (node_of worker.old) < clock_of (node_of worker.new) }
+    ensures event { stop_of worker.new ≡ None →
+        clock_of (node_of worker.old) < clock_of (node_of worker.new) }
 {
     worker.looks = 0;
     while worker.looks < looks || !worker.node.idle_now() {

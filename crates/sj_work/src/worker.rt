@@ -10,6 +10,9 @@ use sj_end::{Entry, Line};
 use sj_lane::Lanes;
 use sj_node::Node;
 
+/// How many acts one turn has at most, and how many pops from one party.
+pub(crate) const AT_ONCE: u32 = 64;
+
 /// What is shown each event as it happens.
 pub trait Gate: Sync {
     fn pass(&self, party: u16, entry: &Entry);

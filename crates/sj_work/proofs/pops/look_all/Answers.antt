@@ -16,29 +16,29 @@ loop-from-preserved g c =
     let ol = g.met.O.OutLane g.world.𝓛 g.world.𝓜 g.world.𝓡 (λ s x. x, λ x. x, λ x. x, λ x. x) in
     let il = g.met.I.InLane g.world.𝓛 g.world.𝓜 g.world.𝓡 (λ s x. x, λ x. x, λ x. x, λ x. x) in
     let k = laws g.O.OutLane g.I.InLane ol.same_itself ol.same_later il.same_itself il.same_later in
-    look_more k c.args.worker.now c.loop-from.worker c.look-came.new.worker c.loop-from.from c.loop-from.came c.look-came.result c.loop-from.invariant c.look-came.ensures.turns
-    (none_if c.look-came.new.worker.answer c.is_some.result c.is_some.ensures c.if-is_some.false) c.look-came.ensures.event c.look-came.ensures.rests c.look-came.ensures.vain c.look-came.ensures.looks
+    look_more k c.args.worker.now c.loop-from.worker c.look_on-came.new.worker c.loop-from.from c.loop-from.came c.look_on-came.result c.loop-from.invariant c.look_on-came.ensures.turns
+    (none_if c.look_on-came.new.worker.answer c.is_some.result c.is_some.ensures c.if-is_some.false) c.look_on-came.ensures.event c.look_on-came.ensures.rests c.look_on-came.ensures.vain c.look_on-came.ensures.looks
 
 pub returns-then-is_some-clause-turns : goal.returns-then-is_some-clause-turns
 returns-then-is_some-clause-turns g c =
     let ol = g.met.O.OutLane g.world.𝓛 g.world.𝓜 g.world.𝓡 (λ s x. x, λ x. x, λ x. x, λ x. x) in
     let il = g.met.I.InLane g.world.𝓛 g.world.𝓜 g.world.𝓡 (λ s x. x, λ x. x, λ x. x, λ x. x) in
     let k = laws g.O.OutLane g.I.InLane ol.same_itself ol.same_later il.same_itself il.same_later in
-    look_turns k c.args.worker.now c.loop-from.worker c.look-came.new.worker c.loop-from.from c.loop-from.came c.look-came.result c.loop-from.invariant c.look-came.ensures.turns
+    look_turns k c.args.worker.now c.loop-from.worker c.look_on-came.new.worker c.loop-from.from c.loop-from.came c.look_on-came.result c.loop-from.invariant c.look_on-came.ensures.turns
 
 pub returns-then-is_some-clause-event : goal.returns-then-is_some-clause-event
 returns-then-is_some-clause-event g c = λ h none.
     let ol = g.met.O.OutLane g.world.𝓛 g.world.𝓜 g.world.𝓡 (λ s x. x, λ x. x, λ x. x, λ x. x) in
     let il = g.met.I.InLane g.world.𝓛 g.world.𝓜 g.world.𝓡 (λ s x. x, λ x. x, λ x. x, λ x. x) in
     let k = laws g.O.OutLane g.I.InLane ol.same_itself ol.same_later il.same_itself il.same_later in
-    look_event k c.args.worker.now c.loop-from.worker c.look-came.new.worker c.loop-from.from c.loop-from.came c.look-came.result c.loop-from.invariant c.look-came.ensures.turns none c.look-came.ensures.event h
+    look_event k c.args.worker.now c.loop-from.worker c.look_on-came.new.worker c.loop-from.from c.loop-from.came c.look_on-came.result c.loop-from.invariant c.look_on-came.ensures.turns none c.look_on-came.ensures.event h
 
 pub returns-then-is_some-clause-rests : goal.returns-then-is_some-clause-rests
 returns-then-is_some-clause-rests g c = λ h.
     let ol = g.met.O.OutLane g.world.𝓛 g.world.𝓜 g.world.𝓡 (λ s x. x, λ x. x, λ x. x, λ x. x) in
     let il = g.met.I.InLane g.world.𝓛 g.world.𝓜 g.world.𝓡 (λ s x. x, λ x. x, λ x. x, λ x. x) in
     let k = laws g.O.OutLane g.I.InLane ol.same_itself ol.same_later il.same_itself il.same_later in
-    look_rests k c.args.worker.now c.loop-from.worker c.look-came.new.worker c.loop-from.from c.loop-from.came c.look-came.result c.loop-from.invariant c.look-came.ensures.turns c.look-came.ensures.rests h
+    look_rests k c.args.worker.now c.loop-from.worker c.look_on-came.new.worker c.loop-from.from c.loop-from.came c.look_on-came.result c.loop-from.invariant c.look_on-came.ensures.turns c.look_on-came.ensures.rests h
 
-pub look-came-requires-clause-party : goal.look-came-requires-clause-party
-look-came-requires-clause-party g c κs within = subst (λ (n : ℕ). c.loop-from.from < n) (sym (c.loop-from.invariant.turns 0).went.parties) (search rules)
+pub look_on-came-requires-clause-party : goal.look_on-came-requires-clause-party
+look_on-came-requires-clause-party g c κs within = subst (λ (n : ℕ). c.loop-from.from < n) (sym (c.loop-from.invariant.turns 0).went.parties) (search rules)
