@@ -1,6 +1,6 @@
-//! `bench_workers`: reads a file on standard input, runs its parties on so many workers as its first
-//! word says, or each on a thread of its own where that is no number, and prints how many events they
-//! had, how many there are after the drain, and the rounds. `bench/workers` calls it.
+//! `bench_workers`: reads a file on standard input, and runs its parties on as many workers as its
+//! first word says. Where that is no number, each has a thread of its own. It prints how many
+//! events they had, how many there are after the drain, and the rounds. `bench/workers` calls it.
 #![tactic(auto)]
 
 ghost use Rattle.std.specs.Prelude.{◌≤◌, length};
@@ -20,8 +20,9 @@ use std::rt::Env;
 use std::sync::atomic::{AtomicU64, Ordering};
 use std::thread::Threads;
 
-/// The party that had the last event, and how often that is a lower one than the one before: on one
-/// worker, which works the parties off in order, once for each round after the first with an event.
+/// The party that had the last event, and how often that is a lower one than the one before. On one
+/// worker, which works the parties off in order, it is once for each round after the first with an
+/// event.
 #[derive(Drop)]
 struct Turns {
     last: AtomicU64,

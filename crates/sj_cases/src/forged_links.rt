@@ -65,7 +65,7 @@ impl InLane for Gives {
 }
 
 /// Links of two parties, over which nothing comes but one frame to the second party, as if from the
-/// first: a Carry of the number 6, or the Open of a session.
+/// first. It is a Carry of the number 6, or the Open of a session.
 #[derive(Drop)]
 pub struct Forged {
     opens: bool,

@@ -22,8 +22,8 @@ struct Files {
     wrong: u32,
 }
 
-// Each file is accepted, its transcript and status by `run` are those of `sim`, over rings and over
-// lists, and no worker of it stops as unfit, at a fault or out of memory.
+// Each file is accepted. Its transcript and status by `run` are those of `sim`, over rings and over
+// lists. No worker of it stops as unfit, at a fault or out of memory.
 fn play<R: Threads + Sync>(rt: &R, alloc: Global, files: &mut Files) {
     for at in 0..files.many {
         match played(rt, alloc, files.first.wrapping_add(at)) {

@@ -1,5 +1,5 @@
 //! Cases of the program: what it must write, and with which status, for words and files, over links
-//! of every kind; and the links of their own that the tests need.
+//! of every kind. And the links that the tests need.
 #![tactic(auto)]
 
 mod failing_links;

@@ -49,8 +49,8 @@ fn what_is_unfit_is_told_behind_all_lines(rt: HostRuntime) -> Result<(), Fail> {
     Ok(())
 }
 
-// A push of the first party fails after one that was taken; a pop of the second one fails after a
-// frame that fits; and it does so while the first party gets what doesn't fit.
+// A push of the first party fails after one that was taken. A pop of the second one fails after a
+// frame that fits. It does so, too, while the first party gets what doesn't fit.
 #[test]
 fn a_lane_fails_in_the_midst_of_a_run(rt: HostRuntime) -> Result<(), Fail> {
     let rows: [(Option<Frame>, u64, bool); 3] = [

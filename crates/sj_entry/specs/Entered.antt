@@ -17,7 +17,7 @@ use Rattle.sj_tool.specs.Table.{AnswersAs, NoFaultAbove}
 use Rattle.sj_tool.specs.Tasks.{AsksFor, Reads, RunsParties}
 use Rattle.sj_tool.specs.Texts.{IsBelowSize, no_memory_status, status_of, verdict_status, write_fault_status}
 
--- what the sink holds, where it tells, and how many faults it counted
+-- what the sink holds, where it reports that, and how many faults it counted
 pub record SinkAt : Type 0 where
   pub written : Option (List ℕ)
   pub faults : ℕ
@@ -26,8 +26,9 @@ pub record SinkAt : Type 0 where
 abbrev pub sink : {K : Type 0} → (written : K → Option (List ℕ)) → (faults : K → ℕ) → K → SinkAt
 sink written faults k = record { written = written k; faults = faults k }
 
--- what a call's own kinds of lanes, links and source say: what is written of damage and of a run, by the call and what the sink holds before
--- and after; that the links are as they were; and that the source was read to its end
+-- what a call's own kinds of lanes, links and source say. What is written of damage and of a run,
+-- by the call and what the sink holds before and after. That the links are as they were, and that
+-- the source was read to its end
 pub record OwnAt : Type 1 where
   pub damage : CallAt → (before after : Option (List ℕ)) → Type 0
   pub run : CallAt → (status : ℕ) → (before after : Option (List ℕ)) → Type 0

@@ -1,4 +1,4 @@
--- Acts of a program that knows only of the file tell only of the file.
+-- Acts of a program that knows only of the file report only of the file.
 use Rattle.std.proofs.Common.{◌≡◌, ℕ, ◌+◌, ◌<◌, ◌≤◌, Bool, true, false, ◌&&◌, cond, List, [], ◌∷◌, Option, Some, None, refl, arith, if◌then◌else◌}
 use Rattle.std.specs.Prelude.{nat_lt}
 use Rattle.sj_base.specs.declared.EndId.{EndId}

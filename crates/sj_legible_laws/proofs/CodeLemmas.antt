@@ -78,7 +78,7 @@ module _ (file : FileAt) (L : Limits) (names : Spelling) (Kept : List ℕ → Ty
   abbrev StatementTold : StmtAt → Type 0
   StatementTold (at line deed) = DeedTold file deed
 
-  -- an expression, and what stands behind it
+  -- an expression, and what stands after it
   expression_told : (t : Term) (e : Pieces) (rest : List Piece) → IsExpression L names t e → PiecesKept (all_plain e ++ rest) → TermTold file t × PiecesKept rest
   expression_told t e rest is kept = let k = all_apart KeptPiece (all_plain e) rest kept in (term_told level.whole 0 t e is.spelt (unplain e k.0), k.1)
 

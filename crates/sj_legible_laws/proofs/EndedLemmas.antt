@@ -1,4 +1,4 @@
--- A text with a newline behind it stands for the same file.
+-- A text with a newline after it stands for the same file.
 use Rattle.std.proofs.Common.{◌≡◌, ℕ, ◌-◌, List, [], ◌∷◌, ◌++◌, length, take, Option, Some, None, IfSome, ap, sym, ◌∙◌, append_assoc, arith}
 use Rattle.std.proofs.lemmas.List.{length-append}
 use Rattle.sj_lang.specs.FileAt.{FileAt}
@@ -7,7 +7,7 @@ use Rattle.sj_grammar.specs.Positions.{At, past, Takes, Piece, BeginsOnLines, st
 use Rattle.sj_grammar.specs.Files.{IsFile}
 use Rattle.sj_legible_laws.proofs.NewlineLemmas.{ended, ended_ahead, same_front, same_next}
 
--- where a reader stands, with a newline behind the text
+-- where a reader stands, with a newline after the text
 abbrev ended_reading : Reading → Reading
 ended_reading r = record { before = r.before; ahead = ended r.ahead }
 

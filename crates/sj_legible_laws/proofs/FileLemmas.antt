@@ -1,4 +1,5 @@
--- In a file that a text stands for each name is a word and the first of its table, and each text that was read is the first of its own.
+-- In a file that a text stands for each name is a word and the first of its table. Each text that
+-- was read is the first of its own.
 use Rattle.std.proofs.Common.{◌≡◌, ℕ, ◌<◌, ◌≤◌, true, List, [], ◌∷◌, length, slice_get, Some, ap, ◌∙◌, arith}
 use Rattle.std.specs.Prelude.{not}
 use Rattle.std.proofs.lemmas.Bool.{and_parts}

@@ -80,7 +80,7 @@ module _ (bytes : List ℕ) (file : FileAt) (few : length bytes ≤ file_limit) 
         from (inl lt) = lt
         from (inr le) = absurd (filled (within.outside q p (inl le)))
 
-    -- what is told of an event, and of its party
+    -- what is reported of an event, and of its party
     abbrev EventLegible : ℕ → Event → NoteAt → Type 0
     EventLegible p event note = HasParty file p × IsEvent file event note
 

@@ -1,4 +1,5 @@
--- What a line can tell of a world: its ends, messages and sessions are those of the file, and within the format's bounds.
+-- What a line can report of a world: its ends, messages and sessions are those of the file, and
+-- within the format's bounds.
 use Rattle.std.specs.Prelude.{◌≡◌, ℕ, ◌≤◌, ⊤, List, Some, None}
 use Rattle.std.specs.List.{AllByRecursion}
 use Rattle.sj_base.specs.declared.EndId.{EndId}
@@ -66,7 +67,7 @@ module _ (file : FileAt) where
     pub node : NodeTold Knows w.state
     pub posts : MailsTold w.posts
 
-  -- what a program that knows only of the file wants to tell
+  -- what a program that knows only of the file wants is legible
   abbrev pub WantTold : {P : Type 0} → Want P → Type 0
   WantTold ended = ⊤
   WantTold local = ⊤

@@ -1,4 +1,4 @@
--- A newline behind a text changes none of its tokens.
+-- A newline after a text changes none of its tokens.
 use Rattle.std.proofs.Common.{◌≡◌, ℕ, zero, suc, ◌+◌, ◌<◌, ◌≤◌, Bool, true, false, cond, List, [], ◌∷◌, ◌++◌, length, take, drop, if◌then◌else◌, refl, ap, ap₂, ◌∙◌, arith}
 use Rattle.std.specs.Prelude.{◌==◌, ◌&&◌, ◌||◌, not, nat_lt}
 use Rattle.std.specs.List.{prefix_len, take_while}
@@ -11,11 +11,11 @@ use Rattle.sj_grammar.specs.declared.tokens.Rule.TheVariants.{P2, P3, P5}
 use Rattle.sj_grammar.specs.Bytes.{is_blank, is_letter, is_digit, is_word_byte, is_inside, is_printable, is_comment, is_symbol, begins_with}
 use Rattle.sj_grammar.specs.Lexis.{Ahead, at_end, bad, token, cut, has_leading_zero, most, number_of, text_of, token_of, next_of, after_slash, in_comment}
 
--- the text with a newline behind it
+-- the text with a newline after it
 abbrev pub ended : List ℕ → List ℕ
 ended text = text ++ 10 ∷ []
 
--- what was ahead, with a newline behind it
+-- what was ahead, with a newline after it
 abbrev pub ended_ahead : Ahead → Ahead
 ended_ahead at_end = at_end
 ended_ahead (bad rule rest) = bad rule (ended rest)

@@ -1,4 +1,4 @@
--- What comes to a party leaves records that tell only ends and messages of the file.
+-- What comes to a party leaves records that have only ends and messages of the file.
 use Rattle.std.proofs.Common.{◌≡◌, ℕ, ◌==◌, ◌&&◌, [], ◌∷◌, ◌++◌, Option, Some, None, refl, arith}
 use Rattle.std.specs.Prelude.{is_none, ⊤}
 use Rattle.sj_base.specs.declared.EndId.{EndId}
@@ -104,7 +104,7 @@ module _ {P Q : Type 0} (file : FileAt) (Knows : Q → Type 0) where
           posts = tt;
         }))
 
-    -- what a Signal tells as taken is a count
+    -- what a Signal reports as taken is a count
     abbrev pub TellsFew : BodyAt P → Type 0
     TellsFew (Signal to conn party taken) = IsCount taken
     TellsFew _ = ⊤

@@ -1,4 +1,4 @@
--- A file with a log behind it is parted there.
+-- A file with a log after it is split there.
 use Rattle.std.proofs.Common.{◌≡◌, ℕ, ◌≤◌, Bool, true, false, List, [], ◌∷◌, ◌++◌, length, inl, inr, refl, ap, ◌∙◌, subst, arith}
 use Rattle.std.specs.Prelude.{◌==◌, codes}
 use Rattle.sj_lang.specs.FileAt.{FileAt}
@@ -20,7 +20,7 @@ read_free (p ∷ ps) a b at h whole =
 pub file_free : (text : List ℕ) (file : FileAt) → IsFile text file → IsFree true text
 file_free text file is = read_free is.pieces (start text [] []) is.end true is.begins is.whole
 
--- whether a line begins behind these bytes
+-- whether a line begins after these bytes
 abbrev begins_line : Bool → List ℕ → Bool
 begins_line at [] = at
 begins_line at (b ∷ bs) = begins_line (b == 10) bs
@@ -33,7 +33,7 @@ lines_begin : (text : List ℕ) → AreLines text → begins_line true text ≡ 
 lines_begin text (inl e) = ap (begins_line true) e
 lines_begin text (inr (front, e)) = ap (begins_line true) e ∙ behind_newline true front
 
--- a line that begins with a percent sign stands behind all of a file
+-- a line that begins with a percent sign stands after all of a file
 no_earlier : (at : Bool) (text other tail rest : List ℕ) → IsFree at text → begins_line at other ≡ true → text ++ rest ≡ other ++ 37 ∷ tail → length text ≤ length other
 no_earlier at [] other tail rest free line e = omega arith
 no_earlier at (b ∷ bs) [] tail rest free line e = let same : b ≡ 37 = cc in absurd (free.0 line same)

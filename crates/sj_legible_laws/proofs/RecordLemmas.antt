@@ -1,4 +1,4 @@
--- A node's records and what is offered to it tell no more where what is put there doesn't.
+-- A node's records and what is offered to it stay legible where what is put there is.
 use Rattle.std.proofs.Common.{◌≡◌, ℕ, ◌==◌, Bool, true, false, cond, List, Option, Some, None, refl, sym, subst}
 use Rattle.std.specs.List.{AllByRecursion}
 use Rattle.std.proofs.lemmas.Bool.{eqb-true}

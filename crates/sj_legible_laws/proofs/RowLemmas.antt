@@ -1,4 +1,4 @@
--- The rows tell only ends and messages that they were told.
+-- The rows have only ends and messages that came to them.
 use Rattle.std.proofs.Common.{◌≡◌, ℕ, zero, suc, ◌+◌, ◌-◌, ◌==◌, nat_lt, false, not, ◌&&◌, List, [], ◌∷◌, length, drop, Option, Some, None, option_map, option_and_then, refl, arith}
 use Rattle.std.specs.Prelude.{nat_le}
 use Rattle.std.specs.List.{AllByRecursion}
@@ -13,7 +13,7 @@ use Rattle.sj_rules_laws.proofs.WithinRowLemmas.{by_map, by_test, by_some}
 use Rattle.sj_log.specs.Legible.{IsCount, IsEnd, IsMessage}
 use Rattle.sj_legible_laws.proofs.LegibleParts.{AreMessages, EndTold, BodyTold, MailTold, MailsTold}
 
--- what holds of all holds of those behind the first few
+-- what holds of all holds of those after the first few
 pub all_behind : {X : Type 0} → (P : X → Type 0) (n : ℕ) (xs : List X) → AllByRecursion P xs → AllByRecursion P (drop n xs)
 all_behind P zero xs all = all
 all_behind P (suc n) [] all = tt

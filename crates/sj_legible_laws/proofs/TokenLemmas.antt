@@ -1,4 +1,4 @@
--- No line of a token begins with a percent sign, and what stands behind it begins no line.
+-- No line of a token begins with a percent sign, and what stands after it begins no line.
 use Rattle.std.proofs.Common.{◌≡◌, ◌≢◌, ℕ, zero, suc, ◌+◌, Bool, true, false, cond, List, [], ◌∷◌, length, take, drop, if◌then◌else◌, refl, ap, sym, ◌∙◌, subst, arith}
 use Rattle.std.specs.Prelude.{◌==◌, ◌&&◌, ◌||◌, not, nat_lt}
 use Rattle.std.specs.List.{prefix_len, take_while}
@@ -10,7 +10,7 @@ use Rattle.sj_grammar.specs.declared.tokens.Rule.TheVariants.{P2, P3, P5}
 use Rattle.sj_grammar.specs.Bytes.{is_letter, is_digit, is_word_byte, is_inside, is_printable, is_symbol, begins_with}
 use Rattle.sj_grammar.specs.Lexis.{bad, token, cut, has_leading_zero, most, number_of, text_of, token_of}
 
--- no line begins so; whether the first byte begins one is told
+-- no line begins so; whether the first byte begins one is given
 abbrev pub IsFree : Bool → List ℕ → Type 0
 IsFree at [] = Unit {0}
 IsFree at (b ∷ bs) = (at ≡ true → b ≢ 37) × IsFree (b == 10) bs
@@ -26,7 +26,7 @@ same_line b bs other free = by (b == 10) refl
     by true is = absurd (other (eqb-true b 10 is))
     by false is = free
 
--- bytes of one kind, and what stands behind them
+-- bytes of one kind, and what stands after them
 free_run : (p : ℕ → Bool) → p 10 ≡ false → (xs : List ℕ) → IsFree false (drop (prefix_len p xs) xs) → IsFree false xs
 free_run p none [] free = free
 free_run p none (x ∷ xs) free = by (p x) refl free (free_run p none xs)
@@ -51,7 +51,7 @@ long_run p (x ∷ xs) = by (p x) (long_run p xs)
 begun : (p : ℕ → Bool) (at : Bool) (b : ℕ) (bs : List ℕ) → p 37 ≡ false → p b ≡ true → IsFree false (b ∷ bs) → IsFree at (b ∷ bs)
 begun p at b bs none is free = (λ e. other_byte p b 37 none is, free.1)
 
--- what stands behind a token that is cut off
+-- what stands after a token that is cut off
 behind : (w what : What) (n : ℕ) (text s rest : List ℕ) → cut w n text ≡ token what s rest → drop n text ≡ rest
 behind w what n text s rest e = cc
 
@@ -74,7 +74,7 @@ module _ (what : What) (s rest : List ℕ) (free : IsFree false rest) where
           begun is_digit at b bs refl is (free_run is_digit refl (b ∷ bs)
           (subst (λ (n : ℕ). IsFree false (drop n (b ∷ bs))) (long_run is_digit (b ∷ bs)) (free_cut (Number (digits_value 10 (take_while is_digit (b ∷ bs)))) (length (take_while is_digit (b ∷ bs))) (b ∷ bs) k)))
 
-  -- the quote that closes a text, and what stands behind it
+  -- the quote that closes a text, and what stands after it
   closing : (xs : List ℕ) → begins_with 34 xs ≡ true → IsFree false (drop 1 xs) → IsFree false xs
   closing [] is h = tt
   closing (x ∷ xs) is h = (λ e. cc, same_line x xs (other_byte (λ c. c == 34) x 10 refl is) h)

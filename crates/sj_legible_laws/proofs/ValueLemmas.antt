@@ -83,7 +83,7 @@ module _ (file : FileAt) where
   worth_told vars (terms.two op e f) v known told h =
       through (worth vars e) (λ a. option_and_then (result_of op a) (worth vars f)) v (λ a k. through (worth vars f) (result_of op a) v (λ b t. result_told op a b v t) k) h
 
-  -- a variable gets a value that is told
+  -- a variable gets a value that is legible
   with_told : (vars : Vars) (n : ℕ) (v : Value) → VarsTold file vars → ValueTold file v → VarsTold file (with_value vars n v)
   with_told vars n v known told m x h = by (m == n) h
     where

@@ -1,4 +1,4 @@
--- Each event leaves a world that tells only of the file.
+-- Each event leaves a world that has only what is the file's.
 use Rattle.std.proofs.Common.{◌≡◌, ℕ, ◌+◌, ◌<◌, ◌≤◌, ◌==◌, Bool, true, false, ◌&&◌, cond, List, [], ◌∷◌, ◌++◌, map, max, Some, None, refl, ap, sym, ◌∙◌, subst, arith, inl, inr, ◌⊎◌}
 use Rattle.std.specs.Prelude.{nat_le, nat_lt}
 use Rattle.std.specs.List.{filter}
@@ -19,7 +19,7 @@ use Rattle.sj_legible_laws.proofs.LegibleParts.{BodyTold, MailsTold, FramesTold,
 use Rattle.sj_legible_laws.proofs.NodeLemmas.{TellsFew, comes_told}
 use Rattle.sj_legible_laws.proofs.ActLemmas.{acts_told}
 
--- what a proper Signal tells as taken is a count
+-- what a proper Signal reports as taken is a count
 proper_tells : {P Q : Type 0} (file : FileAt) (Knows : Q → Type 0) (pick : ℕ → ℕ → ℕ) (m : NodeAt P Q) (all : NodeTold file Knows m) (origin : ℕ) (from : HasParty file origin) (n : ℕ) (b : BodyAt P)
     → is_within n b ≡ true → TellsFew file Knows pick m all origin from b
 proper_tells file Knows pick m all origin from n (Carry to conn number taken msg) h = tt

@@ -22,8 +22,9 @@ ghost use Rattle.sj_rules.specs.Rows.{IsPick};
 ghost use Rattle.sj_rules.specs.World.{WorldAt};
 ghost use Rattle.sj_semantics.specs.Program.{Program};
 
-/// Each history of the core of an accepted file, which a text of a file's length stands for, is legible:
-/// its numbers are within the format's bounds, and its parties, labels and texts are names of the file.
+/// Each history of the core of an accepted file, which a text of a file's length stands for, is
+/// legible. Its numbers are within the format's bounds, and its parties, labels and texts are names
+/// of the file.
 pub fn the_history_of_a_run_is_legible()
     ensures { (text : List ℕ) (file : FileAt) (pick : ℕ → ℕ → ℕ) (history : List LineAt)
         (core : WorldAt Place Program) → length text ≤ file_limit → IsFile text file →
@@ -41,7 +42,7 @@ pub fn the_log_of_a_run_is_read_again()
 {}
 
 /// A text of a file that consists of whole lines, with the line of a version and a log after it, is
-/// split there, whatever the log is: no line of a file is `%%log` or `%%log2`.
+/// split there, whatever the log is. No line of a file is `%%log` or `%%log2`.
 pub fn a_file_and_its_log_are_parted_there()
     ensures { (text log : List ℕ) (file : FileAt) (version : ℕ) → IsFile text file →
         AreLines text → IsVersion version →

@@ -1,4 +1,4 @@
--- A source is parted at its first line `%%log` or `%%log2`, in one way.
+-- A source is split at its first line `%%log` or `%%log2`, in one way.
 use Rattle.std.proofs.Common.{◌≡◌, ◌∙◌, ◌+◌, ◌<◌, ◌≤◌, ℕ, List, [], ◌++◌, length, take, drop, Some, None, get_or, inl, inr, refl, sym, ap, subst, arith, take-append-drop, append_assoc, length-append, length-take, length-take-le}
 use Rattle.std.specs.Prelude.{codes}
 use Rattle.std.proofs.Math.Seq.{drop-append_seam, take-append_seam}
@@ -19,7 +19,7 @@ module _ (mark source : List ℕ) where
   marked_first here = (record { lines = inl refl; whole = OccursAt-split source mark 0 here }, λ other rest part. omega arith)
 
   module _ (away : ¬ OccursAt source mark 0) where
-    -- else it stands behind the end of another
+    -- else it stands after the end of another
     line_occurs : (other rest : List ℕ) → IsMarked mark source other rest → (n : ℕ) × (length other ≡ n + 1) × OccursAt source (codes "\n" ++ mark) n
     line_occurs other rest part =
         elim part.lines [
@@ -33,7 +33,7 @@ module _ (mark source : List ℕ) where
           )
         ]
 
-    -- it stands behind the end of a line, there first
+    -- it stands after the end of a line, there first
     pub marked_behind : (at : ℕ) → OccursAt source (codes "\n" ++ mark) at → Nowhere (OccursAt source (codes "\n" ++ mark)) 0 at → IsFirst mark source (Some (at + 1))
     marked_behind at here none =
         let front = take at source in
@@ -108,7 +108,7 @@ front_of source text version log part = ap (take (length text)) part.marked.whol
 back_of : (source text : List ℕ) (version : ℕ) (log : List ℕ) → IsPart source text version log → drop (length text) source ≡ mark_of version ++ log
 back_of source text version log part = ap (drop (length text)) part.marked.whole ∙ drop-append_seam text (mark_of version ++ log)
 
--- a source is parted in one way
+-- a source is split in one way
 pub one_parting : (source text : List ℕ) (version : ℕ) (log : List ℕ) → IsParted source text version log
     → (other : List ℕ) (v : ℕ) (rest : List ℕ) → IsParted source other v rest → (text ≡ other) × ((version ≡ v) × (log ≡ rest))
 one_parting source text version log a other v rest b =

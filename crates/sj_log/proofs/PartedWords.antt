@@ -1,4 +1,4 @@
--- A line is parted into the words of which it was made.
+-- A line is split into the words of which it was made.
 use Rattle.std.proofs.Common.{◌≡◌, ℕ, ◌<◌, ◌≤◌, Bool, true, false, List, [], ◌∷◌, ◌++◌, length, get_or, refl, ap, sym, ◌∙◌, arith}
 use Rattle.std.specs.Prelude.{◌==◌, nat_lt, not, ⊤}
 use Rattle.std.specs.List.{All, list_all, slice_split, join_with_byte}

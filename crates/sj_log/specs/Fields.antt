@@ -10,7 +10,7 @@ use Rattle.sj_rules.specs.Limits.{clock_end}
 use Rattle.sj_log.specs.declared.refusal.LogRule.{LogRule}
 use Rattle.sj_log.specs.declared.refusal.LogRule.TheVariants.{L1, L2, L3, L4}
 
--- of the rules that one line breaks, the one with the least rank is told
+-- of the rules that one line breaks, the one with the least rank is reported
 abbrev pub rank : LogRule → ℕ
 rank L1 = 0
 rank L3 = 1
@@ -20,7 +20,7 @@ rank L4 = 3
 abbrev pub first_of : LogRule → LogRule → LogRule
 first_of r s = if nat_le (rank r) (rank s) then r else s
 
--- both values, or the rule that is told
+-- both values, or the rule that is reported
 unfoldable pub both : {A B : Type 0} → Result A LogRule → Result B LogRule → Result (A × B) LogRule
 both (Ok a) (Ok b) = Ok (a, b)
 both (Ok a) (Err s) = Err s
@@ -32,7 +32,7 @@ abbrev pub made : {A B : Type 0} → (A → B) → Result A LogRule → Result B
 made f (Ok a) = Ok (f a)
 made f (Err r) = Err r
 
--- the words of a line, parted at each single space
+-- the words of a line, split at each single space
 abbrev pub words_in : List ℕ → List (List ℕ)
 words_in line = slice_split (λ b. b == 32) line
 
@@ -50,12 +50,12 @@ abbrev pub word : List (List ℕ) → List ℕ
 word [] = []
 word (w ∷ ws) = w
 
--- the words behind it
+-- the words after it
 abbrev pub rest : List (List ℕ) → List (List ℕ)
 rest [] = []
 rest (w ∷ ws) = ws
 
--- the next word is read by the one, and the words behind it by the other
+-- the next word is read by the one, and the words after it by the other
 abbrev pub next : {A B : Type 0} → (List ℕ → Result A LogRule) → (List (List ℕ) → Result B LogRule) → List (List ℕ) → Result (A × B) LogRule
 next f g ws = both (f (word ws)) (g (rest ws))
 

@@ -26,13 +26,13 @@ line_read version file bytes =
     made (λ x. record { party = x.1.0; entry = record { clock = x.0; event = x.1.1.0; note = x.1.1.1 } })
     (next clock_read (next (party_read file) (event_read version file)) (words_in bytes))
 
--- a line and the lines behind it, or the first rule that is broken, with its line
+-- a line and the lines after it, or the first rule that is broken, with its line
 abbrev pub before : ℕ → Result LineAt LogRule → Result (List LineAt) (LogRule × ℕ) → Result (List LineAt) (LogRule × ℕ)
 before n (Err r) more = Err (r, n)
 before n (Ok l) (Err fault) = Err fault
 before n (Ok l) (Ok ls) = Ok (l ∷ ls)
 
--- behind the last newline nothing is left
+-- after the last newline nothing is left
 abbrev pub last_read : ℕ → List ℕ → Result (List LineAt) (LogRule × ℕ)
 last_read n [] = Ok []
 last_read n (b ∷ bs) = Err (L4, n)
@@ -43,7 +43,7 @@ lines_read version file n [] = Ok []
 lines_read version file n (x ∷ []) = last_read n x
 lines_read version file n (x ∷ y ∷ ys) = before n (line_read version file x) (lines_read version file (n + 1) (y ∷ ys))
 
--- a whole log of that version, parted at its newlines; lines count from 1
+-- a whole log of that version, split at its newlines; lines count from 1
 abbrev pub log_read : ℕ → FileAt → List ℕ → Result (List LineAt) (LogRule × ℕ)
 log_read version file bytes = lines_read version file 1 (slice_split (λ b. b == 10) bytes)
 
@@ -56,7 +56,7 @@ abbrev pub fault_of : Result (List LineAt) (LogRule × ℕ) → Option (ℕ × �
 fault_of (Ok lines) = None
 fault_of (Err fault) = Some (rule_number fault.0, fault.1)
 
--- the first line that isn't in the grammar breaks that rule; want of memory alone says nothing
+-- the first line that isn't in the grammar breaks that rule; `NoMemory` alone says nothing
 abbrev pub IsFault : ℕ → FileAt → List ℕ → LogRefusal → Type 0
 IsFault version file bytes refusals.NoMemory = ⊤
 IsFault version file bytes (refusals.At rule line) = fault_of (log_read version file bytes) ≡ Some (rule, line)

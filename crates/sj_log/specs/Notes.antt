@@ -31,7 +31,7 @@ message_read file ws =
 unfoldable pub offer_read : FileAt → List (List ℕ) → Result (ℕ × (ℕ × ⊤)) LogRule
 offer_read file ws = next count_read (next (party_read file) ended) ws
 
--- a session is opened or accepted, which a log of version 1 doesn't tell
+-- a session is opened or accepted, which a log of version 1 doesn't report
 unfoldable pub opening_read : ℕ → FileAt → List ℕ → List (List ℕ) → Result NoteAt LogRule
 opening_read version file w ws =
     if not (knows_openings version) then Err L1
@@ -39,7 +39,7 @@ opening_read version file w ws =
     else (if bytes_eq w (codes "accept") then made (λ x. Accept x.0 x.1.0) (offer_read file ws)
     else Err L1))
 
--- what a party did, by that word and those behind it, in a log of that version
+-- what a party did, by that word and those after it, in a log of that version
 unfoldable pub act_read : ℕ → FileAt → List ℕ → List (List ℕ) → Result NoteAt LogRule
 act_read version file w ws =
     if bytes_eq w (codes "local") then made (λ x. Local) (ended ws)
@@ -70,7 +70,7 @@ give_read file ws =
     made (λ x. Give x.0 x.1.0 x.1.1.0 x.1.1.1.0 x.1.1.1.1.0 x.1.1.1.1.1.0 x.1.1.1.1.1.1.0)
     (next end_read (next count_read (next (party_read file) counts_read)) ws)
 
--- a session that was opened comes, which a log of version 1 doesn't tell
+-- a session that was opened comes, which a log of version 1 doesn't report
 unfoldable pub open_read : ℕ → List ℕ → List (List ℕ) → Result NoteAt LogRule
 open_read version w ws =
     if not (knows_openings version) then Err L1

@@ -6,12 +6,12 @@ pub use Rattle.sj_print.specs.Version.{IsVersion, mark_of}
 abbrev pub AreLines : List ℕ → Type 0
 AreLines bytes = (bytes ≡ []) ⊎ ((front : List ℕ) × (bytes ≡ front ++ codes "\n"))
 
--- that line stands behind the text, and before the log
+-- that line stands after the text, and before the log
 pub record IsMarked (mark source text log : List ℕ) : Type 0 where
   pub lines : AreLines text
   pub whole : source ≡ text ++ (mark ++ log)
 
--- it stands first behind so many bytes, or nowhere
+-- it stands first after so many bytes, or nowhere
 abbrev pub IsFirst : (mark source : List ℕ) → Option ℕ → Type 0
 IsFirst mark source (Some at) = IsMarked mark source (take at source) (drop (at + length mark) source)
     × ((other rest : List ℕ) → IsMarked mark source other rest → at ≤ length other)

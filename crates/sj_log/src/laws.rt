@@ -9,9 +9,9 @@ ghost use Rattle.sj_log.specs.Parts.{IsParted};
 ghost use Rattle.sj_log.specs.LogText.{SpellsLog};
 ghost use Rattle.sj_log.specs.Legible.{AreLegible};
 
-/// What `print_line` prints of lines, one after the other, is read as those lines, in their version and
-/// in each later one, where their numbers are within the format's bounds and their names are names of
-/// the file.
+/// What `print_line` prints of lines, one after the other, is read as those lines, in their version
+/// and in each later one. Their numbers must be within the format's bounds, and their names be
+/// names of the file.
 pub fn printed_lines_are_read()
     ensures { (version : ℕ) (file : FileAt) (lines : List LineAt) → version_of lines ≤ version
         → AreLegible file lines → SpellsLog version file (log_text file lines) lines }

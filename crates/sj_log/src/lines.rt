@@ -71,10 +71,10 @@ fn line(version: u8, file: &File, bytes: &[u8]) -> Result<Line, LogRule>
 }
 
 /// The lines of a log of that version and of at most 16,777,216 bytes, for the names of a file. In version 1
-/// a line of a session that is opened at run time has no form. Where the bytes are no log, the first line
-/// that isn't in the grammar is refused; of its broken rules L4 is reported before L1, L1 before L3, and
-/// L3 before L2. Takes time linear in the bytes, but for the look-up of names, which takes time logarithmic
-/// in the number of the file's words.
+/// a line of a session that is opened at run time has no form. Where the bytes are no log, the
+/// first line that isn't in the grammar is refused. Of its broken rules L4 is reported before L1,
+/// L1 before L3, and L3 before L2. Takes time linear in the bytes, but for the look-up of names,
+/// which takes time logarithmic in the number of the file's words.
 pub fn read_log(
     alloc: Global,
     bytes: &[u8],

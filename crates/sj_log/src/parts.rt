@@ -5,9 +5,9 @@ ghost use Rattle.sj_log.specs.Parts.{HasNoPart, IsFirst, IsParted};
 use memchr::arch::all::is_prefix;
 use memchr::memmem;
 
-/// The text of the file, the version of the log, and the log, split at the first line that is exactly
-/// `%%log`, for version 1, or `%%log2`, for version 2, with its newline. None where there is no such line.
-/// Takes time linear in the bytes, and no memory.
+/// The text of the file, the version of the log, and the log. They are split at the first line that
+/// is exactly `%%log`, for version 1, or `%%log2`, for version 2, with its newline. None where
+/// there is no such line. Takes time linear in the bytes, and no memory.
 pub fn parted(source: &[u8]) -> Option<(&[u8], u8, &[u8])>
     ensures some { IfSome result (λ p. IsParted source.now p.0.now p.1 p.2.now) }
     ensures none { result ≡ None → HasNoPart source.now }
@@ -28,8 +28,8 @@ pub fn parted(source: &[u8]) -> Option<(&[u8], u8, &[u8])>
     }
 }
 
-/// Behind how many bytes that line stands first; None where no line is that one. The line is given with
-/// its newline, alone and after the newline of another.
+/// After how many bytes that line stands first; None where no line is that one. The line is given
+/// with its newline, alone and after the newline of another.
 pub fn line_at(source: &[u8], mark: &[u8], inner: &[u8]) -> Option<usize>
     requires { inner.now ≡ codes "\n" ++ mark.now }
     ensures { IsFirst mark.now source.now result }

@@ -33,8 +33,9 @@ pub(crate) fn number_of(rule: LogRule) -> u8
 /// Why bytes aren't read as a log.
 #[derive(Clone, Copy, Debug, PartialEq, Eq)]
 pub enum LogRefusal {
-    /// The first line outside the grammar, by its number from 1 on, and the rule that it breaks: 1 for no
-    /// form of a line, 2 for an unknown name, 3 for a wrong number, 4 for a line without its newline.
+    /// The first line outside the grammar, by its number from 1 on, and the rule that it breaks.
+    /// The rule is 1 for no form of a line, 2 for an unknown name, 3 for a wrong number, 4 for a
+    /// line without its newline.
     At { rule: u8, line: u32 },
     NoMemory,
 }

@@ -1,4 +1,4 @@
-//! Expressions at the front of a text, and what comes next.
+//! Expressions with which a text begins, and what comes next.
 
 use sj_expr::parse_expression;
 use sj_lang::{Expr, Names, Op};

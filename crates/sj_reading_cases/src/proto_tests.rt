@@ -1,4 +1,4 @@
-//! A protocol, protocols at the front of a text, and tokens.
+//! A protocol, protocols with which a text begins, and tokens.
 
 use sj_lang::Names;
 use sj_proto::{Tokens, What, parse_protocol, parse_protocols, print_protocol};

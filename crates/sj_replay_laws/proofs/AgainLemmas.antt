@@ -1,4 +1,4 @@
--- What `run --log` tells of a file is told of the replay of its log.
+-- What `run --log` reports of a file is reported of the replay of its log.
 use Rattle.std.proofs.Common.{◌≡◌, ℕ, ◌≤◌, max, Bool, true, false, cond, List, [], ◌++◌, length, drop, Option, inl, inr, refl, ap, sym, ◌∙◌, subst, arith, append-nil}
 use Rattle.std.specs.List.{list_any}
 use Rattle.std.proofs.Math.Seq.{drop-append_seam}
@@ -45,7 +45,7 @@ version_known history = by (list_any (λ l. is_opening l.entry.note) history)
     by true = inr refl
     by false = inl refl
 
--- how a file was run, and that its log was told
+-- how a file was run, and that its log was reported
 record WasRun (file : FileAt) (verdict : Verdict) (answer : List ℕ) : Type 0 where
   links : LinkUseAt
   looks : ℕ
@@ -65,7 +65,7 @@ module _ (text : List ℕ) (file : FileAt) (stands : IsFile text file) (verdict 
 
 -- of the text that is replayed
 module _ (text : List ℕ) (file : FileAt) (stands : IsFile text file) (verdict : Verdict) (answer : List ℕ) where
-  -- a replay of what was told has the same history
+  -- a replay of what was reported has the same history
   replayed : (d : CallAt) (few : length text ≤ file_limit) (lines : AreLines text) (log : List ℕ) → answer ≡ transcript_of file (end_of file) ++ log → WasRun file verdict answer
       → ReplaysAll d (text ++ log) → IsInTable d (Ran verdict answer)
   replayed d few lines log told w r =

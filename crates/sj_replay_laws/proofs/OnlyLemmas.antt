@@ -1,4 +1,4 @@
--- Nothing else is told of the replay of a log.
+-- Nothing else is reported of the replay of a log.
 use Rattle.std.proofs.Common.{◌≡◌, ℕ, true, List, ◌++◌, Some, inl, inr, subst}
 use Rattle.sj_lang.specs.FileAt.{FileAt}
 use Rattle.sj_semantics.specs.declared.Verdict.{Verdict}

@@ -1,4 +1,5 @@
--- Two calls: the one runs a file and tells the log of the run, the other replays that log behind the file.
+-- Two calls: the one runs a file and reports the log of the run, the other replays that log after
+-- the file.
 use Rattle.std.specs.Prelude.{◌≡◌, ◌⊎◌, ℕ, ◌≤◌, true, List, ◌++◌, length, codes, Some}
 use Rattle.sj_lang.specs.FileAt.{FileAt}
 use Rattle.sj_lang.specs.Limits.{file_limit}
@@ -15,18 +16,18 @@ use Rattle.sj_tool.specs.Calls.{CallAt}
 use Rattle.sj_tool.specs.Table.{LogsRun}
 use Rattle.sj_tool.specs.Tasks.{AsksFor, IsRead}
 
--- what is told of a run of a file: how it ended, its transcript, and the log behind it
+-- what is reported of a run of a file: how it ended, its transcript, and the log after it
 abbrev pub told_of : FileAt → Verdict → (log : List ℕ) → AnswerAt
 told_of file verdict log = Ran verdict (transcript_of file (end_of file) ++ log)
 
--- `run --log` tells that of the file that its source holds
+-- `run --log` reports that of the file that its source holds
 pub record TellsLog (c : CallAt) (text : List ℕ) (file : FileAt) (verdict : Verdict) (log : List ℕ) : Type 0 where
   pub asks : AsksFor LogsRun c
   pub left : c.left ≡ Some text
   pub stands : IsFile text file
   pub told : IsInTable c (told_of file verdict log)
 
--- the text in whole lines: as it is, or with a newline behind its last line; a file may be so long
+-- the text in whole lines: as it is, or with a newline after its last line; a file may be so long
 pub record IsInLines (text whole : List ℕ) : Type 0 where
   pub same : (whole ≡ text) ⊎ (whole ≡ text ++ codes "\n")
   pub lines : AreLines whole

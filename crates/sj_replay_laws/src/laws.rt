@@ -14,8 +14,9 @@ ghost use Rattle.sj_tool.specs.Table.{CanRise};
 ghost use Rattle.sj_tool.specs.Texts.{status_of, text_of};
 ghost use Rattle.sj_replay_laws.specs.Again.{IsInLines, ReplaysAll, TellsLog, told_of};
 
-/// What `run --log` prints of a file is in the table of a call of `replay --log` that reads the text of
-/// the file in whole lines and, after it, the log as it was printed: the same status and the same text.
+/// A call of `replay --log` may read the text of a file in whole lines and, after it, the log as
+/// `run --log` printed it. What `run --log` prints of the file is in that call's table: the same
+/// status and the same text.
 pub fn a_log_is_replayed_as_it_was_told()
     ensures { (c d : CallAt) (text whole log : List ℕ) (file : FileAt) (verdict : Verdict) →
         TellsLog c text file verdict log → IsInLines text whole →

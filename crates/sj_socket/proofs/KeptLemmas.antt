@@ -47,7 +47,7 @@ fell_none f a b at = absurd (cc at)
 fell_some : {X : Type 0} (f : X → ℕ) (x y : X) → f x ≤ f y → Fell f (Some x) (Some y)
 fell_some f x y le a b at bt = let p : x ≡ a = cc at in let q : y ≡ b = cc bt in rw (← p, ← q) le
 
--- a lane that tells no list
+-- a lane that reports no list
 abbrev pub Untold : Type 0
 Untold = Option (List (FrameAt Place))
 

@@ -1,4 +1,4 @@
--- A frame at the front of bytes stays there, whatever comes after them.
+-- A frame with which bytes begin stays there, whatever comes after them.
 use Rattle.std.proofs.Common.{◌≡◌, ℕ, ◌≤◌, Bool, true, false, ◌||◌, cond, ltb, List, ◌++◌, length, take, drop, slice_index, Option, Some, None, refl, ap, ◌∙◌, arith}
 use Rattle.std.proofs.lemmas.Bool.{ltb-false, le-ltb}
 use Rattle.std.proofs.lemmas.List.{drop-append-le, take-append-le, length-append}

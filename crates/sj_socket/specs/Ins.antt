@@ -15,13 +15,14 @@ abbrev pub unused : {R : Type 0} → Reader R → List ℕ
 unused r = r.decoder ++ r.piece
 
 module _ {R : Type 0} (remaining : R → Option (List ℕ)) where
-  -- some bytes came of the stream, after those that were there; where it tells what it has left, it lost what came
+  -- some bytes came of the stream, after those that were there; where it reports what it has left,
+  -- it lost what came
   pub record Comes (v : Reader R) (bytes : List ℕ) (w : Reader R) : Type 0 where
     pub came : List ℕ
     pub all : bytes ≡ unused v ++ came
     pub left : Consumes (remaining v.stream) (remaining w.stream) came
 
-  -- the frame stands at the front of what came, and only what is after it is left
+  -- what came begins with the frame, and only what is after it is left
   pub record FrameComes (v : Reader R) (f : Frame) (w : Reader R) : Type 0 where
     pub bytes : List ℕ
     pub comes : Comes v bytes w
@@ -39,7 +40,7 @@ module _ {R : Type 0} (remaining : R → Option (List ℕ)) where
   WayReads (ways.Stream v) (ways.Own ys) = ⊥
   WayReads (ways.Stream v) (ways.Stream w) = Comes v (unused w) w
 
-  -- the frame is the one at the front of what came of the stream, or the first of the list
+  -- the frame is the one with which what came of the stream begins, or the first of the list
   abbrev pub IsGiven : SocketIn R → Frame → SocketIn R → Type 0
   IsGiven a f b = WayGives a.way f b.way
 

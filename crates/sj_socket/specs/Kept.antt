@@ -35,7 +35,7 @@ pub record AreCarried (lanes later : List (Lanes TcpOut TcpIn)) : Type 0 where
   pub outs : (p q : ℕ) (o r : TcpOut) → out_at lanes p q ≡ Some o → out_at later p q ≡ Some r → WayFlushes told o.way r.way
   pub ins : (p q : ℕ) (i j : TcpIn) → in_at lanes p q ≡ Some i → in_at later p q ≡ Some j → WayStays i.way j.way
 
--- what links show that don't tell: no frames, and no calls in vain
+-- what links show that don't report: no frames, and no calls in vain
 abbrev pub untold : List (FrameAt Place)
 untold = []
 

@@ -15,7 +15,8 @@ abbrev pub unsent : {W : Type 0} → Writer W → List ℕ
 unsent w = drop w.gone w.rest.items
 
 module _ {W : Type 0} (contents : W → Option (List ℕ)) where
-  -- the stream took a prefix of the bytes, and the others are left; where it tells what it has, that grew by what it took
+  -- the stream took a prefix of the bytes, and the others are left; where it reports what it has,
+  -- that grew by what it took
   pub record Writes (bytes : List ℕ) (v w : Writer W) : Type 0 where
     pub taken : List ℕ
     pub all : bytes ≡ taken ++ unsent w

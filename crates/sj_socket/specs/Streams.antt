@@ -10,6 +10,6 @@ TcpOut = SocketOut TcpStream
 abbrev pub TcpIn : Type 0
 TcpIn = SocketIn TcpStream
 
--- what a stream of the system tells of what it has: nothing
+-- what a stream of the system reports of what it has: nothing
 abbrev pub told : TcpStream → Option (List ℕ)
 told s = None

@@ -43,7 +43,7 @@ pub struct SocketIn<R: Read + Drop> {
     pub(crate) vain: u64,
 }
 
-/// The frame at the front of what was fed. That it is no frame is a fault.
+/// The first frame of what was fed. Bytes that are no frame are a fault.
 fn decode(decoder: &mut Decoder) -> Result<Option<Frame>, PopRefusal>
     ensures frame { IfOk result
         (λ x. IfSome x (λ f. front_of decoder.old ≡ Whole (frame_at f) decoder.new)) }

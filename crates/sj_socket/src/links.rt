@@ -25,8 +25,8 @@ pub type TcpOut = SocketOut<TcpStream>;
 /// A lane from a party.
 pub type TcpIn = SocketIn<TcpStream>;
 
-/// Links of one stream for each ordered pair of different parties, between ports of 127.0.0.1 that the
-/// system chooses, and of a list for what a party sends to itself, which comes by `carry` alone.
+/// Links of one stream for each ordered pair of different parties, between ports of 127.0.0.1 that
+/// the system chooses. What a party sends to itself goes into a list, and comes by `carry` alone.
 #[derive(Drop)]
 pub struct SocketLinks<R: Net + Drop> {
     rt: R,

@@ -102,7 +102,7 @@ nothing_used t v x y m other is used = end_used t v x y m is (used ∙ sym (as_b
     as_before (msgs.Label n) other = ap (used_by t ((end_under t x, takes m) ∷ [])) (append-nil t.ends)
     as_before (msgs.More b) other = ap (used_by t ((end_under t x, takes m) ∷ [])) (append-nil t.ends)
 
--- an end under its name behind the others
+-- an end under its name after the others
 pub ends_more : (xs ys zs : List Bound) (b : Bound) (n : List ℕ) → zs ≡ ys ++ b ∷ [] → ys ≡ xs → b.name.items ≡ n → ends_at zs ≡ ends_at xs ++ (n, b.end) ∷ []
 ends_more xs ys zs b n put kept is =
     ap ends_at (put ∙ ap (λ es. es ++ b ∷ []) kept) ∙ map-append (λ (c : Bound). (c.name.items, c.end)) xs (b ∷ []) ∙ ap (λ m. ends_at xs ++ (m, b.end) ∷ []) is

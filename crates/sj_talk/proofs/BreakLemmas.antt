@@ -52,7 +52,7 @@ took_open file m old a b new first second same =
 abbrev pub refused_text : ℕ → ℕ → List ℕ
 refused_text n g = line_of (codes "refused" ∷ decimal n ∷ (71 ∷ decimal g) ∷ [])
 
--- what is ahead of it behind each of its parts
+-- what is ahead of it after each of its parts
 module _ (n g : ℕ) (old : List ℕ) where
   pub after_word : (a : List ℕ) → a ≡ old ++ codes "refused " → StillTo old (refused_text n g) (decimal n ++ (codes " G" ++ (decimal g ++ 10 ∷ []))) a
   after_word a e = one_more old (refused_text n g) (codes "refused ") (decimal n ++ (codes " G" ++ (decimal g ++ 10 ∷ []))) old a (none_yet old (refused_text n g)) e

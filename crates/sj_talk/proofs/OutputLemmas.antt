@@ -23,7 +23,7 @@ whole_line : (left : List ℕ) → 0 < length left → last_line left ≡ left �
 whole_line [] some = absurd (omega arith)
 whole_line (b ∷ bs) some = refl
 
--- the first line, and those behind its newline
+-- the first line, and those after its newline
 pub line_first : (left : List ℕ) (e : ℕ) → e ≡ position_or_len (λ b. b == 10) left → e < length left → lines_in left ≡ take e left ∷ lines_in (take (length left - (e + 1)) (drop (e + 1) left))
 line_first left e at lt =
     let parts : slice_split (λ b. b == 10) left ≡ take e left ∷ slice_split (λ b. b == 10) (drop (e + 1) left) = rw at (slice_split_first (λ b. b == 10) left 0 (omega arith)) in

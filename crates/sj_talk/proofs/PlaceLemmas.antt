@@ -26,7 +26,7 @@ pub empty_is : (xs : List Item) → (length xs == 0) ≡ is_done (place_of xs)
 empty_is [] = refl
 empty_is (i ∷ is) = some_there (length is) ∙ not_done i (place_of is)
 
--- what the test says where it is told of the definition
+-- what the test says where it agrees with the definition
 pub told_by : (r : Bool) (p q : Place) → IsTrue r ↔ StandsFor p q → r ≡ stands_for p q
 told_by true p q h = sym ((meets-Decides _ _).1 (h.0 refl))
 told_by false p q h = sym (false_from_ne_true (stands_for p q) (λ t. let wrong : false ≡ true = h.1 ((meets-Decides _ _).0 t) in cc))

@@ -33,14 +33,14 @@ abbrev pub bound_by : List ℕ → Msg → Ends
 bound_by y (msgs.Sess s d k) = (y, record { sess = s; side = d }) ∷ []
 bound_by y _ = []
 
--- the ends behind the line
+-- the ends after the line
 abbrev pub ends_after : TalkWorld → FormAt → Ends
 ends_after t (forms.delegate x y) = ends_without t.ends y
 ends_after t (forms.take_end x y) = t.ends ++ bound_by y (message_next t x)
 ends_after t (forms.close x) = ends_without t.ends x
 ends_after t _ = t.ends
 
--- the texts behind the line
+-- the texts after the line
 abbrev pub texts_after : TalkWorld → FormAt → List (List ℕ)
 texts_after t (forms.send x v) = texts_with t.file v
 texts_after t _ = t.file.texts
@@ -53,7 +53,7 @@ world_after_uses p us w = record { protocols = w.protocols; parties = w.parties;
 abbrev pub used_by : TalkWorld → List (EndId × Use) → Ends → TalkWorld
 used_by t us ends = record { file = t.file; party = t.party; world = world_after_uses t.party us t.world; ends = ends; lines = t.lines + 1 }
 
--- the talk world behind a line that is accepted
+-- the talk world after a line that is accepted
 abbrev pub after_form : TalkWorld → FormAt → TalkWorld
 after_form t f = with_table (used_by t (uses_of t f) (ends_after t f)) (texts_after t f)
 

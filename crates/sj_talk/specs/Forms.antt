@@ -77,7 +77,7 @@ with_name verb x y =
     else (if bytes_eq verb (codes "delegate") then Some (delegate x y)
     else (if bytes_eq verb (codes "take") then Some (take_end x y) else None))
 
--- a verb, an end, and the words behind it; a text may have spaces in it
+-- a verb, an end, and the words after it; a text may have spaces in it
 unfoldable pub with_words : List ℕ → List ℕ → List (List ℕ) → Option FormAt
 with_words verb x more =
     if bytes_eq verb (codes "send") then option_map (send x) (value_of (words_text more))

@@ -11,7 +11,7 @@ use Rattle.sj_talk.specs.Forms.{ValueAt}
 
 -- ---- tables
 
--- the table with the word, which is put behind the others where it isn't there
+-- the table with the word, which is put after the others where it isn't there
 abbrev pub with_word : List (List ℕ) → List ℕ → List (List ℕ)
 with_word ws w = if is_some (first_index w ws) then ws else ws ++ w ∷ []
 

@@ -26,7 +26,7 @@ pub record TalkWorld : Type 0 where
 
 -- ---- the start
 
--- no program among the parties of the file: nothing to do, no end, no step
+-- no program among the parties of the file: nothing to do, no end, and no steps
 abbrev pub no_program : FileAt → Program
 no_program file = record { todo = []; vars = no_vars; ends = []; steps = 0; peers = party_names file.parties }
 

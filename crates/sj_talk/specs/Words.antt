@@ -1,4 +1,4 @@
--- The words of a line, parted at each single space, and the lines of a text.
+-- The words of a line, split at each single space, and the lines of a text.
 use Rattle.std.specs.Prelude.{ℕ, ◌==◌, List, [], ◌∷◌, Option, Some, None}
 use Rattle.std.specs.List.{slice_split, join_with_byte}
 
@@ -20,12 +20,12 @@ abbrev pub word : List (List ℕ) → List ℕ
 word [] = []
 word (w ∷ ws) = w
 
--- the words behind it
+-- the words after it
 abbrev pub rest : List (List ℕ) → List (List ℕ)
 rest [] = []
 rest (w ∷ ws) = ws
 
--- behind the last newline stands a line where anything stands there
+-- after the last newline stands a line where anything stands there
 abbrev pub last_line : List ℕ → List (List ℕ)
 last_line [] = []
 last_line (b ∷ bs) = (b ∷ bs) ∷ []

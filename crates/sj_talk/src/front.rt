@@ -35,7 +35,7 @@ impl Front<'_> {
     }
 }
 
-/// What stands first at the end; nothing where there are no sessions up to its own. Want of memory is
+/// What stands first at the end; nothing where there are no sessions up to its own. `NoMemory` is
 /// answered only where the end waits for its session to be accepted.
 pub fn front_at<'a>(
     alloc: Global,

@@ -19,10 +19,10 @@ use sj_print::{print_message, print_verdict};
 use sj_semantics::Verdict;
 use sj_text::{put, put_number};
 
-/// Plays the lines of the text, and appends to the other text what is printed: for each line `ok`,
-/// `took` and the message, or `refused`, the line's number and the rule, and last the verdict. A last
-/// line may stand without its newline. Out of memory some lines are done and printed. Of the next one
-/// nothing is printed, or it is done and printed in part.
+/// Plays the lines of the text, and appends to the other text what is printed. For each line that
+/// is `ok`, `took` and the message, or `refused`, the line's number and the rule. The verdict is
+/// last. A last line may stand without its newline. Out of memory some lines are done and printed.
+/// Of the next one nothing is printed, or it is done and printed in part.
 pub fn talk_lines(talk: &mut Talk, lines: &[u8], text: &mut Vec<u8>) -> Result<Verdict, NoMemory>
     ensures verdict { IfOk result (λ v. v ≡ talk_end (talk_of talk.old) lines.now) }
     ensures ok { OnOk result (talk_of talk.new

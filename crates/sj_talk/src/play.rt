@@ -23,8 +23,8 @@ use sj_semantics::Verdict;
 /// The most lines that are accepted.
 pub const MAX_LINES: u32 = 10_000;
 
-/// The file with the texts that lines added, the played party, the course of all parties, in which
-/// that one has nothing to do, the ends that it holds, and how many lines were accepted.
+/// The file with the texts that lines added, the played party, and the course of all parties, in
+/// which that one has nothing to do. The ends that it holds, and how many lines were accepted.
 #[derive(Drop)]
 pub struct Play {
     pub file: File,
@@ -164,8 +164,9 @@ impl Play {
         Ok(self.verdict())
     }
 
-    /// How all of it ends, where nobody can act: long where a party is at a limit, else blocked where
-    /// one hasn't ended, the played one holds an end, or an opened session wasn't accepted, else done.
+    /// How all of it ends, where nobody can act. Long, where a party is at a limit. Else blocked,
+    /// where one hasn't ended, the played one holds an end, or an opened session wasn't accepted.
+    /// Else done.
     fn verdict(&self) -> Verdict
         requires played { IsPlayed self.now }
         ensures { result ≡ talk_verdict (talk_at self.now) }

@@ -61,10 +61,10 @@ impl Talk {
         self.play.line(line)
     }
 
-    /// Lets the other parties act until none can, and answers how the talk ends: long where one is at
-    /// a limit, else blocked where one hasn't ended, an end is still bound at the played party, or an
-    /// opened session wasn't accepted, else done. Out of memory some acts of the others are done, and
-    /// nothing else.
+    /// Lets the other parties act until none can, and answers how the talk ends. Long, where one is
+    /// at a limit. Else blocked, where one hasn't ended, an end is still bound at the played party,
+    /// or an opened session wasn't accepted. Else done. Out of memory some acts of the others are
+    /// done, and nothing else.
     pub fn finish(&mut self) -> Result<Verdict, NoMemory>
         ensures verdict { IfOk result (λ v. v ≡ talk_verdict (talk_of self.new)) }
         ensures ok { OnOk result (talk_of self.new ≡ others_acted (talk_of self.old)) }
