@@ -1,0 +1,6 @@
+pub mod Limits
+pub mod Token
+pub mod Numbers
+pub mod Front
+pub mod Reads
+pub mod Spelling

@@ -1,0 +1,17 @@
+//! The part of the protocol RESP, version 2, that a client of a stream server needs: commands put into
+//! bytes, and the tokens of replies read from bytes, in whatever pieces they come.
+#![tactic(auto)]
+
+mod command;
+mod decoder;
+mod fronts;
+mod laws;
+mod numbers;
+mod refusal;
+mod token;
+
+pub use command::{put_command, put_word};
+pub use decoder::TokenDecoder;
+pub use laws::{a_length_is_read, a_refusal_stays, a_token_stays, bytes_are_read};
+pub use refusal::RespRefusal;
+pub use token::Token;
