@@ -13,9 +13,11 @@ use Rattle.sj_resp.specs.Numbers.{number_in}
 use Rattle.sj_resp.specs.Token.{Bulk}
 use Rattle.sj_resp.specs.Front.{Whole, bytes_of}
 
-not_below : (m n : ℕ) → m ≤ n → nat_lt n m ≡ false
+-- no test below where there is none
+pub not_below : (m n : ℕ) → m ≤ n → nat_lt n m ≡ false
 not_below m n h = grind (arith, nat_tests)
 
+-- a number that is put is read as that number
 pub number_back : (most n : ℕ) → n ≤ most → most < 2 ^ 64 → number_in 0 most (decimal n) ≡ Some n
 unfolding number_in
 number_back most n hi fit =
@@ -27,12 +29,12 @@ number_back most n hi fit =
     (rw (digits_value-decimal (numerals_by_value (AllDigits 10) tells_digits) n small)
     (rw (not_below 0 n lo) (rw (not_below n most hi) refl)))))
 
--- so many bytes and their end are read, whatever is behind
-pub bytes_back : (word behind : List ℕ) → bytes_of (length word) (word ++ 13 ∷ 10 ∷ behind) ≡ Whole (Bulk word) behind
+-- a bulk with its end of line is read, whatever follows
+pub bytes_back : (word rest : List ℕ) → bytes_of (length word) (word ++ 13 ∷ 10 ∷ rest) ≡ Whole (Bulk word) rest
 unfolding bytes_of
-bytes_back word behind =
-    let count : length (word ++ 13 ∷ 10 ∷ behind) ≡ length word + length (13 ∷ 10 ∷ behind) = length-append word (13 ∷ 10 ∷ behind) in
-    let long : length word + 2 ≤ length (word ++ 13 ∷ 10 ∷ behind) = omega (arith, count) in
-    let first : slice_index (word ++ 13 ∷ 10 ∷ behind) (length word) ≡ 13 = get_or-append_seam word 13 (10 ∷ behind) 0 in
-    let second : slice_index (word ++ 13 ∷ 10 ∷ behind) (length word + 1) ≡ 10 = get_or-append-add word (13 ∷ 10 ∷ behind) 1 0 in
-    rw (le-ltb (length (word ++ 13 ∷ 10 ∷ behind)) (length word + 2) long, first, second, take_at word (13 ∷ 10 ∷ behind) (length word) refl, drop-append-add word (13 ∷ 10 ∷ behind) 2) refl
+bytes_back word rest =
+    let count : length (word ++ 13 ∷ 10 ∷ rest) ≡ length word + length (13 ∷ 10 ∷ rest) = length-append word (13 ∷ 10 ∷ rest) in
+    let long : length word + 2 ≤ length (word ++ 13 ∷ 10 ∷ rest) = omega (arith, count) in
+    let first : slice_index (word ++ 13 ∷ 10 ∷ rest) (length word) ≡ 13 = get_or-append_seam word 13 (10 ∷ rest) 0 in
+    let second : slice_index (word ++ 13 ∷ 10 ∷ rest) (length word + 1) ≡ 10 = get_or-append-add word (13 ∷ 10 ∷ rest) 1 0 in
+    rw (le-ltb (length (word ++ 13 ∷ 10 ∷ rest)) (length word + 2) long, first, second, take_at word (13 ∷ 10 ∷ rest) (length word) refl, drop-append-add word (13 ∷ 10 ∷ rest) 2) refl

@@ -5,7 +5,7 @@ use Rattle.std.specs.Prelude.{ℕ, ◌^◌, ◌-◌}
 abbrev pub longest_line : ℕ
 longest_line = 65536
 
--- the most bytes that a length tells
+-- the greatest length of a bulk, in bytes
 abbrev pub most_bytes : ℕ
 most_bytes = 67108864
 

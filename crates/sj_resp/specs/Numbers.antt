@@ -4,9 +4,10 @@ use Rattle.std.specs.List.{list_all}
 use Rattle.std.specs.Str.Parse.{digits_value}
 use Rattle.sj_grammar.specs.Bytes.{is_digit, begins_with}
 use Rattle.sj_grammar.specs.Lexis.{has_leading_zero}
+use Rattle.sj_resp.specs.Bytes.{minus}
 use Rattle.sj_resp.specs.Limits.{last_int}
 
--- digits, without needless zeros, of a number within the bounds
+-- the number that digits without a leading zero write, where it is within the bounds
 unfoldable pub number_in : (least most : ℕ) → List ℕ → Option ℕ
 number_in least most ds =
     if not (nat_lt 0 (length ds) && list_all is_digit ds) then None
@@ -16,5 +17,5 @@ number_in least most ds =
 -- the same, with a minus before a negative number
 unfoldable pub int_in : List ℕ → Option ℤ
 int_in word =
-    if begins_with 45 word then option_map (λ n. negsuc (n - 1)) (number_in 1 (last_int + 1) (drop 1 word))
+    if begins_with minus word then option_map (λ n. negsuc (n - 1)) (number_in 1 (last_int + 1) (drop 1 word))
     else option_map pos (number_in 0 last_int word)

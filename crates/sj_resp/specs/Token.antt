@@ -3,6 +3,7 @@ use Rattle.std.specs.Prelude.{ℕ, ℤ, List}
 use Rattle.sj_resp.specs.declared.token.Token.{Token}
 use Rattle.sj_resp.specs.declared.token.Token.TheVariants as tokens
 
+-- a token, with its bytes and its number as plain values
 pub data TokenAt : Type 0 where
   Simple : List ℕ → TokenAt
   Failed : List ℕ → TokenAt
@@ -11,6 +12,7 @@ pub data TokenAt : Type 0 where
   Null : TokenAt
   Array : ℕ → TokenAt
 
+-- the plain value of a token
 abbrev pub token_at : Token → TokenAt
 token_at (tokens.Simple bytes) = Simple bytes.items
 token_at (tokens.Failed bytes) = Failed bytes.items

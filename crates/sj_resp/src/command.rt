@@ -1,11 +1,11 @@
-//! Commands, put into bytes: an array of words, each as bytes whose length is told.
+//! Commands as bytes: an array of words, each with its length before it.
 ghost use Rattle.std.specs.Prelude.{◌≡◌, ◌++◌, OnOk};
 ghost use Rattle.sj_resp.specs.Spelling.{head_text, word_text};
 
 use sj_base::NoMemory;
 use sj_text::{put, put_number};
 
-/// The head of a command of so many words, which follow it.
+/// Appends the head of a command of so many words. The caller puts the words after it.
 #[tactic(auto, unfolding(crate::specs::Spelling::head_text))]
 pub fn put_command(out: &mut Vec<u8>, words: u32) -> Result<(), NoMemory>
     ensures { OnOk result (out.new.items ≡ out.old.items ++ head_text words) }
@@ -15,7 +15,7 @@ pub fn put_command(out: &mut Vec<u8>, words: u32) -> Result<(), NoMemory>
     put(out, b"\r\n")
 }
 
-/// A word of a command: any bytes.
+/// Appends a word of a command. It may have any bytes.
 #[tactic(auto, unfolding(crate::specs::Spelling::word_text))]
 pub fn put_word(out: &mut Vec<u8>, word: &[u8]) -> Result<(), NoMemory>
     ensures { OnOk result (out.new.items ≡ out.old.items ++ word_text word.now) }

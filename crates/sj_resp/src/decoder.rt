@@ -1,4 +1,4 @@
-//! A stream of tokens, in whatever pieces it comes.
+//! A decoder of tokens, whose bytes come in pieces of any size.
 ghost use Rattle.std.specs.Prelude.{◌≡◌, ◌++◌, ◌≤◌, List, [], ℕ, drop, length, IfErr, IfNone, IfOk, IfSome, OnErr, OnOk};
 ghost use Rattle.sj_resp.specs.Front.{Cut, Whole, front_of};
 ghost use Rattle.sj_resp.specs.Reads.{IsRefused};
@@ -10,7 +10,7 @@ use sj_base::NoMemory;
 use std::alloc::Global;
 use std::marker::Model;
 
-/// The bytes that were fed and that no token has used up yet.
+/// Holds the bytes that were fed and that no token has used up.
 #[derive(Drop)]
 pub struct TokenDecoder {
     alloc: Global,
@@ -28,6 +28,7 @@ impl Model for TokenDecoder {
 }
 
 impl TokenDecoder {
+    /// A decoder without bytes.
     pub fn new(alloc: Global) -> TokenDecoder
         ensures { result ≡ [] }
     {
@@ -38,7 +39,7 @@ impl TokenDecoder {
         }
     }
 
-    /// Puts a piece of the stream behind what came before.
+    /// Appends a piece of the stream to the bytes that are left. Out of memory changes nothing.
     pub fn feed(&mut self, piece: &[u8]) -> Result<(), NoMemory>
         ensures ok { OnOk result (self.new ≡ self.old ++ piece.now) }
         ensures err { OnErr result (self.new ≡ self.old) }
@@ -48,8 +49,8 @@ impl TokenDecoder {
         Ok(())
     }
 
-    /// Drops the bytes that are used up where they are more than the others, so that no more bytes
-    /// are moved than were used up.
+    /// Drops the used bytes once they are more than the others. So a byte that is moved is paid for
+    /// by one that was used up.
     fn forget(&mut self)
         ensures { self.new ≡ self.old }
     {
@@ -61,8 +62,8 @@ impl TokenDecoder {
         }
     }
 
-    /// The next token. `None` is less than a token, and each refusal leaves all as it was: what is no
-    /// token stays so.
+    /// The next token. `None`: the bytes are less than a token, so feed more. A refusal changes nothing,
+    /// and unless it is out of memory, the next call refuses for the same cause.
     pub fn next(&mut self) -> Result<Option<Token>, RespRefusal>
         ensures token { IfOk result (λ x. IfSome x (λ t. front_of self.old ≡ Whole (token_at t) self.new)) }
         ensures none { IfOk result (λ x. IfNone x ((front_of self.old ≡ Cut) × (self.new ≡ self.old))) }

@@ -1,9 +1,10 @@
-//! What stands at the front of bytes.
+//! The token at the front of bytes.
 ghost use Rattle.std.specs.Prelude.{◌≡◌, ◌==◌, ◌+◌, ◌≤◌, length, drop, take, IfOk, IfErr, IfSome, IfNone};
 ghost use Rattle.std.specs.List.{position_or_len};
-ghost use Rattle.sj_resp.specs.Front.{Cut, bytes_of, front_of, is_kind as kinds, is_none, line_end, line_then, of_number, token_of as token_in};
+ghost use Rattle.sj_resp.specs.Front.{Cut, bytes_of, front_of, is_kind as kinds, is_null as null_line, line_end, line_then, of_number, token_of as token_in};
+ghost use Rattle.sj_resp.specs.Limits.{most_bytes};
 ghost use Rattle.sj_resp.specs.Numbers.{int_in, number_in};
-ghost use Rattle.sj_resp.specs.Reads.{MeetsBehind};
+ghost use Rattle.sj_resp.specs.Reads.{MeetsFront};
 ghost use Rattle.sj_resp.specs.Token as tokens;
 
 use crate::numbers::{int, number};
@@ -13,7 +14,7 @@ use std::alloc::Global;
 
 /// The most bytes of a line.
 const LONGEST_LINE: usize = 65_536;
-/// The most bytes that a length tells.
+/// The greatest length of a bulk, in bytes.
 const MOST_BYTES: u64 = 67_108_864;
 /// The most parts of an array.
 const MOST_PARTS: u64 = 16_777_216;
@@ -30,11 +31,11 @@ fn end_of_line(bytes: &[u8]) -> usize
     i
 }
 
-/// The bytes of that size at the front, with their end.
+/// The bulk of that size at the front, with the end of line after it.
 #[tactic(auto, unfolding(crate::specs::Front::bytes_of))]
 fn sized(alloc: Global, size: usize, bytes: &[u8]) -> Result<Option<(Token, usize)>, RespRefusal>
-    requires { size ≤ 67108864 }
-    ensures { MeetsBehind result (bytes_of size bytes.now) bytes.now }
+    requires { size ≤ most_bytes }
+    ensures { MeetsFront result (bytes_of size bytes.now) bytes.now }
 {
     if bytes.len() < size + 2 {
         return Ok(None);
@@ -46,22 +47,22 @@ fn sized(alloc: Global, size: usize, bytes: &[u8]) -> Result<Option<(Token, usiz
     Ok(Some((Token::Bulk(inside), size + 2)))
 }
 
-/// Whether a length or a count tells that nothing is there.
-fn tells_none(line: &[u8]) -> bool
-    ensures { result ≡ is_none line.now }
+/// Whether a length or a count stands for null.
+fn is_null(line: &[u8]) -> bool
+    ensures { result ≡ null_line line.now }
 {
     is(line, b"-1")
 }
 
-/// The token whose first byte and line are these, and how many of the bytes behind the line it takes.
+/// The token of that first byte and line, and how many of the bytes after the line it takes.
 #[tactic(auto, unfolding(crate::specs::Front::token_of))]
 fn token_of(
     alloc: Global,
     kind: u8,
     line: &[u8],
-    behind: &[u8],
+    rest: &[u8],
 ) -> Result<Option<(Token, usize)>, RespRefusal>
-    ensures { MeetsBehind result (token_in kind line.now behind.now) behind.now }
+    ensures { MeetsFront result (token_in kind line.now rest.now) rest.now }
 {
     if kind == b'+' {
         return Ok(Some((Token::Simple(Vec::from_slice(alloc, line)?), 0)));
@@ -75,12 +76,12 @@ fn token_of(
             None => Err(RespRefusal::Number),
         };
     }
-    if tells_none(line) {
+    if is_null(line) {
         return Ok(Some((Token::Null, 0)));
     }
     if kind == b'$' {
         return match number(0, MOST_BYTES, line) {
-            Some(size) => sized(alloc, size as usize, behind),
+            Some(size) => sized(alloc, size as usize, rest),
             None => Err(RespRefusal::Number),
         };
     }
@@ -90,16 +91,17 @@ fn token_of(
     }
 }
 
+/// Whether a token begins with the byte.
 fn is_kind(byte: u8) -> bool
     ensures { result ≡ kinds byte }
 {
     byte == b'+' || byte == b'-' || byte == b':' || byte == b'$' || byte == b'*'
 }
 
-/// The token of that kind, whose line and what stands behind it are these bytes.
+/// The token of that first byte, read from the line at the front of the bytes and from those after it.
 #[tactic(auto, unfolding(crate::specs::Front::line_then))]
 fn lined(alloc: Global, kind: u8, bytes: &[u8]) -> Result<Option<(Token, usize)>, RespRefusal>
-    ensures { MeetsBehind result (line_then (token_in kind) bytes.now) bytes.now }
+    ensures { MeetsFront result (line_then (token_in kind) bytes.now) bytes.now }
 {
     let at = end_of_line(bytes);
     if LONGEST_LINE < at {
@@ -118,10 +120,10 @@ fn lined(alloc: Global, kind: u8, bytes: &[u8]) -> Result<Option<(Token, usize)>
     }
 }
 
-/// The token at the front of the bytes, and how many bytes it takes. None is less than a token.
+/// The token at the front of the bytes, and how many bytes it takes. `None`: they are less than a token.
 #[tactic(auto, unfolding(crate::specs::Front::front_of))]
 pub(crate) fn front(alloc: Global, bytes: &[u8]) -> Result<Option<(Token, usize)>, RespRefusal>
-    ensures { MeetsBehind result (front_of bytes.now) bytes.now }
+    ensures { MeetsFront result (front_of bytes.now) bytes.now }
 {
     if bytes.is_empty() {
         return Ok(None);

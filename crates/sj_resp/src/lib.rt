@@ -1,5 +1,5 @@
-//! The part of the protocol RESP, version 2, that a client of a stream server needs: commands put into
-//! bytes, and the tokens of replies read from bytes, in whatever pieces they come.
+//! A codec for the part of the protocol RESP, version 2, that a client of a stream server needs:
+//! commands are put into bytes, and tokens of replies are read from bytes.
 #![tactic(auto)]
 
 mod command;
@@ -12,6 +12,11 @@ mod token;
 
 pub use command::{put_command, put_word};
 pub use decoder::TokenDecoder;
-pub use laws::{a_length_is_read, a_refusal_stays, a_token_stays, bytes_are_read};
+pub use laws::{
+    a_command_is_read, a_length_is_read, a_refusal_stays, a_token_stays, bytes_are_read,
+};
 pub use refusal::RespRefusal;
 pub use token::Token;
+
+#[cfg(test)]
+mod tests;

@@ -1,30 +1,31 @@
-//! Why bytes are no token.
+//! Why bytes aren't read as a token.
 ghost use Rattle.std.specs.Prelude.{◌≡◌};
 
 use sj_base::NoMemory;
 use std::alloc::AllocError;
 use thiserror::Error;
 
-/// Why what stands at the front of the bytes isn't read. Where it is no token, it stays so whatever
-/// comes behind it.
+/// Why no token is read from the front of the bytes. All causes but `NoMemory` are final: no further
+/// bytes make a token of these.
 #[derive(Clone, Copy, Debug, PartialEq, Eq, Error)]
 pub enum RespRefusal {
-    /// No token begins with that byte.
-    #[error("kind")]
+    /// The first byte begins no token.
+    #[error("a byte that begins no token")]
     Kind,
-    /// The first line is longer than a line may be.
-    #[error("long")]
+    /// The line is longer than 65,536 bytes.
+    #[error("a line that is too long")]
     Long,
-    /// A carriage return without a newline behind it.
-    #[error("line")]
+    /// A carriage return in the line has no newline after it.
+    #[error("a carriage return without a newline")]
     Line,
-    /// The line is no number of its kind, or one beyond its limit.
-    #[error("number")]
+    /// The line isn't a canonical number, or the number is beyond its limit.
+    #[error("a number that is malformed or too large")]
     Number,
-    /// Bytes that don't end where their length says.
-    #[error("end")]
+    /// No end of line comes after as many bytes as the length says.
+    #[error("a bulk that doesn't end where its length says")]
     End,
-    #[error("no memory")]
+    /// Out of memory: the bytes may well be a token.
+    #[error("out of memory")]
     NoMemory,
 }
 
