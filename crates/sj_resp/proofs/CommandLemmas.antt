@@ -1,7 +1,7 @@
 -- A command that is put is read as its tokens.
 use Rattle.std.proofs.Common.{◌≡◌, ℕ, ◌+◌, ◌<◌, ◌≤◌, ◌^◌, false, List, [], ◌∷◌, ◌++◌, length, slice_index, refl, ap, ◌∙◌, arith, append_assoc}
 use Rattle.std.specs.Prelude.{◌==◌, decimal, map}
-use Rattle.std.specs.List.{All, flat_map}
+use Rattle.std.specs.List.{AllByRecursion, flat_map}
 use Rattle.std.specs.Str.Parse.{AllDigits}
 use Rattle.std.proofs.lemmas.Bool.{le-ltb}
 use Rattle.std.proofs.lemmas.Bool.Decides.{nat_tests}
@@ -75,12 +75,12 @@ word_back word rest h =
     let token : token_of 36 size (word ++ 13 ∷ 10 ∷ rest) ≡ Whole (Bulk word) rest = rw (not_null size digits, number_back most_bytes (length word) h (omega arith)) (bytes_back word rest) in
     kind ∙ ap (line_then (token_of 36)) apart ∙ line ∙ token
 
-words_back : (words : List (List ℕ)) (rest : List ℕ) → All (λ w. length w ≤ most_bytes) words → AreRead (map Bulk words) (flat_map word_text words ++ rest) rest
+words_back : (words : List (List ℕ)) (rest : List ℕ) → AllByRecursion (λ w. length w ≤ most_bytes) words → AreRead (map Bulk words) (flat_map word_text words ++ rest) rest
 words_back [] rest h = refl
 words_back (w ∷ ws) rest h =
     (flat_map word_text ws ++ rest, ap front_of (append_assoc (word_text w) (flat_map word_text ws) rest) ∙ word_back w (flat_map word_text ws ++ rest) h.0, words_back ws rest h.1)
 
-pub command_back : (words : List (List ℕ)) (rest : List ℕ) → length words ≤ most_parts → All (λ w. length w ≤ most_bytes) words →
+pub command_back : (words : List (List ℕ)) (rest : List ℕ) → length words ≤ most_parts → AllByRecursion (λ w. length w ≤ most_bytes) words →
     AreRead (command_tokens words) (command_text words ++ rest) rest
 unfolding command_text
 command_back words rest few short =

@@ -5,7 +5,7 @@
 //! - `bytes_are_read`, `a_length_is_read`, `a_command_is_read`: what is put is read.
 
 ghost use Rattle.std.specs.Prelude.{◌≡◌, ◌≤◌, ℕ, List, ◌++◌, ◌∷◌, Some, decimal, length};
-ghost use Rattle.std.specs.List.{All};
+ghost use Rattle.std.specs.List.{AllByRecursion};
 ghost use Rattle.sj_resp.specs.Bytes.{carriage_return, newline};
 ghost use Rattle.sj_resp.specs.Command.{AreRead, command_tokens};
 ghost use Rattle.sj_resp.specs.Front.{Refused, Whole, bytes_of, front_of};
@@ -41,6 +41,6 @@ pub fn a_length_is_read()
 /// A command that is put is read as its tokens: the head of an array, then each word as a bulk.
 pub fn a_command_is_read()
     ensures { (words : List (List ℕ)) (rest : List ℕ) →
-        length words ≤ most_parts → All (λ w. length w ≤ most_bytes) words →
+        length words ≤ most_parts → AllByRecursion (λ w. length w ≤ most_bytes) words →
         AreRead (command_tokens words) (command_text words ++ rest) rest }
 {}
