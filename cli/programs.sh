@@ -36,7 +36,7 @@ prints 0 examples/desk.txt ./sj run examples/desk.sj
 prints 0 examples/desk.txt ./sj run --looks 5 --workers 2 examples/desk.sj
 prints 0 examples/desk.txt ./sjnet run examples/desk.sj
 prints 6 examples/blocked.txt ./sj sim examples/blocked.sj
-prints 0 docs/agency.svg ./sjdraw examples/agency.txt
+prints 0 docs/agency.svg ./sjdraw docs/agency.log
 says 5 'examples/first.sj: accepted parties 2 sessions 1
 examples/refused.sj: check C5 at 8' ./sj check examples/first.sj examples/refused.sj
 says 6 'forest no a b c' ./sj forest --strict examples/ring.sj

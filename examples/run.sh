@@ -124,7 +124,7 @@ if [ "$fresh" -eq 0 ]; then
     (cd "$here/.." && tar --exclude=out -cf - sj sjnet sjdraw sjwhy start.sh cli VERSION HANDLES crates.txt crates) | tar -xf - -C "$copy"
     in_copy sj "$here/blocked.sj" "$here/blocked.txt" 6 sim
     in_copy sjnet "$here/agency.sj" "$here/agency.txt" 0 run --looks 7
-    in_copy sjdraw "$here/agency.txt" "$here/../docs/agency.svg" 0
+    in_copy sjdraw "$here/../docs/agency.log" "$here/../docs/agency.svg" 0
 fi
 
 echo "$passed passed, $failed failed"

@@ -4,21 +4,47 @@ use Rattle.std.proofs.lemmas.List.{length-append}
 use Rattle.std.specs.List.{AllByRecursion}
 use Rattle.sj_draw.specs.declared.layout.Layout.{Layout}
 use Rattle.sj_draw.specs.declared.style.TheConstants.{STYLE}
-use Rattle.sj_draw.specs.Drawn.{arrow_text, arrows_text, gap_of, head_text, layout_of, left_of, parties_text, party_text, picture, width_of}
+use Rattle.sj_draw.specs.Columns.{base_of, x_of}
+use Rattle.sj_draw.specs.Drawn.{arrow_text, arrows_text, foot_text, head_text, layout_of, line_text, lines_text, name_text, names_text, parties_text, picture}
 use Rattle.sj_draw.specs.Chart.{ArrowAt, ChartAt, Gathered, empty, gathered}
 use Rattle.sj_draw.specs.Small.{IsSmall}
 use Rattle.sj_draw.proofs.RoomLemmas.{roomy, wider}
-use Rattle.sj_draw.proofs.SizeLemmas.{arrow_size, head_size, party_size, x_low}
+use Rattle.sj_draw.proofs.SizeLemmas.{arrow_size, foot_size, head_size, line_size, name_size, row_low, x_low}
 
-parties_size : (l : Layout) (i : ℕ) (ps : List (List ℕ)) → IsSmall l → AllByRecursion (λ p. length p ≤ 64) ps → length (parties_text l i ps) ≤ 420 * length ps
-parties_size l i [] s a = omega arith
-parties_size l i (p ∷ ps) s a = omega (arith, length-append (party_text l i p) (parties_text l (i + 1) ps), party_size l i p s, a.0, parties_size l (i + 1) ps s a.1)
+names_size : (base : ℕ) (all : List (List ℕ)) (i : ℕ) (ps : List (List ℕ)) → base ≤ 4120 → length all ≤ 16 → AllByRecursion (λ p. length p ≤ 64) ps
+    → length (names_text base all i ps) ≤ 370 * length ps
+names_size base all i [] h few a = omega arith
+names_size base all i (p ∷ ps) h few a =
+    omega (arith, length-append (name_text (x_of base all i) p) (names_text base all (i + 1) ps), name_size (x_of base all i) p (x_low base all i h few), a.0, names_size base all (i + 1) ps h few a.1)
 
-arrows_size : (l : Layout) (k : ℕ) (xs : List ArrowAt) → IsSmall l → k + length xs ≤ 1000000 → AllByRecursion (λ a. length a.name + length a.text ≤ 1024) xs
-    → length (arrows_text l k xs) ≤ 5320 * length xs
-arrows_size l k [] s h a = omega arith
-arrows_size l k (x ∷ xs) s h a =
-    omega (arith, length-append (arrow_text l k x) (arrows_text l (k + 1) xs), arrow_size l k x s (omega (arith, h)), a.0, arrows_size l (k + 1) xs s (omega (arith, h)) a.1)
+lines_size : (l : Layout) (all : List (List ℕ)) (i : ℕ) (ps : List (List ℕ)) → IsSmall l → length all ≤ 16 → length (lines_text l all i ps) ≤ 60 * length ps
+lines_size l all i [] s few = omega arith
+lines_size l all i (p ∷ ps) s few =
+    let x = x_of l.base all i in
+    omega (arith, length-append (line_text l x) (lines_text l all (i + 1) ps), line_size l x s (x_low l.base all i s.base few), lines_size l all (i + 1) ps s few)
+
+parties_size : (l : Layout) (ps : List (List ℕ)) → IsSmall l → length ps ≤ 16 → AllByRecursion (λ p. length p ≤ 64) ps → length (parties_text l ps) ≤ 7000
+parties_size l ps s few a =
+    omega (
+      arith,
+      length-append (names_text l.base ps 0 ps) (codes "</g>\n" ++ lines_text l ps 0 ps),
+      length-append (codes "</g>\n") (lines_text l ps 0 ps),
+      names_size l.base ps 0 ps s.base few a,
+      lines_size l ps 0 ps s few,
+      few,
+    )
+
+arrows_size : (base : ℕ) (ps : List (List ℕ)) (k : ℕ) (xs : List ArrowAt) → base ≤ 4120 → length ps ≤ 16 → k + length xs ≤ 1000000
+    → AllByRecursion (λ a. length a.name + length a.text ≤ 1024) xs → length (arrows_text base ps k xs) ≤ 10440 * length xs
+arrows_size base ps k [] h few more a = omega arith
+arrows_size base ps k (x ∷ xs) h few more a =
+    omega (
+      arith,
+      length-append (arrow_text base ps k x) (arrows_text base ps (k + 1) xs),
+      arrow_size base ps k x h few (omega (arith, more)),
+      a.0,
+      arrows_size base ps (k + 1) xs h few (omega (arith, more)) a.1,
+    )
 
 -- the limits that a chart within them keeps
 record IsWithin (parties arrows names texts : ℕ) : Type 0 where
@@ -43,35 +69,35 @@ within a b c d e h =
     let h1 = both (nat_le a 16) (nat_le b 1664) h2.0 in
     record { few_parties = le_of a 16 h1.0; few_arrows = le_of c 1000000 h2.1; low_names = le_of d 64 h3.1; low_texts = le_of e 1024 h4.1 }
 
-right_low : (b : Bool) (x y : ℕ) → x ≤ 9000 → y ≤ 9000 → (if b then x else y) ≤ 9000
-right_low true x y h k = h
-right_low false x y h k = k
+side_low : (b : Bool) (x : ℕ) → x ≤ 4120 → (if b then x else 0) ≤ 4120
+side_low true x h = h
+side_low false x h = omega arith
 
 small : (g : ChartAt) → IsWithin (length g.parties) (length g.arrows) g.names g.texts → IsSmall (layout_of g)
-small g w = record {
-  left = omega (arith, w.low_names);
-  gap = omega (arith, w.low_names, w.low_texts);
-  right = right_low g.hooks (gap_of g) (left_of g) (omega (arith, w.low_names, w.low_texts)) (omega (arith, w.low_names));
-  height_low = omega arith;
-  height = omega (arith, w.few_arrows);
-}
+small g w =
+    let low : base_of g ≤ 4120 = omega (arith, w.low_texts) in
+    record {
+      base = low;
+      width = omega (arith, x_low (base_of g) g.parties (length g.parties) low w.few_parties, side_low g.hooks (base_of g) low);
+      height_low = omega arith;
+      height = omega (arith, row_low (length g.arrows) w.few_arrows);
+    }
 
 -- five parts, one behind another
 lengths : (a b c d e : List ℕ) → length (a ++ (b ++ (c ++ (d ++ e)))) ≡ length a + (length b + (length c + (length d + length e)))
 lengths a b c d e = omega (arith, length-append a (b ++ (c ++ (d ++ e))), length-append b (c ++ (d ++ e)), length-append c (d ++ e), length-append d e)
 
-pub growth : (g : ChartAt) (lines : List (List ℕ)) → gathered empty 1 lines ≡ Gathered g → length (picture g) ≤ length STYLE.now + (10000 + 5320 * length lines)
+pub growth : (g : ChartAt) (lines : List (List ℕ)) → gathered empty 1 lines ≡ Gathered g → length (picture g) ≤ length STYLE.now + (10000 + 10440 * length lines)
 growth g lines e =
     let r = roomy g lines e in
     let w = within (length g.parties) (length g.sessions) (length g.arrows) g.names g.texts r.within in
     let l = layout_of g in let s = small g w in
-    let x = x_low l (length g.parties - 1) s in
     omega (
       arith,
-      lengths (head_text l (width_of l (length g.parties))) STYLE.now (parties_text l 0 g.parties) (arrows_text l 0 g.arrows) (codes "</svg>\n"),
-      head_size l (width_of l (length g.parties)) s (omega (arith, x, s.right)),
-      parties_size l 0 g.parties s (wider (λ p. length p) g.names 64 g.parties w.low_names r.parties),
-      arrows_size l 0 g.arrows s (omega (arith, w.few_arrows)) (wider (λ a. length a.name + length a.text) g.texts 1024 g.arrows w.low_texts r.arrows),
-      w.few_parties,
+      lengths (head_text l) STYLE.now (parties_text l g.parties) (arrows_text l.base g.parties 0 g.arrows) (foot_text l),
+      head_size l s,
+      parties_size l g.parties s w.few_parties (wider (λ p. length p) g.names 64 g.parties w.low_names r.parties),
+      arrows_size l.base g.parties 0 g.arrows s.base w.few_parties (omega (arith, w.few_arrows)) (wider (λ a. length a.name + length a.text) g.texts 1024 g.arrows w.low_texts r.arrows),
+      foot_size l s,
       r.few,
     )

@@ -1,5 +1,6 @@
 pub mod ChartLemmas
 pub mod GrowthLemmas
+pub mod LineLemmas
 pub mod OnceLemmas
 pub mod RoomLemmas
 pub mod SizeLemmas

@@ -1,14 +1,17 @@
 -- How long the text of a picture is.
-use Rattle.std.proofs.Common.{ℕ, ◌+◌, ◌*◌, ◌-◌, ◌≤◌, min, Bool, true, false, List, [], ◌∷◌, length, Option, Some, None, if◌then◌else◌, eqb, arith, lit<, lit≤, decimal, codes}
-use Rattle.std.proofs.lemmas.List.{length-append}
+use Rattle.std.proofs.Common.{ℕ, ◌+◌, ◌*◌, ◌-◌, ◌/◌, ◌%◌, ◌≤◌, min, max, Bool, true, false, ◌&&◌, List, [], ◌∷◌, ◌++◌, length, take, Option, Some, None, if◌then◌else◌, eqb, nat_le, nat_lt, arith, lit<, lit≤, decimal, codes}
+use Rattle.std.specs.Prelude.{◌==◌}
+use Rattle.std.proofs.lemmas.List.{length-append, length-take}
 use Rattle.std.proofs.lemmas.Fmt.{length-decimal-le}
 use Rattle.std.specs.List.{concat}
 use Rattle.sj_draw.specs.declared.lines.Mark.{Mark}
 use Rattle.sj_draw.specs.declared.lines.Mark.TheVariants.{Message, Fin, Session, Claim, Signal, Ack, Give, Request, Open, Accept}
 use Rattle.sj_draw.specs.declared.layout.Layout.{Layout}
-use Rattle.sj_draw.specs.Drawn.{class_of, end_class, head_text, way_of, x_of, y_of, tip_of, arrow_text, party_text}
-use Rattle.sj_draw.specs.Chart.{ArrowAt, most_parties}
-use Rattle.sj_draw.specs.Piece.{escaped, escaped_byte}
+use Rattle.sj_draw.specs.Columns.{half_of, tip_of, x_of}
+use Rattle.sj_draw.specs.Drawn.{again_text, arrow_text, between_text, class_of, end_class, foot_text, head_text, is_cut, label_text, letters_of_name, line_text, name_text}
+use Rattle.sj_draw.specs.Drawn.{room_at, row_of, rows_of_names, title_text, way_of, way_text}
+use Rattle.sj_draw.specs.Chart.{ArrowAt}
+use Rattle.sj_draw.specs.Piece.{cut_text, escaped, escaped_byte}
 use Rattle.sj_draw.specs.Small.{IsSmall}
 
 -- pieces, and the most bytes of all of them
@@ -34,18 +37,34 @@ escaped_5 : (bs : List ℕ) → length (escaped bs) ≤ 5 * length bs
 escaped_5 [] = omega arith
 escaped_5 (b ∷ bs) = omega (arith, length-append (escaped_byte b) (escaped bs), byte_5 b (eqb b 38) (eqb b 60) (eqb b 62), escaped_5 bs)
 
-min_16 : (i : ℕ) → min i most_parties ≤ 16
-min_16 i = omega arith
+-- a text that is cut, with its ellipsis
+cut_7 : (room : ℕ) (bs : List ℕ) → length (cut_text room bs) ≤ 5 * length bs + 7
+cut_7 room bs = by (nat_le (length bs) room)
+  where
+    by : (b : Bool) → length (if b then escaped bs else escaped (take room bs) ++ codes "&#8230;") ≤ 5 * length bs + 7
+    by true = omega (arith, escaped_5 bs)
+    by false = omega (arith, length-append (escaped (take room bs)) (codes "&#8230;"), escaped_5 (take room bs), length-take room bs)
 
-product_le : (a b c d : ℕ) → a ≤ c → b ≤ d → a * b ≤ c * d
-product_le a b c d h k = grind arith
+half_low : (base : ℕ) (name : List ℕ) → base ≤ 4120 → half_of base name ≤ 4120
+half_low base name h = omega (arith, h)
 
-pub x_low : (l : Layout) (i : ℕ) → IsSmall l → x_of l i ≤ 150000
-x_low l i s = omega (arith, s.left, product_le l.gap (min i most_parties) 9000 16 s.gap (min_16 i))
+x_by : (b : Bool) (h k n : ℕ) → h ≤ 4120 → k ≤ 8240 * n → (if b then h else 2 * h + k) ≤ 8240 * (n + 1)
+x_by true h k n low more = omega (arith, low)
+x_by false h k n low more = omega (arith, low, more)
 
-tip_low : (l : Layout) (i : ℕ) (to : Option ℕ) → IsSmall l → tip_of l i to ≤ 160000
-tip_low l i None s = omega (arith, x_low l i s)
-tip_low l i (Some to) s = omega (arith, x_low l to s)
+x_among : (base : ℕ) (ps : List (List ℕ)) (i : ℕ) → base ≤ 4120 → x_of base ps i ≤ 8240 * length ps
+x_among base [] i h = omega arith
+x_among base (p ∷ ps) i h = omega (arith, x_by (eqb i 0) (half_of base p) (x_of base ps (i - 1)) (length ps) (half_low base p h) (x_among base ps (i - 1) h))
+
+pub x_low : (base : ℕ) (ps : List (List ℕ)) (i : ℕ) → base ≤ 4120 → length ps ≤ 16 → x_of base ps i ≤ 150000
+x_low base ps i h few = omega (arith, x_among base ps i h, few)
+
+pub tip_low : (base : ℕ) (ps : List (List ℕ)) (from : ℕ) (to : Option ℕ) → base ≤ 4120 → length ps ≤ 16 → tip_of base ps from to ≤ 160000
+tip_low base ps from None h few = omega (arith, x_low base ps from h few)
+tip_low base ps from (Some to) h few = omega (arith, x_low base ps to h few)
+
+pub row_low : (k : ℕ) → k ≤ 1000000 → row_of k ≤ 28700000
+row_low k few = omega (arith, few)
 
 class_7 : (m : Mark) → length (class_of m) ≤ 7
 class_7 Message = lit≤ tt
@@ -67,38 +86,91 @@ way_12 : (from : ℕ) (to : Option ℕ) → length (way_of from to) ≤ 12
 way_12 from None = lit≤ tt
 way_12 from (Some to) = by (eqb from to)
   where
-    by : (b : Bool) → length (if b then codes " h 24 v 8 H " else codes " H ") ≤ 12
+    by : (b : Bool) → length (if b then codes " h 44 v 8 H " else codes " H ") ≤ 12
     by true = lit≤ tt
     by false = lit≤ tt
 
-pub arrow_size : (l : Layout) (k : ℕ) (a : ArrowAt) → IsSmall l → k ≤ 1000000 → length (arrow_text l k a) ≤ 200 + 5 * (length a.name + length a.text)
-arrow_size l k a s few =
-    let tip = tip_low l a.from a.to s in let x = x_low l a.from s in
+between_34 : (k : ℕ) → k ≤ 1000000 → length (between_text k) ≤ 34
+between_34 k few = by ((k % rows_of_names == 0) && nat_lt 0 k)
+  where
+    by : (b : Bool) → length (if b then again_text (row_of k + 18) else []) ≤ 34
+    by true =
+        let h = up (codes "<use href='#names' y='") 22 (lit≤ tt) (up (decimal (row_of k + 18)) 8 (digits_8 _ (omega (arith, row_low k few))) (up (codes "'/>\n") 4 (lit≤ tt) none)) in
+        omega (arith, fits h)
+    by false = omega arith
+
+way_size : (start tip k : ℕ) (a : ArrowAt) → start ≤ 150000 → tip ≤ 160000 → k ≤ 1000000 → length (way_text start tip k a) ≤ 107
+way_size start tip k a low less few =
+    let row = row_low k few in
     let h =
     up (codes "<path class='") 13 (lit≤ tt) (up (class_of a.mark) 7 (class_7 a.mark) (up (end_class a.to) 8 (end_8 a.to)
-    (up (codes "' d='M ") 7 (lit≤ tt) (up (decimal (x_of l a.from)) 8 (digits_8 _ (omega (arith, x))) (up (codes " ") 1 (lit≤ tt)
-    (up (decimal (y_of k)) 8 (digits_8 _ (omega (arith, few))) (up (way_of a.from a.to) 12 (way_12 a.from a.to)
-    (up (decimal (tip_of l a.from a.to)) 8 (digits_8 _ (omega (arith, tip))) (up (codes "'/><text x='") 12 (lit≤ tt)
-    (up (decimal (min (x_of l a.from) (tip_of l a.from a.to) + 14)) 8 (digits_8 _ (omega (arith, x, tip))) (up (codes "' y='") 5 (lit≤ tt)
-    (up (decimal (28 * k + 64)) 8 (digits_8 _ (omega (arith, few))) (up (codes "'>") 2 (lit≤ tt)
-    (up (escaped a.name) (5 * length a.name) (escaped_5 a.name) (up (codes ": ") 2 (lit≤ tt)
-    (up (escaped a.text) (5 * length a.text) (escaped_5 a.text) (up (codes "</text>\n") 8 (lit≤ tt) none)))))))))))))))))
+    (up (codes "' d='M ") 7 (lit≤ tt) (up (decimal start) 8 (digits_8 _ (omega (arith, low))) (up (codes " ") 1 (lit≤ tt)
+    (up (decimal (row_of k + 88)) 8 (digits_8 _ (omega (arith, row))) (up (way_of a.from a.to) 12 (way_12 a.from a.to)
+    (up (decimal tip) 8 (digits_8 _ (omega (arith, less))) (up (codes "'/><text x='") 12 (lit≤ tt)
+    (up (decimal (min start tip + 14)) 8 (digits_8 _ (omega (arith, low, less))) (up (codes "' y='") 5 (lit≤ tt)
+    (up (decimal (row_of k + 80)) 8 (digits_8 _ (omega (arith, row))) (up (codes "'>") 2 (lit≤ tt) none)))))))))))))
     in omega (arith, fits h)
 
-pub party_size : (l : Layout) (i : ℕ) (name : List ℕ) → IsSmall l → length (party_text l i name) ≤ 100 + 5 * length name
-party_size l i name s =
-    let x = x_low l i s in
+title_size : (room : ℕ) (a : ArrowAt) → length (title_text room a) ≤ 17 + 5 * (length a.name + length a.text)
+title_size room a = by (is_cut room a)
+  where
+    by : (b : Bool) → length (if b then concat (codes "<title>" ∷ escaped a.name ∷ codes ": " ∷ escaped a.text ∷ codes "</title>" ∷ []) else [])
+        ≤ 17 + 5 * (length a.name + length a.text)
+    by true =
+        let h =
+        up (codes "<title>") 7 (lit≤ tt) (up (escaped a.name) (5 * length a.name) (escaped_5 a.name) (up (codes ": ") 2 (lit≤ tt)
+        (up (escaped a.text) (5 * length a.text) (escaped_5 a.text) (up (codes "</title>") 8 (lit≤ tt) none)))) in omega (arith, fits h)
+    by false = omega arith
+
+words_size : (room : ℕ) (a : ArrowAt)
+    → length (concat (cut_text letters_of_name a.name ∷ codes ": " ∷ cut_text room a.text ∷ codes "</text>\n" ∷ [])) ≤ 24 + 5 * (length a.name + length a.text)
+words_size room a =
     let h =
-    up (codes "<text class='name' x='") 22 (lit≤ tt) (up (decimal (x_of l i)) 8 (digits_8 _ (omega (arith, x))) (up (codes "' y='24'>") 9 (lit≤ tt)
-    (up (escaped name) (5 * length name) (escaped_5 name) (up (codes "</text><path class='party' d='M ") 32 (lit≤ tt)
-    (up (decimal (x_of l i)) 8 (digits_8 _ (omega (arith, x))) (up (codes " 34 V ") 6 (lit≤ tt)
-    (up (decimal (l.height - 12)) 8 (digits_8 _ (omega (arith, s.height))) (up (codes "'/>\n") 4 (lit≤ tt) none))))))))
+    up (cut_text letters_of_name a.name) (5 * length a.name + 7) (cut_7 letters_of_name a.name) (up (codes ": ") 2 (lit≤ tt)
+    (up (cut_text room a.text) (5 * length a.text + 7) (cut_7 room a.text) (up (codes "</text>\n") 8 (lit≤ tt) none))) in omega (arith, fits h)
+
+label_size : (room : ℕ) (a : ArrowAt) → length (label_text room a) ≤ 41 + 10 * (length a.name + length a.text)
+label_size room a =
+    let words = concat (cut_text letters_of_name a.name ∷ codes ": " ∷ cut_text room a.text ∷ codes "</text>\n" ∷ []) in
+    omega (arith, length-append (title_text room a) words, title_size room a, words_size room a)
+
+pub arrow_size : (base : ℕ) (ps : List (List ℕ)) (k : ℕ) (a : ArrowAt) → base ≤ 4120 → length ps ≤ 16 → k ≤ 1000000
+    → length (arrow_text base ps k a) ≤ 200 + 10 * (length a.name + length a.text)
+arrow_size base ps k a h parties few =
+    let start = x_of base ps a.from in let tip = tip_of base ps a.from a.to in let room = room_at base ps a in
+    omega (
+      arith,
+      length-append (between_text k) (way_text start tip k a ++ label_text room a),
+      length-append (way_text start tip k a) (label_text room a),
+      between_34 k few,
+      way_size start tip k a (x_low base ps a.from h parties) (tip_low base ps a.from a.to h parties) few,
+      label_size room a,
+    )
+
+pub name_size : (x : ℕ) (name : List ℕ) → x ≤ 150000 → length (name_text x name) ≤ 50 + 5 * length name
+name_size x name low =
+    let h =
+    up (codes "<text class='name' x='") 22 (lit≤ tt) (up (decimal x) 8 (digits_8 _ (omega (arith, low))) (up (codes "' y='40'>") 9 (lit≤ tt)
+    (up (escaped name) (5 * length name) (escaped_5 name) (up (codes "</text>\n") 8 (lit≤ tt) none))))
     in omega (arith, fits h)
 
-pub head_size : (l : Layout) (width : ℕ) → IsSmall l → width ≤ 200000 → length (head_text l width) ≤ 120
-head_size l width s low =
+pub line_size : (l : Layout) (x : ℕ) → IsSmall l → x ≤ 150000 → length (line_text l x) ≤ 60
+line_size l x s low =
     let h =
-    up (codes "<svg xmlns='http://www.w3.org/2000/svg' width='") 47 (lit≤ tt) (up (decimal width) 8 (digits_8 _ (omega (arith, low))) (up (codes "' height='") 10 (lit≤ tt)
-    (up (decimal l.height) 8 (digits_8 _ (omega (arith, s.height))) (up (codes "' viewBox='0 0 ") 15 (lit≤ tt) (up (decimal width) 8 (digits_8 _ (omega (arith, low)))
+    up (codes "<path class='party' d='M ") 25 (lit≤ tt) (up (decimal x) 8 (digits_8 _ (omega (arith, low))) (up (codes " 50 V ") 6 (lit≤ tt)
+    (up (decimal (l.height - 28)) 8 (digits_8 _ (omega (arith, s.height))) (up (codes "'/>\n") 4 (lit≤ tt) none))))
+    in omega (arith, fits h)
+
+pub head_size : (l : Layout) → IsSmall l → length (head_text l) ≤ 120
+head_size l s =
+    let h =
+    up (codes "<svg xmlns='http://www.w3.org/2000/svg' width='") 47 (lit≤ tt) (up (decimal l.width) 8 (digits_8 _ (omega (arith, s.width))) (up (codes "' height='") 10 (lit≤ tt)
+    (up (decimal l.height) 8 (digits_8 _ (omega (arith, s.height))) (up (codes "' viewBox='0 0 ") 15 (lit≤ tt) (up (decimal l.width) 8 (digits_8 _ (omega (arith, s.width)))
     (up (codes " ") 1 (lit≤ tt) (up (decimal l.height) 8 (digits_8 _ (omega (arith, s.height))) (up (codes "'>\n") 3 (lit≤ tt) none))))))))
+    in omega (arith, fits h)
+
+pub foot_size : (l : Layout) → IsSmall l → length (foot_text l) ≤ 60
+foot_size l s =
+    let h =
+    up (codes "<use href='#names' y='") 22 (lit≤ tt) (up (decimal (l.height - 52)) 8 (digits_8 _ (omega (arith, s.height))) (up (codes "'/>\n</svg>\n") 11 (lit≤ tt) none))
     in omega (arith, fits h)

@@ -15,3 +15,11 @@ module _ (t0 a b c d e t1 t2 t3 t4 : List ℕ) (ea : t1 ≡ t0 ++ a) (eb : t2 �
   pub five_ok : {X E : Type 0} (r : Result X E) (t5 : List ℕ) → OnOk r (t5 ≡ t4 ++ e) → OnOk r (t5 ≡ t0 ++ (a ++ (b ++ (c ++ (d ++ e)))))
   five_ok (Ok x) t5 ee = five t5 ee
   five_ok (Err x) t5 ee = tt
+
+-- three parts, one behind another
+three : (t0 a b c t1 t2 t3 : List ℕ) → t1 ≡ t0 ++ a → t2 ≡ t1 ++ b → t3 ≡ t2 ++ c → t3 ≡ t0 ++ (a ++ (b ++ c))
+three t0 a b c t1 t2 t3 ea eb ec = ec ∙ ap (λ t. t ++ c) eb ∙ append_assoc t1 b c ∙ ap (λ t. t ++ (b ++ c)) ea ∙ append_assoc t0 a (b ++ c)
+
+pub three_ok : {X E : Type 0} (r : Result X E) (t0 a b c t1 t2 t3 : List ℕ) → t1 ≡ t0 ++ a → t2 ≡ t1 ++ b → OnOk r (t3 ≡ t2 ++ c) → OnOk r (t3 ≡ t0 ++ (a ++ (b ++ c)))
+three_ok (Ok x) t0 a b c t1 t2 t3 ea eb ec = three t0 a b c t1 t2 t3 ea eb ec
+three_ok (Err x) t0 a b c t1 t2 t3 ea eb ec = tt

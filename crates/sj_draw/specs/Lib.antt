@@ -1,5 +1,6 @@
 pub mod Answer
 pub mod Chart
+pub mod Columns
 pub mod Drawn
 pub mod Lines
 pub mod Piece

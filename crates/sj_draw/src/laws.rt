@@ -19,7 +19,7 @@ pub fn each_delivery_is_drawn_once()
         → map told_arrow g.arrows ≡ map told_arrow f.arrows ++ filter_map told_in lines }
 {}
 
-/// A picture has at most 5,320 bytes for each line, beyond its style and 10,000 bytes.
+/// A picture has at most 10,440 bytes for each line, beyond its style and 10,000 bytes.
 pub fn no_picture_outgrows_its_lines()
     ensures { (bytes : List ℕ) (g : ChartAt) → outcome_of bytes ≡ Gathered g
         → length (picture g) ≤ length STYLE.now + (most_of_chart + most_of_line * length (lines_of bytes)) }

@@ -1,6 +1,7 @@
 //! A picture of a run, from the lines of a transcript or a log.
 #![tactic(auto)]
 
+mod arrows;
 mod chart;
 mod laws;
 mod layout;

@@ -1,14 +1,15 @@
 //! The picture of a chart: its head, a line for each party, an arrow for each message or frame, and its foot.
-ghost use Rattle.std.specs.Prelude.{◌≡◌, ◌≤◌, ◌<◌, ◌++◌, OnOk, IsTrue, length, map};
-ghost use Rattle.sj_draw.specs.Chart.{is_within, most_arrows};
-ghost use Rattle.sj_draw.specs.Drawn.{head_text, party_text, parties_text, class_of, end_class, way_of};
-ghost use Rattle.sj_draw.specs.Drawn.{arrow_text, arrows_text, picture, picture_at};
-ghost use Rattle.sj_draw.specs.Small.{IsSmall};
+ghost use Rattle.std.specs.Prelude.{◌≡◌, ◌≤◌, ◌++◌, OnOk, IsTrue, length, map};
+ghost use Rattle.sj_draw.specs.Chart.{is_within, most_arrows, most_parties};
+ghost use Rattle.sj_draw.specs.Columns.{x_of};
+ghost use Rattle.sj_draw.specs.Drawn.{head_text, parties_text, arrows_text, foot_text, picture, picture_at};
+ghost use Rattle.sj_draw.specs.Drawn.{name_text, names_text, line_text, lines_text};
+ghost use Rattle.sj_draw.specs.Small.{IsSmall, most_base};
 ghost use Rattle.sj_draw.specs.Views.{arrow_at, chart_at};
 
-use crate::chart::{Arrow, Chart};
-use crate::layout::{Layout, layout_of};
-use crate::lines::Mark;
+use crate::arrows::put_arrows;
+use crate::chart::Chart;
+use crate::layout::{Layout, layout_of, x_of};
 use crate::pieces::Piece::{Escaped, Number, Plain};
 use crate::pieces::put_pieces;
 use crate::style::STYLE;
@@ -25,29 +26,30 @@ pub(crate) fn put_picture(text: &mut Vec<u8>, chart: &Chart<'_>) -> Result<(), N
 
 fn put_picture_at(text: &mut Vec<u8>, layout: Layout, chart: &Chart<'_>) -> Result<(), NoMemory>
     requires small { IsSmall layout }
-    requires few { length chart.now.arrows.items ≤ most_arrows }
+    requires parties { length chart.now.parties.items ≤ most_parties }
+    requires arrows { length chart.now.arrows.items ≤ most_arrows }
     ensures { OnOk result (text.new.items
         ≡ text.old.items ++ picture_at layout (chart_at chart.now)) }
 {
-    put_head(text, layout, layout.width_of(chart.parties.len()))?;
+    put_head(text, layout)?;
     put(text, STYLE)?;
     put_parties(text, layout, &chart.parties)?;
-    put_arrows(text, layout, &chart.arrows)?;
-    put(text, b"</svg>\n")
+    put_arrows(text, layout.base, &chart.parties, &chart.arrows)?;
+    put_foot(text, layout)
 }
 
-fn put_head(text: &mut Vec<u8>, layout: Layout, width: u64) -> Result<(), NoMemory>
-    ensures { OnOk result (text.new.items ≡ text.old.items ++ head_text layout width) }
+fn put_head(text: &mut Vec<u8>, layout: Layout) -> Result<(), NoMemory>
+    ensures { OnOk result (text.new.items ≡ text.old.items ++ head_text layout) }
 {
     put_pieces(
         text,
         &[
             Plain(b"<svg xmlns='http://www.w3.org/2000/svg' width='"),
-            Number(width),
+            Number(layout.width),
             Plain(b"' height='"),
             Number(layout.height),
             Plain(b"' viewBox='0 0 "),
-            Number(width),
+            Number(layout.width),
             Plain(b" "),
             Number(layout.height),
             Plain(b"'>\n"),
@@ -55,123 +57,99 @@ fn put_head(text: &mut Vec<u8>, layout: Layout, width: u64) -> Result<(), NoMemo
     )
 }
 
+// The names as a group, which is drawn again further down, and then the lines.
 fn put_parties(text: &mut Vec<u8>, layout: Layout, names: &[&[u8]]) -> Result<(), NoMemory>
-    requires { IsSmall layout }
+    requires small { IsSmall layout }
+    requires few { length names.now ≤ most_parties }
     ensures { OnOk result (text.new.items
-        ≡ text.old.items ++ parties_text layout 0 (map (λ n. n.now) names.now)) }
+        ≡ text.old.items ++ parties_text layout (map (λ n. n.now) names.now)) }
+{
+    put_names(text, layout.base, names)?;
+    put(text, b"</g>\n")?;
+    put_lines(text, layout, names)
+}
+
+fn put_names(text: &mut Vec<u8>, base: u64, names: &[&[u8]]) -> Result<(), NoMemory>
+    requires base { base ≤ most_base }
+    requires few { length names.now ≤ most_parties }
+    ensures { OnOk result (text.new.items
+        ≡ text.old.items ++ names_text base (map (λ n. n.now) names.now) 0 (map (λ n. n.now) names.now)) }
 {
     for (i, name) in names.iter().enumerate() {
-        put_party(text, layout, i, name)?;
+        put_name(text, base, names, i, name)?;
     }
     Ok(())
 }
 
-// A party's name, and its line below.
-fn put_party(text: &mut Vec<u8>, layout: Layout, i: usize, name: &[u8]) -> Result<(), NoMemory>
-    requires { IsSmall layout }
-    ensures { OnOk result (text.new.items ≡ text.old.items ++ party_text layout i name.now) }
+// A party's name, at the head of its column.
+fn put_name(
+    text: &mut Vec<u8>,
+    base: u64,
+    names: &[&[u8]],
+    i: usize,
+    name: &[u8],
+) -> Result<(), NoMemory>
+    requires base { base ≤ most_base }
+    requires few { length names.now ≤ most_parties }
+    ensures { OnOk result (text.new.items
+        ≡ text.old.items ++ name_text (x_of base (map (λ n. n.now) names.now) i) name.now) }
 {
-    let x = layout.x_of(i);
+    let x = x_of(base, names, i);
     put_pieces(
         text,
         &[
             Plain(b"<text class='name' x='"),
             Number(x),
-            Plain(b"' y='24'>"),
+            Plain(b"' y='40'>"),
             Escaped(name),
-            Plain(b"</text><path class='party' d='M "),
-            Number(x),
-            Plain(b" 34 V "),
-            Number(layout.height - 12),
-            Plain(b"'/>\n"),
-        ],
-    )
-}
-
-fn put_arrows(text: &mut Vec<u8>, layout: Layout, arrows: &[Arrow<'_>]) -> Result<(), NoMemory>
-    requires small { IsSmall layout }
-    requires few { length arrows.now ≤ most_arrows }
-    ensures { OnOk result (text.new.items
-        ≡ text.old.items ++ arrows_text layout 0 (map arrow_at arrows.now)) }
-{
-    for (k, arrow) in arrows.iter().enumerate() {
-        put_arrow(text, layout, k, arrow)?;
-    }
-    Ok(())
-}
-
-// An arrow, and above it the name of its end and its text.
-fn put_arrow(
-    text: &mut Vec<u8>,
-    layout: Layout,
-    k: usize,
-    arrow: &Arrow<'_>,
-) -> Result<(), NoMemory>
-    requires small { IsSmall layout }
-    requires few { k ≤ most_arrows }
-    ensures { OnOk result (text.new.items ≡ text.old.items ++ arrow_text layout k (arrow_at arrow.now)) }
-{
-    let y = 28 * k as u64;
-    let start = layout.x_of(arrow.from);
-    let tip = layout.tip_of(arrow.from, arrow.to);
-    put_pieces(
-        text,
-        &[
-            Plain(b"<path class='"),
-            Plain(class_of(arrow.mark)),
-            Plain(end_class(arrow.to)),
-            Plain(b"' d='M "),
-            Number(start),
-            Plain(b" "),
-            Number(y + 72),
-            Plain(way_of(arrow.from, arrow.to)),
-            Number(tip),
-            Plain(b"'/><text x='"),
-            Number(start.min(tip) + 14),
-            Plain(b"' y='"),
-            Number(y + 64),
-            Plain(b"'>"),
-            Escaped(arrow.name),
-            Plain(b": "),
-            Escaped(arrow.text),
             Plain(b"</text>\n"),
         ],
     )
 }
 
-fn class_of(mark: Mark) -> &'static [u8]
-    ensures { result.now ≡ class_of mark }
+fn put_lines(text: &mut Vec<u8>, layout: Layout, names: &[&[u8]]) -> Result<(), NoMemory>
+    requires small { IsSmall layout }
+    requires few { length names.now ≤ most_parties }
+    ensures { OnOk result (text.new.items
+        ≡ text.old.items ++ lines_text layout (map (λ n. n.now) names.now) 0 (map (λ n. n.now) names.now)) }
 {
-    match mark {
-        Mark::Message => b"message",
-        Mark::Fin => b"fin",
-        Mark::Session => b"session",
-        Mark::Claim => b"claim",
-        Mark::Signal => b"signal",
-        Mark::Ack => b"ack",
-        Mark::Give => b"give",
-        Mark::Request => b"request",
-        Mark::Open => b"open",
-        Mark::Accept => b"accept",
+    for (i, _) in names.iter().enumerate() {
+        put_line(text, layout, names, i)?;
     }
+    Ok(())
 }
 
-// A message that nobody took ends in an open circle.
-fn end_class(to: Option<usize>) -> &'static [u8]
-    ensures { result.now ≡ end_class to }
+// A party's line.
+fn put_line(text: &mut Vec<u8>, layout: Layout, names: &[&[u8]], i: usize) -> Result<(), NoMemory>
+    requires small { IsSmall layout }
+    requires few { length names.now ≤ most_parties }
+    ensures { OnOk result (text.new.items
+        ≡ text.old.items ++ line_text layout (x_of layout.base (map (λ n. n.now) names.now) i)) }
 {
-    match to {
-        Some(_) => b"",
-        None => b" untaken",
-    }
+    let x = x_of(layout.base, names, i);
+    put_pieces(
+        text,
+        &[
+            Plain(b"<path class='party' d='M "),
+            Number(x),
+            Plain(b" 50 V "),
+            Number(layout.height - 28),
+            Plain(b"'/>\n"),
+        ],
+    )
 }
 
-// An arrow to the party itself bends.
-fn way_of(from: usize, to: Option<usize>) -> &'static [u8]
-    ensures { result.now ≡ way_of from to }
+// The names once more, and the end.
+fn put_foot(text: &mut Vec<u8>, layout: Layout) -> Result<(), NoMemory>
+    requires { IsSmall layout }
+    ensures { OnOk result (text.new.items ≡ text.old.items ++ foot_text layout) }
 {
-    match to {
-        Some(to) if from == to => b" h 24 v 8 H ",
-        _ => b" H ",
-    }
+    put_pieces(
+        text,
+        &[
+            Plain(b"<use href='#names' y='"),
+            Number(layout.height - 52),
+            Plain(b"'/>\n</svg>\n"),
+        ],
+    )
 }

@@ -1,6 +1,6 @@
 //! Text of a picture, put together from pieces.
 ghost use Rattle.std.specs.Prelude.{◌≡◌, ◌++◌, OnOk};
-ghost use Rattle.sj_draw.specs.Piece.{escaped, escaped_byte, piece_text, pieces_text};
+ghost use Rattle.sj_draw.specs.Piece.{cut_text, escaped, escaped_byte, piece_text, pieces_text};
 
 use sj_base::NoMemory;
 use sj_text::{put, put_number};
@@ -13,6 +13,8 @@ pub(crate) enum Piece<'a> {
     Number(u64),
     /// A name or a message, whose `&`, `<` and `>` are no signs of the format.
     Escaped(&'a [u8]),
+    /// The same, of at most so many letters; an ellipsis stands for the rest.
+    Cut(&'a [u8], usize),
 }
 
 /// Puts these after the text, one after another.
@@ -32,7 +34,18 @@ fn put_piece(text: &mut Vec<u8>, piece: Piece<'_>) -> Result<(), NoMemory>
         Piece::Plain(bytes) => put(text, bytes),
         Piece::Number(n) => put_number(text, n),
         Piece::Escaped(bytes) => put_escaped(text, bytes),
+        Piece::Cut(bytes, room) => put_cut(text, bytes, room),
     }
+}
+
+fn put_cut(text: &mut Vec<u8>, bytes: &[u8], room: usize) -> Result<(), NoMemory>
+    ensures { OnOk result (text.new.items ≡ text.old.items ++ cut_text room bytes.now) }
+{
+    if bytes.len() <= room {
+        return put_escaped(text, bytes);
+    }
+    put_escaped(text, &bytes[..room])?;
+    put(text, b"&#8230;")
 }
 
 fn put_escaped(text: &mut Vec<u8>, bytes: &[u8]) -> Result<(), NoMemory>

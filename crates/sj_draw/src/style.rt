@@ -1,10 +1,12 @@
 //! How lines and arrows look: each kind of frame has a colour and dashes of its own, and openings have one colour.
 
-/// The looks of the classes, the tips of the arrows, and a white page.
+/// The looks of the classes, the tips of the arrows, a white page, a line that says what an arrow means,
+/// and the beginning of the group of names.
 pub(crate) const STYLE: &[u8] = b"\
 <style>\
 text{font:12px monospace;fill:#111}\
-.name{font-weight:bold;text-anchor:middle}\
+.name{font-weight:bold;text-anchor:middle;paint-order:stroke;stroke:#fff;stroke-width:8}\
+.key{font-size:11px;fill:#555}\
 path{fill:none;stroke-width:1.5}\
 .party{stroke:#999;stroke-width:1}\
 .message{stroke:#111;marker-end:url(#message)}\
@@ -41,4 +43,6 @@ markerUnits='userSpaceOnUse' orient='auto'><path d='M 0 0 L 10 5 L 0 10 z' style
 markerUnits='userSpaceOnUse' orient='auto'><path d='M 0 0 L 10 5 L 0 10 z' style='fill:#a16207'/></marker>\
 \n<marker id='untaken' viewBox='0 0 10 10' refX='5' refY='5' markerWidth='10' markerHeight='10' \
 markerUnits='userSpaceOnUse'><circle cx='5' cy='5' r='4' style='fill:#fff;stroke:#111'/></marker>\n\
-<rect width='100%' height='100%' fill='#fff'/>\n";
+<rect width='100%' height='100%' fill='#fff'/>\n\
+<text class='key' x='14' y='16'>Arrow: from sender to taker. Above it: the end's name, what it carries. Circle: not taken.</text>\n\
+<g id='names'>\n";

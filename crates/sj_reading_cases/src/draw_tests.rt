@@ -102,6 +102,41 @@ fn each_message_or_delivery_has_an_arrow(rt: HostRuntime) -> Result<(), Fail> {
     Ok(())
 }
 
+// So many parties that a text of 22 letters is cut, and the names of two rows of forty arrows.
+const MANY: &[u8] =
+    b"session 0 a x b y\nparty c ended 1\nparty d ended 1\nparty e ended 1\nparty f ended 1\n\
+    party g ended 1\nparty h ended 1\nparty i ended 1\nparty j ended 1\nparty k ended 1\nparty l ended 1\n\
+    party m ended 1\nparty n ended 1\nparty o ended 1\nparty p ended 1\n";
+
+// A piece, and how often it stands in the picture of many parties with 81 messages.
+const CUT: [(&[u8], usize); 5] = [
+    (
+        b"<title>x: String \"1 High Street\"</title>x: String \"1 Hig&#8230;</text>",
+        81,
+    ),
+    (b"<text class='name' ", 16),
+    (b"<use href='#names' y='1166'/>", 1),
+    (b"<use href='#names' y='2314'/>", 1),
+    (b"<use href='#names' ", 3),
+];
+
+#[test]
+fn a_long_text_is_cut_and_names_stand_again(rt: HostRuntime) -> Result<(), Fail> {
+    let mut text = Vec::from_slice(rt.alloc(), MANY)?;
+    for _ in 0..81u8 {
+        text.extend_from_slice(b"0.0 0 a b String \"1 High Street\"\n")?;
+    }
+    let Ok(svg) = draw_lines(rt.alloc(), &text) else {
+        return Err(Fail::from("no picture"));
+    };
+    for (piece, count) in CUT {
+        let many = piece.len().max(1);
+        let found = svg.windows(many).filter(|w| *w == piece).count();
+        assert_eq!(rt; found, count, "{piece:?}");
+    }
+    Ok(())
+}
+
 const REFUSED: [(&[u8], DrawRefusal); 27] = [
     (b"", DrawRefusal::Unread(1)),
     (b"done ", DrawRefusal::Unread(1)),

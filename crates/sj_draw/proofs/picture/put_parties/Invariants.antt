@@ -1,9 +1,0 @@
-use Rattle.std.proofs.Common.{◌≡◌, ◌++◌, ℕ, List, map, drop, Bor}
-use Rattle.sj_draw.specs.Drawn.{parties_text}
-use Rattle.sj_draw.proofs.picture.put_parties.Given as goal
-
--- with what is left it is the whole
-abbrev pub invariant-loop-i : goal.invariant-loop-i
-invariant-loop-i l =
-    l.text.items ++ parties_text l.layout l.i (map (λ (n : Bor (List ℕ)). n.now) (drop l.i l.names))
-    ≡ l.fn.text.items ++ parties_text l.layout 0 (map (λ (n : Bor (List ℕ)). n.now) l.names)

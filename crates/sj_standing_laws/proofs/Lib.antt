@@ -1,0 +1,4 @@
+pub mod SoundLemmas
+pub mod BatchLemmas
+pub mod FramesLemmas
+pub mod StandingLemmas
