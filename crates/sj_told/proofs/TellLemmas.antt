@@ -1,5 +1,5 @@
 -- What each line tells, and so all lines.
-use Rattle.std.proofs.Common.{◌≡◌, ◌≢◌, ℕ, zero, suc, ◌+◌, ◌*◌, ◌<◌, ◌≤◌, ◌==◌, Bool, true, false, if◌then◌else◌, List, [], ◌∷◌, ◌++◌, map, length, drop, get_or, slice_get, Option, Some, None, append-nil, refl, ap, sym, ◌∙◌, subst, arith, inl, inr, tt}
+use Rattle.std.proofs.Common.{◌≡◌, ◌≢◌, ℕ, zero, suc, ◌+◌, ◌*◌, ◌<◌, ◌≤◌, ◌==◌, Bool, true, false, if◌then◌else◌, List, [], ◌∷◌, ◌++◌, map, length, drop, get_or, slice_get, Option, Some, None, Result, Ok, Err, OnOk, append-nil, refl, ap, sym, ◌∙◌, subst, arith, inl, inr, tt}
 use Rattle.std.proofs.Math.ListN.{set}
 use Rattle.std.proofs.lemmas.Bool.Decides.{eqb_tells}
 use Rattle.std.proofs.lemmas.List.{append_assoc, at_drop_more, drop_all, length-set, map-append}
@@ -33,6 +33,10 @@ set_there (y ∷ ys) (suc n) (suc m) x ne = set_there ys n m x (λ e. ne (ap suc
 
 some_same : {X : Type 0} → (x y : X) → Some x ≡ Some y → x ≡ y
 some_same x y h = cc h
+
+pub on_ok : {X E : Type 0} (r : Result X E) (P Q : Type 0) → (P → Q) → OnOk r P → OnOk r Q
+on_ok (Ok x) P Q f p = f p
+on_ok (Err e) P Q f p = tt
 
 -- past the end of the list nothing grows
 pub grows_past : (k : ℕ) (sent : List Passed) (takers : List ℕ) (old : List ToldEnd) → length old ≤ k → GrowAt k sent takers old old

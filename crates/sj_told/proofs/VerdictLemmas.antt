@@ -22,7 +22,7 @@ and_true : (b : Bool) → b && true ≡ b
 and_true true = refl
 and_true false = refl
 
-verdict_so : Bool → Bool → Verdict
+abbrev verdict_so : Bool → Bool → Verdict
 verdict_so long done = if long then verdicts.Long else (if done then verdicts.Done else verdicts.Blocked)
 
 pub verdict_is : (w : World) (stands : List Stand) → opened_in w ≡ [] → AreStands w stands → verdict_by stands ≡ verdict_of w

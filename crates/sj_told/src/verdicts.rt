@@ -19,13 +19,25 @@ pub fn verdict_told(stands: &[Stand]) -> Verdict
 fn verdict_by(stands: &[Stand]) -> Verdict
     ensures { result ≡ verdict_by stands.now }
 {
-    if stands.iter().any(|s| is_at_limit(s.state)) {
+    if some_at_limit(stands) {
         Verdict::Long
-    } else if stands.iter().all(|s| has_ended(s.state)) {
+    } else if all_ended(stands) {
         Verdict::Done
     } else {
         Verdict::Blocked
     }
+}
+
+fn some_at_limit(stands: &[Stand]) -> bool
+    ensures { result ≡ list_any (λ s. is_at_limit s.state) stands.now }
+{
+    stands.iter().any(|s| is_at_limit(s.state))
+}
+
+fn all_ended(stands: &[Stand]) -> bool
+    ensures { result ≡ list_all (λ s. has_ended s.state) stands.now }
+{
+    stands.iter().all(|s| has_ended(s.state))
 }
 
 fn is_at_limit(state: State) -> bool

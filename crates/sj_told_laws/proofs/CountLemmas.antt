@@ -1,6 +1,7 @@
 -- There are as many Sent notes as messages.
 use Rattle.std.proofs.Common.{◌≡◌, ℕ, zero, suc, ◌+◌, nat_lt, Bool, true, cond, List, [], ◌∷◌, ◌++◌, map, length, sum_by, slice_get, Option, Some, None, option_map, option_and_then, refl, ap, sym, ◌∙◌, subst, arith}
 use Rattle.std.proofs.lemmas.List.{length-append}
+use Rattle.std.proofs.lemmas.List.Sums.{sum_by-cons}
 use Rattle.sj_base.specs.declared.EndId.{EndId}
 use Rattle.sj_base.specs.declared.Msg.{Msg}
 use Rattle.sj_base.specs.declared.Msg.TheVariants as msgs
@@ -32,16 +33,16 @@ use Rattle.sj_told.specs.Counts.{is_sent, messages_sent, sent_count}
 
 -- ---- what a use adds
 
-size : Session → ℕ
+abbrev size : Session → ℕ
 size z = length z.first.sent + length z.second.sent
 
-use_count : Use → ℕ
+abbrev use_count : Use → ℕ
 use_count (sends m) = 1
 use_count (takes m) = 0
 use_count delegates = 0
 use_count (begins place) = 0
 
-uses_count : List (EndId × Use) → ℕ
+abbrev uses_count : List (EndId × Use) → ℕ
 uses_count [] = 0
 uses_count (u ∷ us) = use_count u.1 + uses_count us
 
@@ -58,8 +59,8 @@ side_size (suc d) p u z = omega (arith, end_size p u z.second)
 altered_size : (zs : List Session) (s k : ℕ) (f : Session → Session) → ((z : Session) → size (f z) ≡ size z + k) → sum_by size (altered_session zs s f) ≡ sum_by size zs + k
 altered_size [] zero k f h = omega (arith, h unopened)
 altered_size [] (suc s) k f h = altered_size [] s k f h
-altered_size (z ∷ zs) zero k f h = omega (arith, h z)
-altered_size (z ∷ zs) (suc s) k f h = omega (arith, altered_size zs s k f h)
+altered_size (z ∷ zs) zero k f h = omega (arith, h z, sum_by-cons size (f z) zs, sum_by-cons size z zs)
+altered_size (z ∷ zs) (suc s) k f h = omega (arith, altered_size zs s k f h, sum_by-cons size z (altered_session zs s f), sum_by-cons size z zs)
 
 uses_size : (p : ℕ) (us : List (EndId × Use)) (zs : List Session) → sum_by size (after_uses p us zs) ≡ sum_by size zs + uses_count us
 uses_size p [] zs = omega arith
@@ -84,7 +85,7 @@ begun_at_none ps (awaits.Value k) m = refl
 begun_at_none ps awaits.OneOf m = refl
 begun_at_none ps awaits.MoreOrStop m = refl
 
-Counts : NoteAt → Change → Type 0
+abbrev Counts : NoteAt → Change → Type 0
 Counts note c = is_sent note ≡ uses_count c.uses
 
 noted_none : {X : Type 0} (noted : X → NoteAt) (o : Option X) (note : NoteAt) → ((x : X) → is_sent (noted x) ≡ 0) → option_map noted o ≡ Some note → is_sent note ≡ 0
@@ -101,7 +102,11 @@ act_counts w p h (wants.Delegate f y) c note made noted =
     (ap is_sent (sym (same_note (Sent f (session_message y p)) note noted))) made
 act_counts w p h (wants.Take f a) c note made noted =
     by_option (change_by_taking w.protocols h f a) (Counts note) (next_for w.sessions f) c
-    (λ x next. noted_none (λ (y : Passed). Took f y.msg) (next_for w.sessions f) note (λ y. refl) noted ∙ sym (begun_at_none w.protocols a x.msg)) made
+    (λ x next.
+        let none = noted_none (λ (y : Passed). Took f y.msg) (next_for w.sessions f) note (λ y. refl) noted in
+        let begun = begun_at_none w.protocols a x.msg in
+        let it : is_sent note ≡ 0 + uses_count (begun_at w.protocols a x.msg) = omega (arith, none, begun) in
+        it) made
 act_counts w p h (wants.Close f) c note made noted = by_test (Counts note) true (plain_change (closed_of h) []) c (ap is_sent (sym (same_note (Shut f) note noted))) made
 act_counts w p h (wants.Request n q) c note made noted =
     by_test (Counts note) (nat_lt (length (w.requests p)) limit_of_requests) (change_by_opening h (opened_number p (length (w.requests p))) (body_named w.protocols n) q) c

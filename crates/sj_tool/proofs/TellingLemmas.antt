@@ -60,7 +60,7 @@ stand_more stands i count more d all lt so_far added = omega (arith, at_drop_mor
 pub stand_over : (stands : List Stand) (i : ℕ) → length stands ≤ i → sum_by (λ s. s.steps) (drop i stands) ≡ 0
 stand_over stands i over = ap (λ (xs : List Stand). sum_by (λ s. s.steps) xs) (drop_all i stands over)
 
-sum_list : List ℕ → ℕ
+abbrev sum_list : List ℕ → ℕ
 sum_list xs = sum_by (λ x. x) xs
 
 sum_map : {X : Type 0} (f : X → ℕ) (xs : List X) → sum_by f xs ≡ sum_list (map f xs)

@@ -12,7 +12,7 @@ loop-sess-preserved c =
     let k = 2 * c.loop-sess.sess in
     let first = subst (λ (xs : List ToldEnd). AreEmpty (k + 1) xs) (sym c.in_ok-push.ensures.items) (one_empty k (k + 1) c.loop-sess.ends.items c.empty_end.result (omega arith) c.loop-sess.invariant c.empty_end.ensures) in
     subst (λ (xs : List ToldEnd). AreEmpty (2 * (c.loop-sess.sess + 1)) xs) (sym c.in_ok-push-2.ensures.items)
-    (one_empty (k + 1) (2 * (c.loop-sess.sess + 1)) c.push.new.ends.items c.empty_end-2.result (omega arith) first c.empty_end-2.ensures)
+    (one_empty (k + 1) (2 * (c.loop-sess.sess + 1)) c.push.new.self.items c.empty_end-2.result (omega arith) first c.empty_end-2.ensures)
 
 pub returns : goal.returns
 returns c =
