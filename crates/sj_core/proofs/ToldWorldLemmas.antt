@@ -113,5 +113,5 @@ module _ (c : NodeWorld) (reached : IsReached c) (file : FileAt) (q : IsQuietOf 
   none_opened none =
       end_opened file q.accepted max max_picks (history_in c) (world_in c) q.run q.quiet
       (λ p lt.
-          let n = item_at (nodes_in c) p (omega (arith, lt, many, end_parties file q.accepted max max_picks (history_in c) (world_in c) q.run q.quiet)) in
-          ap (λ o. (node_or (first_node (file_in c) p) o).requests) n.is ∙ none_zero (requests_of n.item) (none_has (nodes_in c) none p n.item n.is))
+      let n = item_at (nodes_in c) p (omega (arith, lt, many, end_parties file q.accepted max max_picks (history_in c) (world_in c) q.run q.quiet)) in
+      ap (λ o. (node_or (first_node (file_in c) p) o).requests) n.is ∙ none_zero (requests_of n.item) (none_has (nodes_in c) none p n.item n.is))

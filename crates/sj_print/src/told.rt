@@ -46,7 +46,14 @@ fn put_ends(text: &mut Vec<u8>, file: &File, ends: &[ToldEnd]) -> Result<(), NoM
         ++ session_lines (file_of file.now) 0 (file_of file.now).connects w.sessions) }
 {
     for i in 0..file.connects.len() {
-        put_two_ends(text, file, i as u32, &file.connects[i], &ends[2 * i], &ends[2 * i + 1])?;
+        put_two_ends(
+            text,
+            file,
+            i as u32,
+            &file.connects[i],
+            &ends[2 * i],
+            &ends[2 * i + 1],
+        )?;
     }
     Ok(())
 }
@@ -64,8 +71,20 @@ fn put_two_ends(
         ++ told_part (file_of file.now) sess (connect_of connect.now) first.now second.now) }
 {
     put_session(text, file, sess, connect)?;
-    put_sent(text, file, EndId { sess, side: 0 }, &first.sent, &first.takers)?;
-    put_sent(text, file, EndId { sess, side: 1 }, &second.sent, &second.takers)?;
+    put_sent(
+        text,
+        file,
+        EndId { sess, side: 0 },
+        &first.sent,
+        &first.takers,
+    )?;
+    put_sent(
+        text,
+        file,
+        EndId { sess, side: 1 },
+        &second.sent,
+        &second.takers,
+    )?;
     Ok(())
 }
 
@@ -77,7 +96,13 @@ fn put_stands(text: &mut Vec<u8>, file: &File, stands: &[Stand]) -> Result<(), N
         ++ party_lines (file_of file.now) w 0 (file_of file.now).parties w.parties) }
 {
     for i in 0..file.parties.len() {
-        put_party(text, file, file.parties[i].name, stands[i].steps, stands[i].state)?;
+        put_party(
+            text,
+            file,
+            file.parties[i].name,
+            stands[i].steps,
+            stands[i].state,
+        )?;
     }
     Ok(())
 }

@@ -1,5 +1,5 @@
 -- What each line tells, and so all lines.
-use Rattle.std.proofs.Common.{◌≡◌, ◌≢◌, ℕ, zero, suc, ◌+◌, ◌*◌, ◌<◌, ◌≤◌, ◌==◌, Bool, true, false, if◌then◌else◌, List, [], ◌∷◌, ◌++◌, map, length, drop, get_or, slice_get, Option, Some, None, Result, Ok, Err, OnOk, append-nil, refl, ap, sym, ◌∙◌, subst, arith, inl, inr, tt}
+use Rattle.std.proofs.Common.{◌≡◌, ◌≢◌, ℕ, zero, suc, ◌+◌, ◌*◌, ◌<◌, ◌≤◌, ◌==◌, Bool, true, false, if◌then◌else◌, List, [], ◌∷◌, ◌++◌, map, length, drop, get_or, slice_get, Option, Some, None, Result, Ok, Err, OnOk, append-nil, refl, ap, sym, ◌∙◌, subst, arith, inl, inr}
 use Rattle.std.proofs.Math.ListN.{set}
 use Rattle.std.proofs.lemmas.Bool.Decides.{eqb_tells}
 use Rattle.std.proofs.lemmas.List.{append_assoc, at_drop_more, drop_all, length-set, map-append}
@@ -9,6 +9,8 @@ use Rattle.sj_base.specs.declared.Msg.{Msg}
 use Rattle.sj_semantics.specs.declared.Passed.{Passed}
 use Rattle.sj_semantics.specs.Ends.{is_end, other_end}
 use Rattle.sj_end.specs.declared.note.Line.{Line}
+use Rattle.sj_end.specs.declared.note.Note.{Note}
+use Rattle.sj_end.specs.declared.note.Note.TheVariants as notes
 use Rattle.sj_end.specs.Lines.{line_at, note_seen}
 use Rattle.sj_rules.specs.Log.{Accept, Ack, Carry, Claim, Fin, Give, LineAt, Local, NoteAt, Open, Request, Sent, Shut, Signal, Took}
 use Rattle.sj_rules_laws.specs.TiedNotes.{sent_told, taken_told, told_in}
@@ -126,6 +128,22 @@ stays old p (Give of conn peer sent taken base resend) h = stays_so old p (Give 
 stays old p (Request sess to) h = stays_so old p (Request sess to) (λ e. refl) (λ e. refl)
 stays old p (Accept sess from) h = stays_so old p (Accept sess from) (λ e. refl) (λ e. refl)
 stays old p (Open sess) h = stays_so old p (Open sess) (λ e. refl) (λ e. refl)
+
+-- a note that is neither of the two tells nothing
+pub silent_note : (n : Note) → ((e : EndId) (m : Msg) → n ≡ notes.Sent e m → ⊥) → ((e : EndId) (m : Msg) → n ≡ notes.Took e m → ⊥) → IsSilent (note_seen n)
+silent_note (notes.Sent e m) sent took = absurd (sent e m refl)
+silent_note (notes.Took e m) sent took = absurd (took e m refl)
+silent_note notes.Local sent took = tt
+silent_note (notes.Shut f) sent took = tt
+silent_note (notes.Carry to conn number taken msg) sent took = tt
+silent_note (notes.Fin to conn number) sent took = tt
+silent_note (notes.Claim of) sent took = tt
+silent_note (notes.Signal to conn party taken) sent took = tt
+silent_note (notes.Ack of conn) sent took = tt
+silent_note (notes.Give of conn peer sent taken base resend) sent took = tt
+silent_note (notes.Request sess to) sent took = tt
+silent_note (notes.Accept sess from) sent took = tt
+silent_note (notes.Open sess) sent took = tt
 
 -- ---- all lines
 

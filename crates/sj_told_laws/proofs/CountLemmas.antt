@@ -103,10 +103,10 @@ act_counts w p h (wants.Delegate f y) c note made noted =
 act_counts w p h (wants.Take f a) c note made noted =
     by_option (change_by_taking w.protocols h f a) (Counts note) (next_for w.sessions f) c
     (λ x next.
-        let none = noted_none (λ (y : Passed). Took f y.msg) (next_for w.sessions f) note (λ y. refl) noted in
-        let begun = begun_at_none w.protocols a x.msg in
-        let it : is_sent note ≡ 0 + uses_count (begun_at w.protocols a x.msg) = omega (arith, none, begun) in
-        it) made
+    let none = noted_none (λ (y : Passed). Took f y.msg) (next_for w.sessions f) note (λ y. refl) noted in
+    let begun = begun_at_none w.protocols a x.msg in
+    let it : is_sent note ≡ 0 + uses_count (begun_at w.protocols a x.msg) = omega (arith, none, begun) in
+    it) made
 act_counts w p h (wants.Close f) c note made noted = by_test (Counts note) true (plain_change (closed_of h) []) c (ap is_sent (sym (same_note (Shut f) note noted))) made
 act_counts w p h (wants.Request n q) c note made noted =
     by_test (Counts note) (nat_lt (length (w.requests p)) limit_of_requests) (change_by_opening h (opened_number p (length (w.requests p))) (body_named w.protocols n) q) c

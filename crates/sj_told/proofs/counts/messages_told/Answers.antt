@@ -4,8 +4,8 @@ use Rattle.sj_told.proofs.counts.messages_told.Goals as goal
 
 pub loop-line-preserved : goal.loop-line-preserved
 loop-line-preserved c = record {
-  all = count_more c.args.lines.now c.loop-line.line-index c.loop-line.count c.one_if_sent.result _ _ c.loop-line-test.true c.loop-line.invariant.all c.one_if_sent.ensures;
-  few = omega (arith, c.loop-line.invariant.few, at_most c.one_if_sent.result _ c.one_if_sent.ensures);
+  all = count_more c.args.lines.now c.loop-line.line-index c.loop-line.count c.one_if_sent-count.result _ _ c.loop-line-test.true c.loop-line.invariant.all c.one_if_sent-count.ensures;
+  few = omega (arith, c.loop-line.invariant.few, at_most c.one_if_sent-count.result _ c.one_if_sent-count.ensures);
 }
 
 pub returns : goal.returns

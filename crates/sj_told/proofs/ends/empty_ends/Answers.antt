@@ -10,9 +10,9 @@ loop-sess-init c = subst (λ (xs : List ToldEnd). AreEmpty 0 xs) (sym c.new-ends
 pub loop-sess-preserved : goal.loop-sess-preserved
 loop-sess-preserved c =
     let k = 2 * c.loop-sess.sess in
-    let first = subst (λ (xs : List ToldEnd). AreEmpty (k + 1) xs) (sym c.in_ok-push.ensures.items) (one_empty k (k + 1) c.loop-sess.ends.items c.empty_end.result (omega arith) c.loop-sess.invariant c.empty_end.ensures) in
+    let first = subst (λ (xs : List ToldEnd). AreEmpty (k + 1) xs) (sym c.in_ok-push.ensures.items) (one_empty k (k + 1) c.loop-sess.ends.items c.empty_end-first.result (omega arith) c.loop-sess.invariant c.empty_end-first.ensures) in
     subst (λ (xs : List ToldEnd). AreEmpty (2 * (c.loop-sess.sess + 1)) xs) (sym c.in_ok-push-2.ensures.items)
-    (one_empty (k + 1) (2 * (c.loop-sess.sess + 1)) c.push.new.self.items c.empty_end-2.result (omega arith) first c.empty_end-2.ensures)
+    (one_empty (k + 1) (2 * (c.loop-sess.sess + 1)) c.push.new.self.items c.empty_end-second.result (omega arith) first c.empty_end-second.ensures)
 
 pub returns : goal.returns
 returns c =

@@ -1,9 +1,8 @@
-use Rattle.std.proofs.Common.{◌∷◌, [], ℕ, subst, sym, tt}
+use Rattle.std.proofs.Common.{◌∷◌, [], ℕ, subst, sym}
 use Rattle.sj_end.specs.Lines.{note_seen}
 use Rattle.sj_end.specs.declared.note.Note.{Note}
-use Rattle.sj_rules.specs.Log.{Local}
 use Rattle.sj_told.specs.Lines.{Grow, GrowAt}
-use Rattle.sj_told.proofs.TellLemmas.{on_ok, sent_grows, stays, taken_grows}
+use Rattle.sj_told.proofs.TellLemmas.{on_ok, sent_grows, silent_note, stays, taken_grows}
 use Rattle.sj_told.proofs.ends.tell_line.Goals as goal
 
 pub returns-in-Sent : goal.returns-in-Sent
@@ -22,7 +21,6 @@ returns-in-Took c =
     (taken_grows old new by c.in-Took.end c.in-Took.msg (subst (λ (k : ℕ). GrowAt k [] (by ∷ []) old new) c.other_slot_of.ensures g)))
     c.tell_taken.ensures
 
-pub returns-in-Local : goal.returns-in-Local
-returns-in-Local c =
-    let old = c.args.ends.now.items in let by = c.args.line.now.party in
-    subst (λ (n : Note). Grow old by (note_seen n) old) (sym c.in-Local.is) (stays old by Local tt)
+pub returns-in_default : goal.returns-in_default
+returns-in_default c =
+    let note = c.args.line.now.entry.note in stays c.args.ends.now.items c.args.line.now.party (note_seen note) (silent_note note c.in_default.not-Sent c.in_default.not-Took)
