@@ -131,19 +131,19 @@ stays old p (Open sess) h = stays_so old p (Open sess) (λ e. refl) (λ e. refl)
 
 -- a note that is neither of the two tells nothing
 pub silent_note : (n : Note) → ((e : EndId) (m : Msg) → n ≡ notes.Sent e m → ⊥) → ((e : EndId) (m : Msg) → n ≡ notes.Took e m → ⊥) → IsSilent (note_seen n)
-silent_note (notes.Sent e m) sent took = absurd (sent e m refl)
-silent_note (notes.Took e m) sent took = absurd (took e m refl)
-silent_note notes.Local sent took = tt
-silent_note (notes.Shut f) sent took = tt
-silent_note (notes.Carry to conn number taken msg) sent took = tt
-silent_note (notes.Fin to conn number) sent took = tt
-silent_note (notes.Claim of) sent took = tt
-silent_note (notes.Signal to conn party taken) sent took = tt
-silent_note (notes.Ack of conn) sent took = tt
-silent_note (notes.Give of conn peer sent taken base resend) sent took = tt
-silent_note (notes.Request sess to) sent took = tt
-silent_note (notes.Accept sess from) sent took = tt
-silent_note (notes.Open sess) sent took = tt
+silent_note (notes.Sent e m) no_sent no_took = absurd (no_sent e m refl)
+silent_note (notes.Took e m) no_sent no_took = absurd (no_took e m refl)
+silent_note notes.Local no_sent no_took = tt
+silent_note (notes.Shut f) no_sent no_took = tt
+silent_note (notes.Carry to conn number taken msg) no_sent no_took = tt
+silent_note (notes.Fin to conn number) no_sent no_took = tt
+silent_note (notes.Claim of) no_sent no_took = tt
+silent_note (notes.Signal to conn party taken) no_sent no_took = tt
+silent_note (notes.Ack of conn) no_sent no_took = tt
+silent_note (notes.Give of conn peer sent taken base resend) no_sent no_took = tt
+silent_note (notes.Request sess to) no_sent no_took = tt
+silent_note (notes.Accept sess from) no_sent no_took = tt
+silent_note (notes.Open sess) no_sent no_took = tt
 
 -- ---- all lines
 
