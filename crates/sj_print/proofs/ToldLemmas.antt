@@ -15,7 +15,7 @@ use Rattle.sj_semantics.specs.Program.{Program}
 use Rattle.sj_semantics.specs.State.{opened_in, state_if, state_of_program, states_from, states_of, verdict_of}
 use Rattle.sj_semantics.specs.Transcript.{opened_lines, party_lines, sent_lines, session_line, session_lines, transcript_of, verdict_word}
 use Rattle.sj_semantics.specs.World.{World}
-use Rattle.sj_text.proofs.CutLemmas.{StillTo}
+use Rattle.sj_text.proofs.CutLemmas.{StillTo, ahead_is, one_more}
 use Rattle.sj_told.specs.declared.told.Stand.{Stand}
 use Rattle.sj_told.specs.declared.told.ToldEnd.{ToldEnd}
 use Rattle.sj_told.specs.Told.{AreEnds, AreStands, IsEnd}
@@ -46,6 +46,17 @@ told_step file w cs ends i c a b lt few are within =
     ∙ ap (λ part. part ++ session_lines file (i + 1) (drop (i + 1) (map connect_of cs)) (drop (i + 1) w.sessions))
     (part_told file w i (connect_of (get_or cs i c)) (get_or ends (2 * i) a) (get_or ends (2 * i + 1) b) first second)
 
+-- the next session is put
+pub put_next : (file : FileAt) (w : World) (cs : List Connect) (ends : List ToldEnd) (i : ℕ) (c : Connect) (a b : ToldEnd) (old whole now new : List ℕ)
+    → i < length cs → length cs ≤ length w.sessions → AreEnds file w ends → 2 * i + 1 < length ends → get_or cs i c ≡ c
+    → StillTo old whole (session_lines file i (drop i (map connect_of cs)) (drop i w.sessions)) now → new ≡ now ++ told_part file i (connect_of c) (get_or ends (2 * i) a) (get_or ends (2 * i + 1) b)
+    → StillTo old whole (session_lines file (i + 1) (drop (i + 1) (map connect_of cs)) (drop (i + 1) w.sessions)) new
+put_next file w cs ends i c a b old whole now new lt few are within there still put =
+    let behind = session_lines file (i + 1) (drop (i + 1) (map connect_of cs)) (drop (i + 1) w.sessions) in
+    let bytes = told_part file i (connect_of c) (get_or ends (2 * i) a) (get_or ends (2 * i + 1) b) in
+    let step = told_step file w cs ends i c a b lt few are within ∙ ap (λ (y : Connect). told_part file i (connect_of y) (get_or ends (2 * i) a) (get_or ends (2 * i + 1) b) ++ behind) there in
+    one_more old whole bytes behind now new (ahead_is old whole (session_lines file i (drop i (map connect_of cs)) (drop i w.sessions)) (bytes ++ behind) now step still) put
+
 -- ---- parties
 
 state_here : (w : World) (p : ℕ) (gs : List Program) (i : ℕ) (s : State) → slice_get (states_from w p gs) i ≡ Some s → s ≡ state_if w (i + p) (slice_get gs i)
@@ -74,6 +85,17 @@ module _ (w : World) (stands : List Stand) (are : AreStands w stands) (i : ℕ) 
       → party_lines file w i (drop i (map party_of qs)) (drop i w.parties)
       ≡ party_part file (get_or qs i q).name (get_or stands i d).steps (get_or stands i d).state ++ party_lines file w (i + 1) (drop (i + 1) (map party_of qs)) (drop (i + 1) w.parties)
   stand_step file qs q within known = party_step file w qs w.parties i q (get_or stands i d).steps (get_or stands i d).state within known steps_are state_is
+
+-- the next party is put
+pub put_stand : (file : FileAt) (w : World) (stands : List Stand) (qs : List Party) (i : ℕ) (q : Party) (d : Stand) (old whole now new : List ℕ)
+    → AreStands w stands → i < length stands → i < length qs → i < length w.parties → get_or qs i q ≡ q
+    → StillTo old whole (party_lines file w i (drop i (map party_of qs)) (drop i w.parties)) now → new ≡ now ++ party_part file q.name (get_or stands i d).steps (get_or stands i d).state
+    → StillTo old whole (party_lines file w (i + 1) (drop (i + 1) (map party_of qs)) (drop (i + 1) w.parties)) new
+put_stand file w stands qs i q d old whole now new are told lt known there still put =
+    let behind = party_lines file w (i + 1) (drop (i + 1) (map party_of qs)) (drop (i + 1) w.parties) in
+    let bytes = party_part file q.name (get_or stands i d).steps (get_or stands i d).state in
+    let step = stand_step w stands are i d told file qs q lt known ∙ ap (λ (y : Party). party_part file y.name (get_or stands i d).steps (get_or stands i d).state ++ behind) there in
+    one_more old whole bytes behind now new (ahead_is old whole (party_lines file w i (drop i (map party_of qs)) (drop i w.parties)) (bytes ++ behind) now step still) put
 
 -- as many parties as are told
 length-mapped : {X Y : Type 0} (f : X → Y) (xs : List X) → length (map f xs) ≡ length xs

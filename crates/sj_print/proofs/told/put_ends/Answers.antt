@@ -3,10 +3,9 @@ use Rattle.std.proofs.lemmas.Grind.{common_steps}
 use Rattle.std.proofs.lemmas.List.{drop_all}
 use Rattle.sj_lang.specs.FileView.{file_of, connect_of}
 use Rattle.sj_semantics.specs.Transcript.{session_lines}
-use Rattle.sj_print.specs.Parts.{told_part}
-use Rattle.sj_text.proofs.CutLemmas.{ahead_is, none_yet, one_more}
+use Rattle.sj_text.proofs.CutLemmas.{none_yet}
 use Rattle.sj_print.proofs.PartLemmas.{length-map}
-use Rattle.sj_print.proofs.ToldLemmas.{all_put, told_step}
+use Rattle.sj_print.proofs.ToldLemmas.{all_put, put_next}
 use Rattle.sj_print.proofs.told.put_ends.Goals as goal
 
 pub loop-i-init : goal.loop-i-init
@@ -18,11 +17,8 @@ loop-i-preserved c = λ w few are.
     let i = c.loop-i.i in let x = c.index.result.now in let old = c.args.text.now.items in let whole = session_lines file 0 file.connects w.sessions in
     let within : i < length cs = omega (arith, c.loop-i-test.true, c.len-i-end.ensures, c.args.file.now.connects.ok.0) in
     let there : get_or cs i x ≡ x = grind (arith, common_steps) in
-    let behind = session_lines file (i + 1) (drop (i + 1) (map connect_of cs)) (drop (i + 1) w.sessions) in
-    let step = told_step file w cs c.args.ends.now i x _ _ within (omega (arith, few, length-map connect_of cs)) are (omega (arith, within, c.requires.all, length-map connect_of cs))
-    ∙ ap (λ y. told_part file i (connect_of y) _ _ ++ behind) there in
-    let before = ahead_is old whole _ _ c.loop-i.text.items step (c.loop-i.invariant w few are) in
-    one_more old whole _ behind c.loop-i.text.items c.put_two_ends.new.text.items before c.in_ok-put_two_ends.ensures
+    put_next file w cs c.args.ends.now i x _ _ old whole c.loop-i.text.items c.put_two_ends.new.text.items within (omega (arith, few, length-map connect_of cs)) are
+    (omega (arith, within, c.requires.all, length-map connect_of cs)) there (c.loop-i.invariant w few are) c.in_ok-put_two_ends.ensures
 
 pub returns : goal.returns
 returns c = λ w few are.

@@ -3,10 +3,9 @@ use Rattle.std.proofs.lemmas.Grind.{common_steps}
 use Rattle.std.proofs.lemmas.List.{drop_all}
 use Rattle.sj_lang.specs.FileView.{file_of, party_of}
 use Rattle.sj_semantics.specs.Transcript.{party_lines}
-use Rattle.sj_print.specs.Parts.{party_part}
-use Rattle.sj_text.proofs.CutLemmas.{ahead_is, none_yet, one_more}
+use Rattle.sj_text.proofs.CutLemmas.{none_yet}
 use Rattle.sj_print.proofs.PartLemmas.{length-map}
-use Rattle.sj_print.proofs.ToldLemmas.{all_put, as_many, stand_step}
+use Rattle.sj_print.proofs.ToldLemmas.{all_put, as_many, put_stand}
 use Rattle.sj_print.proofs.told.put_stands.Goals as goal
 
 pub loop-i-init : goal.loop-i-init
@@ -19,11 +18,8 @@ loop-i-preserved c = λ w are.
     let within : i < length qs = omega (arith, c.loop-i-test.true, c.len-i-end.ensures, c.args.file.now.parties.ok.0) in
     let told : i < length stands = omega (arith, within, c.requires, length-map party_of qs) in
     let there : get_or qs i x ≡ x = grind (arith, common_steps) in
-    let behind = party_lines file w (i + 1) (drop (i + 1) (map party_of qs)) (drop (i + 1) w.parties) in
-    let step = stand_step w stands are i _ told file qs x within (omega (arith, told, as_many w stands are))
-    ∙ ap (λ y. party_part file y.name _ _ ++ behind) there in
-    let before = ahead_is old whole _ _ c.loop-i.text.items step (c.loop-i.invariant w are) in
-    one_more old whole _ behind c.loop-i.text.items c.put_party.new.text.items before c.in_ok-put_party.ensures.ok
+    put_stand file w stands qs i x _ old whole c.loop-i.text.items c.put_party.new.text.items are told within (omega (arith, told, as_many w stands are)) there (c.loop-i.invariant w are)
+    c.in_ok-put_party.ensures.ok
 
 pub returns : goal.returns
 returns c = λ w are.
