@@ -48,13 +48,13 @@ told_step file w cs ends i c a b lt few are within =
 
 -- the next session is put
 pub put_next : (file : FileAt) (w : World) (cs : List Connect) (ends : List ToldEnd) (i : ℕ) (c : Connect) (a b : ToldEnd) (old whole now new : List ℕ)
-    → i < length cs → length cs ≤ length w.sessions → AreEnds file w ends → 2 * i + 1 < length ends → get_or cs i c ≡ c
-    → StillTo old whole (session_lines file i (drop i (map connect_of cs)) (drop i w.sessions)) now → new ≡ now ++ told_part file i (connect_of c) (get_or ends (2 * i) a) (get_or ends (2 * i + 1) b)
+    → i < length cs → length cs ≤ length w.sessions → AreEnds file w ends → 2 * i + 1 < length ends → get_or cs i c ≡ c → get_or ends (2 * i) a ≡ a → get_or ends (2 * i + 1) b ≡ b
+    → StillTo old whole (session_lines file i (drop i (map connect_of cs)) (drop i w.sessions)) now → new ≡ now ++ told_part file i (connect_of c) a b
     → StillTo old whole (session_lines file (i + 1) (drop (i + 1) (map connect_of cs)) (drop (i + 1) w.sessions)) new
-put_next file w cs ends i c a b old whole now new lt few are within there still put =
+put_next file w cs ends i c a b old whole now new lt few are within there first second still put =
     let behind = session_lines file (i + 1) (drop (i + 1) (map connect_of cs)) (drop (i + 1) w.sessions) in
-    let bytes = told_part file i (connect_of c) (get_or ends (2 * i) a) (get_or ends (2 * i + 1) b) in
-    let step = told_step file w cs ends i c a b lt few are within ∙ ap (λ (y : Connect). told_part file i (connect_of y) (get_or ends (2 * i) a) (get_or ends (2 * i + 1) b) ++ behind) there in
+    let bytes = told_part file i (connect_of c) a b in
+    let step = told_step file w cs ends i c a b lt few are within ∙ (λ k. told_part file i (connect_of (there k)) (first k) (second k) ++ behind) in
     one_more old whole bytes behind now new (ahead_is old whole (session_lines file i (drop i (map connect_of cs)) (drop i w.sessions)) (bytes ++ behind) now step still) put
 
 -- ---- parties

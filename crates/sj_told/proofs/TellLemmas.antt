@@ -80,10 +80,10 @@ sent_grows old new p f m grow = record {
               more_as (record { msg = m; by = p } ∷ []) (sent_told e p (Sent f m)) [] [] g.0 x (told_if (record { msg = m; by = p }) (is_end e f) true (slots_same e f t.1)) refl g.2,
             ))
         | inr t ↦ (
-            x,
-            sym (grow.others (slot_of e) t.1) ∙ is,
-            more_as [] (sent_told e p (Sent f m)) [] [] x x (told_if (record { msg = m; by = p }) (is_end e f) false (slots_apart e f t.1)) refl (no_more x),
-          )
+          x,
+          sym (grow.others (slot_of e) t.1) ∙ is,
+          more_as [] (sent_told e p (Sent f m)) [] [] x x (told_if (record { msg = m; by = p }) (is_end e f) false (slots_apart e f t.1)) refl (no_more x),
+        )
       ];
 }
 
@@ -100,11 +100,11 @@ taken_grows old new p f m grow = record {
                   (ap (map (λ y. y.by)) (told_if (record { msg = m; by = p }) (is_end (other_end e) f) true (others_same e f t.1))) g.2,
             ))
         | inr t ↦ (
-            x,
-            sym (grow.others (slot_of e) t.1) ∙ is,
-            more_as [] [] [] (map (λ y. y.by) (taken_told (other_end e) p (Took f m))) x x refl
-                (ap (map (λ y. y.by)) (told_if (record { msg = m; by = p }) (is_end (other_end e) f) false (others_apart e f t.1))) (no_more x),
-          )
+          x,
+          sym (grow.others (slot_of e) t.1) ∙ is,
+          more_as [] [] [] (map (λ y. y.by) (taken_told (other_end e) p (Took f m))) x x refl
+              (ap (map (λ y. y.by)) (told_if (record { msg = m; by = p }) (is_end (other_end e) f) false (others_apart e f t.1))) (no_more x),
+        )
       ];
 }
 

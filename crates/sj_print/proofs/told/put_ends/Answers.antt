@@ -17,8 +17,11 @@ loop-i-preserved c = λ w few are.
     let i = c.loop-i.i in let x = c.index.result.now in let old = c.args.text.now.items in let whole = session_lines file 0 file.connects w.sessions in
     let within : i < length cs = omega (arith, c.loop-i-test.true, c.len-i-end.ensures, c.args.file.now.connects.ok.0) in
     let there : get_or cs i x ≡ x = grind (arith, common_steps) in
-    put_next file w cs c.args.ends.now i x _ _ old whole c.loop-i.text.items c.put_two_ends.new.text.items within (omega (arith, few, length-map connect_of cs)) are
-    (omega (arith, within, c.requires.all, length-map connect_of cs)) there (c.loop-i.invariant w few are) c.in_ok-put_two_ends.ensures
+    let a = c.index-ends-i.result in let b = c.index-ends-i-in-loop-i.result in
+    let first : get_or c.args.ends.now (2 * i) a ≡ a = grind (arith, common_steps) in
+    let second : get_or c.args.ends.now (2 * i + 1) b ≡ b = grind (arith, common_steps) in
+    put_next file w cs c.args.ends.now i x a b old whole c.loop-i.text.items c.put_two_ends.new.text.items within (omega (arith, few, length-map connect_of cs)) are
+    (omega (arith, within, c.requires.all, length-map connect_of cs)) there first second (c.loop-i.invariant w few are) c.in_ok-put_two_ends.ensures
 
 pub returns : goal.returns
 returns c = λ w few are.
