@@ -1,7 +1,7 @@
 -- How the parties of a world stand at the end of the file that it leaves nothing to do of.
-use Rattle.std.proofs.Common.{◌≡◌, ℕ, zero, suc, ◌+◌, ◌<◌, ◌==◌, max, Bool, true, false, not, ◌||◌, List, [], ◌∷◌, map, length, slice_get, unwrap_or, Option, Some, None, refl, ap, sym, ◌∙◌, subst, arith, inl, inr, add-one}
+use Rattle.std.proofs.Common.{◌≡◌, ℕ, zero, suc, ◌+◌, ◌<◌, ◌==◌, max, Bool, true, false, not, ◌||◌, ◌≤◌, List, [], ◌∷◌, ◌++◌, append-nil, append_assoc, drop, get_or, map, length, slice_get, unwrap_or, Option, Some, None, refl, ap, sym, ◌∙◌, subst, arith, inl, inr, add-one}
 use Rattle.std.proofs.lemmas.Bool.Decides.{eqb_tells}
-use Rattle.std.proofs.lemmas.Option.{slice_get_within}
+use Rattle.std.proofs.lemmas.List.{at_drop_more, drop_all}
 use Rattle.std.specs.List.{list_any}
 use Rattle.sj_lang.specs.FileAt.{FileAt}
 use Rattle.sj_node.specs.declared.node.Node.{Node}
@@ -49,7 +49,7 @@ states_meet w f p [] [] same each = refl
 states_meet w f p [] (g ∷ gs) same each = absurd (omega (arith, same))
 states_meet w f p (x ∷ xs) [] same each = absurd (omega (arith, same))
 states_meet w f p (x ∷ xs) (g ∷ gs) same each =
-    let head = each zero x g refl refl in
+    let head = each zero x g refl refl ∙ ap (λ (q : ℕ). state_of_program w q g) (let e : zero + p ≡ p = omega arith in e) in
     let tail = states_meet w f (p + 1) xs gs (omega (arith, same)) (λ k u v a b. each (suc k) u v a b ∙ ap (λ (q : ℕ). state_of_program w q v) (let e : suc k + p ≡ k + (p + 1) = omega arith in e)) in
     λ i. head i ∷ tail i
 
@@ -92,13 +92,14 @@ module _ (c : NodeWorld) (reached : IsReached c) (file : FileAt) (q : IsQuietOf 
 
   none_has : (ns : List Node) → list_any has_opened ns ≡ false → (p : ℕ) (n : Node) → slice_get ns p ≡ Some n → has_opened n ≡ false
   none_has [] h p n is = cc
-  none_has (m ∷ ms) h p n is = by (has_opened m) refl (list_any has_opened ms) refl h p is
+  none_has (m ∷ ms) h p n is = by (has_opened m) refl (list_any has_opened ms) refl h (λ rest k there. none_has ms rest k n there) p is
     where
-      by : (b : Bool) → has_opened m ≡ b → (d : Bool) → list_any has_opened ms ≡ d → b || d ≡ false → (k : ℕ) → slice_get (m ∷ ms) k ≡ Some n → has_opened n ≡ false
-      by true own d rest none k there = cc
-      by false own true rest none k there = cc
-      by false own false rest none zero there = ap has_opened (sym (some_item m n there)) ∙ own
-      by false own false rest none (suc k) there = none_has ms rest k n there
+      by : (b : Bool) → has_opened m ≡ b → (d : Bool) → list_any has_opened ms ≡ d → b || d ≡ false → (list_any has_opened ms ≡ false → (k : ℕ) → slice_get ms k ≡ Some n → has_opened n ≡ false)
+          → (k : ℕ) → slice_get (m ∷ ms) k ≡ Some n → has_opened n ≡ false
+      by true own d rest none onward k there = cc
+      by false own true rest none onward k there = cc
+      by false own false rest none onward zero there = ap has_opened (sym (some_item m n there)) ∙ own
+      by false own false rest none onward (suc k) there = onward rest k there
 
   record Item {X : Type 0} (xs : List X) (p : ℕ) : Type 0 where
     item : X
@@ -115,3 +116,15 @@ module _ (c : NodeWorld) (reached : IsReached c) (file : FileAt) (q : IsQuietOf 
       (λ p lt.
       let n = item_at (nodes_in c) p (omega (arith, lt, many, end_parties file q.accepted max max_picks (history_in c) (world_in c) q.run q.quiet)) in
       ap (λ o. (node_or (first_node (file_in c) p) o).requests) n.is ∙ none_zero (requests_of n.item) (none_has (nodes_in c) none p n.item n.is))
+
+-- ---- one stand more
+
+pub stand_next : (nodes : List Node) (i : ℕ) (d : Node) (before after : List Stand) (s : Stand) → i < length nodes → before ++ map stand_seen (drop i nodes) ≡ map stand_seen nodes
+    → s ≡ stand_seen (get_or nodes i d) → after ≡ before ++ s ∷ [] → after ++ map stand_seen (drop (i + 1) nodes) ≡ map stand_seen nodes
+stand_next nodes i d before after s lt so_far same put =
+    let rest = map stand_seen (drop (i + 1) nodes) in
+    ap (λ t. t ++ rest) put ∙ append_assoc before (s ∷ []) rest ∙ ap (λ (t : Stand). before ++ t ∷ rest) same
+    ∙ ap (λ t. before ++ t) (sym (at_drop_more (map stand_seen) nodes i d lt)) ∙ so_far
+
+pub stands_over : (nodes : List Node) (i : ℕ) (stands : List Stand) → length nodes ≤ i → stands ++ map stand_seen (drop i nodes) ≡ map stand_seen nodes → stands ≡ map stand_seen nodes
+stands_over nodes i stands over so_far = sym (append-nil stands) ∙ sym (ap (λ t. stands ++ map stand_seen t) (drop_all i nodes over)) ∙ so_far

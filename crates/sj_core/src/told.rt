@@ -63,7 +63,10 @@ fn have_opened(nodes: &[Node]) -> bool
 fn stands_of(alloc: Global, nodes: &[Node]) -> Result<Vec<Stand>, NoMemory>
     ensures { IfOk result (λ v. v.items ≡ map stand_seen nodes.now) }
 {
-    let stands: Vec<Stand> = nodes.iter().map(|node| stand_of(node)).collect(alloc)?;
+    let mut stands = Vec::new(alloc);
+    for node in nodes {
+        stands.push(stand_of(node))?;
+    }
     Ok(stands)
 }
 
