@@ -30,3 +30,4 @@ pub mod OrderLemmas
 pub mod GivenLemmas
 pub mod LastLemmas
 pub mod TailLemmas
+pub mod ToldWorldLemmas

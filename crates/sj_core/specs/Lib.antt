@@ -9,3 +9,4 @@ pub mod Draining
 pub mod Merged
 pub mod Given
 pub mod Tails
+pub mod ToldWorld

@@ -13,6 +13,7 @@ mod replays;
 mod sameness;
 mod starts;
 mod tails;
+mod told;
 mod world;
 
 pub use joins::{join_logs, merge_in};

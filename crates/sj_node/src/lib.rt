@@ -23,6 +23,7 @@ mod refusal;
 mod sends;
 mod signals;
 mod slots;
+mod stands;
 mod starts;
 mod takes;
 mod threads;

@@ -3,6 +3,7 @@ use Rattle.std.specs.Prelude.{ℕ, List, ◌∷◌, ◌++◌, Option, codes, dec
 use Rattle.std.specs.Option.{option_to_list}
 use Rattle.sj_base.specs.declared.EndId.{EndId}
 use Rattle.sj_lang.specs.FileAt.{FileAt, ConnectAt}
+use Rattle.sj_told.specs.declared.told.ToldEnd.{ToldEnd}
 use Rattle.sj_semantics.specs.declared.Opened.{Opened}
 use Rattle.sj_semantics.specs.declared.Passed.{Passed}
 use Rattle.sj_semantics.specs.declared.State.{State}
@@ -15,6 +16,11 @@ abbrev pub session_part : FileAt → List Session → ℕ → ConnectAt → List
 session_part file zs s c =
     let first = end_at zs (record { sess = s; side = 0 }) in let second = end_at zs (record { sess = s; side = 1 }) in
     session_line file s c ++ sent_lines file s 0 0 first.sent second.takers ++ sent_lines file s 1 0 second.sent first.takers
+
+-- the same, as it is told of these two ends
+abbrev pub told_part : FileAt → ℕ → ConnectAt → (first second : ToldEnd) → List ℕ
+told_part file s c first second =
+    session_line file s c ++ sent_lines file s 0 0 first.sent.items first.takers.items ++ sent_lines file s 1 0 second.sent.items second.takers.items
 
 -- the line of a session that was opened, and those of the messages that each of its ends sent
 abbrev pub opened_part : FileAt → List Session → Opened → List ℕ

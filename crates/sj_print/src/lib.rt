@@ -5,6 +5,7 @@ mod lines;
 mod log;
 mod messages;
 mod pieces;
+mod told;
 mod transcript;
 mod version;
 
@@ -12,5 +13,6 @@ pub use lines::print_verdict;
 pub use log::print_line;
 pub use messages::print_message;
 pub use pieces::print_name;
+pub use told::print_told;
 pub use transcript::print_transcript;
 pub use version::print_mark;

@@ -11,6 +11,7 @@ pub mod ReplayLemmas
 pub mod ForestLemmas
 pub mod ForwardLemmas
 pub mod LogAnswers
+pub mod TellingLemmas
 pub mod ToldOnce
 pub mod FileTold
 pub mod OneAnswer

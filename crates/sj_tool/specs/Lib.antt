@@ -20,4 +20,5 @@ pub mod Table
 pub mod TalkParts
 pub mod Talks
 pub mod Tasks
+pub mod Telling
 pub mod Texts

@@ -1,4 +1,4 @@
--- Files that are played to their end: in the plain world, or by a history of the core, of parties that ran or of a log, whose acts are done in the plain world.
+-- Files that are played to their end: in the plain world, or by a history of the core, of parties that ran or of a log, which tells that end.
 use Rattle.std.specs.Prelude.{◌≡◌, ℕ, max, Bool, true, false, List, [], ◌++◌, map, length}
 use Rattle.sj_lang.specs.FileAt.{FileAt}
 use Rattle.sj_lang.specs.Place.{Place}

@@ -1,10 +1,11 @@
 //! Accepted files that are run by a log.
-ghost use Rattle.std.specs.Prelude.{◌≤◌, Bool, IfErr, IfOk, length, map};
+ghost use Rattle.std.specs.Prelude.{◌≡◌, ◌≤◌, Bool, IfErr, IfOk, length, map};
 ghost use Rattle.sj_check.specs.Held.{file_in};
-ghost use Rattle.sj_core.specs.World.{history_of, world_at};
+ghost use Rattle.sj_core.specs.World.{history_of, kept_file, world_at};
 ghost use Rattle.sj_end.specs.Lines.{line_at};
 ghost use Rattle.sj_lang.specs.FileView.{file_of};
 ghost use Rattle.sj_lang.specs.Limits.{source_limit};
+ghost use Rattle.sj_plain.specs.Kept.{without_words};
 ghost use Rattle.sj_print.specs.Version.{IsVersion};
 ghost use Rattle.sj_command.specs.declared.tasks.Task.TheVariants as tasks;
 ghost use Rattle.sj_tool.specs.Calls.{LinkUseAt};
@@ -90,6 +91,7 @@ fn drain_world(
     requires few { length log.now ≤ source_limit }
     ensures has { IfOk result (λ w. (links : LinkUseAt) (l : Bool)
         → HasHistory links (tasks.Replay l) (log_at version log.now) (file_of (file_in accepted.now)) (history_of w) (world_at w)) }
+    ensures kept { IfOk result (λ w. kept_file w ≡ without_words (file_of (file_in accepted.now))) }
     ensures refused { IfErr result (IsRefusedBy (file_of (file_in accepted.now)) (log_at version log.now)) }
 {
     let lines = lines_of(alloc, accepted, version, log)?;

@@ -1,9 +1,10 @@
 //! Accepted files that are run by their parties.
 ghost use Rattle.std.specs.Prelude.{◌≡◌, ℕ, List, Err, IfErr, IfOk, true};
 ghost use Rattle.sj_check.specs.Held.{file_in};
-ghost use Rattle.sj_core.specs.World.{history_of, world_at};
+ghost use Rattle.sj_core.specs.World.{history_of, kept_file, world_at};
 ghost use Rattle.sj_lane.specs.Told.{Rose};
 ghost use Rattle.sj_lang.specs.FileView.{file_of};
+ghost use Rattle.sj_plain.specs.Kept.{without_words};
 ghost use Rattle.sj_run.specs.Damage.{IsDamaged};
 ghost use Rattle.sj_run.specs.Refusals.{IsDamagedOver};
 ghost use Rattle.sj_tool.specs.LogAt.{LogAt};
@@ -66,6 +67,7 @@ fn drain_world<R: Threads + Sync, L: Links, G: Gate>(
     ensures over { IfOk result (λ w. (log : LogAt)
         → HasHistoryOver L.Out.OutLane L.In.InLane L.joined (link_use L.Links links.old links.new)
         task log (file_of (file_in accepted.now)) (history_of w) (world_at w)) }
+    ensures kept { IfOk result (λ w. kept_file w ≡ without_words (file_of (file_in accepted.now))) }
     ensures link_fault { result ≡ Err RunRefusal.LinkFault → Rose (L.faults links.old) (L.faults links.new) }
     ensures damaged { IfErr result (IsDamagedOver L.Out.OutLane L.In.InLane L.joined
         (file_of (file_in accepted.now)) (looks_of task) (L.tells links.old)) }

@@ -1,17 +1,22 @@
 //! How much was done in a plain world.
-ghost use Rattle.std.specs.Prelude.{◌≡◌, ◌≤◌, IfOk, OnOk, ◌++◌};
+ghost use Rattle.std.specs.Prelude.{◌≡◌, ◌≤◌, IfOk, OnOk, ◌++◌, map, sum_by};
+ghost use Rattle.sj_end.specs.Lines.{line_at};
 ghost use Rattle.sj_lang.specs.FileView.{file_of};
 ghost use Rattle.sj_lang.specs.Limits.{limits};
 ghost use Rattle.sj_plain.specs.Plain.{party_count, session_count, world_at};
 ghost use Rattle.sj_generator_laws.specs.Counts.{messages_in, steps_in};
+ghost use Rattle.sj_semantics.specs.World.{World};
 ghost use Rattle.sj_tool.specs.Sums.{summary, sums_line};
+ghost use Rattle.sj_tool.specs.Telling.{IsToldIn};
 ghost use Rattle.std.specs.Prelude.{◌+◌, decimal};
 
 use sj_base::{EndId, NoMemory};
+use sj_end::Line;
 use sj_lang::File;
 use sj_plain::Plain;
 use sj_print::print_verdict;
 use sj_text::{put, put_number};
+use sj_told::{Stand, messages_told, verdict_told};
 use std::alloc::Global;
 
 /// The summary of the generated file of that number, as the plain world of it stands. A sum past
@@ -32,6 +37,37 @@ pub(crate) fn summary_text(
     put_sums(&mut text, n, file, messages, steps)?;
     print_verdict(&mut text, plain.verdict())?;
     Ok(text)
+}
+
+/// The summary of the generated file of that number, as the lines and how the parties stand tell it. A sum past
+/// 2^64 - 1, which no memory could hold, is answered as want of memory.
+pub(crate) fn sums_text(
+    alloc: Global,
+    n: u16,
+    file: &File,
+    lines: &[Line],
+    stands: &[Stand],
+) -> Result<Vec<u8>, NoMemory>
+    ensures { IfOk result (λ text. (w : World) → IsToldIn (file_of file.now) (map line_at lines.now) stands.now w →
+        text.items ≡ summary n (file_of file.now) w) }
+{
+    let messages = messages_told(lines) as u64;
+    let steps = steps_told(stands)?;
+    let mut text = Vec::new(alloc);
+    put_sums(&mut text, n, file, messages, steps)?;
+    print_verdict(&mut text, verdict_told(stands))?;
+    Ok(text)
+}
+
+// How many steps parties did that stand so.
+fn steps_told(stands: &[Stand]) -> Result<u64, NoMemory>
+    ensures { IfOk result (λ n. n ≡ sum_by (λ s. s.steps) stands.now) }
+{
+    let mut count = 0u64;
+    for stand in stands {
+        count = add(count, u64::from(stand.steps))?;
+    }
+    Ok(count)
 }
 
 // The line of the number, the counts and the sums.

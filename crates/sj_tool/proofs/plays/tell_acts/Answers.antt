@@ -14,7 +14,7 @@ use Rattle.sj_semantics.specs.State.{verdict_of}
 use Rattle.sj_semantics.specs.World.{World}
 use Rattle.sj_tool.specs.Runs.{actors, run_text}
 use Rattle.sj_tool.proofs.DrainedLemmas.{quiet_ends}
-use Rattle.sj_tool.proofs.plays.tell.Goals as goal
+use Rattle.sj_tool.proofs.plays.tell_acts.Goals as goal
 
 pub act_all-requires : goal.act_all-requires
 act_all-requires c =

@@ -1,0 +1,4 @@
+pub mod CountLemmas
+pub mod SlotLemmas
+pub mod TellLemmas
+pub mod VerdictLemmas

@@ -1,0 +1,4 @@
+pub mod Counts
+pub mod Lines
+pub mod Still
+pub mod Told

@@ -1,0 +1,13 @@
+//! What the lines of a history tell of the end of their file, where no session was opened: what was sent and taken on each
+//! end, and how each party stands.
+#![tactic(auto)]
+
+mod counts;
+mod ends;
+mod told;
+mod verdicts;
+
+pub use counts::messages_told;
+pub use ends::ends_told;
+pub use told::{Stand, ToldEnd};
+pub use verdicts::verdict_told;

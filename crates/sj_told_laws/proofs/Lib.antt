@@ -1,0 +1,4 @@
+pub mod StillLemmas
+pub mod OpenedLemmas
+pub mod CountLemmas
+pub mod EndLemmas

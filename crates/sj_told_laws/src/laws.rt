@@ -1,0 +1,65 @@
+//! Laws of what a history, and the core world to which it leads, tell of the end of the file; each is one clause of a
+//! function that does nothing.
+//!
+//! - `a_quiet_history_tells_its_end`: what was sent on each end, who took it, and how many messages were sent.
+//! - `a_quiet_core_stands_as_its_nodes`: programs, how parties stand, and where nothing was opened.
+
+ghost use Rattle.std.specs.Prelude.{◌≡◌, ◌<◌, [], ℕ, List, Some, length, map, slice_get, unwrap_or};
+ghost use Rattle.sj_acceptance.specs.Accepted.{IsAccepted};
+ghost use Rattle.sj_base.specs.declared.EndId.{EndId};
+ghost use Rattle.sj_lang.specs.FileAt.{FileAt};
+ghost use Rattle.sj_lang.specs.Place.{Place};
+ghost use Rattle.sj_rules.specs.History.{IsHistory, IsQuietAmong};
+ghost use Rattle.sj_rules.specs.Log.{LineAt};
+ghost use Rattle.sj_rules.specs.Party.{nobody, play_of};
+ghost use Rattle.sj_rules.specs.Rows.{IsPick};
+ghost use Rattle.sj_rules.specs.World.{WorldAt};
+ghost use Rattle.sj_rules_laws.specs.TiedNotes.{sent_told, taken_told, told_in};
+ghost use Rattle.sj_semantics.specs.Ends.{end_at};
+ghost use Rattle.sj_semantics.specs.Program.{Program};
+ghost use Rattle.sj_semantics.specs.Run.{end_of};
+ghost use Rattle.sj_semantics.specs.State.{opened_in, state_of};
+ghost use Rattle.sj_semantics.specs.Wants.{want_of};
+ghost use Rattle.sj_semantics.specs.declared.Want.TheVariants.{Ended};
+ghost use Rattle.sj_told.specs.Still.{still_state};
+ghost use Rattle.sj_told.specs.Counts.{messages_sent, sent_count};
+
+/// A history that leaves nothing to do tells the end of the file: the Sent notes of each end are what it sent there, with the
+/// senders, and the Took notes who took on it; and there are as many Sent notes as messages.
+pub fn a_quiet_history_tells_its_end()
+    ensures sent { (file : FileAt) (pick : ℕ → ℕ → ℕ) (lines : List LineAt)
+        (core : WorldAt Place Program) (e : EndId) → IsAccepted file → IsPick pick →
+        IsHistory pick file lines core →
+        IsQuietAmong (play_of file) (length file.parties) core →
+        (end_at (end_of file).sessions e).sent ≡ told_in (sent_told e) lines }
+    ensures takers { (file : FileAt) (pick : ℕ → ℕ → ℕ) (lines : List LineAt)
+        (core : WorldAt Place Program) (e : EndId) → IsAccepted file → IsPick pick →
+        IsHistory pick file lines core →
+        IsQuietAmong (play_of file) (length file.parties) core →
+        (end_at (end_of file).sessions e).takers
+        ≡ map (λ x. x.by) (told_in (taken_told e) lines) }
+    ensures count { (file : FileAt) (pick : ℕ → ℕ → ℕ) (lines : List LineAt)
+        (core : WorldAt Place Program) → IsAccepted file → IsPick pick →
+        IsHistory pick file lines core →
+        IsQuietAmong (play_of file) (length file.parties) core →
+        messages_sent (end_of file) ≡ sent_count lines }
+{}
+
+/// In the core world to which it leads each node has the program that its party has at the end of the file, which stands by
+/// its steps and its next one alone; and where no node has opened a session, none was opened.
+pub fn a_quiet_core_stands_as_its_nodes()
+    ensures programs { (file : FileAt) (pick : ℕ → ℕ → ℕ) (lines : List LineAt)
+        (core : WorldAt Place Program) (p : ℕ) → IsAccepted file → IsPick pick →
+        IsHistory pick file lines core →
+        IsQuietAmong (play_of file) (length file.parties) core →
+        (core.nodes p).program ≡ unwrap_or (slice_get (end_of file).parties p) nobody }
+    ensures states { (file : FileAt) (p : ℕ) (g : Program) →
+        slice_get (end_of file).parties p ≡ Some g →
+        state_of (end_of file) p ≡ still_state g.steps (unwrap_or (want_of g) Ended) }
+    ensures opened { (file : FileAt) (pick : ℕ → ℕ → ℕ) (lines : List LineAt)
+        (core : WorldAt Place Program) → IsAccepted file → IsPick pick →
+        IsHistory pick file lines core →
+        IsQuietAmong (play_of file) (length file.parties) core →
+        ((p : ℕ) → p < length file.parties → (core.nodes p).requests ≡ 0) →
+        opened_in (end_of file) ≡ [] }
+{}
