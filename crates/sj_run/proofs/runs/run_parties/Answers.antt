@@ -29,11 +29,11 @@ use Rattle.sj_run.proofs.TogetherLemmas.{all_fit, nodes_run, nodes_seated, nodes
 use Rattle.sj_run.proofs.runs.run_parties.Goals as goal
 
 pub hand_in-requires-clause-square : goal.hand_in-requires-clause-square
-hand_in-requires-clause-square g c =
+hand_in-requires-clause-square g c κs within =
     subst (λ (ls : List (Lanes g.row.L-Out.Denot g.row.L-In.Denot)). IsSquare ls) (sym c.in_ok-remains.ensures.lanes) c.in_ok-workers.ensures.worked.square
 
 pub hand_in-requires-clause-joined : goal.hand_in-requires-clause-joined
-hand_in-requires-clause-joined g c =
+hand_in-requires-clause-joined g c κs within =
     subst (λ (ls : List (Lanes g.row.L-Out.Denot g.row.L-In.Denot)). AllJoined g.L.Links.joined ls) (sym c.in_ok-remains.ensures.lanes) c.in_ok-workers.ensures.worked.ends
 
 pub hand_in-requires-clause-few : goal.hand_in-requires-clause-few
@@ -42,7 +42,7 @@ hand_in-requires-clause-few g c =
     omega (arith, many, c.in_ok-workers.ensures.worked.count, c.in_ok-workers.ensures.accepted.within.parties)
 
 pub hand_in-requires-clause-count : goal.hand_in-requires-clause-count
-hand_in-requires-clause-count g c =
+hand_in-requires-clause-count g c κs within =
     let many : length c.in_ok-remains.remains.lanes.items ≡ length c.in_ok-workers.workers.items = ap length c.in_ok-remains.ensures.lanes ∙ length-map c.in_ok-workers.workers.items lanes_of in
     c.in_ok-remains.ensures.nodes.count ∙ sym many
 
@@ -206,7 +206,7 @@ returns-clause-logged g c = record {
   worked = c.in_ok-workers.ensures.worked;
   faultless = subst (λ (ws : List (Worker g.row.L-Out.Denot g.row.L-In.Denot)). NoneStopped ws stops.Fault) c.deref.ensures.value (c.if-faulty.ensures.none refl);
   remembers = subst (λ (ws : List (Worker g.row.L-Out.Denot g.row.L-In.Denot)). NoneStopped ws stops.NoMemory) c.deref-2.ensures.value (c.if-short.ensures.none refl);
-  fits = subst (λ (ws : List (Worker g.row.L-Out.Denot g.row.L-In.Denot)). NoneStopped ws stops.Unfit) c.deref-3.ensures.value (c.in_default.ensures.none refl);
+  fits = subst (λ (ws : List (Worker g.row.L-Out.Denot g.row.L-In.Denot)). NoneStopped ws stops.Unfit) c.deref-3.ensures.value (c.in_default-unfit.ensures.none refl);
   joins =
       subst (λ (ls : List LineAt). IsJoined (logs_in c.in_ok-workers.workers.items) ls) (sym c.in-Ok.ensures.history)
       (logs_joined c.in_ok-workers.workers.items c.in_ok-remains.remains.logs.items c.in_ok-remains.ensures.logs (map line_at c.in_ok-lines.lines.items) c.in_ok-lines.ensures);
