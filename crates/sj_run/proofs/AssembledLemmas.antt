@@ -46,9 +46,9 @@ use Rattle.sj_work.proofs.LaneLemmas.{told_all_with}
 use Rattle.sj_run.specs.Handed.{AreHandedIn, AreLogless, AreOver, IsHandedIn}
 use Rattle.sj_run.specs.Shown.{LinksAt}
 use Rattle.sj_run.specs.Workers.{AllWorked, NoneStopped, logs_in}
-use Rattle.sj_run.proofs.JoinLemmas.{core, lost_none, none_there, team, works}
+use Rattle.sj_run.proofs.JoinLemmas.{core, lost_none, team, works}
 use Rattle.sj_run.proofs.RunLemmas.{joins_below, told_history}
-use Rattle.sj_run.proofs.TeamLemmas.{losts, mapped_at, new_or, news, team_play, turned}
+use Rattle.sj_run.proofs.TeamLemmas.{losts, mapped_at, new_or, news, none_there, team_play, turned}
 
 -- a frame with another place still is no Give
 plain_body : {P R : Type 0} (f : P → R) (b : BodyAt P) → IsNoGive b → IsNoGive (body_with f b)

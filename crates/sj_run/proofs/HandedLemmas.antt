@@ -1,5 +1,5 @@
 -- Lanes and nodes while what waits on the lanes is put before the outboxes.
-use Rattle.std.proofs.Common.{◌≡◌, ◌∙◌, ◌⊎◌, ℕ, suc, ◌+◌, ◌<◌, ◌≤◌, nat_lt, Bool, true, false, List, [], ◌∷◌, ◌++◌, map, length, Option, Some, None, inl, inr, refl, sym, ap, subst, arith}
+use Rattle.std.proofs.Common.{◌≡◌, ◌∙◌, ◌⊎◌, ℕ, suc, ◌+◌, ◌<◌, ◌≤◌, nat_lt, ◌==◌, Bool, true, false, List, [], ◌∷◌, ◌++◌, map, length, Option, Some, None, inl, inr, refl, sym, ap, subst, arith}
 use Rattle.std.specs.Prelude.{slice_get}
 use Rattle.std.proofs.lemmas.Bool.Decides.{nat_tests}
 use Rattle.sj_lang.specs.Place.{Place}
@@ -29,6 +29,10 @@ takes_later a b c x y = record {
   table = y.table ∙ x.table;
   connects = y.connects ∙ x.connects;
 }
+
+-- a count that is not 0
+pub some_there : (n : ℕ) → (n == 0) ≡ false → 0 < n
+some_there n e = grind (arith, nat_tests)
 
 pub takes_itself : (a : Node) → TakesOut a a
 takes_itself a = record { node = refl; log = refl; party = refl; parties = refl; table = refl; connects = refl }

@@ -25,3 +25,13 @@ loop-to-preserved g c =
           c.args.node c.loop-to.own h.new.node i.taken i.later (c.in_ok-hand_link.ensures.taken c.if-not-branch.false) (c.in_ok-hand_link.ensures.beside c.if-not-branch.false);
       later = λ q le. c.in_ok-hand_link.ensures.beside c.if-not-branch.false q (λ is. omega (arith, is, le)) ∙ i.later q (omega (arith, le));
     }
+
+pub returns-clause-handed : goal.returns-clause-handed
+returns-clause-handed g c =
+    let i = c.loop-to.invariant in
+    record {
+      same = i.same;
+      taken = λ q lt. i.taken q (omega (arith, lt, c.loop-to-test.false, c.requires.count));
+      beyond = λ q le. i.later q (omega (arith, le, c.loop-to.auto.to-end, c.requires.count));
+      plain = c.gives.ensures.no c.if-gives.false;
+    }

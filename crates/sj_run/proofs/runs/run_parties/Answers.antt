@@ -29,11 +29,11 @@ use Rattle.sj_run.proofs.TogetherLemmas.{all_fit, nodes_run, nodes_seated, nodes
 use Rattle.sj_run.proofs.runs.run_parties.Goals as goal
 
 pub hand_in-requires-clause-square : goal.hand_in-requires-clause-square
-hand_in-requires-clause-square g c =
+hand_in-requires-clause-square g c κs within =
     subst (λ (ls : List (Lanes g.row.L-Out.Denot g.row.L-In.Denot)). IsSquare ls) (sym c.in_ok-remains.ensures.lanes) c.in_ok-workers.ensures.worked.square
 
 pub hand_in-requires-clause-joined : goal.hand_in-requires-clause-joined
-hand_in-requires-clause-joined g c =
+hand_in-requires-clause-joined g c κs within =
     subst (λ (ls : List (Lanes g.row.L-Out.Denot g.row.L-In.Denot)). AllJoined g.L.Links.joined ls) (sym c.in_ok-remains.ensures.lanes) c.in_ok-workers.ensures.worked.ends
 
 pub hand_in-requires-clause-few : goal.hand_in-requires-clause-few
@@ -42,7 +42,7 @@ hand_in-requires-clause-few g c =
     omega (arith, many, c.in_ok-workers.ensures.worked.count, c.in_ok-workers.ensures.accepted.within.parties)
 
 pub hand_in-requires-clause-count : goal.hand_in-requires-clause-count
-hand_in-requires-clause-count g c =
+hand_in-requires-clause-count g c κs within =
     let many : length c.in_ok-remains.remains.lanes.items ≡ length c.in_ok-workers.workers.items = ap length c.in_ok-remains.ensures.lanes ∙ length-map c.in_ok-workers.workers.items lanes_of in
     c.in_ok-remains.ensures.nodes.count ∙ sym many
 
@@ -170,35 +170,35 @@ past_end-requires g c =
     (subst (λ (ws : List (Worker g.row.L-Out.Denot g.row.L-In.Denot)). NoneStopped ws stops.Fault) c.deref.ensures.value (c.if-faulty.ensures.none refl))
     (map line_at c.in_ok-lines.lines.items)
     (logs_joined c.in_ok-workers.workers.items c.in_ok-remains.remains.logs.items c.in_ok-remains.ensures.logs (map line_at c.in_ok-lines.lines.items) c.in_ok-lines.ensures)
-    (kept_file world) (world_at world) c.in-Some-2.refused c.in-Ok.ensures.kept c.in-Ok.ensures.ok
-    (subst (λ (ws : List (Worker g.row.L-Out.Denot g.row.L-In.Denot)). IsLowestUnfit (map left_of ws) (line_at c.in-Some-2.refused)) c.deref-3.ensures.value c.in-Some-2.ensures.some)
+    (kept_file world) (world_at world) c.in-Some-unfit.refused c.in-Ok.ensures.kept c.in-Ok.ensures.ok
+    (subst (λ (ws : List (Worker g.row.L-Out.Denot g.row.L-In.Denot)). IsLowestUnfit (map left_of ws) (line_at c.in-Some-unfit.refused)) c.deref-3.ensures.value c.in-Some-unfit.ensures.some)
 
-pub returns-in-Some-2-clause-link_fault : goal.returns-in-Some-2-clause-link_fault
-returns-in-Some-2-clause-link_fault g c =
-    λ is. absurd (not_past_end (kept_file c.in-Ok.world) (world_at c.in-Ok.world) (history_of c.in-Ok.world) c.in-Some-2.refused c.past_end.result c.past_end.ensures (error_is _ _ is))
+pub returns-in-Some-unfit-clause-link_fault : goal.returns-in-Some-unfit-clause-link_fault
+returns-in-Some-unfit-clause-link_fault g c =
+    λ is. absurd (not_past_end (kept_file c.in-Ok.world) (world_at c.in-Ok.world) (history_of c.in-Ok.world) c.in-Some-unfit.refused c.past_end.result c.past_end.ensures (error_is _ _ is))
 
-pub returns-in-Some-2-clause-damaged : goal.returns-in-Some-2-clause-damaged
-returns-in-Some-2-clause-damaged g c =
+pub returns-in-Some-unfit-clause-damaged : goal.returns-in-Some-unfit-clause-damaged
+returns-in-Some-unfit-clause-damaged g c =
     let world = c.in-Ok.world in
     refused_damage g.L.Out.OutLane g.L.In.InLane g.L.Links.joined
     (file_of (file_in c.args.accepted.now)) c.args.looks (g.L.Links.tells c.args.links.now) c.in_ok-workers.workers.items c.in_ok-workers.ensures.worked c.in_ok-workers.ensures.accepted
     (subst (λ (ws : List (Worker g.row.L-Out.Denot g.row.L-In.Denot)). NoneStopped ws stops.Fault) c.deref.ensures.value (c.if-faulty.ensures.none refl))
     (map line_at c.in_ok-lines.lines.items)
     (logs_joined c.in_ok-workers.workers.items c.in_ok-remains.remains.logs.items c.in_ok-remains.ensures.logs (map line_at c.in_ok-lines.lines.items) c.in_ok-lines.ensures)
-    (kept_file world) (world_at world) c.in-Some-2.refused c.past_end.result c.in-Ok.ensures.kept c.in-Ok.ensures.ok
-    (subst (λ (ws : List (Worker g.row.L-Out.Denot g.row.L-In.Denot)). IsLowestUnfit (map left_of ws) (line_at c.in-Some-2.refused)) c.deref-3.ensures.value c.in-Some-2.ensures.some)
-    (subst (λ (ls : List LineAt). IsPastEndOf (kept_file world) (world_at world) ls c.in-Some-2.refused c.past_end.result) c.in-Ok.ensures.history c.past_end.ensures)
+    (kept_file world) (world_at world) c.in-Some-unfit.refused c.past_end.result c.in-Ok.ensures.kept c.in-Ok.ensures.ok
+    (subst (λ (ws : List (Worker g.row.L-Out.Denot g.row.L-In.Denot)). IsLowestUnfit (map left_of ws) (line_at c.in-Some-unfit.refused)) c.deref-3.ensures.value c.in-Some-unfit.ensures.some)
+    (subst (λ (ls : List LineAt). IsPastEndOf (kept_file world) (world_at world) ls c.in-Some-unfit.refused c.past_end.result) c.in-Ok.ensures.history c.past_end.ensures)
 
-pub returns-in-Some-2-clause-telling : goal.returns-in-Some-2-clause-telling
-returns-in-Some-2-clause-telling g c =
+pub returns-in-Some-unfit-clause-telling : goal.returns-in-Some-unfit-clause-telling
+returns-in-Some-unfit-clause-telling g c =
     λ damaged telling.
     none_left_unfit g.L.Out.OutLane g.L.In.InLane g.L.Links.joined
     (file_of (file_in c.args.accepted.now)) c.in_ok-workers.ensures.accepted c.args.looks (g.L.Links.tells c.args.links.now) telling c.in_ok-workers.workers.items c.in_ok-workers.ensures.worked
     c.in_ok-remains.remains.lanes.items c.hand_in.new.lanes.items c.in_ok-remains.ensures.lanes c.hand_in.ensures.lanes
     (keeps_of g.L.Links.sent g.L.Links.got g.L.Links.vain_out g.L.Links.vain_in c.back.new.self) (c.back.ensures.kept (c.hand_in.ensures.tells ∙ c.in_ok-workers.ensures.tells ∙ telling))
     c.in_ok-remains.remains.logs.items c.in_ok-remains.ensures.logs (map line_at c.in_ok-lines.lines.items) c.in_ok-lines.ensures
-    (some_unfit c.in_ok-workers.workers.items (line_at c.in-Some-2.refused)
-    (subst (λ (ws : List (Worker g.row.L-Out.Denot g.row.L-In.Denot)). IsLowestUnfit (map left_of ws) (line_at c.in-Some-2.refused)) c.deref-3.ensures.value c.in-Some-2.ensures.some))
+    (some_unfit c.in_ok-workers.workers.items (line_at c.in-Some-unfit.refused)
+    (subst (λ (ws : List (Worker g.row.L-Out.Denot g.row.L-In.Denot)). IsLowestUnfit (map left_of ws) (line_at c.in-Some-unfit.refused)) c.deref-3.ensures.value c.in-Some-unfit.ensures.some))
 
 pub returns-clause-logged : goal.returns-clause-logged
 returns-clause-logged g c = record {
@@ -206,7 +206,7 @@ returns-clause-logged g c = record {
   worked = c.in_ok-workers.ensures.worked;
   faultless = subst (λ (ws : List (Worker g.row.L-Out.Denot g.row.L-In.Denot)). NoneStopped ws stops.Fault) c.deref.ensures.value (c.if-faulty.ensures.none refl);
   remembers = subst (λ (ws : List (Worker g.row.L-Out.Denot g.row.L-In.Denot)). NoneStopped ws stops.NoMemory) c.deref-2.ensures.value (c.if-short.ensures.none refl);
-  fits = subst (λ (ws : List (Worker g.row.L-Out.Denot g.row.L-In.Denot)). NoneStopped ws stops.Unfit) c.deref-3.ensures.value (c.in_default.ensures.none refl);
+  fits = subst (λ (ws : List (Worker g.row.L-Out.Denot g.row.L-In.Denot)). NoneStopped ws stops.Unfit) c.deref-3.ensures.value (c.in_default-unfit.ensures.none refl);
   joins =
       subst (λ (ls : List LineAt). IsJoined (logs_in c.in_ok-workers.workers.items) ls) (sym c.in-Ok.ensures.history)
       (logs_joined c.in_ok-workers.workers.items c.in_ok-remains.remains.logs.items c.in_ok-remains.ensures.logs (map line_at c.in_ok-lines.lines.items) c.in_ok-lines.ensures);
