@@ -4,14 +4,14 @@ use Rattle.std.specs.Prelude.{◌⊎◌, Option, Some, None, reverse, slice_get}
 use Rattle.std.specs.Global.{Vec}
 use Rattle.std.specs.Option.{SomeIff}
 use Rattle.std.proofs.Math.ListN.{set}
-use Rattle.std.proofs.lemmas.List.{map-append, reverse-append, reverse-reverse, take_all}
-use Rattle.std.proofs.lemmas.Option.{slice_get-get_or, slice_get_past}
+use Rattle.std.proofs.lemmas.List.{length-map, map-append, map-set, reverse-append, reverse-reverse, take_all, take_more}
+use Rattle.std.proofs.lemmas.Option.{slice_get_past}
 use Rattle.sj_rules.specs.Log.{EntryAt}
 use Rattle.sj_end.specs.declared.note.Entry.{Entry}
 use Rattle.sj_end.specs.declared.note.Line.{Line}
 use Rattle.sj_core.specs.declared.tails.Tail.{Tail}
 use Rattle.sj_core.specs.Given.{count_given, entries_given, given_log, line_by}
-use Rattle.sj_core.specs.Tails.{IsLast, later_of}
+use Rattle.sj_core.specs.Tails.{IsLast, first_clock, last_clocks, later_at}
 use Rattle.sj_core.specs.Views.{entry_at, line_at, line_of}
 use Rattle.sj_core.proofs.GivenLemmas.{Giving, giving_more}
 use Rattle.sj_core.proofs.TailLemmas.{IsEnd, IsLatest, end_of_more}
@@ -44,13 +44,36 @@ back_begins es e = reverse-append es (e ∷ [])
 back_ends : (ds es : List EntryAt) (e : EntryAt) → reverse ds ≡ e ∷ es → ds ≡ reverse es ++ e ∷ []
 back_ends ds es e is = sym (reverse-reverse ds) ∙ ap reverse is ∙ reverse-append (e ∷ []) es
 
+-- a clock for each log
+pub length-last_clocks : (logs : List (Vec Entry)) → length (last_clocks logs) ≡ length logs
+length-last_clocks logs = length-map logs (λ (log : Vec Entry). first_clock (reverse (map entry_at log.items)))
+
+-- the clocks of last entries are there as the logs are
+clock_at : (logs : List (Vec Entry)) (k : ℕ) (d : Option ℕ) → k < length (last_clocks logs) → get_or (last_clocks logs) k d ≡ first_clock (back_of logs k)
+clock_at [] k d lt = absurd (omega (arith, lt))
+clock_at (x ∷ xs) zero d lt = refl
+clock_at (x ∷ xs) (suc k) d lt = clock_at xs k d (omega (arith, lt))
+
 -- of a list, with its next log
-pub later_next : (logs : List (Vec Entry)) (k : ℕ) (d : Vec Entry) (es : List Entry) (latest next : Option Tail) → k < length logs → es ≡ (get_or logs k d).items → IsEnd (back_of logs) k latest →
-    next ≡ later_of latest k (reverse (map entry_at es)) → IsEnd (back_of logs) (k + 1) next
-later_next logs k d es latest next lt own l is =
-    subst (IsEnd (back_of logs) (k + 1))
-    (ap (λ o. later_of latest k (reverse (entries_given o))) (slice_get-get_or logs k d lt) ∙ ap (λ ds. later_of latest k (reverse (map entry_at ds))) (sym own) ∙ sym is)
-    (end_of_more (back_of logs) k latest l)
+pub later_next : (logs : List (Vec Entry)) (clocks : List (Option ℕ)) (k : ℕ) (d : Option ℕ) (latest next : Option Tail) → clocks ≡ last_clocks logs → k < length clocks → IsEnd (back_of logs) k latest →
+    next ≡ later_at latest k (get_or clocks k d) → IsEnd (back_of logs) (k + 1) next
+later_next logs clocks k d latest next are lt l is =
+    let here : get_or clocks k d ≡ first_clock (back_of logs k) =
+    ap (λ (cs : List (Option ℕ)). get_or cs k d) are ∙ clock_at logs k d (subst (λ (cs : List (Option ℕ)). k < length cs) are lt) in
+    subst (IsEnd (back_of logs) (k + 1)) (sym (is ∙ ap (later_at latest k) here)) (end_of_more (back_of logs) k latest l)
+
+-- the clocks of one log more
+pub clocks_more : (logs : List (Vec Entry)) (i : ℕ) (d : Vec Entry) (es : List Entry) (before after : List (Option ℕ)) (own : Option ℕ) → i < length logs → es ≡ (get_or logs i d).items →
+    before ≡ last_clocks (take i logs) → own ≡ first_clock (reverse (map entry_at es)) → after ≡ before ++ own ∷ [] → after ≡ last_clocks (take (i + 1) logs)
+clocks_more logs i d es before after own lt here so_far same put =
+    let clock : own ≡ first_clock (reverse (map entry_at (get_or logs i d).items)) = same ∙ ap (λ (ds : List Entry). first_clock (reverse (map entry_at ds))) here in
+    put ∙ ap (λ (cs : List (Option ℕ)). cs ++ own ∷ []) so_far ∙ ap (λ (o : Option ℕ). last_clocks (take i logs) ++ o ∷ []) clock
+    ∙ sym (map-append (λ (log : Vec Entry). first_clock (reverse (map entry_at log.items))) (take i logs) (get_or logs i d ∷ []))
+    ∙ sym (ap last_clocks (take_more logs i d lt))
+
+-- one log's clock is the one that changes
+pub clocks_set : (logs : List (Vec Entry)) (p : ℕ) (c : Vec Entry) → last_clocks (set logs p c) ≡ set (last_clocks logs) p (first_clock (reverse (map entry_at c.items)))
+clocks_set logs p c = map-set (λ (log : Vec Entry). first_clock (reverse (map entry_at log.items))) logs p c
 
 -- beyond the list there is no log
 past_given : (logs : List (Vec Entry)) (q : ℕ) → length logs ≤ q → given_log logs q ≡ []

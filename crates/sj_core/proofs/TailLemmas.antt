@@ -6,7 +6,7 @@ use Rattle.std.proofs.lemmas.Bool.Decides.{nat_tests}
 use Rattle.sj_rules.specs.Log.{EntryAt, IsBefore}
 use Rattle.sj_joined_lemmas.proofs.OrderLemmas.{before_later}
 use Rattle.sj_core.specs.Given.{line_by}
-use Rattle.sj_core.specs.Tails.{later_of, later_than}
+use Rattle.sj_core.specs.Tails.{first_clock, later_at, later_than}
 use Rattle.sj_core.specs.declared.tails.Tail.{Tail}
 
 -- the tail is that of one of the first logs, so many, and comes behind those of all others of them
@@ -131,10 +131,10 @@ module _ (logs : ℕ → List EntryAt) (k : ℕ) where
         by false at = latest_now tail f (grind (arith, nat_tests, at))
 
   -- with the next log
-  pub end_of_more : (latest : Option Tail) → IsEnd logs k latest → IsEnd logs (k + 1) (later_of latest k (logs k))
+  pub end_of_more : (latest : Option Tail) → IsEnd logs k latest → IsEnd logs (k + 1) (later_at latest k (first_clock (logs k)))
   end_of_more latest l = by latest (logs k) refl l
     where
-      by : (latest : Option Tail) (own : List EntryAt) → logs k ≡ own → IsEnd logs k latest → IsEnd logs (k + 1) (later_of latest k own)
+      by : (latest : Option Tail) (own : List EntryAt) → logs k ≡ own → IsEnd logs k latest → IsEnd logs (k + 1) (later_at latest k (first_clock own))
       by None [] here none = none_more none here
       by (Some tail) [] here f = latest_still tail f here
       by latest (e ∷ es) here f = more_of e es here latest f

@@ -1,5 +1,5 @@
 -- How the parties of a world stand at the end of the file that it leaves nothing to do of.
-use Rattle.std.proofs.Common.{◌≡◌, ℕ, zero, suc, ◌+◌, ◌<◌, ◌==◌, max, Bool, true, false, not, ◌||◌, ◌≤◌, List, [], ◌∷◌, ◌++◌, append-nil, append_assoc, drop, get_or, map, length, slice_get, unwrap_or, Option, Some, None, refl, ap, sym, ◌∙◌, subst, arith, inl, inr, add-one}
+use Rattle.std.proofs.Common.{◌≡◌, ℕ, zero, suc, ◌+◌, ◌<◌, ◌==◌, max, Bool, true, false, not, ◌||◌, ◌≤◌, List, [], ◌∷◌, ◌++◌, append-nil, append_assoc, drop, get_or, map, length, slice_get, unwrap_or, Option, Some, refl, ap, sym, ◌∙◌, arith, inl, inr}
 use Rattle.std.proofs.lemmas.Bool.Decides.{eqb_tells}
 use Rattle.std.proofs.lemmas.List.{at_drop_more, drop_all}
 use Rattle.std.specs.List.{list_any}
@@ -7,14 +7,13 @@ use Rattle.sj_lang.specs.FileAt.{FileAt}
 use Rattle.sj_node.specs.declared.node.Node.{Node}
 use Rattle.sj_node.specs.Node.{requests_of, steps_of, wants_of}
 use Rattle.sj_machine.specs.Sound.{program_at}
-use Rattle.sj_plain.specs.Kept.{without_words}
 use Rattle.sj_rules.specs.Party.{nobody}
 use Rattle.sj_rules.specs.Start.{first_node}
 use Rattle.sj_semantics.specs.declared.State.{State}
 use Rattle.sj_semantics.specs.declared.Want.TheVariants as wants
 use Rattle.sj_semantics.specs.Program.{Program}
 use Rattle.sj_semantics.specs.Run.{end_of}
-use Rattle.sj_semantics.specs.State.{opened_in, state_if, state_of, state_of_program, states_from}
+use Rattle.sj_semantics.specs.State.{opened_in, state_if, state_of_program, states_from}
 use Rattle.sj_semantics.specs.Wants.{want_of}
 use Rattle.sj_semantics.specs.World.{World}
 use Rattle.sj_semantics_laws.proofs.FinishLemmas.{end_is_settled}

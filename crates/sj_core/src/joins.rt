@@ -5,7 +5,7 @@ ghost use Rattle.sj_core.specs.Given.{AreInOrder, count_given, given_log, most_l
 ghost use Rattle.sj_core.specs.Views.{entry_at, line_at, line_of};
 
 use crate::merges::merge;
-use crate::tails::last_party;
+use crate::tails::{clocks_of, last_clock, last_party};
 use sj_base::NoMemory;
 use sj_end::{Entry, Line};
 use std::alloc::Global;
@@ -71,7 +71,7 @@ fn take_last(log: &mut Vec<Entry>) -> Option<Entry>
 
 /// The logs of the parties from the first on joined, each given up as its entries become lines: the last line is
 /// the last of those with which the logs end, so the lines are made from the last on, and turned at the end. The
-/// room for all lines is taken before.
+/// room for all lines is taken before. The clocks with which the logs end stand in a list.
 pub fn join_logs(alloc: Global, logs: Vec<Vec<Entry>>) -> Result<Vec<Line>, NoMemory>
     requires parties { length logs.items ≤ most_logs }
     requires order { AreInOrder (given_log logs.items) }
@@ -79,11 +79,13 @@ pub fn join_logs(alloc: Global, logs: Vec<Vec<Entry>>) -> Result<Vec<Line>, NoMe
 {
     let mut left = logs;
     let mut lines = room_for(alloc, &left)?;
-    while let Some(party) = last_party(&left) {
+    let mut clocks = clocks_of(alloc, &left)?;
+    while let Some(party) = last_party(&clocks) {
         let log = &mut left[party as usize];
         let Some(entry) = take_last(log) else {
             unreachable!();
         };
+        clocks[party as usize] = last_clock(log);
         lines.push_reserved(Line { party, entry });
     }
     lines.reverse();

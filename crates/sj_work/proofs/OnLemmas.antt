@@ -1,5 +1,5 @@
 -- Pieces of a turn that go on after an event.
-use Rattle.std.proofs.Common.{◌≡◌, ℕ, ◌<◌, ◌≤◌, None, ◌∙◌, arith}
+use Rattle.std.proofs.Common.{◌≡◌, ℕ, ◌<◌, None, ◌∙◌}
 use Rattle.sj_node.specs.Node.{clock_of}
 use Rattle.sj_work.specs.declared.worker.Worker.{Worker}
 use Rattle.sj_work.specs.Turns.{IsGoing}

@@ -10,8 +10,8 @@ loop-init g c = record {
   looks = c.act.ensures.looks;
 }
 
-pub act-2-requires-after_bounds : goal.act-2-requires-after_bounds
-act-2-requires-after_bounds g c κs within =
+pub act-requires-in-loop-after_bounds : goal.act-requires-in-loop-after_bounds
+act-requires-in-loop-after_bounds g c κs within =
     let ol = g.met.O.OutLane g.world.𝓛 g.world.𝓜 g.world.𝓡 (λ s x. x, λ x. x, λ x. x, λ x. x) in
     let il = g.met.I.InLane g.world.𝓛 g.world.𝓜 g.world.𝓡 (λ s x. x, λ x. x, λ x. x, λ x. x) in
     let k = laws g.O.OutLane g.I.InLane ol.same_itself ol.same_later il.same_itself il.same_later in
@@ -22,25 +22,25 @@ returns-then-not-act-2-clause-turns g c =
     let ol = g.met.O.OutLane g.world.𝓛 g.world.𝓜 g.world.𝓡 (λ s x. x, λ x. x, λ x. x, λ x. x) in
     let il = g.met.I.InLane g.world.𝓛 g.world.𝓜 g.world.𝓡 (λ s x. x, λ x. x, λ x. x, λ x. x) in
     let k = laws g.O.OutLane g.I.InLane ol.same_itself ol.same_later il.same_itself il.same_later in
-    (on_more k c.args.worker.now c.loop.worker c.act-2.new.worker c.loop.invariant (none_if c.loop.worker.answer c.is_some.result c.is_some.ensures c.if-is_some.false) c.act-2.ensures.turns c.act-2.ensures.looks).turns
+    (on_more k c.args.worker.now c.loop.worker c.act-in-loop.new.worker c.loop.invariant (none_if c.loop.worker.answer c.is_some.result c.is_some.ensures c.if-is_some.false) c.act-in-loop.ensures.turns c.act-in-loop.ensures.looks).turns
 
 pub returns-then-not-act-2-clause-event : goal.returns-then-not-act-2-clause-event
 returns-then-not-act-2-clause-event g c = λ h.
     let ol = g.met.O.OutLane g.world.𝓛 g.world.𝓜 g.world.𝓡 (λ s x. x, λ x. x, λ x. x, λ x. x) in
     let il = g.met.I.InLane g.world.𝓛 g.world.𝓜 g.world.𝓡 (λ s x. x, λ x. x, λ x. x, λ x. x) in
     let k = laws g.O.OutLane g.I.InLane ol.same_itself ol.same_later il.same_itself il.same_later in
-    (on_more k c.args.worker.now c.loop.worker c.act-2.new.worker c.loop.invariant (none_if c.loop.worker.answer c.is_some.result c.is_some.ensures c.if-is_some.false) c.act-2.ensures.turns c.act-2.ensures.looks).event
+    (on_more k c.args.worker.now c.loop.worker c.act-in-loop.new.worker c.loop.invariant (none_if c.loop.worker.answer c.is_some.result c.is_some.ensures c.if-is_some.false) c.act-in-loop.ensures.turns c.act-in-loop.ensures.looks).event
 
 pub returns-then-not-act-2-clause-looks : goal.returns-then-not-act-2-clause-looks
 returns-then-not-act-2-clause-looks g c =
     let ol = g.met.O.OutLane g.world.𝓛 g.world.𝓜 g.world.𝓡 (λ s x. x, λ x. x, λ x. x, λ x. x) in
     let il = g.met.I.InLane g.world.𝓛 g.world.𝓜 g.world.𝓡 (λ s x. x, λ x. x, λ x. x, λ x. x) in
     let k = laws g.O.OutLane g.I.InLane ol.same_itself ol.same_later il.same_itself il.same_later in
-    (on_more k c.args.worker.now c.loop.worker c.act-2.new.worker c.loop.invariant (none_if c.loop.worker.answer c.is_some.result c.is_some.ensures c.if-is_some.false) c.act-2.ensures.turns c.act-2.ensures.looks).looks
+    (on_more k c.args.worker.now c.loop.worker c.act-in-loop.new.worker c.loop.invariant (none_if c.loop.worker.answer c.is_some.result c.is_some.ensures c.if-is_some.false) c.act-in-loop.ensures.turns c.act-in-loop.ensures.looks).looks
 
 pub loop-preserved : goal.loop-preserved
 loop-preserved g c =
     let ol = g.met.O.OutLane g.world.𝓛 g.world.𝓜 g.world.𝓡 (λ s x. x, λ x. x, λ x. x, λ x. x) in
     let il = g.met.I.InLane g.world.𝓛 g.world.𝓜 g.world.𝓡 (λ s x. x, λ x. x, λ x. x, λ x. x) in
     let k = laws g.O.OutLane g.I.InLane ol.same_itself ol.same_later il.same_itself il.same_later in
-    on_more k c.args.worker.now c.loop.worker c.act-2.new.worker c.loop.invariant (none_if c.loop.worker.answer c.is_some.result c.is_some.ensures c.if-is_some.false) c.act-2.ensures.turns c.act-2.ensures.looks
+    on_more k c.args.worker.now c.loop.worker c.act-in-loop.new.worker c.loop.invariant (none_if c.loop.worker.answer c.is_some.result c.is_some.ensures c.if-is_some.false) c.act-in-loop.ensures.turns c.act-in-loop.ensures.looks

@@ -1,6 +1,8 @@
-use Rattle.std.proofs.Common.{◌∙◌, sym}
+use Rattle.std.proofs.Common.{◌∙◌, ap, sym}
+use Rattle.std.specs.List.{list_any}
+use Rattle.sj_core.specs.ToldWorld.{has_opened}
 use Rattle.sj_core.proofs.ToldWorldLemmas.{none_opened}
 use Rattle.sj_core.proofs.node_world.NodeWorld.opens.Goals as goal
 
 pub returns : goal.returns
-returns c = λ none file q. none_opened c.args.self.now c.requires.reached file q (sym c.have_opened.ensures ∙ none)
+returns c = λ none file q. none_opened c.args.self.now c.requires.reached file q (ap (list_any has_opened) (sym c.deref.ensures.value) ∙ sym c.have_opened.ensures ∙ none)
