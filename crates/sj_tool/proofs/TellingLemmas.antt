@@ -2,6 +2,7 @@
 use Rattle.std.proofs.Common.{◌≡◌, ◌∙◌, ◌+◌, ◌*◌, ◌<◌, ◌≤◌, ℕ, max, List, [], ◌∷◌, ◌++◌, drop, get_or, length, map, refl, ap, sym, arith}
 use Rattle.std.specs.Prelude.{sum_by}
 use Rattle.std.proofs.lemmas.List.{at_drop_more, drop_all}
+use Rattle.std.proofs.lemmas.List.Sums.{sum_by-cons}
 use Rattle.sj_acceptance.specs.Accepted.{IsAccepted}
 use Rattle.sj_lang.specs.FileAt.{FileAt}
 use Rattle.sj_lang.specs.Place.{Place}
@@ -55,7 +56,9 @@ ends_are file lines stands w ends n same told by = record {
 
 pub stand_more : (stands : List Stand) (i count more : ℕ) (d : Stand) (all : ℕ) → i < length stands → count + sum_by (λ s. s.steps) (drop i stands) ≡ all → more ≡ count + (get_or stands i d).steps
     → more + sum_by (λ s. s.steps) (drop (i + 1) stands) ≡ all
-stand_more stands i count more d all lt so_far added = omega (arith, at_drop_more (sum_by (λ (s : Stand). s.steps)) stands i d lt, so_far, added)
+stand_more stands i count more d all lt so_far added =
+    let next = at_drop_more (sum_by (λ (s : Stand). s.steps)) stands i d lt ∙ sum_by-cons (λ (s : Stand). s.steps) (get_or stands i d) (drop (i + 1) stands) in
+    omega (arith, next, so_far, added)
 
 pub stand_over : (stands : List Stand) (i : ℕ) → length stands ≤ i → sum_by (λ s. s.steps) (drop i stands) ≡ 0
 stand_over stands i over = ap (λ (xs : List Stand). sum_by (λ s. s.steps) xs) (drop_all i stands over)
@@ -65,7 +68,7 @@ sum_list xs = sum_by (λ x. x) xs
 
 sum_map : {X : Type 0} (f : X → ℕ) (xs : List X) → sum_by f xs ≡ sum_list (map f xs)
 sum_map f [] = refl
-sum_map f (x ∷ xs) = ap (λ n. f x + n) (sum_map f xs)
+sum_map f (x ∷ xs) = sum_by-cons f x xs ∙ ap (λ n. f x + n) (sum_map f xs) ∙ sym (sum_by-cons (λ x. x) (f x) (map f xs))
 
 pub steps_are : (w : World) (stands : List Stand) → AreStands w stands → sum_by (λ s. s.steps) stands ≡ steps_in w
 steps_are w stands are = sum_map (λ (s : Stand). s.steps) stands ∙ ap sum_list are.steps ∙ sym (sum_map (λ (g : Program). g.steps) w.parties)

@@ -15,7 +15,7 @@ ghost use Rattle.sj_rules.specs.Party.{play_of};
 ghost use Rattle.sj_semantics.specs.Run.{IsRun, end_of};
 ghost use Rattle.sj_semantics.specs.State.{opened_in};
 ghost use Rattle.sj_semantics.specs.Transcript.{transcript_of};
-ghost use Rattle.sj_semantics.specs.World.{World};
+ghost use Rattle.sj_semantics.specs.World.{World as PlainWorld};
 ghost use Rattle.sj_tool.specs.Tasks.{asks_log};
 ghost use Rattle.sj_tool.specs.Telling.{IsToldIn};
 ghost use Rattle.sj_tool.specs.Runs.{HasSimulated, IsTold, log_part, run_text};
@@ -139,7 +139,7 @@ fn noted_text(
 ) -> Result<Vec<u8>, NoMemory>
     requires connects { length (file_of file.now).connects ≤ limits.connects }
     requires parties { length stands.now ≡ length (file_of file.now).parties }
-    ensures { IfOk result (λ text. (w : World) → IsToldIn (file_of file.now) (map line_at lines.now) stands.now w →
+    ensures { IfOk result (λ text. (w : PlainWorld) → IsToldIn (file_of file.now) (map line_at lines.now) stands.now w →
         text.items ≡ run_text task (file_of file.now) (map line_at lines.now) w) }
 {
     match task {
@@ -158,7 +158,7 @@ fn listed_text(
 ) -> Result<Vec<u8>, NoMemory>
     requires connects { length (file_of file.now).connects ≤ limits.connects }
     requires parties { length stands.now ≡ length (file_of file.now).parties }
-    ensures { IfOk result (λ text. (w : World) → IsToldIn (file_of file.now) (map line_at lines.now) stands.now w →
+    ensures { IfOk result (λ text. (w : PlainWorld) → IsToldIn (file_of file.now) (map line_at lines.now) stands.now w →
         text.items ≡ transcript_of (file_of file.now) w
         ++ log_part log (file_of file.now) (map line_at lines.now)) }
 {
