@@ -5,6 +5,7 @@ use Rattle.std.proofs.lemmas.List.{length-map}
 use Rattle.sj_check.specs.Held.{file_in}
 use Rattle.sj_core.specs.World.{history_of, kept_file, world_at}
 use Rattle.sj_end.specs.Lines.{line_at}
+use Rattle.sj_end.specs.declared.note.Line.{Line}
 use Rattle.sj_lane.specs.declared.lane.Lanes.{Lanes}
 use Rattle.sj_lane.specs.Square.{AllJoined, IsSquare}
 use Rattle.sj_lang.specs.FileView.{file_of}
@@ -171,7 +172,7 @@ past_end-requires g c =
     (map line_at c.in_ok-lines.lines.items)
     (logs_joined c.in_ok-workers.workers.items c.in_ok-remains.remains.logs.items c.in_ok-remains.ensures.logs (map line_at c.in_ok-lines.lines.items) c.in_ok-lines.ensures)
     (kept_file world) (world_at world) c.in-Some-unfit.refused c.in-Ok.ensures.kept c.in-Ok.ensures.ok
-    (subst (λ (ws : List (Worker g.row.L-Out.Denot g.row.L-In.Denot)). IsLowestUnfit (map left_of ws) (line_at c.in-Some-unfit.refused)) c.deref-3.ensures.value c.in-Some-unfit.ensures.some)
+    (subst (λ (ws : List (Worker g.row.L-Out.Denot g.row.L-In.Denot)). IsLowestUnfit (map left_of ws) (line_at c.in-Some-unfit.refused)) c.deref-3.ensures.value (subst (λ (o : Option Line). IfSome o (λ l. IsLowestUnfit (map left_of c.deref-3.result.now) (line_at l))) c.in-Some-unfit.is c.first_unfit-unfit.ensures.some))
 
 pub returns-in-Some-unfit-clause-link_fault : goal.returns-in-Some-unfit-clause-link_fault
 returns-in-Some-unfit-clause-link_fault g c =
@@ -186,7 +187,7 @@ returns-in-Some-unfit-clause-damaged g c =
     (map line_at c.in_ok-lines.lines.items)
     (logs_joined c.in_ok-workers.workers.items c.in_ok-remains.remains.logs.items c.in_ok-remains.ensures.logs (map line_at c.in_ok-lines.lines.items) c.in_ok-lines.ensures)
     (kept_file world) (world_at world) c.in-Some-unfit.refused c.past_end.result c.in-Ok.ensures.kept c.in-Ok.ensures.ok
-    (subst (λ (ws : List (Worker g.row.L-Out.Denot g.row.L-In.Denot)). IsLowestUnfit (map left_of ws) (line_at c.in-Some-unfit.refused)) c.deref-3.ensures.value c.in-Some-unfit.ensures.some)
+    (subst (λ (ws : List (Worker g.row.L-Out.Denot g.row.L-In.Denot)). IsLowestUnfit (map left_of ws) (line_at c.in-Some-unfit.refused)) c.deref-3.ensures.value (subst (λ (o : Option Line). IfSome o (λ l. IsLowestUnfit (map left_of c.deref-3.result.now) (line_at l))) c.in-Some-unfit.is c.first_unfit-unfit.ensures.some))
     (subst (λ (ls : List LineAt). IsPastEndOf (kept_file world) (world_at world) ls c.in-Some-unfit.refused c.past_end.result) c.in-Ok.ensures.history c.past_end.ensures)
 
 pub returns-in-Some-unfit-clause-telling : goal.returns-in-Some-unfit-clause-telling
@@ -198,7 +199,7 @@ returns-in-Some-unfit-clause-telling g c =
     (keeps_of g.L.Links.sent g.L.Links.got g.L.Links.vain_out g.L.Links.vain_in c.back.new.self) (c.back.ensures.kept (c.hand_in.ensures.tells ∙ c.in_ok-workers.ensures.tells ∙ telling))
     c.in_ok-remains.remains.logs.items c.in_ok-remains.ensures.logs (map line_at c.in_ok-lines.lines.items) c.in_ok-lines.ensures
     (some_unfit c.in_ok-workers.workers.items (line_at c.in-Some-unfit.refused)
-    (subst (λ (ws : List (Worker g.row.L-Out.Denot g.row.L-In.Denot)). IsLowestUnfit (map left_of ws) (line_at c.in-Some-unfit.refused)) c.deref-3.ensures.value c.in-Some-unfit.ensures.some))
+    (subst (λ (ws : List (Worker g.row.L-Out.Denot g.row.L-In.Denot)). IsLowestUnfit (map left_of ws) (line_at c.in-Some-unfit.refused)) c.deref-3.ensures.value (subst (λ (o : Option Line). IfSome o (λ l. IsLowestUnfit (map left_of c.deref-3.result.now) (line_at l))) c.in-Some-unfit.is c.first_unfit-unfit.ensures.some)))
 
 pub returns-clause-logged : goal.returns-clause-logged
 returns-clause-logged g c = record {
@@ -206,7 +207,7 @@ returns-clause-logged g c = record {
   worked = c.in_ok-workers.ensures.worked;
   faultless = subst (λ (ws : List (Worker g.row.L-Out.Denot g.row.L-In.Denot)). NoneStopped ws stops.Fault) c.deref.ensures.value (c.if-faulty.ensures.none refl);
   remembers = subst (λ (ws : List (Worker g.row.L-Out.Denot g.row.L-In.Denot)). NoneStopped ws stops.NoMemory) c.deref-2.ensures.value (c.if-short.ensures.none refl);
-  fits = subst (λ (ws : List (Worker g.row.L-Out.Denot g.row.L-In.Denot)). NoneStopped ws stops.Unfit) c.deref-3.ensures.value (c.in_default-unfit.ensures.none refl);
+  fits = subst (λ (ws : List (Worker g.row.L-Out.Denot g.row.L-In.Denot)). NoneStopped ws stops.Unfit) c.deref-3.ensures.value (c.first_unfit-unfit.ensures.none c.in_default-unfit.is);
   joins =
       subst (λ (ls : List LineAt). IsJoined (logs_in c.in_ok-workers.workers.items) ls) (sym c.in-Ok.ensures.history)
       (logs_joined c.in_ok-workers.workers.items c.in_ok-remains.remains.logs.items c.in_ok-remains.ensures.logs (map line_at c.in_ok-lines.lines.items) c.in_ok-lines.ensures);
