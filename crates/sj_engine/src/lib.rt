@@ -1,0 +1,15 @@
+//! A party's lanes as bytes, and the entries of its log done again, for parties as processes of their own.
+#![tactic(auto)]
+
+mod in_lane;
+mod out_lane;
+mod redo;
+mod refusal;
+
+pub use in_lane::ByteIn;
+pub use out_lane::ByteOut;
+pub use redo::{redo_act, redo_delivery};
+pub use refusal::RedoRefusal;
+
+#[cfg(test)]
+mod tests;
