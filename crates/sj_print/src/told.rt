@@ -1,4 +1,4 @@
-//! The transcript as it is told, of a world in which no session was opened.
+//! The transcript as it is reported, of a world in which no session was opened.
 ghost use Rattle.std.specs.Prelude.{◌≡◌, ◌++◌, ◌*◌, ◌≤◌, [], OnErr, OnOk, length};
 ghost use Rattle.sj_lang.specs.FileView.{connect_of, file_of};
 ghost use Rattle.sj_lang.specs.Limits.{limits};
