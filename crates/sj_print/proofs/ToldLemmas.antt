@@ -1,18 +1,16 @@
 -- The sessions and the parties of a world as they are reported, one after another.
-use Rattle.std.proofs.Common.{◌≡◌, ℕ, zero, suc, ◌+◌, ◌*◌, ◌<◌, ◌≤◌, List, [], ◌∷◌, ◌++◌, length, map, drop, get_or, Option, Some, option_map, refl, ap, sym, ◌∙◌, append-nil, arith}
+use Rattle.std.proofs.Common.{◌≡◌, ℕ, zero, suc, ◌+◌, ◌*◌, ◌<◌, ◌≤◌, List, [], ◌∷◌, ◌++◌, length, map, drop, get_or, Some, option_map, refl, ap, sym, ◌∙◌, append-nil, arith}
 use Rattle.std.specs.Prelude.{slice_get}
 use Rattle.std.proofs.lemmas.Option.{slice_get-get_or, slice_get-map}
-use Rattle.sj_base.specs.declared.EndId.{EndId}
 use Rattle.sj_lang.specs.declared.file.Connect.{Connect}
 use Rattle.sj_lang.specs.declared.file.Party.{Party}
 use Rattle.sj_lang.specs.FileView.{party_of, connect_of}
 use Rattle.sj_lang.specs.FileAt.{FileAt, ConnectAt}
 use Rattle.sj_semantics.specs.declared.State.{State}
 use Rattle.sj_semantics.specs.declared.Verdict.{Verdict}
-use Rattle.sj_semantics.specs.Ends.{EndAt, end_at}
 use Rattle.sj_semantics.specs.Lines.{line_of}
 use Rattle.sj_semantics.specs.Program.{Program}
-use Rattle.sj_semantics.specs.State.{opened_in, state_if, state_of_program, states_from, states_of, verdict_of}
+use Rattle.sj_semantics.specs.State.{opened_in, state_if, state_of_program, states_from, verdict_of}
 use Rattle.sj_semantics.specs.Transcript.{opened_lines, party_lines, sent_lines, session_line, session_lines, transcript_of, verdict_word}
 use Rattle.sj_semantics.specs.World.{World}
 use Rattle.sj_text.specs.Cut.{IsCutShort}
@@ -52,7 +50,7 @@ module _ (file : FileAt) (w : World) (cs : List Connect) (ends : List ToldEnd) (
     (lt : i < length cs) (few : length cs ≤ length w.sessions) (are : AreEnds file w ends) (within : 2 * i + 1 < length ends)
     (there : get_or cs i c ≡ c) (first : get_or ends (2 * i) a ≡ a) (second : get_or ends (2 * i + 1) b ≡ b)
     (still : StillTo old whole (session_lines file i (drop i (map connect_of cs)) (drop i w.sessions)) now) where
-  behind : List ℕ
+  abbrev behind : List ℕ
   behind = session_lines file (i + 1) (drop (i + 1) (map connect_of cs)) (drop (i + 1) w.sessions)
 
   ahead : StillTo old whole (told_part file i (connect_of c) a b ++ behind) now
@@ -101,10 +99,10 @@ module _ (w : World) (stands : List Stand) (are : AreStands w stands) (i : ℕ) 
 module _ (file : FileAt) (w : World) (stands : List Stand) (qs : List Party) (i : ℕ) (q : Party) (d : Stand) (old whole now new : List ℕ)
     (are : AreStands w stands) (told : i < length stands) (lt : i < length qs) (known : i < length w.parties) (there : get_or qs i q ≡ q)
     (still : StillTo old whole (party_lines file w i (drop i (map party_of qs)) (drop i w.parties)) now) where
-  others : List ℕ
+  abbrev others : List ℕ
   others = party_lines file w (i + 1) (drop (i + 1) (map party_of qs)) (drop (i + 1) w.parties)
 
-  line : List ℕ
+  abbrev line : List ℕ
   line = party_part file q.name (get_or stands i d).steps (get_or stands i d).state
 
   line_ahead : StillTo old whole (line ++ others) now
