@@ -65,7 +65,7 @@ impl Node {
 
     // Why the call can't be done yet.
     fn stop_called(&self, call: Call) -> Option<Halt>
-        ensures { result ≡ call_stop self.now call }
+        ensures cause { result ≡ call_stop self.now call }
         ensures ended { result ≡ Some halts.Ended → ⊥ }
     {
         let want = want_of(call);
