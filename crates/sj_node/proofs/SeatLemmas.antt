@@ -1,5 +1,5 @@
 -- A call of a node is a row of the rules, with its note, and is held up where they say so.
-use Rattle.std.proofs.Common.{◌≡◌, ℕ, ◌+◌, Bool, true, false, ◌||◌, if◌then◌else◌, List, [], ◌∷◌, slice_get, Option, Some, None, option_map, refl, ap, sym, ◌∙◌}
+use Rattle.std.proofs.Common.{◌≡◌, ℕ, ◌+◌, Bool, true, false, ◌||◌, if◌then◌else◌, List, [], ◌∷◌, slice_get, Option, Some, None, option_map, Result, Ok, Err, OnOk, refl, ap, sym, ◌∙◌}
 use Rattle.sj_base.specs.declared.EndId.{EndId}
 use Rattle.sj_base.specs.declared.Msg.{Msg}
 use Rattle.sj_end.specs.Lines.{note_seen}
@@ -98,6 +98,11 @@ never_ends n (calls.Delegate c e) is =
     not_ended (is_expected (main_of n c) || is_expected (main_of n e)) _ (not_up (is_delegated_enough (main_of n e)) halts.AtLimit (λ k. absurd (cc k))) is
 never_ends n (calls.Take e spot) is = not_ended (is_expected (main_of n e)) _ (not_up (lacks_message (main_of n e)) halts.Waits (λ k. absurd (cc k))) is
 never_ends n (calls.Close e) is = not_ended (is_expected (main_of n e)) None (λ k. absurd (cc k)) is
+
+-- what follows where a call was done
+pub on_ok : {T E : Type 0} (r : Result T E) (P Q : Type 0) → (P → Q) → OnOk r P → OnOk r Q
+on_ok (Ok x) P Q f h = f h
+on_ok (Err e) P Q f h = tt
 
 -- ---- its row, and its note
 

@@ -3,7 +3,10 @@ ghost use Rattle.std.specs.Prelude.{◌≡◌, ◌+◌, ◌<◌, ◌↔◌, OnOk
 ghost use Rattle.sj_end.specs.declared.note.Event.TheVariants as events;
 ghost use Rattle.sj_node.specs.Calls.{call_of, place_here, program_of};
 ghost use Rattle.sj_node.specs.Halts.{is_late};
+ghost use Rattle.sj_end.specs.declared.note.Note.TheVariants as notes;
 ghost use Rattle.sj_node.specs.Node.{Does, Stays, clock_of, connect_count, next_head, took_if};
+ghost use Rattle.sj_node.specs.Play.{names_known};
+ghost use Rattle.sj_node.specs.Reading.{parties_of};
 ghost use Rattle.sj_node.specs.Seats.{call_note, call_stop, head_taken, is_known_head, is_take, takes_known, want_at, want_shown};
 ghost use Rattle.sj_node.specs.declared.refusal.Halt.TheVariants as halts;
 ghost use Rattle.sj_rules.specs.Limits.{clock_end};
@@ -127,15 +130,32 @@ impl Node {
         if !is_known(self.connects, self.parties, &msg) {
             return Err(Halt::Unfit);
         }
-        let done = match msg {
+        match self.take_next(end, place, msg) {
+            Ok(()) => Ok(msg),
+            Err(halt) => Err(halt),
+        }
+    }
+
+    // Takes that message, which is the next one of the end.
+    fn take_next(&mut self, end: EndId, place: Spot, msg: Msg) -> Result<(), Halt>
+        requires clock { clock_of self.old < clock_end }
+        requires head { next_head self.old end ≡ Some msg }
+        requires known { names_known (connect_count self.old) (parties_of self.old) msg ≡ true }
+        ensures ok { OnOk result (Does self.old
+            (call_of self.old (rules.takes end (place_here self.old place)))
+            (clock_of self.old + 1) events.Act (notes.Took end msg) self.new) }
+        ensures err { OnErr result (Stays self.old self.new) }
+        ensures connects { connect_count self.new ≡ connect_count self.old }
+        ensures program { program_of self.new ≡ program_of self.old }
+        ensures late { IfErr result is_late }
+        ensures unfit { IsErrOf result Halt.Unfit →
+            call_of self.old (rules.takes end (place_here self.old place)) ≡ None }
+    {
+        match msg {
             Msg::Sess { sess, side, keeper } => {
                 self.call_take_end(end, place, EndId { sess, side }, keeper)
             }
             _ => self.call_take_value(end, msg),
-        };
-        match done {
-            Ok(()) => Ok(msg),
-            Err(halt) => Err(halt),
         }
     }
 }
