@@ -1,4 +1,4 @@
-use Rattle.std.proofs.Common.{◌≡◌, ◌∙◌, ap, subst}
+use Rattle.std.proofs.Common.{◌≡◌, ◌∙◌, ap}
 use Rattle.sj_lang.specs.FileView.{file_of}
 use Rattle.sj_lang.specs.declared.file.File.{File}
 use Rattle.sj_check.specs.Held.{file_in}
