@@ -120,7 +120,7 @@ pub(crate) fn syntax_lesson(rule: Rule) -> Lesson {
         Rule::P1 => Lesson {
             name: b"not due",
             says: b"no file goes on so there",
-            mends: b"put there what the grammar wants behind what stands before",
+            mends: b"put there what the grammar wants after what stands before",
         },
         Rule::P2 => Lesson {
             name: b"no token",
