@@ -27,16 +27,17 @@ pub(crate) fn edit_of(alloc: Global, around: Around<'_>) -> Result<Option<Edit>,
     }
     let here = around.ahead(0);
     let next = around.ahead(1);
+    let later = around.ahead(2);
     if let Some(shown) = only_one(alloc, around, here, next)? {
         return Ok(Some(Edit::Before(shown)));
     }
     if here.is_empty() {
         return Ok(None);
     }
-    if goes_on(alloc, around, &[next, around.ahead(2)])? {
+    if goes_on(alloc, around, &[next, later])? {
         return Ok(Some(Edit::Without));
     }
-    match only_one(alloc, around, next, around.ahead(2))? {
+    match only_one(alloc, around, next, later)? {
         Some(shown) => Ok(Some(Edit::Instead(shown))),
         None => Ok(None),
     }

@@ -12,12 +12,12 @@ pub(crate) struct Around<'a> {
 
 impl<'a> Around<'a> {
     /// The token so many after the fault; the fault's own is 0.
-    pub fn ahead(&self, n: usize) -> &[u8] {
+    pub fn ahead(&self, n: usize) -> &'a [u8] {
         self.scanned.spelled(self.at.saturating_add(n))
     }
 
     /// The token so many before the fault.
-    pub fn behind(&self, n: usize) -> &[u8] {
+    pub fn behind(&self, n: usize) -> &'a [u8] {
         if n > self.at {
             return b"";
         }

@@ -160,7 +160,10 @@ impl<'a> Scanned<'a> {
     /// The bytes of the text before the token of that number; all of them before the end.
     pub fn front(&self, n: usize) -> &[u8] {
         match self.tokens.get(n) {
-            Some(token) => self.source.get(..token.from).unwrap_or(b""),
+            Some(token) => match self.source.get(..token.from) {
+                Some(front) => front,
+                None => b"",
+            },
             None => self.source,
         }
     }
@@ -170,7 +173,10 @@ impl<'a> Scanned<'a> {
         let mut at = (1u32, 1u32);
         for (i, b) in self.source.iter().enumerate() {
             if at == (line, column) {
-                return self.source.get(i..).unwrap_or(b"");
+                return match self.source.get(i..) {
+                    Some(rest) => rest,
+                    None => b"",
+                };
             }
             at = if *b == b'\n' {
                 (at.0.saturating_add(1), 1)
