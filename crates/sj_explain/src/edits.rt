@@ -61,7 +61,8 @@ fn is_long_word(word: &[u8]) -> bool {
     }
 }
 
-// The one token, as it is shown, after which the text goes on with these two; None where there are more.
+// The one token, as it is shown, after which the text goes on with these two; None where several
+// are such.
 fn only_one(
     alloc: Global,
     around: Around<'_>,
@@ -83,7 +84,8 @@ fn only_one(
     Ok(found)
 }
 
-// Whether the text up to the fault goes on with these tokens, up to one without bytes, which is the end.
+// Whether the text up to the fault goes on with these tokens. One without bytes is the end of the
+// file, and those after it aren't looked at.
 fn goes_on(alloc: Global, around: Around<'_>, pieces: &[&[u8]]) -> Result<bool, NoMemory> {
     let mut front = Vec::from_slice(alloc, around.scanned.front(around.at))?;
     for piece in pieces {

@@ -149,7 +149,7 @@ impl<'a> Scanned<'a> {
         self.tokens.len()
     }
 
-    /// The bytes of the token of that number; none behind the last.
+    /// The bytes of the token of that number; none after the last.
     pub fn spelled(&self, n: usize) -> &[u8] {
         match self.tokens.get(n) {
             Some(token) => self.spelling(*token),

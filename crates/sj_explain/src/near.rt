@@ -1,7 +1,7 @@
 //! Words that are nearly reserved ones.
 
-/// Whether one differs from the other by at most one letter or by two neighbours that changed places, or in
-/// capitals alone.
+/// Whether one differs from the other by at most one letter, by two neighbours that changed places,
+/// or in capitals alone.
 pub(crate) fn is_near(word: &[u8], other: &[u8]) -> bool {
     if is_in_other_case(word, other) {
         return true;

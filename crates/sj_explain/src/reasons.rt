@@ -32,7 +32,8 @@ use std::alloc::Global;
 pub struct Told {
     /// What reading and checking come to.
     pub answer: CheckAnswer,
-    /// The line that `sj check` prints, and after it the reasons; or a picture, where one is asked for.
+    /// The line that `sj check` prints, and after it the reasons. It is a picture instead where one
+    /// is asked for.
     pub text: Vec<u8>,
 }
 
@@ -142,7 +143,8 @@ fn tell_with_picture(
     Ok(Told { answer, text })
 }
 
-// A rule in words, the place where it is broken, lines on what was known there, and how that is mended.
+// A rule in words, the place where it is broken, lines on what was known there, and how that is
+// mended.
 fn put_reasons(
     alloc: Global,
     text: &mut Vec<u8>,
@@ -202,7 +204,8 @@ fn syntax_reasons(
     Ok(text)
 }
 
-// The details are those of this crate's own walk, and are left out where it comes to another fault than the checker.
+// The details are those of this crate's own walk. They are left out where it comes to another fault
+// than the checker.
 fn check_reasons(
     alloc: Global,
     looks: Looks,

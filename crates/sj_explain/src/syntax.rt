@@ -10,7 +10,8 @@ use sj_text::put;
 use sj_wanted::{MOST_FRONT, put_wanted};
 use std::alloc::Global;
 
-/// Lines on what stands there, what may stand there, and what was meant; none where there is nothing to say.
+/// Lines on what stands there, what may stand there, and what was meant. None come where there is
+/// nothing to say.
 pub(crate) fn put_syntax(
     alloc: Global,
     text: &mut Vec<u8>,

@@ -1,4 +1,4 @@
--- Where the first fault of a text with a token behind it stands.
+-- Where the first fault of a text with a token after it stands.
 use Rattle.std.proofs.Common.{◌≡◌, ◌∙◌, ℕ, ◌+◌, ◌≤◌, true, false, ◌&&◌, ◌==◌, List, [], ◌++◌, Some, length, length-append, ap, sym, arith}
 use Rattle.std.specs.Prelude.{codes}
 use Rattle.std.proofs.lemmas.Bool.{eq-eqb}

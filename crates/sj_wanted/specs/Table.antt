@@ -2,7 +2,7 @@
 use Rattle.std.specs.Prelude.{ℕ, Bool, true, false, List, [], ◌∷◌, ◌++◌, codes}
 use Rattle.sj_grammar.specs.Names.{early_reserved, middle_reserved, late_reserved}
 
--- symbols; the longer ones behind their beginnings
+-- symbols; the longer ones after their beginnings
 abbrev pub symbols : List (List ℕ)
 symbols = codes ";" ∷ codes "." ∷ codes "," ∷ codes ":" ∷ codes ")" ∷ codes ">" ∷ codes "]" ∷ codes "}" ∷ codes "(" ∷ codes "<" ∷ codes "[" ∷ codes "{"
     ∷ codes "!" ∷ codes "?" ∷ codes "=" ∷ codes "==" ∷ codes "<=" ∷ codes "+" ∷ codes "-" ∷ codes "*" ∷ []

@@ -14,7 +14,7 @@ front_limit = 65000
 abbrev pub token_limit : ℕ
 token_limit = 64
 
--- the text, and the token behind it on a line of its own
+-- the text, and the token after it on a line of its own
 abbrev pub with_token : List ℕ → List ℕ → List ℕ
 with_token front token = front ++ (codes "\n" ++ token)
 

@@ -8,7 +8,8 @@ use sj_base::NoMemory;
 use sj_text::put;
 use std::alloc::Global;
 
-/// One token of each sort, as it is tried; the last one has no bytes and stands for the end of the file.
+/// One token of each sort, as it is tried. The last one has no bytes and stands for the end of the
+/// file.
 pub const TOKENS: [&[u8]; 51] = [
     b";",
     b".",
@@ -118,7 +119,7 @@ pub const SHOWN: [&[u8]; 51] = [
     b"END",
 ];
 
-/// Appends the line of the tokens that may stand after that text; the marks say which of the tokens they are.
+/// Appends the line of the tokens that may stand after that text; the marks say which these are.
 pub fn put_wanted(alloc: Global, text: &mut Vec<u8>, front: &[u8]) -> Result<Vec<bool>, NoMemory>
     requires { length front.now ≤ front_limit }
     ensures marks { IfOk result (λ r. Tells front.now tokens r.items) }

@@ -16,7 +16,8 @@ pub const MOST_FRONT: usize = 65_000;
 /// The most bytes of a token that is tried.
 pub const MOST_TOKEN: usize = 64;
 
-/// Whether the token may stand after the text: put there on a line of its own, it isn't at the first fault.
+/// Whether the token may stand after the text: put there on a line of its own, it isn't at the
+/// first fault.
 pub fn may_stand(alloc: Global, front: &[u8], token: &[u8]) -> Result<bool, NoMemory>
     requires front { length front.now ≤ front_limit }
     requires token { length token.now ≤ token_limit }
