@@ -1,5 +1,12 @@
 //! Numbers that are known before a file runs.
 
+ghost use Rattle.std.specs.Prelude.{◌≡◌, IfSome, Some};
+ghost use Rattle.sj_lang.specs.CodeView.{term_of};
+ghost use Rattle.sj_lang.specs.Term.{var};
+ghost use Rattle.sj_semantics.specs.Value.{result_of};
+ghost use Rattle.sj_semantics.specs.declared.Value.{Value};
+ghost use Rattle.sj_explain.specs.Counts.{IsWorth};
+
 use sj_base::NoMemory;
 use sj_lang::{Expr, Op};
 use std::alloc::Global;
@@ -35,13 +42,10 @@ impl Known {
         Ok(Known { entries })
     }
 
-    pub fn get(&self, name: u16) -> Option<Count> {
-        for entry in &self.entries {
-            if entry.name == name {
-                return Some(entry.count);
-            }
-        }
-        None
+    pub fn get(&self, name: u16) -> Option<Count>
+        ensures { IfSome result (λ c. IsWorth self.now.entries.items (var name) c.value) }
+    {
+        find(&self.entries, name)
     }
 
     pub fn forget(&mut self, name: u16) {
@@ -62,9 +66,27 @@ impl Known {
     }
 }
 
+// The number that the first entry of that name has.
+fn find(entries: &[Entry], name: u16) -> Option<Count>
+    ensures { IfSome result (λ c. IsWorth entries.now (var name) c.value) }
+{
+    match entries.split_first() {
+        Some((entry, rest)) => {
+            if entry.name == name {
+                Some(entry.count)
+            } else {
+                find(rest, name)
+            }
+        }
+        None => None,
+    }
+}
+
 /// The number of the expression, where it is one and is known.
 #[cycle(counting)]
-pub(crate) fn count_of(known: &Known, expr: &Expr) -> Option<Count> {
+pub(crate) fn count_of(known: &Known, expr: &Expr) -> Option<Count>
+    ensures { IfSome result (λ c. IsWorth known.now.entries.items (term_of expr.now) c.value) }
+{
     match expr {
         Expr::Int(value) => Some(Count {
             value: *value,
@@ -80,7 +102,10 @@ pub(crate) fn count_of(known: &Known, expr: &Expr) -> Option<Count> {
     }
 }
 
-fn combined(op: Op, first: Count, second: Count) -> Option<Count> {
+fn combined(op: Op, first: Count, second: Count) -> Option<Count>
+    ensures { IfSome result (λ c.
+        result_of op (Value.Int first.value) (Value.Int second.value) ≡ Some (Value.Int c.value)) }
+{
     let (exact, value) = match op {
         Op::Add => (
             first.value.checked_add(second.value),

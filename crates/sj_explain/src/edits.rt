@@ -4,7 +4,7 @@ use crate::hints::Around;
 use crate::near::{is_elsewhere, is_near};
 use sj_base::NoMemory;
 use sj_text::put;
-use sj_wanted::{MOST_FRONT, MOST_TOKEN, SHOWN, TOKENS, may_stand};
+use sj_wanted::{SHOWN, TOKENS, goes_on};
 use std::alloc::Global;
 
 /// What one token changed makes of the text.
@@ -34,7 +34,7 @@ pub(crate) fn edit_of(alloc: Global, around: Around<'_>) -> Result<Option<Edit>,
     if here.is_empty() {
         return Ok(None);
     }
-    if goes_on(alloc, around, &[next, later])? {
+    if goes_on(alloc, around.front(), &[next, later])? {
         return Ok(Some(Edit::Without));
     }
     match only_one(alloc, around, next, later)? {
@@ -73,7 +73,7 @@ fn only_one(
     for (i, token) in TOKENS.iter().enumerate() {
         if around.marks.get(i) == Some(&true)
             && !token.is_empty()
-            && goes_on(alloc, around, &[token, next, later])?
+            && goes_on(alloc, around.front(), &[token, next, later])?
         {
             if found.is_some() {
                 return Ok(None);
@@ -82,26 +82,6 @@ fn only_one(
         }
     }
     Ok(found)
-}
-
-// Whether the text up to the fault goes on with these tokens. One without bytes is the end of the
-// file, and those after it aren't looked at.
-fn goes_on(alloc: Global, around: Around<'_>, pieces: &[&[u8]]) -> Result<bool, NoMemory> {
-    let mut front = Vec::from_slice(alloc, around.scanned.front(around.at))?;
-    for piece in pieces {
-        if piece.len() > MOST_TOKEN || front.len() > MOST_FRONT {
-            return Ok(false);
-        }
-        if !may_stand(alloc, &front, piece)? {
-            return Ok(false);
-        }
-        if piece.is_empty() {
-            break;
-        }
-        put(&mut front, b"\n")?;
-        put(&mut front, piece)?;
-    }
-    Ok(true)
 }
 
 /// The words of a change, after `did you mean `.

@@ -24,6 +24,11 @@ impl<'a> Around<'a> {
         self.scanned.spelled(self.at.saturating_sub(n))
     }
 
+    /// The text before the fault.
+    pub fn front(&self) -> &'a [u8] {
+        self.scanned.front(self.at)
+    }
+
     /// Whether that one, as it is shown, may stand there.
     pub fn wants(&self, shown: &[u8]) -> bool {
         for (word, mark) in sj_wanted::SHOWN.iter().zip(self.marks.iter()) {

@@ -1,5 +1,5 @@
 -- Which tokens may stand at the end of a text.
-use Rattle.std.specs.Prelude.{◌≡◌, ℕ, ◌+◌, ◌≤◌, Bool, true, false, ◌&&◌, ◌==◌, List, [], ◌∷◌, ◌++◌, length, codes}
+use Rattle.std.specs.Prelude.{◌≡◌, ℕ, ◌+◌, ◌≤◌, ◌<◌, ◌⊎◌, Bool, true, false, ◌&&◌, ◌==◌, List, [], ◌∷◌, ◌++◌, length, codes}
 use Rattle.sj_grammar.specs.declared.tokens.Fault.{Fault}
 use Rattle.sj_lang.specs.Limits.{limits}
 use Rattle.sj_grammar.specs.Reading.{line_at}
@@ -44,3 +44,15 @@ Tells front [] [] = Unit {0}
 Tells front (token ∷ tokens) (true ∷ marks) = MayStand front token × Tells front tokens marks
 Tells front (token ∷ tokens) (false ∷ marks) = HasFaultThere front token × Tells front tokens marks
 Tells front tokens marks = ⊥
+
+-- the text goes on with these tokens, each after those before it; one without bytes is its end
+abbrev pub GoesOn : List ℕ → List (List ℕ) → Type 0
+GoesOn front [] = Unit {0}
+GoesOn front ([] ∷ tokens) = MayStand front []
+GoesOn front ((b ∷ bs) ∷ tokens) = MayStand front (b ∷ bs) × GoesOn (with_token front (b ∷ bs)) tokens
+
+-- it comes to one that may not stand there, or is too long to be tried
+abbrev pub Halts : List ℕ → List (List ℕ) → Type 0
+Halts front [] = ⊥
+Halts front (token ∷ tokens) =
+    ((front_limit < length front) ⊎ (token_limit < length token)) ⊎ (HasFaultThere front token ⊎ Halts (with_token front token) tokens)

@@ -5,4 +5,4 @@ mod table;
 mod trial;
 
 pub use table::{SHOWN, TOKENS, put_wanted};
-pub use trial::{MOST_FRONT, MOST_TOKEN, may_stand, trials};
+pub use trial::{MOST_FRONT, MOST_TOKEN, goes_on, may_stand, trials};

@@ -3,7 +3,7 @@
 
 ghost use Rattle.std.specs.Prelude.{◌≡◌, ◌≤◌, ◌+◌, length, map, IfOk, IsTrue, false};
 ghost use Rattle.sj_grammar.specs.Reading.{line_at};
-ghost use Rattle.sj_wanted.specs.Trial.{MayStand, HasFaultThere, Tells, front_limit, token_limit, AreShort, with_token, begins_line};
+ghost use Rattle.sj_wanted.specs.Trial.{MayStand, HasFaultThere, Tells, GoesOn, Halts, front_limit, token_limit, AreShort, with_token, begins_line};
 
 use sj_base::NoMemory;
 use sj_party::{Fault, ParseRefusal, parse_file};
@@ -80,4 +80,28 @@ pub fn trials(alloc: Global, front: &[u8], tokens: &[&[u8]]) -> Result<Vec<bool>
         }
         None => Ok(Vec::new(alloc)),
     }
+}
+
+/// Whether the text goes on with these tokens, each on a line of its own after those before it.
+///
+/// One without bytes is the end of the file, and those after it aren't looked at. With a text or a
+/// token that is too long to be tried it doesn't.
+pub fn goes_on(alloc: Global, front: &[u8], tokens: &[&[u8]]) -> Result<bool, NoMemory>
+    ensures yes { IfOk result (λ b. IsTrue b → GoesOn front.now (map (λ t. t.now) tokens.now)) }
+    ensures no { IfOk result (λ b. b ≡ false → Halts front.now (map (λ t. t.now) tokens.now)) }
+{
+    let Some((token, rest)) = tokens.split_first() else {
+        return Ok(true);
+    };
+    if front.len() > MOST_FRONT || token.len() > MOST_TOKEN {
+        return Ok(false);
+    }
+    if !may_stand(alloc, front, token)? {
+        return Ok(false);
+    }
+    if token.is_empty() {
+        return Ok(true);
+    }
+    let longer = with_token(alloc, front, token)?;
+    goes_on(alloc, &longer, rest)
 }
