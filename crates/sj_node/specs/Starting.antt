@@ -24,8 +24,8 @@ slots_from file p n [] = []
 slots_from file p n (c ∷ cs) =
     held_by file p (record { sess = n; side = 0 }) c ∷ held_by file p (record { sess = n; side = 1 }) c ∷ slots_from file p (n + 1) cs
 
--- the node is that party's before any event, at that clock: its program and its ends are those of the start, nothing was sent or
--- noted, and it plays by the file's protocols
+-- the node is that party's before any event, at that clock. Its program and its ends are those of
+-- the start, nothing was sent or noted, and it plays by the file's protocols
 pub record Begins (file : FileAt) (p time : ℕ) (n : Node) : Type 0 where
   pub node : node_at n ≡ record (first_node file p) { clock = time }
   pub clock : clock_of n ≡ time

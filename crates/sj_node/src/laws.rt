@@ -15,7 +15,8 @@ ghost use Rattle.sj_rules.specs.Party as file;
 ghost use Rattle.sj_rules.specs.Rows.{Worked};
 ghost use Rattle.sj_semantics.specs.Program.{Program};
 
-/// A node plays as the file's protocols say, but takes no session message that names what isn't there.
+/// A node plays as the file's protocols say, but takes no session message that names what isn't
+/// there.
 pub fn nodes_play_the_file()
     ensures { (ps : List ProtocolAt) (connects parties : ℕ) → play_with (body_named ps) connects parties
         ≡ asking (names_known connects parties) (file.play_for parties ps) }
