@@ -208,5 +208,5 @@ mend: put there what the grammar wants after what stands before
 
 #[test]
 fn expression_slips_are_answered(rt: HostRuntime) -> Result<(), Fail> {
-    check_slips(&rt, &SLIPS)
+    check_slips(&rt, rt.alloc(), &SLIPS)
 }

@@ -252,5 +252,5 @@ warning line 5: the loop's count wraps to -9223372036854775808, so it has 0 turn
 
 #[test]
 fn file_slips_are_answered(rt: HostRuntime) -> Result<(), Fail> {
-    check_slips(&rt, &SLIPS)
+    check_slips(&rt, rt.alloc(), &SLIPS)
 }

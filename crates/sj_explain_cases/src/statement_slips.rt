@@ -228,5 +228,5 @@ mend: put there what the grammar wants after what stands before
 
 #[test]
 fn statement_slips_are_answered(rt: HostRuntime) -> Result<(), Fail> {
-    check_slips(&rt, &SLIPS)
+    check_slips(&rt, rt.alloc(), &SLIPS)
 }
