@@ -9,7 +9,7 @@ use Rattle.sj_lang.specs.FileAt.{ConnectAt, FileAt}
 use Rattle.sj_lang.specs.Place.{Place}
 use Rattle.sj_semantics.specs.declared.Passed.{Passed}
 use Rattle.sj_semantics.specs.Acts.{acts_on, sent_by, sent_on, taken_by, taken_on, uses_on}
-use Rattle.sj_semantics.specs.Ends.{EndAt, Session, end_at, end_on, is_end, is_same_side, next_for, nowhere, other_end, other_side}
+use Rattle.sj_semantics.specs.Ends.{EndAt, Session, end_at, end_on, is_end, is_same_side, next_for, nowhere, other_end, other_side, untaken_for}
 use Rattle.sj_semantics.specs.Program.{Program}
 use Rattle.sj_semantics.specs.Uses.{Use, after_uses, begins, delegates, end_after, sends, takes}
 use Rattle.sj_semantics.specs.World.{Change, World, act_of, begun_by, change_of, change_of_program, changed_world, session_message, session_of}
@@ -19,18 +19,21 @@ use Rattle.sj_semantics_laws.proofs.ChangeLemmas.{rests_on}
 use Rattle.sj_semantics_laws.proofs.EndLemmas.{end_at-after_uses_extends, end_at-touched_other, end_at-touched_same, touched}
 use Rattle.sj_semantics_laws.proofs.FrontLemmas.{Front, Taking, by_taking, front_extends, front_more, front_whole, next_taken, none_taken}
 use Rattle.sj_semantics_laws.proofs.MomentLemmas.{holder_is_one}
-use Rattle.sj_headline_laws.specs.Headline.{IsFront}
+use Rattle.sj_headline_laws.specs.Headline.{IsFront, messages}
 use Rattle.sj_headline_laws.proofs.DoneLemmas.{same_end_at}
+use Rattle.sj_headline_laws.proofs.EndedLemmas.{done_is_taken}
+use Rattle.sj_headline_laws.proofs.GoesLemmas.{AllLocated, IsLocated}
 use Rattle.sj_headline_laws.proofs.TouchedLemmas.{side}
 use Rattle.sj_headline_laws.proofs.UnnamedLemmas.{bound_claims}
 use Rattle.sj_rules.specs.Node as wanted
 use Rattle.sj_rules.specs.Node.{Want}
 use Rattle.sj_seat_laws.specs.Calls.{Call}
 use Rattle.sj_seat_laws.specs.Guards.{seated_want}
-use Rattle.sj_seat_laws.specs.SeatedHeadline.{HasOneHolderEach, OfEachEnd, seated_acts, uses_in, uses_of_change, uses_of_doing}
+use Rattle.sj_seat_laws.specs.SeatedHeadline.{HasOneHolderEach, IsAllDone, OfEachEnd, seated_acts, uses_in, uses_of_change, uses_of_doing}
 use Rattle.sj_seat_laws.specs.SeatedStart.{IsSeatedRun, seated_start}
 use Rattle.sj_seat_laws.specs.SeatedWorld.{Doing, SeatedWorld, after_doing, after_seated, beside, doing_by, doing_of, seated_act}
-use Rattle.sj_seat_laws.proofs.HeldLemmas.{held_by_place}
+use Rattle.sj_seat_laws.proofs.HeldLemmas.{held_by_place, holds, place_by_held}
+use Rattle.sj_seat_laws.proofs.LocatedLemmas.{IsFound}
 use Rattle.sj_seat_laws.proofs.RunLemmas.{between}
 use Rattle.sj_seat_laws.proofs.SeatedLemmas.{IsSeated}
 
@@ -228,17 +231,42 @@ fresh_at file (c ∷ cs) zero zero = (refl, refl)
 fresh_at file (c ∷ cs) zero (suc d) = (refl, refl)
 fresh_at file (c ∷ cs) (suc s) d = fresh_at file cs s d
 
-pub takes_in_order : (file : FileAt) (p : ℕ) (calls : List Call) (acts : List ℕ) (t : SeatedWorld) → IsSeatedRun file p calls acts t → OfEachEnd file p calls acts IsFront
-takes_in_order file p calls acts t run e =
+-- what was taken on an end, with what is untaken there, is what was sent on the other one
+pub run_untaken : (file : FileAt) (p : ℕ) (calls : List Call) (acts : List ℕ) (t : SeatedWorld) (e : EndId) → IsSeatedRun file p calls acts t
+    → messages (taken_on e (seated_acts p (seated_start file p calls) acts)) ++ untaken_for t.world.sessions e
+    ≡ messages (sent_on (other_end e) (seated_acts p (seated_start file p calls) acts))
+run_untaken file p calls acts t e run =
     let ts = taken_on e (seated_acts p (seated_start file p calls) acts) in
+    let sent = (end_at t.world.sessions (other_end e)).sent in
     let so = run_so p (seated_start file p calls) t acts e [] [] run (record {
       front = tt;
       counted = ap (λ (xs : List ℕ). length xs) (sym (fresh_at file file.connects e.sess e.side).1);
       sent = (fresh_at file file.connects (other_end e).sess (other_end e).side).0;
-    }) in (
-      map (λ x. x.msg) (drop (length ts) (end_at t.world.sessions (other_end e)).sent),
-      sym (front_whole ts (end_at t.world.sessions (other_end e)).sent so.front ∙ ap (map (λ x. x.msg)) so.sent),
-    )
+    }) in
+    ap (λ (n : ℕ). messages ts ++ map (λ x. x.msg) (drop n sent)) (sym so.counted) ∙ front_whole ts sent so.front ∙ ap (map (λ x. x.msg)) so.sent
+
+pub takes_in_order : (file : FileAt) (p : ℕ) (calls : List Call) (acts : List ℕ) (t : SeatedWorld) → IsSeatedRun file p calls acts t → OfEachEnd file p calls acts IsFront
+takes_in_order file p calls acts t run e = (untaken_for t.world.sessions e, sym (run_untaken file p calls acts t e run))
+
+-- ---- all of it, where all is done
+
+-- nothing is untaken there
+all_taken : (file : FileAt) (p n : ℕ) (t : SeatedWorld) → IsSeated file p n t → IsAllDone t → (e : EndId) → untaken_for t.world.sessions e ≡ []
+all_taken file p n t s over = done_is_taken file t.world s.guarded.sound located over.others
+  where
+    located : AllLocated t.world
+    located e is_open = by (s.found e is_open)
+      where
+        by : IsFound t.world (λ f. holds f t.seat.ends) e → IsLocated t.world e
+        by (inl l) = l
+        by (inr h) =
+            let r = place_by_held t.seat.ends e h in
+            absurd (is_open (ap (λ (x : EndAt). x.place) (same_end_at t.world.sessions e r.0 r.1) ∙ s.places r.0 r.2.0 r.2.1 ∙ over.code r.0 r.2.0 r.2.1))
+
+pub takes_all : (file : FileAt) (p n : ℕ) (calls : List Call) (acts : List ℕ) (t : SeatedWorld) → IsSeatedRun file p calls acts t → IsSeated file p n t → IsAllDone t → OfEachEnd file p calls acts (λ taken sent. taken ≡ sent)
+takes_all file p n calls acts t run s over e =
+    let taken = messages (taken_on e (seated_acts p (seated_start file p calls) acts)) in
+    sym (append-nil taken) ∙ ap (λ ms. taken ++ ms) (sym (all_taken file p n t s over e)) ∙ run_untaken file p calls acts t e run
 
 -- ---- one holder
 

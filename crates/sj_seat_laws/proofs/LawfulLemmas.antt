@@ -46,7 +46,7 @@ use Rattle.sj_seat_laws.specs.Guards.{called_by, carried_next, ends_taken, may_c
 use Rattle.sj_seat_laws.specs.SeatedPlay.{Player, player_binds, seated, seated_play, written}
 use Rattle.sj_seat_laws.specs.SeatedStart.{no_program}
 use Rattle.sj_seat_laws.specs.SeatedWorld.{SeatedWorld, seen_at}
-use Rattle.sj_seat_laws.proofs.CallLemmas.{carries_out, sends_on}
+use Rattle.sj_seat_laws.proofs.CallLemmas.{carries_out, done_by, sends_on}
 use Rattle.sj_seat_laws.proofs.HeldLemmas.{first_of, held_by_place, place-push, place-without, some-moved}
 use Rattle.sj_seat_laws.proofs.SeatedLemmas.{IsSeated}
 
@@ -86,10 +86,6 @@ push_binds bs y q f =
     ap {B = Bool} is_some (place-push bs (y, q) f ∙ ap (λ (c : Bool). first_of (place_held bs f) (cond c (Some q) None)) (same_sym y f)) in
     let c = first_also (place_held bs f) (is_same_end f y) q in
     (λ h. c.0 (sym same ∙ h), λ h. same ∙ c.1 h)
-
-done_by : (q : Place) → is_done q ≡ true → q ≡ done
-done_by done h = refl
-done_by q h = cc
 
 not_by : (b : Bool) → not b ≡ true → b ≡ false
 not_by true h = cc

@@ -4,6 +4,7 @@ pub mod GuardLemmas
 pub mod UseLemmas
 pub mod PassLemmas
 pub mod CallLemmas
+pub mod LocatedLemmas
 pub mod SeatedLemmas
 pub mod LawfulLemmas
 pub mod SeenLemmas

@@ -21,7 +21,7 @@ use Rattle.sj_seat_laws.specs.SeatedWorld.{Doing, SeatedWorld, after_doing, besi
 use Rattle.sj_seat_laws.proofs.BeginningLemmas.{uses_its_own}
 use Rattle.sj_seat_laws.proofs.ClosingLemmas.{gone_once_closed}
 use Rattle.sj_seat_laws.proofs.DelegatingLemmas.{nowhere_on_its_way}
-use Rattle.sj_seat_laws.proofs.HeadlineLemmas.{one_holder, takes_in_order}
+use Rattle.sj_seat_laws.proofs.HeadlineLemmas.{one_holder, takes_all, takes_in_order}
 use Rattle.sj_seat_laws.proofs.RunLemmas.{seated_run}
 use Rattle.sj_seat_laws.proofs.UsingLemmas.{rests, takes_what_fits}
 
@@ -43,6 +43,7 @@ settled_run_has_it file p calls acts t accepted there run none = record {
   resting = rests p t (no_doing p t (doing_of p t)
       (ap (λ (b : Bool). cond b (option_map (after_doing p t) (doing_of p t)) (option_map (beside t.seat) (act_of t.world p))) (sym (eq-eqb p p refl)) ∙ none p));
   in_order = takes_in_order file p calls acts t run;
+  whole = takes_all file p (length acts) calls acts t run (seated_run file p calls accepted there acts t run);
   fitting = λ front rest q u parted leads. takes_what_fits file p (length front) u q (seated_run file p calls accepted there front u leads);
   one_holder = λ front rest u parted leads. one_holder file p (length front) u (seated_run file p calls accepted there front u leads);
   by_holder = λ front rest q u parted leads. uses_its_own file p u (seated_run file p calls accepted there front u leads).guarded q;

@@ -42,11 +42,12 @@ use Rattle.sj_seat_laws.specs.Calls.{Call, Ends, SeatedAt, moved, place_held, wi
 use Rattle.sj_seat_laws.specs.Guards.{called_by, carried_next, ends_taken, may_carry, may_send, may_take, want_of_calls, want_of_close, want_of_delegate, want_of_send, want_of_take, where_allowed, with_carried}
 use Rattle.sj_seat_laws.specs.SeatedStart.{no_program}
 use Rattle.sj_seat_laws.specs.SeatedWorld.{Doing, SeatedWorld, after_doing, beside, doing_by, doing_of, seated_act, world_after}
-use Rattle.sj_seat_laws.proofs.CallLemmas.{carries_out, mine_unused, names_nothing, sends_on, taken_kind}
+use Rattle.sj_seat_laws.proofs.CallLemmas.{carries_out, done_by, mine_unused, names_nothing, sends_on, taken_kind}
 use Rattle.sj_seat_laws.proofs.GuardLemmas.{Guarded, act_keeps_guarded}
-use Rattle.sj_seat_laws.proofs.HeldLemmas.{first_of, held_by_place, holds-moved, place-moved, place-moved_other, place-moved_same, place-push, place-without_other}
+use Rattle.sj_seat_laws.proofs.HeldLemmas.{first_of, held_by_place, holds, holds-moved, holds-push, holds-without_other, place-moved, place-moved_other, place-moved_same, place-push, place-without_other}
+use Rattle.sj_seat_laws.proofs.LocatedLemmas.{AllFound, act_keeps_found, close_finds, delegate_finds, end_finds, send_finds, value_finds}
 use Rattle.sj_seat_laws.proofs.PassLemmas.{guards_delegate, guards_take_end}
-use Rattle.sj_seat_laws.proofs.UseLemmas.{guards_close, guards_send, guards_take}
+use Rattle.sj_seat_laws.proofs.UseLemmas.{guards_close, guards_send, guards_take, uncarried}
 
 -- the ends that are held are at their places
 abbrev pub ArePlaced : List Session → Ends → Type 0
@@ -62,6 +63,7 @@ pub record IsSeated (file : FileAt) (p n : ℕ) (t : SeatedWorld) : Type 0 where
   pub idle : slice_get t.world.parties p ≡ Some (no_program file)
   pub places : ArePlaced t.world.sessions t.seat.ends
   pub known : AreKnown file t.seat.ends
+  pub found : AllFound t.world (λ e. holds e t.seat.ends)
   pub proper : IsProper (size_of file) t.world
   pub hops : (e : EndId) → (end_at t.world.sessions e).hops ≤ 100
   pub steps : (q : ℕ) (g : Program) → slice_get t.world.parties q ≡ Some g → g.steps ≤ 10000
@@ -86,6 +88,7 @@ other_keeps file p n t v q other s acted =
           (mine_unused file w t.seat.ends s.guarded e (held_by_place t.seat.ends e place h) q a.program a.change.uses a.there (all_mine w q a.program a.change rests)))
           ∙ s.places e place h;
       known = s.known;
+      found = subst (λ (u : World). AllFound u (λ e. holds e t.seat.ends)) (sym a.result) (act_keeps_found file w v (λ e. holds e t.seat.ends) q s.guarded.sound s.found acted);
       proper = subst (IsProper (size_of file)) (sym a.result) (act_keeps_proper file (size_of file) w v q refl s.guarded.sound s.proper acted);
       hops = r.hops;
       steps = programs_keep (λ g. g.steps ≤ 10000) w.parties q a.change.program (omega (arith, r.steps, ltb-true a.program.steps 10000 rests.steps_left)) s.steps;
@@ -144,14 +147,15 @@ module _ (file : FileAt) (p n : ℕ) (t : SeatedWorld) (s : IsSeated file p n t)
   below : p < length file.parties
   below = omega (arith, slice_get_within w.parties p (no_program file) s.idle, s.proper.many)
 
-  keeps : (us : List (EndId × Use)) (es : Ends) (cs : List Call) → Guarded file (world_after p us w) es → ArePlaced (after_uses p us zs) es → AreKnown file es
+  keeps : (us : List (EndId × Use)) (es : Ends) (cs : List Call) → Guarded file (world_after p us w) es → ArePlaced (after_uses p us zs) es → AreKnown file es → AllFound (world_after p us w) (λ e. holds e es)
       → ((e : EndId) → AreProperMessages (size_of file) (end_at (after_uses p us zs) e).sent) → ((e : EndId) → (end_at (after_uses p us zs) e).hops ≤ 100)
       → sum_by sent_in (after_uses p us zs) ≤ sum_by sent_in zs + 1 → IsSeated file p (n + 1) (behind us es cs)
-  keeps us es cs guarded placed known messages hops sent = record {
+  keeps us es cs guarded placed known found messages hops sent = record {
     guarded = guarded;
     idle = s.idle;
     places = placed;
     known = known;
+    found = found;
     proper = record { many = s.proper.many; names = s.proper.names; messages = messages };
     hops = hops;
     steps = s.steps;
@@ -169,6 +173,7 @@ module _ (file : FileAt) (p n : ℕ) (t : SeatedWorld) (s : IsSeated file p n t)
       (guards_send file p w bs s.guarded e m on.next (held_by_place bs e q there) on.after on.fits (λ f. names_nothing m f on.none))
       (moved_placed file p zs bs e q (sends m) Out m s.known s.places there refl)
       (moved_known file bs e Out m s.known)
+      (send_finds p w (λ f. holds f bs) (λ f. holds f (moved bs e Out m)) s.found e m (λ f. omega (arith, holds-moved f bs e Out m)))
       (touched_proper (size_of file) p zs e (sends m) (no_end_proper (size_of file) m on.none) s.proper.messages)
       (touched_hops p zs e (sends m) (no_hands m) s.hops)
       (touched_sent p zs e (sends m))
@@ -200,6 +205,8 @@ module _ (file : FileAt) (p n : ℕ) (t : SeatedWorld) (s : IsSeated file p n t)
       (place-moved_other bs e Out (session_message y 0) y turned ∙ own_there) (held_by_place bs e q there) (held_by_place bs y own own_there) other c.is c.stands c.full)
       (λ f r h. all_placed f r (place-without_other es y f r h).1)
       (λ f r h. moved_known file bs e Out (session_message y 0) s.known f r (place-without_other es y f r h).1)
+      (delegate_finds p w (λ f. holds f bs) (λ f. holds f (without_end es y)) s.found e y (uncarried file p w bs s.guarded y (held_by_place bs y own own_there)) s.guarded.sound.pairs
+      (λ f far. omega (arith, holds-moved f bs e Out (session_message y 0), holds-without_other f es y far)))
       (touched_proper (size_of file) p mid e (sends m) (low.1, low.0, below) mid_proper)
       (touched_hops p mid e (sends m) (no_hands m) mid_hops)
       (omega (arith, touched_sent p mid e (sends m), touched_sent p zs y delegates))
@@ -210,12 +217,13 @@ module _ (file : FileAt) (p n : ℕ) (t : SeatedWorld) (s : IsSeated file p n t)
     taken_placed : ArePlaced (touched p zs (e, takes x.msg)) (moved bs e Into x.msg)
     taken_placed = moved_placed file p zs bs e q (takes x.msg) Into x.msg s.known s.places there refl
 
-    value_keeps : IsSeated file p (n + 1) (behind ((e, takes x.msg) ∷ []) (moved bs e Into x.msg) cs)
-    value_keeps =
+    value_keeps : ((f : EndId) → names_end f x.msg ≡ false) → IsSeated file p (n + 1) (behind ((e, takes x.msg) ∷ []) (moved bs e Into x.msg) cs)
+    value_keeps none =
         keeps ((e, takes x.msg) ∷ []) (moved bs e Into x.msg) cs
         (guards_take file p w bs s.guarded e x next (held_by_place bs e q there))
         taken_placed
         (moved_known file bs e Into x.msg s.known)
+        (value_finds p w (λ f. holds f bs) (λ f. holds f (moved bs e Into x.msg)) s.found e x next none (λ f. omega (arith, holds-moved f bs e Into x.msg)))
         (touched_proper (size_of file) p zs e (takes x.msg) tt s.proper.messages)
         (touched_hops p zs e (takes x.msg) (no_takes x.msg) s.hops)
         (omega (arith, touched_sent p zs e (takes x.msg)))
@@ -279,6 +287,8 @@ module _ (file : FileAt) (p n : ℕ) (t : SeatedWorld) (s : IsSeated file p n t)
           (guards_take_end file p w bs s.guarded e x next (held_by_place bs e q there) sess d k kind (moved bs e Into x.msg) (λ f. holds-moved f bs e Into x.msg) is stands.1)
           end_placed
           end_known
+          (end_finds p w (λ f. holds f bs) (λ f. holds f es) s.found e x next sess d k kind is
+          (λ f. omega (arith, holds-moved f bs e Into x.msg, holds-push f (moved bs e Into x.msg) (y, kind))))
           (touched_proper (size_of file) p taken y (begins kind) tt (touched_proper (size_of file) p zs e (takes x.msg) tt s.proper.messages))
           (touched_hops p taken y (begins kind) (λ h. absurd (cc h)) (touched_hops p zs e (takes x.msg) (no_takes x.msg) s.hops))
           (omega (arith, touched_sent p taken y (begins kind), touched_sent p zs e (takes x.msg)))
@@ -287,19 +297,20 @@ module _ (file : FileAt) (p n : ℕ) (t : SeatedWorld) (s : IsSeated file p n t)
     take_keeps : (m : Msg) → x.msg ≡ m → IsSeated file p (n + 1) (behind ((e, takes m) ∷ begun_by (carried_next q) m) (with_carried (moved bs e Into m) (carried_next q) m) cs)
     take_keeps (msgs.Sess sess d k) is =
         subst (λ (m : Msg). IsSeated file p (n + 1) (behind ((e, takes m) ∷ (side sess d, begins (carried_next q)) ∷ []) (moved bs e Into m ++ (side sess d, carried_next q) ∷ []) cs)) is (end_keeps sess d k is)
-    take_keeps (msgs.Int i) is = subst (λ (m : Msg). IsSeated file p (n + 1) (behind ((e, takes m) ∷ []) (moved bs e Into m) cs)) is value_keeps
-    take_keeps (msgs.Bool i) is = subst (λ (m : Msg). IsSeated file p (n + 1) (behind ((e, takes m) ∷ []) (moved bs e Into m) cs)) is value_keeps
-    take_keeps (msgs.Text i) is = subst (λ (m : Msg). IsSeated file p (n + 1) (behind ((e, takes m) ∷ []) (moved bs e Into m) cs)) is value_keeps
-    take_keeps (msgs.Label i) is = subst (λ (m : Msg). IsSeated file p (n + 1) (behind ((e, takes m) ∷ []) (moved bs e Into m) cs)) is value_keeps
-    take_keeps (msgs.More i) is = subst (λ (m : Msg). IsSeated file p (n + 1) (behind ((e, takes m) ∷ []) (moved bs e Into m) cs)) is value_keeps
+    take_keeps (msgs.Int i) is = subst (λ (m : Msg). IsSeated file p (n + 1) (behind ((e, takes m) ∷ []) (moved bs e Into m) cs)) is (value_keeps (λ f. ap (names_end f) is))
+    take_keeps (msgs.Bool i) is = subst (λ (m : Msg). IsSeated file p (n + 1) (behind ((e, takes m) ∷ []) (moved bs e Into m) cs)) is (value_keeps (λ f. ap (names_end f) is))
+    take_keeps (msgs.Text i) is = subst (λ (m : Msg). IsSeated file p (n + 1) (behind ((e, takes m) ∷ []) (moved bs e Into m) cs)) is (value_keeps (λ f. ap (names_end f) is))
+    take_keeps (msgs.Label i) is = subst (λ (m : Msg). IsSeated file p (n + 1) (behind ((e, takes m) ∷ []) (moved bs e Into m) cs)) is (value_keeps (λ f. ap (names_end f) is))
+    take_keeps (msgs.More i) is = subst (λ (m : Msg). IsSeated file p (n + 1) (behind ((e, takes m) ∷ []) (moved bs e Into m) cs)) is (value_keeps (λ f. ap (names_end f) is))
 
   -- ---- an end is closed
 
-  close_keeps : (e : EndId) (cs : List Call) → IsSeated file p (n + 1) (behind [] (without_end bs e) cs)
-  close_keeps e cs =
+  close_keeps : (e : EndId) (q : Place) (cs : List Call) → place_held bs e ≡ Some q → is_done q ≡ true → IsSeated file p (n + 1) (behind [] (without_end bs e) cs)
+  close_keeps e q cs there over =
       keeps [] (without_end bs e) cs (guards_close file p w bs s.guarded e)
       (λ f r h. s.places f r (place-without_other bs e f r h).1)
       (λ f r h. s.known f r (place-without_other bs e f r h).1)
+      (close_finds p w (λ f. holds f bs) (λ f. holds f (without_end bs e)) s.found e (s.places e q there ∙ done_by q over) (λ f far. omega (arith, holds-without_other f bs e far)))
       s.proper.messages s.hops (omega arith)
 
   -- ---- whichever call it is
@@ -350,20 +361,20 @@ module _ (file : FileAt) (p n : ℕ) (t : SeatedWorld) (s : IsSeated file p n t)
       by true k = head (next_for zs e) refl k
       by false k = cc
 
-  by_close : (e : EndId) (cs : List Call) (d : Doing) (o : Option Place) → doing_by p w (want_of_close e o) ≡ Some d → Keeps (calls.closes e ∷ cs) d
-  by_close e cs d None h = cc
-  by_close e cs d (Some q) h = by (is_done q) h
+  by_close : (e : EndId) (cs : List Call) (d : Doing) (o : Option Place) → place_held bs e ≡ o → doing_by p w (want_of_close e o) ≡ Some d → Keeps (calls.closes e ∷ cs) d
+  by_close e cs d None there h = cc
+  by_close e cs d (Some q) there h = by (is_done q) refl h
     where
-      by : (b : Bool) → doing_by p w (where_allowed b (wanted.closes e)) ≡ Some d → Keeps (calls.closes e ∷ cs) d
-      by true k = subst (Keeps (calls.closes e ∷ cs)) (let it : record { taken = None; uses = [] } ≡ d = cc in it) (close_keeps e cs)
-      by false k = cc
+      by : (b : Bool) → is_done q ≡ b → doing_by p w (where_allowed b (wanted.closes e)) ≡ Some d → Keeps (calls.closes e ∷ cs) d
+      by true over k = subst (Keeps (calls.closes e ∷ cs)) (let it : record { taken = None; uses = [] } ≡ d = cc in it) (close_keeps e q cs there over)
+      by false over k = cc
 
   by_calls : (cs : List Call) (d : Doing) → doing_by p w (want_of_calls bs cs) ≡ Some d → Keeps cs d
   by_calls [] d h = cc
   by_calls (calls.sends e m ∷ cs) d h = by_send e m cs d (place_held bs e) refl h
   by_calls (calls.delegates c e ∷ cs) d h = by_delegate c e cs d (place_held bs c) (place_held bs e) refl refl h
   by_calls (calls.takes e ∷ cs) d h = by_take e cs d (place_held bs e) refl h
-  by_calls (calls.closes e ∷ cs) d h = by_close e cs d (place_held bs e) h
+  by_calls (calls.closes e ∷ cs) d h = by_close e cs d (place_held bs e) refl h
 
 pub call_keeps : (file : FileAt) (p n : ℕ) (t : SeatedWorld) (d : Doing) → IsSeated file p n t → doing_of p t ≡ Some d → IsSeated file p (n + 1) (after_doing p t d)
 call_keeps file p n t d s h = by (nat_lt t.seat.steps 10000) refl h

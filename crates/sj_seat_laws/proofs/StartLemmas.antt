@@ -16,9 +16,12 @@ use Rattle.sj_semantics.specs.World.{World, program_of, start_of}
 use Rattle.sj_semantics.proofs.StartLemmas.{program_at_start}
 use Rattle.sj_semantics_laws.specs.Unshared.{IsToCome, bindings_of, claims_on, to_accept, to_open}
 use Rattle.sj_semantics_laws.proofs.AlteredLemmas.{length-altered, slice_get-altered, slice_get-altered_other, sum_by-altered}
+use Rattle.sj_semantics_laws.proofs.BoundLemmas.{bindings_of-le, named_is_bound}
+use Rattle.sj_semantics_laws.specs.Bound.{IsBound}
 use Rattle.sj_headline_laws.proofs.AcceptedLemmas.{start_is_sound}
+use Rattle.sj_headline_laws.proofs.GoesLemmas.{Held as Bound, IsLocated, held, offered, on_its_way}
 use Rattle.sj_headline_laws.proofs.OriginLemmas.{InTodo}
-use Rattle.sj_headline_laws.proofs.PlacedLemmas.{Has, party_there}
+use Rattle.sj_headline_laws.proofs.PlacedLemmas.{Has, party_there, start_is_located}
 use Rattle.sj_headline_laws.proofs.TypedLemmas.{FitsProgram}
 use Rattle.sj_headline_laws.proofs.WorldLemmas.{Asks, Sound, Takes}
 use Rattle.sj_rules.specs.Linked.{IsKept}
@@ -43,6 +46,7 @@ use Rattle.sj_seat_laws.specs.SeatedStart.{connected_ends, no_program, seat_star
 use Rattle.sj_seat_laws.specs.SeatedWorld.{seen_at}
 use Rattle.sj_seat_laws.proofs.CourseLemmas.{IsFresh}
 use Rattle.sj_seat_laws.proofs.HeldLemmas.{holds, numbered}
+use Rattle.sj_seat_laws.proofs.LocatedLemmas.{AllFound, IsFound}
 use Rattle.sj_seat_laws.proofs.SeatedLemmas.{IsSeated}
 
 -- ---- ends that have names, at their places
@@ -153,6 +157,26 @@ module _ (file : FileAt) (p : ℕ) (calls : List Call) (accepted : IsAccepted fi
     offered = λ q k r at none. let o = sound.offered q k r at none in record { protocol = o.protocol; party = o.party; asks = o.asks; to_it = o.to_it; at = o.at };
   }
 
+  -- so each open end is bound at another party, or held
+  start_found : AllFound (world_without file p) (λ e. holds e ends)
+  start_found e is_open = by (start_is_located file accepted e is_open)
+    where
+      bound : (q : ℕ) (g : Program) → slice_get (start_of file).parties q ≡ Some g → Bound e g.ends → IsFound (world_without file p) (λ e. holds e ends) e
+      bound q g there_is h =
+          elim (cases_eq p q) [
+            | inl same ↦
+                let both : Some own ≡ Some g = sym own_there ∙ ap (slice_get (start_of file).parties) same ∙ there_is in
+                let it : own ≡ g = cc in
+                let named_by : IsBound h.end names = subst (λ (k : Program). IsBound h.end k.ends) (sym it) (named_is_bound g.ends h.name h.end h.is_named) in
+                inr (omega (arith, numbered_here at names e, bindings_of-le e h.end names h.it_is, named_by.some_name))
+            | inr other ↦ inl (held q g (slice_get-altered_other (start_of file).parties p q (λ k. no_program file) other ∙ there_is) h)
+          ]
+
+      by : IsLocated (start_of file) e → IsFound (world_without file p) (λ e. holds e ends) e
+      by (held q g there_is h) = bound q g there_is h
+      by (on_its_way f c) = inl (on_its_way f c)
+      by (offered o) = inl (offered (record { by = o.by; number = o.number; request = o.request; there = o.there; none = o.none; it_is = o.it_is }))
+
   nothing_stepped : sum_by steps_of (start_of file).parties ≡ 0
   nothing_stepped = zero_sum (start_of file).parties (λ q g h. no_steps file 0 file.parties q g h)
 
@@ -175,6 +199,7 @@ module _ (file : FileAt) (p : ℕ) (calls : List Call) (accepted : IsAccepted fi
         let k = here_has at names e q h in
         let g = given_by file p 0 file.connects k.0 e k.1 in
         (g.below, inl (omega (arith, g.sess, slice_get_within file.connects g.number g.connect g.there)));
+    found = start_found;
     proper = record {
       many = length-altered (start_of file).parties p (λ g. no_program file) ∙ (start_is_proper file).many;
       names = programs_keep (λ g. AreProper (size_of file) g.ends) (start_of file).parties p (no_program file) nothing_named (start_is_proper file).names;

@@ -2,10 +2,12 @@
 use Rattle.std.specs.Prelude.{◌≡◌, ◌⊎◌, ℕ, ◌≤◌, List, [], ◌∷◌, length, slice_get, Some, None, ⊤}
 use Rattle.sj_base.specs.declared.EndId.{EndId}
 use Rattle.sj_lang.specs.FileAt.{FileAt}
-use Rattle.sj_lang.specs.Place.{Place}
+use Rattle.sj_lang.specs.Place.{Place, done}
+use Rattle.sj_semantics.specs.declared.Verdict.TheVariants.{Done}
 use Rattle.sj_semantics.specs.declared.Want.TheVariants.{Close, Delegate}
 use Rattle.sj_semantics.specs.Ends.{end_at, limit_of_hops, next_for}
 use Rattle.sj_semantics.specs.Program.{limit_of_steps}
+use Rattle.sj_semantics.specs.State.{verdict_of}
 use Rattle.sj_semantics.specs.Uses as uses
 use Rattle.sj_semantics.specs.Uses.{Use}
 use Rattle.sj_semantics.specs.World.{act_of}
@@ -14,7 +16,7 @@ use Rattle.sj_headline_laws.specs.Begins.{IsBegunIn, IsOnItsWay, IsTakenIn}
 use Rattle.sj_headline_laws.specs.Headline.{IsFront, next_step}
 use Rattle.sj_rules.specs.Node as wanted
 use Rattle.sj_seat_laws.specs.Calls as calls
-use Rattle.sj_seat_laws.specs.Calls.{Call, place_held}
+use Rattle.sj_seat_laws.specs.Calls.{Call, SeatedAt, place_held}
 use Rattle.sj_seat_laws.specs.Guards.{seated_want, want_of_call}
 use Rattle.sj_seat_laws.specs.SeatedStart.{IsSeatedRun}
 use Rattle.sj_seat_laws.specs.SeatedWorld.{SeatedWorld}
@@ -80,6 +82,18 @@ pub data IsResting (t : SeatedWorld) : Type 0 where
   waits : (e : EndId) (cs : List Call) → t.seat.calls ≡ calls.takes e ∷ cs → next_for t.world.sessions e ≡ None → IsResting t
   handed_enough : (c e : EndId) (cs : List Call) → t.seat.calls ≡ calls.delegates c e ∷ cs → limit_of_hops ≤ (end_at t.world.sessions e).hops → IsResting t
 
+-- ---- where all is done
+
+-- nothing is ahead of any end that the code holds
+abbrev pub HoldsNoOpenEnd : SeatedAt → Type 0
+HoldsNoOpenEnd s = (e : EndId) (place : Place) → place_held s.ends e ≡ Some place → place ≡ done
+
+-- each other party has ended, each session that was requested was accepted, and the code holds no
+-- end of which anything is ahead
+pub record IsAllDone (t : SeatedWorld) : Type 0 where
+  pub others : verdict_of t.world ≡ Done
+  pub code : HoldsNoOpenEnd t.seat
+
 -- ---- all of it
 
 pub record IsSeatedHeadline (file : FileAt) (p : ℕ) (calls : List Call) (acts : List ℕ) (end : SeatedWorld) : Type 0 where
@@ -90,6 +104,8 @@ pub record IsSeatedHeadline (file : FileAt) (p : ℕ) (calls : List Call) (acts 
   pub resting : IsResting end
   -- each end took, in order and once, a prefix of what the successive holders of the other end sent
   pub in_order : OfEachEnd file p calls acts IsFront
+  -- and all of it where all is done
+  pub whole : IsAllDone end → OfEachEnd file p calls acts (λ taken sent. taken ≡ sent)
   -- each message that was taken fitted the place that its taker had at that moment
   pub fitting : OfEachAct file p calls acts (TakesWhatFits p)
   -- at each moment each end is had by one party at most

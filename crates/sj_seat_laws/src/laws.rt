@@ -44,7 +44,7 @@ ghost use Rattle.sj_rules.specs.World.{Deliver, Turn, WorldAt, happens};
 ghost use Rattle.sj_seat_laws.specs.Calls.{Call, SeatedAt};
 ghost use Rattle.sj_seat_laws.specs.Guards.{called, seated_want};
 ghost use Rattle.sj_seat_laws.specs.SeatRows.{call_act, call_told, with_player, worked_player};
-ghost use Rattle.sj_seat_laws.specs.SeatedHeadline.{IsSeatedHeadline};
+ghost use Rattle.sj_seat_laws.specs.SeatedHeadline.{IsAllDone, IsSeatedHeadline};
 ghost use Rattle.sj_seat_laws.specs.SeatedPlay.{Player, player_binds, seated, seated_play};
 ghost use Rattle.sj_seat_laws.specs.SeatedStart.{IsSeatedCoreRun, IsSeatedRun, seated_core, seated_start};
 ghost use Rattle.sj_seat_laws.specs.SeatedWorld.{SeatedWorld, after_seated, seated_act, seen_at};
@@ -208,10 +208,12 @@ pub fn a_log_tells_the_calls()
 {}
 
 /// Party 0 of the greeting sends another number, or party 1 takes by code of its own: both come to
-/// their ends. A truth value isn't sent, and nothing is taken before it is there.
+/// their ends, where all is done. A truth value isn't sent, and nothing is taken before it is there.
 pub fn seats_play_so()
     ensures greets { is_some (after_seated 0 (seated_start greeting 0 greets) (0 ∷ 1 ∷ 0 ∷ 1 ∷ [])) ≡ true }
     ensures listens { is_some (after_seated 1 (seated_start greeting 1 listens) (0 ∷ 1 ∷ 1 ∷ 0 ∷ [])) ≡ true }
+    ensures done { (t : SeatedWorld) × IsSeatedRun greeting 0 greets (0 ∷ 1 ∷ 0 ∷ 1 ∷ []) t × IsAllDone t }
+    ensures done_too { (t : SeatedWorld) × IsSeatedRun greeting 1 listens (0 ∷ 1 ∷ 1 ∷ 0 ∷ []) t × IsAllDone t }
     ensures unguarded { seated_act 0 (seated_start greeting 0 mistakes) 0 ≡ None }
     ensures waits { seated_act 1 (seated_start greeting 1 listens) 1 ≡ None }
 {}

@@ -7,6 +7,12 @@ returns-clause-greets c = refl
 pub returns-clause-listens : goal.returns-clause-listens
 returns-clause-listens c = refl
 
+pub returns-clause-done : goal.returns-clause-done
+returns-clause-done c = (_, refl, record { others = refl; code = λ e q h. cc })
+
+pub returns-clause-done_too : goal.returns-clause-done_too
+returns-clause-done_too c = (_, refl, record { others = refl; code = λ e q h. cc })
+
 pub returns-clause-unguarded : goal.returns-clause-unguarded
 returns-clause-unguarded c = refl
 
