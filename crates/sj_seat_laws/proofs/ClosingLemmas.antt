@@ -40,7 +40,7 @@ use Rattle.sj_seat_laws.proofs.CallLemmas.{names_nothing, sends_on}
 use Rattle.sj_seat_laws.proofs.GuardLemmas.{come_same}
 use Rattle.sj_seat_laws.proofs.HeldLemmas.{held_by_place, holds, holds-moved, holds-push, holds-without, holds-without_le, place-moved}
 use Rattle.sj_seat_laws.proofs.RunLemmas.{between, seated_run}
-use Rattle.sj_seat_laws.proofs.SeatedLemmas.{IsSeated, act_keeps}
+use Rattle.sj_seat_laws.proofs.SeatedLemmas.{IsSeat, IsSeated, act_keeps}
 
 -- in how many ways an end is had or on its way
 abbrev pub total : EndId → SeatedWorld → ℕ
@@ -144,7 +144,7 @@ module _ (p : ℕ) (t : SeatedWorld) (f : EndId) where
   calls_fewer (calls.takes e ∷ cs) d h = take_fewer e cs d (place_held bs e) refl h
   calls_fewer (calls.closes e ∷ cs) d h = close_fewer e cs d (place_held bs e) h
 
-  worn_fewer : (b : Bool) (d : Doing) → cond b None (doing_by p w (want_of_calls bs t.seat.calls)) ≡ Some d → Fewer t.seat.calls d
+  pub worn_fewer : (b : Bool) (d : Doing) → cond b None (doing_by p w (want_of_calls bs t.seat.calls)) ≡ Some d → Fewer t.seat.calls d
   worn_fewer true d h = absurd (cc h)
   worn_fewer false d h = calls_fewer t.seat.calls d h
 
@@ -153,8 +153,8 @@ pub record Keeps (e : EndId) (t v : SeatedWorld) : Type 0 where
   pub fewer : total e v ≤ total e t
   pub come : IsToCome v.world e → IsToCome t.world e
 
-act_total : (file : FileAt) (p n : ℕ) (t v : SeatedWorld) (q : ℕ) (e : EndId) → IsSeated file p n t → (IsToCome t.world e → ⊥) → seated_act p t q ≡ Some v → Keeps e t v
-act_total file p n t v q e s here h = by (q == p) h
+act_total : (file : FileAt) (p : ℕ) (t v : SeatedWorld) (q : ℕ) (e : EndId) → IsSeat file p t → (IsToCome t.world e → ⊥) → seated_act p t q ≡ Some v → Keeps e t v
+act_total file p t v q e s here h = by (q == p) h
   where
     own : (o : Option Doing) → doing_of p t ≡ o → option_map (after_doing p t) o ≡ Some v → Keeps e t v
     own None is k = absurd (cc k)
@@ -176,7 +176,7 @@ run_total : (file : FileAt) (p n : ℕ) (t u : SeatedWorld) (qs : List ℕ) (e :
 run_total file p n t u [] e s here run = let it : t ≡ u = cc in subst (λ (x : SeatedWorld). total e x ≤ total e t) it (omega arith)
 run_total file p n t u (q ∷ qs) e s here run =
     let m = between p t u q qs run in
-    let k = act_total file p n t m.world q e s here m.before in
+    let k = act_total file p t m.world q e s.seat here m.before in
     omega (arith, k.fewer, run_total file p (n + 1) m.world u qs e (act_keeps file p n t m.world q s m.before) (λ c. here (k.come c)) m.afterwards)
 
 nowhere_by : (p : ℕ) (u : SeatedWorld) (e : EndId) → total e u ≡ 0 → IsNowhere p u e
@@ -227,12 +227,12 @@ closes_by t e (calls.closes f ∷ cs) is h = by (place_held t.seat.ends f) refl 
             record { later = cs; calls = is ∙ ap (λ (x : EndId). calls.closes x ∷ cs) it; place = q; there = ap (place_held t.seat.ends) (sym it) ∙ there }
 
 -- after it the end is had by nobody
-own_closed : (file : FileAt) (p n : ℕ) (t v : SeatedWorld) (e : EndId) → IsSeated file p n t → seated_want t.seat ≡ wanted.closes e → seated_act p t p ≡ Some v → (total e v ≡ 0) × (IsToCome v.world e → ⊥)
-own_closed file p n t v e s want h =
+pub own_closed : (file : FileAt) (p : ℕ) (t v : SeatedWorld) (e : EndId) → IsSeat file p t → seated_want t.seat ≡ wanted.closes e → seated_act p t p ≡ Some v → (total e v ≡ 0) × (IsToCome v.world e → ⊥)
+own_closed file p t v e s want h =
     let c = closes_by t e t.seat.calls refl want in
     let held = held_by_place t.seat.ends e c.place c.there in
     let not_here : IsToCome t.world e → ⊥ = λ come. absurd (omega (arith, s.guarded.apart e come, held)) in
-    let k = act_total file p n t v p e s not_here h in
+    let k = act_total file p t v p e s not_here h in
     (by c held (doing_of p t) refl (sym (ap (λ (b : Bool). cond b (option_map (after_doing p t) (doing_of p t)) (option_map (beside t.seat) (act_of t.world p))) (eq-eqb p p refl)) ∙ h), λ come. not_here (k.come come))
   where
     closed : (d : Doing) (b : Bool) → cond b None (doing_by p t.world (seated_want t.seat)) ≡ Some d → record { taken = None; uses = [] } ≡ d
@@ -254,12 +254,12 @@ pub step_there : (o : Option Program) (want : Step) → option_and_then want_of 
 step_there None want h = absurd (cc h)
 step_there (Some g) want h = (g, refl, h)
 
-other_closed : (file : FileAt) (p n : ℕ) (t v : SeatedWorld) (q : ℕ) (e : EndId) → IsSeated file p n t → (q ≡ p → ⊥) → next_step t.world q ≡ Some (steps.Close e) → seated_act p t q ≡ Some v → (total e v ≡ 0) × (IsToCome v.world e → ⊥)
-other_closed file p n t v q e s other step h =
+other_closed : (file : FileAt) (p : ℕ) (t v : SeatedWorld) (q : ℕ) (e : EndId) → IsSeat file p t → (q ≡ p → ⊥) → next_step t.world q ≡ Some (steps.Close e) → seated_act p t q ≡ Some v → (total e v ≡ 0) × (IsToCome v.world e → ⊥)
+other_closed file p t v q e s other step h =
     let g = step_there (slice_get t.world.parties q) (steps.Close e) step in
     let bound = bound_claims t.world q g.0 e g.1 (want_bound g.0 (steps.Close e) g.2) in
     let not_here : IsToCome t.world e → ⊥ = λ come. absurd (omega (arith, s.guarded.sound.unshared.to_come e come, bound)) in
-    let k = act_total file p n t v q e s not_here h in
+    let k = act_total file p t v q e s not_here h in
     (by g bound (act_of t.world q) refl (sym (ap (λ (b : Bool). cond b (option_map (after_doing p t) (doing_of p t)) (option_map (beside t.seat) (act_of t.world q))) (ne_eqb q p other)) ∙ h), λ come. not_here (k.come come))
   where
     by : (g : (g : Program) × (slice_get t.world.parties q ≡ Some g) × (want_of g ≡ Some (steps.Close e))) → 1 ≤ sum_by (λ (k : Program). bindings_of e k.ends) t.world.parties
@@ -284,9 +284,9 @@ pub gone_once_closed : (file : FileAt) (p : ℕ) (calls : List Call) (acts : Lis
 gone_once_closed file p made acts accepted there front between' rest q t u parted run all e closes =
     let s = seated_run file p made accepted there front t run in
     let m = between p t u q between' (rest_of p (seated_start file p made) t u front (q ∷ between') run all) in
-    let c = by s m.world m.before closes in
+    let c = by s.seat m.world m.before closes in
     nowhere_by p u e (omega (arith, c.0, run_total file p (length front + 1) m.world u between' e (act_keeps file p (length front) t m.world q s m.before) c.1 m.afterwards))
   where
-    by : IsSeated file p (length front) t → (v : SeatedWorld) → seated_act p t q ≡ Some v → Closes p t q e → (total e v ≡ 0) × (IsToCome v.world e → ⊥)
-    by s v h (inl own) = own_closed file p (length front) t v e s own.1 (subst (λ (r : ℕ). seated_act p t r ≡ Some v) own.0 h)
-    by s v h (inr other) = other_closed file p (length front) t v q e s other.0 other.1 h
+    by : IsSeat file p t → (v : SeatedWorld) → seated_act p t q ≡ Some v → Closes p t q e → (total e v ≡ 0) × (IsToCome v.world e → ⊥)
+    by s v h (inl own) = own_closed file p t v e s own.1 (subst (λ (r : ℕ). seated_act p t r ≡ Some v) own.0 h)
+    by s v h (inr other) = other_closed file p t v q e s other.0 other.1 h

@@ -28,7 +28,7 @@ use Rattle.sj_seat_laws.proofs.ClosingLemmas.{rest_of, step_there}
 use Rattle.sj_seat_laws.proofs.HeadlineLemmas.{sent_after_uses, step_facts}
 use Rattle.sj_seat_laws.proofs.HeldLemmas.{held_by_place, holds, numbered}
 use Rattle.sj_seat_laws.proofs.RunLemmas.{between, seated_run}
-use Rattle.sj_seat_laws.proofs.SeatedLemmas.{IsSeated}
+use Rattle.sj_seat_laws.proofs.SeatedLemmas.{IsSeat}
 
 -- ---- the world in which the party binds what it holds
 
@@ -38,7 +38,7 @@ binding file bs = record { todo = (no_program file).todo; vars = (no_program fil
 abbrev bound_world : FileAt → ℕ → SeatedWorld → World
 bound_world file p t = record { protocols = t.world.protocols; parties = altered_list t.world.parties p (λ g. binding file t.seat.ends); sessions = t.world.sessions; requests = t.world.requests }
 
-module _ (file : FileAt) (p n : ℕ) (t : SeatedWorld) (s : IsSeated file p n t) where
+module _ (file : FileAt) (p : ℕ) (t : SeatedWorld) (s : IsSeat file p t) where
   same_claims : (e : EndId) → claims_on e (bound_world file p t) ≡ claims_on e t.world + holds e t.seat.ends
   same_claims e = omega (arith, sum_by-altered (λ (g : Program). bindings_of e g.ends) t.world.parties p (λ g. binding file t.seat.ends) (no_program file) s.idle)
 
@@ -54,7 +54,7 @@ module _ (file : FileAt) (p n : ℕ) (t : SeatedWorld) (s : IsSeated file p n t)
   }
 
   -- an end that an untaken message names is nowhere
-  nowhere : (e y : EndId) (i q : ℕ) → IsUntaken t.world e i → slice_get (end_at t.world.sessions e).sent i ≡ Some (record { msg = session_message y q; by = q }) → IsNowhere p t y
+  pub nowhere : (e y : EndId) (i q : ℕ) → IsUntaken t.world e i → slice_get (end_at t.world.sessions e).sent i ≡ Some (record { msg = session_message y q; by = q }) → IsNowhere p t y
   nowhere e y i q untaken there r (inl b) = on_its_way t.world y e i (record { msg = session_message y q; by = q }) s.guarded.sound.unshared untaken there (is_end-self y) r b
   nowhere e y i q untaken there r (inr h) =
       on_its_way (bound_world file p t) y e i (record { msg = session_message y q; by = q }) bound_unshared untaken there (is_end-self y) p (
@@ -73,7 +73,7 @@ run_extends p t u (q ∷ qs) e run =
     λ k x h. run_extends p m.world u qs e m.afterwards k x
     (ap (λ zs. slice_get (end_at zs e).sent k) f.sessions ∙ end_at-after_uses_extends q (uses_in p t q) t.world.sessions e k x h)
 
-last_of : (xs : List Passed) (x : Passed) → slice_get (xs ++ x ∷ []) (length xs) ≡ Some x
+pub last_of : (xs : List Passed) (x : Passed) → slice_get (xs ++ x ∷ []) (length xs) ≡ Some x
 last_of [] x = refl
 last_of (y ∷ xs) x = last_of xs x
 
@@ -83,7 +83,7 @@ nothing_either_way : {A : Type 0} (b : Bool) → ◌≡◌ {A = List A} (cond b 
 nothing_either_way true = refl
 nothing_either_way false = refl
 
-own_sends : (p : ℕ) (t v : SeatedWorld) (e y : EndId) → seated_want t.seat ≡ wanted.delegates e y → seated_act p t p ≡ Some v
+pub own_sends : (p : ℕ) (t v : SeatedWorld) (e y : EndId) → seated_want t.seat ≡ wanted.delegates e y → seated_act p t p ≡ Some v
     → slice_get (end_at v.world.sessions e).sent (length (end_at t.world.sessions e).sent) ≡ Some (record { msg = session_message y p; by = p })
 own_sends p t v e y want h = by (doing_of p t) refl (sym (ap (λ (b : Bool). cond b (option_map (after_doing p t) (doing_of p t)) (option_map (beside t.seat) (act_of t.world p))) (eq-eqb p p refl)) ∙ h)
   where
@@ -129,7 +129,7 @@ pub nowhere_on_its_way : (file : FileAt) (p : ℕ) (calls : List Call) (acts : L
 nowhere_on_its_way file p calls acts accepted there front between' rest q t u parted run all e y delegating untaken =
     let m = between p t u q between' (rest_of p (seated_start file p calls) t u front (q ∷ between') run all) in
     let b = by m.world m.before delegating in
-    nowhere file p (length (front ++ q ∷ between')) u (seated_run file p calls accepted there (front ++ q ∷ between') u all) e y (length (end_at t.world.sessions e).sent) b.0 untaken
+    nowhere file p u (seated_run file p calls accepted there (front ++ q ∷ between') u all).seat e y (length (end_at t.world.sessions e).sent) b.0 untaken
     (run_extends p m.world u between' e m.afterwards (length (end_at t.world.sessions e).sent) (record { msg = session_message y b.0; by = b.0 }) b.1)
   where
     by : (v : SeatedWorld) → seated_act p t q ≡ Some v → Delegates p t q e y → (r : ℕ) × (slice_get (end_at v.world.sessions e).sent (length (end_at t.world.sessions e).sent) ≡ Some (record { msg = session_message y r; by = r }))

@@ -1,5 +1,5 @@
 -- Each run to where nobody can go on has the headline.
-use Rattle.std.proofs.Common.{◌≡◌, ℕ, zero, suc, ◌==◌, nat_lt, Bool, true, false, not, cond, List, [], ◌∷◌, ◌++◌, map, drop, length, slice_get, Option, Some, None, option_map, option_and_then, unwrap_or, refl, ap, sym, ◌∙◌, subst, arith, append-nil, append_assoc, length-append, inl, inr}
+use Rattle.std.proofs.Common.{◌≡◌, ℕ, zero, suc, ◌+◌, ◌==◌, nat_lt, Bool, true, false, not, cond, List, [], ◌∷◌, ◌++◌, map, drop, length, slice_get, Option, Some, None, option_map, option_and_then, unwrap_or, refl, ap, sym, ◌∙◌, subst, arith, append-nil, append_assoc, length-append, inl, inr}
 use Rattle.std.proofs.lemmas.Bool.{and_from, and_parts, cases_Bool, eq-eqb, eqb-true}
 use Rattle.std.proofs.lemmas.List.{length-map}
 use Rattle.sj_base.specs.declared.EndId.{EndId}
@@ -35,7 +35,7 @@ use Rattle.sj_seat_laws.specs.SeatedWorld.{Doing, SeatedWorld, after_doing, afte
 use Rattle.sj_seat_laws.proofs.HeldLemmas.{held_by_place, holds, place_by_held}
 use Rattle.sj_seat_laws.proofs.LocatedLemmas.{IsFound}
 use Rattle.sj_seat_laws.proofs.RunLemmas.{between}
-use Rattle.sj_seat_laws.proofs.SeatedLemmas.{IsSeated}
+use Rattle.sj_seat_laws.proofs.SeatedLemmas.{IsSeat, IsSeated}
 
 -- ---- what uses add
 
@@ -67,10 +67,10 @@ sent_after_uses p (u ∷ us) zs e =
     ∙ append_assoc (end_at zs e).sent (cond (is_end e u.0) (sent_by p u.1) []) (uses_on e sent_by p us)
 
 -- what was taken on the end so far, and what was sent on the other one
-record So (zs : List Session) (e : EndId) (ts ss : List Passed) : Type 0 where
-  front : Front ts (end_at zs (other_end e)).sent
-  counted : length ts ≡ length (end_at zs e).takers
-  sent : (end_at zs (other_end e)).sent ≡ ss
+pub record So (zs : List Session) (e : EndId) (ts ss : List Passed) : Type 0 where
+  pub front : Front ts (end_at zs (other_end e)).sent
+  pub counted : length ts ≡ length (end_at zs e).takers
+  pub sent : (end_at zs (other_end e)).sent ≡ ss
 
 uses_front : (p : ℕ) (us : List (EndId × Use)) (zs : List Session) (e : EndId) (ts ss : List Passed) → So zs e ts ss → Taking zs e p us → Front (ts ++ uses_on e taken_by p us) (end_at zs (other_end e)).sent
 uses_front p us zs e ts ss so (none_taken none) = subst (λ xs. Front xs (end_at zs (other_end e)).sent) (sym (ap (λ xs. ts ++ xs) none ∙ append-nil ts)) so.front
@@ -78,7 +78,7 @@ uses_front p us zs e ts ss so (next_taken x next one) =
     subst (λ xs. Front xs (end_at zs (other_end e)).sent) (sym (ap (λ xs. ts ++ xs) one))
     (front_more ts (end_at zs (other_end e)).sent x p so.front (ap (slice_get (end_at zs (other_end e)).sent) so.counted ∙ next))
 
-uses_so : (p : ℕ) (us : List (EndId × Use)) (zs : List Session) (e : EndId) (ts ss : List Passed) → So zs e ts ss → Taking zs e p us
+pub uses_so : (p : ℕ) (us : List (EndId × Use)) (zs : List Session) (e : EndId) (ts ss : List Passed) → So zs e ts ss → Taking zs e p us
     → So (after_uses p us zs) e (ts ++ uses_on e taken_by p us) (ss ++ uses_on (other_end e) sent_by p us)
 uses_so p us zs e ts ss so taking = record {
   front = front_extends (ts ++ uses_on e taken_by p us) (end_at zs (other_end e)).sent (end_at (after_uses p us zs) (other_end e)).sent (uses_front p us zs e ts ss so taking) (end_at-after_uses_extends p us zs (other_end e));
@@ -129,7 +129,7 @@ module _ (p : ℕ) (t : SeatedWorld) where
           let parts = and_parts (e.sess == f.sess) (is_same_side e.side f.side) h in
           and_from (f.sess == e.sess) _ (eq-eqb f.sess e.sess (sym (eqb-true e.sess f.sess parts.0))) (sides e.side f.side parts.1)
 
-  doing_taking : (e : EndId) (want : Want Place) (d : Doing) → doing_by p w want ≡ Some d → Taking zs e p d.uses
+  pub doing_taking : (e : EndId) (want : Want Place) (d : Doing) → doing_by p w want ≡ Some d → Taking zs e p d.uses
   doing_taking e wanted.ended d h = cc
   doing_taking e wanted.local d h = cc
   doing_taking e (wanted.requests place to) d h = cc
@@ -225,7 +225,7 @@ run_so p t u (q ∷ qs) e ts ss run so =
     (append_assoc ss (uses_on (other_end e) sent_by q us) (sent_on (other_end e) (seated_acts p m.world qs)) ∙ ap (λ as'. ss ++ acts_on (other_end e) sent_by as') (sym acts))
     rest)
 
-fresh_at : (file : FileAt) (cs : List ConnectAt) (s d : ℕ) → ((unwrap_or (option_map (end_on d) (slice_get (map (session_of file) cs) s)) nowhere).sent ≡ []) × ((unwrap_or (option_map (end_on d) (slice_get (map (session_of file) cs) s)) nowhere).takers ≡ [])
+pub fresh_at : (file : FileAt) (cs : List ConnectAt) (s d : ℕ) → ((unwrap_or (option_map (end_on d) (slice_get (map (session_of file) cs) s)) nowhere).sent ≡ []) × ((unwrap_or (option_map (end_on d) (slice_get (map (session_of file) cs) s)) nowhere).takers ≡ [])
 fresh_at file [] s d = (refl, refl)
 fresh_at file (c ∷ cs) zero zero = (refl, refl)
 fresh_at file (c ∷ cs) zero (suc d) = (refl, refl)
@@ -252,16 +252,16 @@ takes_in_order file p calls acts t run e = (untaken_for t.world.sessions e, sym 
 
 -- nothing is untaken there
 all_taken : (file : FileAt) (p n : ℕ) (t : SeatedWorld) → IsSeated file p n t → IsAllDone t → (e : EndId) → untaken_for t.world.sessions e ≡ []
-all_taken file p n t s over = done_is_taken file t.world s.guarded.sound located over.others
+all_taken file p n t s over = done_is_taken file t.world s.seat.guarded.sound located over.others
   where
     located : AllLocated t.world
     located e is_open = by (s.found e is_open)
       where
-        by : IsFound t.world (λ f. holds f t.seat.ends) e → IsLocated t.world e
+        by : IsFound t.world (λ f. holds f t.seat.ends + 0) e → IsLocated t.world e
         by (inl l) = l
         by (inr h) =
-            let r = place_by_held t.seat.ends e h in
-            absurd (is_open (ap (λ (x : EndAt). x.place) (same_end_at t.world.sessions e r.0 r.1) ∙ s.places r.0 r.2.0 r.2.1 ∙ over.code r.0 r.2.0 r.2.1))
+            let r = place_by_held t.seat.ends e (omega (arith, h)) in
+            absurd (is_open (ap (λ (x : EndAt). x.place) (same_end_at t.world.sessions e r.0 r.1) ∙ s.seat.places r.0 r.2.0 r.2.1 ∙ over.code r.0 r.2.0 r.2.1))
 
 pub takes_all : (file : FileAt) (p n : ℕ) (calls : List Call) (acts : List ℕ) (t : SeatedWorld) → IsSeatedRun file p calls acts t → IsSeated file p n t → IsAllDone t → OfEachEnd file p calls acts (λ taken sent. taken ≡ sent)
 takes_all file p n calls acts t run s over e =
@@ -270,8 +270,8 @@ takes_all file p n calls acts t run s over e =
 
 -- ---- one holder
 
-pub one_holder : (file : FileAt) (p n : ℕ) (t : SeatedWorld) → IsSeated file p n t → HasOneHolderEach p t
-one_holder file p n t s e q r (inl a) (inl b) = holder_is_one t.world q r e s.guarded.sound.unshared a b
-one_holder file p n t s e q r (inl a) (inr b) = absurd (omega (arith, s.guarded.once e, held_by_place t.seat.ends e b.1.0 b.1.1, bound_claims t.world q a.0 e a.1 a.2))
-one_holder file p n t s e q r (inr a) (inl b) = absurd (omega (arith, s.guarded.once e, held_by_place t.seat.ends e a.1.0 a.1.1, bound_claims t.world r b.0 e b.1 b.2))
-one_holder file p n t s e q r (inr a) (inr b) = a.0 ∙ sym b.0
+pub one_holder : (file : FileAt) (p : ℕ) (t : SeatedWorld) → IsSeat file p t → HasOneHolderEach p t
+one_holder file p t s e q r (inl a) (inl b) = holder_is_one t.world q r e s.guarded.sound.unshared a b
+one_holder file p t s e q r (inl a) (inr b) = absurd (omega (arith, s.guarded.once e, held_by_place t.seat.ends e b.1.0 b.1.1, bound_claims t.world q a.0 e a.1 a.2))
+one_holder file p t s e q r (inr a) (inl b) = absurd (omega (arith, s.guarded.once e, held_by_place t.seat.ends e a.1.0 a.1.1, bound_claims t.world r b.0 e b.1 b.2))
+one_holder file p t s e q r (inr a) (inr b) = a.0 ∙ sym b.0

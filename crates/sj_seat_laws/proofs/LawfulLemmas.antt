@@ -37,7 +37,7 @@ use Rattle.sj_rules_laws.proofs.ActLemmas.{waiting_is_next}
 use Rattle.sj_rules_laws.proofs.CountLemmas.{few_steps, sent_by_option}
 use Rattle.sj_rules_laws.proofs.FitsStepLemmas.{goes_on_by, next_at_side, untaken_is}
 use Rattle.sj_rules_laws.proofs.LawfulLemmas.{bound_below, idle_above, keeper_below, offered_comes, other_sent_is, sent_is, steps_are_lawful, unbound_by}
-use Rattle.sj_rules_laws.proofs.ProperLemmas.{Size}
+use Rattle.sj_rules_laws.proofs.ProperLemmas.{IsProper, Size}
 use Rattle.sj_rules_laws.proofs.ProperRunLemmas.{size_of}
 use Rattle.sj_rules_laws.proofs.SideLemmas.{other_side_below, same_end_is, same_end_self, side_below}
 use Rattle.sj_seat_laws.specs.Calls as calls
@@ -48,7 +48,7 @@ use Rattle.sj_seat_laws.specs.SeatedStart.{no_program}
 use Rattle.sj_seat_laws.specs.SeatedWorld.{SeatedWorld, seen_at}
 use Rattle.sj_seat_laws.proofs.CallLemmas.{carries_out, done_by, sends_on}
 use Rattle.sj_seat_laws.proofs.HeldLemmas.{first_of, held_by_place, place-push, place-without, some-moved}
-use Rattle.sj_seat_laws.proofs.SeatedLemmas.{IsSeated}
+use Rattle.sj_seat_laws.proofs.SeatedLemmas.{IsSeat, IsSeated}
 
 -- ---- which ends a party binds after a call
 
@@ -101,7 +101,64 @@ taken_lift g h (msgs.Text n) b = b
 taken_lift g h (msgs.Label n) b = b
 taken_lift g h (msgs.More n) b = b
 
-module _ (file : FileAt) (p n : ℕ) (t : SeatedWorld) (s : IsSeated file p n t) where
+-- what fits there fits beside any other parties
+module _ (file : FileAt) (programs : ℕ → Player) where
+  abbrev both : Play Place Player
+  both = seated_play file
+
+  abbrev beside_all : (PlainAt Place Program) → PlainAt Place Player
+  beside_all x = record { programs = programs; sides = x.sides; requests = x.requests; offers = x.offers }
+
+  pub written_fits : (x : PlainAt Place Program) (q : ℕ) (g : Program) (want : Want Place) → FitsStep IsDone (play_of file) binds x q g want → FitsStep IsDone both player_binds (beside_all x) q (written g) want
+  written_fits x q g ended fit = tt
+  written_fits x q g local fit = fit
+  written_fits x q g (wanted.sends e m) fit = record { bound = fit.bound; place = fit.place; after = fit.after; goes_on = fit.goes_on; no_end = fit.no_end; names = fit.names }
+  written_fits x q g (wanted.delegates c e) fit = record { bound = fit.bound; handed = fit.handed; apart = fit.apart; place = fit.place; after = fit.after; goes_on = fit.goes_on; names = fit.names }
+  written_fits x q g (wanted.takes e place) fit = record {
+    bound = fit.bound;
+    head = λ m h. let y = fit.head m h in record { fits = y.fits; place = y.place; after = y.after; names = taken_lift g ((play_of file).goes g (Some m)) m y.names; other = y.other };
+  }
+  written_fits x q g (wanted.closes e) fit = record { bound = fit.bound; over = fit.over; is_over = fit.is_over; nothing_waits = fit.nothing_waits; names = fit.names }
+  written_fits x q g (requests place to) fit = fit
+  written_fits x q g (accepts place from) fit = fit
+
+  abbrev so : PlainAt Place Player → PlainAt Place Player
+  so x = record { programs = programs; sides = x.sides; requests = x.requests; offers = x.offers }
+
+  pub player_fits : (x : PlainAt Place Player) (q : ℕ) (g : Player) (want : Want Place) → FitsStep IsDone both player_binds x q g want → FitsStep IsDone both player_binds (so x) q g want
+  player_fits x q g ended fit = tt
+  player_fits x q g local fit = fit
+  player_fits x q g (wanted.sends e m) fit = record { bound = fit.bound; place = fit.place; after = fit.after; goes_on = fit.goes_on; no_end = fit.no_end; names = fit.names }
+  player_fits x q g (wanted.delegates c e) fit = record { bound = fit.bound; handed = fit.handed; apart = fit.apart; place = fit.place; after = fit.after; goes_on = fit.goes_on; names = fit.names }
+  player_fits x q g (wanted.takes e place) fit = record {
+    bound = fit.bound;
+    head = λ m h. let y = fit.head m h in record { fits = y.fits; place = y.place; after = y.after; names = y.names; other = y.other };
+  }
+  player_fits x q g (wanted.closes e) fit = record { bound = fit.bound; over = fit.over; is_over = fit.is_over; nothing_waits = fit.nothing_waits; names = fit.names }
+  player_fits x q g (requests place to) fit = fit
+  player_fits x q g (accepts place from) fit = fit
+
+-- what was taken was sent, and handovers and messages are few
+pub counts_by : (file : FileAt) (w : World) → Sound file w → IsProper (size_of file) w → ((e : EndId) → (end_at w.sessions e).hops ≤ 100) → ((e : EndId) → e.side < 2 → length ((plain_at w).sides e).sent ≤ 170000)
+    → (e : EndId) → e.side < 2 → IsWithinCounts ((plain_at w).sides e) ((plain_at w).sides (other_end e))
+counts_by file w sound proper hops few e lt = record {
+  fewer = omega (
+    arith,
+    ap (λ (x : PlainSide Place). x.taken) (side_below w.requests w.sessions e lt),
+    other_sent_is file (size_of file) w sound proper e,
+    (pair_of w.sessions w.sessions e sound.pairs).one_taken,
+  );
+  hops = omega (
+    arith,
+    ap (λ (x : PlainSide Place). x.hops) (side_below w.requests w.sessions e lt),
+    ap (λ (x : PlainSide Place). x.hops) (side_below w.requests w.sessions (other_end e) (other_side_below e)),
+    hops e,
+    hops (other_end e),
+  );
+  messages = omega (arith, few e lt);
+}
+
+module _ (file : FileAt) (p : ℕ) (t : SeatedWorld) (s : IsSeat file p t) where
   abbrev w : World
   w = t.world
 
@@ -122,19 +179,6 @@ module _ (file : FileAt) (p n : ℕ) (t : SeatedWorld) (s : IsSeated file p n t)
 
   sound : Sound file w
   sound = s.guarded.sound
-
-  written_fits : (q : ℕ) (g : Program) (want : Want Place) → FitsStep IsDone (play_of file) binds (plain_at w) q g want → FitsStep IsDone play player_binds plain q (written g) want
-  written_fits q g ended fit = tt
-  written_fits q g local fit = fit
-  written_fits q g (wanted.sends e m) fit = record { bound = fit.bound; place = fit.place; after = fit.after; goes_on = fit.goes_on; no_end = fit.no_end; names = fit.names }
-  written_fits q g (wanted.delegates c e) fit = record { bound = fit.bound; handed = fit.handed; apart = fit.apart; place = fit.place; after = fit.after; goes_on = fit.goes_on; names = fit.names }
-  written_fits q g (wanted.takes e place) fit = record {
-    bound = fit.bound;
-    head = λ m h. let x = fit.head m h in record { fits = x.fits; place = x.place; after = x.after; names = taken_lift g ((play_of file).goes g (Some m)) m x.names; other = x.other };
-  }
-  written_fits q g (wanted.closes e) fit = record { bound = fit.bound; over = fit.over; is_over = fit.is_over; nothing_waits = fit.nothing_waits; names = fit.names }
-  written_fits q g (requests place to) fit = fit
-  written_fits q g (accepts place from) fit = fit
 
   -- ---- the party that is played by code of its own
 
@@ -272,7 +316,7 @@ module _ (file : FileAt) (p n : ℕ) (t : SeatedWorld) (s : IsSeated file p n t)
         by true can = close_fits e cs r making there can
         by false can = tt
 
-    seat_fits : (cs : List Call) → t.seat.calls ≡ cs → SeatFits (want_of_calls bs cs)
+    pub seat_fits : (cs : List Call) → t.seat.calls ≡ cs → SeatFits (want_of_calls bs cs)
     seat_fits [] h = tt
     seat_fits (calls.sends e m ∷ cs) h = by_send e m cs h (place_held bs e) refl
     seat_fits (calls.delegates c e ∷ cs) h = by_delegate c e cs h (place_held bs c) (place_held bs e) refl refl
@@ -283,7 +327,7 @@ module _ (file : FileAt) (p n : ℕ) (t : SeatedWorld) (s : IsSeated file p n t)
 
   steps_fit : (q : ℕ) (b : Bool) → FitsStep IsDone play player_binds plain q (cond b (seated t.seat) (written ((plain_at w).programs q))) (play.wants (cond b (seated t.seat) (written ((plain_at w).programs q))))
   steps_fit q true = seat_fits q t.seat.calls refl
-  steps_fit q false = written_fits q ((plain_at w).programs q) ((play_of file).wants ((plain_at w).programs q)) (steps_are_lawful file z w sound s.proper q)
+  steps_fit q false = written_fits file plain.programs (plain_at w) q ((plain_at w).programs q) ((play_of file).wants ((plain_at w).programs q)) (steps_are_lawful file z w sound s.proper q)
 
   below : p < length file.parties
   below = omega (arith, slice_get_within w.parties p (no_program file) s.idle, s.proper.many)
@@ -307,50 +351,34 @@ module _ (file : FileAt) (p n : ℕ) (t : SeatedWorld) (s : IsSeated file p n t)
   above_idle q true is le = absurd (omega (arith, eqb-true q p is, le, below))
   above_idle q false is le = idle_above file z w sound s.proper q (slice_get w.parties q) refl le
 
-  module _ (few : length file.parties ≤ 16) where
-    sent_few : (e : EndId) → e.side < 2 → length (plain.sides e).sent ≤ 170000
-    sent_few e lt =
-        omega (
-          arith,
-          few,
-          sent_is file z w sound s.proper e lt,
-          sent_by_option zs e (slice_get zs e.sess) refl,
-          s.messages,
-          few_steps w.parties s.steps,
-          s.calls,
-          s.proper.many,
-        )
+  pub lawful_by : ((e : EndId) → e.side < 2 → length (plain.sides e).sent ≤ 170000) → IsLawful IsDone play player_binds play.parties plain
+  lawful_by few = record {
+    counts = counts_by file w sound s.proper s.hops few;
+    steps = λ q. steps_fit q (q == p);
+    proper = λ q e b. bound_is_proper q e (q == p) refl b;
+    unbound = λ q e o. offered_unbound q e (q == p) o;
+    idle = λ q le. above_idle q (q == p) refl le;
+    keepers = λ e j sess d k lt h. keeper_below file z w sound s.proper e j sess d k lt h;
+  }
 
-    pub few_sent : (e : EndId) → e.side < 2 → length (plain.sides e).sent ≤ 170000
-    few_sent e lt = sent_few e lt
+-- ---- how much there is of each
 
-    pub few_acts : n ≤ 170000
-    few_acts = omega (arith, few, s.count, few_steps w.parties s.steps, s.calls, s.proper.many)
-
-    counts_fit : (e : EndId) → e.side < 2 → IsWithinCounts (plain.sides e) (plain.sides (other_end e))
-    counts_fit e lt = record {
-      fewer = omega (
+module _ (file : FileAt) (p n : ℕ) (t : SeatedWorld) (s : IsSeated file p n t) (few : length file.parties ≤ 16) where
+  pub few_sent : (e : EndId) → e.side < 2 → length ((plain_at t.world).sides e).sent ≤ 170000
+  few_sent e lt =
+      omega (
         arith,
-        ap (λ (x : PlainSide Place). x.taken) (side_below w.requests zs e lt),
-        other_sent_is file z w sound s.proper e,
-        (pair_of zs zs e sound.pairs).one_taken,
-      );
-      hops = omega (
-        arith,
-        ap (λ (x : PlainSide Place). x.hops) (side_below w.requests zs e lt),
-        ap (λ (x : PlainSide Place). x.hops) (side_below w.requests zs (other_end e) (other_side_below e)),
-        s.hops e,
-        s.hops (other_end e),
-      );
-      messages = omega (arith, sent_few e lt);
-    }
+        few,
+        sent_is file (size_of file) t.world s.seat.guarded.sound s.seat.proper e lt,
+        sent_by_option t.world.sessions e (slice_get t.world.sessions e.sess) refl,
+        s.messages,
+        few_steps t.world.parties s.seat.steps,
+        s.seat.calls,
+        s.seat.proper.many,
+      )
 
-    pub seated_is_lawful : IsLawful IsDone play player_binds play.parties plain
-    seated_is_lawful = record {
-      counts = counts_fit;
-      steps = λ q. steps_fit q (q == p);
-      proper = λ q e b. bound_is_proper q e (q == p) refl b;
-      unbound = λ q e o. offered_unbound q e (q == p) o;
-      idle = λ q le. above_idle q (q == p) refl le;
-      keepers = λ e j sess d k lt h. keeper_below file z w sound s.proper e j sess d k lt h;
-    }
+  pub few_acts : n ≤ 170000
+  few_acts = omega (arith, few, s.count, few_steps t.world.parties s.seat.steps, s.seat.calls, s.seat.proper.many)
+
+  pub seated_is_lawful : IsLawful IsDone (seated_play file) player_binds (seated_play file).parties (seen_at p t)
+  seated_is_lawful = lawful_by file p t s.seat few_sent

@@ -45,6 +45,13 @@ IsFound w k e = IsLocated w e ⊎ (1 ≤ k e)
 abbrev pub AllFound : World → (EndId → ℕ) → Type 0
 AllFound w k = (e : EndId) → IsOpen w.sessions e → IsFound w k e
 
+pub found_more : (w : World) (k l : EndId → ℕ) → ((e : EndId) → k e ≤ l e) → AllFound w k → AllFound w l
+found_more w k l le all e is_open = by (all e is_open)
+  where
+    by : IsFound w k e → IsFound w l e
+    by (inl h) = inl h
+    by (inr h) = inr (omega (arith, h, le e))
+
 -- ---- where each end goes with an act of another party
 
 cond_goes : (w : World) (p : ℕ) (g : Program) (b : Bool) (c d : Change) → Goes w p g c → cond b (Some c) None ≡ Some d → Goes w p g d

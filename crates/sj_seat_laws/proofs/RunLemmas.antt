@@ -97,7 +97,7 @@ module _ (file : FileAt) (p : ℕ) (calls : List Call) (accepted : IsAccepted fi
   goes : (ps : List ℕ) (plain next : PlainAt Place Player) (q : ℕ) → reached ps plain → plain_act (seated_play file) plain q ≡ Some next → reached (ps ++ q ∷ []) next
   goes ps plain next q r h =
       let a = acted_by p r.world q next (seated_act p r.world q) refl
-      (sym (seated_act_is_seen file p (length ps) r.world r.seated q) ∙ ap (λ (x : PlainAt Place Player). plain_act (seated_play file) x q) (sym r.seen) ∙ h) in
+      (sym (seated_act_is_seen file p r.world r.seated.seat q) ∙ ap (λ (x : PlainAt Place Player). plain_act (seated_play file) x q) (sym r.seen) ∙ h) in
       let run : IsSeatedRun file p calls (ps ++ q ∷ []) a.after = one_more p (seated_start file p calls) r.world a.after ps q r.run a.is in
       record { world = a.after; run = run; seated = seated_run (ps ++ q ∷ []) a.after run; seen = a.seen }
 
@@ -158,7 +158,7 @@ module _ (file : FileAt) (p : ℕ) (calls : List Call) (accepted : IsAccepted fi
           subst (IsOpenKept IsDone player_binds done core) s.at.seen s.kept,
           λ q.
               no_some (seated_act p s.at.world q)
-              (sym (seated_act_is_seen file p (length (acts_in turns)) s.at.world s.at.seated q) ∙ ap (λ (x : PlainAt Place Player). plain_act (seated_play file) x q) (sym s.at.seen) ∙ none q),
+              (sym (seated_act_is_seen file p s.at.world s.at.seated.seat q) ∙ ap (λ (x : PlainAt Place Player). plain_act (seated_play file) x q) (sym s.at.seen) ∙ none q),
         )
 
   -- ---- of running parties

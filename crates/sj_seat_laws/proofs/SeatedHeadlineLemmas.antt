@@ -44,9 +44,9 @@ settled_run_has_it file p calls acts t accepted there run none = record {
       (ap (λ (b : Bool). cond b (option_map (after_doing p t) (doing_of p t)) (option_map (beside t.seat) (act_of t.world p))) (sym (eq-eqb p p refl)) ∙ none p));
   in_order = takes_in_order file p calls acts t run;
   whole = takes_all file p (length acts) calls acts t run (seated_run file p calls accepted there acts t run);
-  fitting = λ front rest q u parted leads. takes_what_fits file p (length front) u q (seated_run file p calls accepted there front u leads);
-  one_holder = λ front rest u parted leads. one_holder file p (length front) u (seated_run file p calls accepted there front u leads);
-  by_holder = λ front rest q u parted leads. uses_its_own file p u (seated_run file p calls accepted there front u leads).guarded q;
+  fitting = λ front rest q u parted leads. takes_what_fits file p u q (seated_run file p calls accepted there front u leads).seat;
+  one_holder = λ front rest u parted leads. one_holder file p u (seated_run file p calls accepted there front u leads).seat;
+  by_holder = λ front rest q u parted leads. uses_its_own file p u (seated_run file p calls accepted there front u leads).seat.guarded q;
   gone_once_closed = gone_once_closed file p calls acts accepted there;
   nowhere_on_its_way = nowhere_on_its_way file p calls acts accepted there;
 }
@@ -54,8 +54,8 @@ settled_run_has_it file p calls acts t accepted there run none = record {
 -- ---- in every run
 
 pub run_balanced : (file : FileAt) (p : ℕ) (calls : List Call) (acts : List ℕ) (t : SeatedWorld) → IsAccepted file → p < length file.parties → IsSeatedRun file p calls acts t → (s : ℕ) → IsBalanced t.world.sessions s
-run_balanced file p calls acts t accepted there run s = sound_is_balanced file t.world s (seated_run file p calls accepted there acts t run).guarded.sound
+run_balanced file p calls acts t accepted there run s = sound_is_balanced file t.world s (seated_run file p calls accepted there acts t run).seat.guarded.sound
 
 pub run_serves : (file : FileAt) (p : ℕ) (calls : List Call) (acts : List ℕ) (t : SeatedWorld) (q : ℕ) (g : Program) (e : EndId) (a : Awaits) (x : Passed) → IsAccepted file → p < length file.parties
     → IsSeatedRun file p calls acts t → slice_get t.world.parties q ≡ Some g → want_of g ≡ Some (Take e a) → next_for t.world.sessions e ≡ Some x → fits g x.msg ≡ true
-run_serves file p calls acts t q g e a x accepted there run at want next = next_fits file t.world q g e a x (seated_run file p calls accepted there acts t run).guarded.sound at want next
+run_serves file p calls acts t q g e a x accepted there run at want next = next_fits file t.world q g e a x (seated_run file p calls accepted there acts t run).seat.guarded.sound at want next

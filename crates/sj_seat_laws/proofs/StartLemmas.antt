@@ -46,7 +46,7 @@ use Rattle.sj_seat_laws.specs.SeatedStart.{connected_ends, no_program, seat_star
 use Rattle.sj_seat_laws.specs.SeatedWorld.{seen_at}
 use Rattle.sj_seat_laws.proofs.CourseLemmas.{IsFresh}
 use Rattle.sj_seat_laws.proofs.HeldLemmas.{holds, numbered}
-use Rattle.sj_seat_laws.proofs.LocatedLemmas.{AllFound, IsFound}
+use Rattle.sj_seat_laws.proofs.LocatedLemmas.{AllFound, IsFound, found_more}
 use Rattle.sj_seat_laws.proofs.SeatedLemmas.{IsSeated}
 
 -- ---- ends that have names, at their places
@@ -188,26 +188,28 @@ module _ (file : FileAt) (p : ℕ) (calls : List Call) (accepted : IsAccepted fi
 
   pub start_is_seated : IsSeated file p 0 (seated_start file p calls)
   start_is_seated = record {
-    guarded = record {
-      sound = start_sound;
-      once = λ e. omega (arith, claims e, sound.unshared.once e);
-      apart = λ e t. omega (arith, claims e, sound.unshared.to_come e (come e t));
+    seat = record {
+      guarded = record {
+        sound = start_sound;
+        once = λ e. omega (arith, claims e, sound.unshared.once e);
+        apart = λ e t. omega (arith, claims e, sound.unshared.to_come e (come e t));
+      };
+      idle = slice_get-altered (start_of file).parties p (λ g. no_program file) ∙ ap (option_map (λ g. no_program file)) own_there;
+      places = λ e q h. (here_has at names e q h).2;
+      known = λ e q h.
+          let k = here_has at names e q h in
+          let g = given_by file p 0 file.connects k.0 e k.1 in
+          (g.below, inl (omega (arith, g.sess, slice_get_within file.connects g.number g.connect g.there)));
+      proper = record {
+        many = length-altered (start_of file).parties p (λ g. no_program file) ∙ (start_is_proper file).many;
+        names = programs_keep (λ g. AreProper (size_of file) g.ends) (start_of file).parties p (no_program file) nothing_named (start_is_proper file).names;
+        messages = (start_is_proper file).messages;
+      };
+      hops = (start_is_counted file).hops;
+      steps = programs_keep (λ g. g.steps ≤ 10000) (start_of file).parties p (no_program file) (omega arith) (start_is_counted file).steps;
+      calls = omega arith;
     };
-    idle = slice_get-altered (start_of file).parties p (λ g. no_program file) ∙ ap (option_map (λ g. no_program file)) own_there;
-    places = λ e q h. (here_has at names e q h).2;
-    known = λ e q h.
-        let k = here_has at names e q h in
-        let g = given_by file p 0 file.connects k.0 e k.1 in
-        (g.below, inl (omega (arith, g.sess, slice_get_within file.connects g.number g.connect g.there)));
-    found = start_found;
-    proper = record {
-      many = length-altered (start_of file).parties p (λ g. no_program file) ∙ (start_is_proper file).many;
-      names = programs_keep (λ g. AreProper (size_of file) g.ends) (start_of file).parties p (no_program file) nothing_named (start_is_proper file).names;
-      messages = (start_is_proper file).messages;
-    };
-    hops = (start_is_counted file).hops;
-    steps = programs_keep (λ g. g.steps ≤ 10000) (start_of file).parties p (no_program file) (omega arith) (start_is_counted file).steps;
-    calls = omega arith;
+    found = found_more (world_without file p) (λ e. holds e ends) (λ e. holds e ends + 0) (λ e. omega arith) start_found;
     messages = omega (arith, none_sent file file.connects);
     count = omega (arith, none_stepped);
   }

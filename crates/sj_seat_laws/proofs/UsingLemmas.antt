@@ -26,7 +26,7 @@ use Rattle.sj_seat_laws.specs.Calls.{Call, Ends, place_held}
 use Rattle.sj_seat_laws.specs.Guards.{carried_next, may_carry, may_send, may_take, seated_want, want_of_calls, want_of_close, want_of_delegate, want_of_send, want_of_take, where_allowed}
 use Rattle.sj_seat_laws.specs.SeatedHeadline.{HasEnd, IsOwnUse, IsResting, TakesWhatFits, handed_enough, left, unguarded, uses_in, uses_of_change, uses_of_doing, waits, worn}
 use Rattle.sj_seat_laws.specs.SeatedWorld.{Doing, SeatedWorld, doing_by, doing_of}
-use Rattle.sj_seat_laws.proofs.SeatedLemmas.{IsSeated}
+use Rattle.sj_seat_laws.proofs.SeatedLemmas.{IsSeat}
 
 -- ---- what is taken is next
 
@@ -42,7 +42,7 @@ begun_next zs place (msgs.Sess s d k) = cons_next zs (side s d, begins place) []
 begun_next zs place m = nil_next zs
 
 module _ (p : ℕ) (w : World) where
-  doing_next : (want : Want Place) (d : Doing) → doing_by p w want ≡ Some d → TakesNext w.sessions d.uses
+  pub doing_next : (want : Want Place) (d : Doing) → doing_by p w want ≡ Some d → TakesNext w.sessions d.uses
   doing_next wanted.ended d h = λ n e m t. absurd (cc h)
   doing_next wanted.local d h = λ n e m t. absurd (cc h)
   doing_next (wanted.requests place to) d h = λ n e m t. absurd (cc h)
@@ -75,8 +75,8 @@ pub worn_doing : (p : ℕ) (t : SeatedWorld) (d : Doing) (b : Bool) → cond b N
 worn_doing p t d true h = cc
 worn_doing p t d false h = h
 
-pub takes_what_fits : (file : FileAt) (p n : ℕ) (t : SeatedWorld) (q : ℕ) → IsSeated file p n t → TakesWhatFits p t q
-takes_what_fits file p n t q s i e m there = by (q == p) (doing_of p t) refl (change_of t.world q) refl there
+pub takes_what_fits : (file : FileAt) (p : ℕ) (t : SeatedWorld) (q : ℕ) → IsSeat file p t → TakesWhatFits p t q
+takes_what_fits file p t q s i e m there = by (q == p) (doing_of p t) refl (change_of t.world q) refl there
   where
     fits : (us : List (EndId × Use)) → TakesNext t.world.sessions us → slice_get us i ≡ Some (e, takes m) → FitsTaker t.world.sessions e m
     fits us next k = let x = next i e m k in subst (FitsTaker t.world.sessions e) x.2 (next_has_a_place file t.world s.guarded.sound e x.0 x.1)
@@ -172,7 +172,7 @@ module _ (p : ℕ) (t : SeatedWorld) where
       by true k = subst (λ (x : Doing). Owns x.uses) (let it : record { taken = None; uses = [] } ≡ d = cc in it) nil_own
       by false k = λ i f u l. absurd (cc k)
 
-  calls_own : (cs : List Call) (d : Doing) → doing_by p w (want_of_calls bs cs) ≡ Some d → Owns d.uses
+  pub calls_own : (cs : List Call) (d : Doing) → doing_by p w (want_of_calls bs cs) ≡ Some d → Owns d.uses
   calls_own [] d h = λ i f u k. absurd (cc h)
   calls_own (calls.sends e m ∷ cs) d h = send_own e m d (place_held bs e) refl h
   calls_own (calls.delegates c e ∷ cs) d h = delegate_own c e d (place_held bs c) (place_held bs e) refl refl h
