@@ -7,3 +7,7 @@ pub mod SeatedActs
 pub mod SeatedHeadline
 pub mod SeatRows
 pub mod SeatSamples
+pub mod SeatsWorld
+pub mod SeatsStart
+pub mod SeatsActs
+pub mod SeatsHeadline
