@@ -196,7 +196,7 @@ no_close : (b : Bool) (x : Want Place) (e : EndId) → (x ≡ wanted.closes e �
 no_close true x e other h = other h
 no_close false x e other h = absurd (cc h)
 
-closes_by : (t : SeatedWorld) (e : EndId) (cs : List Call) → t.seat.calls ≡ cs → want_of_calls t.seat.ends cs ≡ wanted.closes e → ClosesBy t e
+pub closes_by : (t : SeatedWorld) (e : EndId) (cs : List Call) → t.seat.calls ≡ cs → want_of_calls t.seat.ends cs ≡ wanted.closes e → ClosesBy t e
 closes_by t e [] is h = absurd (cc h)
 closes_by t e (calls.sends f m ∷ cs) is h = by (place_held t.seat.ends f) h
   where

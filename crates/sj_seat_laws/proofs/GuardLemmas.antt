@@ -29,7 +29,7 @@ pub record Guarded (file : FileAt) (w : World) (bs : Ends) : Type 0 where
 
 -- ---- acts of the others
 
-once_by : (n a b : ℕ) → (n ≡ 0 → a ≤ 1) → (1 ≤ n → a ≤ b) → b + n ≤ 1 → a + n ≤ 1
+pub once_by : (n a b : ℕ) → (n ≡ 0 → a ≤ 1) → (1 ≤ n → a ≤ b) → b + n ≤ 1 → a + n ≤ 1
 once_by zero a b none some le = omega (arith, none refl)
 once_by (suc n) a b none some le = omega (arith, some (omega arith), le)
 

@@ -16,4 +16,12 @@ pub mod BeginningLemmas
 pub mod ClosingLemmas
 pub mod DelegatingLemmas
 pub mod SeatedHeadlineLemmas
+pub mod SeatsLemmas
+pub mod SeatsLawfulLemmas
+pub mod SeatsSeenLemmas
+pub mod SeatsStartLemmas
+pub mod SeatsRunLemmas
+pub mod SeatsHeadlineLemmas
+pub mod SeatsClosingLemmas
+pub mod SeatsEndLemmas
 pub mod PlayedLemmas

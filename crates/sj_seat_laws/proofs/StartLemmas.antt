@@ -55,7 +55,7 @@ module _ (f : EndId → Place) where
   abbrev here : List (ℕ × EndId) → Ends
   here bs = map (λ b. (b.1, f b.1)) bs
 
-  numbered_here : (bs : List (ℕ × EndId)) (e : EndId) → holds e (here bs) ≡ bindings_of e bs
+  pub numbered_here : (bs : List (ℕ × EndId)) (e : EndId) → holds e (here bs) ≡ bindings_of e bs
   numbered_here [] e = refl
   numbered_here (b ∷ bs) e = omega (
     arith,
@@ -65,7 +65,7 @@ module _ (f : EndId → Place) where
   )
 
   -- an end at a place has a name, and the place is its own
-  here_has : (bs : List (ℕ × EndId)) (e : EndId) (q : Place) → place_held (here bs) e ≡ Some q → (x : ℕ) × Has bs x e × (f e ≡ q)
+  pub here_has : (bs : List (ℕ × EndId)) (e : EndId) (q : Place) → place_held (here bs) e ≡ Some q → (x : ℕ) × Has bs x e × (f e ≡ q)
   here_has [] e q h = cc
   here_has (b ∷ bs) e q h = by (is_same_end b.1 e) refl (here_has bs e q) h
     where
@@ -89,7 +89,7 @@ module _ (f : EndId → Place) where
 
 -- ---- the plain world
 
-zero_sum : (gs : List Program) → ((p : ℕ) (g : Program) → slice_get gs p ≡ Some g → g.steps ≡ 0) → sum_by steps_of gs ≡ 0
+pub zero_sum : (gs : List Program) → ((p : ℕ) (g : Program) → slice_get gs p ≡ Some g → g.steps ≡ 0) → sum_by steps_of gs ≡ 0
 zero_sum [] all = refl
 zero_sum (g ∷ gs) all = omega (arith, sum_by-cons steps_of g gs, all 0 g refl, zero_sum gs (λ p h at. all (suc p) h at))
 
@@ -105,14 +105,27 @@ each_program P w p g c there own others q h at =
       | inr other ↦ others q h other (sym (slice_get-altered_other w.parties p q (λ k. c) other) ∙ at)
     ]
 
+-- nothing to do fits
+pub idle_fits : (file : FileAt) → FitsProgram file.protocols (party_names file.parties) (start_of file).sessions (no_program file)
+idle_fits file = record { env = record { places = λ n. None; kinds = λ n. None }; agrees = record { places = λ n. refl; kinds = λ n k h. cc }; does = λ n. refl }
+
+-- no record is late
+pub none_late : (file : FileAt) (n q : ℕ) (e : EndId) (o : Option ConnectAt) → late_of n (option_and_then (held_by file q e) o) ≡ 0
+none_late file n q e None = refl
+none_late file n q e (Some c) = by (q == party_named file.parties (declared_on e.side c).party)
+  where
+    by : (b : Bool) → late_of n (cond b (Some (Held (first_held file e c))) None) ≡ 0
+    by true = refl
+    by false = refl
+
 module _ (file : FileAt) (p : ℕ) (calls : List Call) (accepted : IsAccepted file) (there : p < length file.parties) where
   sound : Sound file (start_of file)
   sound = start_is_sound file accepted
 
-  abbrev own : Program
+  abbrev pub own : Program
   own = program_of file p (party_there file.parties p there).party
 
-  own_there : slice_get (start_of file).parties p ≡ Some own
+  pub own_there : slice_get (start_of file).parties p ≡ Some own
   own_there = program_at_start file p (party_there file.parties p there).party (party_there file.parties p there).there
 
   abbrev names : List (ℕ × EndId)
@@ -136,9 +149,6 @@ module _ (file : FileAt) (p : ℕ) (calls : List Call) (accepted : IsAccepted fi
   come e (to_open q k le lt is) = to_open q k le lt is
   come e (to_accept q k r at none is second) = to_accept q k r at none is second
 
-  idle_fits : FitsProgram file.protocols (party_names file.parties) (start_of file).sessions (no_program file)
-  idle_fits = record { env = record { places = λ n. None; kinds = λ n. None }; agrees = record { places = λ n. refl; kinds = λ n k h. cc }; does = λ n. refl }
-
   start_sound : Sound file (world_without file p)
   start_sound = record {
     agree = sound.agree;
@@ -150,7 +160,7 @@ module _ (file : FileAt) (p : ℕ) (calls : List Call) (accepted : IsAccepted fi
     protocols = sound.protocols;
     many = length-altered (start_of file).parties p (λ g. no_program file) ∙ sound.many;
     pairs = sound.pairs;
-    programs = each_program (λ q h. FitsProgram file.protocols (party_names file.parties) (start_of file).sessions h) (start_of file) p own (no_program file) own_there idle_fits (λ q h ne at. sound.programs q h at);
+    programs = each_program (λ q h. FitsProgram file.protocols (party_names file.parties) (start_of file).sessions h) (start_of file) p own (no_program file) own_there (idle_fits file) (λ q h ne at. sound.programs q h at);
     peers = each_program (λ q h. h.peers ≡ party_names file.parties) (start_of file) p own (no_program file) own_there refl (λ q h ne at. sound.peers q h at);
     origins = each_program (λ q h. InTodo (Asks file q) (Takes file q) h.todo) (start_of file) p own (no_program file) own_there tt (λ q h ne at. sound.origins q h at);
     unopened = sound.unopened;
@@ -220,7 +230,7 @@ module _ (file : FileAt) (p : ℕ) (calls : List Call) (accepted : IsAccepted fi
   old = start_is_open_kept file accepted
 
   -- the party holds what its program binds
-  holds_bound : (e : EndId) → (is_some (place_held ends e) ≡ true) ↔ (binds ((plain_at (start_of file)).programs p) e ≡ true)
+  pub holds_bound : (e : EndId) → (is_some (place_held ends e) ≡ true) ↔ (binds ((plain_at (start_of file)).programs p) e ≡ true)
   holds_bound e = (λ h. forth (place_held ends e) refl h, λ h. back h)
     where
       forth : (o : Option Place) → place_held ends e ≡ o → is_some o ≡ true → binds ((plain_at (start_of file)).programs p) e ≡ true
@@ -300,17 +310,9 @@ module _ (file : FileAt) (p : ℕ) (calls : List Call) (accepted : IsAccepted fi
     outside = s.outside;
   }
 
-  none_late : (n q : ℕ) (e : EndId) (o : Option ConnectAt) → late_of n (option_and_then (held_by file q e) o) ≡ 0
-  none_late n q e None = refl
-  none_late n q e (Some c) = by (q == party_named file.parties (declared_on e.side c).party)
-    where
-      by : (b : Bool) → late_of n (cond b (Some (Held (first_held file e c))) None) ≡ 0
-      by true = refl
-      by false = refl
-
   pub start_is_fresh : IsFresh (seated_core file p calls)
   start_is_fresh = record {
-    lates = λ n q e. none_late n q e (connect_of file e);
+    lates = λ n q e. none_late file n q e (connect_of file e);
     lanes = λ from to. refl;
     clocks = record { nodes = λ q. omega arith; lanes = λ q r. tt };
   }

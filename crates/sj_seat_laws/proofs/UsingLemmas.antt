@@ -91,7 +91,7 @@ takes_what_fits file p t q s i e m there = by (q == p) (doing_of p t) refl (chan
 
 -- ---- what is used is the party's
 
-use_at : (ends : List (ℕ × EndId)) (us : List (EndId × Use)) (i : ℕ) (e : EndId) (u : Use) → UsesBound ends us → slice_get us i ≡ Some (e, u) → UseBound ends e u
+pub use_at : (ends : List (ℕ × EndId)) (us : List (EndId × Use)) (i : ℕ) (e : EndId) (u : Use) → UsesBound ends us → slice_get us i ≡ Some (e, u) → UseBound ends e u
 use_at ends [] i e u b h = absurd (cc h)
 use_at ends (v ∷ us) zero e u b h = let it : v ≡ (e, u) = cc in subst (λ (x : EndId × Use). UseBound ends x.0 x.1) it b.0
 use_at ends (v ∷ us) (suc i) e u b h = use_at ends us i e u b.1 h

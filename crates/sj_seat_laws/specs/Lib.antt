@@ -6,8 +6,8 @@ pub mod SeatedStart
 pub mod SeatedActs
 pub mod SeatedHeadline
 pub mod SeatRows
-pub mod SeatSamples
 pub mod SeatsWorld
 pub mod SeatsStart
 pub mod SeatsActs
 pub mod SeatsHeadline
+pub mod SeatSamples

@@ -1,8 +1,9 @@
 -- Runs that are known: one party of the greeting is played by code of its own.
-use Rattle.std.specs.Prelude.{List, [], ◌∷◌, pos, true}
+use Rattle.std.specs.Prelude.{List, [], ◌∷◌, pos, slice_get, true}
 use Rattle.sj_base.specs.declared.EndId.{EndId}
 use Rattle.sj_base.specs.declared.Msg.TheVariants as msgs
 use Rattle.sj_seat_laws.specs.Calls.{Call, closes, sends, takes}
+use Rattle.sj_seat_laws.specs.SeatsStart.{Callers}
 
 -- the two ends of the first session
 abbrev pub near : EndId
@@ -22,3 +23,7 @@ listens = takes far ∷ closes far ∷ []
 -- it would send a truth value
 abbrev pub mistakes : List Call
 mistakes = sends near (msgs.Bool true) ∷ []
+
+-- the first parties are played by code that calls so
+abbrev pub in_turn : List (List Call) → Callers
+in_turn calls q = slice_get calls q
