@@ -1,9 +1,7 @@
--- Each world of a run in which a party is played by code of its own is lawful, as the lemmas on
--- events ask for.
-use Rattle.std.proofs.Common.{◌≡◌, ◌↔◌, ℕ, ◌+◌, ◌<◌, ◌≤◌, ◌==◌, Bool, true, false, not, ◌&&◌, cond, List, [], ◌∷◌, ◌++◌, length, slice_get, Option, Some, None, option_map, refl, ap, sym, ◌∙◌, subst, arith, inl, inr, ◌⊎◌}
+-- The next step of a party that is played by code of its own fits, as the lemmas on events ask for.
+use Rattle.std.proofs.Common.{◌≡◌, ◌↔◌, ℕ, ◌+◌, ◌<◌, ◌≤◌, Bool, true, false, not, ◌&&◌, cond, List, [], ◌∷◌, ◌++◌, length, Option, Some, None, option_map, refl, ap, sym, ◌∙◌, subst, arith, inl, inr, ◌⊎◌}
 use Rattle.std.specs.Prelude.{is_some}
-use Rattle.std.proofs.lemmas.Bool.{and_parts, both_ways, cases_Bool, eqb-true, false_from_ne_true}
-use Rattle.std.proofs.lemmas.Option.{slice_get_within}
+use Rattle.std.proofs.lemmas.Bool.{and_parts, both_ways, cases_Bool, false_from_ne_true}
 use Rattle.sj_base.specs.declared.EndId.{EndId}
 use Rattle.sj_base.specs.declared.Msg.{Msg}
 use Rattle.sj_base.specs.declared.Msg.TheVariants as msgs
@@ -31,12 +29,11 @@ use Rattle.sj_rules.specs.Node as wanted
 use Rattle.sj_rules.specs.Party.{IsDone, binds, play_of}
 use Rattle.sj_rules.specs.Plain.{plain_at, plain_side}
 use Rattle.sj_rules.specs.PlainSide.{PlainAt, PlainSide}
-use Rattle.sj_rules.specs.Premises.{FitsStep, FitsHead, IsLawful, IsWithinCounts}
+use Rattle.sj_rules.specs.Premises.{FitsStep, FitsHead, IsWithinCounts}
 use Rattle.sj_rules.specs.Record.{is_same_end, other_end}
 use Rattle.sj_rules_laws.proofs.ActLemmas.{waiting_is_next}
-use Rattle.sj_rules_laws.proofs.CountLemmas.{few_steps, sent_by_option}
 use Rattle.sj_rules_laws.proofs.FitsStepLemmas.{goes_on_by, next_at_side, untaken_is}
-use Rattle.sj_rules_laws.proofs.LawfulLemmas.{bound_below, idle_above, keeper_below, offered_comes, other_sent_is, sent_is, steps_are_lawful, unbound_by}
+use Rattle.sj_rules_laws.proofs.LawfulLemmas.{other_sent_is}
 use Rattle.sj_rules_laws.proofs.ProperLemmas.{IsProper, Size}
 use Rattle.sj_rules_laws.proofs.ProperRunLemmas.{size_of}
 use Rattle.sj_rules_laws.proofs.SideLemmas.{other_side_below, same_end_is, same_end_self, side_below}
@@ -45,10 +42,10 @@ use Rattle.sj_seat_laws.specs.Calls.{Call, Ends, SeatedAt, moved, place_held, wi
 use Rattle.sj_seat_laws.specs.Guards.{called_by, carried_next, ends_taken, may_carry, may_send, may_take, want_of_calls, want_of_close, want_of_delegate, want_of_send, want_of_take, where_allowed, with_carried}
 use Rattle.sj_seat_laws.specs.SeatedPlay.{Player, player_binds, seated, seated_play, written}
 use Rattle.sj_seat_laws.specs.SeatedStart.{no_program}
-use Rattle.sj_seat_laws.specs.SeatedWorld.{SeatedWorld, seen_at}
+use Rattle.sj_seat_laws.specs.SeatedWorld.{SeatedWorld}
 use Rattle.sj_seat_laws.proofs.CallLemmas.{carries_out, done_by, sends_on}
 use Rattle.sj_seat_laws.proofs.HeldLemmas.{first_of, held_by_place, place-push, place-without, some-moved}
-use Rattle.sj_seat_laws.proofs.SeatedLemmas.{IsSeat, IsSeated}
+use Rattle.sj_seat_laws.proofs.SeatedLemmas.{IsSeat}
 
 -- ---- which ends a party binds after a call
 
@@ -122,22 +119,6 @@ module _ (file : FileAt) (programs : ℕ → Player) where
   written_fits x q g (requests place to) fit = fit
   written_fits x q g (accepts place from) fit = fit
 
-  abbrev so : PlainAt Place Player → PlainAt Place Player
-  so x = record { programs = programs; sides = x.sides; requests = x.requests; offers = x.offers }
-
-  pub player_fits : (x : PlainAt Place Player) (q : ℕ) (g : Player) (want : Want Place) → FitsStep IsDone both player_binds x q g want → FitsStep IsDone both player_binds (so x) q g want
-  player_fits x q g ended fit = tt
-  player_fits x q g local fit = fit
-  player_fits x q g (wanted.sends e m) fit = record { bound = fit.bound; place = fit.place; after = fit.after; goes_on = fit.goes_on; no_end = fit.no_end; names = fit.names }
-  player_fits x q g (wanted.delegates c e) fit = record { bound = fit.bound; handed = fit.handed; apart = fit.apart; place = fit.place; after = fit.after; goes_on = fit.goes_on; names = fit.names }
-  player_fits x q g (wanted.takes e place) fit = record {
-    bound = fit.bound;
-    head = λ m h. let y = fit.head m h in record { fits = y.fits; place = y.place; after = y.after; names = y.names; other = y.other };
-  }
-  player_fits x q g (wanted.closes e) fit = record { bound = fit.bound; over = fit.over; is_over = fit.is_over; nothing_waits = fit.nothing_waits; names = fit.names }
-  player_fits x q g (requests place to) fit = fit
-  player_fits x q g (accepts place from) fit = fit
-
 -- what was taken was sent, and handovers and messages are few
 pub counts_by : (file : FileAt) (w : World) → Sound file w → IsProper (size_of file) w → ((e : EndId) → (end_at w.sessions e).hops ≤ 100) → ((e : EndId) → e.side < 2 → length ((plain_at w).sides e).sent ≤ 170000)
     → (e : EndId) → e.side < 2 → IsWithinCounts ((plain_at w).sides e) ((plain_at w).sides (other_end e))
@@ -158,7 +139,7 @@ counts_by file w sound proper hops few e lt = record {
   messages = omega (arith, few e lt);
 }
 
-module _ (file : FileAt) (p : ℕ) (t : SeatedWorld) (s : IsSeat file p t) where
+module _ (file : FileAt) (p : ℕ) (t : SeatedWorld) (s : IsSeat file p t) (programs : ℕ → Player) where
   abbrev w : World
   w = t.world
 
@@ -172,7 +153,7 @@ module _ (file : FileAt) (p : ℕ) (t : SeatedWorld) (s : IsSeat file p t) where
   play = seated_play file
 
   abbrev plain : PlainAt Place Player
-  plain = seen_at p t
+  plain = record { programs = programs; sides = (plain_at w).sides; requests = (plain_at w).requests; offers = (plain_at w).offers }
 
   abbrev z : Size
   z = size_of file
@@ -322,63 +303,3 @@ module _ (file : FileAt) (p : ℕ) (t : SeatedWorld) (s : IsSeat file p t) where
     seat_fits (calls.delegates c e ∷ cs) h = by_delegate c e cs h (place_held bs c) (place_held bs e) refl refl
     seat_fits (calls.takes e ∷ cs) h = by_take e cs h (place_held bs e) refl
     seat_fits (calls.closes e ∷ cs) h = by_close e cs h (place_held bs e) refl
-
-  -- ---- whoever it is
-
-  steps_fit : (q : ℕ) (b : Bool) → FitsStep IsDone play player_binds plain q (cond b (seated t.seat) (written ((plain_at w).programs q))) (play.wants (cond b (seated t.seat) (written ((plain_at w).programs q))))
-  steps_fit q true = seat_fits q t.seat.calls refl
-  steps_fit q false = written_fits file plain.programs (plain_at w) q ((plain_at w).programs q) ((play_of file).wants ((plain_at w).programs q)) (steps_are_lawful file z w sound s.proper q)
-
-  below : p < length file.parties
-  below = omega (arith, slice_get_within w.parties p (no_program file) s.idle, s.proper.many)
-
-  some_place : (o : Option Place) → is_some o ≡ true → (r : Place) × (o ≡ Some r)
-  some_place None h = cc
-  some_place (Some r) h = (r, refl)
-
-  bound_is_proper : (q : ℕ) (e : EndId) (b : Bool) → (q == p) ≡ b → player_binds (cond b (seated t.seat) (written ((plain_at w).programs q))) e ≡ true → (e.side < 2) × (q < length file.parties)
-  bound_is_proper q e true is h = let k = some_place (place_held bs e) h in ((s.known e k.0 k.1).0, omega (arith, eqb-true q p is, below))
-  bound_is_proper q e false is h = bound_below file z w sound s.proper q (slice_get w.parties q) refl e h
-
-  offered_unbound : (q : ℕ) (e : EndId) (b : Bool) → (plain.sides e).offered ≡ true → player_binds (cond b (seated t.seat) (written ((plain_at w).programs q))) e ≡ false
-  offered_unbound q e true o =
-      false_from_ne_true (is_some (place_held bs e)) (λ h.
-      let k = some_place (place_held bs e) h in
-      absurd (omega (arith, s.guarded.apart e (offered_comes file z w sound s.proper e o), held_by_place bs e k.0 k.1)))
-  offered_unbound q e false o = unbound_by file z w sound s.proper q e (slice_get w.parties q) refl o
-
-  above_idle : (q : ℕ) (b : Bool) → (q == p) ≡ b → length file.parties ≤ q → play.wants (cond b (seated t.seat) (written ((plain_at w).programs q))) ≡ ended
-  above_idle q true is le = absurd (omega (arith, eqb-true q p is, le, below))
-  above_idle q false is le = idle_above file z w sound s.proper q (slice_get w.parties q) refl le
-
-  pub lawful_by : ((e : EndId) → e.side < 2 → length (plain.sides e).sent ≤ 170000) → IsLawful IsDone play player_binds play.parties plain
-  lawful_by few = record {
-    counts = counts_by file w sound s.proper s.hops few;
-    steps = λ q. steps_fit q (q == p);
-    proper = λ q e b. bound_is_proper q e (q == p) refl b;
-    unbound = λ q e o. offered_unbound q e (q == p) o;
-    idle = λ q le. above_idle q (q == p) refl le;
-    keepers = λ e j sess d k lt h. keeper_below file z w sound s.proper e j sess d k lt h;
-  }
-
--- ---- how much there is of each
-
-module _ (file : FileAt) (p n : ℕ) (t : SeatedWorld) (s : IsSeated file p n t) (few : length file.parties ≤ 16) where
-  pub few_sent : (e : EndId) → e.side < 2 → length ((plain_at t.world).sides e).sent ≤ 170000
-  few_sent e lt =
-      omega (
-        arith,
-        few,
-        sent_is file (size_of file) t.world s.seat.guarded.sound s.seat.proper e lt,
-        sent_by_option t.world.sessions e (slice_get t.world.sessions e.sess) refl,
-        s.messages,
-        few_steps t.world.parties s.seat.steps,
-        s.seat.calls,
-        s.seat.proper.many,
-      )
-
-  pub few_acts : n ≤ 170000
-  few_acts = omega (arith, few, s.count, few_steps t.world.parties s.seat.steps, s.seat.calls, s.seat.proper.many)
-
-  pub seated_is_lawful : IsLawful IsDone (seated_play file) player_binds (seated_play file).parties (seen_at p t)
-  seated_is_lawful = lawful_by file p t s.seat few_sent

@@ -9,13 +9,11 @@ pub mod SeatedLemmas
 pub mod LawfulLemmas
 pub mod SeenLemmas
 pub mod StartLemmas
-pub mod RunLemmas
 pub mod HeadlineLemmas
 pub mod UsingLemmas
 pub mod BeginningLemmas
 pub mod ClosingLemmas
 pub mod DelegatingLemmas
-pub mod SeatedHeadlineLemmas
 pub mod SeatsLemmas
 pub mod SeatsLawfulLemmas
 pub mod SeatsSeenLemmas

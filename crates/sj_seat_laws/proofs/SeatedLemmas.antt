@@ -1,7 +1,7 @@
--- Each act keeps a seated world sound: the others' acts, and the calls of the party that is played
--- by code of its own.
-use Rattle.std.proofs.Common.{◌≡◌, ◌≢◌, ℕ, ◌+◌, ◌<◌, ◌≤◌, ◌==◌, nat_lt, Bool, true, false, not, ◌&&◌, cond, List, [], ◌∷◌, ◌++◌, length, slice_get, Option, Some, None, option_map, sum_by, refl, ap, sym, ◌∙◌, subst, arith}
-use Rattle.std.proofs.lemmas.Bool.{and_parts, false_from_ne_true, both_ways, ltb-true, eqb-false}
+-- Each call of a party that is played by code of its own keeps its world sound, beside what others
+-- hold.
+use Rattle.std.proofs.Common.{◌≡◌, ◌≢◌, ℕ, ◌+◌, ◌<◌, ◌≤◌, nat_lt, Bool, true, false, not, ◌&&◌, cond, List, [], ◌∷◌, ◌++◌, length, slice_get, Option, Some, None, option_map, sum_by, refl, ap, sym, ◌∙◌, subst, arith}
+use Rattle.std.proofs.lemmas.Bool.{and_parts, false_from_ne_true, both_ways, ltb-true}
 use Rattle.std.proofs.lemmas.Option.{slice_get_within}
 use Rattle.sj_base.specs.declared.EndId.{EndId}
 use Rattle.sj_base.specs.declared.Msg.{Msg}
@@ -18,34 +18,29 @@ use Rattle.sj_semantics.specs.Balanced.{FitsNext}
 use Rattle.sj_semantics.specs.Ends.{EndAt, Session, end_at, is_end, next_for, other_end}
 use Rattle.sj_semantics.specs.Program.{Program}
 use Rattle.sj_semantics.specs.Uses.{Use, after_uses, begins, delegates, end_after, place_behind, sends, takes}
-use Rattle.sj_semantics.specs.World.{World, act_of, begun_by, session_message}
+use Rattle.sj_semantics.specs.World.{World, begun_by, session_message}
 use Rattle.sj_semantics_laws.specs.Unshared.{names_end}
-use Rattle.sj_semantics_laws.proofs.AlteredLemmas.{slice_get-altered_other, sum_by-altered}
 use Rattle.sj_semantics_laws.proofs.BoundLemmas.{is_end-self, is_end_sym}
-use Rattle.sj_semantics_laws.proofs.ChangeLemmas.{rests_on}
-use Rattle.sj_semantics_laws.proofs.CommuteLemmas.{doing_of as acts_by}
-use Rattle.sj_semantics_laws.proofs.EndLemmas.{end_at-after_uses_other, end_at-touched_other, end_at-touched_same, touched}
-use Rattle.sj_semantics_laws.proofs.MineLemmas.{all_mine}
+use Rattle.sj_semantics_laws.proofs.EndLemmas.{end_at-touched_other, end_at-touched_same, touched}
 use Rattle.sj_headline_laws.proofs.FittingLemmas.{next_has_a_place}
 use Rattle.sj_headline_laws.proofs.TouchedLemmas.{side}
 use Rattle.sj_headline_laws.proofs.UnnamedLemmas.{hands_places, named_carried}
 use Rattle.sj_rules.specs.Binding.{IsSession}
 use Rattle.sj_rules.specs.Node as wanted
 use Rattle.sj_rules.specs.Record.{is_same_end}
-use Rattle.sj_rules_laws.proofs.CountLemmas.{made_counted, no_hands, no_takes, sent_in, steps_of, touched_hops, touched_sent}
-use Rattle.sj_rules_laws.proofs.MadeLemmas.{made_of}
+use Rattle.sj_rules_laws.proofs.CountLemmas.{no_hands, no_takes, sent_in, steps_of, touched_hops, touched_sent}
 use Rattle.sj_rules_laws.proofs.ProperLemmas.{AreProperMessages, IsProper, IsProperMessage, message_in, no_end_proper, touched_proper}
-use Rattle.sj_rules_laws.proofs.ProperRunLemmas.{act_keeps_proper, programs_keep, size_of}
+use Rattle.sj_rules_laws.proofs.ProperRunLemmas.{size_of}
 use Rattle.sj_rules_laws.proofs.SideLemmas.{apart_ends, same_end_is, same_end_self}
 use Rattle.sj_seat_laws.specs.Calls as calls
 use Rattle.sj_seat_laws.specs.Calls.{Call, Ends, SeatedAt, moved, place_held, without_end}
 use Rattle.sj_seat_laws.specs.Guards.{called_by, carried_next, ends_taken, may_carry, may_send, may_take, want_of_calls, want_of_close, want_of_delegate, want_of_send, want_of_take, where_allowed, with_carried}
 use Rattle.sj_seat_laws.specs.SeatedStart.{no_program}
-use Rattle.sj_seat_laws.specs.SeatedWorld.{Doing, SeatedWorld, after_doing, beside, doing_by, doing_of, seated_act, world_after}
-use Rattle.sj_seat_laws.proofs.CallLemmas.{carries_out, done_by, mine_unused, names_nothing, sends_on, taken_kind}
-use Rattle.sj_seat_laws.proofs.GuardLemmas.{Guarded, act_keeps_guarded}
+use Rattle.sj_seat_laws.specs.SeatedWorld.{Doing, SeatedWorld, after_doing, doing_by, doing_of, world_after}
+use Rattle.sj_seat_laws.proofs.CallLemmas.{carries_out, done_by, names_nothing, sends_on, taken_kind}
+use Rattle.sj_seat_laws.proofs.GuardLemmas.{Guarded}
 use Rattle.sj_seat_laws.proofs.HeldLemmas.{first_of, held_by_place, holds, holds-moved, holds-push, holds-without_other, place-moved, place-moved_other, place-moved_same, place-push, place-without_other}
-use Rattle.sj_seat_laws.proofs.LocatedLemmas.{AllFound, act_keeps_found, close_finds, delegate_finds, end_finds, send_finds, value_finds}
+use Rattle.sj_seat_laws.proofs.LocatedLemmas.{AllFound, close_finds, delegate_finds, end_finds, send_finds, value_finds}
 use Rattle.sj_seat_laws.proofs.PassLemmas.{guards_delegate, guards_take_end}
 use Rattle.sj_seat_laws.proofs.UseLemmas.{guards_close, guards_send, guards_take, uncarried}
 
@@ -75,38 +70,6 @@ pub record IsSeatedBeside (others : EndId → ℕ) (more : ℕ) (file : FileAt) 
   pub found : AllFound t.world (λ e. holds e t.seat.ends + others e)
   pub messages : sum_by sent_in t.world.sessions ≤ sum_by steps_of t.world.parties + (t.seat.steps + more)
   pub count : n ≡ sum_by steps_of t.world.parties + (t.seat.steps + more)
-
--- where none are
-abbrev pub IsSeated : FileAt → ℕ → ℕ → SeatedWorld → Type 0
-IsSeated file p n t = IsSeatedBeside (λ e. 0) 0 file p n t
-
--- ---- an act of another party
-
-pub other_keeps : (file : FileAt) (p n : ℕ) (t : SeatedWorld) (v : World) (q : ℕ) → (q ≡ p → ⊥) → IsSeated file p n t → act_of t.world q ≡ Some v → IsSeated file p (n + 1) (beside t.seat v)
-other_keeps file p n t v q other s acted =
-    let w : World = t.world in
-    let a = acts_by w q v acted in
-    let rests = rests_on w q a.program a.change a.made in
-    let r = made_counted w q a.program a.change s.seat.hops (made_of w q a.program a.change rests) in
-    let sum = sum_by-altered steps_of w.parties q (λ g. a.change.program) a.program a.there in
-    subst (λ (u : World). IsSeated file p (n + 1) (beside t.seat u)) a.result (record {
-      seat = record {
-        guarded = subst (λ (u : World). Guarded file u t.seat.ends) (sym a.result) (act_keeps_guarded file w v t.seat.ends q s.seat.guarded acted);
-        idle = slice_get-altered_other w.parties q p (λ g. a.change.program) other ∙ s.seat.idle;
-        places = λ e place h.
-            ap (λ (x : EndAt). x.place) (end_at-after_uses_other q a.change.uses w.sessions e
-            (mine_unused file w t.seat.ends s.seat.guarded e (held_by_place t.seat.ends e place h) q a.program a.change.uses a.there (all_mine w q a.program a.change rests)))
-            ∙ s.seat.places e place h;
-        known = s.seat.known;
-        proper = subst (IsProper (size_of file)) (sym a.result) (act_keeps_proper file (size_of file) w v q refl s.seat.guarded.sound s.seat.proper acted);
-        hops = r.hops;
-        steps = programs_keep (λ g. g.steps ≤ 10000) w.parties q a.change.program (omega (arith, r.steps, ltb-true a.program.steps 10000 rests.steps_left)) s.seat.steps;
-        calls = s.seat.calls;
-      };
-      found = subst (λ (u : World). AllFound u (λ e. holds e t.seat.ends + 0)) (sym a.result) (act_keeps_found file w v (λ e. holds e t.seat.ends + 0) q s.seat.guarded.sound s.found acted);
-      messages = omega (arith, r.messages, r.steps, s.messages, sum);
-      count = omega (arith, s.count, r.steps, sum);
-    })
 
 -- ---- places after a use
 
@@ -399,19 +362,3 @@ call_keeps others more file p n t d s h = by (nat_lt t.seat.steps 10000) refl h
     by : (b : Bool) → nat_lt t.seat.steps 10000 ≡ b → cond (not b) None (doing_by p t.world (want_of_calls t.seat.ends t.seat.calls)) ≡ Some d → IsSeatedBeside others more file p (n + 1) (after_doing p t d)
     by true few k = by_calls others more file p n t s (ltb-true t.seat.steps 10000 few) t.seat.calls d k
     by false few k = cc
-
--- each act keeps it
-pub act_keeps : (file : FileAt) (p n : ℕ) (t u : SeatedWorld) (q : ℕ) → IsSeated file p n t → seated_act p t q ≡ Some u → IsSeated file p (n + 1) u
-act_keeps file p n t u q s h = by (q == p) refl h
-  where
-    own : (o : Option Doing) → doing_of p t ≡ o → option_map (after_doing p t) o ≡ Some u → IsSeated file p (n + 1) u
-    own None is k = cc
-    own (Some d) is k = subst (IsSeated file p (n + 1)) (let it : after_doing p t d ≡ u = cc in it) (call_keeps (λ e. 0) 0 file p n t d s is)
-
-    others : (q ≡ p → ⊥) → (o : Option World) → act_of t.world q ≡ o → option_map (beside t.seat) o ≡ Some u → IsSeated file p (n + 1) u
-    others other None is k = cc
-    others other (Some v) is k = subst (IsSeated file p (n + 1)) (let it : beside t.seat v ≡ u = cc in it) (other_keeps file p n t v q other s is)
-
-    by : (b : Bool) → (q == p) ≡ b → cond b (option_map (after_doing p t) (doing_of p t)) (option_map (beside t.seat) (act_of t.world q)) ≡ Some u → IsSeated file p (n + 1) u
-    by true is k = own (doing_of p t) refl k
-    by false is k = others (eqb-false q p is) (act_of t.world q) refl k

@@ -1,7 +1,6 @@
 -- An end that is closed is nowhere from its close on, and one that is delegated until its session
 -- message is taken, in a run with several seats.
-use Rattle.std.proofs.Common.{◌≡◌, ℕ, ◌+◌, ◌≤◌, nat_lt, Bool, not, cond, List, [], ◌∷◌, ◌++◌, length, slice_get, Option, Some, None, option_map, refl, ap, sym, ◌∙◌, subst, arith, inl, inr}
-use Rattle.std.proofs.lemmas.Bool.{eq-eqb}
+use Rattle.std.proofs.Common.{◌≡◌, ℕ, ◌+◌, ◌≤◌, nat_lt, not, List, [], ◌∷◌, ◌++◌, length, slice_get, Option, Some, None, option_map, refl, ap, sym, ◌∙◌, subst, arith, inl, inr}
 use Rattle.sj_base.specs.declared.EndId.{EndId}
 use Rattle.sj_lang.specs.FileAt.{FileAt}
 use Rattle.sj_acceptance.specs.Accepted.{IsAccepted}
@@ -20,12 +19,12 @@ use Rattle.sj_headline_laws.proofs.UnnamedLemmas.{bound_claims}
 use Rattle.sj_rules.specs.Node as wanted
 use Rattle.sj_seat_laws.specs.Calls.{SeatedAt}
 use Rattle.sj_seat_laws.specs.Guards.{seated_want}
-use Rattle.sj_seat_laws.specs.SeatedWorld.{Doing, SeatedWorld, after_doing, beside, doing_of, seated_act}
+use Rattle.sj_seat_laws.specs.SeatedWorld.{Doing, SeatedWorld, after_doing, beside, doing_of}
 use Rattle.sj_seat_laws.specs.SeatsHeadline.{Closes, ClosesForGood, Delegates, DelegatesAtOnce, FromEachActOn, IsNowhere, uses_of}
 use Rattle.sj_seat_laws.specs.SeatsStart.{Callers, seats_start}
 use Rattle.sj_seat_laws.specs.SeatsWorld.{SeatsWorld, after_seats, all_beside, seat_of, seats_act, seats_act_by, with_seat}
 use Rattle.sj_seat_laws.proofs.ClosingLemmas.{closes_by, own_closed, step_there, worn_fewer}
-use Rattle.sj_seat_laws.proofs.DelegatingLemmas.{nowhere, own_sends}
+use Rattle.sj_seat_laws.proofs.DelegatingLemmas.{own_sends, unheld}
 use Rattle.sj_seat_laws.proofs.GuardLemmas.{come_same}
 use Rattle.sj_seat_laws.proofs.HeldLemmas.{held_by_place}
 use Rattle.sj_seat_laws.proofs.SeatsHeadlineLemmas.{step_facts}
@@ -60,10 +59,6 @@ by_file t v q at h = by (act_of t.world q) refl (sym (ap (seats_act_by t q) at) 
     by : (o : Option World) → act_of t.world q ≡ o → option_map (all_beside t.seats) o ≡ Some v → ByFile t v q
     by None is k = cc
     by (Some u) is k = record { world = u; acted = is; result = let it : all_beside t.seats u ≡ v = cc in it }
-
--- the view of the party is what its call makes of it
-own_act : (q : ℕ) (t : SeatedWorld) (d : Doing) → doing_of q t ≡ Some d → seated_act q t q ≡ Some (after_doing q t d)
-own_act q t d is = ap (λ (b : Bool). cond b (option_map (after_doing q t) (doing_of q t)) (option_map (beside t.seat) (act_of t.world q))) (eq-eqb q q refl) ∙ ap (option_map (after_doing q t)) is
 
 -- ---- an act makes no further holder of an end that isn't to come, and none comes
 
@@ -108,9 +103,10 @@ code_closed file n t v q e s i at want h =
     let u : SeatedWorld = after_doing q view a.doing in
     let c = closes_by view e s.calls refl want in
     let held = held_by_place s.ends e c.place c.there in
-    let k = own_closed file q view u e (seat_in file n t i q s at) want (own_act q view a.doing a.done_so) in (
-      subst (λ (x : SeatsWorld). all_total e x ≡ 0) a.result (omega (arith, k.0, i.once e, held, held_altered t.seats q s at e None, held_altered t.seats q s at e (Some u.seat))),
-      subst (λ (x : SeatsWorld). IsToCome x.world e → ⊥) a.result k.1,
+    let gone = own_closed file q view a.doing e (seat_in file n t i q s at) want a.done_so in
+    let not_here : IsToCome t.world e → ⊥ = λ come. absurd (omega (arith, i.apart e come, held, one_holds t.seats q s at e)) in (
+      subst (λ (x : SeatsWorld). all_total e x ≡ 0) a.result (omega (arith, gone, i.once e, held, held_altered t.seats q s at e None, held_altered t.seats q s at e (Some u.seat))),
+      λ come. not_here ((act_total file n t v q e i not_here h).come come),
     )
 
 file_closed : (file : FileAt) (n : ℕ) (t v : SeatsWorld) (q : ℕ) (e : EndId) → IsSeats file n t → seat_of t.seats q ≡ None → next_step t.world q ≡ Some (steps.Close e) → seats_act t q ≡ Some v
@@ -152,7 +148,7 @@ gone_once_closed file calls acts accepted front between' rest q t u parted run a
 -- an end that an untaken message names is nowhere
 unnamed : (file : FileAt) (n : ℕ) (t : SeatsWorld) → IsSeats file n t → (e y : EndId) (k q : ℕ) → IsUntaken t.world e k → slice_get (end_at t.world.sessions e).sent k ≡ Some (record { msg = session_message y q; by = q }) → IsNowhere t y
 unnamed file n t i e y k q untaken there r (inl b) = on_its_way t.world y e k (record { msg = session_message y q; by = q }) i.sound.unshared untaken there (is_end-self y) r b
-unnamed file n t i e y k q untaken there r (inr h) = nowhere file r (beside h.0 t.world) (seat_in file n t i r h.0 h.1) e y k q untaken there r (inr (refl, h.2))
+unnamed file n t i e y k q untaken there r (inr h) = unheld file r (beside h.0 t.world) (seat_in file n t i r h.0 h.1) e y k q untaken there h.2.0 h.2.1
 
 -- what was sent stays sent
 run_extends : (t u : SeatsWorld) (qs : List ℕ) (e : EndId) → after_seats t qs ≡ Some u → Extends (end_at u.world.sessions e).sent (end_at t.world.sessions e).sent
@@ -169,7 +165,7 @@ sends_next t v q e y (inl own) h =
     let a = by_code t v q own.0 own.1 h in
     let view : SeatedWorld = beside own.0 t.world in
     subst (λ (x : SeatsWorld). slice_get (end_at x.world.sessions e).sent (length (end_at t.world.sessions e).sent) ≡ Some (record { msg = session_message y q; by = q })) a.result
-    (own_sends q view (after_doing q view a.doing) e y own.2 (own_act q view a.doing a.done_so))
+    (own_sends q view a.doing e y own.2 a.done_so)
 sends_next t v q e y (inr other) h =
     let a = by_file t v q other.0 h in
     let g = step_there (slice_get t.world.parties q) (steps.Delegate e y) other.1 in

@@ -1,6 +1,6 @@
 -- What was sent and taken in a run with several seats, what fits, and who has which end.
-use Rattle.std.proofs.Common.{◌≡◌, ℕ, nat_lt, Bool, not, cond, List, [], ◌∷◌, ◌++◌, map, drop, length, slice_get, Option, Some, None, option_map, option_and_then, unwrap_or, refl, ap, sym, ◌∙◌, subst, arith, append-nil, append_assoc, inl, inr}
-use Rattle.std.proofs.lemmas.Bool.{cases_eq, eq-eqb}
+use Rattle.std.proofs.Common.{◌≡◌, ℕ, nat_lt, not, List, [], ◌∷◌, ◌++◌, map, drop, length, slice_get, Option, Some, None, option_map, option_and_then, unwrap_or, refl, ap, sym, ◌∙◌, subst, arith, append-nil, append_assoc, inl, inr}
+use Rattle.std.proofs.lemmas.Bool.{cases_eq}
 use Rattle.sj_base.specs.declared.EndId.{EndId}
 use Rattle.sj_lang.specs.FileAt.{FileAt}
 use Rattle.sj_semantics.specs.declared.Passed.{Passed}
@@ -23,14 +23,12 @@ use Rattle.sj_headline_laws.proofs.EndedLemmas.{done_is_taken}
 use Rattle.sj_headline_laws.proofs.FittingLemmas.{next_has_a_place}
 use Rattle.sj_headline_laws.proofs.FreeLemmas.{AllFree, Free, change_free, comes, fetched, none_begun}
 use Rattle.sj_headline_laws.proofs.GoesLemmas.{AllLocated, IsLocated}
-use Rattle.sj_headline_laws.proofs.TakingLemmas.{change_takes_next}
+use Rattle.sj_headline_laws.proofs.TakingLemmas.{TakesNext, change_takes_next}
 use Rattle.sj_headline_laws.proofs.UnnamedLemmas.{bound_claims, come_uncarried, named_carried}
 use Rattle.sj_seat_laws.specs.Calls.{SeatedAt}
 use Rattle.sj_seat_laws.specs.Guards.{seated_want}
-use Rattle.sj_seat_laws.specs.SeatedActs.{uses_of_change, uses_of_doing}
-use Rattle.sj_seat_laws.specs.SeatedHeadline.{IsOwnUse as IsOwnAlone}
 use Rattle.sj_seat_laws.specs.SeatedWorld.{Doing, after_doing, beside, doing_of}
-use Rattle.sj_seat_laws.specs.SeatsActs.{seats_acts, uses_by}
+use Rattle.sj_seat_laws.specs.SeatsActs.{seats_acts, uses_by, uses_of_change, uses_of_doing}
 use Rattle.sj_seat_laws.specs.SeatsHeadline.{BeginFreeEnds, HasOneHolderEach, IsAllDone, IsNowhere, IsOwnUse, OfEachEnd, TakesWhatFits, UsesItsOwn, uses_of}
 use Rattle.sj_seat_laws.specs.SeatsStart.{Callers, IsSeatsRun, seats_start}
 use Rattle.sj_seat_laws.specs.SeatsWorld.{SeatsWorld, after_seats, all_beside, seat_of, seats_act, seats_act_by, with_seat}
@@ -38,9 +36,9 @@ use Rattle.sj_seat_laws.proofs.BeginningLemmas.{doing_free}
 use Rattle.sj_seat_laws.proofs.HeadlineLemmas.{So, doing_taking, fresh_at, uses_so}
 use Rattle.sj_seat_laws.proofs.HeldLemmas.{held_by_place, place_by_held}
 use Rattle.sj_seat_laws.proofs.LocatedLemmas.{IsFound}
-use Rattle.sj_seat_laws.proofs.SeatsLemmas.{IsSeats, all_hold, holder_of, one_holds, seat_in, two_hold}
+use Rattle.sj_seat_laws.proofs.SeatsLemmas.{IsSeats, all_hold, holder_of, one_holds, two_hold}
 use Rattle.sj_seat_laws.proofs.SeatsRunLemmas.{between}
-use Rattle.sj_seat_laws.proofs.UsingLemmas.{calls_own, takes_what_fits, use_at, worn_doing}
+use Rattle.sj_seat_laws.proofs.UsingLemmas.{IsHeldUse, calls_own, doing_next, use_at, worn_doing}
 
 -- ---- what an act uses
 
@@ -149,17 +147,22 @@ module _ (file : FileAt) (n : ℕ) (t : SeatsWorld) (i : IsSeats file n t) where
   -- ---- what is taken fits
 
   pub seats_take_what_fits : (q : ℕ) → TakesWhatFits t q
-  seats_take_what_fits q k e m there = by (seat_of t.seats q) refl there
+  seats_take_what_fits q k e m there = by (seat_of t.seats q) there
     where
+      fits : (us : List (EndId × Use)) → TakesNext w.sessions us → slice_get us k ≡ Some (e, takes m) → FitsTaker w.sessions e m
+      fits us next h = let x = next k e m h in subst (FitsTaker w.sessions e) x.2 (next_has_a_place file w i.sound e x.0 x.1)
+
       by_change : (c : Option Change) → change_of w q ≡ c → slice_get (uses_of_change c) k ≡ Some (e, takes m) → FitsTaker w.sessions e m
       by_change None is h = absurd (cc h)
-      by_change (Some c) is h = let x = change_takes_next w q c (slice_get w.parties q) is k e m h in subst (FitsTaker w.sessions e) x.2 (next_has_a_place file w i.sound e x.0 x.1)
+      by_change (Some c) is h = fits c.uses (change_takes_next w q c (slice_get w.parties q) is) h
 
-      by : (o : Option SeatedAt) → seat_of t.seats q ≡ o → slice_get (uses_by t q o) k ≡ Some (e, takes m) → FitsTaker w.sessions e m
-      by None at h = by_change (change_of w q) refl h
-      by (Some s) at h =
-          takes_what_fits file q (beside s w) q (seat_in file n t i q s at) k e m
-          (ap (λ (b : Bool). slice_get (cond b (uses_of_doing (doing_of q (beside s w))) (uses_of_change (change_of w q))) k) (eq-eqb q q refl) ∙ h)
+      by_doing : (s : SeatedAt) (o : Option Doing) → doing_of q (beside s w) ≡ o → slice_get (uses_of_doing o) k ≡ Some (e, takes m) → FitsTaker w.sessions e m
+      by_doing s None is h = absurd (cc h)
+      by_doing s (Some d) is h = fits d.uses (doing_next q w (seated_want s) d (worn_doing q (beside s w) d (not (nat_lt s.steps 10000)) is)) h
+
+      by : (o : Option SeatedAt) → slice_get (uses_by t q o) k ≡ Some (e, takes m) → FitsTaker w.sessions e m
+      by None h = by_change (change_of w q) refl h
+      by (Some s) h = by_doing s (doing_of q (beside s w)) refl h
 
   -- ---- who has which end
 
@@ -175,14 +178,11 @@ module _ (file : FileAt) (n : ℕ) (t : SeatsWorld) (i : IsSeats file n t) where
 
   -- ---- what is used is the party's
 
-  own_alone : (q : ℕ) (s : SeatedAt) → seat_of t.seats q ≡ Some s → (e : EndId) (u : Use) → IsOwnAlone q (beside s w) q e u → IsOwnUse t q e u
-  own_alone q s at e (sends m) (inl b) = inl b
-  own_alone q s at e (sends m) (inr h) = inr (s, at, h.1)
-  own_alone q s at e (takes m) (inl b) = inl b
-  own_alone q s at e (takes m) (inr h) = inr (s, at, h.1)
-  own_alone q s at e delegates (inl b) = inl b
-  own_alone q s at e delegates (inr h) = inr (s, at, h.1)
-  own_alone q s at e (begins place) h = tt
+  own_held : (q : ℕ) (s : SeatedAt) → seat_of t.seats q ≡ Some s → (e : EndId) (u : Use) → IsHeldUse s.ends e u → IsOwnUse t q e u
+  own_held q s at e (sends m) h = inr (s, at, h)
+  own_held q s at e (takes m) h = inr (s, at, h)
+  own_held q s at e delegates h = inr (s, at, h)
+  own_held q s at e (begins place) h = tt
 
   own_bound : (q : ℕ) (g : Program) (e : EndId) (u : Use) → slice_get w.parties q ≡ Some g → UseBound g.ends e u → IsOwnUse t q e u
   own_bound q g e (sends m) there b = inl (g, there, b)
@@ -195,7 +195,7 @@ module _ (file : FileAt) (n : ℕ) (t : SeatsWorld) (i : IsSeats file n t) where
     where
       by_doing : (s : SeatedAt) → seat_of t.seats q ≡ Some s → (o : Option Doing) → doing_of q (beside s w) ≡ o → slice_get (uses_of_doing o) k ≡ Some (e, u) → IsOwnUse t q e u
       by_doing s at None is h = absurd (cc h)
-      by_doing s at (Some d) is h = own_alone q s at e u (calls_own q (beside s w) s.calls d (worn_doing q (beside s w) d (not (nat_lt s.steps 10000)) is) k e u h)
+      by_doing s at (Some d) is h = own_held q s at e u (calls_own q (beside s w) s.calls d (worn_doing q (beside s w) d (not (nat_lt s.steps 10000)) is) k e u h)
 
       by_change : (g : Option Program) → slice_get w.parties q ≡ g → (c : Option Change) → change_of w q ≡ c → slice_get (uses_of_change c) k ≡ Some (e, u) → IsOwnUse t q e u
       by_change g at None is h = absurd (cc h)

@@ -19,13 +19,12 @@ use Rattle.sj_rules_laws.proofs.LawfulLemmas.{bound_below, idle_above, keeper_be
 use Rattle.sj_rules_laws.proofs.ProperLemmas.{Size}
 use Rattle.sj_rules_laws.proofs.ProperRunLemmas.{size_of}
 use Rattle.sj_seat_laws.specs.Calls.{SeatedAt, place_held}
-use Rattle.sj_seat_laws.specs.Guards.{seated_want}
-use Rattle.sj_seat_laws.specs.SeatedPlay.{Player, player_binds, seated, seated_play}
+use Rattle.sj_seat_laws.specs.SeatedPlay.{Player, player_binds, seated_play}
 use Rattle.sj_seat_laws.specs.SeatedStart.{no_program}
-use Rattle.sj_seat_laws.specs.SeatedWorld.{beside, seen_at}
+use Rattle.sj_seat_laws.specs.SeatedWorld.{beside}
 use Rattle.sj_seat_laws.specs.SeatsWorld.{SeatsWorld, player_by, seat_of, seats_seen}
 use Rattle.sj_seat_laws.proofs.HeldLemmas.{held_by_place}
-use Rattle.sj_seat_laws.proofs.LawfulLemmas.{counts_by, player_fits, seat_fits, written_fits}
+use Rattle.sj_seat_laws.proofs.LawfulLemmas.{counts_by, seat_fits, written_fits}
 use Rattle.sj_seat_laws.proofs.SeatsLemmas.{IsSeats, all_calls, few_calls, one_holds, seat_in}
 
 module _ (file : FileAt) (n : ℕ) (t : SeatsWorld) (i : IsSeats file n t) where
@@ -46,7 +45,7 @@ module _ (file : FileAt) (n : ℕ) (t : SeatsWorld) (i : IsSeats file n t) where
 
   steps_fit : (q : ℕ) (o : Option SeatedAt) → seat_of t.seats q ≡ o → FitsStep IsDone play player_binds plain q (player_by o (own q)) (play.wants (player_by o (own q)))
   steps_fit q None at = written_fits file plain.programs (plain_at w) q (own q) ((play_of file).wants (own q)) (steps_are_lawful file z w i.sound i.proper q)
-  steps_fit q (Some s) at = player_fits file plain.programs (seen_at q (beside s w)) q (seated s) (seated_want s) (seat_fits file q (beside s w) (seat_in file n t i q s at) q s.calls refl)
+  steps_fit q (Some s) at = seat_fits file q (beside s w) (seat_in file n t i q s at) plain.programs q s.calls refl
 
   below : (q : ℕ) (s : SeatedAt) → seat_of t.seats q ≡ Some s → q < length file.parties
   below q s at = omega (arith, slice_get_within w.parties q (no_program file) (i.idle q s at), i.proper.many)

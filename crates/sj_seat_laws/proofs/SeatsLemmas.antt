@@ -10,7 +10,6 @@ use Rattle.sj_semantics.specs.Ends.{EndAt, end_at, is_end}
 use Rattle.sj_semantics.specs.Program.{Program}
 use Rattle.sj_semantics.specs.Uses.{Use, after_uses, altered_list, begins, delegates, sends, takes}
 use Rattle.sj_semantics.specs.World.{World, act_of}
-use Rattle.sj_semantics_laws.specs.Bound.{IsBound}
 use Rattle.sj_semantics_laws.specs.Unshared.{IsToCome, claims_on}
 use Rattle.sj_semantics_laws.proofs.AlteredLemmas.{length-altered, one-le-sum_by, slice_get-altered, slice_get-altered_other, sum_by-altered, two-le-sum_by}
 use Rattle.sj_semantics_laws.proofs.BoundLemmas.{is_end_sym}
@@ -27,9 +26,8 @@ use Rattle.sj_rules_laws.proofs.CountLemmas.{made_counted, sent_in, steps_of}
 use Rattle.sj_rules_laws.proofs.MadeLemmas.{made_of}
 use Rattle.sj_rules_laws.proofs.ProperLemmas.{IsProper}
 use Rattle.sj_rules_laws.proofs.ProperRunLemmas.{act_keeps_proper, programs_keep, size_of}
-use Rattle.sj_seat_laws.specs.Calls.{SeatedAt}
+use Rattle.sj_seat_laws.specs.Calls.{SeatedAt, place_held}
 use Rattle.sj_seat_laws.specs.Guards.{seated_want}
-use Rattle.sj_seat_laws.specs.SeatedHeadline.{HasEnd, IsOwnUse}
 use Rattle.sj_seat_laws.specs.SeatedStart.{no_program}
 use Rattle.sj_seat_laws.specs.SeatedWorld.{Doing, SeatedWorld, after_doing, beside, doing_by, doing_of}
 use Rattle.sj_seat_laws.specs.SeatsWorld.{Seats, SeatsWorld, all_beside, seat_of, seats_act, seats_act_by, with_seat}
@@ -40,7 +38,7 @@ use Rattle.sj_seat_laws.proofs.GuardLemmas.{come_same, once_by}
 use Rattle.sj_seat_laws.proofs.HeldLemmas.{held_by_place, holds, holds-same}
 use Rattle.sj_seat_laws.proofs.LocatedLemmas.{AllFound, act_keeps_found, found_more}
 use Rattle.sj_seat_laws.proofs.SeatedLemmas.{AreKnown, ArePlaced, IsSeat, IsSeatedBeside, call_keeps}
-use Rattle.sj_seat_laws.proofs.UsingLemmas.{calls_own, worn_doing}
+use Rattle.sj_seat_laws.proofs.UsingLemmas.{IsHeldUse, calls_own, worn_doing}
 
 -- ---- what all hold
 
@@ -172,27 +170,21 @@ module _ (file : FileAt) (n : ℕ) (t : SeatsWorld) (i : IsSeats file n t) (q : 
   -- ---- its call leaves what the others hold alone
 
   module _ (r : ℕ) (v : SeatedAt) (other : q ≡ r → ⊥) (there : seat_of t.seats r ≡ Some v) (f : EndId) (held : 1 ≤ holds f v.ends) where
-    not_had : (e : EndId) → is_end e f ≡ true → HasEnd q view q e → ⊥
-    not_had e same (inl b) =
-        let both : Some (no_program file) ≡ Some b.0 = sym (i.idle q s at) ∙ b.1 in
-        let it : no_program file ≡ b.0 = cc in
-        let none : IsBound e [] = subst (λ (g : Program). IsBound e g.ends) (sym it) b.2 in
-        absurd (omega (arith, none.some_name))
-    not_had e same (inr h) =
-        absurd (omega (arith, held_by_place s.ends e h.1.0 h.1.1, holds-same f e s.ends (is_end_sym e f same), two_hold t.seats q r s v f at there other, i.once f, held))
+    not_had : (e : EndId) → is_end e f ≡ true → (place : Place) → place_held s.ends e ≡ Some place → ⊥
+    not_had e same place h = absurd (omega (arith, held_by_place s.ends e place h, holds-same f e s.ends (is_end_sym e f same), two_hold t.seats q r s v f at there other, i.once f, held))
 
     not_free : (all : List (EndId × Use)) (e : EndId) → is_end e f ≡ true → Free t.world all e → ⊥
     not_free all e same (comes come) = absurd (omega (arith, i.apart e come, one_holds t.seats r v there e, holds-same e f v.ends same, held))
     not_free all e same (fetched g x next names taken) =
         absurd (omega (arith, i.once e, named_carried t.world e g x next names, one_holds t.seats r v there e, holds-same e f v.ends same, held))
 
-    not_used : (all : List (EndId × Use)) (e : EndId) (u : Use) → is_end e f ≡ true → IsOwnUse q view q e u → ((place : Place) → u ≡ begins place → Free t.world all e) → ⊥
-    not_used all e (sends m) same own free = not_had e same own
-    not_used all e (takes m) same own free = not_had e same own
-    not_used all e delegates same own free = not_had e same own
+    not_used : (all : List (EndId × Use)) (e : EndId) (u : Use) → is_end e f ≡ true → IsHeldUse s.ends e u → ((place : Place) → u ≡ begins place → Free t.world all e) → ⊥
+    not_used all e (sends m) same own free = not_had e same own.0 own.1
+    not_used all e (takes m) same own free = not_had e same own.0 own.1
+    not_used all e delegates same own free = not_had e same own.0 own.1
     not_used all e (begins place) same own free = not_free all e same (free place refl)
 
-    unused : (all us : List (EndId × Use)) → ((k : ℕ) (e : EndId) (u : Use) → slice_get us k ≡ Some (e, u) → IsOwnUse q view q e u)
+    unused : (all us : List (EndId × Use)) → ((k : ℕ) (e : EndId) (u : Use) → slice_get us k ≡ Some (e, u) → IsHeldUse s.ends e u)
         → ((e : EndId) (k : ℕ) (place : Place) → slice_get us k ≡ Some (e, begins place) → Free t.world all e) → IsUnusedBy f us
     unused all [] own free = tt
     unused all (u ∷ us) own free = (

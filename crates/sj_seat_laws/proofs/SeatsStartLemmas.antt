@@ -201,8 +201,8 @@ module _ (file : FileAt) (calls : Callers) (accepted : IsAccepted file) where
           or_held (Some s) at =
               let b = begins_by file calls q s at in
               let lt = below_by q g there in
-              let both : Some (own file q b.calls_so accepted lt) ≡ Some g = sym (own_there file q b.calls_so accepted lt) ∙ there in
-              let it : own file q b.calls_so accepted lt ≡ g = cc in
+              let both : Some (own file q accepted lt) ≡ Some g = sym (own_there file q accepted lt) ∙ there in
+              let it : own file q accepted lt ≡ g = cc in
               let named_by : IsBound h.end (ends_from file q 0 file.connects) = subst (λ (k : Program). IsBound h.end k.ends) (sym it) (named_is_bound g.ends h.name h.end h.is_named) in
               inr (omega (
                 arith,
@@ -267,7 +267,7 @@ module _ (file : FileAt) (calls : Callers) (accepted : IsAccepted file) where
       (λ h. ap (λ g. binds g e) (sym same) ∙ h, λ h. ap (λ g. binds g e) same ∙ h)
   bound_by q e (Some s) at =
       let b = begins_by file calls q s at in
-      subst (λ (x : SeatedAt). (is_some (place_held x.ends e) ≡ true) ↔ (binds ((plain_at (start_of file)).programs q) e ≡ true)) b.is (holds_bound file q b.calls_so accepted (below_by q b.program b.there) e)
+      subst (λ (x : SeatedAt). (is_some (place_held x.ends e) ≡ true) ↔ (binds ((plain_at (start_of file)).programs q) e ≡ true)) b.is (holds_bound file q accepted (below_by q b.program b.there) e)
 
   start_kept : IsKept IsDone player_binds (reading done (seats_core file calls)) (seats_seen (seats_start file calls))
   start_kept = record {

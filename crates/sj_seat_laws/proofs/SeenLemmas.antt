@@ -1,4 +1,5 @@
--- The act of a party in a seated world, and what the rules see of it, are one.
+-- The act of a party beside others that are played by code, or its call, and what the rules see of
+-- it, are one.
 use Rattle.std.proofs.Common.{◌≡◌, ℕ, ◌+◌, ◌<◌, ◌==◌, nat_lt, Bool, true, false, not, ◌&&◌, cond, List, [], ◌∷◌, ◌++◌, length, Option, Some, None, option_map, refl, ap, sym, ◌∙◌}
 use Rattle.std.proofs.lemmas.Bool.{and_parts, eq-eqb, eqb-true}
 use Rattle.sj_base.specs.declared.EndId.{EndId}
@@ -14,7 +15,7 @@ use Rattle.sj_semantics.specs.Ends.{Session, end_at, next_for, other_end}
 use Rattle.sj_semantics.specs.Program.{Program}
 use Rattle.sj_semantics.specs.Requests.{limit_of_requests, opened_number}
 use Rattle.sj_semantics.specs.Uses.{Use, after_uses, begins, delegates, sends, takes}
-use Rattle.sj_semantics.specs.World.{World, act_of, begun_by, session_message}
+use Rattle.sj_semantics.specs.World.{World, begun_by, session_message}
 use Rattle.sj_semantics_laws.proofs.EndLemmas.{touched}
 use Rattle.sj_headline_laws.proofs.FittingLemmas.{next_has_a_place}
 use Rattle.sj_headline_laws.proofs.TouchedLemmas.{side}
@@ -30,7 +31,6 @@ use Rattle.sj_rules.specs.PlainSide.{PlainAt, PlainSide}
 use Rattle.sj_rules.specs.Record.{is_same_end, offered_end, requested_end}
 use Rattle.sj_rules_laws.proofs.ActLemmas.{waiting_is_next}
 use Rattle.sj_rules_laws.proofs.FitsStepLemmas.{next_at_side}
-use Rattle.sj_rules_laws.proofs.LawfulLemmas.{act_is_seen}
 use Rattle.sj_rules_laws.proofs.ProperLemmas.{IsProperMessage, message_in}
 use Rattle.sj_rules_laws.proofs.ProperRunLemmas.{size_of}
 use Rattle.sj_rules_laws.proofs.SeenLemmas.{begins_seen, hands_seen, sends_seen, takes_seen}
@@ -39,7 +39,7 @@ use Rattle.sj_seat_laws.specs.Calls as calls
 use Rattle.sj_seat_laws.specs.Calls.{Call, Ends, SeatedAt, place_held}
 use Rattle.sj_seat_laws.specs.Guards.{called, carried_next, may_carry, may_send, may_take, want_of_calls, want_of_close, want_of_delegate, want_of_send, want_of_take, where_allowed}
 use Rattle.sj_seat_laws.specs.SeatedPlay.{Player, player_goes, seated, seated_play, written}
-use Rattle.sj_seat_laws.specs.SeatedWorld.{SeatedWorld, after_doing, beside, doing_by, doing_of, seated_act, seen_at}
+use Rattle.sj_seat_laws.specs.SeatedWorld.{SeatedWorld, after_doing, doing_by, doing_of}
 use Rattle.sj_seat_laws.proofs.CallLemmas.{carries_out, sends_on}
 use Rattle.sj_seat_laws.proofs.SeatedLemmas.{IsSeat}
 
@@ -286,25 +286,3 @@ module _ (file : FileAt) (p : ℕ) (t : SeatedWorld) (s : IsSeat file p t) (base
 
   pub own_seen : plain_act mine plain p ≡ option_map (λ d. seen_beside (after_doing p t d)) (doing_of p t)
   own_seen = ap (λ g. cond (mine.is_worn g) None (plain_act_by mine plain p (mine.wants g))) itself ∙ worn_seen (not (nat_lt t.seat.steps 10000))
-
--- ---- whoever it is
-
-module _ (file : FileAt) (p : ℕ) (t : SeatedWorld) (s : IsSeat file p t) where
-  abbrev z : World
-  z = t.world
-
-  abbrev who : ℕ → Program → Player
-  who r g = cond (r == p) (seated t.seat) (written g)
-
-  by_party : (q : ℕ) (b : Bool) → (q == p) ≡ b → plain_act (seated_play file) (seen_at p t) q ≡ option_map (seen_at p) (cond b (option_map (after_doing p t) (doing_of p t)) (option_map (beside t.seat) (act_of z q)))
-  by_party q true is =
-      ap (plain_act (seated_play file) (seen_at p t)) (eqb-true q p is) ∙ own_seen file p t s (λ r. written ((plain_at z).programs r))
-      ∙ sym (map_twice (seen_at p) (after_doing p t) (λ d. seen_at p (after_doing p t d)) (λ d. refl) (doing_of p t))
-  by_party q false is =
-      let goes_by : (g : Program) → who q g ≡ written g = λ g. ap (λ (b : Bool). cond b (seated t.seat) (written g)) is in
-      act_lift file who q goes_by (plain_at z) ∙ ap (option_map (lift file who q goes_by)) (act_is_seen file (size_of file) z s.guarded.sound s.proper q)
-      ∙ map_twice (lift file who q goes_by) plain_at (λ v. seen_at p (beside t.seat v)) (λ v. refl) (act_of z q)
-      ∙ sym (map_twice (seen_at p) (beside t.seat) (λ v. seen_at p (beside t.seat v)) (λ v. refl) (act_of z q))
-
-  pub seated_act_is_seen : (q : ℕ) → plain_act (seated_play file) (seen_at p t) q ≡ option_map (seen_at p) (seated_act p t q)
-  seated_act_is_seen q = by_party q (q == p) refl

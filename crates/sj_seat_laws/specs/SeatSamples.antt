@@ -1,5 +1,5 @@
--- Runs that are known: one party of the greeting is played by code of its own.
-use Rattle.std.specs.Prelude.{List, [], ◌∷◌, pos, slice_get, true}
+-- Runs that are known: parties of the greeting are played by code of their own.
+use Rattle.std.specs.Prelude.{List, [], ◌∷◌, pos, slice_get, unwrap_or, Option, Some, None, true}
 use Rattle.sj_base.specs.declared.EndId.{EndId}
 use Rattle.sj_base.specs.declared.Msg.TheVariants as msgs
 use Rattle.sj_seat_laws.specs.Calls.{Call, closes, sends, takes}
@@ -24,6 +24,19 @@ listens = takes far ∷ closes far ∷ []
 abbrev pub mistakes : List Call
 mistakes = sends near (msgs.Bool true) ∷ []
 
--- the first parties are played by code that calls so
-abbrev pub in_turn : List (List Call) → Callers
-in_turn calls q = slice_get calls q
+-- party by party what its code calls
+abbrev pub callers : List (Option (List Call)) → Callers
+callers cs q = unwrap_or (slice_get cs q) None
+
+-- who is played by code: the first party, the second one, or both
+abbrev pub first : Callers
+first = callers (Some greets ∷ [])
+
+abbrev pub second : Callers
+second = callers (None ∷ Some listens ∷ [])
+
+abbrev pub both : Callers
+both = callers (Some greets ∷ Some listens ∷ [])
+
+abbrev pub misled : Callers
+misled = callers (Some mistakes ∷ [])

@@ -7,11 +7,10 @@ use Rattle.sj_semantics.specs.Acts.{ActAt, sent_on, taken_on}
 use Rattle.sj_semantics.specs.Ends.{other_end}
 use Rattle.sj_semantics.specs.Uses as uses
 use Rattle.sj_semantics.specs.Uses.{Use}
-use Rattle.sj_semantics.specs.World.{change_of}
+use Rattle.sj_semantics.specs.World.{Change, change_of}
 use Rattle.sj_headline_laws.specs.Headline.{FitsTaker, messages}
 use Rattle.sj_seat_laws.specs.Calls.{SeatedAt}
-use Rattle.sj_seat_laws.specs.SeatedActs.{uses_of_change, uses_of_doing}
-use Rattle.sj_seat_laws.specs.SeatedWorld.{beside, doing_of}
+use Rattle.sj_seat_laws.specs.SeatedWorld.{Doing, beside, doing_of}
 use Rattle.sj_seat_laws.specs.SeatsStart.{Callers, IsSeatsRun, seats_start}
 use Rattle.sj_seat_laws.specs.SeatsWorld.{SeatsWorld, seat_of, seats_act}
 
@@ -32,6 +31,14 @@ FromEachActOn file calls acts P =
     → IsSeatsRun file calls (front ++ q ∷ between) u → P t q u
 
 -- ---- what acts use
+
+abbrev pub uses_of_doing : Option Doing → List (EndId × Use)
+uses_of_doing None = []
+uses_of_doing (Some d) = d.uses
+
+abbrev pub uses_of_change : Option Change → List (EndId × Use)
+uses_of_change None = []
+uses_of_change (Some c) = c.uses
 
 -- the ends that the party's next act uses
 abbrev pub uses_by : SeatsWorld → ℕ → Option SeatedAt → List (EndId × Use)

@@ -18,10 +18,10 @@ use Rattle.sj_rules.specs.Node as wanted
 use Rattle.sj_rules.specs.Node.{Want}
 use Rattle.sj_seat_laws.specs.Calls.{SeatedAt, place_held}
 use Rattle.sj_seat_laws.specs.Guards.{seated_want}
-use Rattle.sj_seat_laws.specs.SeatedHeadline.{HoldsNoOpenEnd, IsResting}
 use Rattle.sj_seat_laws.specs.SeatedWorld.{beside}
 use Rattle.sj_seat_laws.specs.SeatsStart.{Callers, IsSeatsRun}
 use Rattle.sj_seat_laws.specs.SeatsWorld.{SeatsWorld, seat_of}
+pub use Rattle.sj_seat_laws.specs.Resting.{HoldsNoOpenEnd, IsResting}
 pub use Rattle.sj_seat_laws.specs.SeatsActs.{AtEachMoment, FromEachActOn, OfEachAct, OfEachEnd, TakesWhatFits, uses_of}
 
 -- ---- who has an end
@@ -77,13 +77,15 @@ Delegates t q e y = IsSeatedAs t q (λ s. seated_want s ≡ wanted.delegates e y
 abbrev pub DelegatesAtOnce : SeatsWorld → ℕ → SeatsWorld → Type 0
 DelegatesAtOnce t q u = (e y : EndId) → Delegates t q e y → IsUntaken u.world e (length (end_at t.world.sessions e).sent) → IsNowhere u y
 
--- ---- all of it
+-- ---- where all is done
 
 -- each other party has ended, each session that was requested was accepted, and nobody's code holds
 -- an end of which anything is ahead
 pub record IsAllDone (t : SeatsWorld) : Type 0 where
   pub others : verdict_of t.world ≡ Done
   pub codes : (q : ℕ) (s : SeatedAt) → seat_of t.seats q ≡ Some s → HoldsNoOpenEnd s
+
+-- ---- all of it
 
 pub record IsSeatsHeadline (file : FileAt) (calls : Callers) (acts : List ℕ) (end : SeatsWorld) : Type 0 where
   -- the acts are a run that leads to that world

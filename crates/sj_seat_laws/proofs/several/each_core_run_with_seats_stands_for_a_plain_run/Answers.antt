@@ -1,5 +1,0 @@
-use Rattle.sj_seat_laws.proofs.SeatsRunLemmas.{run_stands}
-use Rattle.sj_seat_laws.proofs.several.each_core_run_with_seats_stands_for_a_plain_run.Goals as goal
-
-pub returns : goal.returns
-returns c = λ file calls turns core accepted run. run_stands file calls accepted turns core run

@@ -1,5 +1,0 @@
-use Rattle.sj_seat_laws.proofs.SeatsEndLemmas.{run_serves}
-use Rattle.sj_seat_laws.proofs.several.several_seats_serve_the_others.Goals as goal
-
-pub returns : goal.returns
-returns c = run_serves
