@@ -1,6 +1,5 @@
-use Rattle.std.proofs.Common.{rules, ◌≡◌, ℕ, length, refl, subst, sym, ◌∙◌, arith, inl, inr, ap, []}
+use Rattle.std.proofs.Common.{rules, ◌≡◌, ℕ, length, subst, sym, arith, inl, inr}
 use Rattle.std.proofs.lemmas.Bool.{cases_lt}
-use Rattle.std.proofs.lemmas.Grind.{common_steps}
 use Rattle.sj_rules.specs.Frames.{FrameAt}
 use Rattle.std.specs.Prelude.{List}
 use Rattle.sj_table.specs.declared.table.Spot.{Spot}
