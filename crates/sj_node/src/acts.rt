@@ -25,7 +25,7 @@ impl Node {
         // A refusal changes nothing.
         ensures err { OnErr result (Stays self.old self.new) }
 
-        // No slot comes or goes.
+        // As many connections' slots stand as before.
         ensures connects { connect_count self.new ≡ connect_count self.old }
 
         // It refuses a step so only where the rules have no act: where the places of its ends let

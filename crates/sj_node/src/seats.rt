@@ -43,6 +43,7 @@ impl Node {
             (clock_of self.old + 1) events.Act (call_note self.old call) self.new) }
         ensures taken { IfOk result (λ m. m ≡ head_taken self.old call) }
         ensures takes { IfOk result (λ m. is_some m ≡ is_take call) }
+        ensures known { IfOk result (λ m. takes_known self.old call ≡ true) }
 
         // A refusal changes nothing.
         ensures err { OnErr result (Stays self.old self.new) }
@@ -82,6 +83,7 @@ impl Node {
             (clock_of self.old + 1) events.Act (call_note self.old call) self.new) }
         ensures taken { IfOk result (λ m. m ≡ head_taken self.old call) }
         ensures takes { IfOk result (λ m. is_some m ≡ is_take call) }
+        ensures known { IfOk result (λ m. takes_known self.old call ≡ true) }
         ensures err { OnErr result (Stays self.old self.new) }
         ensures connects { connect_count self.new ≡ connect_count self.old }
         ensures program { program_of self.new ≡ program_of self.old }
@@ -116,6 +118,7 @@ impl Node {
             (call_of self.old (rules.takes end (place_here self.old place)))
             (clock_of self.old + 1) events.Act (took_if end (next_head self.old end)) self.new) }
         ensures taken { IfOk result (λ m. Some m ≡ next_head self.old end) }
+        ensures known { IfOk result (λ m. is_known_head self.old (next_head self.old end) ≡ true) }
         ensures err { OnErr result (Stays self.old self.new) }
         ensures connects { connect_count self.new ≡ connect_count self.old }
         ensures program { program_of self.new ≡ program_of self.old }

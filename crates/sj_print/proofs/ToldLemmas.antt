@@ -1,5 +1,5 @@
 -- The sessions and the parties of a world as they are reported, one after another.
-use Rattle.std.proofs.Common.{◌≡◌, ℕ, zero, suc, ◌+◌, ◌*◌, ◌<◌, ◌≤◌, List, [], ◌∷◌, ◌++◌, length, map, drop, get_or, Some, option_map, refl, ap, sym, ◌∙◌, append-nil, arith}
+use Rattle.std.proofs.Common.{◌≡◌, ℕ, zero, suc, ◌+◌, ◌*◌, ◌<◌, ◌≤◌, List, [], ◌∷◌, ◌++◌, length, map, drop, get_or, Some, option_map, refl, ap, sym, ◌∙◌, append-nil, append_assoc, arith}
 use Rattle.std.specs.Prelude.{slice_get}
 use Rattle.std.proofs.lemmas.Option.{slice_get-get_or, slice_get-map}
 use Rattle.sj_lang.specs.declared.file.Connect.{Connect}
@@ -18,8 +18,22 @@ use Rattle.sj_text.proofs.CutLemmas.{StillTo, ahead_is, cut_within, one_more}
 use Rattle.sj_told.specs.declared.told.Stand.{Stand}
 use Rattle.sj_told.specs.declared.told.ToldEnd.{ToldEnd}
 use Rattle.sj_told.specs.Told.{AreEnds, AreStands, IsEnd}
-use Rattle.sj_print.specs.Parts.{party_part, session_part, told_part}
+use Rattle.sj_print.specs.Parts.{IsPutAfter, party_part, session_part, told_part}
 use Rattle.sj_print.proofs.PartLemmas.{party_step, session_step, transcript_is}
+
+-- ---- a text goes on after what it was
+
+pub none_after : (old : List ℕ) → IsPutAfter old old
+none_after old = record { put = []; appended = sym (append-nil old) }
+
+pub put_after : (old bytes new : List ℕ) → new ≡ old ++ bytes → IsPutAfter old new
+put_after old bytes new e = record { put = bytes; appended = e }
+
+pub cut_after : (old whole new : List ℕ) → IsCutShort old whole new → IsPutAfter old new
+cut_after old whole new c = record { put = c.some; appended = c.appended }
+
+pub after_after : (old mid new : List ℕ) → IsPutAfter old mid → IsPutAfter mid new → IsPutAfter old new
+after_after old mid new a b = record { put = a.put ++ b.put; appended = b.appended ∙ ap (λ xs. xs ++ b.put) a.appended ∙ append_assoc old a.put b.put }
 
 -- all was put where nothing is ahead
 pub all_put : (old whole ahead now : List ℕ) → StillTo old whole ahead now → ahead ≡ [] → now ≡ old ++ whole

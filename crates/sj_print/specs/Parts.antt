@@ -1,5 +1,5 @@
 -- The parts of a transcript: a session with what was sent on it, a message, and a party.
-use Rattle.std.specs.Prelude.{ℕ, List, ◌∷◌, ◌++◌, Option, codes, decimal}
+use Rattle.std.specs.Prelude.{◌≡◌, ℕ, List, ◌∷◌, ◌++◌, Option, codes, decimal}
 use Rattle.std.specs.Option.{option_to_list}
 use Rattle.sj_base.specs.declared.EndId.{EndId}
 use Rattle.sj_lang.specs.FileAt.{FileAt, ConnectAt}
@@ -35,3 +35,8 @@ passed_part file e n taker x =
 -- the line of a party of that name
 abbrev pub party_part : FileAt → ℕ → ℕ → State → List ℕ
 party_part file name steps state = line_of (codes "party" ∷ word_at file.words name ∷ state_words file steps state)
+
+-- the text is what it was, and something after it
+pub record IsPutAfter (old new : List ℕ) : Type 0 where
+  pub put : List ℕ
+  pub appended : new ≡ old ++ put

@@ -2,7 +2,7 @@
 ghost use Rattle.std.specs.Prelude.{◌≡◌, ◌++◌, ◌*◌, ◌≤◌, [], OnErr, OnOk, length};
 ghost use Rattle.sj_lang.specs.FileView.{connect_of, file_of};
 ghost use Rattle.sj_lang.specs.Limits.{limits};
-ghost use Rattle.sj_print.specs.Parts.{told_part};
+ghost use Rattle.sj_print.specs.Parts.{IsPutAfter, told_part};
 ghost use Rattle.sj_semantics.specs.State.{opened_in};
 ghost use Rattle.sj_semantics.specs.Transcript.{party_lines, session_lines, transcript_of};
 ghost use Rattle.sj_semantics.specs.World.{World};
@@ -16,7 +16,7 @@ use sj_told::{Stand, ToldEnd, verdict_told};
 
 /// Puts the transcript after the text where no session was opened: from what the ends of the file's
 /// connections sent and who took it, and from how the parties stand. Out of memory, it leaves a
-/// prefix of the transcript.
+/// prefix of the transcript. Whatever the lists are, the text before stays.
 pub fn print_told(
     text: &mut Vec<u8>,
     file: &File,
@@ -34,6 +34,7 @@ pub fn print_told(
         length (file_of file.now).connects ≤ length w.sessions →
         AreEnds (file_of file.now) w ends.now → AreStands w stands.now →
         IsCutShort text.old.items (transcript_of (file_of file.now) w) text.new.items) }
+    ensures kept { IsPutAfter text.old.items text.new.items }
 {
     put_ends(text, file, ends)?;
     put_stands(text, file, stands)?;
@@ -56,6 +57,7 @@ fn put_ends(text: &mut Vec<u8>, file: &File, ends: &[ToldEnd]) -> Result<(), NoM
         IsCutShort text.old.items
         (session_lines (file_of file.now) 0 (file_of file.now).connects w.sessions)
         text.new.items) }
+    ensures kept { IsPutAfter text.old.items text.new.items }
 {
     for i in 0..file.connects.len() {
         put_two_ends(
@@ -112,6 +114,7 @@ fn put_stands(text: &mut Vec<u8>, file: &File, stands: &[Stand]) -> Result<(), N
         IsCutShort text.old.items
         (party_lines (file_of file.now) w 0 (file_of file.now).parties w.parties)
         text.new.items) }
+    ensures kept { IsPutAfter text.old.items text.new.items }
 {
     for i in 0..file.parties.len() {
         put_party(

@@ -11,7 +11,8 @@ use sj_semantics::{State, Verdict};
 /// The verdict where parties stand so and no session was opened: long where one is at a limit, else
 /// done where each has ended, else blocked.
 pub fn verdict_told(stands: &[Stand]) -> Verdict
-    ensures { (w : World) → opened_in w ≡ [] → AreStands w stands.now → result ≡ verdict_of w }
+    ensures seen { result ≡ verdict_by stands.now }
+    ensures world { (w : World) → opened_in w ≡ [] → AreStands w stands.now → result ≡ verdict_of w }
 {
     verdict_by(stands)
 }

@@ -45,14 +45,17 @@ Tells front (token ∷ tokens) (true ∷ marks) = MayStand front token × Tells 
 Tells front (token ∷ tokens) (false ∷ marks) = HasFaultThere front token × Tells front tokens marks
 Tells front tokens marks = ⊥
 
--- the text goes on with these tokens, each after those before it; one without bytes is its end
+-- the text goes on with these tokens, each after those before it and none too long to be tried; one
+-- without bytes is its end
 abbrev pub GoesOn : List ℕ → List (List ℕ) → Type 0
 GoesOn front [] = Unit {0}
-GoesOn front ([] ∷ tokens) = MayStand front []
-GoesOn front ((b ∷ bs) ∷ tokens) = MayStand front (b ∷ bs) × GoesOn (with_token front (b ∷ bs)) tokens
+GoesOn front ([] ∷ tokens) = (length front ≤ front_limit) × MayStand front []
+GoesOn front ((b ∷ bs) ∷ tokens) =
+    ((length front ≤ front_limit) × (length (b ∷ bs) ≤ token_limit)) × (MayStand front (b ∷ bs) × GoesOn (with_token front (b ∷ bs)) tokens)
 
--- it comes to one that may not stand there, or is too long to be tried
+-- it comes to one that may not stand there, or is too long to be tried; none comes after its end
 abbrev pub Halts : List ℕ → List (List ℕ) → Type 0
 Halts front [] = ⊥
-Halts front (token ∷ tokens) =
-    ((front_limit < length front) ⊎ (token_limit < length token)) ⊎ (HasFaultThere front token ⊎ Halts (with_token front token) tokens)
+Halts front ([] ∷ tokens) = (front_limit < length front) ⊎ HasFaultThere front []
+Halts front ((b ∷ bs) ∷ tokens) =
+    ((front_limit < length front) ⊎ (token_limit < length (b ∷ bs))) ⊎ (HasFaultThere front (b ∷ bs) ⊎ Halts (with_token front (b ∷ bs)) tokens)

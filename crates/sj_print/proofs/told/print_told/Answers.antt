@@ -4,7 +4,7 @@ use Rattle.sj_semantics.specs.Lines.{line_of}
 use Rattle.sj_semantics.specs.State.{verdict_of}
 use Rattle.sj_semantics.specs.Transcript.{party_lines, session_lines, transcript_of, verdict_word}
 use Rattle.sj_text.proofs.CutLemmas.{cut_behind, cut_in_first, on_err, put_both, whole_is}
-use Rattle.sj_print.proofs.ToldLemmas.{told_is}
+use Rattle.sj_print.proofs.ToldLemmas.{after_after, cut_after, put_after, told_is}
 use Rattle.sj_print.proofs.told.print_told.Goals as goal
 
 pub returns-clause-ok : goal.returns-clause-ok
@@ -14,7 +14,7 @@ returns-clause-ok c = λ w none few ends stands.
     let first = session_lines file 0 file.connects w.sessions in let second = party_lines file w 0 file.parties w.parties in
     put_both old (first ++ second) (line_of (verdict_word c.verdict_told.result ∷ [])) next new
     (put_both old first second mid next (c.in_ok-put_ends.ensures.ok w few ends) (c.in_ok-put_stands.ensures.ok w stands)) c.in_ok-print_verdict.ensures.ok
-    ∙ ap (λ xs. old ++ xs) (told_is file w c.verdict_told.result none (c.verdict_told.ensures w none stands))
+    ∙ ap (λ xs. old ++ xs) (told_is file w c.verdict_told.result none (c.verdict_told.ensures.world w none stands))
 
 pub returns-in_err-put_ends-clause-err : goal.returns-in_err-put_ends-clause-err
 returns-in_err-put_ends-clause-err c = on_err c.from_residual.result _ (λ w none few ends stands.
@@ -33,5 +33,21 @@ returns-in_err-print_verdict-clause-err c = on_err c.from_residual-in_err-print_
     let file = file_of c.args.file.now in let old = c.args.text.now.items in
     let mid = c.put_ends.new.text.items in let next = c.put_stands.new.text.items in let new = c.print_verdict.new.text.items in
     let first = session_lines file 0 file.connects w.sessions in let second = party_lines file w 0 file.parties w.parties in
-    whole_is old _ (transcript_of file w) new (told_is file w c.verdict_told.result none (c.verdict_told.ensures w none stands))
+    whole_is old _ (transcript_of file w) new (told_is file w c.verdict_told.result none (c.verdict_told.ensures.world w none stands))
     (cut_behind old (first ++ second) _ next new (put_both old first second mid next (c.in_ok-put_ends.ensures.ok w few ends) (c.in_ok-put_stands.ensures.ok w stands)) c.in_err-print_verdict.ensures.err))
+
+pub returns-in_err-put_ends-clause-kept : goal.returns-in_err-put_ends-clause-kept
+returns-in_err-put_ends-clause-kept c = c.put_ends.ensures.kept
+
+pub returns-in_err-put_stands-clause-kept : goal.returns-in_err-put_stands-clause-kept
+returns-in_err-put_stands-clause-kept c = after_after c.args.text.now.items c.put_ends.new.text.items c.put_stands.new.text.items c.put_ends.ensures.kept c.put_stands.ensures.kept
+
+pub returns-in_err-print_verdict-clause-kept : goal.returns-in_err-print_verdict-clause-kept
+returns-in_err-print_verdict-clause-kept c =
+    let old = c.args.text.now.items in let mid = c.put_ends.new.text.items in let next = c.put_stands.new.text.items in let new = c.print_verdict.new.text.items in
+    after_after old next new (after_after old mid next c.put_ends.ensures.kept c.put_stands.ensures.kept) (cut_after next _ new c.in_err-print_verdict.ensures.err)
+
+pub returns-clause-kept : goal.returns-clause-kept
+returns-clause-kept c =
+    let old = c.args.text.now.items in let mid = c.put_ends.new.text.items in let next = c.put_stands.new.text.items in let new = c.print_verdict.new.text.items in
+    after_after old next new (after_after old mid next c.put_ends.ensures.kept c.put_stands.ensures.kept) (put_after next _ new c.in_ok-print_verdict.ensures.ok)
