@@ -1,5 +1,5 @@
 -- What the program answers to its words and its input.
-use Rattle.std.specs.Prelude.{◌≡◌, ◌⊎◌, ℕ, ◌<◌, ◌≤◌, Bool, false, true, List, [], Option, IfSome, length, codes}
+use Rattle.std.specs.Prelude.{◌≡◌, ◌⊎◌, ℕ, ◌<◌, ◌≤◌, false, true, List, [], Option, IfSome, length, codes}
 use Rattle.sj_base.specs.Stream.{Rose, CameOf, WroteFrontOf, put_before, put_behind}
 use Rattle.sj_lang.specs.Limits.{file_limit}
 use Rattle.sj_explain.specs.declared.answers.CheckAnswer.{CheckAnswer}
