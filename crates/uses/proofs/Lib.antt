@@ -1,3 +1,4 @@
 pub mod DequeLemmas
 mod HandLemmas
+pub mod RunLemmas
 pub mod TwoLemmas

@@ -3,8 +3,7 @@ ghost use Rattle.std.specs.Prelude.{◌≡◌, ◌+◌, IfErr, IfOk, OnErr, leng
 ghost use Rattle.sj_node.specs.Node.{Stays, is_refused, log_of};
 ghost use Rattle.uses.specs.Carried.{FitsNone, HasCarried, WaitsAsBefore};
 
-use sj_end::CLOCK_END;
-use sj_node::{DeliverRefusal, Node};
+use porcharnica::{CLOCK_END, DeliverRefusal, Node};
 
 /// The most acts of a party.
 const MOST_ACTS: u32 = 10_000;

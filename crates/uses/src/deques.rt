@@ -4,9 +4,9 @@ ghost use Rattle.std.specs.Prelude.{◌<◌, IfOk};
 ghost use Rattle.uses.specs.DequeLanes.{AreInColumns, AreNewIns, AreNewRows, AreOutRows, AreOuts};
 
 use crossbeam_deque::{Steal, Stealer, Worker};
-use sj_base::NoMemory;
-use sj_end::Frame;
-use sj_lane::{InLane, Lanes, Links, MakeRefusal, OutLane, PopRefusal, PushRefusal};
+use porcharnica::{
+    Frame, InLane, Lanes, Links, MakeRefusal, NoMemory, OutLane, PopRefusal, PushRefusal,
+};
 use std::alloc::{AllocError, Global};
 use std::collections::VecDeque;
 

@@ -9,9 +9,9 @@ mod runs;
 
 pub use by_hand::{act_on, carry};
 pub use deques::{DequeIn, DequeLinks, DequeOut};
-pub use files::transcript_in;
-pub use protocols::can_talk;
-pub use runs::run_file;
+pub use files::{TextRefusal, transcript_in};
+pub use protocols::{TalkRefusal, can_talk};
+pub use runs::{Ran, run_file};
 
 #[cfg(test)]
 mod tests;

@@ -1,9 +1,8 @@
 //! A file from its text to its transcript, two protocols, and runs.
-use crate::{DequeLinks, act_on, can_talk, carry, run_file, transcript_in};
-use sj_check::{Accepted, check};
-use sj_core::first_nodes;
-use sj_lane::RingLinks;
-use sj_party::parse_file;
+use crate::{
+    DequeLinks, TalkRefusal, TextRefusal, act_on, can_talk, carry, run_file, transcript_in,
+};
+use porcharnica::{Accepted, Fault, RingLinks, Rule, check, first_nodes, parse_file};
 use std::alloc::Global;
 use std::test::Fail;
 
@@ -37,9 +36,14 @@ fn accepted(alloc: Global, text: &[u8]) -> Result<Accepted, Fail> {
 
 #[test]
 fn a_text_has_its_transcript(rt: HostRuntime) -> Result<(), Fail> {
-    let text = transcript_in(rt.alloc(), FIRST).ok_or("no transcript")?;
+    let text = transcript_in(rt.alloc(), FIRST)
+        .ok()
+        .ok_or("no transcript")?;
     let wanted = b"session 0 a x b y\n0.0 0 a b int 5\nparty a ended 2\nparty b ended 2\ndone\n";
     assert_eq!(rt; text.as_slice(), wanted.as_slice());
+    let breaks = b"protocol p { begin } party a { close x; }";
+    let refusal = TextRefusal::Breaks { rule: 5, line: 1 };
+    assert_eq!(rt; transcript_in(rt.alloc(), breaks).err(), Some(refusal));
     Ok(())
 }
 
@@ -50,20 +54,35 @@ fn protocols_meet_or_not(rt: HostRuntime) -> Result<(), Fail> {
         b"protocol own { begin.!<int>.?(String) } protocol peers { begin.!<int>.?(String) }";
     let wider = b"protocol own { begin.!{YES:} } protocol peers { begin.?{YES:, NO:} }";
     let one = b"protocol own { begin.!<int> }";
-    assert_eq!(rt; can_talk(rt.alloc(), dual), Some(true));
-    assert_eq!(rt; can_talk(rt.alloc(), other), Some(false));
-    assert_eq!(rt; can_talk(rt.alloc(), wider), Some(true));
-    assert_eq!(rt; can_talk(rt.alloc(), one), None);
+    assert_eq!(rt; can_talk(rt.alloc(), dual), Ok(true));
+    assert_eq!(rt; can_talk(rt.alloc(), other), Ok(false));
+    assert_eq!(rt; can_talk(rt.alloc(), wider), Ok(true));
+    assert_eq!(rt; can_talk(rt.alloc(), one), Err(TalkRefusal::Protocols(1)));
+    let fault = Fault {
+        rule: Rule::P1,
+        line: 1,
+        column: 10,
+    };
+    assert_eq!(rt;
+        can_talk(rt.alloc(), b"protocol {"),
+        Err(TalkRefusal::At(fault))
+    );
     Ok(())
 }
 
 #[test]
 fn a_file_is_run_over_rings_and_deques(rt: HostRuntime) -> Result<(), Fail> {
     let accepted = accepted(rt.alloc(), FIRST)?;
-    let over_rings = run_file(&rt, rt.alloc(), &accepted, &mut RingLinks::new()).ok_or("not run")?;
-    let over_deques = run_file(&rt, rt.alloc(), &accepted, &mut DequeLinks).ok_or("not run")?;
-    assert_eq!(rt; over_rings.history().len(), 7);
-    assert_eq!(rt; over_deques.history().len(), 7);
+    let over_rings = run_file(&rt, rt.alloc(), &accepted, &mut RingLinks::new())
+        .ok()
+        .ok_or("not run")?;
+    let over_deques = run_file(&rt, rt.alloc(), &accepted, &mut DequeLinks)
+        .ok()
+        .ok_or("not run")?;
+    assert_eq!(rt; over_rings.world.history().len(), 7);
+    assert!(rt; over_rings.by_links <= 7);
+    assert_eq!(rt; over_deques.world.history().len(), 7);
+    assert!(rt; over_deques.by_links <= 7);
     Ok(())
 }
 
