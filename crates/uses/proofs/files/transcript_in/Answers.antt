@@ -10,8 +10,8 @@ use Rattle.sj_semantics.specs.Transcript.{transcript_of}
 use Rattle.sj_tool.proofs.EndLemmas.{end_kept}
 use Rattle.uses.proofs.files.transcript_in.Goals as goal
 
-pub returns-in-Ok-print_transcript : goal.returns-in-Ok-print_transcript
-returns-in-Ok-print_transcript c =
+pub returns-in-Ok-print_transcript-clause-ok : goal.returns-in-Ok-print_transcript-clause-ok
+returns-in-Ok-print_transcript-clause-ok c =
     let file = file_of c.in-Ok.file in
     let it = c.in-Ok-check.ensures.ok in
     let same : file_of c.file.result.now ≡ file = ap file_of (c.file.ensures.value ∙ it) in

@@ -4,8 +4,8 @@ use Rattle.sj_lang.specs.declared.file.ProtocolDef.{ProtocolDef}
 use Rattle.uses.proofs.TwoLemmas.{two_of}
 use Rattle.uses.proofs.protocols.can_talk.Goals as goal
 
-pub returns : goal.returns
-returns c =
+pub returns-clause-ok : goal.returns-clause-ok
+returns-clause-ok c =
     let ps : List ProtocolDef = c.as_slice.result.now in
     let own = c.own-item.result in
     let peers = c.peers-item.result in
