@@ -1,11 +1,43 @@
--- A history that goes on: its first events are those from before.
-use Rattle.std.proofs.Common.{◌≡◌, ◌∙◌, ◌+◌, ◌≤◌, ℕ, List, ◌++◌, length, length-append, take, ap₂, sym, subst, arith, ap}
-use Rattle.std.proofs.Math.Seq.{take-append_seam}
+-- A history that a drain made longer: its first events are those from before, the others the drain's.
+use Rattle.std.proofs.Common.{◌≡◌, ◌∙◌, ◌+◌, ◌≤◌, ℕ, List, ◌++◌, length, length-append, take, drop, ap, sym, subst, arith, map, max}
+use Rattle.std.proofs.Math.Seq.{drop-append_seam, take-append_seam}
+use Rattle.sj_lang.specs.FileAt.{FileAt}
+use Rattle.sj_lang.specs.Place.{Place}
+use Rattle.sj_plain.specs.Kept.{without_words}
+use Rattle.sj_rules.specs.Drain.{IsDrained}
+use Rattle.sj_rules.specs.History.{IsHistory, IsQuietAmong, turn_of}
 use Rattle.sj_rules.specs.Log.{LineAt}
+use Rattle.sj_rules.specs.Party.{play_of}
+use Rattle.sj_rules.specs.World.{WorldAt}
+use Rattle.sj_semantics.specs.Program.{Program}
+use Rattle.uses.specs.Runs.{DrainsRest}
+use Rattle.uses.proofs.EndLemmas.{kept_history}
 
 module _ (old new lines : List LineAt) (n : ℕ) (goes_on : new ≡ old ++ lines) (many : n ≡ length old) where
-  pub first_so : (P : List LineAt → Type 0) → P old → P (take n new)
-  first_so P p = subst P (sym (ap₂ (λ (k : ℕ) (xs : List LineAt). take k xs) many goes_on ∙ take-append_seam old lines)) p
+  pub first_are : take n new ≡ old
+  first_are = ap (λ (k : ℕ). take k new) many ∙ ap (λ (xs : List LineAt). take (length old) xs) goes_on ∙ take-append_seam old lines
 
-  pub few_so : n ≤ length new
-  few_so = omega (arith, many, ap (λ (xs : List LineAt). length xs) goes_on, length-append old lines)
+  pub rest_are : drop n new ≡ lines
+  rest_are = ap (λ (k : ℕ). drop k new) many ∙ ap (λ (xs : List LineAt). drop (length old) xs) goes_on ∙ drop-append_seam old lines
+
+  pub few_are : n ≤ length new
+  few_are = omega (arith, many, ap (λ (xs : List LineAt). length xs) goes_on, length-append old lines)
+
+  -- what a drain did of a world of what is kept of the file
+  pub drains : (file kept : FileAt) (parties : ℕ) (left core : WorldAt Place Program) → kept ≡ without_words file → parties ≡ length kept.parties → IsHistory max kept old left
+      → IsDrained (play_of kept) max parties left (map turn_of lines) core → DrainsRest file n new core
+  drains file kept parties left core without all led drained = record {
+    left = left;
+    leads = subst (λ (xs : List LineAt). IsHistory max file xs left) (sym first_are) (kept_history file kept old left without led);
+    drained =
+        subst (λ (xs : List LineAt). IsDrained (play_of file) max (length file.parties) left (map turn_of xs) core) (sym rest_are)
+        (subst (λ (f : FileAt). IsDrained (play_of f) max (length f.parties) left (map turn_of lines) core) without
+        (subst (λ (k : ℕ). IsDrained (play_of kept) max k left (map turn_of lines) core) all drained));
+  }
+
+-- a quiet world of what is kept of a file is one of the file
+pub quiet_kept : (file kept : FileAt) (parties : ℕ) (core : WorldAt Place Program) → kept ≡ without_words file → parties ≡ length kept.parties
+    → IsQuietAmong (play_of kept) parties core → IsQuietAmong (play_of file) (length file.parties) core
+quiet_kept file kept parties core without all quiet =
+    subst (λ (f : FileAt). IsQuietAmong (play_of f) (length f.parties) core) without
+    (subst (λ (k : ℕ). IsQuietAmong (play_of kept) k core) all quiet)

@@ -1,8 +1,9 @@
 //! A file from its text to its transcript, two protocols, and runs.
 use crate::{
-    DequeLinks, TalkRefusal, TextRefusal, act_on, can_talk, carry, run_file, transcript_in,
+    DequeLinks, TalkRefusal, TextRefusal, accepted_in, act_on, can_talk, carry, ending_of, run_file,
+    transcript_in,
 };
-use porcharnica::{Accepted, Fault, RingLinks, Rule, check, first_nodes, parse_file};
+use porcharnica::{Accepted, Fault, Halt, RingLinks, Rule, Verdict, first_nodes};
 use std::alloc::Global;
 use std::test::Fail;
 
@@ -25,11 +26,8 @@ fn accepted(alloc: Global, text: &[u8]) -> Result<Accepted, Fail> {
     if text.len() > 65_536 {
         return Err(Fail::from("too long"));
     }
-    let Ok(file) = parse_file(alloc, text) else {
-        return Err(Fail::from("no file"));
-    };
-    let Ok(accepted) = check(alloc, file) else {
-        return Err(Fail::from("refused"));
+    let Ok(accepted) = accepted_in(alloc, text) else {
+        return Err(Fail::from("not accepted"));
     };
     Ok(accepted)
 }
@@ -44,6 +42,15 @@ fn a_text_has_its_transcript(rt: HostRuntime) -> Result<(), Fail> {
     let breaks = b"protocol p { begin } party a { close x; }";
     let refusal = TextRefusal::Breaks { rule: 5, line: 1 };
     assert_eq!(rt; transcript_in(rt.alloc(), breaks).err(), Some(refusal));
+    let fault = Fault {
+        rule: Rule::P1,
+        line: 1,
+        column: 10,
+    };
+    assert_eq!(rt;
+        transcript_in(rt.alloc(), b"protocol {").err(),
+        Some(TextRefusal::At(fault))
+    );
     Ok(())
 }
 
@@ -73,16 +80,15 @@ fn protocols_meet_or_not(rt: HostRuntime) -> Result<(), Fail> {
 #[test]
 fn a_file_is_run_over_rings_and_deques(rt: HostRuntime) -> Result<(), Fail> {
     let accepted = accepted(rt.alloc(), FIRST)?;
-    let over_rings = run_file(&rt, rt.alloc(), &accepted, &mut RingLinks::new())
-        .ok()
-        .ok_or("not run")?;
-    let over_deques = run_file(&rt, rt.alloc(), &accepted, &mut DequeLinks)
-        .ok()
-        .ok_or("not run")?;
-    assert_eq!(rt; over_rings.world.history().len(), 7);
-    assert!(rt; over_rings.by_links <= 7);
-    assert_eq!(rt; over_deques.world.history().len(), 7);
-    assert!(rt; over_deques.by_links <= 7);
+    let over_rings = run_file(&rt, rt.alloc(), &accepted, &mut RingLinks::new())?;
+    let over_deques = run_file(&rt, rt.alloc(), &accepted, &mut DequeLinks)?;
+    for ran in [over_rings, over_deques] {
+        assert_eq!(rt; ran.world.history().len(), 7);
+        assert_eq!(rt; ran.by_links + ran.by_drain, 7);
+        assert!(rt; ran.by_links >= 2);
+    }
+    let ending = ending_of(rt.alloc(), &accepted)?;
+    assert_eq!(rt; ending.verdict, Verdict::Done);
     Ok(())
 }
 
@@ -97,8 +103,12 @@ fn a_session_is_handed_over_by_hand(rt: HostRuntime) -> Result<(), Fail> {
         return Err(Fail::from("not three"));
     };
     // Ann sends to the desk, which has given her session away when it comes.
-    assert_eq!(rt; act_on(&mut ann), 1);
-    assert_eq!(rt; act_on(&mut desk), 2);
+    let acted = act_on(&mut ann);
+    assert_eq!(rt; acted.acts, 1);
+    assert_eq!(rt; acted.halt, Some(Halt::Waits));
+    let acted = act_on(&mut desk);
+    assert_eq!(rt; acted.acts, 2);
+    assert_eq!(rt; acted.halt, Some(Halt::Ended));
     assert!(rt; carry(&mut ann, &mut desk).is_ok());
     for _ in 0..10u8 {
         assert!(rt; carry(&mut desk, &mut store).is_ok());

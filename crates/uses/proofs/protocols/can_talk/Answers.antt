@@ -12,8 +12,8 @@ returns-clause-ok c =
     let both = two_of ps own peers (omega (arith, c.in-len2.len_at_least)) (omega (arith, c.in-len2.len_below)) in
     let two : ps ≡ own ∷ peers ∷ [] = both ∙ ap₂ (λ (p q : ProtocolDef). p ∷ q ∷ []) (sym c.own-item.is) (sym c.peers-item.is) in
     record {
-      file = file_of c.in-Ok.file;
-      read = c.in-Ok.ensures.found;
+      file = file_of c.in_ok-file.file;
+      read = c.in_ok-file.ensures.found;
       own = protocol_of own;
       peers = protocol_of peers;
       two = ap (map protocol_of) (sym c.as_slice.ensures.value ∙ two);
