@@ -1,6 +1,9 @@
 -- A history that a drain made longer: its first events are those from before, the others the drain's.
 use Rattle.std.proofs.Common.{◌≡◌, ◌∙◌, ◌+◌, ◌≤◌, ℕ, List, ◌++◌, length, length-append, take, drop, ap, sym, subst, arith, map, max}
 use Rattle.std.proofs.Math.Seq.{drop-append_seam, take-append_seam}
+use Rattle.std.proofs.lemmas.List.{length-map}
+use Rattle.sj_end.specs.Lines.{line_at}
+use Rattle.sj_end.specs.declared.note.Line.{Line}
 use Rattle.sj_lang.specs.FileAt.{FileAt}
 use Rattle.sj_lang.specs.Place.{Place}
 use Rattle.sj_plain.specs.Kept.{without_words}
@@ -12,6 +15,10 @@ use Rattle.sj_rules.specs.World.{WorldAt}
 use Rattle.sj_semantics.specs.Program.{Program}
 use Rattle.uses.specs.Runs.{DrainsRest}
 use Rattle.uses.proofs.EndLemmas.{kept_history}
+
+-- as many lines are there as are seen
+pub many_seen : (lines : List Line) (seen : List LineAt) (n : ℕ) → map line_at lines ≡ seen → n ≡ length lines → n ≡ length seen
+many_seen lines seen n are many = many ∙ sym (length-map lines line_at) ∙ ap (λ (xs : List LineAt). length xs) are
 
 module _ (old new lines : List LineAt) (n : ℕ) (goes_on : new ≡ old ++ lines) (many : n ≡ length old) where
   pub first_are : take n new ≡ old

@@ -45,7 +45,10 @@ pub fn ending_of(alloc: Global, accepted: &Accepted) -> Result<Ending, NoMemory>
     let mut transcript = Vec::new(alloc);
     print_transcript(&mut transcript, accepted.file(), &plain)?;
     let verdict = plain.verdict();
-    Ok(Ending { verdict, transcript })
+    Ok(Ending {
+        verdict,
+        transcript,
+    })
 }
 
 /// The transcript of the end of the accepted file that the text stands for.

@@ -1,7 +1,7 @@
 //! A file from its text to its transcript, two protocols, and runs.
 use crate::{
-    DequeLinks, TalkRefusal, TextRefusal, accepted_in, act_on, can_talk, carry, ending_of, run_file,
-    transcript_in,
+    DequeLinks, TalkRefusal, TextRefusal, accepted_in, act_on, can_talk, carry, ending_of,
+    run_file, transcript_in,
 };
 use porcharnica::{Accepted, Fault, Halt, RingLinks, Rule, Verdict, first_nodes};
 use std::alloc::Global;
