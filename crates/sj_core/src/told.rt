@@ -1,6 +1,7 @@
 //! How the parties of a world stand that leaves nothing to do.
 ghost use Rattle.std.specs.List.{list_any};
 ghost use Rattle.std.specs.Prelude.{◌≡◌, [], false, IfOk, map};
+ghost use Rattle.sj_core.specs.NodeWorld.{nodes_in};
 ghost use Rattle.sj_core.specs.ToldWorld.{IsQuietOf, has_opened, stand_seen};
 ghost use Rattle.sj_lang.specs.FileAt.{FileAt};
 ghost use Rattle.sj_semantics.specs.Run.{end_of};
@@ -18,17 +19,20 @@ use sj_told::Stand;
 use std::alloc::Global;
 
 impl World {
-    /// Whether a party opened a session.
+    /// Whether a party opened a session. Where none did and nothing is left to do, none was opened
+    /// at the end of the file.
     pub fn opens(&self) -> bool
-        ensures { result ≡ false → (file : FileAt) → IsQuietOf file self.now → opened_in (end_of file) ≡ [] }
+        ensures opened { result ≡ list_any has_opened (nodes_in self.now) }
+        ensures none { result ≡ false → (file : FileAt) → IsQuietOf file self.now → opened_in (end_of file) ≡ [] }
     {
         self.node_world.opens()
     }
 
-    /// How each party stands where nothing is left to do, as the nodes have it: so it does at the
-    /// end of the file.
+    /// How each party's node stands, in order. Where nothing is left to do, the party stands so at
+    /// the end of the file.
     pub fn stands(&self, alloc: Global) -> Result<Vec<Stand>, NoMemory>
-        ensures { IfOk result (λ v. (file : FileAt) → IsQuietOf file self.now → AreStands (end_of file) v.items) }
+        ensures seen { IfOk result (λ v. v.items ≡ map stand_seen (nodes_in self.now)) }
+        ensures stands { IfOk result (λ v. (file : FileAt) → IsQuietOf file self.now → AreStands (end_of file) v.items) }
     {
         self.node_world.stands(alloc)
     }
@@ -37,18 +41,21 @@ impl World {
 impl NodeWorld {
     ghost use Rattle.sj_core.specs.NodeWorld.{IsReached};
 
-    /// Whether a party opened a session.
+    /// Whether a party opened a session. Where none did and nothing is left to do, none was opened
+    /// at the end of the file.
     pub fn opens(&self) -> bool
         requires reached { IsReached self.now }
-        ensures { result ≡ false → (file : FileAt) → IsQuietOf file self.now → opened_in (end_of file) ≡ [] }
+        ensures opened { result ≡ list_any has_opened (nodes_in self.now) }
+        ensures none { result ≡ false → (file : FileAt) → IsQuietOf file self.now → opened_in (end_of file) ≡ [] }
     {
         have_opened(&self.nodes)
     }
 
-    /// How each party stands where nothing is left to do.
+    /// How each party's node stands, in order.
     pub fn stands(&self, alloc: Global) -> Result<Vec<Stand>, NoMemory>
         requires reached { IsReached self.now }
-        ensures { IfOk result (λ v. (file : FileAt) → IsQuietOf file self.now → AreStands (end_of file) v.items) }
+        ensures seen { IfOk result (λ v. v.items ≡ map stand_seen (nodes_in self.now)) }
+        ensures stands { IfOk result (λ v. (file : FileAt) → IsQuietOf file self.now → AreStands (end_of file) v.items) }
     {
         let stands = stands_of(alloc, &self.nodes)?;
         Ok(stands)

@@ -1,21 +1,20 @@
 -- The sessions and the parties of a world as they are reported, one after another.
-use Rattle.std.proofs.Common.{◌≡◌, ℕ, zero, suc, ◌+◌, ◌*◌, ◌<◌, ◌≤◌, List, [], ◌∷◌, ◌++◌, length, map, drop, get_or, Option, Some, option_map, refl, ap, sym, ◌∙◌, append-nil, arith}
+use Rattle.std.proofs.Common.{◌≡◌, ℕ, zero, suc, ◌+◌, ◌*◌, ◌<◌, ◌≤◌, List, [], ◌∷◌, ◌++◌, length, map, drop, get_or, Some, option_map, refl, ap, sym, ◌∙◌, append-nil, arith}
 use Rattle.std.specs.Prelude.{slice_get}
 use Rattle.std.proofs.lemmas.Option.{slice_get-get_or, slice_get-map}
-use Rattle.sj_base.specs.declared.EndId.{EndId}
 use Rattle.sj_lang.specs.declared.file.Connect.{Connect}
 use Rattle.sj_lang.specs.declared.file.Party.{Party}
 use Rattle.sj_lang.specs.FileView.{party_of, connect_of}
 use Rattle.sj_lang.specs.FileAt.{FileAt, ConnectAt}
 use Rattle.sj_semantics.specs.declared.State.{State}
 use Rattle.sj_semantics.specs.declared.Verdict.{Verdict}
-use Rattle.sj_semantics.specs.Ends.{EndAt, end_at}
 use Rattle.sj_semantics.specs.Lines.{line_of}
 use Rattle.sj_semantics.specs.Program.{Program}
-use Rattle.sj_semantics.specs.State.{opened_in, state_if, state_of_program, states_from, states_of, verdict_of}
+use Rattle.sj_semantics.specs.State.{opened_in, state_if, state_of_program, states_from, verdict_of}
 use Rattle.sj_semantics.specs.Transcript.{opened_lines, party_lines, sent_lines, session_line, session_lines, transcript_of, verdict_word}
 use Rattle.sj_semantics.specs.World.{World}
-use Rattle.sj_text.proofs.CutLemmas.{StillTo, ahead_is, one_more}
+use Rattle.sj_text.specs.Cut.{IsCutShort}
+use Rattle.sj_text.proofs.CutLemmas.{StillTo, ahead_is, cut_within, one_more}
 use Rattle.sj_told.specs.declared.told.Stand.{Stand}
 use Rattle.sj_told.specs.declared.told.ToldEnd.{ToldEnd}
 use Rattle.sj_told.specs.Told.{AreEnds, AreStands, IsEnd}
@@ -46,16 +45,26 @@ told_step file w cs ends i c a b lt few are within =
     ∙ ap (λ part. part ++ session_lines file (i + 1) (drop (i + 1) (map connect_of cs)) (drop (i + 1) w.sessions))
     (part_told file w i (connect_of (get_or cs i c)) (get_or ends (2 * i) a) (get_or ends (2 * i + 1) b) first second)
 
--- the next session is put
-pub put_next : (file : FileAt) (w : World) (cs : List Connect) (ends : List ToldEnd) (i : ℕ) (c : Connect) (a b : ToldEnd) (old whole now new : List ℕ)
-    → i < length cs → length cs ≤ length w.sessions → AreEnds file w ends → 2 * i + 1 < length ends → get_or cs i c ≡ c → get_or ends (2 * i) a ≡ a → get_or ends (2 * i + 1) b ≡ b
-    → StillTo old whole (session_lines file i (drop i (map connect_of cs)) (drop i w.sessions)) now → new ≡ now ++ told_part file i (connect_of c) a b
-    → StillTo old whole (session_lines file (i + 1) (drop (i + 1) (map connect_of cs)) (drop (i + 1) w.sessions)) new
-put_next file w cs ends i c a b old whole now new lt few are within there first second still put =
-    let behind = session_lines file (i + 1) (drop (i + 1) (map connect_of cs)) (drop (i + 1) w.sessions) in
-    let bytes = told_part file i (connect_of c) a b in
-    let step = told_step file w cs ends i c a b lt few are within ∙ (λ k. told_part file i (connect_of (there k)) (first k) (second k) ++ behind) in
-    one_more old whole bytes behind now new (ahead_is old whole (session_lines file i (drop i (map connect_of cs)) (drop i w.sessions)) (bytes ++ behind) now step still) put
+-- the next session, which is ahead as it is reported
+module _ (file : FileAt) (w : World) (cs : List Connect) (ends : List ToldEnd) (i : ℕ) (c : Connect) (a b : ToldEnd) (old whole now new : List ℕ)
+    (lt : i < length cs) (few : length cs ≤ length w.sessions) (are : AreEnds file w ends) (within : 2 * i + 1 < length ends)
+    (there : get_or cs i c ≡ c) (first : get_or ends (2 * i) a ≡ a) (second : get_or ends (2 * i + 1) b ≡ b)
+    (still : StillTo old whole (session_lines file i (drop i (map connect_of cs)) (drop i w.sessions)) now) where
+  abbrev behind : List ℕ
+  behind = session_lines file (i + 1) (drop (i + 1) (map connect_of cs)) (drop (i + 1) w.sessions)
+
+  ahead : StillTo old whole (told_part file i (connect_of c) a b ++ behind) now
+  ahead =
+      let step = told_step file w cs ends i c a b lt few are within ∙ (λ k. told_part file i (connect_of (there k)) (first k) (second k) ++ behind) in
+      ahead_is old whole (session_lines file i (drop i (map connect_of cs)) (drop i w.sessions)) (told_part file i (connect_of c) a b ++ behind) now step still
+
+  -- it is put
+  pub put_next : new ≡ now ++ told_part file i (connect_of c) a b → StillTo old whole behind new
+  put_next put = one_more old whole (told_part file i (connect_of c) a b) behind now new ahead put
+
+  -- it is cut short
+  pub cut_next : IsCutShort now (told_part file i (connect_of c) a b) new → IsCutShort old whole new
+  cut_next cut = cut_within old whole (told_part file i (connect_of c) a b) behind now new ahead cut
 
 -- ---- parties
 
@@ -86,16 +95,28 @@ module _ (w : World) (stands : List Stand) (are : AreStands w stands) (i : ℕ) 
       ≡ party_part file (get_or qs i q).name (get_or stands i d).steps (get_or stands i d).state ++ party_lines file w (i + 1) (drop (i + 1) (map party_of qs)) (drop (i + 1) w.parties)
   stand_step file qs q within known = party_step file w qs w.parties i q (get_or stands i d).steps (get_or stands i d).state within known steps_are state_is
 
--- the next party is put
-pub put_stand : (file : FileAt) (w : World) (stands : List Stand) (qs : List Party) (i : ℕ) (q : Party) (d : Stand) (old whole now new : List ℕ)
-    → AreStands w stands → i < length stands → i < length qs → i < length w.parties → get_or qs i q ≡ q
-    → StillTo old whole (party_lines file w i (drop i (map party_of qs)) (drop i w.parties)) now → new ≡ now ++ party_part file q.name (get_or stands i d).steps (get_or stands i d).state
-    → StillTo old whole (party_lines file w (i + 1) (drop (i + 1) (map party_of qs)) (drop (i + 1) w.parties)) new
-put_stand file w stands qs i q d old whole now new are told lt known there still put =
-    let behind = party_lines file w (i + 1) (drop (i + 1) (map party_of qs)) (drop (i + 1) w.parties) in
-    let bytes = party_part file q.name (get_or stands i d).steps (get_or stands i d).state in
-    let step = stand_step w stands are i d told file qs q lt known ∙ ap (λ (y : Party). party_part file y.name (get_or stands i d).steps (get_or stands i d).state ++ behind) there in
-    one_more old whole bytes behind now new (ahead_is old whole (party_lines file w i (drop i (map party_of qs)) (drop i w.parties)) (bytes ++ behind) now step still) put
+-- the next party, whose line is ahead as it is reported
+module _ (file : FileAt) (w : World) (stands : List Stand) (qs : List Party) (i : ℕ) (q : Party) (d : Stand) (old whole now new : List ℕ)
+    (are : AreStands w stands) (told : i < length stands) (lt : i < length qs) (known : i < length w.parties) (there : get_or qs i q ≡ q)
+    (still : StillTo old whole (party_lines file w i (drop i (map party_of qs)) (drop i w.parties)) now) where
+  abbrev others : List ℕ
+  others = party_lines file w (i + 1) (drop (i + 1) (map party_of qs)) (drop (i + 1) w.parties)
+
+  abbrev line : List ℕ
+  line = party_part file q.name (get_or stands i d).steps (get_or stands i d).state
+
+  line_ahead : StillTo old whole (line ++ others) now
+  line_ahead =
+      let step = stand_step w stands are i d told file qs q lt known ∙ ap (λ (y : Party). party_part file y.name (get_or stands i d).steps (get_or stands i d).state ++ others) there in
+      ahead_is old whole (party_lines file w i (drop i (map party_of qs)) (drop i w.parties)) (line ++ others) now step still
+
+  -- it is put
+  pub put_stand : new ≡ now ++ line → StillTo old whole others new
+  put_stand put = one_more old whole line others now new line_ahead put
+
+  -- it is cut short
+  pub cut_stand : IsCutShort now line new → IsCutShort old whole new
+  cut_stand cut = cut_within old whole line others now new line_ahead cut
 
 -- as many parties as are reported
 length-mapped : {X Y : Type 0} (f : X → Y) (xs : List X) → length (map f xs) ≡ length xs

@@ -1,11 +1,12 @@
 //! The transcript as it is reported, of a world in which no session was opened.
-ghost use Rattle.std.specs.Prelude.{◌≡◌, ◌++◌, ◌*◌, ◌≤◌, [], OnOk, length};
+ghost use Rattle.std.specs.Prelude.{◌≡◌, ◌++◌, ◌*◌, ◌≤◌, [], OnErr, OnOk, length};
 ghost use Rattle.sj_lang.specs.FileView.{connect_of, file_of};
 ghost use Rattle.sj_lang.specs.Limits.{limits};
 ghost use Rattle.sj_print.specs.Parts.{told_part};
 ghost use Rattle.sj_semantics.specs.State.{opened_in};
 ghost use Rattle.sj_semantics.specs.Transcript.{party_lines, session_lines, transcript_of};
 ghost use Rattle.sj_semantics.specs.World.{World};
+ghost use Rattle.sj_text.specs.Cut.{IsCutShort};
 ghost use Rattle.sj_told.specs.Told.{AreEnds, AreStands};
 
 use crate::lines::{print_verdict, put_party, put_sent, put_session};
@@ -13,8 +14,9 @@ use sj_base::{EndId, NoMemory};
 use sj_lang::{Connect, File};
 use sj_told::{Stand, ToldEnd, verdict_told};
 
-/// Puts the transcript after the text, as it is reported by the ends of the file's connections and
-/// by how the parties stand, where no session was opened.
+/// Puts the transcript after the text where no session was opened: from what the ends of the file's
+/// connections sent and who took it, and from how the parties stand. Out of memory, it leaves a
+/// prefix of the transcript.
 pub fn print_told(
     text: &mut Vec<u8>,
     file: &File,
@@ -24,10 +26,14 @@ pub fn print_told(
     requires few { length (file_of file.now).connects ≤ limits.connects }
     requires ends { length ends.now ≡ 2 * length (file_of file.now).connects }
     requires stands { length stands.now ≡ length (file_of file.now).parties }
-    ensures { OnOk result ((w : World) → opened_in w ≡ [] →
+    ensures ok { OnOk result ((w : World) → opened_in w ≡ [] →
         length (file_of file.now).connects ≤ length w.sessions →
         AreEnds (file_of file.now) w ends.now → AreStands w stands.now →
         text.new.items ≡ text.old.items ++ transcript_of (file_of file.now) w) }
+    ensures err { OnErr result ((w : World) → opened_in w ≡ [] →
+        length (file_of file.now).connects ≤ length w.sessions →
+        AreEnds (file_of file.now) w ends.now → AreStands w stands.now →
+        IsCutShort text.old.items (transcript_of (file_of file.now) w) text.new.items) }
 {
     put_ends(text, file, ends)?;
     put_stands(text, file, stands)?;
@@ -39,11 +45,17 @@ pub fn print_told(
 fn put_ends(text: &mut Vec<u8>, file: &File, ends: &[ToldEnd]) -> Result<(), NoMemory>
     requires few { length (file_of file.now).connects ≤ limits.connects }
     requires all { length ends.now ≡ 2 * length (file_of file.now).connects }
-    ensures { OnOk result ((w : World) →
+    ensures ok { OnOk result ((w : World) →
         length (file_of file.now).connects ≤ length w.sessions →
         AreEnds (file_of file.now) w ends.now →
         text.new.items ≡ text.old.items
         ++ session_lines (file_of file.now) 0 (file_of file.now).connects w.sessions) }
+    ensures err { OnErr result ((w : World) →
+        length (file_of file.now).connects ≤ length w.sessions →
+        AreEnds (file_of file.now) w ends.now →
+        IsCutShort text.old.items
+        (session_lines (file_of file.now) 0 (file_of file.now).connects w.sessions)
+        text.new.items) }
 {
     for i in 0..file.connects.len() {
         put_two_ends(
@@ -67,8 +79,11 @@ fn put_two_ends(
     first: &ToldEnd,
     second: &ToldEnd,
 ) -> Result<(), NoMemory>
-    ensures { OnOk result (text.new.items ≡ text.old.items
+    ensures ok { OnOk result (text.new.items ≡ text.old.items
         ++ told_part (file_of file.now) sess (connect_of connect.now) first.now second.now) }
+    ensures err { OnErr result (IsCutShort text.old.items
+        (told_part (file_of file.now) sess (connect_of connect.now) first.now second.now)
+        text.new.items) }
 {
     put_session(text, file, sess, connect)?;
     put_sent(
@@ -84,16 +99,19 @@ fn put_two_ends(
         EndId { sess, side: 1 },
         &second.sent,
         &second.takers,
-    )?;
-    Ok(())
+    )
 }
 
 // The line of each party.
 fn put_stands(text: &mut Vec<u8>, file: &File, stands: &[Stand]) -> Result<(), NoMemory>
     requires { length stands.now ≡ length (file_of file.now).parties }
-    ensures { OnOk result ((w : World) → AreStands w stands.now →
+    ensures ok { OnOk result ((w : World) → AreStands w stands.now →
         text.new.items ≡ text.old.items
         ++ party_lines (file_of file.now) w 0 (file_of file.now).parties w.parties) }
+    ensures err { OnErr result ((w : World) → AreStands w stands.now →
+        IsCutShort text.old.items
+        (party_lines (file_of file.now) w 0 (file_of file.now).parties w.parties)
+        text.new.items) }
 {
     for i in 0..file.parties.len() {
         put_party(

@@ -1,9 +1,9 @@
 -- How many messages the remaining lines report.
-use Rattle.std.proofs.Common.{◌≡◌, ℕ, zero, suc, ◌+◌, ◌<◌, ◌≤◌, List, [], ◌∷◌, map, length, drop, get_or, refl, ap, ◌∙◌, arith}
+use Rattle.std.proofs.Common.{◌≡◌, ℕ, ◌+◌, ◌<◌, ◌≤◌, List, map, length, drop, get_or, ap, arith}
 use Rattle.std.proofs.lemmas.List.{at_drop_more, drop_all}
 use Rattle.sj_end.specs.declared.note.Line.{Line}
 use Rattle.sj_end.specs.Lines.{line_at, note_seen}
-use Rattle.sj_rules.specs.Log.{Accept, Ack, Carry, Claim, Fin, Give, LineAt, Local, NoteAt, Open, Request, Sent, Shut, Signal, Took}
+use Rattle.sj_rules.specs.Log.{Accept, Ack, Carry, Claim, Fin, Give, Local, NoteAt, Open, Request, Sent, Shut, Signal, Took}
 use Rattle.sj_told.specs.Counts.{is_sent, sent_count}
 
 is_sent_low : (note : NoteAt) → is_sent note ≤ 1

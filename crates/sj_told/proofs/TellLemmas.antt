@@ -1,5 +1,5 @@
 -- What each line reports, and so all lines.
-use Rattle.std.proofs.Common.{◌≡◌, ◌≢◌, ℕ, zero, suc, ◌+◌, ◌*◌, ◌<◌, ◌≤◌, ◌==◌, Bool, true, false, if◌then◌else◌, List, [], ◌∷◌, ◌++◌, map, length, drop, get_or, slice_get, Option, Some, None, Result, Ok, Err, OnOk, append-nil, refl, ap, sym, ◌∙◌, subst, arith, inl, inr}
+use Rattle.std.proofs.Common.{◌≡◌, ◌≢◌, ℕ, zero, suc, ◌+◌, ◌*◌, ◌<◌, ◌≤◌, Bool, true, false, if◌then◌else◌, List, [], ◌∷◌, ◌++◌, map, length, drop, get_or, slice_get, Some, Result, Ok, Err, OnOk, append-nil, refl, ap, sym, ◌∙◌, subst, arith, inl, inr}
 use Rattle.std.proofs.Math.ListN.{set}
 use Rattle.std.proofs.lemmas.Bool.Decides.{eqb_tells}
 use Rattle.std.proofs.lemmas.List.{append_assoc, at_drop_more, drop_all, length-set, map-append}
@@ -15,7 +15,7 @@ use Rattle.sj_end.specs.Lines.{line_at, note_seen}
 use Rattle.sj_rules.specs.Log.{Accept, Ack, Carry, Claim, Fin, Give, LineAt, Local, NoteAt, Open, Request, Sent, Shut, Signal, Took}
 use Rattle.sj_rules_laws.specs.TiedNotes.{sent_told, taken_told, told_in}
 use Rattle.sj_told.specs.declared.told.ToldEnd.{ToldEnd}
-use Rattle.sj_told.specs.Lines.{AreEmpty, AreToldBy, Grow, GrowAt, HasMore, IsEmpty, IsEndBy, IsSilent}
+use Rattle.sj_told.specs.Lines.{AreEmpty, AreToldBy, Grow, GrowAt, HasMore, IsEmpty, IsSilent}
 use Rattle.sj_told.specs.Told.{slot_of}
 use Rattle.sj_told.proofs.SlotLemmas.{others_apart, others_same, slots_apart, slots_same}
 

@@ -1,7 +1,6 @@
 -- The verdict by how parties stand is that of the world, where no session was opened.
 use Rattle.std.proofs.Common.{◌≡◌, Bool, true, false, ◌&&◌, ◌||◌, List, [], ◌∷◌, map, refl, ap, sym, ◌∙◌, if◌then◌else◌}
 use Rattle.std.specs.List.{list_all, list_any}
-use Rattle.sj_semantics.specs.declared.Opened.{Opened}
 use Rattle.sj_semantics.specs.declared.State.{State}
 use Rattle.sj_semantics.specs.declared.Verdict.{Verdict}
 use Rattle.sj_semantics.specs.declared.Verdict.TheVariants as verdicts

@@ -1,13 +1,12 @@
 -- What is reported of a world in which no session was opened.
-use Rattle.std.specs.Prelude.{◌≡◌, ℕ, zero, suc, ◌+◌, ◌*◌, ◌≤◌, List, [], map, length, slice_get, Some, if◌then◌else◌}
+use Rattle.std.specs.Prelude.{◌≡◌, ℕ, zero, suc, ◌+◌, ◌*◌, List, map, length, slice_get, Some, if◌then◌else◌}
 use Rattle.std.specs.List.{list_all, list_any}
 use Rattle.sj_base.specs.declared.EndId.{EndId}
 use Rattle.sj_lang.specs.FileAt.{FileAt}
-use Rattle.sj_semantics.specs.declared.State.{State}
 use Rattle.sj_semantics.specs.declared.Verdict.{Verdict}
 use Rattle.sj_semantics.specs.declared.Verdict.TheVariants as verdicts
 use Rattle.sj_semantics.specs.Ends.{end_at, other_end}
-use Rattle.sj_semantics.specs.State.{has_ended, is_at_limit, opened_in, states_of}
+use Rattle.sj_semantics.specs.State.{has_ended, is_at_limit, states_of}
 use Rattle.sj_semantics.specs.World.{World}
 use Rattle.sj_told.specs.declared.told.ToldEnd.{ToldEnd}
 use Rattle.sj_told.specs.declared.told.Stand.{Stand}

@@ -1,4 +1,4 @@
-use Rattle.std.proofs.Common.{◌≡◌, ◌+◌, ◌*◌, ◌++◌, ◌∷◌, [], List, subst, sym, refl, arith}
+use Rattle.std.proofs.Common.{◌≡◌, ◌+◌, ◌*◌, List, subst, sym, arith}
 use Rattle.sj_told.specs.declared.told.ToldEnd.{ToldEnd}
 use Rattle.sj_told.specs.Lines.{AreEmpty}
 use Rattle.sj_told.proofs.TellLemmas.{none_empty, one_empty}

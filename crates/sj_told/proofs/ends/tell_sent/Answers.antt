@@ -1,6 +1,6 @@
 use Rattle.std.proofs.Common.{◌∷◌, [], length, refl, arith}
 use Rattle.std.proofs.lemmas.Option.{slice_get_read}
-use Rattle.sj_told.proofs.TellLemmas.{grows_at, grows_past}
+use Rattle.sj_told.proofs.TellLemmas.{grows_at}
 use Rattle.sj_told.proofs.ends.tell_sent.Goals as goal
 
 pub returns : goal.returns

@@ -21,6 +21,6 @@ returns c = λ w told.
     let same : c.len.result ≡ length file.connects = omega (arith, all, c.len.ensures, c.args.file.now.connects.ok.0) in
     let own = ends_are file (map line_at c.args.lines.now) c.args.stands.now w c.in_ok-ends.ends.items c.len.result same told c.in_ok-ends.ensures in
     let ends = subst (λ (xs : List ToldEnd). AreEnds file w xs) (sym c.deref.ensures.value) own in
-    let text = c.in_ok-print_told.ensures w told.opened told.sessions ends told.parties
+    let text = c.in_ok-print_told.ensures.ok w told.opened told.sessions ends told.parties
     ∙ ap (λ (xs : List _). xs ++ transcript_of file w) c.new-text.ensures.items in
     c.in_ok-put_log.ensures ∙ ap (λ xs. xs ++ log_part c.args.log file (map line_at c.args.lines.now)) text

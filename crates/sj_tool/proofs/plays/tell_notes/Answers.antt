@@ -22,7 +22,7 @@ noted_text-requires-clause-parties c =
     let accepted = subst (λ (f : File). IsAccepted (file_of f)) c.file-file.ensures.value c.file-file.ensures.accepted in
     let quiet : IsQuietOf file c.args.world.now = record { accepted = accepted; kept = c.requires.kept; run = c.requires.run; quiet = c.requires.quiet } in
     ap length c.deref.ensures.value
-    ∙ all_stand file accepted (history_of c.args.world.now) (world_at c.args.world.now) c.requires.run c.requires.quiet c.in_ok-stands.stands.items (c.in_ok-stands.ensures file quiet)
+    ∙ all_stand file accepted (history_of c.args.world.now) (world_at c.args.world.now) c.requires.run c.requires.quiet c.in_ok-stands.stands.items (c.in_ok-stands.ensures.stands file quiet)
     ∙ ap (λ (f : File). length (file_of f).parties) (sym c.file-file.ensures.value)
 
 pub returns-clause-told : goal.returns-clause-told
@@ -31,7 +31,7 @@ returns-clause-told c =
     let accepted = subst (λ (f : File). IsAccepted (file_of f)) c.file-file.ensures.value c.file-file.ensures.accepted in
     let quiet : IsQuietOf file c.args.world.now = record { accepted = accepted; kept = c.requires.kept; run = c.requires.run; quiet = c.requires.quiet } in
     let none = c.requires.none file quiet in
-    let are = c.in_ok-stands.ensures file quiet in
+    let are = c.in_ok-stands.ensures.stands file quiet in
     let told = told_in_end file accepted (history_of c.args.world.now) (world_at c.args.world.now) c.requires.run c.requires.quiet c.in_ok-stands.stands.items are none in
     let same : file_of c.file-file.result.now ≡ file = ap file_of c.file-file.ensures.value in
     let own = subst (λ (f : FileAt). IsToldIn f (map line_at c.history.result.now) c.in_ok-stands.stands.items (end_of file)) (sym same)

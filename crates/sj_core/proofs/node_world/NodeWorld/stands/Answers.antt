@@ -5,5 +5,8 @@ use Rattle.sj_core.specs.ToldWorld.{stand_seen}
 use Rattle.sj_core.proofs.ToldWorldLemmas.{nodes_stand}
 use Rattle.sj_core.proofs.node_world.NodeWorld.stands.Goals as goal
 
-pub returns : goal.returns
-returns c = λ file q. subst (AreStands (end_of file)) (sym (c.in_ok-stands.ensures ∙ ap (map stand_seen) c.deref.ensures.value)) (nodes_stand c.args.self.now c.requires.reached file q)
+pub returns-clause-seen : goal.returns-clause-seen
+returns-clause-seen c = c.in_ok-stands.ensures ∙ ap (map stand_seen) c.deref.ensures.value
+
+pub returns-clause-stands : goal.returns-clause-stands
+returns-clause-stands c = λ file q. subst (AreStands (end_of file)) (sym (c.in_ok-stands.ensures ∙ ap (map stand_seen) c.deref.ensures.value)) (nodes_stand c.args.self.now c.requires.reached file q)
