@@ -26,11 +26,14 @@ pub fn act_on(node: &mut Node) -> Acted
         if node.clock() >= CLOCK_END {
             return Acted { acts, halt: None };
         }
-        if let Err(halt) = node.act() {
-            return Acted {
-                acts,
-                halt: Some(halt),
-            };
+        match node.act() {
+            Ok(()) => {}
+            Err(halt) => {
+                return Acted {
+                    acts,
+                    halt: Some(halt),
+                };
+            }
         }
     }
     Acted {

@@ -12,7 +12,7 @@ use Rattle.uses.proofs.files.ending_of.Goals as goal
 pub returns-clause-verdict : goal.returns-clause-verdict
 returns-clause-verdict c =
     let file = file_of (file_in c.args.accepted.now) in
-    c.verdict.ensures ∙ ap verdict_of (end_kept (kept_file c.finish.new.self) (kept_file c.in_ok-plain.plain) file (world_at c.finish.new.self) c.in_ok-finish.ensures.end c.finish.ensures.kept c.in_ok-plain.ensures.kept)
+    c.verdict-verdict.ensures ∙ ap verdict_of (end_kept (kept_file c.finish.new.self) (kept_file c.in_ok-plain.plain) file (world_at c.finish.new.self) c.in_ok-finish.ensures.end c.finish.ensures.kept c.in_ok-plain.ensures.kept)
 
 pub returns-clause-transcript : goal.returns-clause-transcript
 returns-clause-transcript c =
