@@ -17,29 +17,32 @@ use Rattle.uses.specs.Runs.{DrainsRest}
 use Rattle.uses.proofs.EndLemmas.{kept_history}
 
 -- as many lines are there as are seen
-pub many_seen : (lines : List Line) (seen : List LineAt) (n : ℕ) → map line_at lines ≡ seen → n ≡ length lines → n ≡ length seen
-many_seen lines seen n are many = many ∙ sym (length-map lines line_at) ∙ ap (λ (xs : List LineAt). length xs) are
+pub many_seen : (lines : List Line) (seen : List LineAt) → map line_at lines ≡ seen → length lines ≡ length seen
+many_seen lines seen are = sym (length-map lines line_at) ∙ ap (λ (xs : List LineAt). length xs) are
 
-module _ (old new lines : List LineAt) (n : ℕ) (goes_on : new ≡ old ++ lines) (many : n ≡ length old) where
-  pub first_are : take n new ≡ old
-  first_are = ap (λ (k : ℕ). take k new) many ∙ ap (λ (xs : List LineAt). take (length old) xs) goes_on ∙ take-append_seam old lines
+module _ (before : List Line) (old new more : List LineAt) (seen : map line_at before ≡ old) (goes_on : new ≡ old ++ more) where
+  many : length before ≡ length old
+  many = many_seen before old seen
 
-  pub rest_are : drop n new ≡ lines
-  rest_are = ap (λ (k : ℕ). drop k new) many ∙ ap (λ (xs : List LineAt). drop (length old) xs) goes_on ∙ drop-append_seam old lines
+  pub first_are : take (length before) new ≡ old
+  first_are = ap (λ (k : ℕ). take k new) many ∙ ap (λ (xs : List LineAt). take (length old) xs) goes_on ∙ take-append_seam old more
 
-  pub few_are : n ≤ length new
-  few_are = omega (arith, many, ap (λ (xs : List LineAt). length xs) goes_on, length-append old lines)
+  rest_are : drop (length before) new ≡ more
+  rest_are = ap (λ (k : ℕ). drop k new) many ∙ ap (λ (xs : List LineAt). drop (length old) xs) goes_on ∙ drop-append_seam old more
+
+  pub few_are : length before ≤ length new
+  few_are = omega (arith, many, ap (λ (xs : List LineAt). length xs) goes_on, length-append old more)
 
   -- what a drain did of a world of what is kept of the file
   pub drains : (file kept : FileAt) (parties : ℕ) (left core : WorldAt Place Program) → kept ≡ without_words file → parties ≡ length kept.parties → IsHistory max kept old left
-      → IsDrained (play_of kept) max parties left (map turn_of lines) core → DrainsRest file n new core
+      → IsDrained (play_of kept) max parties left (map turn_of more) core → DrainsRest file (length before) new core
   drains file kept parties left core without all led drained = record {
     left = left;
     leads = subst (λ (xs : List LineAt). IsHistory max file xs left) (sym first_are) (kept_history file kept old left without led);
     drained =
         subst (λ (xs : List LineAt). IsDrained (play_of file) max (length file.parties) left (map turn_of xs) core) (sym rest_are)
-        (subst (λ (f : FileAt). IsDrained (play_of f) max (length f.parties) left (map turn_of lines) core) without
-        (subst (λ (k : ℕ). IsDrained (play_of kept) max k left (map turn_of lines) core) all drained));
+        (subst (λ (f : FileAt). IsDrained (play_of f) max (length f.parties) left (map turn_of more) core) without
+        (subst (λ (k : ℕ). IsDrained (play_of kept) max k left (map turn_of more) core) all drained));
   }
 
 -- a quiet world of what is kept of a file is one of the file

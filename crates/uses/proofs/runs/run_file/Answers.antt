@@ -1,4 +1,4 @@
-use Rattle.std.proofs.Common.{◌≡◌, ◌∙◌, ◌+◌, ◌-◌, ◌≤◌, ℕ, List, arith, length, rules, subst, sym}
+use Rattle.std.proofs.Common.{◌∙◌, ◌+◌, ◌-◌, List, arith, length, subst, sym}
 use Rattle.sj_check.specs.Held.{file_in}
 use Rattle.sj_core.specs.World.{history_of, kept_file, party_count, world_at}
 use Rattle.sj_lang.specs.FileView.{file_of}
@@ -29,28 +29,22 @@ returns-clause-end g c =
 
 pub returns-clause-counts : goal.returns-clause-counts
 returns-clause-counts g c =
-    let w = c.in_ok-world.world in
     let d = c.drain.new.self in
     let by = c.in_ok-drain.ensures.drained in
-    let n : c.len.result ≡ length (history_of w) = many_seen c.history.result.now (history_of w) c.len.result c.history.ensures (search rules) in
-    let few : c.len.result ≤ length (history_of d) = few_are (history_of w) (history_of d) by.lines c.len.result by.listed n in
-    let all : c.len-2.result ≡ length (history_of d) = many_seen c.history-2.result.now (history_of d) c.len-2.result c.history-2.ensures (search rules) in
+    let few = few_are c.history-by_links.result.now (history_of c.in_ok-world.world) (history_of d) by.lines c.history-by_links.ensures by.listed in
+    let all = many_seen c.history.result.now (history_of d) c.history.ensures in
     omega (arith, few, all)
 
 pub returns-clause-logged : goal.returns-clause-logged
 returns-clause-logged g c =
-    let w = c.in_ok-world.world in
-    let d = c.drain.new.self in
     let by = c.in_ok-drain.ensures.drained in
-    let n : c.len.result ≡ length (history_of w) = many_seen c.history.result.now (history_of w) c.len.result c.history.ensures (search rules) in
     subst (λ (xs : List LineAt). AreLoggedOver g.L.Out.OutLane g.L.In.InLane g.L.Links.joined (file_of (file_in c.args.accepted.now)) 1000 (g.L.Links.tells c.args.links.now) xs)
-    (sym (first_are (history_of w) (history_of d) by.lines c.len.result by.listed n)) c.in_ok-world.ensures.logged
+    (sym (first_are c.history-by_links.result.now (history_of c.in_ok-world.world) (history_of c.drain.new.self) by.lines c.history-by_links.ensures by.listed)) c.in_ok-world.ensures.logged
 
 pub returns-clause-drained : goal.returns-clause-drained
 returns-clause-drained g c =
     let w = c.in_ok-world.world in
     let d = c.drain.new.self in
     let by = c.in_ok-drain.ensures.drained in
-    let n : c.len.result ≡ length (history_of w) = many_seen c.history.result.now (history_of w) c.len.result c.history.ensures (search rules) in
-    drains (history_of w) (history_of d) by.lines c.len.result by.listed n (file_of (file_in c.args.accepted.now)) (kept_file w) (party_count w) (world_at w) (world_at d)
+    drains c.history-by_links.result.now (history_of w) (history_of d) by.lines c.history-by_links.ensures by.listed (file_of (file_in c.args.accepted.now)) (kept_file w) (party_count w) (world_at w) (world_at d)
     c.in_ok-world.ensures.kept c.in_ok-world.ensures.parties c.in_ok-world.ensures.run by.by
