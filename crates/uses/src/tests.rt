@@ -1,6 +1,6 @@
 //! A file from its text to its transcript, two protocols, and runs.
 use crate::{
-    DequeLinks, TalkRefusal, TextRefusal, accepted_in, act_on, can_talk, carry, ending_of,
+    DequeLinks, Ran, TalkRefusal, TextRefusal, accepted_in, act_on, can_talk, carry, ending_of,
     run_file, transcript_in,
 };
 use porcharnica::{Accepted, Fault, Halt, RingLinks, Rule, Verdict, first_nodes};
@@ -77,16 +77,19 @@ fn protocols_meet_or_not(rt: HostRuntime) -> Result<(), Fail> {
     Ok(())
 }
 
+// Seven events in all, of which the two of the party that takes nothing need no frame.
+fn did_seven(ran: &Ran) -> bool {
+    let all = ran.by_links.saturating_add(ran.by_drain);
+    all == 7 && ran.world.history().len() == 7 && ran.by_links >= 2
+}
+
 #[test]
 fn a_file_is_run_over_rings_and_deques(rt: HostRuntime) -> Result<(), Fail> {
     let accepted = accepted(rt.alloc(), FIRST)?;
     let over_rings = run_file(&rt, rt.alloc(), &accepted, &mut RingLinks::new())?;
     let over_deques = run_file(&rt, rt.alloc(), &accepted, &mut DequeLinks)?;
-    for ran in [over_rings, over_deques] {
-        assert_eq!(rt; ran.world.history().len(), 7);
-        assert_eq!(rt; ran.by_links + ran.by_drain, 7);
-        assert!(rt; ran.by_links >= 2);
-    }
+    assert!(rt; did_seven(&over_rings));
+    assert!(rt; did_seven(&over_deques));
     let ending = ending_of(rt.alloc(), &accepted)?;
     assert_eq!(rt; ending.verdict, Verdict::Done);
     Ok(())
