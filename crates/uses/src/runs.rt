@@ -66,7 +66,8 @@ pub fn run_file<R: Threads + Sync, L: Links>(
     let mut world = run_parties(rt, alloc, accepted, None, LOOKS, links, &NoGate)?;
     let by_links = world.history().len();
     world.drain()?;
-    let by_drain = world.history().len() - by_links;
+    let in_all = world.history().len();
+    let by_drain = in_all - by_links;
     Ok(Ran {
         world,
         by_links,

@@ -32,7 +32,7 @@ returns-clause-counts g c =
     let d = c.drain.new.self in
     let by = c.in_ok-drain.ensures.drained in
     let few = few_are c.history-by_links.result.now (history_of c.in_ok-world.world) (history_of d) by.lines c.history-by_links.ensures by.listed in
-    let all = many_seen c.history.result.now (history_of d) c.history.ensures in
+    let all = many_seen c.history-in_all.result.now (history_of d) c.history-in_all.ensures in
     omega (arith, few, all)
 
 pub returns-clause-logged : goal.returns-clause-logged
