@@ -1,5 +1,5 @@
 -- Acts and deliveries by hand.
-use Rattle.std.proofs.Common.{◌≡◌, ◌∙◌, ◌+◌, ℕ, List, [], ◌∷◌, Err, length, length-append, Option, Some, None, ap, if◌then◌else◌, refl}
+use Rattle.std.proofs.Common.{◌≡◌, ◌∙◌, ◌+◌, ℕ, List, [], ◌∷◌, length, length-append, Option, Some, None, ap, if◌then◌else◌, refl}
 use Rattle.sj_end.specs.declared.note.Entry.{Entry}
 use Rattle.sj_end.specs.declared.note.Event.{Event}
 use Rattle.sj_end.specs.declared.note.Note.{Note}

@@ -1,5 +1,5 @@
 -- A history that a drain made longer: its first events are those from before, the others the drain's.
-use Rattle.std.proofs.Common.{◌≡◌, ◌∙◌, ◌+◌, ◌≤◌, ℕ, List, ◌++◌, length, length-append, take, drop, ap, sym, subst, arith, map, max}
+use Rattle.std.proofs.Common.{◌≡◌, ◌∙◌, ◌≤◌, ℕ, List, ◌++◌, length, length-append, take, drop, ap, sym, subst, arith, map, max}
 use Rattle.std.proofs.Math.Seq.{drop-append_seam, take-append_seam}
 use Rattle.std.proofs.lemmas.List.{length-map}
 use Rattle.sj_end.specs.Lines.{line_at}

@@ -1,9 +1,8 @@
-use Rattle.std.proofs.Common.{◌≡◌, ◌∙◌, ◌++◌, ℕ, List, ap}
+use Rattle.std.proofs.Common.{◌∙◌, ◌++◌, ℕ, List, ap}
 use Rattle.sj_check.specs.Held.{file_in}
 use Rattle.sj_lang.specs.FileView.{file_of}
 use Rattle.sj_lang.specs.declared.file.File.{File}
 use Rattle.sj_plain.specs.Plain.{kept_file, world_at}
-use Rattle.sj_semantics.specs.Run.{end_of}
 use Rattle.sj_semantics.specs.State.{verdict_of}
 use Rattle.sj_semantics.specs.Transcript.{transcript_of}
 use Rattle.uses.proofs.EndLemmas.{end_kept}
