@@ -105,16 +105,17 @@ help_cases() {
 }
 
 json_cases() {
-    local plain='"fault":null,"rule":null,"line":null,"column":null,"length":null,"words":null,"there":null,"mend":null'
+    local plain='"fault":null,"rule":null,"line":null,"column":null,"length":null,"words":null,"there":null,"mend":null,"wanted":null,"meant":null'
+    local none='"wanted":null,"meant":null'
     local words='"words":"not there: no live end, or no variable, has that name"'
     local known='"status":5,"answer":"check C5 at 8","fault":"check","rule":"C5","line":8'
     local good='"status":0,"answer":"accepted parties 2 sessions 1",'$plain',"parties":2,"sessions":1'
-    local bad="$known,\"column\":null,\"length\":null,$words,\"there\":null,\"mend\":null"
+    local bad="$known,\"column\":null,\"length\":null,$words,\"there\":null,\"mend\":null,$none"
     local gone=${plain/'"fault":null'/'"fault":"read fault"'}
-    ends 0 "{\"file\":\"good.sj\",$good,\"ends\":null}" '' "$sj" check --json good.sj
-    ends 0 "{\"file\":\"odd \\\"name\\\".sj\",$good,\"ends\":null}" '' "$sj" check --json 'odd "name".sj'
+    ends 0 "{\"file\":\"good.sj\",$good,\"ends\":null,\"warnings\":null}" '' "$sj" check --json good.sj
+    ends 0 "{\"file\":\"odd \\\"name\\\".sj\",$good,\"ends\":null,\"warnings\":null}" '' "$sj" check --json 'odd "name".sj'
     ends 5 "{\"file\":\"-\",$bad}" '' reads bad.sj "$sj" check --json
-    ends 5 "{\"file\":\"good.sj\",$good,\"ends\":null}$n{\"file\":\"bad.sj\",$bad}" '' "$sj" check good.sj bad.sj --json
+    ends 5 "{\"file\":\"good.sj\",$good,\"ends\":null,\"warnings\":null}$n{\"file\":\"bad.sj\",$bad}" '' "$sj" check good.sj bad.sj --json
     ends 2 "{\"file\":\"none.sj\",\"status\":2,\"answer\":\"read fault\",$gone}" 'there is no file none.sj' \
         "$sj" check --json none.sj
     ends 6 "{\"file\":\"ring.sj\",\"status\":6,\"answer\":\"forest no a b\",$plain,\"forest\":\"no\",\"left\":[\"a\",\"b\"]}" '' \
@@ -123,9 +124,13 @@ json_cases() {
         "$sj" forest --json good.sj
     ends 0 "{\"file\":\"opens.sj\",\"status\":0,\"answer\":\"forest opens 3\",${plain/'"line":null'/'"line":3'},\"forest\":\"opens\",\"left\":null}" '' \
         "$sj" forest --json opens.sj
-    ends 5 "{\"file\":\"bad.sj\",$known,\"column\":3,\"length\":3,$words,\"there\":\"no variable is \\\"known\\\" here\",\"mend\":\"use no end\"}" '' \
+    ends 5 "{\"file\":\"bad.sj\",$known,\"column\":3,\"length\":3,$words,\"there\":\"no variable is \\\"known\\\" here\",\"mend\":\"use no end\",$none}" '' \
         "$why" --json bad.sj
-    ends 0 "{\"file\":\"good.sj\",$good,\"ends\":\"done\"}" '' "$why" --json good.sj
+    ends 0 "{\"file\":\"good.sj\",$good,\"ends\":\"done\",\"warnings\":null}" '' "$why" --json good.sj
+    ends 4 "{\"file\":\"slip.sj\",\"status\":4,\"answer\":\"syntax P1 at 2:3\",\"fault\":\"syntax\",\"rule\":\"P1\",\"line\":2,\"column\":3,\"length\":4,\"words\":\"not due: no file goes on so there\",\"there\":\"\`sned\` stands there\",\"mend\":\"put it right\",\"wanted\":[\"}\",\"send\"],\"meant\":\"\`send\`?\"}" '' \
+        "$why" --json slip.sj
+    ends 0 "{\"file\":\"turns.sj\",$good,\"ends\":\"done\",\"warnings\":[{\"line\":3,\"words\":\"cut\"},{\"line\":14,\"words\":\"a: b\"}]}" '' \
+        "$why" --json turns.sj
 }
 
 # Links to the programs, near and far, one over another, and as --install makes them.

@@ -33,10 +33,17 @@ function take_signs(below, above,    from) {
     }
 }
 
-function list_of(words, n,    i, all) {
-    for (i = 3; i <= n; i++)
-        all = all (i == 3 ? "" : ",") quoted(words[i])
+# The words from that one on.
+function list_of(words, first, n,    i, all) {
+    for (i = first; i <= n; i++)
+        all = all (i == first ? "" : ",") quoted(words[i])
     return "[" all "]"
+}
+
+# A warning, which is a line and words.
+function take_warning(said,    colon) {
+    colon = index(said, ": ")
+    warnings = warnings (warnings == "" ? "" : ",") "{\"line\":" substr(said, 1, colon - 1) ",\"words\":" quoted(substr(said, colon + 2)) "}"
 }
 
 BEGIN {
@@ -55,6 +62,9 @@ NR == 2 { next }
 /^  +\| / && column == "" && above != "" { take_signs($0, above); next }
 sub(/^there: /, "") { there = $0; next }
 sub(/^mend: /, "") { mend = $0; next }
+sub(/^wanted one of: /, "") { wanted = list_of(wanted_words, 1, split($0, wanted_words, " ")); next }
+sub(/^did you mean /, "") { meant = $0; next }
+sub(/^warning line /, "") { take_warning($0); next }
 match($0, /^ends [a-z]+/) { verdict = substr($0, 6, RLENGTH - 5) }
 
 END {
@@ -80,13 +90,16 @@ END {
     text_field("words", rule[name])
     text_field("there", there)
     text_field("mend", mend)
+    field("wanted", wanted)
+    text_field("meant", meant)
     if (w[1] == "accepted") {
         field("parties", w[3])
         field("sessions", w[5])
         text_field("ends", verdict)
+        field("warnings", warnings == "" ? "" : "[" warnings "]")
     } else if (w[1] == "forest") {
         text_field("forest", w[2])
-        field("left", w[2] == "opens" ? "" : list_of(w, n))
+        field("left", w[2] == "opens" ? "" : list_of(w, 3, n))
     }
     print "{" line "}"
 }

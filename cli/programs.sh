@@ -43,12 +43,12 @@ says 6 'forest no a b c' ./sj forest --strict examples/ring.sj
 says 0 'examples/ring.sj: forest no a b c
 examples/tree.sj: forest yes' ./sj forest examples/ring.sj examples/tree.sj
 why='"words":"other action: the place begins with another action, or is empty"'
-plain='"fault":null,"rule":null,"line":null,"column":null,"length":null,"words":null,"there":null,"mend":null'
-says 5 "{\"file\":\"examples/why/c06-sent.sj\",\"status\":5,\"answer\":\"check C6 at 3\",\"fault\":\"check\",\"rule\":\"C6\",\"line\":3,\"column\":null,\"length\":null,$why,\"there\":null,\"mend\":null}" \
+plain='"fault":null,"rule":null,"line":null,"column":null,"length":null,"words":null,"there":null,"mend":null,"wanted":null,"meant":null'
+says 5 "{\"file\":\"examples/why/c06-sent.sj\",\"status\":5,\"answer\":\"check C6 at 3\",\"fault\":\"check\",\"rule\":\"C6\",\"line\":3,\"column\":null,\"length\":null,$why,\"there\":null,\"mend\":null,\"wanted\":null,\"meant\":null}" \
     ./sj check --json examples/why/c06-sent.sj
-says 5 "{\"file\":\"examples/why/c06-sent.sj\",\"status\":5,\"answer\":\"check C6 at 3\",\"fault\":\"check\",\"rule\":\"C6\",\"line\":3,\"column\":26,\"length\":1,$why,\"there\":\"ahead of x is nothing; this statement wants \`!<..>\` first\",\"mend\":\"do what the place begins with, or put the item into both protocols\"}" \
+says 5 "{\"file\":\"examples/why/c06-sent.sj\",\"status\":5,\"answer\":\"check C6 at 3\",\"fault\":\"check\",\"rule\":\"C6\",\"line\":3,\"column\":26,\"length\":1,$why,\"there\":\"ahead of x is nothing; this statement wants \`!<..>\` first\",\"mend\":\"do what the place begins with, or put the item into both protocols\",\"wanted\":null,\"meant\":null}" \
     ./sjwhy --json examples/why/c06-sent.sj
-says 4 "{\"file\":\"examples/why/p1-name.sj\",\"status\":4,\"answer\":\"syntax P1 at 1:7\",\"fault\":\"syntax\",\"rule\":\"P1\",\"line\":1,\"column\":7,\"length\":null,\"words\":\"not due: no file goes on so there\",\"there\":null,\"mend\":null}" \
+says 4 "{\"file\":\"examples/why/p1-name.sj\",\"status\":4,\"answer\":\"syntax P1 at 1:7\",\"fault\":\"syntax\",\"rule\":\"P1\",\"line\":1,\"column\":7,\"length\":null,\"words\":\"not due: no file goes on so there\",\"there\":null,\"mend\":null,\"wanted\":null,\"meant\":null}" \
     ./sj check --json examples/why/p1-name.sj
 says 0 "{\"file\":\"examples/tree.sj\",\"status\":0,\"answer\":\"forest yes\",$plain,\"forest\":\"yes\",\"left\":[]}" \
     ./sj forest --json examples/tree.sj

@@ -20,6 +20,8 @@ cd "$folder" || exit 2
 echo good >good.sj
 echo bad >bad.sj
 echo ring >ring.sj
+echo slip >slip.sj
+echo turns >turns.sj
 echo opens >opens.sj
 echo blocks >blocks.sj
 printf 'no newline' >open.sj

@@ -1,4 +1,5 @@
--- What is known of a file that a text stands for answers the text; and what stands behind a lead tells it.
+-- What is known of a file that a text stands for is an answer to the text. A text that begins with
+-- an answer's line says it.
 use Rattle.std.proofs.Common.{◌≡◌, ℕ, Bool, List, ◌++◌, Some, refl, ap, sym, ◌∙◌}
 use Rattle.std.specs.Prelude.{length}
 use Rattle.sj_lang.specs.FileAt.{FileAt}

@@ -1,4 +1,4 @@
--- What is answered to the text of a file: what `sj check` answers, and more behind it.
+-- What is answered to the text of a file: what `sj check` answers, and more after it.
 use Rattle.std.specs.Prelude.{◌≡◌, ℕ, Bool, true, List, [], ◌∷◌, ◌++◌, Some, codes, decimal, length}
 use Rattle.sj_lang.specs.FileAt.{FileAt}
 use Rattle.sj_lang.specs.Limits.{limits}
@@ -56,12 +56,12 @@ answer_line (Check rule line) = line_of (codes "check" ∷ (codes "C" ++ decimal
 answer_line (Accepted parties sessions) =
     line_of (codes "accepted" ∷ codes "parties" ∷ decimal parties ∷ codes "sessions" ∷ decimal sessions ∷ [])
 
--- with what a text begins that tells it; of an accepted file it may be a picture instead
+-- the beginning of a text that says it; of an accepted file it may be a picture instead
 abbrev pub lead_of : CheckAnswer → Bool → List ℕ
 lead_of (Accepted parties sessions) true = codes "<svg "
 lead_of answer drawn = answer_line answer
 
--- the text tells the answer, and then more
+-- the text says the answer, and then more
 pub record TellsIt (answer : CheckAnswer) (drawn : Bool) (text : List ℕ) : Type 0 where
   pub more : List ℕ
   pub is : text ≡ lead_of answer drawn ++ more

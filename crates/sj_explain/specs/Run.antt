@@ -39,7 +39,7 @@ pub record AnswersUsage (c : CallAt) (status : ℕ) (text : List ℕ) : Type 0 w
   pub status_is : status ≡ usage_status
   pub text_is : text ≡ codes "usage: sjwhy [--svg] [--colour]\n"
 
--- the bytes are all that was left, no fault was counted, and what reading and checking them come to is told
+-- the bytes are all that was left, no fault was counted, and the text says what they come to
 pub record AnswersBytes (c : CallAt) (status : ℕ) (text : List ℕ) : Type 0 where
   pub known : are_known c.words ≡ true
   pub bytes : List ℕ
@@ -72,13 +72,13 @@ pub record AnswersTooLarge (c : CallAt) (status : ℕ) (text : List ℕ) : Type 
 abbrev pub IsAnswered : CallAt → ℕ → List ℕ → Type 0
 IsAnswered c status text = AnswersUsage c status text ⊎ (AnswersBytes c status text ⊎ (AnswersFault c status text ⊎ AnswersTooLarge c status text))
 
--- a text that is due stands behind what was written before
+-- a text that is due stands after what was written before
 pub record AnswersOne (c : CallAt) (status : ℕ) (before after : Option (List ℕ)) : Type 0 where
   pub text : List ℕ
   pub comes : IsAnswered c status text
   pub written : after ≡ put_behind before text
 
--- a front of a text that is due stands there
+-- a prefix of a text that is due stands there
 pub record WroteFront (c : CallAt) (before after : Option (List ℕ)) : Type 0 where
   pub status : ℕ
   pub text : List ℕ

@@ -1,4 +1,4 @@
--- The words behind the program's name.
+-- The words after the program's name.
 use Rattle.std.specs.Prelude.{ℕ, Bool, ◌||◌, List, codes, bytes_eq}
 use Rattle.std.specs.List.{list_all, list_any}
 

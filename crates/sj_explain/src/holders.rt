@@ -32,7 +32,8 @@ fn ends_of(sess: u32) -> [EndId; 2] {
     [EndId { sess, side: 0 }, EndId { sess, side: 1 }]
 }
 
-/// How often the end was sent, and how often it was taken, by that party; and an end over which it is on its way.
+/// How often that party sent the end, and how often it took it; and an end over which it is on its
+/// way.
 #[derive(Clone, Copy)]
 struct Moves {
     sent: usize,
@@ -143,7 +144,8 @@ pub(crate) fn holder(file: &File, plain: &Plain, end: EndId) -> Option<u16> {
     None
 }
 
-/// The name that the end has from its connection or its opening, where its first holder has it still.
+/// The name that the end has from its connection or its opening, where its first holder has it
+/// still.
 pub(crate) fn name_of(file: &File, plain: &Plain, end: EndId) -> Option<u16> {
     if has_moved(plain, end) {
         return None;

@@ -38,15 +38,15 @@ fn first_way(rule: u8) -> Piece<'static> {
     if rule == TURN_DIFFERS {
         Said(b" before the loop")
     } else {
-        Said(b" behind the first block")
+        Said(b" after the first block")
     }
 }
 
 fn other_way(rule: u8) -> Piece<'static> {
     if rule == TURN_DIFFERS {
-        Said(b" behind a turn")
+        Said(b" after a turn")
     } else {
-        Said(b" behind a later one")
+        Said(b" after a later one")
     }
 }
 

@@ -2,15 +2,20 @@
 #![tactic(auto)]
 
 mod answers;
+mod bounds;
 mod connections;
 mod context;
+mod counts;
+mod edits;
 mod env;
 mod expressions;
 mod faults;
+mod hints;
 mod holders;
 mod joins;
 mod marks;
 mod names;
+mod near;
 mod openings;
 mod picture;
 mod pieces;
@@ -21,8 +26,10 @@ mod rules;
 mod run;
 mod scalars;
 mod statements;
+mod syntax;
 mod waits;
 mod walk;
+mod warnings;
 mod words;
 
 pub use answers::{CheckAnswer, Looks};

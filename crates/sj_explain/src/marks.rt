@@ -139,6 +139,54 @@ impl<'a> Scanned<'a> {
         None
     }
 
+    /// The number of the token that begins at that line and column, or that of the end.
+    pub fn index_at(&self, line: u32, column: u32) -> usize {
+        for (i, token) in self.tokens.iter().enumerate() {
+            if token.line == line && token.column == column {
+                return i;
+            }
+        }
+        self.tokens.len()
+    }
+
+    /// The bytes of the token of that number; none after the last.
+    pub fn spelled(&self, n: usize) -> &[u8] {
+        match self.tokens.get(n) {
+            Some(token) => self.spelling(*token),
+            None => b"",
+        }
+    }
+
+    /// The bytes of the text before the token of that number; all of them before the end.
+    pub fn front(&self, n: usize) -> &[u8] {
+        match self.tokens.get(n) {
+            Some(token) => match self.source.get(..token.from) {
+                Some(front) => front,
+                None => b"",
+            },
+            None => self.source,
+        }
+    }
+
+    /// The bytes of the text from that line and column on.
+    pub fn rest_at(&self, line: u32, column: u32) -> &[u8] {
+        let mut at = (1u32, 1u32);
+        for (i, b) in self.source.iter().enumerate() {
+            if at == (line, column) {
+                return match self.source.get(i..) {
+                    Some(rest) => rest,
+                    None => b"",
+                };
+            }
+            at = if *b == b'\n' {
+                (at.0.saturating_add(1), 1)
+            } else {
+                (at.0, at.1.saturating_add(1))
+            };
+        }
+        b""
+    }
+
     /// The token that begins at that line and column, or one byte there.
     pub fn at(&self, line: u32, column: u32) -> Stretch {
         for (i, token) in self.tokens.iter().enumerate() {

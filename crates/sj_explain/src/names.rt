@@ -1,4 +1,5 @@
-//! Names in statements: that one is free, that a variable keeps its kind, and which protocols and parties there are.
+//! Names in statements: that one is free, that a variable keeps its kind, and which protocols and
+//! parties there are.
 
 use crate::context::{Context, Site, Stop, stop_with};
 use crate::env::Env;

@@ -8,7 +8,8 @@ use sj_proto::put_word;
 use sj_text::{put, put_number};
 use std::alloc::Global;
 
-/// Sizes in a picture's own unit: to the first line, from each line to the next, and from each arrow to the next.
+/// Sizes in a picture's own unit: to the first line, from each line to the next, and from each
+/// arrow to the next.
 const LEFT: u64 = 80;
 
 const GAP: u64 = 160;
@@ -22,7 +23,7 @@ const STYLE: &[u8] =
     <defs><marker id='tip' viewBox='0 0 8 8' refX='8' refY='4' markerWidth='8' markerHeight='8' orient='auto'>\
     <path d='M 0 0 L 8 4 L 0 8 z' style='fill:#b33'/></marker></defs>\n";
 
-/// What stands after `<svg `. Names have letters, digits and `_` alone, and so no sign of the format.
+/// What stands after `<svg `. Names have letters, digits and `_` alone, so no sign of the format.
 pub(crate) fn put_picture(
     alloc: Global,
     text: &mut Vec<u8>,

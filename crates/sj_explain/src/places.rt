@@ -12,7 +12,8 @@ pub(crate) fn copied_rest(alloc: Global, place: &Proto) -> Result<Proto, NoMemor
     }
 }
 
-/// A turn of the loop that stands first, and then the place itself; the place itself where none does.
+/// A turn of the loop that stands first, and then the place itself; the place itself where none
+/// does.
 pub(crate) fn copied_turn(alloc: Global, place: &Proto) -> Result<Proto, NoMemory> {
     match place.items.first() {
         Some(Item::OutLoop(body)) | Some(Item::InLoop(body)) => {

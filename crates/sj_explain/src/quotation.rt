@@ -5,7 +5,7 @@ use sj_base::NoMemory;
 use sj_text::{put, put_number};
 use std::alloc::Global;
 
-/// The most bytes of a line that are shown, and how many of them stand before the words in question.
+/// The most bytes of a line that are shown, and how many stand before the words in question.
 const WIDTH: usize = 120;
 
 const BEFORE: usize = 60;

@@ -15,7 +15,9 @@ use crate::marks::{Scanned, Stretch};
 use crate::picture::put_picture;
 use crate::quotation::put_quoted;
 use crate::rules::{Lesson, check_lesson, syntax_lesson};
+use crate::syntax::put_syntax;
 use crate::waits::put_ending;
+use crate::warnings::put_warnings;
 use sj_base::NoMemory;
 use sj_check::{Accepted, CheckRefusal, check};
 use sj_lang::File;
@@ -30,7 +32,8 @@ use std::alloc::Global;
 pub struct Told {
     /// What reading and checking come to.
     pub answer: CheckAnswer,
-    /// The line that `sj check` prints, and after it the reasons; or a picture, where one is asked for.
+    /// The line that `sj check` prints, and after it the reasons. It is a picture instead where one
+    /// is asked for.
     pub text: Vec<u8>,
 }
 
@@ -89,6 +92,7 @@ fn tell_accepted(
     }
     put_connections(alloc, &mut more, file)?;
     put_ending(alloc, &mut more, file, &plain)?;
+    put_warnings(alloc, &mut more, file)?;
     tell_with_reasons(alloc, looks, source, counts(file), &more)
 }
 
@@ -139,7 +143,8 @@ fn tell_with_picture(
     Ok(Told { answer, text })
 }
 
-// A rule in words, the place where it is broken, what was known there, and how that is mended.
+// A rule in words, the place where it is broken, lines on what was known there, and how that is
+// mended.
 fn put_reasons(
     alloc: Global,
     text: &mut Vec<u8>,
@@ -157,13 +162,19 @@ fn put_reasons(
         put_quoted(alloc, text, source, looks.coloured, first, other)?;
     }
     put(text, b"\n")?;
-    if !knew.is_empty() {
-        put(text, b"there: ")?;
-        put(text, knew)?;
-        put(text, b"\n")?;
-    }
+    put(text, knew)?;
     put(text, b"mend: ")?;
     put(text, lesson.mends)?;
+    put(text, b"\n")
+}
+
+// The line of what was known, where something was.
+fn put_there(text: &mut Vec<u8>, knew: &[u8]) -> Result<(), NoMemory> {
+    if knew.is_empty() {
+        return Ok(());
+    }
+    put(text, b"there: ")?;
+    put(text, knew)?;
     put(text, b"\n")
 }
 
@@ -179,6 +190,8 @@ fn syntax_reasons(
     let stretch = scanned.at(fault.line, fault.column);
     let lesson = syntax_lesson(fault.rule);
     let mut text = Vec::new(alloc);
+    let mut knew = Vec::new(alloc);
+    put_syntax(alloc, &mut knew, &scanned, fault)?;
     put_reasons(
         alloc,
         &mut text,
@@ -186,12 +199,13 @@ fn syntax_reasons(
         source,
         lesson,
         Some((stretch, None)),
-        b"",
+        &knew,
     )?;
     Ok(text)
 }
 
-// The details are those of this crate's own walk, and are left out where it comes to another fault than the checker.
+// The details are those of this crate's own walk. They are left out where it comes to another fault
+// than the checker.
 fn check_reasons(
     alloc: Global,
     looks: Looks,
@@ -216,15 +230,9 @@ fn check_reasons(
                 Some(first) => Some((first, other)),
                 None => None,
             };
-            put_reasons(
-                alloc,
-                &mut text,
-                looks,
-                source,
-                lesson,
-                marked,
-                &finding.knew,
-            )?;
+            let mut knew = Vec::new(alloc);
+            put_there(&mut knew, &finding.knew)?;
+            put_reasons(alloc, &mut text, looks, source, lesson, marked, &knew)?;
         }
         _ => put_reasons(alloc, &mut text, looks, source, lesson, None, b"")?,
     }

@@ -73,7 +73,7 @@ fn using_lesson(rule: u8) -> Lesson {
             name: b"arms differ",
             says: b"the arms leave different live ends, or places",
             mends: b"let all arms close, delegate and move the same ends; what they have in common may \
-                stand behind them",
+                stand after them",
         },
         10 => Lesson {
             name: b"turn differs",
@@ -93,7 +93,7 @@ fn leaving_lesson(rule: u8) -> Lesson {
     match rule {
         12 => Lesson {
             name: b"left open",
-            says: b"an end is live behind the party's body",
+            says: b"an end is live after the party's body",
             mends: b"close each end, or delegate it",
         },
         13 => Lesson {
@@ -120,7 +120,7 @@ pub(crate) fn syntax_lesson(rule: Rule) -> Lesson {
         Rule::P1 => Lesson {
             name: b"not due",
             says: b"no file goes on so there",
-            mends: b"put there what the grammar wants behind what stands before",
+            mends: b"put there what the grammar wants after what stands before",
         },
         Rule::P2 => Lesson {
             name: b"no token",

@@ -27,8 +27,8 @@ struct Reply {
 
 /// Reads a file, and says what comes of it and why; the status is that of `sj check`.
 ///
-/// The words are those after the program's name: `--svg` and `--colour`, in any order, or none. The text is
-/// built whole before any of it is written.
+/// The words are those after the program's name: `--svg` and `--colour`, in any order, or none. The
+/// text is built whole before any of it is written.
 pub fn explain<S: Source, K: Sink>(alloc: Global, words: &[String], src: &mut S, out: &mut K) -> u8
     ensures answer { OrYields result (AnswersOne (record {
       words = map string_bytes words.now;

@@ -2,4 +2,14 @@
 #![tactic(auto)]
 
 #[cfg(test)]
+mod expression_slips;
+#[cfg(test)]
+mod file_slips;
+#[cfg(test)]
+mod item_slips;
+#[cfg(test)]
 mod reason_tests;
+#[cfg(test)]
+mod slips;
+#[cfg(test)]
+mod statement_slips;

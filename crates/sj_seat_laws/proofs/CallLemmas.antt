@@ -68,6 +68,11 @@ pub record CarriesOut (q own : Place) : Type 0 where
   pub stands : StandsFor own kind
   pub full : kind ≢ done
 
+-- nothing is ahead
+pub done_by : (q : Place) → is_done q ≡ true → q ≡ done
+done_by done h = refl
+done_by q h = cc
+
 full_by : (p : Place) → is_done p ≡ false → StandsFor p done → ⊥
 full_by done k t = cc
 full_by (message w kind next) k t = t

@@ -1,6 +1,5 @@
--- Acts make no further holder of an end, and an end that is closed is nowhere from its close on.
-use Rattle.std.proofs.Common.{◌≡◌, ℕ, ◌+◌, ◌<◌, ◌≤◌, ◌==◌, nat_lt, Bool, true, false, not, ◌&&◌, cond, List, [], ◌∷◌, ◌++◌, length, slice_get, Option, Some, None, option_map, option_and_then, sum_by, refl, ap, sym, ◌∙◌, subst, arith, inl, inr}
-use Rattle.std.proofs.lemmas.Bool.{eq-eqb, ne_eqb}
+-- A call makes no further holder of an end, and an end that it closes nobody has after it.
+use Rattle.std.proofs.Common.{◌≡◌, ℕ, ◌+◌, ◌≤◌, nat_lt, Bool, true, false, not, ◌&&◌, cond, List, [], ◌∷◌, Option, Some, None, option_map, option_and_then, sum_by, refl, ap, sym, ◌∙◌, subst, arith}
 use Rattle.sj_base.specs.declared.EndId.{EndId}
 use Rattle.sj_base.specs.declared.Msg.{Msg}
 use Rattle.sj_base.specs.declared.Msg.TheVariants as msgs
@@ -9,38 +8,28 @@ use Rattle.sj_lang.specs.declared.proto.Way.TheVariants.{Into, Out}
 use Rattle.sj_lang.specs.FileAt.{FileAt}
 use Rattle.sj_lang.specs.ItemCount.{is_done}
 use Rattle.sj_lang.specs.Place.{Place}
-use Rattle.sj_acceptance.specs.Accepted.{IsAccepted}
 use Rattle.sj_semantics.specs.declared.Passed.{Passed}
 use Rattle.sj_semantics.specs.declared.Want.{Want as Step}
-use Rattle.sj_semantics.specs.declared.Want.TheVariants as steps
 use Rattle.sj_semantics.specs.Ends.{Session, end_at, next_for}
 use Rattle.sj_semantics.specs.Program.{Program}
 use Rattle.sj_semantics.specs.Uses.{after_uses, delegates, place_behind, sends, takes}
 use Rattle.sj_semantics.specs.Wants.{want_of}
-use Rattle.sj_semantics.specs.World.{World, act_of, begun_by, session_message}
-use Rattle.sj_semantics_laws.specs.Unshared.{IsToCome, bindings_of, carried_in, claims_on, names_end}
-use Rattle.sj_semantics_laws.proofs.BoundLemmas.{is_end-self, want_bound}
+use Rattle.sj_semantics.specs.World.{World, begun_by, session_message}
+use Rattle.sj_semantics_laws.specs.Unshared.{carried_in, claims_on, names_end}
+use Rattle.sj_semantics_laws.proofs.BoundLemmas.{is_end-self}
 use Rattle.sj_semantics_laws.proofs.ClaimLemmas.{carried-begins, carried-hands_on, carried-sends, carried-takes, one_if}
 use Rattle.sj_semantics_laws.proofs.EndLemmas.{touched}
-use Rattle.sj_semantics_laws.proofs.HolderLemmas.{closed_nowhere}
-use Rattle.sj_semantics_laws.proofs.KeepLemmas.{claims_on-act, come_before}
-use Rattle.sj_headline_laws.specs.Headline.{next_step}
 use Rattle.sj_headline_laws.proofs.TouchedLemmas.{side}
-use Rattle.sj_headline_laws.proofs.UnnamedLemmas.{bound_claims}
 use Rattle.sj_rules.specs.Node as wanted
 use Rattle.sj_rules.specs.Node.{Want}
 use Rattle.sj_rules.specs.Record.{is_same_end}
 use Rattle.sj_seat_laws.specs.Calls as calls
 use Rattle.sj_seat_laws.specs.Calls.{Call, Ends, moved, place_held, without_end}
 use Rattle.sj_seat_laws.specs.Guards.{called_by, carried_next, ends_taken, may_carry, may_send, may_take, seated_want, want_of_calls, want_of_close, want_of_delegate, want_of_send, want_of_take, where_allowed, with_carried}
-use Rattle.sj_seat_laws.specs.SeatedHeadline.{Closes, ClosesForGood, FromEachActOn, IsNowhere}
-use Rattle.sj_seat_laws.specs.SeatedStart.{seated_start}
-use Rattle.sj_seat_laws.specs.SeatedWorld.{Doing, SeatedWorld, after_doing, after_seated, beside, doing_by, doing_of, seated_act, world_after}
+use Rattle.sj_seat_laws.specs.SeatedWorld.{Doing, SeatedWorld, after_doing, doing_by, doing_of, world_after}
 use Rattle.sj_seat_laws.proofs.CallLemmas.{names_nothing, sends_on}
-use Rattle.sj_seat_laws.proofs.GuardLemmas.{come_same}
 use Rattle.sj_seat_laws.proofs.HeldLemmas.{held_by_place, holds, holds-moved, holds-push, holds-without, holds-without_le, place-moved}
-use Rattle.sj_seat_laws.proofs.RunLemmas.{between, seated_run}
-use Rattle.sj_seat_laws.proofs.SeatedLemmas.{IsSeated, act_keeps}
+use Rattle.sj_seat_laws.proofs.SeatedLemmas.{IsSeat}
 
 -- in how many ways an end is had or on its way
 abbrev pub total : EndId → SeatedWorld → ℕ
@@ -144,44 +133,9 @@ module _ (p : ℕ) (t : SeatedWorld) (f : EndId) where
   calls_fewer (calls.takes e ∷ cs) d h = take_fewer e cs d (place_held bs e) refl h
   calls_fewer (calls.closes e ∷ cs) d h = close_fewer e cs d (place_held bs e) h
 
-  worn_fewer : (b : Bool) (d : Doing) → cond b None (doing_by p w (want_of_calls bs t.seat.calls)) ≡ Some d → Fewer t.seat.calls d
+  pub worn_fewer : (b : Bool) (d : Doing) → cond b None (doing_by p w (want_of_calls bs t.seat.calls)) ≡ Some d → Fewer t.seat.calls d
   worn_fewer true d h = absurd (cc h)
   worn_fewer false d h = calls_fewer t.seat.calls d h
-
--- an act makes no further holder of an end that isn't to come, and none comes
-pub record Keeps (e : EndId) (t v : SeatedWorld) : Type 0 where
-  pub fewer : total e v ≤ total e t
-  pub come : IsToCome v.world e → IsToCome t.world e
-
-act_total : (file : FileAt) (p n : ℕ) (t v : SeatedWorld) (q : ℕ) (e : EndId) → IsSeated file p n t → (IsToCome t.world e → ⊥) → seated_act p t q ≡ Some v → Keeps e t v
-act_total file p n t v q e s here h = by (q == p) h
-  where
-    own : (o : Option Doing) → doing_of p t ≡ o → option_map (after_doing p t) o ≡ Some v → Keeps e t v
-    own None is k = absurd (cc k)
-    own (Some d) is k =
-        subst (Keeps e t) (let it : after_doing p t d ≡ v = cc in it)
-        (record { fewer = omega (arith, worn_fewer p t e (not (nat_lt t.seat.steps 10000)) d is); come = λ c. come_same t.world (after_uses p d.uses t.world.sessions) e c })
-
-    others : (o : Option World) → act_of t.world q ≡ o → option_map (beside t.seat) o ≡ Some v → Keeps e t v
-    others None is k = absurd (cc k)
-    others (Some u) is k =
-        subst (Keeps e t) (let it : beside t.seat u ≡ v = cc in it)
-        (record { fewer = omega (arith, claims_on-act t.world u q e here is); come = λ c. come_before t.world u q e s.guarded.sound.unshared is c })
-
-    by : (b : Bool) → cond b (option_map (after_doing p t) (doing_of p t)) (option_map (beside t.seat) (act_of t.world q)) ≡ Some v → Keeps e t v
-    by true k = own (doing_of p t) refl k
-    by false k = others (act_of t.world q) refl k
-
-run_total : (file : FileAt) (p n : ℕ) (t u : SeatedWorld) (qs : List ℕ) (e : EndId) → IsSeated file p n t → (IsToCome t.world e → ⊥) → after_seated p t qs ≡ Some u → total e u ≤ total e t
-run_total file p n t u [] e s here run = let it : t ≡ u = cc in subst (λ (x : SeatedWorld). total e x ≤ total e t) it (omega arith)
-run_total file p n t u (q ∷ qs) e s here run =
-    let m = between p t u q qs run in
-    let k = act_total file p n t m.world q e s here m.before in
-    omega (arith, k.fewer, run_total file p (n + 1) m.world u qs e (act_keeps file p n t m.world q s m.before) (λ c. here (k.come c)) m.afterwards)
-
-nowhere_by : (p : ℕ) (u : SeatedWorld) (e : EndId) → total e u ≡ 0 → IsNowhere p u e
-nowhere_by p u e none q (inl b) = absurd (omega (arith, none, bound_claims u.world q b.0 e b.1 b.2))
-nowhere_by p u e none q (inr h) = absurd (omega (arith, none, held_by_place u.seat.ends e h.1.0 h.1.1))
 
 -- ---- a close
 
@@ -196,7 +150,7 @@ no_close : (b : Bool) (x : Want Place) (e : EndId) → (x ≡ wanted.closes e �
 no_close true x e other h = other h
 no_close false x e other h = absurd (cc h)
 
-closes_by : (t : SeatedWorld) (e : EndId) (cs : List Call) → t.seat.calls ≡ cs → want_of_calls t.seat.ends cs ≡ wanted.closes e → ClosesBy t e
+pub closes_by : (t : SeatedWorld) (e : EndId) (cs : List Call) → t.seat.calls ≡ cs → want_of_calls t.seat.ends cs ≡ wanted.closes e → ClosesBy t e
 closes_by t e [] is h = absurd (cc h)
 closes_by t e (calls.sends f m ∷ cs) is h = by (place_held t.seat.ends f) h
   where
@@ -227,66 +181,20 @@ closes_by t e (calls.closes f ∷ cs) is h = by (place_held t.seat.ends f) refl 
             record { later = cs; calls = is ∙ ap (λ (x : EndId). calls.closes x ∷ cs) it; place = q; there = ap (place_held t.seat.ends) (sym it) ∙ there }
 
 -- after it the end is had by nobody
-own_closed : (file : FileAt) (p n : ℕ) (t v : SeatedWorld) (e : EndId) → IsSeated file p n t → seated_want t.seat ≡ wanted.closes e → seated_act p t p ≡ Some v → (total e v ≡ 0) × (IsToCome v.world e → ⊥)
-own_closed file p n t v e s want h =
+pub own_closed : (file : FileAt) (p : ℕ) (t : SeatedWorld) (d : Doing) (e : EndId) → IsSeat file p t → seated_want t.seat ≡ wanted.closes e → doing_of p t ≡ Some d → total e (after_doing p t d) ≡ 0
+own_closed file p t d e s want h =
     let c = closes_by t e t.seat.calls refl want in
     let held = held_by_place t.seat.ends e c.place c.there in
-    let not_here : IsToCome t.world e → ⊥ = λ come. absurd (omega (arith, s.guarded.apart e come, held)) in
-    let k = act_total file p n t v p e s not_here h in
-    (by c held (doing_of p t) refl (sym (ap (λ (b : Bool). cond b (option_map (after_doing p t) (doing_of p t)) (option_map (beside t.seat) (act_of t.world p))) (eq-eqb p p refl)) ∙ h), λ come. not_here (k.come come))
+    let made : record { taken = None; uses = [] } ≡ d = closed (not (nat_lt t.seat.steps 10000)) h in
+    let gone : total e (record { world = world_after p [] t.world; seat = called_by t.seat (calls.closes e ∷ c.later) None }) ≡ 0 =
+    omega (arith, s.guarded.once e, held, holds-without e t.seat.ends e c.place c.there, ap {B = ℕ} one_if (is_end-self e)) in
+    subst (λ (y : Doing). total e (after_doing p t y) ≡ 0) made
+    (subst (λ (cs : List Call). total e (record { world = world_after p [] t.world; seat = called_by t.seat cs None }) ≡ 0) (sym c.calls) gone)
   where
-    closed : (d : Doing) (b : Bool) → cond b None (doing_by p t.world (seated_want t.seat)) ≡ Some d → record { taken = None; uses = [] } ≡ d
-    closed d true k = absurd (cc k)
-    closed d false k = let made : Some (record { taken = None; uses = [] }) ≡ Some d = sym (ap (doing_by p t.world) want) ∙ k in cc
-
-    by : (c : ClosesBy t e) → 1 ≤ holds e t.seat.ends → (o : Option Doing) → doing_of p t ≡ o → option_map (after_doing p t) o ≡ Some v → total e v ≡ 0
-    by c held None is k = absurd (cc k)
-    by c held (Some d) is k =
-        let it : after_doing p t d ≡ v = cc in
-        let made : record { taken = None; uses = [] } ≡ d = closed d (not (nat_lt t.seat.steps 10000)) is in
-        let gone : total e (record { world = world_after p [] t.world; seat = called_by t.seat (calls.closes e ∷ c.later) None }) ≡ 0 =
-        omega (arith, s.guarded.once e, held, holds-without e t.seat.ends e c.place c.there, ap {B = ℕ} one_if (is_end-self e)) in
-        subst (λ (x : SeatedWorld). total e x ≡ 0) it
-        (subst (λ (y : Doing). total e (after_doing p t y) ≡ 0) made
-        (subst (λ (cs : List Call). total e (record { world = world_after p [] t.world; seat = called_by t.seat cs None }) ≡ 0) (sym c.calls) gone))
+    closed : (b : Bool) → cond b None (doing_by p t.world (seated_want t.seat)) ≡ Some d → record { taken = None; uses = [] } ≡ d
+    closed true k = absurd (cc k)
+    closed false k = let made : Some (record { taken = None; uses = [] }) ≡ Some d = sym (ap (doing_by p t.world) want) ∙ k in cc
 
 pub step_there : (o : Option Program) (want : Step) → option_and_then want_of o ≡ Some want → (g : Program) × (o ≡ Some g) × (want_of g ≡ Some want)
 step_there None want h = absurd (cc h)
 step_there (Some g) want h = (g, refl, h)
-
-other_closed : (file : FileAt) (p n : ℕ) (t v : SeatedWorld) (q : ℕ) (e : EndId) → IsSeated file p n t → (q ≡ p → ⊥) → next_step t.world q ≡ Some (steps.Close e) → seated_act p t q ≡ Some v → (total e v ≡ 0) × (IsToCome v.world e → ⊥)
-other_closed file p n t v q e s other step h =
-    let g = step_there (slice_get t.world.parties q) (steps.Close e) step in
-    let bound = bound_claims t.world q g.0 e g.1 (want_bound g.0 (steps.Close e) g.2) in
-    let not_here : IsToCome t.world e → ⊥ = λ come. absurd (omega (arith, s.guarded.sound.unshared.to_come e come, bound)) in
-    let k = act_total file p n t v q e s not_here h in
-    (by g bound (act_of t.world q) refl (sym (ap (λ (b : Bool). cond b (option_map (after_doing p t) (doing_of p t)) (option_map (beside t.seat) (act_of t.world q))) (ne_eqb q p other)) ∙ h), λ come. not_here (k.come come))
-  where
-    by : (g : (g : Program) × (slice_get t.world.parties q ≡ Some g) × (want_of g ≡ Some (steps.Close e))) → 1 ≤ sum_by (λ (k : Program). bindings_of e k.ends) t.world.parties
-        → (o : Option World) → act_of t.world q ≡ o → option_map (beside t.seat) o ≡ Some v → total e v ≡ 0
-    by g bound None is k = absurd (cc k)
-    by g bound (Some u) is k =
-        let it : beside t.seat u ≡ v = cc in
-        subst (λ (x : SeatedWorld). total e x ≡ 0) it (omega (arith, s.guarded.once e, bound, closed_nowhere t.world u q g.0 e s.guarded.sound.unshared g.1 g.2 is))
-
--- ---- from the close on
-
--- the acts after the first ones
-pub rest_of : (p : ℕ) (s t u : SeatedWorld) (front qs : List ℕ) → after_seated p s front ≡ Some t → after_seated p s (front ++ qs) ≡ Some u → after_seated p t qs ≡ Some u
-rest_of p s t u [] qs run all = let it : s ≡ t = cc in subst (λ (x : SeatedWorld). after_seated p x qs ≡ Some u) it all
-rest_of p s t u (q ∷ front) qs run all =
-    let m = between p s t q front run in
-    let k = between p s u q (front ++ qs) all in
-    let same : k.world ≡ m.world = (let both : Some k.world ≡ Some m.world = sym k.before ∙ m.before in cc) in
-    rest_of p m.world t u front qs m.afterwards (subst (λ (x : SeatedWorld). after_seated p x (front ++ qs) ≡ Some u) same k.afterwards)
-
-pub gone_once_closed : (file : FileAt) (p : ℕ) (calls : List Call) (acts : List ℕ) → IsAccepted file → p < length file.parties → FromEachActOn file p calls acts (ClosesForGood p)
-gone_once_closed file p made acts accepted there front between' rest q t u parted run all e closes =
-    let s = seated_run file p made accepted there front t run in
-    let m = between p t u q between' (rest_of p (seated_start file p made) t u front (q ∷ between') run all) in
-    let c = by s m.world m.before closes in
-    nowhere_by p u e (omega (arith, c.0, run_total file p (length front + 1) m.world u between' e (act_keeps file p (length front) t m.world q s m.before) c.1 m.afterwards))
-  where
-    by : IsSeated file p (length front) t → (v : SeatedWorld) → seated_act p t q ≡ Some v → Closes p t q e → (total e v ≡ 0) × (IsToCome v.world e → ⊥)
-    by s v h (inl own) = own_closed file p (length front) t v e s own.1 (subst (λ (r : ℕ). seated_act p t r ≡ Some v) own.0 h)
-    by s v h (inr other) = other_closed file p (length front) t v q e s other.0 other.1 h

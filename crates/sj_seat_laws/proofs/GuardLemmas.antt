@@ -1,17 +1,15 @@
 -- Worlds that are guarded: the others' programs fit, sessions are balanced, and the ends that the
 -- party holds are claimed by nobody else.
-use Rattle.std.proofs.Common.{◌≡◌, ℕ, zero, suc, ◌+◌, ◌≤◌, List, Some, sum_by, refl, ap, ◌∙◌, arith}
+use Rattle.std.proofs.Common.{◌≡◌, ℕ, zero, suc, ◌+◌, ◌≤◌, List, sum_by, refl, ap, ◌∙◌, arith}
 use Rattle.sj_base.specs.declared.EndId.{EndId}
 use Rattle.sj_lang.specs.FileAt.{FileAt, party_names}
 use Rattle.sj_semantics.specs.Ends.{Session, end_at}
 use Rattle.sj_semantics.specs.Program.{Program}
 use Rattle.sj_semantics.specs.Requests.{opened_number}
-use Rattle.sj_semantics.specs.World.{World, act_of}
+use Rattle.sj_semantics.specs.World.{World}
 use Rattle.sj_semantics_laws.specs.Unshared.{IsToCome, bindings_of, carried_in, claims_on, to_accept, to_open}
 use Rattle.sj_semantics_laws.proofs.BoundLemmas.{named_is_bound}
-use Rattle.sj_semantics_laws.proofs.KeepLemmas.{claims_on-act, come_before}
 use Rattle.sj_headline_laws.proofs.AfterLemmas.{AllPairs}
-use Rattle.sj_headline_laws.proofs.SoundLemmas.{act_keeps_sound}
 use Rattle.sj_headline_laws.proofs.TouchedLemmas.{side}
 use Rattle.sj_headline_laws.proofs.UnnamedLemmas.{bound_claims, todo_kept}
 use Rattle.sj_headline_laws.proofs.WorldLemmas.{Sound}
@@ -27,21 +25,11 @@ pub record Guarded (file : FileAt) (w : World) (bs : Ends) : Type 0 where
   pub once : (e : EndId) → claims_on e w + holds e bs ≤ 1
   pub apart : (e : EndId) → IsToCome w e → holds e bs ≡ 0
 
--- ---- acts of the others
+-- ---- claims, once for each end
 
-once_by : (n a b : ℕ) → (n ≡ 0 → a ≤ 1) → (1 ≤ n → a ≤ b) → b + n ≤ 1 → a + n ≤ 1
+pub once_by : (n a b : ℕ) → (n ≡ 0 → a ≤ 1) → (1 ≤ n → a ≤ b) → b + n ≤ 1 → a + n ≤ 1
 once_by zero a b none some le = omega (arith, none refl)
 once_by (suc n) a b none some le = omega (arith, some (omega arith), le)
-
-pub act_keeps_guarded : (file : FileAt) (w v : World) (bs : Ends) (q : ℕ) → Guarded file w bs → act_of w q ≡ Some v → Guarded file v bs
-act_keeps_guarded file w v bs q g h =
-    let sound = act_keeps_sound file w v q g.sound h in
-    record {
-      sound = sound;
-      once = λ e. once_by (holds e bs) (claims_on e v) (claims_on e w) (λ none. sound.unshared.once e)
-          (λ some. claims_on-act w v q e (λ come. absurd (omega (arith, some, g.apart e come))) h) (g.once e);
-      apart = λ e come. g.apart e (come_before w v q e g.sound.unshared h come);
-    }
 
 -- ---- sessions that serve a world as well as its own: it is sound with them
 

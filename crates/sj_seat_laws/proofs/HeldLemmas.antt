@@ -73,9 +73,34 @@ holds-without f (b ∷ bs) e q h =
           omega (arith, ap (holds f) (keeps_end b bs e miss), holds-cons f b bs, holds-cons f b (without_end bs e), holds-without f bs e q (sym (held_later b bs e miss) ∙ h))
     ]
 
+-- and another one is held as before
+pub holds-without_other : (f : EndId) (bs : Ends) (e : EndId) → is_end f e ≡ false → holds f (without_end bs e) ≡ holds f bs
+holds-without_other f [] e other = refl
+holds-without_other f (b ∷ bs) e other =
+    elim (cases_Bool (is_same_end b.0 e)) [
+      | inl hit ↦
+          let none : one_if (is_end f b.0) ≡ 0 = ap (λ (d : EndId). one_if (is_end f d)) (same_end_is b.0 e hit) ∙ ap {B = ℕ} one_if other in
+          omega (arith, ap (holds f) (drops_end b bs e hit), holds-cons f b bs, none, holds-without_other f bs e other)
+      | inr miss ↦ omega (arith, ap (holds f) (keeps_end b bs e miss), holds-cons f b bs, holds-cons f b (without_end bs e), holds-without_other f bs e other)
+    ]
+
 -- an end with a place is held
 pub held_by_place : (bs : Ends) (e : EndId) (q : Place) → place_held bs e ≡ Some q → 1 ≤ holds e bs
 held_by_place bs e q h = omega (arith, holds-without e bs e q h, ap {B = ℕ} one_if (is_end-self e))
+
+-- and one that is held has a place, by one of its names
+pub place_by_held : (bs : Ends) (e : EndId) → 1 ≤ holds e bs → (f : EndId) × (is_end e f ≡ true) × ((q : Place) × (place_held bs f ≡ Some q))
+place_by_held [] e h = absurd (omega (arith, h))
+place_by_held (b ∷ bs) e h =
+    elim (cases_Bool (is_end e b.0)) [
+      | inl same ↦ (b.0, same, (b.1, held_here b bs b.0 (same_end_self b.0)))
+      | inr other ↦
+          let r = place_by_held bs e (omega (arith, h, holds-cons e b bs, ap {B = ℕ} one_if other)) in
+          elim (cases_Bool (is_same_end b.0 r.0)) [
+            | inl hit ↦ (r.0, r.1, (b.1, held_here b bs r.0 hit))
+            | inr miss ↦ (r.0, r.1, (r.2.0, held_later b bs r.0 miss ∙ r.2.1))
+          ]
+    ]
 
 -- an end that is the same is held as often
 pub holds-same : (e f : EndId) (bs : Ends) → is_end e f ≡ true → holds f bs ≤ holds e bs

@@ -1,9 +1,7 @@
--- Each world of a run in which a party is played by code of its own is lawful, as the lemmas on
--- events ask for.
-use Rattle.std.proofs.Common.{◌≡◌, ◌↔◌, ℕ, ◌+◌, ◌<◌, ◌≤◌, ◌==◌, Bool, true, false, not, ◌&&◌, cond, List, [], ◌∷◌, ◌++◌, length, slice_get, Option, Some, None, option_map, refl, ap, sym, ◌∙◌, subst, arith, inl, inr, ◌⊎◌}
+-- The next step of a party that is played by code of its own fits, as the lemmas on events ask for.
+use Rattle.std.proofs.Common.{◌≡◌, ◌↔◌, ℕ, ◌+◌, ◌<◌, ◌≤◌, Bool, true, false, not, ◌&&◌, cond, List, [], ◌∷◌, ◌++◌, length, Option, Some, None, option_map, refl, ap, sym, ◌∙◌, subst, arith, inl, inr, ◌⊎◌}
 use Rattle.std.specs.Prelude.{is_some}
-use Rattle.std.proofs.lemmas.Bool.{and_parts, both_ways, cases_Bool, eqb-true, false_from_ne_true}
-use Rattle.std.proofs.lemmas.Option.{slice_get_within}
+use Rattle.std.proofs.lemmas.Bool.{and_parts, both_ways, cases_Bool, false_from_ne_true}
 use Rattle.sj_base.specs.declared.EndId.{EndId}
 use Rattle.sj_base.specs.declared.Msg.{Msg}
 use Rattle.sj_base.specs.declared.Msg.TheVariants as msgs
@@ -31,13 +29,12 @@ use Rattle.sj_rules.specs.Node as wanted
 use Rattle.sj_rules.specs.Party.{IsDone, binds, play_of}
 use Rattle.sj_rules.specs.Plain.{plain_at, plain_side}
 use Rattle.sj_rules.specs.PlainSide.{PlainAt, PlainSide}
-use Rattle.sj_rules.specs.Premises.{FitsStep, FitsHead, IsLawful, IsWithinCounts}
+use Rattle.sj_rules.specs.Premises.{FitsStep, FitsHead, IsWithinCounts}
 use Rattle.sj_rules.specs.Record.{is_same_end, other_end}
 use Rattle.sj_rules_laws.proofs.ActLemmas.{waiting_is_next}
-use Rattle.sj_rules_laws.proofs.CountLemmas.{few_steps, sent_by_option}
 use Rattle.sj_rules_laws.proofs.FitsStepLemmas.{goes_on_by, next_at_side, untaken_is}
-use Rattle.sj_rules_laws.proofs.LawfulLemmas.{bound_below, idle_above, keeper_below, offered_comes, other_sent_is, sent_is, steps_are_lawful, unbound_by}
-use Rattle.sj_rules_laws.proofs.ProperLemmas.{Size}
+use Rattle.sj_rules_laws.proofs.LawfulLemmas.{other_sent_is}
+use Rattle.sj_rules_laws.proofs.ProperLemmas.{IsProper, Size}
 use Rattle.sj_rules_laws.proofs.ProperRunLemmas.{size_of}
 use Rattle.sj_rules_laws.proofs.SideLemmas.{other_side_below, same_end_is, same_end_self, side_below}
 use Rattle.sj_seat_laws.specs.Calls as calls
@@ -45,10 +42,10 @@ use Rattle.sj_seat_laws.specs.Calls.{Call, Ends, SeatedAt, moved, place_held, wi
 use Rattle.sj_seat_laws.specs.Guards.{called_by, carried_next, ends_taken, may_carry, may_send, may_take, want_of_calls, want_of_close, want_of_delegate, want_of_send, want_of_take, where_allowed, with_carried}
 use Rattle.sj_seat_laws.specs.SeatedPlay.{Player, player_binds, seated, seated_play, written}
 use Rattle.sj_seat_laws.specs.SeatedStart.{no_program}
-use Rattle.sj_seat_laws.specs.SeatedWorld.{SeatedWorld, seen_at}
-use Rattle.sj_seat_laws.proofs.CallLemmas.{carries_out, sends_on}
+use Rattle.sj_seat_laws.specs.SeatedWorld.{SeatedWorld}
+use Rattle.sj_seat_laws.proofs.CallLemmas.{carries_out, done_by, sends_on}
 use Rattle.sj_seat_laws.proofs.HeldLemmas.{first_of, held_by_place, place-push, place-without, some-moved}
-use Rattle.sj_seat_laws.proofs.SeatedLemmas.{IsSeated}
+use Rattle.sj_seat_laws.proofs.SeatedLemmas.{IsSeat}
 
 -- ---- which ends a party binds after a call
 
@@ -87,10 +84,6 @@ push_binds bs y q f =
     let c = first_also (place_held bs f) (is_same_end f y) q in
     (λ h. c.0 (sym same ∙ h), λ h. same ∙ c.1 h)
 
-done_by : (q : Place) → is_done q ≡ true → q ≡ done
-done_by done h = refl
-done_by q h = cc
-
 not_by : (b : Bool) → not b ≡ true → b ≡ false
 not_by true h = cc
 not_by false h = refl
@@ -105,7 +98,48 @@ taken_lift g h (msgs.Text n) b = b
 taken_lift g h (msgs.Label n) b = b
 taken_lift g h (msgs.More n) b = b
 
-module _ (file : FileAt) (p n : ℕ) (t : SeatedWorld) (s : IsSeated file p n t) where
+-- what fits there fits beside any other parties
+module _ (file : FileAt) (programs : ℕ → Player) where
+  abbrev both : Play Place Player
+  both = seated_play file
+
+  abbrev beside_all : (PlainAt Place Program) → PlainAt Place Player
+  beside_all x = record { programs = programs; sides = x.sides; requests = x.requests; offers = x.offers }
+
+  pub written_fits : (x : PlainAt Place Program) (q : ℕ) (g : Program) (want : Want Place) → FitsStep IsDone (play_of file) binds x q g want → FitsStep IsDone both player_binds (beside_all x) q (written g) want
+  written_fits x q g ended fit = tt
+  written_fits x q g local fit = fit
+  written_fits x q g (wanted.sends e m) fit = record { bound = fit.bound; place = fit.place; after = fit.after; goes_on = fit.goes_on; no_end = fit.no_end; names = fit.names }
+  written_fits x q g (wanted.delegates c e) fit = record { bound = fit.bound; handed = fit.handed; apart = fit.apart; place = fit.place; after = fit.after; goes_on = fit.goes_on; names = fit.names }
+  written_fits x q g (wanted.takes e place) fit = record {
+    bound = fit.bound;
+    head = λ m h. let y = fit.head m h in record { fits = y.fits; place = y.place; after = y.after; names = taken_lift g ((play_of file).goes g (Some m)) m y.names; other = y.other };
+  }
+  written_fits x q g (wanted.closes e) fit = record { bound = fit.bound; over = fit.over; is_over = fit.is_over; nothing_waits = fit.nothing_waits; names = fit.names }
+  written_fits x q g (requests place to) fit = fit
+  written_fits x q g (accepts place from) fit = fit
+
+-- what was taken was sent, and handovers and messages are few
+pub counts_by : (file : FileAt) (w : World) → Sound file w → IsProper (size_of file) w → ((e : EndId) → (end_at w.sessions e).hops ≤ 100) → ((e : EndId) → e.side < 2 → length ((plain_at w).sides e).sent ≤ 170000)
+    → (e : EndId) → e.side < 2 → IsWithinCounts ((plain_at w).sides e) ((plain_at w).sides (other_end e))
+counts_by file w sound proper hops few e lt = record {
+  fewer = omega (
+    arith,
+    ap (λ (x : PlainSide Place). x.taken) (side_below w.requests w.sessions e lt),
+    other_sent_is file (size_of file) w sound proper e,
+    (pair_of w.sessions w.sessions e sound.pairs).one_taken,
+  );
+  hops = omega (
+    arith,
+    ap (λ (x : PlainSide Place). x.hops) (side_below w.requests w.sessions e lt),
+    ap (λ (x : PlainSide Place). x.hops) (side_below w.requests w.sessions (other_end e) (other_side_below e)),
+    hops e,
+    hops (other_end e),
+  );
+  messages = omega (arith, few e lt);
+}
+
+module _ (file : FileAt) (p : ℕ) (t : SeatedWorld) (s : IsSeat file p t) (programs : ℕ → Player) where
   abbrev w : World
   w = t.world
 
@@ -119,26 +153,13 @@ module _ (file : FileAt) (p n : ℕ) (t : SeatedWorld) (s : IsSeated file p n t)
   play = seated_play file
 
   abbrev plain : PlainAt Place Player
-  plain = seen_at p t
+  plain = record { programs = programs; sides = (plain_at w).sides; requests = (plain_at w).requests; offers = (plain_at w).offers }
 
   abbrev z : Size
   z = size_of file
 
   sound : Sound file w
   sound = s.guarded.sound
-
-  written_fits : (q : ℕ) (g : Program) (want : Want Place) → FitsStep IsDone (play_of file) binds (plain_at w) q g want → FitsStep IsDone play player_binds plain q (written g) want
-  written_fits q g ended fit = tt
-  written_fits q g local fit = fit
-  written_fits q g (wanted.sends e m) fit = record { bound = fit.bound; place = fit.place; after = fit.after; goes_on = fit.goes_on; no_end = fit.no_end; names = fit.names }
-  written_fits q g (wanted.delegates c e) fit = record { bound = fit.bound; handed = fit.handed; apart = fit.apart; place = fit.place; after = fit.after; goes_on = fit.goes_on; names = fit.names }
-  written_fits q g (wanted.takes e place) fit = record {
-    bound = fit.bound;
-    head = λ m h. let x = fit.head m h in record { fits = x.fits; place = x.place; after = x.after; names = taken_lift g ((play_of file).goes g (Some m)) m x.names; other = x.other };
-  }
-  written_fits q g (wanted.closes e) fit = record { bound = fit.bound; over = fit.over; is_over = fit.is_over; nothing_waits = fit.nothing_waits; names = fit.names }
-  written_fits q g (requests place to) fit = fit
-  written_fits q g (accepts place from) fit = fit
 
   -- ---- the party that is played by code of its own
 
@@ -276,85 +297,9 @@ module _ (file : FileAt) (p n : ℕ) (t : SeatedWorld) (s : IsSeated file p n t)
         by true can = close_fits e cs r making there can
         by false can = tt
 
-    seat_fits : (cs : List Call) → t.seat.calls ≡ cs → SeatFits (want_of_calls bs cs)
+    pub seat_fits : (cs : List Call) → t.seat.calls ≡ cs → SeatFits (want_of_calls bs cs)
     seat_fits [] h = tt
     seat_fits (calls.sends e m ∷ cs) h = by_send e m cs h (place_held bs e) refl
     seat_fits (calls.delegates c e ∷ cs) h = by_delegate c e cs h (place_held bs c) (place_held bs e) refl refl
     seat_fits (calls.takes e ∷ cs) h = by_take e cs h (place_held bs e) refl
     seat_fits (calls.closes e ∷ cs) h = by_close e cs h (place_held bs e) refl
-
-  -- ---- whoever it is
-
-  steps_fit : (q : ℕ) (b : Bool) → FitsStep IsDone play player_binds plain q (cond b (seated t.seat) (written ((plain_at w).programs q))) (play.wants (cond b (seated t.seat) (written ((plain_at w).programs q))))
-  steps_fit q true = seat_fits q t.seat.calls refl
-  steps_fit q false = written_fits q ((plain_at w).programs q) ((play_of file).wants ((plain_at w).programs q)) (steps_are_lawful file z w sound s.proper q)
-
-  below : p < length file.parties
-  below = omega (arith, slice_get_within w.parties p (no_program file) s.idle, s.proper.many)
-
-  some_place : (o : Option Place) → is_some o ≡ true → (r : Place) × (o ≡ Some r)
-  some_place None h = cc
-  some_place (Some r) h = (r, refl)
-
-  bound_is_proper : (q : ℕ) (e : EndId) (b : Bool) → (q == p) ≡ b → player_binds (cond b (seated t.seat) (written ((plain_at w).programs q))) e ≡ true → (e.side < 2) × (q < length file.parties)
-  bound_is_proper q e true is h = let k = some_place (place_held bs e) h in ((s.known e k.0 k.1).0, omega (arith, eqb-true q p is, below))
-  bound_is_proper q e false is h = bound_below file z w sound s.proper q (slice_get w.parties q) refl e h
-
-  offered_unbound : (q : ℕ) (e : EndId) (b : Bool) → (plain.sides e).offered ≡ true → player_binds (cond b (seated t.seat) (written ((plain_at w).programs q))) e ≡ false
-  offered_unbound q e true o =
-      false_from_ne_true (is_some (place_held bs e)) (λ h.
-      let k = some_place (place_held bs e) h in
-      absurd (omega (arith, s.guarded.apart e (offered_comes file z w sound s.proper e o), held_by_place bs e k.0 k.1)))
-  offered_unbound q e false o = unbound_by file z w sound s.proper q e (slice_get w.parties q) refl o
-
-  above_idle : (q : ℕ) (b : Bool) → (q == p) ≡ b → length file.parties ≤ q → play.wants (cond b (seated t.seat) (written ((plain_at w).programs q))) ≡ ended
-  above_idle q true is le = absurd (omega (arith, eqb-true q p is, le, below))
-  above_idle q false is le = idle_above file z w sound s.proper q (slice_get w.parties q) refl le
-
-  module _ (few : length file.parties ≤ 16) where
-    sent_few : (e : EndId) → e.side < 2 → length (plain.sides e).sent ≤ 170000
-    sent_few e lt =
-        omega (
-          arith,
-          few,
-          sent_is file z w sound s.proper e lt,
-          sent_by_option zs e (slice_get zs e.sess) refl,
-          s.messages,
-          few_steps w.parties s.steps,
-          s.calls,
-          s.proper.many,
-        )
-
-    pub few_sent : (e : EndId) → e.side < 2 → length (plain.sides e).sent ≤ 170000
-    few_sent e lt = sent_few e lt
-
-    pub few_acts : n ≤ 170000
-    few_acts = omega (arith, few, s.count, few_steps w.parties s.steps, s.calls, s.proper.many)
-
-    counts_fit : (e : EndId) → e.side < 2 → IsWithinCounts (plain.sides e) (plain.sides (other_end e))
-    counts_fit e lt = record {
-      fewer = omega (
-        arith,
-        ap (λ (x : PlainSide Place). x.taken) (side_below w.requests zs e lt),
-        other_sent_is file z w sound s.proper e,
-        (pair_of zs zs e sound.pairs).one_taken,
-      );
-      hops = omega (
-        arith,
-        ap (λ (x : PlainSide Place). x.hops) (side_below w.requests zs e lt),
-        ap (λ (x : PlainSide Place). x.hops) (side_below w.requests zs (other_end e) (other_side_below e)),
-        s.hops e,
-        s.hops (other_end e),
-      );
-      messages = omega (arith, sent_few e lt);
-    }
-
-    pub seated_is_lawful : IsLawful IsDone play player_binds play.parties plain
-    seated_is_lawful = record {
-      counts = counts_fit;
-      steps = λ q. steps_fit q (q == p);
-      proper = λ q e b. bound_is_proper q e (q == p) refl b;
-      unbound = λ q e o. offered_unbound q e (q == p) o;
-      idle = λ q le. above_idle q (q == p) refl le;
-      keepers = λ e j sess d k lt h. keeper_below file z w sound s.proper e j sess d k lt h;
-    }

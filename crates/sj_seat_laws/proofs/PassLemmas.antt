@@ -1,5 +1,5 @@
 -- A delegation by the party, and an end that it takes, leave its world guarded.
-use Rattle.std.proofs.Common.{◌≡◌, ◌≢◌, ℕ, ◌+◌, ◌≤◌, true, false, List, [], ◌∷◌, ◌++◌, Some, sum_by, ap, sym, ◌∙◌, subst, arith}
+use Rattle.std.proofs.Common.{◌≡◌, ◌≢◌, ℕ, ◌+◌, ◌≤◌, false, List, [], ◌∷◌, ◌++◌, Some, sum_by, ap, sym, ◌∙◌, subst, arith}
 use Rattle.std.proofs.lemmas.Bool.{false_from_ne_true}
 use Rattle.sj_base.specs.declared.EndId.{EndId}
 use Rattle.sj_base.specs.declared.Msg.{Msg}
@@ -27,7 +27,7 @@ use Rattle.sj_semantics.specs.World.{World}
 use Rattle.sj_seat_laws.specs.Calls.{Ends, place_held, without_end}
 use Rattle.sj_seat_laws.specs.SeatedWorld.{world_after}
 use Rattle.sj_seat_laws.proofs.HeldLemmas.{holds, holds-push, holds-same, holds-without, holds-without_le}
-use Rattle.sj_seat_laws.proofs.GuardLemmas.{Guarded, bound_in, come_same, serves_sound}
+use Rattle.sj_seat_laws.proofs.GuardLemmas.{Guarded, come_same, serves_sound}
 use Rattle.sj_seat_laws.proofs.UseLemmas.{bound_apart, come_apart, sent_pairs, taken_pairs, uncarried, unclaimed}
 
 module _ (file : FileAt) (p : ℕ) (w : World) (bs : Ends) (g : Guarded file w bs) where
@@ -67,9 +67,6 @@ module _ (file : FileAt) (p : ℕ) (w : World) (bs : Ends) (g : Guarded file w b
     unheld : (f : EndId) → holds f bs ≡ 0 → is_end f y ≡ false
     unheld f none = false_from_ne_true (is_end f y) (λ it. absurd (omega (arith, none, hy, holds-same f y bs it)))
 
-    bound_unheld : (f : EndId) → 1 ≤ bound_in f w → is_end f y ≡ false
-    bound_unheld f b = unheld f (omega (arith, b, g.once f))
-
     pub guards_delegate : Guarded file (world_after p ((y, delegates) ∷ (e, sends m) ∷ []) w) (without_end cs y)
     guards_delegate = record {
       sound = serves_sound file w new g.sound (record {
@@ -95,9 +92,6 @@ module _ (file : FileAt) (p : ℕ) (w : World) (bs : Ends) (g : Guarded file w b
 
     abbrev begun : List Session
     begun = touched p taken (y, begins kind)
-
-    named_it : names_end y x.msg ≡ true
-    named_it = ap (names_end y) is ∙ is_end-self y
 
     -- whoever is named by the message is claimed by it alone
     weight : (f : EndId) → sum_by (carried_in f) taken + one_if (is_end f y) ≤ sum_by (carried_in f) zs

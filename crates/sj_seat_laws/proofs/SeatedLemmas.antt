@@ -1,7 +1,7 @@
--- Each act keeps a seated world sound: the others' acts, and the calls of the party that is played
--- by code of its own.
-use Rattle.std.proofs.Common.{◌≡◌, ◌≢◌, ℕ, ◌+◌, ◌<◌, ◌≤◌, ◌==◌, nat_lt, Bool, true, false, not, ◌&&◌, cond, List, [], ◌∷◌, ◌++◌, length, slice_get, Option, Some, None, option_map, sum_by, refl, ap, sym, ◌∙◌, subst, arith}
-use Rattle.std.proofs.lemmas.Bool.{and_parts, false_from_ne_true, both_ways, ltb-true, eqb-false}
+-- Each call of a party that is played by code of its own keeps its world sound, beside what others
+-- hold.
+use Rattle.std.proofs.Common.{◌≡◌, ◌≢◌, ℕ, ◌+◌, ◌<◌, ◌≤◌, nat_lt, Bool, true, false, not, ◌&&◌, cond, List, [], ◌∷◌, ◌++◌, length, slice_get, Option, Some, None, option_map, sum_by, refl, ap, sym, ◌∙◌, subst, arith}
+use Rattle.std.proofs.lemmas.Bool.{and_parts, false_from_ne_true, both_ways, ltb-true}
 use Rattle.std.proofs.lemmas.Option.{slice_get_within}
 use Rattle.sj_base.specs.declared.EndId.{EndId}
 use Rattle.sj_base.specs.declared.Msg.{Msg}
@@ -18,35 +18,31 @@ use Rattle.sj_semantics.specs.Balanced.{FitsNext}
 use Rattle.sj_semantics.specs.Ends.{EndAt, Session, end_at, is_end, next_for, other_end}
 use Rattle.sj_semantics.specs.Program.{Program}
 use Rattle.sj_semantics.specs.Uses.{Use, after_uses, begins, delegates, end_after, place_behind, sends, takes}
-use Rattle.sj_semantics.specs.World.{World, act_of, begun_by, session_message}
+use Rattle.sj_semantics.specs.World.{World, begun_by, session_message}
 use Rattle.sj_semantics_laws.specs.Unshared.{names_end}
-use Rattle.sj_semantics_laws.proofs.AlteredLemmas.{slice_get-altered_other, sum_by-altered}
 use Rattle.sj_semantics_laws.proofs.BoundLemmas.{is_end-self, is_end_sym}
-use Rattle.sj_semantics_laws.proofs.ChangeLemmas.{rests_on}
-use Rattle.sj_semantics_laws.proofs.CommuteLemmas.{doing_of as acts_by}
-use Rattle.sj_semantics_laws.proofs.EndLemmas.{end_at-after_uses_other, end_at-touched_other, end_at-touched_same, touched}
-use Rattle.sj_semantics_laws.proofs.MineLemmas.{all_mine}
+use Rattle.sj_semantics_laws.proofs.EndLemmas.{end_at-touched_other, end_at-touched_same, touched}
 use Rattle.sj_headline_laws.proofs.FittingLemmas.{next_has_a_place}
 use Rattle.sj_headline_laws.proofs.TouchedLemmas.{side}
 use Rattle.sj_headline_laws.proofs.UnnamedLemmas.{hands_places, named_carried}
 use Rattle.sj_rules.specs.Binding.{IsSession}
 use Rattle.sj_rules.specs.Node as wanted
 use Rattle.sj_rules.specs.Record.{is_same_end}
-use Rattle.sj_rules_laws.proofs.CountLemmas.{made_counted, no_hands, no_takes, sent_in, steps_of, touched_hops, touched_sent}
-use Rattle.sj_rules_laws.proofs.MadeLemmas.{made_of}
+use Rattle.sj_rules_laws.proofs.CountLemmas.{no_hands, no_takes, sent_in, steps_of, touched_hops, touched_sent}
 use Rattle.sj_rules_laws.proofs.ProperLemmas.{AreProperMessages, IsProper, IsProperMessage, message_in, no_end_proper, touched_proper}
-use Rattle.sj_rules_laws.proofs.ProperRunLemmas.{act_keeps_proper, programs_keep, size_of}
+use Rattle.sj_rules_laws.proofs.ProperRunLemmas.{size_of}
 use Rattle.sj_rules_laws.proofs.SideLemmas.{apart_ends, same_end_is, same_end_self}
 use Rattle.sj_seat_laws.specs.Calls as calls
 use Rattle.sj_seat_laws.specs.Calls.{Call, Ends, SeatedAt, moved, place_held, without_end}
 use Rattle.sj_seat_laws.specs.Guards.{called_by, carried_next, ends_taken, may_carry, may_send, may_take, want_of_calls, want_of_close, want_of_delegate, want_of_send, want_of_take, where_allowed, with_carried}
 use Rattle.sj_seat_laws.specs.SeatedStart.{no_program}
-use Rattle.sj_seat_laws.specs.SeatedWorld.{Doing, SeatedWorld, after_doing, beside, doing_by, doing_of, seated_act, world_after}
-use Rattle.sj_seat_laws.proofs.CallLemmas.{carries_out, mine_unused, names_nothing, sends_on, taken_kind}
-use Rattle.sj_seat_laws.proofs.GuardLemmas.{Guarded, act_keeps_guarded}
-use Rattle.sj_seat_laws.proofs.HeldLemmas.{first_of, held_by_place, holds-moved, place-moved, place-moved_other, place-moved_same, place-push, place-without_other}
+use Rattle.sj_seat_laws.specs.SeatedWorld.{Doing, SeatedWorld, after_doing, doing_by, doing_of, world_after}
+use Rattle.sj_seat_laws.proofs.CallLemmas.{carries_out, done_by, names_nothing, sends_on, taken_kind}
+use Rattle.sj_seat_laws.proofs.GuardLemmas.{Guarded}
+use Rattle.sj_seat_laws.proofs.HeldLemmas.{first_of, held_by_place, holds, holds-moved, holds-push, holds-without_other, place-moved, place-moved_other, place-moved_same, place-push, place-without_other}
+use Rattle.sj_seat_laws.proofs.LocatedLemmas.{AllFound, close_finds, delegate_finds, end_finds, send_finds, value_finds}
 use Rattle.sj_seat_laws.proofs.PassLemmas.{guards_delegate, guards_take_end}
-use Rattle.sj_seat_laws.proofs.UseLemmas.{guards_close, guards_send, guards_take}
+use Rattle.sj_seat_laws.proofs.UseLemmas.{guards_close, guards_send, guards_take, uncarried}
 
 -- the ends that are held are at their places
 abbrev pub ArePlaced : List Session → Ends → Type 0
@@ -56,8 +52,8 @@ ArePlaced zs bs = (e : EndId) (q : Place) → place_held bs e ≡ Some q → (en
 abbrev pub AreKnown : FileAt → Ends → Type 0
 AreKnown file bs = (e : EndId) (q : Place) → place_held bs e ≡ Some q → (e.side < 2) × IsSession (length file.parties) (length file.connects) e.sess
 
--- what holds of each world of a run, after so many acts
-pub record IsSeated (file : FileAt) (p n : ℕ) (t : SeatedWorld) : Type 0 where
+-- what holds of the party and its world
+pub record IsSeat (file : FileAt) (p : ℕ) (t : SeatedWorld) : Type 0 where
   pub guarded : Guarded file t.world t.seat.ends
   pub idle : slice_get t.world.parties p ≡ Some (no_program file)
   pub places : ArePlaced t.world.sessions t.seat.ends
@@ -66,33 +62,14 @@ pub record IsSeated (file : FileAt) (p n : ℕ) (t : SeatedWorld) : Type 0 where
   pub hops : (e : EndId) → (end_at t.world.sessions e).hops ≤ 100
   pub steps : (q : ℕ) (g : Program) → slice_get t.world.parties q ≡ Some g → g.steps ≤ 10000
   pub calls : t.seat.steps ≤ 10000
-  pub messages : sum_by sent_in t.world.sessions ≤ sum_by steps_of t.world.parties + t.seat.steps
-  pub count : n ≡ sum_by steps_of t.world.parties + t.seat.steps
 
--- ---- an act of another party
-
-pub other_keeps : (file : FileAt) (p n : ℕ) (t : SeatedWorld) (v : World) (q : ℕ) → (q ≡ p → ⊥) → IsSeated file p n t → act_of t.world q ≡ Some v → IsSeated file p (n + 1) (beside t.seat v)
-other_keeps file p n t v q other s acted =
-    let w : World = t.world in
-    let a = acts_by w q v acted in
-    let rests = rests_on w q a.program a.change a.made in
-    let r = made_counted w q a.program a.change s.hops (made_of w q a.program a.change rests) in
-    let sum = sum_by-altered steps_of w.parties q (λ g. a.change.program) a.program a.there in
-    subst (λ (u : World). IsSeated file p (n + 1) (beside t.seat u)) a.result (record {
-      guarded = subst (λ (u : World). Guarded file u t.seat.ends) (sym a.result) (act_keeps_guarded file w v t.seat.ends q s.guarded acted);
-      idle = slice_get-altered_other w.parties q p (λ g. a.change.program) other ∙ s.idle;
-      places = λ e place h.
-          ap (λ (x : EndAt). x.place) (end_at-after_uses_other q a.change.uses w.sessions e
-          (mine_unused file w t.seat.ends s.guarded e (held_by_place t.seat.ends e place h) q a.program a.change.uses a.there (all_mine w q a.program a.change rests)))
-          ∙ s.places e place h;
-      known = s.known;
-      proper = subst (IsProper (size_of file)) (sym a.result) (act_keeps_proper file (size_of file) w v q refl s.guarded.sound s.proper acted);
-      hops = r.hops;
-      steps = programs_keep (λ g. g.steps ≤ 10000) w.parties q a.change.program (omega (arith, r.steps, ltb-true a.program.steps 10000 rests.steps_left)) s.steps;
-      calls = s.calls;
-      messages = omega (arith, r.messages, r.steps, s.messages, sum);
-      count = omega (arith, s.count, r.steps, sum);
-    })
+-- and of each world of a run after so many acts, where ends are held elsewhere too, and so many calls
+-- were made there
+pub record IsSeatedBeside (others : EndId → ℕ) (more : ℕ) (file : FileAt) (p n : ℕ) (t : SeatedWorld) : Type 0 where
+  pub seat : IsSeat file p t
+  pub found : AllFound t.world (λ e. holds e t.seat.ends + others e)
+  pub messages : sum_by sent_in t.world.sessions ≤ sum_by steps_of t.world.parties + (t.seat.steps + more)
+  pub count : n ≡ sum_by steps_of t.world.parties + (t.seat.steps + more)
 
 -- ---- places after a use
 
@@ -127,7 +104,10 @@ moved_placed file p zs bs e q u way m known placed there behind f r h = by (is_s
 
 -- ---- a call
 
-module _ (file : FileAt) (p n : ℕ) (t : SeatedWorld) (s : IsSeated file p n t) (few : t.seat.steps < 10000) where
+module _ (others : EndId → ℕ) (more : ℕ) (file : FileAt) (p n : ℕ) (t : SeatedWorld) (s : IsSeatedBeside others more file p n t) (few : t.seat.steps < 10000) where
+  abbrev Next : SeatedWorld → Type 0
+  Next = IsSeatedBeside others more file p (n + 1)
+
   abbrev w : World
   w = t.world
 
@@ -142,35 +122,39 @@ module _ (file : FileAt) (p n : ℕ) (t : SeatedWorld) (s : IsSeated file p n t)
   behind us es cs = record { world = world_after p us w; seat = record { ends = es; steps = t.seat.steps + 1; calls = cs } }
 
   below : p < length file.parties
-  below = omega (arith, slice_get_within w.parties p (no_program file) s.idle, s.proper.many)
+  below = omega (arith, slice_get_within w.parties p (no_program file) s.seat.idle, s.seat.proper.many)
 
-  keeps : (us : List (EndId × Use)) (es : Ends) (cs : List Call) → Guarded file (world_after p us w) es → ArePlaced (after_uses p us zs) es → AreKnown file es
+  keeps : (us : List (EndId × Use)) (es : Ends) (cs : List Call) → Guarded file (world_after p us w) es → ArePlaced (after_uses p us zs) es → AreKnown file es → AllFound (world_after p us w) (λ e. holds e es + others e)
       → ((e : EndId) → AreProperMessages (size_of file) (end_at (after_uses p us zs) e).sent) → ((e : EndId) → (end_at (after_uses p us zs) e).hops ≤ 100)
-      → sum_by sent_in (after_uses p us zs) ≤ sum_by sent_in zs + 1 → IsSeated file p (n + 1) (behind us es cs)
-  keeps us es cs guarded placed known messages hops sent = record {
-    guarded = guarded;
-    idle = s.idle;
-    places = placed;
-    known = known;
-    proper = record { many = s.proper.many; names = s.proper.names; messages = messages };
-    hops = hops;
-    steps = s.steps;
-    calls = omega (arith, few);
+      → sum_by sent_in (after_uses p us zs) ≤ sum_by sent_in zs + 1 → Next (behind us es cs)
+  keeps us es cs guarded placed known found messages hops sent = record {
+    seat = record {
+      guarded = guarded;
+      idle = s.seat.idle;
+      places = placed;
+      known = known;
+      proper = record { many = s.seat.proper.many; names = s.seat.proper.names; messages = messages };
+      hops = hops;
+      steps = s.seat.steps;
+      calls = omega (arith, few);
+    };
+    found = found;
     messages = omega (arith, sent, s.messages);
     count = omega (arith, s.count);
   }
 
   -- ---- a message is sent
 
-  send_keeps : (e : EndId) (m : Msg) (q : Place) (cs : List Call) → place_held bs e ≡ Some q → may_send q m ≡ true → IsSeated file p (n + 1) (behind ((e, sends m) ∷ []) (moved bs e Out m) cs)
+  send_keeps : (e : EndId) (m : Msg) (q : Place) (cs : List Call) → place_held bs e ≡ Some q → may_send q m ≡ true → Next (behind ((e, sends m) ∷ []) (moved bs e Out m) cs)
   send_keeps e m q cs there can =
-      let on = sends_on zs (end_at zs e).place m (ap (λ (x : Place). may_send x m) (s.places e q there) ∙ can) in
+      let on = sends_on zs (end_at zs e).place m (ap (λ (x : Place). may_send x m) (s.seat.places e q there) ∙ can) in
       keeps ((e, sends m) ∷ []) (moved bs e Out m) cs
-      (guards_send file p w bs s.guarded e m on.next (held_by_place bs e q there) on.after on.fits (λ f. names_nothing m f on.none))
-      (moved_placed file p zs bs e q (sends m) Out m s.known s.places there refl)
-      (moved_known file bs e Out m s.known)
-      (touched_proper (size_of file) p zs e (sends m) (no_end_proper (size_of file) m on.none) s.proper.messages)
-      (touched_hops p zs e (sends m) (no_hands m) s.hops)
+      (guards_send file p w bs s.seat.guarded e m on.next (held_by_place bs e q there) on.after on.fits (λ f. names_nothing m f on.none))
+      (moved_placed file p zs bs e q (sends m) Out m s.seat.known s.seat.places there refl)
+      (moved_known file bs e Out m s.seat.known)
+      (send_finds p w (λ f. holds f bs + others f) (λ f. holds f (moved bs e Out m) + others f) s.found e m (λ f. omega (arith, holds-moved f bs e Out m)))
+      (touched_proper (size_of file) p zs e (sends m) (no_end_proper (size_of file) m on.none) s.seat.proper.messages)
+      (touched_hops p zs e (sends m) (no_hands m) s.seat.hops)
       (touched_sent p zs e (sends m))
 
   -- ---- an end is delegated
@@ -179,27 +163,29 @@ module _ (file : FileAt) (p n : ℕ) (t : SeatedWorld) (s : IsSeated file p n t)
   same_behind x kind next y a b is = ap (λ (z : Place). place_behind z Out (session_message y a)) is ∙ sym (ap (λ (z : Place). place_behind z Out (session_message y b)) is)
 
   delegate_keeps : (e y : EndId) (q own : Place) (cs : List Call) → place_held bs e ≡ Some q → place_held bs y ≡ Some own → is_same_end e y ≡ false → may_carry q own ≡ true → (end_at zs y).hops < 100
-      → IsSeated file p (n + 1) (behind ((y, delegates) ∷ (e, sends (session_message y p)) ∷ []) (without_end (moved bs e Out (session_message y 0)) y) cs)
+      → Next (behind ((y, delegates) ∷ (e, sends (session_message y p)) ∷ []) (without_end (moved bs e Out (session_message y 0)) y) cs)
   delegate_keeps e y q own cs there own_there apart can fresh =
       let m : Msg = session_message y p in
       let es : Ends = moved bs e Out (session_message y 0) in
       let mid : List Session = touched p zs (y, delegates) in
-      let low = s.known y own own_there in
+      let low = s.seat.known y own own_there in
       let turned : is_same_end y e ≡ false = false_from_ne_true (is_same_end y e) (λ b.
       both_ways (is_same_end e y) apart (subst (λ (x : EndId). is_same_end e x ≡ true) (sym (same_end_is y e b)) (same_end_self e))) in
-      let other : is_end e y ≡ false = apart_ends y e low.0 (s.known e q there).0 turned in
-      let c = carries_out (end_at zs e).place (end_at zs y).place (ap (λ (x : Place). may_carry x (end_at zs y).place) (s.places e q there) ∙ ap (may_carry q) (s.places y own own_there) ∙ can) in
-      let mid_placed : ArePlaced mid bs = λ f r h. hands_places p zs y f ∙ s.places f r h in
-      let mid_proper = touched_proper (size_of file) p zs y delegates tt s.proper.messages in
-      let mid_hops = touched_hops p zs y delegates (λ h. fresh) s.hops in
+      let other : is_end e y ≡ false = apart_ends y e low.0 (s.seat.known e q there).0 turned in
+      let c = carries_out (end_at zs e).place (end_at zs y).place (ap (λ (x : Place). may_carry x (end_at zs y).place) (s.seat.places e q there) ∙ ap (may_carry q) (s.seat.places y own own_there) ∙ can) in
+      let mid_placed : ArePlaced mid bs = λ f r h. hands_places p zs y f ∙ s.seat.places f r h in
+      let mid_proper = touched_proper (size_of file) p zs y delegates tt s.seat.proper.messages in
+      let mid_hops = touched_hops p zs y delegates (λ h. fresh) s.seat.hops in
       let all_placed : ArePlaced (touched p mid (e, sends m)) es =
-      moved_placed file p mid bs e q (sends m) Out (session_message y 0) s.known mid_placed there
+      moved_placed file p mid bs e q (sends m) Out (session_message y 0) s.seat.known mid_placed there
       (same_behind (end_at mid e).place c.kind c.next y p 0 (hands_places p zs y e ∙ c.is)) in
       keeps ((y, delegates) ∷ (e, sends m) ∷ []) (without_end es y) cs
-      (guards_delegate file p w bs s.guarded e y c.next c.kind own es (λ f. holds-moved f bs e Out (session_message y 0))
+      (guards_delegate file p w bs s.seat.guarded e y c.next c.kind own es (λ f. holds-moved f bs e Out (session_message y 0))
       (place-moved_other bs e Out (session_message y 0) y turned ∙ own_there) (held_by_place bs e q there) (held_by_place bs y own own_there) other c.is c.stands c.full)
       (λ f r h. all_placed f r (place-without_other es y f r h).1)
-      (λ f r h. moved_known file bs e Out (session_message y 0) s.known f r (place-without_other es y f r h).1)
+      (λ f r h. moved_known file bs e Out (session_message y 0) s.seat.known f r (place-without_other es y f r h).1)
+      (delegate_finds p w (λ f. holds f bs + others f) (λ f. holds f (without_end es y) + others f) s.found e y (uncarried file p w bs s.seat.guarded y (held_by_place bs y own own_there)) s.seat.guarded.sound.pairs
+      (λ f far. omega (arith, holds-moved f bs e Out (session_message y 0), holds-without_other f es y far)))
       (touched_proper (size_of file) p mid e (sends m) (low.1, low.0, below) mid_proper)
       (touched_hops p mid e (sends m) (no_hands m) mid_hops)
       (omega (arith, touched_sent p mid e (sends m), touched_sent p zs y delegates))
@@ -208,16 +194,17 @@ module _ (file : FileAt) (p n : ℕ) (t : SeatedWorld) (s : IsSeated file p n t)
 
   module _ (e : EndId) (q : Place) (cs : List Call) (there : place_held bs e ≡ Some q) (x : Passed) (next : next_for zs e ≡ Some x) where
     taken_placed : ArePlaced (touched p zs (e, takes x.msg)) (moved bs e Into x.msg)
-    taken_placed = moved_placed file p zs bs e q (takes x.msg) Into x.msg s.known s.places there refl
+    taken_placed = moved_placed file p zs bs e q (takes x.msg) Into x.msg s.seat.known s.seat.places there refl
 
-    value_keeps : IsSeated file p (n + 1) (behind ((e, takes x.msg) ∷ []) (moved bs e Into x.msg) cs)
-    value_keeps =
+    value_keeps : ((f : EndId) → names_end f x.msg ≡ false) → Next (behind ((e, takes x.msg) ∷ []) (moved bs e Into x.msg) cs)
+    value_keeps none =
         keeps ((e, takes x.msg) ∷ []) (moved bs e Into x.msg) cs
-        (guards_take file p w bs s.guarded e x next (held_by_place bs e q there))
+        (guards_take file p w bs s.seat.guarded e x next (held_by_place bs e q there))
         taken_placed
-        (moved_known file bs e Into x.msg s.known)
-        (touched_proper (size_of file) p zs e (takes x.msg) tt s.proper.messages)
-        (touched_hops p zs e (takes x.msg) (no_takes x.msg) s.hops)
+        (moved_known file bs e Into x.msg s.seat.known)
+        (value_finds p w (λ f. holds f bs + others f) (λ f. holds f (moved bs e Into x.msg) + others f) s.found e x next none (λ f. omega (arith, holds-moved f bs e Into x.msg)))
+        (touched_proper (size_of file) p zs e (takes x.msg) tt s.seat.proper.messages)
+        (touched_hops p zs e (takes x.msg) (no_takes x.msg) s.seat.hops)
         (omega (arith, touched_sent p zs e (takes x.msg)))
 
     module _ (sess d k : ℕ) (is : x.msg ≡ msgs.Sess sess d k) where
@@ -229,17 +216,17 @@ module _ (file : FileAt) (p n : ℕ) (t : SeatedWorld) (s : IsSeated file p n t)
 
       stands : (kind ≢ done) × StandsFor (end_at zs (side sess d)).place kind
       stands =
-          let has = next_has_a_place file w s.guarded.sound e x next in
+          let has = next_has_a_place file w s.seat.guarded.sound e x next in
           taken_kind zs q has.0 sess d k
-          (ap (λ (z : Place). after_place z Into (msgs.Sess sess d k)) (sym (s.places e q there)) ∙ ap (after_place (end_at zs e).place Into) (sym is) ∙ has.1)
-          (subst (λ (z : Place). FitsNext zs z (msgs.Sess sess d k)) (s.places e q there)
+          (ap (λ (z : Place). after_place z Into (msgs.Sess sess d k)) (sym (s.seat.places e q there)) ∙ ap (after_place (end_at zs e).place Into) (sym is) ∙ has.1)
+          (subst (λ (z : Place). FitsNext zs z (msgs.Sess sess d k)) (s.seat.places e q there)
           (subst (λ (m : Msg). FitsNext zs (end_at zs e).place m) is has.2))
 
       -- an end that is held isn't on its way
       unheld : (f : EndId) (r : Place) → place_held bs f ≡ Some r → is_end y f ≡ false
       unheld f r h =
           false_from_ne_true (is_end y f) (λ b.
-          absurd (omega (arith, s.guarded.once f, held_by_place bs f r h, named_carried w f e x next (ap (names_end f) is ∙ is_end_sym y f b))))
+          absurd (omega (arith, s.seat.guarded.once f, held_by_place bs f r h, named_carried w f e x next (ap (names_end f) is ∙ is_end_sym y f b))))
 
       abbrev taken : List Session
       taken = touched p zs (e, takes x.msg)
@@ -266,46 +253,49 @@ module _ (file : FileAt) (p n : ℕ) (t : SeatedWorld) (s : IsSeated file p n t)
         where
           by : (o : Option Place) → place_held (moved bs e Into x.msg) f ≡ o → (b : Bool) → is_same_end y f ≡ b → first_of o (cond b (Some kind) None) ≡ Some r
               → (f.side < 2) × IsSession (length file.parties) (length file.connects) f.sess
-          by (Some v) o b same k = moved_known file bs e Into x.msg s.known f v o
+          by (Some v) o b same k = moved_known file bs e Into x.msg s.seat.known f v o
           by None o true same k =
-              let ok = message_in (size_of file) (end_at zs (other_end e)).sent (length (end_at zs e).takers) x (s.proper.messages (other_end e)) next in
+              let ok = message_in (size_of file) (end_at zs (other_end e)).sent (length (end_at zs e).takers) x (s.seat.proper.messages (other_end e)) next in
               let good = subst (IsProperMessage (size_of file)) is ok in
               subst (λ (z : EndId). (z.side < 2) × IsSession (length file.parties) (length file.connects) z.sess) (same_end_is y f same) (good.1, good.0)
           by None o false same k = cc
 
-      end_keeps : IsSeated file p (n + 1) (behind ((e, takes x.msg) ∷ (y, begins kind) ∷ []) es cs)
+      end_keeps : Next (behind ((e, takes x.msg) ∷ (y, begins kind) ∷ []) es cs)
       end_keeps =
           keeps ((e, takes x.msg) ∷ (y, begins kind) ∷ []) es cs
-          (guards_take_end file p w bs s.guarded e x next (held_by_place bs e q there) sess d k kind (moved bs e Into x.msg) (λ f. holds-moved f bs e Into x.msg) is stands.1)
+          (guards_take_end file p w bs s.seat.guarded e x next (held_by_place bs e q there) sess d k kind (moved bs e Into x.msg) (λ f. holds-moved f bs e Into x.msg) is stands.1)
           end_placed
           end_known
-          (touched_proper (size_of file) p taken y (begins kind) tt (touched_proper (size_of file) p zs e (takes x.msg) tt s.proper.messages))
-          (touched_hops p taken y (begins kind) (λ h. absurd (cc h)) (touched_hops p zs e (takes x.msg) (no_takes x.msg) s.hops))
+          (end_finds p w (λ f. holds f bs + others f) (λ f. holds f es + others f) s.found e x next sess d k kind is
+          (λ f. omega (arith, holds-moved f bs e Into x.msg, holds-push f (moved bs e Into x.msg) (y, kind))))
+          (touched_proper (size_of file) p taken y (begins kind) tt (touched_proper (size_of file) p zs e (takes x.msg) tt s.seat.proper.messages))
+          (touched_hops p taken y (begins kind) (λ h. absurd (cc h)) (touched_hops p zs e (takes x.msg) (no_takes x.msg) s.seat.hops))
           (omega (arith, touched_sent p taken y (begins kind), touched_sent p zs e (takes x.msg)))
 
     -- whatever it is
-    take_keeps : (m : Msg) → x.msg ≡ m → IsSeated file p (n + 1) (behind ((e, takes m) ∷ begun_by (carried_next q) m) (with_carried (moved bs e Into m) (carried_next q) m) cs)
+    take_keeps : (m : Msg) → x.msg ≡ m → Next (behind ((e, takes m) ∷ begun_by (carried_next q) m) (with_carried (moved bs e Into m) (carried_next q) m) cs)
     take_keeps (msgs.Sess sess d k) is =
-        subst (λ (m : Msg). IsSeated file p (n + 1) (behind ((e, takes m) ∷ (side sess d, begins (carried_next q)) ∷ []) (moved bs e Into m ++ (side sess d, carried_next q) ∷ []) cs)) is (end_keeps sess d k is)
-    take_keeps (msgs.Int i) is = subst (λ (m : Msg). IsSeated file p (n + 1) (behind ((e, takes m) ∷ []) (moved bs e Into m) cs)) is value_keeps
-    take_keeps (msgs.Bool i) is = subst (λ (m : Msg). IsSeated file p (n + 1) (behind ((e, takes m) ∷ []) (moved bs e Into m) cs)) is value_keeps
-    take_keeps (msgs.Text i) is = subst (λ (m : Msg). IsSeated file p (n + 1) (behind ((e, takes m) ∷ []) (moved bs e Into m) cs)) is value_keeps
-    take_keeps (msgs.Label i) is = subst (λ (m : Msg). IsSeated file p (n + 1) (behind ((e, takes m) ∷ []) (moved bs e Into m) cs)) is value_keeps
-    take_keeps (msgs.More i) is = subst (λ (m : Msg). IsSeated file p (n + 1) (behind ((e, takes m) ∷ []) (moved bs e Into m) cs)) is value_keeps
+        subst (λ (m : Msg). Next (behind ((e, takes m) ∷ (side sess d, begins (carried_next q)) ∷ []) (moved bs e Into m ++ (side sess d, carried_next q) ∷ []) cs)) is (end_keeps sess d k is)
+    take_keeps (msgs.Int i) is = subst (λ (m : Msg). Next (behind ((e, takes m) ∷ []) (moved bs e Into m) cs)) is (value_keeps (λ f. ap (names_end f) is))
+    take_keeps (msgs.Bool i) is = subst (λ (m : Msg). Next (behind ((e, takes m) ∷ []) (moved bs e Into m) cs)) is (value_keeps (λ f. ap (names_end f) is))
+    take_keeps (msgs.Text i) is = subst (λ (m : Msg). Next (behind ((e, takes m) ∷ []) (moved bs e Into m) cs)) is (value_keeps (λ f. ap (names_end f) is))
+    take_keeps (msgs.Label i) is = subst (λ (m : Msg). Next (behind ((e, takes m) ∷ []) (moved bs e Into m) cs)) is (value_keeps (λ f. ap (names_end f) is))
+    take_keeps (msgs.More i) is = subst (λ (m : Msg). Next (behind ((e, takes m) ∷ []) (moved bs e Into m) cs)) is (value_keeps (λ f. ap (names_end f) is))
 
   -- ---- an end is closed
 
-  close_keeps : (e : EndId) (cs : List Call) → IsSeated file p (n + 1) (behind [] (without_end bs e) cs)
-  close_keeps e cs =
-      keeps [] (without_end bs e) cs (guards_close file p w bs s.guarded e)
-      (λ f r h. s.places f r (place-without_other bs e f r h).1)
-      (λ f r h. s.known f r (place-without_other bs e f r h).1)
-      s.proper.messages s.hops (omega arith)
+  close_keeps : (e : EndId) (q : Place) (cs : List Call) → place_held bs e ≡ Some q → is_done q ≡ true → Next (behind [] (without_end bs e) cs)
+  close_keeps e q cs there over =
+      keeps [] (without_end bs e) cs (guards_close file p w bs s.seat.guarded e)
+      (λ f r h. s.seat.places f r (place-without_other bs e f r h).1)
+      (λ f r h. s.seat.known f r (place-without_other bs e f r h).1)
+      (close_finds p w (λ f. holds f bs + others f) (λ f. holds f (without_end bs e) + others f) s.found e (s.seat.places e q there ∙ done_by q over) (λ f far. omega (arith, holds-without_other f bs e far)))
+      s.seat.proper.messages s.seat.hops (omega arith)
 
   -- ---- whichever call it is
 
   abbrev Keeps : List Call → Doing → Type 0
-  Keeps cs d = IsSeated file p (n + 1) (record { world = world_after p d.uses w; seat = called_by t.seat cs d.taken })
+  Keeps cs d = Next (record { world = world_after p d.uses w; seat = called_by t.seat cs d.taken })
 
   by_send : (e : EndId) (m : Msg) (cs : List Call) (d : Doing) (o : Option Place) → place_held bs e ≡ o → doing_by p w (want_of_send e m o) ≡ Some d → Keeps (calls.sends e m ∷ cs) d
   by_send e m cs d None there h = cc
@@ -343,47 +333,32 @@ module _ (file : FileAt) (p n : ℕ) (t : SeatedWorld) (s : IsSeated file p n t)
       head None next k = cc
       head (Some x) next k =
           subst (Keeps (calls.takes e ∷ cs)) (let it : record { taken = Some x.msg; uses = (e, takes x.msg) ∷ begun_by (carried_next q) x.msg } ≡ d = cc in it)
-          (subst (λ (o : Option Place). IsSeated file p (n + 1) (behind ((e, takes x.msg) ∷ begun_by (carried_next q) x.msg) (ends_taken bs e o (Some x.msg)) cs)) (sym there)
+          (subst (λ (o : Option Place). Next (behind ((e, takes x.msg) ∷ begun_by (carried_next q) x.msg) (ends_taken bs e o (Some x.msg)) cs)) (sym there)
           (take_keeps e q cs there x next x.msg refl))
 
       by : (b : Bool) → doing_by p w (where_allowed b (wanted.takes e (carried_next q))) ≡ Some d → Keeps (calls.takes e ∷ cs) d
       by true k = head (next_for zs e) refl k
       by false k = cc
 
-  by_close : (e : EndId) (cs : List Call) (d : Doing) (o : Option Place) → doing_by p w (want_of_close e o) ≡ Some d → Keeps (calls.closes e ∷ cs) d
-  by_close e cs d None h = cc
-  by_close e cs d (Some q) h = by (is_done q) h
+  by_close : (e : EndId) (cs : List Call) (d : Doing) (o : Option Place) → place_held bs e ≡ o → doing_by p w (want_of_close e o) ≡ Some d → Keeps (calls.closes e ∷ cs) d
+  by_close e cs d None there h = cc
+  by_close e cs d (Some q) there h = by (is_done q) refl h
     where
-      by : (b : Bool) → doing_by p w (where_allowed b (wanted.closes e)) ≡ Some d → Keeps (calls.closes e ∷ cs) d
-      by true k = subst (Keeps (calls.closes e ∷ cs)) (let it : record { taken = None; uses = [] } ≡ d = cc in it) (close_keeps e cs)
-      by false k = cc
+      by : (b : Bool) → is_done q ≡ b → doing_by p w (where_allowed b (wanted.closes e)) ≡ Some d → Keeps (calls.closes e ∷ cs) d
+      by true over k = subst (Keeps (calls.closes e ∷ cs)) (let it : record { taken = None; uses = [] } ≡ d = cc in it) (close_keeps e q cs there over)
+      by false over k = cc
 
   by_calls : (cs : List Call) (d : Doing) → doing_by p w (want_of_calls bs cs) ≡ Some d → Keeps cs d
   by_calls [] d h = cc
   by_calls (calls.sends e m ∷ cs) d h = by_send e m cs d (place_held bs e) refl h
   by_calls (calls.delegates c e ∷ cs) d h = by_delegate c e cs d (place_held bs c) (place_held bs e) refl refl h
   by_calls (calls.takes e ∷ cs) d h = by_take e cs d (place_held bs e) refl h
-  by_calls (calls.closes e ∷ cs) d h = by_close e cs d (place_held bs e) h
+  by_calls (calls.closes e ∷ cs) d h = by_close e cs d (place_held bs e) refl h
 
-pub call_keeps : (file : FileAt) (p n : ℕ) (t : SeatedWorld) (d : Doing) → IsSeated file p n t → doing_of p t ≡ Some d → IsSeated file p (n + 1) (after_doing p t d)
-call_keeps file p n t d s h = by (nat_lt t.seat.steps 10000) refl h
+pub call_keeps : (others : EndId → ℕ) (more : ℕ) (file : FileAt) (p n : ℕ) (t : SeatedWorld) (d : Doing) → IsSeatedBeside others more file p n t → doing_of p t ≡ Some d
+    → IsSeatedBeside others more file p (n + 1) (after_doing p t d)
+call_keeps others more file p n t d s h = by (nat_lt t.seat.steps 10000) refl h
   where
-    by : (b : Bool) → nat_lt t.seat.steps 10000 ≡ b → cond (not b) None (doing_by p t.world (want_of_calls t.seat.ends t.seat.calls)) ≡ Some d → IsSeated file p (n + 1) (after_doing p t d)
-    by true few k = by_calls file p n t s (ltb-true t.seat.steps 10000 few) t.seat.calls d k
+    by : (b : Bool) → nat_lt t.seat.steps 10000 ≡ b → cond (not b) None (doing_by p t.world (want_of_calls t.seat.ends t.seat.calls)) ≡ Some d → IsSeatedBeside others more file p (n + 1) (after_doing p t d)
+    by true few k = by_calls others more file p n t s (ltb-true t.seat.steps 10000 few) t.seat.calls d k
     by false few k = cc
-
--- each act keeps it
-pub act_keeps : (file : FileAt) (p n : ℕ) (t u : SeatedWorld) (q : ℕ) → IsSeated file p n t → seated_act p t q ≡ Some u → IsSeated file p (n + 1) u
-act_keeps file p n t u q s h = by (q == p) refl h
-  where
-    own : (o : Option Doing) → doing_of p t ≡ o → option_map (after_doing p t) o ≡ Some u → IsSeated file p (n + 1) u
-    own None is k = cc
-    own (Some d) is k = subst (IsSeated file p (n + 1)) (let it : after_doing p t d ≡ u = cc in it) (call_keeps file p n t d s is)
-
-    others : (q ≡ p → ⊥) → (o : Option World) → act_of t.world q ≡ o → option_map (beside t.seat) o ≡ Some u → IsSeated file p (n + 1) u
-    others other None is k = cc
-    others other (Some v) is k = subst (IsSeated file p (n + 1)) (let it : beside t.seat v ≡ u = cc in it) (other_keeps file p n t v q other s is)
-
-    by : (b : Bool) → (q == p) ≡ b → cond b (option_map (after_doing p t) (doing_of p t)) (option_map (beside t.seat) (act_of t.world q)) ≡ Some u → IsSeated file p (n + 1) u
-    by true is k = own (doing_of p t) refl k
-    by false is k = others (eqb-false q p is) (act_of t.world q) refl k

@@ -1,6 +1,7 @@
--- The act of a party in a seated world, and what the rules see of it, are one.
+-- The act of a party beside others that are played by code, or its call, and what the rules see of
+-- it, are one.
 use Rattle.std.proofs.Common.{◌≡◌, ℕ, ◌+◌, ◌<◌, ◌==◌, nat_lt, Bool, true, false, not, ◌&&◌, cond, List, [], ◌∷◌, ◌++◌, length, Option, Some, None, option_map, refl, ap, sym, ◌∙◌}
-use Rattle.std.proofs.lemmas.Bool.{and_parts, both_ways, eq-eqb, eqb-true}
+use Rattle.std.proofs.lemmas.Bool.{and_parts, eq-eqb, eqb-true}
 use Rattle.sj_base.specs.declared.EndId.{EndId}
 use Rattle.sj_base.specs.declared.Msg.{Msg}
 use Rattle.sj_base.specs.declared.Msg.TheVariants as msgs
@@ -14,7 +15,7 @@ use Rattle.sj_semantics.specs.Ends.{Session, end_at, next_for, other_end}
 use Rattle.sj_semantics.specs.Program.{Program}
 use Rattle.sj_semantics.specs.Requests.{limit_of_requests, opened_number}
 use Rattle.sj_semantics.specs.Uses.{Use, after_uses, begins, delegates, sends, takes}
-use Rattle.sj_semantics.specs.World.{World, act_of, begun_by, session_message}
+use Rattle.sj_semantics.specs.World.{World, begun_by, session_message}
 use Rattle.sj_semantics_laws.proofs.EndLemmas.{touched}
 use Rattle.sj_headline_laws.proofs.FittingLemmas.{next_has_a_place}
 use Rattle.sj_headline_laws.proofs.TouchedLemmas.{side}
@@ -30,7 +31,6 @@ use Rattle.sj_rules.specs.PlainSide.{PlainAt, PlainSide}
 use Rattle.sj_rules.specs.Record.{is_same_end, offered_end, requested_end}
 use Rattle.sj_rules_laws.proofs.ActLemmas.{waiting_is_next}
 use Rattle.sj_rules_laws.proofs.FitsStepLemmas.{next_at_side}
-use Rattle.sj_rules_laws.proofs.LawfulLemmas.{act_is_seen}
 use Rattle.sj_rules_laws.proofs.ProperLemmas.{IsProperMessage, message_in}
 use Rattle.sj_rules_laws.proofs.ProperRunLemmas.{size_of}
 use Rattle.sj_rules_laws.proofs.SeenLemmas.{begins_seen, hands_seen, sends_seen, takes_seen}
@@ -39,39 +39,34 @@ use Rattle.sj_seat_laws.specs.Calls as calls
 use Rattle.sj_seat_laws.specs.Calls.{Call, Ends, SeatedAt, place_held}
 use Rattle.sj_seat_laws.specs.Guards.{called, carried_next, may_carry, may_send, may_take, want_of_calls, want_of_close, want_of_delegate, want_of_send, want_of_take, where_allowed}
 use Rattle.sj_seat_laws.specs.SeatedPlay.{Player, player_goes, seated, seated_play, written}
-use Rattle.sj_seat_laws.specs.SeatedWorld.{SeatedWorld, after_doing, beside, doing_by, doing_of, seated_act, seen_at}
+use Rattle.sj_seat_laws.specs.SeatedWorld.{SeatedWorld, after_doing, doing_by, doing_of}
 use Rattle.sj_seat_laws.proofs.CallLemmas.{carries_out, sends_on}
-use Rattle.sj_seat_laws.proofs.SeatedLemmas.{IsSeated}
+use Rattle.sj_seat_laws.proofs.SeatedLemmas.{IsSeat}
 
 -- ---- the others
 
-module _ (file : FileAt) (p : ℕ) (seat : SeatedAt) (q : ℕ) (other : (q == p) ≡ false) where
+-- who plays a party beside the others, by its program; this one goes by the file
+module _ (file : FileAt) (who : ℕ → Program → Player) (q : ℕ) (goes_by : (g : Program) → who q g ≡ written g) where
   abbrev play : Play Place Player
   play = seated_play file
 
   abbrev own : Play Place Program
   own = play_of file
 
-  -- a plain world of the file with that party beside it
-  abbrev lift : PlainAt Place Program → PlainAt Place Player
-  lift x = record { programs = λ r. cond (r == p) (seated seat) (written (x.programs r)); sides = x.sides; requests = x.requests; offers = x.offers }
+  -- a plain world of the file with the others beside it
+  abbrev pub lift : PlainAt Place Program → PlainAt Place Player
+  lift x = record { programs = λ r. who r (x.programs r); sides = x.sides; requests = x.requests; offers = x.offers }
 
   here : (x : PlainAt Place Program) → (lift x).programs q ≡ written (x.programs q)
-  here x = ap (λ (b : Bool). cond b (seated seat) (written (x.programs q))) other
+  here x = goes_by (x.programs q)
 
-  two : (a b : Bool) (u v : Player) (g : Program) → (a ≡ true → b ≡ true → ⊥) → (h : Program) → cond a (written h) (cond b u (written g)) ≡ cond b u (written (cond a h g))
-  two true true u v g no_both h = absurd (no_both refl refl)
-  two true false u v g no_both h = refl
-  two false true u v g no_both h = refl
-  two false false u v g no_both h = refl
-
-  apart : (r : ℕ) → (r == q) ≡ true → (r == p) ≡ true → ⊥
-  apart r a b = both_ways (q == p) other (eq-eqb q p (sym (eqb-true r q a) ∙ eqb-true r p b))
+  one : (r : ℕ) (b : Bool) → (r == q) ≡ b → (g h : Program) → cond b (written h) (who r g) ≡ who r (cond b h g)
+  one r true is g h = sym (ap (λ (n : ℕ). who n h) (eqb-true r q is) ∙ goes_by h)
+  one r false is g h = refl
 
   program_lift : (x : PlainAt Place Program) (h : Program) → with_program q (written h) (lift x) ≡ lift (with_program q h x)
   program_lift x h =
-      let programs : (r : ℕ) → cond (r == q) (written h) (cond (r == p) (seated seat) (written (x.programs r))) ≡ cond (r == p) (seated seat) (written (cond (r == q) h (x.programs r))) =
-      λ r. two (r == q) (r == p) (seated seat) (seated seat) (x.programs r) (apart r) h in
+      let programs : (r : ℕ) → cond (r == q) (written h) (who r (x.programs r)) ≡ who r (cond (r == q) h (x.programs r)) = λ r. one r (r == q) refl (x.programs r) h in
       λ i. record { programs = λ r. programs r i; sides = x.sides; requests = x.requests; offers = x.offers }
 
   goes_lift : (x : PlainAt Place Program) (taken : Option Msg) → plain_goes play q taken (lift x) ≡ lift (plain_goes own q taken x)
@@ -139,13 +134,14 @@ module _ (file : FileAt) (p : ℕ) (seat : SeatedAt) (q : ℕ) (other : (q == p)
     pub act_lift : plain_act play (lift x) q ≡ option_map lift (plain_act own x q)
     act_lift = ap (λ g. cond (play.is_worn g) None (plain_act_by play (lift x) q (play.wants g))) (here x) ∙ worn_lift (own.is_worn (x.programs q))
 
-map_twice : {X Y Z : Type 0} (f : Y → Z) (g : X → Y) (h : X → Z) → ((x : X) → f (g x) ≡ h x) → (o : Option X) → option_map f (option_map g o) ≡ option_map h o
+pub map_twice : {X Y Z : Type 0} (f : Y → Z) (g : X → Y) (h : X → Z) → ((x : X) → f (g x) ≡ h x) → (o : Option X) → option_map f (option_map g o) ≡ option_map h o
 map_twice f g h same None = refl
 map_twice f g h same (Some x) = ap Some (same x)
 
 -- ---- the party that is played by code of its own
 
-module _ (file : FileAt) (p n : ℕ) (t : SeatedWorld) (s : IsSeated file p n t) where
+-- whoever plays the others
+module _ (file : FileAt) (p : ℕ) (t : SeatedWorld) (s : IsSeat file p t) (base : ℕ → Player) where
   abbrev w : World
   w = t.world
 
@@ -158,11 +154,19 @@ module _ (file : FileAt) (p n : ℕ) (t : SeatedWorld) (s : IsSeated file p n t)
   abbrev mine : Play Place Player
   mine = seated_play file
 
+  abbrev pub seen_beside : SeatedWorld → PlainAt Place Player
+  seen_beside u = record {
+    programs = λ r. cond (r == p) (seated u.seat) (base r);
+    sides = (plain_at u.world).sides;
+    requests = (plain_at u.world).requests;
+    offers = (plain_at u.world).offers;
+  }
+
   abbrev plain : PlainAt Place Player
-  plain = seen_at p t
+  plain = seen_beside t
 
   itself : plain.programs p ≡ seated t.seat
-  itself = ap (λ (b : Bool). cond b (seated t.seat) (written ((plain_at w).programs p))) (eq-eqb p p refl)
+  itself = ap (λ (b : Bool). cond b (seated t.seat) (base p)) (eq-eqb p p refl)
 
   one_cond : (b : Bool) (u v x : Player) → cond b u (cond b v x) ≡ cond b u x
   one_cond true u v x = refl
@@ -170,15 +174,14 @@ module _ (file : FileAt) (p n : ℕ) (t : SeatedWorld) (s : IsSeated file p n t)
 
   -- what the rules see after a call
   used_seen : (taken : Option Msg) (us : List (EndId × Use)) (sides : EndId → PlainSide Place) → ((d : EndId) → plain_side w.requests (after_uses p us zs) d ≡ sides d)
-      → record (plain_goes mine p taken plain) { sides = sides } ≡ seen_at p (after_doing p t (record { taken = taken; uses = us }))
+      → record (plain_goes mine p taken plain) { sides = sides } ≡ seen_beside (after_doing p t (record { taken = taken; uses = us }))
   used_seen taken us sides same =
-      let programs : (r : ℕ) → cond (r == p) (player_goes file (plain.programs p) taken) (cond (r == p) (seated t.seat) (written ((plain_at w).programs r))) ≡ cond (r == p) (seated (called t.seat taken)) (written ((plain_at w).programs r)) =
-      λ r. one_cond (r == p) (player_goes file (plain.programs p) taken) (seated t.seat) (written ((plain_at w).programs r))
-      ∙ ap (λ g. cond (r == p) (player_goes file g taken) (written ((plain_at w).programs r))) itself in
+      let programs : (r : ℕ) → cond (r == p) (player_goes file (plain.programs p) taken) (cond (r == p) (seated t.seat) (base r)) ≡ cond (r == p) (seated (called t.seat taken)) (base r) =
+      λ r. one_cond (r == p) (player_goes file (plain.programs p) taken) (seated t.seat) (base r) ∙ ap (λ g. cond (r == p) (player_goes file g taken) (base r)) itself in
       λ i. record { programs = λ r. programs r i; sides = λ d. sym (same d) i; requests = (plain_at w).requests; offers = (plain_at w).offers }
 
   abbrev Seen : Want Place → Type 0
-  Seen want = plain_act_by mine plain p want ≡ option_map (λ d. seen_at p (after_doing p t d)) (doing_by p w want)
+  Seen want = plain_act_by mine plain p want ≡ option_map (λ d. seen_beside (after_doing p t d)) (doing_by p w want)
 
   send_seen : (e : EndId) (m : Msg) (q : Place) → place_held bs e ≡ Some q → may_send q m ≡ true → Seen (wanted.sends e m)
   send_seen e m q there can =
@@ -202,13 +205,13 @@ module _ (file : FileAt) (p n : ℕ) (t : SeatedWorld) (s : IsSeated file p n t)
       sends_seen w.requests p mid c m o.next lt mid_at d
       ∙ ap (λ (x : PlainSide Place). cond (is_same_end d c) (plain_sent x o.next m) x) (hands_seen w.requests p zs e low d)))
     where
-      by : (b : Bool) (x : PlainAt Place Player) → x ≡ seen_at p (after_doing p t (record { taken = None; uses = (e, delegates) ∷ (c, sends (session_message e p)) ∷ [] }))
-          → cond b (Some x) None ≡ option_map (λ d. seen_at p (after_doing p t d)) (cond b (Some (record { taken = None; uses = (e, delegates) ∷ (c, sends (session_message e p)) ∷ [] })) None)
+      by : (b : Bool) (x : PlainAt Place Player) → x ≡ seen_beside (after_doing p t (record { taken = None; uses = (e, delegates) ∷ (c, sends (session_message e p)) ∷ [] }))
+          → cond b (Some x) None ≡ option_map (λ d. seen_beside (after_doing p t d)) (cond b (Some (record { taken = None; uses = (e, delegates) ∷ (c, sends (session_message e p)) ∷ [] })) None)
       by true x h = ap Some h
       by false x h = refl
 
   head_seen : (e : EndId) (named : Place) (next : Place) (m : Msg) → e.side < 2 → after_place (end_at zs e).place Into m ≡ Some next → IsProperMessage (size_of file) m
-      → plain_names named m (plain_takes mine p e m next plain) ≡ seen_at p (after_doing p t (record { taken = Some m; uses = (e, takes m) ∷ begun_by named m }))
+      → plain_names named m (plain_takes mine p e m next plain) ≡ seen_beside (after_doing p t (record { taken = Some m; uses = (e, takes m) ∷ begun_by named m }))
   head_seen e named next (msgs.Sess sess d k) lt at ok =
       let m : Msg = msgs.Sess sess d k in
       used_seen (Some m) ((e, takes m) ∷ (side sess d, begins named) ∷ []) _ (λ f.
@@ -224,7 +227,7 @@ module _ (file : FileAt) (p n : ℕ) (t : SeatedWorld) (s : IsSeated file p n t)
   take_seen e q there = ap (plain_takes_head mine p e (carried_next q) plain) (waiting_is_next w e (s.known e q there).0) ∙ by (next_for zs e) refl
     where
       by : (o : Option Passed) → next_for zs e ≡ o → plain_takes_head mine p e (carried_next q) plain (option_map (λ x. x.msg) o)
-          ≡ option_map (λ d. seen_at p (after_doing p t d)) (option_map (λ (x : Passed). record { taken = Some x.msg; uses = (e, takes x.msg) ∷ begun_by (carried_next q) x.msg }) o)
+          ≡ option_map (λ d. seen_beside (after_doing p t d)) (option_map (λ (x : Passed). record { taken = Some x.msg; uses = (e, takes x.msg) ∷ begun_by (carried_next q) x.msg }) o)
       by None next = refl
       by (Some x) next =
           let lt = (s.known e q there).0 in
@@ -277,22 +280,9 @@ module _ (file : FileAt) (p n : ℕ) (t : SeatedWorld) (s : IsSeated file p n t)
   calls_seen (calls.closes e ∷ cs) = close_by e (place_held bs e)
 
   worn_seen : (b : Bool) → cond b None (plain_act_by mine plain p (want_of_calls bs t.seat.calls))
-      ≡ option_map (λ d. seen_at p (after_doing p t d)) (cond b None (doing_by p w (want_of_calls bs t.seat.calls)))
+      ≡ option_map (λ d. seen_beside (after_doing p t d)) (cond b None (doing_by p w (want_of_calls bs t.seat.calls)))
   worn_seen true = refl
   worn_seen false = calls_seen t.seat.calls
 
-  own_seen : plain_act mine plain p ≡ option_map (λ d. seen_at p (after_doing p t d)) (doing_of p t)
+  pub own_seen : plain_act mine plain p ≡ option_map (λ d. seen_beside (after_doing p t d)) (doing_of p t)
   own_seen = ap (λ g. cond (mine.is_worn g) None (plain_act_by mine plain p (mine.wants g))) itself ∙ worn_seen (not (nat_lt t.seat.steps 10000))
-
-  -- ---- whoever it is
-
-  by_party : (q : ℕ) (b : Bool) → (q == p) ≡ b → plain_act mine plain q ≡ option_map (seen_at p) (cond b (option_map (after_doing p t) (doing_of p t)) (option_map (beside t.seat) (act_of w q)))
-  by_party q true is =
-      ap (plain_act mine plain) (eqb-true q p is) ∙ own_seen ∙ sym (map_twice (seen_at p) (after_doing p t) (λ d. seen_at p (after_doing p t d)) (λ d. refl) (doing_of p t))
-  by_party q false is =
-      act_lift file p t.seat q is (plain_at w) ∙ ap (option_map (lift file p t.seat q is)) (act_is_seen file (size_of file) w s.guarded.sound s.proper q)
-      ∙ map_twice (lift file p t.seat q is) plain_at (λ v. seen_at p (beside t.seat v)) (λ v. refl) (act_of w q)
-      ∙ sym (map_twice (seen_at p) (beside t.seat) (λ v. seen_at p (beside t.seat v)) (λ v. refl) (act_of w q))
-
-  pub seated_act_is_seen : (q : ℕ) → plain_act mine plain q ≡ option_map (seen_at p) (seated_act p t q)
-  seated_act_is_seen q = by_party q (q == p) refl

@@ -1,22 +1,18 @@
--- What an act takes is next, the ends that it uses are its party's, and why the code makes no call.
-use Rattle.std.proofs.Common.{◌≡◌, ℕ, zero, suc, ◌==◌, nat_lt, Bool, true, false, not, ◌&&◌, cond, List, [], ◌∷◌, slice_get, Option, Some, None, option_map, option_and_then, refl, ap, sym, ◌∙◌, subst, inl, inr}
-use Rattle.std.proofs.lemmas.Bool.{eqb-true, ltb-false}
+-- What a call takes is next, the ends that it uses are held, and why the code makes no call.
+use Rattle.std.proofs.Common.{◌≡◌, ℕ, zero, suc, nat_lt, Bool, true, false, not, ◌&&◌, cond, List, [], ◌∷◌, slice_get, Option, Some, None, option_map, refl, ap, sym, ◌∙◌, subst}
+use Rattle.std.specs.Bool.{⊤}
+use Rattle.std.proofs.lemmas.Bool.{ltb-false}
 use Rattle.sj_base.specs.declared.EndId.{EndId}
 use Rattle.sj_base.specs.declared.Msg.{Msg}
 use Rattle.sj_base.specs.declared.Msg.TheVariants as msgs
-use Rattle.sj_lang.specs.FileAt.{FileAt}
 use Rattle.sj_lang.specs.ItemCount.{is_done}
 use Rattle.sj_lang.specs.Place.{Place}
 use Rattle.sj_semantics.specs.declared.Passed.{Passed}
 use Rattle.sj_semantics.specs.Ends.{Session, end_at, next_for}
-use Rattle.sj_semantics.specs.Program.{Program}
 use Rattle.sj_semantics.specs.Uses.{Use, begins, delegates, sends, takes}
-use Rattle.sj_semantics.specs.World.{Change, World, begun_by, change_of, change_of_program, session_message}
+use Rattle.sj_semantics.specs.World.{World, begun_by, session_message}
 use Rattle.sj_semantics_laws.specs.Bound.{UseBound, UsesBound}
-use Rattle.sj_semantics_laws.proofs.HolderLemmas.{act_uses_bound}
-use Rattle.sj_headline_laws.specs.Headline.{FitsTaker}
-use Rattle.sj_headline_laws.proofs.FittingLemmas.{next_has_a_place}
-use Rattle.sj_headline_laws.proofs.TakingLemmas.{TakesNext, change_takes_next}
+use Rattle.sj_headline_laws.proofs.TakingLemmas.{TakesNext}
 use Rattle.sj_headline_laws.proofs.TouchedLemmas.{side}
 use Rattle.sj_rules.specs.Node as wanted
 use Rattle.sj_rules.specs.Node.{Want}
@@ -24,9 +20,8 @@ use Rattle.sj_rules.specs.Record.{is_same_end}
 use Rattle.sj_seat_laws.specs.Calls as calls
 use Rattle.sj_seat_laws.specs.Calls.{Call, Ends, place_held}
 use Rattle.sj_seat_laws.specs.Guards.{carried_next, may_carry, may_send, may_take, seated_want, want_of_calls, want_of_close, want_of_delegate, want_of_send, want_of_take, where_allowed}
-use Rattle.sj_seat_laws.specs.SeatedHeadline.{HasEnd, IsOwnUse, IsResting, TakesWhatFits, handed_enough, left, unguarded, uses_in, uses_of_change, uses_of_doing, waits, worn}
+use Rattle.sj_seat_laws.specs.Resting.{IsResting, handed_enough, left, unguarded, waits, worn}
 use Rattle.sj_seat_laws.specs.SeatedWorld.{Doing, SeatedWorld, doing_by, doing_of}
-use Rattle.sj_seat_laws.proofs.SeatedLemmas.{IsSeated}
 
 -- ---- what is taken is next
 
@@ -42,7 +37,7 @@ begun_next zs place (msgs.Sess s d k) = cons_next zs (side s d, begins place) []
 begun_next zs place m = nil_next zs
 
 module _ (p : ℕ) (w : World) where
-  doing_next : (want : Want Place) (d : Doing) → doing_by p w want ≡ Some d → TakesNext w.sessions d.uses
+  pub doing_next : (want : Want Place) (d : Doing) → doing_by p w want ≡ Some d → TakesNext w.sessions d.uses
   doing_next wanted.ended d h = λ n e m t. absurd (cc h)
   doing_next wanted.local d h = λ n e m t. absurd (cc h)
   doing_next (wanted.requests place to) d h = λ n e m t. absurd (cc h)
@@ -75,32 +70,19 @@ pub worn_doing : (p : ℕ) (t : SeatedWorld) (d : Doing) (b : Bool) → cond b N
 worn_doing p t d true h = cc
 worn_doing p t d false h = h
 
-pub takes_what_fits : (file : FileAt) (p n : ℕ) (t : SeatedWorld) (q : ℕ) → IsSeated file p n t → TakesWhatFits p t q
-takes_what_fits file p n t q s i e m there = by (q == p) (doing_of p t) refl (change_of t.world q) refl there
-  where
-    fits : (us : List (EndId × Use)) → TakesNext t.world.sessions us → slice_get us i ≡ Some (e, takes m) → FitsTaker t.world.sessions e m
-    fits us next k = let x = next i e m k in subst (FitsTaker t.world.sessions e) x.2 (next_has_a_place file t.world s.guarded.sound e x.0 x.1)
-
-    by : (b : Bool) (o : Option Doing) → doing_of p t ≡ o → (c : Option Change) → change_of t.world q ≡ c → slice_get (cond b (uses_of_doing (doing_of p t)) (uses_of_change (change_of t.world q))) i ≡ Some (e, takes m)
-        → FitsTaker t.world.sessions e m
-    by true None is c change k = let none : None ≡ Some (e, takes m) = sym (ap (λ o. slice_get (uses_of_doing o) i) is) ∙ k in absurd (cc none)
-    by true (Some d) is c change k =
-        fits d.uses (doing_next p t.world (seated_want t.seat) d (worn_doing p t d (not (nat_lt t.seat.steps 10000)) is)) (sym (ap (λ o. slice_get (uses_of_doing o) i) is) ∙ k)
-    by false o is None change k = let none : None ≡ Some (e, takes m) = sym (ap (λ o. slice_get (uses_of_change o) i) change) ∙ k in absurd (cc none)
-    by false o is (Some c) change k = fits c.uses (change_takes_next t.world q c (slice_get t.world.parties q) change) (sym (ap (λ o. slice_get (uses_of_change o) i) change) ∙ k)
-
 -- ---- what is used is the party's
 
-use_at : (ends : List (ℕ × EndId)) (us : List (EndId × Use)) (i : ℕ) (e : EndId) (u : Use) → UsesBound ends us → slice_get us i ≡ Some (e, u) → UseBound ends e u
+pub use_at : (ends : List (ℕ × EndId)) (us : List (EndId × Use)) (i : ℕ) (e : EndId) (u : Use) → UsesBound ends us → slice_get us i ≡ Some (e, u) → UseBound ends e u
 use_at ends [] i e u b h = absurd (cc h)
 use_at ends (v ∷ us) zero e u b h = let it : v ≡ (e, u) = cc in subst (λ (x : EndId × Use). UseBound ends x.0 x.1) it b.0
 use_at ends (v ∷ us) (suc i) e u b h = use_at ends us i e u b.1 h
 
-own_by : (p : ℕ) (t : SeatedWorld) (q : ℕ) (g : Program) (e : EndId) (u : Use) → slice_get t.world.parties q ≡ Some g → UseBound g.ends e u → IsOwnUse p t q e u
-own_by p t q g e (sends m) there b = inl (g, there, b)
-own_by p t q g e (takes m) there b = inl (g, there, b)
-own_by p t q g e delegates there b = inl (g, there, b)
-own_by p t q g e (begins place) there b = tt
+-- an end that is used is held, unless the use is its beginning
+abbrev pub IsHeldUse : Ends → EndId → Use → Type 0
+IsHeldUse bs e (sends m) = (place : Place) × (place_held bs e ≡ Some place)
+IsHeldUse bs e (takes m) = (place : Place) × (place_held bs e ≡ Some place)
+IsHeldUse bs e delegates = (place : Place) × (place_held bs e ≡ Some place)
+IsHeldUse bs e (begins place) = ⊤
 
 module _ (p : ℕ) (t : SeatedWorld) where
   abbrev w : World
@@ -110,10 +92,10 @@ module _ (p : ℕ) (t : SeatedWorld) where
   bs = t.seat.ends
 
   abbrev Owns : List (EndId × Use) → Type 0
-  Owns us = (i : ℕ) (e : EndId) (u : Use) → slice_get us i ≡ Some (e, u) → IsOwnUse p t p e u
+  Owns us = (i : ℕ) (e : EndId) (u : Use) → slice_get us i ≡ Some (e, u) → IsHeldUse bs e u
 
-  cons_own : (f : EndId) (v : Use) (us : List (EndId × Use)) → IsOwnUse p t p f v → Owns us → Owns ((f, v) ∷ us)
-  cons_own f v us head rest zero e u h = let it : ◌≡◌ {A = EndId × Use} (f, v) (e, u) = cc in subst (λ (x : EndId × Use). IsOwnUse p t p x.0 x.1) it head
+  cons_own : (f : EndId) (v : Use) (us : List (EndId × Use)) → IsHeldUse bs f v → Owns us → Owns ((f, v) ∷ us)
+  cons_own f v us head rest zero e u h = let it : ◌≡◌ {A = EndId × Use} (f, v) (e, u) = cc in subst (λ (x : EndId × Use). IsHeldUse bs x.0 x.1) it head
   cons_own f v us head rest (suc i) e u h = rest i e u h
 
   nil_own : Owns []
@@ -123,8 +105,8 @@ module _ (p : ℕ) (t : SeatedWorld) where
   begun_own place (msgs.Sess s d k) = cons_own (side s d) (begins place) [] tt nil_own
   begun_own place m = nil_own
 
-  has : (e : EndId) (q : Place) → place_held bs e ≡ Some q → HasEnd p t p e
-  has e q there = inr (refl, (q, there))
+  has : (e : EndId) (q : Place) → place_held bs e ≡ Some q → (place : Place) × (place_held bs e ≡ Some place)
+  has e q there = (q, there)
 
   send_own : (e : EndId) (m : Msg) (d : Doing) (o : Option Place) → place_held bs e ≡ o → doing_by p w (want_of_send e m o) ≡ Some d → Owns d.uses
   send_own e m d None there h = λ i f u k. absurd (cc h)
@@ -172,26 +154,12 @@ module _ (p : ℕ) (t : SeatedWorld) where
       by true k = subst (λ (x : Doing). Owns x.uses) (let it : record { taken = None; uses = [] } ≡ d = cc in it) nil_own
       by false k = λ i f u l. absurd (cc k)
 
-  calls_own : (cs : List Call) (d : Doing) → doing_by p w (want_of_calls bs cs) ≡ Some d → Owns d.uses
+  pub calls_own : (cs : List Call) (d : Doing) → doing_by p w (want_of_calls bs cs) ≡ Some d → Owns d.uses
   calls_own [] d h = λ i f u k. absurd (cc h)
   calls_own (calls.sends e m ∷ cs) d h = send_own e m d (place_held bs e) refl h
   calls_own (calls.delegates c e ∷ cs) d h = delegate_own c e d (place_held bs c) (place_held bs e) refl refl h
   calls_own (calls.takes e ∷ cs) d h = take_own e d (place_held bs e) refl h
   calls_own (calls.closes e ∷ cs) d h = close_own e d (place_held bs e) h
-
-  pub uses_own : (q i : ℕ) (e : EndId) (u : Use) → slice_get (uses_in p t q) i ≡ Some (e, u) → IsOwnUse p t q e u
-  uses_own q i e u there = by (q == p) refl (doing_of p t) refl (slice_get w.parties q) refl (change_of w q) refl there
-    where
-      by : (b : Bool) → (q == p) ≡ b → (o : Option Doing) → doing_of p t ≡ o → (g : Option Program) → slice_get w.parties q ≡ g → (c : Option Change) → change_of w q ≡ c
-          → slice_get (cond b (uses_of_doing (doing_of p t)) (uses_of_change (change_of w q))) i ≡ Some (e, u) → IsOwnUse p t q e u
-      by true same None is g at c change k = let none : None ≡ Some (e, u) = sym (ap (λ o. slice_get (uses_of_doing o) i) is) ∙ k in absurd (cc none)
-      by true same (Some d) is g at c change k =
-          subst (λ (r : ℕ). IsOwnUse p t r e u) (sym (eqb-true q p same))
-          (calls_own t.seat.calls d (worn_doing p t d (not (nat_lt t.seat.steps 10000)) is) i e u (sym (ap (λ o. slice_get (uses_of_doing o) i) is) ∙ k))
-      by false same o is g at None change k = let none : None ≡ Some (e, u) = sym (ap (λ o. slice_get (uses_of_change o) i) change) ∙ k in absurd (cc none)
-      by false same o is None at (Some c) change k = let none : None ≡ Some c = sym (ap (option_and_then (change_of_program w q)) at) ∙ change in absurd (cc none)
-      by false same o is (Some g) at (Some c) change k =
-          own_by p t q g e u at (use_at g.ends c.uses i e u (act_uses_bound w q g c at change) (sym (ap (λ o. slice_get (uses_of_change o) i) change) ∙ k))
 
   -- ---- why the code makes no call
 

@@ -3,7 +3,10 @@ pub mod Guards
 pub mod SeatedPlay
 pub mod SeatedWorld
 pub mod SeatedStart
-pub mod SeatedActs
-pub mod SeatedHeadline
 pub mod SeatRows
+pub mod SeatsWorld
+pub mod SeatsStart
+pub mod SeatsActs
+pub mod Resting
+pub mod SeatsHeadline
 pub mod SeatSamples

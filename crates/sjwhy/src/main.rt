@@ -1,5 +1,5 @@
-//! `sjwhy`: reads a file on standard input, and says on standard output why it is refused and how that is
-//! mended, or what it comes to.
+//! `sjwhy`: reads a file on standard input, and says on standard output why it is refused and how
+//! that is mended, or what it comes to.
 #![tactic(auto)]
 
 use sj_base::{NoMemory, ReadSource, WriteSink};
@@ -21,7 +21,8 @@ fn main(rt: HostRuntime) -> ExitCode {
     ExitCode::from(explain(rt.alloc(), &words, &mut src, &mut out))
 }
 
-// The words after the program's name. Words that aren't text are none of the program, as an empty one is.
+// The words after the program's name. Words that aren't text are none of the program's, as an empty
+// one is.
 fn words_of(rt: &HostRuntime) -> Result<Vec<String>, NoMemory> {
     match env::args(rt) {
         Ok(args) => Ok(args.skip(1).collect(rt.alloc())?),

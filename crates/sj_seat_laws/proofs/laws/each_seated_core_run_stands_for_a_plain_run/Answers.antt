@@ -1,5 +1,5 @@
-use Rattle.sj_seat_laws.proofs.RunLemmas.{run_stands}
+use Rattle.sj_seat_laws.proofs.SeatsRunLemmas.{run_stands}
 use Rattle.sj_seat_laws.proofs.laws.each_seated_core_run_stands_for_a_plain_run.Goals as goal
 
 pub returns : goal.returns
-returns c = λ file p calls turns core accepted there run. run_stands file p calls accepted there turns core run
+returns c = λ file calls turns core accepted run. run_stands file calls accepted turns core run

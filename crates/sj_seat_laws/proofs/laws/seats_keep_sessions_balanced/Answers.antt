@@ -1,4 +1,4 @@
-use Rattle.sj_seat_laws.proofs.SeatedHeadlineLemmas.{run_balanced}
+use Rattle.sj_seat_laws.proofs.SeatsEndLemmas.{run_balanced}
 use Rattle.sj_seat_laws.proofs.laws.seats_keep_sessions_balanced.Goals as goal
 
 pub returns : goal.returns

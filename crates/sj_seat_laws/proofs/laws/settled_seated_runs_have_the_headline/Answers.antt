@@ -1,4 +1,4 @@
-use Rattle.sj_seat_laws.proofs.SeatedHeadlineLemmas.{settled_run_has_it}
+use Rattle.sj_seat_laws.proofs.SeatsEndLemmas.{settled_run_has_it}
 use Rattle.sj_seat_laws.proofs.laws.settled_seated_runs_have_the_headline.Goals as goal
 
 pub returns : goal.returns

@@ -1,8 +1,0 @@
-use Rattle.sj_seat_laws.proofs.RunLemmas.{worker_acts, lost_arrives}
-use Rattle.sj_seat_laws.proofs.laws.no_worker_is_unfit_beside_a_seat.Goals as goal
-
-pub returns-clause-frame : goal.returns-clause-frame
-returns-clause-frame c = λ file p calls pick blank workers lost r q f accepted there picks all lt one. lost_arrives file p calls accepted there pick picks blank workers lost all r q f lt one
-
-pub returns-clause-act : goal.returns-clause-act
-returns-clause-act c = λ file p calls pick blank workers lost q accepted there picks all lt free. worker_acts file p calls accepted there pick picks blank workers lost all q lt free

@@ -1,0 +1,5 @@
+protocol p { begin.!<int> }
+protocol q { begin.?(int) }
+party a { let n = 1; if n != 2 { } else { } send x 5; close x; }
+party b { recv y n int; close y; }
+connect a x p to b y q;

@@ -1,0 +1,6 @@
+# numbers
+protocol p { begin.!<int> }
+protocol q { begin.?(int) }
+party a { send x 5; close x; }
+party b { recv y n int; close y; }
+connect a x p to b y q;
