@@ -1,5 +1,5 @@
 //! Links of the caller's own: each lane is a deque of another library. They don't report what they
-//! carried, so a run over them may be refused as damaged, and still never spells another transcript.
+//! carried. So a run over them may be refused as damaged; no other transcript ever comes of it.
 ghost use Rattle.std.specs.Prelude.{◌<◌, IfOk};
 ghost use Rattle.uses.specs.DequeLanes.{AreInColumns, AreNewIns, AreNewRows, AreOutRows, AreOuts};
 

@@ -31,9 +31,9 @@ pub struct Ran {
     pub by_drain: usize,
 }
 
-/// Runs the parties of a file, each on a thread of its own, over these links, joins what they noted,
-/// and finishes what they left. A world may come though links that don't report lost frames, even
-/// all of them: the drain does what the parties left undone, and the two counts show it.
+/// Runs the parties of a file over these links, each on a thread of its own, joins what they noted,
+/// and lets the drain do what they left. So a world may come though links that don't report lost
+/// frames, even all of them; the two counts show it.
 pub fn run_file<R: Threads + Sync, L: Links>(
     rt: &R,
     alloc: Global,
