@@ -1,7 +1,6 @@
 -- New lanes over deques are a square, in which nothing was looked for in vain.
 use Rattle.std.proofs.Common.{◌≡◌, ℕ, List, refl, arith}
 use Rattle.std.specs.Prelude.{Some, false, None, slice_get}
-use Rattle.std.specs.List.{AllByRecursion}
 use Rattle.sj_lane.specs.declared.lane.Lanes.{Lanes}
 use Rattle.sj_lane.specs.Square.{IsFresh, IsSquare, in_at}
 use Rattle.sj_lane.proofs.MemRowsLemmas.{all_get}

@@ -1,3 +1,5 @@
 pub mod DequeLemmas
+pub mod EndLemmas
 mod HandLemmas
+pub mod RunLemmas
 pub mod TwoLemmas

@@ -1,27 +1,45 @@
 //! A file played by hand: nodes act, and the caller carries each frame from one to the other.
-ghost use Rattle.std.specs.Prelude.{◌≡◌, ◌+◌, IfErr, IfOk, OnErr, length};
+ghost use Rattle.std.specs.Prelude.{◌≡◌, ◌+◌, IfErr, IfOk, IfSome, OnErr, length};
 ghost use Rattle.sj_node.specs.Node.{Stays, is_refused, log_of};
 ghost use Rattle.uses.specs.Carried.{FitsNone, HasCarried, WaitsAsBefore};
+ghost use Rattle.uses.specs.Stops.{StopsFor};
 
-use sj_end::CLOCK_END;
-use sj_node::{DeliverRefusal, Node};
+use porcharnica::{CLOCK_END, DeliverRefusal, Halt, Node};
 
 /// The most acts of a party.
 const MOST_ACTS: u32 = 10_000;
 
-/// Lets a party act until it waits, has ended or is at a limit. How often it did.
-pub fn act_on(node: &mut Node) -> u32
-    ensures { length (log_of node.new) ≡ length (log_of node.old) + result }
+/// What a party did by hand.
+#[derive(Clone, Copy, Debug, PartialEq, Eq)]
+pub struct Acted {
+    pub acts: u32,
+    /// Why it stopped; none where it acted as often as a party may, or its clock is at its end.
+    pub halt: Option<Halt>,
+}
+
+/// Lets a party act until it waits, has ended or is at a limit.
+pub fn act_on(node: &mut Node) -> Acted
+    ensures acts { length (log_of node.new) ≡ length (log_of node.old) + result.acts }
+    ensures cause { IfSome result.halt (StopsFor node.new) }
 {
     for acts in 0..MOST_ACTS {
         if node.clock() >= CLOCK_END {
-            return acts;
+            return Acted { acts, halt: None };
         }
-        let Ok(()) = node.act() else {
-            return acts;
-        };
+        match node.act() {
+            Ok(()) => {}
+            Err(halt) => {
+                return Acted {
+                    acts,
+                    halt: Some(halt),
+                };
+            }
+        }
     }
-    MOST_ACTS
+    Acted {
+        acts: MOST_ACTS,
+        halt: None,
+    }
 }
 
 /// Carries the first frame that one party has for another one, and delivers it there. Whether there

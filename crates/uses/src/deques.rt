@@ -1,12 +1,12 @@
 //! Links of the caller's own: each lane is a deque of another library. They don't report what they
-//! carried, so a run over them may be refused as damaged, and still never spells another transcript.
+//! carried. So a run over them may be refused as damaged; no other transcript ever comes of it.
 ghost use Rattle.std.specs.Prelude.{◌<◌, IfOk};
 ghost use Rattle.uses.specs.DequeLanes.{AreInColumns, AreNewIns, AreNewRows, AreOutRows, AreOuts};
 
 use crossbeam_deque::{Steal, Stealer, Worker};
-use sj_base::NoMemory;
-use sj_end::Frame;
-use sj_lane::{InLane, Lanes, Links, MakeRefusal, OutLane, PopRefusal, PushRefusal};
+use porcharnica::{
+    Frame, InLane, Lanes, Links, MakeRefusal, NoMemory, OutLane, PopRefusal, PushRefusal,
+};
 use std::alloc::{AllocError, Global};
 use std::collections::VecDeque;
 

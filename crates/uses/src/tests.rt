@@ -1,9 +1,9 @@
 //! A file from its text to its transcript, two protocols, and runs.
-use crate::{DequeLinks, act_on, can_talk, carry, run_file, transcript_in};
-use sj_check::{Accepted, check};
-use sj_core::first_nodes;
-use sj_lane::RingLinks;
-use sj_party::parse_file;
+use crate::{
+    DequeLinks, Ran, TalkRefusal, TextRefusal, accepted_in, act_on, can_talk, carry, ending_of,
+    run_file, transcript_in,
+};
+use porcharnica::{Accepted, Fault, Halt, RingLinks, Rule, Verdict, first_nodes};
 use std::alloc::Global;
 use std::test::Fail;
 
@@ -26,20 +26,31 @@ fn accepted(alloc: Global, text: &[u8]) -> Result<Accepted, Fail> {
     if text.len() > 65_536 {
         return Err(Fail::from("too long"));
     }
-    let Ok(file) = parse_file(alloc, text) else {
-        return Err(Fail::from("no file"));
-    };
-    let Ok(accepted) = check(alloc, file) else {
-        return Err(Fail::from("refused"));
+    let Ok(accepted) = accepted_in(alloc, text) else {
+        return Err(Fail::from("not accepted"));
     };
     Ok(accepted)
 }
 
 #[test]
 fn a_text_has_its_transcript(rt: HostRuntime) -> Result<(), Fail> {
-    let text = transcript_in(rt.alloc(), FIRST).ok_or("no transcript")?;
+    let text = transcript_in(rt.alloc(), FIRST)
+        .ok()
+        .ok_or("no transcript")?;
     let wanted = b"session 0 a x b y\n0.0 0 a b int 5\nparty a ended 2\nparty b ended 2\ndone\n";
     assert_eq!(rt; text.as_slice(), wanted.as_slice());
+    let breaks = b"protocol p { begin } party a { close x; }";
+    let refusal = TextRefusal::Breaks { rule: 5, line: 1 };
+    assert_eq!(rt; transcript_in(rt.alloc(), breaks).err(), Some(refusal));
+    let fault = Fault {
+        rule: Rule::P1,
+        line: 1,
+        column: 10,
+    };
+    assert_eq!(rt;
+        transcript_in(rt.alloc(), b"protocol {").err(),
+        Some(TextRefusal::At(fault))
+    );
     Ok(())
 }
 
@@ -50,20 +61,37 @@ fn protocols_meet_or_not(rt: HostRuntime) -> Result<(), Fail> {
         b"protocol own { begin.!<int>.?(String) } protocol peers { begin.!<int>.?(String) }";
     let wider = b"protocol own { begin.!{YES:} } protocol peers { begin.?{YES:, NO:} }";
     let one = b"protocol own { begin.!<int> }";
-    assert_eq!(rt; can_talk(rt.alloc(), dual), Some(true));
-    assert_eq!(rt; can_talk(rt.alloc(), other), Some(false));
-    assert_eq!(rt; can_talk(rt.alloc(), wider), Some(true));
-    assert_eq!(rt; can_talk(rt.alloc(), one), None);
+    assert_eq!(rt; can_talk(rt.alloc(), dual), Ok(true));
+    assert_eq!(rt; can_talk(rt.alloc(), other), Ok(false));
+    assert_eq!(rt; can_talk(rt.alloc(), wider), Ok(true));
+    assert_eq!(rt; can_talk(rt.alloc(), one), Err(TalkRefusal::Protocols(1)));
+    let fault = Fault {
+        rule: Rule::P1,
+        line: 1,
+        column: 10,
+    };
+    assert_eq!(rt;
+        can_talk(rt.alloc(), b"protocol {"),
+        Err(TalkRefusal::At(fault))
+    );
     Ok(())
+}
+
+// Seven events in all, of which the two of the party that takes nothing need no frame.
+fn did_seven(ran: &Ran) -> bool {
+    let all = ran.by_links.saturating_add(ran.by_drain);
+    all == 7 && ran.world.history().len() == 7 && ran.by_links >= 2
 }
 
 #[test]
 fn a_file_is_run_over_rings_and_deques(rt: HostRuntime) -> Result<(), Fail> {
     let accepted = accepted(rt.alloc(), FIRST)?;
-    let over_rings = run_file(&rt, rt.alloc(), &accepted, &mut RingLinks::new()).ok_or("not run")?;
-    let over_deques = run_file(&rt, rt.alloc(), &accepted, &mut DequeLinks).ok_or("not run")?;
-    assert_eq!(rt; over_rings.history().len(), 7);
-    assert_eq!(rt; over_deques.history().len(), 7);
+    let over_rings = run_file(&rt, rt.alloc(), &accepted, &mut RingLinks::new())?;
+    let over_deques = run_file(&rt, rt.alloc(), &accepted, &mut DequeLinks)?;
+    assert!(rt; did_seven(&over_rings));
+    assert!(rt; did_seven(&over_deques));
+    let ending = ending_of(rt.alloc(), &accepted)?;
+    assert_eq!(rt; ending.verdict, Verdict::Done);
     Ok(())
 }
 
@@ -78,8 +106,12 @@ fn a_session_is_handed_over_by_hand(rt: HostRuntime) -> Result<(), Fail> {
         return Err(Fail::from("not three"));
     };
     // Ann sends to the desk, which has given her session away when it comes.
-    assert_eq!(rt; act_on(&mut ann), 1);
-    assert_eq!(rt; act_on(&mut desk), 2);
+    let acted = act_on(&mut ann);
+    assert_eq!(rt; acted.acts, 1);
+    assert_eq!(rt; acted.halt, Some(Halt::Waits));
+    let acted = act_on(&mut desk);
+    assert_eq!(rt; acted.acts, 2);
+    assert_eq!(rt; acted.halt, Some(Halt::Ended));
     assert!(rt; carry(&mut ann, &mut desk).is_ok());
     for _ in 0..10u8 {
         assert!(rt; carry(&mut desk, &mut store).is_ok());
