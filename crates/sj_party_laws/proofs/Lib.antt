@@ -13,3 +13,4 @@ pub mod TableLemmas
 pub mod LinedLemmas
 pub mod RunningLemmas
 pub mod AnswerLemmas
+pub mod OneFault

@@ -6,7 +6,6 @@ pub mod DrainedLemmas
 pub mod KindLemmas
 pub mod SumLemmas
 pub mod OneRun
-pub mod OneFault
 pub mod ReplayLemmas
 pub mod ForestLemmas
 pub mod ForwardLemmas

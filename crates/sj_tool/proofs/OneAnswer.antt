@@ -22,7 +22,7 @@ use Rattle.sj_tool.specs.Layers.{AnswersItsFile, AnswersText}
 use Rattle.sj_tool.specs.Runs.{Prints}
 use Rattle.sj_tool.specs.Calls.{LinkUseAt, LinksHold}
 use Rattle.sj_tool.specs.Tasks.{Replays as IsReplay, RunsParties}
-use Rattle.sj_tool.proofs.OneFault.{one_fault}
+use Rattle.sj_party_laws.proofs.OneFault.{one_fault}
 use Rattle.sj_tool.specs.Table.{AreLogs}
 use Rattle.sj_tool.proofs.ToldOnce.{AreOfFile, AreToldOnce, same_told, told, told_once, told_over}
 use Rattle.sj_tool.proofs.FileTold.{IsUnhurt, file_told}

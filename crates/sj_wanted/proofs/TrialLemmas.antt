@@ -1,18 +1,17 @@
 -- Where the first fault of a text with a token after it stands.
-use Rattle.std.proofs.Common.{◌≡◌, ◌∙◌, ℕ, ◌+◌, ◌≤◌, true, false, ◌&&◌, ◌==◌, List, [], ◌++◌, Some, length, length-append, ap, sym, arith}
+use Rattle.std.proofs.Common.{◌≡◌, ◌∙◌, ℕ, ◌+◌, ◌≤◌, true, false, ◌&&◌, ◌==◌, List, [], ◌++◌, length, length-append, ap, sym, arith}
 use Rattle.std.specs.Prelude.{codes}
 use Rattle.std.proofs.lemmas.Bool.{eq-eqb}
 use Rattle.sj_lang.specs.FileAt.{FileAt}
 use Rattle.sj_lang.specs.Limits.{limits, file_limit}
 use Rattle.sj_grammar.specs.declared.tokens.Fault.{Fault}
 use Rattle.sj_grammar.specs.Positions.{start}
-use Rattle.sj_grammar.specs.Lexis.{next_of}
-use Rattle.sj_grammar.specs.Reading.{line_at, fault_at, before_next}
+use Rattle.sj_grammar.specs.Reading.{line_at}
 use Rattle.sj_grammar.specs.Files.{IsFile}
 use Rattle.sj_grammar.specs.FileDues.{file_layer, file_due}
 use Rattle.sj_grammar.specs.Faults.{Stuck}
-use Rattle.sj_grammar.proofs.ReadingLemmas.{halts_there, halts_at_token}
 use Rattle.sj_party.proofs.Faultless.{no_fault}
+use Rattle.sj_party_laws.proofs.OneFault.{one_fault}
 use Rattle.sj_wanted.specs.Trial.{HasFaultThere, MayStand, begins_line, front_limit, token_limit, with_token}
 
 -- such a text isn't too long to be read
@@ -22,14 +21,6 @@ short front token few less = omega (arith, length-append front (codes "\n" ++ to
 -- a whole file has no fault
 pub whole : (front token : List ℕ) (file : FileAt) → IsFile (with_token front token) file → MayStand front token
 whole front token file is there = no_fault (with_token front token) file there.fault is there.first
-
--- a text has one first fault
-one_fault : (bytes : List ℕ) (f g : Fault) → Stuck file_layer limits 0 (start bytes [] []) file_due f → Stuck file_layer limits 0 (start bytes [] []) file_due g → f ≡ g
-one_fault bytes f g st other =
-    let a = start bytes [] [] in
-    let h = halts_there file_layer limits 0 other.count a other.there file_due other.dues other.pieces f st other.front other.fits (λ s c t. halts_at_token file_layer limits other.count other.there c other.dues g s other.halts t) in
-    let rules : h.rule ≡ other.halts.rule = let both : Some h.rule ≡ Some other.halts.rule = sym h.breaks ∙ other.halts.breaks in cc in
-    h.fault ∙ ap (fault_at (before_next other.there.text (next_of other.there.text.ahead))) rules ∙ sym other.halts.fault
 
 -- the first fault stands elsewhere
 pub elsewhere : (front token : List ℕ) (f : Fault) → Stuck file_layer limits 0 (start (with_token front token) [] []) file_due f
