@@ -1,8 +1,8 @@
 //! From a program's call to the top call.
 ghost use Rattle.std.specs.Prelude.{◌≡◌};
-ghost use Rattle.sj_entry.specs.Entered.{Enters, own, sink};
+ghost use Rattle.sj_entry.specs.Entered.{Enters};
+ghost use Rattle.sj_tool.specs.Answered.{own, sink};
 ghost use Rattle.sj_tool.specs.Calls.{call};
-ghost use Rattle.sj_tool.specs.Over.{WritesDamage, WritesRun};
 
 use crate::words::Caller;
 use sj_base::{NoMemory, Sink, Source};
@@ -25,8 +25,7 @@ pub fn enter<C: Caller + AllocGlobal, R: Threads + Sync, S: Source, K: Sink, L: 
     links: &mut L,
     gate: &G,
 ) -> u8
-    ensures answer { Enters (own (WritesDamage L.Out.OutLane L.In.InLane L.joined)
-        (WritesRun L.Out.OutLane L.In.InLane L.joined) (links.new ≡ links.old) (S.has_ended src.new))
+    ensures answer { Enters (own L.Out.OutLane L.In.InLane L.joined (links.new ≡ links.old) (S.has_ended src.new))
         (C.gives caller.now) (λ words. call S.Source L.Links words src.old src.new links.old links.new) result
         (sink K.written K.faults out.old) (sink K.written K.faults out.new) }
 {

@@ -99,7 +99,7 @@ module _ (text : List ℕ) (file : FileAt) (stands : IsFile text file) (verdict 
               history = history;
               core = core;
               has = record {
-                begun = record { lines = history; left = core; leads = w.run.has.run; given = spelled };
+                begun = record { lines = history; left = core; leads = w.run.has.run; spelled = λ _. spelled; logged = λ none. absurd (none tt); shown = λ none. absurd (none tt) };
                 more = [];
                 all = sym (append-nil history);
                 drained = quiet_is_drained (play_of file) max (length file.parties) core w.run.has.quiet;

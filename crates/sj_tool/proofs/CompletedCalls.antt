@@ -10,7 +10,7 @@ use Rattle.sj_command.specs.Task.{Asks}
 use Rattle.sj_command.proofs.OneTask.{one_task}
 use Rattle.sj_tool.specs.AnswerAt.{AnswerAt, Damaged}
 use Rattle.sj_tool.specs.Answers.{IsInTable, OrYields}
-use Rattle.sj_tool.specs.Calls.{CallAt, CountNone, LinkUseAt, LinksHold}
+use Rattle.sj_tool.specs.Calls.{CallAt, CountNone, LinksHold}
 use Rattle.sj_tool.specs.Completeness.{Completes, CompletesSo, IsValid, IsValidOver}
 use Rattle.sj_tool.specs.LayersOver.{ComesOf}
 use Rattle.sj_tool.specs.LogAt.{LogAt}
@@ -19,7 +19,6 @@ use Rattle.sj_tool.specs.Tasks.{RunsParties}
 use Rattle.sj_tool.specs.Texts.{status_of, text_of}
 use Rattle.sj_tool.proofs.Completed.{completes}
 use Rattle.sj_tool.proofs.CompletedFile.{IsUndamaged}
-use Rattle.sj_tool.proofs.ExactnessLemmas.{call_at}
 use Rattle.sj_tool.proofs.OverAnswers.{damage_written}
 use Rattle.sj_tool.proofs.RowKindLemmas.{row_of}
 
@@ -62,11 +61,9 @@ module _ (c : CallAt) (file : FileAt) (log : LogAt) where
   undamaged task v a x = tt
 
 -- the answer that is written completes the task
-pub answered_whole : (said : List (List ℕ)) (left after : Option (List ℕ)) (f g : ℕ) (links : LinkUseAt) (a : AnswerAt) (status : ℕ) (before now : Option (List ℕ))
-    → IsInTable (call_at said left after f g links) a → status ≡ status_of a → now ≡ put_behind before (text_of a)
-    → (task : Task) (file : FileAt) (log : LogAt) → IsValid (call_at said left after f g links) task file log → OrYields status (CompletesSo task file log status before now)
-answered_whole said left after f g links a status before now comes e d task file log valid =
-    let c = call_at said left after f g links in
+pub answered_whole : (c : CallAt) (a : AnswerAt) (status : ℕ) (before now : Option (List ℕ)) → IsInTable c a → status ≡ status_of a → now ≡ put_behind before (text_of a)
+    → (task : Task) (file : FileAt) (log : LogAt) → IsValid c task file log → OrYields status (CompletesSo task file log status before now)
+answered_whole c a status before now comes e d task file log valid =
     inl (record { text = text_of a; completes = subst (λ (s : ℕ). Completes task file log s (text_of a)) (sym e) (completes c file log task (counts_none c file log task valid) a (undamaged c file log task valid a comes) (row_of c a comes)); written = d })
 
 -- or, over links that count none, it reports damage
@@ -75,15 +72,10 @@ whole_or (Damaged t) = inr (t, refl)
 whole_or a = inl tt
 
 module _ {O I : Type 0} (outward : OutLane O) (inward : InLane I) (joined : O → I → Type 0) where
-  pub answered_in_order : (said : List (List ℕ)) (left after : Option (List ℕ)) (f g : ℕ) (links : LinkUseAt) (a : AnswerAt) (status : ℕ) (before now : Option (List ℕ))
-      → IsInTable (call_at said left after f g links) a → ComesOf outward inward joined (call_at said left after f g links) a → status ≡ status_of a → now ≡ put_behind before (text_of a)
-      → (task : Task) (file : FileAt) (log : LogAt) → IsValidOver CountNone (call_at said left after f g links) task file log
-      → OrYields status (CompletesSo task file log status before now ⊎ WritesDamage outward inward joined (call_at said left after f g links) before now)
-  answered_in_order said left after f g links a status before now comes over e d task file log valid = inl (by (whole_or a))
+  pub answered_in_order : (c : CallAt) (a : AnswerAt) (status : ℕ) (before now : Option (List ℕ)) → IsInTable c a → ComesOf outward inward joined c a → status ≡ status_of a → now ≡ put_behind before (text_of a)
+      → (task : Task) (file : FileAt) (log : LogAt) → IsValidOver CountNone c task file log → OrYields status (CompletesSo task file log status before now ⊎ WritesDamage outward inward joined c before now)
+  answered_in_order c a status before now comes over e d task file log valid = inl (by (whole_or a))
     where
-      c : CallAt
-      c = call_at said left after f g links
-
       by : IsUndamaged a ⊎ ((t : List ℕ) × (a ≡ Damaged t)) → CompletesSo task file log status before now ⊎ WritesDamage outward inward joined c before now
       by (inl whole) =
           inl (record { text = text_of a; completes = subst (λ (s : ℕ). Completes task file log s (text_of a)) (sym e) (completes c file log task valid a whole (row_of c a comes)); written = d })

@@ -77,8 +77,8 @@ module _ (links : LinkUseAt) (log : LogAt) (file : FileAt) (t : ℕ × List ℕ)
   faultless (tasks.Run false looks workers) fits there p =
       let s = played_so links (tasks.Run false looks workers) log file p.verdict p.text tt p.plays in
       played false file t p.verdict p.text (tasks.Run false looks workers) p.are s (λ _. s.bare (λ logs. never (sym logs)))
-  faultless (tasks.Replay l) fits there (inl (r, k, a, e)) = let fit = fits tt in absurd (fault_or_lines file log r k fit.lines a fit.given)
-  faultless (tasks.Replay l) fits there (inr (inl (s, a, e))) = let fit = fits tt in absurd (misfit_or_history file log s fit.lines fit.left a fit.given fit.leads)
+  faultless (tasks.Replay l) fits there (inl (r, k, a, e)) = let fit = fits tt in absurd (fault_or_lines file log r k fit.lines a (fit.spelled tt))
+  faultless (tasks.Replay l) fits there (inr (inl (s, a, e))) = let fit = fits tt in absurd (misfit_or_history file log s fit.lines fit.left a (fit.spelled tt) fit.leads)
   faultless (tasks.Replay l) fits there (inr (inr p)) = replay_played l p
   faultless (tasks.Talk n) fits there (inl (lacks, e)) = absurd (let no : ⊥ = omega (arith, lacks, there) in no)
   faultless (tasks.Talk n) fits there (inr p) = (ap (λ z. z.0) p.are ∙ ap verdict_status p.plays.end, ap (λ z. z.1) p.are ∙ p.plays.printed)

@@ -1,5 +1,5 @@
 -- A core world to which given lines lead, and what is drained after them.
-use Rattle.std.proofs.Common.{◌≡◌, ◌∙◌, ℕ, max, true, List, ◌++◌, map, length, subst}
+use Rattle.std.proofs.Common.{◌≡◌, ◌∙◌, ℕ, max, true, List, ◌++◌, map, length, subst, sym}
 use Rattle.sj_lang.specs.FileAt.{FileAt}
 use Rattle.sj_lang.specs.Place.{Place}
 use Rattle.sj_acceptance.specs.Accepted.{IsAccepted}
@@ -23,10 +23,11 @@ use Rattle.sj_run.specs.Logged.{AreLogged}
 use Rattle.sj_run.specs.Shown.{IsShown}
 use Rattle.sj_command.specs.declared.tasks.Task.{Task}
 use Rattle.sj_command.specs.declared.tasks.Task.TheVariants as tasks
-use Rattle.sj_tool.specs.LogAt.{LogAt}
+use Rattle.sj_tool.specs.declared.plans.Print.{Print}
+use Rattle.sj_tool.specs.LogAt.{LogAt, Spells}
 use Rattle.sj_tool.specs.Calls.{LinkUseAt}
-use Rattle.sj_tool.specs.Tasks.{RunsParties, looks_of}
-use Rattle.sj_tool.specs.Runs.{HasHistory, HasRun, IsGiven, IsTold, actors}
+use Rattle.sj_tool.specs.Tasks.{Replays, RunsParties, looks_of}
+use Rattle.sj_tool.specs.Runs.{HasBegun, HasHistory, HasRun, IsTold, actors, print_of}
 
 -- a history of what is kept of a file is one of the file
 pub kept_history : (file kept : FileAt) (lines : List LineAt) (w : WorldAt Place Program) → kept ≡ without_words file → IsHistory max kept lines w → IsHistory max file lines w
@@ -34,12 +35,21 @@ kept_history file kept lines w is h =
     subst (λ (start : WorldAt Place Program). Rattle.sj_rules.specs.History.IsLog (play_of file) max start lines w) (core_start_same file)
     (subst (λ (f : FileAt). IsHistory max f lines w) is h)
 
--- what parties logged is given to a task that runs them, as links that report show it
-pub ran_given : (links : LinkUseAt) (task : Task) (log : LogAt) (file : FileAt) (lines : List LineAt) (left : WorldAt Place Program) → RunsParties task
-    → AreLogged file lines → (links.tells ≡ true → IsShown file (looks_of task) links.keeps lines left) → IsGiven links task log file lines left
-ran_given links (tasks.Run l looks workers) log file lines left h logged shown = (logged, shown)
-ran_given links (tasks.Big n) log file lines left h logged shown = (logged, shown)
-ran_given links task log file lines left h logged shown = absurd h
+-- a task that runs parties replays no log
+pub runs_or_replays : (task : Task) → RunsParties task → Replays task → ⊥
+runs_or_replays (tasks.Replay l) runs replays = runs
+runs_or_replays task runs replays = replays
+
+module _ (links : LinkUseAt) (task : Task) (log : LogAt) (file : FileAt) (lines : List LineAt) (left : WorldAt Place Program) where
+  -- what parties logged begins a history of a task that runs them, as links that report show it
+  abbrev pub ran_begun : RunsParties task → IsHistory max file lines left → AreLogged file lines → (links.tells ≡ true → IsShown file (looks_of task) links.keeps lines left) → HasBegun links task log file
+  ran_begun runs leads logged shown =
+      record { lines = lines; left = left; leads = leads; spelled = λ replays. absurd (runs_or_replays task runs replays); logged = λ none. logged; shown = λ none. shown }
+
+  -- what the log spells begins one of a task that replays it
+  abbrev pub spelled_begun : Replays task → IsHistory max file lines left → Spells file log lines → HasBegun links task log file
+  spelled_begun replays leads spells =
+      record { lines = lines; left = left; leads = leads; spelled = λ _. spells; logged = λ none. absurd (none replays); shown = λ none. absurd (none replays) }
 
 module _ (file first kept : FileAt) (of_file : first ≡ without_words file) (same : kept ≡ first) (n m : ℕ) (left core : WorldAt Place Program) (lines more history : List LineAt) where
   -- what is drained is a history of the file, and leaves nothing to do
@@ -49,16 +59,17 @@ module _ (file first kept : FileAt) (of_file : first ≡ without_words file) (sa
       let rest : IsQuietAmong (play_of kept) (length kept.parties) core = subst (λ (k : ℕ). IsQuietAmong (play_of kept) k core) those quiet in
       (kept_history file kept history core all_kept run, subst (λ (f : FileAt). IsQuietAmong (play_of f) (length f.parties) core) all_kept rest)
 
-  -- lines that are given, and what was drained after them
+  -- lines that were logged or are spelled, and what was drained after them
   abbrev pub drained_has : (links : LinkUseAt) (task : Task) (log : LogAt) → n ≡ length first.parties → m ≡ length kept.parties → history ≡ lines ++ more → IsHistory max first lines left
-      → IsGiven links task log file lines left → IsHistory max kept history core → IsDrained (play_of first) max n left (map turn_of more) core → IsQuietAmong (play_of kept) m core
+      → (Replays task → Spells file log lines) → ((Replays task → ⊥) → AreLogged file lines) → ((Replays task → ⊥) → links.tells ≡ true → IsShown file (looks_of task) links.keeps lines left)
+      → IsHistory max kept history core → IsDrained (play_of first) max n left (map turn_of more) core → IsQuietAmong (play_of kept) m core
       → HasHistory links task log file history core
-  drained_has links task log all those listed begins given run drained quiet =
+  drained_has links task log all those listed begins spelled logged shown run drained quiet =
       let by : IsDrained (play_of first) max (length first.parties) left (map turn_of more) core =
       subst (λ (k : ℕ). IsDrained (play_of first) max k left (map turn_of more) core) all drained in
       let whole = drained_quiet those run quiet in
       record {
-        begun = record { lines = lines; left = left; leads = kept_history file first lines left of_file begins; given = given };
+        begun = record { lines = lines; left = left; leads = kept_history file first lines left of_file begins; spelled = spelled; logged = logged; shown = shown };
         more = more;
         all = listed;
         drained = subst (λ (f : FileAt). IsDrained (play_of f) max (length f.parties) left (map turn_of more) core) of_file by;
@@ -71,7 +82,7 @@ module _ (file first kept : FileAt) (of_file : first ≡ without_words file) (sa
       → AreLogged file lines → (links.tells ≡ true → IsShown file (looks_of task) links.keeps lines left) → IsHistory max kept history core → IsDrained (play_of first) max n left (map turn_of more) core → IsQuietAmong (play_of kept) m core
       → HasHistory links task log file history core
   drained_ran links task runs log all those listed begins logged shown run drained quiet =
-      drained_has links task log all those listed begins (ran_given links task log file lines left runs logged shown) run drained quiet
+      drained_has links task log all those listed begins (λ replays. absurd (runs_or_replays task runs replays)) (λ none. logged) (λ none. shown) run drained quiet
 
 -- the acts of a history that leaves nothing to do lead to the end of the file
 pub quiet_ends : (file : FileAt) → IsAccepted file → (history : List LineAt) (core : WorldAt Place Program) → IsHistory max file history core → IsQuietAmong (play_of file) (length file.parties) core
@@ -81,11 +92,11 @@ quiet_ends file accepted history core run quiet =
 
 -- so what is reported of it is what the task answers
 abbrev pub told_runs : (links : LinkUseAt) (task : Task) (log : LogAt) (file : FileAt) → IsAccepted file → (history : List LineAt) (core : WorldAt Place Program) → HasHistory links task log file history core
-    → (v : Verdict) (text : List ℕ) → IsTold task file history v text → HasRun links task log file v text
-told_runs links task log file accepted history core has v text told = record {
+    → (p : Print) → print_of task ≡ p → (v : Verdict) (text : List ℕ) → IsTold p file history v text → HasRun links task log file v text
+told_runs links task log file accepted history core has p is v text told = record {
   history = history;
   core = core;
   has = has;
   headline = settled_run_has_it file (actors history) (end_of file) accepted (quiet_ends file accepted history core has.run has.quiet) (end_is_settled file);
-  told = told;
+  told = subst (λ (q : Print). IsTold q file history v text) (sym is) told;
 }

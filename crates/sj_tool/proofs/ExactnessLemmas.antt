@@ -4,26 +4,22 @@ use Rattle.sj_base.specs.Stream.{put_behind}
 use Rattle.sj_tool.specs.AnswerAt.{AnswerAt}
 use Rattle.sj_tool.specs.Texts.{no_memory_status, status_of, text_of, write_fault_status}
 use Rattle.sj_tool.specs.Answers.{IsInTable, OrYields}
-use Rattle.sj_tool.specs.Calls.{CallAt, LinkUseAt}
+use Rattle.sj_tool.specs.Calls.{CallAt}
 use Rattle.sj_tool.specs.Table.{AnswersAs, NoFaultAbove}
 use Rattle.sj_tool.proofs.RowLemmas.{one_comes}
 
-abbrev pub call_at : List (List ℕ) → Option (List ℕ) → Option (List ℕ) → ℕ → ℕ → LinkUseAt → CallAt
-call_at words left after f g links = record { words = words; left = left; left_after = after; faults = f; faults_after = g; links = links }
+module _ (c : CallAt) (status : ℕ) (before now : Option (List ℕ)) where
+  -- what the table gives is the answer, or the sink or memory failed
+  abbrev Exact : Type 0
+  Exact = (b : AnswerAt) → IsInTable c b → NoFaultAbove c b → OrYields status (AnswersAs c status before now b)
 
-pub answered_exactly : (words : List (List ℕ)) (left after : Option (List ℕ)) (f g : ℕ) (links : LinkUseAt) (a : AnswerAt) (status : ℕ) (before now : Option (List ℕ))
-    → IsInTable (call_at words left after f g links) a → status ≡ status_of a → now ≡ put_behind before (text_of a)
-    → IfSome left (λ _. (b : AnswerAt) → IsInTable (call_at words left after f g links) b → NoFaultAbove (call_at words left after f g links) b
-    → OrYields status (AnswersAs (call_at words left after f g links) status before now b))
-answered_exactly words None after f g links a status before now comes e d = tt {0}
-answered_exactly words (Some left) after f g links a status before now comes e d =
-    λ b other above.
-    inl (record { answer = a; one = one_comes (call_at words (Some left) after f g links) left refl a b comes other above; answers = (e, d) })
+  if_reports : (left : Option (List ℕ)) → c.left ≡ left → ((rest : List ℕ) → c.left ≡ Some rest → Exact) → IfSome left (λ _. Exact)
+  if_reports None is exact = tt {0}
+  if_reports (Some rest) is exact = exact rest is
 
--- nor is more asked where the sink fails or memory
-pub yields_exactly : (words : List (List ℕ)) (left after : Option (List ℕ)) (f g : ℕ) (links : LinkUseAt) (status : ℕ) (before now : Option (List ℕ))
-    → (status ≡ write_fault_status) ⊎ (status ≡ no_memory_status)
-    → IfSome left (λ _. (b : AnswerAt) → IsInTable (call_at words left after f g links) b → NoFaultAbove (call_at words left after f g links) b
-    → OrYields status (AnswersAs (call_at words left after f g links) status before now b))
-yields_exactly words None after f g links status before now yields = tt {0}
-yields_exactly words (Some left) after f g links status before now yields = λ b other above. inr yields
+  pub answered_exactly : (a : AnswerAt) → IsInTable c a → status ≡ status_of a → now ≡ put_behind before (text_of a) → IfSome c.left (λ _. Exact)
+  answered_exactly a comes e d =
+      if_reports c.left refl (λ rest is b other above. inl (record { answer = a; one = one_comes c rest is a b comes other above; answers = (e, d) }))
+
+  pub yields_exactly : (status ≡ write_fault_status) ⊎ (status ≡ no_memory_status) → IfSome c.left (λ _. Exact)
+  yields_exactly yields = if_reports c.left refl (λ rest is b other above. inr yields)

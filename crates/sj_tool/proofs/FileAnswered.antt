@@ -22,13 +22,13 @@ use Rattle.sj_talk.specs.TalkWorld.{talk_start}
 use Rattle.sj_tool.specs.AnswerAt.{NoParty, AnswerAt, Check, LinkFault, Printed, Ran}
 use Rattle.sj_tool.specs.Answers.{AnswersFile}
 use Rattle.sj_tool.specs.Calls.{LinkUseAt, LinksHold}
-use Rattle.sj_tool.specs.Runs.{HasBegun, run_text}
+use Rattle.sj_tool.specs.Runs.{HasBegun, print_of, run_text}
 use Rattle.sj_tool.specs.Shown.{shown}
 use Rattle.sj_tool.specs.Tasks.{HasEvents, RunsParties, Takes}
 use Rattle.sj_tool.specs.Texts.{counts_of}
 use Rattle.sj_tool.proofs.ForestLemmas.{has_forest_text}
 use Rattle.sj_tool.proofs.ForwardLemmas.{has_forward_text}
-use Rattle.sj_tool.proofs.DrainedLemmas.{ran_given, told_runs}
+use Rattle.sj_tool.proofs.DrainedLemmas.{ran_begun, told_runs}
 use Rattle.sj_tool.proofs.DrainedLines.{begun_goes_on}
 use Rattle.sj_tool.proofs.KindLemmas.{run_has_events, run_plays}
 use Rattle.sj_tool.proofs.LogLeads.{log_told_or_begun}
@@ -43,8 +43,8 @@ module _ (links : LinkUseAt) (task : Task) (log : LogAt) (file : FileAt) (accept
   begun_answered events begun =
       let (history, core, has) = begun_goes_on links task log file accepted begun in
       let verdict = verdict_of (end_of file) in
-      let text = run_text task file history (end_of file) in
-      let ran = told_runs links task log file accepted history core has verdict text (refl, refl) in
+      let text = run_text (print_of task) file history (end_of file) in
+      let ran = told_runs links task log file accepted history core has (print_of task) refl verdict text (refl, refl) in
       (Ran verdict text, (accepted, run_plays links task log file verdict text events ran))
 
   -- where nothing happened nothing is logged
@@ -65,12 +65,7 @@ module _ (links : LinkUseAt) (task : Task) (log : LogAt) (file : FileAt) (accept
       by (inl calm) true e = begun_answered (run_has_events task runs) (shows (e, λ rose. not-le_of_lt calm rose))
       by (inl calm) false e =
           begun_answered (run_has_events task runs)
-          (record {
-            lines = [];
-            left = core_start file;
-            leads = refl;
-            given = ran_given links task log file [] (core_start file) runs none_logged (λ tells. let clash : true ≡ false = sym tells ∙ e in absurd (cc));
-          })
+          (ran_begun links task log file [] (core_start file) runs refl none_logged (λ tells. let clash : true ≡ false = sym tells ∙ e in absurd (cc)))
 
 -- of an accepted file
 accepted_answered : (links : LinkUseAt) (task : Task) (log : LogAt) (file : FileAt) → Takes task → IsAccepted file → (RunsParties task → LinksHold links → HasBegun links task log file) → HasAnswer links task log file

@@ -14,11 +14,15 @@ use Rattle.sj_run.specs.declared.refusal.RunRefusal.{RunRefusal}
 use Rattle.sj_run.specs.declared.refusal.RunRefusal.TheVariants as refusals
 use Rattle.sj_tool.specs.LogAt.{LogAt, Spells, log_at}
 use Rattle.sj_tool.specs.declared.answers.Answer.{Answer}
+use Rattle.sj_tool.specs.declared.plans.Play.{Play}
+use Rattle.sj_tool.specs.declared.plans.Play.TheVariants as plays
+use Rattle.sj_tool.specs.declared.plans.Running.{Running}
 use Rattle.sj_tool.specs.AnswerAt.{AnswerAt, answer_at, Usage, ReadFault, TooLarge, Syntax, LogFault, Misfit, Damaged, Made, NoTalk}
 use Rattle.sj_tool.specs.declared.replays.ReplayFault.{ReplayFault}
 use Rattle.sj_tool.specs.declared.replays.ReplayFault.TheVariants as faults
 use Rattle.sj_tool.specs.Answers.{AnswersFile}
 use Rattle.sj_tool.specs.Layers.{AnswersBytes, AnswersText}
+use Rattle.sj_tool.specs.Plans.{DoesSo, RunsSo}
 use Rattle.sj_tool.specs.Calls.{LinkUseAt}
 use Rattle.sj_tool.specs.Entries.{IsDamagedBy, IsToldMisfit, IsToldSo}
 use Rattle.sj_tool.specs.Tasks.{HasParts, Replays as IsReplay, RunsParties}
@@ -35,25 +39,34 @@ answers_text links task log text file (Syntax f) stands x = absurd x
 answers_text links task log text file (Made t) stands x = absurd x
 answers_text links task log text file a stands x = record { file = file; stands = stands; answers = x }
 
--- the same of a result, whatever links and log there are, or one of them
-module _ {E : Type 0} (task : Task) (text : List ℕ) (file : FileAt) (stands : IsFile text file) where
-  pub any_answers : (links : LinkUseAt) (log : LogAt) (r : Result Answer E) → IfOk r (λ a. (l : LinkUseAt) (any : LogAt) → AnswersFile l task any file (answer_at a)) → IfOk r (λ a. AnswersText links task log text (answer_at a))
-  any_answers links log (Ok a) x = answers_text links task log text file (answer_at a) stands (x links log)
-  any_answers links log (Err e) x = tt
+-- the same of a result, for each task that does so: whatever links and log there are, or one of
+-- them
+module _ (play : Play) (text : List ℕ) (file : FileAt) (stands : IsFile text file) where
+  module _ (kind : Task) (is : (task : Task) → DoesSo play task → task ≡ kind) where
+    abbrev pub AnswersKind : LinkUseAt → LogAt → Answer → Type 0
+    AnswersKind links log a = (task : Task) → DoesSo play task → AnswersText links task log text (answer_at a)
 
-  pub links_answers : (links : LinkUseAt) (log : LogAt) (r : Result Answer E) → IfOk r (λ a. (any : LogAt) → AnswersFile links task any file (answer_at a)) → IfOk r (λ a. AnswersText links task log text (answer_at a))
-  links_answers links log (Ok a) x = answers_text links task log text file (answer_at a) stands (x log)
-  links_answers links log (Err e) x = tt
+    kind_answers : (links : LinkUseAt) (log : LogAt) (a : Answer) → AnswersFile links kind log file (answer_at a) → AnswersKind links log a
+    kind_answers links log a x task so = subst (λ (t : Task). AnswersText links t log text (answer_at a)) (sym (is task so)) (answers_text links kind log text file (answer_at a) stands x)
 
-  pub log_answers : (links : LinkUseAt) (log : LogAt) (r : Result Answer E) → IfOk r (λ a. (l : LinkUseAt) → AnswersFile l task log file (answer_at a)) → IfOk r (λ a. AnswersText links task log text (answer_at a))
-  log_answers links log (Ok a) x = answers_text links task log text file (answer_at a) stands (x links)
-  log_answers links log (Err e) x = tt
+    pub any_answers : {E : Type 0} (links : LinkUseAt) (log : LogAt) (r : Result Answer E) → IfOk r (λ a. (l : LinkUseAt) (any : LogAt) → AnswersFile l kind any file (answer_at a)) → IfOk r (AnswersKind links log)
+    any_answers links log (Ok a) x = kind_answers links log a (x links log)
+    any_answers links log (Err e) x = tt
 
-  -- lines of a talk, whatever version a log of theirs had
-  pub talk_answers : (links : LinkUseAt) (version : ℕ) (lines : List ℕ) (r : Result Answer E) → IfOk r (λ a. (l : LinkUseAt) (v : ℕ) → AnswersFile l task (log_at v lines) file (answer_at a))
-      → IfOk r (λ a. AnswersText links task (log_at version lines) text (answer_at a))
-  talk_answers links version lines (Ok a) x = answers_text links task (log_at version lines) text file (answer_at a) stands (x links version)
-  talk_answers links version lines (Err e) x = tt
+    pub log_answers : {E : Type 0} (links : LinkUseAt) (log : LogAt) (r : Result Answer E) → IfOk r (λ a. (l : LinkUseAt) → AnswersFile l kind log file (answer_at a)) → IfOk r (AnswersKind links log)
+    log_answers links log (Ok a) x = kind_answers links log a (x links)
+    log_answers links log (Err e) x = tt
+
+    -- lines of a talk, whatever version a log of theirs had
+    pub talk_answers : {E : Type 0} (links : LinkUseAt) (version : ℕ) (lines : List ℕ) (r : Result Answer E) → IfOk r (λ a. (l : LinkUseAt) (v : ℕ) → AnswersFile l kind (log_at v lines) file (answer_at a)) → IfOk r (AnswersKind links (log_at version lines))
+    talk_answers links version lines (Ok a) x = kind_answers links (log_at version lines) a (x links version)
+    talk_answers links version lines (Err e) x = tt
+
+  -- parties that run
+  pub links_answers : {E : Type 0} (run : Running) → play ≡ plays.Run run → (links : LinkUseAt) (log : LogAt) (r : Result Answer E) → IfOk r (λ a. (t : Task) (any : LogAt) → RunsSo run t → AnswersFile links t any file (answer_at a))
+      → IfOk r (λ a. (task : Task) → DoesSo play task → AnswersText links task log text (answer_at a))
+  links_answers run is links log (Ok a) x = λ task so. answers_text links task log text file (answer_at a) stands (x task log (subst (λ (p : Play). DoesSo p task) is so))
+  links_answers run is links log (Err e) x = tt
 
 pub answers_bytes : (links : LinkUseAt) (task : Task) (bytes text : List ℕ) (log : LogAt) (a : AnswerAt) → HasParts task bytes text log → AnswersText links task log text a → AnswersBytes links task bytes a
 answers_bytes links task bytes text log TooLarge parts x = absurd x.answers

@@ -1,5 +1,5 @@
 -- What is answered of a file that was played has the headline.
-use Rattle.std.proofs.Common.{◌≡◌, ◌∙◌, ◌≤◌, ℕ, List, Option, refl, sym, ap, arith, subst}
+use Rattle.std.proofs.Common.{◌≡◌, ◌∙◌, ℕ, List, Option, refl, sym, ap, arith, subst}
 use Rattle.sj_base.specs.Stream.{put_behind}
 use Rattle.sj_lang.specs.FileAt.{FileAt}
 use Rattle.sj_acceptance.specs.Accepted.{IsAccepted}
@@ -14,13 +14,11 @@ use Rattle.sj_forest_laws.proofs.BlockedLemmas.{never_blocked}
 use Rattle.sj_command.proofs.OneTask.{one_task}
 use Rattle.sj_tool.specs.AnswerAt.{AnswerAt, Ran}
 use Rattle.sj_tool.specs.Answers.{AnswersFile, HoldsFile, IsInTable}
-use Rattle.sj_tool.specs.Calls.{CallAt, LinkUseAt}
+use Rattle.sj_tool.specs.Calls.{CallAt}
 use Rattle.sj_tool.specs.Headline.{HasHeadline, IsPlaying, IsVerdict, ReadsNoForest}
 use Rattle.sj_tool.specs.Tasks.{AsksFor}
 use Rattle.sj_tool.specs.Texts.{status_of, text_of, verdict_status}
-use Rattle.sj_tool.proofs.ExactnessLemmas.{call_at}
-use Rattle.sj_tool.proofs.InputLemmas.{playing_reads, read_of}
-use Rattle.sj_tool.proofs.PlayedAnswers.{beyond, came_of_play, played_so}
+use Rattle.sj_tool.proofs.PlayedAnswers.{came_of_play, played_so}
 
 -- the end of an accepted file has the headline
 end_has_it : (file : FileAt) → IsAccepted file → (acts : List ℕ) × IsHeadline file acts (end_of file)
@@ -29,22 +27,13 @@ end_has_it file accepted = let l = end_is_reached file in (l.acts, settled_run_h
 module _ (c : CallAt) (status : ℕ) (before after : Option (List ℕ)) (verdict : IsVerdict status) (plays : AsksFor IsPlaying c) where
   ran_has_it : (v : Verdict) (t : List ℕ) (h : HoldsFile c) → AnswersFile c.links h.task h.log h.file (Ran v t) → status ≡ verdict_status v → after ≡ put_behind before t → HasHeadline c status before after
   ran_has_it v t x a e d =
-      let file = x.file in
       let kind = subst IsPlaying (one_task c.words plays.task x.task plays.asks x.asks) plays.kind in
-      let read = read_of c x.task x.bytes (playing_reads x.task kind) x.input in
-      let p = played_so c.links x.task x.log file v t kind a.1 in
-      let ends = end_has_it file a.0 in
+      let p = played_so c.links x.task x.log x.file v t kind a.1 in
+      let ends = end_has_it x.file a.0 in
       record {
-        bytes = x.bytes;
-        came = read.came;
-        all = read.all;
-        text = x.text;
-        has = record { task = x.task; asks = x.asks; kind = (x.log, x.parts) };
-        file = file;
-        stands = x.stands;
-        accepted = a.0;
+        read = record { held = x; kind = kind; accepted = a.0 };
         acts = ends.0;
-        end = end_of file;
+        end = end_of x.file;
         headline = ends.1;
         verdict = e ∙ ap verdict_status p.stands;
         behind = p.behind;
@@ -52,16 +41,11 @@ module _ (c : CallAt) (status : ℕ) (before after : Option (List ℕ)) (verdict
         bare = λ no. p.bare (λ more. no (record { task = x.task; asks = x.asks; kind = more }));
       }
 
-  answer_has_it : (a : AnswerAt) → IsInTable c a → status ≡ status_of a → after ≡ put_behind before (text_of a) → HasHeadline c status before after
+  -- the answer that is written has it
+  pub answer_has_it : (a : AnswerAt) → IsInTable c a → status ≡ status_of a → after ≡ put_behind before (text_of a) → HasHeadline c status before after
   answer_has_it a comes e d =
       let p = came_of_play c status verdict plays a comes e in
       ran_has_it p.verdict p.text p.held p.answers (e ∙ ap status_of p.is) (d ∙ ap (λ b. put_behind before (text_of b)) p.is)
-
--- the answer that is written has it
-pub answered_headline : (words : List (List ℕ)) (left after : Option (List ℕ)) (f g : ℕ) (links : LinkUseAt) (a : AnswerAt) (status : ℕ) (before now : Option (List ℕ))
-    → IsInTable (call_at words left after f g links) a → status ≡ status_of a → now ≡ put_behind before (text_of a)
-    → IsVerdict status → AsksFor IsPlaying (call_at words left after f g links) → HasHeadline (call_at words left after f g links) status before now
-answered_headline words left after f g links a status before now comes e d verdict plays = answer_has_it (call_at words left after f g links) status before now verdict plays a comes e d
 
 -- ---- a blocked file is no forest
 
@@ -71,30 +55,8 @@ blocked_alone Blocked e = refl
 blocked_alone Long e = absurd (let no : ⊥ = omega (arith, e) in no)
 
 -- the file of a headline with 6 is no forest
-blocked_by : (c : CallAt) (status : ℕ) (before after : Option (List ℕ)) → status ≡ verdict_status Blocked → HasHeadline c status before after → ReadsNoForest c
+pub blocked_by : (c : CallAt) (status : ℕ) (before after : Option (List ℕ)) → status ≡ verdict_status Blocked → HasHeadline c status before after → ReadsNoForest c
 blocked_by c status before after six h = record {
-  bytes = h.bytes;
-  came = h.came;
-  all = h.all;
-  text = h.text;
-  has = h.has;
-  file = h.file;
-  stands = h.stands;
-  accepted = h.accepted;
-  no_forest = λ forest. never_blocked h.file h.acts h.end h.accepted forest h.headline.run h.headline.settled (blocked_alone (verdict_of h.end) (sym h.verdict ∙ six));
+  read = h.read;
+  no_forest = λ forest. never_blocked h.read.held.file h.acts h.end h.read.accepted forest h.headline.run h.headline.settled (blocked_alone (verdict_of h.end) (sym h.verdict ∙ six));
 }
-
-pub answered_forest : (words : List (List ℕ)) (left after : Option (List ℕ)) (f g : ℕ) (links : LinkUseAt) (a : AnswerAt) (status : ℕ) (before now : Option (List ℕ))
-    → IsInTable (call_at words left after f g links) a → status ≡ status_of a → now ≡ put_behind before (text_of a)
-    → status ≡ verdict_status Blocked → AsksFor IsPlaying (call_at words left after f g links) → ReadsNoForest (call_at words left after f g links)
-answered_forest words left after f g links a status before now comes e d six plays =
-    let c = call_at words left after f g links in
-    blocked_by c status before now six (answer_has_it c status before now (Blocked, six) plays a comes e d)
-
--- a status above 7 is not that of a blocked file
-pub no_blocked : (c : CallAt) (status : ℕ) → 8 ≤ status → status ≡ verdict_status Blocked → AsksFor IsPlaying c → ReadsNoForest c
-no_blocked c status above six plays = absurd (beyond Blocked status above six)
-
--- a status above 7 is no verdict's
-pub no_headline : (c : CallAt) (status : ℕ) (before now : Option (List ℕ)) → 8 ≤ status → IsVerdict status → AsksFor IsPlaying c → HasHeadline c status before now
-no_headline c status before now above verdict plays = absurd (beyond verdict.0 status above verdict.1)

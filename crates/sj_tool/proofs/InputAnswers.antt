@@ -1,14 +1,16 @@
 -- What answers the bytes of a call comes to its row of the table.
-use Rattle.std.proofs.Common.{◌≡◌, ℕ, List, Result, Ok, Err, IfOk, inl, inr, refl}
+use Rattle.std.proofs.Common.{ℕ, List, Result, Ok, Err, IfOk, inl, inr}
 use Rattle.sj_command.specs.declared.tasks.Task.{Task}
 use Rattle.sj_command.specs.declared.tasks.Task.TheVariants as tasks
 use Rattle.sj_command.specs.Task.{Asks}
 use Rattle.sj_tool.specs.declared.answers.Answer.{Answer}
+use Rattle.sj_tool.specs.declared.plans.Play.{Play}
 use Rattle.sj_tool.specs.AnswerAt.{AnswerAt, answer_at, Usage, ReadFault, TooLarge, NoTalk, Syntax, LogFault, Made}
 use Rattle.sj_tool.specs.Answers.{AnswersFile, HoldsFile, IsInTable}
 use Rattle.sj_tool.specs.Calls.{CallAt}
 use Rattle.sj_tool.specs.Layers.{AnswersBytes}
-use Rattle.sj_tool.specs.Tasks.{HasInput, IsRead}
+use Rattle.sj_tool.specs.Plans.{DoesSo}
+use Rattle.sj_tool.specs.Tasks.{HasInput, IsRead, Reads}
 use Rattle.sj_tool.proofs.FileAnswers.{answers_bytes, answers_text}
 
 -- the words ask for a task, and the answer answers its bytes
@@ -73,12 +75,12 @@ input_comes c a x = (
   x.answers.answers.answers,
 )
 
-pub bytes_come : {E : Type 0} (c : CallAt) (task : Task) (bytes : List ℕ) (r : Result Answer E) → Asks c.words task → HasInput c task bytes → IfOk r (λ a. AnswersBytes c.links task bytes (answer_at a))
-    → IfOk r (λ a. IsInTable c (answer_at a))
-bytes_come c task bytes (Ok a) asks input x = input_comes c (answer_at a) (record { task = task; asks = asks; bytes = bytes; input = input; answers = x })
-bytes_come c task bytes (Err e) asks input x = tt
+pub bytes_come : {E : Type 0} (c : CallAt) (task : Task) (bytes : List ℕ) (play : Play) (r : Result Answer E) → Asks c.words task → HasInput c task bytes → DoesSo play task
+    → IfOk r (λ a. (t : Task) → DoesSo play t → AnswersBytes c.links t bytes (answer_at a)) → IfOk r (λ a. IsInTable c (answer_at a))
+bytes_come c task bytes play (Ok a) asks input so x = input_comes c (answer_at a) (record { task = task; asks = asks; bytes = bytes; input = input; answers = x task so })
+bytes_come c task bytes play (Err e) asks input so x = tt
 
--- what is read is the input of a task that makes no file
-pub read_input : (c : CallAt) (task : Task) (bytes : List ℕ) → ((n : ℕ) → task ≡ tasks.Make n → ⊥) → ((n : ℕ) → task ≡ tasks.Big n → ⊥) → IsRead c task bytes → HasInput c task bytes
-read_input c (tasks.Big n) bytes other off x = absurd (off n refl)
-read_input c task bytes other off x = x
+-- what is read is the input of a task that reads
+pub read_input : (c : CallAt) (task : Task) (bytes : List ℕ) → Reads task → IsRead c task bytes → HasInput c task bytes
+read_input c (tasks.Big n) bytes reads x = absurd reads
+read_input c task bytes reads x = x

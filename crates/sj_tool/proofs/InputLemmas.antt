@@ -1,5 +1,5 @@
 -- Where the bytes of a task come from, and their parts.
-use Rattle.std.proofs.Common.{◌≡◌, ◌∙◌, ◌+◌, ℕ, List, [], Option, Some, None, IfSome, ◌++◌, ap, ap₂, sym, refl, arith, length, take, drop, append-nil, append_assoc, length-append}
+use Rattle.std.proofs.Common.{◌≡◌, ◌∙◌, ◌+◌, ℕ, List, [], Option, Some, None, IfSome, ◌++◌, ap, ap₂, sym, subst, refl, arith, length, take, drop, append-nil, append_assoc, length-append}
 use Rattle.std.proofs.Math.Seq.{drop-append_seam, take-append_seam}
 use Rattle.std.specs.Prelude.{Bool}
 use Rattle.sj_base.specs.Stream.{CameOf, put_before}
@@ -9,8 +9,10 @@ use Rattle.sj_log.proofs.PartLemmas.{one_parting}
 use Rattle.sj_log.specs.Parts.{IsParted}
 use Rattle.sj_tool.specs.Answers.{Came}
 use Rattle.sj_tool.specs.Calls.{CallAt}
-use Rattle.sj_tool.specs.Headline.{IsPlaying}
+use Rattle.sj_tool.specs.declared.plans.Play.{Play}
+use Rattle.sj_tool.specs.declared.plans.Play.TheVariants as plays
 use Rattle.sj_tool.specs.LogAt.{LogAt, log_at, no_log}
+use Rattle.sj_tool.specs.Plans.{DoesSo}
 use Rattle.sj_tool.specs.Tasks.{HasInput, HasLongText, HasParts, HasTail, IsPartedFor, IsRead, Reads, RunsParties, limit_of}
 use Rattle.sj_tool.specs.TalkParts.{IsTalk, talk_mark}
 
@@ -43,12 +45,6 @@ read_of c task bytes reads x = x
 pub no_fault_of : (c : CallAt) (task : Task) (bytes : List ℕ) → HasInput c task bytes → c.faults_after ≡ c.faults
 no_fault_of c (tasks.Big n) bytes x = let (unread, made) = x in unread.1
 no_fault_of c task bytes x = x.no_fault
-
--- a task that plays a file reads it
-pub playing_reads : (task : Task) → IsPlaying task → Reads task
-playing_reads (tasks.Make n) plays = absurd plays
-playing_reads (tasks.Big n) plays = absurd plays
-playing_reads task plays = tt
 
 -- a task for which so many bytes came reads, and they came
 pub reads_of : (P : ℕ → ℕ → Type 0) (c : CallAt) (x : Came P c) → Reads x.task
@@ -99,14 +95,15 @@ one_part (tasks.Replay log) bytes s l t m x y = one_parted (tasks.Replay log) by
 one_part (tasks.Talk n) bytes s l t m x y = one_parted (tasks.Talk n) bytes s l t m x.0 y.0
 one_part task bytes s l t m x y = whole bytes s l t m x y
 
--- where none is replayed, the bytes are the text
-pub whole_parts : (task : Task) (bytes : List ℕ) → ((l : Bool) → task ≡ tasks.Replay l → ⊥) → ((n : ℕ) → task ≡ tasks.Talk n → ⊥) → HasParts task bytes bytes no_log
-whole_parts (tasks.Replay log) bytes other off = absurd (other log refl)
-whole_parts (tasks.Talk n) bytes other off = absurd (off n refl)
-whole_parts task bytes other off = (refl, refl)
-
 -- a task that runs parties has its file alone
 pub run_parts : (task : Task) (bytes : List ℕ) → RunsParties task → HasParts task bytes bytes no_log
 run_parts (tasks.Run l looks workers) bytes runs = (refl, refl)
 run_parts (tasks.Big n) bytes runs = (refl, refl)
 run_parts task bytes runs = absurd runs
+
+-- where nothing stands after the file, the bytes are its text
+pub whole_parts : (play : Play) (task : Task) → DoesSo play task → (bytes : List ℕ) → ((l : Bool) → play ≡ plays.Replay l → ⊥) → ((n : ℕ) → play ≡ plays.Talk n → ⊥) → HasParts task bytes bytes no_log
+whole_parts (plays.Run run) task so bytes other off = run_parts task bytes so.0
+whole_parts (plays.Replay prints) task so bytes other off = absurd (other prints refl)
+whole_parts (plays.Talk n) task so bytes other off = absurd (off n refl)
+whole_parts play task so bytes other off = subst (λ (t : Task). HasParts t bytes bytes no_log) (sym so) (refl, refl)

@@ -2,6 +2,7 @@ pub mod EntryLemmas
 pub mod ActingLemmas
 pub mod EndLemmas
 pub mod EndedAnswers
+pub mod FaultAnswers
 pub mod DrainedLemmas
 pub mod KindLemmas
 pub mod SumLemmas

@@ -19,6 +19,7 @@ use Rattle.sj_tool.specs.Answers.{AnswersFile}
 use Rattle.sj_tool.specs.Calls.{LinkUseAt}
 use Rattle.sj_tool.specs.Entries.{entry_line, misfit_head}
 use Rattle.sj_tool.specs.Runs.{HasBegun}
+use Rattle.sj_tool.proofs.DrainedLemmas.{spelled_begun}
 use Rattle.sj_tool.proofs.LineLemmas.{due_or_not}
 
 module _ {P Q : Type 0} (play : Play P Q) (pick : ℕ → ℕ → ℕ) where
@@ -79,7 +80,7 @@ log_told_or_begun links l log file accepted = by (log_read log.version file log.
           Misfit (entry_line misfit_head file x.number x.logged x.other),
           (accepted, tt, record { lines = lines; spells = spells; number = x.number; logged = x.logged; other = x.other; misfit = x.misfit; told = refl }),
         )
-    spelled lines spells (inr x) = inr (record { lines = lines; left = x.world; leads = x.leads; given = spells })
+    spelled lines spells (inr x) = inr (spelled_begun links (tasks.Replay l) log file lines x.world tt x.leads spells)
 
     by : (r : _) → log_read log.version file log.bytes ≡ r → ((a : AnswerAt) × AnswersFile links (tasks.Replay l) log file a) ⊎ HasBegun links (tasks.Replay l) log file
     by (Ok lines) e = spelled lines e (misfits_or_leads (play_of file) max lines (core_start file))

@@ -20,7 +20,7 @@ use Rattle.sj_command.specs.declared.tasks.Task.TheVariants as tasks
 use Rattle.sj_tool.specs.LogAt.{LogAt, Spells}
 use Rattle.sj_tool.specs.Calls.{LinkUseAt}
 use Rattle.sj_tool.specs.Tasks.{HasEvents}
-use Rattle.sj_tool.specs.Runs.{HasHistory, HasRun, run_text}
+use Rattle.sj_tool.specs.Runs.{HasHistory, HasRun, print_of, run_text}
 use Rattle.sj_tool.specs.Table.{AreLogs, IsLogText}
 
 -- ---- a log has one history
@@ -45,7 +45,7 @@ same_spelled file log lines others a b = same_ok lines others (sym a ∙ b)
 pub one_history : (first second : LinkUseAt) (l : Bool) (log : LogAt) (file : FileAt) (history other : List LineAt) (core world : WorldAt Place Program)
     → HasHistory first (tasks.Replay l) log file history core → HasHistory second (tasks.Replay l) log file other world → history ≡ other
 one_history first second l log file history other core world x y =
-    let lines : x.begun.lines ≡ y.begun.lines = same_spelled file log x.begun.lines y.begun.lines x.begun.given y.begun.given in
+    let lines : x.begun.lines ≡ y.begun.lines = same_spelled file log x.begun.lines y.begun.lines (x.begun.spelled tt) (y.begun.spelled tt) in
     let left : x.begun.left ≡ y.begun.left =
     same_world (play_of file) max y.begun.lines (core_start file) x.begun.left y.begun.left (subst (λ (ls : List LineAt). IsHistory max file ls x.begun.left) lines x.begun.leads) y.begun.leads in
     let drained =
@@ -74,7 +74,7 @@ module _ (links : LinkUseAt) (log : LogAt) (file : FileAt) (v w : Verdict) (s t 
 
   -- one text
   print : (task : Task) (x : HasRun links task log file v s) (y : HasRun links task log file w t)
-      → run_text task file x.history (end_of file) ≡ run_text task file y.history (end_of file) → AreAlike links task log file v w s t
+      → run_text (print_of task) file x.history (end_of file) ≡ run_text (print_of task) file y.history (end_of file) → AreAlike links task log file v w s t
   print task x y same = (stand task x y, inl (x.told.1 ∙ same ∙ sym y.told.1))
 
   pub one_run : (task : Task) → HasEvents task → HasRun links task log file v s → HasRun links task log file w t → AreAlike links task log file v w s t
@@ -86,5 +86,5 @@ module _ (links : LinkUseAt) (log : LogAt) (file : FileAt) (v w : Verdict) (s t 
   )
   one_run (tasks.Replay l) h x y =
       let same : x.history ≡ y.history = one_history links links l log file x.history y.history x.core y.core x.has y.has in
-      print (tasks.Replay l) x y (ap (λ (h : List LineAt). run_text (tasks.Replay l) file h (end_of file)) same)
+      print (tasks.Replay l) x y (ap (λ (h : List LineAt). run_text (print_of (tasks.Replay l)) file h (end_of file)) same)
   one_run task h x y = absurd h

@@ -1,5 +1,5 @@
 -- What is answered of damage and of a run, with the workers and lanes of which it comes.
-use Rattle.std.proofs.Common.{◌≡◌, ◌∙◌, ◌≤◌, ℕ, List, Option, Result, Ok, Err, IfOk, refl, sym, ap, subst, arith}
+use Rattle.std.proofs.Common.{◌≡◌, ◌∙◌, ℕ, List, Option, Result, Ok, Err, IfOk, refl, sym, ap, subst, arith}
 use Rattle.std.specs.Prelude.{option_map}
 use Rattle.sj_lang.specs.FileAt.{FileAt}
 use Rattle.sj_lane.specs.declared.lane.OutLane.{Ghosts as OutLane}
@@ -12,21 +12,26 @@ use Rattle.sj_run.specs.declared.refusal.RunRefusal.TheVariants as refusals
 use Rattle.sj_command.specs.declared.tasks.Task.{Task}
 use Rattle.sj_command.specs.Task.{Asks}
 use Rattle.sj_tool.specs.declared.answers.Answer.{Answer}
+use Rattle.sj_tool.specs.declared.plans.Play.{Play}
+use Rattle.sj_tool.specs.declared.plans.Play.TheVariants as plays
+use Rattle.sj_tool.specs.declared.plans.Running.{Running}
 use Rattle.sj_tool.specs.AnswerAt.{AnswerAt, answer_at, Usage, ReadFault, TooLarge, NoTalk, LinkFault, Syntax, Check, LogFault, NoParty, Misfit, Damaged, Printed, Made, Ran}
-use Rattle.sj_tool.specs.Answers.{AnswersFile, IsInTable}
+use Rattle.sj_tool.specs.Answers.{IsInTable}
 use Rattle.sj_tool.specs.Calls.{CallAt, LinkUseAt}
 use Rattle.sj_tool.specs.Headline.{IsVerdict}
 use Rattle.sj_tool.specs.LayersOver.{ComesIn, ComesOf, ComesOfFile}
+use Rattle.sj_tool.specs.Layers.{AnswersText}
 use Rattle.sj_tool.specs.Over.{WritesDamage, WritesRun}
+use Rattle.sj_tool.specs.Plans.{DoesSo, RunsSo}
 use Rattle.sj_tool.specs.Entries.{IsDamagedBy, IsToldSo}
-use Rattle.sj_tool.specs.LogAt.{LogAt, log_at, no_log}
+use Rattle.sj_tool.specs.LogAt.{LogAt, no_log}
 use Rattle.sj_tool.specs.Tasks.{AsksFor, HasInput, RunsParties, looks_of}
 use Rattle.sj_tool.specs.Texts.{status_of, text_of}
 use Rattle.sj_semantics.specs.declared.Verdict.TheVariants.{Blocked, Done, Long}
 use Rattle.sj_base.specs.Stream.{put_behind}
 use Rattle.sj_command.proofs.OneTask.{one_task}
 use Rattle.sj_tool.proofs.InputLemmas.{run_parts}
-use Rattle.sj_tool.proofs.PlayedAnswers.{beyond, came_of_run}
+use Rattle.sj_tool.proofs.PlayedAnswers.{came_of_run}
 
 -- one status is that of damage alone
 damage_by : (a : AnswerAt) → status_of a ≡ 9 → (t : List ℕ) × (a ≡ Damaged t)
@@ -59,36 +64,28 @@ module _ {O I : Type 0} (outward : OutLane O) (inward : InLane I) (joined : O �
       by a told = absurd told
   told_damage links task file refusals.NoMemory a over told = absurd told
 
-  -- where no parties are run there is nothing of that
-  not_run : (links : LinkUseAt) (task kind : Task) (is : task ≡ kind) (source : List ℕ) (file : FileAt) (any : LinkUseAt) (log : LogAt) (a : AnswerAt) → (RunsParties kind → ⊥) → AnswersFile any kind log file a
-      → ComesIn outward inward joined links task source a
-  not_run links task kind is source file any log (Damaged t) none x = absurd (none x.1)
-  not_run links task kind is source file any log (Ran v t) none x = λ runs. absurd (none (subst (λ (t : Task). RunsParties t) is runs))
-  not_run links task kind is source file any log a none x = tt
-
-  module _ {E : Type 0} (links : LinkUseAt) (task kind : Task) (is : task ≡ kind) (source : List ℕ) (file : FileAt) where
-    -- what a file is answered whose parties are run
-    pub run_comes : (r : Result Answer E) → IsFile source file → RunsParties task → IfOk r (λ a. ComesOfFile outward inward joined links task file (answer_at a)) → IfOk r (λ a. ComesIn outward inward joined links task source (answer_at a))
-    run_comes (Ok a) stands runs x = by (answer_at a) x
+  module _ {E : Type 0} (links : LinkUseAt) (play : Play) (text : List ℕ) where
+    -- what is answered to the text of a file whose parties are run
+    pub run_comes : (file : FileAt) (run : Running) → play ≡ plays.Run run → (r : Result Answer E) → IsFile text file → IfOk r (λ a. (t : Task) → RunsSo run t → ComesOfFile outward inward joined links t file (answer_at a))
+        → IfOk r (λ a. (task : Task) → DoesSo play task → ComesIn outward inward joined links task text (answer_at a))
+    run_comes file run is (Ok a) stands x = λ task so. let ran = subst (λ (p : Play). DoesSo p task) is so in by task ran (answer_at a) (x task ran)
       where
-        by : (a : AnswerAt) → ComesOfFile outward inward joined links task file a → ComesIn outward inward joined links task source a
-        by (Damaged t) x = record { file = file; stands = stands; runs = runs; told = x }
-        by (Ran v t) x = λ _. record { file = file; stands = stands; ran = x }
-        by a x = tt
-    run_comes (Err e) stands runs x = tt
+        by : (task : Task) → RunsSo run task → (a : AnswerAt) → ComesOfFile outward inward joined links task file a → ComesIn outward inward joined links task text a
+        by task so (Damaged t) x = record { file = file; stands = stands; runs = so.0; told = x }
+        by task so (Ran v t) x = λ _. record { file = file; stands = stands; ran = x }
+        by task so a x = tt
+    run_comes file run is (Err e) stands x = tt
 
-    pub none_comes : (any : LinkUseAt) (log : LogAt) → (RunsParties kind → ⊥) → (r : Result Answer E) → IfOk r (λ a. (l : LinkUseAt) (any : LogAt) → AnswersFile l kind any file (answer_at a)) → IfOk r (λ a. ComesIn outward inward joined links task source (answer_at a))
-    none_comes any log none (Ok a) x = not_run links task kind is source file any log (answer_at a) none (x any log)
-    none_comes any log none (Err e) x = tt
-
-    pub no_log_comes : (any : LinkUseAt) (log : LogAt) → (RunsParties kind → ⊥) → (r : Result Answer E) → IfOk r (λ a. (l : LinkUseAt) → AnswersFile l kind log file (answer_at a)) → IfOk r (λ a. ComesIn outward inward joined links task source (answer_at a))
-    no_log_comes any log none (Ok a) x = not_run links task kind is source file any log (answer_at a) none (x any)
-    no_log_comes any log none (Err e) x = tt
-
-    pub no_talk_comes : (any : LinkUseAt) (version : ℕ) (lines : List ℕ) → (RunsParties kind → ⊥) → (r : Result Answer E) → IfOk r (λ a. (l : LinkUseAt) (v : ℕ) → AnswersFile l kind (log_at v lines) file (answer_at a))
-        → IfOk r (λ a. ComesIn outward inward joined links task source (answer_at a))
-    no_talk_comes any version lines none (Ok a) x = not_run links task kind is source file any (log_at version lines) (answer_at a) none (x any version)
-    no_talk_comes any version lines none (Err e) x = tt
+    -- where none are run there is nothing of that
+    pub none_comes : (kind : Task) → ((task : Task) → DoesSo play task → task ≡ kind) → (RunsParties kind → ⊥) → (any : LinkUseAt) (log : LogAt) (r : Result Answer E)
+        → IfOk r (λ a. (task : Task) → DoesSo play task → AnswersText any task log text (answer_at a)) → IfOk r (λ a. (task : Task) → DoesSo play task → ComesIn outward inward joined links task text (answer_at a))
+    none_comes kind is none any log (Ok a) x = λ task so. by task (λ runs. none (subst (λ (t : Task). RunsParties t) (is task so) runs)) (answer_at a) (x task so)
+      where
+        by : (task : Task) → (RunsParties task → ⊥) → (a : AnswerAt) → AnswersText any task log text a → ComesIn outward inward joined links task text a
+        by task idle (Damaged t) x = absurd (idle x.answers.1)
+        by task idle (Ran v t) x = λ runs. absurd (idle runs)
+        by task idle a x = tt
+    none_comes kind is none any log (Err e) x = tt
 
   -- a part of a source is answered so only where it is all of it
   pub part_comes : (links : LinkUseAt) (task : Task) (source part : List ℕ) (a : AnswerAt) → (RunsParties task → ⊥) → ComesIn outward inward joined links task part a → ComesIn outward inward joined links task source a
@@ -111,10 +108,10 @@ module _ {O I : Type 0} (outward : OutLane O) (inward : InLane I) (joined : O �
       )
   call_comes c task bytes a asks input x = tt
 
-  pub calls_come : {E : Type 0} (c : CallAt) (task : Task) (bytes : List ℕ) (r : Result Answer E) → Asks c.words task → HasInput c task bytes → IfOk r (λ a. ComesIn outward inward joined c.links task bytes (answer_at a))
-      → IfOk r (λ a. ComesOf outward inward joined c (answer_at a))
-  calls_come c task bytes (Ok a) asks input x = call_comes c task bytes (answer_at a) asks input x
-  calls_come c task bytes (Err e) asks input x = tt
+  pub calls_come : {E : Type 0} (c : CallAt) (task : Task) (bytes : List ℕ) (play : Play) (r : Result Answer E) → Asks c.words task → HasInput c task bytes → DoesSo play task
+      → IfOk r (λ a. (t : Task) → DoesSo play t → ComesIn outward inward joined c.links t bytes (answer_at a)) → IfOk r (λ a. ComesOf outward inward joined c (answer_at a))
+  calls_come c task bytes play (Ok a) asks input so x = call_comes c task bytes (answer_at a) asks input (x task so)
+  calls_come c task bytes play (Err e) asks input so x = tt
 
   module _ (c : CallAt) (status : ℕ) (before after : Option (List ℕ)) (a : AnswerAt) (comes : ComesOf outward inward joined c a) (is : status ≡ status_of a) (wrote : after ≡ put_behind before (text_of a)) where
     -- what is written with the status of damage
@@ -139,7 +136,3 @@ module _ {O I : Type 0} (outward : OutLane O) (inward : InLane I) (joined : O �
           tells_it = there asked;
           written = wrote ∙ ap (λ (b : AnswerAt). put_behind before (text_of b)) p.is;
         }
-
-  -- a status above 7 is no verdict's
-  pub no_run : (c : CallAt) (status : ℕ) (before after : Option (List ℕ)) → 8 ≤ status → IsVerdict status → AsksFor RunsParties c → WritesRun outward inward joined c status before after
-  no_run c status before after above verdict asked = absurd (beyond verdict.0 status above verdict.1)

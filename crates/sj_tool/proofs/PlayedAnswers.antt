@@ -45,7 +45,7 @@ played_so links task log file v text plays p = absurd plays
 
 -- ---- no other status is a verdict's
 
-no_refusal : (v : Verdict) (n : ℕ) → 1 ≤ n → n ≤ 5 → n ≡ verdict_status v → ⊥
+pub no_refusal : (v : Verdict) (n : ℕ) → 1 ≤ n → n ≤ 5 → n ≡ verdict_status v → ⊥
 no_refusal Done n above below e = omega (arith, above, e)
 no_refusal Blocked n above below e = omega (arith, below, e)
 no_refusal Long n above below e = omega (arith, below, e)

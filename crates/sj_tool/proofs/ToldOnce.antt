@@ -110,13 +110,13 @@ module _ (links : LinkUseAt) (log : LogAt) (file : FileAt) where
         let one = fault_once file log r s k m a b in
         same (tasks.Replay l) t u (e ∙ ap₂ (λ x y. (12, text_of (LogFault x y))) one.0 one.1 ∙ sym d)
     log_once l (inl (r, k, a, e)) (inr (inl (s, b, d))) = absurd (fault_or_lines file log r k b.lines a b.spells)
-    log_once l (inl (r, k, a, e)) (inr (inr y)) = absurd (fault_or_lines file log r k y.plays.1.has.begun.lines a y.plays.1.has.begun.given)
+    log_once l (inl (r, k, a, e)) (inr (inr y)) = absurd (fault_or_lines file log r k y.plays.1.has.begun.lines a (y.plays.1.has.begun.spelled tt))
     log_once l (inr (inl (s, a, e))) (inl (r, k, b, d)) = absurd (fault_or_lines file log r k a.lines b a.spells)
     log_once l (inr (inl (s, a, e))) (inr (inl (r, b, d))) =
         same (tasks.Replay l) t u (e ∙ ap (λ x. (12, x)) (misfit_once file log s r a b) ∙ sym d)
-    log_once l (inr (inl (s, a, e))) (inr (inr y)) = absurd (misfit_or_history file log s y.plays.1.has.begun.lines y.plays.1.has.begun.left a y.plays.1.has.begun.given y.plays.1.has.begun.leads)
-    log_once l (inr (inr x)) (inl (r, k, b, d)) = absurd (fault_or_lines file log r k x.plays.1.has.begun.lines b x.plays.1.has.begun.given)
-    log_once l (inr (inr x)) (inr (inl (s, b, d))) = absurd (misfit_or_history file log s x.plays.1.has.begun.lines x.plays.1.has.begun.left b x.plays.1.has.begun.given x.plays.1.has.begun.leads)
+    log_once l (inr (inl (s, a, e))) (inr (inr y)) = absurd (misfit_or_history file log s y.plays.1.has.begun.lines y.plays.1.has.begun.left a (y.plays.1.has.begun.spelled tt) y.plays.1.has.begun.leads)
+    log_once l (inr (inr x)) (inl (r, k, b, d)) = absurd (fault_or_lines file log r k x.plays.1.has.begun.lines b (x.plays.1.has.begun.spelled tt))
+    log_once l (inr (inr x)) (inr (inl (s, b, d))) = absurd (misfit_or_history file log s x.plays.1.has.begun.lines x.plays.1.has.begun.left b (x.plays.1.has.begun.spelled tt) x.plays.1.has.begun.leads)
     log_once l (inr (inr x)) (inr (inr y)) = played_once (tasks.Replay l) x y
 
     faultless_once : (task : Task) → TellsFaultless links task log file t → TellsFaultless links task log file u → AreOfFile task t u

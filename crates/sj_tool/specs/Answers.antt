@@ -1,6 +1,6 @@
 -- The table of answers, in the order of refusals.
 use Rattle.std.specs.Prelude.{◌≡◌, ◌⊎◌, ◌<◌, ◌≤◌, ℕ, List, [], Option, Some, length, true}
-use Rattle.sj_base.specs.Stream.{Rose, CameOf, WroteFrontOf, put_behind}
+use Rattle.sj_base.specs.Stream.{Rose, CameOf, put_behind}
 use Rattle.sj_lane.specs.Told as lanes
 use Rattle.sj_lang.specs.FileAt.{FileAt}
 use Rattle.sj_lang.specs.Limits.{limits}
@@ -67,6 +67,12 @@ pub record HoldsFile (c : CallAt) : Type 0 where
   pub file : FileAt
   pub stands : IsFile text file
 
+-- the words ask for a task of that kind, and the file that its bytes hold is accepted
+pub record HoldsAccepted (P : Task → Type 0) (c : CallAt) : Type 0 where
+  pub held : HoldsFile c
+  pub kind : P held.task
+  pub accepted : IsAccepted held.file
+
 -- the bytes have a text that stands for no file: its first fault
 pub record HasWrongText (task : Task) (bytes : List ℕ) (fault : Fault) : Type 0 where
   pub text : List ℕ
@@ -102,18 +108,6 @@ IsInTable c a = (h : HoldsFile c) × AnswersFile c.links h.task h.log h.file a
 -- the answer that comes is written after what was written before, and its status is answered
 abbrev pub Answers : CallAt → ℕ → Option (List ℕ) → Option (List ℕ) → AnswerAt → Type 0
 Answers c status before after a = (status ≡ status_of a) × (after ≡ put_behind before (text_of a))
-
--- an answer of the table comes, and is the answer
-pub record AnswersOne (c : CallAt) (status : ℕ) (before after : Option (List ℕ)) : Type 0 where
-  pub answer : AnswerAt
-  pub comes : IsInTable c answer
-  pub answers : Answers c status before after answer
-
--- a prefix of the text of an answer that comes stands there
-pub record WroteFront (c : CallAt) (before after : Option (List ℕ)) : Type 0 where
-  pub answer : AnswerAt
-  pub comes : IsInTable c answer
-  pub front : WroteFrontOf (text_of answer) before after
 
 -- it holds, unless a write failed or there was no memory
 abbrev pub OrYields : ℕ → Type 0 → Type 0

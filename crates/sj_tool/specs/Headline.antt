@@ -1,10 +1,7 @@
 -- The headline of the top call: what is written of a file that was played is the transcript of a
 -- run that has it.
-use Rattle.std.specs.Prelude.{◌≡◌, ℕ, true, List, [], ◌++◌, Option, IfSome, ⊤}
-use Rattle.sj_base.specs.Stream.{put_before, put_behind}
-use Rattle.sj_lang.specs.FileAt.{FileAt}
-use Rattle.sj_grammar.specs.Files.{IsFile}
-use Rattle.sj_acceptance.specs.Accepted.{IsAccepted}
+use Rattle.std.specs.Prelude.{◌≡◌, ℕ, true, List, [], ◌++◌, Option, ⊤}
+use Rattle.sj_base.specs.Stream.{put_behind}
 use Rattle.sj_semantics.specs.declared.Verdict.{Verdict}
 use Rattle.sj_semantics.specs.Run.{end_of}
 use Rattle.sj_semantics.specs.State.{verdict_of}
@@ -15,9 +12,9 @@ use Rattle.sj_forest_laws.specs.Forest.{IsForest}
 use Rattle.sj_command.specs.declared.tasks.Task.{Task}
 use Rattle.sj_command.specs.declared.tasks.Task.TheVariants as tasks
 use Rattle.sj_tool.specs.Forwards.{IsForwardText}
-use Rattle.sj_tool.specs.LogAt.{LogAt}
+use Rattle.sj_tool.specs.Answers.{HoldsAccepted}
 use Rattle.sj_tool.specs.Calls.{CallAt}
-use Rattle.sj_tool.specs.Tasks.{AsksFor, HasParts, asks_log}
+use Rattle.sj_tool.specs.Tasks.{AsksFor, asks_log}
 use Rattle.sj_tool.specs.Texts.{verdict_status}
 
 -- it plays a file to its end
@@ -42,58 +39,31 @@ PrintsMore task = asks_log task ≡ true
 abbrev pub IsVerdict : ℕ → Type 0
 IsVerdict status = (verdict : Verdict) × (status ≡ verdict_status verdict)
 
--- the bytes that a task reads have the text of its file
-abbrev pub IsTextOf : Task → (bytes text : List ℕ) → Type 0
-IsTextOf task bytes text = (log : LogAt) × HasParts task bytes text log
-
 -- a run of the accepted file that was read has the headline; the status is its verdict, and its
 -- transcript is written
 pub record HasHeadline (c : CallAt) (status : ℕ) (before after : Option (List ℕ)) : Type 0 where
-  -- the bytes that came, which are all where the source reports
-  pub bytes : List ℕ
-  pub came : c.left ≡ put_before bytes c.left_after
-  pub all : IfSome c.left_after (λ rest. rest ≡ [])
-  -- they have the text of a file, which is accepted; where a log is replayed it stands after that
-  -- text
-  pub text : List ℕ
-  pub has : AsksFor (λ task. IsTextOf task bytes text) c
-  pub file : FileAt
-  pub stands : IsFile text file
-  pub accepted : IsAccepted file
+  -- the bytes that came, which are all where the source reports, have the text of an accepted file
+  pub read : HoldsAccepted IsPlaying c
   -- the acts of its parties, one after another, and the world to which they lead
   pub acts : List ℕ
   pub end : World
-  pub headline : IsHeadline file acts end
+  pub headline : IsHeadline read.held.file acts end
   -- how that world stands is answered, and its transcript is written after what was written before
   pub verdict : status ≡ verdict_status (verdict_of end)
   pub behind : List ℕ
-  pub written : after ≡ put_behind before (transcript_of file end ++ behind)
+  pub written : after ≡ put_behind before (transcript_of read.held.file end ++ behind)
   -- nothing stands after the transcript but where the words ask for the log, or for forwarding
   pub bare : (AsksFor PrintsMore c → ⊥) → behind ≡ []
 
--- an accepted file was read; the status is the verdict of its end, and its text by forwarding is
--- written
+-- the status is the verdict of the end of an accepted file, whose text by forwarding is written
 pub record WritesForwarded (c : CallAt) (status : ℕ) (before after : Option (List ℕ)) : Type 0 where
-  -- the bytes that came, which are all where the source reports
-  pub bytes : List ℕ
-  pub came : c.left ≡ put_before bytes c.left_after
-  pub all : IfSome c.left_after (λ rest. rest ≡ [])
-  pub file : FileAt
-  pub stands : IsFile bytes file
-  pub accepted : IsAccepted file
-  pub verdict : status ≡ verdict_status (verdict_of (end_of file))
+  pub read : HoldsAccepted IsForwarding c
+  pub verdict : status ≡ verdict_status (verdict_of (end_of read.held.file))
   pub text : List ℕ
-  pub is : IsForwardText file text
+  pub is : IsForwardText read.held.file text
   pub written : after ≡ put_behind before text
 
--- the bytes that came have the text of an accepted file that is no forest
+-- the accepted file that was read is no forest
 pub record ReadsNoForest (c : CallAt) : Type 0 where
-  pub bytes : List ℕ
-  pub came : c.left ≡ put_before bytes c.left_after
-  pub all : IfSome c.left_after (λ rest. rest ≡ [])
-  pub text : List ℕ
-  pub has : AsksFor (λ task. IsTextOf task bytes text) c
-  pub file : FileAt
-  pub stands : IsFile text file
-  pub accepted : IsAccepted file
-  pub no_forest : IsForest file → ⊥
+  pub read : HoldsAccepted IsPlaying c
+  pub no_forest : IsForest read.held.file → ⊥

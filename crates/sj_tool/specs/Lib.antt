@@ -1,5 +1,6 @@
 pub mod Acting
 pub mod AnswerAt
+pub mod Answered
 pub mod Answers
 pub mod Calls
 pub mod Completeness
@@ -12,6 +13,7 @@ pub mod LayersOver
 pub mod LogAt
 pub mod Outcomes
 pub mod Over
+pub mod Plans
 pub mod Replays
 pub mod Runs
 pub mod Shown

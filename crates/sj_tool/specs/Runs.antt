@@ -23,9 +23,11 @@ use Rattle.sj_run.specs.Logged.{AreLogged}
 use Rattle.sj_run.specs.Shown.{IsShown}
 use Rattle.sj_command.specs.declared.tasks.Task.{Task}
 use Rattle.sj_command.specs.declared.tasks.Task.TheVariants as tasks
+use Rattle.sj_tool.specs.declared.plans.Print.{Print}
+use Rattle.sj_tool.specs.declared.plans.Print.TheVariants.{Sums, Transcript}
 use Rattle.sj_tool.specs.LogAt.{LogAt, Spells}
 use Rattle.sj_tool.specs.Calls.{LinkUseAt}
-use Rattle.sj_tool.specs.Tasks.{HasEvents, asks_log, looks_of}
+use Rattle.sj_tool.specs.Tasks.{HasEvents, Replays, asks_log, looks_of}
 use Rattle.sj_tool.specs.Shown.{shown}
 use Rattle.sj_tool.specs.ForestTexts.{IsForestText}
 use Rattle.sj_tool.specs.Forwards.{HasForwarded}
@@ -41,18 +43,15 @@ HasSimulated file verdict text = (verdict ≡ verdict_of (end_of file)) × (text
 abbrev pub actors : List LineAt → List ℕ
 actors history = acts_in (map turn_of history)
 
--- where lines come from that lead to that world: a log spells them; or parties that ran logged
--- them, and the links show them, where they report
-abbrev pub IsGiven : LinkUseAt → Task → (log : LogAt) → FileAt → List LineAt → WorldAt Place Program → Type 0
-IsGiven links (tasks.Replay l) log file lines left = Spells file log lines
-IsGiven links task log file lines left = AreLogged file lines × (links.tells ≡ true → IsShown file (looks_of task) links.keeps lines left)
-
--- lines that are given lead from the start of the file to a core world
+-- lines lead from the start of the file to a core world. The log spells them that is replayed. Else
+-- parties that ran logged them, and the links show them, where they report
 pub record HasBegun (links : LinkUseAt) (task : Task) (log : LogAt) (file : FileAt) : Type 0 where
   pub lines : List LineAt
   pub left : WorldAt Place Program
   pub leads : IsHistory max file lines left
-  pub given : IsGiven links task log file lines left
+  pub spelled : Replays task → Spells file log lines
+  pub logged : (Replays task → ⊥) → AreLogged file lines
+  pub shown : (Replays task → ⊥) → links.tells ≡ true → IsShown file (looks_of task) links.keeps lines left
 
 -- a drain goes on from where such lines lead, and leaves nothing to do
 pub record HasHistory (links : LinkUseAt) (task : Task) (log : LogAt) (file : FileAt) (history : List LineAt) (core : WorldAt Place Program) : Type 0 where
@@ -70,14 +69,19 @@ abbrev pub log_part : Bool → FileAt → List LineAt → List ℕ
 log_part false file history = []
 log_part true file history = mark_of (version_of history) ++ log_text file history
 
--- what a task prints of a history, and of the world to which its acts lead
-abbrev pub run_text : Task → FileAt → List LineAt → World → List ℕ
-run_text (tasks.Big n) file history end = summary n file end
-run_text task file history end = transcript_of file end ++ log_part (asks_log task) file history
+-- what a task prints of a history
+abbrev pub print_of : Task → Print
+print_of (tasks.Big n) = Sums n
+print_of task = Transcript (asks_log task)
 
--- how the file ends, and what the task prints of that history
-abbrev pub IsTold : Task → FileAt → List LineAt → Verdict → List ℕ → Type 0
-IsTold task file history verdict text = (verdict ≡ verdict_of (end_of file)) × (text ≡ run_text task file history (end_of file))
+-- that of a history, and of the world to which its acts lead
+abbrev pub run_text : Print → FileAt → List LineAt → World → List ℕ
+run_text (Sums n) file history end = summary n file end
+run_text (Transcript log) file history end = transcript_of file end ++ log_part log file history
+
+-- how the file ends, and what is printed so of that history
+abbrev pub IsTold : Print → FileAt → List LineAt → Verdict → List ℕ → Type 0
+IsTold print file history verdict text = (verdict ≡ verdict_of (end_of file)) × (text ≡ run_text print file history (end_of file))
 
 -- the file was run, by its parties over these links or by the log. The acts of a history are a run
 -- with the headline, which leads to the end of the file, and that is reported
@@ -86,7 +90,7 @@ pub record HasRun (links : LinkUseAt) (task : Task) (log : LogAt) (file : FileAt
   pub core : WorldAt Place Program
   pub has : HasHistory links task log file history core
   pub headline : IsHeadline file (actors history) (end_of file)
-  pub told : IsTold task file history verdict text
+  pub told : IsTold (print_of task) file history verdict text
 
 -- it plays the file to its end, or lets lines play a party of it: how it ended, and what is printed
 abbrev pub Plays : LinkUseAt → Task → (log : LogAt) → FileAt → Verdict → List ℕ → Type 0

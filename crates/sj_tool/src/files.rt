@@ -2,6 +2,7 @@
 ghost use Rattle.std.specs.Prelude.{◌≤◌, ℕ, IfOk, length};
 ghost use Rattle.sj_lang.specs.FileView.{file_of};
 ghost use Rattle.sj_lang.specs.Limits.{limits, IsWithin, source_limit};
+ghost use Rattle.sj_command.specs.declared.tasks.Task.{Task};
 ghost use Rattle.sj_command.specs.declared.tasks.Task.TheVariants as tasks;
 ghost use Rattle.sj_tool.specs.LogAt.{LogAt, log_at};
 ghost use Rattle.sj_print.specs.Version.{IsVersion};
@@ -9,8 +10,8 @@ ghost use Rattle.sj_tool.specs.AnswerAt.{answer_at};
 ghost use Rattle.sj_tool.specs.Answers.{AnswersFile};
 ghost use Rattle.sj_tool.specs.Calls.{LinkUseAt, link_use};
 ghost use Rattle.sj_tool.specs.Entries.{IsToldSo};
-ghost use Rattle.sj_tool.specs.Tasks.{Replays as IsReplay, RunsParties};
 ghost use Rattle.sj_tool.specs.Outcomes.{IsJudged};
+ghost use Rattle.sj_tool.specs.Plans.{RunsSo};
 ghost use Rattle.sj_tool.specs.LayersOver.{ComesOfFile};
 ghost use Rattle.sj_tool.specs.Replays.{IsToldFault};
 
@@ -20,13 +21,13 @@ use crate::duals::shown_text;
 use crate::entries::told_entry;
 use crate::forests::forest_text;
 use crate::forwards::forward;
+use crate::plans::Running;
 use crate::plays::simulate;
 use crate::replays::{ReplayFault, replay};
 use crate::runs::run_file;
 use crate::talks::talk;
 use sj_base::NoMemory;
 use sj_check::{Accepted, CheckRefusal, check};
-use sj_command::Task;
 use sj_lane::Links;
 use sj_lang::File;
 use sj_run::RunRefusal;
@@ -98,7 +99,12 @@ pub(crate) fn forwarded_file(alloc: Global, file: File) -> Result<Answer, NoMemo
 
 /// How a file ends in which these lines play the party of that number, and what is answered to
 /// them.
-pub(crate) fn play(alloc: Global, file: File, party: u16, lines: &[u8]) -> Result<Answer, NoMemory>
+pub(crate) fn talked_file(
+    alloc: Global,
+    file: File,
+    party: u16,
+    lines: &[u8],
+) -> Result<Answer, NoMemory>
     requires { IsWithin limits (file_of file) }
     ensures { IfOk result (λ a. (links : LinkUseAt) (version : ℕ) → AnswersFile links (tasks.Talk party)
         (log_at version lines.now) (file_of file) (answer_at a)) }
@@ -114,27 +120,26 @@ pub(crate) fn play(alloc: Global, file: File, party: u16, lines: &[u8]) -> Resul
     Ok(Answer::Ran(verdict, text))
 }
 
-/// How a file ends that its parties run over those links, and what the task prints of that.
+/// How a file ends that its parties run over those links, and what is printed of that.
 pub(crate) fn ran_by_links<R: Threads + Sync, L: Links, G: Gate>(
     rt: &R,
     alloc: Global,
     file: File,
-    task: Task,
+    run: Running,
     links: &mut L,
     gate: &G,
 ) -> Result<Answer, NoMemory>
-    requires within { IsWithin limits (file_of file) }
-    requires runs { RunsParties task }
-    ensures answer { IfOk result (λ a. (log : LogAt)
+    requires { IsWithin limits (file_of file) }
+    ensures answer { IfOk result (λ a. (task : Task) (log : LogAt) → RunsSo run task
         → AnswersFile (link_use L.Links links.old links.new) task log (file_of file) (answer_at a)) }
-    ensures over { IfOk result (λ a. ComesOfFile L.Out.OutLane L.In.InLane L.joined
+    ensures over { IfOk result (λ a. (task : Task) → RunsSo run task → ComesOfFile L.Out.OutLane L.In.InLane L.joined
         (link_use L.Links links.old links.new) task (file_of file) (answer_at a)) }
 {
     let accepted = match judge(alloc, file)? {
         Judged::Accepted(accepted) => accepted,
         Judged::Fault(rule, line) => return Ok(Answer::Check(rule, line)),
     };
-    match run_file(rt, alloc, &accepted, task, links, gate) {
+    match run_file(rt, alloc, &accepted, run, links, gate) {
         Ok((verdict, text)) => Ok(Answer::Ran(verdict, text)),
         Err(refusal) => {
             let answer = refuse(alloc, accepted.file(), refusal)?;
@@ -143,26 +148,25 @@ pub(crate) fn ran_by_links<R: Threads + Sync, L: Links, G: Gate>(
     }
 }
 
-/// How a file ends that is run by that log of that version, and what the task prints of that.
+/// How a file ends that is run by that log of that version, and what is printed of that.
 pub(crate) fn ran_by_log(
     alloc: Global,
     file: File,
-    task: Task,
+    prints: bool,
     version: u8,
     log: &[u8],
 ) -> Result<Answer, NoMemory>
     requires within { IsWithin limits (file_of file) }
-    requires replays { IsReplay task }
     requires version { IsVersion version }
     requires few { length log.now ≤ source_limit }
-    ensures { IfOk result (λ a. (links : LinkUseAt) → AnswersFile links task (log_at version log.now)
+    ensures { IfOk result (λ a. (links : LinkUseAt) → AnswersFile links (tasks.Replay prints) (log_at version log.now)
         (file_of file) (answer_at a)) }
 {
     let accepted = match judge(alloc, file)? {
         Judged::Accepted(accepted) => accepted,
         Judged::Fault(rule, line) => return Ok(Answer::Check(rule, line)),
     };
-    match replay(alloc, &accepted, task, version, log) {
+    match replay(alloc, &accepted, prints, version, log) {
         Ok((verdict, text)) => Ok(Answer::Ran(verdict, text)),
         Err(fault) => {
             let answer = not_replayed(alloc, accepted.file(), fault)?;

@@ -1,5 +1,6 @@
 //! From the words and the input to the answer.
 ghost use Rattle.std.specs.Prelude.{◌≡◌, ◌≤◌, IfOk, IfSome, None, length};
+ghost use Rattle.sj_command.specs.declared.tasks.Task.{Task as AnyTask};
 ghost use Rattle.sj_generator.specs.Generated.{generated};
 ghost use Rattle.sj_tool.specs.AnswerAt.{answer_at};
 ghost use Rattle.sj_tool.specs.Answers.{IsInTable};
@@ -7,18 +8,20 @@ ghost use Rattle.sj_tool.specs.Layers.{AnswersBytes, AnswersText};
 ghost use Rattle.sj_tool.specs.LayersOver.{ComesIn, ComesOf};
 ghost use Rattle.sj_tool.specs.Calls.{call, link_use};
 ghost use Rattle.sj_tool.specs.LogAt.{log_at};
+ghost use Rattle.sj_tool.specs.Plans.{DoesSo, most_of};
 ghost use Rattle.sj_tool.specs.TalkParts.{HasNoTalk, IsTalk};
-ghost use Rattle.sj_tool.specs.Tasks.{AsksFor, Reads, RunsParties, Takes, limit_of};
+ghost use Rattle.sj_tool.specs.Tasks.{AsksFor, Reads, RunsParties};
 ghost use Rattle.sj_tool.specs.Texts.{IsReadWhole};
 ghost use Rattle.sj_print.specs.Version.{IsVersion};
 ghost use Rattle.sj_lang.specs.Limits.{file_limit, source_limit};
 
 use crate::answers::Answer;
 use crate::files::{
-    count, forwarded_file, play, ran_by_links, ran_by_log, shape, shown, simulated_file,
+    count, forwarded_file, ran_by_links, ran_by_log, shape, shown, simulated_file, talked_file,
 };
+use crate::plans::{Plan, Play, plan_of};
 use sj_base::{NoMemory, ReadRefusal, Source, read_all};
-use sj_command::{Task, task_in};
+use sj_command::task_in;
 use sj_generator::print_generated;
 use sj_lane::Links;
 use sj_log::{line_at, parted};
@@ -56,27 +59,27 @@ pub(crate) fn answer_to<R: Threads + Sync, S: Source, L: Links, G: Gate>(
     let Some(task) = task_in(alloc, words)? else {
         return Ok(Answer::Usage);
     };
-    if let Task::Make(n) = task {
-        return Ok(Answer::Made(generated_text(alloc, n)?));
-    }
-    if let Task::Big(n) = task {
-        let text = generated_text(alloc, n)?;
-        return answer_to_bytes(rt, alloc, task, &text, links, gate);
-    }
-    match read_all(alloc, src, limit_in(task)) {
-        Ok(bytes) => answer_to_bytes(rt, alloc, task, &bytes, links, gate),
-        Err(ReadRefusal::ReadFault) => Ok(Answer::ReadFault),
-        Err(ReadRefusal::TooLarge) => Ok(Answer::TooLarge),
-        Err(ReadRefusal::NoMemory) => Err(NoMemory),
+    match plan_of(task) {
+        Plan::Make(n) => Ok(Answer::Made(generated_text(alloc, n)?)),
+        Plan::Made(n, play) => {
+            let text = generated_text(alloc, n)?;
+            answer_to_bytes(rt, alloc, play, &text, links, gate)
+        }
+        Plan::Read(play) => match read_all(alloc, src, limit_in(play)) {
+            Ok(bytes) => answer_to_bytes(rt, alloc, play, &bytes, links, gate),
+            Err(ReadRefusal::ReadFault) => Ok(Answer::ReadFault),
+            Err(ReadRefusal::TooLarge) => Ok(Answer::TooLarge),
+            Err(ReadRefusal::NoMemory) => Err(NoMemory),
+        },
     }
 }
 
-// The most bytes of what a task reads.
-fn limit_in(task: Task) -> usize
-    ensures { result ≡ limit_of task }
+// The most bytes of what is read.
+fn limit_in(play: Play) -> usize
+    ensures { result ≡ most_of play }
 {
-    match task {
-        Task::Replay { .. } | Task::Talk(_) => MAX_SOURCE,
+    match play {
+        Play::Replay { .. } | Play::Talk(_) => MAX_SOURCE,
         _ => MAX_FILE,
     }
 }
@@ -90,47 +93,47 @@ fn generated_text(alloc: Global, n: u16) -> Result<Vec<u8>, NoMemory>
     Ok(text)
 }
 
-// The answer to the bytes of a task. Of a replay the first line `%%log` or `%%log2` splits them
-// into a file and a log, and names the log's version. Of a talk the first line `%%talk` splits them
-// into a file and lines.
+// The answer to the bytes. Of a replay the first line `%%log` or `%%log2` splits them into a file
+// and a log, and names the log's version. Of a talk the first line `%%talk` splits them into a file
+// and lines.
 fn answer_to_bytes<R: Threads + Sync, L: Links, G: Gate>(
     rt: &R,
     alloc: Global,
-    task: Task,
+    play: Play,
     bytes: &[u8],
     links: &mut L,
     gate: &G,
 ) -> Result<Answer, NoMemory>
-    requires few { length bytes.now ≤ limit_of task }
-    requires takes { Takes task }
-    ensures answer { IfOk result (λ a. AnswersBytes (link_use L.Links links.old links.new) task bytes.now (answer_at a)) }
-    ensures over { IfOk result (λ a. ComesIn L.Out.OutLane L.In.InLane L.joined
+    requires { length bytes.now ≤ most_of play }
+    ensures answer { IfOk result (λ a. (task : AnyTask) → DoesSo play task
+        → AnswersBytes (link_use L.Links links.old links.new) task bytes.now (answer_at a)) }
+    ensures over { IfOk result (λ a. (task : AnyTask) → DoesSo play task → ComesIn L.Out.OutLane L.In.InLane L.joined
         (link_use L.Links links.old links.new) task bytes.now (answer_at a)) }
-    ensures unused { (RunsParties task → ⊥) → links.new ≡ links.old }
+    ensures unused { (task : AnyTask) → DoesSo play task → (RunsParties task → ⊥) → links.new ≡ links.old }
 {
-    match task {
-        Task::Replay { .. } => {
+    match play {
+        Play::Replay { .. } => {
             let Some((text, version, log)) = parted(bytes) else {
                 return Ok(Answer::LogFault(1, 0));
             };
             if text.len() > MAX_FILE {
                 return Ok(Answer::TooLarge);
             }
-            let answer = answer_to_text(rt, alloc, task, text, version, log, links, gate)?;
+            let answer = answer_to_text(rt, alloc, play, text, version, log, links, gate)?;
             Ok(answer)
         }
-        Task::Talk(_) => {
+        Play::Talk(_) => {
             let Some((text, lines)) = parted_talk(bytes) else {
                 return Ok(Answer::NoTalk);
             };
             if text.len() > MAX_FILE {
                 return Ok(Answer::TooLarge);
             }
-            let answer = answer_to_text(rt, alloc, task, text, 1, lines, links, gate)?;
+            let answer = answer_to_text(rt, alloc, play, text, 1, lines, links, gate)?;
             Ok(answer)
         }
         _ => {
-            let answer = answer_to_text(rt, alloc, task, bytes, 1, b"", links, gate)?;
+            let answer = answer_to_text(rt, alloc, play, bytes, 1, b"", links, gate)?;
             Ok(answer)
         }
     }
@@ -152,7 +155,7 @@ fn parted_talk(bytes: &[u8]) -> Option<(&[u8], &[u8])>
 fn answer_to_text<R: Threads + Sync, L: Links, G: Gate>(
     rt: &R,
     alloc: Global,
-    task: Task,
+    play: Play,
     text: &[u8],
     version: u8,
     log: &[u8],
@@ -162,29 +165,25 @@ fn answer_to_text<R: Threads + Sync, L: Links, G: Gate>(
     requires few { length text.now ≤ file_limit }
     requires version { IsVersion version }
     requires log { length log.now ≤ source_limit }
-    requires takes { Takes task }
-    ensures answer { IfOk result (λ a. AnswersText (link_use L.Links links.old links.new)
-        task (log_at version log.now) text.now (answer_at a)) }
-    ensures over { IfOk result (λ a. ComesIn L.Out.OutLane L.In.InLane L.joined
+    ensures answer { IfOk result (λ a. (task : AnyTask) → DoesSo play task
+        → AnswersText (link_use L.Links links.old links.new) task (log_at version log.now) text.now (answer_at a)) }
+    ensures over { IfOk result (λ a. (task : AnyTask) → DoesSo play task → ComesIn L.Out.OutLane L.In.InLane L.joined
         (link_use L.Links links.old links.new) task text.now (answer_at a)) }
-    ensures unused { (RunsParties task → ⊥) → links.new ≡ links.old }
+    ensures unused { (task : AnyTask) → DoesSo play task → (RunsParties task → ⊥) → links.new ≡ links.old }
 {
     let file = match parse_file(alloc, text) {
         Ok(file) => file,
         Err(ParseRefusal::At(fault)) => return Ok(Answer::Syntax(fault)),
         Err(ParseRefusal::NoMemory) => return Err(NoMemory),
     };
-    match task {
-        Task::Show => shown(alloc, &file),
-        Task::Check => count(alloc, file),
-        Task::Forest => shape(alloc, file),
-        Task::Sim => simulated_file(alloc, file),
-        Task::Forward => forwarded_file(alloc, file),
-        Task::Run { .. } => ran_by_links(rt, alloc, file, task, links, gate),
-        Task::Big(_) => ran_by_links(rt, alloc, file, task, links, gate),
-        Task::Replay { .. } => ran_by_log(alloc, file, task, version, log),
-        Task::Talk(party) => play(alloc, file, party, log),
-        // It takes no file.
-        Task::Make(_) => unreachable!(),
+    match play {
+        Play::Check => count(alloc, file),
+        Play::Show => shown(alloc, &file),
+        Play::Forest => shape(alloc, file),
+        Play::Sim => simulated_file(alloc, file),
+        Play::Forward => forwarded_file(alloc, file),
+        Play::Run(run) => ran_by_links(rt, alloc, file, run, links, gate),
+        Play::Replay { prints } => ran_by_log(alloc, file, prints, version, log),
+        Play::Talk(party) => talked_file(alloc, file, party, log),
     }
 }

@@ -12,6 +12,7 @@ mod forwards;
 mod histories;
 mod inputs;
 mod laws;
+mod plans;
 mod plays;
 mod replays;
 mod runs;

@@ -16,16 +16,15 @@ ghost use Rattle.sj_semantics.specs.Run.{IsRun, end_of};
 ghost use Rattle.sj_semantics.specs.State.{opened_in};
 ghost use Rattle.sj_semantics.specs.Transcript.{transcript_of};
 ghost use Rattle.sj_semantics.specs.World.{World as PlainWorld};
-ghost use Rattle.sj_tool.specs.Tasks.{asks_log};
 ghost use Rattle.sj_tool.specs.Telling.{IsToldIn};
 ghost use Rattle.sj_tool.specs.Runs.{HasSimulated, IsTold, log_part, run_text};
 
 use crate::acts::act_all;
 use crate::histories::put_log;
+use crate::plans::Print;
 use crate::sums::{summary_text, sums_text};
 use sj_base::NoMemory;
 use sj_check::Accepted;
-use sj_command::Task;
 use sj_core::World;
 use sj_end::Line;
 use sj_lang::File;
@@ -46,26 +45,26 @@ pub(crate) fn simulate(alloc: Global, accepted: &Accepted) -> Result<(Verdict, V
     Ok((plain.verdict(), text))
 }
 
-/// How the file ends, and what the task prints of a history that leaves nothing to do, as the
-/// history and the nodes report it. Where sessions were opened, whose names no line reports, it is
-/// as the acts make it in the plain world.
+/// How the file ends, and what is printed of a history that leaves nothing to do, as the history
+/// and the nodes report it. Where sessions were opened, whose names no line reports, it is as the
+/// acts make it in the plain world.
 pub(crate) fn tell(
     alloc: Global,
     accepted: &Accepted,
-    task: Task,
+    print: Print,
     world: &World,
 ) -> Result<(Verdict, Vec<u8>), NoMemory>
     requires kept { kept_in world.now ≡ without_words (file_of (file_in accepted.now)) }
     requires run { IsHistory max (file_of (file_in accepted.now)) (history_of world.now) (world_at world.now) }
     requires quiet { IsQuietAmong (play_of (file_of (file_in accepted.now)))
         (length (file_of (file_in accepted.now)).parties) (world_at world.now) }
-    ensures told { IfOk result (λ p. IsTold task (file_of (file_in accepted.now)) (history_of world.now) p.0 p.1.items) }
+    ensures told { IfOk result (λ p. IsTold print (file_of (file_in accepted.now)) (history_of world.now) p.0 p.1.items) }
     ensures accepted { IfOk result (λ p. IsAccepted (file_of (file_in accepted.now))) }
 {
     if world.opens() {
-        tell_acts(alloc, accepted, task, world)
+        tell_acts(alloc, accepted, print, world)
     } else {
-        tell_notes(alloc, accepted, task, world)
+        tell_notes(alloc, accepted, print, world)
     }
 }
 
@@ -73,18 +72,18 @@ pub(crate) fn tell(
 fn tell_acts(
     alloc: Global,
     accepted: &Accepted,
-    task: Task,
+    print: Print,
     world: &World,
 ) -> Result<(Verdict, Vec<u8>), NoMemory>
     requires run { IsHistory max (file_of (file_in accepted.now)) (history_of world.now) (world_at world.now) }
     requires quiet { IsQuietAmong (play_of (file_of (file_in accepted.now)))
         (length (file_of (file_in accepted.now)).parties) (world_at world.now) }
-    ensures told { IfOk result (λ p. IsTold task (file_of (file_in accepted.now)) (history_of world.now) p.0 p.1.items) }
+    ensures told { IfOk result (λ p. IsTold print (file_of (file_in accepted.now)) (history_of world.now) p.0 p.1.items) }
     ensures accepted { IfOk result (λ p. IsAccepted (file_of (file_in accepted.now))) }
 {
     let file = accepted.file();
     let plain = act_all(alloc, accepted, world.history())?;
-    let text = text_for(alloc, file, task, world.history(), &plain)?;
+    let text = text_for(alloc, file, print, world.history(), &plain)?;
     Ok((plain.verdict(), text))
 }
 
@@ -92,7 +91,7 @@ fn tell_acts(
 fn tell_notes(
     alloc: Global,
     accepted: &Accepted,
-    task: Task,
+    print: Print,
     world: &World,
 ) -> Result<(Verdict, Vec<u8>), NoMemory>
     requires kept { kept_in world.now ≡ without_words (file_of (file_in accepted.now)) }
@@ -100,20 +99,20 @@ fn tell_notes(
     requires quiet { IsQuietAmong (play_of (file_of (file_in accepted.now)))
         (length (file_of (file_in accepted.now)).parties) (world_at world.now) }
     requires none { (file : FileAt) → IsQuietOf file world.now → opened_in (end_of file) ≡ [] }
-    ensures told { IfOk result (λ p. IsTold task (file_of (file_in accepted.now)) (history_of world.now) p.0 p.1.items) }
+    ensures told { IfOk result (λ p. IsTold print (file_of (file_in accepted.now)) (history_of world.now) p.0 p.1.items) }
     ensures accepted { IfOk result (λ p. IsAccepted (file_of (file_in accepted.now))) }
 {
     let file = accepted.file();
     let stands = world.stands(alloc)?;
-    let text = noted_text(alloc, file, task, world.history(), &stands)?;
+    let text = noted_text(alloc, file, print, world.history(), &stands)?;
     Ok((verdict_told(&stands), text))
 }
 
-// What the task prints of that history, and of the plain world to which its acts lead.
+// What is printed of that history, and of the plain world to which its acts lead.
 fn text_for(
     alloc: Global,
     file: &File,
-    task: Task,
+    print: Print,
     lines: &[Line],
     plain: &Plain,
 ) -> Result<Vec<u8>, NoMemory>
@@ -122,30 +121,30 @@ fn text_for(
     requires kept { kept_file plain.now ≡ without_words (file_of file.now) }
     requires run { IsRun (kept_file plain.now) (acts_of plain.now) (plain_at plain.now) }
     ensures { IfOk result (λ text. text.items
-        ≡ run_text task (file_of file.now) (map line_at lines.now) (plain_at plain.now)) }
+        ≡ run_text print (file_of file.now) (map line_at lines.now) (plain_at plain.now)) }
 {
-    match task {
-        Task::Big(n) => summary_text(alloc, n, file, plain),
-        _ => logged_text(alloc, file, lines, plain, logs(task)),
+    match print {
+        Print::Transcript { log } => logged_text(alloc, file, lines, plain, log),
+        Print::Sums(n) => summary_text(alloc, n, file, plain),
     }
 }
 
-// What the task prints of the end that those lines report.
+// What is printed of the end that those lines report.
 fn noted_text(
     alloc: Global,
     file: &File,
-    task: Task,
+    print: Print,
     lines: &[Line],
     stands: &[Stand],
 ) -> Result<Vec<u8>, NoMemory>
     requires connects { length (file_of file.now).connects ≤ limits.connects }
     requires parties { length stands.now ≡ length (file_of file.now).parties }
     ensures { IfOk result (λ text. (w : PlainWorld) → IsToldIn (file_of file.now) (map line_at lines.now) stands.now w →
-        text.items ≡ run_text task (file_of file.now) (map line_at lines.now) w) }
+        text.items ≡ run_text print (file_of file.now) (map line_at lines.now) w) }
 {
-    match task {
-        Task::Big(n) => sums_text(alloc, n, file, lines, stands),
-        _ => listed_text(alloc, file, lines, stands, logs(task)),
+    match print {
+        Print::Transcript { log } => listed_text(alloc, file, lines, stands, log),
+        Print::Sums(n) => sums_text(alloc, n, file, lines, stands),
     }
 }
 
@@ -168,17 +167,6 @@ fn listed_text(
     print_told(&mut text, file, &ends, stands)?;
     put_log(&mut text, file, lines, log)?;
     Ok(text)
-}
-
-// Whether the task prints the history after the transcript.
-fn logs(task: Task) -> bool
-    ensures { result ≡ asks_log task }
-{
-    match task {
-        Task::Run { log, .. } => log,
-        Task::Replay { log } => log,
-        _ => false,
-    }
 }
 
 // The transcript, and after it the history where the log is asked for.

@@ -10,14 +10,13 @@ ghost use Rattle.sj_print.specs.Version.{IsVersion};
 ghost use Rattle.sj_command.specs.declared.tasks.Task.TheVariants as tasks;
 ghost use Rattle.sj_tool.specs.Calls.{LinkUseAt};
 ghost use Rattle.sj_tool.specs.LogAt.{Spells, log_at};
-ghost use Rattle.sj_tool.specs.Tasks.{Replays};
 ghost use Rattle.sj_tool.specs.Replays.{IsRefusedBy};
 ghost use Rattle.sj_tool.specs.Runs.{HasHistory, HasRun};
 
+use crate::plans::Print;
 use crate::plays::tell;
 use sj_base::NoMemory;
 use sj_check::Accepted;
-use sj_command::Task;
 use sj_core::{ReplayRefusal, World};
 use sj_end::{Line, Misfit};
 use sj_log::{LogRefusal, read_log};
@@ -59,24 +58,23 @@ impl From<ReplayRefusal> for ReplayFault {
     }
 }
 
-/// How the file ends, and what the task prints of the history that begins with the log of that
-/// version, and goes on with what is drained of it.
+/// How the file ends, and its transcript, by the history that begins with the log of that version
+/// and goes on with what is drained of it. That history is printed, too, where it is asked for.
 pub(crate) fn replay(
     alloc: Global,
     accepted: &Accepted,
-    task: Task,
+    prints: bool,
     version: u8,
     log: &[u8],
 ) -> Result<(Verdict, Vec<u8>), ReplayFault>
-    requires replays { Replays task }
     requires version { IsVersion version }
     requires few { length log.now ≤ source_limit }
     ensures ran { IfOk result (λ p. (links : LinkUseAt)
-        → HasRun links task (log_at version log.now) (file_of (file_in accepted.now)) p.0 p.1.items) }
+        → HasRun links (tasks.Replay prints) (log_at version log.now) (file_of (file_in accepted.now)) p.0 p.1.items) }
     ensures refused { IfErr result (IsRefusedBy (file_of (file_in accepted.now)) (log_at version log.now)) }
 {
     let world = drain_world(alloc, accepted, version, log)?;
-    let answer = tell(alloc, accepted, task, &world)?;
+    let answer = tell(alloc, accepted, Print::Transcript { log: prints }, &world)?;
     Ok(answer)
 }
 

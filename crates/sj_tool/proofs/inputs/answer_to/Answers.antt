@@ -1,26 +1,48 @@
-use Rattle.std.proofs.Common.{◌≤◌, ◌∙◌, ℕ, List, Option, IfSome, ap, arith, length, map, refl, subst, sym}
+use Rattle.std.proofs.Common.{◌<◌, ◌≤◌, ◌∙◌, ℕ, List, Option, IfSome, Err, ap, arith, inl, length, map, refl, subst, sym}
 use Rattle.std.specs.Prelude.{string_bytes}
 use Rattle.sj_command.specs.Task.{Asks}
 use Rattle.sj_command.specs.declared.tasks.Task.{Task}
 use Rattle.sj_command.specs.declared.tasks.Task.TheVariants as tasks
-use Rattle.sj_base.specs.Stream.{put_before}
+use Rattle.sj_base.specs.Stream.{CameOf, put_before}
 use Rattle.sj_generator.proofs.LengthLemmas.{generated_few}
-use Rattle.sj_command.proofs.OneTask.{one_task}
-use Rattle.sj_tool.specs.Tasks.{Reads, limit_of}
-use Rattle.sj_tool.proofs.EndedAnswers.{has_ended, reads_none}
+use Rattle.sj_tool.specs.declared.plans.Plan.{Plan}
+use Rattle.sj_tool.specs.declared.plans.Plan.TheVariants as plans
+use Rattle.sj_tool.specs.Plans.{DoesSo, IsPlan}
+use Rattle.sj_tool.specs.Tasks.{limit_of}
 use Rattle.sj_tool.proofs.InputAnswers.{bytes_come, read_input}
+use Rattle.sj_tool.proofs.KindLemmas.{most_is}
 use Rattle.sj_tool.proofs.OverAnswers.{calls_come}
 use Rattle.sj_tool.proofs.inputs.answer_to.Goals as goal
 
-pub answer_to_bytes-requires-clause-few : goal.answer_to_bytes-requires-clause-few
-answer_to_bytes-requires-clause-few g c κs within =
+pub answer_to_bytes-requires-after_bounds : goal.answer_to_bytes-requires-after_bounds
+answer_to_bytes-requires-after_bounds g c κs within =
     let words = map string_bytes c.args.words.now in
-    let asks : Asks words c.in-Some.task = subst (λ (o : Option Task). IfSome o (Asks words)) c.in-Some.is c.in_ok-task.ensures.asked in
-    let big : Asks words (tasks.Big c.in-Big.n) = subst (λ (t : Task). Asks words t) c.in-Big.is asks in
-    let (taken, means) = big in
-    let few = generated_few c.in-Big.n means.1.1 in
-    let same = ap length (c.deref.ensures.value ∙ c.in_ok-text.ensures) in
-    omega (arith, few, same)
+    let task = c.in-Some.task in
+    let asks : Asks words task = subst (λ (o : Option Task). IfSome o (Asks words)) c.in-Some.is c.in_ok-task.ensures.asked in
+    let plan : IsPlan (plans.Made c.in-Made.n c.in-Made.play) task = subst (λ (p : Plan). IsPlan p task) c.in-Made.is c.plan_of.ensures in
+    let (taken, means) = subst (λ (t : Task). Asks words t) plan.0 asks in
+    let few = generated_few c.in-Made.n means.1.1 in
+    let same = ap length (c.deref.ensures.value ∙ c.in_ok-text-in-Made.ensures) in
+    let most = most_is c.in-Made.play task plan.1 ∙ ap limit_of plan.0 in
+    omega (arith, few, same, most)
+
+pub returns-in_ok-text-in-Made-clause-answer : goal.returns-in_ok-text-in-Made-clause-answer
+returns-in_ok-text-in-Made-clause-answer g c =
+    let words = map string_bytes c.args.words.now in
+    let task = c.in-Some.task in
+    let asks : Asks words task = subst (λ (o : Option Task). IfSome o (Asks words)) c.in-Some.is c.in_ok-task.ensures.asked in
+    let plan : IsPlan (plans.Made c.in-Made.n c.in-Made.play) task = subst (λ (p : Plan). IsPlan p task) c.in-Made.is c.plan_of.ensures in
+    bytes_come _ (tasks.Big c.in-Made.n) c.deref.result.now c.in-Made.play c.answer_to_bytes.result (subst (λ (t : Task). Asks words t) plan.0 asks) ((refl, refl), c.deref.ensures.value ∙ c.in_ok-text-in-Made.ensures)
+    (subst (λ (t : Task). DoesSo c.in-Made.play t) plan.0 plan.1) c.answer_to_bytes.ensures.answer
+
+pub returns-in_ok-text-in-Made-clause-over : goal.returns-in_ok-text-in-Made-clause-over
+returns-in_ok-text-in-Made-clause-over g c =
+    let words = map string_bytes c.args.words.now in
+    let task = c.in-Some.task in
+    let asks : Asks words task = subst (λ (o : Option Task). IfSome o (Asks words)) c.in-Some.is c.in_ok-task.ensures.asked in
+    let plan : IsPlan (plans.Made c.in-Made.n c.in-Made.play) task = subst (λ (p : Plan). IsPlan p task) c.in-Made.is c.plan_of.ensures in
+    calls_come g.L.Out.OutLane g.L.In.InLane g.L.Links.joined _ (tasks.Big c.in-Made.n) c.deref.result.now c.in-Made.play c.answer_to_bytes.result (subst (λ (t : Task). Asks words t) plan.0 asks)
+    ((refl, refl), c.deref.ensures.value ∙ c.in_ok-text-in-Made.ensures) (subst (λ (t : Task). DoesSo c.in-Made.play t) plan.0 plan.1) c.answer_to_bytes.ensures.over
 
 pub returns-in-Ok-clause-answer : goal.returns-in-Ok-clause-answer
 returns-in-Ok-clause-answer g c =
@@ -28,21 +50,15 @@ returns-in-Ok-clause-answer g c =
     let task = c.in-Some.task in
     let bytes = c.deref-in-Ok.result.now in
     let asks : Asks words task = subst (λ (o : Option Task). IfSome o (Asks words)) c.in-Some.is c.in_ok-task.ensures.asked in
-    let few : length bytes ≤ limit_of task = omega (arith, c.in-Ok.ensures.within, ap length c.deref-in-Ok.ensures.value, c.limit_in.ensures) in
-    bytes_come _ task bytes c.answer_to_bytes-in-Ok.result asks
-    (read_input _ task bytes c.in_default-task.not-Make c.in_default-task-2.not-Big (record {
+    let plan : IsPlan (plans.Read c.in-Read.play) task = subst (λ (p : Plan). IsPlan p task) c.in-Read.is c.plan_of.ensures in
+    let few : length bytes ≤ limit_of task = omega (arith, c.in-Ok.ensures.within, ap length c.deref-in-Ok.ensures.value, c.limit_in.ensures, most_is c.in-Read.play task plan.1) in
+    bytes_come _ task bytes c.in-Read.play c.answer_to_bytes-in-Ok.result asks
+    (read_input _ task bytes plan.0 (record {
       few = few;
       came = c.in-Ok.ensures.bytes ∙ ap (λ (bs : List ℕ). put_before bs (g.S.Source.left c.read_all.new.src)) (sym c.deref-in-Ok.ensures.value);
       all = c.in-Ok.ensures.told_end;
       no_fault = c.in-Ok.ensures.no_fault;
-    })) c.answer_to_bytes-in-Ok.ensures.answer
-
-pub returns-in-Big-clause-answer : goal.returns-in-Big-clause-answer
-returns-in-Big-clause-answer g c =
-    let words = map string_bytes c.args.words.now in
-    let asks : Asks words c.in-Some.task = subst (λ (o : Option Task). IfSome o (Asks words)) c.in-Some.is c.in_ok-task.ensures.asked in
-    let big : Asks words (tasks.Big c.in-Big.n) = subst (λ (t : Task). Asks words t) c.in-Big.is asks in
-    bytes_come _ (tasks.Big c.in-Big.n) c.deref.result.now c.answer_to_bytes.result big ((refl, refl), c.deref.ensures.value ∙ c.in_ok-text.ensures) c.answer_to_bytes.ensures.answer
+    })) plan.1 c.answer_to_bytes-in-Ok.ensures.answer
 
 pub returns-in-Ok-clause-over : goal.returns-in-Ok-clause-over
 returns-in-Ok-clause-over g c =
@@ -50,47 +66,30 @@ returns-in-Ok-clause-over g c =
     let task = c.in-Some.task in
     let bytes = c.deref-in-Ok.result.now in
     let asks : Asks words task = subst (λ (o : Option Task). IfSome o (Asks words)) c.in-Some.is c.in_ok-task.ensures.asked in
-    let few : length bytes ≤ limit_of task = omega (arith, c.in-Ok.ensures.within, ap length c.deref-in-Ok.ensures.value, c.limit_in.ensures) in
-    calls_come g.L.Out.OutLane g.L.In.InLane g.L.Links.joined _ task bytes c.answer_to_bytes-in-Ok.result asks
-    (read_input _ task bytes c.in_default-task.not-Make c.in_default-task-2.not-Big (record {
+    let plan : IsPlan (plans.Read c.in-Read.play) task = subst (λ (p : Plan). IsPlan p task) c.in-Read.is c.plan_of.ensures in
+    let few : length bytes ≤ limit_of task = omega (arith, c.in-Ok.ensures.within, ap length c.deref-in-Ok.ensures.value, c.limit_in.ensures, most_is c.in-Read.play task plan.1) in
+    calls_come g.L.Out.OutLane g.L.In.InLane g.L.Links.joined _ task bytes c.in-Read.play c.answer_to_bytes-in-Ok.result asks
+    (read_input _ task bytes plan.0 (record {
       few = few;
       came = c.in-Ok.ensures.bytes ∙ ap (λ (bs : List ℕ). put_before bs (g.S.Source.left c.read_all.new.src)) (sym c.deref-in-Ok.ensures.value);
       all = c.in-Ok.ensures.told_end;
       no_fault = c.in-Ok.ensures.no_fault;
-    })) c.answer_to_bytes-in-Ok.ensures.over
-
-pub returns-in-Big-clause-over : goal.returns-in-Big-clause-over
-returns-in-Big-clause-over g c =
-    let words = map string_bytes c.args.words.now in
-    let asks : Asks words c.in-Some.task = subst (λ (o : Option Task). IfSome o (Asks words)) c.in-Some.is c.in_ok-task.ensures.asked in
-    let big : Asks words (tasks.Big c.in-Big.n) = subst (λ (t : Task). Asks words t) c.in-Big.is asks in
-    calls_come g.L.Out.OutLane g.L.In.InLane g.L.Links.joined _ (tasks.Big c.in-Big.n) c.deref.result.now c.answer_to_bytes.result big ((refl, refl), c.deref.ensures.value ∙ c.in_ok-text.ensures) c.answer_to_bytes.ensures.over
-
-pub returns-in-Make-clause-ended : goal.returns-in-Make-clause-ended
-returns-in-Make-clause-ended g c =
-    let words = map string_bytes c.args.words.now in
-    let asks : Asks words c.in-Some.task = subst (λ (o : Option Task). IfSome o (Asks words)) c.in-Some.is c.in_ok-task.ensures.asked in
-    let make : Asks words (tasks.Make c.in-Make.n) = subst (λ (t : Task). Asks words t) c.in-Make.is asks in
-    λ whole asked. absurd (subst Reads (one_task words asked.task (tasks.Make c.in-Make.n) asked.asks make) asked.kind)
-
-pub returns-in-Big-clause-ended : goal.returns-in-Big-clause-ended
-returns-in-Big-clause-ended g c =
-    let words = map string_bytes c.args.words.now in
-    let asks : Asks words c.in-Some.task = subst (λ (o : Option Task). IfSome o (Asks words)) c.in-Some.is c.in_ok-task.ensures.asked in
-    let big : Asks words (tasks.Big c.in-Big.n) = subst (λ (t : Task). Asks words t) c.in-Big.is asks in
-    reads_none _ _ c.answer_to_bytes.result (λ asked. subst Reads (one_task words asked.task (tasks.Big c.in-Big.n) asked.asks big) asked.kind)
-
-pub returns-in-Ok-clause-ended : goal.returns-in-Ok-clause-ended
-returns-in-Ok-clause-ended g c = has_ended _ _ c.answer_to_bytes-in-Ok.result c.in-Ok.ensures.end
-
-pub returns-in-Big-clause-unused : goal.returns-in-Big-clause-unused
-returns-in-Big-clause-unused g c =
-    let words = map string_bytes c.args.words.now in
-    let asks : Asks words c.in-Some.task = subst (λ (o : Option Task). IfSome o (Asks words)) c.in-Some.is c.in_ok-task.ensures.asked in
-    λ none. absurd (none (record { task = tasks.Big c.in-Big.n; asks = subst (λ (t : Task). Asks words t) c.in-Big.is asks; kind = tt }))
+    })) plan.1 c.answer_to_bytes-in-Ok.ensures.over
 
 pub returns-in-Ok-clause-unused : goal.returns-in-Ok-clause-unused
 returns-in-Ok-clause-unused g c =
     let words = map string_bytes c.args.words.now in
-    let asks : Asks words c.in-Some.task = subst (λ (o : Option Task). IfSome o (Asks words)) c.in-Some.is c.in_ok-task.ensures.asked in
-    λ none. c.answer_to_bytes-in-Ok.ensures.unused (λ runs. none (record { task = c.in-Some.task; asks = asks; kind = runs }))
+    let task = c.in-Some.task in
+    let asks : Asks words task = subst (λ (o : Option Task). IfSome o (Asks words)) c.in-Some.is c.in_ok-task.ensures.asked in
+    let plan : IsPlan (plans.Read c.in-Read.play) task = subst (λ (p : Plan). IsPlan p task) c.in-Read.is c.plan_of.ensures in
+    λ none. c.answer_to_bytes-in-Ok.ensures.unused task plan.1 (λ runs. none (record { task = task; asks = asks; kind = runs }))
+
+pub returns-in-Err-TooLarge-clause-answer : goal.returns-in-Err-TooLarge-clause-answer
+returns-in-Err-TooLarge-clause-answer g c =
+    let words = map string_bytes c.args.words.now in
+    let task = c.in-Some.task in
+    let asks : Asks words task = subst (λ (o : Option Task). IfSome o (Asks words)) c.in-Some.is c.in_ok-task.ensures.asked in
+    let plan : IsPlan (plans.Read c.in-Read.play) task = subst (λ (p : Plan). IsPlan p task) c.in-Read.is c.plan_of.ensures in
+    let most = c.limit_in.ensures ∙ most_is c.in-Read.play task plan.1 in
+    let came = subst (λ (m : ℕ). CameOf (λ n. m < n) (g.S.Source.left c.args.src.now) (g.S.Source.left c.read_all.new.src)) most (c.in-Err-TooLarge.ensures.too_large (ap Err c.in-Err-TooLarge.field-0-is)) in
+    inl (record { task = task; asks = asks; kind = (plan.0, came) }, c.in-Err-TooLarge.ensures.before_fault (ap Err c.in-Err-TooLarge.field-0-is))

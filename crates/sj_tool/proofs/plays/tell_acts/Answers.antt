@@ -29,11 +29,10 @@ text_for-requires-clause-kept c = c.in_ok-plain.ensures.kept ∙ ap (λ (f : Fil
 pub returns-clause-told : goal.returns-clause-told
 returns-clause-told c =
     let file = file_of (file_in c.args.accepted.now) in
-    let task = c.args.task in
     let same : file_of c.file-file.result.now ≡ file = ap file_of c.file-file.ensures.value in (
       c.verdict.ensures ∙ ap verdict_of c.in_ok-plain.ensures.end,
       c.in_ok-text.ensures
-          ∙ ap (λ (f : FileAt). run_text task f (map line_at c.history-2.result.now) (plain.world_at c.in_ok-plain.plain)) same
-          ∙ ap (λ (h : List LineAt). run_text task file h (plain.world_at c.in_ok-plain.plain)) c.history-2.ensures
-          ∙ ap (λ (w : World). run_text task file (history_of c.args.world.now) w) c.in_ok-plain.ensures.end,
+          ∙ ap (λ (f : FileAt). run_text c.args.print f (map line_at c.history-2.result.now) (plain.world_at c.in_ok-plain.plain)) same
+          ∙ ap (λ (h : List LineAt). run_text c.args.print file h (plain.world_at c.in_ok-plain.plain)) c.history-2.ensures
+          ∙ ap (λ (w : World). run_text c.args.print file (history_of c.args.world.now) w) c.in_ok-plain.ensures.end,
     )

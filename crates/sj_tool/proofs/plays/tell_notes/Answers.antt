@@ -39,6 +39,6 @@ returns-clause-told c =
     let here = subst (λ (ss : List Stand). IsToldIn (file_of c.file-file.result.now) (map line_at c.history.result.now) ss (end_of file)) (sym c.deref.ensures.value) own in (
       c.verdict_told.ensures.world (end_of file) none (subst (λ (ss : List Stand). AreStands (end_of file) ss) (sym c.deref-2.ensures.value) are),
       c.in_ok-text.ensures (end_of file) here
-          ∙ ap (λ (f : FileAt). run_text c.args.task f (map line_at c.history.result.now) (end_of file)) same
-          ∙ ap (λ (h : List LineAt). run_text c.args.task file h (end_of file)) c.history.ensures,
+          ∙ ap (λ (f : FileAt). run_text c.args.print f (map line_at c.history.result.now) (end_of file)) same
+          ∙ ap (λ (h : List LineAt). run_text c.args.print file h (end_of file)) c.history.ensures,
     )

@@ -27,4 +27,4 @@ returns-clause-has c links l =
     let d = c.in_ok-drain.ensures in
     let spells = subst (λ (ls : List LineAt). Spells file (log_at c.args.version c.args.log.now) ls) (sym begins.history) c.in_ok-lines.ensures.spells in
     drained_has file (kept_file first) (kept_file last) begins.kept c.drain.ensures.kept (party_count first) (party_count last) (world_at first) (world_at last)
-    (history_of first) d.drained.lines (history_of last) links (tasks.Replay l) (log_at c.args.version c.args.log.now) begins.parties c.drain.ensures.parties d.drained.listed begins.run spells c.drain.ensures.run d.drained.by d.quiet
+    (history_of first) d.drained.lines (history_of last) links (tasks.Replay l) (log_at c.args.version c.args.log.now) begins.parties c.drain.ensures.parties d.drained.listed begins.run (λ _. spells) (λ none. absurd (none tt)) (λ none. absurd (none tt)) c.drain.ensures.run d.drained.by d.quiet
