@@ -9,7 +9,7 @@ use Rattle.std.proofs.lemmas.Option.{slice_get_within, get_or_from_slice_get}
 use Rattle.sj_lane.specs.declared.lane.Lanes.{Lanes}
 use Rattle.sj_lane.specs.declared.ends.RingOut.{RingOut}
 use Rattle.sj_lane.specs.declared.ends.RingIn.{RingIn}
-use Rattle.sj_lane.specs.Rings.{Joined, popped_of}
+use Rattle.sj_lane.specs.Rings.{Joined, handed_of, popped_of}
 use Rattle.std.specs.Prelude.{Bool}
 use Rattle.rtrb.specs.Ring.{sent}
 use Rattle.sj_lane.specs.Told.{told_list}
@@ -134,3 +134,6 @@ grid_fresh n tells L g = record {
   outs = λ p q o h. let x = g.new_outs p q o (out_row L p q o h) in (λ t. ap (λ fs. Some (told_list fs)) x.sent, x.vain);
   ins = λ p q i h. let x = g.new_ins p q i (in_row L p q i h) in (λ t. ap (λ fs. Some (told_list fs)) x.popped, x.vain);
 }
+
+pub grid_unhanded : (n : ℕ) (L : List (Lanes RingOut RingIn)) → Grid n n 0 L → (p q : ℕ) (i : RingIn) → in_at L p q ≡ Some i → handed_of i ≡ 0
+grid_unhanded n L g p q i h = let x = g.new_ins p q i (in_row L p q i h) in x.handed

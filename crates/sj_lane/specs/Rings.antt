@@ -47,6 +47,10 @@ frames_pushed o = Some (told_list (sent o.producer))
 abbrev pub frames_popped : RingIn → Option (List (FrameAt Place))
 frames_popped i = Some (told_list (popped_of i))
 
+-- how many frames were handed over that no pop gave
+abbrev pub handed_of : RingIn → ℕ
+handed_of i = i.handed
+
 -- how many frames were pushed
 abbrev pub push_count : RingOut → ℕ
 push_count o = length (sent o.producer)

@@ -5,7 +5,7 @@ use Rattle.rtrb.specs.Ring.{sent}
 use Rattle.sj_lane.specs.declared.lane.Lanes.{Lanes}
 use Rattle.sj_lane.specs.declared.ends.RingOut.{RingOut}
 use Rattle.sj_lane.specs.declared.ends.RingIn.{RingIn}
-use Rattle.sj_lane.specs.Rings.{Joined, popped_of}
+use Rattle.sj_lane.specs.Rings.{Joined, handed_of, popped_of}
 
 -- the lanes to other parties, row by row
 abbrev pub outs_of : List (Lanes RingOut RingIn) → List (List RingOut)
@@ -28,10 +28,11 @@ pub record NewOut (o : RingOut) : Type 0 where
   pub sent : sent o.producer ≡ []
   pub vain : o.vain ≡ 0
 
--- nothing was popped from it
+-- nothing was popped from it or handed over
 pub record NewIn (i : RingIn) : Type 0 where
   pub popped : popped_of i ≡ []
   pub vain : i.vain ≡ 0
+  pub handed : handed_of i ≡ 0
 
 -- one more ring, from p to q
 pub record Linked (a b : List (Lanes RingOut RingIn)) (p q : ℕ) : Type 0 where

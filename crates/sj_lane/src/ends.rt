@@ -61,9 +61,9 @@ impl OutLane for RingOut {
 }
 
 impl InLane for RingIn {
-    ghost use Rattle.std.specs.Prelude.{◌≡◌, ◌≤◌, IsOk};
+    ghost use Rattle.std.specs.Prelude.{◌≡◌, ◌≤◌, IsOk, None, Ok};
     ghost use Rattle.std.proofs.Common.{rules};
-    ghost use Rattle.sj_lane.specs.Rings.{SameIn, frames_popped};
+    ghost use Rattle.sj_lane.specs.Rings.{SameIn, frames_popped, handed_of};
     ghost use Rattle.sj_lane.specs.Told.{PopCause, popped_by, told_more, vain_pop};
 
     ghost popped = { frames_popped };
@@ -74,13 +74,16 @@ impl InLane for RingIn {
 
     ghost same = { SameIn };
 
-    // The trait's clauses, and that there is always an answer.
+    // The trait's clauses, and that there is always an answer. None is handed over here, and after a
+    // handover there is none to pop.
     fn pop(&mut self) -> Result<Option<Frame>, PopRefusal>
         ensures told { frames_popped self.new ≡ told_more (frames_popped self.old) (popped_by result) }
         ensures vain { self.new.vain ≡ vain_pop self.old.vain result }
         ensures faults { (0 ≤ 0) × PopCause 0 0 result }
         ensures link { SameIn self.old self.new }
         ensures answers { IsOk result }
+        ensures handed { handed_of self.new ≡ handed_of self.old }
+        ensures none_left { (handed_of self.old ≡ 0 → ⊥) → result ≡ Ok None }
     {
         if self.handed != 0 {
             self.vain = self.vain.saturating_add(1);

@@ -95,7 +95,7 @@ impl Links for MemLinks {
         carry_all(lanes)
     }
 
-    // The trait's clauses, and that nothing is ever handed over.
+    // The trait's clauses, and that nothing is ever handed over and no lane changes.
     fn rest(
         &mut self,
         _alloc: Global,
@@ -124,6 +124,7 @@ impl Links for MemLinks {
         ensures tells { true ≡ true }
         ensures fault { ◌≡◌ {A = ℕ} 0 0 }
         ensures none { result ≡ Ok None }
+        ensures stays { _lanes.new ≡ _lanes.old }
     {
         Ok(None)
     }

@@ -21,12 +21,12 @@ impl RingLinks {
 }
 
 impl Links for RingLinks {
-    ghost use Rattle.std.specs.Prelude.{◌≡◌, ◌≤◌, ℕ, None, IfOk, IfSome, true};
-    ghost use Rattle.sj_lane.specs.Square.{AllJoined, HasFault, IsRest, IsSquare, Kept, NoFault};
-    ghost use Rattle.sj_lane.specs.Square.{NoneFell, SameLists, in_at, out_at};
+    ghost use Rattle.std.specs.Prelude.{◌≡◌, ◌≤◌, ℕ, Err, None, Some, IfOk, IfSome, true, vec_len};
+    ghost use Rattle.sj_lane.specs.Square.{AllJoined, HasFault, IsFresh, IsRest, IsSquare, Kept};
+    ghost use Rattle.sj_lane.specs.Square.{NoFault, NoneFell, SameLists, in_at, out_at};
     ghost use Rattle.sj_lane.specs.Told.{Rose};
     ghost use Rattle.std.proofs.Common.{rules};
-    ghost use Rattle.sj_lane.specs.Rings.{HasNoRest, Joined};
+    ghost use Rattle.sj_lane.specs.Rings.{HasNoRest, Joined, handed_of};
     ghost use Rattle.sj_lane.specs.KeptLanes.{kept_list, sent_in, got_in, vain_out_in, vain_in_in};
 
     type Out = RingOut;
@@ -47,11 +47,22 @@ impl Links for RingLinks {
 
     ghost vain_in = { λ s. vain_in_in (kept_list s.kept) };
 
+    // The trait's clauses, and that no frame of any ring was handed over.
     fn make(
         &mut self,
         alloc: Global,
         parties: u16,
-    ) -> Result<Vec<Lanes<RingOut, RingIn>>, MakeRefusal> {
+    ) -> Result<Vec<Lanes<RingOut, RingIn>>, MakeRefusal>
+        ensures square { IfOk result (λ v. (vec_len v ≡ parties) × IsSquare v.items) }
+        ensures joined { IfOk result (λ v. AllJoined Joined v.items) }
+        ensures fresh { IfOk result (λ v. IsFresh ⟦<RingOut as OutLane>⟧.pushed ⟦<RingIn as InLane>⟧.popped
+            ⟦<RingOut as OutLane>⟧.vain ⟦<RingIn as InLane>⟧.vain true v.items) }
+        ensures faultless { IfOk result (λ v. NoFault ⟦<RingOut as OutLane>⟧.faults ⟦<RingIn as InLane>⟧.faults v.items) }
+        ensures tells { true ≡ true }
+        ensures fault { (0 ≤ 0) × (result ≡ Err MakeRefusal.Fault → Rose 0 0) }
+        ensures unhanded { IfOk result (λ v. (p q : ℕ) (i : RingIn)
+            → in_at v.items p q ≡ Some i → handed_of i ≡ 0) }
+    {
         self.kept = None;
         match build(alloc, parties) {
             Ok(lanes) => Ok(lanes),
@@ -59,7 +70,27 @@ impl Links for RingLinks {
         }
     }
 
-    fn carry(&mut self, _lanes: &mut [Lanes<RingOut, RingIn>]) -> Result<(), NoMemory> {
+    // The trait's clauses, and that no lane changes.
+    fn carry(&mut self, _lanes: &mut [Lanes<RingOut, RingIn>]) -> Result<(), NoMemory>
+        requires square { IsSquare _lanes.old }
+        requires joined { AllJoined Joined _lanes.old }
+        ensures square { IsSquare _lanes.new }
+        ensures joined { AllJoined Joined _lanes.new }
+        ensures lists { SameLists ⟦<RingOut as OutLane>⟧.pushed ⟦<RingIn as InLane>⟧.popped
+            ⟦<RingOut as OutLane>⟧.vain ⟦<RingIn as InLane>⟧.vain _lanes.old _lanes.new }
+        ensures faults { NoneFell ⟦<RingOut as OutLane>⟧.faults ⟦<RingIn as InLane>⟧.faults
+            _lanes.old _lanes.new }
+        ensures shown { (p q : ℕ)
+            → (sent_in (kept_list self.new.kept) p q ≡ sent_in (kept_list self.old.kept) p q)
+            × (got_in (kept_list self.new.kept) p q ≡ got_in (kept_list self.old.kept) p q)
+            × (vain_out_in (kept_list self.new.kept) p q
+            ≡ vain_out_in (kept_list self.old.kept) p q)
+            × (vain_in_in (kept_list self.new.kept) p q
+            ≡ vain_in_in (kept_list self.old.kept) p q) }
+        ensures tells { true ≡ true }
+        ensures fault { ◌≡◌ {A = ℕ} 0 0 }
+        ensures stays { _lanes.new ≡ _lanes.old }
+    {
         Ok(())
     }
 

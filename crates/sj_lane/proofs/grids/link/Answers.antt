@@ -18,7 +18,7 @@ returns c =
       lane = lane;
       joined = c.in_ok-producer.ensures.pair;
       new_out = record { sent = c.in_ok-producer.ensures.producer.0; vain = refl };
-      new_in = record { popped = c.in_ok-producer.ensures.consumer.0; vain = refl };
+      new_in = record { popped = c.in_ok-producer.ensures.consumer.0; vain = refl; handed = refl };
       outs = lists.0;
       ins = lists.1;
     }
