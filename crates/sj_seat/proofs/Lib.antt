@@ -1,0 +1,3 @@
+mod HoldingLemmas
+mod MovedLemmas
+mod RuleLemmas

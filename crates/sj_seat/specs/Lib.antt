@@ -1,0 +1,5 @@
+pub mod Asked
+pub mod Fronts
+pub mod Holding
+pub mod Places
+pub mod Rules

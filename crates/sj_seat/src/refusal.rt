@@ -1,0 +1,24 @@
+//! Why a call isn't done.
+
+use thiserror::Error;
+
+/// Why a call isn't done. The variants stand in the order of the rules.
+#[derive(Clone, Copy, Debug, PartialEq, Eq, Error)]
+pub enum SeatRefusal {
+    /// An end isn't held.
+    #[error("the end isn't held")]
+    NotHeld,
+    /// The place begins otherwise.
+    #[error("the place begins otherwise")]
+    BeginsOtherwise,
+    /// The two ends of a delegation are one, or nothing is ahead of the one that is sent.
+    #[error("the end can't be sent there")]
+    WrongEnd,
+    /// Another kind, a label outside the choice, a text that isn't the file's, or an end whose place
+    /// doesn't stand for the carried one.
+    #[error("what is sent is of another kind")]
+    WrongKind,
+    /// 10,000 calls were made, or the end that is sent was delegated 100 times.
+    #[error("at limit")]
+    AtLimit,
+}
