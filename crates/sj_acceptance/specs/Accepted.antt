@@ -42,7 +42,8 @@ pub record EndsWell (file : FileAt) (p : ℕ) (q : PartyAt) : Type 0 where
   pub follows : Follows file.protocols (party_names file.parties) q.code (start_env file p) last
   pub no_end : (n : ℕ) → last.places n ≡ None
 
--- each request of the one party to the other one, and each accept of that one from the first, are of protocols that meet
+-- each request of the one party to the other one, and each accept of that one from the first,
+-- are of protocols that meet
 pub record OpeningsMeet (file : FileAt) (a b : PartyAt) : Type 0 where
   pub meet : (r c : OpeningAt) → Contains (requests_of a.code) r → Contains (accepts_of b.code) c → r.party ≡ b.name → c.party ≡ a.name
       → Meets (body_named file.protocols r.protocol) (body_named file.protocols c.protocol)

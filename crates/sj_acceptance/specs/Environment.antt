@@ -38,7 +38,8 @@ pub record IsUnused (env : Env) (n : ℕ) : Type 0 where
 abbrev pub SameEnds : Env → Env → Type 0
 SameEnds old new = (n : ℕ) → new.places n ≡ old.places n
 
--- each of the former environments has the ends of the next one, which knows the variables that all of them know at one kind
+-- each of the former environments has the ends of the next one, which knows the variables that all
+-- of them know at one kind
 pub record IsCommon (lasts : List Env) (next : Env) : Type 0 where
   pub ends : (k : ℕ) (last : Env) → slice_get lasts k ≡ Some last → SameEnds last next
   pub kinds : (n : ℕ) (kind : Scalar) → (next.kinds n ≡ Some kind) ↔ ((k : ℕ) (last : Env) → slice_get lasts k ≡ Some last → last.kinds n ≡ Some kind)

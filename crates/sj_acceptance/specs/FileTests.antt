@@ -19,13 +19,13 @@ use Rattle.sj_acceptance.specs.Openings.{OpeningAt, requests_of, accepts_of}
 abbrev pub protocol_names : List ProtocolAt → List ℕ
 protocol_names ps = map (λ p. p.name) ps
 
--- each protocol, behind the earlier ones
+-- each protocol, after the earlier ones
 abbrev pub protocol_tests : List ProtocolAt → List ProtocolAt → List Test
 protocol_tests earlier [] = []
 protocol_tests earlier (p ∷ ps) =
     (name_in_use, p.line, not (is_among p.name (protocol_names earlier))) ∷ (name_in_use, p.line, names_once p.body) ∷ protocol_tests (earlier ++ p ∷ []) ps
 
--- each party, behind the earlier ones
+-- each party, after the earlier ones
 abbrev pub party_tests : List PartyAt → List PartyAt → List Test
 party_tests earlier [] = []
 party_tests earlier (p ∷ ps) = (name_in_use, p.line, not (is_among p.name (party_names earlier))) ∷ party_tests (earlier ++ p ∷ []) ps
@@ -51,7 +51,7 @@ connection_tests parties ps earlier c =
     ++ end_tests parties ps c.line (is_taken c.second earlier || is_same_end c.first c.second) c.second
     ++ (do_not_meet, c.line, meets (body_named ps c.first.protocol) (body_named ps c.second.protocol)) ∷ []
 
--- each connection, behind the earlier ones
+-- each connection, after the earlier ones
 abbrev pub connect_tests : List ℕ → List ProtocolAt → List ConnectAt → List ConnectAt → List Test
 connect_tests parties ps earlier [] = []
 connect_tests parties ps earlier (c ∷ cs) = connection_tests parties ps earlier c ++ connect_tests parties ps (earlier ++ c ∷ []) cs
@@ -69,7 +69,7 @@ ends_of_party ps party (c ∷ cs) = with_end_of ps party c.first (with_end_of ps
 abbrev pub at_start : List ProtocolAt → List ConnectAt → ℕ → EnvAt
 at_start ps cs party = record { ends = ends_of_party ps party cs; variables = finite.empty }
 
--- its body, and that no end is live behind it
+-- its body, and that no end is live after it
 abbrev pub one_body_tests : List ProtocolAt → List ℕ → List ConnectAt → PartyAt → List Test
 one_body_tests ps parties cs p =
     code_tests ps parties (at_start ps cs p.name) p.code

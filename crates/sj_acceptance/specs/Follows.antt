@@ -12,7 +12,8 @@ use Rattle.sj_acceptance.specs.Labels.{AreItsArms}
 use Rattle.sj_acceptance.specs.Statements.{IsSend, IsDelegate, IsTakeValue, IsTakeEnd, IsOpening, IsSelect, IsLet, IsClose}
 
 abbrev mutual
-  -- the block leads from the one environment to the other, with these protocols and with parties of these names
+  -- the block leads from the one environment to the other, with these protocols and
+  -- with parties of these names
   pub Follows : List ProtocolAt → List ℕ → Code → Env → Env → Type 0
   Follows ps parties no_stmt env next = env ≡ next
   Follows ps parties (stmt_then (at line act) code) env next = (mid : Env) × Does ps parties act env mid × Follows ps parties code mid next

@@ -1,4 +1,5 @@
--- The numbers of the rules that a file is checked by, under names. An answer `check C5 at 3` tells the number and a line.
+-- The numbers of the rules that a file is checked by, under names. An answer `check C5 at 3`
+-- gives the number and a line.
 use Rattle.std.specs.Prelude.{ℕ}
 
 -- no protocol, and no party, of that name
@@ -44,7 +45,7 @@ turn_differs = 10
 abbrev pub closed_early : ℕ
 closed_early = 11
 
--- an end is live behind the party's body
+-- an end is live after the party's body
 abbrev pub left_open : ℕ
 left_open = 12
 

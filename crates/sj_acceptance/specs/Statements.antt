@@ -45,7 +45,8 @@ pub record IsTakeEnd (body : Option Place) (env : Env) (x y : ℕ) (next : Env) 
   pub unused : IsUnused env y
   pub leaves : next ≡ at_place (at_place env x rest) y place
 
--- `request x p to b` and `accept x p from b`, where p has that body and the parties have these names
+-- `request x p to b` and `accept x p from b`, where p has that body and the
+-- parties have these names
 pub record IsOpening (parties : List ℕ) (body : Option Place) (env : Env) (x b : ℕ) (next : Env) : Type 0 where
   pub place : Place
   pub unused : IsUnused env x

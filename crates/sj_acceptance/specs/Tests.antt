@@ -36,7 +36,8 @@ opening_tests ps parties line env x p b =
     ∷ (name_in_use, line, not (is_live env x || is_known env x)) ∷ []
 
 abbrev mutual
-  -- what a block asks, with these protocols and with parties of these names, and what it leaves as if all had passed
+  -- what a block asks, with these protocols and with parties of these names, and what it
+  -- leaves as if all had passed
   pub code_tests : List ProtocolAt → List ℕ → EnvAt → Code → List Test
   code_tests ps parties env no_stmt = []
   code_tests ps parties env (stmt_then s code) = stmt_tests ps parties env s ++ code_tests ps parties (after_stmt ps env s) code

@@ -1,4 +1,4 @@
--- What stands before and behind the arms of an `inbranch`.
+-- What stands before and after the arms of an `inbranch`.
 use Rattle.std.proofs.Common.{◌≡◌, ℕ, List, [], ◌∷◌, ◌==◌, ◌||◌, Option, Some, None, Bool, true, false, cond, is_some, map, unwrap_or, refl, ap, sym, subst, ◌∙◌}
 use Rattle.std.specs.FinMap.{get}
 use Rattle.std.proofs.lemmas.Bool.Decides.{Decides-eqb}

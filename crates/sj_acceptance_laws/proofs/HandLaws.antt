@@ -1,4 +1,5 @@
--- The tests of `delegate` and `outbranch` all pass exactly where an environment follows, and then that one.
+-- The tests of `delegate` and `outbranch` all pass exactly where an environment
+-- follows, and then that one.
 use Rattle.std.proofs.Common.{◌≡◌, ◌≢◌, ℕ, List, [], ◌∷◌, ◌==◌, Option, Some, None, Bool, true, false, cond, is_some, unwrap_or, refl, ap, sym, ◌∙◌}
 use Rattle.std.proofs.Common as common
 use Rattle.std.specs.FinMap.{get}

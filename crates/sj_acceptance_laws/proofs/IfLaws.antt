@@ -1,4 +1,5 @@
--- The tests of an `if` all pass exactly where an environment follows it, where its arms' do, and then that one.
+-- The tests of an `if` all pass exactly where an environment follows it, where its
+-- arms' do, and then that one.
 use Rattle.std.proofs.Common.{◌≡◌, ℕ, List, [], ◌∷◌, ◌++◌, ◌&&◌, Some, None, Bool, true, cond, ap, sym, subst}
 use Rattle.sj_lang.specs.declared.party.Scalar.TheVariants.{Boolean}
 use Rattle.sj_lang.specs.Term.{Term}

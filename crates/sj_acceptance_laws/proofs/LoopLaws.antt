@@ -1,4 +1,5 @@
--- The tests of a loop all pass exactly where an environment follows it, where its body's do, and then that one.
+-- The tests of a loop all pass exactly where an environment follows it, where its
+-- body's do, and then that one.
 use Rattle.std.proofs.Common.{◌≡◌, ℕ, List, [], ◌∷◌, ◌++◌, Option, Some, None, true, cond, is_some, unwrap_or, refl, ap, sym, ◌∙◌, subst}
 use Rattle.std.specs.FinMap.{get}
 use Rattle.sj_lang.specs.declared.proto.Way.TheVariants.{Out, Into}

@@ -1,4 +1,5 @@
--- The tests of `request` and `accept` all pass exactly where an environment follows, and then that one.
+-- The tests of `request` and `accept` all pass exactly where an environment
+-- follows, and then that one.
 use Rattle.std.proofs.Common.{◌≡◌, ℕ, List, [], ◌∷◌, ◌||◌, Option, Some, None, is_some, unwrap_or, refl, sym, ◌∙◌}
 use Rattle.std.proofs.Common as common
 use Rattle.std.specs.FinMap.{get}

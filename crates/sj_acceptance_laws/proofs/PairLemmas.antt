@@ -59,7 +59,7 @@ pairs_join {X} R (x ∷ xs) ys h k e = (both (R x) xs ys h.0 e.0, pairs_join R x
     both P [] vs g h' = h'
     both P (u ∷ us) vs g h' = (g.0, both P us vs g.1 h')
 
--- each behind the earlier ones
+-- each after the earlier ones
 abbrev pub EachNew : {X : Type 0} → (X → X → Type 0) → List X → List X → Type 0
 EachNew R earlier [] = Unit {0}
 EachNew R earlier (y ∷ ys) = AllByRecursion (λ x. R x y) earlier × EachNew R (earlier ++ y ∷ []) ys

@@ -14,7 +14,8 @@ ghost use Rattle.sj_acceptance.specs.FileTests.{tests_of};
 ghost use Rattle.sj_acceptance.specs.Accepted.{IsAccepted};
 ghost use Rattle.sj_lang.specs.Limits.{IsWithin, limits};
 
-/// A block leads to an environment exactly where its tests pass, and then to the one that it leaves.
+/// A block leads to an environment exactly where its tests pass, and then
+/// to the one that it leaves.
 pub fn a_block_leads_where_its_tests_pass()
     ensures { (ps : List ProtocolAt) (parties : List ℕ) (code : Code) (env : EnvAt) (next : Env)
         → Follows ps parties code (env_of env) next

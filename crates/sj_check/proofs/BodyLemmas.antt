@@ -43,6 +43,6 @@ module _ (f : FileAt) where
     pub in_bodies : (r : CheckRefusal) → Tells (first_fault bodies) r → Tells (first_fault (tests_of f)) r
     in_bodies r t = Tells-front (heads ++ bodies) (opening_tests f.protocols f.parties f.parties) r (Tells-behind heads bodies r heads_pass t)
 
-    -- behind the bodies stand the sessions that are opened
+    -- after the bodies stand the sessions that are opened
     pub in_openings : first_fault bodies ≡ None → first_fault (tests_of f) ≡ first_fault (opening_tests f.protocols f.parties f.parties)
     in_openings e = behind (heads ++ bodies) (opening_tests f.protocols f.parties f.parties) (behind heads bodies heads_pass ∙ e)

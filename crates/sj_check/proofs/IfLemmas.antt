@@ -39,7 +39,7 @@ module _ (ps : List ProtocolAt) (names : List ℕ) (line : ℕ) (env : EnvAt) (w
         if-ends = rw (is, ea, eb) (behind (condition_tests line env e ++ code_tests ps names env first ++ code_tests ps names env second) _
             (behind (condition_tests line env e ++ code_tests ps names env first) (code_tests ps names env second) both ∙ s))
 
-        -- what stands behind the arms
+        -- what stands after the arms
         pub if-joined : {X : Type 0} (r : Result X CheckRefusal) (new : EnvAt)
             → Walks ((arms_differ, line, is_same_ends a.ends b.ends) ∷ []) (record a { variables = common a.variables b.variables }) new r → Walks (stmt_tests ps names env w) (after_stmt ps env w) new r
         if-joined (Ok x) new h = (if-ends ∙ h.0, h.1 ∙ (λ i. record { ends = (ea i).ends; variables = common (ea i).variables (eb i).variables }) ∙ ap (after_stmt ps env) (sym is))

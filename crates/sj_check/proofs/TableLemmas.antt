@@ -84,7 +84,7 @@ same_without m f k kept here = same_map nat_cmp_total nat_cmp-IsAntisymmetric _ 
       | false ↦ λ e. kept q (not_one q k e) ∙ ap (λ t. cond t None (get m q)) (sym (unsigned_tied q k ∙ e))
     ] refl
 
--- one kind is written, behind what made room for it
+-- one kind is written, after what made room for it
 pub kinds_in-set : (old grown : List ℕ) (n b : ℕ) (k : Scalar) → kind_of_byte b ≡ Some k → n < length grown → ((q : ℕ) → get_or grown q 0 ≡ get_or old q 0)
     → kinds_in (set grown n b) ≡ insert (kinds_in old) n k
 kinds_in-set old grown n b k is room kept = same_but (kinds_in old) (kinds_in (set grown n b)) n k

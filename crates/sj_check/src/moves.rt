@@ -43,7 +43,7 @@ pub fn at_arm(protocols: &Protocols, env: &Env, end: u16, label: u16) -> Result<
     Ok(inner)
 }
 
-/// Leaves the first item of the end's place behind.
+/// Moves the end's place past its first item.
 pub fn pass(protocols: &Protocols, env: &mut Env, end: u16) -> Result<(), NoMemory>
     ensures { let follows = rest_of (place_at (env_in protocols.now env.old) end) in
         OnOk result (env_in protocols.now env.new ≡ with_live (env_in protocols.now env.old) end follows) }

@@ -74,7 +74,8 @@ pub fn rest(table: &Table, spot: Spot) -> Spot
     }
 }
 
-/// One turn of the loop that stands first, and then the loop again; the spot itself where none does.
+/// One turn of the loop that stands first, and then the loop again; the
+/// spot itself where none does.
 pub fn turn(table: &Table, spot: Spot) -> Spot
     ensures { place_in table.now result ≡ places.turn_of (place_in table.now spot) }
 {

@@ -11,7 +11,7 @@ use sj_lang::Scalar;
 use std::alloc::Global;
 use std::marker::Model;
 
-/// The kind of each variable, a byte in a table by the number of its name, so that a copy is one of a
+/// The kind of each variable, a byte in a table by the number of its name. So a copy is one of a
 /// flat list, and many bytes are compared at once.
 #[derive(Drop)]
 pub struct Variables {

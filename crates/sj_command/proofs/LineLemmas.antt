@@ -1,4 +1,4 @@
--- What clap's error tells of the words.
+-- What clap's error says of the words.
 use Rattle.std.proofs.Common.{◌≡◌, ◌∙◌, List, inl, inr, ap, refl, subst}
 use Rattle.std.specs.Prelude.{true}
 use Rattle.clap.specs.declared.error.Error.{Error}
@@ -11,7 +11,7 @@ use Rattle.sj_command.specs.CommandLine.{IsTaken, line}
 line_is_simple : is_simple_and_free line ≡ true
 line_is_simple = refl
 
--- an error of another kind than want of memory comes of words that break a rule of the line
+-- an error of another kind than out of memory comes of words that break a rule of the line
 pub broken_by : (app : App) (words : List Text) (e : Error) → app ≡ line → (is_simple_and_free app ≡ true → HasKind (fault_of app words) e)
     → (kind_of e ≡ kind.OutOfMemory → ⊥) → IsTaken words → ⊥
 broken_by app words e is fails other taken =

@@ -8,7 +8,7 @@ use Rattle.clap.specs.declared.builder.ArgAction.TheVariants.{Set, SetTrue}
 abbrev pub command_rule : Rule
 command_rule = record (new_rule (codes "command")) { action = Some Set; required = true }
 
--- a number behind it, which may be there
+-- a number after it, which may be there
 abbrev pub number_rule : Rule
 number_rule = record (new_rule (codes "number")) { action = Some Set }
 
@@ -24,7 +24,7 @@ workers_rule = record (new_rule (codes "workers")) { long = Some (codes "workers
 abbrev pub forward_rule : Rule
 forward_rule = record (new_rule (codes "forward")) { long = Some (codes "forward"); action = Some SetTrue }
 
--- the whole line; its words are those behind the program's name
+-- the whole line; its words are those after the program's name
 abbrev pub line : App
 line =
     with_rule (with_rule (with_rule (with_rule (with_rule (with_rule (on_top (λ s. record s { no_binary_name = true }) (new_app (codes "sj"))) command_rule) number_rule) log_rule)

@@ -12,8 +12,9 @@ pub enum Task {
     /// Runs a file in the plain world and prints the transcript.
     Sim,
     /// Runs a file and prints the transcript, and after it the history where a log is asked for.
-    /// A party that finds nothing to do looks again so many times, from 0 to 1,000,000. So many workers
-    /// work the parties off, from 1 to 16; where none are named, each party has a thread of its own.
+    /// A party that finds nothing to do looks again so many times, from 0 to 1,000,000. So
+    /// many workers work the parties off, from 1 to 16; where none are named, each party
+    /// has a thread of its own.
     Run {
         log: bool,
         looks: u32,
@@ -25,8 +26,8 @@ pub enum Task {
     Replay {
         log: bool,
     },
-    /// Reads a file, a line `%%talk` and lines that play the party of this number, from 0 to 15, and prints
-    /// what is answered to each.
+    /// Reads a file, a line `%%talk` and lines that play the party of this number, from 0 to 15,
+    /// and prints what is answered to each.
     Talk(u16),
     /// Prints the generated file with this many messages in each loop, from 1 to 1,000.
     Make(u16),

@@ -1,4 +1,4 @@
--- The line that is due for an event of a world to which lines lead, as its nodes tell it.
+-- The line that is due for an event of a world to which lines lead, as its nodes report it.
 use Rattle.std.proofs.Common.{◌≡◌, ℕ, ◌+◌, ◌<◌, max, if◌then◌else◌, List, [], ◌∷◌, map, length, slice_get, Option, Some, None, option_map, option_and_then, refl, ap, sym, ◌∙◌, inl, inr}
 use Rattle.sj_lang.specs.Place.{Place}
 use Rattle.sj_lang.specs.FileAt.{FileAt}
@@ -81,7 +81,7 @@ module _ (c : NodeWorld) (led : IsLed c) (p : ℕ) (n : Node) (there : slice_get
       abbrev behind : List (FrameAt Place)
       behind = map (frame_with (place_in giver.table)) rest
 
-      -- of the front of a lane
+      -- of the first frame of a lane
       pub front_due : due play max w p (rules.Deliver q) ≡ option_map (line_with p) (Some (record { clock = max (clock_of n) f.clock + 1; event = events.Deliver q; note = note_at f.body }))
       front_due =
           let at = here c led p n there in
@@ -92,7 +92,7 @@ module _ (c : NodeWorld) (led : IsLed c) (p : ℕ) (n : Node) (there : slice_get
           (sym (ap (delivery_of play max w p q) (lane (f ∷ rest) front)) ∙ fits.1)
           ∙ ap (λ (m : NodeAt Place Program). max m.clock f.clock + 1) at)
 
--- where no line is due, there is no step
+-- where no line is due, the event is illegal
 none_due_by : (file : FileAt) (v : WorldAt Place Program) (p : ℕ) (event : rules.Event) (o : Option (WorldAt Place Program)) → happens (play_of file) max v p event ≡ o → due (play_of file) max v p event ≡ None → o ≡ None
 none_due_by file v p event None is none = refl
 none_due_by file v p event (Some u) is none =
@@ -102,7 +102,7 @@ none_due_by file v p event (Some u) is none =
 pub none_due_so : (c : NodeWorld) (p : ℕ) (event : rules.Event) → due (play_of (file_in c)) max (world_in c) p event ≡ None → happens (play_of (file_in c)) max (world_in c) p event ≡ None
 none_due_so c p event none = none_due_by (file_in c) (world_in c) p event (happens (play_of (file_in c)) max (world_in c) p event) refl none
 
--- where there is no step, none is due
+-- where the event is illegal, no line is due
 pub no_step_due : (c : NodeWorld) (p : ℕ) (event : rules.Event) → happens (play_of (file_in c)) max (world_in c) p event ≡ None → due (play_of (file_in c)) max (world_in c) p event ≡ None
 no_step_due c p event none = ap (option_and_then (line_after (play_of (file_in c)) (world_in c) p event)) none
 

@@ -1,4 +1,5 @@
--- The logs of a list: whose entry comes last, that none is beyond the list, and what is left where it is taken off.
+-- The logs of a list: whose entry comes last, that none is beyond the list, and what is left where
+-- it is taken off.
 use Rattle.std.proofs.Common.{zero, suc, ◌≡◌, ◌+◌, ◌<◌, ◌≤◌, ℕ, List, [], ◌∷◌, ◌++◌, length, length-append, add-one, get_or, take, map, refl, sym, ap, subst, ◌∙◌, inl, inr, arith}
 use Rattle.std.specs.Prelude.{◌⊎◌, Option, Some, None, reverse, slice_get}
 use Rattle.std.specs.Global.{Vec}

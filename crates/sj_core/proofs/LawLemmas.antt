@@ -71,7 +71,7 @@ module _ (c : NodeWorld) (led : IsLed c) where
   pub empty_there : (p q : ℕ) → happens (play_of (file_in c)) max (world_in c) p (Deliver q) ≡ None → (world_in c).lanes q p ≡ []
   empty_there p q none = no_front p q ((world_in c).lanes q p) refl ((λ i. happens (play_of (sym led.accepted.same i)) max (world_in c) p (Deliver q)) ∙ none)
 
-  -- the front of a lane fits
+  -- the first frame of a lane fits
   pub front_fits : (p q : ℕ) (f : FrameAt Place) (rest : List (FrameAt Place)) → (world_in c).lanes q p ≡ f ∷ rest
       → (after : WorldAt Place Program) × (happens (play_of (file_in c)) max (world_in c) p (Deliver q) ≡ Some after)
   front_fits p q f rest is =
@@ -115,7 +115,7 @@ module _ (c : NodeWorld) (led : IsLed c) where
     still = λ p. elim (cases_lt p (length (nodes_in c))) [ inl lt ↦ quiet.still p lt | inr le ↦ idle_outside p le ];
   }
 
-  -- the front of a lane arrives
+  -- the first frame of a lane arrives
   pub front_arrives : (p q : ℕ) (f : FrameAt Place) (rest : List (FrameAt Place)) → (world_in c).lanes q p ≡ f ∷ rest
       → (worked : Worked Place (NodeAt Place Program)) × (arrives done (length (file_in c).parties) max ((world_in c).nodes p) q f ≡ Some worked)
   front_arrives p q f rest is =

@@ -7,7 +7,7 @@ use Rattle.sj_joined_lemmas.proofs.MergeLemmas.{all_later}
 use Rattle.sj_core.specs.Merged.{AreApart, AreMerged}
 use Rattle.sj_joined_lemmas.proofs.MergingLemmas.{part_more}
 
--- so far these lines came out; what is left of both lists is in order behind them
+-- so far these lines came out; what is left of both lists is in order after them
 pub record Merging (front back out left right : List LineAt) : Type 0 where
   pub in_front : IsInOrder (out ++ left)
   pub in_back : IsInOrder (out ++ right)

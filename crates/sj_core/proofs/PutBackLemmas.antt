@@ -115,6 +115,6 @@ pub no_front : (file : FileAt) (nodes : List Node) (p q : ℕ) (giver : Node) �
 no_front file nodes p q giver there none =
     ap (delivery_of (play_of file) max (world_by file nodes) p q) (ap (λ o. box_or o p) there ∙ ap (map (frame_with (place_in giver.table))) none)
 
--- want of memory is no answer that there is no step
+-- out of memory isn't an answer that the event is illegal
 pub no_memory_is : {T : Type 0} → (A : Type 0) (r : StepRefusal) → r ≡ steps.NoMemory → ◌≡◌ {A = Result T StepRefusal} (Err r) (Err steps.NoStep) → A
 no_memory_is A r is said = let it : steps.NoMemory ≡ steps.NoStep = (let e : r ≡ steps.NoStep = cc said in sym is ∙ e) in absurd (cc it)

@@ -1,4 +1,4 @@
--- Whether a party of a world to which lines lead has anything to do, as its nodes tell it.
+-- Whether a party of a world to which lines lead has anything to do, as its nodes report it.
 use Rattle.std.proofs.Common.{◌≡◌, ℕ, ◌<◌, ◌+◌, List, [], ◌∷◌, map, length, slice_get, Option, Some, None, refl, ap, sym, ◌∙◌, subst, inl, inr, arith}
 use Rattle.std.specs.Prelude.{IfNone, IfSome}
 use Rattle.std.proofs.lemmas.Bool.{cases_lt}

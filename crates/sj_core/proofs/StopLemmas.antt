@@ -1,4 +1,5 @@
--- A party of a world to which lines lead does no step exactly where its node halts for another cause than memory.
+-- An act of a party, in a world to which lines lead, is illegal exactly where its node halts for a
+-- cause other than memory.
 use Rattle.std.proofs.Common.{◌≡◌, ℕ, ◌+◌, max, nat_lt, Bool, true, false, if◌then◌else◌, length, slice_get, List, Option, Some, None, Result, Err, option_map, refl, ap, sym, ◌∙◌, subst}
 use Rattle.sj_base.specs.declared.EndId.{EndId}
 use Rattle.sj_semantics.specs.declared.Want.{Want}
@@ -23,7 +24,7 @@ use Rattle.sj_core.specs.Refusals.{IsStop}
 use Rattle.sj_core.proofs.HaltLemmas.{halted}
 use Rattle.sj_core.proofs.UnfitLemmas.{acts_here, here, never_unfit}
 
--- what stops a node is no want of memory
+-- what stops a node isn't that it is out of memory
 stop_if : (b : Bool) (k h : Halt) → IsStop k → (if b then Some k else None) ≡ Some h → IsStop h
 stop_if true k h stop is = let same : k ≡ h = cc in subst IsStop same stop
 stop_if false k h stop is = absurd (cc is)
@@ -65,7 +66,7 @@ pub error_is : {T E : Type 0} → (x y : E) → ◌≡◌ {A = Result T E} (Err 
 error_is x y h = cc h
 
 module _ (c : NodeWorld) (led : IsLed c) (p : ℕ) (n : Node) (there : slice_get (nodes_in c) p ≡ Some n) where
-  -- nothing stops it, or something other than want of memory does
+  -- nothing stops it, or something other than being out of memory does
   abbrev pub Stopped : Type 0
   Stopped = (k : Halt) × (stop_of n ≡ Some k) × IsStop k
 
@@ -110,7 +111,7 @@ module _ (c : NodeWorld) (led : IsLed c) (p : ℕ) (n : Node) (there : slice_get
     pub not_unfit : (h ≡ halts.Unfit → act_of n ≡ None) → h ≡ halts.Unfit → ⊥
     not_unfit none is = unfit_by (stop_of n) refl (none is) is
 
-    -- it is no want of memory, where there is no step
+    -- the answer isn't out of memory, where the act is illegal
     pub stops : happens (play_of (file_in c)) max (world_in c) p rules.Act ≡ None → IsStop h
     stops none =
         let w = world_in c in

@@ -1,4 +1,5 @@
--- The last of the entries with which logs end, sought in one log after another. Each log is read from its end.
+-- The last of the entries with which logs end, sought in one log after another. Each log is read
+-- from its end.
 use Rattle.std.proofs.Common.{◌≡◌, ◌+◌, ◌<◌, ◌≤◌, ℕ, List, [], ◌∷◌, refl, sym, ap, ◌∙◌, inl, inr, arith}
 use Rattle.std.specs.Prelude.{◌⊎◌, Bool, true, false, ◌==◌, nat_lt, if◌then◌else◌, Option, Some, None}
 use Rattle.std.proofs.lemmas.Bool.{eqb-true, eqb-false}
@@ -9,7 +10,7 @@ use Rattle.sj_core.specs.Given.{line_by}
 use Rattle.sj_core.specs.Tails.{first_clock, later_at, later_than}
 use Rattle.sj_core.specs.declared.tails.Tail.{Tail}
 
--- the tail is that of one of the first logs, so many, and comes behind those of all others of them
+-- the tail is that of one of the first logs, so many, and comes after those of all others of them
 pub record IsLatest (logs : ℕ → List EntryAt) (many : ℕ) (tail : Tail) : Type 0 where
   pub entry : EntryAt
   pub more : List EntryAt

@@ -1,4 +1,5 @@
--- An act of a node in a world to which lines lead is never unfit: where nothing stops the node, the rules have its act.
+-- An act of a node in a world to which lines lead is never unfit: where nothing stops the node, the
+-- rules have its act.
 use Rattle.std.proofs.Common.{◌≡◌, ℕ, ◌<◌, nat_lt, ◌||◌, List, Bool, true, false, if◌then◌else◌, map, length, slice_get, Option, Some, None, option_map, refl, ap, sym, ◌∙◌, inl, inr}
 use Rattle.std.proofs.lemmas.Bool.{le-leb, lt-ltb, ltb-true}
 use Rattle.sj_base.specs.declared.EndId.{EndId}

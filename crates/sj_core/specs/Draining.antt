@@ -28,7 +28,8 @@ pub record Ahead (R : Leads) (c d : NodeWorld) : Type 0 where
   pub listed : history_in d ≡ history_in c ++ lines
   pub on : (ts : List Turn) (v : WorldAt Place Program) → R (world_in d) ts v → R (world_in c) (map turn_of lines ++ ts) v
 
--- it went on by lines; each list of R from the one is their events and then a list of S from the other
+-- it went on by lines; each list of R from the one is their events and then a list of S from the
+-- other
 pub record Leaves (R S : Leads) (c d : NodeWorld) : Type 0 where
   pub lines : List LineAt
   pub listed : history_in d ≡ history_in c ++ lines

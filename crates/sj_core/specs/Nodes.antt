@@ -1,4 +1,5 @@
--- The world of nodes that lie in a list. A lane is what its sender has posted and nobody has taken out.
+-- The world of nodes that lie in a list. A lane is what its sender has posted and nobody has taken
+-- out.
 use Rattle.std.specs.Prelude.{◌≡◌, ℕ, ◌<◌, max, ⊤, List, [], length, slice_get, Option, Some, None}
 use Rattle.sj_lang.specs.Place.{Place}
 use Rattle.sj_lang.specs.FileAt.{FileAt, body_named}
@@ -36,7 +37,8 @@ world_by file nodes = record {
   lanes = λ from to. box_or (slice_get nodes from) to;
 }
 
--- the node is that party's among those of the file, over that table, and has no log: the history keeps what it noted
+-- the node is that party's among those of the file, over that table, and has no log: the history
+-- keeps what it noted
 pub record IsSeated (file : FileAt) (over : Table) (p : ℕ) (n : Node) : Type 0 where
   pub party : party_of n ≡ p
   pub parties : parties_of n ≡ length file.parties

@@ -7,7 +7,7 @@ use Rattle.sj_core.specs.Given.{line_by}
 use Rattle.sj_core.specs.Views.{entry_at}
 use Rattle.sj_core.specs.declared.tails.Tail.{Tail}
 
--- that party's last entry comes behind the last ones of all others
+-- that party's last entry comes after the last ones of all others
 pub record IsLast (logs : ℕ → List EntryAt) (party : ℕ) : Type 0 where
   pub before : List EntryAt
   pub entry : EntryAt

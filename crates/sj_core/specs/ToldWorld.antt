@@ -1,4 +1,4 @@
--- What is told of a world that leaves nothing to do.
+-- What is reported of a world that leaves nothing to do.
 use Rattle.std.specs.Prelude.{◌≡◌, ◌==◌, Bool, max, length, not}
 use Rattle.sj_acceptance.specs.Accepted.{IsAccepted}
 use Rattle.sj_lang.specs.FileAt.{FileAt}

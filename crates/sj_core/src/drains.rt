@@ -38,8 +38,8 @@ impl NodeWorld {
         }
     }
 
-    /// Tries a delivery from that party. Answers whether it was a step: an empty lane is seen at once,
-    /// and the sender's outbox gives its memory up, where that is large.
+    /// Tries a delivery from that party. Answers whether it was a step: an empty lane is seen at
+    /// once, and the sender's outbox gives its memory up, where that is large.
     fn takes(&mut self, party: u16, from: u16) -> Result<bool, NoMemory>
         requires reached { IsReached self.old }
         requires there { party < length (nodes_in self.old) }

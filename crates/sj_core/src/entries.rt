@@ -32,7 +32,7 @@ impl NodeWorld {
         })
     }
 
-    /// The entry that is due for the event; none where it is no step.
+    /// The entry that is due for the event; none where it is illegal.
     pub fn due(&self, party: u16, event: Event) -> Option<Entry>
         requires led { IsLed self.now }
         requires there { party < length (nodes_in self.now) }
@@ -61,8 +61,8 @@ impl NodeWorld {
         }
     }
 
-    /// The line that is due for the event; none where it is no step, or names a party that the
-    /// file hasn't.
+    /// The line that is due for the event; none where it is illegal, or names a party that the file
+    /// hasn't.
     pub fn due_line(&self, party: u16, event: Event) -> Option<Line>
         requires led { IsLed self.now }
         ensures due { due (play_of (file_in self.now)) max (world_in self.now) party (event_at event)

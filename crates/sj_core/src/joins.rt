@@ -56,8 +56,9 @@ fn room_for(alloc: Global, logs: &[Vec<Entry>]) -> Result<Vec<Line>, NoMemory>
     Ok(lines)
 }
 
-/// Takes the last entry out of a log. Once an eighth of its room is empty it is given back, so that n entries
-/// are moved some 8 n times at most, and not once where the system gives back the end of a block.
+/// Takes the last entry out of a log. Shrinks the log once an eighth of its capacity is free: n
+/// entries are moved about 8n times at most. None is moved where the system gives back the end of a
+/// block.
 fn take_last(log: &mut Vec<Entry>) -> Option<Entry>
     ensures some { IfSome result (λ e. log.old.items ≡ log.new.items ++ e ∷ []) }
     ensures none { IfNone result (log.old.items ≡ []) }
@@ -69,9 +70,10 @@ fn take_last(log: &mut Vec<Entry>) -> Option<Entry>
     entry
 }
 
-/// The logs of the parties from the first on joined, each given up as its entries become lines: the last line is
-/// the last of those with which the logs end, so the lines are made from the last on, and turned at the end. The
-/// room for all lines is taken before. The clocks with which the logs end stand in a list.
+/// The logs of the parties from the first on joined, each given up as its entries become lines. The
+/// last line is the last of those with which the logs end, so the lines are made from the last on,
+/// and turned at the end. The room for all lines is taken before. The clocks with which the logs
+/// end stand in a list.
 pub fn join_logs(alloc: Global, logs: Vec<Vec<Entry>>) -> Result<Vec<Line>, NoMemory>
     requires parties { length logs.items ≤ most_logs }
     requires order { AreInOrder (given_log logs.items) }

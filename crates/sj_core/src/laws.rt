@@ -14,7 +14,8 @@ ghost use Rattle.sj_rules.specs.World.{Turn, WorldAt};
 ghost use Rattle.sj_semantics.specs.Program.{Program};
 
 /// In a core run of an accepted file, where nothing holds a party's node up, the places of its ends
-/// let its next step, and none of the four causes of unfit applies. So it is at each node of a world.
+/// let its next step. Then none of the four causes of unfit applies, either. So it is at each node
+/// of a world.
 pub fn each_node_agrees_with_its_next_step()
     ensures run { (file : FileAt) (turns : List Turn) (core : WorldAt Place Program) (p : ℕ) (n : Node) →
         IsAccepted file → IsCoreRun file turns core → IsNodeOf file core p n →

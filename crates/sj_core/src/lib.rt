@@ -1,5 +1,5 @@
-//! The core world: a file's nodes with the lanes between them, one event at a time; and logs of parties joined into one list
-//! of lines.
+//! The core world: a file's nodes with the lanes between them, one event at a time; and logs of
+//! parties joined into one list of lines.
 #![tactic(auto)]
 
 mod drains;

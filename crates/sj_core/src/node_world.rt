@@ -24,7 +24,7 @@ pub struct NodeWorld {
     pub history: Vec<Line>,
 }
 
-/// A party that halts does no step. An act is never unfit.
+/// The act of a party that halts is illegal. An act is never unfit.
 fn refusal_of(halt: Halt) -> StepRefusal
     requires { halt ≡ Halt.Unfit → ⊥ }
     ensures { (result ≡ StepRefusal.NoStep) ↔ IsStop halt }

@@ -88,7 +88,8 @@ impl NodeWorld {
         Ok(())
     }
 
-    /// Does the event, and answers the line that it made; none where it is no step. It isn't listed.
+    /// Does the event, and answers the line that it made; none where it is illegal. It isn't
+    /// listed.
     fn made_line(&mut self, party: u16, event: Event) -> Result<Option<Line>, NoMemory>
         requires led { IsLed self.old }
         ensures found { IfOk result (λ made. due (play_of (file_in self.old)) max (world_in self.old) party (event_at event)
@@ -107,8 +108,9 @@ impl NodeWorld {
         }
     }
 
-    /// Does the event of the line of that number, and then looks whether it made that line: it isn't asked before what is
-    /// due. It isn't listed. A world in which another line was made is given up.
+    /// Does the event of the line of that number, and then looks whether it made that line: it
+    /// isn't asked before what is due. It isn't listed. A world in which another line was made is
+    /// given up.
     #[tactic(auto, using(crate::proofs::RedoLemmas::redoes))]
     fn do_again(&mut self, number: u64, line: &Line) -> Result<(), ReplayRefusal>
         requires led { IsLed self.old }
@@ -127,8 +129,8 @@ impl NodeWorld {
         }))
     }
 
-    /// Does all the lines from where nothing has happened, if each is the one that is due. They become
-    /// the history, which was empty.
+    /// Does all the lines from where nothing has happened, if each is the one that is due. They
+    /// become the history, which was empty.
     pub fn replayed(mut self, lines: Vec<Line>) -> Result<NodeWorld, ReplayRefusal>
         requires reached { IsReached self }
         requires none { history_in self ≡ [] }

@@ -18,8 +18,8 @@ use sj_node::Node;
 use sj_plain::Kept;
 use std::alloc::Global;
 
-/// The nodes of all parties before any event, by the parties' numbers. Frames carry spots from node to
-/// node, so all nodes have the file's one table.
+/// The nodes of all parties before any event, by the parties' numbers. Frames carry spots from node
+/// to node, so all nodes have the file's one table.
 pub fn first_nodes(alloc: Global, accepted: &Accepted) -> Result<Vec<Node>, NoMemory>
     ensures { IfOk result (λ nodes. AreFirst (without_words (file_of (held accepted.now))) nodes.items) }
 {
@@ -37,8 +37,8 @@ pub fn first_nodes(alloc: Global, accepted: &Accepted) -> Result<Vec<Node>, NoMe
 impl NodeWorld {
     ghost use Rattle.sj_core.specs.NodeWorld.{IsReached, file_in, history_in, world_in};
 
-    /// The parties of the file before any event, with nothing in their lanes. It has the file in common
-    /// with all who keep it.
+    /// The parties of the file before any event, with nothing in their lanes. It has the file in
+    /// common with all who keep it.
     fn begin(alloc: Global, accepted: &Accepted) -> Result<NodeWorld, NoMemory>
         ensures reached { IfOk result (λ c. IsReached c) }
         ensures file { IfOk result (λ c. file_in c ≡ without_words (file_of (held accepted.now))) }
@@ -131,8 +131,8 @@ impl World {
         Ok(World { node_world })
     }
 
-    /// The world to which these lines lead from the file's start on, if each is the one that is due there.
-    /// They become its history, so that no line is copied.
+    /// The world to which these lines lead from the file's start on, if each is the one that is due
+    /// there. They become its history, so that no line is copied.
     pub fn replayed(
         alloc: Global,
         accepted: &Accepted,

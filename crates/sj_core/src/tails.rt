@@ -52,8 +52,8 @@ fn later(latest: Option<Tail>, party: u16, clock: Option<u64>) -> Option<Tail>
     }
 }
 
-/// The party whose last entry comes last, by clock and then by party; none where no log has one. The
-/// clocks are those of the logs' last entries.
+/// The party whose last entry comes last, by clock and then by party; none where no log has one.
+/// The clocks are those of the logs' last entries.
 pub(crate) fn last_party(clocks: &[Option<u64>]) -> Option<u16>
     requires { length clocks.now ≤ most_logs }
     ensures some { IfSome result (λ p. (logs : List (Vec Entry)) → clocks.now ≡ last_clocks logs → IsLast (given_log logs) p) }

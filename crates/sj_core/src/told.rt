@@ -25,7 +25,8 @@ impl World {
         self.node_world.opens()
     }
 
-    /// How each party stands where nothing is left to do, as the nodes have it: so it does at the end of the file.
+    /// How each party stands where nothing is left to do, as the nodes have it: so it does at the
+    /// end of the file.
     pub fn stands(&self, alloc: Global) -> Result<Vec<Stand>, NoMemory>
         ensures { IfOk result (λ v. (file : FileAt) → IsQuietOf file self.now → AreStands (end_of file) v.items) }
     {

@@ -94,8 +94,8 @@ impl World {
         self.node_world.replay(lines)
     }
 
-    /// The line that is due for the event at that party; none where it is no step, or names a party that
-    /// the file hasn't.
+    /// The line that is due for the event at that party; none where it is illegal, or names a party
+    /// that the file hasn't.
     pub fn due(&self, party: u16, event: Event) -> Option<Line>
         ensures { due (play_of (kept_file self.now)) max (world_at self.now) party (event_at event)
             ≡ option_map line_at result }
@@ -110,8 +110,9 @@ impl World {
         &self.node_world.history
     }
 
-    /// Does rounds until one has no event. In a round each party, in order, takes the frames of each
-    /// lane to it until that is empty, and then acts until it can't. Without memory it breaks off.
+    /// Does rounds until one has no event. In a round each party, in order, takes the frames of
+    /// each lane to it until that is empty, and then acts until it can't. Without memory it breaks
+    /// off.
     pub fn drain(&mut self) -> Result<(), NoMemory>
         // The events are those of the rounds, and nothing is left to do.
         ensures drained { OnOk result (GoesBy (IsDrained self.old (party_count self.old)) self.old self.new) }

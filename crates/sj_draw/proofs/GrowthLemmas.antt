@@ -83,7 +83,7 @@ small g w =
       height = omega (arith, row_low (length g.arrows) w.few_arrows);
     }
 
--- five parts, one behind another
+-- five parts, one after another
 lengths : (a b c d e : List ℕ) → length (a ++ (b ++ (c ++ (d ++ e)))) ≡ length a + (length b + (length c + (length d + length e)))
 lengths a b c d e = omega (arith, length-append a (b ++ (c ++ (d ++ e))), length-append b (c ++ (d ++ e)), length-append c (d ++ e), length-append d e)
 

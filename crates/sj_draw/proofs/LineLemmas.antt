@@ -1,4 +1,4 @@
--- A party's line and those behind it.
+-- A party's line and those after it.
 use Rattle.std.proofs.Common.{◌≡◌, ◌+◌, ◌<◌, ◌++◌, ℕ, List, [], ◌∷◌, Bor, length, map, drop, arith}
 use Rattle.std.proofs.lemmas.List.{at_drop_more}
 use Rattle.sj_draw.specs.declared.layout.Layout.{Layout}

@@ -6,7 +6,7 @@ use Rattle.sj_draw.specs.Chart.{ArrowAt, ChartAt, Outcome, Gathered, Unread, Bey
 use Rattle.sj_draw.specs.Lines.{LineAt, Session, Opened, Party, Message, Delivery, Log, Verdict, read}
 use Rattle.sj_draw.proofs.OnceLemmas.{any_arrows}
 
--- what holds of a chart and a number of lines holds behind further lines, where each line keeps it
+-- what holds of a chart and a number of lines holds after further lines, where each line keeps it
 module _ (P : ℕ → ChartAt → Type 0) (step : (k : ℕ) (f : ChartAt) (x : LineAt) → P k f → is_within (with_line f x) ≡ true → P (k + 1) (with_line f x)) where
   by_test : (b : Bool) (k n : ℕ) (f g h : ChartAt) (m : ℕ) (next : ChartAt → Outcome) → (b ≡ true → P (k + 1) h) → ((j : ChartAt) → P (k + 1) j → next j ≡ Gathered g → P m g)
       → then_on (if b then Gathered h else Beyond n) next ≡ Gathered g → P m g

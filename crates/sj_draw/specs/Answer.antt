@@ -26,7 +26,7 @@ abbrev pub IsDrawn : Outcome → List ℕ → Type 0
 IsDrawn (Gathered f) svg = svg ≡ picture f
 IsDrawn _ svg = ⊥
 
--- the first line that is none, or that passes a limit; want of memory may come at any time
+-- the first line that is none, or that passes a limit; out of memory may come at any time
 abbrev pub IsRefused : Outcome → DrawRefusal → Type 0
 IsRefused o refusals.NoMemory = ⊤
 IsRefused (Unread n) (refusals.Unread m) = m ≡ n

@@ -7,7 +7,8 @@ use Rattle.sj_draw.specs.declared.lines.Mark.TheVariants.{Request}
 use Rattle.sj_draw.specs.Lines.{SessionAt, PassedAt, LineAt, Session, Opened, Party, Message, Delivery, Log, Verdict, read}
 use Rattle.sj_draw.specs.Words.{before}
 
--- an arrow between the lines of two parties, by their numbers; to none where nobody took the message
+-- an arrow between the lines of two parties, by their numbers; to none
+-- where nobody took the message
 pub record ArrowAt : Type 0 where
   pub mark : Mark
   pub from : ℕ
@@ -16,8 +17,8 @@ pub record ArrowAt : Type 0 where
   pub name : List ℕ
   pub text : List ℕ
 
--- parties in order of first mention, sessions and arrows in order; the most bytes of a party's name, and of an
--- arrow's name and text together; whether some arrow goes to no other party
+-- parties in order of first mention, sessions and arrows in order. Then the most bytes of a party's
+-- name, and of an arrow's name and text together; and whether some arrow goes to no other party
 pub record ChartAt : Type 0 where
   pub parties : List (List ℕ)
   pub sessions : List SessionAt
@@ -42,7 +43,8 @@ joined_by ps name = if nat_lt (number_of ps name) (length ps) then ps else ps ++
 abbrev pub name_or_end : List ℕ → List ℕ → List ℕ
 name_or_end name end = if bytes_eq name (codes "-") then end else name
 
--- the name of an end of a session, or the end as it is written where it has none, or no session has that number
+-- the name of an end of a session, or the end as it is written where it has none, or
+-- no session has that number
 abbrev pub name_of : List SessionAt → List ℕ → Bool → List ℕ
 name_of [] end first = end
 name_of (s ∷ ss) end first =
@@ -101,7 +103,8 @@ with_any f (Some name) = with_party f name
 abbrev pub is_untaken : ArrowAt → Bool
 is_untaken a = is_none a.to
 
--- what a line adds; the arrows of an opened session begin with that of its request; where a log begins, the arrows of messages that were taken go, since the log has their frames
+-- what a line adds. The arrows of an opened session begin with that of its request. Where a log
+-- begins, the arrows of messages that were taken go, since the log has their frames
 abbrev pub with_line : ChartAt → LineAt → ChartAt
 with_line f (Session s) = with_session (with_party (with_party f s.first_party) s.second_party) s
 with_line f (Opened s) = with_passed (with_session (with_party (with_party f s.first_party) s.second_party) s) (request_of s)
@@ -134,7 +137,8 @@ is_within f =
     nat_le (length f.parties) most_parties && nat_le (length f.sessions) most_sessions && nat_le (length f.arrows) most_arrows
     && nat_le f.names most_name && nat_le f.texts most_text
 
--- what comes of lines: a chart, or the number of the first line that is none, or that passes a limit
+-- what comes of lines: a chart, or the number of the first line that is
+-- none, or that passes a limit
 pub data Outcome : Type 0 where
   Gathered : ChartAt → Outcome
   Unread : ℕ → Outcome
@@ -150,7 +154,7 @@ then_on (Gathered f) next = next f
 then_on (Unread n) next = Unread n
 then_on (Beyond n) next = Beyond n
 
--- what comes of the lines from that number on, behind a chart
+-- what comes of the lines from that number on, after a chart
 abbrev pub gathered : ChartAt → ℕ → List (List ℕ) → Outcome
 gathered f n [] = Gathered f
 gathered f n (l ∷ ls) = then_on (outcome_with f n (read l)) (λ g. gathered g (n + 1) ls)

@@ -1,8 +1,10 @@
--- Where the parties' lines stand: each in the middle of a column, which is as wide as its name needs.
+-- Where the parties' lines stand: each in the middle of a column, which is
+-- as wide as its name needs.
 use Rattle.std.specs.Prelude.{ℕ, ◌+◌, ◌*◌, ◌-◌, ◌/◌, ◌==◌, List, [], ◌∷◌, length, min, max, Option, Some, None, if◌then◌else◌}
 use Rattle.sj_draw.specs.Chart.{ChartAt, most_name}
 
--- the least half of a column; so wide that the longest name and text of an arrow fit, where 2,400 are enough for all columns
+-- the least half of a column; so wide that the longest name and text of an arrow fit, where 2,400
+-- are enough for all columns
 abbrev pub base_of : ChartAt → ℕ
 base_of f = max 80 (min (4 * f.texts + 24) (1200 / max 1 (length f.parties)))
 
@@ -10,7 +12,8 @@ base_of f = max 80 (min (4 * f.texts + 24) (1200 / max 1 (length f.parties)))
 abbrev pub half_of : ℕ → List ℕ → ℕ
 half_of base name = max base (4 * min (length name) most_name + 12)
 
--- where the line of the party of that number stands, behind the columns before; where there is no such party, the width of all columns
+-- where the line of the party of that number stands, after the columns before it; where there is no
+-- such party, the width of all columns
 abbrev pub x_of : ℕ → List (List ℕ) → ℕ → ℕ
 x_of base [] i = 0
 x_of base (p ∷ ps) i = if i == 0 then half_of base p else 2 * half_of base p + x_of base ps (i - 1)

@@ -1,4 +1,5 @@
--- The picture of a chart: its head, a line for each party, an arrow for each message or frame, and its foot.
+-- The picture of a chart: its head, a line for each party, an arrow for each
+-- message or frame, and its foot.
 use Rattle.std.specs.Prelude.{ℕ, ◌+◌, ◌*◌, ◌-◌, ◌/◌, ◌%◌, ◌==◌, List, [], ◌∷◌, ◌++◌, length, min, max, Bool, ◌&&◌, ◌||◌, Option, Some, None, if◌then◌else◌, nat_lt, decimal, codes}
 use Rattle.std.specs.List.{concat}
 use Rattle.sj_draw.specs.declared.lines.Mark.{Mark}
@@ -97,7 +98,8 @@ way_text start tip k a = concat
 abbrev pub letters_of_name : ℕ
 letters_of_name = 12
 
--- letters that are left for the text, of that many, behind the name, a colon and a space, and with an ellipsis
+-- letters that are left for the text, of that many, after the name, a colon and a
+-- space, and with an ellipsis
 abbrev pub room_of : ℕ → ArrowAt → ℕ
 room_of letters a = letters - (min (length a.name) letters_of_name + 3)
 

@@ -17,8 +17,8 @@ pub record SessionAt : Type 0 where
   pub second_party : List ℕ
   pub second_end : List ℕ
 
--- a message, a frame or an opening: from whom to whom, if anybody took it; the end or the session that it names, whether
--- that is the session's first end, and its text
+-- a message, a frame or an opening: from whom to whom, if anybody took it. Then the end or the
+-- session that it names, whether that is the session's first end, and its text
 pub record PassedAt : Type 0 where
   pub mark : Mark
   pub from : List ℕ
@@ -27,7 +27,7 @@ pub record PassedAt : Type 0 where
   pub first : Bool
   pub text : List ℕ
 
--- what a line tells
+-- what a line says
 pub data LineAt : Type 0 where
   Session : SessionAt → LineAt
   Opened : SessionAt → LineAt
@@ -53,7 +53,7 @@ valued_mark kind value =
 abbrev pub message_mark : List ℕ → Option Mark
 message_mark text = if bytes_eq text (codes "more") || bytes_eq text (codes "stop") then Some marks.Message else valued_mark (word text) (words_behind text)
 
--- the same of a message that stands behind some words
+-- the same of a message that stands after some words
 abbrev pub mark_of_rest : Option (List ℕ) → Option Mark
 mark_of_rest None = None
 mark_of_rest (Some text) = message_mark text
@@ -61,7 +61,7 @@ mark_of_rest (Some text) = message_mark text
 abbrev pub mark_behind : List Field → List ℕ → Option Mark
 mark_behind fields text = mark_of_rest (behind_fields fields text)
 
--- how a frame is drawn, by its kind and what stands behind that
+-- how a frame is drawn, by its kind and what stands after that
 abbrev pub frame_mark : List ℕ → List ℕ → Option Mark
 frame_mark kind rest =
     if bytes_eq kind (codes "carry") then mark_behind (End ∷ Number ∷ Number ∷ Number ∷ []) rest
@@ -73,7 +73,8 @@ frame_mark kind rest =
     else (if bytes_eq kind (codes "open") then mark_if (is_just (Number ∷ []) rest) marks.Open
     else None))))))
 
--- it is an end of side 0; a session that comes is named by its number alone, and its end of side 1 is meant
+-- it is an end of side 0; a session that comes is named by its number alone, and
+-- its end of side 1 is meant
 abbrev pub is_first : List ℕ → Bool
 is_first end = bytes_eq (behind 46 end) (codes "0")
 
@@ -106,7 +107,8 @@ opening_line party deed =
     else (if bytes_eq (word deed) (codes "accept") then opening marks.Accept false party deed
     else None)
 
--- an event at a party: a frame that came, or what the party did, which only names it where no session is opened
+-- an event at a party: a frame that came, or what the party did, which only names it
+-- where no session is opened
 abbrev pub event_line : List ℕ → Option LineAt
 event_line rest =
     let party = word rest in let deed = words_behind rest in
@@ -173,7 +175,7 @@ ends_in_space line = slice_index line (length line - 1) == 32
 abbrev pub is_plain : List ℕ → Bool
 is_plain line = is_printing line && not (ends_in_space line)
 
--- a line by its first word, and what stands behind that
+-- a line by its first word, and what stands after that
 abbrev pub worded_line : List ℕ → List ℕ → Option LineAt
 worded_line first rest =
     if bytes_eq first (codes "session") then session_line rest
@@ -192,6 +194,6 @@ plain_line line =
     if bytes_eq line (codes "%%log") || bytes_eq line (codes "%%log2") then Some Log
     else (if is_verdict line then Some Verdict else split_line line)
 
--- what a line tells, where it is one of a transcript or a log
+-- what a line says, where it is one of a transcript or a log
 abbrev pub read : List ℕ → Option LineAt
 read line = if is_plain line then plain_line line else None

@@ -70,13 +70,13 @@ pub record AnswersTooLarge (i : InputAt) (status : ℕ) (text : List ℕ) : Type
 abbrev pub IsAnswered : InputAt → ℕ → List ℕ → Type 0
 IsAnswered i status text = AnswersBytes i status text ⊎ (AnswersFault i status text ⊎ AnswersTooLarge i status text)
 
--- a text that is due stands behind what was written before
+-- a text that is due stands after what was written before
 pub record AnswersOne (i : InputAt) (status : ℕ) (before after : Option (List ℕ)) : Type 0 where
   pub text : List ℕ
   pub comes : IsAnswered i status text
   pub written : after ≡ put_behind before text
 
--- a front of a text that is due stands there
+-- a prefix of a text that is due stands there
 pub record WroteFront (i : InputAt) (before after : Option (List ℕ)) : Type 0 where
   pub status : ℕ
   pub text : List ℕ

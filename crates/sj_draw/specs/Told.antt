@@ -1,4 +1,4 @@
--- What arrows tell, and what the lines do from which they come.
+-- What arrows say, and what the lines do from which they come.
 use Rattle.std.specs.Prelude.{◌≡◌, ℕ, Bool, true, false, List, [], ◌∷◌, Option, Some, None, ⊤}
 use Rattle.sj_draw.specs.declared.lines.Mark.{Mark}
 use Rattle.sj_draw.specs.Chart.{ArrowAt, request_of}

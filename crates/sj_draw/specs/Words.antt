@@ -9,11 +9,11 @@ use Rattle.sj_draw.specs.declared.words.Field.TheVariants.{Number, End, Name, Re
 abbrev pub before : ℕ → List ℕ → List ℕ
 before at text = before_first (λ b. nat_eq b at) text
 
--- what stands behind it, or nothing where there is none
+-- what stands after it, or nothing where there is none
 abbrev pub behind : ℕ → List ℕ → List ℕ
 behind at text = after_first (λ b. nat_eq b at) text
 
--- the first word of a line, and what stands behind it
+-- the first word of a line, and what stands after it
 abbrev pub word : List ℕ → List ℕ
 word text = before 32 text
 
@@ -38,7 +38,7 @@ is_of End w = is_end w
 is_of Name w = not (length w == 0)
 is_of Resend w = is_number w || bytes_eq w (codes "-")
 
--- what stands behind the words that have to be these, if they are
+-- what stands after the words that have to be these, if they are
 abbrev pub behind_fields : List Field → List ℕ → Option (List ℕ)
 behind_fields [] text = Some text
 behind_fields (f ∷ fs) text = if is_of f (word text) then behind_fields fs (words_behind text) else None

@@ -113,7 +113,8 @@ fn put_way(
     )
 }
 
-// The letters that are left for the text, after the name, a colon and a space, and with an ellipsis.
+// The letters that are left for the text, after the name, a colon and a
+// space, and with an ellipsis.
 fn room_of(letters: usize, arrow: &Arrow<'_>) -> usize
     ensures { result ≡ room_of letters (arrow_at arrow.now) }
 {

@@ -77,8 +77,8 @@ impl<'a> Chart<'a> {
             && self.texts <= MOST_TEXT
     }
 
-    /// Adds what a line says. Where a log begins, the arrows of messages that were taken go, since the log
-    /// has their frames.
+    /// Adds what a line says. Where a log begins, the arrows of messages that were taken go, since
+    /// the log has their frames.
     pub fn take(&mut self, line: Line<'a>) -> Result<(), NoMemory>
         ensures { OnOk result (chart_at self.new ≡ with_line (chart_at self.old) (line_at line.entry)) }
     {

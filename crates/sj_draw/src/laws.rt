@@ -12,8 +12,8 @@ ghost use Rattle.sj_draw.specs.Chart.{ChartAt, Gathered, gathered};
 ghost use Rattle.sj_draw.specs.Told.{HasNoLog, told_arrow, told_in};
 ghost use Rattle.sj_draw.specs.Small.{most_of_chart, most_of_line};
 
-/// After what was gathered before, lines add one arrow for each message, opening or delivery,
-/// in order, and no other; so it is for a transcript, and for the lines after `%%log` or `%%log2`.
+/// After what was gathered before, lines add one arrow for each message, opening or delivery, in
+/// order, and no other. So it is for a transcript, and for the lines after `%%log` or `%%log2`.
 pub fn each_delivery_is_drawn_once()
     ensures { (f g : ChartAt) (n : ℕ) (lines : List (List ℕ)) → HasNoLog lines → gathered f n lines ≡ Gathered g
         → map told_arrow g.arrows ≡ map told_arrow f.arrows ++ filter_map told_in lines }

@@ -45,7 +45,8 @@ pub(crate) struct Passed<'a> {
     pub from: &'a [u8],
     /// None where nobody took it.
     pub to: Option<&'a [u8]>,
-    /// The end from which a message was sent, or that a frame names, as `0.1`; or an opened session's number.
+    /// The end from which a message was sent, or that a frame names, as `0.1`; or an
+    /// opened session's number.
     pub end: &'a [u8],
     /// Whether the session's first end is meant.
     pub first: bool,

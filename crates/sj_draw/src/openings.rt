@@ -29,7 +29,7 @@ pub(crate) fn opening_line<'a>(party: &'a [u8], deed: &'a [u8]) -> Option<Line<'
     }
 }
 
-// Behind the verb stand a session and the other party.
+// After the verb stand a session and the other party.
 fn opening<'a>(mark: Mark, first: bool, from: &'a [u8], text: &'a [u8]) -> Option<Line<'a>>
     ensures { option_map line_at result ≡ opening mark first from.entry.now text.entry.now }
 {

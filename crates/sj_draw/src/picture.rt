@@ -1,4 +1,5 @@
-//! The picture of a chart: its head, a line for each party, an arrow for each message or frame, and its foot.
+//! The picture of a chart: its head, a line for each party, an arrow for each
+//! message or frame, and its foot.
 ghost use Rattle.std.specs.Prelude.{◌≡◌, ◌≤◌, ◌++◌, OnOk, IsTrue, length, map};
 ghost use Rattle.sj_draw.specs.Chart.{is_within, most_arrows, most_parties};
 ghost use Rattle.sj_draw.specs.Columns.{x_of};

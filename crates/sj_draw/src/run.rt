@@ -27,9 +27,9 @@ struct Reply {
 
 /// Reads a transcript, a log, or a transcript and its log, writes its picture, and answers 0.
 ///
-/// Another status comes with a line that says why: 2 where a read failed, 3 where more than 67,108,864 bytes
-/// came, 4 and 5 where `draw_lines` refuses a line. The text is built whole before any of it is written; 10
-/// comes where a write failed, and 11 where there was no memory.
+/// Another status comes with a line that says why: 2 where a read failed, 3 where more than
+/// 67,108,864 bytes came, 4 and 5 where `draw_lines` refuses a line. The text is built whole before
+/// any of it is written; 10 comes where a write failed, and 11 where there was no memory.
 pub fn draw<S: Source, K: Sink>(alloc: Global, src: &mut S, out: &mut K) -> u8
     ensures answer { AnswersOne (record {
       left = S.left src.old;

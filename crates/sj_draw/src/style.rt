@@ -1,7 +1,8 @@
-//! How lines and arrows look: each kind of frame has a colour and dashes of its own, and openings have one colour.
+//! How lines and arrows look: each kind of frame has a colour and dashes of its own, and
+//! openings have one colour.
 
-/// The looks of the classes, the tips of the arrows, a white page, a line that says what an arrow means,
-/// and the beginning of the group of names.
+/// The looks of the classes, the tips of the arrows, a white page, a line that says what an arrow
+/// means, and the beginning of the group of names.
 pub(crate) const STYLE: &[u8] = b"\
 <style>\
 text{font:12px monospace;fill:#111}\

@@ -15,15 +15,16 @@ use std::alloc::{AllocError, Global};
 pub enum DrawRefusal {
     /// The line is none of a transcript or a log, and those before it are drawn.
     Unread(usize),
-    /// The line is one, and with it there are more than 16 parties, 1,664 sessions, 1,000,000 arrows, 64 bytes
-    /// of a party's name, or 1,024 of an end's name and a text.
+    /// The line is one. With it there are more than 16 parties, 1,664 sessions, 1,000,000 arrows,
+    /// 64 bytes of a party's name, or 1,024 of an end's name and a text.
     Beyond(usize),
     NoMemory,
 }
 
 /// The picture of the lines of a transcript, a log, or a transcript and its log, as an SVG.
 ///
-/// A newline at the end begins no line. There is always a first line, which may be empty, and is refused then.
+/// A newline at the end begins no line. There is always a first line, which may be
+/// empty, and is refused then.
 pub fn draw_lines(alloc: Global, bytes: &[u8]) -> Result<Vec<u8>, DrawRefusal>
     ensures ok { IfOk result (λ svg. IsDrawn (outcome_of bytes.now) svg.items) }
     ensures err { IfErr result (IsRefused (outcome_of bytes.now)) }

@@ -1,6 +1,6 @@
 //! No end can be doubled, nor what holds one: where one of these types is `Clone`, and so where it
 //! is `Copy`, two impls conflict and the crate doesn't compile. A call that takes an end by value
-//! thus leaves nothing of it behind to be used.
+//! thus leaves nothing of it to be used.
 use crate::{Body, Closed, Deferred, End, Expected, Frame, Held, Parked, Post, Room, Signalled};
 
 trait Once {}

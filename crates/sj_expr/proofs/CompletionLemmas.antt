@@ -32,7 +32,7 @@ module _ (names : Spelling) where
   abbrev pub AllSpelled : List ExpressionDue → Pieces → Type 0
   AllSpelled ds ts = Alls expression_layer Spelled ds ts
 
-  -- behind a factor
+  -- after a factor
   pub to_term : (o : ℕ) (t : Term) (a b : Pieces) (rest : List ExpressionDue) → Writes names level.factor o t a → AllSpelled (times o ∷ rest) b → (u : Term) × (c : Pieces) × (d : Pieces) × Writes names level.term o u c × AllSpelled rest d × (a ++ b ≡ c ++ d)
   to_term o t a b rest w h =
       let x = h.2 t a (w_factor names w) in
@@ -86,7 +86,7 @@ module _ (names : Spelling) where
       by_tests true true false false false false en el ex em ey ef h = let none : ⊥ = cc in absurd none
       by_tests false l false false false false en el ex em ey ef h = let none : ⊥ = cc in absurd none
 
-  -- from what is due behind a token to what is due before it
+  -- from what is due after a token to what is due before it
   pub factor_back : (o : ℕ) (es : List ExpressionDue) (s : List ℕ) (ts : Pieces) → IsHeld names s → factor_follow o s ≡ Some es → AllSpelled es ts → Spelled (factor o) (s ∷ ts)
   factor_back o es s ts held e h = by_tests (is_operand s) (bytes_eq s (codes "-")) (bytes_eq s (codes "not")) (bytes_eq s (codes "(")) refl refl refl refl e
     where

@@ -98,7 +98,7 @@ module _ (n o : ℕ) where
       let is = limit_is (but_name false) x r.rule (nat_lt 64 (length s)) (name_operand s t) (not_largest s (name_no_number s t)) (rw t refl) r.refused in
       long_inside a f (name_operand s t) (rw (name_no_text s t, t, is.0) refl) (r.fault ∙ ap (fault_at (before_next a.text x)) is.1)
 
-  -- behind a minus
+  -- after a minus
   module _ (r q : Reading) (ws ts : List (List ℕ)) (minus : TakesText r (codes "-") q) where
     pub minus_taken : Takes (at r ws ts) (codes "-") (at q ws ts)
     minus_taken = took_plain r q ws ts (codes "-") refl refl minus

@@ -72,7 +72,7 @@ none_due (d ∷ ds) x what s rest p e =
     by_none later true = later
     by_none later false = refl
 
--- the reader stands behind an expression, and what comes next goes on with none
+-- the reader stands after an expression, and what comes next goes on with none
 pub expression_read : (a b : At) (t : Term) → operand_count t ≤ 256 → ReadsWhole 0 0 a b t → ReadsExpression a b t
 expression_read a b t few r = record {
   reads = record { pieces = r.reads.pieces; begins = r.reads.begins; are = λ names g. record { spelt = r.reads.are names g; few = few } };
@@ -94,7 +94,7 @@ expression_read a b t few r = record {
     by_next (bad l rest) p = tt
     by_next (token what s rest) p = not_viable limits r.reads.pieces 0 (operand_count t) r.left s ran.steps (none_due r.left (token what s rest) what s rest p refl)
 
--- behind an expression the text is stuck where it is stuck from there on
+-- after an expression the text is stuck where it is stuck from there on
 pub expression_leads : (n : ℕ) (a b : At) (t : Term) (ds : List Due) (f : Fault) → ReadsExpression a b t → Stuck file_layer limits (operand_count t) b ds f → Stuck file_layer limits n a (expr whole ∷ ds) f
 expression_leads n a b t ds f r st =
     elim (is_due limits (spelling_at b) t r.reads.pieces n [] (r.reads.are (spelling_at b) (agrees_itself b))) [ inl e ↦ behind (times 0 ∷ plus 0 ∷ compare 0 ∷ []) refl e | inr e ↦ behind (times 0 ∷ plus 0 ∷ []) refl e ]

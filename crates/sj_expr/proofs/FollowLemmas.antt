@@ -1,4 +1,4 @@
--- From what is due behind a token to what is due before it.
+-- From what is due after a token to what is due before it.
 use Rattle.std.proofs.Common.{◌≡◌, ℕ, Bool, true, false, List, [], ◌∷◌, ◌++◌, Option, Some, None, refl, ap, sym, subst, ◌∙◌, append_assoc, append-nil, ◌⊎◌, inl, inr}
 use Rattle.std.specs.Prelude.{codes, if◌then◌else◌, ◌||◌}
 use Rattle.std.specs.Str.{bytes_eq}
@@ -13,7 +13,7 @@ use Rattle.sj_expr.proofs.CompletionLemmas.{Spelled, AllSpelled, to_term, to_sum
 use Rattle.sj_expr.proofs.TestLemmas.{bytes_same}
 
 module _ (names : Spelling) where
-  -- behind an operator: what it joins, and what is due behind that
+  -- after an operator: what it joins, and what is due after that
   times_back : (o : ℕ) (s : List ℕ) (ts : Pieces) → s ≡ codes "*" → AllSpelled names (factor o ∷ times o ∷ []) ts → Spelled names (times o) (s ∷ ts)
   times_back o s ts same h = λ t b w.
       let more = h.3 in
@@ -53,7 +53,7 @@ module _ (names : Spelling) where
           let w = to_whole names 0 first.0 (s ∷ r.0) r.1 [] first.1 r.3 in
           (w.0, w_as names (done names w.5 w.4 ∙ ap (λ z. s ∷ z) (sym r.4)) w.3)
 
-  -- from what is due behind a token to what is due before it
+  -- from what is due after a token to what is due before it
   pub unfollow : (d : ExpressionDue) (s : List ℕ) (es : List ExpressionDue) (ts : Pieces) → IsHeld names s → expression_follow d s ≡ Some es → AllSpelled names es ts → Spelled names d (s ∷ ts)
   unfollow whole s es ts held e h = whole_back es s ts held e h
   unfollow (factor o) s es ts held e h = factor_back names o es s ts held e h

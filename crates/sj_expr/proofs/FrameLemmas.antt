@@ -53,7 +53,7 @@ comparison_free s (product l ∷ k) h = absurd (omega arith)
 comparison_free s (addition op l ∷ k) h = absurd (omega arith)
 comparison_free s (comparison op l ∷ k) h = absurd (omega arith)
 
--- what may stand behind an expression of that level
+-- what may stand after an expression of that level
 abbrev pub IsNoStar : Sign → Type 0
 IsNoStar star = ⊥
 IsNoStar (plus op) = Unit {0}

@@ -24,7 +24,7 @@ use Rattle.sj_proto.proofs.FrontLemmas.{spelling_at}
 pub itself_within : IsWithin limits limits
 itself_within = record { nesting = omega arith; name = omega arith; text = omega arith }
 
--- the expression, by the spelling of the tables behind it
+-- the expression, by the spelling of the tables after it
 pub spelt_there : {l : Level} {o : ℕ} {a b : At} {t : Term} → (r : ReadsLevel l o a b t) → Spelt limits (spelling_at b) l o t r.pieces
 spelt_there {b} r = r.are (spelling_at b) (agrees_itself b)
 
@@ -94,7 +94,7 @@ comparison_step Less n o ds is = refl
 comparison_step LessEq n o ds is = refl
 comparison_step Equal n o ds is = refl
 
--- a sum alone, with no comparison behind it
+-- a sum alone, with no comparison after it
 pub sum_whole : (n o : ℕ) (a b : At) (t : Term) → n + operand_count t ≤ 256 → ReadsLevel level.sum o a b t → Passes expression_layer (times o) (next_of b.text.ahead) → Passes expression_layer (plus o) (next_of b.text.ahead)
     → Passes expression_layer (compare o) (next_of b.text.ahead) → ReadsWhole n o a b t
 sum_whole n o a b t few r no_times no_plus no_compare = record {

@@ -25,7 +25,7 @@ arrives level.sum s k = has s k
 arrives level.whole s k = has s k
 
 module _ (L : Limits) (names : Spelling) where
-  -- the pieces are read as a shape of the term, whatever they stand behind and whatever may follow
+  -- the pieces are read as a shape of the term, whatever stands before them and whatever may follow
   abbrev pub IsRead : Level → Term → Pieces → Type 0
   IsRead l t a = (s : Shape) × IsShapeOf L names s t × ((k : List Frame) (x : Pieces) → need l ≤ rank k → MayFollow l x → reading (wants k) (a ++ x) ≡ reading (arrives l s k) x)
 

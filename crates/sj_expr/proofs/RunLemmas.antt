@@ -23,7 +23,7 @@ pub record IsWithin (M L : Limits) : Type 0 where
   pub text : M.text ≤ L.text
 
 module _ (L : Limits) where
-  -- so many operands are counted and that is due; behind the pieces so many, and that
+  -- so many operands are counted and that is due; after the pieces so many, and that is due
   abbrev pub Goes : ℕ → List ExpressionDue → Pieces → ℕ → List ExpressionDue → Type 0
   Goes n ds ps m es = Runs expression_layer L n ds ps m es
 
@@ -67,7 +67,7 @@ module _ (L : Limits) where
   compared_run c o a b n i j ds e r q =
       two_run c a b n (n + i) (n + (i + j)) _ (times o ∷ plus o ∷ compare o ∷ ds) (factor o ∷ times o ∷ plus o ∷ ds) (times o ∷ plus o ∷ ds) r e (Runs-to expression_layer L _ _ _ _ _ b (omega arith) q)
 
-  -- what is due behind an expression of that level; behind a comparison there is no other one
+  -- what is due after an expression of that level; after a comparison there is no other one
   abbrev pub Leaves : Level → ℕ → Pieces → ℕ → ℕ → List ExpressionDue → Type 0
   Leaves level.factor o a n m ds = Goes n (factor o ∷ ds) a m ds
   Leaves level.term o a n m ds = Goes n (factor o ∷ times o ∷ ds) a m (times o ∷ ds)

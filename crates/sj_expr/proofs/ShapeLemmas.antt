@@ -14,7 +14,7 @@ pub data Shape : Type 0 where
   negated : Shape → Shape
   joined : Op → Shape → Shape → Shape
 
--- what an operand waits behind
+-- what stands before an operand that is awaited
 pub data Frame : Type 0 where
   negation : Frame
   group : Frame
@@ -22,7 +22,7 @@ pub data Frame : Type 0 where
   addition : Op → Shape → Frame
   comparison : Op → Shape → Frame
 
--- a factor is wanted; or the number behind a minus; or something is there that may go on
+-- a factor is wanted; or the number after a minus; or something is there that may go on
 pub data State : Type 0 where
   wants : List Frame → State
   number : List Frame → State
@@ -32,7 +32,7 @@ pub data Move : Type 0 where
   moves : State → Move
   ends : Move
 
--- a token behind a factor
+-- a token after a factor
 pub data Sign : Type 0 where
   star : Sign
   plus : Op → Sign
@@ -91,7 +91,7 @@ closed s (product l ∷ k) = ends
 closed s (addition op l ∷ k) = ends
 closed s (comparison op l ∷ k) = ends
 
--- behind a sum
+-- after a sum
 abbrev pub by_sum : Sign → Held → Move
 by_sum star h = ends
 by_sum (plus op) h = moves (wants (addition op h.0 ∷ h.1))
@@ -99,7 +99,7 @@ by_sum (compare op) h = moves (wants (comparison op h.0 ∷ h.1))
 by_sum close h = let up = up_comparison h.0 h.1 in closed up.0 up.1
 by_sum other h = ends
 
--- behind a term
+-- after a term
 abbrev pub by_term : Sign → Held → Move
 by_term star h = moves (wants (product h.0 ∷ h.1))
 by_term (plus op) h = by_sum (plus op) (up_addition h.0 h.1)

@@ -34,7 +34,7 @@ sum_first n o a f st = before (plus o ∷ []) n a (factor o ∷ times o ∷ []) 
 pub whole_first : (n o : ℕ) (a : At) (f : Fault) → Inside n a (factor o ∷ times o ∷ plus o ∷ []) f → Inside n a (expression_at o) f
 whole_first n o a f st = before (compare o ∷ []) n a (factor o ∷ times o ∷ plus o ∷ []) f st
 
--- behind what was read
+-- after what was read
 term_block : (n k o : ℕ) (a b : At) (t : Term) (ds : List ExpressionDue) (f : Fault) → ReadsLevel level.term o a b t → k ≡ n + operand_count t → k ≤ 256 → Inside k b (times o ∷ ds) f → Inside n a (factor o ∷ times o ∷ ds) f
 term_block n k o a b t ds f r count few st =
     inside_block expression_layer limits n (n + operand_count t) a b r.pieces (factor o ∷ times o ∷ ds) (times o ∷ ds) f r.begins (runs limits limits (spelling_at b) itself_within (spelt_there r) n ds (omega arith))

@@ -49,7 +49,7 @@ not_quoted s fails = by_test (bytes_eq s (quoted (inner s))) refl
     by_test true e = absurd (fails (quotes_are s (bytes_same s (quoted (inner s)) e)))
     by_test false e = refl
 
--- behind a first quote the last byte decides
+-- after a first quote the last byte decides
 pub last_decides : (s : List ℕ) → 2 ≤ length s → get_or s 0 0 ≡ 34 → nat_eq (get_or s (length s - 1) 0) 34 ≡ bytes_eq s (quoted (inner s))
 last_decides s h first = by_test (nat_eq (get_or s (length s - 1) 0) 34) refl
   where

@@ -50,7 +50,7 @@ module _ (L : Limits) where
   pub whole_run : (n m : ℕ) (ds es : List ExpressionDue) (s : List ℕ) (ps : Pieces) → Goes L 0 (expression_at 0 ++ ds) (s ∷ ps) m es → Goes L n (whole ∷ ds) (s ∷ ps) m es
   whole_run n m ds es s ps r = record { steps = ap (λ (t : Step ExpressionDue). onward t (λ j gs. run expression_layer L j gs ps)) (whole_step n ds s) ∙ r.steps }
 
-  -- what is due behind a whole expression
+  -- what is due after a whole expression
   pub expression_runs : (M : Limits) (names : Spelling) (t : Term) (a : Pieces) (n : ℕ) (ds : List ExpressionDue) → IsWithin M L → Spelt M names level.whole 0 t a → operand_count t ≤ L.operands
       → Goes L n (whole ∷ ds) a (operand_count t) (times 0 ∷ plus 0 ∷ compare 0 ∷ ds) ⊎ Goes L n (whole ∷ ds) a (operand_count t) (times 0 ∷ plus 0 ∷ ds)
   expression_runs M names t a n ds within r few =

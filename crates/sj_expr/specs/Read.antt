@@ -22,7 +22,8 @@ pub record Agrees (names : Spelling) (a : At) : Type 0 where
   pub words : Spells names.word a.words
   pub texts : Spells names.text a.texts
 
--- from here to there the tokens are some pieces, and by each spelling that agrees with the tables there F says what they are
+-- from here to there the tokens are some pieces,
+-- and by each spelling that agrees with the tables there F says what they are
 pub record Reads (a b : At) (F : Spelling → Pieces → Type 0) : Type 0 where
   pub pieces : Pieces
   pub begins : Begins a pieces b
@@ -37,7 +38,8 @@ abbrev pub AllPass : List ExpressionDue → Ahead → Type 0
 AllPass [] x = Unit {0}
 AllPass (d ∷ ds) x = Passes expression_layer d x × AllPass ds x
 
--- an expression inside so many parentheses and `not`s, with so many operands before it; what comes next is none of what is left due
+-- an expression inside so many parentheses and `not`s, with so many operands before it;
+-- what comes next is none of what is left due
 pub record ReadsWhole (n o : ℕ) (a b : At) (t : Term) : Type 0 where
   pub reads : ReadsLevel whole o a b t
   pub left : List ExpressionDue
@@ -60,7 +62,7 @@ pub record ReadsExpression (a b : At) (t : Term) : Type 0 where
 abbrev pub TextSpelled : ℕ → Spelling → Pieces → Type 0
 TextSpelled n names ps = IsLiteral limits names.text n × (ps ≡ quoted (names.text n) ∷ [])
 
--- names and texts are added behind the old ones
+-- names and texts are added after the old ones
 pub record Grows (old new : Names) : Type 0 where
   pub words : Extends old.words new.words
   pub texts : Extends old.texts new.texts

@@ -16,7 +16,8 @@ pub record IsSomeExpression (pieces : Pieces) : Type 0 where
   pub term : Term
   pub spelt : Spelt within names whole 0 term pieces
 
--- At the token behind these pieces the rule is broken: up to there an expression can go on so; with the token none does, or it passes a limit, where the rule is that of limits.
+-- At the token after these pieces the rule is broken: up to there an expression can go on so.
+-- With the token none does, or, where the rule is that of limits, the token passes a limit.
 pub record IsBrokenAt (pieces : Pieces) (s : List ℕ) (rule : Rule) : Type 0 where
   pub viable : IsViable IsSomeExpression pieces
   pub wrong : rule ≢ over_limit → IsViable IsSomeExpression (pieces ++ s ∷ []) → ⊥

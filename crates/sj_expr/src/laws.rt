@@ -1,5 +1,6 @@
 //! Laws of the grammar of expressions.
-//! `expressions_are_what_is_due`: the tokens of an expression are what is due, up to what may go on.
+//! `expressions_are_what_is_due`: the tokens of an expression are what is due,
+//! up to what may go on.
 //! `no_expression_has_a_fault`: no token of an expression breaks a rule.
 //! `an_expression_is_read_in_one_way`: no two expressions have the same pieces.
 //! `faults_go_wrong`: at a token that breaks a rule no expression goes on, or a limit is passed.

@@ -142,8 +142,8 @@ fn whole(
     Ok(left)
 }
 
-/// The expression that begins with the next token, and ends where what comes next goes on with none.
-/// Its names and texts are those of the tables, which grow by the new ones.
+/// The expression that begins with the next token, and ends where what comes next goes on with
+/// none. Its names and texts are those of the tables, which grow by the new ones.
 pub fn parse_expression(
     alloc: Global,
     tokens: &mut Tokens,

@@ -24,14 +24,14 @@ first_line-append : (xs ys : List OpeningAt) → first_line (xs ++ ys) ≡ or_el
 first_line-append [] ys = refl
 first_line-append (x ∷ xs) ys = refl
 
--- what the first of those from one on tells of all
+-- what the first of those from one on says of all
 pub told_now : (all now head rest : Option ℕ) (line : ℕ) → now ≡ all → now ≡ or_else head rest → Some line ≡ head → Some line ≡ all
 told_now all now head rest line all_now split it = ap (λ (h : Option ℕ). or_else h rest) it ∙ sym split ∙ all_now
 
 pub told_later : (all now head rest : Option ℕ) → now ≡ all → now ≡ or_else head rest → None ≡ head → rest ≡ all
 told_later all now head rest all_now split it = ap (λ (h : Option ℕ). or_else h rest) it ∙ sym split ∙ all_now
 
--- ---- one, and those behind it
+-- ---- one, and those after it
 
 abbrev pub in_code : Code → Option ℕ
 in_code c = first_line (found_in as_opening c)

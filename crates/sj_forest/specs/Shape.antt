@@ -1,4 +1,4 @@
--- What a shape tells of a file.
+-- What a shape says of a file.
 use Rattle.std.specs.Prelude.{◌≡◌, ◌≢◌, ℕ, Bool, List, [], map, length, Some, ⊤}
 use Rattle.sj_forest.specs.Edges.{edge_of}
 use Rattle.sj_forest.specs.Left.{those_left}

@@ -49,9 +49,9 @@ fn without_openings(alloc: Global, file: &File) -> Result<Shape, NoMemory>
     }
 }
 
-/// Whether the file is a forest. Where no body has a request or an accept, parties that have at
-/// most one remaining connection are taken away, again and again, and it is one where nobody is
-/// left.
+/// Whether the file is a forest. Where no body has a request or an accept, parties that
+/// have at most one remaining connection are taken away, again and again. Then the file
+/// is a forest where nobody is left.
 #[tactic(auto, using(crate::proofs::ShapeLemmas::openless_where_none))]
 pub fn forest(alloc: Global, accepted: &Accepted) -> Result<Shape, NoMemory>
     ensures told { IfOk result (λ s. Tells (file_of (held accepted.now)) s) }

@@ -23,7 +23,8 @@ edges_at edges left p = sum_by (times_at left p) edges
 abbrev pub without : (ℕ → Bool) → ℕ → ℕ → Bool
 without left p q = left q && not (q == p)
 
--- these parties are taken away in order, each with its one remaining edge at most, and those are left
+-- these parties are taken away in order, each with its one remaining edge at
+-- most, and those are left
 abbrev pub AreTaken : List (ℕ × ℕ) → (ℕ → Bool) → List ℕ → (ℕ → Bool) → Type 0
 AreTaken edges left [] last = (p : ℕ) → left p ≡ last p
 AreTaken edges left (p ∷ ps) last = (left p ≡ true) × (edges_at edges left p ≤ 1) × AreTaken edges (without left p) ps last

@@ -31,7 +31,7 @@ Table = Vec (Vec Slot Global) Global
 abbrev pub Lanes : Type 0
 Lanes = Vec (VecDeque Frame Global) Global
 
--- what is told of a Held end is told of that one
+-- what is reported of a Held end is reported of that one
 pub used_is : (o : Option HeldAt) (u : Use) → Some u ≡ option_map use_of o → (h : HeldAt) × (o ≡ Some h) × (u ≡ use_of h)
 used_is None u is = absurd (cc is)
 used_is (Some h) u is = (h, refl, some_same u (use_of h) is)

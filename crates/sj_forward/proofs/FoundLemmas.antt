@@ -1,4 +1,4 @@
--- Where the slot of an end is found, and what it tells of the end.
+-- Where the slot of an end is found, and what it reports of the end.
 use Rattle.std.proofs.Common.{◌≡◌, ℕ, Bool, true, false, slice_get, Option, Some, None, option_and_then, refl, ap, sym, ◌∙◌, subst}
 use Rattle.std.specs.Prelude.{IsSome, Vec}
 use Rattle.std.specs.declared.alloc.Global.{Global}
@@ -39,7 +39,7 @@ slot_recorded rows e h r there = by (slot_in rows e) refl
     by (Some s) is = (s, is)
     by None is = absurd (let none : records_in rows e h ≡ None = ap (option_and_then (λ (s : Slot). record_in s h)) is in cc (there, none))
 
--- what a slot tells of its end
+-- what a slot reports of its end
 module _ (rows : Rows) (e : EndId) (s : Slot) (is : slot_in rows e ≡ Some s) where
   pub held_there : held_in rows e ≡ slot_held s
   held_there = λ i. option_and_then (λ h. held_at h (option_and_then (λ (x : Slot). record_in x h) (is i))) (option_and_then (λ (x : Slot). x.used) (is i))

@@ -49,7 +49,7 @@ lane_set outs to d more fs lt is items q =
       | inr other ↦ rw (one_other q to other) (ap frames_in (set_there outs to q more other))
     ]
 
--- a frame is put behind those of one lane
+-- a frame is put after those of one lane
 pub put_so : (outs : Outs) (to : ℕ) (d more : VecDeque Frame Global) (f : Frame) → to < length outs → d ≡ get_or outs to d → more.items ≡ d.items ++ f ∷ []
     → (q : ℕ) → lane_in (set outs to more) q ≡ (if q == to then lane_in outs q ++ frame_at f ∷ [] else lane_in outs q)
 put_so outs to d more f lt is items = lane_set outs to d more (frame_at f ∷ []) lt is (ap (map frame_at) items ∙ map-last frame_at d.items f)

@@ -15,7 +15,7 @@ use Rattle.sj_forward.proofs.SetLemmas.{set_here, set_there}
 pub ends_both : (old mid new : Rows) → EndsStay old mid → EndsStay mid new → EndsStay old new
 ends_both old mid new a b = record { uses = b.uses ∙ a.uses; records = b.records ∙ a.records }
 
--- a slot that has nothing is put behind those of a row
+-- a slot that has nothing is put after those of a row
 pub side_more : (xs : List Slot) (s : Slot) (k : ℕ) → s.used ≡ None → s.records.items ≡ [] → SideStays (slice_get xs k) (slice_get (xs ++ s ∷ []) k)
 side_more [] s zero used none = (used, λ h. ap (λ (rs : List (Option Record)). option_map record_at (get_or rs h None)) none)
 side_more [] s (suc k) used none = (refl, λ h. refl)
@@ -65,7 +65,7 @@ side_there rows e more lt within =
     is_there (x ∷ xs) zero lt = refl
     is_there (x ∷ xs) (suc n) lt = is_there xs n (omega (arith, lt))
 
--- an empty row is put behind the others
+-- an empty row is put after the others
 pub row_more : (rows : Rows) (row : Vec Slot Global) → row.items ≡ [] → EndsStay rows (rows ++ row ∷ [])
 row_more rows row none = record {
   uses = λ i d. ap (option_and_then (λ (x : Slot). x.used)) (slot_is rows d.sess d.side) i;

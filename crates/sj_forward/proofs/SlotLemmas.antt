@@ -159,7 +159,7 @@ takes_so s new hop x left h m used read held takes same items =
           (becomes s new s.used hop left (record { behind = h.behind; state = Held l.rest }) u.within items l.is same);
     }
 
--- what is told of a record
+-- what is reported of a record
 pub seen_so : (s : Slot) (hop : ℕ) (x : Option Record) (r : Record) (kind : Kind) → hop < length s.records.items → x ≡ get_or s.records.items hop x → x ≡ Some r
     → ((behind : ℕ) → seen_of (record_at (record { behind = behind; stand = r.stand })) ≡ record { behind = behind; kind = kind })
     → ◌≡◌ {A = Option Seen} (Some (record { behind = r.behind; kind = kind })) (option_map seen_of (record_in s hop))

@@ -1,4 +1,5 @@
--- A turn of a world of desks as a whole: it is a step, after which the world of desks is one to which turns lead.
+-- A turn of a world of desks as a whole: it is a step, after which the world of desks is one to
+-- which turns lead.
 use Rattle.std.proofs.Common.{◌≡◌, ◌≢◌, ℕ, ◌+◌, ◌<◌, ◌≤◌, ◌^◌, ◌==◌, Bool, true, false, if◌then◌else◌, List, [], ◌∷◌, ◌++◌, append-nil, length, slice_get, option_map, Some, None, refl, ap, sym, ◌∙◌, subst, arith}
 use Rattle.std.proofs.Math.ListN.{set}
 use Rattle.std.proofs.lemmas.List.{length-set}
@@ -89,7 +90,7 @@ unfilled : {X : Type 0} (xs : List X) → None ≡ slice_get xs 0 → is_filled 
 unfilled [] h = refl
 unfilled (y ∷ ys) h = absurd (cc h)
 
--- no front frame is no step
+-- a delivery with no front frame is illegal
 pub empty_lane : (c : DeskWorld) (p q : ℕ) (giver : Desk) → slice_get (desks_in c) q ≡ Some giver → None ≡ slice_get (lane_of giver p) 0
     → has_step (play_of (file_in c)) (world_in c) p (Deliver q) ≡ false
 empty_lane c p q giver there none = ap is_filled (lane_of_giver c p q giver there) ∙ unfilled (lane_of giver p) none

@@ -1,4 +1,4 @@
--- What is told of the ends of a party where one slot is written.
+-- What is reported of the ends of a party where one slot is written.
 use Rattle.std.proofs.Common.{◌≡◌, ℕ, ◌==◌, ◌&&◌, Bool, true, false, if◌then◌else◌, List, slice_get, Option, Some, option_and_then, refl, ap, sym, ◌∙◌, inl, inr}
 use Rattle.std.specs.Prelude.{Vec}
 use Rattle.std.proofs.Math.ListN.{set}

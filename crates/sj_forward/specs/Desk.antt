@@ -84,7 +84,7 @@ CanPost d to = 0 < room_in d.outs.items to
 abbrev pub CanSend : Desk → EndId → Type 0
 CanSend d e = (h : HeldAt) → held_in d.ends.items e ≡ Some h → CanPost d h.behind
 
--- for the end that the message brings, of which it tells the hop number
+-- for the end that the message brings, whose hop number it gives
 abbrev pub CanClaim : Desk → Msg → (hop : ℕ) → Type 0
 CanClaim d (msgs.Sess sess side keeper) hop = CanPost d keeper × HasPlace d.ends.items (record { sess = sess; side = side }) (suc hop)
 CanClaim d (msgs.Int x) hop = ⊤

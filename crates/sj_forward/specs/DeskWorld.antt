@@ -77,7 +77,8 @@ pub record IsOfAccepted (kept : FileAt) : Type 0 where
   pub accepted : IsAccepted file
   pub same : kept ≡ without_words file
 
--- these turns lead from the start of the file to the world, their acts to its plain world, and its counts are theirs
+-- these turns lead from the start of the file to the world, their acts to its plain world, and its
+-- counts are theirs
 pub record IsLedBy (ts : List rules.Turn) (c : DeskWorld) : Type 0 where
   pub run : IsForwardRun (file_in c) ts (world_in c)
   pub acts : acts_of c.plain ≡ acts_in ts

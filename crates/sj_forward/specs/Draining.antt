@@ -23,7 +23,8 @@ pub record Ahead (R : Leads) (c d : DeskWorld) : Type 0 where
   pub counts : Counts c turns d
   pub on : (ts : List Turn) (v : WorldAt Program) → R (world_in d) ts v → R (world_in c) (turns ++ ts) v
 
--- it went on by turns; each list of R from the one is those turns and then a list of S from the other
+-- it went on by turns; each list of R from the one is those turns and then a list of S from the
+-- other
 pub record Leaves (R S : Leads) (c d : DeskWorld) : Type 0 where
   pub turns : List Turn
   pub counts : Counts c turns d

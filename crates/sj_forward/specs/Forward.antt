@@ -36,8 +36,8 @@ passed_of w = w.passed
 abbrev pub party_count : ForwardWorld → ℕ
 party_count w = length (desks_in w)
 
--- some turns lead from the start of the file to it. Their acts are a plain run, which ends in its plain world; so many of
--- them are deliveries; and the front frame of each lane fits
+-- some turns lead from the start of the file to it. Their acts are a plain run, which ends in its
+-- plain world; so many of them are deliveries; and the front frame of each lane fits
 pub record IsForwarded (w : ForwardWorld) : Type 0 where
   pub turns : List Turn
   pub run : IsForwardRun (kept_file w) turns (forward_at w)
@@ -47,8 +47,8 @@ pub record IsForwarded (w : ForwardWorld) : Type 0 where
   pub fits : (p q : ℕ) (f : FrameAt) (rest : List FrameAt) → (forward_at w).lanes q p ≡ f ∷ rest
       → (v : WorldAt Program) × (happens (play_of (kept_file w)) (forward_at w) p (Deliver q) ≡ Some v)
 
--- it is drained from the start of that file: its plain world is the end of the file, and it has delivered as many frames as
--- the turns of the rounds are deliveries
+-- it is drained from the start of that file. Its plain world is the end of the file, and it has
+-- delivered as many frames as the turns of the rounds are deliveries
 pub record IsDrainedOf (file : FileAt) (w : ForwardWorld) : Type 0 where
   pub turns : List Turn
   pub drained : IsDrained (play_of file) (length file.parties) (forward_start file) turns (forward_at w)

@@ -35,7 +35,7 @@ stand_at stands.Closed = Closed
 abbrev pub record_at : Record → RecordAt
 record_at r = record { behind = r.behind; state = stand_at r.stand }
 
--- what is told of a record: how it stands, and how many messages wait at a Parked one
+-- what is reported of a record: how it stands, and how many messages wait at a Parked one
 abbrev pub kind_of : StateAt → Kind
 kind_of (Held ms) = kinds.Held
 kind_of (Parked ms) = kinds.Parked (length ms)
@@ -45,6 +45,6 @@ kind_of Closed = kinds.Closed
 abbrev pub seen_of : RecordAt → Seen
 seen_of r = record { behind = r.behind; kind = kind_of r.state }
 
--- what is told of an end in use
+-- what is reported of an end in use
 abbrev pub use_of : HeldAt → Use
 use_of h = record { hop = h.hop; behind = h.behind; first = option_map sent_of (slice_get h.untaken 0) }

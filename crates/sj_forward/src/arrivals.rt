@@ -62,7 +62,8 @@ impl Desk {
         }
     }
 
-    // A message of the end, at a record that isn't in use: on to the hop before, or to the other end.
+    // A message of the end, at a record that isn't in use: on to the hop before, or to the other
+    // end.
     fn come_back(&mut self, of: EndId, hop: usize, sent: Sent) -> Result<(), NoMemory>
         requires { IsSome (at_record (out_by (desk_at nobody self.old) of hop (sent_at sent))
             (records_in self.old.ends.items of hop)) }

@@ -22,8 +22,8 @@ use sj_plain::Plain;
 use std::alloc::Global;
 use std::marker::Model;
 
-/// The parties of an accepted file, what they keep of ends, and the lanes between them, as the turns
-/// so far have left them.
+/// The parties of an accepted file, what they keep of ends, and the lanes between them, as the
+/// turns so far have left them.
 #[derive(Drop)]
 pub struct ForwardWorld {
     desk_world: DeskWorld,

@@ -36,7 +36,8 @@ fn other_end(end: EndId) -> EndId
     }
 }
 
-/// The frame in which a message leaves the record of its end at that hop, for the party behind.
+/// The frame in which a message leaves the record of its end at that hop, for the party before that
+/// record.
 pub(crate) fn onward(end: EndId, hop: usize, sent: Sent) -> Frame
     ensures { (behind : ℕ) → rules.onward end hop behind (sent_at sent)
         ≡ record { party = behind; frame = frame_at result } }

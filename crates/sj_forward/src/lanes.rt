@@ -1,4 +1,5 @@
-//! The lanes from a party: what it has sent and the others haven't got, for each party to which it goes.
+//! The lanes from a party: what it has sent and the others haven't got, for each party to which it
+//! goes.
 ghost use Rattle.std.specs.Prelude.{◌≡◌, ◌==◌, ◌<◌, ◌≤◌, ◌∷◌, ◌++◌, ◌-◌, [], ℕ, if◌then◌else◌, OnOk, length, map, option_map, slice_get};
 ghost use Rattle.std.specs.VecDeque.{deque_len, deque_capacity};
 ghost use Rattle.sj_forward.specs.Outs.{DropsFront, inward, lane_in, room_in};

@@ -1,4 +1,5 @@
--- A party accepts the first session that is offered to it: the invariant is kept, and what is open between parties.
+-- A party accepts the first session that is offered to it: the invariant is kept, and what is open
+-- between parties.
 use Rattle.std.proofs.Common.{◌≡◌, ℕ, ◌<◌, List, [], ◌∷◌, ◌++◌, refl, sym, subst, ap, ◌∙◌, arith, inl, inr}
 use Rattle.std.specs.Prelude.{◌⊎◌, Bool, true, false, ◌&&◌, ◌==◌, if◌then◌else◌, Some, None}
 use Rattle.std.specs.List.{AllByRecursion}

@@ -1,4 +1,5 @@
--- What a party's step finds: the Held records of the ends that it names; and what its program binds afterwards.
+-- What a party's step finds: the Held records of the ends that it names; and what its program binds
+-- afterwards.
 use Rattle.std.proofs.Common.{◌≡◌, ℕ, ◌<◌, List, [], refl, sym, subst, ap, ◌∙◌, arith, option_and_then}
 use Rattle.std.specs.Prelude.{Bool, true, false, ◌&&◌, ◌==◌, if◌then◌else◌, Some}
 use Rattle.std.proofs.lemmas.Bool.{eqb-true, eq-eqb}

@@ -138,7 +138,7 @@ module _ {P Q : Type 0} (IsOver : P → Type 0) (play : Play P Q) (binds : Q →
           omega (arith, ap (λ l. length l) same)
       by Closed is = absurd (left Closed is)
 
-  -- the front of a lane meets few
+  -- the first frame of a lane meets few
   pub front_meets_few : (f : FrameAt) (rest : List FrameAt) → w.lanes q p ≡ f ∷ rest → MeetsFew limit_of_messages (w.nodes p) f
   front_meets_few (In e h m) rest front = hop_few e h m rest front
   front_meets_few (Out e h m) rest front = tt

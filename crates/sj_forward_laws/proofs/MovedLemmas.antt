@@ -1,4 +1,5 @@
--- What a delivery keeps: the records and lanes fit the chains, and what is on its way to each end is the same.
+-- What a delivery keeps: the records and lanes fit the chains, and what is on its way to each end
+-- is the same.
 use Rattle.std.proofs.Common.{◌≡◌, ℕ, suc, ◌<◌, List, [], ◌∷◌, ◌++◌, refl, sym, subst, ap, ◌∙◌, append-nil}
 use Rattle.std.specs.Prelude.{Bool, true, false, ◌&&◌, ◌==◌, if◌then◌else◌, Some, ⊤}
 use Rattle.std.proofs.lemmas.Bool.{eqb-true, eq-eqb, ne_eqb}

@@ -1,4 +1,5 @@
--- A session more: two chains of one party each, with the roads between them; all other chains and roads are as before.
+-- A session more: two chains of one party each, with the roads between them; all other chains and
+-- roads are as before.
 use Rattle.std.proofs.Common.{◌≡◌, ℕ, zero, suc, ◌-◌, ◌<◌, ◌≤◌, List, [], ◌∷◌, refl, sym, subst, ap, ◌∙◌, arith}
 use Rattle.std.specs.Prelude.{Bool, true, false, ◌&&◌, ◌==◌, if◌then◌else◌}
 use Rattle.std.specs.List.{AllByRecursion}

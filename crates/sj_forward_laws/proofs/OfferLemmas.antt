@@ -1,4 +1,5 @@
--- Lists of sessions that are offered: parts of lists, numbers that rise, and sessions that weren't opened.
+-- Lists of sessions that are offered: parts of lists, numbers that rise, and sessions that weren't
+-- opened.
 use Rattle.std.proofs.Common.{◌≡◌, ℕ, ◌<◌, ◌≤◌, List, [], ◌∷◌, ◌++◌, sym, subst, ap, ◌∙◌, arith}
 use Rattle.std.specs.Prelude.{true}
 use Rattle.std.specs.List.{AllByRecursion}
@@ -9,7 +10,7 @@ use Rattle.sj_opened_lemmas.proofs.OpenKeepLemmas.{opener_is}
 use Rattle.sj_opened_lemmas.proofs.RequestKeepLemmas.{opener_of_opened}
 use Rattle.sj_forward_laws.specs.Kept.{AreRising, IsOffer}
 
--- all of the front, of the rest, and by two facts
+-- all of the prefix, of the rest, and by two facts
 pub all_front : {X : Type 0} (A : X → Type 0) (xs ys : List X) → AllByRecursion A (xs ++ ys) → AllByRecursion A xs
 all_front A [] ys all = tt
 all_front A (x ∷ xs) ys all = (all.0, all_front A xs ys all.1)
@@ -23,12 +24,12 @@ pub all_two : {X : Type 0} (A B C : X → Type 0) → ((x : X) → A x → B x �
 all_two A B C f [] a b = tt
 all_two A B C f (x ∷ xs) a b = (f x a.0 b.0, all_two A B C f xs a.1 b.1)
 
--- numbers behind one of numbers that rise are above it
+-- numbers after one of numbers that rise are above it
 pub rising_behind : (xs : List ℕ) (n : ℕ) (ys : List ℕ) → AreRising (xs ++ n ∷ ys) → AllByRecursion (λ m. n < m) ys
 rising_behind [] n ys rising = rising.0
 rising_behind (x ∷ xs) n ys rising = rising_behind xs n ys rising.1
 
--- a larger number behind numbers that rise
+-- a larger number after numbers that rise
 pub rising_push : (xs : List ℕ) (n : ℕ) → AreRising xs → AllByRecursion (λ m. m < n) xs → AreRising (xs ++ n ∷ [])
 rising_push [] n rising below = (tt, tt)
 rising_push (x ∷ xs) n rising below = (last xs rising.0, rising_push xs n rising.1 below.1)

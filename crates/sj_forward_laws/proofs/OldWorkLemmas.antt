@@ -1,4 +1,5 @@
--- What rules that open and accept no session leave: no new record of hop 0, Held records that aren't given up, and no Open.
+-- What rules that open and accept no session leave: no new record of hop 0, Held records that
+-- aren't given up, and no Open.
 use Rattle.std.proofs.Common.{◌≡◌, ℕ, suc, List, refl, sym, subst, ap, ◌∙◌}
 use Rattle.std.specs.Prelude.{⊤, Bool, true, false, ◌&&◌, ◌==◌, if◌then◌else◌, Option, Some, None, option_and_then}
 use Rattle.std.proofs.lemmas.Bool.{eqb-true, ne_eqb}

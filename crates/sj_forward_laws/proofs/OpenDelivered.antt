@@ -30,7 +30,7 @@ module _ {P Q : Type 0} (IsOver : P → Type 0) (binds : Q → EndId → Bool) (
   abbrev v : WorldAt Q
   v = world_opened IsOver binds parties w plain kept.kept q p sess rest front
 
-  -- the session is one that q offers to p, behind those that came
+  -- the session is one that q offers to p, after those that came
   split : (w.nodes p).offers q ++ sess ∷ opened_in rest ≡ plain.offers q p
   split = sym (ap (λ l. (w.nodes p).offers q ++ opened_in l) front) ∙ kept.offers q p
 

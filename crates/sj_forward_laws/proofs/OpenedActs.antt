@@ -1,4 +1,5 @@
--- An act leaves the first records of ends of opened sessions, and makes those of the session that it opens.
+-- An act leaves the first records of ends of opened sessions, and makes those of the session that
+-- it opens.
 use Rattle.std.proofs.Common.{◌≡◌, ℕ, zero, suc, ◌+◌, ◌==◌, nat_lt, Bool, true, false, cond, List, [], ◌∷◌, ◌++◌, length, slice_get, Option, Some, None, option_map, unwrap_or, refl, ap, sym, ◌∙◌, subst, arith, inl, inr, ◌⊎◌}
 use Rattle.std.proofs.lemmas.Bool.{cases_eq, eqb-true}
 use Rattle.sj_base.specs.declared.EndId.{EndId}

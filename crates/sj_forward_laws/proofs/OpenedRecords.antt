@@ -33,7 +33,7 @@ none_opened file = record { first = λ p k r at. cc; second = λ p k y r at by_i
 
 -- ---- an act
 
--- the node behind an event
+-- the node after an event
 pub acted_node : (w : WorldAt Program) (p : ℕ) (done : Worked Program) → (after_event w p w.lanes done).nodes p ≡ done.node
 acted_node w p done = ap (λ (b : Bool). cond b done.node (w.nodes p)) (eq-eqb p p refl)
 

@@ -1,4 +1,5 @@
--- Opens on the road to the first record of an end, as a frame that is none comes and as such frames are sent.
+-- Opens on the road to the first record of an end, as a frame that is none comes and as such frames
+-- are sent.
 use Rattle.std.proofs.Common.{◌≡◌, ℕ, List, [], ◌∷◌, ◌++◌, refl, sym, subst, ap, ◌∙◌, zero, suc}
 use Rattle.std.specs.Prelude.{Bool, true, false, ◌==◌, if◌then◌else◌, map, Some, None}
 use Rattle.std.specs.List.{AllByRecursion, filter}
@@ -45,7 +46,7 @@ opens_front f fs sess none in_open e =
     let some : session_opened f ≡ Some sess = ap session_opened same in
     absurd (cc (none, some))
 
--- frames are sent behind
+-- frames are sent after these
 opens_more : (fs gs : List FrameAt) (sess : ℕ) → opened_in gs ≡ [] → OpensKeep sess fs (fs ++ gs)
 opens_more fs gs sess none in_use e = more_opened fs gs none e
 opens_more fs gs sess none (on_its_way d n) e = more_opened fs gs none e

@@ -19,7 +19,7 @@ module _ (old new : ℕ → List SentAt) where
       ap (λ z. z ++ new k) (same_first k (λ h l. same h (omega (arith, l))))
       ∙ ap (λ z. from_first old k ++ z) (same k (omega arith))
 
-  -- a front of the last part goes
+  -- a prefix of the last part goes
   pub pop_last : (t : ℕ) (xs : List SentAt) → old t ≡ xs ++ new t → ((h : ℕ) → h < t → new h ≡ old h) → from_last old t ≡ xs ++ from_last new t
   pop_last zero xs pop same = pop
   pop_last (suc k) xs pop same =
@@ -27,7 +27,7 @@ module _ (old new : ℕ → List SentAt) where
       ∙ append_assoc xs (new (suc k)) (from_last old k)
       ∙ ap (λ z. xs ++ (new (suc k) ++ z)) (sym (same_last k (λ h l. same h (omega (arith, l)))))
 
-  -- a front of a part goes behind the part of the next hop
+  -- a prefix of a part goes after the part of the next hop
   pub move_last : (t j : ℕ) (xs : List SentAt) → j < t → old j ≡ xs ++ new j → new (suc j) ≡ old (suc j) ++ xs
       → ((h : ℕ) → (h ≡ j → ⊥) → (h ≡ suc j → ⊥) → new h ≡ old h) → from_last new t ≡ from_last old t
   move_last zero j xs lt pop push same = absurd (omega (arith, lt))
@@ -45,7 +45,7 @@ module _ (old new : ℕ → List SentAt) where
           ∙ append_assoc (old (suc k)) xs (from_last new k)
           ∙ ap (λ z. old (suc k) ++ z) (sym (pop_last k xs pop_k (λ h m. same h (λ i. omega (arith, m, i, e)) (λ i. omega (arith, m, i, e)))))
 
-  -- messages come behind the part of the first hop
+  -- messages come after the part of the first hop
   pub push_last : (t : ℕ) (xs : List SentAt) → new 0 ≡ old 0 ++ xs → ((h : ℕ) → (h ≡ 0 → ⊥) → new h ≡ old h) → from_last new t ≡ from_last old t ++ xs
   push_last zero xs push same = push
   push_last (suc k) xs push same =
@@ -53,7 +53,7 @@ module _ (old new : ℕ → List SentAt) where
       ∙ ap (λ z. old (suc k) ++ z) (push_last k xs push same)
       ∙ sym (append_assoc (old (suc k)) (from_last old k) xs)
 
-  -- a front of the first part goes
+  -- a prefix of the first part goes
   pub pop_first : (t : ℕ) (xs : List SentAt) → old 0 ≡ xs ++ new 0 → ((h : ℕ) → (h ≡ 0 → ⊥) → new h ≡ old h)
       → from_first old (suc t) ≡ xs ++ from_first new (suc t)
   pop_first zero xs pop same = pop
@@ -62,7 +62,7 @@ module _ (old new : ℕ → List SentAt) where
       ∙ append_assoc xs (from_first new (suc k)) (old (suc k))
       ∙ ap (λ z. xs ++ (from_first new (suc k) ++ z)) (sym (same (suc k) (λ i. omega (arith, i))))
 
-  -- messages come behind the last part
+  -- messages come after the last part
   pub push_first : (t : ℕ) (xs : List SentAt) → new t ≡ old t ++ xs → ((h : ℕ) → h < t → new h ≡ old h)
       → from_first new (suc t) ≡ from_first old (suc t) ++ xs
   push_first t xs push same =
@@ -70,7 +70,7 @@ module _ (old new : ℕ → List SentAt) where
       ∙ ap (λ z. z ++ (old t ++ xs)) (same_first t same)
       ∙ sym (append_assoc (from_first old t) (old t) xs)
 
-  -- a front of a part goes behind the part of the hop before
+  -- a prefix of a part goes after the part of the hop before
   pub move_first : (t j : ℕ) (xs : List SentAt) → suc j < t → old (suc j) ≡ xs ++ new (suc j) → new j ≡ old j ++ xs
       → ((h : ℕ) → (h ≡ j → ⊥) → (h ≡ suc j → ⊥) → new h ≡ old h) → from_first new t ≡ from_first old t
   move_first zero j xs lt pop push same = absurd (omega (arith, lt))

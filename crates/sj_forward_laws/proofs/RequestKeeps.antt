@@ -1,4 +1,5 @@
--- A party opens a session: its own end is in use, and the other one is in an Open. The invariant is kept.
+-- A party opens a session: its own end is in use, and the other one is in an Open. The invariant is
+-- kept.
 use Rattle.std.proofs.Common.{◌≡◌, ℕ, ◌+◌, ◌<◌, List, [], ◌∷◌, ◌++◌, drop, refl, sym, subst, ap, ◌∙◌, arith, inl, inr, append-nil}
 use Rattle.std.specs.Prelude.{◌⊎◌, Bool, true, false, ◌==◌, if◌then◌else◌, map, Some, slice_get}
 use Rattle.std.proofs.lemmas.Bool.{eqb-true, eq-eqb}

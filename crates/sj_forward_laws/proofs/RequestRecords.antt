@@ -1,4 +1,5 @@
--- A party opens a session: the lanes and the records then, beside the chains with those of the session.
+-- A party opens a session: the lanes and the records then, beside the chains with those of the
+-- session.
 use Rattle.std.proofs.Common.{◌≡◌, ℕ, zero, suc, ◌<◌, ◌≤◌, List, [], ◌∷◌, ◌++◌, refl, sym, subst, ap, ◌∙◌, arith, inl}
 use Rattle.std.specs.Prelude.{Bool, true, false, ◌&&◌, ◌==◌, if◌then◌else◌, Some, None}
 use Rattle.std.specs.List.{AllByRecursion}

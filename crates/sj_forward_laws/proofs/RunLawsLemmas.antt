@@ -1,4 +1,5 @@
--- What is said of the worlds of runs: what is on its way, which events are steps, and where a drain ends.
+-- What is said of the worlds of runs: what is on its way, which events are steps, and where a drain
+-- ends.
 use Rattle.sj_forward_laws.proofs.StepLemmas.{IsDone, IsIdle, party_acts}
 use Rattle.sj_forward_laws.proofs.FrontLemmas.{IsDelivered, front_delivered}
 use Rattle.sj_forward_rules.specs.Acts.{acts}
@@ -147,7 +148,7 @@ module _ (file : FileAt) (accepted : IsAccepted file) where
       let s = runs_stand file accepted turns w run in
       (s, front_delivered IsOver (play_of file) binds (length file.parties) w (plain_at s.plain) s.kept q p f rest front)
 
-  -- an event is a step exactly where it is told so
+  -- an event is a step exactly where it is said to be one
   pub run_steps : (turns : List Turn) (w : WorldAt Program) (p : ℕ) → IsForwardRun file turns w → (event : Event)
       → has_step (play_of file) w p event ≡ true
       → (v : WorldAt Program) × (happens (play_of file) w p event ≡ Some v)

@@ -1,4 +1,5 @@
--- The acts of a run are a plain run, and the world keeps the invariant beside the plain world that they reach.
+-- The acts of a run are a plain run, and the world keeps the invariant beside the plain world that
+-- they reach.
 use Rattle.sj_forward_laws.proofs.StepLemmas.{IsDone, IsIdle, party_acts}
 use Rattle.sj_forward_laws.proofs.FrontLemmas.{delivery_keeps}
 use Rattle.sj_rules.specs.Moves.{plain_act, plain_act_by}

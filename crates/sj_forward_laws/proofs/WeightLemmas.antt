@@ -1,4 +1,5 @@
--- What a frame weighs: as many deliveries as can come of it, where records store n messages at most. The rows post less than that.
+-- What a frame weighs: as many deliveries as can come of it, where records store n messages at
+-- most. The rows post less than that.
 use Rattle.std.proofs.Common.{◌≡◌, ℕ, zero, suc, ◌+◌, ◌-◌, ◌*◌, ◌≤◌, List, [], ◌∷◌, ◌++◌, length, Option, Some, None, refl, subst, arith}
 use Rattle.std.specs.Prelude.{⊤, Bool, true, false, ◌&&◌, is_none, if◌then◌else◌}
 use Rattle.sj_base.specs.declared.EndId.{EndId}

@@ -15,7 +15,8 @@ use Rattle.sj_forward_rules.specs.World.{WorldAt}
 use Rattle.sj_forward_laws.specs.Roads.{Chains, inward, claiming, behind_of, IsOnRoad}
 use Rattle.sj_forward_laws.specs.Pipe.{traffic, pipe}
 
--- an end is in use; or its session message is that one, of those for that end; or it is closed; or its Open is on its way
+-- an end is in use; or its session message is that one, of those for that end; or it is closed; or
+-- its Open is on its way
 pub data Seat : Type 0 where
   in_use : Seat
   on_its_way : EndId → (number : ℕ) → Seat
@@ -29,7 +30,8 @@ IsLeft e h next claims (Parked ms) = claims ≡ Claim e h ∷ []
 IsLeft e h next claims (Passing p) = (p ≡ next) × (claims ≡ [])
 IsLeft e h next claims Closed = ⊥
 
--- the last record of an end, by its seat; an end that is in an Open has none yet, and counts as closed
+-- the last record of an end, by its seat; an end that is in an Open has none yet, and counts as
+-- closed
 abbrev pub IsLast : {P : Type 0} → (IsOver : P → Type 0) → PlainSide P → (waits : List Msg) → (top : ℕ) → Seat → StateAt → Type 0
 IsLast IsOver x waits top in_use (Held ms) = x.hops ≡ top
 IsLast IsOver x waits top (on_its_way e n) (Parked ms) = x.hops ≡ suc top
@@ -48,7 +50,8 @@ IsLast IsOver x waits top in_open (Held ms) = ⊥
 IsLast IsOver x waits top in_open (Parked ms) = ⊥
 IsLast IsOver x waits top in_open (Passing p) = ⊥
 
--- what goes to the first record of an end: to one in an Open that Open, and then messages alone; to others messages alone
+-- what goes to the first record of an end: to one in an Open that Open, and then messages alone; to
+-- others messages alone
 abbrev pub OpensFit : Seat → (sess : ℕ) → List FrameAt → Type 0
 OpensFit in_use sess fs = opened_in fs ≡ []
 OpensFit (on_its_way e n) sess fs = opened_in fs ≡ []
@@ -81,8 +84,8 @@ IsRecorded o behind Closed = (o ≡ None) ⊎ (o ≡ Some (record { behind = beh
 abbrev pub IsInChain : Chains → EndId → (hop party : ℕ) → Type 0
 IsInChain c e h p = (h ≤ c.top e) × (c.at e h ≡ p)
 
--- the lanes and the records: each record of a chain is as its state says, and there is no other. An end that the file
--- doesn't have counts as closed
+-- the lanes and the records: each record of a chain is as its state says, and there is no other. An
+-- end that the file doesn't have counts as closed
 pub record IsJoined {Q : Type 0} (w : WorldAt Q) (c : Chains) (states : EndId → ℕ → StateAt) : Type 0 where
   pub records : (e : EndId) (h : ℕ) → e.side < 2 → h ≤ c.top e →
       IsRecorded ((w.nodes (c.at e h)).records e h) (behind_of c e h) (states e h)
@@ -131,7 +134,8 @@ pub record IsOpenKept {P Q : Type 0} (IsOver : P → Type 0) (binds : Q → EndI
   where
     pub kept : IsKept IsOver binds parties w plain
     pub requests : (p : ℕ) → (w.nodes p).requests ≡ plain.requests p
-    -- what is offered, and then what is in Opens, is what was opened and not accepted, in order of number
+    -- what is offered, and then what is in Opens, is what was opened and not accepted, in order of
+    -- number
     pub offers : (from p : ℕ) → (w.nodes p).offers from ++ opened_in (w.lanes from p) ≡ plain.offers from p
     pub rising : (from p : ℕ) → AreRising (plain.offers from p)
     pub opened : (from p : ℕ) → AllByRecursion (IsOffer plain from) (plain.offers from p)

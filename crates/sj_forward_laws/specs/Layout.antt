@@ -22,16 +22,18 @@ pub record IsInUse {Q : Type 0} (w : WorldAt Q) (c : Chains) (states : EndId →
   pub is : states e (c.top e) ≡ Held untaken
   pub found : held_of (w.nodes p) e ≡ Some (record { hop = c.top e; behind = behind_of c e (c.top e); untaken = untaken })
 
--- the ends of a session that was opened: the chain of the first begins at its opener and that of the second at the party to which
--- it was opened. Their first records are there, or the second one's Open is on its way
+-- the ends of a session that was opened: the chain of the first begins at its opener and that of
+-- the second at the party to which it was opened. Their first records are there, or the second
+-- one's Open is on its way
 pub record HasHomes (w : WorldAt Program) (c : Chains) (sess opener to : ℕ) : Type 0 where
   pub first : c.at (requested_end sess) 0 ≡ opener
   pub second : c.at (offered_end sess) 0 ≡ to
   pub there : HasRecord (w.nodes opener) (requested_end sess) 0
   pub comes : HasRecord (w.nodes to) (offered_end sess) 0 ⊎ Contains (opened_in (w.lanes opener to)) sess
 
--- the chains and states are those of the world: each chain of a connection's end begins at its home and has all its records, the
--- chains of a session that was requested begin at its ends' homes, and an end that a program binds is in use at its party
+-- the chains and states are those of the world. Each chain of a connection's end begins at its home
+-- and has all its records. The chains of a session that was requested begin at its ends' homes. An
+-- end that a program binds is in use at its party
 pub record IsLaidOut (file : FileAt) (w : WorldAt Program) (asked : Requests) (c : Chains) (states : EndId → ℕ → StateAt) : Type 0 where
   pub joined : IsJoined w c states
   pub home : (e : EndId) (x : ConnectAt) → e.side < 2 → connect_of file e ≡ Some x → c.at e 0 ≡ home_by file e x

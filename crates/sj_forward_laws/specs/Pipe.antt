@@ -28,6 +28,7 @@ module _ (lanes : (from to : ℕ) → List FrameAt) (c : Chains) (states : EndId
   abbrev pub out_part : EndId → ℕ → List SentAt
   out_part e h = messages_in (traffic lanes c (outward e h))
 
-  -- all that is on its way to the end: at and towards its records, and then back towards the records of the other end
+  -- all that is on its way to the end: at and towards its records, and then back towards the
+  -- records of the other end
   abbrev pub pipe : EndId → List SentAt
   pipe e = from_last (in_part e) (c.top e) ++ from_first (out_part (other_end e)) (c.top (other_end e))

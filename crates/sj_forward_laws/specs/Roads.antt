@@ -15,7 +15,7 @@ pub data Road : Type 0 where
   outward : EndId → ℕ → Road
   claiming : EndId → ℕ → Road
 
--- the road of a frame; an Open goes where messages for its end go, which stand behind it
+-- the road of a frame; an Open goes where messages for its end go, which stand after it
 abbrev pub road_of : FrameAt → Road
 road_of (In e h m) = inward e h
 road_of (Out e h m) = outward e h
@@ -34,7 +34,7 @@ is_road (outward e h) (claiming d k) = false
 is_road (claiming e h) (inward d k) = false
 is_road (claiming e h) (outward d k) = false
 
--- the party behind the record of that hop
+-- the party before the record of that hop
 abbrev pub behind_of : Chains → EndId → ℕ → ℕ
 behind_of c e zero = c.at (other_end e) 0
 behind_of c e (suc h) = c.at e h

@@ -37,9 +37,9 @@ ghost use Rattle.sj_semantics.specs.State.{state_of};
 ghost use Rattle.sj_semantics.specs.World.{World};
 ghost use Rattle.sj_semantics.specs.declared.State.TheVariants as states;
 
-/// The acts of a run are a plain run, and the world keeps the invariant beside the plain world
-/// that they reach: the programs and the counts of requests are the same, what is bound is in use,
-/// and what is offered, and then what is in Opens, was opened and not accepted.
+/// The acts of a run are a plain run, and the world keeps the invariant beside the plain world that
+/// they reach. The programs and the counts of requests are the same, and what is bound is in use.
+/// What is offered, and then what is in Opens, was opened and not accepted.
 pub fn each_run_stands_for_a_plain_run()
     ensures { (file : FileAt) (turns : List Turn) (w : WorldAt Program) → IsAccepted file →
         IsForwardRun file turns w →
@@ -47,12 +47,12 @@ pub fn each_run_stands_for_a_plain_run()
         × IsOpenKept IsDone binds (length file.parties) w (plain_at v) }
 {}
 
-/// There are chains of parties, one for each end, and a state for each record of a chain, which
-/// are those of the parties' records and of the frames' roads; no record lies elsewhere, a chain
-/// begins at its end's home, also of a session that was opened, and an end that a program binds is
-/// Held at its party, as the last record. And the untaken messages of each end are, in order, those
-/// of its records and of the frames on their way, from its last record back to the last record of
-/// the other end.
+/// There are chains of parties, one for each end, and a state for each record of a chain. They are
+/// those of the parties' records and of the frames' roads, and no record lies elsewhere. A chain
+/// begins at its end's home, also of a session that was opened. An end that a program binds is Held
+/// at its party, as the last record. The untaken messages of each end are those of its records and
+/// of the frames on their way. Their order is from its last record back to the last record of the
+/// other end.
 pub fn what_is_on_its_way_is_untaken()
     ensures { (file : FileAt) (turns : List Turn) (w : WorldAt Program) (v : World) →
         IsAccepted file → IsForwardRun file turns w → IsRun file (acts_in turns) v →

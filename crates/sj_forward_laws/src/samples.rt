@@ -14,8 +14,8 @@ ghost use Rattle.sj_semantics_laws.specs.HandoverSamples.{both_moved, delegation
 ghost use Rattle.sj_semantics_laws.specs.OpeningSamples.{accepted};
 
 /// Where an end is delegated between messages each drain has seven deliveries, and where both ends
-/// are delegated at once nine; a session that is opened takes one more than its messages, and where
-/// its first end is delegated before it is used there are five.
+/// are delegated at once nine. A session that is opened takes one more than its messages. Where its
+/// first end is delegated before it is used there are five.
 pub fn deliveries_are_counted_so()
     ensures one { Passes delegation 7 }
     ensures both { Passes both_moved 9 }

@@ -1,4 +1,5 @@
--- The next step of a party's program, as an act of its node. Each rule is None where it doesn't fit.
+-- The next step of a party's program, as an act of its node. Each rule is None where it doesn't
+-- fit.
 use Rattle.std.specs.Prelude.{suc, ℕ, ◌+◌, nat_lt, List, [], ◌∷◌, Option, Some, None, if◌then◌else◌}
 use Rattle.sj_base.specs.declared.EndId.{EndId}
 use Rattle.sj_base.specs.declared.Msg.{Msg}
@@ -29,7 +30,7 @@ delegate_act party n carrier e (Some h) =
     then send_act (parked e h n) carrier (record { msg = session_message e party; hop = h.hop }) (held_of (parked e h n) carrier)
     else None
 
--- an end in use at the next hop, with its keeper behind and nothing untaken
+-- an end in use at the next hop, with its keeper before it and nothing untaken
 abbrev pub with_taken : {Q : Type 0} → EndId → ℕ → (keeper : ℕ) → NodeAt Q → NodeAt Q
 with_taken e h keeper n = with_use e (Some (suc h)) (with_record e (suc h) (record { behind = keeper; state = Held [] }) n)
 

@@ -6,7 +6,7 @@ use Rattle.sj_rules.specs.Record.{offered_end}
 use Rattle.sj_forward_rules.specs.Record.{SentAt, StateAt, Held, Parked, Passing, Closed, RecordAt, FrameAt, In, Out, Claim, Open, Mail}
 use Rattle.sj_forward_rules.specs.Node.{NodeAt, Worked, quietly, with_first, with_offers, with_record, onward}
 
--- a message for the end: behind what is stored, or on to the next hop
+-- a message for the end: after what is stored, or on to the next hop
 abbrev pub in_by : {Q : Type 0} → NodeAt Q → EndId → ℕ → SentAt → (behind : ℕ) → StateAt → Option (Worked Q)
 in_by n e h m behind (Held ms) = Some (quietly (with_record e h (record { behind = behind; state = Held (ms ++ m ∷ []) }) n))
 in_by n e h m behind (Parked ms) = Some (quietly (with_record e h (record { behind = behind; state = Parked (ms ++ m ∷ []) }) n))

@@ -1,4 +1,5 @@
--- One party: its program, what it opened and what is offered to it, the ends that it uses, and its records of ends.
+-- One party: its program, what it opened and what is offered to it, the ends that it uses, and its
+-- records of ends.
 use Rattle.std.specs.Prelude.{◌≡◌, ℕ, zero, suc, ◌==◌, ◌&&◌, List, [], Option, Some, None, option_and_then, if◌then◌else◌}
 use Rattle.sj_base.specs.declared.EndId.{EndId}
 use Rattle.sj_rules.specs.Record.{is_same_end, other_end}
@@ -36,7 +37,7 @@ with_use e hop n = record n { uses = λ d. if is_same_end d e then hop else n.us
 abbrev pub with_record : {Q : Type 0} → EndId → ℕ → RecordAt → NodeAt Q → NodeAt Q
 with_record e h r n = record n { records = λ d k. if is_same_end d e && (k == h) then Some r else n.records d k }
 
--- a record of hop 0, with that party behind and nothing untaken, is there from now on
+-- a record of hop 0, with that party before it and nothing untaken, is there from now on
 abbrev pub with_first : {Q : Type 0} → EndId → (behind : ℕ) → NodeAt Q → NodeAt Q
 with_first e behind n = with_use e (Some 0) (with_record e 0 (record { behind = behind; state = Held [] }) n)
 
@@ -53,7 +54,7 @@ abbrev pub onward : EndId → (hop : ℕ) → (behind : ℕ) → SentAt → Mail
 onward e zero behind m = record { party = behind; frame = In (other_end e) 0 m }
 onward e (suc h) behind m = record { party = behind; frame = Out e h m }
 
--- an end in use: the hop number of its record, the party behind, and what is untaken
+-- an end in use: the hop number of its record, the party before that record, and what is untaken
 pub record HeldAt : Type 0 where
   pub hop : ℕ
   pub behind : ℕ

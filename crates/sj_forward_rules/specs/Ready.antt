@@ -25,8 +25,8 @@ abbrev pub has_message : Option HeldAt → Bool
 has_message None = false
 has_message (Some h) = is_filled h.untaken
 
--- a party that hasn't ended and has steps left stands so: as in the plain world, but that untaken messages and offered
--- sessions are those that lie at the party
+-- a party that hasn't ended and has steps left stands so: as in the plain world, but that untaken
+-- messages and offered sessions are those that lie at the party
 abbrev pub state_by : {P Q : Type 0} → NodeAt Q → Want P → State
 state_by n ended = states.Ended
 state_by n local = states.Ready
@@ -37,7 +37,7 @@ state_by n (closes e) = states.Ready
 state_by n (requests place to) = if nat_lt n.requests limit_of_requests then states.Ready else states.AtLimit limits.Requests
 state_by n (accepts place from) = if is_filled (n.offers from) then states.Ready else states.WaitsOpen from
 
--- the first that applies: ended, no step left, or by its next step
+-- the first that applies: ended, no steps left, or by its next step
 abbrev pub state_at : {P Q : Type 0} → Play P Q → NodeAt Q → State
 state_at play n =
     if is_at_end (play.wants n.program) then states.Ended
@@ -52,7 +52,8 @@ is_ready (states.WaitsOpen q) = false
 is_ready states.Ended = false
 is_ready (states.AtLimit l) = false
 
--- an event at that party is a step: an act where it is ready by what it holds, a delivery where a frame is in the lane
+-- an event at that party is a step: an act where it is ready by what it holds, a delivery where a
+-- frame is in the lane
 abbrev pub has_step : {P Q : Type 0} → Play P Q → WorldAt Q → (p : ℕ) → Event → Bool
 has_step play w p Act = is_ready (state_at play (w.nodes p))
 has_step play w p (Deliver q) = is_filled (w.lanes q p)

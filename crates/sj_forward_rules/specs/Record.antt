@@ -8,22 +8,22 @@ pub record SentAt : Type 0 where
   pub msg : Msg
   pub hop : ℕ
 
--- how an end stands at one of its records: in use, with what came and wasn't taken; delegated, with what came since
--- and what wasn't taken; passed on to a party; or closed
+-- how an end stands at one of its records. It is in use, with what came and wasn't taken;
+-- delegated, with what came since and what wasn't taken; passed on to a party; or closed
 pub data StateAt : Type 0 where
   Held : (untaken : List SentAt) → StateAt
   Parked : (waiting : List SentAt) → StateAt
   Passing : (party : ℕ) → StateAt
   Closed : StateAt
 
--- a record of an end; what is sent on the end goes from here to the party behind: at hop 0 that is the other end's home,
--- and above it the party of the hop before
+-- a record of an end. What is sent on the end goes from here to the party before it. At hop 0 that
+-- is the other end's home, and above it the party of the hop before
 pub record RecordAt : Type 0 where
   pub behind : ℕ
   pub state : StateAt
 
--- a frame brings a message to a record of the end that takes it, or back to a record of the end that sent it; or it asks
--- for what waits at a record; or it opens a session
+-- a frame brings a message to a record of the end that takes it, or back to a record of the end
+-- that sent it. Or it asks for what waits at a record, or it opens a session
 pub data FrameAt : Type 0 where
   In : (to : EndId) → (hop : ℕ) → (sent : SentAt) → FrameAt
   Out : (of : EndId) → (hop : ℕ) → (sent : SentAt) → FrameAt

@@ -41,7 +41,7 @@ abbrev pub delivery_of : {Q : Type 0} → WorldAt Q → (p q : ℕ) → List Fra
 delivery_of w p q [] = None
 delivery_of w p q (f ∷ rest) = option_map (after_event w p (with_lane q p rest w.lanes)) (comes (w.nodes p) q f)
 
--- the world after an event at p; None where it is no step
+-- the world after an event at p; None where it is illegal
 abbrev pub happens : {P Q : Type 0} → Play P Q → WorldAt Q → (p : ℕ) → Event → Option (WorldAt Q)
 happens play w p Act = option_map (after_event w p w.lanes) (acts play p (w.nodes p))
 happens play w p (Deliver q) = delivery_of w p q (w.lanes q p)

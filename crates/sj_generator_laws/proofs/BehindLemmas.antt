@@ -1,4 +1,4 @@
--- Parties and sessions that stand behind others, and their acts.
+-- Parties and sessions that stand after others, and their acts.
 use Rattle.std.proofs.Common.{◌≡◌, ℕ, suc, ◌<◌, nat_lt, cond, List, [], ◌∷◌, ◌++◌, length, slice_get, Some, None, option_map, option_and_then, unwrap_or, refl, ap, ◌∙◌}
 use Rattle.std.proofs.lemmas.Bool.{lt-ltb}
 use Rattle.sj_base.specs.declared.EndId.{EndId}
@@ -19,7 +19,7 @@ use Rattle.sj_semantics.specs.World.{World, Change, session_message, plain_chang
 use Rattle.sj_semantics_laws.proofs.RunLemmas.{Leads, leads_on}
 use Rattle.sj_generator_laws.specs.GeneratedFile as file
 
--- the index behind these
+-- the index after these
 abbrev pub place : {X : Type 0} → List X → ℕ → ℕ
 place [] i = i
 place (x ∷ xs) i = suc (place xs i)
@@ -36,7 +36,7 @@ altered-session : (xs ys : List Session) (i : ℕ) (f : Session → Session) →
 altered-session [] ys i f = refl
 altered-session (x ∷ xs) ys i f = ap (λ t. x ∷ t) (altered-session xs ys i f)
 
--- the side of the session at the index behind these
+-- the side of the session at the index after these
 abbrev pub end_behind : List Session → ℕ → ℕ → EndId
 end_behind bs i d = record { sess = place bs i; side = d }
 
@@ -48,7 +48,7 @@ change_wanted w p g want few wants_it =
     ap (λ b. cond b (option_and_then (change_by w p g) (want_of g)) None) (lt-ltb g.steps 10000 few) ∙ ap (option_and_then (change_by w p g)) wants_it
 
 module _ (bp : List Program) (bs : List Session) where
-  -- the generated file's world of these parties and sessions, behind the others
+  -- the generated file's world of these parties and sessions, after the others
   abbrev pub behind : List Program → List Session → World
   behind gs zs = record { protocols = file.protocols; parties = bp ++ gs; sessions = bs ++ zs; requests = no_requests }
 

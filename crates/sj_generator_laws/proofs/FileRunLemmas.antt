@@ -18,7 +18,7 @@ use Rattle.sj_generator_laws.proofs.CountLemmas.{steps_of, messages_of}
 use Rattle.sj_generator_laws.proofs.GroupStateLemmas.{Outcome, parties_of, sessions_of}
 use Rattle.sj_generator_laws.proofs.GroupRunLemmas.{first_sender, first_giver, first_adder, first_session, second_session, group_runs}
 
--- the sessions of a group at the start, and its parties behind other sessions
+-- the sessions of a group at the start, and its parties after other sessions
 abbrev fresh_two : List Session → List Session
 fresh_two zs = first_session ∷ second_session ∷ zs
 

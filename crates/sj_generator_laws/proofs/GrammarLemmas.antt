@@ -1,4 +1,5 @@
--- The generated text stands for the generated file, by any digits that stand for the number of messages.
+-- The generated text stands for the generated file, by any digits that stand
+-- for the number of messages.
 use Rattle.std.proofs.Common.{◌≡◌, ℕ, true, false, List, [], ◌∷◌, ◌++◌, take, drop, refl, ap, sym, subst, ◌∙◌}
 use Rattle.std.specs.Prelude.{codes, if◌then◌else◌}
 use Rattle.std.specs.List.{list_all}

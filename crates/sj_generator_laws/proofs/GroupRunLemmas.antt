@@ -20,7 +20,8 @@ use Rattle.sj_generator_laws.proofs.BehindLemmas.{place, end_behind, behind, loc
 use Rattle.sj_generator_laws.proofs.GroupStateLemmas.{peers, sends_numbers, turn, adding, sender_rest, adder_rest, sender_at, adder_at, ended, session_at, Outcome, parties_of, sessions_of, sent_in}
 use Rattle.sj_generator_laws.proofs.LoopRunLemmas.{looping, looped, loop_runs}
 
--- the three at their starts, by the line of the first and the number that it sends, behind other sessions
+-- the three at their starts, by the line of the first and the number that it
+-- sends, after other sessions
 abbrev pub first_sender : ℕ → ℕ → List Session → ℕ → Program
 first_sender line v bs n = sender_at bs (statement (outwhile 5 (term.int (pos n)) (turn line v)) ∷ sender_rest) 0
 
@@ -78,7 +79,7 @@ module _ (line v : ℕ) (bp : List Program) (bs : List Session) (others : List P
   abbrev whole : ℤ → List Passed → List ℕ → Session
   whole total sent takers = session_at done done sent (summed total ∷ []) takers (place bp 0 ∷ [])
 
-  -- from behind the loop to the end of all three
+  -- from the point after the loop to the end of all three
   from_loop : (t u : ℕ) (vars : Vars) (total : ℤ) (sent : List Passed) (takers : List ℕ) → vars 12 ≡ Some (Int total) → t < 9000 → u < 9900
       → Leads (looped line v bp bs (ended no_vars 2) others (taken ∷ later) t u vars sent takers)
       (behind bp bs (ended (with_value no_vars 6 (Int total)) (t + 1 + 1) ∷ ended no_vars 2 ∷ ended vars (u + 1 + 1 + 1) ∷ others) (whole total sent takers ∷ taken ∷ later))

@@ -30,14 +30,14 @@ turn line v = in_order (at (line + 2) (send 5 (term.int (pos v))) ∷ [])
 abbrev pub adding : ℕ → Code
 adding line = in_order (at (line + 15) (take_value 9 13 scalars.Int) ∷ at (line + 16) (let_be 12 (term.two Add (term.var 12) (term.var 13))) ∷ [])
 
--- what each does behind its loop
+-- what each does after its loop
 abbrev pub sender_rest : List Thing
 sender_rest = statement (take_value 5 6 scalars.Int) ∷ statement (close 5) ∷ []
 
 abbrev pub adder_rest : List Thing
 adder_rest = statement (send 9 (term.var 12)) ∷ statement (close 9) ∷ statement (close 11) ∷ []
 
--- behind other sessions: the sender with its end, and the adder with both of its ends
+-- after other sessions: the sender with its end, and the adder with both of its ends
 abbrev pub sender_at : List Session → List Thing → ℕ → Program
 sender_at bs todo t = record { todo = todo; vars = no_vars; ends = (5, end_behind bs 0 0) ∷ []; steps = t; peers = peers }
 
@@ -48,11 +48,12 @@ adder_at bs todo vars t = record { todo = todo; vars = vars; ends = (11, end_beh
 abbrev pub ended : Vars → ℕ → Program
 ended vars t = record { todo = []; vars = vars; ends = []; steps = t; peers = peers }
 
--- the session of the loop: the places of its ends, what the sender sent, what the adder sent, and who took each
+-- the session of the loop: the places of its ends, what the sender sent, what the
+-- adder sent, and who took each
 abbrev pub session_at : Place → Place → List Passed → List Passed → List ℕ → List ℕ → Session
 session_at p q sent back takers back_takers = record { first = record { place = p; sent = sent; takers = back_takers; hops = 0 }; second = record { place = q; sent = back; takers = takers; hops = 1 } }
 
--- what the sender, behind other parties, has sent
+-- what the sender, after other parties, has sent
 abbrev pub sending : List Program → Msg → Passed
 sending bp m = record { msg = m; by = place bp 0 }
 

@@ -2,7 +2,7 @@
 use Rattle.std.proofs.Common.{◌≡◌, ℕ, suc, ◌+◌, List, [], ◌∷◌, ◌++◌, length, slice_get, Some, refl, ap, sym, ◌∙◌, arith, length-append}
 use Rattle.sj_semantics.specs.declared.Passed.{Passed}
 
--- it stands behind as many as there were
+-- it stands after as many as there were
 pub slice_get-last : (xs : List Passed) (qs : List ℕ) (x : Passed) → length xs ≡ length qs → slice_get (xs ++ x ∷ []) (length qs) ≡ Some x
 slice_get-last [] [] x e = refl
 slice_get-last [] (q ∷ qs) x e = cc

@@ -25,7 +25,8 @@ use Rattle.sj_generator_laws.proofs.BehindLemmas.{place, behind, local_then, sen
 use Rattle.sj_generator_laws.proofs.LastLemmas.{slice_get-last, one_more, both_more}
 use Rattle.sj_generator_laws.proofs.GroupStateLemmas.{sends_numbers, turn, adding, sender_rest, adder_rest, sender_at, adder_at, session_at, sending}
 
--- a group by the line of its first party and the number that this one sends, behind other parties and sessions and before others, with its second party
+-- a group by the line of its first party and the number that this one sends, after other parties
+-- and sessions and before others, with its second party
 module _ (line v : ℕ) (bp : List Program) (bs : List Session) (other : Program) (others : List Program) (later : List Session) where
   -- the sender has said whether it turns once more
   abbrev pub looping : ℕ → ℕ → ℕ → Vars → List Passed → List ℕ → World
@@ -33,7 +34,7 @@ module _ (line v : ℕ) (bp : List Program) (bs : List Session) (other : Program
       behind bp bs (sender_at bs (turns_ahead 5 n (turn line v) sender_rest) t ∷ other ∷ adder_at bs (statement (inwhile 9 (adding line)) ∷ adder_rest) vars u ∷ others)
       (session_at (place_behind sends_numbers Out (more_turns n)) numbers (sent ++ sending bp (more_turns n) ∷ []) [] takers [] ∷ later)
 
-  -- both are behind their loops
+  -- both are after their loops
   abbrev pub looped : ℕ → ℕ → Vars → List Passed → List ℕ → World
   looped t u vars sent takers =
       behind bp bs (sender_at bs sender_rest t ∷ other ∷ adder_at bs adder_rest vars u ∷ others) (session_at (message Into int done) (message Out int done) sent [] takers [] ∷ later)

@@ -4,7 +4,7 @@ use Rattle.std.specs.Prelude.{codes, decimal}
 use Rattle.std.specs.Fmt.{digits}
 use Rattle.sj_generator.specs.Generated as text
 
--- parts put behind a text, one after another
+-- parts put after a text, one after another
 abbrev behind : List ℕ → List (List ℕ) → List ℕ
 behind t [] = t
 behind t (p ∷ ps) = behind (t ++ p) ps

@@ -85,7 +85,7 @@ adder_code line c =
     (code.one_more (code.of_inwhile name_y (code.of_code (omega arith) (code.one_more (code.of_take name_y name_k) (code.one_more (code.of_let name_s added_spelt) code.none))))
     (code.one_more (code.of_send name_y sum_spelt) (code.one_more (code.of_close name_y) (code.one_more (code.of_close name_u) code.none)))))
 
--- three parties, and those behind them
+-- three parties, and those after them
 abbrev pub group_pieces : ℕ → ℕ → ℕ → ℕ → List ℕ → List ℕ → List Piece → List Piece
 group_pieces line a b c d v rest =
     first_on line (codes "party") ∷ plain (names.word a) ∷ (braced (sender_pieces line d v)

@@ -1,4 +1,4 @@
--- The tokens of the generated text are taken one after another, whatever stands behind.
+-- The tokens of the generated text are taken one after another, whatever stands after them.
 use Rattle.std.proofs.Common.{◌≡◌, ℕ, zero, suc, ◌+◌, Bool, true, false, List, [], ◌∷◌, ◌++◌, drop, get_or, refl, ap, ◌∙◌}
 use Rattle.std.specs.Prelude.{if◌then◌else◌, not, ◌==◌, ◌&&◌}
 use Rattle.std.specs.List.{list_all}
@@ -56,7 +56,7 @@ both_hold true true t = (refl, refl)
 both_hold true false t = cc
 both_hold false c t = cc
 
--- the first n tokens, and then those behind them
+-- the first n tokens, and then those after them
 by_computing : (n : ℕ) (ks : List Tok) (rest : List ℕ) → found n ks rest ≡ wanted n ks rest → are_inside_lines n ks ≡ true → AreTaken (drop n ks) rest → AreTaken ks rest
 by_computing zero ks rest is lines more = more
 by_computing (suc n) [] rest is lines more = more

@@ -17,14 +17,14 @@ use Rattle.sj_generator_laws.proofs.PartLemmas.{zero_is, one_is, two_is, three_i
 abbrev names : Spelling
 names = names_of (generated_file 0)
 
--- three parties and those behind them
+-- three parties and those after them
 then_group : (p q r : PartyAt) (g rest : List ℕ) (others : List PartyAt) → g ≡ party_text names p ++ (party_text names q ++ party_text names r) → rest ≡ parties_text names others
     → g ++ rest ≡ parties_text names (p ∷ q ∷ r ∷ others)
 then_group p q r g rest others is same =
     let a = party_text names p in let b = party_text names q in let c = party_text names r in
     ap (λ x. x ++ rest) is ∙ append_assoc a (b ++ c) rest ∙ ap (λ x. a ++ x) (append_assoc b c rest) ∙ ap (λ x. a ++ (b ++ (c ++ x))) same
 
--- each group, and the parties behind it
+-- each group, and the parties after it
 group_zero : (n : ℕ) (rest : List ℕ) (others : List PartyAt) → rest ≡ parties_text names others → text.group n 0 ++ rest ≡ parties_text names (file.group 5 4 7 10 n 1 others)
 unfolding digits in_block named_text pair_text valued_text given_text
 group_zero n rest others same =

@@ -13,7 +13,7 @@ five_is : decimal 5 ≡ codes "5"
 unfolding digits
 five_is = refl
 
--- what stands behind the number of messages, up to the end of the group
+-- what stands after the number of messages, up to the end of the group
 abbrev sender_back : List ℕ → List ℕ
 sender_back v = codes " {\n    send x " ++ (v ++ codes ";\n  }\n  recv x r int;\n  close x;\n}\n")
 

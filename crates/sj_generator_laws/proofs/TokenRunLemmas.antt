@@ -13,7 +13,8 @@ use Rattle.sj_grammar.proofs.LexingLemmas.{read, passed_is}
 use Rattle.sj_grammar.proofs.LexedTableLemmas.{words_behind, texts_behind}
 use Rattle.sj_grammar.proofs.PositionLemmas.{lines_from as line_behind}
 
--- a token with the blanks before it; a party, a connection, a protocol or a statement may begin with it
+-- a token with the blanks before it; a party, a connection, a protocol or a
+-- statement may begin with it
 pub record Tok : Type 0 where
   pub gap : List ℕ
   pub spelled : List ℕ
@@ -28,7 +29,7 @@ abbrev pub piece_on : Bool → ℕ → List ℕ → Piece
 piece_on true l s = first_on l s
 piece_on false l s = plain s
 
--- the pieces of tokens, the first of them behind blanks that begin on that line
+-- the pieces of tokens, the first of them after blanks that begin on that line
 abbrev pub pieces_of : ℕ → List Tok → List Piece
 pieces_of l [] = []
 pieces_of l (k ∷ ks) = piece_on k.opens (line_behind l k.gap) k.spelled ∷ pieces_of (line_behind l k.gap) ks
@@ -92,7 +93,7 @@ begins (k ∷ ks) before rest l ws ts on all =
     (subst (λ (e : At). BeginsOnLines (at (read before ahead) ws ts) pieces e)
     (λ i. at (read (read_too i) rest) (words_behind (words_past ws (sym same i)) others) (texts_behind (texts_past ts (sym same i)) others)) whole)
 
--- ---- tokens behind tokens
+-- ---- tokens after tokens
 
 pub text_append : (a b : List Tok) → text_of (a ++ b) ≡ text_of a ++ text_of b
 text_append [] b = refl

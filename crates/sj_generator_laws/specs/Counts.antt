@@ -2,7 +2,8 @@
 use Rattle.std.specs.Prelude.{ℕ, ◌+◌, ◌*◌, length, sum_by}
 use Rattle.sj_semantics.specs.World.{World}
 
--- of the generated file: its parties and sessions, and the messages and steps of its run where each loop sends n
+-- of the generated file: its parties and sessions, and the messages and steps of its
+-- run where each loop sends n
 abbrev pub generated_parties : ℕ
 generated_parties = 15
 

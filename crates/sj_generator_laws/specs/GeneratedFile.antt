@@ -1,4 +1,5 @@
--- The file that `make` prints, as a value: five groups of three parties, in each of which the second delegates its end of the first session to the third.
+-- The file that `make` prints, as a value: five groups of three parties, in each of which the
+-- second delegates its end of the first session to the third.
 use Rattle.std.specs.Prelude.{ℕ, ◌+◌, List, [], ◌∷◌, codes, pos}
 use Rattle.sj_lang.specs.declared.proto.Way.TheVariants.{Out, Into}
 use Rattle.sj_lang.specs.declared.party.Op.TheVariants.{Add}

@@ -35,8 +35,8 @@ pub fn the_generated_file_is_accepted()
     ensures { (n : ℕ) → IsAccepted (generated_file n) }
 {}
 
-/// At the end of the generated file, whose loops send up to 1,000 messages each, its parties have
-/// sent so many messages and done so many steps, and its verdict is done.
+/// The generated file's loops send up to 1,000 messages each. At its end its parties have sent so
+/// many messages and done so many steps, and its verdict is done.
 pub fn the_generated_file_ends_done()
     ensures messages { (n : ℕ) → n ≤ limit_of_turns → messages_in (end_of (generated_file n)) ≡ generated_messages n }
     ensures steps { (n : ℕ) → n ≤ limit_of_turns → steps_in (end_of (generated_file n)) ≡ generated_steps n }

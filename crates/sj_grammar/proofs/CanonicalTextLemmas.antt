@@ -31,11 +31,11 @@ close_free : (w : Way) (t rest : List ℕ) → NoWordByte ((close_piece w ++ t) 
 close_free Out t rest = refl
 close_free Into t rest = refl
 
--- one text and another, where anything may stand behind the first
+-- one text and another, where anything may follow the first
 joined : (t u : List ℕ) (ps qs : Pieces) → HasPieces Any t ps → HasPieces Any u qs → HasPieces Any (t ++ u) (ps ++ qs)
 joined t u ps qs h k = pieces_append Any Any t u ps qs h k (λ rest free. tt)
 
--- items alone, behind a space, and behind a dot
+-- items alone, after a space, and after a dot
 abbrev pub Spelled : List ℕ → Pieces → Type 0
 Spelled t ps = HasPieces Any t ps × HasPieces Any (codes " " ++ t) ps × HasPieces Any (codes "." ++ t) (codes "." ∷ ps)
 
@@ -90,7 +90,7 @@ module _ (word : ℕ → List ℕ) where
       from_way w (codes "[" ++ (seq_text word p ++ (codes "]*" ++ dotted_text word r))) (codes "[" ∷ (seq_pieces word p ++ codes "]" ∷ codes "*" ∷ dotted word r))
       (joined (codes "[") (seq_text word p ++ (codes "]*" ++ dotted_text word r)) (codes "[" ∷ []) (seq_pieces word p ++ codes "]" ∷ codes "*" ∷ dotted word r) (one_piece Any (codes "[") (codes "[") Symbol (λ more free. refl)) behind)
 
-  -- arms alone, and behind a comma and a space
+  -- arms alone, and after a comma and a space
   arm_has : (l : ℕ) (p : Place) (a : Choices) → HasPieces NoWordByte (word l) (word l ∷ []) → HasPieces NoWordByte (codes " " ++ word l) (word l ∷ []) → HasPieces Any (gap_before (codes " ") p ++ seq_text word p) (seq_pieces word p)
       → HasPieces Any (listed_text word a) (listed word a)
       → HasPieces Any (arms_text word (arm l p a)) (drop 1 (listed word (arm l p a))) × HasPieces Any (listed_text word (arm l p a)) (listed word (arm l p a))
@@ -122,7 +122,7 @@ module _ (word : ℕ → List ℕ) where
       arms_have o n no_choice g = (no_piece Any, no_piece Any)
       arms_have o n (arm l p a) g = let named = name_is_word (word l) g.1.name in arm_has l p a (word_piece (word l) named) (word_behind (word l) named) (items_have o p g.2).1 (arms_have o (suc n) a g.3).1
 
-    -- behind its `begin` stands a dot, or nothing of the protocol
+    -- after its `begin` stands a dot, or nothing of the protocol
     begun_free : (p : Place) (rest : List ℕ) → NoWordByte rest → NoWordByte (dotted_text word p ++ rest)
     begun_free done rest free = free
     begun_free (message w k r) rest free = refl

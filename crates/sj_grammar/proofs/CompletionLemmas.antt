@@ -1,4 +1,4 @@
--- What was taken, and what spells what is due behind it, spell what was due before.
+-- What was taken, and what spells what is due after it, spell what was due before.
 use Rattle.std.proofs.Common.{◌≡◌, ℕ, Bool, true, false, List, [], ◌∷◌, ◌++◌, Option, Some, None, refl, ap, sym, subst, ◌∙◌, append_assoc, append-nil}
 use Rattle.std.specs.Prelude.{if◌then◌else◌, ◌&&◌, map}
 use Rattle.sj_lang.specs.Limits.{Limits}

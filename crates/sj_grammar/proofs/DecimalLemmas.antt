@@ -1,4 +1,5 @@
--- The digits that a number is printed with: digits alone, and no zero before them that isn't needed.
+-- The digits that a number is printed with:
+-- digits alone, and no zero before them that isn't needed.
 use Rattle.std.proofs.Common.{◌≡◌, ℕ, zero, suc, ◌<◌, ◌≤◌, ◌^◌, true, false, List, [], ◌∷◌, get_or, refl, arith}
 use Rattle.std.specs.Prelude.{◌==◌, decimal}
 use Rattle.std.specs.List.{list_all}

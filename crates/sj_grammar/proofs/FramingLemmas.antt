@@ -1,4 +1,4 @@
--- Dues of one layer, with others behind them, as dues of another.
+-- Dues of one layer, with others after them, as dues of another.
 use Rattle.std.proofs.Common.{◌≡◌, ℕ, Bool, true, false, List, [], ◌∷◌, ◌++◌, Option, Some, None, refl, ap, sym, subst, ◌∙◌, append_assoc}
 use Rattle.std.specs.Prelude.{map, option_map, if◌then◌else◌, ◌&&◌}
 use Rattle.sj_grammar.specs.declared.tokens.Rule.{Rule}
@@ -74,7 +74,7 @@ module _ {D E : Type 0} (G : Layer D) (H : Layer E) (f : D → E) (is : IsEmbedd
       by_step (goes m es) h k = let none : ⊥ = cc in absurd none
       by_step (stops q) h k = ap rule_of (stop_framed n ds s q full h) ∙ k
 
-  -- a text that is stuck inside is stuck whatever is due behind
+  -- a text that is stuck inside is stuck whatever is due later
   pub inside_framed : (n : ℕ) (a : At) (ds : List D) (flt : Fault) → StuckInside G L n a ds flt → StuckInside H L n a (framed ds) flt
   inside_framed n a ds flt st = let s = st.stuck in record {
     stuck = record {
@@ -96,7 +96,7 @@ module _ {D E : Type 0} (G : Layer D) (H : Layer E) (f : D → E) (is : IsEmbedd
   pub stuck_framed : (n : ℕ) (a : At) (ds : List D) (flt : Fault) → StuckInside G L n a ds flt → Stuck H L n a (framed ds) flt
   stuck_framed n a ds flt st = (inside_framed n a ds flt st).stuck
 
-  -- dues that may be none, and don't take the token, leave it to those behind
+  -- dues that may be none, and don't take the token, leave it to those after them
   pub skip_framed : (n : ℕ) (ds : List D) (s : List ℕ) → may_end G ds ≡ true → due_behind G ds s ≡ None → step H L n (framed ds) s ≡ step H L n rest s
   skip_framed n [] s ends e = refl
   skip_framed n (d ∷ ds) s ends e = rw (is.follows d s, is.nones d) (by_follow (skip_framed n ds s) (G.follow d s) (G.may_be_none d) ends e)
@@ -116,7 +116,7 @@ module _ {D E : Type 0} (G : Layer D) (H : Layer E) (f : D → E) (is : IsEmbedd
       by_none later true ends = later ends
       by_none later false ends = let none : ⊥ = cc in absurd none
 
--- dues of one layer, and others of it behind them
+-- dues of one layer, and others of it after them
 module _ {D : Type 0} (G : Layer D) (L : Limits) where
   itself : IsEmbedded G G (λ d. d)
   itself = record {
@@ -133,7 +133,7 @@ module _ {D : Type 0} (G : Layer D) (L : Limits) where
   pub inside_before : (rest : List D) (n : ℕ) (a : At) (ds : List D) (flt : Fault) → StuckInside G L n a ds flt → StuckInside G L n a (ds ++ rest) flt
   inside_before rest n a ds flt st = subst (λ (es : List D). StuckInside G L n a (es ++ rest) flt) (map-id ds) (inside_framed G G (λ d. d) itself L rest n a ds flt st)
 
-  -- a token that the dues take, and several, whatever is due behind
+  -- a token that the dues take, and several, whatever is due later
   pub step_before : (n m : ℕ) (ds es rest : List D) (s : List ℕ) → step G L n ds s ≡ goes m es → step G L n (ds ++ rest) s ≡ goes m (es ++ rest)
   step_before n m ds es rest s e =
       ap (λ (xs : List D). step G L n (xs ++ rest) s) (sym (map-id ds)) ∙ step_framed G G (λ d. d) itself L rest n m ds es s e

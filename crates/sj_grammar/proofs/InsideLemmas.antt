@@ -13,7 +13,7 @@ module _ {D : Type 0} (G : Layer D) (L : Limits) where
   pub inside_here : (n : ℕ) (a : At) (ds : List D) (f : Fault) → may_end G ds ≡ false → Halts G L n a ds f → StuckInside G L n a ds f
   inside_here n a ds f full h = record { stuck = record { pieces = []; there = a; count = n; dues = ds; front = refl; fits = refl; halts = h }; inside = full }
 
-  -- behind a token
+  -- after a token
   pub inside_cons : (n k : ℕ) (a m : At) (s : List ℕ) (ds es : List D) (f : Fault) → Takes a s m → step G L n ds s ≡ goes k es → StuckInside G L k m es f → StuckInside G L n a ds f
   inside_cons n k a m s ds es f t e is = let st = is.stuck in record {
     stuck = record {
@@ -28,7 +28,7 @@ module _ {D : Type 0} (G : Layer D) (L : Limits) where
     inside = is.inside;
   }
 
-  -- behind several
+  -- after several
   pub inside_block : (n k : ℕ) (a m : At) (ps : Pieces) (ds es : List D) (f : Fault) → Begins a ps m → Runs G L n ds ps k es → StuckInside G L k m es f → StuckInside G L n a ds f
   inside_block n k a m ps ds es f b r is = let st = is.stuck in record {
     stuck = record {

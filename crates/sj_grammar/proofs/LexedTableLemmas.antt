@@ -8,7 +8,7 @@ use Rattle.sj_grammar.specs.Tables.{with_entry}
 use Rattle.sj_grammar.specs.Positions.{Pieces, At, at, Begins}
 use Rattle.sj_grammar.proofs.LexingLemmas.{Lexes}
 
--- the tables behind tokens
+-- the tables after tokens
 abbrev pub words_behind : List (List ℕ) → Pieces → List (List ℕ)
 words_behind ws [] = ws
 words_behind ws (s ∷ ps) = words_behind (if is_name s then with_entry ws s else ws) ps

@@ -1,4 +1,4 @@
--- Texts that have given tokens, whatever stands before and behind them.
+-- Texts that have given tokens, whatever stands before and after them.
 use Rattle.std.proofs.Common.{◌≡◌, ℕ, ◌-◌, Bool, true, false, IsTrue, List, [], ◌∷◌, ◌++◌, length, take, refl, ap, sym, subst, ◌∙◌, arith, append_assoc, append-nil, length-append}
 use Rattle.std.specs.Prelude.{◌&&◌, nat_eq, not}
 use Rattle.std.specs.List.{prefix_len, list_all}
@@ -25,11 +25,11 @@ Lexes-append (s ∷ a) b r m q h k = (h.0, h.1, Lexes-append a b h.0 m q h.2 k)
 abbrev pub read : List ℕ → List ℕ → Reading
 read before ahead = record { before = before; ahead = ahead }
 
--- the text has these tokens, where such a text stands behind it
+-- the text has these tokens, where such a text follows it
 abbrev pub HasPieces : (List ℕ → Type 0) → List ℕ → Pieces → Type 0
 HasPieces Behind t ps = (before rest : List ℕ) → Behind rest → Lexes (read before (t ++ rest)) ps (read (before ++ t) rest)
 
--- what may stand behind: anything; no more of a word; no `=`
+-- what may follow: anything; no more of a word; no `=`
 abbrev pub Any : List ℕ → Type 0
 Any rest = Unit {0}
 
@@ -45,7 +45,7 @@ passed_is before t rest =
     let long : length (t ++ rest) - length rest ≡ length t = omega (arith, length-append t rest) in
     ap (λ xs. before ++ xs) (ap (λ n. take n (t ++ rest)) long ∙ take-append_seam t rest)
 
--- one token, maybe behind blanks
+-- one token, maybe after blanks
 pub one_piece : (Behind : List ℕ → Type 0) (t s : List ℕ) (what : What) → ((rest : List ℕ) → Behind rest → next_of (t ++ rest) ≡ token what s rest) → HasPieces Behind t (s ∷ [])
 one_piece Behind t s what next = λ before rest free. (
   read (before ++ t) rest,
@@ -93,7 +93,7 @@ word_next (b ∷ w) rest h free = by_test (is_letter b) refl h
         let step : next_of (b ∷ (w ++ rest)) ≡ cut Word (prefix_len is_word_byte (b ∷ (w ++ rest))) (b ∷ (w ++ rest)) = rw (blank, slash, e) refl in
         step ∙ ap (λ n. cut Word n (b ∷ (w ++ rest))) (run_of (b ∷ w) rest all free) ∙ (λ i. token Word (take-append_seam (b ∷ w) rest i) (drop-append_seam (b ∷ w) rest i))
 
--- a name, maybe behind a blank
+-- a name, maybe after a blank
 pub name_is_word : (w : List ℕ) → IsTrue (is_name w) → IsTrue (is_word w)
 name_is_word w h = by_test (is_word w) (not (is_reserved w)) h
   where

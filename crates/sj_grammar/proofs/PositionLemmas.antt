@@ -52,7 +52,7 @@ before_goes_on r at_end = (r.ahead, refl)
 before_goes_on r (bad rule rest) = (take (length r.ahead - length rest) r.ahead, refl)
 before_goes_on r (token what s rest) = (take (length r.ahead - length (s ++ rest)) r.ahead, refl)
 
--- a fault at a token is none behind it
+-- a fault at a token differs from any after it
 pub two_faults : (r : Reading) (what : What) (s rest : List ℕ) (x : Ahead) (p q : Rule) → next_of r.ahead ≡ token what s rest
     → fault_at (before_next r (token what s rest)) p ≡ fault_at (before_next (record { before = passed r rest; ahead = rest }) x) q → ⊥
 two_faults r what s rest x p q next e =

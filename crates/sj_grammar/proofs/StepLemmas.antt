@@ -1,4 +1,4 @@
--- Pieces one after another, and what is due behind them.
+-- Pieces one after another, and what is due after them.
 use Rattle.std.proofs.Common.{◌≡◌, ◌≢◌, ℕ, Bool, true, false, List, [], ◌∷◌, ◌++◌, Option, Some, None, refl, ap, sym, subst, ◌∙◌, append_assoc, ◌⊎◌, inl, inr}
 use Rattle.std.specs.Prelude.{if◌then◌else◌}
 use Rattle.sj_grammar.specs.declared.tokens.Rule.{Rule}
@@ -9,7 +9,7 @@ use Rattle.sj_grammar.specs.Positions.{Pieces}
 use Rattle.sj_grammar.specs.Layers.{Layer, Step, goes, stops, instead, onward, misfit, rule_of, step, run}
 
 module _ {D : Type 0} (G : Layer D) (L : Limits) where
-  -- so many are counted and that is due; behind the pieces so many, and that
+  -- so many are counted and that is due; after the pieces so many are counted, and that is due
   pub record Runs (n : ℕ) (ds : List D) (ps : Pieces) (m : ℕ) (es : List D) : Type 0 where
     pub steps : run G L n ds ps ≡ goes m es
 
@@ -49,12 +49,12 @@ module _ {D : Type 0} (G : Layer D) where
   or_else None ds others = others
   or_else (Some es) ds others = Some (es ++ ds)
 
-  -- what is due behind the token, limits aside
+  -- what is due after the token, limits aside
   abbrev pub due_behind : List D → List ℕ → Option (List D)
   due_behind [] s = None
   due_behind (d ∷ ds) s = or_else (G.follow d s) ds (if G.may_be_none d then due_behind ds s else None)
 
-  -- a step, by what is due behind the token
+  -- a step, by what is due after the token
   abbrev pub IsStep : Limits → ℕ → List D → List ℕ → Option (List D) → Step D → Type 0
   IsStep L n ds s None t = t ≡ stops (misfit s)
   IsStep L n ds s (Some es) t = (t ≡ stops P4) ⊎ ((m : ℕ) × (t ≡ goes m es))

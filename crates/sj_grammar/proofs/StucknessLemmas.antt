@@ -41,7 +41,7 @@ module _ {D : Type 0} (G : Layer D) (L : Limits) where
       → ((s : List ℕ) (r : Rule) → (if is_largest s then Some P3 else p s) ≡ Some r → rule_of (step G L n ds s) ≡ Some r) → Refuses p a.text f → Stuck G L n a ds f
   refuses_stuck p n a ds f full h r = halts_stuck n a ds f (refuses_halts p n a ds f full h r)
 
-  -- behind a token
+  -- after a token
   pub stuck_cons : (n k : ℕ) (a m : At) (s : List ℕ) (ds es : List D) (f : Fault) → Takes a s m → step G L n ds s ≡ goes k es → Stuck G L k m es f → Stuck G L n a ds f
   stuck_cons n k a m s ds es f t e st = record {
     pieces = s ∷ st.pieces;
@@ -53,7 +53,7 @@ module _ {D : Type 0} (G : Layer D) (L : Limits) where
     halts = st.halts;
   }
 
-  -- behind several
+  -- after several
   pub stuck_block : (n k : ℕ) (a m : At) (ps : Pieces) (ds es : List D) (f : Fault) → Begins a ps m → Runs G L n ds ps k es → Stuck G L k m es f → Stuck G L n a ds f
   stuck_block n k a m ps ds es f b r st = record {
     pieces = ps ++ st.pieces;

@@ -23,7 +23,7 @@ is_word_byte b = is_letter b || is_digit b
 abbrev pub quote_byte : ℕ
 quote_byte = 34
 
--- behind an opening quote, up to the next quote or the end of the line
+-- after an opening quote, up to the next quote or the end of the line
 abbrev pub is_inside : ℕ → Bool
 is_inside b = not (b == quote_byte) && not (b == 10)
 
@@ -43,6 +43,6 @@ abbrev pub begins_with : ℕ → List ℕ → Bool
 begins_with c [] = false
 begins_with c (b ∷ bs) = b == c
 
--- the byte and those behind it begin with `<=` or `==`
+-- the byte and those after it begin with `<=` or `==`
 abbrev pub is_double : ℕ → List ℕ → Bool
 is_double b bs = (b == 60 || b == 61) && begins_with 61 bs

@@ -1,4 +1,5 @@
--- The canonical text of a protocol: of all the texts that have its pieces, the one that printers write.
+-- The canonical text of a protocol:
+-- of all the texts that have its pieces, the one that printers write.
 use Rattle.std.specs.Prelude.{ℕ, List, [], ◌++◌, drop, codes}
 use Rattle.sj_lang.specs.Place.{Place, Carried, Choices, done, message, choice, repeat, int, boolean, text, session, no_choice, arm}
 use Rattle.sj_grammar.specs.Protocols.{way_piece, open_piece, close_piece}

@@ -57,7 +57,7 @@ a_text_without_its_quotes = refl
 pub the_end_is_behind_the_last_byte : fault_next (start (codes "a" ++ 10 ∷ codes " // b") [] []).text P1 at_end ≡ record { rule = P1; line = 2; column = 6 }
 the_end_is_behind_the_last_byte = refl
 
--- behind the head of a protocol its body is due
+-- after the head of a protocol its body is due
 pub behind_a_head : run file_layer limits 0 file_due (codes "protocol" ∷ codes "p" ∷ codes "{" ∷ []) ≡ goes 0 (proto body ∷ fixed (codes "}") ∷ protocols 1 ∷ parties 0 ∷ connects 0 ∷ [])
 unfolding is_reserved
 behind_a_head = refl
@@ -94,7 +94,7 @@ pub too_deep_in_a_not : run file_layer (record limits { nesting = 1 }) 0 (expr w
 unfolding is_reserved
 too_deep_in_a_not = refl
 
--- 2^63 stands behind a factor's own minus alone
+-- 2^63 stands only after a factor's own minus
 pub the_largest : run file_layer limits 0 (expr whole ∷ semicolon ∷ []) (codes "-" ∷ codes "9223372036854775808" ∷ codes ";" ∷ []) ≡ goes 1 []
 unfolding is_reserved
 the_largest = refl

@@ -15,11 +15,11 @@ pub data ExpressionDue : Type 0 where
   times : ℕ → ExpressionDue
   plus : ℕ → ExpressionDue
   compare : ℕ → ExpressionDue
-  -- the number behind a factor's minus
+  -- the number after a factor's minus
   after_minus : ExpressionDue
   fixed : List ℕ → ExpressionDue
 
--- what is counted, but for a number behind a minus
+-- what is counted, but for a number after a minus
 abbrev pub is_operand : List ℕ → Bool
 is_operand s = (is_number s && not (is_largest s)) || (is_text s || (is_name s || (bytes_eq s (codes "true") || bytes_eq s (codes "false"))))
 
@@ -70,7 +70,8 @@ expression_counted n (fixed p) s = n
 abbrev pub is_long : Limits → List ℕ → Bool
 is_long L s = (is_text s && nat_lt L.text (length (inner s))) || (is_name s && nat_lt L.name (length s))
 
--- at a factor, with so many operands before: an operand too many or too long, or a parenthesis or a `not` too deep
+-- at a factor, with so many operands before: an operand too many or too long,
+-- or a parenthesis or a `not` too deep
 abbrev pub factor_passes : Limits → ℕ → ℕ → List ℕ → Bool
 factor_passes L n o s =
     if is_operand s then nat_le L.operands n || is_long L s

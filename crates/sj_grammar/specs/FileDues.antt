@@ -18,7 +18,7 @@ pub data Due : Type 0 where
   block : ℕ → Due
   -- more arms of an `inbranch`; there may be none
   branches : ℕ → Due
-  -- what a `recv` awaits, behind its two names
+  -- what a `recv` awaits, after its two names
   awaited : Due
   name : Due
   fixed : List ℕ → Due
@@ -28,7 +28,7 @@ pub data Due : Type 0 where
 abbrev pub semicolon : Due
 semicolon = fixed (codes ";")
 
--- behind the first token of a statement
+-- after the first token of a statement
 unfoldable pub statement_follow : ℕ → List ℕ → Option (List Due)
 statement_follow o s =
     if bytes_eq s (codes "send") then Some (name ∷ expr whole ∷ semicolon ∷ stmts o ∷ [])

@@ -63,7 +63,8 @@ pub record IsSpelled (L : Limits) (f : FileAt) (ps : List Piece) : Type 0 where
   pub few_parties : length f.parties ≤ L.parties
   pub few_connects : length f.connects ≤ L.connects
 
--- the text stands for the file, whatever blanks and comments it has; names and texts have their numbers in order of first occurrence
+-- the text stands for the file, whatever blanks and comments it has;
+-- names and texts have their numbers in order of first occurrence
 pub record IsFile (bytes : List ℕ) (f : FileAt) : Type 0 where
   pub pieces : List Piece
   pub spelled : IsSpelled limits f pieces

@@ -1,4 +1,5 @@
--- What is due at a token, as a list: the first of it comes first. A token takes a due away, and puts others in its place.
+-- What is due at a token, as a list: the first of it comes first.
+-- A token takes a due away, and puts others in its place.
 use Rattle.std.specs.Prelude.{ℕ, Bool, true, ◌&&◌, List, [], ◌∷◌, ◌++◌, Option, Some, None, if◌then◌else◌}
 use Rattle.sj_grammar.specs.declared.tokens.Rule.{Rule}
 use Rattle.sj_lang.specs.Limits.{Limits}
@@ -8,11 +9,12 @@ use Rattle.sj_grammar.specs.Rules.{bad_number, not_due, over_limit}
 
 -- what tokens do to a kind of dues
 pub record Layer (D : Type 0) : Type 0 where
-  -- what is due behind a token; None where the due doesn't take it
+  -- what is due after a token; None where the due doesn't take it
   pub follow : D → List ℕ → Option (List D)
   -- nothing may stand in its place
   pub may_be_none : D → Bool
-  -- how many items of the protocol, or operands of the expression, there are behind a token that the due takes
+  -- how many items of the protocol, or operands of the expression, there are after a token
+  -- that the due takes
   pub counted : ℕ → D → List ℕ → ℕ
   -- that token is one too many, too deep or too long
   pub passes : Limits → ℕ → D → List ℕ → Bool

@@ -14,7 +14,7 @@ pub data Ahead : Type 0 where
   at_end : Ahead
   -- no token can be read; the text from the position of the fault on
   bad : Rule → List ℕ → Ahead
-  -- a token, its bytes, and the text behind it
+  -- a token, its bytes, and the text after it
   token : What → List ℕ → List ℕ → Ahead
 
 -- the first n bytes are the token
@@ -25,7 +25,7 @@ cut what n text = token what (take n text) (drop n text)
 abbrev pub has_leading_zero : List ℕ → Bool
 has_leading_zero ds = begins_with 48 ds && nat_lt 1 (length ds)
 
--- behind a minus a number may be that
+-- after a minus a number may be that
 abbrev pub most : ℕ
 most = 2 ^ 63
 
@@ -35,7 +35,7 @@ number_of ds text =
     if has_leading_zero ds || nat_lt most (digits_value 10 ds) then bad bad_number text
     else cut (Number (digits_value 10 ds)) (length ds) text
 
--- behind a quote: n bytes up to the next quote or the end of the line
+-- after a quote: n bytes up to the next quote or the end of the line
 abbrev pub text_of : ℕ → List ℕ → Ahead
 text_of n bs =
     if not (begins_with quote_byte (drop n bs)) then bad open_text (quote_byte ∷ bs)
@@ -52,7 +52,7 @@ token_of (b ∷ bs) =
     else (if is_double b bs then cut Symbol 2 (b ∷ bs)
     else (if is_symbol b then cut Symbol 1 (b ∷ bs) else bad bad_byte (b ∷ bs)))))
 
--- behind blanks and comments
+-- after blanks and comments
 abbrev mutual
   pub next_of : List ℕ → Ahead
   next_of [] = at_end

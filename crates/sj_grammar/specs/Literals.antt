@@ -10,7 +10,7 @@ use Rattle.sj_grammar.specs.Lexis.{has_leading_zero, most}
 abbrev pub is_number : List ℕ → Bool
 is_number s = nat_lt 0 (length s) && (list_all is_digit s && (not (has_leading_zero s) && nat_le (digits_value 10 s) most))
 
--- the one number that stands behind a factor's minus alone
+-- the one number that stands only after a factor's minus
 abbrev pub is_largest : List ℕ → Bool
 is_largest s = bytes_eq s (codes "9223372036854775808")
 

@@ -24,7 +24,7 @@ at r words texts = record { text = r; words = words; texts = texts }
 abbrev pub start : List ℕ → List (List ℕ) → List (List ℕ) → At
 start bytes words texts = at (record { before = []; ahead = bytes }) words texts
 
--- behind a token: a name and a text get their numbers where they are new
+-- after a token: a name and a text get their numbers where they are new
 abbrev pub past : At → List ℕ → List ℕ → At
 past a s rest = record {
   text = record { before = passed a.text rest; ahead = rest };

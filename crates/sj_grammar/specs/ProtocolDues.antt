@@ -18,7 +18,7 @@ pub data ProtocolDue : Type 0 where
   seq : ℕ → ProtocolDue
   -- items, maybe none
   maybe : ℕ → ProtocolDue
-  -- what stands behind a `!` or a `?`
+  -- what stands after a `!` or a `?`
   behind : ℕ → Way → ProtocolDue
   kind : ℕ → ProtocolDue
   -- a label, with so many arms before its own
@@ -31,7 +31,7 @@ pub data ProtocolDue : Type 0 where
 abbrev pub is_way : List ℕ → Bool
 is_way s = bytes_eq s (codes "!") || bytes_eq s (codes "?")
 
--- behind the first token of an item
+-- after the first token of an item
 abbrev pub item_follow : ℕ → List ℕ → Option (List ProtocolDue)
 item_follow o s =
     if bytes_eq s (codes "!") then Some (behind o Out ∷ more o ∷ [])

@@ -1,4 +1,5 @@
--- The grammar of protocols: the pieces that a protocol is written as, and the protocols that the grammar gives.
+-- The grammar of protocols: the pieces that a protocol is written as,
+-- and the protocols that the grammar gives.
 use Rattle.std.specs.Prelude.{◌≢◌, ℕ, suc, ◌<◌, ◌≤◌, List, [], ◌∷◌, ◌++◌, drop, codes}
 use Rattle.sj_lang.specs.declared.proto.Way.{Way}
 use Rattle.sj_lang.specs.declared.proto.Way.TheVariants.{Out, Into}

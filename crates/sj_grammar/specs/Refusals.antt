@@ -23,7 +23,7 @@ first_rule rule (token what s rest) = if is_largest s then bad_number else rule
 abbrev pub fault_next : Reading → Rule → Ahead → Fault
 fault_next r rule ahead = fault_at (before_next r ahead) (first_rule rule ahead)
 
--- the fault is where what is due can't be left out, so that what is due behind doesn't matter
+-- the fault is where what is due can't be left out, so that what is due later doesn't matter
 pub record StuckInside {D : Type 0} (G : Layer D) (L : Limits) (n : ℕ) (a : At) (ds : List D) (f : Fault) : Type 0 where
   pub stuck : Stuck G L n a ds f
   pub inside : may_end G stuck.dues ≡ false

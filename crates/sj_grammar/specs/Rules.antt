@@ -1,4 +1,4 @@
--- What breaks the grammar, by the rule that is told.
+-- What breaks the grammar, by the rule that is reported.
 use Rattle.sj_grammar.specs.declared.tokens.Rule.{Rule}
 use Rattle.sj_grammar.specs.declared.tokens.Rule.TheVariants.{P1, P2, P3, P4, P5}
 

@@ -1,4 +1,5 @@
--- What the texts of a grammar begin with. A grammar says which pieces are a whole text of it, limits aside.
+-- What the texts of a grammar begin with.
+-- A grammar says which pieces are a whole text of it, limits aside.
 use Rattle.std.specs.Prelude.{◌++◌}
 use Rattle.sj_grammar.specs.Positions.{Pieces}
 

@@ -15,18 +15,20 @@ pub record Grammar : Type 1 where
   pub IsWhole : Pieces → Type 0
   -- none of the pieces passes a limit
   pub IsWithin : Pieces → Type 0
-  -- behind the pieces this one passes a limit
+  -- after the pieces this one passes a limit
   pub PassesLimit : Pieces → List ℕ → Type 0
 
 module _ (G : Grammar) where
-  -- what comes next breaks that rule: where no text of the grammar goes on so, where one does and a limit is passed, or where the text isn't whole
+  -- what comes next breaks that rule: where no text of the grammar goes on so, where one does and
+  -- a limit is passed, or where the text isn't whole
   abbrev pub IsWrongNext : Pieces → Ahead → Rule → Type 0
   IsWrongNext ps at_end rule = (rule ≡ not_due) × (G.IsWhole ps → ⊥)
   IsWrongNext ps (bad lexical rest) rule = rule ≡ lexical
   IsWrongNext ps (token what s rest) rule =
       ((rule ≡ misfit s) × (IsViable G.IsWhole (ps ++ s ∷ []) → ⊥)) ⊎ ((rule ≡ over_limit) × IsViable G.IsWhole (ps ++ s ∷ []) × G.PassesLimit ps s)
 
-  -- From here on the text goes wrong there: up to there a text of the grammar can go on so, and no piece passes a limit.
+  -- From here on the text goes wrong there: up to there a text of the grammar can go on so,
+  -- and no piece passes a limit.
   pub record GoesWrong (a : At) (f : Fault) : Type 0 where
     pub pieces : Pieces
     pub there : At

@@ -49,7 +49,8 @@ fn fit_all(end: &End, deferred: &[Deferred]) -> bool
     true
 }
 
-// Whether a deferred body fits, and what it makes of the tally and of the count of untaken messages.
+// Whether a deferred body fits, and what it makes of the tally and of the count of untaken
+// messages.
 fn fit(end: &End, tally: &mut Tally, untaken: &mut usize, from: u16, body: &Body) -> bool
     requires base { end.now.base ≤ tally.old.base }
     requires upto { tally.old.base ≤ end.now.sent }

@@ -12,7 +12,7 @@ use std::alloc::Global;
 use std::collections::VecDeque;
 
 /// The end that came, at the place that was awaited: its cache again where that is asked for, and
-/// then each deferred body. Want of memory hands both back.
+/// then each deferred body. Where it runs out of memory, it hands both back.
 pub fn install(
     alloc: Global,
     e: Expected,

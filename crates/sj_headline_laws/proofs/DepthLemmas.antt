@@ -87,7 +87,8 @@ after_depth p q m h = after_message_depth p q m (when_goes (goes p Into) (after_
 
 -- ---- what a message on its way carries
 
--- the kind of a session message that is next, and that it is less deep than each place for which the taker's stands
+-- the kind of a session message that is next, and that it is less deep than each place for
+-- which the taker's stands
 pub record Carries (zs : List Session) (p : Place) (s d : ℕ) : Type 0 where
   pub kind : Place
   pub stands : StandsFor (end_at zs (side s d)).place kind

@@ -53,7 +53,8 @@ named_message e (msgs.Text n) h = cc
 named_message e (msgs.Label n) h = cc
 named_message e (msgs.More n) h = cc
 
--- an end on its way is sent at a kind that is less deep than each place for which its taker's stands
+-- an end on its way is sent at a kind that is less deep than each place for
+-- which its taker's stands
 pub record IsSent (zs : List Session) (e f : EndId) : Type 0 where
   pub kind : Place
   pub stands : StandsFor (end_at zs e).place kind

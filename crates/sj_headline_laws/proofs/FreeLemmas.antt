@@ -1,4 +1,5 @@
--- An end that an act begins is free until then: it is to come, or the message that the act takes names it.
+-- An end that an act begins is free until then: it is to come, or the message
+-- that the act takes names it.
 use Rattle.std.proofs.Common.{◌≡◌, ◌≢◌, ℕ, zero, suc, nat_lt, Bool, true, false, cond, List, [], ◌∷◌, length, slice_get, Option, Some, None, option_map, option_and_then, refl, ap, ◌∙◌, subst, arith}
 use Rattle.std.specs.Bool.{⊤}
 use Rattle.std.proofs.lemmas.Bool.{ltb-true}

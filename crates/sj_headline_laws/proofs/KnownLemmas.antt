@@ -69,7 +69,7 @@ mutual
   arms_know ps parties x choices rest (branch l code arms) env lasts each k last at_k =
       of_arm env each.2 each.4 k last (sym (ap (λ ls. slice_get ls k) each.6) ∙ at_k) (follows_know ps parties code _ each.2 each.3) (λ j h. arms_know ps parties x choices rest arms env each.4 each.5 j last h)
 
--- behind a loop's body that came back to the loop's beginning
+-- after a loop's body that came back to the loop's beginning
 pub back_forgets : (ps : List ProtocolAt) (parties : List ℕ) (body : Code) (env inner last : Env) → Follows ps parties body inner last → inner.kinds ≡ env.kinds → SameEnds env last → Forgets last env
 back_forgets ps parties body env inner last f same back = record {
   places = λ n. sym (back n);

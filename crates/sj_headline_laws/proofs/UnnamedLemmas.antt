@@ -132,7 +132,8 @@ moves_by p ends zs x e u next le hx at = record {
   others = λ n f ne h. ap (λ t. t.place) (end_at-touched_other p zs (e, u) f (names_apart ends x n e f le hx h ne));
 }
 
--- what moves between two sessions moves where others come behind or before that leave the party's places
+-- what moves between two sessions moves where others come after or before that
+-- leave the party's places
 pub moves_behind : (ends : List (ℕ × EndId)) (zs mid new : List Session) (x : ℕ) (next : Place) → MovesTo ends zs mid x next → KeepsPlaces ends mid new → MovesTo ends zs new x next
 moves_behind ends zs mid new x next m kept = record { here = λ e h. kept x e h ∙ m.here e h; others = λ n e ne h. kept n e h ∙ m.others n e ne h }
 

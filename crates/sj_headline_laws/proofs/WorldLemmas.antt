@@ -1,4 +1,5 @@
--- Sound worlds: sessions are balanced, programs fit, and what is offered is at the dual of what was requested.
+-- Sound worlds: sessions are balanced, programs fit, and what is offered is at the
+-- dual of what was requested.
 use Rattle.std.proofs.Common.{◌≡◌, ℕ, ◌≤◌, ◌<◌, List, length, slice_get, Some, None, sym, ◌∙◌, subst}
 use Rattle.std.specs.List.{Contains}
 use Rattle.sj_lang.specs.Dual.{dual_of}
@@ -18,7 +19,8 @@ use Rattle.sj_headline_laws.proofs.TouchedLemmas.{side}
 use Rattle.sj_headline_laws.proofs.AfterLemmas.{AllPairs}
 use Rattle.sj_headline_laws.proofs.OriginLemmas.{InTodo}
 
--- the party of that number requests a session of the protocol, in its code, from the party of that name
+-- the party of that number requests a session of the protocol, in its code,
+-- from the party of that name
 abbrev pub Asks : FileAt → ℕ → ℕ → ℕ → Type 0
 Asks file a n b = (q : PartyAt) × (slice_get file.parties a ≡ Some q) × (r : OpeningAt) × Contains (requests_of q.code) r × (r.protocol ≡ n) × (r.party ≡ b)
 

@@ -1,4 +1,5 @@
--- Ends that an act begins, of a session that it opens or accepts or that it takes: they are free until then.
+-- Ends that an act begins, of a session that it opens or accepts or that it takes:
+-- they are free until then.
 use Rattle.std.specs.Prelude.{◌≡◌, ℕ, ◌≤◌, List, slice_get, Some, sum_by, true}
 use Rattle.sj_base.specs.declared.EndId.{EndId}
 use Rattle.sj_base.specs.declared.Msg.{Msg}
@@ -20,6 +21,7 @@ IsTakenIn us e = (n : ℕ) × (f : EndId) × (m : Msg) × (slice_get us n ≡ So
 abbrev pub IsBegunIn : List (EndId × Use) → EndId → Type 0
 IsBegunIn us e = (n : ℕ) × (place : Place) × (slice_get us n ≡ Some (e, begins place))
 
--- each end that the uses begin is bound nowhere before, and on its way only where they take the message that names it
+-- each end that the uses begin is bound nowhere before, and on its way only where they take
+-- the message that names it
 abbrev pub BeginFreeEnds : World → List (EndId × Use) → Type 0
 BeginFreeEnds w us = (e : EndId) → IsBegunIn us e → IsBoundNowhere w e × (IsOnItsWay w e → IsTakenIn us e)

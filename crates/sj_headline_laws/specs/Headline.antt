@@ -25,7 +25,8 @@ use Rattle.sj_headline_laws.specs.Begins.{BeginFreeEnds}
 
 -- ---- moments
 
--- it holds at each moment of the acts: they are parted into a front and a rest, and the front leads to that world
+-- it holds at each moment of the acts: they are split into a prefix and a rest, and the
+-- prefix leads to that world
 abbrev pub AtEachMoment : FileAt → List ℕ → (World → Type 0) → Type 0
 AtEachMoment file acts P = (front rest : List ℕ) (w : World) → acts ≡ front ++ rest → IsRun file front w → P w
 
@@ -33,7 +34,8 @@ AtEachMoment file acts P = (front rest : List ℕ) (w : World) → acts ≡ fron
 abbrev pub OfEachAct : FileAt → List ℕ → (World → ℕ → Type 0) → Type 0
 OfEachAct file acts P = (front rest : List ℕ) (p : ℕ) (w : World) → acts ≡ front ++ p ∷ rest → IsRun file front w → P w p
 
--- it holds of each act at each moment behind it: of the world in which that party acts, and of the world at that moment
+-- it holds of each act at each moment after it: of the world in which that party acts, and of
+-- the world at that moment
 abbrev pub FromEachActOn : FileAt → List ℕ → (World → ℕ → World → Type 0) → Type 0
 FromEachActOn file acts P =
     (front between rest : List ℕ) (p : ℕ) (w v : World) → acts ≡ (front ++ p ∷ between) ++ rest → IsRun file front w
@@ -41,7 +43,7 @@ FromEachActOn file acts P =
 
 -- ---- what was sent and taken
 
--- the one list is a front of the other
+-- the one list is a prefix of the other
 abbrev pub IsFront : List Msg → List Msg → Type 0
 IsFront xs ys = (rest : List Msg) × (ys ≡ xs ++ rest)
 
@@ -49,7 +51,8 @@ IsFront xs ys = (rest : List Msg) × (ys ≡ xs ++ rest)
 abbrev pub messages : List Passed → List Msg
 messages xs = map (λ x. x.msg) xs
 
--- it holds of each end: of all that the acts took on it, and all that they sent on the other end of its session
+-- it holds of each end: of all that the acts took on it, and all that they sent on the
+-- other end of its session
 abbrev pub OfEachEnd : FileAt → List ℕ → (List Msg → List Msg → Type 0) → Type 0
 OfEachEnd file acts P =
     (e : EndId) → P (messages (taken_on e (acts_from (start_of file) acts))) (messages (sent_on (other_end e) (acts_from (start_of file) acts)))
@@ -60,8 +63,9 @@ OfEachEnd file acts P =
 abbrev pub next_step : World → ℕ → Option Want
 next_step w p = option_and_then want_of (slice_get w.parties p)
 
--- a place follows the message from the place of the end that takes it, and it is of the kind that stands there: the end that a
--- session message names stands for the carried place, which isn't empty
+-- a place follows the message from the place of the end that takes it, and it is of the
+-- kind that stands there. The end that a session message names stands for the carried
+-- place, which isn't empty
 abbrev pub FitsTaker : List Session → EndId → Msg → Type 0
 FitsTaker zs e m = (next : Place) × (after_place (end_at zs e).place Into m ≡ Some next) × FitsNext zs (end_at zs e).place m
 
@@ -70,8 +74,8 @@ abbrev pub TakesWhatFits : World → ℕ → Type 0
 TakesWhatFits w p =
     (c : Change) (n : ℕ) (e : EndId) (m : Msg) → change_of w p ≡ Some c → slice_get c.uses n ≡ Some (e, takes m) → FitsTaker w.sessions e m
 
--- each end that the party's step names is bound at it, and so is each end that its act uses, unless the use is its beginning; an
--- end that its act begins is free until then
+-- each end that the party's step names is bound at it, and so is each end that its act uses, unless
+-- the use is its beginning. An end that its act begins is free until then
 pub record UsesItsOwn (w : World) (p : ℕ) : Type 0 where
   pub names : (g : Program) (want : Want) → slice_get w.parties p ≡ Some g → want_of g ≡ Some want → AreBound g.ends want
   pub uses : (g : Program) (c : Change) → slice_get w.parties p ≡ Some g → change_of w p ≡ Some c → UsesBound g.ends c.uses
@@ -87,7 +91,8 @@ HasOneHolderEach w = (e : EndId) (p q : ℕ) → IsBoundAt w p e → IsBoundAt w
 abbrev pub ClosesForGood : World → ℕ → World → Type 0
 ClosesForGood w p v = (e : EndId) → next_step w p ≡ Some (Close e) → IsBoundNowhere v e
 
--- an end that the party delegates is bound nowhere later as long as its session message, the next one on the end e, isn't taken
+-- an end that the party delegates is bound nowhere later as long as its session message, the next
+-- one on the end e, isn't taken
 abbrev pub DelegatesAtOnce : World → ℕ → World → Type 0
 DelegatesAtOnce w p v = (e y : EndId) → next_step w p ≡ Some (Delegate e y) → IsUntaken v e (length (end_at w.sessions e).sent) → IsBoundNowhere v y
 
@@ -98,7 +103,7 @@ pub record IsHeadline (file : FileAt) (acts : List ℕ) (end : World) : Type 0 w
   pub run : IsRun file acts end
   -- nobody can go on there
   pub settled : IsSettled end
-  -- each end took, in order and once, a front of what the successive holders of the other end sent
+  -- each end took, in order and once, a prefix of what the successive holders of the other end sent
   pub in_order : OfEachEnd file acts IsFront
   -- and all of it where the verdict is done
   pub whole : verdict_of end ≡ Done → OfEachEnd file acts (λ taken sent. taken ≡ sent)
@@ -106,7 +111,8 @@ pub record IsHeadline (file : FileAt) (acts : List ℕ) (end : World) : Type 0 w
   pub fitting : OfEachAct file acts TakesWhatFits
   -- at each moment each end is bound at one party at most
   pub one_holder : AtEachMoment file acts HasOneHolderEach
-  -- each act on an end is done by a party at which it is bound; one that it begins nobody has before
+  -- each act on an end is done by a party at which it is bound; one that it
+  -- begins nobody has before
   pub by_holder : OfEachAct file acts UsesItsOwn
   -- a closed end is bound nowhere from its close on
   pub gone_once_closed : FromEachActOn file acts ClosesForGood

@@ -2,11 +2,12 @@
 //!
 //! - `the_greeting_is_accepted`, `a_file_that_opens_a_session_is_accepted`,
 //!   `a_file_with_a_narrower_selection_is_accepted`: there are such files.
-//! - `sessions_stay_balanced`: the two places and the two lists of untaken messages, of a session that
-//!   is opened at run time from its request on.
+//! - `sessions_stay_balanced`: the two places and the two lists of untaken messages, of a session
+//!   that is opened at run time from its request on.
 //! - `no_program_is_stuck`, `steps_fit_the_places`: the next step of a party.
 //! - `the_next_message_fits`, `the_next_message_has_a_place_after_it`: the next message of an end.
-//! - `a_taken_end_stands_for_the_body`, `an_accepted_end_stands_for_the_body`: an end that is bound.
+//! - `a_taken_end_stands_for_the_body`,
+//!   `an_accepted_end_stands_for_the_body`: an end that is bound.
 //! - `done_leaves_nothing_untaken`, `done_takes_all_that_was_sent`: where all is done.
 //! - `settled_runs_have_the_headline`: all of it at once, of a run to where nobody can go on.
 

@@ -1,4 +1,5 @@
-//! Laws of accepted files: sessions stay balanced, what is taken fits, and nothing is left where all is done.
+//! Laws of accepted files: sessions stay balanced, what is taken fits, and nothing
+//! is left where all is done.
 #![tactic(auto)]
 
 mod laws;

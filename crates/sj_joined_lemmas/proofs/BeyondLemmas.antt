@@ -1,4 +1,5 @@
--- What the world has, to which the joined logs lead, beside the parties of the file and the lanes between them.
+-- What the world has, to which the joined logs lead, beside the parties of the file and the lanes
+-- between them.
 use Rattle.std.proofs.Common.{◌≡◌, ℕ, ◌<◌, ◌≤◌, List, [], ◌∷◌, ◌++◌, refl, sym, ap, ◌∙◌, arith}
 use Rattle.std.specs.Prelude.{true, false, nat_lt}
 use Rattle.std.proofs.lemmas.Bool.Decides.{nat_tests}
@@ -19,7 +20,7 @@ second_none : {X : Type 0} → (xs ys : List X) → xs ++ ys ≡ [] → ys ≡ [
 second_none [] ys e = e
 second_none (x ∷ xs) ys e = absurd (cc e)
 
--- a lane that tells nothing is empty
+-- a lane that reports nothing is empty
 told_none : {P : Type 0} → (blank : P) (frames : List (FrameAt P)) → told_frames blank frames ≡ [] → frames ≡ []
 told_none blank [] e = refl
 told_none blank (f ∷ fs) e = absurd (cc e)

@@ -1,4 +1,5 @@
--- The joined logs of the parties are a log of the core: one event after the other, up to each party's last node.
+-- The joined logs of the parties are a log of the core: one event after the other, up to each
+-- party's last node.
 use Rattle.std.proofs.Common.{◌≡◌, ℕ, ◌≤◌, List, [], ◌∷◌, ◌++◌, refl, sym, ap, subst, ◌∙◌, arith, append-nil, append_assoc}
 use Rattle.std.specs.Prelude.{Bool, true, false, ◌==◌, if◌then◌else◌, Option, Some, None, map}
 use Rattle.std.specs.List.{AllByRecursion, cons_option}
@@ -35,7 +36,7 @@ first_of : {P : Type 0} → (e : EntryAt) (es : List EntryAt) (steps : List (Ste
 first_of e es [] same = absurd (cc same)
 first_of e es (s ∷ ss) same = record { step = s; rest = ss; is = refl; entry = cc same; others = cc same }
 
--- where no entry is left, no step is
+-- where no entry is left, no steps are
 none_left : {P : Type 0} → (steps : List (StepAt P)) → [] ≡ entries steps → steps ≡ []
 none_left [] same = refl
 none_left (s ∷ ss) same = absurd (cc same)
@@ -166,8 +167,9 @@ module _ {P Q : Type 0} (play : Play P Q) (pick : ℕ → ℕ → ℕ) (blank : 
       ap (λ l. l ++ posted_to blank q a.steps) none ∙ sym (a.posted q) ∙ ap (λ l. l ++ (workers p).box q) pushed
       ∙ append_assoc pops (lost q p ++ waiting p q) ((workers p).box q)
 
-  -- the joined logs are a log of the core, with the product's choice: it ends with each party's last node, and with what
-  -- is left in the lanes. Its events post what each party pushed, and then its outbox
+  -- the joined logs are a log of the core, with the product's choice: it ends with each party's
+  -- last node, and with what is left in the lanes. Its events post what each party pushed, and then
+  -- its outbox
   pub joined_logs_run : (lines : List LineAt) → IsJoined (λ p. (workers p).log) lines →
       Reached play pick blank (λ p. (workers p).node) (left_in workers lost waiting) (λ p q. (workers p).pushed q ++ (workers p).box q) start lines
   joined_logs_run lines joined =

@@ -1,4 +1,5 @@
--- What the parties of a file tell together: their logs can be joined, in one way only, and the joined lines are a run of the core.
+-- What the parties of a file report together: their logs can be joined, in one way only, and the
+-- joined lines are a run of the core.
 use Rattle.std.proofs.Common.{◌≡◌, ℕ, ◌<◌, List, [], refl, ◌∙◌, arith}
 use Rattle.std.specs.Prelude.{Bool, true, false, nat_lt, if◌then◌else◌}
 use Rattle.std.proofs.lemmas.Bool.Decides.{nat_tests}

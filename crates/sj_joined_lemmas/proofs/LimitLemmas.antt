@@ -1,4 +1,4 @@
--- What a lane tells of a frame fixes whether it is within the limits; and clocks of runs.
+-- What a lane reports of a frame fixes whether it is within the limits; and clocks of runs.
 use Rattle.std.proofs.Common.{◌≡◌, ℕ, ◌+◌, List, [], ◌∷◌, length, refl, sym, ap, subst, ◌∙◌, arith}
 use Rattle.std.specs.Prelude.{◌&&◌, nat_lt, if◌then◌else◌, None}
 use Rattle.sj_rules.specs.Limits.{clock_end}
@@ -11,7 +11,7 @@ use Rattle.sj_rules.specs.NodeRun.{frame_told, told_body}
 use Rattle.sj_joined_lemmas.proofs.ToldLemmas.{same_comes}
 use Rattle.sj_joined_lemmas.proofs.ClockLemmas.{step_within}
 
--- a told frame has the same numbers
+-- a reported frame has the same numbers
 told_within : {P : Type 0} → (n : ℕ) (blank : P) (b : BodyAt P) → is_within n (told_body blank b) ≡ is_within n b
 told_within n blank (Carry to c number taken msg) = refl
 told_within n blank (Fin to c number) = refl
@@ -25,7 +25,7 @@ told_within n blank (Open sess) = refl
 pub told_proper : {P : Type 0} → (n : ℕ) (blank : P) (f : FrameAt P) → is_proper n (frame_told blank f) ≡ is_proper n f
 told_proper n blank f = ap (λ b. nat_lt f.clock clock_end && b) (told_within n blank f.body)
 
--- frames that are told alike keep them both or neither
+-- frames that are reported alike keep them both or neither
 pub same_proper : {P : Type 0} → (n : ℕ) (blank : P) (f g : FrameAt P) → frame_told blank f ≡ frame_told blank g → is_proper n f ≡ is_proper n g
 same_proper n blank f g e = sym (told_proper n blank f) ∙ ap (is_proper n) e ∙ told_proper n blank g
 

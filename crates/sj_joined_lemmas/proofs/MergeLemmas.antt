@@ -46,7 +46,7 @@ all_put T l (m ∷ ms) here all = by (all_put T l ms here all.1) (is_before l m)
     by rest true = (here, all)
     by rest false = (all.0, rest)
 
--- what is before a line is before all behind it
+-- what is before a line is before all after it
 pub all_later : (k l : LineAt) (ms : List LineAt) → IsBefore k l → AllByRecursion (IsBefore l) ms → AllByRecursion (IsBefore k) ms
 all_later k l [] before all = tt
 all_later k l (m ∷ ms) before all = (before_later k l m before all.0, all_later k l ms before all.1)

@@ -1,4 +1,5 @@
--- A merge from the front: what is merged so far, what is left of the lines, and what is left of the log.
+-- A merge from the front: what is merged so far, what is left of the lines, and what is left of the
+-- log.
 use Rattle.std.proofs.Common.{◌≡◌, ℕ, ◌<◌, inl, arith, List, [], ◌∷◌, ◌++◌, refl, sym, ap, ◌∙◌, append-nil, append_assoc}
 use Rattle.std.specs.Prelude.{⊤, Bool, true, false, ◌==◌, map}
 use Rattle.std.specs.List.{AllByRecursion}
@@ -21,7 +22,7 @@ IsBeforeFirst k (l ∷ ls) = IsBefore k l
 abbrev pub AllBefore : List LineAt → List LineAt → Type 0
 AllBefore ks ls = AllByRecursion (λ k. AllByRecursion (IsBefore k) ls) ks
 
--- so far these lines came out; the others are in order behind them
+-- so far these lines came out; the others are in order after them
 pub record Merging (so_far : List LineAt) (party : ℕ) (log : List EntryAt) (out lines : List LineAt) (entries : List EntryAt) : Type 0 where
   pub order : IsInOrder out
   pub lines_behind : AllBefore out lines
@@ -42,7 +43,7 @@ all_more : {X : Type 0} → (T : X → Type 0) (xs : List X) (x : X) → AllByRe
 all_more T [] x all here = (here, tt)
 all_more T (y ∷ ys) x all here = (all.0, all_more T ys x all.1 here)
 
--- a line behind all others
+-- a line after all others
 order_more : (ks : List LineAt) (l : LineAt) → IsInOrder ks → AllByRecursion (λ k. IsBefore k l) ks → IsInOrder (ks ++ l ∷ [])
 order_more [] l order all = (tt, tt)
 order_more (k ∷ ks) l order all = (all_more (IsBefore k) ks l order.0 all.0, order_more ks l order.1 all.1)

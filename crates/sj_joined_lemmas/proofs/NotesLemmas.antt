@@ -1,4 +1,5 @@
--- What a party's log says of the frames that came to it, and what it means that a frame or an act is refused.
+-- What a party's log says of the frames that came to it, and what it means that a frame or an act
+-- is refused.
 use Rattle.std.proofs.Common.{◌≡◌, ℕ, ◌+◌, ◌<◌, List, [], ◌∷◌, refl, sym, ap, ◌∙◌, arith}
 use Rattle.std.specs.Prelude.{Bool, true, false, ◌==◌, if◌then◌else◌, Option, Some, None, map, option_map, max}
 use Rattle.std.specs.List.{cons_option}
@@ -12,7 +13,7 @@ use Rattle.sj_joined_lemmas.proofs.ToldLemmas.{note_told}
 use Rattle.sj_joined_lemmas.proofs.LimitLemmas.{same_arrives}
 
 module _ {P Q : Type 0} (play : Play P Q) (pick : ℕ → ℕ → ℕ) (blank : P) (party : ℕ) where
-  -- a deed's entry tells of its frame
+  -- a deed's entry reports its frame
   deed_noted : (n : NodeAt P Q) (q : ℕ) (d : Deed P) (note : NoteAt) → deed_note play party n d ≡ Some note →
       delivery_note q (event_of d) note ≡ option_map (λ f. body_note f.body) (frame_from blank q d)
   deed_noted n q Acted note e = refl
@@ -46,7 +47,7 @@ module _ {P Q : Type 0} (play : Play P Q) (pick : ℕ → ℕ → ℕ) (blank : 
       omega (arith, times)
 
 module _ {P Q : Type 0} (play : Play P Q) (pick : ℕ → ℕ → ℕ) (blank : P) (v : WorldAt P Q) (last : ℕ → NodeAt P Q) (left : ℕ → ℕ → List (FrameAt P)) (holds : Holds blank v last left) where
-  -- the first frame of a lane that tells that one first
+  -- the first frame of a lane that reports that one first
   front_of : (lane : List (FrameAt P)) (f : FrameAt P) (more : List (FrameAt P)) → told_frames blank lane ≡ frame_told blank f ∷ more →
       (g : FrameAt P) × (rest : List (FrameAt P)) × (lane ≡ g ∷ rest) × (frame_told blank g ≡ frame_told blank f)
   front_of [] f more e = absurd (cc e)
@@ -62,7 +63,7 @@ module _ {P Q : Type 0} (play : Play P Q) (pick : ℕ → ℕ → ℕ) (blank : 
     pub told_alike : frame_told blank frame ≡ frame_told blank f
     pub same : arrives play.blank play.parties pick (v.nodes q) p frame ≡ arrives play.blank play.parties pick (last q) p f
 
-  -- the frame that the lane tells first
+  -- the frame that the lane reports first
   pub front_like : (p q : ℕ) (f : FrameAt P) (more : List (FrameAt P)) → left p q ≡ frame_told blank f ∷ more → FrontLike p q f
   front_like p q f more is =
       let g = front_of (v.lanes p q) f more (holds.lanes p q ∙ is) in
@@ -74,7 +75,8 @@ module _ {P Q : Type 0} (play : Play P Q) (pick : ℕ → ℕ → ℕ) (blank : 
         same = same_arrives play.blank play.parties pick blank (v.nodes q) p g.0 f g.3 ∙ ap (λ (n : NodeAt P Q). arrives play.blank play.parties pick n p f) (holds.nodes q);
       }
 
-  -- where a worker's node refused the frame that it popped last, the front frame of that lane fits no row in the world
+  -- where a worker's node refused the frame that it popped last, the front frame of that lane fits
+  -- no row in the world
   pub refused_frame : (p q : ℕ) (f : FrameAt P) (more : List (FrameAt P)) → left p q ≡ frame_told blank f ∷ more → arrives play.blank play.parties pick (last q) p f ≡ None →
       happens play pick v q (Deliver p) ≡ None
   refused_frame p q f more is row =

@@ -1,4 +1,5 @@
--- Each party has steps to do, and the lanes go with them. Where one party does its first step, that stays so.
+-- Each party has steps to do, and the lanes go with them. Where one party does its first step, that
+-- stays so.
 use Rattle.std.proofs.Common.{◌≡◌, ℕ, ◌+◌, ◌<◌, List, ◌∷◌, ◌++◌, refl, sym, ap, subst, ◌∙◌, arith, append_assoc}
 use Rattle.std.specs.Prelude.{Bool, true, false, ◌&&◌, ◌==◌, if◌then◌else◌, max}
 use Rattle.std.specs.List.{cons_option}
@@ -16,8 +17,8 @@ use Rattle.sj_joined_lemmas.proofs.LateLemmas.{NoneBefore, Next, next_in}
 abbrev pub put_steps : {P : Type 0} → ℕ → List (StepAt P) → (ℕ → List (StepAt P)) → ℕ → List (StepAt P)
 put_steps p ss steps = λ q. if q == p then ss else steps q
 
--- each party's steps lead from its node in the world to its last one. A lane, and then what these steps post to it, is
--- what they pop from it, and then what is left
+-- each party's steps lead from its node in the world to its last one. A lane, and then what these
+-- steps post to it, is what they pop from it, and then what is left
 pub record IsOnward {P Q : Type 0} (play : Play P Q) (pick : ℕ → ℕ → ℕ) (blank : P) (last : ℕ → NodeAt P Q) (left : ℕ → ℕ → List (FrameAt P))
     (w : WorldAt P Q) (steps : ℕ → List (StepAt P)) : Type 0 where
   pub runs : (p : ℕ) → NodeRun play pick p (w.nodes p) (steps p) (last p)

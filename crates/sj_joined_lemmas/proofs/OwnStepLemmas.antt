@@ -1,4 +1,5 @@
--- A party's own step is a step of each world that has the party's node, and in whose lane its frame is next.
+-- A party's own step is a step of each world that has the party's node, and in whose lane its frame
+-- is next.
 use Rattle.std.proofs.Common.{◌≡◌, ℕ, List, ◌∷◌, refl, sym, ap, ◌∙◌}
 use Rattle.std.specs.Prelude.{Some}
 use Rattle.std.proofs.lemmas.Bool.{eq-eqb}

@@ -1,4 +1,5 @@
--- Each step has a line, and a run that was replayed is a log: so two runs with the same lines are the same run.
+-- Each step has a line, and a run that was replayed is a log: so two runs with the same lines are
+-- the same run.
 use Rattle.std.proofs.Common.{◌≡◌, ℕ, List, [], ◌∷◌, refl, sym, ap, subst, ◌∙◌}
 use Rattle.std.specs.Prelude.{Bool, true, false, Option, Some, None, map, option_map, option_and_then}
 use Rattle.sj_base.specs.declared.EndId.{EndId}

@@ -1,4 +1,4 @@
--- What the kept lists of the lanes tell of the joined logs, and of the world that they lead to.
+-- What the kept lists of the lanes report of the joined logs, and of the world that they lead to.
 use Rattle.std.proofs.Common.{◌≡◌, ℕ, ◌<◌, List, [], ◌∷◌, ◌++◌, sym, ap, ◌∙◌, arith, append-nil, append_assoc}
 use Rattle.std.specs.Prelude.{true, nat_lt, map}
 use Rattle.std.proofs.lemmas.Bool.Decides.{nat_tests}
@@ -14,7 +14,8 @@ use Rattle.sj_joined_lemmas.proofs.NotesLemmas.{pops_noted, FrontLike, front_lik
 use Rattle.sj_joined_lemmas.proofs.JoinedLemmas.{joined_logs_run}
 use Rattle.sj_joined_lemmas.proofs.PartiesLemmas.{waiting, parties_run, has_node}
 
--- where nothing was lost, what the lines post from p to q is what q popped, and then what the lane from p to q tells
+-- where nothing was lost, what the lines post from p to q is what q popped, and then what the lane
+-- from p to q reports
 module _ {P Q : Type 0} (play : Play P Q) (pick : ℕ → ℕ → ℕ) (blank : P) (start : WorldAt P Q) (workers : ℕ → WorkerAt P Q)
     (lost waits : ℕ → ℕ → List (FrameAt P)) (all : AllWork play pick blank start workers lost waits) (lines : List LineAt) (joined : IsJoined (λ p. (workers p).log) lines) where
   -- the lane goes on where the popped list ends
@@ -44,11 +45,12 @@ module _ {P Q : Type 0} (play : Play P Q) (pick : ℕ → ℕ → ℕ) (blank : 
       let r = parties_run play pick blank n start workers lost all lines joined in
       r.posts p q ∙ rw e
 
-  -- so what was pushed is a front of it
+  -- so what was pushed is a prefix of it
   pub pushed_front : (p q : ℕ) → p < n → IsPrefix ((workers p).pushed q) (told_frames blank (all_posts play pick p q lines start))
   pushed_front p q h = ((workers p).box q, sym (posts_pushed p q h))
 
-  -- the entries at q of frames from p are the notes of the frames that were popped, where none was lost
+  -- the entries at q of frames from p are the notes of the frames that were popped, where none was
+  -- lost
   pub popped_noted : (p q : ℕ) → q < n → lost q p ≡ [] → notes_from p (part_of q lines) ≡ map (λ f. body_note f.body) ((workers q).popped p)
   popped_noted p q h none =
       let w : Works play pick blank q (fresh (start.nodes q)) (workers q) (lost q) = all.each q h in
@@ -57,7 +59,8 @@ module _ {P Q : Type 0} (play : Play P Q) (pick : ℕ → ℕ → ℕ) (blank : 
       ap (notes_from p) (part_is q h ∙ w.log) ∙ pops_noted play pick blank q p w.steps (start.nodes q) (workers q).node w.run
       ∙ ap (map (λ f. body_note f.body)) (sym pops)
 
-  -- a frame that a worker popped and lost is the first in its lane in the world, and does there what it does at the worker's node
+  -- a frame that a worker popped and lost is the first in its lane in the world, and does there
+  -- what it does at the worker's node
   pub lost_is_front : (p q : ℕ) (f : FrameAt P) → q < n → lost q p ≡ frame_told blank f ∷ [] →
       FrontLike play pick blank (parties_run play pick blank n start workers lost all lines joined).world (λ r. (workers_below n start workers r).node)
       (left_in (workers_below n start workers) (lost_below n lost) (waiting play pick blank n start workers lost all))

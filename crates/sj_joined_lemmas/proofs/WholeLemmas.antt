@@ -1,5 +1,5 @@
--- Which world it is to which the joined logs of parties lead, where none lost a frame and no Give is on its way: it has each worker's
--- node, and in each lane what waits and then the outbox.
+-- Which world it is to which the joined logs of parties lead, where none lost a frame and no Give
+-- is on its way. It has each worker's node, and in each lane what waits and then the outbox.
 use Rattle.std.proofs.Common.{◌≡◌, ℕ, ◌<◌, ◌≤◌, Bool, true, false, List, [], ◌∷◌, ◌++◌, refl, sym, ap, ◌∙◌, arith}
 use Rattle.std.specs.Prelude.{nat_lt}
 use Rattle.std.specs.List.{AllByRecursion}
@@ -17,7 +17,7 @@ use Rattle.sj_joined_lemmas.specs.Whole.{IsLeft}
 use Rattle.sj_joined_lemmas.proofs.BeyondLemmas.{all_to_beyond, node_beyond, none_from_beyond}
 use Rattle.sj_joined_lemmas.proofs.JoinedRunLemmas.{joined_run, last_world}
 
--- lanes tell all of a frame that is no Give
+-- lanes report all of a frame that is no Give
 same_body : {P : Type 0} (blank : P) (a b : BodyAt P) → IsNoGive b → told_body blank a ≡ told_body blank b → a ≡ b
 same_body blank (Give e r) (Carry to conn number taken msg) free is = absurd (cc is)
 same_body blank (Give e r) (Fin to conn number) free is = absurd (cc is)

@@ -38,7 +38,7 @@ module _ {O I : Type 0} where
       let o = slice_get_some l.0.ins.items p within in
       (o.0, rw l.1 o.1)
 
--- a prefix, as lanes tell it
+-- a prefix, as lanes report it
 told_prefix : (xs ys : List Frame) → IsPrefix xs ys → IsPrefix (told_list xs) (told_list ys)
 told_prefix xs ys h = (told_list h.0, sym (map-append told_frame xs h.0) ∙ ap told_list h.1)
 

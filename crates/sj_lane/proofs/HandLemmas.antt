@@ -76,7 +76,7 @@ module _ (L M : List (Lanes RingOut RingIn)) (a : Each2 LanesKept L M) where
           let same : x.0 ≡ c = cc e in
           (ap frames_popped (sym same) ∙ ap (λ fs. Some (told_list fs)) x.2.popped, ap (λ (i : RingIn). i.vain) (sym same) ∙ x.2.vain)
 
--- as lanes tell it
+-- as lanes report it
 pub told_rest : (L : List (Lanes RingOut RingIn)) (p q : ℕ) (frames : List Frame) → IsRestOf (out_at L p q) (in_at L p q) frames → IsRest frames_pushed frames_popped L p q frames
 told_rest L p q frames r = record {
   out = r.producer;

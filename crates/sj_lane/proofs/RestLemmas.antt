@@ -1,4 +1,4 @@
--- What is left of a list without its last items, and what waits in a ring behind what was popped.
+-- What is left of a list without its last items, and what waits in a ring after what was popped.
 use Rattle.std.proofs.Common.{zero, suc, ◌≡◌, ℕ, ◌+◌, ◌-◌, List, [], ◌∷◌, ◌++◌, length, take, drop, refl, sym, ap, ◌∙◌, arith, append-nil, append_assoc}
 use Rattle.std.proofs.lemmas.List.{length-append, take-append-drop}
 use Rattle.std.proofs.Math.Seq.{take-append_seam}
@@ -10,7 +10,7 @@ pub without_front : {X : Type 0} (k : ℕ) (xs : List X) → IsPrefix (without_l
 without_front zero xs = ([], append-nil xs)
 without_front (suc k) xs = (drop (length xs - suc k) xs, take-append-drop (length xs - suc k) xs)
 
--- without what stands behind it, a list is what it was
+-- without what stands after it, a list is what it was
 pub without_back : {X : Type 0} (xs ys : List X) → without_last (length ys) (xs ++ ys) ≡ xs
 without_back xs [] = append-nil xs
 without_back xs (y ∷ ys) =
@@ -18,7 +18,7 @@ without_back xs (y ∷ ys) =
     let k : length (xs ++ y ∷ ys) - suc (length ys) ≡ length xs = omega (arith, n) in
     ap (λ j. take j (xs ++ y ∷ ys)) k ∙ take-append_seam xs (y ∷ ys)
 
--- a front of what was received is one of what was sent
+-- a prefix of what was received is one of what was sent
 pub fed_by : {X : Type 0} (k : ℕ) (old new known past now : List X) → new ≡ old → now ≡ past → new ++ known ≡ now → IsPrefix (without_last k old) past
 fed_by k old new known past now a b all =
     let w = without_front k old in

@@ -1,4 +1,4 @@
--- The fields that a lane in memory keeps of a frame, as lanes tell frames.
+-- The fields that a lane in memory keeps of a frame, as lanes report frames.
 use Rattle.std.specs.Prelude.{List, map}
 use Rattle.sj_lang.specs.Place.{Place, done}
 use Rattle.sj_rules.specs.Record as rules

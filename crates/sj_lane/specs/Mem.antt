@@ -1,4 +1,5 @@
--- A lane that pushes and a lane that pops in memory, tied by what was carried from the one to the other.
+-- A lane that pushes and a lane that pops in memory, tied by what was carried from the one to the
+-- other.
 use Rattle.std.specs.Prelude.{◌≡◌, List, ◌++◌, Option, Some}
 use Rattle.sj_lang.specs.Place.{Place}
 use Rattle.sj_rules.specs.Frames.{FrameAt}
@@ -8,7 +9,7 @@ use Rattle.sj_lane.specs.declared.mem.MemIn.{MemIn}
 use Rattle.sj_lane.specs.Marks.{marks_at}
 use Rattle.sj_lane.specs.Told.{told_list}
 
--- the frames that were pushed, as the lane tells them
+-- the frames that were pushed, as the lane reports them
 abbrev pub frames_pushed : MemOut → Option (List (FrameAt Place))
 frames_pushed o = Some (marks_at o.pushed.items)
 

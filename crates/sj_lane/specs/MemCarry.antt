@@ -44,7 +44,7 @@ pub record NoneWait (lanes : List (Lanes MemOut MemIn)) : Type 0 where
   pub senders : (p q : ℕ) → at_sender lanes p q ≡ []
   pub takers : (p q : ℕ) → at_taker lanes p q ≡ []
 
--- what waited at the sender is behind what waited at the taker
+-- what waited at the sender is after what waited at the taker
 pub record Passes (sender taker new_sender new_taker : List Frame) : Type 0 where
   pub gone : new_sender ≡ []
   pub behind : new_taker ≡ taker ++ sender

@@ -39,7 +39,7 @@ pub record InKept (a b : RingIn) : Type 0 where
   pub popped : popped_of b ≡ popped_of a
   pub vain : b.vain ≡ a.vain
 
--- the frames that were pushed, as the lane tells them
+-- the frames that were pushed, as the lane reports them
 abbrev pub frames_pushed : RingOut → Option (List (FrameAt Place))
 frames_pushed o = Some (told_list (sent o.producer))
 
@@ -62,7 +62,7 @@ SameIn a b = SameConsumer a.consumer b.consumer
 abbrev pub Joined : RingOut → RingIn → Type 0
 Joined o i = IsPair o.producer i.consumer
 
--- what was popped is a front of what was pushed
+-- what was popped is a prefix of what was pushed
 abbrev pub Fed : RingOut → RingIn → Type 0
 Fed o i = IsPrefix (popped_of i) (sent o.producer)
 

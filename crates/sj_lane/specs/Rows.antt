@@ -1,4 +1,5 @@
--- Lanes as rows: row p of the outgoing ones has the lane from p to each q, row q of the incoming ones has the lane from each p to q.
+-- Lanes as rows. Row p of the outgoing ones has the lane from p to each q, and row q of the
+-- incoming ones has the lane from each p to q.
 use Rattle.std.specs.Prelude.{◌≡◌, ℕ, ◌+◌, ◌<◌, ◌≤◌, List, [], ◌∷◌, ◌++◌, map, length, slice_index_or, slice_set, Some, slice_get}
 use Rattle.rtrb.specs.Ring.{sent}
 use Rattle.sj_lane.specs.declared.lane.Lanes.{Lanes}

@@ -31,7 +31,7 @@ module _ {O I : Type 0} where
   abbrev pub AllJoined : (O → I → Type 0) → List (Lanes O I) → Type 0
   AllJoined J lanes = (p q : ℕ) (o : O) (i : I) → out_at lanes p q ≡ Some o → in_at lanes p q ≡ Some i → J o i
 
--- where both lists are told, the popped one is a prefix of the pushed one
+-- where both lists are reported, the popped one is a prefix of the pushed one
 abbrev pub ToldPrefix : Option (List (FrameAt Place)) → Option (List (FrameAt Place)) → Type 0
 ToldPrefix popped pushed = (xs ys : List (FrameAt Place)) → popped ≡ Some xs → pushed ≡ Some ys → IsPrefix xs ys
 
@@ -58,7 +58,8 @@ module _ {O I : Type 0} (pushed : O → Option (List (FrameAt Place))) (popped :
     pub outs : (p q : ℕ) → SameOut (out_at before p q) (out_at after p q)
     pub ins : (p q : ℕ) → SameIn (in_at before p q) (in_at after p q)
 
-  -- the lists and counts that links keep are those of these lanes, and what was popped is a prefix of what was pushed
+  -- the lists and counts that links keep are those of these lanes, and what was popped is a prefix
+  -- of what was pushed
   pub record Kept (lanes : List (Lanes O I)) (sent got : ℕ → ℕ → List (FrameAt Place)) (vain_out vain_in : ℕ → ℕ → ℕ) : Type 0 where
     pub outs : (p q : ℕ) (o : O) → out_at lanes p q ≡ Some o → (pushed o ≡ Some (sent p q)) × (vain_o o ≡ vain_out p q)
     pub ins : (p q : ℕ) (i : I) → in_at lanes p q ≡ Some i → (popped i ≡ Some (got p q)) × (vain_i i ≡ vain_in p q)

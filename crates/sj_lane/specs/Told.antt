@@ -1,4 +1,4 @@
--- What a lane that tells has, and how a push or a pop changes it.
+-- What a lane that reports has, and how a push or a pop changes it.
 use Rattle.std.specs.Prelude.{ℕ, ◌+◌, ◌-◌, ◌^◌, ◌≤◌, min, List, [], ◌∷◌, map, Option, Some, None, Result, Ok, Err}
 use Rattle.sj_lang.specs.Place.{Place, done}
 use Rattle.sj_rules.specs.Frames.{FrameAt}
@@ -14,7 +14,7 @@ use Rattle.sj_lane.specs.declared.lane.PushRefusal.TheVariants.{Full, Fault, NoM
 use Rattle.sj_lane.specs.declared.lane.PopRefusal.{PopRefusal}
 use Rattle.sj_lane.specs.declared.lane.PopRefusal.TheVariants as pop
 
--- a frame as lanes tell it: the empty place stands for the place of an end
+-- a frame as lanes report it: the empty place stands for the place of an end
 abbrev pub told_frame : Frame → FrameAt Place
 told_frame f = frame_with (λ s. done) (frame_at f)
 

@@ -18,7 +18,7 @@ pub struct RingOut {
 pub struct RingIn {
     pub(crate) consumer: Consumer<Frame>,
     pub(crate) vain: u64,
-    /// How many frames were handed over that no pop gave. Behind them no pop gives any.
+    /// How many frames were handed over that no pop gave. After them no pop gives any.
     pub(crate) handed: usize,
 }
 
@@ -36,7 +36,8 @@ impl OutLane for RingOut {
 
     ghost same = { SameOut };
 
-    // The trait's clauses, and that only a full ring refuses, on which as many frames were pushed as it has room for.
+    // The trait's clauses, and that only a full ring refuses, on which as many frames were pushed
+    // as it has room for.
     fn push(&mut self, frame: Frame) -> Result<(), (Frame, PushRefusal)>
         ensures told { frames_pushed self.new ≡ told_more (frames_pushed self.old) (pushed_by frame result) }
         ensures vain { self.new.vain ≡ vain_push self.old.vain result }

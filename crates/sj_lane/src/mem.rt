@@ -6,7 +6,8 @@ use crate::marks::{Mark, mark_of};
 use sj_end::Frame;
 use std::collections::VecDeque;
 
-/// A lane that keeps the fields of each frame that was pushed, and the frames that weren't carried yet.
+/// A lane that keeps the fields of each frame that was pushed, and the frames that weren't carried
+/// yet.
 #[derive(Drop)]
 pub struct MemOut {
     pub(crate) pushed: Vec<Mark>,
@@ -14,7 +15,8 @@ pub struct MemOut {
     pub(crate) vain: u64,
 }
 
-/// A lane that keeps the fields of each frame that was popped, and the frames that were carried to it.
+/// A lane that keeps the fields of each frame that was popped, and the frames that were carried to
+/// it.
 #[derive(Drop)]
 pub struct MemIn {
     pub(crate) popped: Vec<Mark>,

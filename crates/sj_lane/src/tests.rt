@@ -25,8 +25,8 @@ fn fin(clock: u64, side: u8, number: u32) -> Frame {
     }
 }
 
-/// The clock of a frame, and the number of the message in it, or so many messages as it says, or the
-/// session that it opens.
+/// The clock of a frame, and the number of the message in it, or so many messages as it says, or
+/// the session that it opens.
 fn shown(frame: Frame) -> (u64, u32) {
     let number = match frame.body {
         Body::Carry { number, .. } => number,

@@ -1,4 +1,5 @@
--- What the one of two protocols that meet sends next, the other can take, and what is behind meets again.
+-- What the one of two protocols that meet sends next, the other can take, and what
+-- is after it meets again.
 use Rattle.std.proofs.lemmas.Bool.{cases_Bool}
 use Rattle.std.proofs.Common.{◌≡◌, ℕ, Bool, true, false, cond, Option, Some, None, option_map, inl, inr, refl, ap, sym, subst, ◌∙◌}
 use Rattle.sj_base.specs.declared.Msg.{Msg}
@@ -12,7 +13,7 @@ use Rattle.sj_lang.specs.Meet.{EachLabel, Meets, ArmMeets, StandsFor}
 use Rattle.sj_lang.proofs.DualLemmas.{dual_of-dual_of}
 use Rattle.sj_lang.proofs.MeetLemmas.{arm_there, at_label-dual, is_there, meets_back, meets_followed}
 
--- the other one has a place behind the message, and the two meet
+-- the other one has a place after the message, and the two meet
 abbrev pub Answers : Place → Msg → Place → Type 0
 Answers q m p' = (q' : Place) × (after_place q Into m ≡ Some q') × Meets p' q'
 
@@ -128,16 +129,17 @@ if-dual : (b : Bool) (o : Option Place) → cond b (option_map dual_of o) None �
 if-dual true o = refl
 if-dual false o = refl
 
--- the dual's place behind a message that goes the other way
+-- the dual's place after a message that goes the other way
 pub after_place-dual : (p : Place) (w : Way) (m : Msg) → after_place (dual_of p) (other_way w) m ≡ option_map dual_of (after_place p w m)
 after_place-dual p w m =
     ap (λ (b : Bool). cond b (after_message (dual_of p) m) None) (goes-dual p w) ∙ ap (λ (o : Option Place). cond (goes p w) o None) (after_message-dual p m) ∙ if-dual (goes p w) (after_message p m)
 
--- what an end can take, one for which it stands can take, and behind it the one stands for the other
+-- what an end can take, one for which it stands can take, and after it the one stands for the other
 pub take_standing : (t s t' : Place) (m : Msg) → StandsFor t s → after_place t Into m ≡ Some t' → (s' : Place) × (after_place s Into m ≡ Some s') × StandsFor t' s'
 take_standing t s t' m h e = send_answered (dual_of t) s (dual_of t') m h (after_place-dual t Into m ∙ ap (option_map dual_of) e)
 
--- what one at the wanted place can send, an end that stands for it can send, and behind it the one stands for the other
+-- what one at the wanted place can send, an end that stands for it can send, and after it the
+-- one stands for the other
 pub send_standing : (t s s' : Place) (m : Msg) → StandsFor t s → after_place s Out m ≡ Some s' → (t' : Place) × (after_place t Out m ≡ Some t') × StandsFor t' s'
 send_standing t s s' m h e = let r : Answers (dual_of t) m s' = send_answered s (dual_of t) s' m (meets_back (dual_of t) s h) e in (
   dual_of r.0,

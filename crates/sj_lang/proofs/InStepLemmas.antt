@@ -63,7 +63,8 @@ get_same [] i d e h = absurd (omega arith)
 get_same (a ∷ arms) zero d e h = refl
 get_same (a ∷ arms) (suc i) d e h = get_same arms i d e (omega arith)
 
--- where an arm is known, or is the first of its label, its place is the one at the label, or there is such a label before
+-- where an arm is known, or is the first of its label, its place is the one at the label, or
+-- there is such a label before
 pub place_known : {P : Type 0} (arms labels : List Arm) (v : Choices) (known i p l : ℕ) (d : Arm) → choices_of arms ≡ v → AlikeTo known arms labels → (get_or labels i d).label ≡ l
     → p < arm_count v → (i < known → Some p ≡ Some i) → (known ≤ i → at_label l v ≡ Some (arm_rest p v)) → ((k : ℕ) → k < i → (get_or labels k d).label ≡ l → P)
     → (at_label l v ≡ Some (get_or arms p d).rest) ⊎ P

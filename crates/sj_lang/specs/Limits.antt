@@ -7,7 +7,7 @@ use Rattle.sj_lang.specs.ItemCount.{item_count}
 abbrev pub file_limit : ℕ
 file_limit = 65536
 
--- bytes of a log, and of a file with a log behind it
+-- bytes of a log, and of a file with a log after it
 abbrev pub source_limit : ℕ
 source_limit = 16777216
 

@@ -1,4 +1,5 @@
--- When two protocols meet: what the one sends, the other can take. Their choices may differ in width.
+-- When two protocols meet: what the one sends, the other can take. Their
+-- choices may differ in width.
 use Rattle.std.specs.Prelude.{◌≡◌, ℕ, ◌==◌, true, false, ◌⊎◌, Some, is_some, ⊤}
 use Rattle.sj_lang.specs.declared.proto.Way.{Way}
 use Rattle.sj_lang.specs.declared.proto.Way.TheVariants.{Out, Into}
@@ -11,12 +12,14 @@ abbrev pub selecting : Way → Choices → Choices → Choices
 selecting Out arms others = arms
 selecting Into arms others = others
 
--- each label of the one choice is a label of the other, and M holds of the label and of that other arm
+-- each label of the one choice is a label of the other, and M holds of the
+-- label and of that other arm
 abbrev pub EachLabel : (ℕ → Place → Type 0) → Choices → Choices → Type 0
 EachLabel M arms others = (l : ℕ) → is_some (at_label l arms) ≡ true → (q : Place) × (at_label l others ≡ Some q) × M l q
 
 abbrev mutual
-  -- the items meet in pairs, and the one protocol is as long as the other; what a selection can choose, a branching offers
+  -- the items meet in pairs, and the one protocol is as long as the other; what a selection can
+  -- choose, a branching offers
   pub Meets : Place → Place → Type 0
   Meets done done = ⊤
   Meets (message w k rest) (message v l rest') = (v ≡ other_way w) × (k ≡ l) × Meets rest rest'
@@ -29,6 +32,7 @@ abbrev mutual
   ArmMeets no_choice l q = ⊥
   ArmMeets (arm m p arms) l q = (((l == m) ≡ true) × Meets p q) ⊎ (((l == m) ≡ false) × ArmMeets arms l q)
 
--- an end at the one place can stand where one at the other is wanted: what meets the one's dual is the other
+-- an end at the one place can stand where one at the other is wanted: what meets
+-- the one's dual is the other
 abbrev pub StandsFor : Place → Place → Type 0
 StandsFor t s = Meets (dual_of t) s

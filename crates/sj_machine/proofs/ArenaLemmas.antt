@@ -34,7 +34,7 @@ op_below_more a b (Close x) l h = tt
 op_below_more a b (Request x p q) l h = tt
 op_below_more a b (Accept x p q) l h = tt
 
--- ---- blocks that are kept where nodes are put behind
+-- ---- blocks that are kept where nodes are appended
 
 get_or_before : (xs : List Code) (y : Code) (j : ℕ) (d : Code) → j < length xs → get_or (xs ++ y ∷ []) j d ≡ get_or xs j d
 get_or_before [] y j d h = absurd (omega arith)

@@ -1,4 +1,4 @@
--- What putting nodes behind others keeps.
+-- What appending nodes to others keeps.
 use Rattle.std.proofs.Common.{◌≡◌, ℕ, zero, suc, ◌+◌, ◌-◌, ◌<◌, ◌≤◌, drop, take, map, List, [], ◌∷◌, ◌++◌, length, get_or, Option, Some, refl, ap, sym, subst, ◌∙◌, arith, length-append, append_assoc, append-nil}
 use Rattle.sj_lang.specs.Code.{Code, DeedAt, no_stmt, stmt_then, at, branch}
 use Rattle.sj_lang.specs.CodeView.{branches_of, code_of, stmt_of}
@@ -68,7 +68,7 @@ pushed_code old new n i e ei =
     ∙ ap (λ (t : List Code). get_or t (length old) no_stmt) (codes_from_append [] old (n ∷ []))
     ∙ get_or_end (codes_of old) (node_code (codes_of old) n) (length old) no_stmt (sym (length-codes_of old))
 
--- ---- the block from an index on: its statement, and the block behind it
+-- ---- the block from an index on: its statement, and the block after it
 
 code_suc : (stmts : List Stmt) (j : ℕ) (s : Stmt) → j < length stmts → s ≡ get_or stmts j s → code_of (drop j stmts) ≡ stmt_then (stmt_of s) (code_of (drop (suc j) stmts))
 code_suc [] j s h e = absurd (omega arith)

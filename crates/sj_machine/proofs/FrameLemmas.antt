@@ -25,7 +25,7 @@ pub todo_entered : (codes : List Code) (b : Option ℕ) (rest : List Thing) → 
 todo_entered codes None rest = refl
 todo_entered codes (Some i) rest = staged_fresh (code_in codes (Some i)) rest
 
--- the statement of a frame, and what is behind it
+-- the statement of a frame, and what is after it
 pub todo_top : (codes : List Code) (fs : List StackFrame) (f : StackFrame) (n : Node) → code_in codes (Some f.at) ≡ node_code codes n
     → todo_from codes (fs ++ f ∷ []) [] ≡ thing_at f.stage (deed_in codes n.op) ∷ block (code_in codes n.next) (todo_from codes fs [])
 todo_top codes fs f n e = todo_append codes fs (f ∷ []) [] ∙ ap (λ (c : Code). staged f.stage c (todo_from codes fs [])) e

@@ -12,7 +12,7 @@ ends_suc file p n [] i c lt e = absurd (omega arith)
 ends_suc file p n (x ∷ cs) zero c lt e = ap (λ (t : Connect). end_of_party file p (connect_of t).first (record { sess = n; side = 0 }) ++ end_of_party file p (connect_of t).second (record { sess = n; side = 1 }) ++ ends_from file p (n + 1) (map connect_of cs)) (sym e)
 ends_suc file p n (x ∷ cs) (suc i) c lt e = ends_suc file p n cs i c (omega arith) e
 
--- the ends of one more connection, and of those behind it
+-- the ends of one more connection, and of those after it
 pub ends_next : (file : FileAt) (p : ℕ) (cs : List Connect) (i : ℕ) (c : Connect) (old mid new all : List (ℕ × EndId)) → i < length cs → c ≡ get_or cs i c
     → mid ≡ old ++ end_of_party file p (connect_of c).first (record { sess = i; side = 0 })
     → new ≡ mid ++ end_of_party file p (connect_of c).second (record { sess = i; side = 1 })

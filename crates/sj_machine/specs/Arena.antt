@@ -34,11 +34,11 @@ deed_in codes (Close x) = close x
 deed_in codes (Request x p b) = request x p b
 deed_in codes (Accept x p b) = accept x p b
 
--- a node's statement, and the block behind it
+-- a node's statement, and the block after it
 abbrev pub node_code : List Code → Node → Code
 node_code codes n = stmt_then (at n.line (deed_in codes n.op)) (code_in codes n.next)
 
--- the blocks that begin with each of these nodes, behind those that there are
+-- the blocks that begin with each of these nodes, after those that there are
 abbrev pub codes_from : List Code → List Node → List Code
 codes_from codes [] = codes
 codes_from codes (n ∷ ns) = codes_from (codes ++ node_code codes n ∷ []) ns
@@ -73,7 +73,7 @@ abbrev pub IsBackward : ℕ → List Node → Type 0
 IsBackward k [] = ⊤
 IsBackward k (n ∷ ns) = IsBelow k n.next × IsOpBelow k n.op × IsBackward (suc k) ns
 
--- nodes that others were put behind
+-- nodes that others were appended to
 pub record Grown (old new : List Node) : Type 0 where
   pub back : IsBackward 0 new
   pub more : List Node

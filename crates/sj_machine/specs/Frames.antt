@@ -19,7 +19,7 @@ abbrev pub entry_frames : Option ℕ → List StackFrame
 entry_frames None = []
 entry_frames (Some i) = record { at = i; stage = Fresh } ∷ []
 
--- the frames that take the place of a statement's, where the block behind it is next
+-- the frames that take the place of a statement's, where the block after it is next
 abbrev pub frames_after : StackFrame → Option ℕ → After → List StackFrame
 frames_after f next (Past block) = entry_frames next ++ entry_frames block
 frames_after f next (Stays stage block) = record { at = f.at; stage = stage } ∷ entry_frames block
@@ -30,7 +30,7 @@ thing_at (Turns n) (outwhile x e body) = turns x n body
 thing_at (Passing more) (relay x y body) = passing x y more body
 thing_at stage deed = statement deed
 
--- the first statement of the block at that stage, and the others behind it
+-- the first statement of the block at that stage, and the others after it
 abbrev pub staged : Stage → Code → List Thing → List Thing
 staged stage no_stmt rest = rest
 staged stage (stmt_then (at line deed) code) rest = thing_at stage deed ∷ block code rest
@@ -44,7 +44,7 @@ todo_from codes (f ∷ fs) rest = todo_from codes fs (staged f.stage (code_in co
 abbrev pub todo_in : List Node → List StackFrame → List Thing
 todo_in nodes frames = todo_from (codes_of nodes) frames []
 
--- what is to do after a step of the statement, where that is behind it
+-- what is to do after a step of the statement, where that is after it
 abbrev pub todo_after : List Code → DeedAt → After → List Thing → List Thing
 todo_after codes deed (Past inside) rest = block (code_in codes inside) rest
 todo_after codes deed (Stays stage inside) rest = block (code_in codes inside) (thing_at stage deed ∷ rest)

@@ -13,7 +13,8 @@ use Rattle.sj_machine.specs.Frames.{Fits, todo_in}
 use Rattle.sj_machine.specs.Names.{AllBindBelow, AreNamedOnce}
 use Rattle.sj_machine.specs.Table.{vars_in}
 
--- nodes name only nodes before them, there is room for each step's frames and for each name that is bound, and parties have numbers of 16 bits
+-- nodes name only nodes before them, there is room for each step's frames and for each name that is
+-- bound, and parties have numbers of 16 bits
 pub record IsSound (nodes : List Node) (frames : List StackFrame) (room names : ℕ) (ends : List (ℕ × EndId)) (ends_room : ℕ) (peers : List ℕ) : Type 0 where
   pub back : IsBackward 0 nodes
   pub fits : Fits (length nodes) 0 frames
@@ -27,7 +28,8 @@ pub record IsSound (nodes : List Node) (frames : List StackFrame) (room names : 
 abbrev pub last_step : ℕ
 last_step = 2 ^ 32 - 1
 
--- the party that nodes, frames and their room, variables, ends, steps and the names of parties stand for
+-- the party that nodes, frames and their room, variables, ends, steps and the
+-- names of parties stand for
 abbrev pub program_at : List Node × (List StackFrame × ℕ) × List (Option Value) × List (ℕ × EndId) × ℕ × List ℕ → Program
 program_at m = record { todo = todo_in m.0 m.1.0; vars = vars_in m.2; ends = m.3; steps = m.4; peers = m.5 }
 

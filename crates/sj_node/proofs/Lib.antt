@@ -6,6 +6,7 @@ pub mod DelegateLemmas
 pub mod DueLemmas
 pub mod FilePlayLemmas
 pub mod GiveLemmas
+pub mod IdleLemmas
 pub mod LetsLemmas
 pub mod NodeLemmas
 pub mod OfferLemmas
@@ -16,6 +17,7 @@ pub mod PlainFrameLemmas
 pub mod PlayLemmas
 pub mod ReadingLemmas
 pub mod RowLemmas
+pub mod SeatLemmas
 pub mod SignalLemmas
 pub mod SlotLemmas
 pub mod StartingLemmas

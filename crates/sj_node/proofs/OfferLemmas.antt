@@ -41,7 +41,7 @@ offers_kept lists q d more lt is items =
     ] in
     λ i p. at p i
 
--- an empty list that is put behind the others
+-- an empty list that is put after the others
 pub offers_grown : (lists : List (Vec ℕ Global)) (d : Vec ℕ Global) → d.items ≡ [] → offers_in (lists ++ d ∷ []) ≡ offers_in lists
 offers_grown lists d items = λ i p. go lists p i
   where
@@ -74,7 +74,7 @@ was_ok (Err e) no_err h = cc
 
 -- ---- the smallest number
 
--- of the first two numbers and those behind them
+-- of the first two numbers and those after them
 pub least_next : (a m : ℕ) (ms : List ℕ) → smallest_from (min a m) ms ≡ smallest_from a (m ∷ ms)
 least_next a m [] = refl
 least_next a m (x ∷ xs) = let rest = smallest_from x xs in omega arith

@@ -59,7 +59,8 @@ pub same_goes : (g : Program) (o : Option Msg) → goes_on g o ≡ file.program_
 same_goes g None = same_step g (want_of g)
 same_goes g (Some m) = refl
 
--- a node plays as the file's protocols say, but takes no session message that names what isn't there
+-- a node plays as the file's protocols say, but takes no session message that names what isn't
+-- there
 pub plays_file : (ps : List ProtocolAt) (connects parties : ℕ) → play_with (body_named ps) connects parties ≡ asking (names_known connects parties) (file.play_for parties ps)
 plays_file ps connects parties = λ i. record {
   next = after_place;

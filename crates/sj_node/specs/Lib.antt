@@ -15,6 +15,7 @@ pub mod Passing
 pub mod Play
 pub mod Reading
 pub mod Rows
+pub mod Seats
 pub mod Sending
 pub mod Slots
 pub mod Starting

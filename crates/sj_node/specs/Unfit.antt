@@ -18,8 +18,9 @@ use Rattle.sj_node.specs.declared.node.Node.{Node}
 use Rattle.sj_node.specs.Node.{is_below_count, main_of, next_head, node_at, offers_of, wants_of}
 use Rattle.sj_node.specs.Play.{names_known}
 
--- the next message isn't what the statement can take; it names no session, side or party of the file; it names an end that this
--- party holds, closes or expects; the step sends on an end with 1,000,000 messages
+-- the next message isn't what the statement can take, or it names no session, side or party of the
+-- file. Or it names an end that this party holds, closes or expects; or the step sends on an end
+-- with 1,000,000 messages
 pub data Misfit : Type 0 where
   unwanted : Misfit
   unknown : Misfit
@@ -70,8 +71,8 @@ abbrev pub is_offer_held : Node → Option ℕ → Bool
 is_offer_held n None = true
 is_offer_held n (Some sess) = is_held ((node_at n).main (offered_end sess))
 
--- the ends that the step names or accepts are held, and their places let it: what it sends, the next message where the statement
--- can take it, or that it closes
+-- the ends that the step names or accepts are held, and their places let it. They let what it
+-- sends, the next message where the statement can take it, or that it closes
 abbrev pub Agrees : Node → Want → Type 0
 Agrees n wants.Local = ⊤
 Agrees n (wants.Send e m) = lets Out m ((node_at n).main e) ≡ true

@@ -31,7 +31,7 @@ impl Node {
 
 /// The first cause that applies: ended, at 10,000 steps, an awaited end, 100 handovers, no message,
 /// 100 requests, no offer.
-fn stop_of(
+pub(crate) fn stop_of(
     mains: &[Option<Main>],
     requests: u8,
     offers: &[Vec<u32>],

@@ -20,6 +20,7 @@ mod outs;
 mod readers;
 mod records;
 mod refusal;
+mod seats;
 mod sends;
 mod signals;
 mod slots;
@@ -29,9 +30,11 @@ mod takes;
 mod threads;
 
 pub use laws::{
-    acts_are_of_the_file, known_heads_are_taken_by_the_file, misfits_have_no_act,
-    nodes_keep_their_play, nodes_play_the_file, nodes_that_act_agree, only_misfits_have_no_act,
+    acts_are_of_the_file, calls_are_rows, calls_halt_as_the_rules_say, heads_are_untaken,
+    known_heads_are_taken_by_the_file, misfits_have_no_act, nodes_keep_their_play,
+    nodes_play_the_file, nodes_that_act_agree, only_misfits_have_no_act,
 };
 pub use node::Node;
 pub use refusal::{DeliverRefusal, Halt};
+pub use seats::Call;
 pub use threads::node_crosses;

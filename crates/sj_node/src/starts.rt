@@ -1,14 +1,18 @@
 //! A party's node before any event.
 ghost use Rattle.std.specs.Prelude.{◌≡◌, ◌<◌, ◌≤◌, ℕ, IfOk, length, map};
+ghost use Rattle.sj_acceptance.specs.Accepted.{IsAccepted};
 ghost use Rattle.sj_check.specs.Held.{file_in};
 ghost use Rattle.sj_lang.specs.FileAt.{ConnectAt, FileAt, body_named};
 ghost use Rattle.sj_lang.specs.FileView.{decl_of, file_of, party_of as party_seen};
 ghost use Rattle.sj_lang.specs.Limits.{limits};
 ghost use Rattle.sj_node.specs.Reading.{table_of};
-ghost use Rattle.sj_node.specs.Starting.{Begins, slot_at_places, slots_from};
+ghost use Rattle.sj_machine.specs.Sound.{program_at};
+ghost use Rattle.sj_node.specs.Node.{wants_of};
+ghost use Rattle.sj_node.specs.Starting.{Begins, BeginsWith, idle_parties, nothing_to_do, slot_at_places, slots_from};
 ghost use Rattle.sj_rules.specs.Start.{declared_on, held_by};
 ghost use Rattle.sj_rules.specs.Limits.{clock_end};
 ghost use Rattle.sj_semantics.specs.Ends.{other_side};
+ghost use Rattle.sj_semantics.specs.declared.Want.TheVariants as wants;
 ghost use Rattle.sj_table.specs.Spots.{start_in};
 
 use crate::Node;
@@ -16,7 +20,7 @@ use crate::slots::Main;
 use sj_base::{EndId, NoMemory};
 use sj_check::Accepted;
 use sj_end::Held;
-use sj_lang::{EndDecl, File, Party};
+use sj_lang::{EndDecl, File, Names, Party};
 use sj_machine::{Machine, party_of_name};
 use sj_table::Table;
 use std::alloc::Global;
@@ -112,23 +116,90 @@ impl Node {
         ensures begins { IfOk result (λ n. Begins (file_of (file_in accepted.now)) party clock n) }
         ensures table { IfOk result (λ n. table_of n ≡ table) }
     {
-        let file = accepted.file();
-        let machine = Machine::start(alloc, file, party)?;
-        let mains = first_slots(alloc, file, &table, party)?;
-        Ok(Node {
-            alloc,
-            party,
-            parties: file.parties.len() as u16,
-            connects: file.connects.len(),
-            clock,
-            machine,
-            table,
-            requests: 0,
-            offers: Vec::new(alloc),
-            mains,
-            olds: Vec::new(alloc),
-            outs: Vec::new(alloc),
-            log: Vec::new(alloc),
-        })
+        let machine = Machine::start(alloc, accepted.file(), party)?;
+        begun(alloc, accepted, table, party, clock, machine)
     }
+
+    /// The party at the start of the file, with nothing to do of its own: it acts by calls alone.
+    /// The table is one of the file's protocols, as in `with_table`.
+    pub fn seated(
+        alloc: Global,
+        accepted: &Accepted,
+        table: Table,
+        party: u16,
+    ) -> Result<Node, NoMemory>
+        requires party { party < length (file_of (file_in accepted.now)).parties }
+        requires starts { (p : ℕ) → start_in table p
+            ≡ body_named (file_of (file_in accepted.now)).protocols p }
+        ensures begins { IfOk result (λ n. BeginsWith (file_of (file_in accepted.now)) party 0
+            (nothing_to_do (file_of (file_in accepted.now))) n) }
+        ensures ended { IfOk result (λ n. wants_of n ≡ wants.Ended) }
+        ensures table { IfOk result (λ n. table_of n ≡ table) }
+    {
+        let machine = idle_machine(alloc, accepted.file(), party)?;
+        begun(alloc, accepted, table, party, 0, machine)
+    }
+}
+
+/// The party at the start of the file, at that clock, with that program.
+fn begun(
+    alloc: Global,
+    accepted: &Accepted,
+    table: Table,
+    party: u16,
+    clock: u64,
+    machine: Machine,
+) -> Result<Node, NoMemory>
+    requires starts { (p : ℕ) → start_in table p
+        ≡ body_named (file_of (file_in accepted.now)).protocols p }
+    ensures begins { IfOk result (λ n. BeginsWith (file_of (file_in accepted.now)) party clock
+        (program_at machine) n) }
+    ensures table { IfOk result (λ n. table_of n ≡ table) }
+{
+    let file = accepted.file();
+    let mains = first_slots(alloc, file, &table, party)?;
+    Ok(Node {
+        alloc,
+        party,
+        parties: file.parties.len() as u16,
+        connects: file.connects.len(),
+        clock,
+        machine,
+        table,
+        requests: 0,
+        offers: Vec::new(alloc),
+        mains,
+        olds: Vec::new(alloc),
+        outs: Vec::new(alloc),
+        log: Vec::new(alloc),
+    })
+}
+
+/// The party with nothing to do: that of a file in which none has anything to do.
+fn idle_machine(alloc: Global, file: &File, party: u16) -> Result<Machine, NoMemory>
+    requires accepted { IsAccepted (file_of file.now) }
+    requires party { party < length (file_of file.now).parties }
+    ensures { IfOk result (λ m. program_at m ≡ nothing_to_do (file_of file.now)) }
+{
+    let idle = File {
+        names: Names::new(alloc),
+        protocols: Vec::new(alloc),
+        parties: idle_parties(alloc, &file.parties)?,
+        connects: Vec::new(alloc),
+    };
+    Machine::start(alloc, &idle, party)
+}
+
+/// The same parties, with nothing to do.
+fn idle_parties(alloc: Global, parties: &[Party]) -> Result<Vec<Party>, NoMemory>
+    ensures { IfOk result (λ out. map party_seen out.items ≡ idle_parties (map party_seen parties.now)) }
+{
+    let mut out = Vec::new(alloc);
+    for party in parties {
+        let line = party.line;
+        let name = party.name;
+        let body = Vec::new(alloc);
+        out.push(Party { line, name, body })?;
+    }
+    Ok(out)
 }

@@ -1,4 +1,5 @@
--- A party's act that opens and accepts no session: the world with Opens stays kept, with the plain act.
+-- A party's act that opens and accepts no session: the world with Opens stays kept, with the plain
+-- act.
 use Rattle.std.proofs.Common.{◌≡◌, ℕ, ◌+◌, ◌<◌, ◌≤◌, List, ◌∷◌, ◌++◌, refl, sym, ap, subst, ◌∙◌, arith}
 use Rattle.std.specs.Prelude.{Bool, true, false, ◌==◌, if◌then◌else◌, slice_get, Contains, Option, Some, None, option_map}
 use Rattle.std.proofs.lemmas.Bool.{eqb-true, eq-eqb}

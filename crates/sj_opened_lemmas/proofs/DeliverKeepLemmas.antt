@@ -108,7 +108,8 @@ module _ {P Q : Type 0} (IsOver : P → Type 0) (binds : Q → EndId → Bool) (
       by None i l = absurd (cc l)
       by (Some done) i l = (done, arrived_comes play.blank play.parties pick (w.nodes p) q f done i plain_frame, sym (cc l))
 
-  -- the front frame of a lane, where it is no Open and within the limits, fits a row, and the world stays kept
+  -- the front frame of a lane, where it is no Open and within the limits, fits a row, and the world
+  -- stays kept
   pub old_front_fits : (pick : ℕ → ℕ → ℕ) → IsPick pick → CountsHold plain → (q p : ℕ) (f : FrameAt P) (rest : List (FrameAt P)) → w.lanes q p ≡ f ∷ rest → is_open f.body ≡ false → is_proper play.parties f ≡ true →
       (v : WorldAt P Q) × (happens play pick w p (Deliver q) ≡ Some v) × IsOpenKept IsOver binds play.blank v plain
   old_front_fits pick picks counts q p f rest front plain_frame proper = by (happens play pick w p (Deliver q)) refl agree

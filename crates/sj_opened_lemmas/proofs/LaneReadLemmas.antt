@@ -1,4 +1,5 @@
--- What a lane holds of Opens, once a frame that is none was popped, and once frames that are none were posted.
+-- What a lane holds of Opens, once a frame that is none was popped, and once frames that are none
+-- were posted.
 use Rattle.std.proofs.Common.{◌≡◌, ℕ, List, [], ◌∷◌, ◌++◌, refl, sym, ap, ◌∙◌, append-nil}
 use Rattle.std.specs.Prelude.{Bool, true, false, not, ◌&&◌, ◌||◌, ◌==◌, if◌then◌else◌, map, filter, Option, Some, None}
 use Rattle.std.proofs.lemmas.Bool.{eqb-true}
@@ -90,7 +91,7 @@ module _ {P : Type 0} where
   posts_without to clock (m ∷ ms) u =
       ap without_opens (first_frame to clock m ms) ∙ more_without (to == m.party) clock m (frames_for to clock ms) u.0 (posts_without to clock ms u.1) ∙ sym (first_frame to clock m ms)
 
-  -- and behind others
+  -- and after others
   pub behind_opens : (e : EndId) (fs gs : List (FrameAt P)) → opens e (bodies gs) ≡ false → opens e (bodies (fs ++ gs)) ≡ opens e (bodies fs)
   behind_opens e [] gs u = u
   behind_opens e (f ∷ fs) gs u = ap (λ b. is_open_of e f.body || b) (behind_opens e fs gs u)

@@ -1,4 +1,4 @@
--- Opens lead in a lane, once others were posted behind.
+-- Opens lead in a lane, once others were posted after them.
 use Rattle.std.proofs.Common.{◌≡◌, ℕ, List, [], ◌∷◌, ◌++◌, sym, subst, ◌∙◌}
 use Rattle.std.specs.Prelude.{Bool, true, false, ◌&&◌, ◌==◌, if◌then◌else◌}
 use Rattle.sj_base.specs.declared.EndId.{EndId}
@@ -13,7 +13,7 @@ use Rattle.sj_opened_lemmas.proofs.PostedLemmas.{AreUnopened}
 use Rattle.sj_opened_lemmas.proofs.LaneReadLemmas.{first_frame, posts_open, behind_opens}
 
 module _ {P : Type 0} where
-  -- with others behind that hold none of its Opens
+  -- with others after them that hold none of its Opens
   pub lead_append : (fs gs : List (FrameAt P)) → OpensLead (bodies fs) → ((e : EndId) → opens e (bodies gs) ≡ false) → OpensLead (bodies gs) → OpensLead (bodies (fs ++ gs))
   lead_append [] gs a none b = b
   lead_append (f ∷ fs) gs a none b = (behind_opens (subject_of f.body) fs gs (none (subject_of f.body)) ∙ a.0, lead_append fs gs a.1 none b)

@@ -1,4 +1,5 @@
--- A party's rules do the same at a node and at the node that is read for it: the one with Held ends beside its records.
+-- A party's rules do the same at a node and at the node that is read for it: the one with Held ends
+-- beside its records.
 use Rattle.std.proofs.Common.{◌≡◌, ℕ, ◌+◌, List, [], ◌∷◌, ◌++◌, refl, sym, ap, subst, ◌∙◌}
 use Rattle.std.specs.Prelude.{⊤, Bool, true, false, ◌&&◌, ◌==◌, nat_lt, is_none, if◌then◌else◌, Option, Some, None, option_map}
 use Rattle.std.proofs.lemmas.Bool.{eqb-true}
@@ -29,7 +30,8 @@ abbrev pub read_main : {P : Type 0} → Option (HeldAt P) → Option (MainAt P) 
 read_main None r = r
 read_main (Some h) r = Some (Held h)
 
--- m is n with the late ends Held, where n has no record, and with more sessions offered behind its own
+-- m is n with the late ends Held, where n has no record, and with more sessions offered after its
+-- own
 pub record IsReadAs {P Q : Type 0} (late : EndId → Option (HeldAt P)) (more : ℕ → List ℕ) (m n : NodeAt P Q) : Type 0 where
   pub mains : (e : EndId) → m.main e ≡ read_main (late e) (n.main e)
   pub olds : (e : EndId) → m.old e ≡ n.old e

@@ -1,4 +1,5 @@
--- An Open is in a lane of its opener alone, and once there; what is offered is in no Open, and Held.
+-- An Open is in a lane of its opener alone, and once there; what is offered is in no Open, and
+-- Held.
 use Rattle.std.proofs.Common.{◌≡◌, ℕ, suc, ◌<◌, ◌≤◌, List, [], ◌∷◌, ◌++◌, length, refl, sym, ap, subst, ◌∙◌, arith, inl, inr}
 use Rattle.std.specs.Prelude.{Bool, true, false, ◌||◌, Contains, Some}
 use Rattle.std.specs.List.{filter}

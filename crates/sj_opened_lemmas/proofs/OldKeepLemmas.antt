@@ -44,7 +44,8 @@ held_level level s p h z n = refl
 held_level pace s p h z n = grind arith
 
 module _ {P Q : Type 0} (IsOver : P → Type 0) (binds : Q → EndId → Bool) (blank : P) (w : WorldAt P Q) (plain : PlainAt P Q) (kept : IsOpenKept IsOver binds blank w plain) where
-  -- the front frame of a lane is about no end in an Open: that stands in the same lane, and before the frame
+  -- the front frame of a lane is about no end in an Open: that stands in the same lane, and before
+  -- the frame
   pub front_apart : (q p : ℕ) (f : FrameAt P) (rest : List (FrameAt P)) → w.lanes q p ≡ f ∷ rest → (reading blank w).lanes q p ≡ f ∷ without_opens rest → is_open f.body ≡ false → (subject_of f.body).side < 2 →
       is_opening w p (subject_of f.body) ≡ false
   front_apart q p f rest front ufront plain_frame low = by (is_opening w p id) refl

@@ -25,7 +25,7 @@ use Rattle.sj_opened_lemmas.proofs.OldKeepLemmas.{kept_like}
 pub contains_first : (n : ℕ) (ns : List ℕ) → Contains (n ∷ ns) n
 contains_first n ns = (0, omega arith, refl)
 
--- it is in the list, behind others
+-- it is in the list, after others
 pub contains_behind : (xs ys : List ℕ) (n : ℕ) → Contains (xs ++ n ∷ ys) n
 contains_behind xs ys n = Contains-append_right xs (n ∷ ys) n (contains_first n ys)
 
@@ -65,7 +65,7 @@ module _ {P Q : Type 0} (IsOver : P → Type 0) (binds : Q → EndId → Bool) (
       here_held IsOver (reading play.blank w) plain.sides kept.kept.sessions (offered_end sess) (omega arith) p (new_held (offered_end sess) play.blank (opener_of sess)) main in
       here.shows.olds p
 
-  -- no other Open of it is behind
+  -- no other Open of it comes after
   once : opens (offered_end sess) (bodies rest) ≡ false
   once = (subst (λ l. OpensLead (bodies l)) front (kept.lead q p)).0
 

@@ -1,5 +1,5 @@
--- The three new rules on the reading: an Open that is delivered leaves it as it is, clocks aside; a request makes two Held
--- ends there; an accept gives a place.
+-- The three new rules on the reading. An Open that is delivered leaves it as it is, clocks aside; a
+-- request makes two Held ends there; an accept gives a place.
 use Rattle.std.proofs.Common.{◌≡◌, ℕ, List, [], ◌∷◌, ◌++◌, refl, sym, ap, subst, ◌∙◌, append-nil, append_assoc}
 use Rattle.std.specs.Prelude.{Bool, true, false, not, ◌&&◌, ◌||◌, ◌==◌, if◌then◌else◌, map, Option, Some}
 use Rattle.std.proofs.lemmas.Bool.{eqb-true, eq-eqb}
@@ -167,7 +167,7 @@ module _ {P Q : Type 0} (blank : P) (play : Play P Q) (w : WorldAt P Q) (p : ℕ
       at true false = append-nil (w.lanes x y)
       at false b = refl
 
-  -- an Open behind others
+  -- an Open after others
   pub opens_last : (e : EndId) (bs : List (FrameAt P)) → opens e (bodies (bs ++ record { clock = clock; body = Open sess } ∷ [])) ≡ (opens e (bodies bs) || is_same_end e (offered_end sess))
   opens_last e [] = or_false (is_same_end e (offered_end sess))
   opens_last e (b ∷ bs) = ap (λ z. is_open_of e b.body || z) (opens_last e bs) ∙ or_or (is_open_of e b.body) (opens e (bodies bs)) (is_same_end e (offered_end sess))
@@ -219,7 +219,7 @@ module _ {P Q : Type 0} (blank : P) (play : Play P Q) (w : WorldAt P Q) (p : ℕ
       by true = append_without (w.lanes x y) (record { clock = clock; body = Open sess } ∷ []) ∙ append-nil (without_opens (w.lanes x y))
       by false = refl
 
-  -- the session is offered behind the others
+  -- the session is offered after the others
   pub requested_offers : (k r : ℕ) → ((reading blank world_requested).nodes k).offers r ≡ (if (r == p) && (k == to) then ((reading blank w).nodes k).offers r ++ sess ∷ [] else ((reading blank w).nodes k).offers r)
   requested_offers k r =
       ap (λ l. (world_requested.nodes k).offers r ++ opened_in (bodies l)) (requested_lane r k) ∙ by (k == p) refl ((r == p) && (k == to))

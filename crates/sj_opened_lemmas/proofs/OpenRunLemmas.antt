@@ -28,7 +28,8 @@ open_is (Ack of conn) o = absurd (cc o)
 open_is (Give e resend) o = absurd (cc o)
 
 module _ {P Q : Type 0} (IsOver : P → Type 0) (binds : Q → EndId → Bool) (play : Play P Q) (w : WorldAt P Q) (plain : PlainAt P Q) (kept : IsOpenKept IsOver binds play.blank w plain) where
-  -- the front frame of each lane fits a row where it is within the limits, an Open too, and the world stays kept
+  -- the front frame of each lane fits a row where it is within the limits, an Open too, and the
+  -- world stays kept
   pub each_front_fits : (pick : ℕ → ℕ → ℕ) → IsPick pick → CountsHold plain → (q p : ℕ) (f : FrameAt P) (rest : List (FrameAt P)) → w.lanes q p ≡ f ∷ rest → is_proper play.parties f ≡ true →
       (v : WorldAt P Q) × (happens play pick w p (Deliver q) ≡ Some v) × IsOpenKept IsOver binds play.blank v plain
   each_front_fits pick picks counts q p f rest front proper = by (is_open f.body) refl

@@ -1,4 +1,5 @@
--- Each end lies once, in an Open too, where it does so in the world read as if each Open had been delivered.
+-- Each end lies once, in an Open too, where it does so in the world read as if each Open had been
+-- delivered.
 use Rattle.std.proofs.Common.{◌≡◌, ℕ, ◌≤◌, List, [], ◌∷◌, length, refl, sym, ap, subst, ◌∙◌, inl, inr}
 use Rattle.std.specs.Prelude.{Bool, true, false, not, ◌⊎◌, if◌then◌else◌, Contains, Option, Some, None}
 use Rattle.sj_base.specs.declared.EndId.{EndId}

@@ -82,7 +82,7 @@ contains_without {P} b (f ∷ fs) c = by (is_open f.body) refl (λ k. contains_w
     by true o rest = later (rest (rw o at c))
     by false o rest = either rest (Contains-append_cases (f.body ∷ []) (bodies (without_opens fs)) b (rw o at c))
 
--- what is carried to an end in an Open stands behind it
+-- what is carried to an end in an Open stands after it
 pub carries_behind : {P : Type 0} → (e : EndId) (bs : List (BodyAt P)) → OpensLead bs → opens e bs ≡ true → carries_under e 0 (behind_open e bs) ≡ carries_under e 0 bs
 carries_behind e [] lead j = absurd (cc j)
 carries_behind {P} e (b ∷ bs) lead j = by (is_open_of e b) refl (λ z. carries_behind e bs lead.1 z)

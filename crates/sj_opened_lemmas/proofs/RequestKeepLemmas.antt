@@ -92,7 +92,7 @@ both_false : (a b : Bool) → (a || b) ≡ false → (a ≡ false) × (b ≡ fal
 both_false true b e = absurd (cc e)
 both_false false b e = (refl, e)
 
--- an Open that is posted behind frames that aren't about its end
+-- an Open that is posted after frames that aren't about its end
 pub lead_open : {P : Type 0} → (clock sess : ℕ) (fs : List (FrameAt P)) → NoneAbout (offered_end sess) (bodies (without_opens fs)) → opens (offered_end sess) (bodies fs) ≡ false → OpensLead (bodies fs) →
     OpensLead (bodies (fs ++ record { clock = clock; body = Open sess } ∷ []))
 lead_open clock sess [] none shut lead = (refl, tt)
@@ -133,7 +133,7 @@ only_one : (n m i : ℕ) → i < 1 → get_or (n ∷ []) i m ≡ m → n ≡ m
 only_one n m zero j k = k
 only_one n m (suc i) j k = absurd (omega (arith, j))
 
--- a larger number behind numbers that rise
+-- a larger number after numbers that rise
 pub rising_last : (ns : List ℕ) (n : ℕ) → AreRising ns → ((m : ℕ) → Contains ns m → m < n) → AreRising (ns ++ n ∷ [])
 rising_last [] n r below = (λ m c. absurd (omega (arith, c.1)), tt)
 rising_last (x ∷ xs) n r below = (λ m c. by m (Contains-append_cases xs (n ∷ []) m c), rising_last xs n r.1 (λ m c. below m (contains_later x xs m c)))

@@ -1,5 +1,5 @@
--- What a frame that comes leaves of a node as it was: no session is opened or accepted, a Held end stays Held, and no
--- record is made of an end that had none.
+-- What a frame that comes leaves of a node as it was. No session is opened or accepted, a Held end
+-- stays Held, and no record is made of an end that had none.
 use Rattle.std.proofs.Common.{◌≡◌, ℕ, [], ◌∷◌, ◌++◌, refl, sym, ap, ◌∙◌}
 use Rattle.std.specs.Prelude.{⊤, Bool, true, false, ◌&&◌, ◌==◌, is_none, if◌then◌else◌, Option, Some, None, option_map}
 use Rattle.sj_base.specs.declared.EndId.{EndId}

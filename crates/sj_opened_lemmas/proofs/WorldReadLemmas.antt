@@ -26,7 +26,7 @@ late_held blank false e = None
 abbrev pub late_at : {P Q : Type 0} → (blank : P) → WorldAt P Q → ℕ → EndId → Option (HeldAt P)
 late_at blank w p e = late_held blank (is_opening w p e) e
 
--- and those sessions are offered behind the others
+-- and those sessions are offered after the others
 abbrev pub more_at : {P Q : Type 0} → WorldAt P Q → ℕ → ℕ → List ℕ
 more_at w p q = opened_in (bodies (w.lanes q p))
 

@@ -1,2 +1,3 @@
-//! Laws of the core on worlds with sessions that are opened at run time: the world read as if each Open had been delivered.
+//! Laws of the core on worlds with sessions that are opened at run time: the world read as if each
+//! Open had been delivered.
 #![tactic(auto)]

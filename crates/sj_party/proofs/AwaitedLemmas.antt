@@ -52,12 +52,12 @@ module _ (r : Reading) (names : Names) (no_int : is_next (codes "int") (next_of 
       (λ what s rest e. awaited_same n ds s (next_tests _ (codes "int") what s rest no_int e) (next_tests _ (codes "boolean") what s rest no_boolean e) (next_tests _ (codes "String") what s rest no_string e))
       (refuses_stuck file_layer limits (but (codes "session")) n (standing r names) (fixed (codes "session") ∷ name ∷ ds) f refl (fixed_rule (codes "session") n (name ∷ ds) refl) h)
 
--- behind `session`
+-- after `session`
 pub session_stops : (a m : At) (e : ParseRefusal) → Takes a (codes "session") m → ((n : ℕ) → Stops (λ ds. name ∷ ds) n m e) → (n : ℕ) → Stops (λ ds. awaited ∷ ds) n a e
 session_stops a m e t st n =
     stops_map (λ ds. name ∷ ds) (λ ds. awaited ∷ ds) n n m a e (λ f h ds. stuck_cons file_layer limits n n a m (codes "session") (awaited ∷ ds) (name ∷ ds) f t refl (h ds)) (st n)
 
--- behind what is awaited
+-- after what is awaited
 pub awaited_stops_behind : (x : Awaited) (a m : At) (e : ParseRefusal) → ReadsParts a m (awaited_part x ∷ []) → ((n : ℕ) → Stops (λ ds. semicolon ∷ ds) n m e) → (n : ℕ) → Stops (λ ds. awaited ∷ semicolon ∷ ds) n a e
 awaited_stops_behind x a m refusals.NoMemory r st n = tt
 awaited_stops_behind (awaits.Value k) a m (refusals.At f) r st n = λ ds. parts_behind (awaited_part (awaits.Value k) ∷ []) a m (semicolon ∷ ds) f r (λ j. st j ds) n

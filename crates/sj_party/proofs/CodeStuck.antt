@@ -31,7 +31,7 @@ use Rattle.sj_party.proofs.RunLemmas.{code_leads, open_block}
 use Rattle.sj_party.proofs.PartLemmas.{leads_stuck, some_arms_lead}
 use Rattle.sj_proto.proofs.FrontLemmas.{spelling_at}
 
--- behind statements
+-- after statements
 code_stuck : (o : ℕ) (c : Code) (a m : At) (ds : List Due) (f : Fault) → ReadsCode o a m c → ((k : ℕ) → Stuck file_layer limits k m (stmts o ∷ ds) f) → (n : ℕ) → Stuck file_layer limits n a (stmts o ∷ ds) f
 code_stuck o c a m ds f r st n = leads_stuck a m r.pieces (stmts o ∷ ds) (stmts o ∷ ds) f r.begins (λ k. code_leads limits (spelling_at m) (r.are (spelling_at m) (agrees_itself m)) k ds) st n
 
@@ -53,7 +53,7 @@ block_stops o r names f h n = λ ds. refuses_stuck file_layer limits (but_first 
         by_tests false true ex ey e = rw ey (over_rule (nat_le 32 o) n (stmts (suc o) ∷ fixed (codes "}") ∷ ds) r e)
         by_tests false false ex ey e = rw (ey, ex) e
 
--- in a block, behind its brace, and behind its statements
+-- in a block, after its brace, and after its statements
 module _ (o k : ℕ) (a m : At) (deeper : k ≡ suc o) (deep : o < 32) (brace : Takes a (codes "{") m) where
   opened_stuck : (ds : List Due) (f : Fault) → ((n : ℕ) → Stuck file_layer limits n m (stmts k ∷ fixed (codes "}") ∷ ds) f) → (n : ℕ) → Stuck file_layer limits n a (block o ∷ ds) f
   opened_stuck ds f st n =

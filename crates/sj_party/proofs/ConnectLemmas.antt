@@ -39,7 +39,7 @@ no_name_to : is_name (codes "to") ≡ false
 unfolding is_reserved
 no_name_to = refl
 
--- what is due for an end, and what is due behind the first word of a connection
+-- what is due for an end, and what is due after the first word of a connection
 abbrev pub end_due : List Due → List Due
 end_due ds = name ∷ name ∷ name ∷ ds
 
@@ -75,7 +75,7 @@ end_run names d n ds is =
     (Runs-cons file_layer limits n n n (name ∷ name ∷ ds) (name ∷ ds) ds (names.word d.name) _ (name_step limits names.word d.name n (name ∷ ds) is.name)
     (Runs-cons file_layer limits n n n (name ∷ ds) ds ds (names.word d.protocol) [] (name_step limits names.word d.protocol n ds is.protocol) (Runs-none file_layer limits n ds)))
 
--- behind an end
+-- after an end
 pub end_stuck : (a b : At) (d : DeclAt) (n : ℕ) (ds : List Due) (f : Fault) → GivesEnd a b d → Stuck file_layer limits n b ds f → Stuck file_layer limits n a (end_due ds) f
 end_stuck a b d n ds f gives st =
     let names = spelling_at b in
@@ -93,12 +93,12 @@ module _ (r q : Reading) (names : Names) (k : ℕ) (room : k < 64) (first : Take
   pub connect_stuck : (n : ℕ) (ds : List Due) (f : Fault) → Stuck file_layer limits n (standing q names) (behind_connect k ds) f → Stuck file_layer limits n (standing r names) (connects k ∷ ds) f
   connect_stuck n ds f st = stuck_cons file_layer limits n n (standing r names) (standing q names) (codes "connect") (connects k ∷ ds) (behind_connect k ds) f took_connect (rw (lt-leb 64 k room) refl) st
 
-  -- behind the first end too
+  -- after the first end too
   module _ (t : Reading) (new : Names) (d : DeclAt) (given : GivesEnd (standing q names) (standing t new) d) where
     pub first_stuck : (n : ℕ) (ds : List Due) (f : Fault) → Stuck file_layer limits n (standing t new) (fixed (codes "to") ∷ end_due (behind_first k ds)) f → Stuck file_layer limits n (standing r names) (connects k ∷ ds) f
     first_stuck n ds f st = connect_stuck n ds f (end_stuck (standing q names) (standing t new) d n (fixed (codes "to") ∷ end_due (behind_first k ds)) f given st)
 
-    -- and behind the `to`
+    -- and after the `to`
     module _ (u : Reading) (between : TakesText t (codes "to") u) where
       took_to : Takes (standing t new) (codes "to") (standing u new)
       took_to = exits.plain t u new (codes "to") no_name_to refl between
@@ -137,7 +137,7 @@ connects_more a m b xs x g h =
     (λ names h. subst (All (IsConnect limits names)) (sym (map_push connect_of xs x)) (All-push (IsConnect limits names) (map connect_of xs) (connect_of x) h.0 h.1))
     (Lines-append a m b (λ names. connects_pieces names.word (map connect_of xs)) (λ names. connect_pieces names.word (connect_of x)) (λ names. All (IsConnect limits names) (map connect_of xs)) (λ names. IsConnect limits names (connect_of x)) g h)
 
--- behind connections
+-- after connections
 pub connects_stuck : (a b : At) (cs : List ConnectAt) (n : ℕ) (ds : List Due) (f : Fault) → length cs ≤ 64 → GivesConnects a b cs → ((m : ℕ) → Stuck file_layer limits m b (connects (length cs) ∷ ds) f) → Stuck file_layer limits n a (connects 0 ∷ ds) f
 connects_stuck a b cs n ds f few gives st =
     let names = spelling_at b in

@@ -57,7 +57,7 @@ module _ (L : Limits) (names : Spelling) where
             (blanks_lexes (codes "begin") (dotted names.word p) before g (text ++ rest) (read end rest) blank (body_has names.word L p h.given (before ++ g) rest free));
       }
 
-  -- behind the word that begins the line
+  -- after the word that begins the line
   line_lines : (n : ℕ) (p : Place) → IsNamed L names.word n → IsBody L names.word p
       → HasLines Any ((32 ∷ names.word n) ++ (codes " { " ++ (body_text names.word p ++ codes " }\n"))) (plain (names.word n) ∷ braced (all_plain (body_pieces names.word p)))
   line_lines n p named h =

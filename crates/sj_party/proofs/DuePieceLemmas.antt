@@ -1,4 +1,5 @@
--- Pieces that are what is due in a file, within wide limits, and the lines that the grammar has for them.
+-- Pieces that are what is due in a file, within wide limits,
+-- and the lines that the grammar has for them.
 use Rattle.std.proofs.Common.{◌≡◌, ℕ, true, List, [], ◌∷◌, ◌++◌, All, refl, sym, ◌∙◌, ◌⊎◌, inl, inr}
 use Rattle.std.specs.Prelude.{codes}
 use Rattle.std.proofs.lemmas.List.Elements.{All-nil}

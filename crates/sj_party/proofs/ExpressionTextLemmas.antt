@@ -27,7 +27,7 @@ plain_append (s ∷ a) b = ap (λ ps. plain s ∷ ps) (plain_append a b)
 pub word_lines : (w : List ℕ) → is_word w ≡ true → HasLines NoWordByte w (plain w ∷ [])
 word_lines w h = one_line NoWordByte w w Word (λ rest free. word_next w rest h free)
 
--- the same behind a space
+-- the same after a space
 pub spaced_lines : (Behind : List ℕ → Type 0) (t : List ℕ) (ps : List Piece) → HasLines Behind t ps → HasLines Behind (32 ∷ t) ps
 spaced_lines Behind t ps h = lines_append Any Behind (codes " ") t [] ps (blank_lines Any (codes " ") refl) h (λ rest free. tt)
 
@@ -43,7 +43,7 @@ boolean_lines : (b : Bool) → HasLines NoWordByte (boolean_text b) (plain (bool
 boolean_lines true = word_lines (codes "true") refl
 boolean_lines false = word_lines (codes "false") refl
 
--- an operator between spaces, and what stands behind it
+-- an operator between spaces, and what stands after it
 sign_lines : (op : Op) (t : List ℕ) (ps : List Piece) → HasLines NoWordByte t ps → HasLines NoWordByte (spaced_op op ++ t) (plain (op_piece op) ∷ ps)
 sign_lines Add t ps h = lines_append Any NoWordByte (codes " +") (32 ∷ t) (plain (codes "+") ∷ []) ps (one_line Any (codes " +") (codes "+") Symbol (λ rest free. refl)) (spaced_lines NoWordByte t ps h) (λ rest free. tt)
 sign_lines Sub t ps h = lines_append Any NoWordByte (codes " -") (32 ∷ t) (plain (codes "-") ∷ []) ps (one_line Any (codes " -") (codes "-") Symbol (λ rest free. refl)) (spaced_lines NoWordByte t ps h) (λ rest free. tt)

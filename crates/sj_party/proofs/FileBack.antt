@@ -1,4 +1,4 @@
--- What is due behind a token of a file, and the token, are what was due before it.
+-- What is due after a token of a file, and the token, are what was due before it.
 use Rattle.std.proofs.Common.{◌≡◌, ℕ, suc, List, [], ◌∷◌, ◌++◌, Option, Some, None, refl, ap, sym, subst, ◌∙◌, append_assoc}
 use Rattle.std.specs.Prelude.{codes, map, option_map}
 use Rattle.std.specs.Str.{bytes_eq}

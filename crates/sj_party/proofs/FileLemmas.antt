@@ -29,7 +29,7 @@ use Rattle.sj_party.proofs.ConnectLemmas.{GivesConnects, connects_stuck}
 use Rattle.sj_party.proofs.PartyLemmas.{ReadsParties, parties_stuck}
 use Rattle.sj_party.proofs.Faultless.{no_fault}
 
--- protocols, parties and connections, and nothing behind them
+-- protocols, parties and connections, and nothing after them
 pub file_is : (bytes : List ℕ) (a b m d : At) (ps : List ProtocolAt) (qs : List PartyAt) (cs : List ConnectAt) → a ≡ start bytes [] [] → AreProtocols a ps b → ReadsParties b m qs → length qs ≤ 16 → GivesConnects m d cs → length cs ≤ 64
     → next_of d.text.ahead ≡ at_end → IsFile bytes (record { words = d.words; texts = d.texts; protocols = ps; parties = qs; connects = cs })
 file_is bytes a b m d ps qs cs from front middle few back few_connects whole =
@@ -77,7 +77,7 @@ other_passes at_end k h = tt
 other_passes (bad rule rest) k h = absurd h
 other_passes (token what s rest) k h = rw h refl
 
--- behind the protocols
+-- after the protocols
 pub behind_protocols : (a b : At) (ps : List ProtocolAt) (n : ℕ) (ds : List Due) (f : Fault) → AreProtocols a ps b → ((m : ℕ) → Stuck file_layer limits m b ds f) → Stuck file_layer limits n a (protocols 0 ∷ ds) f
 behind_protocols a b ps n ds f front st =
     let names = spelling_at b in
@@ -123,7 +123,7 @@ module _ (bytes : List ℕ) (a b : At) (ps : List ProtocolAt) (from : a ≡ star
     at_connects e h = on_fault_map (λ f. (n : ℕ) (ds : List Due) → Stuck file_layer limits n m (connects 0 ∷ ds) f) (IsFault bytes) e (λ f st. behind_middle f (λ n. st n [])) h
 
     module _ (d : At) (ws : List Connect) (back : GivesConnects m d (map connect_of ws)) (few_connects : length ws ≤ 64) (ends_too : Passes file_layer (connects (length ws)) (next_of d.text.ahead)) where
-      -- a fault behind all of them
+      -- a fault after all of them
       pub at_last : (f : Fault) → (next_of d.text.ahead ≡ at_end → ⊥) → Refuses (λ s. Some P1) d.text f → IsFault bytes f
       at_last f some r =
           let cs = map connect_of ws in

@@ -26,7 +26,7 @@ use Rattle.sj_proto.proofs.LineLemmas.{off_lines}
 use Rattle.sj_party.specs.Leads.{LeadsTo}
 use Rattle.sj_proto.proofs.RuleLemmas.{over_rule as over_first}
 
--- behind pieces that are what is due
+-- after pieces that are what is due
 pub leads_stuck : (n : ℕ) (a b : At) (ps : List Piece) (ds es : List Due) (f : Fault) → BeginsOnLines a ps b → LeadsTo limits n ds ps es → ((m : ℕ) → Stuck file_layer limits m b es f) → Stuck file_layer limits n a ds f
 leads_stuck n a b ps ds es f begins leads st = stuck_block file_layer limits n leads.count a b (spellings ps) ds es f (off_lines ps a b begins) (record { steps = leads.steps }) (st leads.count)
 

@@ -98,7 +98,7 @@ module _ (L : Limits) where
         (parties_leads (files.one_party {l = l} is c more) 0 n (connects 0 ∷ []) (omega (arith, few))))
         (λ k. after_parties others cs k room all refl (λ i. refl))
 
-  -- and behind it nothing need be due
+  -- and after it nothing need be due
   pub file_completes : (f : FileAt) (ps : List Piece) (n : ℕ) → IsSpelled L f ps → Completes L n file_due ps
   file_completes f ps n is =
       let names = names_of f in

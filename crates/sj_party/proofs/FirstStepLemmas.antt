@@ -64,7 +64,7 @@ module _ (L : Limits) where
   unfolding statement_follow
   accept_step o n ds = refl
 
-  -- and the brace behind the last one
+  -- and the brace after the last one
   pub close_block : (o n : ℕ) (ds : List Due) → step file_layer L n (stmts o ∷ fixed (codes "}") ∷ ds) (codes "}") ≡ goes n ds
   unfolding statement_follow
   close_block o n ds = refl

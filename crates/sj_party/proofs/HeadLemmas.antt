@@ -1,4 +1,4 @@
--- The heads of statements, behind their keyword.
+-- The heads of statements, after their keyword.
 use Rattle.std.proofs.Common.{ℕ, List, [], ◌∷◌, ◌++◌, refl}
 use Rattle.std.specs.Prelude.{codes}
 use Rattle.sj_lang.specs.declared.party.Scalar.{Scalar}
@@ -18,11 +18,11 @@ use Rattle.sj_party.proofs.PieceTextLemmas.{HasLines, lines_append, blank_lines,
 use Rattle.sj_party.proofs.ExpressionTextLemmas.{word_lines, spaced_lines}
 use Rattle.sj_party.proofs.LineLemmas.{spaces_blank, expression_has, name_has}
 
--- a semicolon behind
+-- a text with a semicolon after it
 pub ended : (t : List ℕ) (ps : List Piece) → HasLines NoWordByte t ps → HasLines Any (t ++ codes ";") (ps ++ plain (codes ";") ∷ [])
 ended t ps h = lines_append NoWordByte Any t (codes ";") ps (plain (codes ";") ∷ []) h (one_line Any (codes ";") (codes ";") Symbol (λ rest free. refl)) (λ rest free. refl)
 
--- a reserved word behind a space
+-- a reserved word after a space
 pub reserved_lines : (w : List ℕ) → HasLines NoWordByte w (plain w ∷ []) → HasLines NoWordByte (32 ∷ w) (plain w ∷ [])
 reserved_lines w h = spaced_lines NoWordByte w (plain w ∷ []) h
 

@@ -18,7 +18,8 @@ use Rattle.sj_party.proofs.RespellingLemmas.{spelt_again, adds_alike}
 use Rattle.sj_party.proofs.PieceTextLemmas.{AreBlank, LexesOnLines, Reaches, HasLines, joins, blanks_append, first_line, line_here}
 use Rattle.sj_party.proofs.ExpressionTextLemmas.{word_lines, spaced_lines, expression_lines}
 
--- from here up to the rest stand the pieces of a value that is the same but for lines, and adds what the given pieces add
+-- from here up to the rest stand the pieces of a value that is the same but for lines,
+-- and adds what the given pieces add
 pub record Relined {X : Type 0} (un : X → X) (Is : X → List Piece → Type 0) (x : X) (a : List Piece) (r : Reading) (rest : List ℕ) : Type 0 where
   pub value : X
   pub same : un value ≡ un x
@@ -36,7 +37,7 @@ pub spaces_blank : (n : ℕ) → AreBlank (spaces n)
 spaces_blank zero = refl
 spaces_blank (suc n) = spaces_blank n
 
--- where a reader stands behind some pieces
+-- where a reader stands after some pieces
 abbrev pub behind : {r : Reading} {ps : List Piece} (rest : List ℕ) → Reaches r ps rest → Reading
 behind rest h = read h.before (h.blanks ++ rest)
 
@@ -44,7 +45,7 @@ behind rest h = read h.before (h.blanks ++ rest)
 pub plain_then : (Behind : List ℕ → Type 0) (r : Reading) (ps qs : List Piece) (t rest : List ℕ) (h : Reaches r ps (t ++ rest)) → HasLines Behind t qs → Behind rest → Reaches r (ps ++ qs) rest
 plain_then Behind r ps qs t rest h k free = joins r ps qs t rest h (k h.before h.blanks rest h.are free)
 
--- blanks behind
+-- blanks after the pieces
 pub blanks_then : (r : Reading) (ps : List Piece) (u rest : List ℕ) → AreBlank u → Reaches r ps (u ++ rest) → Reaches r ps rest
 blanks_then r ps u rest all h = record {
   before = h.before;
@@ -53,7 +54,7 @@ blanks_then r ps u rest all h = record {
   lexes = subst (λ (x : List ℕ). LexesOnLines r ps (read h.before x)) (sym (append_assoc h.blanks u rest)) h.lexes;
 }
 
--- the keyword of a statement, behind what it is set in by
+-- the keyword of a statement, after blanks and its indentation
 pub keyword : (w : List ℕ) (n : ℕ) (before g rest : List ℕ) → is_word w ≡ true → AreBlank g → NoWordByte rest
     → (l : ℕ) × Reaches (read before (g ++ (spaces n ++ (w ++ rest)))) (first_on l w ∷ []) rest
 keyword w n before g rest named blank free =
@@ -90,6 +91,6 @@ module _ (L : Limits) (names : Spelling) where
       subst (λ (qs : Pieces). AddAlike qs (spellings (all_plain (expression_pieces names whole t)))) (sym (spellings-plain ps))
       (subst (λ (qs : Pieces). AddAlike ps qs) (sym (spellings-plain (expression_pieces names whole t))) (adds_alike L names h.spelt))
 
-  -- a name behind a space
+  -- a name after a space
   pub name_has : (n : ℕ) → IsNamed L names.word n → HasLines NoWordByte (32 ∷ names.word n) (plain (names.word n) ∷ [])
   name_has n h = spaced_lines NoWordByte (names.word n) (plain (names.word n) ∷ []) (word_lines (names.word n) (name_is_word (names.word n) h.name))

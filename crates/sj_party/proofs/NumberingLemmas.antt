@@ -1,4 +1,5 @@
--- A protocol that can be written is one of the grammar within wide limits, once each label has its first number.
+-- A protocol that can be written is one of the grammar within wide limits,
+-- once each label has its first number.
 use Rattle.std.proofs.Common.{◌≡◌, ◌≢◌, ℕ, suc, ◌<◌, ◌≤◌, List, ◌∷◌, ◌++◌, drop, refl, ap, sym, subst}
 use Rattle.std.specs.Prelude.{IsTrue, codes}
 use Rattle.sj_lang.specs.Place.{Place, Carried, Choices, done, message, choice, repeat, int, boolean, text, session, no_choice, arm}

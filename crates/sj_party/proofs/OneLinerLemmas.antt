@@ -22,7 +22,7 @@ use Rattle.sj_party.proofs.HeadLemmas.{ended, pair_tail, given_tail, pair_has, g
 use Rattle.sj_party.proofs.BlockLineLemmas.{StmtAgain, on_one_line}
 
 module _ (L : Limits) (names : Spelling) where
-  -- what heads are, behind their keyword
+  -- what heads are, after their keyword
   pub named_is : (w : List ℕ) (x : ℕ) → named_text names (w ++ codes " ") x ≡ w ++ (32 ∷ names.word x)
   unfolding named_text
   named_is w x = append_assoc w (codes " ") (names.word x)

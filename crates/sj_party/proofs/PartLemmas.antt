@@ -1,4 +1,4 @@
--- Parts of statements as what is due: where a text is stuck behind them, and in them.
+-- Parts of statements as what is due: where a text is stuck after them, and in them.
 use Rattle.std.proofs.Common.{◌≡◌, ℕ, true, false, List, [], ◌∷◌, ◌++◌, Result, IfErr, refl, sym, subst}
 use Rattle.std.specs.Prelude.{codes, IsErrAnd}
 use Rattle.std.specs.Str.{bytes_eq}
@@ -33,7 +33,7 @@ use Rattle.sj_party.proofs.TakenPieceLemmas.{leads_one, leads_on}
 use Rattle.sj_party.proofs.RunLemmas.{scalar_step, name_leads, block_leads, arms_leads}
 use Rattle.sj_proto.proofs.FrontLemmas.{spelling_at}
 
--- behind pieces that are what is due
+-- after pieces that are what is due
 pub leads_stuck : (a m : At) (ps : List Piece) (ds es : List Due) (f : Fault) → BeginsOnLines a ps m → ((n : ℕ) → LeadsTo limits n ds ps es) → ((k : ℕ) → Stuck file_layer limits k m es f)
     → (n : ℕ) → Stuck file_layer limits n a ds f
 leads_stuck a m ps ds es f begins leads st n =
@@ -63,7 +63,7 @@ part_behind (some_arms o arms) a b ds f r st n =
     leads_stuck a b r.1.pieces (due_of (some_arms o arms) ds) (branches o ∷ ds) f r.1.begins (λ k. some_arms_lead (spelling_at b) o arms r.1.pieces r.0 (r.1.are (spelling_at b) (agrees_itself b)) k ds)
     (λ k. skip file_layer limits k b (branches o) ds f refl r.2 (st k)) n
 
--- behind several
+-- after several
 pub parts_behind : (ps : List Part) (a b : At) (ds : List Due) (f : Fault) → ReadsParts a b ps → ((k : ℕ) → Stuck file_layer limits k b ds f) → (n : ℕ) → Stuck file_layer limits n a (dues_of ps ds) f
 parts_behind [] a b ds f r st n = subst (λ (x : At). Stuck file_layer limits n x ds f) (sym r) (st n)
 parts_behind (p ∷ ps) a b ds f r st n = part_behind p a r.0 (dues_of ps ds) f r.1 (parts_behind ps r.0 b ds f r.2 st) n
@@ -72,7 +72,7 @@ pub parts_on : (ps qs : List Part) (a m b : At) → ReadsParts a m ps → ReadsP
 parts_on [] qs a m b r q = subst (λ (x : At). ReadsParts x b qs) (sym r) q
 parts_on (p ∷ ps) qs a m b r q = (r.0, r.1, parts_on ps qs r.0 m b r.2 q)
 
--- a refusal behind parts that were read, whatever is due later
+-- a refusal after parts that were read, whatever is due later
 pub stops_behind : {X : Type 0} (r : Result X ParseRefusal) (e : ParseRefusal) (ps : List Part) (a m : At) (due rest : List Due → List Due) → IsErrAnd r (λ d. d ≡ e) → ReadsParts a m ps → ((n : ℕ) → Stops due n m e)
     → IfErr r (λ d. (n : ℕ) → Stops (λ ds. dues_of ps (due (rest ds))) n a d)
 stops_behind r e ps a m due rest same reads st = err_as r e (λ d. (n : ℕ) → Stops (λ ds. dues_of ps (due (rest ds))) n a d) same (by_refusal e st)

@@ -39,7 +39,7 @@ no_name_party : is_name (codes "party") ≡ false
 unfolding is_reserved
 no_name_party = refl
 
--- what is due behind a party's brace, and behind its first word
+-- what is due after a party's brace, and after its first word
 abbrev pub behind_code : ℕ → List Due → List Due
 behind_code k ds = fixed (codes "}") ∷ parties (suc k) ∷ ds
 
@@ -60,12 +60,12 @@ module _ (r q : Reading) (names : Names) (k : ℕ) (room : k < 16) (first : Take
   pub party_stuck : (n : ℕ) (ds : List Due) (f : Fault) → Stuck file_layer limits n (standing q names) (behind_party k ds) f → Stuck file_layer limits n (standing r names) (parties k ∷ ds) f
   party_stuck n ds f st = stuck_cons file_layer limits n n (standing r names) (standing q names) (codes "party") (parties k ∷ ds) (behind_party k ds) f took_party (rw (lt-leb 16 k room) refl) st
 
-  -- behind the name too
+  -- after the name too
   module _ (t : Reading) (new : Names) (l : ℕ) (named : Gives (standing q names) (standing t new) (λ word. word l ∷ []) (λ word. IsNamed limits word l)) where
     pub named_stuck : (n : ℕ) (ds : List Due) (f : Fault) → Stuck file_layer limits n (standing t new) (fixed (codes "{") ∷ stmts 0 ∷ behind_code k ds) f → Stuck file_layer limits n (standing r names) (parties k ∷ ds) f
     named_stuck n ds f st = party_stuck n ds f (name_stuck (standing q names) (standing t new) l n (fixed (codes "{") ∷ stmts 0 ∷ behind_code k ds) f named st)
 
-    -- and behind the brace
+    -- and after the brace
     module _ (u : Reading) (opened : TakesText t (codes "{") u) where
       took_brace : Takes (standing t new) (codes "{") (standing u new)
       took_brace = exits.plain t u new (codes "{") refl refl opened
@@ -125,7 +125,7 @@ parties_more a m b xs x g h = record {
       subst (λ (qs : List PartyAt). AreParties limits s qs (g.pieces ++ h.pieces)) (sym (map_push party_of xs x)) (parties_join (g.are s earlier) (h.are s agrees));
 }
 
--- behind parties
+-- after parties
 pub parties_stuck : (a b : At) (qs : List PartyAt) (n : ℕ) (ds : List Due) (f : Fault) → length qs ≤ 16 → ReadsParties a b qs → ((m : ℕ) → Stuck file_layer limits m b (parties (length qs) ∷ ds) f) → Stuck file_layer limits n a (parties 0 ∷ ds) f
 parties_stuck a b qs n ds f few reads st =
     let count : length qs ≡ 0 + length qs = omega arith in

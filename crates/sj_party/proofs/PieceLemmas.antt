@@ -16,7 +16,7 @@ use Rattle.sj_expr.proofs.ReadLemmas.{agrees_back}
 use Rattle.sj_party.specs.Read.{ReadsOnLines}
 use Rattle.sj_party.specs.Parts.{Part, a_name, an_expression, a_piece, a_value, an_end, a_block, some_arms, parts_of, first_word, AreSome, ReadsPart, ReadsParts}
 
--- one behind another
+-- one after another
 pub lines_on : (a m b : At) (F G H : Spelling → List Piece → Type 0) → ((names : Spelling) (ps qs : List Piece) → F names ps → G names qs → H names (ps ++ qs)) → ReadsOnLines a m F → ReadsOnLines m b G → ReadsOnLines a b H
 lines_on a m b F G H f r q = record {
   pieces = r.pieces ++ q.pieces;

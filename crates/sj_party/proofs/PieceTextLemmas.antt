@@ -38,7 +38,7 @@ pub record Reaches (r : Reading) (ps : List Piece) (rest : List ℕ) : Type 0 wh
   pub are : AreBlank blanks
   pub lexes : LexesOnLines r ps (read before (blanks ++ rest))
 
--- the text is these pieces, where such a text stands behind it
+-- the text is these pieces, where such a text follows it
 abbrev pub HasLines : (List ℕ → Type 0) → List ℕ → List Piece → Type 0
 HasLines Behind t ps = (before g rest : List ℕ) → AreBlank g → Behind rest → Reaches (read before (g ++ (t ++ rest))) ps rest
 

@@ -46,7 +46,7 @@ module _ (L : Limits) where
         let named : is_name (names.word m) ≡ true = grind (arith, nat_tests) in
         rw (named, le-ltb L.name (length (names.word m)) is.short) refl
 
-    -- the brace behind the last arm
+    -- the brace after the last arm
     close_arms : (o n : ℕ) (ds : List Due) → step file_layer L n (branches o ∷ fixed (codes "}") ∷ ds) (codes "}") ≡ goes n ds
     close_arms o n ds = refl
 

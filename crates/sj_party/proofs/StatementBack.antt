@@ -1,4 +1,4 @@
--- What is due behind a token of a statement, and the token, are what was due before it.
+-- What is due after a token of a statement, and the token, are what was due before it.
 use Rattle.std.proofs.Common.{◌≡◌, ℕ, suc, Bool, true, false, List, [], ◌∷◌, ◌++◌, Option, Some, None, refl, sym, subst, ◌⊎◌, inl, inr}
 use Rattle.std.specs.Prelude.{codes, if◌then◌else◌, IsTrue}
 use Rattle.std.specs.Str.{bytes_eq}

@@ -1,4 +1,4 @@
--- The statement that a first word and what is due behind it make.
+-- The statement that a first word and what is due after it make.
 use Rattle.std.proofs.Common.{◌≡◌, ℕ, List, [], ◌∷◌, ◌++◌, ap, sym, ◌∙◌, append_assoc, inl, inr}
 use Rattle.std.specs.Prelude.{codes}
 use Rattle.sj_lang.specs.Code.{StmtAt, stmt_then, at, send, delegate, take_value, take_end, outbranch, inbranch, outwhile, inwhile, relay, if_else, let_be, close, request, accept, branch}
@@ -18,7 +18,7 @@ module _ (names : Spelling) where
   abbrev pub Makes : ℕ → List ℕ → Pieces → Type 0
   Makes o w x = (t : StmtAt) × (a : List Piece) × Widely (λ M. IsStatement M names o t a) × (spellings a ≡ w ∷ x)
 
-  -- with the lines of what is due behind the word
+  -- with the lines of what is due after the word
   made : (o : ℕ) (w : List ℕ) (ds : List Due) (x : Pieces) (h : AllSpelled names ds x) (t : StmtAt) → Widely (λ M. IsStatement M names o t (first_on 0 w ∷ lines_of names ds x h)) → Makes o w x
   made o w ds x h t is = (t, first_on 0 w ∷ lines_of names ds x h, is, ap (λ (ps : Pieces). w ∷ ps) (lines_spelled names ds x h))
 
@@ -97,7 +97,7 @@ module _ (names : Spelling) where
         made o (codes "accept") (name ∷ name ∷ fixed (codes "from") ∷ name ∷ semicolon ∷ []) x h (at 0 (accept h.2.0 h.3.2.0 h.3.3.3.2.0))
         (widely_three _ _ _ _ (λ M a b c. grammar.of_accept a b c) h.2.1 h.3.2.1 h.3.3.3.2.1)
 
-  -- and the statements behind it
+  -- and the statements after it
   pub statement_then : (o : ℕ) (s w : List ℕ) (front : List Due) (ts : Pieces) → s ≡ w → ((x : Pieces) → AllSpelled names front x → Makes o w x) → AllSpelled names (front ++ stmts o ∷ []) ts → Spelled names (stmts o) (s ∷ ts)
   statement_then o s w front ts same makes h =
       let parts = Alls-split file_layer (Spelled names) front (stmts o ∷ []) ts h in

@@ -31,7 +31,7 @@ module _ (L : Limits) where
         steps = ap (run file_layer L n ds) (spellings-append a b) ∙ (Runs-append file_layer L (spellings a) (spellings b) n r.count rest.count ds es fs (record { steps = r.steps }) (record { steps = rest.steps })).steps;
       }
 
-  -- a piece that all that may go on an expression leaves to what is due behind
+  -- a piece that all that may go on an expression leaves to what is due later
   abbrev pub Leaves : List Due → List ℕ → Type 0
   Leaves ds c = (k : ℕ) → (step file_layer L k (expr (times 0) ∷ expr (plus 0) ∷ expr (compare 0) ∷ ds) c ≡ step file_layer L k ds c) × (step file_layer L k (expr (times 0) ∷ expr (plus 0) ∷ ds) c ≡ step file_layer L k ds c)
 

@@ -1,4 +1,4 @@
--- The first words of statements: as tokens, and where a text is stuck behind them.
+-- The first words of statements: as tokens, and where a text is stuck after them.
 use Rattle.std.proofs.Common.{◌≡◌, ℕ, false, List, ◌∷◌, Result, IfErr, refl, ap, sym, subst, ◌∙◌}
 use Rattle.std.specs.Prelude.{codes}
 use Rattle.sj_lang.specs.declared.file.Names.{Names}
@@ -89,12 +89,12 @@ word_piece w l r q names t line =
     let taken = took_word w r q names t in
     record { taken = taken; line = line ∙ ap (λ (x : Ahead). line_at (before_next r x)) taken.token }
 
--- behind the first word
+-- after the first word
 pub word_stops : (w : FirstWord) (o : ℕ) (r q : Reading) (names : Names) (e : ParseRefusal) → TakesText r (word_of w) q → ((n : ℕ) → Stops (λ ds. dues_behind w o ds) n (standing q names) e) → (n : ℕ) → Stops (λ ds. stmts o ∷ ds) n (standing r names) e
 word_stops w o r q names e t st n =
     stops_map (λ ds. dues_behind w o ds) (λ ds. stmts o ∷ ds) n n (standing q names) (standing r names) e
     (λ f h ds. stuck_cons file_layer limits n n (standing r names) (standing q names) (word_of w) (stmts o ∷ ds) (dues_behind w o (stmts o ∷ ds)) f (took_word w r q names t) (word_step w o n ds) (h (stmts o ∷ ds))) (st n)
 
--- what is refused behind that word
+-- what is refused after that word
 pub err_begun : {X : Type 0} (r : Result X ParseRefusal) (w v : FirstWord) (o : ℕ) (a : At) → w ≡ v → IfErr r (λ e. (n : ℕ) → Stops (λ ds. dues_behind v o ds) n a e) → IfErr r (λ e. (n : ℕ) → Stops (λ ds. dues_behind w o ds) n a e)
 err_begun r w v o a is h = subst (λ (x : FirstWord). IfErr r (λ e. (n : ℕ) → Stops (λ ds. dues_behind x o ds) n a e)) (sym is) h

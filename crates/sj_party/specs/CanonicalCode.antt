@@ -19,7 +19,7 @@ unfoldable pub in_block : ℕ → List ℕ → List ℕ
 in_block n inner = codes " {\n" ++ (inner ++ (spaces n ++ codes "}"))
 
 module _ (names : Spelling) where
-  -- a name behind what stands before it
+  -- a name after what stands before it
   unfoldable pub named_text : List ℕ → ℕ → List ℕ
   named_text lead x = lead ++ names.word x
 
@@ -31,7 +31,7 @@ module _ (names : Spelling) where
   unfoldable pub valued_text : List ℕ → Term → List ℕ
   valued_text lead t = lead ++ expression_text names whole t
 
-  -- a name, and behind a mark an expression
+  -- a name, and after a mark an expression
   unfoldable pub given_text : List ℕ → ℕ → List ℕ → Term → List ℕ
   given_text lead x mark t = named_text lead x ++ valued_text mark t
 

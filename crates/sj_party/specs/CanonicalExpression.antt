@@ -1,4 +1,5 @@
--- The canonical text of an expression: parentheses only where the grammar needs them for the same tree.
+-- The canonical text of an expression:
+-- parentheses only where the grammar needs them for the same tree.
 use Rattle.std.specs.Prelude.{ℕ, Bool, true, false, List, ◌++◌, codes, if◌then◌else◌}
 use Rattle.std.specs.Fmt.{signed_decimal}
 use Rattle.sj_lang.specs.declared.file.Names.{Names}

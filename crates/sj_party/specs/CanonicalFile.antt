@@ -1,4 +1,5 @@
--- The canonical text of a file: of all the texts that stand for it, lines aside, the one that printers write.
+-- The canonical text of a file:
+-- of all the texts that stand for it, lines aside, the one that printers write.
 use Rattle.std.specs.Prelude.{ℕ, List, [], ◌∷◌, ◌++◌, codes}
 use Rattle.sj_lang.specs.Place.{Place}
 use Rattle.sj_lang.specs.FileAt.{ProtocolAt, PartyAt, DeclAt, ConnectAt, FileAt}
@@ -16,7 +17,7 @@ module _ (names : Spelling) where
   abbrev pub party_text : PartyAt → List ℕ
   party_text q = named_text names (codes "party ") q.name ++ (block_text names 0 q.code ++ newline)
 
-  -- the names of an end, each behind a space
+  -- the names of an end, each after a space
   unfoldable pub end_text : DeclAt → List ℕ
   end_text d = pair_text names (codes " ") d.party d.name ++ named_text names (codes " ") d.protocol
 

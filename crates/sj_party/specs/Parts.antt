@@ -1,4 +1,4 @@
--- What a statement has behind its first word, part by part.
+-- What a statement has after its first word, part by part.
 use Rattle.std.specs.Prelude.{◌≡◌, ℕ, List, [], ◌∷◌, codes}
 use Rattle.sj_lang.specs.declared.party.Scalar.{Scalar}
 use Rattle.sj_lang.specs.Term.{Term}
@@ -27,7 +27,7 @@ pub data Part : Type 0 where
   -- arms, one at least, and no more of them
   some_arms : ℕ → Branches → Part
 
--- behind the first word
+-- after the first word
 abbrev pub parts_of : ℕ → DeedAt → List Part
 parts_of o (send x t) = a_name x ∷ an_expression t ∷ a_piece (codes ";") ∷ []
 parts_of o (delegate x y) = a_name x ∷ a_name y ∷ a_piece (codes ";") ∷ []
@@ -79,7 +79,7 @@ abbrev pub ReadsParts : At → At → List Part → Type 0
 ReadsParts a b [] = a ≡ b
 ReadsParts a b (p ∷ ps) = (m : At) × ReadsPart a m p × ReadsParts m b ps
 
--- from here to there stands, behind that word, what the statement does
+-- from here to there stands, after that word, what the statement does
 pub record ReadsDeed (word : List ℕ) (o : ℕ) (a b : At) (deed : DeedAt) : Type 0 where
   pub first : first_word deed ≡ word
   pub parts : ReadsParts a b (parts_of o deed)

@@ -10,7 +10,8 @@ use Rattle.sj_grammar.specs.Statements.{IsCode}
 use Rattle.sj_proto.specs.Parsed.{need}
 use Rattle.sj_expr.specs.Read.{Agrees}
 
--- from here to there the tokens are some pieces on their lines, and by each spelling that agrees with the tables there F says what they are
+-- from here to there the tokens are some pieces on their lines,
+-- and by each spelling that agrees with the tables there F says what they are
 pub record ReadsOnLines (a b : At) (F : Spelling → List Piece → Type 0) : Type 0 where
   pub pieces : List Piece
   pub begins : BeginsOnLines a pieces b

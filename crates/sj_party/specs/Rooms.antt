@@ -1,4 +1,4 @@
--- What names and texts may still come, where several come one behind another.
+-- What names and texts may still come, where several come one after another.
 use Rattle.std.specs.Prelude.{ℕ, ◌+◌, ◌≤◌}
 use Rattle.sj_lang.specs.declared.file.Names.{Names}
 use Rattle.sj_grammar.specs.Reading.{Reading}

@@ -1,4 +1,4 @@
--- The words that statements begin with, and what is due behind them.
+-- The words that statements begin with, and what is due after them.
 use Rattle.std.specs.Prelude.{◌≡◌, ℕ, false, List, [], ◌∷◌, codes}
 use Rattle.std.specs.Str.{bytes_eq}
 use Rattle.sj_grammar.specs.Names.{is_name}
@@ -39,7 +39,7 @@ simple_dues words.Close ds = name ∷ semicolon ∷ ds
 simple_dues words.Request ds = name ∷ name ∷ fixed (codes "to") ∷ name ∷ semicolon ∷ ds
 simple_dues words.Accept ds = name ∷ name ∷ fixed (codes "from") ∷ name ∷ semicolon ∷ ds
 
--- behind the word, inside so many inner braces
+-- after the word, inside so many inner braces
 abbrev pub dues_behind : FirstWord → ℕ → List Due → List Due
 dues_behind (firsts.Simple w) o ds = simple_dues w ds
 dues_behind firsts.Inbranch o ds = name ∷ fixed (codes "{") ∷ name ∷ fixed (codes ":") ∷ block o ∷ branches o ∷ fixed (codes "}") ∷ ds

@@ -13,6 +13,6 @@ pub record IsTaken (L : Limits) (pieces : Pieces) : Type 0 where
   pub dues : List Due
   pub leads : Leads L 0 file_due pieces count dues
 
--- the grammar of files: a piece passes a limit where the limits don't take it behind the others
+-- the grammar of files: a piece passes a limit where the limits don't take it after the others
 abbrev pub file_grammar : Grammar
 file_grammar = record { IsWhole = IsSomeFile; IsWithin = IsTaken limits; PassesLimit = λ ps s. IsTaken limits (ps ++ s ∷ []) → ⊥ }

@@ -3,10 +3,13 @@
 //! `no_statement_has_a_fault`: no token of theirs breaks a rule.
 //! `statements_are_read_in_one_way`: no two statements, blocks or arms have the same pieces.
 //! `files_are_what_is_due`: the tokens of a file are what is due, and after them nothing need be.
-//! `no_file_has_a_fault`, `one_file_a_text`: a text that stands for a file has no fault and is that file alone.
+//! `no_file_has_a_fault`, `one_file_a_text`: a text that stands for a file has no fault and
+//! is that file alone.
 //! `no_file_goes_on_there`: at a token that breaks a rule no file goes on, but for limits.
-//! `a_file_goes_on_up_to_there`: up to what is due a file can go on so, and at a passed limit with the token too.
-//! `first_faults_go_wrong`, `what_goes_wrong_is_the_first_fault`: the first fault in the grammar's own words, but for limits.
+//! `a_file_goes_on_up_to_there`: up to what is due a file can go on so,
+//! and at a passed limit with the token too.
+//! `first_faults_go_wrong`, `what_goes_wrong_is_the_first_fault`:
+//! the first fault in the grammar's own words, but for limits.
 ghost use Rattle.std.specs.Prelude.{◌≡◌, ◌≢◌, ℕ, List, [], ◌∷◌, ◌++◌, Some, None, true, false};
 ghost use Rattle.sj_lang.specs.Code.{Code, StmtAt, Branches};
 ghost use Rattle.sj_lang.specs.FileAt.{FileAt};
@@ -105,8 +108,9 @@ pub fn a_file_goes_on_up_to_there()
         → may_end file_layer due ≡ true → IsSomeFile ps }
 {}
 
-/// Up to the first fault of a file's text a file can go on so. At P1, and at the P3 of 2^63, none goes
-/// on with the next token, or the text isn't whole; at P4 one does, and the limits don't take the token.
+/// Up to the first fault of a file's text a file can go on so. At P1, and at the P3 of 2^63, none
+/// goes on with the next token, or the text isn't whole. At P4 one does, and the limits don't take
+/// the token.
 pub fn first_faults_go_wrong()
     ensures { (bytes : List ℕ) (f : Fault) → Stuck file_layer limits 0 (start bytes [] []) file_due f
         → GoesWrong file_grammar (start bytes [] []) f }

@@ -1,4 +1,5 @@
-//! Laws of the canonical text of a file: `printed_file_stands`, `printed_file_is_read_again`, `printed_text_comes_again`.
+//! Laws of the canonical text of a file: `printed_file_stands`, `printed_file_is_read_again`,
+//! `printed_text_comes_again`.
 ghost use Rattle.std.specs.Prelude.{◌≡◌, ℕ, List};
 ghost use Rattle.sj_lang.specs.FileAt.{FileAt};
 ghost use Rattle.sj_grammar.specs.Files.{IsFile};

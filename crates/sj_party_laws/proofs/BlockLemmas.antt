@@ -1,4 +1,5 @@
--- What is due behind a token of a statement, and the token, are what was due before it, within limits.
+-- What is due after a token of a statement, and the token,
+-- are what was due before it, within limits.
 use Rattle.std.proofs.Common.{◌≡◌, ℕ, suc, ◌<◌, ◌≤◌, Bool, true, false, List, [], ◌∷◌, ◌++◌, length, Option, Some, None, refl, sym, subst, ◌⊎◌, inl, inr}
 use Rattle.std.specs.Prelude.{codes, if◌then◌else◌, IsTrue, nat_lt}
 use Rattle.std.specs.Str.{bytes_eq}
@@ -21,7 +22,7 @@ use Rattle.sj_party_laws.proofs.TermLemmas.{IsKnown}
 use Rattle.sj_party_laws.proofs.FilledLemmas.{Spelled, AllSpelled, lines_alike}
 use Rattle.sj_party_laws.proofs.StatementLemmas.{Makes, send_made, delegate_made, take_made, outbranch_made, inbranch_made, outwhile_made, inwhile_made, relay_made, if_made, let_made, close_made, request_made, accept_made, lone, statement_then}
 
--- a token with nothing behind
+-- a token with nothing after it
 pub last_alike : (L : Limits) (names : Spelling) (n m : ℕ) (p : Piece) (x : List ℕ) (ts : List Piece) → x ≡ p.spelled → AllSpelled L names n [] ts m → AreAlike (plain x ∷ []) (p ∷ ts)
 last_alike L names n m p x _ same nothing = (same, tt, tt)
 

@@ -1,4 +1,4 @@
--- Dues one after another, with what is counted before and behind each.
+-- Dues one after another, with what is counted before and after each.
 use Rattle.std.proofs.Common.{◌≡◌, ℕ, Bool, true, false, List, [], ◌∷◌, ◌++◌, Option, Some, None, refl, ap, sym, subst, ◌∙◌, append_assoc}
 use Rattle.std.specs.Prelude.{if◌then◌else◌, ◌&&◌, map}
 use Rattle.sj_lang.specs.Limits.{Limits}
@@ -8,7 +8,8 @@ use Rattle.sj_grammar.proofs.StepLemmas.{onward_goes}
 use Rattle.sj_grammar.proofs.SpellingLemmas.{AllHeld}
 use Rattle.sj_proto.proofs.LineLemmas.{spellings-append}
 
--- with so much counted before, the tokens are what is due, one due after another; and then so much is counted
+-- with so much counted before, the tokens are what is due, one due after another;
+-- and then so much is counted
 pub data Chain {D T : Type 0} (Spelled : ℕ → D → List T → ℕ → Type 0) : ℕ → List D → List T → ℕ → Type 0 where
   nothing : {n : ℕ} → Chain Spelled n [] [] n
   first : {n k m : ℕ} {d : D} {ds : List D} {a b : List T} → Spelled n d a k → Chain Spelled k ds b m → Chain Spelled n (d ∷ ds) (a ++ b) m
@@ -33,7 +34,7 @@ module _ {D T : Type 0} (Spelled : ℕ → D → List T → ℕ → Type 0) wher
       let r = in_two es ds k m b h in
       record { between = r.between; front = a ++ r.front; back = r.back; before = first x r.before; behind = r.behind; same = ap (λ t. a ++ t) r.same ∙ sym (append_assoc a r.front r.back) }
 
--- tokens that are taken, and what the dues behind them are, are what was due before
+-- tokens that are taken, and what the dues after them are, are what was due before
 module _ {D : Type 0} (G : Layer D) (L : Limits) (Spelled : ℕ → D → List Piece → ℕ → Type 0) (Held : List ℕ → Type 0)
     (taken : (n m : ℕ) (d : D) (es : List D) (p : Piece) (ts : List Piece) → Held p.spelled → G.follow d p.spelled ≡ Some es → G.passes L n d p.spelled ≡ false → Chained Spelled (G.counted n d p.spelled) es ts m → Spelled n d (p ∷ ts) m)
     (none : (n : ℕ) (d : D) → G.may_be_none d ≡ true → Spelled n d [] n) where

@@ -1,4 +1,5 @@
--- What is due in an expression behind a token, and the token, are what was due before it, within limits.
+-- What is due in an expression after a token, and the token,
+-- are what was due before it, within limits.
 use Rattle.std.proofs.Common.{◌≡◌, ℕ, suc, Bool, true, false, List, [], ◌∷◌, ◌++◌, Some, None, refl, ap, sym, subst, ◌∙◌, append_assoc, append-nil, ◌⊎◌, inl, inr}
 use Rattle.std.specs.Prelude.{codes, if◌then◌else◌, ◌&&◌, ◌||◌, not, nat_le, pos, neg_ℤ}
 use Rattle.std.specs.Str.Parse.{digits_value}
@@ -59,13 +60,13 @@ module _ (L : Limits) (names : Spelling) where
           let due : es ≡ expression_at (suc o) ++ fixed (codes ")") ∷ [] = cc in enclosed (bytes_same s (codes "(") ep) free ts (subst (λ (gs : List ExpressionDue). AllSpelled L names n gs ts m) due g)
       by_tests false false false false ex em en ep f free g = let none : ⊥ = cc in absurd none
 
-  -- behind an operator: what it joins, and what is due behind that
+  -- after an operator: what it joins, and what is due after that
   pub times_back : (o n m : ℕ) (s : List ℕ) (ts : Pieces) → s ≡ codes "*" → AllSpelled L names n (factor o ∷ times o ∷ []) ts m → Spelled L names n (times o) (s ∷ ts) m
   times_back o n m s _ same (first {k = j} {a = x} f (first {a = y} more nothing)) = λ k b w.
       let both : Reaches L names level.term o k (b ++ codes "*" ∷ x) j = (term.two Mul w.0 f.0, level.of_product w.1 f.1, counts_then L.operands k (operand_count w.0) n (operand_count f.0) j w.2 f.2) in
       reaches_as L names level.term o k m ((b ++ codes "*" ∷ x) ++ y) (b ++ s ∷ (x ++ (y ++ []))) (append_assoc b (codes "*" ∷ x) y ∙ (λ i. b ++ sym same i ∷ (x ++ sym (append-nil y) i))) (more k (b ++ codes "*" ∷ x) both)
 
-  -- a term behind a sign, and then more
+  -- a term after a sign, and then more
   pub added : (o n m : ℕ) (s : List ℕ) (ts : Pieces) → (s ≡ codes "+") ⊎ (s ≡ codes "-") → AllSpelled L names n (factor o ∷ times o ∷ plus o ∷ []) ts m → Spelled L names n (plus o) (s ∷ ts) m
   added o n m s _ same (first {k = j} {a = x} {b = y} f more) =
       let t = to_term L names o n j m x y (plus o ∷ []) f more in
@@ -81,7 +82,7 @@ module _ (L : Limits) (names : Spelling) where
       then_more c _ i u (first {a = z} g nothing) all = λ k b w.
           reaches_as L names level.sum o k m ((b ++ s ∷ c) ++ z) (b ++ s ∷ (x ++ y)) (append_assoc b (s ∷ c) z ∙ ap (λ r. b ++ s ∷ r) ((λ h. c ++ sym (append-nil z) h) ∙ sym all)) (g k (b ++ s ∷ c) (joins c i k b w u))
 
-  -- a sum behind a comparison
+  -- a sum after a comparison
   pub compared : (o n m : ℕ) (s : List ℕ) (ts : Pieces) → (s ≡ codes "<") ⊎ ((s ≡ codes "<=") ⊎ (s ≡ codes "==")) → AllSpelled L names n (factor o ∷ times o ∷ plus o ∷ []) ts m → Spelled L names n (compare o) (s ∷ ts) m
   compared o n m s _ same (first {k = j} {a = x} {b = y} f more) =
       let t = to_sum L names o n j m x y [] f more in

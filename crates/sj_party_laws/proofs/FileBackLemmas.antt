@@ -1,4 +1,4 @@
--- What is due behind a token of a file, and the token, are what was due before it, within limits.
+-- What is due after a token of a file, and the token, are what was due before it, within limits.
 use Rattle.std.proofs.Common.{◌≡◌, ℕ, suc, ◌+◌, ◌≤◌, ◌<◌, false, List, [], ◌∷◌, ◌++◌, length, Some, sym, subst, append_assoc, append-nil, arith}
 use Rattle.std.specs.Prelude.{codes}
 use Rattle.std.specs.Str.{bytes_eq}

@@ -1,4 +1,5 @@
--- The tokens that are what is due in a file, within limits, and the pieces that the grammar has for them, on their lines.
+-- The tokens that are what is due in a file, within limits,
+-- and the pieces that the grammar has for them, on their lines.
 use Rattle.std.proofs.Common.{◌≡◌, ℕ, ◌+◌, ◌≤◌, true, List, [], ◌∷◌, ◌++◌, length, All, refl, sym, subst, ◌⊎◌, inl, inr, arith, append-nil}
 use Rattle.std.specs.Prelude.{codes}
 use Rattle.std.proofs.lemmas.List.Elements.{All-nil}

@@ -35,7 +35,7 @@ module _ (L : Limits) (names : Spelling) where
           let all : w.front ≡ s ∷ ts = sym (ap (λ r. s ∷ r) parts.same ∙ w.same ∙ ap (λ r. w.front ++ r) end.1 ∙ append-nil w.front) in
           (w.reaches.0, subst (λ (a : Pieces). Spelt L names level.whole 0 w.reaches.0 a) all w.reaches.1, counts_few L.operands (operand_count w.reaches.0) w.between w.reaches.2)
 
-  -- where a test is met, these dues are behind
+  -- where a test is met, these are the dues after the token
   from_test : {X : Type 0} (n m : ℕ) (es ds : List ExpressionDue) (ts : Pieces) (b : Bool) → (b ≡ true → AllSpelled L names n ds ts m → X) → (if b then Some ds else None) ≡ Some es → AllSpelled L names n es ts m → X
   from_test n m es ds ts true spelled e h = let due : es ≡ ds = cc in spelled refl (subst (λ (gs : List ExpressionDue). AllSpelled L names n gs ts m) due h)
   from_test n m es ds ts false spelled e h = let none : ⊥ = cc in absurd none

@@ -1,4 +1,5 @@
--- The tokens that are what is due in a protocol, within limits: items, arms and what stands in brackets.
+-- The tokens that are what is due in a protocol, within limits:
+-- items, arms and what stands in brackets.
 use Rattle.std.proofs.Common.{◌≡◌, ◌≢◌, ℕ, suc, ◌+◌, ◌<◌, ◌≤◌, Bool, true, false, List, [], ◌∷◌, ◌++◌, drop, Some, None, refl, ap, sym, subst, ◌∙◌, append_assoc, append-nil, ◌⊎◌, inl, inr}
 use Rattle.std.specs.Prelude.{codes, if◌then◌else◌, ◌||◌}
 use Rattle.std.specs.Str.{bytes_eq}
@@ -20,7 +21,7 @@ module _ (L : Limits) (word : ℕ → List ℕ) where
   abbrev pub Items : ℕ → ℕ → ℕ → Type 0
   Items n c m = Counts L.items n c m
 
-  -- what stands behind a way
+  -- what stands after a way
   abbrev IsTail : ℕ → Way → ℕ → Pieces → ℕ → Type 0
   IsTail o w n a m =
       ((k : Carried) × IsGivenKind L word (suc o) k × Items n (kind_items k) m × (a ≡ open_piece w ∷ (kind_pieces word k ++ close_piece w ∷ [])))
@@ -43,7 +44,7 @@ module _ (L : Limits) (word : ℕ → List ℕ) where
   abbrev pub AllSpelled : ℕ → List ProtocolDue → Pieces → ℕ → Type 0
   AllSpelled n ds ts m = Chained Spelled n ds ts m
 
-  -- an item, and the items behind it
+  -- an item, and the items after it
   record HasItem (o n : ℕ) (a : Pieces) (m : ℕ) : Type 0 where
     pub place : Place
     pub given : IsGiven L word o place
@@ -51,7 +52,7 @@ module _ (L : Limits) (word : ℕ → List ℕ) where
     pub count : Items n (item_count place) m
     pub same : a ≡ seq_pieces word place
 
-  -- the item itself, what it has inside, and what is behind
+  -- the item itself, what it has inside, and what is after it
   counted_item : (n c k d m : ℕ) → n < L.items → Items (suc n) c k → Items k d m → Items n (1 + c + d) m
   counted_item n c k d m h x y = counts_then L.items n (1 + c) k d m (counts_then L.items n 1 (suc n) c k (counts_one L.items n h) x) y
 
@@ -102,7 +103,7 @@ module _ (L : Limits) (word : ℕ → List ℕ) where
       by_tests false true ex ey f way = at_way Into (test_is s (codes "?") ey) (way refl) f
       by_tests false false ex ey f way = let none : ⊥ = cc in absurd none
 
-  -- an arm, and the arms behind it
+  -- an arm, and the arms after it
   pub record HasArm (o k n : ℕ) (ds : List ProtocolDue) (ts : Pieces) (m : ℕ) : Type 0 where
     pub choices : Choices
     pub some : choices ≢ no_choice

@@ -1,4 +1,5 @@
--- What is due in a protocol behind a token, and the token, are what was due before it, within limits.
+-- What is due in a protocol after a token, and the token,
+-- are what was due before it, within limits.
 use Rattle.std.proofs.Common.{◌≡◌, ℕ, suc, ◌<◌, ◌≤◌, Bool, true, false, List, [], ◌∷◌, ◌++◌, drop, length, Some, None, refl, ap, sym, subst, ◌∙◌, append-nil, inl, inr}
 use Rattle.std.specs.Prelude.{codes, if◌then◌else◌, ◌||◌, ◌&&◌, IsTrue, nat_le, nat_lt}
 use Rattle.std.specs.Str.{bytes_eq}
@@ -28,7 +29,7 @@ second_passes false y e = e
 second_passes true y e = let no : ⊥ = cc in absurd no
 
 module _ (L : Limits) (word : ℕ → List ℕ) where
-  -- what stands behind a way, from what opens it
+  -- what stands after a way, from what opens it
   from_open : (o n m : ℕ) (w : Way) (es : List ProtocolDue) (s : List ℕ) (ts : Pieces) → o < L.nesting → protocol_follow (behind o w) s ≡ Some es → AllSpelled L word n es ts m → Spelled L word n (behind o w) (s ∷ ts) m
   from_open o n m w es s ts deep e h = by_tests (bytes_eq s (open_piece w)) (bytes_eq s (codes "{")) (bytes_eq s (codes "[")) refl refl refl e
     where
@@ -57,7 +58,7 @@ module _ (L : Limits) (word : ℕ → List ℕ) where
       by_tests false false true ex ey ez f = let due : es ≡ maybe (suc o) ∷ fixed (codes "]") ∷ fixed (codes "*") ∷ [] = cc in turns (test_is s (codes "[") ez) ts (subst (λ (gs : List ProtocolDue). AllSpelled L word n gs ts m) due h)
       by_tests false false false ex ey ez f = let none : ⊥ = cc in absurd none
 
-  -- nothing behind
+  -- nothing follows
   pub last : (n m : ℕ) (ts : Pieces) → AllSpelled L word n [] ts m → (n ≡ m) × (ts ≡ [])
   last n m _ nothing = (refl, refl)
 
@@ -82,7 +83,7 @@ module _ (L : Limits) (word : ℕ → List ℕ) where
       by_tests false false true ex ey ez f = let same = test_is s (codes "String") ez in alone text tt refl (ap (λ t. t ∷ []) (sym same)) (ap is_way same) f
       by_tests false false false ex ey ez f = from_item L word o n (if is_way s then suc n else n) m (kind o) es s ts (λ a p g some c same. (session p, (some, g), c, same)) way f h
 
-  -- where a test is met, these dues are behind
+  -- where a test is met, these are the dues after the token
   from_test : {X : Type 0} (n m : ℕ) (es ds : List ProtocolDue) (ts : Pieces) (b : Bool) → (b ≡ true → AllSpelled L word n ds ts m → X) → (if b then Some ds else None) ≡ Some es → AllSpelled L word n es ts m → X
   from_test n m es ds ts true spelled e h = let due : es ≡ ds = cc in spelled refl (subst (λ (gs : List ProtocolDue). AllSpelled L word n gs ts m) due h)
   from_test n m es ds ts false spelled e h = let none : ⊥ = cc in absurd none

@@ -1,4 +1,5 @@
--- Some tokens are taken, and what comes next breaks a rule, or all are taken to where nothing need be due.
+-- Some tokens are taken, and what comes next breaks a rule,
+-- or all are taken to where nothing need be due.
 use Rattle.std.proofs.Common.{◌≡◌, ℕ, zero, suc, ◌<◌, Bool, true, false, List, [], ◌∷◌, ◌++◌, length, Some, None, refl, ap, ◌∙◌, ◌⊎◌, inl, inr, arith, length-append}
 use Rattle.std.specs.Prelude.{if◌then◌else◌}
 use Rattle.sj_grammar.specs.declared.tokens.What.{What}
@@ -15,7 +16,7 @@ use Rattle.sj_grammar.proofs.SplitLemmas.{next_split}
 use Rattle.sj_grammar.proofs.StucknessLemmas.{halts_stuck, stuck_cons}
 
 module _ {D : Type 0} (G : Layer D) (L : Limits) where
-  -- all tokens are taken, and nothing need be due behind them
+  -- all tokens are taken, and nothing need be due after them
   pub record Whole (n : ℕ) (a : At) (ds : List D) : Type 0 where
     pub pieces : Pieces
     pub there : At
@@ -44,7 +45,7 @@ module _ {D : Type 0} (G : Layer D) (L : Limits) where
       let f = fault_at (before_next a.text (next_of a.text.ahead)) rule in
       inr (f, halts_stuck G L n a ds f (record { rule = rule; breaks = e; fault = refl }))
 
-  -- behind a token
+  -- after a token
   behind : (n k : ℕ) (a m : At) (s : List ℕ) (ds es : List D) → Takes a s m → step G L n ds s ≡ goes k es → Ends k m es → Ends n a ds
   behind n k a m s ds es t e (inl w) = inl (record {
     pieces = s ∷ w.pieces;
@@ -58,7 +59,7 @@ module _ {D : Type 0} (G : Layer D) (L : Limits) where
   })
   behind n k a m s ds es t e (inr x) = inr (x.0, stuck_cons G L n k a m s ds es x.0 t e x.1)
 
-  -- what is ahead behind a token is shorter
+  -- what is ahead after a token is shorter
   shorter : (text : List ℕ) (what : What) (s rest : List ℕ) → next_of text ≡ token what s rest → length rest < length text
   shorter text what s rest e =
       let x = next_split text what s rest e in

@@ -1,4 +1,4 @@
--- The statement that a first word and what is due behind it make, on its line.
+-- The statement that a first word and what is due after it make, on its line.
 use Rattle.std.proofs.Common.{◌≡◌, ℕ, List, [], ◌∷◌, ◌++◌, Option, Some, None, refl, sym, subst, append_assoc, append-nil, inl, inr}
 use Rattle.std.specs.Prelude.{codes}
 use Rattle.sj_lang.specs.Code.{StmtAt, stmt_then, at, send, delegate, take_value, take_end, outbranch, inbranch, outwhile, inwhile, relay, if_else, let_be, close, request, accept, branch}
@@ -24,7 +24,7 @@ on_line None = tt
 on_line (Some l) = refl
 
 module _ (L : Limits) (names : Spelling) (o : ℕ) (p : Piece) where
-  -- the token and those behind it are a statement
+  -- the token and those after it are a statement
   pub record Makes (x : List Piece) : Type 0 where
     pub step : StmtAt
     pub pieces : List Piece
@@ -32,11 +32,11 @@ module _ (L : Limits) (names : Spelling) (o : ℕ) (p : Piece) where
     pub alike : AreAlike pieces (p ∷ x)
 
   module _ (n m : ℕ) where
-    -- what is due behind the word
+    -- what is due after the word
     abbrev pub Behind : List Due → List Piece → Type 0
     Behind ds x = AllSpelled L names n ds x m
 
-    -- by the pieces of what is due behind the word
+    -- by the pieces of what is due after the word
     made : (w : List ℕ) (ds : List Due) (x : List Piece) (h : Behind ds x) (t : StmtAt) → p.spelled ≡ w → IsStatement L names o t (first_on (line_in p.line) w ∷ lines_of L names n m ds x h) → Makes x
     made w ds x h t same is = record { step = t; pieces = first_on (line_in p.line) w ∷ lines_of L names n m ds x h; is = is; alike = (sym same, on_line p.line, lines_alike L names n m ds x h) }
 
@@ -110,7 +110,7 @@ module _ (L : Limits) (names : Spelling) (o : ℕ) (p : Piece) where
   pub lone : (k m : ℕ) (d : Due) (ts : List Piece) → AllSpelled L names k (d ∷ []) ts m → Spelled L names k d ts m
   lone k m d _ (first {a} x nothing) = subst (λ (t : List Piece). Spelled L names k d t m) (sym (append-nil a)) x
 
-  -- and the statements behind it
+  -- and the statements after it
   pub statement_then : (n m : ℕ) (front : List Due) (ts : List Piece) → ((k : ℕ) (x : List Piece) → AllSpelled L names n front x k → Makes x) → AllSpelled L names n (front ++ stmts o ∷ []) ts m → Spelled L names n (stmts o) (p ∷ ts) m
   statement_then n m front ts makes h =
       let parts = in_two (Spelled L names) front (stmts o ∷ []) n m ts h in

@@ -69,7 +69,7 @@ module _ (L : Limits) (names : Spelling) where
     pub behind : AllSpelled between rest back m
     pub same : ts ≡ front ++ back
 
-  -- behind a factor: what goes on a term, a sum and a whole expression
+  -- after a factor: what goes on a term, a sum and a whole expression
   pub to_term : (o k n m : ℕ) (a b : Pieces) (rest : List ExpressionDue) → Reaches level.factor o k a n → AllSpelled n (times o ∷ rest) b m → Begun level.term o k (a ++ b) rest m
   to_term o k n m a _ rest r (first {k = j} {a = x} {b = y} f behind) =
       record { front = a ++ x; back = y; between = j; reaches = f k a (as_term o k n a r); behind = behind; same = sym (append_assoc a x y) }

@@ -1,4 +1,4 @@
--- A dual place behind a message, and the protocols of a table.
+-- A dual place after a message, and the protocols of a table.
 use Rattle.std.proofs.Common.{◌≡◌, ◌==◌, ℕ, Bool, true, false, cond, List, [], ◌∷◌, map, Option, Some, None, option_map, unwrap_or, refl, ap, ◌∙◌}
 use Rattle.sj_base.specs.declared.Msg.{Msg}
 use Rattle.sj_lang.specs.declared.proto.Way.{Way}
@@ -17,7 +17,7 @@ dual_or : (o : Option Place) (p : Place) → unwrap_or (option_map dual_of o) (d
 dual_or None p = refl
 dual_or (Some q) p = refl
 
--- behind what comes on the other way the dual place is the dual of the place behind it
+-- after what comes on the other way, the dual place is the dual of the place after it
 pub behind_dual : (p : Place) (w : Way) (m : Msg) → place_behind (dual_of p) (other_way w) m ≡ dual_of (place_behind p w m)
 behind_dual p w m = ap (λ o. unwrap_or o (dual_of p)) (after_place-dual p w m) ∙ dual_or (after_place p w m) p
 

@@ -93,7 +93,7 @@ taken_back t old mid new cut n is by front same = ap (sessions_at t) by ∙ ap (
     front_again : (t : Table) (old mid new : List Lying) → take (length old) mid ≡ old → sessions_at t new ≡ sessions_at t mid → sessions_at t (take (length old) new) ≡ sessions_at t old
     front_again t old mid new front same = map-take (session_at t) new (length old) ∙ ap (take (length old)) same ∙ sym (map-take (session_at t) mid (length old)) ∙ ap (sessions_at t) front
 
--- the front stays where one more comes behind it
+-- a prefix stays one where one more is appended
 pub front-push : {X : Type 0} (xs ys : List X) (y : X) → take (length xs) ys ≡ xs → take (length xs) (ys ++ y ∷ []) ≡ xs
 front-push [] ys y front = none (ys ++ y ∷ [])
   where

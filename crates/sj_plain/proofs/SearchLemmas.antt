@@ -8,7 +8,7 @@ use Rattle.sj_plain.specs.Opened.{IsInOrder, before_in, requests_in}
 use Rattle.sj_plain.proofs.OpenedLemmas.{before_fits, before_later, before_next, length-opened_by, no_requests_of_others, none_before, requests-append, requests_below}
 use Rattle.sj_plain.proofs.OrderLemmas.{get_behind, get_within}
 
--- ---- an element tells on which side it lies
+-- ---- an element shows on which side it lies
 
 opener_by : (d : Opened) (q k i : ℕ) (rs : List Request) → i < length rs → (get_or (opened_by q k rs) i d).from ≡ q
 opener_by d q k i [] lt = absurd (omega (arith, lt))

@@ -39,7 +39,7 @@ when_past : (b : Bool) (s t : State) → b ≡ false → cond b s t ≡ t
 when_past true s t h = cc
 when_past false s t h = refl
 
--- and one with no step left stands at the limit
+-- and one without a step left stands at the limit
 pub stands_at_limit : (w : World) (p steps : ℕ) (want : Want) → (want ≡ wants.Ended → ⊥) → 10000 ≤ steps → states.AtLimit limits.Steps ≡ state_wanting w p steps want
 stands_at_limit w p steps want ne past =
     sym (when_past (nat_lt steps 10000) (state_by w p want) (states.AtLimit limits.Steps) (le-ltb steps 10000 past))

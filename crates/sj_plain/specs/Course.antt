@@ -35,7 +35,8 @@ pub record GoesOn (v w : Course) : Type 0 where
   pub listed : acts_in w ≡ acts_in v ++ acts
   pub kept : file_in w ≡ file_in v
 
--- its acts lead from the start of its file to its world, its opened sessions lie in order, and an accepted file has 16 parties and 64 connections at most
+-- its acts lead from the start of its file to its world, its opened sessions lie in order, and an
+-- accepted file has 16 parties and 64 connections at most
 pub record IsReached (c : Course) : Type 0 where
   pub run : IsRun (file_in c) (acts_in c) (world_in c)
   pub ordered : IsOrdered c

@@ -32,7 +32,7 @@ pub record BreaksOff (R : Leads) (c d : Course) : Type 0 where
   pub last : World
   pub by : R (world_in c) (acts ++ rest) last
 
--- it went on by acts, behind which what S leads to is what R leads to from the beginning
+-- it went on by acts; after these, what S leads to is what R leads to from the beginning
 pub record Ahead (R S : Leads) (c d : Course) : Type 0 where
   pub acts : List ℕ
   pub listed : acts_in d ≡ acts_in c ++ acts

@@ -1,4 +1,4 @@
--- How many steps are left, and what a refusal to act tells.
+-- How many steps are left, and what a refusal to act says.
 use Rattle.std.specs.Prelude.{◌≡◌, ℕ, ◌-◌, Bool, true, false, sum_by}
 use Rattle.sj_semantics.specs.declared.State.{State}
 use Rattle.sj_semantics.specs.declared.State.TheVariants as states
@@ -18,7 +18,7 @@ is_waiting (states.Waits e) = true
 is_waiting (states.WaitsOpen q) = true
 is_waiting _ = false
 
--- the party stands as the refusal tells; want of memory comes to a ready party alone
+-- the party stands as the refusal says; out of memory comes to a ready party alone
 abbrev pub Shows : State → Halt → Type 0
 Shows state halts.Waits = is_waiting state ≡ true
 Shows state halts.Ended = state ≡ states.Ended

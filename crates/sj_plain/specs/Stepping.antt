@@ -31,7 +31,8 @@ after_change p w c = (c.program, after_uses p c.uses w.sessions, after_opening p
 abbrev pub next_move : ℕ → World → Program → Option (Program × List model.Session × Requests)
 next_move p w g = option_map (after_change p w) (change_of_program w p g)
 
--- the program, the sessions and the opened sessions are what the change makes of the old sessions and opened ones
+-- the program, the sessions and the opened sessions are what the change makes of the old
+-- sessions and opened ones
 pub record Makes (t : Table) (p : ℕ) (c : Change) (zs ys : List Session) (old new : List Opened) (h : Program) : Type 0 where
   pub program : h ≡ c.program
   pub sessions : sessions_at t ys ≡ after_uses p c.uses (sessions_at t zs)

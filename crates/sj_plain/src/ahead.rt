@@ -23,8 +23,8 @@ pub enum Ahead {
 }
 
 impl Ahead {
-    /// Moves past the message. It stays where the message isn't next. Items are moved or copied where
-    /// they are in no table, and nowhere else.
+    /// Moves past the message. It stays where the message isn't next. Items are moved or copied
+    /// where they are in no table, and nowhere else.
     pub(crate) fn pass(
         &mut self,
         alloc: Global,

@@ -30,8 +30,8 @@ use sj_semantics::{Opened, State, Want};
 use sj_table::Table;
 use std::alloc::Global;
 
-/// A file, the table in which its protocols start at their bodies, its parties and sessions, and who
-/// acted so far.
+/// A file, the table in which its protocols start at their bodies, its parties and
+/// sessions, and who acted so far.
 #[derive(Drop)]
 pub struct Course {
     pub alloc: Global,
@@ -48,8 +48,8 @@ impl Course {
     ghost use Rattle.sj_plain.specs.Course.{GoesOn, IsOrdered, acts_in, file_in, world_in};
     ghost use Rattle.sj_plain.specs.Finishing.{ActsOnce, BreaksOff, GoesBy, Stays};
 
-    /// The course of an accepted file before any act. It has the file and its table in common with all
-    /// who keep them.
+    /// The course of an accepted file before any act. It has the file and its table in
+    /// common with all who keep them.
     pub fn start(alloc: Global, accepted: &Accepted) -> Result<Course, NoMemory>
         ensures accepted { OnOk result (IsAccepted (file_of (held accepted.now))) }
         ensures file { IfOk result (λ c. file_in c ≡ without_words (file_of (held accepted.now))) }

@@ -94,8 +94,8 @@ impl Plain {
         self.course.act(party)
     }
 
-    /// Does rounds until one has no act. In a round each party, in file order, acts as long as it is
-    /// ready. Without memory it breaks off.
+    /// Does rounds until one has no act. In a round each party, in file order, acts as long as it
+    /// is ready. Without memory it breaks off.
     pub fn finish(&mut self) -> Result<(), NoMemory>
         // The acts are those of the rounds; where it breaks off they are the first of such.
         ensures rounds { OnOk result (GoesBy IsFinished self.old self.new) }

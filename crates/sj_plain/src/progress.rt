@@ -231,8 +231,8 @@ fn accept_next(
     Ok(())
 }
 
-/// Does the party's next step, which is the one that it wants. Out of memory, it leaves the party, the
-/// sessions and those that were opened as they were.
+/// Does the party's next step, which is the one that it wants. Out of memory, it leaves the party,
+/// the sessions and those that were opened as they were.
 pub fn step(
     alloc: Global,
     table: &Table,

@@ -8,7 +8,7 @@ use Rattle.sj_semantics.specs.Lines.{end_text, int_text, line_of, message_words,
 use Rattle.sj_print.specs.declared.pieces.Piece.{Piece}
 use Rattle.sj_print.specs.Pieces.{message_text, piece_text, spaced_text, words_text}
 
--- words are the last one behind the others, each with its space
+-- words are the last one after the others, each with its space
 pub words_apart : (file : FileAt) (ps : List Piece) (last : Piece)
     → spaced_text file ps ++ piece_text file last ≡ words_text (map (piece_text file) (ps ++ last ∷ []))
 words_apart file [] last = refl

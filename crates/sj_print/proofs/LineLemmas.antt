@@ -23,7 +23,7 @@ tail_of-drop takers i = one_on takers i ∙ ap (λ k. drop k takers) (sym (add-o
     one_on (q ∷ qs) zero = refl
     one_on (q ∷ qs) (suc k) = one_on qs k
 
--- the line of the next message is ahead, and then those of the messages behind it
+-- the line of the next message is ahead, and then those of the messages after it
 pub sent_step : (file : FileAt) (s d : ℕ) (sent : List Passed) (takers : List ℕ) (i : ℕ) (x : Passed) (taker : Option ℕ) → i < length sent → taker ≡ slice_get takers i
     → sent_lines file s d i (drop i sent) (drop i takers)
     ≡ line_of (end_text s d ∷ decimal i ∷ name_of file (get_or sent i x).by ∷ taker_text file (option_to_list taker) ∷ message_words file (get_or sent i x).msg)

@@ -79,7 +79,7 @@ here (x ∷ xs) (suc i) h = let r = here xs i (omega arith) in record { item = r
 pub sent_same : (file : FileAt) (s d : ℕ) {xs ys : List Passed} {ts us : List ℕ} → xs ≡ ys → ts ≡ us → sent_lines file s d 0 xs ts ≡ sent_lines file s d 0 ys us
 sent_same file s d e f = λ i. sent_lines file s d 0 (e i) (f i)
 
--- the part of the next session is ahead, and then those of the sessions behind it
+-- the part of the next session is ahead, and then those of the sessions after it
 pub session_step : (file : FileAt) (cs : List Connect) (zs : List Session) (i : ℕ) (c : Connect) → i < length cs → i < length zs
     → session_lines file i (drop i (map connect_of cs)) (drop i zs)
     ≡ session_part file zs i (connect_of (get_or cs i c)) ++ session_lines file (i + 1) (drop (i + 1) (map connect_of cs)) (drop (i + 1) zs)
@@ -92,7 +92,7 @@ session_step file cs zs i c h k =
     part : ConnectAt → EndAt → EndAt → List ℕ
     part d first second = session_line file i d ++ sent_lines file i 0 0 first.sent second.takers ++ sent_lines file i 1 0 second.sent first.takers
 
--- the part of the next session that was opened is ahead, and then those of the sessions behind it
+-- the part of the next session that was opened is ahead, and then those of the sessions after it
 pub opened_step : (file : FileAt) (zs : List Session) (os : List Opened) (i : ℕ) (o : Opened) → i < length os
     → opened_lines file zs (drop i os) ≡ opened_part file zs (get_or os i o) ++ opened_lines file zs (drop (i + 1) os)
 opened_step file zs os i o h = at_drop_more (opened_lines file zs) os i o h
@@ -104,7 +104,7 @@ by_program file w p name steps state o g e s t =
     let stands : state_of_program w p g ≡ state = sym (t ∙ ap (state_if w p) e) in
     λ i. party_part file name (same i) (stands i)
 
--- the line of the next party is ahead, and then those of the parties behind it
+-- the line of the next party is ahead, and then those of the parties after it
 pub party_step : (file : FileAt) (w : World) (qs : List Party) (gs : List Program) (i : ℕ) (q : Party) (steps : ℕ) (state : State) → i < length qs → i < length gs
     → option_map (λ g. g.steps) (slice_get gs i) ≡ Some steps → state ≡ state_if w i (slice_get gs i)
     → party_lines file w i (drop i (map party_of qs)) (drop i gs) ≡ party_part file (get_or qs i q).name steps state ++ party_lines file w (i + 1) (drop (i + 1) (map party_of qs)) (drop (i + 1) gs)

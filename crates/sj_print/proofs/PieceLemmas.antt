@@ -11,7 +11,7 @@ pub spaced_step : (file : FileAt) (ps : List Piece) (i : ℕ) (d : Piece) → i 
     → spaced_text file (drop i ps) ≡ piece_text file (get_or ps i d) ++ (32 ∷ [] ++ spaced_text file (drop (i + 1) ps))
 spaced_step file ps i d h = at_drop_more (spaced_text file) ps i d h
 
--- a line is its last piece and a newline behind the others
+-- a line is its last piece and a newline after the others
 pub line_apart : (file : FileAt) (ps : List Piece) (last : Piece)
     → spaced_text file ps ++ (piece_text file last ++ 10 ∷ []) ≡ line_of (map (piece_text file) (ps ++ last ∷ []))
 line_apart file [] last = refl

@@ -1,4 +1,4 @@
--- The sessions and the parties of a world as they are told, one after another.
+-- The sessions and the parties of a world as they are reported, one after another.
 use Rattle.std.proofs.Common.{◌≡◌, ℕ, zero, suc, ◌+◌, ◌*◌, ◌<◌, ◌≤◌, List, [], ◌∷◌, ◌++◌, length, map, drop, get_or, Option, Some, option_map, refl, ap, sym, ◌∙◌, append-nil, arith}
 use Rattle.std.specs.Prelude.{slice_get}
 use Rattle.std.proofs.lemmas.Option.{slice_get-get_or, slice_get-map}
@@ -33,7 +33,7 @@ part_told : (file : FileAt) (w : World) (s : ℕ) (c : ConnectAt) (a b : ToldEnd
 part_told file w s c a b first second =
     λ i. session_line file s c ++ sent_lines file s 0 0 (sym first.sent i) (sym first.takers i) ++ sent_lines file s 1 0 (sym second.sent i) (sym second.takers i)
 
--- the part of the next session is ahead, as it is told, and then those of the sessions behind it
+-- the part of the next session is ahead, as it is reported, and then those of the sessions after it
 pub told_step : (file : FileAt) (w : World) (cs : List Connect) (ends : List ToldEnd) (i : ℕ) (c : Connect) (a b : ToldEnd) → i < length cs → length cs ≤ length w.sessions → AreEnds file w ends → 2 * i + 1 < length ends
     → session_lines file i (drop i (map connect_of cs)) (drop i w.sessions)
     ≡ told_part file i (connect_of (get_or cs i c)) (get_or ends (2 * i) a) (get_or ends (2 * i + 1) b)
@@ -80,7 +80,7 @@ module _ (w : World) (stands : List Stand) (are : AreStands w stands) (i : ℕ) 
       (sym (ap (λ (xs : List State). slice_get xs i) are.states) ∙ slice_get-map (λ (s : Stand). s.state) stands i ∙ ap (option_map (λ (s : Stand). s.state)) here)
       ∙ ap (λ (q : ℕ). state_if w q (slice_get w.parties i)) (let e : i + 0 ≡ i = omega arith in e)
 
-  -- the line of the next party is ahead, as it is told
+  -- the line of the next party is ahead, as it is reported
   pub stand_step : (file : FileAt) (qs : List Party) (q : Party) → i < length qs → i < length w.parties
       → party_lines file w i (drop i (map party_of qs)) (drop i w.parties)
       ≡ party_part file (get_or qs i q).name (get_or stands i d).steps (get_or stands i d).state ++ party_lines file w (i + 1) (drop (i + 1) (map party_of qs)) (drop (i + 1) w.parties)
@@ -97,7 +97,7 @@ put_stand file w stands qs i q d old whole now new are told lt known there still
     let step = stand_step w stands are i d told file qs q lt known ∙ ap (λ (y : Party). party_part file y.name (get_or stands i d).steps (get_or stands i d).state ++ behind) there in
     one_more old whole bytes behind now new (ahead_is old whole (party_lines file w i (drop i (map party_of qs)) (drop i w.parties)) (bytes ++ behind) now step still) put
 
--- as many parties as are told
+-- as many parties as are reported
 length-mapped : {X Y : Type 0} (f : X → Y) (xs : List X) → length (map f xs) ≡ length xs
 length-mapped f [] = refl
 length-mapped f (x ∷ xs) = ap suc (length-mapped f xs)

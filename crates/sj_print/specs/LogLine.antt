@@ -15,8 +15,9 @@ abbrev pub resend_word : Option ℕ → List ℕ
 resend_word None = codes "-"
 resend_word (Some n) = decimal n
 
--- what was done on an end, or what the frame said to one; a Claim, an Ack and a Give name the end that moves; a session that is opened at run time
--- is named by its number, with the party to which, or by which, it was opened
+-- what was done on an end, or what the frame said to one. A Claim, an Ack and a Give name the end
+-- that moves. A session that is opened at run time is named by its number, with the party to which,
+-- or by which, it was opened
 abbrev pub note_words : FileAt → NoteAt → List (List ℕ)
 note_words file Local = codes "local" ∷ []
 note_words file (Sent end msg) = codes "send" ∷ end_word end ∷ message_words file msg

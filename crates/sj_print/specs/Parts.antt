@@ -17,7 +17,7 @@ session_part file zs s c =
     let first = end_at zs (record { sess = s; side = 0 }) in let second = end_at zs (record { sess = s; side = 1 }) in
     session_line file s c ++ sent_lines file s 0 0 first.sent second.takers ++ sent_lines file s 1 0 second.sent first.takers
 
--- the same, as it is told of these two ends
+-- the same, as it is reported of these two ends
 abbrev pub told_part : FileAt → ℕ → ConnectAt → (first second : ToldEnd) → List ℕ
 told_part file s c first second =
     session_line file s c ++ sent_lines file s 0 0 first.sent.items first.takers.items ++ sent_lines file s 1 0 second.sent.items second.takers.items

@@ -18,12 +18,12 @@ piece_text file (Word n) = word_at file.words n
 piece_text file (Text n) = quoted_at file.texts n
 piece_text file (Resend n) = resend_word n
 
--- each word with a space behind it
+-- each word with a space after it
 abbrev pub closed_words : List (List ℕ) → List ℕ
 closed_words [] = []
 closed_words (x ∷ xs) = x ++ 32 ∷ closed_words xs
 
--- each piece with a space behind it
+-- each piece with a space after it
 abbrev pub spaced_text : FileAt → List Piece → List ℕ
 spaced_text file ps = closed_words (map (piece_text file) ps)
 

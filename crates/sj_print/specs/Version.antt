@@ -6,7 +6,7 @@ use Rattle.sj_rules.specs.Log.{NoteAt, LineAt, Request, Accept, Open}
 abbrev pub IsVersion : ℕ → Type 0
 IsVersion v = (v ≡ 1) ⊎ (v ≡ 2)
 
--- a log of that version may tell of sessions that are opened at run time
+-- a log of that version may report sessions that are opened at run time
 abbrev pub knows_openings : ℕ → Bool
 knows_openings v = nat_lt 1 v
 

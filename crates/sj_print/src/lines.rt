@@ -42,8 +42,8 @@ pub(crate) fn put_session(
     put_line(text, file, &front, Piece::Word(connect.second.name))
 }
 
-/// The line of a session that was opened: its number, the party and the name of the end of its
-/// requester, to whom it was opened, and the name in the accept, or a dash.
+/// The line of a session that was opened: its number, then the party and the name of the end of its
+/// requester. After these stand to whom it was opened, and the name in the accept, or a dash.
 pub(crate) fn put_opened(text: &mut Vec<u8>, file: &File, opened: &Opened) -> Result<(), NoMemory>
     ensures ok { OnOk result (text.new.items
         ≡ text.old.items ++ opened_line (file_of file.now) opened.now) }

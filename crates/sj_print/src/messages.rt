@@ -41,8 +41,8 @@ fn put_message(text: &mut Vec<u8>, file: &File, msg: &Msg) -> Result<(), NoMemor
     put_byte(text, b'\n')
 }
 
-/// Puts the text of a message after the text, without a newline. Out of memory, it leaves a prefix of
-/// the message.
+/// Puts the text of a message after the text, without a newline. Out of memory, it leaves a prefix
+/// of the message.
 pub fn print_message(text: &mut Vec<u8>, file: &File, msg: &Msg) -> Result<(), NoMemory>
     ensures ok { OnOk result (text.new.items
         ≡ text.old.items ++ message_text (file_of file.now) msg.now) }

@@ -104,7 +104,8 @@ fn put_piece(text: &mut Vec<u8>, file: &File, piece: Piece) -> Result<(), NoMemo
     }
 }
 
-/// Puts the name of the party of that number after the text, or `#` and the number where none has it.
+/// Puts the name of the party of that number after the text, or `#` and the number where none has
+/// it.
 pub fn print_name(text: &mut Vec<u8>, file: &File, party: u16) -> Result<(), NoMemory>
     ensures ok { OnOk result (text.new.items ≡ text.old.items ++ name_of (file_of file.now) party) }
     ensures err { OnErr result (IsCutShort text.old.items

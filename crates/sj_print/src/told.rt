@@ -1,4 +1,4 @@
-//! The transcript as it is told, of a world in which no session was opened.
+//! The transcript as it is reported, of a world in which no session was opened.
 ghost use Rattle.std.specs.Prelude.{◌≡◌, ◌++◌, ◌*◌, ◌≤◌, [], OnOk, length};
 ghost use Rattle.sj_lang.specs.FileView.{connect_of, file_of};
 ghost use Rattle.sj_lang.specs.Limits.{limits};
@@ -13,8 +13,8 @@ use sj_base::{EndId, NoMemory};
 use sj_lang::{Connect, File};
 use sj_told::{Stand, ToldEnd, verdict_told};
 
-/// Puts the transcript after the text, as it is told by the ends of the file's connections and by how the parties
-/// stand, where no session was opened.
+/// Puts the transcript after the text, as it is reported by the ends of the file's connections and
+/// by how the parties stand, where no session was opened.
 pub fn print_told(
     text: &mut Vec<u8>,
     file: &File,

@@ -31,8 +31,8 @@ fn have_openings(lines: &[Line]) -> bool
     lines.iter().any(|l| is_opening(&l.entry.note))
 }
 
-/// Puts the line that stands before a log of these lines after the text: `%%log2` where a session is
-/// opened or accepted in them, else `%%log`. Out of memory, it leaves a prefix of the line.
+/// Puts the line that stands before a log of these lines after the text: `%%log2` where a session
+/// is opened or accepted in them, else `%%log`. Out of memory, it leaves a prefix of the line.
 pub fn print_mark(text: &mut Vec<u8>, lines: &[Line]) -> Result<(), NoMemory>
     ensures ok { OnOk result (text.new.items
         ≡ text.old.items ++ mark_of (version_of (map line_at lines.now))) }

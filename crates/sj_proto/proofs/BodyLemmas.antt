@@ -30,7 +30,7 @@ dotted_some word (message w k rest) some = refl
 dotted_some word (choice w k rest) some = refl
 dotted_some word (repeat w k rest) some = refl
 
--- behind the `begin` and a dot
+-- after the `begin` and a dot
 pub begun_stuck : (r q u : Reading) (names : Names) (n : ℕ) → TakesText r (codes "begin") q → TakesText q (codes ".") u → (ds : List Due) (f : Fault) → Stuck file_layer limits 0 (standing u names) (proto (seq 0) ∷ ds) f
     → Stuck file_layer limits n (standing r names) (proto body ∷ ds) f
 begun_stuck r q u names n t v ds f st =

@@ -42,7 +42,7 @@ module _ (word : ℕ → List ℕ) where
       by_tests false false true ex ey ez f = alone text tt (ap (λ t. t ∷ []) (sym (test_is s (codes "String") ez))) f
       by_tests false false false ex ey ez f = from_item word o (kind o) es s ts (λ a p w some same. (session p, (some, w), same)) f h
 
-  -- where a test is met, these dues are behind
+  -- where a test is met, these are the dues after the token
   from_test : (d : ProtocolDue) (es ds : List ProtocolDue) (s : List ℕ) (ts : Pieces) (b : Bool) → (b ≡ true → AllSpelled word ds ts → Spelled word d (s ∷ ts)) → (if b then Some ds else None) ≡ Some es → AllSpelled word es ts → Spelled word d (s ∷ ts)
   from_test d es ds s ts true spelled e h = let due : es ≡ ds = cc in spelled refl (subst (λ (gs : List ProtocolDue). AllSpelled word gs ts) due h)
   from_test d es ds s ts false spelled e h = let none : ⊥ = cc in absurd none
@@ -51,7 +51,7 @@ module _ (word : ℕ → List ℕ) where
   abbrev pub HasNumber : List ℕ → Type 0
   HasNumber s = (n : ℕ) × (word n ≡ s)
 
-  -- from what is due behind a piece to what is due before it
+  -- from what is due after a piece to what is due before it
   pub spelled_back : (d : ProtocolDue) (s : List ℕ) (es : List ProtocolDue) (ts : Pieces) → HasNumber s → protocol_follow d s ≡ Some es → AllSpelled word es ts → Spelled word d (s ∷ ts)
   spelled_back body s es ts held e h = from_test body es (more 0 ∷ []) s ts (bytes_eq s (codes "begin")) (λ t g.
       let x = lone protocol_layer (Spelled word) (more 0) ts g in (x.0, x.1, λ i. test_is s (codes "begin") t i ∷ x.2 i)) e h

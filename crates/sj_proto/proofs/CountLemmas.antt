@@ -42,7 +42,7 @@ skipped [] (arms o k) ds e h = absurd (omega (arith, h.1))
 skipped (b ∷ bs) (arms o k) ds e h = h.3 b
 skipped bs (fixed p) ds e h = let none : ⊥ = cc in absurd none
 
--- at the beginning, or behind it
+-- at the beginning, or after it
 abbrev pub Begun : ℕ → List ℕ → List ProtocolDue → Type 0
 Begun n bs ds = ((ds ≡ body ∷ []) × (n ≡ 0) × (bs ≡ [])) ⊎ Fits bs ds
 

@@ -37,7 +37,7 @@ pub no_name_protocol : is_name (codes "protocol") ≡ false
 unfolding is_reserved
 no_name_protocol = refl
 
--- what is due behind the first word of a protocol
+-- what is due after the first word of a protocol
 abbrev pub behind_word : ℕ → List Due → List Due
 behind_word k ds = name ∷ fixed (codes "{") ∷ proto body ∷ fixed (codes "}") ∷ protocols (suc k) ∷ ds
 
@@ -81,13 +81,13 @@ module _ (r q : Reading) (names : Names) (k : ℕ) (room : k < 256) (first : Tak
   pub word_stuck : (n : ℕ) (ds : List Due) (f : Fault) → Stuck file_layer limits n (standing q names) (behind_word k ds) f → Stuck file_layer limits n (standing r names) (protocols k ∷ ds) f
   word_stuck n ds f st = stuck_cons file_layer limits n n (standing r names) (standing q names) (codes "protocol") (protocols k ∷ ds) (behind_word k ds) f took_word (word_step limits k n ds room) st
 
-  -- behind the name too
+  -- after the name too
   module _ (t : Reading) (new : Names) (l : ℕ) (named : Gives (standing q names) (standing t new) (λ word. word l ∷ []) (λ word. IsNamed limits word l)) where
     pub named_stuck : (n : ℕ) (ds : List Due) (f : Fault) → Stuck file_layer limits n (standing t new) (fixed (codes "{") ∷ proto body ∷ fixed (codes "}") ∷ protocols (suc k) ∷ ds) f
         → Stuck file_layer limits n (standing r names) (protocols k ∷ ds) f
     named_stuck n ds f st = word_stuck n ds f (name_stuck (standing q names) (standing t new) l n (fixed (codes "{") ∷ proto body ∷ fixed (codes "}") ∷ protocols (suc k) ∷ ds) f named st)
 
-    -- and behind the brace
+    -- and after the brace
     module _ (u : Reading) (opened : TakesText t (codes "{") u) where
       pub opened_stuck : (n : ℕ) (ds : List Due) (f : Fault) → Stuck file_layer limits n (standing u new) (proto body ∷ fixed (codes "}") ∷ protocols (suc k) ∷ ds) f → Stuck file_layer limits n (standing r names) (protocols k ∷ ds) f
       opened_stuck n ds f st =

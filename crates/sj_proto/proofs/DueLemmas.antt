@@ -1,4 +1,4 @@
--- A due that takes a piece: what is due behind it has the depth and the numbers that the piece leaves.
+-- A due that takes a piece: what is due after it has the depth and numbers that the piece leaves.
 use Rattle.std.proofs.Common.{◌≡◌, ℕ, suc, ◌<◌, Bool, true, false, IsTrue, List, [], ◌∷◌, ◌++◌, drop, length, Some, None, refl, ap, sym, subst, arith}
 use Rattle.std.specs.Prelude.{codes, if◌then◌else◌, ◌||◌, nat_le, nat_lt}
 use Rattle.std.specs.Str.{bytes_eq}
@@ -19,7 +19,7 @@ pub record IsPlain (p : List ℕ) : Type 0 where
   pub name : is_name p ≡ false
   pub comma : bytes_eq p (codes ",") ≡ false
 
--- the dues fit the open brackets, each with its commas; behind arms any number of commas may stand
+-- the dues fit the open brackets, each with its commas; after arms any number of commas may stand
 abbrev pub Fits : List ℕ → List ProtocolDue → Type 0
 Fits bs [] = Unit {0}
 Fits bs (body ∷ ds) = ⊥
@@ -32,7 +32,7 @@ Fits bs (label k ∷ ds) = (arms_in bs ≡ k) × Fits bs ds
 Fits bs (arms o k ∷ ds) = (o ≡ length bs) × (0 < length bs) × (suc (arms_in bs) ≡ k) × ((h : ℕ) → Fits (h ∷ drop 1 bs) ds)
 Fits bs (fixed p ∷ ds) = IsPlain p × Fits (if is_close p then drop 1 bs else bs) ds
 
--- a due that takes the piece: what is due behind it, what it counts and where it passes a limit
+-- a due that takes the piece: what is due after it, what it counts and where it passes a limit
 abbrev pub Took : Limits → ℕ → List ℕ → ProtocolDue → List ProtocolDue → List ProtocolDue → List ℕ → Type 0
 Took L n bs d es ds s = Fits (brackets_behind bs s) (es ++ ds) × (protocol_counted n d s ≡ items_behind n s) × (protocol_passes L n d s ≡ is_over L n bs s)
 

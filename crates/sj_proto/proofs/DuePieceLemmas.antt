@@ -35,7 +35,7 @@ module _ (word : ℕ → List ℕ) where
   abbrev pub AllSpelled : List ProtocolDue → Pieces → Type 0
   AllSpelled ds ts = Alls protocol_layer Spelled ds ts
 
-  -- an item, and the items behind it
+  -- an item, and the items after it
   item_of : (w : Way) (a : Pieces) (r : Place) → IsTail w a → IsWritable word r → (p : Place) × IsWritable word p × (p ≢ done) × (way_piece w ∷ (a ++ dotted word r) ≡ seq_pieces word p)
   item_of w a r (inl t) h = (
     message w t.0 r,
@@ -77,7 +77,7 @@ module _ (word : ℕ → List ℕ) where
       by_tests false true ex ey f = at_way Into (test_is s (codes "?") ey) f
       by_tests false false ex ey f = let none : ⊥ = cc in absurd none
 
-  -- an arm, and the arms behind it
+  -- an arm, and the arms after it
   pub arm_from : (o k : ℕ) (ds : List ProtocolDue) (ts : Pieces) → AllSpelled (label k ∷ fixed (codes ":") ∷ maybe o ∷ arms o (suc k) ∷ ds) ts
       → (l : ℕ) × (p : Place) × (c : Choices) × (b : Pieces) × IsTrue (is_name (word l)) × IsWritable word p × AreWritable word c × AllSpelled ds b × (ts ≡ (word l ∷ codes ":" ∷ (seq_pieces word p ++ listed word c)) ++ b)
   arm_from o k ds ts h =

@@ -133,7 +133,7 @@ pub open_plain : (w : Way) → (is_name (open_piece w) ≡ false) × (is_text (o
 open_plain Out = (refl, refl)
 open_plain Into = (refl, refl)
 
--- behind a way and what opens a bracket
+-- after a way and what opens a bracket
 module _ (w : Way) (s : List ℕ) (r q u : Reading) (names : Names) (o n : ℕ) (name : is_name s ≡ false) (text : is_text s ≡ false) (room : n < 1024) (first : TakesText r (way_piece w) q) (second : TakesText q s u) where
   pub opened_stuck : (es : List ProtocolDue) (f : Fault) → step protocol_layer limits (suc n) (behind o w ∷ []) s ≡ goes (suc n) es → (ds : List Due)
       → Stuck file_layer limits (n + 1) (standing u names) (map proto es ++ (proto (more o) ∷ ds)) f → Stuck file_layer limits n (standing r names) (proto (seq o) ∷ ds) f

@@ -1,4 +1,4 @@
--- A fault behind what was read of a protocol.
+-- A fault after what was read of a protocol.
 use Rattle.std.proofs.Common.{◌≡◌, ◌≢◌, ℕ, ◌+◌, ◌<◌, ◌≤◌, true, List, [], ◌∷◌, ◌++◌, refl, ap, sym, ◌∙◌, arith}
 use Rattle.std.specs.Prelude.{codes, map}
 use Rattle.sj_lang.specs.declared.proto.Item.{Item}
@@ -31,7 +31,7 @@ use Rattle.sj_proto.proofs.WholeRunLemmas.{dotted_run, protocol_in_file, in_file
 pub step_in_file : (n m : ℕ) (ds es : List ProtocolDue) (rest : List Due) (s : List ℕ) → step protocol_layer limits n ds s ≡ goes m es → step file_layer limits n (map proto ds ++ rest) s ≡ goes m (map proto es ++ rest)
 step_in_file n m ds es rest s e = step_before file_layer limits n m (map proto ds) (map proto es) rest s (step_embedded protocol_layer file_layer proto protocol_in_file limits n ds s ∙ ap (step_map proto) e)
 
--- items were read with this spelling, and the fault is behind them
+-- items were read with this spelling, and the fault is after them
 module _ (word : ℕ → List ℕ) (a m : At) (p : Place) (o n k : ℕ) (ds : List Due) (f : Fault) (here : Begins a (seq_pieces word p) m) (given : IsGiven limits word o p) (count : k ≡ n + item_count p) (few : k ≤ 1024) where
   items_run : Reads limits n (more o ∷ []) (dotted word p) k (more o ∷ [])
   items_run = Runs-to protocol_layer limits n (n + item_count p) k (more o ∷ []) (more o ∷ []) _ (sym count) (dotted_run limits word p o n [] given (omega arith))
@@ -63,7 +63,7 @@ module _ (a m : At) (p : Place) (o n k : ℕ) (ds : List Due) (f : Fault) (gives
   pub leads_maybe : Passes file_layer (proto (due_behind o p)) (next_of m.text.ahead) → Stuck file_layer limits k m ds f → Stuck file_layer limits n a (proto (maybe o) ∷ ds) f
   leads_maybe = let whole = gives (entry_of m.words) (itself m.words) in behind_maybe (entry_of m.words) a m p o n k ds f whole.0 whole.1 count few
 
--- behind an item and a dot
+-- after an item and a dot
 pub item_stuck : (now there end : At) (i : Item) (o n k : ℕ) (ds : List Due) (f : Fault) → Gives now there (λ word. item_pieces word i) (λ word. IsGiven limits word o (followed i done))
     → k ≡ n + item_count (followed i done) → k ≤ 1024 → Takes there (codes ".") end → Stuck file_layer limits k end (proto (seq o) ∷ ds) f → Stuck file_layer limits n now (proto (seq o) ∷ ds) f
 item_stuck now there end i o n k ds f gives count few dot st =
@@ -79,7 +79,7 @@ item_stuck now there end i o n k ds f gives count few dot st =
     some_item (OutLoop p) = λ e. cc
     some_item (InLoop p) = λ e. cc
 
--- behind a label
+-- after a label
 pub label_stuck : (a m : At) (l k n : ℕ) (ds : List Due) (f : Fault) → Gives a m (λ word. word l ∷ []) (λ word. IsNamed limits word l) → k < 16 → Stuck file_layer limits n m ds f
     → Stuck file_layer limits n a (proto (label k) ∷ ds) f
 label_stuck a m l k n ds f gives room st =
@@ -87,7 +87,7 @@ label_stuck a m l k n ds f gives room st =
     stuck_block file_layer limits n n a m (entry_of m.words l ∷ []) (proto (label k) ∷ ds) ds f whole.0
     (in_file limits n n (label k ∷ []) [] ds _ (Runs-cons protocol_layer limits n n n (label k ∷ []) [] [] (entry_of m.words l) [] (label_step limits (entry_of m.words l) k n [] room (record { name = whole.1.name; short = whole.1.short })) (Runs-none protocol_layer limits n []))) st
 
--- behind a label, the colon and its items
+-- after a label, the colon and its items
 pub arm_stuck : (a m : At) (l : ℕ) (p : Place) (o k n j : ℕ) (ds : List Due) (f : Fault) → Gives a m (λ word. word l ∷ codes ":" ∷ seq_pieces word p) (λ word. AreGiven limits word o k (arm l p no_choice))
     → j ≡ n + item_count p → j ≤ 1024 → Passes file_layer (proto (due_behind o p)) (next_of m.text.ahead) → Stuck file_layer limits j m ds f
     → Stuck file_layer limits n a (proto (label k) ∷ proto (fixed (codes ":")) ∷ proto (maybe o) ∷ ds) f

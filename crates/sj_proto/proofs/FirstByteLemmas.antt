@@ -1,4 +1,4 @@
--- The first bytes of pieces, and what may stand behind items.
+-- The first bytes of pieces, and what may stand after items.
 use Rattle.std.proofs.Common.{◌≡◌, ◌≢◌, ℕ, List, [], ◌∷◌, get_or, refl, ap, arith}
 use Rattle.std.specs.Prelude.{codes}
 use Rattle.sj_lang.specs.declared.proto.Way.{Way}
@@ -10,7 +10,7 @@ use Rattle.sj_grammar.specs.Protocols.{way_piece, open_piece, close_piece}
 abbrev pub byte : ℕ → Pieces → ℕ
 byte n ps = get_or (get_or ps n []) 0 0
 
--- what may stand behind items: no dot and no item; the first byte is another
+-- what may stand after items: no dot and no item; the first byte is another
 abbrev pub Closes : Pieces → Type 0
 Closes ps = (byte 0 ps ≢ 46) × (byte 0 ps ≢ 33) × (byte 0 ps ≢ 63)
 

@@ -1,4 +1,4 @@
--- The protocols at the front of a text: what they are, or their first fault.
+-- The protocols at the start of a text: what they are, or their first fault.
 use Rattle.std.proofs.Common.{◌≡◌, ℕ, suc, ◌+◌, ◌<◌, ◌≤◌, false, List, [], ◌∷◌, ◌++◌, length, All, refl, ap, sym, subst, ◌∙◌, append_assoc, append-nil, arith}
 use Rattle.std.specs.Prelude.{map}
 use Rattle.std.proofs.lemmas.List.Elements.{All-push}
@@ -60,7 +60,7 @@ defs_more a m b xs x g h =
     (λ names h. subst (All (IsProtocolDef limits names)) (sym (map_push protocol_of xs x)) (All-push (IsProtocolDef limits names) (map protocol_of xs) (protocol_of x) h.0 h.1))
     (Lines-append a m b (λ names. protocols_pieces names.word (map protocol_of xs)) (λ names. protocol_pieces names.word (protocol_of x)) (λ names. All (IsProtocolDef limits names) (map protocol_of xs)) (λ names. IsProtocolDef limits names (protocol_of x)) g h)
 
--- behind one protocol
+-- after one protocol
 pub def_stuck : (a b : At) (p : ProtocolAt) (k n : ℕ) (ds : List Due) (f : Fault) → k < 256 → GivesOnLines a b (λ names. protocol_pieces names.word p) (λ names. IsProtocolDef limits names p)
     → Stuck file_layer limits (item_count p.body) b (protocols (suc k) ∷ ds) f → Stuck file_layer limits n a (protocols k ∷ ds) f
 def_stuck a b p k n ds f room gives st =

@@ -35,7 +35,7 @@ pub some_arms : (xs : List Arm) (x : Arm) → choices_of (xs ++ x ∷ []) ≢ no
 some_arms [] x = λ e. cc
 some_arms (y ∷ xs) x = λ e. cc
 
--- the arms so far, one more, and a piece behind it
+-- the arms so far, one more, and a piece after it
 pub arm_and : (start now there end : At) (xs : List Arm) (x : Arm) (o k : ℕ) → k ≡ length xs → Gives start now (λ word. drop 1 (listed word (choices_of xs) ++ codes "," ∷ [])) (λ word. AreGiven limits word o 0 (choices_of xs))
     → Gives now there (λ word. arm_pieces word x) (λ word. AreGiven limits word o k (arm x.label x.rest no_choice)) → (s : List ℕ) → Takes there s end
     → Gives start end (λ word. drop 1 (listed word (choices_of (xs ++ x ∷ []))) ++ s ∷ []) (λ word. AreGiven limits word o 0 (choices_of (xs ++ x ∷ [])))

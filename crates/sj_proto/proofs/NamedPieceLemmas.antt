@@ -40,7 +40,7 @@ name_step L word l n ds is =
     let named : is_name (word l) ≡ true = grind (arith, nat_tests) in
     rw (named, le-ltb L.name (length (word l)) is.short) refl
 
--- behind a name
+-- after a name
 pub name_stuck : (a m : At) (l n : ℕ) (ds : List Due) (f : Fault) → Gives a m (λ word. word l ∷ []) (λ word. IsNamed limits word l) → Stuck file_layer limits n m ds f → Stuck file_layer limits n a (name ∷ ds) f
 name_stuck a m l n ds f gives st =
     let whole = gives (entry_of m.words) (itself m.words) in

@@ -1,4 +1,4 @@
--- At the front of a text stand one list of protocols, or a fault.
+-- At the start of a text stand one list of protocols, or a fault.
 use Rattle.std.proofs.Common.{◌≡◌, ℕ, suc, ◌+◌, true, false, List, [], ◌∷◌, ◌++◌, drop, length, get_or, All, Some, None, Result, Ok, Err, refl, ap, sym, subst, ◌∙◌, append_assoc, arith}
 use Rattle.std.specs.Prelude.{codes, IsErrAnd}
 use Rattle.std.specs.Str.{bytes_eq}
@@ -59,7 +59,7 @@ module _ (a b : At) (ps : List ProtocolAt) (is : AreProtocols a ps b) where
   halts_behind : (f : Fault) → IsFaultInProtocols a f → Halts file_layer limits (runs 0 []).0 b (protocols (0 + length ps) ∷ []) f
   halts_behind f st = halts_there file_layer limits 0 (runs 0 []).0 a b (protocols 0 ∷ []) (protocols (0 + length ps) ∷ []) pieces_there f (st 0 []) here (runs 0 []).1.steps (no_more b (0 + length ps) (runs 0 []).0 is.ends)
 
-  -- and, where it is due, what comes behind it
+  -- and, where it is due, what comes after it
   halts_later : (f : Fault) (what : What) (s rest : List ℕ) → next_of b.text.ahead ≡ token what s rest → IsFaultInProtocols a f → Halts file_layer limits (runs 0 (fixed s ∷ [])).0 (past b s rest) [] f
   halts_later f what s rest e st =
       let r = runs 0 (fixed s ∷ []) in

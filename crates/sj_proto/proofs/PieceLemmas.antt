@@ -54,7 +54,7 @@ module _ (word : ℕ → List ℕ) where
       ∙ ap (λ ps. codes "." ∷ ps) (sym (append_assoc (item_pieces word j) (dotted word (place_of is)) (codes "." ∷ item_pieces word i)))
       ∙ sym (ap (λ ps. ps ++ codes "." ∷ item_pieces word i) (dotted-followed j (place_of is)))
 
-  -- behind a dot
+  -- after a dot
   pub seq-push : (is : List Item) (i : Item) → drop 1 (dotted word (place_of is) ++ codes "." ∷ []) ++ item_pieces word i ≡ seq_pieces word (place_of (is ++ i ∷ []))
   seq-push is i = seam (dotted word (place_of is)) (codes ".") (item_pieces word i) ∙ sym (ap (drop 1) (dotted-push is i))
 

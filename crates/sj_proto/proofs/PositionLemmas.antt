@@ -23,7 +23,7 @@ passed_is xs at to later within =
     let whole : at + (to - at) ≡ to = omega arith in
     ap (λ k. take at xs ++ take k (drop at xs)) n ∙ sym (take-add at (to - at) xs) ∙ ap (λ k. take k xs) whole
 
--- a piece, and what is behind it
+-- a piece, and what is after it
 pub piece_and_rest : (xs : List ℕ) (from to : ℕ) → from ≤ to → take (to - from) (drop from xs) ++ drop to xs ≡ drop from xs
 piece_and_rest xs from to later =
     let whole : from + (to - from) ≡ to = omega arith in

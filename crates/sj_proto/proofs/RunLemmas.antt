@@ -57,7 +57,7 @@ module _ (L : Limits) where
       Runs-cons protocol_layer L n n m (more o ∷ ds) (seq o ∷ ds) fs (codes ".") (way_piece w ∷ ps) refl
       (Runs-cons protocol_layer L n (suc n) m (seq o ∷ ds) (behind o w ∷ more o ∷ ds) fs (way_piece w) ps (way_step w o n ds h) r)
 
-  -- behind a dot, a way and what opens a bracket
+  -- after a dot, a way and what opens a bracket
   pub item_run : (w : Way) (o n m : ℕ) (ds es fs : List ProtocolDue) (s : List ℕ) (ps : Pieces) → n < L.items → step protocol_layer L (suc n) (behind o w ∷ more o ∷ ds) s ≡ goes (suc n) es
       → Reads (suc n) es ps m fs → Reads n (more o ∷ ds) (codes "." ∷ way_piece w ∷ s ∷ ps) m fs
   item_run w o n m ds es fs s ps room opens r =
@@ -99,7 +99,7 @@ module _ (L : Limits) where
     bracket_run o (choice w a rest) n ds = record { steps = refl }
     bracket_run o (repeat w p rest) n ds = record { steps = refl }
 
-    -- behind an arm
+    -- after an arm
     pub next_arm : (o : ℕ) (p : Place) (a : Choices) (k n m : ℕ) (ds : List ProtocolDue) → Reads n (arms o k ∷ fixed (codes "}") ∷ ds) (listed word a ++ codes "}" ∷ []) m ds
         → Reads n (due_behind o p ∷ arms o k ∷ fixed (codes "}") ∷ ds) (listed word a ++ codes "}" ∷ []) m ds
     next_arm o done no_choice k n m ds r = record { steps = r.steps }

@@ -1,4 +1,4 @@
--- Behind the pieces that are taken: how many items, which brackets, and no limit passed.
+-- After the pieces that are taken: how many items, which brackets, and no limit passed.
 use Rattle.std.proofs.Common.{◌≡◌, ℕ, Bool, true, false, List, [], ◌∷◌, ◌++◌, Option, Some, None, refl, ap, sym, subst, ◌∙◌, inr}
 use Rattle.std.specs.Prelude.{if◌then◌else◌}
 use Rattle.std.specs.List.{fold}
@@ -30,7 +30,7 @@ is_under false k m gs es e = (refl, cc, cc)
 begun_on : (L : Limits) (n : ℕ) (bs : List ℕ) (ds es : List ProtocolDue) (s : List ℕ) → Goes L n bs ds s es → Begun (items_behind n s) (brackets_behind bs s) es
 begun_on L n bs ds es s g = inr g.1
 
--- behind the pieces that are taken: so many items, those brackets, and no limit passed
+-- after the pieces that are taken: so many items, those brackets, and no limit passed
 pub run_begun : (ps : Pieces) (n m : ℕ) (bs : List ℕ) (ds es : List ProtocolDue) → Begun n bs ds → run protocol_layer limits n ds ps ≡ goes m es
     → (Begun m (fold brackets_behind bs ps) es) × (m ≡ fold items_behind n ps) × NonePasses n bs ps
 run_begun [] n m bs ds es b e =

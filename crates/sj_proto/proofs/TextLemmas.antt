@@ -53,7 +53,7 @@ module _ (bytes : List ℕ) (old : Names) (r : Reading) (same : r ≡ record { b
   first_fault refusals.NoMemory st = tt
 
   module _ (new : Names) (q : Reading) (p : Place) (gives : Gives (standing r old) (standing q new) (λ word. body_pieces word p) (λ word. IsBody limits word p)) where
-    -- something stands behind a protocol
+    -- something stands after a protocol
     pub behind_fault : (f : Fault) → Passes file_layer (proto (more 0)) (next_of q.ahead) → next_of q.ahead ≢ at_end → Refuses (λ s. Some P1) q f → IsFirstFault bytes old f
     behind_fault f passes some h =
         let word = entry_of new.words in

@@ -19,7 +19,7 @@ use Rattle.sj_proto.specs.Writable.{IsWritable}
 use Rattle.sj_proto.proofs.RunLemmas.{Reads, open_step, arms_step, turns_step, label_step, item_run, close_run, close_behind, kind_like, without_dot, maybe_run, bracket_run, next_arm}
 
 module _ (L : Limits) (word : ℕ → List ℕ) where
-  -- an arm and the arms behind it, from the runs of both
+  -- an arm and the arms after it, from the runs of both
   arm_run : (o l : ℕ) (p : Place) (a : Choices) (k n m : ℕ) (ds : List ProtocolDue) → k < L.labels → IsLabel L (word l)
       → Reads L n (more o ∷ arms o (suc k) ∷ fixed (codes "}") ∷ ds) (dotted word p) (n + item_count p) (more o ∷ arms o (suc k) ∷ fixed (codes "}") ∷ ds)
       → Reads L (n + item_count p) (arms o (suc k) ∷ fixed (codes "}") ∷ ds) (listed word a ++ codes "}" ∷ []) m ds
@@ -96,7 +96,7 @@ module _ (L : Limits) (word : ℕ → List ℕ) where
   pub body_run : (p : Place) (n : ℕ) (ds : List ProtocolDue) → IsBody L word p → Reads L n (body ∷ ds) (body_pieces word p) (item_count p) (more 0 ∷ ds)
   body_run p n ds is = body_within p n ds (given_within L word p 0 is.given) is.few
 
--- dues of a protocol do the same in a file, whatever is due behind
+-- dues of a protocol do the same in a file, whatever is due later
 pub protocol_in_file : IsEmbedded protocol_layer file_layer proto
 protocol_in_file = record { follows = λ d s. refl; nones = λ d. refl; counts = λ n d s. refl; limits = λ L n d s. refl }
 

@@ -16,7 +16,7 @@ but_way full s = if is_way s then (if full then Some over_limit else None) else 
 abbrev pub opens : Way → List ℕ → Bool
 opens w s = bytes_eq s (open_piece w) || (bytes_eq s (codes "{") || bytes_eq s (codes "["))
 
--- nothing that stands behind that way, or a bracket too deep
+-- nothing that stands after that way, or a bracket too deep
 abbrev pub but_open : Way → Bool → List ℕ → Option Rule
 but_open w deep s = if opens w s then (if deep then Some over_limit else None) else Some not_due
 

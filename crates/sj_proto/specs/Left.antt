@@ -3,7 +3,7 @@ use Rattle.std.specs.Prelude.{ℕ}
 use Rattle.sj_lang.specs.Place.{Place, done, message, choice, repeat}
 use Rattle.sj_grammar.specs.ProtocolDues.{ProtocolDue, more, maybe}
 
--- behind items that may be none
+-- after items that may be none
 abbrev pub due_behind : ℕ → Place → ProtocolDue
 due_behind o done = maybe o
 due_behind o (message w k rest) = more o

@@ -1,4 +1,4 @@
--- Where a reader stands behind a call, refused or not.
+-- Where a reader stands after a call, refused or not.
 use Rattle.std.specs.Prelude.{◌≡◌, ◌≤◌, ◌++◌, length}
 use Rattle.sj_grammar.specs.Reading.{Reading}
 

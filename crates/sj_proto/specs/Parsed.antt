@@ -22,7 +22,7 @@ Gives a b pieces Fits = (word : ℕ → List ℕ) → Spells word b.words → Be
 abbrev pub GivesOnLines : At → At → (Spelling → List Piece) → (Spelling → Type 0) → Type 0
 GivesOnLines a b pieces Fits = (names : Spelling) → Spells names.word b.words → BeginsOnLines a (pieces names) b × Fits names
 
--- the fault is the first one, whatever is due behind
+-- the fault is the first one, whatever is due later
 abbrev pub Stops : (List Due → List Due) → ℕ → At → ParseRefusal → Type 0
 Stops due n a = OnFault (λ f. (ds : List Due) → Stuck file_layer limits n a (due ds) f)
 
@@ -31,7 +31,7 @@ pub record Extends (old new : List (List ℕ)) : Type 0 where
   pub more : List (List ℕ)
   pub whole : new ≡ old ++ more
 
--- names are added behind the old ones; the texts stay
+-- names are added after the old ones; the texts stay
 pub record Keeps (old new : Names) : Type 0 where
   pub words : Extends old.words new.words
   pub texts : new.texts ≡ old.texts
@@ -48,7 +48,8 @@ need words r = 2 * length words + length r.ahead
 abbrev pub room_for_names : ℕ
 room_for_names = 2 * limit_of_names
 
--- so many words, and texts, may be there before a text is read: there is room for those of each text
+-- so many words, and texts, may be there before a text is read:
+-- there is room for those of each text
 abbrev pub names_before : ℕ
 names_before = 32768
 

@@ -1,4 +1,4 @@
--- The text of one protocol, and the protocols at the front of a text.
+-- The text of one protocol, and the protocols at the start of a text.
 use Rattle.std.specs.Prelude.{◌≡◌, ℕ, ◌≤◌, false, List, [], ◌∷◌, length, All, codes, Result, IfOk, IfErr}
 use Rattle.std.specs.Str.{bytes_eq}
 use Rattle.sj_lang.specs.Place.{Place}
@@ -18,8 +18,8 @@ use Rattle.sj_grammar.specs.ProtocolDues.{body, protocol_layer}
 use Rattle.sj_grammar.specs.FileDues.{Due, protocols, file_layer}
 use Rattle.sj_grammar.specs.Faults.{Stuck}
 
--- The text is a protocol, whatever blanks and comments it has. Its labels have their numbers in the new tables: the old words, and then each new name in order of first
--- occurrence.
+-- The text is a protocol, whatever blanks and comments it has. Its labels have their numbers in the
+-- new tables: the old words, and then each new name in order of first occurrence.
 pub record IsProtocol (bytes : List ℕ) (old new : Names) (p : Place) : Type 0 where
   pub end : At
   pub begins : Begins (start bytes old.words old.texts) (body_pieces (entry_of new.words) p) end
@@ -50,15 +50,16 @@ IsUnreadable r at_end f = ⊥
 IsUnreadable r (bad rule rest) f = f ≡ fault_at (passed r rest) rule
 IsUnreadable r (token what s rest) f = ⊥
 
--- From here to there the text is these protocols, each on its line, and no more of them: by each spelling that agrees with the words there, so that the words of a larger
--- table spell them too.
+-- From here to there the text is these protocols, each on its line, and no more of them.
+-- It is so by each spelling that agrees with the words there, so that the words of a larger table
+-- spell them too.
 pub record AreProtocols (a : At) (ps : List ProtocolAt) (b : At) : Type 0 where
   pub begins : (names : Spelling) → Spells names.word b.words → BeginsOnLines a (protocols_pieces names.word ps) b
   pub defined : (names : Spelling) → Spells names.word b.words → All (IsProtocolDef limits names) ps
   pub few : length ps ≤ limits.protocols
   pub ends : IsOther (codes "protocol") (next_of b.text.ahead)
 
--- the first fault in the protocols at the front, whatever is due behind them
+-- the first fault in the protocols at the start, whatever is due after them
 abbrev pub IsFaultInProtocols : At → Fault → Type 0
 IsFaultInProtocols a f = (n : ℕ) (ds : List Due) → Stuck file_layer limits n a (protocols 0 ∷ ds) f
 

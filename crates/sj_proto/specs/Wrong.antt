@@ -19,7 +19,7 @@ abbrev pub one_more : List ℕ → List ℕ
 one_more [] = []
 one_more (n ∷ ns) = suc n ∷ ns
 
--- the open brackets behind a piece, innermost first: for each the commas in it
+-- the open brackets after a piece, innermost first: for each the commas in it
 abbrev pub brackets_behind : List ℕ → List ℕ → List ℕ
 brackets_behind ns s = if is_open s then 0 ∷ ns else (if is_close s then drop 1 ns else (if bytes_eq s (codes ",") then one_more ns else ns))
 
@@ -38,14 +38,15 @@ abbrev pub arms_in : List ℕ → ℕ
 arms_in [] = 0
 arms_in (n ∷ ns) = n
 
--- with so many items and these brackets before it, the piece is one item too many, a bracket too deep, or a label too many or too long
+-- with so many items and these brackets before it, the piece is one item too many,
+-- a bracket too deep, or a label too many or too long
 abbrev pub is_over : Limits → ℕ → List ℕ → List ℕ → Bool
 is_over L n ns s =
     if is_way s then nat_le L.items n
     else (if is_open s then nat_le L.nesting (length ns)
     else (if is_name s then nat_le L.labels (arms_in ns) || nat_lt L.name (length s) else false))
 
--- behind these pieces it passes a limit
+-- after these pieces it passes a limit
 abbrev pub passes_limit : Pieces → List ℕ → Bool
 passes_limit ps s = is_over limits (items_in ps) (brackets_in ps) s
 

@@ -1,9 +1,14 @@
 //! Laws of tokens and of the grammar of protocols. A text has one reading:
-//! `only_the_end_is_the_end`, `the_end_comes_again`, `a_fault_comes_again`: what `Tokens::next` answers at the end and at a fault.
-//! `what_is_ahead_was_ahead`: a reader that advances has ahead what it had ahead before, but for what it read between.
-//! `one_protocol_a_text`, `one_fault_a_text`, `no_protocol_has_a_fault`: a text stands for one protocol, or has one first fault.
-//! `first_faults_go_wrong`, `what_goes_wrong_is_the_first_fault`: the first fault in the grammar's own words.
-//! `one_list_in_front`, `no_list_in_front_has_a_fault`: the same of the protocols at the front of a text.
+//! `only_the_end_is_the_end`, `the_end_comes_again`, `a_fault_comes_again`:
+//! what `Tokens::next` answers at the end and at a fault.
+//! `what_is_ahead_was_ahead`: a reader that advances has ahead what it had ahead before,
+//! but for what it read between.
+//! `one_protocol_a_text`, `one_fault_a_text`, `no_protocol_has_a_fault`:
+//! a text stands for one protocol, or has one first fault.
+//! `first_faults_go_wrong`, `what_goes_wrong_is_the_first_fault`:
+//! the first fault in the grammar's own words.
+//! `one_list_in_front`, `no_list_in_front_has_a_fault`: the same of the protocols at the
+//! start of a text.
 ghost use Rattle.std.specs.Prelude.{◌≡◌, ℕ, ◌-◌, List, length, drop, Ok};
 ghost use Rattle.sj_lang.specs.declared.file.Names.{Names as NamesAt};
 ghost use Rattle.sj_lang.specs.Place.{Place};
@@ -26,7 +31,7 @@ pub fn only_the_end_is_the_end()
         → next_of r.ahead ≡ at_end }
 {}
 
-/// Behind the end the same is answered again.
+/// After the end the same is answered again.
 pub fn the_end_comes_again()
     ensures { (r : Reading) → next_of r.ahead ≡ at_end
         → let s = reading_after r at_end in answer_to s (next_of s.ahead) ≡ answer_to r at_end }
@@ -63,8 +68,9 @@ pub fn no_protocol_has_a_fault()
         → IsFirstFault bytes old f → ⊥ }
 {}
 
-/// Up to the first fault a protocol can go on so. At P1, and at the P3 of 2^63, none goes on with the
-/// next token, or the text isn't whole; at P4 one does, limits aside, and the token passes a limit.
+/// Up to the first fault a protocol can go on so. At P1, and at the P3 of 2^63, none goes on with
+/// the next token, or the text isn't whole. At P4 one does, limits aside, and the token passes a
+/// limit.
 pub fn first_faults_go_wrong()
     ensures { (bytes : List ℕ) (names : NamesAt) (f : Fault) → IsFirstFault bytes names f
         → GoesWrong protocol_grammar (start bytes names.words names.texts) f }
@@ -77,13 +83,13 @@ pub fn what_goes_wrong_is_the_first_fault()
         → IsFirstFault bytes names f }
 {}
 
-/// One list of protocols stands at the front of a text, and ends at one position.
+/// One list of protocols stands at the start of a text, and ends at one position.
 pub fn one_list_in_front()
     ensures { (a b c : At) (ps qs : List ProtocolAt) → AreProtocols a ps b → AreProtocols a qs c
         → (ps ≡ qs) × (b ≡ c) }
 {}
 
-/// Where protocols stand at the front there is no fault in them.
+/// Where protocols stand at the start there is no fault in them.
 pub fn no_list_in_front_has_a_fault()
     ensures { (a b : At) (ps : List ProtocolAt) (f : Fault) → AreProtocols a ps b
         → IsFaultInProtocols a f → ⊥ }

@@ -125,7 +125,7 @@ fn item(
     }
 }
 
-// Behind `<` or `(`, with the bracket that closes it.
+// After `<` or `(`, with the bracket that closes it.
 #[cycle(parse)]
 fn carried(
     alloc: Global,
@@ -165,7 +165,7 @@ fn carried(
     Ok(Kind::Session(p))
 }
 
-// Behind `[`, up to the star.
+// After `[`, up to the star.
 #[cycle(parse)]
 fn turns(
     alloc: Global,
@@ -193,7 +193,7 @@ fn turns(
     Ok(body)
 }
 
-// Behind `{`, with the brace that closes it.
+// After `{`, with the brace that closes it.
 #[cycle(parse)]
 fn choices(
     alloc: Global,

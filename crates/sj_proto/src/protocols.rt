@@ -1,4 +1,4 @@
-//! The text of one protocol, and the protocols at the front of a file.
+//! The text of one protocol, and the protocols at the start of a file.
 ghost use Rattle.std.specs.Prelude.{◌≡◌, ℕ, true, ◌<◌, ◌≤◌, IfOk, IfErr, List, ◌∷◌, length, map, codes};
 ghost use Rattle.sj_lang.specs.FileAt.{ProtocolAt};
 ghost use Rattle.sj_lang.specs.FileView.{protocol_of};
@@ -75,7 +75,7 @@ pub fn protocol_def(
     Ok(ProtocolDef { line, name, body })
 }
 
-/// The protocols at the front of a text, up to the first token that isn't `protocol`, where the
+/// The protocols at the start of a text, up to the first token that isn't `protocol`, where the
 /// reader then stands. Their names and labels are words of `names`, which grows by the new ones,
 /// also where the text is refused.
 pub fn parse_protocols(
@@ -85,7 +85,7 @@ pub fn parse_protocols(
 ) -> Result<Vec<ProtocolDef>, ParseRefusal>
     requires words { length names.old.words ≤ names_before }
     requires texts { length names.old.texts ≤ names_before }
-    // the value exactly where protocols stand at the front, and that value alone
+    // the value exactly where protocols stand at the start, and that value alone
     ensures found { IfOk result (λ v.
         AreProtocols (standing tokens.old names.old) (map protocol_of v.items)
         (standing tokens.new names.new)) }

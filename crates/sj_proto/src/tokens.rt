@@ -57,7 +57,7 @@ impl<'a> Tokens<'a> {
         }
     }
 
-    /// Tells the caller that the whole text has at most 65,536 bytes; it does nothing.
+    /// Promises the caller that the whole text has at most 65,536 bytes; it does nothing.
     pub fn stays_short(&self)
         ensures { length self.now.before + length self.now.ahead ≤ file_limit }
     {

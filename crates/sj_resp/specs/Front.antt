@@ -1,4 +1,4 @@
--- What stands at the front of bytes. Refusals come in the order in which the code finds them.
+-- What stands at the start of bytes. Refusals come in the order in which the code finds them.
 use Rattle.std.specs.Prelude.{ℕ, ◌+◌, Bool, ◌&&◌, ◌==◌, if◌then◌else◌, nat_lt, List, [], ◌∷◌, length, take, drop, slice_index, Option, Some, None, codes}
 use Rattle.std.specs.List.{list_any, position_or_len}
 use Rattle.std.specs.Str.{bytes_eq}

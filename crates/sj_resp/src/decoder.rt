@@ -62,8 +62,8 @@ impl TokenDecoder {
         }
     }
 
-    /// The next token. `None`: the bytes are less than a token, so feed more. A refusal changes nothing,
-    /// and unless it is out of memory, the next call refuses for the same cause.
+    /// The next token. `None`: the bytes are less than a token, so feed more. A refusal changes
+    /// nothing, and unless it is out of memory, the next call refuses for the same cause.
     pub fn next(&mut self) -> Result<Option<Token>, RespRefusal>
         ensures token { IfOk result (λ x. IfSome x (λ t. front_of self.old ≡ Whole (token_at t) self.new)) }
         ensures none { IfOk result (λ x. IfNone x ((front_of self.old ≡ Cut) × (self.new ≡ self.old))) }

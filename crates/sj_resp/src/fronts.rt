@@ -1,4 +1,4 @@
-//! The token at the front of bytes.
+//! The token at the start of bytes.
 ghost use Rattle.std.specs.Prelude.{◌≡◌, ◌==◌, ◌+◌, ◌≤◌, length, drop, take, IfOk, IfErr, IfSome, IfNone};
 ghost use Rattle.std.specs.List.{position_or_len};
 ghost use Rattle.sj_resp.specs.Front.{Cut, bytes_of, front_of, is_kind as kinds, is_null as null_line, line_end, line_then, of_number, token_of as token_in};
@@ -98,7 +98,8 @@ fn is_kind(byte: u8) -> bool
     byte == b'+' || byte == b'-' || byte == b':' || byte == b'$' || byte == b'*'
 }
 
-/// The token of that first byte, read from the line at the front of the bytes and from those after it.
+/// The token of that first byte, read from the line at the start of the bytes
+/// and from those after it.
 #[tactic(auto, unfolding(crate::specs::Front::line_then))]
 fn lined(alloc: Global, kind: u8, bytes: &[u8]) -> Result<Option<(Token, usize)>, RespRefusal>
     ensures { MeetsFront result (line_then (token_in kind) bytes.now) bytes.now }
@@ -120,7 +121,8 @@ fn lined(alloc: Global, kind: u8, bytes: &[u8]) -> Result<Option<(Token, usize)>
     }
 }
 
-/// The token at the front of the bytes, and how many bytes it takes. `None`: they are less than a token.
+/// The token at the start of the bytes, and how many bytes it takes. `None`:
+/// they are less than a token.
 #[tactic(auto, unfolding(crate::specs::Front::front_of))]
 pub(crate) fn front(alloc: Global, bytes: &[u8]) -> Result<Option<(Token, usize)>, RespRefusal>
     ensures { MeetsFront result (front_of bytes.now) bytes.now }

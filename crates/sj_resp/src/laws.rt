@@ -1,7 +1,7 @@
 //! Laws of the tokens. Each is a function that does nothing.
 //!
-//! - `a_token_stays`, `a_refusal_stays`: further bytes change nothing. So it doesn't matter how a stream
-//!   is cut into pieces.
+//! - `a_token_stays`, `a_refusal_stays`: further bytes change nothing. So it doesn't matter how a
+//!   stream is cut into pieces.
 //! - `bytes_are_read`, `a_length_is_read`, `a_command_is_read`: what is put is read.
 
 ghost use Rattle.std.specs.Prelude.{◌≡◌, ◌≤◌, ℕ, List, ◌++◌, ◌∷◌, Some, decimal, length};

@@ -1,5 +1,5 @@
-//! A codec for the part of the protocol RESP, version 2, that a client of a stream server needs:
-//! commands are put into bytes, and tokens of replies are read from bytes.
+//! A codec for the part of the protocol RESP, version 2, that a client of a stream server needs. It
+//! puts commands into bytes, and reads tokens of replies from bytes.
 #![tactic(auto)]
 
 mod command;

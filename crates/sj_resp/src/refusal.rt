@@ -5,8 +5,8 @@ use sj_base::NoMemory;
 use std::alloc::AllocError;
 use thiserror::Error;
 
-/// Why no token is read from the front of the bytes. All causes but `NoMemory` are final: no further
-/// bytes make a token of these.
+/// Why no token is read from the start of the bytes. All causes but `NoMemory` are final: no
+/// further bytes make a token of these.
 #[derive(Clone, Copy, Debug, PartialEq, Eq, Error)]
 pub enum RespRefusal {
     /// The first byte begins no token.

@@ -1,6 +1,7 @@
 //! Tokens of replies.
 
-/// A reply without parts, or the head of an array. The parts of an array are the replies after its head.
+/// A reply without parts, or the head of an array. The parts of an array are
+/// the replies after its head.
 #[derive(Debug, Drop)]
 pub enum Token {
     /// A line that says how it went.

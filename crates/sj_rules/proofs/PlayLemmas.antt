@@ -12,7 +12,8 @@ use Rattle.sj_rules.specs.Opened.{opened_number, new_held, smallest, without}
 use Rattle.sj_rules.specs.Rows.{Worked}
 use Rattle.sj_rules.specs.Node.{Want, ended, local, sends, delegates, takes, closes, requests, accepts, Play, NodeAt, put, with_main, with_old, with_offers, quietly, held_behind_send, held_behind_take, send_act, delegate_act, work_of_take, is_free, take_from, take_act, close_act, held_at, accept_session, accept_offered, act_by, acts}
 
--- what a node asks of a play: the message at the head of the end from which it takes is all that it tests
+-- what a node asks of a play: the message at the head of the end from which it takes is all that it
+-- tests
 pub record AgreeAt {P Q : Type 0} (other play : Play P Q) (n : NodeAt P Q) : Type 0 where
   pub next : (place : P) (way : Way) (m : Msg) → other.next place way m ≡ play.next place way m
   pub over : (place : P) → other.is_over place ≡ play.is_over place

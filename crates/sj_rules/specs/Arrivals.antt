@@ -35,7 +35,8 @@ abbrev pub ack_comes : {P Q : Type 0} → NodeAt P Q → (origin : ℕ) → EndI
 ack_comes n origin e conn (Some (Signalled o to)) = option_map (given_after n e to) (acked_body o origin conn)
 ack_comes n origin e conn _ = None
 
--- a Claim: only at a Parked record, whatever its number; the peer gets a Signal that names the claimer
+-- a Claim: only at a Parked record, whatever its number; the peer gets a Signal that names the
+-- claimer
 abbrev pub claim_comes : {P Q : Type 0} → NodeAt P Q → (origin : ℕ) → EndId → Option (OldAt P) → Option (Worked P (NodeAt P Q))
 claim_comes n origin e (Some (Parked o)) =
     Some (record { state = with_old e (Some (Signalled o origin)) n; posts = record { party = o.peer; body = Signal (other_end o.id) o.conn origin o.taken } ∷ [] })
@@ -76,6 +77,7 @@ comes_or_opens blank pick n origin (Signal to conn party taken) = comes pick n o
 comes_or_opens blank pick n origin (Ack of conn) = comes pick n origin (Ack of conn)
 comes_or_opens blank pick n origin (Give e resend) = comes pick n origin (Give e resend)
 
--- a frame comes from that party, to one of so many: beyond the limits, or where it names a party that isn't there, it fits no row
+-- a frame comes from that party, to one of so many: beyond the limits, or where it names a party
+-- that isn't there, it fits no row
 abbrev pub arrives : {P Q : Type 0} → (blank : P) → (parties : ℕ) → (ℕ → ℕ → ℕ) → NodeAt P Q → (origin : ℕ) → FrameAt P → Option (Worked P (NodeAt P Q))
 arrives blank parties pick n origin f = if is_proper parties f then comes_or_opens blank pick n origin f.body else None

@@ -27,8 +27,8 @@ HasEnd w id (at_old p) e = old_end ((w.nodes p).old id) ≡ Some e
 HasEnd w id (on_way from to) e = (resend : Option ℕ) × Contains (bodies (w.lanes from to)) (Give e resend) × (is_give id (Give e resend) ≡ true)
 HasEnd w id (in_open from to) e = ⊥
 
--- x is what the plain world knows of the other end, y of this one: what was taken there was sent here, and the cache has
--- all that was sent from a base on up to which everything was taken
+-- x is what the plain world knows of the other end, y of this one. What was taken there was sent
+-- here. The cache has all that was sent from a base on, up to which everything was taken
 pub record CacheFits {P : Type 0} (x y : PlainSide P) (e : EndAt P) : Type 0 where
   pub base : e.base ≤ x.taken
   pub fewer : x.taken ≤ e.sent

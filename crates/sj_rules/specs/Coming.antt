@@ -1,4 +1,5 @@
--- Frames: what comes from s to r by their seats and their pace. x and y are what the plain world knows of s and r.
+-- Frames: what comes from s to r by their seats and their pace. x and y are what the plain world
+-- knows of s and r.
 use Rattle.std.specs.Prelude.{◌≡◌, ℕ, ◌+◌, false, ⊤, List, [], ◌∷◌, ◌++◌, Option, Some, None}
 use Rattle.sj_base.specs.declared.EndId.{EndId}
 use Rattle.sj_rules.specs.Record.{EndAt, BodyAt, Signal, Ack}
@@ -24,8 +25,9 @@ comes_low (ahead by_ack) e x = e.base
 comes_low level e x = e.base
 comes_low (behind c) e x = e.base
 
--- what comes to r where s sends for it: to a Held r whole, behind what is untaken; to a Parked one loose; to one that is
--- awaited whole, behind what is deferred; to a Closed one the Fin alone
+-- what comes to r where s sends for it. To a Held r it comes whole, after what is untaken; to a
+-- Parked one loose; to one that is awaited whole, after what is deferred. To a Closed one the Fin
+-- alone comes
 abbrev pub ComesLive : {P : Type 0} → Pace → EndId → (x y : PlainSide P) → (s r : Seat P) → (live : List (BodyAt P)) → Type 0
 ComesLive pace to x y s (held at h) live = ComesToHeld to h (untaken_of x y) y.taken x.taken (is_over s) (mark_for to h.end.conn x s) live
 ComesLive pace to x y s (parked at e) live = ComesLoose to e.conn (is_over s) (signal_of to e.conn x.taken s) live
@@ -86,7 +88,8 @@ explanation (ahead by_ack) to conn x s = Ack to conn ∷ []
 explanation (ahead by_signal) to conn x s = Signal to conn (sender_of s) x.taken ∷ []
 explanation (behind c) to conn x s = []
 
--- under the number of a Signalled end r: nothing where s is behind, else frames to drop and then what explains; at all other ends nothing is old
+-- under the number of a Signalled end r: nothing where s lags, else frames to drop and then what
+-- explains. At all other ends nothing is old
 abbrev pub AreOld : {P : Type 0} → Pace → EndId → PlainSide P → (s r : Seat P) → (old : List (BodyAt P)) → Type 0
 AreOld (behind c) to x s (signalled at t e deferred) old = old ≡ []
 AreOld pace to x s (signalled at t e deferred) old = ComesLoose to e.conn (is_over s) (explanation pace to e.conn x s) old

@@ -13,8 +13,9 @@ pub record Agrees {P : Type 0} (id : EndId) (e : EndAt P) (x : PlainSide P) : Ty
   pub taken : e.taken ≡ x.taken
   pub cache : e.cache ≡ drop e.base x.sent
 
--- what the record itself has. The place of an offered end is left out, and so is that of an end which an Expected record
--- awaits: there the plain place is that record's. IsOver says which places are empty
+-- what the record itself has. The place of an offered end is left out, and so is that of an end
+-- which an Expected record awaits: there the plain place is that record's. IsOver says which places
+-- are empty
 abbrev pub SeatFits : {P : Type 0} → (IsOver : P → Type 0) → EndId → (x y : PlainSide P) → Seat P → Type 0
 SeatFits IsOver id x y (held at h) = Agrees id h.end y × (y.offered ≡ false → h.end.place ≡ y.place) × (h.end.base ≤ x.taken)
 SeatFits IsOver id x y (parked at e) = Agrees id e y × (e.place ≡ y.place) × (e.base ≤ x.taken)

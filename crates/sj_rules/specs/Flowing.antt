@@ -27,7 +27,8 @@ abbrev pub IsUnder : {P : Type 0} → EndId → ℕ → BodyAt P → Type 0
 IsUnder e c (Carry to conn number taken msg) = (to ≡ e) × (conn ≡ c)
 IsUnder e c _ = ⊤
 
--- the deferred Carries are all of the coming number, and they are, followed by those in the lane, what waits
+-- the deferred Carries are all of the coming number, and they are, followed by those in the lane,
+-- what waits
 pub record FlowsDeferred {P : Type 0} (e : EndId) (coming : ℕ) (deferred lane : List (BodyAt P)) (waiting : List Msg) : Type 0 where
   pub under : AllByRecursion (IsUnder e coming) deferred
   pub waits : carries_under e coming (deferred ++ lane) ≡ waiting
@@ -47,9 +48,10 @@ abbrev pub lane_from : {P Q : Type 0} → WorldAt P Q → Option ℕ → ℕ →
 lane_from w None at = []
 lane_from w (Some from) at = bodies (w.lanes from at)
 
--- what waits for r is what its record and the lane to it hold: at a Held end what is untaken and then what is in the lane
--- from its peer; at an awaited end what is deferred and then what is in the lane from the party of s; at an end that is
--- over nothing waits. To a Parked end nothing flows
+-- what waits for r is what its record and the lane to it hold. At a Held end that is what is
+-- untaken and then what is in the lane from its peer. At an awaited end it is what is deferred and
+-- then what is in the lane from the party of s. At an end that is over nothing waits. To a Parked
+-- end nothing flows
 abbrev pub flowing_at : {P Q : Type 0} → WorldAt P Q → (s r : Side P) → (waiting : List Msg) → Seat P → Type 0
 flowing_at w s r waiting (held at h) = h.untaken ++ carries_under r.id h.end.conn (bodies (w.lanes h.end.peer at)) ≡ waiting
 flowing_at w s r waiting (signalled at to e deferred) = FlowsDeferred r.id (e.conn + 1) deferred (lane_from w (party_of s.seat) to) waiting
@@ -63,7 +65,7 @@ flowing_at w s r waiting (claimed at to e) = ⊥
 abbrev pub IsFlowing : {P Q : Type 0} → WorldAt P Q → (s r : Side P) → (waiting : List Msg) → Type 0
 IsFlowing w s r waiting = flowing_at w s r waiting r.seat
 
--- a Signal that tells s that r has taken k
+-- a Signal that reports to s that r has taken k
 abbrev pub TellsTaken : {P : Type 0} → EndId → ℕ → BodyAt P → Type 0
 TellsTaken s k (Signal to conn party taken) = (to ≡ s) × (taken ≡ k)
 TellsTaken s k (Carry to conn number taken msg) = ⊥
@@ -99,7 +101,7 @@ IsGivenFrom number gone = ⊥
 abbrev pub IsTold : {P Q : Type 0} → WorldAt P Q → (s : Side P) → (taken : ℕ) → Type 0
 IsTold {P} w s taken = (b : BodyAt P) × TellsTaken s.id taken b × (Contains (deferred_of s.seat) b ⊎ ((p : ℕ) × (q : ℕ) × Contains (bodies (w.lanes p q)) b))
 
--- a sign that s must send again from that number on: r is Parked, a Signal says so, or the Give of s does
+-- a sign that s must send again from that number on: r is Parked, or a Signal or s's Give says so
 abbrev pub HasSign : {P Q : Type 0} → WorldAt P Q → (s r : Side P) → (taken : ℕ) → Type 0
 HasSign w s r taken = IsParked r.seat ⊎ IsTold w s taken ⊎ IsGivenFrom taken s.seat
 

@@ -23,8 +23,8 @@ IsNoGive (Open sess) = ⊤
 abbrev pub frames_for : {P : Type 0} → ℕ → (clock : ℕ) → List (Mail P) → List (FrameAt P)
 frames_for to clock posts = map (λ m. record { clock = clock; body = m.body }) (filter (λ m. to == m.party) posts)
 
--- the connection number and the message counts are within their limits, each party that the body names exists, and a session that
--- it opens is one that a party can open
+-- the connection number and the message counts are within their limits, and each party that the
+-- body names exists. A session that it opens is one that a party can open
 abbrev pub is_within : {P : Type 0} → (parties : ℕ) → BodyAt P → Bool
 is_within parties (Carry to conn number taken msg) = nat_le conn limit_of_conns && nat_le number limit_of_messages && nat_le taken limit_of_messages
 is_within parties (Fin to conn number) = nat_le conn limit_of_conns && nat_le number limit_of_messages

@@ -5,8 +5,8 @@ use Rattle.sj_rules.specs.Limits.{limit_of_hops, limit_of_requests}
 use Rattle.sj_rules.specs.Record.{MainAt, Held, Closed, Expected}
 use Rattle.sj_rules.specs.Node.{Want, ended, local, sends, delegates, takes, closes, requests, accepts, Play, NodeAt}
 
--- the program is at its end, or has done its steps; a named end is awaited; the end was delegated too often; no message
--- is there; it opened too many sessions; that party offers none
+-- the program is at its end, or has done its steps; a named end is awaited; the end was delegated
+-- too often; no message is there. Or it opened too many sessions; or that party offers none
 pub data Halt : Type 0 where
   at_end : Halt
   worn : Halt
@@ -46,8 +46,8 @@ lacks_message None = false
 abbrev pub halt_if : Bool → Halt → Option Halt → Option Halt
 halt_if b h rest = if b then Some h else rest
 
--- the causes of a next step, in order: an awaited end, an end with too many handovers, no message; too many requests; no offer.
--- That an end is nowhere at the party is none of them
+-- the causes of a next step, in order: an awaited end, an end with too many handovers, no message;
+-- too many requests; no offer. That an end is nowhere at the party is none of them
 abbrev pub halt_by : {P Q : Type 0} → NodeAt P Q → Want P → Option Halt
 halt_by n ended = Some at_end
 halt_by n local = None

@@ -7,7 +7,7 @@ use Rattle.sj_rules.specs.Node.{NodeAt, is_free}
 use Rattle.sj_rules.specs.PlainSide.{PlainAt, untaken_of}
 use Rattle.sj_rules.specs.Linked.{waiting_at}
 
--- its place and handovers are the plain ones, and what is untaken is a front of what waits
+-- its place and handovers are the plain ones, and what is untaken is a prefix of what waits
 pub record HeldStands {P Q : Type 0} (plain : PlainAt P Q) (e : EndId) (h : HeldAt P) : Type 0 where
   pub place : h.end.place ≡ (plain.sides e).place
   pub hops : h.end.hops ≡ (plain.sides e).hops

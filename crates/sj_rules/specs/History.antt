@@ -1,4 +1,5 @@
--- Runs of the core, and their history: each line is the entry that a choice of bases gives at that point.
+-- Runs of the core, and their history: each line is the entry that a choice of bases gives at that
+-- point.
 use Rattle.std.specs.Prelude.{◌≡◌, ℕ, ◌+◌, ◌<◌, ◌++◌, length, List, [], ◌∷◌, Option, Some, None, option_map, option_and_then}
 use Rattle.sj_rules.specs.Node.{Play, acts}
 use Rattle.sj_rules.specs.Frames.{FrameAt}
@@ -27,7 +28,7 @@ line_after play w p event v =
     (λ note. record { party = p; entry = record { clock = (v.nodes p).clock; event = event; note = note } })
     (event_note play w p event)
 
--- the line that is due for an event at p; None where it is no step
+-- the line that is due for an event at p; None where it is illegal
 abbrev pub due : {P Q : Type 0} → Play P Q → (ℕ → ℕ → ℕ) → WorldAt P Q → (p : ℕ) → Event → Option LineAt
 due play pick w p event = option_and_then (line_after play w p event) (happens play pick w p event)
 
@@ -79,11 +80,13 @@ IsCoreRun file turns w = Run (play_of file) (core_start file) turns w
 abbrev pub whole_caches : ℕ → ℕ → ℕ
 whole_caches old told = old
 
--- the lines are the history of a core run of the file with that choice of bases, which ends in that world
+-- the lines are the history of a core run of the file with that choice of bases, which ends in that
+-- world
 abbrev pub IsHistory : (ℕ → ℕ → ℕ) → FileAt → List LineAt → WorldAt Place Program → Type 0
 IsHistory pick file lines w = IsLog (play_of file) pick (core_start file) lines w
 
--- they are none: from the start of the file on, that is the first line that isn't the one that is due
+-- they are none: from the start of the file on, that is the first line that isn't the one that is
+-- due
 abbrev pub IsFirstMisfit : (ℕ → ℕ → ℕ) → FileAt → List LineAt → (number : ℕ) → LineAt → Option LineAt → Type 0
 IsFirstMisfit pick file lines number logged other = IsMisfit (play_of file) pick (core_start file) lines number logged other
 

@@ -1,4 +1,5 @@
--- The invariant of one session: s and r are its two ends, x and y what the plain world knows of them.
+-- The invariant of one session: s and r are its two ends, x and y what the plain world knows of
+-- them.
 use Rattle.std.specs.Prelude.{◌≡◌, ◌+◌}
 use Rattle.sj_rules.specs.Record.{other_end}
 use Rattle.sj_rules.specs.Seat.{Side}

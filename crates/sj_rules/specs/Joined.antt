@@ -1,4 +1,5 @@
--- What running parties tell together: each party's own work, and the frames on the lanes between them.
+-- What running parties report together: each party's own work, and the frames on the lanes between
+-- them.
 use Rattle.std.specs.Prelude.{◌≡◌, ℕ, ◌<◌, ◌≤◌, nat_lt, if◌then◌else◌, List, [], ◌++◌, map}
 use mathlib.Core.List.{IsPrefix}
 use Rattle.sj_rules.specs.Node.{Play, NodeAt}
@@ -9,7 +10,8 @@ use Rattle.sj_rules.specs.History.{IsLog}
 use Rattle.sj_rules.specs.Posts.{all_posts}
 use Rattle.sj_rules.specs.NodeRun.{StepAt, NodeRun, popped_from, posted_to, told_frames}
 
--- a party's node with its log and outboxes, and what its lanes tell. All by the other party, as lanes tell frames
+-- a party's node with its log and outboxes, and what its lanes report. All by the other party, as
+-- lanes report frames
 pub record WorkerAt (P Q : Type 0) : Type 0 where
   pub node : NodeAt P Q
   pub log : List EntryAt
@@ -21,8 +23,9 @@ pub record WorkerAt (P Q : Type 0) : Type 0 where
 abbrev pub fresh : {P Q : Type 0} → NodeAt P Q → WorkerAt P Q
 fresh n = record { node = n; log = []; box = λ q. []; popped = λ q. []; pushed = λ q. [] }
 
--- the worker went from the old state to the new one by these steps. It popped their frames and then at most what was
--- lost, and what it pushed, followed by the outbox that is left, is the old outbox and what the steps post
+-- the worker went from the old state to the new one by these steps. It popped their frames and then
+-- at most what was lost. What it pushed, followed by the outbox that is left, is the old outbox and
+-- what the steps post
 pub record Works {P Q : Type 0} (play : Play P Q) (pick : ℕ → ℕ → ℕ) (blank : P) (party : ℕ) (old new : WorkerAt P Q) (lost : ℕ → List (FrameAt P)) : Type 0 where
   pub steps : List (StepAt P)
   pub run : NodeRun play pick party old.node steps new.node
@@ -32,7 +35,8 @@ pub record Works {P Q : Type 0} (play : Play P Q) (pick : ℕ → ℕ → ℕ) (
   pub pushed : (q : ℕ) → new.pushed q ≡ old.pushed q ++ now q
   pub posted : (q : ℕ) → now q ++ new.box q ≡ old.box q ++ posted_to blank q steps
 
--- all parties worked from the start on, and what q popped from p is a front of what p pushed to q; the rest waits
+-- all parties worked from the start on, and what q popped from p is a prefix of what p pushed to q;
+-- the rest waits
 pub record AllWork {P Q : Type 0} (play : Play P Q) (pick : ℕ → ℕ → ℕ) (blank : P) (start : WorldAt P Q) (workers : ℕ → WorkerAt P Q)
     (lost waiting : ℕ → ℕ → List (FrameAt P)) : Type 0 where
   pub each : (p : ℕ) → Works play pick blank p (fresh (start.nodes p)) (workers p) (lost p)
@@ -43,12 +47,13 @@ pub record AllWork {P Q : Type 0} (play : Play P Q) (pick : ℕ → ℕ → ℕ)
 abbrev pub left_in : {P Q : Type 0} → (ℕ → WorkerAt P Q) → (lost waiting : ℕ → ℕ → List (FrameAt P)) → (p q : ℕ) → List (FrameAt P)
 left_in workers lost waiting p q = lost q p ++ waiting p q ++ (workers p).box q
 
--- the world has these nodes, and its lanes tell these frames
+-- the world has these nodes, and its lanes report these frames
 pub record Holds {P Q : Type 0} (blank : P) (w : WorldAt P Q) (last : ℕ → NodeAt P Q) (left : ℕ → ℕ → List (FrameAt P)) : Type 0 where
   pub nodes : (p : ℕ) → w.nodes p ≡ last p
   pub lanes : (p q : ℕ) → told_frames blank (w.lanes p q) ≡ left p q
 
--- the same of a file's parties, which are numbered below n. Each pops from parties of the file alone
+-- the same of a file's parties, which are numbered below n. Each pops from parties of the file
+-- alone
 pub record PartiesWork {P Q : Type 0} (play : Play P Q) (pick : ℕ → ℕ → ℕ) (blank : P) (n : ℕ) (start : WorldAt P Q) (workers : ℕ → WorkerAt P Q)
     (lost : ℕ → ℕ → List (FrameAt P)) : Type 0 where
   pub each : (p : ℕ) → p < n → Works play pick blank p (fresh (start.nodes p)) (workers p) (lost p)
@@ -64,13 +69,15 @@ workers_below n start workers = λ p. if nat_lt p n then workers p else fresh (s
 abbrev pub lost_below : {P : Type 0} → ℕ → (ℕ → ℕ → List (FrameAt P)) → ℕ → ℕ → List (FrameAt P)
 lost_below n lost = λ p q. if nat_lt p n then lost p q else []
 
--- the lane from p to q tells what q lost, what waits, and the outbox of p; and p pushed what q popped, and then what waits
+-- the lane from p to q reports what q lost, what waits, and the outbox of p; and p pushed what q
+-- popped, and then what waits
 pub record IsLaneLeft {P Q : Type 0} (blank : P) (w : WorldAt P Q) (workers : ℕ → WorkerAt P Q) (lost : ℕ → ℕ → List (FrameAt P)) (p q : ℕ) : Type 0 where
   pub waits : List (FrameAt P)
   pub pushed : (workers p).pushed q ≡ (workers q).popped p ++ waits
   pub lane : told_frames blank (w.lanes p q) ≡ lost q p ++ waits ++ (workers p).box q
 
--- the joined lines are a log that ends in that world: each party's part is its log, the world has its node, and lanes go on where popped lists end
+-- the joined lines are a log that ends in that world: each party's part is its log, the world has
+-- its node, and lanes go on where popped lists end
 pub record IsJoinedRun {P Q : Type 0} (play : Play P Q) (pick : ℕ → ℕ → ℕ) (blank : P) (n : ℕ) (start : WorldAt P Q) (workers : ℕ → WorkerAt P Q)
     (lost : ℕ → ℕ → List (FrameAt P)) (lines : List LineAt) (w : WorldAt P Q) : Type 0 where
   pub log : IsLog play pick start lines w

@@ -1,4 +1,5 @@
--- The invariant of the whole world: each session is sound, and session messages name the ends that are Parked.
+-- The invariant of the whole world: each session is sound, and session messages name the ends that
+-- are Parked.
 use Rattle.std.specs.Prelude.{◌≡◌, ◌↔◌, ℕ, ◌<◌, Bool, true, false, List, slice_get, Option, Some, None}
 use Rattle.std.specs.List.{AllByRecursion}
 use Rattle.sj_base.specs.declared.EndId.{EndId}

@@ -1,4 +1,5 @@
--- The act of a party in the plain world, as far as the rules see that world: sides change at the ends that the step names.
+-- The act of a party in the plain world, as far as the rules see that world: sides change at the
+-- ends that the step names.
 use Rattle.std.specs.Prelude.{ℕ, ◌+◌, ◌==◌, ◌&&◌, true, false, nat_lt, if◌then◌else◌, List, [], ◌∷◌, ◌++◌, Option, Some, None, option_map}
 use Rattle.sj_base.specs.declared.EndId.{EndId}
 use Rattle.sj_base.specs.declared.Msg.{Msg}
@@ -47,7 +48,8 @@ plain_names named (msgs.More b) plain = plain
 abbrev pub plain_takes : {P Q : Type 0} → Play P Q → ℕ → EndId → Msg → P → PlainAt P Q → PlainAt P Q
 plain_takes play p e msg place plain = with_side e (λ x. plain_taken x place) (plain_goes play p (Some msg) plain)
 
--- the head that waits is taken, where there is one; an end that it names gets the place of the statement
+-- the head that waits is taken, where there is one; an end that it names gets the place of the
+-- statement
 abbrev pub plain_takes_head : {P Q : Type 0} → Play P Q → ℕ → EndId → (named : P) → PlainAt P Q → Option Msg → Option (PlainAt P Q)
 plain_takes_head play p e named plain None = None
 plain_takes_head play p e named plain (Some m) = option_map (λ place. plain_names named m (plain_takes play p e m place plain)) (play.next (plain.sides e).place Into m)
@@ -56,7 +58,8 @@ plain_takes_head play p e named plain (Some m) = option_map (λ place. plain_nam
 abbrev pub with_opened : {P Q : Type 0} → (from to : ℕ) → List ℕ → PlainAt P Q → PlainAt P Q
 with_opened p q sessions plain = record plain { offers = λ from to. if (from == p) && (to == q) then sessions else plain.offers from to }
 
--- a session is opened to that party: its first end is bound at its place, the other nowhere at the dual one
+-- a session is opened to that party: its first end is bound at its place, the other nowhere at the
+-- dual one
 abbrev pub plain_requests : {P Q : Type 0} → Play P Q → ℕ → P → (to sess : ℕ) → PlainAt P Q → PlainAt P Q
 plain_requests play p place to sess plain =
     with_side (requested_end sess) (λ x. plain_opened place false) (with_side (offered_end sess) (λ x. plain_opened (play.dual place) true)

@@ -1,4 +1,5 @@
--- The next step of a party's program, as an act of its node. Each rule is None where it doesn't fit.
+-- The next step of a party's program, as an act of its node. Each rule is None where it doesn't
+-- fit.
 use Rattle.std.specs.Prelude.{ℕ, ◌+◌, Bool, true, ◌&&◌, nat_lt, if◌then◌else◌, List, [], ◌∷◌, ◌++◌, Option, Some, None, is_none, option_map}
 use Rattle.sj_base.specs.declared.EndId.{EndId}
 use Rattle.sj_base.specs.declared.Msg.{Msg}

@@ -54,7 +54,8 @@ NodeRun play pick party old [] new = old ≡ new
 NodeRun {P} {Q} play pick party old (s ∷ ss) new =
     (mid : NodeAt P Q) × Steps play pick party old s mid × NodeRun play pick party mid ss new
 
--- a frame as a lane tells it: without the place of the end in a Give, for which the blank place stands
+-- a frame as a lane reports it: without the place of the end in a Give, for which the blank place
+-- stands
 abbrev pub told_body : {P : Type 0} → P → BodyAt P → BodyAt P
 told_body blank (Carry to conn number taken msg) = Carry to conn number taken msg
 told_body blank (Fin to conn number) = Fin to conn number

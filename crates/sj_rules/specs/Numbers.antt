@@ -7,7 +7,7 @@ pub data Cause : Type 0 where
   by_ack : Cause
   by_signal : Cause
 
--- s and r have one number; s is ahead of r by one; s is behind r by one
+-- s and r have one number; s is ahead of r by one; s lags r by one
 pub data Pace : Type 0 where
   level : Pace
   ahead : Cause → Pace
@@ -44,8 +44,8 @@ abbrev pub LeadsBy : {P : Type 0} → Cause → (s r : Seat P) → Type 0
 LeadsBy by_ack s r = (conn_of s ≡ conn_of r + 1) × IsSignalledTo (peer_of s) r × (peer_of r ≡ sender_of s) × IsNotGiven s
 LeadsBy by_signal s r = (conn_of s ≡ conn_of r + 1) × IsSignalledTo (peer_of s) r
 
--- an end that is gone lies beside one that is over; ends at one number are each other's peer; else the one behind is
--- Signalled, and the one ahead has the new party as its peer
+-- an end that is gone lies beside one that is over; ends at one number are each other's peer. Else
+-- the one that lags is Signalled, and the one ahead has the new party as its peer
 abbrev pub NumbersFit : {P : Type 0} → Pace → (s r : Seat P) → Type 0
 NumbersFit pace gone r = (pace ≡ level) × (is_over r ≡ true)
 NumbersFit pace s gone = (pace ≡ level) × (is_over s ≡ true)

@@ -1,4 +1,5 @@
--- Sessions that are opened at run time: their numbers, their two ends, and an end before any message.
+-- Sessions that are opened at run time: their numbers, their two ends, and an end before any
+-- message.
 use Rattle.std.specs.Prelude.{ℕ, ◌-◌, ◌/◌, min, Bool, true, false, ◌||◌, not, ◌==◌, nat_le, nat_lt, ◌&&◌, List, [], ◌∷◌, filter, filter_map, Option, Some, None}
 use Rattle.sj_base.specs.declared.EndId.{EndId}
 pub use Rattle.sj_semantics.specs.Requests.{opened_number}

@@ -11,7 +11,8 @@ use Rattle.sj_rules.specs.Opened.{opened_number, opener_of}
 use Rattle.sj_rules.specs.PlainSide.{PlainSide, PlainAt}
 use Rattle.sj_rules.specs.Party.{nobody}
 
--- the sessions of these requests that are offered to q; p made them, the first of them after k others
+-- the sessions of these requests that are offered to q; p made them, the first of them after k
+-- others
 abbrev pub offered_from : (q p k : ℕ) → List Request → List ℕ
 offered_from q p k [] = []
 offered_from q p k (r ∷ rs) = if is_offered q r then opened_number p k ∷ offered_from q p (k + 1) rs else offered_from q p (k + 1) rs

@@ -4,8 +4,8 @@ use Rattle.sj_base.specs.declared.EndId.{EndId}
 use Rattle.sj_base.specs.declared.Msg.{Msg}
 use Rattle.sj_rules.specs.Limits.{limit_of_conns}
 
--- what the plain world knows of an end: the place, how often it was delegated, what was sent on it, and how many of
--- the other end's messages were taken on it
+-- what the plain world knows of an end: the place, how often it was delegated, and what was sent on
+-- it. Also how many of the other end's messages were taken on it
 pub record PlainSide (P : Type 0) : Type 0 where
   pub place : P
   pub hops : ℕ
@@ -14,7 +14,8 @@ pub record PlainSide (P : Type 0) : Type 0 where
   -- it is the end of an opened session that wasn't accepted
   pub offered : Bool
 
--- all programs and ends; how many sessions each party opened, and which ones from one party to another weren't accepted, in order
+-- all programs and ends; how many sessions each party opened, and which ones from one party to
+-- another weren't accepted, in order
 pub record PlainAt (P Q : Type 0) : Type 0 where
   pub programs : ℕ → Q
   pub sides : EndId → PlainSide P
@@ -30,7 +31,7 @@ pub record CountsFit {P : Type 0} (x y : PlainSide P) : Type 0 where
 abbrev pub untaken_of : {P : Type 0} → PlainSide P → PlainSide P → List Msg
 untaken_of s r = drop r.taken s.sent
 
--- a front of what waits
+-- a prefix of what waits
 pub record IsFront (untaken waiting : List Msg) : Type 0 where
   pub rest : List Msg
   pub all : waiting ≡ untaken ++ rest

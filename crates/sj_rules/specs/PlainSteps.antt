@@ -1,4 +1,5 @@
--- What each step of an accepted file's plain run gives: the facts that the core's acts rest on; and the plain world beside a core run.
+-- What each step of an accepted file's plain run gives: the facts that the core's acts rest on; and
+-- the plain world beside a core run.
 use Rattle.std.specs.Prelude.{◌≡◌, ℕ, ◌+◌, ◌<◌, Bool, true, false, ⊤, ◌&&◌, ◌==◌, List, [], ◌∷◌, ◌++◌, Some, None}
 use Rattle.sj_base.specs.declared.EndId.{EndId}
 use Rattle.sj_base.specs.declared.Msg.{Msg}

@@ -4,7 +4,8 @@ use Rattle.sj_base.specs.declared.EndId.{EndId}
 use Rattle.sj_base.specs.declared.Msg.{Msg}
 use Rattle.sj_lang.specs.declared.proto.Way.{Way}
 
--- the next step of a program; `takes`, `requests` and `accepts` name the place that an end gets there
+-- the next step of a program; `takes`, `requests` and `accepts` name the place that an end gets
+-- there
 pub data Want (P : Type 0) : Type 0 where
   ended : Want P
   local : Want P
@@ -15,8 +16,9 @@ pub data Want (P : Type 0) : Type 0 where
   requests : P → (to : ℕ) → Want P
   accepts : P → (from : ℕ) → Want P
 
--- what places and programs do, and how many parties there are. `blank` is the place at its end, `dual` the one that an
--- end has which isn't accepted; `opened` is the program after the step that opened the end or accepted it
+-- what places and programs do, and how many parties there are. `blank` is the place at its end,
+-- `dual` the one that an end has which isn't accepted. `opened` is the program after the step that
+-- opened the end or accepted it
 pub record Play (P Q : Type 0) : Type 0 where
   pub next : P → Way → Msg → Option P
   pub is_over : P → Bool

@@ -10,7 +10,8 @@ use Rattle.sj_rules.specs.Node.{Play}
 use Rattle.sj_rules.specs.Party.{play_of}
 use Rattle.sj_rules.specs.Binding.{NamesKnown}
 
--- it goes by the same places, steps and limits, and takes the same of what names sessions and parties of the file
+-- it goes by the same places, steps and limits, and takes the same of what names sessions and
+-- parties of the file
 pub record IsPlayOf (file : FileAt) (play : Play Place Program) : Type 0 where
   pub next : (place : Place) (way : Way) (m : Msg) → play.next place way m ≡ (play_of file).next place way m
   pub over : (place : Place) → play.is_over place ≡ (play_of file).is_over place

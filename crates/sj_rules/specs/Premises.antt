@@ -1,4 +1,5 @@
--- What the lemmas on events ask of the plain world: it says of every party's next step and of every session that they fit.
+-- What the lemmas on events ask of the plain world: it says of every party's next step and of every
+-- session that they fit.
 use Rattle.std.specs.Prelude.{◌≡◌, ℕ, ◌+◌, ◌*◌, ◌<◌, ◌≤◌, Bool, true, false, ⊤, List, [], ◌∷◌, length, Some, None}
 use Rattle.sj_base.specs.declared.EndId.{EndId}
 use Rattle.sj_base.specs.declared.Msg.{Msg}
@@ -82,7 +83,8 @@ pub record IsWithinCounts {P : Type 0} (x y : PlainSide P) : Type 0 where
   pub hops : x.hops + y.hops ≤ 2 * limit_of_hops
   pub messages : length x.sent < limit_of_messages
 
--- every next step fits, every count is within its limit, and names and keepers are those of the file
+-- every next step fits, every count is within its limit, and names and keepers are those of the
+-- file
 pub record IsLawful {P Q : Type 0} (IsOver : P → Type 0) (play : Play P Q) (binds : Q → EndId → Bool) (parties : ℕ) (plain : PlainAt P Q) : Type 0 where
   pub counts : (e : EndId) → e.side < 2 → IsWithinCounts (plain.sides e) (plain.sides (other_end e))
   pub steps : (p : ℕ) → FitsStep IsOver play binds plain p (plain.programs p) (play.wants (plain.programs p))

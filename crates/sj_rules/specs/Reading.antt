@@ -1,5 +1,5 @@
--- The world read as if each Open had been delivered already: the Opens are out of their lanes, and each end in one is
--- Held where it goes.
+-- The world read as if each Open had been delivered already: the Opens are out of their lanes, and
+-- each end in one is Held where it goes.
 use Rattle.std.specs.Prelude.{◌≡◌, ℕ, ◌≤◌, ◌<◌, Bool, true, false, not, if◌then◌else◌, ⊤, List, [], ◌∷◌, ◌++◌, filter, Contains, Some, None}
 use Rattle.sj_base.specs.declared.EndId.{EndId}
 use Rattle.sj_rules.specs.Limits.{limit_of_requests}
@@ -61,7 +61,7 @@ pub record IsOpenKept {P Q : Type 0} (IsOver : P → Type 0) (binds : Q → EndI
   -- each is Held where it is offered, and bound nowhere
   pub held : (from p s : ℕ) → Contains (plain.offers from p) s → (h : HeldAt P) × (((reading blank w).nodes p).main (offered_end s) ≡ Some (Held h))
   pub unbound : (p : ℕ) (e : EndId) → e.side < 2 → (plain.sides e).offered ≡ true → binds (plain.programs p) e ≡ false
-  -- a frame about an end in an Open stands behind it
+  -- a frame about an end in an Open stands after it
   pub lead : (from to : ℕ) → OpensLead (bodies (w.lanes from to))
   -- and the party to which it goes has no record of the end
   pub bare : (p : ℕ) (e : EndId) → is_opening w p e ≡ true → (w.nodes p).main e ≡ None

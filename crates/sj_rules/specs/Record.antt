@@ -3,7 +3,8 @@ use Rattle.std.specs.Prelude.{ℕ, ◌-◌, Bool, ◌&&◌, ◌==◌, List, Opti
 use Rattle.sj_base.specs.declared.EndId.{EndId}
 use Rattle.sj_base.specs.declared.Msg.{Msg}
 
--- an end: its own name and place, its connection number and peer, how many messages were sent and taken on it, and those sent from the base on
+-- an end: its own name and place, its connection number and peer, how many messages were sent and
+-- taken on it, and those sent from the base on
 pub record EndAt (P : Type 0) : Type 0 where
   pub id : EndId
   pub place : P

@@ -1,4 +1,4 @@
--- The rows on one end. Each is None where it doesn't fit. `pick old told` is the new base of a cache.
+-- The rows on one end, each None where it doesn't fit. `pick old told` is the new base of a cache.
 use Rattle.std.specs.Prelude.{ℕ, ◌+◌, ◌-◌, ◌≤◌, max, Bool, true, false, ◌&&◌, not, ◌==◌, nat_lt, nat_le, if◌then◌else◌, List, [], ◌∷◌, ◌++◌, drop, length, Option, Some, None, option_map, option_and_then}
 use Rattle.sj_base.specs.declared.EndId.{EndId}
 use Rattle.sj_base.specs.declared.Msg.{Msg}
@@ -6,11 +6,11 @@ use Rattle.sj_rules.specs.Limits.{limit_of_conns}
 use Rattle.sj_rules.specs.Record.{EndAt, BodyAt, Carry, Fin, Claim, Signal, Ack, Give, Open, Mail, HeldAt, other_end}
 pub use Rattle.sj_rules.specs.Worked.{Worked, mails_of, with_first, with_last}
 
--- a choice of bases: from the old one up to the larger of it and what was told
+-- a choice of bases: from the old one up to the larger of it and what was reported
 abbrev pub IsPick : (ℕ → ℕ → ℕ) → Type 0
 IsPick pick = (old told : ℕ) → (old ≤ pick old told) × (pick old told ≤ max old told)
 
--- the cache begins at a new base, once that number was told
+-- the cache begins at a new base, once that number was reported
 abbrev pub trimmed_end : {P : Type 0} → (ℕ → ℕ → ℕ) → EndAt P → ℕ → EndAt P
 trimmed_end pick e told = record e { base = pick e.base told; cache = drop (pick e.base told - e.base) e.cache }
 
@@ -31,7 +31,8 @@ resent_posts e start = mails_of e.peer (numbered_carries (other_end e.id) e.conn
 abbrev pub end_with_peer : {P : Type 0} → EndAt P → ℕ → EndAt P
 end_with_peer e peer = record e { conn = e.conn + 1; peer = peer }
 
--- a Signal from the peer under the own number, which isn't the last one; what it tells was sent and is in the cache
+-- a Signal from the peer under the own number, which isn't the last one; what it reports was sent
+-- and is in the cache
 abbrev pub signal_fits : {P : Type 0} → EndAt P → (origin conn taken : ℕ) → Bool
 signal_fits e origin conn taken =
     (conn == e.conn) && nat_lt e.conn limit_of_conns && (origin == e.peer) && nat_le e.base taken && nat_le taken e.sent
@@ -108,7 +109,8 @@ abbrev pub resent_at : {P : Type 0} → EndAt P → Option ℕ → List (Mail P)
 resent_at e None = []
 resent_at e (Some n) = resent_posts e n
 
--- a Give at an Expected record: Held at its place, the cache again, then each deferred frame by its row
+-- a Give at an Expected record: Held at its place, the cache again, then each deferred frame by its
+-- row
 abbrev pub install : {P : Type 0} → (ℕ → ℕ → ℕ) → (place : P) → (deferred : List (Mail P)) → EndAt P → (resend : Option ℕ) → Option (Worked P (HeldAt P))
 install pick place deferred e resend =
     if resend_fits e resend

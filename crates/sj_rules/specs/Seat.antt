@@ -15,7 +15,8 @@ pub data Seat (P : Type 0) : Type 0 where
   closed : (at : ℕ) → EndAt P → Seat P
   gone : Seat P
 
--- an end with the frames that still come to it: under the number of a Signalled end, and under its coming number
+-- an end with the frames that still come to it: under the number of a Signalled end, and under its
+-- coming number
 pub record Side (P : Type 0) : Type 0 where
   pub id : EndId
   pub place : P

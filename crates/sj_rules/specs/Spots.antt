@@ -10,7 +10,8 @@ use Rattle.sj_rules.specs.Shown.{bodies, is_give}
 use Rattle.sj_rules.specs.PlainSide.{PlainAt}
 use Rattle.sj_rules.specs.Linked.{waiting_at}
 
--- a Held or Closed record at that party; a Parked or Signalled one; a Give of the end in that lane; an Open of it there
+-- a Held or Closed record at that party; a Parked or Signalled one; a Give of the end in that lane;
+-- an Open of it there
 pub data Spot : Type 0 where
   at_main : ℕ → Spot
   at_old : ℕ → Spot
@@ -36,8 +37,8 @@ LiesAt w e (at_old p) = HasOld ((w.nodes p).old e)
 LiesAt {P} w e (on_way from to) = (give : BodyAt P) × Contains (bodies (w.lanes from to)) give × (is_give e give ≡ true)
 LiesAt {P} w e (in_open from to) = (body : BodyAt P) × Contains (bodies (w.lanes from to)) body × (is_open_of e body ≡ true)
 
--- the end lies once, at that spot, or is gone where there is none; no lane has two Gives or two Opens of it; one party at most
--- awaits it, from where it lies
+-- the end lies once, at that spot, or is gone where there is none. No lane has two Gives or two
+-- Opens of it; one party at most awaits it, from where it lies
 pub record LiesOnce {P Q : Type 0} (w : WorldAt P Q) (e : EndId) : Type 0 where
   pub spot : Option Spot
   pub lies : (at : Spot) → LiesAt w e at ↔ (spot ≡ Some at)
@@ -47,7 +48,8 @@ pub record LiesOnce {P Q : Type 0} (w : WorldAt P Q) (e : EndId) : Type 0 where
   pub awaits : (p keeper : ℕ) (place : P) (late : List (Mail P)) → (w.nodes p).main e ≡ Some (Expected keeper place late) →
       (awaiter ≡ Some p) × ((spot ≡ Some (at_old keeper)) ⊎ (spot ≡ Some (on_way keeper p)))
 
--- where the world has come to rest nobody awaits the end, and it is parked only where its message waits for an end of side 0 or 1
+-- where the world has come to rest nobody awaits the end, and it is parked only where its message
+-- waits for an end of side 0 or 1
 pub record IsAtRest {P Q : Type 0} (w : WorldAt P Q) (plain : PlainAt P Q) (e : EndId) : Type 0 where
   pub not_awaited : (p keeper : ℕ) (place : P) (late : List (Mail P)) → (w.nodes p).main e ≡ Some (Expected keeper place late) → ⊥
   pub not_signalled : (p to : ℕ) (k : EndAt P) → (w.nodes p).old e ≡ Some (Signalled k to) → ⊥

@@ -12,7 +12,8 @@ use Rattle.sj_rules.specs.Flowing.{IsFlowing, IsOwed, carries_under}
 use Rattle.sj_rules.specs.Numbers.{is_over}
 use Rattle.sj_rules.specs.Reading.{is_opening}
 
--- an end agrees with the plain one, counts, hops and cache, and its cache begins where the other end has taken
+-- an end agrees with the plain one, counts, hops and cache, and its cache begins where the other
+-- end has taken
 pub record EndStands {P : Type 0} (id : EndId) (x y : PlainSide P) (e : EndAt P) : Type 0 where
   pub agrees : Agrees id e y
   pub base : e.base ≤ x.taken
@@ -33,7 +34,8 @@ SeatStands IsOver id x y other (given at to e resend deferred) = EndStands id x 
 SeatStands IsOver id x y other (closed at e) = EndStands id x y e
 SeatStands IsOver id x y other gone = GoneStands IsOver x y other
 
--- the place of an end is that of its Expected record, where there is one, and else its own; one that is gone has none
+-- the place of an end is that of its Expected record, where there is one, and else its own; one
+-- that is gone has none
 abbrev pub PlaceStands : {P : Type 0} → (awaited plain : P) → Seat P → Type 0
 PlaceStands awaited plain (held at h) = h.end.place ≡ plain
 PlaceStands awaited plain (parked at e) = e.place ≡ plain
@@ -43,13 +45,13 @@ PlaceStands awaited plain (given at to e resend deferred) = awaited ≡ plain
 PlaceStands awaited plain (closed at e) = e.place ≡ plain
 PlaceStands awaited plain gone = awaited ≡ plain
 
--- what stands behind the Open of the end
+-- what stands after the Open of the end
 abbrev pub behind_open : {P : Type 0} → EndId → List (BodyAt P) → List (BodyAt P)
 behind_open e [] = []
 behind_open e (b ∷ bs) = if is_open_of e b then bs else behind_open e bs
 
--- an end in an Open on its way to p, which is seated as the Open will make it: nothing was sent or taken on it, it was never
--- delegated, and what waits for it is behind the Open
+-- an end in an Open on its way to p, which is seated as the Open will make it. Nothing was sent or
+-- taken on it, it was never delegated, and what waits for it is after the Open
 pub record OpeningStands {P Q : Type 0} (blank : P) (w : WorldAt P Q) (p : ℕ) (e : EndId) (x y : PlainSide P) (r : Side P) : Type 0 where
   pub seat : r.seat ≡ held p (new_held e blank (opener_of e.sess))
   pub offered : y.offered ≡ true
@@ -65,9 +67,10 @@ pub record ThereStands {P Q : Type 0} (IsOver : P → Type 0) (w : WorldAt P Q) 
   pub place : y.offered ≡ false → PlaceStands r.place y.place r.seat
   pub flows : IsFlowing w s r (untaken_of x y) ⊎ IsOwed w s r y.taken
 
--- the programs and counts of requests are the plain ones; what was opened and not accepted is what is offered and then what
--- is in Opens; the end of each session that is offered is Held there; each end lies where the world shows it and stands for the
--- plain one, and what waits for it flows or is owed
+-- the programs and counts of requests are the plain ones. What was opened and not accepted is what
+-- is offered and then what is in Opens. The end of each session that is offered is Held there. Each
+-- end lies where the world shows it and stands for the plain one, and what waits for it flows or is
+-- owed
 pub record StandsFor {P Q : Type 0} (IsOver : P → Type 0) (blank : P) (w : WorldAt P Q) (plain : PlainAt P Q) : Type 0 where
   pub programs : (p : ℕ) → (w.nodes p).program ≡ plain.programs p
   pub requests : (p : ℕ) → (w.nodes p).requests ≡ plain.requests p

@@ -7,7 +7,8 @@ use Rattle.sj_rules.specs.Seat.{Seat, held, parked, claimed, signalled, given, c
 use Rattle.sj_rules.specs.PlainSide.{PlainSide}
 use Rattle.sj_rules.specs.Numbers.{is_over}
 
--- the Carries of these messages, the first with that number, whose told counts rise from low up to high
+-- the Carries of these messages, the first with that number, whose reported counts rise from low up
+-- to high
 abbrev pub AreCarries : {P : Type 0} → EndId → (conn number low high : ℕ) → List Msg → List (BodyAt P) → Type 0
 AreCarries to conn number low high [] [] = low ≤ high
 AreCarries to conn number low high (m ∷ ms) (b ∷ bs) =
@@ -50,7 +51,8 @@ mark_of r conn sent taken (given at to e resend deferred) = []
 abbrev pub mark_for : {P : Type 0} → EndId → (conn : ℕ) → PlainSide P → Seat P → List (BodyAt P)
 mark_for to conn x s = mark_of to conn (length x.sent) x.taken s
 
--- these messages come, the first with that number, told up to high, and then the mark
+-- these messages come, the first with that number, with reported counts up to high, and then the
+-- mark
 pub record ComesWhole {P : Type 0} (to : EndId) (conn number low high : ℕ) (mark : List (BodyAt P)) (msgs : List Msg) (frames : List (BodyAt P)) : Type 0 where
   pub carries : List (BodyAt P)
   pub split : frames ≡ carries ++ mark
@@ -62,7 +64,8 @@ pub record ComesLoose {P : Type 0} (to : EndId) (conn : ℕ) (is_over : Bool) (m
   pub split : frames ≡ dropped ++ mark
   pub are : AreDropped to conn is_over dropped
 
--- what is untaken at a Held end is a front of what waits for it, and the rest comes, or the Fin was noted
+-- what is untaken at a Held end is a prefix of what waits for it, and the rest comes, or the Fin
+-- was noted
 pub record ComesToHeld {P : Type 0} (to : EndId) (h : HeldAt P) (waiting : List Msg) (taken high : ℕ) (over : Bool) (mark live : List (BodyAt P)) : Type 0 where
   pub rest : List Msg
   pub all : waiting ≡ h.untaken ++ rest

@@ -1,4 +1,5 @@
--- One party: its program, its clock, what it opened and what is offered to it, and its records of ends in two tables.
+-- One party: its program, its clock, what it opened and what is offered to it, and its records of
+-- ends in two tables.
 use Rattle.std.specs.Prelude.{ℕ, ◌==◌, if◌then◌else◌, List, [], ◌∷◌, Option, Some, None}
 use Rattle.sj_base.specs.declared.EndId.{EndId}
 use Rattle.sj_rules.specs.Record.{EndAt, BodyAt, HeldAt, MainAt, Held, Closed, OldAt, Parked, Signalled, is_same_end}

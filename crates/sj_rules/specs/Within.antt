@@ -1,4 +1,5 @@
--- All parties that records and frames name are those of the file, which has n, and all their numbers are within the limits.
+-- All parties that records and frames name are those of the file, which has n, and all their
+-- numbers are within the limits.
 use Rattle.std.specs.Prelude.{◌≡◌, ◌⊎◌, ℕ, ◌+◌, ◌<◌, ◌≤◌, true, ⊤, List, [], length, Contains, Some}
 use Rattle.std.specs.List.{AllByRecursion}
 use Rattle.sj_base.specs.declared.EndId.{EndId}
@@ -12,7 +13,8 @@ use Rattle.sj_rules.specs.Node.{NodeAt}
 use Rattle.sj_rules.specs.Frames.{FrameAt}
 use Rattle.sj_rules.specs.World.{WorldAt}
 
--- one of the two ends of a session, whose number is one for connections or one that a party can open
+-- one of the two ends of a session, whose number is one for connections or one that a party can
+-- open
 abbrev pub IdWithin : ℕ → EndId → Type 0
 IdWithin n e = (e.side < 2) × (e.sess < opened_number n 0)
 

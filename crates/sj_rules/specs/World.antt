@@ -42,7 +42,7 @@ delivery_of play pick w p q (f ∷ rest) =
     (after_event w p (max (w.nodes p).clock f.clock + 1) (with_lane q p rest w.lanes))
     (arrives play.blank play.parties pick (w.nodes p) q f)
 
--- the world after an event at p; None where it is no step
+-- the world after an event at p; None where it is illegal
 abbrev pub happens : {P Q : Type 0} → Play P Q → (ℕ → ℕ → ℕ) → WorldAt P Q → (p : ℕ) → Event → Option (WorldAt P Q)
 happens play pick w p Act = option_map (after_event w p ((w.nodes p).clock + 1) w.lanes) (acts play p (w.nodes p))
 happens play pick w p (Deliver q) = delivery_of play pick w p q (w.lanes q p)

@@ -72,7 +72,8 @@ pub record HeadFits (zs : List Session) (e : EndId) (a : Awaits) (x : Passed) : 
   pub after : after_place (end_at zs e).place Into x.msg ≡ Some next
   pub names : NamesAs a x.msg
 
--- what the step asks of the world: the ends of a session that is opened now are as if they weren't there
+-- what the step asks of the world: the ends of a session that is opened now are as if they weren't
+-- there
 abbrev pub FitsWorld : World → (p : ℕ) → Want → Type 0
 FitsWorld w p (wants.Take e a) = (x : Passed) → next_for w.sessions e ≡ Some x → HeadFits w.sessions e a x
 FitsWorld w p (wants.Request q to) = (d : ℕ) → length (w.requests p) < limit_of_requests → end_at w.sessions (record { sess = opened_number p (length (w.requests p)); side = d }) ≡ nowhere

@@ -1,4 +1,5 @@
--- The acts of a core run are a plain run, and the core world stands for the plain world that they reach.
+-- The acts of a core run are a plain run, and the core world stands for the plain world that they
+-- reach.
 use Rattle.std.proofs.Common.{◌≡◌, ℕ, ◌+◌, ◌<◌, ◌≤◌, Bool, true, false, cond, List, [], ◌∷◌, ◌++◌, length, Option, Some, None, option_map, option_and_then, refl, ap, sym, ◌∙◌, subst, append-nil, append_assoc, inl, inr, ◌⊎◌}
 use Rattle.std.proofs.lemmas.Bool.{false_from_ne_true, both_ways, cases_lt}
 use Rattle.sj_base.specs.declared.EndId.{EndId}

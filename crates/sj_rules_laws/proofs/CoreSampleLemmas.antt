@@ -1,4 +1,4 @@
--- The histories compute, and so does that nothing is left to do behind them.
+-- The histories compute, and so does that nothing is left to do after them.
 use Rattle.std.proofs.Common.{refl}
 use Rattle.std.specs.Prelude.{max}
 use Rattle.sj_semantics_laws.specs.HandoverSamples.{delegation, both_moved}

@@ -1,4 +1,5 @@
--- Each event keeps the invariant: what the core's lemmas ask of a plain step holds of every lawful one.
+-- Each event keeps the invariant: what the core's lemmas ask of a plain step holds of every lawful
+-- one.
 use Rattle.std.proofs.Common.{◌≡◌, ℕ, nat_lt, ◌+◌, max, Bool, true, false, cond, List, [], ◌∷◌, ◌++◌, slice_get, Option, Some, None, option_map, refl, ap, sym, ◌∙◌, subst}
 use Rattle.std.proofs.lemmas.Bool.{ltb-true}
 use Rattle.sj_base.specs.declared.EndId.{EndId}

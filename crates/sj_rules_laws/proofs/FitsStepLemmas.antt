@@ -1,4 +1,5 @@
--- The next step of each party of a run of an accepted file fits what the rules see of the plain world.
+-- The next step of each party of a run of an accepted file fits what the rules see of the plain
+-- world.
 use Rattle.std.proofs.Common.{◌≡◌, ◌↔◌, ℕ, ◌<◌, true, false, List, [], map, length, drop, slice_get, Option, Some, None, option_map, refl, ap, sym, ◌∙◌, subst, arith}
 use Rattle.std.proofs.lemmas.Bool.{false_from_ne_true, both_ways}
 use Rattle.sj_base.specs.declared.EndId.{EndId}

@@ -1,4 +1,5 @@
--- Workers of a file's parties: their joined logs are a core run, and no node of theirs refuses a frame or an act as unfit.
+-- Workers of a file's parties: their joined logs are a core run, and no node of theirs refuses a
+-- frame or an act as unfit.
 use Rattle.std.proofs.Common.{◌≡◌, ℕ, ◌<◌, List, [], ◌∷◌, map, length, slice_get, Some, None, refl, sym, ap, ◌∙◌}
 use Rattle.sj_base.specs.declared.EndId.{EndId}
 use Rattle.sj_base.specs.declared.Msg.{Msg}

@@ -34,7 +34,7 @@ pub open_kept_stands : {P Q : Type 0} → (IsOver : P → Type 0) (binds : Q →
 open_kept_stands IsOver binds blank w plain kept p e h lt accepted there =
     kept_stands IsOver binds (reading blank w) plain kept.kept p e h lt accepted (held_read IsOver binds blank w plain kept p e h there)
 
--- what is untaken at a Held record, offered or not, is a front of what waits
+-- what is untaken at a Held record, offered or not, is a prefix of what waits
 pub open_untaken : {P Q : Type 0} → (IsOver : P → Type 0) (binds : Q → EndId → Bool) (blank : P) (w : WorldAt P Q) (plain : PlainAt P Q) → IsOpenKept IsOver binds blank w plain
     → (p : ℕ) (e : EndId) (h : HeldAt P) → e.side < 2 → (w.nodes p).main e ≡ Some (Held h) → IsFront h.untaken (untaken_of (plain.sides (other_end e)) (plain.sides e))
 open_untaken IsOver binds blank w plain kept p e h lt there =

@@ -1,4 +1,5 @@
--- Each number of a core run is within its limit, so the front of a lane fits its row with the limits too.
+-- Each number of a core run is within its limit, so the first frame of a lane fits its row with the
+-- limits too.
 use Rattle.std.proofs.Common.{◌≡◌, ℕ, zero, suc, ◌+◌, ◌<◌, ◌≤◌, Bool, true, ◌&&◌, List, [], ◌∷◌, ◌++◌, length, slice_get, Some, refl, ap, ◌∙◌, subst, arith}
 use Rattle.std.specs.Prelude.{nat_lt, nat_le, max}
 use Rattle.std.specs.List.{AllByRecursion}
@@ -99,7 +100,7 @@ module _ (file : FileAt) (accepted : IsAccepted file) (turns : List Turn) (core 
       run_messages_known file (acts_in turns) s.plain accepted s.run e j m low
       (ap (λ ms. slice_get ms j) front.all ∙ get_first h.untaken front.rest j m at)
 
-  -- the front of a lane fits its row
+  -- the first frame of a lane fits its row
   pub run_front_fits : (pick : ℕ → ℕ → ℕ) (p q : ℕ) (f : FrameAt Place) (rest : List (FrameAt Place)) → IsPick pick → core.lanes q p ≡ f ∷ rest
       → (after : WorldAt Place Program) × (happens (play_of file) pick core p (Deliver q) ≡ Some after)
   run_front_fits pick p q f rest picks front =

@@ -1,4 +1,5 @@
--- In every run names stand for ends of the file's sessions, and session messages name such ends and a party of the file.
+-- In every run names stand for ends of the file's sessions, and session messages name such ends and
+-- a party of the file.
 use Rattle.std.proofs.Common.{◌≡◌, ℕ, zero, suc, ◌<◌, true, List, [], ◌∷◌, ◌++◌, map, length, drop, slice_get, Some, None, ap, sym, ◌∙◌, subst, inl, inr}
 use Rattle.std.specs.Bool.{⊤}
 use Rattle.std.proofs.lemmas.Bool.{cases_eq, both_ways}

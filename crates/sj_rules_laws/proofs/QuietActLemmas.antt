@@ -1,4 +1,5 @@
--- Where a party's ends are Held with all that waits for them, an act of the plain world is one of the core.
+-- Where a party's ends are Held with all that waits for them, an act of the plain world is one of
+-- the core.
 use Rattle.std.proofs.Common.{◌≡◌, ℕ, ◌+◌, nat_lt, Bool, true, false, ◌&&◌, cond, if◌then◌else◌, List, [], ◌∷◌, slice_get, Option, Some, None, option_map, refl, ap, sym, subst, ◌∙◌}
 use Rattle.std.proofs.lemmas.Bool.{and_from}
 use Rattle.sj_base.specs.declared.EndId.{EndId}

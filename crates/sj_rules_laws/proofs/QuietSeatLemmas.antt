@@ -33,7 +33,7 @@ leads_to by_ack s r l = l.1
 leads_to by_signal s r l = l.1
 
 module _ {P : Type 0} (sid rid : EndId) (x y : PlainSide P) where
-  -- an end that is behind is Signalled, and the old stream to it explains why
+  -- an end that lags is Signalled, and the old stream to it explains why
   behind_is_explained : (c : Cause) (s : Seat P) (at to : ℕ) (e : EndAt P) (ds sold : List (BodyAt P)) → NumbersFit (behind c) s (signalled at to e ds)
       → AreOld (ahead c) sid y (signalled at to e ds) s sold → ((a t : ℕ) (k : EndAt P) (dk : List (BodyAt P)) → s ≡ signalled a t k dk → sold ≡ []) → ⊥
   behind_is_explained c gone at to e ds sold n o none = not_level_behind c n.0

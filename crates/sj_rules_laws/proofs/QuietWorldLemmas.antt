@@ -1,4 +1,5 @@
--- A kept core world with nothing in its lanes, in which no party can act, stands for a settled plain world.
+-- A kept core world with nothing in its lanes, in which no party can act, stands for a settled
+-- plain world.
 use Rattle.std.proofs.Common.{◌≡◌, ℕ, ◌<◌, Bool, true, cond, List, [], Option, Some, None, option_map, refl, ap, sym, ◌∙◌, subst}
 use Rattle.std.specs.Prelude.{is_none}
 use Rattle.std.proofs.lemmas.Bool.{eq-eqb, false_from_ne_true, both_ways}

@@ -1,4 +1,5 @@
--- Where the world has come to rest nobody awaits an end, and an end is parked only where its message waits.
+-- Where the world has come to rest nobody awaits an end, and an end is parked only where its
+-- message waits.
 use Rattle.std.proofs.Common.{◌≡◌, ℕ, ◌==◌, ◌<◌, Bool, true, false, cond, [], Option, Some, None, refl, ap, sym, subst, ◌∙◌}
 use Rattle.std.proofs.lemmas.Bool.{eqb-true}
 use Rattle.sj_base.specs.declared.EndId.{EndId}

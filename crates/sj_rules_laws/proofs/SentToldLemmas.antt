@@ -1,4 +1,4 @@
--- The Sent notes of an end tell what the plain run's acts sent on it.
+-- The Sent notes of an end report what the plain run's acts sent on it.
 use Rattle.std.proofs.Common.{◌≡◌, ℕ, nat_lt, true, cond, List, [], ◌∷◌, ◌++◌, map, length, Some, refl, ap, sym, ◌∙◌}
 use Rattle.sj_base.specs.declared.EndId.{EndId}
 use Rattle.sj_lang.specs.FileAt.{body_named}

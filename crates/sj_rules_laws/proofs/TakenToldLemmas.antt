@@ -1,4 +1,4 @@
--- The Took notes of an end tell what the plain run's acts took on it.
+-- The Took notes of an end report what the plain run's acts took on it.
 use Rattle.std.proofs.Common.{◌≡◌, ℕ, nat_lt, true, cond, List, [], ◌∷◌, ◌++◌, map, length, Some, option_map, refl, ap, sym, ◌∙◌}
 use Rattle.sj_base.specs.declared.EndId.{EndId}
 use Rattle.sj_lang.specs.FileAt.{body_named}

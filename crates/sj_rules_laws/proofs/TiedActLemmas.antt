@@ -59,7 +59,7 @@ module _ (file : FileAt) (core : WorldAt Place Program) (w : World) (kept : IsOp
   abbrev n : NodeAt Place Program
   n = core.nodes p
 
-  -- a take: what is untaken at a Held record is a front of what waits
+  -- a take: what is untaken at a Held record is a prefix of what waits
   take_noted : (e : EndId) (a : Awaits) (note : NoteAt) → e.side < 2 → take_note e (n.main e) ≡ Some note → note_of w p (wants.Take e a) ≡ Some note
   take_noted e a note low h = by_main (n.main e) refl h
     where

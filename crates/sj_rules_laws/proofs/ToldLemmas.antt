@@ -1,4 +1,4 @@
--- What tied lines tell of an end is what the plain run's acts sent on it, and took.
+-- What tied lines report of an end is what the plain run's acts sent on it, and took.
 use Rattle.std.proofs.Common.{◌≡◌, ℕ, Bool, true, false, cond, List, [], ◌∷◌, ◌++◌, map, slice_get, unwrap_or, Option, Some, None, option_map, option_and_then, append-nil, refl, ap, sym, ◌∙◌, subst}
 use Rattle.sj_base.specs.declared.EndId.{EndId}
 use Rattle.sj_base.specs.declared.Msg.{Msg}
@@ -29,9 +29,9 @@ pub skip : (b : Bool) (ys : List Passed) → cond b [] [] ++ ys ≡ ys
 skip true ys = refl
 skip false ys = refl
 
--- ---- any way to tell
+-- ---- any way to report
 
--- f tells of an act's note what g finds in its uses of the end, and nothing of a frame's
+-- f reports of an act's note what g finds in its uses of the end, and nothing of a frame's
 pub record IsToldBy (e : EndId) (f : ℕ → NoteAt → List Passed) (g : ℕ → Use → List Passed) : Type 0 where
   pub frames : (p : ℕ) (note : NoteAt) → IsOfFrame note → f p note ≡ []
   pub acts : (w : World) (p : ℕ) (h : Program) (want : Want) (c : Change) (note : NoteAt) → change_by w p h want ≡ Some c → note_of w p want ≡ Some note → f p note ≡ uses_on e g p c.uses

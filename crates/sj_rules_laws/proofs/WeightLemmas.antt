@@ -1,4 +1,5 @@
--- What a frame weighs: as many events as can come of it, where caches have n messages at most. The rows post no more than that.
+-- What a frame weighs: as many events as can come of it, where caches have n messages at most. The
+-- rows post no more than that.
 use Rattle.std.proofs.Common.{◌≡◌, ℕ, ◌+◌, ◌-◌, ◌≤◌, ◌==◌, nat_lt, false, not, ◌&&◌, List, [], ◌∷◌, ◌++◌, drop, length, Option, Some, None, option_map, option_and_then, refl, arith, length-drop}
 use Rattle.std.specs.Prelude.{nat_le}
 use Rattle.sj_base.specs.declared.EndId.{EndId}
@@ -8,8 +9,8 @@ use Rattle.sj_rules.specs.Limits.{limit_of_conns}
 use Rattle.sj_rules.specs.Rows.{Worked, with_first, with_last, trimmed_end, end_with_peer, numbered_carries, mails_of, cached_from, resent_posts, signal_fits, passive, passive_closed, crossing_body, acked_body, with_end, at_held, worked_record, resend_fits, resent_at, install}
 use Rattle.sj_rules_laws.proofs.WithinRowLemmas.{by_map, by_test, by_some}
 
--- the events that can come of a frame once it came: a Give resends a cache; an Ack makes a Give; a Signal an Ack, a Fin and a resent
--- cache; a Claim makes a Signal
+-- the events that can come of a frame once it came. A Give resends a cache; an Ack makes a Give; a
+-- Signal makes an Ack, a Fin and a resent cache; a Claim makes a Signal
 abbrev pub worth_of : {P : Type 0} → ℕ → BodyAt P → ℕ
 worth_of n (Carry to conn number taken msg) = 0
 worth_of n (Fin to conn number) = 0

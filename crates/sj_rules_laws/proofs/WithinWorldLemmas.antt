@@ -1,4 +1,5 @@
--- Each event names only parties of the file, keeps all numbers within the limits, and leaves nothing in the lanes of others.
+-- Each event names only parties of the file, keeps all numbers within the limits, and leaves
+-- nothing in the lanes of others.
 use Rattle.std.proofs.Common.{◌≡◌, ℕ, ◌+◌, ◌<◌, ◌≤◌, ◌==◌, Bool, true, false, ◌&&◌, cond, List, [], ◌∷◌, ◌++◌, map, max, Some, None, refl, ap, sym, ◌∙◌, subst, arith, inl, inr, ◌⊎◌}
 use Rattle.std.specs.List.{filter, AllByRecursion}
 use Rattle.std.proofs.lemmas.Bool.{false_from_ne_true, both_ways, cases_lt, eqb-true, eq-eqb, ne_eqb, and_parts}

@@ -25,8 +25,8 @@ does clock party note = record { party = party; entry = record { clock = clock; 
 abbrev pub gets : (clock party from : ℕ) → NoteAt → LineAt
 gets clock party from note = record { party = party; entry = record { clock = clock; event = Deliver from; note = note } }
 
--- the events of these lines give them again, with that choice of bases, and in the world to which they lead nothing is left to
--- do: no frame is in a lane, and no party can act
+-- the events of these lines give them again, with that choice of bases. In the world to which they
+-- lead nothing is left to do: no frame is in a lane, and no party can act
 abbrev pub IsWholeHistory : (ℕ → ℕ → ℕ) → FileAt → List LineAt → Type 0
 IsWholeHistory pick file lines =
     (w : WorldAt Place Program) × (replay (play_of file) pick (map turn_of lines) (core_start file) ≡ Some (record { lines = lines; world = w }))

@@ -1,4 +1,5 @@
--- A history that is known: an end that is delegated twice while the Signals cross, and frames that wait for it.
+-- A history that is known: an end that is delegated twice while the Signals cross, and frames that
+-- wait for it.
 use Rattle.std.specs.Prelude.{List, [], ◌∷◌, ◌++◌, pos, Some, None}
 use Rattle.sj_base.specs.declared.Msg.TheVariants as msgs
 use Rattle.sj_lang.specs.declared.proto.Way.TheVariants.{Out, Into}

@@ -1,5 +1,5 @@
--- Histories that are known: a session is opened at run time, and accepted once its messages are there, or never; its first end
--- is delegated before the second one is accepted.
+-- Histories that are known. A session is opened at run time, and accepted once its messages are
+-- there, or never. Its first end is delegated before the second one is accepted.
 use Rattle.std.specs.Prelude.{List, [], ◌∷◌, pos, codes, None}
 use Rattle.sj_base.specs.declared.Msg.TheVariants as msgs
 use Rattle.sj_lang.specs.declared.proto.Way.TheVariants.{Out, Into}
@@ -56,7 +56,7 @@ opened_and_moved = record {
   connects = connects (decl 4 8 2) (decl 9 11 3) ∷ [];
 }
 
--- the Signal comes behind the Open, and the offered end answers it
+-- the Signal comes after the Open, and the offered end answers it
 abbrev pub opened_and_moved_lines : List LineAt
 opened_and_moved_lines =
     does 1 0 (Request 64 1)

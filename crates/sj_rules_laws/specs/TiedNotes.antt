@@ -1,5 +1,5 @@
--- The lines of a history beside the plain run of its acts: each act's note is that of the plain step, so the notes tell what was
--- sent on each end and taken on it, and by whom.
+-- The lines of a history beside the plain run of its acts. Each act's note is that of the plain
+-- step, so the notes report what was sent on each end and taken on it, and by whom.
 use Rattle.std.specs.Prelude.{◌≡◌, ℕ, List, [], ◌∷◌, ◌++◌, length, Option, Some, None, option_map, option_and_then, if◌then◌else◌, ⊤}
 use Rattle.sj_base.specs.declared.EndId.{EndId}
 use Rattle.sj_semantics.specs.declared.Passed.{Passed}
@@ -25,7 +25,7 @@ note_of w p (wants.Close e) = Some (Shut e)
 note_of w p (wants.Request n q) = Some (Request (opened_number p (length (w.requests p))) q)
 note_of w p (wants.Accept n q) = option_map (λ k. Accept (opened_number q k) q) (first_offer p (w.requests q))
 
--- the note tells of a frame
+-- the note reports a frame
 abbrev pub IsOfFrame : NoteAt → Type 0
 IsOfFrame Local = ⊥
 IsOfFrame (Sent e m) = ⊥
@@ -41,8 +41,9 @@ IsOfFrame (Ack of conn) = ⊤
 IsOfFrame (Give of conn peer sent taken base resend) = ⊤
 IsOfFrame (Open sess) = ⊤
 
--- a line of that event in this plain world, and what holds from the next one on: an act is the party's plain act, and its note
--- that of the plain step; at a delivery nothing happens there, and the note tells of the frame
+-- a line of that event in this plain world, and what holds from the next one on. An act is the
+-- party's plain act, and its note that of the plain step. At a delivery nothing happens there, and
+-- the note reports the frame
 abbrev pub TiesLine : (World → Type 0) → World → LineAt → Event → Type 0
 TiesLine Onward w l Act =
     (v : World) × (act_of w l.party ≡ Some v) × (option_and_then (note_of w l.party) (next_step w l.party) ≡ Some l.entry.note) × Onward v
@@ -53,7 +54,7 @@ abbrev pub AreTied : World → List LineAt → Type 0
 AreTied w [] = ⊤
 AreTied w (l ∷ ls) = TiesLine (λ v. AreTied v ls) w l l.entry.event
 
--- ---- what they tell
+-- ---- what they report
 
 -- the message of a Sent note on the end, with the party of its line
 abbrev pub sent_told : EndId → ℕ → NoteAt → List Passed

@@ -1,7 +1,8 @@
 //! Laws over how long runs of the core are; each is the one clause of a function that does nothing.
 //!
 //! - `core_runs_are_short`: a core run has few events for each act, and so it has few.
-//! - `each_core_run_drains`, `each_drain_ends_at_the_end`: it can go on until nothing is left to do.
+//! - `each_core_run_drains`, `each_drain_ends_at_the_end`: it can go on until nothing is left to
+//!   do.
 //! - `clocks_count_events`: clocks are as low.
 
 ghost use Rattle.std.specs.Prelude.{◌≡◌, ◌≢◌, ℕ, ◌+◌, ◌*◌, ◌<◌, ◌≤◌, List, ◌++◌, length, Some};

@@ -30,7 +30,7 @@ ghost use Rattle.sj_rules.specs.World.{Turn, WorldAt};
 ghost use Rattle.sj_semantics.specs.Program.{Program};
 
 /// The logs of a file's parties can be joined, in one way only. The joined lines are a core run,
-/// which ends in each worker's node, with what is left in the lanes; so they are where the parties
+/// which ends in each worker's node, with what is left in the lanes. So they are where the parties
 /// go by another play of the file.
 pub fn joined_logs_are_a_core_run()
     ensures joined { (file : FileAt) (play : Play Place Program) (pick : ℕ → ℕ → ℕ)
@@ -89,9 +89,9 @@ pub fn a_history_is_one_run()
 {}
 
 /// A frame that a worker popped and lost fits its row at the worker's node, the limits too: so the
-/// node didn't refuse it as unfit. The node acts where no cause keeps it from it, its ends have
-/// sent and taken fewer than 1,000,000 messages, and what is untaken there names sessions and
-/// parties of the file.
+/// node didn't refuse it as unfit. The node acts where no cause keeps it from it. Its ends have
+/// sent and taken fewer than 1,000,000 messages. What is untaken there names sessions and parties
+/// of the file.
 pub fn no_worker_is_unfit()
     ensures frame { (file : FileAt) (play : Play Place Program) (pick : ℕ → ℕ → ℕ)
         (blank : Place) (workers : ℕ → WorkerAt Place Program) (lost : ℕ → ℕ → List (FrameAt Place)) (p q : ℕ)

@@ -20,8 +20,8 @@ ghost use Rattle.sj_semantics.specs.Program.{Program};
 ghost use Rattle.sj_semantics.specs.World.{start_of};
 
 /// In a history the note of each act is that of the step that its party does in the plain run of
-/// the acts: what it sends or takes and on which end, which end it closes, which session it opens or
-/// accepts. A delivery's note names a frame.
+/// the acts. It says what the step sends or takes and on which end, which end it closes, and which
+/// session it opens or accepts. A delivery's note names a frame.
 pub fn a_history_is_tied_to_its_plain_run()
     ensures { (file : FileAt) (pick : ℕ → ℕ → ℕ) (lines : List LineAt)
         (core : WorldAt Place Program) → IsAccepted file → IsPick pick →
@@ -29,7 +29,7 @@ pub fn a_history_is_tied_to_its_plain_run()
 {}
 
 /// So the Sent notes of an end, in order and each with its line's party, are what the plain run
-/// sends on it; and the Took notes what it takes on it.
+/// sends on it. Likewise the Took notes are what it takes on it.
 pub fn a_history_tells_what_was_passed()
     ensures sent { (file : FileAt) (pick : ℕ → ℕ → ℕ) (lines : List LineAt)
         (core : WorldAt Place Program) (e : EndId) → IsAccepted file → IsPick pick →

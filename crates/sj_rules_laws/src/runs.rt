@@ -8,7 +8,8 @@
 //! - `each_front_fits`, `each_number_is_within_its_limit`, `each_party_acts_unless_halted`: nothing
 //!   is ever unfit.
 //! - `each_history_is_a_core_run`: what a history says.
-//! - `a_quiet_core_run_is_at_the_end`, `nothing_is_awaited_at_the_end`: where the core comes to rest.
+//! - `a_quiet_core_run_is_at_the_end`, `nothing_is_awaited_at_the_end`: where the core comes to
+//!   rest.
 
 ghost use Rattle.std.specs.List.{AllByRecursion};
 ghost use Rattle.std.specs.Prelude.{◌≡◌, ℕ, ◌*◌, ◌<◌, ◌≤◌, true, false, List, ◌∷◌, map, None, Some, length, slice_get};
@@ -63,7 +64,7 @@ pub fn each_end_lies_in_one_place()
         IsAccepted file → IsCoreRun file turns core → e.side < 2 → LiesOnce core e }
 {}
 
-/// What is untaken at a Held end is a prefix of what waits for it in the plain world; where the end
+/// What is untaken at a Held end is a prefix of what waits for it in the plain world. Where the end
 /// was accepted, it has its place and its handovers too.
 pub fn a_held_end_has_a_front()
     ensures accepted { (file : FileAt) (turns : List Turn) (core : WorldAt Place Program) →
@@ -79,8 +80,8 @@ pub fn a_held_end_has_a_front()
         (core.nodes p).main e ≡ Some (Held h) → IsFront h.untaken (waits_of (plain_at w) e)) }
 {}
 
-/// Wherever an end lies, its cache begins where the other end has taken, or before, and has all that
-/// was sent from there on. What the other end has taken was sent.
+/// Wherever an end lies, its cache begins where the other end has taken, or before, and has all
+/// that was sent from there on. What the other end has taken was sent.
 pub fn each_cache_has_what_was_not_taken()
     ensures plain { (file : FileAt) (turns : List Turn) (core : WorldAt Place Program) →
         IsAccepted file → IsCoreRun file turns core →
@@ -93,7 +94,7 @@ pub fn each_cache_has_what_was_not_taken()
         HasEnd core (other_end e) there l → (k.base ≤ l.taken) × (l.taken ≤ k.sent) }
 {}
 
-/// The front of each lane fits the row of its party, however caches are trimmed, and with the
+/// The first frame of each lane fits the row of its party, however caches are trimmed, and with the
 /// limits of frames too.
 pub fn each_front_fits()
     ensures step { (file : FileAt) (turns : List Turn) (core : WorldAt Place Program)
@@ -109,7 +110,7 @@ pub fn each_front_fits()
 {}
 
 /// In a core run all numbers are within their limits, and a Held end has sent and taken fewer than
-/// 1,000,000 messages; what is untaken there names sessions and parties of the file.
+/// 1,000,000 messages. What is untaken there names sessions and parties of the file.
 pub fn each_number_is_within_its_limit()
     ensures within { (file : FileAt) (turns : List Turn) (core : WorldAt Place Program) →
         IsAccepted file → IsCoreRun file turns core → IsWithin (length file.parties) core }
@@ -136,7 +137,8 @@ pub fn each_party_acts_unless_halted()
         × (acts (play_of file) p (core.nodes p) ≡ Some worked) }
 {}
 
-/// A core run that leaves its parties nothing to do is quiescent and stands for the end of its file.
+/// A core run that leaves its parties nothing to do is quiescent and stands for the end of its
+/// file.
 pub fn a_quiet_core_run_is_at_the_end()
     ensures quiescent { (file : FileAt) (turns : List Turn) (core : WorldAt Place Program) →
         IsAccepted file → IsCoreRun file turns core →

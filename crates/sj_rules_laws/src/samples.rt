@@ -11,7 +11,7 @@ ghost use Rattle.sj_semantics_laws.specs.HandoverSamples.{both_moved, delegation
 ghost use Rattle.sj_semantics_laws.specs.OpeningSamples.{accepted, unaccepted};
 
 /// A closed end is resent after a handover; nothing is resent between Signal and Give; Signals
-/// cross; a Carry and a Signal wait for an end that is delegated once more.
+/// cross. A Carry and a Signal wait for an end that is delegated once more.
 pub fn handovers_are_logged_so()
     ensures delegation { IsLoggedSo delegation delegation_lines }
     ensures sends_later { IsLoggedSo sends_later sends_later_lines }
@@ -19,8 +19,8 @@ pub fn handovers_are_logged_so()
     ensures moved_twice { IsLoggedSo moved_twice moved_twice_lines }
 {}
 
-/// A session is opened, used and closed by its requester before the other party accepts it, or where
-/// nobody accepts it; and its first end is delegated before its second one is accepted.
+/// A session is opened, used and closed by its requester before the other party accepts it, or
+/// where nobody accepts it. And its first end is delegated before its second one is accepted.
 pub fn openings_are_logged_so()
     ensures accepted { IsLoggedSo accepted accepted_lines }
     ensures unaccepted { IsLoggedSo unaccepted unaccepted_lines }

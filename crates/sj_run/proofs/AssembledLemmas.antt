@@ -1,5 +1,5 @@
--- Over links that tell: where no worker lost a frame, the workers' own nodes, with what waits on the links before their outboxes, are the
--- core world to which the joined logs lead.
+-- Over links that report, where no worker lost a frame. The workers' own nodes, with what waits on
+-- the links before their outboxes, are the core world to which the joined logs lead.
 use Rattle.std.proofs.Common.{◌≡◌, ◌∙◌, ℕ, ◌<◌, ◌≤◌, max, true, List, [], ◌∷◌, ◌++◌, map, length, Option, Some, None, refl, sym, ap, subst, arith}
 use Rattle.std.specs.Prelude.{slice_get}
 use Rattle.std.specs.List.{AllByRecursion}
@@ -64,12 +64,12 @@ plain_all : {P R : Type 0} (f : P → R) (xs : List (FrameAt P)) → HasNoGive x
 plain_all f [] plain = tt
 plain_all f (x ∷ xs) plain = (plain_body f x.body plain.0, plain_all f xs plain.1)
 
--- frames as lanes tell them
+-- frames as lanes report them
 told_each : (frames : List Frame) → map (frame_with (λ s. done)) (map frame_at frames) ≡ told_list frames
 told_each [] = refl
 told_each (f ∷ frames) = ap (λ fs. told_frame f ∷ fs) (told_each frames)
 
--- an outbox as lanes tell it
+-- an outbox as lanes report it
 box_told : (m : Node) (q : ℕ) → told_frames done (outbox_of m q) ≡ map (frame_with (λ s. done)) (waiting_in (outs_of m) q)
 box_told m q = told_all_with (place_in (table_of m)) (waiting_in (outs_of m) q)
 

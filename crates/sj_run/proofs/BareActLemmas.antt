@@ -1,4 +1,4 @@
--- An act does at a node what it does at another that is the same but for what no entry tells.
+-- An act does at a node what it does at another that is the same but for what no entry reports.
 use Rattle.std.proofs.Common.{◌≡◌, ◌∙◌, ℕ, ◌+◌, ◌&&◌, Bool, true, false, if◌then◌else◌, List, [], ◌∷◌, Option, Some, None, option_map, refl, sym, ap, subst}
 use Rattle.std.specs.Prelude.{is_none, nat_lt}
 use Rattle.sj_base.specs.declared.EndId.{EndId}

@@ -1,4 +1,5 @@
--- What an entry tells of a frame fixes what the frame does at a node, but for what no entry tells.
+-- What an entry reports of a frame fixes what the frame does at a node, but for what no entry
+-- reports.
 use Rattle.std.proofs.Common.{◌≡◌, ◌∙◌, ℕ, ◌==◌, ◌&&◌, Bool, true, false, if◌then◌else◌, List, [], ◌∷◌, ◌++◌, Option, Some, None, option_map, refl, sym, ap}
 use Rattle.std.specs.Prelude.{is_none, nat_lt}
 use Rattle.sj_base.specs.declared.EndId.{EndId}
@@ -156,7 +157,7 @@ module _ {P Q : Type 0} where
     comes_by blank origin (Open sess) = open_by blank origin sess
 
 module _ {P : Type 0} where
-  -- a body as its note tells it
+  -- a body as its note reports it
   abbrev noted : P → NoteAt → BodyAt P
   noted blank (notes.Carry to conn number taken msg) = Carry to conn number taken msg
   noted blank (notes.Fin to conn number) = Fin to conn number
@@ -187,7 +188,7 @@ module _ {P Q : Type 0} where
     noted_by n origin (Give e resend) = give_by pick n n refl origin e (bare_end (record e { place = blank })) resend blank refl (n.main e.id) (n.main e.id) refl
     noted_by n origin (Open sess) = refl
 
-    -- frames of the same note, at nodes that are the same but for what no entry tells
+    -- frames of the same note, at nodes that are the same but for what no entry reports
     pub arrives_alike : (parties : ℕ) (m n : NodeAt P Q) → bare_node m ≡ bare_node n → (origin : ℕ) (f g : FrameAt P) → body_note f.body ≡ body_note g.body → nat_lt f.clock clock_end ≡ nat_lt g.clock clock_end
         → node_by (arrives blank parties pick m origin f) ≡ node_by (arrives blank parties pick n origin g)
     arrives_alike parties m n same origin f g note clocks =

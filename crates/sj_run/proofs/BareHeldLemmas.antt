@@ -1,4 +1,5 @@
--- What an act asks of the record of its end, at two nodes that are the same but for what no entry tells.
+-- What an act asks of the record of its end, at two nodes that are the same but for what no entry
+-- reports.
 use Rattle.std.proofs.Common.{◌≡◌, ◌∙◌, ℕ, Bool, true, false, if◌then◌else◌, [], ◌∷◌, Option, Some, None, option_map, refl, sym, ap}
 use Rattle.std.specs.Prelude.{⊤, nat_lt}
 use Rattle.sj_base.specs.declared.EndId.{EndId}

@@ -1,4 +1,5 @@
--- What no entry of a log tells of an end: its cache, and how often it was delegated. A row does without these what it does with them.
+-- What no entry of a log reports of an end: its cache, and how often it was delegated. A row does
+-- without these what it does with them.
 use Rattle.std.proofs.Common.{◌≡◌, ◌∙◌, ℕ, ◌==◌, ◌+◌, ◌&&◌, Bool, true, false, not, if◌then◌else◌, List, [], ◌∷◌, length, Option, Some, None, option_map, option_and_then, refl, sym, ap}
 use Rattle.std.specs.Prelude.{nat_le}
 use Rattle.sj_rules.specs.Record.{EndAt, BodyAt, Carry, Fin, Claim, Signal, Ack, Give, Open, Mail, HeldAt, MainAt, Held, Closed, Expected, OldAt, Parked, Signalled, other_end}

@@ -1,4 +1,4 @@
--- A node without what no entry tells of its ends, and what rows make of it.
+-- A node without what no entry reports of its ends, and what rows make of it.
 use Rattle.std.proofs.Common.{◌≡◌, ◌∙◌, ℕ, ◌==◌, ◌&&◌, Bool, true, false, if◌then◌else◌, [], ◌∷◌, ◌++◌, Option, Some, None, option_map, refl, sym, ap}
 use Rattle.sj_base.specs.declared.EndId.{EndId}
 use Rattle.sj_rules.specs.Record.{EndAt, BodyAt, Carry, Fin, Claim, Signal, Ack, Give, Open, HeldAt, MainAt, Held, Closed, Expected, OldAt, Parked}
@@ -48,7 +48,7 @@ module _ {P Q : Type 0} where
     leaves_by e to at x y false true t = absurd (cc t)
     leaves_by e to at x y false false t = refl
 
-    -- the records that a frame meets, without what no entry tells
+    -- the records that a frame meets, without what no entry reports
     pub main_comes : (origin : ℕ) (e : EndId) (b : BodyAt P) (r s : Option (MainAt P)) → option_map bare_main r ≡ option_map bare_main s → node_by (at_main pick m origin e b r) ≡ node_by (at_main pick n origin e b s)
     main_comes origin e b None None t = refl
     main_comes origin e b None (Some s) t = absurd (cc t)

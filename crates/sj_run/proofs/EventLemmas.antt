@@ -1,4 +1,4 @@
--- What an event of a world did, and what the line that was due tells of it.
+-- What an event of a world did, and what the line that was due reports of it.
 use Rattle.std.proofs.Common.{◌≡◌, ◌∙◌, ℕ, ◌==◌, ◌+◌, max, true, false, if◌then◌else◌, List, [], ◌∷◌, Option, Some, None, option_map, option_and_then, refl, sym, ap}
 use Rattle.std.proofs.lemmas.Bool.{eq-eqb}
 use Rattle.sj_rules.specs.Frames.{FrameAt}

@@ -1,4 +1,5 @@
--- Parties that work together: their joined logs are a history, and what a party of theirs could have refused as unfit fits.
+-- Parties that work together: their joined logs are a history, and what a party of theirs could
+-- have refused as unfit fits.
 use Rattle.std.proofs.Common.{◌≡◌, ◌∙◌, ℕ, ◌<◌, ◌==◌, max, true, List, [], ◌∷◌, ◌++◌, map, length, Option, Some, None, refl, sym, ap, subst, arith}
 use Rattle.std.proofs.lemmas.Bool.Decides.{nat_tests}
 use Rattle.sj_lang.specs.Place.{Place, done}
@@ -29,7 +30,7 @@ use Rattle.sj_core.proofs.LawLemmas.{max_picks}
 use Rattle.sj_core.proofs.UnfitLemmas.{own_never_unfit}
 use Rattle.sj_work.specs.Causes.{IsUnfit}
 
--- a told frame tells the same again
+-- a reported frame reports the same again
 told_body_twice : (b : BodyAt Place) → told_body done (told_body done b) ≡ told_body done b
 told_body_twice (Carry to conn number taken msg) = refl
 told_body_twice (Fin to conn number) = refl
@@ -42,7 +43,7 @@ told_body_twice (Open sess) = refl
 told_twice : (f : FrameAt Place) → frame_told done (frame_told done f) ≡ frame_told done f
 told_twice f = λ i. record { clock = f.clock; body = told_body_twice f.body i }
 
--- the first frame of a lane that tells these
+-- the first frame of a lane that reports these
 first_told : (lane : List (FrameAt Place)) (x : FrameAt Place) (more : List (FrameAt Place)) → told_frames done lane ≡ x ∷ more → (g : FrameAt Place) × (frame_told done g ≡ x)
 first_told [] x more e = absurd (cc e)
 first_told (g ∷ rest) x more e = (g, cc e)
@@ -74,7 +75,7 @@ module _ (file : FileAt) where
     pub own : IsJoinedRun (play_of file) max done (length file.parties) (core_start file) team lost lines core
     own = own_joined_run file file_play max max_picks done team lost works accepted plays_file lines joins
 
-    -- what a party lost is a frame as lanes tell it
+    -- what a party lost is a frame as lanes report it
     lost_told : (p q : ℕ) (x : FrameAt Place) → p < length file.parties → q < length file.parties → lost q p ≡ x ∷ [] → (g : FrameAt Place) × (frame_told done g ≡ x)
     lost_told p q x lt mt is =
         let l = own.lanes p q lt mt in

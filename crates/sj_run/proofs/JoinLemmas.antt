@@ -1,5 +1,5 @@
--- Over links that tell: the joined logs of workers are a history, no worker stopped as unfit, and where none stopped for another
--- cause than that it had nothing to do, the links show the lines.
+-- Over links that report: the joined logs of workers are a history, and no worker stopped as unfit.
+-- Where none stopped for another cause than that it had nothing to do, the links show the lines.
 use Rattle.std.proofs.Common.{◌≡◌, ◌⊎◌, ◌∙◌, ℕ, ◌<◌, ◌≤◌, nat_lt, max, Bool, true, false, List, [], map, length, Option, Some, None, inl, inr, refl, sym, ap, subst, arith}
 use Rattle.std.specs.Prelude.{slice_get}
 use Rattle.std.proofs.lemmas.Bool.Decides.{nat_tests}

@@ -1,4 +1,5 @@
--- What workers leave, whatever their lanes tell: each went by its steps, and what it popped and pushed is what these say.
+-- What workers leave, whatever their lanes report: each went by its steps, and what it popped and
+-- pushed is what these say.
 use Rattle.std.proofs.Common.{◌≡◌, ◌∙◌, ℕ, zero, suc, max, Bool, List, [], ◌∷◌, ◌++◌, map, Option, Some, None, refl, ap, subst, arith}
 use Rattle.std.specs.Prelude.{slice_get}
 use Rattle.std.proofs.lemmas.List.{length-map}
@@ -45,7 +46,7 @@ none_came popped same None (Some j) came is s = absurd s
 none_came popped same (Some i) None came is s = absurd s
 none_came popped same (Some i) (Some j) came is s = absurd (cc is)
 
--- what was pushed on a lane, whatever it tells; without a lane nothing was
+-- what was pushed on a lane, whatever it reports; without a lane nothing was
 pushed_on : {O : Type 0} (pushed : O → Option (List (FrameAt Place))) (same : O → O → Type 0) (a b : Option O) (box left posts : List (FrameAt Place)) → OutStep pushed same a b box left posts
     → (now : List (FrameAt Place)) × (now ++ left ≡ box ++ posts)
 pushed_on pushed same None None box left posts s = ([], s)

@@ -1,4 +1,5 @@
--- Where joined logs are a history, the world to which they lead has each party's node, but for what no entry tells.
+-- Where joined logs are a history, the world to which they lead has each party's node, but for what
+-- no entry reports.
 use Rattle.std.proofs.Common.{◌≡◌, ◌∙◌, ℕ, ◌==◌, ◌+◌, ◌&&◌, max, Bool, true, false, if◌then◌else◌, List, [], ◌∷◌, map, Some, refl, sym, ap, subst, arith}
 use Rattle.std.specs.Prelude.{nat_lt}
 use Rattle.std.proofs.lemmas.Bool.Decides.{nat_tests}
@@ -72,7 +73,8 @@ module _ {P Q : Type 0} (play own : Play P Q) (blank : own.blank ≡ play.blank)
           let alike = arrives_alike play.blank pick play.parties m (w.nodes p) same q f c.frame note (low ∙ sym own_low) in
           after_alike (max (w.nodes p).clock c.frame.clock + 1) (with_lane q p c.rest w.lanes) c.left c.after (same_some _ _ (ap node_by (sym row) ∙ alike ∙ ap node_by own_row))
 
-  -- so the world to which lines lead has the party's node, where the party's part of them is what its steps logged
+  -- so the world to which lines lead has the party's node, where the party's part of them is what
+  -- its steps logged
   pub nodes_alike : (lines : List LineAt) (w v : WorldAt P Q) (m n : NodeAt P Q) (steps : List (StepAt P)) → Seen w → bare_node m ≡ bare_node (w.nodes p) → NodeRun play pick p m steps n
       → map (λ (s : StepAt P). s.entry) steps ≡ part_of p lines → IsLog own pick w lines v → bare_node n ≡ bare_node (v.nodes p)
   nodes_alike [] w v m n [] seen same run is log = ap bare_node (sym run) ∙ same ∙ ap (λ (x : WorldAt P Q). bare_node (x.nodes p)) log

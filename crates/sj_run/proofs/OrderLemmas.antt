@@ -1,4 +1,5 @@
--- Where the links carried in order and unchanged, what the parties left is no damage: their joined logs are a history, and none is unfit.
+-- Where the links carried in order and unchanged, what the parties left is no damage: their joined
+-- logs are a history, and none is unfit.
 use Rattle.std.proofs.Common.{◌≡◌, ◌⊎◌, ◌∙◌, ℕ, ◌<◌, ◌≤◌, nat_lt, if◌then◌else◌, max, Bool, true, false, List, [], length, Option, Some, None, option_map, inl, inr, refl, sym, ap, subst, arith}
 use Rattle.std.specs.Prelude.{slice_get, unwrap_or}
 use Rattle.std.proofs.lemmas.Bool.Decides.{nat_tests}
@@ -32,7 +33,7 @@ abbrev log_left : Option LeftAt → List EntryAt
 log_left o = unwrap_or (option_map (λ (l : LeftAt). entries_of (log_of l.node)) o) []
 
 module _ (file : FileAt) (left : List LeftAt) (carried : CarriedInOrder file left) where
-  -- each party as its lanes would tell it
+  -- each party as its lanes would report it
   abbrev worker_or : (p : ℕ) (o : Option LeftAt) → slice_get left p ≡ o → WorkerAt Place Program
   worker_or p None there = fresh (first_node file p)
   worker_or p (Some l) there =

@@ -1,4 +1,5 @@
--- What a party refused isn't due after a history that has its log: an entry tells of a frame, and of an act, all that decides whether it fits.
+-- What a party refused isn't due after a history that has its log. An entry reports of a frame, and
+-- of an act, all that decides whether it fits.
 use Rattle.std.proofs.Common.{◌≡◌, ◌∙◌, ℕ, ◌+◌, ◌<◌, ◌≤◌, max, min, nat_lt, true, if◌then◌else◌, List, [], ◌∷◌, ◌++◌, map, length, Option, Some, None, option_map, refl, sym, ap, subst, arith}
 use Rattle.std.specs.Prelude.{unwrap_or}
 use Rattle.std.proofs.lemmas.Bool.{lt-ltb, ltb-true}
@@ -49,7 +50,8 @@ use Rattle.sj_run.proofs.EventLemmas.{acted, came, came_clock, due_so, map_some}
 use Rattle.sj_run.proofs.FreeLemmas.{hops_fit, low_side, note_is, room_if}
 use Rattle.sj_run.proofs.LoggedNodeLemmas.{first_true, nodes_alike, same_some}
 
--- a frame's clock is below 2^62 where the entry that it would make has the clock of one whose frame's is
+-- a frame's clock is below 2^62 where the entry that it would make has the clock of one whose
+-- frame's is
 low_by : (a b c d end : ℕ) → a < end → b < end → c ≡ a → max a b + 1 ≡ max c (min d end) + 1 → nat_lt d end ≡ true
 low_by a b c d end low less is same = grind (arith, nat_tests)
 
@@ -75,7 +77,7 @@ module _ (file : FileAt) (accepted : IsAccepted file) (p : ℕ) (left : LeftAt) 
   run : IsCoreRun file (map turn_of lines) core
   run = log_runs own max max_picks lines (core_start file) core history
 
-  -- the world has the party's node, but for what no entry tells
+  -- the world has the party's node, but for what no entry reports
   alike : bare_node (node_at n) ≡ bare_node (core.nodes p)
   alike =
       nodes_alike (file_play file) own refl refl max p Seen seen_on agree lines (core_start file) core (first_node file p) (node_at n) went.logged.steps ([], refl) refl

@@ -1,4 +1,5 @@
--- Why a worker that stopped, and not for want of memory, a fault or what doesn't fit, has nothing to do, and what its lanes show of it.
+-- Why a worker that stopped, and not out of memory, at a fault or at what doesn't fit, has nothing
+-- to do, and what its lanes show of it.
 use Rattle.std.proofs.Common.{◌≡◌, ◌⊎◌, ◌∙◌, ℕ, zero, suc, ◌<◌, List, [], ◌∷◌, map, length, Option, Some, None, inl, inr, refl, sym, ap, subst, arith}
 use Rattle.sj_lang.specs.Place.{Place, done}
 use Rattle.sj_lang.specs.FileAt.{FileAt}

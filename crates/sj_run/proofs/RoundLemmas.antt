@@ -1,4 +1,4 @@
--- One call of a worker behind another.
+-- One call of a worker after another.
 use Rattle.std.proofs.Common.{◌≡◌, ℕ, Option, Some, None, refl, ap, sym, ◌∙◌, subst}
 use Rattle.sj_lang.specs.Place.{Place}
 use Rattle.sj_rules.specs.Work.{LostAt}

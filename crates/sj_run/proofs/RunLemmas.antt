@@ -1,4 +1,4 @@
--- What comes of workers that have worked, over any links, and over links that tell.
+-- What comes of workers that have worked, over any links, and over links that report.
 use Rattle.std.proofs.Common.{◌≡◌, ◌∙◌, ℕ, ◌<◌, ◌≤◌, nat_lt, max, if◌then◌else◌, Bool, true, false, List, [], ◌++◌, map, length, Option, Some, None, inl, inr, refl, sym, ap, subst, arith}
 use Rattle.std.specs.Prelude.{slice_get}
 use Rattle.std.proofs.lemmas.Bool.Decides.{nat_tests}
@@ -63,7 +63,7 @@ module _ {O I : Type 0} (outward : OutLane O) (inward : InLane I) (joined : O �
       let old = (all.each s.party s.worker s.there).old in
       met_fault s.party s.worker s.there old (subst (λ (x : Option Stop). Cause outward inward x looks t.lost old s.worker) s.stopped t.cause)
 
--- ---- links that tell
+-- ---- links that report
 
 module _ {O I : Type 0} (outward : OutLane O) (inward : InLane I) (joined : O → I → Type 0) (file : FileAt) (accepted : IsAccepted file)
     (looks : ℕ) (workers : List (Worker O I)) (all : AllWorked outward inward joined file looks true workers) (links : LinksAt)
@@ -98,7 +98,8 @@ module _ {O I : Type 0} (outward : OutLane O) (inward : InLane I) (joined : O �
   told_fits s =
       none_unfit outward inward joined file accepted looks workers all links keeps lines joins_below s.party s.worker s.there s.stopped
 
-  -- where none stopped for want of memory or at a fault, the links show the lines, whichever world they lead to
+  -- where none stopped out of memory or at a fault, the links show the lines, whichever world they
+  -- lead to
   pub told_shown : NoneStopped workers stops.NoMemory → NoneStopped workers stops.Fault → (history : List LineAt) (w : WorldAt Place Program) → history ≡ lines → IsHistory max file lines w → IsShown file looks links history w
   told_shown remembers faultless history w is h =
       let shown = team_shown outward inward joined file accepted looks workers all links keeps lines joins_below remembers faultless in

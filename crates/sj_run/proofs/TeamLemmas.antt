@@ -1,4 +1,5 @@
--- The workers of a file, which began with its first nodes and new lanes, are parties that work together.
+-- The workers of a file, which began with its first nodes and new lanes, are parties that work
+-- together.
 use Rattle.std.proofs.Common.{◌≡◌, ◌∙◌, ℕ, zero, suc, ◌<◌, ◌≤◌, max, Bool, true, List, [], ◌∷◌, map, length, Option, Some, None, refl, sym, ap, subst, arith}
 use Rattle.std.specs.Prelude.{slice_get, IsSome}
 use Rattle.std.proofs.lemmas.List.{length-map}

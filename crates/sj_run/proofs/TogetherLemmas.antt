@@ -1,5 +1,6 @@
--- What comes of workers over links that tell, by what the calls of a run answer: they were taken apart, what waited on their lanes was put
--- before the outboxes of their nodes, the lanes went back, and the logs were joined.
+-- What comes of workers over links that report, by what the calls of a run answer. They were taken
+-- apart, and what waited on their lanes was put before the outboxes of their nodes. The lanes went
+-- back, and the logs were joined.
 use Rattle.std.proofs.Common.{◌≡◌, ℕ, max, Bool, true, List, map, sym, subst}
 use Rattle.std.specs.Global.{Vec}
 use Rattle.sj_lang.specs.FileAt.{FileAt}

@@ -20,14 +20,15 @@ use Rattle.sj_node.specs.Halts.{hold_up, names_awaited, stop_by, stop_wanting}
 use Rattle.sj_node.specs.Play.{next_want}
 use Rattle.sj_run.specs.Shown.{IsWaiting}
 
--- the node stops with steps left, and doesn't wait: no end that it names is awaited, and that stop is what holds it up
+-- the node stops with steps left, and doesn't wait: no end that it names is awaited, and that stop
+-- is what holds it up
 held_back : (low named : Bool) (up : Option Halt) (h : Halt) → (h ≡ halts.Waits → ⊥) → low ≡ true
     → (if low then (if named then Some halts.Waits else up) else Some halts.AtLimit) ≡ Some h → (named ≡ false) × (up ≡ Some h)
 held_back true true up h other e k = absurd (other (let w : Some halts.Waits ≡ Some h = k in cc w))
 held_back true false up h other e k = (refl, k)
 held_back false named up h other e k = absurd (cc e)
 
--- by the rules it has steps left, and waits for what comes behind
+-- by the rules it has steps left, and waits for what comes after
 below : (low : Bool) (rest : Option rules.Halt) → IsWaiting (halt_if (not low) rules.worn rest) → (low ≡ true) × IsWaiting rest
 below true rest w = (refl, w)
 below false rest w = absurd w

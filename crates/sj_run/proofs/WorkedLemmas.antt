@@ -47,7 +47,7 @@ front_of : {X : Type 0} (xs zs : List X) → take (length xs) (xs ++ zs) ≡ xs
 front_of [] zs = refl
 front_of (x ∷ xs) zs = ap (λ ys. x ∷ ys) (front_of xs zs)
 
--- the front of a list is that list
+-- a prefix of a list, taken by its length, is that prefix
 pub take_front : {X : Type 0} (xs zs : List X) (n : ℕ) → n ≡ length xs → take n (xs ++ zs) ≡ xs
 take_front xs zs n is = ap (λ m. take m (xs ++ zs)) is ∙ front_of xs zs
 

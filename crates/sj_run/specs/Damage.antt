@@ -1,4 +1,5 @@
--- Why joined logs are refused, over links that don't tell what they carried: what the parties left, and the first of it that doesn't fit.
+-- Why joined logs are refused, over links that don't report what they carried: what the parties
+-- left, and the first of it that doesn't fit.
 use Rattle.std.specs.Prelude.{◌≡◌, ◌⊎◌, ℕ, ◌+◌, ◌<◌, max, List, length, slice_get, Option, Some, option_map}
 use Rattle.sj_lang.specs.Place.{Place}
 use Rattle.sj_lang.specs.FileAt.{FileAt}
@@ -28,15 +29,17 @@ pub record IsRefusedAfter (file : FileAt) (core : WorldAt Place Program) (lines 
   pub found : due (play_of file) max core logged.party logged.entry.event ≡ other
   pub differs : other ≡ Some logged → ⊥
 
--- all lines are a history, and what the lowest unfit party refused after them isn't what is due there
+-- all lines are a history, and what the lowest unfit party refused after them isn't what is due
+-- there
 pub record IsPastEnd (file : FileAt) (left : List LeftAt) (lines : List LineAt) (number : ℕ) (logged : LineAt) (other : Option LineAt) : Type 0 where
   pub core : WorldAt Place Program
   pub run : IsHistory max file lines core
   pub lowest : IsLowestUnfit left logged
   pub refused : IsRefusedAfter file core lines number logged other
 
--- the parties did their steps, none stopped at a fault, the links didn't carry in order and unchanged, and the logs were joined to these
--- lines. What is told is the first of the lines that isn't due, with what is due in its place; or, after lines that all are, what the
+-- the parties did their steps, none stopped at a fault, the links didn't carry in order and
+-- unchanged, and the logs were joined to these lines. What is reported is the first of the lines
+-- that isn't due, with what is due in its place. Or, after lines that all are due, it is what the
 -- lowest unfit party refused
 pub record IsDamage (file : FileAt) (number : ℕ) (logged : LineAt) (other : Option LineAt) : Type 0 where
   pub left : List LeftAt

@@ -54,7 +54,8 @@ pub record AreOver {O I : Type 0} (file : FileAt) (workers : List (Worker O I)) 
   pub over : (p : ℕ) (w : Worker O I) → slice_get workers p ≡ Some w → table_of (node_of w) ≡ table
   pub connects : (p : ℕ) (w : Worker O I) → slice_get workers p ≡ Some w → connect_count (node_of w) ≡ length file.connects
 
--- the lanes are still the two ends of each link, and have the lists and counts that they had; no count of faults fell
+-- the lanes are still the two ends of each link, and have the lists and counts that they had; no
+-- count of faults fell
 pub record LanesStay {O I : Type 0} (outward : OutLane O) (inward : InLane I) (joined : O → I → Type 0) (old new : List (Lanes O I)) : Type 0 where
   pub square : IsSquare new
   pub ends : AllJoined joined new

@@ -16,7 +16,8 @@ pub record HasLogged (file : FileAt) (p : ℕ) (log : List EntryAt) : Type 0 whe
   pub run : NodeRun (play_with (body_named file.protocols) (length file.connects) (length file.parties)) max p (first_node file p) steps node
   pub entries : log ≡ map (λ s. s.entry) steps
 
--- the lines are the logs of the file's parties, and nothing beside them, joined by clock and then by party
+-- the lines are the logs of the file's parties, and nothing beside them, joined by clock and then
+-- by party
 pub record AreLogged (file : FileAt) (lines : List LineAt) : Type 0 where
   pub logs : (party : ℕ) → List EntryAt
   pub each : (p : ℕ) → HasLogged file p (logs p)

@@ -1,4 +1,5 @@
--- What links that tell show of the lines that the parties logged by themselves, and so where these end in a history.
+-- What links that report show of the lines that the parties logged by themselves, and so where
+-- these end in a history.
 use Rattle.std.specs.Prelude.{◌≡◌, ◌⊎◌, ℕ, ◌<◌, max, ⊤, List, map, length, Option, Some, None}
 use mathlib.Core.List.{IsPrefix}
 use Rattle.sj_lang.specs.Place.{Place, done}
@@ -15,8 +16,8 @@ use Rattle.sj_rules.specs.Start.{core_start}
 use Rattle.sj_rules.specs.World.{WorldAt}
 use Rattle.sj_work.specs.Counts.{RoseBy}
 
--- what links keep from `back` on, by the party that pushes and the one that pops: the frames pushed, those popped, and the calls in
--- vain of both lanes
+-- what links keep from `back` on, by the party that pushes and the one that pops: the frames
+-- pushed, those popped, and the calls in vain of both lanes
 pub record LinksAt : Type 0 where
   pub sent : ℕ → ℕ → List (FrameAt Place)
   pub got : ℕ → ℕ → List (FrameAt Place)
@@ -38,7 +39,7 @@ IsWaiting (Some (delegated_enough e)) = ⊥
 IsWaiting (Some requested_enough) = ⊥
 IsWaiting None = ⊥
 
--- the frames that the lines' events post from p to q, as lanes tell them
+-- the frames that the lines' events post from p to q, as lanes report them
 abbrev pub posted_frames : FileAt → (p q : ℕ) → List LineAt → List (FrameAt Place)
 posted_frames file p q lines = told_frames done (all_posts (play_of file) max p q lines (core_start file))
 

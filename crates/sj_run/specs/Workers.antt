@@ -1,4 +1,5 @@
--- The workers of a file's parties, in a list by the parties' numbers: hired with their lanes, and after their work.
+-- The workers of a file's parties, in a list by the parties' numbers: hired with their lanes, and
+-- after their work.
 use Rattle.std.specs.Prelude.{◌≡◌, ℕ, Bool, true, List, [], map, length, slice_get, Option, Some, None}
 use Rattle.sj_lang.specs.FileAt.{FileAt, body_named}
 use Rattle.std.specs.Global.{Vec}
@@ -27,7 +28,8 @@ pub record AreHired {O I : Type 0} (nodes : List Node) (lanes : List (Lanes O I)
   pub lanes_are : (p : ℕ) (w : Worker O I) → slice_get workers p ≡ Some w → slice_get lanes p ≡ Some (lanes_of w)
   pub idle : (p : ℕ) (w : Worker O I) → slice_get workers p ≡ Some w → stop_of w ≡ None
 
--- the worker's node is the first one of its party, plays by the file's protocols, and has noted and posted nothing
+-- the worker's node is the first one of its party, plays by the file's protocols, and has noted and
+-- posted nothing
 pub record IsFirst {O I : Type 0} (file : FileAt) (p : ℕ) (w : Worker O I) : Type 0 where
   pub party : party_of (node_of w) ≡ p
   pub parties : parties_of (node_of w) ≡ length file.parties
@@ -38,7 +40,8 @@ pub record IsFirst {O I : Type 0} (file : FileAt) (p : ℕ) (w : Worker O I) : T
   pub idle : stop_of w ≡ None
 
 module _ {O I : Type 0} (outward : OutLane O) (inward : InLane I) where
-  -- its lanes are new ones: nothing was pushed or popped, where they tell, or tried in vain, and none met a fault
+  -- its lanes are new ones: nothing was pushed or popped, where they report, or tried in vain, and
+  -- none met a fault
   pub record AreNew (tells : Bool) (w : Worker O I) : Type 0 where
     pub pushed_none : (q : ℕ) (o : O) → out_of w q ≡ Some o → tells ≡ true → outward.pushed o ≡ Some []
     pub popped_none : (q : ℕ) (i : I) → in_of w q ≡ Some i → tells ≡ true → inward.popped i ≡ Some []
@@ -90,7 +93,8 @@ abbrev pub AreLogs : {O I : Type 0} → List (Worker O I) → List (Vec Entry) �
 AreLogs workers logs = map (λ (v : Vec Entry). v.items) logs ≡ map (λ w. log_of (node_of w)) workers
 
 module _ {O I : Type 0} (outward : OutLane O) (inward : InLane I) (joined : O → I → Type 0) (file : FileAt) (looks : ℕ) (tells : Bool) where
-  -- the lines are the joined logs of workers that worked over such lanes, of which none stopped at a fault, for want of memory or as unfit
+  -- the lines are the joined logs of workers that worked over such lanes, of which none stopped at
+  -- a fault, out of memory or as unfit
   pub record AreLoggedOver (lines : List LineAt) : Type 0 where
     pub workers : List (Worker O I)
     pub worked : AllWorked outward inward joined file looks tells workers

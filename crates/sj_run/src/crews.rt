@@ -24,8 +24,8 @@ fn at_once<R: Threads + Sync, O: OutLane, I: InLane, G: Gate>(
     workers
 }
 
-/// The workers after their work: on a pool of so many threads, in rounds, or, without a number, each
-/// on a thread of its own.
+/// The workers after their work: on a pool of so many threads, in rounds, or, without a number,
+/// each on a thread of its own.
 pub(crate) fn work_off<R: Threads + Sync, O: OutLane, I: InLane, G: Gate>(
     rt: &R,
     alloc: Global,

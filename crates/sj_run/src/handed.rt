@@ -36,8 +36,8 @@ fn hand_link<L: Links>(
     Ok(true)
 }
 
-/// Puts what waits on the links from that party before its node's outboxes. Answers the node where that is
-/// all, and no Give waits then.
+/// Puts what waits on the links from that party before its node's outboxes. Answers the node where
+/// that is all, and no Give waits then.
 fn hand_from<L: Links>(
     alloc: Global,
     links: &mut L,
@@ -67,8 +67,9 @@ fn hand_from<L: Links>(
     Ok(Some(own))
 }
 
-/// Puts what waits on the links before the nodes' outboxes, for each party and each other, where that is
-/// asked for. Answers the nodes where that was all, and no Give waits then. Nothing of it counts as popped.
+/// Puts what waits on the links before the nodes' outboxes, for each party and each other, where
+/// that is asked for. Answers the nodes where that was all, and no Give waits then. Nothing of it
+/// counts as popped.
 pub(crate) fn hand_in<L: Links>(
     alloc: Global,
     asked: bool,

@@ -1,6 +1,8 @@
-//! What several calls of a worker are together, and what comes of parties between which links carried well.
+//! What several calls of a worker are together, and what comes of parties between which links
+//! carried well.
 //!
-//! - `calls_compose`: a call after another, of however many looks, is one call of as many looks as it has.
+//! - `calls_compose`: a call after another, of however many looks, is one call with the looks of
+//!   the later one.
 //! - `order_is_no_damage`: where links carried in order and unchanged, the joined logs of a file's
 //!   parties are a history, and no party is unfit.
 ghost use Rattle.std.specs.Prelude.{◌≡◌, ℕ, List, Some, max, slice_get};

@@ -1,4 +1,4 @@
-//! A file run by its parties, each on a thread of its own or all on a pool of a few, over any links.
+//! A file run by its parties over any links, each on a thread of its own or all on a pool of a few.
 #![tactic(auto)]
 
 mod crews;

@@ -58,8 +58,8 @@ fn round<R: Threads + Sync, O: OutLane, I: InLane, G: Gate>(
     Ok(workers)
 }
 
-/// The workers after rounds on so many threads, until one without an event, or the last but one. All
-/// their calls of `work` together are one call of it.
+/// The workers after rounds on so many threads, until one without an event, or the last but one.
+/// All their calls of `work` together are one call of it.
 fn until_still<R: Threads + Sync, O: OutLane, I: InLane, G: Gate>(
     rt: &R,
     alloc: Global,

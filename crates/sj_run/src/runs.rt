@@ -48,17 +48,19 @@ fn all_well(faulty: bool, short: bool, unfit: &Option<Line>) -> bool
     !faulty && !short && unfit.is_none()
 }
 
-/// Runs a file by its parties, over lanes that the links make: each on a thread of its own where one can
-/// be had; or, with a number, on a pool of so many threads (0 as 1) that take each other's work, in
-/// rounds until one without an event, and one more. Their logs, joined, become the history of a core
-/// world.
+/// Runs a file by its parties, over lanes that the links make. Without a number each runs on a
+/// thread of its own where one can be had. With a number they run on a pool of so many threads (0
+/// as 1) that take each other's work. They go in rounds there, until one without an event, and one
+/// more. Their logs, joined, become the history of a core world.
 ///
-/// Where links hand over what waits on them, that world is put together of the parties' nodes and what
-/// waits, and no event is done again. The logs are replayed where links hand over nothing, where a Give
-/// waits, or where a worker stopped at a fault, out of memory or as unfit.
+/// Where links hand over what waits on them, that world is put together of the parties' nodes and
+/// what waits, and no event is done again. Where a worker stopped at a fault of a lane, the answer
+/// is `LinkFault`, and nothing is put together or replayed. Else the logs are replayed where there
+/// are no parties, where links hand over nothing, where a Give waits, or where a worker stopped out
+/// of memory or as unfit.
 ///
-/// A worker that wanted memory makes the whole want memory, unless the links met a fault or the logs
-/// are damaged.
+/// A worker that ran out of memory makes the whole answer `NoMemory`, unless the links met a fault
+/// or the logs are damaged.
 pub fn run_parties<R: Threads + Sync, L: Links, G: Gate>(
     rt: &R,
     alloc: Global,
@@ -73,18 +75,19 @@ pub fn run_parties<R: Threads + Sync, L: Links, G: Gate>(
     ensures run { IfOk result (λ w. IsHistory max (kept_file w) (history_of w) (world_at w)) }
     ensures parties { IfOk result (λ w. party_count w ≡ length (kept_file w).parties) }
 
-    // Its history is the joined logs of workers that worked over lanes of these links, of which none
-    // stopped at a fault, out of memory or as unfit.
+    // Its history is the joined logs of workers that worked over lanes of these links, of which
+    // none stopped at a fault, out of memory or as unfit.
     ensures logged { IfOk result (λ w. AreLoggedOver L.Out.OutLane L.In.InLane L.joined
         (file_of (held accepted.now)) looks (L.tells links.old) (history_of w)) }
 
-    // Links that tell show its history, in which nobody could go on alone.
+    // Links that report show its history, in which nobody could go on alone.
     ensures shown { IfOk result (λ w. L.tells links.old ≡ true →
         IsShown (file_of (held accepted.now)) looks (keeps_of L.sent L.got L.vain_out L.vain_in links.new)
         (history_of w) (world_at w)) }
 
-    // A fault comes only where the links counted one. Damage is in what workers left that worked over
-    // lanes of these links, of which none stopped at a fault, and comes only of links that don't tell.
+    // A fault comes only where the links counted one. Damage is in what workers left that worked
+    // over lanes of these links, of which none stopped at a fault. It comes only of links that
+    // don't report.
     ensures link_fault { result ≡ Err RunRefusal.LinkFault → Rose (L.faults links.old) (L.faults links.new) }
     ensures damaged { IfErr result (IsDamagedOver L.Out.OutLane L.In.InLane L.joined
         (file_of (held accepted.now)) looks (L.tells links.old)) }

@@ -34,7 +34,7 @@ pub(crate) fn any_faulty<O, I>(workers: &[Worker<O, I>]) -> bool
     false
 }
 
-/// Whether some worker stopped for want of memory.
+/// Whether some worker stopped out of memory.
 pub(crate) fn any_short<O, I>(workers: &[Worker<O, I>]) -> bool
     ensures some { IsTrue result → SomeStopped workers.now stops.NoMemory }
     ensures none { result ≡ false → NoneStopped workers.now stops.NoMemory }

@@ -1,4 +1,5 @@
--- An end that an act begins nobody has before, also not the party that is played by code of its own.
+-- An end that an act begins nobody has before, also not the party that is played by code of its
+-- own.
 use Rattle.std.proofs.Common.{◌≡◌, ℕ, ◌==◌, nat_lt, Bool, true, false, not, cond, List, [], ◌∷◌, slice_get, Option, Some, None, option_map, refl, subst, arith, inl, inr}
 use Rattle.sj_base.specs.declared.EndId.{EndId}
 use Rattle.sj_lang.specs.FileAt.{FileAt}

@@ -59,7 +59,7 @@ module _ (p : ℕ) (t : SeatedWorld) (f : EndId) where
   abbrev bs : Ends
   bs = t.seat.ends
 
-  -- none further behind a call
+  -- none further after a call
   abbrev Fewer : List Call → Doing → Type 0
   Fewer cs d = sum_by (carried_in f) (after_uses p d.uses zs) + holds f (called_by t.seat cs d.taken).ends ≤ sum_by (carried_in f) zs + holds f bs
 
@@ -226,7 +226,7 @@ closes_by t e (calls.closes f ∷ cs) is h = by (place_held t.seat.ends f) refl 
             let it : f ≡ e = cc in
             record { later = cs; calls = is ∙ ap (λ (x : EndId). calls.closes x ∷ cs) it; place = q; there = ap (place_held t.seat.ends) (sym it) ∙ there }
 
--- behind it the end is had by nobody
+-- after it the end is had by nobody
 own_closed : (file : FileAt) (p n : ℕ) (t v : SeatedWorld) (e : EndId) → IsSeated file p n t → seated_want t.seat ≡ wanted.closes e → seated_act p t p ≡ Some v → (total e v ≡ 0) × (IsToCome v.world e → ⊥)
 own_closed file p n t v e s want h =
     let c = closes_by t e t.seat.calls refl want in
@@ -271,7 +271,7 @@ other_closed file p n t v q e s other step h =
 
 -- ---- from the close on
 
--- the acts behind the first ones
+-- the acts after the first ones
 pub rest_of : (p : ℕ) (s t u : SeatedWorld) (front qs : List ℕ) → after_seated p s front ≡ Some t → after_seated p s (front ++ qs) ≡ Some u → after_seated p t qs ≡ Some u
 rest_of p s t u [] qs run all = let it : s ≡ t = cc in subst (λ (x : SeatedWorld). after_seated p x qs ≡ Some u) it all
 rest_of p s t u (q ∷ front) qs run all =

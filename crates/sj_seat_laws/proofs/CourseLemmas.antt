@@ -177,7 +177,7 @@ module _ {P Q : Type 0} (IsOver : P → Type 0) (play : Play P Q) (binds : Q →
     pub frames_proper : (from to : ℕ) → AllByRecursion (λ f. is_proper play.parties f ≡ true) (core.lanes from to)
     frames_proper from to = frames_are_proper play.parties (length turns) (core.lanes from to) (omega (arith, runs_are_short)) (runs_stand.within.frames from to) (clocks.lanes from to)
 
-    -- the front of a lane fits its row
+    -- the first frame of a lane fits its row
     pub front_fits : (pick : ℕ → ℕ → ℕ) (p q : ℕ) (f : FrameAt P) (rest : List (FrameAt P)) → IsPick pick → core.lanes q p ≡ f ∷ rest
         → (after : WorldAt P Q) × (happens play pick core p (Deliver q) ≡ Some after)
     front_fits pick p q f rest picks front =

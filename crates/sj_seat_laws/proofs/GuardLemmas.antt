@@ -1,4 +1,5 @@
--- Worlds that are guarded: the others' programs fit, sessions are balanced, and the ends that the party holds are claimed by nobody else.
+-- Worlds that are guarded: the others' programs fit, sessions are balanced, and the ends that the
+-- party holds are claimed by nobody else.
 use Rattle.std.proofs.Common.{◌≡◌, ℕ, zero, suc, ◌+◌, ◌≤◌, List, Some, sum_by, refl, ap, ◌∙◌, arith}
 use Rattle.sj_base.specs.declared.EndId.{EndId}
 use Rattle.sj_lang.specs.FileAt.{FileAt, party_names}
@@ -51,7 +52,8 @@ pub come_same : (w : World) (zs : List Session) (e : EndId) → IsToCome (with_s
 come_same w zs e (to_open p k le lt is) = to_open p k le lt is
 come_same w zs e (to_accept p k r there none is second) = to_accept p k r there none is second
 
--- they are balanced, no claim is new, the others' ends keep their places, and ends that are to come stay
+-- they are balanced, no claim is new, the others' ends keep their places, and ends that are to come
+-- stay
 pub record Serves (w : World) (zs : List Session) : Type 0 where
   pub pairs : AllPairs zs
   pub claims : (e : EndId) → sum_by (carried_in e) zs + bound_in e w ≤ 1

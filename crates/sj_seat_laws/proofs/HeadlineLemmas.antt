@@ -154,7 +154,8 @@ module _ (p : ℕ) (t : SeatedWorld) where
           ])
   doing_taking e (wanted.closes f) d h = subst (λ (x : Doing). Taking zs e p x.uses) (let it : record { taken = None; uses = [] } ≡ d = cc in it) (none_taken refl)
 
--- what is known of an act: the world behind it has the sessions behind its uses, and what it takes is next
+-- what is known of an act: the world after it has the sessions after its uses, and what it takes is
+-- next
 pub record StepFacts (p : ℕ) (t : SeatedWorld) (q : ℕ) (v : SeatedWorld) : Type 0 where
   pub sessions : v.world.sessions ≡ after_uses q (uses_in p t q) t.world.sessions
   pub taking : (e : EndId) → Taking t.world.sessions e q (uses_in p t q)

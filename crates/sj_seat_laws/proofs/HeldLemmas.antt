@@ -1,4 +1,4 @@
--- Which ends a party holds behind a call, and at which places.
+-- Which ends a party holds after a call, and at which places.
 use Rattle.std.proofs.Common.{◌≡◌, ℕ, ◌+◌, ◌≤◌, Bool, true, false, not, cond, List, [], ◌∷◌, ◌++◌, map, Option, Some, None, option_map, refl, ap, sym, ◌∙◌, subst, arith, inl, inr}
 use Rattle.std.specs.Prelude.{is_some}
 use Rattle.std.proofs.lemmas.Bool.{cases_Bool}
@@ -83,7 +83,7 @@ holds-same e f bs h = bindings_of-le e f (numbered bs) h
 
 -- ---- at which place
 
--- behind a message
+-- after a message
 pub place-moved : (bs : Ends) (e : EndId) (way : Way) (m : Msg) (f : EndId)
     → place_held (moved bs e way m) f ≡ option_map (λ q. cond (is_same_end f e) (place_behind q way m) q) (place_held bs f)
 place-moved [] e way m f = refl

@@ -1,4 +1,5 @@
--- Each world of a run in which a party is played by code of its own is lawful, as the lemmas on events ask for.
+-- Each world of a run in which a party is played by code of its own is lawful, as the lemmas on
+-- events ask for.
 use Rattle.std.proofs.Common.{◌≡◌, ◌↔◌, ℕ, ◌+◌, ◌<◌, ◌≤◌, ◌==◌, Bool, true, false, not, ◌&&◌, cond, List, [], ◌∷◌, ◌++◌, length, slice_get, Option, Some, None, option_map, refl, ap, sym, ◌∙◌, subst, arith, inl, inr, ◌⊎◌}
 use Rattle.std.specs.Prelude.{is_some}
 use Rattle.std.proofs.lemmas.Bool.{and_parts, both_ways, cases_Bool, eqb-true, false_from_ne_true}
@@ -49,7 +50,7 @@ use Rattle.sj_seat_laws.proofs.CallLemmas.{carries_out, sends_on}
 use Rattle.sj_seat_laws.proofs.HeldLemmas.{first_of, held_by_place, place-push, place-without, some-moved}
 use Rattle.sj_seat_laws.proofs.SeatedLemmas.{IsSeated}
 
--- ---- which ends a party binds behind a call
+-- ---- which ends a party binds after a call
 
 same_sym : (d e : EndId) → is_same_end d e ≡ is_same_end e d
 same_sym d e =

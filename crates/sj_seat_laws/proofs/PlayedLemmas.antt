@@ -1,4 +1,5 @@
--- A frame comes to a node whatever its program is, and a call of a party is its row at the node, beside what the party becomes.
+-- A frame comes to a node whatever its program is, and a call of a party is its row at the node,
+-- beside what the party becomes.
 use Rattle.std.proofs.Common.{◌≡◌, ℕ, ◌+◌, ◌==◌, nat_lt, Bool, true, false, ◌&&◌, not, cond, List, [], ◌∷◌, Option, Some, None, option_map, refl, ap, sym, ◌∙◌}
 use Rattle.std.specs.Prelude.{is_none}
 use Rattle.sj_base.specs.declared.EndId.{EndId}
@@ -180,9 +181,9 @@ module _ {Q : Type 0} (s : SeatedAt) where
   halts_played n (wanted.requests place to) = refl
   halts_played n (wanted.accepts place from) = refl
 
--- ---- what a log tells
+-- ---- what a log reports
 
--- the next call is the one of which the note tells
+-- the next call is the one that the note reports
 pub record IsTold (s : SeatedAt) (note : NoteAt) : Type 0 where
   pub call : Call
   pub later : List Call

@@ -1,4 +1,5 @@
--- Runs in which a party of an accepted file is played by code of its own: what the lemmas on courses say of them.
+-- Runs in which a party of an accepted file is played by code of its own: what the lemmas on
+-- courses say of them.
 use Rattle.std.proofs.Common.{◌≡◌, ℕ, ◌+◌, ◌<◌, ◌≤◌, List, [], ◌∷◌, ◌++◌, map, length, Option, Some, None, option_map, option_and_then, refl, ap, sym, ◌∙◌, subst, arith}
 use Rattle.sj_lang.specs.FileAt.{FileAt}
 use Rattle.sj_lang.specs.Place.{Place, done}
@@ -35,7 +36,7 @@ use Rattle.sj_seat_laws.proofs.StartLemmas.{start_is_fresh, start_is_kept, start
 
 -- ---- plain runs
 
--- the world between an act and those behind it
+-- the world between an act and those after it
 pub record Between (p : ℕ) (t u : SeatedWorld) (q : ℕ) (qs : List ℕ) : Type 0 where
   pub world : SeatedWorld
   pub before : seated_act p t q ≡ Some world

@@ -1,4 +1,5 @@
--- Each act keeps a seated world sound: the others' acts, and the calls of the party that is played by code of its own.
+-- Each act keeps a seated world sound: the others' acts, and the calls of the party that is played
+-- by code of its own.
 use Rattle.std.proofs.Common.{◌≡◌, ◌≢◌, ℕ, ◌+◌, ◌<◌, ◌≤◌, ◌==◌, nat_lt, Bool, true, false, not, ◌&&◌, cond, List, [], ◌∷◌, ◌++◌, length, slice_get, Option, Some, None, option_map, sum_by, refl, ap, sym, ◌∙◌, subst, arith}
 use Rattle.std.proofs.lemmas.Bool.{and_parts, false_from_ne_true, both_ways, ltb-true, eqb-false}
 use Rattle.std.proofs.lemmas.Option.{slice_get_within}
@@ -93,12 +94,12 @@ other_keeps file p n t v q other s acted =
       count = omega (arith, s.count, r.steps, sum);
     })
 
--- ---- places behind a use
+-- ---- places after a use
 
 place_of_some : (o : Option Place) (q r : Place) → o ≡ Some q → o ≡ Some r → q ≡ r
 place_of_some o q r h k = let both : Some q ≡ Some r = sym h ∙ k in cc
 
--- what is held behind a message was held before
+-- what is held after a message was held before
 held_before : (bs : Ends) (e : EndId) (way : Way) (m : Msg) (f : EndId) (r : Place) → place_held (moved bs e way m) f ≡ Some r → (q : Place) × (place_held bs f ≡ Some q)
 held_before bs e way m f r h = by (place_held bs f) refl (sym (place-moved bs e way m f) ∙ h)
   where
@@ -136,7 +137,7 @@ module _ (file : FileAt) (p n : ℕ) (t : SeatedWorld) (s : IsSeated file p n t)
   abbrev bs : Ends
   bs = t.seat.ends
 
-  -- the world behind these uses, with these ends and calls
+  -- the world after these uses, with these ends and calls
   abbrev behind : List (EndId × Use) → Ends → List Call → SeatedWorld
   behind us es cs = record { world = world_after p us w; seat = record { ends = es; steps = t.seat.steps + 1; calls = cs } }
 

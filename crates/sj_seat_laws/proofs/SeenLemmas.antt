@@ -168,7 +168,7 @@ module _ (file : FileAt) (p n : ℕ) (t : SeatedWorld) (s : IsSeated file p n t)
   one_cond true u v x = refl
   one_cond false u v x = refl
 
-  -- what the rules see behind a call
+  -- what the rules see after a call
   used_seen : (taken : Option Msg) (us : List (EndId × Use)) (sides : EndId → PlainSide Place) → ((d : EndId) → plain_side w.requests (after_uses p us zs) d ≡ sides d)
       → record (plain_goes mine p taken plain) { sides = sides } ≡ seen_at p (after_doing p t (record { taken = taken; uses = us }))
   used_seen taken us sides same =

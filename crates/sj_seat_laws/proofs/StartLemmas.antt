@@ -1,4 +1,5 @@
--- Before any event the core world stands for the plain one, where a party is played by code of its own too.
+-- Before any event the core world stands for the plain one, where a party is played by code of its
+-- own too.
 use Rattle.std.proofs.Common.{◌≡◌, ◌↔◌, ℕ, suc, ◌+◌, ◌<◌, ◌≤◌, ◌==◌, Bool, true, false, cond, List, [], ◌∷◌, map, length, slice_get, Option, Some, None, option_map, option_and_then, unwrap_or, sum_by, refl, ap, sym, ◌∙◌, subst, arith, inl, inr}
 use Rattle.std.specs.Prelude.{is_some}
 use Rattle.std.proofs.lemmas.Bool.{both_ways, cases_eq, eqb-true, eqb-false, false_from_ne_true}

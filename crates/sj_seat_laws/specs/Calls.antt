@@ -18,7 +18,8 @@ pub data Call : Type 0 where
 abbrev pub Ends : Type 0
 Ends = List (EndId × Place)
 
--- what the party is in a run: the ends that it holds, how many calls it made, and those that it still makes
+-- what the party is in a run: the ends that it holds, how many calls it made, and those that it
+-- still makes
 pub record SeatedAt : Type 0 where
   pub ends : Ends
   pub steps : ℕ
@@ -33,6 +34,6 @@ place_held (b ∷ bs) e = if is_same_end b.0 e then Some b.1 else place_held bs 
 abbrev pub without_end : Ends → EndId → Ends
 without_end bs e = filter (λ b. not (is_same_end b.0 e)) bs
 
--- the end behind the message
+-- the end after the message
 abbrev pub moved : Ends → EndId → Way → Msg → Ends
 moved bs e way m = map (λ b. (b.0, if is_same_end b.0 e then place_behind b.1 way m else b.1)) bs

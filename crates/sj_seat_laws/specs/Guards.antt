@@ -77,12 +77,12 @@ abbrev pub with_carried : Ends → Place → Msg → Ends
 with_carried bs place (msgs.Sess s d k) = bs ++ (record { sess = s; side = d }, place) ∷ []
 with_carried bs place _ = bs
 
--- the ends behind a take, by the place before it
+-- the ends after a take, by the place before it
 abbrev pub ends_taken : Ends → EndId → Option Place → Option Msg → Ends
 ends_taken bs e (Some place) (Some m) = with_carried (moved bs e Into m) (carried_next place) m
 ends_taken bs e _ _ = bs
 
--- the ends behind the call, which took the message where it takes one
+-- the ends after the call, which took the message where it takes one
 abbrev pub ends_after : Ends → Call → Option Msg → Ends
 ends_after bs (sends e m) taken = moved bs e Out m
 ends_after bs (delegates c e) taken = without_end (moved bs c Out (session_message e 0)) e
@@ -103,6 +103,6 @@ abbrev pub called_by : SeatedAt → List Call → Option Msg → SeatedAt
 called_by s [] taken = s
 called_by s (c ∷ cs) taken = record { ends = ends_after s.ends c taken; steps = s.steps + 1; calls = cs }
 
--- the party behind its next call
+-- the party after its next call
 abbrev pub called : SeatedAt → Option Msg → SeatedAt
 called s taken = called_by s s.calls taken

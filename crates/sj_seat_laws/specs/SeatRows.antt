@@ -1,4 +1,4 @@
--- What a node does for a call, whatever its program is, and what a log tells of calls.
+-- What a node does for a call, whatever its program is, and what a log reports of calls.
 use Rattle.std.specs.Prelude.{ℕ, true, false, Option, Some, None}
 use Rattle.sj_base.specs.declared.Msg.TheVariants as msgs
 use Rattle.sj_lang.specs.After.{after_place}
@@ -37,7 +37,7 @@ silent parties = record {
 abbrev pub call_act : {Q : Type 0} → (parties party : ℕ) → NodeAt Place Q → Want Place → Option (Worked Place (NodeAt Place Q))
 call_act parties party n want = act_by (silent parties) party n want
 
--- the call of which the note of an act tells
+-- the call that the note of an act reports
 abbrev pub call_told : NoteAt → Option Call
 call_told (Sent e (msgs.Sess s d k)) = Some (delegates e (record { sess = s; side = d }))
 call_told (Sent e m) = Some (sends e m)

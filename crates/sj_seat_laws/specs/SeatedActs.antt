@@ -23,7 +23,7 @@ AtEachMoment file p calls acts P = (front rest : List ℕ) (t : SeatedWorld) →
 abbrev pub OfEachAct : FileAt → ℕ → List Call → List ℕ → (SeatedWorld → ℕ → Type 0) → Type 0
 OfEachAct file p calls acts P = (front rest : List ℕ) (q : ℕ) (t : SeatedWorld) → acts ≡ front ++ q ∷ rest → IsSeatedRun file p calls front t → P t q
 
--- it holds of each act at each moment behind it
+-- it holds of each act at each moment after it
 abbrev pub FromEachActOn : FileAt → ℕ → List Call → List ℕ → (SeatedWorld → ℕ → SeatedWorld → Type 0) → Type 0
 FromEachActOn file p calls acts P =
     (front between rest : List ℕ) (q : ℕ) (t u : SeatedWorld) → acts ≡ (front ++ q ∷ between) ++ rest → IsSeatedRun file p calls front t
@@ -48,7 +48,8 @@ abbrev pub seated_acts : ℕ → SeatedWorld → List ℕ → List ActAt
 seated_acts p t [] = []
 seated_acts p t (q ∷ qs) = unwrap_or (option_map (λ u. record { by = q; uses = uses_in p t q } ∷ seated_acts p u qs) (seated_act p t q)) []
 
--- it holds of each end: of all that the acts took on it, and all that they sent on the other end of its session
+-- it holds of each end: of all that the acts took on it, and all that they sent on the other end of
+-- its session
 abbrev pub OfEachEnd : FileAt → ℕ → List Call → List ℕ → (List Msg → List Msg → Type 0) → Type 0
 OfEachEnd file p calls acts P =
     (e : EndId) → P (messages (taken_on e (seated_acts p (seated_start file p calls) acts))) (messages (sent_on (other_end e) (seated_acts p (seated_start file p calls) acts)))

@@ -41,11 +41,13 @@ IsOwnUse p t q e (uses.takes m) = HasEnd p t q e
 IsOwnUse p t q e uses.delegates = HasEnd p t q e
 IsOwnUse p t q e (uses.begins place) = ⊤
 
--- each end that the uses begin nobody has before, and it is on its way only where they take the message that names it
+-- each end that the uses begin nobody has before, and it is on its way only where they take the
+-- message that names it
 abbrev pub BeginFreeEnds : ℕ → SeatedWorld → List (EndId × Use) → Type 0
 BeginFreeEnds p t us = (e : EndId) → IsBegunIn us e → IsNowhere p t e × (IsOnItsWay t.world e → IsTakenIn us e)
 
--- the party has each end that its act uses, unless the use is its beginning; an end that its act begins is free until then
+-- the party has each end that its act uses, unless the use is its beginning; an end that its act
+-- begins is free until then
 pub record UsesItsOwn (p : ℕ) (t : SeatedWorld) (q : ℕ) : Type 0 where
   pub own : (n : ℕ) (e : EndId) (u : Use) → slice_get (uses_in p t q) n ≡ Some (e, u) → IsOwnUse p t q e u
   pub begun : BeginFreeEnds p t (uses_in p t q)
@@ -62,13 +64,15 @@ ClosesForGood p t q u = (e : EndId) → Closes p t q e → IsNowhere p u e
 abbrev pub Delegates : ℕ → SeatedWorld → ℕ → (e y : EndId) → Type 0
 Delegates p t q e y = ((q ≡ p) × (seated_want t.seat ≡ wanted.delegates e y)) ⊎ ((q ≡ p → ⊥) × (next_step t.world q ≡ Some (Delegate e y)))
 
--- an end that the party delegates is nowhere later as long as its session message, the next one on the end e, isn't taken
+-- an end that the party delegates is nowhere later as long as its session message, the next one on
+-- the end e, isn't taken
 abbrev pub DelegatesAtOnce : ℕ → SeatedWorld → ℕ → SeatedWorld → Type 0
 DelegatesAtOnce p t q u = (e y : EndId) → Delegates p t q e y → IsUntaken u.world e (length (end_at t.world.sessions e).sent) → IsNowhere p u y
 
 -- ---- how it rests
 
--- why the code makes no call: it made all that it may, it makes none, the next one isn't guarded, nothing is there to take, or the end was delegated so often
+-- why the code makes no call. It made all that it may, it makes none, the next one isn't guarded,
+-- nothing is there to take, or the end was delegated so often
 pub data IsResting (t : SeatedWorld) : Type 0 where
   worn : limit_of_steps ≤ t.seat.steps → IsResting t
   left : t.seat.calls ≡ [] → IsResting t
@@ -84,7 +88,7 @@ pub record IsSeatedHeadline (file : FileAt) (p : ℕ) (calls : List Call) (acts 
   -- no other party can go on there, and the code rests
   pub settled : (q : ℕ) → (q ≡ p → ⊥) → act_of end.world q ≡ None
   pub resting : IsResting end
-  -- each end took, in order and once, a front of what the successive holders of the other end sent
+  -- each end took, in order and once, a prefix of what the successive holders of the other end sent
   pub in_order : OfEachEnd file p calls acts IsFront
   -- each message that was taken fitted the place that its taker had at that moment
   pub fitting : OfEachAct file p calls acts (TakesWhatFits p)

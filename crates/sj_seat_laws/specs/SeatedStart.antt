@@ -15,7 +15,7 @@ use Rattle.sj_seat_laws.specs.Calls.{Call, Ends, SeatedAt}
 use Rattle.sj_seat_laws.specs.SeatedPlay.{Player, seated, seated_play, written}
 use Rattle.sj_seat_laws.specs.SeatedWorld.{SeatedWorld, after_seated}
 
--- nothing to do, no end, no step
+-- nothing to do, no ends, no steps
 abbrev pub no_program : FileAt → Program
 no_program file = record { todo = []; vars = no_vars; ends = []; steps = 0; peers = party_names file.parties }
 

@@ -48,7 +48,7 @@ world_after p us w = record { protocols = w.protocols; parties = w.parties; sess
 abbrev pub doing_of : ℕ → SeatedWorld → Option Doing
 doing_of p t = if not (nat_lt t.seat.steps limit_of_steps) then None else doing_by p t.world (seated_want t.seat)
 
--- both behind the call
+-- both after the call
 abbrev pub after_doing : ℕ → SeatedWorld → Doing → SeatedWorld
 after_doing p t d = record { world = world_after p d.uses t.world; seat = called t.seat d.taken }
 

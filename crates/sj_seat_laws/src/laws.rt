@@ -1,5 +1,6 @@
-//! Laws of runs in which party p of an accepted file is played by code of its own, which makes these
-//! calls in the run; each is the one clause of a function that does nothing, or one of several.
+//! Laws of runs in which party p of an accepted file is played by code of its own, which makes
+//! these calls in the run. Each is the one clause of a function that does nothing, or one of
+//! several.
 //!
 //! - `seats_keep_sessions_balanced`, `seats_serve_the_others`: whatever is called, no other party
 //!   meets a message that its statement can't take.
@@ -7,8 +8,8 @@
 //! - `each_seated_core_run_stands_for_a_plain_run`, `each_front_fits_beside_a_seat`,
 //!   `each_party_acts_beside_a_seat`, `a_quiet_seated_run_has_the_headline`: of core runs.
 //! - `joined_logs_are_a_seated_core_run`, `no_worker_is_unfit_beside_a_seat`: of running parties.
-//! - `a_frame_comes_whatever_the_program_is`, `a_call_is_its_row`, `a_log_tells_the_calls`: of a node
-//!   that isn't asked for its program, and of its log.
+//! - `a_frame_comes_whatever_the_program_is`, `a_call_is_its_row`, `a_log_tells_the_calls`: of a
+//!   node that isn't asked for its program, and of its log.
 //! - `seats_play_so`: small runs, computed.
 
 ghost use Rattle.std.specs.Prelude.{◌≡◌, ℕ, ◌<◌, List, ◌∷◌, [], None, Option, Some, is_some, length, map, option_map, slice_get, true};
@@ -83,7 +84,7 @@ pub fn each_seated_core_run_stands_for_a_plain_run()
         × StandsFor IsDone done core (seen_at p t) }
 {}
 
-/// The front of each lane fits the row of its party, with the limits of frames too.
+/// The first frame of each lane fits the row of its party, with the limits of frames too.
 pub fn each_front_fits_beside_a_seat()
     ensures step { (file : FileAt) (p : ℕ) (calls : List Call) (turns : List Turn)
         (core : WorldAt Place Player) (pick : ℕ → ℕ → ℕ) (q r : ℕ) (f : FrameAt Place)
@@ -99,7 +100,8 @@ pub fn each_front_fits_beside_a_seat()
         × (arrives done (length file.parties) pick (core.nodes q) r f ≡ Some worked) }
 {}
 
-/// A party acts where no cause keeps it from it: nothing is ever unfit, at the others or at the code.
+/// A party acts where no cause keeps it from it: nothing is ever unfit, at the others or at the
+/// code.
 pub fn each_party_acts_beside_a_seat()
     ensures { (file : FileAt) (p : ℕ) (calls : List Call) (turns : List Turn)
         (core : WorldAt Place Player) (q : ℕ) → IsAccepted file → p < length file.parties →

@@ -1,4 +1,5 @@
--- Balanced sessions: one direction at most holds untaken messages, and they lead its taker to a place that meets the other one.
+-- Balanced sessions: one direction at most holds untaken messages, and they lead its taker to a
+-- place that meets the other one.
 use Rattle.std.specs.Prelude.{◌≡◌, ◌≢◌, ℕ, ◌⊎◌, List, [], ◌∷◌, Some, ⊤}
 use Rattle.sj_base.specs.declared.EndId.{EndId}
 use Rattle.sj_base.specs.declared.Msg.{Msg}
@@ -9,7 +10,8 @@ use Rattle.sj_lang.specs.Meet.{Meets, StandsFor}
 use Rattle.sj_lang.specs.After.{after_place}
 use Rattle.sj_semantics.specs.Ends.{Session, end_at, other_end, untaken_for}
 
--- the message fits the kind; a session message where the place of the end that it names stands for the kind's
+-- the message fits the kind; a session message where the place of the end that it
+-- names stands for the kind's
 abbrev pub Fits : List Session → Carried → Msg → Type 0
 Fits zs int (msgs.Int n) = ⊤
 Fits zs boolean (msgs.Bool b) = ⊤
@@ -22,12 +24,14 @@ abbrev pub FitsNext : List Session → Place → Msg → Type 0
 FitsNext zs (message way kind rest) m = Fits zs kind m
 FitsNext zs _ m = ⊤
 
--- a taker at the first place that takes the messages in order comes to one that meets the last place, and each fits
+-- a taker at the first place that takes the messages in order comes to one that meets the
+-- last place, and each fits
 abbrev pub LeadsTaker : List Session → Place → List Msg → Place → Type 0
 LeadsTaker zs place [] last = Meets place last
 LeadsTaker zs place (m ∷ ms) last = (next : Place) × FitsNext zs place m × (after_place place Into m ≡ Some next) × LeadsTaker zs next ms last
 
--- nothing is on its way to the one end, and what is on its way to the other leads that one to a place that meets the one's
+-- nothing is on its way to the one end, and what is on its way to the other leads that one to a
+-- place that meets the one's
 pub record IsAhead (zs : List Session) (taker : EndId) : Type 0 where
   pub nothing_back : untaken_for zs (other_end taker) ≡ []
   pub leads : LeadsTaker zs (end_at zs taker).place (untaken_for zs taker) (end_at zs (other_end taker)).place

@@ -9,7 +9,8 @@ use Rattle.sj_semantics.specs.declared.Passed.{Passed}
 abbrev pub limit_of_hops : ℕ
 limit_of_hops = 100
 
--- an end: its place, all that was sent on it, who took the first messages of the other end, and how often it was delegated
+-- an end: its place, all that was sent on it, who took the first messages of the other end, and
+-- how often it was delegated
 pub record EndAt : Type 0 where
   pub place : Place
   pub sent : List Passed
@@ -57,7 +58,8 @@ unopened = record { first = nowhere; second = nowhere }
 abbrev pub end_at : List Session → EndId → EndAt
 end_at zs e = unwrap_or (option_map (end_on e.side) (slice_get zs e.sess)) nowhere
 
--- the next message that the end can take: of those that the other end sent, the first that wasn't taken
+-- the next message that the end can take: of those that the other end sent,
+-- the first that wasn't taken
 abbrev pub next_for : List Session → EndId → Option Passed
 next_for zs e = slice_get (end_at zs (other_end e)).sent (length (end_at zs e).takers)
 

@@ -16,7 +16,8 @@ pub data Thing : Type 0 where
 abbrev pub limit_of_steps : ℕ
 limit_of_steps = 10000
 
--- what is left to do, the values of variables, the ends bound to names, the steps done, and the names of the file's parties in order
+-- what is left to do, the values of variables, the ends bound to names, the steps done, and the
+-- names of the file's parties in order
 pub record Program : Type 0 where
   pub todo : List Thing
   pub vars : Vars

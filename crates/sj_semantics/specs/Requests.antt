@@ -8,7 +8,8 @@ use Rattle.sj_semantics.specs.Uses.{altered_list}
 abbrev pub limit_of_requests : ℕ
 limit_of_requests = 100
 
--- to which party a session was opened, under which name its requester has its end, and under which name the other one was accepted
+-- to which party a session was opened, under which name its requester has its end, and under which
+-- name the other one was accepted
 pub record Request : Type 0 where
   pub to : ℕ
   pub first : ℕ
@@ -39,7 +40,8 @@ first_offer q (r ∷ rs) = if is_offered q r then Some 0 else option_map (λ k. 
 abbrev pub accepted_as : ℕ → Request → Request
 accepted_as y r = record { to = r.to; first = r.first; second = Some y }
 
--- what a step does to requests: the party makes one, or it accepts, under a name, another party's one of that number
+-- what a step does to requests: the party makes one, or it accepts, under a name, another
+-- party's one of that number
 pub data Opening : Type 0 where
   no_opening : Opening
   requests : Request → Opening
@@ -55,7 +57,7 @@ requests_after p (accepts b k y) a rs = if a == b then altered_list rs k (accept
 abbrev pub after_opening : ℕ → Opening → Requests → Requests
 after_opening p o all a = requests_after p o a (all a)
 
--- ---- as they are told
+-- ---- as they are reported
 
 -- the sessions that the party opened, from its number k on
 abbrev pub opened_by : ℕ → ℕ → List Request → List Opened

@@ -24,7 +24,8 @@ state_by w p (wants.Request n q) = if nat_lt (length (w.requests p)) limit_of_re
 state_by w p (wants.Accept n q) = if is_some (first_offer p (w.requests q)) then states.Ready else states.WaitsOpen q
 state_by w p _ = states.Ready
 
--- the first that applies: ended, no step left, at an end that is delegated no more or at a request that is one too many, waiting, ready
+-- the first that applies: ended, without a step left, at an end that is delegated no more or at a
+-- request that is one too many, waiting, ready
 abbrev pub state_wanting : World → ℕ → ℕ → Want → State
 state_wanting w p steps wants.Ended = states.Ended
 state_wanting w p steps want = if nat_lt steps limit_of_steps then state_by w p want else states.AtLimit limits.Steps

@@ -21,7 +21,7 @@ abbrev pub taker_text : FileAt → List ℕ → List ℕ
 taker_text file [] = codes "-"
 taker_text file (q ∷ qs) = name_of file q
 
--- the takers of the messages behind the first
+-- the takers of the messages after the first
 abbrev pub tail_of : List ℕ → List ℕ
 tail_of [] = []
 tail_of (q ∷ qs) = qs
@@ -66,7 +66,7 @@ opened_lines file zs [] = []
 opened_lines file zs (o ∷ os) =
     opened_line file o ++ end_lines file zs (record { sess = o.sess; side = 0 }) ++ end_lines file zs (record { sess = o.sess; side = 1 }) ++ opened_lines file zs os
 
--- the limit, behind the steps; that of the steps themselves has no words
+-- the limit, after the steps; that of the steps themselves has no words
 abbrev pub limit_words : Limit → List (List ℕ)
 limit_words limits.Steps = []
 limit_words (limits.Hops e) = end_text e.sess e.side ∷ []

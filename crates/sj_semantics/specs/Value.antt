@@ -44,7 +44,8 @@ abbrev pub is_same_bool : Bool → Bool → Bool
 is_same_bool true b = b
 is_same_bool false b = not b
 
--- the result of an operator, where its operands are of its kinds: sums, differences and products wrap at 64 bits
+-- the result of an operator, where its operands are of its kinds: sums, differences and
+-- products wrap at 64 bits
 abbrev pub result_of : Op → Value → Value → Option Value
 result_of Add (Int a) (Int b) = Some (Int (int_wrapping_add w64 a b))
 result_of Sub (Int a) (Int b) = Some (Int (int_wrapping_sub w64 a b))

@@ -19,7 +19,8 @@ use Rattle.sj_lang.specs.Dual.{dual_of}
 use Rattle.sj_lang.specs.FileAt.{FileAt, ProtocolAt, PartyAt, ConnectAt, body_named, ends_from, party_names}
 use Rattle.sj_semantics.specs.Value.{no_vars}
 
--- the file's protocols, the parties by their numbers, the sessions by theirs, and what each party has requested
+-- the file's protocols, the parties by their numbers, the sessions by theirs, and what
+-- each party has requested
 pub record World : Type 0 where
   pub protocols : List ProtocolAt
   pub parties : List Program
@@ -54,7 +55,8 @@ begun_at ps _ m = []
 abbrev pub change_by_taking : List ProtocolAt → Program → EndId → Awaits → Passed → Change
 change_by_taking ps g e a x = plain_change (took_of g x.msg) ((e, takes x.msg) ∷ begun_at ps a x.msg)
 
--- the change that opening that session to the party makes: its first end is bound, and its second end waits at the dual place
+-- the change that opening that session to the party makes: its first end is bound, and its second
+-- end waits at the dual place
 abbrev pub change_by_opening : Program → ℕ → Place → ℕ → Change
 change_by_opening g s place q = record {
   program = opened_of g (record { sess = s; side = 0 });

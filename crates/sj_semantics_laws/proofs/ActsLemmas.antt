@@ -17,7 +17,7 @@ use Rattle.sj_semantics_laws.proofs.RunLemmas.{between}
 
 -- ---- the first act of a run
 
--- the first act's change, and the acts behind it
+-- the first act's change, and the acts after it
 pub record StepOf (w v : World) (p : ℕ) (ps : List ℕ) : Type 0 where
   pub program : Program
   pub there : slice_get w.parties p ≡ Some program
@@ -41,7 +41,7 @@ step_of w v p ps h =
 
 -- ---- what a use adds
 
--- what a use puts behind one of the end's lists, where each use of the end does so
+-- what a use appends to one of the end's lists, where each use of the end does so
 abbrev pub Adds : {X : Type 0} → (EndAt → List X) → (ℕ → Use → List X) → Type 0
 Adds list by = (p : ℕ) (u : Use) (e : EndAt) → list (end_after p u e) ≡ list e ++ by p u
 

@@ -26,7 +26,8 @@ abbrev UsesBoundIf : List (ℕ × EndId) → Option Change → Type 0
 UsesBoundIf ends None = ⊤
 UsesBoundIf ends (Some c) = UsesBound ends c.uses
 
--- for a party with these ends: each that is bound there is left, and so are its next message, the party's requests and what is offered to it
+-- for a party with these ends: each that is bound there is left, and so are its next message, the
+-- party's requests and what is offered to it
 pub record LeavesParty (q : ℕ) (ends : List (ℕ × EndId)) (old new : World) : Type 0 where
   pub keeps : (e : EndId) → IsBound e ends → end_at new.sessions e ≡ end_at old.sessions e
   pub next : (e : EndId) (x : Passed) → IsBound e ends → next_for old.sessions e ≡ Some x → next_for new.sessions e ≡ Some x

@@ -1,4 +1,5 @@
--- What the next step frees: a value that is sent names no end, and a delegated or closed end is freed.
+-- What the next step frees: a value that is sent names no end, and a
+-- delegated or closed end is freed.
 use Rattle.std.proofs.Common.{◌≡◌, ℕ, zero, suc, ◌+◌, ◌≤◌, false, List, [], ◌∷◌, Option, Some, None, option_map, option_and_then, refl, subst}
 use Rattle.std.specs.Bool.{⊤}
 use Rattle.sj_base.specs.declared.EndId.{EndId}
@@ -18,7 +19,8 @@ use Rattle.sj_semantics.specs.Ends.{is_end}
 use Rattle.sj_semantics_laws.specs.Unshared.{bindings_of, names_end}
 use Rattle.sj_semantics_laws.proofs.ClaimLemmas.{one_if, bindings_of-without}
 
--- what a step does to the bindings: a value that is sent names no end, and a delegated or closed end is freed
+-- what a step does to the bindings: a value that is sent names no end, and a
+-- delegated or closed end is freed
 abbrev pub Frees : EndId → List (ℕ × EndId) → List Thing → Want → Type 0
 Frees e ends todo (wants.Send f m) = names_end e m ≡ false
 Frees e ends todo (wants.Delegate f y) = bindings_of e (ends_after_sent ends todo) + one_if (is_end e y) ≤ bindings_of e ends

@@ -1,4 +1,4 @@
--- What an act takes on an end is the next message, and so a front of what was sent stays one.
+-- What an act takes on an end is the next message, and so a prefix of what was sent stays one.
 use Rattle.std.proofs.Common.{◌≡◌, ℕ, zero, suc, ◌≤◌, ◌==◌, nat_lt, Bool, true, false, cond, List, [], ◌∷◌, ◌++◌, map, length, drop, slice_get, Option, Some, None, option_map, unwrap_or, refl, ap, sym, ◌∙◌, subst, inl, inr, arith}
 use Rattle.std.specs.Bool.{⊤}
 use Rattle.std.proofs.lemmas.Bool.{cases_Bool, and_parts, eqb-true}

@@ -97,7 +97,8 @@ took_le e ends (passing x y more body ∷ rest) m = omega arith
 
 -- ---- a change
 
--- the party and the sessions together have no more claims than before, but for the end that is opened
+-- the party and the sessions together have no more claims than before, but
+-- for the end that is opened
 abbrev KeepsClaims : EndId → ℕ → World → Program → Change → Type 0
 KeepsClaims e p w g c = bindings_of e c.program.ends + sum_by (carried_in e) (after_uses p c.uses w.sessions) ≤ bindings_of e g.ends + sum_by (carried_in e) w.sessions + one_if (opens e w p c.opening)
 

@@ -27,7 +27,8 @@ use Rattle.sj_semantics_laws.proofs.ClaimLemmas.{one_if, carried-takes}
 use Rattle.sj_semantics_laws.proofs.EndLemmas.{touched, next_for-after_uses}
 use Rattle.sj_semantics_laws.proofs.ToComeLemmas.{Offer, first_is_offer, opened_number_same, below_by_get}
 
--- it is bound there, the next message of one that is bound there names it, or the party opens or accepts its session
+-- it is bound there, the next message of one that is bound there names it, or the party
+-- opens or accepts its session
 pub data Mine (w : World) (p : ℕ) (g : Program) (e : EndId) : Type 0 where
   bound : IsBound e g.ends → Mine w p g e
   coming : (f : EndId) (x : Passed) → IsBound f g.ends → next_for w.sessions f ≡ Some x → names_end e x.msg ≡ true → Mine w p g e

@@ -36,14 +36,14 @@ front_of_acts w v (p ∷ ps) qs h =
     let r = front_of_acts m.world v ps qs m.afterwards in
     (r.0, ap (option_and_then (λ x. after_acts x ps)) m.before ∙ r.1, r.2)
 
--- acts behind acts
+-- acts after acts
 pub acts_on_acts : (w u v : World) (ps qs : List ℕ) → after_acts w ps ≡ Some u → after_acts u qs ≡ Some v → after_acts w (ps ++ qs) ≡ Some v
 acts_on_acts w u v [] qs h k = subst (λ (t : World). after_acts t qs ≡ Some v) (let it : u ≡ w = cc in it) k
 acts_on_acts w u v (p ∷ ps) qs h k =
     let m = between (λ x. after_acts x ps) (act_of w p) u h in
     ap (option_and_then (λ x. after_acts x (ps ++ qs))) m.before ∙ acts_on_acts m.world u v ps qs m.afterwards k
 
--- a run, and an act behind it
+-- a run, and an act after it
 pub one_more : (file : FileAt) (ps : List ℕ) (w v : World) (p : ℕ) → IsRun file ps w → act_of w p ≡ Some v → IsRun file (ps ++ p ∷ []) v
 one_more file ps w v p run h = acts_on_acts (start_of file) w v ps (p ∷ []) run (ap (option_and_then (λ x. after_acts x [])) h)
 

@@ -69,7 +69,7 @@ pub push_there : (xs : List Passed) (x : Passed) → slice_get (xs ++ x ∷ []) 
 push_there [] x = refl
 push_there (y ∷ xs) x = push_there xs x
 
--- the session message stands behind what was sent before
+-- the session message stands after what was sent before
 session_message_sent : (p : ℕ) (zs : List Session) (e y : EndId)
     → slice_get (end_at (after_uses p ((y, delegates) ∷ (e, sends (session_message y p)) ∷ []) zs) e).sent (length (end_at zs e).sent) ≡ Some (record { msg = session_message y p; by = p })
 session_message_sent p zs e y =

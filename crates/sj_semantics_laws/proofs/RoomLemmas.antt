@@ -1,4 +1,5 @@
--- Each end that is bound or on its way has its session in the world's list, and so has each session that was opened.
+-- Each end that is bound or on its way has its session in the world's list, and so has each
+-- session that was opened.
 use Rattle.std.proofs.Common.{◌≡◌, ℕ, ◌+◌, ◌≤◌, ◌<◌, ◌==◌, nat_lt, Bool, true, false, cond, List, [], ◌∷◌, ◌++◌, length, Option, Some, None, option_map, ap, sym, subst, arith, inl, inr}
 use Rattle.std.specs.Bool.{⊤}
 use Rattle.std.proofs.lemmas.Bool.{cases_Bool, cases_lt, eqb-true}

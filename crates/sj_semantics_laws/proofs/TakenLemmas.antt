@@ -1,4 +1,4 @@
--- What was taken on an end in a run is a front of what was sent on the other one.
+-- What was taken on an end in a run is a prefix of what was sent on the other one.
 use Rattle.std.proofs.Common.{◌≡◌, ℕ, zero, suc, ◌≤◌, List, [], ◌∷◌, ◌++◌, map, length, drop, slice_get, Some, option_map, unwrap_or, refl, ap, sym, ◌∙◌, subst, arith, append-nil, append_assoc, length-append}
 use Rattle.sj_base.specs.declared.EndId.{EndId}
 use Rattle.sj_lang.specs.FileAt.{FileAt, ConnectAt}

@@ -29,7 +29,8 @@ IsNoneOf p (q ∷ qs) = (p ≢ q) × IsNoneOf p qs
 abbrev pub AcceptedInOrder : List Request → Type 0
 AcceptedInOrder rs = (i j : ℕ) (r s : Request) → i < j → slice_get rs i ≡ Some r → slice_get rs j ≡ Some s → r.to ≡ s.to → r.second ≡ None → s.second ≡ None
 
--- each end that is bound or on its way, and each session that was opened, has its session in the list
+-- each end that is bound or on its way, and each session that was opened,
+-- has its session in the list
 pub record HasSessions (w : World) : Type 0 where
   pub claimed : (e : EndId) → 1 ≤ claims_on e w → e.sess < length w.sessions
   pub opened : (p k : ℕ) → k < length (w.requests p) → opened_number p k < length w.sessions

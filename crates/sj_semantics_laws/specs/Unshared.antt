@@ -1,4 +1,5 @@
--- Each end is bound at one party at most, or on its way in one message; an end that is still to come is neither.
+-- Each end is bound at one party at most, or on its way in one message; an end that is
+-- still to come is neither.
 use Rattle.std.specs.Prelude.{◌≡◌, ℕ, ◌+◌, ◌≤◌, ◌<◌, Bool, true, false, List, length, drop, count_by, sum_by, slice_get, Some, None}
 use Rattle.sj_base.specs.declared.EndId.{EndId}
 use Rattle.sj_base.specs.declared.Msg.{Msg}

@@ -1,15 +1,17 @@
 //! Laws over files and worlds; each is the one clause of a function that does nothing.
 //!
-//! - `ends_are_unshared_at_the_start`, `acts_keep_ends_unshared`: the invariant of reachable worlds.
+//! - `ends_are_unshared_at_the_start`, `acts_keep_ends_unshared`: the
+//!   invariant of reachable worlds.
 //! - `what_acts_is_ready`, `ready_parties_can_act`: a party acts exactly where it is ready.
 //! - `a_party_stays_ready`, `acts_commute`: acts of two parties, in a world where no end is shared.
 //! - `settled_runs_meet`, `the_end_is_settled`, `each_run_goes_on_to_the_end`: runs of a file.
 //! - `steps_name_bound_ends`, `acts_use_bound_ends`: a party uses the ends that are bound at it.
-//! - `an_end_has_one_holder`, `a_closed_end_is_bound_nowhere`, `an_end_on_its_way_is_bound_nowhere`,
-//!   `claims_never_grow`: where an end is bound.
+//! - `an_end_has_one_holder`, `a_closed_end_is_bound_nowhere`,
+//!   `an_end_on_its_way_is_bound_nowhere`, `claims_never_grow`: where an end is bound.
 //! - `lists_are_those_of_the_acts`, `taken_is_a_front_of_sent`, `nobody_takes_more_than_was_sent`:
 //!   what was sent and taken in a run.
-//! - `what_leads_an_end_leads_what_it_stands_for`: untaken messages of an end that is taken or accepted.
+//! - `what_leads_an_end_leads_what_it_stands_for`: untaken messages of an end
+//!   that is taken or accepted.
 
 ghost use Rattle.std.specs.Prelude.{◌≡◌, ◌≢◌, ◌<◌, ◌≤◌, ◌++◌, ℕ, List, length, map, Some, slice_get, sum_by};
 ghost use Rattle.sj_base.specs.declared.EndId.{EndId};

@@ -1,4 +1,5 @@
-//! Laws of the plain world: the order in which parties act doesn't matter, and an end has one holder.
+//! Laws of the plain world: the order in which parties act doesn't matter,
+//! and an end has one holder.
 #![tactic(auto)]
 
 mod laws;

@@ -1,7 +1,8 @@
 //! Definitions tried on files whose transcripts are known; each clause computes.
 //!
 //! - `short_sessions_end_so`, `handovers_end_so`, `agencies_end_so`: whole transcripts.
-//! - `openings_end_so`, `widths_end_so`: sessions opened at run time, and choices of different width.
+//! - `openings_end_so`, `widths_end_so`: sessions opened at run time, and
+//!   choices of different width.
 //! - `opposite_orders_block`: two sessions that are taken in opposite order.
 //! - `numbers_wrap`, `loop_counts_are_clamped`: expressions and counts.
 
@@ -18,7 +19,8 @@ ghost use Rattle.sj_semantics_laws.specs.AgencySamples.{agency, agency_text, ref
 ghost use Rattle.sj_semantics_laws.specs.OpeningSamples.{accepted, accepted_text, unaccepted, unaccepted_text, unrequested, unrequested_text, narrower, narrower_text, standing_in, standing_in_text};
 ghost use Rattle.sj_semantics_laws.specs.HandoverSamples.{both_moved, both_moved_text, delegation, delegation_text, returning, returning_text, to_its_peer, to_its_peer_text, to_itself, to_itself_text};
 ghost use Rattle.sj_semantics_laws.specs.Samples.{crossed, crossed_text, greeting, greeting_text, silent, silent_text, turning, turnless_text, wrapping, wrapping_text, last_int};
-/// A number, a number that wraps, nothing, two sessions that block, and a loop that sends `stop` alone.
+/// A number, a number that wraps, nothing, two sessions that block, and a loop
+/// that sends `stop` alone.
 pub fn short_sessions_end_so()
     ensures greeting { transcript_of greeting (end_of greeting) ≡ greeting_text }
     ensures wrapping { transcript_of wrapping (end_of wrapping) ≡ wrapping_text }
@@ -42,7 +44,8 @@ pub fn agencies_end_so()
     ensures refused { transcript_of (agency 200) (end_of (agency 200)) ≡ refused_text }
 {}
 
-/// A session that is requested and accepted, one that nobody accepts, and an accept without a request.
+/// A session that is requested and accepted, one that nobody accepts, and an
+/// accept without a request.
 pub fn openings_end_so()
     ensures accepted { transcript_of accepted (end_of accepted) ≡ accepted_text }
     ensures unaccepted { transcript_of unaccepted (end_of unaccepted) ≡ unaccepted_text }

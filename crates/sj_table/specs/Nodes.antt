@@ -1,4 +1,4 @@
--- How many nodes a table has, and what putting nodes behind others keeps.
+-- How many nodes a table has, and what appending nodes to others keeps.
 use Rattle.std.specs.Prelude.{◌≡◌, ℕ, suc, ◌+◌, ◌-◌, ◌^◌, ◌<◌, ◌≤◌, List, [], ◌∷◌, ◌++◌, length, get_or, slice_set, ⊤}
 use Rattle.sj_lang.specs.FileAt.{ProtocolAt}
 use Rattle.sj_lang.specs.Place.{Place, Choices, done, message, choice, repeat, no_choice, arm}
@@ -33,7 +33,7 @@ nodes_of (p ∷ ps) = node_count p.body + nodes_of ps
 abbrev pub AreBack : List Stop → Type 0
 AreBack stops = (i : ℕ) (s : Stop) → i < length stops → s ≡ get_or stops i s → s.next < suc i
 
--- nodes that others were put behind, which lead to nodes before them, and into their items
+-- nodes that others were appended to, which lead to nodes before them, and into their items
 pub record Grown (old new : List Stop) : Type 0 where
   pub more : List Stop
   pub is : new ≡ old ++ more

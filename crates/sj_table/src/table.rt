@@ -83,8 +83,8 @@ impl Table {
         Ok(Table { nodes })
     }
 
-    /// The same table, which has its nodes in common with this one. It is refused where there are 2^63 - 1
-    /// such already.
+    /// The same table, which has its nodes in common with this one. It is refused where there
+    /// are 2^63 - 1 such already.
     pub fn copied(&self) -> Result<Table, NoMemory>
         ensures { IfOk result (λ t. t ≡ self.now) }
     {
@@ -149,8 +149,8 @@ impl Table {
         Some((item, Spot { node }))
     }
 
-    /// Whether two spots stand for equal places. Their items are compared up to where both have come
-    /// to one node.
+    /// Whether two spots stand for equal places. Their items are compared up to where
+    /// both have come to one node.
     pub fn is_same(&self, one: Spot, other: Spot) -> bool
         ensures { IsTrue result ↔ (place_in self.now one ≡ place_in self.now other) }
     {

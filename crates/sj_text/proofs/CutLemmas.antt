@@ -14,7 +14,7 @@ whole_is old a b new e c = record { some = c.some; rest = c.rest; appended = c.a
 pub cut_in_first : (old a b new : List ℕ) → IsCutShort old a new → IsCutShort old (a ++ b) new
 cut_in_first old a b new c = record { some = c.some; rest = c.rest ++ b; appended = c.appended; begins = ap (λ xs. xs ++ b) c.begins ∙ append_assoc c.some c.rest b }
 
--- cut short behind the first part
+-- cut short after the first part
 pub cut_behind : (old a b mid new : List ℕ) → mid ≡ old ++ a → IsCutShort mid b new → IsCutShort old (a ++ b) new
 cut_behind old a b mid new e c = record {
   some = a ++ c.some;
@@ -40,7 +40,7 @@ module _ {X E : Type 0} where
   err_whole old a b new (Ok x) e h = tt
   err_whole old a b new (Err x) e h = whole_is old a b new e h
 
-  -- the last part was put behind the others, or is cut short, or nothing of it was put
+  -- the last part was put after the others, or is cut short, or nothing of it was put
   pub ok_behind : (old a b mid new : List ℕ) (r : Result X E) → mid ≡ old ++ a → OnOk r (new ≡ mid ++ b) → OnOk r (new ≡ old ++ (a ++ b))
   ok_behind old a b mid new (Ok x) e h = put_both old a b mid new e h
   ok_behind old a b mid new (Err x) e h = tt

@@ -1,4 +1,4 @@
--- How many messages the lines that are left tell of.
+-- How many messages the remaining lines report.
 use Rattle.std.proofs.Common.{◌≡◌, ℕ, zero, suc, ◌+◌, ◌<◌, ◌≤◌, List, [], ◌∷◌, map, length, drop, get_or, refl, ap, ◌∙◌, arith}
 use Rattle.std.proofs.lemmas.List.{at_drop_more, drop_all}
 use Rattle.sj_end.specs.declared.note.Line.{Line}

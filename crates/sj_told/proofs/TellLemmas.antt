@@ -1,4 +1,4 @@
--- What each line tells, and so all lines.
+-- What each line reports, and so all lines.
 use Rattle.std.proofs.Common.{◌≡◌, ◌≢◌, ℕ, zero, suc, ◌+◌, ◌*◌, ◌<◌, ◌≤◌, ◌==◌, Bool, true, false, if◌then◌else◌, List, [], ◌∷◌, ◌++◌, map, length, drop, get_or, slice_get, Option, Some, None, Result, Ok, Err, OnOk, append-nil, refl, ap, sym, ◌∙◌, subst, arith, inl, inr}
 use Rattle.std.proofs.Math.ListN.{set}
 use Rattle.std.proofs.lemmas.Bool.Decides.{eqb_tells}
@@ -129,7 +129,7 @@ stays old p (Request sess to) h = stays_so old p (Request sess to) (λ e. refl) 
 stays old p (Accept sess from) h = stays_so old p (Accept sess from) (λ e. refl) (λ e. refl)
 stays old p (Open sess) h = stays_so old p (Open sess) (λ e. refl) (λ e. refl)
 
--- a note that is neither of the two tells nothing
+-- a note that is neither of the two reports nothing
 pub silent_note : (n : Note) → ((e : EndId) (m : Msg) → n ≡ notes.Sent e m → ⊥) → ((e : EndId) (m : Msg) → n ≡ notes.Took e m → ⊥) → IsSilent (note_seen n)
 silent_note (notes.Sent e m) no_sent no_took = absurd (no_sent e m refl)
 silent_note (notes.Took e m) no_sent no_took = absurd (no_took e m refl)
@@ -147,7 +147,8 @@ silent_note (notes.Open sess) no_sent no_took = tt
 
 -- ---- all lines
 
--- what is told of the end, and then what the lines that are left tell of it, is what all tell
+-- what is reported of the end so far, and then what the remaining lines report of it, is what all
+-- lines report
 pub record Ahead (lines rest : List LineAt) (e : EndId) (x : ToldEnd) : Type 0 where
   pub sent_ahead : x.sent.items ++ told_in (sent_told e) rest ≡ told_in (sent_told e) lines
   pub takers_ahead : x.takers.items ++ map (λ y. y.by) (told_in (taken_told (other_end e)) rest) ≡ map (λ y. y.by) (told_in (taken_told (other_end e)) lines)

@@ -1,4 +1,4 @@
--- How many messages lines tell of, and how many a world has.
+-- How many messages lines report, and how many a world has.
 use Rattle.std.specs.Prelude.{ℕ, ◌+◌, List, [], ◌∷◌, length, sum_by}
 use Rattle.sj_semantics.specs.World.{World}
 use Rattle.sj_rules.specs.Log.{Accept, Ack, Carry, Claim, Fin, Give, LineAt, Local, NoteAt, Open, Request, Sent, Shut, Signal, Took}

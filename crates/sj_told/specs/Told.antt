@@ -1,4 +1,4 @@
--- What is told of a world in which no session was opened.
+-- What is reported of a world in which no session was opened.
 use Rattle.std.specs.Prelude.{◌≡◌, ℕ, zero, suc, ◌+◌, ◌*◌, ◌≤◌, List, [], map, length, slice_get, Some, if◌then◌else◌}
 use Rattle.std.specs.List.{list_all, list_any}
 use Rattle.sj_base.specs.declared.EndId.{EndId}
@@ -12,7 +12,7 @@ use Rattle.sj_semantics.specs.World.{World}
 use Rattle.sj_told.specs.declared.told.ToldEnd.{ToldEnd}
 use Rattle.sj_told.specs.declared.told.Stand.{Stand}
 
--- the second end of a session lies behind its first one
+-- the second end of a session lies after its first one
 abbrev pub side_slot : ℕ → ℕ
 side_slot zero = 0
 side_slot (suc d) = 1

@@ -1,11 +1,11 @@
-//! How many messages lines tell of.
+//! How many messages lines report.
 ghost use Rattle.std.specs.Prelude.{◌≡◌, map};
 ghost use Rattle.sj_end.specs.Lines.{line_at, note_seen};
 ghost use Rattle.sj_told.specs.Counts.{is_sent, sent_count};
 
 use sj_end::{Line, Note};
 
-/// How many messages were sent, as the lines tell.
+/// How many messages were sent, as the lines report.
 pub fn messages_told(lines: &[Line]) -> usize
     ensures { result ≡ sent_count (map line_at lines.now) }
 {

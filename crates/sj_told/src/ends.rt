@@ -1,4 +1,4 @@
-//! What lines tell of the ends of a file's connections.
+//! What lines report of the ends of a file's connections.
 ghost use Rattle.std.specs.Prelude.{◌≡◌, ◌<◌, ◌*◌, ◌++◌, ◌∷◌, [], IfOk, OnOk, length, map};
 ghost use Rattle.sj_end.specs.Lines.{line_at, note_seen};
 ghost use Rattle.sj_semantics.specs.Ends.{other_end};
@@ -11,7 +11,8 @@ use sj_end::{Line, Note};
 use sj_semantics::Passed;
 use std::alloc::Global;
 
-/// What the ends of so many connections sent, and who took it, as the lines tell. Each line is read once.
+/// What the ends of so many connections sent, and who took it, as the lines report. Each line is
+/// read once.
 pub fn ends_told(alloc: Global, connects: usize, lines: &[Line]) -> Result<Vec<ToldEnd>, NoMemory>
     ensures { IfOk result (λ v. AreToldBy (map line_at lines.now) connects v.items) }
 {
@@ -22,7 +23,7 @@ pub fn ends_told(alloc: Global, connects: usize, lines: &[Line]) -> Result<Vec<T
     Ok(ends)
 }
 
-// Two ends to a connection, of which nothing is told.
+// Two ends to a connection, of which nothing is reported.
 fn empty_ends(alloc: Global, connects: usize) -> Result<Vec<ToldEnd>, NoMemory>
     ensures { IfOk result (λ v. AreEmpty (2 * connects) v.items) }
 {
@@ -45,7 +46,7 @@ fn empty_end(alloc: Global) -> ToldEnd
     }
 }
 
-// What the next line tells.
+// What the next line reports.
 fn tell_line(ends: &mut Vec<ToldEnd>, line: &Line) -> Result<(), NoMemory>
     ensures { OnOk result (Grow ends.old.items line.now.party (note_seen line.now.entry.note) ends.new.items) }
 {

@@ -1,5 +1,5 @@
-//! What the lines of a history tell of the end of their file, where no session was opened: what was sent and taken on each
-//! end, and how each party stands.
+//! What the lines of a history report of the end of their file, where no session was opened. This
+//! is what was sent and taken on each end, and how each party stands.
 #![tactic(auto)]
 
 mod counts;

@@ -1,4 +1,4 @@
-//! What is told of an end, and of a party.
+//! What is reported of an end, and of a party.
 use sj_semantics::{Passed, State};
 
 /// All messages that an end sent, in order, and the parties that took the first of them.

@@ -1,4 +1,4 @@
-//! How the end is told as a whole.
+//! How the end is reported as a whole.
 ghost use Rattle.std.specs.Prelude.{◌≡◌, []};
 ghost use Rattle.std.specs.List.{list_all, list_any};
 ghost use Rattle.sj_semantics.specs.State.{has_ended, is_at_limit, opened_in, verdict_of};
@@ -8,8 +8,8 @@ ghost use Rattle.sj_told.specs.Told.{AreStands, verdict_by};
 use crate::told::Stand;
 use sj_semantics::{State, Verdict};
 
-/// The verdict where parties stand so and no session was opened: long where one is at a limit, else done
-/// where each has ended, else blocked.
+/// The verdict where parties stand so and no session was opened: long where one is at a limit, else
+/// done where each has ended, else blocked.
 pub fn verdict_told(stands: &[Stand]) -> Verdict
     ensures { (w : World) → opened_in w ≡ [] → AreStands w stands.now → result ≡ verdict_of w }
 {

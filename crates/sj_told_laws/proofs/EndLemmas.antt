@@ -1,4 +1,4 @@
--- What a history that leaves nothing to do, and its core world, tell of the end of the file.
+-- What a history that leaves nothing to do, and its core world, report of the end of the file.
 use Rattle.std.proofs.Common.{◌≡◌, ℕ, zero, suc, ◌+◌, ◌<◌, ◌≤◌, List, [], ◌∷◌, Some, map, length, slice_get, unwrap_or, sum_by, refl, ap, sym, ◌∙◌, arith}
 use Rattle.sj_base.specs.declared.EndId.{EndId}
 use Rattle.sj_lang.specs.FileAt.{FileAt, PartyAt}

@@ -1,7 +1,7 @@
-//! Laws of what a history, and the core world to which it leads, tell of the end of the file; each is one clause of a
-//! function that does nothing.
+//! Laws of what a history, and the core world to which it leads, report of the end of the file.
+//! Each is one clause of a function that does nothing.
 //!
-//! - `a_quiet_history_tells_its_end`: what was sent on each end, who took it, and how many messages were sent.
+//! - `a_quiet_history_tells_its_end`: what each end sent, who took it, and the number of messages.
 //! - `a_quiet_core_stands_as_its_nodes`: programs, how parties stand, and where nothing was opened.
 
 ghost use Rattle.std.specs.Prelude.{◌≡◌, ◌<◌, [], ℕ, List, Some, length, map, slice_get, unwrap_or};
@@ -24,8 +24,9 @@ ghost use Rattle.sj_semantics.specs.declared.Want.TheVariants.{Ended};
 ghost use Rattle.sj_told.specs.Still.{still_state};
 ghost use Rattle.sj_told.specs.Counts.{messages_sent, sent_count};
 
-/// A history that leaves nothing to do tells the end of the file: the Sent notes of each end are what it sent there, with the
-/// senders, and the Took notes who took on it; and there are as many Sent notes as messages.
+/// A history that leaves nothing to do reports the end of the file. The Sent notes of each end are
+/// what it sent there, with the senders. The Took notes report who took on it. There are as many
+/// Sent notes as messages.
 pub fn a_quiet_history_tells_its_end()
     ensures sent { (file : FileAt) (pick : ℕ → ℕ → ℕ) (lines : List LineAt)
         (core : WorldAt Place Program) (e : EndId) → IsAccepted file → IsPick pick →
@@ -45,8 +46,9 @@ pub fn a_quiet_history_tells_its_end()
         messages_sent (end_of file) ≡ sent_count lines }
 {}
 
-/// In the core world to which it leads each node has the program that its party has at the end of the file, which stands by
-/// its steps and its next one alone; and where no node has opened a session, none was opened.
+/// In the core world to which it leads each node has the program that its party has at the end of
+/// the file. How the party stands depends on the program's steps and its next one alone. Where no
+/// node has opened a session, none was opened.
 pub fn a_quiet_core_stands_as_its_nodes()
     ensures programs { (file : FileAt) (pick : ℕ → ℕ → ℕ) (lines : List LineAt)
         (core : WorldAt Place Program) (p : ℕ) → IsAccepted file → IsPick pick →

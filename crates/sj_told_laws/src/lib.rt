@@ -1,4 +1,4 @@
-//! Laws of what a history, and the core world to which it leads, tell of the end of the file.
+//! Laws of what a history, and the core world to which it leads, report of the end of the file.
 #![tactic(auto)]
 
 mod laws;

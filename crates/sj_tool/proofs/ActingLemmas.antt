@@ -26,7 +26,7 @@ ready_if w p (Some g) h = (g, refl)
 pub ready_is_there : (w : World) (p : ℕ) → state_of w p ≡ states.Ready → p < length w.parties
 ready_is_there w p h = let r = ready_if w p (slice_get w.parties p) h in slice_get_within w.parties p r.0 r.1
 
--- ---- the acts of a line and of those behind it
+-- ---- the acts of a line and of those after it
 
 -- the first of them is ready
 pub ready_first : (event : Event) (p : ℕ) (w z : World) (rest : List ℕ) → after_acts w (acts_by event p ++ rest) ≡ Some z → IsReadyFor w event p
@@ -47,7 +47,7 @@ done_first (Deliver q) p w v z rest first all =
     let same : w ≡ v = cc in
     ap (λ x. after_acts x rest) (sym same) ∙ all
 
--- the acts of the lines from one on are its own and those behind it
+-- the acts of the lines from one on are its own and those after it
 from_there : (lines : List Line) (k : ℕ) (d : Line) → k < length lines
     → actors (map line_at (drop k lines)) ≡ acts_by (event_at (get_or lines k d).entry.event) (get_or lines k d).party ++ actors (map line_at (drop (k + 1) lines))
 from_there lines k d lt =
@@ -62,11 +62,11 @@ module _ (lines : List Line) (k : ℕ) (d : Line) (lt : k < length lines) (w z :
   pub ready_next : IsReadyFor w (event_at (get_or lines k d).entry.event) (get_or lines k d).party
   ready_next = ready_first (event_at (get_or lines k d).entry.event) (get_or lines k d).party w z (actors (map line_at (drop (k + 1) lines))) split
 
-  -- and where it is done, those behind it are ahead
+  -- and where it is done, those after it are ahead
   pub done_next : (v : World) → after_acts w (acts_by (event_at (get_or lines k d).entry.event) (get_or lines k d).party) ≡ Some v → after_acts v (actors (map line_at (drop (k + 1) lines))) ≡ Some z
   done_next v done = done_first (event_at (get_or lines k d).entry.event) (get_or lines k d).party w v z (actors (map line_at (drop (k + 1) lines))) done split
 
--- behind the last line nothing is ahead
+-- after the last line nothing is ahead
 pub done_all : (lines : List Line) (k : ℕ) (w z : World) → length lines ≤ k → after_acts w (actors (map line_at (drop k lines))) ≡ Some z → w ≡ z
 done_all lines k w z over ahead =
     let there : Some w ≡ Some z = sym (ap (λ t. after_acts w (actors (map line_at t))) (drop_all k lines over)) ∙ ahead in

@@ -14,7 +14,8 @@ use Rattle.sj_tool.proofs.OneAnswer.{AreTextLogs, HoldsFor, one_of_text}
 use Rattle.sj_tool.proofs.ToldOnce.{AreToldOnce, same_told, told, told_over}
 use Rattle.sj_lang.specs.Limits.{file_limit}
 
--- what of the bytes is answered: what stands before the log or the lines is too long, no line parts them, or their parts are
+-- what of the bytes is answered: what stands before the log or the lines is too long, no line
+-- splits them, or their parts are
 pub data Kind (links : LinkUseAt) (task : Task) (bytes : List ℕ) (a : AnswerAt) : Type 0 where
   long : a ≡ TooLarge → HasLongText task bytes → Kind links task bytes a
   misses : a ≡ LogFault 1 0 → IsReplay task → HasNoPart bytes → Kind links task bytes a

@@ -24,7 +24,7 @@ use Rattle.sj_tool.proofs.OverAnswers.{damage_written}
 use Rattle.sj_tool.proofs.RowKindLemmas.{row_of}
 
 module _ (c : CallAt) (file : FileAt) (log : LogAt) where
-  -- links that hold count none, and tell no damage
+  -- links that hold count none, and report no damage
   counts_none : (task : Task) → IsValid c task file log → IsValidOver CountNone c task file log
   counts_none (tasks.Make n) v = v
   counts_none (tasks.Big n) v = (v.0, v.1.1)
@@ -69,7 +69,7 @@ answered_whole said left after f g links a status before now comes e d task file
     let c = call_at said left after f g links in
     inl (record { text = text_of a; completes = subst (λ (s : ℕ). Completes task file log s (text_of a)) (sym e) (completes c file log task (counts_none c file log task valid) a (undamaged c file log task valid a comes) (row_of c a comes)); written = d })
 
--- or, over links that count none, it tells damage
+-- or, over links that count none, it reports damage
 whole_or : (a : AnswerAt) → IsUndamaged a ⊎ ((t : List ℕ) × (a ≡ Damaged t))
 whole_or (Damaged t) = inr (t, refl)
 whole_or a = inl tt

@@ -43,7 +43,7 @@ played log file t v text task e p bare = record {
   bare = bare;
 }
 
--- what is told of a task's file: the generated one may be any file here
+-- what is reported of a task's file: the generated one may be any file here
 abbrev pub Told : Task → FileAt → (log : LogAt) → ℕ → List ℕ → Type 0
 Told (tasks.Big n) file log status text = (status ≡ verdict_status (verdict_of (end_of file))) × (text ≡ summary n file (end_of file))
 Told task file log status text = Completes task file log status text
@@ -61,7 +61,7 @@ module _ (links : LinkUseAt) (log : LogAt) (file : FileAt) (t : ℕ × List ℕ)
       let s = played_so links (tasks.Replay false) log file p.verdict p.text tt p.plays in
       played false file t p.verdict p.text (tasks.Replay false) p.are s (λ _. s.bare (λ logs. never (sym logs)))
 
-  -- what is told of a file that has no fault completes
+  -- what is reported of a file that has no fault completes
   faultless : (task : Task) → (Replays task → HasBegun links task log file) → HasItsParty task file → TellsFaultless links task log file t → Told task file log t.0 t.1
   faultless tasks.Check fits there e = (ap (λ z. z.0) e, ap (λ z. z.1) e)
   faultless tasks.Show fits there e = absurd e
@@ -95,7 +95,7 @@ module _ (links : LinkUseAt) (log : LogAt) (file : FileAt) (t : ℕ × List ℕ)
   told_valid (tasks.Make n) first fits there ok e = absurd e
   told_valid task first fits there ok e = checked task first fits there (ok tt) e
 
--- the answer tells no damage
+-- the answer reports no damage
 abbrev pub IsUndamaged : AnswerAt → Type 0
 IsUndamaged (Damaged t) = ⊥
 IsUndamaged a = ⊤

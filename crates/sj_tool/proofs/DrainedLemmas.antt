@@ -1,4 +1,4 @@
--- A core world to which given lines lead, and what is drained behind them.
+-- A core world to which given lines lead, and what is drained after them.
 use Rattle.std.proofs.Common.{◌≡◌, ◌∙◌, ℕ, max, true, List, ◌++◌, map, length, subst}
 use Rattle.sj_lang.specs.FileAt.{FileAt}
 use Rattle.sj_lang.specs.Place.{Place}
@@ -34,7 +34,7 @@ kept_history file kept lines w is h =
     subst (λ (start : WorldAt Place Program). Rattle.sj_rules.specs.History.IsLog (play_of file) max start lines w) (core_start_same file)
     (subst (λ (f : FileAt). IsHistory max f lines w) is h)
 
--- what parties logged is given to a task that runs them, as links that tell show it
+-- what parties logged is given to a task that runs them, as links that report show it
 pub ran_given : (links : LinkUseAt) (task : Task) (log : LogAt) (file : FileAt) (lines : List LineAt) (left : WorldAt Place Program) → RunsParties task
     → AreLogged file lines → (links.tells ≡ true → IsShown file (looks_of task) links.keeps lines left) → IsGiven links task log file lines left
 ran_given links (tasks.Run l looks workers) log file lines left h logged shown = (logged, shown)
@@ -49,7 +49,7 @@ module _ (file first kept : FileAt) (of_file : first ≡ without_words file) (sa
       let rest : IsQuietAmong (play_of kept) (length kept.parties) core = subst (λ (k : ℕ). IsQuietAmong (play_of kept) k core) those quiet in
       (kept_history file kept history core all_kept run, subst (λ (f : FileAt). IsQuietAmong (play_of f) (length f.parties) core) all_kept rest)
 
-  -- lines that are given, and what was drained behind them
+  -- lines that are given, and what was drained after them
   abbrev pub drained_has : (links : LinkUseAt) (task : Task) (log : LogAt) → n ≡ length first.parties → m ≡ length kept.parties → history ≡ lines ++ more → IsHistory max first lines left
       → IsGiven links task log file lines left → IsHistory max kept history core → IsDrained (play_of first) max n left (map turn_of more) core → IsQuietAmong (play_of kept) m core
       → HasHistory links task log file history core
@@ -79,7 +79,7 @@ pub quiet_ends : (file : FileAt) → IsAccepted file → (history : List LineAt)
 quiet_ends file accepted history core run quiet =
     (quiet_run_ends file accepted (map turn_of history) core (log_runs (play_of file) max max_picks history (core_start file) core run) quiet).0
 
--- so what is told of it is what the task answers
+-- so what is reported of it is what the task answers
 abbrev pub told_runs : (links : LinkUseAt) (task : Task) (log : LogAt) (file : FileAt) → IsAccepted file → (history : List LineAt) (core : WorldAt Place Program) → HasHistory links task log file history core
     → (v : Verdict) (text : List ℕ) → IsTold task file history v text → HasRun links task log file v text
 told_runs links task log file accepted history core has v text told = record {

@@ -41,7 +41,7 @@ read_whole status ReadFault is below = off status (λ e. omega (arith, is, e)) (
 read_whole status TooLarge is below = off status (λ e. omega (arith, is, e)) (λ l h. omega (arith, is, l)) (λ l. omega (arith, is, l)) below
 read_whole status a is below = tt
 
--- that of a write fault or of want of memory is none
+-- that of a write fault or of out of memory is none
 pub no_ended : {X : Type 0} (c : CallAt) (status : ℕ) → 10 ≤ status → status ≤ 11 → AsksFor Reads c → IsBelowSize status → X
 no_ended c status above within reads below = absurd (off status (λ e. omega (arith, above, e)) (λ l h. omega (arith, above, h)) (λ l. omega (arith, within, l)) below)
 

@@ -1,4 +1,4 @@
--- What the table gives is answered, where the source tells.
+-- What the table gives is answered, where the source reports.
 use Rattle.std.proofs.Common.{◌≡◌, ◌⊎◌, ℕ, List, Option, Some, None, IfSome, refl, inl, inr}
 use Rattle.sj_base.specs.Stream.{put_behind}
 use Rattle.sj_tool.specs.AnswerAt.{AnswerAt}

@@ -38,7 +38,7 @@ abbrev pub HasAnswer : LinkUseAt → Task → (log : LogAt) → FileAt → Type 
 HasAnswer links task log file = (a : AnswerAt) × AnswersFile links task log file a
 
 module _ (links : LinkUseAt) (task : Task) (log : LogAt) (file : FileAt) (accepted : IsAccepted file) where
-  -- where given lines lead, its history is told
+  -- where given lines lead, its history is reported
   begun_answered : HasEvents task → HasBegun links task log file → HasAnswer links task log file
   begun_answered events begun =
       let (history, core, has) = begun_goes_on links task log file accepted begun in
@@ -56,7 +56,7 @@ module _ (links : LinkUseAt) (task : Task) (log : LogAt) (file : FileAt) (accept
     joined = record { order = tt; parts = λ p. refl };
   }
 
-  -- over links that fail, that tell nothing, or that show how it began
+  -- over links that fail, that report nothing, or that show how it began
   ran_answered : RunsParties task → (LinksHold links → HasBegun links task log file) → HasAnswer links task log file
   ran_answered runs shows = by (cases_lt links.faults_after (min (links.faults + 1) (2 ^ 64 - 1))) links.tells refl
     where

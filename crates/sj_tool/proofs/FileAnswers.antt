@@ -1,4 +1,4 @@
--- What answers a file answers its text, and what tells a refusal answers the file.
+-- What answers a file answers its text, and what reports a refusal answers the file.
 use Rattle.std.proofs.Common.{◌≡◌, ℕ, true, List, Option, Result, Ok, Err, IfOk, inr, sym, subst}
 use Rattle.std.specs.Prelude.{option_map, max}
 use Rattle.sj_lang.specs.FileAt.{FileAt}
@@ -61,7 +61,7 @@ answers_bytes links task bytes text log NoTalk parts x = absurd x.answers
 answers_bytes links task bytes text log (LogFault r l) parts x = inr (record { text = text; log = log; parts = parts; answers = x })
 answers_bytes links task bytes text log a parts x = record { text = text; log = log; parts = parts; answers = x }
 
--- ---- what tells a refusal
+-- ---- what reports a refusal
 
 damaged_answers : (links : LinkUseAt) (task : Task) (runs : RunsParties task) (log : LogAt) (file : FileAt) (number : ℕ) (logged : LineAt) (other : Option LineAt) (a : AnswerAt) → IsAccepted file → (links.tells ≡ true → ⊥)
     → IsDamage file number logged other → IsDamagedBy file number logged other a → AnswersFile links task log file a
@@ -75,7 +75,7 @@ misfit_answers links task replays log file lines number logged other (Misfit t) 
     (ok, replays, record { lines = lines; spells = spells; number = number; logged = logged; other = other; misfit = misfit; told = by })
 misfit_answers links task replays log file lines number logged other a ok spells misfit by = absurd by
 
--- a refusal of the parties' run, told by the answer
+-- a refusal of the parties' run, reported by the answer
 pub told_answers : (links : LinkUseAt) (task : Task) (runs : RunsParties task) (log : LogAt) (file : FileAt) (r : RunRefusal) (a : AnswerAt) → IsAccepted file → (r ≡ refusals.LinkFault → lanes.Rose links.faults links.faults_after)
     → IsDamagedSo file r → (IsDamaged r → links.tells ≡ true → ⊥) → IsToldSo file r a → AnswersFile links task log file a
 told_answers links task runs log file refusals.LinkFault a ok rose damage blind told =
@@ -84,7 +84,7 @@ told_answers links task runs log file (refusals.Damaged m) a ok rose damage blin
     damaged_answers links task runs log file m.number (line_at m.logged) (option_map line_at m.due) a ok (blind (tt {0})) damage told
 told_answers links task runs log file refusals.NoMemory a ok rose damage blind told = absurd told
 
--- a fault of a replay, told by the answer
+-- a fault of a replay, reported by the answer
 pub fault_answers : (links : LinkUseAt) (task : Task) (replays : IsReplay task) (log : LogAt) (file : FileAt) (r : ReplayFault) (a : AnswerAt) → IsAccepted file → IsRefusedBy file log r → IsToldFault file r a
     → AnswersFile links task log file a
 fault_answers links task replays log file (faults.Text rule line) a ok fault told =

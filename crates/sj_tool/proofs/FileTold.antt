@@ -1,4 +1,4 @@
--- What answers a file is told by its first fault, or by what its task makes of it.
+-- What answers a file is what its first fault reports, or what its task makes of it.
 use Rattle.std.proofs.Common.{◌≡◌, ℕ, List, Option, Some, ap, sym, subst, refl, inl, inr}
 use Rattle.sj_lang.specs.FileAt.{FileAt}
 use Rattle.sj_acceptance_laws.proofs.FileLaws.{accepted_to}
@@ -20,14 +20,14 @@ IsUnhurt LinkFault = ⊥
 IsUnhurt (Damaged t) = ⊥
 IsUnhurt _ = Unit {0}
 
--- what an accepted file is told by is told of it by its first fault
+-- what is reported where no fault is found is, of an accepted file, what its first fault reports
 by_no_fault : (links : LinkUseAt) (task : Task) (log : LogAt) (file : FileAt) (t : ℕ × List ℕ) → IsAccepted file → TellsFaultless links task log file t → TellsChecked links task log file (first_fault (tests_of file)) t
 by_no_fault links task log file t ok x = subst (λ (f : Option (ℕ × ℕ)). TellsChecked links task log file f t) (sym (accepted_to file ok)) x
 
 by_fault : (links : LinkUseAt) (task : Task) (log : LogAt) (file : FileAt) (r k : ℕ) → first_fault (tests_of file) ≡ Some (r, k) → TellsChecked links task log file (first_fault (tests_of file)) (told (Check r k))
 by_fault links task log file r k e = subst (λ (f : Option (ℕ × ℕ)). TellsChecked links task log file f (told (Check r k))) (sym e) refl
 
--- what answers a file has the status and the text that its first fault tells
+-- what answers a file has the status and the text that its first fault reports
 pub file_told : (links : LinkUseAt) (task : Task) (log : LogAt) (file : FileAt) (a : AnswerAt) → IsUnhurt a → AnswersFile links task log file a → Tells links task log file (first_fault (tests_of file)) (told a)
 file_told links task log file Usage u x = absurd x
 file_told links task log file ReadFault u x = absurd x

@@ -145,7 +145,7 @@ one_forest_text file s t (inr (inr (x, e))) (inl (other, y, d)) = absurd (not_bo
 one_forest_text file s t (inr (inr (x, e))) (inr (inl (ys, y, d))) = absurd (cycle_is_none ys file y x)
 one_forest_text file s t (inr (inr (x, e))) (inr (inr (y, d))) = e ∙ sym d
 
--- ---- what is told by the shape of a file
+-- ---- what the shape of a file reports
 
 module _ {V E : Type 0} (items : V → List ℕ) (file : FileAt) where
   pub opens_answer : (line : ℕ) (r : Result V E) → first_opening file ≡ Some line → IfOk r (λ t. items t ≡ line_of (codes "forest" ∷ codes "opens" ∷ decimal line ∷ [])) → IfOk r (λ t. IsForestText file (items t))

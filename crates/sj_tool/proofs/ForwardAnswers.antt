@@ -1,4 +1,4 @@
--- What is answered of a file that was run by forwarding is what its drain tells.
+-- What is answered of a file that was run by forwarding is what its drain reports.
 use Rattle.std.proofs.Common.{◌≡◌, ◌∙◌, ◌≤◌, ℕ, List, Option, ap, subst}
 use Rattle.sj_base.specs.Stream.{put_behind}
 use Rattle.sj_lang.specs.FileAt.{FileAt}

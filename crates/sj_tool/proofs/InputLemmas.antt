@@ -57,7 +57,7 @@ reads_of P c x = let (reads, came) = x.kind in reads
 pub came_of : (P : ℕ → ℕ → Type 0) (c : CallAt) (x : Came P c) → CameOf (λ n. P n (limit_of x.task)) c.left c.left_after
 came_of P c x = let (reads, came) = x.kind in came
 
--- a source is parted in one way
+-- a source is split in one way
 one_of_source : (source s : List ℕ) (l : LogAt) (t : List ℕ) (m : LogAt) → IsParted source s l.version l.bytes → IsParted source t m.version m.bytes → (s ≡ t) × (l ≡ m)
 one_of_source source s l t m x y =
     let same = one_parting source s l.version l.bytes x t m.version m.bytes y in (same.0, ap₂ log_at same.1.0 same.1.1)
@@ -78,7 +78,7 @@ one_of_talk source s l t m x y =
       ap₂ log_at (x.1 ∙ sym y.1) (sym (back_of source s l.bytes x.0) ∙ ap (λ n. drop (n + length talk_mark) source) same ∙ back_of source t m.bytes y.0),
     )
 
--- a source is parted in one way for a task
+-- a source is split in one way for a task
 pub one_parted : (task : Task) (source s : List ℕ) (l : LogAt) (t : List ℕ) (m : LogAt) → IsPartedFor task source s l → IsPartedFor task source t m → (s ≡ t) × (l ≡ m)
 one_parted (tasks.Replay log) source s l t m x y = one_of_source source s l t m x y
 one_parted (tasks.Talk n) source s l t m x y = one_of_talk source s l t m x y

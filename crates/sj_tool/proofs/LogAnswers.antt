@@ -1,4 +1,5 @@
--- A log that is replayed is told of in one way: its first fault, its first entry that isn't due, or how the file ends.
+-- A log that is replayed is reported in one way: its first fault, its first entry that isn't due,
+-- or how the file ends.
 use Rattle.std.proofs.Common.{◌≡◌, ◌∙◌, ◌+◌, ℕ, max, List, [], ◌∷◌, ◌++◌, Option, Some, None, length, ap, ap₂, refl, sym, subst}
 use Rattle.sj_lang.specs.FileAt.{FileAt}
 use Rattle.sj_lang.specs.Place.{Place}
@@ -55,7 +56,7 @@ module _ {P Q : Type 0} (play : Play P Q) (pick : ℕ → ℕ → ℕ) where
         sym x.found ∙ ap₂ (λ v z. due play pick v z.party z.entry.event) same.2 same.1 ∙ y.found,
       )
 
--- ---- what is told of a log
+-- ---- what is reported of a log
 
 pub fault_once : (file : FileAt) (log : LogAt) (r s k l : ℕ) → Breaks file log r k → Breaks file log s l → (r ≡ s) × (k ≡ l)
 fault_once file log r s k l a b =

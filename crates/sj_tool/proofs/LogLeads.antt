@@ -67,7 +67,7 @@ module _ {P Q : Type 0} (play : Play P Q) (pick : ℕ → ℕ → ℕ) where
           })
       by (yes is) others = let (mid, step) = steps w l is in further mid step is (others mid)
 
--- the log of an accepted file is told of, or begins a history
+-- the log of an accepted file has an answer, or begins a history
 pub log_told_or_begun : (links : LinkUseAt) (l : Bool) (log : LogAt) (file : FileAt) → IsAccepted file
     → ((a : AnswerAt) × AnswersFile links (tasks.Replay l) log file a) ⊎ HasBegun links (tasks.Replay l) log file
 log_told_or_begun links l log file accepted = by (log_read log.version file log.bytes) refl

@@ -1,4 +1,4 @@
--- Numbers behind a command, and whether two lines of words are one.
+-- Numbers after a command, and whether two lines of words are one.
 use Rattle.std.proofs.Common.{◌≡◌, ◌⊎◌, ◌≤◌, ◌<◌, ℕ, zero, suc, List, Option, Some, None, inl, inr, ap, subst, refl, arith}
 use Rattle.std.proofs.lemmas.Bool.{cases_eq}
 use Rattle.std.specs.Prelude.{decimal}

@@ -27,7 +27,7 @@ use Rattle.sj_tool.specs.Table.{AreLogs}
 use Rattle.sj_tool.proofs.ToldOnce.{AreOfFile, AreToldOnce, same_told, told, told_once, told_over}
 use Rattle.sj_tool.proofs.FileTold.{IsUnhurt, file_told}
 
--- where the links hold for the parties that run, or the answer tells of no run
+-- where the links hold for the parties that run, or the answer reports no run
 abbrev pub HoldsFor : LinkUseAt → Task → AnswerAt → Type 0
 HoldsFor links task LinkFault = ⊥
 HoldsFor links task (Damaged t) = ⊥

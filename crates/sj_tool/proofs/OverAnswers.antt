@@ -48,7 +48,7 @@ damage_by (Ran Blocked t) e = absurd (omega (arith, e))
 damage_by (Ran Long t) e = absurd (omega (arith, e))
 
 module _ {O I : Type 0} (outward : OutLane O) (inward : InLane I) (joined : O → I → Type 0) where
-  -- what tells a refusal tells its damage
+  -- what reports a refusal reports its damage
   pub told_damage : (links : LinkUseAt) (task : Task) (file : FileAt) (r : RunRefusal) (a : AnswerAt) → IsDamagedOver outward inward joined file (looks_of task) links.tells r → IsToldSo file r a
       → ComesOfFile outward inward joined links task file a
   told_damage links task file refusals.LinkFault a over told = subst (λ (b : AnswerAt). ComesOfFile outward inward joined links task file b) (sym told) tt

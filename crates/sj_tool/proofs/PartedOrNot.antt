@@ -34,7 +34,7 @@ lines_or_not (b ∷ c ∷ bs) = by (lines_or_not (c ∷ bs))
         further (inr ([], e)) = absurd (cc e)
         further (inr (x ∷ front, e)) = off (inr (front, cc e))
 
--- the line stands behind so many bytes
+-- the line stands after so many bytes
 abbrev IsAt : (mark source : List ℕ) (n : ℕ) → Type 0
 IsAt mark source n = IsMarked mark source (take n source) (drop (n + length mark) source)
 
@@ -42,7 +42,7 @@ at_or_not : (mark source : List ℕ) (n : ℕ) → Dec (IsAt mark source n)
 at_or_not mark source n =
     both_of (lines_or_not (take n source)) (one_list source (take n source ++ (mark ++ drop (n + length mark) source))) (λ lines whole. record { lines = lines; whole = whole }) (λ p. p.lines) (λ p. p.whole)
 
--- it stands behind as many bytes as the text before it has
+-- it stands after as many bytes as the text before it has
 is_at : (mark source text log : List ℕ) → IsMarked mark source text log → IsAt mark source (length text) × (length text < length source + 1)
 is_at mark source text log p =
     let whole : source ≡ text ++ (mark ++ log) = p.whole in
@@ -71,7 +71,7 @@ line_or_not source n = by (at_or_not (mark_of 1) source n) (at_or_not (mark_of 2
         neither : HasLine source n → ⊥
         neither h = elim h.known [ inl one ↦ off (subst (λ (v : ℕ). IsAt (mark_of v) source n) one h.there) | inr two ↦ away (subst (λ (v : ℕ). IsAt (mark_of v) source n) two h.there) ]
 
--- each part stands behind as many bytes as its text has
+-- each part stands after as many bytes as its text has
 part_is_at : (source text : List ℕ) (v : ℕ) (log : List ℕ) → IsPart source text v log → HasLine source (length text) × (length text < length source + 1)
 part_is_at source text v log p =
     let at = is_at (mark_of v) source text log p.marked in (record { version = v; known = p.known; there = at.0 }, at.1)

@@ -1,4 +1,4 @@
--- An answer with a verdict's status tells how a file ended that was played.
+-- An answer with a verdict's status reports how a file ended that was played.
 use Rattle.std.proofs.Common.{◌≡◌, ◌∙◌, ◌≤◌, ℕ, true, false, List, [], ◌++◌, refl, sym, arith, subst}
 use Rattle.std.proofs.lemmas.List.{append-nil}
 use Rattle.sj_lang.specs.FileAt.{FileAt}
@@ -69,7 +69,7 @@ runs_print_none (tasks.Run log looks workers) file text runs p = p
 runs_print_none (tasks.Big n) file text runs p = p
 runs_print_none task file text runs p = runs
 
--- ---- an answer with such a status tells how a file ended
+-- ---- an answer with such a status reports how a file ended
 
 pub record CameOfPlay (c : CallAt) (a : AnswerAt) : Type 0 where
   pub verdict : Verdict

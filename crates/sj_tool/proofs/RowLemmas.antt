@@ -1,4 +1,4 @@
--- The rows of the table of answers exclude each other, where the source tells.
+-- The rows of the table of answers exclude each other, where the source reports.
 use Rattle.std.proofs.Common.{◌≡◌, ◌∙◌, inl, inr, ◌<◌, ◌≤◌, ◌++◌, ℕ, List, Option, Some, None, length, ap, sym, subst, arith, length-append}
 use Rattle.sj_base.specs.Stream.{CameOf}
 use Rattle.sj_command.specs.declared.tasks.Task.{Task}
@@ -32,7 +32,7 @@ came_once l left (Some rest) (t, few, e) (u, many, d) =
 pub are_same : (c : CallAt) (a b : AnswerAt) → a ≡ b → AreOne c a b
 are_same c a b e = record { status = ap status_of e; text = inl (ap text_of e) }
 
--- what no read fault above an answer tells of the links
+-- what no read fault above an answer says of the links
 holds_above : (c : CallAt) (b : AnswerAt) → NoFaultAbove c b → (task : Task) → Asks c.words task → HoldsFor c.links task b
 holds_above c LinkFault h task asks = h
 holds_above c (Damaged t) h task asks = h

@@ -18,7 +18,7 @@ session_suc [] i h = absurd (omega (arith, h))
 session_suc (z ∷ zs) zero h = sum_by-cons sent_in z zs
 session_suc (z ∷ zs) (suc i) h = session_suc zs i (omega (arith, h))
 
--- the sessions ahead are the next one and those behind it
+-- the sessions ahead are the next one and those after it
 pub session_more : (zs : List Session) (i c a b : ℕ) → i < length zs → c + sum_by sent_in (drop i zs) ≡ sum_by sent_in zs
     → a ≡ c + length (end_at zs (end_of_side i 0)).sent → b ≡ a + length (end_at zs (end_of_side i 1)).sent → b + sum_by sent_in (drop (i + 1) zs) ≡ sum_by sent_in zs
 session_more zs i c a b h so_far first second =
@@ -31,7 +31,7 @@ program_suc [] i n h = cc
 program_suc (g ∷ gs) zero n h = let it : g.steps ≡ n = cc in sum_by-cons (λ g. g.steps) g gs ∙ ap (λ k. k + sum_by (λ g. g.steps) gs) it
 program_suc (g ∷ gs) (suc i) n h = program_suc gs i n h
 
--- the parties ahead are the next one and those behind it
+-- the parties ahead are the next one and those after it
 pub program_more : (gs : List Program) (i c n b : ℕ) → c + sum_by (λ g. g.steps) (drop i gs) ≡ sum_by (λ g. g.steps) gs
     → option_map (λ g. g.steps) (slice_get gs i) ≡ Some n → b ≡ c + n → b + sum_by (λ g. g.steps) (drop (i + 1) gs) ≡ sum_by (λ g. g.steps) gs
 program_more gs i c n b so_far there more =

@@ -1,4 +1,5 @@
--- What the lines of a history that leaves nothing to do, and how its parties stand, tell of the end of the file.
+-- What the lines of a history that leaves nothing to do, and how its parties stand, report of the
+-- end of the file.
 use Rattle.std.proofs.Common.{◌≡◌, ◌∙◌, ◌+◌, ◌*◌, ◌<◌, ◌≤◌, ℕ, max, List, [], ◌∷◌, ◌++◌, drop, get_or, length, map, refl, ap, sym, arith}
 use Rattle.std.specs.Prelude.{sum_by}
 use Rattle.std.proofs.lemmas.List.{at_drop_more, drop_all}
@@ -45,7 +46,7 @@ module _ (file : FileAt) (accepted : IsAccepted file) (history : List LineAt) (c
   pub all_stand : length stands ≡ length file.parties
   all_stand = as_many (end_of file) stands are ∙ end_parties file accepted max max_picks history core run quiet
 
--- ends that the lines tell are those of the world
+-- ends that the lines report are those of the world
 pub ends_are : (file : FileAt) (lines : List LineAt) (stands : List Stand) (w : World) (ends : List ToldEnd) (n : ℕ) → n ≡ length file.connects → IsToldIn file lines stands w → AreToldBy lines n ends → AreEnds file w ends
 ends_are file lines stands w ends n same told by = record {
   count = by.count ∙ ap (λ k. 2 * k) same;

@@ -1,4 +1,4 @@
--- A file is told of in one way: its first fault, or what its task makes of it.
+-- A file is reported in one way: its first fault, or what its task makes of it.
 use Rattle.std.proofs.Common.{◌≡◌, ◌⊎◌, ◌∙◌, ◌≤◌, length, arith, ℕ, List, Option, Some, None, ap, ap₂, sym, subst, inl, inr}
 use Rattle.std.specs.Prelude.{Bool}
 use Rattle.sj_lang.specs.FileAt.{FileAt}
@@ -45,7 +45,7 @@ pub record IsPlayed (links : LinkUseAt) (task : Task) (log : LogAt) (file : File
   pub plays : Plays links task log file verdict text
   pub are : t ≡ ended verdict text
 
--- the status and the text tell that the log is refused
+-- the status and the text say that the log is refused
 abbrev pub TellsRule : FileAt → (log : LogAt) → ℕ × List ℕ → Type 0
 TellsRule file log t = (rule : ℕ) × (line : ℕ) × Breaks file log rule line × (t ≡ (12, text_of (LogFault rule line)))
 
@@ -104,7 +104,7 @@ module _ (links : LinkUseAt) (log : LogAt) (file : FileAt) where
         by (tasks.Big n) v w s r p q = ran (tasks.Big n) v w s r (one_run links log file v w s r (tasks.Big n) tt p.1 q.1)
         by task v w s r p q = absurd p.0
 
-    -- a log is told of in one way
+    -- a log is reported in one way
     log_once : (l : Bool) → TellsLog links l log file t → TellsLog links l log file u → AreOfFile (tasks.Replay l) t u
     log_once l (inl (r, k, a, e)) (inl (s, m, b, d)) =
         let one = fault_once file log r s k m a b in

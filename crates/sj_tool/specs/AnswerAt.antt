@@ -5,7 +5,7 @@ use Rattle.sj_semantics.specs.declared.Verdict.{Verdict}
 use Rattle.sj_tool.specs.declared.answers.Answer.{Answer}
 use Rattle.sj_tool.specs.declared.answers.Answer.TheVariants as answers
 
--- what is answered; texts stand where a file, a log or what parties did has to be told
+-- what is answered; texts stand where a file, a log or what parties did has to be reported
 pub data AnswerAt : Type 0 where
   Usage ReadFault TooLarge NoTalk LinkFault : AnswerAt
   Syntax : (fault : Fault) → AnswerAt

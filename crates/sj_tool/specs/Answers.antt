@@ -43,7 +43,7 @@ AnswersFile links task log file (Ran verdict text) = IsAccepted file × Plays li
 AnswersFile links task log file (Printed text) = Prints task file text
 AnswersFile links task log file _ = ⊥
 
--- no line of a source is `%%log` or `%%log2`, which is told as rule 1 at line 0
+-- no line of a source is `%%log` or `%%log2`, which is reported as rule 1 at line 0
 abbrev pub MissesLog : Task → List ℕ → (rule line : ℕ) → Type 0
 MissesLog task bytes rule line = Replays task × HasNoPart bytes × (rule ≡ 1) × (line ≡ 0)
 
@@ -54,7 +54,8 @@ pub record HoldsBytes (c : CallAt) : Type 0 where
   pub bytes : List ℕ
   pub input : HasInput c task bytes
 
--- what the bytes of a call hold: the text of a file, and a log where one is replayed, or lines where they play a party
+-- what the bytes of a call hold: the text of a file, and a log where one is replayed, or lines
+-- where they play a party
 pub record HoldsFile (c : CallAt) : Type 0 where
   pub task : Task
   pub asks : Asks c.words task
@@ -81,7 +82,8 @@ pub record Makes (c : CallAt) (printed : List ℕ) : Type 0 where
   pub text : printed ≡ generated count
   pub unread : IsUnread c
 
--- a task reads, and of its source as many bytes came as P says: P is asked of the count and of the most that the task reads
+-- a task reads, and of its source as many bytes came as P says: P is asked of the count and of the
+-- most that the task reads
 abbrev pub Came : (ℕ → ℕ → Type 0) → CallAt → Type 0
 Came P c = AsksFor (λ task. Reads task × CameOf (λ n. P n (limit_of task)) c.left c.left_after) c
 
@@ -97,7 +99,7 @@ IsInTable c (LogFault rule line) =
 IsInTable c (Made text) = Makes c text
 IsInTable c a = (h : HoldsFile c) × AnswersFile c.links h.task h.log h.file a
 
--- the answer that comes is written behind what was written before, and its status is answered
+-- the answer that comes is written after what was written before, and its status is answered
 abbrev pub Answers : CallAt → ℕ → Option (List ℕ) → Option (List ℕ) → AnswerAt → Type 0
 Answers c status before after a = (status ≡ status_of a) × (after ≡ put_behind before (text_of a))
 
@@ -107,7 +109,7 @@ pub record AnswersOne (c : CallAt) (status : ℕ) (before after : Option (List �
   pub comes : IsInTable c answer
   pub answers : Answers c status before after answer
 
--- a front of the text of an answer that comes stands there
+-- a prefix of the text of an answer that comes stands there
 pub record WroteFront (c : CallAt) (before after : Option (List ℕ)) : Type 0 where
   pub answer : AnswerAt
   pub comes : IsInTable c answer

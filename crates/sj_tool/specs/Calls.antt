@@ -1,4 +1,5 @@
--- What a call is given and what it leaves: its words, its source, and the links over which parties run.
+-- What a call is given and what it leaves: its words, its source, and the links over which parties
+-- run.
 use Rattle.std.specs.Prelude.{◌≡◌, ℕ, Bool, true, List, Option, map, string_bytes}
 use Rattle.std.specs.declared.alloc.Global.{Global}
 use Rattle.std.specs.declared.string.String.{String}
@@ -7,7 +8,8 @@ use Rattle.sj_lane.specs.declared.links.Links.{Ghosts as Links}
 use Rattle.sj_lane.specs.Told.{Rose}
 use Rattle.sj_run.specs.Shown.{LinksAt, keeps_of}
 
--- whether the links tell what they carry, what they count before and after, and what they keep after
+-- whether the links report what they carry, what they count before and after, and what they keep
+-- after
 pub record LinkUseAt : Type 0 where
   pub tells : Bool
   pub faults : ℕ
@@ -18,7 +20,7 @@ pub record LinkUseAt : Type 0 where
 abbrev pub CountNone : LinkUseAt → Type 0
 CountNone links = ¬ Rose links.faults links.faults_after
 
--- the links tell what they carry, and counted no fault
+-- the links report what they carry, and counted no fault
 abbrev pub LinksHold : LinkUseAt → Type 0
 LinksHold links = (links.tells ≡ true) × CountNone links
 
@@ -40,7 +42,8 @@ link_use kind before after = record {
   keeps = keeps_of kind.sent kind.got kind.vain_out kind.vain_in after;
 }
 
--- the call that a source and links of those kinds are passed to, by the words, the source before and after, and the links
+-- the call that a source and links of those kinds are passed to, by the words, the source before
+-- and after, and the links
 abbrev pub call : {S L Out In : Type 0} → Source S → Links L Out In → List (String Global) → (before after : S) → (links links_after : L) → CallAt
 call source kind words before after links links_after = record {
   words = map string_bytes words;

@@ -1,4 +1,4 @@
--- Inputs that are valid for a task, and what is told of them.
+-- Inputs that are valid for a task, and what is reported of them.
 use Rattle.std.specs.Prelude.{◌≡◌, ◌<◌, ◌≤◌, ℕ, Bool, false, List, [], ◌∷◌, ◌++◌, Option, Some, codes, decimal, length, ⊤}
 use Rattle.sj_base.specs.Stream.{Rose, put_behind}
 use Rattle.sj_lang.specs.FileAt.{FileAt}
@@ -28,8 +28,9 @@ abbrev pub HasItsParty : Task → FileAt → Type 0
 HasItsParty (tasks.Talk n) file = n < length file.parties
 HasItsParty _ file = ⊤
 
--- all that is left, no more than the task takes, has the text of the file, and no fault was counted; the file is accepted where the task checks
--- it, each line of a log that is replayed is the one that is due, a party that is played is there, and the links are good where parties run
+-- all that is left, no more than the task takes, has the text of the file, and no fault was
+-- counted. The file is accepted where the task checks it, and each line of a log that is replayed
+-- is the one that is due. A party that is played is there, and the links are good where parties run
 pub record IsValidFile (good : LinkUseAt → Type 0) (c : CallAt) (task : Task) (file : FileAt) (log : LogAt) : Type 0 where
   pub bytes : List ℕ
   pub left : c.left ≡ Some bytes
@@ -43,8 +44,8 @@ pub record IsValidFile (good : LinkUseAt → Type 0) (c : CallAt) (task : Task) 
   pub accepted : Checks task → IsAccepted file
   pub links : RunsParties task → good c.links
 
--- the words ask for the task, and the input is valid for it; nothing is asked of an input that isn't read, and the links are good where
--- parties run
+-- the words ask for the task, and the input is valid for it; nothing is asked of an input that
+-- isn't read, and the links are good where parties run
 abbrev pub IsValidOver : (good : LinkUseAt → Type 0) → CallAt → Task → FileAt → (log : LogAt) → Type 0
 IsValidOver good c (tasks.Make n) file log = Asks c.words (tasks.Make n)
 IsValidOver good c (tasks.Big n) file log = Asks c.words (tasks.Big n) × good c.links
@@ -54,14 +55,16 @@ IsValidOver good c task file log = Asks c.words task × IsValidFile good c task 
 abbrev pub IsValid : CallAt → Task → FileAt → (log : LogAt) → Type 0
 IsValid c task file log = IsValidOver LinksHold c task file log
 
--- the status is the verdict of the file's end, and its transcript comes first; nothing else comes but where the log is asked for
+-- the status is the verdict of the file's end, and its transcript comes first; nothing else comes
+-- but where the log is asked for
 pub record TellsEnd (log : Bool) (file : FileAt) (status : ℕ) (text : List ℕ) : Type 0 where
   pub verdict : status ≡ verdict_status (verdict_of (end_of file))
   pub behind : List ℕ
   pub transcript : text ≡ transcript_of file (end_of file) ++ behind
   pub bare : log ≡ false → behind ≡ []
 
--- the status is the verdict of the file's end, and its transcript and the number of deliveries are the text
+-- the status is the verdict of the file's end, and its transcript and the number of deliveries are
+-- the text
 abbrev pub TellsForwarded : FileAt → ℕ → List ℕ → Type 0
 TellsForwarded file status text = (status ≡ verdict_status (verdict_of (end_of file))) × IsForwardText file text
 
@@ -91,7 +94,7 @@ Completes (tasks.Talk n) file log status text = TellsTalk n file log.bytes statu
 Completes (tasks.Make n) file log status text = (status ≡ 0) × (text ≡ generated n)
 Completes (tasks.Big n) file log status text = (status ≡ 0) × (text ≡ big_text n)
 
--- that text is written behind what was written before, and that status is answered
+-- that text is written after what was written before, and that status is answered
 pub record CompletesSo (task : Task) (file : FileAt) (log : LogAt) (status : ℕ) (before after : Option (List ℕ)) : Type 0 where
   pub text : List ℕ
   pub completes : Completes task file log status text

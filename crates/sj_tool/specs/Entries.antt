@@ -1,4 +1,4 @@
--- What is told of an entry of a log, or of joined logs, that isn't the one that is due.
+-- What is reported of an entry of a log, or of joined logs, that isn't the one that is due.
 use Rattle.std.specs.Prelude.{◌≡◌, ℕ, max, List, [], ◌∷◌, ◌++◌, Option, Some, None, codes, decimal, option_map}
 use Rattle.sj_lang.specs.FileAt.{FileAt}
 use Rattle.sj_rules.specs.History.{IsFirstMisfit}
@@ -38,8 +38,8 @@ damage_head = codes "damaged entry "
 abbrev pub misfit_head : List ℕ
 misfit_head = codes "log entry "
 
--- the text tells the first entry of the joined logs of the parties that isn't due, or what the lowest unfit party refused behind
--- them, and what was due
+-- the text reports the first entry of the joined logs of the parties that isn't due, or what the
+-- lowest unfit party refused after them, and what was due
 pub record IsDamageText (file : FileAt) (text : List ℕ) : Type 0 where
   pub number : ℕ
   pub logged : LineAt
@@ -47,7 +47,7 @@ pub record IsDamageText (file : FileAt) (text : List ℕ) : Type 0 where
   pub damage : IsDamage file number logged other
   pub told : text ≡ entry_line damage_head file number logged other
 
--- the text tells which entry of the log is the first that isn't due, and what was due
+-- the text reports which entry of the log is the first that isn't due, and what was due
 pub record IsMisfitText (file : FileAt) (log : LogAt) (text : List ℕ) : Type 0 where
   pub lines : List LineAt
   pub spells : Spells file log lines
@@ -57,17 +57,17 @@ pub record IsMisfitText (file : FileAt) (log : LogAt) (text : List ℕ) : Type 0
   pub misfit : IsFirstMisfit max file lines number logged other
   pub told : text ≡ entry_line misfit_head file number logged other
 
--- the answer tells that damage
+-- the answer reports that damage
 abbrev pub IsDamagedBy : FileAt → ℕ → LineAt → Option LineAt → AnswerAt → Type 0
 IsDamagedBy file number logged other (Damaged text) = text ≡ entry_line damage_head file number logged other
 IsDamagedBy file number logged other _ = ⊥
 
--- the answer tells that misfit
+-- the answer reports that misfit
 abbrev pub IsToldMisfit : FileAt → ℕ → LineAt → Option LineAt → AnswerAt → Type 0
 IsToldMisfit file number logged other (Misfit text) = text ≡ entry_line misfit_head file number logged other
 IsToldMisfit file number logged other _ = ⊥
 
--- the answer tells the refusal; want of memory has no answer
+-- the answer reports the refusal; out of memory has no answer
 abbrev pub IsToldSo : FileAt → RunRefusal → AnswerAt → Type 0
 IsToldSo file refusals.LinkFault a = a ≡ LinkFault
 IsToldSo file (refusals.Damaged m) a = IsDamagedBy file m.number (line_at m.logged) (option_map line_at m.due) a

@@ -10,7 +10,7 @@ use Rattle.sj_forest.specs.Shape.{IsCycle}
 abbrev pub IsOpensText : FileAt → List ℕ → Type 0
 IsOpensText file text = (line : ℕ) × (first_opening file ≡ Some line) × (text ≡ line_of (codes "forest" ∷ codes "opens" ∷ decimal line ∷ []))
 
--- each word behind a space, and the end of the line
+-- each word after a space, and the end of the line
 abbrev pub spaced_line : List (List ℕ) → List ℕ
 spaced_line [] = codes "\n"
 spaced_line (w ∷ ws) = codes " " ++ (w ++ spaced_line ws)

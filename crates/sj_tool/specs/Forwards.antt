@@ -18,8 +18,9 @@ use Rattle.sj_semantics.specs.Transcript.{line_of, transcript_of}
 abbrev pub passed_line : ℕ → List ℕ
 passed_line n = line_of (codes "passed" ∷ decimal n ∷ [])
 
--- the transcript of the file's end, and behind it how many frames were delivered. The turns are those of the rounds by which forwarding drains the
--- file from its start, and their acts are a run with the headline, which leads to that end
+-- the transcript of the file's end, and after it how many frames were delivered. The turns are
+-- those of the rounds by which forwarding drains the file from its start, and their acts are a run
+-- with the headline, which leads to that end
 pub record IsForwardText (file : FileAt) (text : List ℕ) : Type 0 where
   pub turns : List Turn
   pub last : WorldAt Program

@@ -1,4 +1,5 @@
--- The headline of the top call: what is written of a file that was played is the transcript of a run that has it.
+-- The headline of the top call: what is written of a file that was played is the transcript of a
+-- run that has it.
 use Rattle.std.specs.Prelude.{◌≡◌, ℕ, true, List, [], ◌++◌, Option, IfSome, ⊤}
 use Rattle.sj_base.specs.Stream.{put_before, put_behind}
 use Rattle.sj_lang.specs.FileAt.{FileAt}
@@ -32,7 +33,7 @@ abbrev pub IsForwarding : Task → Type 0
 IsForwarding tasks.Forward = ⊤
 IsForwarding _ = ⊥
 
--- it prints something behind the transcript: the history, or that count
+-- it prints something after the transcript: the history, or that count
 abbrev pub PrintsMore : Task → Type 0
 PrintsMore tasks.Forward = ⊤
 PrintsMore task = asks_log task ≡ true
@@ -45,13 +46,15 @@ IsVerdict status = (verdict : Verdict) × (status ≡ verdict_status verdict)
 abbrev pub IsTextOf : Task → (bytes text : List ℕ) → Type 0
 IsTextOf task bytes text = (log : LogAt) × HasParts task bytes text log
 
--- a run of the accepted file that was read has the headline; the status is its verdict, and its transcript is written
+-- a run of the accepted file that was read has the headline; the status is its verdict, and its
+-- transcript is written
 pub record HasHeadline (c : CallAt) (status : ℕ) (before after : Option (List ℕ)) : Type 0 where
-  -- the bytes that came, which are all where the source tells
+  -- the bytes that came, which are all where the source reports
   pub bytes : List ℕ
   pub came : c.left ≡ put_before bytes c.left_after
   pub all : IfSome c.left_after (λ rest. rest ≡ [])
-  -- they have the text of a file, which is accepted; where a log is replayed it stands behind that text
+  -- they have the text of a file, which is accepted; where a log is replayed it stands after that
+  -- text
   pub text : List ℕ
   pub has : AsksFor (λ task. IsTextOf task bytes text) c
   pub file : FileAt
@@ -61,16 +64,17 @@ pub record HasHeadline (c : CallAt) (status : ℕ) (before after : Option (List 
   pub acts : List ℕ
   pub end : World
   pub headline : IsHeadline file acts end
-  -- how that world stands is answered, and its transcript is written behind what was written before
+  -- how that world stands is answered, and its transcript is written after what was written before
   pub verdict : status ≡ verdict_status (verdict_of end)
   pub behind : List ℕ
   pub written : after ≡ put_behind before (transcript_of file end ++ behind)
-  -- nothing stands behind the transcript but where the words ask for the log, or for forwarding
+  -- nothing stands after the transcript but where the words ask for the log, or for forwarding
   pub bare : (AsksFor PrintsMore c → ⊥) → behind ≡ []
 
--- an accepted file was read; the status is the verdict of its end, and its text by forwarding is written
+-- an accepted file was read; the status is the verdict of its end, and its text by forwarding is
+-- written
 pub record WritesForwarded (c : CallAt) (status : ℕ) (before after : Option (List ℕ)) : Type 0 where
-  -- the bytes that came, which are all where the source tells
+  -- the bytes that came, which are all where the source reports
   pub bytes : List ℕ
   pub came : c.left ≡ put_before bytes c.left_after
   pub all : IfSome c.left_after (λ rest. rest ≡ [])

@@ -1,4 +1,5 @@
--- What answers the text of a file, and the bytes that a task takes: words of private functions, which come to rows of the table.
+-- What answers the text of a file, and the bytes that a task takes: words of private functions,
+-- which come to rows of the table.
 use Rattle.std.specs.Prelude.{◌⊎◌, ℕ, List, []}
 use Rattle.sj_lang.specs.FileAt.{FileAt}
 use Rattle.sj_lang.specs.Limits.{limits}

@@ -1,4 +1,5 @@
--- What is answered over the workers and lanes of a call: words of private functions, which come to those of specs/Over.
+-- What is answered over the workers and lanes of a call: words of private functions, which come to
+-- those of specs/Over.
 use Rattle.std.specs.Prelude.{ℕ, List, ⊤}
 use Rattle.sj_lang.specs.FileAt.{FileAt}
 use Rattle.sj_lane.specs.declared.lane.OutLane.{Ghosts as OutLane}
@@ -19,7 +20,8 @@ use Rattle.sj_tool.specs.Runs.{HasHistory}
 use Rattle.sj_tool.specs.Tasks.{AsksFor, RunsParties, looks_of}
 
 module _ {O I : Type 0} (outward : OutLane O) (inward : InLane I) (joined : O → I → Type 0) where
-  -- the lines with which the history begins are the joined logs of workers that worked over such lanes
+  -- the lines with which the history begins are the joined logs of workers that worked over such
+  -- lanes
   pub record HasHistoryOver (links : LinkUseAt) (task : Task) (log : LogAt) (file : FileAt) (history : List LineAt) (core : WorldAt Place Program) : Type 0 where
     pub has : HasHistory links task log file history core
     pub logged : AreLoggedOver outward inward joined file (looks_of task) links.tells has.begun.lines
@@ -30,7 +32,8 @@ module _ {O I : Type 0} (outward : OutLane O) (inward : InLane I) (joined : O �
   ComesOfFile links task file (Ran verdict text) = (log : LogAt) → HasRunOver outward inward joined links task log file verdict text
   ComesOfFile links task file _ = ⊤
 
-  -- the source stands for a file, whose parties the task runs, and of which the text tells such damage
+  -- the source stands for a file, whose parties the task runs, and of which the text reports such
+  -- damage
   pub record TellsDamageIn (links : LinkUseAt) (task : Task) (source text : List ℕ) : Type 0 where
     pub file : FileAt
     pub stands : IsFile source file

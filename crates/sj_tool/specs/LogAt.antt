@@ -1,11 +1,12 @@
--- What stands behind a file: a log that is replayed, by its bytes and the version of its form, or the lines of a talk.
+-- What stands after a file: a log that is replayed, by its bytes and the version of its form, or
+-- the lines of a talk.
 use Rattle.std.specs.Prelude.{ℕ, List, []}
 use Rattle.sj_lang.specs.FileAt.{FileAt}
 use Rattle.sj_log.specs.LogText.{IsFault, SpellsLog}
 use Rattle.sj_log.specs.declared.refusal.LogRefusal.TheVariants.{At}
 use Rattle.sj_rules.specs.Log.{LineAt}
 
--- version 2 tells of sessions that are opened at run time; lines of a talk are of version 1
+-- version 2 reports sessions that are opened at run time; lines of a talk are of version 1
 pub record LogAt : Type 0 where
   pub version : ℕ
   pub bytes : List ℕ
@@ -13,7 +14,7 @@ pub record LogAt : Type 0 where
 abbrev pub log_at : ℕ → List ℕ → LogAt
 log_at version bytes = record { version = version; bytes = bytes }
 
--- what stands in its place where nothing is behind the file
+-- what stands in its place where nothing is after the file
 abbrev pub no_log : LogAt
 no_log = log_at 1 []
 

@@ -24,7 +24,7 @@ IsRefusedBy file log (faults.Entry m) =
     (lines : List LineAt) × Spells file log lines × IsFirstMisfit max file lines m.number (line_at m.logged) (option_map line_at m.due)
 IsRefusedBy file log faults.NoMemory = ⊤
 
--- the answer tells the fault; want of memory has no answer
+-- the answer reports the fault; out of memory has no answer
 abbrev pub IsToldFault : FileAt → ReplayFault → AnswerAt → Type 0
 IsToldFault file (faults.Text rule line) a = a ≡ LogFault rule line
 IsToldFault file (faults.Entry m) a = IsToldMisfit file m.number (line_at m.logged) (option_map line_at m.due) a

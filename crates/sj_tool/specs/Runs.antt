@@ -1,4 +1,5 @@
--- Files that are played to their end: in the plain world, or by a history of the core, of parties that ran or of a log, which tells that end.
+-- Files that are played to their end: in the plain world, or by a history of the core, of parties
+-- that ran or of a log, which reports that end.
 use Rattle.std.specs.Prelude.{◌≡◌, ℕ, max, Bool, true, false, List, [], ◌++◌, map, length}
 use Rattle.sj_lang.specs.FileAt.{FileAt}
 use Rattle.sj_lang.specs.Place.{Place}
@@ -40,8 +41,8 @@ HasSimulated file verdict text = (verdict ≡ verdict_of (end_of file)) × (text
 abbrev pub actors : List LineAt → List ℕ
 actors history = acts_in (map turn_of history)
 
--- where lines come from that lead to that world: a log spells them; or parties that ran logged them, and the links show them, where they
--- tell
+-- where lines come from that lead to that world: a log spells them; or parties that ran logged
+-- them, and the links show them, where they report
 abbrev pub IsGiven : LinkUseAt → Task → (log : LogAt) → FileAt → List LineAt → WorldAt Place Program → Type 0
 IsGiven links (tasks.Replay l) log file lines left = Spells file log lines
 IsGiven links task log file lines left = AreLogged file lines × (links.tells ≡ true → IsShown file (looks_of task) links.keeps lines left)
@@ -63,7 +64,8 @@ pub record HasHistory (links : LinkUseAt) (task : Task) (log : LogAt) (file : Fi
   pub run : IsHistory max file history core
   pub quiet : IsQuietAmong (play_of file) (length file.parties) core
 
--- what stands behind the transcript: where the log is asked for, the line of its version and then the log
+-- what stands after the transcript: where the log is asked for, the line of its version and then
+-- the log
 abbrev pub log_part : Bool → FileAt → List LineAt → List ℕ
 log_part false file history = []
 log_part true file history = mark_of (version_of history) ++ log_text file history
@@ -77,8 +79,8 @@ run_text task file history end = transcript_of file end ++ log_part (asks_log ta
 abbrev pub IsTold : Task → FileAt → List LineAt → Verdict → List ℕ → Type 0
 IsTold task file history verdict text = (verdict ≡ verdict_of (end_of file)) × (text ≡ run_text task file history (end_of file))
 
--- the file was run, by its parties over these links or by the log: the acts of a history are a run with the headline, which leads to
--- the end of the file, and that is told
+-- the file was run, by its parties over these links or by the log. The acts of a history are a run
+-- with the headline, which leads to the end of the file, and that is reported
 pub record HasRun (links : LinkUseAt) (task : Task) (log : LogAt) (file : FileAt) (verdict : Verdict) (text : List ℕ) : Type 0 where
   pub history : List LineAt
   pub core : WorldAt Place Program

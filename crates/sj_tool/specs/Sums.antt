@@ -1,4 +1,4 @@
--- How `big` tells how much was done in a plain world.
+-- How `big` reports how much was done in a plain world.
 use Rattle.std.specs.Prelude.{ℕ, List, [], ◌∷◌, ◌++◌, codes, decimal, length}
 use Rattle.sj_lang.specs.FileAt.{FileAt}
 use Rattle.sj_generator_laws.specs.Counts.{messages_in, steps_in}

@@ -26,14 +26,16 @@ abbrev pub LogsRun : Task → Type 0
 LogsRun (tasks.Run true looks workers) = ⊤
 LogsRun _ = ⊥
 
--- the text is the file's transcript, and after it the log of a history that the task has of the file, which leaves nothing to do
+-- the text is the file's transcript, and after it the log of a history that the task has of the
+-- file, which leaves nothing to do
 pub record IsLogText (links : LinkUseAt) (task : Task) (log : LogAt) (file : FileAt) (text : List ℕ) : Type 0 where
   pub history : List LineAt
   pub core : WorldAt Place Program
   pub has : HasHistory links task log file history core
   pub is : text ≡ transcript_of file (end_of file) ++ log_part true file history
 
--- the task prints a history of the file's parties, and both texts are such: the order in which the parties act is theirs
+-- the task prints a history of the file's parties, and both texts are such: the order in which the
+-- parties act is theirs
 pub record AreLogs (links : LinkUseAt) (task : Task) (log : LogAt) (file : FileAt) (s t : List ℕ) : Type 0 where
   pub logs : LogsRun task
   pub first : IsLogText links task log file s
@@ -69,7 +71,8 @@ pub record IsReadAsAsked (c : CallAt) : Type 0 where
   pub read : (task : Task) → Asks c.words task → Reads task → WasRead task c
   pub unread : (AsksFor Reads c → ⊥) → c.left_after ≡ c.left
 
--- where the parties of the call's file run over links that hold, these show lines that lead from its start
+-- where the parties of the call's file run over links that hold, these show lines that lead from
+-- its start
 abbrev pub ShowsItsRun : CallAt → Type 0
 ShowsItsRun c =
     (task : Task) (bytes : List ℕ) (file : FileAt) → Asks c.words task → RunsParties task → HasInput c task bytes
@@ -79,8 +82,8 @@ ShowsItsRun c =
 abbrev pub RunsWell : CallAt → Type 0
 RunsWell c = AsksFor RunsParties c → LinksHold c.links
 
--- no fault stands above the answer: what the words or too many bytes tell comes before; else no read fault was counted, and where
--- parties run the links hold
+-- no fault stands above the answer: what the words or too many bytes say comes before. Else no read
+-- fault was counted, and where parties run the links hold
 abbrev pub NoFaultAbove : CallAt → AnswerAt → Type 0
 NoFaultAbove c Usage = ⊤
 NoFaultAbove c ReadFault = ⊥

@@ -1,4 +1,4 @@
--- What `talk` prints of a file and of the lines behind it.
+-- What `talk` prints of a file and of the lines after it.
 use Rattle.std.specs.Prelude.{◌≡◌, ◌<◌, ℕ, List, length}
 use Rattle.sj_lang.specs.FileAt.{FileAt}
 use Rattle.sj_semantics.specs.declared.Verdict.{Verdict}

@@ -42,7 +42,7 @@ RunsParties (tasks.Run log looks workers) = ⊤
 RunsParties (tasks.Big n) = ⊤
 RunsParties _ = ⊥
 
--- it replays the log behind a file
+-- it replays the log after a file
 abbrev pub Replays : Task → Type 0
 Replays (tasks.Replay log) = ⊤
 Replays _ = ⊥
@@ -52,7 +52,7 @@ abbrev pub Talks : Task → Type 0
 Talks (tasks.Talk n) = ⊤
 Talks _ = ⊥
 
--- its source has a log or lines behind the file
+-- its source has a log or lines after the file
 abbrev pub HasTail : Task → Type 0
 HasTail (tasks.Replay log) = ⊤
 HasTail (tasks.Talk n) = ⊤
@@ -76,7 +76,7 @@ abbrev pub looks_of : Task → ℕ
 looks_of (tasks.Run log looks workers) = looks
 looks_of _ = usual_looks
 
--- the log is printed behind the transcript
+-- the log is printed after the transcript
 abbrev pub asks_log : Task → Bool
 asks_log (tasks.Run log looks workers) = log
 asks_log (tasks.Replay log) = log
@@ -100,8 +100,9 @@ abbrev pub HasInput : CallAt → Task → List ℕ → Type 0
 HasInput c (tasks.Big n) bytes = IsUnread c × (bytes ≡ generated n)
 HasInput c task bytes = IsRead c task bytes
 
--- the text of the file and what stands behind it: of a replay on the two sides of its first line `%%log` or `%%log2`, which tells the version
--- of the log, of a talk on those of its first line `%%talk`
+-- the text of the file and what stands after it. Of a replay these are the two sides of its first
+-- line `%%log` or `%%log2`, which names the version of the log. Of a talk they are those of its
+-- first line `%%talk`
 abbrev pub IsPartedFor : Task → (source text : List ℕ) (log : LogAt) → Type 0
 IsPartedFor (tasks.Replay l) source text log = IsParted source text log.version log.bytes
 IsPartedFor (tasks.Talk n) source text log = IsTalk source text log.bytes × (log.version ≡ 1)

@@ -1,4 +1,4 @@
--- What lines, and how parties stand, tell of the end of a file in which no session was opened.
+-- What lines, and how parties stand, report of the end of a file in which no session was opened.
 use Rattle.std.specs.Prelude.{◌≡◌, ℕ, ◌≤◌, List, [], length, map}
 use Rattle.sj_base.specs.declared.EndId.{EndId}
 use Rattle.sj_lang.specs.FileAt.{FileAt}
@@ -11,7 +11,8 @@ use Rattle.sj_told.specs.Counts.{messages_sent, sent_count}
 use Rattle.sj_told.specs.declared.told.Stand.{Stand}
 use Rattle.sj_told.specs.Told.{AreStands}
 
--- the Sent notes of each end tell what it sent, the Took notes who took on it, and the parties stand so
+-- the Sent notes of each end report what it sent, the Took notes who took on it, and the parties
+-- stand so
 pub record IsToldIn (file : FileAt) (lines : List LineAt) (stands : List Stand) (w : World) : Type 0 where
   pub opened : opened_in w ≡ []
   pub sessions : length file.connects ≤ length w.sessions

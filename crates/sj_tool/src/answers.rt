@@ -9,7 +9,7 @@ use sj_semantics::Verdict;
 use sj_text::{put, put_number};
 use std::alloc::Global;
 
-/// What is answered, in the order of refusals. Want of memory and a write fault have no text.
+/// What is answered, in the order of refusals. Out of memory and a write fault have no text.
 #[derive(Drop)]
 pub enum Answer {
     /// The words are no command.
@@ -26,8 +26,8 @@ pub enum Answer {
     Check(u8, u32),
     /// The file has no party of the number that is to be played.
     NoParty(u16),
-    /// The log isn't in its grammar: the number of the broken rule, and a line. Rule 1 at line 0 says
-    /// that no line of the source is `%%log` or `%%log2`.
+    /// The log isn't in its grammar: the number of the broken rule, and a line. Rule 1 at line 0
+    /// says that no line of the source is `%%log` or `%%log2`.
     LogFault(u8, u32),
     /// An entry of the log is illegal: what is said of the first one.
     Misfit(Vec<u8>),

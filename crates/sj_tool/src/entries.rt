@@ -11,7 +11,7 @@ use sj_print::print_line;
 use sj_text::{put, put_number};
 use std::alloc::Global;
 
-/// Behind the head the entry's number, the entry itself, and the one that was due in its place.
+/// After the head the entry's number, the entry itself, and the one that was due in its place.
 pub(crate) fn told_entry(
     alloc: Global,
     head: &[u8],

@@ -96,7 +96,8 @@ pub(crate) fn forwarded_file(alloc: Global, file: File) -> Result<Answer, NoMemo
     }
 }
 
-/// How a file ends in which these lines play the party of that number, and what is answered to them.
+/// How a file ends in which these lines play the party of that number, and what is answered to
+/// them.
 pub(crate) fn play(alloc: Global, file: File, party: u16, lines: &[u8]) -> Result<Answer, NoMemory>
     requires { IsWithin limits (file_of file) }
     ensures { IfOk result (λ a. (links : LinkUseAt) (version : ℕ) → AnswersFile links (tasks.Talk party)

@@ -13,7 +13,8 @@ use sj_print::print_name;
 use sj_text::{put, put_number};
 use std::alloc::Global;
 
-/// The line of the file's first request or accept; else the parties that are left, if there are any.
+/// The line of the file's first request or accept; else the parties that are left, if there are
+/// any.
 pub(crate) fn forest_text(alloc: Global, accepted: &Accepted) -> Result<Vec<u8>, NoMemory>
     ensures { IfOk result (λ text. IsForestText (file_of (held accepted.now)) text.items) }
 {

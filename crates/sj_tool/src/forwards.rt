@@ -12,8 +12,8 @@ use sj_semantics::Verdict;
 use sj_text::{put, put_number};
 use std::alloc::Global;
 
-/// How the file ends, its transcript, and how many frames were delivered: the parties run by forwarding,
-/// in rounds, until one has no turn.
+/// How the file ends, its transcript, and how many frames were delivered: the parties run by
+/// forwarding, in rounds, until one has no turn.
 pub(crate) fn forward(alloc: Global, accepted: &Accepted) -> Result<(Verdict, Vec<u8>), NoMemory>
     ensures { IfOk result (λ p. HasForwarded (file_of (file_in accepted.now)) p.0 p.1.items) }
 {

@@ -10,7 +10,8 @@ use sj_end::Line;
 use sj_lang::File;
 use sj_print::{print_line, print_mark};
 
-/// Puts the line of the log's version and then the lines after the text, where the log is asked for.
+/// Puts the line of the log's version and then the lines after the text, where the log is asked
+/// for.
 pub(crate) fn put_log(
     text: &mut Vec<u8>,
     file: &File,

@@ -90,8 +90,9 @@ fn generated_text(alloc: Global, n: u16) -> Result<Vec<u8>, NoMemory>
     Ok(text)
 }
 
-// The answer to the bytes of a task: of a replay the first line `%%log` or `%%log2` parts them into a
-// file and a log, and names the log's version; of a talk the first line `%%talk` into a file and lines.
+// The answer to the bytes of a task. Of a replay the first line `%%log` or `%%log2` splits them
+// into a file and a log, and names the log's version. Of a talk the first line `%%talk` splits them
+// into a file and lines.
 fn answer_to_bytes<R: Threads + Sync, L: Links, G: Gate>(
     rt: &R,
     alloc: Global,
@@ -146,8 +147,8 @@ fn parted_talk(bytes: &[u8]) -> Option<(&[u8], &[u8])>
     }
 }
 
-// The answer to the text of a file, and a log of that version where one is replayed, or lines that play
-// a party.
+// The answer to the text of a file, and a log of that version where one is replayed, or lines that
+// play a party.
 fn answer_to_text<R: Threads + Sync, L: Links, G: Gate>(
     rt: &R,
     alloc: Global,

@@ -8,17 +8,17 @@ ghost use Rattle.sj_tool.specs.Answers.{IsInTable};
 ghost use Rattle.sj_tool.specs.Calls.{CallAt};
 ghost use Rattle.sj_tool.specs.Table.{AreOne, CanRise, IsReadAsAsked, RunsWell, ShowsItsRun};
 
-/// Two answers that come of one call have one status and one text, up to a history that is asked for,
-/// where the source reports its bytes, its count of faults isn't at its last value, and the links, where
-/// parties run, report what they carry and counted no fault.
+/// Two answers that come of one call have one status and one text, up to a history that is asked
+/// for. This holds where the source reports its bytes, and its count of faults isn't at its last
+/// value. The links, where parties run, report what they carry and counted no fault.
 pub fn the_table_gives_one_answer()
     ensures { (c : CallAt) (left : List ℕ) (a b : AnswerAt) → c.left ≡ Some left → CanRise c
         → RunsWell c → IsInTable c a → IsInTable c b → AreOne c a b }
 {}
 
-/// An answer comes of each call that counted no read fault and whose source was read as the words ask.
-/// Over links that hold, the lines of the parties' run have to be there: these links may be any, and so
-/// the premise says that they show some.
+/// An answer comes of each call that counted no read fault and whose source was read as the words
+/// ask. Over links that hold, the lines of the parties' run have to be there: these links may be
+/// any, and so the premise says that they show some.
 pub fn the_table_has_an_answer()
     ensures { (c : CallAt) → c.faults_after ≡ c.faults → IsReadAsAsked c
         → ShowsItsRun c → (a : AnswerAt) × IsInTable c a }

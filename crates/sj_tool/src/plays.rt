@@ -46,8 +46,9 @@ pub(crate) fn simulate(alloc: Global, accepted: &Accepted) -> Result<(Verdict, V
     Ok((plain.verdict(), text))
 }
 
-/// How the file ends, and what the task prints of a history that leaves nothing to do: as the history and the nodes tell
-/// it, or, where sessions were opened, whose names no line tells, as the acts make it in the plain world.
+/// How the file ends, and what the task prints of a history that leaves nothing to do, as the
+/// history and the nodes report it. Where sessions were opened, whose names no line reports, it is
+/// as the acts make it in the plain world.
 pub(crate) fn tell(
     alloc: Global,
     accepted: &Accepted,
@@ -87,7 +88,7 @@ fn tell_acts(
     Ok((plain.verdict(), text))
 }
 
-// The notes of the history tell what was sent and taken, and the nodes how the parties stand.
+// The notes of the history report what was sent and taken, and the nodes how the parties stand.
 fn tell_notes(
     alloc: Global,
     accepted: &Accepted,
@@ -129,7 +130,7 @@ fn text_for(
     }
 }
 
-// What the task prints of the end that those lines tell.
+// What the task prints of the end that those lines report.
 fn noted_text(
     alloc: Global,
     file: &File,
@@ -148,7 +149,7 @@ fn noted_text(
     }
 }
 
-// The transcript as the lines tell it, and after it the history where the log is asked for.
+// The transcript as the lines report it, and after it the history where the log is asked for.
 fn listed_text(
     alloc: Global,
     file: &File,

@@ -59,8 +59,8 @@ impl From<ReplayRefusal> for ReplayFault {
     }
 }
 
-/// How the file ends, and what the task prints of the history that begins with the log of that version, and goes on
-/// with what is drained of it.
+/// How the file ends, and what the task prints of the history that begins with the log of that
+/// version, and goes on with what is drained of it.
 pub(crate) fn replay(
     alloc: Global,
     accepted: &Accepted,

@@ -28,8 +28,8 @@ use std::thread::Threads;
 /// The looks in vain after which a party stops where no word says how many.
 const USUAL_LOOKS: u32 = 1_000;
 
-/// How the file ends, and what the task prints of the history of its parties over those links, and of
-/// what is drained of it.
+/// How the file ends, and what the task prints of the history of its parties over those links, and
+/// of what is drained of it.
 pub(crate) fn run_file<R: Threads + Sync, L: Links, G: Gate>(
     rt: &R,
     alloc: Global,

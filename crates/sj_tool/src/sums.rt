@@ -20,7 +20,7 @@ use sj_told::{Stand, messages_told, verdict_told};
 use std::alloc::Global;
 
 /// The summary of the generated file of that number, as the plain world of it stands. A sum past
-/// 2^64 - 1, or more sessions than have numbers, which no memory could hold, is answered as want of
+/// 2^64 - 1, or more sessions than have numbers, which no memory could hold, is answered as out of
 /// memory.
 pub(crate) fn summary_text(
     alloc: Global,
@@ -39,8 +39,8 @@ pub(crate) fn summary_text(
     Ok(text)
 }
 
-/// The summary of the generated file of that number, as the lines and how the parties stand tell it. A sum past
-/// 2^64 - 1, which no memory could hold, is answered as want of memory.
+/// The summary of the generated file of that number, as the lines and how the parties stand report
+/// it. A sum past 2^64 - 1, which no memory could hold, is answered as out of memory.
 pub(crate) fn sums_text(
     alloc: Global,
     n: u16,

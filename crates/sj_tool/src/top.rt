@@ -32,8 +32,9 @@ const NO_MEMORY: u8 = 11;
 ///
 /// The words are those after the program's name. The text is built whole before any is written.
 ///
-/// `run` runs the parties of a file over the links, each on a thread of its own where the runtime gives
-/// one, and shows each event of theirs to the gate. `run --forward` runs them on the caller's thread.
+/// `run` runs the parties of a file over the links, each on a thread of its own where the runtime
+/// gives one. It shows each event of theirs to the gate. `run --forward` runs them on the caller's
+/// thread.
 #[tactic(auto, using(crate::proofs::HeadlineOfAnswers::no_blocked, crate::proofs::HeadlineOfAnswers::no_headline, crate::proofs::ForwardAnswers::no_forwarded, crate::proofs::OverAnswers::no_run))]
 pub fn sj<R: Threads + Sync, S: Source, K: Sink, L: Links, G: Gate>(
     rt: &R,
@@ -57,13 +58,15 @@ pub fn sj<R: Threads + Sync, S: Source, K: Sink, L: Links, G: Gate>(
         → OrYields result (AnswersAs (call S.Source L.Links words.now src.old src.new links.old links.new)
         result (K.written out.old) (K.written out.new) a)) }
 
-    // What `sim`, `run` and `replay` write with 0, 6 or 7 is the transcript of a run with the headline.
+    // What `sim`, `run` and `replay` write with 0, 6 or 7 is the transcript of a run with the
+    // headline.
     ensures headline { IsVerdict result
         → AsksFor IsPlaying (call S.Source L.Links words.now src.old src.new links.old links.new)
         → HasHeadline (call S.Source L.Links words.now src.old src.new links.old links.new) result
         (K.written out.old) (K.written out.new) }
 
-    // What `run --forward` writes with them is that transcript and the number of deliveries of its drain.
+    // What `run --forward` writes with them is that transcript and the number of deliveries of its
+    // drain.
     ensures forwarded { IsVerdict result
         → AsksFor IsForwarding (call S.Source L.Links words.now src.old src.new links.old links.new)
         → WritesForwarded (call S.Source L.Links words.now src.old src.new links.old links.new) result
@@ -79,15 +82,16 @@ pub fn sj<R: Threads + Sync, S: Source, K: Sink, L: Links, G: Gate>(
         → IsValid (call S.Source L.Links words.now src.old src.new links.old links.new) task file log
         → OrYields result (CompletesSo task file log result (K.written out.old) (K.written out.new)) }
 
-    // A read fault and a link fault come only where a fault was counted, and damage only over links that
-    // don't report.
+    // A read fault and a link fault come only where a fault was counted, and damage only over links
+    // that don't report.
     ensures read_fault { result ≡ status_of ReadFault → Rose (S.faults src.old) (S.faults src.new) }
     ensures link_fault { result ≡ status_of LinkFault → lanes.Rose (L.faults links.old) (L.faults links.new) }
     ensures damaged { (text : List ℕ) → result ≡ status_of (Damaged text) → L.tells links.old ≡ true → ⊥ }
 
-    // What is reported of damage is in what workers left that worked over lanes of these links, which didn't
-    // carry in order and unchanged. The history of `run` and `big` with 0, 6 or 7 begins with the joined logs
-    // of such workers, of which none stopped at a fault, out of memory or as unfit.
+    // What is reported of damage is in what workers left that worked over lanes of these links,
+    // which didn't carry in order and unchanged. The history of `run` and `big` with 0, 6 or 7
+    // begins with the joined logs of such workers. Of these none stopped at a fault, out of memory
+    // or as unfit.
     ensures damage { (text : List ℕ) → result ≡ status_of (Damaged text)
         → WritesDamage L.Out.OutLane L.In.InLane L.joined
         (call S.Source L.Links words.now src.old src.new links.old links.new)
@@ -98,9 +102,9 @@ pub fn sj<R: Threads + Sync, S: Source, K: Sink, L: Links, G: Gate>(
         (call S.Source L.Links words.now src.old src.new links.old links.new) result
         (K.written out.old) (K.written out.new) }
 
-    // An input that is valid for the task, over links that counted no fault, whether they report or not, is
-    // answered as the task asks, or by such damage: so as the task asks where the links carried in order
-    // and unchanged.
+    // An input that is valid for the task, over links that counted no fault, is answered as the
+    // task asks, or by such damage. This holds whether the links report or not. So the answer is as
+    // the task asks where the links carried in order and unchanged.
     ensures in_order { (task : AnyTask) → (file : FileAt) → (log : LogAt)
         → IsValidOver CountNone (call S.Source L.Links words.now src.old src.new links.old links.new) task file log
         → OrYields result (CompletesSo task file log result (K.written out.old) (K.written out.new)
@@ -119,7 +123,7 @@ pub fn sj<R: Threads + Sync, S: Source, K: Sink, L: Links, G: Gate>(
     // A write fault comes only where one was counted.
     ensures write_fault { result ≡ write_fault_status → Rose (K.faults out.old) (K.faults out.new) }
 
-    // A front of the answer's text was written where the sink failed, and nothing without memory.
+    // A prefix of the answer's text was written where the sink failed, and nothing without memory.
     ensures front { result ≡ write_fault_status
         → WroteFront (call S.Source L.Links words.now src.old src.new links.old links.new)
         (K.written out.old) (K.written out.new) }

@@ -19,7 +19,7 @@ use Rattle.sj_wire.proofs.FieldLemmas.{end_id_again}
 use Rattle.sj_wire.proofs.BodyLemmas.{body_again}
 use Rattle.sj_wire.proofs.LengthLemmas.{length-inside}
 
--- the text of a frame behind its kind
+-- the text of a frame after its kind
 abbrev pub fields : {P : Type 0} → FrameAt P → List ℕ
 fields f = number 8 f.clock ++ (end_id (end_in f.body) ++ body f.body)
 

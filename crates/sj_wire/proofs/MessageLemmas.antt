@@ -22,7 +22,7 @@ use Rattle.sj_wire.proofs.FieldLemmas.{made_some, flag_takes, flag_again, end_id
 signed_fits : (z : _) → FitsSigned w64 z → cast_unsigned w64 z < 256 ^ 8
 signed_fits z fits = (Fits-of_z fits).fits
 
--- a tag, and what stands behind it
+-- a tag, and what stands after it
 tag_again : (tag : ℕ) (text rest : List ℕ) → tag ≤ 5 → message_at ((number 1 tag ++ text) ++ rest) ≡ value_at tag (text ++ rest)
 unfolding message_at
 tag_again tag text rest le = ap message_at (append_assoc (number 1 tag) text rest) ∙ rw (number_again 1 tag (text ++ rest) (omega arith)) refl
@@ -60,7 +60,7 @@ sess_takes {bytes} {x} fits e =
     let is = some_is b.2 in
     (a.0.0, b.0.0, ap (λ (y : Msg × List ℕ). y.0) (sym is), subst (λ (y : Msg × List ℕ). Takes bytes (end_id a.0.0 ++ number 2 b.0.0) y.1) is (then_takes ta.0 tb.0), ta.1, ta.2, omega (arith, tb.1))
 
--- the text behind the tag of a message that was read
+-- the text after the tag of a message that was read
 record TakesValue (tag : ℕ) (bytes : List ℕ) (x : Msg × List ℕ) : Type 0 where
   text : List ℕ
   took : Takes bytes text x.1

@@ -1,4 +1,4 @@
--- What stands at the front stays there, whatever comes behind it.
+-- What stands at the start stays there, whatever comes after it.
 use Rattle.std.proofs.Common.{◌≡◌, ℕ, ◌≤◌, Bool, true, false, ◌||◌, cond, ltb, eqb, List, ◌++◌, length, take, drop, slice_index, Option, Some, None, refl, sym, ap, ◌∙◌, append_assoc, arith}
 use Rattle.std.proofs.lemmas.Bool.{ltb-false, le-ltb}
 use Rattle.std.proofs.lemmas.List.{drop-append-le, take-append-le, length-append}
@@ -24,7 +24,7 @@ whole_stays bytes more {f} {r} fits is =
     let t = front_takes fits is in
     ap (λ (b : List ℕ). front_of (b ++ more)) t.0 ∙ ap front_of (append_assoc (spelling f) r more) ∙ front_again f (r ++ more) t.1.spelt ∙ ap (λ (g : FrameAt Spot). Whole g (r ++ more)) t.1.same
 
--- the spelling of a frame is the front of no other
+-- the spelling of a frame is a prefix of no other
 pub prefix_free : {P Q : Type 0} (f : FrameAt P) (g : FrameAt Q) (x y : List ℕ) → IsSpelt f → IsSpelt g → spelling f ++ x ≡ spelling g ++ y → (on_wire f ≡ on_wire g) × (x ≡ y)
 prefix_free f g x y lf lg same =
     let both : Whole (on_wire f) x ≡ Whole (on_wire g) y = sym (front_again f x lf) ∙ ap front_of same ∙ front_again g y lg in

@@ -1,4 +1,4 @@
--- What stands at the front of bytes, by the order of refusals.
+-- What stands at the start of bytes, by the order of refusals.
 use Rattle.std.specs.Prelude.{ℕ, ◌||◌, ◌==◌, if◌then◌else◌, nat_lt, List, length, take, drop, slice_index, Option, Some, None}
 use Rattle.byteorder.specs.Endian.{big_number}
 use Rattle.sj_rules.specs.Frames.{FrameAt}
@@ -10,7 +10,7 @@ use Rattle.sj_wire.specs.declared.kind.Kind.{Kind}
 use Rattle.sj_wire.specs.declared.refusal.WireRefusal.{WireRefusal}
 use Rattle.sj_wire.specs.declared.refusal.WireRefusal.TheVariants as refusals
 
--- less than a whole frame, no frame, or a frame and the bytes behind it
+-- less than a whole frame, no frame, or a frame and the bytes after it
 pub data Front : Type 0 where
   Cut : Front
   Refused : WireRefusal → Front

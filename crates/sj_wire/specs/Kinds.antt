@@ -44,7 +44,7 @@ abbrev pub of_version : (v : ℕ) → Option Kind → Option Kind
 of_version v None = None
 of_version v (Some k) = if version_of k == v then Some k else None
 
--- the kind of a byte behind that version
+-- the kind of a byte after that version
 abbrev pub kind_in : (v b : ℕ) → Option Kind
 kind_in v b = of_version v (kind_named b)
 

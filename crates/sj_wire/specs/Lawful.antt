@@ -19,7 +19,8 @@ HasSide (msgs.Label l) = ⊤
 HasSide (msgs.More b) = ⊤
 HasSide (msgs.Sess sess side keeper) = side ≤ 1
 
--- the numbers of a body are within their limits, and a cache goes again from its base on or a later number
+-- the numbers of a body are within their limits, and a cache goes again from its
+-- base on or a later number
 abbrev pub IsWithin : {P : Type 0} → BodyAt P → Type 0
 IsWithin (Carry e conn n taken msg) = (conn ≤ limit_of_conns) × (n ≤ limit_of_messages) × (taken ≤ limit_of_messages) × HasSide msg
 IsWithin (Fin e conn n) = (conn ≤ limit_of_conns) × (n ≤ limit_of_messages)

@@ -1,4 +1,5 @@
--- The fields of frames, read from the front of bytes. `Spelling` has the same lines from values to bytes.
+-- The fields of frames, read from the start of bytes. `Spelling` has the same
+-- lines from values to bytes.
 use Rattle.std.specs.Prelude.{ℕ, zero, suc, ◌-◌, min, Bool, ◌==◌, if◌then◌else◌, nat_lt, List, [], ◌∷◌, length, drop, Option, Some, None}
 use Rattle.std.specs.Int.{w64, cast_signed}
 use Rattle.byteorder.specs.Endian.{big_number}
@@ -18,7 +19,7 @@ abbrev pub ◌>>=◌ : {A B : Type 0} → Option A → (A → Option B) → Opti
 (Some x) >>= f = f x
 None >>= f = None
 
--- a field is a value and the bytes behind it, or none where the bytes are no such field
+-- a field is a value and the bytes after it, or none where the bytes are no such field
 abbrev pub Field : Type 0 → Type 0
 Field A = Option (A × List ℕ)
 
@@ -152,7 +153,7 @@ body_at kinds.Ack e bytes = ack_at e bytes
 body_at kinds.Give e bytes = give_at e bytes
 body_at kinds.Open e bytes = open_at e bytes
 
--- what stands behind the kind of a frame, all of it
+-- what stands after the kind of a frame, all of it
 unfoldable pub frame_at : Kind → List ℕ → Option (FrameAt Spot)
 frame_at kind bytes = do
   clock ← limited_at 8 last_clock bytes

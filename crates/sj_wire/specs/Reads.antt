@@ -6,7 +6,7 @@ use Rattle.sj_wire.specs.Front.{Front, Cut, Refused, Whole, front_of}
 use Rattle.sj_wire.specs.declared.refusal.WireRefusal.{WireRefusal}
 use Rattle.sj_wire.specs.declared.refusal.WireRefusal.TheVariants as refusals
 
--- it is no field; want of memory alone says nothing
+-- it is no field; out of memory alone says nothing
 abbrev pub Fails : {A : Type 0} → WireRefusal → Option A → Type 0
 Fails refusals.NoMemory read = ⊤
 Fails refusals.Value read = read ≡ None
@@ -19,7 +19,7 @@ abbrev pub Reads : {X A : Type 0} → (X → A) → Result X WireRefusal → Opt
 Reads view (Ok x) read = read ≡ Some (view x)
 Reads view (Err e) read = Fails e read
 
--- the front of the bytes is refused so; want of memory alone says nothing
+-- the start of the bytes is refused so; out of memory alone says nothing
 abbrev pub IsRefused : WireRefusal → Front → Type 0
 IsRefused refusals.NoMemory front = ⊤
 IsRefused refusals.Value front = front ≡ Refused refusals.Value
@@ -27,7 +27,7 @@ IsRefused refusals.Length front = front ≡ Refused refusals.Length
 IsRefused refusals.Version front = front ≡ Refused refusals.Version
 IsRefused refusals.Kind front = front ≡ Refused refusals.Kind
 
--- the answer is the frame at the front, with those bytes behind it, or the refusal
+-- the answer is the frame at the start, with those bytes after it, or the refusal
 abbrev pub MeetsWhole : Result Frame WireRefusal → Front → (behind : List ℕ) → Type 0
 MeetsWhole (Ok f) front behind = front ≡ Whole (frame_at f) behind
 MeetsWhole (Err e) front behind = IsRefused e front
@@ -38,7 +38,8 @@ MeetsSized (Ok None) front behind = front ≡ Cut
 MeetsSized (Ok (Some f)) front behind = front ≡ Whole (frame_at f) behind
 MeetsSized (Err e) front behind = IsRefused e front
 
--- the answer is the frame at the front of the bytes with its length, none where they are cut, or the refusal
+-- the answer is the frame at the start of the bytes with its length, none where
+-- they are cut, or the refusal
 abbrev pub MeetsFront : Result (Option (Frame × ℕ)) WireRefusal → List ℕ → Type 0
 MeetsFront (Ok None) bytes = front_of bytes ≡ Cut
 MeetsFront (Ok (Some x)) bytes = (x.1 ≤ length bytes) × (front_of bytes ≡ Whole (frame_at x.0) (drop x.1 bytes))

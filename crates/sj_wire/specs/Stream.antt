@@ -19,13 +19,13 @@ fed_in [] = []
 fed_in (Feed piece ∷ calls) = piece ++ fed_in calls
 fed_in (Next ∷ calls) = fed_in calls
 
--- the frame at the front, if any, and what the other calls answer behind it
+-- the frame at the start, if any, and what the other calls answer after it
 abbrev pub answered : (List ℕ → List (FrameAt Spot) × List ℕ) → Front → (unused : List ℕ) → List (FrameAt Spot) × List ℕ
 answered others Cut unused = others unused
 answered others (Refused w) unused = others unused
 answered others (Whole f behind) unused = (f ∷ (others behind).0, (others behind).1)
 
--- the frames that the calls answer, and what is unused behind them
+-- the frames that the calls answer, and what is unused after them
 unfoldable pub decoded : List Call → (unused : List ℕ) → List (FrameAt Spot) × List ℕ
 decoded [] unused = ([], unused)
 decoded (Feed piece ∷ calls) unused = decoded calls (unused ++ piece)

@@ -1,4 +1,4 @@
-//! Bodies, read from the front of bytes.
+//! Bodies, read from the start of bytes.
 ghost use Rattle.std.specs.Prelude.{◌-◌};
 ghost use Rattle.sj_end.specs.Bodies as bodies;
 ghost use Rattle.sj_wire.specs.Reading.{ack_at, body_at, carry_at, fin_at, give_at, open_at, resend_at, signal_at};

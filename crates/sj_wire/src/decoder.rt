@@ -62,8 +62,8 @@ impl Decoder {
         }
     }
 
-    /// The next frame. `None` is less than a frame, and each refusal leaves all as it was: what is no
-    /// frame stays so.
+    /// The next frame. `None` is less than a frame, and each refusal leaves all as it was:
+    /// what is no frame stays so.
     pub fn next(&mut self) -> Result<Option<Frame>, WireRefusal>
         ensures frame { IfOk result (λ x. IfSome x (λ f. front_of self.old ≡ Whole (frame_at f) self.new)) }
         ensures none { IfOk result (λ x. IfNone x ((front_of self.old ≡ Cut) × (self.new ≡ self.old))) }

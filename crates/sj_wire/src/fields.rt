@@ -1,4 +1,4 @@
-//! The fields of frames, read from the front of bytes.
+//! The fields of frames, read from the start of bytes.
 ghost use Rattle.std.specs.Prelude.{◌≤◌, IfOk};
 ghost use Rattle.sj_wire.specs.Reading.{number_at, limited_at, flag_at, end_id_at};
 ghost use Rattle.sj_wire.specs.Reads.{Reads};

@@ -1,4 +1,4 @@
-//! What stands at the front of bytes.
+//! What stands at the start of bytes.
 ghost use Rattle.std.specs.Prelude.{◌≤◌, length, take, drop, IfOk, IfSome};
 ghost use Rattle.sj_end.specs.Views.{frame_at};
 ghost use Rattle.sj_wire.specs.Front.{front_of, sized_of, whole_of};
@@ -65,7 +65,7 @@ fn read_sized(alloc: Global, size: u32, bytes: &[u8]) -> Result<Option<Frame>, W
     }
 }
 
-/// The frame at the front of the bytes, and how many bytes it takes. None is less than a frame.
+/// The frame at the start of the bytes, and how many bytes it takes. None is less than a frame.
 #[tactic(auto, unfolding(crate::specs::Front::front_of))]
 pub(crate) fn front(alloc: Global, bytes: &[u8]) -> Result<Option<(Frame, usize)>, WireRefusal>
     ensures { MeetsFront result bytes.now }

@@ -87,7 +87,8 @@ fn is_within(body: &Body) -> bool
     }
 }
 
-/// Whether the frame keeps the limits of the wire, as `encode` asks. Takes time linear in its cache.
+/// Whether the frame keeps the limits of the wire, as `encode` asks. Takes
+/// time linear in its cache.
 pub fn is_lawful(frame: &Frame) -> bool
     ensures { IsTrue result ↔ IsLawful (frame_at frame.now) }
 {

@@ -28,7 +28,8 @@ pub fn what_is_read_is_spelt_so()
         (bytes ≡ spelling f ++ behind) × IsSpelt f × (on_wire f ≡ f) }
 {}
 
-/// Where two spellings begin the same bytes, the frames are one, place aside, and so is what follows.
+/// Where two spellings begin the same bytes, the frames are one, place
+/// aside, and so is what follows.
 pub fn no_spelling_begins_another()
     ensures { (f g : FrameAt Spot) (x y : List ℕ) → IsSpelt f → IsSpelt g →
         spelling f ++ x ≡ spelling g ++ y → (on_wire f ≡ on_wire g) × (x ≡ y) }

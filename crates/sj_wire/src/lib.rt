@@ -1,4 +1,5 @@
-//! Frames as bytes: how they are spelt, and how a stream of bytes is read, in whatever pieces it comes.
+//! Frames as bytes: how they are spelt, and how a stream of bytes is read, in
+//! whatever pieces it comes.
 #![tactic(auto)]
 
 mod bodies;

@@ -1,4 +1,4 @@
-//! Messages, read from the front of bytes.
+//! Messages, read from the start of bytes.
 ghost use Rattle.std.specs.Prelude.{◌≡◌, length, IfOk};
 ghost use Rattle.sj_wire.specs.Reading.{message_at, messages_at, sess_at, value_at};
 ghost use Rattle.sj_wire.specs.Reads.{Reads};

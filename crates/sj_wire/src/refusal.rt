@@ -25,8 +25,8 @@ impl From<AllocError> for EncodeRefusal {
     }
 }
 
-/// Why what stands at the front of the bytes isn't read. Where it is no frame, it stays so whatever
-/// comes after it.
+/// Why what stands at the start of the bytes isn't read. Where it is no frame, it stays so
+/// whatever comes after it.
 #[derive(Clone, Copy, Debug, PartialEq, Eq, Error)]
 pub enum WireRefusal {
     /// No frame has that length.

@@ -14,7 +14,7 @@ use Rattle.sj_work.proofs.CountLemmas.{on_later, rose_more, rose_then, then_rose
 use Rattle.sj_work.proofs.LaneLaws.{CauseBy, LaneLaws, WentBy}
 
 module _ {O I : Type 0} (k : LaneLaws O I) where
-  -- behind work, counts of lanes from parties that rose, rose
+  -- after work, counts of lanes from parties that rose, rose
   pub ins_later : (n : ℕ) (a b c : Worker O I) → WentBy k None a b → InVain k.inward.vain n b c → InVain k.inward.vain n a c
   ins_later n a b c went v = λ q lt. on_later k.inward.vain Stood (RoseBy n) (RoseBy n) (then_rose n) (in_of a q) (in_of b q) (in_of c q) (went.vain_in q) (v q lt)
 

@@ -1,4 +1,4 @@
--- Counts that rose or stood, one call behind the other.
+-- Counts that rose or stood, one call after the other.
 use Rattle.std.proofs.Common.{zero, suc, ◌≡◌, ℕ, ◌+◌, ◌≤◌, min, List, [], ◌∷◌, length, Option, Some, None, Result, Ok, Err, refl, sym, arith, subst}
 use Rattle.std.specs.Prelude.{slice_get}
 use Rattle.std.proofs.Math.ListN.{set}
@@ -83,7 +83,7 @@ module _ {L : Type 0} (count : L → ℕ) where
   on_itself R itself None = tt
   on_itself R itself (Some x) = itself (count x)
 
-  -- one call behind the other
+  -- one call after the other
   pub on_later : (R S T : ℕ → ℕ → Type 0) → ((x y z : ℕ) → R x y → S y z → T x z) → (a b c : Option L) → OnLane count R a b → OnLane count S b c → OnLane count T a c
   on_later R S T later None None None p q = tt
   on_later R S T later None None (Some z) p q = absurd q

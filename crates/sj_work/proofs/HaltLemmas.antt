@@ -92,7 +92,7 @@ stop_seen n = stop_with (place_in n.table) n.requests (offers_of n) (mains_in n.
 pub stop_same : (a b : Node) → node_at b ≡ node_at a → stop_of b ≡ stop_of a
 stop_same a b same = sym (stop_seen b) ∙ ap held_at_node same ∙ stop_seen a
 
--- a party goes on or is halted, and want of memory holds none up
+-- a party goes on or is halted, and none is held up because it is out of memory
 if_halted : (b : Bool) (h : Halt) (o : Option Halt) → IsHalted (Some h) → (o ≡ None) ⊎ IsHalted o → ((if b then Some h else o) ≡ None) ⊎ IsHalted (if b then Some h else o)
 if_halted true h o halted rest = inr halted
 if_halted false h o halted rest = rest
@@ -171,7 +171,7 @@ free_of n h ended limit waits unfit = go (goes_or_halts n)
     go (inl none) = none
     go (inr halted) = by (stop_of n) refl halted
 
--- where the worker goes on behind a refused act, the party is halted
+-- where the worker goes on after a refused act, the party is halted
 pub halted_by : (a b : Node) (h : Halt) (r : Option Outcome) → node_at b ≡ node_at a → (Refused h halts.Ended → stop_of a ≡ Some halts.Ended) → (Refused h halts.AtLimit → stop_of a ≡ Some halts.AtLimit)
     → (Refused h halts.Waits → stop_of a ≡ Some halts.Waits) → SaysHalt b h r → stop_in r ≡ None → IsHalted (stop_of b)
 halted_by a b h r same ended limit waits says none = by h says ended limit waits

@@ -1,4 +1,4 @@
--- What the lanes of a worker tell and count, and that a lane stays the same lane.
+-- What the lanes of a worker report and count, and that a lane stays the same lane.
 use Rattle.std.proofs.Common.{◌≡◌, ℕ, ◌≤◌, List, Option}
 use Rattle.sj_lang.specs.Place.{Place}
 use Rattle.sj_rules.specs.Frames.{FrameAt}

@@ -64,7 +64,7 @@ module _ {O I : Type 0} (k : LaneLaws O I) where
       each q lt (inr not) = λ waits.
           on_later k.outward.vain (RoseBy 1) Stood (RoseBy 1) (rose_then 1) (out_of init q) (out_of now q) (out_of later q) (p.tried q (below q to lt not) (r.boxes q waits)) (after.vain_out q)
 
-  -- all parties were tried, where nothing waits for those behind
+  -- all parties were tried, where nothing waits for those after them
   pub all_tried : (init now : Worker O I) (next targets : ℕ) → Pushed init now next → targets ≤ next
       → ((q : ℕ) → targets ≤ q → q < parties_of init.node → waiting_in (outs_of init.node) q ≡ []) → OutVain k.outward.vain 1 init now
   all_tried init now next targets p all none q lt = each (cases_lt q targets)

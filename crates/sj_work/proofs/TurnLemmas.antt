@@ -1,4 +1,4 @@
--- Pieces of a turn: each way in which one ends, and one behind the other.
+-- Pieces of a turn: each way in which one ends, and one after the other.
 use Rattle.std.proofs.Common.{rules, ◌≡◌, ℕ, ◌<◌, ◌≤◌, max, List, [], ◌∷◌, if◌then◌else◌, Option, Some, None, Err, inl, inr, refl, ap, sym, ◌∙◌, subst}
 use Rattle.std.specs.Prelude.{IsSome, slice_get}
 use Rattle.std.proofs.Math.ListN.{set}
@@ -49,7 +49,7 @@ act_same a b s = λ i. if has_room (s.node i).main (next_want (s.node i).program
 delivery_same : (a b : Node) (from : ℕ) (f : Frame) → Stays a b → delivery b from (frame_at f) ≡ delivery a from (frame_at f)
 delivery_same a b from f s = λ i. if is_proper (s.parties i) (frame_at f) then comes_or_opens done max (s.node i) from (body_with (place_in (s.table i)) (frame_at f).body) else None
 
--- what the rules make of a frame is what they make of it as a lane tells it
+-- what the rules make of a frame is what they make of it as a lane reports it
 arrives_told : (n : Node) (from : ℕ) (f : Frame) → arrives done (parties_of n) max (node_at n) from (told_frame f) ≡ delivery n from (frame_at f)
 arrives_told n from f =
     same_arrives done (parties_of n) max done (node_at n) from (told_frame f) (frame_with (place_in n.table) (frame_at f))
@@ -91,7 +91,7 @@ module _ {O I : Type 0} (k : LaneLaws O I) where
       same : (s : Stop) → Some s ≡ Some stops.Finished → s ≡ stops.Finished
       same s h = cc
 
-  -- behind an event or a push it is seen whether the node is finished
+  -- after an event or a push it is seen whether the node is finished
   pub turned_seen : (a b : Worker O I) (r : Option Outcome) → b.answer ≡ r → SeesFinished b.node r → WentBy k None a b → (looks : ℕ) → TurnedBy k looks a b
   turned_seen a b None is sees went = turned_on a b went (ap stop_in is) sees
   turned_seen a b (Some answers.Finished) is sees went = λ looks. record {
@@ -123,7 +123,7 @@ module _ {O I : Type 0} (k : LaneLaws O I) where
   pub going : (looks : ℕ) (a b : Worker O I) → TurnedBy k looks a b → stop_of b ≡ None → IsGoing b
   going looks a b t none = record { stop = none; open_yet = λ f. not_none stops.Finished (sym none ∙ t.finished.1 f) }
 
-  -- a piece behind work
+  -- a piece after work
   pub turned_behind : (looks : ℕ) (a b c : Worker O I) → WentBy k None a b → TurnedBy k looks b c → TurnedBy k looks a c
   turned_behind looks a b c went t = record {
     lost = t.lost;

@@ -29,7 +29,7 @@ limit_of (Some halts.NoMemory) halted not = absurd halted
 limit_of (Some halts.Unfit) halted not = absurd halted
 limit_of None halted not = absurd halted
 
--- a party that is idle behind turns in vain was so before
+-- a party that is idle after turns in vain was so before
 pub idle_before : (a b : Node) → HasNoEvent a b → IsIdle (nodes.stop_of b) → IsIdle (nodes.stop_of a)
 idle_before a b rests idle = subst (λ (o : Option Halt). IsIdle o) (stop_same a b rests.node) idle
 

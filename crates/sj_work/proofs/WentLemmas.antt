@@ -44,7 +44,7 @@ not_both x y lt le = absurd (omega arith)
 apart : (from q n : ℕ) → from < n → n ≤ q → q ≡ from → ⊥
 apart from q n lt le is = absurd (omega arith)
 
--- an outbox as lanes tell it
+-- an outbox as lanes report it
 abbrev box_of : {O I : Type 0} → Worker O I → ℕ → List (FrameAt Place)
 box_of w q = told_frames done (outbox_of w.node q)
 

@@ -31,8 +31,8 @@ SeesFinished n (Some answers.NoMemory) = ⊥
 SeesFinished n (Some answers.Fault) = ⊥
 SeesFinished n (Some (answers.Unfit line)) = ⊥
 
--- the answer to an act that a node refused: a party that is halted doesn't stop its worker, and where the rules have no act, the
--- line is that of the entry that is due
+-- the answer to an act that a node refused. A party that is halted doesn't stop its worker. Where
+-- the rules have no act, the line is that of the entry that is due
 abbrev pub SaysHalt : Node → Halt → Option Outcome → Type 0
 SaysHalt n halts.Waits answer = answer ≡ None
 SaysHalt n halts.Ended answer = answer ≡ None

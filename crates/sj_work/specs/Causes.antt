@@ -44,8 +44,9 @@ own_line n entry = record { party = party_of n; entry = entry }
 abbrev pub lost_line : Node → LostAt Place → Line
 lost_line n l = own_line n (record { clock = max (clock_of n) (min l.frame.clock clock_end) + 1; event = events.Deliver l.party; note = note_at l.frame.body })
 
--- the frame that was lost came from a party of the file and fits no row of the rules; or none was lost, nothing holds the party up,
--- and the rules have no act. The line is that of the delivery, or of the entry that is due
+-- the frame that was lost came from a party of the file and fits no row of the rules. Or none was
+-- lost, nothing holds the party up, and the rules have no act. The line is that of the delivery, or
+-- of the entry that is due
 abbrev pub IsUnfit : Option (LostAt Place) → Node → Option Line → Type 0
 IsUnfit (Some l) n line =
     (l.party < parties_of n) × (arrives done (parties_of n) max (node_at n) l.party l.frame ≡ None) × (line ≡ Some (lost_line n l))
@@ -83,7 +84,7 @@ module _ {O I : Type 0} where
   MetFault out_faults in_faults old new = SomeRose out_faults (out_of old) (out_of new) ⊎ SomeRose in_faults (in_of old) (in_of new)
 
 module _ {O I : Type 0} (outward : OutLane O) (inward : InLane I) where
-  -- the cause of each answer; want of memory alone is free
+  -- the cause of each answer; out of memory alone is free
   abbrev pub Cause : Option Stop → (looks : ℕ) → Option (LostAt Place) → (old new : Worker O I) → Type 0
   Cause None looks lost old new = ⊤
   Cause (Some stops.Finished) looks lost old new = IsFinished (node_of new)

@@ -1,4 +1,5 @@
--- A worker as the rules see it: its node, its log, its outboxes as lanes tell them, and its lanes.
+-- A worker as the rules see it: its node, its log, its outboxes as lanes report them, and its
+-- lanes.
 use Rattle.std.specs.Prelude.{List, map}
 use Rattle.sj_lang.specs.Place.{Place, done}
 use Rattle.sj_semantics.specs.Program.{Program}

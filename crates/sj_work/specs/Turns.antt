@@ -15,7 +15,7 @@ use Rattle.sj_work.specs.Counts.{OnLane, RoseBy}
 use Rattle.sj_work.specs.Views.{node_of, out_of, stop_of}
 use Rattle.sj_work.specs.Worked.{Turned}
 
--- the party can't act, for no want of memory
+-- the party can't act, and not because it is out of memory
 abbrev pub IsHalted : Option Halt → Type 0
 IsHalted (Some halts.Ended) = ⊤
 IsHalted (Some halts.Waits) = ⊤

@@ -1,4 +1,5 @@
--- What is seen of a worker: its node, its lanes, its last answer, and how many turns in a row had no event.
+-- What is seen of a worker: its node, its lanes, its last answer, and how many turns in a row had
+-- no event.
 use Rattle.std.specs.Prelude.{ℕ, slice_get, Option, Some, None}
 use Rattle.sj_end.specs.declared.note.Line.{Line}
 use Rattle.sj_lane.specs.declared.lane.Lanes.{Lanes}

@@ -23,9 +23,10 @@ kept_stop (Some stops.Unfit) = Some stops.Unfit
 kept_stop _ = None
 
 module _ {O I : Type 0} (outward : OutLane O) (inward : InLane I) where
-  -- the worker went by steps of the rules, which its log has, and by the frames that its lanes tell; its party plays the same
-  -- part over the same table, its clock didn't fall, and no count of a lane did; lanes from no party of the file stay as they are, and where the
-  -- clock stands at its end, so do all lanes from parties
+  -- the worker went by steps of the rules, which its log has, and by the frames that its lanes
+  -- report. Its party plays the same part over the same table, its clock didn't fall, and no count
+  -- of a lane did. Lanes from no party of the file stay as they are. Where the clock stands at its
+  -- end, so do all lanes from parties
   pub record Went (lost : Option (LostAt Place)) (old new : Worker O I) : Type 0 where
     pub work : LaneWork outward.pushed outward.same inward.popped inward.same (play_here (node_of old)) max done (party_of (node_of old)) (laned old) (laned new) lost
     pub play : play_here (node_of new) ≡ play_here (node_of old)
@@ -41,8 +42,8 @@ module _ {O I : Type 0} (outward : OutLane O) (inward : InLane I) where
     pub beyond : (q : ℕ) → parties_of (node_of old) ≤ q → in_of new q ≡ in_of old q
     pub at_end : clock_end ≤ clock_of (node_of old) → (q : ℕ) → in_of new q ≡ in_of old q
 
-  -- so it went, and its stop, if it has one, has its cause: it has finished exactly where that is the stop, and a frame
-  -- is lost only with a stop that says so
+  -- so it went, and its stop, if it has one, has its cause. It has finished exactly where that is
+  -- the stop, and a frame is lost only with a stop that says so
   pub record Turned (looks : ℕ) (old new : Worker O I) : Type 0 where
     pub lost : Option (LostAt Place)
     pub went : Went lost old new

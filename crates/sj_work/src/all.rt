@@ -17,8 +17,8 @@ pub fn work_all<R: Threads + Sync, O: OutLane, I: InLane, G: Gate>(
     gate: &G,
 )
     ensures length { length workers.new ≡ length workers.old }
-    ensures each { (i : ℕ) (old new : _) → slice_get workers.old i ≡ Some old → slice_get workers.new i ≡ Some new →
-        Worked O.OutLane I.InLane looks old new }
+    ensures each { (i : ℕ) (old new : _) → slice_get workers.old i ≡ Some old →
+        slice_get workers.new i ≡ Some new → Worked O.OutLane I.InLane looks old new }
 {
     work_each(rt, workers, looks, gate);
 }
@@ -30,7 +30,8 @@ fn work_each<R: Threads + Sync, O: OutLane, I: InLane, G: Gate>(
     gate: &G,
 )
     ensures { (i : ℕ) (d : _) → i < length workers.old →
-        Worked O.OutLane I.InLane looks (slice_index_or workers.old i d) (slice_index_or workers.new i d) }
+        Worked O.OutLane I.InLane looks (slice_index_or workers.old i d)
+        (slice_index_or workers.new i d) }
 {
     node_crosses();
     let threads = workers.len().max(1);

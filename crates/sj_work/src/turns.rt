@@ -34,9 +34,9 @@ fn turn<O: OutLane, I: InLane, G: Gate>(worker: &mut Worker<O, I>, gate: &G) -> 
     act_on(worker, gate) || came
 }
 
-/// Turns until one has an event or the worker stops. Where turns have none the party stays idle,
-/// or at its limit, and the worker stops so after as many turns as there are looks; idle without
-/// any, where that is none.
+/// Turns until one has an event or the worker stops. Where turns have none the party stays idle, or
+/// at its limit. The worker stops so after as many turns as there are looks. With no looks an idle
+/// party's worker stops as idle without any turn.
 fn until_event<O: OutLane, I: InLane, G: Gate>(worker: &mut Worker<O, I>, looks: u32, gate: &G)
     requires { IsGoing worker.old }
     ensures turned { Turned O.OutLane I.InLane looks worker.old worker.new }
@@ -74,8 +74,8 @@ fn go<O: OutLane, I: InLane, G: Gate>(worker: &mut Worker<O, I>, looks: u32, gat
     worker.answer = Some(Outcome::ClockEnd);
 }
 
-/// Turns until the worker stops. A worker that stopped for want of memory, at a fault or at what
-/// doesn't fit does nothing and answers it again, since a frame may be lost.
+/// Turns until the worker stops. A worker that stopped out of memory, at a fault or at what doesn't
+/// fit does nothing and answers it again, since a frame may be lost.
 pub fn work<O: OutLane, I: InLane, G: Gate>(worker: &mut Worker<O, I>, looks: u32, gate: &G) -> Stop
     ensures worked { Worked O.OutLane I.InLane looks worker.old worker.new }
     ensures stop { stop_of worker.new ≡ Some result }

@@ -1,4 +1,5 @@
--- The session laws of the acts and of the Claim, from the lemmas of sends, takes, closes and delegations.
+-- The session laws of the acts and of the Claim, from the lemmas of sends, takes, closes and
+-- delegations.
 use Rattle.std.proofs.Common.{◌≡◌, ℕ, ◌<◌, ◌≤◌, List, [], ◌++◌, length, refl, ap, subst, ◌∙◌, inl, inr}
 use Rattle.std.specs.Prelude.{Bool, true, false, ◌⊎◌}
 use Rattle.sj_base.specs.declared.EndId.{EndId}

@@ -1,4 +1,5 @@
--- An act on one end, at the world's level: what the world then shows of its session, and of all others.
+-- An act on one end, at the world's level: what the world then shows of its session, and of all
+-- others.
 use Rattle.std.proofs.Common.{◌≡◌, ℕ, ◌+◌, ◌<◌, List, [], ◌∷◌, refl, subst, ◌∙◌, append-nil, arith}
 use Rattle.std.specs.Prelude.{false, ◌&&◌, ◌==◌, if◌then◌else◌, Option, Some, None}
 use Rattle.std.specs.List.{filter}

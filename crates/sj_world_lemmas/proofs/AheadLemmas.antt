@@ -1,4 +1,4 @@
--- An end that is behind comes level: by an Ack, or by the second of two Signals that cross.
+-- An end that lags comes level: by an Ack, or by the second of two Signals that cross.
 use Rattle.std.proofs.Common.{◌≡◌, ℕ, suc, ◌+◌, ◌<◌, ◌≤◌, List, [], ◌∷◌, ◌++◌, length, refl, sym, ap, arith, ◌∙◌, inl, append-nil}
 use Rattle.std.specs.Prelude.{Bool, true, false, Option, Some, None, ◌==◌, nat_lt}
 use Rattle.std.proofs.lemmas.Bool.{le-leb, eq-eqb}
@@ -39,7 +39,8 @@ only_ack to conn over d c rest l = ack_in to conn over d c rest l.dropped l.spli
 none_dropped : {P : Type 0} → (to : EndId) (conn : ℕ) (over : Bool) (frames : List (BodyAt P)) → frames ≡ [] → ComesLoose to conn over [] frames
 none_dropped to conn over frames e = record { dropped = []; split = e; are = tt }
 
--- r goes to its new party: `went` is its end under the next number, told from `told` on
+-- r goes to its new party: `went` is its end under the next number, with reported counts from
+-- `told` on
 module _ {P : Type 0} (IsOver : P → Type 0) (x y : PlainSide P) (sid rid : EndId) (b u : ℕ) (er went : EndAt P) (dr : List (BodyAt P))
     (next : went.conn ≡ er.conn + 1) where
   level_numbers : (resend : Option ℕ) (s : Seat P) → NumbersFit (ahead by_signal) s (signalled b u er dr) → went.peer ≡ sender_of s →

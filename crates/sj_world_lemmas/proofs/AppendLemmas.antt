@@ -1,4 +1,4 @@
--- A frame more behind what comes to an end; and at which paces an end stands that isn't Signalled.
+-- A frame more after what comes to an end; and at which paces an end stands that isn't Signalled.
 use Rattle.std.proofs.Common.{◌≡◌, ℕ, ◌+◌, List, [], ◌∷◌, ◌++◌, length, refl, sym, ap, append_assoc, arith, ◌∙◌, inl, inr, append-nil}
 use Rattle.std.specs.Prelude.{Bool, true, false, ⊤, ◌⊎◌}
 use Rattle.sj_base.specs.declared.EndId.{EndId}
@@ -10,7 +10,7 @@ use Rattle.sj_rules.specs.Numbers.{Pace, Cause, level, ahead, behind, NumbersFit
 use Rattle.sj_rules.specs.Streams.{AreCarries, ComesWhole, ComesToHeld, ComesLoose}
 use Rattle.std.proofs.lemmas.List.{length-append}
 
--- how r stands to an end that isn't Signalled and isn't gone: level, or behind it and Signalled
+-- how r stands to an end that isn't Signalled and isn't gone: level, or lagging and Signalled
 pub data Meets {P : Type 0} : Pace → Seat P → Type 0 where
   at_level : (r : Seat P) → Meets level r
   at_ahead : (c : Cause) (b u : ℕ) (e : EndAt P) (deferred : List (BodyAt P)) → Meets (ahead c) (signalled b u e deferred)
@@ -27,7 +27,7 @@ CanMeet (ahead c) (closed b e) = ⊥
 CanMeet (ahead c) gone = ⊥
 CanMeet (behind c) r = ⊥
 
--- the test tells
+-- the test says so
 pub meets : {P : Type 0} → (pace : Pace) (r : Seat P) → CanMeet pace r → Meets pace r
 meets level r m = at_level r
 meets (ahead c) (signalled b u e deferred) m = at_ahead c b u e deferred
@@ -39,7 +39,7 @@ meets (ahead c) (closed b e) m = absurd m
 meets (ahead c) gone m = absurd m
 meets (behind c) r m = absurd m
 
--- the numbers tell it
+-- the numbers say so
 held_can : {P : Type 0} → (pace : Pace) (a : ℕ) (h : HeldAt P) (r : Seat P) → NumbersFit pace (held a h) r → CanMeet pace r
 held_can pace a h r n = grind arith
 
@@ -55,7 +55,7 @@ held_meets pace a h r n = meets pace r (held_can pace a h r n)
 pub claimed_meets : {P : Type 0} → (pace : Pace) (a t : ℕ) (e : EndAt P) (r : Seat P) → NumbersFit pace (claimed a t e) r → Meets pace r
 claimed_meets pace a t e r n = meets pace r (claimed_can pace a t e r n)
 
--- one Carry more, told all
+-- one Carry more, which reports the whole count
 pub carries_more : {P : Type 0} → (to : EndId) (conn number low high : ℕ) (msgs : List Msg) (bs : List (BodyAt P)) (m : Msg) (n : ℕ) →
     n ≡ number + length msgs → AreCarries to conn number low high msgs bs →
     AreCarries to conn number low high (msgs ++ m ∷ []) (bs ++ Carry to conn n high m ∷ [])
@@ -78,7 +78,7 @@ whole_more to conn number low high msgs frames m c n t ce ne te w = record {
   are = carries_more to conn number low high msgs w.carries m n ne w.are;
 }
 
--- the mark behind a whole stream
+-- the mark after a whole stream
 pub whole_marked : {P : Type 0} → (to : EndId) (conn number low high : ℕ) (msgs : List Msg) (frames mark : List (BodyAt P)) →
     ComesWhole to conn number low high [] msgs frames → ComesWhole to conn number low high mark msgs (frames ++ mark)
 whole_marked to conn number low high msgs frames mark w =
@@ -89,7 +89,7 @@ pub dropped_over : {P : Type 0} → (to : EndId) (conn : ℕ) (mark frames : Lis
 dropped_over to conn mark frames l =
     record { dropped = l.dropped; split = l.split; are = rw append-nil at (dropped_more to conn true l.dropped [] l.are tt) }
 
--- and a Fin behind them
+-- and a Fin after them
 pub dropped_fin : {P : Type 0} → (to : EndId) (conn c sent : ℕ) (frames : List (BodyAt P)) → c ≡ conn → ComesLoose to conn false [] frames →
     ComesLoose to conn true [] (frames ++ Fin to c sent ∷ [])
 dropped_fin to conn c sent frames same l = record {
@@ -117,7 +117,7 @@ module _ {P : Type 0} (to : EndId) (g : HeldAt P) (waiting : List Msg) (taken hi
           }
       by (inr k) = absurd (cc k.1)
 
-  -- the mark of s behind all that comes
+  -- the mark of s after all that comes
   pub held_marked : (over : Bool) (mark : List (BodyAt P)) →
       ComesToHeld to g waiting taken high false [] live → ComesToHeld to g waiting taken high over mark (live ++ mark)
   held_marked over mark w = by w.comes

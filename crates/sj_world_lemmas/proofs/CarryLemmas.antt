@@ -12,7 +12,7 @@ use Rattle.sj_rules.specs.Counts.{Agrees}
 use Rattle.sj_rules.specs.Streams.{AreCarries, ComesWhole, ComesToHeld, mark_of, mark_for}
 use Rattle.sj_rules.specs.Numbers.{is_over}
 
--- Carries that are told from a number on are told from a smaller one on
+-- Carries that report counts from a number on report them from a smaller one on
 pub carries_from_lower : {P : Type 0} → (to : EndId) (conn number lower low high : ℕ) (msgs : List Msg) (bs : List (BodyAt P)) →
     lower ≤ low → AreCarries to conn number low high msgs bs → AreCarries to conn number lower high msgs bs
 carries_from_lower to conn number lower low high [] [] l a = omega arith

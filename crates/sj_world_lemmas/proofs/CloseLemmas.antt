@@ -58,7 +58,7 @@ hops_closed : {P : Type 0} → (pace : Pace) (hops a : ℕ) (h : HeldAt P) (r : 
 hops_closed pace hops a h r n = grind arith
 
 module _ {P : Type 0} (x y : PlainSide P) (sid rid : EndId) (a : ℕ) (h : HeldAt P) (sent : h.end.sent ≡ length x.sent) where
-  -- the Fin behind what is whole
+  -- the Fin after what is whole
   whole_closed : (c low : ℕ) (ds live : List (BodyAt P)) → h.end.conn ≡ c → ComesWhole rid c y.taken low x.taken [] (untaken_of x y) (ds ++ live) →
       ComesWhole rid c y.taken low x.taken (Fin rid c (length x.sent) ∷ []) (untaken_of x y) (ds ++ (live ++ fin_of rid h.end))
   whole_closed c low ds live same w =

@@ -63,7 +63,8 @@ signal_passes e c k conn few low high =
     simp (a, b, f, g, h)
 
 module _ {P : Type 0} (IsOver : P → Type 0) (pick : ℕ → ℕ → ℕ) (picks : IsPick pick) (x y : PlainSide P) (counts : CountsFit x y) where
-  -- the first of two Signals that cross: r goes as a Give, and is ahead of s, whom its own Signal will tell
+  -- the first of two Signals that cross: r goes as a Give, and is ahead of s, to whom r's own
+  -- Signal will report it
   pub crosses_first : (sid rid : EndId) (ps pr : P) (a t b u : ℕ) (es er : EndAt P) (ds dr so sl rl rest : List (BodyAt P)) (d : EndId) (c p k : ℕ) →
       IsSound IsOver level x y (side_of sid ps (signalled a t es ds) so sl) (side_of rid pr (signalled b u er dr) (Signal d c p k ∷ rest) rl) →
       (crossing_body pick er er.peer c p k ≡ Some (Give (trimmed_end pick (end_with_peer er p) k) (Some k)))

@@ -99,7 +99,7 @@ module _ {P Q : Type 0} (IsOver : P → Type 0) (pick : ℕ → ℕ → ℕ) (no
   old_signalled z gone old o = o
   old_signalled z t old o = o
 
-  -- at a taker whose keeper is behind: s is ahead already
+  -- at a taker whose keeper lags: s is ahead already
   pub defers_signalled : (pace : Pace) (ro rest : List (BodyAt P)) →
       node.old rid ≡ old_shown (signalled b u er dr) u → node.main rid ≡ Some (Expected b pr (mails_of (source_for s (signalled b u er dr)) dr)) →
       IsSound IsOver pace x y (side_of sid ps s so sl) (side_of rid pr (signalled b u er dr) ro (f ∷ rest)) →

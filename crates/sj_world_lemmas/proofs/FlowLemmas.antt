@@ -119,7 +119,7 @@ whole_under to conn number low high sent taken s ms front rest w =
     let both = all_joined (IsUnder to conn) w.carries (mark_of to conn sent taken s) carries (mark_under to conn sent taken s) in
     all_front (IsUnder to conn) front rest (subst (AllByRecursion (IsUnder to conn)) (sym w.split) both)
 
--- a Held end: what is untaken, and what comes behind it, is what waits
+-- a Held end: what is untaken, and what comes after it, is what waits
 pub held_carries : {P : Type 0} → (to : EndId) (h : HeldAt P) (waiting : List Msg) (taken high sent : ℕ) (over : Bool) (s : Seat P) (live : List (BodyAt P)) →
     ComesToHeld to h waiting taken high over (mark_of to h.end.conn sent high s) live → h.untaken ++ carries_under to h.end.conn live ≡ waiting
 held_carries {P} to h waiting taken high sent over s live c = by c.comes
@@ -129,7 +129,7 @@ held_carries {P} to h waiting taken high sent over s live c = by c.comes
     by (inl w) = ap (λ l. h.untaken ++ l) (whole_carries to h.end.conn (taken + length h.untaken) h.end.base high sent high s c.rest live w.1) ∙ sym c.all
     by (inr w) = rw w.2 (ap (λ l. h.untaken ++ l) (sym w.3) ∙ sym c.all)
 
--- the untaken messages of a Held end are a front of what waits for it in the plain world
+-- the untaken messages of a Held end are a prefix of what waits for it in the plain world
 pub untaken_front : {P : Type 0} → (pace : Pace) (id : EndId) (x y : PlainSide P) (s : Seat P) (b : ℕ) (h : HeldAt P) (live : List (BodyAt P)) → NumbersFit pace s (held b h) → Comes pace id x y s (held b h) live →
     IsFront h.untaken (untaken_of x y)
 untaken_front level id x y (given a t e None ds) b h live n c = record { rest = c.1.rest; all = c.1.all }

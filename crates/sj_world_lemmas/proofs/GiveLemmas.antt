@@ -51,7 +51,7 @@ again_sent P sid e (Some k) to c party = sent_numbered P sid c to party e.conn e
 mailed_append : {P : Type 0} → (a : ℕ) (k l : List (BodyAt P)) → mails_of a (k ++ l) ≡ mails_of a k ++ mails_of a l
 mailed_append a k l = simp map-append
 
--- and an Ack behind it
+-- and an Ack after it
 again_ack_sent : (P : Type 0) (sid : EndId) (e : EndAt P) (resend : Option ℕ) (to c party : ℕ) →
     filter (goes_to {P = P} sid c) (sent_to to (mails_of party (again_from sid e resend ++ Ack sid e.conn ∷ []))) ≡ (if (to == party) && (c == e.conn) then again_from sid e resend ++ Ack sid e.conn ∷ [] else [])
 again_ack_sent P sid e resend to c party =

@@ -27,7 +27,8 @@ passed pick e p k = record {
 abbrev pub acked_side : {P : Type 0} → EndId → P → (a t : ℕ) → EndAt P → (ds so sl more : List (BodyAt P)) → Side P
 acked_side sid ps a t es ds so sl more = side_of sid ps (signalled a t es ds) (so ++ Ack sid es.conn ∷ []) (sl ++ more)
 
--- a Signal at an end that isn't Signalled: s, which is, gets the Ack under its number, and all that waits under the next one
+-- a Signal at an end that isn't Signalled: s, which is, gets the Ack under its number, and all that
+-- waits under the next one
 module _ {P : Type 0} (IsOver : P → Type 0) (pick : ℕ → ℕ → ℕ) (x y : PlainSide P) (sid id : EndId) (ps place : P) (a t : ℕ) (es : EndAt P) (ds so sl : List (BodyAt P)) where
   -- at a Held end
   abbrev pub SignalAtHeld : Type 0
@@ -57,7 +58,8 @@ module _ {P : Type 0} (IsOver : P → Type 0) (pick : ℕ → ℕ → ℕ) (x y 
       (passive_closed pick e e.peer c p k ≡ Some (with_last (record { party = p; body = Fin (other_end e.id) (e.conn + 1) e.sent } ∷ []) (passed pick e p k)))
       × IsSound IsOver (behind by_ack) x y (acked_side sid ps a t es ds so sl (resends pick sid e p k ++ Fin sid (e.conn + 1) e.sent ∷ [])) (side_of id place (closed b (trimmed_end pick (end_with_peer e p) k)) ro rest)
 
--- a Give: the end is Held, its cache goes out again where the Give says so, and what was deferred is worked off
+-- a Give: the end is Held, its cache goes out again where the Give says so, and what was deferred
+-- is worked off
 module _ {P : Type 0} (IsOver : P → Type 0) (pick : ℕ → ℕ → ℕ) (x y : PlainSide P) (s : Side P) (id : EndId) (place : P) where
   -- no Signal was deferred
   abbrev pub InstallsQuietly : Pace → (u : ℕ) → EndAt P → Option ℕ → (ro rl : List (BodyAt P)) → HeldAt P → List (Mail P) → Type 0

@@ -77,7 +77,7 @@ module _ {P : Type 0} (IsOver : P → Type 0) (x y : PlainSide P) (sid rid : End
     };
   }
 
--- what a Carry tells is at most what s took
+-- what a Carry reports is at most what s took
 carry_told : {P : Type 0} → (to : EndId) (x y : PlainSide P) (s : Seat P) (h : HeldAt P) (d : EndId) (c n t : ℕ) (m : Msg) (rest : List (BodyAt P)) →
     ComesFrom to x y s h (Carry d c n t m ∷ rest) → (h.fin ≡ false) × (t ≤ x.taken)
 carry_told {P} to x y s h d c n t m rest w = by w.comes
@@ -142,7 +142,7 @@ fin_row pick h d c n conn fin number =
 
 module _ {P : Type 0} (IsOver : P → Type 0) (pick : ℕ → ℕ → ℕ) (picks : IsPick pick) (x y : PlainSide P) (sid rid : EndId) (ps pr : P) (s : Seat P)
     (so sl : List (BodyAt P)) (b : ℕ) (h : HeldAt P) (d : EndId) where
-  -- a Carry is put behind what is untaken
+  -- a Carry is put after what is untaken
   pub carry_held : (pace : Pace) (ro rest : List (BodyAt P)) (c n t : ℕ) (m : Msg) → x.taken ≤ length y.sent →
       IsSound IsOver pace x y (side_of sid ps s so sl) (side_of rid pr (held b h) ro (Carry d c n t m ∷ rest)) →
       (at_held pick h h.end.peer (Carry d c n t m) ≡ Some (record { state = carried pick h t m; posts = [] }))

@@ -1,4 +1,5 @@
--- A Give that comes: the end is Held, as if what was deferred were still in the lane; and its cache goes out again.
+-- A Give that comes: the end is Held, as if what was deferred were still in the lane; and its cache
+-- goes out again.
 use Rattle.std.proofs.Common.{◌≡◌, ℕ, ◌+◌, ◌-◌, ◌≤◌, List, [], ◌∷◌, ◌++◌, length, drop, refl, sym, ap, arith, ◌∙◌, inl, append-nil}
 use Rattle.std.specs.Prelude.{Bool, false, Option, Some, None}
 use Rattle.std.proofs.lemmas.List.{drop-drop}
@@ -19,7 +20,8 @@ use Rattle.sj_world_lemmas.proofs.SignalLemmas.{numbered_are}
 abbrev pub fresh : {P : Type 0} → P → EndAt P → HeldAt P
 fresh place e = record { end = record e { place = place }; untaken = []; fin = false }
 
--- frames that s gets from a Held r: under its own number where it is Signalled and r hasn't gone on, else live
+-- frames that s gets from a Held r: under its own number where it is Signalled and r hasn't gone
+-- on, else live
 abbrev pub live_after : {P : Type 0} → Pace → Seat P → (live more : List (BodyAt P)) → List (BodyAt P)
 live_after level (signalled at to e deferred) live more = live
 live_after pace s live more = live ++ more
@@ -45,7 +47,7 @@ given_again id e y k a low =
     let sum : e.base + (k - e.base) ≡ k = omega arith in
     ap (λ l. drop (k - e.base) l) a.cache ∙ drop-drop (k - e.base) e.base y.sent ∙ ap (λ n. drop n y.sent) sum
 
--- more that may be dropped, behind Carries
+-- more that may be dropped, after Carries
 pub dropped_more : {P : Type 0} → (to : EndId) (conn : ℕ) (over : Bool) (bs more : List (BodyAt P)) →
     AreDropped to conn false bs → AreDropped to conn over more → AreDropped to conn over (bs ++ more)
 dropped_more to conn over [] more a b = b
@@ -191,7 +193,8 @@ again_dropped : (P : Type 0) (sid : EndId) (e : EndAt P) (resend : Option ℕ) �
 again_dropped P sid e None = tt
 again_dropped P sid e (Some k) = numbered_dropped P sid e.conn k e.taken false (cached_from e k)
 
--- a Give comes where the numbers are equal: the end is Held, its resend goes out, and what was deferred is still to come
+-- a Give comes where the numbers are equal: the end is Held, its resend goes out, and what was
+-- deferred is still to come
 pub installs_level : {P : Type 0} → (IsOver : P → Type 0) (x y : PlainSide P) (counts : CountsFit x y) (sid rid : EndId) (ps pr : P)
     (s : Seat P) (at u : ℕ) (er : EndAt P) (resend : Option ℕ) (dr so sl ro rl : List (BodyAt P)) →
     IsSound IsOver level x y (side_of sid ps s so sl) (side_of rid pr (given at u er resend dr) ro rl) →

@@ -28,7 +28,8 @@ module _ {P : Type 0} (IsOver : P → Type 0) (pick : ℕ → ℕ → ℕ) (x y 
     pub sound : IsSound IsOver pace x y (side_of sid ps s (old_after pace s so (again_from sid er q)) (live_after pace s sl (again_from sid er q)))
         (side_of rid pr (held u end) ro rl)
 
-  -- behind it an Ack goes out, and the cache again to the new party: the last deferred frame was the Signal of s
+  -- after it an Ack goes out, and the cache again to the new party: the last deferred frame was the
+  -- Signal of s
   pub record InstalledBySignal (pace : Pace) : Type 0 where
     pub pace_is : pace ≡ level
     pub at : ℕ
@@ -76,7 +77,7 @@ module _ {P : Type 0} (IsOver : P → Type 0) (pick : ℕ → ℕ → ℕ) (x y 
     sound = rw w.seat_is at w.sound;
   }
 
--- who is behind by a Signal is Signalled
+-- who lags by a Signal is Signalled
 signalled_behind : {P : Type 0} → (s : Seat P) (b u : ℕ) (er : EndAt P) (q : Option ℕ) (dr : List (BodyAt P)) → NumbersFit (behind by_signal) s (given b u er q dr) → IsSignalled s
 signalled_behind gone b u er q dr n = absurd (cc n.0)
 signalled_behind (signalled a t e ds) b u er q dr n = record { at = a; to = t; end = e; late = ds; is = refl }
@@ -88,7 +89,7 @@ placed id e y place a = record { name = a.name; hops = a.hops; sent = a.sent; ta
 
 module _ {P : Type 0} (IsOver : P → Type 0) (pick : ℕ → ℕ → ℕ) (x y : PlainSide P) (sid rid : EndId) (ps pr : P) (so sl : List (BodyAt P)) (b u : ℕ) (ro rl : List (BodyAt P))
     (er : EndAt P) (dr : List (BodyAt P)) where
-  -- what comes to s, which is behind
+  -- what comes to s, which lags
   back_behind : (q : Option ℕ) (a t : ℕ) (es : EndAt P) (ds : List (BodyAt P)) → Agrees rid er y → er.base ≤ x.taken → x.taken ≤ length y.sent →
       ResendFits x.taken (given b u er q dr) → er.conn ≡ es.conn + 1 →
       Comes (ahead by_signal) sid y x (given b u er q dr) (signalled a t es ds) sl →

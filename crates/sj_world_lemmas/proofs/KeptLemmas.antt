@@ -23,7 +23,7 @@ one_of_two d id false i j e s =
     let o : d.side ≡ 1 - id.side = omega (arith, i, j, n) in
     inr (sym (end_is d id.sess (1 - id.side) e o))
 
--- what is told of the two ends of a session, and of all others
+-- what is said of the two ends of a session, and of all others
 pub by_session : (Is : EndId → Type 0) (id : EndId) → id.side < 2 → Is id → Is (other_end id) → ((d : EndId) → (d.sess == id.sess) ≡ false → Is d) → (d : EndId) → d.side < 2 → Is d
 by_session Is id low here there away d below = by (d.sess == id.sess) refl
   where

@@ -42,7 +42,7 @@ bodies_of_frames : {P : Type 0} → (clock : ℕ) (mails : List (Mail P)) →
 bodies_of_frames clock [] = refl
 bodies_of_frames clock (m ∷ ms) = ap (λ l. m.body ∷ l) (bodies_of_frames clock ms)
 
--- what is posted is seen behind what was there
+-- what is posted is seen after what was there
 pub post_seen : {P : Type 0} → (test : BodyAt P → Bool) (p clock : ℕ) (posts : List (Mail P)) (lanes : ℕ → ℕ → List (FrameAt P)) (from to : ℕ) →
     filter test (bodies (lanes_with p clock posts lanes from to))
     ≡ filter test (bodies (lanes from to)) ++ (if from == p then filter test (sent_to to posts) else [])

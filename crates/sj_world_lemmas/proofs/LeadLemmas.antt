@@ -8,7 +8,7 @@ use Rattle.sj_rules.specs.Numbers.{Pace, ahead, Cause, by_ack, by_signal, Number
 use Rattle.sj_rules.specs.Invariant.{IsSound}
 use Rattle.sj_rules.specs.Coming.{Comes}
 
--- who is behind is Signalled
+-- who lags is Signalled
 pub behind_is_signalled : {P : Type 0} → (c : Cause) (s r : Seat P) → NumbersFit (ahead c) s r → IsSignalledTo (peer_of s) r
 behind_is_signalled c gone r n = absurd (cc n.0)
 behind_is_signalled c s gone n = absurd (cc n.0)

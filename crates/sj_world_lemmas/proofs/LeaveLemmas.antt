@@ -1,4 +1,5 @@
--- Frames under the number of a Signalled end: dropped ones, and the Signal or Ack by which the end goes as a Give.
+-- Frames under the number of a Signalled end: dropped ones, and the Signal or Ack by which the end
+-- goes as a Give.
 use Rattle.std.proofs.Common.{◌≡◌, ℕ, ◌+◌, ◌<◌, List, [], ◌∷◌, ◌++◌, refl, sym, ap, ◌∙◌, max, inr}
 use Rattle.std.specs.Prelude.{Bool, true, false, ◌&&◌, ◌==◌, if◌then◌else◌, Option, Some, None}
 use Rattle.std.proofs.lemmas.Bool.{eq-eqb}

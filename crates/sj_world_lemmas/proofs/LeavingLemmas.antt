@@ -1,4 +1,5 @@
--- A Signal or an Ack that arrives at a Signalled end, which leaves as a Give: the whole row of the node.
+-- A Signal or an Ack that arrives at a Signalled end, which leaves as a Give: the whole row of the
+-- node.
 use Rattle.std.proofs.Common.{◌≡◌, ℕ, List, [], ◌∷◌, ◌++◌, refl, subst}
 use Rattle.std.specs.Prelude.{Bool}
 use Rattle.sj_base.specs.declared.EndId.{EndId}

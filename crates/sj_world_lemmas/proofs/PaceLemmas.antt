@@ -20,7 +20,7 @@ numbers_level gone r i j n = absurd i
 numbers_level s gone i j n = absurd j
 numbers_level s r i j n = n
 
--- s is behind
+-- s lags
 pub numbers_behind : {P : Type 0} → (c : Cause) (s r : Seat P) → IsThere s → IsThere r → NumbersFit (behind c) s r → (conn_of r ≡ conn_of s + 1) × IsSignalledTo (peer_of r) s
 numbers_behind c gone r i j n = absurd i
 numbers_behind c s gone i j n = absurd j
@@ -46,7 +46,7 @@ module _ {P Q : Type 0} (w : WorldAt P Q) (at clock : ℕ) (posts : List (Mail P
   sent_at : (party conn : ℕ) → peer_of r ≡ party → conn_of r ≡ conn → (to c : ℕ) → filter (goes_to sid c) (sent_to to posts) ≡ (if (to == party) && (c == conn) then more else [])
   sent_at party conn p n to c = sent to c ∙ rw (p, n) refl
 
-  -- level, and the end isn't Signalled; or behind
+  -- level, and the end isn't Signalled; or lagging
   to_live : (s : Seat P) → source_for o s ≡ at → peer_of r ≡ taker_of s → conn_of r ≡ coming_of s → Shows w o (side_of sid place s so sl) →
       Shows (with_posts w at clock posts) o (side_of sid place s so (sl ++ more))
   to_live s from p n v = posted_live w at clock posts o (side_of sid place s so sl) more from streams (sent_at (taker_of s) (coming_of s) p n) v

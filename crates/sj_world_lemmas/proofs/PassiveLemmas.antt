@@ -1,4 +1,5 @@
--- A Signal at an end that is Parked or Closed: an Ack, and the cache again; where the end is Closed, its Fin too.
+-- A Signal at an end that is Parked or Closed: an Ack, and the cache again; where the end is
+-- Closed, its Fin too.
 use Rattle.std.proofs.Common.{◌≡◌, ℕ, ◌+◌, ◌<◌, ◌≤◌, List, [], ◌∷◌, ◌++◌, length, drop, sym, ap, arith, ◌∙◌, append-nil}
 use Rattle.std.specs.Prelude.{true, false, Some}
 use Rattle.sj_base.specs.declared.EndId.{EndId}
@@ -56,7 +57,7 @@ passed {P} pick picks x y counts sid rid e es c p k agrees base conn taken same 
       again = rw (cached, taken, sym same, agrees.taken);
     }
 
--- behind nothing
+-- after nothing
 behind_nothing : {A : Type 0} → (ds sl n m mark : List A) → ds ≡ [] → sl ≡ [] → n ≡ m → ds ++ (sl ++ (n ++ mark)) ≡ m ++ mark
 behind_nothing ds sl n m mark a b e = rw (a, b, e)
 

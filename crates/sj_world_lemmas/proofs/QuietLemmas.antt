@@ -1,4 +1,5 @@
--- Deliveries that send nothing: a Carry or Fin that is kept, noted, dropped or deferred, and a deferred Signal.
+-- Deliveries that send nothing: a Carry or Fin that is kept, noted, dropped or deferred, and a
+-- deferred Signal.
 use Rattle.std.proofs.Common.{◌≡◌, ℕ, ◌+◌, ◌<◌, List, [], ◌∷◌, ◌++◌, refl, sym, ap, ◌∙◌, max, arith, inl, inr}
 use Rattle.std.specs.Prelude.{Bool, true, false, ◌&&◌, ◌==◌, if◌then◌else◌, Option, Some, None, ◌⊎◌}
 use Rattle.std.proofs.lemmas.Bool.{eq-eqb, ne_eqb}

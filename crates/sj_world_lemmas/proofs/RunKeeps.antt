@@ -25,7 +25,8 @@ laws_hold : {P Q : Type 0} → (IsOver : P → Type 0) (plain : PlainAt P Q) →
 laws_hold IsOver plain counts pick picks e low = delivery_laws IsOver pick picks (plain.sides (other_end e)) (plain.sides e) (counts e low) (counts_back plain counts e low)
 
 module _ {P Q : Type 0} (IsOver : P → Type 0) (binds : Q → EndId → Bool) (play : Play P Q) where
-  -- the front frame of each lane fits a row where it is within the limits, with each choice of bases, and the world stays kept
+  -- the front frame of each lane fits a row where it is within the limits, with each choice of
+  -- bases, and the world stays kept
   pub front_always_fits : (pick : ℕ → ℕ → ℕ) → IsPick pick → (w : WorldAt P Q) (plain : PlainAt P Q) → IsKept IsOver binds w plain → CountsHold plain →
       (q at : ℕ) (f : FrameAt P) (rest : List (FrameAt P)) → w.lanes q at ≡ f ∷ rest → is_open f.body ≡ false → is_proper play.parties f ≡ true →
       (v : WorldAt P Q) × (happens play pick w at (Deliver q) ≡ Some v) × IsKept IsOver binds v plain

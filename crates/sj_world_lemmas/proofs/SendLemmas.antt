@@ -41,7 +41,7 @@ module _ {P : Type 0} (IsOver : P → Type 0) (x y : PlainSide P) (sid rid : End
   fits_sent : (r : Seat P) → ¬ IsOver y.place → SeatFits IsOver rid x y r → SeatFits IsOver rid (plain_sent x place m) y r
   fits_sent r goes_on f = grind arith
 
-  -- the Carry behind what is whole
+  -- the Carry after what is whole
   whole_sent : (c low : ℕ) (ds live : List (BodyAt P)) → h.end.conn ≡ c →
       ComesWhole rid c y.taken low x.taken [] (untaken_of x y) (ds ++ live) →
       ComesWhole rid c y.taken low x.taken [] (untaken_of (plain_sent x place m) y) (ds ++ (live ++ carry_of rid h.end m))
@@ -49,7 +49,7 @@ module _ {P : Type 0} (IsOver : P → Type 0) (x y : PlainSide P) (sid rid : End
       rw (untaken_more, ← append_assoc ds live (carry_of rid h.end m))
       (whole_more rid c y.taken low x.taken (untaken_of x y) (ds ++ live) m h.end.conn h.end.sent h.end.taken same number_is agrees.taken w)
 
-  -- the Carry behind what may be dropped
+  -- the Carry after what may be dropped
   loose_sent : (c : ℕ) (live : List (BodyAt P)) → h.end.conn ≡ c → ComesLoose rid c false [] live →
       ComesLoose rid c false [] (live ++ carry_of rid h.end m)
   loose_sent c live same w = loose_more rid c live (carry_of rid h.end m) w (refl, same, tt)

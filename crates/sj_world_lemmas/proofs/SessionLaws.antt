@@ -1,4 +1,5 @@
--- The session laws that the world's level needs: an event of a session fits its row, and the session stays sound.
+-- The session laws that the world's level needs: an event of a session fits its row, and the
+-- session stays sound.
 use Rattle.std.proofs.Common.{◌≡◌, ℕ, List, [], ◌∷◌, ◌++◌}
 use Rattle.std.specs.Prelude.{⊤, Option, Some, None}
 use Rattle.sj_base.specs.declared.EndId.{EndId}

@@ -57,18 +57,19 @@ last_signal {P} to h x y a t es ds d c p k rest comes = by comes.comes
     by (inl w) = (w.0, last_in to h.end.conn (y.taken + length h.untaken) h.end.base x.taken t x.taken comes.rest d c p k rest w.1.carries w.1.split w.1.are)
     by (inr w) = absurd (cc w.2)
 
--- behind nothing
+-- after nothing
 behind_nothing : {A : Type 0} (ds sl n m : List A) → ds ≡ [] → sl ≡ [] → n ≡ m → ds ++ (sl ++ n) ≡ m ++ []
 behind_nothing ds sl n m a b e = rw (a, b, e) (sym (append-nil m))
 
--- one frame more, behind what is dropped
+-- one frame more, after what is dropped
 pub marked : {P : Type 0} → (to : EndId) (conn : ℕ) (over : Bool) (frames : List (BodyAt P)) (mark : List (BodyAt P)) →
     ComesLoose to conn over [] frames → ComesLoose to conn over mark (frames ++ mark)
 marked to conn over frames mark l =
     record { dropped = l.dropped; split = ap (λ k. k ++ mark) (l.split ∙ append-nil l.dropped); are = l.are }
 
 module _ {P : Type 0} (IsOver : P → Type 0) (pick : ℕ → ℕ → ℕ) (picks : IsPick pick) (x y : PlainSide P) (counts : CountsFit x y) where
-  -- r is Held: its number rises, s will get the Ack behind what is dropped, and all that waits for s comes again
+  -- r is Held: its number rises, s will get the Ack after what is dropped, and all that waits for s
+  -- comes again
   pub passes_held : (sid rid : EndId) (ps pr : P) (a t b : ℕ) (es : EndAt P) (h : HeldAt P) (ds so sl ro rest : List (BodyAt P)) (d : EndId) (c p k : ℕ) →
       IsSound IsOver level x y (side_of sid ps (signalled a t es ds) so sl) (side_of rid pr (held b h) ro (Signal d c p k ∷ rest)) →
       (passive pick h.end h.end.peer c p k ≡ Some (record {

@@ -24,14 +24,14 @@ hops_signalled : {P : Type 0} → (pace : Pace) (hops a t : ℕ) (d : EndAt P) (
 hops_signalled pace hops a t d r w = grind arith
 
 module _ {P : Type 0} (x y : PlainSide P) (sid rid : EndId) (a t : ℕ) (d : EndAt P) (taken : d.taken ≡ x.taken) where
-  -- the Signal behind what is whole
+  -- the Signal after what is whole
   whole_signalled : (c low : ℕ) (ds live : List (BodyAt P)) → d.conn ≡ c → ComesWhole rid c y.taken low x.taken [] (untaken_of x y) (ds ++ live) →
       ComesWhole rid c y.taken low x.taken (Signal rid c t x.taken ∷ []) (untaken_of x y) (ds ++ (live ++ signal_to rid d t))
   whole_signalled c low ds live same w =
       rw (← append_assoc ds live (signal_to rid d t), same, taken)
       (whole_marked rid c y.taken low x.taken (untaken_of x y) (ds ++ live) (Signal rid c t x.taken ∷ []) w)
 
-  -- the Signal behind what may be dropped
+  -- the Signal after what may be dropped
   loose_signalled : (c : ℕ) (live : List (BodyAt P)) → d.conn ≡ c → ComesLoose rid c false [] live →
       ComesLoose rid c false (Signal rid c t x.taken ∷ []) (live ++ signal_to rid d t)
   loose_signalled c live same l = rw (same, taken) (marked rid c false live (Signal rid c t x.taken ∷ []) l)
@@ -87,7 +87,8 @@ module _ {P : Type 0} (x y : PlainSide P) (sid rid : EndId) (a t : ℕ) (d : End
   back_old pace r sl (at_ahead by_ack b u e ds) c = c.0
   back_old pace r sl (at_ahead by_signal b u e ds) c = c.0
 
--- s is Signalled: its Signal goes to r, what came under its number is dropped, and under the next one nothing has come
+-- s is Signalled: its Signal goes to r, what came under its number is dropped, and under the next
+-- one nothing has come
 pub signals : {P : Type 0} → (IsOver : P → Type 0) (pace : Pace) (x y : PlainSide P) (sid rid : EndId) (ps pr : P) (a t : ℕ) (d : EndAt P) (r : Seat P)
     (so sl ro rl : List (BodyAt P)) →
     IsSound IsOver pace x y (side_of sid ps (claimed a t d) so sl) (side_of rid pr r ro rl) →

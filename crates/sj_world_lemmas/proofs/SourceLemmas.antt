@@ -38,7 +38,7 @@ signal_in_loose to conn taken over s d c p k rest (Carry f g n t v ∷ bs) m l =
 signal_in_loose to conn taken over s d c p k rest (Fin f g n ∷ bs) m l = absurd (cc m)
 signal_in_loose to conn taken over s d c p k rest (b ∷ bs) m l = absurd l
 
--- a Signal behind Carries
+-- a Signal after Carries
 signal_in_whole : {P : Type 0} → (to : EndId) (conn number low high : ℕ) (mark : List (BodyAt P)) (msgs : List Msg) (d : EndId) (c p k : ℕ) (rest carries : List (BodyAt P)) →
     Signal d c p k ∷ rest ≡ carries ++ mark → AreCarries to conn number low high msgs carries → Signal d c p k ∷ rest ≡ mark
 signal_in_whole to conn number low high mark [] d c p k rest [] e a = e

@@ -43,7 +43,7 @@ module _ {P Q : Type 0} (w : WorldAt P Q) (sid id : EndId) (ps place : P) (so sl
   told : (s r : Seat P) → IsTold w (side_of sid ps s so sl) y.taken → Stands s r
   told s r t = inr (inr (inl t))
 
-  -- a Signal that explains why r is ahead tells what r has taken
+  -- a Signal that explains why r is ahead reports what r has taken
   explained_told : (s r : Seat P) (b : BodyAt P) → IsThere s → IsThere r → NumbersFit (behind by_signal) s r → AreOld (ahead by_signal) sid y r s so → Shows w r (side_of sid ps s so sl) → IsTold w (side_of sid ps s so sl) y.taken
   explained_told (signalled a t e ds) r b i j n o v = old_told w r sid ps a t e ds so sl v y.taken (Signal sid e.conn (sender_of r) y.taken) (refl, refl) (loose_has sid e.conn (is_over r) (Signal sid e.conn (sender_of r) y.taken) so o)
   explained_told s r b i j n o v = absurd (numbers_behind by_signal s r i j n).1

@@ -45,7 +45,8 @@ module _ {P Q : Type 0} (w : WorldAt P Q) (at clock : ℕ) (n : NodeAt P Q) wher
     gives = s.gives;
   }
 
--- how the tables show the one seat at that party, and elsewhere as the other; and the lanes the same
+-- how the tables show the one seat at that party, and elsewhere as the other; and the lanes the
+-- same
 pub record Turns {P Q : Type 0} (at : ℕ) (n : NodeAt P Q) (id : EndId) (place : P) (o o' seat seat' : Seat P) : Type 0 where
   pub main : n.main id ≡ main_shown (source_for o' seat') place seat' at
   pub old : n.old id ≡ old_shown seat' at

@@ -17,7 +17,7 @@ use Rattle.sj_rules.specs.Invariant.{IsSound}
 use Rattle.sj_world_lemmas.proofs.AppendLemmas.{Meets, at_level, at_ahead, held_meets}
 use Rattle.sj_world_lemmas.proofs.SendLemmas.{numbers_held, hops_held}
 
--- Carries that are told up to a number are told up to a larger one
+-- Carries that report counts up to a number report them up to a larger one
 pub carries_to_higher : {P : Type 0} → (to : EndId) (conn number low high higher : ℕ) (msgs : List Msg) (bs : List (BodyAt P)) →
     high ≤ higher → AreCarries to conn number low high msgs bs → AreCarries to conn number low higher msgs bs
 carries_to_higher to conn number low high higher [] [] l a = omega (arith, l, a)
@@ -45,7 +45,7 @@ held_to_higher {P} to g waiting taken high higher over mark live l w = record { 
 
 module _ {P : Type 0} (IsOver : P → Type 0) (x y : PlainSide P) (sid rid : EndId) (a : ℕ) (h : HeldAt P) (m : Msg) (rest : List Msg) (place : P)
     (front : h.untaken ≡ m ∷ rest) where
-  -- more is told to r than before
+  -- more is reported to r than before
   fits_taken : (r : Seat P) → SeatFits IsOver rid x y r → SeatFits IsOver rid (plain_taken x place) y r
   fits_taken r f = grind arith
 

@@ -66,7 +66,7 @@ module _ {P : Type 0} (IsOver : P → Type 0) (pick : ℕ → ℕ → ℕ) (x y 
     sound = w.sound;
   })
 
-  -- the Signal is the last, and nothing is behind it
+  -- the Signal is the last, and nothing is after it
   by_the_signal : (picks : IsPick pick) (counts : CountsFit x y) (h : HeldAt P) (d : EndId) (c p k : ℕ) (dr : List (BodyAt P)) → IsSignalled s →
       IsSound IsOver level x y (side_of sid ps s so sl) (side_of rid pr (held u h) ro (Signal d c p k ∷ (dr ++ rl))) → WorkedBySignal h (Signal d c p k ∷ dr)
   by_the_signal picks counts h d c p k dr from sound =

@@ -6,7 +6,7 @@ use Rattle.sj_check.specs.declared.refusal.CheckRefusal.TheVariants.{At, NoMemor
 use Rattle.sj_check.specs.Told.{Tells}
 use Rattle.sj_check.proofs.checker.check.Goals as goal
 
--- a refusal that tells of a fault is wrong where there is none
+-- a refusal that reports a fault is wrong where there is none
 faultless : (o : Option (ℕ × ℕ)) (r : CheckRefusal) → Tells o r → r ≢ NoMemory → o ≡ None → ⊥
 faultless o (At rule line) told other none = absurd (cc)
 faultless o NoMemory told other none = other refl

@@ -15,7 +15,7 @@ invariant-block-loop-stmt l =
       after : after_code ps (env_in l.protocols l.env) (code_of (drop l.stmt-index l.stmts)) ≡ after_code ps (env_in l.protocols l.fn.env) (code_of l.stmts);
     }
 
--- the arms that are left, behind the first
+-- the arms that are left, after the first
 abbrev pub invariant-all_arms-loop-i : goal.invariant-all_arms-loop-i
 invariant-all_arms-loop-i l =
     let ps = defs_in l.protocols in
