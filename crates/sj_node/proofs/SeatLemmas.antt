@@ -1,5 +1,5 @@
 -- A call of a node is a row of the rules, with its note, and is held up where they say so.
-use Rattle.std.proofs.Common.{◌≡◌, ℕ, ◌+◌, Bool, true, false, ◌||◌, if◌then◌else◌, List, [], ◌∷◌, slice_get, Option, Some, None, option_map, Result, Ok, Err, OnOk, refl, ap, sym, ◌∙◌}
+use Rattle.std.proofs.Common.{◌≡◌, ◌+◌, Bool, true, false, ◌||◌, if◌then◌else◌, List, [], ◌∷◌, slice_get, Option, Some, None, option_map, Result, Ok, Err, OnOk, refl, ap, sym, ◌∙◌}
 use Rattle.sj_base.specs.declared.EndId.{EndId}
 use Rattle.sj_base.specs.declared.Msg.{Msg}
 use Rattle.sj_end.specs.Lines.{note_seen}
@@ -21,7 +21,7 @@ use Rattle.sj_node.specs.declared.refusal.Halt.TheVariants as halts
 use Rattle.sj_node.specs.declared.seats.Call.{Call}
 use Rattle.sj_node.specs.declared.seats.Call.TheVariants as calls
 use Rattle.sj_node.specs.Calls.{call_of, has_place_for, silent}
-use Rattle.sj_node.specs.Node.{Did, Does, clock_of, main_of, next_head, node_at, took_if}
+use Rattle.sj_node.specs.Node.{Does, clock_of, main_of, next_head, node_at, took_if}
 use Rattle.sj_node.specs.Seats.{IsCalled, IsHead, call_note, call_stop, halt_named, want_at}
 use Rattle.sj_node.specs.Taking.{held_head}
 

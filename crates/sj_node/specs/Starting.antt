@@ -1,5 +1,5 @@
 -- What a party's slots have before any event.
-use Rattle.std.specs.Prelude.{◌≡◌, ℕ, ◌+◌, List, [], ◌∷◌, length, Option, option_map}
+use Rattle.std.specs.Prelude.{◌≡◌, ℕ, ◌+◌, List, [], ◌∷◌, length, map, Option, option_map}
 use Rattle.sj_lang.specs.Code.{no_stmt}
 use Rattle.sj_lang.specs.FileAt.{FileAt, ConnectAt, PartyAt, body_named, party_names}
 use Rattle.sj_lang.specs.Place.{Place}

@@ -55,7 +55,7 @@ impl Node {
         ensures unfit { IsErrOf result Halt.Unfit → takes_known self.old call ≡ true →
             call_of self.old (want_at self.old call) ≡ None }
 
-        // Each of these comes just where it is the first cause that applies; a call never ends.
+        // Each of these comes just where it is the first cause that applies. None is an end.
         ensures at_limit { IsErrOf result Halt.AtLimit ↔ (call_stop self.old call ≡ Some halts.AtLimit) }
         ensures waits { IsErrOf result Halt.Waits ↔ (call_stop self.old call ≡ Some halts.Waits) }
         ensures ended { IsErrOf result Halt.Ended → ⊥ }

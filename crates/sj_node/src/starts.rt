@@ -121,7 +121,7 @@ impl Node {
     }
 
     /// The party at the start of the file, with nothing to do of its own: it acts by calls alone.
-    /// The table is one of the file's protocols, as in `with_table`.
+    /// The table is one of the file's protocols, as in `with_table`, and may have other places too.
     pub fn seated(
         alloc: Global,
         accepted: &Accepted,

@@ -4,7 +4,7 @@ use Rattle.sj_lang.specs.FileAt.{FileAt}
 use Rattle.sj_lang.specs.FileView.{connect_of, file_of, party_of, protocol_of}
 use Rattle.sj_machine.specs.Sound.{program_at}
 use Rattle.sj_semantics.specs.World.{start_of}
-use Rattle.sj_node.specs.Starting.{idle_file, idle_parties}
+use Rattle.sj_node.specs.Starting.{idle_parties}
 use Rattle.sj_node.proofs.IdleLemmas.{idle_is, idle_is_accepted, idle_program}
 use Rattle.sj_node.proofs.StartingLemmas.{if_ok}
 use Rattle.sj_node.proofs.starts.idle_machine.Goals as goal

@@ -1,4 +1,4 @@
-use Rattle.std.proofs.Common.{◌≡◌, ◌∙◌, ap, subst}
+use Rattle.std.proofs.Common.{◌≡◌, ◌∙◌, ap}
 use Rattle.sj_lang.specs.FileView.{file_of}
 use Rattle.sj_lang.specs.declared.file.File.{File}
 use Rattle.sj_check.specs.Held.{file_in}
@@ -11,10 +11,10 @@ pub returns-clause-begins : goal.returns-clause-begins
 returns-clause-begins c =
     let idle : program_at c.in_ok-machine.machine ≡ nothing_to_do (file_of (file_in c.args.accepted.now)) =
     c.in_ok-machine.ensures ∙ ap (λ (f : File). nothing_to_do (file_of f)) c.file.ensures.value in
-    if_ok c.begun.result _ _ (λ n b. begins_idle _ _ _ _ n idle b) c.begun.ensures.begins
+    if_ok c.begun.result _ _ (λ n b. begins_idle _ _ _ _ _ n idle b) c.begun.ensures.begins
 
 pub returns-clause-ended : goal.returns-clause-ended
 returns-clause-ended c =
     let idle : program_at c.in_ok-machine.machine ≡ nothing_to_do (file_of (file_in c.args.accepted.now)) =
     c.in_ok-machine.ensures ∙ ap (λ (f : File). nothing_to_do (file_of f)) c.file.ensures.value in
-    if_ok c.begun.result _ _ (λ n b. has_ended _ _ _ n (begins_idle _ _ _ _ n idle b)) c.begun.ensures.begins
+    if_ok c.begun.result _ _ (λ n b. has_ended _ _ _ n (begins_idle _ _ _ _ _ n idle b)) c.begun.ensures.begins
