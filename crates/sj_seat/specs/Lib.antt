@@ -3,3 +3,5 @@ pub mod Fronts
 pub mod Holding
 pub mod Places
 pub mod Rules
+pub mod Views
+pub mod Went

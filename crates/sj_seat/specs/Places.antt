@@ -15,10 +15,10 @@ limit_of_spots = 2 ^ 32 - 1
 abbrev pub IsSpotOf : Table → Place → Spot → Type 0
 IsSpotOf t p s = (s.node < limit_of_spots) × HasSpot t s × (place_in t s ≡ p)
 
--- some spot of the table stands for the place
-abbrev pub HasPlace : Table → Place → Type 0
-HasPlace t p = (s : Spot) × IsSpotOf t p s
+-- no spot of the table stands for the place
+abbrev pub LacksPlace : Table → Place → Type 0
+LacksPlace t p = (s : Spot) → IsSpotOf t p s → ⊥
 
 -- where a place of the table begins with the taking of an end, some spot stands for what that end begins with
 abbrev pub CarriesPlaces : Table → Type 0
-CarriesPlaces t = (s : Spot) → takes_end (place_in t s) ≡ true → HasPlace t (carried_next (place_in t s))
+CarriesPlaces t = (s : Spot) → takes_end (place_in t s) ≡ true → LacksPlace t (carried_next (place_in t s)) → ⊥

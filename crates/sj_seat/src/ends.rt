@@ -1,12 +1,15 @@
 //! The ends that a party holds, each at its place.
-ghost use Rattle.std.specs.Prelude.{◌≡◌, ◌∷◌, ◌++◌, [], option_map, unwrap_or};
-ghost use Rattle.sj_lang.specs.Place.{done};
+ghost use Rattle.std.specs.Prelude.{◌≡◌, ◌<◌, Some, vec_capacity, vec_len};
+ghost use Rattle.sj_rules.specs.Node as wanted;
+ghost use Rattle.sj_seat.specs.Asked.{asked, want_in};
 ghost use Rattle.sj_seat.specs.Holding.{ends_at, entry_at, entry_moved, spot_held};
-ghost use Rattle.sj_seat_laws.specs.Calls.{moved, place_held, without_end};
+ghost use Rattle.sj_seat_laws.specs.Calls.{moved, place_held, takes, without_end};
+ghost use Rattle.sj_seat_laws.specs.Guards.{ends_after, want_of_call, want_of_take};
 ghost use Rattle.sj_table.specs.Spots.{place_in};
 
 use sj_base::{EndId, Msg};
 use sj_lang::Way;
+use sj_node::Call;
 use sj_table::{Spot, Table};
 
 /// An end that a party holds, at its place in the table.
@@ -29,14 +32,14 @@ pub(crate) fn spot_held(ends: &[HeldEnd], end: EndId) -> Option<Spot>
 }
 
 /// Takes the end out.
-pub(crate) fn release(table: &Table, ends: &mut Vec<HeldEnd>, end: EndId)
+fn release(table: &Table, ends: &mut Vec<HeldEnd>, end: EndId)
     ensures { ends_at table.now ends.new.items ≡ without_end (ends_at table.now ends.old.items) end }
 {
     ends.retain(|held| held.end != end);
 }
 
 /// Puts the end at the place after the message.
-pub(crate) fn move_on(table: &Table, ends: &mut [HeldEnd], end: EndId, way: Way, msg: Msg)
+fn move_on(table: &Table, ends: &mut [HeldEnd], end: EndId, way: Way, msg: Msg)
     ensures { ends_at table.now ends.new ≡ moved (ends_at table.now ends.old) end way msg }
 {
     for at in 0..ends.len() {
@@ -55,5 +58,52 @@ fn moved_end(table: &Table, held: HeldEnd, end: EndId, way: Way, msg: Msg) -> He
     match table.after(held.place, way, &msg) {
         Some(place) => HeldEnd { end, place },
         None => held,
+    }
+}
+
+/// Puts the ends where they are after the call, which took that message where it takes one. There is
+/// room for one end more.
+pub(crate) fn go_on(table: &Table, ends: &mut Vec<HeldEnd>, call: Call, taken: Option<Msg>)
+    requires room { vec_len ends.old < vec_capacity ends.old }
+    requires want { want_in table.now call
+        ≡ want_of_call (ends_at table.now ends.old.items) (asked call) }
+    ensures { ends_at table.now ends.new.items
+        ≡ ends_after (ends_at table.now ends.old.items) (asked call) taken }
+{
+    match call {
+        Call::Send { end, msg } => move_on(table, ends, end, Way::Out, msg),
+        Call::Delegate { carrier, end } => {
+            let EndId { sess, side } = end;
+            let keeper = 0;
+            move_on(
+                table,
+                ends,
+                carrier,
+                Way::Out,
+                Msg::Sess { sess, side, keeper },
+            );
+            release(table, ends, end);
+        }
+        Call::Take { end, place } => {
+            if let Some(msg) = taken {
+                take_on(table, ends, end, place, msg);
+            }
+        }
+        Call::Close { end } => release(table, ends, end),
+    }
+}
+
+// The same of a take.
+fn take_on(table: &Table, ends: &mut Vec<HeldEnd>, end: EndId, place: Spot, msg: Msg)
+    requires room { vec_len ends.old < vec_capacity ends.old }
+    requires want { wanted.takes end (place_in table.now place)
+        ≡ want_of_take end (place_held (ends_at table.now ends.old.items) end) }
+    ensures { ends_at table.now ends.new.items
+        ≡ ends_after (ends_at table.now ends.old.items) (takes end) (Some msg) }
+{
+    move_on(table, ends, end, Way::Into, msg);
+    if let Msg::Sess { sess, side, .. } = msg {
+        let end = EndId { sess, side };
+        ends.push_reserved(HeldEnd { end, place });
     }
 }

@@ -1,22 +1,22 @@
 //! The rules by which a call is refused, in their order.
 ghost use Rattle.std.specs.Prelude.{◌≡◌, ◌<◌, false, IfOk, IfErr, None, Some, option_map, unwrap_or};
 ghost use Rattle.sj_lang.specs.Place.{done};
-ghost use Rattle.sj_seat.specs.Asked.{want_in};
+ghost use Rattle.sj_seat.specs.Asked.{IsGuarded, asked};
 ghost use Rattle.sj_seat.specs.Holding.{ends_of};
 ghost use Rattle.sj_seat.specs.Places.{CarriesPlaces};
 ghost use Rattle.sj_seat.specs.Rules as rules;
 ghost use Rattle.sj_seat.specs.Rules.{is_full, is_missing, names_text, place_at};
 ghost use Rattle.sj_seat_laws.specs.Calls as calls;
 ghost use Rattle.sj_seat_laws.specs.Calls.{place_held};
-ghost use Rattle.sj_seat_laws.specs.Guards.{want_of_call};
 ghost use Rattle.sj_table.specs.Spots.{place_in};
 
+use crate::SeatRefusal;
 use crate::ends::{HeldEnd, spot_held};
 use crate::fronts::{begins_with, may_carry, may_send, sends_end, takes_no_end};
 use crate::places::carried_spot;
-use crate::{Call, SeatRefusal};
 use sj_base::{EndId, Msg};
 use sj_machine::MAX_STEPS;
+use sj_node::Call;
 use sj_table::{Spot, Table};
 
 /// What the rules ask of a party: the ends that it holds, in the table of their places, how many
@@ -32,9 +32,8 @@ pub struct Guard<'a> {
 impl Guard<'_> {
     /// The sending of a value or a label, or of whether a loop turns.
     pub fn send(&self, end: EndId, msg: Msg) -> Result<Call, SeatRefusal>
-        ensures call { IfOk result (λ c. c ≡ Call.Send end msg) }
-        ensures guarded { IfOk result (λ c. want_in self.now.table.now c
-            ≡ want_of_call (ends_of self.now) (calls.sends end msg)) }
+        ensures call { IfOk result (λ c. asked c ≡ calls.sends end msg) }
+        ensures guarded { IfOk result (IsGuarded self.now.table.now (ends_of self.now) self.now.calls) }
         ensures allowed { IfOk result (λ c. rules.first_refusal
             (rules.send_tests self.now.texts self.now.calls (ends_of self.now) end msg) ≡ None) }
         ensures refused { IfErr result (λ r. rules.first_refusal
@@ -61,9 +60,8 @@ impl Guard<'_> {
 
     /// The delegation of an end on the other.
     pub fn delegate(&self, carrier: EndId, end: EndId) -> Result<Call, SeatRefusal>
-        ensures call { IfOk result (λ c. c ≡ Call.Delegate carrier end) }
-        ensures guarded { IfOk result (λ c. want_in self.now.table.now c
-            ≡ want_of_call (ends_of self.now) (calls.delegates carrier end)) }
+        ensures call { IfOk result (λ c. asked c ≡ calls.delegates carrier end) }
+        ensures guarded { IfOk result (IsGuarded self.now.table.now (ends_of self.now) self.now.calls) }
         ensures allowed { IfOk result (λ c. rules.first_refusal
             (rules.delegate_tests self.now.calls (ends_of self.now) carrier end) ≡ None) }
         ensures refused { IfErr result (λ r. rules.first_refusal
@@ -92,9 +90,8 @@ impl Guard<'_> {
 
     /// The close of an end.
     pub fn close(&self, end: EndId) -> Result<Call, SeatRefusal>
-        ensures call { IfOk result (λ c. c ≡ Call.Close end) }
-        ensures guarded { IfOk result (λ c. want_in self.now.table.now c
-            ≡ want_of_call (ends_of self.now) (calls.closes end)) }
+        ensures call { IfOk result (λ c. asked c ≡ calls.closes end) }
+        ensures guarded { IfOk result (IsGuarded self.now.table.now (ends_of self.now) self.now.calls) }
         ensures allowed { IfOk result (λ c. rules.first_refusal
             (rules.close_tests self.now.calls (ends_of self.now) end) ≡ None) }
         ensures refused { IfErr result (λ r. rules.first_refusal
@@ -114,9 +111,8 @@ impl Guard<'_> {
 
     /// The take of a value, of a label, or of whether a loop turns.
     pub fn take(&self, end: EndId) -> Result<Call, SeatRefusal>
-        ensures call { IfOk result (λ c. (place : Spot) × (c ≡ Call.Take end place)) }
-        ensures guarded { IfOk result (λ c. want_in self.now.table.now c
-            ≡ want_of_call (ends_of self.now) (calls.takes end)) }
+        ensures call { IfOk result (λ c. asked c ≡ calls.takes end) }
+        ensures guarded { IfOk result (IsGuarded self.now.table.now (ends_of self.now) self.now.calls) }
         ensures allowed { IfOk result (λ c. rules.first_refusal
             (rules.take_tests self.now.calls (ends_of self.now) end) ≡ None) }
         ensures refused { IfErr result (λ r. rules.first_refusal
@@ -143,9 +139,8 @@ impl Guard<'_> {
     /// The take of an end, which is held from then on.
     pub fn take_end(&self, end: EndId) -> Result<Call, SeatRefusal>
         requires carries { CarriesPlaces self.now.table.now }
-        ensures call { IfOk result (λ c. (place : Spot) × (c ≡ Call.Take end place)) }
-        ensures guarded { IfOk result (λ c. want_in self.now.table.now c
-            ≡ want_of_call (ends_of self.now) (calls.takes end)) }
+        ensures call { IfOk result (λ c. asked c ≡ calls.takes end) }
+        ensures guarded { IfOk result (IsGuarded self.now.table.now (ends_of self.now) self.now.calls) }
         ensures allowed { IfOk result (λ c. rules.first_refusal
             (rules.take_end_tests self.now.calls (ends_of self.now) end) ≡ None) }
         ensures refused { IfErr result (λ r. rules.first_refusal

@@ -1,7 +1,7 @@
 //! The spots of places that ends carry.
 ghost use Rattle.std.specs.Prelude.{◌≡◌, IfSome, IsTrue, MatchOption, is_some, true};
 ghost use Rattle.sj_seat.specs.Fronts.{takes_end};
-ghost use Rattle.sj_seat.specs.Places.{CarriesPlaces, HasPlace, IsSpotOf};
+ghost use Rattle.sj_seat.specs.Places.{CarriesPlaces, IsSpotOf, LacksPlace};
 ghost use Rattle.sj_seat_laws.specs.Guards.{carried_next};
 ghost use Rattle.sj_table.specs.Spots.{place_in};
 
@@ -10,7 +10,7 @@ use sj_table::{Spot, Table};
 
 /// A spot of the table that stands for the place.
 fn spot_of(table: &Table, place: &Proto) -> Option<Spot>
-    ensures { MatchOption result (HasPlace table.now place.now → ⊥) (IsSpotOf table.now place.now) }
+    ensures { MatchOption result (LacksPlace table.now place.now) (IsSpotOf table.now place.now) }
 {
     for node in 0..u32::MAX {
         let spot = Spot { node };
@@ -57,7 +57,7 @@ pub fn carries_places(table: &Table) -> bool
 // The same of one place.
 fn is_carried(table: &Table, spot: Spot) -> bool
     ensures { IsTrue result → takes_end (place_in table.now spot) ≡ true →
-        HasPlace table.now (carried_next (place_in table.now spot)) }
+        LacksPlace table.now (carried_next (place_in table.now spot)) → ⊥ }
 {
     match table.split(spot) {
         Some((Item::Recv(Kind::Session(kind)), _)) => spot_of(table, kind).is_some(),

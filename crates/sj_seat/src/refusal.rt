@@ -1,5 +1,7 @@
 //! Why a call isn't done.
+ghost use Rattle.std.specs.Prelude.{◌≡◌};
 
+use sj_work::Stop;
 use thiserror::Error;
 
 /// Why a call isn't done. The variants stand in the order of the rules.
@@ -21,4 +23,12 @@ pub enum SeatRefusal {
     /// 10,000 calls were made, or the end that is sent was delegated 100 times.
     #[error("at limit")]
     AtLimit,
+    /// Nothing is there to take, or an end that is used is still on its way.
+    #[error("nothing came that the call needs")]
+    Waiting,
+    /// The worker stopped for good.
+    #[error("stopped")]
+    Stopped(Stop),
+    #[error("no memory")]
+    NoMemory,
 }
