@@ -1,9 +1,9 @@
 -- A call that a node does is a step of the play in which the party is played by code of its own.
-use Rattle.std.proofs.Common.{◌≡◌, ◌∙◌, ℕ, ◌+◌, max, nat_lt, not, if◌then◌else◌, Bool, true, false, List, [], ◌∷◌, length, Option, Some, None, option_map, refl, ap, sym, subst}
+use Rattle.std.proofs.Common.{◌≡◌, ◌∙◌, ℕ, ◌+◌, max, nat_lt, not, if◌then◌else◌, Bool, true, false, List, ◌∷◌, length, Option, Some, None, option_map, refl, ap, sym}
 use Rattle.sj_base.specs.declared.EndId.{EndId}
 use Rattle.sj_base.specs.declared.Msg.{Msg}
 use Rattle.sj_lang.specs.FileAt.{FileAt}
-use Rattle.sj_lang.specs.Place.{Place, done}
+use Rattle.sj_lang.specs.Place.{Place}
 use Rattle.sj_rules.specs.Limits.{limit_of_steps}
 use Rattle.sj_rules.specs.Log.{NoteAt, act_note}
 use Rattle.sj_rules.specs.Node as wanted
@@ -14,7 +14,7 @@ use Rattle.sj_rules.specs.Rows.{Worked}
 use Rattle.sj_rules.specs.World.{Act}
 use Rattle.sj_seat_laws.specs.Calls.{SeatedAt}
 use Rattle.sj_seat_laws.specs.Guards.{called, seated_want}
-use Rattle.sj_seat_laws.specs.SeatedPlay.{Player, seated, seated_play}
+use Rattle.sj_seat_laws.specs.SeatedPlay.{seated, seated_play}
 use Rattle.sj_seat_laws.specs.SeatRows.{silent, with_player, worked_player}
 use Rattle.sj_seat_laws.proofs.PlayedLemmas.{call_played, taking_played}
 

@@ -1,14 +1,13 @@
 -- Why a node refused a call, as the rules say, of the node after it.
-use Rattle.std.proofs.Common.{◌≡◌, ◌∙◌, ◌⊎◌, Bool, true, false, if◌then◌else◌, Option, Some, None, Result, Ok, Err, OnErr, refl, ap, sym, subst, inl, inr}
+use Rattle.std.proofs.Common.{◌≡◌, ◌∙◌, Bool, true, false, if◌then◌else◌, Option, Some, None, Result, Ok, Err, OnErr, refl, ap, sym, inl, inr}
 use Rattle.std.specs.Prelude.{IsErrOf, option_map}
 use Rattle.sj_base.specs.declared.EndId.{EndId}
 use Rattle.sj_base.specs.declared.Msg.{Msg}
-use Rattle.sj_lang.specs.Place.{Place}
 use Rattle.sj_node.specs.Calls.{call_of, has_place_for, silent}
-use Rattle.sj_node.specs.Node.{Stays, connect_count, next_head, node_at}
+use Rattle.sj_node.specs.Node.{Stays, connect_count, next_head}
 use Rattle.sj_node.specs.Play.{names_known}
 use Rattle.sj_node.specs.Reading.{parties_of}
-use Rattle.sj_node.specs.Seats.{IsHead, call_stop, halt_named, head_taken, is_known_head, takes_known, want_at}
+use Rattle.sj_node.specs.Seats.{IsHead, call_stop, halt_named, is_known_head, takes_known, want_at}
 use Rattle.sj_node.specs.declared.node.Node.{Node}
 use Rattle.sj_node.specs.declared.refusal.Halt.{Halt}
 use Rattle.sj_node.specs.declared.seats.Call.{Call}

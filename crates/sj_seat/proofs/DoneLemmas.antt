@@ -1,12 +1,10 @@
 -- A call that a worker's node does, or refuses, as the laws see it.
-use Rattle.std.proofs.Common.{◌≡◌, ◌∙◌, ℕ, ◌+◌, ◌<◌, ◌≤◌, max, nat_lt, Bool, true, false, length, List, [], ◌∷◌, ◌++◌, Option, Some, None, Result, Ok, Err, IfOk, OnOk, OnErr, refl, ap, sym, subst, arith, append-nil}
+use Rattle.std.proofs.Common.{◌≡◌, ◌∙◌, ℕ, ◌+◌, ◌<◌, max, nat_lt, true, length, List, [], ◌∷◌, ◌++◌, Option, Some, None, Result, Ok, Err, IfOk, OnOk, OnErr, refl, ap, sym, subst, arith, append-nil}
 use Rattle.std.specs.Prelude.{is_some, slice_get}
 use Rattle.std.proofs.lemmas.Bool.Decides.{nat_tests}
 use Rattle.std.proofs.lemmas.List.{map-append}
-use Rattle.sj_base.specs.declared.EndId.{EndId}
 use Rattle.sj_base.specs.declared.Msg.{Msg}
 use Rattle.sj_end.specs.declared.note.Event.TheVariants as events
-use Rattle.sj_end.specs.declared.note.Note.{Note}
 use Rattle.sj_end.specs.Lines.{entry_at, note_seen}
 use Rattle.sj_joined_lemmas.proofs.LaneWorkLemmas.{event_lane_work, in_itself, quiet_lane_work}
 use Rattle.sj_lang.specs.FileAt.{FileAt}
@@ -18,20 +16,20 @@ use Rattle.sj_node.specs.declared.refusal.Halt.{Halt}
 use Rattle.sj_node.specs.declared.seats.Call.{Call}
 use Rattle.sj_node.specs.declared.seats.Call.TheVariants as seats
 use Rattle.sj_node.specs.Node.{Does, Stays, clock_of, log_of, next_head, node_at, outbox_of}
-use Rattle.sj_node.specs.Reading.{parties_of, party_of}
+use Rattle.sj_node.specs.Reading.{parties_of}
 use Rattle.sj_node.specs.Seats.{IsCalled, call_note, head_taken, is_take, want_at}
 use Rattle.sj_node.proofs.SeatLemmas.{call_done, head_there}
 use Rattle.sj_rules.specs.Frames.{FrameAt, frames_for}
 use Rattle.sj_rules.specs.Limits.{limit_of_steps}
 use Rattle.sj_rules.specs.Node.{NodeAt, act_by}
-use Rattle.sj_rules.specs.NodeRun.{Acted, StepAt, Steps, frame_told, told_frames}
+use Rattle.sj_rules.specs.NodeRun.{Steps, frame_told, told_frames}
 use Rattle.sj_rules.specs.Work.{InStep, OutStep}
 use Rattle.sj_seat_laws.specs.Calls.{SeatedAt}
 use Rattle.sj_seat_laws.specs.Guards.{called, seated_want}
-use Rattle.sj_seat_laws.specs.SeatedPlay.{Player, seated, seated_play}
+use Rattle.sj_seat_laws.specs.SeatedPlay.{seated, seated_play}
 use Rattle.sj_seat_laws.specs.SeatRows.{silent, with_player}
 use Rattle.sj_semantics.specs.Program.{Program}
-use Rattle.sj_work.specs.Laned.{entries_of, laned}
+use Rattle.sj_work.specs.Laned.{entries_of}
 use Rattle.sj_work.specs.Views.{in_of, out_of}
 use Rattle.sj_work.specs.declared.worker.Worker.{Worker}
 use Rattle.sj_work.proofs.LaneLaws.{LaneLaws}

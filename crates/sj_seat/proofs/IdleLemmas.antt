@@ -1,11 +1,11 @@
 -- What a node does that has nothing to do of its own is what it does with code of a builder that makes no call meanwhile.
-use Rattle.std.proofs.Common.{◌≡◌, ◌∙◌, ℕ, max, if◌then◌else◌, Bool, true, false, List, [], ◌∷◌, length, Option, Some, None, option_map, refl, ap, sym, subst}
+use Rattle.std.proofs.Common.{◌≡◌, ◌∙◌, ℕ, max, if◌then◌else◌, Bool, true, false, List, [], ◌∷◌, length, Option, Some, None, option_map, refl, ap, sym}
 use Rattle.sj_lang.specs.FileAt.{FileAt}
 use Rattle.sj_lang.specs.Place.{Place, done}
 use Rattle.sj_rules.specs.Frames.{FrameAt}
 use Rattle.sj_rules.specs.Node as wanted
 use Rattle.sj_rules.specs.Node.{NodeAt, Play, act_by, acts, arrives}
-use Rattle.sj_rules.specs.NodeRun.{Acted, Came, Deed, NodeRun, StepAt, Steps, clock_after, deed_done, deed_note, event_of}
+use Rattle.sj_rules.specs.NodeRun.{Acted, Came, Deed, NodeRun, StepAt, Steps, clock_after, deed_done, deed_note}
 use Rattle.sj_rules.specs.Rows.{Worked}
 use Rattle.sj_rules.specs.Work.{LanedAt, LaneWork, LostAt}
 use Rattle.sj_seat_laws.specs.Calls.{SeatedAt}

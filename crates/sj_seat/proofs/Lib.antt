@@ -1,3 +1,4 @@
+mod AfterLemmas
 mod CalledLemmas
 mod CauseLemmas
 mod DoneLemmas

@@ -1,15 +1,13 @@
 -- What a worker does that has nothing to do of its own, as the laws see it beside the code.
-use Rattle.std.proofs.Common.{◌≡◌, ◌∙◌, ℕ, ◌≤◌, max, length, Option, Some, None, refl, ap, sym, subst}
+use Rattle.std.proofs.Common.{◌≡◌, ◌∙◌, ℕ, length, Option, Some, None, refl, ap, sym, subst}
 use Rattle.sj_lang.specs.FileAt.{FileAt}
-use Rattle.sj_lang.specs.Place.{Place, done}
-use Rattle.sj_node.specs.declared.node.Node.{Node}
-use Rattle.sj_node.specs.Node.{clock_of, node_at, play_here, wants_of}
+use Rattle.sj_lang.specs.Place.{Place}
+use Rattle.sj_node.specs.Node.{node_at, play_here, wants_of}
 use Rattle.sj_node.specs.Play.{next_want, want_with}
 use Rattle.sj_node.specs.Reading.{parties_of}
 use Rattle.sj_rules.specs.Node as wanted
 use Rattle.sj_rules.specs.Work.{LostAt}
 use Rattle.sj_seat_laws.specs.Calls.{SeatedAt}
-use Rattle.sj_semantics.specs.declared.Want.{Want}
 use Rattle.sj_semantics.specs.declared.Want.TheVariants as wants
 use Rattle.sj_table.specs.Spots.{start_in}
 use Rattle.sj_work.specs.Laned.{laned}

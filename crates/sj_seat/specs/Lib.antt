@@ -5,3 +5,4 @@ pub mod Places
 pub mod Rules
 pub mod Views
 pub mod Went
+pub mod Wishes

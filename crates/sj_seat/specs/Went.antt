@@ -1,5 +1,5 @@
 -- What a call of a guest did, whatever its code calls later, and why a call isn't done.
-use Rattle.std.specs.Prelude.{◌≡◌, ◌⊎◌, ℕ, ◌≤◌, max, false, ⊤, List, Option, Some, None, option_map}
+use Rattle.std.specs.Prelude.{◌≡◌, ◌⊎◌, ◌≤◌, max, false, ⊤, List, Option, Some, None, option_map}
 use Rattle.sj_base.specs.declared.EndId.{EndId}
 use Rattle.sj_base.specs.declared.Msg.{Msg}
 use Rattle.sj_lang.specs.FileAt.{FileAt}
@@ -28,7 +28,10 @@ use Rattle.sj_work.specs.Views.{stop_of}
 use Rattle.sj_work.specs.declared.worker.Stop.{Stop}
 use Rattle.sj_work.specs.declared.worker.Stop.TheVariants as stops
 use Rattle.sj_work.specs.declared.worker.Worker.{Worker}
-use Rattle.sj_seat.specs.Views.{calls_of, ends_of, laned_at, node_of, seat_of, worker_of}
+use Rattle.sj_seat.specs.Rules.{first_refusal}
+use Rattle.sj_seat.specs.Views.{calls_of, ends_of, laned_at, node_of, seat_of, texts_of, worker_of}
+use Rattle.sj_seat.specs.Wishes.{tests_of}
+use Rattle.sj_seat.specs.declared.wish.Wish.{Wish}
 use Rattle.sj_seat.specs.declared.guest.Guest.{Guest}
 use Rattle.sj_seat.specs.declared.refusal.SeatRefusal.{SeatRefusal}
 use Rattle.sj_seat.specs.declared.refusal.SeatRefusal.TheVariants as refusals
@@ -70,6 +73,10 @@ abbrev pub HasNoRow : Node → Want Place → Call → Type 0
 HasNoRow n want c = (call_of n want ≡ None) ⊎ NamesNothing n c
 
 module _ {O I G : Type 0} where
+  -- the first rule that applies to what the code asks for
+  abbrev pub first_rule : Guest O I G → Wish → Option SeatRefusal
+  first_rule g wish = first_refusal (tests_of (texts_of g) (calls_of g) (ends_of g) wish)
+
   -- the worker stopped for good: with that stop, or its clock can't rise any more
   abbrev pub IsStopped : Stop → Guest O I G → Type 0
   IsStopped stop g = (stop_of (worker_of g) ≡ Some stop) ⊎ ((stop ≡ stops.ClockEnd) × (clock_end ≤ clock_of (node_of g)))
@@ -92,6 +99,11 @@ module _ {O I G : Type 0} where
   IsHeldUp refusals.BeginsOtherwise c g = ⊥
   IsHeldUp refusals.WrongEnd c g = ⊥
   IsHeldUp refusals.WrongKind c g = ⊥
+
+  -- the first rule that applies refuses a call, and then nothing happens; where none does, it is held up
+  abbrev pub IsRefused : Option SeatRefusal → SeatRefusal → Call → (old new : Guest O I G) → Type 0
+  IsRefused (Some rule) r c old new = (r ≡ rule) × (new ≡ old)
+  IsRefused None r c old new = IsHeldUp r c new
 
   -- the same ends at the same places, and as many calls
   pub record Rests (old new : Guest O I G) : Type 0 where

@@ -1,19 +1,21 @@
 //! The rules by which a call is refused, in their order.
-ghost use Rattle.std.specs.Prelude.{◌≡◌, ◌<◌, false, IfOk, IfErr, None, Some, option_map, unwrap_or};
+ghost use Rattle.std.specs.Prelude.{◌≡◌, ◌<◌, false, true, IfOk, IfErr, None, Some, option_map, unwrap_or};
 ghost use Rattle.sj_lang.specs.Place.{done};
 ghost use Rattle.sj_seat.specs.Asked.{IsGuarded, asked};
+ghost use Rattle.sj_node.specs.Seats.{is_take};
 ghost use Rattle.sj_seat.specs.Holding.{ends_of};
 ghost use Rattle.sj_seat.specs.Places.{CarriesPlaces};
 ghost use Rattle.sj_seat.specs.Rules as rules;
 ghost use Rattle.sj_seat.specs.Rules.{is_full, is_missing, names_text, place_at};
+ghost use Rattle.sj_seat.specs.Wishes.{is_taking, tests_of, wished};
 ghost use Rattle.sj_seat_laws.specs.Calls as calls;
 ghost use Rattle.sj_seat_laws.specs.Calls.{place_held};
 ghost use Rattle.sj_table.specs.Spots.{place_in};
 
-use crate::SeatRefusal;
 use crate::ends::{HeldEnd, spot_held};
 use crate::fronts::{begins_with, may_carry, may_send, sends_end, takes_no_end};
 use crate::places::carried_spot;
+use crate::{SeatRefusal, Wish};
 use sj_base::{EndId, Msg};
 use sj_machine::MAX_STEPS;
 use sj_node::Call;
@@ -30,9 +32,31 @@ pub struct Guard<'a> {
 }
 
 impl Guard<'_> {
+    /// The node's call that the code asks for, or the first rule that refuses it.
+    pub fn check(&self, wish: Wish) -> Result<Call, SeatRefusal>
+        requires carries { CarriesPlaces self.now.table.now }
+        ensures call { IfOk result (λ c. asked c ≡ wished wish) }
+        ensures takes { IfOk result (λ c. is_take c ≡ is_taking wish) }
+        ensures guarded { IfOk result
+            (IsGuarded self.now.table.now (ends_of self.now) self.now.calls) }
+        ensures allowed { IfOk result (λ c. rules.first_refusal
+            (tests_of self.now.texts self.now.calls (ends_of self.now) wish) ≡ None) }
+        ensures refused { IfErr result (λ r. rules.first_refusal
+            (tests_of self.now.texts self.now.calls (ends_of self.now) wish) ≡ Some r) }
+    {
+        match wish {
+            Wish::Send { end, msg } => self.send(end, msg),
+            Wish::Delegate { carrier, end } => self.delegate(carrier, end),
+            Wish::Take { end } => self.take(end),
+            Wish::TakeEnd { end } => self.take_end(end),
+            Wish::Close { end } => self.close(end),
+        }
+    }
+
     /// The sending of a value or a label, or of whether a loop turns.
     pub fn send(&self, end: EndId, msg: Msg) -> Result<Call, SeatRefusal>
         ensures call { IfOk result (λ c. asked c ≡ calls.sends end msg) }
+        ensures takes { IfOk result (λ c. is_take c ≡ false) }
         ensures guarded { IfOk result (IsGuarded self.now.table.now (ends_of self.now) self.now.calls) }
         ensures allowed { IfOk result (λ c. rules.first_refusal
             (rules.send_tests self.now.texts self.now.calls (ends_of self.now) end msg) ≡ None) }
@@ -61,6 +85,7 @@ impl Guard<'_> {
     /// The delegation of an end on the other.
     pub fn delegate(&self, carrier: EndId, end: EndId) -> Result<Call, SeatRefusal>
         ensures call { IfOk result (λ c. asked c ≡ calls.delegates carrier end) }
+        ensures takes { IfOk result (λ c. is_take c ≡ false) }
         ensures guarded { IfOk result (IsGuarded self.now.table.now (ends_of self.now) self.now.calls) }
         ensures allowed { IfOk result (λ c. rules.first_refusal
             (rules.delegate_tests self.now.calls (ends_of self.now) carrier end) ≡ None) }
@@ -91,6 +116,7 @@ impl Guard<'_> {
     /// The close of an end.
     pub fn close(&self, end: EndId) -> Result<Call, SeatRefusal>
         ensures call { IfOk result (λ c. asked c ≡ calls.closes end) }
+        ensures takes { IfOk result (λ c. is_take c ≡ false) }
         ensures guarded { IfOk result (IsGuarded self.now.table.now (ends_of self.now) self.now.calls) }
         ensures allowed { IfOk result (λ c. rules.first_refusal
             (rules.close_tests self.now.calls (ends_of self.now) end) ≡ None) }
@@ -112,6 +138,7 @@ impl Guard<'_> {
     /// The take of a value, of a label, or of whether a loop turns.
     pub fn take(&self, end: EndId) -> Result<Call, SeatRefusal>
         ensures call { IfOk result (λ c. asked c ≡ calls.takes end) }
+        ensures takes { IfOk result (λ c. is_take c ≡ true) }
         ensures guarded { IfOk result (IsGuarded self.now.table.now (ends_of self.now) self.now.calls) }
         ensures allowed { IfOk result (λ c. rules.first_refusal
             (rules.take_tests self.now.calls (ends_of self.now) end) ≡ None) }
@@ -140,6 +167,7 @@ impl Guard<'_> {
     pub fn take_end(&self, end: EndId) -> Result<Call, SeatRefusal>
         requires carries { CarriesPlaces self.now.table.now }
         ensures call { IfOk result (λ c. asked c ≡ calls.takes end) }
+        ensures takes { IfOk result (λ c. is_take c ≡ true) }
         ensures guarded { IfOk result (IsGuarded self.now.table.now (ends_of self.now) self.now.calls) }
         ensures allowed { IfOk result (λ c. rules.first_refusal
             (rules.take_end_tests self.now.calls (ends_of self.now) end) ≡ None) }

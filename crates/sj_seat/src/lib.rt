@@ -1,6 +1,7 @@
 //! A party of a run that is played by a builder's own code.
 #![tactic(auto)]
 
+mod calls;
 mod deeds;
 mod ends;
 mod fronts;
@@ -10,6 +11,7 @@ mod laws;
 mod places;
 mod refusal;
 mod turns;
+mod wish;
 
 pub use ends::HeldEnd;
 pub use guards::Guard;
@@ -17,3 +19,4 @@ pub use guest::Guest;
 pub use laws::the_rules_are_the_guard;
 pub use places::carries_places;
 pub use refusal::SeatRefusal;
+pub use wish::Wish;

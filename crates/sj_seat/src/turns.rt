@@ -1,5 +1,5 @@
 //! Calls of a guest that no rule refuses, and the turns in which one waits.
-ghost use Rattle.std.specs.Prelude.{◌≡◌, ◌<◌, ◌∷◌, IfErr, IfOk, IfSome, List, None, OnErr, OnOk, Some};
+ghost use Rattle.std.specs.Prelude.{◌≡◌, ◌<◌, ◌∷◌, Err, IfErr, IfOk, IfSome, IsTrue, List, None, OnErr, OnOk, Some};
 ghost use Rattle.std.specs.Prelude.{is_some, length, vec_capacity, vec_len};
 ghost use Rattle.sj_lang.specs.FileAt.{FileAt};
 ghost use Rattle.sj_node.specs.Node.{clock_of};
@@ -8,7 +8,7 @@ ghost use Rattle.sj_node.specs.Seats.{is_take};
 ghost use Rattle.sj_rules.specs.Limits.{clock_end};
 ghost use Rattle.sj_seat.specs.Asked.{IsGuarded, asked};
 ghost use Rattle.sj_seat.specs.Views.{calls_of, ends_of, node_of, table_of, worker_of};
-ghost use Rattle.sj_seat.specs.Went.{IsHalt, IsHeldUp, Keeps, Rests, Went};
+ghost use Rattle.sj_seat.specs.Went.{IsHalt, IsHeldUp, IsStopped, Keeps, Rests, Went};
 ghost use Rattle.sj_seat_laws.specs.Calls as calls;
 ghost use Rattle.sj_work.specs.Views.{stop_of};
 ghost use Rattle.sj_work.specs.Worked.{kept_stop};
@@ -73,4 +73,102 @@ impl<O: OutLane, I: InLane, G: Gate> Guest<'_, O, I, G> {
             Err(halt) => Err(halt),
         }
     }
+
+    /// Why no call can be made any more, if so.
+    fn stopped(&self) -> Option<Stop>
+        ensures some { IfSome result (λ s. IsStopped s self.now) }
+        ensures none { result ≡ None → kept_stop (stop_of (worker_of self.now)) ≡ None }
+        ensures clock { result ≡ None → clock_of (node_of self.now) < clock_end }
+    {
+        match self.worker.stop() {
+            Some(stop @ (Stop::NoMemory | Stop::Fault | Stop::Unfit)) => Some(stop),
+            _ => {
+                if self.worker.node().clock() >= CLOCK_END {
+                    Some(Stop::ClockEnd)
+                } else {
+                    None
+                }
+            }
+        }
+    }
+
+    /// Does the call, where it can be done now, and pushes what waits then.
+    fn attempt(&mut self, call: Call) -> Result<Option<Msg>, SeatRefusal>
+        requires guarded { IsGuarded (table_of self.old) (ends_of self.old) (calls_of self.old) call }
+
+        // The call is made, or nothing is.
+        ensures ok { (file : FileAt) (rest : List calls.Call) →
+            length file.parties ≡ parties_of (node_of self.old) → OnOk result
+            (Went O.OutLane I.InLane file (asked call ∷ rest) rest self.old self.new) }
+        ensures err { (file : FileAt) (rest : List calls.Call) →
+            length file.parties ≡ parties_of (node_of self.old) → OnErr result
+            (Went O.OutLane I.InLane file rest rest self.old self.new) }
+        ensures rests { OnErr result (Rests self.old self.new) }
+        ensures takes { IfOk result (λ m. is_some m ≡ is_take call) }
+
+        // What stays in any case.
+        ensures keeps { Keeps (node_of self.old) (node_of self.new) }
+
+        // Why it isn't.
+        ensures cause { IfErr result (λ r. IsHeldUp r (asked call) self.new) }
+        ensures waits { result ≡ Err SeatRefusal.Waiting →
+            kept_stop (stop_of (worker_of self.new)) ≡ None }
+    {
+        if let Some(stop) = self.stopped() {
+            return Err(SeatRefusal::Stopped(stop));
+        }
+        if self.ends.reserve(1).is_err() {
+            return Err(SeatRefusal::NoMemory);
+        }
+        match self.make(call) {
+            Ok(msg) => {
+                let _ = self.wait();
+                Ok(msg)
+            }
+            Err(Halt::Waits) => Err(SeatRefusal::Waiting),
+            Err(Halt::AtLimit) => Err(SeatRefusal::AtLimit),
+            Err(Halt::NoMemory) => Err(SeatRefusal::NoMemory),
+            Err(Halt::Unfit) => Err(SeatRefusal::Stopped(Stop::Unfit)),
+            Err(Halt::Ended) => unreachable!(),
+        }
+    }
+
+    /// Does the call, where it can be done within as many turns in vain as there are looks.
+    pub(crate) fn act(&mut self, call: Call) -> Result<Option<Msg>, SeatRefusal>
+        requires guarded { IsGuarded (table_of self.old) (ends_of self.old) (calls_of self.old) call }
+
+        // The call is made, or nothing is.
+        ensures ok { (file : FileAt) (rest : List calls.Call) →
+            length file.parties ≡ parties_of (node_of self.old) → OnOk result
+            (Went O.OutLane I.InLane file (asked call ∷ rest) rest self.old self.new) }
+        ensures err { (file : FileAt) (rest : List calls.Call) →
+            length file.parties ≡ parties_of (node_of self.old) → OnErr result
+            (Went O.OutLane I.InLane file rest rest self.old self.new) }
+        ensures rests { OnErr result (Rests self.old self.new) }
+        ensures takes { IfOk result (λ m. is_some m ≡ is_take call) }
+
+        // What stays in any case.
+        ensures keeps { Keeps (node_of self.old) (node_of self.new) }
+
+        // Why it isn't.
+        ensures cause { IfErr result (λ r. IsHeldUp r (asked call) self.new) }
+    {
+        for _ in 0..self.looks {
+            let answer = self.attempt(call);
+            if !is_waiting(&answer) {
+                return answer;
+            }
+            if let Some(stop) = self.wait() {
+                return Err(SeatRefusal::Stopped(stop));
+            }
+        }
+        self.attempt(call)
+    }
+}
+
+// Whether the call waits yet.
+fn is_waiting(answer: &Result<Option<Msg>, SeatRefusal>) -> bool
+    ensures { IsTrue result → answer.now ≡ Err SeatRefusal.Waiting }
+{
+    matches!(answer, Err(SeatRefusal::Waiting))
 }

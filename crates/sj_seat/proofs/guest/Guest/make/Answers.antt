@@ -2,7 +2,7 @@ use Rattle.sj_seat.proofs.CauseLemmas.{same_want}
 use Rattle.sj_seat.proofs.guest.Guest.make.Goals as goal
 use Rattle.std.proofs.Common.{◌≡◌, ◌∙◌, ◌∷◌, ◌+◌, ap, sym, subst}
 use Rattle.sj_seat_laws.specs.Calls.{SeatedAt}
-use Rattle.sj_seat_laws.specs.Guards.{called, ends_after}
+use Rattle.sj_seat_laws.specs.Guards.{ends_after}
 use Rattle.sj_node.specs.Seats.{head_taken}
 use Rattle.sj_seat.specs.Asked.{asked}
 use Rattle.sj_seat.specs.Holding.{ends_at}
