@@ -2,6 +2,7 @@ mod AfterLemmas
 mod CalledLemmas
 mod CauseLemmas
 mod DoneLemmas
+mod FirstLemmas
 mod HoldingLemmas
 mod IdleLemmas
 mod MovedLemmas

@@ -1,5 +1,5 @@
 -- The rules by which a call is refused, in their order, and the first that applies.
-use Rattle.std.specs.Prelude.{ℕ, Bool, true, not, ◌&&◌, ◌||◌, nat_lt, nat_le, is_none, List, [], ◌∷◌, Option, Some, None, unwrap_or, if◌then◌else◌}
+use Rattle.std.specs.Prelude.{ℕ, ◌^◌, Bool, true, not, ◌&&◌, ◌||◌, nat_lt, nat_le, is_none, List, [], ◌∷◌, Option, Some, None, unwrap_or, if◌then◌else◌}
 use Rattle.sj_base.specs.declared.EndId.{EndId}
 use Rattle.sj_base.specs.declared.Msg.{Msg}
 use Rattle.sj_base.specs.declared.Msg.TheVariants as msgs
@@ -22,6 +22,10 @@ is_missing bs e = is_none (place_held bs e)
 -- the place of the end; the empty one where it isn't held
 abbrev pub place_at : Ends → EndId → Place
 place_at bs e = unwrap_or (place_held bs e) done
+
+-- a message names no more texts
+abbrev pub limit_of_texts : ℕ
+limit_of_texts = 2 ^ 32
 
 -- a text is one of so many
 abbrev pub names_text : (texts : ℕ) → Msg → Bool

@@ -29,29 +29,3 @@ pub struct Guest<'a, O, I, G> {
     ghost idle: { wants_of (node_of worker) ≡ wants.Ended },
     ghost carries: { CarriesPlaces table },
 }
-
-impl<'a, O, I, G> Guest<'a, O, I, G> {
-    /// The party before its first call, which holds these ends.
-    pub fn new(
-        worker: Worker<O, I>,
-        table: Table,
-        ends: Vec<HeldEnd>,
-        texts: usize,
-        looks: u32,
-        gate: &'a G,
-    ) -> Guest<'a, O, I, G>
-        requires same { table ≡ table_of (node_of worker) }
-        requires idle { wants_of (node_of worker) ≡ wants.Ended }
-        requires carries { CarriesPlaces table }
-    {
-        Guest {
-            worker,
-            table,
-            ends,
-            texts,
-            calls: 0,
-            looks,
-            gate,
-        }
-    }
-}

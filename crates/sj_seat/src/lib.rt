@@ -4,12 +4,14 @@
 mod calls;
 mod deeds;
 mod ends;
+mod firsts;
 mod fronts;
 mod guards;
 mod guest;
 mod laws;
 mod places;
 mod refusal;
+mod starts;
 mod turns;
 mod wish;
 
