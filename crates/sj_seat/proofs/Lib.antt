@@ -1,0 +1,10 @@
+mod AfterLemmas
+mod CalledLemmas
+mod CauseLemmas
+mod DoneLemmas
+mod FirstLemmas
+mod HoldingLemmas
+mod IdleLemmas
+mod MovedLemmas
+mod RuleLemmas
+mod WaitLemmas

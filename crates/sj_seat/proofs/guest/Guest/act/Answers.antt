@@ -1,0 +1,74 @@
+use Rattle.std.proofs.Common.{◌≡◌, ◌∷◌, Err}
+use Rattle.sj_work.proofs.LaneLaws.{laws}
+use Rattle.sj_seat.specs.Asked.{asked}
+use Rattle.sj_seat.specs.declared.refusal.SeatRefusal.TheVariants as refusals
+use Rattle.sj_seat.proofs.AfterLemmas.{waited_err, waited_more, waited_none, waited_ok, waited_then, waited_vain}
+use Rattle.sj_seat.proofs.guest.Guest.act.Goals as goal
+
+pub loop-init : goal.loop-init
+loop-init g c =
+    let ol = g.met.O.OutLane g.world.𝓛 g.world.𝓜 g.world.𝓡 (λ s x. x, λ x. x, λ x. x, λ x. x) in
+    let il = g.met.I.InLane g.world.𝓛 g.world.𝓜 g.world.𝓡 (λ s x. x, λ x. x, λ x. x, λ x. x) in
+    let k = laws g.O.OutLane g.I.InLane ol.same_itself ol.same_later il.same_itself il.same_later in
+    waited_none k c.args.self.now
+
+pub returns-then-not-is_waiting-clause-ok : goal.returns-then-not-is_waiting-clause-ok
+returns-then-not-is_waiting-clause-ok g c =
+    let ol = g.met.O.OutLane g.world.𝓛 g.world.𝓜 g.world.𝓡 (λ s x. x, λ x. x, λ x. x, λ x. x) in
+    let il = g.met.I.InLane g.world.𝓛 g.world.𝓜 g.world.𝓡 (λ s x. x, λ x. x, λ x. x, λ x. x) in
+    let k = laws g.O.OutLane g.I.InLane ol.same_itself ol.same_later il.same_itself il.same_later in
+    let h = c.attempt-answer.ensures in
+    λ file rest parties. waited_ok k c.args.self.now c.loop.self c.attempt-answer.new.self c.attempt-answer.result file (asked c.args.call ∷ rest) rest c.loop.invariant parties (h.ok file rest)
+
+pub returns-then-not-is_waiting-clause-err : goal.returns-then-not-is_waiting-clause-err
+returns-then-not-is_waiting-clause-err g c =
+    let ol = g.met.O.OutLane g.world.𝓛 g.world.𝓜 g.world.𝓡 (λ s x. x, λ x. x, λ x. x, λ x. x) in
+    let il = g.met.I.InLane g.world.𝓛 g.world.𝓜 g.world.𝓡 (λ s x. x, λ x. x, λ x. x, λ x. x) in
+    let k = laws g.O.OutLane g.I.InLane ol.same_itself ol.same_later il.same_itself il.same_later in
+    let h = c.attempt-answer.ensures in
+    λ file rest parties. waited_err k c.args.self.now c.loop.self c.attempt-answer.new.self c.attempt-answer.result file rest rest c.loop.invariant parties (h.err file rest)
+
+pub returns-in-Some-clause-err : goal.returns-in-Some-clause-err
+returns-in-Some-clause-err g c =
+    let ol = g.met.O.OutLane g.world.𝓛 g.world.𝓜 g.world.𝓡 (λ s x. x, λ x. x, λ x. x, λ x. x) in
+    let il = g.met.I.InLane g.world.𝓛 g.world.𝓜 g.world.𝓡 (λ s x. x, λ x. x, λ x. x, λ x. x) in
+    let k = laws g.O.OutLane g.I.InLane ol.same_itself ol.same_later il.same_itself il.same_later in
+    let a = c.args.self.now in
+    let l = c.loop.self in
+    let m = c.attempt-answer.new.self in
+    let r = c.attempt-answer.result in
+    let h = c.attempt-answer.ensures in
+    let waiting : r ≡ Err refusals.Waiting = c.is_waiting.ensures c.if-not-is_waiting.false in
+    let vain = waited_vain k a l m r refusals.Waiting waiting c.loop.invariant h.keeps h.rests (h.waits waiting) h.err in
+    λ file rest parties. waited_then k a m c.wait.new.self file rest rest vain parties (c.wait.ensures.went file rest)
+
+pub loop-preserved : goal.loop-preserved
+loop-preserved g c =
+    let ol = g.met.O.OutLane g.world.𝓛 g.world.𝓜 g.world.𝓡 (λ s x. x, λ x. x, λ x. x, λ x. x) in
+    let il = g.met.I.InLane g.world.𝓛 g.world.𝓜 g.world.𝓡 (λ s x. x, λ x. x, λ x. x, λ x. x) in
+    let k = laws g.O.OutLane g.I.InLane ol.same_itself ol.same_later il.same_itself il.same_later in
+    let a = c.args.self.now in
+    let l = c.loop.self in
+    let m = c.attempt-answer.new.self in
+    let r = c.attempt-answer.result in
+    let h = c.attempt-answer.ensures in
+    let waiting : r ≡ Err refusals.Waiting = c.is_waiting.ensures c.if-not-is_waiting.false in
+    let vain = waited_vain k a l m r refusals.Waiting waiting c.loop.invariant h.keeps h.rests (h.waits waiting) h.err in
+    let w = c.wait.ensures in
+    waited_more k a m c.wait.new.self vain w.keeps w.rests (w.none c.in_default.is) w.went
+
+pub returns-clause-ok : goal.returns-clause-ok
+returns-clause-ok g c =
+    let ol = g.met.O.OutLane g.world.𝓛 g.world.𝓜 g.world.𝓡 (λ s x. x, λ x. x, λ x. x, λ x. x) in
+    let il = g.met.I.InLane g.world.𝓛 g.world.𝓜 g.world.𝓡 (λ s x. x, λ x. x, λ x. x, λ x. x) in
+    let k = laws g.O.OutLane g.I.InLane ol.same_itself ol.same_later il.same_itself il.same_later in
+    let h = c.attempt.ensures in
+    λ file rest parties. waited_ok k c.args.self.now c.loop.self c.attempt.new.self c.attempt.result file (asked c.args.call ∷ rest) rest c.loop.invariant parties (h.ok file rest)
+
+pub returns-clause-err : goal.returns-clause-err
+returns-clause-err g c =
+    let ol = g.met.O.OutLane g.world.𝓛 g.world.𝓜 g.world.𝓡 (λ s x. x, λ x. x, λ x. x, λ x. x) in
+    let il = g.met.I.InLane g.world.𝓛 g.world.𝓜 g.world.𝓡 (λ s x. x, λ x. x, λ x. x, λ x. x) in
+    let k = laws g.O.OutLane g.I.InLane ol.same_itself ol.same_later il.same_itself il.same_later in
+    let h = c.attempt.ensures in
+    λ file rest parties. waited_err k c.args.self.now c.loop.self c.attempt.new.self c.attempt.result file rest rest c.loop.invariant parties (h.err file rest)

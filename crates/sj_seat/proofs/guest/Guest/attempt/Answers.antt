@@ -1,0 +1,46 @@
+use Rattle.std.proofs.Common.{◌≡◌, ◌∙◌, ◌∷◌, None, ap, refl, subst, sym}
+use Rattle.sj_work.specs.Views.{stop_of}
+use Rattle.sj_work.specs.Worked.{kept_stop}
+use Rattle.sj_work.proofs.LaneLaws.{laws}
+use Rattle.sj_seat_laws.specs.Calls.{SeatedAt}
+use Rattle.sj_seat.specs.Asked.{asked}
+use Rattle.sj_seat.specs.Holding.{ends_at}
+use Rattle.sj_seat.specs.Views.{seat_of}
+use Rattle.sj_seat.specs.Went.{SeatWork}
+use Rattle.sj_seat.proofs.AfterLemmas.{done_after, nothing_done}
+use Rattle.sj_seat.proofs.guest.Guest.attempt.Goals as goal
+
+pub returns-in-Some-clause-err : goal.returns-in-Some-clause-err
+returns-in-Some-clause-err g c =
+    let ol = g.met.O.OutLane g.world.𝓛 g.world.𝓜 g.world.𝓡 (λ s x. x, λ x. x, λ x. x, λ x. x) in
+    let il = g.met.I.InLane g.world.𝓛 g.world.𝓜 g.world.𝓡 (λ s x. x, λ x. x, λ x. x, λ x. x) in
+    let k = laws g.O.OutLane g.I.InLane ol.same_itself ol.same_later il.same_itself il.same_later in
+    let a = c.args.self.now in
+    λ file rest parties. nothing_done k file (seat_of rest a) (seat_of rest a) a.worker refl
+
+pub returns-then-is_err-clause-err : goal.returns-then-is_err-clause-err
+returns-then-is_err-clause-err g c =
+    let ol = g.met.O.OutLane g.world.𝓛 g.world.𝓜 g.world.𝓡 (λ s x. x, λ x. x, λ x. x, λ x. x) in
+    let il = g.met.I.InLane g.world.𝓛 g.world.𝓜 g.world.𝓡 (λ s x. x, λ x. x, λ x. x, λ x. x) in
+    let k = laws g.O.OutLane g.I.InLane ol.same_itself ol.same_later il.same_itself il.same_later in
+    let a = c.args.self.now in
+    λ file rest parties.
+    let after : SeatedAt = record { ends = ends_at a.table c.reserve.new.self.items; steps = a.calls; calls = rest } in
+    nothing_done k file (seat_of rest a) after a.worker (λ i. record { ends = ends_at a.table (c.reserve.ensures.items i); steps = a.calls; calls = rest })
+
+pub returns-in-Ok-clause-ok : goal.returns-in-Ok-clause-ok
+returns-in-Ok-clause-ok g c =
+    let ol = g.met.O.OutLane g.world.𝓛 g.world.𝓜 g.world.𝓡 (λ s x. x, λ x. x, λ x. x, λ x. x) in
+    let il = g.met.I.InLane g.world.𝓛 g.world.𝓜 g.world.𝓡 (λ s x. x, λ x. x, λ x. x, λ x. x) in
+    let k = laws g.O.OutLane g.I.InLane ol.same_itself ol.same_later il.same_itself il.same_later in
+    let a = c.args.self.now in
+    let m = c.make.new.self in
+    let b = c.wait.new.self in
+    let h = c.in-Ok.ensures in
+    let kept : kept_stop (stop_of m.worker) ≡ None = ap kept_stop h.stop ∙ c.stopped.ensures.none c.in_default.is in
+    λ file rest parties.
+    let before = seat_of (asked c.args.call ∷ rest) a in
+    let made : SeatWork g.O.OutLane g.I.InLane file before (seat_of rest m) a.worker m.worker =
+    subst (λ (s : SeatedAt). SeatWork g.O.OutLane g.I.InLane file s (seat_of rest m) a.worker m.worker)
+    (λ i. record { ends = ends_at a.table (c.reserve.ensures.items i); steps = a.calls; calls = asked c.args.call ∷ rest }) (h.ok file rest parties) in
+    done_after k file before (seat_of rest m) (seat_of rest b) a.worker m.worker b.worker kept h.keeps.party made (c.wait.ensures.went file rest (parties ∙ sym h.keeps.parties))

@@ -1,0 +1,31 @@
+-- The step that a call of a node is, at the places for which its spots stand, and the call of the laws.
+use Rattle.std.specs.Prelude.{◌≡◌, ℕ, ◌<◌}
+use Rattle.sj_lang.specs.Place.{Place}
+use Rattle.sj_node.specs.declared.seats.Call as seats
+use Rattle.sj_node.specs.declared.seats.Call.TheVariants.{Send, Delegate, Take, Close}
+use Rattle.sj_rules.specs.Limits.{limit_of_steps}
+use Rattle.sj_rules.specs.Node as wanted
+use Rattle.sj_rules.specs.Node.{Want}
+use Rattle.sj_seat_laws.specs.Calls.{Call, Ends, closes, delegates, sends, takes}
+use Rattle.sj_seat_laws.specs.Guards.{want_of_call}
+use Rattle.sj_table.specs.declared.table.Table.{Table}
+use Rattle.sj_table.specs.Spots.{place_in}
+
+-- the step that it is
+abbrev pub want_in : Table → seats.Call → Want Place
+want_in t (Send e m) = wanted.sends e m
+want_in t (Delegate c e) = wanted.delegates c e
+want_in t (Take e place) = wanted.takes e (place_in t place)
+want_in t (Close e) = wanted.closes e
+
+-- the call that it is
+abbrev pub asked : seats.Call → Call
+asked (Send e m) = sends e m
+asked (Delegate c e) = delegates c e
+asked (Take e place) = takes e
+asked (Close e) = closes e
+
+-- it is the step of that call, and calls are left
+pub record IsGuarded (t : Table) (bs : Ends) (calls : ℕ) (call : seats.Call) : Type 0 where
+  pub want : want_in t call ≡ want_of_call bs (asked call)
+  pub few : calls < limit_of_steps

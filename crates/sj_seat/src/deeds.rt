@@ -1,0 +1,67 @@
+//! What a worker does whose party is played by code: deliveries, and a call.
+ghost use Rattle.std.specs.Prelude.{◌≡◌, ◌<◌, IfOk, IfErr, IsErrOf, OnErr, OnOk, Some, is_some, length};
+ghost use Rattle.sj_lang.specs.FileAt.{FileAt};
+ghost use Rattle.sj_node.specs.Node.{clock_of, wants_of};
+ghost use Rattle.sj_node.specs.Reading.{parties_of};
+ghost use Rattle.sj_node.specs.Seats.{head_taken, is_take, want_at};
+ghost use Rattle.sj_node.specs.declared.refusal.Halt.TheVariants as halts;
+ghost use Rattle.sj_rules.specs.Limits.{clock_end, limit_of_steps};
+ghost use Rattle.sj_seat.specs.Asked.{asked};
+ghost use Rattle.sj_seat.specs.Went.{HasNoRow, Keeps, SeatWork, held_up};
+ghost use Rattle.sj_seat_laws.specs.Calls.{SeatedAt};
+ghost use Rattle.sj_seat_laws.specs.Guards.{called, seated_want};
+ghost use Rattle.sj_semantics.specs.declared.Want.TheVariants as wants;
+ghost use Rattle.sj_work.specs.Views.{node_of, stop_of};
+
+use sj_base::Msg;
+use sj_lane::{InLane, OutLane};
+use sj_node::{Call, Halt};
+use sj_work::{Gate, Stop, Worker, work};
+
+/// Takes what came, and pushes what waits, until a turn has no event.
+pub(crate) fn deliver_all<O: OutLane, I: InLane, G: Gate>(
+    worker: &mut Worker<O, I>,
+    gate: &G,
+) -> Stop
+    requires idle { wants_of (node_of worker.old) ≡ wants.Ended }
+    ensures keeps { Keeps (node_of worker.old) (node_of worker.new) }
+    ensures idle { wants_of (node_of worker.new) ≡ wants.Ended }
+    ensures work { (file : FileAt) (s : SeatedAt) →
+        length file.parties ≡ parties_of (node_of worker.old) →
+        SeatWork O.OutLane I.InLane file s s worker.old worker.new }
+    ensures stop { stop_of worker.new ≡ Some result }
+{
+    work(worker, 1, gate)
+}
+
+/// Does the call, the guarded one of the party, where the node can. Whatever it refuses, the node is as it was.
+pub(crate) fn do_call<O: OutLane, I: InLane, G: Gate>(
+    worker: &mut Worker<O, I>,
+    call: Call,
+    gate: &G,
+) -> Result<Option<Msg>, Halt>
+    requires idle { wants_of (node_of worker.old) ≡ wants.Ended }
+    requires clock { clock_of (node_of worker.old) < clock_end }
+    ensures keeps { Keeps (node_of worker.old) (node_of worker.new) }
+    ensures idle { wants_of (node_of worker.new) ≡ wants.Ended }
+    ensures ok { (file : FileAt) (s : SeatedAt) →
+        length file.parties ≡ parties_of (node_of worker.old) →
+        seated_want s ≡ want_at (node_of worker.old) call → s.steps < limit_of_steps →
+        OnOk result (SeatWork O.OutLane I.InLane file s
+        (called s (head_taken (node_of worker.old) call)) worker.old worker.new) }
+    ensures err { (file : FileAt) (s : SeatedAt) →
+        length file.parties ≡ parties_of (node_of worker.old) →
+        OnErr result (SeatWork O.OutLane I.InLane file s s worker.old worker.new) }
+    ensures taken { IfOk result (λ m. m ≡ head_taken (node_of worker.old) call) }
+    ensures takes { IfOk result (λ m. is_some m ≡ is_take call) }
+    ensures stop { stop_of worker.new ≡ stop_of worker.old }
+    ensures waits { IsErrOf result Halt.Waits →
+        held_up (node_of worker.new) (want_at (node_of worker.old) call) ≡ Some halts.Waits }
+    ensures at_limit { IsErrOf result Halt.AtLimit →
+        held_up (node_of worker.new) (want_at (node_of worker.old) call) ≡ Some halts.AtLimit }
+    ensures unfit { IsErrOf result Halt.Unfit →
+        HasNoRow (node_of worker.new) (want_at (node_of worker.old) call) (asked call) }
+    ensures ended { IsErrOf result Halt.Ended → ⊥ }
+{
+    worker.call(call, gate)
+}

@@ -1,0 +1,24 @@
+//! A party of a run that is played by a builder's own code.
+#![tactic(auto)]
+
+mod calls;
+mod deeds;
+mod ends;
+mod firsts;
+mod fronts;
+mod guards;
+mod guest;
+mod laws;
+mod places;
+mod refusal;
+mod starts;
+mod turns;
+mod wish;
+
+pub use ends::HeldEnd;
+pub use guards::Guard;
+pub use guest::Guest;
+pub use laws::the_rules_are_the_guard;
+pub use places::carries_places;
+pub use refusal::SeatRefusal;
+pub use wish::Wish;

@@ -1,0 +1,174 @@
+//! Calls of a guest that no rule refuses, and the turns in which one waits.
+ghost use Rattle.std.specs.Prelude.{◌≡◌, ◌<◌, ◌∷◌, Err, IfErr, IfOk, IfSome, IsTrue, List, None, OnErr, OnOk, Some};
+ghost use Rattle.std.specs.Prelude.{is_some, length, vec_capacity, vec_len};
+ghost use Rattle.sj_lang.specs.FileAt.{FileAt};
+ghost use Rattle.sj_node.specs.Node.{clock_of};
+ghost use Rattle.sj_node.specs.Reading.{parties_of};
+ghost use Rattle.sj_node.specs.Seats.{is_take};
+ghost use Rattle.sj_rules.specs.Limits.{clock_end};
+ghost use Rattle.sj_seat.specs.Asked.{IsGuarded, asked};
+ghost use Rattle.sj_seat.specs.Views.{calls_of, ends_of, node_of, table_of, worker_of};
+ghost use Rattle.sj_seat.specs.Went.{IsHalt, IsHeldUp, IsStopped, Keeps, Rests, Went};
+ghost use Rattle.sj_seat_laws.specs.Calls as calls;
+ghost use Rattle.sj_work.specs.Views.{stop_of};
+ghost use Rattle.sj_work.specs.Worked.{kept_stop};
+
+use crate::deeds::{deliver_all, do_call};
+use crate::ends::go_on;
+use crate::{Guest, SeatRefusal};
+use sj_base::Msg;
+use sj_end::CLOCK_END;
+use sj_lane::{InLane, OutLane};
+use sj_node::{Call, Halt};
+use sj_work::{Gate, Stop};
+
+impl<O: OutLane, I: InLane, G: Gate> Guest<'_, O, I, G> {
+    /// Takes what came, and pushes what waits, until a turn has no event. Answers the stop that stays,
+    /// if any.
+    fn wait(&mut self) -> Option<Stop>
+        ensures went { (file : FileAt) (rest : List calls.Call) →
+            length file.parties ≡ parties_of (node_of self.old) →
+            Went O.OutLane I.InLane file rest rest self.old self.new }
+        ensures keeps { Keeps (node_of self.old) (node_of self.new) }
+        ensures rests { Rests self.old self.new }
+        ensures none { result ≡ None → kept_stop (stop_of (worker_of self.new)) ≡ None }
+        ensures some { IfSome result (λ s. stop_of (worker_of self.new) ≡ Some s) }
+    {
+        let stop = deliver_all(&mut self.worker, self.gate);
+        match stop {
+            Stop::ClockEnd | Stop::NoMemory | Stop::Fault | Stop::Unfit => Some(stop),
+            Stop::Finished | Stop::Idle | Stop::AtLimit => None,
+        }
+    }
+
+    /// Does the call, where the node can.
+    fn make(&mut self, call: Call) -> Result<Option<Msg>, Halt>
+        requires guarded { IsGuarded (table_of self.old) (ends_of self.old) (calls_of self.old) call }
+        requires clock { clock_of (node_of self.old) < clock_end }
+        requires room { vec_len self.old.ends < vec_capacity self.old.ends }
+
+        // The call is made, or nothing is.
+        ensures ok { (file : FileAt) (rest : List calls.Call) →
+            length file.parties ≡ parties_of (node_of self.old) → OnOk result
+            (Went O.OutLane I.InLane file (asked call ∷ rest) rest self.old self.new) }
+        ensures err { (file : FileAt) (rest : List calls.Call) →
+            length file.parties ≡ parties_of (node_of self.old) → OnErr result
+            (Went O.OutLane I.InLane file rest rest self.old self.new) }
+        ensures rests { OnErr result (Rests self.old self.new) }
+        ensures takes { IfOk result (λ m. is_some m ≡ is_take call) }
+
+        // What stays in any case.
+        ensures keeps { Keeps (node_of self.old) (node_of self.new) }
+        ensures stop { stop_of (worker_of self.new) ≡ stop_of (worker_of self.old) }
+
+        // Why it isn't.
+        ensures cause { IfErr result (λ h. IsHalt h (asked call) self.new) }
+    {
+        match do_call(&mut self.worker, call, self.gate) {
+            Ok(msg) => {
+                go_on(&self.table, &mut self.ends, call, msg);
+                self.calls += 1;
+                Ok(msg)
+            }
+            Err(halt) => Err(halt),
+        }
+    }
+
+    /// Why no call can be made any more, if so.
+    fn stopped(&self) -> Option<Stop>
+        ensures some { IfSome result (λ s. IsStopped s self.now) }
+        ensures none { result ≡ None → kept_stop (stop_of (worker_of self.now)) ≡ None }
+        ensures clock { result ≡ None → clock_of (node_of self.now) < clock_end }
+    {
+        match self.worker.stop() {
+            Some(stop @ (Stop::NoMemory | Stop::Fault | Stop::Unfit)) => Some(stop),
+            _ => {
+                if self.worker.node().clock() >= CLOCK_END {
+                    Some(Stop::ClockEnd)
+                } else {
+                    None
+                }
+            }
+        }
+    }
+
+    /// Does the call, where it can be done now, and pushes what waits then.
+    fn attempt(&mut self, call: Call) -> Result<Option<Msg>, SeatRefusal>
+        requires guarded { IsGuarded (table_of self.old) (ends_of self.old) (calls_of self.old) call }
+
+        // The call is made, or nothing is.
+        ensures ok { (file : FileAt) (rest : List calls.Call) →
+            length file.parties ≡ parties_of (node_of self.old) → OnOk result
+            (Went O.OutLane I.InLane file (asked call ∷ rest) rest self.old self.new) }
+        ensures err { (file : FileAt) (rest : List calls.Call) →
+            length file.parties ≡ parties_of (node_of self.old) → OnErr result
+            (Went O.OutLane I.InLane file rest rest self.old self.new) }
+        ensures rests { OnErr result (Rests self.old self.new) }
+        ensures takes { IfOk result (λ m. is_some m ≡ is_take call) }
+
+        // What stays in any case.
+        ensures keeps { Keeps (node_of self.old) (node_of self.new) }
+
+        // Why it isn't.
+        ensures cause { IfErr result (λ r. IsHeldUp r (asked call) self.new) }
+        ensures waits { result ≡ Err SeatRefusal.Waiting →
+            kept_stop (stop_of (worker_of self.new)) ≡ None }
+    {
+        if let Some(stop) = self.stopped() {
+            return Err(SeatRefusal::Stopped(stop));
+        }
+        if self.ends.reserve(1).is_err() {
+            return Err(SeatRefusal::NoMemory);
+        }
+        match self.make(call) {
+            Ok(msg) => {
+                let _ = self.wait();
+                Ok(msg)
+            }
+            Err(Halt::Waits) => Err(SeatRefusal::Waiting),
+            Err(Halt::AtLimit) => Err(SeatRefusal::AtLimit),
+            Err(Halt::NoMemory) => Err(SeatRefusal::NoMemory),
+            Err(Halt::Unfit) => Err(SeatRefusal::Stopped(Stop::Unfit)),
+            Err(Halt::Ended) => unreachable!(),
+        }
+    }
+
+    /// Does the call, where it can be done within as many turns in vain as there are looks.
+    pub(crate) fn act(&mut self, call: Call) -> Result<Option<Msg>, SeatRefusal>
+        requires guarded { IsGuarded (table_of self.old) (ends_of self.old) (calls_of self.old) call }
+
+        // The call is made, or nothing is.
+        ensures ok { (file : FileAt) (rest : List calls.Call) →
+            length file.parties ≡ parties_of (node_of self.old) → OnOk result
+            (Went O.OutLane I.InLane file (asked call ∷ rest) rest self.old self.new) }
+        ensures err { (file : FileAt) (rest : List calls.Call) →
+            length file.parties ≡ parties_of (node_of self.old) → OnErr result
+            (Went O.OutLane I.InLane file rest rest self.old self.new) }
+        ensures rests { OnErr result (Rests self.old self.new) }
+        ensures takes { IfOk result (λ m. is_some m ≡ is_take call) }
+
+        // What stays in any case.
+        ensures keeps { Keeps (node_of self.old) (node_of self.new) }
+
+        // Why it isn't.
+        ensures cause { IfErr result (λ r. IsHeldUp r (asked call) self.new) }
+    {
+        for _ in 0..self.looks {
+            let answer = self.attempt(call);
+            if !is_waiting(&answer) {
+                return answer;
+            }
+            if let Some(stop) = self.wait() {
+                return Err(SeatRefusal::Stopped(stop));
+            }
+        }
+        self.attempt(call)
+    }
+}
+
+// Whether the call waits yet.
+fn is_waiting(answer: &Result<Option<Msg>, SeatRefusal>) -> bool
+    ensures { IsTrue result → answer.now ≡ Err SeatRefusal.Waiting }
+{
+    matches!(answer, Err(SeatRefusal::Waiting))
+}

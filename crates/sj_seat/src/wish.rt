@@ -1,0 +1,18 @@
+//! What a builder's code calls.
+
+use sj_base::{EndId, Msg};
+
+/// What a builder's code calls: a step on the ends that its party holds.
+#[derive(Clone, Copy, Debug, PartialEq, Eq)]
+pub enum Wish {
+    /// Sends a value or a label, or says whether a loop turns.
+    Send { end: EndId, msg: Msg },
+    /// Delegates the end on the carrier.
+    Delegate { carrier: EndId, end: EndId },
+    /// Takes a value or a label, or whether a loop turns.
+    Take { end: EndId },
+    /// Takes an end, which is held from then on.
+    TakeEnd { end: EndId },
+    /// Closes the end.
+    Close { end: EndId },
+}
