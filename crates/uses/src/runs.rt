@@ -1,12 +1,13 @@
 //! An accepted file run by its parties, over rings or over links of the caller's own.
 ghost use Rattle.std.specs.Prelude.{◌≡◌, ◌+◌, Err, IfErr, IfOk, length, map, max, take, true};
 ghost use Rattle.sj_check.specs.Held.{file_in};
-ghost use Rattle.sj_core.specs.World.{history_of, world_at};
+ghost use Rattle.sj_core.specs.World.{history_of, kept_file, world_at};
 ghost use Rattle.sj_lane.specs.Told.{Rose};
 ghost use Rattle.sj_lang.specs.FileView.{file_of};
+ghost use Rattle.sj_plain.specs.Kept.{without_words};
+ghost use Rattle.sj_rules.specs.Events.{acts_in};
 ghost use Rattle.sj_rules.specs.History.{IsHistory, IsQuietAmong, turn_of};
 ghost use Rattle.sj_rules.specs.Party.{play_of};
-ghost use Rattle.sj_rules.specs.Events.{acts_in};
 ghost use Rattle.sj_run.specs.Damage.{IsDamaged};
 ghost use Rattle.sj_run.specs.Refusals.{IsDamagedOver};
 ghost use Rattle.sj_run.specs.Workers.{AreLoggedOver};
@@ -40,7 +41,9 @@ pub fn run_file<R: Threads + Sync, L: Links>(
     accepted: &Accepted,
     links: &mut L,
 ) -> Result<Ran, RunRefusal>
-    // A history of the file, after which nothing is left to do. Its acts end where the file ends.
+    // A world of the file, and its history, after which nothing is left to do. Its acts end where
+    // the file ends.
+    ensures kept { IfOk result (λ r. kept_file r.world ≡ without_words (file_of (file_in accepted.now))) }
     ensures history { IfOk result (λ r. IsHistory max (file_of (file_in accepted.now))
         (history_of r.world) (world_at r.world)) }
     ensures quiet { IfOk result (λ r. IsQuietAmong (play_of (file_of (file_in accepted.now)))
