@@ -8,6 +8,7 @@ pub mod GridLemmas
 pub mod HandLemmas
 pub mod MemRowsLemmas
 pub mod MovedLemmas
+pub mod OtherLemmas
 pub mod PushLemmas
 pub mod RestLemmas
 pub mod SettleLemmas

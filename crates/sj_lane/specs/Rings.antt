@@ -1,5 +1,6 @@
 -- What stays of a lane, and of all lanes, while both ends are looked at in one thread.
-use Rattle.std.specs.Prelude.{◌≡◌, ℕ, zero, suc, ◌-◌, ◌<◌, List, [], ◌∷◌, ◌++◌, take, ⊤, Option, Some, None, length, slice_get}
+use Rattle.std.specs.Prelude.{◌≡◌, ℕ, zero, suc, ◌-◌, ◌<◌, List, [], ◌∷◌, ◌++◌, take, ⊤, Option, Some, None, Result, Ok, Err, Vec, length, slice_get}
+use Rattle.std.specs.declared.alloc.Global.{Global}
 use mathlib.Core.List.{IsPrefix}
 use Rattle.rtrb.specs.Ring.{sent, received, IsPair, SameProducer, SameConsumer}
 use Rattle.sj_lang.specs.Place.{Place}
@@ -50,6 +51,12 @@ frames_popped i = Some (told_list (popped_of i))
 -- how many frames were handed over that no pop gave
 abbrev pub handed_of : RingIn → ℕ
 handed_of i = i.handed
+
+-- how many were handed over after a call that answers so
+abbrev pub handed_after : {E : Type 0} → ℕ → Result (Option (Vec Frame Global)) E → ℕ
+handed_after n (Ok None) = n
+handed_after n (Ok (Some frames)) = length frames.items
+handed_after n (Err e) = n
 
 -- how many frames were pushed
 abbrev pub push_count : RingOut → ℕ

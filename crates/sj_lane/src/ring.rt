@@ -26,7 +26,7 @@ impl Links for RingLinks {
     ghost use Rattle.sj_lane.specs.Square.{NoFault, NoneFell, SameLists, in_at, out_at};
     ghost use Rattle.sj_lane.specs.Told.{Rose};
     ghost use Rattle.std.proofs.Common.{rules};
-    ghost use Rattle.sj_lane.specs.Rings.{HasNoRest, Joined, handed_of};
+    ghost use Rattle.sj_lane.specs.Rings.{Each2, HasNoRest, Joined, LanesKept, handed_after, handed_of};
     ghost use Rattle.sj_lane.specs.KeptLanes.{kept_list, sent_in, got_in, vain_out_in, vain_in_in};
 
     type Out = RingOut;
@@ -95,7 +95,7 @@ impl Links for RingLinks {
     }
 
     // The trait's clauses, and that nothing is handed over only where there is no ring, or frames
-    // of it were handed over before.
+    // of it were handed over before. All other lanes are the same, and each ring is the same ring.
     fn rest(
         &mut self,
         alloc: Global,
@@ -125,6 +125,13 @@ impl Links for RingLinks {
         ensures fault { ◌≡◌ {A = ℕ} 0 0 }
         ensures none { IfOk result (λ o. o ≡ None →
             HasNoRest (out_at lanes.old.items from to) (in_at lanes.old.items from to)) }
+        ensures kept { Each2 LanesKept lanes.old.items lanes.new.items }
+        ensures others { (p q : ℕ) → ((p ≡ from) × (q ≡ to) → ⊥)
+            → (out_at lanes.new.items p q ≡ out_at lanes.old.items p q)
+            × (in_at lanes.new.items p q ≡ in_at lanes.old.items p q) }
+        ensures handed { (i j : RingIn) → in_at lanes.old.items from to ≡ Some i
+            → in_at lanes.new.items from to ≡ Some j
+            → handed_of j ≡ handed_after (handed_of i) result }
     {
         take_rest(alloc, lanes, from as usize, to as usize)
     }
