@@ -1,2 +1,4 @@
 pub mod Frames
 pub mod Lanes
+pub mod Batch
+pub mod Redone

@@ -1,13 +1,18 @@
-//! A party's lanes as bytes, for parties as processes of their own.
+//! A party's lanes as bytes, what it does until it must wait, and entries of its log done again, for
+//! parties as processes of their own.
 #![tactic(auto)]
 
 mod in_lane;
 mod out_lane;
+mod redo;
 mod refusal;
+mod turns;
 
 pub use in_lane::ByteIn;
 pub use out_lane::ByteOut;
-pub use refusal::SpellRefusal;
+pub use redo::{redo_act, redo_delivery};
+pub use refusal::{RedoRefusal, SpellRefusal};
+pub use turns::batch;
 
 #[cfg(test)]
 mod tests;

@@ -1,7 +1,16 @@
-//! Why frames aren't spelt.
+//! Why an entry isn't done again, and why frames aren't spelt.
 ghost use Rattle.std.specs.Prelude.{◌≡◌};
 
 use std::alloc::AllocError;
+
+/// Why an entry of a log isn't done again.
+#[derive(Clone, Copy, Debug, PartialEq, Eq)]
+pub enum RedoRefusal {
+    /// The party does something else here, or nothing.
+    Misfit,
+    /// Out of memory.
+    NoMemory,
+}
 
 /// Why the frames of a lane aren't spelt.
 #[derive(Clone, Copy, Debug, PartialEq, Eq)]

@@ -1,0 +1,21 @@
+//! What a party does until it must wait.
+ghost use Rattle.std.specs.Prelude.{◌≡◌, Option, Some};
+ghost use Rattle.sj_engine.specs.Batch.{Batch, SendsAll};
+ghost use Rattle.sj_lang.specs.Place.{Place};
+ghost use Rattle.sj_rules.specs.Work.{LostAt};
+ghost use Rattle.sj_work.specs.Causes.{Loses};
+ghost use Rattle.sj_work.specs.Views.{stop_of};
+
+use crate::{ByteIn, ByteOut};
+use sj_work::{Gate, Stop, Worker, work};
+
+/// All that the party can do before it must wait for bytes: its entries come after those of its log,
+/// and its frames after those on its lanes. What it sends to itself waits on its lane to itself.
+pub fn batch<G: Gate>(worker: &mut Worker<ByteOut, ByteIn>, gate: &G) -> Stop
+    ensures batch { (lost : Option (LostAt Place)) × Loses lost (stop_of worker.new)
+        × Batch lost worker.old worker.new }
+    ensures sent { SendsAll result worker.new }
+    ensures stop { stop_of worker.new ≡ Some result }
+{
+    work(worker, 1, gate)
+}
