@@ -1,0 +1,9 @@
+pub mod Keys
+pub mod Words
+pub mod Batch
+pub mod Commands
+pub mod Reading
+pub mod Replies
+pub mod Views
+pub mod Answers
+pub mod Gathering
