@@ -14,5 +14,5 @@ returns c =
     let count : length (words_at c.args.words.now) ≡ length c.args.words.now = length-map c.args.words.now (λ w. w.items) in
     let many : length c.args.words.now + 3 ≡ length words = omega (arith, count) in
     on_ok_weaker c.put_add_words.result
-    (λ e. e ∙ ap (λ (t : List ℕ). t ++ flat_map word_text words) c.in_ok-put_command.ensures ∙ command_parts c.args.out.now.items (length c.args.words.now + 3) words many)
+    (λ e. e ∙ ap (λ (t : List ℕ). t ++ flat_map word_text words) c.in_ok-put_command.ensures.ok ∙ command_parts c.args.out.now.items (length c.args.words.now + 3) words many)
     c.put_add_words.ensures

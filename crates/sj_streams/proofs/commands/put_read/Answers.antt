@@ -20,5 +20,5 @@ returns c =
     let all : length (block_words c.args.block ++ (codes "STREAMS" ∷ (words_at c.args.keys.now ++ map id_text c.args.seen.now))) ≡ length (block_words c.args.block) + (1 + length (words_at c.args.keys.now ++ map id_text c.args.seen.now)) = length-append (block_words c.args.block) (codes "STREAMS" ∷ (words_at c.args.keys.now ++ map id_text c.args.seen.now)) ∙ ap (λ (k : ℕ). length (block_words c.args.block) + k) (omega arith) in
     let many : n ≡ length words = omega (arith, keys, ids, both, all, c.block_count.ensures) in
     on_ok_weaker c.put_read_words.result
-    (λ e. e ∙ ap (λ (t : List ℕ). t ++ flat_map word_text words) c.in_ok-put_command.ensures ∙ command_parts c.args.out.now.items n words many)
+    (λ e. e ∙ ap (λ (t : List ℕ). t ++ flat_map word_text words) c.in_ok-put_command.ensures.ok ∙ command_parts c.args.out.now.items n words many)
     c.put_read_words.ensures
