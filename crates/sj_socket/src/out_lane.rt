@@ -156,6 +156,7 @@ impl<W: Write + Drop> OutWay<W> {
         ensures ok { OnOk result (WayPuts W.contents self.old frame self.new) }
         ensures err { OnErr result (WayWrites W.contents self.old self.new) }
         ensures full { IfErr result (λ e. e.1 ≡ PushRefusal.Full → WayHasLeft self.new) }
+        ensures own { IfErr result (λ e. e.1 ≡ PushRefusal.Fault → WayIsOfStream self.old) }
         ensures same { way_address self.new ≡ way_address self.old }
     {
         match self {
@@ -198,6 +199,7 @@ impl<W: Write + Send + Drop> OutLane for SocketOut<W> {
         ensures put { OnOk result (IsPut W.contents self.old frame self.new) }
         ensures err { OnErr result (PutsNothing W.contents self.old self.new) }
         ensures full { IfErr result (λ e. e.1 ≡ PushRefusal.Full → HasLeft self.new) }
+        ensures own { IfErr result (λ e. e.1 ≡ PushRefusal.Fault → IsOfStream self.old) }
     {
         match self.way.push(frame) {
             Ok(()) => Ok(()),
