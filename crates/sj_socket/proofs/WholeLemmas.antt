@@ -1,5 +1,5 @@
 -- What bytes begin with stays there, a frame or no frame, whatever comes after them.
-use Rattle.std.proofs.Common.{◌≡◌, ℕ, ◌≤◌, Bool, true, false, ◌||◌, cond, ltb, List, ◌++◌, length, take, drop, slice_index, Option, Some, None, refl, sym, ap, subst, ◌∙◌, arith}
+use Rattle.std.proofs.Common.{◌≡◌, ℕ, ◌≤◌, Bool, true, false, cond, ltb, List, ◌++◌, length, take, drop, slice_index, Option, Some, None, refl, sym, ap, subst, ◌∙◌, arith}
 use Rattle.std.proofs.lemmas.Bool.{ltb-false, le-ltb}
 use Rattle.std.proofs.lemmas.List.{drop-append-le, take-append-le, length-append}
 use Rattle.byteorder.specs.Endian.{big_number}
@@ -8,7 +8,6 @@ use Rattle.sj_rules.specs.Frames.{FrameAt}
 use Rattle.sj_table.specs.declared.table.Spot.{Spot}
 use Rattle.sj_wire.specs.declared.refusal.WireRefusal.{WireRefusal}
 use Rattle.sj_wire.specs.Kinds.{kind_in}
-use Rattle.sj_wire.specs.Limits.{least_length, most_length}
 use Rattle.sj_wire.specs.Front.{Front, Cut, Refused, Whole, of_fields, of_kind, whole_of, sized_of, front_of}
 use Rattle.sj_wire.specs.Reading.{frame_at}
 use Rattle.sj_wire.specs.Stream.{IsOver}
