@@ -2,6 +2,7 @@ pub mod BackLemmas
 pub mod KeptLemmas
 pub mod LinkLemmas
 pub mod NewLemmas
+pub mod OwnLemmas
 pub mod PushLemmas
 pub mod RowLemmas
 pub mod StreamLemmas

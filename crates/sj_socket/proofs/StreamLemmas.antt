@@ -1,9 +1,11 @@
 -- What two calls of a stream, one after the other, do together.
-use Rattle.std.proofs.Common.{◌≡◌, ℕ, List, [], ◌++◌, Option, Some, None, Result, Ok, Err, IfNone, IfOk, IfSome, refl, sym, ap, ◌∙◌, subst, append_assoc, append-nil}
+use Rattle.std.proofs.Common.{◌≡◌, ℕ, List, [], ◌++◌, Option, Some, None, Result, Ok, Err, IfErr, IfNone, IfOk, IfSome, refl, sym, ap, ◌∙◌, subst, append_assoc, append-nil}
 use Rattle.std.specs.Io.KnownBytes.{Appends, Consumes}
 use Rattle.std.proofs.KnownBytes.{Appends-nil, Appends-trans, Consumes-nil}
 use Rattle.sj_end.specs.Views.{frame_at}
 use Rattle.sj_end.specs.declared.wire.Frame.{Frame}
+use Rattle.sj_lane.specs.declared.lane.PopRefusal.{PopRefusal}
+use Rattle.sj_lane.specs.declared.lane.PopRefusal.TheVariants.{Fault}
 use Rattle.sj_wire.specs.Front.{Whole, front_of}
 use Rattle.sj_socket.specs.Ins.{Comes, FrameComes, WayStays, unused}
 use Rattle.sj_socket.specs.Outs.{WayFlushes, Writes, unsent}
@@ -89,3 +91,8 @@ pub if_frame : {E : Type 0} (A B : Frame → Type 0) (r : Result (Option Frame) 
 if_frame A B (Ok None) h a = tt
 if_frame A B (Ok (Some f)) h a = h f a
 if_frame A B (Err e) h a = tt
+
+-- what is said where a fault is answered
+pub if_fault : {X : Type 0} (A B : Type 0) (r : Result X PopRefusal) → (A → B) → IfErr r (λ e. e ≡ Fault → A) → IfErr r (λ e. e ≡ Fault → B)
+if_fault A B (Ok x) h a = tt
+if_fault A B (Err e) h a = λ is. h (a is)

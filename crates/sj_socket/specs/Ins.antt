@@ -4,7 +4,7 @@ use Rattle.std.specs.Io.KnownBytes.{Consumes}
 use Rattle.std.specs.declared.net.socket_addr.SocketAddr.{SocketAddr}
 use Rattle.sj_end.specs.Views.{frame_at}
 use Rattle.sj_end.specs.declared.wire.Frame.{Frame}
-use Rattle.sj_wire.specs.Front.{Cut, Whole, front_of}
+use Rattle.sj_wire.specs.Front.{Front, Cut, Refused, Whole, front_of}
 use Rattle.sj_socket.specs.declared.in_lane.InWay.{InWay}
 use Rattle.sj_socket.specs.declared.in_lane.InWay.TheVariants as ways
 use Rattle.sj_socket.specs.declared.in_lane.Reader.{Reader}
@@ -13,6 +13,12 @@ use Rattle.sj_socket.specs.declared.in_lane.SocketIn.{SocketIn}
 -- the bytes that came of the stream and that no frame used up
 abbrev pub unused : {R : Type 0} → Reader R → List ℕ
 unused r = r.decoder ++ r.piece
+
+-- what stands at the start is no frame, whatever comes after it
+abbrev pub IsNoFrame : Front → Type 0
+IsNoFrame Cut = ⊥
+IsNoFrame (Refused w) = ⊤
+IsNoFrame (Whole f behind) = ⊥
 
 module _ {R : Type 0} (remaining : R → Option (List ℕ)) where
   -- some bytes came of the stream, after those that were there; where it reports what it has left,
@@ -56,6 +62,22 @@ module _ {R : Type 0} where
   -- the address from which the lane's stream comes; a list has none
   abbrev pub address_in : SocketIn R → Option SocketAddr
   address_in i = way_address i.way
+
+  abbrev pub WayIsOfStream : InWay R → Type 0
+  WayIsOfStream (ways.Own frames) = ⊥
+  WayIsOfStream (ways.Stream reader) = ⊤
+
+  -- it comes from another party
+  abbrev pub IsOfStream : SocketIn R → Type 0
+  IsOfStream i = WayIsOfStream i.way
+
+  abbrev pub way_unused : InWay R → List ℕ
+  way_unused (ways.Own frames) = []
+  way_unused (ways.Stream r) = unused r
+
+  -- the bytes that came of a stream and that no frame used up; of a list none do
+  abbrev pub unused_in : SocketIn R → List ℕ
+  unused_in i = way_unused i.way
 
   abbrev pub WayIsAllRead : InWay R → Type 0
   WayIsAllRead (ways.Own frames) = frames.items ≡ []

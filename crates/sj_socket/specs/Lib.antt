@@ -5,5 +5,6 @@ pub mod Joined
 pub mod Kept
 pub mod Loopback
 pub mod Outs
+pub mod Own
 pub mod Rows
 pub mod Streams

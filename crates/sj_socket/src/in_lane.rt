@@ -1,11 +1,12 @@
 //! The lane from which a party pops.
 ghost use Rattle.std.proofs.Common.{◌∙◌, refl};
-ghost use Rattle.std.specs.Prelude.{◌≡◌, ◌≤◌, [], None, IfNone, IfOk, IfSome, OnErr, OnOk};
+ghost use Rattle.std.specs.Prelude.{◌≡◌, ◌≤◌, [], None, IfErr, IfNone, IfOk, IfSome, OnErr, OnOk};
 ghost use Rattle.sj_end.specs.Views.{frame_at};
 ghost use Rattle.sj_lane.specs.Told.{PopCause, popped_by, told_more, vain_pop};
 ghost use Rattle.sj_wire.specs.Front.{Cut, Whole, front_of};
+ghost use Rattle.sj_wire.specs.Stream.{IsOver};
 ghost use Rattle.sj_socket.specs.Counts.{faults_pop};
-ghost use Rattle.sj_socket.specs.Ins.{Comes, FrameComes, GivesNothing, IsAllRead, IsGiven, WayGives, WayIsAllRead, WayReads, address_in, unused, way_address};
+ghost use Rattle.sj_socket.specs.Ins.{Comes, FrameComes, GivesNothing, IsAllRead, IsGiven, IsNoFrame, IsOfStream, WayGives, WayIsAllRead, WayIsOfStream, WayReads, address_in, unused, unused_in, way_address, way_unused};
 
 use crate::piece::Piece;
 use sj_base::NoMemory;
@@ -50,6 +51,8 @@ fn decode(decoder: &mut Decoder) -> Result<Option<Frame>, PopRefusal>
     ensures none { IfOk result
         (λ x. IfNone x ((front_of decoder.old ≡ Cut) × (decoder.new ≡ decoder.old))) }
     ensures err { OnErr result (decoder.new ≡ decoder.old) }
+    ensures fault { IfErr result
+        (λ e. e ≡ PopRefusal.Fault → IsNoFrame (front_of decoder.old)) }
 {
     match decoder.next() {
         Ok(frame) => Ok(frame),
@@ -76,6 +79,7 @@ impl<R: Read + Drop> Reader<R> {
     fn feed(&mut self) -> Result<(), PopRefusal>
         ensures came { Comes R.remaining self.old (unused self.new) self.new }
         ensures all { OnOk result (unused self.new ≡ self.new.decoder) }
+        ensures fault { IfErr result (λ e. e ≡ PopRefusal.Fault → self.old.piece ≡ []) }
         ensures same { self.new.address ≡ self.old.address }
     {
         if let Err(refusal) = self.piece.read(&mut self.stream) {
@@ -94,6 +98,8 @@ impl<R: Read + Drop> Reader<R> {
         ensures none { IfOk result (λ x. IfNone x ((front_of (unused self.new) ≡ Cut)
             × Comes R.remaining self.old (unused self.new) self.new)) }
         ensures err { OnErr result (Comes R.remaining self.old (unused self.new) self.new) }
+        ensures whole { IfErr result
+            (λ e. e ≡ PopRefusal.Fault → IsOver (front_of (unused self.old))) }
         ensures same { self.new.address ≡ self.old.address }
     {
         match decode(&mut self.decoder) {
@@ -116,6 +122,9 @@ impl<R: Read + Drop> InWay<R> {
         ensures none { IfOk result
             (λ x. IfNone x (WayIsAllRead self.new × WayReads R.remaining self.old self.new)) }
         ensures err { OnErr result (WayReads R.remaining self.old self.new) }
+        ensures whole { IfErr result
+            (λ e. e ≡ PopRefusal.Fault → IsOver (front_of (way_unused self.old))) }
+        ensures own { IfErr result (λ e. WayIsOfStream self.old) }
         ensures same { way_address self.new ≡ way_address self.old }
     {
         match self {
@@ -164,6 +173,11 @@ impl<R: Read + Send + Drop> InLane for SocketIn<R> {
         ensures none { IfOk result
             (λ x. IfNone x (IsAllRead self.new × GivesNothing R.remaining self.old self.new)) }
         ensures err { OnErr result (GivesNothing R.remaining self.old self.new) }
+
+        // Whose the refusal is.
+        ensures whole { IfErr result
+            (λ e. e ≡ PopRefusal.Fault → IsOver (front_of (unused_in self.old))) }
+        ensures own { IfErr result (λ e. IsOfStream self.old) }
     {
         match self.way.pop() {
             Ok(Some(frame)) => Ok(Some(frame)),

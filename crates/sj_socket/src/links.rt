@@ -1,12 +1,13 @@
 //! The links.
 ghost use Rattle.std.proofs.Common.{◌∙◌, sym};
-ghost use Rattle.std.specs.Prelude.{◌≡◌, ◌≤◌, ℕ, Err, IfOk, [], false, true, vec_len};
-ghost use Rattle.sj_lane.specs.Square.{AllJoined, HasFault, IsFresh, IsSquare, Kept, NoFault, NoneFell, SameLists};
+ghost use Rattle.std.specs.Prelude.{◌≡◌, ◌≤◌, ◌<◌, ◌++◌, ℕ, Ok, Err, None, IfOk, IfSome, OnOk, [], false, true, length, vec_len};
+ghost use Rattle.sj_lane.specs.Square.{AllJoined, HasFault, IsFresh, IsRest, IsSquare, Kept, NoFault, NoneFell, SameLists};
 ghost use Rattle.sj_lane.specs.Told.{Rose};
 ghost use Rattle.sj_socket.specs.Counts.{capped_sum, faults_make, met};
 ghost use Rattle.sj_socket.specs.Idle.{AreIdle};
 ghost use Rattle.sj_socket.specs.Joined.{AreLinks, IsJoined};
 ghost use Rattle.sj_socket.specs.Kept.{AreCarried, uncounted, untold};
+ghost use Rattle.sj_socket.specs.Own.{own_came, own_sent};
 
 use crate::carries::carry_all;
 use crate::faults::{add_faults, with_all};
@@ -90,7 +91,7 @@ impl<R: Net + Drop> Links for SocketLinks<R> {
         }
     }
 
-    // The trait's clauses, and what goes over streams.
+    // The trait's clauses, what goes over streams, and what a party sent to itself.
     fn carry(&mut self, lanes: &mut [Lanes<TcpOut, TcpIn>]) -> Result<(), NoMemory>
         requires square { IsSquare lanes.old }
         requires joined { AllJoined IsJoined lanes.old }
@@ -105,17 +106,40 @@ impl<R: Net + Drop> Links for SocketLinks<R> {
         ensures tells { false ≡ false }
         ensures fault { self.new.faults ≡ self.old.faults }
         ensures carried { AreCarried lanes.old lanes.new }
+        ensures own { (p : ℕ) → p < length lanes.old →
+            own_came lanes.new p ++ own_sent lanes.new p
+            ≡ own_came lanes.old p ++ own_sent lanes.old p }
+        ensures moved { OnOk result ((p : ℕ) → p < length lanes.old → own_sent lanes.new p ≡ []) }
     {
         carry_all(lanes)
     }
 
+    // The trait's clauses, and that nothing is handed over or changed.
     fn rest(
         &mut self,
         _alloc: Global,
         _lanes: &mut Vec<Lanes<TcpOut, TcpIn>>,
         _from: u16,
         _to: u16,
-    ) -> Result<Option<Vec<Frame>>, NoMemory> {
+    ) -> Result<Option<Vec<Frame>>, NoMemory>
+        requires square { IsSquare _lanes.old.items }
+        requires joined { AllJoined IsJoined _lanes.old.items }
+        ensures square { IsSquare _lanes.new.items }
+        ensures joined { AllJoined IsJoined _lanes.new.items }
+        ensures lists { SameLists ⟦<TcpOut as OutLane>⟧.pushed ⟦<TcpIn as InLane>⟧.popped
+            ⟦<TcpOut as OutLane>⟧.vain ⟦<TcpIn as InLane>⟧.vain _lanes.old.items _lanes.new.items }
+        ensures faults { NoneFell ⟦<TcpOut as OutLane>⟧.faults ⟦<TcpIn as InLane>⟧.faults
+            _lanes.old.items _lanes.new.items }
+        ensures rest { IfOk result (λ o. IfSome o (λ v. (false ≡ true)
+            × IsRest ⟦<TcpOut as OutLane>⟧.pushed ⟦<TcpIn as InLane>⟧.popped
+            _lanes.old.items _from _to v.items)) }
+        ensures shown { (p q : ℕ) → (untold ≡ untold) × (untold ≡ untold)
+            × (uncounted ≡ uncounted) × (uncounted ≡ uncounted) }
+        ensures tells { false ≡ false }
+        ensures fault { self.new.faults ≡ self.old.faults }
+        ensures none { result ≡ Ok None }
+        ensures stays { _lanes.new ≡ _lanes.old }
+    {
         Ok(None)
     }
 

@@ -9,6 +9,7 @@ ghost use Rattle.sj_wire.specs.Spelling.{spelling};
 ghost use Rattle.sj_socket.specs.Counts.{faults_push};
 ghost use Rattle.sj_socket.specs.Kept.{OutKept};
 ghost use Rattle.sj_socket.specs.Outs.{HasLeft, IsOfStream, IsPut, PutsNothing, WayHasLeft, WayIsOfStream, WayPuts, WayWrites, Writes, address_out, unsent, way_address};
+ghost use Rattle.sj_socket.specs.Own.{list_out};
 
 use crate::stream::is_in_vain;
 use sj_end::Frame;
@@ -139,7 +140,8 @@ impl<W: Write + Drop> SocketOut<W> {
 
     /// Writes what is left, as far as the stream takes it now.
     pub(crate) fn carry(&mut self)
-        ensures { OutKept W.contents self.old self.new }
+        ensures kept { OutKept W.contents self.old self.new }
+        ensures list { list_out self.new.way ≡ list_out self.old.way }
     {
         if let OutWay::Stream(writer) = &mut self.way {
             let met = u64::from(writer.flush().is_err());
@@ -156,6 +158,7 @@ impl<W: Write + Drop> OutWay<W> {
         ensures ok { OnOk result (WayPuts W.contents self.old frame self.new) }
         ensures err { OnErr result (WayWrites W.contents self.old self.new) }
         ensures full { IfErr result (λ e. e.1 ≡ PushRefusal.Full → WayHasLeft self.new) }
+        ensures own { IfErr result (λ e. e.1 ≡ PushRefusal.Fault → WayIsOfStream self.old) }
         ensures same { way_address self.new ≡ way_address self.old }
     {
         match self {
@@ -198,6 +201,7 @@ impl<W: Write + Send + Drop> OutLane for SocketOut<W> {
         ensures put { OnOk result (IsPut W.contents self.old frame self.new) }
         ensures err { OnErr result (PutsNothing W.contents self.old self.new) }
         ensures full { IfErr result (λ e. e.1 ≡ PushRefusal.Full → HasLeft self.new) }
+        ensures own { IfErr result (λ e. e.1 ≡ PushRefusal.Fault → IsOfStream self.old) }
     {
         match self.way.push(frame) {
             Ok(()) => Ok(()),

@@ -1,5 +1,5 @@
 //! A piece of a stream.
-ghost use Rattle.std.specs.Prelude.{◌≡◌, ◌≤◌, ◌++◌, [], ℕ, List, length, take, OnOk};
+ghost use Rattle.std.specs.Prelude.{◌≡◌, ◌≤◌, ◌++◌, [], ℕ, List, length, take, IfErr, OnOk};
 ghost use Rattle.std.specs.Io.KnownBytes.{Consumes};
 
 use crate::stream::is_in_vain;
@@ -36,8 +36,9 @@ impl Piece {
 
     /// Reads a piece of the stream, if one is there and none is left. The end of the stream is a fault.
     pub(crate) fn read<R: Read>(&mut self, stream: &mut R) -> Result<(), PopRefusal>
-        ensures { (came : List ℕ) × (self.new ≡ self.old ++ came)
+        ensures came { (came : List ℕ) × (self.new ≡ self.old ++ came)
             × Consumes (R.remaining stream.old) (R.remaining stream.new) came }
+        ensures err { IfErr result (λ e. self.old ≡ []) }
     {
         if self.came > 0 {
             return Ok(());
