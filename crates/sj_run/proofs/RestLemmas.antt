@@ -1,6 +1,6 @@
 -- Why a worker that stopped, and not out of memory, at a fault or at what doesn't fit, has nothing
 -- to do, and what its lanes show of it.
-use Rattle.std.proofs.Common.{◌≡◌, ◌⊎◌, ◌∙◌, ℕ, zero, suc, ◌<◌, List, [], ◌∷◌, map, length, Option, Some, None, inl, inr, refl, sym, ap, subst, arith}
+use Rattle.std.proofs.Common.{◌≡◌, ◌⊎◌, ◌∙◌, ℕ, zero, suc, ◌<◌, max, List, [], ◌∷◌, map, length, Option, Some, None, inl, inr, refl, sym, ap, subst, arith}
 use Rattle.sj_lang.specs.Place.{Place, done}
 use Rattle.sj_lang.specs.FileAt.{FileAt}
 use Rattle.sj_table.specs.Spots.{place_in}
@@ -55,6 +55,10 @@ some_vain : (looks vain : ℕ) → RoseBy looks 0 vain → (0 < vain) ⊎ (looks
 some_vain zero vain rose = inr refl
 some_vain (suc k) vain rose = inl (omega (arith, rose))
 
+-- and one look at least is some
+one_vain : (looks vain : ℕ) → RoseBy (max looks 1) 0 vain → 0 < vain
+one_vain looks vain rose = omega (arith, rose)
+
 -- a node that has ended or is at its limit doesn't wait by the rules of its file
 module _ (file : FileAt) (p : ℕ) (n : Node) where
   stopped_still : (h : Halt) → nodes.stop_of n ≡ Some h → acts (play_of file) p (node_at n) ≡ None
@@ -104,9 +108,9 @@ module _ {O I : Type 0} (outward : OutLane O) (inward : InLane I) (file : FileAt
       → (told_frames done (outbox_of (node_of w) q) ≡ []) ⊎ ((0 < links.vain_out p q) ⊎ (looks ≡ 0))
   idle_box q lt vain = elim (box_or looks q lt vain (outbox_of (node_of w) q) refl) [ inl none ↦ inl none | inr rose ↦ inr (some_vain looks (links.vain_out p q) rose) ]
 
-  limit_box : (q : ℕ) → q < length file.parties → OutVain outward.vain 1 old w
+  limit_box : (q : ℕ) → q < length file.parties → OutVain outward.vain (max looks 1) old w
       → (told_frames done (outbox_of (node_of w) q) ≡ []) ⊎ ((0 < links.vain_out p q) ⊎ (looks ≡ 0))
-  limit_box q lt vain = elim (box_or 1 q lt vain (outbox_of (node_of w) q) refl) [ inl none ↦ inl none | inr rose ↦ inr (inl (omega (arith, rose))) ]
+  limit_box q lt vain = elim (box_or (max looks 1) q lt vain (outbox_of (node_of w) q) refl) [ inl none ↦ inl none | inr rose ↦ inr (inl (one_vain looks (links.vain_out p q) rose)) ]
 
   module _ (stops_there : stop_of w ≡ None → ⊥) (remembers : stop_of w ≡ Some stops.NoMemory → ⊥) (faultless : stop_of w ≡ Some stops.Fault → ⊥) (fits : stop_of w ≡ Some stops.Unfit → ⊥)
       (low : clock_of (node_of w) < clock_end) where
@@ -140,7 +144,7 @@ module _ {O I : Type 0} (outward : OutLane O) (inward : InLane I) (file : FileAt
     rest_by (Some stops.AtLimit) is c = record {
       still = stopped_still file p (node_of w) halts.AtLimit c.0;
       halted = stopped_halted file p (node_of w) halts.AtLimit c.0;
-      emptied = λ q lt. limit_box q lt c.1;
+      emptied = λ q lt. limit_box q lt c.2;
       looked = λ q lt waits. absurd (not_waiting file p (node_of w) halts.AtLimit limit_waits c.0 waits);
     }
 

@@ -58,6 +58,13 @@ stands_more x y z p q = omega arith
 pub rose_none : (x y : ℕ) → Stood x y → RoseBy 0 x y
 rose_none x y h = rose_none_to last_count x y h
 
+rose_fewer_to : (l x y j k : ℕ) → j ≤ k → min (x + k) l ≤ y → min (x + j) l ≤ y
+rose_fewer_to l x y j k few h = omega arith
+
+-- and one that rose so often rose fewer times
+pub rose_fewer : (j k x y : ℕ) → j ≤ k → RoseBy k x y → RoseBy j x y
+rose_fewer j k x y few = rose_fewer_to last_count x y j k few
+
 rose_raised_to : (l x y : ℕ) → y ≡ min (x + 1) l → min (x + 1) l ≤ y
 rose_raised_to l x y h = omega arith
 

@@ -1,5 +1,5 @@
 -- Turns in vain, one after the other.
-use Rattle.std.proofs.Common.{◌≡◌, ℕ, ◌+◌, ◌-◌, ◌<◌, ◌≤◌, min, Option, Some, None, refl, sym, arith, subst}
+use Rattle.std.proofs.Common.{◌≡◌, ℕ, ◌+◌, ◌-◌, ◌<◌, ◌≤◌, max, min, Option, Some, None, refl, sym, arith, subst}
 use Rattle.sj_node.specs.declared.node.Node.{Node}
 use Rattle.sj_node.specs.declared.refusal.Halt.{Halt}
 use Rattle.sj_node.specs.declared.refusal.Halt.TheVariants as halts
@@ -12,7 +12,7 @@ use Rattle.sj_work.specs.Causes.{InVain, OutVain}
 use Rattle.sj_work.specs.Counts.{RoseBy, Stood}
 use Rattle.sj_work.specs.Turns.{IsGoing, IsHalted, IsInVain, HasNoEvent}
 use Rattle.sj_work.specs.Views.{in_of, out_of, stop_of}
-use Rattle.sj_work.proofs.CauseLemmas.{ins_more, ins_then, outs_later, outs_more, outs_then}
+use Rattle.sj_work.proofs.CauseLemmas.{ins_fewer, ins_more, ins_then, outs_fewer, outs_later, outs_more, outs_then}
 use Rattle.sj_work.proofs.CountLemmas.{on_so, rose_none}
 use Rattle.sj_work.proofs.HaltLemmas.{stop_same}
 use Rattle.sj_work.proofs.LaneLaws.{LaneLaws, TurnedBy, WentBy}
@@ -48,6 +48,10 @@ fewer_left n m looks is lt = omega arith
 
 pub below_looks : (n t m looks last : ℕ) → t ≡ n → m ≡ min (t + 1) last → looks ≤ last → m < looks → n < looks
 below_looks n t m looks last same is within lt = omega arith
+
+-- where all looks are used up by one turn more, that many turns and one at least were in vain
+pub enough_looks : (n t m looks last : ℕ) → t ≡ n → m ≡ min (t + 1) last → looks ≤ m → max looks 1 ≤ n + 1
+enough_looks n t m looks last same is over = omega arith
 
 module _ {O I : Type 0} (k : LaneLaws O I) where
   -- a turn in vain: looks, pushes, and an act that isn't there
@@ -122,7 +126,10 @@ module _ {O I : Type 0} (k : LaneLaws O I) where
         }
 
         -- and the party is at its limit
-        pub wait_limit : (n : ℕ) → (IsIdle (nodes.stop_of next.node) → ⊥) → TurnedBy k looks init (record next { looks = n; answer = Some answers.AtLimit })
-        wait_limit n busy =
-            turned_off k init (record next { looks = n; answer = Some answers.AtLimit }) None stops.AtLimit looks refl (λ e. cc e) open_next (went_again k init next None (Some answers.AtLimit) n after) tt
-            (limit_of (nodes.stop_of next.node) v.halted busy, outs_later k 1 init now next before v.outs)
+        pub wait_limit : (n : ℕ) → max looks 1 ≤ now.looks + 1 → (IsIdle (nodes.stop_of next.node) → ⊥) → TurnedBy k looks init (record next { looks = n; answer = Some answers.AtLimit })
+        wait_limit n over busy =
+            turned_off k init (record next { looks = n; answer = Some answers.AtLimit }) None stops.AtLimit looks refl (λ e. cc e) open_next (went_again k init next None (Some answers.AtLimit) n after) tt (
+              limit_of (nodes.stop_of next.node) v.halted busy,
+              ins_fewer k (max looks 1) (now.looks + 1) init next over (ins_more k now.looks 1 init now next v.rests.parties w.ins v.ins),
+              outs_fewer k (max looks 1) (now.looks + 1) init next over (outs_more k now.looks 1 init now next v.rests w.outs v.outs),
+            )

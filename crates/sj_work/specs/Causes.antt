@@ -71,9 +71,10 @@ module _ {O I : Type 0} (out_vain : O → ℕ) (in_vain : I → ℕ) where
     pub outs : OutVain out_vain looks old new
 
 module _ {O I : Type 0} where
-  -- the party is at a limit, and what waits was tried to push
-  abbrev pub IsAtLimit : (out_vain : O → ℕ) → (old new : Worker O I) → Type 0
-  IsAtLimit out_vain old new = (nodes.stop_of (node_of new) ≡ Some halts.AtLimit) × OutVain out_vain 1 old new
+  -- the party is at a limit, after so many looks in vain, and after one where none is asked for
+  abbrev pub IsAtLimit : (out_vain : O → ℕ) → (in_vain : I → ℕ) → (looks : ℕ) → (old new : Worker O I) → Type 0
+  IsAtLimit out_vain in_vain looks old new =
+      (nodes.stop_of (node_of new) ≡ Some halts.AtLimit) × InVain in_vain (max looks 1) old new × OutVain out_vain (max looks 1) old new
 
   -- the clock can't rise any more
   abbrev pub IsClockEnd : Worker O I → Type 0
@@ -89,7 +90,7 @@ module _ {O I : Type 0} (outward : OutLane O) (inward : InLane I) where
   Cause None looks lost old new = ⊤
   Cause (Some stops.Finished) looks lost old new = IsFinished (node_of new)
   Cause (Some stops.Idle) looks lost old new = IsIdleFor outward.vain inward.vain looks old new
-  Cause (Some stops.AtLimit) looks lost old new = IsAtLimit outward.vain old new
+  Cause (Some stops.AtLimit) looks lost old new = IsAtLimit outward.vain inward.vain looks old new
   Cause (Some stops.ClockEnd) looks lost old new = IsClockEnd new
   Cause (Some stops.NoMemory) looks lost old new = ⊤
   Cause (Some stops.Fault) looks lost old new = MetFault outward.faults inward.faults old new

@@ -34,7 +34,7 @@ pub enum Stop {
     /// The party waits or has ended, and so many turns in a row had no event.
     Idle,
     /// The party has done all steps that it may do, or would delegate an end or open a session once
-    /// too often.
+    /// too often. So many turns in a row had no event, and one at least.
     AtLimit,
     /// The clock can't rise any more.
     ClockEnd,

@@ -1,7 +1,7 @@
 use Rattle.std.proofs.Common.{rules, ◌<◌, ◌≤◌, sym, ◌∙◌}
 use Rattle.sj_work.proofs.LaneLaws.{laws}
 use Rattle.sj_work.proofs.StopLemmas.{none_if, true_not_false}
-use Rattle.sj_work.proofs.VainLemmas.{below_looks, fewer_left, idle_before, not_beyond, one_more, wait_idle, wait_limit, wait_more, wait_turns, waited_none}
+use Rattle.sj_work.proofs.VainLemmas.{below_looks, enough_looks, fewer_left, idle_before, not_beyond, one_more, wait_idle, wait_limit, wait_more, wait_turns, waited_none}
 use Rattle.sj_work.proofs.turns.until_event.Goals as goal
 use Rattle.sj_work.proofs.turns.until_event.Goals.{then-worker-looks, else-worker-looks+then-not-idle_now, else-worker-looks-2-via-then-worker-looks-2+else-not-idle_now-2, else-worker-looks-2-via-else-worker-looks-2}
 
@@ -26,7 +26,9 @@ returns-then-not-idle_now-2-clause-turned g c =
     let k = laws g.O.OutLane g.I.InLane ol.same_itself ol.same_later il.same_itself il.same_later in
     let none = none_if c.turn-event.new.worker.answer c.is_some-stops.result c.is_some-stops.ensures c.if-stops.false in
     wait_limit k c.args.looks c.args.worker.now c.loop-worker.worker c.loop-worker.invariant c.turn-event.new.worker c.turn-event.ensures.turns none (c.turn-event.ensures.vain c.if-event.false none)
-    c.saturating_add-worker.result (λ h. true_not_false (sym (c.idle_now-then-worker-looks-2.ensures.1 h) ∙ c.if-not-idle_now-2.true))
+    c.saturating_add-worker.result
+    (enough_looks c.loop-worker.worker.looks c.turn-event.new.worker.looks c.saturating_add-worker.result c.args.looks 4294967295 c.turn-event.ensures.looks c.saturating_add-worker.ensures c.if-worker-looks-2.true)
+    (λ h. true_not_false (sym (c.idle_now-then-worker-looks-2.ensures.1 h) ∙ c.if-not-idle_now-2.true))
 
 pub loop-worker-smaller : goal.loop-worker-smaller
 loop-worker-smaller g c =
