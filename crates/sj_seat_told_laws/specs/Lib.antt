@@ -1,0 +1,3 @@
+pub mod SeatsHistory
+pub mod SeatsStands
+pub mod SeatsTranscript
