@@ -1,0 +1,4 @@
+pub mod NotedLemmas
+pub mod AddLemmas
+pub mod StepLemmas
+pub mod HistoryLemmas

@@ -1,3 +1,4 @@
+pub mod PlainNotes
 pub mod SeatsHistory
 pub mod SeatsStands
 pub mod SeatsTranscript

@@ -2,16 +2,47 @@
 //! parties of an accepted file are played by code of their own. Each is one clause of a function
 //! that does nothing.
 //!
+//! - `a_seated_history_tells_its_world`: what each end sent, who took it, and the number of messages.
 //! - `seats_stand_so`: small runs, computed.
 
-ghost use Rattle.std.specs.Prelude.{◌≡◌, ◌∷◌, [], ℕ, List};
+ghost use Rattle.std.specs.Prelude.{◌≡◌, ◌∷◌, [], ℕ, List, map};
+ghost use Rattle.sj_acceptance.specs.Accepted.{IsAccepted};
+ghost use Rattle.sj_base.specs.declared.EndId.{EndId};
+ghost use Rattle.sj_lang.specs.FileAt.{FileAt};
+ghost use Rattle.sj_lang.specs.Place.{Place};
+ghost use Rattle.sj_rules.specs.Log.{LineAt};
+ghost use Rattle.sj_rules.specs.Rows.{IsPick};
+ghost use Rattle.sj_rules.specs.World.{WorldAt};
+ghost use Rattle.sj_rules_laws.specs.TiedNotes.{sent_told, taken_told, told_in};
+ghost use Rattle.sj_semantics.specs.Ends.{end_at};
 ghost use Rattle.sj_semantics.specs.declared.State.TheVariants.{Ended, Waits};
 ghost use Rattle.sj_semantics.specs.declared.Verdict.TheVariants.{Blocked, Done};
-ghost use Rattle.sj_seat_laws.specs.SeatSamples.{both, far, first, misled, near, second};
-ghost use Rattle.sj_seat_laws.specs.SeatsStart.{IsSeatsRun, seats_start};
-ghost use Rattle.sj_seat_laws.specs.SeatsWorld.{SeatsWorld};
 ghost use Rattle.sj_semantics_laws.specs.Samples.{greeting};
+ghost use Rattle.sj_told.specs.Counts.{messages_sent, sent_count};
+ghost use Rattle.sj_seat_laws.specs.SeatSamples.{both, far, first, misled, near, second};
+ghost use Rattle.sj_seat_laws.specs.SeatedPlay.{Player};
+ghost use Rattle.sj_seat_laws.specs.SeatsStart.{Callers, IsSeatsRun, seats_start};
+ghost use Rattle.sj_seat_laws.specs.SeatsWorld.{SeatsWorld};
+ghost use Rattle.sj_seat_told_laws.specs.SeatsHistory.{IsSeatsHistory, acts_of};
 ghost use Rattle.sj_seat_told_laws.specs.SeatsStands.{seats_states, seats_steps, seats_verdict};
+
+/// A history of a run with seats reports the plain world to which its acts lead. The Sent notes of
+/// each end are what was sent there, with the senders. The Took notes report who took on it. There
+/// are as many Sent notes as messages.
+pub fn a_seated_history_tells_its_world()
+    ensures sent { (file : FileAt) (calls : Callers) (pick : ℕ → ℕ → ℕ) (lines : List LineAt)
+        (core : WorldAt Place Player) (t : SeatsWorld) (e : EndId) → IsAccepted file → IsPick pick →
+        IsSeatsHistory pick file calls lines core → IsSeatsRun file calls (acts_of lines) t →
+        (end_at t.world.sessions e).sent ≡ told_in (sent_told e) lines }
+    ensures takers { (file : FileAt) (calls : Callers) (pick : ℕ → ℕ → ℕ) (lines : List LineAt)
+        (core : WorldAt Place Player) (t : SeatsWorld) (e : EndId) → IsAccepted file → IsPick pick →
+        IsSeatsHistory pick file calls lines core → IsSeatsRun file calls (acts_of lines) t →
+        (end_at t.world.sessions e).takers ≡ map (λ x. x.by) (told_in (taken_told e) lines) }
+    ensures count { (file : FileAt) (calls : Callers) (pick : ℕ → ℕ → ℕ) (lines : List LineAt)
+        (core : WorldAt Place Player) (t : SeatsWorld) → IsAccepted file → IsPick pick →
+        IsSeatsHistory pick file calls lines core → IsSeatsRun file calls (acts_of lines) t →
+        messages_sent t.world ≡ sent_count lines }
+{}
 
 /// In the runs of the greeting in which parties are played by code both end, each after so many steps
 /// or calls. A code that takes before anything is there waits at its end, and so does one whose call

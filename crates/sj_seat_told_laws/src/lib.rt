@@ -4,4 +4,4 @@
 
 mod laws;
 
-pub use laws::seats_stand_so;
+pub use laws::{a_seated_history_tells_its_world, seats_stand_so};
