@@ -1,5 +1,5 @@
 -- What an act's note reports is what the act adds to the plain world.
-use Rattle.std.proofs.Common.{◌≡◌, ℕ, zero, suc, ◌+◌, ◌<◌, nat_lt, Bool, true, false, cond, List, [], ◌∷◌, ◌++◌, map, length, sum_by, slice_get, Option, Some, None, option_map, option_and_then, append-nil, refl, ap, sym, ◌∙◌, subst, arith}
+use Rattle.std.proofs.Common.{◌≡◌, ℕ, zero, suc, ◌+◌, cond, List, [], ◌∷◌, ◌++◌, map, length, sum_by, Some, option_and_then, append-nil, refl, ap, sym, ◌∙◌, arith}
 use Rattle.std.proofs.lemmas.List.{length-append}
 use Rattle.std.proofs.lemmas.List.Sums.{sum_by-cons}
 use Rattle.sj_base.specs.declared.EndId.{EndId}
@@ -8,23 +8,21 @@ use Rattle.sj_base.specs.declared.Msg.TheVariants as msgs
 use Rattle.sj_lang.specs.Place.{Place}
 use Rattle.sj_semantics.specs.declared.Passed.{Passed}
 use Rattle.sj_semantics.specs.Acts.{sent_by, taken_by, uses_on}
-use Rattle.sj_semantics.specs.Ends.{EndAt, Session, end_at, is_end, next_for, unopened}
+use Rattle.sj_semantics.specs.Ends.{EndAt, Session, end_at, is_end, unopened}
 use Rattle.sj_semantics.specs.Run.{after_acts}
 use Rattle.sj_semantics.specs.Uses.{Use, after_uses, altered_session, begins, delegates, end_after, on_side, sends, takes}
 use Rattle.sj_semantics.specs.World.{World, act_of, begun_by, session_message}
 use Rattle.sj_semantics_laws.proofs.ActsLemmas.{sent_is_of_acts, takers_after_uses, takers_are_of_acts}
 use Rattle.sj_headline_laws.specs.Headline.{next_step}
 use Rattle.sj_rules.specs.Log.{LineAt, NoteAt, Sent, Shut, Took}
-use Rattle.sj_rules.specs.Node as wanted
-use Rattle.sj_rules.specs.Node.{Want}
 use Rattle.sj_rules.specs.World.{Act}
 use Rattle.sj_rules_laws.specs.TiedNotes.{AreTied, note_of, sent_told, taken_told}
 use Rattle.sj_rules_laws.proofs.SentToldLemmas.{tied_sent}
 use Rattle.sj_rules_laws.proofs.TakenToldLemmas.{tied_taken}
-use Rattle.sj_rules_laws.proofs.ToldLemmas.{same_note, skip, told_passed}
+use Rattle.sj_rules_laws.proofs.ToldLemmas.{skip, told_passed}
 use Rattle.sj_told.specs.Counts.{is_sent, messages_sent}
 use Rattle.sj_told_laws.proofs.CountLemmas.{lines_add}
-use Rattle.sj_seat_laws.specs.SeatedWorld.{Doing, doing_by, world_after}
+use Rattle.sj_seat_laws.specs.SeatedWorld.{world_after}
 use Rattle.sj_seat_laws.proofs.HeadlineLemmas.{sent_after_uses}
 
 -- the world has more by what that party's note reports

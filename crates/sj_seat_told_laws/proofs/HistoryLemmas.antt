@@ -1,5 +1,5 @@
 -- A history of a run with seats reports what the plain world at its end has.
-use Rattle.std.proofs.Common.{◌≡◌, ℕ, ◌+◌, ◌≤◌, List, [], ◌∷◌, ◌++◌, map, length, Option, Some, None, option_map, option_and_then, append-nil, append_assoc, refl, ap, sym, ◌∙◌, subst, arith}
+use Rattle.std.proofs.Common.{◌≡◌, ℕ, ◌+◌, List, [], ◌∷◌, ◌++◌, map, length, Option, Some, None, option_map, option_and_then, append-nil, append_assoc, refl, ap, sym, ◌∙◌, subst, arith}
 use Rattle.std.proofs.lemmas.List.{map-append}
 use Rattle.sj_base.specs.declared.EndId.{EndId}
 use Rattle.sj_lang.specs.FileAt.{FileAt}
@@ -8,7 +8,7 @@ use Rattle.sj_acceptance.specs.Accepted.{IsAccepted}
 use Rattle.sj_semantics.specs.declared.Passed.{Passed}
 use Rattle.sj_semantics.specs.Ends.{end_at}
 use Rattle.sj_semantics.specs.World.{World}
-use Rattle.sj_rules.specs.Events.{acts_by, acts_in}
+use Rattle.sj_rules.specs.Events.{acts_by}
 use Rattle.sj_rules.specs.Frames.{FrameAt}
 use Rattle.sj_rules.specs.History.{IsLog, due, event_note, front_note, line_after, turn_of}
 use Rattle.sj_rules.specs.Log.{LineAt, NoteAt, body_note}
@@ -22,7 +22,7 @@ use Rattle.sj_joined_lemmas.proofs.HistoryLemmas.{log_runs, logs_joined}
 use Rattle.sj_rules_laws.specs.TiedNotes.{AreTied, IsOfFrame, sent_told, taken_told, told_in}
 use Rattle.sj_rules_laws.proofs.SentToldLemmas.{tied_sent}
 use Rattle.sj_rules_laws.proofs.TakenToldLemmas.{tied_taken}
-use Rattle.sj_told.specs.Counts.{is_sent, messages_sent, sent_count}
+use Rattle.sj_told.specs.Counts.{messages_sent, sent_count}
 use Rattle.sj_told_laws.proofs.CountLemmas.{lines_add, none_at_start}
 use Rattle.sj_seat_laws.specs.SeatedPlay.{Player, player_binds, seated_play}
 use Rattle.sj_seat_laws.specs.SeatsStart.{Callers, IsSeatsRun, seats_core, seats_start}

@@ -2,3 +2,5 @@ pub mod NotedLemmas
 pub mod AddLemmas
 pub mod StepLemmas
 pub mod HistoryLemmas
+pub mod StandLemmas
+pub mod EndLemmas

@@ -1,29 +1,27 @@
 -- An act in the plain world with seats adds what the note of the core's act reports.
-use Rattle.std.proofs.Common.{◌≡◌, ℕ, ◌+◌, ◌<◌, nat_lt, not, Bool, true, false, cond, List, [], ◌∷◌, map, length, slice_get, unwrap_or, Option, Some, None, option_map, option_and_then, refl, ap, sym, ◌∙◌, subst, arith}
+use Rattle.std.proofs.Common.{◌≡◌, ℕ, ◌+◌, nat_lt, not, Bool, true, false, cond, List, [], ◌∷◌, length, slice_get, unwrap_or, Option, Some, None, option_map, option_and_then, refl, ap, sym, ◌∙◌, subst, arith}
 use Rattle.sj_base.specs.declared.EndId.{EndId}
 use Rattle.sj_base.specs.declared.Msg.{Msg}
 use Rattle.sj_lang.specs.FileAt.{FileAt, ProtocolAt, body_named}
-use Rattle.sj_lang.specs.Place.{Place, done}
-use Rattle.sj_semantics.specs.declared.Awaits.{Awaits}
+use Rattle.sj_lang.specs.Place.{Place}
 use Rattle.sj_semantics.specs.declared.Passed.{Passed}
 use Rattle.sj_semantics.specs.declared.Want as step_of
 use Rattle.sj_semantics.specs.declared.Want.TheVariants as wants
 use Rattle.sj_semantics.specs.Ends.{end_at, next_for}
 use Rattle.sj_semantics.specs.Program.{Program}
-use Rattle.sj_semantics.specs.Requests.{accepted_as, first_offer, opened_number}
+use Rattle.sj_semantics.specs.Requests.{first_offer, opened_number}
 use Rattle.sj_semantics.specs.Uses as uses
 use Rattle.sj_semantics.specs.Uses.{altered_list}
 use Rattle.sj_semantics.specs.Wants.{want_of}
 use Rattle.sj_semantics.specs.World.{Change, World, act_of, begun_by, change_by, change_by_accepting, session_message}
 use Rattle.sj_semantics_laws.proofs.ChangeLemmas.{rests_on}
 use Rattle.sj_semantics_laws.proofs.CommuteLemmas as acting
-use Rattle.sj_headline_laws.specs.Headline.{next_step}
 use Rattle.sj_rules.specs.Linked.{waiting_at}
 use Rattle.sj_rules.specs.Log as notes
 use Rattle.sj_rules.specs.Log.{NoteAt}
 use Rattle.sj_rules.specs.Node as wanted
 use Rattle.sj_rules.specs.Node.{Play, Want}
-use Rattle.sj_rules.specs.Party.{IsDone, nobody, play_of, want_for, want_or_ended}
+use Rattle.sj_rules.specs.Party.{IsDone, nobody, want_for, want_or_ended}
 use Rattle.sj_rules.specs.Plain.{offered_from, plain_at}
 use Rattle.sj_rules.specs.PlainSide.{PlainAt}
 use Rattle.sj_rules.specs.Premises.{FitsStep, IsLawful}
@@ -34,7 +32,7 @@ use Rattle.sj_rules_laws.specs.TiedNotes.{note_of}
 use Rattle.sj_seat_laws.specs.Calls.{SeatedAt}
 use Rattle.sj_seat_laws.specs.Guards.{seated_want}
 use Rattle.sj_seat_laws.specs.SeatedPlay.{Player, player_binds, seated_play, written}
-use Rattle.sj_seat_laws.specs.SeatedWorld.{Doing, after_doing, beside, doing_by, doing_of, world_after}
+use Rattle.sj_seat_laws.specs.SeatedWorld.{Doing, after_doing, beside, doing_by, doing_of}
 use Rattle.sj_seat_laws.specs.SeatsWorld.{SeatsWorld, all_beside, player_by, seat_of, seats_act, seats_act_by, seats_seen, with_seat}
 use Rattle.sj_seat_laws.proofs.UsingLemmas.{worn_doing}
 use Rattle.sj_seat_told_laws.specs.PlainNotes.{plain_note, step_note}

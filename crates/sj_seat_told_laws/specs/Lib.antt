@@ -2,3 +2,4 @@ pub mod PlainNotes
 pub mod SeatsHistory
 pub mod SeatsStands
 pub mod SeatsTranscript
+pub mod SeatsEnd

@@ -115,3 +115,8 @@ still_player (seated s) = still_by_open s.steps (seated_want s) (first_open s.en
 abbrev pub steps_of_player : Player → ℕ
 steps_of_player (written g) = g.steps
 steps_of_player (seated s) = s.steps
+
+-- the stand is that of the player
+pub record IsStandOf (g : Player) (s : Stand) : Type 0 where
+  pub steps : s.steps ≡ steps_of_player g
+  pub state : s.state ≡ still_player g

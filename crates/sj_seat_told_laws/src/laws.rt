@@ -3,13 +3,16 @@
 //! that does nothing.
 //!
 //! - `a_seated_history_tells_its_world`: what each end sent, who took it, and the number of messages.
+//! - `a_quiet_seated_history_tells_its_end`: the same of one that leaves nothing to do, with the
+//!   headline, how the parties stand, and where nothing was opened.
 //! - `seats_stand_so`: small runs, computed.
 
-ghost use Rattle.std.specs.Prelude.{◌≡◌, ◌∷◌, [], ℕ, List, map};
+ghost use Rattle.std.specs.Prelude.{◌≡◌, ◌∷◌, [], ℕ, List, length, map};
 ghost use Rattle.sj_acceptance.specs.Accepted.{IsAccepted};
 ghost use Rattle.sj_base.specs.declared.EndId.{EndId};
 ghost use Rattle.sj_lang.specs.FileAt.{FileAt};
 ghost use Rattle.sj_lang.specs.Place.{Place};
+ghost use Rattle.sj_rules.specs.History.{IsQuietAmong};
 ghost use Rattle.sj_rules.specs.Log.{LineAt};
 ghost use Rattle.sj_rules.specs.Rows.{IsPick};
 ghost use Rattle.sj_rules.specs.World.{WorldAt};
@@ -20,9 +23,10 @@ ghost use Rattle.sj_semantics.specs.declared.Verdict.TheVariants.{Blocked, Done}
 ghost use Rattle.sj_semantics_laws.specs.Samples.{greeting};
 ghost use Rattle.sj_told.specs.Counts.{messages_sent, sent_count};
 ghost use Rattle.sj_seat_laws.specs.SeatSamples.{both, far, first, misled, near, second};
-ghost use Rattle.sj_seat_laws.specs.SeatedPlay.{Player};
+ghost use Rattle.sj_seat_laws.specs.SeatedPlay.{Player, seated_play};
 ghost use Rattle.sj_seat_laws.specs.SeatsStart.{Callers, IsSeatsRun, seats_start};
 ghost use Rattle.sj_seat_laws.specs.SeatsWorld.{SeatsWorld};
+ghost use Rattle.sj_seat_told_laws.specs.SeatsEnd.{IsSeatsEnd};
 ghost use Rattle.sj_seat_told_laws.specs.SeatsHistory.{IsSeatsHistory, acts_of};
 ghost use Rattle.sj_seat_told_laws.specs.SeatsStands.{seats_states, seats_steps, seats_verdict};
 
@@ -42,6 +46,17 @@ pub fn a_seated_history_tells_its_world()
         (core : WorldAt Place Player) (t : SeatsWorld) → IsAccepted file → IsPick pick →
         IsSeatsHistory pick file calls lines core → IsSeatsRun file calls (acts_of lines) t →
         messages_sent t.world ≡ sent_count lines }
+{}
+
+/// Where it leaves nothing to do, that world has the headline. There each party stands as that of
+/// its node: one that goes by the file by its steps and its next one alone, and one that is played
+/// by code by its ends and calls alone.
+pub fn a_quiet_seated_history_tells_its_end()
+    ensures { (file : FileAt) (calls : Callers) (pick : ℕ → ℕ → ℕ) (lines : List LineAt)
+        (core : WorldAt Place Player) → IsAccepted file → IsPick pick →
+        IsSeatsHistory pick file calls lines core →
+        IsQuietAmong (seated_play file) (length file.parties) core →
+        (t : SeatsWorld) × IsSeatsEnd file calls lines core t }
 {}
 
 /// In the runs of the greeting in which parties are played by code both end, each after so many steps

@@ -4,4 +4,6 @@
 
 mod laws;
 
-pub use laws::{a_seated_history_tells_its_world, seats_stand_so};
+pub use laws::{
+    a_quiet_seated_history_tells_its_end, a_seated_history_tells_its_world, seats_stand_so,
+};

@@ -1,4 +1,4 @@
-use Rattle.std.proofs.Common.{◌≡◌, ℕ, List, [], ◌∷◌, unwrap_or, refl}
+use Rattle.std.proofs.Common.{ℕ, List, [], ◌∷◌, unwrap_or, refl}
 use Rattle.sj_seat_laws.specs.SeatSamples.{both, first, second}
 use Rattle.sj_seat_laws.specs.SeatsStart.{Callers, seats_start}
 use Rattle.sj_seat_laws.specs.SeatsWorld.{SeatsWorld, after_seats}
