@@ -4,3 +4,4 @@ pub mod StepLemmas
 pub mod HistoryLemmas
 pub mod StandLemmas
 pub mod EndLemmas
+pub mod VerdictLemmas

@@ -5,9 +5,10 @@
 //! - `a_seated_history_tells_its_world`: what each end sent, who took it, and the number of messages.
 //! - `a_quiet_seated_history_tells_its_end`: the same of one that leaves nothing to do, with the
 //!   headline, how the parties stand, and where nothing was opened.
+//! - `seats_are_judged_by_their_stands`: the verdict, and where it is done.
 //! - `seats_stand_so`: small runs, computed.
 
-ghost use Rattle.std.specs.Prelude.{◌≡◌, ◌∷◌, [], ℕ, List, length, map};
+ghost use Rattle.std.specs.Prelude.{◌≡◌, ◌↔◌, ◌∷◌, [], ℕ, List, length, map};
 ghost use Rattle.sj_acceptance.specs.Accepted.{IsAccepted};
 ghost use Rattle.sj_base.specs.declared.EndId.{EndId};
 ghost use Rattle.sj_lang.specs.FileAt.{FileAt};
@@ -18,17 +19,21 @@ ghost use Rattle.sj_rules.specs.Rows.{IsPick};
 ghost use Rattle.sj_rules.specs.World.{WorldAt};
 ghost use Rattle.sj_rules_laws.specs.TiedNotes.{sent_told, taken_told, told_in};
 ghost use Rattle.sj_semantics.specs.Ends.{end_at};
+ghost use Rattle.sj_semantics.specs.State.{opened_in};
 ghost use Rattle.sj_semantics.specs.declared.State.TheVariants.{Ended, Waits};
 ghost use Rattle.sj_semantics.specs.declared.Verdict.TheVariants.{Blocked, Done};
 ghost use Rattle.sj_semantics_laws.specs.Samples.{greeting};
 ghost use Rattle.sj_told.specs.Counts.{messages_sent, sent_count};
+ghost use Rattle.sj_told.specs.Told.{verdict_by};
+ghost use Rattle.sj_told.specs.declared.told.Stand.{Stand};
 ghost use Rattle.sj_seat_laws.specs.SeatSamples.{both, far, first, misled, near, second};
 ghost use Rattle.sj_seat_laws.specs.SeatedPlay.{Player, seated_play};
+ghost use Rattle.sj_seat_laws.specs.SeatsHeadline.{IsAllDone};
 ghost use Rattle.sj_seat_laws.specs.SeatsStart.{Callers, IsSeatsRun, seats_start};
 ghost use Rattle.sj_seat_laws.specs.SeatsWorld.{SeatsWorld};
 ghost use Rattle.sj_seat_told_laws.specs.SeatsEnd.{IsSeatsEnd};
 ghost use Rattle.sj_seat_told_laws.specs.SeatsHistory.{IsSeatsHistory, acts_of};
-ghost use Rattle.sj_seat_told_laws.specs.SeatsStands.{seats_states, seats_steps, seats_verdict};
+ghost use Rattle.sj_seat_told_laws.specs.SeatsStands.{AreSeatsStands, seats_states, seats_steps, seats_verdict};
 
 /// A history of a run with seats reports the plain world to which its acts lead. The Sent notes of
 /// each end are what was sent there, with the senders. The Took notes report who took on it. There
@@ -57,6 +62,16 @@ pub fn a_quiet_seated_history_tells_its_end()
         IsSeatsHistory pick file calls lines core →
         IsQuietAmong (seated_play file) (length file.parties) core →
         (t : SeatsWorld) × IsSeatsEnd file calls lines core t }
+{}
+
+/// Where no session was opened, the verdict by how the parties stand is that of the run. It is done
+/// exactly where all is done.
+pub fn seats_are_judged_by_their_stands()
+    ensures told { (t : SeatsWorld) (stands : List Stand) → opened_in t.world ≡ [] →
+        AreSeatsStands t stands → verdict_by stands ≡ seats_verdict t }
+    ensures done { (file : FileAt) (calls : Callers) (acts : List ℕ) (t : SeatsWorld) →
+        IsAccepted file → IsSeatsRun file calls acts t →
+        (seats_verdict t ≡ Done) ↔ IsAllDone t }
 {}
 
 /// In the runs of the greeting in which parties are played by code both end, each after so many steps
