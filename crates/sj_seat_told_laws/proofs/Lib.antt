@@ -5,3 +5,4 @@ pub mod HistoryLemmas
 pub mod StandLemmas
 pub mod EndLemmas
 pub mod VerdictLemmas
+pub mod TranscriptLemmas

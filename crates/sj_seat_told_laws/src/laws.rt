@@ -6,9 +6,10 @@
 //! - `a_quiet_seated_history_tells_its_end`: the same of one that leaves nothing to do, with the
 //!   headline, how the parties stand, and where nothing was opened.
 //! - `seats_are_judged_by_their_stands`: the verdict, and where it is done.
+//! - `ends_and_stands_tell_the_transcript`: all of it, from a list of ends and one of stands.
 //! - `seats_stand_so`: small runs, computed.
 
-ghost use Rattle.std.specs.Prelude.{◌≡◌, ◌↔◌, ◌∷◌, [], ℕ, List, length, map};
+ghost use Rattle.std.specs.Prelude.{◌≡◌, ◌↔◌, ◌≤◌, ◌∷◌, [], ℕ, List, length, map};
 ghost use Rattle.sj_acceptance.specs.Accepted.{IsAccepted};
 ghost use Rattle.sj_base.specs.declared.EndId.{EndId};
 ghost use Rattle.sj_lang.specs.FileAt.{FileAt};
@@ -24,8 +25,9 @@ ghost use Rattle.sj_semantics.specs.declared.State.TheVariants.{Ended, Waits};
 ghost use Rattle.sj_semantics.specs.declared.Verdict.TheVariants.{Blocked, Done};
 ghost use Rattle.sj_semantics_laws.specs.Samples.{greeting};
 ghost use Rattle.sj_told.specs.Counts.{messages_sent, sent_count};
-ghost use Rattle.sj_told.specs.Told.{verdict_by};
+ghost use Rattle.sj_told.specs.Told.{AreEnds, verdict_by};
 ghost use Rattle.sj_told.specs.declared.told.Stand.{Stand};
+ghost use Rattle.sj_told.specs.declared.told.ToldEnd.{ToldEnd};
 ghost use Rattle.sj_seat_laws.specs.SeatSamples.{both, far, first, misled, near, second};
 ghost use Rattle.sj_seat_laws.specs.SeatedPlay.{Player, seated_play};
 ghost use Rattle.sj_seat_laws.specs.SeatsHeadline.{IsAllDone};
@@ -34,6 +36,7 @@ ghost use Rattle.sj_seat_laws.specs.SeatsWorld.{SeatsWorld};
 ghost use Rattle.sj_seat_told_laws.specs.SeatsEnd.{IsSeatsEnd};
 ghost use Rattle.sj_seat_told_laws.specs.SeatsHistory.{IsSeatsHistory, acts_of};
 ghost use Rattle.sj_seat_told_laws.specs.SeatsStands.{AreSeatsStands, seats_states, seats_steps, seats_verdict};
+ghost use Rattle.sj_seat_told_laws.specs.SeatsTranscript.{seats_transcript, told_transcript};
 
 /// A history of a run with seats reports the plain world to which its acts lead. The Sent notes of
 /// each end are what was sent there, with the senders. The Took notes report who took on it. There
@@ -72,6 +75,15 @@ pub fn seats_are_judged_by_their_stands()
     ensures done { (file : FileAt) (calls : Callers) (acts : List ℕ) (t : SeatsWorld) →
         IsAccepted file → IsSeatsRun file calls acts t →
         (seats_verdict t ≡ Done) ↔ IsAllDone t }
+{}
+
+/// Where no session was opened, the transcript can be put from what the ends of the file's
+/// connections sent and who took it, and from how the parties stand.
+pub fn ends_and_stands_tell_the_transcript()
+    ensures { (file : FileAt) (t : SeatsWorld) (ends : List ToldEnd) (stands : List Stand) →
+        opened_in t.world ≡ [] → length file.connects ≤ length t.world.sessions →
+        AreEnds file t.world ends → AreSeatsStands t stands →
+        told_transcript file ends stands ≡ seats_transcript file t }
 {}
 
 /// In the runs of the greeting in which parties are played by code both end, each after so many steps

@@ -6,5 +6,5 @@ mod laws;
 
 pub use laws::{
     a_quiet_seated_history_tells_its_end, a_seated_history_tells_its_world,
-    seats_are_judged_by_their_stands, seats_stand_so,
+    ends_and_stands_tell_the_transcript, seats_are_judged_by_their_stands, seats_stand_so,
 };
