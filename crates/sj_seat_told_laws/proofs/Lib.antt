@@ -3,6 +3,7 @@ pub mod AddLemmas
 pub mod StepLemmas
 pub mod HistoryLemmas
 pub mod StandLemmas
+pub mod RestLemmas
 pub mod EndLemmas
 pub mod VerdictLemmas
 pub mod TranscriptLemmas

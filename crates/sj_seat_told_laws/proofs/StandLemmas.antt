@@ -67,11 +67,11 @@ module _ (p : ℕ) (w : World) where
 
 -- ---- whoever it is
 
-no_doing : (f : Doing → SeatsWorld) (o : Option Doing) → ◌≡◌ {A = Option SeatsWorld} (option_map f o) None → o ≡ None
+pub no_doing : (f : Doing → SeatsWorld) (o : Option Doing) → ◌≡◌ {A = Option SeatsWorld} (option_map f o) None → o ≡ None
 no_doing f None h = refl
 no_doing f (Some d) h = cc
 
-no_world : (seats : Seats) (o : Option World) → ◌≡◌ {A = Option SeatsWorld} (option_map (all_beside seats) o) None → o ≡ None
+pub no_world : (seats : Seats) (o : Option World) → ◌≡◌ {A = Option SeatsWorld} (option_map (all_beside seats) o) None → o ≡ None
 no_world seats None h = refl
 no_world seats (Some v) h = cc
 
