@@ -7,7 +7,6 @@ use Rattle.sj_lang.specs.ItemCount.{is_done}
 use Rattle.sj_lang.specs.Place.{Place}
 use Rattle.std.specs.Prelude.{◌&&◌}
 use Rattle.sj_semantics.specs.declared.Limit.TheVariants as limits
-use Rattle.sj_semantics.specs.declared.State.{State}
 use Rattle.sj_semantics.specs.declared.State.TheVariants as states
 use Rattle.sj_semantics.specs.Program.{Program}
 use Rattle.sj_semantics.specs.State.{state_if}
@@ -20,9 +19,9 @@ use Rattle.sj_rules.specs.Record.{is_same_end}
 use Rattle.sj_seat_laws.specs.Calls as calls
 use Rattle.sj_seat_laws.specs.Calls.{Call, Ends, SeatedAt, place_held}
 use Rattle.sj_seat_laws.specs.Guards.{carried_next, may_carry, may_send, may_take, seated_want, want_of_call, want_of_calls, want_of_close, want_of_delegate, want_of_send, want_of_take, where_allowed}
-use Rattle.sj_seat_laws.specs.SeatedWorld.{Doing, after_doing, beside, doing_by, doing_of}
+use Rattle.sj_seat_laws.specs.SeatedWorld.{after_doing, beside, doing_by, doing_of}
 use Rattle.sj_seat_laws.specs.SeatsWorld.{SeatsWorld, seat_of, seats_act, seats_act_by, with_seat}
-use Rattle.sj_seat_told_laws.specs.SeatsStands.{first_open, player_state, state_of_seat, still_by_open, still_calling, still_holding, still_player}
+use Rattle.sj_seat_told_laws.specs.SeatsStands.{first_open, player_state, state_of_seat, still_by_open, still_calling, still_holding}
 use Rattle.sj_seat_told_laws.proofs.StandLemmas.{no_doing, no_world, seat_stands_still}
 
 -- no call is of another kind
