@@ -35,8 +35,9 @@ ghost use Rattle.sj_seat_laws.specs.SeatsStart.{Callers, IsSeatsRun, seats_start
 ghost use Rattle.sj_seat_laws.specs.SeatsWorld.{SeatsWorld};
 ghost use Rattle.sj_seat_told_laws.specs.SeatsEnd.{IsSeatsEnd};
 ghost use Rattle.sj_seat_told_laws.specs.SeatsHistory.{IsSeatsHistory, acts_of};
-ghost use Rattle.sj_seat_told_laws.specs.SeatsStands.{AreSeatsStands, seats_states, seats_steps, seats_verdict};
+ghost use Rattle.sj_seat_told_laws.specs.SeatsStands.{AreSeatsStands, seats_states, seats_verdict};
 ghost use Rattle.sj_seat_told_laws.specs.SeatsTranscript.{seats_transcript, told_transcript};
+ghost use Rattle.sj_seat_told_laws.specs.StandSamples.{both_text, gone, gone_text};
 
 /// A history of a run with seats reports the plain world to which its acts lead. The Sent notes of
 /// each end are what was sent there, with the senders. The Took notes report who took on it. There
@@ -95,8 +96,8 @@ pub fn seats_stand_so()
     ensures second { (t : SeatsWorld) × IsSeatsRun greeting second (0 ∷ 1 ∷ 1 ∷ 0 ∷ []) t
         × (seats_states t ≡ Ended ∷ Ended ∷ []) × (seats_verdict t ≡ Done) }
     ensures both { (t : SeatsWorld) × IsSeatsRun greeting both (0 ∷ 1 ∷ 0 ∷ 1 ∷ []) t
-        × (seats_states t ≡ Ended ∷ Ended ∷ []) × (seats_steps t ≡ 2 ∷ 2 ∷ [])
-        × (seats_verdict t ≡ Done) }
+        × (seats_transcript greeting t ≡ both_text) }
     ensures waits { seats_states (seats_start greeting misled) ≡ Waits near ∷ Waits far ∷ [] }
     ensures blocked { seats_verdict (seats_start greeting misled) ≡ Blocked }
+    ensures gone { seats_transcript greeting (seats_start greeting gone) ≡ gone_text }
 {}
