@@ -5,5 +5,6 @@ pub mod HistoryLemmas
 pub mod StandLemmas
 pub mod RestLemmas
 pub mod EndLemmas
+pub mod OpenLemmas
 pub mod VerdictLemmas
 pub mod TranscriptLemmas

@@ -31,6 +31,7 @@ use Rattle.sj_seat_laws.specs.SeatsWorld.{SeatsWorld, seat_of}
 use Rattle.sj_seat_laws.proofs.CallLemmas.{done_by}
 use Rattle.sj_seat_laws.proofs.HeldLemmas.{held_by_place, holds, holds-cons}
 use Rattle.sj_seat_laws.proofs.SeatsLemmas.{IsSeats, one_holds}
+use Rattle.sj_seat_told_laws.proofs.OpenLemmas.{none_open, open_none}
 use Rattle.sj_seat_told_laws.specs.SeatsStands.{AreSeatsStands, first_open, player_state, seats_states, seats_states_from, seats_verdict, state_by_open, state_calling, state_holding, state_of_seat}
 
 -- ---- by how the parties stand
@@ -58,39 +59,6 @@ verdict_is t stands none are =
     let over : list_all (λ s. has_ended s.state) stands ≡ list_all has_ended (seats_states t) && list_all is_accepted (opened_in t.world) =
     ended ∙ sym (and_true (list_all has_ended (seats_states t))) ∙ ap (λ b. list_all has_ended (seats_states t) && b) (sym accepted) in
     λ i. verdict_so (long i) (over i)
-
--- ---- open ends
-
-here_is : (b : EndId × Place) (bs : Ends) (e : EndId) (place : Place) → is_same_end b.0 e ≡ true → place_held (b ∷ bs) e ≡ Some place → b.1 ≡ place
-here_is b bs e place hit h = let it : Some b.1 ≡ Some place = sym (ap (λ (t : Bool). cond t (Some b.1) (place_held bs e)) hit) ∙ h in cc
-
-later_is : (b : EndId × Place) (bs : Ends) (e : EndId) → is_same_end b.0 e ≡ false → place_held (b ∷ bs) e ≡ place_held bs e
-later_is b bs e miss = ap (λ (t : Bool). cond t (Some b.1) (place_held bs e)) miss
-
-none_open : (bs : Ends) → first_open bs ≡ None → (e : EndId) (place : Place) → place_held bs e ≡ Some place → place ≡ done
-none_open [] h e place held = cc
-none_open (b ∷ bs) h e place held = by (is_done b.1) refl h (λ k later. none_open bs k e place later)
-  where
-    by : (c : Bool) → is_done b.1 ≡ c → cond c (first_open bs) (Some b.0) ≡ None → (first_open bs ≡ None → place_held bs e ≡ Some place → place ≡ done) → place ≡ done
-    by true over k rest =
-        elim (cases_Bool (is_same_end b.0 e)) [
-          | inl hit ↦ sym (here_is b bs e place hit held) ∙ done_by b.1 over
-          | inr miss ↦ rest k (sym (later_is b bs e miss) ∙ held)
-        ]
-    by false over k rest = cc
-
-open_none : (bs : Ends) → ((e : EndId) → holds e bs ≤ 1) → ((e : EndId) (place : Place) → place_held bs e ≡ Some place → place ≡ done) → first_open bs ≡ None
-open_none [] once over = refl
-open_none (b ∷ bs) once over =
-    let here : place_held (b ∷ bs) b.0 ≡ Some b.1 = ap (λ (t : Bool). cond t (Some b.1) (place_held bs b.0)) (same_end_self b.0) in
-    let rest = open_none bs (λ e. omega (arith, once e, holds-cons e b bs)) (λ e place h.
-    elim (cases_Bool (is_same_end b.0 e)) [
-      | inl hit ↦
-          let same : b.0 ≡ e = same_end_is b.0 e hit in
-          absurd (omega (arith, once e, holds-cons e b bs, held_by_place bs e place h, ap (λ (f : EndId). one_if (is_end e f)) same, ap {B = ℕ} one_if (is_end-self e)))
-      | inr miss ↦ over e place (later_is b bs e miss ∙ h)
-    ]) in
-    ap (λ (c : Bool). cond c (first_open bs) (Some b.0)) (ap is_done (over b.0 b.1 here)) ∙ rest
 
 -- ---- one that is played by code has ended where it holds no open end
 

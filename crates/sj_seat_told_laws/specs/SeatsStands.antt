@@ -1,9 +1,9 @@
 -- How parties stand where several are played by code of their own, and the verdict.
-use Rattle.std.specs.Prelude.{◌≡◌, ℕ, ◌+◌, nat_lt, ◌&&◌, List, [], ◌∷◌, map, Option, Some, None, is_some, unwrap_or, if◌then◌else◌}
+use Rattle.std.specs.Prelude.{◌≡◌, ℕ, ◌+◌, ◌≤◌, nat_lt, ◌&&◌, List, [], ◌∷◌, map, Option, Some, None, is_some, unwrap_or, if◌then◌else◌}
 use Rattle.std.specs.List.{list_all, list_any}
 use Rattle.sj_base.specs.declared.EndId.{EndId}
 use Rattle.sj_lang.specs.ItemCount.{is_done}
-use Rattle.sj_lang.specs.Place.{Place}
+use Rattle.sj_lang.specs.Place.{Place, done}
 use Rattle.sj_semantics.specs.declared.Limit.TheVariants as limits
 use Rattle.sj_semantics.specs.declared.State.{State}
 use Rattle.sj_semantics.specs.declared.State.TheVariants as states
@@ -19,17 +19,30 @@ use Rattle.sj_rules.specs.Node as wanted
 use Rattle.sj_rules.specs.Node.{Want}
 use Rattle.sj_told.specs.declared.told.Stand.{Stand}
 use Rattle.sj_told.specs.Still.{still_state}
-use Rattle.sj_seat_laws.specs.Calls.{Ends, SeatedAt}
+use Rattle.sj_told.specs.Told.{slot_of}
+use Rattle.sj_seat_laws.specs.Calls.{Ends, SeatedAt, place_held}
 use Rattle.sj_seat_laws.specs.Guards.{seated_want}
 use Rattle.sj_seat_laws.specs.SeatedPlay.{Player, seated, written}
 use Rattle.sj_seat_laws.specs.SeatsWorld.{SeatsWorld, seat_of}
 
 -- ---- a party that is played by code
 
--- the first of these ends of which anything is ahead
+-- that end, or the other one where this comes first by name
+abbrev pub earlier : Option EndId → EndId → Option EndId
+earlier None e = Some e
+earlier (Some d) e = Some (if nat_lt (slot_of d) (slot_of e) then d else e)
+
+-- the first by name of the ends of which anything is ahead
 abbrev pub first_open : Ends → Option EndId
 first_open [] = None
-first_open (b ∷ bs) = if is_done b.1 then first_open bs else Some b.0
+first_open (b ∷ bs) = if is_done b.1 then first_open bs else earlier (first_open bs) b.0
+
+-- what it is
+pub record IsFirstOpen (bs : Ends) (e : EndId) : Type 0 where
+  pub place : Place
+  pub held : place_held bs e ≡ Some place
+  pub open_there : place ≡ done → ⊥
+  pub first : (f : EndId) (q : Place) → place_held bs f ≡ Some q → (q ≡ done → ⊥) → slot_of e ≤ slot_of f
 
 -- with that call next, which is guarded
 abbrev pub state_calling : World → Want Place → State

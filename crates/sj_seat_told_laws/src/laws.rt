@@ -6,10 +6,11 @@
 //! - `a_quiet_seated_history_tells_its_end`: the same of one that leaves nothing to do, with the
 //!   headline, how the parties stand, and where nothing was opened.
 //! - `seats_are_judged_by_their_stands`: the verdict, and where it is done.
+//! - `a_code_stands_at_its_first_open_end`: which end that is.
 //! - `ends_and_stands_tell_the_transcript`: all of it, from a list of ends and one of stands.
 //! - `seats_stand_so`: small runs, computed.
 
-ghost use Rattle.std.specs.Prelude.{◌≡◌, ◌↔◌, ◌≤◌, ◌∷◌, [], ℕ, List, length, map};
+ghost use Rattle.std.specs.Prelude.{◌≡◌, ◌↔◌, ◌≤◌, ◌∷◌, [], ℕ, List, None, Some, length, map};
 ghost use Rattle.sj_acceptance.specs.Accepted.{IsAccepted};
 ghost use Rattle.sj_base.specs.declared.EndId.{EndId};
 ghost use Rattle.sj_lang.specs.FileAt.{FileAt};
@@ -28,14 +29,16 @@ ghost use Rattle.sj_told.specs.Counts.{messages_sent, sent_count};
 ghost use Rattle.sj_told.specs.Told.{AreEnds, verdict_by};
 ghost use Rattle.sj_told.specs.declared.told.Stand.{Stand};
 ghost use Rattle.sj_told.specs.declared.told.ToldEnd.{ToldEnd};
+ghost use Rattle.sj_seat_laws.specs.Calls.{SeatedAt};
+ghost use Rattle.sj_seat_laws.specs.Resting.{HoldsNoOpenEnd};
 ghost use Rattle.sj_seat_laws.specs.SeatSamples.{both, far, first, misled, near, second};
 ghost use Rattle.sj_seat_laws.specs.SeatedPlay.{Player, seated_play};
 ghost use Rattle.sj_seat_laws.specs.SeatsHeadline.{IsAllDone};
 ghost use Rattle.sj_seat_laws.specs.SeatsStart.{Callers, IsSeatsRun, seats_start};
-ghost use Rattle.sj_seat_laws.specs.SeatsWorld.{SeatsWorld};
+ghost use Rattle.sj_seat_laws.specs.SeatsWorld.{SeatsWorld, seat_of};
 ghost use Rattle.sj_seat_told_laws.specs.SeatsEnd.{IsSeatsEnd};
 ghost use Rattle.sj_seat_told_laws.specs.SeatsHistory.{IsSeatsHistory, acts_of};
-ghost use Rattle.sj_seat_told_laws.specs.SeatsStands.{AreSeatsStands, seats_states, seats_verdict};
+ghost use Rattle.sj_seat_told_laws.specs.SeatsStands.{AreSeatsStands, IsFirstOpen, first_open, seats_states, seats_verdict};
 ghost use Rattle.sj_seat_told_laws.specs.SeatsTranscript.{seats_transcript, told_transcript};
 ghost use Rattle.sj_seat_told_laws.specs.StandSamples.{both_text, gone, gone_text};
 
@@ -76,6 +79,16 @@ pub fn seats_are_judged_by_their_stands()
     ensures done { (file : FileAt) (calls : Callers) (acts : List ℕ) (t : SeatsWorld) →
         IsAccepted file → IsSeatsRun file calls acts t →
         (seats_verdict t ≡ Done) ↔ IsAllDone t }
+{}
+
+/// The end at which a code stands that makes no further call is the first by name of its open ends.
+pub fn a_code_stands_at_its_first_open_end()
+    ensures open { (file : FileAt) (calls : Callers) (acts : List ℕ) (t : SeatsWorld) (q : ℕ)
+        (s : SeatedAt) (e : EndId) → IsAccepted file → IsSeatsRun file calls acts t →
+        seat_of t.seats q ≡ Some s → first_open s.ends ≡ Some e → IsFirstOpen s.ends e }
+    ensures none { (file : FileAt) (calls : Callers) (acts : List ℕ) (t : SeatsWorld) (q : ℕ)
+        (s : SeatedAt) → IsAccepted file → IsSeatsRun file calls acts t →
+        seat_of t.seats q ≡ Some s → (first_open s.ends ≡ None) ↔ HoldsNoOpenEnd s }
 {}
 
 /// Where no session was opened, the transcript can be put from what the ends of the file's
