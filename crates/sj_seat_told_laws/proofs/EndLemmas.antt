@@ -36,6 +36,7 @@ use Rattle.sj_seat_told_laws.specs.SeatsEnd.{IsSeatsEnd}
 use Rattle.sj_seat_told_laws.specs.SeatsHistory.{IsSeatsHistory, acts_of}
 use Rattle.sj_seat_told_laws.specs.SeatsStands.{AreSeatsStands, IsStandOf}
 use Rattle.sj_seat_told_laws.proofs.HistoryLemmas.{history_count, history_sent, history_takers}
+use Rattle.sj_seat_told_laws.proofs.QuietLemmas.{code_held, node_held, quiet_lanes}
 use Rattle.sj_seat_told_laws.proofs.RestLemmas.{none_ready}
 use Rattle.sj_seat_told_laws.proofs.StandLemmas.{stands_are}
 
@@ -74,6 +75,7 @@ pub quiet_end : (file : FileAt) (calls : Callers) (pick : ℕ → ℕ → ℕ) (
     → IsQuietAmong (seated_play file) (length file.parties) core → (t : SeatsWorld) × IsSeatsEnd file calls lines core t
 quiet_end file calls pick lines core accepted picks history quiet =
     let runs : IsSeatsCoreRun file calls (map turn_of lines) core = log_runs (seated_play file) pick picks lines (seats_core file calls) core history in
+    let empty = quiet_lanes file calls accepted (map turn_of lines) core runs quiet in
     let e = quiet_ends file calls accepted (map turn_of lines) core runs quiet in (
       e.0,
       record {
@@ -83,6 +85,8 @@ quiet_end file calls pick lines core accepted picks history quiet =
         ends = ends_are file lines e.0.world (λ f. history_sent file calls accepted pick picks lines core history e.0 e.1 f) (λ f. history_takers file calls accepted pick picks lines core history e.0 e.1 f);
         sessions = omega (arith, sessions_stay (seats_start file calls) e.0 (acts_of lines) e.1, length-map file.connects (session_of file));
         resting = λ p g there. none_ready e.0 p g there (e.3 p);
+        code_held = λ p s at f place h. code_held file calls accepted core (acts_of lines) e.0 e.1 e.2 empty p s at f place h;
+        node_held = λ p s at f h low below there. node_held file calls accepted core (acts_of lines) e.0 e.1 e.2 empty p s at f h low below there;
         count = history_count file calls accepted pick picks lines core history e.0 e.1;
         players = players file calls accepted core (acts_of lines) e.0 e.1 e.2;
         stands = all_stand file calls accepted core (acts_of lines) e.0 e.1 e.2 e.3;

@@ -4,6 +4,7 @@ pub mod StepLemmas
 pub mod HistoryLemmas
 pub mod StandLemmas
 pub mod RestLemmas
+pub mod QuietLemmas
 pub mod EndLemmas
 pub mod OpenLemmas
 pub mod VerdictLemmas

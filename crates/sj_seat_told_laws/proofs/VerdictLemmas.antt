@@ -1,35 +1,28 @@
 -- The verdict of a run with seats: by how the parties stand, and where it is done.
-use Rattle.std.proofs.Common.{◌≡◌, ℕ, zero, suc, ◌+◌, ◌≤◌, nat_lt, Bool, true, false, cond, ◌&&◌, ◌||◌, List, [], ◌∷◌, map, slice_get, Option, Some, None, is_some, refl, ap, sym, ◌∙◌, arith, inl, inr, if◌then◌else◌}
+use Rattle.std.proofs.Common.{◌≡◌, ℕ, zero, suc, ◌+◌, nat_lt, Bool, true, false, cond, ◌&&◌, ◌||◌, List, [], ◌∷◌, map, slice_get, Option, Some, None, is_some, refl, ap, sym, ◌∙◌, arith, if◌then◌else◌}
 use Rattle.std.specs.List.{list_all, list_any}
-use Rattle.std.proofs.lemmas.Bool.{and_from, and_parts, cases_Bool}
+use Rattle.std.proofs.lemmas.Bool.{and_from, and_parts}
 use Rattle.sj_base.specs.declared.EndId.{EndId}
 use Rattle.sj_lang.specs.FileAt.{FileAt}
-use Rattle.sj_lang.specs.ItemCount.{is_done}
-use Rattle.sj_lang.specs.Place.{Place, done}
+use Rattle.sj_lang.specs.Place.{Place}
 use Rattle.sj_semantics.specs.declared.State.{State}
 use Rattle.sj_semantics.specs.declared.State.TheVariants as states
 use Rattle.sj_semantics.specs.declared.Limit.TheVariants as limits
 use Rattle.sj_semantics.specs.declared.Verdict.{Verdict}
 use Rattle.sj_semantics.specs.declared.Verdict.TheVariants as verdicts
-use Rattle.sj_semantics.specs.Ends.{end_at, is_end, next_for}
+use Rattle.sj_semantics.specs.Ends.{end_at, next_for}
 use Rattle.sj_semantics.specs.Program.{Program}
 use Rattle.sj_semantics.specs.State.{has_ended, is_accepted, is_at_limit, opened_in, state_of_program, states_from, states_of}
 use Rattle.sj_semantics.specs.World.{World}
-use Rattle.sj_semantics_laws.proofs.ClaimLemmas.{one_if}
-use Rattle.sj_semantics_laws.proofs.BoundLemmas.{is_end-self}
 use Rattle.sj_rules.specs.Node as wanted
 use Rattle.sj_rules.specs.Node.{Want}
-use Rattle.sj_rules.specs.Record.{is_same_end}
-use Rattle.sj_rules_laws.proofs.SideLemmas.{same_end_is, same_end_self}
 use Rattle.sj_told.specs.declared.told.Stand.{Stand}
 use Rattle.sj_told.specs.Told.{verdict_by}
-use Rattle.sj_seat_laws.specs.Calls.{Ends, SeatedAt, place_held}
+use Rattle.sj_seat_laws.specs.Calls.{SeatedAt}
 use Rattle.sj_seat_laws.specs.Guards.{seated_want}
 use Rattle.sj_seat_laws.specs.SeatedStart.{no_program}
 use Rattle.sj_seat_laws.specs.SeatsHeadline.{IsAllDone}
 use Rattle.sj_seat_laws.specs.SeatsWorld.{SeatsWorld, seat_of}
-use Rattle.sj_seat_laws.proofs.CallLemmas.{done_by}
-use Rattle.sj_seat_laws.proofs.HeldLemmas.{held_by_place, holds, holds-cons}
 use Rattle.sj_seat_laws.proofs.SeatsLemmas.{IsSeats, one_holds}
 use Rattle.sj_seat_told_laws.proofs.OpenLemmas.{none_open, open_none}
 use Rattle.sj_seat_told_laws.specs.SeatsStands.{AreSeatsStands, first_open, player_state, seats_states, seats_states_from, seats_verdict, state_by_open, state_calling, state_holding, state_of_seat}

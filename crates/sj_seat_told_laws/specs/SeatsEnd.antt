@@ -8,8 +8,11 @@ use Rattle.sj_semantics.specs.declared.State.TheVariants.{Ready}
 use Rattle.sj_semantics.specs.Ends.{end_at}
 use Rattle.sj_semantics.specs.Program.{Program}
 use Rattle.sj_semantics.specs.State.{opened_in}
+use Rattle.sj_rules.specs.Limits.{first_opened}
 use Rattle.sj_rules.specs.Log.{LineAt}
+use Rattle.sj_rules.specs.Node.{NodeAt}
 use Rattle.sj_rules.specs.Party.{nobody}
+use Rattle.sj_rules.specs.Record.{Held, HeldAt}
 use Rattle.sj_rules.specs.World.{WorldAt}
 use Rattle.sj_rules_laws.specs.TiedNotes.{sent_told, taken_told, told_in}
 use Rattle.sj_told.specs.declared.told.Stand.{Stand}
@@ -17,12 +20,17 @@ use Rattle.sj_told.specs.declared.told.ToldEnd.{ToldEnd}
 use Rattle.sj_told.specs.Counts.{messages_sent, sent_count}
 use Rattle.sj_told.specs.Lines.{AreToldBy}
 use Rattle.sj_told.specs.Told.{AreEnds}
+use Rattle.sj_seat_laws.specs.Calls.{SeatedAt, place_held}
 use Rattle.sj_seat_laws.specs.SeatedPlay.{Player}
 use Rattle.sj_seat_laws.specs.SeatsHeadline.{IsSeatsHeadline}
 use Rattle.sj_seat_laws.specs.SeatsStart.{Callers}
 use Rattle.sj_seat_laws.specs.SeatsWorld.{SeatsWorld, player_by, seat_of}
 use Rattle.sj_seat_told_laws.specs.SeatsHistory.{acts_of}
 use Rattle.sj_seat_told_laws.specs.SeatsStands.{AreSeatsStands, IsStandOf, player_state}
+
+-- the end is Held there, at that place
+abbrev pub IsHeldAt : NodeAt Place Player → EndId → Place → Type 0
+IsHeldAt n e place = (h : HeldAt Place) × (n.main e ≡ Some (Held h)) × (h.end.place ≡ place)
 
 pub record IsSeatsEnd (file : FileAt) (calls : Callers) (lines : List LineAt) (core : WorldAt Place Player) (t : SeatsWorld) : Type 0 where
   -- its acts lead to that plain world, and have the headline
@@ -41,5 +49,8 @@ pub record IsSeatsEnd (file : FileAt) (calls : Callers) (lines : List LineAt) (c
   pub stands : (stands : List Stand) → length stands ≡ length file.parties → ((p : ℕ) (s : Stand) → slice_get stands p ≡ Some s → IsStandOf (core.nodes p).program s) → AreSeatsStands t stands
   -- and none is ready
   pub resting : (p : ℕ) (g : Program) → slice_get t.world.parties p ≡ Some g → player_state t.world p g (seat_of t.seats p) ≡ Ready → ⊥
+  -- a code's node has what the code holds, and nothing else of the sessions of connections
+  pub code_held : (p : ℕ) (s : SeatedAt) → seat_of t.seats p ≡ Some s → (e : EndId) (place : Place) → place_held s.ends e ≡ Some place → IsHeldAt (core.nodes p) e place
+  pub node_held : (p : ℕ) (s : SeatedAt) → seat_of t.seats p ≡ Some s → (e : EndId) (h : HeldAt Place) → e.side < 2 → e.sess < first_opened → (core.nodes p).main e ≡ Some (Held h) → place_held s.ends e ≡ Some h.end.place
   -- where no node has opened a session, none was opened
   pub opened : ((p : ℕ) → p < length file.parties → (core.nodes p).requests ≡ 0) → opened_in t.world ≡ []

@@ -1,8 +1,8 @@
-use Rattle.std.proofs.Common.{◌≤◌, ◌+◌, ℕ, arith}
+use Rattle.std.proofs.Common.{◌≤◌, ℕ, arith}
 use Rattle.sj_lang.specs.FileAt.{FileAt}
 use Rattle.sj_acceptance.specs.Accepted.{IsAccepted}
 use Rattle.sj_base.specs.declared.EndId.{EndId}
-use Rattle.std.proofs.Common.{◌≡◌, List, Some, length}
+use Rattle.std.proofs.Common.{◌≡◌, List, Some}
 use Rattle.sj_seat_laws.specs.Calls.{SeatedAt}
 use Rattle.sj_seat_laws.specs.SeatsStart.{Callers, IsSeatsRun}
 use Rattle.sj_seat_laws.specs.SeatsWorld.{SeatsWorld, seat_of}
