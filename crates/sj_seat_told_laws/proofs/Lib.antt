@@ -1,0 +1,11 @@
+pub mod NotedLemmas
+pub mod AddLemmas
+pub mod StepLemmas
+pub mod HistoryLemmas
+pub mod StandLemmas
+pub mod RestLemmas
+pub mod QuietLemmas
+pub mod EndLemmas
+pub mod OpenLemmas
+pub mod VerdictLemmas
+pub mod TranscriptLemmas
