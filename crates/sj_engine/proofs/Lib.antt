@@ -1,3 +1,4 @@
 pub mod FrameLemmas
 pub mod BatchLemmas
+pub mod RoundLemmas
 pub mod RedoLemmas

@@ -1,4 +1,6 @@
 pub mod Frames
 pub mod Lanes
 pub mod Batch
+pub mod Home
+pub mod Rounds
 pub mod Redone

@@ -2,15 +2,19 @@
 //! parties as processes of their own.
 #![tactic(auto)]
 
+mod home;
 mod in_lane;
 mod out_lane;
 mod redo;
 mod refusal;
+mod rounds;
 mod turns;
 
+pub use home::carry_home;
 pub use in_lane::ByteIn;
 pub use out_lane::ByteOut;
 pub use redo::{redo_act, redo_delivery};
+pub use rounds::batches;
 pub use refusal::{RedoRefusal, SpellRefusal};
 pub use turns::batch;
 
