@@ -1,7 +1,6 @@
 -- Batches and what goes home between them.
-use Rattle.std.proofs.Common.{◌≡◌, ℕ, max, List, [], ◌∷◌, ◌++◌, map, true, false, Option, Some, None, refl, sym, ap, subst, ◌∙◌, append_assoc, append-nil}
+use Rattle.std.proofs.Common.{◌≡◌, ℕ, max, List, [], ◌++◌, map, true, Option, Some, None, refl, sym, ap, subst, ◌∙◌, append_assoc, append-nil}
 use Rattle.std.specs.List.{flat_map}
-use Rattle.std.specs.Prelude.{slice_get}
 use Rattle.std.proofs.lemmas.Grind.{flat_map-append}
 use Rattle.std.proofs.lemmas.List.{map-append}
 use Rattle.std.proofs.lemmas.List.Elements.{filter_map-append}
@@ -20,9 +19,9 @@ use Rattle.sj_work.specs.declared.worker.Stop.TheVariants as stops
 use Rattle.sj_work.specs.declared.worker.Worker.{Worker}
 use Rattle.sj_work.specs.Causes.{Loses}
 use Rattle.sj_work.specs.Laned.{entries_of}
-use Rattle.sj_work.specs.Views.{in_of, lanes_of, node_of, out_of, stop_of}
-use Rattle.sj_engine.specs.Batch.{Batch, Brings, IsAllSent, Sends, SendsAll, waiting}
-use Rattle.sj_engine.specs.Home.{AtHome, CarriesHome}
+use Rattle.sj_work.specs.Views.{in_of, node_of, out_of}
+use Rattle.sj_engine.specs.Batch.{Batch, Brings, Sends, waiting}
+use Rattle.sj_engine.specs.Home.{AtHome}
 use Rattle.sj_engine.specs.Lanes.{pushed_on, unread}
 use Rattle.sj_engine.specs.Rounds.{GoesHome, Keeps, Rounds, goes_on}
 use Rattle.sj_engine.specs.declared.in_lane.ByteIn.{ByteIn}
@@ -66,13 +65,13 @@ module _ (i j k : ByteIn) (o p r : ByteOut) (box mid left ps qs cs ds : Frames) 
       let one : text (pushed_on o ++ (box ++ (ps ++ qs))) ≡ text (pushed_on o ++ (box ++ ps)) ++ text qs = ap text posts ∙ text_both (pushed_on o ++ (box ++ ps)) qs in
       let goes : text (pushed_on r ++ left) ≡ text (pushed_on p ++ mid) ++ text qs = ap text (y ∙ sym (append_assoc (pushed_on p) mid qs)) ∙ text_both (pushed_on p ++ mid) qs in
       let first : unread i ++ text (pushed_on o ++ (box ++ (ps ++ qs))) ≡ (text cs ++ (unread j ++ text (pushed_on p ++ mid))) ++ text qs =
-          ap (λ (l : List ℕ). unread i ++ l) one ∙ sym (append_assoc (unread i) (text (pushed_on o ++ (box ++ ps))) (text qs)) ∙ ap (λ (l : List ℕ). l ++ text qs) x in
+      ap (λ (l : List ℕ). unread i ++ l) one ∙ sym (append_assoc (unread i) (text (pushed_on o ++ (box ++ ps))) (text qs)) ∙ ap (λ (l : List ℕ). l ++ text qs) x in
       let second : (text cs ++ (unread j ++ text (pushed_on p ++ mid))) ++ text qs ≡ text cs ++ (unread j ++ text (pushed_on r ++ left)) =
-          append_assoc (text cs) (unread j ++ text (pushed_on p ++ mid)) (text qs)
-          ∙ ap (λ (l : List ℕ). text cs ++ l) (append_assoc (unread j) (text (pushed_on p ++ mid)) (text qs) ∙ ap (λ (l : List ℕ). unread j ++ l) (sym goes)) in
+      append_assoc (text cs) (unread j ++ text (pushed_on p ++ mid)) (text qs)
+      ∙ ap (λ (l : List ℕ). text cs ++ l) (append_assoc (unread j) (text (pushed_on p ++ mid)) (text qs) ∙ ap (λ (l : List ℕ). unread j ++ l) (sym goes)) in
       let third : text cs ++ (unread j ++ text (pushed_on r ++ left)) ≡ text (cs ++ ds) ++ (unread k ++ text (pushed_on r ++ left)) =
-          ap (λ (l : List ℕ). text cs ++ (l ++ text (pushed_on r ++ left))) z ∙ ap (λ (l : List ℕ). text cs ++ l) (append_assoc (text ds) (unread k) (text (pushed_on r ++ left)))
-          ∙ sym (append_assoc (text cs) (text ds) (unread k ++ text (pushed_on r ++ left))) ∙ ap (λ (l : List ℕ). l ++ (unread k ++ text (pushed_on r ++ left))) (sym (text_both cs ds)) in
+      ap (λ (l : List ℕ). text cs ++ (l ++ text (pushed_on r ++ left))) z ∙ ap (λ (l : List ℕ). text cs ++ l) (append_assoc (text ds) (unread k) (text (pushed_on r ++ left)))
+      ∙ sym (append_assoc (text cs) (text ds) (unread k ++ text (pushed_on r ++ left))) ∙ ap (λ (l : List ℕ). l ++ (unread k ++ text (pushed_on r ++ left))) (sym (text_both cs ds)) in
       first ∙ second ∙ third
 
 keeps_batch : (o : Option ByteOut) (i : Option ByteIn) (p : Option ByteOut) (j : Option ByteIn) (r : Option ByteOut) (k : Option ByteIn) (box mid left ps qs cs ds : Frames)
@@ -144,26 +143,26 @@ module _ (a b c : Worker ByteOut ByteIn) (lost : Option (LostAt Place)) (x : Rou
   outs_both : (q : ℕ) → (q ≡ party_of (node_of a) → ⊥) → Sends (out_of a q) (out_of c q) (waiting a q) (waiting c q) (posted_to done q (x.steps ++ y.steps))
   outs_both q other =
       subst (λ (l : Frames). Sends (out_of a q) (out_of c q) (waiting a q) (waiting c q) l) (sym (posted_both q x.steps y.steps))
-        (sends_later (out_of a q) (out_of b q) (out_of c q) (waiting a q) (waiting b q) (waiting c q) (posted_to done q x.steps) (posted_to done q y.steps) (x.outs q other) (y.outs q))
+      (sends_later (out_of a q) (out_of b q) (out_of c q) (waiting a q) (waiting b q) (waiting c q) (posted_to done q x.steps) (posted_to done q y.steps) (x.outs q other) (y.outs q))
 
   ins_both : (q : ℕ) → (q ≡ party_of (node_of a) → ⊥) → Brings (in_of a q) (in_of c q) (popped_from done q (x.steps ++ y.steps) ++ lost_from lost q)
   ins_both q other =
       subst (λ (l : Frames). Brings (in_of a q) (in_of c q) l) (popped_both q x.steps y.steps lost)
-        (brings_later (in_of a q) (in_of b q) (in_of c q) (popped_from done q x.steps ++ []) (popped_from done q y.steps ++ lost_from lost q) (x.ins q other) (y.ins q))
+      (brings_later (in_of a q) (in_of b q) (in_of c q) (popped_from done q x.steps ++ []) (popped_from done q y.steps ++ lost_from lost q) (x.ins q other) (y.ins q))
 
   home_both : (q : ℕ) → Keeps (out_of a q) (in_of a q) (out_of b q) (in_of b q) (waiting a q) (waiting b q) (posted_to done q x.steps) (popped_from done q x.steps ++ [])
       → Keeps (out_of a q) (in_of a q) (out_of c q) (in_of c q) (waiting a q) (waiting c q) (posted_to done q (x.steps ++ y.steps)) (popped_from done q (x.steps ++ y.steps) ++ lost_from lost q)
   home_both q h =
       subst (λ (l : Frames). Keeps (out_of a q) (in_of a q) (out_of c q) (in_of c q) (waiting a q) (waiting c q) l (popped_from done q (x.steps ++ y.steps) ++ lost_from lost q)) (sym (posted_both q x.steps y.steps))
-        (subst (λ (l : Frames). Keeps (out_of a q) (in_of a q) (out_of c q) (in_of c q) (waiting a q) (waiting c q) (posted_to done q x.steps ++ posted_to done q y.steps) l) (popped_both q x.steps y.steps lost)
-          (keeps_batch (out_of a q) (in_of a q) (out_of b q) (in_of b q) (out_of c q) (in_of c q) (waiting a q) (waiting b q) (waiting c q) (posted_to done q x.steps) (posted_to done q y.steps)
-            (popped_from done q x.steps ++ []) (popped_from done q y.steps ++ lost_from lost q) h (y.outs q) (y.ins q)))
+      (subst (λ (l : Frames). Keeps (out_of a q) (in_of a q) (out_of c q) (in_of c q) (waiting a q) (waiting c q) (posted_to done q x.steps ++ posted_to done q y.steps) l) (popped_both q x.steps y.steps lost)
+      (keeps_batch (out_of a q) (in_of a q) (out_of b q) (in_of b q) (out_of c q) (in_of c q) (waiting a q) (waiting b q) (waiting c q) (posted_to done q x.steps) (posted_to done q y.steps)
+      (popped_from done q x.steps ++ []) (popped_from done q y.steps ++ lost_from lost q) h (y.outs q) (y.ins q)))
 
   run_both : NodeRun (play_here (node_of a)) max (party_of (node_of a)) (node_at (node_of a)) (x.steps ++ y.steps) (node_at (node_of c))
   run_both =
       runs_joined (play_here (node_of a)) max done (party_of (node_of a)) x.steps y.steps (node_at (node_of a)) (node_at (node_of b)) (node_at (node_of c)) x.run
-        (subst (λ (play : Play Place Program). NodeRun play max (party_of (node_of a)) (node_at (node_of b)) y.steps (node_at (node_of c))) x.play
-          (subst (λ (p : ℕ). NodeRun (play_here (node_of b)) max p (node_at (node_of b)) y.steps (node_at (node_of c))) x.party y.run))
+      (subst (λ (play : Play Place Program). NodeRun play max (party_of (node_of a)) (node_at (node_of b)) y.steps (node_at (node_of c))) x.play
+      (subst (λ (p : ℕ). NodeRun (play_here (node_of b)) max p (node_at (node_of b)) y.steps (node_at (node_of c))) x.party y.run))
 
   -- a batch after others
   pub rounds_batch : Rounds lost a c
@@ -207,7 +206,7 @@ module _ (a b c : Worker ByteOut ByteIn) (lost : Option (LostAt Place)) (x : Rou
           → Keeps (out_of a q) (in_of a q) (out_of c q) (in_of c q) (waiting a q) (waiting c q) (posted_to done q x.steps) (popped_from done q x.steps ++ lost_from lost q)
       own q at k =
           subst (λ (l : Frames). Keeps (out_of a q) (in_of a q) (out_of c q) (in_of c q) (waiting a q) l (posted_to done q x.steps) (popped_from done q x.steps ++ lost_from lost q)) (waits q)
-            (keeps_home (out_of a q) (in_of a q) (out_of b q) (in_of b q) (out_of c q) (in_of c q) (waiting a q) (waiting b q) (posted_to done q x.steps) (popped_from done q x.steps ++ lost_from lost q) k at)
+          (keeps_home (out_of a q) (in_of a q) (out_of b q) (in_of b q) (out_of c q) (in_of c q) (waiting a q) (waiting b q) (posted_to done q x.steps) (popped_from done q x.steps ++ lost_from lost q) k at)
 
 -- a lane that is there was there
 was_there : (o : Option ByteOut) (i : Option ByteIn) (p : ByteOut) (j : Option ByteIn) → AtHome o i (Some p) j → (r : ByteOut) × (o ≡ Some r)

@@ -14,8 +14,8 @@ pub use home::carry_home;
 pub use in_lane::ByteIn;
 pub use out_lane::ByteOut;
 pub use redo::{redo_act, redo_delivery};
-pub use rounds::batches;
 pub use refusal::{RedoRefusal, SpellRefusal};
+pub use rounds::batches;
 pub use turns::batch;
 
 #[cfg(test)]

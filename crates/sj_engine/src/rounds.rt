@@ -19,10 +19,7 @@ fn goes_on(stop: Stop) -> bool
 }
 
 /// Carries what the party sent to itself. Answers whether there was something.
-fn go_home(
-    alloc: Global,
-    worker: &mut Worker<ByteOut, ByteIn>,
-) -> Result<bool, SpellRefusal>
+fn go_home(alloc: Global, worker: &mut Worker<ByteOut, ByteIn>) -> Result<bool, SpellRefusal>
     ensures { GoesHome worker.old worker.new }
 {
     let party = worker.node().party();

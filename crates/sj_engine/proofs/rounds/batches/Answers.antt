@@ -1,4 +1,4 @@
-use Rattle.std.proofs.Common.{◌≡◌, Option, Some, None, sym, subst, ◌∙◌}
+use Rattle.std.proofs.Common.{Option, sym, subst, ◌∙◌}
 use Rattle.sj_lang.specs.Place.{Place}
 use Rattle.sj_rules.specs.Work.{LostAt}
 use Rattle.sj_work.specs.declared.worker.Stop.{Stop}
