@@ -1,8 +1,8 @@
-//! Laws of what a history, and the core world to which it leads, report of the end of a run in which
-//! parties of an accepted file are played by code of their own. Each is one clause of a function
-//! that does nothing.
+//! Laws of what a history, and the core world to which it leads, report of the end of a run in
+//! which parties of an accepted file are played by code of their own. Each is one clause of a
+//! function that does nothing.
 //!
-//! - `a_seated_history_tells_its_world`: what each end sent, who took it, and the number of messages.
+//! - `a_seated_history_tells_its_world`: what each end sent, who took it, and how many messages.
 //! - `a_quiet_seated_history_tells_its_end`: the same of one that leaves nothing to do, with the
 //!   headline, how the parties stand, and where nothing was opened.
 //! - `seats_are_judged_by_their_stands`: the verdict, and where it is done.
@@ -101,9 +101,9 @@ pub fn stands_tell_the_transcript()
         ++ line_of (verdict_word (verdict_by stands) ∷ []) ≡ seats_transcript file t }
 {}
 
-/// In the runs of the greeting in which parties are played by code both end, each after so many steps
-/// or calls. A code that takes before anything is there waits at its end, and so does one whose call
-/// isn't guarded, or that calls nothing: then the run is blocked.
+/// In the runs of the greeting in which parties are played by code both end. A code that takes
+/// before anything is there waits at its end, and so does one whose call isn't guarded, or that
+/// calls nothing: then the run is blocked.
 pub fn seats_stand_so()
     ensures first { (t : SeatsWorld) × IsSeatsRun greeting first (0 ∷ 1 ∷ 0 ∷ 1 ∷ []) t
         × (seats_states t ≡ Ended ∷ Ended ∷ []) × (seats_verdict t ≡ Done) }
