@@ -1,6 +1,6 @@
 #!/bin/sh
-# Runs each example, and compares its output and its status with what they have to be; checks the files of editors/ and the
-# scripts of cli/, too.
+# Runs each example, and compares its output and its status with what they have to be; checks the slips of beginners, the files
+# of editors/ and the scripts of cli/, too.
 # usage: examples/run.sh [PROGRAM [WHY]], where PROGRAM is ./sj at the top of this repository if left out, and WHY ./sjwhy; all
 # programs are then built first, and the words of the scripts are tried with them, and one call of each runs in a copy of the
 # repository, too, where nothing is built, which takes some minutes. With PROGRAM alone, what `sjwhy` says isn't tried.
@@ -87,6 +87,11 @@ for text in "$here"/why/*.txt "$here"/why/*.svg; do
         printf '%s: sjwhy should say\n%s\nwhere check answers\n%s\nand said\n%s\n' "$file" "$wanted" "$checked" "$got"
     fi
 done
+
+# The slips of beginners, and what `sjwhy` says of them.
+if [ -n "$why" ]; then
+    sh "$here/slips.sh" "$why" || failed=$((failed + 1))
+fi
 
 # The words of the scripts: with a program that is a stub, and with the programs themselves.
 bash "$here/../cli/test.sh" || failed=$((failed + 1))
