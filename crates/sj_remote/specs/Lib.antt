@@ -1,1 +1,2 @@
 pub mod Conn
+pub mod Answers
