@@ -26,7 +26,7 @@ use Rattle.sj_rules.specs.Record.{is_same_end}
 use Rattle.sj_seat_laws.specs.Calls as calls
 use Rattle.sj_seat_laws.specs.Calls.{Call, Ends, moved, place_held, without_end}
 use Rattle.sj_seat_laws.specs.Guards.{called_by, carried_next, ends_taken, may_carry, may_send, may_take, seated_want, want_of_calls, want_of_close, want_of_delegate, want_of_send, want_of_take, where_allowed, with_carried}
-use Rattle.sj_seat_laws.specs.SeatedWorld.{Doing, SeatedWorld, after_doing, doing_by, doing_of, world_after}
+use Rattle.sj_seat_laws.specs.SeatedWorld.{Doing, SeatedWorld, after_doing, doing_by, doing_of, plain_doing, world_after}
 use Rattle.sj_seat_laws.proofs.CallLemmas.{names_nothing, sends_on}
 use Rattle.sj_seat_laws.proofs.HeldLemmas.{held_by_place, holds, holds-moved, holds-push, holds-without, holds-without_le, place-moved}
 use Rattle.sj_seat_laws.proofs.SeatedLemmas.{IsSeat}
@@ -59,7 +59,7 @@ module _ (p : ℕ) (t : SeatedWorld) (f : EndId) where
       by : (b : Bool) → may_send q m ≡ b → doing_by p w (where_allowed b (wanted.sends e m)) ≡ Some d → Fewer (calls.sends e m ∷ cs) d
       by true can k =
           let on = sends_on zs q m can in
-          subst (Fewer (calls.sends e m ∷ cs)) (let it : record { taken = None; uses = (e, sends m) ∷ [] } ≡ d = cc in it)
+          subst (Fewer (calls.sends e m ∷ cs)) (let it : plain_doing None ((e, sends m) ∷ []) ≡ d = cc in it)
           (omega (arith, carried-sends f p zs e m, ap {B = ℕ} one_if (names_nothing m f on.none), holds-moved f bs e Out m))
       by false can k = absurd (cc k)
 
@@ -71,13 +71,13 @@ module _ (p : ℕ) (t : SeatedWorld) (f : EndId) where
       by : (b a : Bool) → nat_lt (end_at zs e).hops 100 ≡ a → doing_by p w (where_allowed b (wanted.delegates c e)) ≡ Some d → Fewer (calls.delegates c e ∷ cs) d
       by false a is k = absurd (cc k)
       by true false is k =
-          let none : None ≡ Some d = sym (ap (λ (b : Bool). cond b (Some (record { taken = None; uses = (e, delegates) ∷ (c, sends (session_message e p)) ∷ [] })) None) is) ∙ k in absurd (cc none)
+          let none : None ≡ Some d = sym (ap (λ (b : Bool). cond b (Some (plain_doing None ((e, delegates) ∷ (c, sends (session_message e p)) ∷ []))) None) is) ∙ k in absurd (cc none)
       by true true is k =
-          let made : Some (record { taken = None; uses = (e, delegates) ∷ (c, sends (session_message e p)) ∷ [] }) ≡ Some d =
-          sym (ap (λ (b : Bool). cond b (Some (record { taken = None; uses = (e, delegates) ∷ (c, sends (session_message e p)) ∷ [] })) None) is) ∙ k in
+          let made : Some (plain_doing None ((e, delegates) ∷ (c, sends (session_message e p)) ∷ [])) ≡ Some d =
+          sym (ap (λ (b : Bool). cond b (Some (plain_doing None ((e, delegates) ∷ (c, sends (session_message e p)) ∷ []))) None) is) ∙ k in
           let m0 : Msg = session_message e 0 in
           let there = some_moved bs c Out m0 e r own in
-          subst (Fewer (calls.delegates c e ∷ cs)) (let it : record { taken = None; uses = (e, delegates) ∷ (c, sends (session_message e p)) ∷ [] } ≡ d = cc in it)
+          subst (Fewer (calls.delegates c e ∷ cs)) (let it : plain_doing None ((e, delegates) ∷ (c, sends (session_message e p)) ∷ []) ≡ d = cc in it)
           (omega (arith, carried-hands_on f p zs e, carried-sends f p (touched p zs (e, delegates)) c (session_message e p), holds-without f (moved bs c Out m0) e there.0 there.1, holds-moved f bs c Out m0))
 
   value_fewer : (e : EndId) (x : Passed) → next_for zs e ≡ Some x → sum_by (carried_in f) (touched p zs (e, takes x.msg)) + holds f (moved bs e Into x.msg) ≤ sum_by (carried_in f) zs + holds f bs
@@ -107,10 +107,10 @@ module _ (p : ℕ) (t : SeatedWorld) (f : EndId) where
   take_fewer e cs d None there h = absurd (cc h)
   take_fewer e cs d (Some q) there h = by (may_take q) h
     where
-      head : (o : Option Passed) → next_for zs e ≡ o → option_map (λ (x : Passed). record { taken = Some x.msg; uses = (e, takes x.msg) ∷ begun_by (carried_next q) x.msg }) o ≡ Some d → Fewer (calls.takes e ∷ cs) d
+      head : (o : Option Passed) → next_for zs e ≡ o → option_map (λ (x : Passed). (plain_doing (Some x.msg) ((e, takes x.msg) ∷ begun_by (carried_next q) x.msg))) o ≡ Some d → Fewer (calls.takes e ∷ cs) d
       head None next k = absurd (cc k)
       head (Some x) next k =
-          subst (Fewer (calls.takes e ∷ cs)) (let it : record { taken = Some x.msg; uses = (e, takes x.msg) ∷ begun_by (carried_next q) x.msg } ≡ d = cc in it)
+          subst (Fewer (calls.takes e ∷ cs)) (let it : plain_doing (Some x.msg) ((e, takes x.msg) ∷ begun_by (carried_next q) x.msg) ≡ d = cc in it)
           (subst (λ (o : Option Place). sum_by (carried_in f) (after_uses p ((e, takes x.msg) ∷ begun_by (carried_next q) x.msg) zs) + holds f (ends_taken bs e o (Some x.msg)) ≤ sum_by (carried_in f) zs + holds f bs) (sym there)
           (head_fewer e (carried_next q) x next x.msg refl))
 
@@ -123,17 +123,17 @@ module _ (p : ℕ) (t : SeatedWorld) (f : EndId) where
   close_fewer e cs d (Some q) h = by (is_done q) h
     where
       by : (b : Bool) → doing_by p w (where_allowed b (wanted.closes e)) ≡ Some d → Fewer (calls.closes e ∷ cs) d
-      by true k = subst (Fewer (calls.closes e ∷ cs)) (let it : record { taken = None; uses = [] } ≡ d = cc in it) (omega (arith, holds-without_le f bs e))
+      by true k = subst (Fewer (calls.closes e ∷ cs)) (let it : plain_doing None [] ≡ d = cc in it) (omega (arith, holds-without_le f bs e))
       by false k = absurd (cc k)
 
-  calls_fewer : (cs : List Call) (d : Doing) → doing_by p w (want_of_calls bs cs) ≡ Some d → Fewer cs d
+  calls_fewer : (cs : List Call) (d : Doing) → doing_by p w (want_of_calls t.seat.may bs cs) ≡ Some d → Fewer cs d
   calls_fewer [] d h = absurd (cc h)
   calls_fewer (calls.sends e m ∷ cs) d h = send_fewer e m cs d (place_held bs e) h
   calls_fewer (calls.delegates c e ∷ cs) d h = delegate_fewer c e cs d (place_held bs c) (place_held bs e) refl h
   calls_fewer (calls.takes e ∷ cs) d h = take_fewer e cs d (place_held bs e) refl h
   calls_fewer (calls.closes e ∷ cs) d h = close_fewer e cs d (place_held bs e) h
 
-  pub worn_fewer : (b : Bool) (d : Doing) → cond b None (doing_by p w (want_of_calls bs t.seat.calls)) ≡ Some d → Fewer t.seat.calls d
+  pub worn_fewer : (b : Bool) (d : Doing) → cond b None (doing_by p w (want_of_calls t.seat.may bs t.seat.calls)) ≡ Some d → Fewer t.seat.calls d
   worn_fewer true d h = absurd (cc h)
   worn_fewer false d h = calls_fewer t.seat.calls d h
 
@@ -150,7 +150,7 @@ no_close : (b : Bool) (x : Want Place) (e : EndId) → (x ≡ wanted.closes e �
 no_close true x e other h = other h
 no_close false x e other h = absurd (cc h)
 
-pub closes_by : (t : SeatedWorld) (e : EndId) (cs : List Call) → t.seat.calls ≡ cs → want_of_calls t.seat.ends cs ≡ wanted.closes e → ClosesBy t e
+pub closes_by : (t : SeatedWorld) (e : EndId) (cs : List Call) → t.seat.calls ≡ cs → want_of_calls t.seat.may t.seat.ends cs ≡ wanted.closes e → ClosesBy t e
 closes_by t e [] is h = absurd (cc h)
 closes_by t e (calls.sends f m ∷ cs) is h = by (place_held t.seat.ends f) h
   where
@@ -185,15 +185,15 @@ pub own_closed : (file : FileAt) (p : ℕ) (t : SeatedWorld) (d : Doing) (e : En
 own_closed file p t d e s want h =
     let c = closes_by t e t.seat.calls refl want in
     let held = held_by_place t.seat.ends e c.place c.there in
-    let made : record { taken = None; uses = [] } ≡ d = closed (not (nat_lt t.seat.steps 10000)) h in
+    let made : (plain_doing None []) ≡ d = closed (not (nat_lt t.seat.steps 10000)) h in
     let gone : total e (record { world = world_after p [] t.world; seat = called_by t.seat (calls.closes e ∷ c.later) None }) ≡ 0 =
     omega (arith, s.guarded.once e, held, holds-without e t.seat.ends e c.place c.there, ap {B = ℕ} one_if (is_end-self e)) in
     subst (λ (y : Doing). total e (after_doing p t y) ≡ 0) made
     (subst (λ (cs : List Call). total e (record { world = world_after p [] t.world; seat = called_by t.seat cs None }) ≡ 0) (sym c.calls) gone)
   where
-    closed : (b : Bool) → cond b None (doing_by p t.world (seated_want t.seat)) ≡ Some d → record { taken = None; uses = [] } ≡ d
+    closed : (b : Bool) → cond b None (doing_by p t.world (seated_want t.seat)) ≡ Some d → (plain_doing None []) ≡ d
     closed true k = absurd (cc k)
-    closed false k = let made : Some (record { taken = None; uses = [] }) ≡ Some d = sym (ap (doing_by p t.world) want) ∙ k in cc
+    closed false k = let made : Some (plain_doing None []) ≡ Some d = sym (ap (doing_by p t.world) want) ∙ k in cc
 
 pub step_there : (o : Option Program) (want : Step) → option_and_then want_of o ≡ Some want → (g : Program) × (o ≡ Some g) × (want_of g ≡ Some want)
 step_there None want h = absurd (cc h)

@@ -18,7 +18,7 @@ use Rattle.sj_rules.specs.Node as wanted
 use Rattle.sj_seat_laws.specs.Calls.{Ends, place_held}
 use Rattle.sj_seat_laws.specs.Guards.{seated_want}
 use Rattle.sj_seat_laws.specs.SeatedStart.{no_program}
-use Rattle.sj_seat_laws.specs.SeatedWorld.{Doing, SeatedWorld, doing_by, doing_of}
+use Rattle.sj_seat_laws.specs.SeatedWorld.{Doing, SeatedWorld, doing_by, doing_of, plain_doing}
 use Rattle.sj_seat_laws.proofs.HeadlineLemmas.{sent_after_uses}
 use Rattle.sj_seat_laws.proofs.HeldLemmas.{held_by_place, holds, numbered}
 use Rattle.sj_seat_laws.proofs.SeatedLemmas.{IsSeat}
@@ -82,10 +82,10 @@ own_sends p t d e y want is = sent d.uses (made (nat_lt (end_at t.world.sessions
     made : (a b : Bool) → nat_lt (end_at t.world.sessions y).hops 100 ≡ a → cond b None (doing_by p t.world (seated_want t.seat)) ≡ Some d → d.uses ≡ (y, delegates) ∷ (e, sends (session_message y p)) ∷ []
     made a true few k = absurd (cc k)
     made true false few k =
-        let it : Some (record { taken = None; uses = (y, delegates) ∷ (e, sends (session_message y p)) ∷ [] }) ≡ Some d =
-        sym (ap (λ (b : Bool). cond b (Some (record { taken = None; uses = (y, delegates) ∷ (e, sends (session_message y p)) ∷ [] })) None) few) ∙ sym (ap (doing_by p t.world) want) ∙ k in
-        let same : record { taken = None; uses = (y, delegates) ∷ (e, sends (session_message y p)) ∷ [] } ≡ d = cc in
+        let it : Some (plain_doing None ((y, delegates) ∷ (e, sends (session_message y p)) ∷ [])) ≡ Some d =
+        sym (ap (λ (b : Bool). cond b (Some (plain_doing None ((y, delegates) ∷ (e, sends (session_message y p)) ∷ []))) None) few) ∙ sym (ap (doing_by p t.world) want) ∙ k in
+        let same : (plain_doing None ((y, delegates) ∷ (e, sends (session_message y p)) ∷ [])) ≡ d = cc in
         ap (λ (x : Doing). x.uses) (sym same)
     made false false few k =
         let none : None ≡ Some d =
-        sym (ap (λ (b : Bool). cond b (Some (record { taken = None; uses = (y, delegates) ∷ (e, sends (session_message y p)) ∷ [] })) None) few) ∙ sym (ap (doing_by p t.world) want) ∙ k in absurd (cc none)
+        sym (ap (λ (b : Bool). cond b (Some (plain_doing None ((y, delegates) ∷ (e, sends (session_message y p)) ∷ []))) None) few) ∙ sym (ap (doing_by p t.world) want) ∙ k in absurd (cc none)

@@ -20,7 +20,7 @@ use Rattle.sj_headline_laws.proofs.DoneLemmas.{same_end_at}
 use Rattle.sj_headline_laws.proofs.TouchedLemmas.{side}
 use Rattle.sj_rules.specs.Node as wanted
 use Rattle.sj_rules.specs.Node.{Want}
-use Rattle.sj_seat_laws.specs.SeatedWorld.{Doing, SeatedWorld, doing_by}
+use Rattle.sj_seat_laws.specs.SeatedWorld.{Doing, SeatedWorld, doing_by, plain_doing}
 
 -- ---- what uses add
 
@@ -120,27 +120,27 @@ module _ (p : ℕ) (t : SeatedWorld) where
   doing_taking e (wanted.requests place to) d h = cc
   doing_taking e (wanted.accepts place from) d h = cc
   doing_taking e (wanted.sends f m) d h =
-      subst (λ (x : Doing). Taking zs e p x.uses) (let it : record { taken = None; uses = (f, sends m) ∷ [] } ≡ d = cc in it) (none_taken (ap (λ xs. xs ++ []) (nothing_either_way (is_end e f))))
+      subst (λ (x : Doing). Taking zs e p x.uses) (let it : plain_doing None ((f, sends m) ∷ []) ≡ d = cc in it) (none_taken (ap (λ xs. xs ++ []) (nothing_either_way (is_end e f))))
   doing_taking e (wanted.delegates c f) d h = by (nat_lt (end_at zs f).hops 100) h
     where
-      by : (b : Bool) → cond b (Some (record { taken = None; uses = (f, delegates) ∷ (c, sends (session_message f p)) ∷ [] })) None ≡ Some d → Taking zs e p d.uses
+      by : (b : Bool) → cond b (Some (plain_doing None ((f, delegates) ∷ (c, sends (session_message f p)) ∷ []))) None ≡ Some d → Taking zs e p d.uses
       by true k =
-          subst (λ (x : Doing). Taking zs e p x.uses) (let it : record { taken = None; uses = (f, delegates) ∷ (c, sends (session_message f p)) ∷ [] } ≡ d = cc in it)
+          subst (λ (x : Doing). Taking zs e p x.uses) (let it : plain_doing None ((f, delegates) ∷ (c, sends (session_message f p)) ∷ []) ≡ d = cc in it)
           (none_taken (ap (λ xs. xs ++ (cond (is_end e c) [] [] ++ [])) (nothing_either_way (is_end e f)) ∙ ap (λ xs. xs ++ []) (nothing_either_way (is_end e c))))
       by false k = cc
   doing_taking e (wanted.takes f place) d h = by (next_for zs f) refl h
     where
-      by : (o : Option Passed) → next_for zs f ≡ o → option_map (λ (x : Passed). record { taken = Some x.msg; uses = (f, takes x.msg) ∷ begun_by place x.msg }) o ≡ Some d → Taking zs e p d.uses
+      by : (o : Option Passed) → next_for zs f ≡ o → option_map (λ (x : Passed). (plain_doing (Some x.msg) ((f, takes x.msg) ∷ begun_by place x.msg))) o ≡ Some d → Taking zs e p d.uses
       by None next k = cc
       by (Some x) next k =
-          subst (λ (y : Doing). Taking zs e p y.uses) (let it : record { taken = Some x.msg; uses = (f, takes x.msg) ∷ begun_by place x.msg } ≡ d = cc in it)
+          subst (λ (y : Doing). Taking zs e p y.uses) (let it : plain_doing (Some x.msg) ((f, takes x.msg) ∷ begun_by place x.msg) ≡ d = cc in it)
           (elim (cases_Bool (is_end e f)) [
             | inl it ↦
                 next_taken x (sym (next_same e f it) ∙ next)
                 (ap (λ (b : Bool). cond b (record { msg = x.msg; by = p } ∷ []) [] ++ uses_on e taken_by p (begun_by place x.msg)) it ∙ ap (λ xs. record { msg = x.msg; by = p } ∷ xs) (begun_takes_none e place x.msg))
             | inr other ↦ none_taken (ap (λ (b : Bool). cond b (record { msg = x.msg; by = p } ∷ []) [] ++ uses_on e taken_by p (begun_by place x.msg)) other ∙ begun_takes_none e place x.msg)
           ])
-  doing_taking e (wanted.closes f) d h = subst (λ (x : Doing). Taking zs e p x.uses) (let it : record { taken = None; uses = [] } ≡ d = cc in it) (none_taken refl)
+  doing_taking e (wanted.closes f) d h = subst (λ (x : Doing). Taking zs e p x.uses) (let it : plain_doing None [] ≡ d = cc in it) (none_taken refl)
 
 -- ---- at the start
 

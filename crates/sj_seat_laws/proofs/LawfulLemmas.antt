@@ -238,9 +238,9 @@ module _ (file : FileAt) (p : ℕ) (t : SeatedWorld) (s : IsSeat file p t) (prog
     taken_binds : (e : EndId) (cs : List Call) (r : Place) → t.seat.calls ≡ calls.takes e ∷ cs → place_held bs e ≡ Some r → (m : Msg) → BindsTaken player_binds (seated t.seat) (play.goes (seated t.seat) (Some m)) m
     taken_binds e cs r making there m =
         subst (λ (new : Player). BindsTaken player_binds (seated t.seat) new m) (sym (goes_is (calls.takes e ∷ cs) making (Some m)))
-        (subst (λ (o : Option Place). BindsTaken player_binds (seated t.seat) (seated (record { ends = ends_taken bs e o (Some m); steps = t.seat.steps + 1; calls = cs })) m) (sym there) (by m))
+        (subst (λ (o : Option Place). BindsTaken player_binds (seated t.seat) (seated (record { ends = ends_taken bs e o (Some m); steps = t.seat.steps + 1; calls = cs; may = t.seat.may })) m) (sym there) (by m))
       where
-        by : (m : Msg) → BindsTaken player_binds (seated t.seat) (seated (record { ends = with_carried (moved bs e Into m) (carried_next r) m; steps = t.seat.steps + 1; calls = cs })) m
+        by : (m : Msg) → BindsTaken player_binds (seated t.seat) (seated (record { ends = with_carried (moved bs e Into m) (carried_next r) m; steps = t.seat.steps + 1; calls = cs; may = t.seat.may })) m
         by (msgs.Sess sess d k) =
             λ f. let m = moved_binds bs e (msgs.Sess sess d k) Into f in let b = push_binds (moved bs e Into (msgs.Sess sess d k)) (side sess d) (carried_next r) f in
             (λ h. elim (b.0 h) [ inl y ↦ inl y | inr y ↦ inr (m.0 y) ], elim [ inl y ↦ b.1 (inl y) | inr y ↦ b.1 (inr (m.1 y)) ])
@@ -297,7 +297,7 @@ module _ (file : FileAt) (p : ℕ) (t : SeatedWorld) (s : IsSeat file p t) (prog
         by true can = close_fits e cs r making there can
         by false can = tt
 
-    pub seat_fits : (cs : List Call) → t.seat.calls ≡ cs → SeatFits (want_of_calls bs cs)
+    pub seat_fits : (cs : List Call) → t.seat.calls ≡ cs → SeatFits (want_of_calls t.seat.may bs cs)
     seat_fits [] h = tt
     seat_fits (calls.sends e m ∷ cs) h = by_send e m cs h (place_held bs e) refl
     seat_fits (calls.delegates c e ∷ cs) h = by_delegate c e cs h (place_held bs c) (place_held bs e) refl refl

@@ -12,15 +12,16 @@ use Rattle.sj_lang.specs.ItemCount.{is_done}
 use Rattle.sj_lang.specs.Place.{Place, boolean, choice, done, int, message, repeat, session, text}
 use Rattle.sj_rules.specs.Frames.{FrameAt, is_proper}
 use Rattle.sj_rules.specs.Halts.{halt_by}
-use Rattle.sj_rules.specs.Log.{NoteAt, Sent, Shut, Took, act_note, head_note, take_note}
+use Rattle.sj_rules.specs.Limits.{limit_of_requests}
+use Rattle.sj_rules.specs.Log.{Accept, NoteAt, Request, Sent, Shut, Took, act_note, head_note, take_note}
 use Rattle.sj_rules.specs.Node as wanted
-use Rattle.sj_rules.specs.Node.{NodeAt, Play, Want, ack_comes, act_by, acts, arrives, at_main, claim_comes, close_act, closed_after, comes, comes_or_opens, delegate_act, give_comes, given_after, held_after, held_behind_take, is_free, open_comes, parked_after, plain_comes, put, quietly, send_act, signal_comes, take_act, take_from, with_main, with_number, with_old, work_of_take}
-use Rattle.sj_rules.specs.Opened.{is_opened_by}
-use Rattle.sj_rules.specs.Record.{BodyAt, Carry, Fin, Claim, Signal, Ack, Give, Open, EndAt, HeldAt, MainAt, Held, Closed, Expected, OldAt, Parked, Signalled, is_same_end, offered_end}
+use Rattle.sj_rules.specs.Node.{NodeAt, Play, Want, accept_offered, accept_session, ack_comes, act_by, acts, arrives, at_main, claim_comes, close_act, closed_after, comes, comes_or_opens, delegate_act, give_comes, given_after, held_after, held_behind_take, is_free, open_comes, parked_after, plain_comes, put, quietly, send_act, signal_comes, take_act, take_from, with_main, with_number, with_old, work_of_take}
+use Rattle.sj_rules.specs.Opened.{is_opened_by, opened_number, smallest}
+use Rattle.sj_rules.specs.Record.{BodyAt, Carry, Fin, Claim, Signal, Ack, Give, Open, EndAt, HeldAt, MainAt, Held, Closed, Expected, OldAt, Parked, Signalled, is_same_end, offered_end, requested_end}
 use Rattle.sj_rules.specs.Rows.{Worked, acked_body, at_held, crossing_body, install, passive, passive_closed}
 use Rattle.sj_seat_laws.specs.Calls as calls
-use Rattle.sj_seat_laws.specs.Calls.{Call, Ends, SeatedAt, place_held}
-use Rattle.sj_seat_laws.specs.Guards.{called, carried_next, may_carry, may_send, may_take, seated_want, want_of_calls, want_of_close, want_of_delegate, want_of_send, want_of_take, where_allowed}
+use Rattle.sj_seat_laws.specs.Calls.{Call, Ends, SeatedAt, place_held, place_opened}
+use Rattle.sj_seat_laws.specs.Guards.{called, carried_next, may_carry, may_send, may_take, opened, seated_want, want_of_accept, want_of_calls, want_of_close, want_of_delegate, want_of_request, want_of_send, want_of_take, where_allowed}
 use Rattle.sj_seat_laws.specs.SeatRows.{call_act, call_told, silent, with_player, worked_player}
 use Rattle.sj_seat_laws.specs.SeatedPlay.{Player, seated, seated_play}
 
@@ -169,6 +170,28 @@ module _ {Q : Type 0} (file : FileAt) (party : ℕ) (s : SeatedAt) where
       ap (take_act (seated_play file) (with_player (seated s) n) e place) there ∙ ap (take_from (seated_play file) (with_player (seated s) n) e place h) head ∙ take_played n e place h msg rest
       ∙ sym (ap (option_map (done_by (Some msg))) (ap (take_act bare n e place) there ∙ ap (take_from bare n e place h) head))
 
+  abbrev opened_so : EndId → Worked Place (NodeAt Place Q) → Worked Place (NodeAt Place Player)
+  opened_so e = worked_player (seated (opened s e))
+
+  -- a request does what its row does, and the party holds the first end of its session
+  pub requesting_played : (n : NodeAt Place Q) (place : Place) (to : ℕ) → act_by (seated_play file) party (with_player (seated s) n) (wanted.requests place to)
+      ≡ option_map (opened_so (requested_end (opened_number party n.requests))) (call_act (seated_play file).parties party n (wanted.requests place to))
+  requesting_played n place to = tests (opened_so (requested_end (opened_number party n.requests))) (nat_lt n.requests limit_of_requests) _ _ refl
+
+  accept_played : (n : NodeAt Place Q) (place : Place) (from sess : ℕ) (o : Option (MainAt Place)) → accept_session (seated_play file) (with_player (seated s) n) place from sess o
+      ≡ option_map (opened_so (offered_end sess)) (accept_session bare n place from sess o)
+  accept_played n place from sess None = refl
+  accept_played n place from sess (Some (Closed k)) = refl
+  accept_played n place from sess (Some (Expected keeper own deferred)) = refl
+  accept_played n place from sess (Some (Held h)) = refl
+
+  -- and so does an accept, by the session that is offered first
+  pub accepting_played : (n : NodeAt Place Q) (place : Place) (from sess : ℕ) → smallest (n.offers from) ≡ Some sess → act_by (seated_play file) party (with_player (seated s) n) (wanted.accepts place from)
+      ≡ option_map (opened_so (offered_end sess)) (call_act (seated_play file).parties party n (wanted.accepts place from))
+  accepting_played n place from sess first =
+      ap (accept_offered (seated_play file) (with_player (seated s) n) place from) first ∙ accept_played n place from sess (n.main (offered_end sess))
+      ∙ sym (ap (option_map (opened_so (offered_end sess))) (ap (accept_offered bare n place from) first))
+
 module _ {Q : Type 0} (s : SeatedAt) where
   -- so is the cause that keeps it from a step
   pub halts_played : (n : NodeAt Place Q) (want : Want Place) → halt_by (with_player (seated s) n) want ≡ halt_by n want
@@ -183,17 +206,18 @@ module _ {Q : Type 0} (s : SeatedAt) where
 
 -- ---- what a log reports
 
--- the next call is the one that the note reports
+-- the next call is the one that the note reports, for some protocol
 pub record IsTold (s : SeatedAt) (note : NoteAt) : Type 0 where
   pub call : Call
   pub later : List Call
   pub calls : s.calls ≡ call ∷ later
-  pub told : call_told note ≡ Some call
+  pub protocol : ℕ
+  pub told : call_told protocol note ≡ Some call
 
 some_note : (x y : NoteAt) → Some x ≡ Some y → x ≡ y
 some_note x y h = cc
 
-told_send : (e : EndId) (q : Place) (msg : Msg) → may_send q msg ≡ true → call_told (Sent e msg) ≡ Some (calls.sends e msg)
+told_send : (e : EndId) (q : Place) (msg : Msg) → may_send q msg ≡ true → call_told 0 (Sent e msg) ≡ Some (calls.sends e msg)
 told_send e q (msgs.Sess s d k) h = absurd (cc (no_end q s d k, h))
   where
     no_end : (q : Place) (s d k : ℕ) → may_send q (msgs.Sess s d k) ≡ false
@@ -217,8 +241,11 @@ module _ {Q : Type 0} (party : ℕ) (n : NodeAt Place Q) (s : SeatedAt) (note : 
   abbrev Noted : Want Place → Type 0
   Noted want = act_note party n want ≡ Some note
 
-  told_by : (c : Call) (cs : List Call) → s.calls ≡ c ∷ cs → (x : NoteAt) → x ≡ note → call_told x ≡ Some c → IsTold s note
-  told_by c cs is x same told = record { call = c; later = cs; calls = is; told = ap call_told (sym same) ∙ told }
+  told_as : (k : ℕ) (c : Call) (cs : List Call) → s.calls ≡ c ∷ cs → (x : NoteAt) → x ≡ note → call_told k x ≡ Some c → IsTold s note
+  told_as k c cs is x same told = record { call = c; later = cs; calls = is; protocol = k; told = ap (call_told k) (sym same) ∙ told }
+
+  told_by : (c : Call) (cs : List Call) → s.calls ≡ c ∷ cs → (x : NoteAt) → x ≡ note → call_told 0 x ≡ Some c → IsTold s note
+  told_by c cs is x same told = told_as 0 c cs is x same told
 
   head_told : (e : EndId) (cs : List Call) → s.calls ≡ calls.takes e ∷ cs → (ms : List Msg) → head_note e ms ≡ Some note → IsTold s note
   head_told e cs is [] h = absurd (cc h)
@@ -263,12 +290,26 @@ module _ {Q : Type 0} (party : ℕ) (n : NodeAt Place Q) (s : SeatedAt) (note : 
       by true k = told_by (calls.closes e) cs is (Shut e) (some_note _ note k) refl
       by false k = absurd (cc k)
 
-  calls_told : (cs : List Call) → s.calls ≡ cs → Noted (want_of_calls s.ends cs) → IsTold s note
+  request_told : (q k : ℕ) (cs : List Call) → s.calls ≡ calls.requests q k ∷ cs → (o : Option Place) → Noted (want_of_request q o) → IsTold s note
+  request_told q k cs is None h = absurd (cc h)
+  request_told q k cs is (Some place) h = told_as k (calls.requests q k) cs is (Request (opened_number party n.requests) q) (some_note _ note h) refl
+
+  accept_told : (q k : ℕ) (cs : List Call) → s.calls ≡ calls.accepts q k ∷ cs → (o : Option Place) → Noted (want_of_accept q o) → IsTold s note
+  accept_told q k cs is None h = absurd (cc h)
+  accept_told q k cs is (Some place) h = by (smallest (n.offers q)) h
+    where
+      by : (o : Option ℕ) → option_map (λ sess. Accept sess q) o ≡ Some note → IsTold s note
+      by None l = absurd (cc l)
+      by (Some sess) l = told_as k (calls.accepts q k) cs is (Accept sess q) (some_note _ note l) refl
+
+  calls_told : (cs : List Call) → s.calls ≡ cs → Noted (want_of_calls s.may s.ends cs) → IsTold s note
   calls_told [] is h = absurd (cc h)
   calls_told (calls.sends e msg ∷ cs) is h = send_told e msg cs is (place_held s.ends e) h
   calls_told (calls.delegates c e ∷ cs) is h = delegate_told c e cs is (place_held s.ends c) (place_held s.ends e) h
   calls_told (calls.takes e ∷ cs) is h = taking_told e cs is (place_held s.ends e) h
   calls_told (calls.closes e ∷ cs) is h = close_told e cs is (place_held s.ends e) h
+  calls_told (calls.requests q k ∷ cs) is h = request_told q k cs is (place_opened s.may.requests q k) h
+  calls_told (calls.accepts q k ∷ cs) is h = accept_told q k cs is (place_opened s.may.accepts q k) h
 
   pub note_tells_call : Noted (seated_want s) → IsTold s note
   note_tells_call h = calls_told s.calls refl h

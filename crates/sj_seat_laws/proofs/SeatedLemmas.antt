@@ -36,7 +36,7 @@ use Rattle.sj_seat_laws.specs.Calls as calls
 use Rattle.sj_seat_laws.specs.Calls.{Call, Ends, SeatedAt, moved, place_held, without_end}
 use Rattle.sj_seat_laws.specs.Guards.{called_by, carried_next, ends_taken, may_carry, may_send, may_take, want_of_calls, want_of_close, want_of_delegate, want_of_send, want_of_take, where_allowed, with_carried}
 use Rattle.sj_seat_laws.specs.SeatedStart.{no_program}
-use Rattle.sj_seat_laws.specs.SeatedWorld.{Doing, SeatedWorld, after_doing, doing_by, doing_of, world_after}
+use Rattle.sj_seat_laws.specs.SeatedWorld.{Doing, SeatedWorld, after_doing, doing_by, doing_of, plain_doing, world_after}
 use Rattle.sj_seat_laws.proofs.CallLemmas.{carries_out, done_by, names_nothing, sends_on, taken_kind}
 use Rattle.sj_seat_laws.proofs.GuardLemmas.{Guarded}
 use Rattle.sj_seat_laws.proofs.HeldLemmas.{first_of, held_by_place, holds, holds-moved, holds-push, holds-without_other, place-moved, place-moved_other, place-moved_same, place-push, place-without_other}
@@ -119,7 +119,7 @@ module _ (others : EndId → ℕ) (more : ℕ) (file : FileAt) (p n : ℕ) (t : 
 
   -- the world after these uses, with these ends and calls
   abbrev behind : List (EndId × Use) → Ends → List Call → SeatedWorld
-  behind us es cs = record { world = world_after p us w; seat = record { ends = es; steps = t.seat.steps + 1; calls = cs } }
+  behind us es cs = record { world = world_after p us w; seat = record { ends = es; steps = t.seat.steps + 1; calls = cs; may = t.seat.may } }
 
   below : p < length file.parties
   below = omega (arith, slice_get_within w.parties p (no_program file) s.seat.idle, s.seat.proper.many)
@@ -302,7 +302,7 @@ module _ (others : EndId → ℕ) (more : ℕ) (file : FileAt) (p n : ℕ) (t : 
   by_send e m cs d (Some q) there h = by (may_send q m) refl h
     where
       by : (b : Bool) → may_send q m ≡ b → doing_by p w (where_allowed b (wanted.sends e m)) ≡ Some d → Keeps (calls.sends e m ∷ cs) d
-      by true can k = subst (Keeps (calls.sends e m ∷ cs)) (let it : record { taken = None; uses = (e, sends m) ∷ [] } ≡ d = cc in it) (send_keeps e m q cs there can)
+      by true can k = subst (Keeps (calls.sends e m ∷ cs)) (let it : plain_doing None ((e, sends m) ∷ []) ≡ d = cc in it) (send_keeps e m q cs there can)
       by false can k = cc
 
   by_delegate : (c e : EndId) (cs : List Call) (d : Doing) (o own : Option Place) → place_held bs c ≡ o → place_held bs e ≡ own → doing_by p w (want_of_delegate c e o own) ≡ Some d → Keeps (calls.delegates c e ∷ cs) d
@@ -311,9 +311,9 @@ module _ (others : EndId → ℕ) (more : ℕ) (file : FileAt) (p n : ℕ) (t : 
   by_delegate c e cs d (Some q) (Some r) there own_there h = by (not (is_same_end c e) && may_carry q r) refl h
     where
       hop : (b : Bool) → nat_lt (end_at zs e).hops 100 ≡ b → is_same_end c e ≡ false → may_carry q r ≡ true
-          → cond b (Some (record { taken = None; uses = (e, delegates) ∷ (c, sends (session_message e p)) ∷ [] })) None ≡ Some d → Keeps (calls.delegates c e ∷ cs) d
+          → cond b (Some (plain_doing None ((e, delegates) ∷ (c, sends (session_message e p)) ∷ []))) None ≡ Some d → Keeps (calls.delegates c e ∷ cs) d
       hop true fresh apart can k =
-          subst (Keeps (calls.delegates c e ∷ cs)) (let it : record { taken = None; uses = (e, delegates) ∷ (c, sends (session_message e p)) ∷ [] } ≡ d = cc in it)
+          subst (Keeps (calls.delegates c e ∷ cs)) (let it : plain_doing None ((e, delegates) ∷ (c, sends (session_message e p)) ∷ []) ≡ d = cc in it)
           (delegate_keeps c e q r cs there own_there apart can (ltb-true (end_at zs e).hops 100 fresh))
       hop false fresh apart can k = cc
 
@@ -329,10 +329,10 @@ module _ (others : EndId → ℕ) (more : ℕ) (file : FileAt) (p n : ℕ) (t : 
   by_take e cs d None there h = cc
   by_take e cs d (Some q) there h = by (may_take q) h
     where
-      head : (o : Option Passed) → next_for zs e ≡ o → option_map (λ (x : Passed). record { taken = Some x.msg; uses = (e, takes x.msg) ∷ begun_by (carried_next q) x.msg }) o ≡ Some d → Keeps (calls.takes e ∷ cs) d
+      head : (o : Option Passed) → next_for zs e ≡ o → option_map (λ (x : Passed). (plain_doing (Some x.msg) ((e, takes x.msg) ∷ begun_by (carried_next q) x.msg))) o ≡ Some d → Keeps (calls.takes e ∷ cs) d
       head None next k = cc
       head (Some x) next k =
-          subst (Keeps (calls.takes e ∷ cs)) (let it : record { taken = Some x.msg; uses = (e, takes x.msg) ∷ begun_by (carried_next q) x.msg } ≡ d = cc in it)
+          subst (Keeps (calls.takes e ∷ cs)) (let it : plain_doing (Some x.msg) ((e, takes x.msg) ∷ begun_by (carried_next q) x.msg) ≡ d = cc in it)
           (subst (λ (o : Option Place). Next (behind ((e, takes x.msg) ∷ begun_by (carried_next q) x.msg) (ends_taken bs e o (Some x.msg)) cs)) (sym there)
           (take_keeps e q cs there x next x.msg refl))
 
@@ -345,10 +345,10 @@ module _ (others : EndId → ℕ) (more : ℕ) (file : FileAt) (p n : ℕ) (t : 
   by_close e cs d (Some q) there h = by (is_done q) refl h
     where
       by : (b : Bool) → is_done q ≡ b → doing_by p w (where_allowed b (wanted.closes e)) ≡ Some d → Keeps (calls.closes e ∷ cs) d
-      by true over k = subst (Keeps (calls.closes e ∷ cs)) (let it : record { taken = None; uses = [] } ≡ d = cc in it) (close_keeps e q cs there over)
+      by true over k = subst (Keeps (calls.closes e ∷ cs)) (let it : plain_doing None [] ≡ d = cc in it) (close_keeps e q cs there over)
       by false over k = cc
 
-  by_calls : (cs : List Call) (d : Doing) → doing_by p w (want_of_calls bs cs) ≡ Some d → Keeps cs d
+  by_calls : (cs : List Call) (d : Doing) → doing_by p w (want_of_calls t.seat.may bs cs) ≡ Some d → Keeps cs d
   by_calls [] d h = cc
   by_calls (calls.sends e m ∷ cs) d h = by_send e m cs d (place_held bs e) refl h
   by_calls (calls.delegates c e ∷ cs) d h = by_delegate c e cs d (place_held bs c) (place_held bs e) refl refl h
@@ -359,6 +359,6 @@ pub call_keeps : (others : EndId → ℕ) (more : ℕ) (file : FileAt) (p n : �
     → IsSeatedBeside others more file p (n + 1) (after_doing p t d)
 call_keeps others more file p n t d s h = by (nat_lt t.seat.steps 10000) refl h
   where
-    by : (b : Bool) → nat_lt t.seat.steps 10000 ≡ b → cond (not b) None (doing_by p t.world (want_of_calls t.seat.ends t.seat.calls)) ≡ Some d → IsSeatedBeside others more file p (n + 1) (after_doing p t d)
+    by : (b : Bool) → nat_lt t.seat.steps 10000 ≡ b → cond (not b) None (doing_by p t.world (want_of_calls t.seat.may t.seat.ends t.seat.calls)) ≡ Some d → IsSeatedBeside others more file p (n + 1) (after_doing p t d)
     by true few k = by_calls others more file p n t s (ltb-true t.seat.steps 10000 few) t.seat.calls d k
     by false few k = cc

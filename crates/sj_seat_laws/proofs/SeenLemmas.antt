@@ -39,7 +39,7 @@ use Rattle.sj_seat_laws.specs.Calls as calls
 use Rattle.sj_seat_laws.specs.Calls.{Call, Ends, SeatedAt, place_held}
 use Rattle.sj_seat_laws.specs.Guards.{called, carried_next, may_carry, may_send, may_take, want_of_calls, want_of_close, want_of_delegate, want_of_send, want_of_take, where_allowed}
 use Rattle.sj_seat_laws.specs.SeatedPlay.{Player, player_goes, seated, seated_play, written}
-use Rattle.sj_seat_laws.specs.SeatedWorld.{SeatedWorld, after_doing, doing_by, doing_of}
+use Rattle.sj_seat_laws.specs.SeatedWorld.{SeatedWorld, after_doing, doing_by, doing_of, plain_doing}
 use Rattle.sj_seat_laws.proofs.CallLemmas.{carries_out, sends_on}
 use Rattle.sj_seat_laws.proofs.SeatedLemmas.{IsSeat}
 
@@ -174,7 +174,7 @@ module _ (file : FileAt) (p : ℕ) (t : SeatedWorld) (s : IsSeat file p t) (base
 
   -- what the rules see after a call
   used_seen : (taken : Option Msg) (us : List (EndId × Use)) (sides : EndId → PlainSide Place) → ((d : EndId) → plain_side w.requests (after_uses p us zs) d ≡ sides d)
-      → record (plain_goes mine p taken plain) { sides = sides } ≡ seen_beside (after_doing p t (record { taken = taken; uses = us }))
+      → record (plain_goes mine p taken plain) { sides = sides } ≡ seen_beside (after_doing p t (plain_doing (taken) us))
   used_seen taken us sides same =
       let programs : (r : ℕ) → cond (r == p) (player_goes file (plain.programs p) taken) (cond (r == p) (seated t.seat) (base r)) ≡ cond (r == p) (seated (called t.seat taken)) (base r) =
       λ r. one_cond (r == p) (player_goes file (plain.programs p) taken) (seated t.seat) (base r) ∙ ap (λ g. cond (r == p) (player_goes file g taken) (base r)) itself in
@@ -205,13 +205,13 @@ module _ (file : FileAt) (p : ℕ) (t : SeatedWorld) (s : IsSeat file p t) (base
       sends_seen w.requests p mid c m o.next lt mid_at d
       ∙ ap (λ (x : PlainSide Place). cond (is_same_end d c) (plain_sent x o.next m) x) (hands_seen w.requests p zs e low d)))
     where
-      by : (b : Bool) (x : PlainAt Place Player) → x ≡ seen_beside (after_doing p t (record { taken = None; uses = (e, delegates) ∷ (c, sends (session_message e p)) ∷ [] }))
-          → cond b (Some x) None ≡ option_map (λ d. seen_beside (after_doing p t d)) (cond b (Some (record { taken = None; uses = (e, delegates) ∷ (c, sends (session_message e p)) ∷ [] })) None)
+      by : (b : Bool) (x : PlainAt Place Player) → x ≡ seen_beside (after_doing p t (plain_doing None ((e, delegates) ∷ (c, sends (session_message e p)) ∷ [])))
+          → cond b (Some x) None ≡ option_map (λ d. seen_beside (after_doing p t d)) (cond b (Some (plain_doing None ((e, delegates) ∷ (c, sends (session_message e p)) ∷ []))) None)
       by true x h = ap Some h
       by false x h = refl
 
   head_seen : (e : EndId) (named : Place) (next : Place) (m : Msg) → e.side < 2 → after_place (end_at zs e).place Into m ≡ Some next → IsProperMessage (size_of file) m
-      → plain_names named m (plain_takes mine p e m next plain) ≡ seen_beside (after_doing p t (record { taken = Some m; uses = (e, takes m) ∷ begun_by named m }))
+      → plain_names named m (plain_takes mine p e m next plain) ≡ seen_beside (after_doing p t (plain_doing (Some m) ((e, takes m) ∷ begun_by named m)))
   head_seen e named next (msgs.Sess sess d k) lt at ok =
       let m : Msg = msgs.Sess sess d k in
       used_seen (Some m) ((e, takes m) ∷ (side sess d, begins named) ∷ []) _ (λ f.
@@ -227,7 +227,7 @@ module _ (file : FileAt) (p : ℕ) (t : SeatedWorld) (s : IsSeat file p t) (base
   take_seen e q there = ap (plain_takes_head mine p e (carried_next q) plain) (waiting_is_next w e (s.known e q there).0) ∙ by (next_for zs e) refl
     where
       by : (o : Option Passed) → next_for zs e ≡ o → plain_takes_head mine p e (carried_next q) plain (option_map (λ x. x.msg) o)
-          ≡ option_map (λ d. seen_beside (after_doing p t d)) (option_map (λ (x : Passed). record { taken = Some x.msg; uses = (e, takes x.msg) ∷ begun_by (carried_next q) x.msg }) o)
+          ≡ option_map (λ d. seen_beside (after_doing p t d)) (option_map (λ (x : Passed). (plain_doing (Some x.msg) ((e, takes x.msg) ∷ begun_by (carried_next q) x.msg))) o)
       by None next = refl
       by (Some x) next =
           let lt = (s.known e q there).0 in
@@ -272,15 +272,15 @@ module _ (file : FileAt) (p : ℕ) (t : SeatedWorld) (s : IsSeat file p t) (base
       by true = close_seen e
       by false = refl
 
-  calls_seen : (cs : List Call) → Seen (want_of_calls bs cs)
+  calls_seen : (cs : List Call) → Seen (want_of_calls t.seat.may bs cs)
   calls_seen [] = refl
   calls_seen (calls.sends e m ∷ cs) = send_by e m (place_held bs e) refl
   calls_seen (calls.delegates c e ∷ cs) = delegate_by c e (place_held bs c) (place_held bs e) refl refl
   calls_seen (calls.takes e ∷ cs) = take_by e (place_held bs e) refl
   calls_seen (calls.closes e ∷ cs) = close_by e (place_held bs e)
 
-  worn_seen : (b : Bool) → cond b None (plain_act_by mine plain p (want_of_calls bs t.seat.calls))
-      ≡ option_map (λ d. seen_beside (after_doing p t d)) (cond b None (doing_by p w (want_of_calls bs t.seat.calls)))
+  worn_seen : (b : Bool) → cond b None (plain_act_by mine plain p (want_of_calls t.seat.may bs t.seat.calls))
+      ≡ option_map (λ d. seen_beside (after_doing p t d)) (cond b None (doing_by p w (want_of_calls t.seat.may bs t.seat.calls)))
   worn_seen true = refl
   worn_seen false = calls_seen t.seat.calls
 

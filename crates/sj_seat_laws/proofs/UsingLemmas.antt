@@ -21,7 +21,7 @@ use Rattle.sj_seat_laws.specs.Calls as calls
 use Rattle.sj_seat_laws.specs.Calls.{Call, Ends, place_held}
 use Rattle.sj_seat_laws.specs.Guards.{carried_next, may_carry, may_send, may_take, seated_want, want_of_calls, want_of_close, want_of_delegate, want_of_send, want_of_take, where_allowed}
 use Rattle.sj_seat_laws.specs.Resting.{IsResting, handed_enough, left, unguarded, waits, worn}
-use Rattle.sj_seat_laws.specs.SeatedWorld.{Doing, SeatedWorld, doing_by, doing_of}
+use Rattle.sj_seat_laws.specs.SeatedWorld.{Doing, SeatedWorld, doing_by, doing_of, plain_doing}
 
 -- ---- what is taken is next
 
@@ -43,28 +43,28 @@ module _ (p : ℕ) (w : World) where
   doing_next (wanted.requests place to) d h = λ n e m t. absurd (cc h)
   doing_next (wanted.accepts place from) d h = λ n e m t. absurd (cc h)
   doing_next (wanted.sends f k) d h =
-      subst (λ (x : Doing). TakesNext w.sessions x.uses) (let it : record { taken = None; uses = (f, sends k) ∷ [] } ≡ d = cc in it)
+      subst (λ (x : Doing). TakesNext w.sessions x.uses) (let it : plain_doing None ((f, sends k) ∷ []) ≡ d = cc in it)
       (cons_next w.sessions (f, sends k) [] (λ e m t. let it : sends k ≡ takes m = ap (λ (u : EndId × Use). u.1) t in absurd (cc it)) (nil_next w.sessions))
   doing_next (wanted.delegates c f) d h = by (nat_lt (end_at w.sessions f).hops 100) h
     where
-      by : (b : Bool) → cond b (Some (record { taken = None; uses = (f, delegates) ∷ (c, sends (session_message f p)) ∷ [] })) None ≡ Some d → TakesNext w.sessions d.uses
+      by : (b : Bool) → cond b (Some (plain_doing None ((f, delegates) ∷ (c, sends (session_message f p)) ∷ []))) None ≡ Some d → TakesNext w.sessions d.uses
       by true k =
-          subst (λ (x : Doing). TakesNext w.sessions x.uses) (let it : record { taken = None; uses = (f, delegates) ∷ (c, sends (session_message f p)) ∷ [] } ≡ d = cc in it)
+          subst (λ (x : Doing). TakesNext w.sessions x.uses) (let it : plain_doing None ((f, delegates) ∷ (c, sends (session_message f p)) ∷ []) ≡ d = cc in it)
           (cons_next w.sessions (f, delegates) ((c, sends (session_message f p)) ∷ []) (λ e m t. let it : delegates ≡ takes m = ap (λ (u : EndId × Use). u.1) t in absurd (cc it))
           (cons_next w.sessions (c, sends (session_message f p)) [] (λ e m t. let it : sends (session_message f p) ≡ takes m = ap (λ (u : EndId × Use). u.1) t in absurd (cc it)) (nil_next w.sessions)))
       by false k = λ n e m t. absurd (cc k)
   doing_next (wanted.takes f place) d h = by (next_for w.sessions f) refl h
     where
-      by : (o : Option Passed) → next_for w.sessions f ≡ o → option_map (λ (x : Passed). record { taken = Some x.msg; uses = (f, takes x.msg) ∷ begun_by place x.msg }) o ≡ Some d → TakesNext w.sessions d.uses
+      by : (o : Option Passed) → next_for w.sessions f ≡ o → option_map (λ (x : Passed). (plain_doing (Some x.msg) ((f, takes x.msg) ∷ begun_by place x.msg))) o ≡ Some d → TakesNext w.sessions d.uses
       by None next k = λ n e m t. absurd (cc k)
       by (Some x) next k =
-          subst (λ (y : Doing). TakesNext w.sessions y.uses) (let it : record { taken = Some x.msg; uses = (f, takes x.msg) ∷ begun_by place x.msg } ≡ d = cc in it)
+          subst (λ (y : Doing). TakesNext w.sessions y.uses) (let it : plain_doing (Some x.msg) ((f, takes x.msg) ∷ begun_by place x.msg) ≡ d = cc in it)
           (cons_next w.sessions (f, takes x.msg) (begun_by place x.msg) (λ e m t.
           let same_end : f ≡ e = ap (λ (u : EndId × Use). u.0) t in
           let uses : takes x.msg ≡ takes m = ap (λ (u : EndId × Use). u.1) t in
           let same_message : x.msg ≡ m = cc in
           (x, ap (next_for w.sessions) (sym same_end) ∙ next, same_message)) (begun_next w.sessions place x.msg))
-  doing_next (wanted.closes f) d h = subst (λ (x : Doing). TakesNext w.sessions x.uses) (let it : record { taken = None; uses = [] } ≡ d = cc in it) (nil_next w.sessions)
+  doing_next (wanted.closes f) d h = subst (λ (x : Doing). TakesNext w.sessions x.uses) (let it : plain_doing None [] ≡ d = cc in it) (nil_next w.sessions)
 
 pub worn_doing : (p : ℕ) (t : SeatedWorld) (d : Doing) (b : Bool) → cond b None (doing_by p t.world (seated_want t.seat)) ≡ Some d → doing_by p t.world (seated_want t.seat) ≡ Some d
 worn_doing p t d true h = cc
@@ -113,7 +113,7 @@ module _ (p : ℕ) (t : SeatedWorld) where
   send_own e m d (Some q) there h = by (may_send q m) h
     where
       by : (b : Bool) → doing_by p w (where_allowed b (wanted.sends e m)) ≡ Some d → Owns d.uses
-      by true k = subst (λ (x : Doing). Owns x.uses) (let it : record { taken = None; uses = (e, sends m) ∷ [] } ≡ d = cc in it) (cons_own e (sends m) [] (has e q there) nil_own)
+      by true k = subst (λ (x : Doing). Owns x.uses) (let it : plain_doing None ((e, sends m) ∷ []) ≡ d = cc in it) (cons_own e (sends m) [] (has e q there) nil_own)
       by false k = λ i f u l. absurd (cc k)
 
   delegate_own : (c e : EndId) (d : Doing) (o r : Option Place) → place_held bs c ≡ o → place_held bs e ≡ r → doing_by p w (want_of_delegate c e o r) ≡ Some d → Owns d.uses
@@ -124,22 +124,22 @@ module _ (p : ℕ) (t : SeatedWorld) where
       by : (b a : Bool) → nat_lt (end_at w.sessions e).hops 100 ≡ a → doing_by p w (where_allowed b (wanted.delegates c e)) ≡ Some d → Owns d.uses
       by false a is k = λ i f u l. absurd (cc k)
       by true true is k =
-          let made : Some (record { taken = None; uses = (e, delegates) ∷ (c, sends (session_message e p)) ∷ [] }) ≡ Some d =
-          sym (ap (λ (b : Bool). cond b (Some (record { taken = None; uses = (e, delegates) ∷ (c, sends (session_message e p)) ∷ [] })) None) is) ∙ k in
-          subst (λ (x : Doing). Owns x.uses) (let it : record { taken = None; uses = (e, delegates) ∷ (c, sends (session_message e p)) ∷ [] } ≡ d = cc in it)
+          let made : Some (plain_doing None ((e, delegates) ∷ (c, sends (session_message e p)) ∷ [])) ≡ Some d =
+          sym (ap (λ (b : Bool). cond b (Some (plain_doing None ((e, delegates) ∷ (c, sends (session_message e p)) ∷ []))) None) is) ∙ k in
+          subst (λ (x : Doing). Owns x.uses) (let it : plain_doing None ((e, delegates) ∷ (c, sends (session_message e p)) ∷ []) ≡ d = cc in it)
           (cons_own e delegates ((c, sends (session_message e p)) ∷ []) (has e r own_there) (cons_own c (sends (session_message e p)) [] (has c q there) nil_own))
       by true false is k =
-          let none : None ≡ Some d = sym (ap (λ (b : Bool). cond b (Some (record { taken = None; uses = (e, delegates) ∷ (c, sends (session_message e p)) ∷ [] })) None) is) ∙ k in
+          let none : None ≡ Some d = sym (ap (λ (b : Bool). cond b (Some (plain_doing None ((e, delegates) ∷ (c, sends (session_message e p)) ∷ []))) None) is) ∙ k in
           λ i f u l. absurd (cc none)
 
   take_own : (e : EndId) (d : Doing) (o : Option Place) → place_held bs e ≡ o → doing_by p w (want_of_take e o) ≡ Some d → Owns d.uses
   take_own e d None there h = λ i f u k. absurd (cc h)
   take_own e d (Some q) there h = by (may_take q) h
     where
-      head : (o : Option Passed) → option_map (λ (x : Passed). record { taken = Some x.msg; uses = (e, takes x.msg) ∷ begun_by (carried_next q) x.msg }) o ≡ Some d → Owns d.uses
+      head : (o : Option Passed) → option_map (λ (x : Passed). (plain_doing (Some x.msg) ((e, takes x.msg) ∷ begun_by (carried_next q) x.msg))) o ≡ Some d → Owns d.uses
       head None k = λ i f u l. absurd (cc k)
       head (Some x) k =
-          subst (λ (y : Doing). Owns y.uses) (let it : record { taken = Some x.msg; uses = (e, takes x.msg) ∷ begun_by (carried_next q) x.msg } ≡ d = cc in it)
+          subst (λ (y : Doing). Owns y.uses) (let it : plain_doing (Some x.msg) ((e, takes x.msg) ∷ begun_by (carried_next q) x.msg) ≡ d = cc in it)
           (cons_own e (takes x.msg) (begun_by (carried_next q) x.msg) (has e q there) (begun_own (carried_next q) x.msg))
 
       by : (b : Bool) → doing_by p w (where_allowed b (wanted.takes e (carried_next q))) ≡ Some d → Owns d.uses
@@ -151,10 +151,10 @@ module _ (p : ℕ) (t : SeatedWorld) where
   close_own e d (Some q) h = by (is_done q) h
     where
       by : (b : Bool) → doing_by p w (where_allowed b (wanted.closes e)) ≡ Some d → Owns d.uses
-      by true k = subst (λ (x : Doing). Owns x.uses) (let it : record { taken = None; uses = [] } ≡ d = cc in it) nil_own
+      by true k = subst (λ (x : Doing). Owns x.uses) (let it : plain_doing None [] ≡ d = cc in it) nil_own
       by false k = λ i f u l. absurd (cc k)
 
-  pub calls_own : (cs : List Call) (d : Doing) → doing_by p w (want_of_calls bs cs) ≡ Some d → Owns d.uses
+  pub calls_own : (cs : List Call) (d : Doing) → doing_by p w (want_of_calls t.seat.may bs cs) ≡ Some d → Owns d.uses
   calls_own [] d h = λ i f u k. absurd (cc h)
   calls_own (calls.sends e m ∷ cs) d h = send_own e m d (place_held bs e) refl h
   calls_own (calls.delegates c e ∷ cs) d h = delegate_own c e d (place_held bs c) (place_held bs e) refl refl h
@@ -167,7 +167,7 @@ module _ (p : ℕ) (t : SeatedWorld) where
   take_rests e cs is None there h = unguarded (calls.takes e) cs is (ap (want_of_take e) there)
   take_rests e cs is (Some q) there h = by (may_take q) refl h
     where
-      head : (o : Option Passed) → next_for w.sessions e ≡ o → ◌≡◌ {A = Option Doing} (option_map (λ (x : Passed). record { taken = Some x.msg; uses = (e, takes x.msg) ∷ begun_by (carried_next q) x.msg }) o) None → IsResting t
+      head : (o : Option Passed) → next_for w.sessions e ≡ o → ◌≡◌ {A = Option Doing} (option_map (λ (x : Passed). (plain_doing (Some x.msg) ((e, takes x.msg) ∷ begun_by (carried_next q) x.msg))) o) None → IsResting t
       head None next k = waits e cs is next
       head (Some x) next k = absurd (cc k)
 
@@ -198,7 +198,7 @@ module _ (p : ℕ) (t : SeatedWorld) where
   delegate_rests c e cs is (Some q) (Some r) there own_there h = by (not (is_same_end c e) && may_carry q r) refl h
     where
       hop : (a : Bool) → nat_lt (end_at w.sessions e).hops 100 ≡ a
-          → ◌≡◌ {A = Option Doing} (cond a (Some (record { taken = None; uses = (e, delegates) ∷ (c, sends (session_message e p)) ∷ [] })) None) None → IsResting t
+          → ◌≡◌ {A = Option Doing} (cond a (Some (plain_doing None ((e, delegates) ∷ (c, sends (session_message e p)) ∷ []))) None) None → IsResting t
       hop true few k = absurd (cc k)
       hop false few k = handed_enough c e cs is (ltb-false (end_at w.sessions e).hops 100 few)
 
@@ -208,7 +208,7 @@ module _ (p : ℕ) (t : SeatedWorld) where
           unguarded (calls.delegates c e) cs is
           (ap (λ o. want_of_delegate c e o (place_held bs e)) there ∙ ap (want_of_delegate c e (Some q)) own_there ∙ ap (λ (b : Bool). where_allowed b (wanted.delegates c e)) can)
 
-  calls_rest : (cs : List Call) → t.seat.calls ≡ cs → doing_by p w (want_of_calls bs cs) ≡ None → IsResting t
+  calls_rest : (cs : List Call) → t.seat.calls ≡ cs → doing_by p w (want_of_calls t.seat.may bs cs) ≡ None → IsResting t
   calls_rest [] is h = left is
   calls_rest (calls.sends e m ∷ cs) is h = send_rests e m cs is (place_held bs e) refl h
   calls_rest (calls.delegates c e ∷ cs) is h = delegate_rests c e cs is (place_held bs c) (place_held bs e) refl refl h
@@ -218,6 +218,6 @@ module _ (p : ℕ) (t : SeatedWorld) where
   pub rests : doing_of p t ≡ None → IsResting t
   rests h = by (nat_lt t.seat.steps 10000) refl h
     where
-      by : (b : Bool) → nat_lt t.seat.steps 10000 ≡ b → cond (not b) None (doing_by p w (want_of_calls bs t.seat.calls)) ≡ None → IsResting t
+      by : (b : Bool) → nat_lt t.seat.steps 10000 ≡ b → cond (not b) None (doing_by p w (want_of_calls t.seat.may bs t.seat.calls)) ≡ None → IsResting t
       by true few k = calls_rest t.seat.calls refl k
       by false few k = worn (ltb-false t.seat.steps 10000 few)

@@ -5,10 +5,10 @@ use Rattle.sj_lang.specs.After.{after_place}
 use Rattle.sj_lang.specs.Dual.{dual_of}
 use Rattle.sj_lang.specs.ItemCount.{is_done}
 use Rattle.sj_lang.specs.Place.{Place, done}
-use Rattle.sj_rules.specs.Log.{NoteAt, Sent, Shut, Took}
+use Rattle.sj_rules.specs.Log.{Accept, NoteAt, Request, Sent, Shut, Took}
 use Rattle.sj_rules.specs.Node.{NodeAt, Play, Want, act_by, ended}
 use Rattle.sj_rules.specs.Rows.{Worked}
-use Rattle.sj_seat_laws.specs.Calls.{Call, closes, delegates, sends, takes}
+use Rattle.sj_seat_laws.specs.Calls.{Call, accepts, closes, delegates, requests, sends, takes}
 
 -- the node with another program
 abbrev pub with_player : {P Q R : Type 0} → R → NodeAt P Q → NodeAt P R
@@ -37,10 +37,13 @@ silent parties = record {
 abbrev pub call_act : {Q : Type 0} → (parties party : ℕ) → NodeAt Place Q → Want Place → Option (Worked Place (NodeAt Place Q))
 call_act parties party n want = act_by (silent parties) party n want
 
--- the call that the note of an act reports
-abbrev pub call_told : NoteAt → Option Call
-call_told (Sent e (msgs.Sess s d k)) = Some (delegates e (record { sess = s; side = d }))
-call_told (Sent e m) = Some (sends e m)
-call_told (Took e m) = Some (takes e)
-call_told (Shut e) = Some (closes e)
-call_told _ = None
+-- the call that the note of an act reports. It names no protocol: a session that the call opens is
+-- of that one
+abbrev pub call_told : (protocol : ℕ) → NoteAt → Option Call
+call_told n (Sent e (msgs.Sess s d k)) = Some (delegates e (record { sess = s; side = d }))
+call_told n (Sent e m) = Some (sends e m)
+call_told n (Took e m) = Some (takes e)
+call_told n (Shut e) = Some (closes e)
+call_told n (Request s q) = Some (requests q n)
+call_told n (Accept s q) = Some (accepts q n)
+call_told n _ = None

@@ -9,7 +9,7 @@ use Rattle.sj_rules.specs.Limits.{limit_of_steps}
 use Rattle.sj_rules.specs.Node.{Play, Want}
 use Rattle.sj_rules.specs.Party.{binds, play_of}
 use Rattle.sj_seat_laws.specs.Calls.{SeatedAt, place_held}
-use Rattle.sj_seat_laws.specs.Guards.{called, seated_want}
+use Rattle.sj_seat_laws.specs.Guards.{called, opened, seated_want}
 
 -- a party of a run: by the statements of the file, or by code of its own
 pub data Player : Type 0 where
@@ -24,10 +24,9 @@ abbrev pub player_goes : FileAt → Player → Option Msg → Player
 player_goes file (written g) taken = written ((play_of file).goes g taken)
 player_goes file (seated s) taken = seated (called s taken)
 
--- code of its own opens and accepts no session
 abbrev pub player_opened : FileAt → Player → EndId → Player
 player_opened file (written g) e = written ((play_of file).opened g e)
-player_opened file (seated s) e = seated s
+player_opened file (seated s) e = seated (opened s e)
 
 -- code of its own takes whatever is next
 abbrev pub player_fits : FileAt → Player → Msg → Bool

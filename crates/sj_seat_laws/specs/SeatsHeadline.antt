@@ -92,7 +92,7 @@ pub record IsSeatsHeadline (file : FileAt) (calls : Callers) (acts : List ℕ) (
   pub run : IsSeatsRun file calls acts end
   -- no party that goes by the file can go on there, and each code rests
   pub settled : (q : ℕ) → seat_of end.seats q ≡ None → act_of end.world q ≡ None
-  pub resting : (q : ℕ) (s : SeatedAt) → seat_of end.seats q ≡ Some s → IsResting (beside s end.world)
+  pub resting : (q : ℕ) (s : SeatedAt) → seat_of end.seats q ≡ Some s → IsResting q (beside s end.world)
   -- each end took, in order and once, a prefix of what the successive holders of the other end sent
   pub in_order : OfEachEnd file calls acts IsFront
   -- and all of it where all is done

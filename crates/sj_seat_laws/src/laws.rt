@@ -37,18 +37,20 @@ ghost use Rattle.sj_rules.specs.Node.{NodeAt, act_by, acts, arrives};
 ghost use Rattle.sj_rules.specs.NodeRun.{frame_told};
 ghost use Rattle.sj_rules.specs.Party.{IsDone};
 ghost use Rattle.sj_rules.specs.Reading.{IsOpenKept};
-ghost use Rattle.sj_rules.specs.Record.{Held, HeldAt};
+ghost use Rattle.sj_rules.specs.Opened.{opened_number, smallest};
+ghost use Rattle.sj_rules.specs.Record.{Held, HeldAt, offered_end, requested_end};
 ghost use Rattle.sj_rules.specs.Rows.{IsPick, Worked};
 ghost use Rattle.sj_rules.specs.StandsFor.{StandsFor};
 ghost use Rattle.sj_rules.specs.World.{Deliver, Turn, WorldAt, happens};
 ghost use Rattle.sj_seat_laws.specs.Calls.{Call, SeatedAt};
-ghost use Rattle.sj_seat_laws.specs.Guards.{called, seated_want};
+ghost use Rattle.sj_seat_laws.specs.Guards.{called, opened, seated_want};
 ghost use Rattle.sj_seat_laws.specs.SeatRows.{call_act, call_told, with_player, worked_player};
-ghost use Rattle.sj_seat_laws.specs.SeatSamples.{both, first, misled, second};
+ghost use Rattle.sj_seat_laws.specs.SeatSamples.{accepter, both, both_open, first, misled, opens_wrongly, requester, second};
 ghost use Rattle.sj_seat_laws.specs.SeatedPlay.{Player, player_binds, seated, seated_play};
 ghost use Rattle.sj_seat_laws.specs.SeatsHeadline.{IsAllDone, IsSeatsHeadline};
 ghost use Rattle.sj_seat_laws.specs.SeatsStart.{Callers, IsSeatsCoreRun, IsSeatsRun, seats_core, seats_start};
 ghost use Rattle.sj_seat_laws.specs.SeatsWorld.{SeatsWorld, seats_act, seats_seen};
+ghost use Rattle.sj_semantics_laws.specs.OpeningSamples.{accepted};
 ghost use Rattle.sj_semantics_laws.specs.Samples.{greeting};
 
 /// In every run each session is balanced.
@@ -163,7 +165,7 @@ pub fn a_frame_comes_whatever_the_program_is()
 {}
 
 /// What a party's code calls is done by the rows of the node, whatever its program is, beside what
-/// the party becomes; a take by the message that is there.
+/// the party becomes; a take by the message that is there, an accept by the session offered first.
 pub fn a_call_is_its_row()
     ensures sends { (file : FileAt) (party : ℕ) (s : SeatedAt) (n : NodeAt Place Program)
         (e : EndId) (m : Msg) →
@@ -186,20 +188,34 @@ pub fn a_call_is_its_row()
         act_by (seated_play file) party (with_player (seated s) n) (wanted.takes e place)
         ≡ option_map (worked_player (seated (called s (Some m))))
         (call_act (length file.parties) party n (wanted.takes e place)) }
+    ensures requests { (file : FileAt) (party : ℕ) (s : SeatedAt) (n : NodeAt Place Program)
+        (place : Place) (to : ℕ) →
+        act_by (seated_play file) party (with_player (seated s) n) (wanted.requests place to)
+        ≡ option_map
+        (worked_player (seated (opened s (requested_end (opened_number party n.requests)))))
+        (call_act (length file.parties) party n (wanted.requests place to)) }
+    ensures accepts { (file : FileAt) (party : ℕ) (s : SeatedAt) (n : NodeAt Place Program)
+        (place : Place) (from sess : ℕ) → smallest (n.offers from) ≡ Some sess →
+        act_by (seated_play file) party (with_player (seated s) n) (wanted.accepts place from)
+        ≡ option_map (worked_player (seated (opened s (offered_end sess))))
+        (call_act (length file.parties) party n (wanted.accepts place from)) }
     ensures halts { (s : SeatedAt) (n : NodeAt Place Program) (want : wanted.Want Place) →
         halt_by (with_player (seated s) n) want ≡ halt_by n want }
 {}
 
-/// The note of an act of such a party names its call.
+/// The note of an act of such a party names its call, but for the protocol of a session that it
+/// opens.
 pub fn a_log_tells_the_calls()
     ensures { (party : ℕ) (n : NodeAt Place Player) (s : SeatedAt) (note : NoteAt) →
         act_note party n (seated_want s) ≡ Some note →
-        (c : Call) × (later : List Call) × (s.calls ≡ c ∷ later) × (call_told note ≡ Some c) }
+        (c : Call) × (later : List Call) × (s.calls ≡ c ∷ later)
+        × (protocol : ℕ) × (call_told protocol note ≡ Some c) }
 {}
 
 /// Party 0 of the greeting sends another number by code of its own, or party 1 takes so, or both
 /// do: they come to where all is done. A truth value isn't sent, and nothing is taken before it is
-/// there.
+/// there. So it is where party 0 requests a session, and party 1 accepts it. One of another protocol
+/// isn't requested, and nothing is accepted before it is offered.
 pub fn seats_play_so()
     ensures first { (t : SeatsWorld) × IsSeatsRun greeting first (0 ∷ 1 ∷ 0 ∷ 1 ∷ []) t
         × IsAllDone t }
@@ -209,4 +225,12 @@ pub fn seats_play_so()
         × IsAllDone t }
     ensures unguarded { seats_act (seats_start greeting misled) 0 ≡ None }
     ensures waits { seats_act (seats_start greeting both) 1 ≡ None }
+    ensures requester { (t : SeatsWorld)
+        × IsSeatsRun accepted requester (0 ∷ 1 ∷ 0 ∷ 1 ∷ 0 ∷ 1 ∷ []) t × IsAllDone t }
+    ensures accepter { (t : SeatsWorld)
+        × IsSeatsRun accepted accepter (0 ∷ 0 ∷ 1 ∷ 1 ∷ 1 ∷ 0 ∷ []) t × IsAllDone t }
+    ensures both_open { (t : SeatsWorld)
+        × IsSeatsRun accepted both_open (0 ∷ 0 ∷ 0 ∷ 1 ∷ 1 ∷ 1 ∷ []) t × IsAllDone t }
+    ensures other_protocol { seats_act (seats_start accepted opens_wrongly) 0 ≡ None }
+    ensures unoffered { seats_act (seats_start accepted both_open) 1 ≡ None }
 {}
