@@ -5,6 +5,9 @@ pub mod UseLemmas
 pub mod PassLemmas
 pub mod CallLemmas
 pub mod LocatedLemmas
+pub mod OpeningLemmas
+pub mod RequestingLemmas
+pub mod AcceptingLemmas
 pub mod SeatedLemmas
 pub mod LawfulLemmas
 pub mod SeenLemmas

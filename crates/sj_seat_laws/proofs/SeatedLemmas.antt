@@ -1,6 +1,6 @@
 -- Each call of a party that is played by code of its own keeps its world sound, beside what others
 -- hold.
-use Rattle.std.proofs.Common.{◌≡◌, ◌≢◌, ℕ, ◌+◌, ◌<◌, ◌≤◌, nat_lt, Bool, true, false, not, ◌&&◌, cond, List, [], ◌∷◌, ◌++◌, length, slice_get, Option, Some, None, option_map, sum_by, refl, ap, sym, ◌∙◌, subst, arith}
+use Rattle.std.proofs.Common.{◌≡◌, ◌≢◌, ℕ, ◌+◌, ◌*◌, ◌<◌, ◌≤◌, nat_lt, Bool, true, false, not, ◌&&◌, cond, List, [], ◌∷◌, ◌++◌, length, slice_get, Option, Some, None, option_map, sum_by, refl, ap, sym, ◌∙◌, subst, arith, inr}
 use Rattle.std.proofs.lemmas.Bool.{and_parts, false_from_ne_true, both_ways, ltb-true}
 use Rattle.std.proofs.lemmas.Option.{slice_get_within}
 use Rattle.sj_base.specs.declared.EndId.{EndId}
@@ -9,7 +9,8 @@ use Rattle.sj_base.specs.declared.Msg.TheVariants as msgs
 use Rattle.sj_lang.specs.declared.proto.Way.{Way}
 use Rattle.sj_lang.specs.declared.proto.Way.TheVariants.{Into, Out}
 use Rattle.sj_lang.specs.After.{after_place}
-use Rattle.sj_lang.specs.FileAt.{FileAt}
+use Rattle.sj_lang.specs.Dual.{dual_of}
+use Rattle.sj_lang.specs.FileAt.{FileAt, body_named, number_of_name, party_names}
 use Rattle.sj_lang.specs.ItemCount.{is_done}
 use Rattle.sj_lang.specs.Meet.{StandsFor}
 use Rattle.sj_lang.specs.Place.{Place, done, message, session}
@@ -17,14 +18,17 @@ use Rattle.sj_semantics.specs.declared.Passed.{Passed}
 use Rattle.sj_semantics.specs.Balanced.{FitsNext}
 use Rattle.sj_semantics.specs.Ends.{EndAt, Session, end_at, is_end, next_for, other_end}
 use Rattle.sj_semantics.specs.Program.{Program}
+use Rattle.sj_semantics.specs.Requests.{first_offer, limit_of_requests, opened_number}
 use Rattle.sj_semantics.specs.Uses.{Use, after_uses, begins, delegates, end_after, place_behind, sends, takes}
 use Rattle.sj_semantics.specs.World.{World, begun_by, session_message}
-use Rattle.sj_semantics_laws.specs.Unshared.{names_end}
-use Rattle.sj_semantics_laws.proofs.BoundLemmas.{is_end-self, is_end_sym}
-use Rattle.sj_semantics_laws.proofs.EndLemmas.{end_at-touched_other, end_at-touched_same, touched}
+use Rattle.sj_semantics_laws.specs.Unshared.{IsToCome, names_end}
+use Rattle.sj_semantics_laws.proofs.BoundLemmas.{is_end-self, is_end_sym, is_end_sym_false}
+use Rattle.sj_semantics_laws.proofs.EndLemmas.{IsUnusedBy, end_at-after_uses_other, end_at-touched_other, end_at-touched_same, touched}
 use Rattle.sj_headline_laws.proofs.FittingLemmas.{next_has_a_place}
-use Rattle.sj_headline_laws.proofs.TouchedLemmas.{side}
+use Rattle.sj_semantics_laws.proofs.ToComeLemmas.{below_by_get, first_is_offer}
+use Rattle.sj_headline_laws.proofs.TouchedLemmas.{side, touched_here}
 use Rattle.sj_headline_laws.proofs.UnnamedLemmas.{hands_places, named_carried}
+use Rattle.sj_headline_laws.proofs.WorldLemmas.{Asks, Takes}
 use Rattle.sj_rules.specs.Binding.{IsSession}
 use Rattle.sj_rules.specs.Node as wanted
 use Rattle.sj_rules.specs.Record.{is_same_end}
@@ -33,16 +37,18 @@ use Rattle.sj_rules_laws.proofs.ProperLemmas.{AreProperMessages, IsProper, IsPro
 use Rattle.sj_rules_laws.proofs.ProperRunLemmas.{size_of}
 use Rattle.sj_rules_laws.proofs.SideLemmas.{apart_ends, same_end_is, same_end_self}
 use Rattle.sj_seat_laws.specs.Calls as calls
-use Rattle.sj_seat_laws.specs.Calls.{Call, Ends, SeatedAt, moved, place_held, without_end}
-use Rattle.sj_seat_laws.specs.Guards.{called_by, carried_next, ends_taken, may_carry, may_send, may_take, want_of_calls, want_of_close, want_of_delegate, want_of_send, want_of_take, where_allowed, with_carried}
+use Rattle.sj_seat_laws.specs.Calls.{Call, Ends, Openings, SeatedAt, moved, place_held, place_opened, without_end}
+use Rattle.sj_seat_laws.specs.Guards.{called_by, carried_next, ends_taken, may_carry, may_send, may_take, want_of_accept, want_of_calls, want_of_close, want_of_delegate, want_of_request, want_of_send, want_of_take, where_allowed, with_carried, with_opened}
 use Rattle.sj_seat_laws.specs.SeatedStart.{no_program}
-use Rattle.sj_seat_laws.specs.SeatedWorld.{Doing, SeatedWorld, after_doing, doing_by, doing_of, plain_doing, world_after}
+use Rattle.sj_seat_laws.specs.SeatedWorld.{Doing, SeatedWorld, accepting, after_doing, doing_by, doing_of, plain_doing, requesting, seat_by, world_after, world_opened}
 use Rattle.sj_seat_laws.proofs.CallLemmas.{carries_out, done_by, names_nothing, sends_on, taken_kind}
 use Rattle.sj_seat_laws.proofs.GuardLemmas.{Guarded}
 use Rattle.sj_seat_laws.proofs.HeldLemmas.{first_of, held_by_place, holds, holds-moved, holds-push, holds-without_other, place-moved, place-moved_other, place-moved_same, place-push, place-without_other}
 use Rattle.sj_seat_laws.proofs.LocatedLemmas.{AllFound, close_finds, delegate_finds, end_finds, send_finds, value_finds}
+use Rattle.sj_seat_laws.proofs.AcceptingLemmas.{accept_finds, accept_unused, guards_accept}
 use Rattle.sj_seat_laws.proofs.PassLemmas.{guards_delegate, guards_take_end}
-use Rattle.sj_seat_laws.proofs.UseLemmas.{guards_close, guards_send, guards_take, uncarried}
+use Rattle.sj_seat_laws.proofs.RequestingLemmas.{first_is, guards_request, request_finds, request_unused}
+use Rattle.sj_seat_laws.proofs.UseLemmas.{come_apart, guards_close, guards_send, guards_take, uncarried}
 
 -- the ends that are held are at their places
 abbrev pub ArePlaced : List Session → Ends → Type 0
@@ -51,6 +57,19 @@ ArePlaced zs bs = (e : EndId) (q : Place) → place_held bs e ≡ Some q → (en
 -- they are ends of the file's sessions
 abbrev pub AreKnown : FileAt → Ends → Type 0
 AreKnown file bs = (e : EndId) (q : Place) → place_held bs e ≡ Some q → (e.side < 2) × IsSession (length file.parties) (length file.connects) e.sess
+
+-- the session is one that R says, of the protocol and the party's name, and that party is there
+pub record OpensAs (file : FileAt) (R : ℕ → ℕ → Type 0) (q n : ℕ) (place : Place) : Type 0 where
+  pub body : place ≡ body_named file.protocols n
+  pub there : q < length file.parties
+  pub name : ℕ
+  pub so : R n name
+  pub to_it : number_of_name (party_names file.parties) name ≡ q
+
+-- the party may open what the file's party of that number opens
+pub record MayOpenSo (file : FileAt) (p : ℕ) (os : Openings) : Type 0 where
+  pub requests : (q n : ℕ) (place : Place) → place_opened os.requests q n ≡ Some place → OpensAs file (Asks file p) q n place
+  pub accepts : (q n : ℕ) (place : Place) → place_opened os.accepts q n ≡ Some place → OpensAs file (Takes file p) q n place
 
 -- what holds of the party and its world
 pub record IsSeat (file : FileAt) (p : ℕ) (t : SeatedWorld) : Type 0 where
@@ -62,6 +81,7 @@ pub record IsSeat (file : FileAt) (p : ℕ) (t : SeatedWorld) : Type 0 where
   pub hops : (e : EndId) → (end_at t.world.sessions e).hops ≤ 100
   pub steps : (q : ℕ) (g : Program) → slice_get t.world.parties q ≡ Some g → g.steps ≤ 10000
   pub calls : t.seat.steps ≤ 10000
+  pub may : MayOpenSo file p t.seat.may
 
 -- and of each world of a run after so many acts, where ends are held elsewhere too, and so many calls
 -- were made there
@@ -137,6 +157,7 @@ module _ (others : EndId → ℕ) (more : ℕ) (file : FileAt) (p n : ℕ) (t : 
       hops = hops;
       steps = s.seat.steps;
       calls = omega (arith, few);
+      may = s.seat.may;
     };
     found = found;
     messages = omega (arith, sent, s.messages);
@@ -292,10 +313,106 @@ module _ (others : EndId → ℕ) (more : ℕ) (file : FileAt) (p n : ℕ) (t : 
       (close_finds p w (λ f. holds f bs + others f) (λ f. holds f (without_end bs e) + others f) s.found e (s.seat.places e q there ∙ done_by q over) (λ f far. omega (arith, holds-without_other f bs e far)))
       s.seat.proper.messages s.seat.hops (omega arith)
 
+  -- ---- a session is opened
+
+  -- its end is held, at its place
+  push_placed : (us : List (EndId × Use)) (y : EndId) (place : Place) → ((f : EndId) (r : Place) → place_held bs f ≡ Some r → IsUnusedBy f us) → (end_at (after_uses p us zs) y).place ≡ place
+      → ArePlaced (after_uses p us zs) (bs ++ (y, place) ∷ [])
+  push_placed us y place unused at f r h = by (place_held bs f) refl (is_same_end y f) refl (sym (place-push bs (y, place) f) ∙ h)
+    where
+      by : (o : Option Place) → place_held bs f ≡ o → (b : Bool) → is_same_end y f ≡ b → first_of o (cond b (Some place) None) ≡ Some r → (end_at (after_uses p us zs) f).place ≡ r
+      by (Some v) o b same k =
+          let it : v ≡ r = cc in
+          ap (λ (z : EndAt). z.place) (end_at-after_uses_other p us zs f (unused f v o)) ∙ s.seat.places f v o ∙ it
+      by None o true same k =
+          let it : place ≡ r = cc in
+          ap (λ (z : EndId). (end_at (after_uses p us zs) z).place) (sym (same_end_is y f same)) ∙ at ∙ it
+      by None o false same k = cc
+
+  push_known : (y : EndId) (place : Place) → (y.side < 2) × IsSession (length file.parties) (length file.connects) y.sess → AreKnown file (bs ++ (y, place) ∷ [])
+  push_known y place good f r h = by (place_held bs f) refl (is_same_end y f) refl (sym (place-push bs (y, place) f) ∙ h)
+    where
+      by : (o : Option Place) → place_held bs f ≡ o → (b : Bool) → is_same_end y f ≡ b → first_of o (cond b (Some place) None) ≡ Some r → (f.side < 2) × IsSession (length file.parties) (length file.connects) f.sess
+      by (Some v) o b same k = s.seat.known f v o
+      by None o true same k = subst (λ (z : EndId). (z.side < 2) × IsSession (length file.parties) (length file.connects) z.sess) (same_end_is y f same) good
+      by None o false same k = cc
+
+  -- what is to come isn't held
+  held_apart : (f : EndId) (r : Place) → place_held bs f ≡ Some r → (e : EndId) → IsToCome w e → is_end e f ≡ false
+  held_apart f r h e come = is_end_sym_false f e (come_apart file p w bs s.seat.guarded f e (held_by_place bs f r h) come)
+
+  number_known : (q k : ℕ) → q < length file.parties → k < limit_of_requests → IsSession (length file.parties) (length file.connects) (opened_number q k)
+  number_known q k there low =
+      let first : 64 ≤ 64 + 100 * q + k = omega arith in
+      let last : 64 + 100 * q + k < 64 + 100 * length file.parties + 0 = omega (arith, there, low) in
+      inr (first, last)
+
+  -- the sessions after a beginning
+  begins_proper : (ys : List Session) (e : EndId) (place : Place) → ((f : EndId) → AreProperMessages (size_of file) (end_at ys f).sent) → (f : EndId) → AreProperMessages (size_of file) (end_at (touched p ys (e, begins place)) f).sent
+  begins_proper ys e place all = touched_proper (size_of file) p ys e (begins place) tt all
+
+  begins_hops : (ys : List Session) (e : EndId) (place : Place) → ((f : EndId) → (end_at ys f).hops ≤ 100) → (f : EndId) → (end_at (touched p ys (e, begins place)) f).hops ≤ 100
+  begins_hops ys e place all = touched_hops p ys e (begins place) (λ h. absurd (cc h)) all
+
+  request_keeps : (q n : ℕ) (cs : List Call) → OpensAs file (Asks file p) q n (body_named file.protocols n) → length (w.requests p) < limit_of_requests
+      → Next (record {
+        world = world_opened p (requesting (opened_number p (length (w.requests p))) (body_named file.protocols n) q).opening (requesting (opened_number p (length (w.requests p))) (body_named file.protocols n) q).uses w;
+        seat = record { ends = bs ++ (side (opened_number p (length (w.requests p))) 0, body_named file.protocols n) ∷ []; steps = t.seat.steps + 1; calls = cs; may = t.seat.may };
+      })
+  request_keeps q n cs o low =
+      let sound = s.seat.guarded.sound in
+      let num : ℕ = opened_number p (length (w.requests p)) in
+      let place : Place = body_named file.protocols n in
+      let us : List (EndId × Use) = (side num 0, begins place) ∷ (side num 1, begins (dual_of place)) ∷ [] in
+      let mid : List Session = touched p zs (side num 0, begins place) in
+      record {
+        seat = record {
+          guarded = guards_request file p w sound low n o.name q o.so o.to_it bs s.seat.guarded;
+          idle = s.seat.idle;
+          places = push_placed us (side num 0) place (λ f r h. request_unused file p w sound low n o.name q o.so o.to_it f (held_apart f r h)) (ap (λ (x : EndAt). x.place) (first_is file p w sound low n o.name q o.so o.to_it));
+          known = push_known (side num 0) place (omega arith, number_known p (length (w.requests p)) below low);
+          proper = record { many = s.seat.proper.many; names = s.seat.proper.names; messages = begins_proper mid (side num 1) (dual_of place) (begins_proper zs (side num 0) place s.seat.proper.messages) };
+          hops = begins_hops mid (side num 1) (dual_of place) (begins_hops zs (side num 0) place s.seat.hops);
+          steps = s.seat.steps;
+          calls = omega (arith, few);
+          may = s.seat.may;
+        };
+        found = request_finds file p w sound low n o.name q o.so o.to_it (λ f. holds f bs + others f) (λ f. holds f (bs ++ (side num 0, place) ∷ []) + others f) s.found (λ f. omega (arith, holds-push f bs (side num 0, place)));
+        messages = omega (arith, touched_sent p mid (side num 1) (begins (dual_of place)), touched_sent p zs (side num 0) (begins place), s.messages);
+        count = omega (arith, s.count);
+      }
+
+  accept_keeps : (q n k : ℕ) (cs : List Call) → OpensAs file (Takes file p) q n (body_named file.protocols n) → first_offer p (w.requests q) ≡ Some k
+      → Next (record {
+        world = world_opened p (accepting q (body_named file.protocols n) k).opening (accepting q (body_named file.protocols n) k).uses w;
+        seat = record { ends = bs ++ (side (opened_number q k) 1, body_named file.protocols n) ∷ []; steps = t.seat.steps + 1; calls = cs; may = t.seat.may };
+      })
+  accept_keeps q n k cs o first =
+      let sound = s.seat.guarded.sound in
+      let y : EndId = side (opened_number q k) 1 in
+      let place : Place = body_named file.protocols n in
+      let offer = first_is_offer p (w.requests q) k first in
+      record {
+        seat = record {
+          guarded = guards_accept file p w sound q k first n o.name o.so o.to_it bs s.seat.guarded;
+          idle = s.seat.idle;
+          places = push_placed ((y, begins place) ∷ []) y place (λ f r h. accept_unused file p w sound q k first n o.name o.so o.to_it f (held_apart f r h)) (ap (λ (x : EndAt). x.place) (touched_here p zs y (begins place)));
+          known = push_known y place (omega arith, number_known q k o.there (omega (arith, below_by_get (w.requests q) k offer.0 offer.1, sound.unshared.few q)));
+          proper = record { many = s.seat.proper.many; names = s.seat.proper.names; messages = begins_proper zs y place s.seat.proper.messages };
+          hops = begins_hops zs y place s.seat.hops;
+          steps = s.seat.steps;
+          calls = omega (arith, few);
+          may = s.seat.may;
+        };
+        found = accept_finds file p w sound q k first n o.name o.so o.to_it (λ f. holds f bs + others f) (λ f. holds f (bs ++ (y, place) ∷ []) + others f) s.found (λ f. omega (arith, holds-push f bs (y, place)));
+        messages = omega (arith, touched_sent p zs y (begins place), s.messages);
+        count = omega (arith, s.count);
+      }
+
   -- ---- whichever call it is
 
   abbrev Keeps : List Call → Doing → Type 0
-  Keeps cs d = Next (record { world = world_after p d.uses w; seat = called_by t.seat cs d.taken })
+  Keeps cs d = Next (record { world = world_opened p d.opening d.uses w; seat = seat_by t.seat cs d.taken d.opened })
 
   by_send : (e : EndId) (m : Msg) (cs : List Call) (d : Doing) (o : Option Place) → place_held bs e ≡ o → doing_by p w (want_of_send e m o) ≡ Some d → Keeps (calls.sends e m ∷ cs) d
   by_send e m cs d None there h = cc
@@ -348,12 +465,59 @@ module _ (others : EndId → ℕ) (more : ℕ) (file : FileAt) (p n : ℕ) (t : 
       by true over k = subst (Keeps (calls.closes e ∷ cs)) (let it : plain_doing None [] ≡ d = cc in it) (close_keeps e q cs there over)
       by false over k = cc
 
+  by_request : (q n : ℕ) (cs : List Call) (d : Doing) (o : Option Place) → place_opened t.seat.may.requests q n ≡ o → doing_by p w (want_of_request q o) ≡ Some d → Keeps (calls.requests q n ∷ cs) d
+  by_request q n cs d None there h = cc
+  by_request q n cs d (Some place) there h = by (nat_lt (length (w.requests p)) limit_of_requests) refl h
+    where
+      a : OpensAs file (Asks file p) q n place
+      a = s.seat.may.requests q n place there
+
+      there_now : place_opened t.seat.may.requests q n ≡ Some (body_named file.protocols n)
+      there_now = there ∙ ap Some a.body
+
+      num : ℕ
+      num = opened_number p (length (w.requests p))
+
+      by : (b : Bool) → nat_lt (length (w.requests p)) limit_of_requests ≡ b → cond b (Some (requesting num place q)) None ≡ Some d → Keeps (calls.requests q n ∷ cs) d
+      by true low k =
+          subst (Keeps (calls.requests q n ∷ cs)) (let it : requesting num place q ≡ d = cc in it)
+          (subst (λ (x : Place). Keeps (calls.requests q n ∷ cs) (requesting num x q)) (sym a.body)
+          (subst (λ (o : Option Place). Next (record {
+            world = world_opened p (requesting num (body_named file.protocols n) q).opening (requesting num (body_named file.protocols n) q).uses w;
+            seat = record { ends = with_opened bs (side num 0) o; steps = t.seat.steps + 1; calls = cs; may = t.seat.may };
+          })) (sym there_now)
+          (request_keeps q n cs (subst (OpensAs file (Asks file p) q n) a.body a) (ltb-true (length (w.requests p)) limit_of_requests low))))
+      by false low k = cc
+
+  by_accept : (q n : ℕ) (cs : List Call) (d : Doing) (o : Option Place) → place_opened t.seat.may.accepts q n ≡ o → doing_by p w (want_of_accept q o) ≡ Some d → Keeps (calls.accepts q n ∷ cs) d
+  by_accept q n cs d None there h = cc
+  by_accept q n cs d (Some place) there h = by (first_offer p (w.requests q)) refl h
+    where
+      a : OpensAs file (Takes file p) q n place
+      a = s.seat.may.accepts q n place there
+
+      there_now : place_opened t.seat.may.accepts q n ≡ Some (body_named file.protocols n)
+      there_now = there ∙ ap Some a.body
+
+      by : (o : Option ℕ) → first_offer p (w.requests q) ≡ o → option_map (accepting q place) o ≡ Some d → Keeps (calls.accepts q n ∷ cs) d
+      by None first k = cc
+      by (Some j) first k =
+          subst (Keeps (calls.accepts q n ∷ cs)) (let it : accepting q place j ≡ d = cc in it)
+          (subst (λ (x : Place). Keeps (calls.accepts q n ∷ cs) (accepting q x j)) (sym a.body)
+          (subst (λ (o : Option Place). Next (record {
+            world = world_opened p (accepting q (body_named file.protocols n) j).opening (accepting q (body_named file.protocols n) j).uses w;
+            seat = record { ends = with_opened bs (side (opened_number q j) 1) o; steps = t.seat.steps + 1; calls = cs; may = t.seat.may };
+          })) (sym there_now)
+          (accept_keeps q n j cs (subst (OpensAs file (Takes file p) q n) a.body a) first)))
+
   by_calls : (cs : List Call) (d : Doing) → doing_by p w (want_of_calls t.seat.may bs cs) ≡ Some d → Keeps cs d
   by_calls [] d h = cc
   by_calls (calls.sends e m ∷ cs) d h = by_send e m cs d (place_held bs e) refl h
   by_calls (calls.delegates c e ∷ cs) d h = by_delegate c e cs d (place_held bs c) (place_held bs e) refl refl h
   by_calls (calls.takes e ∷ cs) d h = by_take e cs d (place_held bs e) refl h
   by_calls (calls.closes e ∷ cs) d h = by_close e cs d (place_held bs e) refl h
+  by_calls (calls.requests q n ∷ cs) d h = by_request q n cs d (place_opened t.seat.may.requests q n) refl h
+  by_calls (calls.accepts q n ∷ cs) d h = by_accept q n cs d (place_opened t.seat.may.accepts q n) refl h
 
 pub call_keeps : (others : EndId → ℕ) (more : ℕ) (file : FileAt) (p n : ℕ) (t : SeatedWorld) (d : Doing) → IsSeatedBeside others more file p n t → doing_of p t ≡ Some d
     → IsSeatedBeside others more file p (n + 1) (after_doing p t d)

@@ -12,8 +12,8 @@ use Rattle.sj_semantics.specs.Uses.{Use, after_uses}
 use Rattle.sj_semantics.specs.World.{World, begun_by, session_message}
 use Rattle.sj_rules.specs.Node as wanted
 use Rattle.sj_rules.specs.Node.{Want}
-use Rattle.sj_seat_laws.specs.Calls.{SeatedAt}
-use Rattle.sj_seat_laws.specs.Guards.{called, opened, seated_want}
+use Rattle.sj_seat_laws.specs.Calls.{Call, SeatedAt}
+use Rattle.sj_seat_laws.specs.Guards.{called_by, opened_by, seated_want}
 
 -- the plain world, in which that party has nothing to do, and the party beside it
 pub record SeatedWorld : Type 0 where
@@ -81,10 +81,13 @@ world_opened p o us w = record { protocols = w.protocols; parties = w.parties; s
 abbrev pub doing_of : ℕ → SeatedWorld → Option Doing
 doing_of p t = if not (nat_lt t.seat.steps limit_of_steps) then None else doing_by p t.world (seated_want t.seat)
 
+abbrev pub seat_by : SeatedAt → List Call → Option Msg → Option EndId → SeatedAt
+seat_by s cs taken None = called_by s cs taken
+seat_by s cs taken (Some e) = opened_by s cs e
+
 -- the party after its next call, which took the message or opened the end
 abbrev pub seat_after : SeatedAt → Option Msg → Option EndId → SeatedAt
-seat_after s taken None = called s taken
-seat_after s taken (Some e) = opened s e
+seat_after s taken o = seat_by s s.calls taken o
 
 -- both after the call
 abbrev pub after_doing : ℕ → SeatedWorld → Doing → SeatedWorld
