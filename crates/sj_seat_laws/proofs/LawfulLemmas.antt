@@ -23,14 +23,15 @@ use Rattle.sj_headline_laws.proofs.FittingLemmas.{next_has_a_place}
 use Rattle.sj_headline_laws.proofs.TouchedLemmas.{pair_of, side}
 use Rattle.sj_headline_laws.proofs.UnnamedLemmas.{named_carried}
 use Rattle.sj_headline_laws.proofs.WorldLemmas.{Sound}
-use Rattle.sj_rules.specs.Binding.{BindsSame, BindsTaken, BindsWithout, NamesOther}
+use Rattle.sj_rules.specs.Binding.{BindsAlso, BindsSame, BindsTaken, BindsWithout, NamesOther}
 use Rattle.sj_rules.specs.Node.{Play, Want, ended, local, requests, accepts}
 use Rattle.sj_rules.specs.Node as wanted
 use Rattle.sj_rules.specs.Party.{IsDone, binds, play_of}
 use Rattle.sj_rules.specs.Plain.{plain_at, plain_side}
 use Rattle.sj_rules.specs.PlainSide.{PlainAt, PlainSide}
 use Rattle.sj_rules.specs.Premises.{FitsStep, FitsHead, IsWithinCounts}
-use Rattle.sj_rules.specs.Record.{is_same_end, other_end}
+use Rattle.sj_rules.specs.Opened.{opened_number}
+use Rattle.sj_rules.specs.Record.{is_same_end, offered_end, other_end, requested_end}
 use Rattle.sj_rules_laws.proofs.ActLemmas.{waiting_is_next}
 use Rattle.sj_rules_laws.proofs.FitsStepLemmas.{goes_on_by, next_at_side, untaken_is}
 use Rattle.sj_rules_laws.proofs.LawfulLemmas.{other_sent_is}
@@ -38,8 +39,8 @@ use Rattle.sj_rules_laws.proofs.ProperLemmas.{IsProper, Size}
 use Rattle.sj_rules_laws.proofs.ProperRunLemmas.{size_of}
 use Rattle.sj_rules_laws.proofs.SideLemmas.{other_side_below, same_end_is, same_end_self, side_below}
 use Rattle.sj_seat_laws.specs.Calls as calls
-use Rattle.sj_seat_laws.specs.Calls.{Call, Ends, SeatedAt, moved, place_held, without_end}
-use Rattle.sj_seat_laws.specs.Guards.{called_by, carried_next, ends_taken, may_carry, may_send, may_take, want_of_calls, want_of_close, want_of_delegate, want_of_send, want_of_take, where_allowed, with_carried}
+use Rattle.sj_seat_laws.specs.Calls.{Call, Ends, SeatedAt, moved, place_held, place_opened, without_end}
+use Rattle.sj_seat_laws.specs.Guards.{called_by, carried_next, ends_taken, may_carry, may_send, may_take, opened_by, opened_place, want_of_accept, want_of_calls, want_of_close, want_of_delegate, want_of_request, want_of_send, want_of_take, where_allowed, with_carried, with_opened}
 use Rattle.sj_seat_laws.specs.SeatedPlay.{Player, player_binds, seated, seated_play, written}
 use Rattle.sj_seat_laws.specs.SeatedStart.{no_program}
 use Rattle.sj_seat_laws.specs.SeatedWorld.{SeatedWorld}
@@ -297,9 +298,27 @@ module _ (file : FileAt) (p : ℕ) (t : SeatedWorld) (s : IsSeat file p t) (prog
         by true can = close_fits e cs r making there can
         by false can = tt
 
+    -- an end that the call opens is held too
+    opened_binds : (c : Call) (cs : List Call) → t.seat.calls ≡ c ∷ cs → (place : Place) → opened_place t.seat.may c ≡ Some place → (e : EndId) → BindsAlso player_binds (seated t.seat) (play.opened (seated t.seat) e) e
+    opened_binds c cs making place is e =
+        subst (λ (new : Player). BindsAlso player_binds (seated t.seat) new e)
+        (sym (ap (λ x. seated (opened_by t.seat x e)) making ∙ ap (λ (o : Option Place). seated (record { ends = with_opened bs e o; steps = t.seat.steps + 1; calls = cs; may = t.seat.may })) is))
+        (push_binds bs e place)
+
+    by_request : (r k : ℕ) (cs : List Call) → t.seat.calls ≡ calls.requests r k ∷ cs → (o : Option Place) → place_opened t.seat.may.requests r k ≡ o → SeatFits (want_of_request r o)
+    by_request r k cs making None there = tt
+    by_request r k cs making (Some place) there =
+        ((s.may.requests r k place there).there, opened_binds (calls.requests r k) cs making place there (requested_end (opened_number q (length (w.requests q)))))
+
+    by_accept : (r k : ℕ) (cs : List Call) → t.seat.calls ≡ calls.accepts r k ∷ cs → (o : Option Place) → place_opened t.seat.may.accepts r k ≡ o → SeatFits (want_of_accept r o)
+    by_accept r k cs making None there = tt
+    by_accept r k cs making (Some place) there = λ sess later h. opened_binds (calls.accepts r k) cs making place there (offered_end sess)
+
     pub seat_fits : (cs : List Call) → t.seat.calls ≡ cs → SeatFits (want_of_calls t.seat.may bs cs)
     seat_fits [] h = tt
     seat_fits (calls.sends e m ∷ cs) h = by_send e m cs h (place_held bs e) refl
     seat_fits (calls.delegates c e ∷ cs) h = by_delegate c e cs h (place_held bs c) (place_held bs e) refl refl
     seat_fits (calls.takes e ∷ cs) h = by_take e cs h (place_held bs e) refl
     seat_fits (calls.closes e ∷ cs) h = by_close e cs h (place_held bs e) refl
+    seat_fits (calls.requests r k ∷ cs) h = by_request r k cs h (place_opened t.seat.may.requests r k) refl
+    seat_fits (calls.accepts r k ∷ cs) h = by_accept r k cs h (place_opened t.seat.may.accepts r k) refl
