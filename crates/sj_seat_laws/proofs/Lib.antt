@@ -10,6 +10,7 @@ pub mod RequestingLemmas
 pub mod AcceptingLemmas
 pub mod SeatedLemmas
 pub mod LawfulLemmas
+pub mod OpeningSeenLemmas
 pub mod SeenLemmas
 pub mod StartLemmas
 pub mod HeadlineLemmas

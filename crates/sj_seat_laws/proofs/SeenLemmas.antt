@@ -1,7 +1,7 @@
 -- The act of a party beside others that are played by code, or its call, and what the rules see of
 -- it, are one.
-use Rattle.std.proofs.Common.{◌≡◌, ℕ, ◌+◌, ◌<◌, ◌==◌, nat_lt, Bool, true, false, not, ◌&&◌, cond, List, [], ◌∷◌, ◌++◌, length, Option, Some, None, option_map, refl, ap, sym, ◌∙◌}
-use Rattle.std.proofs.lemmas.Bool.{and_parts, eq-eqb, eqb-true}
+use Rattle.std.proofs.Common.{◌≡◌, ℕ, ◌+◌, ◌<◌, ◌≤◌, ◌==◌, nat_lt, Bool, true, false, not, ◌&&◌, cond, List, [], ◌∷◌, ◌++◌, length, Option, Some, None, option_map, refl, ap, sym, ◌∙◌, arith}
+use Rattle.std.proofs.lemmas.Bool.{and_parts, eq-eqb, eqb-true, ltb-true}
 use Rattle.sj_base.specs.declared.EndId.{EndId}
 use Rattle.sj_base.specs.declared.Msg.{Msg}
 use Rattle.sj_base.specs.declared.Msg.TheVariants as msgs
@@ -13,7 +13,7 @@ use Rattle.sj_lang.specs.Place.{Place}
 use Rattle.sj_semantics.specs.declared.Passed.{Passed}
 use Rattle.sj_semantics.specs.Ends.{Session, end_at, next_for, other_end}
 use Rattle.sj_semantics.specs.Program.{Program}
-use Rattle.sj_semantics.specs.Requests.{limit_of_requests, opened_number}
+use Rattle.sj_semantics.specs.Requests.{Request, accepts, after_opening, first_offer, limit_of_requests, opened_number, requests}
 use Rattle.sj_semantics.specs.Uses.{Use, after_uses, begins, delegates, sends, takes}
 use Rattle.sj_semantics.specs.World.{World, begun_by, session_message}
 use Rattle.sj_semantics_laws.proofs.EndLemmas.{touched}
@@ -26,21 +26,23 @@ use Rattle.sj_rules.specs.Moves.{plain_accepts, plain_act, plain_act_by, plain_d
 use Rattle.sj_rules.specs.Node.{Play, Want}
 use Rattle.sj_rules.specs.Node as wanted
 use Rattle.sj_rules.specs.Party.{play_of}
-use Rattle.sj_rules.specs.Plain.{plain_at, plain_side}
+use Rattle.sj_rules.specs.Plain.{offered_from, plain_at, plain_side}
 use Rattle.sj_rules.specs.PlainSide.{PlainAt, PlainSide}
 use Rattle.sj_rules.specs.Record.{is_same_end, offered_end, requested_end}
 use Rattle.sj_rules_laws.proofs.ActLemmas.{waiting_is_next}
 use Rattle.sj_rules_laws.proofs.FitsStepLemmas.{next_at_side}
+use Rattle.sj_rules_laws.proofs.OfferSeenLemmas.{accept_counts, accept_first, accept_offers, none_offered, requested_counts, requested_offers}
 use Rattle.sj_rules_laws.proofs.ProperLemmas.{IsProperMessage, message_in}
 use Rattle.sj_rules_laws.proofs.ProperRunLemmas.{size_of}
 use Rattle.sj_rules_laws.proofs.SeenLemmas.{begins_seen, hands_seen, sends_seen, takes_seen}
 use Rattle.sj_rules_laws.proofs.SideLemmas.{side_below}
 use Rattle.sj_seat_laws.specs.Calls as calls
-use Rattle.sj_seat_laws.specs.Calls.{Call, Ends, SeatedAt, place_held}
-use Rattle.sj_seat_laws.specs.Guards.{called, carried_next, may_carry, may_send, may_take, want_of_calls, want_of_close, want_of_delegate, want_of_send, want_of_take, where_allowed}
-use Rattle.sj_seat_laws.specs.SeatedPlay.{Player, player_goes, seated, seated_play, written}
-use Rattle.sj_seat_laws.specs.SeatedWorld.{SeatedWorld, after_doing, doing_by, doing_of, plain_doing}
+use Rattle.sj_seat_laws.specs.Calls.{Call, Ends, SeatedAt, place_held, place_opened}
+use Rattle.sj_seat_laws.specs.Guards.{called, carried_next, may_carry, may_send, may_take, opened, want_of_accept, want_of_calls, want_of_close, want_of_delegate, want_of_request, want_of_send, want_of_take, where_allowed}
+use Rattle.sj_seat_laws.specs.SeatedPlay.{Player, player_goes, player_opened, seated, seated_play, written}
+use Rattle.sj_seat_laws.specs.SeatedWorld.{SeatedWorld, accepting, after_doing, doing_by, doing_of, no_name, plain_doing, requesting}
 use Rattle.sj_seat_laws.proofs.CallLemmas.{carries_out, sends_on}
+use Rattle.sj_seat_laws.proofs.OpeningSeenLemmas.{accepted_sides, requested_sides}
 use Rattle.sj_seat_laws.proofs.SeatedLemmas.{IsSeat}
 
 -- ---- the others
@@ -239,6 +241,52 @@ module _ (file : FileAt) (p : ℕ) (t : SeatedWorld) (s : IsSeat file p t) (base
   close_seen : (e : EndId) → Seen (wanted.closes e)
   close_seen e = ap Some (used_seen None [] plain.sides (λ d. refl))
 
+  -- what the rules see after a session is opened with that end
+  program_seen : (e : EndId) (r : ℕ) → cond (r == p) (player_opened file (plain.programs p) e) (cond (r == p) (seated t.seat) (base r)) ≡ cond (r == p) (seated (opened t.seat e)) (base r)
+  program_seen e r = one_cond (r == p) (player_opened file (plain.programs p) e) (seated t.seat) (base r) ∙ ap (λ g. cond (r == p) (player_opened file g e) (base r)) itself
+
+  request_seen : (place : Place) (to : ℕ) → length (w.requests p) < limit_of_requests
+      → plain_requests mine p place to (opened_number p (length (w.requests p))) plain ≡ seen_beside (after_doing p t (requesting (opened_number p (length (w.requests p))) place to))
+  request_seen place to few =
+      let num : ℕ = opened_number p (length (w.requests p)) in
+      let r : Request = record { to = to; first = no_name; second = None } in
+      let programs = program_seen (requested_end num) in
+      let sides = requested_sides w p place to few (λ d. s.guarded.sound.unopened p (length (w.requests p)) d (omega arith) few) in
+      let counts = requested_counts w.requests p r refl few in
+      let offers : (from q : ℕ) → offered_from q from 0 (after_opening p (requests r) w.requests from) ≡ cond ((from == p) && (q == to)) (offered_from to p 0 (w.requests p) ++ num ∷ []) (offered_from q from 0 (w.requests from)) =
+      λ from q. requested_offers w.requests p r refl few from q in
+      λ i. record { programs = λ q. programs q i; sides = λ d. sym (sides d) i; requests = λ q. sym (counts q) i; offers = λ from q. sym (offers from q) i }
+
+  request_by : (q : ℕ) (o : Option Place) → Seen (want_of_request q o)
+  request_by q None = refl
+  request_by q (Some place) = by (nat_lt (length (w.requests p)) limit_of_requests) refl
+    where
+      by : (b : Bool) → nat_lt (length (w.requests p)) limit_of_requests ≡ b → cond b (Some (plain_requests mine p place q (opened_number p (length (w.requests p))) plain)) None
+          ≡ option_map (λ d. seen_beside (after_doing p t d)) (cond b (Some (requesting (opened_number p (length (w.requests p))) place q)) None)
+      by true few = ap Some (request_seen place q (ltb-true (length (w.requests p)) limit_of_requests few))
+      by false few = refl
+
+  accept_seen : (place : Place) (from k : ℕ) → first_offer p (w.requests from) ≡ Some k → Some (seen_beside (after_doing p t (accepting from place k))) ≡ plain_accepts mine p place from plain (plain.offers from p)
+  accept_seen place from k first =
+      let few : length (w.requests from) ≤ limit_of_requests = s.guarded.sound.unshared.few from in
+      let y : EndId = offered_end (opened_number from k) in
+      let later : List ℕ = offered_from p from 0 (after_opening p (accepts from k no_name) w.requests from) in
+      let programs = program_seen y in
+      let sides = accepted_sides w p place from k few first in
+      let counts = accept_counts w.requests p from k no_name first few in
+      let offers : (q r : ℕ) → offered_from r q 0 (after_opening p (accepts from k no_name) w.requests q) ≡ cond ((q == from) && (r == p)) later (offered_from r q 0 (w.requests q)) = λ q r. accept_offers w.requests p from k no_name first few q r in
+      let made : seen_beside (after_doing p t (accepting from place k)) ≡ with_side y (λ x. plain_accepted x place) (with_opened from p later (with_program p (mine.opened (plain.programs p) y) plain)) =
+      λ i. record { programs = λ q. sym (programs q) i; sides = λ d. sides d i; requests = λ q. counts q i; offers = λ q r. offers q r i } in
+      ap Some made ∙ ap (plain_accepts mine p place from plain) (sym (accept_first w.requests p from k no_name first few))
+
+  accept_by : (q : ℕ) (o : Option Place) → Seen (want_of_accept q o)
+  accept_by q None = refl
+  accept_by q (Some place) = by (first_offer p (w.requests q)) refl
+    where
+      by : (o : Option ℕ) → first_offer p (w.requests q) ≡ o → plain_accepts mine p place q plain (plain.offers q p) ≡ option_map (λ d. seen_beside (after_doing p t d)) (option_map (accepting q place) o)
+      by None h = ap (plain_accepts mine p place q plain) (none_offered p q 0 (w.requests q) h)
+      by (Some k) h = sym (accept_seen place q k h)
+
   send_by : (e : EndId) (m : Msg) (o : Option Place) → place_held bs e ≡ o → Seen (want_of_send e m o)
   send_by e m None there = refl
   send_by e m (Some q) there = by (may_send q m) refl
@@ -278,6 +326,8 @@ module _ (file : FileAt) (p : ℕ) (t : SeatedWorld) (s : IsSeat file p t) (base
   calls_seen (calls.delegates c e ∷ cs) = delegate_by c e (place_held bs c) (place_held bs e) refl refl
   calls_seen (calls.takes e ∷ cs) = take_by e (place_held bs e) refl
   calls_seen (calls.closes e ∷ cs) = close_by e (place_held bs e)
+  calls_seen (calls.requests q n ∷ cs) = request_by q (place_opened t.seat.may.requests q n)
+  calls_seen (calls.accepts q n ∷ cs) = accept_by q (place_opened t.seat.may.accepts q n)
 
   worn_seen : (b : Bool) → cond b None (plain_act_by mine plain p (want_of_calls t.seat.may bs t.seat.calls))
       ≡ option_map (λ d. seen_beside (after_doing p t d)) (cond b None (doing_by p w (want_of_calls t.seat.may bs t.seat.calls)))

@@ -1,4 +1,4 @@
-use Rattle.sj_seat_laws.proofs.LawfulLemmas.{seat_fits}
+use Rattle.sj_seat_laws.proofs.SeenLemmas.{own_seen}
 use Rattle.sj_seat_laws.proofs.PlayedLemmas.{note_tells_call}
 use Rattle.sj_seat_laws.proofs.laws.a_log_tells_the_calls.Goals as goal
 
