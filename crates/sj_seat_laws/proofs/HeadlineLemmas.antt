@@ -10,6 +10,7 @@ use Rattle.sj_lang.specs.Place.{Place}
 use Rattle.sj_semantics.specs.declared.Passed.{Passed}
 use Rattle.sj_semantics.specs.Acts.{sent_by, taken_by, uses_on}
 use Rattle.sj_semantics.specs.Ends.{EndAt, Session, end_at, end_on, is_end, is_same_side, next_for, nowhere, other_end, other_side}
+use Rattle.sj_semantics.specs.Requests.{first_offer, limit_of_requests, opened_number}
 use Rattle.sj_semantics.specs.Uses.{Use, after_uses, begins, delegates, end_after, sends, takes}
 use Rattle.sj_semantics.specs.World.{World, begun_by, session_message, session_of}
 use Rattle.sj_semantics_laws.proofs.ActsLemmas.{takers_after_uses}
@@ -20,7 +21,7 @@ use Rattle.sj_headline_laws.proofs.DoneLemmas.{same_end_at}
 use Rattle.sj_headline_laws.proofs.TouchedLemmas.{side}
 use Rattle.sj_rules.specs.Node as wanted
 use Rattle.sj_rules.specs.Node.{Want}
-use Rattle.sj_seat_laws.specs.SeatedWorld.{Doing, SeatedWorld, doing_by, plain_doing}
+use Rattle.sj_seat_laws.specs.SeatedWorld.{Doing, SeatedWorld, accepting, doing_by, plain_doing, requesting}
 
 -- ---- what uses add
 
@@ -117,8 +118,20 @@ module _ (p : ℕ) (t : SeatedWorld) where
   pub doing_taking : (e : EndId) (want : Want Place) (d : Doing) → doing_by p w want ≡ Some d → Taking zs e p d.uses
   doing_taking e wanted.ended d h = cc
   doing_taking e wanted.local d h = cc
-  doing_taking e (wanted.requests place to) d h = cc
-  doing_taking e (wanted.accepts place from) d h = cc
+  doing_taking e (wanted.requests place to) d h = by (nat_lt (length (w.requests p)) limit_of_requests) h
+    where
+      by : (b : Bool) → cond b (Some (requesting (opened_number p (length (w.requests p))) place to)) None ≡ Some d → Taking zs e p d.uses
+      by true k =
+          subst (λ (x : Doing). Taking zs e p x.uses) (let it : requesting (opened_number p (length (w.requests p))) place to ≡ d = cc in it)
+          (none_taken (ap (λ xs. xs ++ (cond (is_end e (side (opened_number p (length (w.requests p))) 1)) [] [] ++ [])) (nothing_either_way (is_end e (side (opened_number p (length (w.requests p))) 0)))
+          ∙ ap (λ xs. xs ++ []) (nothing_either_way (is_end e (side (opened_number p (length (w.requests p))) 1)))))
+      by false k = cc
+  doing_taking e (wanted.accepts place from) d h = by (first_offer p (w.requests from)) h
+    where
+      by : (o : Option ℕ) → option_map (accepting from place) o ≡ Some d → Taking zs e p d.uses
+      by None k = cc
+      by (Some j) k =
+          subst (λ (x : Doing). Taking zs e p x.uses) (let it : accepting from place j ≡ d = cc in it) (none_taken (ap (λ xs. xs ++ []) (nothing_either_way (is_end e (side (opened_number from j) 1)))))
   doing_taking e (wanted.sends f m) d h =
       subst (λ (x : Doing). Taking zs e p x.uses) (let it : plain_doing None ((f, sends m) ∷ []) ≡ d = cc in it) (none_taken (ap (λ xs. xs ++ []) (nothing_either_way (is_end e f))))
   doing_taking e (wanted.delegates c f) d h = by (nat_lt (end_at zs f).hops 100) h
