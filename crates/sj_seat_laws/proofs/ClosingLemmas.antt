@@ -1,10 +1,11 @@
 -- A call makes no further holder of an end, and an end that it closes nobody has after it.
-use Rattle.std.proofs.Common.{◌≡◌, ℕ, ◌+◌, ◌≤◌, nat_lt, Bool, true, false, not, ◌&&◌, cond, List, [], ◌∷◌, Option, Some, None, option_map, option_and_then, sum_by, refl, ap, sym, ◌∙◌, subst, arith}
+use Rattle.std.proofs.Common.{◌≡◌, ℕ, ◌+◌, ◌≤◌, nat_lt, Bool, true, false, not, ◌&&◌, cond, List, [], ◌∷◌, length, Option, Some, None, option_map, option_and_then, sum_by, refl, ap, sym, ◌∙◌, subst, arith}
 use Rattle.sj_base.specs.declared.EndId.{EndId}
 use Rattle.sj_base.specs.declared.Msg.{Msg}
 use Rattle.sj_base.specs.declared.Msg.TheVariants as msgs
 use Rattle.sj_lang.specs.declared.proto.Way.{Way}
 use Rattle.sj_lang.specs.declared.proto.Way.TheVariants.{Into, Out}
+use Rattle.sj_lang.specs.Dual.{dual_of}
 use Rattle.sj_lang.specs.FileAt.{FileAt}
 use Rattle.sj_lang.specs.ItemCount.{is_done}
 use Rattle.sj_lang.specs.Place.{Place}
@@ -12,21 +13,23 @@ use Rattle.sj_semantics.specs.declared.Passed.{Passed}
 use Rattle.sj_semantics.specs.declared.Want.{Want as Step}
 use Rattle.sj_semantics.specs.Ends.{Session, end_at, next_for}
 use Rattle.sj_semantics.specs.Program.{Program}
-use Rattle.sj_semantics.specs.Uses.{after_uses, delegates, place_behind, sends, takes}
+use Rattle.sj_semantics.specs.Requests.{first_offer, limit_of_requests, opened_number}
+use Rattle.sj_semantics.specs.Uses.{after_uses, begins, delegates, place_behind, sends, takes}
 use Rattle.sj_semantics.specs.Wants.{want_of}
 use Rattle.sj_semantics.specs.World.{World, begun_by, session_message}
 use Rattle.sj_semantics_laws.specs.Unshared.{carried_in, claims_on, names_end}
 use Rattle.sj_semantics_laws.proofs.BoundLemmas.{is_end-self}
 use Rattle.sj_semantics_laws.proofs.ClaimLemmas.{carried-begins, carried-hands_on, carried-sends, carried-takes, one_if}
 use Rattle.sj_semantics_laws.proofs.EndLemmas.{touched}
+use Rattle.sj_semantics_laws.proofs.ToComeLemmas.{opens}
 use Rattle.sj_headline_laws.proofs.TouchedLemmas.{side}
 use Rattle.sj_rules.specs.Node as wanted
 use Rattle.sj_rules.specs.Node.{Want}
 use Rattle.sj_rules.specs.Record.{is_same_end}
 use Rattle.sj_seat_laws.specs.Calls as calls
-use Rattle.sj_seat_laws.specs.Calls.{Call, Ends, moved, place_held, without_end}
-use Rattle.sj_seat_laws.specs.Guards.{called_by, carried_next, ends_taken, may_carry, may_send, may_take, seated_want, want_of_calls, want_of_close, want_of_delegate, want_of_send, want_of_take, where_allowed, with_carried}
-use Rattle.sj_seat_laws.specs.SeatedWorld.{Doing, SeatedWorld, after_doing, doing_by, doing_of, plain_doing, world_after}
+use Rattle.sj_seat_laws.specs.Calls.{Call, Ends, moved, place_held, place_opened, without_end}
+use Rattle.sj_seat_laws.specs.Guards.{called_by, carried_next, ends_taken, may_carry, may_send, may_take, seated_want, want_of_accept, want_of_calls, want_of_close, want_of_delegate, want_of_request, want_of_send, want_of_take, where_allowed, with_carried, with_opened}
+use Rattle.sj_seat_laws.specs.SeatedWorld.{Doing, SeatedWorld, accepting, after_doing, doing_by, doing_of, plain_doing, requesting, seat_by, world_after}
 use Rattle.sj_seat_laws.proofs.CallLemmas.{names_nothing, sends_on}
 use Rattle.sj_seat_laws.proofs.HeldLemmas.{held_by_place, holds, holds-moved, holds-push, holds-without, holds-without_le, place-moved}
 use Rattle.sj_seat_laws.proofs.SeatedLemmas.{IsSeat}
@@ -50,7 +53,11 @@ module _ (p : ℕ) (t : SeatedWorld) (f : EndId) where
 
   -- none further after a call
   abbrev Fewer : List Call → Doing → Type 0
-  Fewer cs d = sum_by (carried_in f) (after_uses p d.uses zs) + holds f (called_by t.seat cs d.taken).ends ≤ sum_by (carried_in f) zs + holds f bs
+  Fewer cs d = sum_by (carried_in f) (after_uses p d.uses zs) + holds f (seat_by t.seat cs d.taken d.opened).ends ≤ sum_by (carried_in f) zs + holds f bs
+
+  -- unless it opens the end
+  abbrev FewerElse : List Call → Doing → Type 0
+  FewerElse cs d = opens f w p d.opening ≡ false → Fewer cs d
 
   send_fewer : (e : EndId) (m : Msg) (cs : List Call) (d : Doing) (o : Option Place) → doing_by p w (want_of_send e m o) ≡ Some d → Fewer (calls.sends e m ∷ cs) d
   send_fewer e m cs d None h = absurd (cc h)
@@ -126,14 +133,48 @@ module _ (p : ℕ) (t : SeatedWorld) (f : EndId) where
       by true k = subst (Fewer (calls.closes e ∷ cs)) (let it : plain_doing None [] ≡ d = cc in it) (omega (arith, holds-without_le f bs e))
       by false k = absurd (cc k)
 
-  calls_fewer : (cs : List Call) (d : Doing) → doing_by p w (want_of_calls t.seat.may bs cs) ≡ Some d → Fewer cs d
-  calls_fewer [] d h = absurd (cc h)
-  calls_fewer (calls.sends e m ∷ cs) d h = send_fewer e m cs d (place_held bs e) h
-  calls_fewer (calls.delegates c e ∷ cs) d h = delegate_fewer c e cs d (place_held bs c) (place_held bs e) refl h
-  calls_fewer (calls.takes e ∷ cs) d h = take_fewer e cs d (place_held bs e) refl h
-  calls_fewer (calls.closes e ∷ cs) d h = close_fewer e cs d (place_held bs e) h
+  request_fewer : (q n : ℕ) (cs : List Call) (d : Doing) (o : Option Place) → place_opened t.seat.may.requests q n ≡ o → doing_by p w (want_of_request q o) ≡ Some d → FewerElse (calls.requests q n ∷ cs) d
+  request_fewer q n cs d None there h = absurd (cc h)
+  request_fewer q n cs d (Some place) there h = by (nat_lt (length (w.requests p)) limit_of_requests) h
+    where
+      num : ℕ
+      num = opened_number p (length (w.requests p))
 
-  pub worn_fewer : (b : Bool) (d : Doing) → cond b None (doing_by p w (want_of_calls t.seat.may bs t.seat.calls)) ≡ Some d → Fewer t.seat.calls d
+      by : (b : Bool) → cond b (Some (requesting num place q)) None ≡ Some d → FewerElse (calls.requests q n ∷ cs) d
+      by true k =
+          subst (FewerElse (calls.requests q n ∷ cs)) (let it : requesting num place q ≡ d = cc in it) (λ none.
+          subst (λ (o : Option Place). sum_by (carried_in f) (after_uses p (requesting num place q).uses zs) + holds f (with_opened bs (side num 0) o) ≤ sum_by (carried_in f) zs + holds f bs) (sym there)
+          (omega (
+            arith,
+            carried-begins f p zs (side num 0) place,
+            carried-begins f p (touched p zs (side num 0, begins place)) (side num 1) (dual_of place),
+            holds-push f bs (side num 0, place),
+            ap {B = ℕ} one_if none,
+          )))
+      by false k = absurd (cc k)
+
+  accept_fewer : (q n : ℕ) (cs : List Call) (d : Doing) (o : Option Place) → place_opened t.seat.may.accepts q n ≡ o → doing_by p w (want_of_accept q o) ≡ Some d → FewerElse (calls.accepts q n ∷ cs) d
+  accept_fewer q n cs d None there h = absurd (cc h)
+  accept_fewer q n cs d (Some place) there h = by (first_offer p (w.requests q)) h
+    where
+      by : (o : Option ℕ) → option_map (accepting q place) o ≡ Some d → FewerElse (calls.accepts q n ∷ cs) d
+      by None k = absurd (cc k)
+      by (Some j) k =
+          let y : EndId = side (opened_number q j) 1 in
+          subst (FewerElse (calls.accepts q n ∷ cs)) (let it : accepting q place j ≡ d = cc in it) (λ none.
+          subst (λ (o : Option Place). sum_by (carried_in f) (after_uses p (accepting q place j).uses zs) + holds f (with_opened bs y o) ≤ sum_by (carried_in f) zs + holds f bs) (sym there)
+          (omega (arith, carried-begins f p zs y place, holds-push f bs (y, place), ap {B = ℕ} one_if none)))
+
+  calls_fewer : (cs : List Call) (d : Doing) → doing_by p w (want_of_calls t.seat.may bs cs) ≡ Some d → FewerElse cs d
+  calls_fewer [] d h = absurd (cc h)
+  calls_fewer (calls.sends e m ∷ cs) d h = λ none. send_fewer e m cs d (place_held bs e) h
+  calls_fewer (calls.delegates c e ∷ cs) d h = λ none. delegate_fewer c e cs d (place_held bs c) (place_held bs e) refl h
+  calls_fewer (calls.takes e ∷ cs) d h = λ none. take_fewer e cs d (place_held bs e) refl h
+  calls_fewer (calls.closes e ∷ cs) d h = λ none. close_fewer e cs d (place_held bs e) h
+  calls_fewer (calls.requests q n ∷ cs) d h = request_fewer q n cs d (place_opened t.seat.may.requests q n) refl h
+  calls_fewer (calls.accepts q n ∷ cs) d h = accept_fewer q n cs d (place_opened t.seat.may.accepts q n) refl h
+
+  pub worn_fewer : (b : Bool) (d : Doing) → cond b None (doing_by p w (want_of_calls t.seat.may bs t.seat.calls)) ≡ Some d → FewerElse t.seat.calls d
   worn_fewer true d h = absurd (cc h)
   worn_fewer false d h = calls_fewer t.seat.calls d h
 
@@ -168,6 +209,16 @@ closes_by t e (calls.takes f ∷ cs) is h = by (place_held t.seat.ends f) h
     by : (o : Option Place) → want_of_take f o ≡ wanted.closes e → ClosesBy t e
     by None k = absurd (cc k)
     by (Some q) k = absurd (no_close (may_take q) (wanted.takes f (carried_next q)) e (λ x. absurd (cc x)) k)
+closes_by t e (calls.requests q n ∷ cs) is h = by (place_opened t.seat.may.requests q n) h
+  where
+    by : (o : Option Place) → want_of_request q o ≡ wanted.closes e → ClosesBy t e
+    by None k = absurd (cc k)
+    by (Some place) k = absurd (cc k)
+closes_by t e (calls.accepts q n ∷ cs) is h = by (place_opened t.seat.may.accepts q n) h
+  where
+    by : (o : Option Place) → want_of_accept q o ≡ wanted.closes e → ClosesBy t e
+    by None k = absurd (cc k)
+    by (Some place) k = absurd (cc k)
 closes_by t e (calls.closes f ∷ cs) is h = by (place_held t.seat.ends f) refl h
   where
     by : (o : Option Place) → place_held t.seat.ends f ≡ o → want_of_close f o ≡ wanted.closes e → ClosesBy t e

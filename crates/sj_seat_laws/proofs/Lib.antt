@@ -12,6 +12,7 @@ pub mod SeatedLemmas
 pub mod LawfulLemmas
 pub mod OpeningSeenLemmas
 pub mod SeenLemmas
+pub mod MayLemmas
 pub mod StartLemmas
 pub mod HeadlineLemmas
 pub mod UsingLemmas

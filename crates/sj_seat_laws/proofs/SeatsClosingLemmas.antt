@@ -1,6 +1,7 @@
 -- An end that is closed is nowhere from its close on, and one that is delegated until its session
 -- message is taken, in a run with several seats.
 use Rattle.std.proofs.Common.{◌≡◌, ℕ, ◌+◌, ◌≤◌, nat_lt, not, List, [], ◌∷◌, ◌++◌, length, slice_get, Option, Some, None, option_map, refl, ap, sym, ◌∙◌, subst, arith, inl, inr}
+use Rattle.std.proofs.lemmas.Bool.{false_from_ne_true}
 use Rattle.sj_base.specs.declared.EndId.{EndId}
 use Rattle.sj_lang.specs.FileAt.{FileAt}
 use Rattle.sj_acceptance.specs.Accepted.{IsAccepted}
@@ -23,9 +24,12 @@ use Rattle.sj_seat_laws.specs.SeatedWorld.{Doing, SeatedWorld, after_doing, besi
 use Rattle.sj_seat_laws.specs.SeatsHeadline.{Closes, ClosesForGood, Delegates, DelegatesAtOnce, FromEachActOn, IsNowhere, uses_of}
 use Rattle.sj_seat_laws.specs.SeatsStart.{Callers, seats_start}
 use Rattle.sj_seat_laws.specs.SeatsWorld.{SeatsWorld, after_seats, all_beside, seat_of, seats_act, seats_act_by, with_seat}
+use Rattle.sj_seat_laws.proofs.BeginningLemmas.{doing_fits}
+use Rattle.sj_seat_laws.proofs.UsingLemmas.{worn_doing}
+use Rattle.sj_semantics_laws.proofs.ToComeLemmas.{opened_was_to_come, opens}
 use Rattle.sj_seat_laws.proofs.ClosingLemmas.{closes_by, own_closed, step_there, worn_fewer}
 use Rattle.sj_seat_laws.proofs.DelegatingLemmas.{own_sends, unheld}
-use Rattle.sj_seat_laws.proofs.GuardLemmas.{come_same}
+use Rattle.sj_seat_laws.proofs.OpeningLemmas.{come_then}
 use Rattle.sj_seat_laws.proofs.HeldLemmas.{held_by_place}
 use Rattle.sj_seat_laws.proofs.SeatsHeadlineLemmas.{step_facts}
 use Rattle.sj_seat_laws.proofs.SeatsLemmas.{IsSeats, all_hold, held_altered, one_holds, seat_in, seats_keep}
@@ -76,9 +80,11 @@ act_total file n t v q e i here h = by (seat_of t.seats q) refl
     by (Some s) at =
         let a = by_code t v q s at h in
         let u : SeatedWorld = after_doing q (beside s t.world) a.doing in
+        let fits = doing_fits q t.world (seated_want s) a.doing (worn_doing q (beside s t.world) a.doing (not (nat_lt s.steps 10000)) a.done_so) in
+        let none = false_from_ne_true (opens e t.world q a.doing.opening) (λ it. here (opened_was_to_come t.world q a.doing.opening e fits it)) in
         subst (Keeps e t) a.result (record {
-          fewer = omega (arith, worn_fewer q (beside s t.world) e (not (nat_lt s.steps 10000)) a.doing a.done_so, held_altered t.seats q s at e (Some u.seat));
-          come = λ c. come_same t.world u.world.sessions e c;
+          fewer = omega (arith, worn_fewer q (beside s t.world) e (not (nat_lt s.steps 10000)) a.doing a.done_so none, held_altered t.seats q s at e (Some u.seat));
+          come = λ c. (come_then file q t.world i.sound a.doing.opening a.doing.uses fits e c).0;
         })
 
 run_total : (file : FileAt) (n : ℕ) (t u : SeatsWorld) (qs : List ℕ) (e : EndId) → IsSeats file n t → (IsToCome t.world e → ⊥) → after_seats t qs ≡ Some u → all_total e u ≤ all_total e t

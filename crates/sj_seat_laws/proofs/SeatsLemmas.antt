@@ -1,7 +1,7 @@
 -- Each act keeps a world sound in which several parties are played by code of their own. Each of
 -- them sees it as a seat's world, beside what the others hold.
-use Rattle.std.proofs.Common.{◌≡◌, ℕ, zero, suc, ◌+◌, ◌*◌, ◌≤◌, nat_lt, true, not, List, [], ◌∷◌, length, slice_get, Option, Some, None, option_map, unwrap_or, sum_by, refl, ap, sym, ◌∙◌, subst, arith, inl, inr, ◌⊎◌}
-use Rattle.std.proofs.lemmas.Bool.{cases_eq, false_from_ne_true, ltb-true}
+use Rattle.std.proofs.Common.{◌≡◌, ℕ, zero, suc, ◌+◌, ◌*◌, ◌≤◌, nat_lt, true, false, not, List, [], ◌∷◌, length, slice_get, Option, Some, None, option_map, unwrap_or, sum_by, refl, ap, sym, ◌∙◌, subst, arith, inl, inr, ◌⊎◌}
+use Rattle.std.proofs.lemmas.Bool.{cases_Bool, cases_eq, false_from_ne_true, ltb-true}
 use Rattle.std.proofs.lemmas.List.Sums.{sum_by-cons}
 use Rattle.sj_base.specs.declared.EndId.{EndId}
 use Rattle.sj_lang.specs.FileAt.{FileAt}
@@ -18,6 +18,7 @@ use Rattle.sj_semantics_laws.proofs.CommuteLemmas.{doing_of as acts_by}
 use Rattle.sj_semantics_laws.proofs.EndLemmas.{IsUnusedBy, end_at-after_uses_other}
 use Rattle.sj_semantics_laws.proofs.KeepLemmas.{claims_on-act, come_before}
 use Rattle.sj_semantics_laws.proofs.MineLemmas.{all_mine}
+use Rattle.sj_semantics_laws.proofs.ToComeLemmas.{OpeningFits, opened_was_to_come, opens}
 use Rattle.sj_headline_laws.proofs.FreeLemmas.{Free, comes, fetched}
 use Rattle.sj_headline_laws.proofs.SoundLemmas.{act_keeps_sound}
 use Rattle.sj_headline_laws.proofs.UnnamedLemmas.{named_carried}
@@ -31,13 +32,14 @@ use Rattle.sj_seat_laws.specs.Guards.{seated_want}
 use Rattle.sj_seat_laws.specs.SeatedStart.{no_program}
 use Rattle.sj_seat_laws.specs.SeatedWorld.{Doing, SeatedWorld, after_doing, beside, doing_by, doing_of}
 use Rattle.sj_seat_laws.specs.SeatsWorld.{Seats, SeatsWorld, all_beside, seat_of, seats_act, seats_act_by, with_seat}
-use Rattle.sj_seat_laws.proofs.BeginningLemmas.{doing_free}
+use Rattle.sj_seat_laws.proofs.BeginningLemmas.{doing_fits, doing_free}
 use Rattle.sj_seat_laws.proofs.CallLemmas.{mine_unused}
 use Rattle.sj_seat_laws.proofs.ClosingLemmas.{worn_fewer}
-use Rattle.sj_seat_laws.proofs.GuardLemmas.{come_same, once_by}
+use Rattle.sj_seat_laws.proofs.GuardLemmas.{once_by}
 use Rattle.sj_seat_laws.proofs.HeldLemmas.{held_by_place, holds, holds-same}
 use Rattle.sj_seat_laws.proofs.LocatedLemmas.{AllFound, act_keeps_found, found_more}
-use Rattle.sj_seat_laws.proofs.SeatedLemmas.{AreKnown, ArePlaced, IsSeat, IsSeatedBeside, call_keeps}
+use Rattle.sj_seat_laws.proofs.OpeningLemmas.{come_then}
+use Rattle.sj_seat_laws.proofs.SeatedLemmas.{AreKnown, ArePlaced, IsSeat, IsSeatedBeside, MayOpenSo, call_keeps}
 use Rattle.sj_seat_laws.proofs.UsingLemmas.{IsHeldUse, calls_own, worn_doing}
 
 -- ---- what all hold
@@ -119,6 +121,7 @@ pub record IsSeats (file : FileAt) (n : ℕ) (t : SeatsWorld) : Type 0 where
   pub places : (q : ℕ) (s : SeatedAt) → seat_of t.seats q ≡ Some s → ArePlaced t.world.sessions s.ends
   pub known : (q : ℕ) (s : SeatedAt) → seat_of t.seats q ≡ Some s → AreKnown file s.ends
   pub calls : (q : ℕ) (s : SeatedAt) → seat_of t.seats q ≡ Some s → s.steps ≤ 10000
+  pub may : (q : ℕ) (s : SeatedAt) → seat_of t.seats q ≡ Some s → MayOpenSo file q s.may
   pub found : AllFound t.world (λ e. all_hold e t.seats)
   pub proper : IsProper (size_of file) t.world
   pub hops : (e : EndId) → (end_at t.world.sessions e).hops ≤ 100
@@ -157,6 +160,7 @@ module _ (file : FileAt) (n : ℕ) (t : SeatsWorld) (i : IsSeats file n t) (q : 
     hops = i.hops;
     steps = i.steps;
     calls = i.calls q s at;
+    may = i.may q s at;
   }
 
   pub seated_in : IsSeatedBeside others more file q n view
@@ -210,8 +214,18 @@ module _ (file : FileAt) (n : ℕ) (t : SeatsWorld) (i : IsSeats file n t) (q : 
     now : (e : EndId) → others e + holds e u.seat.ends ≡ all_hold e after.seats
     now e = omega (arith, held_altered t.seats q s at e None, held_altered t.seats q s at e (Some u.seat))
 
-    fewer : (e : EndId) → claims_on e u.world + holds e u.seat.ends ≤ claims_on e t.world + holds e s.ends
-    fewer e = omega (arith, worn_fewer q view e (not (nat_lt s.steps 10000)) d doing)
+    fewer : (e : EndId) → opens e t.world q d.opening ≡ false → claims_on e u.world + holds e u.seat.ends ≤ claims_on e t.world + holds e s.ends
+    fewer e none = omega (arith, worn_fewer q view e (not (nat_lt s.steps 10000)) d doing none)
+
+    fits : OpeningFits t.world q d.opening
+    fits = doing_fits q t.world (seated_want s) d done_so
+
+    once_then : (e : EndId) → claims_on e u.world + all_hold e after.seats ≤ 1
+    once_then e =
+        elim (cases_Bool (opens e t.world q d.opening)) [
+          | inl it ↦ omega (arith, then.seat.guarded.once e, i.apart e (opened_was_to_come t.world q d.opening e fits it), parts e, now e)
+          | inr none ↦ omega (arith, i.once e, fewer e none, parts e, now e)
+        ]
 
     -- what holds of each seat
     each : (P : ℕ → SeatedAt → Type 0) → P q u.seat → ((r : ℕ) (v : SeatedAt) → (q ≡ r → ⊥) → seat_of t.seats r ≡ Some v → P r v) → (r : ℕ) (v : SeatedAt) → seat_of after.seats r ≡ Some v → P r v
@@ -224,10 +238,8 @@ module _ (file : FileAt) (n : ℕ) (t : SeatsWorld) (i : IsSeats file n t) (q : 
     pub seat_call_keeps : IsSeats file (n + 1) after
     seat_call_keeps = record {
       sound = then.seat.guarded.sound;
-      once = λ e. omega (arith, i.once e, fewer e, parts e, now e);
-      apart = λ e come.
-          let before = come_same t.world (after_uses q d.uses t.world.sessions) e come in
-          omega (arith, i.apart e before, i.sound.unshared.to_come e before, fewer e, parts e, now e);
+      once = once_then;
+      apart = λ e come. omega (arith, then.seat.guarded.apart e come, i.apart e (come_then file q t.world i.sound d.opening d.uses fits e come).0, parts e, now e);
       idle = each (λ r v. slice_get u.world.parties r ≡ Some (no_program file)) then.seat.idle (λ r v other there. i.idle r v there);
       places = each (λ r v. ArePlaced u.world.sessions v.ends) then.seat.places (λ r v other there f place h.
           ap (λ (x : EndAt). x.place) (end_at-after_uses_other q d.uses t.world.sessions f
@@ -235,6 +247,7 @@ module _ (file : FileAt) (n : ℕ) (t : SeatsWorld) (i : IsSeats file n t) (q : 
           ∙ i.places r v there f place h);
       known = each (λ r v. AreKnown file v.ends) then.seat.known (λ r v other there. i.known r v there);
       calls = each (λ r v. v.steps ≤ 10000) then.seat.calls (λ r v other there. i.calls r v there);
+      may = each (λ r v. MayOpenSo file r v.may) then.seat.may (λ r v other there. i.may r v there);
       found = found_more u.world (λ e. holds e u.seat.ends + others e) (λ e. all_hold e after.seats) (λ e. omega (arith, now e)) then.found;
       proper = then.seat.proper;
       hops = then.seat.hops;
@@ -267,6 +280,7 @@ file_act_keeps file n t v q i free acted =
           ∙ i.places p s at e place h;
       known = i.known;
       calls = i.calls;
+      may = i.may;
       found = subst (λ (u : World). AllFound u (λ e. all_hold e t.seats)) (sym a.result) (act_keeps_found file w v (λ e. all_hold e t.seats) q i.sound i.found acted);
       proper = subst (IsProper (size_of file)) (sym a.result) (act_keeps_proper file (size_of file) w v q refl i.sound i.proper acted);
       hops = r.hops;

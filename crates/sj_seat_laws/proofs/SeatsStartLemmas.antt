@@ -41,6 +41,8 @@ use Rattle.sj_seat_laws.specs.SeatsWorld.{Seats, player_by, seat_of, seats_seen}
 use Rattle.sj_seat_laws.proofs.CourseLemmas.{IsFresh}
 use Rattle.sj_seat_laws.proofs.HeldLemmas.{holds}
 use Rattle.sj_seat_laws.proofs.LocatedLemmas.{AllFound, IsFound}
+use Rattle.sj_seat_laws.proofs.MayLemmas.{may_open_so}
+use Rattle.sj_seat_laws.proofs.SeatedLemmas.{MayOpenSo}
 use Rattle.sj_seat_laws.proofs.SeatsLemmas.{IsSeats, all_calls, all_hold, calls_in, holds_in, one_holds}
 use Rattle.sj_seat_laws.proofs.StartLemmas.{here_has, holds_bound, idle_fits, none_late, numbered_here, own, own_there, zero_sum}
 
@@ -239,6 +241,7 @@ module _ (file : FileAt) (calls : Callers) (accepted : IsAccepted file) where
         let g = given_by file q 0 file.connects k.0 e k.1 in
         (g.below, inl (omega (arith, g.sess, slice_get_within file.connects g.number g.connect g.there)));
     calls = λ q s at. let b = begins_by file calls q s at in omega (arith, ap (λ (x : SeatedAt). x.steps) b.is);
+    may = λ q s at. let b = begins_by file calls q s at in subst (λ (x : SeatedAt). MayOpenSo file q x.may) b.is (may_open_so file q);
     found = start_found;
     proper = record {
       many = same_length file calls 0 file.parties ∙ (start_is_proper file).many;

@@ -1,6 +1,3 @@
-use Rattle.sj_seat_laws.proofs.UsingLemmas.{rests}
-use Rattle.sj_seat_laws.proofs.BeginningLemmas.{doing_free, doing_fits}
-use Rattle.sj_seat_laws.proofs.HeadlineLemmas.{doing_taking}
 use Rattle.sj_seat_laws.proofs.PlayedLemmas.{note_tells_call}
 use Rattle.sj_seat_laws.proofs.laws.a_log_tells_the_calls.Goals as goal
 
