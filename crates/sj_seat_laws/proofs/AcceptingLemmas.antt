@@ -1,42 +1,30 @@
 -- An accept by the party leaves its world guarded, and each open end is where it can be.
-use Rattle.std.proofs.Common.{◌≡◌, ℕ, ◌+◌, ◌<◌, ◌≤◌, Bool, true, false, List, [], ◌∷◌, ◌++◌, length, slice_get, Option, Some, None, sum_by, refl, ap, sym, ◌∙◌, subst, arith, ◌⊎◌, inl, inr}
-use Rattle.std.proofs.lemmas.Bool.{cases_Bool, cases_eq}
+use Rattle.std.proofs.Common.{◌≡◌, ℕ, ◌+◌, ◌≤◌, true, false, List, [], ◌∷◌, ◌++◌, Some, refl, ap, sym, ◌∙◌, subst, arith, inl, inr}
+use Rattle.std.proofs.lemmas.Bool.{cases_Bool}
 use Rattle.sj_base.specs.declared.EndId.{EndId}
-use Rattle.sj_lang.specs.Dual.{dual_of}
 use Rattle.sj_lang.specs.FileAt.{FileAt, body_named, number_of_name, party_names}
 use Rattle.sj_lang.specs.Meet.{Meets, StandsFor}
 use Rattle.sj_lang.specs.Place.{Place}
 use Rattle.sj_lang.proofs.DualLemmas.{dual_of-dual_of}
-use Rattle.sj_lang.proofs.MeetLemmas.{meets_dual}
-use Rattle.sj_semantics.specs.Ends.{EndAt, Session, end_at, is_end, nowhere, other_end}
-use Rattle.sj_semantics.specs.Program.{Program}
-use Rattle.sj_semantics.specs.Requests.{Opening, Request, accepts, first_offer, limit_of_requests, opened_number, requests}
-use Rattle.sj_semantics.specs.Uses.{Use, after_uses, begins, end_after}
-use Rattle.sj_semantics.specs.World.{Change, World, changed_world}
-use Rattle.sj_semantics_laws.specs.Bound.{IsBound}
-use Rattle.sj_semantics_laws.specs.Unshared.{IsToCome, IsUnshared, carried_in, claims_on, to_accept, to_open}
-use Rattle.sj_semantics_laws.proofs.BoundLemmas.{is_end_sym_false, named_is_bound}
+use Rattle.sj_semantics.specs.Ends.{Session, end_at, is_end, other_end}
+use Rattle.sj_semantics.specs.Requests.{accepts, first_offer, opened_number}
+use Rattle.sj_semantics.specs.Uses.{Use, begins}
+use Rattle.sj_semantics.specs.World.{World}
+use Rattle.sj_semantics_laws.specs.Unshared.{IsToCome, to_accept}
+use Rattle.sj_semantics_laws.proofs.BoundLemmas.{is_end_sym_false}
 use Rattle.sj_semantics_laws.proofs.ClaimLemmas.{carried-begins, one_if}
-use Rattle.sj_semantics_laws.proofs.EndLemmas.{IsUnusedBy, end_at-after_uses_other, end_at-touched_other, touched}
-use Rattle.sj_semantics_laws.proofs.ToComeLemmas.{Offer, OpeningFits, first_is_offer, opened_was_to_come, opens, requests_stay_few, stays_to_come}
-use Rattle.sj_headline_laws.proofs.AfterLemmas.{AllPairs}
-use Rattle.sj_headline_laws.proofs.BeginPairLemmas.{pair_begins, pair_unused}
-use Rattle.sj_headline_laws.proofs.ChangesLemmas.{OpensWell}
-use Rattle.sj_headline_laws.proofs.DoneLemmas.{IsComing}
-use Rattle.sj_headline_laws.proofs.GoesLemmas.{IsLocated, IsOpen, Offered, came_from_other, held, offered, on_its_way}
-use Rattle.sj_headline_laws.proofs.LeadLemmas.{Pair, coming}
-use Rattle.sj_headline_laws.proofs.OpenedLemmas.{NotOpened, Offers, new, offers_after, open_not_opened, requests_grow, was}
-use Rattle.sj_headline_laws.proofs.PairLemmas.{AllKept, pair_kept}
-use Rattle.sj_headline_laws.proofs.RequestLemmas.{accept_kept, request_kept, request_there}
-use Rattle.sj_headline_laws.proofs.TouchedLemmas.{PairAt, other_session_other_end, same_session, side, touched_here}
-use Rattle.sj_headline_laws.proofs.UnnamedLemmas.{all_kept, come_apart, come_uncarried, keeps_by_name, pairs_after, todo_kept, unnamed}
+use Rattle.sj_semantics_laws.proofs.EndLemmas.{IsUnusedBy, touched}
+use Rattle.sj_semantics_laws.proofs.ToComeLemmas.{Offer, first_is_offer}
+use Rattle.sj_headline_laws.proofs.BeginPairLemmas.{pair_begins}
+use Rattle.sj_headline_laws.proofs.GoesLemmas.{came_from_other, held, offered, on_its_way}
+use Rattle.sj_headline_laws.proofs.RequestLemmas.{accept_kept}
+use Rattle.sj_headline_laws.proofs.TouchedLemmas.{side}
+use Rattle.sj_headline_laws.proofs.UnnamedLemmas.{come_uncarried, pairs_after}
 use Rattle.sj_headline_laws.proofs.WhereLemmas.{coming_stays}
-use Rattle.sj_headline_laws.proofs.WorldLemmas.{Asks, IsOffered, Sound, Takes}
-use Rattle.sj_rules.specs.Party.{nobody}
+use Rattle.sj_headline_laws.proofs.WorldLemmas.{Sound, Takes}
 use Rattle.sj_seat_laws.specs.Calls.{Ends}
 use Rattle.sj_seat_laws.specs.SeatedWorld.{no_name, world_opened}
 use Rattle.sj_seat_laws.proofs.GuardLemmas.{Guarded}
-use Rattle.sj_seat_laws.proofs.HeldLemmas.{holds, holds-push}
 use Rattle.sj_seat_laws.proofs.LocatedLemmas.{AllFound, IsFound}
 use Rattle.sj_seat_laws.proofs.OpeningLemmas.{opened_is_guarded}
 

@@ -1,14 +1,13 @@
 -- What a party may open at the start is what the file's statements open.
-use Rattle.std.proofs.Common.{◌≡◌, ℕ, suc, ◌+◌, ◌<◌, ◌==◌, nat_lt, Bool, true, false, ◌&&◌, cond, List, [], ◌∷◌, filter, map, length, slice_get, Option, Some, None, refl, ap, sym, ◌∙◌, arith}
+use Rattle.std.proofs.Common.{◌≡◌, ℕ, suc, ◌<◌, ◌==◌, nat_lt, Bool, true, false, ◌&&◌, cond, List, [], ◌∷◌, length, slice_get, Option, Some, None, refl, ap, sym, ◌∙◌, arith}
 use Rattle.std.specs.List.{Contains}
-use Rattle.std.proofs.lemmas.Bool.{and_parts, cases_Bool, eqb-true, ltb-true}
+use Rattle.std.proofs.lemmas.Bool.{and_parts, eqb-true, ltb-true}
 use Rattle.sj_lang.specs.FileAt.{FileAt, PartyAt, body_named, number_of_name, party_names}
 use Rattle.sj_lang.specs.Place.{Place}
 use Rattle.sj_acceptance.specs.Openings.{OpeningAt, accepts_of, requests_of}
-use Rattle.sj_headline_laws.proofs.WorldLemmas.{Asks, Takes}
-use Rattle.sj_seat_laws.specs.Calls.{MayOpen, place_opened}
+use Rattle.sj_seat_laws.specs.Calls.{place_opened}
 use Rattle.sj_seat_laws.specs.SeatedStart.{may_open, openings_by, openings_of}
-use Rattle.sj_seat_laws.proofs.SeatedLemmas.{MayOpenSo, OpensAs}
+use Rattle.sj_seat_laws.proofs.SeatedLemmas.{MayOpenSo}
 
 contains_first : {X : Type 0} (x : X) (xs : List X) → Contains (x ∷ xs) x
 contains_first x xs = (0, omega arith, refl)

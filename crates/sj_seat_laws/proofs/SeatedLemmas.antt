@@ -38,7 +38,7 @@ use Rattle.sj_rules_laws.proofs.ProperRunLemmas.{size_of}
 use Rattle.sj_rules_laws.proofs.SideLemmas.{apart_ends, same_end_is, same_end_self}
 use Rattle.sj_seat_laws.specs.Calls as calls
 use Rattle.sj_seat_laws.specs.Calls.{Call, Ends, Openings, SeatedAt, moved, place_held, place_opened, without_end}
-use Rattle.sj_seat_laws.specs.Guards.{called_by, carried_next, ends_taken, may_carry, may_send, may_take, want_of_accept, want_of_calls, want_of_close, want_of_delegate, want_of_request, want_of_send, want_of_take, where_allowed, with_carried, with_opened}
+use Rattle.sj_seat_laws.specs.Guards.{carried_next, ends_taken, may_carry, may_send, may_take, want_of_accept, want_of_calls, want_of_close, want_of_delegate, want_of_request, want_of_send, want_of_take, where_allowed, with_carried, with_opened}
 use Rattle.sj_seat_laws.specs.SeatedStart.{no_program}
 use Rattle.sj_seat_laws.specs.SeatedWorld.{Doing, SeatedWorld, accepting, after_doing, doing_by, doing_of, plain_doing, requesting, seat_by, world_after, world_opened}
 use Rattle.sj_seat_laws.proofs.CallLemmas.{carries_out, done_by, names_nothing, sends_on, taken_kind}

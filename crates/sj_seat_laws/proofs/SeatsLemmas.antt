@@ -8,7 +8,7 @@ use Rattle.sj_lang.specs.FileAt.{FileAt}
 use Rattle.sj_lang.specs.Place.{Place}
 use Rattle.sj_semantics.specs.Ends.{EndAt, end_at, is_end}
 use Rattle.sj_semantics.specs.Program.{Program}
-use Rattle.sj_semantics.specs.Uses.{Use, after_uses, altered_list, begins, delegates, sends, takes}
+use Rattle.sj_semantics.specs.Uses.{Use, altered_list, begins, delegates, sends, takes}
 use Rattle.sj_semantics.specs.World.{World, act_of}
 use Rattle.sj_semantics_laws.specs.Unshared.{IsToCome, claims_on}
 use Rattle.sj_semantics_laws.proofs.AlteredLemmas.{length-altered, one-le-sum_by, slice_get-altered, slice_get-altered_other, sum_by-altered, two-le-sum_by}
