@@ -65,7 +65,7 @@ module _ (p : ℕ) (w : World) where
       by false k = absurd (cc k)
   doing_free (wanted.takes f place) d h = by (next_for w.sessions f) refl h
     where
-      by : (o : Option Passed) → next_for w.sessions f ≡ o → option_map (λ (x : Passed). (plain_doing (Some x.msg) ((f, takes x.msg) ∷ begun_by place x.msg))) o ≡ Some d → AllFree w d.uses d.uses
+      by : (o : Option Passed) → next_for w.sessions f ≡ o → option_map (λ (x : Passed). plain_doing (Some x.msg) ((f, takes x.msg) ∷ begun_by place x.msg)) o ≡ Some d → AllFree w d.uses d.uses
       by None next k = absurd (cc k)
       by (Some x) next k =
           let all : List (EndId × Use) = (f, takes x.msg) ∷ begun_by place x.msg in

@@ -114,7 +114,7 @@ module _ (p : ℕ) (t : SeatedWorld) (f : EndId) where
   take_fewer e cs d None there h = absurd (cc h)
   take_fewer e cs d (Some q) there h = by (may_take q) h
     where
-      head : (o : Option Passed) → next_for zs e ≡ o → option_map (λ (x : Passed). (plain_doing (Some x.msg) ((e, takes x.msg) ∷ begun_by (carried_next q) x.msg))) o ≡ Some d → Fewer (calls.takes e ∷ cs) d
+      head : (o : Option Passed) → next_for zs e ≡ o → option_map (λ (x : Passed). plain_doing (Some x.msg) ((e, takes x.msg) ∷ begun_by (carried_next q) x.msg)) o ≡ Some d → Fewer (calls.takes e ∷ cs) d
       head None next k = absurd (cc k)
       head (Some x) next k =
           subst (Fewer (calls.takes e ∷ cs)) (let it : plain_doing (Some x.msg) ((e, takes x.msg) ∷ begun_by (carried_next q) x.msg) ≡ d = cc in it)
@@ -236,13 +236,13 @@ pub own_closed : (file : FileAt) (p : ℕ) (t : SeatedWorld) (d : Doing) (e : En
 own_closed file p t d e s want h =
     let c = closes_by t e t.seat.calls refl want in
     let held = held_by_place t.seat.ends e c.place c.there in
-    let made : (plain_doing None []) ≡ d = closed (not (nat_lt t.seat.steps 10000)) h in
+    let made : plain_doing None [] ≡ d = closed (not (nat_lt t.seat.steps 10000)) h in
     let gone : total e (record { world = world_after p [] t.world; seat = called_by t.seat (calls.closes e ∷ c.later) None }) ≡ 0 =
     omega (arith, s.guarded.once e, held, holds-without e t.seat.ends e c.place c.there, ap {B = ℕ} one_if (is_end-self e)) in
     subst (λ (y : Doing). total e (after_doing p t y) ≡ 0) made
     (subst (λ (cs : List Call). total e (record { world = world_after p [] t.world; seat = called_by t.seat cs None }) ≡ 0) (sym c.calls) gone)
   where
-    closed : (b : Bool) → cond b None (doing_by p t.world (seated_want t.seat)) ≡ Some d → (plain_doing None []) ≡ d
+    closed : (b : Bool) → cond b None (doing_by p t.world (seated_want t.seat)) ≡ Some d → plain_doing None [] ≡ d
     closed true k = absurd (cc k)
     closed false k = let made : Some (plain_doing None []) ≡ Some d = sym (ap (doing_by p t.world) want) ∙ k in cc
 

@@ -84,7 +84,7 @@ own_sends p t d e y want is = sent d.uses (made (nat_lt (end_at t.world.sessions
     made true false few k =
         let it : Some (plain_doing None ((y, delegates) ∷ (e, sends (session_message y p)) ∷ [])) ≡ Some d =
         sym (ap (λ (b : Bool). cond b (Some (plain_doing None ((y, delegates) ∷ (e, sends (session_message y p)) ∷ []))) None) few) ∙ sym (ap (doing_by p t.world) want) ∙ k in
-        let same : (plain_doing None ((y, delegates) ∷ (e, sends (session_message y p)) ∷ [])) ≡ d = cc in
+        let same : plain_doing None ((y, delegates) ∷ (e, sends (session_message y p)) ∷ []) ≡ d = cc in
         ap (λ (x : Doing). x.uses) (sym same)
     made false false few k =
         let none : None ≡ Some d =

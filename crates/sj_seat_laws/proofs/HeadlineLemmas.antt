@@ -143,7 +143,7 @@ module _ (p : ℕ) (t : SeatedWorld) where
       by false k = cc
   doing_taking e (wanted.takes f place) d h = by (next_for zs f) refl h
     where
-      by : (o : Option Passed) → next_for zs f ≡ o → option_map (λ (x : Passed). (plain_doing (Some x.msg) ((f, takes x.msg) ∷ begun_by place x.msg))) o ≡ Some d → Taking zs e p d.uses
+      by : (o : Option Passed) → next_for zs f ≡ o → option_map (λ (x : Passed). plain_doing (Some x.msg) ((f, takes x.msg) ∷ begun_by place x.msg)) o ≡ Some d → Taking zs e p d.uses
       by None next k = cc
       by (Some x) next k =
           subst (λ (y : Doing). Taking zs e p y.uses) (let it : plain_doing (Some x.msg) ((f, takes x.msg) ∷ begun_by place x.msg) ≡ d = cc in it)

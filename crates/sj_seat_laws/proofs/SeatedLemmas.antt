@@ -446,7 +446,7 @@ module _ (others : EndId → ℕ) (more : ℕ) (file : FileAt) (p n : ℕ) (t : 
   by_take e cs d None there h = cc
   by_take e cs d (Some q) there h = by (may_take q) h
     where
-      head : (o : Option Passed) → next_for zs e ≡ o → option_map (λ (x : Passed). (plain_doing (Some x.msg) ((e, takes x.msg) ∷ begun_by (carried_next q) x.msg))) o ≡ Some d → Keeps (calls.takes e ∷ cs) d
+      head : (o : Option Passed) → next_for zs e ≡ o → option_map (λ (x : Passed). plain_doing (Some x.msg) ((e, takes x.msg) ∷ begun_by (carried_next q) x.msg)) o ≡ Some d → Keeps (calls.takes e ∷ cs) d
       head None next k = cc
       head (Some x) next k =
           subst (Keeps (calls.takes e ∷ cs)) (let it : plain_doing (Some x.msg) ((e, takes x.msg) ∷ begun_by (carried_next q) x.msg) ≡ d = cc in it)

@@ -176,7 +176,7 @@ module _ (file : FileAt) (p : ℕ) (t : SeatedWorld) (s : IsSeat file p t) (base
 
   -- what the rules see after a call
   used_seen : (taken : Option Msg) (us : List (EndId × Use)) (sides : EndId → PlainSide Place) → ((d : EndId) → plain_side w.requests (after_uses p us zs) d ≡ sides d)
-      → record (plain_goes mine p taken plain) { sides = sides } ≡ seen_beside (after_doing p t (plain_doing (taken) us))
+      → record (plain_goes mine p taken plain) { sides = sides } ≡ seen_beside (after_doing p t (plain_doing taken us))
   used_seen taken us sides same =
       let programs : (r : ℕ) → cond (r == p) (player_goes file (plain.programs p) taken) (cond (r == p) (seated t.seat) (base r)) ≡ cond (r == p) (seated (called t.seat taken)) (base r) =
       λ r. one_cond (r == p) (player_goes file (plain.programs p) taken) (seated t.seat) (base r) ∙ ap (λ g. cond (r == p) (player_goes file g taken) (base r)) itself in
@@ -229,7 +229,7 @@ module _ (file : FileAt) (p : ℕ) (t : SeatedWorld) (s : IsSeat file p t) (base
   take_seen e q there = ap (plain_takes_head mine p e (carried_next q) plain) (waiting_is_next w e (s.known e q there).0) ∙ by (next_for zs e) refl
     where
       by : (o : Option Passed) → next_for zs e ≡ o → plain_takes_head mine p e (carried_next q) plain (option_map (λ x. x.msg) o)
-          ≡ option_map (λ d. seen_beside (after_doing p t d)) (option_map (λ (x : Passed). (plain_doing (Some x.msg) ((e, takes x.msg) ∷ begun_by (carried_next q) x.msg))) o)
+          ≡ option_map (λ d. seen_beside (after_doing p t d)) (option_map (λ (x : Passed). plain_doing (Some x.msg) ((e, takes x.msg) ∷ begun_by (carried_next q) x.msg)) o)
       by None next = refl
       by (Some x) next =
           let lt = (s.known e q there).0 in

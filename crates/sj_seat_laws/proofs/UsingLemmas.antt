@@ -71,7 +71,7 @@ module _ (p : ℕ) (w : World) where
       by false k = λ n e m t. absurd (cc k)
   doing_next (wanted.takes f place) d h = by (next_for w.sessions f) refl h
     where
-      by : (o : Option Passed) → next_for w.sessions f ≡ o → option_map (λ (x : Passed). (plain_doing (Some x.msg) ((f, takes x.msg) ∷ begun_by place x.msg))) o ≡ Some d → TakesNext w.sessions d.uses
+      by : (o : Option Passed) → next_for w.sessions f ≡ o → option_map (λ (x : Passed). plain_doing (Some x.msg) ((f, takes x.msg) ∷ begun_by place x.msg)) o ≡ Some d → TakesNext w.sessions d.uses
       by None next k = λ n e m t. absurd (cc k)
       by (Some x) next k =
           subst (λ (y : Doing). TakesNext w.sessions y.uses) (let it : plain_doing (Some x.msg) ((f, takes x.msg) ∷ begun_by place x.msg) ≡ d = cc in it)
@@ -152,7 +152,7 @@ module _ (p : ℕ) (t : SeatedWorld) where
   take_own e d None there h = λ i f u k. absurd (cc h)
   take_own e d (Some q) there h = by (may_take q) h
     where
-      head : (o : Option Passed) → option_map (λ (x : Passed). (plain_doing (Some x.msg) ((e, takes x.msg) ∷ begun_by (carried_next q) x.msg))) o ≡ Some d → Owns d.uses
+      head : (o : Option Passed) → option_map (λ (x : Passed). plain_doing (Some x.msg) ((e, takes x.msg) ∷ begun_by (carried_next q) x.msg)) o ≡ Some d → Owns d.uses
       head None k = λ i f u l. absurd (cc k)
       head (Some x) k =
           subst (λ (y : Doing). Owns y.uses) (let it : plain_doing (Some x.msg) ((e, takes x.msg) ∷ begun_by (carried_next q) x.msg) ≡ d = cc in it)
@@ -204,7 +204,7 @@ module _ (p : ℕ) (t : SeatedWorld) where
   take_rests e cs is None there h = unguarded (calls.takes e) cs is (ap (want_of_take e) there)
   take_rests e cs is (Some q) there h = by (may_take q) refl h
     where
-      head : (o : Option Passed) → next_for w.sessions e ≡ o → ◌≡◌ {A = Option Doing} (option_map (λ (x : Passed). (plain_doing (Some x.msg) ((e, takes x.msg) ∷ begun_by (carried_next q) x.msg))) o) None → IsResting p t
+      head : (o : Option Passed) → next_for w.sessions e ≡ o → ◌≡◌ {A = Option Doing} (option_map (λ (x : Passed). plain_doing (Some x.msg) ((e, takes x.msg) ∷ begun_by (carried_next q) x.msg)) o) None → IsResting p t
       head None next k = waits e cs is next
       head (Some x) next k = absurd (cc k)
 
