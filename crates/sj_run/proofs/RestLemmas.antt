@@ -23,10 +23,11 @@ use Rattle.sj_core.proofs.HaltLemmas.{halted}
 use Rattle.sj_work.specs.declared.worker.Stop.{Stop}
 use Rattle.sj_work.specs.declared.worker.Stop.TheVariants as stops
 use Rattle.sj_work.specs.declared.worker.Worker.{Worker}
-use Rattle.sj_work.specs.Causes.{Cause, InVain, OutVain}
+use Rattle.sj_work.specs.Causes.{Cause}
 use Rattle.sj_work.specs.Counts.{OnLane, RoseBy}
 use Rattle.sj_work.specs.Laned.{laned}
 use Rattle.sj_work.specs.Views.{in_of, node_of, out_of, stop_of}
+use Rattle.sj_work.specs.Went.{InVain, OutVain}
 use Rattle.sj_work.specs.Worked.{Turned}
 use Rattle.sj_rules.specs.Limits.{clock_end}
 use Rattle.sj_run.specs.Shown.{IsWaiting, LinksAt}
@@ -142,10 +143,10 @@ module _ {O I : Type 0} (outward : OutLane O) (inward : InLane I) (file : FileAt
       looked = λ q lt waits. in_rose looks q lt c.ins;
     }
     rest_by (Some stops.AtLimit) is c = record {
-      still = stopped_still file p (node_of w) halts.AtLimit c.0;
-      halted = stopped_halted file p (node_of w) halts.AtLimit c.0;
-      emptied = λ q lt. limit_box q lt c.2;
-      looked = λ q lt waits. absurd (not_waiting file p (node_of w) halts.AtLimit limit_waits c.0 waits);
+      still = stopped_still file p (node_of w) halts.AtLimit c.limit;
+      halted = stopped_halted file p (node_of w) halts.AtLimit c.limit;
+      emptied = λ q lt. limit_box q lt c.outs;
+      looked = λ q lt waits. absurd (not_waiting file p (node_of w) halts.AtLimit limit_waits c.limit waits);
     }
 
     -- a worker that stopped so is at rest

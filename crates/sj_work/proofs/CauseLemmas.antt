@@ -6,12 +6,13 @@ use Rattle.sj_node.specs.Reading.{parties_of}
 use Rattle.sj_work.specs.declared.worker.Stop.{Stop}
 use Rattle.sj_work.specs.declared.worker.Stop.TheVariants as stops
 use Rattle.sj_work.specs.declared.worker.Worker.{Worker}
-use Rattle.sj_work.specs.Causes.{InVain, MetFault, OutVain}
+use Rattle.sj_work.specs.Causes.{MetFault}
 use Rattle.sj_work.specs.Counts.{RoseBy, Stood}
-use Rattle.sj_work.specs.Turns.{HasNoEvent}
 use Rattle.sj_work.specs.Views.{in_of, out_of}
+use Rattle.sj_work.specs.Went.{HasNoEvent, InARow, InVain, OutVain}
 use Rattle.sj_work.proofs.CountLemmas.{on_later, on_so, rose_fewer, rose_more, rose_then, then_rose, then_some_rose}
 use Rattle.sj_work.proofs.LaneLaws.{CauseBy, LaneLaws, WentBy}
+use Rattle.sj_work.proofs.WentLemmas.{went_later}
 
 module _ {O I : Type 0} (k : LaneLaws O I) where
   -- after work, counts of lanes from parties that rose, rose
@@ -45,6 +46,10 @@ module _ {O I : Type 0} (k : LaneLaws O I) where
   pub outs_fewer : (m n : ℕ) (a b : Worker O I) → m ≤ n → OutVain k.outward.vain n a b → OutVain k.outward.vain m a b
   outs_fewer m n a b few v = λ q lt waits. on_so k.outward.vain (RoseBy n) (RoseBy m) (λ x y. rose_fewer m n x y few) (out_of a q) (out_of b q) (v q lt waits)
 
+  -- turns in a row stay so where more work is counted before them
+  row_later : (n : ℕ) (a b c : Worker O I) → WentBy k None a b → InARow k.outward k.inward n b c → InARow k.outward k.inward n a c
+  row_later n a b c went r = record { since = r.since; before = went_later k a b r.since None went r.before; after = r.after; rests = r.rests; ins = r.ins; outs = r.outs }
+
   fault_later : (a b c : Worker O I) → WentBy k None a b → MetFault k.outward.faults k.inward.faults b c → MetFault k.outward.faults k.inward.faults a c
   fault_later a b c went (inl s) = inl (then_some_rose k.outward.faults (out_of a) (out_of b) (out_of c) went.faults_out s)
   fault_later a b c went (inr s) = inr (then_some_rose k.inward.faults (in_of a) (in_of b) (in_of c) went.faults_in s)
@@ -53,8 +58,19 @@ module _ {O I : Type 0} (k : LaneLaws O I) where
   pub cause_later : (s : Option Stop) (looks : ℕ) (lost : Option (LostAt Place)) (a b c : Worker O I) → WentBy k None a b → CauseBy k s looks lost b c → CauseBy k s looks lost a c
   cause_later None looks lost a b c went h = tt
   cause_later (Some stops.Finished) looks lost a b c went h = h
-  cause_later (Some stops.Idle) looks lost a b c went h = record { idle = h.idle; turns = h.turns; ins = ins_later looks a b c went h.ins; outs = outs_later looks a b c went h.outs }
-  cause_later (Some stops.AtLimit) looks lost a b c went h = (h.0, ins_later (max looks 1) a b c went h.1, outs_later (max looks 1) a b c went h.2)
+  cause_later (Some stops.Idle) looks lost a b c went h = record {
+    idle = h.idle;
+    turns = h.turns;
+    ins = ins_later looks a b c went h.ins;
+    outs = outs_later looks a b c went h.outs;
+    row = row_later looks a b c went h.row;
+  }
+  cause_later (Some stops.AtLimit) looks lost a b c went h = record {
+    limit = h.limit;
+    ins = ins_later (max looks 1) a b c went h.ins;
+    outs = outs_later (max looks 1) a b c went h.outs;
+    row = row_later (max looks 1) a b c went h.row;
+  }
   cause_later (Some stops.ClockEnd) looks lost a b c went h = h
   cause_later (Some stops.NoMemory) looks lost a b c went h = tt
   cause_later (Some stops.Fault) looks lost a b c went h = fault_later a b c went h

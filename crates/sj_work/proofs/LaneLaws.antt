@@ -9,7 +9,8 @@ use Rattle.sj_work.specs.declared.worker.Stop.{Stop}
 use Rattle.sj_work.specs.declared.worker.Worker.{Worker}
 use Rattle.sj_work.specs.Causes.{Cause}
 use Rattle.sj_work.specs.Counts.{Stood}
-use Rattle.sj_work.specs.Worked.{Turned, Went}
+use Rattle.sj_work.specs.Went.{Went}
+use Rattle.sj_work.specs.Worked.{Turned}
 
 pub record LaneLaws (O I : Type 0) : Type 1 where
   pub outward : OutLane O

@@ -4,10 +4,10 @@ use Rattle.std.proofs.lemmas.Bool.{cases_eq, cases_lt}
 use Rattle.sj_node.specs.Outs.{waiting_in}
 use Rattle.sj_node.specs.Reading.{outs_of, parties_of}
 use Rattle.sj_work.specs.declared.worker.Worker.{Worker}
-use Rattle.sj_work.specs.Causes.{OutVain}
 use Rattle.sj_work.specs.Counts.{RoseBy, Stood}
-use Rattle.sj_work.specs.Turns.{IsGoing, HasNoEvent, Tried}
+use Rattle.sj_work.specs.Turns.{IsGoing, Tried}
 use Rattle.sj_work.specs.Views.{out_of, stop_of}
+use Rattle.sj_work.specs.Went.{HasNoEvent, OutVain}
 use Rattle.sj_work.proofs.CountLemmas.{on_later, rose_then, then_rose}
 use Rattle.sj_work.proofs.LaneLaws.{LaneLaws, TurnedBy, WentBy}
 use Rattle.sj_work.proofs.RestLemmas.{outbox_empty, rests_itself, rests_later}

@@ -9,7 +9,7 @@ use Rattle.sj_node.specs.declared.node.Node.{Node}
 use Rattle.sj_node.specs.Node.{Stays, outbox_of}
 use Rattle.sj_node.specs.Outs.{waiting_in}
 use Rattle.sj_node.specs.Reading.{IsFinished, TakesOut, outs_of}
-use Rattle.sj_work.specs.Turns.{HasNoEvent}
+use Rattle.sj_work.specs.Went.{HasNoEvent}
 use Rattle.sj_work.proofs.HaltLemmas.{empty_before}
 
 pub rests_itself : (a b : Node) → b ≡ a → HasNoEvent a b

@@ -8,10 +8,10 @@ use Rattle.sj_node.specs.Reading.{IsFinished, IsIdle}
 use Rattle.sj_work.specs.declared.worker.Outcome.TheVariants as answers
 use Rattle.sj_work.specs.declared.worker.Stop.TheVariants as stops
 use Rattle.sj_work.specs.declared.worker.Worker.{Worker}
-use Rattle.sj_work.specs.Causes.{InVain, OutVain}
 use Rattle.sj_work.specs.Counts.{RoseBy, Stood}
-use Rattle.sj_work.specs.Turns.{IsGoing, IsHalted, IsInVain, HasNoEvent}
+use Rattle.sj_work.specs.Turns.{IsGoing, IsHalted, IsInVain}
 use Rattle.sj_work.specs.Views.{in_of, out_of, stop_of}
+use Rattle.sj_work.specs.Went.{HasNoEvent, InARow, InVain, OutVain}
 use Rattle.sj_work.proofs.CauseLemmas.{ins_fewer, ins_more, ins_then, outs_fewer, outs_later, outs_more, outs_then}
 use Rattle.sj_work.proofs.CountLemmas.{on_so, rose_none}
 use Rattle.sj_work.proofs.HaltLemmas.{stop_same}
@@ -91,15 +91,24 @@ module _ {O I : Type 0} (k : LaneLaws O I) where
     before : WentBy k None init now
     before = went_of k init now (w.turns 0) w.goes.stop
 
+    -- turns in vain since the first of them are in a row
+    row_since : (n : ℕ) (end : Worker O I) → WentBy k None init end → HasNoEvent init.node end.node → InVain k.inward.vain n init end → OutVain k.outward.vain n init end
+        → InARow k.outward k.inward n init end
+    row_since n end went rests ins outs = record { since = init; before = went_itself k init init refl refl; after = went; rests = rests; ins = ins; outs = outs }
+
     -- all looks were in vain, and the party is idle
     pub wait_idle : looks ≤ now.looks → IsIdle (nodes.stop_of now.node) → TurnedBy k looks init (record now { answer = Some answers.Idle })
     wait_idle over idle =
         let all : now.looks ≡ looks = all_looks now.looks looks w.within over in
-        turned_off k init (record now { answer = Some answers.Idle }) None stops.Idle looks refl (λ e. cc e) w.goes.open_yet (went_again k init now None (Some answers.Idle) now.looks before) tt (record {
+        let ins : InVain k.inward.vain looks init now = subst (λ n. InVain k.inward.vain n init now) all w.ins in
+        let outs : OutVain k.outward.vain looks init now = subst (λ n. OutVain k.outward.vain n init now) all w.outs in
+        let went : WentBy k None init (record now { answer = Some answers.Idle }) = went_again k init now None (Some answers.Idle) now.looks before in
+        turned_off k init (record now { answer = Some answers.Idle }) None stops.Idle looks refl (λ e. cc e) w.goes.open_yet went tt (record {
           idle = idle;
           turns = all;
-          ins = subst (λ n. InVain k.inward.vain n init now) all w.ins;
-          outs = subst (λ n. OutVain k.outward.vain n init now) all w.outs;
+          ins = ins;
+          outs = outs;
+          row = row_since looks (record now { answer = Some answers.Idle }) went w.rests ins outs;
         })
 
     module _ (next : Worker O I) (t : (n : ℕ) → TurnedBy k n now next) where
@@ -128,8 +137,12 @@ module _ {O I : Type 0} (k : LaneLaws O I) where
         -- and the party is at its limit
         pub wait_limit : (n : ℕ) → max looks 1 ≤ now.looks + 1 → (IsIdle (nodes.stop_of next.node) → ⊥) → TurnedBy k looks init (record next { looks = n; answer = Some answers.AtLimit })
         wait_limit n over busy =
-            turned_off k init (record next { looks = n; answer = Some answers.AtLimit }) None stops.AtLimit looks refl (λ e. cc e) open_next (went_again k init next None (Some answers.AtLimit) n after) tt (
-              limit_of (nodes.stop_of next.node) v.halted busy,
-              ins_fewer k (max looks 1) (now.looks + 1) init next over (ins_more k now.looks 1 init now next v.rests.parties w.ins v.ins),
-              outs_fewer k (max looks 1) (now.looks + 1) init next over (outs_more k now.looks 1 init now next v.rests w.outs v.outs),
-            )
+            let ins : InVain k.inward.vain (max looks 1) init next = ins_fewer k (max looks 1) (now.looks + 1) init next over (ins_more k now.looks 1 init now next v.rests.parties w.ins v.ins) in
+            let outs : OutVain k.outward.vain (max looks 1) init next = outs_fewer k (max looks 1) (now.looks + 1) init next over (outs_more k now.looks 1 init now next v.rests w.outs v.outs) in
+            let went : WentBy k None init (record next { looks = n; answer = Some answers.AtLimit }) = went_again k init next None (Some answers.AtLimit) n after in
+            turned_off k init (record next { looks = n; answer = Some answers.AtLimit }) None stops.AtLimit looks refl (λ e. cc e) open_next went tt (record {
+              limit = limit_of (nodes.stop_of next.node) v.halted busy;
+              ins = ins;
+              outs = outs;
+              row = row_since (max looks 1) (record next { looks = n; answer = Some answers.AtLimit }) went (rests_later init.node now.node next.node w.rests v.rests) ins outs;
+            })

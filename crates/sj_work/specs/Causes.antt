@@ -1,5 +1,5 @@
 -- Why a call of a worker answered so.
-use Rattle.std.specs.Prelude.{◌≡◌, ◌⊎◌, ℕ, ◌+◌, ◌<◌, ◌≤◌, max, min, ⊤, [], Option, Some, None, option_map}
+use Rattle.std.specs.Prelude.{◌≡◌, ◌⊎◌, ℕ, ◌+◌, ◌<◌, ◌≤◌, max, min, ⊤, Option, Some, None, option_map}
 use Rattle.sj_lang.specs.Place.{Place, done}
 use Rattle.sj_end.specs.declared.note.Entry.{Entry}
 use Rattle.sj_end.specs.declared.note.Event.TheVariants as events
@@ -13,13 +13,14 @@ use Rattle.sj_lane.specs.declared.lane.InLane.{Ghosts as InLane}
 use Rattle.sj_node.specs.declared.node.Node.{Node}
 use Rattle.sj_node.specs.declared.refusal.Halt.TheVariants as halts
 use Rattle.sj_node.specs.Node as nodes
-use Rattle.sj_node.specs.Node.{act_of, clock_of, due_of, node_at, outbox_of}
+use Rattle.sj_node.specs.Node.{act_of, clock_of, due_of, node_at}
 use Rattle.sj_node.specs.Reading.{IsFinished, IsIdle, parties_of, party_of}
 use Rattle.sj_work.specs.declared.worker.Stop.{Stop}
 use Rattle.sj_work.specs.declared.worker.Stop.TheVariants as stops
 use Rattle.sj_work.specs.declared.worker.Worker.{Worker}
-use Rattle.sj_work.specs.Counts.{OnLane, RoseBy, SomeRose}
+use Rattle.sj_work.specs.Counts.{SomeRose}
 use Rattle.sj_work.specs.Views.{in_of, looks_of, node_of, out_of, unfit_of}
+use Rattle.sj_work.specs.Went.{InARow, InVain, OutVain}
 
 -- with that stop a frame may be lost
 abbrev pub MayLose : Option Stop → Type 0
@@ -53,29 +54,6 @@ IsUnfit (Some l) n line =
 IsUnfit None n line = (nodes.stop_of n ≡ None) × (act_of n ≡ None) × (line ≡ option_map (own_line n) (due_of n))
 
 module _ {O I : Type 0} where
-  -- the calls in vain on the lane from each party rose by so many
-  abbrev pub InVain : (in_vain : I → ℕ) → ℕ → (old new : Worker O I) → Type 0
-  InVain in_vain k old new = (q : ℕ) → q < parties_of (node_of new) → OnLane in_vain (RoseBy k) (in_of old q) (in_of new q)
-
-  -- so did those on the lane to each party for which something waits
-  abbrev pub OutVain : (out_vain : O → ℕ) → ℕ → (old new : Worker O I) → Type 0
-  OutVain out_vain k old new =
-      (q : ℕ) → q < parties_of (node_of new) → (outbox_of (node_of new) q ≡ [] → ⊥) → OnLane out_vain (RoseBy k) (out_of old q) (out_of new q)
-
-module _ {O I : Type 0} (out_vain : O → ℕ) (in_vain : I → ℕ) where
-  -- the party waits or has ended, after so many turns in a row without an event
-  pub record IsIdleFor (looks : ℕ) (old new : Worker O I) : Type 0 where
-    pub idle : IsIdle (nodes.stop_of (node_of new))
-    pub turns : looks_of new ≡ looks
-    pub ins : InVain in_vain looks old new
-    pub outs : OutVain out_vain looks old new
-
-module _ {O I : Type 0} where
-  -- the party is at a limit, after so many looks in vain, and after one where none is asked for
-  abbrev pub IsAtLimit : (out_vain : O → ℕ) → (in_vain : I → ℕ) → (looks : ℕ) → (old new : Worker O I) → Type 0
-  IsAtLimit out_vain in_vain looks old new =
-      (nodes.stop_of (node_of new) ≡ Some halts.AtLimit) × InVain in_vain (max looks 1) old new × OutVain out_vain (max looks 1) old new
-
   -- the clock can't rise any more
   abbrev pub IsClockEnd : Worker O I → Type 0
   IsClockEnd new = clock_end ≤ clock_of (node_of new)
@@ -85,12 +63,27 @@ module _ {O I : Type 0} where
   MetFault out_faults in_faults old new = SomeRose out_faults (out_of old) (out_of new) ⊎ SomeRose in_faults (in_of old) (in_of new)
 
 module _ {O I : Type 0} (outward : OutLane O) (inward : InLane I) where
+  -- the party waits or has ended, after so many turns in a row without an event
+  pub record IsIdleFor (looks : ℕ) (old new : Worker O I) : Type 0 where
+    pub idle : IsIdle (nodes.stop_of (node_of new))
+    pub turns : looks_of new ≡ looks
+    pub ins : InVain inward.vain looks old new
+    pub outs : OutVain outward.vain looks old new
+    pub row : InARow outward inward looks old new
+
+  -- the party is at a limit, likewise, and after one such turn where no look is asked for
+  pub record IsAtLimit (looks : ℕ) (old new : Worker O I) : Type 0 where
+    pub limit : nodes.stop_of (node_of new) ≡ Some halts.AtLimit
+    pub ins : InVain inward.vain (max looks 1) old new
+    pub outs : OutVain outward.vain (max looks 1) old new
+    pub row : InARow outward inward (max looks 1) old new
+
   -- the cause of each answer; out of memory alone is free
   abbrev pub Cause : Option Stop → (looks : ℕ) → Option (LostAt Place) → (old new : Worker O I) → Type 0
   Cause None looks lost old new = ⊤
   Cause (Some stops.Finished) looks lost old new = IsFinished (node_of new)
-  Cause (Some stops.Idle) looks lost old new = IsIdleFor outward.vain inward.vain looks old new
-  Cause (Some stops.AtLimit) looks lost old new = IsAtLimit outward.vain inward.vain looks old new
+  Cause (Some stops.Idle) looks lost old new = IsIdleFor looks old new
+  Cause (Some stops.AtLimit) looks lost old new = IsAtLimit looks old new
   Cause (Some stops.ClockEnd) looks lost old new = IsClockEnd new
   Cause (Some stops.NoMemory) looks lost old new = ⊤
   Cause (Some stops.Fault) looks lost old new = MetFault outward.faults inward.faults old new

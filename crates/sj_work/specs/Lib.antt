@@ -5,4 +5,5 @@ pub mod Laned
 pub mod Lending
 pub mod Turns
 pub mod Views
+pub mod Went
 pub mod Worked

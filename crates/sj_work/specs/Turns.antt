@@ -2,17 +2,16 @@
 use Rattle.std.specs.Prelude.{◌≡◌, ◌↔◌, ℕ, ⊤, [], Option, Some, None}
 use Rattle.sj_lane.specs.declared.lane.OutLane.{Ghosts as OutLane}
 use Rattle.sj_lane.specs.declared.lane.InLane.{Ghosts as InLane}
-use Rattle.sj_node.specs.declared.node.Node.{Node}
 use Rattle.sj_node.specs.declared.refusal.Halt.{Halt}
 use Rattle.sj_node.specs.declared.refusal.Halt.TheVariants as halts
 use Rattle.sj_node.specs.Node as nodes
-use Rattle.sj_node.specs.Node.{node_at, outbox_of}
-use Rattle.sj_node.specs.Reading.{IsFinished, parties_of}
+use Rattle.sj_node.specs.Node.{outbox_of}
+use Rattle.sj_node.specs.Reading.{IsFinished}
 use Rattle.sj_work.specs.declared.worker.Stop.TheVariants as stops
 use Rattle.sj_work.specs.declared.worker.Worker.{Worker}
-use Rattle.sj_work.specs.Causes.{InVain, OutVain}
 use Rattle.sj_work.specs.Counts.{OnLane, RoseBy}
 use Rattle.sj_work.specs.Views.{node_of, out_of, stop_of}
+use Rattle.sj_work.specs.Went.{HasNoEvent, InVain, OutVain}
 use Rattle.sj_work.specs.Worked.{Turned}
 
 -- the party can't act, and not because it is out of memory
@@ -23,12 +22,6 @@ IsHalted (Some halts.AtLimit) = ⊤
 IsHalted (Some halts.NoMemory) = ⊥
 IsHalted (Some halts.Unfit) = ⊥
 IsHalted None = ⊥
-
--- no event: the node stays, and frames only leave outboxes
-pub record HasNoEvent (old new : Node) : Type 0 where
-  pub node : node_at new ≡ node_at old
-  pub parties : parties_of new ≡ parties_of old
-  pub boxes : (q : ℕ) → (outbox_of new q ≡ [] → ⊥) → outbox_of old q ≡ [] → ⊥
 
 module _ {O I : Type 0} where
   -- a worker stops as finished exactly where its node is so

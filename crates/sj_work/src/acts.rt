@@ -4,8 +4,9 @@ ghost use Rattle.sj_node.specs.Node.{clock_of, due_of};
 ghost use Rattle.sj_node.specs.Node as nodes;
 ghost use Rattle.sj_work.specs.Answers.{SaysHalt, SeesFinished};
 ghost use Rattle.sj_work.specs.Causes.{own_line};
-ghost use Rattle.sj_work.specs.Turns.{IsGoing, IsHalted, HasNoEvent, Turns};
+ghost use Rattle.sj_work.specs.Turns.{IsGoing, IsHalted, Turns};
 ghost use Rattle.sj_work.specs.Views.{looks_of, node_of, stop_of};
+ghost use Rattle.sj_work.specs.Went.{HasNoEvent};
 ghost use Rattle.sj_rules.specs.Limits.{clock_end};
 
 use crate::worker::{AT_ONCE, Gate, Outcome, Worker};

@@ -4,10 +4,10 @@ ghost use Rattle.sj_lane.specs.Told.{told_frame};
 ghost use Rattle.sj_node.specs.Node.{clock_of};
 ghost use Rattle.sj_node.specs.Reading.{parties_of};
 ghost use Rattle.sj_work.specs.Answers.{TakesFrame, delivery_answer};
-ghost use Rattle.sj_work.specs.Causes.{InVain};
 ghost use Rattle.sj_work.specs.Counts.{OnLane, RoseBy};
 ghost use Rattle.sj_work.specs.Turns.{IsGoing, Turns};
 ghost use Rattle.sj_work.specs.Views.{in_of, looks_of, node_of, stop_of};
+ghost use Rattle.sj_work.specs.Went.{InVain};
 ghost use Rattle.sj_rules.specs.Limits.{clock_end};
 
 use crate::acts::{finished, show};

@@ -3,9 +3,9 @@ ghost use Rattle.std.specs.Prelude.{◌≡◌, ◌<◌, IsFalse, IsTrue, None, l
 ghost use Rattle.sj_node.specs.Outs.{waiting_in};
 ghost use Rattle.sj_node.specs.Reading.{outs_of};
 ghost use Rattle.sj_work.specs.Answers.{push_answer};
-ghost use Rattle.sj_work.specs.Causes.{OutVain};
-ghost use Rattle.sj_work.specs.Turns.{IsGoing, HasNoEvent, Tried, Turns};
+ghost use Rattle.sj_work.specs.Turns.{IsGoing, Tried, Turns};
 ghost use Rattle.sj_work.specs.Views.{looks_of, node_of, stop_of};
+ghost use Rattle.sj_work.specs.Went.{HasNoEvent, OutVain};
 
 use crate::acts::finished;
 use crate::worker::{Outcome, Worker};
