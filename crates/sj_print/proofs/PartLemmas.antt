@@ -58,10 +58,10 @@ open_suc [] (suc i) x h = cc
 open_suc (y ∷ xs) zero x h = let it : y ≡ x = cc in ap (λ t. t ∷ xs) it
 open_suc (y ∷ xs) (suc i) x h = open_suc xs i x h
 
-open_at : {X : Type 0} (xs : List X) (i : ℕ) (x : X) → slice_get xs i ≡ Some x → drop i xs ≡ x ∷ drop (i + 1) xs
+pub open_at : {X : Type 0} (xs : List X) (i : ℕ) (x : X) → slice_get xs i ≡ Some x → drop i xs ≡ x ∷ drop (i + 1) xs
 open_at xs i x h = open_suc xs i x h ∙ ap (λ k. x ∷ drop k xs) (sym (add-one i))
 
-get_map : {X Y : Type 0} (f : X → Y) (xs : List X) (i : ℕ) (d : X) → i < length xs → slice_get (map f xs) i ≡ Some (f (get_or xs i d))
+pub get_map : {X Y : Type 0} (f : X → Y) (xs : List X) (i : ℕ) (d : X) → i < length xs → slice_get (map f xs) i ≡ Some (f (get_or xs i d))
 get_map f [] i d h = absurd (omega arith)
 get_map f (x ∷ xs) zero d h = refl
 get_map f (x ∷ xs) (suc i) d h = get_map f xs i d (omega arith)

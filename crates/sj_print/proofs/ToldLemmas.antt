@@ -1,25 +1,26 @@
 -- The sessions and the parties of a world as they are reported, one after another.
-use Rattle.std.proofs.Common.{◌≡◌, ℕ, zero, suc, ◌+◌, ◌*◌, ◌<◌, ◌≤◌, List, [], ◌∷◌, ◌++◌, length, map, drop, get_or, Some, option_map, refl, ap, sym, ◌∙◌, append-nil, append_assoc, arith}
-use Rattle.std.specs.Prelude.{slice_get}
-use Rattle.std.proofs.lemmas.Option.{slice_get-get_or, slice_get-map}
+use Rattle.std.proofs.Common.{◌≡◌, ℕ, ◌+◌, ◌*◌, ◌<◌, ◌≤◌, List, [], ◌∷◌, ◌++◌, length, map, drop, get_or, refl, ap, sym, ◌∙◌, append-nil, append_assoc, arith}
+use Rattle.std.specs.Prelude.{codes, slice_get}
+use Rattle.std.proofs.lemmas.Option.{slice_get-get_or}
 use Rattle.sj_lang.specs.declared.file.Connect.{Connect}
 use Rattle.sj_lang.specs.declared.file.Party.{Party}
 use Rattle.sj_lang.specs.FileView.{party_of, connect_of}
-use Rattle.sj_lang.specs.FileAt.{FileAt, ConnectAt}
-use Rattle.sj_semantics.specs.declared.State.{State}
+use Rattle.sj_lang.specs.FileAt.{FileAt, ConnectAt, PartyAt}
 use Rattle.sj_semantics.specs.declared.Verdict.{Verdict}
-use Rattle.sj_semantics.specs.Lines.{line_of}
+use Rattle.sj_semantics.specs.Lines.{line_of, word_at}
 use Rattle.sj_semantics.specs.Program.{Program}
-use Rattle.sj_semantics.specs.State.{opened_in, state_if, state_of_program, states_from, verdict_of}
-use Rattle.sj_semantics.specs.Transcript.{opened_lines, party_lines, sent_lines, session_line, session_lines, transcript_of, verdict_word}
+use Rattle.sj_semantics.specs.State.{opened_in, state_of_program, states_from, verdict_of}
+use Rattle.sj_semantics.specs.Transcript.{opened_lines, party_lines, state_words, sent_lines, session_line, session_lines, transcript_of, verdict_word}
 use Rattle.sj_semantics.specs.World.{World}
 use Rattle.sj_text.specs.Cut.{IsCutShort}
 use Rattle.sj_text.proofs.CutLemmas.{StillTo, ahead_is, cut_within, one_more}
 use Rattle.sj_told.specs.declared.told.Stand.{Stand}
 use Rattle.sj_told.specs.declared.told.ToldEnd.{ToldEnd}
-use Rattle.sj_told.specs.Told.{AreEnds, AreStands, IsEnd}
-use Rattle.sj_print.specs.Parts.{IsPutAfter, party_part, session_part, told_part}
-use Rattle.sj_print.proofs.PartLemmas.{party_step, session_step, transcript_is}
+use Rattle.sj_told.specs.Standing.{standing_lines}
+use Rattle.sj_told.specs.Told.{AreEnds, AreStands, IsEnd, verdict_by}
+use Rattle.sj_told.proofs.VerdictLemmas.{verdict_is}
+use Rattle.sj_print.specs.Parts.{IsPutAfter, party_part, session_part, stand_lines, standing_text, told_part}
+use Rattle.sj_print.proofs.PartLemmas.{get_map, open_at, session_step, transcript_is}
 
 -- ---- a text goes on after what it was
 
@@ -82,47 +83,29 @@ module _ (file : FileAt) (w : World) (cs : List Connect) (ends : List ToldEnd) (
 
 -- ---- parties
 
-state_here : (w : World) (p : ℕ) (gs : List Program) (i : ℕ) (s : State) → slice_get (states_from w p gs) i ≡ Some s → s ≡ state_if w (i + p) (slice_get gs i)
-state_here w p [] i s h = cc
-state_here w p (g ∷ gs) zero s h =
-    let it : state_of_program w p g ≡ s = cc in sym it ∙ ap (λ (q : ℕ). state_of_program w q g) (let e : p ≡ zero + p = omega arith in e)
-state_here w p (g ∷ gs) (suc i) s h = state_here w (p + 1) gs i s h ∙ ap (λ (q : ℕ). state_if w q (slice_get gs i)) (let e : i + (p + 1) ≡ suc i + p = omega arith in e)
-
-module _ (w : World) (stands : List Stand) (are : AreStands w stands) (i : ℕ) (d : Stand) (lt : i < length stands) where
-  here : slice_get stands i ≡ Some (get_or stands i d)
-  here = slice_get-get_or stands i d lt
-
-  steps_are : option_map (λ g. g.steps) (slice_get w.parties i) ≡ Some (get_or stands i d).steps
-  steps_are =
-      sym (slice_get-map (λ (g : Program). g.steps) w.parties i) ∙ sym (ap (λ (xs : List ℕ). slice_get xs i) are.steps)
-      ∙ slice_get-map (λ (s : Stand). s.steps) stands i ∙ ap (option_map (λ (s : Stand). s.steps)) here
-
-  state_is : (get_or stands i d).state ≡ state_if w i (slice_get w.parties i)
-  state_is =
-      state_here w 0 w.parties i (get_or stands i d).state
-      (sym (ap (λ (xs : List State). slice_get xs i) are.states) ∙ slice_get-map (λ (s : Stand). s.state) stands i ∙ ap (option_map (λ (s : Stand). s.state)) here)
-      ∙ ap (λ (q : ℕ). state_if w q (slice_get w.parties i)) (let e : i + 0 ≡ i = omega arith in e)
-
-  -- the line of the next party is ahead, as it is reported
-  pub stand_step : (file : FileAt) (qs : List Party) (q : Party) → i < length qs → i < length w.parties
-      → party_lines file w i (drop i (map party_of qs)) (drop i w.parties)
-      ≡ party_part file (get_or qs i q).name (get_or stands i d).steps (get_or stands i d).state ++ party_lines file w (i + 1) (drop (i + 1) (map party_of qs)) (drop (i + 1) w.parties)
-  stand_step file qs q within known = party_step file w qs w.parties i q (get_or stands i d).steps (get_or stands i d).state within known steps_are state_is
+-- the line of the next party is ahead, as it is reported
+stand_step : (file : FileAt) (qs : List Party) (stands : List Stand) (i : ℕ) (q : Party) (d : Stand) → i < length qs → i < length stands
+    → standing_lines file (drop i (map party_of qs)) (drop i (map (λ s. s.steps) stands)) (drop i (map (λ s. s.state) stands))
+    ≡ party_part file (get_or qs i q).name (get_or stands i d).steps (get_or stands i d).state
+    ++ standing_lines file (drop (i + 1) (map party_of qs)) (drop (i + 1) (map (λ s. s.steps) stands)) (drop (i + 1) (map (λ s. s.state) stands))
+stand_step file qs stands i q d within told =
+    λ j. standing_lines file (open_at (map party_of qs) i _ (get_map party_of qs i q within) j) (open_at (map (λ (s : Stand). s.steps) stands) i _ (get_map (λ (s : Stand). s.steps) stands i d told) j)
+    (open_at (map (λ (s : Stand). s.state) stands) i _ (get_map (λ (s : Stand). s.state) stands i d told) j)
 
 -- the next party, whose line is ahead as it is reported
-module _ (file : FileAt) (w : World) (stands : List Stand) (qs : List Party) (i : ℕ) (q : Party) (d : Stand) (old whole now new : List ℕ)
-    (are : AreStands w stands) (told : i < length stands) (lt : i < length qs) (known : i < length w.parties) (there : get_or qs i q ≡ q)
-    (still : StillTo old whole (party_lines file w i (drop i (map party_of qs)) (drop i w.parties)) now) where
+module _ (file : FileAt) (stands : List Stand) (qs : List Party) (i : ℕ) (q : Party) (d : Stand) (old whole now new : List ℕ)
+    (told : i < length stands) (lt : i < length qs) (there : get_or qs i q ≡ q)
+    (still : StillTo old whole (standing_lines file (drop i (map party_of qs)) (drop i (map (λ s. s.steps) stands)) (drop i (map (λ s. s.state) stands))) now) where
   abbrev others : List ℕ
-  others = party_lines file w (i + 1) (drop (i + 1) (map party_of qs)) (drop (i + 1) w.parties)
+  others = standing_lines file (drop (i + 1) (map party_of qs)) (drop (i + 1) (map (λ s. s.steps) stands)) (drop (i + 1) (map (λ s. s.state) stands))
 
   abbrev line : List ℕ
   line = party_part file q.name (get_or stands i d).steps (get_or stands i d).state
 
   line_ahead : StillTo old whole (line ++ others) now
   line_ahead =
-      let step = stand_step w stands are i d told file qs q lt known ∙ ap (λ (y : Party). party_part file y.name (get_or stands i d).steps (get_or stands i d).state ++ others) there in
-      ahead_is old whole (party_lines file w i (drop i (map party_of qs)) (drop i w.parties)) (line ++ others) now step still
+      let step = stand_step file qs stands i q d lt told ∙ ap (λ (y : Party). party_part file y.name (get_or stands i d).steps (get_or stands i d).state ++ others) there in
+      ahead_is old whole (standing_lines file (drop i (map party_of qs)) (drop i (map (λ s. s.steps) stands)) (drop i (map (λ s. s.state) stands))) (line ++ others) now step still
 
   -- it is put
   pub put_stand : new ≡ now ++ line → StillTo old whole others new
@@ -132,14 +115,12 @@ module _ (file : FileAt) (w : World) (stands : List Stand) (qs : List Party) (i 
   pub cut_stand : IsCutShort now line new → IsCutShort old whole new
   cut_stand cut = cut_within old whole line others now new line_ahead cut
 
--- as many parties as are reported
-length-mapped : {X Y : Type 0} (f : X → Y) (xs : List X) → length (map f xs) ≡ length xs
-length-mapped f [] = refl
-length-mapped f (x ∷ xs) = ap suc (length-mapped f xs)
-
-pub as_many : (w : World) (stands : List Stand) → AreStands w stands → length stands ≡ length w.parties
-as_many w stands are =
-    sym (length-mapped (λ (s : Stand). s.steps) stands) ∙ ap (λ (xs : List ℕ). length xs) are.steps ∙ length-mapped (λ (g : Program). g.steps) w.parties
+-- the lines of parties are those of how they stand
+parties_stand : (file : FileAt) (w : World) (p : ℕ) (qs : List PartyAt) (gs : List Program) → standing_lines file qs (map (λ g. g.steps) gs) (states_from w p gs) ≡ party_lines file w p qs gs
+parties_stand file w p [] gs = refl
+parties_stand file w p (q ∷ qs) [] = refl
+parties_stand file w p (q ∷ qs) (g ∷ gs) =
+    ap (λ xs. line_of (codes "party" ∷ word_at file.words q.name ∷ state_words file g.steps (state_of_program w p g)) ++ xs) (parties_stand file w (p + 1) qs gs)
 
 -- ---- the whole
 
@@ -149,3 +130,10 @@ told_is file w v none verdict =
     let sessions = session_lines file 0 file.connects w.sessions in
     let no_more : sessions ≡ sessions ++ opened_lines file w.sessions (opened_in w) = sym (append-nil sessions) ∙ ap (λ os. sessions ++ opened_lines file w.sessions os) (sym none) in
     (λ i. no_more i ++ party_lines file w 0 file.parties w.parties ++ line_of (verdict_word (verdict i) ∷ [])) ∙ transcript_is file w
+
+-- whose verdict is by how they stand
+pub standing_is : (file : FileAt) (w : World) (stands : List Stand) → opened_in w ≡ [] → AreStands w stands → standing_text file w stands ≡ transcript_of file w
+standing_is file w stands none are =
+    let lines : stand_lines file stands ≡ party_lines file w 0 file.parties w.parties =
+    (λ i. standing_lines file file.parties (are.steps i) (are.states i)) ∙ parties_stand file w 0 file.parties w.parties in
+    (λ i. session_lines file 0 file.connects w.sessions ++ lines i ++ line_of (verdict_word (verdict_by stands) ∷ [])) ∙ told_is file w (verdict_by stands) none (verdict_is w stands none are)

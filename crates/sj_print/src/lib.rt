@@ -13,6 +13,6 @@ pub use lines::print_verdict;
 pub use log::print_line;
 pub use messages::print_message;
 pub use pieces::print_name;
-pub use told::print_told;
+pub use told::{print_standing, print_told};
 pub use transcript::print_transcript;
 pub use version::print_mark;

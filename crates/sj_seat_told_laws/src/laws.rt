@@ -7,10 +7,10 @@
 //!   headline, how the parties stand, and where nothing was opened.
 //! - `seats_are_judged_by_their_stands`: the verdict, and where it is done.
 //! - `a_code_stands_at_its_first_open_end`: which end that is.
-//! - `ends_and_stands_tell_the_transcript`: all of it, from a list of ends and one of stands.
+//! - `stands_tell_the_transcript`: the transcript, by how the parties stand.
 //! - `seats_stand_so`: small runs, computed.
 
-ghost use Rattle.std.specs.Prelude.{◌≡◌, ◌↔◌, ◌≤◌, ◌∷◌, [], ℕ, List, None, Some, length, map};
+ghost use Rattle.std.specs.Prelude.{◌≡◌, ◌↔◌, ◌++◌, ◌∷◌, [], ℕ, List, None, Some, length, map};
 ghost use Rattle.sj_acceptance.specs.Accepted.{IsAccepted};
 ghost use Rattle.sj_base.specs.declared.EndId.{EndId};
 ghost use Rattle.sj_lang.specs.FileAt.{FileAt};
@@ -22,13 +22,14 @@ ghost use Rattle.sj_rules.specs.World.{WorldAt};
 ghost use Rattle.sj_rules_laws.specs.TiedNotes.{sent_told, taken_told, told_in};
 ghost use Rattle.sj_semantics.specs.Ends.{end_at};
 ghost use Rattle.sj_semantics.specs.State.{opened_in};
+ghost use Rattle.sj_semantics.specs.Transcript.{line_of, session_lines, verdict_word};
 ghost use Rattle.sj_semantics.specs.declared.State.TheVariants.{Ended, Waits};
 ghost use Rattle.sj_semantics.specs.declared.Verdict.TheVariants.{Blocked, Done};
 ghost use Rattle.sj_semantics_laws.specs.Samples.{greeting};
 ghost use Rattle.sj_told.specs.Counts.{messages_sent, sent_count};
-ghost use Rattle.sj_told.specs.Told.{AreEnds, verdict_by};
+ghost use Rattle.sj_told.specs.Standing.{standing_lines};
+ghost use Rattle.sj_told.specs.Told.{verdict_by};
 ghost use Rattle.sj_told.specs.declared.told.Stand.{Stand};
-ghost use Rattle.sj_told.specs.declared.told.ToldEnd.{ToldEnd};
 ghost use Rattle.sj_seat_laws.specs.Calls.{SeatedAt};
 ghost use Rattle.sj_seat_laws.specs.Resting.{HoldsNoOpenEnd};
 ghost use Rattle.sj_seat_laws.specs.SeatSamples.{both, far, first, misled, near, second};
@@ -39,7 +40,7 @@ ghost use Rattle.sj_seat_laws.specs.SeatsWorld.{SeatsWorld, seat_of};
 ghost use Rattle.sj_seat_told_laws.specs.SeatsEnd.{IsSeatsEnd};
 ghost use Rattle.sj_seat_told_laws.specs.SeatsHistory.{IsSeatsHistory, acts_of};
 ghost use Rattle.sj_seat_told_laws.specs.SeatsStands.{AreSeatsStands, IsFirstOpen, first_open, seats_states, seats_verdict};
-ghost use Rattle.sj_seat_told_laws.specs.SeatsTranscript.{seats_transcript, told_transcript};
+ghost use Rattle.sj_seat_told_laws.specs.SeatsTranscript.{seats_transcript};
 ghost use Rattle.sj_seat_told_laws.specs.StandSamples.{both_text, gone, gone_text};
 
 /// A history of a run with seats reports the plain world to which its acts lead. The Sent notes of
@@ -91,13 +92,13 @@ pub fn a_code_stands_at_its_first_open_end()
         seat_of t.seats q ≡ Some s → (first_open s.ends ≡ None) ↔ HoldsNoOpenEnd s }
 {}
 
-/// Where no session was opened, the transcript can be put from what the ends of the file's
-/// connections sent and who took it, and from how the parties stand.
-pub fn ends_and_stands_tell_the_transcript()
-    ensures { (file : FileAt) (t : SeatsWorld) (ends : List ToldEnd) (stands : List Stand) →
-        opened_in t.world ≡ [] → length file.connects ≤ length t.world.sessions →
-        AreEnds file t.world ends → AreSeatsStands t stands →
-        told_transcript file ends stands ≡ seats_transcript file t }
+/// Where no session was opened, the transcript is that of the sessions, with the lines and the
+/// verdict by how the parties stand.
+pub fn stands_tell_the_transcript()
+    ensures { (file : FileAt) (t : SeatsWorld) (stands : List Stand) → opened_in t.world ≡ [] →
+        AreSeatsStands t stands → session_lines file 0 file.connects t.world.sessions
+        ++ standing_lines file file.parties (map (λ s. s.steps) stands) (map (λ s. s.state) stands)
+        ++ line_of (verdict_word (verdict_by stands) ∷ []) ≡ seats_transcript file t }
 {}
 
 /// In the runs of the greeting in which parties are played by code both end. A code that takes

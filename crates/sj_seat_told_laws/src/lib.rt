@@ -6,6 +6,6 @@ mod laws;
 
 pub use laws::{
     a_code_stands_at_its_first_open_end, a_quiet_seated_history_tells_its_end,
-    a_seated_history_tells_its_world, ends_and_stands_tell_the_transcript,
-    seats_are_judged_by_their_stands, seats_stand_so,
+    a_seated_history_tells_its_world, seats_are_judged_by_their_stands, seats_stand_so,
+    stands_tell_the_transcript,
 };

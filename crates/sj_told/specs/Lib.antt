@@ -1,4 +1,5 @@
 pub mod Counts
 pub mod Lines
+pub mod Standing
 pub mod Still
 pub mod Told

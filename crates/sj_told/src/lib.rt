@@ -10,4 +10,4 @@ mod verdicts;
 pub use counts::messages_told;
 pub use ends::ends_told;
 pub use told::{Stand, ToldEnd};
-pub use verdicts::verdict_told;
+pub use verdicts::{verdict_by, verdict_told};

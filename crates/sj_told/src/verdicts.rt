@@ -17,7 +17,9 @@ pub fn verdict_told(stands: &[Stand]) -> Verdict
     verdict_by(stands)
 }
 
-fn verdict_by(stands: &[Stand]) -> Verdict
+/// The verdict by how parties stand alone, whoever plays them: long where one is at a limit, else
+/// done where each has ended, else blocked.
+pub fn verdict_by(stands: &[Stand]) -> Verdict
     ensures { result ≡ verdict_by stands.now }
 {
     if some_at_limit(stands) {

@@ -2,50 +2,37 @@ use Rattle.std.proofs.Common.{◌≡◌, ◌<◌, ◌≤◌, ap, arith, drop, ge
 use Rattle.std.proofs.lemmas.Grind.{common_steps}
 use Rattle.std.proofs.lemmas.List.{drop_all}
 use Rattle.sj_lang.specs.FileView.{file_of, party_of}
-use Rattle.sj_semantics.specs.Transcript.{party_lines}
 use Rattle.sj_text.proofs.CutLemmas.{none_yet, on_err}
+use Rattle.sj_told.specs.Standing.{standing_lines}
+use Rattle.sj_print.specs.Parts.{stand_lines}
 use Rattle.sj_print.proofs.PartLemmas.{length-map}
-use Rattle.sj_print.proofs.ToldLemmas.{after_after, cut_after, none_after, put_after, all_put, as_many, cut_stand, put_stand}
+use Rattle.sj_print.proofs.ToldLemmas.{all_put, cut_stand, put_stand}
 use Rattle.sj_print.proofs.told.put_stands.Goals as goal
 
 pub loop-i-init : goal.loop-i-init
-loop-i-init c = (none_after c.args.text.now.items, λ w are. none_yet c.args.text.now.items (party_lines (file_of c.args.file.now) w 0 (file_of c.args.file.now).parties w.parties))
+loop-i-init c = none_yet c.args.text.now.items (stand_lines (file_of c.args.file.now) c.args.stands.now)
 
 pub loop-i-preserved : goal.loop-i-preserved
 loop-i-preserved c =
-    let old = c.args.text.now.items in let now = c.loop-i.text.items in let new = c.put_party.new.text.items in (
-      after_after old now new c.loop-i.invariant.0 (put_after now _ new c.in_ok-put_party.ensures.ok),
-      λ w are.
-          let file = file_of c.args.file.now in let qs = c.args.file.now.parties.items in let stands = c.args.stands.now in
-          let i = c.loop-i.i in let x = c.index.result.now in let old = c.args.text.now.items in let whole = party_lines file w 0 file.parties w.parties in
-          let within : i < length qs = omega (arith, c.loop-i-test.true, c.len-i-end.ensures, c.args.file.now.parties.ok.0) in
-          let told : i < length stands = omega (arith, within, c.requires, length-map party_of qs) in
-          let there : get_or qs i x ≡ x = grind (arith, common_steps) in
-          put_stand file w stands qs i x _ old whole c.loop-i.text.items c.put_party.new.text.items are told within (omega (arith, told, as_many w stands are)) there (c.loop-i.invariant.1 w are)
-          c.in_ok-put_party.ensures.ok,
-    )
-
-pub returns-in_err-put_party-clause-err : goal.returns-in_err-put_party-clause-err
-returns-in_err-put_party-clause-err c = on_err c.from_residual.result _ (λ w are.
     let file = file_of c.args.file.now in let qs = c.args.file.now.parties.items in let stands = c.args.stands.now in
-    let i = c.loop-i.i in let x = c.index.result.now in let old = c.args.text.now.items in let whole = party_lines file w 0 file.parties w.parties in
+    let i = c.loop-i.i in let x = c.index.result.now in let old = c.args.text.now.items in let whole = stand_lines file stands in
     let within : i < length qs = omega (arith, c.loop-i-test.true, c.len-i-end.ensures, c.args.file.now.parties.ok.0) in
     let told : i < length stands = omega (arith, within, c.requires, length-map party_of qs) in
     let there : get_or qs i x ≡ x = grind (arith, common_steps) in
-    cut_stand file w stands qs i x _ old whole c.loop-i.text.items c.put_party.new.text.items are told within (omega (arith, told, as_many w stands are)) there (c.loop-i.invariant.1 w are)
-    c.in_err-put_party.ensures.err)
+    put_stand file stands qs i x _ old whole c.loop-i.text.items c.put_party.new.text.items told within there c.loop-i.invariant c.in_ok-put_party.ensures.ok
+
+pub returns-in_err-put_party-clause-err : goal.returns-in_err-put_party-clause-err
+returns-in_err-put_party-clause-err c =
+    let file = file_of c.args.file.now in let qs = c.args.file.now.parties.items in let stands = c.args.stands.now in
+    let i = c.loop-i.i in let x = c.index.result.now in let old = c.args.text.now.items in let whole = stand_lines file stands in
+    let within : i < length qs = omega (arith, c.loop-i-test.true, c.len-i-end.ensures, c.args.file.now.parties.ok.0) in
+    let told : i < length stands = omega (arith, within, c.requires, length-map party_of qs) in
+    let there : get_or qs i x ≡ x = grind (arith, common_steps) in
+    on_err c.from_residual.result _ (cut_stand file stands qs i x _ old whole c.loop-i.text.items c.put_party.new.text.items told within there c.loop-i.invariant c.in_err-put_party.ensures.err)
 
 pub returns-clause-ok : goal.returns-clause-ok
-returns-clause-ok c = λ w are.
-    let file = file_of c.args.file.now in let qs = c.args.file.now.parties.items in
+returns-clause-ok c =
+    let file = file_of c.args.file.now in let qs = c.args.file.now.parties.items in let stands = c.args.stands.now in
     let over : length qs ≤ c.loop-i.i = omega (arith, c.loop-i-test.false, c.len-i-end.ensures, c.args.file.now.parties.ok.0) in
-    all_put c.args.text.now.items (party_lines file w 0 file.parties w.parties) _ c.loop-i.text.items (c.loop-i.invariant.1 w are)
-    (ap (λ xs. party_lines file w c.loop-i.i xs (drop c.loop-i.i w.parties)) (drop_all c.loop-i.i (map party_of qs) (omega (arith, over, length-map party_of qs))))
-
-pub returns-in_err-put_party-clause-kept : goal.returns-in_err-put_party-clause-kept
-returns-in_err-put_party-clause-kept c =
-    let old = c.args.text.now.items in let now = c.loop-i.text.items in let new = c.put_party.new.text.items in
-    after_after old now new c.loop-i.invariant.0 (cut_after now _ new c.in_err-put_party.ensures.err)
-
-pub returns-clause-kept : goal.returns-clause-kept
-returns-clause-kept c = c.loop-i.invariant.0
+    all_put c.args.text.now.items (stand_lines file stands) _ c.loop-i.text.items c.loop-i.invariant
+    (ap (λ xs. standing_lines file xs (drop c.loop-i.i (map (λ s. s.steps) stands)) (drop c.loop-i.i (map (λ s. s.state) stands))) (drop_all c.loop-i.i (map party_of qs) (omega (arith, over, length-map party_of qs))))
