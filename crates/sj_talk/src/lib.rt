@@ -16,6 +16,7 @@ mod start;
 mod talk;
 mod words;
 
+pub use form::{Form, Value, form_in};
 pub use laws::{
     lines_are_moves, lines_fit_their_places, talks_serve_the_others, talks_stay_balanced,
 };
