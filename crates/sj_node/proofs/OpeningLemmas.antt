@@ -1,6 +1,6 @@
 -- Calls that request a session or accept one, and the acts that are such calls.
 use Rattle.std.proofs.Common.{◌≡◌, ℕ, ◌+◌, ◌<◌, true, ltb, if◌then◌else◌, [], ◌∷◌, Option, Some, None, option_map, refl, ap, subst, sym, ◌∙◌, arith}
-use Rattle.std.specs.Prelude.{nat_lt}
+use Rattle.std.specs.Prelude.{Err, IsErrOf, nat_lt}
 use Rattle.std.proofs.lemmas.Bool.Decides.{nat_tests}
 use Rattle.sj_base.specs.declared.EndId.{EndId}
 use Rattle.sj_lang.specs.Place.{Place}
@@ -18,6 +18,7 @@ use Rattle.sj_rules.specs.Opened.{new_held, opened_number, smallest, without}
 use Rattle.sj_rules.proofs.NodeMapLemmas.{put-each}
 use Rattle.sj_end.specs.declared.note.Note.TheVariants as notes
 use Rattle.sj_node.specs.declared.node.Node.{Node}
+use Rattle.sj_node.specs.declared.refusal.Halt.{Halt}
 use Rattle.sj_node.specs.Calls.{call_of, place_here, silent}
 use Rattle.sj_node.specs.Node.{accepted_note, act_of, main_of, node_at, offers_of, play_here, steps_of, wants_of}
 use Rattle.sj_node.specs.Offers.{offering}
@@ -126,3 +127,7 @@ accepts_none n p from place is steps spot none = by (smallest (offers_of n from)
     by : (o : Option ℕ) → smallest (offers_of n from) ≡ o → act_of n ≡ None
     by None least = act_at n (wants.Accept p from) is steps ∙ ap (accept_offered (play_here n) (node_at n) (start_in n.table p) from) least
     by (Some sess) least = least_by n p from sess place is steps spot least ∙ ap (option_map _) none
+
+-- a refusal is the same, whatever an answer would have been
+pub refused_so : {T U : Type 0} (e h : Halt) → IsErrOf {T = T} (Err e) h → IsErrOf {T = U} (Err e) h
+refused_so e h is = let same : e ≡ h = cc in ap Err same

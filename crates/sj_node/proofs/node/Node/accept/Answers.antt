@@ -9,7 +9,7 @@ use Rattle.sj_node.specs.Offers.{offering, offers_in}
 use Rattle.sj_node.specs.Outs.{waiting_in}
 use Rattle.sj_node.specs.Slots.{mains_in}
 use Rattle.sj_node.proofs.ActLemmas.{does_with, stays}
-use Rattle.sj_node.proofs.OpeningLemmas.{accept_noted, call_accepts, no_offer, offer_lost}
+use Rattle.sj_node.proofs.OpeningLemmas.{accept_noted, call_accepts, no_offer, offer_lost, refused_so}
 use Rattle.sj_node.proofs.node.Node.accept.Goals as goal
 
 pub returns-in_default-clause-unfit : goal.returns-in_default-clause-unfit
@@ -30,7 +30,7 @@ returns-in-Err-clause-unfit c = λ unfit.
     let from = c.args.from in
     let sess = c.in-Some.sess in
     let least : smallest (offers_of n from) ≡ Some sess = ap (λ xs. smallest (offers_in xs from)) (sym c.deref.ensures.value) ∙ sym c.offered_by.ensures ∙ c.in-Some.is in
-    offer_lost n (place_here n c.args.place) from sess least (c.in-Err.ensures.unfit unfit)
+    offer_lost n (place_here n c.args.place) from sess least (c.in-Err.ensures.unfit (refused_so _ _ unfit))
 
 pub returns-clause-ok : goal.returns-clause-ok
 returns-clause-ok c =

@@ -1,7 +1,7 @@
 use Rattle.std.proofs.Common.{ap, ◌∙◌}
 use Rattle.sj_semantics.specs.Steps.{opened_of}
 use Rattle.sj_node.specs.Node.{act_note, node_at, offers_of}
-use Rattle.sj_node.proofs.OpeningLemmas.{accepts_by, accepts_none}
+use Rattle.sj_node.proofs.OpeningLemmas.{accepts_by, accepts_none, refused_so}
 use Rattle.sj_node.proofs.StepLemmas.{acted}
 use Rattle.sj_node.proofs.node.Node.step_accept.Goals as goal
 
@@ -14,4 +14,4 @@ returns-in-Ok-clause-ok c =
 
 pub returns-in-Err-clause-unfit : goal.returns-in-Err-clause-unfit
 returns-in-Err-clause-unfit c = λ unfit.
-    accepts_none c.args.self.now c.args.protocol c.args.from c.start-place.result c.requires.step c.requires.steps c.start-place.ensures.place (c.in-Err.ensures.unfit unfit)
+    accepts_none c.args.self.now c.args.protocol c.args.from c.start-place.result c.requires.step c.requires.steps c.start-place.ensures.place (c.in-Err.ensures.unfit (refused_so _ _ unfit))
