@@ -9,12 +9,13 @@ use Rattle.sj_lang.specs.Place.{Place}
 use Rattle.sj_semantics.specs.declared.Passed.{Passed}
 use Rattle.sj_semantics.specs.Acts.{sent_by, taken_by, uses_on}
 use Rattle.sj_semantics.specs.Ends.{EndAt, Session, end_at, is_end, unopened}
+use Rattle.sj_semantics.specs.Requests.{Opening}
 use Rattle.sj_semantics.specs.Run.{after_acts}
 use Rattle.sj_semantics.specs.Uses.{Use, after_uses, altered_session, begins, delegates, end_after, on_side, sends, takes}
 use Rattle.sj_semantics.specs.World.{World, act_of, begun_by, session_message}
 use Rattle.sj_semantics_laws.proofs.ActsLemmas.{sent_is_of_acts, takers_after_uses, takers_are_of_acts}
 use Rattle.sj_headline_laws.specs.Headline.{next_step}
-use Rattle.sj_rules.specs.Log.{LineAt, NoteAt, Sent, Shut, Took}
+use Rattle.sj_rules.specs.Log.{Accept, LineAt, NoteAt, Request, Sent, Shut, Took}
 use Rattle.sj_rules.specs.World.{Act}
 use Rattle.sj_rules_laws.specs.TiedNotes.{AreTied, note_of, sent_told, taken_told}
 use Rattle.sj_rules_laws.proofs.SentToldLemmas.{tied_sent}
@@ -22,7 +23,7 @@ use Rattle.sj_rules_laws.proofs.TakenToldLemmas.{tied_taken}
 use Rattle.sj_rules_laws.proofs.ToldLemmas.{skip, told_passed}
 use Rattle.sj_told.specs.Counts.{is_sent, messages_sent}
 use Rattle.sj_told_laws.proofs.CountLemmas.{lines_add}
-use Rattle.sj_seat_laws.specs.SeatedWorld.{world_after}
+use Rattle.sj_seat_laws.specs.SeatedWorld.{world_opened}
 use Rattle.sj_seat_laws.proofs.HeadlineLemmas.{sent_after_uses}
 
 -- the world has more by what that party's note reports
@@ -94,8 +95,8 @@ pub record Tells (p : ℕ) (note : NoteAt) (us : List (EndId × Use)) : Type 0 w
   pub taken : (e : EndId) → taken_told e p note ≡ uses_on e taken_by p us
   pub count : is_sent note ≡ uses_count us
 
-pub uses_add : (w : World) (p : ℕ) (note : NoteAt) (us : List (EndId × Use)) → Tells p note us → Adds w p note (world_after p us w)
-uses_add w p note us t = record {
+pub uses_add : (w : World) (p : ℕ) (note : NoteAt) (o : Opening) (us : List (EndId × Use)) → Tells p note us → Adds w p note (world_opened p o us w)
+uses_add w p note o us t = record {
   sent = λ e. sent_after_uses p us w.sessions e ∙ ap (λ xs. (end_at w.sessions e).sent ++ xs) (sym (t.sent e));
   takers = λ e. takers_after_uses p us w.sessions e ∙ ap (λ xs. (end_at w.sessions e).takers ++ map (λ x. x.by) xs) (sym (t.taken e));
   count = omega (arith, uses_size p us w.sessions, t.count);
@@ -140,3 +141,13 @@ module _ (p : ℕ) where
 
   pub shut_tells : (f : EndId) → Tells p (Shut f) []
   shut_tells f = record { sent = λ e. refl; taken = λ e. refl; count = refl }
+
+  -- a session that is opened: its ends begin
+  pub request_tells : (sess to : ℕ) (f g : EndId) (place other : Place) → Tells p (Request sess to) ((f, begins place) ∷ (g, begins other) ∷ [])
+  request_tells sess to f g place other = record { sent = λ e. both e; taken = λ e. both e; count = refl }
+    where
+      both : (e : EndId) → ◌≡◌ {A = List Passed} [] (cond (is_end e f) [] [] ++ (cond (is_end e g) [] [] ++ []))
+      both e = sym (skip (is_end e f) (cond (is_end e g) [] [] ++ []) ∙ skip (is_end e g) [])
+
+  pub accept_tells : (sess from : ℕ) (f : EndId) (place : Place) → Tells p (Accept sess from) ((f, begins place) ∷ [])
+  accept_tells sess from f place = record { sent = λ e. sym (skip (is_end e f) []); taken = λ e. sym (skip (is_end e f) []); count = refl }

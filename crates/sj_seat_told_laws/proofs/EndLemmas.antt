@@ -34,7 +34,8 @@ use Rattle.sj_seat_laws.proofs.SeatsHeadlineLemmas.{step_facts}
 use Rattle.sj_seat_laws.proofs.SeatsRunLemmas.{between, quiet_ends, seats_run}
 use Rattle.sj_seat_told_laws.specs.SeatsEnd.{IsSeatsEnd}
 use Rattle.sj_seat_told_laws.specs.SeatsHistory.{IsSeatsHistory, acts_of}
-use Rattle.sj_seat_told_laws.specs.SeatsStands.{AreSeatsStands, IsStandOf}
+use Rattle.sj_seat_told_laws.specs.SeatsStands.{AreSeatsStands}
+use Rattle.sj_seat_told_laws.specs.StillSeats.{IsStandOf}
 use Rattle.sj_seat_told_laws.proofs.HistoryLemmas.{history_count, history_sent, history_takers}
 use Rattle.sj_seat_told_laws.proofs.QuietLemmas.{code_held, node_held, quiet_lanes}
 use Rattle.sj_seat_told_laws.proofs.RestLemmas.{none_ready}

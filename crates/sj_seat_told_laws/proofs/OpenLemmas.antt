@@ -13,7 +13,7 @@ use Rattle.sj_told.specs.Told.{slot_of}
 use Rattle.sj_seat_laws.specs.Calls.{Ends, place_held}
 use Rattle.sj_seat_laws.proofs.CallLemmas.{done_by}
 use Rattle.sj_seat_laws.proofs.HeldLemmas.{held_by_place, holds, holds-cons}
-use Rattle.sj_seat_told_laws.specs.SeatsStands.{IsFirstOpen, earlier, first_open}
+use Rattle.sj_seat_told_laws.specs.FirstOpen.{IsFirstOpen, earlier, first_open}
 
 -- ---- the place of an end that is held
 

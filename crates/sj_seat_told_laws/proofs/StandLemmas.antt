@@ -7,6 +7,7 @@ use Rattle.sj_semantics.specs.declared.Passed.{Passed}
 use Rattle.sj_semantics.specs.declared.State.TheVariants as states
 use Rattle.sj_semantics.specs.Ends.{end_at, next_for}
 use Rattle.sj_semantics.specs.Program.{Program}
+use Rattle.sj_semantics.specs.Requests.{first_offer, limit_of_requests, opened_number}
 use Rattle.sj_semantics.specs.State.{state_if}
 use Rattle.sj_semantics.specs.Uses as uses
 use Rattle.sj_semantics.specs.World.{World, act_of, begun_by, session_message}
@@ -17,38 +18,48 @@ use Rattle.sj_told_laws.proofs.StillLemmas.{stands_still}
 use Rattle.sj_seat_laws.specs.Calls.{SeatedAt}
 use Rattle.sj_seat_laws.specs.Guards.{seated_want}
 use Rattle.sj_seat_laws.specs.SeatedPlay.{seated}
-use Rattle.sj_seat_laws.specs.SeatedWorld.{Doing, after_doing, beside, doing_by, doing_of}
+use Rattle.sj_seat_laws.specs.SeatedWorld.{Doing, accepting, after_doing, beside, doing_by, doing_of, plain_doing, requesting}
 use Rattle.sj_seat_laws.specs.SeatsWorld.{Seats, SeatsWorld, all_beside, player_by, seat_of, seats_act, seats_act_by, with_seat}
-use Rattle.sj_seat_told_laws.specs.SeatsStands.{AreSeatsStands, IsStandOf, first_open, player_state, player_steps, seats_states_from, seats_steps_from, state_by_open, state_calling, state_holding, state_of_seat, steps_of_player, still_by_open, still_calling, still_holding, still_player}
+use Rattle.sj_seat_told_laws.specs.FirstOpen.{first_open}
+use Rattle.sj_seat_told_laws.specs.SeatsStands.{AreSeatsStands, player_state, player_steps, seats_states_from, seats_steps_from, state_by_open, state_calling, state_holding, state_of_seat}
+use Rattle.sj_seat_told_laws.specs.StillSeats.{IsStandOf, steps_of_player, still_by_open, still_calling, still_holding, still_player}
 
 -- ---- a party that is played by code
 
 module _ (p : ℕ) (w : World) where
   -- a call that can't be made
-  calling : (want : Want Place) → doing_by p w want ≡ None → state_calling w want ≡ still_calling want
+  calling : (want : Want Place) → doing_by p w want ≡ None → state_calling w p want ≡ still_calling want
   calling wanted.ended h = refl
   calling wanted.local h = refl
   calling (wanted.sends e m) h = refl
   calling (wanted.closes e) h = refl
-  calling (wanted.requests place to) h = refl
-  calling (wanted.accepts place from) h = refl
   calling (wanted.takes e place) h = by (next_for w.sessions e) h
     where
-      by : (o : Option Passed) → ◌≡◌ {A = Option Doing} (option_map (λ (x : Passed). record { taken = Some x.msg; uses = (e, uses.takes x.msg) ∷ begun_by place x.msg }) o) None → cond (is_some o) states.Ready (states.Waits e) ≡ states.Waits e
+      by : (o : Option Passed) → ◌≡◌ {A = Option Doing} (option_map (λ (x : Passed). plain_doing (Some x.msg) ((e, uses.takes x.msg) ∷ begun_by place x.msg)) o) None → cond (is_some o) states.Ready (states.Waits e) ≡ states.Waits e
       by None k = refl
       by (Some x) k = cc
   calling (wanted.delegates c e) h = by (nat_lt (end_at w.sessions e).hops 100) h
     where
-      by : (b : Bool) → ◌≡◌ {A = Option Doing} (cond b (Some (record { taken = None; uses = (e, uses.delegates) ∷ (c, uses.sends (session_message e p)) ∷ [] })) None) None
+      by : (b : Bool) → ◌≡◌ {A = Option Doing} (cond b (Some (plain_doing None ((e, uses.delegates) ∷ (c, uses.sends (session_message e p)) ∷ []))) None) None
           → cond b states.Ready (states.AtLimit (limits.Hops e)) ≡ states.AtLimit (limits.Hops e)
       by true k = cc
       by false k = refl
+  calling (wanted.requests place to) h = by (nat_lt (length (w.requests p)) limit_of_requests) h
+    where
+      by : (b : Bool) → ◌≡◌ {A = Option Doing} (cond b (Some (requesting (opened_number p (length (w.requests p))) place to)) None) None → cond b states.Ready (states.AtLimit limits.Requests) ≡ states.AtLimit limits.Requests
+      by true k = cc
+      by false k = refl
+  calling (wanted.accepts place from) h = by (first_offer p (w.requests from)) h
+    where
+      by : (o : Option ℕ) → ◌≡◌ {A = Option Doing} (option_map (accepting from place) o) None → cond (is_some o) states.Ready (states.WaitsOpen from) ≡ states.WaitsOpen from
+      by None k = refl
+      by (Some j) k = cc
 
-  by_steps : (b : Bool) (want : Want Place) → cond (not b) None (doing_by p w want) ≡ None → cond b (state_calling w want) (states.AtLimit limits.Steps) ≡ cond b (still_calling want) (states.AtLimit limits.Steps)
+  by_steps : (b : Bool) (want : Want Place) → cond (not b) None (doing_by p w want) ≡ None → cond b (state_calling w p want) (states.AtLimit limits.Steps) ≡ cond b (still_calling want) (states.AtLimit limits.Steps)
   by_steps true want h = calling want h
   by_steps false want h = refl
 
-  holding : (e : EndId) (steps : ℕ) (want : Want Place) → cond (not (nat_lt steps 10000)) None (doing_by p w want) ≡ None → state_holding w e steps want ≡ still_holding e steps want
+  holding : (e : EndId) (steps : ℕ) (want : Want Place) → cond (not (nat_lt steps 10000)) None (doing_by p w want) ≡ None → state_holding w p e steps want ≡ still_holding e steps want
   holding e steps wanted.ended h = refl
   holding e steps wanted.local h = by_steps (nat_lt steps 10000) wanted.local h
   holding e steps (wanted.sends f m) h = by_steps (nat_lt steps 10000) (wanted.sends f m) h
@@ -58,11 +69,11 @@ module _ (p : ℕ) (w : World) where
   holding e steps (wanted.requests place to) h = by_steps (nat_lt steps 10000) (wanted.requests place to) h
   holding e steps (wanted.accepts place from) h = by_steps (nat_lt steps 10000) (wanted.accepts place from) h
 
-  by_open : (steps : ℕ) (want : Want Place) (o : Option EndId) → cond (not (nat_lt steps 10000)) None (doing_by p w want) ≡ None → state_by_open w steps want o ≡ still_by_open steps want o
+  by_open : (steps : ℕ) (want : Want Place) (o : Option EndId) → cond (not (nat_lt steps 10000)) None (doing_by p w want) ≡ None → state_by_open w p steps want o ≡ still_by_open steps want o
   by_open steps want None h = refl
   by_open steps want (Some e) h = holding e steps want h
 
-  pub seat_stands_still : (s : SeatedAt) → doing_of p (beside s w) ≡ None → state_of_seat w s ≡ still_player (seated s)
+  pub seat_stands_still : (s : SeatedAt) → doing_of p (beside s w) ≡ None → state_of_seat w p s ≡ still_player (seated s)
   seat_stands_still s h = by_open s.steps (seated_want s) (first_open s.ends) h
 
 -- ---- whoever it is

@@ -2,6 +2,7 @@
 use Rattle.std.proofs.Common.{◌≡◌, ℕ, ◌+◌, nat_lt, not, Bool, true, false, cond, List, [], ◌∷◌, length, slice_get, unwrap_or, Option, Some, None, option_map, option_and_then, refl, ap, sym, ◌∙◌, subst, arith}
 use Rattle.sj_base.specs.declared.EndId.{EndId}
 use Rattle.sj_base.specs.declared.Msg.{Msg}
+use Rattle.sj_lang.specs.Dual.{dual_of}
 use Rattle.sj_lang.specs.FileAt.{FileAt, ProtocolAt, body_named}
 use Rattle.sj_lang.specs.Place.{Place}
 use Rattle.sj_semantics.specs.declared.Passed.{Passed}
@@ -9,18 +10,20 @@ use Rattle.sj_semantics.specs.declared.Want as step_of
 use Rattle.sj_semantics.specs.declared.Want.TheVariants as wants
 use Rattle.sj_semantics.specs.Ends.{end_at, next_for}
 use Rattle.sj_semantics.specs.Program.{Program}
-use Rattle.sj_semantics.specs.Requests.{first_offer, opened_number}
+use Rattle.sj_semantics.specs.Requests.{first_offer, limit_of_requests, opened_number}
 use Rattle.sj_semantics.specs.Uses as uses
 use Rattle.sj_semantics.specs.Uses.{altered_list}
 use Rattle.sj_semantics.specs.Wants.{want_of}
 use Rattle.sj_semantics.specs.World.{Change, World, act_of, begun_by, change_by, change_by_accepting, session_message}
 use Rattle.sj_semantics_laws.proofs.ChangeLemmas.{rests_on}
 use Rattle.sj_semantics_laws.proofs.CommuteLemmas as acting
+use Rattle.sj_headline_laws.proofs.TouchedLemmas.{side}
 use Rattle.sj_rules.specs.Linked.{waiting_at}
 use Rattle.sj_rules.specs.Log as notes
 use Rattle.sj_rules.specs.Log.{NoteAt}
 use Rattle.sj_rules.specs.Node as wanted
 use Rattle.sj_rules.specs.Node.{Play, Want}
+use Rattle.sj_rules.specs.Opened as rules
 use Rattle.sj_rules.specs.Party.{IsDone, nobody, want_for, want_or_ended}
 use Rattle.sj_rules.specs.Plain.{offered_from, plain_at}
 use Rattle.sj_rules.specs.PlainSide.{PlainAt}
@@ -32,11 +35,11 @@ use Rattle.sj_rules_laws.specs.TiedNotes.{note_of}
 use Rattle.sj_seat_laws.specs.Calls.{SeatedAt}
 use Rattle.sj_seat_laws.specs.Guards.{seated_want}
 use Rattle.sj_seat_laws.specs.SeatedPlay.{Player, player_binds, seated_play, written}
-use Rattle.sj_seat_laws.specs.SeatedWorld.{Doing, after_doing, beside, doing_by, doing_of}
+use Rattle.sj_seat_laws.specs.SeatedWorld.{Doing, accepting, after_doing, beside, doing_by, doing_of, plain_doing, requesting}
 use Rattle.sj_seat_laws.specs.SeatsWorld.{SeatsWorld, all_beside, player_by, seat_of, seats_act, seats_act_by, seats_seen, with_seat}
 use Rattle.sj_seat_laws.proofs.UsingLemmas.{worn_doing}
 use Rattle.sj_seat_told_laws.specs.PlainNotes.{plain_note, step_note}
-use Rattle.sj_seat_told_laws.proofs.AddLemmas.{Adds, Tells, delegate_tells, file_adds, send_tells, shut_tells, take_tells, uses_add}
+use Rattle.sj_seat_told_laws.proofs.AddLemmas.{Adds, Tells, accept_tells, delegate_tells, file_adds, request_tells, send_tells, shut_tells, take_tells, uses_add}
 
 -- the value of an option, where what it maps to is there
 map_some : {X Y : Type 0} (f : X → Y) (o : Option X) (y : Y) → option_map f o ≡ Some y → (x : X) × (o ≡ Some x) × (f x ≡ y)
@@ -74,22 +77,33 @@ module _ (file : FileAt) (t : SeatsWorld) (lawful : IsLawful IsDone (seated_play
   call_tells : (want : Want Place) → Fits want → (d : Doing) (note : NoteAt) → doing_by q w want ≡ Some d → plain_note plain q want ≡ Some note → Tells q note d.uses
   call_tells wanted.ended fit d note made noted = cc
   call_tells wanted.local fit d note made noted = cc
-  call_tells (wanted.sends e m) fit d note made noted = tells_so note (notes.Sent e m) d (record { taken = None; uses = (e, uses.sends m) ∷ [] }) noted made (send_tells q e m)
+  call_tells (wanted.sends e m) fit d note made noted = tells_so note (notes.Sent e m) d (plain_doing None ((e, uses.sends m) ∷ [])) noted made (send_tells q e m)
   call_tells (wanted.delegates c e) fit d note made noted = by (nat_lt (end_at w.sessions e).hops 100) made
     where
-      by : (b : Bool) → cond b (Some (record { taken = None; uses = (e, uses.delegates) ∷ (c, uses.sends (session_message e q)) ∷ [] })) None ≡ Some d → Tells q note d.uses
-      by true k = tells_so note (notes.Sent c (session_message e q)) d (record { taken = None; uses = (e, uses.delegates) ∷ (c, uses.sends (session_message e q)) ∷ [] }) noted k (delegate_tells q c e)
+      by : (b : Bool) → cond b (Some (plain_doing None ((e, uses.delegates) ∷ (c, uses.sends (session_message e q)) ∷ []))) None ≡ Some d → Tells q note d.uses
+      by true k = tells_so note (notes.Sent c (session_message e q)) d (plain_doing None ((e, uses.delegates) ∷ (c, uses.sends (session_message e q)) ∷ [])) noted k (delegate_tells q c e)
       by false k = cc
   call_tells (wanted.takes e place) fit d note made noted = by (next_for w.sessions e) refl made
     where
-      by : (o : Option Passed) → next_for w.sessions e ≡ o → option_map (λ (x : Passed). record { taken = Some x.msg; uses = (e, uses.takes x.msg) ∷ begun_by place x.msg }) o ≡ Some d → Tells q note d.uses
+      by : (o : Option Passed) → next_for w.sessions e ≡ o → option_map (λ (x : Passed). plain_doing (Some x.msg) ((e, uses.takes x.msg) ∷ begun_by place x.msg)) o ≡ Some d → Tells q note d.uses
       by None next k = cc
       by (Some x) next k =
           let head : Some (notes.Took e x.msg) ≡ Some note = sym (ap (option_map (λ (m : Msg). notes.Took e m)) (waits_next e place fit ∙ ap (option_map (λ (y : Passed). y.msg)) next)) ∙ noted in
-          tells_so note (notes.Took e x.msg) d (record { taken = Some x.msg; uses = (e, uses.takes x.msg) ∷ begun_by place x.msg }) head k (take_tells q e place x.msg)
-  call_tells (wanted.closes e) fit d note made noted = tells_so note (notes.Shut e) d (record { taken = None; uses = [] }) noted made (shut_tells q e)
-  call_tells (wanted.requests place to) fit d note made noted = cc
-  call_tells (wanted.accepts place from) fit d note made noted = cc
+          tells_so note (notes.Took e x.msg) d (plain_doing (Some x.msg) ((e, uses.takes x.msg) ∷ begun_by place x.msg)) head k (take_tells q e place x.msg)
+  call_tells (wanted.closes e) fit d note made noted = tells_so note (notes.Shut e) d (plain_doing None []) noted made (shut_tells q e)
+  call_tells (wanted.requests place to) fit d note made noted = by (nat_lt (length (w.requests q)) limit_of_requests) made
+    where
+      by : (b : Bool) → cond b (Some (requesting (opened_number q (length (w.requests q))) place to)) None ≡ Some d → Tells q note d.uses
+      by true k =
+          tells_so note (notes.Request (rules.opened_number q (plain.requests q)) to) d (requesting (opened_number q (length (w.requests q))) place to) noted k
+          (request_tells q (rules.opened_number q (plain.requests q)) to (side (opened_number q (length (w.requests q))) 0) (side (opened_number q (length (w.requests q))) 1) place (dual_of place))
+      by false k = cc
+  call_tells (wanted.accepts place from) fit d note made noted = by (slice_get (plain.offers from q) 0) (first_offer q (w.requests from)) noted made
+    where
+      by : (s : Option ℕ) (o : Option ℕ) → option_map (λ sess. notes.Accept sess from) s ≡ Some note → option_map (accepting from place) o ≡ Some d → Tells q note d.uses
+      by None o m k = cc
+      by (Some sess) None m k = cc
+      by (Some sess) (Some j) m k = tells_so note (notes.Accept sess from) d (accepting from place j) m k (accept_tells q sess from (side (opened_number from j) 1) place)
 
   seat_adds : (s : SeatedAt) → seat_of t.seats q ≡ Some s → (v : SeatsWorld) (note : NoteAt) → step_note play plain q ≡ Some note
       → option_map (λ d. with_seat q t.seats (after_doing q (beside s w) d)) (doing_of q (beside s w)) ≡ Some v → Adds w q note v.world
@@ -97,7 +111,7 @@ module _ (file : FileAt) (t : SeatsWorld) (lawful : IsLawful IsDone (seated_play
       let d = map_some (λ d. with_seat q t.seats (after_doing q (beside s w) d)) (doing_of q (beside s w)) v acted in
       let want : play.wants (plain.programs q) ≡ seated_want s = ap (λ o. play.wants (player_by o ((plain_at w).programs q))) at in
       let tells = call_tells (seated_want s) (subst Fits want (lawful.steps q)) d.0 note (worn_doing q (beside s w) d.0 (not (nat_lt s.steps 10000)) d.1) (sym (ap (plain_note plain q) want) ∙ noted) in
-      subst (λ (x : SeatsWorld). Adds w q note x.world) d.2 (uses_add w q note d.0.uses tells)
+      subst (λ (x : SeatsWorld). Adds w q note x.world) d.2 (uses_add w q note d.0.opening d.0.uses tells)
 
   -- ---- a party that goes by the file
 

@@ -1,5 +1,5 @@
 -- The verdict of a run with seats: by how the parties stand, and where it is done.
-use Rattle.std.proofs.Common.{◌≡◌, ℕ, zero, suc, ◌+◌, nat_lt, Bool, true, false, cond, ◌&&◌, ◌||◌, List, [], ◌∷◌, map, slice_get, Option, Some, None, is_some, refl, ap, sym, ◌∙◌, arith, if◌then◌else◌}
+use Rattle.std.proofs.Common.{◌≡◌, ℕ, zero, suc, ◌+◌, nat_lt, Bool, true, false, cond, ◌&&◌, ◌||◌, List, [], ◌∷◌, length, map, slice_get, Option, Some, None, is_some, refl, ap, sym, ◌∙◌, arith, if◌then◌else◌}
 use Rattle.std.specs.List.{list_all, list_any}
 use Rattle.std.proofs.lemmas.Bool.{and_from, and_parts}
 use Rattle.sj_base.specs.declared.EndId.{EndId}
@@ -12,6 +12,7 @@ use Rattle.sj_semantics.specs.declared.Verdict.{Verdict}
 use Rattle.sj_semantics.specs.declared.Verdict.TheVariants as verdicts
 use Rattle.sj_semantics.specs.Ends.{end_at, next_for}
 use Rattle.sj_semantics.specs.Program.{Program}
+use Rattle.sj_semantics.specs.Requests.{first_offer, limit_of_requests}
 use Rattle.sj_semantics.specs.State.{has_ended, is_accepted, is_at_limit, opened_in, state_of_program, states_from, states_of}
 use Rattle.sj_semantics.specs.World.{World}
 use Rattle.sj_rules.specs.Node as wanted
@@ -25,7 +26,8 @@ use Rattle.sj_seat_laws.specs.SeatsHeadline.{IsAllDone}
 use Rattle.sj_seat_laws.specs.SeatsWorld.{SeatsWorld, seat_of}
 use Rattle.sj_seat_laws.proofs.SeatsLemmas.{IsSeats, one_holds}
 use Rattle.sj_seat_told_laws.proofs.OpenLemmas.{none_open, open_none}
-use Rattle.sj_seat_told_laws.specs.SeatsStands.{AreSeatsStands, first_open, player_state, seats_states, seats_states_from, seats_verdict, state_by_open, state_calling, state_holding, state_of_seat}
+use Rattle.sj_seat_told_laws.specs.FirstOpen.{first_open}
+use Rattle.sj_seat_told_laws.specs.SeatsStands.{AreSeatsStands, player_state, seats_states, seats_states_from, seats_verdict, state_by_open, state_calling, state_holding, state_of_seat}
 
 -- ---- by how the parties stand
 
@@ -59,33 +61,33 @@ not_ended : (b : Bool) (x y : State) → has_ended x ≡ false → has_ended y �
 not_ended true x y h k = h
 not_ended false x y h k = k
 
-calls_on : (w : World) (want : Want Place) → has_ended (state_calling w want) ≡ false
-calls_on w wanted.ended = refl
-calls_on w wanted.local = refl
-calls_on w (wanted.sends e m) = refl
-calls_on w (wanted.closes e) = refl
-calls_on w (wanted.requests place to) = refl
-calls_on w (wanted.accepts place from) = refl
-calls_on w (wanted.takes e place) = not_ended (is_some (next_for w.sessions e)) states.Ready (states.Waits e) refl refl
-calls_on w (wanted.delegates c e) = not_ended (nat_lt (end_at w.sessions e).hops 100) states.Ready (states.AtLimit (limits.Hops e)) refl refl
+calls_on : (w : World) (p : ℕ) (want : Want Place) → has_ended (state_calling w p want) ≡ false
+calls_on w p wanted.ended = refl
+calls_on w p wanted.local = refl
+calls_on w p (wanted.sends e m) = refl
+calls_on w p (wanted.closes e) = refl
+calls_on w p (wanted.requests place to) = not_ended (nat_lt (length (w.requests p)) limit_of_requests) states.Ready (states.AtLimit limits.Requests) refl refl
+calls_on w p (wanted.accepts place from) = not_ended (is_some (first_offer p (w.requests from))) states.Ready (states.WaitsOpen from) refl refl
+calls_on w p (wanted.takes e place) = not_ended (is_some (next_for w.sessions e)) states.Ready (states.Waits e) refl refl
+calls_on w p (wanted.delegates c e) = not_ended (nat_lt (end_at w.sessions e).hops 100) states.Ready (states.AtLimit (limits.Hops e)) refl refl
 
-holds_on : (w : World) (e : EndId) (steps : ℕ) (want : Want Place) → has_ended (state_holding w e steps want) ≡ false
-holds_on w e steps wanted.ended = refl
-holds_on w e steps wanted.local = not_ended (nat_lt steps 10000) (state_calling w wanted.local) (states.AtLimit limits.Steps) (calls_on w wanted.local) refl
-holds_on w e steps (wanted.sends f m) = not_ended (nat_lt steps 10000) (state_calling w (wanted.sends f m)) (states.AtLimit limits.Steps) (calls_on w (wanted.sends f m)) refl
-holds_on w e steps (wanted.closes f) = not_ended (nat_lt steps 10000) (state_calling w (wanted.closes f)) (states.AtLimit limits.Steps) (calls_on w (wanted.closes f)) refl
-holds_on w e steps (wanted.requests place to) = not_ended (nat_lt steps 10000) (state_calling w (wanted.requests place to)) (states.AtLimit limits.Steps) (calls_on w (wanted.requests place to)) refl
-holds_on w e steps (wanted.accepts place from) = not_ended (nat_lt steps 10000) (state_calling w (wanted.accepts place from)) (states.AtLimit limits.Steps) (calls_on w (wanted.accepts place from)) refl
-holds_on w e steps (wanted.takes f place) = not_ended (nat_lt steps 10000) (state_calling w (wanted.takes f place)) (states.AtLimit limits.Steps) (calls_on w (wanted.takes f place)) refl
-holds_on w e steps (wanted.delegates c f) = not_ended (nat_lt steps 10000) (state_calling w (wanted.delegates c f)) (states.AtLimit limits.Steps) (calls_on w (wanted.delegates c f)) refl
+holds_on : (w : World) (p : ℕ) (e : EndId) (steps : ℕ) (want : Want Place) → has_ended (state_holding w p e steps want) ≡ false
+holds_on w p e steps wanted.ended = refl
+holds_on w p e steps wanted.local = not_ended (nat_lt steps 10000) (state_calling w p wanted.local) (states.AtLimit limits.Steps) (calls_on w p wanted.local) refl
+holds_on w p e steps (wanted.sends f m) = not_ended (nat_lt steps 10000) (state_calling w p (wanted.sends f m)) (states.AtLimit limits.Steps) (calls_on w p (wanted.sends f m)) refl
+holds_on w p e steps (wanted.closes f) = not_ended (nat_lt steps 10000) (state_calling w p (wanted.closes f)) (states.AtLimit limits.Steps) (calls_on w p (wanted.closes f)) refl
+holds_on w p e steps (wanted.requests place to) = not_ended (nat_lt steps 10000) (state_calling w p (wanted.requests place to)) (states.AtLimit limits.Steps) (calls_on w p (wanted.requests place to)) refl
+holds_on w p e steps (wanted.accepts place from) = not_ended (nat_lt steps 10000) (state_calling w p (wanted.accepts place from)) (states.AtLimit limits.Steps) (calls_on w p (wanted.accepts place from)) refl
+holds_on w p e steps (wanted.takes f place) = not_ended (nat_lt steps 10000) (state_calling w p (wanted.takes f place)) (states.AtLimit limits.Steps) (calls_on w p (wanted.takes f place)) refl
+holds_on w p e steps (wanted.delegates c f) = not_ended (nat_lt steps 10000) (state_calling w p (wanted.delegates c f)) (states.AtLimit limits.Steps) (calls_on w p (wanted.delegates c f)) refl
 
-ended_open : (w : World) (steps : ℕ) (want : Want Place) (o : Option EndId) → has_ended (state_by_open w steps want o) ≡ true → o ≡ None
-ended_open w steps want None h = refl
-ended_open w steps want (Some e) h = let clash : false ≡ true = sym (holds_on w e steps want) ∙ h in absurd (cc clash)
+ended_open : (w : World) (p steps : ℕ) (want : Want Place) (o : Option EndId) → has_ended (state_by_open w p steps want o) ≡ true → o ≡ None
+ended_open w p steps want None h = refl
+ended_open w p steps want (Some e) h = let clash : false ≡ true = sym (holds_on w p e steps want) ∙ h in absurd (cc clash)
 
-open_ended : (w : World) (steps : ℕ) (want : Want Place) (o : Option EndId) → o ≡ None → has_ended (state_by_open w steps want o) ≡ true
-open_ended w steps want None h = refl
-open_ended w steps want (Some e) h = cc
+open_ended : (w : World) (p steps : ℕ) (want : Want Place) (o : Option EndId) → o ≡ None → has_ended (state_by_open w p steps want o) ≡ true
+open_ended w p steps want None h = refl
+open_ended w p steps want (Some e) h = cc
 
 -- ---- all of them
 
@@ -145,18 +147,18 @@ module _ (file : FileAt) (n : ℕ) (t : SeatsWorld) (i : IsSeats file n t) where
       let parts = and_parts (has_ended (player_state w p g (seat_of t.seats p))) (list_all has_ended (seats_states_from t (p + 1) gs)) h in
       and_from (has_ended (state_of_program w p g)) (list_all has_ended (states_from w (p + 1) gs)) (file_ended p g (seat_of t.seats p) (here_idle p g gs idle) parts.0) (files_ended (p + 1) gs (later_idle p g gs idle) parts.1)
 
-  seat_ended : (p : ℕ) (gs : List Program) (k : ℕ) (g : Program) (s : SeatedAt) → slice_get gs k ≡ Some g → seat_of t.seats (p + k) ≡ Some s → list_all has_ended (seats_states_from t p gs) ≡ true → has_ended (state_of_seat w s) ≡ true
+  seat_ended : (p : ℕ) (gs : List Program) (k : ℕ) (g : Program) (s : SeatedAt) → slice_get gs k ≡ Some g → seat_of t.seats (p + k) ≡ Some s → list_all has_ended (seats_states_from t p gs) ≡ true → has_ended (state_of_seat w (p + k) s) ≡ true
   seat_ended p [] k g s at there h = absurd (cc at)
   seat_ended p (x ∷ gs) zero g s at there h =
       let parts = and_parts (has_ended (player_state w p x (seat_of t.seats p))) (list_all has_ended (seats_states_from t (p + 1) gs)) h in
       let same : p ≡ p + 0 = omega arith in
-      sym (ap (λ (o : Option SeatedAt). has_ended (player_state w p x o)) (ap (seat_of t.seats) same ∙ there)) ∙ parts.0
+      sym (ap (λ (k : ℕ). has_ended (state_of_seat w k s)) same) ∙ sym (ap (λ (o : Option SeatedAt). has_ended (player_state w p x o)) (ap (seat_of t.seats) same ∙ there)) ∙ parts.0
   seat_ended p (x ∷ gs) (suc k) g s at there h =
       let parts = and_parts (has_ended (player_state w p x (seat_of t.seats p))) (list_all has_ended (seats_states_from t (p + 1) gs)) h in
       let same : p + 1 + k ≡ p + suc k = omega arith in
-      seat_ended (p + 1) gs k g s at (ap (seat_of t.seats) same ∙ there) parts.1
+      sym (ap (λ (j : ℕ). has_ended (state_of_seat w j s)) same) ∙ seat_ended (p + 1) gs k g s at (ap (seat_of t.seats) same ∙ there) parts.1
 
-  seats_ended : (p : ℕ) (gs : List Program) → ((q : ℕ) (s : SeatedAt) → seat_of t.seats q ≡ Some s → has_ended (state_of_seat w s) ≡ true) → list_all has_ended (states_from w p gs) ≡ true → list_all has_ended (seats_states_from t p gs) ≡ true
+  seats_ended : (p : ℕ) (gs : List Program) → ((q : ℕ) (s : SeatedAt) → seat_of t.seats q ≡ Some s → has_ended (state_of_seat w q s) ≡ true) → list_all has_ended (states_from w p gs) ≡ true → list_all has_ended (seats_states_from t p gs) ≡ true
   seats_ended p [] codes h = refl
   seats_ended p (g ∷ gs) codes h =
       let parts = and_parts (has_ended (state_of_program w p g)) (list_all has_ended (states_from w (p + 1) gs)) h in
@@ -173,13 +175,13 @@ module _ (file : FileAt) (n : ℕ) (t : SeatsWorld) (i : IsSeats file n t) where
         others = parts_done (states_of w) (list_all is_accepted (opened_in w)) (files_ended 0 w.parties all_idle parts.0) parts.1;
         codes = λ q s at.
             let same : 0 + q ≡ q = omega arith in
-            let ended = seat_ended 0 w.parties q (no_program file) s (i.idle q s at) (ap (seat_of t.seats) same ∙ at) parts.0 in
-            λ e place held. none_open s.ends (ended_open w s.steps (seated_want s) (first_open s.ends) ended) e place held;
+            let ended = sym (ap (λ (k : ℕ). has_ended (state_of_seat w k s)) same) ∙ seat_ended 0 w.parties q (no_program file) s (i.idle q s at) (ap (seat_of t.seats) same ∙ at) parts.0 in
+            λ e place held. none_open s.ends (ended_open w q s.steps (seated_want s) (first_open s.ends) ended) e place held;
       }
 
   pub all_done_is_done : IsAllDone t → seats_verdict t ≡ verdicts.Done
   all_done_is_done over =
       let parts = done_parts (states_of w) (list_all is_accepted (opened_in w)) over.others in
-      let codes : (q : ℕ) (s : SeatedAt) → seat_of t.seats q ≡ Some s → has_ended (state_of_seat w s) ≡ true = λ q s at.
-      open_ended w s.steps (seated_want s) (first_open s.ends) (open_none s.ends (λ e. omega (arith, i.once e, one_holds t.seats q s at e)) (over.codes q s at)) in
+      let codes : (q : ℕ) (s : SeatedAt) → seat_of t.seats q ≡ Some s → has_ended (state_of_seat w q s) ≡ true = λ q s at.
+      open_ended w q s.steps (seated_want s) (first_open s.ends) (open_none s.ends (λ e. omega (arith, i.once e, one_holds t.seats q s at e)) (over.codes q s at)) in
       parts_done (seats_states t) (list_all is_accepted (opened_in w)) (seats_ended 0 w.parties codes parts.0) parts.1

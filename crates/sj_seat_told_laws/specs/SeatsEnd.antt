@@ -26,7 +26,8 @@ use Rattle.sj_seat_laws.specs.SeatsHeadline.{IsSeatsHeadline}
 use Rattle.sj_seat_laws.specs.SeatsStart.{Callers}
 use Rattle.sj_seat_laws.specs.SeatsWorld.{SeatsWorld, player_by, seat_of}
 use Rattle.sj_seat_told_laws.specs.SeatsHistory.{acts_of}
-use Rattle.sj_seat_told_laws.specs.SeatsStands.{AreSeatsStands, IsStandOf, player_state}
+use Rattle.sj_seat_told_laws.specs.SeatsStands.{AreSeatsStands, player_state}
+use Rattle.sj_seat_told_laws.specs.StillSeats.{IsStandOf}
 
 -- the end is Held there, at that place
 abbrev pub IsHeldAt : NodeAt Place Player → EndId → Place → Type 0

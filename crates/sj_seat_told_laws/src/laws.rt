@@ -37,9 +37,10 @@ ghost use Rattle.sj_seat_laws.specs.SeatedPlay.{Player, seated_play};
 ghost use Rattle.sj_seat_laws.specs.SeatsHeadline.{IsAllDone};
 ghost use Rattle.sj_seat_laws.specs.SeatsStart.{Callers, IsSeatsRun, seats_start};
 ghost use Rattle.sj_seat_laws.specs.SeatsWorld.{SeatsWorld, seat_of};
+ghost use Rattle.sj_seat_told_laws.specs.FirstOpen.{IsFirstOpen, first_open};
 ghost use Rattle.sj_seat_told_laws.specs.SeatsEnd.{IsSeatsEnd};
 ghost use Rattle.sj_seat_told_laws.specs.SeatsHistory.{IsSeatsHistory, acts_of};
-ghost use Rattle.sj_seat_told_laws.specs.SeatsStands.{AreSeatsStands, IsFirstOpen, first_open, seats_states, seats_verdict};
+ghost use Rattle.sj_seat_told_laws.specs.SeatsStands.{AreSeatsStands, seats_states, seats_verdict};
 ghost use Rattle.sj_seat_told_laws.specs.SeatsTranscript.{seats_transcript};
 ghost use Rattle.sj_seat_told_laws.specs.StandSamples.{both_text, gone, gone_text};
 
