@@ -146,7 +146,7 @@ module _ (p : ℕ) where
   pub request_tells : (sess to : ℕ) (f g : EndId) (place other : Place) → Tells p (Request sess to) ((f, begins place) ∷ (g, begins other) ∷ [])
   request_tells sess to f g place other = record { sent = λ e. both e; taken = λ e. both e; count = refl }
     where
-      both : (e : EndId) → ◌≡◌ {A = List Passed} [] (cond (is_end e f) [] [] ++ cond (is_end e g) [] [] ++ [])
+      both : (e : EndId) → ◌≡◌ {A = List Passed} [] (cond (is_end e f) [] [] ++ (cond (is_end e g) [] [] ++ []))
       both e = sym (skip (is_end e f) (cond (is_end e g) [] [] ++ []) ∙ skip (is_end e g) [])
 
   pub accept_tells : (sess from : ℕ) (f : EndId) (place : Place) → Tells p (Accept sess from) ((f, begins place) ∷ [])

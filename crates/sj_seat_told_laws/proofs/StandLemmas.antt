@@ -44,7 +44,6 @@ module _ (p : ℕ) (w : World) where
           → cond b states.Ready (states.AtLimit (limits.Hops e)) ≡ states.AtLimit (limits.Hops e)
       by true k = cc
       by false k = refl
-
   calling (wanted.requests place to) h = by (nat_lt (length (w.requests p)) limit_of_requests) h
     where
       by : (b : Bool) → ◌≡◌ {A = Option Doing} (cond b (Some (requesting (opened_number p (length (w.requests p))) place to)) None) None → cond b states.Ready (states.AtLimit limits.Requests) ≡ states.AtLimit limits.Requests
