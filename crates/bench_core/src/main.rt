@@ -13,7 +13,7 @@ use sj_party::parse_file;
 use std::alloc::Global;
 use std::process::ExitCode;
 
-/// How many events a drain has from the start of the file on, where that is accepted.
+// How many events a drain has from the start of the file on, where that is accepted.
 fn events_in(alloc: Global, bytes: &[u8]) -> Option<usize>
     requires { length bytes.now ≤ file_limit }
     ensures { IfSome result (HasEvents bytes.now) }

@@ -12,7 +12,7 @@ use sj_party::{ParseRefusal, parse_file};
 use std::alloc::Global;
 use std::process::ExitCode;
 
-/// How many protocols, parties and connections the file has.
+// How many protocols, parties and connections the file has.
 fn parts_in(alloc: Global, bytes: &[u8]) -> Result<(usize, usize, usize), ParseRefusal>
     requires { length bytes.now ≤ file_limit }
     ensures { IfOk result (λ n. (f : FileAt) × IsFile bytes.now f × (n.0 ≡ length f.protocols)

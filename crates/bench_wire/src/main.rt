@@ -7,7 +7,7 @@ use sj_wire::{Decoder, WireRefusal};
 use std::alloc::Global;
 use std::process::ExitCode;
 
-/// Feeds a piece, and answers how many frames it completes: each has a byte of it.
+// Feeds a piece, and answers how many frames it completes: each has a byte of it.
 fn completed(decoder: &mut Decoder, piece: &[u8]) -> Result<u64, WireRefusal> {
     decoder.feed(piece)?;
     let mut frames = 0u64;
@@ -20,7 +20,7 @@ fn completed(decoder: &mut Decoder, piece: &[u8]) -> Result<u64, WireRefusal> {
     Ok(frames)
 }
 
-/// How many frames the source has. None is a read that failed, or a stream that is refused.
+// How many frames the source has. None is a read that failed, or a stream that is refused.
 fn frames_of<S: Source>(alloc: Global, src: &mut S) -> Option<u64> {
     let mut decoder = Decoder::new(alloc);
     let mut buf = [0u8; 4096];

@@ -38,8 +38,8 @@ impl Gate for Turns {
     }
 }
 
-/// How many events the parties had, how many there are after the drain, and how often the gate saw an
-/// earlier party after a later one.
+// How many events the parties had, how many there are after the drain, and how often the gate saw an
+// earlier party after a later one.
 fn events_on<R: Threads + Sync>(
     rt: &R,
     alloc: Global,
@@ -61,7 +61,7 @@ fn events_on<R: Threads + Sync>(
     Some((own, world.history().len(), gate.back.load(Ordering::SeqCst)))
 }
 
-/// The accepted file that the bytes are.
+// The accepted file that the bytes are.
 fn accepted_in(alloc: Global, bytes: &[u8]) -> Option<Accepted>
     requires { length bytes.now ≤ file_limit }
 {
@@ -74,7 +74,7 @@ fn accepted_in(alloc: Global, bytes: &[u8]) -> Option<Accepted>
     }
 }
 
-/// The number that is the first word.
+// The number that is the first word.
 fn workers_of<E: Env + AllocGlobal>(caller: &E) -> Option<u16> {
     let Ok(args) = env::args(caller) else {
         return None;

@@ -27,14 +27,14 @@ pub(crate) fn report<R: Threads + Sync>(
     Ok(told)
 }
 
-/// The lines with the newline of the last one.
+// The lines with the newline of the last one.
 fn lined(alloc: Global, lines: &str) -> Result<Vec<u8>, NoMemory> {
     let mut bytes = Vec::from_slice(alloc, lines.as_bytes())?;
     bytes.push(b'\n')?;
     Ok(bytes)
 }
 
-/// The words before `#`.
+// The words before `#`.
 fn words_in(alloc: Global, head: &str) -> Result<Vec<String>, NoMemory> {
     let mut words = Vec::new(alloc);
     for word in head.split_whitespace() {
@@ -46,8 +46,8 @@ fn words_in(alloc: Global, head: &str) -> Result<Vec<String>, NoMemory> {
     Ok(words)
 }
 
-/// The case's first line, and what comes over rings; and what comes over lists, where that is
-/// something else.
+// The case's first line, and what comes over rings; and what comes over lists, where that is
+// something else.
 fn put_case<R: Threads + Sync>(
     rt: &R,
     alloc: Global,

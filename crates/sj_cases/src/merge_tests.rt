@@ -27,7 +27,7 @@ fn line(party: u16, clock: u64) -> Line
     }
 }
 
-/// The parties and clocks of the lines, by which entries of these tests differ.
+// The parties and clocks of the lines, by which entries of these tests differ.
 fn clocks(alloc: Global, lines: &[Line]) -> Result<Vec<(u16, u64)>, NoMemory> {
     let pairs: Vec<(u16, u64)> = lines
         .iter()

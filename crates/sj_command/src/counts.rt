@@ -10,8 +10,8 @@ const MOST_MESSAGES: u32 = 1000;
 /// The highest number of a party.
 const LAST_PARTY: u32 = 15;
 
-/// The looks where no word says how many.
-const USUAL_LOOKS: u32 = 1000;
+/// The looks in vain after which a party stops, where no word says how many.
+pub const USUAL_LOOKS: u32 = 1000;
 
 /// The most looks.
 const MOST_LOOKS: u32 = 1_000_000;

@@ -3,9 +3,11 @@
 
 mod counts;
 mod line;
+mod parts;
 mod readers;
 mod tasks;
 
+pub use counts::USUAL_LOOKS;
 pub use readers::task_in;
 pub use tasks::Task;
 

@@ -1,10 +1,12 @@
 //! What the words of a call ask for.
-ghost use Rattle.std.specs.Prelude.{◌≡◌, Bool, true, false, map, string_bytes, Some, None, Ok, option_map, codes, IfOk, IfSome};
-ghost use Rattle.sj_command.specs.Task.{Asks, IsUsage, Means, alone, flag_text, line_at, line_with};
+ghost use Rattle.std.specs.Prelude.{◌≡◌, Bool, map, string_bytes, Some, None, Ok, option_map, codes, IfOk, IfSome};
+ghost use Rattle.sj_command.specs.Task.{Asks, IsUsage, Means, alone, flag_text};
+ghost use Rattle.sj_command.specs.Views.{line_of};
 ghost use Rattle.sj_command.specs.declared.tasks.Task.{Task as Asked};
 
 use crate::counts::{count_in, looks_in, party_in, workers_in};
 use crate::line::matches_in;
+use crate::parts::Line;
 use crate::tasks::Task;
 use sj_base::NoMemory;
 use std::alloc::Global;
@@ -17,116 +19,72 @@ pub fn task_in(alloc: Global, words: &[String]) -> Result<Option<Task>, NoMemory
     let Some(matches) = matches_in(alloc, words)? else {
         return Ok(None);
     };
-    let command = matches.get_str("command");
-    let number = matches.get_str("number");
-    let log = matches.get_str("log");
-    let looks = matches.get_str("looks");
-    let workers = matches.get_str("workers");
-    let forward = matches.get_str("forward");
-    Ok(task_of(command, number, log, looks, workers, forward))
+    let line = Line {
+        command: matches.get_str("command"),
+        number: matches.get_str("number"),
+        log: matches.get_str("log"),
+        looks: matches.get_str("looks"),
+        workers: matches.get_str("workers"),
+        forward: matches.get_str("forward"),
+    };
+    Ok(task_of(line))
 }
 
 // The task of a line.
-fn task_of(
-    command: Option<&str>,
-    number: Option<&str>,
-    log: Option<&str>,
-    looks: Option<&str>,
-    workers: Option<&str>,
-    forward: Option<&str>,
-) -> Option<Task>
-    ensures some { IfSome result (Means (line_with
-        (option_map (λ s. s.now) command.entry)
-        (option_map (λ s. s.now) number.entry) (option_map (λ s. s.now) log.entry)
-        (option_map (λ s. s.now) looks.entry) (option_map (λ s. s.now) workers.entry)
-        (option_map (λ s. s.now) forward.entry))) }
-    ensures none { result ≡ None → (t : Asked) → Means (line_with
-        (option_map (λ s. s.now) command.entry)
-        (option_map (λ s. s.now) number.entry) (option_map (λ s. s.now) log.entry)
-        (option_map (λ s. s.now) looks.entry) (option_map (λ s. s.now) workers.entry)
-        (option_map (λ s. s.now) forward.entry)) t → ⊥ }
+fn task_of(line: Line<'_>) -> Option<Task>
+    ensures some { IfSome result (Means (line_of line.entry)) }
+    ensures none { result ≡ None → (t : Asked) → Means (line_of line.entry) t → ⊥ }
 {
-    match flag_in(forward) {
-        Some(false) => unforwarded(command, number, log, looks, workers),
-        Some(true) => forwarded(command, number, log, looks, workers),
+    match flag_in(line.forward) {
+        Some(false) => unforwarded(line),
+        Some(true) => forwarded(line),
         None => None,
     }
 }
 
 // The task of a line that asks for forwarding: of `run` alone, without anything else.
-fn forwarded(
-    command: Option<&str>,
-    number: Option<&str>,
-    log: Option<&str>,
-    looks: Option<&str>,
-    workers: Option<&str>,
-) -> Option<Task>
-    ensures some { IfSome result (Means (line_at true
-        (option_map (λ s. s.now) command.entry)
-        (option_map (λ s. s.now) number.entry) (option_map (λ s. s.now) log.entry)
-        (option_map (λ s. s.now) looks.entry) (option_map (λ s. s.now) workers.entry))) }
-    ensures none { result ≡ None → (t : Asked) → Means (line_at true
-        (option_map (λ s. s.now) command.entry)
-        (option_map (λ s. s.now) number.entry) (option_map (λ s. s.now) log.entry)
-        (option_map (λ s. s.now) looks.entry) (option_map (λ s. s.now) workers.entry)) t → ⊥ }
+fn forwarded(line: Line<'_>) -> Option<Task>
+    requires forward { (line_of line).forward ≡ Some (codes "true") }
+    ensures some { IfSome result (Means (line_of line.entry)) }
+    ensures none { result ≡ None → (t : Asked) → Means (line_of line.entry) t → ⊥ }
 {
-    let name = command?;
+    let name = line.command?;
     if name.as_bytes() != b"run".as_slice() {
         return None;
     }
-    match (number, flag_in(log), looks, workers) {
+    match (line.number, flag_in(line.log), line.looks, line.workers) {
         (None, Some(false), None, None) => Some(Task::Forward),
         _ => None,
     }
 }
 
 // The task of a line that asks for no forwarding.
-fn unforwarded(
-    command: Option<&str>,
-    number: Option<&str>,
-    log: Option<&str>,
-    looks: Option<&str>,
-    workers: Option<&str>,
-) -> Option<Task>
-    ensures some { IfSome result (Means (line_at false
-        (option_map (λ s. s.now) command.entry)
-        (option_map (λ s. s.now) number.entry) (option_map (λ s. s.now) log.entry)
-        (option_map (λ s. s.now) looks.entry) (option_map (λ s. s.now) workers.entry))) }
-    ensures none { result ≡ None → (t : Asked) → Means (line_at false
-        (option_map (λ s. s.now) command.entry)
-        (option_map (λ s. s.now) number.entry) (option_map (λ s. s.now) log.entry)
-        (option_map (λ s. s.now) looks.entry) (option_map (λ s. s.now) workers.entry)) t → ⊥ }
+fn unforwarded(line: Line<'_>) -> Option<Task>
+    requires forward { (line_of line).forward ≡ Some (codes "false") }
+    ensures some { IfSome result (Means (line_of line.entry)) }
+    ensures none { result ≡ None → (t : Asked) → Means (line_of line.entry) t → ⊥ }
 {
-    let name = command?;
+    let name = line.command?;
     if name.as_bytes() == b"run".as_slice() {
-        return run_in(number, log, looks, workers);
+        return run_in(line);
     }
     if name.as_bytes() == b"replay".as_slice() {
-        return replay_in(number, log, looks, workers);
+        return replay_in(line);
     }
-    match (flag_in(log), looks, workers) {
-        (Some(false), None, None) => task_named(name, number),
+    match (flag_in(line.log), line.looks, line.workers) {
+        (Some(false), None, None) => task_named(name, line.number),
         _ => None,
     }
 }
 
 // `run` with that number, that flag and those options.
-fn run_in(
-    number: Option<&str>,
-    log: Option<&str>,
-    looks: Option<&str>,
-    workers: Option<&str>,
-) -> Option<Task>
-    ensures some { IfSome result (Means (line_at false
-        (Some (codes "run"))
-        (option_map (λ s. s.now) number.entry) (option_map (λ s. s.now) log.entry)
-        (option_map (λ s. s.now) looks.entry) (option_map (λ s. s.now) workers.entry))) }
-    ensures none { result ≡ None → (t : Asked) → Means (line_at false
-        (Some (codes "run"))
-        (option_map (λ s. s.now) number.entry) (option_map (λ s. s.now) log.entry)
-        (option_map (λ s. s.now) looks.entry) (option_map (λ s. s.now) workers.entry)) t → ⊥ }
+fn run_in(line: Line<'_>) -> Option<Task>
+    requires forward { (line_of line).forward ≡ Some (codes "false") }
+    requires name { (line_of line).command ≡ Some (codes "run") }
+    ensures some { IfSome result (Means (line_of line.entry)) }
+    ensures none { result ≡ None → (t : Asked) → Means (line_of line.entry) t → ⊥ }
 {
-    match (number, flag_in(log), looks_in(looks), workers_in(workers)) {
+    match (line.number, flag_in(line.log), looks_in(line.looks), workers_in(line.workers)) {
         (None, Some(log), Some(looks), Some(workers)) => {
             Some(Task::Run {
                 log,
@@ -139,22 +97,13 @@ fn run_in(
 }
 
 // `replay` with that number, that flag and those options.
-fn replay_in(
-    number: Option<&str>,
-    log: Option<&str>,
-    looks: Option<&str>,
-    workers: Option<&str>,
-) -> Option<Task>
-    ensures some { IfSome result (Means (line_at false
-        (Some (codes "replay"))
-        (option_map (λ s. s.now) number.entry) (option_map (λ s. s.now) log.entry)
-        (option_map (λ s. s.now) looks.entry) (option_map (λ s. s.now) workers.entry))) }
-    ensures none { result ≡ None → (t : Asked) → Means (line_at false
-        (Some (codes "replay"))
-        (option_map (λ s. s.now) number.entry) (option_map (λ s. s.now) log.entry)
-        (option_map (λ s. s.now) looks.entry) (option_map (λ s. s.now) workers.entry)) t → ⊥ }
+fn replay_in(line: Line<'_>) -> Option<Task>
+    requires forward { (line_of line).forward ≡ Some (codes "false") }
+    requires name { (line_of line).command ≡ Some (codes "replay") }
+    ensures some { IfSome result (Means (line_of line.entry)) }
+    ensures none { result ≡ None → (t : Asked) → Means (line_of line.entry) t → ⊥ }
 {
-    match (number, flag_in(log), looks, workers) {
+    match (line.number, flag_in(line.log), line.looks, line.workers) {
         (None, Some(log), None, None) => Some(Task::Replay { log }),
         _ => None,
     }

@@ -6,6 +6,7 @@ pub mod PlayLemmas
 pub mod DeliverLemmas
 pub mod DrainLemmas
 pub mod DueLemmas
+pub mod EndLemmas
 pub mod FirstLemmas
 pub mod FrontLemmas
 pub mod HaltLemmas

@@ -17,7 +17,7 @@ use sj_end::Event;
 impl NodeWorld {
     ghost use Rattle.sj_core.specs.NodeWorld.{IsReached, StaysIn, file_in, history_in, nodes_in, world_in};
 
-    /// Tries an event. Answers whether it was a step.
+    // Tries an event. Answers whether it was a step.
     fn tries(&mut self, party: u16, event: Event) -> Result<bool, NoMemory>
         requires reached { IsReached self.old }
         requires there { party < length (nodes_in self.old) }
@@ -38,8 +38,8 @@ impl NodeWorld {
         }
     }
 
-    /// Tries a delivery from that party. Answers whether it was a step: an empty lane is seen at
-    /// once, and the sender's outbox gives its memory up, where that is large.
+    // Tries a delivery from that party. Answers whether it was a step: an empty lane is seen at
+    // once, and the sender's outbox gives its memory up, where that is large.
     fn takes(&mut self, party: u16, from: u16) -> Result<bool, NoMemory>
         requires reached { IsReached self.old }
         requires there { party < length (nodes_in self.old) }
@@ -60,7 +60,7 @@ impl NodeWorld {
         self.tries(party, Event::Deliver(from))
     }
 
-    /// The party takes the frames of the lane from that party, until it is empty.
+    // The party takes the frames of the lane from that party, until it is empty.
     fn take_all(&mut self, party: u16, from: u16) -> Result<(), NoMemory>
         requires reached { IsReached self.old }
         requires there { party < length (nodes_in self.old) }
@@ -75,7 +75,7 @@ impl NodeWorld {
         Ok(())
     }
 
-    /// The party acts until it can't.
+    // The party acts until it can't.
     fn act_out(&mut self, party: u16) -> Result<(), NoMemory>
         requires reached { IsReached self.old }
         requires there { party < length (nodes_in self.old) }
@@ -89,7 +89,7 @@ impl NodeWorld {
         Ok(())
     }
 
-    /// The party takes the frames of all lanes to it, one lane after another.
+    // The party takes the frames of all lanes to it, one lane after another.
     fn take_each(&mut self, party: u16) -> Result<(), NoMemory>
         requires reached { IsReached self.old }
         requires there { party < length (nodes_in self.old) }
@@ -107,7 +107,7 @@ impl NodeWorld {
         Ok(())
     }
 
-    /// The party takes all frames to it, and acts until it can't.
+    // The party takes all frames to it, and acts until it can't.
     fn turn(&mut self, party: u16) -> Result<(), NoMemory>
         requires reached { IsReached self.old }
         requires there { party < length (nodes_in self.old) }
@@ -121,7 +121,7 @@ impl NodeWorld {
         self.act_out(party)
     }
 
-    /// Each party takes its turn, in order.
+    // Each party takes its turn, in order.
     fn round(&mut self) -> Result<(), NoMemory>
         requires reached { IsReached self.old }
         ensures ok { OnOk result (GoesBy (IsRound self.old (length (nodes_in self.old))) self.old self.new) }
@@ -150,7 +150,7 @@ impl NodeWorld {
         Ok(())
     }
 
-    /// One round. Answers whether it had an event.
+    // One round. Answers whether it had an event.
     fn round_goes(&mut self) -> Result<bool, NoMemory>
         requires reached { IsReached self.old }
         ensures ok { OnOk result (GoesBy (IsRound self.old (length (nodes_in self.old))) self.old self.new) }

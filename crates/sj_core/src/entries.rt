@@ -13,7 +13,7 @@ use sj_end::{Entry, Event, Line, note_of};
 impl NodeWorld {
     ghost use Rattle.sj_core.specs.NodeWorld.{IsLed, file_in, nodes_in, world_in};
 
-    /// The entry of the delivery of the front frame of the lane from that party.
+    // The entry of the delivery of the front frame of the lane from that party.
     fn arrival(&self, party: u16, from: u16) -> Option<Entry>
         requires led { IsLed self.now }
         requires there { party < length (nodes_in self.now) }
@@ -79,7 +79,7 @@ impl NodeWorld {
         Some(Line { party, entry })
     }
 
-    /// Whether no frame waits for the party and it can't act.
+    // Whether no frame waits for the party and it can't act.
     fn is_idle(&self, party: u16) -> bool
         requires led { IsLed self.now }
         requires there { party < length (nodes_in self.now) }
@@ -98,7 +98,7 @@ impl NodeWorld {
         true
     }
 
-    /// Whether no party has anything to do.
+    // Whether no party has anything to do.
     fn all_idle(&self) -> bool
         requires led { IsLed self.now }
         ensures { IsTrue result ↔ IsQuietAmong (play_of (file_in self.now))

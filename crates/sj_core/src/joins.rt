@@ -10,7 +10,7 @@ use sj_base::NoMemory;
 use sj_end::{Entry, Line};
 use std::alloc::Global;
 
-/// A party's entries as lines.
+// A party's entries as lines.
 fn lines_of(alloc: Global, party: u16, log: &[Entry]) -> Result<Vec<Line>, NoMemory>
     ensures { IfOk result (λ v. v.items ≡ map (line_of party) log.now) }
 {
@@ -40,7 +40,7 @@ pub fn merge_in(
     merge(alloc, so_far, &own)
 }
 
-/// An empty list of lines with room for all entries of the logs.
+// An empty list of lines with room for all entries of the logs.
 fn room_for(alloc: Global, logs: &[Vec<Entry>]) -> Result<Vec<Line>, NoMemory>
     ensures items { IfOk result (λ v. v.items ≡ []) }
     ensures room { IfOk result (λ v. count_given logs.now ≤ vec_capacity v) }
@@ -56,9 +56,9 @@ fn room_for(alloc: Global, logs: &[Vec<Entry>]) -> Result<Vec<Line>, NoMemory>
     Ok(lines)
 }
 
-/// Takes the last entry out of a log. Shrinks the log once an eighth of its capacity is free: n
-/// entries are moved about 8n times at most. None is moved where the system gives back the end of a
-/// block.
+// Takes the last entry out of a log. Shrinks the log once an eighth of its capacity is free: n
+// entries are moved about 8n times at most. None is moved where the system gives back the end of a
+// block.
 fn take_last(log: &mut Vec<Entry>) -> Option<Entry>
     ensures some { IfSome result (λ e. log.old.items ≡ log.new.items ++ e ∷ []) }
     ensures none { IfNone result (log.old.items ≡ []) }

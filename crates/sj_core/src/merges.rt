@@ -8,7 +8,7 @@ use sj_base::NoMemory;
 use sj_end::Line;
 use std::alloc::Global;
 
-/// Whether the line stands before the other: by clock, then by party.
+// Whether the line stands before the other: by clock, then by party.
 fn comes_before(line: &Line, other: &Line) -> bool
     ensures { IsTrue result ↔ IsBefore (line_at line.now) (line_at other.now) }
 {

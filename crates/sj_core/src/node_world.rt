@@ -24,7 +24,7 @@ pub struct NodeWorld {
     pub history: Vec<Line>,
 }
 
-/// The act of a party that halts is illegal. An act is never unfit.
+// The act of a party that halts is illegal. An act is never unfit.
 fn refusal_of(halt: Halt) -> StepRefusal
     requires { halt ≡ Halt.Unfit → ⊥ }
     ensures { (result ≡ StepRefusal.NoStep) ↔ IsStop halt }
@@ -36,7 +36,7 @@ fn refusal_of(halt: Halt) -> StepRefusal
     }
 }
 
-/// A frame that is in a lane is never unfit.
+// A frame that is in a lane is never unfit.
 fn without_memory(refusal: DeliverRefusal) -> StepRefusal
     requires { refusal ≡ DeliverRefusal.Unfit → ⊥ }
     ensures { result ≡ StepRefusal.NoMemory }
@@ -47,7 +47,7 @@ fn without_memory(refusal: DeliverRefusal) -> StepRefusal
     }
 }
 
-/// What the node noted last, taken out of its log: the history keeps it.
+// What the node noted last, taken out of its log: the history keeps it.
 fn noted(node: &mut Node) -> Entry
     requires { 0 < length (log_of node.old) }
     ensures entry { log_of node.old ≡ log_of node.new ++ result ∷ [] }
@@ -62,7 +62,7 @@ fn noted(node: &mut Node) -> Entry
 impl NodeWorld {
     ghost use Rattle.sj_core.specs.NodeWorld.{IsLed, IsReached, StaysIn, Steps, file_in, nodes_in, world_in};
 
-    /// The party's next act.
+    // The party's next act.
     fn act(&mut self, party: u16) -> Result<Entry, StepRefusal>
         requires led { IsLed self.old }
         requires there { party < length (nodes_in self.old) }
@@ -80,7 +80,7 @@ impl NodeWorld {
         }
     }
 
-    /// The front frame of the lane from that party is delivered to the party.
+    // The front frame of the lane from that party is delivered to the party.
     fn deliver(&mut self, party: u16, from: u16) -> Result<Entry, StepRefusal>
         requires led { IsLed self.old }
         requires there { party < length (nodes_in self.old) }
@@ -149,7 +149,7 @@ impl NodeWorld {
         }
     }
 
-    /// Why an event isn't done for which the history has no room.
+    // Why an event isn't done for which the history has no room.
     fn without_room(&self, party: u16, event: Event) -> StepRefusal
         requires led { IsLed self.now }
         requires there { party < length (nodes_in self.now) }

@@ -25,7 +25,7 @@ pub fn is_the_line(due: &Option<Line>, line: &Line) -> bool
 impl NodeWorld {
     ghost use Rattle.sj_core.specs.NodeWorld.{IsLed, IsReached, Redoes, StaysIn, Steps, file_in, history_in, nodes_in, world_in};
 
-    /// Does the line of that number, if it is the one that is due. It isn't listed.
+    // Does the line of that number, if it is the one that is due. It isn't listed.
     fn redo(&mut self, number: u64, line: &Line) -> Result<(), ReplayRefusal>
         requires led { IsLed self.old }
         ensures ok { OnOk result (Redoes self.old (line_at line.now) self.new) }
@@ -49,7 +49,7 @@ impl NodeWorld {
         }
     }
 
-    /// Does the line of that number, if it is the one that is due, and lists it.
+    // Does the line of that number, if it is the one that is due, and lists it.
     fn follow(&mut self, number: u64, line: &Line) -> Result<(), ReplayRefusal>
         requires reached { IsReached self.old }
         ensures ok { OnOk result (Steps self.old (line_at line.now) self.new) }
@@ -88,8 +88,8 @@ impl NodeWorld {
         Ok(())
     }
 
-    /// Does the event, and answers the line that it made; none where it is illegal. It isn't
-    /// listed.
+    // Does the event, and answers the line that it made; none where it is illegal. It isn't
+    // listed.
     fn made_line(&mut self, party: u16, event: Event) -> Result<Option<Line>, NoMemory>
         requires led { IsLed self.old }
         ensures found { IfOk result (λ made. due (play_of (file_in self.old)) max (world_in self.old) party (event_at event)
@@ -108,9 +108,9 @@ impl NodeWorld {
         }
     }
 
-    /// Does the event of the line of that number, and then looks whether it made that line: it
-    /// isn't asked before what is due. It isn't listed. A world in which another line was made is
-    /// given up.
+    // Does the event of the line of that number, and then looks whether it made that line: it
+    // isn't asked before what is due. It isn't listed. A world in which another line was made is
+    // given up.
     #[tactic(auto, using(crate::proofs::RedoLemmas::redoes))]
     fn do_again(&mut self, number: u64, line: &Line) -> Result<(), ReplayRefusal>
         requires led { IsLed self.old }

@@ -37,8 +37,8 @@ pub fn first_nodes(alloc: Global, accepted: &Accepted) -> Result<Vec<Node>, NoMe
 impl NodeWorld {
     ghost use Rattle.sj_core.specs.NodeWorld.{IsReached, file_in, history_in, world_in};
 
-    /// The parties of the file before any event, with nothing in their lanes. It has the file in
-    /// common with all who keep it.
+    // The parties of the file before any event, with nothing in their lanes. It has the file in
+    // common with all who keep it.
     fn begin(alloc: Global, accepted: &Accepted) -> Result<NodeWorld, NoMemory>
         ensures reached { IfOk result (λ c. IsReached c) }
         ensures file { IfOk result (λ c. file_in c ≡ without_words (file_of (held accepted.now))) }
@@ -63,7 +63,7 @@ impl NodeWorld {
     ghost use Rattle.sj_rules.specs.History.{IsHistory};
     ghost use Rattle.std.specs.Prelude.{max};
 
-    /// These nodes, and that history.
+    // These nodes, and that history.
     fn assembled(
         alloc: Global,
         accepted: &Accepted,

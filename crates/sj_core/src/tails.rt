@@ -38,7 +38,7 @@ pub(crate) fn clocks_of(alloc: Global, logs: &[Vec<Entry>]) -> Result<Vec<Option
     Ok(clocks)
 }
 
-/// The later of that tail and the one of a later party's log, if it has one.
+// The later of that tail and the one of a later party's log, if it has one.
 fn later(latest: Option<Tail>, party: u16, clock: Option<u64>) -> Option<Tail>
     ensures { result ≡ later_at latest party clock }
 {

@@ -78,7 +78,7 @@ fn stands_of(alloc: Global, nodes: &[Node]) -> Result<Vec<Stand>, NoMemory>
     Ok(stands)
 }
 
-/// How the party of a node stands that can't act.
+// How the party of a node stands that can't act.
 fn stand_of(node: &Node) -> Stand
     ensures { result ≡ stand_seen node.now }
 {
@@ -97,7 +97,7 @@ fn still_state(steps: u32, want: Want) -> State
     }
 }
 
-/// A step that no other party can hinder is never refused.
+// A step that no other party can hinder is never refused.
 fn still_by(want: Want) -> State
     ensures { result ≡ still_by want }
 {

@@ -7,12 +7,9 @@ ghost use Rattle.sj_tool.specs.Calls.{call};
 use crate::words::Caller;
 use sj_base::{NoMemory, Sink, Source};
 use sj_lane::Links;
-use sj_tool::sj;
+use sj_tool::{NO_MEMORY, sj};
 use sj_work::Gate;
 use std::thread::Threads;
-
-/// The status where there is no memory for the words.
-const NO_MEMORY: u8 = 11;
 
 /// Does what the words after the program's name say, and answers the status of the top call.
 ///

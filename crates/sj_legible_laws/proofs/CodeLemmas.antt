@@ -15,7 +15,7 @@ use Rattle.sj_grammar.specs.Tables.{Spelling, IsNamed, IsLiteral}
 use Rattle.sj_grammar.specs.Positions.{Pieces, Piece, plain, all_plain}
 use Rattle.sj_grammar.specs.Expressions.{Level, Spelt, IsExpression}
 use Rattle.sj_grammar.specs.Expressions as level
-use Rattle.sj_grammar.specs.Statements.{IsCode, IsStatement, IsBlock, AreArms, braced}
+use Rattle.sj_grammar.specs.Statements.{IsCode, IsStatement, IsBlock, AreArms}
 use Rattle.sj_grammar.specs.Statements as code
 use Rattle.sj_log.specs.Legible.{IsInt, HasWord, HasText}
 use Rattle.sj_legible_laws.proofs.CodeParts.{TermTold, CodeTold, DeedTold, ArmsTold}

@@ -1,5 +1,5 @@
 //! Names and texts, each from a word of a line or from its end.
-ghost use Rattle.std.specs.Prelude.{◌≡◌, ◌≤◌, ◌-◌, ◌==◌, ◌&&◌, IfOk, IfSome, IfNone, true, false, map};
+ghost use Rattle.std.specs.Prelude.{◌≡◌, ◌≤◌, ◌-◌, ◌==◌, IfOk, IfSome, IfNone, true, false, map};
 ghost use Rattle.sj_grammar.specs.Literals.{inner};
 ghost use Rattle.sj_lang.specs.FileAt.{party_named};
 ghost use Rattle.sj_lang.specs.FileView.{file_of, party_of};

@@ -16,7 +16,6 @@ use Rattle.sj_rules.specs.Frames.{FrameAt, IsNoGive}
 use Rattle.sj_rules.specs.History.{IsHistory, IsLog}
 use Rattle.sj_rules.specs.Log.{IsJoined, LineAt, logs_below}
 use Rattle.sj_rules.specs.Mapped.{body_with, frame_with}
-use Rattle.sj_rules.specs.Node.{NodeAt}
 use Rattle.sj_rules.specs.NodeRun.{told_frames}
 use Rattle.sj_rules.specs.Party.{play_of}
 use Rattle.sj_rules.specs.Record.{BodyAt, Carry, Fin, Claim, Signal, Ack, Give, Open}
@@ -33,7 +32,7 @@ use Rattle.sj_lane.specs.Told.{told_frame, told_list}
 use Rattle.sj_lane.proofs.BackLemmas.{slice_get_some as there_is}
 use Rattle.sj_node.specs.declared.node.Node.{Node}
 use Rattle.sj_node.specs.Gives.{HasNoGive}
-use Rattle.sj_node.specs.Node.{log_of, node_at, outbox_of}
+use Rattle.sj_node.specs.Node.{log_of, outbox_of}
 use Rattle.sj_node.specs.Outs.{waiting_in}
 use Rattle.sj_node.specs.Reading.{TakesEntry, outs_of, table_of}
 use Rattle.sj_core.specs.Nodes.{AreSeated, box_or, node_or, world_by}

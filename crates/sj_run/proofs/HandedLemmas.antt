@@ -1,5 +1,5 @@
 -- Lanes and nodes while what waits on the lanes is put before the outboxes.
-use Rattle.std.proofs.Common.{◌≡◌, ◌∙◌, ◌⊎◌, ℕ, suc, ◌+◌, ◌<◌, ◌≤◌, nat_lt, ◌==◌, Bool, true, false, List, [], ◌∷◌, ◌++◌, map, length, Option, Some, None, inl, inr, refl, sym, ap, subst, arith}
+use Rattle.std.proofs.Common.{◌≡◌, ◌∙◌, ℕ, ◌+◌, ◌<◌, ◌≤◌, nat_lt, ◌==◌, Bool, true, false, List, [], ◌∷◌, ◌++◌, map, length, Option, Some, None, inl, inr, refl, sym, ap, subst, arith}
 use Rattle.std.specs.Prelude.{slice_get}
 use Rattle.std.proofs.lemmas.Bool.Decides.{nat_tests}
 use Rattle.sj_lang.specs.Place.{Place}
@@ -9,7 +9,7 @@ use Rattle.sj_rules.specs.Frames.{FrameAt}
 use Rattle.sj_lane.specs.declared.lane.OutLane.{Ghosts as OutLane}
 use Rattle.sj_lane.specs.declared.lane.InLane.{Ghosts as InLane}
 use Rattle.sj_lane.specs.declared.lane.Lanes.{Lanes}
-use Rattle.sj_lane.specs.Square.{AllJoined, HasFault, IsRest, IsSquare, Kept, NoneFell, SameIn, SameLists, SameOut, in_at, out_at, out_in}
+use Rattle.sj_lane.specs.Square.{AllJoined, HasFault, IsRest, IsSquare, Kept, SameIn, SameLists, SameOut, in_at, out_at, out_in}
 use Rattle.sj_lane.proofs.BackLemmas.{square_out}
 use Rattle.sj_lane.proofs.CarryingLemmas.{lists_later, lists_same}
 use Rattle.sj_node.specs.declared.node.Node.{Node}

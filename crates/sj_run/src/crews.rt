@@ -1,5 +1,5 @@
 //! All workers at work.
-ghost use Rattle.std.specs.Prelude.{◌≡◌, ◌≤◌, IfOk, length};
+ghost use Rattle.std.specs.Prelude.{◌≤◌, IfOk, length};
 ghost use Rattle.sj_steal.specs.Runs.{Each2};
 ghost use Rattle.sj_work.specs.Worked.{Worked};
 
@@ -10,7 +10,7 @@ use sj_work::{Gate, Worker, work_all};
 use std::alloc::Global;
 use std::thread::Threads;
 
-/// Each worker after one call, on a thread of its own where one can be had.
+// Each worker after one call, on a thread of its own where one can be had.
 fn at_once<R: Threads + Sync, O: OutLane, I: InLane, G: Gate>(
     rt: &R,
     workers: Vec<Worker<O, I>>,

@@ -1,5 +1,5 @@
 //! What waits on links, put before the outboxes of the nodes.
-ghost use Rattle.std.specs.Prelude.{◌≡◌, ◌≤◌, ◌<◌, ℕ, IfOk, IfSome, true, length};
+ghost use Rattle.std.specs.Prelude.{◌≡◌, ◌≤◌, ◌<◌, IfOk, IfSome, true, length};
 ghost use Rattle.sj_lane.specs.Square.{AllJoined, IsSquare};
 ghost use Rattle.sj_node.specs.Reading.{TakesOut};
 ghost use Rattle.sj_run.specs.Handed.{AreHandedIn, HasTaken, IsHandedIn, LanesStay, WaitsBeside};
@@ -9,8 +9,8 @@ use sj_lane::{Lanes, Links};
 use sj_node::Node;
 use std::alloc::Global;
 
-/// Puts what waits on the link from that party before its node's outbox for the other one. Answers
-/// whether the links hand it over.
+// Puts what waits on the link from that party before its node's outbox for the other one. Answers
+// whether the links hand it over.
 fn hand_link<L: Links>(
     alloc: Global,
     links: &mut L,
@@ -36,8 +36,8 @@ fn hand_link<L: Links>(
     Ok(true)
 }
 
-/// Puts what waits on the links from that party before its node's outboxes. Answers the node where
-/// that is all, and no Give waits then.
+// Puts what waits on the links from that party before its node's outboxes. Answers the node where
+// that is all, and no Give waits then.
 fn hand_from<L: Links>(
     alloc: Global,
     links: &mut L,

@@ -1,5 +1,5 @@
 //! Workers on fewer threads than there are of them, in rounds.
-ghost use Rattle.std.specs.Prelude.{◌≡◌, ◌<◌, ◌≤◌, IfOk, length};
+ghost use Rattle.std.specs.Prelude.{◌<◌, ◌≤◌, IfOk, length};
 ghost use Rattle.sj_steal.specs.Runs.{Each2};
 ghost use Rattle.sj_work.specs.Worked.{Worked};
 
@@ -18,7 +18,7 @@ const MOST_ROUNDS: u32 = 1_000;
 /// The most looks of a worker in all rounds but the last: who has nothing to do there comes again.
 const FEW_LOOKS: u32 = 1;
 
-/// How many events the workers had.
+// How many events the workers had.
 fn events<O, I>(workers: &[Worker<O, I>]) -> usize {
     let mut events = 0usize;
     for worker in workers {
@@ -27,14 +27,14 @@ fn events<O, I>(workers: &[Worker<O, I>]) -> usize {
     events
 }
 
-/// One call of `work`.
+// One call of `work`.
 fn turns<O: OutLane, I: InLane, G: Gate>(worker: &mut Worker<O, I>, looks: u32, gate: &G)
     ensures { Worked O.OutLane I.InLane looks worker.old worker.new }
 {
     let _ = work(worker, looks, gate);
 }
 
-/// One call of `work` of each worker.
+// One call of `work` of each worker.
 fn round<R: Threads + Sync, O: OutLane, I: InLane, G: Gate>(
     rt: &R,
     alloc: Global,
@@ -58,8 +58,8 @@ fn round<R: Threads + Sync, O: OutLane, I: InLane, G: Gate>(
     Ok(workers)
 }
 
-/// The workers after rounds on so many threads, until one without an event, or the last but one.
-/// All their calls of `work` together are one call of it.
+// The workers after rounds on so many threads, until one without an event, or the last but one.
+// All their calls of `work` together are one call of it.
 fn until_still<R: Threads + Sync, O: OutLane, I: InLane, G: Gate>(
     rt: &R,
     alloc: Global,

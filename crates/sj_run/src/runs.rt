@@ -27,7 +27,7 @@ use sj_work::Gate;
 use std::alloc::Global;
 use std::thread::Threads;
 
-/// Why a worker that refused an event after the lines of this history makes them damaged.
+// Why a worker that refused an event after the lines of this history makes them damaged.
 fn past_end(world: &World, refused: Line) -> RunRefusal
     requires { due (play_of (kept_file world.now)) max (world_at world.now) refused.party (event_at refused.entry.event)
         ≡ Some (line_at refused) → ⊥ }
@@ -41,7 +41,7 @@ fn past_end(world: &World, refused: Line) -> RunRefusal
     })
 }
 
-/// Whether no worker stopped at a fault, out of memory or as unfit.
+// Whether no worker stopped at a fault, out of memory or as unfit.
 fn all_well(faulty: bool, short: bool, unfit: &Option<Line>) -> bool
     ensures { result ≡ true → (faulty ≡ false) × (short ≡ false) }
 {

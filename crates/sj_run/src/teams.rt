@@ -20,7 +20,7 @@ use sj_work::{Gate, Worker};
 use std::alloc::Global;
 use std::thread::Threads;
 
-/// Each node with the lanes of its number.
+// Each node with the lanes of its number.
 fn hire<O: OutLane, I: InLane>(
     alloc: Global,
     mut nodes: Vec<Node>,
@@ -39,7 +39,7 @@ fn hire<O: OutLane, I: InLane>(
     Ok(workers)
 }
 
-/// The parties' lanes.
+// The parties' lanes.
 fn lanes_for<L: Links>(
     alloc: Global,
     parties: u16,

@@ -9,7 +9,7 @@ use Rattle.sj_lang.specs.Place.{Carried, Place, boolean, choice, done, int, mess
 use Rattle.sj_lang.specs.declared.proto.Way.TheVariants.{Into, Out}
 use Rattle.sj_semantics.specs.Ends.{end_at, limit_of_hops, next_for}
 use Rattle.sj_talk.specs.Forms as forms
-use Rattle.sj_talk.specs.Forms.{FormAt, ValueAt, form_of}
+use Rattle.sj_talk.specs.Forms.{FormAt, ValueAt}
 use Rattle.sj_talk.specs.Names.{end_named, label_number}
 use Rattle.sj_talk.specs.TalkWorld.{TalkWorld}
 

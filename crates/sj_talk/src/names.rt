@@ -1,6 +1,5 @@
 //! Ends under names, and tables of names and texts.
-ghost use Rattle.std.specs.Prelude.{◌≡◌, ◌≤◌, ◌∷◌, [], ◌++◌, ◌+◌, IfOk, IfSome, OnOk, OnErr, None, option_and_then};
-ghost use Rattle.std.specs.Prelude.{option_map, is_some, vec_len, vec_capacity, length, nat_lt, take};
+ghost use Rattle.std.specs.Prelude.{◌≡◌, IfOk, OnOk, OnErr, None, option_and_then};
 ghost use Rattle.sj_lang.specs.Words.{first_index};
 ghost use Rattle.sj_talk.specs.Names.{end_named, ends_without, label_if, number_in, once, with_word};
 ghost use Rattle.sj_talk.specs.Play.{ends_at};

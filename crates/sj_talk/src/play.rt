@@ -133,7 +133,7 @@ impl Play {
         self.say(line)
     }
 
-    /// Does the line, where no rule refuses it.
+    // Does the line, where no rule refuses it.
     fn say(&mut self, line: &[u8]) -> Result<Said, NoMemory>
         requires played { IsPlayed self.old }
         ensures said { IfOk result (λ s. s ≡ said_of (talk_at self.old) line.now) }
@@ -164,9 +164,9 @@ impl Play {
         Ok(self.verdict())
     }
 
-    /// How all of it ends, where nobody can act. Long, where a party is at a limit. Else blocked,
-    /// where one hasn't ended, the played one holds an end, or an opened session wasn't accepted.
-    /// Else done.
+    // How all of it ends, where nobody can act. Long, where a party is at a limit. Else blocked,
+    // where one hasn't ended, the played one holds an end, or an opened session wasn't accepted.
+    // Else done.
     fn verdict(&self) -> Verdict
         requires played { IsPlayed self.now }
         ensures { result ≡ talk_verdict (talk_at self.now) }

@@ -149,7 +149,7 @@ impl Play {
     }
 }
 
-/// The first rule that applies, of rules in their order, each with whether it does.
+// The first rule that applies, of rules in their order, each with whether it does.
 fn first_rule(tests: &[(u8, bool)]) -> Option<u8>
     ensures { result ≡ first_rule tests.now }
 {

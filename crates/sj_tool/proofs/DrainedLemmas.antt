@@ -6,19 +6,15 @@ use Rattle.sj_acceptance.specs.Accepted.{IsAccepted}
 use Rattle.sj_semantics.specs.declared.Verdict.{Verdict}
 use Rattle.sj_semantics.specs.Program.{Program}
 use Rattle.sj_headline_laws.proofs.HeadlineLemmas.{settled_run_has_it}
-use Rattle.sj_semantics.specs.Run.{IsRun, end_of}
+use Rattle.sj_semantics.specs.Run.{end_of}
 use Rattle.sj_semantics_laws.proofs.FinishLemmas.{end_is_settled}
 use Rattle.sj_plain.specs.Kept.{without_words}
 use Rattle.sj_rules.specs.Drain.{IsDrained}
 use Rattle.sj_rules.specs.History.{IsHistory, IsQuietAmong, turn_of}
 use Rattle.sj_rules.specs.Log.{LineAt}
 use Rattle.sj_rules.specs.Party.{play_of}
-use Rattle.sj_rules.specs.Start.{core_start}
 use Rattle.sj_rules.specs.World.{WorldAt}
-use Rattle.sj_joined_lemmas.proofs.HistoryLemmas.{log_runs}
-use Rattle.sj_rules_laws.proofs.RunLawsLemmas.{quiet_run_ends}
-use Rattle.sj_core.proofs.FirstLemmas.{core_start_same}
-use Rattle.sj_core.proofs.LawLemmas.{max_picks}
+use Rattle.sj_core.proofs.EndLemmas.{kept_history, quiet_ends}
 use Rattle.sj_run.specs.Logged.{AreLogged}
 use Rattle.sj_run.specs.Shown.{IsShown}
 use Rattle.sj_command.specs.declared.tasks.Task.{Task}
@@ -28,12 +24,6 @@ use Rattle.sj_tool.specs.LogAt.{LogAt, Spells}
 use Rattle.sj_tool.specs.Calls.{LinkUseAt}
 use Rattle.sj_tool.specs.Tasks.{Replays, RunsParties, looks_of}
 use Rattle.sj_tool.specs.Runs.{HasBegun, HasHistory, HasRun, IsTold, actors, print_of}
-
--- a history of what is kept of a file is one of the file
-pub kept_history : (file kept : FileAt) (lines : List LineAt) (w : WorldAt Place Program) → kept ≡ without_words file → IsHistory max kept lines w → IsHistory max file lines w
-kept_history file kept lines w is h =
-    subst (λ (start : WorldAt Place Program). Rattle.sj_rules.specs.History.IsLog (play_of file) max start lines w) (core_start_same file)
-    (subst (λ (f : FileAt). IsHistory max f lines w) is h)
 
 -- a task that runs parties replays no log
 pub runs_or_replays : (task : Task) → RunsParties task → Replays task → ⊥
@@ -83,12 +73,6 @@ module _ (file first kept : FileAt) (of_file : first ≡ without_words file) (sa
       → HasHistory links task log file history core
   drained_ran links task runs log all those listed begins logged shown run drained quiet =
       drained_has links task log all those listed begins (λ replays. absurd (runs_or_replays task runs replays)) (λ none. logged) (λ none. shown) run drained quiet
-
--- the acts of a history that leaves nothing to do lead to the end of the file
-pub quiet_ends : (file : FileAt) → IsAccepted file → (history : List LineAt) (core : WorldAt Place Program) → IsHistory max file history core → IsQuietAmong (play_of file) (length file.parties) core
-    → IsRun file (actors history) (end_of file)
-quiet_ends file accepted history core run quiet =
-    (quiet_run_ends file accepted (map turn_of history) core (log_runs (play_of file) max max_picks history (core_start file) core run) quiet).0
 
 -- so what is reported of it is what the task answers
 abbrev pub told_runs : (links : LinkUseAt) (task : Task) (log : LogAt) (file : FileAt) → IsAccepted file → (history : List LineAt) (core : WorldAt Place Program) → HasHistory links task log file history core

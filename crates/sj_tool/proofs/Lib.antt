@@ -1,6 +1,5 @@
 pub mod EntryLemmas
 pub mod ActingLemmas
-pub mod EndLemmas
 pub mod EndedAnswers
 pub mod FaultAnswers
 pub mod DrainedLemmas

@@ -14,7 +14,7 @@ use Rattle.sj_command.specs.declared.tasks.Task.TheVariants as tasks
 use Rattle.sj_command.specs.Task.{Asks}
 use Rattle.sj_command.proofs.OneTask.{one_task}
 use Rattle.sj_tool.specs.LogAt.{LogAt, no_log, log_at}
-use Rattle.sj_tool.specs.AnswerAt.{AnswerAt, Usage, ReadFault, TooLarge, Syntax, LogFault, Made, NoTalk}
+use Rattle.sj_tool.specs.AnswerAt.{AnswerAt, Usage, TooLarge, Syntax, LogFault, Made, NoTalk}
 use Rattle.sj_tool.specs.Answers.{IsInTable}
 use Rattle.sj_tool.specs.Layers.{AnswersBytes, AnswersText}
 use Rattle.sj_tool.specs.Calls.{CallAt, LinkUseAt, LinksHold}

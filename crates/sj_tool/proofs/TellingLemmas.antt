@@ -7,9 +7,9 @@ use Rattle.std.proofs.lemmas.List.Sums.{sum_by-cons}
 use Rattle.sj_acceptance.specs.Accepted.{IsAccepted}
 use Rattle.sj_lang.specs.FileAt.{FileAt}
 use Rattle.sj_lang.specs.Place.{Place}
-use Rattle.sj_semantics.specs.Ends.{end_at, other_end}
+use Rattle.sj_semantics.specs.Ends.{other_end}
 use Rattle.sj_semantics.specs.Program.{Program}
-use Rattle.sj_semantics.specs.Run.{IsRun, end_of}
+use Rattle.sj_semantics.specs.Run.{end_of}
 use Rattle.sj_semantics.specs.State.{opened_in, verdict_of}
 use Rattle.sj_semantics.specs.Transcript.{line_of, verdict_word}
 use Rattle.sj_semantics.specs.World.{World}
@@ -30,7 +30,7 @@ use Rattle.sj_print.proofs.ToldLemmas.{as_many}
 use Rattle.sj_tool.specs.Runs.{actors}
 use Rattle.sj_tool.specs.Sums.{summary, sums_line}
 use Rattle.sj_tool.specs.Telling.{IsToldIn}
-use Rattle.sj_tool.proofs.DrainedLemmas.{quiet_ends}
+use Rattle.sj_core.proofs.EndLemmas.{quiet_ends}
 
 module _ (file : FileAt) (accepted : IsAccepted file) (history : List LineAt) (core : WorldAt Place Program) (run : IsHistory max file history core) (quiet : IsQuietAmong (play_of file) (length file.parties) core) (stands : List Stand) (are : AreStands (end_of file) stands) where
   abbrev pub told_in_end : opened_in (end_of file) ≡ [] → IsToldIn file history stands (end_of file)

@@ -1,5 +1,5 @@
 -- What lines, and how parties stand, report of the end of a file in which no session was opened.
-use Rattle.std.specs.Prelude.{◌≡◌, ℕ, ◌≤◌, List, [], length, map}
+use Rattle.std.specs.Prelude.{◌≡◌, ◌≤◌, List, [], length, map}
 use Rattle.sj_base.specs.declared.EndId.{EndId}
 use Rattle.sj_lang.specs.FileAt.{FileAt}
 use Rattle.sj_semantics.specs.Ends.{end_at}

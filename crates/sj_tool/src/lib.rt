@@ -21,4 +21,4 @@ mod talks;
 mod top;
 
 pub use laws::{the_table_gives_one_answer, the_table_has_an_answer};
-pub use top::sj;
+pub use top::{NO_MEMORY, sj};

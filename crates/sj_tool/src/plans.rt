@@ -1,10 +1,7 @@
 //! What a task asks for: what is read, what is done with the file, and what is printed.
 ghost use Rattle.sj_tool.specs.Plans.{IsPlan};
 
-use sj_command::Task;
-
-/// The looks in vain after which a party stops where no word says how many.
-const USUAL_LOOKS: u32 = 1_000;
+use sj_command::{Task, USUAL_LOOKS};
 
 /// What is printed of a history.
 #[derive(Clone, Copy)]

@@ -13,7 +13,7 @@ use std::thread::Threads;
 /// The status where the answer's text can't be written.
 const WRITE_FAULT: u8 = 10;
 /// The status where there is no memory.
-const NO_MEMORY: u8 = 11;
+pub const NO_MEMORY: u8 = 11;
 
 /// Does what the words say with the input, writes the answer's text, and answers its status.
 ///

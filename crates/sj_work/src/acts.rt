@@ -32,7 +32,7 @@ pub(crate) fn finished(node: &Node) -> Option<Outcome>
     }
 }
 
-/// The line that an act would have made which the rules don't have.
+// The line that an act would have made which the rules don't have.
 fn due_line(node: &Node) -> Line
     requires clock { clock_of node.now < clock_end }
     requires goes { nodes.stop_of node.now ≡ None }
@@ -47,7 +47,7 @@ fn due_line(node: &Node) -> Line
     }
 }
 
-/// What a worker answers whose node refused an act. A party that is halted is no reason to stop.
+// What a worker answers whose node refused an act. A party that is halted is no reason to stop.
 fn refused(node: &Node, halt: Halt) -> Option<Outcome>
     requires clock { clock_of node.now < clock_end }
     requires goes { halt ≡ Halt.Unfit → nodes.stop_of node.now ≡ None }
@@ -60,7 +60,7 @@ fn refused(node: &Node, halt: Halt) -> Option<Outcome>
     }
 }
 
-/// One act, where the party can act. Answers whether there was one.
+// One act, where the party can act. Answers whether there was one.
 fn act<O: OutLane, I: InLane, G: Gate>(worker: &mut Worker<O, I>, gate: &G) -> bool
     requires { IsGoing worker.old }
     ensures turns { Turns O.OutLane I.InLane worker.old worker.new }

@@ -16,7 +16,7 @@ use sj_end::{CLOCK_END, Entry, Event, Frame, Line, note_of};
 use sj_lane::{InLane, OutLane, PopRefusal};
 use sj_node::{DeliverRefusal, Node};
 
-/// The answer to a frame that the node refused.
+// The answer to a frame that the node refused.
 fn refused(node: &Node, from: u16, frame: &Frame, refusal: DeliverRefusal) -> Outcome
     requires { clock_of node.now < clock_end }
     ensures { result ≡ delivery_answer node.now from (told_frame frame.now) refusal }
@@ -34,7 +34,7 @@ fn refused(node: &Node, from: u16, frame: &Frame, refusal: DeliverRefusal) -> Ou
     }
 }
 
-/// One delivery. Answers why the worker stops, if it does.
+// One delivery. Answers why the worker stops, if it does.
 fn deliver<G: Gate>(node: &mut Node, from: u16, frame: Frame, gate: &G) -> Option<Outcome>
     requires { clock_of node.old < clock_end }
     ensures { TakesFrame from frame node.old node.new result }
@@ -48,7 +48,7 @@ fn deliver<G: Gate>(node: &mut Node, from: u16, frame: Frame, gate: &G) -> Optio
     }
 }
 
-/// One pop, and its delivery. Answers whether a frame came.
+// One pop, and its delivery. Answers whether a frame came.
 fn look<O: OutLane, I: InLane, G: Gate>(worker: &mut Worker<O, I>, from: u16, gate: &G) -> bool
     requires goes { IsGoing worker.old }
     requires party { from < parties_of (node_of worker.old) }
@@ -85,8 +85,8 @@ fn look<O: OutLane, I: InLane, G: Gate>(worker: &mut Worker<O, I>, from: u16, ga
     }
 }
 
-/// Pops from that party as long as frames come, as many as one turn has at most, and their
-/// deliveries. Answers whether a frame came.
+// Pops from that party as long as frames come, as many as one turn has at most, and their
+// deliveries. Answers whether a frame came.
 fn look_on<O: OutLane, I: InLane, G: Gate>(worker: &mut Worker<O, I>, from: u16, gate: &G) -> bool
     requires goes { IsGoing worker.old }
     requires party { from < parties_of (node_of worker.old) }

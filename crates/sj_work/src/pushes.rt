@@ -1,4 +1,4 @@
-//! Pushes.
+//! What waits in the outboxes, pushed as far as the lanes take it.
 ghost use Rattle.std.specs.Prelude.{◌≡◌, ◌<◌, IsFalse, IsTrue, None, length};
 ghost use Rattle.sj_node.specs.Outs.{waiting_in};
 ghost use Rattle.sj_node.specs.Reading.{outs_of};
@@ -11,7 +11,7 @@ use crate::acts::finished;
 use crate::worker::{Outcome, Worker};
 use sj_lane::{InLane, OutLane, PushRefusal};
 
-/// What a worker answers to a refused push. A full lane is no reason to stop.
+// What a worker answers to a refused push. A full lane is no reason to stop.
 fn refused(refusal: PushRefusal) -> Option<Outcome>
     ensures { result ≡ push_answer refusal }
 {
@@ -22,7 +22,7 @@ fn refused(refusal: PushRefusal) -> Option<Outcome>
     }
 }
 
-/// One push to that party. Answers whether the lane took a frame, and more may be pushed.
+// One push to that party. Answers whether the lane took a frame, and more may be pushed.
 fn push_one<O: OutLane, I: InLane>(worker: &mut Worker<O, I>, to: u16) -> bool
     requires { IsGoing worker.old }
     ensures turns { Turns O.OutLane I.InLane worker.old worker.new }
@@ -56,7 +56,7 @@ fn push_one<O: OutLane, I: InLane>(worker: &mut Worker<O, I>, to: u16) -> bool
     }
 }
 
-/// Pushes to that party, as far as its lane takes.
+// Pushes to that party, as far as its lane takes.
 fn push_to<O: OutLane, I: InLane>(worker: &mut Worker<O, I>, to: u16)
     requires { IsGoing worker.old }
     ensures turns { Turns O.OutLane I.InLane worker.old worker.new }

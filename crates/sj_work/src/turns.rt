@@ -1,4 +1,4 @@
-//! Turns.
+//! The turns of a worker, until there is a cause to stop.
 ghost use Rattle.std.specs.Prelude.{◌≡◌, ◌<◌, None, Some, IsFalse, IsTrue};
 ghost use Rattle.sj_node.specs.Node.{clock_of};
 ghost use Rattle.sj_work.specs.Turns.{IsGoing, IsInVain, Turns};
@@ -12,8 +12,8 @@ use crate::worker::{Gate, Outcome, Stop, Worker};
 use sj_end::CLOCK_END;
 use sj_lane::{InLane, OutLane};
 
-/// One turn: pops from each origin, in order, with their deliveries; pushes as far as the lanes
-/// take; acts. Answers whether it had an event.
+// One turn: pops from each origin, in order, with their deliveries; pushes as far as the lanes
+// take; acts. Answers whether it had an event.
 fn turn<O: OutLane, I: InLane, G: Gate>(worker: &mut Worker<O, I>, gate: &G) -> bool
     requires { IsGoing worker.old }
     ensures turns { Turns O.OutLane I.InLane worker.old worker.new }
@@ -34,9 +34,9 @@ fn turn<O: OutLane, I: InLane, G: Gate>(worker: &mut Worker<O, I>, gate: &G) -> 
     act_on(worker, gate) || came
 }
 
-/// Turns until one has an event or the worker stops. Where turns have none the party stays idle, or
-/// at its limit. The worker stops so after as many turns as there are looks. With no looks an idle
-/// party's worker stops as idle without any turn.
+// Turns until one has an event or the worker stops. Where turns have none the party stays idle, or
+// at its limit. The worker stops so after as many turns as there are looks. With no looks an idle
+// party's worker stops as idle without any turn.
 fn until_event<O: OutLane, I: InLane, G: Gate>(worker: &mut Worker<O, I>, looks: u32, gate: &G)
     requires { IsGoing worker.old }
     ensures turned { Turned O.OutLane I.InLane looks worker.old worker.new }
@@ -59,7 +59,7 @@ fn until_event<O: OutLane, I: InLane, G: Gate>(worker: &mut Worker<O, I>, looks:
     worker.answer = Some(Outcome::Idle);
 }
 
-/// Turns until there is a cause to stop.
+// Turns until there is a cause to stop.
 fn go<O: OutLane, I: InLane, G: Gate>(worker: &mut Worker<O, I>, looks: u32, gate: &G)
     requires { IsGoing worker.old }
     ensures turned { Turned O.OutLane I.InLane looks worker.old worker.new }
@@ -94,7 +94,7 @@ pub fn work<O: OutLane, I: InLane, G: Gate>(worker: &mut Worker<O, I>, looks: u3
     }
 }
 
-/// The stop that stays, if any.
+// The stop that stays, if any.
 fn kept(stop: Option<Stop>) -> Option<Stop>
     ensures { result ≡ kept_stop stop }
 {

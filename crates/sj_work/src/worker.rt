@@ -1,4 +1,4 @@
-//! A worker.
+//! A worker, its gate, and why it stopped.
 ghost use Rattle.std.specs.Borrow.{sem};
 ghost use Rattle.std.specs.Prelude.{◌≡◌, ◌↔◌, [], IsSome, None, Some};
 ghost use Rattle.sj_node.specs.Node.{log_of};

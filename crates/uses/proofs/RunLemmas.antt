@@ -14,7 +14,7 @@ use Rattle.sj_rules.specs.Party.{play_of}
 use Rattle.sj_rules.specs.World.{WorldAt}
 use Rattle.sj_semantics.specs.Program.{Program}
 use Rattle.uses.specs.Runs.{DrainsRest}
-use Rattle.uses.proofs.EndLemmas.{kept_history}
+use Rattle.sj_core.proofs.EndLemmas.{kept_history}
 
 -- as many lines are there as are seen
 pub many_seen : (lines : List Line) (seen : List LineAt) → map line_at lines ≡ seen → length lines ≡ length seen

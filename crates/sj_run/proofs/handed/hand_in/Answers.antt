@@ -1,4 +1,4 @@
-use Rattle.std.proofs.Common.{◌≡◌, ◌∙◌, ◌+◌, ◌<◌, ℕ, List, [], ◌∷◌, Option, Some, true, ap, length, length-append, refl, sym, subst, arith, slice_index_or}
+use Rattle.std.proofs.Common.{◌≡◌, ◌∙◌, ◌+◌, ◌<◌, List, [], ◌∷◌, Option, Some, true, ap, length, length-append, refl, sym, subst, arith, slice_index_or}
 use Rattle.std.specs.List.{remove}
 use Rattle.std.specs.Prelude.{IfSome, slice_get}
 use Rattle.sj_node.specs.declared.node.Node.{Node}

@@ -6,7 +6,7 @@ use Rattle.sj_semantics.specs.Run.{end_of}
 use Rattle.sj_semantics.specs.State.{verdict_of}
 use Rattle.sj_semantics.specs.Transcript.{transcript_of}
 use Rattle.sj_plain.specs.Plain.{kept_file, world_at}
-use Rattle.sj_tool.proofs.EndLemmas.{end_kept}
+use Rattle.sj_core.proofs.EndLemmas.{end_kept}
 use Rattle.sj_tool.proofs.plays.simulate.Goals as goal
 
 pub returns : goal.returns

@@ -13,7 +13,7 @@ use Rattle.sj_semantics.specs.Run.{IsRun, end_of}
 use Rattle.sj_semantics.specs.State.{verdict_of}
 use Rattle.sj_semantics.specs.World.{World}
 use Rattle.sj_tool.specs.Runs.{actors, run_text}
-use Rattle.sj_tool.proofs.DrainedLemmas.{quiet_ends}
+use Rattle.sj_core.proofs.EndLemmas.{quiet_ends}
 use Rattle.sj_tool.proofs.plays.tell_acts.Goals as goal
 
 pub act_all-requires : goal.act_all-requires

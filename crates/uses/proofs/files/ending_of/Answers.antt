@@ -5,7 +5,7 @@ use Rattle.sj_lang.specs.declared.file.File.{File}
 use Rattle.sj_plain.specs.Plain.{kept_file, world_at}
 use Rattle.sj_semantics.specs.State.{verdict_of}
 use Rattle.sj_semantics.specs.Transcript.{transcript_of}
-use Rattle.uses.proofs.EndLemmas.{end_kept}
+use Rattle.sj_core.proofs.EndLemmas.{end_kept}
 use Rattle.uses.proofs.files.ending_of.Goals as goal
 
 pub returns-clause-verdict : goal.returns-clause-verdict

@@ -1,12 +1,19 @@
 use Rattle.std.proofs.Common.{◌∙◌, List, arith, subst, sym}
+use Rattle.sj_acceptance.specs.Accepted.{IsAccepted}
+use Rattle.sj_acceptance_laws.proofs.FileLaws.{accepted_from}
 use Rattle.sj_check.specs.Held.{file_in}
+use Rattle.sj_check.specs.declared.accepted.Accepted.{Accepted}
+use Rattle.sj_core.proofs.EndLemmas.{kept_history, quiet_ends}
 use Rattle.sj_core.specs.World.{history_of, kept_file, party_count, world_at}
 use Rattle.sj_lang.specs.FileView.{file_of}
 use Rattle.sj_rules.specs.Log.{LineAt}
 use Rattle.sj_run.specs.Workers.{AreLoggedOver}
-use Rattle.uses.proofs.EndLemmas.{is_accepted, kept_history, quiet_ends}
 use Rattle.uses.proofs.RunLemmas.{drains, few_are, first_are, many_seen, quiet_kept}
 use Rattle.uses.proofs.runs.run_file.Goals as goal
+
+-- the file of an accepted one keeps the static rules
+is_accepted : (a : Accepted) → IsAccepted (file_of (file_in a))
+is_accepted a = accepted_from (file_of (file_in a)) a.within a.accepted
 
 pub returns-clause-history : goal.returns-clause-history
 returns-clause-history g c =

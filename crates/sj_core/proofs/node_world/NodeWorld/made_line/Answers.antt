@@ -1,4 +1,4 @@
-use Rattle.std.proofs.Common.{rules, max, option_and_then, ap, arith}
+use Rattle.std.proofs.Common.{rules, option_and_then, ap, arith}
 use Rattle.std.proofs.lemmas.Grind.{common_steps}
 use Rattle.sj_rules.specs.History.{line_after}
 use Rattle.sj_rules.specs.Party.{play_of}

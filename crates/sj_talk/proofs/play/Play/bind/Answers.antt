@@ -1,4 +1,4 @@
-use Rattle.std.proofs.Common.{◌∙◌, ◌∷◌, ◌++◌, [], ap, arith}
+use Rattle.std.proofs.Common.{◌∷◌, ◌++◌, [], ap, arith}
 use Rattle.sj_semantics.specs.Uses.{begins, takes}
 use Rattle.sj_text.proofs.CutLemmas.{on_err}
 use Rattle.sj_talk.specs.Play.{ends_at, talk_at}

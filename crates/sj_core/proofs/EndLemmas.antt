@@ -1,31 +1,23 @@
--- The end of an accepted file: it is that without its words, and a quiet history leads there.
+-- The end of a file: it is that without its words, and a quiet history leads there.
 use Rattle.std.proofs.Common.{◌≡◌, ◌∙◌, ◌*◌, List, ap, length, map, max, subst}
-use Rattle.sj_acceptance.specs.Accepted.{IsAccepted}
-use Rattle.sj_acceptance_laws.proofs.FileLaws.{accepted_from}
-use Rattle.sj_check.specs.Held.{file_in}
-use Rattle.sj_check.specs.declared.accepted.Accepted.{Accepted}
-use Rattle.sj_core.proofs.FirstLemmas.{core_start_same}
-use Rattle.sj_core.proofs.LawLemmas.{max_picks}
-use Rattle.sj_joined_lemmas.proofs.HistoryLemmas.{log_runs}
 use Rattle.sj_lang.specs.FileAt.{FileAt}
-use Rattle.sj_lang.specs.FileView.{file_of}
 use Rattle.sj_lang.specs.Place.{Place}
-use Rattle.sj_plain.proofs.BeginLemmas.{start_same}
+use Rattle.sj_acceptance.specs.Accepted.{IsAccepted}
+use Rattle.sj_semantics.specs.Program.{Program}
+use Rattle.sj_semantics.specs.Run.{IsRun, end_of, rounds}
+use Rattle.sj_semantics.specs.World.{World}
 use Rattle.sj_plain.specs.Kept.{without_words}
+use Rattle.sj_plain.proofs.BeginLemmas.{start_same}
 use Rattle.sj_rules.specs.Events.{acts_in}
 use Rattle.sj_rules.specs.History.{IsHistory, IsLog, IsQuietAmong, turn_of}
 use Rattle.sj_rules.specs.Log.{LineAt}
 use Rattle.sj_rules.specs.Party.{play_of}
 use Rattle.sj_rules.specs.Start.{core_start}
 use Rattle.sj_rules.specs.World.{WorldAt}
+use Rattle.sj_joined_lemmas.proofs.HistoryLemmas.{log_runs}
 use Rattle.sj_rules_laws.proofs.RunLawsLemmas.{quiet_run_ends}
-use Rattle.sj_semantics.specs.Program.{Program}
-use Rattle.sj_semantics.specs.Run.{IsRun, end_of, rounds}
-use Rattle.sj_semantics.specs.World.{World}
-
--- the file of an accepted one keeps the static rules
-pub is_accepted : (a : Accepted) → IsAccepted (file_of (file_in a))
-is_accepted a = accepted_from (file_of (file_in a)) a.within a.accepted
+use Rattle.sj_core.proofs.FirstLemmas.{core_start_same}
+use Rattle.sj_core.proofs.LawLemmas.{max_picks}
 
 end_same : (file : FileAt) → end_of (without_words file) ≡ end_of file
 unfolding end_of
