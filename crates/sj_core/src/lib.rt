@@ -21,4 +21,5 @@ pub use laws::each_node_agrees_with_its_next_step;
 pub use refusal::{ReplayRefusal, StepRefusal};
 pub use replays::is_the_line;
 pub use starts::first_nodes;
+pub use told::stand_of;
 pub use world::World;

@@ -78,8 +78,8 @@ fn stands_of(alloc: Global, nodes: &[Node]) -> Result<Vec<Stand>, NoMemory>
     Ok(stands)
 }
 
-// How the party of a node stands that can't act.
-fn stand_of(node: &Node) -> Stand
+/// How the party of a node stands that can't act.
+pub fn stand_of(node: &Node) -> Stand
     ensures { result ≡ stand_seen node.now }
 {
     let steps = node.steps();
