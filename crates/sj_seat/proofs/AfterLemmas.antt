@@ -22,7 +22,7 @@ use Rattle.sj_work.specs.declared.worker.Stop.TheVariants as stops
 use Rattle.sj_work.specs.declared.worker.Worker.{Worker}
 use Rattle.sj_work.proofs.LaneLaws.{LaneLaws}
 use Rattle.sj_seat.specs.Asked.{IsGuarded, asked, want_in}
-use Rattle.sj_seat.specs.Views.{ends_of, laned_at, node_of, seat_of, worker_of}
+use Rattle.sj_seat.specs.Views.{ends_of, laned_at, may_of, node_of, seat_of, worker_of}
 use Rattle.sj_seat.specs.Went.{Keeps, Rests, SeatWork, Went}
 use Rattle.sj_seat.specs.declared.guest.Guest.{Guest}
 use Rattle.sj_seat.specs.declared.refusal.SeatRefusal.{SeatRefusal}
@@ -99,15 +99,15 @@ module _ {O I G : Type 0} (k : LaneLaws O I) where
   WentBy file before after old new = Went k.outward k.inward file before after old new
 
   rests_later : (a b c : Guest O I G) → Rests a b → Rests b c → Rests a c
-  rests_later a b c x y = record { ends = y.ends ∙ x.ends; calls = y.calls ∙ x.calls }
+  rests_later a b c x y = record { ends = y.ends ∙ x.ends; calls = y.calls ∙ x.calls; may = y.may ∙ x.may }
 
   seats_rest : (a b : Guest O I G) (rest : List Call) → Rests a b → seat_of rest b ≡ seat_of rest a
-  seats_rest a b rest x = λ i. record { ends = x.ends i; steps = x.calls i; calls = rest }
+  seats_rest a b rest x = λ i. record { ends = x.ends i; steps = x.calls i; calls = rest; may = x.may i }
 
   pub waited_none : (a : Guest O I G) → WaitedBy a a
   waited_none a = record {
     keeps = record { party = refl; parties = refl; connects = refl; table = refl; clock = omega arith };
-    rests = record { ends = refl; calls = refl };
+    rests = record { ends = refl; calls = refl; may = refl };
     work = λ file rest parties. lane_work_itself k.outward.pushed k.outward.same k.inward.popped k.inward.same k.out_itself k.out_later k.in_itself k.in_later (seated_play file) max done a.worker.node.party (laned_at (seat_of rest a) a.worker);
   }
 
@@ -133,11 +133,11 @@ module _ {O I G : Type 0} (k : LaneLaws O I) where
   }
 
   -- the call is guarded still
-  pub waited_guarded : (a l : Guest O I G) (call : seats.Call) → WaitedBy a l → IsGuarded a.table (ends_of a) a.calls call → IsGuarded l.table (ends_of l) l.calls call
+  pub waited_guarded : (a l : Guest O I G) (call : seats.Call) → WaitedBy a l → IsGuarded a.table (may_of a) (ends_of a) a.calls call → IsGuarded l.table (may_of l) (ends_of l) l.calls call
   waited_guarded a l call x h =
       let table : l.table ≡ a.table = l.same ∙ x.keeps.table ∙ sym a.same in
       record {
-        want = ap (λ t. want_in t call) table ∙ h.want ∙ sym (ap (λ bs. want_of_call bs (asked call)) x.rests.ends);
+        want = ap (λ t. want_in t call) table ∙ h.want ∙ sym (λ i. want_of_call (x.rests.may i) (x.rests.ends i) (asked call));
         few = subst (λ (n : ℕ). n < limit_of_steps) (sym x.rests.calls) h.few;
       }
 

@@ -6,5 +6,6 @@ mod FirstLemmas
 mod HoldingLemmas
 mod IdleLemmas
 mod MovedLemmas
+mod OpeningLemmas
 mod RuleLemmas
 mod WaitLemmas

@@ -3,7 +3,8 @@ ghost use Rattle.std.specs.Prelude.{◌≡◌, ◌∷◌, IfErr, IfOk, List, Non
 ghost use Rattle.sj_base.specs.declared.Msg.TheVariants as msgs;
 ghost use Rattle.sj_lang.specs.FileAt.{FileAt};
 ghost use Rattle.sj_node.specs.Reading.{parties_of};
-ghost use Rattle.sj_seat.specs.Views.{calls_of, ends_of, held_by, node_of, table_of, texts_of};
+ghost use Rattle.sj_seat.specs.Opened.{openings_at};
+ghost use Rattle.sj_seat.specs.Views.{calls_of, ends_of, held_by, may_of, node_of, table_of, texts_of};
 ghost use Rattle.sj_seat.specs.Went.{IsRefused, Keeps, Rests, Went, first_rule};
 ghost use Rattle.sj_seat.specs.Wishes.{is_taking, wished};
 ghost use Rattle.sj_seat_laws.specs.Calls as calls;
@@ -36,12 +37,14 @@ impl<O, I, G> Guest<'_, O, I, G> {
     pub fn guard(&self) -> Guard<'_>
         ensures table { result.table.now ≡ table_of self.now }
         ensures ends { result.ends.now ≡ held_by self.now }
+        ensures may { openings_at result.table.now result.may.now ≡ may_of self.now }
         ensures texts { result.texts ≡ texts_of self.now }
         ensures calls { result.calls ≡ calls_of self.now }
     {
         Guard {
             table: &self.table,
             ends: &self.ends,
+            may: &self.may,
             texts: self.texts,
             calls: self.calls,
         }

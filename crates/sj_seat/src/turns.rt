@@ -7,7 +7,7 @@ ghost use Rattle.sj_node.specs.Reading.{parties_of};
 ghost use Rattle.sj_node.specs.Seats.{is_take};
 ghost use Rattle.sj_rules.specs.Limits.{clock_end};
 ghost use Rattle.sj_seat.specs.Asked.{IsGuarded, asked};
-ghost use Rattle.sj_seat.specs.Views.{calls_of, ends_of, node_of, table_of, worker_of};
+ghost use Rattle.sj_seat.specs.Views.{calls_of, ends_of, may_of, node_of, table_of, worker_of};
 ghost use Rattle.sj_seat.specs.Went.{IsHalt, IsHeldUp, IsStopped, Keeps, Rests, Went};
 ghost use Rattle.sj_seat_laws.specs.Calls as calls;
 ghost use Rattle.sj_work.specs.Views.{stop_of};
@@ -43,7 +43,8 @@ impl<O: OutLane, I: InLane, G: Gate> Guest<'_, O, I, G> {
 
     /// Does the call, where the node can.
     fn make(&mut self, call: Call) -> Result<Option<Msg>, Halt>
-        requires guarded { IsGuarded (table_of self.old) (ends_of self.old) (calls_of self.old) call }
+        requires guarded { IsGuarded (table_of self.old) (may_of self.old) (ends_of self.old)
+            (calls_of self.old) call }
         requires clock { clock_of (node_of self.old) < clock_end }
         requires room { vec_len self.old.ends < vec_capacity self.old.ends }
 
@@ -94,7 +95,8 @@ impl<O: OutLane, I: InLane, G: Gate> Guest<'_, O, I, G> {
 
     /// Does the call, where it can be done now, and pushes what waits then.
     fn attempt(&mut self, call: Call) -> Result<Option<Msg>, SeatRefusal>
-        requires guarded { IsGuarded (table_of self.old) (ends_of self.old) (calls_of self.old) call }
+        requires guarded { IsGuarded (table_of self.old) (may_of self.old) (ends_of self.old)
+            (calls_of self.old) call }
 
         // The call is made, or nothing is.
         ensures ok { (file : FileAt) (rest : List calls.Call) →
@@ -135,7 +137,8 @@ impl<O: OutLane, I: InLane, G: Gate> Guest<'_, O, I, G> {
 
     /// Does the call, where it can be done within as many turns in vain as there are looks.
     pub(crate) fn act(&mut self, call: Call) -> Result<Option<Msg>, SeatRefusal>
-        requires guarded { IsGuarded (table_of self.old) (ends_of self.old) (calls_of self.old) call }
+        requires guarded { IsGuarded (table_of self.old) (may_of self.old) (ends_of self.old)
+            (calls_of self.old) call }
 
         // The call is made, or nothing is.
         ensures ok { (file : FileAt) (rest : List calls.Call) →

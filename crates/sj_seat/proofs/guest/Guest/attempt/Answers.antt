@@ -5,7 +5,7 @@ use Rattle.sj_work.proofs.LaneLaws.{laws}
 use Rattle.sj_seat_laws.specs.Calls.{SeatedAt}
 use Rattle.sj_seat.specs.Asked.{asked}
 use Rattle.sj_seat.specs.Holding.{ends_at}
-use Rattle.sj_seat.specs.Views.{seat_of}
+use Rattle.sj_seat.specs.Views.{may_of, seat_of}
 use Rattle.sj_seat.specs.Went.{SeatWork}
 use Rattle.sj_seat.proofs.AfterLemmas.{done_after, nothing_done}
 use Rattle.sj_seat.proofs.guest.Guest.attempt.Goals as goal
@@ -25,8 +25,8 @@ returns-then-is_err-clause-err g c =
     let k = laws g.O.OutLane g.I.InLane ol.same_itself ol.same_later il.same_itself il.same_later in
     let a = c.args.self.now in
     λ file rest parties.
-    let after : SeatedAt = record { ends = ends_at a.table c.reserve.new.self.items; steps = a.calls; calls = rest } in
-    nothing_done k file (seat_of rest a) after a.worker (λ i. record { ends = ends_at a.table (c.reserve.ensures.items i); steps = a.calls; calls = rest })
+    let after : SeatedAt = record { ends = ends_at a.table c.reserve.new.self.items; steps = a.calls; calls = rest; may = may_of a } in
+    nothing_done k file (seat_of rest a) after a.worker (λ i. record { ends = ends_at a.table (c.reserve.ensures.items i); steps = a.calls; calls = rest; may = may_of a })
 
 pub returns-in-Ok-clause-ok : goal.returns-in-Ok-clause-ok
 returns-in-Ok-clause-ok g c =
@@ -42,5 +42,5 @@ returns-in-Ok-clause-ok g c =
     let before = seat_of (asked c.args.call ∷ rest) a in
     let made : SeatWork g.O.OutLane g.I.InLane file before (seat_of rest m) a.worker m.worker =
     subst (λ (s : SeatedAt). SeatWork g.O.OutLane g.I.InLane file s (seat_of rest m) a.worker m.worker)
-    (λ i. record { ends = ends_at a.table (c.reserve.ensures.items i); steps = a.calls; calls = asked c.args.call ∷ rest }) (h.ok file rest parties) in
+    (λ i. record { ends = ends_at a.table (c.reserve.ensures.items i); steps = a.calls; calls = asked c.args.call ∷ rest; may = may_of a }) (h.ok file rest parties) in
     done_after k file before (seat_of rest m) (seat_of rest b) a.worker m.worker b.worker kept h.keeps.party made (c.wait.ensures.went file rest (parties ∙ sym h.keeps.parties))
