@@ -1,5 +1,5 @@
 -- Nodes of a place, one item after the other, and names under which kinds are appended.
-use Rattle.std.proofs.Common.{◌≡◌, ◌∙◌, ℕ, zero, suc, ◌+◌, ◌<◌, ◌==◌, Bool, true, false, List, [], ◌∷◌, ◌++◌, length, get_or, map, take, Option, Some, None, if◌then◌else◌, eq-eqb, refl, ap, sym, arith}
+use Rattle.std.proofs.Common.{◌≡◌, ◌∙◌, ℕ, zero, suc, ◌+◌, ◌<◌, ◌==◌, Bool, true, false, List, [], ◌∷◌, ◌++◌, length, get_or, map, take, Option, Some, None, if◌then◌else◌, add-one, eq-eqb, refl, ap, sym, arith}
 use Rattle.std.proofs.lemmas.Bool.Decides.{Decides-eqb}
 use Rattle.std.proofs.lemmas.List.{map-append}
 use Rattle.std.specs.Prelude.{is_some}
@@ -81,9 +81,10 @@ def_named (x ∷ ds) (suc k) d lt is = later (x.name == d.name) x.body (protocol
 pub copied_next : (ds made : List ProtocolDef) (k : ℕ) (d e : ProtocolDef) → k < length ds → d ≡ get_or ds k d → protocol_of e ≡ protocol_of d
     → map protocol_of made ≡ map protocol_of (take k ds) → map protocol_of (made ++ e ∷ []) ≡ map protocol_of (take (k + 1) ds)
 copied_next ds made k d e lt is same before =
-    map-append protocol_of made (e ∷ []) ∙ (λ i. before i ++ same i ∷ []) ∙ (λ i. map protocol_of (take k ds) ++ protocol_of (is i) ∷ []) ∙ taken ds k d lt
+    rw add-one
+    (map-append protocol_of made (e ∷ []) ∙ (λ i. before i ++ same i ∷ []) ∙ (λ i. map protocol_of (take k ds) ++ protocol_of (is i) ∷ []) ∙ taken ds k d lt)
   where
-    taken : (ds : List ProtocolDef) (k : ℕ) (d : ProtocolDef) → k < length ds → map protocol_of (take k ds) ++ protocol_of (get_or ds k d) ∷ [] ≡ map protocol_of (take (k + 1) ds)
+    taken : (ds : List ProtocolDef) (k : ℕ) (d : ProtocolDef) → k < length ds → map protocol_of (take k ds) ++ protocol_of (get_or ds k d) ∷ [] ≡ map protocol_of (take (suc k) ds)
     taken [] k d lt = absurd (omega arith)
     taken (x ∷ ds) zero d lt = refl
     taken (x ∷ ds) (suc k) d lt = ap (λ qs. protocol_of x ∷ qs) (taken ds k d (omega (arith, lt)))
