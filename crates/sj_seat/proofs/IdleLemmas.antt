@@ -53,8 +53,8 @@ module _ {Q : Type 0} (play : Play Place Q) (party : ℕ) (g : Q) (ended : play.
 
   -- what it does is no act
   no_act_noted : (e : Event) (d : Deed Place) (note : NoteAt) → e ≡ event_of d → (d ≡ Acted → ⊥) → note_if_act e note ≡ None
-  no_act_noted e Acted note is no = absurd (no refl)
-  no_act_noted e (Came from f) note is no = ap (λ v. note_if_act v note) is
+  no_act_noted e Acted note is not_acted = absurd (not_acted refl)
+  no_act_noted e (Came from f) note is not_acted = ap (λ v. note_if_act v note) is
 
   no_step_acts : (old mid : NodeAt Place Q) (st : StepAt Place) → old.program ≡ g → Steps play max party old st mid → st.deed ≡ Acted → ⊥
   no_step_acts old mid st own x is = no_row x.done (sym (no_act old own) ∙ ap (deed_done play max party old) (sym is) ∙ x.row)

@@ -12,7 +12,8 @@ use Rattle.sj_semantics.specs.declared.Want.TheVariants as wants
 use Rattle.sj_table.specs.Spots.{start_in}
 use Rattle.sj_work.specs.Laned.{laned}
 use Rattle.sj_work.specs.Views.{stop_of}
-use Rattle.sj_work.specs.Worked.{Turned, Went, Worked, WorkedBy, kept_stop}
+use Rattle.sj_work.specs.Went.{Went}
+use Rattle.sj_work.specs.Worked.{Turned, Worked, WorkedBy, kept_stop}
 use Rattle.sj_work.specs.declared.worker.Stop.{Stop}
 use Rattle.sj_work.specs.declared.worker.Worker.{Worker}
 use Rattle.sj_work.proofs.LaneLaws.{LaneLaws}
