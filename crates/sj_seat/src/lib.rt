@@ -16,11 +16,12 @@ mod starts;
 mod turns;
 mod wish;
 
-pub use ends::HeldEnd;
+pub use ends::{HeldEnd, go_on};
+pub use firsts::first_ends;
 pub use guards::Guard;
 pub use guest::Guest;
 pub use laws::the_rules_are_the_guard;
-pub use openings::{Opening, Openings};
+pub use openings::{Opening, Openings, party_openings};
 pub use places::carries_places;
 pub use refusal::SeatRefusal;
 pub use wish::Wish;
