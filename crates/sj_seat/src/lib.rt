@@ -1,6 +1,7 @@
 //! A party of a run that is played by a builder's own code.
 #![tactic(auto)]
 
+mod attend;
 mod calls;
 mod deeds;
 mod ends;
