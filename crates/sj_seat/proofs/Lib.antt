@@ -5,7 +5,9 @@ mod DoneLemmas
 mod FirstLemmas
 mod HoldingLemmas
 mod IdleLemmas
+mod LastLemmas
 mod MovedLemmas
 mod OpeningLemmas
 mod RuleLemmas
+mod TakenLemmas
 mod WaitLemmas

@@ -1,6 +1,7 @@
 pub mod Asked
 pub mod Fronts
 pub mod Holding
+pub mod Logged
 pub mod Opened
 pub mod Places
 pub mod Rules

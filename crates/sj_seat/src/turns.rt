@@ -7,9 +7,11 @@ ghost use Rattle.sj_node.specs.Reading.{parties_of};
 ghost use Rattle.sj_node.specs.Seats.{is_take};
 ghost use Rattle.sj_rules.specs.Limits.{clock_end};
 ghost use Rattle.sj_seat.specs.Asked.{IsGuarded, asked};
+ghost use Rattle.sj_seat.specs.Logged.{TellsTaken, last_act};
 ghost use Rattle.sj_seat.specs.Views.{calls_of, ends_of, may_of, node_of, table_of, worker_of};
 ghost use Rattle.sj_seat.specs.Went.{IsHalt, IsHeldUp, IsStopped, Keeps, Rests, Went};
 ghost use Rattle.sj_seat_laws.specs.Calls as calls;
+ghost use Rattle.sj_work.specs.Laned.{laned};
 ghost use Rattle.sj_work.specs.Views.{stop_of};
 ghost use Rattle.sj_work.specs.Worked.{kept_stop};
 
@@ -31,6 +33,8 @@ impl<O: OutLane, I: InLane, G: Gate> Guest<'_, O, I, G> {
             Went O.OutLane I.InLane file rest rest self.old self.new }
         ensures keeps { Keeps (node_of self.old) (node_of self.new) }
         ensures rests { Rests self.old self.new }
+        ensures acts { last_act (laned (worker_of self.new)).log
+            ≡ last_act (laned (worker_of self.old)).log }
         ensures none { result ≡ None → kept_stop (stop_of (worker_of self.new)) ≡ None }
         ensures some { IfSome result (λ s. stop_of (worker_of self.new) ≡ Some s) }
     {
@@ -57,6 +61,7 @@ impl<O: OutLane, I: InLane, G: Gate> Guest<'_, O, I, G> {
             (Went O.OutLane I.InLane file rest rest self.old self.new) }
         ensures rests { OnErr result (Rests self.old self.new) }
         ensures takes { IfOk result (λ m. is_some m ≡ is_take call) }
+        ensures tells { IfOk result (TellsTaken (worker_of self.new) (asked call)) }
 
         // What stays in any case.
         ensures keeps { Keeps (node_of self.old) (node_of self.new) }
@@ -107,6 +112,7 @@ impl<O: OutLane, I: InLane, G: Gate> Guest<'_, O, I, G> {
             (Went O.OutLane I.InLane file rest rest self.old self.new) }
         ensures rests { OnErr result (Rests self.old self.new) }
         ensures takes { IfOk result (λ m. is_some m ≡ is_take call) }
+        ensures tells { IfOk result (TellsTaken (worker_of self.new) (asked call)) }
 
         // What stays in any case.
         ensures keeps { Keeps (node_of self.old) (node_of self.new) }
@@ -149,6 +155,7 @@ impl<O: OutLane, I: InLane, G: Gate> Guest<'_, O, I, G> {
             (Went O.OutLane I.InLane file rest rest self.old self.new) }
         ensures rests { OnErr result (Rests self.old self.new) }
         ensures takes { IfOk result (λ m. is_some m ≡ is_take call) }
+        ensures tells { IfOk result (TellsTaken (worker_of self.new) (asked call)) }
 
         // What stays in any case.
         ensures keeps { Keeps (node_of self.old) (node_of self.new) }

@@ -8,4 +8,4 @@ returns g c =
     let il = g.met.I.InLane g.world.𝓛 g.world.𝓜 g.world.𝓡 (λ s x. x, λ x. x, λ x. x, λ x. x) in
     let k = laws g.O.OutLane g.I.InLane ol.same_itself ol.same_later il.same_itself il.same_later in
     let h = idled k c.args.worker.now c.work.new.worker c.requires.idle 1 c.work.ensures.worked in
-    record { keeps = h.keeps; idle = h.idle; work = h.work; stop = c.work.ensures.stop }
+    record { keeps = h.keeps; idle = h.idle; work = h.work; acts = h.acts; stop = c.work.ensures.stop }

@@ -8,6 +8,7 @@ use Rattle.sj_seat.specs.Holding.{ends_at}
 use Rattle.sj_seat.specs.Views.{may_of, seat_of}
 use Rattle.sj_seat.specs.Went.{SeatWork}
 use Rattle.sj_seat.proofs.AfterLemmas.{done_after, nothing_done}
+use Rattle.sj_seat.proofs.TakenLemmas.{tells_still}
 use Rattle.sj_seat.proofs.guest.Guest.attempt.Goals as goal
 
 pub returns-in-Some-clause-err : goal.returns-in-Some-clause-err
@@ -44,3 +45,7 @@ returns-in-Ok-clause-ok g c =
     subst (λ (s : SeatedAt). SeatWork g.O.OutLane g.I.InLane file s (seat_of rest m) a.worker m.worker)
     (λ i. record { ends = ends_at a.table (c.reserve.ensures.items i); steps = a.calls; calls = asked c.args.call ∷ rest; may = may_of a }) (h.ok file rest parties) in
     done_after k file before (seat_of rest m) (seat_of rest b) a.worker m.worker b.worker kept h.keeps.party made (c.wait.ensures.went file rest (parties ∙ sym h.keeps.parties))
+
+pub returns-in-Ok-clause-tells : goal.returns-in-Ok-clause-tells
+returns-in-Ok-clause-tells g c =
+    tells_still c.make.new.self.worker c.wait.new.self.worker (asked c.args.call) c.in-Ok.msg c.wait.ensures.acts c.in-Ok.ensures.tells
