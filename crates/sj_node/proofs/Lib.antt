@@ -16,6 +16,7 @@ pub mod PassLemmas
 pub mod PlainFrameLemmas
 pub mod PlayLemmas
 pub mod ReadingLemmas
+pub mod RequestLemmas
 pub mod RowLemmas
 pub mod SeatLemmas
 pub mod SignalLemmas

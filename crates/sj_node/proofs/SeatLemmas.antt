@@ -4,6 +4,7 @@ use Rattle.sj_base.specs.declared.EndId.{EndId}
 use Rattle.sj_base.specs.declared.Msg.{Msg}
 use Rattle.sj_end.specs.Lines.{note_seen}
 use Rattle.sj_end.specs.declared.note.Event.TheVariants as events
+use Rattle.sj_end.specs.declared.note.Note.{Note}
 use Rattle.sj_lang.specs.Place.{Place}
 use Rattle.sj_semantics.specs.Program.{Program}
 use Rattle.sj_table.specs.declared.table.Spot.{Spot}
@@ -12,6 +13,7 @@ use Rattle.sj_rules.specs.Halts as causes
 use Rattle.sj_rules.specs.Halts.{halt_by, halt_if, is_delegated_enough, is_empty, is_expected, lacks_message}
 use Rattle.sj_rules.specs.Log as logs
 use Rattle.sj_rules.specs.Mapped.{held_with, main_with}
+use Rattle.sj_rules.specs.Node as rules
 use Rattle.sj_rules.specs.Node.{NodeAt, Play, act_by, take_act, take_from}
 use Rattle.sj_rules.specs.Record.{Closed, Expected, Held, HeldAt, MainAt}
 use Rattle.sj_rules.specs.Rows.{Worked}
@@ -22,7 +24,7 @@ use Rattle.sj_node.specs.declared.seats.Call.{Call}
 use Rattle.sj_node.specs.declared.seats.Call.TheVariants as calls
 use Rattle.sj_node.specs.Calls.{call_of, has_place_for, silent}
 use Rattle.sj_node.specs.Node.{Does, clock_of, main_of, next_head, node_at, took_if}
-use Rattle.sj_node.specs.Seats.{IsCalled, IsHead, call_note, call_stop, halt_named, want_at}
+use Rattle.sj_node.specs.Seats.{IsCalled, IsHead, IsRowOf, call_note, call_stop, halt_named, want_at}
 use Rattle.sj_node.specs.Taking.{held_head}
 
 -- ---- what holds a call up
@@ -106,7 +108,7 @@ on_ok (Err e) P Q f h = tt
 
 -- ---- its row, and its note
 
-no_row : {X : Type 0} (x : X) → ◌≡◌ {A = Option X} None (Some x) → ⊥
+pub no_row : {X : Type 0} (x : X) → ◌≡◌ {A = Option X} None (Some x) → ⊥
 no_row x h = absurd (cc h)
 
 then_row : {X : Type 0} (b : Bool) (o : Option X) (x : X) → (if b then o else None) ≡ Some x → o ≡ Some x
@@ -150,13 +152,18 @@ noted n (calls.Delegate c e) left row = refl
 noted n (calls.Take e spot) left row = take_noted (silent n.parties) (node_at n) e (place_in n.table spot) (place_in n.table) (main_of n e) left row
 noted n (calls.Close e) left row = refl
 
--- a call that is done
-pub call_done : (old new : Node) (call : Call) → Does old (call_of old (want_at old call)) (clock_of old + 1) events.Act (call_note old call) new → IsCalled old call new
-call_done old new call does = by (call_of old (want_at old call)) refl does
+-- a step that is done
+pub row_done : (old new : Node) (want : rules.Want Place) (note : Note) → ((left : Worked Place (NodeAt Place Program)) → act_by (silent old.parties) old.party (node_at old) want ≡ Some left → logs.act_note old.party (node_at old) want ≡ Some (note_seen note))
+    → Does old (call_of old want) (clock_of old + 1) events.Act note new → IsRowOf old want note new
+row_done old new want note told does = by (call_of old want) refl does
   where
-    by : (o : Option (Worked Place (NodeAt Place Program))) → call_of old (want_at old call) ≡ o → Does old o (clock_of old + 1) events.Act (call_note old call) new → IsCalled old call new
+    by : (o : Option (Worked Place (NodeAt Place Program))) → call_of old want ≡ o → Does old o (clock_of old + 1) events.Act note new → IsRowOf old want note new
     by None is did = absurd did
     by (Some left) is did =
-        let row : act_by (silent old.parties) old.party (node_at old) (want_at old call) ≡ Some left =
-        then_row (has_place_for (node_at old).main (want_at old call)) (act_by (silent old.parties) old.party (node_at old) (want_at old call)) left is in
-        record { left = left; row = row; note = noted old call left row; did = did }
+        let row : act_by (silent old.parties) old.party (node_at old) want ≡ Some left =
+        then_row (has_place_for (node_at old).main want) (act_by (silent old.parties) old.party (node_at old) want) left is in
+        record { left = left; row = row; note = told left row; did = did }
+
+-- a call that is done
+pub call_done : (old new : Node) (call : Call) → Does old (call_of old (want_at old call)) (clock_of old + 1) events.Act (call_note old call) new → IsCalled old call new
+call_done old new call does = row_done old new (want_at old call) (call_note old call) (noted old call) does

@@ -86,7 +86,7 @@ delegated_by n at c e (Some (Expected keeper place deferred)) true g is = refl
 delegated_by n at c e (Some (Held h)) true g is =
     sent_by n (with_main e None (with_old e (Some (Parked (record h.end { hops = h.end.hops + 1 }))) at)) c (msgs.Sess e.sess e.side n.party) (put e None at.main c) (nat_lt h.end.hops limit_of_hops) g is
 
-chosen : {X Y : Type 0} (b : Bool) (x : Y) (w : X) (h : X → Y) → x ≡ h w → (if b then Some x else None) ≡ option_map h (if b then Some w else None)
+pub chosen : {X Y : Type 0} (b : Bool) (x : Y) (w : X) (h : X → Y) → x ≡ h w → (if b then Some x else None) ≡ option_map h (if b then Some w else None)
 chosen true x w h same = ap (λ y. Some y) same
 chosen false x w h same = refl
 

@@ -14,6 +14,7 @@ pub mod Parking
 pub mod Passing
 pub mod Play
 pub mod Reading
+pub mod Requests
 pub mod Rows
 pub mod Seats
 pub mod Sending

@@ -84,12 +84,16 @@ halt_named (causes.no_message e) = halts.Waits
 halt_named causes.requested_enough = halts.AtLimit
 halt_named (causes.no_offer from) = halts.Waits
 
--- the call was done by that row of the rules, and its note is the one that they ask for
-pub record IsCalled (old : Node) (call : Call) (new : Node) : Type 0 where
+-- the step was done by that row of the rules, and its note is the one that they ask for
+pub record IsRowOf (old : Node) (want : rules.Want Place) (noted : Note) (new : Node) : Type 0 where
   pub left : Worked Place (NodeAt Place Program)
-  pub row : act_by (silent old.parties) old.party (node_at old) (want_at old call) ≡ Some left
-  pub note : logs.act_note old.party (node_at old) (want_at old call) ≡ Some (note_seen (call_note old call))
-  pub did : Did old left (clock_of old + 1) events.Act (call_note old call) new
+  pub row : act_by (silent old.parties) old.party (node_at old) want ≡ Some left
+  pub note : logs.act_note old.party (node_at old) want ≡ Some (note_seen noted)
+  pub did : Did old left (clock_of old + 1) events.Act noted new
+
+-- the call was done so
+abbrev pub IsCalled : Node → Call → Node → Type 0
+IsCalled old call new = IsRowOf old (want_at old call) (call_note old call) new
 
 -- the next message of a Held end is that one
 pub record IsHead (n : Node) (e : EndId) (m : Msg) : Type 0 where

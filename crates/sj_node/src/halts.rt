@@ -1,6 +1,6 @@
 //! Whether a step can't be done yet.
 ghost use Rattle.std.specs.Prelude.{◌≡◌};
-ghost use Rattle.sj_node.specs.Halts.{hold_up, names_awaited, stop_by};
+ghost use Rattle.sj_node.specs.Halts.{accept_stop, hold_up, names_awaited, request_stop, stop_by};
 ghost use Rattle.sj_node.specs.Node.{offers_of, steps_of};
 ghost use Rattle.sj_node.specs.Offers.{offers_in};
 ghost use Rattle.sj_node.specs.Slots.{mains_in};
@@ -82,21 +82,31 @@ fn held_up(mains: &[Option<Main>], requests: u8, offers: &[Vec<u32>], want: Want
                 None
             }
         }
-        Want::Request { .. } => {
-            if requests < MAX_REQUESTS {
-                None
-            } else {
-                Some(Halt::AtLimit)
-            }
-        }
-        Want::Accept { from, .. } => {
-            if is_offering(offers, from) {
-                None
-            } else {
-                Some(Halt::Waits)
-            }
-        }
+        Want::Request { .. } => request_stop(requests),
+        Want::Accept { from, .. } => accept_stop(offers, from),
         _ => None,
+    }
+}
+
+/// Why a party that opened so many sessions can't request one.
+pub(crate) fn request_stop(requests: u8) -> Option<Halt>
+    ensures { result ≡ request_stop requests }
+{
+    if requests < MAX_REQUESTS {
+        None
+    } else {
+        Some(Halt::AtLimit)
+    }
+}
+
+/// Why it can't accept a session of that party yet.
+pub(crate) fn accept_stop(offers: &[Vec<u32>], from: u16) -> Option<Halt>
+    ensures { result ≡ accept_stop (offers_in offers.now) from }
+{
+    if is_offering(offers, from) {
+        None
+    } else {
+        Some(Halt::Waits)
     }
 }
 

@@ -1,7 +1,8 @@
 //! Laws of the play of a node: `nodes_play_the_file`, `acts_are_of_the_file`,
 //! `known_heads_are_taken_by_the_file`, `nodes_keep_their_play`; of what is unfit:
 //! `misfits_have_no_act`, `only_misfits_have_no_act`, `nodes_that_act_agree`; of calls:
-//! `calls_are_rows`, `calls_halt_as_the_rules_say`, `heads_are_untaken`.
+//! `calls_are_rows`, `calls_halt_as_the_rules_say`, `heads_are_untaken`, `openings_are_rows`,
+//! `openings_halt_as_the_rules_say`.
 ghost use Rattle.std.specs.Prelude.{◌≡◌, ◌+◌, ℕ, List, Some, None, IsSome, option_map};
 ghost use Rattle.sj_base.specs.declared.EndId.{EndId};
 ghost use Rattle.sj_base.specs.declared.Msg.{Msg};
@@ -11,13 +12,16 @@ ghost use Rattle.sj_end.specs.declared.note.Event.{Event};
 ghost use Rattle.sj_end.specs.declared.note.Event.TheVariants as events;
 ghost use Rattle.sj_end.specs.declared.note.Note.{Note};
 ghost use Rattle.sj_node.specs.Calls.{call_of};
-ghost use Rattle.sj_node.specs.Node.{Did, Does, act_of, clock_of, next_head, node_at, play_here, stop_of, wants_of};
+ghost use Rattle.sj_node.specs.Halts.{accept_stop, request_stop};
+ghost use Rattle.sj_node.specs.Node.{Did, Does, act_of, clock_of, next_head, node_at, offers_of, play_here, requests_of, stop_of, wants_of};
 ghost use Rattle.sj_node.specs.declared.node.Node.{Node};
 ghost use Rattle.sj_node.specs.declared.seats.Call.{Call};
 ghost use Rattle.sj_node.specs.Play.{HeadsAre, asking, names_known, play_with};
-ghost use Rattle.sj_node.specs.Seats.{IsCalled, IsHead, call_note, call_stop, halt_named, want_at};
+ghost use Rattle.sj_node.specs.Requests.{accept_note, request_note};
+ghost use Rattle.sj_node.specs.Seats.{IsCalled, IsHead, IsRowOf, call_note, call_stop, halt_named, want_at};
 ghost use Rattle.sj_node.specs.Unfit.{Agrees, Misfit, misfit_of};
 ghost use Rattle.sj_rules.specs.Halts.{halt_by};
+ghost use Rattle.sj_rules.specs.Node as wanted;
 ghost use Rattle.sj_rules.specs.Node.{NodeAt, acts};
 ghost use Rattle.sj_rules.specs.Party as file;
 ghost use Rattle.sj_rules.specs.Rows.{Worked};
@@ -86,4 +90,24 @@ pub fn calls_halt_as_the_rules_say()
 /// The next message of an end is the first one there that isn't taken.
 pub fn heads_are_untaken()
     ensures { (n : Node) (e : EndId) (m : Msg) → next_head n e ≡ Some m → IsHead n e m }
+{}
+
+/// The same of a request and of an accept that are done.
+pub fn openings_are_rows()
+    ensures requests { (old new : Node) (place : Place) (to : ℕ) →
+        Does old (call_of old (wanted.requests place to)) (clock_of old + 1) events.Act
+        (request_note old to) new →
+        IsRowOf old (wanted.requests place to) (request_note old to) new }
+    ensures accepts { (old new : Node) (place : Place) (from : ℕ) →
+        Does old (call_of old (wanted.accepts place from)) (clock_of old + 1) events.Act
+        (accept_note old from) new →
+        IsRowOf old (wanted.accepts place from) (accept_note old from) new }
+{}
+
+/// What holds a request or an accept up is what holds its step up by the rules.
+pub fn openings_halt_as_the_rules_say()
+    ensures requests { (n : Node) (place : Place) (to : ℕ) → request_stop (requests_of n)
+        ≡ option_map halt_named (halt_by (node_at n) (wanted.requests place to)) }
+    ensures accepts { (n : Node) (place : Place) (from : ℕ) → accept_stop (offers_of n) from
+        ≡ option_map halt_named (halt_by (node_at n) (wanted.accepts place from)) }
 {}

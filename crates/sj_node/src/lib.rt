@@ -20,6 +20,7 @@ mod outs;
 mod readers;
 mod records;
 mod refusal;
+mod requests;
 mod seats;
 mod sends;
 mod signals;
@@ -32,7 +33,8 @@ mod threads;
 pub use laws::{
     acts_are_of_the_file, calls_are_rows, calls_halt_as_the_rules_say, heads_are_untaken,
     known_heads_are_taken_by_the_file, misfits_have_no_act, nodes_keep_their_play,
-    nodes_play_the_file, nodes_that_act_agree, only_misfits_have_no_act,
+    nodes_play_the_file, nodes_that_act_agree, only_misfits_have_no_act, openings_are_rows,
+    openings_halt_as_the_rules_say,
 };
 pub use node::Node;
 pub use refusal::{DeliverRefusal, Halt};

@@ -1,14 +1,17 @@
-//! Steps that open a session or accept one, and the row of an Open.
-ghost use Rattle.std.specs.Prelude.{◌≡◌, ◌+◌, ◌<◌, OnOk, OnErr, IfErr, IsErrOf, None, option_map};
+//! The rows that open a session or accept one, and the row of an Open.
+ghost use Rattle.std.specs.Prelude.{◌≡◌, ◌+◌, ◌<◌, OnOk, OnErr, IfErr, IfOk, IsErrOf, None, Some, option_map};
 ghost use Rattle.sj_end.specs.declared.note.Event.TheVariants as events;
+ghost use Rattle.sj_node.specs.Calls.{call_of, place_here, program_of};
 ghost use Rattle.sj_node.specs.Halts.{is_late};
-ghost use Rattle.sj_node.specs.Node.{Does, Stays, act_of, clock_of, connect_count, note_for, requests_of, steps_of, wants_of};
+ghost use Rattle.sj_node.specs.Node.{Does, Stays, clock_of, connect_count, requests_of};
 ghost use Rattle.sj_node.specs.Opening.{Accepts, AcceptsFrom};
 ghost use Rattle.sj_node.specs.Parking.{held_of};
+ghost use Rattle.sj_node.specs.Requests.{accept_note, accepted_by, request_note, requested_by};
 ghost use Rattle.sj_node.specs.Rows.{IsOpened, LacksOpen, Rests};
 ghost use Rattle.sj_node.specs.Slots.{main_at, mains_in};
-ghost use Rattle.sj_rules.specs.Limits.{clock_end, limit_of_requests, limit_of_steps};
-ghost use Rattle.sj_semantics.specs.declared.Want.TheVariants as wants;
+ghost use Rattle.sj_node.specs.declared.refusal.Halt.TheVariants as halts;
+ghost use Rattle.sj_rules.specs.Limits.{clock_end, limit_of_requests};
+ghost use Rattle.sj_rules.specs.Node as rules;
 
 use crate::departures::make_main_slot;
 use crate::handovers::{is_vacant, put_held};
@@ -23,18 +26,19 @@ use sj_machine::opened_number;
 use sj_table::Spot;
 
 impl Node {
-    // A step that opens a session.
-    pub(crate) fn step_request(&mut self, protocol: u16, to: u16) -> Result<(), Halt>
-        requires step { wants_of self.old ≡ wants.Request protocol to }
-        requires steps { steps_of self.old < limit_of_steps }
+    /// Requests a session at that party, and notes it; its own end, which gets that place. It is
+    /// refused out of memory alone, and the node is then as it was.
+    pub(crate) fn request(&mut self, place: Spot, to: u16) -> Result<EndId, Halt>
         requires clock { clock_of self.old < clock_end }
         requires requests { requests_of self.old < limit_of_requests }
-        ensures ok { OnOk result (Does self.old (act_of self.old) (clock_of self.old + 1) events.Act
-            (note_for self.old) self.new) }
+        ensures ok { OnOk result (Does self.old
+            (call_of self.old (rules.requests (place_here self.old place) to))
+            (clock_of self.old + 1) events.Act (request_note self.old to) self.new) }
+        ensures opened { IfOk result (λ e. e ≡ requested_by self.old) }
         ensures err { OnErr result (Stays self.old self.new) }
         ensures connects { connect_count self.new ≡ connect_count self.old }
-        ensures late { IfErr result is_late }
-        ensures unfit { IsErrOf result Halt.Unfit → act_of self.old ≡ None }
+        ensures program { program_of self.new ≡ program_of self.old }
+        ensures memory { IfErr result (λ h. h ≡ halts.NoMemory) }
     {
         let sess = opened_number(self.party, self.requests);
         let end = EndId { sess, side: 0 };
@@ -43,13 +47,11 @@ impl Node {
         if make_main_slot(&mut self.mains, end).is_err() {
             return Err(Halt::NoMemory);
         }
-        let place = self.table.start(protocol);
         put_held(
             &mut self.mains,
             end,
             Held::first(self.alloc, end, to, place),
         );
-        self.machine.opened(end);
         self.requests += 1;
         self.clock += 1;
         put_frame(
@@ -65,39 +67,40 @@ impl Node {
             event: Event::Act,
             note: Note::Request { sess, to },
         });
-        Ok(())
+        Ok(end)
     }
 
-    // A step that accepts a session.
-    pub(crate) fn step_accept(&mut self, protocol: u16, from: u16) -> Result<(), Halt>
-        requires step { wants_of self.old ≡ wants.Accept protocol from }
-        requires steps { steps_of self.old < limit_of_steps }
+    /// Accepts the next session that the party offers, and notes it; its own end, which gets that
+    /// place. Whatever it refuses, the node is as it was.
+    pub(crate) fn accept(&mut self, place: Spot, from: u16) -> Result<EndId, Halt>
         requires clock { clock_of self.old < clock_end }
-        ensures ok { OnOk result (Does self.old (act_of self.old) (clock_of self.old + 1) events.Act
-            (note_for self.old) self.new) }
+        ensures ok { OnOk result (Does self.old
+            (call_of self.old (rules.accepts (place_here self.old place) from))
+            (clock_of self.old + 1) events.Act (accept_note self.old from) self.new) }
+        ensures opened { IfOk result (λ e. Some e ≡ accepted_by self.old from) }
         ensures err { OnErr result (Stays self.old self.new) }
         ensures connects { connect_count self.new ≡ connect_count self.old }
+        ensures program { program_of self.new ≡ program_of self.old }
         ensures late { IfErr result is_late }
-        ensures unfit { IsErrOf result Halt.Unfit → act_of self.old ≡ None }
+        ensures unfit { IsErrOf result Halt.Unfit →
+            call_of self.old (rules.accepts (place_here self.old place) from) ≡ None }
     {
         let Some(sess) = offered_by(&self.offers, from) else {
             return Err(Halt::Unfit);
         };
         let end = EndId { sess, side: 1 };
         self.log.reserve(1)?;
-        let place = self.table.start(protocol);
         if let Err(halt) = accept_on(&mut self.mains, end, place) {
             return Err(halt);
         }
         withdraw(&mut self.offers, from, sess);
-        self.machine.opened(end);
         self.clock += 1;
         self.log.push_reserved(Entry {
             clock: self.clock,
             event: Event::Act,
             note: Note::Accept { sess, from },
         });
-        Ok(())
+        Ok(end)
     }
 
     /// The row of an Open that comes from that party.

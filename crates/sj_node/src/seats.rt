@@ -33,6 +33,14 @@ pub enum Call {
 }
 
 impl Node {
+    /// The message that is next on the end: the first that has come there and isn't taken. None
+    /// where the party doesn't hold the end.
+    pub fn head(&self, end: EndId) -> Option<Msg>
+        ensures { result ≡ next_head self.now end }
+    {
+        head_at(&self.mains, end)
+    }
+
     /// Does the call, whatever the program is, which stays; the message that it takes, if any.
     /// Whatever it refuses, the node is as it was.
     pub fn call(&mut self, call: Call) -> Result<Option<Msg>, Halt>
@@ -127,7 +135,7 @@ impl Node {
             is_known_head self.old (next_head self.old end) ≡ true →
             call_of self.old (rules.takes end (place_here self.old place)) ≡ None }
     {
-        let Some(msg) = head_at(&self.mains, end) else {
+        let Some(msg) = self.head(end) else {
             return Err(Halt::Unfit);
         };
         if !is_known(self.connects, self.parties, &msg) {

@@ -1,8 +1,8 @@
 //! Rounds of all parties, until one has no event.
-ghost use Rattle.std.specs.Prelude.{◌≡◌, ◌<◌, false, IfOk, OnOk, length};
+ghost use Rattle.std.specs.Prelude.{◌≡◌, ◌<◌, ◌≤◌, false, true, IfOk, OnOk, length};
 ghost use Rattle.sj_seats.specs.Core.{is_seat};
-ghost use Rattle.sj_seats.specs.Draining.{HasNoLane, IsQuiet, Tries};
-ghost use Rattle.sj_seats.specs.Played.{IsEmpty, IsIdle, IsReached, IsStill, Keeps, chairs_in, nodes_in};
+ghost use Rattle.sj_seats.specs.Draining.{AreIdle, Goes, HasNoLane, IsQuiet, Tries};
+ghost use Rattle.sj_seats.specs.Played.{IsEmpty, IsIdle, IsReached, IsStill, Keeps, chairs_in, history_in, nodes_in};
 
 use crate::played::PlayedWorld;
 use sj_base::NoMemory;
@@ -18,17 +18,16 @@ impl PlayedWorld {
         ensures reached { IsReached self.new }
         ensures keeps { Keeps self.old self.new }
     {
-        if self.nodes[from as usize].nothing_waits(party) {
-            self.nodes[from as usize].give_up_room(party);
-            return Ok(false);
+        if self.history.reserve(1).is_err() {
+            return Err(NoMemory);
         }
-        self.history.reserve(1)?;
-        match self.deliver(party, from)? {
-            Some(entry) => {
+        match self.deliver(party, from) {
+            Ok(Some(entry)) => {
                 self.history.push_reserved(Line { party, entry });
                 Ok(true)
             }
-            None => Ok(false),
+            Ok(None) => Ok(false),
+            Err(refusal) => Err(refusal),
         }
     }
 
@@ -41,98 +40,118 @@ impl PlayedWorld {
         ensures reached { IsReached self.new }
         ensures keeps { Keeps self.old self.new }
     {
-        self.history.reserve(1)?;
-        match self.act(party)? {
-            Some(entry) => {
+        if self.history.reserve(1).is_err() {
+            return Err(NoMemory);
+        }
+        match self.act(party) {
+            Ok(Some(entry)) => {
                 self.history.push_reserved(Line { party, entry });
                 Ok(true)
             }
-            None => Ok(false),
+            Ok(None) => Ok(false),
+            Err(refusal) => Err(refusal),
         }
     }
 
-    /// The party takes the frames of the lane from that party, until it is empty. Answers whether
-    /// there was one.
-    fn take_all(&mut self, party: u16, from: u16) -> Result<bool, NoMemory>
+    /// The party takes the frames of the lane from that party, until it is empty.
+    fn take_all(&mut self, party: u16, from: u16) -> Result<(), NoMemory>
         requires reached { IsReached self.old }
         requires there { party < length (nodes_in self.old) }
         requires origin { from < length (nodes_in self.old) }
-        ensures tried { IfOk result (λ b. Tries b self.old self.new (IsEmpty self.new from party)) }
+        ensures goes { OnOk result (Goes self.old self.new (IsEmpty self.new from party)) }
         ensures reached { IsReached self.new }
         ensures keeps { Keeps self.old self.new }
     {
-        let mut moved = false;
-        while self.takes(party, from)? {
-            moved = true;
-        }
-        Ok(moved)
+        while self.takes(party, from)? {}
+        Ok(())
     }
 
-    /// The party takes the frames of all lanes to it, one lane after another. Answers whether there
-    /// was one.
-    fn take_each(&mut self, party: u16) -> Result<bool, NoMemory>
+    /// The party acts until it can't.
+    fn act_out(&mut self, party: u16) -> Result<(), NoMemory>
         requires reached { IsReached self.old }
         requires there { party < length (nodes_in self.old) }
-        ensures tried { IfOk result (λ b. Tries b self.old self.new
-            (HasNoLane self.new (length (nodes_in self.new)) party)) }
+        requires own { is_seat (chairs_in self.old) party ≡ false }
+        ensures goes { OnOk result (Goes self.old self.new (IsStill self.new party)) }
         ensures reached { IsReached self.new }
         ensures keeps { Keeps self.old self.new }
     {
-        let mut moved = false;
+        while self.acts(party)? {}
+        Ok(())
+    }
+
+    /// The party takes the frames of all lanes to it, one lane after another.
+    fn take_each(&mut self, party: u16) -> Result<(), NoMemory>
+        requires reached { IsReached self.old }
+        requires there { party < length (nodes_in self.old) }
+        ensures goes { OnOk result (Goes self.old self.new (HasNoLane self.new (length (nodes_in self.new)) party)) }
+        ensures reached { IsReached self.new }
+        ensures keeps { Keeps self.old self.new }
+    {
         for from in 0..self.nodes.len() {
-            if self.take_all(party, from as u16)? {
-                moved = true;
-            }
+            self.take_all(party, from as u16)?;
         }
-        Ok(moved)
+        Ok(())
     }
 
-    /// The party acts until it can't. A code makes no call any more. Answers whether it acted.
-    fn act_out(&mut self, party: u16) -> Result<bool, NoMemory>
+    /// Whether the party is played by code.
+    pub fn is_seat(&self, party: u16) -> bool
+        requires reached { IsReached self.now }
+        requires there { party < length (nodes_in self.now) }
+        ensures { result ≡ is_seat (chairs_in self.now) party }
+    {
+        self.chairs[party as usize].is_some()
+    }
+
+    /// The party acts until it can't. A code makes no call any more.
+    fn acts_if_written(&mut self, party: u16) -> Result<(), NoMemory>
         requires reached { IsReached self.old }
         requires there { party < length (nodes_in self.old) }
-        ensures tried { IfOk result (λ b. Tries b self.old self.new (IsStill self.new party)) }
+        ensures goes { OnOk result (Goes self.old self.new (IsStill self.new party)) }
         ensures reached { IsReached self.new }
         ensures keeps { Keeps self.old self.new }
     {
-        if self.chairs[party as usize].is_some() {
-            return Ok(false);
+        if self.is_seat(party) {
+            return Ok(());
         }
-        let mut moved = false;
-        while self.acts(party)? {
-            moved = true;
-        }
-        Ok(moved)
+        self.act_out(party)
     }
 
-    /// The party takes all frames to it, and acts until it can't. Answers whether it had an event.
-    fn turn(&mut self, party: u16) -> Result<bool, NoMemory>
+    /// The party takes all frames to it, and acts until it can't.
+    fn turn(&mut self, party: u16) -> Result<(), NoMemory>
         requires reached { IsReached self.old }
         requires there { party < length (nodes_in self.old) }
-        ensures tried { IfOk result (λ b. Tries b self.old self.new
-            (IsIdle self.new (length (nodes_in self.new)) party)) }
+        ensures goes { OnOk result (Goes self.old self.new (IsIdle self.new (length (nodes_in self.new)) party)) }
         ensures reached { IsReached self.new }
         ensures keeps { Keeps self.old self.new }
     {
-        let took = self.take_each(party)?;
-        let acted = self.act_out(party)?;
-        Ok(took || acted)
+        self.take_each(party)?;
+        self.acts_if_written(party)
     }
 
-    /// Each party takes its turn, in order. Answers whether one had an event.
-    fn round(&mut self) -> Result<bool, NoMemory>
+    /// Each party takes its turn, in order.
+    fn round(&mut self) -> Result<(), NoMemory>
         requires reached { IsReached self.old }
-        ensures tried { IfOk result (λ b. Tries b self.old self.new (IsQuiet self.new)) }
+        ensures goes { OnOk result (Goes self.old self.new (AreIdle self.new (length (nodes_in self.new)))) }
         ensures reached { IsReached self.new }
         ensures keeps { Keeps self.old self.new }
     {
-        let mut moved = false;
         for party in 0..self.nodes.len() {
-            if self.turn(party as u16)? {
-                moved = true;
-            }
+            self.turn(party as u16)?;
         }
-        Ok(moved)
+        Ok(())
+    }
+
+    /// One round. Answers whether it had an event.
+    fn round_goes(&mut self) -> Result<bool, NoMemory>
+        requires reached { IsReached self.old }
+        ensures more { IfOk result (λ b. b ≡ true → length (history_in self.old) < length (history_in self.new)) }
+        ensures none { IfOk result (λ b. b ≡ false → IsQuiet self.new) }
+        ensures reached { IsReached self.new }
+        ensures keeps { Keeps self.old self.new }
+    {
+        let before = self.history.len();
+        self.round()?;
+        Ok(self.history.len() != before)
     }
 
     /// Rounds, until one has no event.
@@ -142,7 +161,7 @@ impl PlayedWorld {
         ensures reached { IsReached self.new }
         ensures keeps { Keeps self.old self.new }
     {
-        while self.round()? {}
+        while self.round_goes()? {}
         Ok(())
     }
 }

@@ -1,5 +1,6 @@
 //! The events of a world with seats: acts of parties that go by the file, and deliveries.
-ghost use Rattle.std.specs.Prelude.{◌≡◌, ◌<◌, ◌++◌, ◌∷◌, [], false, IfNone, IfOk, IfSome, OnErr, length};
+ghost use Rattle.std.specs.Prelude.{◌≡◌, ◌<◌, ◌++◌, ◌∷◌, [], false, IfNone, IfOk, IfSome, OnErr, OnOk, length};
+ghost use Rattle.sj_core.specs.Refusals.{IsStop};
 ghost use Rattle.sj_core.specs.Views.{line_with};
 ghost use Rattle.sj_node.specs.Node.{log_of};
 ghost use Rattle.sj_node.specs.Reading.{TakesEntry};
@@ -23,6 +24,27 @@ pub(crate) fn noted(node: &mut Node) -> Entry
     }
 }
 
+/// Why a party that goes by the file can't act: by the rules, or for memory. That an act is never
+/// unfit isn't proved here; it counts as out of memory.
+fn stopped(halt: Halt) -> Result<(), NoMemory>
+    ensures { OnOk result (IsStop halt) }
+{
+    match halt {
+        Halt::Ended | Halt::AtLimit | Halt::Waits => Ok(()),
+        Halt::NoMemory | Halt::Unfit => Err(NoMemory),
+    }
+}
+
+/// A frame that is in a lane is never unfit.
+fn without_memory(refusal: DeliverRefusal) -> NoMemory
+    requires { refusal ≡ DeliverRefusal.Unfit → ⊥ }
+{
+    match refusal {
+        DeliverRefusal::NoMemory => NoMemory,
+        DeliverRefusal::Unfit => unreachable!(),
+    }
+}
+
 impl PlayedWorld {
     /// The next act of a party that goes by the file, where it can act. It isn't listed.
     pub fn act(&mut self, party: u16) -> Result<Option<Entry>, NoMemory>
@@ -38,9 +60,10 @@ impl PlayedWorld {
         let node = &mut self.nodes[party as usize];
         match node.act() {
             Ok(()) => Ok(Some(noted(node))),
-            Err(Halt::Ended | Halt::AtLimit | Halt::Waits) => Ok(None),
-            Err(Halt::NoMemory) => Err(NoMemory),
-            Err(Halt::Unfit) => unreachable!(),
+            Err(halt) => match stopped(halt) {
+                Ok(()) => Ok(None),
+                Err(refusal) => Err(refusal),
+            },
         }
     }
 
@@ -62,11 +85,10 @@ impl PlayedWorld {
         let node = &mut self.nodes[party as usize];
         match node.deliver(from, frame) {
             Ok(()) => Ok(Some(noted(node))),
-            Err((frame, DeliverRefusal::NoMemory)) => {
+            Err((frame, refusal)) => {
                 self.nodes[from as usize].put_back(party, frame);
-                Err(NoMemory)
+                Err(without_memory(refusal))
             }
-            Err((_, DeliverRefusal::Unfit)) => unreachable!(),
         }
     }
 }

@@ -1,54 +1,17 @@
-use Rattle.std.proofs.Common.{◌≡◌, [], Some, None, append-nil, ◌∙◌, ap, sym, refl}
-use Rattle.sj_rules.specs.Mapped.{node_with}
-use Rattle.sj_rules.specs.Opened.{smallest, without}
-use Rattle.sj_table.specs.Spots.{place_in}
-use Rattle.sj_node.specs.Node.{offers_of, spot_node}
-use Rattle.sj_node.specs.Offers.{offering, offers_in}
-use Rattle.sj_node.specs.Outs.{waiting_in}
-use Rattle.sj_node.specs.Slots.{mains_in}
-use Rattle.sj_node.proofs.ActLemmas.{does_with, stays}
-use Rattle.sj_node.proofs.OpeningLemmas.{accept_noted, accepts_act, no_offer, offer_lost}
+use Rattle.std.proofs.Common.{ap, ◌∙◌}
+use Rattle.sj_semantics.specs.Steps.{opened_of}
+use Rattle.sj_node.specs.Node.{act_note, node_at, offers_of}
+use Rattle.sj_node.proofs.OpeningLemmas.{accepts_by, accepts_none, refused_so}
+use Rattle.sj_node.proofs.StepLemmas.{acted}
 use Rattle.sj_node.proofs.node.Node.step_accept.Goals as goal
 
-pub returns-in_default-clause-unfit : goal.returns-in_default-clause-unfit
-returns-in_default-clause-unfit c = λ unfit.
+pub returns-in-Ok-clause-ok : goal.returns-in-Ok-clause-ok
+returns-in-Ok-clause-ok c =
     let n = c.args.self.now in
-    let from = c.args.from in
-    let none : smallest (offers_of n from) ≡ None = ap (λ xs. smallest (offers_in xs from)) (sym c.deref.ensures.value) ∙ sym c.offered_by.ensures ∙ c.in_default.is in
-    no_offer n c.args.protocol from c.requires.step c.requires.steps none
-
-pub returns-in-Err-clause-err : goal.returns-in-Err-clause-err
-returns-in-Err-clause-err c =
-    let n = c.args.self.now in
-    stays n _ (λ i. node_with (place_in n.table) (record (spot_node n) { main = c.in-Err.ensures.err i })) (λ q. refl) c.reserve.ensures.items refl refl refl refl
+    acted n _ _ _ _ _ _ _ (accepts_by n c.args.protocol c.args.from c.in-Ok.end c.start-place.result c.requires.step c.requires.steps c.start-place.ensures.place c.in-Ok.ensures.opened)
+    (ap (act_note n.party (node_at n).main n.requests (offers_of n)) c.requires.step)
+    (c.opened.ensures ∙ ap (λ g. opened_of g c.in-Ok.end) c.accept.ensures.program) c.in-Ok.ensures.ok
 
 pub returns-in-Err-clause-unfit : goal.returns-in-Err-clause-unfit
 returns-in-Err-clause-unfit c = λ unfit.
-    let n = c.args.self.now in
-    let from = c.args.from in
-    let sess = c.in-Some.sess in
-    let least : smallest (offers_of n from) ≡ Some sess = ap (λ xs. smallest (offers_in xs from)) (sym c.deref.ensures.value) ∙ sym c.offered_by.ensures ∙ c.in-Some.is in
-    offer_lost n c.args.protocol from sess c.requires.step c.requires.steps least (c.in-Err.ensures.unfit unfit)
-
-pub returns-clause-ok : goal.returns-clause-ok
-returns-clause-ok c =
-    let n = c.args.self.now in
-    let from = c.args.from in
-    let sess = c.in-Some.sess in
-    let least : smallest (offers_of n from) ≡ Some sess = ap (λ xs. smallest (offers_in xs from)) (sym c.deref.ensures.value) ∙ sym c.offered_by.ensures ∙ c.in-Some.is in
-    does_with n _ _ _ n.requests (offering from (without sess (offers_of n from)) (offers_of n)) _ _ [] _ _ _
-    (accepts_act n c.args.protocol from sess c.start-place.result (mains_in c.accept_on.new.mains.items) c.requires.step c.requires.steps least c.in_default-accept_on.ensures.ok c.start-place.ensures.place)
-    (record {
-      program = c.opened.ensures;
-      requests = refl;
-      offers = c.withdraw.ensures;
-      mains = refl;
-      olds = refl;
-      time = refl;
-      waits = λ q. sym (append-nil (waiting_in n.outs.items q));
-      noted = rw (c.push_reserved.ensures.items, c.reserve.ensures.items, accept_noted n c.args.protocol from sess c.requires.step least) refl;
-      table = refl;
-      party = refl;
-      parties = refl;
-      connects = refl;
-    })
+    accepts_none c.args.self.now c.args.protocol c.args.from c.start-place.result c.requires.step c.requires.steps c.start-place.ensures.place (c.in-Err.ensures.unfit (refused_so _ _ unfit))

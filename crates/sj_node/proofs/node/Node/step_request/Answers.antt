@@ -1,44 +1,13 @@
-use Rattle.std.proofs.Common.{◌≡◌, ◌+◌, [], ◌∷◌, ◌++◌, Some, ◌∙◌, refl}
+use Rattle.std.proofs.Common.{ap, ◌∙◌}
 use Rattle.sj_semantics.specs.Steps.{opened_of}
-use Rattle.sj_machine.specs.Sound.{program_at}
-use Rattle.sj_rules.specs.Frames.{frames_for}
-use Rattle.sj_rules.specs.Mapped.{node_with}
-use Rattle.sj_rules.specs.Node.{put}
-use Rattle.sj_rules.specs.Opened.{new_held, opened_number}
-use Rattle.sj_rules.specs.Record.{Held, Open, requested_end}
-use Rattle.sj_table.specs.Spots.{place_in}
-use Rattle.sj_node.specs.Node.{offers_of, spot_node}
-use Rattle.sj_node.specs.Slots.{mains_in}
-use Rattle.sj_node.proofs.ActLemmas.{does_with, stays}
-use Rattle.sj_node.proofs.OpeningLemmas.{requests_act}
+use Rattle.sj_node.specs.Node.{act_note, node_at, offers_of}
+use Rattle.sj_node.proofs.OpeningLemmas.{requests_by}
+use Rattle.sj_node.proofs.StepLemmas.{acted}
 use Rattle.sj_node.proofs.node.Node.step_request.Goals as goal
 
-pub returns-then-is_err-clause-err : goal.returns-then-is_err-clause-err
-returns-then-is_err-clause-err c =
+pub returns-in-Ok-clause-ok : goal.returns-in-Ok-clause-ok
+returns-in-Ok-clause-ok c =
     let n = c.args.self.now in
-    stays n _ (λ i. node_with (place_in n.table) (record (spot_node n) { main = c.make_main_slot.ensures.same i })) c.make_room.ensures.same c.reserve.ensures.items refl refl refl refl
-
-pub returns-clause-ok : goal.returns-clause-ok
-returns-clause-ok c =
-    let n = c.args.self.now in
-    let to = c.args.to in
-    let place = c.start-place.result in
-    let sess = c.opened_number-sess.result in
-    let number : sess ≡ opened_number n.party n.requests = c.opened_number-sess.ensures in
-    does_with n _ _ _ (n.requests + 1) (offers_of n) _ _ (record { party = to; body = Open (opened_number n.party n.requests) } ∷ []) _ _ _
-    (requests_act n c.args.protocol to place c.requires.step c.requires.steps c.requires.requests c.start-place.ensures.place)
-    (record {
-      program = c.opened.ensures ∙ (λ i. opened_of (program_at n.machine) (requested_end (number i)));
-      requests = refl;
-      offers = refl;
-      mains = c.put_held.ensures ∙ (λ i. put (requested_end sess) (Some (Held (c.first.ensures i))) (c.make_main_slot.ensures.same i))
-          ∙ (λ i. put (requested_end (number i)) (Some (Held (new_held (requested_end (number i)) place to))) (mains_in n.mains.items));
-      olds = refl;
-      time = refl;
-      waits = λ q. c.put_frame.ensures.waits q ∙ (λ i. c.make_room.ensures.same q i ++ frames_for q (n.clock + 1) (record { party = to; body = Open (number i) } ∷ []));
-      noted = rw (c.push_reserved.ensures.items, c.reserve.ensures.items, c.requires.step, c.opened_number-sess.ensures) refl;
-      table = refl;
-      party = refl;
-      parties = refl;
-      connects = refl;
-    })
+    acted n _ _ _ _ _ _ _ (requests_by n c.args.protocol c.args.to c.start-place.result c.requires.step c.requires.steps c.start-place.ensures.place)
+    (ap (act_note n.party (node_at n).main n.requests (offers_of n)) c.requires.step)
+    (c.opened.ensures ∙ (λ i. opened_of (c.request.ensures.program i) (c.in-Ok.ensures.opened i))) c.in-Ok.ensures.ok

@@ -1,0 +1,12 @@
+mod ToldLemmas
+mod LiftLemmas
+mod PlayedLemmas
+mod ShortLemmas
+mod ChairLemmas
+mod GoingLemmas
+mod CallingLemmas
+mod RunLemmas
+mod DrainLemmas
+mod ReplayLemmas
+mod BeginningLemmas
+mod StartLemmas
