@@ -295,3 +295,10 @@ module _ (c d : PlayedWorld) (p : ℕ) (old new : Node) (before after : Chair) (
       count = ap length nodes ∙ length-set (nodes_in c) p new;
     };
   }
+
+-- a take that is guarded gives the place
+pub gives_place : (t : Table) (os : Openings) (bs : Ends) (calls : ℕ) (call : seats.Call) → IsGuarded t os bs calls call → Rattle.sj_seat.specs.Asked.GivesPlace t bs call
+gives_place t os bs calls (Send e m) guarded = tt
+gives_place t os bs calls (Delegate c e) guarded = tt
+gives_place t os bs calls (Take e spot) guarded = guarded.want
+gives_place t os bs calls (Close e) guarded = tt

@@ -10,3 +10,4 @@ mod DrainLemmas
 mod ReplayLemmas
 mod BeginningLemmas
 mod StartLemmas
+mod AnswerLemmas
