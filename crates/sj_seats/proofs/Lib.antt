@@ -11,3 +11,6 @@ mod ReplayLemmas
 mod BeginningLemmas
 mod StartLemmas
 mod AnswerLemmas
+mod FreeLemmas
+mod StopLemmas
+mod UnfitLemmas

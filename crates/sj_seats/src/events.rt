@@ -24,15 +24,16 @@ pub(crate) fn noted(node: &mut Node) -> Entry
     }
 }
 
-/// Why a party that goes by the file can't act: by the rules, or for memory. That an act is never
-/// unfit isn't proved here; it counts as out of memory.
+/// Why a party that goes by the file can't act: by the rules, or for memory. Its act is never unfit.
 fn stopped(halt: Halt) -> Result<Option<Entry>, NoMemory>
+    requires { halt ≡ Halt.Unfit → ⊥ }
     ensures none { IfOk result (λ o. o ≡ None) }
     ensures stop { OnOk result (IsStop halt) }
 {
     match halt {
         Halt::Ended | Halt::AtLimit | Halt::Waits => Ok(None),
-        Halt::NoMemory | Halt::Unfit => Err(NoMemory),
+        Halt::NoMemory => Err(NoMemory),
+        Halt::Unfit => unreachable!(),
     }
 }
 

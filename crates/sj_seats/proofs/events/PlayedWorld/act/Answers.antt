@@ -5,7 +5,9 @@ use Rattle.sj_seats.proofs.AnswerLemmas.{if_error, if_none, none_done, ok_none}
 use Rattle.sj_seats.proofs.ChairLemmas.{over_set, table_done}
 use Rattle.sj_seats.proofs.DrainLemmas.{still_where}
 use Rattle.sj_seats.proofs.GoingLemmas.{act_redoes, rests_by}
+use Rattle.sj_core.proofs.StopLemmas.{error_is}
 use Rattle.sj_seats.proofs.RunLemmas.{low_node}
+use Rattle.sj_seats.proofs.UnfitLemmas.{not_unfit}
 use Rattle.sj_seats.specs.Played.{chairs_in, file_in, nodes_in}
 use Rattle.sj_seats.proofs.events.PlayedWorld.act.Goals as goal
 
@@ -63,3 +65,14 @@ returns-in-Err-clause-still c =
     ok_none c.stopped.result _ _ c.stopped.ensures.stop
     (λ stop. still_where self c.args.party old c.in-Err.halt there c.requires.own stop
     (λ h. c.in-Err.ensures.ended.0 (ap Err h)) (λ h. c.in-Err.ensures.at_limit.0 (ap Err h)) (λ h. c.in-Err.ensures.waits.0 (ap Err h)))
+
+pub stopped-requires : goal.stopped-requires
+stopped-requires c =
+    let self = c.args.self.now in
+    let nodes = self.nodes.items in
+    let old = c.index_mut-node.result.now in
+    let led = c.requires.led in
+    let there = slice_get_read nodes (length nodes) c.args.party old refl c.requires.there c.index_mut-node.ensures.value in
+    λ unfit. not_unfit self led.past led.led c.args.party old there c.requires.own c.in-Err.halt
+    (λ h. error_is _ _ (c.in-Err.ensures.ended.1 h)) (λ h. error_is _ _ (c.in-Err.ensures.at_limit.1 h)) (λ h. error_is _ _ (c.in-Err.ensures.waits.1 h))
+    (λ h. c.in-Err.ensures.unfit (ap Err h)) unfit
