@@ -295,3 +295,34 @@ module _ (c d : PlayedWorld) (p : ℕ) (old new : Node) (before after : Chair) (
       count = ap length nodes ∙ length-set (nodes_in c) p new;
     };
   }
+
+-- a take that is guarded gives the place
+pub gives_place : (t : Table) (os : Openings) (bs : Ends) (calls : ℕ) (call : seats.Call) → IsGuarded t os bs calls call → Rattle.sj_seat.specs.Asked.GivesPlace t bs call
+gives_place t os bs calls (Send e m) guarded = tt
+gives_place t os bs calls (Delegate c e) guarded = tt
+gives_place t os bs calls (Take e spot) guarded = guarded.want
+gives_place t os bs calls (Close e) guarded = tt
+
+-- nothing is done to the node
+pub stays_none : (n : Node) → Rattle.sj_node.specs.Node.Stays n n
+stays_none n = record { node = refl; posts = λ q. refl; log = refl; table = refl; party = refl; parties = refl; connects = refl }
+
+-- what a call did that a node answers with what it takes
+pub calls_so : (t : Table) (old mid new : Node) (before after : Chair) (call : seats.Call) (e : Entry) (taken : Option Msg) → IsGuarded t (openings_at t before.may) (ends_at t before.ends.items) before.calls call
+    → Rattle.sj_node.specs.Node.Does old (Rattle.sj_node.specs.Calls.call_of old (want_at old call)) (clock_of old + 1) events.Act (call_note old call) mid → taken ≡ head_taken old call → is_some taken ≡ is_take call
+    → Rattle.sj_node.specs.Reading.TakesEntry mid new → Rattle.sj_node.specs.Node.log_of mid ≡ Rattle.sj_node.specs.Node.log_of new ++ e ∷ []
+    → ends_at t after.ends.items ≡ Rattle.sj_seat_laws.specs.Guards.ends_after (ends_at t before.ends.items) (asked call) taken → after.calls ≡ before.calls + 1 → after.may ≡ before.may
+    → Calls t old before (asked call) e new after
+calls_so t old mid new before after call e taken guarded does is takes took entry ends calls may = record {
+  mid = mid;
+  done = call;
+  guarded = guarded;
+  called = Rattle.sj_node.proofs.SeatLemmas.call_done old mid call does;
+  heads = ap is_some (sym is) ∙ takes;
+  took = took;
+  entry = entry;
+  is = refl;
+  ends = ends ∙ ap (Rattle.sj_seat_laws.specs.Guards.ends_after (ends_at t before.ends.items) (asked call)) is;
+  calls = calls;
+  may = may;
+}

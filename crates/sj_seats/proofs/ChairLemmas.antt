@@ -6,7 +6,14 @@ use Rattle.std.proofs.lemmas.Bool.Decides.{eqb_tells}
 use Rattle.sj_core.proofs.NodesLemmas.{apart_eqb, some_same}
 use Rattle.sj_node.proofs.OutLemmas.{set_here, set_there}
 use Rattle.sj_node.specs.declared.node.Node.{Node}
-use Rattle.sj_node.specs.Reading.{table_of}
+use Rattle.sj_end.specs.declared.note.Event.{Event}
+use Rattle.sj_end.specs.declared.note.Note.{Note}
+use Rattle.sj_lang.specs.Place.{Place}
+use Rattle.sj_node.specs.Node.{Does}
+use Rattle.sj_node.specs.Reading.{TakesEntry, table_of}
+use Rattle.sj_rules.specs.Node.{NodeAt}
+use Rattle.sj_rules.specs.Rows.{Worked}
+use Rattle.sj_semantics.specs.Program.{Program}
 use Rattle.sj_rules.specs.Log.{LineAt}
 use Rattle.sj_rules.specs.World.{Deliver}
 use Rattle.sj_seat_laws.specs.Calls.{Call, SeatedAt}
@@ -76,3 +83,8 @@ none_by_file t chairs l rest none q =
           ap (option_map (seat_by t (first_calls l rest q))) it ∙ sym (ap (option_map (seat_by t (rest q))) it))
       | inr s ↦ ap (λ (cs : List Call). option_map (seat_by t cs) (chair_of chairs q)) (none_of_others l rest q s.1)
     ]
+
+-- a node that did an event, and whose entry was taken out of its log, is over the same table
+pub table_done : (old mid new : Node) (row : Option (Worked Place (NodeAt Place Program))) (clock : ℕ) (event : Event) (note : Note) → Does old row clock event note mid → TakesEntry mid new → table_of new ≡ table_of old
+table_done old mid new None clock event note does took = absurd does
+table_done old mid new (Some left) clock event note did took = took.table ∙ did.table

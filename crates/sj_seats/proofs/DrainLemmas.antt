@@ -186,3 +186,12 @@ idle_more b c k x before here p lt =
 -- nothing is left to do where no party has anything to do
 pub all_idle : (c : PlayedWorld) → AreIdle c (length (nodes_in c)) → IsQuiet c
 all_idle c idle = record { empty = λ from to lf lt. (idle to lt).empty from lf; still = λ p lt. (idle p lt).still }
+
+-- what an answer says of a try
+pub tried_some : (b : Bool) (c d : PlayedWorld) (P : Type 0) → b ≡ true → Tries b c d P → length (history_in c) < length (history_in d)
+tried_some true c d P is x = x
+tried_some false c d P is x = absurd (cc is)
+
+pub tried_none : (b : Bool) (c d : PlayedWorld) (P : Type 0) → b ≡ false → Tries b c d P → Tries false c d P
+tried_none false c d P is x = x
+tried_none true c d P is x = absurd (cc is)

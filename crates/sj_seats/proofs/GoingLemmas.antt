@@ -162,3 +162,7 @@ led_still c d past led rests = record {
       (subst (λ (cs : Callers). IsSeatsHistory max (file_in c) cs past (core_in d rest)) calls
       (subst (λ (w : WorldAt Place Player). IsSeatsHistory max (file_in c) (callers_in c past rest) past w) (sym (rests.world rest)) (led.run rest)));
 }
+
+-- where the history leads, lines lead
+abbrev pub led : (c : PlayedWorld) → IsReached c → IsLed c
+led c reached = record { past = history_in c; led = reached }

@@ -10,3 +10,7 @@ mod DrainLemmas
 mod ReplayLemmas
 mod BeginningLemmas
 mod StartLemmas
+mod AnswerLemmas
+mod FreeLemmas
+mod StopLemmas
+mod UnfitLemmas

@@ -19,7 +19,7 @@ call_of_event (Deliver q) note = []
 
 -- the call of that party which the line tells
 abbrev pub calls_in : ℕ → LineAt → List Call
-calls_in q l = if l.party == q then call_of_event l.entry.event l.entry.note else []
+calls_in q l = if q == l.party then call_of_event l.entry.event l.entry.note else []
 
 -- all of them, in order
 abbrev pub calls_told : ℕ → List LineAt → List Call

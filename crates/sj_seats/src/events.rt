@@ -1,5 +1,5 @@
 //! The events of a world with seats: acts of parties that go by the file, and deliveries.
-ghost use Rattle.std.specs.Prelude.{◌≡◌, ◌<◌, ◌++◌, ◌∷◌, [], false, IfNone, IfOk, IfSome, OnErr, OnOk, length};
+ghost use Rattle.std.specs.Prelude.{◌≡◌, ◌<◌, ◌++◌, ◌∷◌, [], None, false, IfNone, IfOk, IfSome, OnErr, OnOk, length};
 ghost use Rattle.sj_core.specs.Refusals.{IsStop};
 ghost use Rattle.sj_core.specs.Views.{line_with};
 ghost use Rattle.sj_node.specs.Node.{log_of};
@@ -24,14 +24,16 @@ pub(crate) fn noted(node: &mut Node) -> Entry
     }
 }
 
-/// Why a party that goes by the file can't act: by the rules, or for memory. That an act is never
-/// unfit isn't proved here; it counts as out of memory.
-fn stopped(halt: Halt) -> Result<(), NoMemory>
-    ensures { OnOk result (IsStop halt) }
+/// Why a party that goes by the file can't act: by the rules, or for memory. Its act is never unfit.
+fn stopped(halt: Halt) -> Result<Option<Entry>, NoMemory>
+    requires { halt ≡ Halt.Unfit → ⊥ }
+    ensures none { IfOk result (λ o. o ≡ None) }
+    ensures stop { OnOk result (IsStop halt) }
 {
     match halt {
-        Halt::Ended | Halt::AtLimit | Halt::Waits => Ok(()),
-        Halt::NoMemory | Halt::Unfit => Err(NoMemory),
+        Halt::Ended | Halt::AtLimit | Halt::Waits => Ok(None),
+        Halt::NoMemory => Err(NoMemory),
+        Halt::Unfit => unreachable!(),
     }
 }
 
@@ -60,10 +62,7 @@ impl PlayedWorld {
         let node = &mut self.nodes[party as usize];
         match node.act() {
             Ok(()) => Ok(Some(noted(node))),
-            Err(halt) => match stopped(halt) {
-                Ok(()) => Ok(None),
-                Err(refusal) => Err(refusal),
-            },
+            Err(halt) => stopped(halt),
         }
     }
 
