@@ -6,6 +6,7 @@ mod DoneLemmas
 mod FirstLemmas
 mod HoldingLemmas
 mod IdleLemmas
+mod KindLemmas
 mod LastLemmas
 mod MovedLemmas
 mod OpeningLemmas

@@ -1,7 +1,7 @@
 //! The sessions that a party may open.
 #![tactic(auto, using(crate::proofs::OpeningLemmas::gathers))]
 
-ghost use Rattle.std.specs.Prelude.{◌≡◌, ◌≤◌, ◌++◌, ◌<◌, ℕ, [], ◌∷◌, IfOk, OnOk, Some, length, map, slice_get};
+ghost use Rattle.std.specs.Prelude.{◌≡◌, ◌≤◌, ◌++◌, ◌<◌, ◌^◌, ℕ, [], ◌∷◌, IfOk, OnOk, Some, length, map, slice_get};
 ghost use Rattle.sj_acceptance.specs.Openings.{accepts_of, as_accept, as_request, found_in, found_in_arms, found_inside, requests_of};
 ghost use Rattle.sj_lang.specs.CodeView.{arm_of, branches_of, code_of, deed_of};
 ghost use Rattle.sj_lang.specs.FileAt.{body_named};
@@ -100,12 +100,19 @@ fn add_opened(
     let number = party_of_name(&file.parties, found.party);
     if number < file.parties.len() {
         all.push(Opening {
-            party: number as u16,
+            party: narrow(number),
             protocol: found.protocol,
             place: table.start(found.protocol),
         })?;
     }
     Ok(())
+}
+
+fn narrow(number: usize) -> u16
+    requires { number < 2 ^ 16 }
+    ensures { result ≡ number }
+{
+    number as u16
 }
 
 fn found_by(alloc: Global, party: &Party) -> Result<AllFound, NoMemory>
