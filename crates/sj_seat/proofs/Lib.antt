@@ -1,6 +1,7 @@
 mod AfterLemmas
 mod CalledLemmas
 mod CauseLemmas
+mod CountLemmas
 mod DoneLemmas
 mod FirstLemmas
 mod HoldingLemmas

@@ -3,6 +3,7 @@ ghost use Rattle.std.specs.Prelude.{◌≡◌, ◌∷◌, IfErr, IfOk, IfSome, L
 ghost use Rattle.sj_base.specs.declared.Msg.TheVariants as msgs;
 ghost use Rattle.sj_lang.specs.FileAt.{FileAt};
 ghost use Rattle.sj_node.specs.Reading.{parties_of};
+ghost use Rattle.sj_seat.specs.Counted.{Counted};
 ghost use Rattle.sj_seat.specs.Logged.{TellsTaken, TookEnd, TookLast};
 ghost use Rattle.sj_seat.specs.Opened.{openings_at};
 ghost use Rattle.sj_seat.specs.Views.{calls_of, ends_of, held_by, may_of, node_of, table_of, texts_of, worker_of};
@@ -65,6 +66,7 @@ impl<O: OutLane, I: InLane, G: Gate> Guest<'_, O, I, G> {
             (Went O.OutLane I.InLane file rest rest self.old self.new) }
         ensures rests { OnErr result (Rests self.old self.new) }
         ensures keeps { Keeps (node_of self.old) (node_of self.new) }
+        ensures counts { Counted O.OutLane I.InLane (worker_of self.old) (worker_of self.new) }
         ensures takes { IfOk result (λ m. is_some m ≡ is_taking wish) }
         ensures tells { IfOk result (TellsTaken (worker_of self.new) (wished wish)) }
 

@@ -63,7 +63,7 @@ fn moved_end(table: &Table, held: HeldEnd, end: EndId, way: Way, msg: Msg) -> He
 
 /// Puts the ends where they are after the call, which took that message where it takes one. There is
 /// room for one end more.
-pub(crate) fn go_on(table: &Table, ends: &mut Vec<HeldEnd>, call: Call, taken: Option<Msg>)
+pub fn go_on(table: &Table, ends: &mut Vec<HeldEnd>, call: Call, taken: Option<Msg>)
     requires room { vec_len ends.old < vec_capacity ends.old }
     requires place { GivesPlace table.now (ends_at table.now ends.old.items) call }
     ensures { ends_at table.now ends.new.items

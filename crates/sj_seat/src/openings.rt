@@ -49,7 +49,7 @@ pub(crate) struct AllFound {
 }
 
 /// The sessions that the party's statements open.
-pub(crate) fn party_openings(
+pub fn party_openings(
     alloc: Global,
     file: &File,
     table: &Table,

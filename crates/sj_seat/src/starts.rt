@@ -1,5 +1,5 @@
 //! A party before its first call, and after its last one.
-ghost use Rattle.std.specs.Prelude.{◌≡◌, ◌<◌, IfOk, ℕ, length, min, slice_get};
+ghost use Rattle.std.specs.Prelude.{◌≡◌, ◌<◌, IfOk, None, ℕ, length, min, slice_get};
 ghost use Rattle.sj_check.specs.Held.{file_in};
 ghost use Rattle.sj_lang.specs.FileAt.{body_named};
 ghost use Rattle.sj_lang.specs.FileView.{file_of};
@@ -101,6 +101,7 @@ impl<'a, O, I, G> Guest<'a, O, I, G> {
         ensures begins { IfOk result (λ g. BeginsWith (file_of (file_in accepted.now)) party 0
             (nothing_to_do (file_of (file_in accepted.now))) (node_of g)) }
         ensures lanes { IfOk result (λ g. works.lanes_of (worker_of g) ≡ lanes) }
+        ensures stop { IfOk result (λ g. works.stop_of (worker_of g) ≡ None) }
         ensures texts { IfOk result (λ g. texts_of g
             ≡ min (length (file_of (file_in accepted.now)).texts) limit_of_texts) }
     {

@@ -7,6 +7,7 @@ ghost use Rattle.sj_node.specs.Reading.{parties_of};
 ghost use Rattle.sj_node.specs.Seats.{is_take};
 ghost use Rattle.sj_rules.specs.Limits.{clock_end};
 ghost use Rattle.sj_seat.specs.Asked.{IsGuarded, asked};
+ghost use Rattle.sj_seat.specs.Counted.{Counted};
 ghost use Rattle.sj_seat.specs.Logged.{TellsTaken, last_act};
 ghost use Rattle.sj_seat.specs.Views.{calls_of, ends_of, may_of, node_of, table_of, worker_of};
 ghost use Rattle.sj_seat.specs.Went.{IsHalt, IsHeldUp, IsStopped, Keeps, Rests, Went};
@@ -35,10 +36,11 @@ impl<O: OutLane, I: InLane, G: Gate> Guest<'_, O, I, G> {
         ensures rests { Rests self.old self.new }
         ensures acts { last_act (laned (worker_of self.new)).log
             ≡ last_act (laned (worker_of self.old)).log }
+        ensures counts { Counted O.OutLane I.InLane (worker_of self.old) (worker_of self.new) }
         ensures none { result ≡ None → kept_stop (stop_of (worker_of self.new)) ≡ None }
         ensures some { IfSome result (λ s. stop_of (worker_of self.new) ≡ Some s) }
     {
-        let stop = deliver_all(&mut self.worker, self.gate);
+        let stop = deliver_all(&mut self.worker, 1, self.gate);
         match stop {
             Stop::ClockEnd | Stop::NoMemory | Stop::Fault | Stop::Unfit => Some(stop),
             Stop::Finished | Stop::Idle | Stop::AtLimit => None,
@@ -63,8 +65,9 @@ impl<O: OutLane, I: InLane, G: Gate> Guest<'_, O, I, G> {
         ensures takes { IfOk result (λ m. is_some m ≡ is_take call) }
         ensures tells { IfOk result (TellsTaken (worker_of self.new) (asked call)) }
 
-        // What stays in any case.
+        // What stays in any case, and what the lanes counted.
         ensures keeps { Keeps (node_of self.old) (node_of self.new) }
+        ensures counts { Counted O.OutLane I.InLane (worker_of self.old) (worker_of self.new) }
         ensures stop { stop_of (worker_of self.new) ≡ stop_of (worker_of self.old) }
 
         // Why it isn't.
@@ -114,8 +117,9 @@ impl<O: OutLane, I: InLane, G: Gate> Guest<'_, O, I, G> {
         ensures takes { IfOk result (λ m. is_some m ≡ is_take call) }
         ensures tells { IfOk result (TellsTaken (worker_of self.new) (asked call)) }
 
-        // What stays in any case.
+        // What stays in any case, and what the lanes counted.
         ensures keeps { Keeps (node_of self.old) (node_of self.new) }
+        ensures counts { Counted O.OutLane I.InLane (worker_of self.old) (worker_of self.new) }
 
         // Why it isn't.
         ensures cause { IfErr result (λ r. IsHeldUp r (asked call) self.new) }
@@ -157,8 +161,9 @@ impl<O: OutLane, I: InLane, G: Gate> Guest<'_, O, I, G> {
         ensures takes { IfOk result (λ m. is_some m ≡ is_take call) }
         ensures tells { IfOk result (TellsTaken (worker_of self.new) (asked call)) }
 
-        // What stays in any case.
+        // What stays in any case, and what the lanes counted.
         ensures keeps { Keeps (node_of self.old) (node_of self.new) }
+        ensures counts { Counted O.OutLane I.InLane (worker_of self.old) (worker_of self.new) }
 
         // Why it isn't.
         ensures cause { IfErr result (λ r. IsHeldUp r (asked call) self.new) }

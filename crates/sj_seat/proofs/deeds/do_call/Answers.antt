@@ -2,6 +2,7 @@ use Rattle.std.proofs.Common.{◌∙◌, ap}
 use Rattle.sj_node.specs.Play.{next_want}
 use Rattle.sj_node.specs.declared.refusal.Halt.TheVariants as halts
 use Rattle.sj_work.proofs.LaneLaws.{laws}
+use Rattle.sj_seat.proofs.CountLemmas.{counted_alone}
 use Rattle.sj_seat.proofs.DoneLemmas.{call_keeps, done_call, refused_call}
 use Rattle.sj_seat.proofs.CauseLemmas.{err_stays, held_up_so, no_row_so}
 use Rattle.sj_seat.proofs.TakenLemmas.{tells_taken}
@@ -23,6 +24,7 @@ returns g c =
       taken = h.taken;
       takes = h.takes;
       tells = tells_taken a b c.args.call c.call.result h.ok h.taken;
+      counts = counted_alone k a b h.lanes h.stop;
       stop = h.stop;
       waits = λ is. held_up_so a.node b.node c.args.call (err_stays c.call.result halts.Waits is h.err) halts.Waits (h.waits is);
       at_limit = λ is. held_up_so a.node b.node c.args.call (err_stays c.call.result halts.AtLimit is h.err) halts.AtLimit (h.at_limit is);

@@ -8,6 +8,7 @@ use Rattle.sj_seat.specs.Holding.{ends_at}
 use Rattle.sj_seat.specs.Views.{may_of, seat_of}
 use Rattle.sj_seat.specs.Went.{SeatWork}
 use Rattle.sj_seat.proofs.AfterLemmas.{done_after, nothing_done}
+use Rattle.sj_seat.proofs.CountLemmas.{counted_itself, counted_later}
 use Rattle.sj_seat.proofs.TakenLemmas.{tells_still}
 use Rattle.sj_seat.proofs.guest.Guest.attempt.Goals as goal
 
@@ -49,3 +50,24 @@ returns-in-Ok-clause-ok g c =
 pub returns-in-Ok-clause-tells : goal.returns-in-Ok-clause-tells
 returns-in-Ok-clause-tells g c =
     tells_still c.make.new.self.worker c.wait.new.self.worker (asked c.args.call) c.in-Ok.msg c.wait.ensures.acts c.in-Ok.ensures.tells
+
+pub returns-in-Some-clause-counts : goal.returns-in-Some-clause-counts
+returns-in-Some-clause-counts g c =
+    let ol = g.met.O.OutLane g.world.𝓛 g.world.𝓜 g.world.𝓡 (λ s x. x, λ x. x, λ x. x, λ x. x) in
+    let il = g.met.I.InLane g.world.𝓛 g.world.𝓜 g.world.𝓡 (λ s x. x, λ x. x, λ x. x, λ x. x) in
+    let k = laws g.O.OutLane g.I.InLane ol.same_itself ol.same_later il.same_itself il.same_later in
+    counted_itself k c.args.self.now.worker
+
+pub returns-then-is_err-clause-counts : goal.returns-then-is_err-clause-counts
+returns-then-is_err-clause-counts g c =
+    let ol = g.met.O.OutLane g.world.𝓛 g.world.𝓜 g.world.𝓡 (λ s x. x, λ x. x, λ x. x, λ x. x) in
+    let il = g.met.I.InLane g.world.𝓛 g.world.𝓜 g.world.𝓡 (λ s x. x, λ x. x, λ x. x, λ x. x) in
+    let k = laws g.O.OutLane g.I.InLane ol.same_itself ol.same_later il.same_itself il.same_later in
+    counted_itself k c.args.self.now.worker
+
+pub returns-in-Ok-clause-counts : goal.returns-in-Ok-clause-counts
+returns-in-Ok-clause-counts g c =
+    let ol = g.met.O.OutLane g.world.𝓛 g.world.𝓜 g.world.𝓡 (λ s x. x, λ x. x, λ x. x, λ x. x) in
+    let il = g.met.I.InLane g.world.𝓛 g.world.𝓜 g.world.𝓡 (λ s x. x, λ x. x, λ x. x, λ x. x) in
+    let k = laws g.O.OutLane g.I.InLane ol.same_itself ol.same_later il.same_itself il.same_later in
+    counted_later k c.args.self.now.worker c.make.new.self.worker c.wait.new.self.worker c.in-Ok.ensures.counts c.wait.ensures.counts
