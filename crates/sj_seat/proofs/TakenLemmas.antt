@@ -7,7 +7,6 @@ use Rattle.sj_end.specs.declared.note.Entry.{Entry}
 use Rattle.sj_end.specs.declared.note.Event.TheVariants as events
 use Rattle.sj_end.specs.declared.note.Note.{Note}
 use Rattle.sj_end.specs.Lines.{entry_at, note_seen}
-use Rattle.sj_node.specs.declared.node.Node.{Node}
 use Rattle.sj_node.specs.declared.refusal.Halt.{Halt}
 use Rattle.sj_node.specs.declared.seats.Call.{Call}
 use Rattle.sj_node.specs.declared.seats.Call.TheVariants as seats

@@ -1,4 +1,4 @@
-use Rattle.std.proofs.Common.{◌∙◌, ◌∷◌, [], ap, map}
+use Rattle.std.proofs.Common.{◌∙◌, ap, map}
 use Rattle.sj_lang.specs.FileAt.{protocol_named}
 use Rattle.sj_lang.specs.FileView.{protocol_of}
 use Rattle.sj_seat.proofs.KindLemmas.{one_more}

@@ -1,4 +1,4 @@
-use Rattle.std.proofs.Common.{◌≡◌, ◌∙◌, ◌<◌, ◌∷◌, ◌++◌, [], nat_lt, true, false, length, map, ap, append-nil, arith, sym}
+use Rattle.std.proofs.Common.{◌≡◌, ◌∙◌, ◌∷◌, ◌++◌, [], nat_lt, true, false, length, map, ap, append-nil, arith, sym}
 use Rattle.std.proofs.lemmas.List.{length-map, map-append}
 use Rattle.sj_lang.specs.FileAt.{party_named}
 use Rattle.sj_lang.specs.FileView.{file_of, party_of}
