@@ -22,10 +22,12 @@ use Rattle.sj_work.specs.declared.worker.Stop.TheVariants as stops
 use Rattle.sj_work.specs.declared.worker.Worker.{Worker}
 use Rattle.sj_work.proofs.LaneLaws.{LaneLaws}
 use Rattle.sj_seat.specs.Asked.{IsGuarded, asked, want_in}
-use Rattle.sj_seat.specs.Views.{ends_of, laned_at, node_of, seat_of, worker_of}
+use Rattle.sj_seat.specs.Counted.{Counted}
+use Rattle.sj_seat.specs.Views.{ends_of, laned_at, may_of, node_of, seat_of, worker_of}
 use Rattle.sj_seat.specs.Went.{Keeps, Rests, SeatWork, Went}
 use Rattle.sj_seat.specs.declared.guest.Guest.{Guest}
 use Rattle.sj_seat.specs.declared.refusal.SeatRefusal.{SeatRefusal}
+use Rattle.sj_seat.proofs.CountLemmas.{CountedBy, counted_itself, counted_later}
 
 -- with a stop that doesn't stay no frame is lost
 no_loss : (o : Option Stop) → kept_stop o ≡ None → MayLose o → ⊥
@@ -88,6 +90,7 @@ keeps_later a b c x y = record {
 pub record Waited {O I G : Type 0} (outward : OutLane O) (inward : InLane I) (old new : Guest O I G) : Type 0 where
   pub keeps : Keeps (node_of old) (node_of new)
   pub rests : Rests old new
+  pub counts : Counted outward inward (worker_of old) (worker_of new)
   pub work : (file : FileAt) (rest : List Call) → length file.parties ≡ parties_of (node_of old)
       → LaneWork outward.pushed outward.same inward.popped inward.same (seated_play file) max done (party_of (node_of old)) (laned_at (seat_of rest old) (worker_of old)) (laned_at (seat_of rest new) (worker_of new)) None
 
@@ -99,15 +102,16 @@ module _ {O I G : Type 0} (k : LaneLaws O I) where
   WentBy file before after old new = Went k.outward k.inward file before after old new
 
   rests_later : (a b c : Guest O I G) → Rests a b → Rests b c → Rests a c
-  rests_later a b c x y = record { ends = y.ends ∙ x.ends; calls = y.calls ∙ x.calls }
+  rests_later a b c x y = record { ends = y.ends ∙ x.ends; calls = y.calls ∙ x.calls; may = y.may ∙ x.may }
 
   seats_rest : (a b : Guest O I G) (rest : List Call) → Rests a b → seat_of rest b ≡ seat_of rest a
-  seats_rest a b rest x = λ i. record { ends = x.ends i; steps = x.calls i; calls = rest }
+  seats_rest a b rest x = λ i. record { ends = x.ends i; steps = x.calls i; calls = rest; may = x.may i }
 
   pub waited_none : (a : Guest O I G) → WaitedBy a a
   waited_none a = record {
     keeps = record { party = refl; parties = refl; connects = refl; table = refl; clock = omega arith };
-    rests = record { ends = refl; calls = refl };
+    rests = record { ends = refl; calls = refl; may = refl };
+    counts = counted_itself k a.worker;
     work = λ file rest parties. lane_work_itself k.outward.pushed k.outward.same k.inward.popped k.inward.same k.out_itself k.out_later k.in_itself k.in_later (seated_play file) max done a.worker.node.party (laned_at (seat_of rest a) a.worker);
   }
 
@@ -124,20 +128,21 @@ module _ {O I G : Type 0} (k : LaneLaws O I) where
   waited_rests a l m x y = rests_later a l m x.rests y
 
   -- what waits on, as far as no stop stays
-  pub waited_more : (a l m : Guest O I G) → WaitedBy a l → Keeps (node_of l) (node_of m) → Rests l m → kept_stop (stop_of (worker_of m)) ≡ None
+  pub waited_more : (a l m : Guest O I G) → WaitedBy a l → Keeps (node_of l) (node_of m) → Rests l m → CountedBy k l.worker m.worker → kept_stop (stop_of (worker_of m)) ≡ None
       → ((file : FileAt) (rest : List Call) → length file.parties ≡ parties_of (node_of l) → WentBy file rest rest l m) → WaitedBy a m
-  waited_more a l m x keeps rests kept went = record {
+  waited_more a l m x keeps rests counts kept went = record {
     keeps = waited_keeps a l m x keeps;
     rests = waited_rests a l m x rests;
+    counts = counted_later k a.worker l.worker m.worker x.counts counts;
     work = λ file rest parties. all_told k file (seat_of rest a) (seat_of rest m) a.worker m.worker kept (waited_then a l m file rest rest x parties (went file rest));
   }
 
   -- the call is guarded still
-  pub waited_guarded : (a l : Guest O I G) (call : seats.Call) → WaitedBy a l → IsGuarded a.table (ends_of a) a.calls call → IsGuarded l.table (ends_of l) l.calls call
+  pub waited_guarded : (a l : Guest O I G) (call : seats.Call) → WaitedBy a l → IsGuarded a.table (may_of a) (ends_of a) a.calls call → IsGuarded l.table (may_of l) (ends_of l) l.calls call
   waited_guarded a l call x h =
       let table : l.table ≡ a.table = l.same ∙ x.keeps.table ∙ sym a.same in
       record {
-        want = ap (λ t. want_in t call) table ∙ h.want ∙ sym (ap (λ bs. want_of_call bs (asked call)) x.rests.ends);
+        want = ap (λ t. want_in t call) table ∙ h.want ∙ sym (λ i. want_of_call (x.rests.may i) (x.rests.ends i) (asked call));
         few = subst (λ (n : ℕ). n < limit_of_steps) (sym x.rests.calls) h.few;
       }
 
@@ -154,6 +159,6 @@ module _ {O I G : Type 0} (k : LaneLaws O I) where
 
   -- an attempt in vain, where no stop stays
   pub waited_vain : (a l m : Guest O I G) (r : Result (Option Msg) SeatRefusal) (e : SeatRefusal) → r ≡ Err e → WaitedBy a l → Keeps (node_of l) (node_of m) → OnErr r (Rests l m)
-      → kept_stop (stop_of (worker_of m)) ≡ None → ((file : FileAt) (rest : List Call) → length file.parties ≡ parties_of (node_of l) → OnErr r (WentBy file rest rest l m)) → WaitedBy a m
-  waited_vain a l m (Ok o) e is x keeps rests kept went = absurd (cc is)
-  waited_vain a l m (Err d) e is x keeps rests kept went = waited_more a l m x keeps rests kept went
+      → CountedBy k l.worker m.worker → kept_stop (stop_of (worker_of m)) ≡ None → ((file : FileAt) (rest : List Call) → length file.parties ≡ parties_of (node_of l) → OnErr r (WentBy file rest rest l m)) → WaitedBy a m
+  waited_vain a l m (Ok o) e is x keeps rests counts kept went = absurd (cc is)
+  waited_vain a l m (Err d) e is x keeps rests counts kept went = waited_more a l m x keeps rests counts kept went

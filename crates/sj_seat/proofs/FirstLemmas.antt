@@ -3,7 +3,7 @@ use Rattle.std.proofs.Common.{◌≡◌, ◌∙◌, ℕ, zero, suc, ◌<◌, nat
 use Rattle.std.specs.Prelude.{slice_get, unwrap_or}
 use Rattle.std.proofs.lemmas.Option.{slice_get-map, slice_get_past}
 use Rattle.sj_base.specs.declared.EndId.{EndId}
-use Rattle.sj_lang.specs.FileAt.{ConnectAt, FileAt, body_named}
+use Rattle.sj_lang.specs.FileAt.{FileAt, body_named}
 use Rattle.sj_lang.specs.FileView.{connect_of}
 use Rattle.sj_lang.specs.Place.{Place, done}
 use Rattle.sj_lang.specs.declared.file.Connect.{Connect}

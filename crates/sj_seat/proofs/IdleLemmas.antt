@@ -1,17 +1,21 @@
 -- What a node does that has nothing to do of its own is what it does with code of a builder that makes no call meanwhile.
-use Rattle.std.proofs.Common.{◌≡◌, ◌∙◌, ℕ, max, if◌then◌else◌, Bool, true, false, List, [], ◌∷◌, length, Option, Some, None, option_map, refl, ap, sym}
+use Rattle.std.proofs.Common.{◌≡◌, ◌∙◌, ℕ, max, if◌then◌else◌, Bool, true, false, List, [], ◌∷◌, length, map, Option, Some, None, option_map, refl, ap, sym}
 use Rattle.sj_lang.specs.FileAt.{FileAt}
 use Rattle.sj_lang.specs.Place.{Place, done}
 use Rattle.sj_rules.specs.Frames.{FrameAt}
 use Rattle.sj_rules.specs.Node as wanted
 use Rattle.sj_rules.specs.Node.{NodeAt, Play, act_by, acts, arrives}
-use Rattle.sj_rules.specs.NodeRun.{Acted, Came, Deed, NodeRun, StepAt, Steps, clock_after, deed_done, deed_note}
+use Rattle.sj_rules.specs.Log.{NoteAt}
+use Rattle.sj_rules.specs.NodeRun.{Acted, Came, Deed, NodeRun, StepAt, Steps, clock_after, deed_done, deed_note, event_of}
 use Rattle.sj_rules.specs.Rows.{Worked}
+use Rattle.sj_rules.specs.World.{Event}
 use Rattle.sj_rules.specs.Work.{LanedAt, LaneWork, LostAt}
 use Rattle.sj_seat_laws.specs.Calls.{SeatedAt}
 use Rattle.sj_seat_laws.specs.SeatedPlay.{Player, seated, seated_play}
 use Rattle.sj_seat_laws.specs.SeatRows.{with_player, worked_player}
 use Rattle.sj_seat_laws.proofs.PlayedLemmas.{arrives_played}
+use Rattle.sj_seat.specs.Logged.{last_act, later_of, note_if_act}
+use Rattle.sj_seat.proofs.LastLemmas.{last_later}
 
 no_row : {X : Type 0} (x : X) → ◌≡◌ {A = Option X} None (Some x) → ⊥
 no_row x h = absurd (cc h)
@@ -46,6 +50,27 @@ module _ {Q : Type 0} (play : Play Place Q) (party : ℕ) (g : Q) (ended : play.
   run_stays : (steps : List (StepAt Place)) (old new : NodeAt Place Q) → old.program ≡ g → NodeRun play max party old steps new → new.program ≡ g
   run_stays [] old new own same = ap (λ (n : NodeAt Place Q). n.program) (sym same) ∙ own
   run_stays (st ∷ ss) old new own (mid, x, later) = run_stays ss mid new (step_stays old mid st own x) later
+
+  -- what it does is no act
+  no_act_noted : (e : Event) (d : Deed Place) (note : NoteAt) → e ≡ event_of d → (d ≡ Acted → ⊥) → note_if_act e note ≡ None
+  no_act_noted e Acted note is not_acted = absurd (not_acted refl)
+  no_act_noted e (Came from f) note is not_acted = ap (λ v. note_if_act v note) is
+
+  no_step_acts : (old mid : NodeAt Place Q) (st : StepAt Place) → old.program ≡ g → Steps play max party old st mid → st.deed ≡ Acted → ⊥
+  no_step_acts old mid st own x is = no_row x.done (sym (no_act old own) ∙ ap (deed_done play max party old) (sym is) ∙ x.row)
+
+  no_acts : (steps : List (StepAt Place)) (old new : NodeAt Place Q) → old.program ≡ g → NodeRun play max party old steps new → last_act (map (λ s. s.entry) steps) ≡ None
+  no_acts [] old new own same = refl
+  no_acts (st ∷ ss) old new own (mid, x, later) =
+      let rest : last_act (map (λ s. s.entry) ss) ≡ None = no_acts ss mid new (step_stays old mid st own x) later in
+      let one : note_if_act st.entry.event st.entry.note ≡ None = no_act_noted st.entry.event st.deed st.entry.note x.event (no_step_acts old mid st own x) in
+      λ i. later_of (rest i) (one i)
+
+  -- its last act stays the last one
+  pub acts_stay : {O I : Type 0} (pushed : O → Option (List (FrameAt Place))) (same_out : O → O → Type 0) (popped : I → Option (List (FrameAt Place))) (same_in : I → I → Type 0)
+      (old new : LanedAt Place Q O I) (lost : Option (LostAt Place)) → old.node.program ≡ g → LaneWork pushed same_out popped same_in play max done party old new lost → last_act new.log ≡ last_act old.log
+  acts_stay pushed same_out popped same_in old new lost own x =
+      ap last_act x.log ∙ last_later old.log (map (λ s. s.entry) x.steps) ∙ ap (λ o. later_of o (last_act old.log)) (no_acts x.steps old.node new.node own x.run)
 
   -- a worker keeps its program
   pub work_stays : {O I : Type 0} (pushed : O → Option (List (FrameAt Place))) (same_out : O → O → Type 0) (popped : I → Option (List (FrameAt Place))) (same_in : I → I → Type 0)

@@ -1,10 +1,15 @@
 mod AfterLemmas
 mod CalledLemmas
 mod CauseLemmas
+mod CountLemmas
 mod DoneLemmas
 mod FirstLemmas
 mod HoldingLemmas
 mod IdleLemmas
+mod KindLemmas
+mod LastLemmas
 mod MovedLemmas
+mod OpeningLemmas
 mod RuleLemmas
+mod TakenLemmas
 mod WaitLemmas

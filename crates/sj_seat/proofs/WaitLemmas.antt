@@ -12,18 +12,21 @@ use Rattle.sj_semantics.specs.declared.Want.TheVariants as wants
 use Rattle.sj_table.specs.Spots.{start_in}
 use Rattle.sj_work.specs.Laned.{laned}
 use Rattle.sj_work.specs.Views.{stop_of}
-use Rattle.sj_work.specs.Worked.{Turned, Went, Worked, WorkedBy, kept_stop}
+use Rattle.sj_work.specs.Went.{Went}
+use Rattle.sj_work.specs.Worked.{Turned, Worked, WorkedBy, kept_stop}
 use Rattle.sj_work.specs.declared.worker.Stop.{Stop}
 use Rattle.sj_work.specs.declared.worker.Worker.{Worker}
 use Rattle.sj_work.proofs.LaneLaws.{LaneLaws}
 use Rattle.sj_work.proofs.WentLemmas.{went_itself}
+use Rattle.sj_seat.specs.Logged.{last_act}
 use Rattle.sj_seat.specs.Went.{Keeps, SeatWork}
-use Rattle.sj_seat.proofs.IdleLemmas.{idle_work, work_stays}
+use Rattle.sj_seat.proofs.IdleLemmas.{acts_stay, idle_work, work_stays}
 
 -- so it went, whoever plays the party meanwhile
 pub record Idled {O I : Type 0} (k : LaneLaws O I) (a b : Worker O I) : Type 0 where
   pub keeps : Keeps a.node b.node
   pub idle : wants_of b.node ≡ wants.Ended
+  pub acts : last_act (laned b).log ≡ last_act (laned a).log
   pub work : (file : FileAt) (s : SeatedAt) → length file.parties ≡ parties_of a.node → SeatWork k.outward k.inward file s s a b
 
 module _ {O I : Type 0} (k : LaneLaws O I) (a b : Worker O I) (idle : wants_of a.node ≡ wants.Ended) where
@@ -37,6 +40,7 @@ module _ {O I : Type 0} (k : LaneLaws O I) (a b : Worker O I) (idle : wants_of a
   idled_turns looks t = record {
     keeps = keeps_so t.lost t.went;
     idle = ap next_want (work_stays (play_here a.node) a.node.party (node_at a.node).program ended k.outward.pushed k.outward.same k.inward.popped k.inward.same (laned a) (laned b) t.lost refl t.went.work) ∙ idle;
+    acts = acts_stay (play_here a.node) a.node.party (node_at a.node).program ended k.outward.pushed k.outward.same k.inward.popped k.inward.same (laned a) (laned b) t.lost refl t.went.work;
     work = λ file s parties. record {
       lost = t.lost;
       work = idle_work (play_here a.node) a.node.party (node_at a.node).program ended file refl (sym parties) s k.outward.pushed k.outward.same k.inward.popped k.inward.same (laned a) (laned b) t.lost refl t.went.work;
@@ -49,6 +53,7 @@ itself : {O I : Type 0} (k : LaneLaws O I) (a : Worker O I) → wants_of a.node 
 itself k a idle = record {
   keeps = keeps_so k a a idle None (went_itself k a a refl refl);
   idle = idle;
+  acts = refl;
   work = λ file s parties. record {
     lost = None;
     work = idle_work (play_here a.node) a.node.party (node_at a.node).program (ended k a a idle) file refl (sym parties) s k.outward.pushed k.outward.same k.inward.popped k.inward.same (laned a) (laned a) None refl (went_itself k a a refl refl).work;

@@ -1,13 +1,14 @@
--- The step that a call of a node is, at the places for which its spots stand, and the call of the laws.
-use Rattle.std.specs.Prelude.{◌≡◌, ℕ, ◌<◌}
+-- The step that a call of a node is, at the places for which its spots stand, and the call of the
+-- laws.
+use Rattle.std.specs.Prelude.{◌≡◌, ℕ, ◌<◌, ⊤}
 use Rattle.sj_lang.specs.Place.{Place}
 use Rattle.sj_node.specs.declared.seats.Call as seats
 use Rattle.sj_node.specs.declared.seats.Call.TheVariants.{Send, Delegate, Take, Close}
 use Rattle.sj_rules.specs.Limits.{limit_of_steps}
 use Rattle.sj_rules.specs.Node as wanted
 use Rattle.sj_rules.specs.Node.{Want}
-use Rattle.sj_seat_laws.specs.Calls.{Call, Ends, closes, delegates, sends, takes}
-use Rattle.sj_seat_laws.specs.Guards.{want_of_call}
+use Rattle.sj_seat_laws.specs.Calls.{Call, Ends, Openings, closes, delegates, place_held, sends, takes}
+use Rattle.sj_seat_laws.specs.Guards.{want_of_call, want_of_take}
 use Rattle.sj_table.specs.declared.table.Table.{Table}
 use Rattle.sj_table.specs.Spots.{place_in}
 
@@ -26,6 +27,11 @@ asked (Take e place) = takes e
 asked (Close e) = closes e
 
 -- it is the step of that call, and calls are left
-pub record IsGuarded (t : Table) (bs : Ends) (calls : ℕ) (call : seats.Call) : Type 0 where
-  pub want : want_in t call ≡ want_of_call bs (asked call)
+pub record IsGuarded (t : Table) (os : Openings) (bs : Ends) (calls : ℕ) (call : seats.Call) : Type 0 where
+  pub want : want_in t call ≡ want_of_call os bs (asked call)
   pub few : calls < limit_of_steps
+
+-- the place that it gives an end that it takes is the one at which that end begins
+abbrev pub GivesPlace : Table → Ends → seats.Call → Type 0
+GivesPlace t bs (Take e place) = wanted.takes e (place_in t place) ≡ want_of_take e (place_held bs e)
+GivesPlace t bs _ = ⊤

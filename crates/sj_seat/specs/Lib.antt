@@ -1,6 +1,10 @@
 pub mod Asked
+pub mod Counted
 pub mod Fronts
 pub mod Holding
+pub mod Kinds
+pub mod Logged
+pub mod Opened
 pub mod Places
 pub mod Rules
 pub mod Views

@@ -1,9 +1,10 @@
--- What is seen of a guest: its worker and its node, the ends that it holds, and the party that it is in the laws.
+-- What is seen of a guest: its worker and its node, the ends that it holds, the sessions that it may
+-- open, and the party that it is in the laws.
 use Rattle.std.specs.Prelude.{ℕ, List}
 use Rattle.sj_lang.specs.Place.{Place}
 use Rattle.sj_node.specs.declared.node.Node.{Node}
 use Rattle.sj_rules.specs.Work.{LanedAt}
-use Rattle.sj_seat_laws.specs.Calls.{Call, Ends, SeatedAt}
+use Rattle.sj_seat_laws.specs.Calls.{Call, Ends, Openings, SeatedAt}
 use Rattle.sj_seat_laws.specs.SeatedPlay.{Player, seated}
 use Rattle.sj_seat_laws.specs.SeatRows.{with_player}
 use Rattle.sj_table.specs.declared.table.Table.{Table}
@@ -11,6 +12,7 @@ use Rattle.sj_work.specs.Laned.{laned}
 use Rattle.sj_work.specs.Views as works
 use Rattle.sj_work.specs.declared.worker.Worker.{Worker}
 use Rattle.sj_seat.specs.Holding.{ends_at}
+use Rattle.sj_seat.specs.Opened.{openings_at}
 use Rattle.sj_seat.specs.declared.ends.HeldEnd.{HeldEnd}
 use Rattle.sj_seat.specs.declared.guest.Guest.{Guest}
 
@@ -39,6 +41,10 @@ module _ {O I G : Type 0} where
   abbrev pub ends_of : Guest O I G → Ends
   ends_of g = ends_at g.table g.ends.items
 
+  -- the sessions that it may open
+  abbrev pub may_of : Guest O I G → Openings
+  may_of g = openings_at g.table g.may
+
   -- how many calls it made
   abbrev pub calls_of : Guest O I G → ℕ
   calls_of g = g.calls
@@ -52,4 +58,4 @@ module _ {O I G : Type 0} where
 
   -- the party, where its code still makes these calls
   abbrev pub seat_of : List Call → Guest O I G → SeatedAt
-  seat_of rest g = record { ends = ends_of g; steps = g.calls; calls = rest }
+  seat_of rest g = record { ends = ends_of g; steps = g.calls; calls = rest; may = may_of g }

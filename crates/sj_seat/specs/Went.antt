@@ -29,7 +29,7 @@ use Rattle.sj_work.specs.declared.worker.Stop.{Stop}
 use Rattle.sj_work.specs.declared.worker.Stop.TheVariants as stops
 use Rattle.sj_work.specs.declared.worker.Worker.{Worker}
 use Rattle.sj_seat.specs.Rules.{first_refusal}
-use Rattle.sj_seat.specs.Views.{calls_of, ends_of, laned_at, node_of, seat_of, texts_of, worker_of}
+use Rattle.sj_seat.specs.Views.{calls_of, ends_of, laned_at, may_of, node_of, seat_of, texts_of, worker_of}
 use Rattle.sj_seat.specs.Wishes.{tests_of}
 use Rattle.sj_seat.specs.declared.wish.Wish.{Wish}
 use Rattle.sj_seat.specs.declared.guest.Guest.{Guest}
@@ -83,17 +83,17 @@ module _ {O I G : Type 0} where
 
   -- why the node didn't do the call
   abbrev pub IsHalt : Halt → Call → Guest O I G → Type 0
-  IsHalt halts.Waits c g = held_up (node_of g) (want_of_call (ends_of g) c) ≡ Some halts.Waits
-  IsHalt halts.AtLimit c g = held_up (node_of g) (want_of_call (ends_of g) c) ≡ Some halts.AtLimit
-  IsHalt halts.Unfit c g = HasNoRow (node_of g) (want_of_call (ends_of g) c) c
+  IsHalt halts.Waits c g = held_up (node_of g) (want_of_call (may_of g) (ends_of g) c) ≡ Some halts.Waits
+  IsHalt halts.AtLimit c g = held_up (node_of g) (want_of_call (may_of g) (ends_of g) c) ≡ Some halts.AtLimit
+  IsHalt halts.Unfit c g = HasNoRow (node_of g) (want_of_call (may_of g) (ends_of g) c) c
   IsHalt halts.NoMemory c g = ⊤
   IsHalt halts.Ended c g = ⊥
 
   -- why a call isn't done that no rule refuses
   abbrev pub IsHeldUp : SeatRefusal → Call → Guest O I G → Type 0
-  IsHeldUp refusals.Waiting c g = held_up (node_of g) (want_of_call (ends_of g) c) ≡ Some halts.Waits
-  IsHeldUp refusals.AtLimit c g = held_up (node_of g) (want_of_call (ends_of g) c) ≡ Some halts.AtLimit
-  IsHeldUp (refusals.Stopped stop) c g = IsStopped stop g ⊎ ((stop ≡ stops.Unfit) × HasNoRow (node_of g) (want_of_call (ends_of g) c) c)
+  IsHeldUp refusals.Waiting c g = held_up (node_of g) (want_of_call (may_of g) (ends_of g) c) ≡ Some halts.Waits
+  IsHeldUp refusals.AtLimit c g = held_up (node_of g) (want_of_call (may_of g) (ends_of g) c) ≡ Some halts.AtLimit
+  IsHeldUp (refusals.Stopped stop) c g = IsStopped stop g ⊎ ((stop ≡ stops.Unfit) × HasNoRow (node_of g) (want_of_call (may_of g) (ends_of g) c) c)
   IsHeldUp refusals.NoMemory c g = ⊤
   IsHeldUp refusals.NotHeld c g = ⊥
   IsHeldUp refusals.BeginsOtherwise c g = ⊥
@@ -105,7 +105,8 @@ module _ {O I G : Type 0} where
   IsRefused (Some rule) r c old new = (r ≡ rule) × (new ≡ old)
   IsRefused None r c old new = IsHeldUp r c new
 
-  -- the same ends at the same places, and as many calls
+  -- the same ends at the same places, as many calls, and the same sessions to open
   pub record Rests (old new : Guest O I G) : Type 0 where
     pub ends : ends_of new ≡ ends_of old
     pub calls : calls_of new ≡ calls_of old
+    pub may : may_of new ≡ may_of old

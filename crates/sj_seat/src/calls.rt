@@ -1,9 +1,12 @@
 //! The calls that a builder's code makes.
-ghost use Rattle.std.specs.Prelude.{◌≡◌, ◌∷◌, IfErr, IfOk, List, None, OnErr, OnOk, true, false, is_some, length, option_map};
+ghost use Rattle.std.specs.Prelude.{◌≡◌, ◌∷◌, IfErr, IfOk, IfSome, List, None, OnErr, OnOk, true, false, is_some, length, option_map};
 ghost use Rattle.sj_base.specs.declared.Msg.TheVariants as msgs;
 ghost use Rattle.sj_lang.specs.FileAt.{FileAt};
 ghost use Rattle.sj_node.specs.Reading.{parties_of};
-ghost use Rattle.sj_seat.specs.Views.{calls_of, ends_of, held_by, node_of, table_of, texts_of};
+ghost use Rattle.sj_seat.specs.Counted.{Counted};
+ghost use Rattle.sj_seat.specs.Logged.{TellsTaken, TookEnd, TookLast};
+ghost use Rattle.sj_seat.specs.Opened.{openings_at};
+ghost use Rattle.sj_seat.specs.Views.{calls_of, ends_of, held_by, may_of, node_of, table_of, texts_of, worker_of};
 ghost use Rattle.sj_seat.specs.Went.{IsRefused, Keeps, Rests, Went, first_rule};
 ghost use Rattle.sj_seat.specs.Wishes.{is_taking, wished};
 ghost use Rattle.sj_seat_laws.specs.Calls as calls;
@@ -36,12 +39,14 @@ impl<O, I, G> Guest<'_, O, I, G> {
     pub fn guard(&self) -> Guard<'_>
         ensures table { result.table.now ≡ table_of self.now }
         ensures ends { result.ends.now ≡ held_by self.now }
+        ensures may { openings_at result.table.now result.may.now ≡ may_of self.now }
         ensures texts { result.texts ≡ texts_of self.now }
         ensures calls { result.calls ≡ calls_of self.now }
     {
         Guard {
             table: &self.table,
             ends: &self.ends,
+            may: &self.may,
             texts: self.texts,
             calls: self.calls,
         }
@@ -61,7 +66,9 @@ impl<O: OutLane, I: InLane, G: Gate> Guest<'_, O, I, G> {
             (Went O.OutLane I.InLane file rest rest self.old self.new) }
         ensures rests { OnErr result (Rests self.old self.new) }
         ensures keeps { Keeps (node_of self.old) (node_of self.new) }
+        ensures counts { Counted O.OutLane I.InLane (worker_of self.old) (worker_of self.new) }
         ensures takes { IfOk result (λ m. is_some m ≡ is_taking wish) }
+        ensures tells { IfOk result (TellsTaken (worker_of self.new) (wished wish)) }
 
         // No rule refuses what is done; what isn't done has its cause.
         ensures allowed { OnOk result (first_rule self.old wish ≡ None) }
@@ -211,6 +218,7 @@ impl<O: OutLane, I: InLane, G: Gate> Guest<'_, O, I, G> {
         ensures err { (file : FileAt) (rest : List calls.Call) →
             length file.parties ≡ parties_of (node_of self.old) → OnErr result
             (Went O.OutLane I.InLane file rest rest self.old self.new) }
+        ensures took { IfOk result (TookLast (worker_of self.new) end) }
         ensures rests { OnErr result (Rests self.old self.new) }
         ensures keeps { Keeps (node_of self.old) (node_of self.new) }
         ensures allowed { OnOk result (first_rule self.old (Wish.Take end) ≡ None) }
@@ -233,6 +241,7 @@ impl<O: OutLane, I: InLane, G: Gate> Guest<'_, O, I, G> {
         ensures err { (file : FileAt) (rest : List calls.Call) →
             length file.parties ≡ parties_of (node_of self.old) → OnErr result
             (Went O.OutLane I.InLane file rest rest self.old self.new) }
+        ensures took { IfOk result (λ o. IfSome o (TookEnd (worker_of self.new) end)) }
         ensures rests { OnErr result (Rests self.old self.new) }
         ensures keeps { Keeps (node_of self.old) (node_of self.new) }
         ensures allowed { OnOk result (first_rule self.old (Wish.TakeEnd end) ≡ None) }

@@ -7,10 +7,13 @@ ghost use Rattle.sj_node.specs.Seats.{head_taken, is_take, want_at};
 ghost use Rattle.sj_node.specs.declared.refusal.Halt.TheVariants as halts;
 ghost use Rattle.sj_rules.specs.Limits.{clock_end, limit_of_steps};
 ghost use Rattle.sj_seat.specs.Asked.{asked};
+ghost use Rattle.sj_seat.specs.Counted.{Counted};
+ghost use Rattle.sj_seat.specs.Logged.{TellsTaken, last_act};
 ghost use Rattle.sj_seat.specs.Went.{HasNoRow, Keeps, SeatWork, held_up};
 ghost use Rattle.sj_seat_laws.specs.Calls.{SeatedAt};
 ghost use Rattle.sj_seat_laws.specs.Guards.{called, seated_want};
 ghost use Rattle.sj_semantics.specs.declared.Want.TheVariants as wants;
+ghost use Rattle.sj_work.specs.Laned.{laned};
 ghost use Rattle.sj_work.specs.Views.{node_of, stop_of};
 
 use sj_base::Msg;
@@ -18,9 +21,10 @@ use sj_lane::{InLane, OutLane};
 use sj_node::{Call, Halt};
 use sj_work::{Gate, Stop, Worker, work};
 
-/// Takes what came, and pushes what waits, until a turn has no event.
+/// Takes what came, and pushes what waits, until so many turns in a row have no event.
 pub(crate) fn deliver_all<O: OutLane, I: InLane, G: Gate>(
     worker: &mut Worker<O, I>,
+    looks: u32,
     gate: &G,
 ) -> Stop
     requires idle { wants_of (node_of worker.old) ≡ wants.Ended }
@@ -29,12 +33,15 @@ pub(crate) fn deliver_all<O: OutLane, I: InLane, G: Gate>(
     ensures work { (file : FileAt) (s : SeatedAt) →
         length file.parties ≡ parties_of (node_of worker.old) →
         SeatWork O.OutLane I.InLane file s s worker.old worker.new }
+    ensures acts { last_act (laned worker.new).log ≡ last_act (laned worker.old).log }
+    ensures counts { Counted O.OutLane I.InLane worker.old worker.new }
     ensures stop { stop_of worker.new ≡ Some result }
 {
-    work(worker, 1, gate)
+    work(worker, looks, gate)
 }
 
-/// Does the call, the guarded one of the party, where the node can. Whatever it refuses, the node is as it was.
+/// Does the call, the guarded one of the party, where the node can. Whatever it refuses, the node is
+/// as it was.
 pub(crate) fn do_call<O: OutLane, I: InLane, G: Gate>(
     worker: &mut Worker<O, I>,
     call: Call,
@@ -54,6 +61,8 @@ pub(crate) fn do_call<O: OutLane, I: InLane, G: Gate>(
         OnErr result (SeatWork O.OutLane I.InLane file s s worker.old worker.new) }
     ensures taken { IfOk result (λ m. m ≡ head_taken (node_of worker.old) call) }
     ensures takes { IfOk result (λ m. is_some m ≡ is_take call) }
+    ensures tells { IfOk result (TellsTaken worker.new (asked call)) }
+    ensures counts { Counted O.OutLane I.InLane worker.old worker.new }
     ensures stop { stop_of worker.new ≡ stop_of worker.old }
     ensures waits { IsErrOf result Halt.Waits →
         held_up (node_of worker.new) (want_at (node_of worker.old) call) ≡ Some halts.Waits }

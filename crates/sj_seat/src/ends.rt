@@ -1,10 +1,10 @@
 //! The ends that a party holds, each at its place.
 ghost use Rattle.std.specs.Prelude.{◌≡◌, ◌<◌, Some, vec_capacity, vec_len};
 ghost use Rattle.sj_rules.specs.Node as wanted;
-ghost use Rattle.sj_seat.specs.Asked.{asked, want_in};
+ghost use Rattle.sj_seat.specs.Asked.{GivesPlace, asked};
 ghost use Rattle.sj_seat.specs.Holding.{ends_at, entry_at, entry_moved, spot_held};
 ghost use Rattle.sj_seat_laws.specs.Calls.{moved, place_held, takes, without_end};
-ghost use Rattle.sj_seat_laws.specs.Guards.{ends_after, want_of_call, want_of_take};
+ghost use Rattle.sj_seat_laws.specs.Guards.{ends_after, want_of_take};
 ghost use Rattle.sj_table.specs.Spots.{place_in};
 
 use sj_base::{EndId, Msg};
@@ -63,10 +63,9 @@ fn moved_end(table: &Table, held: HeldEnd, end: EndId, way: Way, msg: Msg) -> He
 
 /// Puts the ends where they are after the call, which took that message where it takes one. There is
 /// room for one end more.
-pub(crate) fn go_on(table: &Table, ends: &mut Vec<HeldEnd>, call: Call, taken: Option<Msg>)
+pub fn go_on(table: &Table, ends: &mut Vec<HeldEnd>, call: Call, taken: Option<Msg>)
     requires room { vec_len ends.old < vec_capacity ends.old }
-    requires want { want_in table.now call
-        ≡ want_of_call (ends_at table.now ends.old.items) (asked call) }
+    requires place { GivesPlace table.now (ends_at table.now ends.old.items) call }
     ensures { ends_at table.now ends.new.items
         ≡ ends_after (ends_at table.now ends.old.items) (asked call) taken }
 {

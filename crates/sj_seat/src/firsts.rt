@@ -32,7 +32,7 @@ pub(crate) fn count_of(words: &Words) -> usize
 }
 
 /// The ends that connections give the party, at the starts of their protocols.
-pub(crate) fn first_ends(
+pub fn first_ends(
     alloc: Global,
     file: &File,
     table: &Table,

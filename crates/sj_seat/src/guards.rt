@@ -4,6 +4,7 @@ ghost use Rattle.sj_lang.specs.Place.{done};
 ghost use Rattle.sj_seat.specs.Asked.{IsGuarded, asked};
 ghost use Rattle.sj_node.specs.Seats.{is_take};
 ghost use Rattle.sj_seat.specs.Holding.{ends_of};
+ghost use Rattle.sj_seat.specs.Opened.{may_of};
 ghost use Rattle.sj_seat.specs.Places.{CarriesPlaces};
 ghost use Rattle.sj_seat.specs.Rules as rules;
 ghost use Rattle.sj_seat.specs.Rules.{is_full, is_missing, names_text, place_at};
@@ -14,6 +15,7 @@ ghost use Rattle.sj_table.specs.Spots.{place_in};
 
 use crate::ends::{HeldEnd, spot_held};
 use crate::fronts::{begins_with, may_carry, may_send, sends_end, takes_no_end};
+use crate::openings::Openings;
 use crate::places::carried_spot;
 use crate::{SeatRefusal, Wish};
 use sj_base::{EndId, Msg};
@@ -21,12 +23,13 @@ use sj_machine::MAX_STEPS;
 use sj_node::Call;
 use sj_table::{Spot, Table};
 
-/// What the rules ask of a party: the ends that it holds, in the table of their places, how many
-/// texts the file has, and how many calls the party made.
+/// What the rules ask of a party: the ends that it holds, in the table of their places, the sessions
+/// that it may open, how many texts the file has, and how many calls the party made.
 #[derive(Clone, Copy)]
 pub struct Guard<'a> {
     pub table: &'a Table,
     pub ends: &'a [HeldEnd],
+    pub may: &'a Openings,
     pub texts: usize,
     pub calls: u32,
 }
@@ -38,7 +41,7 @@ impl Guard<'_> {
         ensures call { IfOk result (λ c. asked c ≡ wished wish) }
         ensures takes { IfOk result (λ c. is_take c ≡ is_taking wish) }
         ensures guarded { IfOk result
-            (IsGuarded self.now.table.now (ends_of self.now) self.now.calls) }
+            (IsGuarded self.now.table.now (may_of self.now) (ends_of self.now) self.now.calls) }
         ensures allowed { IfOk result (λ c. rules.first_refusal
             (tests_of self.now.texts self.now.calls (ends_of self.now) wish) ≡ None) }
         ensures refused { IfErr result (λ r. rules.first_refusal
@@ -57,7 +60,8 @@ impl Guard<'_> {
     pub fn send(&self, end: EndId, msg: Msg) -> Result<Call, SeatRefusal>
         ensures call { IfOk result (λ c. asked c ≡ calls.sends end msg) }
         ensures takes { IfOk result (λ c. is_take c ≡ false) }
-        ensures guarded { IfOk result (IsGuarded self.now.table.now (ends_of self.now) self.now.calls) }
+        ensures guarded { IfOk result
+            (IsGuarded self.now.table.now (may_of self.now) (ends_of self.now) self.now.calls) }
         ensures allowed { IfOk result (λ c. rules.first_refusal
             (rules.send_tests self.now.texts self.now.calls (ends_of self.now) end msg) ≡ None) }
         ensures refused { IfErr result (λ r. rules.first_refusal
@@ -86,7 +90,8 @@ impl Guard<'_> {
     pub fn delegate(&self, carrier: EndId, end: EndId) -> Result<Call, SeatRefusal>
         ensures call { IfOk result (λ c. asked c ≡ calls.delegates carrier end) }
         ensures takes { IfOk result (λ c. is_take c ≡ false) }
-        ensures guarded { IfOk result (IsGuarded self.now.table.now (ends_of self.now) self.now.calls) }
+        ensures guarded { IfOk result
+            (IsGuarded self.now.table.now (may_of self.now) (ends_of self.now) self.now.calls) }
         ensures allowed { IfOk result (λ c. rules.first_refusal
             (rules.delegate_tests self.now.calls (ends_of self.now) carrier end) ≡ None) }
         ensures refused { IfErr result (λ r. rules.first_refusal
@@ -117,7 +122,8 @@ impl Guard<'_> {
     pub fn close(&self, end: EndId) -> Result<Call, SeatRefusal>
         ensures call { IfOk result (λ c. asked c ≡ calls.closes end) }
         ensures takes { IfOk result (λ c. is_take c ≡ false) }
-        ensures guarded { IfOk result (IsGuarded self.now.table.now (ends_of self.now) self.now.calls) }
+        ensures guarded { IfOk result
+            (IsGuarded self.now.table.now (may_of self.now) (ends_of self.now) self.now.calls) }
         ensures allowed { IfOk result (λ c. rules.first_refusal
             (rules.close_tests self.now.calls (ends_of self.now) end) ≡ None) }
         ensures refused { IfErr result (λ r. rules.first_refusal
@@ -139,7 +145,8 @@ impl Guard<'_> {
     pub fn take(&self, end: EndId) -> Result<Call, SeatRefusal>
         ensures call { IfOk result (λ c. asked c ≡ calls.takes end) }
         ensures takes { IfOk result (λ c. is_take c ≡ true) }
-        ensures guarded { IfOk result (IsGuarded self.now.table.now (ends_of self.now) self.now.calls) }
+        ensures guarded { IfOk result
+            (IsGuarded self.now.table.now (may_of self.now) (ends_of self.now) self.now.calls) }
         ensures allowed { IfOk result (λ c. rules.first_refusal
             (rules.take_tests self.now.calls (ends_of self.now) end) ≡ None) }
         ensures refused { IfErr result (λ r. rules.first_refusal
@@ -168,7 +175,8 @@ impl Guard<'_> {
         requires carries { CarriesPlaces self.now.table.now }
         ensures call { IfOk result (λ c. asked c ≡ calls.takes end) }
         ensures takes { IfOk result (λ c. is_take c ≡ true) }
-        ensures guarded { IfOk result (IsGuarded self.now.table.now (ends_of self.now) self.now.calls) }
+        ensures guarded { IfOk result
+            (IsGuarded self.now.table.now (may_of self.now) (ends_of self.now) self.now.calls) }
         ensures allowed { IfOk result (λ c. rules.first_refusal
             (rules.take_end_tests self.now.calls (ends_of self.now) end) ≡ None) }
         ensures refused { IfErr result (λ r. rules.first_refusal

@@ -9,6 +9,7 @@ ghost use Rattle.sj_semantics.specs.declared.Want.TheVariants as wants;
 ghost use Rattle.sj_work.specs.Views.{node_of};
 
 use crate::ends::HeldEnd;
+use crate::openings::Openings;
 use sj_table::Table;
 use sj_work::Worker;
 
@@ -19,6 +20,8 @@ pub struct Guest<'a, O, I, G> {
     pub(crate) worker: Worker<O, I>,
     pub(crate) table: Table,
     pub(crate) ends: Vec<HeldEnd>,
+    /// The sessions that it may open.
+    pub(crate) may: Openings,
     /// How many texts the file has.
     pub(crate) texts: usize,
     pub(crate) calls: u32,

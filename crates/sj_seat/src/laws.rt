@@ -7,25 +7,25 @@ ghost use Rattle.sj_rules.specs.Limits.{limit_of_steps};
 ghost use Rattle.sj_rules.specs.Node as wanted;
 ghost use Rattle.sj_seat.specs.Rules.{close_tests, delegate_tests, first_refusal, names_text, place_at};
 ghost use Rattle.sj_seat.specs.Rules.{send_tests, take_end_tests, take_tests};
-ghost use Rattle.sj_seat_laws.specs.Calls.{Ends, closes, delegates, sends, takes};
+ghost use Rattle.sj_seat_laws.specs.Calls.{Ends, Openings, closes, delegates, sends, takes};
 ghost use Rattle.sj_seat_laws.specs.Guards.{carried_next, want_of_call};
 
 /// No rule refuses a call exactly where it is guarded. A take is refused by neither of its two forms'
 /// rules where it is.
 pub fn the_rules_are_the_guard()
-    ensures sends { (texts calls : ℕ) (bs : Ends) (e : EndId) (m : Msg) →
+    ensures sends { (texts calls : ℕ) (os : Openings) (bs : Ends) (e : EndId) (m : Msg) →
         (first_refusal (send_tests texts calls bs e m) ≡ None) ↔
-        ((want_of_call bs (sends e m) ≡ wanted.sends e m)
+        ((want_of_call os bs (sends e m) ≡ wanted.sends e m)
         × (names_text texts m ≡ true) × (calls < limit_of_steps)) }
-    ensures delegates { (calls : ℕ) (bs : Ends) (c e : EndId) →
+    ensures delegates { (calls : ℕ) (os : Openings) (bs : Ends) (c e : EndId) →
         (first_refusal (delegate_tests calls bs c e) ≡ None) ↔
-        ((want_of_call bs (delegates c e) ≡ wanted.delegates c e) × (calls < limit_of_steps)) }
-    ensures takes { (calls : ℕ) (bs : Ends) (e : EndId) →
+        ((want_of_call os bs (delegates c e) ≡ wanted.delegates c e) × (calls < limit_of_steps)) }
+    ensures takes { (calls : ℕ) (os : Openings) (bs : Ends) (e : EndId) →
         ((first_refusal (take_tests calls bs e) ≡ None)
         ⊎ (first_refusal (take_end_tests calls bs e) ≡ None)) ↔
-        ((want_of_call bs (takes e) ≡ wanted.takes e (carried_next (place_at bs e)))
+        ((want_of_call os bs (takes e) ≡ wanted.takes e (carried_next (place_at bs e)))
         × (calls < limit_of_steps)) }
-    ensures closes { (calls : ℕ) (bs : Ends) (e : EndId) →
+    ensures closes { (calls : ℕ) (os : Openings) (bs : Ends) (e : EndId) →
         (first_refusal (close_tests calls bs e) ≡ None) ↔
-        ((want_of_call bs (closes e) ≡ wanted.closes e) × (calls < limit_of_steps)) }
+        ((want_of_call os bs (closes e) ≡ wanted.closes e) × (calls < limit_of_steps)) }
 {}

@@ -1,6 +1,7 @@
 //! A party of a run that is played by a builder's own code.
 #![tactic(auto)]
 
+mod attend;
 mod calls;
 mod deeds;
 mod ends;
@@ -8,17 +9,22 @@ mod firsts;
 mod fronts;
 mod guards;
 mod guest;
+mod kinds;
 mod laws;
+mod openings;
 mod places;
 mod refusal;
 mod starts;
 mod turns;
 mod wish;
 
-pub use ends::HeldEnd;
+pub use ends::{HeldEnd, go_on};
+pub use firsts::first_ends;
 pub use guards::Guard;
 pub use guest::Guest;
+pub use kinds::seat_table;
 pub use laws::the_rules_are_the_guard;
+pub use openings::{Opening, Openings, party_openings};
 pub use places::carries_places;
 pub use refusal::SeatRefusal;
 pub use wish::Wish;

@@ -1,15 +1,16 @@
 //! A party before its first call, and after its last one.
-ghost use Rattle.std.specs.Prelude.{◌≡◌, ◌<◌, IfOk, ℕ, length, min};
+ghost use Rattle.std.specs.Prelude.{◌≡◌, ◌<◌, IfOk, None, ℕ, length, min, slice_get};
 ghost use Rattle.sj_check.specs.Held.{file_in};
 ghost use Rattle.sj_lang.specs.FileAt.{body_named};
 ghost use Rattle.sj_lang.specs.FileView.{file_of};
 ghost use Rattle.sj_node.specs.Node.{wants_of};
 ghost use Rattle.sj_node.specs.Reading as nodes;
 ghost use Rattle.sj_node.specs.Starting.{BeginsWith, nothing_to_do};
+ghost use Rattle.sj_seat.specs.Opened.{openings_at};
 ghost use Rattle.sj_seat.specs.Places.{CarriesPlaces};
 ghost use Rattle.sj_seat.specs.Rules.{limit_of_texts};
-ghost use Rattle.sj_seat.specs.Views.{calls_of, ends_of, held_by, node_of, table_of, texts_of, worker_of};
-ghost use Rattle.sj_seat_laws.specs.SeatedStart.{connected_ends};
+ghost use Rattle.sj_seat.specs.Views.{calls_of, ends_of, held_by, may_of, node_of, table_of, texts_of, worker_of};
+ghost use Rattle.sj_seat_laws.specs.SeatedStart.{connected_ends, openings_of};
 ghost use Rattle.sj_semantics.specs.declared.Want.TheVariants as wants;
 ghost use Rattle.sj_table.specs.Spots.{start_in};
 ghost use Rattle.sj_work.specs.Views as works;
@@ -17,6 +18,7 @@ ghost use Rattle.sj_work.specs.Views as works;
 use crate::Guest;
 use crate::ends::HeldEnd;
 use crate::firsts::{count_of, first_ends};
+use crate::openings::{Openings, party_openings};
 use sj_base::NoMemory;
 use sj_check::Accepted;
 use sj_lane::Lanes;
@@ -31,6 +33,7 @@ impl<'a, O, I, G> Guest<'a, O, I, G> {
         worker: Worker<O, I>,
         table: Table,
         ends: Vec<HeldEnd>,
+        may: Openings,
         texts: usize,
         looks: u32,
         gate: &'a G,
@@ -41,6 +44,7 @@ impl<'a, O, I, G> Guest<'a, O, I, G> {
         ensures worker { worker_of result ≡ worker }
         ensures table { table_of result ≡ table }
         ensures ends { held_by result ≡ ends.items }
+        ensures may { may_of result ≡ openings_at table may }
         ensures texts { texts_of result ≡ texts }
         ensures calls { calls_of result ≡ 0 }
     {
@@ -48,6 +52,7 @@ impl<'a, O, I, G> Guest<'a, O, I, G> {
             worker,
             table,
             ends,
+            may,
             texts,
             calls: 0,
             looks,
@@ -88,18 +93,24 @@ impl<'a, O, I, G> Guest<'a, O, I, G> {
             ≡ connected_ends (file_of (file_in accepted.now)) party) }
         ensures calls { IfOk result (λ g. calls_of g ≡ 0) }
 
+        // It opens the sessions that the party's statements open.
+        ensures may { IfOk result (λ g. may_of g ≡ openings_of (file_of (file_in accepted.now))
+            (slice_get (file_of (file_in accepted.now)).parties party)) }
+
         // Its node is the first one of the file, with nothing to do of its own.
         ensures begins { IfOk result (λ g. BeginsWith (file_of (file_in accepted.now)) party 0
             (nothing_to_do (file_of (file_in accepted.now))) (node_of g)) }
         ensures lanes { IfOk result (λ g. works.lanes_of (worker_of g) ≡ lanes) }
+        ensures stop { IfOk result (λ g. works.stop_of (worker_of g) ≡ None) }
         ensures texts { IfOk result (λ g. texts_of g
             ≡ min (length (file_of (file_in accepted.now)).texts) limit_of_texts) }
     {
         let file = accepted.file();
         let ends = first_ends(alloc, file, table, party)?;
+        let may = party_openings(alloc, file, table, party)?;
         let texts = count_of(&file.names.texts);
         let node = Node::seated(alloc, accepted, table.copied()?, party)?;
         let worker = Worker::new(node, lanes);
-        Ok(Guest::new(worker, table.copied()?, ends, texts, looks, gate))
+        Ok(Guest::new(worker, table.copied()?, ends, may, texts, looks, gate))
     }
 }

@@ -7,9 +7,12 @@ ghost use Rattle.sj_node.specs.Reading.{parties_of};
 ghost use Rattle.sj_node.specs.Seats.{is_take};
 ghost use Rattle.sj_rules.specs.Limits.{clock_end};
 ghost use Rattle.sj_seat.specs.Asked.{IsGuarded, asked};
-ghost use Rattle.sj_seat.specs.Views.{calls_of, ends_of, node_of, table_of, worker_of};
+ghost use Rattle.sj_seat.specs.Counted.{Counted};
+ghost use Rattle.sj_seat.specs.Logged.{TellsTaken, last_act};
+ghost use Rattle.sj_seat.specs.Views.{calls_of, ends_of, may_of, node_of, table_of, worker_of};
 ghost use Rattle.sj_seat.specs.Went.{IsHalt, IsHeldUp, IsStopped, Keeps, Rests, Went};
 ghost use Rattle.sj_seat_laws.specs.Calls as calls;
+ghost use Rattle.sj_work.specs.Laned.{laned};
 ghost use Rattle.sj_work.specs.Views.{stop_of};
 ghost use Rattle.sj_work.specs.Worked.{kept_stop};
 
@@ -31,10 +34,13 @@ impl<O: OutLane, I: InLane, G: Gate> Guest<'_, O, I, G> {
             Went O.OutLane I.InLane file rest rest self.old self.new }
         ensures keeps { Keeps (node_of self.old) (node_of self.new) }
         ensures rests { Rests self.old self.new }
+        ensures acts { last_act (laned (worker_of self.new)).log
+            ≡ last_act (laned (worker_of self.old)).log }
+        ensures counts { Counted O.OutLane I.InLane (worker_of self.old) (worker_of self.new) }
         ensures none { result ≡ None → kept_stop (stop_of (worker_of self.new)) ≡ None }
         ensures some { IfSome result (λ s. stop_of (worker_of self.new) ≡ Some s) }
     {
-        let stop = deliver_all(&mut self.worker, self.gate);
+        let stop = deliver_all(&mut self.worker, 1, self.gate);
         match stop {
             Stop::ClockEnd | Stop::NoMemory | Stop::Fault | Stop::Unfit => Some(stop),
             Stop::Finished | Stop::Idle | Stop::AtLimit => None,
@@ -43,7 +49,8 @@ impl<O: OutLane, I: InLane, G: Gate> Guest<'_, O, I, G> {
 
     /// Does the call, where the node can.
     fn make(&mut self, call: Call) -> Result<Option<Msg>, Halt>
-        requires guarded { IsGuarded (table_of self.old) (ends_of self.old) (calls_of self.old) call }
+        requires guarded { IsGuarded (table_of self.old) (may_of self.old) (ends_of self.old)
+            (calls_of self.old) call }
         requires clock { clock_of (node_of self.old) < clock_end }
         requires room { vec_len self.old.ends < vec_capacity self.old.ends }
 
@@ -56,9 +63,11 @@ impl<O: OutLane, I: InLane, G: Gate> Guest<'_, O, I, G> {
             (Went O.OutLane I.InLane file rest rest self.old self.new) }
         ensures rests { OnErr result (Rests self.old self.new) }
         ensures takes { IfOk result (λ m. is_some m ≡ is_take call) }
+        ensures tells { IfOk result (TellsTaken (worker_of self.new) (asked call)) }
 
-        // What stays in any case.
+        // What stays in any case, and what the lanes counted.
         ensures keeps { Keeps (node_of self.old) (node_of self.new) }
+        ensures counts { Counted O.OutLane I.InLane (worker_of self.old) (worker_of self.new) }
         ensures stop { stop_of (worker_of self.new) ≡ stop_of (worker_of self.old) }
 
         // Why it isn't.
@@ -94,7 +103,8 @@ impl<O: OutLane, I: InLane, G: Gate> Guest<'_, O, I, G> {
 
     /// Does the call, where it can be done now, and pushes what waits then.
     fn attempt(&mut self, call: Call) -> Result<Option<Msg>, SeatRefusal>
-        requires guarded { IsGuarded (table_of self.old) (ends_of self.old) (calls_of self.old) call }
+        requires guarded { IsGuarded (table_of self.old) (may_of self.old) (ends_of self.old)
+            (calls_of self.old) call }
 
         // The call is made, or nothing is.
         ensures ok { (file : FileAt) (rest : List calls.Call) →
@@ -105,9 +115,11 @@ impl<O: OutLane, I: InLane, G: Gate> Guest<'_, O, I, G> {
             (Went O.OutLane I.InLane file rest rest self.old self.new) }
         ensures rests { OnErr result (Rests self.old self.new) }
         ensures takes { IfOk result (λ m. is_some m ≡ is_take call) }
+        ensures tells { IfOk result (TellsTaken (worker_of self.new) (asked call)) }
 
-        // What stays in any case.
+        // What stays in any case, and what the lanes counted.
         ensures keeps { Keeps (node_of self.old) (node_of self.new) }
+        ensures counts { Counted O.OutLane I.InLane (worker_of self.old) (worker_of self.new) }
 
         // Why it isn't.
         ensures cause { IfErr result (λ r. IsHeldUp r (asked call) self.new) }
@@ -135,7 +147,8 @@ impl<O: OutLane, I: InLane, G: Gate> Guest<'_, O, I, G> {
 
     /// Does the call, where it can be done within as many turns in vain as there are looks.
     pub(crate) fn act(&mut self, call: Call) -> Result<Option<Msg>, SeatRefusal>
-        requires guarded { IsGuarded (table_of self.old) (ends_of self.old) (calls_of self.old) call }
+        requires guarded { IsGuarded (table_of self.old) (may_of self.old) (ends_of self.old)
+            (calls_of self.old) call }
 
         // The call is made, or nothing is.
         ensures ok { (file : FileAt) (rest : List calls.Call) →
@@ -146,9 +159,11 @@ impl<O: OutLane, I: InLane, G: Gate> Guest<'_, O, I, G> {
             (Went O.OutLane I.InLane file rest rest self.old self.new) }
         ensures rests { OnErr result (Rests self.old self.new) }
         ensures takes { IfOk result (λ m. is_some m ≡ is_take call) }
+        ensures tells { IfOk result (TellsTaken (worker_of self.new) (asked call)) }
 
-        // What stays in any case.
+        // What stays in any case, and what the lanes counted.
         ensures keeps { Keeps (node_of self.old) (node_of self.new) }
+        ensures counts { Counted O.OutLane I.InLane (worker_of self.old) (worker_of self.new) }
 
         // Why it isn't.
         ensures cause { IfErr result (λ r. IsHeldUp r (asked call) self.new) }

@@ -2,8 +2,10 @@ use Rattle.std.proofs.Common.{◌∙◌, ap}
 use Rattle.sj_node.specs.Play.{next_want}
 use Rattle.sj_node.specs.declared.refusal.Halt.TheVariants as halts
 use Rattle.sj_work.proofs.LaneLaws.{laws}
+use Rattle.sj_seat.proofs.CountLemmas.{counted_alone}
 use Rattle.sj_seat.proofs.DoneLemmas.{call_keeps, done_call, refused_call}
 use Rattle.sj_seat.proofs.CauseLemmas.{err_stays, held_up_so, no_row_so}
+use Rattle.sj_seat.proofs.TakenLemmas.{tells_taken}
 use Rattle.sj_seat.proofs.deeds.do_call.Goals as goal
 
 pub returns : goal.returns
@@ -21,6 +23,8 @@ returns g c =
       err = λ file s parties. refused_call k a b h.lanes file s c.call.result h.err;
       taken = h.taken;
       takes = h.takes;
+      tells = tells_taken a b c.args.call c.call.result h.ok h.taken;
+      counts = counted_alone k a b h.lanes h.stop;
       stop = h.stop;
       waits = λ is. held_up_so a.node b.node c.args.call (err_stays c.call.result halts.Waits is h.err) halts.Waits (h.waits is);
       at_limit = λ is. held_up_so a.node b.node c.args.call (err_stays c.call.result halts.AtLimit is h.err) halts.AtLimit (h.at_limit is);

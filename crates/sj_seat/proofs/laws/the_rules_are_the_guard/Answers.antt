@@ -3,4 +3,4 @@ use Rattle.sj_seat.proofs.RuleLemmas.{delegates_so}
 use Rattle.sj_seat.proofs.laws.the_rules_are_the_guard.Goals as goal
 
 pub returns-clause-delegates : goal.returns-clause-delegates
-returns-clause-delegates _ = λ calls bs c e. delegates_so calls c e (place_held bs c) (place_held bs e)
+returns-clause-delegates _ = λ calls os bs c e. delegates_so calls c e (place_held bs c) (place_held bs e)

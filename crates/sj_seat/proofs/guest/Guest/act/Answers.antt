@@ -3,6 +3,7 @@ use Rattle.sj_work.proofs.LaneLaws.{laws}
 use Rattle.sj_seat.specs.Asked.{asked}
 use Rattle.sj_seat.specs.declared.refusal.SeatRefusal.TheVariants as refusals
 use Rattle.sj_seat.proofs.AfterLemmas.{waited_err, waited_more, waited_none, waited_ok, waited_then, waited_vain}
+use Rattle.sj_seat.proofs.CountLemmas.{counted_later}
 use Rattle.sj_seat.proofs.guest.Guest.act.Goals as goal
 
 pub loop-init : goal.loop-init
@@ -39,7 +40,7 @@ returns-in-Some-clause-err g c =
     let r = c.attempt-answer.result in
     let h = c.attempt-answer.ensures in
     let waiting : r ≡ Err refusals.Waiting = c.is_waiting.ensures c.if-not-is_waiting.false in
-    let vain = waited_vain k a l m r refusals.Waiting waiting c.loop.invariant h.keeps h.rests (h.waits waiting) h.err in
+    let vain = waited_vain k a l m r refusals.Waiting waiting c.loop.invariant h.keeps h.rests h.counts (h.waits waiting) h.err in
     λ file rest parties. waited_then k a m c.wait.new.self file rest rest vain parties (c.wait.ensures.went file rest)
 
 pub loop-preserved : goal.loop-preserved
@@ -53,9 +54,9 @@ loop-preserved g c =
     let r = c.attempt-answer.result in
     let h = c.attempt-answer.ensures in
     let waiting : r ≡ Err refusals.Waiting = c.is_waiting.ensures c.if-not-is_waiting.false in
-    let vain = waited_vain k a l m r refusals.Waiting waiting c.loop.invariant h.keeps h.rests (h.waits waiting) h.err in
+    let vain = waited_vain k a l m r refusals.Waiting waiting c.loop.invariant h.keeps h.rests h.counts (h.waits waiting) h.err in
     let w = c.wait.ensures in
-    waited_more k a m c.wait.new.self vain w.keeps w.rests (w.none c.in_default.is) w.went
+    waited_more k a m c.wait.new.self vain w.keeps w.rests w.counts (w.none c.in_default.is) w.went
 
 pub returns-clause-ok : goal.returns-clause-ok
 returns-clause-ok g c =
@@ -72,3 +73,25 @@ returns-clause-err g c =
     let k = laws g.O.OutLane g.I.InLane ol.same_itself ol.same_later il.same_itself il.same_later in
     let h = c.attempt.ensures in
     λ file rest parties. waited_err k c.args.self.now c.loop.self c.attempt.new.self c.attempt.result file rest rest c.loop.invariant parties (h.err file rest)
+
+pub returns-then-not-is_waiting-clause-counts : goal.returns-then-not-is_waiting-clause-counts
+returns-then-not-is_waiting-clause-counts g c =
+    let ol = g.met.O.OutLane g.world.𝓛 g.world.𝓜 g.world.𝓡 (λ s x. x, λ x. x, λ x. x, λ x. x) in
+    let il = g.met.I.InLane g.world.𝓛 g.world.𝓜 g.world.𝓡 (λ s x. x, λ x. x, λ x. x, λ x. x) in
+    let k = laws g.O.OutLane g.I.InLane ol.same_itself ol.same_later il.same_itself il.same_later in
+    counted_later k c.args.self.now.worker c.loop.self.worker c.attempt-answer.new.self.worker c.loop.invariant.counts c.attempt-answer.ensures.counts
+
+pub returns-in-Some-clause-counts : goal.returns-in-Some-clause-counts
+returns-in-Some-clause-counts g c =
+    let ol = g.met.O.OutLane g.world.𝓛 g.world.𝓜 g.world.𝓡 (λ s x. x, λ x. x, λ x. x, λ x. x) in
+    let il = g.met.I.InLane g.world.𝓛 g.world.𝓜 g.world.𝓡 (λ s x. x, λ x. x, λ x. x, λ x. x) in
+    let k = laws g.O.OutLane g.I.InLane ol.same_itself ol.same_later il.same_itself il.same_later in
+    let so = counted_later k c.args.self.now.worker c.loop.self.worker c.attempt-answer.new.self.worker c.loop.invariant.counts c.attempt-answer.ensures.counts in
+    counted_later k c.args.self.now.worker c.attempt-answer.new.self.worker c.wait.new.self.worker so c.wait.ensures.counts
+
+pub returns-clause-counts : goal.returns-clause-counts
+returns-clause-counts g c =
+    let ol = g.met.O.OutLane g.world.𝓛 g.world.𝓜 g.world.𝓡 (λ s x. x, λ x. x, λ x. x, λ x. x) in
+    let il = g.met.I.InLane g.world.𝓛 g.world.𝓜 g.world.𝓡 (λ s x. x, λ x. x, λ x. x, λ x. x) in
+    let k = laws g.O.OutLane g.I.InLane ol.same_itself ol.same_later il.same_itself il.same_later in
+    counted_later k c.args.self.now.worker c.loop.self.worker c.attempt.new.self.worker c.loop.invariant.counts c.attempt.ensures.counts

@@ -6,7 +6,7 @@ use Rattle.sj_seat_laws.specs.Guards.{ends_after}
 use Rattle.sj_node.specs.Seats.{head_taken}
 use Rattle.sj_seat.specs.Asked.{asked}
 use Rattle.sj_seat.specs.Holding.{ends_at}
-use Rattle.sj_seat.specs.Views.{ends_of, seat_of}
+use Rattle.sj_seat.specs.Views.{ends_of, may_of, seat_of}
 use Rattle.sj_seat.specs.Went.{SeatWork}
 
 pub returns-in-Ok-clause-ok : goal.returns-in-Ok-clause-ok
@@ -18,5 +18,5 @@ returns-in-Ok-clause-ok g c = λ file rest parties.
     let before = seat_of (asked call ∷ rest) a in
     let ends : ends_at a.table c.go_on.new.ends.items ≡ ends_after (ends_of a) (asked call) taken = c.go_on.ensures ∙ ap (ends_after (ends_of a) (asked call)) c.in-Ok.ensures.taken in
     subst (λ (t : SeatedAt). SeatWork g.O.OutLane g.I.InLane file before t a.worker c.do_call.new.worker)
-    (λ i. record { ends = sym ends i; steps = a.calls + 1; calls = rest })
+    (λ i. record { ends = sym ends i; steps = a.calls + 1; calls = rest; may = may_of a })
     (c.in-Ok.ensures.ok file before parties (sym c.requires.guarded.want ∙ same_want n a.table call a.same) c.requires.guarded.few)

@@ -1,0 +1,44 @@
+-- The last act that a worker's log reports, and the message that was taken by it.
+use Rattle.std.specs.Prelude.{◌≡◌, ⊤, List, [], ◌∷◌, Option, Some, None}
+use Rattle.sj_base.specs.declared.EndId.{EndId}
+use Rattle.sj_base.specs.declared.Msg.{Msg}
+use Rattle.sj_base.specs.declared.Msg.TheVariants as msgs
+use Rattle.sj_rules.specs.Log.{EntryAt, NoteAt, Took}
+use Rattle.sj_rules.specs.World.{Event, Act, Deliver}
+use Rattle.sj_seat_laws.specs.Calls.{Call, takes}
+use Rattle.sj_work.specs.Laned.{laned}
+use Rattle.sj_work.specs.declared.worker.Worker.{Worker}
+
+-- the note, where the event is an act
+abbrev pub note_if_act : Event → NoteAt → Option NoteAt
+note_if_act Act note = Some note
+note_if_act (Deliver q) note = None
+
+-- the later one, where there is one
+abbrev pub later_of : Option NoteAt → Option NoteAt → Option NoteAt
+later_of None old = old
+later_of (Some note) old = Some note
+
+-- what is noted of the last act, if any
+abbrev pub last_act : List EntryAt → Option NoteAt
+last_act [] = None
+last_act (e ∷ es) = later_of (last_act es) (note_if_act e.event e.note)
+
+-- the end that an act takes, on which one
+abbrev pub end_taken : Option NoteAt → Option (EndId × EndId)
+end_taken (Some (Took c (msgs.Sess s d k))) = Some (c, record { sess = s; side = d })
+end_taken _ = None
+
+module _ {O I : Type 0} where
+  -- the last act at the worker took that message on the end
+  abbrev pub TookLast : Worker O I → EndId → Msg → Type 0
+  TookLast w e m = last_act (laned w).log ≡ Some (Took e m)
+
+  -- the last act at the worker took that end on the carrier
+  abbrev pub TookEnd : Worker O I → (carrier e : EndId) → Type 0
+  TookEnd w c e = end_taken (last_act (laned w).log) ≡ Some (c, e)
+
+  -- what a call took is the message of the last act, on the end of the call
+  abbrev pub TellsTaken : Worker O I → Call → Option Msg → Type 0
+  TellsTaken w (takes e) (Some m) = TookLast w e m
+  TellsTaken w _ _ = ⊤

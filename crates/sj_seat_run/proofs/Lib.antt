@@ -1,0 +1,4 @@
+mod CarriedLemmas
+mod PlayedLemmas
+mod RanLemmas
+mod RunnerLemmas

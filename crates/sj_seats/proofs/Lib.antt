@@ -1,0 +1,16 @@
+mod ToldLemmas
+mod LiftLemmas
+mod PlayedLemmas
+mod ShortLemmas
+mod ChairLemmas
+mod GoingLemmas
+mod CallingLemmas
+mod RunLemmas
+mod DrainLemmas
+mod ReplayLemmas
+mod BeginningLemmas
+mod StartLemmas
+mod AnswerLemmas
+mod FreeLemmas
+mod StopLemmas
+mod UnfitLemmas
