@@ -84,7 +84,12 @@ fn run_in(line: Line<'_>) -> Option<Task>
     ensures some { IfSome result (Means (line_of line.entry)) }
     ensures none { result ≡ None → (t : Asked) → Means (line_of line.entry) t → ⊥ }
 {
-    match (line.number, flag_in(line.log), looks_in(line.looks), workers_in(line.workers)) {
+    match (
+        line.number,
+        flag_in(line.log),
+        looks_in(line.looks),
+        workers_in(line.workers),
+    ) {
         (None, Some(log), Some(looks), Some(workers)) => {
             Some(Task::Run {
                 log,

@@ -18,10 +18,11 @@ use Rattle.sj_wire.specs.Spelling.{spelling}
 use Rattle.sj_work.specs.declared.worker.Stop.{Stop}
 use Rattle.sj_work.specs.declared.worker.Stop.TheVariants as stops
 use Rattle.sj_work.specs.declared.worker.Worker.{Worker}
-use Rattle.sj_work.specs.Causes.{Cause, Loses, OutVain}
+use Rattle.sj_work.specs.Causes.{Cause, Loses}
 use Rattle.sj_work.specs.Counts.{OnLane, RoseBy}
 use Rattle.sj_work.specs.Laned.{entries_of, laned}
 use Rattle.sj_work.specs.Views.{in_of, node_of, out_of, stop_of}
+use Rattle.sj_work.specs.Went.{OutVain}
 use Rattle.sj_work.specs.Worked.{Turned, Worked, WorkedBy, kept_stop}
 use Rattle.sj_engine.specs.Frames.{frames_in}
 use Rattle.sj_engine.specs.Lanes.{SameIn, as_told, popped_on, pushed_on, unread}

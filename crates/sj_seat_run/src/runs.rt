@@ -113,7 +113,9 @@ pub fn run_seated<R: Threads + Sync, L: Links, G: Gate, C: Play + Send + Drop>(
     ensures faults { L.faults links.old ≤ L.faults links.new }
 {
     let table = table_for(accepted)?;
-    let Parties { workers, codes } = run_all(rt, alloc, accepted, &table, codes, looks, links, gate)?;
+    let Parties { workers, codes } = run_all(
+        rt, alloc, accepted, &table, codes, looks, links, gate,
+    )?;
     let faulty = any_stopped(&workers, Stop::Fault);
     let unfit = any_stopped(&workers, Stop::Unfit);
     let short = any_stopped(&workers, Stop::NoMemory);
