@@ -143,7 +143,7 @@ module _ (outward : OutLane ByteOut) (inward : InLane ByteIn) (none : (o : ByteO
   stopped : (result : Stop) (lost : Option (LostAt Place)) (old new : Worker ByteOut ByteIn) → Cause outward inward (Some result) 1 lost old new → SendsAll result new
   stopped stops.Finished lost old new cause = λ q o within is. ap (map (frame_with (place_in (node_of new).table))) (cause.outs q)
   stopped stops.Idle lost old new cause = all_sent outward.vain none old new cause.outs
-  stopped stops.AtLimit lost old new cause = all_sent outward.vain none old new cause.2
+  stopped stops.AtLimit lost old new cause = all_sent outward.vain none old new cause.outs
   stopped stops.ClockEnd lost old new cause = tt
   stopped stops.NoMemory lost old new cause = tt
   stopped stops.Fault lost old new cause = tt
