@@ -9,8 +9,8 @@ ghost use Rattle.sj_seat.specs.Places.{CarriesPlaces};
 ghost use Rattle.sj_seat_run.specs.Runners.{AreSeated, HasBegun};
 ghost use Rattle.sj_table.specs.Spots.{start_in};
 
-use crate::runners::Runner;
 use crate::refusal::SeatedRefusal;
+use crate::runners::Runner;
 use sj_base::NoMemory;
 use sj_check::Accepted;
 use sj_lane::{InLane, Lanes, Links, MakeRefusal, OutLane};

@@ -1,12 +1,12 @@
 //! A file run with some parties played by a builder's own code, each party on a thread of its own.
 #![tactic(auto)]
 
-mod runners;
 mod hires;
 mod parts;
 mod play;
 mod refusal;
 mod remains;
+mod runners;
 mod runs;
 mod stops;
 mod teams;

@@ -5,8 +5,8 @@ ghost use Rattle.sj_seat_run.specs.Played.{Played};
 ghost use Rattle.sj_work.specs.Views.{stop_of};
 ghost use Rattle.sj_work.specs.Worked.{Worked, kept_stop};
 
-use crate::runners::Runner;
 use crate::play::Play;
+use crate::runners::Runner;
 use crate::turnout::Turnout;
 use sj_lane::{InLane, OutLane};
 use sj_run::calls_compose;
@@ -65,10 +65,7 @@ fn work_beside<O: OutLane, I: InLane, G: Gate>(
 
 /// What the code asks for is done, and it is told of each answer, until it asks for nothing more, or
 /// the worker has stopped for good.
-fn play_out<O: OutLane, I: InLane, G: Gate, C: Play>(
-    guest: &mut Guest<'_, O, I, G>,
-    code: &mut C,
-)
+fn play_out<O: OutLane, I: InLane, G: Gate, C: Play>(guest: &mut Guest<'_, O, I, G>, code: &mut C)
     ensures { Played O.OutLane I.InLane guest.old guest.new }
 {
     let mut answer = None;

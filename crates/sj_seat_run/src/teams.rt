@@ -50,9 +50,12 @@ fn set_off<R: Threads + Sync, O: OutLane, I: InLane, G: Gate, C: Play + Send>(
     node_crosses();
     let threads = runners.len().max(1);
     let turnout = Turnout::new(runners.len() as u32, count_codes(runners));
-    thread::for_each_mut(rt, runners, threads, &|_, runner| {
-        take_part(runner, &turnout, looks, gate)
-    });
+    thread::for_each_mut(
+        rt,
+        runners,
+        threads,
+        &|_, runner| { take_part(runner, &turnout, looks, gate) },
+    );
 }
 
 /// The parties of the file at the end of the run.
