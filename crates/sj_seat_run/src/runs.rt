@@ -15,7 +15,7 @@ ghost use Rattle.sj_seat_run.specs.Logged.{AreLoggedBy};
 
 use crate::play::Play;
 use crate::refusal::SeatedRefusal;
-use crate::remains::{Parties, seats_of, take_apart};
+use crate::remains::{seats_of, take_apart};
 use crate::stops::any_stopped;
 use crate::teams::run_all;
 use sj_base::NoMemory;
@@ -112,9 +112,9 @@ pub fn run_seated<R: Threads + Sync, L: Links, G: Gate, C: Play + Send + Drop>(
     ensures faults { L.faults links.old ≤ L.faults links.new }
 {
     let table = table_for(alloc, accepted)?;
-    let Parties { workers, codes } = run_all(
-        rt, alloc, accepted, &table, codes, looks, links, gate,
-    )?;
+    let parties = run_all(rt, alloc, accepted, &table, codes, looks, links, gate)?;
+    let workers = parties.workers;
+    let codes = parties.codes;
     let faulty = any_stopped(&workers, Stop::Fault);
     let unfit = any_stopped(&workers, Stop::Unfit);
     let short = any_stopped(&workers, Stop::NoMemory);
