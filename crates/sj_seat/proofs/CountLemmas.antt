@@ -1,10 +1,7 @@
 -- What the lanes of a worker counted, one piece after the other.
-use Rattle.std.proofs.Common.{◌≡◌, ◌∙◌, ℕ, ◌≤◌, inl, inr, Option, Some, None, refl, sym, ap, subst, arith}
+use Rattle.std.proofs.Common.{◌≡◌, ◌∙◌, ℕ, ◌≤◌, inl, inr, Option, Some, None, refl, sym, subst, arith}
 use Rattle.std.specs.Prelude.{slice_get, ◌⊎◌}
-use Rattle.sj_lane.specs.Told.{Rose}
 use Rattle.sj_lane.specs.declared.lane.Lanes.{Lanes}
-use Rattle.sj_lang.specs.Place.{Place}
-use Rattle.sj_rules.specs.Work.{LostAt}
 use Rattle.sj_work.specs.Causes.{MetFault}
 use Rattle.sj_work.specs.Counts.{OnLane, SomeRose, Stands}
 use Rattle.sj_work.specs.Views.{in_of, out_of, stop_of}
