@@ -9,7 +9,8 @@ use thiserror::Error;
 /// Why a file isn't run with seats, in the order of refusals.
 #[derive(Clone, Copy, Debug, PartialEq, Eq, Error)]
 pub enum SeatedRefusal {
-    /// No spot of the file's table stands for the place of an end that is carried.
+    /// No table has a spot for each place of an end that is carried. A file that was read never comes
+    /// there.
     #[error("a carried place is in no table")]
     LacksPlace,
     /// The links, or a lane of theirs, met a fault.

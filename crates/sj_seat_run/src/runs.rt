@@ -15,7 +15,7 @@ ghost use Rattle.sj_seat_run.specs.Logged.{AreLoggedBy};
 
 use crate::play::Play;
 use crate::refusal::SeatedRefusal;
-use crate::remains::{Parties, seats_of, take_apart};
+use crate::remains::{seats_of, take_apart};
 use crate::stops::any_stopped;
 use crate::teams::run_all;
 use sj_base::NoMemory;
@@ -23,7 +23,7 @@ use sj_check::Accepted;
 use sj_core::join_logs;
 use sj_end::Line;
 use sj_lane::Links;
-use sj_seat::carries_places;
+use sj_seat::seat_table;
 use sj_seats::SeatedWorld;
 use sj_table::Table;
 use sj_work::{Gate, Stop};
@@ -38,17 +38,16 @@ pub struct SeatedRun<C> {
 }
 
 /// The table of all nodes of the run.
-fn table_for(accepted: &Accepted) -> Result<Table, SeatedRefusal>
+fn table_for(alloc: Global, accepted: &Accepted) -> Result<Table, SeatedRefusal>
     ensures starts { IfOk result (λ t. (p : ℕ) → start_in t p
         ≡ body_named (file_of (held accepted.now)).protocols p) }
     ensures carries { IfOk result (λ t. CarriesPlaces t) }
     ensures cause { IfErr result IsOfTable }
 {
-    let table = accepted.table().copied()?;
-    if carries_places(&table) {
-        Ok(table)
-    } else {
-        Err(SeatedRefusal::LacksPlace)
+    match seat_table(alloc, accepted) {
+        Ok(Some(table)) => Ok(table),
+        Ok(None) => Err(SeatedRefusal::LacksPlace),
+        Err(NoMemory) => Err(SeatedRefusal::NoMemory),
     }
 }
 
@@ -112,10 +111,10 @@ pub fn run_seated<R: Threads + Sync, L: Links, G: Gate, C: Play + Send + Drop>(
     ensures tells { L.tells links.new ≡ L.tells links.old }
     ensures faults { L.faults links.old ≤ L.faults links.new }
 {
-    let table = table_for(accepted)?;
-    let Parties { workers, codes } = run_all(
-        rt, alloc, accepted, &table, codes, looks, links, gate,
-    )?;
+    let table = table_for(alloc, accepted)?;
+    let parties = run_all(rt, alloc, accepted, &table, codes, looks, links, gate)?;
+    let workers = parties.workers;
+    let codes = parties.codes;
     let faulty = any_stopped(&workers, Stop::Fault);
     let unfit = any_stopped(&workers, Stop::Unfit);
     let short = any_stopped(&workers, Stop::NoMemory);

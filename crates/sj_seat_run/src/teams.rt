@@ -75,6 +75,7 @@ pub(crate) fn run_all<R: Threads + Sync, L: Links, G: Gate, C: Play + Send + Dro
     ensures ran { IfOk result (λ r. AllRan L.Out.OutLane L.In.InLane L.joined
         (file_of (held accepted.now)) looks (L.tells links.old) r.workers.items) }
     ensures codes { IfOk result (λ r. length r.codes.items ≡ length r.workers.items) }
+    ensures few { IfOk result (λ r. length r.workers.items ≤ 16) }
     ensures link_fault { result ≡ Err SeatedRefusal.LinkFault → Rose (L.faults links.old) (L.faults links.new) }
     ensures tells { L.tells links.new ≡ L.tells links.old }
     ensures faults { L.faults links.old ≤ L.faults links.new }
