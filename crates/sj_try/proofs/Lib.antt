@@ -1,0 +1,4 @@
+pub mod LiftLemmas
+pub mod ShortLemmas
+pub mod ToldLemmas
+pub mod PlayedLemmas
