@@ -1,4 +1,0 @@
-pub mod LiftLemmas
-pub mod ShortLemmas
-pub mod ToldLemmas
-pub mod PlayedLemmas
