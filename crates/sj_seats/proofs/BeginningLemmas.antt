@@ -1,5 +1,5 @@
 -- The world with seats before any event.
-use Rattle.std.proofs.Common.{◌≡◌, ◌⊎◌, ℕ, zero, suc, ◌+◌, ◌<◌, ◌≤◌, max, Bool, true, false, if◌then◌else◌, ⊤, List, [], ◌∷◌, ◌++◌, length, slice_get, unwrap_or, Option, Some, None, option_map, refl, ap, sym, ◌∙◌, subst, inl, inr, length-append, arith}
+use Rattle.std.proofs.Common.{◌≡◌, ◌⊎◌, ℕ, zero, suc, ◌+◌, ◌<◌, ◌≤◌, max, Bool, true, false, if◌then◌else◌, List, [], ◌∷◌, ◌++◌, length, slice_get, unwrap_or, Option, Some, None, option_map, refl, ap, sym, ◌∙◌, subst, inl, inr, length-append, arith}
 use Rattle.std.specs.Prelude.{is_some}
 use Rattle.std.proofs.lemmas.Option.{slice_get_within}
 use Rattle.sj_core.proofs.FirstLemmas.{behind, first_same}
@@ -71,25 +71,25 @@ seat_from file calls n (p ∷ ps) (suc q) lt =
     let e : n + 1 + q ≡ n + suc q = omega arith in
     seat_from file calls (n + 1) ps q (omega (arith, lt)) ∙ ap (λ (k : ℕ). option_map (seat_start file k) (calls k)) e
 
-none_from : (file : FileAt) (calls : Callers) (n : ℕ) (ps : List PartyAt) (q : ℕ) → length ps ≤ q → seat_of (seats_from file calls n ps) q ≡ None
+pub none_from : (file : FileAt) (calls : Callers) (n : ℕ) (ps : List PartyAt) (q : ℕ) → length ps ≤ q → seat_of (seats_from file calls n ps) q ≡ None
 none_from file calls n [] zero le = refl
 none_from file calls n [] (suc q) le = refl
 none_from file calls n (p ∷ ps) zero le = absurd (omega (arith, le))
 none_from file calls n (p ∷ ps) (suc q) le = none_from file calls (n + 1) ps q (omega (arith, le))
 
-seat_at : (file : FileAt) (calls : Callers) (q : ℕ) → q < length file.parties → seat_of (seats_start file calls).seats q ≡ option_map (seat_start file q) (calls q)
+pub seat_at : (file : FileAt) (calls : Callers) (q : ℕ) → q < length file.parties → seat_of (seats_start file calls).seats q ≡ option_map (seat_start file q) (calls q)
 seat_at file calls q lt = seat_from file calls 0 file.parties q lt ∙ ap (λ (k : ℕ). option_map (seat_start file k) (calls k)) (let e : 0 + q ≡ q = omega arith in e)
 
-record Item {X : Type 0} (xs : List X) (p : ℕ) : Type 0 where
-  item : X
-  is : slice_get xs p ≡ Some item
+pub record Item {X : Type 0} (xs : List X) (p : ℕ) : Type 0 where
+  pub item : X
+  pub is : slice_get xs p ≡ Some item
 
-item_at : {X : Type 0} (xs : List X) (p : ℕ) → p < length xs → Item xs p
+pub item_at : {X : Type 0} (xs : List X) (p : ℕ) → p < length xs → Item xs p
 item_at [] p lt = absurd (omega arith)
 item_at (x ∷ xs) zero lt = record { item = x; is = refl }
 item_at (x ∷ xs) (suc p) lt = let r = item_at xs p (omega arith) in record { item = r.item; is = r.is }
 
-nothing_at : {X : Type 0} (xs : List X) (p : ℕ) → length xs ≤ p → slice_get xs p ≡ None
+pub nothing_at : {X : Type 0} (xs : List X) (p : ℕ) → length xs ≤ p → slice_get xs p ≡ None
 nothing_at [] zero le = refl
 nothing_at [] (suc p) le = refl
 nothing_at (x ∷ xs) zero le = absurd (omega arith)

@@ -16,7 +16,8 @@ use Rattle.sj_end.specs.Lines.{note_seen}
 use Rattle.sj_end.specs.declared.note.Entry.{Entry}
 use Rattle.sj_end.specs.declared.note.Event.TheVariants as events
 use Rattle.sj_lang.specs.FileAt.{FileAt}
-use Rattle.sj_lang.specs.Place.{Place}
+use Rattle.sj_lang.specs.Place.{Place, boolean, choice, done, int, message, repeat, session, text}
+use Rattle.sj_lang.specs.declared.proto.Way.TheVariants.{Into, Out}
 use Rattle.sj_node.specs.declared.node.Node.{Node}
 use Rattle.sj_node.specs.declared.seats.Call as seats
 use Rattle.sj_node.specs.declared.seats.Call.TheVariants.{Send, Delegate, Take, Close}
@@ -38,8 +39,8 @@ use Rattle.sj_seat.specs.Asked.{IsGuarded, asked, want_in}
 use Rattle.sj_seat.specs.Holding.{ends_at}
 use Rattle.sj_seat.specs.Opened.{openings_at}
 use Rattle.sj_seat.proofs.CalledLemmas.{Takes, act_step, seated_step}
-use Rattle.sj_seat_laws.specs.Calls.{Call, Ends, Openings, SeatedAt}
-use Rattle.sj_seat_laws.specs.Guards.{called, seated_want, want_of_call}
+use Rattle.sj_seat_laws.specs.Calls.{Call, Ends, Openings, SeatedAt, place_held}
+use Rattle.sj_seat_laws.specs.Guards.{called, may_send, seated_want, want_of_call, want_of_send, where_allowed}
 use Rattle.sj_seat_laws.specs.SeatedPlay.{Player, seated, seated_play}
 use Rattle.sj_seat_laws.specs.SeatRows.{call_told, silent, with_player, worked_player}
 use Rattle.sj_seat_laws.specs.SeatsWorld.{player_by}
@@ -57,6 +58,27 @@ use Rattle.sj_seats.proofs.PlayedLemmas.{after_played}
 
 -- ---- of a call
 
+-- a message that names an end isn't sent as a value
+no_end_in : (r : Place) (s d k : ℕ) → may_send r (msgs.Sess s d k) ≡ false
+no_end_in (message Out int next) s d k = refl
+no_end_in (message Out boolean next) s d k = refl
+no_end_in (message Out text next) s d k = refl
+no_end_in (message Out (session kind) next) s d k = refl
+no_end_in (message Into kind next) s d k = refl
+no_end_in (choice Out arms next) s d k = refl
+no_end_in (choice Into arms next) s d k = refl
+no_end_in (repeat Out body next) s d k = refl
+no_end_in (repeat Into body next) s d k = refl
+no_end_in done s d k = refl
+
+never_allowed : (b : Bool) (e : EndId) (m : Msg) → b ≡ false → wanted.sends e m ≡ where_allowed b (wanted.sends e m) → ⊥
+never_allowed true e m is h = cc is
+never_allowed false e m is h = cc h
+
+no_end_sent : (e : EndId) (s d k : ℕ) (o : Option Place) → wanted.sends e (msgs.Sess s d k) ≡ want_of_send e (msgs.Sess s d k) o → ⊥
+no_end_sent e s d k None h = cc h
+no_end_sent e s d k (Some place) h = never_allowed (may_send place (msgs.Sess s d k)) e (msgs.Sess s d k) (no_end_in place s d k) h
+
 -- its note tells it
 tells : (t : Table) (os : Openings) (bs : Ends) (calls : ℕ) (n : Node) (call : seats.Call) → IsGuarded t os bs calls call → is_some (head_taken n call) ≡ is_take call → call_told 0 (note_seen (call_note n call)) ≡ Some (asked call)
 tells t os bs calls n (Send e (msgs.Int i)) guarded heads = refl
@@ -64,21 +86,7 @@ tells t os bs calls n (Send e (msgs.Bool b)) guarded heads = refl
 tells t os bs calls n (Send e (msgs.Text i)) guarded heads = refl
 tells t os bs calls n (Send e (msgs.Label l)) guarded heads = refl
 tells t os bs calls n (Send e (msgs.More b)) guarded heads = refl
-tells t os bs calls n (Send e (msgs.Sess s d k)) guarded heads = never (Rattle.sj_seat_laws.specs.Calls.place_held bs e) guarded.want
-  where
-    never : (o : Option Place) → wanted.sends e (msgs.Sess s d k) ≡ Rattle.sj_seat_laws.specs.Guards.want_of_send e (msgs.Sess s d k) o → call_told 0 (note_seen (call_note n (Send e (msgs.Sess s d k)))) ≡ Some (asked (Send e (msgs.Sess s d k)))
-    never None h = absurd (cc h)
-    never (Some place) h = absurd (none place h)
-      where
-        none : (q : Place) → wanted.sends e (msgs.Sess s d k) ≡ Rattle.sj_seat_laws.specs.Guards.where_allowed (Rattle.sj_seat_laws.specs.Guards.may_send q (msgs.Sess s d k)) (wanted.sends e (msgs.Sess s d k)) → ⊥
-        none q h = by (Rattle.sj_seat_laws.specs.Guards.may_send q (msgs.Sess s d k)) (no_end q) h
-          where
-            by : (b : Bool) → b ≡ false → wanted.sends e (msgs.Sess s d k) ≡ Rattle.sj_seat_laws.specs.Guards.where_allowed b (wanted.sends e (msgs.Sess s d k)) → ⊥
-            by true is k = cc is
-            by false is k = cc k
-
-            no_end : (r : Place) → Rattle.sj_seat_laws.specs.Guards.may_send r (msgs.Sess s d k) ≡ false
-            no_end r = grind
+tells t os bs calls n (Send e (msgs.Sess s d k)) guarded heads = absurd (no_end_sent e s d k (place_held bs e) guarded.want)
 tells t os bs calls n (Delegate c e) guarded heads = refl
 tells t os bs calls n (Close e) guarded heads = refl
 tells t os bs calls n (Take e spot) guarded heads = by (next_head n e) heads
@@ -308,12 +316,12 @@ pub stays_none : (n : Node) → Rattle.sj_node.specs.Node.Stays n n
 stays_none n = record { node = refl; posts = λ q. refl; log = refl; table = refl; party = refl; parties = refl; connects = refl }
 
 -- what a call did that a node answers with what it takes
-pub calls_so : (t : Table) (old mid new : Node) (before after : Chair) (call : seats.Call) (e : Entry) (taken : Option Msg) → IsGuarded t (openings_at t before.may) (ends_at t before.ends.items) before.calls call
-    → Rattle.sj_node.specs.Node.Does old (Rattle.sj_node.specs.Calls.call_of old (want_at old call)) (clock_of old + 1) events.Act (call_note old call) mid → taken ≡ head_taken old call → is_some taken ≡ is_take call
+pub calls_so : (t : Table) (old mid new : Node) (before after : Chair) (call : seats.Call) (e : Entry) (got : Option Msg) → IsGuarded t (openings_at t before.may) (ends_at t before.ends.items) before.calls call
+    → Rattle.sj_node.specs.Node.Does old (Rattle.sj_node.specs.Calls.call_of old (want_at old call)) (clock_of old + 1) events.Act (call_note old call) mid → got ≡ head_taken old call → is_some got ≡ is_take call
     → Rattle.sj_node.specs.Reading.TakesEntry mid new → Rattle.sj_node.specs.Node.log_of mid ≡ Rattle.sj_node.specs.Node.log_of new ++ e ∷ []
-    → ends_at t after.ends.items ≡ Rattle.sj_seat_laws.specs.Guards.ends_after (ends_at t before.ends.items) (asked call) taken → after.calls ≡ before.calls + 1 → after.may ≡ before.may
+    → ends_at t after.ends.items ≡ Rattle.sj_seat_laws.specs.Guards.ends_after (ends_at t before.ends.items) (asked call) got → after.calls ≡ before.calls + 1 → after.may ≡ before.may
     → Calls t old before (asked call) e new after
-calls_so t old mid new before after call e taken guarded does is takes took entry ends calls may = record {
+calls_so t old mid new before after call e got guarded does is takes took entry ends calls may = record {
   mid = mid;
   done = call;
   guarded = guarded;

@@ -52,7 +52,7 @@ const ALL_TEXTS: usize = usize::MAX;
 /// The node's call that the code asks for, where it is guarded.
 fn guarded(table: &Table, chair: &Chair, wish: Wish) -> Option<Call>
     requires carries { CarriesPlaces table.now }
-    ensures { IfSome result (λ call. IsGuarded table.now (openings_at table.now chair.now.may)
+    ensures guarded { IfSome result (λ call. IsGuarded table.now (openings_at table.now chair.now.may)
         (ends_at table.now chair.now.ends.items) chair.now.calls call) }
     ensures call { IfSome result (λ call. asked call ≡ wished wish) }
 {
