@@ -1,8 +1,8 @@
-mod AfterLemmas
-mod CalledLemmas
+pub mod AfterLemmas
+pub mod CalledLemmas
 mod CauseLemmas
-mod CountLemmas
-mod DoneLemmas
+pub mod CountLemmas
+pub mod DoneLemmas
 mod FirstLemmas
 mod HoldingLemmas
 mod IdleLemmas
