@@ -2,7 +2,7 @@
 -- end of the file.
 use Rattle.std.proofs.Common.{◌≡◌, ◌∙◌, ◌+◌, ◌*◌, ◌<◌, ◌≤◌, ℕ, max, List, [], ◌∷◌, ◌++◌, drop, get_or, length, map, refl, ap, sym, arith}
 use Rattle.std.specs.Prelude.{sum_by}
-use Rattle.std.proofs.lemmas.List.{at_drop_more, drop_all}
+use Rattle.std.proofs.lemmas.List.{at_drop_more, drop_all, length-map}
 use Rattle.std.proofs.lemmas.List.Sums.{sum_by-cons}
 use Rattle.sj_acceptance.specs.Accepted.{IsAccepted}
 use Rattle.sj_lang.specs.FileAt.{FileAt}
@@ -26,11 +26,15 @@ use Rattle.sj_told.specs.Lines.{AreToldBy}
 use Rattle.sj_told.specs.Told.{AreEnds, AreStands}
 use Rattle.sj_told_laws.proofs.EndLemmas.{end_count, end_parties, end_sent, end_takers}
 use Rattle.sj_print.proofs.PartLemmas.{session_count-run}
-use Rattle.sj_print.proofs.ToldLemmas.{as_many}
 use Rattle.sj_tool.specs.Runs.{actors}
 use Rattle.sj_tool.specs.Sums.{summary, sums_line}
 use Rattle.sj_tool.specs.Telling.{IsToldIn}
 use Rattle.sj_core.proofs.EndLemmas.{quiet_ends}
+
+-- there is one for each party
+as_many : (w : World) (stands : List Stand) → AreStands w stands → length stands ≡ length w.parties
+as_many w stands are =
+    sym (length-map stands (λ (s : Stand). s.steps)) ∙ ap length are.steps ∙ length-map w.parties (λ (g : Program). g.steps)
 
 module _ (file : FileAt) (accepted : IsAccepted file) (history : List LineAt) (core : WorldAt Place Program) (run : IsHistory max file history core) (quiet : IsQuietAmong (play_of file) (length file.parties) core) (stands : List Stand) (are : AreStands (end_of file) stands) where
   abbrev pub told_in_end : opened_in (end_of file) ≡ [] → IsToldIn file history stands (end_of file)
