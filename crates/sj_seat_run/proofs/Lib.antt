@@ -1,4 +1,0 @@
-mod CarriedLemmas
-mod PlayedLemmas
-mod RanLemmas
-mod RunnerLemmas

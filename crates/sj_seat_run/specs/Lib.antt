@@ -1,4 +1,0 @@
-pub mod Runners
-pub mod Logged
-pub mod Played
-pub mod Refusals
