@@ -1,6 +1,6 @@
 //! Parties that run on threads.
 use crate::calls::{answer, answer_past};
-use crate::files::{AGENCY, BACK_AGAIN, CROSSING};
+use crate::files::{AGENCY, BACK_AGAIN, CROSSING, OPENED};
 use crate::transcripts::{
     AGENCY_TRANSCRIPT, BACK_AGAIN_TRANSCRIPT, CROSSING_TRANSCRIPT, OPENED_TRANSCRIPT,
 };
