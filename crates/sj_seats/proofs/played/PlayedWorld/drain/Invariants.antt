@@ -1,0 +1,12 @@
+use Rattle.sj_seats.specs.Draining.{events_left}
+use Rattle.sj_seats.specs.Played.{IsReached, Keeps}
+use Rattle.sj_seats.proofs.played.PlayedWorld.drain.Given as goal
+
+abbrev pub invariant-loop : goal.invariant-loop
+invariant-loop l = record {
+  reached : IsReached l.self;
+  keeps : Keeps l.fn.self l.self;
+}
+
+abbrev pub decreases-loop : goal.decreases-loop
+decreases-loop l = events_left l.self
