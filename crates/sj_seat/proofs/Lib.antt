@@ -10,6 +10,7 @@ mod KindLemmas
 mod LastLemmas
 mod MovedLemmas
 mod OpeningLemmas
+mod PickLemmas
 mod RuleLemmas
 mod TakenLemmas
 mod WaitLemmas

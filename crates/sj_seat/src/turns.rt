@@ -2,7 +2,7 @@
 ghost use Rattle.std.specs.Prelude.{◌≡◌, ◌<◌, ◌∷◌, Err, IfErr, IfOk, IfSome, IsTrue, List, None, OnErr, OnOk, Some};
 ghost use Rattle.std.specs.Prelude.{is_some, length, vec_capacity, vec_len};
 ghost use Rattle.sj_lang.specs.FileAt.{FileAt};
-ghost use Rattle.sj_node.specs.Node.{clock_of};
+ghost use Rattle.sj_node.specs.Node.{Stays, clock_of};
 ghost use Rattle.sj_node.specs.Reading.{parties_of};
 ghost use Rattle.sj_node.specs.Seats.{is_take};
 ghost use Rattle.sj_rules.specs.Limits.{clock_end};
@@ -28,7 +28,7 @@ use sj_work::{Gate, Stop};
 impl<O: OutLane, I: InLane, G: Gate> Guest<'_, O, I, G> {
     /// Takes what came, and pushes what waits, until a turn has no event. Answers the stop that stays,
     /// if any.
-    fn wait(&mut self) -> Option<Stop>
+    pub(crate) fn wait(&mut self) -> Option<Stop>
         ensures went { (file : FileAt) (rest : List calls.Call) →
             length file.parties ≡ parties_of (node_of self.old) →
             Went O.OutLane I.InLane file rest rest self.old self.new }
@@ -64,6 +64,7 @@ impl<O: OutLane, I: InLane, G: Gate> Guest<'_, O, I, G> {
         ensures rests { OnErr result (Rests self.old self.new) }
         ensures takes { IfOk result (λ m. is_some m ≡ is_take call) }
         ensures tells { IfOk result (TellsTaken (worker_of self.new) (asked call)) }
+        ensures stays { OnErr result (Stays (node_of self.old) (node_of self.new)) }
 
         // What stays in any case, and what the lanes counted.
         ensures keeps { Keeps (node_of self.old) (node_of self.new) }
@@ -102,7 +103,7 @@ impl<O: OutLane, I: InLane, G: Gate> Guest<'_, O, I, G> {
     }
 
     /// Does the call, where it can be done now, and pushes what waits then.
-    fn attempt(&mut self, call: Call) -> Result<Option<Msg>, SeatRefusal>
+    pub(crate) fn attempt(&mut self, call: Call) -> Result<Option<Msg>, SeatRefusal>
         requires guarded { IsGuarded (table_of self.old) (may_of self.old) (ends_of self.old)
             (calls_of self.old) call }
 
@@ -116,6 +117,7 @@ impl<O: OutLane, I: InLane, G: Gate> Guest<'_, O, I, G> {
         ensures rests { OnErr result (Rests self.old self.new) }
         ensures takes { IfOk result (λ m. is_some m ≡ is_take call) }
         ensures tells { IfOk result (TellsTaken (worker_of self.new) (asked call)) }
+        ensures stays { OnErr result (Stays (node_of self.old) (node_of self.new)) }
 
         // What stays in any case, and what the lanes counted.
         ensures keeps { Keeps (node_of self.old) (node_of self.new) }
