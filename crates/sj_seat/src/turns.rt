@@ -47,6 +47,22 @@ impl<O: OutLane, I: InLane, G: Gate> Guest<'_, O, I, G> {
         }
     }
 
+    /// The same after a call that posted something; else nothing.
+    fn settle(&mut self, posted: bool)
+        ensures went { (file : FileAt) (rest : List calls.Call) →
+            length file.parties ≡ parties_of (node_of self.old) →
+            Went O.OutLane I.InLane file rest rest self.old self.new }
+        ensures keeps { Keeps (node_of self.old) (node_of self.new) }
+        ensures rests { Rests self.old self.new }
+        ensures acts { last_act (laned (worker_of self.new)).log
+            ≡ last_act (laned (worker_of self.old)).log }
+        ensures counts { Counted O.OutLane I.InLane (worker_of self.old) (worker_of self.new) }
+    {
+        if posted {
+            let _ = self.wait();
+        }
+    }
+
     /// Does the call, where the node can.
     fn make(&mut self, call: Call) -> Result<Option<Msg>, Halt>
         requires guarded { IsGuarded (table_of self.old) (may_of self.old) (ends_of self.old)
@@ -134,7 +150,7 @@ impl<O: OutLane, I: InLane, G: Gate> Guest<'_, O, I, G> {
         }
         match self.make(call) {
             Ok(msg) => {
-                let _ = self.wait();
+                self.settle(posts(&msg));
                 Ok(msg)
             }
             Err(Halt::Waits) => Err(SeatRefusal::Waiting),
@@ -179,6 +195,11 @@ impl<O: OutLane, I: InLane, G: Gate> Guest<'_, O, I, G> {
         }
         self.attempt(call)
     }
+}
+
+// Whether a call that took that message, if any, posted something. A take of a value posts nothing.
+fn posts(taken: &Option<Msg>) -> bool {
+    matches!(taken, None | Some(Msg::Sess { .. }))
 }
 
 // Whether the call waits yet.
