@@ -1,5 +1,6 @@
 -- A guest's work, one piece after the other.
-use Rattle.std.proofs.Common.{◌≡◌, ◌∙◌, ℕ, ◌<◌, max, length, List, Option, Some, None, Result, Ok, Err, OnOk, OnErr, refl, ap, sym, subst, arith}
+use Rattle.std.proofs.Common.{◌≡◌, ◌∙◌, ℕ, ◌<◌, max, length, List, Option, Some, None, Result, Ok, Err, IfOk, OnOk, OnErr, refl, ap, sym, subst, arith}
+use Rattle.sj_base.specs.declared.EndId.{EndId}
 use Rattle.sj_base.specs.declared.Msg.{Msg}
 use Rattle.sj_joined_lemmas.proofs.LaneWorkLemmas.{lane_work_itself, lane_work_later}
 use Rattle.sj_lang.specs.FileAt.{FileAt}
@@ -12,7 +13,7 @@ use Rattle.sj_node.specs.Reading.{parties_of, party_of}
 use Rattle.sj_rules.specs.Limits.{limit_of_steps}
 use Rattle.sj_rules.specs.Work.{LaneWork, LostAt}
 use Rattle.sj_seat_laws.specs.Calls.{Call, SeatedAt}
-use Rattle.sj_seat_laws.specs.Guards.{want_of_call}
+use Rattle.sj_seat_laws.specs.Guards.{opened_place, want_of_call, with_opened}
 use Rattle.sj_seat_laws.specs.SeatedPlay.{seated_play}
 use Rattle.sj_work.specs.Causes.{Loses, MayLose}
 use Rattle.sj_work.specs.Views.{stop_of}
@@ -21,12 +22,16 @@ use Rattle.sj_work.specs.declared.worker.Stop.{Stop}
 use Rattle.sj_work.specs.declared.worker.Stop.TheVariants as stops
 use Rattle.sj_work.specs.declared.worker.Worker.{Worker}
 use Rattle.sj_work.proofs.LaneLaws.{LaneLaws}
-use Rattle.sj_seat.specs.Asked.{IsGuarded, asked, want_in}
+use Rattle.sj_table.specs.declared.table.Spot.{Spot}
+use Rattle.sj_table.specs.Spots.{place_in}
+use Rattle.sj_seat.specs.Asked.{IsGuarded, IsOpenable, asked, want_in, want_opening}
 use Rattle.sj_seat.specs.Counted.{Counted}
 use Rattle.sj_seat.specs.Views.{ends_of, laned_at, may_of, node_of, seat_of, worker_of}
 use Rattle.sj_seat.specs.Went.{Keeps, Rests, SeatWork, Went}
+use Rattle.sj_seat.specs.Wishes.{open_wished}
 use Rattle.sj_seat.specs.declared.guest.Guest.{Guest}
 use Rattle.sj_seat.specs.declared.refusal.SeatRefusal.{SeatRefusal}
+use Rattle.sj_seat.specs.declared.wish.OpenWish.{OpenWish}
 use Rattle.sj_seat.proofs.CountLemmas.{CountedBy, counted_itself, counted_later}
 
 -- with a stop that doesn't stay no frame is lost
@@ -147,18 +152,34 @@ module _ {O I G : Type 0} (k : LaneLaws O I) where
       }
 
   -- whatever an attempt answers
-  pub waited_ok : (a l m : Guest O I G) (r : Result (Option Msg) SeatRefusal) (file : FileAt) (before after : List Call) → WaitedBy a l → length file.parties ≡ parties_of (node_of a)
+  pub waited_ok : {T : Type 0} (a l m : Guest O I G) (r : Result T SeatRefusal) (file : FileAt) (before after : List Call) → WaitedBy a l → length file.parties ≡ parties_of (node_of a)
       → (length file.parties ≡ parties_of (node_of l) → OnOk r (WentBy file before after l m)) → OnOk r (WentBy file before after a m)
   waited_ok a l m (Err e) file before after x parties y = tt
   waited_ok a l m (Ok o) file before after x parties y = waited_then a l m file before after x parties y
 
-  pub waited_err : (a l m : Guest O I G) (r : Result (Option Msg) SeatRefusal) (file : FileAt) (before after : List Call) → WaitedBy a l → length file.parties ≡ parties_of (node_of a)
+  pub waited_err : {T : Type 0} (a l m : Guest O I G) (r : Result T SeatRefusal) (file : FileAt) (before after : List Call) → WaitedBy a l → length file.parties ≡ parties_of (node_of a)
       → (length file.parties ≡ parties_of (node_of l) → OnErr r (WentBy file before after l m)) → OnErr r (WentBy file before after a m)
   waited_err a l m (Err e) file before after x parties y = waited_then a l m file before after x parties y
   waited_err a l m (Ok o) file before after x parties y = tt
 
+  -- the ends, where a session was opened
+  pub waited_ends : (a l m : Guest O I G) (call : Call) (r : Result EndId SeatRefusal) → WaitedBy a l → IfOk r (λ e. ends_of m ≡ with_opened (ends_of l) e (opened_place (may_of l) call))
+      → IfOk r (λ e. ends_of m ≡ with_opened (ends_of a) e (opened_place (may_of a) call))
+  waited_ends a l m call (Err d) x y = tt
+  waited_ends a l m call (Ok e) x y = y ∙ (λ i. with_opened (x.rests.ends i) e (opened_place (x.rests.may i) call))
+
+  -- it may be opened still
+  pub waited_openable : (a l : Guest O I G) (wish : OpenWish) (spot : Spot) → WaitedBy a l → IsOpenable a.table (may_of a) (ends_of a) a.calls wish spot → IsOpenable l.table (may_of l) (ends_of l) l.calls wish spot
+  waited_openable a l wish spot x h =
+      let table : l.table ≡ a.table = l.same ∙ x.keeps.table ∙ sym a.same in
+      record {
+        begins = ap (λ os. opened_place os (open_wished wish)) x.rests.may ∙ h.begins ∙ ap (λ t. Some (place_in t spot)) (sym table);
+        want = ap (λ t. want_opening (place_in t spot) wish) table ∙ h.want ∙ sym (λ i. want_of_call (x.rests.may i) (x.rests.ends i) (open_wished wish));
+        few = subst (λ (n : ℕ). n < limit_of_steps) (sym x.rests.calls) h.few;
+      }
+
   -- an attempt in vain, where no stop stays
-  pub waited_vain : (a l m : Guest O I G) (r : Result (Option Msg) SeatRefusal) (e : SeatRefusal) → r ≡ Err e → WaitedBy a l → Keeps (node_of l) (node_of m) → OnErr r (Rests l m)
+  pub waited_vain : {T : Type 0} (a l m : Guest O I G) (r : Result T SeatRefusal) (e : SeatRefusal) → r ≡ Err e → WaitedBy a l → Keeps (node_of l) (node_of m) → OnErr r (Rests l m)
       → CountedBy k l.worker m.worker → kept_stop (stop_of (worker_of m)) ≡ None → ((file : FileAt) (rest : List Call) → length file.parties ≡ parties_of (node_of l) → OnErr r (WentBy file rest rest l m)) → WaitedBy a m
   waited_vain a l m (Ok o) e is x keeps rests counts kept went = absurd (cc is)
   waited_vain a l m (Err d) e is x keeps rests counts kept went = waited_more a l m x keeps rests counts kept went

@@ -82,17 +82,23 @@ module _ {Q : Type 0} (file : FileAt) (party : ℕ) (s : SeatedAt) (n : NodeAt P
   not_worn true o h = refl
   not_worn false o h = absurd (cc h)
 
-  -- its step
-  pub seated_step : (want : Want Place) (taken : Option Msg) (left : Worked Place (NodeAt Place Q)) (note : NoteAt) → seated_want s ≡ want → nat_lt s.steps limit_of_steps ≡ true → Takes n want taken
-      → act_by (silent (length file.parties)) party n want ≡ Some left → act_note party n want ≡ Some note
-      → Steps (seated_play file) max party (with_player (seated s) n) (act_step (n.clock + 1) note left.posts) (with_player (seated (called s taken)) (record left.state { clock = n.clock + 1 }))
-  seated_step want taken left note wants few t row noted = record {
-    done = worked_player (seated (called s taken)) left;
+  -- a step that leaves the code such a party
+  pub stepped : (want : Want Place) (t : SeatedAt) (left : Worked Place (NodeAt Place Q)) (note : NoteAt) → seated_want s ≡ want → nat_lt s.steps limit_of_steps ≡ true
+      → act_by (seated_play file) party (with_player (seated s) n) want ≡ Some (worked_player (seated t) left) → act_note party n want ≡ Some note
+      → Steps (seated_play file) max party (with_player (seated s) n) (act_step (n.clock + 1) note left.posts) (with_player (seated t) (record left.state { clock = n.clock + 1 }))
+  stepped want t left note wants few row noted = record {
+    done = worked_player (seated t) left;
     row = not_worn (nat_lt s.steps limit_of_steps) (act_by (seated_play file) party (with_player (seated s) n) (seated_want s)) few
-        ∙ ap (act_by (seated_play file) party (with_player (seated s) n)) wants ∙ seated_row want taken left t row;
+        ∙ ap (act_by (seated_play file) party (with_player (seated s) n)) wants ∙ row;
     posts = refl;
     clock = refl;
     event = refl;
     note = ap (act_note party (with_player (seated s) n)) wants ∙ seated_note want ∙ noted;
     after = refl;
   }
+
+  -- its step
+  pub seated_step : (want : Want Place) (taken : Option Msg) (left : Worked Place (NodeAt Place Q)) (note : NoteAt) → seated_want s ≡ want → nat_lt s.steps limit_of_steps ≡ true → Takes n want taken
+      → act_by (silent (length file.parties)) party n want ≡ Some left → act_note party n want ≡ Some note
+      → Steps (seated_play file) max party (with_player (seated s) n) (act_step (n.clock + 1) note left.posts) (with_player (seated (called s taken)) (record left.state { clock = n.clock + 1 }))
+  seated_step want taken left note wants few t row noted = stepped want (called s taken) left note wants few (seated_row want taken left t row) noted

@@ -3,6 +3,7 @@ use Rattle.std.proofs.Common.{◌≡◌, ◌∙◌, Bool, true, false, if◌then
 use Rattle.std.specs.Prelude.{IsErrOf, option_map}
 use Rattle.sj_base.specs.declared.EndId.{EndId}
 use Rattle.sj_base.specs.declared.Msg.{Msg}
+use Rattle.sj_lang.specs.Place.{Place}
 use Rattle.sj_node.specs.Calls.{call_of, has_place_for, silent}
 use Rattle.sj_node.specs.Node.{Stays, connect_count, next_head}
 use Rattle.sj_node.specs.Play.{names_known}
@@ -27,12 +28,17 @@ pub err_stays : {T P : Type 0} (r : Result T Halt) (h : Halt) → IsErrOf r h �
 err_stays (Ok x) h is p = absurd (cc is)
 err_stays (Err e) h is p = p
 
+module _ (a b : Node) (stays : Stays a b) where
+  -- what holds a step up, and that it has no row, are the same at the node that stays
+  pub still_held : (want : Want Place) (h : Halt) → held_up a want ≡ Some h → held_up b want ≡ Some h
+  still_held want h is = ap (λ n. option_map halt_named (halt_by n want)) stays.node ∙ is
+
+  pub still_none : (want : Want Place) → call_of a want ≡ None → call_of b want ≡ None
+  still_none want none = (λ i. if has_place_for (stays.node i).main want then act_by (silent (stays.parties i)) (stays.party i) (stays.node i) want else None) ∙ none
+
 module _ (a b : Node) (call : Call) (stays : Stays a b) where
   pub held_up_so : (h : Halt) → call_stop a call ≡ Some h → held_up b (want_at a call) ≡ Some h
-  held_up_so h is = ap (λ n. option_map halt_named (halt_by n (want_at a call))) stays.node ∙ sym (call_halts a call) ∙ is
-
-  same_call : call_of b (want_at a call) ≡ call_of a (want_at a call)
-  same_call = λ i. if has_place_for (stays.node i).main (want_at a call) then act_by (silent (stays.parties i)) (stays.party i) (stays.node i) (want_at a call) else None
+  held_up_so h is = still_held a b stays (want_at a call) h (sym (call_halts a call) ∙ is)
 
   head_so : (e : EndId) (m : Msg) → IsHead a e m → IsHead b e m
   head_so e m h = record { held = h.held; rest = h.rest; there = ap (λ n. n.main e) stays.node ∙ h.there; first = h.first }
@@ -54,7 +60,7 @@ module _ (a b : Node) (call : Call) (stays : Stays a b) where
       from_call (seats.Take e spot) h = from_head e (next_head a e) refl h
 
       by : (t : Bool) → takes_known a call ≡ t → HasNoRow b (want_at a call) (asked call)
-      by true t = inl (same_call ∙ none t)
+      by true t = inl (still_none a b stays (want_at a call) (none t))
       by false t = inr (from_call call t)
 
 -- the step of a call is that at the node, which has the table

@@ -11,5 +11,6 @@ mod LastLemmas
 mod MovedLemmas
 mod OpeningLemmas
 mod RuleLemmas
+mod SessionLemmas
 mod TakenLemmas
 mod WaitLemmas

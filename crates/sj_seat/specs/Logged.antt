@@ -1,13 +1,17 @@
 -- The last act that a worker's log reports, and the message that was taken by it.
-use Rattle.std.specs.Prelude.{◌≡◌, ⊤, List, [], ◌∷◌, Option, Some, None}
+use Rattle.std.specs.Prelude.{◌≡◌, ℕ, ⊤, List, [], ◌∷◌, Option, Some, None}
 use Rattle.sj_base.specs.declared.EndId.{EndId}
 use Rattle.sj_base.specs.declared.Msg.{Msg}
 use Rattle.sj_base.specs.declared.Msg.TheVariants as msgs
+use Rattle.sj_rules.specs.Log as logs
 use Rattle.sj_rules.specs.Log.{EntryAt, NoteAt, Took}
+use Rattle.sj_rules.specs.Record.{offered_end, requested_end}
 use Rattle.sj_rules.specs.World.{Event, Act, Deliver}
 use Rattle.sj_seat_laws.specs.Calls.{Call, takes}
 use Rattle.sj_work.specs.Laned.{laned}
 use Rattle.sj_work.specs.declared.worker.Worker.{Worker}
+use Rattle.sj_seat.specs.declared.wish.OpenWish.{OpenWish}
+use Rattle.sj_seat.specs.declared.wish.OpenWish.TheVariants.{Request, Accept}
 
 -- the note, where the event is an act
 abbrev pub note_if_act : Event → NoteAt → Option NoteAt
@@ -29,6 +33,15 @@ abbrev pub end_taken : Option NoteAt → Option (EndId × EndId)
 end_taken (Some (Took c (msgs.Sess s d k))) = Some (c, record { sess = s; side = d })
 end_taken _ = None
 
+-- what is noted where the session of that number is opened, and the end of it that its party gets
+abbrev pub opening_note : OpenWish → (sess : ℕ) → NoteAt
+opening_note (Request q n) s = logs.Request s q
+opening_note (Accept q n) s = logs.Accept s q
+
+abbrev pub opening_end : OpenWish → (sess : ℕ) → EndId
+opening_end (Request q n) s = requested_end s
+opening_end (Accept q n) s = offered_end s
+
 module _ {O I : Type 0} where
   -- the last act at the worker took that message on the end
   abbrev pub TookLast : Worker O I → EndId → Msg → Type 0
@@ -42,3 +55,8 @@ module _ {O I : Type 0} where
   abbrev pub TellsTaken : Worker O I → Call → Option Msg → Type 0
   TellsTaken w (takes e) (Some m) = TookLast w e m
   TellsTaken w _ _ = ⊤
+
+  -- the last act at the worker opened the session of that end, which is the party's own
+  pub record OpenedLast (w : Worker O I) (wish : OpenWish) (e : EndId) : Type 0 where
+    pub note : last_act (laned w).log ≡ Some (opening_note wish e.sess)
+    pub end : e ≡ opening_end wish e.sess

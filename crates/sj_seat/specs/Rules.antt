@@ -7,11 +7,11 @@ use Rattle.sj_lang.specs.ItemCount.{is_done}
 use Rattle.sj_lang.specs.Place.{Place, done}
 use Rattle.sj_rules.specs.Limits.{limit_of_steps}
 use Rattle.sj_rules.specs.Record.{is_same_end}
-use Rattle.sj_seat_laws.specs.Calls.{Ends, place_held}
+use Rattle.sj_seat_laws.specs.Calls.{Ends, MayOpen, place_held, place_opened}
 use Rattle.sj_seat_laws.specs.Guards.{may_carry, may_send}
 use Rattle.sj_seat.specs.Fronts.{begins_with, sends_end, takes_end, takes_no_end}
 use Rattle.sj_seat.specs.declared.refusal.SeatRefusal.{SeatRefusal}
-use Rattle.sj_seat.specs.declared.refusal.SeatRefusal.TheVariants.{NotHeld, BeginsOtherwise, WrongEnd, WrongKind, AtLimit}
+use Rattle.sj_seat.specs.declared.refusal.SeatRefusal.TheVariants.{NotHeld, BeginsOtherwise, WrongEnd, WrongKind, NotOpened, AtLimit}
 
 -- ---- of the ends that are held
 
@@ -22,6 +22,10 @@ is_missing bs e = is_none (place_held bs e)
 -- the place of the end; the empty one where it isn't held
 abbrev pub place_at : Ends → EndId → Place
 place_at bs e = unwrap_or (place_held bs e) done
+
+-- the first place of a session of that protocol with that party; the empty one where none may be opened
+abbrev pub begins_at : List MayOpen → (party protocol : ℕ) → Place
+begins_at os q n = unwrap_or (place_opened os q n) done
 
 -- a message names no more texts
 abbrev pub limit_of_texts : ℕ
@@ -59,6 +63,10 @@ take_end_tests calls bs e = (NotHeld, is_missing bs e) ∷ (BeginsOtherwise, not
 
 abbrev pub close_tests : (calls : ℕ) → Ends → EndId → Tests
 close_tests calls bs e = (NotHeld, is_missing bs e) ∷ (BeginsOtherwise, not (is_done (place_at bs e))) ∷ (AtLimit, is_full calls) ∷ []
+
+-- by where the party's own end begins, if such a session may be opened
+abbrev pub open_tests : (calls : ℕ) → Option Place → Tests
+open_tests calls begins = (NotOpened, is_none begins) ∷ (AtLimit, is_full calls) ∷ []
 
 -- the first rule that applies
 abbrev pub first_refusal : Tests → Option SeatRefusal

@@ -30,7 +30,8 @@ use Rattle.sj_work.specs.declared.worker.Stop.TheVariants as stops
 use Rattle.sj_work.specs.declared.worker.Worker.{Worker}
 use Rattle.sj_seat.specs.Rules.{first_refusal}
 use Rattle.sj_seat.specs.Views.{calls_of, ends_of, laned_at, may_of, node_of, seat_of, texts_of, worker_of}
-use Rattle.sj_seat.specs.Wishes.{tests_of}
+use Rattle.sj_seat.specs.Wishes.{open_tests_of, tests_of}
+use Rattle.sj_seat.specs.declared.wish.OpenWish.{OpenWish}
 use Rattle.sj_seat.specs.declared.wish.Wish.{Wish}
 use Rattle.sj_seat.specs.declared.guest.Guest.{Guest}
 use Rattle.sj_seat.specs.declared.refusal.SeatRefusal.{SeatRefusal}
@@ -72,10 +73,22 @@ pub record NamesNothing (n : Node) (c : Call) : Type 0 where
 abbrev pub HasNoRow : Node → Want Place → Call → Type 0
 HasNoRow n want c = (call_of n want ≡ None) ⊎ NamesNothing n c
 
+-- why the node didn't do the step of a call that takes nothing
+abbrev pub IsHaltOf : Halt → Node → Want Place → Type 0
+IsHaltOf halts.Waits n want = held_up n want ≡ Some halts.Waits
+IsHaltOf halts.AtLimit n want = held_up n want ≡ Some halts.AtLimit
+IsHaltOf halts.Unfit n want = call_of n want ≡ None
+IsHaltOf halts.NoMemory n want = ⊤
+IsHaltOf halts.Ended n want = ⊥
+
 module _ {O I G : Type 0} where
   -- the first rule that applies to what the code asks for
   abbrev pub first_rule : Guest O I G → Wish → Option SeatRefusal
   first_rule g wish = first_refusal (tests_of (texts_of g) (calls_of g) (ends_of g) wish)
+
+  -- the same, where it asks for a session to be opened
+  abbrev pub first_open_rule : Guest O I G → OpenWish → Option SeatRefusal
+  first_open_rule g wish = first_refusal (open_tests_of (calls_of g) (may_of g) wish)
 
   -- the worker stopped for good: with that stop, or its clock can't rise any more
   abbrev pub IsStopped : Stop → Guest O I G → Type 0
@@ -99,6 +112,7 @@ module _ {O I G : Type 0} where
   IsHeldUp refusals.BeginsOtherwise c g = ⊥
   IsHeldUp refusals.WrongEnd c g = ⊥
   IsHeldUp refusals.WrongKind c g = ⊥
+  IsHeldUp refusals.NotOpened c g = ⊥
 
   -- the first rule that applies refuses a call, and then nothing happens; where none does, it is held up
   abbrev pub IsRefused : Option SeatRefusal → SeatRefusal → Call → (old new : Guest O I G) → Type 0

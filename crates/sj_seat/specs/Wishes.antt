@@ -1,7 +1,10 @@
 -- What the code calls, as the laws see it, and the rules that may refuse it.
 use Rattle.std.specs.Prelude.{ℕ, Bool, true, false}
-use Rattle.sj_seat_laws.specs.Calls.{Call, Ends, closes, delegates, sends, takes}
-use Rattle.sj_seat.specs.Rules.{Tests, close_tests, delegate_tests, send_tests, take_end_tests, take_tests}
+use Rattle.sj_seat_laws.specs.Calls.{Call, Ends, Openings, accepts, closes, delegates, requests, sends, takes}
+use Rattle.sj_seat_laws.specs.Guards.{opened_place}
+use Rattle.sj_seat.specs.Rules.{Tests, close_tests, delegate_tests, open_tests, send_tests, take_end_tests, take_tests}
+use Rattle.sj_seat.specs.declared.wish.OpenWish.{OpenWish}
+use Rattle.sj_seat.specs.declared.wish.OpenWish.TheVariants.{Request, Accept}
 use Rattle.sj_seat.specs.declared.wish.Wish.{Wish}
 use Rattle.sj_seat.specs.declared.wish.Wish.TheVariants.{Send, Delegate, Take, TakeEnd, Close}
 
@@ -26,3 +29,14 @@ abbrev pub is_taking : Wish → Bool
 is_taking (Take e) = true
 is_taking (TakeEnd e) = true
 is_taking _ = false
+
+-- ---- a session that is opened
+
+-- the call that it is
+abbrev pub open_wished : OpenWish → Call
+open_wished (Request q n) = requests q n
+open_wished (Accept q n) = accepts q n
+
+-- its rules, in their order
+abbrev pub open_tests_of : (calls : ℕ) → Openings → OpenWish → Tests
+open_tests_of calls os wish = open_tests calls (opened_place os (open_wished wish))

@@ -1,24 +1,27 @@
 //! What a worker does whose party is played by code: deliveries, and a call.
 ghost use Rattle.std.specs.Prelude.{◌≡◌, ◌<◌, IfOk, IfErr, IsErrOf, OnErr, OnOk, Some, is_some, length};
 ghost use Rattle.sj_lang.specs.FileAt.{FileAt};
+ghost use Rattle.sj_node.specs.Calls.{place_here};
 ghost use Rattle.sj_node.specs.Node.{clock_of, wants_of};
 ghost use Rattle.sj_node.specs.Reading.{parties_of};
 ghost use Rattle.sj_node.specs.Seats.{head_taken, is_take, want_at};
 ghost use Rattle.sj_node.specs.declared.refusal.Halt.TheVariants as halts;
 ghost use Rattle.sj_rules.specs.Limits.{clock_end, limit_of_steps};
-ghost use Rattle.sj_seat.specs.Asked.{asked};
+ghost use Rattle.sj_seat.specs.Asked.{asked, want_opening};
 ghost use Rattle.sj_seat.specs.Counted.{Counted};
-ghost use Rattle.sj_seat.specs.Logged.{TellsTaken, last_act};
-ghost use Rattle.sj_seat.specs.Went.{HasNoRow, Keeps, SeatWork, held_up};
+ghost use Rattle.sj_seat.specs.Logged.{OpenedLast, TellsTaken, last_act};
+ghost use Rattle.sj_seat.specs.Went.{HasNoRow, IsHaltOf, Keeps, SeatWork, held_up};
 ghost use Rattle.sj_seat_laws.specs.Calls.{SeatedAt};
-ghost use Rattle.sj_seat_laws.specs.Guards.{called, seated_want};
+ghost use Rattle.sj_seat_laws.specs.Guards.{called, opened, seated_want};
 ghost use Rattle.sj_semantics.specs.declared.Want.TheVariants as wants;
 ghost use Rattle.sj_work.specs.Laned.{laned};
 ghost use Rattle.sj_work.specs.Views.{node_of, stop_of};
 
-use sj_base::Msg;
+use crate::OpenWish;
+use sj_base::{EndId, Msg};
 use sj_lane::{InLane, OutLane};
 use sj_node::{Call, Halt};
+use sj_table::Spot;
 use sj_work::{Gate, Stop, Worker, work};
 
 /// Takes what came, and pushes what waits, until so many turns in a row have no event.
@@ -73,4 +76,36 @@ pub(crate) fn do_call<O: OutLane, I: InLane, G: Gate>(
     ensures ended { IsErrOf result Halt.Ended → ⊥ }
 {
     worker.call(call, gate)
+}
+
+/// Opens the session, the guarded call of the party, where the node can; its own end, which gets that
+/// place. Whatever it refuses, the node is as it was.
+pub(crate) fn do_open<O: OutLane, I: InLane, G: Gate>(
+    worker: &mut Worker<O, I>,
+    wish: OpenWish,
+    place: Spot,
+    gate: &G,
+) -> Result<EndId, Halt>
+    requires idle { wants_of (node_of worker.old) ≡ wants.Ended }
+    requires clock { clock_of (node_of worker.old) < clock_end }
+    ensures keeps { Keeps (node_of worker.old) (node_of worker.new) }
+    ensures idle { wants_of (node_of worker.new) ≡ wants.Ended }
+    ensures ok { IfOk result (λ e. (file : FileAt) (s : SeatedAt) →
+        length file.parties ≡ parties_of (node_of worker.old) →
+        seated_want s ≡ want_opening (place_here (node_of worker.old) place) wish →
+        s.steps < limit_of_steps →
+        SeatWork O.OutLane I.InLane file s (opened s e) worker.old worker.new) }
+    ensures err { (file : FileAt) (s : SeatedAt) →
+        length file.parties ≡ parties_of (node_of worker.old) →
+        OnErr result (SeatWork O.OutLane I.InLane file s s worker.old worker.new) }
+    ensures opened { IfOk result (OpenedLast worker.new wish) }
+    ensures counts { Counted O.OutLane I.InLane worker.old worker.new }
+    ensures stop { stop_of worker.new ≡ stop_of worker.old }
+    ensures cause { IfErr result (λ h. IsHaltOf h (node_of worker.new)
+        (want_opening (place_here (node_of worker.old) place) wish)) }
+{
+    match wish {
+        OpenWish::Request { party, .. } => worker.call_request(place, party, gate),
+        OpenWish::Accept { party, .. } => worker.call_accept(place, party, gate),
+    }
 }

@@ -1,5 +1,5 @@
 //! The ends that a party holds, each at its place.
-ghost use Rattle.std.specs.Prelude.{◌≡◌, ◌<◌, Some, vec_capacity, vec_len};
+ghost use Rattle.std.specs.Prelude.{◌≡◌, ◌<◌, ◌++◌, ◌∷◌, [], Some, vec_capacity, vec_len};
 ghost use Rattle.sj_rules.specs.Node as wanted;
 ghost use Rattle.sj_seat.specs.Asked.{GivesPlace, asked};
 ghost use Rattle.sj_seat.specs.Holding.{ends_at, entry_at, entry_moved, spot_held};
@@ -59,6 +59,15 @@ fn moved_end(table: &Table, held: HeldEnd, end: EndId, way: Way, msg: Msg) -> He
         Some(place) => HeldEnd { end, place },
         None => held,
     }
+}
+
+/// Puts an end that was opened after the others, at its place. There is room for it.
+pub(crate) fn hold(table: &Table, ends: &mut Vec<HeldEnd>, end: EndId, place: Spot)
+    requires room { vec_len ends.old < vec_capacity ends.old }
+    ensures { ends_at table.now ends.new.items
+        ≡ ends_at table.now ends.old.items ++ (end, place_in table.now place) ∷ [] }
+{
+    ends.push_reserved(HeldEnd { end, place });
 }
 
 /// Puts the ends where they are after the call, which took that message where it takes one. There is

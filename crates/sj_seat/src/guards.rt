@@ -1,23 +1,24 @@
 //! The rules by which a call is refused, in their order.
-ghost use Rattle.std.specs.Prelude.{◌≡◌, ◌<◌, false, true, IfOk, IfErr, None, Some, option_map, unwrap_or};
+ghost use Rattle.std.specs.Prelude.{◌≡◌, ◌<◌, false, true, IfOk, IfErr, IfSome, None, Some, is_none, option_map, unwrap_or};
 ghost use Rattle.sj_lang.specs.Place.{done};
-ghost use Rattle.sj_seat.specs.Asked.{IsGuarded, asked};
+ghost use Rattle.sj_seat.specs.Asked.{IsGuarded, IsOpenable, asked, want_opening};
 ghost use Rattle.sj_node.specs.Seats.{is_take};
 ghost use Rattle.sj_seat.specs.Holding.{ends_of};
 ghost use Rattle.sj_seat.specs.Opened.{may_of};
 ghost use Rattle.sj_seat.specs.Places.{CarriesPlaces};
 ghost use Rattle.sj_seat.specs.Rules as rules;
 ghost use Rattle.sj_seat.specs.Rules.{is_full, is_missing, names_text, place_at};
-ghost use Rattle.sj_seat.specs.Wishes.{is_taking, tests_of, wished};
+ghost use Rattle.sj_seat.specs.Wishes.{is_taking, open_tests_of, open_wished, tests_of, wished};
 ghost use Rattle.sj_seat_laws.specs.Calls as calls;
 ghost use Rattle.sj_seat_laws.specs.Calls.{place_held};
+ghost use Rattle.sj_seat_laws.specs.Guards.{opened_place, want_of_call};
 ghost use Rattle.sj_table.specs.Spots.{place_in};
 
 use crate::ends::{HeldEnd, spot_held};
 use crate::fronts::{begins_with, may_carry, may_send, sends_end, takes_no_end};
-use crate::openings::Openings;
+use crate::openings::{Openings, spot_opened};
 use crate::places::carried_spot;
-use crate::{SeatRefusal, Wish};
+use crate::{OpenWish, SeatRefusal, Wish};
 use sj_base::{EndId, Msg};
 use sj_machine::MAX_STEPS;
 use sj_node::Call;
@@ -193,6 +194,46 @@ impl Guard<'_> {
             (Some(refusal), _) => Err(refusal),
             (None, Some(place)) => Ok(Call::Take { end, place }),
             (None, None) => unreachable!(),
+        }
+    }
+
+    /// The spot at which the party's own end begins of the session that the code asks to open, or the
+    /// first rule that refuses it.
+    pub fn open(&self, wish: OpenWish) -> Result<Spot, SeatRefusal>
+        ensures guarded { IfOk result (IsOpenable self.now.table.now (may_of self.now)
+            (ends_of self.now) self.now.calls wish) }
+        ensures allowed { IfOk result (λ s. rules.first_refusal
+            (open_tests_of self.now.calls (may_of self.now) wish) ≡ None) }
+        ensures refused { IfErr result (λ r. rules.first_refusal
+            (open_tests_of self.now.calls (may_of self.now) wish) ≡ Some r) }
+    {
+        let place = self.place_to_open(wish);
+        let refusal = first_refusal(&[
+            (SeatRefusal::NotOpened, place.is_none()),
+            (SeatRefusal::AtLimit, self.is_full()),
+        ]);
+        match (refusal, place) {
+            (Some(refusal), _) => Err(refusal),
+            (None, Some(place)) => Ok(place),
+            (None, None) => unreachable!(),
+        }
+    }
+
+    // Where the party's own end begins of such a session, if the party may open one.
+    fn place_to_open(&self, wish: OpenWish) -> Option<Spot>
+        ensures there { is_none result ≡ is_none (opened_place (may_of self.now) (open_wished wish)) }
+        ensures begins { IfSome result (λ s. opened_place (may_of self.now) (open_wished wish)
+            ≡ Some (place_in self.now.table.now s)) }
+        ensures want { IfSome result (λ s. want_opening (place_in self.now.table.now s) wish
+            ≡ want_of_call (may_of self.now) (ends_of self.now) (open_wished wish)) }
+    {
+        match wish {
+            OpenWish::Request { party, protocol } => {
+                spot_opened(&self.may.requests, party, protocol)
+            }
+            OpenWish::Accept { party, protocol } => {
+                spot_opened(&self.may.accepts, party, protocol)
+            }
         }
     }
 

@@ -6,8 +6,8 @@ ghost use Rattle.sj_base.specs.declared.Msg.{Msg};
 ghost use Rattle.sj_rules.specs.Limits.{limit_of_steps};
 ghost use Rattle.sj_rules.specs.Node as wanted;
 ghost use Rattle.sj_seat.specs.Rules.{close_tests, delegate_tests, first_refusal, names_text, place_at};
-ghost use Rattle.sj_seat.specs.Rules.{send_tests, take_end_tests, take_tests};
-ghost use Rattle.sj_seat_laws.specs.Calls.{Ends, Openings, closes, delegates, sends, takes};
+ghost use Rattle.sj_seat.specs.Rules.{begins_at, open_tests, send_tests, take_end_tests, take_tests};
+ghost use Rattle.sj_seat_laws.specs.Calls.{Ends, Openings, accepts, closes, delegates, place_opened, requests, sends, takes};
 ghost use Rattle.sj_seat_laws.specs.Guards.{carried_next, want_of_call};
 
 /// No rule refuses a call exactly where it is guarded. A take is refused by neither of its two forms'
@@ -28,4 +28,12 @@ pub fn the_rules_are_the_guard()
     ensures closes { (calls : ℕ) (os : Openings) (bs : Ends) (e : EndId) →
         (first_refusal (close_tests calls bs e) ≡ None) ↔
         ((want_of_call os bs (closes e) ≡ wanted.closes e) × (calls < limit_of_steps)) }
+    ensures requests { (calls : ℕ) (os : Openings) (bs : Ends) (q n : ℕ) →
+        (first_refusal (open_tests calls (place_opened os.requests q n)) ≡ None) ↔
+        ((want_of_call os bs (requests q n) ≡ wanted.requests (begins_at os.requests q n) q)
+        × (calls < limit_of_steps)) }
+    ensures accepts { (calls : ℕ) (os : Openings) (bs : Ends) (q n : ℕ) →
+        (first_refusal (open_tests calls (place_opened os.accepts q n)) ≡ None) ↔
+        ((want_of_call os bs (accepts q n) ≡ wanted.accepts (begins_at os.accepts q n) q)
+        × (calls < limit_of_steps)) }
 {}

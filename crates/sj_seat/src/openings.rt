@@ -7,7 +7,7 @@ ghost use Rattle.sj_lang.specs.CodeView.{arm_of, branches_of, code_of, deed_of};
 ghost use Rattle.sj_lang.specs.FileAt.{body_named};
 ghost use Rattle.sj_lang.specs.FileView.{file_of, party_of};
 ghost use Rattle.sj_lang.specs.Limits.{limits};
-ghost use Rattle.sj_seat.specs.Opened.{found_of, openings_at, opened_at};
+ghost use Rattle.sj_seat.specs.Opened.{found_of, openings_at, opened_at, spot_opened};
 ghost use Rattle.sj_seat_laws.specs.SeatedStart.{openings_by, openings_of};
 ghost use Rattle.sj_table.specs.Spots.{start_in};
 
@@ -31,6 +31,18 @@ pub struct Opening {
 pub struct Openings {
     pub requests: Vec<Opening>,
     pub accepts: Vec<Opening>,
+}
+
+/// The spot at which the party's own end begins of such a session, where one may be opened.
+pub(crate) fn spot_opened(openings: &[Opening], party: u16, protocol: u16) -> Option<Spot>
+    ensures { result ≡ spot_opened openings.now party protocol }
+{
+    for opening in openings {
+        if opening.party == party && opening.protocol == protocol {
+            return Some(opening.place);
+        }
+    }
+    None
 }
 
 /// A statement that opens a session, with the other party by its name.

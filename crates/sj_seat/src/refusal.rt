@@ -20,7 +20,11 @@ pub enum SeatRefusal {
     /// doesn't stand for the carried one.
     #[error("what is sent is of another kind")]
     WrongKind,
-    /// 10,000 calls were made, or the end that is sent was delegated 100 times.
+    /// The party's text opens no such session.
+    #[error("no such session may be opened")]
+    NotOpened,
+    /// 10,000 calls were made, the end that is sent was delegated 100 times, or 100 sessions were
+    /// requested.
     #[error("at limit")]
     AtLimit,
     /// Nothing is there to take, or an end that is used is still on its way.

@@ -28,7 +28,7 @@ use sj_work::{Gate, Stop};
 impl<O: OutLane, I: InLane, G: Gate> Guest<'_, O, I, G> {
     /// Takes what came, and pushes what waits, until a turn has no event. Answers the stop that stays,
     /// if any.
-    fn wait(&mut self) -> Option<Stop>
+    pub(crate) fn wait(&mut self) -> Option<Stop>
         ensures went { (file : FileAt) (rest : List calls.Call) →
             length file.parties ≡ parties_of (node_of self.old) →
             Went O.OutLane I.InLane file rest rest self.old self.new }
@@ -100,7 +100,7 @@ impl<O: OutLane, I: InLane, G: Gate> Guest<'_, O, I, G> {
     }
 
     /// Why no call can be made any more, if so.
-    fn stopped(&self) -> Option<Stop>
+    pub(crate) fn stopped(&self) -> Option<Stop>
         ensures some { IfSome result (λ s. IsStopped s self.now) }
         ensures none { result ≡ None → kept_stop (stop_of (worker_of self.now)) ≡ None }
         ensures clock { result ≡ None → clock_of (node_of self.now) < clock_end }
@@ -202,8 +202,8 @@ fn posts(taken: &Option<Msg>) -> bool {
     matches!(taken, None | Some(Msg::Sess { .. }))
 }
 
-// Whether the call waits yet.
-fn is_waiting(answer: &Result<Option<Msg>, SeatRefusal>) -> bool
+/// Whether the call waits yet.
+pub(crate) fn is_waiting<T>(answer: &Result<T, SeatRefusal>) -> bool
     ensures { IsTrue result → answer.now ≡ Err SeatRefusal.Waiting }
 {
     matches!(answer, Err(SeatRefusal::Waiting))

@@ -16,3 +16,12 @@ pub enum Wish {
     /// Closes the end.
     Close { end: EndId },
 }
+
+/// What a builder's code calls to open a session with another party.
+#[derive(Clone, Copy, Debug, PartialEq, Eq)]
+pub enum OpenWish {
+    /// Requests a session of the protocol at that party.
+    Request { party: u16, protocol: u16 },
+    /// Accepts the next session that the party requested, as one of the protocol.
+    Accept { party: u16, protocol: u16 },
+}

@@ -1,0 +1,68 @@
+use Rattle.std.proofs.Common.{◌≡◌, ◌∙◌, ◌∷◌, None, ap, refl, subst, sym}
+use Rattle.sj_work.specs.Views.{stop_of}
+use Rattle.sj_work.specs.Worked.{kept_stop}
+use Rattle.sj_work.proofs.LaneLaws.{laws}
+use Rattle.sj_seat_laws.specs.Calls.{SeatedAt}
+use Rattle.sj_seat.specs.Holding.{ends_at}
+use Rattle.sj_seat.specs.Views.{may_of, seat_of}
+use Rattle.sj_seat.specs.Went.{SeatWork}
+use Rattle.sj_seat.specs.Wishes.{open_wished}
+use Rattle.sj_seat.proofs.AfterLemmas.{done_after, nothing_done}
+use Rattle.sj_seat.proofs.CountLemmas.{counted_itself, counted_later}
+use Rattle.sj_seat.proofs.guest.Guest.attempt_open.Goals as goal
+
+pub returns-in-Some-clause-err : goal.returns-in-Some-clause-err
+returns-in-Some-clause-err g c =
+    let ol = g.met.O.OutLane g.world.𝓛 g.world.𝓜 g.world.𝓡 (λ s x. x, λ x. x, λ x. x, λ x. x) in
+    let il = g.met.I.InLane g.world.𝓛 g.world.𝓜 g.world.𝓡 (λ s x. x, λ x. x, λ x. x, λ x. x) in
+    let k = laws g.O.OutLane g.I.InLane ol.same_itself ol.same_later il.same_itself il.same_later in
+    let a = c.args.self.now in
+    λ file rest parties. nothing_done k file (seat_of rest a) (seat_of rest a) a.worker refl
+
+pub returns-then-is_err-clause-err : goal.returns-then-is_err-clause-err
+returns-then-is_err-clause-err g c =
+    let ol = g.met.O.OutLane g.world.𝓛 g.world.𝓜 g.world.𝓡 (λ s x. x, λ x. x, λ x. x, λ x. x) in
+    let il = g.met.I.InLane g.world.𝓛 g.world.𝓜 g.world.𝓡 (λ s x. x, λ x. x, λ x. x, λ x. x) in
+    let k = laws g.O.OutLane g.I.InLane ol.same_itself ol.same_later il.same_itself il.same_later in
+    let a = c.args.self.now in
+    λ file rest parties.
+    let after : SeatedAt = record { ends = ends_at a.table c.reserve.new.self.items; steps = a.calls; calls = rest; may = may_of a } in
+    nothing_done k file (seat_of rest a) after a.worker (λ i. record { ends = ends_at a.table (c.reserve.ensures.items i); steps = a.calls; calls = rest; may = may_of a })
+
+pub returns-in-Ok-clause-ok : goal.returns-in-Ok-clause-ok
+returns-in-Ok-clause-ok g c =
+    let ol = g.met.O.OutLane g.world.𝓛 g.world.𝓜 g.world.𝓡 (λ s x. x, λ x. x, λ x. x, λ x. x) in
+    let il = g.met.I.InLane g.world.𝓛 g.world.𝓜 g.world.𝓡 (λ s x. x, λ x. x, λ x. x, λ x. x) in
+    let k = laws g.O.OutLane g.I.InLane ol.same_itself ol.same_later il.same_itself il.same_later in
+    let a = c.args.self.now in
+    let m = c.make_open.new.self in
+    let b = c.wait.new.self in
+    let h = c.in-Ok.ensures in
+    let kept : kept_stop (stop_of m.worker) ≡ None = ap kept_stop h.stop ∙ c.stopped.ensures.none c.in_default.is in
+    λ file rest parties.
+    let before = seat_of (open_wished c.args.wish ∷ rest) a in
+    let made : SeatWork g.O.OutLane g.I.InLane file before (seat_of rest m) a.worker m.worker =
+    subst (λ (s : SeatedAt). SeatWork g.O.OutLane g.I.InLane file s (seat_of rest m) a.worker m.worker)
+    (λ i. record { ends = ends_at a.table (c.reserve.ensures.items i); steps = a.calls; calls = open_wished c.args.wish ∷ rest; may = may_of a }) (h.ok file rest parties) in
+    done_after k file before (seat_of rest m) (seat_of rest b) a.worker m.worker b.worker kept h.keeps.party made (c.wait.ensures.went file rest (parties ∙ sym h.keeps.parties))
+
+pub returns-in-Some-clause-counts : goal.returns-in-Some-clause-counts
+returns-in-Some-clause-counts g c =
+    let ol = g.met.O.OutLane g.world.𝓛 g.world.𝓜 g.world.𝓡 (λ s x. x, λ x. x, λ x. x, λ x. x) in
+    let il = g.met.I.InLane g.world.𝓛 g.world.𝓜 g.world.𝓡 (λ s x. x, λ x. x, λ x. x, λ x. x) in
+    let k = laws g.O.OutLane g.I.InLane ol.same_itself ol.same_later il.same_itself il.same_later in
+    counted_itself k c.args.self.now.worker
+
+pub returns-then-is_err-clause-counts : goal.returns-then-is_err-clause-counts
+returns-then-is_err-clause-counts g c =
+    let ol = g.met.O.OutLane g.world.𝓛 g.world.𝓜 g.world.𝓡 (λ s x. x, λ x. x, λ x. x, λ x. x) in
+    let il = g.met.I.InLane g.world.𝓛 g.world.𝓜 g.world.𝓡 (λ s x. x, λ x. x, λ x. x, λ x. x) in
+    let k = laws g.O.OutLane g.I.InLane ol.same_itself ol.same_later il.same_itself il.same_later in
+    counted_itself k c.args.self.now.worker
+
+pub returns-in-Ok-clause-counts : goal.returns-in-Ok-clause-counts
+returns-in-Ok-clause-counts g c =
+    let ol = g.met.O.OutLane g.world.𝓛 g.world.𝓜 g.world.𝓡 (λ s x. x, λ x. x, λ x. x, λ x. x) in
+    let il = g.met.I.InLane g.world.𝓛 g.world.𝓜 g.world.𝓡 (λ s x. x, λ x. x, λ x. x, λ x. x) in
+    let k = laws g.O.OutLane g.I.InLane ol.same_itself ol.same_later il.same_itself il.same_later in
+    counted_later k c.args.self.now.worker c.make_open.new.self.worker c.wait.new.self.worker c.in-Ok.ensures.counts c.wait.ensures.counts
