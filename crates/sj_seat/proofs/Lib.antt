@@ -1,4 +1,5 @@
 pub mod AfterLemmas
+mod AnyLemmas
 pub mod CalledLemmas
 mod CauseLemmas
 pub mod CountLemmas
@@ -10,6 +11,7 @@ mod KindLemmas
 mod LastLemmas
 mod MovedLemmas
 mod OpeningLemmas
+mod PickLemmas
 mod RuleLemmas
 mod SessionLemmas
 mod TakenLemmas

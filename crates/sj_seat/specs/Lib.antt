@@ -6,6 +6,7 @@ pub mod Kinds
 pub mod Logged
 pub mod Opened
 pub mod Places
+pub mod Ready
 pub mod Rules
 pub mod Views
 pub mod Went

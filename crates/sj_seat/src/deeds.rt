@@ -2,7 +2,7 @@
 ghost use Rattle.std.specs.Prelude.{◌≡◌, ◌<◌, IfOk, IfErr, IsErrOf, OnErr, OnOk, Some, is_some, length};
 ghost use Rattle.sj_lang.specs.FileAt.{FileAt};
 ghost use Rattle.sj_node.specs.Calls.{place_here};
-ghost use Rattle.sj_node.specs.Node.{clock_of, wants_of};
+ghost use Rattle.sj_node.specs.Node.{Stays, clock_of, wants_of};
 ghost use Rattle.sj_node.specs.Reading.{parties_of};
 ghost use Rattle.sj_node.specs.Seats.{head_taken, is_take, want_at};
 ghost use Rattle.sj_node.specs.declared.refusal.Halt.TheVariants as halts;
@@ -65,6 +65,7 @@ pub(crate) fn do_call<O: OutLane, I: InLane, G: Gate>(
     ensures taken { IfOk result (λ m. m ≡ head_taken (node_of worker.old) call) }
     ensures takes { IfOk result (λ m. is_some m ≡ is_take call) }
     ensures tells { IfOk result (TellsTaken worker.new (asked call)) }
+    ensures stays { OnErr result (Stays (node_of worker.old) (node_of worker.new)) }
     ensures counts { Counted O.OutLane I.InLane worker.old worker.new }
     ensures stop { stop_of worker.new ≡ stop_of worker.old }
     ensures waits { IsErrOf result Halt.Waits →

@@ -12,6 +12,7 @@ mod guest;
 mod kinds;
 mod laws;
 mod openings;
+mod picks;
 mod places;
 mod refusal;
 mod sessions;

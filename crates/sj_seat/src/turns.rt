@@ -2,7 +2,7 @@
 ghost use Rattle.std.specs.Prelude.{◌≡◌, ◌<◌, ◌∷◌, Err, IfErr, IfOk, IfSome, IsTrue, List, None, OnErr, OnOk, Some};
 ghost use Rattle.std.specs.Prelude.{is_some, length, vec_capacity, vec_len};
 ghost use Rattle.sj_lang.specs.FileAt.{FileAt};
-ghost use Rattle.sj_node.specs.Node.{clock_of};
+ghost use Rattle.sj_node.specs.Node.{Stays, clock_of};
 ghost use Rattle.sj_node.specs.Reading.{parties_of};
 ghost use Rattle.sj_node.specs.Seats.{is_take};
 ghost use Rattle.sj_rules.specs.Limits.{clock_end};
@@ -80,6 +80,7 @@ impl<O: OutLane, I: InLane, G: Gate> Guest<'_, O, I, G> {
         ensures rests { OnErr result (Rests self.old self.new) }
         ensures takes { IfOk result (λ m. is_some m ≡ is_take call) }
         ensures tells { IfOk result (TellsTaken (worker_of self.new) (asked call)) }
+        ensures stays { OnErr result (Stays (node_of self.old) (node_of self.new)) }
 
         // What stays in any case, and what the lanes counted.
         ensures keeps { Keeps (node_of self.old) (node_of self.new) }
@@ -118,7 +119,7 @@ impl<O: OutLane, I: InLane, G: Gate> Guest<'_, O, I, G> {
     }
 
     /// Does the call, where it can be done now, and pushes what waits then.
-    fn attempt(&mut self, call: Call) -> Result<Option<Msg>, SeatRefusal>
+    pub(crate) fn attempt(&mut self, call: Call) -> Result<Option<Msg>, SeatRefusal>
         requires guarded { IsGuarded (table_of self.old) (may_of self.old) (ends_of self.old)
             (calls_of self.old) call }
 
@@ -132,6 +133,7 @@ impl<O: OutLane, I: InLane, G: Gate> Guest<'_, O, I, G> {
         ensures rests { OnErr result (Rests self.old self.new) }
         ensures takes { IfOk result (λ m. is_some m ≡ is_take call) }
         ensures tells { IfOk result (TellsTaken (worker_of self.new) (asked call)) }
+        ensures stays { OnErr result (Stays (node_of self.old) (node_of self.new)) }
 
         // What stays in any case, and what the lanes counted.
         ensures keeps { Keeps (node_of self.old) (node_of self.new) }

@@ -24,6 +24,7 @@ returns g c =
       taken = h.taken;
       takes = h.takes;
       tells = tells_taken a b c.args.call c.call.result h.ok h.taken;
+      stays = h.err;
       counts = counted_alone k a b h.lanes h.stop;
       stop = h.stop;
       waits = λ is. held_up_so a.node b.node c.args.call (err_stays c.call.result halts.Waits is h.err) halts.Waits (h.waits is);

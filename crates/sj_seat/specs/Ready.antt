@@ -1,0 +1,67 @@
+-- On which of several ends a message is there, what is taken from the first of them, and why nothing is.
+use Rattle.std.specs.Prelude.{◌≡◌, ◌⊎◌, ℕ, ⊤, List, [], ◌∷◌, length, Option, Some, None, is_some, if◌then◌else◌}
+use Rattle.sj_base.specs.declared.EndId.{EndId}
+use Rattle.sj_lane.specs.declared.lane.OutLane.{Ghosts as OutLane}
+use Rattle.sj_lane.specs.declared.lane.InLane.{Ghosts as InLane}
+use Rattle.sj_lang.specs.FileAt.{FileAt}
+use Rattle.sj_node.specs.Node.{next_head}
+use Rattle.sj_node.specs.Reading.{parties_of}
+use Rattle.sj_node.specs.declared.node.Node.{Node}
+use Rattle.sj_seat_laws.specs.Calls.{Call, Ends, takes}
+use Rattle.sj_seat_laws.specs.Guards.{want_of_call}
+use Rattle.sj_work.specs.declared.worker.Stop.TheVariants as stops
+use Rattle.sj_seat.specs.Rules.{first_refusal, take_tests}
+use Rattle.sj_seat.specs.Views.{calls_of, ends_of, may_of, node_of}
+use Rattle.sj_seat.specs.Went.{HasNoRow, IsStopped, Went}
+use Rattle.sj_seat.specs.declared.guest.Guest.{Guest}
+use Rattle.sj_seat.specs.declared.refusal.SeatRefusal.{SeatRefusal}
+use Rattle.sj_seat.specs.declared.refusal.SeatRefusal.TheVariants as refusals
+
+-- the first of these ends on which a message is there
+abbrev pub first_there : Node → List EndId → Option EndId
+first_there n [] = None
+first_there n (e ∷ es) = if is_some (next_head n e) then Some e else first_there n es
+
+-- the rule, where one applies, and else the next one
+abbrev pub rule_or : Option SeatRefusal → Option SeatRefusal → Option SeatRefusal
+rule_or None next = next
+rule_or (Some rule) next = Some rule
+
+-- of the first end from which a take is refused by a rule the first rule that applies
+abbrev pub first_rule_of : (calls : ℕ) → Ends → List EndId → Option SeatRefusal
+first_rule_of calls bs [] = None
+first_rule_of calls bs (e ∷ es) = rule_or (first_refusal (take_tests calls bs e)) (first_rule_of calls bs es)
+
+module _ {O I G : Type 0} where
+  -- the same of a guest
+  abbrev pub any_rule : Guest O I G → List EndId → Option SeatRefusal
+  any_rule g es = first_rule_of (calls_of g) (ends_of g) es
+
+  -- what is there can't be taken: the worker stopped for good, or the rules have no row for the take
+  abbrev pub IsCutShort : SeatRefusal → Guest O I G → Type 0
+  IsCutShort (refusals.Stopped stop) g =
+      IsStopped stop g ⊎ ((stop ≡ stops.Unfit) × ((e : EndId) × HasNoRow (node_of g) (want_of_call (may_of g) (ends_of g) (takes e)) (takes e)))
+  IsCutShort refusals.NoMemory g = ⊤
+  IsCutShort refusals.NotHeld g = ⊥
+  IsCutShort refusals.BeginsOtherwise g = ⊥
+  IsCutShort refusals.WrongEnd g = ⊥
+  IsCutShort refusals.WrongKind g = ⊥
+  IsCutShort refusals.NotOpened g = ⊥
+  IsCutShort refusals.AtLimit g = ⊥
+  IsCutShort refusals.Waiting g = ⊥
+
+  -- why nothing is taken that no rule refuses: no end has a message, or what is there can't be taken
+  abbrev pub IsNoneTaken : SeatRefusal → List EndId → Guest O I G → Type 0
+  IsNoneTaken r es g = ((r ≡ refusals.Waiting) × (first_there (node_of g) es ≡ None)) ⊎ IsCutShort r g
+
+  -- the first rule that applies refuses it, and then nothing happens; where none does, nothing is taken
+  abbrev pub IsAnyRefused : Option SeatRefusal → SeatRefusal → List EndId → (old new : Guest O I G) → Type 0
+  IsAnyRefused (Some rule) r es old new = (r ≡ rule) × (new ≡ old)
+  IsAnyRefused None r es old new = IsNoneTaken r es new
+
+  -- the guest waited, called nothing meanwhile, and then took from that end: the first of these on which a message was there
+  pub record TookFirst (outward : OutLane O) (inward : InLane I) (es : List EndId) (e : EndId) (old new : Guest O I G) : Type 0 where
+    pub before : Guest O I G
+    pub waited : (file : FileAt) (rest : List Call) → length file.parties ≡ parties_of (node_of old) → Went outward inward file rest rest old before
+    pub first : first_there (node_of before) es ≡ Some e
+    pub took : (file : FileAt) (rest : List Call) → length file.parties ≡ parties_of (node_of old) → Went outward inward file (takes e ∷ rest) rest before new
