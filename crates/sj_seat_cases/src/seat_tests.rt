@@ -6,7 +6,7 @@ use sj_lane::{Lanes, Links, RingIn, RingLinks, RingOut};
 use sj_node::Node;
 use sj_party::parse_file;
 use sj_proto::Tokens;
-use sj_seat::{Guest, SeatRefusal, carries_places};
+use sj_seat::{Guest, Opening, SeatRefusal, carries_places};
 use sj_work::{NoGate, Stop, Worker, work};
 use std::alloc::Global;
 use std::test::Fail;
@@ -41,6 +41,23 @@ connect a x p to b y q;
 connect b z g to c u h;
 ";
 
+// a opens a session to b, and b one to a.
+const OPENED: &[u8] = b"protocol p { begin.!<int> }
+protocol q { begin.?(int) }
+party a { request x p to b; send x 5; close x; accept z q from b; recv z n int; close z; }
+party b { accept y q from a; recv y n int; close y; request w p to a; send w 7; close w; }
+";
+
+// Two parties each send c a number.
+const TWO: &[u8] = b"protocol p { begin.!<int> }
+protocol q { begin.?(int) }
+party a { send x 5; close x; }
+party b { send y 6; close y; }
+party c { recv u n int; recv v m int; close u; close v; }
+connect a x p to c u q;
+connect b y p to c v q;
+";
+
 /// The end of the first session that its connection names first.
 const X: EndId = EndId { sess: 0, side: 0 };
 
@@ -51,6 +68,11 @@ const Y: EndId = EndId { sess: 0, side: 1 };
 const Z: EndId = EndId { sess: 1, side: 0 };
 
 const U: EndId = EndId { sess: 1, side: 1 };
+
+/// a's ends of the session that it opens first, and of the one that b opens first.
+const OWN: EndId = EndId { sess: 64, side: 0 };
+
+const OFFERED: EndId = EndId { sess: 164, side: 1 };
 
 fn accepted(alloc: Global, text: &[u8]) -> Result<Accepted, Fail> {
     if text.len() > Tokens::MOST_BYTES {
@@ -91,6 +113,13 @@ fn seated(
     }
     let lanes = lanes.ok_or("no lanes")?;
     Ok(Guest::start(alloc, accepted, table, party, lanes, 1, &NoGate)?)
+}
+
+fn first_of(openings: &[Opening]) -> Result<Opening, Fail> {
+    match openings.get(0) {
+        Some(opening) => Ok(*opening),
+        None => Err(Fail::from("no opening")),
+    }
 }
 
 #[test]
@@ -164,5 +193,49 @@ fn code_takes_an_end_and_waits_for_it(rt: HostRuntime) -> Result<(), Fail> {
     assert_eq!(rt; c.close(Y), Ok(()));
     assert_eq!(rt; c.close(U), Ok(()));
     assert_eq!(rt; c.ends().len(), 0);
+    Ok(())
+}
+
+#[test]
+fn code_opens_a_session_and_accepts_one(rt: HostRuntime) -> Result<(), Fail> {
+    let alloc = rt.alloc();
+    let accepted = accepted(alloc, OPENED)?;
+    let mut lanes = RingLinks::new().make(alloc, 2)?;
+    let mut b = hired(alloc, &accepted, 1, lanes.pop())?;
+    let mut a = seated(alloc, &accepted, 0, lanes.pop())?;
+    let own = first_of(&a.guard().may.requests)?;
+    let other = first_of(&a.guard().may.accepts)?;
+    assert_eq!(rt; a.request(1, other.protocol), Err(SeatRefusal::NotOpened));
+    assert_eq!(rt; a.accept(1, other.protocol), Err(SeatRefusal::Waiting));
+    assert_eq!(rt; a.request(1, own.protocol), Ok(OWN));
+    assert_eq!(rt; a.send(OWN, Msg::Int(5)), Ok(()));
+    work(&mut b, 1, &NoGate);
+    assert_eq!(rt; a.accept(1, other.protocol), Ok(OFFERED));
+    assert_eq!(rt; a.take(OFFERED), Ok(Msg::Int(7)));
+    assert_eq!(rt; a.close(OFFERED), Ok(()));
+    assert_eq!(rt; a.close(OWN), Ok(()));
+    assert_eq!(rt; a.ends().len(), 0);
+    assert_eq!(rt; work(&mut b, 1, &NoGate), Stop::Finished);
+    Ok(())
+}
+
+#[test]
+fn code_takes_from_the_end_that_has_a_message(rt: HostRuntime) -> Result<(), Fail> {
+    let alloc = rt.alloc();
+    let accepted = accepted(alloc, TWO)?;
+    let mut lanes = RingLinks::new().make(alloc, 3)?;
+    let mut c = seated(alloc, &accepted, 2, lanes.pop())?;
+    let mut b = hired(alloc, &accepted, 1, lanes.pop())?;
+    assert!(rt; matches!(c.take_any(&[Y, U]), Err(SeatRefusal::Waiting)));
+    work(&mut b, 1, &NoGate);
+    assert!(rt; c.ready(U));
+    assert!(rt; !c.ready(Y));
+    let Ok((end, msg)) = c.take_any(&[Y, U]) else {
+        return Err(Fail::from("nothing was taken"));
+    };
+    assert_eq!(rt; end, U);
+    assert_eq!(rt; msg, Msg::Int(6));
+    assert!(rt; matches!(c.take_any(&[Y, U]), Err(SeatRefusal::BeginsOtherwise)));
+    assert!(rt; matches!(c.take_any(&[Y]), Err(SeatRefusal::Waiting)));
     Ok(())
 }
