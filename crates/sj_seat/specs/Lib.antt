@@ -2,6 +2,7 @@ pub mod Asked
 pub mod Counted
 pub mod Fronts
 pub mod Holding
+pub mod Holdings
 pub mod Kinds
 pub mod Logged
 pub mod Opened

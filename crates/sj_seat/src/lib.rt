@@ -1,6 +1,7 @@
 //! A party of a run that is played by a builder's own code.
 #![tactic(auto)]
 
+mod again;
 mod attend;
 mod calls;
 mod deeds;
@@ -9,6 +10,7 @@ mod firsts;
 mod fronts;
 mod guards;
 mod guest;
+mod holdings;
 mod kinds;
 mod laws;
 mod openings;
@@ -24,6 +26,7 @@ pub use ends::{HeldEnd, go_on};
 pub use firsts::first_ends;
 pub use guards::Guard;
 pub use guest::Guest;
+pub use holdings::Holdings;
 pub use kinds::seat_table;
 pub use laws::the_rules_are_the_guard;
 pub use openings::{Opening, Openings, party_openings};
