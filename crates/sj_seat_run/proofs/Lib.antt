@@ -1,0 +1,7 @@
+mod CarriedLemmas
+mod ListLemmas
+mod LogLemmas
+mod PlayedLemmas
+mod RanLemmas
+mod RunnerLemmas
+mod StopLemmas

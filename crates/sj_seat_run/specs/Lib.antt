@@ -1,0 +1,4 @@
+pub mod Runners
+pub mod Logged
+pub mod Played
+pub mod Refusals
