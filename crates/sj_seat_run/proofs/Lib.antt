@@ -4,4 +4,5 @@ mod LogLemmas
 mod PlayedLemmas
 mod RanLemmas
 mod RunnerLemmas
+mod SendLemmas
 mod StopLemmas

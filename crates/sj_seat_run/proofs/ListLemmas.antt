@@ -1,6 +1,6 @@
 -- What is in lists, and in mapped ones.
 use Rattle.std.proofs.Common.{◌≡◌, ◌∙◌, ℕ, zero, suc, ◌+◌, ◌<◌, ◌≤◌, List, [], ◌∷◌, ◌++◌, take, map, length, get_or, Some, refl, sym, ap, subst, arith}
-use Rattle.std.specs.Prelude.{slice_get}
+use Rattle.std.specs.Prelude.{slice_get, slice_index_or}
 
 -- what is there is below the length
 pub below_length : {X : Type 0} (xs : List X) (p : ℕ) (x : X) → slice_get xs p ≡ Some x → p < length xs
@@ -53,3 +53,23 @@ pairs_more R [] (y ∷ ys) a b same each last p c is = absurd (omega (arith, sam
 pairs_more R (x ∷ xs) [] a b same each last p c is = absurd (omega (arith, same))
 pairs_more R (x ∷ xs) (y ∷ ys) a b same each last zero c is = each zero c is
 pairs_more R (x ∷ xs) (y ∷ ys) a b same each last (suc p) c is = pairs_more (λ n. R (suc n)) xs ys a b (omega (arith, same)) (λ n d at. each (suc n) d at) last p c is
+
+-- what is there is at its index
+pub index_is : {X : Type 0} (xs : List X) (p : ℕ) (x d : X) → slice_get xs p ≡ Some x → slice_index_or xs p d ≡ x
+index_is [] p x d is = absurd (cc is)
+index_is (y ∷ ys) zero x d is = let e : Some y ≡ Some x = is in let s : y ≡ x = cc e in s
+index_is (y ∷ ys) (suc p) x d is = index_is ys p x d is
+
+front_of : {X : Type 0} (xs zs : List X) → take (length xs) (xs ++ zs) ≡ xs
+front_of [] zs = refl
+front_of (x ∷ xs) zs = ap (λ ys. x ∷ ys) (front_of xs zs)
+
+-- a prefix of a list, taken by its length, is that prefix
+pub take_front : {X : Type 0} (xs zs : List X) (n : ℕ) → n ≡ length xs → take n (xs ++ zs) ≡ xs
+take_front xs zs n is = ap (λ m. take m (xs ++ zs)) is ∙ front_of xs zs
+
+-- what holds at each index holds of what is there
+pub each_at : {X : Type 0} (R : X → X → Type 0) (xs ys : List X) → ((i : ℕ) (d : X) → i < length xs → R (slice_index_or xs i d) (slice_index_or ys i d)) → (p : ℕ) (x y : X)
+    → slice_get xs p ≡ Some x → slice_get ys p ≡ Some y → R x y
+each_at R xs ys each p x y is there =
+    subst (λ z. R z y) (index_is xs p x x is) (subst (λ z. R (slice_index_or xs p x) z) (index_is ys p y x there) (each p x (below_length xs p x is)))

@@ -1,5 +1,5 @@
 -- Parties that began with the lanes of their numbers and took part are the parties of a run.
-use Rattle.std.proofs.Common.{◌≡◌, ◌∙◌, ℕ, zero, suc, ◌<◌, Bool, List, [], ◌∷◌, map, length, Option, Some, None, inl, inr, refl, sym, ap, subst, arith}
+use Rattle.std.proofs.Common.{◌≡◌, ◌∙◌, ℕ, zero, suc, ◌<◌, Bool, List, [], ◌∷◌, ◌++◌, map, length, Option, Some, None, inl, inr, refl, sym, ap, subst, arith}
 use Rattle.std.specs.Prelude.{slice_get, vec_len}
 use Rattle.std.proofs.lemmas.List.{length-map}
 use Rattle.sj_lang.specs.Place.{Place}
@@ -20,7 +20,7 @@ use Rattle.sj_work.specs.Views.{in_of, lanes_of, node_of, out_of, stop_of}
 use Rattle.sj_work.specs.Worked.{Worked}
 use Rattle.sj_work.specs.declared.worker.Worker.{Worker}
 use Rattle.sj_run.specs.Workers.{AreNew, IsFirst}
-use Rattle.sj_seat_run.proofs.ListLemmas.{below_length, mapped_from}
+use Rattle.sj_seat_run.proofs.ListLemmas.{below_length, mapped_from, one_more, pairs_more}
 use Rattle.sj_seat_run.specs.Logged.{AllRan, HasRun}
 use Rattle.sj_seat_run.specs.Played.{Played}
 use Rattle.sj_seat_run.specs.Runners.{AreSeated, HasBegun, HasTakenPart, IsFirstGuest, IsFirstWorker, worker_at}
@@ -52,6 +52,19 @@ first_is file t p own w x = record {
 -- the party that code plays, before its first call
 pub seat_begins : {O I G : Type 0} (file : FileAt) (t : Table) (p : ℕ) (own : Lanes O I) (g : Guest O I G) (calls : List Call) → IsFirstGuest file t p own g → seat_of calls g ≡ seat_start file p calls
 seat_begins file t p own g calls x = λ i. record { ends = x.ends i; steps = x.calls i; calls = calls; may = x.may i }
+
+module _ {O I G C : Type 0} (file : FileAt) (t : Table) where
+  -- nobody has begun
+  pub none_seated : AreSeated {O = O} {I = I} {G = G} {C = C} file t [] 0 []
+  none_seated = record { count = refl; each = λ p c is. absurd (cc is) }
+
+  -- one more party, with the lanes of its number
+  pub one_seated : (lanes : List (Lanes O I)) (runners : List (Runner O I G C)) (own : Lanes O I) (c : Runner O I G C) → AreSeated file t lanes (length lanes) runners → HasBegun file t (length lanes) own c
+      → AreSeated file t (lanes ++ own ∷ []) (length (lanes ++ own ∷ [])) (runners ++ c ∷ [])
+  one_seated lanes runners own c s begun = record {
+    count = one_more runners lanes c own s.count;
+    each = pairs_more (λ p l r. HasBegun file t p l r) lanes runners own c s.count s.each begun;
+  }
 
 module _ {O I G C : Type 0} (outward : OutLane O) (inward : InLane I) (joined : O → I → Type 0)
     (later : (o p : O) (i j : I) → joined o i → outward.same o p → inward.same i j → joined p j)

@@ -10,6 +10,7 @@ mod runners;
 mod runs;
 mod stops;
 mod teams;
+mod threads;
 mod turnout;
 
 pub use play::{Answer, Play};

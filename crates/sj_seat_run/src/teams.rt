@@ -15,6 +15,7 @@ use crate::play::Play;
 use crate::refusal::SeatedRefusal;
 use crate::remains::{Parties, stand_up};
 use crate::runners::Runner;
+use crate::threads::table_crosses;
 use crate::turnout::Turnout;
 use sj_check::Accepted;
 use sj_lane::{InLane, Links, OutLane};
@@ -48,6 +49,7 @@ fn set_off<R: Threads + Sync, O: OutLane, I: InLane, G: Gate, C: Play + Send>(
         (slice_index_or runners.new i d) }
 {
     node_crosses();
+    table_crosses();
     let threads = runners.len().max(1);
     let parties = u32::try_from(runners.len()).unwrap_or(u32::MAX);
     let turnout = Turnout::new(parties, count_codes(runners));
