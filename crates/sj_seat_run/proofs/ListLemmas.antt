@@ -1,5 +1,5 @@
 -- What is in lists, and in mapped ones.
-use Rattle.std.proofs.Common.{◌≡◌, ◌∙◌, ℕ, zero, suc, ◌+◌, ◌<◌, ◌≤◌, List, [], ◌∷◌, ◌++◌, take, map, length, get_or, Some, refl, sym, ap, subst, arith}
+use Rattle.std.proofs.Common.{◌≡◌, ◌∙◌, ℕ, zero, suc, ◌+◌, ◌<◌, ◌≤◌, List, [], ◌∷◌, ◌++◌, append_assoc, append-nil, length-append, min, take, map, length, get_or, Some, refl, sym, ap, subst, arith}
 use Rattle.std.specs.Prelude.{slice_get, slice_index_or}
 
 -- what is there is below the length
@@ -73,3 +73,29 @@ pub each_at : {X : Type 0} (R : X → X → Type 0) (xs ys : List X) → ((i : �
     → slice_get xs p ≡ Some x → slice_get ys p ≡ Some y → R x y
 each_at R xs ys each p x y is there =
     subst (λ z. R z y) (index_is xs p x x is) (subst (λ z. R (slice_index_or xs p x) z) (index_is ys p y x there) (each p x (below_length xs p x is)))
+
+-- ---- a list of which some items were taken
+
+module _ {X : Type 0} (xs ys all : List X) where
+  -- nothing is left
+  pub all_yielded : xs ++ ys ≡ all → length ys ≡ 0 → xs ≡ all
+  all_yielded is none = by ys is none
+    where
+      by : (zs : List X) → xs ++ zs ≡ all → length zs ≡ 0 → xs ≡ all
+      by [] e n = sym (append-nil xs) ∙ e
+      by (z ∷ zs) e n = absurd (omega (arith, n))
+
+  -- the next one is taken
+  pub one_yielded : (x : X) (zs : List X) → xs ++ ys ≡ all → ys ≡ x ∷ zs → (xs ++ x ∷ []) ++ zs ≡ all
+  one_yielded x zs is next = append_assoc xs (x ∷ []) zs ∙ ap (λ l. xs ++ l) (sym next) ∙ is
+
+min_low : (a b : ℕ) → a ≤ b → min a b ≡ a
+min_low a b le = omega (arith, le)
+
+-- how many were taken, with the next one
+pub many_yielded : {X : Type 0} (xs zs all : List X) (x : X) (n : ℕ) → (xs ++ x ∷ []) ++ zs ≡ all → length all ≤ 65535 → n ≡ length xs → min (n + 1) 65535 ≡ length (xs ++ x ∷ [])
+many_yielded xs zs all x n is few same =
+    let one : length (xs ++ x ∷ []) ≡ length xs + 1 = length-append xs (x ∷ []) in
+    let whole : length ((xs ++ x ∷ []) ++ zs) ≡ length (xs ++ x ∷ []) + length zs = length-append (xs ++ x ∷ []) zs in
+    let le : length xs + 1 ≤ 65535 = omega (arith, one, whole, ap length is, few) in
+    ap (λ m. min (m + 1) 65535) same ∙ min_low (length xs + 1) 65535 le ∙ sym one
