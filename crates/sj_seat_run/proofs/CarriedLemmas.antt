@@ -1,5 +1,5 @@
 -- A worker's lanes at the end are those that it was hired with.
-use Rattle.std.proofs.Common.{◌≡◌, ◌∙◌, ℕ, zero, suc, List, [], ◌∷◌, length, Option, Some, None, refl, sym, ap, subst}
+use Rattle.std.proofs.Common.{◌≡◌, ℕ, zero, suc, List, [], ◌∷◌, length, Option, Some, None, refl, ap, subst}
 use Rattle.std.specs.Prelude.{slice_get}
 use Rattle.sj_lang.specs.FileAt.{FileAt}
 use Rattle.sj_lang.specs.Place.{Place}
@@ -10,7 +10,6 @@ use Rattle.sj_rules.specs.Work.{InStep, OutStep}
 use Rattle.sj_seat_laws.specs.Calls.{SeatedAt}
 use Rattle.sj_seat.specs.Counted.{Counted}
 use Rattle.sj_seat.specs.Went.{SeatWork}
-use Rattle.sj_work.specs.Causes.{Cause}
 use Rattle.sj_work.specs.Counts.{OnLane, Stands}
 use Rattle.sj_work.specs.Views.{in_of, out_of, stop_of}
 use Rattle.sj_work.specs.Worked.{Turned, Worked, WorkedBy, kept_stop}

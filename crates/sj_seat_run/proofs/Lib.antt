@@ -3,6 +3,8 @@ mod ListLemmas
 mod LogLemmas
 mod PlayedLemmas
 mod RanLemmas
+mod RefusalLemmas
 mod RunnerLemmas
+mod SeatLemmas
 mod SendLemmas
 mod StopLemmas

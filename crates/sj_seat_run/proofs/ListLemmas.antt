@@ -54,6 +54,14 @@ pairs_more R (x ∷ xs) [] a b same each last p c is = absurd (omega (arith, sam
 pairs_more R (x ∷ xs) (y ∷ ys) a b same each last zero c is = each zero c is
 pairs_more R (x ∷ xs) (y ∷ ys) a b same each last (suc p) c is = pairs_more (λ n. R (suc n)) xs ys a b (omega (arith, same)) (λ n d at. each (suc n) d at) last p c is
 
+-- what holds of each holds with one more
+pub each_more : {B : Type 0} (R : ℕ → B → Type 0) (ys : List B) (b : B) → ((p : ℕ) (c : B) → slice_get ys p ≡ Some c → R p c) → R (length ys) b
+    → (p : ℕ) (c : B) → slice_get (ys ++ b ∷ []) p ≡ Some c → R p c
+each_more R [] b each last zero c is = subst (λ z. R 0 z) (let e : Some b ≡ Some c = is in cc e) last
+each_more R [] b each last (suc p) c is = absurd (cc is)
+each_more R (y ∷ ys) b each last zero c is = each zero c is
+each_more R (y ∷ ys) b each last (suc p) c is = each_more (λ n. R (suc n)) ys b (λ n d at. each (suc n) d at) last p c is
+
 -- what is there is at its index
 pub index_is : {X : Type 0} (xs : List X) (p : ℕ) (x d : X) → slice_get xs p ≡ Some x → slice_index_or xs p d ≡ x
 index_is [] p x d is = absurd (cc is)

@@ -1,5 +1,5 @@
 -- What becomes of a guest by one thing that its code asks for after another.
-use Rattle.std.proofs.Common.{◌≡◌, ◌∙◌, ℕ, length, List, ◌∷◌, Option, Some, None, Result, Ok, Err, OnOk, OnErr, refl, sym, arith}
+use Rattle.std.proofs.Common.{◌≡◌, ◌∙◌, length, List, ◌∷◌, Option, None, Result, Ok, Err, OnOk, OnErr, refl, sym, arith}
 use Rattle.sj_base.specs.declared.Msg.{Msg}
 use Rattle.sj_lang.specs.FileAt.{FileAt}
 use Rattle.sj_node.specs.Reading.{parties_of}

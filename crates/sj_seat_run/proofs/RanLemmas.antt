@@ -1,5 +1,5 @@
 -- What comes of parties that have run: their clocks rise, and a fault was counted.
-use Rattle.std.proofs.Common.{◌≡◌, ◌∙◌, ℕ, ◌<◌, ◌≤◌, ◌++◌, max, Bool, List, [], map, length, Option, Some, None, inl, inr, refl, sym, ap, subst, arith}
+use Rattle.std.proofs.Common.{◌≡◌, ◌∙◌, ℕ, ◌<◌, ◌≤◌, ◌++◌, max, Bool, true, false, List, map, Option, Some, None, inl, inr, sym, ap, subst, arith}
 use Rattle.std.specs.Prelude.{slice_get}
 use Rattle.sj_lang.specs.Place.{Place, done}
 use Rattle.sj_lang.specs.FileAt.{FileAt}
@@ -14,11 +14,11 @@ use Rattle.sj_rules.specs.Log.{EntryAt, IsRising}
 use Rattle.sj_rules.specs.Node.{NodeAt}
 use Rattle.sj_rules.specs.NodeRun.{StepAt}
 use Rattle.sj_seat.specs.Views.{laned_at}
-use Rattle.sj_seat_laws.specs.SeatedPlay.{Player, seated_play}
+use Rattle.sj_seat_laws.specs.SeatedPlay.{seated_play}
 use Rattle.sj_seat_laws.specs.SeatedStart.{seat_start}
 use Rattle.sj_semantics.specs.Program.{Program}
 use Rattle.sj_work.specs.Causes.{Cause, MetFault}
-use Rattle.sj_work.specs.Laned.{entries_of, laned}
+use Rattle.sj_work.specs.Laned.{entries_of}
 use Rattle.sj_work.specs.Views.{lanes_of, node_of, stop_of}
 use Rattle.sj_work.specs.declared.worker.Stop.{Stop}
 use Rattle.sj_work.specs.declared.worker.Stop.TheVariants as stops
@@ -52,9 +52,9 @@ module _ {O I : Type 0} (outward : OutLane O) (inward : InLane I) (file : FileAt
       subst (λ (es : List EntryAt). IsRising 0 es) (sym own)
       (subst (λ (c : ℕ). IsRising c (map (λ (s : StepAt Place). s.entry) work.steps)) h.begins.clock rises)
 
-  run_rising : (p : ℕ) (w : Worker O I) → HasRun outward inward file looks tells p w → IsRising 0 (entries_of (log_of (node_of w)))
-  run_rising p w (inl h) = worked_rising p w h
-  run_rising p w (inr h) = played_rising p w h
+  run_rising : (seated : Bool) (p : ℕ) (w : Worker O I) → HasRun outward inward file looks tells seated p w → IsRising 0 (entries_of (log_of (node_of w)))
+  run_rising false p w h = worked_rising p w h
+  run_rising true p w h = played_rising p w h
 
   worked_fault : (p : ℕ) (w : Worker O I) → stop_of w ≡ Some stops.Fault → (h : HasWorked outward inward file looks tells p w) → MetFault outward.faults inward.faults h.old w
   worked_fault p w is h =
@@ -64,14 +64,14 @@ module _ {O I : Type 0} (outward : OutLane O) (inward : InLane I) (file : FileAt
   played_fault : (p : ℕ) (w : Worker O I) → stop_of w ≡ Some stops.Fault → (h : HasPlayed outward inward file tells p w) → MetFault outward.faults inward.faults h.old w
   played_fault p w is h = elim (h.counts.fault is) [ inl was ↦ absurd (let e : None ≡ Some stops.Fault = sym h.idle ∙ was in cc e) | inr met ↦ met ]
 
-  run_fault : (p : ℕ) (w : Worker O I) → stop_of w ≡ Some stops.Fault → HasRun outward inward file looks tells p w → (old : Worker O I) × MetFault outward.faults inward.faults old w
-  run_fault p w is (inl h) = (h.old, worked_fault p w is h)
-  run_fault p w is (inr h) = (h.old, played_fault p w is h)
+  run_fault : (seated : Bool) (p : ℕ) (w : Worker O I) → stop_of w ≡ Some stops.Fault → HasRun outward inward file looks tells seated p w → (old : Worker O I) × MetFault outward.faults inward.faults old w
+  run_fault false p w is h = (h.old, worked_fault p w is h)
+  run_fault true p w is h = (h.old, played_fault p w is h)
 
-  module _ (joined : O → I → Type 0) (workers : List (Worker O I)) (all : AllRan outward inward joined file looks tells workers) where
+  module _ (joined : O → I → Type 0) (seats : ℕ → Bool) (workers : List (Worker O I)) (all : AllRan outward inward joined file looks tells seats workers) where
     -- the clocks of each log rise
     pub all_rising : AllRising workers
-    all_rising p w there = run_rising p w (all.each p w there)
+    all_rising p w there = run_rising (seats p) p w (all.each p w there)
 
     met_fault : (p : ℕ) (w : Worker O I) → slice_get workers p ≡ Some w → (old : Worker O I) → MetFault outward.faults inward.faults old w → HasFault outward.faults inward.faults (map lanes_of workers)
     met_fault p w there old (inl (q, a, b, before, now, rose)) =
@@ -81,4 +81,4 @@ module _ {O I : Type 0} (outward : OutLane O) (inward : InLane I) (file : FileAt
 
     -- a worker that stopped at a fault has a lane that counted one
     pub has_fault : SomeStopped workers stops.Fault → HasFault outward.faults inward.faults (map lanes_of workers)
-    has_fault s = let m = run_fault s.party s.worker s.stopped (all.each s.party s.worker s.there) in met_fault s.party s.worker s.there m.0 m.1
+    has_fault s = let m = run_fault (seats s.party) s.party s.worker s.stopped (all.each s.party s.worker s.there) in met_fault s.party s.worker s.there m.0 m.1

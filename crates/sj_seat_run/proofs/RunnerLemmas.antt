@@ -1,8 +1,7 @@
 -- Parties that began with the lanes of their numbers and took part are the parties of a run.
-use Rattle.std.proofs.Common.{◌≡◌, ◌∙◌, ℕ, zero, suc, ◌<◌, Bool, List, [], ◌∷◌, ◌++◌, map, length, Option, Some, None, inl, inr, refl, sym, ap, subst, arith}
-use Rattle.std.specs.Prelude.{slice_get, vec_len}
+use Rattle.std.proofs.Common.{◌≡◌, ◌∙◌, ℕ, ◌<◌, Bool, false, List, [], ◌∷◌, ◌++◌, map, length, Option, Some, None, refl, sym, ap, subst, arith}
+use Rattle.std.specs.Prelude.{slice_get, unwrap_or, vec_len}
 use Rattle.std.proofs.lemmas.List.{length-map}
-use Rattle.sj_lang.specs.Place.{Place}
 use Rattle.sj_lang.specs.FileAt.{FileAt}
 use Rattle.sj_lane.specs.declared.lane.OutLane.{Ghosts as OutLane}
 use Rattle.sj_lane.specs.declared.lane.InLane.{Ghosts as InLane}
@@ -14,16 +13,16 @@ use Rattle.sj_seat_laws.specs.SeatedStart.{seat_start}
 use Rattle.sj_seat.specs.Views.{seat_of, worker_of}
 use Rattle.sj_seat.specs.Went.{SeatWork}
 use Rattle.sj_seat.specs.declared.guest.Guest.{Guest}
+use Rattle.sj_seats.specs.Seated.{seat_in}
 use Rattle.sj_table.specs.declared.table.Table.{Table}
 use Rattle.sj_work.specs.Counts.{Stands}
-use Rattle.sj_work.specs.Views.{in_of, lanes_of, node_of, out_of, stop_of}
-use Rattle.sj_work.specs.Worked.{Worked}
+use Rattle.sj_work.specs.Views.{in_of, lanes_of, out_of}
 use Rattle.sj_work.specs.declared.worker.Worker.{Worker}
 use Rattle.sj_run.specs.Workers.{AreNew, IsFirst}
-use Rattle.sj_seat_run.proofs.ListLemmas.{below_length, mapped_from, one_more, pairs_more}
+use Rattle.sj_seat_run.proofs.ListLemmas.{below_length, mapped_from, each_more, mapped_at, one_more, pairs_more}
 use Rattle.sj_seat_run.specs.Logged.{AllRan, HasRun}
 use Rattle.sj_seat_run.specs.Played.{Played}
-use Rattle.sj_seat_run.specs.Runners.{AreSeated, HasBegun, HasTakenPart, IsFirstGuest, IsFirstWorker, worker_at}
+use Rattle.sj_seat_run.specs.Runners.{AreSeated, HasBegun, HasTakenPart, IsFirstGuest, IsFirstWorker, is_coded, worker_at}
 use Rattle.sj_seat_run.specs.declared.runners.Runner.{Runner}
 use Rattle.sj_seat_run.specs.declared.runners.Runner.TheVariants.{Coded, Written}
 use Rattle.sj_seat_run.proofs.CarriedLemmas.{Carried, played_carried, same_length, worked_carried}
@@ -55,15 +54,16 @@ seat_begins file t p own g calls x = λ i. record { ends = x.ends i; steps = x.c
 
 module _ {O I G C : Type 0} (file : FileAt) (t : Table) where
   -- nobody has begun
-  pub none_seated : AreSeated {O = O} {I = I} {G = G} {C = C} file t [] 0 []
-  none_seated = record { count = refl; each = λ p c is. absurd (cc is) }
+  pub none_seated : (seats : ℕ → Bool) → AreSeated {O = O} {I = I} {G = G} {C = C} file t seats [] 0 []
+  none_seated seats = record { count = refl; each = λ p c is. absurd (cc is); coded = λ p c is. absurd (cc is) }
 
   -- one more party, with the lanes of its number
-  pub one_seated : (lanes : List (Lanes O I)) (runners : List (Runner O I G C)) (own : Lanes O I) (c : Runner O I G C) → AreSeated file t lanes (length lanes) runners → HasBegun file t (length lanes) own c
-      → AreSeated file t (lanes ++ own ∷ []) (length (lanes ++ own ∷ [])) (runners ++ c ∷ [])
-  one_seated lanes runners own c s begun = record {
+  pub one_seated : (seats : ℕ → Bool) (lanes : List (Lanes O I)) (runners : List (Runner O I G C)) (own : Lanes O I) (c : Runner O I G C) → AreSeated file t seats lanes (length lanes) runners
+      → HasBegun file t (length lanes) own c → is_coded c ≡ seats (length lanes) → AreSeated file t seats (lanes ++ own ∷ []) (length (lanes ++ own ∷ [])) (runners ++ c ∷ [])
+  one_seated seats lanes runners own c s begun coded = record {
     count = one_more runners lanes c own s.count;
     each = pairs_more (λ p l r. HasBegun file t p l r) lanes runners own c s.count s.each begun;
+    coded = each_more (λ p r. is_coded r ≡ seats p) runners c s.coded (coded ∙ ap seats (sym s.count));
   }
 
 module _ {O I G C : Type 0} (outward : OutLane O) (inward : InLane I) (joined : O → I → Type 0)
@@ -71,7 +71,7 @@ module _ {O I G C : Type 0} (outward : OutLane O) (inward : InLane I) (joined : 
     (file : FileAt) (t : Table) (looks : ℕ) (tells : Bool) (lanes : List (Lanes O I)) (hired ran : List (Runner O I G C))
     (square : IsSquare lanes) (many : length lanes ≡ length file.parties) (ends : AllJoined joined lanes)
     (fresh : IsFresh outward.pushed inward.popped outward.vain inward.vain tells lanes) (faultless : NoFault outward.faults inward.faults lanes)
-    (seated : AreSeated file t lanes (length lanes) hired) (as_many : length ran ≡ length hired)
+    (seats : ℕ → Bool) (seated : AreSeated file t seats lanes (length lanes) hired) (as_many : length ran ≡ length hired)
     (each : (p : ℕ) (old new : Runner O I G C) → slice_get hired p ≡ Some old → slice_get ran p ≡ Some new → HasTakenPart outward inward looks old new) where
   abbrev workers : List (Worker O I)
   workers = map worker_at ran
@@ -107,13 +107,13 @@ module _ {O I G C : Type 0} (outward : OutLane O) (inward : InLane I) (joined : 
       (x.went file [] (sym first.begins.parties))
 
   run_of : (p : ℕ) (own : Lanes O I) (old new : Runner O I G C) → slice_get lanes p ≡ Some own → HasBegun file t p own old → HasTakenPart outward inward looks old new
-      → HasRun outward inward file looks tells p (worker_at new)
+      → HasRun outward inward file looks tells (is_coded new) p (worker_at new)
   run_of p own (Written w) (Written x) there first part =
-      inl (record { old = w; first = first_is file t p own w first; new = are_new p own w there first.lanes; worked = part })
+      record { old = w; first = first_is file t p own w first; new = are_new p own w there first.lanes; worked = part }
   run_of p own (Written w) (Coded b) there first part = absurd part
   run_of p own (Coded a) (Written x) there first part = absurd part
   run_of p own (Coded a) (Coded b) there first part =
-      inr (record {
+      record {
         old = worker_of a.guest;
         begins = first.begins;
         idle = first.idle;
@@ -122,7 +122,7 @@ module _ {O I G C : Type 0} (outward : OutLane O) (inward : InLane I) (joined : 
         seat = seat_of [] b.guest;
         work = seat_work p own a.guest b.guest first part;
         counts = part.counts;
-      })
+      }
 
   past_of : (p : ℕ) (own : Lanes O I) (old new : Runner O I G C) → slice_get lanes p ≡ Some own → HasBegun file t p own old → HasTakenPart outward inward looks old new
       → Past p (worker_at new)
@@ -139,9 +139,21 @@ module _ {O I G C : Type 0} (outward : OutLane O) (inward : InLane I) (joined : 
         carried = played_carried outward inward file (seat_start file p (part.calls [])) (seat_of [] b.guest) (worker_of a.guest) (worker_of b.guest) (seat_work p own a.guest b.guest first part) part.counts;
       }
 
+  coded_still : (old new : Runner O I G C) → HasTakenPart outward inward looks old new → is_coded new ≡ is_coded old
+  coded_still (Written w) (Written x) part = refl
+  coded_still (Written w) (Coded b) part = absurd part
+  coded_still (Coded a) (Written x) part = absurd part
+  coded_still (Coded a) (Coded b) part = refl
+
+  -- those with a seat are played by code
+  coded_is : (p : ℕ) (c : Runner O I G C) → slice_get ran p ≡ Some c → is_coded c ≡ seats p
+  coded_is p c at =
+      let h = there_is hired p (let lt = below_length ran p c at in omega (arith, lt, as_many)) in
+      coded_still h.0 c (each p h.0 c h.1 at) ∙ seated.coded p h.0 h.1
+
   -- what a worker comes of
   record Source (p : ℕ) (w : Worker O I) : Type 0 where
-    pub run : HasRun outward inward file looks tells p w
+    pub run : HasRun outward inward file looks tells (seats p) p w
     pub past : Past p w
 
   source : (p : ℕ) (w : Worker O I) → slice_get workers p ≡ Some w → Source p w
@@ -150,7 +162,7 @@ module _ {O I G C : Type 0} (outward : OutLane O) (inward : InLane I) (joined : 
       let h = there_is hired p (let lt = below_length ran p r.0 r.1 in omega (arith, lt, as_many)) in
       let b = seated.each p h.0 h.1 in
       let part = each p h.0 r.0 h.1 r.1 in
-      subst (λ (v : Worker O I). Source p v) r.2 (record { run = run_of p b.0 h.0 r.0 b.1 b.2 part; past = past_of p b.0 h.0 r.0 b.1 b.2 part })
+      subst (λ (v : Worker O I). Source p v) r.2 (record { run = subst (λ (s : Bool). HasRun outward inward file looks tells s p (worker_at r.0)) (coded_is p r.0 r.1) (run_of p b.0 h.0 r.0 b.1 b.2 part); past = past_of p b.0 h.0 r.0 b.1 b.2 part })
 
   all_count : length workers ≡ length file.parties
   all_count = length-map ran worker_at ∙ as_many ∙ seated.count ∙ many
@@ -183,10 +195,16 @@ module _ {O I G C : Type 0} (outward : OutLane O) (inward : InLane I) (joined : 
       later first_out.0 o first_in.0 i
       (ends p q first_out.0 first_in.0 (out_lane p q a.own a.old first_out.0 a.there a.lanes_are first_out.1) (in_lane q p b.own b.old first_in.0 b.there b.lanes_are first_in.1)) first_out.2 first_in.2
 
-  pub all_ran : AllRan outward inward joined file looks tells workers
+  pub all_ran : AllRan outward inward joined file looks tells seats workers
   all_ran = record {
     count = all_count;
     square = is_square;
     ends = all_joined;
     each = λ p w at. (source p w at).run;
   }
+
+  -- so the codes that are left are those of the same parties
+  pub same_seats : (p : ℕ) → p < length file.parties → seat_in (map is_coded ran) p ≡ seats p
+  same_seats p lt =
+      let r = there_is ran p (omega (arith, lt, as_many, seated.count, many)) in
+      ap (λ o. unwrap_or o false) (mapped_at is_coded ran p r.0 r.1) ∙ coded_is p r.0 r.1

@@ -1,3 +1,4 @@
+pub mod Seats
 pub mod Runners
 pub mod Logged
 pub mod Played

@@ -1,5 +1,5 @@
 -- The workers of the parties of a run with seats, at its end, and the lines that they logged.
-use Rattle.std.specs.Prelude.{◌≡◌, ◌⊎◌, ℕ, Bool, List, [], map, length, slice_get, Option, Some, None}
+use Rattle.std.specs.Prelude.{◌≡◌, ℕ, Bool, true, false, List, map, length, slice_get, Some, None}
 use Rattle.sj_lang.specs.FileAt.{FileAt}
 use Rattle.sj_lane.specs.declared.lane.OutLane.{Ghosts as OutLane}
 use Rattle.sj_lane.specs.declared.lane.InLane.{Ghosts as InLane}
@@ -28,22 +28,23 @@ module _ {O I : Type 0} (outward : OutLane O) (inward : InLane I) where
     pub work : SeatWork outward inward file (seat_start file p calls) seat old w
     pub counts : Counted outward inward old w
 
-  -- the party went by the file, or code played it
-  abbrev pub HasRun : FileAt → (looks : ℕ) → (tells : Bool) → ℕ → Worker O I → Type 0
-  HasRun file looks tells p w = HasWorked outward inward file looks tells p w ⊎ HasPlayed file tells p w
+  -- code played the party, where it has a seat; where it has none it went by the file
+  abbrev pub HasRun : FileAt → (looks : ℕ) → (tells seated : Bool) → ℕ → Worker O I → Type 0
+  HasRun file looks tells false p w = HasWorked outward inward file looks tells p w
+  HasRun file looks tells true p w = HasPlayed file tells p w
 
   -- so did all parties, and their lanes are the two ends of each link
-  pub record AllRan (joined : O → I → Type 0) (file : FileAt) (looks : ℕ) (tells : Bool) (workers : List (Worker O I)) : Type 0 where
+  pub record AllRan (joined : O → I → Type 0) (file : FileAt) (looks : ℕ) (tells : Bool) (seats : ℕ → Bool) (workers : List (Worker O I)) : Type 0 where
     pub count : length workers ≡ length file.parties
     pub square : IsSquare (map lanes_of workers)
     pub ends : AllJoined joined (map lanes_of workers)
-    pub each : (p : ℕ) (w : Worker O I) → slice_get workers p ≡ Some w → HasRun file looks tells p w
+    pub each : (p : ℕ) (w : Worker O I) → slice_get workers p ≡ Some w → HasRun file looks tells (seats p) p w
 
   -- the lines are the joined logs of workers that ran over such lanes, of which none stopped at a
   -- fault, out of memory or as unfit
-  pub record AreLoggedBy (joined : O → I → Type 0) (file : FileAt) (looks : ℕ) (tells : Bool) (lines : List LineAt) : Type 0 where
+  pub record AreLoggedBy (joined : O → I → Type 0) (file : FileAt) (looks : ℕ) (tells : Bool) (seats : ℕ → Bool) (lines : List LineAt) : Type 0 where
     pub workers : List (Worker O I)
-    pub ran : AllRan joined file looks tells workers
+    pub ran : AllRan joined file looks tells seats workers
     pub faultless : NoneStopped workers stops.Fault
     pub remembers : NoneStopped workers stops.NoMemory
     pub fits : NoneStopped workers stops.Unfit

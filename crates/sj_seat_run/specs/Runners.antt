@@ -1,5 +1,5 @@
 -- The parties of a run, each by the file or by code: before any event, and at the end.
-use Rattle.std.specs.Prelude.{◌≡◌, ℕ, ◌<◌, List, length, slice_get, Option, Some, None}
+use Rattle.std.specs.Prelude.{◌≡◌, ℕ, Bool, true, false, List, length, slice_get, Some, None}
 use Rattle.sj_lang.specs.FileAt.{FileAt}
 use Rattle.sj_lane.specs.declared.lane.Lanes.{Lanes}
 use Rattle.sj_lane.specs.declared.lane.OutLane.{Ghosts as OutLane}
@@ -23,6 +23,11 @@ module _ {O I G C : Type 0} where
   worker_at (Written w) = w
   worker_at (Coded a) = worker_of a.guest
 
+  -- code plays the party
+  abbrev pub is_coded : Runner O I G C → Bool
+  is_coded (Written w) = false
+  is_coded (Coded a) = true
+
 -- a worker that goes by the file, before any event, with these lanes
 pub record IsFirstWorker {O I : Type 0} (file : FileAt) (t : Table) (p : ℕ) (own : Lanes O I) (w : Worker O I) : Type 0 where
   pub begins : Begins file p 0 (node_of w)
@@ -45,10 +50,11 @@ module _ {O I G C : Type 0} (file : FileAt) (t : Table) where
   HasBegun p own (Written w) = IsFirstWorker file t p own w
   HasBegun p own (Coded a) = IsFirstGuest file t p own a.guest
 
-  -- so many parties, each with the lanes of its number
-  pub record AreSeated (lanes : List (Lanes O I)) (many : ℕ) (runners : List (Runner O I G C)) : Type 0 where
+  -- so many parties, each with the lanes of its number, and those with a code that have a seat
+  pub record AreSeated (seats : ℕ → Bool) (lanes : List (Lanes O I)) (many : ℕ) (runners : List (Runner O I G C)) : Type 0 where
     pub count : length runners ≡ many
     pub each : (p : ℕ) (c : Runner O I G C) → slice_get runners p ≡ Some c → (own : Lanes O I) × (slice_get lanes p ≡ Some own) × HasBegun p own c
+    pub coded : (p : ℕ) (c : Runner O I G C) → slice_get runners p ≡ Some c → is_coded c ≡ seats p
 
 module _ {O I G C : Type 0} (outward : OutLane O) (inward : InLane I) where
   -- a party that goes by the file worked, and one that code plays went by what that asked for

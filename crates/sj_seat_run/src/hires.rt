@@ -1,12 +1,14 @@
 //! The parties before any event, with their lanes.
-ghost use Rattle.std.specs.Prelude.{◌≡◌, ◌<◌, ◌≤◌, ℕ, Err, IfOk, length, vec_len};
+ghost use Rattle.std.specs.Prelude.{◌≡◌, ◌<◌, ◌≤◌, ℕ, Err, IfErr, IfOk, is_some, length, vec_len};
 ghost use Rattle.sj_check.specs.Held.{file_in as held};
 ghost use Rattle.sj_lane.specs.Square.{AllJoined, IsFresh, IsSquare, NoFault};
 ghost use Rattle.sj_lane.specs.Told.{Rose};
 ghost use Rattle.sj_lang.specs.FileAt.{body_named};
 ghost use Rattle.sj_lang.specs.FileView.{file_of};
 ghost use Rattle.sj_seat.specs.Places.{CarriesPlaces};
-ghost use Rattle.sj_seat_run.specs.Runners.{AreSeated, HasBegun};
+ghost use Rattle.sj_seat_run.specs.Refusals.{IsEarly};
+ghost use Rattle.sj_seat_run.specs.Runners.{AreSeated, HasBegun, is_coded};
+ghost use Rattle.sj_seat_run.specs.Seats.{seats_by};
 ghost use Rattle.sj_table.specs.Spots.{start_in};
 
 use crate::refusal::SeatedRefusal;
@@ -31,6 +33,7 @@ pub(crate) fn lanes_for<L: Links>(
     ensures fresh { IfOk result (λ v. IsFresh L.Out.pushed L.In.popped L.Out.vain L.In.vain (L.tells links.old) v.items) }
     ensures faultless { IfOk result (λ v. NoFault L.Out.faults L.In.faults v.items) }
     ensures link_fault { result ≡ Err SeatedRefusal.LinkFault → Rose (L.faults links.old) (L.faults links.new) }
+    ensures early { IfErr result IsEarly }
     ensures tells { L.tells links.new ≡ L.tells links.old }
     ensures faults { L.faults links.old ≤ L.faults links.new }
 {
@@ -56,7 +59,8 @@ fn seat_for<'a, O: OutLane, I: InLane, G, C: Drop>(
     requires starts { (p : ℕ) → start_in table.now p
         ≡ body_named (file_of (held accepted.now)).protocols p }
     requires carries { CarriesPlaces table.now }
-    ensures { IfOk result (HasBegun (file_of (held accepted.now)) table.now party lanes) }
+    ensures begun { IfOk result (HasBegun (file_of (held accepted.now)) table.now party lanes) }
+    ensures coded { IfOk result (λ r. is_coded r ≡ is_some code) }
 {
     match code {
         None => {
@@ -85,8 +89,8 @@ pub(crate) fn take_seats<'a, O: OutLane, I: InLane, G, C: Drop>(
     requires starts { (p : ℕ) → start_in table.now p
         ≡ body_named (file_of (held accepted.now)).protocols p }
     requires carries { CarriesPlaces table.now }
-    ensures { IfOk result (λ runners. AreSeated (file_of (held accepted.now)) table.now lanes.items
-        (length lanes.items) runners.items) }
+    ensures { IfOk result (λ runners. AreSeated (file_of (held accepted.now)) table.now
+        (seats_by codes.items) lanes.items (length lanes.items) runners.items) }
 {
     let mut codes = codes.into_iter();
     let mut runners = Vec::new(alloc);

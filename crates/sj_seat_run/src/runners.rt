@@ -1,6 +1,6 @@
 //! The parties of a run, each by the file or by code.
-ghost use Rattle.std.specs.Prelude.{◌≡◌};
-ghost use Rattle.sj_seat_run.specs.Runners.{worker_at};
+ghost use Rattle.std.specs.Prelude.{◌≡◌, is_some};
+ghost use Rattle.sj_seat_run.specs.Runners.{is_coded, worker_at};
 
 use sj_seat::Guest;
 use sj_work::Worker;
@@ -27,7 +27,8 @@ impl<O, I, G, C> Runner<'_, O, I, G, C> {
 
     /// Its worker, and its code where it has one.
     pub fn into_parts(self) -> (Worker<O, I>, Option<C>)
-        ensures { result.0 ≡ worker_at self.entry }
+        ensures worker { result.0 ≡ worker_at self.entry }
+        ensures code { is_some result.1 ≡ is_coded self.entry }
     {
         match self {
             Runner::Written(worker) => (worker, None),

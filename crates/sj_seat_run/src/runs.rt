@@ -1,5 +1,5 @@
 //! A file run with seats.
-ghost use Rattle.std.specs.Prelude.{◌≡◌, ◌≤◌, Err, IfErr, IfOk, ℕ, is_some, length, map, max};
+ghost use Rattle.std.specs.Prelude.{◌≡◌, ◌≤◌, Err, IfErr, IfOk, ℕ, length, map, max};
 ghost use Rattle.sj_check.specs.Held.{file_in as held};
 ghost use Rattle.sj_lane.specs.Told.{Rose};
 ghost use Rattle.sj_end.specs.Lines.{line_at};
@@ -8,10 +8,11 @@ ghost use Rattle.sj_lang.specs.FileView.{file_of};
 ghost use Rattle.sj_plain.specs.Kept.{without_words};
 ghost use Rattle.sj_seat_told_laws.specs.SeatsHistory.{IsSeatsHistory};
 ghost use Rattle.sj_seat.specs.Places.{CarriesPlaces};
-ghost use Rattle.sj_seats.specs.Seated.{callers_of, core_of, history_of, kept_file, party_count, seat_in, seats_of};
+ghost use Rattle.sj_seats.specs.Seated.{callers_of, core_of, history_of, kept_file, party_count, seats_of};
 ghost use Rattle.sj_table.specs.Spots.{start_in};
-ghost use Rattle.sj_seat_run.specs.Refusals.{IsOfReplay, IsOfTable};
 ghost use Rattle.sj_seat_run.specs.Logged.{AreLoggedBy};
+ghost use Rattle.sj_seat_run.specs.Refusals.{IsOfReplay, IsOfTable, IsRefusedOver};
+ghost use Rattle.sj_seat_run.specs.Seats.{HasSameSeats, seats_by};
 
 use crate::play::Play;
 use crate::refusal::SeatedRefusal;
@@ -65,10 +66,10 @@ fn seated_world<C>(
     requires count { length codes.now ≡ length (file_of (held accepted.now)).parties }
     ensures kept { IfOk result (λ w. kept_file w ≡ without_words (file_of (held accepted.now))) }
     ensures history { IfOk result (λ w. history_of w ≡ map line_at lines.items) }
-    ensures seats { IfOk result (λ w. (q : ℕ) → seats_of w q ≡ seat_in (map is_some codes.now) q) }
+    ensures seats { IfOk result (λ w. (q : ℕ) → seats_of w q ≡ seats_by codes.now q) }
     ensures run { IfOk result (λ w. IsSeatsHistory max (kept_file w) (callers_of w) (history_of w) (core_of w)) }
     ensures parties { IfOk result (λ w. party_count w ≡ length (kept_file w).parties) }
-    ensures cause { IfErr result IsOfReplay }
+    ensures cause { IfErr result (IsOfReplay (file_of (held accepted.now)) (seats_by codes.now) (map line_at lines.items)) }
 {
     let seats = seats_of(alloc, codes)?;
     match SeatedWorld::replayed(alloc, accepted, table, &seats, lines) {
@@ -99,13 +100,23 @@ pub fn run_seated<R: Threads + Sync, L: Links, G: Gate, C: Play + Send + Drop>(
         (history_of r.world) (core_of r.world)) }
     ensures parties { IfOk result (λ r. party_count r.world ≡ length (kept_file r.world).parties) }
 
-    // Its history is the joined logs of workers that worked over lanes of these links, of which none
-    // stopped at a fault, out of memory or as unfit.
-    ensures logged { IfOk result (λ r. AreLoggedBy L.Out.OutLane L.In.InLane L.joined
-        (file_of (held accepted.now)) looks (L.tells links.old) (history_of r.world)) }
+    // The parties with a code have a seat in it, and no others. Their codes come back.
+    ensures seats { IfOk result (λ r. (q : ℕ) → seats_of r.world q ≡ seats_by r.codes.items q) }
+    ensures codes { IfOk result (λ r. HasSameSeats (length (file_of (held accepted.now)).parties)
+        codes.items r.codes.items) }
 
-    // A fault comes only where the links counted one.
+    // Its history is the joined logs of workers that worked over lanes of these links, of which none
+    // stopped at a fault, out of memory or as unfit. Each party with a code was played by it, and
+    // each other one went by the file.
+    ensures logged { IfOk result (λ r. AreLoggedBy L.Out.OutLane L.In.InLane L.joined
+        (file_of (held accepted.now)) looks (L.tells links.old) (seats_by codes.items)
+        (history_of r.world)) }
+
+    // A fault comes only where the links counted one. Damage and what is unfit are in the joined
+    // logs of such workers, of which none stopped at a fault.
     ensures link_fault { result ≡ Err SeatedRefusal.LinkFault → Rose (L.faults links.old) (L.faults links.new) }
+    ensures cause { IfErr result (IsRefusedOver L.Out.OutLane L.In.InLane L.joined
+        (file_of (held accepted.now)) looks (L.tells links.old) (seats_by codes.items)) }
 
     // What the links are stays, and their count of faults doesn't fall.
     ensures tells { L.tells links.new ≡ L.tells links.old }
@@ -124,7 +135,10 @@ pub fn run_seated<R: Threads + Sync, L: Links, G: Gate, C: Play + Send + Drop>(
     if faulty {
         return Err(SeatedRefusal::LinkFault);
     }
-    let world = seated_world(alloc, accepted, &table, &codes, lines)?;
+    let world = match seated_world(alloc, accepted, &table, &codes, lines) {
+        Ok(world) => world,
+        Err(refusal) => return Err(refusal),
+    };
     if unfit {
         return Err(SeatedRefusal::Unfit);
     }

@@ -1,12 +1,14 @@
 //! All parties of a file, each on a thread of its own.
-ghost use Rattle.std.specs.Prelude.{◌≡◌, ◌<◌, ◌≤◌, ℕ, Err, IfOk, length, map, slice_index_or};
+ghost use Rattle.std.specs.Prelude.{◌≡◌, ◌<◌, ◌≤◌, ℕ, Err, IfErr, IfOk, length, slice_index_or};
 ghost use Rattle.sj_check.specs.Held.{file_in as held};
 ghost use Rattle.sj_lane.specs.Told.{Rose};
 ghost use Rattle.sj_lang.specs.FileAt.{body_named};
 ghost use Rattle.sj_lang.specs.FileView.{file_of};
 ghost use Rattle.sj_seat.specs.Places.{CarriesPlaces};
 ghost use Rattle.sj_seat_run.specs.Logged.{AllRan};
-ghost use Rattle.sj_seat_run.specs.Runners.{HasTakenPart, worker_at};
+ghost use Rattle.sj_seat_run.specs.Refusals.{IsEarly};
+ghost use Rattle.sj_seat_run.specs.Runners.{HasTakenPart};
+ghost use Rattle.sj_seat_run.specs.Seats.{HasSameSeats, seats_by};
 ghost use Rattle.sj_table.specs.Spots.{start_in};
 
 use crate::hires::{lanes_for, take_seats};
@@ -76,10 +78,12 @@ pub(crate) fn run_all<R: Threads + Sync, L: Links, G: Gate, C: Play + Send + Dro
         ≡ body_named (file_of (held accepted.now)).protocols p }
     requires carries { CarriesPlaces table.now }
     ensures ran { IfOk result (λ r. AllRan L.Out.OutLane L.In.InLane L.joined
-        (file_of (held accepted.now)) looks (L.tells links.old) r.workers.items) }
-    ensures codes { IfOk result (λ r. length r.codes.items ≡ length r.workers.items) }
+        (file_of (held accepted.now)) looks (L.tells links.old) (seats_by codes.items) r.workers.items) }
+    ensures codes { IfOk result (λ r. HasSameSeats (length (file_of (held accepted.now)).parties)
+        codes.items r.codes.items) }
     ensures few { IfOk result (λ r. length r.workers.items ≤ 16) }
     ensures link_fault { result ≡ Err SeatedRefusal.LinkFault → Rose (L.faults links.old) (L.faults links.new) }
+    ensures early { IfErr result IsEarly }
     ensures tells { L.tells links.new ≡ L.tells links.old }
     ensures faults { L.faults links.old ≤ L.faults links.new }
 {
