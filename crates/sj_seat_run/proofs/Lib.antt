@@ -1,3 +1,4 @@
+mod BegunLemmas
 mod CarriedLemmas
 mod ListLemmas
 mod LogLemmas

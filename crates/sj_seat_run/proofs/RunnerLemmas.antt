@@ -1,5 +1,5 @@
 -- Parties that began with the lanes of their numbers and took part are the parties of a run.
-use Rattle.std.proofs.Common.{◌≡◌, ◌∙◌, ℕ, ◌<◌, Bool, false, List, [], ◌∷◌, ◌++◌, map, length, Option, Some, None, refl, sym, ap, subst, arith}
+use Rattle.std.proofs.Common.{◌≡◌, ◌∙◌, ℕ, ◌<◌, Bool, false, List, [], map, length, Some, refl, sym, ap, subst, arith}
 use Rattle.std.specs.Prelude.{slice_get, unwrap_or, vec_len}
 use Rattle.std.proofs.lemmas.List.{length-map}
 use Rattle.sj_lang.specs.FileAt.{FileAt}
@@ -8,7 +8,7 @@ use Rattle.sj_lane.specs.declared.lane.InLane.{Ghosts as InLane}
 use Rattle.sj_lane.specs.declared.lane.Lanes.{Lanes}
 use Rattle.sj_lane.specs.Square.{AllJoined, IsFresh, IsSquare, NoFault, in_at, in_in, out_at, out_in}
 use Rattle.sj_lane.proofs.BackLemmas.{slice_get_some as there_is}
-use Rattle.sj_seat_laws.specs.Calls.{Call, SeatedAt}
+use Rattle.sj_seat_laws.specs.Calls.{SeatedAt}
 use Rattle.sj_seat_laws.specs.SeatedStart.{seat_start}
 use Rattle.sj_seat.specs.Views.{seat_of, worker_of}
 use Rattle.sj_seat.specs.Went.{SeatWork}
@@ -18,53 +18,15 @@ use Rattle.sj_table.specs.declared.table.Table.{Table}
 use Rattle.sj_work.specs.Counts.{Stands}
 use Rattle.sj_work.specs.Views.{in_of, lanes_of, out_of}
 use Rattle.sj_work.specs.declared.worker.Worker.{Worker}
-use Rattle.sj_run.specs.Workers.{AreNew, IsFirst}
-use Rattle.sj_seat_run.proofs.ListLemmas.{below_length, mapped_from, each_more, mapped_at, one_more, pairs_more}
+use Rattle.sj_run.specs.Workers.{AreNew}
+use Rattle.sj_seat_run.proofs.ListLemmas.{below_length, mapped_at, mapped_from}
 use Rattle.sj_seat_run.specs.Logged.{AllRan, HasRun}
 use Rattle.sj_seat_run.specs.Played.{Played}
-use Rattle.sj_seat_run.specs.Runners.{AreSeated, HasBegun, HasTakenPart, IsFirstGuest, IsFirstWorker, is_coded, worker_at}
+use Rattle.sj_seat_run.specs.Runners.{AreSeated, HasBegun, HasTakenPart, IsFirstGuest, is_coded, worker_at}
 use Rattle.sj_seat_run.specs.declared.runners.Runner.{Runner}
 use Rattle.sj_seat_run.specs.declared.runners.Runner.TheVariants.{Coded, Written}
+use Rattle.sj_seat_run.proofs.BegunLemmas.{first_is, in_where, out_where, seat_begins}
 use Rattle.sj_seat_run.proofs.CarriedLemmas.{Carried, played_carried, same_length, worked_carried}
-
--- a lane that is there is some party's
-out_where : {O I : Type 0} (l : Option (Lanes O I)) (q : ℕ) (o : O) → out_in l q ≡ Some o → (x : Lanes O I) × (l ≡ Some x) × (slice_get x.outs.items q ≡ Some o)
-out_where None q o is = absurd (cc is)
-out_where (Some x) q o is = (x, refl, is)
-
-in_where : {O I : Type 0} (l : Option (Lanes O I)) (q : ℕ) (i : I) → in_in l q ≡ Some i → (x : Lanes O I) × (l ≡ Some x) × (slice_get x.ins.items q ≡ Some i)
-in_where None q i is = absurd (cc is)
-in_where (Some x) q i is = (x, refl, is)
-
--- the node of a party that goes by the file
-pub first_is : {O I : Type 0} (file : FileAt) (t : Table) (p : ℕ) (own : Lanes O I) (w : Worker O I) → IsFirstWorker file t p own w → IsFirst file p w
-first_is file t p own w x = record {
-  party = x.begins.party;
-  parties = x.begins.parties;
-  play = x.begins.play;
-  node = x.begins.node;
-  log = x.begins.log;
-  boxes = x.begins.boxes;
-  idle = x.idle;
-}
-
--- the party that code plays, before its first call
-pub seat_begins : {O I G : Type 0} (file : FileAt) (t : Table) (p : ℕ) (own : Lanes O I) (g : Guest O I G) (calls : List Call) → IsFirstGuest file t p own g → seat_of calls g ≡ seat_start file p calls
-seat_begins file t p own g calls x = λ i. record { ends = x.ends i; steps = x.calls i; calls = calls; may = x.may i }
-
-module _ {O I G C : Type 0} (file : FileAt) (t : Table) where
-  -- nobody has begun
-  pub none_seated : (seats : ℕ → Bool) → AreSeated {O = O} {I = I} {G = G} {C = C} file t seats [] 0 []
-  none_seated seats = record { count = refl; each = λ p c is. absurd (cc is); coded = λ p c is. absurd (cc is) }
-
-  -- one more party, with the lanes of its number
-  pub one_seated : (seats : ℕ → Bool) (lanes : List (Lanes O I)) (runners : List (Runner O I G C)) (own : Lanes O I) (c : Runner O I G C) → AreSeated file t seats lanes (length lanes) runners
-      → HasBegun file t (length lanes) own c → is_coded c ≡ seats (length lanes) → AreSeated file t seats (lanes ++ own ∷ []) (length (lanes ++ own ∷ [])) (runners ++ c ∷ [])
-  one_seated seats lanes runners own c s begun coded = record {
-    count = one_more runners lanes c own s.count;
-    each = pairs_more (λ p l r. HasBegun file t p l r) lanes runners own c s.count s.each begun;
-    coded = each_more (λ p r. is_coded r ≡ seats p) runners c s.coded (coded ∙ ap seats (sym s.count));
-  }
 
 module _ {O I G C : Type 0} (outward : OutLane O) (inward : InLane I) (joined : O → I → Type 0)
     (later : (o p : O) (i j : I) → joined o i → outward.same o p → inward.same i j → joined p j)

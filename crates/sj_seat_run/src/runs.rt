@@ -69,7 +69,8 @@ fn seated_world<C>(
     ensures seats { IfOk result (λ w. (q : ℕ) → seats_of w q ≡ seats_by codes.now q) }
     ensures run { IfOk result (λ w. IsSeatsHistory max (kept_file w) (callers_of w) (history_of w) (core_of w)) }
     ensures parties { IfOk result (λ w. party_count w ≡ length (kept_file w).parties) }
-    ensures cause { IfErr result (IsOfReplay (file_of (held accepted.now)) (seats_by codes.now) (map line_at lines.items)) }
+    ensures cause { IfErr result (IsOfReplay (file_of (held accepted.now)) (seats_by codes.now)
+        (map line_at lines.items)) }
 {
     let seats = seats_of(alloc, codes)?;
     match SeatedWorld::replayed(alloc, accepted, table, &seats, lines) {

@@ -78,7 +78,8 @@ pub(crate) fn run_all<R: Threads + Sync, L: Links, G: Gate, C: Play + Send + Dro
         ≡ body_named (file_of (held accepted.now)).protocols p }
     requires carries { CarriesPlaces table.now }
     ensures ran { IfOk result (λ r. AllRan L.Out.OutLane L.In.InLane L.joined
-        (file_of (held accepted.now)) looks (L.tells links.old) (seats_by codes.items) r.workers.items) }
+        (file_of (held accepted.now)) looks (L.tells links.old) (seats_by codes.items)
+        r.workers.items) }
     ensures codes { IfOk result (λ r. HasSameSeats (length (file_of (held accepted.now)).parties)
         codes.items r.codes.items) }
     ensures few { IfOk result (λ r. length r.workers.items ≤ 16) }

@@ -6,7 +6,7 @@ use Rattle.sj_seat_run.specs.Runners.{AreSeated, HasBegun}
 use Rattle.sj_seat_run.specs.Seats.{seats_by}
 use Rattle.sj_seat_run.specs.declared.runners.Runner.{Runner}
 use Rattle.sj_seat_run.proofs.ListLemmas.{all_yielded, many_yielded, one_yielded}
-use Rattle.sj_seat_run.proofs.RunnerLemmas.{one_seated}
+use Rattle.sj_seat_run.proofs.BegunLemmas.{one_seated}
 use Rattle.sj_seat_run.proofs.SeatLemmas.{none_left, none_next, one_taken, some_next}
 use Rattle.sj_seat_run.proofs.hires.take_seats.Goals as goal
 use Rattle.sj_seat_run.proofs.hires.take_seats.Goals.{in-None-next, in-Some-next}
