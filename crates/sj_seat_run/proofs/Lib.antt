@@ -1,0 +1,11 @@
+mod BegunLemmas
+mod CarriedLemmas
+mod ListLemmas
+mod LogLemmas
+mod PlayedLemmas
+mod RanLemmas
+mod RefusalLemmas
+mod RunnerLemmas
+mod SeatLemmas
+mod SendLemmas
+mod StopLemmas

@@ -1,0 +1,18 @@
+use Rattle.std.proofs.Common.{◌≡◌, ◌∙◌, None, ap, sym}
+use Rattle.sj_seat.specs.Views.{worker_of}
+use Rattle.sj_work.proofs.LaneLaws.{laws}
+use Rattle.sj_work.specs.Views.{stop_of}
+use Rattle.sj_work.specs.Worked.{kept_stop}
+use Rattle.sj_seat_run.proofs.PlayedLemmas.{played_rest, played_then}
+use Rattle.sj_seat_run.proofs.parts.attend_beside.Goals as goal
+
+pub returns-then-not-stays : goal.returns-then-not-stays
+returns-then-not-stays g c =
+    let ol = g.met.O.OutLane g.world.𝓛 g.world.𝓜 g.world.𝓡 (λ s x. x, λ x. x, λ x. x, λ x. x) in
+    let il = g.met.I.InLane g.world.𝓛 g.world.𝓜 g.world.𝓡 (λ s x. x, λ x. x, λ x. x, λ x. x) in
+    let k = laws g.O.OutLane g.I.InLane ol.same_itself ol.same_later il.same_itself il.same_later in
+    let l = c.attend_while.new.guest in
+    let m = c.attend.new.self in
+    let h = c.attend.ensures in
+    let kept : kept_stop (stop_of (worker_of l)) ≡ None = ap kept_stop (sym (c.stop.ensures ∙ ap stop_of c.worker.ensures)) ∙ c.stays.ensures c.if-not-stays.true in
+    played_then k c.args.guest.now l m kept c.attend_while.ensures (played_rest k l m h.went h.keeps h.counts)

@@ -1,0 +1,5 @@
+pub mod Seats
+pub mod Runners
+pub mod Logged
+pub mod Played
+pub mod Refusals

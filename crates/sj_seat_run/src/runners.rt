@@ -1,0 +1,41 @@
+//! The parties of a run, each by the file or by code.
+ghost use Rattle.std.specs.Prelude.{◌≡◌, is_some};
+ghost use Rattle.sj_seat_run.specs.Runners.{is_coded, worker_at};
+
+use sj_seat::Guest;
+use sj_work::Worker;
+
+/// A party that code plays, and its code.
+#[derive(Drop)]
+pub(crate) struct Actor<'a, O, I, G, C> {
+    pub guest: Guest<'a, O, I, G>,
+    pub code: C,
+}
+
+/// A party of a run: it goes by the file, or code plays it.
+#[derive(Drop)]
+pub(crate) enum Runner<'a, O, I, G, C> {
+    Written(Worker<O, I>),
+    Coded(Actor<'a, O, I, G, C>),
+}
+
+impl<O, I, G, C> Runner<'_, O, I, G, C> {
+    /// Whether code plays it.
+    pub fn is_coded(&self) -> bool {
+        matches!(self, Runner::Coded(..))
+    }
+
+    /// Its worker, and its code where it has one.
+    pub fn into_parts(self) -> (Worker<O, I>, Option<C>)
+        ensures worker { result.0 ≡ worker_at self.entry }
+        ensures code { is_some result.1 ≡ is_coded self.entry }
+    {
+        match self {
+            Runner::Written(worker) => (worker, None),
+            Runner::Coded(actor) => {
+                let (worker, _) = actor.guest.leave();
+                (worker, Some(actor.code))
+            }
+        }
+    }
+}

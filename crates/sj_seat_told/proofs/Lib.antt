@@ -1,0 +1,4 @@
+pub mod StandLemmas
+pub mod OpenedLemmas
+pub mod FirstLemmas
+pub mod TranscriptLemmas

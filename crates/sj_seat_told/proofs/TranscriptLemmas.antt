@@ -1,0 +1,38 @@
+-- The transcript at the end, by what the history and the nodes report.
+use Rattle.std.proofs.Common.{◌≡◌, ℕ, ◌≤◌, max, List, ◌++◌, length, map, ap, sym, ◌∙◌, subst}
+use Rattle.sj_core.proofs.LawLemmas.{max_picks}
+use Rattle.sj_lang.specs.FileAt.{FileAt}
+use Rattle.sj_lang.specs.Place.{Place}
+use Rattle.sj_print.specs.Parts.{standing_text}
+use Rattle.sj_rules.specs.History.{IsQuietAmong}
+use Rattle.sj_rules.specs.World.{WorldAt}
+use Rattle.sj_seat_laws.specs.SeatedPlay.{Player, seated_play}
+use Rattle.sj_seat_laws.specs.SeatsWorld.{SeatsWorld}
+use Rattle.sj_seat_told.specs.Quiet.{HasOpenedNone, IsEndOf, IsQuietOf}
+use Rattle.sj_seat_told.specs.Standing.{AreNodeStands}
+use Rattle.sj_seat_told.specs.Transcript.{IsUnopenedEnd}
+use Rattle.sj_seat_told.proofs.OpenedLemmas.{none_at_end}
+use Rattle.sj_seat_told.proofs.StandLemmas.{stands_at_end}
+use Rattle.sj_seat_told_laws.specs.SeatsHistory.{IsSeatsHistory}
+use Rattle.sj_seat_told_laws.specs.SeatsTranscript.{seats_transcript}
+use Rattle.sj_seat_told_laws.proofs.EndLemmas.{quiet_end}
+use Rattle.sj_seat_told_laws.proofs.TranscriptLemmas.{transcript_is}
+use Rattle.sj_seats.specs.Seated.{callers_of, core_of, history_of, party_count}
+use Rattle.sj_seats.specs.declared.seated.SeatedWorld.{SeatedWorld}
+use Rattle.sj_told.specs.declared.told.Stand.{Stand}
+
+module _ (file : FileAt) (w : SeatedWorld) (q : IsQuietOf file w) where
+  -- there is such a plain world
+  pub the_end : (t : SeatsWorld) × IsEndOf file w t
+  the_end =
+      let many : party_count w ≡ length file.parties = q.parties ∙ ap (λ (f : FileAt). length f.parties) q.kept in
+      let run : IsSeatsHistory max file (callers_of w) (history_of w) (core_of w) = subst (λ (f : FileAt). IsSeatsHistory max f (callers_of w) (history_of w) (core_of w)) q.kept q.run in
+      let quiet : IsQuietAmong (seated_play file) (party_count w) (core_of w) = subst (λ (f : FileAt). IsQuietAmong (seated_play f) (party_count w) (core_of w)) q.kept q.quiet in
+      quiet_end file (callers_of w) max (history_of w) (core_of w) q.accepted max_picks run (subst (λ (n : ℕ). IsQuietAmong (seated_play file) n (core_of w)) many quiet)
+
+  pub unopened : HasOpenedNone w → IsUnopenedEnd file w the_end.0
+  unopened none = record { end = the_end.1; none = none_at_end file w the_end.0 q the_end.1 none }
+
+  -- the text by how the parties stand is its transcript
+  pub text_is : HasOpenedNone w → (stands : List Stand) → AreNodeStands w stands → standing_text file the_end.0.world stands ≡ seats_transcript file the_end.0
+  text_is none stands are = transcript_is file the_end.0 stands (none_at_end file w the_end.0 q the_end.1 none) (stands_at_end file w the_end.0 stands q the_end.1 are)
