@@ -10,7 +10,7 @@ use Rattle.sj_seat_laws.specs.SeatedPlay.{Player, seated_play}
 use Rattle.sj_seat_laws.specs.SeatsWorld.{SeatsWorld}
 use Rattle.sj_seat_told.specs.Quiet.{HasOpenedNone, IsEndOf, IsQuietOf}
 use Rattle.sj_seat_told.specs.Standing.{AreNodeStands}
-use Rattle.sj_seat_told.specs.Transcript.{IsUnopenedEnd}
+use Rattle.sj_seat_told.specs.Transcript.{IsToldAfter, IsToldInPart, IsUnopenedEnd}
 use Rattle.sj_seat_told.proofs.OpenedLemmas.{none_at_end}
 use Rattle.sj_seat_told.proofs.StandLemmas.{stands_at_end}
 use Rattle.sj_seat_told_laws.specs.SeatsHistory.{IsSeatsHistory}
@@ -19,7 +19,13 @@ use Rattle.sj_seat_told_laws.proofs.EndLemmas.{quiet_end}
 use Rattle.sj_seat_told_laws.proofs.TranscriptLemmas.{transcript_is}
 use Rattle.sj_seats.specs.Seated.{callers_of, core_of, history_of, party_count}
 use Rattle.sj_seats.specs.declared.seated.SeatedWorld.{SeatedWorld}
+use Rattle.sj_semantics.specs.World.{World}
+use Rattle.sj_text.specs.Cut.{IsCutShort}
+use Rattle.sj_text.proofs.CutLemmas.{cut_at_once, whole_is}
+use Rattle.sj_told.specs.Lines.{AreToldBy}
+use Rattle.sj_told.specs.Told.{AreEnds}
 use Rattle.sj_told.specs.declared.told.Stand.{Stand}
+use Rattle.sj_told.specs.declared.told.ToldEnd.{ToldEnd}
 
 module _ (file : FileAt) (w : SeatedWorld) (q : IsQuietOf file w) where
   -- there is such a plain world
@@ -36,3 +42,26 @@ module _ (file : FileAt) (w : SeatedWorld) (q : IsQuietOf file w) where
   -- the text by how the parties stand is its transcript
   pub text_is : HasOpenedNone w → (stands : List Stand) → AreNodeStands w stands → standing_text file the_end.0.world stands ≡ seats_transcript file the_end.0
   text_is none stands are = transcript_is file the_end.0 stands (none_at_end file w the_end.0 q the_end.1 none) (stands_at_end file w the_end.0 stands q the_end.1 are)
+
+  -- it is put after the old text
+  pub told_after : HasOpenedNone w → (stands : List Stand) → AreNodeStands w stands → (ends : List ToldEnd) → AreToldBy (history_of w) (length file.connects) ends → (old new : List ℕ)
+      → ((u : World) → length file.connects ≤ length u.sessions → AreEnds file u ends → new ≡ old ++ standing_text file u stands) → IsToldAfter file w old new
+  told_after none stands are ends told old new put = record {
+    world = the_end.0;
+    is = unopened none;
+    text = put the_end.0.world the_end.1.sessions (the_end.1.ends ends told) ∙ ap (λ (xs : List ℕ). old ++ xs) (text_is none stands are);
+  }
+
+  -- a prefix of it is
+  pub told_in_part : HasOpenedNone w → (stands : List Stand) → AreNodeStands w stands → (ends : List ToldEnd) → AreToldBy (history_of w) (length file.connects) ends → (old new : List ℕ)
+      → ((u : World) → length file.connects ≤ length u.sessions → AreEnds file u ends → IsCutShort old (standing_text file u stands) new) → IsToldInPart file w old new
+  told_in_part none stands are ends told old new put = record {
+    world = the_end.0;
+    is = unopened none;
+    text = whole_is old (standing_text file the_end.0.world stands) (seats_transcript file the_end.0) new (text_is none stands are)
+        (put the_end.0.world the_end.1.sessions (the_end.1.ends ends told));
+  }
+
+  -- or nothing of it
+  pub told_nothing : HasOpenedNone w → (old new : List ℕ) → new ≡ old → IsToldInPart file w old new
+  told_nothing none old new same = record { world = the_end.0; is = unopened none; text = cut_at_once old (seats_transcript file the_end.0) new same }
