@@ -1,12 +1,11 @@
 -- The transcript at the end, by what the history and the nodes report.
-use Rattle.std.proofs.Common.{◌≡◌, ℕ, ◌≤◌, max, List, ◌++◌, length, map, ap, sym, ◌∙◌, subst}
+use Rattle.std.proofs.Common.{◌≡◌, ℕ, ◌≤◌, max, List, ◌++◌, length, ap, sym, ◌∙◌, subst}
 use Rattle.sj_core.proofs.LawLemmas.{max_picks}
 use Rattle.sj_lang.specs.FileAt.{FileAt}
-use Rattle.sj_lang.specs.Place.{Place}
 use Rattle.sj_print.specs.Parts.{standing_text}
 use Rattle.sj_rules.specs.History.{IsQuietAmong}
-use Rattle.sj_rules.specs.World.{WorldAt}
-use Rattle.sj_seat_laws.specs.SeatedPlay.{Player, seated_play}
+use Rattle.sj_rules.specs.Log.{LineAt}
+use Rattle.sj_seat_laws.specs.SeatedPlay.{seated_play}
 use Rattle.sj_seat_laws.specs.SeatsWorld.{SeatsWorld}
 use Rattle.sj_seat_told.specs.Quiet.{HasOpenedNone, IsEndOf, IsQuietOf}
 use Rattle.sj_seat_told.specs.Standing.{AreNodeStands}
@@ -26,6 +25,10 @@ use Rattle.sj_told.specs.Lines.{AreToldBy}
 use Rattle.sj_told.specs.Told.{AreEnds}
 use Rattle.sj_told.specs.declared.told.Stand.{Stand}
 use Rattle.sj_told.specs.declared.told.ToldEnd.{ToldEnd}
+
+-- what the lines report, by other names for the lines, their number and the list
+pub same_ends : (lines past : List LineAt) (n m : ℕ) (ends xs : List ToldEnd) → lines ≡ past → n ≡ m → xs ≡ ends → AreToldBy lines n ends → AreToldBy past m xs
+same_ends lines past n m ends xs there many same told = subst (λ (ls : List LineAt). AreToldBy ls m xs) there (subst (λ (k : ℕ). AreToldBy lines k xs) many (subst (λ (es : List ToldEnd). AreToldBy lines n es) (sym same) told))
 
 module _ (file : FileAt) (w : SeatedWorld) (q : IsQuietOf file w) where
   -- there is such a plain world

@@ -70,5 +70,6 @@ fn put_standing(
         Ok(ends) => ends,
         Err(refusal) => return Err(refusal),
     };
-    print_standing(text, file, &ends, &stands)
+    print_standing(text, file, &ends, &stands)?;
+    Ok(())
 }

@@ -6,7 +6,7 @@ pub loop-party-init : goal.loop-party-init
 loop-party-init c = none_first c.args.world.now
 
 pub loop-party-preserved : goal.loop-party-preserved
-loop-party-preserved c = none_more c.args.world.now c.loop-party.party c.node.result.now c.loop-party.invariant c.node.ensures (omega (arith, c.if-requests.false, c.requests.ensures))
+loop-party-preserved c = none_more c.args.world.now c.loop-party.party c.node.result.now c.loop-party.invariant c.node.ensures (omega (arith, c.if-requests-ne0.false, c.requests.ensures))
 
 pub returns-clause-none : goal.returns-clause-none
 returns-clause-none c = λ no. none_all c.args.world.now c.loop-party.party (omega arith) c.loop-party.invariant

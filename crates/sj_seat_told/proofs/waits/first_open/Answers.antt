@@ -1,5 +1,5 @@
-use Rattle.std.proofs.Common.{arith, length, ◌<◌}
-use Rattle.sj_seat_told.proofs.FirstLemmas.{first_ahead, first_none, first_over}
+use Rattle.std.proofs.Common.{arith}
+use Rattle.sj_seat_told.proofs.FirstLemmas.{first_none}
 use Rattle.sj_seat_told.proofs.waits.first_open.Goals as goal
 
 pub loop-at-init : goal.loop-at-init
