@@ -73,6 +73,9 @@ fn seated(
     for at in 0..accepted.file().parties.len() {
         seats.push(at == party)?;
     }
+    if seats.len() != accepted.file().parties.len() {
+        return Err(Fail::from("a seat is missing"));
+    }
     let Some(table) = seat_table(alloc, accepted)? else {
         return Err(Fail::from("no table"));
     };
