@@ -39,8 +39,8 @@ connect b z g to c u h;
 // a opens a session with b.
 const OPENED: &[u8] = b"protocol p { begin.!<int> }
 protocol q { begin.?(int) }
-party a { request x p b; send x 5; close x; }
-party b { accept y q a; recv y n int; close y; }
+party a { request x p to b; send x 5; close x; }
+party b { accept y q from a; recv y n int; close y; }
 party c { }
 ";
 
