@@ -36,7 +36,7 @@ connect a x p to b y q;
 ";
 
     #[test]
-    fn an_end_that_is_left_open_is_told(rt: HostRuntime) -> Result<(), Fail> {
+    fn the_world_has_an_end_that_is_left_open(rt: HostRuntime) -> Result<(), Fail> {
         let end = EndId { sess: 0, side: 0 };
         let mut codes = Vec::new(rt.alloc());
         codes.push(Some(Leaver { end }))?;

@@ -4,70 +4,35 @@ use sj_base::{EndId, Msg};
 use sj_seat::{Guard, SeatRefusal, Wish};
 use sj_seat_run::{Answer, Play};
 
-/// What the seller does next.
-#[derive(Clone, Copy, Debug, PartialEq, Eq)]
-enum Sale {
-    Listens,
-    Answers(bool),
-    Closes,
-    Over,
-}
-
 /// Takes how many things a customer wants, and answers whether there are as many.
 #[derive(Drop)]
 pub struct Seller {
-    end: EndId,
+    pub end: EndId,
     pub stock: i64,
-    sale: Sale,
     /// How often it asks again for what hasn't come.
-    patience: u32,
-}
-
-impl Seller {
-    pub fn new(end: EndId, stock: i64) -> Seller {
-        Seller {
-            end,
-            stock,
-            sale: Sale::Listens,
-            patience: 10_000,
-        }
-    }
-
-    /// What it wanted is done.
-    fn go_on(&mut self, msg: Option<Msg>) {
-        self.sale = match (self.sale, msg) {
-            (Sale::Listens, Some(Msg::Int(wanted))) => {
-                let enough = wanted <= self.stock;
-                if enough {
-                    self.stock = self.stock.saturating_sub(wanted);
-                }
-                Sale::Answers(enough)
-            }
-            (Sale::Answers(_), _) => Sale::Closes,
-            _ => Sale::Over,
-        };
-    }
+    pub patience: u32,
 }
 
 impl Play for Seller {
-    fn next(&mut self, _seat: Guard<'_>, answer: Option<Answer>) -> Option<Wish> {
+    fn next(&mut self, seat: Guard<'_>, answer: Option<Answer>) -> Option<Wish> {
+        let end = self.end;
         match answer {
-            None => {}
-            Some(Ok(msg)) => self.go_on(msg),
+            None => Some(Wish::Take { end }),
+            Some(Ok(Some(Msg::Int(wanted)))) => {
+                let enough = 0 <= wanted && wanted <= self.stock;
+                if enough {
+                    self.stock = self.stock.saturating_sub(wanted);
+                }
+                let msg = Msg::Bool(enough);
+                Some(Wish::Send { end, msg })
+            }
+            // it was sent
+            Some(Ok(_)) if !seat.ends.is_empty() => Some(Wish::Close { end }),
             Some(Err(SeatRefusal::Waiting)) if self.patience > 0 => {
                 self.patience = self.patience.saturating_sub(1);
+                Some(Wish::Take { end })
             }
-            Some(Err(_)) => return None,
-        }
-        let end = self.end;
-        match self.sale {
-            Sale::Listens => Some(Wish::Take { end }),
-            Sale::Answers(enough) => Some(Wish::Send {
-                end,
-                msg: Msg::Bool(enough),
-            }),
-            Sale::Closes => Some(Wish::Close { end }),
-            Sale::Over => None,
+            Some(_) => None,
         }
     }
 }
@@ -89,7 +54,11 @@ connect customer x asks to seller y tells;
     fn a_seat_answers_a_customer_of_the_file(rt: HostRuntime) -> Result<(), Fail> {
         let mut codes = Vec::new(rt.alloc());
         codes.push(None)?;
-        codes.push(Some(Seller::new(EndId { sess: 0, side: 1 }, 5)))?;
+        codes.push(Some(Seller {
+            end: EndId { sess: 0, side: 1 },
+            stock: 5,
+            patience: 10_000,
+        }))?;
         let Ok(run) = run_codes(&rt, rt.alloc(), SHOP, codes) else {
             return Err(Fail::from("no run"));
         };

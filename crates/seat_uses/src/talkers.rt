@@ -76,8 +76,11 @@ connect customer x asks to seller y tells;
             enough: None,
             patience: 10_000,
         })))?;
-        let seller = Seller::new(EndId { sess: 0, side: 1 }, 5);
-        codes.push(Some(Talker::Answers(seller)))?;
+        codes.push(Some(Talker::Answers(Seller {
+            end: EndId { sess: 0, side: 1 },
+            stock: 5,
+            patience: 10_000,
+        })))?;
         let Ok(run) = run_codes(&rt, rt.alloc(), SHOP, codes) else {
             return Err(Fail::from("no run"));
         };

@@ -1,5 +1,5 @@
 -- Where no node opened a session, none was opened at the end.
-use Rattle.std.proofs.Common.{◌≡◌, ℕ, ◌+◌, ◌<◌, ◌≤◌, List, [], length, slice_get, Option, Some, refl, ap, sym, ◌∙◌, subst, arith, inl, inr}
+use Rattle.std.proofs.Common.{◌≡◌, ℕ, ◌+◌, ◌<◌, ◌≤◌, [], length, slice_get, Option, Some, ap, sym, ◌∙◌, arith, inl, inr}
 use Rattle.std.proofs.lemmas.Bool.Decides.{eqb_tells}
 use Rattle.sj_core.specs.Nodes.{node_or}
 use Rattle.sj_lane.proofs.BackLemmas.{slice_get_some}
@@ -10,7 +10,7 @@ use Rattle.sj_rules.specs.Start.{first_node}
 use Rattle.sj_seat_laws.specs.SeatsWorld.{SeatsWorld}
 use Rattle.sj_seat_told.specs.Quiet.{HasOpenedNone, IsEndOf, IsQuietOf}
 use Rattle.sj_seats.specs.Played.{file_in}
-use Rattle.sj_seats.specs.Seated.{core_of, nodes_of, party_count}
+use Rattle.sj_seats.specs.Seated.{nodes_of, party_count}
 use Rattle.sj_seats.specs.declared.seated.SeatedWorld.{SeatedWorld}
 use Rattle.sj_semantics.specs.State.{opened_in}
 use Rattle.sj_semantics_laws.proofs.ToComeLemmas.{below_by_get}
@@ -39,5 +39,5 @@ pub none_at_end : (file : FileAt) (w : SeatedWorld) (t : SeatsWorld) → IsQuiet
 none_at_end file w t q end none =
     let many : party_count w ≡ length file.parties = q.parties ∙ ap (λ (f : FileAt). length f.parties) q.kept in
     end.opened (λ p lt.
-        let n = slice_get_some (nodes_of w) p (omega (arith, lt, many)) in
-        ap (λ (o : Option Node). (node_or (first_node (file_in w) p) o).requests) n.1 ∙ none p n.0 n.1)
+    let n = slice_get_some (nodes_of w) p (omega (arith, lt, many)) in
+    ap (λ (o : Option Node). (node_or (first_node (file_in w) p) o).requests) n.1 ∙ none p n.0 n.1)

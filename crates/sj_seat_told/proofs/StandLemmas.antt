@@ -1,5 +1,6 @@
 -- How a party stands, by its node or by what its code holds and called.
-use Rattle.std.proofs.Common.{◌≡◌, ℕ, ◌+◌, List, [], ◌∷◌, ◌++◌, length, slice_get, Option, Some, None, option_map, refl, ap, sym, ◌∙◌, subst, arith, inl, inr}
+use Rattle.std.proofs.Common.{◌≡◌, ℕ, ◌+◌, List, [], ◌∷◌, ◌++◌, length, slice_get, Option, Some, None, option_map, refl, ap, sym, ◌∙◌, subst, inl, inr}
+use Rattle.std.proofs.lemmas.List.{length-append}
 use Rattle.sj_core.specs.Nodes.{node_or}
 use Rattle.sj_core.specs.ToldWorld.{stand_seen}
 use Rattle.sj_core.proofs.FirstLemmas.{behind}
@@ -22,7 +23,6 @@ use Rattle.sj_seats.specs.Played.{chairs_in, file_in}
 use Rattle.sj_seats.specs.Seated.{calls_by, calls_of, core_of, ends_of, nodes_of, party_count, table_of}
 use Rattle.sj_seats.specs.declared.played.Chair.{Chair}
 use Rattle.sj_seats.specs.declared.seated.SeatedWorld.{SeatedWorld}
-use Rattle.sj_semantics.specs.Program.{Program}
 use Rattle.sj_told.specs.declared.told.Stand.{Stand}
 
 module _ (w : SeatedWorld) (p : ℕ) where
@@ -62,13 +62,13 @@ no_stands w stands none = subst (AreFirstStands w 0) (sym none) (record { count 
 
 pub one_stands : (w : SeatedWorld) (many : ℕ) (before after : List Stand) (s : Stand) → AreFirstStands w many before → IsNodeStand w many s → after ≡ before ++ s ∷ [] → AreFirstStands w (many + 1) after
 one_stands w many before after s are own put = subst (AreFirstStands w (many + 1)) (sym put) (record {
-    count = let long : length (before ++ s ∷ []) ≡ length before + 1 = omega (arith) in omega (arith, long, are.count);
-    each = λ p x there.
-        elim (behind before s p x there) [
-          | inl old ↦ are.each p x old
-          | inr last ↦ subst (λ (y : Stand). IsNodeStand w p y) (sym last.1) (subst (λ (k : ℕ). IsNodeStand w k s) (sym (last.0 ∙ are.count)) own)
-        ];
-  })
+  count = length-append before (s ∷ []) ∙ ap (λ (n : ℕ). n + 1) are.count;
+  each = λ p x there.
+      elim (behind before s p x there) [
+        | inl old ↦ are.each p x old
+        | inr last ↦ subst (λ (y : Stand). IsNodeStand w p y) (sym last.1) (subst (λ (k : ℕ). IsNodeStand w k s) (sym (last.0 ∙ are.count)) own)
+      ];
+})
 
 pub all_stands : (w : SeatedWorld) (many : ℕ) (stands : List Stand) → many ≡ party_count w → AreFirstStands w many stands → AreNodeStands w stands
 all_stands w many stands all are = record { count = are.count ∙ all; each = are.each }

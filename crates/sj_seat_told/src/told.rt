@@ -1,5 +1,5 @@
 //! The transcript of a world with seats that leaves nothing to do.
-ghost use Rattle.std.specs.Prelude.{◌≡◌, Err, OnErr, OnOk};
+ghost use Rattle.std.specs.Prelude.{◌≡◌, ◌↔◌, Err, OnErr, OnOk};
 ghost use Rattle.sj_lang.specs.FileView.{file_of};
 ghost use Rattle.sj_seat_told.specs.Quiet.{HasOpenedNone, IsQuietOf};
 ghost use Rattle.sj_seat_told.specs.Transcript.{IsToldAfter, IsToldInPart};
@@ -32,7 +32,7 @@ pub fn put_transcript(
 
     // Where a session was opened, and only there, it is refused for that.
     ensures none { OnOk result (HasOpenedNone world.now) }
-    ensures opened { result ≡ Err TranscriptRefusal.Opened → HasOpenedNone world.now → ⊥ }
+    ensures opened { (result ≡ Err TranscriptRefusal.Opened) ↔ (HasOpenedNone world.now → ⊥) }
 
     // What a refusal leaves.
     ensures opened_text { result ≡ Err TranscriptRefusal.Opened → text.new.items ≡ text.old.items }
@@ -70,5 +70,6 @@ fn put_standing(
         Ok(ends) => ends,
         Err(refusal) => return Err(refusal),
     };
-    print_standing(text, file, &ends, &stands)
+    print_standing(text, file, &ends, &stands)?;
+    Ok(())
 }

@@ -1,0 +1,132 @@
+//! Transcripts of small files of which a party is played by code. The code calls what the party of
+//! the file did, as the lines report it.
+
+use sj_check::{Accepted, check};
+use sj_core::{World, first_nodes};
+use sj_party::parse_file;
+use sj_plain::Plain;
+use sj_print::print_transcript;
+use sj_proto::Tokens;
+use sj_seat::seat_table;
+use sj_seat_told::{TranscriptRefusal, put_transcript};
+use sj_seats::SeatedWorld;
+use std::alloc::Global;
+use std::test::Fail;
+
+// A buyer, who asks for a number of things, and a seller, who answers.
+const SHOP: &[u8] = b"protocol buys { begin.!<int>.?{YES: ?(String), NO:} }
+protocol sells { begin.?(int).!{YES: !<String>, NO:} }
+party buyer {
+  send x 4;
+  inbranch x { YES: { recv x t String; close x; } NO: { close x; } }
+}
+party seller { recv y n int; outbranch y YES; send y \"here\"; close y; }
+connect buyer x buys to seller y sells;
+";
+
+// b hands its end of the first session on to c.
+const HANDED: &[u8] = b"protocol p { begin.!<int> }
+protocol q { begin.?(int) }
+protocol g { begin.!<?(int)> }
+protocol h { begin.?(?(int)) }
+party a { send x 5; close x; }
+party b { delegate z y; close z; }
+party c { recv u s session q; close u; recv s n int; close s; }
+connect a x p to b y q;
+connect b z g to c u h;
+";
+
+// a opens a session with b.
+const OPENED: &[u8] = b"protocol p { begin.!<int> }
+protocol q { begin.?(int) }
+party a { request x p to b; send x 5; close x; }
+party b { accept y q from a; recv y n int; close y; }
+party c { }
+";
+
+fn accepted(alloc: Global, text: &[u8]) -> Result<Accepted, Fail> {
+    if text.len() > Tokens::MOST_BYTES {
+        return Err(Fail::from("too long"));
+    }
+    let file = parse_file(alloc, text)?;
+    match check(alloc, file) {
+        Ok(accepted) => Ok(accepted),
+        Err(_) => Err(Fail::from("refused")),
+    }
+}
+
+/// The transcript of the file where that party is played by code. It calls what the party of the
+/// file did, as far as so many lines report it, and then nothing more.
+fn seated(
+    alloc: Global,
+    accepted: &Accepted,
+    party: usize,
+    most: usize,
+) -> Result<Result<Vec<u8>, TranscriptRefusal>, Fail> {
+    let mut own = World::start(alloc, accepted)?;
+    own.drain()?;
+    let mut lines = Vec::new(alloc);
+    for line in own.history().iter().take(most) {
+        lines.push(*line)?;
+    }
+    let mut seats = Vec::new(alloc);
+    for at in 0..accepted.file().parties.len() {
+        seats.push(at == party)?;
+    }
+    if seats.len() != accepted.file().parties.len() {
+        return Err(Fail::from("a seat is missing"));
+    }
+    let Some(table) = seat_table(alloc, accepted)? else {
+        return Err(Fail::from("no table"));
+    };
+    let Ok(mut world) = SeatedWorld::replayed(alloc, accepted, &table, &seats, lines) else {
+        return Err(Fail::from("a misfit"));
+    };
+    world.drain()?;
+    let mut text = Vec::new(alloc);
+    match put_transcript(alloc, &mut text, accepted.file(), &world) {
+        Ok(()) => Ok(Ok(text)),
+        Err(refusal) => Ok(Err(refusal)),
+    }
+}
+
+#[test]
+fn a_seat_that_does_as_the_file_has_its_transcript(rt: HostRuntime) -> Result<(), Fail> {
+    let alloc = rt.alloc();
+    for (file, party) in [(SHOP, 0), (SHOP, 1), (HANDED, 1), (HANDED, 2)] {
+        let accepted = accepted(alloc, file)?;
+        let mut plain = Plain::start(alloc, &accepted)?;
+        plain.finish()?;
+        let mut own = Vec::new(alloc);
+        print_transcript(&mut own, accepted.file(), &plain)?;
+        let text = seated(alloc, &accepted, party, usize::MAX)?;
+        assert_eq!(rt; text.as_deref(), Ok(own.as_slice()), "party {party}");
+    }
+    Ok(())
+}
+
+#[test]
+fn a_code_that_leaves_waits_at_its_open_end(rt: HostRuntime) -> Result<(), Fail> {
+    let alloc = rt.alloc();
+    let accepted = accepted(alloc, HANDED)?;
+    let text = seated(alloc, &accepted, 1, 0)?;
+    let left: &[u8] = b"session 0 a x b y
+0.0 0 a - int 5
+session 1 b z c u
+party a ended 2
+party b waits 0 0.1
+party c waits 0 1.1
+blocked
+";
+    assert_eq!(rt; text.as_deref(), Ok(left));
+    Ok(())
+}
+
+#[test]
+fn a_run_with_an_opened_session_has_no_transcript(rt: HostRuntime) -> Result<(), Fail> {
+    let alloc = rt.alloc();
+    let accepted = accepted(alloc, OPENED)?;
+    let text = seated(alloc, &accepted, 2, usize::MAX)?;
+    assert_eq!(rt; text.as_deref(), Err(&TranscriptRefusal::Opened));
+    Ok(())
+}
