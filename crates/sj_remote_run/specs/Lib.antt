@@ -1,0 +1,4 @@
+pub mod Again
+pub mod Causes
+pub mod Entries
+pub mod Turns
