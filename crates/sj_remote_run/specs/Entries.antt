@@ -19,10 +19,14 @@ abbrev pub frame_words : (to : ℕ) → List (FrameAt Place) → List (List ℕ)
 frame_words to [] = []
 frame_words to (f ∷ fs) = decimal to ∷ flat_map spelling (f ∷ fs) ∷ []
 
--- the same for each party from that number on, but for the one that sends
+-- the same, but nothing for the party that sends
+abbrev pub lane_words : (party to : ℕ) → List (FrameAt Place) → List (List ℕ)
+lane_words party to fs = if to == party then [] else frame_words to fs
+
+-- the same for each party from that number on
 unfoldable pub frames_from : (party to : ℕ) → List (List (FrameAt Place)) → List (List ℕ)
 frames_from party to [] = []
-frames_from party to (fs ∷ others) = (if to == party then [] else frame_words to fs) ++ frames_from party (suc to) others
+frames_from party to (fs ∷ others) = lane_words party to fs ++ frames_from party (suc to) others
 
 -- the words of an entry: the lines, and the frames for each other party
 abbrev pub entry_words : FileAt → (party : ℕ) → List Entry → (posts : List (List (FrameAt Place))) → List (List ℕ)

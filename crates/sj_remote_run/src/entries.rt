@@ -2,7 +2,7 @@
 ghost use Rattle.std.specs.Prelude.{◌≡◌, ◌<◌, ◌≤◌, ◌++◌, ◌^◌, length, map, IfOk, OnOk};
 ghost use Rattle.sj_engine.specs.Lanes.{pushed_on};
 ghost use Rattle.sj_lang.specs.FileView.{file_of};
-ghost use Rattle.sj_remote_run.specs.Entries.{entry_words, frame_words, lines_text};
+ghost use Rattle.sj_remote_run.specs.Entries.{entry_words, lane_words, lines_text};
 ghost use Rattle.sj_streams.specs.Words.{words_at};
 
 use crate::PlayRefusal;
@@ -39,12 +39,17 @@ pub(crate) fn lines_of_entries(
 }
 
 /// Appends the frames that were pushed on that lane, under the number of its party, where there are
-/// some.
-fn add_lane(words: &mut Vec<Vec<u8>>, to: u16, lane: &ByteOut) -> Result<(), PlayRefusal>
+/// some and the party is another one.
+fn add_lane(
+    words: &mut Vec<Vec<u8>>,
+    party: u16,
+    to: u16,
+    lane: &ByteOut,
+) -> Result<(), PlayRefusal>
     ensures { OnOk result (words_at words.new.items
-        ≡ words_at words.old.items ++ frame_words to (pushed_on lane.now)) }
+        ≡ words_at words.old.items ++ lane_words party to (pushed_on lane.now)) }
 {
-    if lane.is_empty() {
+    if to == party || lane.is_empty() {
         return Ok(());
     }
     let mut frames = Vec::new(*words.allocator());
@@ -71,9 +76,7 @@ pub fn batch_words(
     let lines = lines_of_entries(alloc, file, party, entries)?;
     let mut words = begin_batch(alloc, lines)?;
     for to in 0..outs.len() as u16 {
-        if to != party {
-            add_lane(&mut words, to, &outs[usize::from(to)])?;
-        }
+        add_lane(&mut words, party, to, &outs[usize::from(to)])?;
     }
     Ok(words)
 }
