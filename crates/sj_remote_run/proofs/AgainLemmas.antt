@@ -1,17 +1,16 @@
 -- Entries done again, one after another.
-use Rattle.std.proofs.Common.{◌≡◌, ℕ, max, List, [], ◌∷◌, ◌++◌, map, refl, sym, ap, subst, ◌∙◌, append_assoc, append-nil}
+use Rattle.std.proofs.Common.{ℕ, max, List, [], ◌∷◌, ◌++◌, map, refl, sym, ap, subst, ◌∙◌, append_assoc, append-nil}
 use Rattle.std.proofs.lemmas.List.{map-append}
 use Rattle.sj_end.specs.declared.note.Entry.{Entry}
-use Rattle.sj_end.specs.Lines.{entry_at}
 use Rattle.sj_lang.specs.Place.{Place, done}
 use Rattle.sj_semantics.specs.Program.{Program}
-use Rattle.sj_rules.specs.Node.{Play, NodeAt}
-use Rattle.sj_rules.specs.NodeRun.{Deed, NodeRun, StepAt}
+use Rattle.sj_rules.specs.Node.{Play}
+use Rattle.sj_rules.specs.NodeRun.{NodeRun, StepAt}
 use Rattle.sj_joined_lemmas.proofs.WorkerLemmas.{runs_joined}
 use Rattle.sj_node.specs.declared.node.Node.{Node}
 use Rattle.sj_node.specs.Node.{log_of, node_at, play_here}
 use Rattle.sj_node.specs.Play.{play_with}
-use Rattle.sj_node.specs.Reading.{TakesOut, parties_of, party_of}
+use Rattle.sj_node.specs.Reading.{TakesOut, party_of}
 use Rattle.sj_table.specs.Spots.{start_in}
 use Rattle.sj_work.specs.Laned.{entries_of}
 use Rattle.sj_engine.specs.Redone.{Redone}

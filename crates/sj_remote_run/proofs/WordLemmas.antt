@@ -1,5 +1,5 @@
 -- Words of entries, one after another.
-use Rattle.std.proofs.Common.{◌≡◌, ℕ, suc, ◌+◌, ◌<◌, List, [], ◌∷◌, ◌++◌, Vec, length, map, take, drop, get_or, refl, sym, ap, subst, ◌∙◌, ◌≤◌, append-nil}
+use Rattle.std.proofs.Common.{◌≡◌, ℕ, ◌+◌, ◌<◌, List, [], ◌∷◌, ◌++◌, Vec, length, map, take, drop, get_or, refl, sym, ap, subst, ◌∙◌, ◌≤◌, append-nil}
 use Rattle.std.proofs.Math.ListN.{drop_of_length-le}
 use Rattle.std.proofs.lemmas.List.{map_more}
 use Rattle.std.specs.declared.alloc.Global.{Global}

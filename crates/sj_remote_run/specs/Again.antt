@@ -1,5 +1,5 @@
 -- Entries of the party's stream, done again.
-use Rattle.std.specs.Prelude.{◌≡◌, ℕ, max, List, ◌++◌, map}
+use Rattle.std.specs.Prelude.{◌≡◌, ℕ, max, List, [], ◌++◌, map}
 use Rattle.sj_end.specs.declared.note.Entry.{Entry}
 use Rattle.sj_lang.specs.FileAt.{FileAt}
 use Rattle.sj_lang.specs.Place.{Place}
@@ -32,3 +32,4 @@ pub record DidAgain (file : FileAt) (words : List (List ℕ)) (old new : Node) :
   pub posts : List (List (FrameAt Place))
   pub spelt : words ≡ entry_words file (party_of node) (log_of node) posts
   pub taken : TakesEntry node new
+  pub empty : log_of new ≡ []

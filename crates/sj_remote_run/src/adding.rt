@@ -1,10 +1,10 @@
 //! What a party noted, as the command that adds it.
-ghost use Rattle.std.specs.Prelude.{◌≡◌, ◌++◌, OnOk, map};
+ghost use Rattle.std.specs.Prelude.{◌≡◌, ◌+◌, ◌++◌, OnOk, get_or, map};
 ghost use Rattle.sj_engine.specs.Lanes.{pushed_on};
 ghost use Rattle.sj_lang.specs.FileView.{file_of};
 ghost use Rattle.sj_node.specs.Reading.{party_of};
 ghost use Rattle.sj_remote.specs.Streams.{keys_of, seen_of};
-ghost use Rattle.sj_remote_run.specs.Turns.{batch_text, next_seen, node_in, outs_in};
+ghost use Rattle.sj_remote_run.specs.Turns.{added_count, batch_text, next_seen, node_in, outs_in};
 ghost use Rattle.sj_streams.specs.Words.{words_at};
 
 use crate::PlayRefusal;
@@ -33,6 +33,8 @@ pub(crate) fn put_batch(
         (party_of (node_in player.old)) noted.now (map pushed_on (outs_in player.old))) }
     ensures seen { OnOk result (seen_of streams.new
         ≡ next_seen (party_of (node_in player.old)) noted.now (seen_of streams.old)) }
+    ensures number { OnOk result (get_or (seen_of streams.new) (party_of (node_in player.old)) 0
+        ≡ get_or (seen_of streams.old) (party_of (node_in player.old)) 0 + added_count noted.now) }
     ensures keys { keys_of streams.new ≡ keys_of streams.old }
     ensures node { node_in player.new ≡ node_in player.old }
 {

@@ -19,12 +19,12 @@ pub(crate) struct Player {
 }
 
 /// How a party stands that can't go on by itself, where none of its causes is a refusal.
-fn stands(stop: Stop) -> Result<Outcome, PlayRefusal>
-    ensures { result ≡ outcome_by stop }
+fn stands(stop: Stop, finished: bool) -> Result<Outcome, PlayRefusal>
+    ensures { result ≡ outcome_by stop finished }
 {
     match stop {
-        Stop::Finished => Ok(Outcome::Ended),
-        Stop::Idle => Ok(Outcome::Waits),
+        Stop::Finished | Stop::Idle if finished => Ok(Outcome::Ended),
+        Stop::Finished | Stop::Idle => Ok(Outcome::Waits),
         Stop::AtLimit | Stop::ClockEnd => Ok(Outcome::Limit),
         Stop::NoMemory => Err(PlayRefusal::NoMemory),
         Stop::Fault => Err(PlayRefusal::NoFrame),
@@ -43,7 +43,7 @@ impl Player {
             Err(e) => return Err(spell_means(e)),
         };
         let (lanes, node, noted) = worker.into_parts();
-        let outcome = stands(stop)?;
+        let outcome = stands(stop, node.finished())?;
         Ok((Player { node, lanes }, outcome, noted))
     }
 }

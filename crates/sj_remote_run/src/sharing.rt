@@ -1,7 +1,12 @@
 //! The password, and the file of a run.
-ghost use Rattle.std.specs.Prelude.{◌≡◌, OnOk};
+ghost use Rattle.std.specs.Prelude.{◌≡◌, ◌++◌, OnOk, option_map};
 ghost use Rattle.sj_base.specs.Stream.{put_behind};
+ghost use Rattle.sj_lang.specs.FileView.{file_of};
+ghost use Rattle.sj_party.specs.CanonicalFile.{file_text};
 ghost use Rattle.sj_remote.specs.Conn.{sink_of};
+ghost use Rattle.sj_remote_run.specs.Sent.{sign_text};
+ghost use Rattle.sj_resp.specs.Spelling.{command_text};
+ghost use Rattle.sj_streams.specs.Commands.{get_words, share_words};
 
 use crate::PlayRefusal;
 use crate::causes::{conn_means, misread_means, refusal_means};
@@ -38,13 +43,19 @@ fn reply<S: Source, K: Sink>(conn: &mut Conn<S, K>) -> Result<VecDeque<Token>, P
     }
 }
 
-/// Gives the password of that user, or of the usual one.
+/// Gives the password of that user, or of the usual one, where there is a password.
 pub(crate) fn sign_in<S: Source, K: Sink>(
     alloc: Global,
     conn: &mut Conn<S, K>,
     user: Option<&[u8]>,
-    password: &[u8],
-) -> Result<(), PlayRefusal> {
+    password: Option<&[u8]>,
+) -> Result<(), PlayRefusal>
+    ensures { OnOk result (K.written (sink_of conn.new) ≡ put_behind (K.written (sink_of conn.old))
+        (sign_text (option_map (λ u. u.now) user.entry) (option_map (λ p. p.now) password.entry))) }
+{
+    let Some(password) = password else {
+        return Ok(());
+    };
     let mut text = Vec::new(alloc);
     put_auth(&mut text, user, password)?;
     send(conn, &text)?;
@@ -74,7 +85,11 @@ pub(crate) fn share<S: Source, K: Sink>(
     conn: &mut Conn<S, K>,
     file: &File,
     run: &[u8],
-) -> Result<(), PlayRefusal> {
+) -> Result<(), PlayRefusal>
+    ensures { OnOk result (K.written (sink_of conn.new) ≡ put_behind (K.written (sink_of conn.old))
+        (command_text (share_words run.now (file_text (file_of file.now)))
+        ++ command_text (get_words run.now))) }
+{
     let mut own = Vec::new(alloc);
     print_file(&mut own, file)?;
     let mut text = Vec::new(alloc);

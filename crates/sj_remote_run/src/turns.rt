@@ -1,12 +1,12 @@
 //! A turn's talk with the server: what a party noted is added, and what comes then is taken.
-ghost use Rattle.std.specs.Prelude.{◌≡◌, ◌++◌, OnOk, Some, map};
+ghost use Rattle.std.specs.Prelude.{◌≡◌, ◌+◌, ◌++◌, OnOk, Some, get_or, map};
 ghost use Rattle.sj_base.specs.Stream.{put_behind};
 ghost use Rattle.sj_engine.specs.Lanes.{pushed_on};
 ghost use Rattle.sj_lang.specs.FileView.{file_of};
 ghost use Rattle.sj_node.specs.Reading.{party_of};
 ghost use Rattle.sj_remote.specs.Conn.{sink_of};
 ghost use Rattle.sj_remote.specs.Streams.{keys_of, seen_of};
-ghost use Rattle.sj_remote_run.specs.Turns.{batch_text, next_seen, node_in, outs_in};
+ghost use Rattle.sj_remote_run.specs.Turns.{added_count, batch_text, next_seen, node_in, outs_in};
 ghost use Rattle.sj_resp.specs.Spelling.{command_text};
 ghost use Rattle.sj_streams.specs.Commands.{read_words};
 ghost use Rattle.sj_streams.specs.Words.{words_at};
@@ -43,7 +43,12 @@ fn take_all(
     player: &mut Player,
     streams: &mut Streams,
     all: &[Came],
-) -> Result<(), PlayRefusal> {
+) -> Result<(), PlayRefusal>
+    ensures number { OnOk result (get_or (seen_of streams.new) (party_of (node_in player.old)) 0
+        ≡ get_or (seen_of streams.old) (party_of (node_in player.old)) 0) }
+    ensures keys { keys_of streams.new ≡ keys_of streams.old }
+    ensures node { node_in player.new ≡ node_in player.old }
+{
     let party = player.node.party();
     let name = name_of(alloc, party)?;
     for one in all {
@@ -72,6 +77,10 @@ pub(crate) fn exchange<S: Source, K: Sink>(
         (party_of (node_in player.old)) noted.now (map pushed_on (outs_in player.old))
         ++ command_text (read_words 512 (Some wait) (words_at (keys_of streams.old))
         (next_seen (party_of (node_in player.old)) noted.now (seen_of streams.old))))) }
+    ensures number { OnOk result (get_or (seen_of streams.new) (party_of (node_in player.old)) 0
+        ≡ get_or (seen_of streams.old) (party_of (node_in player.old)) 0 + added_count noted.now) }
+    ensures keys { keys_of streams.new ≡ keys_of streams.old }
+    ensures node { node_in player.new ≡ node_in player.old }
 {
     let mut text = Vec::new(alloc);
     put_batch(alloc, &mut text, file, player, streams, noted)?;
@@ -99,6 +108,10 @@ pub(crate) fn add<S: Source, K: Sink>(
         ≡ put_behind (K.written (sink_of conn.old))
         (batch_text (words_at (keys_of streams.old)) (seen_of streams.old) (file_of file.now)
         (party_of (node_in player.old)) noted.now (map pushed_on (outs_in player.old)))) }
+    ensures number { OnOk result (get_or (seen_of streams.new) (party_of (node_in player.old)) 0
+        ≡ get_or (seen_of streams.old) (party_of (node_in player.old)) 0 + added_count noted.now) }
+    ensures keys { keys_of streams.new ≡ keys_of streams.old }
+    ensures node { node_in player.new ≡ node_in player.old }
 {
     let mut text = Vec::new(alloc);
     put_batch(alloc, &mut text, file, player, streams, noted)?;

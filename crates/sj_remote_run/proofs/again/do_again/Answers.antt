@@ -9,4 +9,5 @@ returns c = record {
   posts = map pushed_on c.redo_lines.new.lanes.outs.items;
   spelt = search rules;
   taken = c.take_log-entries.ensures.rest;
+  empty = c.take_log-entries.ensures.none;
 }

@@ -1,4 +1,4 @@
-use Rattle.std.proofs.Common.{◌≡◌, length, rules, arith}
+use Rattle.std.proofs.Common.{◌≡◌, length, rules}
 use Rattle.sj_remote_run.proofs.WordLemmas.{same_more}
 use Rattle.sj_remote_run.proofs.again.same_words.Goals as goal
 
