@@ -22,5 +22,6 @@ trial sockets.py 200 - 2000
 trial memory.py 60 - 2000
 trial streams.py 40 - 500
 trial bytes.py 5000 - 1000000
+trial remote.py 28 - 700
 trial soak.py 0.5 - 30
 exit "$status"

@@ -4,12 +4,17 @@
 mod answers;
 mod conn;
 mod hearing;
+mod passwords;
 mod refusal;
+mod streams;
 mod talk_refusal;
+mod talks;
 
 pub use answers::{read_added, read_streams};
 pub use conn::Conn;
+pub use passwords::put_auth;
 pub use refusal::ConnRefusal;
+pub use streams::{NoNumber, Streams};
 pub use talk_refusal::TalkRefusal;
 
 #[cfg(test)]

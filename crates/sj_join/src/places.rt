@@ -1,0 +1,73 @@
+//! Where the parties of a run are.
+ghost use Rattle.std.specs.Prelude.{◌≡◌, ◌++◌, decimal, OnOk};
+ghost use Rattle.sj_lang.specs.FileView.{file_of};
+ghost use Rattle.sj_join.specs.Places.{end_part, place_line, place_part};
+
+use sj_base::{EndId, NoMemory};
+use sj_lang::File;
+use sj_print::print_name;
+use sj_semantics::{Limit, State};
+use sj_text::{put, put_number};
+
+// An end, after a space.
+fn put_end(text: &mut Vec<u8>, end: EndId) -> Result<(), NoMemory>
+    ensures { OnOk result (text.new.items ≡ text.old.items ++ end_part end) }
+{
+    put(text, b" ")?;
+    put_number(text, u64::from(end.sess))?;
+    put(text, b".")?;
+    put_number(text, u64::from(end.side))
+}
+
+// A word and the steps.
+fn put_steps(text: &mut Vec<u8>, word: &[u8], steps: u32) -> Result<(), NoMemory>
+    ensures { OnOk result (text.new.items ≡ text.old.items ++ (word.now ++ decimal steps)) }
+{
+    put(text, word)?;
+    put_number(text, u64::from(steps))
+}
+
+// How a party stands, after its name.
+fn put_place(text: &mut Vec<u8>, file: &File, steps: u32, state: State) -> Result<(), NoMemory>
+    ensures { OnOk result (text.new.items ≡ text.old.items ++ place_part (file_of file.now) steps state) }
+{
+    match state {
+        State::Ready => put_steps(text, b" goes on ", steps),
+        State::Ended => put_steps(text, b" ended ", steps),
+        State::Waits(end) => {
+            put_steps(text, b" waits ", steps)?;
+            put_end(text, end)
+        }
+        State::WaitsOpen(from) => {
+            put_steps(text, b" waits ", steps)?;
+            put(text, b" from ")?;
+            print_name(text, file, from)
+        }
+        State::AtLimit(Limit::Steps) => put_steps(text, b" limit ", steps),
+        State::AtLimit(Limit::Hops(end)) => {
+            put_steps(text, b" limit ", steps)?;
+            put_end(text, end)
+        }
+        State::AtLimit(Limit::Requests) => {
+            put_steps(text, b" limit ", steps)?;
+            put(text, b" request")
+        }
+    }
+}
+
+/// The line of a party: how it stands, and after how many steps.
+pub(crate) fn put_party(
+    text: &mut Vec<u8>,
+    file: &File,
+    party: u16,
+    steps: u32,
+    state: State,
+) -> Result<(), NoMemory>
+    ensures { OnOk result (text.new.items
+        ≡ text.old.items ++ place_line (file_of file.now) party steps state) }
+{
+    put(text, b"party ")?;
+    print_name(text, file, party)?;
+    put_place(text, file, steps, state)?;
+    put(text, b"\n")
+}

@@ -1,0 +1,7 @@
+pub mod AgainLemmas
+pub mod CaughtLemmas
+pub mod GoesLemmas
+pub mod PlayedLemmas
+pub mod SentLemmas
+pub mod TurnLemmas
+pub mod WordLemmas

@@ -1,0 +1,90 @@
+//! An entry of the party's stream, done again.
+ghost use Rattle.std.specs.Prelude.{◌≡◌, IsTrue, OnOk};
+ghost use Rattle.sj_check.specs.Held.{file_in};
+ghost use Rattle.sj_lang.specs.FileView.{file_of};
+ghost use Rattle.sj_remote_run.specs.Again.{DidAgain, Went};
+ghost use Rattle.sj_streams.specs.Words.{words_at};
+
+use crate::PlayRefusal;
+use crate::entries::{LONGEST, batch_words};
+use crate::events::redo;
+use crate::posts::{clear, push_all};
+use sj_check::Accepted;
+use sj_engine::{ByteIn, ByteOut};
+use sj_lane::Lanes;
+use sj_log::{LogRefusal, read_log};
+use sj_node::Node;
+use sj_streams::lines_of;
+use std::alloc::Global;
+
+/// Does the events of a batch again, whose lines these are.
+fn redo_lines(
+    alloc: Global,
+    accepted: &Accepted,
+    node: &mut Node,
+    lanes: &mut Lanes<ByteOut, ByteIn>,
+    text: &[u8],
+) -> Result<(), PlayRefusal>
+    ensures { OnOk result (Went node.old node.new) }
+{
+    if text.len() > LONGEST {
+        return Err(PlayRefusal::LogFault);
+    }
+    let lines = match read_log(alloc, text, accepted.file(), 2) {
+        Ok(lines) => lines,
+        Err(LogRefusal::NoMemory) => return Err(PlayRefusal::NoMemory),
+        Err(LogRefusal::At { .. }) => return Err(PlayRefusal::LogFault),
+    };
+    for line in &lines {
+        if line.party != node.party() {
+            return Err(PlayRefusal::LogFault);
+        }
+        redo(node, &mut lanes.ins, &line.entry)?;
+        push_all(alloc, node, lanes)?;
+    }
+    Ok(())
+}
+
+/// Whether they are the same words.
+fn same_words(these: &[Vec<u8>], those: &[Vec<u8>]) -> bool
+    ensures { IsTrue result → words_at these.now ≡ words_at those.now }
+{
+    if these.len() != those.len() {
+        return false;
+    }
+    for i in 0..these.len() {
+        if these[i].as_slice() != those[i].as_slice() {
+            return false;
+        }
+    }
+    true
+}
+
+/// Does a batch again whose entry has these words. It has to be the very entry that the party adds
+/// here, lines and frames.
+pub fn do_again(
+    alloc: Global,
+    accepted: &Accepted,
+    node: &mut Node,
+    lanes: &mut Lanes<ByteOut, ByteIn>,
+    words: &[Vec<u8>],
+) -> Result<(), PlayRefusal>
+    ensures { OnOk result
+        (DidAgain (file_of (file_in accepted.now)) (words_at words.now) node.old node.new) }
+{
+    let Some(text) = lines_of(words) else {
+        return Err(PlayRefusal::LogFault);
+    };
+    redo_lines(alloc, accepted, node, lanes, text)?;
+    let party = node.party();
+    let entries = node.take_log();
+    if lanes.outs.len() >= 65_536 {
+        return Err(PlayRefusal::LogFault);
+    }
+    let made = batch_words(alloc, accepted.file(), party, &entries, &lanes.outs)?;
+    if !same_words(&made, words) {
+        return Err(PlayRefusal::LogFault);
+    }
+    clear(&mut lanes.outs);
+    Ok(())
+}

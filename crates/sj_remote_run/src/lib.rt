@@ -1,0 +1,23 @@
+//! A party of a file, played over a stream server until there is a cause to stop.
+#![tactic(auto)]
+
+mod adding;
+mod again;
+mod catching;
+mod causes;
+mod entries;
+mod events;
+mod outcome;
+mod play;
+mod player;
+mod posts;
+mod refusal;
+mod sharing;
+mod taking;
+mod turns;
+
+pub use again::do_again;
+pub use entries::batch_words;
+pub use outcome::Outcome;
+pub use play::{Play, play_party};
+pub use refusal::PlayRefusal;

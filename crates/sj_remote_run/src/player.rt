@@ -1,0 +1,49 @@
+//! A party that is played, and all that it can do before it must wait.
+ghost use Rattle.std.specs.Prelude.{◌≡◌, IfOk};
+ghost use Rattle.sj_remote_run.specs.Turns.{Goes, outcome_by};
+
+use crate::causes::spell_means;
+use crate::{Outcome, PlayRefusal};
+use sj_end::Entry;
+use sj_engine::{ByteIn, ByteOut, batches};
+use sj_lane::Lanes;
+use sj_node::Node;
+use sj_work::{NoGate, Stop, Worker};
+use std::alloc::Global;
+
+/// A party that is played: its node and its lanes.
+#[derive(Drop)]
+pub(crate) struct Player {
+    pub(crate) node: Node,
+    pub(crate) lanes: Lanes<ByteOut, ByteIn>,
+}
+
+/// How a party stands that can't go on by itself, where none of its causes is a refusal.
+fn stands(stop: Stop, finished: bool) -> Result<Outcome, PlayRefusal>
+    ensures { result ≡ outcome_by stop finished }
+{
+    match stop {
+        Stop::Finished | Stop::Idle if finished => Ok(Outcome::Ended),
+        Stop::Finished | Stop::Idle => Ok(Outcome::Waits),
+        Stop::AtLimit | Stop::ClockEnd => Ok(Outcome::Limit),
+        Stop::NoMemory => Err(PlayRefusal::NoMemory),
+        Stop::Fault => Err(PlayRefusal::NoFrame),
+        Stop::Unfit => Err(PlayRefusal::Unfit),
+    }
+}
+
+impl Player {
+    /// All that the party can do before it must wait. Answers how it stands, and what it noted.
+    pub(crate) fn go(self, alloc: Global) -> Result<(Player, Outcome, Vec<Entry>), PlayRefusal>
+        ensures { IfOk result (λ r. Goes self r.0 r.1 r.2.items) }
+    {
+        let mut worker = Worker::new(self.node, self.lanes);
+        let stop = match batches(alloc, &mut worker, &NoGate) {
+            Ok(stop) => stop,
+            Err(e) => return Err(spell_means(e)),
+        };
+        let (lanes, node, noted) = worker.into_parts();
+        let outcome = stands(stop, node.finished())?;
+        Ok((Player { node, lanes }, outcome, noted))
+    }
+}
