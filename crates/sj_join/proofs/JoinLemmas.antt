@@ -1,5 +1,5 @@
 -- Logs that are read, one after another.
-use Rattle.std.proofs.Common.{◌≡◌, ◌==◌, ℕ, zero, suc, ◌+◌, ◌<◌, ◌≤◌, List, [], ◌∷◌, ◌++◌, length, map, take, get_or, slice_get, true, refl, sym, ap, subst, ◌∙◌, arith, Vec}
+use Rattle.std.proofs.Common.{◌≡◌, ◌==◌, ℕ, zero, suc, ◌+◌, ◌<◌, ◌≤◌, Bool, ◌&&◌, List, [], ◌∷◌, ◌++◌, length, map, take, get_or, slice_get, true, false, refl, sym, ap, subst, ◌∙◌, arith, inl, inr, Vec}
 use Rattle.std.proofs.lemmas.List.{length-map, length-take-le, map-append, take_more}
 use Rattle.std.specs.List.{list_all}
 use Rattle.std.specs.declared.alloc.Global.{Global}
@@ -11,7 +11,7 @@ use Rattle.sj_joined_lemmas.proofs.MergingLemmas.{merging_begins}
 use Rattle.sj_lang.specs.FileAt.{FileAt}
 use Rattle.sj_log.specs.LogText.{SpellsLog}
 use Rattle.sj_rules.specs.Log.{EntryAt, LineAt, IsInOrder, IsRising}
-use Rattle.sj_join.specs.Joins.{AreLogsFrom, IsLogIn}
+use Rattle.sj_join.specs.Joins.{AreLogsFrom, IsDisorder, IsLogIn}
 
 -- one more log is read
 pub one_more : (file : FileAt) (party : ℕ) (texts : List (List ℕ)) (logs : List (Vec Entry Global)) (text : List ℕ) (log : Vec Entry Global) →
@@ -57,6 +57,21 @@ log_reads file party text lines entries spelt own rising same = record {
   rising = subst (λ (es : List Entry). IsRising 0 (map entry_at es)) (sym same) rising;
 }
 
+-- lines that aren't all of one party, or whose clocks don't rise, are in disorder
+all_of : (party : ℕ) (lines : List Line) → list_all (λ l. l.party == party) (map line_at lines) ≡ list_all (λ l. l.party == party) lines
+all_of party [] = refl
+all_of party (l ∷ lines) = ap (λ (b : Bool). (l.party == party) && b) (all_of party lines)
+
+pub others_are_disorder : (party : ℕ) (lines : List Line) → list_all (λ l. l.party == party) lines ≡ false → IsDisorder party (map line_at lines)
+others_are_disorder party lines not = inl (all_of party lines ∙ not)
+
+entries_at : (lines : List Line) → map (λ l. l.entry) (map line_at lines) ≡ map entry_at (map (λ l. l.entry) lines)
+entries_at [] = refl
+entries_at (l ∷ lines) = ap (λ (es : List EntryAt). entry_at l.entry ∷ es) (entries_at lines)
+
+pub falls_are_disorder : (party : ℕ) (lines : List Line) → (IsRising 0 (map entry_at (map (λ l. l.entry) lines)) → ⊥) → IsDisorder party (map line_at lines)
+falls_are_disorder party lines not = inr (λ rising. not (subst (λ (es : List EntryAt). IsRising 0 es) (entries_at lines) rising))
+
 -- the log of the next text is read
 pub next_log : (file : FileAt) (n m : ℕ) (texts : List (Vec ℕ Global)) (text : Vec ℕ Global) (now : List ℕ) (old new : List (Vec Entry Global)) (log : Vec Entry Global) →
     AreLogsFrom file 0 (map (λ t. t.items) (take n texts)) old → n < length texts → text ≡ get_or texts n text → now ≡ text.items → m ≡ n →
@@ -64,7 +79,7 @@ pub next_log : (file : FileAt) (n m : ℕ) (texts : List (Vec ℕ Global)) (text
 next_log file n m texts text now old new log before less at same number is grown =
     let ts : List (List ℕ) = map (λ t. t.items) (take n texts) in
     let more : map (λ t. t.items) (take (n + 1) texts) ≡ ts ++ now ∷ [] = ap (map (λ t. t.items)) (take_more texts n text less) ∙ map-append (λ t. t.items) (take n texts) (get_or texts n text ∷ [])
-        ∙ ap (λ (v : Vec ℕ Global). ts ++ v.items ∷ []) (sym at) ∙ ap (λ (t : List ℕ). ts ++ t ∷ []) (sym same) in
+    ∙ ap (λ (v : Vec ℕ Global). ts ++ v.items ∷ []) (sym at) ∙ ap (λ (t : List ℕ). ts ++ t ∷ []) (sym same) in
     let few : length ts ≡ n = length-map (take n texts) (λ t. t.items) ∙ length-take-le n texts (omega arith) in
     let count : m ≡ 0 + length ts = omega arith in
     subst (λ (ls : List (Vec Entry Global)). AreLogsFrom file 0 (map (λ t. t.items) (take (n + 1) texts)) ls) (sym grown)

@@ -1,2 +1,4 @@
 pub mod RangeLemmas
 pub mod JoinLemmas
+pub mod CauseLemmas
+pub mod FindingLemmas

@@ -1,12 +1,12 @@
 -- What is asked of a server, and what it answers.
-use Rattle.std.specs.Prelude.{◌≡◌, ℕ, List, [], ◌∷◌, codes, map, replicate, Option, Some, None}
+use Rattle.std.specs.Prelude.{◌≡◌, ℕ, ℤ, List, [], ◌∷◌, codes, map, replicate, Option, Some, None}
 use Rattle.std.specs.List.{range_with_len}
 use Rattle.sj_lang.specs.Limits.{limits}
 use Rattle.sj_remote.specs.declared.conn.Conn.{Conn}
 use Rattle.sj_remote.specs.Conn.{Replied}
 use Rattle.sj_resp.specs.Spelling.{command_text}
 use Rattle.sj_resp.specs.Token.{TokenAt}
-use Rattle.sj_streams.specs.Answers.{text_at}
+use Rattle.sj_streams.specs.Answers.{number_at, text_at}
 use Rattle.sj_streams.specs.Commands.{read_words}
 use Rattle.sj_streams.specs.Keys.{file_key_text, log_key_text}
 use Rattle.sj_streams.specs.Reading.{CameAt, Good, came_at}
@@ -44,3 +44,7 @@ Gives text tokens = (rest : List TokenAt) × (text_at tokens ≡ Good (Some text
 -- it is what stands in the streams
 abbrev pub Brings : (run : List ℕ) → (parties : ℕ) → List CameAt → List TokenAt → Type 0
 Brings run parties came tokens = came_at (keys_at run parties) (seen_none parties) tokens ≡ Good came []
+
+-- it begins with that number
+abbrev pub Counts : (n : ℤ) → List TokenAt → Type 0
+Counts n tokens = (rest : List TokenAt) × (number_at tokens ≡ Good n rest)

@@ -1,9 +1,9 @@
 //! The log of a party, read from its lines.
-ghost use Rattle.std.specs.Prelude.{◌≡◌, ◌==◌, IfOk, IsTrue, map};
+ghost use Rattle.std.specs.Prelude.{◌≡◌, ◌==◌, ◌↔◌, IfErr, IfOk, IsTrue, map};
 ghost use Rattle.std.specs.List.{list_all};
 ghost use Rattle.sj_core.specs.Views.{entry_at};
 ghost use Rattle.sj_lang.specs.FileView.{file_of};
-ghost use Rattle.sj_join.specs.Joins.{IsLogIn};
+ghost use Rattle.sj_join.specs.Joins.{IsLogIn, IsNoLogIn};
 ghost use Rattle.sj_rules.specs.Log.{IsRising};
 
 use crate::JoinRefusal;
@@ -33,7 +33,7 @@ fn are_of(party: u16, lines: &[Line]) -> bool
 
 // Whether the clocks rise.
 fn rise(lines: &[Line]) -> bool
-    ensures { IsTrue result → IsRising 0 (map entry_at (map (λ l. l.entry) lines.now)) }
+    ensures { IsTrue result ↔ IsRising 0 (map entry_at (map (λ l. l.entry) lines.now)) }
 {
     let mut clock = 0;
     for line in lines {
@@ -60,7 +60,8 @@ pub(crate) fn log_of(
     party: u16,
     text: &[u8],
 ) -> Result<Vec<Entry>, JoinRefusal>
-    ensures { IfOk result (λ log. IsLogIn (file_of file.now) party text.now (map entry_at log.items)) }
+    ensures log { IfOk result (λ log. IsLogIn (file_of file.now) party text.now (map entry_at log.items)) }
+    ensures fault { IfErr result (IsNoLogIn (file_of file.now) party text.now) }
 {
     if text.len() > MOST_BYTES {
         return Err(JoinRefusal::TooLarge);
@@ -70,7 +71,10 @@ pub(crate) fn log_of(
         Err(LogRefusal::At { rule, line }) => return Err(JoinRefusal::NoLog { party, rule, line }),
         Err(LogRefusal::NoMemory) => return Err(JoinRefusal::NoMemory),
     };
-    if !are_of(party, &lines) || !rise(&lines) {
+    if !are_of(party, &lines) {
+        return Err(JoinRefusal::Disorder { party });
+    }
+    if !rise(&lines) {
         return Err(JoinRefusal::Disorder { party });
     }
     let entries = entries_of(alloc, &lines)?;

@@ -1,8 +1,10 @@
 //! A run as the source of a replay: the text of its file, and its joined log.
-ghost use Rattle.std.specs.Prelude.{◌≡◌, ◌++◌, IfOk, OnOk, map};
+ghost use Rattle.std.specs.Prelude.{◌≡◌, ◌≤◌, ◌++◌, IfErr, IfOk, OnOk, length, map};
 ghost use Rattle.sj_end.specs.Lines.{line_at};
 ghost use Rattle.sj_lang.specs.FileView.{file_of};
+ghost use Rattle.sj_lang.specs.Limits.{limits};
 ghost use Rattle.sj_print.specs.LogLine.{log_text};
+ghost use Rattle.sj_join.specs.Finding.{IsFound, IsNotFound, IsNotRead, IsReadRun};
 ghost use Rattle.sj_join.specs.Sources.{source_text};
 
 use crate::JoinRefusal;
@@ -12,7 +14,7 @@ use crate::texts::texts_of;
 use sj_base::{NoMemory, Sink, Source};
 use sj_end::Line;
 use sj_lang::File;
-use sj_party::parse_file;
+use sj_party::{ParseRefusal, parse_file};
 use sj_print::{print_line, print_mark};
 use sj_remote::Conn;
 use sj_text::put;
@@ -48,23 +50,69 @@ pub fn put_source(text: &mut Vec<u8>, file: &File, lines: &[Line]) -> Result<(),
     put_lines(text, file, lines)
 }
 
+// How many parties the file has.
+fn party_count(file: &File) -> u16
+    requires { length (file_of file.now).parties ≤ limits.parties }
+    ensures { result ≡ length (file_of file.now).parties }
+{
+    file.parties.len() as u16
+}
+
+// The joined log of the file's run: the streams of so many parties, read at one moment.
+fn lines_in<S: Source, K: Sink>(
+    alloc: Global,
+    conn: &mut Conn<S, K>,
+    run: &[u8],
+    file: &File,
+    parties: u16,
+) -> Result<Vec<Line>, JoinRefusal>
+    requires few { parties ≤ limits.parties }
+    ensures read { IfOk result (λ lines.
+        IsReadRun S.left conn.old conn.new run.now (file_of file.now) parties lines.items) }
+    ensures refused { IfErr result (IsNotRead S.left S.faults S.has_ended K.faults
+        conn.old conn.new run.now (file_of file.now) parties) }
+{
+    let came = match read_run(alloc, conn, run, parties) {
+        Ok(came) => came,
+        Err(e) => return Err(e),
+    };
+    let texts = match texts_of(alloc, parties, &came) {
+        Ok(texts) => texts,
+        Err(e) => return Err(e),
+    };
+    match join_texts(alloc, file, &texts) {
+        Ok(lines) => Ok(lines),
+        Err(e) => Err(e),
+    }
+}
+
 /// Reads the run: its file, and then the streams of all its parties at one moment.
 pub fn find<S: Source, K: Sink>(
     alloc: Global,
     conn: &mut Conn<S, K>,
     run: &[u8],
-) -> Result<Found, JoinRefusal> {
-    let text = share_of(alloc, conn, run)?;
+) -> Result<Found, JoinRefusal>
+    ensures found { IfOk result (IsFound S.left conn.old conn.new run.now) }
+    ensures refused { IfErr result
+        (IsNotFound S.left S.faults S.has_ended K.faults conn.old conn.new run.now) }
+{
+    let text = match share_of(alloc, conn, run) {
+        Ok(text) => text,
+        Err(e) => return Err(e),
+    };
     if text.len() > FILE_BYTES {
         return Err(JoinRefusal::TooLarge);
     }
-    let Ok(file) = parse_file(alloc, &text) else {
-        return Ok(Found { text, run: None });
+    let file = match parse_file(alloc, &text) {
+        Ok(file) => file,
+        Err(ParseRefusal::At(_)) => return Ok(Found { text, run: None }),
+        Err(ParseRefusal::NoMemory) => return Err(JoinRefusal::NoMemory),
     };
-    let parties = file.parties.len() as u16;
-    let came = read_run(alloc, conn, run, parties)?;
-    let texts = texts_of(alloc, parties, &came)?;
-    let lines = join_texts(alloc, &file, &texts)?;
+    let parties = party_count(&file);
+    let lines = match lines_in(alloc, conn, run, &file, parties) {
+        Ok(lines) => lines,
+        Err(e) => return Err(e),
+    };
     Ok(Found {
         text,
         run: Some((file, lines)),

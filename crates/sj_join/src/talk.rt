@@ -1,5 +1,5 @@
 //! What is asked of the server, and what it answers.
-ghost use Rattle.std.specs.Prelude.{◌≡◌, ◌≤◌, ℕ, ◌++◌, length, map, option_map, IfOk, OnOk};
+ghost use Rattle.std.specs.Prelude.{◌≡◌, ◌≤◌, ℕ, ◌++◌, length, map, option_map, IfErr, IfOk, OnOk};
 ghost use Rattle.std.specs.List.{flat_map};
 ghost use Rattle.sj_base.specs.Stream.{put_behind};
 ghost use Rattle.sj_lang.specs.Limits.{limits};
@@ -11,14 +11,17 @@ ghost use Rattle.sj_streams.specs.Commands.{get_words};
 ghost use Rattle.sj_streams.specs.Gathering.{IsReply};
 ghost use Rattle.sj_streams.specs.Views.{came_view};
 ghost use Rattle.sj_streams.specs.Words.{tokens_at, words_at};
-ghost use Rattle.sj_join.specs.Talk.{Brings, Gives, IsAnswered, drop_text, keys_at, read_text, seen_none};
+ghost use Rattle.sj_join.specs.Causes.{IsNoCount, IsNoEntry, IsNoRead, IsNoText, IsUnanswered, IsUnheard};
+ghost use Rattle.sj_join.specs.Refusals.{refusal_of_misread};
+ghost use Rattle.sj_join.specs.Talk.{Brings, Counts, Gives, IsAnswered, drop_text, keys_at, read_text, seen_none};
 
 use crate::JoinRefusal;
 use sj_base::{NoMemory, Sink, Source};
 use sj_remote::{Conn, TalkRefusal, put_auth, read_streams};
 use sj_resp::{Token, put_command, put_word};
 use sj_streams::{
-    Came, Refusal, file_key, log_key, put_get, put_read, read_number, read_text, read_well, refused,
+    Came, Misread, Refusal, file_key, log_key, put_get, put_read, read_number, read_text,
+    read_well, refused,
 };
 use std::alloc::Global;
 use std::collections::VecDeque;
@@ -29,6 +32,16 @@ const ALL: u64 = 9_223_372_036_854_775_807;
 /// The most parties of a file.
 const PARTIES: u16 = 16;
 
+// What a reply of another shape means.
+fn misread_means(misread: Misread) -> JoinRefusal
+    ensures { result ≡ refusal_of_misread misread }
+{
+    match misread {
+        Misread::NoMemory => JoinRefusal::NoMemory,
+        _ => JoinRefusal::Talk(TalkRefusal::NoReply),
+    }
+}
+
 // Sends the commands, and answers the reply to the first.
 fn ask<S: Source, K: Sink>(
     conn: &mut Conn<S, K>,
@@ -37,6 +50,8 @@ fn ask<S: Source, K: Sink>(
     ensures sent { OnOk result (K.written (sink_of conn.new) ≡ put_behind (K.written (sink_of conn.old)) text.now) }
     ensures replied { IfOk result (λ tokens. Replied S.left conn.old conn.new (tokens_at tokens.items)) }
     ensures whole { IfOk result (λ tokens. IsReply (tokens_at tokens.items)) }
+    ensures refused { IfErr result
+        (IsUnheard S.left S.faults S.has_ended K.faults conn.old conn.new) }
 {
     if let Err(e) = conn.send(text) {
         return Err(JoinRefusal::from(e));
@@ -60,6 +75,8 @@ pub fn sign_in<S: Source, K: Sink>(
 ) -> Result<(), JoinRefusal>
     ensures sent { OnOk result (K.written (sink_of conn.new) ≡ put_behind (K.written (sink_of conn.old))
         (command_text (auth_words (option_map (λ u. u.now) user.entry) password.now))) }
+    ensures refused { IfErr result (IsUnanswered S.left S.faults S.has_ended K.faults
+        conn.old conn.new IsNoEntry) }
 {
     let mut text = Vec::new(alloc);
     put_auth(&mut text, user, password)?;
@@ -72,7 +89,7 @@ pub fn sign_in<S: Source, K: Sink>(
     };
     match read_well(&mut tokens) {
         Ok(()) => Ok(()),
-        Err(_) => Err(JoinRefusal::Talk(TalkRefusal::NoReply)),
+        Err(e) => Err(misread_means(e)),
     }
 }
 
@@ -85,6 +102,8 @@ pub fn share_of<S: Source, K: Sink>(
     ensures sent { OnOk result (K.written (sink_of conn.new)
         ≡ put_behind (K.written (sink_of conn.old)) (command_text (get_words run.now))) }
     ensures text { IfOk result (λ text. IsAnswered S.left conn.old conn.new (Gives text.items)) }
+    ensures refused { IfErr result (IsUnanswered S.left S.faults S.has_ended K.faults
+        conn.old conn.new IsNoText) }
 {
     let mut text = Vec::new(alloc);
     put_get(&mut text, run)?;
@@ -92,7 +111,7 @@ pub fn share_of<S: Source, K: Sink>(
     match read_text(&mut tokens) {
         Ok(Some(text)) => Ok(text),
         Ok(None) => Err(JoinRefusal::NoRun),
-        Err(_) => Err(JoinRefusal::Talk(TalkRefusal::NoReply)),
+        Err(e) => Err(misread_means(e)),
     }
 }
 
@@ -131,6 +150,8 @@ pub fn read_run<S: Source, K: Sink>(
         ≡ put_behind (K.written (sink_of conn.old)) (read_text run.now parties)) }
     ensures came { IfOk result (λ came. IsAnswered S.left conn.old conn.new
         (Brings run.now parties (map came_view came.items))) }
+    ensures refused { IfErr result (IsUnanswered S.left S.faults S.has_ended K.faults
+        conn.old conn.new (IsNoRead run.now parties)) }
 {
     let keys = keys_of(alloc, run, parties)?;
     let seen = none_seen(alloc, keys.len())?;
@@ -176,12 +197,15 @@ pub fn drop_run<S: Source, K: Sink>(
 ) -> Result<i64, JoinRefusal>
     ensures sent { OnOk result (K.written (sink_of conn.new)
         ≡ put_behind (K.written (sink_of conn.old)) (drop_text run.now)) }
+    ensures count { IfOk result (λ n. IsAnswered S.left conn.old conn.new (Counts n)) }
+    ensures refused { IfErr result (IsUnanswered S.left S.faults S.has_ended K.faults
+        conn.old conn.new IsNoCount) }
 {
     let mut text = Vec::new(alloc);
     put_drop(&mut text, run)?;
     let mut tokens = ask(conn, &text)?;
     match read_number(&mut tokens) {
         Ok(count) => Ok(count),
-        Err(_) => Err(JoinRefusal::Talk(TalkRefusal::NoReply)),
+        Err(e) => Err(misread_means(e)),
     }
 }

@@ -1,9 +1,9 @@
 //! The lines of streams.
-ghost use Rattle.std.specs.Prelude.{◌≡◌, ◌++◌, IfOk, OnOk, length, map};
+ghost use Rattle.std.specs.Prelude.{◌≡◌, ◌<◌, ◌++◌, ℕ, IfErr, IfOk, OnOk, length, map, true};
 ghost use Rattle.std.specs.List.{flat_map, list_all};
 ghost use Rattle.sj_streams.specs.Views.{came_view};
 ghost use Rattle.sj_streams.specs.Words.{words_at};
-ghost use Rattle.sj_join.specs.Texts.{has_lines, lines_at, text_by, texts_by};
+ghost use Rattle.sj_join.specs.Texts.{LackLines, LacksLines, has_all, has_all_if, has_lines, lines_at, text_by, texts_by};
 
 use crate::JoinRefusal;
 use sj_base::NoMemory;
@@ -45,16 +45,39 @@ fn put_entries(text: &mut Vec<u8>, entries: &[Vec<Vec<u8>>]) -> Result<(), NoMem
     Ok(())
 }
 
-// The lines of what came of the party's stream.
-fn text_of(alloc: Global, party: u16, came: &[Came]) -> Result<Vec<u8>, JoinRefusal>
-    ensures { IfOk result (λ text. text.items ≡ text_by (map came_view came.now) party) }
+// Whether each of the entries that came has lines, if they are of the party's stream.
+#[tactic(auto, using(crate::proofs::RangeLemmas::views))]
+fn has_all_if(party: u16, came: &Came) -> bool
+    ensures { result ≡ has_all_if party (came_view came.now) }
 {
+    came.stream != usize::from(party) || have_lines(&came.entries)
+}
+
+// Whether each entry that came of the party's stream has lines.
+fn has_all(party: u16, came: &[Came]) -> bool
+    ensures { result ≡ list_all (λ c. has_all_if party (came_view c)) came.now }
+{
+    for one in came {
+        if !has_all_if(party, one) {
+            return false;
+        }
+    }
+    true
+}
+
+// The lines of what came of the party's stream.
+#[tactic(auto, using(crate::proofs::RangeLemmas::views))]
+fn text_of(alloc: Global, party: u16, came: &[Came]) -> Result<Vec<u8>, JoinRefusal>
+    ensures lines { IfOk result (λ text. text.items ≡ text_by (map came_view came.now) party) }
+    ensures all { OnOk result (has_all (map came_view came.now) party ≡ true) }
+    ensures lacks { IfErr result (LacksLines (map came_view came.now) party) }
+{
+    if !has_all(party, came) {
+        return Err(JoinRefusal::NoLines { party });
+    }
     let mut text = Vec::new(alloc);
     for stream in came {
         if stream.stream == usize::from(party) {
-            if !have_lines(&stream.entries) {
-                return Err(JoinRefusal::NoLines { party });
-            }
             put_entries(&mut text, &stream.entries)?;
         }
     }
@@ -66,6 +89,8 @@ fn text_of(alloc: Global, party: u16, came: &[Came]) -> Result<Vec<u8>, JoinRefu
 pub fn texts_of(alloc: Global, parties: u16, came: &[Came]) -> Result<Vec<Vec<u8>>, JoinRefusal>
     ensures count { IfOk result (λ texts. length texts.items ≡ parties) }
     ensures lines { IfOk result (λ texts. map (λ t. t.items) texts.items ≡ texts_by (map came_view came.now) parties) }
+    ensures all { OnOk result ((party : ℕ) → party < parties → has_all (map came_view came.now) party ≡ true) }
+    ensures lacks { IfErr result (LackLines (map came_view came.now) parties) }
 {
     let mut texts = Vec::new(alloc);
     for party in 0..parties {

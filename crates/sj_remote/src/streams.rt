@@ -99,7 +99,7 @@ impl Streams {
     pub fn put_read(&self, text: &mut Vec<u8>, block: Option<u64>) -> Result<(), NoMemory>
         ensures { OnOk result (text.new.items ≡ text.old.items
             ++ command_text (read_words 512 block (words_at (keys_of self.now))
-                (seen_of self.now))) }
+            (seen_of self.now))) }
     {
         put_read(text, PIECE, block, &self.keys, &self.seen)
     }
