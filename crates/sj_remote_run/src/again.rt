@@ -10,12 +10,26 @@ use crate::entries::{LONGEST, batch_words};
 use crate::events::redo;
 use crate::posts::{clear, push_all};
 use sj_check::Accepted;
+use sj_end::Line;
 use sj_engine::{ByteIn, ByteOut};
 use sj_lane::Lanes;
+use sj_lang::File;
 use sj_log::{LogRefusal, read_log};
 use sj_node::Node;
 use sj_streams::lines_of;
 use std::alloc::Global;
+
+/// The lines of a batch.
+pub fn lines_in(alloc: Global, file: &File, text: &[u8]) -> Result<Vec<Line>, PlayRefusal> {
+    if text.len() > LONGEST {
+        return Err(PlayRefusal::LogFault);
+    }
+    match read_log(alloc, text, file, 2) {
+        Ok(lines) => Ok(lines),
+        Err(LogRefusal::NoMemory) => Err(PlayRefusal::NoMemory),
+        Err(LogRefusal::At { .. }) => Err(PlayRefusal::LogFault),
+    }
+}
 
 /// Does the events of a batch again, whose lines these are.
 fn redo_lines(
@@ -27,14 +41,7 @@ fn redo_lines(
 ) -> Result<(), PlayRefusal>
     ensures { OnOk result (Went node.old node.new) }
 {
-    if text.len() > LONGEST {
-        return Err(PlayRefusal::LogFault);
-    }
-    let lines = match read_log(alloc, text, accepted.file(), 2) {
-        Ok(lines) => lines,
-        Err(LogRefusal::NoMemory) => return Err(PlayRefusal::NoMemory),
-        Err(LogRefusal::At { .. }) => return Err(PlayRefusal::LogFault),
-    };
+    let lines = lines_in(alloc, accepted.file(), text)?;
     for line in &lines {
         if line.party != node.party() {
             return Err(PlayRefusal::LogFault);
@@ -46,7 +53,7 @@ fn redo_lines(
 }
 
 /// Whether they are the same words.
-fn same_words(these: &[Vec<u8>], those: &[Vec<u8>]) -> bool
+pub fn same_words(these: &[Vec<u8>], those: &[Vec<u8>]) -> bool
     ensures { IsTrue result → words_at these.now ≡ words_at those.now }
 {
     if these.len() != those.len() {

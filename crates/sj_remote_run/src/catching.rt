@@ -25,7 +25,7 @@ use sj_streams::Came;
 use std::alloc::Global;
 
 /// Lanes to and from so many parties, on which nothing was sent.
-fn new_lanes(alloc: Global, parties: u16) -> Result<Lanes<ByteOut, ByteIn>, PlayRefusal> {
+pub fn new_lanes(alloc: Global, parties: u16) -> Result<Lanes<ByteOut, ByteIn>, PlayRefusal> {
     let mut outs = Vec::new(alloc);
     let mut ins = Vec::new(alloc);
     for _ in 0..parties {
@@ -95,7 +95,7 @@ fn read_once<S: Source, K: Sink>(
 }
 
 /// Reads all streams as far as they go. The entries of the own stream go to `own`.
-fn read_all<S: Source, K: Sink>(
+pub fn read_all<S: Source, K: Sink>(
     alloc: Global,
     conn: &mut Conn<S, K>,
     streams: &mut Streams,

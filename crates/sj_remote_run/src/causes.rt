@@ -57,7 +57,7 @@ pub(crate) fn misread_means(misread: Misread) -> PlayRefusal
 }
 
 /// What frames that aren't spelt mean.
-pub(crate) fn spell_means(refusal: SpellRefusal) -> PlayRefusal
+pub fn spell_means(refusal: SpellRefusal) -> PlayRefusal
     ensures { result ≡ spell_cause refusal }
 {
     match refusal {

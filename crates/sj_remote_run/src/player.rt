@@ -13,13 +13,13 @@ use std::alloc::Global;
 
 /// A party that is played: its node and its lanes.
 #[derive(Drop)]
-pub(crate) struct Player {
-    pub(crate) node: Node,
-    pub(crate) lanes: Lanes<ByteOut, ByteIn>,
+pub struct Player {
+    pub node: Node,
+    pub lanes: Lanes<ByteOut, ByteIn>,
 }
 
 /// How a party stands that can't go on by itself, where none of its causes is a refusal.
-fn stands(stop: Stop, finished: bool) -> Result<Outcome, PlayRefusal>
+pub fn stands(stop: Stop, finished: bool) -> Result<Outcome, PlayRefusal>
     ensures { result ≡ outcome_by stop finished }
 {
     match stop {

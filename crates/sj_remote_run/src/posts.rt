@@ -27,7 +27,7 @@ fn push_out(node: &mut Node, to: u16, lane: &mut ByteOut) -> Result<(), PlayRefu
 }
 
 /// Pushes all that waits. What the party sends to itself comes to where it takes it.
-pub(crate) fn push_all(
+pub fn push_all(
     alloc: Global,
     node: &mut Node,
     lanes: &mut Lanes<ByteOut, ByteIn>,
@@ -47,7 +47,7 @@ pub(crate) fn push_all(
 }
 
 /// Forgets the frames of all lanes.
-pub(crate) fn clear(outs: &mut [ByteOut]) {
+pub fn clear(outs: &mut [ByteOut]) {
     for lane in outs {
         lane.clear();
     }

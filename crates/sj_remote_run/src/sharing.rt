@@ -44,7 +44,7 @@ fn reply<S: Source, K: Sink>(conn: &mut Conn<S, K>) -> Result<VecDeque<Token>, P
 }
 
 /// Gives the password of that user, or of the usual one, where there is a password.
-pub(crate) fn sign_in<S: Source, K: Sink>(
+pub fn sign_in<S: Source, K: Sink>(
     alloc: Global,
     conn: &mut Conn<S, K>,
     user: Option<&[u8]>,
@@ -80,7 +80,7 @@ fn taken(tokens: &VecDeque<Token>) -> Result<(), PlayRefusal> {
 }
 
 /// Gives the run its file, unless it has one, and refuses where it has another.
-pub(crate) fn share<S: Source, K: Sink>(
+pub fn share<S: Source, K: Sink>(
     alloc: Global,
     conn: &mut Conn<S, K>,
     file: &File,

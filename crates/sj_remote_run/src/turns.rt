@@ -62,7 +62,7 @@ fn take_all(
 
 /// Adds what was noted, where something was, and waits until something comes, at most so many
 /// milliseconds. Answers whether something came.
-pub(crate) fn exchange<S: Source, K: Sink>(
+pub fn exchange<S: Source, K: Sink>(
     alloc: Global,
     conn: &mut Conn<S, K>,
     file: &File,
@@ -96,7 +96,7 @@ pub(crate) fn exchange<S: Source, K: Sink>(
 }
 
 /// Adds what was noted, where something was.
-pub(crate) fn add<S: Source, K: Sink>(
+pub fn add<S: Source, K: Sink>(
     alloc: Global,
     conn: &mut Conn<S, K>,
     file: &File,
